@@ -1,0 +1,55 @@
+// Leaf functions on slices of bytes, shared by every crate above. Each takes any input.
+ghost use mathlib.Core.Path.{_≡_};
+ghost use Prim.Native.Nat.{_<_};
+ghost use lib.ListN.{length, getD, replicate};
+ghost use Rattle.cells.specs.Lists.{copied};
+
+// A byte as an index, known to be below 256.
+pub fn wide(x: u8) -> usize
+    ensures { λ r. ⌜ (r ≡ x) × (x < 256) ⌝ }
+{
+    x as usize
+}
+
+// The byte at a place, 0 past the end.
+pub fn nth(s: &[u8], at: usize) -> u8
+    ensures { λ r. ⌜ r ≡ getD (now (s .entry)) at 0 ⌝ }
+{
+    if at < s.len() {
+        return s[at];
+    }
+    0
+}
+
+// Every byte becomes b.
+pub fn fill(s: &mut [u8], b: u8)
+    ensures { λ _. ⌜ now (s .exit) ≡ replicate (length (now (s .entry))) b ⌝ }
+{
+    let mut i = 0;
+    while i < s.len() {
+        s[i] = b;
+        i += 1;
+    }
+}
+
+// The smaller of two lengths.
+fn least(a: usize, b: usize) -> usize
+    ensures { λ r. ⌜ r ≡ Prim.Native.Nat.min a b ⌝ }
+{
+    if a < b {
+        return a;
+    }
+    b
+}
+
+// The first bytes of dst become those of src, as many as both have.
+pub fn copy(dst: &mut [u8], src: &[u8])
+    ensures { λ _. ⌜ now (dst .exit) ≡ copied (now (dst .entry)) (now (src .entry)) ⌝ }
+{
+    let n = least(dst.len(), src.len());
+    let mut i = 0;
+    while i < n {
+        dst[i] = src[i];
+        i += 1;
+    }
+}
