@@ -7,7 +7,7 @@ use native.Mathlib.Omega.{arith}
 use lib.ListN.{length, getD}
 use lib.Dec.{eqb}
 use borrow.Author.Tests.{eqb-false}
-use Rattle.cells.specs.Pick.{pick}
+use Rattle.cells.specs.Pick.{pick, pick-true, pick-false}
 
 -- a number, and whether its condition, taken alone, holds
 pub record Row : Type 0 where
@@ -36,12 +36,6 @@ pub data NoRow : List Row → Type 0 where
 abbrev pub numbered : List Row → Bool
 numbered [] = true
 numbered (r ∷ rs) = pick (eqb (r .number) 0) false (numbered rs)
-
-pick-true : {A : Type 0} (b : Bool) (x y : A) → b ≡ true → pick b x y ≡ x
-pick-true b x y e = rw e refl
-
-pick-false : {A : Type 0} (b : Bool) (x y : A) → b ≡ false → pick b x y ≡ y
-pick-false b x y e = rw e refl
 
 -- a number given is that of the first row that holds ..
 pub foremost-given : {rs : List Row} {n : ℕ} → Foremost rs n → given rs ≡ n

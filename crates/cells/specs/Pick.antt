@@ -7,6 +7,13 @@ abbrev pub pick {ℓ} : {A : Type ℓ} → Bool → A → A → A
 pick true x y = x
 pick false x y = y
 
+-- which of the two it is, by the test's answer
+pub pick-true {ℓ} : {A : Type ℓ} (b : Bool) (x y : A) → b ≡ true → pick b x y ≡ x
+pick-true b x y e = rw e refl
+
+pub pick-false {ℓ} : {A : Type ℓ} (b : Bool) (x y : A) → b ≡ false → pick b x y ≡ y
+pick-false b x y e = rw e refl
+
 -- what holds of both choices, each under its own answer of the test, holds of the pick
 pub pick-ind : {A : Type 0} (P : A → Type 0) (b : Bool) (x y : A) → (b ≡ true → P x) → (b ≡ false → P y) → P (pick b x y)
 pick-ind P true x y f g = f refl

@@ -36,10 +36,12 @@ loop-less c = omega arith
 loop-again : tie.Need-loop-again Inv-loop μ-loop
 loop-again c =
     let l = c .before .before .loop in
-    let a = c .before .before .before .before .before .before .args in
-    (omega arith, l .inv .1,
+    let a = c .before .before .before .before .before .before .args in (
+      omega arith,
+      l .inv .1,
       ap (λ (x : List ℕ). set x (l .i) (getD (a .src .now) (l .i) 0)) (l .inv .2) ∙ laid-more (a .src .now) (a .dst .now) (l .i) (omega arith) (omega arith),
-      length-set (l .dst) (l .i) (getD (a .src .now) (l .i) 0) ∙ l .inv .3)
+      length-set (l .dst) (l .i) (getD (a .src .now) (l .i) 0) ∙ l .inv .3,
+    )
 
 same-length : tie.Need-same-length Inv-loop μ-loop
 same-length c = c .before .loop .inv .3
