@@ -1,0 +1,3 @@
+pub mod Cover
+pub mod Place
+pub mod Claims

@@ -1,0 +1,32 @@
+-- Flash blocks as a list of lengths, counted outward from the boot block. Assumes nothing.
+use mathlib.Core.Bool.{Bool, true, false}
+use mathlib.Core.List.{List, [], _∷_}
+use Prim.Native.Nat.{ℕ, zero, suc, _+_, _-_}
+use lib.ListN.{getD}
+use lib.Dec.{ltb, eqb}
+use Rattle.cells.specs.Pick.{pick}
+
+-- the bytes of all blocks together
+abbrev pub total : List ℕ → ℕ
+total [] = 0
+total (l ∷ ls) = l + total ls
+
+-- the bytes of block k; 0 where there is no such block
+abbrev pub lengthAt : List ℕ → ℕ → ℕ
+lengthAt ls k = getD ls k 0
+
+-- the bytes that lie between the boot end and block k
+abbrev pub offsetAt : List ℕ → ℕ → ℕ
+offsetAt [] k = 0
+offsetAt (l ∷ ls) zero = 0
+offsetAt (l ∷ ls) (suc k) = l + offsetAt ls k
+
+-- the block that holds the byte at place p, counted from the boot end
+abbrev pub holder : List ℕ → ℕ → ℕ
+holder [] p = 0
+holder (l ∷ ls) p = pick (ltb p l) 0 (suc (holder ls (p - l)))
+
+-- how many blocks have any bytes
+abbrev pub count : List ℕ → ℕ
+count [] = 0
+count (l ∷ ls) = pick (eqb l 0) 0 1 + count ls

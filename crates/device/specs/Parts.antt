@@ -1,0 +1,91 @@
+-- The parts we load, each by a short description, and all that follows from it. Assumes nothing.
+use mathlib.Core.Bool.{Bool, true, false, not, _&&_, _||_}
+use mathlib.Core.List.{List, [], _∷_}
+use Prim.Native.Nat.{ℕ, zero, suc, _+_, _-_}
+use lib.Dec.{eqb, ltb}
+use Rattle.cells.specs.Pick.{pick}
+use Rattle.device.specs.Blocks.{total, lengthAt, offsetAt, holder, count}
+use Rattle.device.specs.declared.Part.{Part}
+use Rattle.device.specs.declared.Device.{Device}
+use Rattle.device.specs.declared.Shape.{Shape}
+
+-- four blocks outward from the boot block: boot, two parameter blocks, main
+abbrev pub fourOf : ℕ → ℕ → ℕ → Bool → ℕ → Shape
+fourOf boot parameter main top code =
+    record { l0 = boot; l1 = parameter; l2 = parameter; l3 = main; l4 = 0; l5 = 0; l6 = 0; top = top; code = code }
+
+-- the table of parts: 28F001BX-T, 28F001BX-B, bench T, bench B
+unfoldable pub shapeOf : Part → Shape
+shapeOf p =
+    pick (eqb (p .number) 1) (fourOf 8192 4096 114688 true 148)
+    (pick (eqb (p .number) 2) (fourOf 8192 4096 114688 false 149)
+    (pick (eqb (p .number) 3) (fourOf 1024 512 14336 true 148)
+    (fourOf 1024 512 14336 false 149)))
+
+-- the block lengths of a description, outward from the boot block
+abbrev pub lengthsOf : Shape → List ℕ
+lengthsOf s = s .l0 ∷ s .l1 ∷ s .l2 ∷ s .l3 ∷ s .l4 ∷ s .l5 ∷ s .l6 ∷ []
+
+-- the bytes of all blocks of a description
+unfoldable pub sizeIn : Shape → ℕ
+sizeIn s = total (lengthsOf s)
+
+-- the bytes of its block k
+unfoldable pub lengthIn : Shape → ℕ → ℕ
+lengthIn s k = lengthAt (lengthsOf s) k
+
+-- the bytes between the boot end and its block k
+unfoldable pub offsetIn : Shape → ℕ → ℕ
+offsetIn s k = offsetAt (lengthsOf s) k
+
+-- the block at a place counted from the boot end
+unfoldable pub holderIn : Shape → ℕ → ℕ
+holderIn s p = holder (lengthsOf s) p
+
+-- how many blocks there are
+unfoldable pub countIn : Shape → ℕ
+countIn s = count (lengthsOf s)
+
+-- a place counted from the boot end, as an address, and an address as such a place: at the top they run against each other
+unfoldable pub turned : Bool → ℕ → ℕ → ℕ
+turned top n a = pick top (n - 1 - a) a
+
+-- the first address of block k: at the top the boot block comes last
+unfoldable pub startIn : Shape → ℕ → ℕ
+startIn s k = pick (s .top) (sizeIn s - offsetIn s k - lengthIn s k) (offsetIn s k)
+
+-- the block that holds an address
+unfoldable pub blockIn : Shape → ℕ → ℕ
+blockIn s a = holderIn s (turned (s .top) (sizeIn s) a)
+
+-- refusal 1 of a part: its number is not 1 to 4
+unfoldable pub unknownPart : Part → Bool
+unknownPart p = eqb (p .number) 0 || ltb 4 (p .number)
+
+-- refusal 1 of a device: the part is not known, or a busy time is zero
+unfoldable pub unknownDevice : Device → Bool
+unknownDevice d = (unknownPart (d .part) || eqb (d .program) 0) || eqb (d .erase) 0
+
+-- the same of a part: the bytes of its array
+unfoldable pub sizeOf : Part → ℕ
+sizeOf p = sizeIn (shapeOf p)
+
+-- the bytes of block k
+unfoldable pub lengthOf : Part → ℕ → ℕ
+lengthOf p k = lengthIn (shapeOf p) k
+
+-- the first address of block k
+unfoldable pub startOf : Part → ℕ → ℕ
+startOf p k = startIn (shapeOf p) k
+
+-- the block that holds an address
+unfoldable pub blockOf : Part → ℕ → ℕ
+blockOf p a = blockIn (shapeOf p) a
+
+-- the part's own identifier code
+unfoldable pub codeOf : Part → ℕ
+codeOf p = shapeOf p .code
+
+-- how many blocks the part has
+unfoldable pub countOf : Part → ℕ
+countOf p = countIn (shapeOf p)

@@ -1,0 +1,317 @@
+// The parts we load: size, blocks and identifier, each derived from one short description of a part.
+ghost use mathlib.Core.Path.{_≡_};
+ghost use Prim.Native.Nat.{_-_, _≤_};
+ghost use lib.Dec.{eqb};
+ghost use Rattle.cells.specs.Pick.{pick};
+ghost use Rattle.device.specs.Parts.{
+  fourOf,
+  shapeOf,
+  sizeIn,
+  lengthIn,
+  offsetIn,
+  holderIn,
+  countIn,
+  turned,
+  startIn,
+  blockIn,
+  unknownPart,
+  unknownDevice,
+  sizeOf,
+  lengthOf,
+  startOf,
+  blockOf,
+  codeOf,
+  countOf,
+};
+
+// What a loader knows of the flash: its number, 1 to 4.
+pub struct Part {
+    pub number: u8,
+}
+
+// A part with its busy times: the cycles that a program and an erase take.
+pub struct Device {
+    pub part: Part,
+    pub program: u16,
+    pub erase: u16,
+}
+
+// A part's description: block lengths outward from the boot block (0 where there is none), whether the boot block is at
+// the top, and the identifier code.
+pub struct Shape {
+    pub l0: u32,
+    pub l1: u32,
+    pub l2: u32,
+    pub l3: u32,
+    pub l4: u32,
+    pub l5: u32,
+    pub l6: u32,
+    pub top: bool,
+    pub code: u8,
+}
+
+// A length as an index.
+fn wide(x: u32) -> usize
+    ensures { λ r. ⌜ r ≡ x ⌝ }
+{
+    x as usize
+}
+
+// A difference that stops at zero.
+fn less(a: usize, b: usize) -> usize
+    ensures { λ r. ⌜ r ≡ a - b ⌝ }
+{
+    if a < b {
+        return 0;
+    }
+    a - b
+}
+
+// One where a length is not zero.
+fn one(l: u32) -> u8
+    ensures { λ r. ⌜ (r ≡ pick (eqb l 0) 0 1) × (r ≤ 1) ⌝ }
+{
+    if l == 0 {
+        return 0;
+    }
+    1
+}
+
+fn four(boot: u32, parameter: u32, main: u32, top: bool, code: u8) -> Shape
+    ensures { λ r. ⌜ r ≡ fourOf boot parameter main top code ⌝ }
+{
+    Shape {
+        l0: boot,
+        l1: parameter,
+        l2: parameter,
+        l3: main,
+        l4: 0,
+        l5: 0,
+        l6: 0,
+        top: top,
+        code: code,
+    }
+}
+
+// The table of parts.
+fn describe(p: Part) -> Shape
+    ensures { λ r. ⌜ r ≡ shapeOf p ⌝ }
+{
+    let n = p.number;
+    if n == 1 {
+        return four(8192, 4096, 114688, true, 148);
+    }
+    if n == 2 {
+        return four(8192, 4096, 114688, false, 149);
+    }
+    if n == 3 {
+        return four(1024, 512, 14336, true, 148);
+    }
+    four(1024, 512, 14336, false, 149)
+}
+
+fn sum(s: Shape) -> usize
+    ensures { λ r. ⌜ r ≡ sizeIn s ⌝ }
+{
+    wide(s.l0)
+        + (wide(s.l1) + (wide(s.l2) + (wide(s.l3) + (wide(s.l4) + (wide(s.l5) + wide(s.l6))))))
+}
+
+fn length_at(s: Shape, k: u8) -> usize
+    ensures { λ r. ⌜ r ≡ lengthIn s k ⌝ }
+{
+    if k < 1 {
+        return wide(s.l0);
+    }
+    if k < 2 {
+        return wide(s.l1);
+    }
+    if k < 3 {
+        return wide(s.l2);
+    }
+    if k < 4 {
+        return wide(s.l3);
+    }
+    if k < 5 {
+        return wide(s.l4);
+    }
+    if k < 6 {
+        return wide(s.l5);
+    }
+    if k < 7 {
+        return wide(s.l6);
+    }
+    0
+}
+
+// The bytes before block k, counted from the boot end.
+fn offset_at(s: Shape, k: u8) -> usize
+    ensures { λ r. ⌜ r ≡ offsetIn s k ⌝ }
+{
+    let mut at = 0;
+    if k < 1 {
+        return at;
+    }
+    at = wide(s.l0);
+    if k < 2 {
+        return at;
+    }
+    at = at + wide(s.l1);
+    if k < 3 {
+        return at;
+    }
+    at = at + wide(s.l2);
+    if k < 4 {
+        return at;
+    }
+    at = at + wide(s.l3);
+    if k < 5 {
+        return at;
+    }
+    at = at + wide(s.l4);
+    if k < 6 {
+        return at;
+    }
+    at = at + wide(s.l5);
+    if k < 7 {
+        return at;
+    }
+    at + wide(s.l6)
+}
+
+// The block that holds a place counted from the boot end.
+fn holder_at(s: Shape, place: usize) -> u8
+    ensures { λ r. ⌜ r ≡ holderIn s place ⌝ }
+{
+    let mut p = place;
+    let mut l = wide(s.l0);
+    if p < l {
+        return 0;
+    }
+    p = p - l;
+    l = wide(s.l1);
+    if p < l {
+        return 1;
+    }
+    p = p - l;
+    l = wide(s.l2);
+    if p < l {
+        return 2;
+    }
+    p = p - l;
+    l = wide(s.l3);
+    if p < l {
+        return 3;
+    }
+    p = p - l;
+    l = wide(s.l4);
+    if p < l {
+        return 4;
+    }
+    p = p - l;
+    l = wide(s.l5);
+    if p < l {
+        return 5;
+    }
+    p = p - l;
+    l = wide(s.l6);
+    if p < l {
+        return 6;
+    }
+    7
+}
+
+// A place from the boot end as an address, or an address as such a place.
+fn turn(top: bool, n: usize, a: usize) -> usize
+    ensures { λ r. ⌜ r ≡ turned top n a ⌝ }
+{
+    if top {
+        return less(less(n, 1), a);
+    }
+    a
+}
+
+// The first address of block k in a description.
+fn start_at(s: Shape, k: u8) -> usize
+    ensures { λ r. ⌜ r ≡ startIn s k ⌝ }
+{
+    let at = offset_at(s, k);
+    let top = s.top;
+    if top {
+        return less(less(sum(s), at), length_at(s, k));
+    }
+    at
+}
+
+// The block that holds an address in a description.
+fn block_at(s: Shape, address: u32) -> u8
+    ensures { λ r. ⌜ r ≡ blockIn s address ⌝ }
+{
+    let top = s.top;
+    holder_at(s, turn(top, sum(s), wide(address)))
+}
+
+// How many blocks a description has.
+fn number(s: Shape) -> u8
+    ensures { λ r. ⌜ r ≡ countIn s ⌝ }
+{
+    one(s.l0)
+        + (one(s.l1) + (one(s.l2) + (one(s.l3) + (one(s.l4) + (one(s.l5) + (one(s.l6) + 0))))))
+}
+
+// Refusal 1 of a part alone.
+pub fn unknown_part(p: Part) -> bool
+    ensures { λ r. ⌜ r ≡ unknownPart p ⌝ }
+{
+    (p.number == 0) | (4 < p.number)
+}
+
+// Refusal 1 of a device.
+pub fn unknown_device(d: Device) -> bool
+    ensures { λ r. ⌜ r ≡ unknownDevice d ⌝ }
+{
+    unknown_part(d.part) | (d.program == 0) | (d.erase == 0)
+}
+
+// The bytes of the array.
+pub fn size(p: Part) -> usize
+    ensures { λ r. ⌜ r ≡ sizeOf p ⌝ }
+{
+    sum(describe(p))
+}
+
+// The bytes of block k, 0 where there is none.
+pub fn length(p: Part, k: u8) -> usize
+    ensures { λ r. ⌜ r ≡ lengthOf p k ⌝ }
+{
+    length_at(describe(p), k)
+}
+
+// The first address of block k.
+pub fn start(p: Part, k: u8) -> usize
+    ensures { λ r. ⌜ r ≡ startOf p k ⌝ }
+{
+    start_at(describe(p), k)
+}
+
+// The block that holds an address.
+pub fn block_of(p: Part, address: u32) -> u8
+    ensures { λ r. ⌜ r ≡ blockOf p address ⌝ }
+{
+    block_at(describe(p), address)
+}
+
+// The part's own identifier code.
+pub fn code(p: Part) -> u8
+    ensures { λ r. ⌜ r ≡ codeOf p ⌝ }
+{
+    let s = describe(p);
+    s.code
+}
+
+// How many blocks the part has.
+pub fn blocks(p: Part) -> u8
+    ensures { λ r. ⌜ r ≡ countOf p ⌝ }
+{
+    number(describe(p))
+}
