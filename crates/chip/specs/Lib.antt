@@ -1,0 +1,5 @@
+pub mod Levels
+pub mod States
+pub mod Commands
+pub mod Settling
+pub mod Cycles

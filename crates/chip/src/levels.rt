@@ -1,0 +1,59 @@
+// Pin levels and supply bands.
+use crate::Cycle;
+use crate::Kind;
+use crate::Pins;
+use device::Part;
+ghost use mathlib.Core.Path.{_≡_};
+ghost use lib.Dec.{eqb};
+ghost use Rattle.chip.specs.Levels.{rpLow, vppLow, vppHigh, badPins, badOe, badLevels, locked};
+
+pub fn rp_low(p: Pins) -> bool
+    ensures { λ r. ⌜ r ≡ rpLow p ⌝ }
+{
+    p.rp == 0
+}
+
+pub fn vpp_low(part: Part, p: Pins) -> bool
+    ensures { λ r. ⌜ r ≡ vppLow part p ⌝ }
+{
+    p.vpp <= 6500
+}
+
+pub fn vpp_high(part: Part, p: Pins) -> bool
+    ensures { λ r. ⌜ r ≡ vppHigh part p ⌝ }
+{
+    (11400 <= p.vpp) & (p.vpp <= 12600)
+}
+
+pub fn bad_pins(part: Part, p: Pins) -> bool
+    ensures { λ r. ⌜ r ≡ badPins part p ⌝ }
+{
+    (2 < p.rp) | !(vpp_low(part, p) | vpp_high(part, p))
+}
+
+fn bad_oe(kind: Kind, oe: u8) -> bool
+    ensures { λ r. ⌜ r ≡ badOe kind oe ⌝ }
+{
+    match kind {
+        Kind::Read => 0 < oe,
+        Kind::Write => 1 < oe,
+        Kind::Idle => 0 < oe,
+    }
+}
+
+// Refusal 4.
+pub fn bad_levels(part: Part, c: Cycle) -> bool
+    ensures { λ r. ⌜ r ≡ badLevels part c ⌝ }
+{
+    let p = c.pins;
+    let kind = c.kind;
+    bad_pins(part, p) | bad_oe(kind, c.oe)
+}
+
+// The address is in the boot block, and nothing unlocks it.
+pub fn locked(part: Part, c: Cycle) -> bool
+    ensures { λ r. ⌜ r ≡ locked part c ⌝ }
+{
+    let p = c.pins;
+    (device::block_of(part, c.address) == 0) & !(p.rp == 2) & !(c.oe == 1)
+}

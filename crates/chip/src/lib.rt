@@ -1,0 +1,103 @@
+// The rules of a bus cycle, on values alone: no slice comes near them. `decide` says what a cycle answers, which state it
+// leaves, and what it does to the array.
+pub mod commands;
+pub mod cycles;
+pub mod levels;
+pub mod settling;
+pub mod states;
+
+use device::Device;
+use device::Part;
+
+// The levels that a run keeps fixed: RP# (0 low, 1 high, 2 V_HH) and VPP in millivolts.
+pub struct Pins {
+    pub rp: u8,
+    pub vpp: u32,
+}
+
+pub enum Kind {
+    Read,
+    Write,
+    Idle,
+}
+
+// One bus cycle: its kind, the levels, OE# (0 normal, 1 V_HH), address and data.
+pub struct Cycle {
+    pub kind: Kind,
+    pub pins: Pins,
+    pub oe: u8,
+    pub address: u32,
+    pub byte: u8,
+}
+
+// What a read gives.
+pub enum Mode {
+    Array,
+    Status,
+    Identifier,
+}
+
+// What the device is about. A program's data byte stands in its phase.
+pub enum Phase {
+    Free,
+    EraseAwaited,
+    DataAwaited,
+    Programming(u8),
+    Erasing,
+    Suspended,
+}
+
+// The device's state: `left` cycles to go and the operation's `address`, both zero without an operation.
+pub struct State {
+    pub mode: Mode,
+    pub status: u8,
+    pub phase: Phase,
+    pub left: u16,
+    pub address: u32,
+}
+
+// What a cycle does to the array: a program or an erase ends, or is cut.
+pub enum Effect {
+    Nothing,
+    Program(u32, u8),
+    Erase(u8),
+    CutProgram(u32, u8),
+    CutErase(u8),
+}
+
+// What a cycle answers: no data, a byte, the array's byte at an address, or a refusal.
+pub enum Reply {
+    Quiet,
+    Gives(u8),
+    GivesArray(u32),
+    Refuses(u8),
+}
+
+// What a write asks for.
+pub enum Action {
+    ToArray,
+    ToIdentifier,
+    ToStatus,
+    Clear,
+    AwaitErase,
+    AwaitData,
+    Confirm,
+    Store,
+    WrongSecond,
+    Suspend,
+    Resume,
+    Ignore,
+    Refuse,
+}
+
+// A state with what was done to the array on the way to it.
+pub struct Settled {
+    pub state: State,
+    pub effect: Effect,
+}
+
+pub struct Decision {
+    pub reply: Reply,
+    pub state: State,
+    pub effect: Effect,
+}
