@@ -1,0 +1,71 @@
+-- What a cycle does to the array, and what the host sees. Assumes nothing.
+use mathlib.Core.Path.{_≡_}
+use mathlib.Core.List.{List}
+use Prim.Native.Nat.{ℕ, _+_, _≤_, _<_}
+use lib.ListN.{length, getD, set, take, replicate}
+use lib.Bits.{bitAnd, bitOr}
+use Rattle.cells.specs.Lists.{overlaid}
+use Rattle.device.specs.Parts.{sizeOf, startOf, lengthOf}
+use Rattle.device.specs.declared.Part.{Part}
+use Rattle.device.specs.declared.Device.{Device}
+use Rattle.chip.specs.declared.Effect.{Effect}
+use Rattle.chip.specs.declared.Effect.the-variants.{Nothing, Program, Erase, CutProgram, CutErase}
+use Rattle.chip.specs.declared.Reply.{Reply}
+use Rattle.chip.specs.declared.Reply.the-variants.{Quiet, Gives, GivesArray, Refuses}
+use Rattle.chip.specs.declared.State.{State}
+use Rattle.chip.specs.declared.Cycle.{Cycle}
+use Rattle.chip.specs.Cycles.{decideOf}
+use Rattle.model.specs.declared.Seen.{Seen}
+use Rattle.model.specs.declared.Seen.the-variants.{NoData, Byte, Refused}
+use Rattle.model.specs.declared.Answer.{Answer}
+
+-- an erased cell: all ones
+abbrev pub ones : ℕ
+ones = 255
+
+-- an erase that ends leaves ones in its whole block
+unfoldable pub erased : Part → ℕ → List ℕ → List ℕ
+erased part k xs = overlaid xs (startOf part k) (replicate (lengthOf part k) ones)
+
+-- an erase that is cut leaves residue byte i at byte i of the block
+unfoldable pub residual : Part → ℕ → List ℕ → List ℕ → List ℕ
+residual part k rs xs = overlaid xs (startOf part k) (take (lengthOf part k) rs)
+
+-- the array after an effect: a program leaves old AND data; cut, it leaves old AND (data OR r)
+abbrev pub arrayOf : Effect → Part → List ℕ → List ℕ → List ℕ
+arrayOf Nothing part rs xs = xs
+arrayOf (Program at b) part rs xs = set xs at (bitAnd (getD xs at 0) b)
+arrayOf (Erase k) part rs xs = erased part k xs
+arrayOf (CutProgram at b) part rs xs = set xs at (bitAnd (getD xs at 0) (bitOr b (getD rs 0 0)))
+arrayOf (CutErase k) part rs xs = residual part k rs xs
+
+-- an effect finds its bytes in an array and a residue of these lengths
+abbrev pub Within : Effect → Part → ℕ → ℕ → Type 0
+Within Nothing part n r = n ≡ n
+Within (Program at b) part n r = at < n
+Within (Erase k) part n r = n ≡ sizeOf part
+Within (CutProgram at b) part n r = (at < n) × (0 < r)
+Within (CutErase k) part n r = (n ≡ sizeOf part) × (lengthOf part k ≤ r)
+
+-- a reply finds its byte in an array of this length
+abbrev pub Shown : Reply → ℕ → Type 0
+Shown Quiet n = n ≡ n
+Shown (Gives b) n = n ≡ n
+Shown (GivesArray a) n = a < n
+Shown (Refuses m) n = n ≡ n
+
+-- what the host sees of a reply
+abbrev pub seenOf : Reply → List ℕ → Seen
+seenOf Quiet xs = NoData
+seenOf (Gives b) xs = Byte b
+seenOf (GivesArray a) xs = Byte (getD xs a 0)
+seenOf (Refuses n) xs = Refused n
+
+-- the array after a cycle
+unfoldable pub arrayAfter : Device → State → Cycle → List ℕ → List ℕ → List ℕ
+arrayAfter d s c xs rs = arrayOf (decideOf d s c (length xs) (length rs) .effect) (d .part) rs xs
+
+-- the answer to a cycle: its read sees the array as steps 1 to 3 leave it
+unfoldable pub answerOf : Device → State → Cycle → List ℕ → List ℕ → Answer
+answerOf d s c xs rs =
+    record { seen = seenOf (decideOf d s c (length xs) (length rs) .reply) (arrayAfter d s c xs rs); state = decideOf d s c (length xs) (length rs) .state }
