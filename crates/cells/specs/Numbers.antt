@@ -75,3 +75,10 @@ given-append (r ∷ rs) ss m = go (r .holds) (eqb (r .number) 0) refl refl (give
     go b true h q rest = let z : _≡_ {A = Bool} false true = sym (pick-true (eqb (r .number) 0) false (numbered rs) q) ∙ m in absurd (let w : _≡_ {A = ℕ} 0 1 = cc in omega arith)
     go true false h q rest = simp (h, q)
     go false false h q rest = simp (h, rest (sym (pick-false (eqb (r .number) 0) false (numbered rs) q) ∙ m))
+
+-- the rows of a table that gives nothing, one after the other
+pub no-head : {r : Row} {rs : List Row} → NoRow (r ∷ rs) → r .holds ≡ false
+no-head (past h t) = h
+
+pub no-tail : {r : Row} {rs : List Row} → NoRow (r ∷ rs) → NoRow rs
+no-tail (past h t) = t

@@ -1,6 +1,8 @@
 -- A choice by a test, and its laws. Assumes nothing.
 use mathlib.Core.Path.{_≡_, refl, sym, _∙_, ap}
-use mathlib.Core.Bool.{Bool, true, false}
+use mathlib.Core.Bool.{Bool, true, false, _&&_, _||_}
+use Prim.Native.Nat.{ℕ}
+use native.Mathlib.Omega.{arith}
 
 -- the first where the test holds, the second where it does not
 abbrev pub pick {ℓ} : {A : Type ℓ} → Bool → A → A → A
@@ -36,3 +38,34 @@ Unique {A} P = (x y : A) → P x → P y → x ≡ y
 -- a promise that is an equation is met by at most one value: the one law of uniqueness
 pub only : {A : Type 0} (v : A) → Unique (λ (x : A). x ≡ v)
 only v x y p q = p ∙ sym q
+
+-- what a false `or` and a true `and` say of their parts, and back
+pub or-left : (a b : Bool) → (a || b) ≡ false → a ≡ false
+or-left true b e = e
+or-left false b e = refl
+
+pub or-right : (a b : Bool) → (a || b) ≡ false → b ≡ false
+or-right true true e = e
+or-right true false e = refl
+or-right false b e = e
+
+pub or-both : (a b : Bool) → a ≡ false → b ≡ false → (a || b) ≡ false
+or-both a b p q = rw (p, q) refl
+
+pub and-left : (a b : Bool) → (a && b) ≡ true → a ≡ true
+and-left true b e = refl
+and-left false b e = e
+
+pub and-right : (a b : Bool) → (a && b) ≡ true → b ≡ true
+and-right true b e = e
+and-right false true e = refl
+and-right false false e = e
+
+pub and-rest : (a b : Bool) → a ≡ true → (a && b) ≡ false → b ≡ false
+and-rest true b p e = e
+and-rest false true p e = sym p
+and-rest false false p e = refl
+
+-- true is not false
+pub unlike : true ≡ false → ⊥
+unlike e = let z : _≡_ {A = ℕ} 0 1 = cc in omega arith

@@ -1,6 +1,10 @@
 // The bench model: one bus cycle at a time on a lent array. The rules are in `chip`; here they are applied to the bytes.
-use chip::{Cycle, Effect, Reply, State};
-use device::{Device, Part};
+use chip::Cycle;
+use chip::Effect;
+use chip::Reply;
+use chip::State;
+use device::Device;
+use device::Part;
 ghost use mathlib.Core.Path.{_≡_};
 ghost use Prim.Native.Nat.{_<_, _≤_};
 ghost use lib.ListN.{length, getD, set};

@@ -1,0 +1,122 @@
+-- What a decided cycle touches lies inside the array and the residue. Assumes nothing.
+use mathlib.Core.Path.{_≡_, refl, sym, ap, _∙_, subst}
+use mathlib.Core.Bool.{Bool, true, false, not, _&&_, _||_}
+use Prim.Native.Nat.{ℕ, _+_, _≤_, _<_}
+use native.Mathlib.Omega.{arith}
+use lib.Dec.{eqb, ltb, leb}
+use borrow.Author.Tests.{leb-false, ltb-false, eqb-true, eqb-false}
+use Rattle.cells.specs.Pick.{pick, pick-ind, and-rest, or-left, and-left}
+use Rattle.device.specs.declared.Part.{Part}
+use Rattle.device.specs.declared.Device.{Device}
+use Rattle.device.specs.Parts.{sizeOf}
+use Rattle.chip.specs.declared.State.{State}
+use Rattle.chip.specs.declared.Cycle.{Cycle}
+use Rattle.chip.specs.declared.Settled.{Settled}
+use Rattle.chip.specs.declared.Decision.{Decision}
+use Rattle.chip.specs.declared.Kind.{Kind}
+use Rattle.chip.specs.declared.Kind.the-variants.{Read, Write, Idle}
+use Rattle.chip.specs.declared.Mode.{Mode}
+use Rattle.chip.specs.declared.Mode.the-variants.{Array, Status, Identifier}
+use Rattle.chip.specs.declared.Phase.{Phase}
+use Rattle.chip.specs.declared.Phase.the-variants.{Free, EraseAwaited, DataAwaited, Programming, Erasing, Suspended}
+use Rattle.chip.specs.Levels.{rpLow, vppLow}
+use Rattle.chip.specs.States.{badAddress, isPending, isBusy}
+use Rattle.chip.specs.Settling.{settledAs, cutOf, endOf, residueFor, resetBy, cutBy, countedOff, settleOf}
+use Rattle.chip.specs.Cycles.{shortResidue, pastArray, isIdle, numberOf, decideOf, acceptOf, respondOf, readOf, decidedAs}
+use Rattle.chip.proofs.Ways.{refused, accepted}
+use Rattle.chip.proofs.Facts.{Proper, Fine, fine}
+use Rattle.model.specs.Arrays.{Within, Shown}
+
+-- a cut and an end find their bytes
+cut-within : (ph : Phase) (part : Part) (a n r : ℕ) → n ≡ sizeOf part → pick (isPending ph) (leb (sizeOf part) a) (not (eqb a 0)) ≡ false
+    → residueFor ph part a ≤ r → Within (cutOf ph part a) part n r
+cut-within Free part a n r e b h = refl
+cut-within EraseAwaited part a n r e b h = refl
+cut-within DataAwaited part a n r e b h = refl
+cut-within (Programming x) part a n r e b h = (omega (arith, leb-false (sizeOf part) a b), h)
+cut-within Erasing part a n r e b h = (e, h)
+cut-within Suspended part a n r e b h = (e, h)
+
+end-within : (ph : Phase) (part : Part) (a n r : ℕ) → n ≡ sizeOf part → pick (isPending ph) (leb (sizeOf part) a) (not (eqb a 0)) ≡ false
+    → Within (endOf ph part a) part n r
+end-within Free part a n r e b = refl
+end-within EraseAwaited part a n r e b = refl
+end-within DataAwaited part a n r e b = refl
+end-within (Programming x) part a n r e b = omega (arith, leb-false (sizeOf part) a b)
+end-within Erasing part a n r e b = e
+end-within Suspended part a n r e b = refl
+
+-- steps 1 to 3
+settle-within : (d : Device) (s : State) (c : Cycle) (n r : ℕ) → Fine d s c n r → Within (settleOf (d .part) s (c .pins) .effect) (d .part) n r
+unfolding settleOf cutBy countedOff badAddress shortResidue
+settle-within d s c n r f =
+    pick-ind In (rpLow (c .pins)) _ _ (λ e. cut-within (s .phase) (d .part) (s .address) n r (f .sized) (f .proper .address) (long (simp e)))
+    (λ e. pick-ind In (vppLow (d .part) (c .pins) && isPending (s .phase)) _ _
+    (λ v. cut-within (s .phase) (d .part) (s .address) n r (f .sized) (f .proper .address) (long (simp (e, and-left (vppLow (d .part) (c .pins)) (isPending (s .phase)) v))))
+    (λ v. pick-ind In (isBusy (s .phase)) _ _
+    (λ b. pick-ind In (leb (s .left) 1) _ _ (λ l. end-within (s .phase) (d .part) (s .address) n r (f .sized) (f .proper .address)) (λ l. refl))
+    (λ b. refl)))
+  where
+    In : Settled → Type 0
+    In t = Within (t .effect) (d .part) n r
+
+    long : (rpLow (c .pins) || vppLow (d .part) (c .pins)) ≡ true → residueFor (s .phase) (d .part) (s .address) ≤ r
+    long h = ltb-false r _ (and-rest _ (ltb r (residueFor (s .phase) (d .part) (s .address))) h (f .enough))
+
+accept-effect : (d : Device) (c : Cycle) (t : Settled) → acceptOf d c t .effect ≡ t .effect
+unfolding acceptOf
+accept-effect d c t = go (rpLow (c .pins)) (c .kind)
+  where
+    go : (b : Bool) (k : Kind) → pick b (decidedAs Rattle.chip.specs.declared.Reply.the-variants.Quiet (t .state) (t .effect)) (respondOf k d c t) .effect ≡ t .effect
+    go true k = refl
+    go false Read = refl
+    go false Write = refl
+    go false Idle = refl
+
+-- the reply of an accepted cycle
+accept-shown : (d : Device) (s : State) (c : Cycle) (n r : ℕ) (t : Settled) → Fine d s c n r → Shown (acceptOf d c t .reply) n
+unfolding acceptOf pastArray
+accept-shown d s c n r t f = pick-ind In (rpLow (c .pins)) _ _ (λ e. refl) (λ e. go (c .kind) (t .state .mode) refl e)
+  where
+    In : Decision → Type 0
+    In x = Shown (x .reply) n
+
+    read : (m : Mode) → c .address < n → Shown (readOf m (d .part) (c .address) (t .state .status)) n
+    read Array h = h
+    read Status h = refl
+    read Identifier h = refl
+
+    below : c .kind ≡ Read → rpLow (c .pins) ≡ false → c .address < n
+    below k e =
+        let b : leb (sizeOf (d .part)) (c .address) ≡ false = out (leb (sizeOf (d .part)) (c .address)) (simp (k, e) at (f .inside)) in
+        omega (arith, leb-false (sizeOf (d .part)) (c .address) b, f .sized)
+      where
+        out : (b : Bool) → ((b && true) && true) ≡ false → b ≡ false
+        out true h = h
+        out false h = refl
+
+    go : (k : Kind) → (m : Mode) → c .kind ≡ k → rpLow (c .pins) ≡ false → In (respondOf k d c t)
+    go Read m k e = read (t .state .mode) (below k e)
+    go Write m k e = refl
+    go Idle m k e = refl
+
+module _ (d : Device) (s : State) (c : Cycle) (n r : ℕ) where
+  split : (P : Decision → Type 0) → ((m : ℕ) → numberOf d s c n r ≡ m → (m ≡ 0 → ⊥) → P (decideOf d s c n r)) → (numberOf d s c n r ≡ 0 → P (decideOf d s c n r)) → P (decideOf d s c n r)
+  split P f g = go (eqb (numberOf d s c n r) 0) refl
+    where
+      go : (b : Bool) → eqb (numberOf d s c n r) 0 ≡ b → P (decideOf d s c n r)
+      go true e = g (eqb-true _ _ e)
+      go false e = f (numberOf d s c n r) refl (eqb-false _ _ e)
+
+  -- whatever the cycle, its effect finds its bytes, and so does its reply
+  pub within : Within (decideOf d s c n r .effect) (d .part) n r
+  within =
+      split (λ (x : Decision). Within (x .effect) (d .part) n r)
+      (λ m e z. rw (refused d s c n r m e z) refl)
+      (λ e. rw (accepted d s c n r e, accept-effect d c (settleOf (d .part) s (c .pins))) (settle-within d s c n r (fine d s c n r e)))
+
+  pub shown : Shown (decideOf d s c n r .reply) n
+  shown =
+      split (λ (x : Decision). Shown (x .reply) n)
+      (λ m e z. rw (refused d s c n r m e z) refl)
+      (λ e. rw (accepted d s c n r e) (accept-shown d s c n r (settleOf (d .part) s (c .pins)) (fine d s c n r e)))
