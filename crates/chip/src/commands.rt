@@ -96,7 +96,7 @@ pub fn action(ph: Phase, b: u8) -> Action
     }
 }
 
-pub fn is_refuse(a: Action) -> bool
+pub(crate) fn is_refuse(a: Action) -> bool
     ensures { λ r. ⌜ r ≡ isRefuse a ⌝ }
 {
     match a {
@@ -183,7 +183,7 @@ fn begin(part: Part, c: Cycle, s: State, ph: Phase, time: u16, bit: u8) -> State
 }
 
 // What an action makes of the state.
-pub fn perform(a: Action, d: Device, c: Cycle, s: State) -> State
+pub(crate) fn perform(a: Action, d: Device, c: Cycle, s: State) -> State
     ensures { λ r. ⌜ r ≡ performedOf a d c s ⌝ }
 {
     let part = d.part;

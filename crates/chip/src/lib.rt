@@ -3,7 +3,7 @@
 pub mod commands;
 pub mod cycles;
 pub mod levels;
-pub mod settling;
+mod settling;
 pub mod states;
 
 use device::Device;

@@ -58,7 +58,7 @@ fn cut_bits(ph: Phase) -> u8
 }
 
 // The residue bytes that a cut needs.
-pub fn residue_for(ph: Phase, part: Part, address: u32) -> usize
+pub(crate) fn residue_for(ph: Phase, part: Part, address: u32) -> usize
     ensures { λ r. ⌜ r ≡ residueFor ph part address ⌝ }
 {
     match ph {
@@ -121,7 +121,7 @@ fn both(a: bool, b: bool) -> bool
 }
 
 // The three steps in their order.
-pub fn settle(part: Part, s: State, p: Pins) -> Settled
+pub(crate) fn settle(part: Part, s: State, p: Pins) -> Settled
     ensures { λ r. ⌜ r ≡ settleOf part s p ⌝ }
 {
     let ph = s.phase;

@@ -1,2 +1,4 @@
 pub mod Overlay
 pub mod Reach
+pub mod Status
+pub mod Keeping

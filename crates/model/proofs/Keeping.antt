@@ -1,0 +1,189 @@
+-- Proper stays proper: through settling, through an action, through a cycle. Assumes nothing.
+use mathlib.Core.Path.{_≡_, refl, sym, ap, _∙_, subst}
+use mathlib.Core.Bool.{Bool, true, false, not, _&&_, _||_}
+use Prim.Native.Nat.{ℕ, _+_, _-_, _≤_, _<_}
+use native.Mathlib.Omega.{arith}
+use lib.Bits.{bitAnd, bitOr}
+use lib.Dec.{eqb, ltb, leb}
+use borrow.Author.Tests.{leb-false, leb-true, ltb-false, eqb-true, eqb-false, ne-eqb, eq-eqb, le-ltb, lt-leb}
+use Rattle.cells.specs.Pick.{pick, pick-ind, and-rest, and-left, and-right, or-left, or-right, or-both, unlike}
+use Rattle.device.specs.declared.Device.{Device}
+use Rattle.device.specs.Parts.{sizeOf, unknownDevice, unknownPart}
+use Rattle.chip.specs.declared.State.{State}
+use Rattle.chip.specs.declared.Cycle.{Cycle}
+use Rattle.chip.specs.declared.Settled.{Settled}
+use Rattle.chip.specs.declared.Decision.{Decision}
+use Rattle.chip.specs.declared.Action.{Action}
+use Rattle.chip.specs.declared.Kind.{Kind}
+use Rattle.chip.specs.declared.Kind.the-variants.{Read, Write, Idle}
+use Rattle.chip.specs.declared.Mode.{Mode}
+use Rattle.chip.specs.declared.Mode.the-variants.{Array, Status, Identifier}
+use Rattle.chip.specs.declared.Phase.{Phase}
+use Rattle.chip.specs.declared.Phase.the-variants.{Free, EraseAwaited, DataAwaited, Programming, Erasing, Suspended}
+use Rattle.chip.specs.Levels.{rpLow, vppLow, locked}
+use Rattle.chip.specs.States.{badMode, badStatus, badLeft, badAddress, improper, isPending, isBusy, topBits, atRest, freshState, resetOf}
+use Rattle.chip.specs.Commands.{firstWrite, afterErase, whileErasing, whileSuspended, actionOf, performedOf, startedOf, unsupplied}
+use Rattle.chip.specs.Settling.{settledAs, cutBits, cutBy, countedOff, settleOf}
+use Rattle.chip.specs.Cycles.{pastArray, numberOf, decideOf, acceptOf, respondOf, refusedBy}
+use Rattle.chip.proofs.Ways.{refused, accepted}
+use Rattle.chip.proofs.Facts.{Proper, proper-parts, parts-proper, Fine, fine}
+use Rattle.model.proofs.Status as sr
+use Rattle.model.proofs.Status.{fits, kept, status-fits, fits-status}
+
+-- a state written out
+abbrev pub st : Mode → ℕ → Phase → ℕ → ℕ → State
+st m x ph l a = record { mode = m; status = x; phase = ph; left = l; address = a }
+
+-- at rest with a ready status is proper, whatever the mode
+pub rest-proper : (d : Device) (m : Mode) (x : ℕ) → fits 2 x ≡ true → Proper d (atRest m x)
+unfolding badLeft badAddress
+rest-proper d m x e = record { mode = refl; status = fits-status Free x e; left = refl; address = refl }
+
+pub fresh-proper : (d : Device) → Proper d freshState
+fresh-proper d = rest-proper d Array 128 refl
+
+cut-status : (ph : Phase) → isPending ph ≡ true → (x : ℕ) → fits (topBits ph) x ≡ true → fits 2 (bitOr (bitAnd x 191) (cutBits ph)) ≡ true
+cut-status Free p x e = absurd (unlike (sym p))
+cut-status EraseAwaited p x e = absurd (unlike (sym p))
+cut-status DataAwaited p x e = absurd (unlike (sym p))
+cut-status (Programming b) p x e = kept (λ y. bitOr (bitAnd y 191) 152) 0 2 (omega arith) sr.cut-program x e
+cut-status Erasing p x e = kept (λ y. bitOr (bitAnd y 191) 168) 0 2 (omega arith) sr.cut-erase x e
+cut-status Suspended p x e = kept (λ y. bitOr (bitAnd y 191) 168) 3 2 (omega arith) sr.cut-suspended x e
+
+busy-top : (ph : Phase) → isBusy ph ≡ true → topBits ph ≡ 0
+busy-top Free p = absurd (unlike (sym p))
+busy-top EraseAwaited p = absurd (unlike (sym p))
+busy-top DataAwaited p = absurd (unlike (sym p))
+busy-top (Programming b) p = refl
+busy-top Erasing p = refl
+busy-top Suspended p = absurd (unlike (sym p))
+
+-- one cycle counted off leaves a count in range
+one-less : (most l : ℕ) → leb l 1 ≡ false → (eqb l 0 || ltb most l) ≡ false → (eqb (l - 1) 0 || ltb most (l - 1)) ≡ false
+one-less most l h e =
+    let g : 1 < l = leb-false l 1 h in
+    let m : l ≤ most = ltb-false most l (or-right (eqb l 0) (ltb most l) e) in
+    or-both (eqb (l - 1) 0) (ltb most (l - 1)) (ne-eqb (l - 1) 0 (λ q. omega arith)) (le-ltb most (l - 1) (omega arith))
+
+counted-left : (d : Device) (ph : Phase) (l : ℕ) → isBusy ph ≡ true → leb l 1 ≡ false → badLeft d ph l ≡ false → badLeft d ph (l - 1) ≡ false
+unfolding badLeft
+counted-left d Free l p h e = absurd (unlike (sym p))
+counted-left d EraseAwaited l p h e = absurd (unlike (sym p))
+counted-left d DataAwaited l p h e = absurd (unlike (sym p))
+counted-left d (Programming b) l p h e = one-less (d .program) l h e
+counted-left d Erasing l p h e = one-less (d .erase) l h e
+counted-left d Suspended l p h e = absurd (unlike (sym p))
+
+-- steps 1 to 3
+pub settle-proper : (d : Device) (s : State) (c : Cycle) → Proper d s → Proper d (settleOf (d .part) s (c .pins) .state)
+unfolding settleOf cutBy countedOff
+settle-proper d s c p =
+    pick-ind In (rpLow (c .pins)) _ _ (λ e. fresh-proper d)
+    (λ e. pick-ind In (vppLow (d .part) (c .pins) && isPending (s .phase)) _ _
+    (λ v. rest-proper d Status (bitOr (bitAnd (s .status) 191) (cutBits (s .phase)))
+        (cut-status (s .phase) (and-right (vppLow (d .part) (c .pins)) (isPending (s .phase)) v) (s .status) (status-fits (s .phase) (s .status) (p .status))))
+    (λ v. pick-ind In (isBusy (s .phase)) _ _
+    (λ b. pick-ind In (leb (s .left) 1) _ _
+        (λ l. rest-proper d (s .mode) (bitOr (s .status) 128)
+            (kept (λ y. bitOr y 128) 0 2 (omega arith) sr.finish (s .status) (subst (λ (n : ℕ). fits n (s .status) ≡ true) (busy-top (s .phase) b) (status-fits (s .phase) (s .status) (p .status)))))
+        (λ l. record { mode = p .mode; status = p .status; left = counted-left d (s .phase) (s .left) b l (p .left); address = p .address }))
+    (λ b. p)))
+  where
+    In : Settled → Type 0
+    In t = Proper d (t .state)
+
+-- a confirm or data, of either operation
+started-proper : (d : Device) (c : Cycle) (s : State) (ph : Phase) (time bit : ℕ) → fits 2 (bitOr (bitOr (s .status) 8) bit) ≡ true → fits 2 (bitOr (s .status) bit) ≡ true
+    → Proper d (st (s .mode) (bitAnd (s .status) 127) ph time (c .address)) → Proper d (startedOf (d .part) c s ph time bit)
+unfolding startedOf
+started-proper d c s ph time bit low lock run =
+    pick-ind (λ (u : State). Proper d u) (unsupplied (d .part) c s) _ _ (λ e. rest-proper d (s .mode) (bitOr (bitOr (s .status) 8) bit) low)
+    (λ e. pick-ind (λ (u : State). Proper d u) (locked (d .part) c) _ _ (λ l. rest-proper d (s .mode) (bitOr (s .status) bit) lock) (λ l. run))
+
+full : (most : ℕ) → (most ≡ 0 → ⊥) → (eqb most 0 || ltb most most) ≡ false
+full most z = or-both (eqb most 0) (ltb most most) (ne-eqb most 0 z) (le-ltb most most (omega arith))
+
+-- any action that the phase and the byte ask for
+pub act-proper : (d : Device) (c : Cycle) → (d .program ≡ 0 → ⊥) → (d .erase ≡ 0 → ⊥) → leb (sizeOf (d .part)) (c .address) ≡ false
+    → (m : Mode) (x : ℕ) (ph : Phase) (l a : ℕ) → Proper d (st m x ph l a) → Proper d (performedOf (actionOf ph (c .byte)) d c (st m x ph l a))
+unfolding firstWrite afterErase whileErasing whileSuspended badStatus badLeft badAddress
+act-proper d c zp ze h m x Free l a p =
+    pick-ind P (eqb (c .byte) 0xFF) _ _ (λ e. record { mode = refl; status = p .status; left = p .left; address = p .address })
+    (λ e. pick-ind P (eqb (c .byte) 0x90) _ _ (λ e. record { mode = refl; status = p .status; left = p .left; address = p .address })
+    (λ e. pick-ind P (eqb (c .byte) 0x70) _ _ (λ e. record { mode = refl; status = p .status; left = p .left; address = p .address })
+    (λ e. pick-ind P (eqb (c .byte) 0x50) _ _
+        (λ e. record { mode = refl; status = fits-status Free (bitAnd x 199) (kept (λ y. bitAnd y 199) 2 2 (omega arith) sr.clear x (status-fits Free x (p .status))); left = p .left; address = p .address })
+    (λ e. pick-ind P (eqb (c .byte) 0x20) _ _ (λ e. record { mode = refl; status = p .status; left = p .left; address = p .address })
+    (λ e. pick-ind P (eqb (c .byte) 0x40) _ _ (λ e. record { mode = refl; status = p .status; left = p .left; address = p .address })
+    (λ e. p))))))
+  where
+    P : Action → Type 0
+    P x′ = Proper d (performedOf x′ d c (st m x Free l a))
+act-proper d c zp ze h m x EraseAwaited l a p =
+    let f : fits 2 x ≡ true = status-fits EraseAwaited x (p .status) in
+    pick-ind (λ (y : Action). Proper d (performedOf y d c (st m x EraseAwaited l a))) (eqb (c .byte) 0xD0) _ _
+    (λ e. started-proper d c (st m x EraseAwaited l a) Erasing (d .erase) 32 (kept (λ y. bitOr (bitOr y 8) 32) 2 2 (omega arith) sr.low-erase x f)
+        (kept (λ y. bitOr y 32) 2 2 (omega arith) sr.locked-erase x f)
+        (record { mode = p .mode; status = fits-status Erasing (bitAnd x 127) (kept (λ y. bitAnd y 127) 2 0 (omega arith) sr.start x f); left = full (d .erase) ze; address = h }))
+    (λ e. rest-proper d m (bitOr x 48) (kept (λ y. bitOr y 48) 2 2 (omega arith) sr.wrong-second x f))
+act-proper d c zp ze h m x DataAwaited l a p =
+    let f : fits 2 x ≡ true = status-fits DataAwaited x (p .status) in
+    started-proper d c (st m x DataAwaited l a) (Programming (c .byte)) (d .program) 16 (kept (λ y. bitOr (bitOr y 8) 16) 2 2 (omega arith) sr.low-program x f)
+    (kept (λ y. bitOr y 16) 2 2 (omega arith) sr.locked-program x f)
+    (record { mode = p .mode; status = fits-status (Programming (c .byte)) (bitAnd x 127) (kept (λ y. bitAnd y 127) 2 0 (omega arith) sr.start x f); left = full (d .program) zp; address = h })
+act-proper d c zp ze h m x (Programming b) l a p = p
+act-proper d c zp ze h m x Erasing l a p =
+    pick-ind (λ (y : Action). Proper d (performedOf y d c (st m x Erasing l a))) (eqb (c .byte) 0xB0) _ _
+    (λ e. record { mode = refl; status = fits-status Suspended (bitOr x 192) (kept (λ y. bitOr y 192) 0 3 (omega arith) sr.suspend x (status-fits Erasing x (p .status))); left = p .left; address = p .address })
+    (λ e. p)
+act-proper d c zp ze h m x Suspended l a p =
+    pick-ind P (eqb (c .byte) 0xFF) _ _ (λ e. record { mode = refl; status = p .status; left = p .left; address = p .address })
+    (λ e. pick-ind P (eqb (c .byte) 0x70) _ _ (λ e. record { mode = refl; status = p .status; left = p .left; address = p .address })
+    (λ e. pick-ind P (eqb (c .byte) 0xD0) _ _
+        (λ e. record { mode = refl; status = fits-status Erasing (bitAnd x 63) (kept (λ y. bitAnd y 63) 3 0 (omega arith) sr.resume x (status-fits Suspended x (p .status))); left = p .left; address = p .address })
+    (λ e. p)))
+  where
+    P : Action → Type 0
+    P y = Proper d (performedOf y d c (st m x Suspended l a))
+
+-- the address of a read or write that is accepted
+pub address-inside : (d : Device) (c : Cycle) → pastArray (d .part) c ≡ false → rpLow (c .pins) ≡ false → c .kind ≡ Write → leb (sizeOf (d .part)) (c .address) ≡ false
+unfolding pastArray
+address-inside d c f e k = out (leb (sizeOf (d .part)) (c .address)) (simp (k, e) at f)
+  where
+    out : (b : Bool) → ((b && true) && true) ≡ false → b ≡ false
+    out true h = h
+    out false h = refl
+
+-- a known device has busy times
+pub times : (d : Device) → unknownDevice d ≡ false → (d .program ≡ 0 → ⊥) × (d .erase ≡ 0 → ⊥)
+unfolding unknownDevice
+times d e =
+    let a = unknownPart (d .part) in
+    let b = eqb (d .program) 0 in
+    let z = eqb (d .erase) 0 in
+    (eqb-false (d .program) 0 (or-right a b (or-left (a || b) z e)), eqb-false (d .erase) 0 (or-right (a || b) z e))
+
+-- step 4
+accept-proper : (d : Device) (s : State) (c : Cycle) (n r : ℕ) → Fine d s c n r → Proper d (acceptOf d c (settleOf (d .part) s (c .pins)) .state)
+unfolding acceptOf
+accept-proper d s c n r f = pick-ind In (rpLow (c .pins)) _ _ (λ e. p) (λ e. go (c .kind) refl e)
+  where
+    t : State
+    t = settleOf (d .part) s (c .pins) .state
+    p : Proper d t
+    p = settle-proper d s c (f .proper)
+    In : Decision → Type 0
+    In x = Proper d (x .state)
+    go : (k : Kind) → c .kind ≡ k → rpLow (c .pins) ≡ false → In (respondOf k d c (settleOf (d .part) s (c .pins)))
+    go Read k e = p
+    go Write k e = act-proper d c (times d (f .known) .0) (times d (f .known) .1) (address-inside d c (f .inside) e k) (t .mode) (t .status) (t .phase) (t .left) (t .address) p
+    go Idle k e = p
+
+-- a cycle from a proper state leaves a proper state, refused or not
+pub cycle-proper : (d : Device) (s : State) (c : Cycle) (n r : ℕ) → Proper d s → Proper d (decideOf d s c n r .state)
+cycle-proper d s c n r p = go (eqb (numberOf d s c n r) 0) refl
+  where
+    go : (b : Bool) → eqb (numberOf d s c n r) 0 ≡ b → Proper d (decideOf d s c n r .state)
+    go true e = rw (accepted d s c n r (eqb-true _ _ e)) (accept-proper d s c n r (fine d s c n r (eqb-true _ _ e)))
+    go false e = rw (refused d s c n r (numberOf d s c n r) refl (eqb-false _ _ e)) p
