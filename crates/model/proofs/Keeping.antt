@@ -25,8 +25,8 @@ use Rattle.chip.specs.States.{badMode, badStatus, badLeft, badAddress, improper
 use Rattle.chip.specs.Commands.{firstWrite, afterErase, whileErasing, whileSuspended, actionOf, performedOf, startedOf, unsupplied}
 use Rattle.chip.specs.Settling.{settledAs, cutBits, cutBy, countedOff, settleOf}
 use Rattle.chip.specs.Cycles.{pastArray, numberOf, decideOf, acceptOf, respondOf, refusedBy}
-use Rattle.chip.proofs.Ways.{refused, accepted}
-use Rattle.chip.proofs.Facts.{Proper, proper-parts, parts-proper, Fine, fine}
+use Rattle.chip.proofs.Facts.{Proper, Fine}
+use Rattle.model.proofs.Outcome.{outcome, accept-ways}
 use Rattle.model.proofs.Status as sr
 use Rattle.model.proofs.Status.{fits, kept, status-fits, fits-status}
 
@@ -166,24 +166,17 @@ times d e =
 
 -- step 4
 accept-proper : (d : Device) (s : State) (c : Cycle) (n r : ℕ) → Fine d s c n r → Proper d (acceptOf d c (settleOf (d .part) s (c .pins)) .state)
-unfolding acceptOf
-accept-proper d s c n r f = pick-ind In (rpLow (c .pins)) _ _ (λ e. p) (λ e. go (c .kind) refl e)
+accept-proper d s c n r f = accept-ways d c (settleOf (d .part) s (c .pins)) (λ (x : Decision). Proper d (x .state)) (λ e. p) (λ e k q. kinds k q e)
   where
     t : State
     t = settleOf (d .part) s (c .pins) .state
     p : Proper d t
     p = settle-proper d s c (f .proper)
-    In : Decision → Type 0
-    In x = Proper d (x .state)
-    go : (k : Kind) → c .kind ≡ k → rpLow (c .pins) ≡ false → In (respondOf k d c (settleOf (d .part) s (c .pins)))
-    go Read k e = p
-    go Write k e = act-proper d c (times d (f .known) .0) (times d (f .known) .1) (address-inside d c (f .inside) e k) (t .mode) (t .status) (t .phase) (t .left) (t .address) p
-    go Idle k e = p
+    kinds : (k : Kind) → c .kind ≡ k → rpLow (c .pins) ≡ false → Proper d (respondOf k d c (settleOf (d .part) s (c .pins)) .state)
+    kinds Read k e = p
+    kinds Write k e = act-proper d c (times d (f .known) .0) (times d (f .known) .1) (address-inside d c (f .inside) e k) (t .mode) (t .status) (t .phase) (t .left) (t .address) p
+    kinds Idle k e = p
 
 -- a cycle from a proper state leaves a proper state, refused or not
 pub cycle-proper : (d : Device) (s : State) (c : Cycle) (n r : ℕ) → Proper d s → Proper d (decideOf d s c n r .state)
-cycle-proper d s c n r p = go (eqb (numberOf d s c n r) 0) refl
-  where
-    go : (b : Bool) → eqb (numberOf d s c n r) 0 ≡ b → Proper d (decideOf d s c n r .state)
-    go true e = rw (accepted d s c n r (eqb-true _ _ e)) (accept-proper d s c n r (fine d s c n r (eqb-true _ _ e)))
-    go false e = rw (refused d s c n r (numberOf d s c n r) refl (eqb-false _ _ e)) p
+cycle-proper d s c n r p = outcome d s c n r (λ (x : Decision). Proper d (x .state)) (λ m z e. p) (accept-proper d s c n r)

@@ -23,8 +23,8 @@ use Rattle.chip.specs.Levels.{rpLow, vppLow}
 use Rattle.chip.specs.States.{badAddress, isPending, isBusy}
 use Rattle.chip.specs.Settling.{settledAs, cutOf, endOf, residueFor, resetBy, cutBy, countedOff, settleOf}
 use Rattle.chip.specs.Cycles.{shortResidue, pastArray, isIdle, numberOf, decideOf, acceptOf, respondOf, readOf, decidedAs}
-use Rattle.chip.proofs.Ways.{refused, accepted}
-use Rattle.chip.proofs.Facts.{Proper, Fine, fine}
+use Rattle.chip.proofs.Facts.{Fine}
+use Rattle.model.proofs.Outcome.{outcome, accept-ways, accept-effect}
 use Rattle.model.specs.Arrays.{Within, Shown}
 
 -- a cut and an end find their bytes
@@ -63,60 +63,34 @@ settle-within d s c n r f =
     long : (rpLow (c .pins) || vppLow (d .part) (c .pins)) ≡ true → residueFor (s .phase) (d .part) (s .address) ≤ r
     long h = ltb-false r _ (and-rest _ (ltb r (residueFor (s .phase) (d .part) (s .address))) h (f .enough))
 
-accept-effect : (d : Device) (c : Cycle) (t : Settled) → acceptOf d c t .effect ≡ t .effect
-unfolding acceptOf
-accept-effect d c t = go (rpLow (c .pins)) (c .kind)
-  where
-    go : (b : Bool) (k : Kind) → pick b (decidedAs Rattle.chip.specs.declared.Reply.the-variants.Quiet (t .state) (t .effect)) (respondOf k d c t) .effect ≡ t .effect
-    go true k = refl
-    go false Read = refl
-    go false Write = refl
-    go false Idle = refl
-
 -- the reply of an accepted cycle
 accept-shown : (d : Device) (s : State) (c : Cycle) (n r : ℕ) (t : Settled) → Fine d s c n r → Shown (acceptOf d c t .reply) n
-unfolding acceptOf pastArray
-accept-shown d s c n r t f = pick-ind In (rpLow (c .pins)) _ _ (λ e. refl) (λ e. go (c .kind) (t .state .mode) refl e)
+unfolding pastArray
+accept-shown d s c n r t f = accept-ways d c t (λ (x : Decision). Shown (x .reply) n) (λ e. refl) (λ e k q. kinds k q e)
   where
-    In : Decision → Type 0
-    In x = Shown (x .reply) n
-
+    out : (b : Bool) → ((b && true) && true) ≡ false → b ≡ false
+    out true h = h
+    out false h = refl
     read : (m : Mode) → c .address < n → Shown (readOf m (d .part) (c .address) (t .state .status)) n
     read Array h = h
     read Status h = refl
     read Identifier h = refl
-
     below : c .kind ≡ Read → rpLow (c .pins) ≡ false → c .address < n
     below k e =
         let b : leb (sizeOf (d .part)) (c .address) ≡ false = out (leb (sizeOf (d .part)) (c .address)) (simp (k, e) at (f .inside)) in
         omega (arith, leb-false (sizeOf (d .part)) (c .address) b, f .sized)
-      where
-        out : (b : Bool) → ((b && true) && true) ≡ false → b ≡ false
-        out true h = h
-        out false h = refl
+    kinds : (k : Kind) → c .kind ≡ k → rpLow (c .pins) ≡ false → Shown (respondOf k d c t .reply) n
+    kinds Read k e = read (t .state .mode) (below k e)
+    kinds Write k e = refl
+    kinds Idle k e = refl
 
-    go : (k : Kind) → (m : Mode) → c .kind ≡ k → rpLow (c .pins) ≡ false → In (respondOf k d c t)
-    go Read m k e = read (t .state .mode) (below k e)
-    go Write m k e = refl
-    go Idle m k e = refl
+-- whatever the cycle, its effect finds its bytes, and so does its reply
+pub within : (d : Device) (s : State) (c : Cycle) (n r : ℕ) → Within (decideOf d s c n r .effect) (d .part) n r
+within d s c n r =
+    outcome d s c n r (λ (x : Decision). Within (x .effect) (d .part) n r) (λ m z e. refl)
+    (λ f. rw (accept-effect d c (settleOf (d .part) s (c .pins))) (settle-within d s c n r f))
 
-module _ (d : Device) (s : State) (c : Cycle) (n r : ℕ) where
-  split : (P : Decision → Type 0) → ((m : ℕ) → numberOf d s c n r ≡ m → (m ≡ 0 → ⊥) → P (decideOf d s c n r)) → (numberOf d s c n r ≡ 0 → P (decideOf d s c n r)) → P (decideOf d s c n r)
-  split P f g = go (eqb (numberOf d s c n r) 0) refl
-    where
-      go : (b : Bool) → eqb (numberOf d s c n r) 0 ≡ b → P (decideOf d s c n r)
-      go true e = g (eqb-true _ _ e)
-      go false e = f (numberOf d s c n r) refl (eqb-false _ _ e)
-
-  -- whatever the cycle, its effect finds its bytes, and so does its reply
-  pub within : Within (decideOf d s c n r .effect) (d .part) n r
-  within =
-      split (λ (x : Decision). Within (x .effect) (d .part) n r)
-      (λ m e z. rw (refused d s c n r m e z) refl)
-      (λ e. rw (accepted d s c n r e, accept-effect d c (settleOf (d .part) s (c .pins))) (settle-within d s c n r (fine d s c n r e)))
-
-  pub shown : Shown (decideOf d s c n r .reply) n
-  shown =
-      split (λ (x : Decision). Shown (x .reply) n)
-      (λ m e z. rw (refused d s c n r m e z) refl)
-      (λ e. rw (accepted d s c n r e) (accept-shown d s c n r (settleOf (d .part) s (c .pins)) (fine d s c n r e)))
+pub shown : (d : Device) (s : State) (c : Cycle) (n r : ℕ) → Shown (decideOf d s c n r .reply) n
+shown d s c n r =
+    outcome d s c n r (λ (x : Decision). Shown (x .reply) n) (λ m z e. refl)
+    (λ f. accept-shown d s c n r (settleOf (d .part) s (c .pins)) f)

@@ -1,0 +1,267 @@
+-- Begun, pending and ended operations, and the law that ties them. Assumes nothing.
+use mathlib.Core.Path.{_≡_, refl, sym, ap, _∙_, subst}
+use mathlib.Core.Bool.{Bool, true, false, not, _&&_, _||_}
+use Prim.Native.Nat.{ℕ, _+_}
+use native.Mathlib.Omega.{arith}
+use lib.Dec.{eqb, leb}
+use borrow.Author.Tests.{eqb-true, eqb-false}
+use Rattle.cells.specs.Pick.{pick, pick-ind, pick-same, pick-true, pick-false, unlike}
+use Rattle.device.specs.declared.Part.{Part}
+use Rattle.device.specs.declared.Device.{Device}
+use Rattle.device.specs.Parts.{blockOf}
+use Rattle.chip.specs.declared.State.{State}
+use Rattle.chip.specs.declared.Cycle.{Cycle}
+use Rattle.chip.specs.declared.Settled.{Settled}
+use Rattle.chip.specs.declared.Decision.{Decision}
+use Rattle.chip.specs.declared.Action.{Action}
+use Rattle.chip.specs.declared.Action.the-variants.{Confirm, WrongSecond}
+use Rattle.chip.specs.declared.Kind.{Kind}
+use Rattle.chip.specs.declared.Kind.the-variants.{Read, Write, Idle}
+use Rattle.chip.specs.declared.Mode.{Mode}
+use Rattle.chip.specs.declared.Phase.{Phase}
+use Rattle.chip.specs.declared.Phase.the-variants.{Free, EraseAwaited, DataAwaited, Programming, Erasing, Suspended}
+use Rattle.chip.specs.declared.Effect.{Effect}
+use Rattle.chip.specs.declared.Effect.the-variants.{Nothing, Program, Erase, CutProgram, CutErase}
+use Rattle.chip.specs.Levels.{rpLow, vppLow, locked}
+use Rattle.chip.specs.States.{isPending, isBusy, resetOf}
+use Rattle.chip.specs.Commands.{firstWrite, afterErase, whileErasing, whileSuspended, actionOf, performedOf, startedOf, unsupplied}
+use Rattle.chip.specs.Settling.{settledAs, cutOf, endOf, cutBy, countedOff, settleOf}
+use Rattle.chip.specs.Cycles.{isWrite, numberOf, decideOf, acceptOf, respondOf, refusedBy}
+use Rattle.chip.proofs.Ways.{refused, accepted}
+use Rattle.model.proofs.Outcome.{outcome, accept-ways, accept-effect}
+use Rattle.model.specs.Begun.{operationOf, pendingIn, pendingOf, askedBy, startsOf, begunBy, isAwaited}
+use Rattle.model.proofs.Keeping.{st}
+
+-- awaited before and running after: the same operation, told by the states
+abbrev pub begunFrom : Part → State → State → Effect
+begunFrom part s t = pick (isAwaited (s .phase)) (pendingOf part t) Nothing
+
+cut-same : (ph : Phase) (part : Part) (a : ℕ) → operationOf (cutOf ph part a) ≡ pendingIn ph part a
+cut-same Free part a = refl
+cut-same EraseAwaited part a = refl
+cut-same DataAwaited part a = refl
+cut-same (Programming b) part a = refl
+cut-same Erasing part a = refl
+cut-same Suspended part a = refl
+
+end-same : (ph : Phase) (part : Part) (a : ℕ) → isBusy ph ≡ true → operationOf (endOf ph part a) ≡ pendingIn ph part a
+end-same Free part a b = refl
+end-same EraseAwaited part a b = refl
+end-same DataAwaited part a b = refl
+end-same (Programming x) part a b = refl
+end-same Erasing part a b = refl
+end-same Suspended part a b = absurd (unlike (sym b))
+
+-- nothing is pending where a second write is awaited, and settling leaves such a state alone
+awaited-free : (ph : Phase) (part : Part) (a : ℕ) → isAwaited ph ≡ true → pendingIn ph part a ≡ Nothing
+awaited-free Free part a e = refl
+awaited-free EraseAwaited part a e = refl
+awaited-free DataAwaited part a e = refl
+awaited-free (Programming b) part a e = absurd (unlike (sym e))
+awaited-free Erasing part a e = absurd (unlike (sym e))
+awaited-free Suspended part a e = absurd (unlike (sym e))
+
+still : (ph : Phase) → isAwaited ph ≡ true → (isPending ph ≡ false) × (isBusy ph ≡ false)
+still Free e = (refl, refl)
+still EraseAwaited e = (refl, refl)
+still DataAwaited e = (refl, refl)
+still (Programming b) e = absurd (unlike (sym e))
+still Erasing e = absurd (unlike (sym e))
+still Suspended e = absurd (unlike (sym e))
+
+pub settle-awaited : (part : Part) (s : State) (c : Cycle) → isAwaited (s .phase) ≡ true → rpLow (c .pins) ≡ false → settleOf part s (c .pins) ≡ settledAs s Nothing
+unfolding settleOf
+settle-awaited part s c e h = simp (h, still (s .phase) e .0, still (s .phase) e .1) (go (vppLow part (c .pins)))
+  where
+    go : (b : Bool) → pick (b && false) (cutBy part s) (settledAs s Nothing) ≡ settledAs s Nothing
+    go true = refl
+    go false = refl
+
+-- settling awaits nothing new
+settle-unawaited : (part : Part) (s : State) (c : Cycle) → isAwaited (s .phase) ≡ false → isAwaited (settleOf part s (c .pins) .state .phase) ≡ false
+unfolding settleOf cutBy countedOff
+settle-unawaited part s c e =
+    pick-ind In (rpLow (c .pins)) _ _ (λ x. refl)
+    (λ x. pick-ind In (vppLow part (c .pins) && isPending (s .phase)) _ _ (λ v. refl)
+    (λ v. pick-ind In (isBusy (s .phase)) _ _ (λ b. pick-ind In (leb (s .left) 1) _ _ (λ l. refl) (λ l. e)) (λ b. e)))
+  where
+    In : Settled → Type 0
+    In t = isAwaited (t .state .phase) ≡ false
+
+module _ (f : Effect → ℕ) (zero : f Nothing ≡ 0) where
+  -- steps 1 to 3 end or cut what was pending, or leave it
+  settle-conserves : (part : Part) (s : State) (c : Cycle)
+      → f (operationOf (settleOf part s (c .pins) .effect)) + f (pendingOf part (settleOf part s (c .pins) .state)) ≡ f (pendingOf part s)
+  unfolding settleOf cutBy countedOff
+  settle-conserves part s c =
+      pick-ind In (rpLow (c .pins)) _ _ (λ x. over)
+      (λ x. pick-ind In (vppLow part (c .pins) && isPending (s .phase)) _ _ (λ v. over)
+      (λ v. pick-ind In (isBusy (s .phase)) _ _
+      (λ b. pick-ind In (leb (s .left) 1) _ _ (λ l. rw (end-same (s .phase) part (s .address) b, zero) (omega arith)) (λ l. same)) (λ b. same)))
+    where
+      In : Settled → Type 0
+      In t = f (operationOf (t .effect)) + f (pendingOf part (t .state)) ≡ f (pendingOf part s)
+      over : f (operationOf (cutOf (s .phase) part (s .address))) + f Nothing ≡ f (pendingOf part s)
+      over = rw (cut-same (s .phase) part (s .address), zero) (omega arith)
+      same : f Nothing + f (pendingOf part s) ≡ f (pendingOf part s)
+      same = rw zero (omega arith)
+
+-- a second write starts what it asks for, unless it is unsupplied or locked
+started-pending : (part : Part) (c : Cycle) (s : State) (ph : Phase) (time bit : ℕ)
+    → pendingOf part (startedOf part c s ph time bit) ≡ pick (not (unsupplied part c s) && not (locked part c)) (pendingIn ph part (c .address)) Nothing
+unfolding startedOf
+started-pending part c s ph time bit = go (unsupplied part c s) (locked part c) refl refl
+  where
+    go : (u l : Bool) → unsupplied part c s ≡ u → locked part c ≡ l
+        → pendingOf part (startedOf part c s ph time bit) ≡ pick (not (unsupplied part c s) && not (locked part c)) (pendingIn ph part (c .address)) Nothing
+    go true l e h = simp e
+    go false true e h = simp (e, h)
+    go false false e h = simp (e, h)
+
+-- an action starts nothing where no second write is awaited ..
+act-pending : (d : Device) (c : Cycle) (m : Mode) (x : ℕ) (ph : Phase) (l a : ℕ) → isAwaited ph ≡ false
+    → pendingOf (d .part) (performedOf (actionOf ph (c .byte)) d c (st m x ph l a)) ≡ pendingIn ph (d .part) a
+unfolding firstWrite whileErasing whileSuspended
+act-pending d c m x Free l a e =
+    pick-ind P (eqb (c .byte) 0xFF) _ _ (λ b. refl)
+    (λ b. pick-ind P (eqb (c .byte) 0x90) _ _ (λ b. refl)
+    (λ b. pick-ind P (eqb (c .byte) 0x70) _ _ (λ b. refl)
+    (λ b. pick-ind P (eqb (c .byte) 0x50) _ _ (λ b. refl)
+    (λ b. pick-ind P (eqb (c .byte) 0x20) _ _ (λ b. refl)
+    (λ b. pick-ind P (eqb (c .byte) 0x40) _ _ (λ b. refl) (λ b. refl))))))
+  where
+    P : Action → Type 0
+    P y = pendingOf (d .part) (performedOf y d c (st m x Free l a)) ≡ Nothing
+act-pending d c m x EraseAwaited l a e = absurd (unlike e)
+act-pending d c m x DataAwaited l a e = absurd (unlike e)
+act-pending d c m x (Programming b) l a e = refl
+act-pending d c m x Erasing l a e =
+    pick-ind (λ (y : Action). pendingOf (d .part) (performedOf y d c (st m x Erasing l a)) ≡ pendingIn Erasing (d .part) a) (eqb (c .byte) 0xB0) _ _ (λ b. refl) (λ b. refl)
+act-pending d c m x Suspended l a e =
+    pick-ind P (eqb (c .byte) 0xFF) _ _ (λ b. refl) (λ b. pick-ind P (eqb (c .byte) 0x70) _ _ (λ b. refl) (λ b. pick-ind P (eqb (c .byte) 0xD0) _ _ (λ b. refl) (λ b. refl)))
+  where
+    P : Action → Type 0
+    P y = pendingOf (d .part) (performedOf y d c (st m x Suspended l a)) ≡ pendingIn Suspended (d .part) a
+
+-- .. and what is asked for where one is
+act-starts : (d : Device) (c : Cycle) (m : Mode) (x : ℕ) (ph : Phase) (l a : ℕ) → isAwaited ph ≡ true
+    → pendingOf (d .part) (performedOf (actionOf ph (c .byte)) d c (st m x ph l a))
+    ≡ pick (not (unsupplied (d .part) c (st m x ph l a)) && not (locked (d .part) c)) (askedBy ph (d .part) (c .address) (c .byte)) Nothing
+unfolding afterErase
+act-starts d c m x Free l a e = absurd (unlike (sym e))
+act-starts d c m x EraseAwaited l a e = go (eqb (c .byte) 0xD0) refl
+  where
+    go : (b : Bool) → eqb (c .byte) 0xD0 ≡ b
+        → pendingOf (d .part) (performedOf (pick (eqb (c .byte) 0xD0) Confirm WrongSecond) d c (st m x EraseAwaited l a))
+        ≡ pick (not (unsupplied (d .part) c (st m x EraseAwaited l a)) && not (locked (d .part) c)) (pick (eqb (c .byte) 0xD0) (Erase (blockOf (d .part) (c .address))) Nothing) Nothing
+    go true q = rw q (started-pending (d .part) c (st m x EraseAwaited l a) Erasing (d .erase) 32)
+    go false q = rw q (sym (pick-same (not (unsupplied (d .part) c (st m x EraseAwaited l a)) && not (locked (d .part) c)) Nothing))
+act-starts d c m x DataAwaited l a e = started-pending (d .part) c (st m x DataAwaited l a) (Programming (c .byte)) (d .program) 16
+act-starts d c m x (Programming b) l a e = absurd (unlike (sym e))
+act-starts d c m x Erasing l a e = absurd (unlike (sym e))
+act-starts d c m x Suspended l a e = absurd (unlike (sym e))
+
+-- nothing is asked for where no second write is awaited
+unasked : (ph : Phase) (part : Part) (a b : ℕ) → isAwaited ph ≡ false → askedBy ph part a b ≡ Nothing
+unasked Free part a b e = refl
+unasked EraseAwaited part a b e = absurd (unlike e)
+unasked DataAwaited part a b e = absurd (unlike e)
+unasked (Programming x) part a b e = refl
+unasked Erasing part a b e = refl
+unasked Suspended part a b e = refl
+
+-- an accepted cycle with RP# low leaves a reset device, and with RP# up goes on to its read or write
+accept-low : (d : Device) (s : State) (c : Cycle) → rpLow (c .pins) ≡ true → acceptOf d c (settleOf (d .part) s (c .pins)) .state ≡ resetOf s
+unfolding acceptOf settleOf
+accept-low d s c h = simp h
+
+pub accept-up : (d : Device) (c : Cycle) (t : Settled) → rpLow (c .pins) ≡ false → acceptOf d c t ≡ respondOf (c .kind) d c t
+unfolding acceptOf
+accept-up d c t h = simp h
+
+-- what an accepted cycle starts, told by the states
+starts-from : (d : Device) (s : State) (c : Cycle) → startsOf (d .part) s c ≡ begunFrom (d .part) s (acceptOf d c (settleOf (d .part) s (c .pins)) .state)
+unfolding startsOf
+starts-from d s c = go (isAwaited (s .phase)) refl (rpLow (c .pins)) refl
+  where
+    part : Part
+    part = d .part
+    asked : Effect
+    asked = askedBy (s .phase) part (c .address) (c .byte)
+    G : State → Type 0
+    G u = startsOf part s c ≡ begunFrom part s u
+    starts : (w r : Bool) → isWrite (c .kind) ≡ w → rpLow (c .pins) ≡ r → startsOf part s c ≡ pick (((w && not r) && not (unsupplied part c s)) && not (locked part c)) asked Nothing
+    starts w r e h = simp (e, h)
+    none : (e : isAwaited (s .phase) ≡ true) → begunFrom part s s ≡ Nothing
+    none e = simp (e, awaited-free (s .phase) part (s .address) e)
+    kinds : (k : Kind) → c .kind ≡ k → isAwaited (s .phase) ≡ true → rpLow (c .pins) ≡ false → G (respondOf k d c (settledAs s Nothing) .state)
+    kinds Read k e h = starts false false (ap isWrite k) h ∙ sym (none e)
+    kinds Write k e h =
+        starts true false (ap isWrite k) h
+        ∙ sym (pick-true (isAwaited (s .phase)) _ Nothing e ∙ act-starts d c (s .mode) (s .status) (s .phase) (s .left) (s .address) e)
+    kinds Idle k e h = starts false false (ap isWrite k) h ∙ sym (none e)
+    low : (w : Bool) → pick (((w && not true) && not (unsupplied part c s)) && not (locked part c)) asked Nothing ≡ Nothing
+    low true = refl
+    low false = refl
+    go : (a : Bool) → isAwaited (s .phase) ≡ a → (r : Bool) → rpLow (c .pins) ≡ r → G (acceptOf d c (settleOf part s (c .pins)) .state)
+    go false e r h =
+        starts (isWrite (c .kind)) (rpLow (c .pins)) refl refl
+        ∙ ap (λ (x : Effect). pick (((isWrite (c .kind) && not (rpLow (c .pins))) && not (unsupplied part c s)) && not (locked part c)) x Nothing) (unasked (s .phase) part (c .address) (c .byte) e)
+        ∙ pick-same (((isWrite (c .kind) && not (rpLow (c .pins))) && not (unsupplied part c s)) && not (locked part c)) Nothing
+        ∙ sym (pick-false (isAwaited (s .phase)) _ Nothing e)
+    go true e true h =
+        starts (isWrite (c .kind)) true refl h ∙ low (isWrite (c .kind))
+        ∙ sym (ap (λ (u : State). begunFrom part s u) (accept-low d s c h) ∙ pick-same (isAwaited (s .phase)) Nothing)
+    go true e false h = rw (accept-up d c (settleOf part s (c .pins)) h, settle-awaited part s c e h) (kinds (c .kind) refl e h)
+
+-- nothing begins from a state to itself
+begun-still : (part : Part) (s : State) → begunFrom part s s ≡ Nothing
+begun-still part s = go (isAwaited (s .phase)) refl
+  where
+    go : (b : Bool) → isAwaited (s .phase) ≡ b → begunFrom part s s ≡ Nothing
+    go true e = simp (e, awaited-free (s .phase) part (s .address) e)
+    go false e = simp e
+
+-- what a cycle begins is told by the states before and after it
+pub begun-from : (d : Device) (s : State) (c : Cycle) (n r : ℕ) → begunBy d s c n r ≡ begunFrom (d .part) s (decideOf d s c n r .state)
+unfolding begunBy
+begun-from d s c n r = go (eqb (numberOf d s c n r) 0) refl
+  where
+    go : (b : Bool) → eqb (numberOf d s c n r) 0 ≡ b
+        → pick (eqb (numberOf d s c n r) 0) (startsOf (d .part) s c) Nothing ≡ begunFrom (d .part) s (decideOf d s c n r .state)
+    go true e = rw (e, accepted d s c n r (eqb-true _ _ e)) (starts-from d s c)
+    go false e = rw (e, refused d s c n r (numberOf d s c n r) refl (eqb-false _ _ e)) (sym (begun-still (d .part) s))
+
+-- settling with RP# low resets
+settle-low : (part : Part) (s : State) (c : Cycle) → rpLow (c .pins) ≡ true → settleOf part s (c .pins) .state ≡ resetOf s
+unfolding settleOf
+settle-low part s c h = simp h
+
+module _ (f : Effect → ℕ) (none : f Nothing ≡ 0) where
+  -- step 4 adds what begins to what is pending
+  accept-adds : (d : Device) (s : State) (c : Cycle)
+      → f (pendingOf (d .part) (acceptOf d c (settleOf (d .part) s (c .pins)) .state))
+      ≡ f (begunFrom (d .part) s (acceptOf d c (settleOf (d .part) s (c .pins)) .state)) + f (pendingOf (d .part) (settleOf (d .part) s (c .pins) .state))
+  accept-adds d s c =
+      accept-ways d c t P
+      (λ h. rw (settle-low (d .part) s c h, pick-same (isAwaited (s .phase)) Nothing, none) (omega arith))
+      (λ h k q. go (isAwaited (s .phase)) refl h k)
+    where
+      t : Settled
+      t = settleOf (d .part) s (c .pins)
+      P : Decision → Type 0
+      P x = f (pendingOf (d .part) (x .state)) ≡ f (begunFrom (d .part) s (x .state)) + f (pendingOf (d .part) (t .state))
+      go : (a : Bool) → isAwaited (s .phase) ≡ a → rpLow (c .pins) ≡ false → (k : Kind) → P (respondOf k d c t)
+      go true e h k = rw (e, settle-awaited (d .part) s c e h, awaited-free (s .phase) (d .part) (s .address) e, none) (omega arith)
+      go false e h Read = rw (e, none) (omega arith)
+      go false e h Write = rw (e, none, act-pending d c (t .state .mode) (t .state .status) (t .state .phase) (t .state .left) (t .state .address) (settle-unawaited (d .part) s c e)) (omega arith)
+      go false e h Idle = rw (e, none) (omega arith)
+
+  -- the law of lives: what ended or was cut and what is pending after is what began and what was pending before
+  pub conserved : (d : Device) (s : State) (c : Cycle) (n r : ℕ)
+      → f (operationOf (decideOf d s c n r .effect)) + f (pendingOf (d .part) (decideOf d s c n r .state)) ≡ f (begunBy d s c n r) + f (pendingOf (d .part) s)
+  conserved d s c n r =
+      rw (begun-from d s c n r)
+      (outcome d s c n r (λ (x : Decision). f (operationOf (x .effect)) + f (pendingOf (d .part) (x .state)) ≡ f (begunFrom (d .part) s (x .state)) + f (pendingOf (d .part) s))
+      (λ m z e. rw (begun-still (d .part) s) refl)
+      (λ g. rw (accept-effect d c (settleOf (d .part) s (c .pins))) (omega (arith, accept-adds d s c, settle-conserves f none (d .part) s c))))

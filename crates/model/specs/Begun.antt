@@ -1,0 +1,66 @@
+-- Operations over their life: which one a cycle begins, which is pending in a state, which one an effect ends or cuts. Assumes nothing.
+use mathlib.Core.Bool.{Bool, true, false, not, _&&_}
+use Prim.Native.Nat.{ℕ}
+use lib.Dec.{eqb}
+use Rattle.cells.specs.Pick.{pick}
+use Rattle.device.specs.declared.Part.{Part}
+use Rattle.device.specs.declared.Device.{Device}
+use Rattle.device.specs.Parts.{blockOf}
+use Rattle.chip.specs.declared.Phase.{Phase}
+use Rattle.chip.specs.declared.Phase.the-variants.{Free, EraseAwaited, DataAwaited, Programming, Erasing, Suspended}
+use Rattle.chip.specs.declared.Effect.{Effect}
+use Rattle.chip.specs.declared.Effect.the-variants.{Nothing, Program, Erase, CutProgram, CutErase}
+use Rattle.chip.specs.declared.State.{State}
+use Rattle.chip.specs.declared.Cycle.{Cycle}
+use Rattle.chip.specs.Levels.{rpLow, locked}
+use Rattle.chip.specs.Commands.{unsupplied}
+use Rattle.chip.specs.Cycles.{isWrite, numberOf}
+
+-- the operation that an effect ends or cuts; an uncut effect is its own operation
+abbrev pub operationOf : Effect → Effect
+operationOf Nothing = Nothing
+operationOf (Program a b) = Program a b
+operationOf (Erase k) = Erase k
+operationOf (CutProgram a b) = Program a b
+operationOf (CutErase k) = Erase k
+
+-- the operation that is running or suspended
+abbrev pub pendingIn : Phase → Part → ℕ → Effect
+pendingIn Free part a = Nothing
+pendingIn EraseAwaited part a = Nothing
+pendingIn DataAwaited part a = Nothing
+pendingIn (Programming b) part a = Program a b
+pendingIn Erasing part a = Erase (blockOf part a)
+pendingIn Suspended part a = Erase (blockOf part a)
+
+abbrev pub pendingOf : Part → State → Effect
+pendingOf part s = pendingIn (s .phase) part (s .address)
+
+-- what a second write asks for at its own address: after 20H an erase by D0H, after 40H a program of whatever byte
+abbrev pub askedBy : Phase → Part → ℕ → ℕ → Effect
+askedBy Free part a b = Nothing
+askedBy EraseAwaited part a b = pick (eqb b 0xD0) (Erase (blockOf part a)) Nothing
+askedBy DataAwaited part a b = Program a b
+askedBy (Programming x) part a b = Nothing
+askedBy Erasing part a b = Nothing
+askedBy Suspended part a b = Nothing
+
+-- a write with RP# up that is neither unsupplied nor locked starts what it asks for
+unfoldable pub startsOf : Part → State → Cycle → Effect
+startsOf part s c =
+    pick (((isWrite (c .kind) && not (rpLow (c .pins))) && not (unsupplied part c s)) && not (locked part c))
+    (askedBy (s .phase) part (c .address) (c .byte))
+    Nothing
+
+-- the operation that a cycle begins; a refused cycle begins none
+unfoldable pub begunBy : Device → State → Cycle → ℕ → ℕ → Effect
+begunBy d s c array residue = pick (eqb (numberOf d s c array residue) 0) (startsOf (d .part) s c) Nothing
+
+-- a second write is awaited
+abbrev pub isAwaited : Phase → Bool
+isAwaited Free = false
+isAwaited EraseAwaited = true
+isAwaited DataAwaited = true
+isAwaited (Programming b) = false
+isAwaited Erasing = false
+isAwaited Suspended = false
