@@ -24,7 +24,8 @@ use Rattle.chip.specs.Levels.{rpLow, vppLow, locked}
 use Rattle.chip.specs.States.{badMode, badStatus, badLeft, badAddress, improper, isPending, isBusy, topBits, atRest, freshState, resetOf}
 use Rattle.chip.specs.Commands.{firstWrite, afterErase, whileErasing, whileSuspended, actionOf, performedOf, startedOf, unsupplied}
 use Rattle.chip.specs.Settling.{settledAs, cutBits, cutBy, countedOff, settleOf}
-use Rattle.chip.specs.Cycles.{pastArray, numberOf, decideOf, acceptOf, respondOf, refusedBy}
+use Rattle.chip.specs.declared.Reply.the-variants.{Gives}
+use Rattle.chip.specs.Cycles.{pastArray, numberOf, decideOf, acceptOf, respondOf, readOf, refusedBy}
 use Rattle.chip.proofs.Facts.{Proper, Fine}
 use Rattle.model.proofs.Outcome.{outcome, accept-ways}
 use Rattle.model.proofs.Status as sr
@@ -81,12 +82,12 @@ settle-proper d s c p =
     pick-ind In (rpLow (c .pins)) _ _ (λ e. fresh-proper d)
     (λ e. pick-ind In (vppLow (d .part) (c .pins) && isPending (s .phase)) _ _
     (λ v. rest-proper d Status (bitOr (bitAnd (s .status) 191) (cutBits (s .phase)))
-        (cut-status (s .phase) (and-right (vppLow (d .part) (c .pins)) (isPending (s .phase)) v) (s .status) (status-fits (s .phase) (s .status) (p .status))))
+    (cut-status (s .phase) (and-right (vppLow (d .part) (c .pins)) (isPending (s .phase)) v) (s .status) (status-fits (s .phase) (s .status) (p .status))))
     (λ v. pick-ind In (isBusy (s .phase)) _ _
     (λ b. pick-ind In (leb (s .left) 1) _ _
-        (λ l. rest-proper d (s .mode) (bitOr (s .status) 128)
-            (kept (λ y. bitOr y 128) 0 2 (omega arith) sr.finish (s .status) (subst (λ (n : ℕ). fits n (s .status) ≡ true) (busy-top (s .phase) b) (status-fits (s .phase) (s .status) (p .status)))))
-        (λ l. record { mode = p .mode; status = p .status; left = counted-left d (s .phase) (s .left) b l (p .left); address = p .address }))
+    (λ l. rest-proper d (s .mode) (bitOr (s .status) 128)
+    (kept (λ y. bitOr y 128) 0 2 (omega arith) sr.finish (s .status) (subst (λ (n : ℕ). fits n (s .status) ≡ true) (busy-top (s .phase) b) (status-fits (s .phase) (s .status) (p .status)))))
+    (λ l. record { mode = p .mode; status = p .status; left = counted-left d (s .phase) (s .left) b l (p .left); address = p .address }))
     (λ b. p)))
   where
     In : Settled → Type 0
@@ -112,7 +113,7 @@ act-proper d c zp ze h m x Free l a p =
     (λ e. pick-ind P (eqb (c .byte) 0x90) _ _ (λ e. record { mode = refl; status = p .status; left = p .left; address = p .address })
     (λ e. pick-ind P (eqb (c .byte) 0x70) _ _ (λ e. record { mode = refl; status = p .status; left = p .left; address = p .address })
     (λ e. pick-ind P (eqb (c .byte) 0x50) _ _
-        (λ e. record { mode = refl; status = fits-status Free (bitAnd x 199) (kept (λ y. bitAnd y 199) 2 2 (omega arith) sr.clear x (status-fits Free x (p .status))); left = p .left; address = p .address })
+    (λ e. record { mode = refl; status = fits-status Free (bitAnd x 199) (kept (λ y. bitAnd y 199) 2 2 (omega arith) sr.clear x (status-fits Free x (p .status))); left = p .left; address = p .address })
     (λ e. pick-ind P (eqb (c .byte) 0x20) _ _ (λ e. record { mode = refl; status = p .status; left = p .left; address = p .address })
     (λ e. pick-ind P (eqb (c .byte) 0x40) _ _ (λ e. record { mode = refl; status = p .status; left = p .left; address = p .address })
     (λ e. p))))))
@@ -123,8 +124,8 @@ act-proper d c zp ze h m x EraseAwaited l a p =
     let f : fits 2 x ≡ true = status-fits EraseAwaited x (p .status) in
     pick-ind (λ (y : Action). Proper d (performedOf y d c (st m x EraseAwaited l a))) (eqb (c .byte) 0xD0) _ _
     (λ e. started-proper d c (st m x EraseAwaited l a) Erasing (d .erase) 32 (kept (λ y. bitOr (bitOr y 8) 32) 2 2 (omega arith) sr.low-erase x f)
-        (kept (λ y. bitOr y 32) 2 2 (omega arith) sr.locked-erase x f)
-        (record { mode = p .mode; status = fits-status Erasing (bitAnd x 127) (kept (λ y. bitAnd y 127) 2 0 (omega arith) sr.start x f); left = full (d .erase) ze; address = h }))
+    (kept (λ y. bitOr y 32) 2 2 (omega arith) sr.locked-erase x f)
+    (record { mode = p .mode; status = fits-status Erasing (bitAnd x 127) (kept (λ y. bitAnd y 127) 2 0 (omega arith) sr.start x f); left = full (d .erase) ze; address = h }))
     (λ e. rest-proper d m (bitOr x 48) (kept (λ y. bitOr y 48) 2 2 (omega arith) sr.wrong-second x f))
 act-proper d c zp ze h m x DataAwaited l a p =
     let f : fits 2 x ≡ true = status-fits DataAwaited x (p .status) in
@@ -140,7 +141,7 @@ act-proper d c zp ze h m x Suspended l a p =
     pick-ind P (eqb (c .byte) 0xFF) _ _ (λ e. record { mode = refl; status = p .status; left = p .left; address = p .address })
     (λ e. pick-ind P (eqb (c .byte) 0x70) _ _ (λ e. record { mode = refl; status = p .status; left = p .left; address = p .address })
     (λ e. pick-ind P (eqb (c .byte) 0xD0) _ _
-        (λ e. record { mode = refl; status = fits-status Erasing (bitAnd x 63) (kept (λ y. bitAnd y 63) 3 0 (omega arith) sr.resume x (status-fits Suspended x (p .status))); left = p .left; address = p .address })
+    (λ e. record { mode = refl; status = fits-status Erasing (bitAnd x 63) (kept (λ y. bitAnd y 63) 3 0 (omega arith) sr.resume x (status-fits Suspended x (p .status))); left = p .left; address = p .address })
     (λ e. p)))
   where
     P : Action → Type 0
@@ -170,8 +171,10 @@ accept-proper d s c n r f = accept-ways d c (settleOf (d .part) s (c .pins)) (λ
   where
     t : State
     t = settleOf (d .part) s (c .pins) .state
+
     p : Proper d t
     p = settle-proper d s c (f .proper)
+
     kinds : (k : Kind) → c .kind ≡ k → rpLow (c .pins) ≡ false → Proper d (respondOf k d c (settleOf (d .part) s (c .pins)) .state)
     kinds Read k e = p
     kinds Write k e = act-proper d c (times d (f .known) .0) (times d (f .known) .1) (address-inside d c (f .inside) e k) (t .mode) (t .status) (t .phase) (t .left) (t .address) p
@@ -179,4 +182,23 @@ accept-proper d s c n r f = accept-ways d c (settleOf (d .part) s (c .pins)) (λ
 
 -- a cycle from a proper state leaves a proper state, refused or not
 pub cycle-proper : (d : Device) (s : State) (c : Cycle) (n r : ℕ) → Proper d s → Proper d (decideOf d s c n r .state)
-cycle-proper d s c n r p = outcome d s c n r (λ (x : Decision). Proper d (x .state)) (λ m z e. p) (accept-proper d s c n r)
+cycle-proper d s c n r p = outcome d s c n r (λ (x : Decision). Proper d (x .state)) (λ m z e. p) (λ z. accept-proper d s c n r)
+
+-- while busy the mode is read status, so every read gives the status
+busy-mode : (ph : Phase) (m : Mode) → isBusy ph ≡ true → badMode ph m ≡ false → m ≡ Status
+busy-mode Free m b e = absurd (unlike (sym b))
+busy-mode EraseAwaited m b e = absurd (unlike (sym b))
+busy-mode DataAwaited m b e = absurd (unlike (sym b))
+busy-mode (Programming x) Array b e = absurd (unlike e)
+busy-mode (Programming x) Status b e = refl
+busy-mode (Programming x) Identifier b e = absurd (unlike e)
+busy-mode Erasing Array b e = absurd (unlike e)
+busy-mode Erasing Status b e = refl
+busy-mode Erasing Identifier b e = absurd (unlike e)
+busy-mode Suspended m b e = absurd (unlike (sym b))
+
+pub busy-read : (d : Device) (s : State) (c : Cycle) → Proper d s → isBusy (settleOf (d .part) s (c .pins) .state .phase) ≡ true
+    → respondOf Read d c (settleOf (d .part) s (c .pins)) .reply ≡ Gives (settleOf (d .part) s (c .pins) .state .status)
+busy-read d s c p b =
+    let t : State = settleOf (d .part) s (c .pins) .state in
+    ap (λ (m : Mode). readOf m (d .part) (c .address) (t .status)) (busy-mode (t .phase) (t .mode) b (settle-proper d s c p .mode))

@@ -4,3 +4,6 @@ pub mod Reach
 pub mod Status
 pub mod Keeping
 pub mod Lives
+pub mod Contents
+pub mod Table
+pub mod Claims

@@ -4,7 +4,7 @@ use mathlib.Core.Bool.{Bool, true, false, not, _&&_, _||_}
 use Prim.Native.Nat.{ℕ, _+_}
 use native.Mathlib.Omega.{arith}
 use lib.Dec.{eqb, leb}
-use borrow.Author.Tests.{eqb-true, eqb-false}
+use borrow.Author.Tests.{eqb-true, eqb-false, eq-eqb, ne-eqb}
 use Rattle.cells.specs.Pick.{pick, pick-ind, pick-same, pick-true, pick-false, unlike}
 use Rattle.device.specs.declared.Part.{Part}
 use Rattle.device.specs.declared.Device.{Device}
@@ -101,8 +101,10 @@ module _ (f : Effect → ℕ) (zero : f Nothing ≡ 0) where
     where
       In : Settled → Type 0
       In t = f (operationOf (t .effect)) + f (pendingOf part (t .state)) ≡ f (pendingOf part s)
+
       over : f (operationOf (cutOf (s .phase) part (s .address))) + f Nothing ≡ f (pendingOf part s)
       over = rw (cut-same (s .phase) part (s .address), zero) (omega arith)
+
       same : f Nothing + f (pendingOf part s) ≡ f (pendingOf part s)
       same = rw zero (omega arith)
 
@@ -186,23 +188,30 @@ starts-from d s c = go (isAwaited (s .phase)) refl (rpLow (c .pins)) refl
   where
     part : Part
     part = d .part
+
     asked : Effect
     asked = askedBy (s .phase) part (c .address) (c .byte)
+
     G : State → Type 0
     G u = startsOf part s c ≡ begunFrom part s u
+
     starts : (w r : Bool) → isWrite (c .kind) ≡ w → rpLow (c .pins) ≡ r → startsOf part s c ≡ pick (((w && not r) && not (unsupplied part c s)) && not (locked part c)) asked Nothing
     starts w r e h = simp (e, h)
+
     none : (e : isAwaited (s .phase) ≡ true) → begunFrom part s s ≡ Nothing
     none e = simp (e, awaited-free (s .phase) part (s .address) e)
+
     kinds : (k : Kind) → c .kind ≡ k → isAwaited (s .phase) ≡ true → rpLow (c .pins) ≡ false → G (respondOf k d c (settledAs s Nothing) .state)
     kinds Read k e h = starts false false (ap isWrite k) h ∙ sym (none e)
     kinds Write k e h =
         starts true false (ap isWrite k) h
         ∙ sym (pick-true (isAwaited (s .phase)) _ Nothing e ∙ act-starts d c (s .mode) (s .status) (s .phase) (s .left) (s .address) e)
     kinds Idle k e h = starts false false (ap isWrite k) h ∙ sym (none e)
+
     low : (w : Bool) → pick (((w && not true) && not (unsupplied part c s)) && not (locked part c)) asked Nothing ≡ Nothing
     low true = refl
     low false = refl
+
     go : (a : Bool) → isAwaited (s .phase) ≡ a → (r : Bool) → rpLow (c .pins) ≡ r → G (acceptOf d c (settleOf part s (c .pins)) .state)
     go false e r h =
         starts (isWrite (c .kind)) (rpLow (c .pins)) refl refl
@@ -249,8 +258,10 @@ module _ (f : Effect → ℕ) (none : f Nothing ≡ 0) where
     where
       t : Settled
       t = settleOf (d .part) s (c .pins)
+
       P : Decision → Type 0
       P x = f (pendingOf (d .part) (x .state)) ≡ f (begunFrom (d .part) s (x .state)) + f (pendingOf (d .part) (t .state))
+
       go : (a : Bool) → isAwaited (s .phase) ≡ a → rpLow (c .pins) ≡ false → (k : Kind) → P (respondOf k d c t)
       go true e h k = rw (e, settle-awaited (d .part) s c e h, awaited-free (s .phase) (d .part) (s .address) e, none) (omega arith)
       go false e h Read = rw (e, none) (omega arith)
@@ -264,4 +275,17 @@ module _ (f : Effect → ℕ) (none : f Nothing ≡ 0) where
       rw (begun-from d s c n r)
       (outcome d s c n r (λ (x : Decision). f (operationOf (x .effect)) + f (pendingOf (d .part) (x .state)) ≡ f (begunFrom (d .part) s (x .state)) + f (pendingOf (d .part) s))
       (λ m z e. rw (begun-still (d .part) s) refl)
-      (λ g. rw (accept-effect d c (settleOf (d .part) s (c .pins))) (omega (arith, accept-adds d s c, settle-conserves f none (d .part) s c))))
+      (λ z g. rw (accept-effect d c (settleOf (d .part) s (c .pins))) (omega (arith, accept-adds d s c, settle-conserves f none (d .part) s c))))
+
+-- with no second write awaited a cycle begins nothing; a resume is such a cycle
+pub begun-unawaited : (d : Device) (s : State) (c : Cycle) (n r : ℕ) → isAwaited (s .phase) ≡ false → begunBy d s c n r ≡ Nothing
+begun-unawaited d s c n r e = begun-from d s c n r ∙ pick-false (isAwaited (s .phase)) (pendingOf (d .part) (decideOf d s c n r .state)) Nothing e
+
+-- a refused cycle begins nothing, and an accepted one what it starts
+pub begun-refused : (d : Device) (s : State) (c : Cycle) (n r : ℕ) → (numberOf d s c n r ≡ 0 → ⊥) → begunBy d s c n r ≡ Nothing
+unfolding begunBy
+begun-refused d s c n r z = pick-false (eqb (numberOf d s c n r) 0) (startsOf (d .part) s c) Nothing (ne-eqb (numberOf d s c n r) 0 z)
+
+pub begun-accepted : (d : Device) (s : State) (c : Cycle) (n r : ℕ) → numberOf d s c n r ≡ 0 → begunBy d s c n r ≡ startsOf (d .part) s c
+unfolding begunBy
+begun-accepted d s c n r e = pick-true (eqb (numberOf d s c n r) 0) (startsOf (d .part) s c) Nothing (eq-eqb (numberOf d s c n r) 0 e)

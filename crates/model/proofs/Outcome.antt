@@ -22,12 +22,12 @@ use Rattle.chip.proofs.Facts.{Fine, fine}
 -- whatever holds of a refusal and of an accepted cycle holds of the cycle
 pub outcome : (d : Device) (s : State) (c : Cycle) (n r : ℕ) (P : Decision → Type 0)
     → ((m : ℕ) → (m ≡ 0 → ⊥) → numberOf d s c n r ≡ m → P (refusedBy m s))
-    → (Fine d s c n r → P (acceptOf d c (settleOf (d .part) s (c .pins))))
+    → (numberOf d s c n r ≡ 0 → Fine d s c n r → P (acceptOf d c (settleOf (d .part) s (c .pins))))
     → P (decideOf d s c n r)
 outcome d s c n r P f g = go (eqb (numberOf d s c n r) 0) refl
   where
     go : (b : Bool) → eqb (numberOf d s c n r) 0 ≡ b → P (decideOf d s c n r)
-    go true e = let z = eqb-true (numberOf d s c n r) 0 e in subst P (sym (accepted d s c n r z)) (g (fine d s c n r z))
+    go true e = let z = eqb-true (numberOf d s c n r) 0 e in subst P (sym (accepted d s c n r z)) (g z (fine d s c n r z))
     go false e = let z = eqb-false (numberOf d s c n r) 0 e in subst P (sym (refused d s c n r (numberOf d s c n r) refl z)) (f (numberOf d s c n r) z refl)
 
 -- an accepted cycle ends after step 1 with RP# low, and goes on to its read, write or idle with RP# up

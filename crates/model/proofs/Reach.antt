@@ -71,14 +71,17 @@ accept-shown d s c n r t f = accept-ways d c t (λ (x : Decision). Shown (x .rep
     out : (b : Bool) → ((b && true) && true) ≡ false → b ≡ false
     out true h = h
     out false h = refl
+
     read : (m : Mode) → c .address < n → Shown (readOf m (d .part) (c .address) (t .state .status)) n
     read Array h = h
     read Status h = refl
     read Identifier h = refl
+
     below : c .kind ≡ Read → rpLow (c .pins) ≡ false → c .address < n
     below k e =
         let b : leb (sizeOf (d .part)) (c .address) ≡ false = out (leb (sizeOf (d .part)) (c .address)) (simp (k, e) at (f .inside)) in
         omega (arith, leb-false (sizeOf (d .part)) (c .address) b, f .sized)
+
     kinds : (k : Kind) → c .kind ≡ k → rpLow (c .pins) ≡ false → Shown (respondOf k d c t .reply) n
     kinds Read k e = read (t .state .mode) (below k e)
     kinds Write k e = refl
@@ -88,9 +91,9 @@ accept-shown d s c n r t f = accept-ways d c t (λ (x : Decision). Shown (x .rep
 pub within : (d : Device) (s : State) (c : Cycle) (n r : ℕ) → Within (decideOf d s c n r .effect) (d .part) n r
 within d s c n r =
     outcome d s c n r (λ (x : Decision). Within (x .effect) (d .part) n r) (λ m z e. refl)
-    (λ f. rw (accept-effect d c (settleOf (d .part) s (c .pins))) (settle-within d s c n r f))
+    (λ z f. rw (accept-effect d c (settleOf (d .part) s (c .pins))) (settle-within d s c n r f))
 
 pub shown : (d : Device) (s : State) (c : Cycle) (n r : ℕ) → Shown (decideOf d s c n r .reply) n
 shown d s c n r =
     outcome d s c n r (λ (x : Decision). Shown (x .reply) n) (λ m z e. refl)
-    (λ f. accept-shown d s c n r (settleOf (d .part) s (c .pins)) f)
+    (λ z f. accept-shown d s c n r (settleOf (d .part) s (c .pins)) f)

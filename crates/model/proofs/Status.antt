@@ -23,8 +23,10 @@ all-below f (suc n) e k h = go (f n) refl (all-below f n)
   where
     F : Bool → Bool
     F t = elim t [ true ↦ allBelow f n | false ↦ false ]
+
     at : eqb k n ≡ true → f n ≡ true → f k ≡ true
     at q p = ap f (eqb-true k n q) ∙ p
+
     go : (t : Bool) → f n ≡ t → (allBelow f n ≡ true → (j : ℕ) → j < n → f j ≡ true) → f k ≡ true
     go false p rest = absurd (unlike (sym e ∙ ap F p))
     go true p rest = last (eqb k n) refl

@@ -1,0 +1,98 @@
+-- What is claimed of the bench model, in one place. Assumes nothing.
+use mathlib.Core.Path.{_≡_, refl}
+use mathlib.Core.Bool.{Bool, true, false}
+use mathlib.Core.List.{List}
+use mathlib.Core.Logic.{_↔_}
+use Prim.Native.Nat.{ℕ, _+_}
+use lib.ListN.{length}
+use Rattle.cells.specs.Pick.{Unique, only}
+use Rattle.cells.specs.Bytes.{Bytes}
+use Rattle.cells.specs.Numbers.{Foremost, NoRow}
+use Rattle.device.specs.declared.Part.{Part}
+use Rattle.device.specs.declared.Device.{Device}
+use Rattle.chip.specs.declared.State.{State}
+use Rattle.chip.specs.declared.Cycle.{Cycle}
+use Rattle.chip.specs.declared.Kind.the-variants.{Read}
+use Rattle.chip.specs.declared.Effect.{Effect}
+use Rattle.chip.specs.declared.Effect.the-variants.{Nothing}
+use Rattle.chip.specs.declared.Reply.the-variants.{Refuses, Gives}
+use Rattle.chip.specs.States.{improper, isBusy, freshState, resetOf}
+use Rattle.chip.specs.Settling.{settleOf}
+use Rattle.chip.specs.Cycles.{tableOf, numberOf, decideOf, respondOf}
+use Rattle.chip.proofs.Facts.{proper-parts, parts-proper}
+use Rattle.model.specs.declared.Seen.the-variants.{Refused}
+use Rattle.model.specs.declared.Answer.{Answer}
+use Rattle.model.specs.Arrays.{answerOf, arrayAfter}
+use Rattle.model.specs.Begun.{operationOf, pendingOf, startsOf, begunBy, isAwaited}
+use Rattle.model.proofs.Keeping as keeping
+use Rattle.model.proofs.Lives as lives
+use Rattle.model.proofs.Contents as contents
+use Rattle.model.proofs.Table as table
+
+-- The numbers: a cycle is refused by m exactly where m's own condition holds and that of no lower number does.
+pub refused-exactly : (d : Device) (s : State) (c : Cycle) (xs rs : List ℕ) (m : ℕ) → (m ≡ 0 → ⊥)
+    → (answerOf d s c xs rs .seen ≡ Refused m) ↔ Foremost (tableOf d s c (length xs) (length rs)) m
+refused-exactly = table.host-numbers
+
+-- It is accepted exactly where none of the nine conditions holds.
+pub accepted-exactly : (d : Device) (s : State) (c : Cycle) (n r : ℕ) → (table.isRefusal (decideOf d s c n r .reply) ≡ false) ↔ NoRow (tableOf d s c n r)
+accepted-exactly = table.accepted-exactly
+
+-- A refused cycle has not happened: state and array are as before. (The answer is the refusal, so no data is given.)
+pub refused-nothing : (d : Device) (s : State) (c : Cycle) (xs rs : List ℕ) (m : ℕ) → answerOf d s c xs rs .seen ≡ Refused m
+    → (answerOf d s c xs rs .state ≡ s) × (arrayAfter d s c xs rs ≡ xs)
+refused-nothing = table.host-refused
+
+-- A fresh device is proper, and every cycle from a proper state leaves one.
+pub fresh-proper : (d : Device) → improper d freshState ≡ false
+fresh-proper d = parts-proper d freshState (keeping.fresh-proper d)
+
+pub stays-proper : (d : Device) (s : State) (c : Cycle) (xs rs : List ℕ) → improper d s ≡ false → improper d (answerOf d s c xs rs .state) ≡ false
+unfolding answerOf
+stays-proper d s c xs rs p =
+    parts-proper d (decideOf d s c (length xs) (length rs) .state) (keeping.cycle-proper d s c (length xs) (length rs) (proper-parts d s p))
+
+-- While an operation is busy, every read gives the status.
+pub busy-read : (d : Device) (s : State) (c : Cycle) → improper d s ≡ false → isBusy (settleOf (d .part) s (c .pins) .state .phase) ≡ true
+    → respondOf Read d c (settleOf (d .part) s (c .pins)) .reply ≡ Gives (settleOf (d .part) s (c .pins) .state .status)
+busy-read d s c p = keeping.busy-read d s c (proper-parts d s p)
+
+-- The array keeps its length, and its bytes stay bytes.
+pub keeps-length : (d : Device) (s : State) (c : Cycle) (xs rs : List ℕ) → length (arrayAfter d s c xs rs) ≡ length xs
+keeps-length = contents.cycle-length
+
+pub stays-bytes : (d : Device) (s : State) (c : Cycle) (xs rs : List ℕ) → Bytes rs → Bytes xs → Bytes (arrayAfter d s c xs rs)
+stays-bytes = contents.cycle-bytes
+
+-- Begun: an accepted cycle begins what it starts, a refused one nothing, and where no second write is awaited (a resume, for
+-- one) nothing begins. The states before and after tell the same.
+pub begun-accepted : (d : Device) (s : State) (c : Cycle) (n r : ℕ) → numberOf d s c n r ≡ 0 → begunBy d s c n r ≡ startsOf (d .part) s c
+begun-accepted = lives.begun-accepted
+
+pub begun-refused : (d : Device) (s : State) (c : Cycle) (n r : ℕ) → (numberOf d s c n r ≡ 0 → ⊥) → begunBy d s c n r ≡ Nothing
+begun-refused = lives.begun-refused
+
+pub begun-unawaited : (d : Device) (s : State) (c : Cycle) (n r : ℕ) → isAwaited (s .phase) ≡ false → begunBy d s c n r ≡ Nothing
+begun-unawaited = lives.begun-unawaited
+
+pub begun-from : (d : Device) (s : State) (c : Cycle) (n r : ℕ) → begunBy d s c n r ≡ lives.begunFrom (d .part) s (decideOf d s c n r .state)
+begun-from = lives.begun-from
+
+-- The law of lives, for every cycle and every weight of operations: what ended or was cut and what is pending after weighs
+-- as much as what began and what was pending before.
+pub conserved : (f : Effect → ℕ) → f Nothing ≡ 0 → (d : Device) (s : State) (c : Cycle) (n r : ℕ)
+    → f (operationOf (decideOf d s c n r .effect)) + f (pendingOf (d .part) (decideOf d s c n r .state)) ≡ f (begunBy d s c n r) + f (pendingOf (d .part) s)
+conserved = lives.conserved
+
+-- Two results that a promise allows are equal, and so are two arrays that it leaves.
+pub cycle-unique : (d : Device) (s : State) (c : Cycle) (xs rs : List ℕ) → Unique (λ (r : Answer). r ≡ answerOf d s c xs rs)
+cycle-unique d s c xs rs = only (answerOf d s c xs rs)
+
+pub cycle-array-unique : (d : Device) (s : State) (c : Cycle) (xs rs : List ℕ) → Unique (λ (left : List ℕ). left ≡ arrayAfter d s c xs rs)
+cycle-array-unique d s c xs rs = only (arrayAfter d s c xs rs)
+
+pub fresh-unique : Unique (λ (r : State). r ≡ freshState)
+fresh-unique = only freshState
+
+pub reset-unique : (s : State) → Unique (λ (r : State). r ≡ resetOf s)
+reset-unique s = only (resetOf s)

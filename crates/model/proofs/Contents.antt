@@ -1,0 +1,49 @@
+-- The array under an effect: it keeps its length, and its bytes stay bytes. Assumes nothing.
+use mathlib.Core.Path.{_≡_, refl, sym, ap, _∙_}
+use mathlib.Core.List.{List}
+use Prim.Native.Nat.{ℕ, _+_, _≤_, _<_}
+use native.Mathlib.Omega.{arith}
+use lib.ListN.{length, getD, set, take, replicate, length-set, length-replicate}
+use lib.Seq.{length-take-le}
+use lib.Bits.{bitAnd, bitOr, and-le-l}
+use Rattle.cells.specs.Lists.{overlaid}
+use Rattle.cells.specs.Bytes.{Bytes, bytes-set, bytes-overlaid, bytes-replicate, bytes-take, overlaid-length}
+use Rattle.device.specs.declared.Part.{Part}
+use Rattle.device.specs.declared.Device.{Device}
+use Rattle.device.specs.Parts.{sizeOf, startOf, lengthOf}
+use Rattle.device.proofs.Claims.{blocks-end-inside}
+use Rattle.chip.specs.declared.Effect.{Effect}
+use Rattle.chip.specs.declared.Effect.the-variants.{Nothing, Program, Erase, CutProgram, CutErase}
+use Rattle.chip.specs.declared.State.{State}
+use Rattle.chip.specs.declared.Cycle.{Cycle}
+use Rattle.chip.specs.Cycles.{decideOf}
+use Rattle.model.specs.Arrays.{ones, erased, residual, arrayOf, arrayAfter, Within}
+use Rattle.model.proofs.Reach.{within}
+
+pub effect-length : (e : Effect) (part : Part) (rs xs : List ℕ) → Within e part (length xs) (length rs) → length (arrayOf e part rs xs) ≡ length xs
+unfolding erased residual
+effect-length Nothing part rs xs w = refl
+effect-length (Program a b) part rs xs w = length-set xs a (bitAnd (getD xs a 0) b)
+effect-length (Erase k) part rs xs w =
+    overlaid-length xs (startOf part k) (replicate (lengthOf part k) ones) (rw (length-replicate (lengthOf part k) ones, w) (blocks-end-inside part k))
+effect-length (CutProgram a b) part rs xs w = length-set xs a (bitAnd (getD xs a 0) (bitOr b (getD rs 0 0)))
+effect-length (CutErase k) part rs xs w =
+    overlaid-length xs (startOf part k) (take (lengthOf part k) rs) (rw (length-take-le (lengthOf part k) rs (w .1), w .0) (blocks-end-inside part k))
+
+pub effect-bytes : (e : Effect) (part : Part) (rs xs : List ℕ) → Bytes rs → Bytes xs → Bytes (arrayOf e part rs xs)
+unfolding erased residual
+effect-bytes Nothing part rs xs r x = x
+effect-bytes (Program a b) part rs xs r x = bytes-set xs a (bitAnd (getD xs a 0) b) x (omega (arith, and-le-l (getD xs a 0) b, x a))
+effect-bytes (Erase k) part rs xs r x = bytes-overlaid xs (startOf part k) (replicate (lengthOf part k) ones) x (bytes-replicate (lengthOf part k) ones (omega arith))
+effect-bytes (CutProgram a b) part rs xs r x =
+    bytes-set xs a (bitAnd (getD xs a 0) (bitOr b (getD rs 0 0))) x (omega (arith, and-le-l (getD xs a 0) (bitOr b (getD rs 0 0)), x a))
+effect-bytes (CutErase k) part rs xs r x = bytes-overlaid xs (startOf part k) (take (lengthOf part k) rs) x (bytes-take (lengthOf part k) rs r)
+
+-- whatever the cycle
+pub cycle-length : (d : Device) (s : State) (c : Cycle) (xs rs : List ℕ) → length (arrayAfter d s c xs rs) ≡ length xs
+unfolding arrayAfter
+cycle-length d s c xs rs = effect-length (decideOf d s c (length xs) (length rs) .effect) (d .part) rs xs (within d s c (length xs) (length rs))
+
+pub cycle-bytes : (d : Device) (s : State) (c : Cycle) (xs rs : List ℕ) → Bytes rs → Bytes xs → Bytes (arrayAfter d s c xs rs)
+unfolding arrayAfter
+cycle-bytes d s c xs rs r x = effect-bytes (decideOf d s c (length xs) (length rs) .effect) (d .part) rs xs r x

@@ -1,0 +1,115 @@
+-- The table of refusals: refused by a number exactly where its row is the first that holds. Assumes nothing.
+use mathlib.Core.Path.{_≡_, refl, sym, ap, _∙_}
+use mathlib.Core.List.{List}
+use mathlib.Core.Logic.{_↔_}
+use Prim.Native.Nat.{ℕ}
+use native.Mathlib.Omega.{arith}
+use lib.ListN.{length}
+use Rattle.cells.specs.Numbers.{Foremost, NoRow, given, given-foremost, foremost-given, given-no-row, no-row-given}
+use Rattle.device.specs.declared.Device.{Device}
+use Rattle.chip.specs.declared.State.{State}
+use Rattle.chip.specs.declared.Cycle.{Cycle}
+use Rattle.chip.specs.declared.Settled.{Settled}
+use Rattle.chip.specs.declared.Decision.{Decision}
+use Rattle.chip.specs.declared.Kind.{Kind}
+use Rattle.chip.specs.declared.Kind.the-variants.{Read, Write, Idle}
+use Rattle.chip.specs.declared.Mode.{Mode}
+use Rattle.chip.specs.declared.Mode.the-variants.{Array, Status, Identifier}
+use Rattle.chip.specs.declared.Reply.{Reply}
+use Rattle.chip.specs.declared.Reply.the-variants.{Quiet, Gives, GivesArray, Refuses}
+use Rattle.chip.specs.declared.Effect.the-variants.{Nothing}
+use Rattle.chip.specs.Settling.{settleOf}
+use Rattle.chip.specs.Cycles.{tableOf, numberOf, decideOf, acceptOf, respondOf, readOf, refusedBy}
+use mathlib.Core.Bool.{Bool, true, false}
+use Rattle.cells.specs.Pick.{unlike}
+use Rattle.chip.proofs.Ways.{refused, accepted}
+use Rattle.chip.proofs.Facts.{Fine}
+use Rattle.model.specs.declared.Seen.the-variants.{NoData, Byte, Refused}
+use Rattle.model.specs.Arrays.{arrayOf, arrayAfter, answerOf, seenOf}
+use Rattle.model.proofs.Outcome.{outcome, accept-ways}
+
+-- the number that a reply refuses by, 0 where it gives no refusal
+abbrev pub refusal : Reply → ℕ
+refusal Quiet = 0
+refusal (Gives b) = 0
+refusal (GivesArray a) = 0
+refusal (Refuses m) = m
+
+-- a reply that is a refusal
+abbrev pub isRefusal : Reply → Bool
+isRefusal Quiet = false
+isRefusal (Gives b) = false
+isRefusal (GivesArray a) = false
+isRefusal (Refuses m) = true
+
+-- an accepted cycle is not refused
+accept-answers : (d : Device) (c : Cycle) (t : Settled) → isRefusal (acceptOf d c t .reply) ≡ false
+accept-answers d c t = accept-ways d c t (λ (x : Decision). isRefusal (x .reply) ≡ false) (λ e. refl) (λ e k q. kinds k)
+  where
+    reads : (m : Mode) → isRefusal (readOf m (d .part) (c .address) (t .state .status)) ≡ false
+    reads Array = refl
+    reads Status = refl
+    reads Identifier = refl
+
+    kinds : (k : Kind) → isRefusal (respondOf k d c t .reply) ≡ false
+    kinds Read = reads (t .state .mode)
+    kinds Write = refl
+    kinds Idle = refl
+
+calm : (x : Reply) → isRefusal x ≡ false → refusal x ≡ 0
+calm Quiet e = refl
+calm (Gives b) e = refl
+calm (GivesArray a) e = refl
+calm (Refuses m) e = absurd (unlike e)
+
+module _ (d : Device) (s : State) (c : Cycle) (n r : ℕ) where
+  -- the number of the table is the number of the reply
+  pub told : refusal (decideOf d s c n r .reply) ≡ numberOf d s c n r
+  told =
+      outcome d s c n r (λ (x : Decision). refusal (x .reply) ≡ numberOf d s c n r) (λ m z e. sym e)
+      (λ z f. calm (acceptOf d c (settleOf (d .part) s (c .pins)) .reply) (accept-answers d c (settleOf (d .part) s (c .pins))) ∙ sym z)
+
+  -- refused by m exactly where m's row holds and no row above it does
+  pub numbers : (m : ℕ) → (m ≡ 0 → ⊥) → (decideOf d s c n r .reply ≡ Refuses m) ↔ Foremost (tableOf d s c n r) m
+  unfolding numberOf
+  numbers m z = (
+    λ e. given-foremost (tableOf d s c n r) m z (sym told ∙ ap refusal e),
+    λ f. ap (λ (x : Decision). x .reply) (refused d s c n r m (foremost-given f) z),
+  )
+
+  -- accepted exactly where no row holds
+  pub accepted-exactly : (isRefusal (decideOf d s c n r .reply) ≡ false) ↔ NoRow (tableOf d s c n r)
+  unfolding numberOf
+  accepted-exactly = (
+    λ e. given-no-row (tableOf d s c n r) refl (sym told ∙ calm (decideOf d s c n r .reply) e),
+    λ f. ap (λ (x : Decision). isRefusal (x .reply)) (accepted d s c n r (no-row-given f)) ∙ accept-answers d c (settleOf (d .part) s (c .pins)),
+  )
+
+  -- a refused cycle leaves the state and does nothing to the array
+  pub refused-nothing : isRefusal (decideOf d s c n r .reply) ≡ true → (decideOf d s c n r .state ≡ s) × (decideOf d s c n r .effect ≡ Nothing)
+  refused-nothing =
+      outcome d s c n r (λ (x : Decision). isRefusal (x .reply) ≡ true → (x .state ≡ s) × (x .effect ≡ Nothing)) (λ m z e q. (refl, refl))
+      (λ z f q. absurd (unlike (sym q ∙ accept-answers d c (settleOf (d .part) s (c .pins)))))
+
+-- the same as the host sees it: a refusal by m comes of a reply that refuses by m
+seen-refused : (x : Reply) (xs : List ℕ) (m : ℕ) → seenOf x xs ≡ Refused m → x ≡ Refuses m
+seen-refused Quiet xs m e = absurd (let z : _≡_ {A = ℕ} 0 1 = cc in omega arith)
+seen-refused (Gives b) xs m e = absurd (let z : _≡_ {A = ℕ} 0 1 = cc in omega arith)
+seen-refused (GivesArray a) xs m e = absurd (let z : _≡_ {A = ℕ} 0 1 = cc in omega arith)
+seen-refused (Refuses k) xs m e = ap Refuses (let q : k ≡ m = cc in q)
+
+pub host-numbers : (d : Device) (s : State) (c : Cycle) (xs rs : List ℕ) (m : ℕ) → (m ≡ 0 → ⊥)
+    → (answerOf d s c xs rs .seen ≡ Refused m) ↔ Foremost (tableOf d s c (length xs) (length rs)) m
+unfolding answerOf
+host-numbers d s c xs rs m z = (
+  λ e. numbers d s c (length xs) (length rs) m z .0 (seen-refused (decideOf d s c (length xs) (length rs) .reply) (arrayAfter d s c xs rs) m e),
+  λ f. ap (λ (x : Reply). seenOf x (arrayAfter d s c xs rs)) (numbers d s c (length xs) (length rs) m z .1 f),
+)
+
+pub host-refused : (d : Device) (s : State) (c : Cycle) (xs rs : List ℕ) (m : ℕ) → answerOf d s c xs rs .seen ≡ Refused m
+    → (answerOf d s c xs rs .state ≡ s) × (arrayAfter d s c xs rs ≡ xs)
+unfolding answerOf arrayAfter
+host-refused d s c xs rs m e =
+    let q : decideOf d s c (length xs) (length rs) .reply ≡ Refuses m = seen-refused (decideOf d s c (length xs) (length rs) .reply) (arrayAfter d s c xs rs) m e in
+    let w = refused-nothing d s c (length xs) (length rs) (ap isRefusal q) in
+    (w .0, rw (w .1) refl)
