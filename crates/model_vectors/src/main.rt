@@ -274,7 +274,8 @@ fn sow(s: &mut [u8], first: u32, step: u32) {
     let mut v = first % 257;
     let mut i = 0;
     while i < s.len() {
-        s[i] = to_u8(v);
+        let b = to_u8(v);
+        s[i] = b;
         v = (v + step % 257) % 257;
         i += 1;
     }
