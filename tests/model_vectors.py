@@ -426,11 +426,11 @@ def last_cycle(b):
     new_bench(b)
     for byte in COMMANDS:
         b.fill(200, 3)
-        b.put("S", 0x00, "P", 1, 0x3A07, 0x5A)
+        b.put("S", 0x28, "P", 1, 0x3A07, 0x5A)
         b.write(0x3805, byte, f"program, 1 to go: {byte:02X}H")
     for byte in COMMANDS:
         b.fill(200, 3)
-        b.put("S", 0x00, "E", 1, 0x3A07)
+        b.put("S", 0x30, "E", 1, 0x3A07)
         b.write(0x3805, byte, f"erase, 1 to go: {byte:02X}H")
     b.put("S", 0x00, "E", 2, 0x3A07)
     b.write(0x3805, 0xB0, "erase, 2 to go: B0H suspends with 1 to go")
