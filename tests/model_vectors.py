@@ -3,16 +3,18 @@
 
     python3 tests/model_vectors.py table        the cases, as in crates/model_vectors/stdin
     python3 tests/model_vectors.py expected     the lines, as in crates/model_vectors/stdout
+    python3 tests/model_vectors.py check        whether both files are what the script prints
 
 The model in the first half is written from document 01 alone and shares nothing with the crates: it is the second opinion to
 which the program is held. The second half is the list of cases.
 
-A line shows: group, number; the answer (D and a byte, N and two dashes, X and a refusal); the status register; the mode (A array,
-S status, I identifier); the phase (F free, C confirm awaited, D data awaited, P programming and its byte, E erasing, S suspended);
-the cycles to go; the operation's address; a digest of the array that was lent.
+A line shows: group and number; the answer (D and a byte, N and two dashes, X and a refusal); the status register; the mode
+(A array, S status, I identifier); the phase (F free, C confirm awaited, D data awaited, P programming and its byte, E erasing,
+S suspended); the cycles to go; the operation's address; a digest of the array that was lent.
 
 What a row of the table holds is said at ROWS below; what stands from column 40 on is a note to the reader.
 """
+import pathlib
 import sys
 from collections import namedtuple
 
@@ -245,12 +247,12 @@ ROOM = 131073  # one byte more than the largest array, so that one too many can 
 
 
 def pattern(first, step):
-    """Bytes of period 257, which no block's length divides; a step of 0 makes them all alike."""
+    """Bytes of period 257, which divides no block's length; a step of 0 makes them all alike."""
     return bytearray((first + step * i) % 257 % 256 for i in range(ROOM))
 
 
 def digest(part):
-    """A number that tells any changed byte."""
+    """A number that any one changed byte changes."""
     h = 0
     for b in part:
         h = (31 * h + b) % 65521
@@ -258,7 +260,7 @@ def digest(part):
 
 
 def shown(s):
-    """A state in print: first status and mode as a line has them, then the rest."""
+    """A state as the rows and the lines have it."""
     phase = f"P{s.byte:02X}" if s.phase == "P" else f"{s.phase}--"
     return f"{s.status:02X} {s.mode} {phase} {s.left:05d} {s.address:08X}"
 
@@ -830,10 +832,23 @@ def all_cases():
     return b
 
 
+def files_differ(b):
+    """The files of the program that are not what this script prints."""
+    folder = pathlib.Path(__file__).resolve().parent.parent / "crates" / "model_vectors"
+    wanted = {"stdin": b.rows, "stdout": b.lines}
+    return [name for name, lines in wanted.items() if (folder / name).read_text() != "\n".join(lines) + "\n"]
+
+
 if __name__ == "__main__":
-    if sys.argv[1:] == ["expected"]:
-        print("\n".join(all_cases().lines))
-    elif sys.argv[1:] == ["table"]:
+    asked = sys.argv[1:]
+    if asked == ["table"]:
         print("\n".join(all_cases().rows))
+    elif asked == ["expected"]:
+        print("\n".join(all_cases().lines))
+    elif asked == ["check"]:
+        differ = files_differ(all_cases())
+        if differ:
+            sys.exit("model_vectors: not what the script prints: " + ", ".join(differ))
+        print("model_vectors: stdin and stdout are what the script prints")
     else:
         sys.exit(__doc__)

@@ -281,7 +281,7 @@ fn sow(s: &mut [u8], first: u32, step: u32) {
     }
 }
 
-// A number that tells any changed byte.
+// A number that any one changed byte changes.
 fn digest(s: &[u8]) -> u64 {
     let mut h: u64 = 0;
     let mut i = 0;
