@@ -1,0 +1,16 @@
+use borrow.Author.Needs.{needs}
+use Rattle.loadfile.proofs.length_wrong.Statement.{statement}
+use Rattle.loadfile.proofs.length_wrong.Tie as tie
+use Rattle.loadfile.proofs.length_wrong.Reads as reads
+use Rattle.loadfile.proofs.length_wrong.Lts as lts
+
+-- src/lib.rt:203:16
+mul-over : tie.Need-mul-over
+mul-over c = search needs
+
+-- src/lib.rt:199:1
+returns : tie.Need-returns
+returns c = ?
+
+pub length-wrong-spec : {M : Type 1} → statement M
+length-wrong-spec = tie.close (tie.spec mul-over returns)

@@ -1,0 +1,61 @@
+use borrow.Author.Needs.{needs}
+use Rattle.loadfile.proofs.payload_size.Statement.{statement}
+use Rattle.loadfile.proofs.payload_size.Tie as tie
+use Rattle.loadfile.proofs.payload_size.Reads as reads
+use Rattle.loadfile.proofs.payload_size.Lts as lts
+use Rattle.loadfile.proofs.used.Reads as used-reads
+
+-- src/lib.rt:213:17
+sub-whole : tie.Need-sub-whole
+sub-whole c = search needs
+
+-- src/lib.rt:214:16
+mul-from : tie.Need-mul-from
+mul-from c = search needs
+
+-- src/lib.rt:215:14
+add-to : tie.Need-add-to
+add-to c = search needs
+
+-- src/lib.rt:216:5
+mul-result : tie.Need-mul-result
+mul-result c = search needs
+
+-- src/lib.rt:216:24
+sub-used : tie.Need-sub-used
+sub-used c = search needs
+
+-- src/lib.rt:216:24
+part-used-start : tie.Need-part-used-start
+part-used-start c = search needs
+
+-- src/lib.rt:216:24
+part-used-end : tie.Need-part-used-end
+part-used-end c = search needs
+
+-- src/lib.rt:216:19
+used-requires : tie.Need-used-requires
+used-requires c κs = search needs
+
+-- src/lib.rt:216:5
+add-result : tie.Need-add-result
+add-result c = ?
+
+-- src/lib.rt:209:1
+returns : tie.Need-returns
+returns c = ?
+
+pub payload-size-spec : {M : Type 1} → statement M
+payload-size-spec =
+    tie.close
+    (tie.spec
+    sub-whole
+    mul-from
+    add-to
+    mul-result
+    sub-used
+    part-used-start
+    part-used-end
+    used-requires
+    add-result
+    returns)

@@ -1,0 +1,55 @@
+use borrow.Author.Needs.{needs}
+use Rattle.loadfile.proofs.put_head.Statement.{statement}
+use Rattle.loadfile.proofs.put_head.Tie as tie
+use Rattle.loadfile.proofs.put_head.Reads as reads
+use Rattle.loadfile.proofs.put_head.Lts as lts
+
+-- src/lib.rt:279:5
+slice-write-out : tie.Need-slice-write-out
+slice-write-out c = search needs
+
+-- src/lib.rt:280:5
+slice-write-out-2 : tie.Need-slice-write-out-2
+slice-write-out-2 c = ?
+
+-- src/lib.rt:281:5
+slice-write-out-3 : tie.Need-slice-write-out-3
+slice-write-out-3 c = ?
+
+-- src/lib.rt:282:14
+cast-out : tie.Need-cast-out
+cast-out c = search needs
+
+-- src/lib.rt:282:5
+slice-write-out-4 : tie.Need-slice-write-out-4
+slice-write-out-4 c = ?
+
+-- src/lib.rt:283:14
+cast-out-2 : tie.Need-cast-out-2
+cast-out-2 c = search needs
+
+-- src/lib.rt:283:5
+slice-write-out-5 : tie.Need-slice-write-out-5
+slice-write-out-5 c = search needs
+
+-- src/lib.rt:275:1
+same-length : tie.Need-same-length
+same-length c = search needs
+
+-- src/lib.rt:275:1
+returns : tie.Need-returns
+returns c = ?
+
+pub put-head-spec : {M : Type 1} → statement M
+put-head-spec =
+    tie.close
+    (tie.spec
+    slice-write-out
+    slice-write-out-2
+    slice-write-out-3
+    cast-out
+    slice-write-out-4
+    cast-out-2
+    slice-write-out-5
+    same-length
+    returns)
