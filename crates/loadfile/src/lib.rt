@@ -45,7 +45,7 @@ pub fn check(block: &[u8]) -> u16
 
 // Two bytes as one number, the high byte first.
 fn joined(high: u8, low: u8) -> usize
-    ensures { λ r. ⌜ r ≡ pair high low ⌝ }
+    ensures { λ r. ⌜ (r ≡ pair high low) × (r < 65536) ⌝ }
 {
     cells::wide(high) * 256 + cells::wide(low)
 }
@@ -99,7 +99,7 @@ fn all_ff(s: &[u8]) -> bool
 
 // The payload bytes that a block says it uses.
 fn used(block: &[u8]) -> usize
-    ensures { λ r. ⌜ r ≡ usedOf (now (block .entry)) ⌝ }
+    ensures { λ r. ⌜ (r ≡ usedOf (now (block .entry))) × (r < 65536) ⌝ }
 {
     joined(cells::nth(block, 3), cells::nth(block, 4))
 }

@@ -1,63 +1,81 @@
+-- `loadfile::check` meets its contract: what is summed and what is left to sum make up the whole. Assumes nothing.
+use mathlib.Core.Path.{_≡_, refl, sym, ap, _∙_}
+use mathlib.Core.List.{List}
+use Prim.Native.Nat.{ℕ, _≤_, _-_, _<_, _+_, _*_, _%_, min}
+use native.Mathlib.Omega.{arith}
+use borrow.Author.Needs.{needs}
+use lib.ListN.{length, getD, take, drop, length-take, drop-of-length-le}
+use lib.Seq.{getD-take}
+use Rattle.loadfile.specs.Check.{wsum, checkOf}
+use Rattle.loadfile.proofs.Walks.{counted, weighed}
 use Rattle.loadfile.proofs.check.Statement.{statement}
 use Rattle.loadfile.proofs.check.Tie as tie
-use Rattle.loadfile.proofs.check.Reads as reads
-use Rattle.loadfile.proofs.check.Lts as lts
-use Rattle.cells.proofs.least.Reads as least-reads
-use Rattle.cells.proofs.wide.Reads as wide-reads
 
 abbrev Inv-loop : tie.InvT-loop
-Inv-loop block n sum₀ i₀ sum i = ?
+Inv-loop block n sum₀ i₀ sum i =
+    (i ≤ n) × (n ≡ min (length block) 510) × (1 + wsum 1 (take 510 block) ≡ sum + wsum (i + 1) (drop i (take 510 block))) × (sum ≤ 1 + 130050 * i)
 
 abbrev μ-loop : tie.MeasureT-loop
-μ-loop block n sum₀ i₀ sum i = ?
+μ-loop block n sum₀ i₀ sum i = n - i
 
--- src/lib.rt:36:9
 least-requires : tie.Need-least-requires Inv-loop μ-loop
-least-requires c κs = ?
+least-requires c κs = search needs
 
--- src/lib.rt:39:5
 loop-holds : tie.Need-loop-holds Inv-loop μ-loop
-loop-holds c = ?
+loop-holds c = (omega arith, c .least .ensures, refl, omega arith)
 
--- src/lib.rt:40:17
 add-sum : tie.Need-add-sum Inv-loop μ-loop
-add-sum c = ?
+add-sum c = omega arith
 
--- src/lib.rt:40:38
 shared-slice-read-wide : tie.Need-shared-slice-read-wide Inv-loop μ-loop
-shared-slice-read-wide c = ?
+shared-slice-read-wide c = omega arith
 
--- src/lib.rt:40:26
 wide-requires : tie.Need-wide-requires Inv-loop μ-loop
-wide-requires c κs = ?
+wide-requires c κs = search needs
 
--- src/lib.rt:40:16
 mul-sum : tie.Need-mul-sum Inv-loop μ-loop
-mul-sum c = ?
+mul-sum c =
+    let l = c .before .before .before .loop in
+    let m = weighed (l .i + 1) (c .wide .result) (omega arith) (omega arith) in
+    record { fits = omega arith }
 
--- src/lib.rt:40:9
 add-sum-2 : tie.Need-add-sum-2 Inv-loop μ-loop
-add-sum-2 c = ?
+add-sum-2 c =
+    let l = c .before .before .before .loop in
+    let m = weighed (l .i + 1) (c .wide .result) (omega arith) (omega arith) in
+    record { fits = omega arith }
 
--- src/lib.rt:41:9
 add-i : tie.Need-add-i Inv-loop μ-loop
-add-i c = ?
+add-i c = omega arith
 
--- src/lib.rt:39:5
 loop-less : tie.Need-loop-less Inv-loop μ-loop
-loop-less c = ?
+loop-less c = omega arith
 
--- src/lib.rt:39:5
 loop-again : tie.Need-loop-again Inv-loop μ-loop
-loop-again c = ?
+loop-again c =
+    let l = c .before .before .before .loop in
+    let s = c .before .before .before .before .before .before .args .block .now in
+    let i = l .i in
+    let x = c .wide .result in
+    let h : i < length (take 510 s) = simp length-take (omega arith) in
+    let e : getD (take 510 s) i 0 ≡ x = getD-take 510 s i 0 (omega arith) ∙ sym (c .wide .ensures .0) in
+    let k : wsum (i + 1) (drop i (take 510 s)) ≡ (i + 1) * x + wsum (i + 1 + 1) (drop (i + 1) (take 510 s)) =
+        counted (take 510 s) i h ∙ ap (λ (y : ℕ). (i + 1) * y + wsum (i + 1 + 1) (drop (i + 1) (take 510 s))) e in
+    let m = weighed (i + 1) x (omega arith) (omega arith) in
+    (omega arith, l .inv .1, omega arith, omega arith)
 
--- src/lib.rt:43:5
 cast-result : tie.Need-cast-result Inv-loop μ-loop
-cast-result c = ?
+cast-result c = omega arith
 
--- src/lib.rt:33:1
 returns : tie.Need-returns Inv-loop μ-loop
-returns c = ?
+unfolding checkOf
+returns c =
+    let l = c .before .loop in
+    let s = c .before .before .before .before .args .block .now in
+    let h : length (take 510 s) ≤ l .i = simp length-take (omega arith) in
+    let z : wsum (l .i + 1) (drop (l .i) (take 510 s)) ≡ 0 = ap (wsum (l .i + 1)) (drop-of-length-le (take 510 s) {i = l .i} h) in
+    let e : l .sum ≡ 1 + wsum 1 (take 510 s) = omega arith in
+    ap (λ (k : ℕ). k % 65521) e
 
 pub check-spec : {M : Type 1} → statement M
 check-spec =

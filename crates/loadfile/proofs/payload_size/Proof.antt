@@ -1,4 +1,9 @@
 use borrow.Author.Needs.{needs}
+use mathlib.Core.Path.{_≡_, ap, _∙_}
+use Prim.Native.Nat.{ℕ, _+_, _-_, _*_}
+use native.Mathlib.Omega.{arith}
+use lib.ListN.{take, drop}
+use Rattle.loadfile.specs.Block.{usedOf}
 use Rattle.loadfile.proofs.payload_size.Statement.{statement}
 use Rattle.loadfile.proofs.payload_size.Tie as tie
 use Rattle.loadfile.proofs.payload_size.Reads as reads
@@ -39,11 +44,15 @@ used-requires c κs = search needs
 
 -- src/lib.rt:216:5
 add-result : tie.Need-add-result
-add-result c = ?
+add-result c = search needs
 
 -- src/lib.rt:209:1
 returns : tie.Need-returns
-returns c = ?
+returns c =
+    let a = c .before .before .before .args in
+    let from = 512 * (a .n - 1) in
+    let e : from + 512 - from ≡ 512 = omega arith in
+    ap (λ (u : ℕ). 505 * (a .n - 1) + u) (c .used .ensures .0 ∙ ap (λ (k : ℕ). usedOf (take k (drop from (a .file .now)))) e)
 
 pub payload-size-spec : {M : Type 1} → statement M
 payload-size-spec =

@@ -1,4 +1,8 @@
 use borrow.Author.Needs.{needs}
+use native.Mathlib.Omega.{arith}
+use borrow.Author.Tests.{lt-ltb, le-ltb, le-leb, lt-leb, eq-eqb, ne-eqb}
+use mathlib.Core.Path.{refl, sym, _∙_}
+use Rattle.loadfile.specs.Block.{placeWrong}
 use Rattle.loadfile.proofs.place_wrong.Statement.{statement}
 use Rattle.loadfile.proofs.place_wrong.Tie as tie
 use Rattle.loadfile.proofs.place_wrong.Reads as reads
@@ -24,7 +28,8 @@ wide-requires-2 c κs = search needs
 
 -- src/lib.rt:118:1
 returns : tie.Need-returns
-returns c = ?
+unfolding placeWrong
+returns c = simp (c .wide2 .ensures .0, c .before .nth2 .ensures, c .before .before .wide .ensures .0, c .before .before .before .nth .ensures)
 
 pub place-wrong-spec : {M : Type 1} → statement M
 place-wrong-spec =

@@ -1,0 +1,55 @@
+use borrow.Author.Needs.{needs}
+use native.Mathlib.Omega.{arith}
+use borrow.Author.Tests.{lt-ltb, le-ltb, le-leb, lt-leb, eq-eqb, ne-eqb}
+use mathlib.Core.Path.{refl, sym, _∙_}
+use Rattle.loadfile.proofs.padding_wrong.Statement.{statement}
+use Rattle.loadfile.proofs.padding_wrong.Tie as tie
+use Rattle.loadfile.proofs.padding_wrong.Reads as reads
+use Rattle.loadfile.proofs.padding_wrong.Lts as lts
+use Rattle.loadfile.proofs.all_ff.Reads as all-ff-reads
+use Rattle.loadfile.proofs.used.Reads as used-reads
+
+-- src/lib.rt:146:9
+used-requires : tie.Need-used-requires
+used-requires c κs = search needs
+
+-- src/lib.rt:148:9
+returns : tie.Need-returns
+returns c = ?
+
+-- src/lib.rt:150:16
+add-from : tie.Need-add-from
+add-from c = search needs
+
+-- src/lib.rt:151:24
+sub-all-ff : tie.Need-sub-all-ff
+sub-all-ff c = search needs
+
+-- src/lib.rt:151:24
+part-all-ff-start : tie.Need-part-all-ff-start
+part-all-ff-start c = search needs
+
+-- src/lib.rt:151:24
+part-all-ff-end : tie.Need-part-all-ff-end
+part-all-ff-end c = search needs
+
+-- src/lib.rt:151:9
+all-ff-requires : tie.Need-all-ff-requires
+all-ff-requires c κs = search needs
+
+-- src/lib.rt:142:1
+returns-2 : tie.Need-returns-2
+returns-2 c = ?
+
+pub padding-wrong-spec : {M : Type 1} → statement M
+padding-wrong-spec =
+    tie.close
+    (tie.spec
+    used-requires
+    returns
+    add-from
+    sub-all-ff
+    part-all-ff-start
+    part-all-ff-end
+    all-ff-requires
+    returns-2)
