@@ -1,3 +1,4 @@
 pub mod Check
 pub mod Block
 pub mod File
+pub mod Tables

@@ -237,14 +237,14 @@ pub fn judge(file: &[u8], asked: u8) -> Judged
 
 // Out becomes the payload places of n blocks, one behind the other, as far as out goes.
 fn unpack(out: &mut [u8], file: &[u8], n: usize)
-    requires { ⌜ (length (now file) ≡ 512 * n) × (length (now out) ≤ 505 * n) ⌝ }
+    requires { ⌜ (length (now file) ≡ 512 * n) × (length (now out) ≤ 505 * n) × (505 * n < length (now out) + 505) ⌝ }
     ensures { λ _. ⌜ now (out .exit) ≡ take (length (now (out .entry))) (placesOf n (now (file .entry))) ⌝ }
 {
     let size = out.len();
     let mut i = 0;
     while i < n {
-        let to = cells::least(505 * i, size);
-        let end = cells::least(505 * i + 505, size);
+        let to = 505 * i;
+        let end = cells::least(to + 505, size);
         let from = 512 * i + 5;
         let stop = from + 505;
         cells::copy(&mut out[to..end], &file[from..stop]);

@@ -1,7 +1,10 @@
 use borrow.Author.Needs.{needs}
 use native.Mathlib.Omega.{arith}
 use borrow.Author.Tests.{lt-ltb, le-ltb, le-leb, lt-leb, eq-eqb, ne-eqb}
-use mathlib.Core.Path.{refl, sym, _∙_}
+use mathlib.Core.Path.{_≡_, sym, ap, _∙_}
+use mathlib.Core.Bool.{not}
+use Rattle.loadfile.specs.Block.{usedOf}
+use Rattle.loadfile.proofs.Verdicts.{no-padding, padding-is}
 use Rattle.loadfile.proofs.padding_wrong.Statement.{statement}
 use Rattle.loadfile.proofs.padding_wrong.Tie as tie
 use Rattle.loadfile.proofs.padding_wrong.Reads as reads
@@ -15,7 +18,10 @@ used-requires c κs = search needs
 
 -- src/lib.rt:148:9
 returns : tie.Need-returns
-returns c = ?
+returns c =
+    let b = c .before .before .before .args .block .now in
+    let u : c .before .used .result ≡ usedOf b = c .before .used .ensures .0 in
+    sym (no-padding b (omega arith))
 
 -- src/lib.rt:150:16
 add-from : tie.Need-add-from
@@ -39,7 +45,10 @@ all-ff-requires c κs = search needs
 
 -- src/lib.rt:142:1
 returns-2 : tie.Need-returns-2
-returns-2 c = ?
+returns-2 c =
+    let m = c .before .before .before in
+    let b = m .before .before .args .block .now in
+    ap not (c .all-ff .ensures) ∙ padding-is b (m .used .result) (m .used .ensures .0)
 
 pub padding-wrong-spec : {M : Type 1} → statement M
 padding-wrong-spec =

@@ -1,4 +1,5 @@
 use borrow.Author.Needs.{needs}
+use Rattle.loadfile.proofs.Parts.{block-put}
 use native.Mathlib.Omega.{arith}
 use borrow.Author.Tests.{lt-ltb, le-ltb, le-leb, lt-leb, eq-eqb, ne-eqb}
 use mathlib.Core.Path.{refl, sym, _∙_}
@@ -61,7 +62,13 @@ same-length c = search needs
 
 -- src/lib.rt:297:1
 returns : tie.Need-returns
-returns c = simp (c .before .before .put-check .ensures, c .before .before .before .before .before .before .fill .ensures, c .before .before .before .before .before .before .before .before .before .before .copy .ensures, c .before .before .before .before .before .before .before .before .before .before .before .before .before .before .put-head .ensures)
+returns c =
+    let f = c .before .before .before .before .before .before in
+    let g = f .before .before .before .before in
+    let h = g .before .before .before .before in
+    let a = h .before .before .before .before .args in
+    c .before .before .put-check .ensures
+    ∙ block-put (a .letter) (a .i) (a .n) (a .chunk .now) (a .out .now) _ _ _ (omega arith) (omega arith) (h .put-head .ensures) (g .copy .ensures) (f .fill .ensures)
 
 pub put-block-spec : {M : Type 1} → statement M
 put-block-spec =
