@@ -2,3 +2,4 @@ pub mod Check
 pub mod Block
 pub mod File
 pub mod Tables
+pub mod Sizes

@@ -1,67 +1,95 @@
+-- `loadfile::blocks_fault` meets its contract: the blocks passed are right, so the rest decides. Assumes nothing.
+use mathlib.Core.Path.{_≡_, refl, sym, ap, _∙_}
+use mathlib.Core.List.{List, [], _++_, append-nil}
+use Prim.Native.Nat.{ℕ, _≤_, _-_, _<_, _+_, _*_, min}
+use native.Mathlib.Omega.{arith}
+use borrow.Author.Needs.{needs}
+use lib.ListN.{length, getD, take, drop, length-take, length-drop}
+use lib.Dec.{eqb}
+use borrow.Author.Tests.{eq-eqb, ne-eqb}
+use Rattle.cells.specs.Pick.{pick, pick-true, pick-false}
+use Rattle.cells.specs.Numbers.{given}
+use Rattle.loadfile.specs.Block.{blockRows}
+use Rattle.loadfile.specs.File.{blocksRows}
+use Rattle.loadfile.specs.Tables.{turn}
 use Rattle.loadfile.proofs.blocks_fault.Statement.{statement}
 use Rattle.loadfile.proofs.blocks_fault.Tie as tie
-use Rattle.loadfile.proofs.blocks_fault.Reads as reads
-use Rattle.loadfile.proofs.blocks_fault.Lts as lts
-use Rattle.cells.proofs.nth.Reads as nth-reads
-use Rattle.loadfile.proofs.block_fault.Reads as block-fault-reads
 
 abbrev Inv-loop : tie.InvT-loop
-Inv-loop file n first i₀ i = ?
+Inv-loop file n first i₀ i =
+    (i ≤ n) × (given (blocksRows (n - i) first i n (drop (512 * i) file) []) ≡ given (blocksRows n (getD file 0 0) 0 n file []))
 
 abbrev μ-loop : tie.MeasureT-loop
-μ-loop file n first i₀ i = ?
+μ-loop file n first i₀ i = n - i
 
--- src/lib.rt:184:9
 nth-requires : tie.Need-nth-requires Inv-loop μ-loop
-nth-requires c κs = ?
+nth-requires c κs = search needs
 
--- src/lib.rt:186:5
 loop-holds : tie.Need-loop-holds Inv-loop μ-loop
-loop-holds c = ?
+loop-holds c =
+    let a = c .before .before .args in
+    let z : a .n - 0 ≡ a .n = omega arith in
+    (omega arith, ap (λ (k : ℕ). given (blocksRows k (c .nth .result) 0 (a .n) (a .file .now) [])) z ∙ ap (λ (x : ℕ). given (blocksRows (a .n) x 0 (a .n) (a .file .now) [])) (c .nth .ensures))
 
--- src/lib.rt:187:20
 mul-from : tie.Need-mul-from Inv-loop μ-loop
-mul-from c = ?
+mul-from c = omega arith
 
--- src/lib.rt:188:18
 add-to : tie.Need-add-to Inv-loop μ-loop
-add-to c = ?
+add-to c = omega arith
 
--- src/lib.rt:189:33
 sub-block-fault : tie.Need-sub-block-fault Inv-loop μ-loop
-sub-block-fault c = ?
+sub-block-fault c = omega arith
 
--- src/lib.rt:189:33
 part-block-fault-start : tie.Need-part-block-fault-start Inv-loop μ-loop
-part-block-fault-start c = ?
+part-block-fault-start c = omega arith
 
--- src/lib.rt:189:33
 part-block-fault-end : tie.Need-part-block-fault-end Inv-loop μ-loop
-part-block-fault-end c = ?
+part-block-fault-end c = omega arith
 
--- src/lib.rt:189:13
 block-fault-requires : tie.Need-block-fault-requires Inv-loop μ-loop
-block-fault-requires c κs = ?
+block-fault-requires c κs = search needs
 
--- src/lib.rt:191:13
 returns : tie.Need-returns Inv-loop μ-loop
-returns c = ?
+returns c =
+    let l = c .before .before .before .before .loop in
+    let F = c .before .before .before .before .before .nth .result in
+    let a = c .before .before .before .before .before .before .before .args in
+    let n = a .n in
+    let f = a .file .now in
+    let i = l .i in
+    let e : 512 * i + 512 - 512 * i ≡ 512 = omega arith in
+    let G = given (blockRows F i n (take 512 (drop (512 * i) f)) []) in
+    let r : c .before .block-fault .result ≡ G = c .before .block-fault .ensures ∙ ap (λ (k : ℕ). given (blockRows F i n (take k (drop (512 * i) f)) [])) e in
+    let t = turn F i n f (omega arith) in
+    r ∙ sym (pick-false (eqb G 0) _ G (ne-eqb G 0 (λ (q : G ≡ 0). c .if1 .taken (r ∙ q)))) ∙ sym t ∙ l .inv .1
 
--- src/lib.rt:193:9
 add-i : tie.Need-add-i Inv-loop μ-loop
-add-i c = ?
+add-i c = omega arith
 
--- src/lib.rt:186:5
 loop-less : tie.Need-loop-less Inv-loop μ-loop
-loop-less c = ?
+loop-less c = omega arith
 
--- src/lib.rt:186:5
 loop-again : tie.Need-loop-again Inv-loop μ-loop
-loop-again c = ?
+loop-again c =
+    let l = c .before .before .before .before .loop in
+    let F = c .before .before .before .before .before .nth .result in
+    let a = c .before .before .before .before .before .before .before .args in
+    let n = a .n in
+    let f = a .file .now in
+    let i = l .i in
+    let e : 512 * i + 512 - 512 * i ≡ 512 = omega arith in
+    let G = given (blockRows F i n (take 512 (drop (512 * i) f)) []) in
+    let r : c .before .block-fault .result ≡ G = c .before .block-fault .ensures ∙ ap (λ (k : ℕ). given (blockRows F i n (take k (drop (512 * i) f)) [])) e in
+    let t = turn F i n f (omega arith) in
+    (omega arith, sym (pick-true (eqb G 0) _ G (eq-eqb G 0 (sym r ∙ c .if1 .left))) ∙ sym t ∙ l .inv .1)
 
--- src/lib.rt:180:1
 returns-2 : tie.Need-returns-2 Inv-loop μ-loop
-returns-2 c = ?
+returns-2 c =
+    let l = c .before .loop in
+    let F = c .before .before .nth .result in
+    let a = c .before .before .before .before .args in
+    let z : a .n - l .i ≡ 0 = omega arith in
+    sym (ap (λ (k : ℕ). given (blocksRows k F (l .i) (a .n) (drop (512 * l .i) (a .file .now)) [])) z) ∙ l .inv .1
 
 pub blocks-fault-spec : {M : Type 1} → statement M
 blocks-fault-spec =
