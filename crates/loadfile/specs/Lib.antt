@@ -3,3 +3,4 @@ pub mod Block
 pub mod File
 pub mod Tables
 pub mod Sizes
+pub mod Outcomes
