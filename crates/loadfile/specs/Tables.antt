@@ -20,11 +20,11 @@ pub after-block : (first i n : ℕ) (b : List ℕ) (rest : List Row)
 after-block first i n b rest = given-append (blockRows first i n b []) rest refl
 
 -- the rows of the blocks stand before those that are asked after them, and none has the number 0
-blocks-append : (left first i n : ℕ) (f : List ℕ) (rest : List Row) → blocksRows left first i n f rest ≡ blocksRows left first i n f [] ++ rest
+pub blocks-append : (left first i n : ℕ) (f : List ℕ) (rest : List Row) → blocksRows left first i n f rest ≡ blocksRows left first i n f [] ++ rest
 blocks-append zero first i n f rest = refl
 blocks-append (suc left) first i n f rest = ap (blockRows first i n (take 512 f)) (blocks-append left first (i + 1) n (drop 512 f) rest)
 
-blocks-numbered : (left first i n : ℕ) (f : List ℕ) → numbered (blocksRows left first i n f []) ≡ true
+pub blocks-numbered : (left first i n : ℕ) (f : List ℕ) → numbered (blocksRows left first i n f []) ≡ true
 blocks-numbered zero first i n f = refl
 blocks-numbered (suc left) first i n f = blocks-numbered left first (i + 1) n (drop 512 f)
 

@@ -1,0 +1,53 @@
+-- Lists of bytes, and the laws of lists that the claims stand on. Assumes nothing.
+use mathlib.Core.Path.{_≡_, refl, sym, _∙_, ap, subst}
+use mathlib.Core.List.{List, [], _∷_, _++_}
+use mathlib.Core.Bool.{Bool, true, false, not, _||_}
+use Prim.Native.Nat.{ℕ, zero, suc, _+_, _*_, _-_, _≤_, _<_}
+use native.Mathlib.Omega.{arith}
+use lib.ListN.{length, getD, take, drop, replicate}
+use lib.Seq.{getD-drop, getD-take, drop-cons}
+use lib.Dec.{eqb}
+use borrow.Author.Tests.{eq-eqb, eqb-true}
+use Rattle.cells.specs.Pick.{pick, pick-true, pick-false}
+use Rattle.loadfile.specs.Block.{allAre}
+
+-- every element is a byte (past the end 0 is read)
+abbrev pub Bytes : List ℕ → Type 0
+Bytes f = (k : ℕ) → getD f k 0 < 256
+
+-- so is every element of what is left behind a place
+pub bytes-drop : (n : ℕ) (f : List ℕ) → Bytes f → Bytes (drop n f)
+bytes-drop n f h k = subst (λ (x : ℕ). x < 256) (sym (getD-drop n f k 0)) (h (n + k))
+
+pub byte-take : (n : ℕ) (f : List ℕ) (k : ℕ) → k < n → Bytes f → getD (take n f) k 0 < 256
+byte-take n f k e h = subst (λ (x : ℕ). x < 256) (sym (getD-take n f k 0 e)) (h k)
+
+-- neither of two tests held
+pub neither : (p q : Bool) → (p || q) ≡ false → (p ≡ false) × (q ≡ false)
+neither true q e = (e, absurd (let z : _≡_ {A = ℕ} 0 1 = cc in omega arith))
+neither false q e = (refl, e)
+
+-- a list all of whose elements are b is b repeated, and the other way round
+pub all-repeated : (b : ℕ) (xs : List ℕ) → allAre b xs ≡ true → xs ≡ replicate (length xs) b
+all-repeated b [] e = refl
+all-repeated b (x ∷ xs) e = go (eqb x b) refl (all-repeated b xs)
+  where
+    go : (t : Bool) → eqb x b ≡ t → (allAre b xs ≡ true → xs ≡ replicate (length xs) b) → x ∷ xs ≡ b ∷ replicate (length xs) b
+    go true q r =
+        let h : x ≡ b = eqb-true x b q in
+        let t : xs ≡ replicate (length xs) b = r (sym (pick-true (eqb x b) (allAre b xs) false q) ∙ e) in
+        ap (λ (z : ℕ). z ∷ xs) h ∙ ap (λ (z : List ℕ). b ∷ z) t
+    go false q r = absurd (let w : false ≡ true = sym (pick-false (eqb x b) (allAre b xs) false q) ∙ e in let z : _≡_ {A = ℕ} 0 1 = cc in omega arith)
+
+pub repeated-all : (b n : ℕ) → allAre b (replicate n b) ≡ true
+repeated-all b zero = refl
+repeated-all b (suc n) = pick-true (eqb b b) (allAre b (replicate n b)) false (eq-eqb b b refl) ∙ repeated-all b n
+
+-- the first five elements, written out
+pub first-five : (xs : List ℕ) → 5 ≤ length xs → xs ≡ getD xs 0 0 ∷ getD xs 1 0 ∷ getD xs 2 0 ∷ getD xs 3 0 ∷ getD xs 4 0 ∷ drop 5 xs
+first-five xs h =
+    drop-cons xs 0 0 (omega arith)
+    ∙ ap (λ (z : List ℕ). getD xs 0 0 ∷ z) (drop-cons xs 1 0 (omega arith))
+    ∙ ap (λ (z : List ℕ). getD xs 0 0 ∷ getD xs 1 0 ∷ z) (drop-cons xs 2 0 (omega arith))
+    ∙ ap (λ (z : List ℕ). getD xs 0 0 ∷ getD xs 1 0 ∷ getD xs 2 0 ∷ z) (drop-cons xs 3 0 (omega arith))
+    ∙ ap (λ (z : List ℕ). getD xs 0 0 ∷ getD xs 1 0 ∷ getD xs 2 0 ∷ getD xs 3 0 ∷ z) (drop-cons xs 4 0 (omega arith))

@@ -1,0 +1,2 @@
+-- One changed byte is found out. Assumes nothing.
+use Prim.Native.Nat.{ℕ}

@@ -1,0 +1,2 @@
+-- The order of the refusals. Assumes nothing.
+use Prim.Native.Nat.{ℕ}
