@@ -22,6 +22,36 @@ bytes-drop n f h k = subst (λ (x : ℕ). x < 256) (sym (getD-drop n f k 0)) (h 
 pub byte-take : (n : ℕ) (f : List ℕ) (k : ℕ) → k < n → Bytes f → getD (take n f) k 0 < 256
 byte-take n f k e h = subst (λ (x : ℕ). x < 256) (sym (getD-take n f k 0 e)) (h k)
 
+-- bytes put together are bytes
+pub bytes-none : Bytes []
+bytes-none k = omega arith
+
+pub bytes-cons : (x : ℕ) (xs : List ℕ) → x < 256 → Bytes xs → Bytes (x ∷ xs)
+bytes-cons x xs e h zero = e
+bytes-cons x xs e h (suc k) = h k
+
+pub bytes-append : (xs ys : List ℕ) → Bytes xs → Bytes ys → Bytes (xs ++ ys)
+bytes-append [] ys h g = g
+bytes-append (x ∷ xs) ys h g = bytes-cons x (xs ++ ys) (h 0) (bytes-append xs ys (λ (k : ℕ). h (suc k)) g)
+
+pub bytes-take : (n : ℕ) (xs : List ℕ) → Bytes xs → Bytes (take n xs)
+bytes-take zero xs h = bytes-none
+bytes-take (suc n) [] h = bytes-none
+bytes-take (suc n) (x ∷ xs) h = bytes-cons x (take n xs) (h 0) (bytes-take n xs (λ (k : ℕ). h (suc k)))
+
+pub bytes-replicate : (n b : ℕ) → b < 256 → Bytes (replicate n b)
+bytes-replicate zero b h = bytes-none
+bytes-replicate (suc n) b h = bytes-cons b (replicate n b) h (bytes-replicate n b h)
+
+-- the same of a list that is written out, element by element
+pub data Each : List ℕ → Type 0 where
+  none : Each []
+  more : {x : ℕ} {xs : List ℕ} → x < 256 → Each xs → Each (x ∷ xs)
+
+pub each-bytes : {xs : List ℕ} → Each xs → Bytes xs
+each-bytes none = bytes-none
+each-bytes (more {x = x} {xs = xs} h e) = bytes-cons x xs h (each-bytes e)
+
 -- neither of two tests held
 pub neither : (p q : Bool) → (p || q) ≡ false → (p ≡ false) × (q ≡ false)
 neither true q e = (e, absurd (let z : _≡_ {A = ℕ} 0 1 = cc in omega arith))

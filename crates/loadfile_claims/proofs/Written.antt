@@ -7,16 +7,16 @@ use native.Mathlib.Omega.{arith}
 use lib.ListN.{length, getD, take, drop, replicate, length-append, length-take, length-drop, length-replicate, take-append-drop}
 use lib.Seq.{take-at, drop-at, getD-at, getD-append-add, take-all, length-take-le}
 use lib.Dec.{eqb, ltb}
-use borrow.Author.Tests.{eq-eqb, ne-eqb, le-ltb}
+use borrow.Author.Tests.{eq-eqb, ne-eqb, eqb-true, le-ltb}
 use Rattle.cells.specs.Pick.{pick, pick-true, pick-false}
 use Rattle.cells.specs.Numbers.{given}
 use Rattle.loadfile.specs.Check.{checkOf, checkWrong, storedOf, pair}
-use Rattle.loadfile.specs.Block.{isLetter, allAre, headOf, frontOf, sealed, blockOf, usedOf, part, letterWrong, placeWrong, usedWrong, paddingWrong, blockRows}
+use Rattle.loadfile.specs.Block.{isLetter, letters, within, allAre, headOf, frontOf, sealed, blockOf, usedOf, part, letterWrong, placeWrong, usedWrong, paddingWrong, blockRows}
 use Rattle.loadfile.specs.File.{countOf, blocksOf, fileOf, blocksRows, payloadOf, blocksIn, refused, made, lengthWrong, readerOf, writerOf}
 use Rattle.loadfile.specs.Tables.{Right, right-given}
 use Rattle.loadfile.specs.Sizes.{front-length, block-length, chunk-length, blocks-length}
 use Rattle.loadfile.specs.Outcomes.{payload-right, length-fits, reader-made, reader-35, writer-lets}
-use Rattle.loadfile_claims.proofs.Bytes.{repeated-all}
+use Rattle.loadfile_claims.proofs.Bytes.{Bytes, bytes-none, Each, none, more, each-bytes, bytes-append, bytes-take, bytes-drop, bytes-replicate, repeated-all}
 
 -- one block, from its payload bytes
 module _ (ℓ i n : ℕ) (chunk : List ℕ) (few : length chunk ≤ 505) where
@@ -200,3 +200,44 @@ module _ (most ℓ : ℕ) (p f : List ℕ) (w : writerOf most ℓ p ≡ made f) 
 
   pub written-other : (asked : ℕ) → (ℓ ≡ asked → ⊥) → readerOf most f asked ≡ refused 35
   written-other asked z = reader-35 most f asked written-length (written-right .0) (λ (q : getD f 0 0 ≡ asked). z (sym written-letter ∙ q))
+
+-- what the writer makes of bytes are bytes, as long as the count of blocks fits a byte
+within-bytes : (x : ℕ) (ys : List ℕ) → Bytes ys → within x ys ≡ true → x < 256
+within-bytes x [] h e = absurd (let z : _≡_ {A = ℕ} 0 1 = cc in omega arith)
+within-bytes x (y ∷ ys) h e = go (eqb x y) refl (within-bytes x ys (λ (k : ℕ). h (suc k)))
+  where
+    go : (t : Bool) → eqb x y ≡ t → (within x ys ≡ true → x < 256) → x < 256
+    go true q rest = subst (λ (z : ℕ). z < 256) (sym (eqb-true x y q)) (h 0)
+    go false q rest = rest (sym (pick-false (eqb x y) true (within x ys) q) ∙ e)
+
+letter-byte : (ℓ : ℕ) → isLetter ℓ ≡ true → ℓ < 256
+unfolding isLetter
+letter-byte ℓ e =
+    within-bytes ℓ letters
+    (each-bytes (more (omega arith) (more (omega arith) (more (omega arith) (more (omega arith) (more (omega arith) (more (omega arith) (more (omega arith) (more (omega arith) none))))))))) e
+
+block-bytes : (ℓ i n : ℕ) (chunk : List ℕ) → ℓ < 256 → i < 256 → n < 256 → length chunk ≤ 505 → Bytes chunk → Bytes (blockOf ℓ i n chunk)
+unfolding blockOf checkOf
+block-bytes ℓ i n chunk a b c few h =
+    let u = length chunk in
+    let F = frontOf ℓ i n chunk in
+    let x : checkOf F < 65521 = omega arith in
+    bytes-append F (checkOf F / 256 ∷ checkOf F % 256 ∷ [])
+    (bytes-append (headOf ℓ i n u) (chunk ++ replicate (505 - u) 255)
+    (each-bytes (more a (more b (more c (more (omega arith) (more (omega arith) none))))))
+    (bytes-append chunk (replicate (505 - u) 255) h (bytes-replicate (505 - u) 255 (omega arith))))
+    (each-bytes (more (omega arith) (more (omega arith) none)))
+
+blocks-bytes : (left ℓ i n : ℕ) (p : List ℕ) → ℓ < 256 → i + left ≤ n → n < 256 → Bytes p → Bytes (blocksOf left ℓ i n p)
+blocks-bytes zero ℓ i n p a b c h = bytes-none
+blocks-bytes (suc left) ℓ i n p a b c h =
+    bytes-append (blockOf ℓ i n (take 505 p)) (blocksOf left ℓ (i + 1) n (drop 505 p))
+    (block-bytes ℓ i n (take 505 p) a (omega arith) c (chunk-length p) (bytes-take 505 p h))
+    (blocks-bytes left ℓ (i + 1) n (drop 505 p) a (omega arith) c (bytes-drop 505 p h))
+
+pub written-bytes : (most ℓ : ℕ) (p f : List ℕ) → most < 256 → Bytes p → writerOf most ℓ p ≡ made f → Bytes f
+written-bytes most ℓ p f m h w =
+    let o = writer-lets most ℓ p f w in
+    let r = payload-right most (length p) (o .1) in
+    let k = countOf (length p) in
+    subst Bytes (o .2) (blocks-bytes k ℓ 0 k p (letter-byte ℓ (o .0)) (omega arith) (omega arith) h)
