@@ -49,7 +49,7 @@ no-product w d l h s e = go (eqb w 1) refl
         no-divisor 509 w prime (omega arith) (omega arith) (ap (λ (x : ℕ). x % w) (sym e) ∙ mul-mod-right w d)
 
 -- one byte counts with its weight
-wsum-set : (k : ℕ) (xs : List ℕ) (j v : ℕ) → j < length xs → wsum k (set xs j v) + (k + j) * getD xs j 0 ≡ wsum k xs + (k + j) * v
+pub wsum-set : (k : ℕ) (xs : List ℕ) (j v : ℕ) → j < length xs → wsum k (set xs j v) + (k + j) * getD xs j 0 ≡ wsum k xs + (k + j) * v
 wsum-set k [] j v h = absurd (omega arith)
 wsum-set k (x ∷ xs) zero v h =
     let z : k + 0 ≡ k = omega arith in

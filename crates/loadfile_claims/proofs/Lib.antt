@@ -3,3 +3,4 @@ pub mod Written
 pub mod Reading
 pub mod Damage
 pub mod Order
+pub mod Claims
