@@ -37,9 +37,9 @@ block-put ℓ i n chunk out o₁ y₁ y₂ h k e₁ e₂ e₃ =
     let m₁ : length (midOf 5 (5 + u - 5) o₁) ≡ 5 + u - 5 = mid-len 5 (5 + u) o₁ (omega arith) in
     let c₁ : y₁ ≡ chunk = e₂ ∙ copied-whole (midOf 5 (5 + u - 5) o₁) chunk (omega arith) in
     let o₂ : putMid 5 (5 + u - 5) o₁ y₁ ≡ (H ++ chunk) ++ X =
-        ap (λ (z : List ℕ). putMid 5 (5 + u - 5) z y₁) e₁
-        ∙ ap (λ (z : List ℕ). putMid 5 (5 + u - 5) (H ++ drop 5 out) z) c₁
-        ∙ put-at H (drop 5 out) chunk 5 (5 + u - 5) refl in
+    ap (λ (z : List ℕ). putMid 5 (5 + u - 5) z y₁) e₁
+    ∙ ap (λ (z : List ℕ). putMid 5 (5 + u - 5) (H ++ drop 5 out) z) c₁
+    ∙ put-at H (drop 5 out) chunk 5 (5 + u - 5) refl in
     let lX : length X ≡ 507 - u = length-drop (5 + u - 5) (drop 5 out) ∙ (let q : length (drop 5 out) - (5 + u - 5) ≡ 507 - u = omega arith in q) in
     let lA : length (H ++ chunk) ≡ 5 + u = length-append H chunk in
     let l₂ : length ((H ++ chunk) ++ X) ≡ 512 = length-append (H ++ chunk) X ∙ (let q : length (H ++ chunk) + length X ≡ 512 = omega arith in q) in
@@ -47,15 +47,15 @@ block-put ℓ i n chunk out o₁ y₁ y₂ h k e₁ e₂ e₃ =
     let w : 510 - (5 + u) ≡ 505 - u = omega arith in
     let P = replicate {A = ℕ} (505 - u) 255 in
     let c₂ : y₂ ≡ P =
-        e₃ ∙ ap (λ (z : List ℕ). replicate {A = ℕ} (length (midOf (5 + u) (510 - (5 + u)) z)) 255) o₂ ∙ ap (λ (z : ℕ). replicate {A = ℕ} z 255) (m₂ ∙ w) in
+    e₃ ∙ ap (λ (z : List ℕ). replicate {A = ℕ} (length (midOf (5 + u) (510 - (5 + u)) z)) 255) o₂ ∙ ap (λ (z : ℕ). replicate {A = ℕ} z 255) (m₂ ∙ w) in
     let o₃ : putMid (5 + u) (510 - (5 + u)) (putMid 5 (5 + u - 5) o₁ y₁) y₂ ≡ ((H ++ chunk) ++ P) ++ drop (510 - (5 + u)) X =
-        ap (λ (z : List ℕ). putMid (5 + u) (510 - (5 + u)) z y₂) o₂
-        ∙ ap (λ (z : List ℕ). putMid (5 + u) (510 - (5 + u)) ((H ++ chunk) ++ X) z) c₂
-        ∙ put-at (H ++ chunk) X P (5 + u) (510 - (5 + u)) lA in
+    ap (λ (z : List ℕ). putMid (5 + u) (510 - (5 + u)) z y₂) o₂
+    ∙ ap (λ (z : List ℕ). putMid (5 + u) (510 - (5 + u)) ((H ++ chunk) ++ X) z) c₂
+    ∙ put-at (H ++ chunk) X P (5 + u) (510 - (5 + u)) lA in
     let lP : length P ≡ 505 - u = length-replicate (505 - u) 255 in
     let l₃ : length ((H ++ chunk) ++ P) ≡ 510 = length-append (H ++ chunk) P ∙ (let q : length (H ++ chunk) + length P ≡ 510 = omega arith in q) in
     let t : take 510 (putMid (5 + u) (510 - (5 + u)) (putMid 5 (5 + u - 5) o₁ y₁) y₂) ≡ frontOf ℓ i n chunk =
-        ap (take 510) o₃ ∙ take-at ((H ++ chunk) ++ P) (drop (510 - (5 + u)) X) 510 l₃ ∙ append-assoc H chunk P in
+    ap (take 510) o₃ ∙ take-at ((H ++ chunk) ++ P) (drop (510 - (5 + u)) X) 510 l₃ ∙ append-assoc H chunk P in
     ap sealed t
 
 -- k bytes from place a on, cut where the list ends
@@ -83,18 +83,18 @@ packed ℓ i n e p out y h lo e₁ e₂ =
     let A = take (512 * i) out in
     let rest = blocksOf (n - (i + 1)) ℓ (i + 1) n (drop (505 * (i + 1)) p) in
     let yc : y ≡ blockOf ℓ i n c =
-        e₂ ∙ ap (λ (k : ℕ). blockOf ℓ i n (take (k - 505 * i) (drop (505 * i) p))) e₁ ∙ ap (blockOf ℓ i n) (up-to (505 * i) 505 p) in
+    e₂ ∙ ap (λ (k : ℕ). blockOf ℓ i n (take (k - 505 * i) (drop (505 * i) p))) e₁ ∙ ap (blockOf ℓ i n) (up-to (505 * i) 505 p) in
     let ly : length y ≡ 512 = ap length yc ∙ block-length ℓ i n c (chunk-length (drop (505 * i) p)) in
     let lA : length A ≡ 512 * i = length-take-le (512 * i) out (omega arith) in
     let X = drop (512 * i + 512 - 512 * i) (drop (512 * i) out) in
     let l : length (A ++ y) ≡ 512 * (i + 1) = length-append A y ∙ (let q : length A + length y ≡ 512 * (i + 1) = omega arith in q) in
     let t : take (512 * (i + 1)) (putMid (512 * i) (512 * i + 512 - 512 * i) out y) ≡ A ++ y =
-        ap (take (512 * (i + 1))) (sym (append-assoc A y X)) ∙ take-at (A ++ y) X (512 * (i + 1)) l in
+    ap (take (512 * (i + 1))) (sym (append-assoc A y X)) ∙ take-at (A ++ y) X (512 * (i + 1)) l in
     let k : n - i ≡ suc (n - (i + 1)) = omega arith in
     let d : 505 * i + 505 ≡ 505 * (i + 1) = omega arith in
     let b : blocksOf (n - i) ℓ i n (drop (505 * i) p) ≡ blockOf ℓ i n c ++ rest =
-        ap (λ (z : ℕ). blocksOf z ℓ i n (drop (505 * i) p)) k
-        ∙ ap (λ (z : List ℕ). blockOf ℓ i n c ++ blocksOf (n - (i + 1)) ℓ (i + 1) n z) (drop-drop 505 (505 * i) p ∙ ap (λ (m : ℕ). drop m p) d) in
+    ap (λ (z : ℕ). blocksOf z ℓ i n (drop (505 * i) p)) k
+    ∙ ap (λ (z : List ℕ). blockOf ℓ i n c ++ blocksOf (n - (i + 1)) ℓ (i + 1) n z) (drop-drop 505 (505 * i) p ∙ ap (λ (m : ℕ). drop m p) d) in
     ap (λ (z : List ℕ). z ++ rest) (t ∙ ap (λ (z : List ℕ). A ++ z) yc) ∙ append-assoc A (blockOf ℓ i n c) rest ∙ ap (λ (z : List ℕ). A ++ z) (sym b)
 
 -- the payload places from block i on begin with those of block i
@@ -124,8 +124,8 @@ unpacked i n d f out y h lf lo k ls e =
     let lM : length (midOf a d O) ≡ d = length-take-le d (drop a O) (let q : drop a O ≡ drop a out = drop-at (take a P) (drop a out) a lA in let r : length (drop a O) ≡ length out - a = ap length q ∙ length-drop a out in omega arith) in
     let lS : length S ≡ 505 = length-take-le 505 (drop (512 * i + 5) f) (let q : length (drop (512 * i + 5) f) ≡ length f - (512 * i + 5) = length-drop (512 * i + 5) f in omega arith) in
     let yS : y ≡ take d S =
-        e ∙ ap (λ (z : List ℕ). take (length (midOf a d O)) S ++ z) (drop-of-length-le (midOf a d O) {i = length S} (omega arith))
-        ∙ append-nil (take (length (midOf a d O)) S) ∙ ap (λ (m : ℕ). take m S) lM in
+    e ∙ ap (λ (z : List ℕ). take (length (midOf a d O)) S ++ z) (drop-of-length-le (midOf a d O) {i = length S} (omega arith))
+    ∙ append-nil (take (length (midOf a d O)) S) ∙ ap (λ (m : ℕ). take m S) lM in
     let yP : y ≡ take d (drop a P) = yS ∙ sym (take-append-le d S R (omega arith)) ∙ ap (take d) (sym (places-at i n f h lf)) in
     ap (putMid a d O) yP
     ∙ put-at (take a P) (drop a out) (take d (drop a P)) a d lA

@@ -83,8 +83,8 @@ module _ (most : ℕ) (f : List ℕ) (asked : ℕ) where
   rest-is : lengthWrong most (length f) ≡ false → (rest : List Row)
       → given (readRows most f asked rest)
       ≡ pick (eqb (given (blocksRows (blocksIn f) (getD f 0 0) 0 (blocksIn f) f [])) 0)
-        (given (row 35 (not (eqb (getD f 0 0) asked)) ∷ rest))
-        (given (blocksRows (blocksIn f) (getD f 0 0) 0 (blocksIn f) f []))
+      (given (row 35 (not (eqb (getD f 0 0) asked)) ∷ rest))
+      (given (blocksRows (blocksIn f) (getD f 0 0) 0 (blocksIn f) f []))
   rest-is w rest = pick-false (lengthWrong most (length f)) 30 _ w ∙ after-blocks (blocksIn f) (getD f 0 0) 0 (blocksIn f) f (row 35 (not (eqb (getD f 0 0) asked)) ∷ rest)
 
   pub reader-block : lengthWrong most (length f) ≡ false → (r : ℕ) → r ≡ given (blocksRows (blocksIn f) (getD f 0 0) 0 (blocksIn f) f []) → (r ≡ 0 → ⊥)
@@ -101,8 +101,8 @@ module _ (most : ℕ) (f : List ℕ) (asked : ℕ) where
   reader-35 w e z =
       let G = given (blocksRows (blocksIn f) (getD f 0 0) 0 (blocksIn f) f []) in
       let g : given (readRows most f asked []) ≡ 35 =
-          rest-is w [] ∙ pick-true (eqb G 0) _ G (eq-eqb G 0 e)
-          ∙ pick-true (not (eqb (getD f 0 0) asked)) 35 0 (ap not (ne-eqb (getD f 0 0) asked z)) in
+      rest-is w [] ∙ pick-true (eqb G 0) _ G (eq-eqb G 0 e)
+      ∙ pick-true (not (eqb (getD f 0 0) asked)) 35 0 (ap not (ne-eqb (getD f 0 0) asked z)) in
       ap (λ (k : ℕ). outcomeBy k (payloadOf (blocksIn f) f)) g
 
   pub reader-made : lengthWrong most (length f) ≡ false → given (blocksRows (blocksIn f) (getD f 0 0) 0 (blocksIn f) f []) ≡ 0 → getD f 0 0 ≡ asked
@@ -111,8 +111,8 @@ module _ (most : ℕ) (f : List ℕ) (asked : ℕ) where
   reader-made w e z =
       let G = given (blocksRows (blocksIn f) (getD f 0 0) 0 (blocksIn f) f []) in
       let g : given (readRows most f asked []) ≡ 0 =
-          rest-is w [] ∙ pick-true (eqb G 0) _ G (eq-eqb G 0 e)
-          ∙ pick-false (not (eqb (getD f 0 0) asked)) 35 0 (ap not (eq-eqb (getD f 0 0) asked z)) in
+      rest-is w [] ∙ pick-true (eqb G 0) _ G (eq-eqb G 0 e)
+      ∙ pick-false (not (eqb (getD f 0 0) asked)) 35 0 (ap not (eq-eqb (getD f 0 0) asked z)) in
       outcome-made (given (readRows most f asked [])) (payloadOf (blocksIn f) f) g
 
   -- and back from bytes that were let through

@@ -138,7 +138,7 @@ sized (suc (suc left)) first i n f z e h g =
     let l : length (C ++ P) ≡ length C + length P = length-append C P in
     let s : 512 + 512 * (suc left - 1) ≡ 512 * (suc (suc left) - 1) = omega arith in
     let v : usedOf (take 512 (drop (512 * (suc left - 1)) (drop 512 f))) ≡ usedOf (take 512 (drop (512 * (suc (suc left) - 1)) f)) =
-        ap (λ (x : List ℕ). usedOf (take 512 x)) (drop-drop (512 * (suc left - 1)) 512 f ∙ ap (λ (m : ℕ). drop m f) s) in
+    ap (λ (x : List ℕ). usedOf (take 512 x)) (drop-drop (512 * (suc left - 1)) 512 f ∙ ap (λ (m : ℕ). drop m f) s) in
     let ct : C ≡ T = chunk-in f u (omega arith) ∙ take-all u T (omega arith) in
     let m : length T + length P ≡ length (C ++ P) = omega arith in
     record {

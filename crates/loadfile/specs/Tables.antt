@@ -37,8 +37,8 @@ after-blocks left first i n f rest =
 pub turn : (first i n : ℕ) (f : List ℕ) → i < n
     → given (blocksRows (n - i) first i n (drop (512 * i) f) [])
     ≡ pick (eqb (given (blockRows first i n (take 512 (drop (512 * i) f)) [])) 0)
-      (given (blocksRows (n - (i + 1)) first (i + 1) n (drop (512 * (i + 1)) f) []))
-      (given (blockRows first i n (take 512 (drop (512 * i) f)) []))
+    (given (blocksRows (n - (i + 1)) first (i + 1) n (drop (512 * (i + 1)) f) []))
+    (given (blockRows first i n (take 512 (drop (512 * i) f)) []))
 turn first i n f h =
     let B = take 512 (drop (512 * i) f) in
     let e : n - i ≡ suc (n - (i + 1)) = omega arith in
@@ -46,7 +46,7 @@ turn first i n f h =
     ap (λ (k : ℕ). given (blocksRows k first i n (drop (512 * i) f) [])) e
     ∙ after-block first i n B (blocksRows (n - (i + 1)) first (i + 1) n (drop 512 (drop (512 * i) f)) [])
     ∙ ap (λ (z : List ℕ). pick (eqb (given (blockRows first i n B [])) 0) (given (blocksRows (n - (i + 1)) first (i + 1) n z [])) (given (blockRows first i n B [])))
-      (drop-drop 512 (512 * i) f ∙ ap (λ (k : ℕ). drop k f) d)
+    (drop-drop 512 (512 * i) f ∙ ap (λ (k : ℕ). drop k f) d)
 
 -- a block at which nothing is refused is right in each point, and so is what comes after it
 pub record Right (first i n : ℕ) (b : List ℕ) : Type 0 where

@@ -186,9 +186,9 @@ fn blocks_fault(file: &[u8], n: usize) -> u8
     while i < n {
         let from = 512 * i;
         let to = from + 512;
-        let fault = block_fault(&file[from..to], first, i, n);
-        if fault != 0 {
-            return fault;
+        let found = block_fault(&file[from..to], first, i, n);
+        if found != 0 {
+            return found;
         }
         i += 1;
     }
@@ -226,10 +226,11 @@ pub fn judge(file: &[u8], asked: u8) -> Judged
     }
     let n = size / 512;
     let fault = blocks_fault(file, n);
+    let first = cells::nth(file, 0);
     if fault != 0 {
         return Judged::Unsound(fault);
     }
-    if cells::nth(file, 0) != asked {
+    if first != asked {
         return Judged::Unsound(35);
     }
     Judged::Sound(payload_size(file, n))
@@ -317,7 +318,13 @@ fn pack(out: &mut [u8], letter: u8, payload: &[u8], n: usize)
         let end = to + 512;
         let from = 505 * i;
         let stop = cells::least(from + 505, payload.len());
-        put_block(&mut out[to..end], letter, i as u8, n as u8, &payload[from..stop]);
+        put_block(
+            &mut out[to..end],
+            letter,
+            i as u8,
+            n as u8,
+            &payload[from..stop],
+        );
         i += 1;
     }
 }

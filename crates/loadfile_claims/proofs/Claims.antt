@@ -38,7 +38,7 @@ pub writes-exactly : (most ℓ : ℕ) (p f : List ℕ)
 writes-exactly most ℓ p f = (
   λ (w : writerOf most ℓ p ≡ made f). let o = writer-lets most ℓ p f w in let r = payload-right most (length p) (o .1) in (o .0, r .0, r .1, sym (o .2)),
   λ (h : (isLetter ℓ ≡ true) × (0 < length p) × (length p ≤ 505 * most) × (f ≡ fileOf ℓ p)).
-    writer-made most ℓ p (h .0) (payload-fits most (length p) (h .1) (h .2)) ∙ ap made (sym (h .3)),
+      writer-made most ℓ p (h .0) (payload-fits most (length p) (h .1) (h .2)) ∙ ap made (sym (h .3)),
 )
 
 -- a list of bytes is read for a letter, giving p, exactly when the writer could have written it of p under that letter

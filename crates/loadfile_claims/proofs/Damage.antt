@@ -112,8 +112,10 @@ module _ (b : List ℕ) (j v : ℕ) (long : length b ≡ 512) (h : j < 512) (byt
     where
       s : storedOf b ≡ storedOf (set b j v)
       s = sym agreed ∙ ap checkOf (sym (take-set-le 510 b j v k)) ∙ e
+
       here : getD (set b j v) j 0 ≡ v
       here = getD-set-same b j v 0 (omega arith)
+
       go : (t : Bool) → eqb j 510 ≡ t → ⊥
       go true q =
           let i : j ≡ 510 = eqb-true j 510 q in
@@ -144,8 +146,8 @@ at-first left first other i n f k v l h bytes g byte z =
     let t : take 512 (set f k v) ≡ set B k v = take-set-lt 512 f k v h in
     let o : getD B k 0 ≡ getD f k 0 = getD-take 512 f k 0 h in
     let w : checkWrong (take 512 (set f k v)) ≡ true =
-        ap checkWrong t
-        ∙ found-out B k v (length-take-le 512 f l) h (λ (m : ℕ) (q : m < 512). subst (λ (y : ℕ). y < 256) (sym (getD-take 512 f m 0 q)) (bytes m)) (r .check) byte (λ (q : v ≡ getD B k 0). z (q ∙ o)) in
+    ap checkWrong t
+    ∙ found-out B k v (length-take-le 512 f l) h (λ (m : ℕ) (q : m < 512). subst (λ (y : ℕ). y < 256) (sym (getD-take 512 f m 0 q)) (bytes m)) (r .check) byte (λ (q : v ≡ getD B k 0). z (q ∙ o)) in
     pick-true (checkWrong (take 512 (set f k v))) 31 _ w
 
 -- or of any later one: those before it stay right
@@ -156,7 +158,7 @@ in-walk (suc left) first i n f k v l h bytes g byte z = go (ltb k 512) refl (in-
   where
     go : (t : Bool) → ltb k 512 ≡ t
         → (length (drop 512 f) ≡ 512 * left → k - 512 < 512 * left → Bytes (drop 512 f) → given (blocksRows left first (i + 1) n (drop 512 f) []) ≡ 0 → v < 256
-            → (v ≡ getD (drop 512 f) (k - 512) 0 → ⊥) → given (blocksRows left first (i + 1) n (set (drop 512 f) (k - 512) v) []) ≡ 31)
+        → (v ≡ getD (drop 512 f) (k - 512) 0 → ⊥) → given (blocksRows left first (i + 1) n (set (drop 512 f) (k - 512) v) []) ≡ 31)
         → given (blocksRows (suc left) first i n (set f k v) []) ≡ 31
     go true q rest = at-first left first first i n f k v (omega arith) (ltb-true k 512 q) bytes g byte z
     go false q rest =
@@ -181,24 +183,30 @@ damaged most ℓ f p bytes e k v h byte z asked =
   where
     o : (lengthWrong most (length f) ≡ false) × (given (blocksRows (blocksIn f) (getD f 0 0) 0 (blocksIn f) f []) ≡ 0) × (getD f 0 0 ≡ ℓ) × (payloadOf (blocksIn f) f ≡ p)
     o = reader-lets most f ℓ p e
+
     n : ℕ
     n = blocksIn f
+
     g : given (blocksRows (blocksIn f) (getD f 0 0) 0 (blocksIn f) f []) ≡ 0
     g = o .1
+
     r : (length f ≡ 512 * (length f / 512)) × (0 < length f / 512) × (length f / 512 ≤ most)
     r = length-right most (length f) (o .0)
+
     same : blocksIn (set f k v) ≡ blocksIn f
     same = ap (λ (m : ℕ). m / 512) (length-set f k v)
+
     by : (t : Bool) → ltb k 512 ≡ t → given (blocksRows (blocksIn f) (getD (set f k v) 0 0) 0 (blocksIn f) (set f k v) []) ≡ 31
     by true q =
         let s : blocksIn f ≡ suc (blocksIn f - 1) = omega (arith, r .1) in
         ap (λ (m : ℕ). given (blocksRows m (getD (set f k v) 0 0) 0 (blocksIn f) (set f k v) [])) s
         ∙ at-first (blocksIn f - 1) (getD f 0 0) (getD (set f k v) 0 0) 0 (blocksIn f) f k v (omega (arith, r .0, r .1)) (ltb-true k 512 q) bytes
-          (ap (λ (m : ℕ). given (blocksRows m (getD f 0 0) 0 (blocksIn f) f [])) (sym s) ∙ g) byte z
+        (ap (λ (m : ℕ). given (blocksRows m (getD f 0 0) 0 (blocksIn f) f [])) (sym s) ∙ g) byte z
     by false q =
         let a : 512 ≤ k = ltb-false k 512 q in
         let x : getD (set f k v) 0 0 ≡ getD f 0 0 = getD-set-other f k 0 v 0 (λ (y : 0 ≡ k). (omega arith)) in
         ap (λ (m : ℕ). given (blocksRows (blocksIn f) m 0 (blocksIn f) (set f k v) [])) x
         ∙ in-walk (blocksIn f) (getD f 0 0) 0 (blocksIn f) f k v (r .0) (omega (arith, r .0)) bytes g byte z
+
     walk : given (blocksRows (blocksIn (set f k v)) (getD (set f k v) 0 0) 0 (blocksIn (set f k v)) (set f k v) []) ≡ 31
     walk = ap (λ (m : ℕ). given (blocksRows m (getD (set f k v) 0 0) 0 m (set f k v) [])) same ∙ by (ltb k 512) refl

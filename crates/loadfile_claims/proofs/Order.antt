@@ -44,11 +44,11 @@ ordered rs bytes m =
     record {
       refuses = λ (n : ℕ). (
         λ (e : outcomeBy (given rs) bytes ≡ refused n). given-foremost rs n (refused-inv (given rs) bytes n e .1) (refused-inv (given rs) bytes n e .0),
-        λ (f : Foremost rs n). ap (λ (k : ℕ). outcomeBy k bytes) (foremost-given f) ∙ outcome-refused n bytes (foremost-numbered m f)
+        λ (f : Foremost rs n). ap (λ (k : ℕ). outcomeBy k bytes) (foremost-given f) ∙ outcome-refused n bytes (foremost-numbered m f),
       );
       lets = (
         λ (e : outcomeBy (given rs) bytes ≡ made bytes). given-no-row rs m (outcome-lets (given rs) bytes bytes e .0),
-        λ (f : NoRow rs). outcome-made (given rs) bytes (no-row-given f)
+        λ (f : NoRow rs). outcome-made (given rs) bytes (no-row-given f),
       );
     }
 
@@ -107,12 +107,16 @@ reads-in-order most f asked room =
   where
     P : List ℕ
     P = payloadOf (blocksIn f) f
+
     B : List Row → List Row
     B rs = blocksRows (blocksIn f) (getD f 0 0) 0 (blocksIn f) f rs
+
     R : Row
     R = row 37 (ltb room (length (payloadOf (blocksIn f) f)))
+
     Q : Row
     Q = row 35 (not (eqb (getD f 0 0) asked))
+
     behind : readRows most f asked [] ++ (R ∷ []) ≡ readRows most f asked (R ∷ [])
     behind =
         ap (λ (rs : List Row). row 30 (lengthWrong most (length f)) ∷ rs)

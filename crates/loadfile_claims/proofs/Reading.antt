@@ -111,10 +111,9 @@ blocks-are (suc zero) first i n f z s l bytes g =
     let w = block-is first i n B r lB (u .1) (byte-take 512 f 3 (omega arith) bytes) (byte-take 512 f 4 (omega arith) bytes) (byte-take 512 f 511 (omega arith) bytes) in
     let x = letter-is first i n B r lB (u .1) (byte-take 512 f 3 (omega arith) bytes) (byte-take 512 f 4 (omega arith) bytes) (byte-take 512 f 511 (omega arith) bytes) in
     let lC : length C ≤ 505 = (let q : length C ≡ usedOf B = length-take-le (usedOf B) (drop 5 B) (let d : length (drop 5 B) ≡ length B - 5 = length-drop 5 B in omega arith) in omega arith) in
-    let c : take 505 (C ++ []) ≡ C = ap (take 505) (append-nil C) ∙ take-all 505 C lC in
-    (
+    let c : take 505 (C ++ []) ≡ C = ap (take 505) (append-nil C) ∙ take-all 505 C lC in (
       sym t ∙ w ∙ ap (blockOf first i n) (sym c) ∙ sym (append-nil _),
-      ap isLetter (sym (x .1)) ∙ x .0
+      ap isLetter (sym (x .1)) ∙ x .0,
     )
 blocks-are (suc (suc left)) first i n f z s l bytes g =
     let B = take 512 f in
@@ -128,12 +127,11 @@ blocks-are (suc (suc left)) first i n f z s l bytes g =
     let lC : length C ≡ 505 = length-take-le (usedOf B) (drop 5 B) (let d : length (drop 5 B) ≡ length B - 5 = length-drop 5 B in omega arith) ∙ u in
     let lD : length (drop 512 f) ≡ 512 * suc left = length-drop 512 f ∙ (let q : length f - 512 ≡ 512 * suc left = omega arith in q) in
     let P = payloadOf (suc left) (drop 512 f) in
-    let y = blocks-are (suc left) first (i + 1) n (drop 512 f) (omega arith) (omega arith) lD (bytes-drop 512 f bytes) (R .1) in
-    (
+    let y = blocks-are (suc left) first (i + 1) n (drop 512 f) (omega arith) (omega arith) lD (bytes-drop 512 f bytes) (R .1) in (
       sym (take-append-drop 512 f)
-      ∙ ap (λ (k : List ℕ). k ++ drop 512 f) (w ∙ ap (blockOf first i n) (sym (take-at C P 505 lC)))
-      ∙ ap (λ (k : List ℕ). blockOf first i n (take 505 (C ++ P)) ++ k) (y .0 ∙ ap (blocksOf (suc left) first (i + 1) n) (sym (drop-at C P 505 lC))),
-      ap isLetter (sym (x .1)) ∙ x .0
+          ∙ ap (λ (k : List ℕ). k ++ drop 512 f) (w ∙ ap (blockOf first i n) (sym (take-at C P 505 lC)))
+          ∙ ap (λ (k : List ℕ). blockOf first i n (take 505 (C ++ P)) ++ k) (y .0 ∙ ap (blocksOf (suc left) first (i + 1) n) (sym (drop-at C P 505 lC))),
+      ap isLetter (sym (x .1)) ∙ x .0,
     )
 
 -- what is read for a letter is what the writer makes of the payload under that letter
@@ -150,8 +148,8 @@ read-written most ℓ f p bytes e =
     let low : 505 * n < length p + 505 = omega (arith, z .least) in
     let k : countOf (length p) ≡ n = omega arith in
     let same : fileOf ℓ p ≡ f =
-        ap (λ (m : ℕ). blocksOf m ℓ 0 m p) k
-        ∙ ap (λ (x : ℕ). blocksOf n x 0 n p) (sym (o .2))
-        ∙ ap (blocksOf n (getD f 0 0) 0 n) (sym (o .3))
-        ∙ sym (b .0) in
+    ap (λ (m : ℕ). blocksOf m ℓ 0 m p) k
+    ∙ ap (λ (x : ℕ). blocksOf n x 0 n p) (sym (o .2))
+    ∙ ap (blocksOf n (getD f 0 0) 0 n) (sym (o .3))
+    ∙ sym (b .0) in
     writer-made most ℓ p (ap isLetter (sym (o .2)) ∙ b .1) (payload-fits most (length p) (omega arith) (omega arith)) ∙ ap made same

@@ -72,7 +72,7 @@ module _ (ℓ i n : ℕ) (chunk : List ℕ) (few : length chunk ≤ 505) where
       let A = headOf ℓ i n u ++ chunk in
       let lP : length P ≡ 510 - (5 + u) = pad-length ∙ (let q : 505 - u ≡ 510 - (5 + u) = omega arith in q) in
       let t : part (5 + u) 510 (blockOf ℓ i n chunk) ≡ P =
-          ap (part (5 + u) 510) opened ∙ ap (take (510 - (5 + u))) (drop-at A (P ++ T) (5 + u) (length-append (headOf ℓ i n u) chunk)) ∙ take-at P T (510 - (5 + u)) lP in
+      ap (part (5 + u) 510) opened ∙ ap (take (510 - (5 + u))) (drop-at A (P ++ T) (5 + u) (length-append (headOf ℓ i n u) chunk)) ∙ take-at P T (510 - (5 + u)) lP in
       ap (λ (k : ℕ). not (allAre 255 (part (5 + k) 510 (blockOf ℓ i n chunk)))) used-is ∙ ap (λ (z : List ℕ). not (allAre 255 z)) t ∙ ap not pad-all
 
   chunk-back : take (usedOf (blockOf ℓ i n chunk)) (drop 5 (blockOf ℓ i n chunk)) ≡ chunk
@@ -119,10 +119,9 @@ blocks-right (suc zero) ℓ i n p e z s h k =
     let few = chunk-length p in
     let t : take 512 (B ++ []) ≡ B = take-at B [] 512 (block-length ℓ i n c few) in
     let whole : c ≡ p = take-all 505 p (omega arith) in
-    let lc : length c ≡ length p = ap length whole in
-    (
+    let lc : length c ≡ length p = ap length whole in (
       ap (λ (x : List ℕ). given (blockRows ℓ i n x [])) t ∙ right-given ℓ i n B [] (block-right-last ℓ i n c few e s (omega arith)),
-      append-nil _ ∙ ap (λ (x : List ℕ). take (usedOf x) (drop 5 x)) t ∙ chunk-of ℓ i n c few ∙ whole
+      append-nil _ ∙ ap (λ (x : List ℕ). take (usedOf x) (drop 5 x)) t ∙ chunk-of ℓ i n c few ∙ whole,
     )
 blocks-right (suc (suc left)) ℓ i n p e z s h k =
     let c = take 505 p in
@@ -133,17 +132,16 @@ blocks-right (suc (suc left)) ℓ i n p e z s h k =
     let d : drop 512 (B ++ R) ≡ R = drop-at B R 512 (block-length ℓ i n c few) in
     let lc : length c ≡ 505 = length-take-le 505 p (omega arith) in
     let ld : length (drop 505 p) ≡ length p - 505 = length-drop 505 p in
-    let r = blocks-right (suc left) ℓ (i + 1) n (drop 505 p) e (omega arith) (omega arith) (omega arith) (omega arith) in
-    (
+    let r = blocks-right (suc left) ℓ (i + 1) n (drop 505 p) e (omega arith) (omega arith) (omega arith) (omega arith) in (
       ap (λ (x : List ℕ). given (blockRows ℓ i n x (blocksRows (suc left) ℓ (i + 1) n (drop 512 (B ++ R)) []))) t
-      ∙ ap (λ (x : List ℕ). given (blockRows ℓ i n B (blocksRows (suc left) ℓ (i + 1) n x []))) d
-      ∙ right-given ℓ i n B (blocksRows (suc left) ℓ (i + 1) n R []) (block-right-other ℓ i n c few e (λ (q : i + 1 ≡ n). (omega arith)) lc)
-      ∙ r .0,
+          ∙ ap (λ (x : List ℕ). given (blockRows ℓ i n B (blocksRows (suc left) ℓ (i + 1) n x []))) d
+          ∙ right-given ℓ i n B (blocksRows (suc left) ℓ (i + 1) n R []) (block-right-other ℓ i n c few e (λ (q : i + 1 ≡ n). (omega arith)) lc)
+          ∙ r .0,
       ap (λ (x : List ℕ). take (usedOf x) (drop 5 x) ++ payloadOf (suc left) (drop 512 (B ++ R))) t
-      ∙ ap (λ (x : List ℕ). take (usedOf B) (drop 5 B) ++ payloadOf (suc left) x) d
-      ∙ ap (λ (x : List ℕ). x ++ payloadOf (suc left) R) (chunk-of ℓ i n c few)
-      ∙ ap (λ (x : List ℕ). c ++ x) (r .1)
-      ∙ take-append-drop 505 p
+          ∙ ap (λ (x : List ℕ). take (usedOf B) (drop 5 B) ++ payloadOf (suc left) x) d
+          ∙ ap (λ (x : List ℕ). x ++ payloadOf (suc left) R) (chunk-of ℓ i n c few)
+          ∙ ap (λ (x : List ℕ). c ++ x) (r .1)
+          ∙ take-append-drop 505 p,
     )
 
 -- the file of a payload has as many blocks as it takes, and begins with its letter
@@ -180,13 +178,12 @@ module _ (most ℓ : ℕ) (p f : List ℕ) (w : writerOf most ℓ p ≡ made f) 
       let k = countOf (length p) in
       let g = blocks-right k ℓ 0 k p (o .0) (omega arith) (let q : 0 + k ≡ k = omega arith in q) (omega arith) (omega arith) in
       let n : blocksIn f ≡ k = ap blocksIn (sym (o .2)) ∙ file-size ℓ p in
-      let x : getD f 0 0 ≡ ℓ = ap (λ (y : List ℕ). getD y 0 0) (sym (o .2)) ∙ file-letter ℓ p (r .0) in
-      (
+      let x : getD f 0 0 ≡ ℓ = ap (λ (y : List ℕ). getD y 0 0) (sym (o .2)) ∙ file-letter ℓ p (r .0) in (
         ap (λ (m : ℕ). given (blocksRows m (getD f 0 0) 0 m f [])) n
-        ∙ ap (λ (y : ℕ). given (blocksRows k y 0 k f [])) x
-        ∙ ap (λ (y : List ℕ). given (blocksRows k ℓ 0 k y [])) (sym (o .2))
-        ∙ g .0,
-        ap (λ (m : ℕ). payloadOf m f) n ∙ ap (payloadOf k) (sym (o .2)) ∙ g .1
+            ∙ ap (λ (y : ℕ). given (blocksRows k y 0 k f [])) x
+            ∙ ap (λ (y : List ℕ). given (blocksRows k ℓ 0 k y [])) (sym (o .2))
+            ∙ g .0,
+        ap (λ (m : ℕ). payloadOf m f) n ∙ ap (payloadOf k) (sym (o .2)) ∙ g .1,
       )
 
   pub written-letter : getD f 0 0 ≡ ℓ

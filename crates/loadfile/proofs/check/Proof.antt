@@ -60,7 +60,7 @@ loop-again c =
     let h : i < length (take 510 s) = simp length-take (omega arith) in
     let e : getD (take 510 s) i 0 ≡ x = getD-take 510 s i 0 (omega arith) ∙ sym (c .wide .ensures .0) in
     let k : wsum (i + 1) (drop i (take 510 s)) ≡ (i + 1) * x + wsum (i + 1 + 1) (drop (i + 1) (take 510 s)) =
-        counted (take 510 s) i h ∙ ap (λ (y : ℕ). (i + 1) * y + wsum (i + 1 + 1) (drop (i + 1) (take 510 s))) e in
+    counted (take 510 s) i h ∙ ap (λ (y : ℕ). (i + 1) * y + wsum (i + 1 + 1) (drop (i + 1) (take 510 s))) e in
     let m = weighed (i + 1) x (omega arith) (omega arith) in
     (omega arith, l .inv .1, omega arith, omega arith)
 

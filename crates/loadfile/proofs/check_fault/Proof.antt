@@ -39,7 +39,7 @@ returns c =
     let m = c .before .before .before .before in
     let b = m .before .before .args .block .now in
     let stored : c .before .before .joined .result ≡ storedOf b =
-        c .before .before .joined .ensures .0 ∙ (λ i. pair (m .nth .ensures i) (c .before .before .before .nth2 .ensures i)) in
+    c .before .before .joined .ensures .0 ∙ (λ i. pair (m .nth .ensures i) (c .before .before .before .nth2 .ensures i)) in
     sym (check-right b (sym (c .before .check .ensures) ∙ c .if1 .taken ∙ stored))
 
 -- src/lib.rt:54:1
@@ -48,7 +48,7 @@ returns-2 c =
     let m = c .before .before .before .before in
     let b = m .before .before .args .block .now in
     let stored : c .before .before .joined .result ≡ storedOf b =
-        c .before .before .joined .ensures .0 ∙ (λ i. pair (m .nth .ensures i) (c .before .before .before .nth2 .ensures i)) in
+    c .before .before .joined .ensures .0 ∙ (λ i. pair (m .nth .ensures i) (c .before .before .before .nth2 .ensures i)) in
     sym (check-not-right b (λ (e : checkOf (take 510 b) ≡ storedOf b). c .if1 .left (c .before .check .ensures ∙ e ∙ sym stored)))
 
 pub check-fault-spec : {M : Type 1} → statement M

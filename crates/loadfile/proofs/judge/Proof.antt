@@ -27,14 +27,15 @@ blocks-fault-requires c κs =
     let f = c .before .before .before .args .file .now in
     length-right limit (length f) (sym (c .before .length-wrong .ensures) ∙ c .if1 .left) .0
 
-returns-2 : tie.Need-returns-2
-returns-2 c =
-    let m = c .before .before .before in
-    let a = m .before .before .args in
-    sym (ap judgedAs (reader-block limit (a .file .now) (a .asked) (sym (m .length-wrong .ensures) ∙ c .before .before .if1 .left) (c .before .blocks-fault .result) (c .before .blocks-fault .ensures) (c .if2 .taken)))
-
 nth-requires : tie.Need-nth-requires
 nth-requires c κs = search needs
+
+returns-2 : tie.Need-returns-2
+returns-2 c =
+    let b = c .before .before in
+    let m = b .before .before in
+    let a = m .before .before .args in
+    sym (ap judgedAs (reader-block limit (a .file .now) (a .asked) (sym (m .length-wrong .ensures) ∙ b .before .if1 .left) (b .blocks-fault .result) (b .blocks-fault .ensures) (c .if2 .taken)))
 
 returns-3 : tie.Need-returns-3
 returns-3 c =
@@ -45,8 +46,8 @@ returns-3 c =
     (ap judgedAs
     (reader-35 limit (a .file .now) (a .asked)
     (sym (m .length-wrong .ensures) ∙ b .before .if1 .left)
-    (sym (b .blocks-fault .ensures) ∙ c .before .before .if2 .left)
-    (λ (q : getD (a .file .now) 0 0 ≡ a .asked). c .if3 .taken (c .before .nth .ensures ∙ q))))
+    (sym (b .blocks-fault .ensures) ∙ c .before .if2 .left)
+    (λ (q : getD (a .file .now) 0 0 ≡ a .asked). c .if3 .taken (c .before .before .nth .ensures ∙ q))))
 
 payload-size-requires : tie.Need-payload-size-requires
 payload-size-requires c κs =
@@ -64,10 +65,10 @@ returns-4 c =
     let f = a .file .now in
     let w : lengthWrong limit (length f) ≡ false = sym (m .length-wrong .ensures) ∙ b .before .if1 .left in
     let r = length-right limit (length f) w in
-    let g : given (blocksRows (blocksIn f) (getD f 0 0) 0 (blocksIn f) f []) ≡ 0 = sym (b .blocks-fault .ensures) ∙ c .before .before .before .if2 .left in
+    let g : given (blocksRows (blocksIn f) (getD f 0 0) 0 (blocksIn f) f []) ≡ 0 = sym (b .blocks-fault .ensures) ∙ c .before .before .if2 .left in
     let s = sized (blocksIn f) (getD f 0 0) 0 (blocksIn f) f (r .1) (let q : 0 + blocksIn f ≡ blocksIn f = omega arith in q) (r .0) g in
     ap Sound (c .payload-size .ensures ∙ sym (s .size))
-    ∙ sym (ap judgedAs (reader-made limit f (a .asked) w g (sym (c .before .before .nth .ensures) ∙ c .before .if3 .left)))
+    ∙ sym (ap judgedAs (reader-made limit f (a .asked) w g (sym (c .before .before .before .nth .ensures) ∙ c .before .if3 .left)))
 
 pub judge-spec : {M : Type 1} → statement M
 judge-spec =
@@ -76,8 +77,8 @@ judge-spec =
     length-wrong-requires
     returns
     blocks-fault-requires
-    returns-2
     nth-requires
+    returns-2
     returns-3
     payload-size-requires
     returns-4)

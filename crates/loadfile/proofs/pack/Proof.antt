@@ -78,12 +78,11 @@ loop-again c =
     let p = c .before .before .put-block in
     let m = c .before .before .before .before .before in
     let l = m .before .before .loop in
-    let a = m .before .before .before .before .before .args in
-    (
+    let a = m .before .before .before .before .before .args in (
       omega arith,
       same-len-mid (512 * l .i) (512 * l .i + 512 - 512 * l .i) (l .out) (p .last .0) (p .kept .0) ∙ l .inv .1,
       packed (a .letter) (l .i) (a .n) (m .least .result) (a .payload .now) (l .out) (p .last .0) (omega arith) (l .inv .1) (m .least .ensures) (p .ensures)
-      ∙ l .inv .2,
+          ∙ l .inv .2,
     )
 
 same-length : tie.Need-same-length Inv-loop μ-loop
@@ -95,7 +94,7 @@ returns c =
     let a = c .before .before .before .before .args in
     let z : a .n - l .i ≡ 0 = omega arith in
     let b : blocksOf (a .n - l .i) (a .letter) (l .i) (a .n) (drop (505 * l .i) (a .payload .now)) ≡ [] =
-        ap (λ (k : ℕ). blocksOf k (a .letter) (l .i) (a .n) (drop (505 * l .i) (a .payload .now))) z in
+    ap (λ (k : ℕ). blocksOf k (a .letter) (l .i) (a .n) (drop (505 * l .i) (a .payload .now))) z in
     let t : take (512 * l .i) (l .out) ≡ l .out = take-all (512 * l .i) (l .out) (omega arith) in
     sym (ap (λ (x : List ℕ). x ++ blocksOf (a .n - l .i) (a .letter) (l .i) (a .n) (drop (505 * l .i) (a .payload .now))) t ∙ ap (λ (x : List ℕ). l .out ++ x) b ∙ append-nil (l .out))
     ∙ l .inv .2

@@ -88,17 +88,16 @@ loop-again c =
     let o : l .out ≡ laid (505 * i) P s = l .inv .3 ∙ ap (λ (k : ℕ). laid k P s) b in
     let w : 512 * i + 5 + 505 - (512 * i + 5) ≡ 505 = omega arith in
     let y : p .last .0 ≡ copied (midOf (505 * i) d (laid (505 * i) P s)) (take 505 (drop (512 * i + 5) f)) =
-        p .ensures
-        ∙ ap (λ (x : List ℕ). copied (midOf (505 * i) d x) (take (512 * i + 5 + 505 - (512 * i + 5)) (drop (512 * i + 5) f))) o
-        ∙ ap (λ (k : ℕ). copied (midOf (505 * i) d (laid (505 * i) P s)) (take k (drop (512 * i + 5) f))) w in
-    let u : 505 * i + d ≡ min (505 * (i + 1)) (length s) = omega arith in
-    (
+    p .ensures
+    ∙ ap (λ (x : List ℕ). copied (midOf (505 * i) d x) (take (512 * i + 5 + 505 - (512 * i + 5)) (drop (512 * i + 5) f))) o
+    ∙ ap (λ (k : ℕ). copied (midOf (505 * i) d (laid (505 * i) P s)) (take k (drop (512 * i + 5) f))) w in
+    let u : 505 * i + d ≡ min (505 * (i + 1)) (length s) = omega arith in (
       omega arith,
       refl,
       same-len-mid (505 * i) d (l .out) (p .last .0) (p .kept .0) ∙ l .inv .2,
       ap (λ (x : List ℕ). putMid (505 * i) d x (p .last .0)) o
-      ∙ unpacked i n d f s (p .last .0) (omega arith) (omega arith) (omega arith) (omega arith) (omega arith) y
-      ∙ ap (λ (k : ℕ). laid k P s) u,
+          ∙ unpacked i n d f s (p .last .0) (omega arith) (omega arith) (omega arith) (omega arith) (omega arith) y
+          ∙ ap (λ (k : ℕ). laid k P s) u,
     )
 
 same-length : tie.Need-same-length Inv-loop μ-loop

@@ -25,7 +25,7 @@ returns c =
     let a = c .before .before .before .before .args in
     let out = a .out .now in
     let q : inRoom (length out) (writerOf limit (a .letter) (a .payload .now)) ≡ refused 32 =
-        ap (inRoom (length out)) (writer-32 limit (a .letter) (a .payload .now) (sym (c .before .is-letter .ensures) ∙ not-true _ (c .if1 .taken))) in
+    ap (inRoom (length out)) (writer-32 limit (a .letter) (a .payload .now) (sym (c .before .is-letter .ensures) ∙ not-true _ (c .if1 .taken))) in
     (sym (ap writtenAs q), sym (ap (leftIn out) q))
 
 payload-wrong-requires : tie.Need-payload-wrong-requires
@@ -37,8 +37,8 @@ returns-2 c =
     let a = m .before .before .before .before .args in
     let out = a .out .now in
     let q : inRoom (length out) (writerOf limit (a .letter) (a .payload .now)) ≡ refused 36 =
-        ap (inRoom (length out))
-        (writer-36 limit (a .letter) (a .payload .now) (sym (m .before .is-letter .ensures) ∙ not-false _ (m .if1 .left)) (sym (c .before .payload-wrong .ensures) ∙ c .if2 .taken)) in
+    ap (inRoom (length out))
+    (writer-36 limit (a .letter) (a .payload .now) (sym (m .before .is-letter .ensures) ∙ not-false _ (m .if1 .left)) (sym (c .before .payload-wrong .ensures) ∙ c .if2 .taken)) in
     (sym (ap writtenAs q), sym (ap (leftIn out) q))
 
 add-n : tie.Need-add-n
@@ -56,9 +56,9 @@ returns-3 c =
     let n = countOf (length (a .payload .now)) in
     let l : length (fileOf (a .letter) (a .payload .now)) ≡ 512 * n = blocks-length n (a .letter) 0 n (a .payload .now) in
     let q : inRoom (length out) (writerOf limit (a .letter) (a .payload .now)) ≡ refused 37 =
-        ap (inRoom (length out))
-        (writer-made limit (a .letter) (a .payload .now) (sym (m .before .is-letter .ensures) ∙ not-false _ (m .if1 .left)) (sym (p .payload-wrong .ensures) ∙ c .before .if2 .left))
-        ∙ room-37 (length out) (fileOf (a .letter) (a .payload .now)) (omega (arith, c .if3 .taken)) in
+    ap (inRoom (length out))
+    (writer-made limit (a .letter) (a .payload .now) (sym (m .before .is-letter .ensures) ∙ not-false _ (m .if1 .left)) (sym (p .payload-wrong .ensures) ∙ c .before .if2 .left))
+    ∙ room-37 (length out) (fileOf (a .letter) (a .payload .now)) (omega (arith, c .if3 .taken)) in
     (sym (ap writtenAs q), sym (ap (leftIn out) q))
 
 sub-pack : tie.Need-sub-pack
@@ -92,9 +92,9 @@ returns-4 c =
     let n = countOf (length (a .payload .now)) in
     let l : length (fileOf (a .letter) (a .payload .now)) ≡ 512 * n = blocks-length n (a .letter) 0 n (a .payload .now) in
     let q : inRoom (length out) (writerOf limit (a .letter) (a .payload .now)) ≡ made (fileOf (a .letter) (a .payload .now)) =
-        ap (inRoom (length out))
-        (writer-made limit (a .letter) (a .payload .now) (sym (m .before .is-letter .ensures) ∙ not-false _ (m .if1 .left)) (sym (p .payload-wrong .ensures) ∙ g .before .if2 .left))
-        ∙ room-made (length out) (fileOf (a .letter) (a .payload .now)) (omega (arith, g .if3 .left)) in
+    ap (inRoom (length out))
+    (writer-made limit (a .letter) (a .payload .now) (sym (m .before .is-letter .ensures) ∙ not-false _ (m .if1 .left)) (sym (p .payload-wrong .ensures) ∙ g .before .if2 .left))
+    ∙ room-made (length out) (fileOf (a .letter) (a .payload .now)) (omega (arith, g .if3 .left)) in
     (sym (ap writtenAs q ∙ ap Wrote l), front-of out (u .last .0) _ (fileOf (a .letter) (a .payload .now)) (512 * n) q l (u .ensures))
 
 pub write-spec : {M : Type 1} → statement M
