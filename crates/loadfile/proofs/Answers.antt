@@ -1,15 +1,13 @@
 -- What reader and writer leave in the lent buffer, as laws that they cite. Assumes nothing.
-use mathlib.Core.Path.{_≡_, refl, sym, _∙_, ap}
-use mathlib.Core.List.{List, [], _∷_, _++_}
-use Prim.Native.Nat.{ℕ, zero, suc, _+_, _*_, _/_, _-_, _≤_, _<_}
+use mathlib.Core.Path.{_≡_, sym, _∙_, ap}
+use mathlib.Core.List.{List, _++_}
+use Prim.Native.Nat.{ℕ, _+_, _*_, _/_, _-_, _≤_, _<_}
 use native.Mathlib.Omega.{arith}
 use lib.ListN.{length, getD, take, drop}
 use lib.Seq.{length-take-le}
-use Rattle.cells.specs.Numbers.{given}
-use Rattle.loadfile.specs.File.{Outcome, refused, made, inRoom, leftIn, blocksRows, blocksIn, payloadOf, placesOf, readerOf, judgedAs}
-use Rattle.loadfile.specs.Sizes.{sized, places-length}
+use Rattle.loadfile.specs.File.{Outcome, refused, made, inRoom, leftIn, payloadOf, placesOf, readerOf, judgedAs}
+use Rattle.loadfile.specs.Sizes.{sized}
 use Rattle.loadfile.specs.Outcomes.{length-right, reader-lets, judged-made, room-37, room-made}
-use Rattle.loadfile.specs.declared.Judged.{Judged}
 use Rattle.loadfile.specs.declared.Judged.the-variants.{Sound}
 
 -- a file that was judged sound with k bytes: its payload is the first k of its payload places

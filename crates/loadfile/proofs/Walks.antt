@@ -1,16 +1,16 @@
 -- One turn of each loop on a slice, as a law about its list. Assumes nothing.
-use mathlib.Core.Path.{_≡_, refl, sym, _∙_, ap}
-use mathlib.Core.List.{List, [], _∷_, _++_}
-use mathlib.Core.Bool.{Bool, true, false}
-use Prim.Native.Nat.{ℕ, zero, suc, _+_, _*_, _-_, _≤_, _<_}
+use mathlib.Core.Path.{_≡_, sym, _∙_, ap}
+use mathlib.Core.List.{List, _∷_}
+use mathlib.Core.Bool.{true, false}
+use Prim.Native.Nat.{ℕ, _+_, _*_, _≤_, _<_}
 use native.Mathlib.Omega.{arith}
 use native.Mathlib.Numerals.{add-one}
 use native.Mathlib.Nat.{mul-le-mul}
-use lib.ListN.{length, getD, take, drop, length-take}
-use lib.Seq.{drop-cons, getD-take}
+use lib.ListN.{length, getD, drop}
+use lib.Seq.{drop-cons}
 use lib.Dec.{eqb}
 use borrow.Author.Tests.{eq-eqb, ne-eqb}
-use Rattle.cells.specs.Pick.{pick, pick-true, pick-false}
+use Rattle.cells.specs.Pick.{pick-true, pick-false}
 use Rattle.loadfile.specs.Check.{wsum}
 use Rattle.loadfile.specs.Block.{within, allAre}
 

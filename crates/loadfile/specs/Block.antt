@@ -1,7 +1,7 @@
 -- One block of a load file: how it is written, and what is wrong with one. Assumes nothing.
 use mathlib.Core.List.{List, [], _∷_, _++_}
 use mathlib.Core.Bool.{Bool, true, false, not, _||_}
-use Prim.Native.Nat.{ℕ, zero, suc, _+_, _-_, _/_, _%_}
+use Prim.Native.Nat.{ℕ, _+_, _-_, _/_, _%_}
 use lib.ListN.{getD, take, drop, length, replicate}
 use lib.Dec.{eqb, ltb}
 use Rattle.cells.specs.Pick.{pick}

@@ -1,6 +1,6 @@
 -- The check of a block, and numbers of two bytes. Assumes nothing.
 use mathlib.Core.List.{List, [], _∷_}
-use mathlib.Core.Bool.{Bool, true, false, not}
+use mathlib.Core.Bool.{Bool, not}
 use Prim.Native.Nat.{ℕ, suc, _+_, _*_, _%_}
 use lib.ListN.{getD, take}
 use lib.Dec.{eqb}

@@ -1,6 +1,6 @@
 -- The load file: what the writer writes, how the reader judges a file, and what each answers. Assumes nothing.
 use mathlib.Core.List.{List, [], _∷_, _++_}
-use mathlib.Core.Bool.{Bool, true, false, not, _||_}
+use mathlib.Core.Bool.{Bool, not, _||_}
 use Prim.Native.Nat.{ℕ, zero, suc, _+_, _*_, _/_, _%_}
 use lib.ListN.{getD, take, drop, length}
 use lib.Dec.{eqb, ltb}

@@ -1,8 +1,8 @@
 -- Laws of the outcomes of reader and writer: one for each way out, and the ways back. Assumes nothing.
 use mathlib.Core.Path.{_≡_, refl, sym, _∙_, ap}
-use mathlib.Core.List.{List, [], _∷_, _++_}
+use mathlib.Core.List.{List, [], _∷_}
 use mathlib.Core.Bool.{Bool, true, false, not, _||_}
-use Prim.Native.Nat.{ℕ, zero, suc, _+_, _*_, _/_, _%_, _-_, _≤_, _<_}
+use Prim.Native.Nat.{ℕ, _*_, _/_, _%_, _≤_, _<_}
 use native.Mathlib.Omega.{arith}
 use lib.ListN.{length, getD}
 use lib.Dec.{eqb, ltb}
@@ -10,9 +10,8 @@ use borrow.Author.Tests.{eq-eqb, ne-eqb, eqb-true, eqb-false, ltb-false, not-fal
 use Rattle.cells.specs.Pick.{pick, pick-true, pick-false}
 use Rattle.cells.specs.Numbers.{Row, row, given}
 use Rattle.loadfile.specs.Block.{isLetter}
-use Rattle.loadfile.specs.File.{Outcome, refused, made, outcomeBy, inRoom, countOf, fileOf, blocksRows, blocksIn, payloadOf, lengthWrong, payloadWrong, readRows, writeRows, readerOf, writerOf, judgedAs}
-use Rattle.loadfile.specs.Tables.{after-blocks}
-use Rattle.loadfile.specs.declared.Judged.{Judged}
+use Rattle.loadfile.specs.File.{Outcome, refused, made, outcomeBy, inRoom, fileOf, blocksRows, blocksIn, payloadOf, lengthWrong, payloadWrong, readRows, writeRows, readerOf, writerOf, judgedAs}
+use Rattle.loadfile.specs.Tables.{after-blocks, none-of-two, not-given}
 use Rattle.loadfile.specs.declared.Judged.the-variants.{Sound, Unsound}
 
 -- a number other than 0 refuses, 0 lets through
@@ -29,21 +28,12 @@ outcome-lets n bytes p e = go (eqb n 0) refl
     go true q = (eqb-true n 0 q, let w : made bytes ≡ made p = sym (pick-true (eqb n 0) (made bytes) (refused n) q) ∙ e in cc)
     go false q = absurd (let w : refused n ≡ made p = sym (pick-false (eqb n 0) (made bytes) (refused n) q) ∙ e in let z : _≡_ {A = ℕ} 0 1 = cc in omega arith)
 
--- none of several tests held
-nor : (p q : Bool) → (p || q) ≡ false → (p ≡ false) × (q ≡ false)
-nor true q e = (e, absurd (let z : _≡_ {A = ℕ} 0 1 = cc in omega arith))
-nor false q e = (refl, e)
-
-passed-by : (t : Bool) (k x : ℕ) → pick t (suc k) x ≡ 0 → (t ≡ false) × (x ≡ 0)
-passed-by true k x e = absurd (omega arith)
-passed-by false k x e = (refl, e)
-
 -- a length that is not refused: so many whole blocks, from 1 up to the limit
 pub length-right : (most size : ℕ) → lengthWrong most size ≡ false → (size ≡ 512 * (size / 512)) × (0 < size / 512) × (size / 512 ≤ most)
 unfolding lengthWrong
 length-right most size e =
-    let a = nor (eqb size 0 || ltb (512 * most) size) (not (eqb (size % 512) 0)) e in
-    let b = nor (eqb size 0) (ltb (512 * most) size) (a .0) in
+    let a = none-of-two (eqb size 0 || ltb (512 * most) size) (not (eqb (size % 512) 0)) e in
+    let b = none-of-two (eqb size 0) (ltb (512 * most) size) (a .0) in
     let z : size ≡ 0 → ⊥ = eqb-false size 0 (b .0) in
     let l : size ≤ 512 * most = ltb-false (512 * most) size (b .1) in
     let r : size % 512 ≡ 0 = eqb-true (size % 512) 0 (not-false (eqb (size % 512) 0) (a .1)) in
@@ -61,7 +51,7 @@ length-fits most k z l =
 pub payload-right : (most size : ℕ) → payloadWrong most size ≡ false → (0 < size) × (size ≤ 505 * most)
 unfolding payloadWrong
 payload-right most size e =
-    let b = nor (eqb size 0) (ltb (505 * most) size) e in
+    let b = none-of-two (eqb size 0) (ltb (505 * most) size) e in
     let z : size ≡ 0 → ⊥ = eqb-false size 0 (b .0) in
     (omega arith, ltb-false (505 * most) size (b .1))
 
@@ -121,11 +111,11 @@ module _ (most : ℕ) (f : List ℕ) (asked : ℕ) where
   unfolding readerOf
   reader-lets p e =
       let o = outcome-lets (given (readRows most f asked [])) (payloadOf (blocksIn f) f) p e in
-      let a = passed-by (lengthWrong most (length f)) 29 _ (o .0) in
+      let a = not-given (lengthWrong most (length f)) 29 _ (o .0) in
       let G = given (blocksRows (blocksIn f) (getD f 0 0) 0 (blocksIn f) f []) in
       let r : pick (eqb G 0) (given (row 35 (not (eqb (getD f 0 0) asked)) ∷ [])) G ≡ 0 = sym (rest-is (a .0) []) ∙ o .0 in
       let g : G ≡ 0 = zero-both G _ (eqb G 0) refl r in
-      let s = passed-by (not (eqb (getD f 0 0) asked)) 34 0 (sym (pick-true (eqb G 0) _ G (eq-eqb G 0 g)) ∙ r) in
+      let s = not-given (not (eqb (getD f 0 0) asked)) 34 0 (sym (pick-true (eqb G 0) _ G (eq-eqb G 0 g)) ∙ r) in
       (a .0, g, eqb-true (getD f 0 0) asked (not-false (eqb (getD f 0 0) asked) (s .0)), o .1)
     where
       zero-both : (n k : ℕ) (t : Bool) → eqb n 0 ≡ t → pick (eqb n 0) k n ≡ 0 → n ≡ 0
@@ -156,8 +146,8 @@ module _ (most ℓ : ℕ) (p : List ℕ) where
   unfolding writerOf
   writer-lets f e =
       let o = outcome-lets (given (writeRows most ℓ p [])) (fileOf ℓ p) f e in
-      let a = passed-by (not (isLetter ℓ)) 31 _ (o .0) in
-      let b = passed-by (payloadWrong most (length p)) 35 0 (a .1) in
+      let a = not-given (not (isLetter ℓ)) 31 _ (o .0) in
+      let b = not-given (payloadWrong most (length p)) 35 0 (a .1) in
       (not-false (isLetter ℓ) (a .0), b .0, o .1)
 
 -- room, for an outcome that is known

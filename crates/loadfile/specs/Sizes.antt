@@ -1,18 +1,18 @@
 -- Lengths: of a block, of the blocks of a payload, and of the payload of right blocks. Assumes nothing.
 use mathlib.Core.Path.{_≡_, refl, sym, _∙_, ap}
 use mathlib.Core.List.{List, [], _∷_, _++_, append-nil}
-use mathlib.Core.Bool.{Bool, true, false, not, _||_}
-use Prim.Native.Nat.{ℕ, zero, suc, _+_, _*_, _-_, _≤_, _<_, min}
+use mathlib.Core.Bool.{false}
+use Prim.Native.Nat.{ℕ, zero, suc, _+_, _*_, _-_, _≤_, _<_}
 use native.Mathlib.Omega.{arith}
-use lib.ListN.{length, getD, take, drop, replicate, length-append, length-take, length-drop, length-replicate}
-use lib.Seq.{take-nil, drop-drop, length-take-le, take-all, take-at, take-take, take-append-add, drop-append-add, drop-at, take-append-le}
-use lib.Dec.{eqb, ltb, leb}
-use borrow.Author.Tests.{eq-eqb, ne-eqb, eqb-true, eqb-false, ltb-false, leb-true, leb-false, not-false}
-use Rattle.cells.specs.Pick.{pick, pick-true, pick-false}
+use lib.ListN.{length, take, drop, replicate, length-append, length-take, length-drop, length-replicate}
+use lib.Seq.{take-nil, drop-drop, length-take-le, take-all, take-take, take-append-add, drop-append-add}
+use lib.Dec.{eqb, ltb}
+use borrow.Author.Tests.{eq-eqb, ne-eqb, eqb-true, eqb-false, ltb-false, not-false}
+use Rattle.cells.specs.Pick.{pick-true, pick-false}
 use Rattle.cells.specs.Numbers.{given}
-use Rattle.loadfile.specs.Block.{headOf, frontOf, blockOf, blockRows, usedOf, usedWrong}
+use Rattle.loadfile.specs.Block.{headOf, frontOf, blockOf, usedOf, usedWrong}
 use Rattle.loadfile.specs.File.{blocksOf, blocksRows, payloadOf, placesOf}
-use Rattle.loadfile.specs.Tables.{Right, right}
+use Rattle.loadfile.specs.Tables.{right, none-of-two}
 
 -- the front of a block has 510 bytes, a block 512
 pub front-length : (ℓ i n : ℕ) (chunk : List ℕ) → length chunk ≤ 505 → length (frontOf ℓ i n chunk) ≡ 510
@@ -41,14 +41,10 @@ blocks-length (suc left) ℓ i n p =
     ∙ (let q : length (blockOf ℓ i n (take 505 p)) + length (blocksOf left ℓ (i + 1) n (drop 505 p)) ≡ 512 * suc left = omega arith in q)
 
 -- the used count of a right block: 1 to 505 in the last, 505 in every other
-neither : (p q : Bool) → (p || q) ≡ false → (p ≡ false) × (q ≡ false)
-neither true q e = (e, absurd (let z : _≡_ {A = ℕ} 0 1 = cc in omega arith))
-neither false q e = (refl, e)
-
 pub used-last : (i n : ℕ) (b : List ℕ) → i + 1 ≡ n → usedWrong i n b ≡ false → (0 < usedOf b) × (usedOf b ≤ 505)
 unfolding usedWrong
 used-last i n b e w =
-    let t = neither (eqb (usedOf b) 0) (ltb 505 (usedOf b)) (sym (pick-true (eqb (i + 1) n) _ _ (eq-eqb _ _ e)) ∙ w) in
+    let t = none-of-two (eqb (usedOf b) 0) (ltb 505 (usedOf b)) (sym (pick-true (eqb (i + 1) n) _ _ (eq-eqb _ _ e)) ∙ w) in
     let z : usedOf b ≡ 0 → ⊥ = eqb-false _ _ (t .0) in
     (omega arith, ltb-false _ _ (t .1))
 

@@ -1,14 +1,13 @@
 -- Laws of the reader's table: what is asked after the blocks, and one block at a time. Assumes nothing.
-use mathlib.Core.Path.{_≡_, refl, sym, _∙_, ap}
-use mathlib.Core.List.{List, [], _∷_, _++_}
+use mathlib.Core.Path.{_≡_, refl, _∙_, ap}
+use mathlib.Core.List.{List, [], _++_}
 use mathlib.Core.Bool.{Bool, true, false, _||_}
-use Prim.Native.Nat.{ℕ, zero, suc, _+_, _*_, _-_, _≤_, _<_}
+use Prim.Native.Nat.{ℕ, zero, suc, _+_, _*_, _-_, _<_}
 use native.Mathlib.Omega.{arith}
-use lib.ListN.{length, getD, take, drop}
+use lib.ListN.{take, drop}
 use lib.Seq.{drop-drop}
 use lib.Dec.{eqb}
-use borrow.Author.Tests.{eq-eqb, ne-eqb}
-use Rattle.cells.specs.Pick.{pick, pick-true, pick-false}
+use Rattle.cells.specs.Pick.{pick}
 use Rattle.cells.specs.Numbers.{Row, row, given, numbered, given-append}
 use Rattle.loadfile.specs.Check.{checkWrong}
 use Rattle.loadfile.specs.Block.{blockRows, letterWrong, placeWrong, usedWrong, paddingWrong}
@@ -56,11 +55,13 @@ pub record Right (first i n : ℕ) (b : List ℕ) : Type 0 where
   pub used : usedWrong i n b ≡ false
   pub padding : paddingWrong b ≡ false
 
-none-of-two : (p q : Bool) → (p || q) ≡ false → (p ≡ false) × (q ≡ false)
+-- neither of two tests held
+pub none-of-two : (p q : Bool) → (p || q) ≡ false → (p ≡ false) × (q ≡ false)
 none-of-two true q e = (e, absurd (let z : _≡_ {A = ℕ} 0 1 = cc in omega arith))
 none-of-two false q e = (refl, e)
 
-not-given : (t : Bool) (k x : ℕ) → pick t (suc k) x ≡ 0 → (t ≡ false) × (x ≡ 0)
+-- a row that gives nothing does not hold, and neither does the rest
+pub not-given : (t : Bool) (k x : ℕ) → pick t (suc k) x ≡ 0 → (t ≡ false) × (x ≡ 0)
 not-given true k x e = absurd (omega arith)
 not-given false k x e = (refl, e)
 

@@ -1,14 +1,14 @@
 -- Lists of bytes, and the laws of lists that the claims stand on. Assumes nothing.
 use mathlib.Core.Path.{_≡_, refl, sym, _∙_, ap, subst}
 use mathlib.Core.List.{List, [], _∷_, _++_}
-use mathlib.Core.Bool.{Bool, true, false, not, _||_}
-use Prim.Native.Nat.{ℕ, zero, suc, _+_, _*_, _-_, _≤_, _<_}
+use mathlib.Core.Bool.{Bool, true, false}
+use Prim.Native.Nat.{ℕ, zero, suc, _+_, _≤_, _<_}
 use native.Mathlib.Omega.{arith}
 use lib.ListN.{length, getD, take, drop, replicate}
 use lib.Seq.{getD-drop, getD-take, drop-cons}
 use lib.Dec.{eqb}
 use borrow.Author.Tests.{eq-eqb, eqb-true}
-use Rattle.cells.specs.Pick.{pick, pick-true, pick-false}
+use Rattle.cells.specs.Pick.{pick-true, pick-false}
 use Rattle.loadfile.specs.Block.{allAre}
 
 -- every element is a byte (past the end 0 is read)
@@ -51,11 +51,6 @@ pub data Each : List ℕ → Type 0 where
 pub each-bytes : {xs : List ℕ} → Each xs → Bytes xs
 each-bytes none = bytes-none
 each-bytes (more {x = x} {xs = xs} h e) = bytes-cons x xs h (each-bytes e)
-
--- neither of two tests held
-pub neither : (p q : Bool) → (p || q) ≡ false → (p ≡ false) × (q ≡ false)
-neither true q e = (e, absurd (let z : _≡_ {A = ℕ} 0 1 = cc in omega arith))
-neither false q e = (refl, e)
 
 -- a list all of whose elements are b is b repeated, and the other way round
 pub all-repeated : (b : ℕ) (xs : List ℕ) → allAre b xs ≡ true → xs ≡ replicate (length xs) b

@@ -1,9 +1,9 @@
 -- The claims about the load file, for any limit of blocks; `limit` is the one that the promises use. Assumes nothing.
 use mathlib.Core.Path.{_≡_, refl, sym, _∙_, ap}
-use mathlib.Core.List.{List, [], _∷_, _++_}
-use mathlib.Core.Bool.{Bool, true, false, not}
+use mathlib.Core.List.{List, [], _∷_}
+use mathlib.Core.Bool.{true, not}
 use mathlib.Core.Logic.{_↔_}
-use Prim.Native.Nat.{ℕ, _+_, _*_, _-_, _%_, _≤_, _<_}
+use Prim.Native.Nat.{ℕ, _+_, _*_, _%_, _≤_, _<_}
 use native.Mathlib.Omega.{arith}
 use lib.ListN.{length, getD, take, drop, set, replicate, length-set}
 use lib.Seq.{drop-append-seam, getD-set-other}
@@ -13,7 +13,7 @@ use Rattle.cells.specs.Pick.{Unique, only}
 use Rattle.cells.specs.Numbers.{row}
 use Rattle.loadfile.specs.Check.{wsum, checkOf, checkWrong, checkFault, storedOf}
 use Rattle.loadfile.specs.Block.{isLetter}
-use Rattle.loadfile.specs.File.{limit, Outcome, refused, made, fileOf, readerOf, writerOf, inRoom, leftIn, blocksIn, payloadOf, readRows, writeRows, writtenAs, judgedAs, readAs}
+use Rattle.loadfile.specs.File.{limit, refused, made, fileOf, readerOf, writerOf, inRoom, leftIn, blocksIn, payloadOf, readRows, writeRows, writtenAs, judgedAs, readAs}
 use Rattle.loadfile.specs.Outcomes.{payload-right, payload-fits, writer-lets, writer-made}
 use Rattle.loadfile.specs.declared.Written.{Written}
 use Rattle.loadfile.specs.declared.Judged.{Judged}

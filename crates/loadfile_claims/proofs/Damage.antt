@@ -1,14 +1,14 @@
 -- One changed byte is found out by the check of its block. Assumes nothing.
 use mathlib.Core.Path.{_≡_, refl, sym, _∙_, ap, subst}
-use mathlib.Core.List.{List, [], _∷_, _++_}
+use mathlib.Core.List.{List, [], _∷_}
 use mathlib.Core.Bool.{Bool, true, false, not}
 use Prim.Native.Nat.{ℕ, zero, suc, _+_, _*_, _/_, _%_, _-_, _≤_, _<_}
 use native.Mathlib.Omega.{arith}
 use native.Mathlib.Nat.{mul-mod-right, mul-add, mul-le-mul}
-use lib.ListN.{length, getD, take, drop, set, length-set, length-take, length-drop}
+use lib.ListN.{length, getD, take, drop, set, length-set, length-drop}
 use lib.Seq.{length-take-le, take-set-lt, take-set-le, drop-set-add, getD-set-same, getD-set-other, getD-take, getD-drop}
-use lib.Dec.{eqb, ltb, leb}
-use borrow.Author.Tests.{eq-eqb, ne-eqb, eqb-true, eqb-false, ltb-true, ltb-false, leb-true, leb-false, not-false}
+use lib.Dec.{eqb, ltb}
+use borrow.Author.Tests.{ne-eqb, eqb-true, eqb-false, ltb-true, ltb-false, not-false}
 use Rattle.cells.specs.Pick.{pick, pick-true, pick-false}
 use Rattle.cells.specs.Numbers.{given}
 use Rattle.loadfile.specs.Check.{wsum, checkOf, checkWrong, storedOf, pair}

@@ -3,15 +3,14 @@ use mathlib.Core.Path.{_≡_, refl, sym, _∙_, ap, subst}
 use mathlib.Core.List.{List, [], _∷_, _++_, append-assoc}
 use mathlib.Core.Bool.{Bool, true, false, not}
 use mathlib.Core.Logic.{_↔_}
-use Prim.Native.Nat.{ℕ, zero, suc, _+_, _*_, _-_, _≤_, _<_}
+use Prim.Native.Nat.{ℕ}
 use native.Mathlib.Omega.{arith}
 use lib.ListN.{length, getD}
 use lib.Dec.{eqb, ltb}
-use borrow.Author.Tests.{eqb-true, eqb-false, eq-eqb, ne-eqb}
+use borrow.Author.Tests.{eqb-false, eq-eqb}
 use Rattle.cells.specs.Pick.{pick, pick-true, pick-false}
-use Rattle.cells.specs.Numbers.{Row, row, given, Foremost, here, below, NoRow, end, past, numbered, foremost-given, no-row-given, given-foremost, given-no-row, given-append}
-use Rattle.loadfile.specs.Block.{isLetter}
-use Rattle.loadfile.specs.File.{Outcome, refused, made, outcomeBy, inRoom, fileOf, payloadOf, blocksIn, payloadWrong, lengthWrong, writeRows, readRows, blocksRows, readerOf, writerOf}
+use Rattle.cells.specs.Numbers.{Row, row, given, Foremost, here, below, NoRow, numbered, foremost-given, no-row-given, given-foremost, given-no-row, given-append}
+use Rattle.loadfile.specs.File.{Outcome, refused, made, outcomeBy, inRoom, fileOf, payloadOf, blocksIn, lengthWrong, writeRows, readRows, blocksRows, readerOf, writerOf}
 use Rattle.loadfile.specs.Tables.{blocks-append, blocks-numbered}
 use Rattle.loadfile.specs.Outcomes.{outcome-refused, outcome-made, outcome-lets}
 

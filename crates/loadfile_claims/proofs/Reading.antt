@@ -1,29 +1,25 @@
 -- What is read could have been written: one block, then all. Assumes nothing.
-use mathlib.Core.Path.{_≡_, refl, sym, _∙_, ap, subst}
-use mathlib.Core.List.{List, [], _∷_, _++_, append-assoc, append-nil}
-use mathlib.Core.Bool.{Bool, true, false, not, _||_}
+use mathlib.Core.Path.{_≡_, sym, _∙_, ap}
+use mathlib.Core.List.{List, [], _∷_, _++_, append-nil}
+use mathlib.Core.Bool.{true, false, not}
 use Prim.Native.Nat.{ℕ, zero, suc, _+_, _*_, _/_, _%_, _-_, _≤_, _<_}
 use native.Mathlib.Omega.{arith}
-use lib.ListN.{length, getD, take, drop, replicate, length-append, length-take, length-drop, length-replicate, take-append-drop}
-use lib.Seq.{take-at, drop-at, take-all, take-add, drop-drop, drop-cons, drop-length, length-take-le, getD-take}
+use lib.ListN.{length, getD, take, drop, replicate, length-drop, take-append-drop}
+use lib.Seq.{take-at, drop-at, take-all, take-add, drop-drop, drop-cons, drop-length, length-take-le}
 use lib.Dec.{eqb}
 use borrow.Author.Tests.{eqb-true, not-false}
-use Rattle.cells.specs.Pick.{pick}
 use Rattle.cells.specs.Numbers.{given}
-use Rattle.loadfile.specs.Check.{checkOf, checkWrong, storedOf, pair}
-use Rattle.loadfile.specs.Block.{isLetter, allAre, headOf, frontOf, sealed, blockOf, usedOf, part, letterWrong, placeWrong, usedWrong, paddingWrong, blockRows}
+use Rattle.loadfile.specs.Check.{checkOf, checkWrong, storedOf}
+use Rattle.loadfile.specs.Block.{isLetter, headOf, frontOf, sealed, blockOf, usedOf, part, letterWrong, placeWrong, paddingWrong}
 use Rattle.loadfile.specs.File.{countOf, blocksOf, fileOf, blocksRows, payloadOf, blocksIn, made, readerOf, writerOf}
-use Rattle.loadfile.specs.Tables.{Right, right}
+use Rattle.loadfile.specs.Tables.{Right, right, none-of-two}
 use Rattle.loadfile.specs.Sizes.{used-last, used-other, sized}
 use Rattle.loadfile.specs.Outcomes.{length-right, payload-fits, reader-lets, writer-made}
-use Rattle.loadfile_claims.proofs.Bytes.{Bytes, bytes-drop, byte-take, neither, all-repeated, first-five}
+use Rattle.loadfile_claims.proofs.Bytes.{Bytes, bytes-drop, byte-take, all-repeated, first-five}
 
 -- one right block of bytes
 module _ (first i n : ℕ) (b : List ℕ) (r : Right first i n b) (long : length b ≡ 512) (few : usedOf b ≤ 505)
     (h₃ : getD b 3 0 < 256) (h₄ : getD b 4 0 < 256) (h₅ : getD b 511 0 < 256) where
-  chunk : List ℕ
-  chunk = take (usedOf b) (drop 5 b)
-
   chunk-size : length (take (usedOf b) (drop 5 b)) ≡ usedOf b
   chunk-size = length-take-le (usedOf b) (drop 5 b) (let q : length (drop 5 b) ≡ length b - 5 = length-drop 5 b in omega arith)
 
@@ -31,14 +27,14 @@ module _ (first i n : ℕ) (b : List ℕ) (r : Right first i n b) (long : length
   unfolding letterWrong
   letter-is =
       let w : letterWrong first b ≡ false = r .letter in
-      let t = neither (not (isLetter (getD b 0 0))) (not (eqb (getD b 0 0) first)) w in
+      let t = none-of-two (not (isLetter (getD b 0 0))) (not (eqb (getD b 0 0) first)) w in
       (not-false _ (t .0), eqb-true _ _ (not-false _ (t .1)))
 
   place-is : (getD b 1 0 ≡ i) × (getD b 2 0 ≡ n)
   unfolding placeWrong
   place-is =
       let w : placeWrong i n b ≡ false = r .place in
-      let t = neither (not (eqb (getD b 1 0) i)) (not (eqb (getD b 2 0) n)) w in
+      let t = none-of-two (not (eqb (getD b 1 0) i)) (not (eqb (getD b 2 0) n)) w in
       (eqb-true _ _ (not-false _ (t .0)), eqb-true _ _ (not-false _ (t .1)))
 
   check-is : checkOf (take 510 b) ≡ storedOf b

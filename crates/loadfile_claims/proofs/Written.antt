@@ -4,19 +4,19 @@ use mathlib.Core.List.{List, [], _∷_, _++_, append-assoc, append-nil}
 use mathlib.Core.Bool.{Bool, true, false, not, _||_}
 use Prim.Native.Nat.{ℕ, zero, suc, _+_, _*_, _/_, _%_, _-_, _≤_, _<_}
 use native.Mathlib.Omega.{arith}
-use lib.ListN.{length, getD, take, drop, replicate, length-append, length-take, length-drop, length-replicate, take-append-drop}
+use lib.ListN.{length, getD, take, drop, replicate, length-append, length-drop, length-replicate, take-append-drop}
 use lib.Seq.{take-at, drop-at, getD-at, getD-append-add, take-all, length-take-le}
 use lib.Dec.{eqb, ltb}
 use borrow.Author.Tests.{eq-eqb, ne-eqb, eqb-true, le-ltb}
-use Rattle.cells.specs.Pick.{pick, pick-true, pick-false}
+use Rattle.cells.specs.Pick.{pick-true, pick-false}
 use Rattle.cells.specs.Numbers.{given}
 use Rattle.loadfile.specs.Check.{checkOf, checkWrong, storedOf, pair}
-use Rattle.loadfile.specs.Block.{isLetter, letters, within, allAre, headOf, frontOf, sealed, blockOf, usedOf, part, letterWrong, placeWrong, usedWrong, paddingWrong, blockRows}
+use Rattle.loadfile.specs.Block.{isLetter, letters, within, allAre, headOf, frontOf, blockOf, usedOf, part, letterWrong, placeWrong, usedWrong, paddingWrong, blockRows}
 use Rattle.loadfile.specs.File.{countOf, blocksOf, fileOf, blocksRows, payloadOf, blocksIn, refused, made, lengthWrong, readerOf, writerOf}
 use Rattle.loadfile.specs.Tables.{Right, right-given}
 use Rattle.loadfile.specs.Sizes.{front-length, block-length, chunk-length, blocks-length}
 use Rattle.loadfile.specs.Outcomes.{payload-right, length-fits, reader-made, reader-35, writer-lets}
-use Rattle.loadfile_claims.proofs.Bytes.{Bytes, bytes-none, Each, none, more, each-bytes, bytes-append, bytes-take, bytes-drop, bytes-replicate, repeated-all}
+use Rattle.loadfile_claims.proofs.Bytes.{Bytes, bytes-none, none, more, each-bytes, bytes-append, bytes-take, bytes-drop, bytes-replicate, repeated-all}
 
 -- one block, from its payload bytes
 module _ (ℓ i n : ℕ) (chunk : List ℕ) (few : length chunk ≤ 505) where

@@ -1,6 +1,6 @@
 -- `loadfile::all_ff` meets its contract: what was passed is FFH, so the rest decides. Assumes nothing.
 use mathlib.Core.Path.{_≡_, refl, sym, ap, _∙_}
-use Prim.Native.Nat.{ℕ, _≤_, _-_, _<_}
+use Prim.Native.Nat.{_≤_, _-_}
 use native.Mathlib.Omega.{arith}
 use lib.ListN.{length, drop, drop-of-length-le}
 use Rattle.loadfile.specs.Block.{allAre}

@@ -1,13 +1,13 @@
 -- `loadfile::blocks_fault` meets its contract: the blocks passed are right, so the rest decides. Assumes nothing.
-use mathlib.Core.Path.{_≡_, refl, sym, ap, _∙_}
-use mathlib.Core.List.{List, [], _++_, append-nil}
-use Prim.Native.Nat.{ℕ, _≤_, _-_, _<_, _+_, _*_, min}
+use mathlib.Core.Path.{_≡_, sym, ap, _∙_}
+use mathlib.Core.List.{[]}
+use Prim.Native.Nat.{ℕ, _≤_, _-_, _+_, _*_}
 use native.Mathlib.Omega.{arith}
 use borrow.Author.Needs.{needs}
-use lib.ListN.{length, getD, take, drop, length-take, length-drop}
+use lib.ListN.{getD, take, drop}
 use lib.Dec.{eqb}
 use borrow.Author.Tests.{eq-eqb, ne-eqb}
-use Rattle.cells.specs.Pick.{pick, pick-true, pick-false}
+use Rattle.cells.specs.Pick.{pick-true, pick-false}
 use Rattle.cells.specs.Numbers.{given}
 use Rattle.loadfile.specs.Block.{blockRows}
 use Rattle.loadfile.specs.File.{blocksRows}

@@ -1,6 +1,5 @@
 -- `loadfile::check` meets its contract: what is summed and what is left to sum make up the whole. Assumes nothing.
 use mathlib.Core.Path.{_≡_, refl, sym, ap, _∙_}
-use mathlib.Core.List.{List}
 use Prim.Native.Nat.{ℕ, _≤_, _-_, _<_, _+_, _*_, _%_, min}
 use native.Mathlib.Omega.{arith}
 use borrow.Author.Needs.{needs}

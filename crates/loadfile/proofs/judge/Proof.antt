@@ -1,14 +1,14 @@
 -- `loadfile::judge` meets its contract, by one law for each way out. Assumes nothing.
 use borrow.Author.Needs.{needs}
-use mathlib.Core.Path.{_≡_, refl, sym, ap, _∙_}
-use mathlib.Core.List.{List, [], _++_}
-use mathlib.Core.Bool.{true, false}
-use Prim.Native.Nat.{ℕ, _≤_, _-_, _<_, _+_, _*_, _/_}
+use mathlib.Core.Path.{_≡_, sym, ap, _∙_}
+use mathlib.Core.List.{[]}
+use mathlib.Core.Bool.{false}
+use Prim.Native.Nat.{_+_}
 use native.Mathlib.Omega.{arith}
-use lib.ListN.{length, getD, take, drop}
+use lib.ListN.{length, getD}
 use Rattle.cells.specs.Numbers.{given}
 use Rattle.loadfile.specs.declared.Judged.the-variants.{Sound}
-use Rattle.loadfile.specs.File.{limit, lengthWrong, blocksRows, blocksIn, readerOf, judgedAs}
+use Rattle.loadfile.specs.File.{limit, lengthWrong, blocksRows, blocksIn, judgedAs}
 use Rattle.loadfile.specs.Sizes.{sized}
 use Rattle.loadfile.specs.Outcomes.{length-right, reader-30, reader-block, reader-35, reader-made}
 use Rattle.loadfile.proofs.judge.Statement.{statement}

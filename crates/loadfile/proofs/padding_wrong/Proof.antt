@@ -1,49 +1,37 @@
+-- `loadfile::padding_wrong` meets its contract. Assumes nothing.
 use borrow.Author.Needs.{needs}
 use native.Mathlib.Omega.{arith}
-use borrow.Author.Tests.{lt-ltb, le-ltb, le-leb, lt-leb, eq-eqb, ne-eqb}
 use mathlib.Core.Path.{_≡_, sym, ap, _∙_}
 use mathlib.Core.Bool.{not}
 use Rattle.loadfile.specs.Block.{usedOf}
 use Rattle.loadfile.proofs.Verdicts.{no-padding, padding-is}
 use Rattle.loadfile.proofs.padding_wrong.Statement.{statement}
 use Rattle.loadfile.proofs.padding_wrong.Tie as tie
-use Rattle.loadfile.proofs.padding_wrong.Reads as reads
-use Rattle.loadfile.proofs.padding_wrong.Lts as lts
-use Rattle.loadfile.proofs.all_ff.Reads as all-ff-reads
-use Rattle.loadfile.proofs.used.Reads as used-reads
 
--- src/lib.rt:146:9
 used-requires : tie.Need-used-requires
 used-requires c κs = search needs
 
--- src/lib.rt:148:9
 returns : tie.Need-returns
 returns c =
     let b = c .before .before .before .args .block .now in
     let u : c .before .used .result ≡ usedOf b = c .before .used .ensures .0 in
     sym (no-padding b (omega arith))
 
--- src/lib.rt:150:16
 add-from : tie.Need-add-from
 add-from c = search needs
 
--- src/lib.rt:151:24
 sub-all-ff : tie.Need-sub-all-ff
 sub-all-ff c = search needs
 
--- src/lib.rt:151:24
 part-all-ff-start : tie.Need-part-all-ff-start
 part-all-ff-start c = search needs
 
--- src/lib.rt:151:24
 part-all-ff-end : tie.Need-part-all-ff-end
 part-all-ff-end c = search needs
 
--- src/lib.rt:151:9
 all-ff-requires : tie.Need-all-ff-requires
 all-ff-requires c κs = search needs
 
--- src/lib.rt:142:1
 returns-2 : tie.Need-returns-2
 returns-2 c =
     let m = c .before .before .before in

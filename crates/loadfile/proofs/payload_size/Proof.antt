@@ -1,3 +1,4 @@
+-- `loadfile::payload_size` meets its contract. Assumes nothing.
 use borrow.Author.Needs.{needs}
 use mathlib.Core.Path.{_≡_, ap, _∙_}
 use Prim.Native.Nat.{ℕ, _+_, _-_, _*_}
@@ -6,47 +7,34 @@ use lib.ListN.{take, drop}
 use Rattle.loadfile.specs.Block.{usedOf}
 use Rattle.loadfile.proofs.payload_size.Statement.{statement}
 use Rattle.loadfile.proofs.payload_size.Tie as tie
-use Rattle.loadfile.proofs.payload_size.Reads as reads
-use Rattle.loadfile.proofs.payload_size.Lts as lts
-use Rattle.loadfile.proofs.used.Reads as used-reads
 
--- src/lib.rt:213:17
 sub-whole : tie.Need-sub-whole
 sub-whole c = search needs
 
--- src/lib.rt:214:16
 mul-from : tie.Need-mul-from
 mul-from c = search needs
 
--- src/lib.rt:215:14
 add-to : tie.Need-add-to
 add-to c = search needs
 
--- src/lib.rt:216:5
 mul-result : tie.Need-mul-result
 mul-result c = search needs
 
--- src/lib.rt:216:24
 sub-used : tie.Need-sub-used
 sub-used c = search needs
 
--- src/lib.rt:216:24
 part-used-start : tie.Need-part-used-start
 part-used-start c = search needs
 
--- src/lib.rt:216:24
 part-used-end : tie.Need-part-used-end
 part-used-end c = search needs
 
--- src/lib.rt:216:19
 used-requires : tie.Need-used-requires
 used-requires c κs = search needs
 
--- src/lib.rt:216:5
 add-result : tie.Need-add-result
 add-result c = search needs
 
--- src/lib.rt:209:1
 returns : tie.Need-returns
 returns c =
     let a = c .before .before .before .args in

@@ -1,13 +1,11 @@
 -- `loadfile::read` meets its contract: the judgement, the room, and the payload in the front of the buffer. Assumes nothing.
 use borrow.Author.Needs.{needs}
-use mathlib.Core.Path.{_≡_, refl, sym, ap, _∙_}
-use mathlib.Core.List.{List, [], _++_}
-use mathlib.Core.Bool.{true, false}
-use Prim.Native.Nat.{ℕ, _≤_, _-_, _<_, _+_, _*_, _/_}
+use mathlib.Core.Path.{_≡_, sym, ap, _∙_}
+use Prim.Native.Nat.{ℕ, _/_}
 use native.Mathlib.Omega.{arith}
-use lib.ListN.{length, getD, take, drop}
+use lib.ListN.{length, take}
 use Rattle.loadfile.specs.declared.ReadBack.the-variants.{Gave}
-use Rattle.loadfile.specs.File.{limit, Outcome, refused, made, inRoom, leftIn, placesOf, readerOf, readAs}
+use Rattle.loadfile.specs.File.{limit, refused, inRoom, leftIn, placesOf, readerOf, readAs}
 use Rattle.loadfile.specs.Outcomes.{judged-refused}
 use Rattle.loadfile.proofs.Answers.{held, too-short, long-enough, front-of, cut}
 use Rattle.loadfile.proofs.read.Statement.{statement}

@@ -1,16 +1,12 @@
 -- `loadfile::write` meets its contract, by one law for each way out. Assumes nothing.
 use borrow.Author.Needs.{needs}
-use mathlib.Core.Path.{_≡_, refl, sym, ap, _∙_}
-use mathlib.Core.List.{List, [], _++_}
-use mathlib.Core.Bool.{true, false}
-use Prim.Native.Nat.{ℕ, _≤_, _-_, _<_, _+_, _*_, _/_}
+use mathlib.Core.Path.{_≡_, sym, ap, _∙_}
+use Prim.Native.Nat.{_*_}
 use native.Mathlib.Omega.{arith}
-use lib.ListN.{length, getD, take, drop}
-use mathlib.Core.Bool.{not}
+use lib.ListN.{length}
 use borrow.Author.Tests.{not-true, not-false}
 use Rattle.loadfile.specs.declared.Written.the-variants.{Wrote}
-use Rattle.loadfile.specs.Block.{isLetter}
-use Rattle.loadfile.specs.File.{limit, Outcome, refused, made, inRoom, leftIn, countOf, fileOf, payloadWrong, writerOf, writtenAs}
+use Rattle.loadfile.specs.File.{limit, refused, made, inRoom, leftIn, countOf, fileOf, writerOf, writtenAs}
 use Rattle.loadfile.specs.Sizes.{blocks-length}
 use Rattle.loadfile.specs.Outcomes.{payload-right, writer-32, writer-36, writer-made, room-37, room-made}
 use Rattle.loadfile.proofs.Answers.{front-of, cut}

@@ -1,9 +1,8 @@
 -- `loadfile_vectors::digest` is safe and ends. Assumes nothing.
-use Prim.Native.Nat.{_≤_, _-_, _<_, _*_, _/_}
-use mathlib.Core.Path.{_≡_, refl, _∙_}
+use Prim.Native.Nat.{_≤_, _-_, _<_}
 use native.Mathlib.Omega.{arith}
 use borrow.Author.Needs.{needs}
-use lib.ListN.{length, length-set}
+use lib.ListN.{length}
 use Rattle.loadfile_vectors.proofs.digest.Statement.{statement}
 use Rattle.loadfile_vectors.proofs.digest.Tie as tie
 

@@ -1,6 +1,6 @@
 -- `loadfile_vectors::pattern` is safe and ends. Assumes nothing.
-use Prim.Native.Nat.{_≤_, _-_, _<_, _*_, _/_}
-use mathlib.Core.Path.{_≡_, refl, _∙_}
+use Prim.Native.Nat.{_≤_, _-_}
+use mathlib.Core.Path.{_≡_}
 use native.Mathlib.Omega.{arith}
 use borrow.Author.Needs.{needs}
 use lib.ListN.{length, length-set}
