@@ -33,7 +33,7 @@ pub fn fill(s: &mut [u8], b: u8)
 }
 
 // The smaller of two lengths.
-fn least(a: usize, b: usize) -> usize
+pub fn least(a: usize, b: usize) -> usize
     ensures { λ r. ⌜ r ≡ Prim.Native.Nat.min a b ⌝ }
 {
     if a < b {

@@ -1,0 +1,4 @@
+pub mod Walks
+pub mod Verdicts
+pub mod Parts
+pub mod Answers

@@ -1,0 +1,6 @@
+pub mod Bytes
+pub mod Written
+pub mod Reading
+pub mod Damage
+pub mod Order
+pub mod Claims

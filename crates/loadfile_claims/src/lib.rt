@@ -1,0 +1,1 @@
+// The claims about the load file. Nothing runs here: the laws are in proofs/.
