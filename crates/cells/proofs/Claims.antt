@@ -1,7 +1,7 @@
 -- Two results that a promise allows are equal, for each public function of this crate. Assumes nothing.
 use mathlib.Core.Path.{_≡_}
 use mathlib.Core.List.{List}
-use Prim.Native.Nat.{ℕ, _<_}
+use Prim.Native.Nat.{ℕ, _<_, min}
 use lib.ListN.{length, getD, replicate}
 use Rattle.cells.specs.Pick.{Unique, only}
 use Rattle.cells.specs.Lists.{copied}
@@ -18,3 +18,6 @@ fill-unique s b = only (replicate (length s) b)
 
 pub copy-unique : (dst src : List ℕ) → Unique (λ (left : List ℕ). left ≡ copied dst src)
 copy-unique dst src = only (copied dst src)
+
+pub least-unique : (a b : ℕ) → Unique (λ (r : ℕ). r ≡ min a b)
+least-unique a b = only (min a b)

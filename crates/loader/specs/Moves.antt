@@ -1,0 +1,159 @@
+-- The loader's moves: the cycle that is out, what its byte does to scratch, and the record after it. Assumes nothing.
+use mathlib.Core.Bool.{Bool, true, false, not, _&&_, _||_}
+use mathlib.Core.List.{List}
+use Prim.Native.Nat.{ℕ, suc, _+_, _-_, _/_, _%_}
+use lib.ListN.{length, getD, set, replicate}
+use lib.Dec.{eqb, ltb, leb}
+use Rattle.cells.specs.Pick.{pick}
+use Rattle.device.specs.declared.Part.{Part}
+use Rattle.device.specs.Parts.{startOf}
+use Rattle.chip.specs.declared.Pins.{Pins}
+use Rattle.chip.specs.declared.Kind.{Kind}
+use Rattle.chip.specs.declared.Kind.the-variants.{Read, Write, Idle}
+use Rattle.chip.specs.declared.Cycle.{Cycle}
+use Rattle.loader.specs.declared.Stage.{Stage}
+use Rattle.loader.specs.declared.Stage.the-variants.{Clearing, Opening, Reading, EraseAsking, EraseConfirming, EraseWaiting, ProgramAsking, ProgramSending, ProgramWaiting, Closing, Verifying, Ended}
+use Rattle.loader.specs.declared.Loader.{Loader}
+use Rattle.loader.specs.Walks.{risesIn, diffFrom}
+
+-- the block's first address
+unfoldable pub firstOf : Loader → ℕ
+firstOf l = startOf (l .part) (l .block)
+
+-- no block is that long: a place beyond it belongs to no record that is taken
+abbrev pub reach : ℕ
+reach = 16777216
+
+-- the address of the byte at the record's place
+unfoldable pub hereOf : Loader → ℕ
+hereOf l = pick (ltb (l .place) reach) (firstOf l + l .place) (firstOf l)
+
+-- a cycle at an address with the record's levels, OE# normal
+abbrev pub cycleAt : Loader → Kind → ℕ → ℕ → Cycle
+cycleAt l kind address byte = record { kind = kind; pins = l .pins; oe = 0; address = address; byte = byte }
+
+-- the cycle that is out: commands and an erase's polls at the block's first address, all about one byte at that byte
+abbrev pub cycleIn : Stage → Loader → List ℕ → Cycle
+cycleIn Clearing l w = cycleAt l Write (firstOf l) 0x50
+cycleIn Opening l w = cycleAt l Write (firstOf l) 0xFF
+cycleIn Reading l w = cycleAt l Read (hereOf l) 0
+cycleIn EraseAsking l w = cycleAt l Write (firstOf l) 0x20
+cycleIn EraseConfirming l w = cycleAt l Write (firstOf l) 0xD0
+cycleIn EraseWaiting l w = cycleAt l Read (firstOf l) 0
+cycleIn ProgramAsking l w = cycleAt l Write (hereOf l) 0x40
+cycleIn ProgramSending l w = cycleAt l Write (hereOf l) (getD w (l .place) 0)
+cycleIn ProgramWaiting l w = cycleAt l Read (hereOf l) 0
+cycleIn Closing l w = cycleAt l Write (firstOf l) 0xFF
+cycleIn Verifying l w = cycleAt l Read (hereOf l) 0
+cycleIn (Ended n) l w = cycleAt l Idle (firstOf l) 0
+
+abbrev pub cycleOf : Loader → List ℕ → Cycle
+cycleOf l w = cycleIn (l .stage) l w
+
+-- the record at another stage, place and count of polls
+abbrev pub at : Loader → Stage → ℕ → ℕ → Loader
+at l stage place polls = record { part = l .part; pins = l .pins; block = l .block; stage = stage; place = place; polls = polls }
+
+-- the end by a number, at the record's place
+abbrev pub endedBy : Loader → ℕ → Loader
+endedBy l n = at l (Ended n) (l .place) 0
+
+-- SR.7 of a status
+abbrev pub isReady : ℕ → Bool
+isReady sr = leb 128 sr
+
+-- bit k of a status as a test: SR.3, SR.4, SR.5
+abbrev pub sr3 : ℕ → Bool
+sr3 sr = eqb (sr / 8 % 2) 1
+
+abbrev pub sr4 : ℕ → Bool
+sr4 sr = eqb (sr / 16 % 2) 1
+
+abbrev pub sr5 : ℕ → Bool
+sr5 sr = eqb (sr / 32 % 2) 1
+
+-- SR.4 and SR.5 together: a wrong second write
+unfoldable pub bothErrors : ℕ → Bool
+bothErrors sr = sr4 sr && sr5 sr
+
+-- a ready status of an erase: 21 with SR.3, else 22 with SR.4 and SR.5, else 23 with SR.5, else 0
+unfoldable pub eraseFault : ℕ → ℕ
+eraseFault sr = pick (sr3 sr) 21 (pick (bothErrors sr) 22 (pick (sr5 sr) 23 0))
+
+-- a ready status of a program: the same with 24 and SR.4
+unfoldable pub programFault : ℕ → ℕ
+programFault sr = pick (sr3 sr) 21 (pick (bothErrors sr) 22 (pick (sr4 sr) 24 0))
+
+-- an erase that ended well
+unfoldable pub erasedWell : ℕ → Bool
+erasedWell sr = isReady sr && eqb (eraseFault sr) 0
+
+-- what the byte does to scratch: reads store it, an erase that ended well fills it with ones
+abbrev pub storeIn : Stage → ℕ → ℕ → List ℕ → List ℕ
+storeIn Clearing place b sc = sc
+storeIn Opening place b sc = sc
+storeIn Reading place b sc = set sc place b
+storeIn EraseAsking place b sc = sc
+storeIn EraseConfirming place b sc = sc
+storeIn EraseWaiting place b sc = pick (erasedWell b) (replicate (length sc) 255) sc
+storeIn ProgramAsking place b sc = sc
+storeIn ProgramSending place b sc = sc
+storeIn ProgramWaiting place b sc = sc
+storeIn Closing place b sc = sc
+storeIn Verifying place b sc = set sc place b
+storeIn (Ended n) place b sc = sc
+
+abbrev pub storeOf : Loader → ℕ → List ℕ → List ℕ
+storeOf l b sc = storeIn (l .stage) (l .place) b sc
+
+-- on to the first differing byte from place i on, or to the verify
+unfoldable pub onward : Loader → ℕ → List ℕ → List ℕ → Loader
+onward l i w sc = pick (ltb (diffFrom i w sc) (length w)) (at l ProgramAsking (diffFrom i w sc) 0) (at l Closing 0 0)
+
+-- after the first reads: an erase if some bit must rise
+unfoldable pub afterReads : Loader → List ℕ → List ℕ → Loader
+afterReads l w sc = pick (risesIn w sc) (at l EraseAsking 0 0) (onward l 0 w sc)
+
+-- one byte of the first reads is in: the next, or what follows them
+unfoldable pub readMore : Loader → List ℕ → List ℕ → Loader
+readMore l w sc = pick (ltb (l .place) (length w - 1)) (at l Reading (l .place + 1) 0) (afterReads l w sc)
+
+-- a poll without SR.7: another, or 20 as the 65,535th is taken
+unfoldable pub pollMore : Loader → Stage → Loader
+pollMore l stage = pick (leb 65534 (l .polls)) (endedBy l 20) (at l stage (l .place) (l .polls + 1))
+
+-- a poll of the erase is in
+unfoldable pub erasePolled : Loader → ℕ → List ℕ → List ℕ → Loader
+erasePolled l b w sc = pick (isReady b) (pick (eqb (eraseFault b) 0) (onward l 0 w sc) (endedBy l (eraseFault b))) (pollMore l EraseWaiting)
+
+-- the place after p, no further than the end
+unfoldable pub past : ℕ → ℕ → ℕ
+past p n = pick (ltb p n) (p + 1) p
+
+-- a poll of a program is in
+unfoldable pub programPolled : Loader → ℕ → List ℕ → List ℕ → Loader
+programPolled l b w sc =
+    pick (isReady b) (pick (eqb (programFault b) 0) (onward l (past (l .place) (length w)) w sc) (endedBy l (programFault b))) (pollMore l ProgramWaiting)
+
+-- one byte of the verify is in: 25 where it differs, else the next, or the end
+unfoldable pub verifyMore : Loader → ℕ → List ℕ → Loader
+verifyMore l b w =
+    pick (eqb b (getD w (l .place) 0)) (pick (ltb (l .place) (length w - 1)) (at l Verifying (l .place + 1) 0) (endedBy l 0)) (endedBy l 25)
+
+-- the record after a byte, by what is wanted and the scratch that the byte leaves
+abbrev pub nextIn : Stage → Loader → ℕ → List ℕ → List ℕ → Loader
+nextIn Clearing l b w sc = at l Opening 0 0
+nextIn Opening l b w sc = at l Reading 0 0
+nextIn Reading l b w sc = readMore l w sc
+nextIn EraseAsking l b w sc = at l EraseConfirming 0 0
+nextIn EraseConfirming l b w sc = at l EraseWaiting 0 0
+nextIn EraseWaiting l b w sc = erasePolled l b w sc
+nextIn ProgramAsking l b w sc = at l ProgramSending (l .place) 0
+nextIn ProgramSending l b w sc = at l ProgramWaiting (l .place) 0
+nextIn ProgramWaiting l b w sc = programPolled l b w sc
+nextIn Closing l b w sc = at l Verifying 0 0
+nextIn Verifying l b w sc = verifyMore l b w
+nextIn (Ended n) l b w sc = l
+
+abbrev pub nextOf : Loader → ℕ → List ℕ → List ℕ → Loader
+nextOf l b w sc = nextIn (l .stage) l b w sc

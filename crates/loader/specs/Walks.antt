@@ -1,0 +1,30 @@
+-- Walks over what is wanted and what the block held: by the bytes left, at a place. Assumes nothing.
+use mathlib.Core.Bool.{Bool, true, false, not, _||_}
+use mathlib.Core.List.{List}
+use Prim.Native.Nat.{ℕ, zero, suc, _+_, _-_}
+use lib.ListN.{length, getD}
+use lib.Bits.{bitAnd}
+use lib.Dec.{eqb}
+use Rattle.cells.specs.Pick.{pick}
+
+-- some bit is 1 in the wanted byte where the held byte has a 0
+abbrev pub mustRise : ℕ → ℕ → Bool
+mustRise held wanted = not (eqb (bitAnd held wanted) wanted)
+
+-- some bit must rise in the k bytes from place i on
+abbrev pub rises : ℕ → ℕ → List ℕ → List ℕ → Bool
+rises zero i w s = false
+rises (suc k) i w s = mustRise (getD s i 0) (getD w i 0) || rises k (i + 1) w s
+
+-- the first place from i on, within k bytes, where the two differ; the place after them where none does
+abbrev pub nextDiff : ℕ → ℕ → List ℕ → List ℕ → ℕ
+nextDiff zero i w s = i
+nextDiff (suc k) i w s = pick (eqb (getD s i 0) (getD w i 0)) (nextDiff k (i + 1) w s) i
+
+-- some bit of the block must rise
+unfoldable pub risesIn : List ℕ → List ℕ → Bool
+risesIn w s = rises (length w) 0 w s
+
+-- the first place from i on where the block differs from what is wanted, or its length
+unfoldable pub diffFrom : ℕ → List ℕ → List ℕ → ℕ
+diffFrom i w s = nextDiff (length w - i) i w s

@@ -1,0 +1,49 @@
+// The steppable loader: the bus cycles for one flash block, one a step. It gives a cycle, takes the byte read, and gives
+// the next, as a record that goes in and comes out by value.
+pub mod front;
+pub mod moves;
+pub mod walk;
+
+use chip::Cycle;
+use chip::Pins;
+use device::Part;
+
+// Which cycle is out. `Ended` holds the number of the end: 0 for well.
+pub enum Stage {
+    Clearing,
+    Opening,
+    Reading,
+    EraseAsking,
+    EraseConfirming,
+    EraseWaiting,
+    ProgramAsking,
+    ProgramSending,
+    ProgramWaiting,
+    Closing,
+    Verifying,
+    Ended(u8),
+}
+
+// The loader's record: the part, the block and the levels it works with, the cycle that is out, the place in the block, and
+// the polls of the operation that is waited for.
+pub struct Loader {
+    pub part: Part,
+    pub pins: Pins,
+    pub block: u8,
+    pub stage: Stage,
+    pub place: usize,
+    pub polls: u32,
+}
+
+// What a step answers: the next cycle, the end with its number and, for 25, its array address, or a refusal.
+pub enum Turn {
+    Out(Cycle),
+    Over(u8, u32),
+    Barred(u8),
+}
+
+// The answer beside the next record.
+pub struct Given {
+    pub turn: Turn,
+    pub loader: Loader,
+}

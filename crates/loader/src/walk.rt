@@ -1,0 +1,48 @@
+// Walks over what is wanted and what the block held.
+ghost use mathlib.Core.Path.{_≡_};
+ghost use lib.ListN.{set};
+ghost use Rattle.loader.specs.Walks.{mustRise, risesIn, diffFrom};
+
+// Some bit is 1 in the wanted byte where the held byte has a 0.
+fn must_rise(held: u8, wanted: u8) -> bool
+    ensures { λ r. ⌜ r ≡ mustRise held wanted ⌝ }
+{
+    !(held & wanted == wanted)
+}
+
+// Some bit of the block must rise.
+pub(crate) fn rises_in(wanted: &[u8], scratch: &[u8]) -> bool
+    ensures { λ r. ⌜ r ≡ risesIn (now (wanted .entry)) (now (scratch .entry)) ⌝ }
+{
+    let mut i = 0;
+    while i < wanted.len() {
+        if must_rise(cells::nth(scratch, i), wanted[i]) {
+            return true;
+        }
+        i += 1;
+    }
+    false
+}
+
+// The first place from `from` on where the block differs from what is wanted, or its length.
+pub(crate) fn diff_from(from: usize, wanted: &[u8], scratch: &[u8]) -> usize
+    ensures { λ r. ⌜ r ≡ diffFrom from (now (wanted .entry)) (now (scratch .entry)) ⌝ }
+{
+    let mut i = from;
+    while i < wanted.len() {
+        if cells::nth(scratch, i) != wanted[i] {
+            return i;
+        }
+        i += 1;
+    }
+    i
+}
+
+// The byte at a place becomes b; nothing past the end.
+pub(crate) fn put(s: &mut [u8], at: usize, b: u8)
+    ensures { λ _. ⌜ now (s .exit) ≡ set (now (s .entry)) at b ⌝ }
+{
+    if at < s.len() {
+        s[at] = b;
+    }
+}
