@@ -1,0 +1,3 @@
+pub mod Measure
+pub mod Turning
+pub mod Good

@@ -1,0 +1,84 @@
+use mathlib.Core.Path.{_≡_, refl, sym, ap, _∙_}
+use borrow.Author.Tests.{eq-eqb, ne-eqb}
+use lib.ListN.{length}
+use lib.Dec.{eqb}
+use Rattle.cells.specs.Pick.{pick-true, pick-false}
+use Rattle.loader.specs.declared.Loader.{Loader}
+use Rattle.loader.specs.declared.Stage.the-variants.{Clearing}
+use Rattle.loader.specs.Front.{recordAt}
+use Rattle.run.specs.Turns.{Config}
+use Rattle.run.specs.Runs.{runNumber, begin, ranBy, driven, leftBy, ranOf, bytesOf, scratchOf}
+use Rattle.run.proofs.Good.{short}
+use borrow.Author.Needs.{needs}
+use Rattle.run.proofs.run.Statement.{statement}
+use Rattle.run.proofs.run.Tie as tie
+use Rattle.run.proofs.run.Reads as reads
+use Rattle.run.proofs.run.Lts as lts
+use Rattle.loader.proofs.front.record_at.Reads as record-at-reads
+use Rattle.run.proofs.drive.Reads as drive-reads
+use Rattle.run.proofs.run_number.Reads as run-number-reads
+
+-- src/lib.rt:199:9
+run-number-requires : tie.Need-run-number-requires
+run-number-requires c κs = search needs
+
+-- src/lib.rt:202:13
+record-at-requires : tie.Need-record-at-requires
+record-at-requires c κs = search needs
+
+-- src/lib.rt:203:9
+drive-requires : tie.Need-drive-requires
+drive-requires c κs =
+    let a = c .before .before .before .before .before .before .before .before .before .args in
+    short (a .d) (a .s) (a .p) (a .block) (length (a .array .now)) (length (a .wanted .now)) (length (a .scratch .now)) (sym (c .before .before .before .before .before .run-number .ensures) ∙ c .before .before .before .before .if1 .taken)
+
+-- src/lib.rt:203:9
+same-length : tie.Need-same-length
+same-length c = search needs
+
+-- src/lib.rt:203:9
+same-length-2 : tie.Need-same-length-2
+same-length-2 c = search needs
+
+-- src/lib.rt:203:9
+returns : tie.Need-returns
+unfolding ranOf bytesOf scratchOf leftBy
+returns c =
+    let a = c .before .before .before .before .before .before .before .before .before .before .before .before .before .before .args in
+    let xs = a .array .now in
+    let w = a .wanted .now in
+    let sc = a .scratch .now in
+    let n = runNumber (a .d) (a .s) (a .p) (a .block) (length (a .array .now)) (length (a .wanted .now)) (length (a .scratch .now)) in
+    let z = eq-eqb n 0 (sym (c .before .before .before .before .before .before .before .before .before .before .run-number .ensures) ∙ c .before .before .before .before .before .before .before .before .before .if1 .taken) in
+    let e : c .before .before .before .before .before .before .before .record-at .result ≡ recordAt (a .d .part) (a .p) (a .block) Clearing = c .before .before .before .before .before .before .before .record-at .ensures in
+    let f : Loader → Config = λ (l : Loader). driven (a .d) w (begin (a .d) (a .s) l xs sc) in (
+      c .before .before .before .before .drive .ensures .0 ∙ ap (λ (l : Loader). ranBy (f l)) e ∙ sym (pick-true (eqb n 0) _ _ z),
+      (
+        c .before .before .before .before .drive .ensures .1 .1 ∙ ap (λ (l : Loader). f l .bytes) e ∙ sym (pick-true (eqb n 0) _ _ z),
+        c .before .before .before .before .drive .ensures .1 .0 ∙ ap (λ (l : Loader). f l .scratch) e ∙ sym (pick-true (eqb n 0) _ _ z),
+      ),
+    )
+
+-- src/lib.rt:194:1
+returns-2 : tie.Need-returns-2
+unfolding ranOf bytesOf scratchOf
+returns-2 c =
+    let a = c .before .before .before .before .before .args in
+    let n = runNumber (a .d) (a .s) (a .p) (a .block) (length (a .array .now)) (length (a .wanted .now)) (length (a .scratch .now)) in
+    let e : c .before .run-number .result ≡ n = c .before .run-number .ensures in
+    let z = ne-eqb n 0 (λ q. c .if1 .left (e ∙ q)) in (
+      (λ i. record { count = 0; end = e i; address = 0; state = a .s }) ∙ sym (pick-false (eqb n 0) _ _ z),
+      (sym (pick-false (eqb n 0) _ _ z), sym (pick-false (eqb n 0) _ _ z)),
+    )
+
+pub run-spec : {M : Type 1} → statement M
+run-spec =
+    tie.close
+    (tie.spec
+    run-number-requires
+    record-at-requires
+    drive-requires
+    same-length
+    same-length-2
+    returns
+    returns-2)

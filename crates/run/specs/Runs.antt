@@ -1,0 +1,88 @@
+-- A run: its tests, its beginning and what it returns. Assumes nothing.
+use mathlib.Core.Bool.{Bool, true, false, not}
+use mathlib.Core.List.{List, [], _∷_}
+use Prim.Native.Nat.{ℕ}
+use lib.ListN.{length}
+use lib.Dec.{eqb}
+use Rattle.cells.specs.Pick.{pick}
+use Rattle.cells.specs.Numbers.{Row, row, given}
+use Rattle.device.specs.declared.Device.{Device}
+use Rattle.device.specs.Parts.{unknownDevice, sizeOf}
+use Rattle.chip.specs.declared.Pins.{Pins}
+use Rattle.chip.specs.declared.Phase.{Phase}
+use Rattle.chip.specs.declared.Phase.the-variants.{Free, EraseAwaited, DataAwaited, Programming, Erasing, Suspended}
+use Rattle.chip.specs.declared.State.{State}
+use Rattle.chip.specs.States.{improper}
+use Rattle.loader.specs.declared.Stage.{Stage}
+use Rattle.loader.specs.declared.Stage.the-variants.{Clearing, Opening, Reading, EraseAsking, EraseConfirming, EraseWaiting, ProgramAsking, ProgramSending, ProgramWaiting, Closing, Verifying, Ended}
+use Rattle.loader.specs.declared.Loader.{Loader}
+use Rattle.loader.specs.Front.{barredPins, noBlock, wrongLengths, recordAt, endAddress}
+use Rattle.run.specs.declared.Ran.{Ran}
+use Rattle.run.specs.Turns.{Config, after, bound}
+
+-- refusal 12: something is awaited, running or suspended
+abbrev pub underWay : Phase → Bool
+underWay Free = false
+underWay EraseAwaited = true
+underWay DataAwaited = true
+underWay (Programming b) = true
+underWay Erasing = true
+underWay Suspended = true
+
+-- the tests of a run, in their order
+abbrev pub runRows : Device → State → Pins → ℕ → ℕ → ℕ → ℕ → List Row
+runRows d s p k array w sc =
+    row 1 (unknownDevice d)
+    ∷ row 2 (not (eqb array (sizeOf (d .part))))
+    ∷ row 3 (improper d s)
+    ∷ row 4 (barredPins (d .part) p)
+    ∷ row 10 (noBlock (d .part) k)
+    ∷ row 11 (wrongLengths (d .part) k w sc)
+    ∷ row 12 (underWay (s .phase))
+    ∷ []
+
+unfoldable pub runNumber : Device → State → Pins → ℕ → ℕ → ℕ → ℕ → ℕ
+runNumber d s p k array w sc = given (runRows d s p k array w sc)
+
+-- the number of the end; a load that has not ended has none, and 255 stands for that
+abbrev pub endOf : Stage → ℕ
+endOf Clearing = 255
+endOf Opening = 255
+endOf Reading = 255
+endOf EraseAsking = 255
+endOf EraseConfirming = 255
+endOf EraseWaiting = 255
+endOf ProgramAsking = 255
+endOf ProgramSending = 255
+endOf ProgramWaiting = 255
+endOf Closing = 255
+endOf Verifying = 255
+endOf (Ended n) = n
+
+-- the beginning of a load
+abbrev pub begin : Device → State → Loader → List ℕ → List ℕ → Config
+begin d s l xs sc = record { loader = l; state = s; bytes = xs; scratch = sc; count = 0 }
+
+-- what is returned of a load under way
+abbrev pub ranBy : Config → Ran
+ranBy c = record { count = c .count; end = endOf (c .loader .stage); address = endAddress (c .loader) (endOf (c .loader .stage)); state = c .state }
+
+-- the load made to its end
+unfoldable pub driven : Device → List ℕ → Config → Config
+driven d w c = after (bound (length w)) d w c
+
+-- a whole run, as it is left
+unfoldable pub leftBy : Device → State → Pins → ℕ → List ℕ → List ℕ → List ℕ → Config
+leftBy d s p k xs w sc = driven d w (begin d s (recordAt (d .part) p k Clearing) xs sc)
+
+-- what a run returns, and what it leaves in the array and in scratch; a refusal counts no cycle and touches nothing
+unfoldable pub ranOf : Device → State → Pins → ℕ → List ℕ → List ℕ → List ℕ → Ran
+ranOf d s p k xs w sc =
+    pick (eqb (runNumber d s p k (length xs) (length w) (length sc)) 0) (ranBy (leftBy d s p k xs w sc))
+    (record { count = 0; end = runNumber d s p k (length xs) (length w) (length sc); address = 0; state = s })
+
+unfoldable pub bytesOf : Device → State → Pins → ℕ → List ℕ → List ℕ → List ℕ → List ℕ
+bytesOf d s p k xs w sc = pick (eqb (runNumber d s p k (length xs) (length w) (length sc)) 0) (leftBy d s p k xs w sc .bytes) xs
+
+unfoldable pub scratchOf : Device → State → Pins → ℕ → List ℕ → List ℕ → List ℕ → List ℕ
+scratchOf d s p k xs w sc = pick (eqb (runNumber d s p k (length xs) (length w) (length sc)) 0) (leftBy d s p k xs w sc .scratch) sc

@@ -1,0 +1,237 @@
+// The loader run against the model: the cycles are made one after the other until the load ends, and counted.
+use chip::Phase;
+use chip::Pins;
+use chip::State;
+use device::Device;
+use device::Part;
+use loader::Loader;
+use loader::Stage;
+use loader::front::barred_pins;
+use loader::front::end_address;
+use loader::front::no_block;
+use loader::front::record_at;
+use loader::front::wrong_lengths;
+use loader::moves::advance;
+use loader::moves::ended_by;
+use loader::moves::out;
+use model::Seen;
+ghost use mathlib.Core.Path.{_≡_};
+ghost use mathlib.Core.Bool.{not};
+ghost use Prim.Native.Nat.{_≤_};
+ghost use lib.ListN.{length};
+ghost use lib.Dec.{eqb};
+ghost use Rattle.device.specs.Parts.{sizeOf};
+ghost use Rattle.run.specs.Turns.{isEnded, loaderBy, scratchBy, answerTo, arrayTo};
+ghost use Rattle.run.specs.Runs.{underWay, runNumber, endOf, begin, ranBy, driven, ranOf, bytesOf, scratchOf};
+
+// What a run returns: the cycles made, the number of the end (0 well), for 25 the array address, and the device's state.
+pub struct Ran {
+    pub count: u64,
+    pub end: u8,
+    pub address: u32,
+    pub state: State,
+}
+
+// The loader's record and the device's state, between two cycles.
+pub struct Held {
+    pub loader: Loader,
+    pub state: State,
+}
+
+// The loader takes what the model answered.
+fn taken(seen: Seen, l: Loader, wanted: &[u8], scratch: &mut [u8]) -> Loader
+    ensures { λ r. ⌜ r ≡ loaderBy seen l (now (wanted .entry)) (now (scratch .entry)) ⌝ }
+    ensures { λ _. ⌜ now (scratch .exit) ≡ scratchBy seen l (now (scratch .entry)) ⌝ }
+{
+    match seen {
+        Seen::NoData => advance(l, 0, wanted, scratch),
+        Seen::Byte(b) => advance(l, b, wanted, scratch),
+        Seen::Refused(n) => ended_by(l, n),
+    }
+}
+
+// One cycle made.
+fn both(d: Device, h: Held, wanted: &[u8], scratch: &mut [u8], array: &mut [u8]) -> Held
+    ensures { λ r. ⌜ r .loader
+        ≡ loaderBy (answerTo d (now (wanted .entry)) (h .loader) (h .state) (now (array .entry)) .seen) (h .loader) (now (wanted .entry)) (now (scratch .entry)) ⌝ }
+    ensures { λ r. ⌜ r .state ≡ answerTo d (now (wanted .entry)) (h .loader) (h .state) (now (array .entry)) .state ⌝ }
+    ensures { λ _. ⌜ now (scratch .exit)
+        ≡ scratchBy (answerTo d (now (wanted .entry)) (h .loader) (h .state) (now (array .entry)) .seen) (h .loader) (now (scratch .entry)) ⌝ }
+    ensures { λ _. ⌜ now (array .exit) ≡ arrayTo d (now (wanted .entry)) (h .loader) (h .state) (now (array .entry)) ⌝ }
+{
+    let l = h.loader;
+    let s = h.state;
+    let c = out(l, wanted);
+    let a = model::cycle(d, s, c, array, &wanted[0..0]);
+    let seen = a.seen;
+    let state = a.state;
+    Held {
+        loader: taken(seen, l, wanted, scratch),
+        state: state,
+    }
+}
+
+fn is_ended(stage: Stage) -> bool
+    ensures { λ r. ⌜ r ≡ isEnded stage ⌝ }
+{
+    match stage {
+        Stage::Clearing => false,
+        Stage::Opening => false,
+        Stage::Reading => false,
+        Stage::EraseAsking => false,
+        Stage::EraseConfirming => false,
+        Stage::EraseWaiting => false,
+        Stage::ProgramAsking => false,
+        Stage::ProgramSending => false,
+        Stage::ProgramWaiting => false,
+        Stage::Closing => false,
+        Stage::Verifying => false,
+        Stage::Ended(_) => true,
+    }
+}
+
+fn going(l: Loader) -> bool
+    ensures { λ r. ⌜ r ≡ not (isEnded (l .stage)) ⌝ }
+{
+    let stage = l.stage;
+    !is_ended(stage)
+}
+
+fn end_of(stage: Stage) -> u8
+    ensures { λ r. ⌜ r ≡ endOf stage ⌝ }
+{
+    match stage {
+        Stage::Clearing => 255,
+        Stage::Opening => 255,
+        Stage::Reading => 255,
+        Stage::EraseAsking => 255,
+        Stage::EraseConfirming => 255,
+        Stage::EraseWaiting => 255,
+        Stage::ProgramAsking => 255,
+        Stage::ProgramSending => 255,
+        Stage::ProgramWaiting => 255,
+        Stage::Closing => 255,
+        Stage::Verifying => 255,
+        Stage::Ended(n) => n,
+    }
+}
+
+// The load made to its end.
+fn drive(d: Device, s: State, l: Loader, wanted: &[u8], scratch: &mut [u8], array: &mut [u8]) -> Ran
+    requires { ⌜ length (now wanted) ≤ 131072 ⌝ }
+    ensures { λ r. ⌜ r ≡ ranBy (driven d (now (wanted .entry)) (begin d s l (now (array .entry)) (now (scratch .entry)))) ⌝ }
+    ensures { λ _. ⌜ now (scratch .exit) ≡ driven d (now (wanted .entry)) (begin d s l (now (array .entry)) (now (scratch .entry))) .scratch ⌝ }
+    ensures { λ _. ⌜ now (array .exit) ≡ driven d (now (wanted .entry)) (begin d s l (now (array .entry)) (now (scratch .entry))) .bytes ⌝ }
+{
+    let mut moving = l;
+    let mut state = s;
+    let mut count: u64 = 0;
+    while going(moving) {
+        let h = both(
+            d,
+            Held {
+                loader: moving,
+                state: state,
+            },
+            wanted,
+            scratch,
+            array,
+        );
+        moving = h.loader;
+        state = h.state;
+        count += 1;
+    }
+    let stage = moving.stage;
+    let end = end_of(stage);
+    Ran {
+        count: count,
+        end: end,
+        address: end_address(moving, end),
+        state: state,
+    }
+}
+
+fn under_way(ph: Phase) -> bool
+    ensures { λ r. ⌜ r ≡ underWay ph ⌝ }
+{
+    match ph {
+        Phase::Free => false,
+        Phase::EraseAwaited => true,
+        Phase::DataAwaited => true,
+        Phase::Programming(_) => true,
+        Phase::Erasing => true,
+        Phase::Suspended => true,
+    }
+}
+
+fn wrong_array(part: Part, array: usize) -> bool
+    ensures { λ r. ⌜ r ≡ not (eqb array (sizeOf part)) ⌝ }
+{
+    !(array == device::size(part))
+}
+
+// Refusals 1 to 4 and 10 to 12, the first in that order, or 0.
+fn run_number(
+    d: Device,
+    s: State,
+    p: Pins,
+    block: u8,
+    array: usize,
+    wanted: usize,
+    scratch: usize,
+) -> u8
+    ensures { λ r. ⌜ r ≡ runNumber d s p block array wanted scratch ⌝ }
+{
+    let part = d.part;
+    let ph = s.phase;
+    if device::unknown_device(d) {
+        return 1;
+    }
+    if wrong_array(part, array) {
+        return 2;
+    }
+    if chip::states::improper(d, s) {
+        return 3;
+    }
+    if barred_pins(part, p) {
+        return 4;
+    }
+    if no_block(part, block) {
+        return 10;
+    }
+    if wrong_lengths(part, block, wanted, scratch) {
+        return 11;
+    }
+    if under_way(ph) {
+        return 12;
+    }
+    0
+}
+
+// A load of one block, against the model.
+pub fn run(
+    d: Device,
+    s: State,
+    p: Pins,
+    block: u8,
+    array: &mut [u8],
+    wanted: &[u8],
+    scratch: &mut [u8],
+) -> Ran
+    ensures { λ r. ⌜ r ≡ ranOf d s p block (now (array .entry)) (now (wanted .entry)) (now (scratch .entry)) ⌝ }
+    ensures { λ _. ⌜ now (array .exit) ≡ bytesOf d s p block (now (array .entry)) (now (wanted .entry)) (now (scratch .entry)) ⌝ }
+    ensures { λ _. ⌜ now (scratch .exit) ≡ scratchOf d s p block (now (array .entry)) (now (wanted .entry)) (now (scratch .entry)) ⌝ }
+{
+    let n = run_number(d, s, p, block, array.len(), wanted.len(), scratch.len());
+    if n == 0 {
+        let part = d.part;
+        let l = record_at(part, p, block, Stage::Clearing);
+        return drive(d, s, l, wanted, scratch, array);
+    }
+    Ran {
+        count: 0,
+        end: n,
+        address: 0,
+        state: s,
+    }
+}
