@@ -13,11 +13,11 @@ use Rattle.chip.specs.declared.Phase.the-variants.{Free, EraseAwaited, DataAwai
 use Rattle.chip.specs.States.{badStatus, topBits}
 
 -- the test holds of every number below n
-abbrev allBelow : (ℕ → Bool) → ℕ → Bool
+abbrev pub allBelow : (ℕ → Bool) → ℕ → Bool
 allBelow f zero = true
 allBelow f (suc n) = elim (f n) [ true ↦ allBelow f n | false ↦ false ]
 
-all-below : (f : ℕ → Bool) (n : ℕ) → allBelow f n ≡ true → (k : ℕ) → k < n → f k ≡ true
+pub all-below : (f : ℕ → Bool) (n : ℕ) → allBelow f n ≡ true → (k : ℕ) → k < n → f k ≡ true
 all-below f zero e k h = absurd (not-suc-le-zero h)
 all-below f (suc n) e k h = go (f n) refl (all-below f n)
   where

@@ -1,3 +1,7 @@
 pub mod Measure
 pub mod Turning
 pub mod Good
+pub mod Answers
+pub mod Reaching
+pub mod Layers
+pub mod Phases

@@ -1,0 +1,308 @@
+-- The phases of a load against the model, from the back, each whatever follows. Assumes nothing.
+use mathlib.Core.Path.{_≡_, refl, sym, ap, _∙_, subst}
+use mathlib.Core.Bool.{Bool, true, false, not, _&&_, _||_}
+use mathlib.Core.List.{List, [], _∷_, _++_}
+use Prim.Native.Nat.{ℕ, zero, suc, _+_, _-_, _*_, _≤_, _<_}
+use native.Mathlib.Omega.{arith}
+use lib.ListN.{length, getD, take, drop, set, replicate, length-replicate, getD-replicate}
+use lib.Dec.{eqb, ltb, leb}
+use lib.Bits.{bitAnd, bitOr, and-mask, and-comm}
+use borrow.Author.Tests.{lt-ltb, le-ltb, eq-eqb, ne-eqb, eqb-true, eqb-false, ltb-true, ltb-false, lt-leb}
+use Rattle.cells.specs.Pick.{pick, pick-true, pick-false, unlike}
+use Rattle.cells.specs.Lists.{overlaid, laid, laid-more, laid-all}
+use Rattle.cells.specs.Bytes.{Bytes, overlaid-in, overlaid-length}
+use Rattle.device.specs.declared.Device.{Device}
+use Rattle.device.specs.Parts.{sizeOf, lengthOf, startOf, blockOf, shapeOf, startIn, lengthIn}
+use Rattle.device.proofs.Place.{Holds}
+use Rattle.device.proofs.Claims.{blocks-end-inside, blocks-apart}
+use Rattle.chip.specs.declared.Pins.{Pins}
+use Rattle.chip.specs.declared.Kind.{Kind}
+use Rattle.chip.specs.declared.Kind.the-variants.{Read, Write, Idle}
+use Rattle.chip.specs.declared.Mode.{Mode}
+use Rattle.chip.specs.declared.Mode.the-variants.{Array, Status, Identifier}
+use Rattle.chip.specs.declared.Phase.{Phase}
+use Rattle.chip.specs.declared.Phase.the-variants.{Free, EraseAwaited, DataAwaited, Programming, Erasing, Suspended}
+use Rattle.chip.specs.declared.Effect.{Effect}
+use Rattle.chip.specs.declared.Effect.the-variants.{Nothing, Program, Erase, CutProgram, CutErase}
+use Rattle.chip.specs.declared.Reply.{Reply}
+use Rattle.chip.specs.declared.Reply.the-variants.{Quiet, Gives, GivesArray, Refuses}
+use Rattle.chip.specs.declared.State.{State}
+use Rattle.chip.specs.declared.Decision.{Decision}
+use Rattle.chip.specs.States.{atRest, isBusy, mostLeft}
+use Rattle.chip.specs.Settling.{endOf}
+use Rattle.chip.specs.Cycles.{decideOf, decidedAs}
+use Rattle.model.specs.Arrays.{erased, arrayOf, seenOf}
+use Rattle.model.proofs.Keeping.{st}
+use Rattle.loader.specs.declared.Stage.{Stage}
+use Rattle.loader.specs.declared.Stage.the-variants.{Clearing, Opening, Reading, EraseAsking, EraseConfirming, EraseWaiting, ProgramAsking, ProgramSending, ProgramWaiting, Closing, Verifying, Ended}
+use Rattle.loader.specs.declared.Loader.{Loader}
+use Rattle.loader.specs.Walks.{mustRise, nextDiff, diffFrom, risesIn}
+use Rattle.loader.specs.Moves.{firstOf, hereOf, cycleOf, storeOf, nextOf, onward, afterReads, readMore, pollMore, erasePolled, past, programPolled, verifyMore, eraseFault, programFault, bothErrors, erasedWell}
+use Rattle.loader.proofs.Small.{length-small}
+use Rattle.loader.proofs.Walking.{diff-turn, diff-over}
+use Rattle.chip.specs.declared.Cycle.{Cycle}
+use Rattle.model.specs.Begun.{isAwaited, pendingIn}
+use Rattle.model.proofs.Lives.{begunFrom}
+use Rattle.run.specs.Turns.{Config, isEnded, loaderBy, scratchBy, turnOf}
+use Rattle.run.specs.Wear.{noted, begunTurn, programsOf, differing}
+use Rattle.run.proofs.Turning.{conf}
+use Rattle.run.proofs.Reaching.{Reach, arrive, prepend, turned, begins}
+use Rattle.run.proofs.Layers.{put-over, over-over, laid-length, laid-here, laid-agree}
+use Rattle.run.proofs.Answers as answers
+use Rattle.run.proofs.Answers.{Ready, cyc}
+
+module _ (d : Device) (p : Pins) (k : ℕ) (r : Ready d p k) (w : List ℕ) (lw : length w ≡ lengthOf (d .part) k) (some : 0 < length w) where
+  abbrev a : ℕ
+  a = startOf (d .part) k
+
+  abbrev rec : Stage → ℕ → ℕ → Loader
+  rec stage place polls = record { part = d .part; pins = p; block = k; stage = stage; place = place; polls = polls }
+
+  inside : (i : ℕ) → i < length w → a + i < sizeOf (d .part)
+  inside i h = omega (arith, blocks-end-inside (d .part) k)
+
+  a-inside : a < sizeOf (d .part)
+  a-inside = omega (arith, blocks-end-inside (d .part) k)
+
+  a-within : (xs : List ℕ) → length xs ≡ sizeOf (d .part) → a ≤ length xs
+  a-within xs e = omega (arith, a-inside)
+
+  -- every address of the block is in the block
+  block-at : (i : ℕ) → i < length w → blockOf (d .part) (a + i) ≡ k
+  unfolding startOf lengthOf
+  block-at i h = blocks-apart (d .part) k (a + i) (record { from = omega arith; to = omega arith })
+
+  block-first : blockOf (d .part) a ≡ k
+  block-first = subst (λ (x : ℕ). blockOf (d .part) x ≡ k) (let q : a + 0 ≡ a = omega arith in q) (block-at 0 some)
+
+  first : (stage : Stage) (i q : ℕ) → firstOf (rec stage i q) ≡ a
+  unfolding firstOf
+  first stage i q = refl
+
+  here : (stage : Stage) (i q : ℕ) → i < length w → hereOf (rec stage i q) ≡ a + i
+  unfolding hereOf firstOf
+  here stage i q h = pick-true (ltb i 16777216) (a + i) a (lt-ltb i 16777216 (omega (arith, length-small (d .part) k)))
+
+  -- a turn at a stage whose cycle goes to an address known
+  at-here : (stage : Stage) (i q : ℕ) (kind : Kind) (b : ℕ) (s : State) (x : Decision) → i < length w → decideOf d s (cyc p kind (a + i) b) (sizeOf (d .part)) 0 ≡ x
+      → decideOf d s (cyc p kind (hereOf (rec stage i q)) b) (sizeOf (d .part)) 0 ≡ x
+  at-here stage i q kind b s x h e = ap (λ (y : ℕ). decideOf d s (cyc p kind y b) (sizeOf (d .part)) 0) (here stage i q h) ∙ e
+
+  at-first : (stage : Stage) (i q : ℕ) (kind : Kind) (b : ℕ) (s : State) (x : Decision) → decideOf d s (cyc p kind a b) (sizeOf (d .part)) 0 ≡ x
+      → decideOf d s (cyc p kind (firstOf (rec stage i q)) b) (sizeOf (d .part)) 0 ≡ x
+  at-first stage i q kind b s x e = ap (λ (y : ℕ). decideOf d s (cyc p kind y b) (sizeOf (d .part)) 0) (first stage i q) ∙ e
+
+  -- the verify: byte i reads as wanted, and the next or the end follows
+  verify-next : (i b : ℕ) → b ≡ getD w i 0 → i + 1 < length w → verifyMore (rec Verifying i 0) b w ≡ rec Verifying (i + 1) 0
+  unfolding verifyMore
+  verify-next i b e h =
+      pick-true (eqb b (getD w i 0)) _ _ (eq-eqb b (getD w i 0) e) ∙ pick-true (ltb i (length w - 1)) _ _ (lt-ltb i (length w - 1) (omega arith))
+
+  verify-last : (i b : ℕ) → b ≡ getD w i 0 → i + 1 ≡ length w → verifyMore (rec Verifying i 0) b w ≡ rec (Ended 0) i 0
+  unfolding verifyMore
+  verify-last i b e h =
+      pick-true (eqb b (getD w i 0)) _ _ (eq-eqb b (getD w i 0) e) ∙ pick-false (ltb i (length w - 1)) _ _ (le-ltb i (length w - 1) (omega arith))
+
+  module _ (xs : List ℕ) (lx : length xs ≡ sizeOf (d .part)) (holds : (i : ℕ) → i < length w → getD xs (a + i) 0 ≡ getD w i 0) (sc : List ℕ) (ls : length sc ≡ length w) where
+    -- one byte of the verify
+    verify-turn : (i cnt : ℕ) (h : i < length w) (l′ : Loader) → verifyMore (rec Verifying i 0) (getD xs (a + i) 0) w ≡ l′
+        → turnOf d w (conf (rec Verifying i 0) (atRest Array 128) xs (laid i w sc) cnt) ≡ conf l′ (atRest Array 128) xs (laid (i + 1) w sc) (cnt + 1)
+    verify-turn i cnt h l′ e =
+        turned d w (rec Verifying i 0) (atRest Array 128) xs (laid i w sc) cnt refl lx (GivesArray (a + i)) (atRest Array 128) Nothing
+        (at-here Verifying i 0 Read 0 (atRest Array 128) _ h (answers.reads d p k r 128 (a + i) refl (inside i h)))
+        ∙ (λ j. conf (e j) (atRest Array 128) xs ((ap (λ (v : ℕ). set (laid i w sc) i v) (holds i h) ∙ laid-more w sc i h (omega arith)) j) (cnt + 1))
+
+    verify-begins : (i cnt : ℕ) (h : i < length w) → begunTurn d w (conf (rec Verifying i 0) (atRest Array 128) xs (laid i w sc) cnt) ≡ Nothing
+    verify-begins i cnt h =
+        begins d w (rec Verifying i 0) (atRest Array 128) xs (laid i w sc) cnt refl lx (GivesArray (a + i)) (atRest Array 128) Nothing
+        (at-here Verifying i 0 Read 0 (atRest Array 128) _ h (answers.reads d p k r 128 (a + i) refl (inside i h)))
+
+    verifying : (j i cnt c : ℕ) → i + (j + 1) ≡ length w → c ≡ cnt + (j + 1)
+        → Reach d w (conf (rec Verifying i 0) (atRest Array 128) xs (laid i w sc) cnt) (conf (rec (Ended 0) (length w - 1) 0) (atRest Array 128) xs w c) []
+    verifying zero i cnt c e q =
+        let h : i < length w = omega arith in
+        prepend d w _ _ _ Nothing [] (verify-turn i cnt h (rec (Ended 0) i 0) (verify-last i (getD xs (a + i) 0) (holds i h) (omega arith))) (verify-begins i cnt h)
+        (arrive d w _ _ (λ t. conf (rec (Ended 0) ((let z : i ≡ length w - 1 = omega arith in z) t) 0) (atRest Array 128) xs (whole t) ((let z : cnt + 1 ≡ c = omega arith in z) t)))
+      where
+        whole : laid (i + 1) w sc ≡ w
+        whole = ap (λ (m : ℕ). laid m w sc) (let z : i + 1 ≡ length sc = omega arith in z) ∙ laid-all w sc (sym ls)
+    verifying (suc j) i cnt c e q =
+        let h : i < length w = omega arith in
+        prepend d w _ _ _ Nothing [] (verify-turn i cnt h (rec Verifying (i + 1) 0) (verify-next i (getD xs (a + i) 0) (holds i h) (omega arith))) (verify-begins i cnt h)
+        (verifying j (i + 1) (cnt + 1) c (omega arith) (omega arith))
+
+  -- the end that a load comes to
+  abbrev pub final : List ℕ → ℕ → Config
+  final xs c = conf (rec (Ended 0) (length w - 1) 0) (atRest Array 128) xs w c
+
+  -- on to the first differing byte from place i on, or to the verify
+  abbrev onto : ℕ → List ℕ → Loader
+  onto i sc = pick (ltb (diffFrom i w sc) (length w)) (rec ProgramAsking (diffFrom i w sc) 0) (rec Closing 0 0)
+
+  onward-onto : (stage : Stage) (i q j : ℕ) (sc : List ℕ) → onward (rec stage i q) j w sc ≡ onto j sc
+  unfolding onward
+  onward-onto stage i q j sc = refl
+
+  module _ (xs : List ℕ) (lx : length xs ≡ sizeOf (d .part)) where
+    -- the array with a block laid over it
+    in-block : (ys : List ℕ) → length ys ≡ length w → a + length ys ≤ length xs
+    in-block ys e = omega (arith, blocks-end-inside (d .part) k)
+
+    sized : (ys : List ℕ) → length ys ≡ length w → length (overlaid xs a ys) ≡ sizeOf (d .part)
+    sized ys e = overlaid-length xs a ys (in-block ys e) ∙ lx
+
+    byte-at : (ys : List ℕ) (i : ℕ) → length ys ≡ length w → i < length w → getD (overlaid xs a ys) (a + i) 0 ≡ getD ys i 0
+    byte-at ys i e h = overlaid-in xs a ys (in-block ys e) i (omega arith)
+
+    -- the last FFH and the verify
+    closing : (m : Mode) (sc : List ℕ) (cnt c : ℕ) → length sc ≡ length w → c ≡ cnt + (1 + length w)
+        → Reach d w (conf (rec Closing 0 0) (atRest m 128) (overlaid xs a w) sc cnt) (final (overlaid xs a w) c) []
+    closing m sc cnt c ls q =
+        prepend d w _ _ _ Nothing []
+        (turned d w (rec Closing 0 0) (atRest m 128) (overlaid xs a w) sc cnt refl (sized w refl) Quiet (atRest Array 128) Nothing dec)
+        (begins d w (rec Closing 0 0) (atRest m 128) (overlaid xs a w) sc cnt refl (sized w refl) Quiet (atRest Array 128) Nothing dec)
+        (verifying (overlaid xs a w) (sized w refl) (λ i h. byte-at w i refl h) sc ls (length w - 1) 0 (cnt + 1) c (omega arith) (omega arith))
+      where
+        dec : decideOf d (atRest m 128) (cycleOf (rec Closing 0 0) w) (sizeOf (d .part)) 0 ≡ decidedAs Quiet (atRest Array 128) Nothing
+        dec = at-first Closing 0 0 Write 0xFF (atRest m 128) _ (answers.opens d p k r m 128 a refl a-inside)
+
+    -- the polls of an operation, of either kind, while cycles are left
+    module _ (W : Stage) (i : ℕ) (ph : Phase) (adr to : ℕ) (going : isEnded W ≡ false) (busy : isBusy ph ≡ true) (adr-in : adr < sizeOf (d .part)) (to-in : to < sizeOf (d .part))
+        (X sc : List ℕ) (lX : length X ≡ sizeOf (d .part)) (goes : (q : ℕ) → cycleOf (rec W i q) w ≡ cyc p Read to 0)
+        (polled : (q : ℕ) → nextOf (rec W i q) 0 w (storeOf (rec W i q) 0 sc) ≡ pollMore (rec W i q) W) (kept : (q : ℕ) → storeOf (rec W i q) 0 sc ≡ sc) where
+      poll-more : (q : ℕ) → q < 65534 → pollMore (rec W i q) W ≡ rec W i (q + 1)
+      unfolding pollMore
+      poll-more q h = pick-false (leb 65534 q) _ _ (lt-leb 65534 q h)
+
+      waiting : (left q cnt : ℕ) (e : Config) (es : List Effect) → q + (left + 1) ≤ 65535 → left + 1 ≤ mostLeft d ph
+          → ((q′ cnt′ : ℕ) → cnt′ ≡ cnt + left → Reach d w (conf (rec W i q′) (st Status 0 ph 1 adr) X sc cnt′) e es)
+          → Reach d w (conf (rec W i q) (st Status 0 ph (left + 1) adr) X sc cnt) e es
+      waiting zero q cnt e es h m rest = rest q cnt (omega arith)
+      waiting (suc left) q cnt e es h m rest =
+          subst (λ (n : ℕ). Reach d w (conf (rec W i q) (st Status 0 ph n adr) X sc cnt) e es) (let z : left + 1 + 1 ≡ suc left + 1 = omega arith in z)
+          (prepend d w _ (conf (rec W i (q + 1)) (st Status 0 ph (left + 1) adr) X sc (cnt + 1)) e Nothing es
+          (turned d w (rec W i q) (st Status 0 ph (left + 1 + 1) adr) X sc cnt going lX (Gives 0) (st Status 0 ph (left + 1) adr) Nothing dec
+              ∙ (λ t. conf ((polled q ∙ poll-more q (omega arith)) t) (st Status 0 ph (left + 1) adr) X (kept q t) (cnt + 1)))
+          (begins d w (rec W i q) (st Status 0 ph (left + 1 + 1) adr) X sc cnt going lX (Gives 0) (st Status 0 ph (left + 1) adr) Nothing dec ∙ none)
+          (waiting left (q + 1) (cnt + 1) e es (omega arith) (omega arith) (λ q′ cnt′ z. rest q′ cnt′ (omega arith))))
+        where
+          dec : decideOf d (st Status 0 ph (left + 1 + 1) adr) (cycleOf (rec W i q) w) (sizeOf (d .part)) 0 ≡ decidedAs (Gives 0) (st Status 0 ph (left + 1) adr) Nothing
+          dec =
+              ap (λ (x : Cycle). decideOf d (st Status 0 ph (left + 1 + 1) adr) x (sizeOf (d .part)) 0) (goes q)
+              ∙ answers.waits d p k r ph (left + 1) adr to busy (omega arith) (omega arith) adr-in to-in
+          none : begunFrom (d .part) (st Status 0 ph (left + 1 + 1) adr) (st Status 0 ph (left + 1) adr) ≡ Nothing
+          none = quiet ph busy
+            where
+              quiet : (x : Phase) → isBusy x ≡ true → pick (isAwaited x) (pendingIn x (d .part) adr) Nothing ≡ Nothing
+              quiet Free b = refl
+              quiet EraseAwaited b = absurd (unlike (sym b))
+              quiet DataAwaited b = absurd (unlike (sym b))
+              quiet (Programming y) b = refl
+              quiet Erasing b = refl
+              quiet Suspended b = refl
+
+    -- a program that ended well goes on to the next differing byte
+    programmed : (i q : ℕ) (sc : List ℕ) → i < length w → programPolled (rec ProgramWaiting i q) 128 w sc ≡ onto (i + 1) sc
+    unfolding programPolled programFault bothErrors past
+    programmed i q sc h = ap (λ (j : ℕ). onward (rec ProgramWaiting i q) j w sc) (pick-true (ltb i (length w)) (i + 1) i (lt-ltb i (length w) h)) ∙ onward-onto ProgramWaiting i q (i + 1) sc
+
+    program-poll : (i q : ℕ) (sc : List ℕ) → nextOf (rec ProgramWaiting i q) 0 w sc ≡ pollMore (rec ProgramWaiting i q) ProgramWaiting
+    unfolding programPolled
+    program-poll i q sc = refl
+
+    -- one byte programmed: 40H, the byte, P polls
+    one-program : (m : Mode) (i cnt : ℕ) (ys sc : List ℕ) (e : Config) (es : List Effect) → i < length w → length ys ≡ length w
+        → bitAnd (getD ys i 0) (getD w i 0) ≡ getD w i 0
+        → 0 < d .program → d .program ≤ 65535
+        → ((cnt′ : ℕ) → cnt′ ≡ cnt + (2 + d .program) → Reach d w (conf (onto (i + 1) sc) (atRest Status 128) (overlaid xs a (set ys i (getD w i 0))) sc cnt′) e es)
+        → Reach d w (conf (rec ProgramAsking i 0) (atRest m 128) (overlaid xs a ys) sc cnt) e (Program (a + i) (getD w i 0) ∷ es)
+    one-program m i cnt ys sc e es h ly falls z b rest =
+        prepend d w _ _ e Nothing (Program (a + i) v ∷ es)
+        (turned d w (rec ProgramAsking i 0) (atRest m 128) X sc cnt refl lX Quiet asked Nothing dec1) (begins d w (rec ProgramAsking i 0) (atRest m 128) X sc cnt refl lX Quiet asked Nothing dec1)
+        (prepend d w _ _ e (Program (a + i) v) es
+        (turned d w (rec ProgramSending i 0) asked X sc (cnt + 1) refl lX Quiet (st Status 0 (Programming v) (d .program) (a + i)) Nothing dec2)
+        (begins d w (rec ProgramSending i 0) asked X sc (cnt + 1) refl lX Quiet (st Status 0 (Programming v) (d .program) (a + i)) Nothing dec2)
+        (subst (λ (n : ℕ). Reach d w (conf (rec ProgramWaiting i 0) (st Status 0 (Programming v) n (a + i)) X sc (cnt + 1 + 1)) e es) (let t : d .program - 1 + 1 ≡ d .program = omega arith in t)
+        (waiting ProgramWaiting i (Programming v) (a + i) (a + i) refl refl (inside i h) (inside i h) X sc lX
+            (λ q. ap (λ (x : ℕ). cyc p Read x 0) (here ProgramWaiting i q h)) (λ q. program-poll i q sc) (λ q. refl)
+            (d .program - 1) 0 (cnt + 1 + 1) e es (omega arith) (omega arith)
+            (λ q cnt′ t. prepend d w _ _ e Nothing es
+                (turned d w (rec ProgramWaiting i q) (st Status 0 (Programming v) 1 (a + i)) X sc cnt′ refl lX (Gives 128) (atRest Status 128) (Program (a + i) v) (dec3 q)
+                    ∙ (λ u. conf (programmed i q sc h u) (atRest Status 128) (stored u) sc (cnt′ + 1)))
+                (begins d w (rec ProgramWaiting i q) (st Status 0 (Programming v) 1 (a + i)) X sc cnt′ refl lX (Gives 128) (atRest Status 128) (Program (a + i) v) (dec3 q))
+                (rest (cnt′ + 1) (omega arith))))))
+      where
+        v : ℕ
+        v = getD w i 0
+        X : List ℕ
+        X = overlaid xs a ys
+        lX : length X ≡ sizeOf (d .part)
+        lX = sized ys ly
+        asked : State
+        asked = st Status 128 DataAwaited 0 0
+        dec1 : decideOf d (atRest m 128) (cycleOf (rec ProgramAsking i 0) w) (sizeOf (d .part)) 0 ≡ decidedAs Quiet asked Nothing
+        dec1 = at-here ProgramAsking i 0 Write 0x40 (atRest m 128) _ h (answers.asks-program d p k r m 128 (a + i) refl (inside i h))
+        dec2 : decideOf d asked (cycleOf (rec ProgramSending i 0) w) (sizeOf (d .part)) 0 ≡ decidedAs Quiet (st Status 0 (Programming v) (d .program) (a + i)) Nothing
+        dec2 = at-here ProgramSending i 0 Write v asked _ h (answers.sends d p k r (a + i) v (inside i h) (block-at i h))
+        dec3 : (q : ℕ) → decideOf d (st Status 0 (Programming v) 1 (a + i)) (cycleOf (rec ProgramWaiting i q) w) (sizeOf (d .part)) 0 ≡ decidedAs (Gives 128) (atRest Status 128) (Program (a + i) v)
+        dec3 q = at-here ProgramWaiting i q Read 0 (st Status 0 (Programming v) 1 (a + i)) _ h (answers.ends d p k r (Programming v) (a + i) (a + i) refl z (inside i h) (inside i h))
+        stored : set X (a + i) (bitAnd (getD X (a + i) 0) v) ≡ overlaid xs a (set ys i v)
+        stored =
+            ap (λ (x : ℕ). set X (a + i) (bitAnd x v)) (byte-at ys i ly h) ∙ ap (λ (x : ℕ). set X (a + i) x) falls
+            ∙ put-over xs a ys i v (a-within xs lx) (omega arith)
+
+    -- the cycles that the programs take
+    abbrev costs : ℕ → ℕ → List ℕ → ℕ
+    costs zero i sc = 0
+    costs (suc j) i sc = pick (eqb (getD sc i 0) (getD w i 0)) 0 (2 + d .program) + costs j (i + 1) sc
+
+    onto-past : (i : ℕ) (sc : List ℕ) → length w ≤ i → onto i sc ≡ rec Closing 0 0
+    unfolding diffFrom
+    onto-past i sc h = pick-false (ltb (nextDiff (length w - i) i w sc) (length w)) _ _ (le-ltb _ (length w) (rw (diff-over (length w) i w sc h) h))
+
+    onto-differs : (i : ℕ) (sc : List ℕ) → i < length w → eqb (getD sc i 0) (getD w i 0) ≡ false → onto i sc ≡ rec ProgramAsking i 0
+    unfolding diffFrom
+    onto-differs i sc h e =
+        let q : nextDiff (length w - i) i w sc ≡ i = diff-turn (length w) i w sc h ∙ pick-false (eqb (getD sc i 0) (getD w i 0)) (nextDiff (length w - (i + 1)) (i + 1) w sc) i e in
+        ap (λ (j : ℕ). pick (ltb j (length w)) (rec ProgramAsking j 0) (rec Closing 0 0)) q ∙ pick-true (ltb i (length w)) _ _ (lt-ltb i (length w) h)
+
+    onto-agrees : (i : ℕ) (sc : List ℕ) → i < length w → eqb (getD sc i 0) (getD w i 0) ≡ true → onto i sc ≡ onto (i + 1) sc
+    unfolding diffFrom
+    onto-agrees i sc h e =
+        let q : nextDiff (length w - i) i w sc ≡ nextDiff (length w - (i + 1)) (i + 1) w sc =
+            diff-turn (length w) i w sc h ∙ pick-true (eqb (getD sc i 0) (getD w i 0)) (nextDiff (length w - (i + 1)) (i + 1) w sc) i e in
+        ap (λ (j : ℕ). pick (ltb j (length w)) (rec ProgramAsking j 0) (rec Closing 0 0)) q
+
+    -- the programs from place i on, then the verify
+    walking : (sc : List ℕ) → length sc ≡ length w → ((i : ℕ) → i < length w → bitAnd (getD sc i 0) (getD w i 0) ≡ getD w i 0) → 0 < d .program → d .program ≤ 65535
+        → (j i cnt c : ℕ) (m : Mode) → i + j ≡ length w → c ≡ cnt + (costs j i sc + (1 + length w))
+        → Reach d w (conf (onto i sc) (atRest m 128) (overlaid xs a (laid i w sc)) sc cnt) (final (overlaid xs a w) c) (programsOf j a i w sc)
+    walking sc ls falls z b zero i cnt c m e q =
+        subst (λ (l : Loader). Reach d w (conf l (atRest m 128) (overlaid xs a (laid i w sc)) sc cnt) (final (overlaid xs a w) c) []) (sym (onto-past i sc (omega arith)))
+        (subst (λ (y : List ℕ). Reach d w (conf (rec Closing 0 0) (atRest m 128) (overlaid xs a y) sc cnt) (final (overlaid xs a w) c) []) (sym whole) (closing m sc cnt c ls (omega arith)))
+      where
+        whole : laid i w sc ≡ w
+        whole = ap (λ (n : ℕ). laid n w sc) (let t : i ≡ length sc = omega arith in t) ∙ laid-all w sc (sym ls)
+    walking sc ls falls z b (suc j) i cnt c m e q = go (eqb (getD sc i 0) (getD w i 0)) refl (walking sc ls falls z b j (i + 1))
+      where
+        h : i < length w
+        h = omega arith
+        Goal : List Effect → Type 0
+        Goal es = Reach d w (conf (onto i sc) (atRest m 128) (overlaid xs a (laid i w sc)) sc cnt) (final (overlaid xs a w) c) es
+        go : (t : Bool) → eqb (getD sc i 0) (getD w i 0) ≡ t
+            → ((cnt′ c′ : ℕ) (m′ : Mode) → i + 1 + j ≡ length w → c′ ≡ cnt′ + (costs j (i + 1) sc + (1 + length w))
+            → Reach d w (conf (onto (i + 1) sc) (atRest m′ 128) (overlaid xs a (laid (i + 1) w sc)) sc cnt′) (final (overlaid xs a w) c′) (programsOf j a (i + 1) w sc))
+            → Goal (pick (eqb (getD sc i 0) (getD w i 0)) (programsOf j a (i + 1) w sc) (Program (a + i) (getD w i 0) ∷ programsOf j a (i + 1) w sc))
+        go true t more =
+            rw t
+            (subst (λ (l : Loader). Reach d w (conf l (atRest m 128) (overlaid xs a (laid i w sc)) sc cnt) (final (overlaid xs a w) c) (programsOf j a (i + 1) w sc)) (sym (onto-agrees i sc h t))
+            (subst (λ (y : List ℕ). Reach d w (conf (onto (i + 1) sc) (atRest m 128) (overlaid xs a y) sc cnt) (final (overlaid xs a w) c) (programsOf j a (i + 1) w sc))
+            (sym (laid-agree w sc (sym ls) i (omega arith) (eqb-true _ _ t)))
+            (more cnt c m (omega arith) (let u = rw t at q in omega arith))))
+        go false t more =
+            rw t
+            (subst (λ (l : Loader). Reach d w (conf l (atRest m 128) (overlaid xs a (laid i w sc)) sc cnt) (final (overlaid xs a w) c) (Program (a + i) (getD w i 0) ∷ programsOf j a (i + 1) w sc)) (sym (onto-differs i sc h t))
+            (one-program m i cnt (laid i w sc) sc (final (overlaid xs a w) c) (programsOf j a (i + 1) w sc) h (laid-length w sc (sym ls) i (omega arith) ∙ ls)
+            (ap (λ (x : ℕ). bitAnd x (getD w i 0)) (laid-here w sc (sym ls) i (omega arith)) ∙ falls i h) z b
+            (λ cnt′ s. subst (λ (y : List ℕ). Reach d w (conf (onto (i + 1) sc) (atRest Status 128) (overlaid xs a y) sc cnt′) (final (overlaid xs a w) c) (programsOf j a (i + 1) w sc))
+                (sym (laid-more w sc i h (omega arith))) (more cnt′ c Status (omega arith) (let u = rw t at q in omega arith)))))

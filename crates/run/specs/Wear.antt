@@ -1,0 +1,40 @@
+-- The operations that a load begins, by the model's own definition, and what is wanted of it. Assumes nothing.
+use mathlib.Core.Bool.{Bool, true, false}
+use mathlib.Core.List.{List, [], _∷_}
+use Prim.Native.Nat.{ℕ, zero, suc, _+_}
+use lib.ListN.{length, getD}
+use lib.Dec.{eqb}
+use Rattle.cells.specs.Pick.{pick}
+use Rattle.device.specs.declared.Device.{Device}
+use Rattle.chip.specs.declared.Effect.{Effect}
+use Rattle.chip.specs.declared.Effect.the-variants.{Nothing, Program, Erase, CutProgram, CutErase}
+use Rattle.model.specs.Begun.{begunBy}
+use Rattle.loader.specs.Moves.{cycleOf}
+use Rattle.run.specs.Turns.{Config, isEnded, turnOf}
+
+-- an operation noted before those that follow
+abbrev pub noted : Effect → List Effect → List Effect
+noted Nothing es = es
+noted (Program a b) es = Program a b ∷ es
+noted (Erase k) es = Erase k ∷ es
+noted (CutProgram a b) es = CutProgram a b ∷ es
+noted (CutErase k) es = CutErase k ∷ es
+
+-- what one turn begins
+unfoldable pub begunTurn : Device → List ℕ → Config → Effect
+begunTurn d w c = pick (isEnded (c .loader .stage)) Nothing (begunBy d (c .state) (cycleOf (c .loader) w) (length (c .bytes)) 0)
+
+-- what k turns begin, in their order
+abbrev pub begunIn : ℕ → Device → List ℕ → Config → List Effect
+begunIn zero d w c = []
+begunIn (suc k) d w c = noted (begunTurn d w c) (begunIn k d w (turnOf d w c))
+
+-- the programs that bring the bytes from place i on, k of them, from s to w, in a block that starts at a
+abbrev pub programsOf : ℕ → ℕ → ℕ → List ℕ → List ℕ → List Effect
+programsOf zero a i w s = []
+programsOf (suc k) a i w s = pick (eqb (getD s i 0) (getD w i 0)) (programsOf k a (i + 1) w s) (Program (a + i) (getD w i 0) ∷ programsOf k a (i + 1) w s)
+
+-- how many bytes differ
+abbrev pub differing : ℕ → ℕ → List ℕ → List ℕ → ℕ
+differing zero i w s = 0
+differing (suc k) i w s = pick (eqb (getD s i 0) (getD w i 0)) 0 1 + differing k (i + 1) w s
