@@ -2,13 +2,14 @@
 use mathlib.Core.Path.{_≡_, refl, sym, ap, _∙_, subst}
 use mathlib.Core.Bool.{Bool, true, false, not, _&&_, _||_}
 use mathlib.Core.List.{List, [], _∷_, _++_}
-use Prim.Native.Nat.{ℕ, zero, suc, _+_, _-_, _*_, _≤_, _<_}
+use Prim.Native.Nat.{ℕ, zero, suc, _+_, _-_, _*_, _/_, _%_, _≤_, _<_}
 use native.Mathlib.Omega.{arith}
 use lib.ListN.{length, getD, take, drop, set, replicate, length-replicate, getD-replicate}
 use lib.Dec.{eqb, ltb, leb}
 use lib.Bits.{bitAnd, bitOr, and-mask, and-comm}
 use borrow.Author.Tests.{lt-ltb, le-ltb, eq-eqb, ne-eqb, eqb-true, eqb-false, ltb-true, ltb-false, lt-leb}
-use Rattle.cells.specs.Pick.{pick, pick-true, pick-false, unlike}
+use Rattle.cells.specs.Pick.{pick, pick-true, pick-false, and-right, unlike}
+use Rattle.model.proofs.Status.{fits, all-below}
 use Rattle.cells.specs.Lists.{overlaid, laid, laid-more, laid-all}
 use Rattle.cells.specs.Bytes.{Bytes, overlaid-in, overlaid-length}
 use Rattle.device.specs.declared.Device.{Device}
@@ -50,6 +51,16 @@ use Rattle.run.proofs.Reaching.{Reach, arrive, prepend, turned, begins}
 use Rattle.run.proofs.Layers.{put-over, over-over, laid-length, laid-here, laid-agree}
 use Rattle.run.proofs.Answers as answers
 use Rattle.run.proofs.Answers.{Ready, cyc}
+
+-- 50H leaves SR.7 alone of a ready status
+cleared : (x : ℕ) → fits 2 x ≡ true → bitAnd x 199 ≡ 128
+cleared x f =
+    let q : x / 64 ≡ 2 = eqb-true (x / 64) 2 (and-right (eqb (x % 8) 0) (eqb (x / 64) 2) f) in
+    eqb-true (bitAnd x 199) 128 (imply (fits 2 x) (eqb (bitAnd x 199) 128) (all-below (λ y. not (fits 2 y) || eqb (bitAnd y 199) 128) 256 refl x (omega arith)) f)
+  where
+    imply : (x y : Bool) → (not x || y) ≡ true → x ≡ true → y ≡ true
+    imply true y h k = h
+    imply false y h k = absurd (unlike (sym k))
 
 module _ (d : Device) (p : Pins) (k : ℕ) (r : Ready d p k) (w : List ℕ) (lw : length w ≡ lengthOf (d .part) k) (some : 0 < length w) where
   abbrev a : ℕ
@@ -306,3 +317,121 @@ module _ (d : Device) (p : Pins) (k : ℕ) (r : Ready d p k) (w : List ℕ) (lw 
             (ap (λ (x : ℕ). bitAnd x (getD w i 0)) (laid-here w sc (sym ls) i (omega arith)) ∙ falls i h) z b
             (λ cnt′ s. subst (λ (y : List ℕ). Reach d w (conf (onto (i + 1) sc) (atRest Status 128) (overlaid xs a y) sc cnt′) (final (overlaid xs a w) c) (programsOf j a (i + 1) w sc))
                 (sym (laid-more w sc i h (omega arith))) (more cnt′ c Status (omega arith) (let u = rw t at q in omega arith)))))
+
+    -- the block all ones
+    abbrev blank : List ℕ
+    blank = replicate (length w) 255
+
+    erased-blank : (X : List ℕ) (j : ℕ) → j ≡ k → erased (d .part) j X ≡ overlaid X a blank
+    unfolding erased
+    erased-blank X j e = ap (λ (i : ℕ). overlaid X (startOf (d .part) i) (replicate (lengthOf (d .part) i) 255)) e ∙ ap (λ (n : ℕ). overlaid X a (replicate n 255)) (sym lw)
+
+    erase-poll : (q : ℕ) (sc : List ℕ) → nextOf (rec EraseWaiting 0 q) 0 w sc ≡ pollMore (rec EraseWaiting 0 q) EraseWaiting
+    unfolding erasePolled
+    erase-poll q sc = refl
+
+    erase-keeps : (q : ℕ) (sc : List ℕ) → storeOf (rec EraseWaiting 0 q) 0 sc ≡ sc
+    unfolding erasedWell eraseFault bothErrors
+    erase-keeps q sc = refl
+
+    erase-fills : (q : ℕ) (sc : List ℕ) → length sc ≡ length w → storeOf (rec EraseWaiting 0 q) 128 sc ≡ blank
+    unfolding erasedWell eraseFault bothErrors
+    erase-fills q sc e = ap (λ (n : ℕ). replicate n 255) e
+
+    erased-on : (q : ℕ) (sc : List ℕ) → nextOf (rec EraseWaiting 0 q) 128 w sc ≡ onto 0 sc
+    unfolding erasePolled eraseFault bothErrors
+    erased-on q sc = onward-onto EraseWaiting 0 q 0 sc
+
+    -- the erase: 20H, D0H, E polls
+    erasing : (m : Mode) (cnt : ℕ) (ys sc : List ℕ) (e : Config) (es : List Effect) → length ys ≡ length w → length sc ≡ length w → 0 < d .erase → d .erase ≤ 65535
+        → ((cnt′ : ℕ) → cnt′ ≡ cnt + (2 + d .erase) → Reach d w (conf (onto 0 blank) (atRest Status 128) (overlaid xs a blank) blank cnt′) e es)
+        → Reach d w (conf (rec EraseAsking 0 0) (atRest m 128) (overlaid xs a ys) sc cnt) e (Erase k ∷ es)
+    erasing m cnt ys sc e es ly ls z b rest =
+        prepend d w _ _ e Nothing (Erase k ∷ es)
+        (turned d w (rec EraseAsking 0 0) (atRest m 128) X sc cnt refl lX Quiet asked Nothing dec1) (begins d w (rec EraseAsking 0 0) (atRest m 128) X sc cnt refl lX Quiet asked Nothing dec1)
+        (prepend d w _ _ e (Erase k) es
+        (turned d w (rec EraseConfirming 0 0) asked X sc (cnt + 1) refl lX Quiet (st Status 0 Erasing (d .erase) a) Nothing dec2)
+        (begins d w (rec EraseConfirming 0 0) asked X sc (cnt + 1) refl lX Quiet (st Status 0 Erasing (d .erase) a) Nothing dec2 ∙ ap Erase block-first)
+        (subst (λ (n : ℕ). Reach d w (conf (rec EraseWaiting 0 0) (st Status 0 Erasing n a) X sc (cnt + 1 + 1)) e es) (let t : d .erase - 1 + 1 ≡ d .erase = omega arith in t)
+        (waiting EraseWaiting 0 Erasing a a refl refl a-inside a-inside X sc lX
+            (λ q. ap (λ (x : ℕ). cyc p Read x 0) (first EraseWaiting 0 q)) (λ q. ap (λ (y : List ℕ). nextOf (rec EraseWaiting 0 q) 0 w y) (erase-keeps q sc) ∙ erase-poll q sc) (λ q. erase-keeps q sc)
+            (d .erase - 1) 0 (cnt + 1 + 1) e es (omega arith) (omega arith)
+            (λ q cnt′ t. prepend d w _ _ e Nothing es
+                (turned d w (rec EraseWaiting 0 q) (st Status 0 Erasing 1 a) X sc cnt′ refl lX (Gives 128) (atRest Status 128) (Erase (blockOf (d .part) a)) (dec3 q)
+                    ∙ (λ u. conf ((ap (λ (y : List ℕ). nextOf (rec EraseWaiting 0 q) 128 w y) (erase-fills q sc ls) ∙ erased-on q blank) u) (atRest Status 128) (ones u) (erase-fills q sc ls u) (cnt′ + 1)))
+                (begins d w (rec EraseWaiting 0 q) (st Status 0 Erasing 1 a) X sc cnt′ refl lX (Gives 128) (atRest Status 128) (Erase (blockOf (d .part) a)) (dec3 q))
+                (rest (cnt′ + 1) (omega arith))))))
+      where
+        X : List ℕ
+        X = overlaid xs a ys
+        lX : length X ≡ sizeOf (d .part)
+        lX = sized ys ly
+        asked : State
+        asked = st Status 128 EraseAwaited 0 0
+        dec1 : decideOf d (atRest m 128) (cycleOf (rec EraseAsking 0 0) w) (sizeOf (d .part)) 0 ≡ decidedAs Quiet asked Nothing
+        dec1 = at-first EraseAsking 0 0 Write 0x20 (atRest m 128) _ (answers.asks-erase d p k r m 128 a refl a-inside)
+        dec2 : decideOf d asked (cycleOf (rec EraseConfirming 0 0) w) (sizeOf (d .part)) 0 ≡ decidedAs Quiet (st Status 0 Erasing (d .erase) a) Nothing
+        dec2 = at-first EraseConfirming 0 0 Write 0xD0 asked _ (answers.confirms d p k r a a-inside block-first)
+        dec3 : (q : ℕ) → decideOf d (st Status 0 Erasing 1 a) (cycleOf (rec EraseWaiting 0 q) w) (sizeOf (d .part)) 0 ≡ decidedAs (Gives 128) (atRest Status 128) (Erase (blockOf (d .part) a))
+        dec3 q = at-first EraseWaiting 0 q Read 0 (st Status 0 Erasing 1 a) _ (answers.ends d p k r Erasing a a refl z a-inside a-inside)
+        ones : erased (d .part) (blockOf (d .part) a) X ≡ overlaid xs a blank
+        ones = erased-blank X (blockOf (d .part) a) block-first ∙ over-over xs a ys blank (a-within xs lx) (ly ∙ sym (length-replicate (length w) 255))
+
+    -- one more byte of the first reads
+    read-next : (i : ℕ) (sc : List ℕ) → i + 1 < length w → readMore (rec Reading i 0) w sc ≡ rec Reading (i + 1) 0
+    unfolding readMore
+    read-next i sc h = pick-true (ltb i (length w - 1)) _ _ (lt-ltb i (length w - 1) (omega arith))
+
+    read-last : (i : ℕ) (sc : List ℕ) → i + 1 ≡ length w → readMore (rec Reading i 0) w sc ≡ afterReads (rec Reading i 0) w sc
+    unfolding readMore
+    read-last i sc h = pick-false (ltb i (length w - 1)) _ _ (le-ltb i (length w - 1) (omega arith))
+
+    after-same : (i : ℕ) (sc : List ℕ) → afterReads (rec Reading i 0) w sc ≡ pick (risesIn w sc) (rec EraseAsking 0 0) (onto 0 sc)
+    unfolding afterReads onward
+    after-same i sc = refl
+
+    module _ (ys sc : List ℕ) (ly : length ys ≡ length w) (ls : length sc ≡ length w) where
+      read-dec : (i : ℕ) (h : i < length w) → decideOf d (atRest Array 128) (cycleOf (rec Reading i 0) w) (sizeOf (d .part)) 0 ≡ decidedAs (GivesArray (a + i)) (atRest Array 128) Nothing
+      read-dec i h = at-here Reading i 0 Read 0 (atRest Array 128) _ h (answers.reads d p k r 128 (a + i) refl (inside i h))
+
+      laid-read : (i : ℕ) (h : i < length w) → set (laid i ys sc) i (getD (overlaid xs a ys) (a + i) 0) ≡ laid (i + 1) ys sc
+      laid-read i h = ap (λ (v : ℕ). set (laid i ys sc) i v) (byte-at ys i ly h) ∙ laid-more ys sc i (omega arith) (omega arith)
+
+      reading : (j i cnt : ℕ) (e : Config) (es : List Effect) → i + (j + 1) ≡ length w
+          → ((cnt′ : ℕ) → cnt′ ≡ cnt + (j + 1) → Reach d w (conf (pick (risesIn w ys) (rec EraseAsking 0 0) (onto 0 ys)) (atRest Array 128) (overlaid xs a ys) ys cnt′) e es)
+          → Reach d w (conf (rec Reading i 0) (atRest Array 128) (overlaid xs a ys) (laid i ys sc) cnt) e es
+      reading zero i cnt e es q rest =
+          let h : i < length w = omega arith in
+          prepend d w _ _ e Nothing es
+          (turned d w (rec Reading i 0) (atRest Array 128) (overlaid xs a ys) (laid i ys sc) cnt refl (sized ys ly) (GivesArray (a + i)) (atRest Array 128) Nothing (read-dec i h)
+              ∙ (λ t. conf ((ap (λ (y : List ℕ). readMore (rec Reading i 0) w y) (laid-read i h ∙ whole) ∙ read-last i ys (omega arith) ∙ after-same i ys) t) (atRest Array 128) (overlaid xs a ys) ((laid-read i h ∙ whole) t) (cnt + 1)))
+          (begins d w (rec Reading i 0) (atRest Array 128) (overlaid xs a ys) (laid i ys sc) cnt refl (sized ys ly) (GivesArray (a + i)) (atRest Array 128) Nothing (read-dec i h))
+          (rest (cnt + 1) (omega arith))
+        where
+          whole : laid (i + 1) ys sc ≡ ys
+          whole = ap (λ (m : ℕ). laid m ys sc) (let z : i + 1 ≡ length sc = omega arith in z) ∙ laid-all ys sc (ly ∙ sym ls)
+      reading (suc j) i cnt e es q rest =
+          let h : i < length w = omega arith in
+          prepend d w _ _ e Nothing es
+          (turned d w (rec Reading i 0) (atRest Array 128) (overlaid xs a ys) (laid i ys sc) cnt refl (sized ys ly) (GivesArray (a + i)) (atRest Array 128) Nothing (read-dec i h)
+              ∙ (λ t. conf (read-next i (set (laid i ys sc) i (getD (overlaid xs a ys) (a + i) 0)) (omega arith) t) (atRest Array 128) (overlaid xs a ys) (laid-read i h t) (cnt + 1)))
+          (begins d w (rec Reading i 0) (atRest Array 128) (overlaid xs a ys) (laid i ys sc) cnt refl (sized ys ly) (GivesArray (a + i)) (atRest Array 128) Nothing (read-dec i h))
+          (reading j (i + 1) (cnt + 1) e es (omega arith) (λ cnt′ z. rest cnt′ (omega arith)))
+
+      -- 50H, FFH and the first reads, from any mode and any error bits
+      opening : (m : Mode) (x : ℕ) → fits 2 x ≡ true → (e : Config) (es : List Effect)
+          → ((cnt′ : ℕ) → cnt′ ≡ 2 + length w → Reach d w (conf (pick (risesIn w ys) (rec EraseAsking 0 0) (onto 0 ys)) (atRest Array 128) (overlaid xs a ys) ys cnt′) e es)
+          → Reach d w (conf (rec Clearing 0 0) (atRest m x) (overlaid xs a ys) sc 0) e es
+      opening m x f e es rest =
+          prepend d w _ _ e Nothing es
+          (turned d w (rec Clearing 0 0) (atRest m x) (overlaid xs a ys) sc 0 refl (sized ys ly) Quiet (atRest m 128) Nothing dec1)
+          (begins d w (rec Clearing 0 0) (atRest m x) (overlaid xs a ys) sc 0 refl (sized ys ly) Quiet (atRest m 128) Nothing dec1)
+          (prepend d w _ _ e Nothing es
+          (turned d w (rec Opening 0 0) (atRest m 128) (overlaid xs a ys) sc (0 + 1) refl (sized ys ly) Quiet (atRest Array 128) Nothing dec2)
+          (begins d w (rec Opening 0 0) (atRest m 128) (overlaid xs a ys) sc (0 + 1) refl (sized ys ly) Quiet (atRest Array 128) Nothing dec2)
+          (reading (length w - 1) 0 (0 + 1 + 1) e es (omega arith) (λ cnt′ z. rest cnt′ (omega arith))))
+        where
+          dec1 : decideOf d (atRest m x) (cycleOf (rec Clearing 0 0) w) (sizeOf (d .part)) 0 ≡ decidedAs Quiet (atRest m 128) Nothing
+          dec1 = at-first Clearing 0 0 Write 0x50 (atRest m x) _ (answers.clears d p k r m x a f a-inside ∙ ap (λ (y : ℕ). decidedAs Quiet (atRest m y) Nothing) (cleared x f))
+          dec2 : decideOf d (atRest m 128) (cycleOf (rec Opening 0 0) w) (sizeOf (d .part)) 0 ≡ decidedAs Quiet (atRest Array 128) Nothing
+          dec2 = at-first Opening 0 0 Write 0xFF (atRest m 128) _ (answers.opens d p k r m 128 a refl a-inside)
