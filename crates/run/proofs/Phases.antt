@@ -3,12 +3,13 @@ use mathlib.Core.Path.{_≡_, refl, sym, ap, _∙_, subst}
 use mathlib.Core.Bool.{Bool, true, false, not, _&&_, _||_}
 use mathlib.Core.List.{List, [], _∷_, _++_}
 use Prim.Native.Nat.{ℕ, zero, suc, _+_, _-_, _*_, _/_, _%_, _≤_, _<_}
+use native.Mathlib.Nat.{mod-eq-of-lt, not-suc-le-zero, le-of-suc-le-suc, zero-mul, one-mul, add-mul, zero-add}
 use native.Mathlib.Omega.{arith}
 use lib.ListN.{length, getD, take, drop, set, replicate, length-replicate, getD-replicate}
 use lib.Dec.{eqb, ltb, leb}
 use lib.Bits.{bitAnd, bitOr, and-mask, and-comm}
-use borrow.Author.Tests.{lt-ltb, le-ltb, eq-eqb, ne-eqb, eqb-true, eqb-false, ltb-true, ltb-false, lt-leb}
-use Rattle.cells.specs.Pick.{pick, pick-true, pick-false, and-right, unlike}
+use borrow.Author.Tests.{lt-ltb, le-ltb, eq-eqb, ne-eqb, eqb-true, eqb-false, ltb-true, ltb-false, lt-leb, not-false}
+use Rattle.cells.specs.Pick.{pick, pick-true, pick-false, and-right, or-left, or-right, unlike}
 use Rattle.model.proofs.Status.{fits, all-below}
 use Rattle.cells.specs.Lists.{overlaid, laid, laid-more, laid-all}
 use Rattle.cells.specs.Bytes.{Bytes, overlaid-in, overlaid-length}
@@ -37,7 +38,7 @@ use Rattle.model.proofs.Keeping.{st}
 use Rattle.loader.specs.declared.Stage.{Stage}
 use Rattle.loader.specs.declared.Stage.the-variants.{Clearing, Opening, Reading, EraseAsking, EraseConfirming, EraseWaiting, ProgramAsking, ProgramSending, ProgramWaiting, Closing, Verifying, Ended}
 use Rattle.loader.specs.declared.Loader.{Loader}
-use Rattle.loader.specs.Walks.{mustRise, nextDiff, diffFrom, risesIn}
+use Rattle.loader.specs.Walks.{mustRise, rises, nextDiff, diffFrom, risesIn}
 use Rattle.loader.specs.Moves.{firstOf, hereOf, cycleOf, storeOf, nextOf, onward, afterReads, readMore, pollMore, erasePolled, past, programPolled, verifyMore, eraseFault, programFault, bothErrors, erasedWell}
 use Rattle.loader.proofs.Small.{length-small}
 use Rattle.loader.proofs.Walking.{diff-turn, diff-over}
@@ -45,7 +46,7 @@ use Rattle.chip.specs.declared.Cycle.{Cycle}
 use Rattle.model.specs.Begun.{isAwaited, pendingIn}
 use Rattle.model.proofs.Lives.{begunFrom}
 use Rattle.run.specs.Turns.{Config, isEnded, loaderBy, scratchBy, turnOf}
-use Rattle.run.specs.Wear.{noted, begunTurn, programsOf, differing}
+use Rattle.run.specs.Wear.{noted, begunTurn, programsOf, differing, baseOf, operationsOf}
 use Rattle.run.proofs.Turning.{conf}
 use Rattle.run.proofs.Reaching.{Reach, arrive, prepend, turned, begins}
 use Rattle.run.proofs.Layers.{put-over, over-over, laid-length, laid-here, laid-agree}
@@ -61,6 +62,20 @@ cleared x f =
     imply : (x y : Bool) → (not x || y) ≡ true → x ≡ true → y ≡ true
     imply true y h k = h
     imply false y h k = absurd (unlike (sym k))
+
+-- all ones keep any byte
+all-ones : (v : ℕ) → v < 256 → bitAnd 255 v ≡ v
+all-ones v h = and-comm 255 v ∙ and-mask v 8 ∙ mod-eq-of-lt h
+
+-- where no bit must rise, every byte held keeps the bits wanted
+no-rise : (n i : ℕ) (w s : List ℕ) → rises n i w s ≡ false → (j : ℕ) → j < n → mustRise (getD s (i + j) 0) (getD w (i + j) 0) ≡ false
+no-rise zero i w s e j h = absurd (not-suc-le-zero h)
+no-rise (suc n) i w s e zero h =
+    subst (λ (m : ℕ). mustRise (getD s m 0) (getD w m 0) ≡ false) (let q : i ≡ i + 0 = omega arith in q)
+    (or-left (mustRise (getD s i 0) (getD w i 0)) (rises n (i + 1) w s) e)
+no-rise (suc n) i w s e (suc j) h =
+    subst (λ (m : ℕ). mustRise (getD s m 0) (getD w m 0) ≡ false) (let q : i + 1 + j ≡ i + suc j = omega arith in q)
+    (no-rise n (i + 1) w s (or-right (mustRise (getD s i 0) (getD w i 0)) (rises n (i + 1) w s) e) j (le-of-suc-le-suc h))
 
 module _ (d : Device) (p : Pins) (k : ℕ) (r : Ready d p k) (w : List ℕ) (lw : length w ≡ lengthOf (d .part) k) (some : 0 < length w) where
   abbrev a : ℕ
@@ -318,6 +333,12 @@ module _ (d : Device) (p : Pins) (k : ℕ) (r : Ready d p k) (w : List ℕ) (lw 
             (λ cnt′ s. subst (λ (y : List ℕ). Reach d w (conf (onto (i + 1) sc) (atRest Status 128) (overlaid xs a y) sc cnt′) (final (overlaid xs a w) c) (programsOf j a (i + 1) w sc))
                 (sym (laid-more w sc i h (omega arith))) (more cnt′ c Status (omega arith) (let u = rw t at q in omega arith)))))
 
+    unrisen : (ys : List ℕ) → risesIn w ys ≡ false → (i : ℕ) → i < length w → bitAnd (getD ys i 0) (getD w i 0) ≡ getD w i 0
+    unfolding risesIn
+    unrisen ys e i h =
+        subst (λ (m : ℕ). bitAnd (getD ys m 0) (getD w m 0) ≡ getD w m 0) (let q : 0 + i ≡ i = omega arith in q)
+        (eqb-true (bitAnd (getD ys (0 + i) 0) (getD w (0 + i) 0)) (getD w (0 + i) 0) (not-false (eqb (bitAnd (getD ys (0 + i) 0) (getD w (0 + i) 0)) (getD w (0 + i) 0)) (no-rise (length w) 0 w ys e i h)))
+
     -- the block all ones
     abbrev blank : List ℕ
     blank = replicate (length w) 255
@@ -435,3 +456,40 @@ module _ (d : Device) (p : Pins) (k : ℕ) (r : Ready d p k) (w : List ℕ) (lw 
           dec1 = at-first Clearing 0 0 Write 0x50 (atRest m x) _ (answers.clears d p k r m x a f a-inside ∙ ap (λ (y : ℕ). decidedAs Quiet (atRest m y) Nothing) (cleared x f))
           dec2 : decideOf d (atRest m 128) (cycleOf (rec Opening 0 0) w) (sizeOf (d .part)) 0 ≡ decidedAs Quiet (atRest Array 128) Nothing
           dec2 = at-first Opening 0 0 Write 0xFF (atRest m 128) _ (answers.opens d p k r m 128 a refl a-inside)
+
+      -- the whole load, whether some bit must rise or none
+      pub loading : (m : Mode) (x c : ℕ) → fits 2 x ≡ true → Bytes w → 0 < d .program → d .program ≤ 65535 → 0 < d .erase → d .erase ≤ 65535
+          → c ≡ 2 * length w + 3 + (pick (risesIn w ys) (2 + d .erase) 0 + costs (length w) 0 (baseOf w ys))
+          → Reach d w (conf (rec Clearing 0 0) (atRest m x) (overlaid xs a ys) sc 0) (final (overlaid xs a w) c) (operationsOf k a w ys)
+      loading m x c f bw zp bp ze be q = go (risesIn w ys) refl
+        where
+          go : (t : Bool) → risesIn w ys ≡ t → Reach d w (conf (rec Clearing 0 0) (atRest m x) (overlaid xs a ys) sc 0) (final (overlaid xs a w) c) (operationsOf k a w ys)
+          go true t =
+              subst (λ (es : List Effect). Reach d w (conf (rec Clearing 0 0) (atRest m x) (overlaid xs a ys) sc 0) (final (overlaid xs a w) c) es) (sym listed)
+              (opening m x f (final (overlaid xs a w) c) (Erase k ∷ programsOf (length w) a 0 w blank)
+              (λ cnt z. subst (λ (l : Loader). Reach d w (conf l (atRest Array 128) (overlaid xs a ys) ys cnt) (final (overlaid xs a w) c) (Erase k ∷ programsOf (length w) a 0 w blank)) (sym (pick-true (risesIn w ys) _ _ t))
+              (erasing Array cnt ys ys (final (overlaid xs a w) c) (programsOf (length w) a 0 w blank) ly ly ze be
+              (λ cnt′ y. walking blank (length-replicate (length w) 255) (λ i h. full i h) zp bp (length w) 0 cnt′ c Status (omega arith) (let u = rw t at q in omega arith)))))
+            where
+              listed : operationsOf k a w ys ≡ Erase k ∷ programsOf (length w) a 0 w blank
+              listed = simp t
+              full : (i : ℕ) → i < length w → bitAnd (getD blank i 0) (getD w i 0) ≡ getD w i 0
+              full i h = ap (λ (y : ℕ). bitAnd y (getD w i 0)) (getD-replicate (length w) i 255 0 h) ∙ all-ones (getD w i 0) (bw i)
+          go false t =
+              subst (λ (es : List Effect). Reach d w (conf (rec Clearing 0 0) (atRest m x) (overlaid xs a ys) sc 0) (final (overlaid xs a w) c) es) (sym listed)
+              (opening m x f (final (overlaid xs a w) c) (programsOf (length w) a 0 w ys)
+              (λ cnt z. subst (λ (l : Loader). Reach d w (conf l (atRest Array 128) (overlaid xs a ys) ys cnt) (final (overlaid xs a w) c) (programsOf (length w) a 0 w ys)) (sym (pick-false (risesIn w ys) _ _ t))
+              (walking ys ly (λ i h. unrisen ys t i h) zp bp (length w) 0 cnt c Array (omega arith) (let u = rw t at q in omega arith))))
+            where
+              listed : operationsOf k a w ys ≡ programsOf (length w) a 0 w ys
+              listed = simp t
+
+    -- the cost of the programs is a product
+    costs-are : (j i : ℕ) (sc : List ℕ) → costs j i sc ≡ differing j i w sc * (2 + d .program)
+    costs-are zero i sc = sym (zero-mul (2 + d .program))
+    costs-are (suc j) i sc = go (eqb (getD sc i 0) (getD w i 0)) (costs-are j (i + 1) sc)
+      where
+        go : (t : Bool) → costs j (i + 1) sc ≡ differing j (i + 1) w sc * (2 + d .program)
+            → pick t 0 (2 + d .program) + costs j (i + 1) sc ≡ (pick t 0 1 + differing j (i + 1) w sc) * (2 + d .program)
+        go true e = rw e (let z = zero-add (differing j (i + 1) w sc) in rw z (omega arith))
+        go false e = rw (e, add-mul 1 (differing j (i + 1) w sc) (2 + d .program), one-mul (2 + d .program)) refl

@@ -1,8 +1,8 @@
 -- The operations that a load begins, by the model's own definition, and what is wanted of it. Assumes nothing.
 use mathlib.Core.Bool.{Bool, true, false}
 use mathlib.Core.List.{List, [], _∷_}
-use Prim.Native.Nat.{ℕ, zero, suc, _+_}
-use lib.ListN.{length, getD}
+use Prim.Native.Nat.{ℕ, zero, suc, _+_, _*_}
+use lib.ListN.{length, getD, take, drop, replicate}
 use lib.Dec.{eqb}
 use Rattle.cells.specs.Pick.{pick}
 use Rattle.device.specs.declared.Device.{Device}
@@ -10,6 +10,7 @@ use Rattle.chip.specs.declared.Effect.{Effect}
 use Rattle.chip.specs.declared.Effect.the-variants.{Nothing, Program, Erase, CutProgram, CutErase}
 use Rattle.model.specs.Begun.{begunBy}
 use Rattle.loader.specs.Moves.{cycleOf}
+use Rattle.loader.specs.Walks.{risesIn}
 use Rattle.run.specs.Turns.{Config, isEnded, turnOf}
 
 -- an operation noted before those that follow
@@ -38,3 +39,26 @@ programsOf (suc k) a i w s = pick (eqb (getD s i 0) (getD w i 0)) (programsOf k 
 abbrev pub differing : ℕ → ℕ → List ℕ → List ℕ → ℕ
 differing zero i w s = 0
 differing (suc k) i w s = pick (eqb (getD s i 0) (getD w i 0)) 0 1 + differing k (i + 1) w s
+
+-- what a block of an array holds
+abbrev pub heldIn : ℕ → ℕ → List ℕ → List ℕ
+heldIn a n xs = take n (drop a xs)
+
+-- what the programs of a load start from: all ones if some bit must rise, else what was held
+abbrev pub baseOf : List ℕ → List ℕ → List ℕ
+baseOf w ys = pick (risesIn w ys) (replicate (length w) 255) ys
+
+-- erases and programs that a load begins
+abbrev pub erasesOf : List ℕ → List ℕ → ℕ
+erasesOf w ys = pick (risesIn w ys) 1 0
+
+abbrev pub programsIn : List ℕ → List ℕ → ℕ
+programsIn w ys = differing (length w) 0 w (baseOf w ys)
+
+-- the count of a good run: 2n + 3 + e(2 + E) + p(2 + P)
+abbrev pub formula : Device → List ℕ → List ℕ → ℕ
+formula d w ys = 2 * length w + 3 + erasesOf w ys * (2 + d .erase) + programsIn w ys * (2 + d .program)
+
+-- the operations that a load of a block k at a begins, in their order
+abbrev pub operationsOf : ℕ → ℕ → List ℕ → List ℕ → List Effect
+operationsOf k a w ys = pick (risesIn w ys) (Erase k ∷ programsOf (length w) a 0 w (baseOf w ys)) (programsOf (length w) a 0 w (baseOf w ys))
