@@ -184,8 +184,8 @@ module _ (d : Device) (p : Pins) (k : ℕ) (r : Ready d p k) where
       let s : State = st Status 0 ph (left + 1) a in
       let c : Cycle = cyc p Read b 0 in
       let t : settleOf (d .part) s p ≡ settledAs (st Status 0 ph left a) Nothing =
-          settles s ∙ pick-true (isBusy ph) (countedOff (d .part) s) (settledAs s Nothing) e ∙ pick-false (leb (left + 1) 1) _ _ (lt-leb (left + 1) 1 (omega arith))
-          ∙ ap (λ (j : ℕ). settledAs (st Status 0 ph j a) Nothing) (let q : left + 1 - 1 ≡ left = omega arith in q) in
+      settles s ∙ pick-true (isBusy ph) (countedOff (d .part) s) (settledAs s Nothing) e ∙ pick-false (leb (left + 1) 1) _ _ (lt-leb (left + 1) 1 (omega arith))
+      ∙ ap (λ (j : ℕ). settledAs (st Status 0 ph j a) Nothing) (let q : left + 1 - 1 ≡ left = omega arith in q) in
       decides s Read b 0 (busy-proper ph (left + 1) a e (omega arith) m h) g (ap (λ (u : Settled). lateOf (d .part) (u .state) c) t ∙ late-status (st Status 0 ph left a) b refl)
       ∙ ap (λ (u : Settled). respondOf Read d c u) t
 
@@ -196,6 +196,6 @@ module _ (d : Device) (p : Pins) (k : ℕ) (r : Ready d p k) where
       let s : State = st Status 0 ph 1 a in
       let c : Cycle = cyc p Read b 0 in
       let t : settleOf (d .part) s p ≡ settledAs (atRest Status 128) (endOf ph (d .part) a) =
-          settles s ∙ pick-true (isBusy ph) (countedOff (d .part) s) (settledAs s Nothing) e in
+      settles s ∙ pick-true (isBusy ph) (countedOff (d .part) s) (settledAs s Nothing) e in
       decides s Read b 0 (busy-proper ph 1 a e (omega arith) m h) g (ap (λ (u : Settled). lateOf (d .part) (u .state) c) t ∙ late-status (atRest Status 128) b refl)
       ∙ ap (λ (u : Settled). respondOf Read d c u) t

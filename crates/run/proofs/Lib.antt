@@ -5,3 +5,4 @@ pub mod Answers
 pub mod Reaching
 pub mod Layers
 pub mod Phases
+pub mod Demand

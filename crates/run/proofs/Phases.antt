@@ -208,7 +208,7 @@ module _ (d : Device) (p : Pins) (k : ℕ) (r : Ready d p k) (w : List ℕ) (lw 
           subst (λ (n : ℕ). Reach d w (conf (rec W i q) (st Status 0 ph n adr) X sc cnt) e es) (let z : left + 1 + 1 ≡ suc left + 1 = omega arith in z)
           (prepend d w _ (conf (rec W i (q + 1)) (st Status 0 ph (left + 1) adr) X sc (cnt + 1)) e Nothing es
           (turned d w (rec W i q) (st Status 0 ph (left + 1 + 1) adr) X sc cnt going lX (Gives 0) (st Status 0 ph (left + 1) adr) Nothing dec
-              ∙ (λ t. conf ((polled q ∙ poll-more q (omega arith)) t) (st Status 0 ph (left + 1) adr) X (kept q t) (cnt + 1)))
+          ∙ (λ t. conf ((polled q ∙ poll-more q (omega arith)) t) (st Status 0 ph (left + 1) adr) X (kept q t) (cnt + 1)))
           (begins d w (rec W i q) (st Status 0 ph (left + 1 + 1) adr) X sc cnt going lX (Gives 0) (st Status 0 ph (left + 1) adr) Nothing dec ∙ none)
           (waiting left (q + 1) (cnt + 1) e es (omega arith) (omega arith) (λ q′ cnt′ z. rest q′ cnt′ (omega arith))))
         where
@@ -216,6 +216,7 @@ module _ (d : Device) (p : Pins) (k : ℕ) (r : Ready d p k) (w : List ℕ) (lw 
           dec =
               ap (λ (x : Cycle). decideOf d (st Status 0 ph (left + 1 + 1) adr) x (sizeOf (d .part)) 0) (goes q)
               ∙ answers.waits d p k r ph (left + 1) adr to busy (omega arith) (omega arith) adr-in to-in
+
           none : begunFrom (d .part) (st Status 0 ph (left + 1 + 1) adr) (st Status 0 ph (left + 1) adr) ≡ Nothing
           none = quiet ph busy
             where
@@ -250,35 +251,42 @@ module _ (d : Device) (p : Pins) (k : ℕ) (r : Ready d p k) (w : List ℕ) (lw 
         (begins d w (rec ProgramSending i 0) asked X sc (cnt + 1) refl lX Quiet (st Status 0 (Programming v) (d .program) (a + i)) Nothing dec2)
         (subst (λ (n : ℕ). Reach d w (conf (rec ProgramWaiting i 0) (st Status 0 (Programming v) n (a + i)) X sc (cnt + 1 + 1)) e es) (let t : d .program - 1 + 1 ≡ d .program = omega arith in t)
         (waiting ProgramWaiting i (Programming v) (a + i) (a + i) refl refl (inside i h) (inside i h) X sc lX
-            (λ q. ap (λ (x : ℕ). cyc p Read x 0) (here ProgramWaiting i q h)) (λ q. program-poll i q sc) (λ q. refl)
-            (d .program - 1) 0 (cnt + 1 + 1) e es (omega arith) (omega arith)
-            (λ q cnt′ t. prepend d w _ _ e Nothing es
-                (turned d w (rec ProgramWaiting i q) (st Status 0 (Programming v) 1 (a + i)) X sc cnt′ refl lX (Gives 128) (atRest Status 128) (Program (a + i) v) (dec3 q)
-                    ∙ (λ u. conf (programmed i q sc h u) (atRest Status 128) (stored u) sc (cnt′ + 1)))
-                (begins d w (rec ProgramWaiting i q) (st Status 0 (Programming v) 1 (a + i)) X sc cnt′ refl lX (Gives 128) (atRest Status 128) (Program (a + i) v) (dec3 q))
-                (rest (cnt′ + 1) (omega arith))))))
+        (λ q. ap (λ (x : ℕ). cyc p Read x 0) (here ProgramWaiting i q h)) (λ q. program-poll i q sc) (λ q. refl)
+        (d .program - 1) 0 (cnt + 1 + 1) e es (omega arith) (omega arith)
+        (λ q cnt′ t. prepend d w _ _ e Nothing es
+        (turned d w (rec ProgramWaiting i q) (st Status 0 (Programming v) 1 (a + i)) X sc cnt′ refl lX (Gives 128) (atRest Status 128) (Program (a + i) v) (dec3 q)
+        ∙ (λ u. conf (programmed i q sc h u) (atRest Status 128) (stored u) sc (cnt′ + 1)))
+        (begins d w (rec ProgramWaiting i q) (st Status 0 (Programming v) 1 (a + i)) X sc cnt′ refl lX (Gives 128) (atRest Status 128) (Program (a + i) v) (dec3 q))
+        (rest (cnt′ + 1) (omega arith))))))
       where
         v : ℕ
         v = getD w i 0
+
         X : List ℕ
         X = overlaid xs a ys
+
         lX : length X ≡ sizeOf (d .part)
         lX = sized ys ly
+
         asked : State
         asked = st Status 128 DataAwaited 0 0
+
         dec1 : decideOf d (atRest m 128) (cycleOf (rec ProgramAsking i 0) w) (sizeOf (d .part)) 0 ≡ decidedAs Quiet asked Nothing
         dec1 = at-here ProgramAsking i 0 Write 0x40 (atRest m 128) _ h (answers.asks-program d p k r m 128 (a + i) refl (inside i h))
+
         dec2 : decideOf d asked (cycleOf (rec ProgramSending i 0) w) (sizeOf (d .part)) 0 ≡ decidedAs Quiet (st Status 0 (Programming v) (d .program) (a + i)) Nothing
         dec2 = at-here ProgramSending i 0 Write v asked _ h (answers.sends d p k r (a + i) v (inside i h) (block-at i h))
+
         dec3 : (q : ℕ) → decideOf d (st Status 0 (Programming v) 1 (a + i)) (cycleOf (rec ProgramWaiting i q) w) (sizeOf (d .part)) 0 ≡ decidedAs (Gives 128) (atRest Status 128) (Program (a + i) v)
         dec3 q = at-here ProgramWaiting i q Read 0 (st Status 0 (Programming v) 1 (a + i)) _ h (answers.ends d p k r (Programming v) (a + i) (a + i) refl z (inside i h) (inside i h))
+
         stored : set X (a + i) (bitAnd (getD X (a + i) 0) v) ≡ overlaid xs a (set ys i v)
         stored =
             ap (λ (x : ℕ). set X (a + i) (bitAnd x v)) (byte-at ys i ly h) ∙ ap (λ (x : ℕ). set X (a + i) x) falls
             ∙ put-over xs a ys i v (a-within xs lx) (omega arith)
 
     -- the cycles that the programs take
-    abbrev costs : ℕ → ℕ → List ℕ → ℕ
+    abbrev pub costs : ℕ → ℕ → List ℕ → ℕ
     costs zero i sc = 0
     costs (suc j) i sc = pick (eqb (getD sc i 0) (getD w i 0)) 0 (2 + d .program) + costs j (i + 1) sc
 
@@ -296,7 +304,7 @@ module _ (d : Device) (p : Pins) (k : ℕ) (r : Ready d p k) (w : List ℕ) (lw 
     unfolding diffFrom
     onto-agrees i sc h e =
         let q : nextDiff (length w - i) i w sc ≡ nextDiff (length w - (i + 1)) (i + 1) w sc =
-            diff-turn (length w) i w sc h ∙ pick-true (eqb (getD sc i 0) (getD w i 0)) (nextDiff (length w - (i + 1)) (i + 1) w sc) i e in
+        diff-turn (length w) i w sc h ∙ pick-true (eqb (getD sc i 0) (getD w i 0)) (nextDiff (length w - (i + 1)) (i + 1) w sc) i e in
         ap (λ (j : ℕ). pick (ltb j (length w)) (rec ProgramAsking j 0) (rec Closing 0 0)) q
 
     -- the programs from place i on, then the verify
@@ -313,8 +321,10 @@ module _ (d : Device) (p : Pins) (k : ℕ) (r : Ready d p k) (w : List ℕ) (lw 
       where
         h : i < length w
         h = omega arith
+
         Goal : List Effect → Type 0
         Goal es = Reach d w (conf (onto i sc) (atRest m 128) (overlaid xs a (laid i w sc)) sc cnt) (final (overlaid xs a w) c) es
+
         go : (t : Bool) → eqb (getD sc i 0) (getD w i 0) ≡ t
             → ((cnt′ c′ : ℕ) (m′ : Mode) → i + 1 + j ≡ length w → c′ ≡ cnt′ + (costs j (i + 1) sc + (1 + length w))
             → Reach d w (conf (onto (i + 1) sc) (atRest m′ 128) (overlaid xs a (laid (i + 1) w sc)) sc cnt′) (final (overlaid xs a w) c′) (programsOf j a (i + 1) w sc))
@@ -331,7 +341,7 @@ module _ (d : Device) (p : Pins) (k : ℕ) (r : Ready d p k) (w : List ℕ) (lw 
             (one-program m i cnt (laid i w sc) sc (final (overlaid xs a w) c) (programsOf j a (i + 1) w sc) h (laid-length w sc (sym ls) i (omega arith) ∙ ls)
             (ap (λ (x : ℕ). bitAnd x (getD w i 0)) (laid-here w sc (sym ls) i (omega arith)) ∙ falls i h) z b
             (λ cnt′ s. subst (λ (y : List ℕ). Reach d w (conf (onto (i + 1) sc) (atRest Status 128) (overlaid xs a y) sc cnt′) (final (overlaid xs a w) c) (programsOf j a (i + 1) w sc))
-                (sym (laid-more w sc i h (omega arith))) (more cnt′ c Status (omega arith) (let u = rw t at q in omega arith)))))
+            (sym (laid-more w sc i h (omega arith))) (more cnt′ c Status (omega arith) (let u = rw t at q in omega arith)))))
 
     unrisen : (ys : List ℕ) → risesIn w ys ≡ false → (i : ℕ) → i < length w → bitAnd (getD ys i 0) (getD w i 0) ≡ getD w i 0
     unfolding risesIn
@@ -375,26 +385,32 @@ module _ (d : Device) (p : Pins) (k : ℕ) (r : Ready d p k) (w : List ℕ) (lw 
         (begins d w (rec EraseConfirming 0 0) asked X sc (cnt + 1) refl lX Quiet (st Status 0 Erasing (d .erase) a) Nothing dec2 ∙ ap Erase block-first)
         (subst (λ (n : ℕ). Reach d w (conf (rec EraseWaiting 0 0) (st Status 0 Erasing n a) X sc (cnt + 1 + 1)) e es) (let t : d .erase - 1 + 1 ≡ d .erase = omega arith in t)
         (waiting EraseWaiting 0 Erasing a a refl refl a-inside a-inside X sc lX
-            (λ q. ap (λ (x : ℕ). cyc p Read x 0) (first EraseWaiting 0 q)) (λ q. ap (λ (y : List ℕ). nextOf (rec EraseWaiting 0 q) 0 w y) (erase-keeps q sc) ∙ erase-poll q sc) (λ q. erase-keeps q sc)
-            (d .erase - 1) 0 (cnt + 1 + 1) e es (omega arith) (omega arith)
-            (λ q cnt′ t. prepend d w _ _ e Nothing es
-                (turned d w (rec EraseWaiting 0 q) (st Status 0 Erasing 1 a) X sc cnt′ refl lX (Gives 128) (atRest Status 128) (Erase (blockOf (d .part) a)) (dec3 q)
-                    ∙ (λ u. conf ((ap (λ (y : List ℕ). nextOf (rec EraseWaiting 0 q) 128 w y) (erase-fills q sc ls) ∙ erased-on q blank) u) (atRest Status 128) (ones u) (erase-fills q sc ls u) (cnt′ + 1)))
-                (begins d w (rec EraseWaiting 0 q) (st Status 0 Erasing 1 a) X sc cnt′ refl lX (Gives 128) (atRest Status 128) (Erase (blockOf (d .part) a)) (dec3 q))
-                (rest (cnt′ + 1) (omega arith))))))
+        (λ q. ap (λ (x : ℕ). cyc p Read x 0) (first EraseWaiting 0 q)) (λ q. ap (λ (y : List ℕ). nextOf (rec EraseWaiting 0 q) 0 w y) (erase-keeps q sc) ∙ erase-poll q sc) (λ q. erase-keeps q sc)
+        (d .erase - 1) 0 (cnt + 1 + 1) e es (omega arith) (omega arith)
+        (λ q cnt′ t. prepend d w _ _ e Nothing es
+        (turned d w (rec EraseWaiting 0 q) (st Status 0 Erasing 1 a) X sc cnt′ refl lX (Gives 128) (atRest Status 128) (Erase (blockOf (d .part) a)) (dec3 q)
+        ∙ (λ u. conf ((ap (λ (y : List ℕ). nextOf (rec EraseWaiting 0 q) 128 w y) (erase-fills q sc ls) ∙ erased-on q blank) u) (atRest Status 128) (ones u) (erase-fills q sc ls u) (cnt′ + 1)))
+        (begins d w (rec EraseWaiting 0 q) (st Status 0 Erasing 1 a) X sc cnt′ refl lX (Gives 128) (atRest Status 128) (Erase (blockOf (d .part) a)) (dec3 q))
+        (rest (cnt′ + 1) (omega arith))))))
       where
         X : List ℕ
         X = overlaid xs a ys
+
         lX : length X ≡ sizeOf (d .part)
         lX = sized ys ly
+
         asked : State
         asked = st Status 128 EraseAwaited 0 0
+
         dec1 : decideOf d (atRest m 128) (cycleOf (rec EraseAsking 0 0) w) (sizeOf (d .part)) 0 ≡ decidedAs Quiet asked Nothing
         dec1 = at-first EraseAsking 0 0 Write 0x20 (atRest m 128) _ (answers.asks-erase d p k r m 128 a refl a-inside)
+
         dec2 : decideOf d asked (cycleOf (rec EraseConfirming 0 0) w) (sizeOf (d .part)) 0 ≡ decidedAs Quiet (st Status 0 Erasing (d .erase) a) Nothing
         dec2 = at-first EraseConfirming 0 0 Write 0xD0 asked _ (answers.confirms d p k r a a-inside block-first)
+
         dec3 : (q : ℕ) → decideOf d (st Status 0 Erasing 1 a) (cycleOf (rec EraseWaiting 0 q) w) (sizeOf (d .part)) 0 ≡ decidedAs (Gives 128) (atRest Status 128) (Erase (blockOf (d .part) a))
         dec3 q = at-first EraseWaiting 0 q Read 0 (st Status 0 Erasing 1 a) _ (answers.ends d p k r Erasing a a refl z a-inside a-inside)
+
         ones : erased (d .part) (blockOf (d .part) a) X ≡ overlaid xs a blank
         ones = erased-blank X (blockOf (d .part) a) block-first ∙ over-over xs a ys blank (a-within xs lx) (ly ∙ sym (length-replicate (length w) 255))
 
@@ -425,7 +441,7 @@ module _ (d : Device) (p : Pins) (k : ℕ) (r : Ready d p k) (w : List ℕ) (lw 
           let h : i < length w = omega arith in
           prepend d w _ _ e Nothing es
           (turned d w (rec Reading i 0) (atRest Array 128) (overlaid xs a ys) (laid i ys sc) cnt refl (sized ys ly) (GivesArray (a + i)) (atRest Array 128) Nothing (read-dec i h)
-              ∙ (λ t. conf ((ap (λ (y : List ℕ). readMore (rec Reading i 0) w y) (laid-read i h ∙ whole) ∙ read-last i ys (omega arith) ∙ after-same i ys) t) (atRest Array 128) (overlaid xs a ys) ((laid-read i h ∙ whole) t) (cnt + 1)))
+          ∙ (λ t. conf ((ap (λ (y : List ℕ). readMore (rec Reading i 0) w y) (laid-read i h ∙ whole) ∙ read-last i ys (omega arith) ∙ after-same i ys) t) (atRest Array 128) (overlaid xs a ys) ((laid-read i h ∙ whole) t) (cnt + 1)))
           (begins d w (rec Reading i 0) (atRest Array 128) (overlaid xs a ys) (laid i ys sc) cnt refl (sized ys ly) (GivesArray (a + i)) (atRest Array 128) Nothing (read-dec i h))
           (rest (cnt + 1) (omega arith))
         where
@@ -435,7 +451,7 @@ module _ (d : Device) (p : Pins) (k : ℕ) (r : Ready d p k) (w : List ℕ) (lw 
           let h : i < length w = omega arith in
           prepend d w _ _ e Nothing es
           (turned d w (rec Reading i 0) (atRest Array 128) (overlaid xs a ys) (laid i ys sc) cnt refl (sized ys ly) (GivesArray (a + i)) (atRest Array 128) Nothing (read-dec i h)
-              ∙ (λ t. conf (read-next i (set (laid i ys sc) i (getD (overlaid xs a ys) (a + i) 0)) (omega arith) t) (atRest Array 128) (overlaid xs a ys) (laid-read i h t) (cnt + 1)))
+          ∙ (λ t. conf (read-next i (set (laid i ys sc) i (getD (overlaid xs a ys) (a + i) 0)) (omega arith) t) (atRest Array 128) (overlaid xs a ys) (laid-read i h t) (cnt + 1)))
           (begins d w (rec Reading i 0) (atRest Array 128) (overlaid xs a ys) (laid i ys sc) cnt refl (sized ys ly) (GivesArray (a + i)) (atRest Array 128) Nothing (read-dec i h))
           (reading j (i + 1) (cnt + 1) e es (omega arith) (λ cnt′ z. rest cnt′ (omega arith)))
 
@@ -454,6 +470,7 @@ module _ (d : Device) (p : Pins) (k : ℕ) (r : Ready d p k) (w : List ℕ) (lw 
         where
           dec1 : decideOf d (atRest m x) (cycleOf (rec Clearing 0 0) w) (sizeOf (d .part)) 0 ≡ decidedAs Quiet (atRest m 128) Nothing
           dec1 = at-first Clearing 0 0 Write 0x50 (atRest m x) _ (answers.clears d p k r m x a f a-inside ∙ ap (λ (y : ℕ). decidedAs Quiet (atRest m y) Nothing) (cleared x f))
+
           dec2 : decideOf d (atRest m 128) (cycleOf (rec Opening 0 0) w) (sizeOf (d .part)) 0 ≡ decidedAs Quiet (atRest Array 128) Nothing
           dec2 = at-first Opening 0 0 Write 0xFF (atRest m 128) _ (answers.opens d p k r m 128 a refl a-inside)
 
@@ -473,6 +490,7 @@ module _ (d : Device) (p : Pins) (k : ℕ) (r : Ready d p k) (w : List ℕ) (lw 
             where
               listed : operationsOf k a w ys ≡ Erase k ∷ programsOf (length w) a 0 w blank
               listed = simp t
+
               full : (i : ℕ) → i < length w → bitAnd (getD blank i 0) (getD w i 0) ≡ getD w i 0
               full i h = ap (λ (y : ℕ). bitAnd y (getD w i 0)) (getD-replicate (length w) i 255 0 h) ∙ all-ones (getD w i 0) (bw i)
           go false t =
@@ -485,7 +503,7 @@ module _ (d : Device) (p : Pins) (k : ℕ) (r : Ready d p k) (w : List ℕ) (lw 
               listed = simp t
 
     -- the cost of the programs is a product
-    costs-are : (j i : ℕ) (sc : List ℕ) → costs j i sc ≡ differing j i w sc * (2 + d .program)
+    pub costs-are : (j i : ℕ) (sc : List ℕ) → costs j i sc ≡ differing j i w sc * (2 + d .program)
     costs-are zero i sc = sym (zero-mul (2 + d .program))
     costs-are (suc j) i sc = go (eqb (getD sc i 0) (getD w i 0)) (costs-are j (i + 1) sc)
       where

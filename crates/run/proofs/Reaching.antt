@@ -41,7 +41,7 @@ prepend d w c c′ e op es t b r =
       turns = suc (r .turns);
       there = ap (λ (x : Config). after (r .turns) d w x) t ∙ r .there;
       begun =
-          ap (λ (o : Effect). noted o (begunIn (r .turns) d w (turnOf d w c))) b ∙ ap (λ (x : Config). noted op (begunIn (r .turns) d w x)) t ∙ ap (λ (z : List Effect). noted op z) (r .begun)
+          ap (λ (o : Effect). noted o (begunIn (r .turns) d w (turnOf d w c))) b ∙ ap (λ (x : Config). noted op (begunIn (r .turns) d w x)) t ∙ ap (λ (z : List Effect). noted op z) (r .begun);
     }
 
 module _ (d : Device) (w : List ℕ) (l : Loader) (s : State) (xs sc : List ℕ) (cnt : ℕ) (going : isEnded (l .stage) ≡ false) (sized : length xs ≡ sizeOf (d .part))
