@@ -6,3 +6,4 @@ pub mod Reaching
 pub mod Layers
 pub mod Phases
 pub mod Demand
+pub mod Wearing

@@ -1,0 +1,86 @@
+-- Any cycles on a device, one after the other: where they lead, what they do to the array and what they begin. Assumes nothing.
+use mathlib.Core.Bool.{Bool, true, false, not, _&&_}
+use mathlib.Core.List.{List, [], _∷_}
+use Prim.Native.Nat.{ℕ, _+_}
+use lib.ListN.{length}
+use lib.Dec.{eqb, ltb}
+use Rattle.cells.specs.Pick.{pick}
+use Rattle.device.specs.declared.Device.{Device}
+use Rattle.chip.specs.declared.State.{State}
+use Rattle.chip.specs.declared.Cycle.{Cycle}
+use Rattle.chip.specs.declared.Effect.{Effect}
+use Rattle.chip.specs.declared.Effect.the-variants.{Nothing, Program, Erase, CutProgram, CutErase}
+use Rattle.chip.specs.Cycles.{decideOf}
+use Rattle.model.specs.Arrays.{answerOf, arrayAfter}
+use Rattle.model.specs.Begun.{begunBy}
+
+-- a cycle with the residue that is lent with it
+pub record Bus : Type 0 where
+  pub cycle : Cycle
+  pub residue : List ℕ
+
+-- a device between two cycles
+pub record World : Type 0 where
+  pub state : State
+  pub bytes : List ℕ
+
+abbrev pub stepped : Device → World → Bus → World
+stepped d v b =
+    record { state = answerOf d (v .state) (b .cycle) (v .bytes) (b .residue) .state; bytes = arrayAfter d (v .state) (b .cycle) (v .bytes) (b .residue) }
+
+-- where the cycles lead
+abbrev pub worldAfter : Device → World → List Bus → World
+worldAfter d v [] = v
+worldAfter d v (b ∷ bs) = worldAfter d (stepped d v b) bs
+
+abbrev pub effectBy : Device → World → Bus → Effect
+effectBy d v b = decideOf d (v .state) (b .cycle) (length (v .bytes)) (length (b .residue)) .effect
+
+-- what they do to the array
+abbrev pub effectsIn : Device → World → List Bus → List Effect
+effectsIn d v [] = []
+effectsIn d v (b ∷ bs) = effectBy d v b ∷ effectsIn d (stepped d v b) bs
+
+-- what they begin
+abbrev pub begunOver : Device → World → List Bus → List Effect
+begunOver d v [] = []
+begunOver d v (b ∷ bs) = begunBy d (v .state) (b .cycle) (length (v .bytes)) (length (b .residue)) ∷ begunOver d (stepped d v b) bs
+
+abbrev pub isCut : Effect → Bool
+isCut Nothing = false
+isCut (Program a b) = false
+isCut (Erase k) = false
+isCut (CutProgram a b) = true
+isCut (CutErase k) = true
+
+-- no operation is cut
+abbrev pub uncut : List Effect → Bool
+uncut [] = true
+uncut (e ∷ es) = not (isCut e) && uncut es
+
+-- the sum of a weight over operations
+abbrev pub total : (Effect → ℕ) → List Effect → ℕ
+total f [] = 0
+total f (e ∷ es) = f e + total f es
+
+-- the weight of an erase of block k, of a program at an address, and of a program in n bytes from a on
+abbrev pub eraseOf : ℕ → Effect → ℕ
+eraseOf k Nothing = 0
+eraseOf k (Program at b) = 0
+eraseOf k (Erase j) = pick (eqb j k) 1 0
+eraseOf k (CutProgram at b) = 0
+eraseOf k (CutErase j) = 0
+
+abbrev pub programAt : ℕ → Effect → ℕ
+programAt x Nothing = 0
+programAt x (Program at b) = pick (eqb at x) 1 0
+programAt x (Erase j) = 0
+programAt x (CutProgram at b) = 0
+programAt x (CutErase j) = 0
+
+abbrev pub programIn : ℕ → ℕ → Effect → ℕ
+programIn a n Nothing = 0
+programIn a n (Program at b) = pick (ltb at a) 0 (pick (ltb at (a + n)) 1 0)
+programIn a n (Erase j) = 0
+programIn a n (CutProgram at b) = 0
+programIn a n (CutErase j) = 0
