@@ -7,3 +7,4 @@ pub mod Layers
 pub mod Phases
 pub mod Demand
 pub mod Wearing
+pub mod Least

@@ -42,7 +42,7 @@ byteAll part x [] v = v
 byteAll part x (e ∷ es) v = byteAll part x es (byteBy part x e v)
 
 -- an address lies in its own block, and in no other
-lies : (part : Part) (j x : ℕ) → startOf part j ≤ x → x < startOf part j + lengthOf part j → blockOf part x ≡ j
+pub lies : (part : Part) (j x : ℕ) → startOf part j ≤ x → x < startOf part j + lengthOf part j → blockOf part x ≡ j
 unfolding startOf lengthOf
 lies part j x f t = blocks-apart part j x (record { from = f; to = t })
 
@@ -59,12 +59,16 @@ erase-byte part j x xs lx hx = go (eqb j (blockOf part x)) refl
   where
     s : ℕ
     s = startOf part j
+
     n : ℕ
     n = lengthOf part j
+
     R : List ℕ
     R = replicate n 255
+
     fit : s + length R ≤ length xs
     fit = omega (arith, length-replicate {A = ℕ} n 255, blocks-end-inside part j)
+
     away : eqb j (blockOf part x) ≡ false → (t : Bool) → ltb x s ≡ t → getD (overlaid xs s R) x 0 ≡ getD xs x 0
     away e true t = overlaid-before xs s R fit x (ltb-true _ _ t)
     away e false t =
@@ -80,13 +84,14 @@ erase-byte part j x xs lx hx = go (eqb j (blockOf part x)) refl
             split : (b : Bool) → ltb x (startOf part j + lengthOf part j) ≡ b → startOf part j + lengthOf part j ≤ x
             split true b = absurd (ne (sym (lies part j x f (ltb-true _ _ b))))
             split false b = ltb-false _ _ b
+
     go : (b : Bool) → eqb j (blockOf part x) ≡ b → getD (overlaid xs s R) x 0 ≡ pick (eqb j (blockOf part x)) 255 (getD xs x 0)
     go true e =
         let h = holds part j x hx (eqb-true _ _ e) in
         let l = length-replicate {A = ℕ} n 255 in
         let q : s + (x - s) ≡ x = omega (arith, h .0) in
         subst (λ (y : ℕ). getD (overlaid xs s R) y 0 ≡ 255) q
-            (overlaid-in xs s R fit (x - s) (omega (arith, h .0, h .1)) ∙ getD-replicate n (x - s) 255 0 (omega (arith, h .0, h .1)))
+        (overlaid-in xs s R fit (x - s) (omega (arith, h .0, h .1)) ∙ getD-replicate n (x - s) 255 0 (omega (arith, h .0, h .1)))
         ∙ sym (pick-true (eqb j (blockOf part x)) 255 (getD xs x 0) e)
     go false e = away e (ltb x s) refl ∙ sym (pick-false (eqb j (blockOf part x)) 255 (getD xs x 0) e)
 
@@ -120,7 +125,7 @@ bytes-after [] d v x lx hx u = refl
 bytes-after (b ∷ bs) d v x lx hx u =
     bytes-after bs d (stepped d v b) x (cycle-length d (v .state) (b .cycle) (v .bytes) (b .residue) ∙ lx) hx (and-right (not (isCut (effectBy d v b))) (uncut (effectsIn d (stepped d v b) bs)) u)
     ∙ ap (λ (y : ℕ). byteAll (d .part) x (effectsIn d (stepped d v b) bs) y)
-        (step-byte d v b x lx hx (not-true (isCut (effectBy d v b)) (and-left (not (isCut (effectBy d v b))) (uncut (effectsIn d (stepped d v b) bs)) u)))
+    (step-byte d v b x lx hx (not-true (isCut (effectBy d v b)) (and-left (not (isCut (effectBy d v b))) (uncut (effectsIn d (stepped d v b) bs)) u)))
 
 -- AND on numbers: the order of three does not matter
 and-low : (a b : ℕ) → bitAnd a b % 2 ≡ min (a % 2) (b % 2)
@@ -131,8 +136,10 @@ and-three = bin-ind (λ (a : ℕ). (b c : ℕ) → bitAnd (bitAnd a b) c ≡ bit
   where
     highs : (a b c : ℕ) → bitAnd (bitAnd (a / 2) (b / 2)) (c / 2) ≡ bitAnd (a / 2) (bitAnd (b / 2) (c / 2)) → bitAnd (bitAnd a b / 2) (c / 2) ≡ bitAnd (a / 2) (bitAnd b c / 2)
     highs a b c h = rw (and-shr a b 1, and-shr b c 1) h
+
     lows : (a b c : ℕ) → min (bitAnd a b % 2) (c % 2) ≡ min (a % 2) (bitAnd b c % 2)
     lows a b c = rw (and-low a b, and-low b c) (omega arith)
+
     turn : (a b c : ℕ) → bitAnd (bitAnd (a / 2) (b / 2)) (c / 2) ≡ bitAnd (a / 2) (bitAnd (b / 2) (c / 2)) → bitAnd (bitAnd a b) c ≡ bitAnd a (bitAnd b c)
     turn a b c h =
         and-step (bitAnd a b) c

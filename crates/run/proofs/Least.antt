@@ -1,0 +1,161 @@
+-- Least wear: no uncut cycles from the same start to the same block contents begin fewer erases of the block or fewer programs
+-- in it. Assumes nothing.
+use mathlib.Core.Path.{_≡_, refl, sym, ap, _∙_, subst}
+use mathlib.Core.Bool.{Bool, true, false, not, _&&_, _||_}
+use mathlib.Core.List.{List, [], _∷_}
+use Prim.Native.Nat.{ℕ, zero, suc, _+_, _-_, _≤_, _<_}
+use native.Mathlib.Nat.{mod-eq-of-lt}
+use native.Mathlib.Omega.{arith}
+use lib.ListN.{length, getD, take, drop, replicate, getD-replicate}
+use lib.Seq.{getD-take, getD-drop}
+use lib.Bits.{bitAnd, and-mask}
+use lib.Dec.{eqb, ltb}
+use borrow.Author.Tests.{eqb-true, eqb-false, eq-eqb, ne-eqb, not-false, not-true}
+use Rattle.cells.specs.Pick.{pick, pick-true, pick-false, or-both, or-left, or-right, unlike}
+use Rattle.cells.specs.Bytes.{Bytes}
+use Rattle.device.specs.declared.Device.{Device}
+use Rattle.device.specs.Parts.{sizeOf, startOf, lengthOf, blockOf}
+use Rattle.device.proofs.Claims.{blocks-end-inside}
+use Rattle.chip.specs.declared.Phase.{Phase}
+use Rattle.chip.specs.declared.Phase.the-variants.{Free, EraseAwaited, DataAwaited, Programming, Erasing, Suspended}
+use Rattle.chip.specs.declared.Effect.{Effect}
+use Rattle.chip.specs.declared.Effect.the-variants.{Nothing, Program, Erase, CutProgram, CutErase}
+use Rattle.model.specs.Begun.{pendingIn, pendingOf}
+use Rattle.loader.specs.Walks.{mustRise, rises, risesIn}
+use Rattle.run.specs.Runs.{underWay}
+use Rattle.run.specs.Wear.{heldIn, baseOf, erasesOf, programsIn, differing, programsOf, operationsOf}
+use Rattle.run.specs.History.{Bus, World, worldAfter, effectsIn, begunOver, uncut, total, eraseOf, programAt, programIn}
+use Rattle.run.proofs.Wearing.{lies, byteAll, bytes-after, only-loses, unprogrammed, total-more, ended-begun}
+
+-- no bit must rise where every byte held keeps the bits wanted
+none-rises : (n i : ℕ) (w s : List ℕ) → ((j : ℕ) → i ≤ j → j < i + n → bitAnd (getD s j 0) (getD w j 0) ≡ getD w j 0) → rises n i w s ≡ false
+none-rises zero i w s h = refl
+none-rises (suc n) i w s h =
+    or-both (mustRise (getD s i 0) (getD w i 0)) (rises n (i + 1) w s)
+    (ap not (eq-eqb (bitAnd (getD s i 0) (getD w i 0)) (getD w i 0) (h i (omega arith) (omega arith)))) (none-rises n (i + 1) w s (λ j p q. h j (omega arith) (omega arith)))
+
+-- a bit that must rise somewhere makes a bit of the block rise
+some-rises : (n i : ℕ) (w s : List ℕ) (j : ℕ) → i ≤ j → j < i + n → rises n i w s ≡ false → mustRise (getD s j 0) (getD w j 0) ≡ false
+some-rises zero i w s j p q e = absurd (let z : j < j = omega arith in omega arith)
+some-rises (suc n) i w s j p q e = go (eqb i j) refl (some-rises n (i + 1) w s j)
+  where
+    go : (b : Bool) → eqb i j ≡ b → (i + 1 ≤ j → j < i + 1 + n → rises n (i + 1) w s ≡ false → mustRise (getD s j 0) (getD w j 0) ≡ false) → mustRise (getD s j 0) (getD w j 0) ≡ false
+    go true b more =
+        subst (λ (m : ℕ). mustRise (getD s m 0) (getD w m 0) ≡ false) (eqb-true i j b) (or-left (mustRise (getD s i 0) (getD w i 0)) (rises n (i + 1) w s) e)
+    go false b more =
+        let z = eqb-false i j b in
+        more (omega arith) (omega arith) (or-right (mustRise (getD s i 0) (getD w i 0)) (rises n (i + 1) w s) e)
+
+-- places that differ need a program each
+needed : (es : List Effect) (a n i : ℕ) (w s : List ℕ) → ((j : ℕ) → i ≤ j → j < i + n → (getD s j 0 ≡ getD w j 0 → ⊥) → 0 < total (programAt (a + j)) es)
+    → differing n i w s ≤ total (programIn (a + i) n) es
+needed es a zero i w s h = omega arith
+needed es a (suc n) i w s h = go (eqb (getD s i 0) (getD w i 0)) refl (needed es a n (i + 1) w s (λ j p q. h j (omega arith) (omega arith)))
+  where
+    split : total (programIn (a + i) (suc n)) es ≡ total (programAt (a + i)) es + total (programIn (a + (i + 1)) n) es
+    split =
+        ap (λ (m : ℕ). total (programIn (a + i) m) es) (let z : suc n ≡ n + 1 = omega arith in z) ∙ total-more es (a + i) n
+        ∙ ap (λ (m : ℕ). total (programAt (a + i)) es + total (programIn m n) es) (let z : a + i + 1 ≡ a + (i + 1) = omega arith in z)
+
+    go : (b : Bool) → eqb (getD s i 0) (getD w i 0) ≡ b → differing n (i + 1) w s ≤ total (programIn (a + (i + 1)) n) es
+        → pick (eqb (getD s i 0) (getD w i 0)) 0 1 + differing n (i + 1) w s ≤ total (programIn (a + i) (suc n)) es
+    go true b more = rw (b, split) (omega arith)
+    go false b more = rw (b, split) (let z = h i (omega arith) (omega arith) (eqb-false (getD s i 0) (getD w i 0) b) in omega arith)
+
+-- with nothing under way nothing is pending
+nothing-pending : (f : Effect → ℕ) → f Nothing ≡ 0 → (d : Device) (v : World) → underWay (v .state .phase) ≡ false → f (pendingOf (d .part) (v .state)) ≡ 0
+nothing-pending f z d v u = ap f (free (v .state .phase) u) ∙ z
+  where
+    free : (ph : Phase) → underWay ph ≡ false → pendingIn ph (d .part) (v .state .address) ≡ Nothing
+    free Free e = refl
+    free EraseAwaited e = refl
+    free DataAwaited e = refl
+    free (Programming b) e = absurd (unlike e)
+    free Erasing e = absurd (unlike e)
+    free Suspended e = absurd (unlike e)
+
+module _ (d : Device) (k : ℕ) (v : World) (w : List ℕ) (bs : List Bus) (lx : length (v .bytes) ≡ sizeOf (d .part)) (lw : length w ≡ lengthOf (d .part) k) (bx : Bytes (v .bytes))
+    (free : underWay (v .state .phase) ≡ false) (clean : uncut (effectsIn d v bs) ≡ true)
+    (reached : heldIn (startOf (d .part) k) (length w) (worldAfter d v bs .bytes) ≡ w) where
+  abbrev a : ℕ
+  a = startOf (d .part) k
+
+  abbrev ys : List ℕ
+  ys = heldIn (startOf (d .part) k) (length w) (v .bytes)
+
+  abbrev es : List Effect
+  es = effectsIn d v bs
+
+  held : (xs : List ℕ) (i : ℕ) → i < length w → getD (heldIn a (length w) xs) i 0 ≡ getD xs (a + i) 0
+  held xs i h = getD-take (length w) (drop a xs) i 0 h ∙ getD-drop a xs i 0
+
+  -- every byte of the block came from what was held by the effects
+  came : (i : ℕ) → i < length w → getD w i 0 ≡ byteAll (d .part) (a + i) es (getD ys i 0)
+  came i h =
+      ap (λ (z : List ℕ). getD z i 0) (sym reached) ∙ held (worldAfter d v bs .bytes) i h
+      ∙ bytes-after bs d v (a + i) lx (omega (arith, blocks-end-inside (d .part) k)) clean
+      ∙ ap (λ (y : ℕ). byteAll (d .part) (a + i) es y) (sym (held (v .bytes) i h))
+
+  home : (i : ℕ) → i < length w → blockOf (d .part) (a + i) ≡ k
+  home i h = lies (d .part) k (a + i) (omega arith) (omega arith)
+
+  loses : total (eraseOf k) es ≡ 0 → (i : ℕ) → i < length w → bitAnd (getD ys i 0) (getD w i 0) ≡ getD w i 0
+  loses z i h =
+      ap (λ (y : ℕ). bitAnd (getD ys i 0) y) (came i h)
+      ∙ only-loses es (d .part) (a + i) (getD ys i 0) (ap (λ (j : ℕ). total (eraseOf j) es) (home i h) ∙ z)
+      ∙ sym (came i h)
+
+  erased-once : erasesOf w ys ≤ total (eraseOf k) es
+  unfolding risesIn
+  erased-once = go (eqb (total (eraseOf k) es) 0) refl
+    where
+      go : (b : Bool) → eqb (total (eraseOf k) es) 0 ≡ b → erasesOf w ys ≤ total (eraseOf k) es
+      go true e = rw (none-rises (length w) 0 w ys (λ j p q. loses (eqb-true _ _ e) j (omega arith))) (omega arith)
+      go false e = let z = eqb-false (total (eraseOf k) es) 0 e in some (total (eraseOf k) es) z (rises (length w) 0 w ys)
+        where
+          some : (n : ℕ) → (n ≡ 0 → ⊥) → (t : Bool) → pick t 1 0 ≤ n
+          some zero z t = absurd (z refl)
+          some (suc n) z true = omega arith
+          some (suc n) z false = omega arith
+
+  -- a byte that no program touched is as held, or all ones
+  rests : (i : ℕ) → i < length w → total (programAt (a + i)) es ≡ 0 → getD w i 0 ≡ pick (eqb (total (eraseOf k) es) 0) (getD ys i 0) 255
+  rests i h z =
+      came i h ∙ unprogrammed es (d .part) (a + i) (getD ys i 0) z ∙ ap (λ (j : ℕ). pick (eqb (total (eraseOf j) es) 0) (getD ys i 0) 255) (home i h)
+
+  -- a place where the base of the programs differs is programmed
+  programmed : (i : ℕ) → i < length w → (getD (baseOf w ys) i 0 ≡ getD w i 0 → ⊥) → 0 < total (programAt (a + i)) es
+  unfolding risesIn
+  programmed i h ne = positive (total (programAt (a + i)) es) (λ z. ne (clash z (eqb (total (eraseOf k) es) 0) refl (rises (length w) 0 w ys) refl))
+    where
+      positive : (n : ℕ) → (n ≡ 0 → ⊥) → 0 < n
+      positive zero z = absurd (z refl)
+      positive (suc n) z = omega arith
+
+      clash : total (programAt (a + i)) es ≡ 0 → (b : Bool) → eqb (total (eraseOf k) es) 0 ≡ b → (t : Bool) → rises (length w) 0 w ys ≡ t → getD (baseOf w ys) i 0 ≡ getD w i 0
+      clash z true e true t = absurd (let q = none-rises (length w) 0 w ys (λ j p r. loses (eqb-true _ _ e) j (omega arith)) in unlike (sym t ∙ q))
+      clash z true e false t = ap (λ (y : List ℕ). getD y i 0) (pick-false (rises (length w) 0 w ys) (replicate (length w) 255) ys t) ∙ sym (rests i h z ∙ pick-true (eqb (total (eraseOf k) es) 0) (getD ys i 0) 255 e)
+      clash z false e true t =
+          ap (λ (y : List ℕ). getD y i 0) (pick-true (rises (length w) 0 w ys) (replicate (length w) 255) ys t) ∙ getD-replicate (length w) i 255 0 h
+          ∙ sym (rests i h z ∙ pick-false (eqb (total (eraseOf k) es) 0) (getD ys i 0) 255 e)
+      clash z false e false t =
+          let f : getD w i 0 ≡ 255 = rests i h z ∙ pick-false (eqb (total (eraseOf k) es) 0) (getD ys i 0) 255 e in
+          let m : mustRise (getD ys i 0) (getD w i 0) ≡ false = some-rises (length w) 0 w ys i (omega arith) (omega arith) t in
+          let c : bitAnd (getD ys i 0) (getD w i 0) ≡ getD w i 0 = eqb-true _ _ (not-false (eqb (bitAnd (getD ys i 0) (getD w i 0)) (getD w i 0)) m) in
+          let y : bitAnd (getD ys i 0) 255 ≡ getD ys i 0 = and-mask (getD ys i 0) 8 ∙ mod-eq-of-lt (small i h) in
+          ap (λ (u : List ℕ). getD u i 0) (pick-false (rises (length w) 0 w ys) (replicate (length w) 255) ys t) ∙ sym y ∙ ap (λ (x : ℕ). bitAnd (getD ys i 0) x) (sym f) ∙ c
+        where
+          small : (i : ℕ) → i < length w → getD ys i 0 < 256
+          small i h = subst (λ (x : ℕ). x < 256) (sym (held (v .bytes) i h)) (bx (a + i))
+
+  -- both bounds at once, on what the cycles begin
+  pub least : (erasesOf w ys ≤ total (eraseOf k) (begunOver d v bs)) × (programsIn w ys ≤ total (programIn a (length w)) (begunOver d v bs))
+  least =
+      let e = ended-begun (eraseOf k) refl bs d v clean in
+      let ez = nothing-pending (eraseOf k) refl d v free in
+      let p = ended-begun (programIn a (length w)) refl bs d v clean in
+      let pz = nothing-pending (programIn a (length w)) refl d v free in
+      let n : programsIn w ys ≤ total (programIn (a + 0) (length w)) es = needed es a (length w) 0 w (baseOf w ys) (λ j lo hi. programmed j (omega arith)) in
+      let s : total (programIn (a + 0) (length w)) es ≡ total (programIn a (length w)) es = ap (λ (m : ℕ). total (programIn m (length w)) es) (let z : a + 0 ≡ a = omega arith in z) in
+      let o = erased-once in
+      (omega arith, omega arith)
