@@ -138,7 +138,7 @@ module _ (d : Device) (s : State) (p : Pins) (k : ℕ) (xs w sc : List ℕ) wher
   unfolding ranOf bytesOf scratchOf
   refused-ran z = (
     pick-false (eqb number 0) (ranBy (leftBy d s p k xs w sc)) (refusalBy number) (ne-eqb number 0 z),
-    pick-false (eqb number 0) (leftBy d s p k xs w sc .bytes) xs (ne-eqb number 0 z),
+    pick-false (eqb number 0) _ xs (ne-eqb number 0 z),
     pick-false (eqb number 0) (leftBy d s p k xs w sc .scratch) sc (ne-eqb number 0 z),
   )
 
