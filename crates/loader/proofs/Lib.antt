@@ -1,2 +1,4 @@
 pub mod Small
 pub mod Walking
+pub mod Again
+pub mod Claims

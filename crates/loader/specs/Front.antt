@@ -35,14 +35,25 @@ unfoldable pub badRecord : Loader → Bool
 badRecord l = ltb 65534 (l .polls) || (not (noBlock (l .part) (l .block)) && leb (lengthOf (l .part) (l .block)) (l .place))
 
 -- the tests of a start, in their order
+abbrev pub startRows : Part → Pins → ℕ → ℕ → ℕ → List Row
+startRows part p k w sc =
+    row 1 (unknownPart part) ∷ row 4 (barredPins part p) ∷ row 10 (noBlock part k) ∷ row 11 (wrongLengths part k w sc) ∷ []
+
 unfoldable pub startNumber : Part → Pins → ℕ → ℕ → ℕ → ℕ
-startNumber part p k w sc =
-    given (row 1 (unknownPart part) ∷ row 4 (barredPins part p) ∷ row 10 (noBlock part k) ∷ row 11 (wrongLengths part k w sc) ∷ [])
+startNumber part p k w sc = given (startRows part p k w sc)
 
 -- the tests of a step, in their order
+abbrev pub stepRows : Loader → ℕ → ℕ → List Row
+stepRows l w sc =
+    row 1 (unknownPart (l .part))
+    ∷ row 3 (badRecord l)
+    ∷ row 4 (barredPins (l .part) (l .pins))
+    ∷ row 10 (noBlock (l .part) (l .block))
+    ∷ row 11 (wrongLengths (l .part) (l .block) w sc)
+    ∷ []
+
 unfoldable pub stepNumber : Loader → ℕ → ℕ → ℕ
-stepNumber l w sc =
-    given (row 1 (unknownPart (l .part)) ∷ row 3 (badRecord l) ∷ row 4 (barredPins (l .part) (l .pins)) ∷ row 10 (noBlock (l .part) (l .block)) ∷ row 11 (wrongLengths (l .part) (l .block) w sc) ∷ [])
+stepNumber l w sc = given (stepRows l w sc)
 
 -- a record at its beginning
 abbrev pub recordAt : Part → Pins → ℕ → Stage → Loader

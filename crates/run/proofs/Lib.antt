@@ -1,6 +1,7 @@
 pub mod Measure
 pub mod Turning
 pub mod Good
+pub mod Ending
 pub mod Answers
 pub mod Reaching
 pub mod Layers
@@ -8,3 +9,5 @@ pub mod Phases
 pub mod Demand
 pub mod Wearing
 pub mod Least
+pub mod Mission
+pub mod Claims
