@@ -1,3 +1,4 @@
 pub mod Scans
 pub mod Turns
 pub mod Wholes
+pub mod Forms
