@@ -2,6 +2,7 @@
 use mathlib.Core.Path.{_≡_, refl, sym, ap, _∙_, subst}
 use mathlib.Core.Bool.{Bool, true, false, _&&_, _||_}
 use mathlib.Core.List.{List, [], _∷_}
+use mathlib.Core.Logic.{_↔_}
 use Prim.Native.Nat.{ℕ, zero, suc, _+_, _-_, _*_, _/_, _%_, _≤_, _<_}
 use native.Mathlib.Omega.{arith}
 use native.Mathlib.Numerals.{add-one}
@@ -429,3 +430,33 @@ pub read-prints : (xs : List ℕ) (c : Cycle) → readLine xs ≡ Stated c → F
 read-prints xs c q =
     let k = read-good xs c q in
     (subst (λ (x : Cycle). Fits x) (k .1) (line-fits xs (k .0)), subst (λ (x : Cycle). lineOf x ≡ xs) (k .1) (line-again xs (k .0)))
+
+pub read-exactly : (xs : List ℕ) (c : Cycle) → (readLine xs ≡ Stated c) ↔ (Fits c × (lineOf c ≡ xs))
+read-exactly xs c = (
+    read-prints xs c,
+    λ (f : Fits c × (lineOf c ≡ xs)). subst (λ (l : List ℕ). readLine l ≡ Stated c) (f .1) (read-back c (f .0)),
+  )
+
+pub read-once : (c d : Cycle) → Fits c → Fits d → lineOf c ≡ lineOf d → c ≡ d
+read-once c d f g e =
+    let z : Stated c ≡ Stated d = sym (read-back c f) ∙ ap (λ (l : List ℕ). readLine l) e ∙ read-back d g in cc
+
+pub line-read : (xs : List ℕ) → isLine xs ≡ true → readLine xs ≡ Stated (cycleIn xs)
+unfolding readLine
+line-read xs e = pick-true (isLine xs) (Stated (cycleIn xs)) NotALine e
+
+unread : (xs : List ℕ) → isLine xs ≡ false → readLine xs ≡ NotALine
+unfolding readLine
+unread xs e = pick-false (isLine xs) (Stated (cycleIn xs)) NotALine e
+
+pub not-read : (xs : List ℕ) → (readLine xs ≡ NotALine) ↔ ((c : Cycle) → Fits c → lineOf c ≡ xs → ⊥)
+not-read xs = (
+    λ (e : readLine xs ≡ NotALine) (c : Cycle) (f : Fits c) (q : lineOf c ≡ xs).
+      let z : Stated c ≡ NotALine = sym (read-back c f) ∙ ap (λ (l : List ℕ). readLine l) q ∙ e in
+      let w : _≡_ {A = ℕ} 0 1 = cc in omega arith,
+    λ (h : (c : Cycle) → Fits c → lineOf c ≡ xs → ⊥). go h (isLine xs) refl,
+  )
+  where
+    go : ((c : Cycle) → Fits c → lineOf c ≡ xs → ⊥) → (b : Bool) → isLine xs ≡ b → readLine xs ≡ NotALine
+    go h true e = let k = read-prints xs (cycleIn xs) (line-read xs e) in absurd (h (cycleIn xs) (k .0) (k .1))
+    go h false e = unread xs e

@@ -2,3 +2,5 @@ pub mod Scans
 pub mod Turns
 pub mod Wholes
 pub mod Forms
+pub mod Ends
+pub mod Claims
