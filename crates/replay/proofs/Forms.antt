@@ -295,12 +295,12 @@ printed-good c f =
 printed-cycle : (c : Cycle) → Fits c → cycleIn (lineOf c) ≡ c
 unfolding cycleIn
 printed-cycle c f = λ i. record {
-    kind = kind-back (c .kind) i;
-    pins = record { rp = digit-back (c .pins .rp) (f .0) i; vpp = five-back (c .pins .vpp) (f .2) i };
-    oe = digit-back (c .oe) (f .1) i;
-    address = four-back (c .address) (f .3) i;
-    byte = two-back (c .byte) (f .4) i
-  }
+  kind = kind-back (c .kind) i;
+  pins = record { rp = digit-back (c .pins .rp) (f .0) i; vpp = five-back (c .pins .vpp) (f .2) i };
+  oe = digit-back (c .oe) (f .1) i;
+  address = four-back (c .address) (f .3) i;
+  byte = two-back (c .byte) (f .4) i;
+}
 
 pub read-back : (c : Cycle) → Fits c → readLine (lineOf c) ≡ Stated c
 unfolding readLine
@@ -320,12 +320,12 @@ two-small a b = omega (arith, hex-small a, hex-small b)
 line-fits : (xs : List ℕ) → isLine xs ≡ true → Fits (cycleIn xs)
 unfolding cycleIn
 line-fits xs e = (
-    digit-small (getD xs 2 0) (at-2 xs (front xs e)),
-    digit-small (getD xs 4 0) (at-4 xs (front xs e)),
-    five-small (getD xs 6 0) (getD xs 7 0) (getD xs 8 0) (getD xs 9 0) (getD xs 10 0) (at-6 xs (supply xs e)) (at-7 xs (supply xs e)) (at-8 xs (supply xs e)) (at-9 xs (supply xs e)) (at-10 xs (supply xs e)),
-    four-small (getD xs 12 0) (getD xs 13 0) (getD xs 14 0) (getD xs 15 0),
-    two-small (getD xs 17 0) (getD xs 18 0),
-  )
+  digit-small (getD xs 2 0) (at-2 xs (front xs e)),
+  digit-small (getD xs 4 0) (at-4 xs (front xs e)),
+  five-small (getD xs 6 0) (getD xs 7 0) (getD xs 8 0) (getD xs 9 0) (getD xs 10 0) (at-6 xs (supply xs e)) (at-7 xs (supply xs e)) (at-8 xs (supply xs e)) (at-9 xs (supply xs e)) (at-10 xs (supply xs e)),
+  four-small (getD xs 12 0) (getD xs 13 0) (getD xs 14 0) (getD xs 15 0),
+  two-small (getD xs 17 0) (getD xs 18 0),
+)
 
 -- the digits of five digits
 module _ (a b c d e : ℕ) (p : isDigit a ≡ true) (q : isDigit b ≡ true) (r : isDigit c ≡ true) (s : isDigit d ≡ true) (t : isDigit e ≡ true) where
@@ -433,9 +433,9 @@ read-prints xs c q =
 
 pub read-exactly : (xs : List ℕ) (c : Cycle) → (readLine xs ≡ Stated c) ↔ (Fits c × (lineOf c ≡ xs))
 read-exactly xs c = (
-    read-prints xs c,
-    λ (f : Fits c × (lineOf c ≡ xs)). subst (λ (l : List ℕ). readLine l ≡ Stated c) (f .1) (read-back c (f .0)),
-  )
+  read-prints xs c,
+  λ (f : Fits c × (lineOf c ≡ xs)). subst (λ (l : List ℕ). readLine l ≡ Stated c) (f .1) (read-back c (f .0)),
+)
 
 pub read-once : (c d : Cycle) → Fits c → Fits d → lineOf c ≡ lineOf d → c ≡ d
 read-once c d f g e =
@@ -451,11 +451,11 @@ unread xs e = pick-false (isLine xs) (Stated (cycleIn xs)) NotALine e
 
 pub not-read : (xs : List ℕ) → (readLine xs ≡ NotALine) ↔ ((c : Cycle) → Fits c → lineOf c ≡ xs → ⊥)
 not-read xs = (
-    λ (e : readLine xs ≡ NotALine) (c : Cycle) (f : Fits c) (q : lineOf c ≡ xs).
+  λ (e : readLine xs ≡ NotALine) (c : Cycle) (f : Fits c) (q : lineOf c ≡ xs).
       let z : Stated c ≡ NotALine = sym (read-back c f) ∙ ap (λ (l : List ℕ). readLine l) q ∙ e in
       let w : _≡_ {A = ℕ} 0 1 = cc in omega arith,
-    λ (h : (c : Cycle) → Fits c → lineOf c ≡ xs → ⊥). go h (isLine xs) refl,
-  )
+  λ (h : (c : Cycle) → Fits c → lineOf c ≡ xs → ⊥). go h (isLine xs) refl,
+)
   where
     go : ((c : Cycle) → Fits c → lineOf c ≡ xs → ⊥) → (b : Bool) → isLine xs ≡ b → readLine xs ≡ NotALine
     go h true e = let k = read-prints xs (cycleIn xs) (line-read xs e) in absurd (h (cycleIn xs) (k .0) (k .1))

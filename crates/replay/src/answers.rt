@@ -68,7 +68,16 @@ pub fn write_answer(a: Answer, out: &mut [u8])
     let seen = a.seen;
     let state = a.state;
     let sr = state.status;
-    let line = [letter(seen), 32, first(seen), second(seen), 32, hex_digit(sr / 16 % 16), hex_digit(sr % 16), 10];
+    let line = [
+        letter(seen),
+        32,
+        first(seen),
+        second(seen),
+        32,
+        hex_digit(sr / 16 % 16),
+        hex_digit(sr % 16),
+        10,
+    ];
     cells::copy(out, &line)
 }
 
@@ -76,7 +85,15 @@ pub fn write_answer(a: Answer, out: &mut [u8])
 pub fn write_mark(number: usize, out: &mut [u8])
     ensures { λ _. ⌜ now (out .exit) ≡ copied (now (out .entry)) (markOf number) ⌝ }
 {
-    let line = [63, 32, decimal_digit(number / 1000), decimal_digit(number / 100), decimal_digit(number / 10), decimal_digit(number), 10];
+    let line = [
+        63,
+        32,
+        decimal_digit(number / 1000),
+        decimal_digit(number / 100),
+        decimal_digit(number / 10),
+        decimal_digit(number),
+        10,
+    ];
     cells::copy(out, &line)
 }
 

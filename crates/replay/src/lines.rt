@@ -1,8 +1,8 @@
 // A line of a trace: kind, RP#, OE#, VPP in five digits, address in four hexadecimal digits, data in two, single spaces, newline.
+use crate::LineRead;
 use chip::Cycle;
 use chip::Kind;
 use chip::Pins;
-use crate::LineRead;
 ghost use mathlib.Core.Path.{_≡_};
 ghost use Prim.Native.Nat.{_<_};
 ghost use Rattle.replay.specs.Lines.{
@@ -47,23 +47,34 @@ fn is_kind(b: u8) -> bool
 fn good_front(line: &[u8]) -> bool
     ensures { λ r. ⌜ r ≡ goodFront (now (line .entry)) ⌝ }
 {
-    is_kind(cells::nth(line, 0)) & (cells::nth(line, 1) == 32) & is_digit(cells::nth(line, 2)) & (cells::nth(line, 3) == 32)
-        & is_digit(cells::nth(line, 4)) & (cells::nth(line, 5) == 32)
+    is_kind(cells::nth(line, 0))
+        & (cells::nth(line, 1) == 32)
+        & is_digit(cells::nth(line, 2))
+        & (cells::nth(line, 3) == 32)
+        & is_digit(cells::nth(line, 4))
+        & (cells::nth(line, 5) == 32)
 }
 
 // VPP and its space.
 fn good_supply(line: &[u8]) -> bool
     ensures { λ r. ⌜ r ≡ goodSupply (now (line .entry)) ⌝ }
 {
-    is_digit(cells::nth(line, 6)) & is_digit(cells::nth(line, 7)) & is_digit(cells::nth(line, 8)) & is_digit(cells::nth(line, 9))
-        & is_digit(cells::nth(line, 10)) & (cells::nth(line, 11) == 32)
+    is_digit(cells::nth(line, 6))
+        & is_digit(cells::nth(line, 7))
+        & is_digit(cells::nth(line, 8))
+        & is_digit(cells::nth(line, 9))
+        & is_digit(cells::nth(line, 10))
+        & (cells::nth(line, 11) == 32)
 }
 
 // The address and its space.
 fn good_address(line: &[u8]) -> bool
     ensures { λ r. ⌜ r ≡ goodAddress (now (line .entry)) ⌝ }
 {
-    is_hex(cells::nth(line, 12)) & is_hex(cells::nth(line, 13)) & is_hex(cells::nth(line, 14)) & is_hex(cells::nth(line, 15))
+    is_hex(cells::nth(line, 12))
+        & is_hex(cells::nth(line, 13))
+        & is_hex(cells::nth(line, 14))
+        & is_hex(cells::nth(line, 15))
         & (cells::nth(line, 16) == 32)
 }
 
@@ -142,8 +153,19 @@ pub fn cycle_in(line: &[u8]) -> Cycle
     let kind = kind_of(cells::nth(line, 0));
     let rp = level(cells::nth(line, 2));
     let oe = level(cells::nth(line, 4));
-    let vpp = five(cells::nth(line, 6), cells::nth(line, 7), cells::nth(line, 8), cells::nth(line, 9), cells::nth(line, 10));
-    let address = four(cells::nth(line, 12), cells::nth(line, 13), cells::nth(line, 14), cells::nth(line, 15));
+    let vpp = five(
+        cells::nth(line, 6),
+        cells::nth(line, 7),
+        cells::nth(line, 8),
+        cells::nth(line, 9),
+        cells::nth(line, 10),
+    );
+    let address = four(
+        cells::nth(line, 12),
+        cells::nth(line, 13),
+        cells::nth(line, 14),
+        cells::nth(line, 15),
+    );
     let byte = two(cells::nth(line, 17), cells::nth(line, 18));
     let pins = Pins { rp: rp, vpp: vpp };
     Cycle {

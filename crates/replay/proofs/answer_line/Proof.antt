@@ -42,8 +42,7 @@ returns c =
     let a = c .before .before .before .before .before .before .before .before .before .before .before .before .before .before .args in
     let e = c .before .before .before .before .before .before .before .before .before .cycle-in .ensures in
     let k = c .before .before .before .before .before .before .before .step .ensures in
-    let f : c .before .before .before .before .before .before .before .step .result ≡ stepOf (a .s) (cycleIn (a .line .now)) (a .array .now) (a .residue .now) = k .0 ∙ ap (λ (x : Cycle). stepOf (a .s) x (a .array .now) (a .residue .now)) e in
-    (
+    let f : c .before .before .before .before .before .before .before .step .result ≡ stepOf (a .s) (cycleIn (a .line .now)) (a .array .now) (a .residue .now) = k .0 ∙ ap (λ (x : Cycle). stepOf (a .s) x (a .array .now) (a .residue .now)) e in (
       ap (λ (x : Answer). x .state) f,
       (k .1 ∙ ap (λ (x : Cycle). arrayBy (a .s) x (a .array .now) (a .residue .now)) e, c .before .before .write-answer .ensures ∙ ap (λ (x : Answer). copied (a .out .now) (printedOf x)) f),
     )

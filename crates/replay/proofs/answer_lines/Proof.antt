@@ -37,8 +37,7 @@ fresh-requires c κs = search needs
 loop-holds : tie.Need-loop-holds Inv-loop μ-loop
 loop-holds c =
     let a = c .before .before .before .before .before .args in
-    let s = c .fresh .result in
-    (
+    let s = c .fresh .result in (
       omega arith,
       ap (λ (n : ℕ). arraysOf n s (a .array .now) (a .residue .now) (a .text .now)) (sub-zero (a .g)),
       ap (λ (n : ℕ). answersOf n s (a .array .now) (a .residue .now) (a .text .now)) (sub-zero (a .g)),
@@ -101,7 +100,7 @@ loop-less c = omega arith
 
 -- src/lib.rt:115:5
 loop-again : tie.Need-loop-again Inv-loop μ-loop
-loop-again c = 
+loop-again c =
     let l = c .before .before .before .before .before .before .before .before .before .loop in
     let a = c .before .before .before .before .before .before .before .before .before .before .before .before .before .before .before .args in
     let k = c .before .before .before .before .answer-line in
@@ -109,13 +108,12 @@ loop-again c =
     let f : 8 * a .g ≤ length (l .out) = omega (arith, l .inv .5, c .before .before .before .before .before .before .before .before .before .before .before .before .before .before .before .pre .1) in
     let e = k .ensures .0 in
     let x = k .ensures .1 .0 in
-    let o = k .ensures .1 .1 in
-    (
+    let o = k .ensures .1 .1 in (
       omega arith,
       turned-array (a .g) (l .i) (l .s) (k .result) (l .array) (k .last .1 .1 .0) (k .last .1 .1 .1 .1 .0) (a .residue .now) (a .text .now) (l .out) h f e x o
-      (arraysOf (a .g) (c .before .before .before .before .before .before .before .before .before .before .fresh .result) (a .array .now) (a .residue .now) (a .text .now)) (l .inv .1),
+          (arraysOf (a .g) (c .before .before .before .before .before .before .before .before .before .before .fresh .result) (a .array .now) (a .residue .now) (a .text .now)) (l .inv .1),
       turned-out (a .g) (l .i) (l .s) (k .result) (l .array) (k .last .1 .1 .0) (k .last .1 .1 .1 .1 .0) (a .residue .now) (a .text .now) (l .out) h f e x o
-      (answersOf (a .g) (c .before .before .before .before .before .before .before .before .before .before .fresh .result) (a .array .now) (a .residue .now) (a .text .now)) (l .inv .2),
+          (answersOf (a .g) (c .before .before .before .before .before .before .before .before .before .before .fresh .result) (a .array .now) (a .residue .now) (a .text .now)) (l .inv .2),
       turned-rest (a .g) (l .i) (l .s) (k .result) (l .array) (k .last .1 .1 .0) (k .last .1 .1 .1 .1 .0) (a .residue .now) (a .text .now) (l .out) h f e x o (a .out .now) (l .inv .3),
       k .kept .1 .1 .0 ∙ l .inv .4,
       turned-length (a .g) (l .i) (l .s) (k .result) (l .array) (k .last .1 .1 .0) (k .last .1 .1 .1 .1 .0) (a .residue .now) (a .text .now) (l .out) h f e x o ∙ l .inv .5,
@@ -137,12 +135,11 @@ returns c =
     let s = c .before .before .fresh .result in
     let e : s ≡ freshState = c .before .before .fresh .ensures in
     let z : l .i ≡ a .g = omega arith in
-    let y : a .g ≤ l .i = omega arith in
-    (
+    let y : a .g ≤ l .i = omega arith in (
       sym (arrays-over (a .g) (l .i) (l .s) (l .array) (a .residue .now) (drop (20 * l .i) (a .text .now)) y) ∙ l .inv .1
-      ∙ ap (λ (x : State). arraysOf (a .g) x (a .array .now) (a .residue .now) (a .text .now)) e,
+          ∙ ap (λ (x : State). arraysOf (a .g) x (a .array .now) (a .residue .now) (a .text .now)) e,
       turned-over (a .g) (l .i) (l .s) (l .array) (a .residue .now) (a .text .now) (l .out) (a .out .now) (answersOf (a .g) s (a .array .now) (a .residue .now) (a .text .now)) z (l .inv .2) (l .inv .3)
-      ∙ ap (λ (x : State). answersOf (a .g) x (a .array .now) (a .residue .now) (a .text .now) ++ drop (8 * a .g) (a .out .now)) e,
+          ∙ ap (λ (x : State). answersOf (a .g) x (a .array .now) (a .residue .now) (a .text .now) ++ drop (8 * a .g) (a .out .now)) e,
     )
 
 pub answer-lines-spec : {M : Type 1} → statement M

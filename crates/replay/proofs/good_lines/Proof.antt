@@ -35,21 +35,21 @@ loop-less c = omega arith
 
 -- src/lib.rt:97:5
 loop-again : tie.Need-loop-again Inv-loop μ-loop
-loop-again c = 
+loop-again c =
     let l = c .before .before .before .loop in
     let a = c .before .before .before .before .before .args in
     (omega arith, scan-good 9998 (l .i) (a .text .now) (c .before .before .loop-test .taken) (sym (c .before .good-at .ensures) ∙ c .if1 .taken) ∙ l .inv .1)
 
 -- src/lib.rt:101:13
 returns : tie.Need-returns Inv-loop μ-loop
-returns c = 
+returns c =
     let l = c .before .before .before .loop in
     let a = c .before .before .before .before .before .args in
     sym (scan-bad 9998 (l .i) (a .text .now) (c .before .before .loop-test .taken) (sym (c .before .good-at .ensures) ∙ c .if1 .left)) ∙ l .inv .1
 
 -- src/lib.rt:93:1
 returns-2 : tie.Need-returns-2 Inv-loop μ-loop
-returns-2 c = 
+returns-2 c =
     let l = c .before .loop in
     let a = c .before .before .before .args in
     sym (scan-over 9998 (l .i) (a .text .now) (c .loop-test .left)) ∙ l .inv .1

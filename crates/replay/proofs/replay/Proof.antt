@@ -40,11 +40,10 @@ add-n c = record { fits = omega (arith, few (c .before .good-lines .result) (c .
 
 -- src/lib.rt:141:9
 returns : tie.Need-returns
-returns c = 
-    (
-      refused (c .before .before .good-lines .result) (c .before .end-length .result) (c .before .before .before .before .before .before .before .args .array .now) (c .before .before .before .before .before .before .before .args .residue .now) (c .before .before .before .before .before .before .before .args .text .now) (c .before .before .before .before .before .before .before .args .out .now) (c .before .before .good-lines .ensures) (c .before .end-length .ensures) (c .if1 .taken),
-      (refused-array (c .before .before .good-lines .result) (c .before .end-length .result) (c .before .before .before .before .before .before .before .args .array .now) (c .before .before .before .before .before .before .before .args .residue .now) (c .before .before .before .before .before .before .before .args .text .now) (c .before .before .before .before .before .before .before .args .out .now) (c .before .before .good-lines .ensures) (c .before .end-length .ensures) (c .if1 .taken), (refused-out (c .before .before .good-lines .result) (c .before .end-length .result) (c .before .before .before .before .before .before .before .args .array .now) (c .before .before .before .before .before .before .before .args .residue .now) (c .before .before .before .before .before .before .before .args .text .now) (c .before .before .before .before .before .before .before .args .out .now) (c .before .before .good-lines .ensures) (c .before .end-length .ensures) (c .if1 .taken), (omega arith, refl))),
-    )
+returns c = (
+  refused (c .before .before .good-lines .result) (c .before .end-length .result) (c .before .before .before .before .before .before .before .args .array .now) (c .before .before .before .before .before .before .before .args .residue .now) (c .before .before .before .before .before .before .before .args .text .now) (c .before .before .before .before .before .before .before .args .out .now) (c .before .before .good-lines .ensures) (c .before .end-length .ensures) (c .if1 .taken),
+  (refused-array (c .before .before .good-lines .result) (c .before .end-length .result) (c .before .before .before .before .before .before .before .args .array .now) (c .before .before .before .before .before .before .before .args .residue .now) (c .before .before .before .before .before .before .before .args .text .now) (c .before .before .before .before .before .before .before .args .out .now) (c .before .before .good-lines .ensures) (c .before .end-length .ensures) (c .if1 .taken), (refused-out (c .before .before .good-lines .result) (c .before .end-length .result) (c .before .before .before .before .before .before .before .args .array .now) (c .before .before .before .before .before .before .before .args .residue .now) (c .before .before .before .before .before .before .before .args .text .now) (c .before .before .before .before .before .before .before .args .out .now) (c .before .before .good-lines .ensures) (c .before .end-length .ensures) (c .if1 .taken), (omega arith, refl))),
+)
 
 -- src/lib.rt:146:5
 answer-lines-requires : tie.Need-answer-lines-requires
@@ -84,11 +83,10 @@ same-length-2 c = search needs
 
 -- src/lib.rt:127:1
 returns-2 : tie.Need-returns-2
-returns-2 c = 
+returns-2 c =
     let k = c .before .before .before .before .before .before .before .before .answer-lines in
     let w = c .before .before .write-end in
-    let h = c .before .before .before .before .before .before .before .before .before .before .before .if1 .left in
-    (
+    let h = c .before .before .before .before .before .before .before .before .before .before .before .if1 .left in (
       done (c .before .before .before .before .before .before .before .before .before .before .before .before .before .good-lines .result) (c .before .before .before .before .before .before .before .before .before .before .before .before .end-length .result) (c .before .before .before .before .before .before .before .before .before .before .before .before .before .before .before .before .before .before .args .array .now) (c .before .before .before .before .before .before .before .before .before .before .before .before .before .before .before .before .before .before .args .residue .now) (c .before .before .before .before .before .before .before .before .before .before .before .before .before .before .before .before .before .before .args .text .now) (c .before .before .before .before .before .before .before .before .before .before .before .before .before .before .before .before .before .before .args .out .now) (c .before .before .before .before .before .before .before .before .before .before .before .before .before .good-lines .ensures) (c .before .before .before .before .before .before .before .before .before .before .before .before .end-length .ensures) h,
       (
         done-array (c .before .before .before .before .before .before .before .before .before .before .before .before .before .good-lines .result) (c .before .before .before .before .before .before .before .before .before .before .before .before .end-length .result) (c .before .before .before .before .before .before .before .before .before .before .before .before .before .before .before .before .before .before .args .array .now) (c .before .before .before .before .before .before .before .before .before .before .before .before .before .before .before .before .before .before .args .residue .now) (c .before .before .before .before .before .before .before .before .before .before .before .before .before .before .before .before .before .before .args .text .now) (c .before .before .before .before .before .before .before .before .before .before .before .before .before .before .before .before .before .before .args .out .now) (c .before .before .before .before .before .before .before .before .before .before .before .before .before .good-lines .ensures) (c .before .before .before .before .before .before .before .before .before .before .before .before .end-length .ensures) h (k .last .1 .1 .0) (k .ensures .0),

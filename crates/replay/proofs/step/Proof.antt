@@ -29,8 +29,7 @@ returns : tie.Need-returns
 unfolding stepOf arrayBy
 returns c =
     let a = c .before .before .before .before .before .before .before .args in
-    let e = c .before .before .before .before .bench .ensures in
-    (
+    let e = c .before .before .before .before .bench .ensures in (
       c .before .before .cycle .ensures .0 ∙ ap (λ (d : Device). answerOf d (a .s) (a .c) (a .array .now) (a .residue .now)) e,
       c .before .before .cycle .ensures .1 ∙ ap (λ (d : Device). arrayAfter d (a .s) (a .c) (a .array .now) (a .residue .now)) e,
     )
