@@ -14,12 +14,13 @@ use Rattle.chip.specs.declared.Cycle.{Cycle}
 use Rattle.chip.specs.States.{freshState}
 use Rattle.chip.specs.Cycles.{tableOf}
 use Rattle.model.specs.declared.Answer.{Answer}
+use Rattle.model.specs.declared.Seen.{Seen}
 use Rattle.model.specs.declared.Seen.the-variants.{Refused}
 use Rattle.replay.specs.declared.LineRead.{LineRead}
 use Rattle.replay.specs.declared.LineRead.the-variants.{NotALine, Stated}
 use Rattle.replay.specs.declared.Replayed.{Replayed}
 use Rattle.replay.specs.Lines.{isLine, cycleIn, readLine, lineOf, Fits}
-use Rattle.replay.specs.Answers.{printedOf, markOf, endOf}
+use Rattle.replay.specs.Answers.{toldOf, printedOf, markOf, endOf}
 use Rattle.replay.specs.Replays.{benchT, stepOf, arrayBy, goodLines, answersOf, outputFrom, outputOf, arrayLeft, replayedIn, heldIn}
 use Rattle.replay.proofs.Forms as forms
 use Rattle.replay.proofs.Scans as scans
@@ -114,8 +115,8 @@ answer-line-array-unique s line xs rs = only (arrayBy s (cycleIn line) xs rs)
 pub answer-line-out-unique : (s : State) (line xs rs out : List ℕ) → Unique (λ (left : List ℕ). left ≡ copied out (printedOf (stepOf s (cycleIn line) xs rs)))
 answer-line-out-unique s line xs rs out = only (copied out (printedOf (stepOf s (cycleIn line) xs rs)))
 
-pub write-answer-unique : (a : Answer) (out : List ℕ) → Unique (λ (left : List ℕ). left ≡ copied out (printedOf a))
-write-answer-unique a out = only (copied out (printedOf a))
+pub write-answer-unique : (seen : Seen) (sr : ℕ) (out : List ℕ) → Unique (λ (left : List ℕ). left ≡ copied out (toldOf seen sr))
+write-answer-unique seen sr out = only (copied out (toldOf seen sr))
 
 pub write-mark-unique : (n : ℕ) (out : List ℕ) → Unique (λ (left : List ℕ). left ≡ copied out (markOf n))
 write-mark-unique n out = only (copied out (markOf n))

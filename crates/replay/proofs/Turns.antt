@@ -14,13 +14,13 @@ use Rattle.cells.specs.Lists.{copied, copied-whole}
 use Rattle.chip.specs.declared.State.{State}
 use Rattle.model.specs.declared.Answer.{Answer}
 use Rattle.replay.specs.Lines.{isLine, cycleIn}
-use Rattle.replay.specs.Answers.{printedOf, markOf, endOf}
+use Rattle.replay.specs.Answers.{toldOf, printedOf, markOf, endOf}
 use Rattle.replay.specs.Replays.{stepOf, arrayBy, goodLines, answersOf, arraysOf, outputFrom, arrayFrom}
 use Rattle.replay.proofs.Scans.{past}
 
 -- an answer is eight bytes long
 pub answer-length : (a : Answer) → length (printedOf a) ≡ 8
-unfolding printedOf
+unfolding toldOf
 answer-length a = refl
 
 -- the answer to the first line of a text, and the state and array after it

@@ -25,13 +25,13 @@ secondOf NoData = 45
 secondOf (Byte b) = hexDigit (b % 16)
 secondOf (Refused n) = decimalDigit n
 
--- the answer to a line: what is seen, then the status register after the cycle
-unfoldable pub printedOf : Answer → List ℕ
-printedOf a =
-    letterOf (a .seen) ∷ 32
-    ∷ firstOf (a .seen) ∷ secondOf (a .seen) ∷ 32
-    ∷ hexDigit (a .state .status / 16 % 16) ∷ hexDigit (a .state .status % 16) ∷ 10
-    ∷ []
+-- an answer printed: what is seen, then a status register
+unfoldable pub toldOf : Seen → ℕ → List ℕ
+toldOf seen sr = letterOf seen ∷ 32 ∷ firstOf seen ∷ secondOf seen ∷ 32 ∷ hexDigit (sr / 16 % 16) ∷ hexDigit (sr % 16) ∷ 10 ∷ []
+
+-- the answer to a line: the status register is the one after the cycle
+abbrev pub printedOf : Answer → List ℕ
+printedOf a = toldOf (a .seen) (a .state .status)
 
 -- the mark of line n: '?', a space and the number in four digits
 unfoldable pub markOf : ℕ → List ℕ

@@ -1,12 +1,11 @@
 // What a trace prints: an answer of eight bytes a line, and the mark that ends a trace.
-use model::Answer;
 use model::Seen;
 ghost use mathlib.Core.Path.{_≡_};
 ghost use Prim.Native.Nat.{_<_};
 ghost use lib.ListN.{length};
 ghost use Rattle.cells.specs.Lists.{copied};
 ghost use Rattle.replay.specs.Lines.{decimalDigit, hexDigit};
-ghost use Rattle.replay.specs.Answers.{letterOf, firstOf, secondOf, printedOf, markOf, endOf};
+ghost use Rattle.replay.specs.Answers.{letterOf, firstOf, secondOf, toldOf, markOf, endOf};
 
 fn hex_digit(n: u8) -> u8
     requires { ⌜ n < 16 ⌝ }
@@ -61,13 +60,10 @@ fn second(seen: Seen) -> u8
     }
 }
 
-// An answer, over the front of out: what is seen, and the status register after the cycle.
-pub fn write_answer(a: Answer, out: &mut [u8])
-    ensures { λ _. ⌜ now (out .exit) ≡ copied (now (out .entry)) (printedOf a) ⌝ }
+// An answer, over the front of out: what is seen, and a status register.
+pub fn write_answer(seen: Seen, sr: u8, out: &mut [u8])
+    ensures { λ _. ⌜ now (out .exit) ≡ copied (now (out .entry)) (toldOf seen sr) ⌝ }
 {
-    let seen = a.seen;
-    let state = a.state;
-    let sr = state.status;
     let line = [
         letter(seen),
         32,

@@ -71,8 +71,10 @@ pub fn answer_line(s: State, line: &[u8], array: &mut [u8], residue: &[u8], out:
 {
     let c = lines::cycle_in(line);
     let a = step(s, c, array, residue);
+    let seen = a.seen;
     let state = a.state;
-    answers::write_answer(a, out);
+    let status = state.status;
+    answers::write_answer(seen, status, out);
     state
 }
 

@@ -1,8 +1,5 @@
-use Rattle.replay.specs.Answers.{printedOf}
+use Rattle.replay.specs.Answers.{toldOf}
 use borrow.Author.Needs.{needs}
-use native.Mathlib.Omega.{arith}
-use borrow.Author.Tests.{lt-ltb, le-ltb, le-leb, lt-leb, eq-eqb, ne-eqb}
-use mathlib.Core.Path.{refl, sym, _∙_}
 use Rattle.replay.proofs.answers.write_answer.Statement.{statement}
 use Rattle.replay.proofs.answers.write_answer.Tie as tie
 use Rattle.replay.proofs.answers.write_answer.Reads as reads
@@ -13,41 +10,41 @@ use Rattle.replay.proofs.answers.hex_digit.Reads as hex-digit-reads
 use Rattle.replay.proofs.answers.letter.Reads as letter-reads
 use Rattle.replay.proofs.answers.second.Reads as second-reads
 
--- src/answers.rt:71:17
+-- src/answers.rt:68:9
 letter-requires : tie.Need-letter-requires
 letter-requires c κs = search needs
 
--- src/answers.rt:71:35
+-- src/answers.rt:70:9
 first-requires : tie.Need-first-requires
 first-requires c κs = search needs
 
--- src/answers.rt:71:48
+-- src/answers.rt:71:9
 second-requires : tie.Need-second-requires
 second-requires c κs = search needs
 
--- src/answers.rt:71:66
+-- src/answers.rt:73:9
 hex-digit-requires : tie.Need-hex-digit-requires
 hex-digit-requires c κs = search needs
 
--- src/answers.rt:71:91
+-- src/answers.rt:74:9
 hex-digit-requires-2 : tie.Need-hex-digit-requires-2
 hex-digit-requires-2 c κs = search needs
 
--- src/answers.rt:72:22
+-- src/answers.rt:77:22
 slice-aggregate-copy : tie.Need-slice-aggregate-copy
 slice-aggregate-copy c = search needs
 
--- src/answers.rt:72:5
+-- src/answers.rt:77:5
 copy-requires : tie.Need-copy-requires
 copy-requires c κs = search needs
 
--- src/answers.rt:65:1
+-- src/answers.rt:64:1
 same-length : tie.Need-same-length
 same-length c = search needs
 
--- src/answers.rt:65:1
+-- src/answers.rt:64:1
 returns : tie.Need-returns
-unfolding printedOf
+unfolding toldOf
 returns c = simp (c .before .before .copy .ensures, c .before .before .before .before .before .hex-digit2 .ensures, c .before .before .before .before .before .before .hex-digit .ensures, c .before .before .before .before .before .before .before .second .ensures, c .before .before .before .before .before .before .before .before .first .ensures, c .before .before .before .before .before .before .before .before .before .letter .ensures)
 
 pub write-answer-spec : {M : Type 1} → statement M
