@@ -6,6 +6,8 @@
     python3 tests/trace_vectors.py expected     the lines of the cases, as in crates/trace_vectors/stdout
     python3 tests/trace_vectors.py write        writes the three files
     python3 tests/trace_vectors.py check        whether the three files are what the script prints
+    python3 tests/trace_vectors.py against target/bin/trace COUNT SEED
+                                                whether the program answers COUNT random traces as the script does
 
 A line of `trace_vectors` shows: the case, the refusal (0 for none), the bytes of output, a digest of the 80,000 bytes lent for the
 output and of the array, and the last seven bytes of the output.
@@ -14,7 +16,9 @@ The reading of a trace below is written from document 01's section 'Trace progra
 tests/model_vectors.py, written from the same page. Neither shares anything with the crates.
 """
 import pathlib
+import random
 import re
+import subprocess
 import sys
 
 from model_vectors import FRESH, Cycle, Device, cycle
@@ -35,7 +39,7 @@ def printed(answer, state):
 def replay(text):
     """The output of a whole input, and the array it leaves."""
     array, residue = bytearray(b"\xff" * 16384), b"\xff" * 16384
-    state, number, out = FRESH, 1, b""
+    state, number = FRESH, 1
     lines = []
     while text:
         line, text = text[:20], text[20:]
@@ -238,6 +242,35 @@ def line_of(number, case):
     return b"%d %d %d %04x %04x " % (number, refusal, used, digest(held), digest(array)) + last
 
 
+# ---------------------------------------------------------------- random traces
+
+
+def random_line(r):
+    """A line that is mostly a plausible cycle: a command, a poll, an array read; now and then odd pins or a bad byte."""
+    kind = r.choice("RRWWWI")
+    rp = r.choice("1111111111222039")
+    oe = r.choice("00000000011127") if kind == "W" else r.choice("000000000001")
+    vpp = r.choice(["12000"] * 12 + ["11400", "12600", "06500", "00000", "05000", "06501", "11399", "12601", "99999"])
+    address = r.choice(["0010"] * 5 + ["0011", "3A00", "3A01", "3BFF", "3C00", "3FFF", "3800", "39FF", "37FF", "0000", "0001", "0002", "4000"])
+    byte = r.choice(["FF", "20", "D0", "40", "40", "70", "50", "B0", "90", "D0", "00", "5A", f"{r.randrange(256):02X}"])
+    line = bytearray(f"{kind} {rp} {oe} {vpp} {address} {byte}\n".encode())
+    if r.randrange(400) == 0:
+        line[r.randrange(20)] = r.randrange(256)
+    return bytes(line)
+
+
+def against(program, count, seed):
+    r = random.Random(seed)
+    for _ in range(count):
+        text = b"".join(random_line(r) for _ in range(r.choice([1, 7, 60, 400])))
+        text = text[: len(text) - r.choice([0, 0, 0, 1, 19])]
+        told = subprocess.run([program], input=text, stdout=subprocess.PIPE, check=True).stdout
+        if told != replay(text)[0]:
+            sys.stdout.buffer.write(text)
+            sys.exit("the program and the script answer this trace differently")
+    print(f"{count} random traces answered alike")
+
+
 FILES = {
     "sample": ("trace/stdin", sample),
     "answers": ("trace/stdout", lambda: replay(sample())[0]),
@@ -257,6 +290,8 @@ def main():
     elif sys.argv[1:] == ["check"]:
         wrong = [name for name, text in FILES.values() if (crates / name).read_bytes() != text()]
         sys.exit("these files are not what the script prints: " + ", ".join(wrong) if wrong else 0)
+    elif len(sys.argv) == 5 and sys.argv[1] == "against":
+        against(sys.argv[2], int(sys.argv[3]), int(sys.argv[4]))
     elif len(sys.argv) == 2 and sys.argv[1] in FILES:
         sys.stdout.buffer.write(FILES[sys.argv[1]][1]())
     else:

@@ -7,12 +7,14 @@ use Prim.Native.Nat.{ℕ, suc, _+_, _-_, _*_, _≤_, _<_}
 use lib.ListN.{length, take, drop}
 use Rattle.cells.specs.Pick.{Unique, only}
 use Rattle.cells.specs.Lists.{copied}
-use Rattle.cells.specs.Numbers.{Foremost}
+use Rattle.cells.specs.Numbers.{Foremost, row, given}
 use Rattle.device.specs.declared.Device.{Device}
 use Rattle.chip.specs.declared.State.{State}
 use Rattle.chip.specs.declared.Cycle.{Cycle}
 use Rattle.chip.specs.States.{freshState}
-use Rattle.chip.specs.Cycles.{tableOf}
+use Rattle.chip.specs.Levels.{badLevels}
+use Rattle.chip.specs.Settling.{settleOf}
+use Rattle.chip.specs.Cycles.{tableOf, numberOf, pastArray, late}
 use Rattle.model.specs.declared.Answer.{Answer}
 use Rattle.model.specs.declared.Seen.{Seen}
 use Rattle.model.specs.declared.Seen.the-variants.{Refused}
@@ -26,6 +28,7 @@ use Rattle.replay.proofs.Forms as forms
 use Rattle.replay.proofs.Scans as scans
 use Rattle.replay.proofs.Turns as turns
 use Rattle.replay.proofs.Ends as ends
+use Rattle.replay.proofs.Never as never
 
 -- Exactly the lines of the documented form are read: a list is read as a cycle exactly where the cycle fits a line and the
 -- list is what is printed of it. (Both halves: what is printed is read back, and what is read prints as itself.)
@@ -51,6 +54,19 @@ line-length = scans.line-length
 pub step-refused : (s : State) (c : Cycle) (xs rs : List ℕ) (m : ℕ) → (m ≡ 0 → ⊥)
     → (stepOf s c xs rs .seen ≡ Refused m) ↔ Foremost (tableOf benchT s c (length xs) (length rs)) m
 step-refused = ends.step-refused
+
+-- Of its table only 4, 5, 7, 8 and 9 are left while the bench is sound (its state proper, its array of the part's length, a
+-- residue as long); a fresh bench is sound, and every step leaves it so. So 1, 2, 3 and 6 never come in the trace program.
+pub bench-refusals : (s : State) (c : Cycle) (xs : List ℕ) (r : ℕ) → never.Sound s xs → 16384 ≤ r
+    → numberOf benchT s c (length xs) r
+    ≡ given (row 4 (badLevels (benchT .part) c) ∷ row 5 (pastArray (benchT .part) c) ∷ late (benchT .part) (settleOf (benchT .part) s (c .pins) .state) c)
+bench-refusals = never.left-over
+
+pub fresh-sound : (xs : List ℕ) → length xs ≡ 16384 → never.Sound freshState xs
+fresh-sound = never.fresh-sound
+
+pub stays-sound : (s : State) (c : Cycle) (xs rs : List ℕ) → never.Sound s xs → never.Sound (stepOf s c xs rs .state) (arrayBy s c xs rs)
+stays-sound = never.stays-sound
 
 -- The replay walks the lines: a good line, before line 9999, is answered by eight bytes and the rest replayed from what it left ..
 pub good-line : (k n : ℕ) (s : State) (xs rs text : List ℕ) → isLine (take 20 text) ≡ true

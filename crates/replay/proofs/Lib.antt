@@ -3,4 +3,5 @@ pub mod Turns
 pub mod Wholes
 pub mod Forms
 pub mod Ends
+pub mod Never
 pub mod Claims

@@ -1,4 +1,5 @@
-use mathlib.Core.Path.{_≡_, ap, _∙_, refl, sym}
+-- `replay::answer_line` meets its contract. Assumes nothing.
+use mathlib.Core.Path.{_≡_, ap, _∙_}
 use Rattle.cells.specs.Lists.{copied}
 use Rattle.chip.specs.declared.Cycle.{Cycle}
 use Rattle.model.specs.declared.Answer.{Answer}
@@ -6,37 +7,24 @@ use Rattle.replay.specs.Lines.{cycleIn}
 use Rattle.replay.specs.Answers.{printedOf}
 use Rattle.replay.specs.Replays.{arrayBy, stepOf}
 use borrow.Author.Needs.{needs}
-use native.Mathlib.Omega.{arith}
-use borrow.Author.Tests.{lt-ltb, le-ltb, le-leb, lt-leb, eq-eqb, ne-eqb}
 use Rattle.replay.proofs.answer_line.Statement.{statement}
 use Rattle.replay.proofs.answer_line.Tie as tie
-use Rattle.replay.proofs.answer_line.Reads as reads
-use Rattle.replay.proofs.answer_line.Lts as lts
-use Rattle.replay.proofs.answers.write_answer.Reads as write-answer-reads
-use Rattle.replay.proofs.lines.cycle_in.Reads as cycle-in-reads
-use Rattle.replay.proofs.step.Reads as step-reads
 
--- src/lib.rt:72:9
 cycle-in-requires : tie.Need-cycle-in-requires
 cycle-in-requires c κs = search needs
 
--- src/lib.rt:73:9
 step-requires : tie.Need-step-requires
 step-requires c κs = search needs
 
--- src/lib.rt:75:5
 write-answer-requires : tie.Need-write-answer-requires
 write-answer-requires c κs = search needs
 
--- src/lib.rt:66:1
 same-length : tie.Need-same-length
 same-length c = search needs
 
--- src/lib.rt:66:1
 same-length-2 : tie.Need-same-length-2
 same-length-2 c = search needs
 
--- src/lib.rt:66:1
 returns : tie.Need-returns
 returns c =
     let a = c .before .before .before .before .before .before .before .before .before .before .before .before .before .before .args in

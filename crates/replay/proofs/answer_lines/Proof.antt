@@ -1,6 +1,7 @@
+-- `replay::answer_lines` meets its contract. Assumes nothing.
 use mathlib.Core.Path.{_≡_, refl, sym, ap, _∙_}
-use mathlib.Core.List.{List, _++_}
-use Prim.Native.Nat.{ℕ, _+_, _-_, _*_, _≤_, _<_}
+use mathlib.Core.List.{_++_}
+use Prim.Native.Nat.{ℕ, _-_, _*_, _≤_, _<_}
 use native.Mathlib.Nat.{sub-zero}
 use lib.ListN.{length, take, drop}
 use Rattle.chip.specs.declared.State.{State}
@@ -9,13 +10,8 @@ use Rattle.replay.specs.Replays.{answersOf, arraysOf}
 use Rattle.replay.proofs.Turns.{turned-array, turned-out, turned-rest, turned-length, turned-over, arrays-over}
 use borrow.Author.Needs.{needs}
 use native.Mathlib.Omega.{arith}
-use borrow.Author.Tests.{lt-ltb, le-ltb, le-leb, lt-leb, eq-eqb, ne-eqb}
 use Rattle.replay.proofs.answer_lines.Statement.{statement}
 use Rattle.replay.proofs.answer_lines.Tie as tie
-use Rattle.replay.proofs.answer_lines.Reads as reads
-use Rattle.replay.proofs.answer_lines.Lts as lts
-use Rattle.model.proofs.fresh.Reads as fresh-reads
-use Rattle.replay.proofs.answer_line.Reads as answer-line-reads
 
 abbrev Inv-loop : tie.InvT-loop
 Inv-loop g text array₀ residue out₀ s₀ i₀ array out s i =
@@ -29,11 +25,9 @@ Inv-loop g text array₀ residue out₀ s₀ i₀ array out s i =
 abbrev μ-loop : tie.MeasureT-loop
 μ-loop g text array₀ residue out₀ s₀ i₀ array out s i = g - i
 
--- src/lib.rt:113:9
 fresh-requires : tie.Need-fresh-requires Inv-loop μ-loop
 fresh-requires c κs = search needs
 
--- src/lib.rt:115:5
 loop-holds : tie.Need-loop-holds Inv-loop μ-loop
 loop-holds c =
     let a = c .before .before .before .before .before .args in
@@ -46,59 +40,45 @@ loop-holds c =
       refl,
     )
 
--- src/lib.rt:116:17
 mul-a : tie.Need-mul-a Inv-loop μ-loop
 mul-a c = record { fits = omega arith }
 
--- src/lib.rt:117:17
 add-e : tie.Need-add-e Inv-loop μ-loop
 add-e c = record { fits = omega arith }
 
--- src/lib.rt:118:17
 mul-p : tie.Need-mul-p Inv-loop μ-loop
 mul-p c = record { fits = omega arith }
 
--- src/lib.rt:119:17
 add-q : tie.Need-add-q Inv-loop μ-loop
 add-q c = record { fits = omega arith }
 
--- src/lib.rt:120:28
 sub-answer-line : tie.Need-sub-answer-line Inv-loop μ-loop
 sub-answer-line c = omega arith
 
--- src/lib.rt:120:28
 part-answer-line-start : tie.Need-part-answer-line-start Inv-loop μ-loop
 part-answer-line-start c = omega arith
 
--- src/lib.rt:120:28
 part-answer-line-end : tie.Need-part-answer-line-end Inv-loop μ-loop
 part-answer-line-end c = omega arith
 
--- src/lib.rt:120:57
 sub-answer-line-2 : tie.Need-sub-answer-line-2 Inv-loop μ-loop
 sub-answer-line-2 c = omega arith
 
--- src/lib.rt:120:57
 part-answer-line-start-2 : tie.Need-part-answer-line-start-2 Inv-loop μ-loop
 part-answer-line-start-2 c = omega arith
 
--- src/lib.rt:120:57
 part-answer-line-end-2 : tie.Need-part-answer-line-end-2 Inv-loop μ-loop
 part-answer-line-end-2 c = omega arith
 
--- src/lib.rt:120:9
 answer-line-requires : tie.Need-answer-line-requires Inv-loop μ-loop
 answer-line-requires c κs = search needs
 
--- src/lib.rt:121:9
 add-i : tie.Need-add-i Inv-loop μ-loop
 add-i c = omega arith
 
--- src/lib.rt:115:5
 loop-less : tie.Need-loop-less Inv-loop μ-loop
 loop-less c = omega arith
 
--- src/lib.rt:115:5
 loop-again : tie.Need-loop-again Inv-loop μ-loop
 loop-again c =
     let l = c .before .before .before .before .before .before .before .before .before .loop in
@@ -119,15 +99,12 @@ loop-again c =
       turned-length (a .g) (l .i) (l .s) (k .result) (l .array) (k .last .1 .1 .0) (k .last .1 .1 .1 .1 .0) (a .residue .now) (a .text .now) (l .out) h f e x o ∙ l .inv .5,
     )
 
--- src/lib.rt:107:1
 same-length : tie.Need-same-length Inv-loop μ-loop
 same-length c = c .before .loop .inv .4
 
--- src/lib.rt:107:1
 same-length-2 : tie.Need-same-length-2 Inv-loop μ-loop
 same-length-2 c = c .before .loop .inv .5
 
--- src/lib.rt:107:1
 returns : tie.Need-returns Inv-loop μ-loop
 returns c =
     let l = c .before .loop in

@@ -1,5 +1,6 @@
-use mathlib.Core.Path.{_≡_, refl, sym, _∙_}
-use Prim.Native.Nat.{ℕ, _+_, _-_, _*_, _≤_}
+-- `replay::good_lines` meets its contract. Assumes nothing.
+use mathlib.Core.Path.{_≡_, sym, _∙_}
+use Prim.Native.Nat.{_+_, _-_, _*_, _≤_}
 use native.Mathlib.Omega.{arith}
 use native.Mathlib.Nat.{zero-add}
 use lib.ListN.{drop}
@@ -7,9 +8,6 @@ use Rattle.replay.specs.Replays.{goodLines}
 use Rattle.replay.proofs.Scans.{scan-good, scan-bad, scan-over}
 use Rattle.replay.proofs.good_lines.Statement.{statement}
 use Rattle.replay.proofs.good_lines.Tie as tie
-use Rattle.replay.proofs.good_lines.Reads as reads
-use Rattle.replay.proofs.good_lines.Lts as lts
-use Rattle.replay.proofs.good_at.Reads as good-at-reads
 
 abbrev Inv-loop : tie.InvT-loop
 Inv-loop text i₀ i = (i ≤ 9998) × (i + goodLines (9998 - i) (drop (20 * i) text) ≡ goodLines 9998 text)
@@ -17,37 +15,30 @@ Inv-loop text i₀ i = (i ≤ 9998) × (i + goodLines (9998 - i) (drop (20 * i) 
 abbrev μ-loop : tie.MeasureT-loop
 μ-loop text i₀ i = 9998 - i
 
--- src/lib.rt:97:5
 loop-holds : tie.Need-loop-holds Inv-loop μ-loop
 loop-holds c = (omega arith, zero-add (goodLines 9998 (c .before .args .text .now)))
 
--- src/lib.rt:98:12
 good-at-requires : tie.Need-good-at-requires Inv-loop μ-loop
 good-at-requires c κs = omega arith
 
--- src/lib.rt:99:13
 add-i : tie.Need-add-i Inv-loop μ-loop
 add-i c = omega arith
 
--- src/lib.rt:97:5
 loop-less : tie.Need-loop-less Inv-loop μ-loop
 loop-less c = omega arith
 
--- src/lib.rt:97:5
 loop-again : tie.Need-loop-again Inv-loop μ-loop
 loop-again c =
     let l = c .before .before .before .loop in
     let a = c .before .before .before .before .before .args in
     (omega arith, scan-good 9998 (l .i) (a .text .now) (c .before .before .loop-test .taken) (sym (c .before .good-at .ensures) ∙ c .if1 .taken) ∙ l .inv .1)
 
--- src/lib.rt:101:13
 returns : tie.Need-returns Inv-loop μ-loop
 returns c =
     let l = c .before .before .before .loop in
     let a = c .before .before .before .before .before .args in
     sym (scan-bad 9998 (l .i) (a .text .now) (c .before .before .loop-test .taken) (sym (c .before .good-at .ensures) ∙ c .if1 .left)) ∙ l .inv .1
 
--- src/lib.rt:93:1
 returns-2 : tie.Need-returns-2 Inv-loop μ-loop
 returns-2 c =
     let l = c .before .loop in

@@ -1,30 +1,21 @@
-use mathlib.Core.Path.{_≡_, ap, _∙_, refl, sym}
+-- `replay::step` meets its contract. Assumes nothing.
+use mathlib.Core.Path.{ap, _∙_}
 use Rattle.device.specs.declared.Device.{Device}
 use Rattle.model.specs.Arrays.{answerOf, arrayAfter}
 use Rattle.replay.specs.Replays.{arrayBy, stepOf}
 use borrow.Author.Needs.{needs}
-use native.Mathlib.Omega.{arith}
-use borrow.Author.Tests.{lt-ltb, le-ltb, le-leb, lt-leb, eq-eqb, ne-eqb}
 use Rattle.replay.proofs.step.Statement.{statement}
 use Rattle.replay.proofs.step.Tie as tie
-use Rattle.replay.proofs.step.Reads as reads
-use Rattle.replay.proofs.step.Lts as lts
-use Rattle.model.proofs.cycle.Reads as cycle-reads
-use Rattle.replay.proofs.bench.Reads as bench-reads
 
--- src/lib.rt:61:9
 bench-requires : tie.Need-bench-requires
 bench-requires c κs = search needs
 
--- src/lib.rt:62:5
 cycle-requires : tie.Need-cycle-requires
 cycle-requires c κs = search needs
 
--- src/lib.rt:57:1
 same-length : tie.Need-same-length
 same-length c = search needs
 
--- src/lib.rt:57:1
 returns : tie.Need-returns
 unfolding stepOf arrayBy
 returns c =

@@ -1,100 +1,69 @@
+-- `replay::lines::cycle_in` meets its contract. Assumes nothing.
 use borrow.Author.Needs.{needs}
-use native.Mathlib.Omega.{arith}
-use borrow.Author.Tests.{lt-ltb, le-ltb, le-leb, lt-leb, eq-eqb, ne-eqb}
-use mathlib.Core.Path.{refl, sym, _∙_}
 use Rattle.replay.specs.Lines.{cycleIn}
 use Rattle.replay.proofs.lines.cycle_in.Statement.{statement}
 use Rattle.replay.proofs.lines.cycle_in.Tie as tie
-use Rattle.replay.proofs.lines.cycle_in.Reads as reads
-use Rattle.replay.proofs.lines.cycle_in.Lts as lts
-use Rattle.cells.proofs.nth.Reads as nth-reads
-use Rattle.replay.proofs.lines.five.Reads as five-reads
-use Rattle.replay.proofs.lines.four.Reads as four-reads
-use Rattle.replay.proofs.lines.kind_of.Reads as kind-of-reads
-use Rattle.replay.proofs.lines.level.Reads as level-reads
-use Rattle.replay.proofs.lines.two.Reads as two-reads
 
--- src/lines.rt:142:24
 nth-requires : tie.Need-nth-requires
 nth-requires c κs = search needs
 
--- src/lines.rt:142:9
 kind-of-requires : tie.Need-kind-of-requires
 kind-of-requires c κs = search needs
 
--- src/lines.rt:143:20
 nth-requires-2 : tie.Need-nth-requires-2
 nth-requires-2 c κs = search needs
 
--- src/lines.rt:143:9
 level-requires : tie.Need-level-requires
 level-requires c κs = search needs
 
--- src/lines.rt:144:20
 nth-requires-3 : tie.Need-nth-requires-3
 nth-requires-3 c κs = search needs
 
--- src/lines.rt:144:9
 level-requires-2 : tie.Need-level-requires-2
 level-requires-2 c κs = search needs
 
--- src/lines.rt:145:20
 nth-requires-4 : tie.Need-nth-requires-4
 nth-requires-4 c κs = search needs
 
--- src/lines.rt:145:41
 nth-requires-5 : tie.Need-nth-requires-5
 nth-requires-5 c κs = search needs
 
--- src/lines.rt:145:62
 nth-requires-6 : tie.Need-nth-requires-6
 nth-requires-6 c κs = search needs
 
--- src/lines.rt:145:83
 nth-requires-7 : tie.Need-nth-requires-7
 nth-requires-7 c κs = search needs
 
--- src/lines.rt:145:104
 nth-requires-8 : tie.Need-nth-requires-8
 nth-requires-8 c κs = search needs
 
--- src/lines.rt:145:9
 five-requires : tie.Need-five-requires
 five-requires c κs = search needs
 
--- src/lines.rt:146:24
 nth-requires-9 : tie.Need-nth-requires-9
 nth-requires-9 c κs = search needs
 
--- src/lines.rt:146:46
 nth-requires-10 : tie.Need-nth-requires-10
 nth-requires-10 c κs = search needs
 
--- src/lines.rt:146:68
 nth-requires-11 : tie.Need-nth-requires-11
 nth-requires-11 c κs = search needs
 
--- src/lines.rt:146:90
 nth-requires-12 : tie.Need-nth-requires-12
 nth-requires-12 c κs = search needs
 
--- src/lines.rt:146:9
 four-requires : tie.Need-four-requires
 four-requires c κs = search needs
 
--- src/lines.rt:147:20
 nth-requires-13 : tie.Need-nth-requires-13
 nth-requires-13 c κs = search needs
 
--- src/lines.rt:147:42
 nth-requires-14 : tie.Need-nth-requires-14
 nth-requires-14 c κs = search needs
 
--- src/lines.rt:147:9
 two-requires : tie.Need-two-requires
 two-requires c κs = search needs
 
--- src/lines.rt:139:1
 returns : tie.Need-returns
 unfolding cycleIn
 returns c = simp (c .two .ensures, c .before .nth14 .ensures, c .before .before .nth13 .ensures, c .before .before .before .four .ensures, c .before .before .before .before .nth12 .ensures, c .before .before .before .before .before .nth11 .ensures, c .before .before .before .before .before .before .nth10 .ensures, c .before .before .before .before .before .before .before .nth9 .ensures, c .before .before .before .before .before .before .before .before .five .ensures, c .before .before .before .before .before .before .before .before .before .nth8 .ensures, c .before .before .before .before .before .before .before .before .before .before .nth7 .ensures, c .before .before .before .before .before .before .before .before .before .before .before .nth6 .ensures, c .before .before .before .before .before .before .before .before .before .before .before .before .nth5 .ensures, c .before .before .before .before .before .before .before .before .before .before .before .before .before .nth4 .ensures, c .before .before .before .before .before .before .before .before .before .before .before .before .before .before .level2 .ensures, c .before .before .before .before .before .before .before .before .before .before .before .before .before .before .before .nth3 .ensures, c .before .before .before .before .before .before .before .before .before .before .before .before .before .before .before .before .level .ensures, c .before .before .before .before .before .before .before .before .before .before .before .before .before .before .before .before .before .nth2 .ensures, c .before .before .before .before .before .before .before .before .before .before .before .before .before .before .before .before .before .before .kind-of .ensures, c .before .before .before .before .before .before .before .before .before .before .before .before .before .before .before .before .before .before .before .nth .ensures)

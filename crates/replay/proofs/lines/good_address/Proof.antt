@@ -1,52 +1,36 @@
+-- `replay::lines::good_address` meets its contract. Assumes nothing.
 use borrow.Author.Needs.{needs}
-use native.Mathlib.Omega.{arith}
-use borrow.Author.Tests.{lt-ltb, le-ltb, le-leb, lt-leb, eq-eqb, ne-eqb}
-use mathlib.Core.Path.{refl, sym, _∙_}
 use Rattle.replay.specs.Lines.{goodAddress}
 use Rattle.replay.proofs.lines.good_address.Statement.{statement}
 use Rattle.replay.proofs.lines.good_address.Tie as tie
-use Rattle.replay.proofs.lines.good_address.Reads as reads
-use Rattle.replay.proofs.lines.good_address.Lts as lts
-use Rattle.cells.proofs.nth.Reads as nth-reads
-use Rattle.replay.proofs.lines.is_hex.Reads as is-hex-reads
 
--- src/lines.rt:66:12
 nth-requires : tie.Need-nth-requires
 nth-requires c κs = search needs
 
--- src/lines.rt:66:5
 is-hex-requires : tie.Need-is-hex-requires
 is-hex-requires c κs = search needs
 
--- src/lines.rt:66:43
 nth-requires-2 : tie.Need-nth-requires-2
 nth-requires-2 c κs = search needs
 
--- src/lines.rt:66:36
 is-hex-requires-2 : tie.Need-is-hex-requires-2
 is-hex-requires-2 c κs = search needs
 
--- src/lines.rt:66:74
 nth-requires-3 : tie.Need-nth-requires-3
 nth-requires-3 c κs = search needs
 
--- src/lines.rt:66:67
 is-hex-requires-3 : tie.Need-is-hex-requires-3
 is-hex-requires-3 c κs = search needs
 
--- src/lines.rt:66:105
 nth-requires-4 : tie.Need-nth-requires-4
 nth-requires-4 c κs = search needs
 
--- src/lines.rt:66:98
 is-hex-requires-4 : tie.Need-is-hex-requires-4
 is-hex-requires-4 c κs = search needs
 
--- src/lines.rt:67:12
 nth-requires-5 : tie.Need-nth-requires-5
 nth-requires-5 c κs = search needs
 
--- src/lines.rt:63:1
 returns : tie.Need-returns
 unfolding goodAddress
 returns c = simp (c .nth5 .ensures, c .before .is-hex4 .ensures, c .before .before .nth4 .ensures, c .before .before .before .is-hex3 .ensures, c .before .before .before .before .nth3 .ensures, c .before .before .before .before .before .is-hex2 .ensures, c .before .before .before .before .before .before .nth2 .ensures, c .before .before .before .before .before .before .before .is-hex .ensures, c .before .before .before .before .before .before .before .before .nth .ensures)

@@ -1,53 +1,36 @@
+-- `replay::lines::good_front` meets its contract. Assumes nothing.
 use borrow.Author.Needs.{needs}
-use native.Mathlib.Omega.{arith}
-use borrow.Author.Tests.{lt-ltb, le-ltb, le-leb, lt-leb, eq-eqb, ne-eqb}
-use mathlib.Core.Path.{refl, sym, _∙_}
 use Rattle.replay.specs.Lines.{goodFront}
 use Rattle.replay.proofs.lines.good_front.Statement.{statement}
 use Rattle.replay.proofs.lines.good_front.Tie as tie
-use Rattle.replay.proofs.lines.good_front.Reads as reads
-use Rattle.replay.proofs.lines.good_front.Lts as lts
-use Rattle.cells.proofs.nth.Reads as nth-reads
-use Rattle.replay.proofs.lines.is_digit.Reads as is-digit-reads
-use Rattle.replay.proofs.lines.is_kind.Reads as is-kind-reads
 
--- src/lines.rt:50:13
 nth-requires : tie.Need-nth-requires
 nth-requires c κs = search needs
 
--- src/lines.rt:50:5
 is-kind-requires : tie.Need-is-kind-requires
 is-kind-requires c κs = search needs
 
--- src/lines.rt:50:37
 nth-requires-2 : tie.Need-nth-requires-2
 nth-requires-2 c κs = search needs
 
--- src/lines.rt:50:75
 nth-requires-3 : tie.Need-nth-requires-3
 nth-requires-3 c κs = search needs
 
--- src/lines.rt:50:66
 is-digit-requires : tie.Need-is-digit-requires
 is-digit-requires c κs = search needs
 
--- src/lines.rt:50:99
 nth-requires-4 : tie.Need-nth-requires-4
 nth-requires-4 c κs = search needs
 
--- src/lines.rt:51:20
 nth-requires-5 : tie.Need-nth-requires-5
 nth-requires-5 c κs = search needs
 
--- src/lines.rt:51:11
 is-digit-requires-2 : tie.Need-is-digit-requires-2
 is-digit-requires-2 c κs = search needs
 
--- src/lines.rt:51:44
 nth-requires-6 : tie.Need-nth-requires-6
 nth-requires-6 c κs = search needs
 
--- src/lines.rt:47:1
 returns : tie.Need-returns
 unfolding goodFront
 returns c = simp (c .nth6 .ensures, c .before .is-digit2 .ensures, c .before .before .nth5 .ensures, c .before .before .before .nth4 .ensures, c .before .before .before .before .is-digit .ensures, c .before .before .before .before .before .nth3 .ensures, c .before .before .before .before .before .before .nth2 .ensures, c .before .before .before .before .before .before .before .is-kind .ensures, c .before .before .before .before .before .before .before .before .nth .ensures)
