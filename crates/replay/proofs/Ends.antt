@@ -1,14 +1,14 @@
 -- The ways in which a replay goes on and ends, one law each. Assumes nothing.
-use mathlib.Core.Path.{_≡_, refl, sym, ap, _∙_}
-use mathlib.Core.Bool.{Bool, true, false}
-use mathlib.Core.List.{List, [], _∷_, _++_}
+use mathlib.Core.Path.{_≡_, refl, ap, _∙_}
+use mathlib.Core.Bool.{true, false}
+use mathlib.Core.List.{List, [], _++_}
 use mathlib.Core.Logic.{_↔_}
-use Prim.Native.Nat.{ℕ, zero, suc, _+_, _-_, _*_, _≤_, _<_}
+use Prim.Native.Nat.{ℕ, zero, suc, _+_, _-_, _*_, _<_}
 use native.Mathlib.Omega.{arith}
 use lib.Dec.{eqb}
 use lib.ListN.{length, take, drop}
 use borrow.Author.Tests.{ne-eqb}
-use Rattle.cells.specs.Pick.{pick, pick-true, pick-false}
+use Rattle.cells.specs.Pick.{pick-false}
 use Rattle.cells.specs.Numbers.{Foremost}
 use Rattle.chip.specs.declared.State.{State}
 use Rattle.chip.specs.declared.Cycle.{Cycle}
@@ -20,7 +20,7 @@ use Rattle.replay.specs.Lines.{isLine, cycleIn}
 use Rattle.replay.specs.Answers.{printedOf, markOf, endOf}
 use Rattle.replay.specs.Replays.{benchT, stepOf, arrayBy, goodLines, answersOf, outputFrom, outputOf}
 use Rattle.replay.proofs.Scans.{not-line}
-use Rattle.replay.proofs.Turns.{answerTo, arrayTo, output-is}
+use Rattle.replay.proofs.Turns.{output-is}
 
 pub step-refused : (s : State) (c : Cycle) (xs rs : List ℕ) (m : ℕ) → (m ≡ 0 → ⊥)
     → (stepOf s c xs rs .seen ≡ Refused m) ↔ Foremost (tableOf benchT s c (length xs) (length rs)) m

@@ -1,20 +1,19 @@
 -- Lines and cycles: what is printed is read back, and what is read prints as itself. Assumes nothing.
 use mathlib.Core.Path.{_≡_, refl, sym, ap, _∙_, subst}
-use mathlib.Core.Bool.{Bool, true, false, _&&_, _||_}
+use mathlib.Core.Bool.{Bool, true, false, _&&_}
 use mathlib.Core.List.{List, [], _∷_}
 use mathlib.Core.Logic.{_↔_}
-use Prim.Native.Nat.{ℕ, zero, suc, _+_, _-_, _*_, _/_, _%_, _≤_, _<_}
+use Prim.Native.Nat.{ℕ, zero, suc, _+_, _*_, _/_, _%_, _≤_, _<_}
 use native.Mathlib.Omega.{arith}
 use native.Mathlib.Numerals.{add-one}
 use lib.Dec.{eqb, ltb, leb}
 use lib.ListN.{length, getD, drop}
 use lib.Seq.{drop-cons, drop-length}
-use borrow.Author.Tests.{eqb-true, leb-true, leb-false, lt-ltb, le-ltb, le-leb, lt-leb, ltb-true, ltb-false}
-use Rattle.cells.specs.Pick.{pick, pick-true, pick-false, and-left, and-right, unlike}
+use borrow.Author.Tests.{eqb-true, leb-true, lt-ltb, le-ltb, le-leb, lt-leb, ltb-true, ltb-false}
+use Rattle.cells.specs.Pick.{pick-true, pick-false, and-left, and-right}
 use Rattle.chip.specs.declared.Kind.{Kind}
 use Rattle.chip.specs.declared.Kind.the-variants.{Read, Write, Idle}
 use Rattle.chip.specs.declared.Cycle.{Cycle}
-use Rattle.replay.specs.declared.LineRead.{LineRead}
 use Rattle.replay.specs.declared.LineRead.the-variants.{NotALine, Stated}
 use Rattle.replay.specs.Lines.{isDigit, isHex, isKind, goodFront, goodSupply, goodAddress, goodBack, isLine, kindOf, digitOf, hexOf, fiveOf, fourOf, twoOf, cycleIn, readLine, letterFor, decimalDigit, hexDigit, lineOf, Fits}
 use Rattle.replay.proofs.Scans.{line-length}
@@ -136,111 +135,47 @@ page v = omega arith
 section : (v : ℕ) → v / 4096 ≡ v / 256 / 16
 section v = omega arith
 
+-- the parts of an `and` that holds
+parts-3 : (a b c : Bool) → ((a && b) && c) ≡ true → (a ≡ true) × (b ≡ true) × (c ≡ true)
+parts-3 a b c h = let k = and-left (a && b) c h in (and-left a b k, and-right a b k, and-right (a && b) c h)
+
+parts-5 : (a b c d e : Bool) → ((((a && b) && c) && d) && e) ≡ true → (a ≡ true) × (b ≡ true) × (c ≡ true) × (d ≡ true) × (e ≡ true)
+parts-5 a b c d e h =
+    let l = and-left (((a && b) && c) && d) e h in
+    let k = parts-3 a b c (and-left ((a && b) && c) d l) in
+    (k .0, k .1, k .2, and-right ((a && b) && c) d l, and-right (((a && b) && c) && d) e h)
+
+parts-6 : (a b c d e f : Bool) → (((((a && b) && c) && d) && e) && f) ≡ true
+    → (a ≡ true) × (b ≡ true) × (c ≡ true) × (d ≡ true) × (e ≡ true) × (f ≡ true)
+parts-6 a b c d e f h =
+    let k = parts-5 a b c d e (and-left ((((a && b) && c) && d) && e) f h) in
+    (k .0, k .1, k .2, k .3, k .4, and-right ((((a && b) && c) && d) && e) f h)
+
+line-parts : (xs : List ℕ) → isLine xs ≡ true
+    → (eqb (length xs) 20 ≡ true) × (goodFront xs ≡ true) × (goodSupply xs ≡ true) × (goodAddress xs ≡ true) × (goodBack xs ≡ true)
+unfolding isLine
+line-parts xs e = parts-5 (eqb (length xs) 20) (goodFront xs) (goodSupply xs) (goodAddress xs) (goodBack xs) e
+
 -- what a good line has at each place
-at-0 : (xs : List ℕ) → goodFront xs ≡ true → isKind (getD xs 0 0) ≡ true
+front : (xs : List ℕ) → isLine xs ≡ true
+    → (isKind (getD xs 0 0) ≡ true) × (eqb (getD xs 1 0) 32 ≡ true) × (isDigit (getD xs 2 0) ≡ true) × (eqb (getD xs 3 0) 32 ≡ true) × (isDigit (getD xs 4 0) ≡ true) × (eqb (getD xs 5 0) 32 ≡ true)
 unfolding goodFront
-at-0 xs e = and-left (isKind (getD xs 0 0)) (eqb (getD xs 1 0) 32) (and-left ((isKind (getD xs 0 0)) && (eqb (getD xs 1 0) 32)) (isDigit (getD xs 2 0)) (and-left (((isKind (getD xs 0 0)) && (eqb (getD xs 1 0) 32)) && (isDigit (getD xs 2 0))) (eqb (getD xs 3 0) 32) (and-left ((((isKind (getD xs 0 0)) && (eqb (getD xs 1 0) 32)) && (isDigit (getD xs 2 0))) && (eqb (getD xs 3 0) 32)) (isDigit (getD xs 4 0)) (and-left (((((isKind (getD xs 0 0)) && (eqb (getD xs 1 0) 32)) && (isDigit (getD xs 2 0))) && (eqb (getD xs 3 0) 32)) && (isDigit (getD xs 4 0))) (eqb (getD xs 5 0) 32) e))))
+front xs e = parts-6 (isKind (getD xs 0 0)) (eqb (getD xs 1 0) 32) (isDigit (getD xs 2 0)) (eqb (getD xs 3 0) 32) (isDigit (getD xs 4 0)) (eqb (getD xs 5 0) 32) (line-parts xs e .1)
 
-at-1 : (xs : List ℕ) → goodFront xs ≡ true → eqb (getD xs 1 0) 32 ≡ true
-unfolding goodFront
-at-1 xs e = and-right (isKind (getD xs 0 0)) (eqb (getD xs 1 0) 32) (and-left ((isKind (getD xs 0 0)) && (eqb (getD xs 1 0) 32)) (isDigit (getD xs 2 0)) (and-left (((isKind (getD xs 0 0)) && (eqb (getD xs 1 0) 32)) && (isDigit (getD xs 2 0))) (eqb (getD xs 3 0) 32) (and-left ((((isKind (getD xs 0 0)) && (eqb (getD xs 1 0) 32)) && (isDigit (getD xs 2 0))) && (eqb (getD xs 3 0) 32)) (isDigit (getD xs 4 0)) (and-left (((((isKind (getD xs 0 0)) && (eqb (getD xs 1 0) 32)) && (isDigit (getD xs 2 0))) && (eqb (getD xs 3 0) 32)) && (isDigit (getD xs 4 0))) (eqb (getD xs 5 0) 32) e))))
-
-at-2 : (xs : List ℕ) → goodFront xs ≡ true → isDigit (getD xs 2 0) ≡ true
-unfolding goodFront
-at-2 xs e = and-right ((isKind (getD xs 0 0)) && (eqb (getD xs 1 0) 32)) (isDigit (getD xs 2 0)) (and-left (((isKind (getD xs 0 0)) && (eqb (getD xs 1 0) 32)) && (isDigit (getD xs 2 0))) (eqb (getD xs 3 0) 32) (and-left ((((isKind (getD xs 0 0)) && (eqb (getD xs 1 0) 32)) && (isDigit (getD xs 2 0))) && (eqb (getD xs 3 0) 32)) (isDigit (getD xs 4 0)) (and-left (((((isKind (getD xs 0 0)) && (eqb (getD xs 1 0) 32)) && (isDigit (getD xs 2 0))) && (eqb (getD xs 3 0) 32)) && (isDigit (getD xs 4 0))) (eqb (getD xs 5 0) 32) e)))
-
-at-3 : (xs : List ℕ) → goodFront xs ≡ true → eqb (getD xs 3 0) 32 ≡ true
-unfolding goodFront
-at-3 xs e = and-right (((isKind (getD xs 0 0)) && (eqb (getD xs 1 0) 32)) && (isDigit (getD xs 2 0))) (eqb (getD xs 3 0) 32) (and-left ((((isKind (getD xs 0 0)) && (eqb (getD xs 1 0) 32)) && (isDigit (getD xs 2 0))) && (eqb (getD xs 3 0) 32)) (isDigit (getD xs 4 0)) (and-left (((((isKind (getD xs 0 0)) && (eqb (getD xs 1 0) 32)) && (isDigit (getD xs 2 0))) && (eqb (getD xs 3 0) 32)) && (isDigit (getD xs 4 0))) (eqb (getD xs 5 0) 32) e))
-
-at-4 : (xs : List ℕ) → goodFront xs ≡ true → isDigit (getD xs 4 0) ≡ true
-unfolding goodFront
-at-4 xs e = and-right ((((isKind (getD xs 0 0)) && (eqb (getD xs 1 0) 32)) && (isDigit (getD xs 2 0))) && (eqb (getD xs 3 0) 32)) (isDigit (getD xs 4 0)) (and-left (((((isKind (getD xs 0 0)) && (eqb (getD xs 1 0) 32)) && (isDigit (getD xs 2 0))) && (eqb (getD xs 3 0) 32)) && (isDigit (getD xs 4 0))) (eqb (getD xs 5 0) 32) e)
-
-at-5 : (xs : List ℕ) → goodFront xs ≡ true → eqb (getD xs 5 0) 32 ≡ true
-unfolding goodFront
-at-5 xs e = and-right (((((isKind (getD xs 0 0)) && (eqb (getD xs 1 0) 32)) && (isDigit (getD xs 2 0))) && (eqb (getD xs 3 0) 32)) && (isDigit (getD xs 4 0))) (eqb (getD xs 5 0) 32) e
-
-at-6 : (xs : List ℕ) → goodSupply xs ≡ true → isDigit (getD xs 6 0) ≡ true
+supply : (xs : List ℕ) → isLine xs ≡ true
+    → (isDigit (getD xs 6 0) ≡ true) × (isDigit (getD xs 7 0) ≡ true) × (isDigit (getD xs 8 0) ≡ true) × (isDigit (getD xs 9 0) ≡ true) × (isDigit (getD xs 10 0) ≡ true) × (eqb (getD xs 11 0) 32 ≡ true)
 unfolding goodSupply
-at-6 xs e = and-left (isDigit (getD xs 6 0)) (isDigit (getD xs 7 0)) (and-left ((isDigit (getD xs 6 0)) && (isDigit (getD xs 7 0))) (isDigit (getD xs 8 0)) (and-left (((isDigit (getD xs 6 0)) && (isDigit (getD xs 7 0))) && (isDigit (getD xs 8 0))) (isDigit (getD xs 9 0)) (and-left ((((isDigit (getD xs 6 0)) && (isDigit (getD xs 7 0))) && (isDigit (getD xs 8 0))) && (isDigit (getD xs 9 0))) (isDigit (getD xs 10 0)) (and-left (((((isDigit (getD xs 6 0)) && (isDigit (getD xs 7 0))) && (isDigit (getD xs 8 0))) && (isDigit (getD xs 9 0))) && (isDigit (getD xs 10 0))) (eqb (getD xs 11 0) 32) e))))
+supply xs e = parts-6 (isDigit (getD xs 6 0)) (isDigit (getD xs 7 0)) (isDigit (getD xs 8 0)) (isDigit (getD xs 9 0)) (isDigit (getD xs 10 0)) (eqb (getD xs 11 0) 32) (line-parts xs e .2)
 
-at-7 : (xs : List ℕ) → goodSupply xs ≡ true → isDigit (getD xs 7 0) ≡ true
-unfolding goodSupply
-at-7 xs e = and-right (isDigit (getD xs 6 0)) (isDigit (getD xs 7 0)) (and-left ((isDigit (getD xs 6 0)) && (isDigit (getD xs 7 0))) (isDigit (getD xs 8 0)) (and-left (((isDigit (getD xs 6 0)) && (isDigit (getD xs 7 0))) && (isDigit (getD xs 8 0))) (isDigit (getD xs 9 0)) (and-left ((((isDigit (getD xs 6 0)) && (isDigit (getD xs 7 0))) && (isDigit (getD xs 8 0))) && (isDigit (getD xs 9 0))) (isDigit (getD xs 10 0)) (and-left (((((isDigit (getD xs 6 0)) && (isDigit (getD xs 7 0))) && (isDigit (getD xs 8 0))) && (isDigit (getD xs 9 0))) && (isDigit (getD xs 10 0))) (eqb (getD xs 11 0) 32) e))))
-
-at-8 : (xs : List ℕ) → goodSupply xs ≡ true → isDigit (getD xs 8 0) ≡ true
-unfolding goodSupply
-at-8 xs e = and-right ((isDigit (getD xs 6 0)) && (isDigit (getD xs 7 0))) (isDigit (getD xs 8 0)) (and-left (((isDigit (getD xs 6 0)) && (isDigit (getD xs 7 0))) && (isDigit (getD xs 8 0))) (isDigit (getD xs 9 0)) (and-left ((((isDigit (getD xs 6 0)) && (isDigit (getD xs 7 0))) && (isDigit (getD xs 8 0))) && (isDigit (getD xs 9 0))) (isDigit (getD xs 10 0)) (and-left (((((isDigit (getD xs 6 0)) && (isDigit (getD xs 7 0))) && (isDigit (getD xs 8 0))) && (isDigit (getD xs 9 0))) && (isDigit (getD xs 10 0))) (eqb (getD xs 11 0) 32) e)))
-
-at-9 : (xs : List ℕ) → goodSupply xs ≡ true → isDigit (getD xs 9 0) ≡ true
-unfolding goodSupply
-at-9 xs e = and-right (((isDigit (getD xs 6 0)) && (isDigit (getD xs 7 0))) && (isDigit (getD xs 8 0))) (isDigit (getD xs 9 0)) (and-left ((((isDigit (getD xs 6 0)) && (isDigit (getD xs 7 0))) && (isDigit (getD xs 8 0))) && (isDigit (getD xs 9 0))) (isDigit (getD xs 10 0)) (and-left (((((isDigit (getD xs 6 0)) && (isDigit (getD xs 7 0))) && (isDigit (getD xs 8 0))) && (isDigit (getD xs 9 0))) && (isDigit (getD xs 10 0))) (eqb (getD xs 11 0) 32) e))
-
-at-10 : (xs : List ℕ) → goodSupply xs ≡ true → isDigit (getD xs 10 0) ≡ true
-unfolding goodSupply
-at-10 xs e = and-right ((((isDigit (getD xs 6 0)) && (isDigit (getD xs 7 0))) && (isDigit (getD xs 8 0))) && (isDigit (getD xs 9 0))) (isDigit (getD xs 10 0)) (and-left (((((isDigit (getD xs 6 0)) && (isDigit (getD xs 7 0))) && (isDigit (getD xs 8 0))) && (isDigit (getD xs 9 0))) && (isDigit (getD xs 10 0))) (eqb (getD xs 11 0) 32) e)
-
-at-11 : (xs : List ℕ) → goodSupply xs ≡ true → eqb (getD xs 11 0) 32 ≡ true
-unfolding goodSupply
-at-11 xs e = and-right (((((isDigit (getD xs 6 0)) && (isDigit (getD xs 7 0))) && (isDigit (getD xs 8 0))) && (isDigit (getD xs 9 0))) && (isDigit (getD xs 10 0))) (eqb (getD xs 11 0) 32) e
-
-at-12 : (xs : List ℕ) → goodAddress xs ≡ true → isHex (getD xs 12 0) ≡ true
+address : (xs : List ℕ) → isLine xs ≡ true
+    → (isHex (getD xs 12 0) ≡ true) × (isHex (getD xs 13 0) ≡ true) × (isHex (getD xs 14 0) ≡ true) × (isHex (getD xs 15 0) ≡ true) × (eqb (getD xs 16 0) 32 ≡ true)
 unfolding goodAddress
-at-12 xs e = and-left (isHex (getD xs 12 0)) (isHex (getD xs 13 0)) (and-left ((isHex (getD xs 12 0)) && (isHex (getD xs 13 0))) (isHex (getD xs 14 0)) (and-left (((isHex (getD xs 12 0)) && (isHex (getD xs 13 0))) && (isHex (getD xs 14 0))) (isHex (getD xs 15 0)) (and-left ((((isHex (getD xs 12 0)) && (isHex (getD xs 13 0))) && (isHex (getD xs 14 0))) && (isHex (getD xs 15 0))) (eqb (getD xs 16 0) 32) e)))
+address xs e = parts-5 (isHex (getD xs 12 0)) (isHex (getD xs 13 0)) (isHex (getD xs 14 0)) (isHex (getD xs 15 0)) (eqb (getD xs 16 0) 32) (line-parts xs e .3)
 
-at-13 : (xs : List ℕ) → goodAddress xs ≡ true → isHex (getD xs 13 0) ≡ true
-unfolding goodAddress
-at-13 xs e = and-right (isHex (getD xs 12 0)) (isHex (getD xs 13 0)) (and-left ((isHex (getD xs 12 0)) && (isHex (getD xs 13 0))) (isHex (getD xs 14 0)) (and-left (((isHex (getD xs 12 0)) && (isHex (getD xs 13 0))) && (isHex (getD xs 14 0))) (isHex (getD xs 15 0)) (and-left ((((isHex (getD xs 12 0)) && (isHex (getD xs 13 0))) && (isHex (getD xs 14 0))) && (isHex (getD xs 15 0))) (eqb (getD xs 16 0) 32) e)))
-
-at-14 : (xs : List ℕ) → goodAddress xs ≡ true → isHex (getD xs 14 0) ≡ true
-unfolding goodAddress
-at-14 xs e = and-right ((isHex (getD xs 12 0)) && (isHex (getD xs 13 0))) (isHex (getD xs 14 0)) (and-left (((isHex (getD xs 12 0)) && (isHex (getD xs 13 0))) && (isHex (getD xs 14 0))) (isHex (getD xs 15 0)) (and-left ((((isHex (getD xs 12 0)) && (isHex (getD xs 13 0))) && (isHex (getD xs 14 0))) && (isHex (getD xs 15 0))) (eqb (getD xs 16 0) 32) e))
-
-at-15 : (xs : List ℕ) → goodAddress xs ≡ true → isHex (getD xs 15 0) ≡ true
-unfolding goodAddress
-at-15 xs e = and-right (((isHex (getD xs 12 0)) && (isHex (getD xs 13 0))) && (isHex (getD xs 14 0))) (isHex (getD xs 15 0)) (and-left ((((isHex (getD xs 12 0)) && (isHex (getD xs 13 0))) && (isHex (getD xs 14 0))) && (isHex (getD xs 15 0))) (eqb (getD xs 16 0) 32) e)
-
-at-16 : (xs : List ℕ) → goodAddress xs ≡ true → eqb (getD xs 16 0) 32 ≡ true
-unfolding goodAddress
-at-16 xs e = and-right ((((isHex (getD xs 12 0)) && (isHex (getD xs 13 0))) && (isHex (getD xs 14 0))) && (isHex (getD xs 15 0))) (eqb (getD xs 16 0) 32) e
-
-at-17 : (xs : List ℕ) → goodBack xs ≡ true → isHex (getD xs 17 0) ≡ true
+back : (xs : List ℕ) → isLine xs ≡ true
+    → (isHex (getD xs 17 0) ≡ true) × (isHex (getD xs 18 0) ≡ true) × (eqb (getD xs 19 0) 10 ≡ true)
 unfolding goodBack
-at-17 xs e = and-left (isHex (getD xs 17 0)) (isHex (getD xs 18 0)) (and-left ((isHex (getD xs 17 0)) && (isHex (getD xs 18 0))) (eqb (getD xs 19 0) 10) e)
-
-at-18 : (xs : List ℕ) → goodBack xs ≡ true → isHex (getD xs 18 0) ≡ true
-unfolding goodBack
-at-18 xs e = and-right (isHex (getD xs 17 0)) (isHex (getD xs 18 0)) (and-left ((isHex (getD xs 17 0)) && (isHex (getD xs 18 0))) (eqb (getD xs 19 0) 10) e)
-
-at-19 : (xs : List ℕ) → goodBack xs ≡ true → eqb (getD xs 19 0) 10 ≡ true
-unfolding goodBack
-at-19 xs e = and-right ((isHex (getD xs 17 0)) && (isHex (getD xs 18 0))) (eqb (getD xs 19 0) 10) e
-
-front : (xs : List ℕ) → isLine xs ≡ true → goodFront xs ≡ true
-unfolding isLine
-front xs e =
-    and-right (eqb (length xs) 20) (goodFront xs)
-    (and-left (eqb (length xs) 20 && goodFront xs) (goodSupply xs)
-    (and-left ((eqb (length xs) 20 && goodFront xs) && goodSupply xs) (goodAddress xs)
-    (and-left (((eqb (length xs) 20 && goodFront xs) && goodSupply xs) && goodAddress xs) (goodBack xs) e)))
-
-supply : (xs : List ℕ) → isLine xs ≡ true → goodSupply xs ≡ true
-unfolding isLine
-supply xs e =
-    and-right (eqb (length xs) 20 && goodFront xs) (goodSupply xs)
-    (and-left ((eqb (length xs) 20 && goodFront xs) && goodSupply xs) (goodAddress xs)
-    (and-left (((eqb (length xs) 20 && goodFront xs) && goodSupply xs) && goodAddress xs) (goodBack xs) e))
-
-address : (xs : List ℕ) → isLine xs ≡ true → goodAddress xs ≡ true
-unfolding isLine
-address xs e =
-    and-right ((eqb (length xs) 20 && goodFront xs) && goodSupply xs) (goodAddress xs)
-    (and-left (((eqb (length xs) 20 && goodFront xs) && goodSupply xs) && goodAddress xs) (goodBack xs) e)
-
-back : (xs : List ℕ) → isLine xs ≡ true → goodBack xs ≡ true
-unfolding isLine
-back xs e = and-right (((eqb (length xs) 20 && goodFront xs) && goodSupply xs) && goodAddress xs) (goodBack xs) e
+back xs e = parts-3 (isHex (getD xs 17 0)) (isHex (getD xs 18 0)) (eqb (getD xs 19 0) 10) (line-parts xs e .4)
 
 -- the elements of a list one by one, k of them from place i on
 spelled : ℕ → ℕ → List ℕ → List ℕ
@@ -320,9 +255,9 @@ two-small a b = omega (arith, hex-small a, hex-small b)
 line-fits : (xs : List ℕ) → isLine xs ≡ true → Fits (cycleIn xs)
 unfolding cycleIn
 line-fits xs e = (
-  digit-small (getD xs 2 0) (at-2 xs (front xs e)),
-  digit-small (getD xs 4 0) (at-4 xs (front xs e)),
-  five-small (getD xs 6 0) (getD xs 7 0) (getD xs 8 0) (getD xs 9 0) (getD xs 10 0) (at-6 xs (supply xs e)) (at-7 xs (supply xs e)) (at-8 xs (supply xs e)) (at-9 xs (supply xs e)) (at-10 xs (supply xs e)),
+  digit-small (getD xs 2 0) (front xs e .2),
+  digit-small (getD xs 4 0) (front xs e .4),
+  five-small (getD xs 6 0) (getD xs 7 0) (getD xs 8 0) (getD xs 9 0) (getD xs 10 0) (supply xs e .0) (supply xs e .1) (supply xs e .2) (supply xs e .3) (supply xs e .4),
   four-small (getD xs 12 0) (getD xs 13 0) (getD xs 14 0) (getD xs 15 0),
   two-small (getD xs 17 0) (getD xs 18 0),
 )
@@ -390,26 +325,26 @@ two-1 a b q = ap (λ (n : ℕ). hexDigit n) (sixteen-last (hexOf a) (hexOf b) (h
 line-spelled : (xs : List ℕ) → isLine xs ≡ true → lineOf (cycleIn xs) ≡ spelled 20 0 xs
 unfolding cycleIn spelled
 line-spelled xs e = λ i.
-    (kind-form (getD xs 0 0) (at-0 xs (front xs e)) i)
-    ∷ ((sym (eqb-true (getD xs 1 0) 32 (at-1 xs (front xs e)))) i)
-    ∷ (digit-form (getD xs 2 0) (at-2 xs (front xs e)) i)
-    ∷ ((sym (eqb-true (getD xs 3 0) 32 (at-3 xs (front xs e)))) i)
-    ∷ (digit-form (getD xs 4 0) (at-4 xs (front xs e)) i)
-    ∷ ((sym (eqb-true (getD xs 5 0) 32 (at-5 xs (front xs e)))) i)
-    ∷ (five-0 (getD xs 6 0) (getD xs 7 0) (getD xs 8 0) (getD xs 9 0) (getD xs 10 0) (at-6 xs (supply xs e)) (at-7 xs (supply xs e)) (at-8 xs (supply xs e)) (at-9 xs (supply xs e)) (at-10 xs (supply xs e)) i)
-    ∷ (five-1 (getD xs 6 0) (getD xs 7 0) (getD xs 8 0) (getD xs 9 0) (getD xs 10 0) (at-6 xs (supply xs e)) (at-7 xs (supply xs e)) (at-8 xs (supply xs e)) (at-9 xs (supply xs e)) (at-10 xs (supply xs e)) i)
-    ∷ (five-2 (getD xs 6 0) (getD xs 7 0) (getD xs 8 0) (getD xs 9 0) (getD xs 10 0) (at-6 xs (supply xs e)) (at-7 xs (supply xs e)) (at-8 xs (supply xs e)) (at-9 xs (supply xs e)) (at-10 xs (supply xs e)) i)
-    ∷ (five-3 (getD xs 6 0) (getD xs 7 0) (getD xs 8 0) (getD xs 9 0) (getD xs 10 0) (at-6 xs (supply xs e)) (at-7 xs (supply xs e)) (at-8 xs (supply xs e)) (at-9 xs (supply xs e)) (at-10 xs (supply xs e)) i)
-    ∷ (five-4 (getD xs 6 0) (getD xs 7 0) (getD xs 8 0) (getD xs 9 0) (getD xs 10 0) (at-6 xs (supply xs e)) (at-7 xs (supply xs e)) (at-8 xs (supply xs e)) (at-9 xs (supply xs e)) (at-10 xs (supply xs e)) i)
-    ∷ ((sym (eqb-true (getD xs 11 0) 32 (at-11 xs (supply xs e)))) i)
-    ∷ (four-0 (getD xs 12 0) (getD xs 13 0) (getD xs 14 0) (getD xs 15 0) (at-12 xs (address xs e)) (at-13 xs (address xs e)) (at-14 xs (address xs e)) (at-15 xs (address xs e)) i)
-    ∷ (four-1 (getD xs 12 0) (getD xs 13 0) (getD xs 14 0) (getD xs 15 0) (at-12 xs (address xs e)) (at-13 xs (address xs e)) (at-14 xs (address xs e)) (at-15 xs (address xs e)) i)
-    ∷ (four-2 (getD xs 12 0) (getD xs 13 0) (getD xs 14 0) (getD xs 15 0) (at-12 xs (address xs e)) (at-13 xs (address xs e)) (at-14 xs (address xs e)) (at-15 xs (address xs e)) i)
-    ∷ (four-3 (getD xs 12 0) (getD xs 13 0) (getD xs 14 0) (getD xs 15 0) (at-12 xs (address xs e)) (at-13 xs (address xs e)) (at-14 xs (address xs e)) (at-15 xs (address xs e)) i)
-    ∷ ((sym (eqb-true (getD xs 16 0) 32 (at-16 xs (address xs e)))) i)
-    ∷ (two-0 (getD xs 17 0) (getD xs 18 0) (at-17 xs (back xs e)) i)
-    ∷ (two-1 (getD xs 17 0) (getD xs 18 0) (at-18 xs (back xs e)) i)
-    ∷ ((sym (eqb-true (getD xs 19 0) 10 (at-19 xs (back xs e)))) i)
+    (kind-form (getD xs 0 0) (front xs e .0) i)
+    ∷ ((sym (eqb-true (getD xs 1 0) 32 (front xs e .1))) i)
+    ∷ (digit-form (getD xs 2 0) (front xs e .2) i)
+    ∷ ((sym (eqb-true (getD xs 3 0) 32 (front xs e .3))) i)
+    ∷ (digit-form (getD xs 4 0) (front xs e .4) i)
+    ∷ ((sym (eqb-true (getD xs 5 0) 32 (front xs e .5))) i)
+    ∷ (five-0 (getD xs 6 0) (getD xs 7 0) (getD xs 8 0) (getD xs 9 0) (getD xs 10 0) (supply xs e .0) (supply xs e .1) (supply xs e .2) (supply xs e .3) (supply xs e .4) i)
+    ∷ (five-1 (getD xs 6 0) (getD xs 7 0) (getD xs 8 0) (getD xs 9 0) (getD xs 10 0) (supply xs e .0) (supply xs e .1) (supply xs e .2) (supply xs e .3) (supply xs e .4) i)
+    ∷ (five-2 (getD xs 6 0) (getD xs 7 0) (getD xs 8 0) (getD xs 9 0) (getD xs 10 0) (supply xs e .0) (supply xs e .1) (supply xs e .2) (supply xs e .3) (supply xs e .4) i)
+    ∷ (five-3 (getD xs 6 0) (getD xs 7 0) (getD xs 8 0) (getD xs 9 0) (getD xs 10 0) (supply xs e .0) (supply xs e .1) (supply xs e .2) (supply xs e .3) (supply xs e .4) i)
+    ∷ (five-4 (getD xs 6 0) (getD xs 7 0) (getD xs 8 0) (getD xs 9 0) (getD xs 10 0) (supply xs e .0) (supply xs e .1) (supply xs e .2) (supply xs e .3) (supply xs e .4) i)
+    ∷ ((sym (eqb-true (getD xs 11 0) 32 (supply xs e .5))) i)
+    ∷ (four-0 (getD xs 12 0) (getD xs 13 0) (getD xs 14 0) (getD xs 15 0) (address xs e .0) (address xs e .1) (address xs e .2) (address xs e .3) i)
+    ∷ (four-1 (getD xs 12 0) (getD xs 13 0) (getD xs 14 0) (getD xs 15 0) (address xs e .0) (address xs e .1) (address xs e .2) (address xs e .3) i)
+    ∷ (four-2 (getD xs 12 0) (getD xs 13 0) (getD xs 14 0) (getD xs 15 0) (address xs e .0) (address xs e .1) (address xs e .2) (address xs e .3) i)
+    ∷ (four-3 (getD xs 12 0) (getD xs 13 0) (getD xs 14 0) (getD xs 15 0) (address xs e .0) (address xs e .1) (address xs e .2) (address xs e .3) i)
+    ∷ ((sym (eqb-true (getD xs 16 0) 32 (address xs e .4))) i)
+    ∷ (two-0 (getD xs 17 0) (getD xs 18 0) (back xs e .0) i)
+    ∷ (two-1 (getD xs 17 0) (getD xs 18 0) (back xs e .1) i)
+    ∷ ((sym (eqb-true (getD xs 19 0) 10 (back xs e .2))) i)
     ∷ []
 
 line-again : (xs : List ℕ) → isLine xs ≡ true → lineOf (cycleIn xs) ≡ xs

@@ -1,15 +1,14 @@
 -- Bench T with its own lengths in a proper state: what is left of the table of refusals, and that a step keeps it so. Assumes nothing.
-use mathlib.Core.Path.{_≡_, refl, sym, ap, _∙_, subst}
-use mathlib.Core.Bool.{Bool, true, false, not, _&&_, _||_}
-use mathlib.Core.List.{List, [], _∷_, _++_}
-use Prim.Native.Nat.{ℕ, _+_, _≤_, _<_}
+use mathlib.Core.Path.{_≡_, refl, sym, ap, _∙_}
+use mathlib.Core.Bool.{Bool, true, false, _&&_, _||_}
+use mathlib.Core.List.{List, _∷_}
+use Prim.Native.Nat.{ℕ, _≤_}
 use native.Mathlib.Omega.{arith}
-use lib.Dec.{eqb, ltb}
+use lib.Dec.{eqb}
 use lib.ListN.{length}
 use borrow.Author.Tests.{eq-eqb, le-ltb}
-use Rattle.cells.specs.Pick.{pick, pick-true, pick-false}
 use Rattle.cells.specs.Numbers.{row, given}
-use Rattle.device.specs.Parts.{unknownDevice, unknownPart, sizeOf, sizeIn, shapeOf, startOf, lengthOf, blockOf}
+use Rattle.device.specs.Parts.{unknownDevice, unknownPart, sizeOf, sizeIn, shapeOf, lengthOf, blockOf}
 use Rattle.device.proofs.Claims.{blocks-end-inside}
 use Rattle.chip.specs.declared.Phase.{Phase}
 use Rattle.chip.specs.declared.Phase.the-variants.{Free, EraseAwaited, DataAwaited, Programming, Erasing, Suspended}
@@ -18,7 +17,7 @@ use Rattle.chip.specs.declared.Cycle.{Cycle}
 use Rattle.chip.specs.Levels.{rpLow, vppLow, badLevels}
 use Rattle.chip.specs.States.{improper, freshState}
 use Rattle.chip.specs.Settling.{residueFor, settleOf}
-use Rattle.chip.specs.Cycles.{numberOf, tableOf, late, pastArray, shortResidue}
+use Rattle.chip.specs.Cycles.{numberOf, late, pastArray, shortResidue}
 use Rattle.model.proofs.Claims as model
 use Rattle.replay.specs.Replays.{benchT, stepOf, arrayBy}
 

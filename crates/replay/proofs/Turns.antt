@@ -1,15 +1,15 @@
 -- The answers to the good lines: a turn of the loop that writes them, their length, and the whole output that they begin. Assumes nothing.
 use mathlib.Core.Path.{_≡_, refl, sym, ap, _∙_, subst}
 use mathlib.Core.Bool.{Bool, true, false}
-use mathlib.Core.List.{List, [], _∷_, _++_, append-assoc, append-nil}
+use mathlib.Core.List.{List, [], _++_, append-assoc, append-nil}
 use Prim.Native.Nat.{ℕ, zero, suc, _+_, _-_, _*_, _≤_, _<_}
 use native.Mathlib.Omega.{arith}
 use lib.Dec.{eqb}
-use lib.ListN.{length, take, drop, length-append, length-take, length-drop, take-append-drop}
+use lib.ListN.{length, take, drop, length-append, length-drop, take-append-drop}
 use borrow.Author.Tests.{eq-eqb}
 use lib.Seq.{take-nil, drop-drop, take-at, drop-at, length-take-le, take-all}
 use borrow.Rule.Slice.PartMut.{putMid, midOf, mid-len, drop-put, same-len-mid}
-use Rattle.cells.specs.Pick.{pick, pick-true, pick-false}
+use Rattle.cells.specs.Pick.{pick, pick-true}
 use Rattle.cells.specs.Lists.{copied, copied-whole}
 use Rattle.chip.specs.declared.State.{State}
 use Rattle.model.specs.declared.Answer.{Answer}

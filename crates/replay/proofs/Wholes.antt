@@ -1,20 +1,18 @@
 -- A whole trace, from the count of its good lines and the length of its end. Assumes nothing.
-use mathlib.Core.Path.{_≡_, refl, sym, ap, _∙_, subst}
-use mathlib.Core.Bool.{Bool, true, false}
-use mathlib.Core.List.{List, [], _∷_, _++_}
-use Prim.Native.Nat.{ℕ, zero, suc, _+_, _-_, _*_, _≤_, _<_}
+use mathlib.Core.Path.{_≡_, sym, ap, _∙_, subst}
+use mathlib.Core.List.{List, _++_}
+use Prim.Native.Nat.{ℕ, _+_, _-_, _*_, _≤_, _<_}
 use native.Mathlib.Omega.{arith}
 use lib.Dec.{ltb}
-use lib.ListN.{length, take, drop, length-append, length-drop}
+use lib.ListN.{length, drop, length-append}
 use lib.Seq.{length-take-le}
 use borrow.Author.Tests.{lt-ltb, le-ltb}
-use borrow.Rule.Slice.PartMut.{putMid, midOf, mid-len, same-len-mid}
-use Rattle.cells.specs.Pick.{pick, pick-true, pick-false}
-use Rattle.cells.specs.Lists.{copied, copied-whole}
+use borrow.Rule.Slice.PartMut.{putMid, midOf, same-len-mid}
+use Rattle.cells.specs.Pick.{pick-true, pick-false}
+use Rattle.cells.specs.Lists.{copied}
 use Rattle.chip.specs.States.{freshState}
 use Rattle.replay.specs.Answers.{endOf}
 use Rattle.replay.specs.Replays.{goodLines, answersOf, arraysOf, outputOf, arrayLeft, replayedAs, replayedIn, heldIn, Used}
-use Rattle.replay.specs.declared.Replayed.{Replayed}
 use Rattle.replay.proofs.Scans.{good-most, good-fit}
 use Rattle.replay.proofs.Turns.{answers-length, end-any, end-short, put-end, output-is, array-is}
 

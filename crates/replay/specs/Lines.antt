@@ -1,5 +1,5 @@
 -- The lines of a trace: their form, the cycle that one states, and how a cycle is printed. Assumes nothing.
-use mathlib.Core.Bool.{Bool, true, false, _&&_, _||_}
+use mathlib.Core.Bool.{Bool, _&&_, _||_}
 use mathlib.Core.List.{List, [], _∷_}
 use Prim.Native.Nat.{ℕ, _+_, _*_, _/_, _%_, _<_}
 use lib.Dec.{eqb, ltb, leb}
@@ -7,7 +7,6 @@ use lib.ListN.{length, getD}
 use Rattle.cells.specs.Pick.{pick}
 use Rattle.chip.specs.declared.Kind.{Kind}
 use Rattle.chip.specs.declared.Kind.the-variants.{Read, Write, Idle}
-use Rattle.chip.specs.declared.Pins.{Pins}
 use Rattle.chip.specs.declared.Cycle.{Cycle}
 use Rattle.replay.specs.declared.LineRead.{LineRead}
 use Rattle.replay.specs.declared.LineRead.the-variants.{NotALine, Stated}

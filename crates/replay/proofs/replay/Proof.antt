@@ -1,4 +1,4 @@
--- `replay::replay` meets its contract. Assumes nothing.
+-- `replay::replay` meets its contract: the good lines are counted, answered and marked, and that is the output. Assumes nothing.
 use mathlib.Core.Path.{refl, sym, subst}
 use Prim.Native.Nat.{ℕ, _*_, _≤_}
 use native.Mathlib.Omega.{arith}
@@ -13,28 +13,48 @@ good-lines-requires : tie.Need-good-lines-requires
 good-lines-requires c κs = search needs
 
 mul-left : tie.Need-mul-left
-mul-left c = record { fits = omega (arith, subst (λ (m : ℕ). 20 * m ≤ length (c .before .before .before .before .before .args .text .now)) (sym (c .good-lines .ensures)) (good-fit 9998 (c .before .before .before .before .before .args .text .now))) }
+mul-left c =
+    let a = c .before .before .before .before .before .args in
+    let g = c .good-lines in
+    record { fits = omega (arith, subst (λ (m : ℕ). 20 * m ≤ length (a .text .now)) (sym (g .ensures)) (good-fit 9998 (a .text .now))) }
 
 sub-left : tie.Need-sub-left
-sub-left c = omega (arith, subst (λ (m : ℕ). 20 * m ≤ length (c .before .before .before .before .before .args .text .now)) (sym (c .good-lines .ensures)) (good-fit 9998 (c .before .before .before .before .before .args .text .now)))
+sub-left c =
+    let a = c .before .before .before .before .before .args in
+    let g = c .good-lines in
+    omega (arith, subst (λ (m : ℕ). 20 * m ≤ length (a .text .now)) (sym (g .ensures)) (good-fit 9998 (a .text .now)))
 
 mul-n : tie.Need-mul-n
-mul-n c = record { fits = omega (arith, subst (λ (m : ℕ). m ≤ 9998) (sym (c .good-lines .ensures)) (good-most 9998 (c .before .before .before .before .before .args .text .now))) }
+mul-n c =
+    let a = c .before .before .before .before .before .args in
+    let g = c .good-lines in
+    record { fits = omega (arith, subst (λ (m : ℕ). m ≤ 9998) (sym (g .ensures)) (good-most 9998 (a .text .now))) }
 
 end-length-requires : tie.Need-end-length-requires
 end-length-requires c κs = search needs
 
 add-n : tie.Need-add-n
-add-n c = record { fits = omega (arith, few (c .before .good-lines .result) (c .end-length .result) (c .before .before .before .before .before .before .args .array .now) (c .before .before .before .before .before .before .args .residue .now) (c .before .before .before .before .before .before .args .text .now) (c .before .before .before .before .before .before .args .out .now) (c .before .good-lines .ensures) (c .end-length .ensures), short (c .before .good-lines .result) (c .end-length .result) (c .before .before .before .before .before .before .args .array .now) (c .before .before .before .before .before .before .args .residue .now) (c .before .before .before .before .before .before .args .text .now) (c .before .before .before .before .before .before .args .out .now) (c .before .good-lines .ensures) (c .end-length .ensures)) }
+add-n c =
+    let a = c .before .before .before .before .before .before .args in
+    let g = c .before .good-lines in
+    let n = c .end-length in
+    record { fits = omega (arith, few (g .result) (n .result) (a .array .now) (a .residue .now) (a .text .now) (a .out .now) (g .ensures) (n .ensures), short (g .result) (n .result) (a .array .now) (a .residue .now) (a .text .now) (a .out .now) (g .ensures) (n .ensures)) }
 
 returns : tie.Need-returns
-returns c = (
-  refused (c .before .before .good-lines .result) (c .before .end-length .result) (c .before .before .before .before .before .before .before .args .array .now) (c .before .before .before .before .before .before .before .args .residue .now) (c .before .before .before .before .before .before .before .args .text .now) (c .before .before .before .before .before .before .before .args .out .now) (c .before .before .good-lines .ensures) (c .before .end-length .ensures) (c .if1 .taken),
-  (refused-array (c .before .before .good-lines .result) (c .before .end-length .result) (c .before .before .before .before .before .before .before .args .array .now) (c .before .before .before .before .before .before .before .args .residue .now) (c .before .before .before .before .before .before .before .args .text .now) (c .before .before .before .before .before .before .before .args .out .now) (c .before .before .good-lines .ensures) (c .before .end-length .ensures) (c .if1 .taken), (refused-out (c .before .before .good-lines .result) (c .before .end-length .result) (c .before .before .before .before .before .before .before .args .array .now) (c .before .before .before .before .before .before .before .args .residue .now) (c .before .before .before .before .before .before .before .args .text .now) (c .before .before .before .before .before .before .before .args .out .now) (c .before .before .good-lines .ensures) (c .before .end-length .ensures) (c .if1 .taken), (omega arith, refl))),
-)
+returns c =
+    let a = c .before .before .before .before .before .before .before .args in
+    let g = c .before .before .good-lines in
+    let n = c .before .end-length in (
+      refused (g .result) (n .result) (a .array .now) (a .residue .now) (a .text .now) (a .out .now) (g .ensures) (n .ensures) (c .if1 .taken),
+      (refused-array (g .result) (n .result) (a .array .now) (a .residue .now) (a .text .now) (a .out .now) (g .ensures) (n .ensures) (c .if1 .taken), (refused-out (g .result) (n .result) (a .array .now) (a .residue .now) (a .text .now) (a .out .now) (g .ensures) (n .ensures) (c .if1 .taken), (omega arith, refl))),
+    )
 
 answer-lines-requires : tie.Need-answer-lines-requires
-answer-lines-requires c κs = (inside (c .before .before .before .before .good-lines .result) (c .before .before .before .end-length .result) (c .before .before .before .before .before .before .before .before .before .args .array .now) (c .before .before .before .before .before .before .before .before .before .args .residue .now) (c .before .before .before .before .before .before .before .before .before .args .text .now) (c .before .before .before .before .before .before .before .before .before .args .out .now) (c .before .before .before .before .good-lines .ensures) (c .before .before .before .end-length .ensures), omega arith)
+answer-lines-requires c κs =
+    let a = c .before .before .before .before .before .before .before .before .before .args in
+    let g = c .before .before .before .before .good-lines in
+    let n = c .before .before .before .end-length in
+    (inside (g .result) (n .result) (a .array .now) (a .residue .now) (a .text .now) (a .out .now) (g .ensures) (n .ensures), omega arith)
 
 mul-at : tie.Need-mul-at
 mul-at c = search needs
@@ -62,15 +82,18 @@ same-length-2 c = search needs
 
 returns-2 : tie.Need-returns-2
 returns-2 c =
+    let a = c .before .before .before .before .before .before .before .before .before .before .before .before .before .before .before .before .before .before .args in
+    let g = c .before .before .before .before .before .before .before .before .before .before .before .before .before .good-lines in
+    let n = c .before .before .before .before .before .before .before .before .before .before .before .before .end-length in
     let k = c .before .before .before .before .before .before .before .before .answer-lines in
     let w = c .before .before .write-end in
     let h = c .before .before .before .before .before .before .before .before .before .before .before .if1 .left in (
-      done (c .before .before .before .before .before .before .before .before .before .before .before .before .before .good-lines .result) (c .before .before .before .before .before .before .before .before .before .before .before .before .end-length .result) (c .before .before .before .before .before .before .before .before .before .before .before .before .before .before .before .before .before .before .args .array .now) (c .before .before .before .before .before .before .before .before .before .before .before .before .before .before .before .before .before .before .args .residue .now) (c .before .before .before .before .before .before .before .before .before .before .before .before .before .before .before .before .before .before .args .text .now) (c .before .before .before .before .before .before .before .before .before .before .before .before .before .before .before .before .before .before .args .out .now) (c .before .before .before .before .before .before .before .before .before .before .before .before .before .good-lines .ensures) (c .before .before .before .before .before .before .before .before .before .before .before .before .end-length .ensures) h,
+      done (g .result) (n .result) (a .array .now) (a .residue .now) (a .text .now) (a .out .now) (g .ensures) (n .ensures) h,
       (
-        done-array (c .before .before .before .before .before .before .before .before .before .before .before .before .before .good-lines .result) (c .before .before .before .before .before .before .before .before .before .before .before .before .end-length .result) (c .before .before .before .before .before .before .before .before .before .before .before .before .before .before .before .before .before .before .args .array .now) (c .before .before .before .before .before .before .before .before .before .before .before .before .before .before .before .before .before .before .args .residue .now) (c .before .before .before .before .before .before .before .before .before .before .before .before .before .before .before .before .before .before .args .text .now) (c .before .before .before .before .before .before .before .before .before .before .before .before .before .before .before .before .before .before .args .out .now) (c .before .before .before .before .before .before .before .before .before .before .before .before .before .good-lines .ensures) (c .before .before .before .before .before .before .before .before .before .before .before .before .end-length .ensures) h (k .last .1 .1 .0) (k .ensures .0),
+        done-array (g .result) (n .result) (a .array .now) (a .residue .now) (a .text .now) (a .out .now) (g .ensures) (n .ensures) h (k .last .1 .1 .0) (k .ensures .0),
         (
-          done-out (c .before .before .before .before .before .before .before .before .before .before .before .before .before .good-lines .result) (c .before .before .before .before .before .before .before .before .before .before .before .before .end-length .result) (c .before .before .before .before .before .before .before .before .before .before .before .before .before .before .before .before .before .before .args .array .now) (c .before .before .before .before .before .before .before .before .before .before .before .before .before .before .before .before .before .before .args .residue .now) (c .before .before .before .before .before .before .before .before .before .before .before .before .before .before .before .before .before .before .args .text .now) (c .before .before .before .before .before .before .before .before .before .before .before .before .before .before .before .before .before .before .args .out .now) (c .before .before .before .before .before .before .before .before .before .before .before .before .before .good-lines .ensures) (c .before .before .before .before .before .before .before .before .before .before .before .before .end-length .ensures) h (k .last .1 .1 .1 .1 .0) (w .last .1 .1 .0) (k .ensures .1) (w .ensures),
-          done-used (c .before .before .before .before .before .before .before .before .before .before .before .before .before .good-lines .result) (c .before .before .before .before .before .before .before .before .before .before .before .before .end-length .result) (c .before .before .before .before .before .before .before .before .before .before .before .before .before .before .before .before .before .before .args .array .now) (c .before .before .before .before .before .before .before .before .before .before .before .before .before .before .before .before .before .before .args .residue .now) (c .before .before .before .before .before .before .before .before .before .before .before .before .before .before .before .before .before .before .args .text .now) (c .before .before .before .before .before .before .before .before .before .before .before .before .before .before .before .before .before .before .args .out .now) (c .before .before .before .before .before .before .before .before .before .before .before .before .before .good-lines .ensures) (c .before .before .before .before .before .before .before .before .before .before .before .before .end-length .ensures) h (k .last .1 .1 .1 .1 .0) (w .last .1 .1 .0) (k .ensures .1) (w .ensures) (w .kept .1 .1 .0) (k .kept .1 .1 .1 .1 .0),
+          done-out (g .result) (n .result) (a .array .now) (a .residue .now) (a .text .now) (a .out .now) (g .ensures) (n .ensures) h (k .last .1 .1 .1 .1 .0) (w .last .1 .1 .0) (k .ensures .1) (w .ensures),
+          done-used (g .result) (n .result) (a .array .now) (a .residue .now) (a .text .now) (a .out .now) (g .ensures) (n .ensures) h (k .last .1 .1 .1 .1 .0) (w .last .1 .1 .0) (k .ensures .1) (w .ensures) (w .kept .1 .1 .0) (k .kept .1 .1 .1 .1 .0),
         ),
       ),
     )
