@@ -1,0 +1,154 @@
+-- What is claimed of the replay of a trace, in one place. Assumes nothing.
+use mathlib.Core.Path.{_≡_}
+use mathlib.Core.Bool.{Bool, true, false}
+use mathlib.Core.List.{List, [], _∷_, _++_}
+use mathlib.Core.Logic.{_↔_}
+use Prim.Native.Nat.{ℕ, suc, _+_, _-_, _*_, _≤_, _<_}
+use lib.ListN.{length, take, drop}
+use Rattle.cells.specs.Pick.{Unique, only}
+use Rattle.cells.specs.Lists.{copied}
+use Rattle.cells.specs.Numbers.{Foremost, row, given}
+use Rattle.device.specs.declared.Device.{Device}
+use Rattle.chip.specs.declared.State.{State}
+use Rattle.chip.specs.declared.Cycle.{Cycle}
+use Rattle.chip.specs.States.{freshState}
+use Rattle.chip.specs.Levels.{badLevels}
+use Rattle.chip.specs.Settling.{settleOf}
+use Rattle.chip.specs.Cycles.{tableOf, numberOf, pastArray, late}
+use Rattle.model.specs.declared.Answer.{Answer}
+use Rattle.model.specs.declared.Seen.{Seen}
+use Rattle.model.specs.declared.Seen.the-variants.{Refused}
+use Rattle.replay.specs.declared.LineRead.{LineRead}
+use Rattle.replay.specs.declared.LineRead.the-variants.{NotALine, Stated}
+use Rattle.replay.specs.declared.Replayed.{Replayed}
+use Rattle.replay.specs.Lines.{isLine, cycleIn, readLine, lineOf, Fits}
+use Rattle.replay.specs.Answers.{toldOf, printedOf, markOf, endOf}
+use Rattle.replay.specs.Replays.{benchT, stepOf, arrayBy, goodLines, answersOf, outputFrom, outputOf, arrayLeft, replayedIn, heldIn}
+use Rattle.replay.proofs.Forms as forms
+use Rattle.replay.proofs.Scans as scans
+use Rattle.replay.proofs.Turns as turns
+use Rattle.replay.proofs.Ends as ends
+use Rattle.replay.proofs.Never as never
+
+-- Exactly the lines of the documented form are read: a list is read as a cycle exactly where the cycle fits a line and the
+-- list is what is printed of it. (Both halves: what is printed is read back, and what is read prints as itself.)
+pub read-exactly : (xs : List ℕ) (c : Cycle) → (readLine xs ≡ Stated c) ↔ (Fits c × (lineOf c ≡ xs))
+read-exactly = forms.read-exactly
+
+-- Each is read in one way: two cycles that fit and print alike are one.
+pub read-once : (c d : Cycle) → Fits c → Fits d → lineOf c ≡ lineOf d → c ≡ d
+read-once = forms.read-once
+
+-- What is not read is no line: no cycle that fits prints as it.
+pub not-read : (xs : List ℕ) → (readLine xs ≡ NotALine) ↔ ((c : Cycle) → Fits c → lineOf c ≡ xs → ⊥)
+not-read = forms.not-read
+
+-- The test and the reader agree, and a line has 20 bytes.
+pub line-read : (xs : List ℕ) → isLine xs ≡ true → readLine xs ≡ Stated (cycleIn xs)
+line-read = forms.line-read
+
+pub line-length : (xs : List ℕ) → isLine xs ≡ true → length xs ≡ 20
+line-length = scans.line-length
+
+-- A line's step is refused by m exactly where m's own condition holds on bench T and that of no lower number does.
+pub step-refused : (s : State) (c : Cycle) (xs rs : List ℕ) (m : ℕ) → (m ≡ 0 → ⊥)
+    → (stepOf s c xs rs .seen ≡ Refused m) ↔ Foremost (tableOf benchT s c (length xs) (length rs)) m
+step-refused = ends.step-refused
+
+-- Of its table only 4, 5, 7, 8 and 9 are left while the bench is sound (its state proper, its array of the part's length, a
+-- residue as long); a fresh bench is sound, and every step leaves it so. So 1, 2, 3 and 6 never come in the trace program.
+pub bench-refusals : (s : State) (c : Cycle) (xs : List ℕ) (r : ℕ) → never.Sound s xs → 16384 ≤ r
+    → numberOf benchT s c (length xs) r
+    ≡ given (row 4 (badLevels (benchT .part) c) ∷ row 5 (pastArray (benchT .part) c) ∷ late (benchT .part) (settleOf (benchT .part) s (c .pins) .state) c)
+bench-refusals = never.left-over
+
+pub fresh-sound : (xs : List ℕ) → length xs ≡ 16384 → never.Sound freshState xs
+fresh-sound = never.fresh-sound
+
+pub stays-sound : (s : State) (c : Cycle) (xs rs : List ℕ) → never.Sound s xs → never.Sound (stepOf s c xs rs .state) (arrayBy s c xs rs)
+stays-sound = never.stays-sound
+
+-- The replay walks the lines: a good line, before line 9999, is answered by eight bytes and the rest replayed from what it left ..
+pub good-line : (k n : ℕ) (s : State) (xs rs text : List ℕ) → isLine (take 20 text) ≡ true
+    → outputFrom (suc k) n s xs rs text
+    ≡ printedOf (stepOf s (cycleIn (take 20 text)) xs rs)
+    ++ outputFrom k (suc n) (stepOf s (cycleIn (take 20 text)) xs rs .state) (arrayBy s (cycleIn (take 20 text)) xs rs) rs (drop 20 text)
+good-line = ends.good-line
+
+pub eight-bytes : (a : Answer) → length (printedOf a) ≡ 8
+eight-bytes = turns.answer-length
+
+-- .. a bad or cut-off line ends it with its mark ..
+pub bad-line : (k n : ℕ) (s : State) (xs rs text : List ℕ) → isLine (take 20 text) ≡ false → (length text ≡ 0 → ⊥)
+    → outputFrom (suc k) n s xs rs text ≡ markOf n
+bad-line = ends.bad-line
+
+-- .. an input at its end ends it without a word; so the empty input prints nothing ..
+pub no-line : (k n : ℕ) (s : State) (xs rs : List ℕ) → outputFrom k n s xs rs [] ≡ []
+no-line = ends.no-line
+
+pub empty-input : (xs rs : List ℕ) → outputOf xs rs [] ≡ []
+empty-input = ends.empty-input
+
+-- .. and line 9999, good or bad, is marked after 9998 good ones.
+pub line-9999 : (xs rs text : List ℕ) → goodLines 9998 text ≡ 9998 → 199960 < length text → outputOf xs rs text ≡ answersOf 9998 freshState xs rs text ++ markOf 9999
+line-9999 = ends.line-9999
+
+-- Whatever the input, the output is the answers to the good lines that come first, 9998 at most, then the end before the next line.
+pub output-whole : (xs rs text : List ℕ)
+    → outputOf xs rs text
+    ≡ answersOf (goodLines 9998 text) freshState xs rs text ++ endOf (goodLines 9998 text + 1) (length text - 20 * goodLines 9998 text)
+output-whole = ends.output-whole
+
+pub good-most : (k : ℕ) (text : List ℕ) → goodLines k text ≤ k
+good-most = scans.good-most
+
+-- Two results that a promise allows are equal, and so are two slices that it leaves.
+pub is-line-unique : (xs : List ℕ) → Unique (λ (r : Bool). r ≡ isLine xs)
+is-line-unique xs = only (isLine xs)
+
+pub cycle-in-unique : (xs : List ℕ) → Unique (λ (r : Cycle). r ≡ cycleIn xs)
+cycle-in-unique xs = only (cycleIn xs)
+
+pub read-line-unique : (xs : List ℕ) → Unique (λ (r : LineRead). r ≡ readLine xs)
+read-line-unique xs = only (readLine xs)
+
+pub bench-unique : Unique (λ (r : Device). r ≡ benchT)
+bench-unique = only benchT
+
+pub step-unique : (s : State) (c : Cycle) (xs rs : List ℕ) → Unique (λ (r : Answer). r ≡ stepOf s c xs rs)
+step-unique s c xs rs = only (stepOf s c xs rs)
+
+pub step-array-unique : (s : State) (c : Cycle) (xs rs : List ℕ) → Unique (λ (left : List ℕ). left ≡ arrayBy s c xs rs)
+step-array-unique s c xs rs = only (arrayBy s c xs rs)
+
+pub answer-line-unique : (s : State) (line xs rs : List ℕ) → Unique (λ (r : State). r ≡ stepOf s (cycleIn line) xs rs .state)
+answer-line-unique s line xs rs = only (stepOf s (cycleIn line) xs rs .state)
+
+pub answer-line-array-unique : (s : State) (line xs rs : List ℕ) → Unique (λ (left : List ℕ). left ≡ arrayBy s (cycleIn line) xs rs)
+answer-line-array-unique s line xs rs = only (arrayBy s (cycleIn line) xs rs)
+
+pub answer-line-out-unique : (s : State) (line xs rs out : List ℕ) → Unique (λ (left : List ℕ). left ≡ copied out (printedOf (stepOf s (cycleIn line) xs rs)))
+answer-line-out-unique s line xs rs out = only (copied out (printedOf (stepOf s (cycleIn line) xs rs)))
+
+pub write-answer-unique : (seen : Seen) (sr : ℕ) (out : List ℕ) → Unique (λ (left : List ℕ). left ≡ copied out (toldOf seen sr))
+write-answer-unique seen sr out = only (copied out (toldOf seen sr))
+
+pub write-mark-unique : (n : ℕ) (out : List ℕ) → Unique (λ (left : List ℕ). left ≡ copied out (markOf n))
+write-mark-unique n out = only (copied out (markOf n))
+
+pub write-end-unique : (n over : ℕ) (out : List ℕ) → Unique (λ (left : List ℕ). left ≡ copied out (endOf n over))
+write-end-unique n over out = only (copied out (endOf n over))
+
+pub end-length-unique : (over : ℕ) → Unique (λ (r : ℕ). r ≡ length (endOf 0 over))
+end-length-unique over = only (length (endOf 0 over))
+
+pub replay-unique : (room : ℕ) (xs rs text : List ℕ) → Unique (λ (r : Replayed). r ≡ replayedIn room (outputOf xs rs text))
+replay-unique room xs rs text = only (replayedIn room (outputOf xs rs text))
+
+pub replay-array-unique : (room : ℕ) (xs rs text : List ℕ) → Unique (λ (left : List ℕ). left ≡ heldIn room (outputOf xs rs text) xs (arrayLeft xs rs text))
+replay-array-unique room xs rs text = only (heldIn room (outputOf xs rs text) xs (arrayLeft xs rs text))
+
+pub replay-out-unique : (xs rs text out : List ℕ)
+    → Unique (λ (left : List ℕ). left ≡ heldIn (length out) (outputOf xs rs text) out (copied out (outputOf xs rs text)))
+replay-out-unique xs rs text out = only (heldIn (length out) (outputOf xs rs text) out (copied out (outputOf xs rs text)))

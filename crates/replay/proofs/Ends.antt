@@ -1,0 +1,76 @@
+-- The ways in which a replay goes on and ends, one law each. Assumes nothing.
+use mathlib.Core.Path.{_≡_, refl, ap, _∙_}
+use mathlib.Core.Bool.{true, false}
+use mathlib.Core.List.{List, [], _++_}
+use mathlib.Core.Logic.{_↔_}
+use Prim.Native.Nat.{ℕ, zero, suc, _+_, _-_, _*_, _<_}
+use native.Mathlib.Omega.{arith}
+use lib.Dec.{eqb}
+use lib.ListN.{length, take, drop}
+use borrow.Author.Tests.{ne-eqb}
+use Rattle.cells.specs.Pick.{pick-false}
+use Rattle.cells.specs.Numbers.{Foremost}
+use Rattle.chip.specs.declared.State.{State}
+use Rattle.chip.specs.declared.Cycle.{Cycle}
+use Rattle.chip.specs.States.{freshState}
+use Rattle.chip.specs.Cycles.{tableOf}
+use Rattle.model.specs.declared.Seen.the-variants.{Refused}
+use Rattle.model.proofs.Claims as model
+use Rattle.replay.specs.Lines.{isLine, cycleIn}
+use Rattle.replay.specs.Answers.{printedOf, markOf, endOf}
+use Rattle.replay.specs.Replays.{benchT, stepOf, arrayBy, goodLines, answersOf, outputFrom, outputOf}
+use Rattle.replay.proofs.Scans.{not-line}
+use Rattle.replay.proofs.Turns.{output-is}
+
+pub step-refused : (s : State) (c : Cycle) (xs rs : List ℕ) (m : ℕ) → (m ≡ 0 → ⊥)
+    → (stepOf s c xs rs .seen ≡ Refused m) ↔ Foremost (tableOf benchT s c (length xs) (length rs)) m
+unfolding stepOf
+step-refused s c xs rs m z = model.refused-exactly benchT s c xs rs m z
+
+pub good-line : (k n : ℕ) (s : State) (xs rs text : List ℕ) → isLine (take 20 text) ≡ true
+    → outputFrom (suc k) n s xs rs text
+    ≡ printedOf (stepOf s (cycleIn (take 20 text)) xs rs)
+    ++ outputFrom k (suc n) (stepOf s (cycleIn (take 20 text)) xs rs .state) (arrayBy s (cycleIn (take 20 text)) xs rs) rs (drop 20 text)
+unfolding outputFrom
+good-line k n s xs rs text e = rw e refl
+
+-- what ends before line n, with bytes left over, ends with its mark
+marked : (n left : ℕ) → (left ≡ 0 → ⊥) → endOf n left ≡ markOf n
+unfolding endOf
+marked n left h = pick-false (eqb left 0) [] (markOf n) (ne-eqb left 0 h)
+
+pub bad-line : (k n : ℕ) (s : State) (xs rs text : List ℕ) → isLine (take 20 text) ≡ false → (length text ≡ 0 → ⊥)
+    → outputFrom (suc k) n s xs rs text ≡ markOf n
+unfolding outputFrom
+bad-line k n s xs rs text e h = rw e (marked n (length text) h)
+
+quiet : (n : ℕ) → endOf n 0 ≡ []
+unfolding endOf
+quiet n = refl
+
+empty-bad : isLine [] ≡ false
+empty-bad = not-line [] (λ (e : _≡_ {A = ℕ} 0 20). omega arith)
+
+pub no-line : (k n : ℕ) (s : State) (xs rs : List ℕ) → outputFrom k n s xs rs [] ≡ []
+unfolding outputFrom
+no-line zero n s xs rs = quiet n
+no-line (suc k) n s xs rs = rw empty-bad (quiet n)
+
+pub empty-input : (xs rs : List ℕ) → outputOf xs rs [] ≡ []
+unfolding outputOf
+empty-input xs rs = no-line 9998 1 freshState xs rs
+
+pub output-whole : (xs rs text : List ℕ)
+    → outputOf xs rs text
+    ≡ answersOf (goodLines 9998 text) freshState xs rs text ++ endOf (goodLines 9998 text + 1) (length text - 20 * goodLines 9998 text)
+unfolding outputOf
+output-whole xs rs text =
+    let g = goodLines 9998 text in
+    let e : 1 + g ≡ g + 1 = omega arith in
+    output-is 9998 1 freshState xs rs text ∙ ap (λ (m : ℕ). answersOf g freshState xs rs text ++ endOf m (length text - 20 * g)) e
+
+pub line-9999 : (xs rs text : List ℕ) → goodLines 9998 text ≡ 9998 → 199960 < length text → outputOf xs rs text ≡ answersOf 9998 freshState xs rs text ++ markOf 9999
+line-9999 xs rs text e h =
+    output-whole xs rs text
+    ∙ ap (λ (g : ℕ). answersOf g freshState xs rs text ++ endOf (g + 1) (length text - 20 * g)) e
+    ∙ ap (λ (w : List ℕ). answersOf 9998 freshState xs rs text ++ w) (marked 9999 (length text - 199960) (λ (z : length text - 199960 ≡ 0). omega arith))

@@ -1,0 +1,42 @@
+-- What a trace prints: the answer to a line, and the mark that ends a trace. Assumes nothing.
+use mathlib.Core.List.{List, [], _∷_}
+use Prim.Native.Nat.{ℕ, _/_, _%_}
+use lib.Dec.{eqb}
+use Rattle.cells.specs.Pick.{pick}
+use Rattle.model.specs.declared.Seen.{Seen}
+use Rattle.model.specs.declared.Seen.the-variants.{NoData, Byte, Refused}
+use Rattle.model.specs.declared.Answer.{Answer}
+use Rattle.replay.specs.Lines.{decimalDigit, hexDigit}
+
+-- D for a byte, N for no data, X for a refusal
+abbrev pub letterOf : Seen → ℕ
+letterOf NoData = 78
+letterOf (Byte b) = 68
+letterOf (Refused n) = 88
+
+-- the byte in two hexadecimal digits, two dashes, or the refusal in two decimal digits
+abbrev pub firstOf : Seen → ℕ
+firstOf NoData = 45
+firstOf (Byte b) = hexDigit (b / 16 % 16)
+firstOf (Refused n) = decimalDigit (n / 10)
+
+abbrev pub secondOf : Seen → ℕ
+secondOf NoData = 45
+secondOf (Byte b) = hexDigit (b % 16)
+secondOf (Refused n) = decimalDigit n
+
+-- an answer printed: what is seen, then a status register
+unfoldable pub toldOf : Seen → ℕ → List ℕ
+toldOf seen sr = letterOf seen ∷ 32 ∷ firstOf seen ∷ secondOf seen ∷ 32 ∷ hexDigit (sr / 16 % 16) ∷ hexDigit (sr % 16) ∷ 10 ∷ []
+
+-- the answer to a line: the status register is the one after the cycle
+abbrev pub printedOf : Answer → List ℕ
+printedOf a = toldOf (a .seen) (a .state .status)
+
+-- the mark of line n: '?', a space and the number in four digits
+unfoldable pub markOf : ℕ → List ℕ
+markOf n = 63 ∷ 32 ∷ decimalDigit (n / 1000) ∷ decimalDigit (n / 100) ∷ decimalDigit (n / 10) ∷ decimalDigit n ∷ 10 ∷ []
+
+-- how a trace ends before line n: without a word where no byte is left over, else with the mark
+unfoldable pub endOf : ℕ → ℕ → List ℕ
+endOf n left = pick (eqb left 0) [] (markOf n)

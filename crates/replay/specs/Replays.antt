@@ -1,0 +1,84 @@
+-- A whole trace replayed: its output, the array that it leaves, and both where the room is too short. Assumes nothing.
+use mathlib.Core.Path.{_≡_}
+use mathlib.Core.List.{List, [], _++_}
+use Prim.Native.Nat.{ℕ, zero, suc, _≤_}
+use lib.Dec.{ltb}
+use lib.ListN.{length, take, drop}
+use Rattle.cells.specs.Pick.{pick}
+use Rattle.device.specs.declared.Device.{Device}
+use Rattle.chip.specs.declared.State.{State}
+use Rattle.chip.specs.declared.Cycle.{Cycle}
+use Rattle.chip.specs.States.{freshState}
+use Rattle.model.specs.declared.Answer.{Answer}
+use Rattle.model.specs.Arrays.{answerOf, arrayAfter}
+use Rattle.replay.specs.Lines.{isLine, cycleIn}
+use Rattle.replay.specs.Answers.{printedOf, endOf}
+use Rattle.replay.specs.declared.Replayed.{Replayed}
+
+-- bench T: device 3, a program busy for 2 cycles and an erase for 3
+abbrev pub benchT : Device
+benchT = record { part = record { number = 3 }; program = 2; erase = 3 }
+
+-- one line's step on bench T: the answer, and the array after it
+unfoldable pub stepOf : State → Cycle → List ℕ → List ℕ → Answer
+stepOf s c xs rs = answerOf benchT s c xs rs
+
+unfoldable pub arrayBy : State → Cycle → List ℕ → List ℕ → List ℕ
+arrayBy s c xs rs = arrayAfter benchT s c xs rs
+
+-- how many good lines come first, k at most
+unfoldable pub goodLines : ℕ → List ℕ → ℕ
+goodLines zero text = 0
+goodLines (suc k) text = pick (isLine (take 20 text)) (suc (goodLines k (drop 20 text))) 0
+
+-- the answers to the first k lines, from a state and an array, and the array that they leave
+unfoldable pub answersOf : ℕ → State → List ℕ → List ℕ → List ℕ → List ℕ
+answersOf zero s xs rs text = []
+answersOf (suc k) s xs rs text =
+    printedOf (stepOf s (cycleIn (take 20 text)) xs rs)
+    ++ answersOf k (stepOf s (cycleIn (take 20 text)) xs rs .state) (arrayBy s (cycleIn (take 20 text)) xs rs) rs (drop 20 text)
+
+unfoldable pub arraysOf : ℕ → State → List ℕ → List ℕ → List ℕ → List ℕ
+arraysOf zero s xs rs text = xs
+arraysOf (suc k) s xs rs text =
+    arraysOf k (stepOf s (cycleIn (take 20 text)) xs rs .state) (arrayBy s (cycleIn (take 20 text)) xs rs) rs (drop 20 text)
+
+-- the output from line n on, k lines before the last that may be answered: a good line is answered and the rest replayed;
+-- where there is none, or k is used up, the trace ends
+unfoldable pub outputFrom : ℕ → ℕ → State → List ℕ → List ℕ → List ℕ → List ℕ
+outputFrom zero n s xs rs text = endOf n (length text)
+outputFrom (suc k) n s xs rs text =
+    pick (isLine (take 20 text))
+    (printedOf (stepOf s (cycleIn (take 20 text)) xs rs)
+    ++ outputFrom k (suc n) (stepOf s (cycleIn (take 20 text)) xs rs .state) (arrayBy s (cycleIn (take 20 text)) xs rs) rs (drop 20 text))
+    (endOf n (length text))
+
+-- the array that the same walk leaves
+unfoldable pub arrayFrom : ℕ → State → List ℕ → List ℕ → List ℕ → List ℕ
+arrayFrom zero s xs rs text = xs
+arrayFrom (suc k) s xs rs text =
+    pick (isLine (take 20 text))
+    (arrayFrom k (stepOf s (cycleIn (take 20 text)) xs rs .state) (arrayBy s (cycleIn (take 20 text)) xs rs) rs (drop 20 text))
+    xs
+
+-- a whole trace: a fresh device, lines counted from 1, line 9999 never answered
+unfoldable pub outputOf : List ℕ → List ℕ → List ℕ → List ℕ
+outputOf xs rs text = outputFrom 9998 1 freshState xs rs text
+
+unfoldable pub arrayLeft : List ℕ → List ℕ → List ℕ → List ℕ
+arrayLeft xs rs text = arrayFrom 9998 freshState xs rs text
+
+-- 37 where the room is too short for the output; else nothing is refused, and as many bytes are used as the output has
+abbrev pub replayedAs : ℕ → ℕ → Replayed
+replayedAs n m = record { refusal = n; used = m }
+
+unfoldable pub replayedIn : ℕ → List ℕ → Replayed
+replayedIn room ys = pick (ltb room (length ys)) (replayedAs 37 0) (replayedAs 0 (length ys))
+
+-- what a lent slice holds at the end: with too little room for the output it is untouched
+unfoldable pub heldIn : ℕ → List ℕ → List ℕ → List ℕ → List ℕ
+heldIn room ys before after = pick (ltb room (length ys)) before after
+
+-- n bytes of a slice are used, and there are that many
+abbrev pub Used : ℕ → List ℕ → Type 0
+Used n out = (n ≤ length out) × (n ≡ length (take n out))

@@ -1,0 +1,114 @@
+// What a trace prints: an answer of eight bytes a line, and the mark that ends a trace.
+use model::Seen;
+ghost use mathlib.Core.Path.{_≡_};
+ghost use Prim.Native.Nat.{_<_};
+ghost use lib.ListN.{length};
+ghost use Rattle.cells.specs.Lists.{copied};
+ghost use Rattle.replay.specs.Lines.{decimalDigit, hexDigit};
+ghost use Rattle.replay.specs.Answers.{letterOf, firstOf, secondOf, toldOf, markOf, endOf};
+
+fn hex_digit(n: u8) -> u8
+    requires { ⌜ n < 16 ⌝ }
+    ensures { λ r. ⌜ r ≡ hexDigit n ⌝ }
+{
+    if n < 10 {
+        return 48 + n;
+    }
+    55 + n
+}
+
+fn decimal_digit(n: usize) -> u8
+    ensures { λ r. ⌜ r ≡ decimalDigit n ⌝ }
+{
+    (48 + n % 10) as u8
+}
+
+// A byte's decimal digit.
+fn small_digit(n: u8) -> u8
+    ensures { λ r. ⌜ r ≡ decimalDigit n ⌝ }
+{
+    48 + n % 10
+}
+
+fn letter(seen: Seen) -> u8
+    ensures { λ r. ⌜ r ≡ letterOf seen ⌝ }
+{
+    match seen {
+        Seen::NoData => 78,
+        Seen::Byte(_) => 68,
+        Seen::Refused(_) => 88,
+    }
+}
+
+fn first(seen: Seen) -> u8
+    ensures { λ r. ⌜ r ≡ firstOf seen ⌝ }
+{
+    match seen {
+        Seen::NoData => 45,
+        Seen::Byte(b) => hex_digit(b / 16 % 16),
+        Seen::Refused(n) => small_digit(n / 10),
+    }
+}
+
+fn second(seen: Seen) -> u8
+    ensures { λ r. ⌜ r ≡ secondOf seen ⌝ }
+{
+    match seen {
+        Seen::NoData => 45,
+        Seen::Byte(b) => hex_digit(b % 16),
+        Seen::Refused(n) => small_digit(n),
+    }
+}
+
+// An answer, over the front of out: what is seen, and a status register.
+pub fn write_answer(seen: Seen, sr: u8, out: &mut [u8])
+    ensures { λ _. ⌜ now (out .exit) ≡ copied (now (out .entry)) (toldOf seen sr) ⌝ }
+{
+    let line = [
+        letter(seen),
+        32,
+        first(seen),
+        second(seen),
+        32,
+        hex_digit(sr / 16 % 16),
+        hex_digit(sr % 16),
+        10,
+    ];
+    cells::copy(out, &line)
+}
+
+// The mark of a line, over the front of out.
+pub fn write_mark(number: usize, out: &mut [u8])
+    ensures { λ _. ⌜ now (out .exit) ≡ copied (now (out .entry)) (markOf number) ⌝ }
+{
+    let line = [
+        63,
+        32,
+        decimal_digit(number / 1000),
+        decimal_digit(number / 100),
+        decimal_digit(number / 10),
+        decimal_digit(number),
+        10,
+    ];
+    cells::copy(out, &line)
+}
+
+// The end of a trace before a line, with so many bytes left over.
+pub fn write_end(number: usize, left: usize, out: &mut [u8])
+    ensures { λ _. ⌜ now (out .exit) ≡ copied (now (out .entry)) (endOf number left) ⌝ }
+{
+    if left == 0 {
+        return;
+    }
+    write_mark(number, out)
+}
+
+// How long that end is.
+pub fn end_length(left: usize) -> usize
+    ensures { λ r. ⌜ r ≡ length (endOf 0 left) ⌝ }
+{
+    if left == 0 {
+        return 0;
+    }
+    7
+}
