@@ -36,29 +36,13 @@ use Rattle.loader.specs.Walks.{risesIn}
 use Rattle.run.specs.Turns.{Config, isEnded, moved, turnOf, after, bound, answerTo}
 use Rattle.run.specs.Runs.{underWay, runNumber, begin, driven, leftBy}
 use Rattle.run.specs.Wear.{noted, begunTurn, begunIn, heldIn, baseOf, erasesOf, programsIn, formula, operationsOf}
-use Rattle.run.proofs.Measure.{remains, remains-bound, remains-some, falls}
+use Rattle.run.proofs.Ending.{always-ends}
 use Rattle.run.proofs.Turning.{conf, turn-ended, turn-going, ended-stays}
 use Rattle.run.proofs.Good.{Good, good}
 use Rattle.run.proofs.Answers.{Ready}
 use Rattle.run.proofs.Reaching.{Reach}
 use Rattle.run.proofs.Layers.{over-self}
 use Rattle.run.proofs.Phases.{costs, loading, costs-are}
-
--- as many turns as cycles are to go lead to the end
-pub ends-within : (m : ℕ) (d : Device) (w : List ℕ) (c : Config) → remains (c .loader) (length w) ≤ m → isEnded (after m d w c .loader .stage) ≡ true
-ends-within zero d w c h = go (isEnded (c .loader .stage)) refl
-  where
-    go : (b : Bool) → isEnded (c .loader .stage) ≡ b → isEnded (c .loader .stage) ≡ true
-    go true e = e
-    go false e = absurd (let z = remains-some (c .loader .stage) (length w) (c .loader .place) (c .loader .polls) e in omega arith)
-ends-within (suc m) d w c h = go (isEnded (c .loader .stage)) refl (ends-within m d w (moved d w c))
-  where
-    go : (b : Bool) → isEnded (c .loader .stage) ≡ b → (remains (moved d w c .loader) (length w) ≤ m → isEnded (after m d w (moved d w c) .loader .stage) ≡ true)
-        → isEnded (after m d w (turnOf d w c) .loader .stage) ≡ true
-    go true e rest = rw (turn-ended d w c e, ended-stays m d w c e) e
-    go false e rest =
-        rw (turn-going d w c e)
-        (rest (let z = falls (answerTo d w (c .loader) (c .state) (c .bytes) .seen) (c .loader) w (c .scratch) e in omega arith))
 
 -- two ends of one load are the same, and so is what was begun on the way to them
 pub same-end : (i j : ℕ) (d : Device) (w : List ℕ) (c : Config) → isEnded (after i d w c .loader .stage) ≡ true → isEnded (after j d w c .loader .stage) ≡ true → after i d w c ≡ after j d w c
@@ -173,7 +157,8 @@ module _ (d : Device) (s : State) (p : Pins) (k : ℕ) (xs w sc : List ℕ) (sta
       over (suc n) z = omega arith
 
   bounded : isEnded (after (bound (length w)) d w (begin d s (recordAt (d .part) p k Clearing) xs sc) .loader .stage) ≡ true
-  bounded = ends-within (bound (length w)) d w (begin d s (recordAt (d .part) p k Clearing) xs sc) (remains-bound Clearing (length w) 0 0)
+  unfolding driven
+  bounded = always-ends d w (begin d s (recordAt (d .part) p k Clearing) xs sc)
 
   at-goal : isEnded (after (reached .turns) d w (begin d s (recordAt (d .part) p k Clearing) xs sc) .loader .stage) ≡ true
   at-goal = ap (λ (c : Config). isEnded (c .loader .stage)) (reached .there)

@@ -1,0 +1,131 @@
+-- Demand 3 and least wear in the mission's own words: what a run returns and leaves, how much it wears, and that nothing wears
+-- less. Assumes nothing.
+use mathlib.Core.Path.{_≡_, refl, sym, ap, _∙_, subst}
+use mathlib.Core.Bool.{Bool, true, false}
+use mathlib.Core.List.{List, [], _∷_}
+use Prim.Native.Nat.{ℕ, zero, suc, _+_, _-_, _≤_, _<_}
+use native.Mathlib.Omega.{arith}
+use lib.ListN.{length, getD, take, drop}
+use lib.Seq.{take-at, drop-at, length-take-le}
+use lib.Dec.{eqb, ltb}
+use borrow.Author.Tests.{eq-eqb, le-ltb, lt-ltb}
+use Rattle.cells.specs.Pick.{pick, pick-true}
+use Rattle.cells.specs.Lists.{overlaid}
+use Rattle.cells.specs.Bytes.{Bytes, overlaid-before, overlaid-after}
+use Rattle.device.specs.declared.Device.{Device}
+use Rattle.device.specs.Parts.{sizeOf, startOf, lengthOf}
+use Rattle.device.proofs.Claims.{blocks-end-inside}
+use Rattle.chip.specs.declared.Pins.{Pins}
+use Rattle.chip.specs.declared.Mode.the-variants.{Array}
+use Rattle.chip.specs.declared.State.{State}
+use Rattle.chip.specs.declared.Effect.{Effect}
+use Rattle.chip.specs.declared.Effect.the-variants.{Nothing, Program, Erase}
+use Rattle.chip.specs.States.{atRest}
+use Rattle.loader.specs.declared.Stage.the-variants.{Clearing}
+use Rattle.loader.specs.Front.{recordAt, endAddress}
+use Rattle.loader.specs.Walks.{risesIn}
+use Rattle.run.specs.declared.Ran.{Ran}
+use Rattle.run.specs.Turns.{Config, bound}
+use Rattle.run.specs.Runs.{runNumber, begin, ranBy, leftBy, ranOf, bytesOf, scratchOf}
+use Rattle.run.specs.Wear.{begunIn, heldIn, baseOf, erasesOf, programsIn, programsOf, differing, formula, operationsOf}
+use Rattle.run.specs.History.{Bus, World, worldAfter, effectsIn, begunOver, uncut, total, eraseOf, programIn}
+use Rattle.run.proofs.Good.{good}
+use Rattle.run.proofs.Demand.{Start, left-at-goal, begun-all}
+use Rattle.run.proofs.Least.{least}
+
+-- the programs of a load are counted, all in the block, and none of them is an erase
+programs-counted : (j i a n b : ℕ) (w s : List ℕ) → a ≤ b + i → b + i + j ≤ a + n → total (programIn a n) (programsOf j b i w s) ≡ differing j i w s
+programs-counted zero i a n b w s lo hi = refl
+programs-counted (suc j) i a n b w s lo hi = go (eqb (getD s i 0) (getD w i 0)) (programs-counted j (i + 1) a n b w s (omega arith) (omega arith))
+  where
+    go : (t : Bool) → total (programIn a n) (programsOf j b (i + 1) w s) ≡ differing j (i + 1) w s
+        → total (programIn a n) (pick t (programsOf j b (i + 1) w s) (Program (b + i) (getD w i 0) ∷ programsOf j b (i + 1) w s)) ≡ pick t 0 1 + differing j (i + 1) w s
+    go true e = omega arith
+    go false e = rw (le-ltb (b + i) a lo, lt-ltb (b + i) (a + n) (omega arith)) (omega arith)
+
+no-erase : (j i k b : ℕ) (w s : List ℕ) → total (eraseOf k) (programsOf j b i w s) ≡ 0
+no-erase zero i k b w s = refl
+no-erase (suc j) i k b w s = go (eqb (getD s i 0) (getD w i 0)) (no-erase j (i + 1) k b w s)
+  where
+    go : (t : Bool) → total (eraseOf k) (programsOf j b (i + 1) w s) ≡ 0 → total (eraseOf k) (pick t (programsOf j b (i + 1) w s) (Program (b + i) (getD w i 0) ∷ programsOf j b (i + 1) w s)) ≡ 0
+    go true e = e
+    go false e = omega arith
+
+no-program : (n a k : ℕ) (es : List Effect) → total (programIn a n) (Erase k ∷ es) ≡ total (programIn a n) es
+no-program n a k es = omega arith
+
+operations-erase : (k a : ℕ) (w ys : List ℕ) → total (eraseOf k) (operationsOf k a w ys) ≡ erasesOf w ys
+operations-erase k a w ys = go (risesIn w ys) (no-erase (length w) 0 k a w (baseOf w ys))
+  where
+    go : (t : Bool) → total (eraseOf k) (programsOf (length w) a 0 w (baseOf w ys)) ≡ 0
+        → total (eraseOf k) (pick t (Erase k ∷ programsOf (length w) a 0 w (baseOf w ys)) (programsOf (length w) a 0 w (baseOf w ys))) ≡ pick t 1 0
+    go true e = rw (eq-eqb k k refl) (omega arith)
+    go false e = e
+
+operations-program : (k a : ℕ) (w ys : List ℕ) → total (programIn a (length w)) (operationsOf k a w ys) ≡ programsIn w ys
+operations-program k a w ys = go (risesIn w ys) (programs-counted (length w) 0 a (length w) a w (baseOf w ys) (omega arith) (omega arith))
+  where
+    go : (t : Bool) → total (programIn a (length w)) (programsOf (length w) a 0 w (baseOf w ys)) ≡ programsIn w ys
+        → total (programIn a (length w)) (pick t (Erase k ∷ programsOf (length w) a 0 w (baseOf w ys)) (programsOf (length w) a 0 w (baseOf w ys))) ≡ programsIn w ys
+    go true e = no-program (length w) a k (programsOf (length w) a 0 w (baseOf w ys)) ∙ e
+    go false e = e
+
+module _ (d : Device) (s : State) (p : Pins) (k : ℕ) (xs w sc : List ℕ) (start : Start d s p k xs w sc) where
+  abbrev a : ℕ
+  a = startOf (d .part) k
+
+  abbrev ys : List ℕ
+  ys = heldIn (startOf (d .part) k) (length w) xs
+
+  go-on : eqb (runNumber d s p k (length xs) (length w) (length sc)) 0 ≡ true
+  go-on = eq-eqb (runNumber d s p k (length xs) (length w) (length sc)) 0 (start .taken)
+
+  -- a load ends well, with the count of the formula, in mode read array with status 80H
+  pub ends-well : ranOf d s p k xs w sc ≡ record { count = formula d w ys; end = 0; address = 0; state = atRest Array 128 }
+  unfolding ranOf endAddress
+  ends-well = pick-true (eqb (runNumber d s p k (length xs) (length w) (length sc)) 0) _ _ go-on ∙ ap ranBy (left-at-goal d s p k xs w sc start)
+
+  -- the array is as before with the wanted bytes over the block, and scratch holds them too
+  pub array-left : bytesOf d s p k xs w sc ≡ overlaid xs a w
+  unfolding bytesOf
+  array-left = pick-true (eqb (runNumber d s p k (length xs) (length w) (length sc)) 0) _ _ go-on ∙ ap (λ (c : Config). c .bytes) (left-at-goal d s p k xs w sc start)
+
+  pub scratch-left : scratchOf d s p k xs w sc ≡ w
+  unfolding scratchOf
+  scratch-left = pick-true (eqb (runNumber d s p k (length xs) (length w) (length sc)) 0) _ _ go-on ∙ ap (λ (c : Config). c .scratch) (left-at-goal d s p k xs w sc start)
+
+  inside : a + length w ≤ length xs
+  inside = let g = good d s p k (length xs) (length w) (length sc) (start .taken) in omega (arith, blocks-end-inside (d .part) k, g .sized, g .wanted)
+
+  -- the block holds the wanted bytes
+  pub block-holds : heldIn a (length w) (bytesOf d s p k xs w sc) ≡ w
+  block-holds =
+      ap (λ (z : List ℕ). heldIn a (length w) z) array-left
+      ∙ ap (λ (z : List ℕ). take (length w) z) (drop-at (take a xs) _ a (length-take-le a xs (let h = inside in omega arith)))
+      ∙ take-at w (drop (length w) (drop a xs)) (length w) refl
+
+  -- every other byte is as before
+  pub others-stay : (x : ℕ) → (x < a → getD (bytesOf d s p k xs w sc) x 0 ≡ getD xs x 0) × (a + length w ≤ x → getD (bytesOf d s p k xs w sc) x 0 ≡ getD xs x 0)
+  others-stay x = (
+    λ h. rw array-left (overlaid-before xs a w inside x h),
+    λ h. rw array-left (subst (λ (y : ℕ). getD (overlaid xs a w) y 0 ≡ getD xs y 0) (let q : a + (length w + (x - a - length w)) ≡ x = omega arith in q) (overlaid-after xs a w inside (x - a - length w))),
+  )
+
+  abbrev load : List Effect
+  load = begunIn (bound (length w)) d w (begin d s (recordAt (d .part) p k Clearing) xs sc)
+
+  -- it erases once if some bit must rise, otherwise never; it programs each byte that then differs once and no other
+  pub begins-just : load ≡ operationsOf k a w ys
+  begins-just = begun-all d s p k xs w sc start
+
+  -- no uncut cycles from the same start to the same block contents begin fewer erases of the block or fewer programs in it
+  pub nothing-less : (bs : List Bus) → Bytes xs → uncut (effectsIn d (record { state = s; bytes = xs }) bs) ≡ true
+      → heldIn a (length w) (worldAfter d (record { state = s; bytes = xs }) bs .bytes) ≡ w
+      → (total (eraseOf k) load ≤ total (eraseOf k) (begunOver d (record { state = s; bytes = xs }) bs))
+      × (total (programIn a (length w)) load ≤ total (programIn a (length w)) (begunOver d (record { state = s; bytes = xs }) bs))
+  nothing-less bs bx u h =
+      let g = good d s p k (length xs) (length w) (length sc) (start .taken) in
+      let m = least d k (record { state = s; bytes = xs }) w bs (g .sized) (g .wanted) bx (g .free) u h in
+      let e = ap (λ (es : List Effect). total (eraseOf k) es) begins-just ∙ operations-erase k a w ys in
+      let q = ap (λ (es : List Effect). total (programIn a (length w)) es) begins-just ∙ operations-program k a w ys in
+      (omega (arith, m .0), omega (arith, m .1))
