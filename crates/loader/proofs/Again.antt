@@ -85,16 +85,16 @@ module _ (part : Part) (p : Pins) (k : ℕ) (w sc : List ℕ) where
   unfolding startOf startNumber
   start-numbers m z = (
     λ e. given-foremost (startRows part p k (length w) (length sc)) m z
-    (sym (judged-told startN (recordAt part p k Clearing) w (recordAt part p k (Ended startN))) ∙ ap barring e),
+        (sym (judged-told startN (recordAt part p k Clearing) w (recordAt part p k (Ended startN))) ∙ ap barring e),
     λ f. let q : given (startRows part p k (length w) (length sc)) ≡ m = foremost-given f in
-    ap (λ (g : Given). g .turn) (judged-barred startN (recordAt part p k Clearing) w (recordAt part p k (Ended startN)) (λ e. z (sym q ∙ e))) ∙ ap Barred q,
+        ap (λ (g : Given). g .turn) (judged-barred startN (recordAt part p k Clearing) w (recordAt part p k (Ended startN)) (λ e. z (sym q ∙ e))) ∙ ap Barred q,
   )
 
   pub start-accepted : (isBarred (startOf part p k w sc .turn) ≡ false) ↔ NoRow (startRows part p k (length w) (length sc))
   unfolding startOf startNumber
   start-accepted = (
     λ e. given-no-row (startRows part p k (length w) (length sc)) refl
-    (judged-free startN (recordAt part p k Clearing) w (recordAt part p k (Ended startN)) e),
+        (judged-free startN (recordAt part p k Clearing) w (recordAt part p k (Ended startN)) e),
     λ f. ap (λ (g : Given). isBarred (g .turn)) (judged-given startN (recordAt part p k Clearing) w (recordAt part p k (Ended startN)) (no-row-given f)),
   )
 
@@ -117,7 +117,7 @@ module _ (l : Loader) (b : ℕ) (w sc : List ℕ) where
   step-numbers m z = (
     λ e. given-foremost (stepRows l (length w) (length sc)) m z (sym (judged-told stepN onN w l) ∙ ap barring e),
     λ f. let q : given (stepRows l (length w) (length sc)) ≡ m = foremost-given f in
-    ap (λ (g : Given). g .turn) (judged-barred stepN onN w l (λ e. z (sym q ∙ e))) ∙ ap Barred q,
+        ap (λ (g : Given). g .turn) (judged-barred stepN onN w l (λ e. z (sym q ∙ e))) ∙ ap Barred q,
   )
 
   pub step-accepted : (isBarred (stepOf l b w sc .turn) ≡ false) ↔ NoRow (stepRows l (length w) (length sc))

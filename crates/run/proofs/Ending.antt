@@ -243,10 +243,11 @@ pub promise-once : (d : Device) (s : State) (p : Pins) (k : ℕ) (xs w sc : List
     → Promise d s p k xs w sc r x u → Promise d s p k xs w sc t y v → (r ≡ t) × (x ≡ y) × (u ≡ v)
 promise-once d s p k xs w sc r t x y u v f g =
     let c = beginning d s p k xs w sc in
-    let n : r .count ≡ t .count = go (ltb (r .count) (t .count)) refl (ltb (t .count) (r .count)) refl in
-    (f .returned ∙ ap (λ (j : ℕ). ranBy (after j d w c)) n ∙ sym (g .returned),
-     f .array ∙ ap (λ (j : ℕ). after j d w c .bytes) n ∙ sym (g .array),
-     f .room ∙ ap (λ (j : ℕ). after j d w c .scratch) n ∙ sym (g .room))
+    let n : r .count ≡ t .count = go (ltb (r .count) (t .count)) refl (ltb (t .count) (r .count)) refl in (
+      f .returned ∙ ap (λ (j : ℕ). ranBy (after j d w c)) n ∙ sym (g .returned),
+      f .array ∙ ap (λ (j : ℕ). after j d w c .bytes) n ∙ sym (g .array),
+      f .room ∙ ap (λ (j : ℕ). after j d w c .scratch) n ∙ sym (g .room),
+    )
   where
     go : (a : Bool) → ltb (r .count) (t .count) ≡ a → (b : Bool) → ltb (t .count) (r .count) ≡ b → r .count ≡ t .count
     go true i b j = absurd (unlike (sym (f .ended) ∙ g .first (r .count) (ltb-true _ _ i)))
