@@ -9,7 +9,9 @@ use Rattle.chip.specs.Settling.{cutBy, countedOff, settleOf}
 use Rattle.chip.specs.Cycles.{pastArray, shortResidue, noCommand, suspendedRead, noIdentifier, numberOf, acceptOf, decideOf}
 use Rattle.model.specs.Arrays.{erased, residual, arrayAfter, answerOf}
 use Rattle.loadfile.specs.Check.{checkOf}
-use Rattle.cards.specs.Table.{card1, card3, card4, card5, card6, card7, card8, card9, card12}
+use Rattle.cards.specs.Table.{card1, card3, card4, card5, card6, card7, card8, card9, card12, Cards}
+use Rattle.cards.proofs.Busy.{two}
+use Rattle.cards.proofs.Counts.{ten, eleven}
 
 holds-1 : card1 ≡ true
 unfolding shapeOf sizeIn lengthIn offsetIn holderIn turned startIn blockIn unknownPart unknownDevice sizeOf lengthOf startOf blockOf vppLow vppHigh badPins badLevels locked badStatus badLeft badAddress improper firstWrite afterErase whileErasing whileSuspended unsupplied startedOf cutBy countedOff settleOf pastArray shortResidue noCommand suspendedRead noIdentifier numberOf acceptOf decideOf erased residual arrayAfter answerOf
@@ -46,3 +48,20 @@ holds-9 = refl
 holds-12 : card12 ≡ true
 unfolding checkOf
 holds-12 = refl
+
+-- the one theorem: all twelve hold
+pub all-twelve : Cards
+all-twelve = record {
+  one = holds-1;
+  two = two;
+  three = holds-3;
+  four = holds-4;
+  five = holds-5;
+  six = holds-6;
+  seven = holds-7;
+  eight = holds-8;
+  nine = holds-9;
+  ten = ten;
+  eleven = eleven;
+  twelve = holds-12;
+}
