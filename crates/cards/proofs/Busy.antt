@@ -57,9 +57,10 @@ module _ (d : Device) (a : ℕ) (xs : List ℕ) (known : unknownDevice d ≡ fal
       → (stepped d (world s) (record { cycle = c; residue = [] }) ≡ world t) × (seenOn d (world s) (record { cycle = c; residue = [] }) ≡ seenOf r xs)
   unfolding answerOf arrayAfter
   step s t c r e q z =
-      let h : decideOf d s c (length xs) 0 ≡ decidedAs r t e = ap (λ (n : ℕ). decideOf d s c n 0) sized ∙ q in
-      (ap (λ (x : Decision). record { state = x .state; bytes = arrayOf (x .effect) (d .part) [] xs }) h ∙ ap (λ (ys : List ℕ). record { state = t; bytes = ys }) z,
-       ap (λ (x : Decision). seenOf (x .reply) (arrayOf (x .effect) (d .part) [] xs)) h ∙ ap (λ (ys : List ℕ). seenOf r ys) z)
+      let h : decideOf d s c (length xs) 0 ≡ decidedAs r t e = ap (λ (n : ℕ). decideOf d s c n 0) sized ∙ q in (
+        ap (λ (x : Decision). record { state = x .state; bytes = arrayOf (x .effect) (d .part) [] xs }) h ∙ ap (λ (ys : List ℕ). record { state = t; bytes = ys }) z,
+        ap (λ (x : Decision). seenOf (x .reply) (arrayOf (x .effect) (d .part) [] xs)) h ∙ ap (λ (ys : List ℕ). seenOf r ys) z,
+      )
 
   -- FFH over 3CH is 3CH
   keeps : set xs a (bitAnd (getD xs a 0) 255) ≡ xs

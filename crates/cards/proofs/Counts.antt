@@ -81,23 +81,18 @@ level w e = go (risesIn w w) (flat-in w)
     go true q = absurd (unlike q)
     go false q = rw (none (length w) 0 w, e) refl
 
-formula-10 : formula benchT (0x5A ∷ same 511 255) (same 512 255) ≡ 1031
-unfolding risesIn
-formula-10 = refl
-
-formula-11 : formula benchT (same 512 255) (same 512 0) ≡ 1032
-unfolding risesIn
-formula-11 = refl
-
 bytes-10 : Bytes (0x5A ∷ same 511 255)
 bytes-10 zero = omega arith
 bytes-10 (suc i) = bytes-replicate 511 255 (omega arith) i
 
+-- the formula, computed
 pub ten : Card10
-ten = counts 1031 (same 512 255) (0x5A ∷ same 511 255) refl bytes-10 formula-10
+unfolding risesIn
+ten = counts _ (same 512 255) (0x5A ∷ same 511 255) refl bytes-10 refl
 
 pub eleven : Card11
+unfolding risesIn
 eleven = (
-  counts 1032 (same 512 0) (same 512 255) refl (bytes-replicate 512 255 (omega arith)) formula-11,
-  λ (w : List ℕ) (e : length w ≡ 512) (b : Bytes w). counts 1027 w w e b (level w e),
+  counts _ (same 512 0) (same 512 255) refl (bytes-replicate 512 255 (omega arith)) refl,
+  λ (w : List ℕ) (e : length w ≡ 512) (b : Bytes w). counts _ w w e b (level w e),
 )
