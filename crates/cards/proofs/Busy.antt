@@ -1,0 +1,101 @@
+-- Card 2, for every P: busy until the P-th read. Assumes nothing.
+use mathlib.Core.Path.{_≡_, refl, sym, ap, _∙_, subst}
+use mathlib.Core.Bool.{Bool, true, false}
+use mathlib.Core.List.{List, [], _∷_, _++_}
+use Prim.Native.Nat.{ℕ, zero, suc, _+_, _≤_, _<_}
+use native.Mathlib.Omega.{arith}
+use native.Mathlib.Numerals.{add-one}
+use lib.ListN.{length, getD, set, replicate}
+use lib.Seq.{set-getD}
+use lib.Bits.{bitAnd}
+use Rattle.device.specs.declared.Device.{Device}
+use Rattle.device.specs.Parts.{unknownDevice, sizeOf, blockOf}
+use Rattle.chip.specs.declared.Mode.the-variants.{Array, Status}
+use Rattle.chip.specs.declared.Phase.the-variants.{Free, DataAwaited, Programming}
+use Rattle.chip.specs.declared.Effect.{Effect}
+use Rattle.chip.specs.declared.Effect.the-variants.{Nothing, Program}
+use Rattle.chip.specs.declared.Reply.{Reply}
+use Rattle.chip.specs.declared.Reply.the-variants.{Quiet, Gives}
+use Rattle.chip.specs.declared.State.{State}
+use Rattle.chip.specs.declared.Cycle.{Cycle}
+use Rattle.chip.specs.declared.Decision.{Decision}
+use Rattle.chip.specs.Levels.{vppLow, vppHigh, badPins}
+use Rattle.chip.specs.States.{atRest, freshState}
+use Rattle.chip.specs.Cycles.{decideOf, decidedAs}
+use Rattle.model.specs.declared.Seen.{Seen}
+use Rattle.model.specs.declared.Seen.the-variants.{NoData, Byte, Refused}
+use Rattle.model.specs.Arrays.{arrayOf, seenOf, arrayAfter, answerOf}
+use Rattle.model.proofs.Keeping.{st}
+use Rattle.run.specs.History.{Bus, World, stepped, worldAfter}
+use Rattle.run.proofs.Answers.{Ready, cyc, asks-program, sends, waits, ends}
+use Rattle.cards.specs.Table.{normal, write, read, fresh, seenOn, seenIn, cycles2, Card2}
+
+supplied : (d : Device) → (badPins (d .part) normal ≡ false) × (vppLow (d .part) normal ≡ false)
+unfolding vppLow vppHigh badPins
+supplied d = (refl, refl)
+
+-- what the host sees of some cycles, and where they lead
+abbrev Leads : Device → World → List Bus → List Seen → World → Type 0
+Leads d v bs os u = (seenIn d v bs ≡ os) × (worldAfter d v bs ≡ u)
+
+before : (d : Device) (v n u : World) (b : Bus) (bs : List Bus) (o : Seen) (os : List Seen) → (stepped d v b ≡ n) × (seenOn d v b ≡ o) → Leads d n bs os u → Leads d v (b ∷ bs) (o ∷ os) u
+before d v n u b bs o os h l = (
+  ap (λ (x : Seen). x ∷ seenIn d (stepped d v b) bs) (h .1) ∙ ap (λ (y : World). o ∷ seenIn d y bs) (h .0) ∙ ap (λ (ys : List Seen). o ∷ ys) (l .0),
+  ap (λ (y : World). worldAfter d y bs) (h .0) ∙ l .1,
+)
+
+module _ (d : Device) (a : ℕ) (xs : List ℕ) (known : unknownDevice d ≡ false) (inside : a < sizeOf (d .part)) (free : blockOf (d .part) a ≡ 0 → ⊥)
+    (sized : length xs ≡ sizeOf (d .part)) (held : getD xs a 0 ≡ 60) where
+  abbrev world : State → World
+  world s = record { state = s; bytes = xs }
+
+  ready : Ready d normal (blockOf (d .part) a)
+  ready = record { known = known; levels = supplied d .0; up = refl; high = supplied d .1; unlocked = λ e. absurd (free e) }
+
+  -- one cycle, from what the device decides
+  step : (s t : State) (c : Cycle) (r : Reply) (e : Effect) → decideOf d s c (sizeOf (d .part)) 0 ≡ decidedAs r t e → arrayOf e (d .part) [] xs ≡ xs
+      → (stepped d (world s) (record { cycle = c; residue = [] }) ≡ world t) × (seenOn d (world s) (record { cycle = c; residue = [] }) ≡ seenOf r xs)
+  unfolding answerOf arrayAfter
+  step s t c r e q z =
+      let h : decideOf d s c (length xs) 0 ≡ decidedAs r t e = ap (λ (n : ℕ). decideOf d s c n 0) sized ∙ q in (
+        ap (λ (x : Decision). record { state = x .state; bytes = arrayOf (x .effect) (d .part) [] xs }) h ∙ ap (λ (ys : List ℕ). record { state = t; bytes = ys }) z,
+        ap (λ (x : Decision). seenOf (x .reply) (arrayOf (x .effect) (d .part) [] xs)) h ∙ ap (λ (ys : List ℕ). seenOf r ys) z,
+      )
+
+  -- FFH over 3CH is 3CH
+  keeps : set xs a (bitAnd (getD xs a 0) 255) ≡ xs
+  keeps =
+      let e : bitAnd (getD xs a 0) 255 ≡ getD xs a 0 = ap (λ (x : ℕ). bitAnd x 255) held ∙ sym held in
+      ap (λ (x : ℕ). set xs a x) e ∙ set-getD xs a 0
+
+  polls : (m : ℕ) → suc m ≤ d .program
+      → Leads d (world (st Status 0 (Programming 255) (suc m) a)) (replicate {A = Bus} (suc m) (read normal a)) (replicate {A = Seen} m (Byte 0) ++ (Byte 128 ∷ [])) (world (atRest Status 128))
+  polls zero h =
+      before d (world (st Status 0 (Programming 255) 1 a)) (world (atRest Status 128)) (world (atRest Status 128)) (read normal a) [] (Byte 128) []
+      (step (st Status 0 (Programming 255) 1 a) (atRest Status 128) (cyc normal (read normal a .cycle .kind) a 0) (Gives 128) (Program a 255)
+      (ends d normal (blockOf (d .part) a) ready (Programming 255) a a refl h inside inside) keeps)
+      (refl, refl)
+  polls (suc m) h =
+      before d (world (st Status 0 (Programming 255) (suc (suc m)) a)) (world (st Status 0 (Programming 255) (suc m) a)) (world (atRest Status 128)) (read normal a)
+      (replicate {A = Bus} (suc m) (read normal a)) (Byte 0) (replicate {A = Seen} m (Byte 0) ++ (Byte 128 ∷ []))
+      (step (st Status 0 (Programming 255) (suc (suc m)) a) (st Status 0 (Programming 255) (suc m) a) (cyc normal (read normal a .cycle .kind) a 0) (Gives 0) Nothing
+      (subst (λ (j : ℕ). decideOf d (st Status 0 (Programming 255) j a) (cyc normal (read normal a .cycle .kind) a 0) (sizeOf (d .part)) 0
+      ≡ decidedAs (Gives 0) (st Status 0 (Programming 255) (suc m) a) Nothing) (add-one (suc m))
+      (waits d normal (blockOf (d .part) a) ready (Programming 255) (suc m) a a refl (omega arith) (omega (arith, h)) inside inside)) refl)
+      (polls m (omega (arith, h)))
+
+  whole : (m : ℕ) → d .program ≡ suc m → Leads d (fresh xs) (cycles2 m a) (NoData ∷ NoData ∷ (replicate {A = Seen} m (Byte 0) ++ (Byte 128 ∷ []))) (world (atRest Status 128))
+  whole m e =
+      before d (fresh xs) (world (st Status 128 DataAwaited 0 0)) (world (atRest Status 128)) (write normal a 0x40) (write normal a 0xFF ∷ replicate {A = Bus} (suc m) (read normal a))
+      NoData (NoData ∷ (replicate {A = Seen} m (Byte 0) ++ (Byte 128 ∷ [])))
+      (step freshState (st Status 128 DataAwaited 0 0) (write normal a 0x40 .cycle) Quiet Nothing (asks-program d normal (blockOf (d .part) a) ready Array 128 a refl inside) refl)
+      (before d (world (st Status 128 DataAwaited 0 0)) (world (st Status 0 (Programming 255) (suc m) a)) (world (atRest Status 128)) (write normal a 0xFF)
+      (replicate {A = Bus} (suc m) (read normal a)) NoData (replicate {A = Seen} m (Byte 0) ++ (Byte 128 ∷ []))
+      (step (st Status 128 DataAwaited 0 0) (st Status 0 (Programming 255) (suc m) a) (write normal a 0xFF .cycle) Quiet Nothing
+      (sends d normal (blockOf (d .part) a) ready a 255 inside refl ∙ ap (λ (j : ℕ). decidedAs Quiet (st Status 0 (Programming 255) j a) Nothing) e) refl)
+      (polls m (omega (arith, e))))
+
+pub two : Card2
+two d m a xs known e inside free sized held =
+    let w = whole d a xs known inside free sized held m e in
+    (w .0, w .1, ap (λ (v : World). getD (v .bytes) a 0) (w .1) ∙ held)

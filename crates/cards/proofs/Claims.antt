@@ -1,0 +1,67 @@
+-- The bench cards hold. Assumes nothing.
+use mathlib.Core.Path.{_≡_, refl}
+use mathlib.Core.Bool.{Bool, true, false}
+use Rattle.device.specs.Parts.{shapeOf, sizeIn, lengthIn, offsetIn, holderIn, turned, startIn, blockIn, unknownPart, unknownDevice, sizeOf, lengthOf, startOf, blockOf, codeOf}
+use Rattle.chip.specs.Levels.{vppLow, vppHigh, badPins, badLevels, locked}
+use Rattle.chip.specs.States.{badStatus, badLeft, badAddress, improper}
+use Rattle.chip.specs.Commands.{firstWrite, afterErase, whileErasing, whileSuspended, unsupplied, startedOf}
+use Rattle.chip.specs.Settling.{cutBy, countedOff, settleOf}
+use Rattle.chip.specs.Cycles.{pastArray, shortResidue, noCommand, suspendedRead, noIdentifier, numberOf, acceptOf, decideOf}
+use Rattle.model.specs.Arrays.{erased, residual, arrayAfter, answerOf}
+use Rattle.loadfile.specs.Check.{checkOf}
+use Rattle.cards.specs.Table.{card1, card3, card4, card5, card6, card7, card8, card9, card12, Cards}
+use Rattle.cards.proofs.Busy.{two}
+use Rattle.cards.proofs.Counts.{ten, eleven}
+
+holds-1 : card1 ≡ true
+unfolding shapeOf sizeIn lengthIn offsetIn holderIn turned startIn blockIn unknownPart unknownDevice sizeOf lengthOf startOf blockOf vppLow vppHigh badPins badLevels locked badStatus badLeft badAddress improper firstWrite afterErase whileErasing whileSuspended unsupplied startedOf cutBy countedOff settleOf pastArray shortResidue noCommand suspendedRead noIdentifier numberOf acceptOf decideOf erased residual arrayAfter answerOf
+holds-1 = refl
+
+holds-3 : card3 ≡ true
+unfolding shapeOf sizeIn lengthIn offsetIn holderIn turned startIn blockIn unknownPart unknownDevice sizeOf lengthOf startOf blockOf vppLow vppHigh badPins badLevels locked badStatus badLeft badAddress improper firstWrite afterErase whileErasing whileSuspended unsupplied startedOf cutBy countedOff settleOf pastArray shortResidue noCommand suspendedRead noIdentifier numberOf acceptOf decideOf erased residual arrayAfter answerOf
+holds-3 = refl
+
+holds-4 : card4 ≡ true
+unfolding shapeOf sizeIn lengthIn offsetIn holderIn turned startIn blockIn unknownPart unknownDevice sizeOf lengthOf startOf blockOf vppLow vppHigh badPins badLevels locked badStatus badLeft badAddress improper firstWrite afterErase whileErasing whileSuspended unsupplied startedOf cutBy countedOff settleOf pastArray shortResidue noCommand suspendedRead noIdentifier numberOf acceptOf decideOf erased residual arrayAfter answerOf
+holds-4 = refl
+
+holds-5 : card5 ≡ true
+unfolding shapeOf sizeIn lengthIn offsetIn holderIn turned startIn blockIn unknownPart unknownDevice sizeOf lengthOf startOf blockOf vppLow vppHigh badPins badLevels locked badStatus badLeft badAddress improper firstWrite afterErase whileErasing whileSuspended unsupplied startedOf cutBy countedOff settleOf pastArray shortResidue noCommand suspendedRead noIdentifier numberOf acceptOf decideOf erased residual arrayAfter answerOf
+holds-5 = refl
+
+holds-6 : card6 ≡ true
+unfolding shapeOf sizeIn lengthIn offsetIn holderIn turned startIn blockIn unknownPart unknownDevice sizeOf lengthOf startOf blockOf vppLow vppHigh badPins badLevels locked badStatus badLeft badAddress improper firstWrite afterErase whileErasing whileSuspended unsupplied startedOf cutBy countedOff settleOf pastArray shortResidue noCommand suspendedRead noIdentifier numberOf acceptOf decideOf erased residual arrayAfter answerOf
+holds-6 = refl
+
+holds-7 : card7 ≡ true
+unfolding shapeOf sizeIn lengthIn offsetIn holderIn turned startIn blockIn unknownPart unknownDevice sizeOf lengthOf startOf blockOf vppLow vppHigh badPins badLevels locked badStatus badLeft badAddress improper firstWrite afterErase whileErasing whileSuspended unsupplied startedOf cutBy countedOff settleOf pastArray shortResidue noCommand suspendedRead noIdentifier numberOf acceptOf decideOf erased residual arrayAfter answerOf
+holds-7 = refl
+
+holds-8 : card8 ≡ true
+unfolding shapeOf sizeIn lengthIn offsetIn holderIn turned startIn blockIn unknownPart unknownDevice sizeOf lengthOf startOf blockOf vppLow vppHigh badPins badLevels locked badStatus badLeft badAddress improper firstWrite afterErase whileErasing whileSuspended unsupplied startedOf cutBy countedOff settleOf pastArray shortResidue noCommand suspendedRead noIdentifier numberOf acceptOf decideOf erased residual arrayAfter answerOf
+holds-8 = refl
+
+holds-9 : card9 ≡ true
+unfolding shapeOf sizeIn lengthIn offsetIn holderIn turned startIn blockIn unknownPart unknownDevice sizeOf lengthOf startOf blockOf vppLow vppHigh badPins badLevels locked badStatus badLeft badAddress improper firstWrite afterErase whileErasing whileSuspended unsupplied startedOf cutBy countedOff settleOf pastArray shortResidue noCommand suspendedRead noIdentifier numberOf acceptOf decideOf erased residual arrayAfter answerOf
+holds-9 = refl
+
+holds-12 : card12 ≡ true
+unfolding checkOf
+holds-12 = refl
+
+-- the one theorem: all twelve hold
+pub all-twelve : Cards
+all-twelve = record {
+  one = holds-1;
+  two = two;
+  three = holds-3;
+  four = holds-4;
+  five = holds-5;
+  six = holds-6;
+  seven = holds-7;
+  eight = holds-8;
+  nine = holds-9;
+  ten = ten;
+  eleven = eleven;
+  twelve = holds-12;
+}

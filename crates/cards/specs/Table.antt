@@ -1,0 +1,184 @@
+-- The bench cards, on bench T (device 3) and bench B (device 4) with P 2 and E 3 where nothing else is said. Assumes nothing.
+use mathlib.Core.Path.{_≡_}
+use mathlib.Core.Bool.{Bool, true, false, not, _&&_}
+use mathlib.Core.List.{List, [], _∷_, _++_}
+use Prim.Native.Nat.{ℕ, zero, suc, _+_, _<_}
+use lib.ListN.{length, getD, set, replicate}
+use lib.Dec.{eqb}
+use Rattle.device.specs.declared.Part.{Part}
+use Rattle.device.specs.declared.Device.{Device}
+use Rattle.device.specs.Parts.{unknownDevice, sizeOf, blockOf}
+use Rattle.cells.specs.Bytes.{Bytes}
+use Rattle.chip.specs.declared.Kind.the-variants.{Read, Write}
+use Rattle.chip.specs.declared.Pins.{Pins}
+use Rattle.chip.specs.declared.Cycle.{Cycle}
+use Rattle.chip.specs.declared.State.{State}
+use Rattle.chip.specs.declared.Mode.the-variants.{Array, Status}
+use Rattle.chip.specs.States.{freshState, atRest}
+use Rattle.model.specs.declared.Seen.{Seen}
+use Rattle.model.specs.declared.Seen.the-variants.{NoData, Byte, Refused}
+use Rattle.model.specs.Arrays.{answerOf}
+use Rattle.loadfile.specs.Check.{checkOf}
+use Rattle.run.specs.History.{Bus, World, stepped, worldAfter}
+use Rattle.run.specs.Runs.{ranOf}
+use Rattle.run.specs.Wear.{heldIn}
+
+-- a part with its busy times
+abbrev pub device : ℕ → ℕ → ℕ → Device
+device number program erase = record { part = record { number = number }; program = program; erase = erase }
+
+abbrev pub benchT : Device
+benchT = device 3 2 3
+
+abbrev pub benchB : Device
+benchB = device 4 2 3
+
+-- RP# high or at V_HH, with VPP in millivolts
+abbrev pub at : ℕ → ℕ → Pins
+at rp vpp = record { rp = rp; vpp = vpp }
+
+abbrev pub normal : Pins
+normal = at 1 12000
+
+-- a write and a status or array read, OE# normal, with the residue that is lent
+abbrev pub write : Pins → ℕ → ℕ → Bus
+write p a b = record { cycle = record { kind = Write; pins = p; oe = 0; address = a; byte = b }; residue = [] }
+
+abbrev pub read : Pins → ℕ → Bus
+read p a = record { cycle = record { kind = Read; pins = p; oe = 0; address = a; byte = 0 }; residue = [] }
+
+abbrev pub lent : List ℕ → Bus → Bus
+lent rs b = record { cycle = b .cycle; residue = rs }
+
+-- n bytes of one value
+abbrev pub same : ℕ → ℕ → List ℕ
+same n b = replicate {A = ℕ} n b
+
+-- a fresh device with these bytes
+abbrev pub fresh : List ℕ → World
+fresh xs = record { state = freshState; bytes = xs }
+
+-- two lists are the same
+abbrev pub alike : List ℕ → List ℕ → Bool
+alike [] [] = true
+alike [] (y ∷ ys) = false
+alike (x ∷ xs) [] = false
+alike (x ∷ xs) (y ∷ ys) = eqb x y && alike xs ys
+
+-- this status and this whole array
+abbrev pub shows : World → ℕ → List ℕ → Bool
+shows v sr xs = eqb (v .state .status) sr && alike (v .bytes) xs
+
+abbrev pub gives : ℕ → Seen → Bool
+gives b NoData = false
+gives b (Byte x) = eqb b x
+gives b (Refused n) = false
+
+abbrev pub refuses : ℕ → Seen → Bool
+refuses n NoData = false
+refuses n (Byte x) = false
+refuses n (Refused m) = eqb n m
+
+-- what the host sees of a cycle
+abbrev pub seenOn : Device → World → Bus → Seen
+seenOn d v b = answerOf d (v .state) (b .cycle) (v .bytes) (b .residue) .seen
+
+abbrev pub seenIn : Device → World → List Bus → List Seen
+seenIn d v [] = []
+seenIn d v (b ∷ bs) = seenOn d v b ∷ seenIn d (stepped d v b) bs
+
+-- a bench array of one value, and one with another byte at 10H
+abbrev pub plain : ℕ → List ℕ
+plain b = same 16384 b
+
+abbrev pub spot : ℕ → ℕ → List ℕ
+spot b x = same 16 b ++ (x ∷ same 16367 b)
+
+-- 1: 5AH programmed over A5H leaves 00H, and the status is 80H
+abbrev pub card1 : Bool
+card1 = shows (worldAfter benchT (fresh (spot 255 0xA5)) (write normal 16 0x40 ∷ write normal 16 0x5A ∷ read normal 16 ∷ read normal 16 ∷ [])) 0x80 (spot 255 0)
+
+-- 2: FFH programmed over 3CH, on every device with P = m + 1, at every address outside the boot block: m reads give 00H, busy, the
+-- P-th gives 80H, and every byte is what it was, the 3CH too
+abbrev pub cycles2 : ℕ → ℕ → List Bus
+cycles2 m a = write normal a 0x40 ∷ write normal a 0xFF ∷ replicate {A = Bus} (suc m) (read normal a)
+
+abbrev pub Card2 : Type 0
+Card2 = (d : Device) (m a : ℕ) (xs : List ℕ) → unknownDevice d ≡ false → d .program ≡ suc m → a < sizeOf (d .part) → (blockOf (d .part) a ≡ 0 → ⊥)
+    → length xs ≡ sizeOf (d .part) → getD xs a 0 ≡ 0x3C
+    → (seenIn d (fresh xs) (cycles2 m a) ≡ NoData ∷ NoData ∷ (replicate {A = Seen} m (Byte 0) ++ (Byte 0x80 ∷ [])))
+    × (worldAfter d (fresh xs) (cycles2 m a) ≡ record { state = atRest Status 0x80; bytes = xs })
+    × (getD (worldAfter d (fresh xs) (cycles2 m a) .bytes) a 0 ≡ 0x3C)
+
+-- 3: 20H and then FFH show B0H, and nothing is erased, however many cycles follow
+abbrev pub card3 : Bool
+card3 = shows (worldAfter benchB (fresh (plain 0)) (write normal 1024 0x20 ∷ write normal 1024 0xFF ∷ read normal 1024 ∷ read normal 1024 ∷ read normal 1024 ∷ read normal 1024 ∷ [])) 0xB0 (plain 0)
+
+-- 4: data sent, and an erase confirmed, at 6,500 mV show 98H and A8H; nothing starts
+abbrev pub card4 : Bool
+card4 =
+    shows (worldAfter benchB (fresh (plain 255)) (write normal 1024 0x40 ∷ write (at 1 6500) 1024 0 ∷ read normal 1024 ∷ read normal 1024 ∷ [])) 0x98 (plain 255)
+    && shows (worldAfter benchB (fresh (plain 0)) (write normal 1024 0x20 ∷ write (at 1 6500) 1024 0xD0 ∷ read normal 1024 ∷ read normal 1024 ∷ read normal 1024 ∷ [])) 0xA8 (plain 0)
+
+-- 5: 6,501 and 11,399 mV are refused 4, and the awaited byte is still awaited; at 11,400 it is programmed
+abbrev pub awaiting : World
+awaiting = worldAfter benchT (fresh (spot 255 0xA5)) (write normal 16 0x40 ∷ [])
+
+abbrev pub card5 : Bool
+card5 =
+    (refuses 4 (seenOn benchT awaiting (write (at 1 6501) 16 0x5A)) && refuses 4 (seenOn benchT awaiting (write (at 1 11399) 16 0x5A)))
+    && shows (worldAfter benchT awaiting (write (at 1 6501) 16 0 ∷ write (at 1 11399) 16 0 ∷ write (at 1 11400) 16 0x5A ∷ read (at 1 11400) 16 ∷ read (at 1 11400) 16 ∷ [])) 0x80 (spot 255 0)
+
+-- 6: an erase of the boot block with RP# high shows A0H and erases nothing; with RP# at V_HH it erases that block alone
+abbrev pub card6 : Bool
+card6 =
+    shows (worldAfter benchB (fresh (plain 0)) (write normal 0 0x20 ∷ write normal 0 0xD0 ∷ read normal 0 ∷ read normal 0 ∷ read normal 0 ∷ [])) 0xA0 (plain 0)
+    && shows (worldAfter benchB (fresh (plain 0)) (write normal 0 0x20 ∷ write (at 2 12000) 0 0xD0 ∷ read normal 0 ∷ read normal 0 ∷ read normal 0 ∷ [])) 0x80 (same 1024 255 ++ same 15360 0)
+
+-- 7: a suspended erase shows C0H
+abbrev pub card7 : Bool
+card7 =
+    gives 0xC0 (seenOn benchB (worldAfter benchB (fresh (plain 0)) (write normal 1024 0x20 ∷ write normal 1024 0xD0 ∷ write normal 1024 0xB0 ∷ [])) (read normal 1024))
+    && shows (worldAfter benchB (fresh (plain 0)) (write normal 1024 0x20 ∷ write normal 1024 0xD0 ∷ write normal 1024 0xB0 ∷ read normal 1024 ∷ [])) 0xC0 (plain 0)
+
+-- 8: 20H in block 1 and D0H in block 2 erase block 2, and no other
+abbrev pub card8 : Bool
+card8 =
+    shows (worldAfter benchB (fresh (plain 0)) (write normal 1024 0x20 ∷ write normal 1536 0xD0 ∷ read normal 1024 ∷ read normal 1024 ∷ read normal 1024 ∷ [])) 0x80
+    (same 1536 0 ++ (same 512 255 ++ same 14336 0))
+
+-- 9: a program of 0FH over F0H, cut by VPP with a residue of 33H, leaves 30H and shows 98H
+abbrev pub card9 : Bool
+card9 = shows (worldAfter benchT (fresh (spot 255 0xF0)) (write normal 16 0x40 ∷ write normal 16 0x0F ∷ lent (0x33 ∷ []) (read (at 1 5000) 16) ∷ [])) 0x98 (spot 255 0x30)
+
+-- a good run on block 1 of bench T, fresh, makes n cycles, whatever the other blocks and scratch hold
+abbrev pub Counts : ℕ → List ℕ → List ℕ → Type 0
+Counts n held wanted = (xs sc : List ℕ) → length xs ≡ 16384 → length sc ≡ 512 → heldIn 0x3A00 512 xs ≡ held
+    → ranOf benchT freshState normal 1 xs wanted sc ≡ record { count = n; end = 0; address = 0; state = atRest Array 0x80 }
+
+-- 10: the block held FFH, wanted is 5AH and then FFH: 1,031 cycles
+abbrev pub Card10 : Type 0
+Card10 = Counts 1031 (same 512 255) (0x5A ∷ same 511 255)
+
+-- 11: it held 00H, wanted is FFH: 1,032; it held what is wanted, whatever that is: 1,027
+abbrev pub Card11 : Type 0
+Card11 = Counts 1032 (same 512 0) (same 512 255) × ((w : List ℕ) → length w ≡ 512 → Bytes w → Counts 1027 w w)
+
+-- 12: the check over 510 bytes FFH is 8,629
+abbrev pub card12 : Bool
+card12 = eqb (checkOf (same 510 255)) 8629
+
+-- the table of all twelve
+pub record Cards : Type 0 where
+  pub one : card1 ≡ true
+  pub two : Card2
+  pub three : card3 ≡ true
+  pub four : card4 ≡ true
+  pub five : card5 ≡ true
+  pub six : card6 ≡ true
+  pub seven : card7 ≡ true
+  pub eight : card8 ≡ true
+  pub nine : card9 ≡ true
+  pub ten : Card10
+  pub eleven : Card11
+  pub twelve : card12 ≡ true
