@@ -12,7 +12,7 @@ use Rattle.chip.specs.declared.Pins.{Pins}
 use Rattle.chip.specs.declared.State.{State}
 use Rattle.run.specs.declared.Ran.{Ran}
 use Rattle.run.specs.Turns.{Config, isEnded, after, bound}
-use Rattle.run.specs.Runs.{runRows, begin, driven, ranOf, bytesOf, scratchOf}
+use Rattle.run.specs.Runs.{runRows, runNumber, begin, driven, ranOf, bytesOf, scratchOf}
 use Rattle.cells.specs.Bytes.{Bytes}
 use Rattle.device.specs.Parts.{startOf}
 use Rattle.chip.specs.declared.Mode.the-variants.{Array}
@@ -108,3 +108,6 @@ pub nothing-less : (d : Device) (s : State) (p : Pins) (k : ℕ) (xs w sc : List
     × (total (programIn (startOf (d .part) k) (length w)) (begunIn (bound (length w)) d w (begin d s (recordAt (d .part) p k Clearing) xs sc))
     ≤ total (programIn (startOf (d .part) k) (length w)) (begunOver d (record { state = s; bytes = xs }) bs))
 nothing-less = mission.nothing-less
+
+pub run-number-unique : (d : Device) (s : State) (p : Pins) (k array w sc : ℕ) → Unique (λ (r : ℕ). r ≡ runNumber d s p k array w sc)
+run-number-unique d s p k array w sc = only (runNumber d s p k array w sc)

@@ -171,7 +171,7 @@ fn wrong_array(part: Part, array: usize) -> bool
 }
 
 // Refusals 1 to 4 and 10 to 12, the first in that order, or 0.
-fn run_number(
+pub fn run_number(
     d: Device,
     s: State,
     p: Pins,

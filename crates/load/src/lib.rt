@@ -1,0 +1,95 @@
+// A load from a file: the file is judged for the letter asked, and only then the flash block is loaded with it.
+use chip::Pins;
+use chip::State;
+use device::Device;
+use loadfile::Judged;
+use run::Ran;
+ghost use mathlib.Core.Path.{_≡_};
+ghost use Prim.Native.Nat.{_≤_};
+ghost use lib.ListN.{length};
+ghost use Rattle.load.specs.Loads.{fileNumber, wantedOf, loadNumber, loadedOf, arrayLeft, wantedLeft, scratchLeft};
+
+// Refusals 30 to 35 of a file for the letter asked and a block of n bytes, or 0.
+fn file_number(file: &[u8], asked: u8, n: usize) -> u8
+    ensures { λ r. ⌜ r ≡ fileNumber (now (file .entry)) asked n ⌝ }
+{
+    if n < file.len() {
+        return 30;
+    }
+    let judged = loadfile::judge(file, asked);
+    match judged {
+        Judged::Sound(_) => 0,
+        Judged::Unsound(m) => m,
+    }
+}
+
+// Wanted becomes the file, then FFH to its end.
+fn fill_wanted(file: &[u8], wanted: &mut [u8])
+    requires { ⌜ length (now file) ≤ length (now wanted) ⌝ }
+    ensures { λ _. ⌜ now (wanted .exit) ≡ wantedOf (now (file .entry)) (length (now (wanted .entry))) ⌝ }
+{
+    let n = file.len();
+    cells::copy(wanted, file);
+    cells::fill(&mut wanted[n..], 255)
+}
+
+// A run's number, then the file's.
+fn load_number(
+    d: Device,
+    s: State,
+    p: Pins,
+    block: u8,
+    array: usize,
+    wanted: usize,
+    scratch: usize,
+    file: &[u8],
+    asked: u8,
+) -> u8
+    ensures { λ r. ⌜ r ≡ loadNumber d s p block array wanted scratch (now (file .entry)) asked ⌝ }
+{
+    let n = run::run_number(d, s, p, block, array, wanted, scratch);
+    if n == 0 {
+        return file_number(file, asked, wanted);
+    }
+    n
+}
+
+// A load of one block from a file.
+pub fn load(
+    d: Device,
+    s: State,
+    p: Pins,
+    block: u8,
+    array: &mut [u8],
+    wanted: &mut [u8],
+    scratch: &mut [u8],
+    file: &[u8],
+    asked: u8,
+) -> Ran
+    ensures { λ r. ⌜ r ≡ loadedOf d s p block (now (array .entry)) (now (wanted .entry)) (now (scratch .entry)) (now (file .entry)) asked ⌝ }
+    ensures { λ _. ⌜ now (array .exit) ≡ arrayLeft d s p block (now (array .entry)) (now (wanted .entry)) (now (scratch .entry)) (now (file .entry)) asked ⌝ }
+    ensures { λ _. ⌜ now (wanted .exit) ≡ wantedLeft d s p block (now (array .entry)) (now (wanted .entry)) (now (scratch .entry)) (now (file .entry)) asked ⌝ }
+    ensures { λ _. ⌜ now (scratch .exit) ≡ scratchLeft d s p block (now (array .entry)) (now (wanted .entry)) (now (scratch .entry)) (now (file .entry)) asked ⌝ }
+{
+    let n = load_number(
+        d,
+        s,
+        p,
+        block,
+        array.len(),
+        wanted.len(),
+        scratch.len(),
+        file,
+        asked,
+    );
+    if n == 0 {
+        fill_wanted(file, wanted);
+        return run::run(d, s, p, block, array, wanted, scratch);
+    }
+    Ran {
+        count: 0,
+        end: n,
+        address: 0,
+        state: s,
+    }
+}
