@@ -103,6 +103,10 @@ output-whole = ends.output-whole
 pub good-most : (k : ℕ) (text : List ℕ) → goodLines k text ≤ k
 good-most = scans.good-most
 
+-- No output is longer than 9998 answers and a mark: room of 79,991 bytes is never too short.
+pub output-most : (xs rs text : List ℕ) → length (outputOf xs rs text) ≤ 79991
+output-most = ends.output-most
+
 -- Two results that a promise allows are equal, and so are two slices that it leaves.
 pub is-line-unique : (xs : List ℕ) → Unique (λ (r : Bool). r ≡ isLine xs)
 is-line-unique xs = only (isLine xs)

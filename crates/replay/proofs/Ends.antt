@@ -3,7 +3,7 @@ use mathlib.Core.Path.{_≡_, refl, ap, _∙_}
 use mathlib.Core.Bool.{true, false}
 use mathlib.Core.List.{List, [], _++_}
 use mathlib.Core.Logic.{_↔_}
-use Prim.Native.Nat.{ℕ, zero, suc, _+_, _-_, _*_, _<_}
+use Prim.Native.Nat.{ℕ, zero, suc, _+_, _-_, _*_, _≤_, _<_}
 use native.Mathlib.Omega.{arith}
 use lib.Dec.{eqb}
 use lib.ListN.{length, take, drop}
@@ -20,6 +20,7 @@ use Rattle.replay.specs.Lines.{isLine, cycleIn}
 use Rattle.replay.specs.Answers.{printedOf, markOf, endOf}
 use Rattle.replay.specs.Replays.{benchT, stepOf, arrayBy, goodLines, answersOf, outputFrom, outputOf}
 use Rattle.replay.proofs.Scans.{not-line}
+use Rattle.replay.proofs.Wholes.{few, short, whole-length}
 use Rattle.replay.proofs.Turns.{output-is}
 
 pub step-refused : (s : State) (c : Cycle) (xs rs : List ℕ) (m : ℕ) → (m ≡ 0 → ⊥)
@@ -58,7 +59,7 @@ no-line (suc k) n s xs rs = rw empty-bad (quiet n)
 
 pub empty-input : (xs rs : List ℕ) → outputOf xs rs [] ≡ []
 unfolding outputOf
-empty-input xs rs = no-line 9998 1 freshState xs rs
+empty-input xs rs = no-line _ _ freshState xs rs
 
 pub output-whole : (xs rs text : List ℕ)
     → outputOf xs rs text
@@ -74,3 +75,10 @@ line-9999 xs rs text e h =
     output-whole xs rs text
     ∙ ap (λ (g : ℕ). answersOf g freshState xs rs text ++ endOf (g + 1) (length text - 20 * g)) e
     ∙ ap (λ (w : List ℕ). answersOf 9998 freshState xs rs text ++ w) (marked 9999 (length text - 199960) (λ (z : length text - 199960 ≡ 0). omega arith))
+
+-- 9998 answers of eight bytes and a mark of seven are the most
+pub output-most : (xs rs text : List ℕ) → length (outputOf xs rs text) ≤ 79991
+output-most xs rs text =
+    let g = goodLines 9998 text in
+    let el = length (endOf 0 (length text - 20 * g)) in
+    omega (arith, whole-length g el xs rs text [] refl refl, few g el xs rs text [] refl refl, short g el xs rs text [] refl refl)
