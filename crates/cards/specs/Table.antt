@@ -110,7 +110,7 @@ Card2 = (d : Device) (m a : ℕ) (xs : List ℕ) → unknownDevice d ≡ false �
     × (worldAfter d (fresh xs) (cycles2 m a) ≡ record { state = atRest Status 0x80; bytes = xs })
     × (getD (worldAfter d (fresh xs) (cycles2 m a) .bytes) a 0 ≡ 0x3C)
 
--- 3: 20H and then FFH show B0H, and nothing is erased, however many cycles follow
+-- 3: 20H and then FFH show B0H, and nothing is erased in the E cycles and one more that follow
 abbrev pub card3 : Bool
 card3 = shows (worldAfter benchB (fresh (plain 0)) (write normal 1024 0x20 ∷ write normal 1024 0xFF ∷ read normal 1024 ∷ read normal 1024 ∷ read normal 1024 ∷ read normal 1024 ∷ [])) 0xB0 (plain 0)
 
