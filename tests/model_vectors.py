@@ -832,23 +832,28 @@ def all_cases():
     return b
 
 
-def files_differ(b):
+def files_differ(crate, b):
     """The files of the program that are not what this script prints."""
-    folder = pathlib.Path(__file__).resolve().parent.parent / "crates" / "model_vectors"
+    folder = pathlib.Path(__file__).resolve().parent.parent / "crates" / crate
     wanted = {"stdin": b.rows, "stdout": b.lines}
     return [name for name, lines in wanted.items() if (folder / name).read_text() != "\n".join(lines) + "\n"]
 
 
-if __name__ == "__main__":
+def called(crate, cases, usage):
+    """What a script of vectors does when it is called: print the table, print the expected lines, or check the stored files."""
     asked = sys.argv[1:]
     if asked == ["table"]:
-        print("\n".join(all_cases().rows))
+        print("\n".join(cases().rows))
     elif asked == ["expected"]:
-        print("\n".join(all_cases().lines))
+        print("\n".join(cases().lines))
     elif asked == ["check"]:
-        differ = files_differ(all_cases())
+        differ = files_differ(crate, cases())
         if differ:
-            sys.exit("model_vectors: not what the script prints: " + ", ".join(differ))
-        print("model_vectors: stdin and stdout are what the script prints")
+            sys.exit(f"{crate}: not what the script prints: " + ", ".join(differ))
+        print(f"{crate}: stdin and stdout are what the script prints")
     else:
-        sys.exit(__doc__)
+        sys.exit(usage)
+
+
+if __name__ == "__main__":
+    called("model_vectors", all_cases, __doc__)

@@ -12,10 +12,8 @@ A line of a run (R) shows: group and number; the end; the cycles made; the end's
 are left; digests of what was lent of the array and of scratch. A line of a step shows what the loader gave: a cycle (its kind,
 RP#, VPP, address, byte), an end (E, its number and address) or a refusal (X); and a digest of scratch.
 """
-import pathlib
-import sys
 
-from model_vectors import BLOCKS, FRESH, ROOM, SIZE, Cycle, Device, State, bad_levels, cycle, digest, pattern, proper, shown
+from model_vectors import BLOCKS, FRESH, ROOM, SIZE, Cycle, Device, State, bad_levels, called, cycle, digest, pattern, proper, shown
 
 # ---------------------------------------------------------------- the loader
 
@@ -491,23 +489,5 @@ def all_cases():
     return b
 
 
-def files_differ(b):
-    """The files of the program that are not what this script prints."""
-    folder = pathlib.Path(__file__).resolve().parent.parent / "crates" / "run_vectors"
-    wanted = {"stdin": b.rows, "stdout": b.lines}
-    return [name for name, lines in wanted.items() if (folder / name).read_text() != "\n".join(lines) + "\n"]
-
-
 if __name__ == "__main__":
-    asked = sys.argv[1:]
-    if asked == ["table"]:
-        print("\n".join(all_cases().rows))
-    elif asked == ["expected"]:
-        print("\n".join(all_cases().lines))
-    elif asked == ["check"]:
-        differ = files_differ(all_cases())
-        if differ:
-            sys.exit("run_vectors: not what the script prints: " + ", ".join(differ))
-        print("run_vectors: stdin and stdout are what the script prints")
-    else:
-        sys.exit(__doc__)
+    called("run_vectors", all_cases, __doc__)
