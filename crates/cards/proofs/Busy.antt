@@ -26,8 +26,9 @@ use Rattle.model.specs.declared.Seen.{Seen}
 use Rattle.model.specs.declared.Seen.the-variants.{NoData, Byte, Refused}
 use Rattle.model.specs.Arrays.{arrayOf, seenOf, arrayAfter, answerOf}
 use Rattle.model.proofs.Keeping.{st}
-use Rattle.run.specs.History.{Bus, World, stepped, worldAfter}
-use Rattle.run.proofs.Answers.{Ready, cyc, asks-program, sends, waits, ends}
+use Rattle.run_claims.specs.History.{Bus, World, stepped, worldAfter}
+use Rattle.run_claims.specs.Made.{busCycle as cyc}
+use Rattle.run_claims.proofs.Answers.{Up, Ready, asks-program, sends, waits, ends}
 use Rattle.cards.specs.Table.{normal, write, read, fresh, seenOn, seenIn, cycles2, Card2}
 
 supplied : (d : Device) → (badPins (d .part) normal ≡ false) × (vppLow (d .part) normal ≡ false)
@@ -49,8 +50,11 @@ module _ (d : Device) (a : ℕ) (xs : List ℕ) (known : unknownDevice d ≡ fal
   abbrev world : State → World
   world s = record { state = s; bytes = xs }
 
+  up : Up d normal
+  up = record { known = known; levels = supplied d .0; up = refl }
+
   ready : Ready d normal (blockOf (d .part) a)
-  ready = record { known = known; levels = supplied d .0; up = refl; high = supplied d .1; unlocked = λ e. absurd (free e) }
+  ready = record { base = up; high = supplied d .1; unlocked = λ e. absurd (free e) }
 
   -- one cycle, from what the device decides
   step : (s t : State) (c : Cycle) (r : Reply) (e : Effect) → decideOf d s c (sizeOf (d .part)) 0 ≡ decidedAs r t e → arrayOf e (d .part) [] xs ≡ xs
@@ -73,7 +77,7 @@ module _ (d : Device) (a : ℕ) (xs : List ℕ) (known : unknownDevice d ≡ fal
   polls zero h =
       before d (world (st Status 0 (Programming 255) 1 a)) (world (atRest Status 128)) (world (atRest Status 128)) (read normal a) [] (Byte 128) []
       (step (st Status 0 (Programming 255) 1 a) (atRest Status 128) (cyc normal (read normal a .cycle .kind) a 0) (Gives 128) (Program a 255)
-      (ends d normal (blockOf (d .part) a) ready (Programming 255) a a refl h inside inside) keeps)
+      (ends d normal up (blockOf (d .part) a) ready (Programming 255) a a refl h inside inside) keeps)
       (refl, refl)
   polls (suc m) h =
       before d (world (st Status 0 (Programming 255) (suc (suc m)) a)) (world (st Status 0 (Programming 255) (suc m) a)) (world (atRest Status 128)) (read normal a)
@@ -81,18 +85,18 @@ module _ (d : Device) (a : ℕ) (xs : List ℕ) (known : unknownDevice d ≡ fal
       (step (st Status 0 (Programming 255) (suc (suc m)) a) (st Status 0 (Programming 255) (suc m) a) (cyc normal (read normal a .cycle .kind) a 0) (Gives 0) Nothing
       (subst (λ (j : ℕ). decideOf d (st Status 0 (Programming 255) j a) (cyc normal (read normal a .cycle .kind) a 0) (sizeOf (d .part)) 0
       ≡ decidedAs (Gives 0) (st Status 0 (Programming 255) (suc m) a) Nothing) (add-one (suc m))
-      (waits d normal (blockOf (d .part) a) ready (Programming 255) (suc m) a a refl (omega arith) (omega (arith, h)) inside inside)) refl)
+      (waits d normal up (blockOf (d .part) a) ready (Programming 255) (suc m) a a refl (omega arith) (omega (arith, h)) inside inside)) refl)
       (polls m (omega (arith, h)))
 
   whole : (m : ℕ) → d .program ≡ suc m → Leads d (fresh xs) (cycles2 m a) (NoData ∷ NoData ∷ (replicate {A = Seen} m (Byte 0) ++ (Byte 128 ∷ []))) (world (atRest Status 128))
   whole m e =
       before d (fresh xs) (world (st Status 128 DataAwaited 0 0)) (world (atRest Status 128)) (write normal a 0x40) (write normal a 0xFF ∷ replicate {A = Bus} (suc m) (read normal a))
       NoData (NoData ∷ (replicate {A = Seen} m (Byte 0) ++ (Byte 128 ∷ [])))
-      (step freshState (st Status 128 DataAwaited 0 0) (write normal a 0x40 .cycle) Quiet Nothing (asks-program d normal (blockOf (d .part) a) ready Array 128 a refl inside) refl)
+      (step freshState (st Status 128 DataAwaited 0 0) (write normal a 0x40 .cycle) Quiet Nothing (asks-program d normal up Array 128 a refl inside) refl)
       (before d (world (st Status 128 DataAwaited 0 0)) (world (st Status 0 (Programming 255) (suc m) a)) (world (atRest Status 128)) (write normal a 0xFF)
       (replicate {A = Bus} (suc m) (read normal a)) NoData (replicate {A = Seen} m (Byte 0) ++ (Byte 128 ∷ []))
       (step (st Status 128 DataAwaited 0 0) (st Status 0 (Programming 255) (suc m) a) (write normal a 0xFF .cycle) Quiet Nothing
-      (sends d normal (blockOf (d .part) a) ready a 255 inside refl ∙ ap (λ (j : ℕ). decidedAs Quiet (st Status 0 (Programming 255) j a) Nothing) e) refl)
+      (sends d normal up (blockOf (d .part) a) ready a 255 inside refl ∙ ap (λ (j : ℕ). decidedAs Quiet (st Status 0 (Programming 255) j a) Nothing) e) refl)
       (polls m (omega (arith, e))))
 
 pub two : Card2

@@ -5,22 +5,22 @@ use mathlib.Core.List.{List, [], _∷_}
 use Prim.Native.Nat.{ℕ, zero, suc, _+_, _*_, _<_}
 use native.Mathlib.Omega.{arith}
 use lib.ListN.{length, getD, replicate, length-replicate}
-use lib.Bits.{bitAnd, and-self}
 use lib.Dec.{eqb}
 use borrow.Author.Tests.{eq-eqb}
-use Rattle.cells.specs.Pick.{pick, or-both, unlike}
+use Rattle.cells.specs.Pick.{pick, unlike}
 use Rattle.cells.specs.Bytes.{Bytes, bytes-replicate}
 use Rattle.device.specs.Parts.{shapeOf, sizeIn, lengthIn, offsetIn, startIn, unknownPart, unknownDevice, sizeOf, lengthOf, startOf}
 use Rattle.chip.specs.Levels.{vppLow, vppHigh, badPins}
 use Rattle.chip.specs.States.{badStatus, badLeft, badAddress, improper, freshState, atRest}
 use Rattle.chip.specs.declared.Mode.the-variants.{Array}
 use Rattle.loader.specs.Front.{barredPins, noBlock, wrongLengths}
-use Rattle.loader.specs.Walks.{mustRise, rises, risesIn}
+use Rattle.loader.specs.Walks.{risesIn}
 use Rattle.run.specs.declared.Ran.{Ran}
 use Rattle.run.specs.Runs.{runNumber, ranOf}
-use Rattle.run.specs.Wear.{differing, heldIn, formula}
-use Rattle.run.proofs.Demand.{Start}
-use Rattle.run.proofs.Claims.{ends-well}
+use Rattle.run_claims.specs.Wear.{differing, heldIn, formula}
+use Rattle.run_claims.proofs.Demand.{Start}
+use Rattle.run_claims.proofs.Same.{none-risen, none-differing}
+use Rattle.run_claims.proofs.Claims.{ends-well}
 use Rattle.cards.specs.Table.{benchT, normal, same, Counts, Card10, Card11}
 
 -- nothing refuses such a run
@@ -47,39 +47,18 @@ counts n held w lw bytes f xs sc lx ls h =
 
     start : Start benchT freshState normal 1 xs w sc
     start = record {
-      taken = rw (lx, lw, ls) accepted;
+      base = record { taken = rw (lx, lw, ls) accepted; programs = omega arith; erases = omega arith; bytes = bytes };
       high = supply;
       unlocked = λ (e : _≡_ {A = ℕ} 1 0). absurd (omega arith);
-      programs = omega arith;
-      erases = omega arith;
-      bytes = bytes;
     }
 
--- a block that holds what is wanted: no bit must rise, and no byte differs
-calm : (x : ℕ) → mustRise x x ≡ false
-calm x = ap not (eq-eqb (bitAnd x x) x (and-self x))
-
-flat : (k i : ℕ) (w : List ℕ) → rises k i w w ≡ false
-flat zero i w = refl
-flat (suc k) i w = or-both (mustRise (getD w i 0) (getD w i 0)) (rises k (i + 1) w w) (calm (getD w i 0)) (flat k (i + 1) w)
-
-flat-in : (w : List ℕ) → risesIn w w ≡ false
-unfolding risesIn
-flat-in w = flat (length w) 0 w
-
-none : (k i : ℕ) (w : List ℕ) → differing k i w w ≡ 0
-none zero i w = refl
-none (suc k) i w = go (eqb (getD w i 0) (getD w i 0)) (differing k (i + 1) w w) (eq-eqb (getD w i 0) (getD w i 0) refl) (none k (i + 1) w)
-  where
-    go : (t : Bool) (n : ℕ) → t ≡ true → n ≡ 0 → pick t 0 1 + n ≡ 0
-    go t n e z = rw (e, z) refl
-
+-- a block that holds what is wanted
 level : (w : List ℕ) → length w ≡ 512 → formula benchT w w ≡ 1027
-level w e = go (risesIn w w) (flat-in w)
+level w e = go (risesIn w w) (none-risen w)
   where
     go : (t : Bool) → t ≡ false → 2 * length w + 3 + pick t 1 0 * (2 + 3) + differing (length w) 0 w (pick t (replicate (length w) 255) w) * (2 + 2) ≡ 1027
     go true q = absurd (unlike q)
-    go false q = rw (none (length w) 0 w, e) refl
+    go false q = rw (none-differing (length w) 0 w, e) refl
 
 bytes-10 : Bytes (0x5A ∷ same 511 255)
 bytes-10 zero = omega arith

@@ -19,9 +19,9 @@ use Rattle.model.specs.declared.Seen.{Seen}
 use Rattle.model.specs.declared.Seen.the-variants.{NoData, Byte, Refused}
 use Rattle.model.specs.Arrays.{answerOf}
 use Rattle.loadfile.specs.Check.{checkOf}
-use Rattle.run.specs.History.{Bus, World, stepped, worldAfter}
+use Rattle.run_claims.specs.History.{Bus, World, stepped, worldAfter}
 use Rattle.run.specs.Runs.{ranOf}
-use Rattle.run.specs.Wear.{heldIn}
+use Rattle.run_claims.specs.Wear.{heldIn}
 
 -- a part with its busy times
 abbrev pub device : ℕ → ℕ → ℕ → Device

@@ -3,8 +3,8 @@ use mathlib.Core.Path.{_≡_, refl}
 use mathlib.Core.Bool.{Bool, true, false}
 use mathlib.Core.List.{List}
 use mathlib.Core.Logic.{_↔_}
-use Prim.Native.Nat.{ℕ, _+_, _-_, _≤_, _<_}
-use lib.ListN.{length, getD}
+use Prim.Native.Nat.{ℕ, _-_, _<_}
+use lib.ListN.{length}
 use Rattle.cells.specs.Pick.{Unique, only}
 use Rattle.cells.specs.Numbers.{Foremost, NoRow}
 use Rattle.device.specs.declared.Device.{Device}
@@ -13,16 +13,6 @@ use Rattle.chip.specs.declared.State.{State}
 use Rattle.run.specs.declared.Ran.{Ran}
 use Rattle.run.specs.Turns.{Config, isEnded, after, bound}
 use Rattle.run.specs.Runs.{runRows, runNumber, begin, driven, ranOf, bytesOf, scratchOf}
-use Rattle.cells.specs.Bytes.{Bytes}
-use Rattle.device.specs.Parts.{startOf}
-use Rattle.chip.specs.declared.Mode.the-variants.{Array}
-use Rattle.chip.specs.States.{atRest}
-use Rattle.loader.specs.declared.Stage.the-variants.{Clearing}
-use Rattle.loader.specs.Front.{recordAt}
-use Rattle.run.specs.Wear.{begunIn, heldIn, formula, operationsOf}
-use Rattle.run.specs.History.{Bus, worldAfter, effectsIn, begunOver, uncut, total, eraseOf, programIn}
-use Rattle.run.proofs.Demand.{Start}
-use Rattle.run.proofs.Mission as mission
 use Rattle.run.proofs.Ending as ending
 
 -- The numbers: a run makes no cycle and ends with m exactly where m's own condition holds and that of no number before it does.
@@ -72,42 +62,6 @@ run-array-unique d s p k xs w sc = only (bytesOf d s p k xs w sc)
 
 pub run-scratch-unique : (d : Device) (s : State) (p : Pins) (k : ℕ) (xs w sc : List ℕ) → Unique (λ (left : List ℕ). left ≡ scratchOf d s p k xs w sc)
 run-scratch-unique d s p k xs w sc = only (scratchOf d s p k xs w sc)
-
--- Demand 3, from the mission's start (`Start`: nothing refused, so a proper state with nothing under way; VPP in its 12 V band;
--- RP# at unlock level for the boot block). The load ends well, and the count is 2n + 3 + e(2 + E) + p(2 + P).
-pub ends-well : (d : Device) (s : State) (p : Pins) (k : ℕ) (xs w sc : List ℕ) → Start d s p k xs w sc
-    → ranOf d s p k xs w sc ≡ record { count = formula d w (heldIn (startOf (d .part) k) (length w) xs); end = 0; address = 0; state = atRest Array 128 }
-ends-well = mission.ends-well
-
--- The block holds the wanted bytes, every other byte is as before, and scratch holds the wanted bytes.
-pub block-holds : (d : Device) (s : State) (p : Pins) (k : ℕ) (xs w sc : List ℕ) → Start d s p k xs w sc
-    → heldIn (startOf (d .part) k) (length w) (bytesOf d s p k xs w sc) ≡ w
-block-holds = mission.block-holds
-
-pub others-stay : (d : Device) (s : State) (p : Pins) (k : ℕ) (xs w sc : List ℕ) → Start d s p k xs w sc → (x : ℕ)
-    → (x < startOf (d .part) k → getD (bytesOf d s p k xs w sc) x 0 ≡ getD xs x 0)
-    × (startOf (d .part) k + length w ≤ x → getD (bytesOf d s p k xs w sc) x 0 ≡ getD xs x 0)
-others-stay = mission.others-stay
-
-pub scratch-left : (d : Device) (s : State) (p : Pins) (k : ℕ) (xs w sc : List ℕ) → Start d s p k xs w sc → scratchOf d s p k xs w sc ≡ w
-scratch-left = mission.scratch-left
-
--- It erases once if some bit must rise, otherwise never; it programs each byte that then differs once, and no other: the list of
--- the operations begun, in their order.
-pub begins-just : (d : Device) (s : State) (p : Pins) (k : ℕ) (xs w sc : List ℕ) → Start d s p k xs w sc
-    → begunIn (bound (length w)) d w (begin d s (recordAt (d .part) p k Clearing) xs sc)
-    ≡ operationsOf k (startOf (d .part) k) w (heldIn (startOf (d .part) k) (length w) xs)
-begins-just = mission.begins-just
-
--- Least wear: cycles of any kind from the same start, refused ones among them, that cut no operation and leave the block as
--- wanted, begin at least as many erases of that block and at least as many programs in it as the load.
-pub nothing-less : (d : Device) (s : State) (p : Pins) (k : ℕ) (xs w sc : List ℕ) → Start d s p k xs w sc
-    → (bs : List Bus) → Bytes xs → uncut (effectsIn d (record { state = s; bytes = xs }) bs) ≡ true
-    → heldIn (startOf (d .part) k) (length w) (worldAfter d (record { state = s; bytes = xs }) bs .bytes) ≡ w
-    → (total (eraseOf k) (begunIn (bound (length w)) d w (begin d s (recordAt (d .part) p k Clearing) xs sc)) ≤ total (eraseOf k) (begunOver d (record { state = s; bytes = xs }) bs))
-    × (total (programIn (startOf (d .part) k) (length w)) (begunIn (bound (length w)) d w (begin d s (recordAt (d .part) p k Clearing) xs sc))
-    ≤ total (programIn (startOf (d .part) k) (length w)) (begunOver d (record { state = s; bytes = xs }) bs))
-nothing-less = mission.nothing-less
 
 pub run-number-unique : (d : Device) (s : State) (p : Pins) (k array w sc : ℕ) → Unique (λ (r : ℕ). r ≡ runNumber d s p k array w sc)
 run-number-unique d s p k array w sc = only (runNumber d s p k array w sc)

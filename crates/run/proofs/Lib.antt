@@ -2,12 +2,4 @@ pub mod Measure
 pub mod Turning
 pub mod Good
 pub mod Ending
-pub mod Answers
-pub mod Reaching
-pub mod Layers
-pub mod Phases
-pub mod Demand
-pub mod Wearing
-pub mod Least
-pub mod Mission
 pub mod Claims

@@ -1,4 +1,2 @@
 pub mod Turns
 pub mod Runs
-pub mod Wear
-pub mod History

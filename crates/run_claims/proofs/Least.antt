@@ -22,10 +22,10 @@ use Rattle.chip.specs.declared.Effect.{Effect}
 use Rattle.chip.specs.declared.Effect.the-variants.{Nothing, Program, Erase, CutProgram, CutErase}
 use Rattle.model.specs.Begun.{pendingIn, pendingOf}
 use Rattle.loader.specs.Walks.{mustRise, rises, risesIn}
 use Rattle.run.specs.Runs.{underWay}
-use Rattle.run.specs.Wear.{heldIn, baseOf, erasesOf, programsIn, differing, programsOf, operationsOf}
-use Rattle.run.specs.History.{Bus, World, worldAfter, effectsIn, begunOver, uncut, total, eraseOf, programAt, programIn}
-use Rattle.run.proofs.Wearing.{lies, byteAll, bytes-after, only-loses, unprogrammed, total-more, ended-begun}
+use Rattle.run_claims.specs.Wear.{heldIn, baseOf, erasesOf, programsIn, differing, programsOf, operationsOf}
+use Rattle.run_claims.specs.History.{Bus, World, worldAfter, effectsIn, begunOver, uncut, total, eraseOf, programAt, programIn}
+use Rattle.run_claims.proofs.Wearing.{lies, byteAll, bytes-after, only-loses, unprogrammed, total-more, ended-begun}
 
 -- no bit must rise where every byte held keeps the bits wanted
 none-rises : (n i : ℕ) (w s : List ℕ) → ((j : ℕ) → i ≤ j → j < i + n → bitAnd (getD s j 0) (getD w j 0) ≡ getD w j 0) → rises n i w s ≡ false

@@ -3,7 +3,8 @@
 use mathlib.Core.Path.{_≡_, refl, sym, ap, _∙_, subst}
 use mathlib.Core.Bool.{Bool, true, false}
 use mathlib.Core.List.{List, [], _∷_}
-use Prim.Native.Nat.{ℕ, zero, suc, _+_, _-_, _≤_, _<_}
+use Prim.Native.Nat.{ℕ, zero, suc, _+_, _-_, _*_, _≤_, _<_}
+use native.Mathlib.Nat.{zero-mul, one-mul, add-mul, zero-add}
 use native.Mathlib.Omega.{arith}
 use lib.ListN.{length, getD, take, drop}
 use lib.Seq.{take-at, drop-at, length-take-le}
@@ -16,6 +17,7 @@ use Rattle.device.specs.declared.Device.{Device}
 use Rattle.device.specs.Parts.{sizeOf, startOf, lengthOf}
 use Rattle.device.proofs.Claims.{blocks-end-inside}
 use Rattle.chip.specs.declared.Pins.{Pins}
+use Rattle.chip.specs.declared.Cycle.{Cycle}
 use Rattle.chip.specs.declared.Mode.the-variants.{Array}
 use Rattle.chip.specs.declared.State.{State}
 use Rattle.chip.specs.declared.Effect.{Effect}
@@ -24,14 +26,15 @@ use Rattle.chip.specs.States.{atRest}
 use Rattle.loader.specs.declared.Stage.the-variants.{Clearing}
 use Rattle.loader.specs.Front.{recordAt, endAddress}
 use Rattle.loader.specs.Walks.{risesIn}
 use Rattle.run.specs.declared.Ran.{Ran}
 use Rattle.run.specs.Turns.{Config, bound}
 use Rattle.run.specs.Runs.{runNumber, begin, ranBy, leftBy, ranOf, bytesOf, scratchOf}
-use Rattle.run.specs.Wear.{begunIn, heldIn, baseOf, erasesOf, programsIn, programsOf, differing, formula, operationsOf}
-use Rattle.run.specs.History.{Bus, World, worldAfter, effectsIn, begunOver, uncut, total, eraseOf, programIn}
+use Rattle.run_claims.specs.Wear.{begunIn, heldIn, baseOf, erasesOf, programsIn, programsOf, differing, formula, operationsOf}
+use Rattle.run_claims.specs.History.{Bus, World, worldAfter, effectsIn, begunOver, uncut, total, eraseOf, programIn}
 use Rattle.run.proofs.Good.{good}
-use Rattle.run.proofs.Demand.{Start, left-at-goal, begun-all}
-use Rattle.run.proofs.Least.{least}
+use Rattle.run_claims.specs.Made.{madeIn, smoothIn, cyclesOf, readsThen, pollsThen, openingThen, eraseThen, programThen, programsThen, closingOf, programmingOf}
+use Rattle.run_claims.proofs.Demand.{Start, Left, goal, not-low, good-load, ran-left, bytes-left, scratch-left}
+use Rattle.run_claims.proofs.Least.{least}
 
 -- the programs of a load are counted, all in the block, and none of them is an erase
 programs-counted : (j i a n b : ℕ) (w s : List ℕ) → a ≤ b + i → b + i + j ≤ a + n → total (programIn a n) (programsOf j b i w s) ≡ differing j i w s
@@ -70,6 +73,32 @@ operations-program k a w ys = go (risesIn w ys) (programs-counted (length w) 0 a
     go true e = no-program (length w) a k (programsOf (length w) a 0 w (baseOf w ys)) ∙ e
     go false e = e
 
+-- the length of the list of cycles is the formula
+reads-long : (p : Pins) (n a i : ℕ) (cs : List Cycle) → length (readsThen p n a i cs) ≡ n + length cs
+reads-long p zero a i cs = omega arith
+reads-long p (suc n) a i cs = let e = reads-long p n a (i + 1) cs in omega arith
+
+polls-long : (p : Pins) (n x : ℕ) (cs : List Cycle) → length (pollsThen p n x cs) ≡ n + length cs
+polls-long p zero x cs = omega arith
+polls-long p (suc n) x cs = let e = polls-long p n x cs in omega arith
+
+programs-long : (d : Device) (p : Pins) (k a i : ℕ) (w s : List ℕ) (cs : List Cycle) → length (programsThen d p k a i w s cs) ≡ differing k i w s * (2 + d .program) + length cs
+programs-long d p zero a i w s cs = rw (zero-mul (2 + d .program)) (omega arith)
+programs-long d p (suc k) a i w s cs = go (eqb (getD s i 0) (getD w i 0)) (programs-long d p k a (i + 1) w s cs)
+  where
+    go : (t : Bool) → length (programsThen d p k a (i + 1) w s cs) ≡ differing k (i + 1) w s * (2 + d .program) + length cs
+        → length (pick t (programsThen d p k a (i + 1) w s cs) (programThen d p (a + i) (getD w i 0) (programsThen d p k a (i + 1) w s cs))) ≡ (pick t 0 1 + differing k (i + 1) w s) * (2 + d .program) + length cs
+    go true e = rw (zero-add (differing k (i + 1) w s)) e
+    go false e = rw (add-mul 1 (differing k (i + 1) w s) (2 + d .program), one-mul (2 + d .program)) (let f = polls-long p (d .program) (a + i) (programsThen d p k a (i + 1) w s cs) in omega arith)
+
+pub cycles-long : (d : Device) (p : Pins) (a : ℕ) (w ys : List ℕ) → length (cyclesOf d p a w ys) ≡ formula d w ys
+cycles-long d p a w ys = go (risesIn w ys) (programs-long d p (length w) a 0 w (baseOf w ys) (closingOf p a (length w))) (reads-long p (length w) a 0 [])
+  where
+    go : (t : Bool) → length (programmingOf d p a w ys) ≡ programsIn w ys * (2 + d .program) + length (closingOf p a (length w)) → length (readsThen p (length w) a 0 []) ≡ length w + 0
+        → length (openingThen p a (length w) (pick t (eraseThen d p a (programmingOf d p a w ys)) (programmingOf d p a w ys))) ≡ 2 * length w + 3 + pick t 1 0 * (2 + d .erase) + programsIn w ys * (2 + d .program)
+    go true e c = rw (one-mul (2 + d .erase)) (let r = reads-long p (length w) a 0 (eraseThen d p a (programmingOf d p a w ys)) in let f = polls-long p (d .erase) a (programmingOf d p a w ys) in omega arith)
+    go false e c = rw (zero-mul (2 + d .erase)) (let r = reads-long p (length w) a 0 (programmingOf d p a w ys) in omega arith)
+
 module _ (d : Device) (s : State) (p : Pins) (k : ℕ) (xs w sc : List ℕ) (start : Start d s p k xs w sc) where
   abbrev a : ℕ
   a = startOf (d .part) k
@@ -77,25 +106,24 @@ module _ (d : Device) (s : State) (p : Pins) (k : ℕ) (xs w sc : List ℕ) (sta
   abbrev ys : List ℕ
   ys = heldIn (startOf (d .part) k) (length w) xs
 
-  go-on : eqb (runNumber d s p k (length xs) (length w) (length sc)) 0 ≡ true
-  go-on = eq-eqb (runNumber d s p k (length xs) (length w) (length sc)) 0 (start .taken)
+  -- how the load is left
+  loaded : Left d s p k xs w sc (goal d s p k xs w sc (start .base)) (operationsOf k a w ys) (cyclesOf d p a w ys)
+  loaded = good-load d s p k xs w sc (start .base) (not-low d p (start .high)) (start .unlocked)
 
   -- a load ends well, with the count of the formula, in mode read array with status 80H
   pub ends-well : ranOf d s p k xs w sc ≡ record { count = formula d w ys; end = 0; address = 0; state = atRest Array 128 }
-  unfolding ranOf endAddress
-  ends-well = pick-true (eqb (runNumber d s p k (length xs) (length w) (length sc)) 0) _ _ go-on ∙ ap ranBy (left-at-goal d s p k xs w sc start)
+  unfolding endAddress
+  ends-well = ran-left d s p k xs w sc (start .base) _ _ _ loaded
 
   -- the array is as before with the wanted bytes over the block, and scratch holds them too
   pub array-left : bytesOf d s p k xs w sc ≡ overlaid xs a w
-  unfolding bytesOf
-  array-left = pick-true (eqb (runNumber d s p k (length xs) (length w) (length sc)) 0) _ _ go-on ∙ ap (λ (c : Config). c .bytes) (left-at-goal d s p k xs w sc start)
+  array-left = bytes-left d s p k xs w sc (start .base) _ _ _ loaded
 
-  pub scratch-left : scratchOf d s p k xs w sc ≡ w
-  unfolding scratchOf
-  scratch-left = pick-true (eqb (runNumber d s p k (length xs) (length w) (length sc)) 0) _ _ go-on ∙ ap (λ (c : Config). c .scratch) (left-at-goal d s p k xs w sc start)
+  pub scratch-wanted : scratchOf d s p k xs w sc ≡ w
+  scratch-wanted = scratch-left d s p k xs w sc (start .base) _ _ _ loaded
 
   inside : a + length w ≤ length xs
-  inside = let g = good d s p k (length xs) (length w) (length sc) (start .taken) in omega (arith, blocks-end-inside (d .part) k, g .sized, g .wanted)
+  inside = let g = good d s p k (length xs) (length w) (length sc) (start .base .taken) in omega (arith, blocks-end-inside (d .part) k, g .sized, g .wanted)
 
   -- the block holds the wanted bytes
   pub block-holds : heldIn a (length w) (bytesOf d s p k xs w sc) ≡ w
@@ -116,7 +144,14 @@ module _ (d : Device) (s : State) (p : Pins) (k : ℕ) (xs w sc : List ℕ) (sta
 
   -- it erases once if some bit must rise, otherwise never; it programs each byte that then differs once and no other
   pub begins-just : load ≡ operationsOf k a w ys
-  begins-just = begun-all d s p k xs w sc start
+  begins-just = loaded .begun
+
+  -- the cycles that it makes, one after the other; the model refuses none of them, and none cuts an operation
+  pub cycles-are : madeIn (bound (length w)) d w (begin d s (recordAt (d .part) p k Clearing) xs sc) ≡ cyclesOf d p a w ys
+  cycles-are = loaded .made
+
+  pub none-refused : smoothIn (bound (length w)) d w (begin d s (recordAt (d .part) p k Clearing) xs sc) ≡ true
+  none-refused = loaded .smooth
 
   -- no uncut cycles from the same start to the same block contents begin fewer erases of the block or fewer programs in it
   pub nothing-less : (bs : List Bus) → Bytes xs → uncut (effectsIn d (record { state = s; bytes = xs }) bs) ≡ true
@@ -124,7 +159,7 @@ module _ (d : Device) (s : State) (p : Pins) (k : ℕ) (xs w sc : List ℕ) (sta
       → (total (eraseOf k) load ≤ total (eraseOf k) (begunOver d (record { state = s; bytes = xs }) bs))
       × (total (programIn a (length w)) load ≤ total (programIn a (length w)) (begunOver d (record { state = s; bytes = xs }) bs))
   nothing-less bs bx u h =
-      let g = good d s p k (length xs) (length w) (length sc) (start .taken) in
+      let g = good d s p k (length xs) (length w) (length sc) (start .base .taken) in
       let m = least d k (record { state = s; bytes = xs }) w bs (g .sized) (g .wanted) bx (g .free) u h in
       let e = ap (λ (es : List Effect). total (eraseOf k) es) begins-just ∙ operations-erase k a w ys in
       let q = ap (λ (es : List Effect). total (programIn a (length w)) es) begins-just ∙ operations-program k a w ys in

@@ -1,0 +1,294 @@
+-- From a run that nothing refuses to its end: what the phases reach is what the run returns and leaves. Assumes nothing.
+use mathlib.Core.Path.{_≡_, refl, sym, ap, _∙_, subst}
+use mathlib.Core.Bool.{Bool, true, false, not, _&&_, _||_}
+use mathlib.Core.List.{List, [], _∷_}
+use Prim.Native.Nat.{ℕ, zero, suc, _+_, _-_, _*_, _≤_, _<_}
+use native.Mathlib.Nat.{zero-mul, one-mul}
+use native.Mathlib.Omega.{arith}
+use lib.ListN.{length, getD, take, drop, length-take, length-drop}
+use lib.Seq.{length-take-le}
+use lib.Dec.{eqb, leb}
+use borrow.Author.Tests.{eq-eqb, eqb-true, eqb-false, not-false, lt-leb, leb-true}
+use Rattle.cells.specs.Pick.{pick, pick-true, pick-false, or-left, or-right, and-left, unlike}
+use Rattle.cells.specs.Lists.{overlaid}
+use Rattle.cells.specs.Bytes.{Bytes}
+use Rattle.device.specs.declared.Device.{Device}
+use Rattle.device.specs.Parts.{sizeOf, lengthOf, startOf}
+use Rattle.device.proofs.Claims.{blocks-end-inside}
+use Rattle.chip.specs.declared.Pins.{Pins}
+use Rattle.chip.specs.declared.Phase.{Phase}
+use Rattle.chip.specs.declared.Phase.the-variants.{Free, EraseAwaited, DataAwaited, Programming, Erasing, Suspended}
+use Rattle.chip.specs.declared.Mode.{Mode}
+use Rattle.chip.specs.declared.Mode.the-variants.{Array, Status}
+use Rattle.chip.specs.declared.State.{State}
+use Rattle.chip.specs.declared.Effect.{Effect}
+use Rattle.chip.specs.declared.Effect.the-variants.{Nothing}
+use Rattle.chip.specs.Levels.{rpLow, vppLow, vppHigh, badPins}
+use Rattle.chip.specs.States.{atRest, badLeft, badAddress, badStatus}
+use Rattle.chip.proofs.Facts.{Proper}
+use Rattle.model.proofs.Status.{fits, status-fits}
+use Rattle.model.proofs.Keeping.{times}
+use Rattle.loader.specs.declared.Stage.the-variants.{Clearing, Ended}
+use Rattle.loader.specs.declared.Loader.{Loader}
+use Rattle.loader.specs.Front.{barredPins, noBlock, recordAt}
+use Rattle.loader.specs.Walks.{risesIn, diffFrom}
+use Rattle.loader.specs.Moves.{cycleOf, isReady, eraseFault, programFault}
+use Rattle.loader.specs.declared.Stage.{Stage}
+use Rattle.chip.specs.declared.Cycle.{Cycle}
+use lib.Bits.{bitOr}
+use Rattle.run.specs.Turns.{Config, isEnded, moved, turnOf, after, bound, answerTo}
+use Rattle.run.specs.Runs.{underWay, runNumber, begin, driven, leftBy, ranBy, ranOf, bytesOf, scratchOf}
+use Rattle.run.specs.declared.Ran.{Ran}
+use Rattle.run_claims.specs.Wear.{noted, begunTurn, begunIn, heldIn, baseOf, erasesOf, programsIn, differing, formula, operationsOf}
+use Rattle.run_claims.specs.Made.{madeIn, smoothTurn, smoothIn, openingThen, closingOf, cyclesOf}
+use Rattle.run_claims.specs.Ends.{asWanted, eraseTried, programTried, faultCycles}
+use Rattle.run.proofs.Ending.{always-ends}
+use Rattle.run.proofs.Turning.{conf, turn-ended, turn-going, ended-stays}
+use Rattle.run.proofs.Good.{Good, good}
+use Rattle.run_claims.proofs.Answers.{Up, Ready, Stuck}
+use Rattle.run_claims.proofs.Reaching.{Reach}
+use Rattle.run_claims.proofs.Layers.{over-self}
+use Rattle.run_claims.proofs.Phases as phases
+use Rattle.run_claims.proofs.Faults as faults
+use Rattle.run_claims.proofs.Same.{same-list, none-risen, none-differing, none-programmed}
+
+-- two ends of one load are the same, and so is what was begun on the way to them
+pub same-end : (i j : ℕ) (d : Device) (w : List ℕ) (c : Config) → isEnded (after i d w c .loader .stage) ≡ true → isEnded (after j d w c .loader .stage) ≡ true → after i d w c ≡ after j d w c
+same-end zero j d w c a b = sym (ended-stays j d w c a)
+same-end (suc i) zero d w c a b = ended-stays (suc i) d w c b
+same-end (suc i) (suc j) d w c a b = same-end i j d w (turnOf d w c) a b
+
+begun-ended : (j : ℕ) (d : Device) (w : List ℕ) (c : Config) → isEnded (c .loader .stage) ≡ true → begunIn j d w c ≡ []
+unfolding begunTurn
+begun-ended zero d w c e = refl
+begun-ended (suc j) d w c e = rw (pick-true (isEnded (c .loader .stage)) Nothing _ e, turn-ended d w c e) (begun-ended j d w c e)
+
+pub same-begun : (i j : ℕ) (d : Device) (w : List ℕ) (c : Config) → isEnded (after i d w c .loader .stage) ≡ true → isEnded (after j d w c .loader .stage) ≡ true → begunIn i d w c ≡ begunIn j d w c
+same-begun zero j d w c a b = sym (begun-ended j d w c a)
+same-begun (suc i) zero d w c a b = begun-ended (suc i) d w c b
+same-begun (suc i) (suc j) d w c a b = ap (λ (es : List Effect). noted (begunTurn d w c) es) (same-begun i j d w (turnOf d w c) a b)
+
+-- .. and so are the cycles made, and whether any was refused or cut something
+made-ended : (j : ℕ) (d : Device) (w : List ℕ) (c : Config) → isEnded (c .loader .stage) ≡ true → madeIn j d w c ≡ []
+made-ended zero d w c e = refl
+made-ended (suc j) d w c e = rw (e, turn-ended d w c e) (made-ended j d w c e)
+
+same-made : (i j : ℕ) (d : Device) (w : List ℕ) (c : Config) → isEnded (after i d w c .loader .stage) ≡ true → isEnded (after j d w c .loader .stage) ≡ true → madeIn i d w c ≡ madeIn j d w c
+same-made zero j d w c a b = sym (made-ended j d w c a)
+same-made (suc i) zero d w c a b = made-ended (suc i) d w c b
+same-made (suc i) (suc j) d w c a b = ap (λ (cs : List Cycle). pick (isEnded (c .loader .stage)) cs (cycleOf (c .loader) w ∷ cs)) (same-made i j d w (turnOf d w c) a b)
+
+smooth-ended : (j : ℕ) (d : Device) (w : List ℕ) (c : Config) → isEnded (c .loader .stage) ≡ true → smoothIn j d w c ≡ true
+unfolding smoothTurn
+smooth-ended zero d w c e = refl
+smooth-ended (suc j) d w c e = rw (pick-true (isEnded (c .loader .stage)) true _ e, turn-ended d w c e) (smooth-ended j d w c e)
+
+same-smooth : (i j : ℕ) (d : Device) (w : List ℕ) (c : Config) → isEnded (after i d w c .loader .stage) ≡ true → isEnded (after j d w c .loader .stage) ≡ true → smoothIn i d w c ≡ smoothIn j d w c
+same-smooth zero j d w c a b = sym (smooth-ended j d w c a)
+same-smooth (suc i) zero d w c a b = smooth-ended (suc i) d w c b
+same-smooth (suc i) (suc j) d w c a b = ap (λ (x : Bool). smoothTurn d w c && x) (same-smooth i j d w (turnOf d w c) a b)
+
+none-left : (d : Device) (n : ℕ) → badLeft d Free n ≡ false → n ≡ 0
+unfolding badLeft
+none-left d n h = eqb-true n 0 (not-false (eqb n 0) h)
+
+none-at : (d : Device) (n : ℕ) → badAddress d Free n ≡ false → n ≡ 0
+unfolding badAddress
+none-at d n h = eqb-true n 0 (not-false (eqb n 0) h)
+
+-- a proper state that is not under way is at rest, and ready
+resting : (d : Device) (s : State) → Proper d s → underWay (s .phase) ≡ false → (s ≡ atRest (s .mode) (s .status)) × (fits 2 (s .status) ≡ true)
+resting d s q u =
+    let e : s .phase ≡ Free = free (s .phase) u in
+    let l : s .left ≡ 0 = none-left d (s .left) (subst (λ (x : Phase). badLeft d x (s .left) ≡ false) e (q .left)) in
+    let r : s .address ≡ 0 = none-at d (s .address) (subst (λ (x : Phase). badAddress d x (s .address) ≡ false) e (q .address)) in
+    ((λ i. record { mode = s .mode; status = s .status; phase = e i; left = l i; address = r i }), status-fits Free (s .status) (subst (λ (x : Phase). badStatus x (s .status) ≡ false) e (q .status)))
+  where
+    free : (ph : Phase) → underWay ph ≡ false → ph ≡ Free
+    free Free e = refl
+    free EraseAwaited e = absurd (unlike e)
+    free DataAwaited e = absurd (unlike e)
+    free (Programming b) e = absurd (unlike e)
+    free Erasing e = absurd (unlike e)
+    free Suspended e = absurd (unlike e)
+
+-- a run that nothing refuses, with busy times up to 65,535 and wanted bytes
+pub record Taken (d : Device) (s : State) (p : Pins) (k : ℕ) (xs w sc : List ℕ) : Type 0 where
+  pub taken : runNumber d s p k (length xs) (length w) (length sc) ≡ 0
+  pub programs : d .program ≤ 65535
+  pub erases : d .erase ≤ 65535
+  pub bytes : Bytes w
+
+-- the mission's start: such a run with VPP in its 12 V band, and RP# at unlock level for the boot block
+pub record Start (d : Device) (s : State) (p : Pins) (k : ℕ) (xs w sc : List ℕ) : Type 0 where
+  pub base : Taken d s p k xs w sc
+  pub high : vppHigh (d .part) p ≡ true
+  pub unlocked : k ≡ 0 → p .rp ≡ 2
+
+-- VPP in the high band is not in the low one
+pub not-low : (d : Device) (p : Pins) → vppHigh (d .part) p ≡ true → vppLow (d .part) p ≡ false
+unfolding vppHigh vppLow
+not-low d p e = lt-leb (p .vpp) 6500 (let z = leb-true 11400 (p .vpp) (and-left (leb 11400 (p .vpp)) (leb (p .vpp) 12600) e) in omega arith)
+
+levels-of : (d : Device) (p : Pins) → barredPins (d .part) p ≡ false → (badPins (d .part) p ≡ false) × (rpLow p ≡ false)
+unfolding barredPins
+levels-of d p e = (or-left (badPins (d .part) p) (rpLow p) e, or-right (badPins (d .part) p) (rpLow p) e)
+
+some-bytes : (d : Device) (k : ℕ) → noBlock (d .part) k ≡ false → lengthOf (d .part) k ≡ 0 → ⊥
+unfolding noBlock
+some-bytes d k e = eqb-false (lengthOf (d .part) k) 0 e
+
+over : (n : ℕ) → (n ≡ 0 → ⊥) → 0 < n
+over zero z = absurd (z refl)
+over (suc n) z = omega arith
+
+-- where a run is left, what it began and made, and that no cycle of it was refused or cut anything
+pub record Left (d : Device) (s : State) (p : Pins) (k : ℕ) (xs w sc : List ℕ) (e : Config) (es : List Effect) (cs : List Cycle) : Type 0 where
+  pub end : leftBy d s p k xs w sc ≡ e
+  pub begun : begunIn (bound (length w)) d w (begin d s (recordAt (d .part) p k Clearing) xs sc) ≡ es
+  pub made : madeIn (bound (length w)) d w (begin d s (recordAt (d .part) p k Clearing) xs sc) ≡ cs
+  pub smooth : smoothIn (bound (length w)) d w (begin d s (recordAt (d .part) p k Clearing) xs sc) ≡ true
+
+module _ (d : Device) (s : State) (p : Pins) (k : ℕ) (xs w sc : List ℕ) (t : Taken d s p k xs w sc) where
+  g : Good d s p k (length xs) (length w) (length sc)
+  g = good d s p k (length xs) (length w) (length sc) (t .taken)
+
+  u : Up d p
+  u = record { known = g .known; levels = levels-of d p (g .levels) .0; up = levels-of d p (g .levels) .1 }
+
+  some : 0 < length w
+  some = over (length w) (λ q. some-bytes d k (g .block) (sym (g .wanted) ∙ q))
+
+  abbrev pub a : ℕ
+  a = startOf (d .part) k
+
+  abbrev pub ys : List ℕ
+  ys = heldIn (startOf (d .part) k) (length w) xs
+
+  pub fitting : a + length w ≤ length xs
+  fitting = omega (arith, blocks-end-inside (d .part) k, g .sized, g .wanted)
+
+  pub ly : length ys ≡ length w
+  ly = length-take-le (length w) (drop a xs) (let q = length-drop a xs in let h = fitting in omega arith)
+
+  abbrev rec : Stage → ℕ → Loader
+  rec stage place = record { part = d .part; pins = p; block = k; stage = stage; place = place; polls = 0 }
+
+  abbrev started : Config
+  started = begin d s (recordAt (d .part) p k Clearing) xs sc
+
+  -- where a good load comes to, and one that a fault ends
+  abbrev pub goal : Config
+  goal = conf (rec (Ended 0) (length w - 1)) (atRest Array 128) (overlaid xs a w) w (formula d w ys)
+
+  abbrev pub broken : ℕ → ℕ → ℕ → Config
+  broken n x i = conf (rec (Ended n) i) (atRest Status x) xs ys (length w + 5)
+
+  -- what some turns reach that have ended is what the run comes to
+  comes : (e : Config) (es : List Effect) (cs : List Cycle) → isEnded (e .loader .stage) ≡ true → Reach d w started e es cs → Left d s p k xs w sc e es cs
+  unfolding leftBy driven
+  comes e es cs z r =
+      let bounded : isEnded (after (bound (length w)) d w started .loader .stage) ≡ true = always-ends d w started in
+      let there : isEnded (after (r .turns) d w started .loader .stage) ≡ true = ap (λ (c : Config). isEnded (c .loader .stage)) (r .there) ∙ z in
+      record {
+        end = same-end (bound (length w)) (r .turns) d w started bounded there ∙ r .there;
+        begun = same-begun (bound (length w)) (r .turns) d w started bounded there ∙ r .begun;
+        made = same-made (bound (length w)) (r .turns) d w started bounded there ∙ r .made;
+        smooth = same-smooth (bound (length w)) (r .turns) d w started bounded there ∙ r .smooth;
+      }
+
+  -- a load from a device at rest, over the block as it is held, is the load from the start
+  from-rest : (e : Config) (es : List Effect) (cs : List Cycle) → Reach d w (conf (rec Clearing 0) (atRest (s .mode) (s .status)) (overlaid xs a ys) sc 0) e es cs → Reach d w started e es cs
+  from-rest e es cs r =
+      subst (λ (x : State). Reach d w (begin d x (recordAt (d .part) p k Clearing) xs sc) e es cs) (sym (resting d s (g .proper) (g .free) .0))
+      (subst (λ (z : List ℕ). Reach d w (begin d (atRest (s .mode) (s .status)) (recordAt (d .part) p k Clearing) z sc) e es cs) (over-self xs a (length w) fitting) r)
+
+  -- 50H, FFH and the first reads come first, whatever follows
+  opened : (e : Config) (es : List Effect) (cs : List Cycle) → Reach d w (faults.judged d p k u w (g .wanted) some xs (g .sized) ys ly (2 + length w)) e es cs
+      → Reach d w started e es (openingThen p a (length w) cs)
+  opened e es cs r =
+      from-rest e es (openingThen p a (length w) cs)
+      (phases.opening d p k u w (g .wanted) some xs (g .sized) ys sc ly (g .scratch ∙ sym (g .wanted)) (s .mode) (s .status) (resting d s (g .proper) (g .free) .1) e es cs r)
+
+  -- the load where its operations can start
+  module _ (high : vppLow (d .part) p ≡ false) (unlocked : k ≡ 0 → p .rp ≡ 2) where
+    ready : Ready d p k
+    ready = record { base = u; high = high; unlocked = unlocked }
+
+    counts : formula d w ys ≡ 2 * length w + 3 + (pick (risesIn w ys) (2 + d .erase) 0 + phases.costs d p k u w (g .wanted) some xs (g .sized) (length w) 0 (baseOf w ys))
+    counts = rw (phases.costs-are d p k u w (g .wanted) some xs (g .sized) (length w) 0 (baseOf w ys)) (go (risesIn w ys))
+      where
+        go : (x : Bool) → 2 * length w + 3 + pick x 1 0 * (2 + d .erase) + programsIn w ys * (2 + d .program)
+            ≡ 2 * length w + 3 + (pick x (2 + d .erase) 0 + programsIn w ys * (2 + d .program))
+        go true = rw (one-mul (2 + d .erase)) (omega arith)
+        go false = rw (zero-mul (2 + d .erase)) (omega arith)
+
+    pub good-load : Left d s p k xs w sc goal (operationsOf k a w ys) (cyclesOf d p a w ys)
+    good-load =
+        comes goal (operationsOf k a w ys) (cyclesOf d p a w ys) refl
+        (from-rest goal (operationsOf k a w ys) (cyclesOf d p a w ys)
+        (phases.loading d p k u w (g .wanted) some xs (g .sized) ys sc ly (g .scratch ∙ sym (g .wanted)) ready (s .mode) (s .status) (formula d w ys) (resting d s (g .proper) (g .free) .1) (t .bytes)
+        (over (d .program) (times d (g .known) .0)) (t .programs) (over (d .erase) (times d (g .known) .1)) (t .erases) counts))
+
+  -- the load of a block that holds what is wanted
+  pub same-load : asWanted w ys ≡ true → Left d s p k xs w sc goal [] (cyclesOf d p a w ys)
+  same-load e =
+      comes goal [] (cyclesOf d p a w ys) refl
+      (subst (λ (cs : List Cycle). Reach d w started goal [] cs) (sym listed)
+      (opened goal [] (closingOf p a (length w)) (faults.nothing-done d p k u w (g .wanted) some xs (g .sized) ys ly (2 + length w) (formula d w ys) e counted)))
+    where
+      held : ys ≡ w
+      held = same-list w ys ly e
+
+      rises-not : risesIn w ys ≡ false
+      rises-not = ap (λ (z : List ℕ). risesIn w z) held ∙ none-risen w
+
+      listed : cyclesOf d p a w ys ≡ openingThen p a (length w) (closingOf p a (length w))
+      listed = rw (rises-not, held) (ap (λ (cs : List Cycle). openingThen p a (length w) cs) (none-programmed d p (length w) a 0 w (closingOf p a (length w))))
+
+      counted : formula d w ys ≡ 2 + length w + (1 + length w)
+      counted = rw (rises-not, held, none-differing (length w) 0 w) (omega arith)
+
+  -- the load whose first operation cannot start: the array is as before
+  stopped : (n x i : ℕ) (cs : List Cycle)
+      → Reach d w (faults.judged d p k u w (g .wanted) some xs (g .sized) ys ly (2 + length w)) (conf (rec (Ended n) i) (atRest Status x) (overlaid xs a ys) ys (2 + length w + 3)) [] cs
+      → (all : List Cycle) → all ≡ openingThen p a (length w) cs → Left d s p k xs w sc (broken n x i) [] all
+  stopped n x i cs r all q =
+      comes (broken n x i) [] all refl
+      (subst (λ (z : List Cycle). Reach d w started (broken n x i) [] z) (sym q)
+      (subst (λ (c : Config). Reach d w started c [] (openingThen p a (length w) cs)) back (opened _ [] cs r)))
+    where
+      back : conf (rec (Ended n) i) (atRest Status x) (overlaid xs a ys) ys (2 + length w + 3) ≡ broken n x i
+      back = λ j. conf (rec (Ended n) i) (atRest Status x) (over-self xs a (length w) fitting j) ys ((let z : 2 + length w + 3 ≡ length w + 5 = omega arith in z) j)
+
+  -- .. an erase
+  pub erase-load : (low x n : ℕ) → Stuck d p k low → bitOr (bitOr 128 low) 32 ≡ x → fits 2 x ≡ true → isReady x ≡ true → eraseFault x ≡ n → eqb n 0 ≡ false → risesIn w ys ≡ true
+      → Left d s p k xs w sc (broken n x 0) [] (faultCycles p a w ys)
+  erase-load low x n stuck q f ready e z y =
+      stopped n x 0 (eraseTried p a) (faults.erase-fails d p k u w (g .wanted) some xs (g .sized) ys ly low x n (2 + length w) stuck q f ready e z y)
+      (faultCycles p a w ys) (ap (λ (cs : List Cycle). openingThen p a (length w) cs) (pick-true (risesIn w ys) _ _ y))
+
+  -- .. a program
+  pub program-load : (low x n : ℕ) → Stuck d p k low → bitOr (bitOr 128 low) 16 ≡ x → fits 2 x ≡ true → isReady x ≡ true → programFault x ≡ n → eqb n 0 ≡ false → risesIn w ys ≡ false
+      → asWanted w ys ≡ false → Left d s p k xs w sc (broken n x (diffFrom 0 w ys)) [] (faultCycles p a w ys)
+  program-load low x n stuck q f ready e z y o =
+      stopped n x (diffFrom 0 w ys) (programTried p (a + diffFrom 0 w ys) (getD w (diffFrom 0 w ys) 0))
+      (faults.program-fails d p k u w (g .wanted) some xs (g .sized) ys ly low x n (2 + length w) stuck q f ready e z y o)
+      (faultCycles p a w ys) (ap (λ (cs : List Cycle). openingThen p a (length w) cs) (pick-false (risesIn w ys) _ _ y))
+
+  -- what a run returns and leaves, where it is known how it is left
+  go-on : eqb (runNumber d s p k (length xs) (length w) (length sc)) 0 ≡ true
+  go-on = eq-eqb (runNumber d s p k (length xs) (length w) (length sc)) 0 (t .taken)
+
+  module _ (e : Config) (es : List Effect) (cs : List Cycle) (left : Left d s p k xs w sc e es cs) where
+    pub ran-left : ranOf d s p k xs w sc ≡ ranBy e
+    unfolding ranOf
+    ran-left = pick-true (eqb (runNumber d s p k (length xs) (length w) (length sc)) 0) _ _ go-on ∙ ap ranBy (left .end)
+
+    pub bytes-left : bytesOf d s p k xs w sc ≡ e .bytes
+    unfolding bytesOf
+    bytes-left = pick-true (eqb (runNumber d s p k (length xs) (length w) (length sc)) 0) _ _ go-on ∙ ap (λ (c : Config). c .bytes) (left .end)
+
+    pub scratch-left : scratchOf d s p k xs w sc ≡ e .scratch
+    unfolding scratchOf
+    scratch-left = pick-true (eqb (runNumber d s p k (length xs) (length w) (length sc)) 0) _ _ go-on ∙ ap (λ (c : Config). c .scratch) (left .end)

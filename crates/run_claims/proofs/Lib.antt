@@ -1,0 +1,12 @@
+pub mod Answers
+pub mod Reaching
+pub mod Layers
+pub mod Phases
+pub mod Same
+pub mod Faults
+pub mod Demand
+pub mod Wearing
+pub mod Least
+pub mod Mission
+pub mod Total
+pub mod Claims

@@ -1,0 +1,67 @@
+-- How a run that nothing refuses ends, for every supply and level that is let in. Assumes nothing.
+use mathlib.Core.Bool.{Bool, true, false, not, _&&_}
+use mathlib.Core.List.{List, [], _∷_}
+use Prim.Native.Nat.{ℕ, _+_}
+use lib.ListN.{length, getD}
+use lib.Dec.{eqb}
+use Rattle.cells.specs.Pick.{pick}
+use Rattle.cells.specs.Lists.{overlaid}
+use Rattle.device.specs.declared.Device.{Device}
+use Rattle.chip.specs.declared.Pins.{Pins}
+use Rattle.chip.specs.declared.Kind.the-variants.{Read, Write}
+use Rattle.chip.specs.declared.Cycle.{Cycle}
+use Rattle.chip.specs.declared.Mode.the-variants.{Array, Status}
+use Rattle.chip.specs.declared.State.{State}
+use Rattle.chip.specs.Levels.{vppLow}
+use Rattle.chip.specs.States.{atRest}
+use Rattle.loader.specs.Walks.{risesIn, diffFrom}
+use Rattle.run.specs.declared.Ran.{Ran}
+use Rattle.run_claims.specs.Wear.{differing, formula}
+use Rattle.run_claims.specs.Made.{busCycle, openingThen, cyclesOf}
+
+-- the block holds what is wanted: nothing to erase or program
+unfoldable pub asWanted : List ℕ → List ℕ → Bool
+asWanted w ys = eqb (differing (length w) 0 w ys) 0
+
+-- the boot block, and RP# not at unlock level
+unfoldable pub shut : Pins → ℕ → Bool
+shut p k = eqb k 0 && not (eqb (p .rp) 2)
+
+-- the end's number: well with nothing to do; else 21 with VPP low; else 23 or 24 where the block is shut; else well
+unfoldable pub endNumber : Device → Pins → ℕ → List ℕ → List ℕ → ℕ
+endNumber d p k w ys = pick (asWanted w ys) 0 (pick (vppLow (d .part) p) 21 (pick (shut p k) (pick (risesIn w ys) 23 24) 0))
+
+-- the status that the first operation leaves which cannot start: SR.7 with SR.5 or SR.4, and SR.3 where VPP is low
+unfoldable pub faultStatus : Device → Pins → List ℕ → List ℕ → ℕ
+faultStatus d p w ys = pick (vppLow (d .part) p) (pick (risesIn w ys) 168 152) (pick (risesIn w ys) 160 144)
+
+-- the two writes of an operation that does not start, and one poll
+abbrev pub eraseTried : Pins → ℕ → List Cycle
+eraseTried p a = busCycle p Write a 0x20 ∷ busCycle p Write a 0xD0 ∷ busCycle p Read a 0 ∷ []
+
+abbrev pub programTried : Pins → ℕ → ℕ → List Cycle
+programTried p x b = busCycle p Write x 0x40 ∷ busCycle p Write x b ∷ busCycle p Read x 0 ∷ []
+
+-- the cycles up to such an end: the first reads, then the erase, or the program of the first byte that differs
+abbrev pub faultCycles : Pins → ℕ → List ℕ → List ℕ → List Cycle
+faultCycles p a w ys = openingThen p a (length w) (pick (risesIn w ys) (eraseTried p a) (programTried p (a + diffFrom 0 w ys) (getD w (diffFrom 0 w ys) 0)))
+
+-- a run that ends well, and one that ends by a fault at cycle n + 5
+abbrev pub wellRan : Device → List ℕ → List ℕ → Ran
+wellRan d w ys = record { count = formula d w ys; end = 0; address = 0; state = atRest Array 128 }
+
+abbrev pub faultRan : Device → Pins → List ℕ → List ℕ → ℕ → Ran
+faultRan d p w ys n = record { count = length w + 5; end = n; address = 0; state = atRest Status (faultStatus d p w ys) }
+
+-- what such a run returns, what it leaves in array and scratch, and its cycles
+unfoldable pub ranAs : Device → Pins → ℕ → List ℕ → List ℕ → Ran
+ranAs d p k w ys = pick (eqb (endNumber d p k w ys) 0) (wellRan d w ys) (faultRan d p w ys (endNumber d p k w ys))
+
+unfoldable pub bytesAs : Device → Pins → ℕ → ℕ → List ℕ → List ℕ → List ℕ → List ℕ
+bytesAs d p k a w ys xs = pick (eqb (endNumber d p k w ys) 0) (overlaid xs a w) xs
+
+unfoldable pub scratchAs : Device → Pins → ℕ → List ℕ → List ℕ → List ℕ
+scratchAs d p k w ys = pick (eqb (endNumber d p k w ys) 0) w ys
+
+unfoldable pub cyclesAs : Device → Pins → ℕ → ℕ → List ℕ → List ℕ → List Cycle
+cyclesAs d p k a w ys = pick (eqb (endNumber d p k w ys) 0) (cyclesOf d p a w ys) (faultCycles p a w ys)

@@ -1,0 +1,4 @@
+pub mod Wear
+pub mod History
+pub mod Made
+pub mod Ends
