@@ -1,0 +1,392 @@
+// Loads from a file: a case a line of standard input, an answer a line of standard output. A case is a name of 24 bytes and
+// 39 numbers of six digits; tests/load_vectors.py says what they mean and works out the answers.
+use chip::Mode;
+use chip::Phase;
+use chip::Pins;
+use chip::State;
+use device::Device;
+use device::Part;
+use run::Ran;
+ghost use mathlib.Core.Path.{_≡_};
+ghost use Prim.Native.Nat.{_<_, _≤_};
+
+// The number that a digit stands for; 0 for any other byte.
+fn digit(b: u8) -> usize
+    ensures { λ r. ⌜ r < 10 ⌝ }
+{
+    if b < 48 {
+        return 0;
+    }
+    if 57 < b {
+        return 0;
+    }
+    cells::wide(b - 48)
+}
+
+// The three digits from a place on.
+fn three(case: &[u8], at: usize) -> usize
+    requires { ⌜ at < 1000 ⌝ }
+    ensures { λ r. ⌜ r < 1000 ⌝ }
+{
+    let high = digit(cells::nth(case, at)) * 100 + digit(cells::nth(case, at + 1)) * 10;
+    high + digit(cells::nth(case, at + 2))
+}
+
+// Number k of a case.
+fn field(case: &[u8], k: usize) -> usize
+    requires { ⌜ k < 100 ⌝ }
+    ensures { λ r. ⌜ r < 1000000 ⌝ }
+{
+    let at = 7 * k + 24;
+    1000 * three(case, at) + three(case, at + 3)
+}
+
+// The same as a byte.
+fn byte(case: &[u8], k: usize) -> u8
+    requires { ⌜ k < 100 ⌝ }
+{
+    (field(case, k) % 256) as u8
+}
+
+fn half(case: &[u8], k: usize) -> u16
+    requires { ⌜ k < 100 ⌝ }
+{
+    (field(case, k) % 65536) as u16
+}
+
+fn word(case: &[u8], k: usize) -> u32
+    requires { ⌜ k < 100 ⌝ }
+{
+    field(case, k) as u32
+}
+
+// How much of a slice is lent, as number k says.
+fn lent(case: &[u8], k: usize, there: usize) -> usize
+    requires { ⌜ k < 100 ⌝ }
+    ensures { λ r. ⌜ r ≤ there ⌝ }
+{
+    cells::least(field(case, k), there)
+}
+
+// A pattern of period 257; a step of 0 makes all bytes alike.
+fn sow(s: &mut [u8], first: usize, step: usize) {
+    let mut v = first % 257;
+    let mut i = 0;
+    while i < s.len() {
+        s[i] = (v % 256) as u8;
+        v = (v + step % 257) % 257;
+        i += 1;
+    }
+}
+
+// What is lent of a slice, as number k says, gets the pattern of numbers j and j + 1.
+fn prepare(case: &[u8], k: usize, j: usize, s: &mut [u8])
+    requires { ⌜ (k < 99) × (j < 99) ⌝ }
+{
+    let n = lent(case, k, s.len());
+    let first = field(case, j);
+    let step = field(case, j + 1);
+    sow(&mut s[0..n], first, step);
+}
+
+// One byte is changed, where there is one.
+fn change(s: &mut [u8], at: usize, b: u8) {
+    if at < s.len() {
+        s[at] = b;
+    }
+}
+
+// Two bytes are changed, as the numbers from k on say.
+fn change_two(case: &[u8], k: usize, s: &mut [u8])
+    requires { ⌜ k < 90 ⌝ }
+{
+    change(s, field(case, k), byte(case, k + 1));
+    change(s, field(case, k + 2), byte(case, k + 3));
+}
+
+// Block k of a file gets the check that fits it.
+fn seal(file: &mut [u8], k: usize) {
+    if k < 8 {
+        let from = 512 * k;
+        let to = from + 512;
+        if to <= file.len() {
+            let c = loadfile::check(&file[from..to]);
+            change(file, from + 510, (c / 256) as u8);
+            change(file, from + 511, (c % 256) as u8);
+        }
+    }
+}
+
+// A file is written over A5H; where the writer refuses, A5H stays.
+fn write(case: &[u8], file: &mut [u8]) {
+    let mut payload = [0u8; 4200];
+    sow(&mut payload, 3, 7);
+    let size = lent(case, 1, 4200);
+    cells::fill(file, 165);
+    loadfile::write(byte(case, 0), &payload[0..size], file);
+}
+
+// Two bytes of it are changed, two blocks sealed, and two bytes changed after that.
+fn spoil(case: &[u8], file: &mut [u8]) {
+    change_two(case, 2, file);
+    seal(file, field(case, 6));
+    seal(file, field(case, 7));
+    change_two(case, 8, file);
+}
+
+// The file is laid into the array, where the case has a place for it.
+fn lay(case: &[u8], array: &mut [u8], file: &[u8]) {
+    let at = field(case, 34);
+    let n = lent(case, 12, file.len());
+    if at < array.len() {
+        cells::copy(&mut array[at..], &file[0..n]);
+    }
+}
+
+// The array before the load.
+fn hold(case: &[u8], array: &mut [u8], file: &[u8]) {
+    prepare(case, 25, 28, array);
+    lay(case, array, file);
+    change_two(case, 35, array);
+}
+
+fn mode_of(letter: u8) -> Mode {
+    if letter == b'A' {
+        return Mode::Array;
+    }
+    if letter == b'S' {
+        return Mode::Status;
+    }
+    Mode::Identifier
+}
+
+fn phase_of(letter: u8) -> Phase {
+    if letter == b'F' {
+        return Phase::Free;
+    }
+    if letter == b'C' {
+        return Phase::EraseAwaited;
+    }
+    if letter == b'D' {
+        return Phase::DataAwaited;
+    }
+    if letter == b'P' {
+        return Phase::Programming(0);
+    }
+    if letter == b'E' {
+        return Phase::Erasing;
+    }
+    Phase::Suspended
+}
+
+fn mode_letter(mode: Mode) -> u8 {
+    match mode {
+        Mode::Array => b'A',
+        Mode::Status => b'S',
+        Mode::Identifier => b'I',
+    }
+}
+
+fn phase_letter(phase: Phase) -> u8 {
+    match phase {
+        Phase::Free => b'F',
+        Phase::EraseAwaited => b'C',
+        Phase::DataAwaited => b'D',
+        Phase::Programming(_) => b'P',
+        Phase::Erasing => b'E',
+        Phase::Suspended => b'S',
+    }
+}
+
+fn device_of(case: &[u8]) -> Device {
+    let number = byte(case, 14);
+    let program = half(case, 15);
+    let erase = half(case, 16);
+    Device {
+        part: Part { number: number },
+        program: program,
+        erase: erase,
+    }
+}
+
+fn pins_of(case: &[u8]) -> Pins {
+    let rp = byte(case, 17);
+    let vpp = word(case, 18);
+    Pins { rp: rp, vpp: vpp }
+}
+
+fn state_of(case: &[u8]) -> State {
+    let mode = mode_of(byte(case, 20));
+    let status = byte(case, 21);
+    let phase = phase_of(byte(case, 22));
+    let left = half(case, 23);
+    let address = word(case, 24);
+    State {
+        mode: mode,
+        status: status,
+        phase: phase,
+        left: left,
+        address: address,
+    }
+}
+
+// The load, on what is lent.
+fn loaded(
+    case: &[u8],
+    array: &mut [u8],
+    wanted: &mut [u8],
+    scratch: &mut [u8],
+    file: &[u8],
+) -> Ran {
+    let device = device_of(case);
+    let state = state_of(case);
+    let pins = pins_of(case);
+    let block = byte(case, 19);
+    let n = lent(case, 25, array.len());
+    let m = lent(case, 26, wanted.len());
+    let k = lent(case, 27, scratch.len());
+    let size = lent(case, 12, file.len());
+    let asked = byte(case, 13);
+    load::load(
+        device,
+        state,
+        pins,
+        block,
+        &mut array[0..n],
+        &mut wanted[0..m],
+        &mut scratch[0..k],
+        &file[0..size],
+        asked,
+    )
+}
+
+// A number that any one changed byte changes.
+fn digest(s: &[u8]) -> usize {
+    let mut d = 0;
+    let mut i = 0;
+    while i < s.len() {
+        d = (31 * d + cells::wide(s[i])) % 65521;
+        i += 1;
+    }
+    d
+}
+
+fn hex(x: u8) -> u8 {
+    let n = x % 16;
+    if n < 10 {
+        return 48 + n;
+    }
+    55 + n
+}
+
+// A byte in hex.
+fn tell_byte(x: u8) {
+    let high = hex(x / 16);
+    let low = hex(x);
+    let text = [b' ', high, low];
+    io::write_all(1, &text);
+}
+
+// A mark and a number.
+fn tell(mark: &[u8], n: u64) {
+    io::write_all(1, mark);
+    io::print_decimal(1, n);
+}
+
+// The last byte, 0 where there is none.
+fn last_of(s: &[u8]) -> u8 {
+    let n = s.len();
+    if n < 1 {
+        return 0;
+    }
+    cells::nth(s, n - 1)
+}
+
+// What a slice holds: a digest, its first byte and its last.
+fn tell_slice(mark: &[u8], s: &[u8]) {
+    tell(mark, digest(s) as u64);
+    tell_byte(cells::nth(s, 0));
+    tell_byte(last_of(s));
+}
+
+// What was lent of a slice, as number k says.
+fn tell_lent(case: &[u8], k: usize, mark: &[u8], s: &[u8])
+    requires { ⌜ k < 100 ⌝ }
+{
+    let n = lent(case, k, s.len());
+    tell_slice(mark, &s[0..n]);
+}
+
+// Status, mode and phase.
+fn tell_state(s: State) {
+    let mode = s.mode;
+    let phase = s.phase;
+    io::write_all(1, b" S");
+    tell_byte(s.status);
+    let m = mode_letter(mode);
+    let p = phase_letter(phase);
+    let text = [b' ', m, b' ', p];
+    io::write_all(1, &text);
+}
+
+// The end, its address, the count and the state.
+fn tell_end(x: Ran) {
+    let state = x.state;
+    tell(b"E ", x.end as u64);
+    tell(b" A ", x.address as u64);
+    tell(b" N ", x.count);
+    tell_state(state);
+}
+
+// The name of a case.
+fn tell_name(case: &[u8]) {
+    let n = cells::least(24, case.len());
+    io::write_all(1, &case[0..n]);
+}
+
+// One case: everything is prepared, the load made, and the line printed.
+fn run_case(case: &[u8], array: &mut [u8], wanted: &mut [u8], scratch: &mut [u8], file: &[u8]) {
+    hold(case, array, file);
+    prepare(case, 26, 30, wanted);
+    prepare(case, 27, 32, scratch);
+    let x = loaded(case, array, wanted, scratch, file);
+    tell_name(case);
+    tell_end(x);
+}
+
+// The three slices after it.
+fn tell_slices(case: &[u8], array: &[u8], wanted: &[u8], scratch: &[u8]) {
+    tell_lent(case, 25, b" a ", array);
+    tell_lent(case, 26, b" w ", wanted);
+    tell_lent(case, 27, b" s ", scratch);
+    io::write_all(1, b"\n");
+}
+
+fn one(case: &[u8], array: &mut [u8], wanted: &mut [u8], scratch: &mut [u8]) {
+    let mut file = [0u8; 5200];
+    write(case, &mut file);
+    spoil(case, &mut file);
+    run_case(case, array, wanted, scratch, &file);
+    tell_slices(case, array, wanted, scratch);
+}
+
+// All cases of a text.
+fn run_all(text: &[u8], array: &mut [u8], wanted: &mut [u8], scratch: &mut [u8]) {
+    let n = text.len() / 297;
+    let mut i = 0;
+    while i < n {
+        let from = 297 * i;
+        let to = from + 297;
+        one(&text[from..to], array, wanted, scratch);
+        i += 1;
+    }
+}
+
+fn main() {
+    let mut text = [0u8; 65536];
+    let mut array = [0u8; 131073];
+    let mut wanted = [0u8; 131073];
+    let mut scratch = [0u8; 131073];
+    let n = io::read_full(0, &mut text);
+    run_all(&text[..n], &mut array, &mut wanted, &mut scratch);
+}
