@@ -79,14 +79,13 @@ fn sow(s: &mut [u8], first: usize, step: usize) {
     }
 }
 
-// What is lent of a slice, as number k says, gets the pattern of numbers j and j + 1.
-fn prepare(case: &[u8], k: usize, j: usize, s: &mut [u8])
-    requires { ⌜ (k < 99) × (j < 99) ⌝ }
+// A slice gets the pattern of numbers j and j + 1.
+fn prepare(case: &[u8], j: usize, s: &mut [u8])
+    requires { ⌜ j < 99 ⌝ }
 {
-    let n = lent(case, k, s.len());
     let first = field(case, j);
     let step = field(case, j + 1);
-    sow(&mut s[0..n], first, step);
+    sow(s, first, step);
 }
 
 // One byte is changed, where there is one.
@@ -137,15 +136,14 @@ fn spoil(case: &[u8], file: &mut [u8]) {
 // The file is laid into the array, where the case has a place for it.
 fn lay(case: &[u8], array: &mut [u8], file: &[u8]) {
     let at = field(case, 34);
-    let n = lent(case, 12, file.len());
     if at < array.len() {
-        cells::copy(&mut array[at..], &file[0..n]);
+        cells::copy(&mut array[at..], file);
     }
 }
 
 // The array before the load.
 fn hold(case: &[u8], array: &mut [u8], file: &[u8]) {
-    prepare(case, 25, 28, array);
+    prepare(case, 28, array);
     lay(case, array, file);
     change_two(case, 35, array);
 }
@@ -230,7 +228,7 @@ fn state_of(case: &[u8]) -> State {
     }
 }
 
-// The load, on what is lent.
+// The load.
 fn loaded(
     case: &[u8],
     array: &mut [u8],
@@ -242,20 +240,16 @@ fn loaded(
     let state = state_of(case);
     let pins = pins_of(case);
     let block = byte(case, 19);
-    let n = lent(case, 25, array.len());
-    let m = lent(case, 26, wanted.len());
-    let k = lent(case, 27, scratch.len());
-    let size = lent(case, 12, file.len());
     let asked = byte(case, 13);
     load::load(
         device,
         state,
         pins,
         block,
-        &mut array[0..n],
-        &mut wanted[0..m],
-        &mut scratch[0..k],
-        &file[0..size],
+        array,
+        wanted,
+        scratch,
+        file,
         asked,
     )
 }
@@ -309,14 +303,6 @@ fn tell_slice(mark: &[u8], s: &[u8]) {
     tell_byte(last_of(s));
 }
 
-// What was lent of a slice, as number k says.
-fn tell_lent(case: &[u8], k: usize, mark: &[u8], s: &[u8])
-    requires { ⌜ k < 100 ⌝ }
-{
-    let n = lent(case, k, s.len());
-    tell_slice(mark, &s[0..n]);
-}
-
 // Status, mode and phase.
 fn tell_state(s: State) {
     let mode = s.mode;
@@ -329,6 +315,12 @@ fn tell_state(s: State) {
     io::write_all(1, &text);
 }
 
+// The name of a case.
+fn tell_name(case: &[u8]) {
+    let n = cells::least(24, case.len());
+    io::write_all(1, &case[0..n]);
+}
+
 // The end, its address, the count and the state.
 fn tell_end(x: Ran) {
     let state = x.state;
@@ -338,55 +330,69 @@ fn tell_end(x: Ran) {
     tell_state(state);
 }
 
-// The name of a case.
-fn tell_name(case: &[u8]) {
-    let n = cells::least(24, case.len());
-    io::write_all(1, &case[0..n]);
-}
-
-// One case: everything is prepared, the load made, and the line printed.
-fn run_case(case: &[u8], array: &mut [u8], wanted: &mut [u8], scratch: &mut [u8], file: &[u8]) {
-    hold(case, array, file);
-    prepare(case, 26, 30, wanted);
-    prepare(case, 27, 32, scratch);
-    let x = loaded(case, array, wanted, scratch, file);
-    tell_name(case);
-    tell_end(x);
-}
-
-// The three slices after it.
-fn tell_slices(case: &[u8], array: &[u8], wanted: &[u8], scratch: &[u8]) {
-    tell_lent(case, 25, b" a ", array);
-    tell_lent(case, 26, b" w ", wanted);
-    tell_lent(case, 27, b" s ", scratch);
+// The three slices after the load.
+fn tell_slices(array: &[u8], wanted: &[u8], scratch: &[u8]) {
+    tell_slice(b" a ", array);
+    tell_slice(b" w ", wanted);
+    tell_slice(b" s ", scratch);
     io::write_all(1, b"\n");
 }
 
-fn one(case: &[u8], array: &mut [u8], wanted: &mut [u8], scratch: &mut [u8]) {
+// The three slices are prepared and the load is made.
+fn make(case: &[u8], array: &mut [u8], wanted: &mut [u8], scratch: &mut [u8], file: &[u8]) -> Ran {
+    hold(case, array, file);
+    prepare(case, 30, wanted);
+    prepare(case, 32, scratch);
+    loaded(case, array, wanted, scratch, file)
+}
+
+// A case with its file, on what is lent, and its line.
+fn run_case(case: &[u8], array: &mut [u8], wanted: &mut [u8], scratch: &mut [u8], file: &[u8]) {
+    let x = make(case, array, wanted, scratch, file);
+    tell_name(case);
+    tell_end(x);
+    tell_slices(array, wanted, scratch);
+}
+
+// The file is made, and as much of it is used as the case says.
+fn with_file(case: &[u8], array: &mut [u8], wanted: &mut [u8], scratch: &mut [u8]) {
     let mut file = [0u8; 5200];
     write(case, &mut file);
     spoil(case, &mut file);
-    run_case(case, array, wanted, scratch, &file);
-    tell_slices(case, array, wanted, scratch);
+    let n = lent(case, 12, 5200);
+    run_case(case, array, wanted, scratch, &file[0..n]);
+}
+
+// One case: as much of each slice is lent as it says.
+fn one(case: &[u8]) {
+    let mut array = [0u8; 131073];
+    let mut wanted = [0u8; 131073];
+    let mut scratch = [0u8; 131073];
+    let n = lent(case, 25, 131073);
+    let m = lent(case, 26, 131073);
+    let k = lent(case, 27, 131073);
+    with_file(
+        case,
+        &mut array[0..n],
+        &mut wanted[0..m],
+        &mut scratch[0..k],
+    );
 }
 
 // All cases of a text.
-fn run_all(text: &[u8], array: &mut [u8], wanted: &mut [u8], scratch: &mut [u8]) {
+fn run_all(text: &[u8]) {
     let n = text.len() / 297;
     let mut i = 0;
     while i < n {
         let from = 297 * i;
         let to = from + 297;
-        one(&text[from..to], array, wanted, scratch);
+        one(&text[from..to]);
         i += 1;
     }
 }
 
 fn main() {
     let mut text = [0u8; 65536];
-    let mut array = [0u8; 131073];
-    let mut wanted = [0u8; 131073];
-    let mut scratch = [0u8; 131073];
     let n = io::read_full(0, &mut text);
-    run_all(&text[..n], &mut array, &mut wanted, &mut scratch);
+    run_all(&text[..n]);
 }
