@@ -9,14 +9,16 @@ The load here is written from document 01. It stands on the scripts' own loader 
 on their own writer and reader of a load file (loadfile_vectors.py), and shares nothing with the crates. Every case says beforehand
 how it must end and how many cycles it makes, and the load is held to that.
 
-A case is a name of 24 bytes and 39 numbers of six digits:
-    0 to 13    the file: letter, payload bytes, and the changes, seals, length and letter asked of loadfile_vectors.py
-    14 to 19   device, P, E, RP#, VPP, block
-    20 to 24   the state: mode (as a letter), status, phase (as a letter), cycles to go, address
-    25 to 27   how much is lent of array, wanted and scratch
-    28 to 33   what they hold: first byte and step of a pattern, for each
-    34         where the file lies in the array before the load; 999999 for nowhere
-    35 to 38   two bytes of the array, address and byte
+A case is a name of 24 bytes and 41 numbers of six digits:
+    0, 1       the file's letter and its payload bytes
+    2 to 13    six changes of the file as it was written, place and byte (999999 for none)
+    14, 15     how much of it is used, and the letter asked
+    16 to 21   device, P, E, RP#, VPP, block
+    22 to 26   the state: mode (as a letter), status, phase (as a letter), cycles to go, address
+    27 to 29   how much is lent of array, wanted and scratch
+    30 to 35   what they hold: first byte and step of a pattern, for each
+    36         where the file lies in the array before the load; 999999 for nowhere
+    37 to 40   two bytes of the array, address and byte
 
 A line shows: the name; the end E, its address A and the count N; status, mode and phase S; then for array a, wanted w and scratch s
 a digest, the first byte and the last.
@@ -70,6 +72,20 @@ def sown(first, step, n):
     return kept(first, step)[:n]
 
 
+def file_of(row):
+    """The changes that a case makes in the file as it was written, and the file."""
+    payload = bytes(sown(3, 7, row[1]))
+    written = spoiled(row_of(letter=row[0], size=row[1]), payload)[2]
+    file = spoiled(row, payload)[2]
+    return [(i, b) for i, b in enumerate(file) if b != written[i]], bytes(file[: row[13]])
+
+
+def pairs(given, count):
+    """So many pairs of numbers."""
+    assert len(given) <= count
+    return [x for pair in list(given) + [(NOWHERE, 0)] * (count - len(given)) for x in pair]
+
+
 def ends(part):
     """A digest, the first byte and the last."""
     return f"{digest(part)} {part[0] if part else 0:02X} {part[-1] if part else 0:02X}"
@@ -84,17 +100,16 @@ class Table:
         """One load. `about` is the file; `count` is told by the case where the end is not 0, and by the formula where it is."""
         assert len(name) <= NAME, name
         row = row_of(**dict(about))
+        changes, data = file_of(row)
         first, n = (BLOCKS[number][block][0], block_length(number, block)) if number in BLOCKS and block < 4 else (0, 512)
         rp = (2 if block == 0 else 1) if rp is None else rp
         given = [want if want is not None else fit for want, fit in zip(lent, (SIZE.get(number, 16384), n, n))]
         marks = [held, (91, 5), (17, 2)]
-        numbers = row[:2] + row[3:15] + [number, *times, rp, vpp, block]
+        numbers = row[:2] + pairs(changes, 6) + row[13:15] + [number, *times, rp, vpp, block]
         numbers += [ord(state.mode), state.status, ord(state.phase), state.left, state.address]
-        numbers += given + [x for pair in marks for x in pair] + [first if laid else NOWHERE]
-        numbers += [x for pair in (list(spots) + [(NOWHERE, 0)] * 2)[:2] for x in pair]
-        assert len(numbers) == 39 and all(0 <= x <= 999999 for x in numbers)
+        numbers += given + [x for pair in marks for x in pair] + [first if laid else NOWHERE] + pairs(spots, 2)
+        assert len(numbers) == 41 and all(0 <= x <= 999999 for x in numbers)
         self.rows.append(f"{name:{NAME + 1}}" + " ".join(f"{x:06d}" for x in numbers))
-        data = bytes(spoiled(row, bytes(sown(3, 7, row[1])))[2][: row[13]])
         array, wanted, scratch = (sown(*mark, k) for mark, k in zip(marks, given))
         if laid:
             array[first : first + len(data)] = data

@@ -1,5 +1,5 @@
 // Loads from a file: a case a line of standard input, an answer a line of standard output. A case is a name of 24 bytes and
-// 39 numbers of six digits; tests/load_vectors.py says what they mean and works out the answers.
+// 41 numbers of six digits; tests/load_vectors.py says what they mean and works out the answers.
 use chip::Mode;
 use chip::Phase;
 use chip::Pins;
@@ -95,47 +95,31 @@ fn change(s: &mut [u8], at: usize, b: u8) {
     }
 }
 
-// Two bytes are changed, as the numbers from k on say.
-fn change_two(case: &[u8], k: usize, s: &mut [u8])
-    requires { ⌜ k < 90 ⌝ }
+// So many bytes are changed, as the pairs of numbers from k on say.
+fn change_all(case: &[u8], k: usize, n: usize, s: &mut [u8])
+    requires { ⌜ (k < 50) × (n < 10) ⌝ }
 {
-    change(s, field(case, k), byte(case, k + 1));
-    change(s, field(case, k + 2), byte(case, k + 3));
-}
-
-// Block k of a file gets the check that fits it.
-fn seal(file: &mut [u8], k: usize) {
-    if k < 8 {
-        let from = 512 * k;
-        let to = from + 512;
-        if to <= file.len() {
-            let c = loadfile::check(&file[from..to]);
-            change(file, from + 510, (c / 256) as u8);
-            change(file, from + 511, (c % 256) as u8);
-        }
+    let mut i = 0;
+    while i < n {
+        let at = k + 2 * i;
+        change(s, field(case, at), byte(case, at + 1));
+        i += 1;
     }
 }
 
-// A file is written over A5H; where the writer refuses, A5H stays.
+// A file is written over A5H, and six bytes of it are changed.
 fn write(case: &[u8], file: &mut [u8]) {
     let mut payload = [0u8; 4200];
     sow(&mut payload, 3, 7);
     let size = lent(case, 1, 4200);
     cells::fill(file, 165);
     loadfile::write(byte(case, 0), &payload[0..size], file);
-}
-
-// Two bytes of it are changed, two blocks sealed, and two bytes changed after that.
-fn spoil(case: &[u8], file: &mut [u8]) {
-    change_two(case, 2, file);
-    seal(file, field(case, 6));
-    seal(file, field(case, 7));
-    change_two(case, 8, file);
+    change_all(case, 2, 6, file);
 }
 
 // The file is laid into the array, where the case has a place for it.
 fn lay(case: &[u8], array: &mut [u8], file: &[u8]) {
-    let at = field(case, 34);
+    let at = field(case, 36);
     if at < array.len() {
         cells::copy(&mut array[at..], file);
     }
@@ -143,9 +127,9 @@ fn lay(case: &[u8], array: &mut [u8], file: &[u8]) {
 
 // The array before the load.
 fn hold(case: &[u8], array: &mut [u8], file: &[u8]) {
-    prepare(case, 28, array);
+    prepare(case, 30, array);
     lay(case, array, file);
-    change_two(case, 35, array);
+    change_all(case, 37, 2, array);
 }
 
 fn mode_of(letter: u8) -> Mode {
@@ -197,9 +181,9 @@ fn phase_letter(phase: Phase) -> u8 {
 }
 
 fn device_of(case: &[u8]) -> Device {
-    let number = byte(case, 14);
-    let program = half(case, 15);
-    let erase = half(case, 16);
+    let number = byte(case, 16);
+    let program = half(case, 17);
+    let erase = half(case, 18);
     Device {
         part: Part { number: number },
         program: program,
@@ -208,17 +192,17 @@ fn device_of(case: &[u8]) -> Device {
 }
 
 fn pins_of(case: &[u8]) -> Pins {
-    let rp = byte(case, 17);
-    let vpp = word(case, 18);
+    let rp = byte(case, 19);
+    let vpp = word(case, 20);
     Pins { rp: rp, vpp: vpp }
 }
 
 fn state_of(case: &[u8]) -> State {
-    let mode = mode_of(byte(case, 20));
-    let status = byte(case, 21);
-    let phase = phase_of(byte(case, 22));
-    let left = half(case, 23);
-    let address = word(case, 24);
+    let mode = mode_of(byte(case, 22));
+    let status = byte(case, 23);
+    let phase = phase_of(byte(case, 24));
+    let left = half(case, 25);
+    let address = word(case, 26);
     State {
         mode: mode,
         status: status,
@@ -239,8 +223,8 @@ fn loaded(
     let device = device_of(case);
     let state = state_of(case);
     let pins = pins_of(case);
-    let block = byte(case, 19);
-    let asked = byte(case, 13);
+    let block = byte(case, 21);
+    let asked = byte(case, 15);
     load::load(
         device,
         state,
@@ -315,15 +299,11 @@ fn tell_state(s: State) {
     io::write_all(1, &text);
 }
 
-// The name of a case.
-fn tell_name(case: &[u8]) {
+// The name of a case, the end, its address, the count and the state.
+fn tell_end(case: &[u8], x: Ran) {
+    let state = x.state;
     let n = cells::least(24, case.len());
     io::write_all(1, &case[0..n]);
-}
-
-// The end, its address, the count and the state.
-fn tell_end(x: Ran) {
-    let state = x.state;
     tell(b"E ", x.end as u64);
     tell(b" A ", x.address as u64);
     tell(b" N ", x.count);
@@ -338,54 +318,53 @@ fn tell_slices(array: &[u8], wanted: &[u8], scratch: &[u8]) {
     io::write_all(1, b"\n");
 }
 
-// The three slices are prepared and the load is made.
-fn make(case: &[u8], array: &mut [u8], wanted: &mut [u8], scratch: &mut [u8], file: &[u8]) -> Ran {
+// The three slices are prepared, as far as they are lent.
+fn ready(case: &[u8], array: &mut [u8], wanted: &mut [u8], scratch: &mut [u8], file: &[u8]) {
     hold(case, array, file);
-    prepare(case, 30, wanted);
-    prepare(case, 32, scratch);
-    loaded(case, array, wanted, scratch, file)
+    prepare(case, 32, wanted);
+    prepare(case, 34, scratch);
 }
 
-// A case with its file, on what is lent, and its line.
+// The load on what is lent, and its line.
 fn run_case(case: &[u8], array: &mut [u8], wanted: &mut [u8], scratch: &mut [u8], file: &[u8]) {
-    let x = make(case, array, wanted, scratch, file);
-    tell_name(case);
-    tell_end(x);
+    ready(case, array, wanted, scratch, file);
+    let x = loaded(case, array, wanted, scratch, file);
+    tell_end(case, x);
     tell_slices(array, wanted, scratch);
 }
 
-// The file is made, and as much of it is used as the case says.
-fn with_file(case: &[u8], array: &mut [u8], wanted: &mut [u8], scratch: &mut [u8]) {
-    let mut file = [0u8; 5200];
-    write(case, &mut file);
-    spoil(case, &mut file);
-    let n = lent(case, 12, 5200);
-    run_case(case, array, wanted, scratch, &file[0..n]);
-}
-
-// One case: as much of each slice is lent as it says.
-fn one(case: &[u8]) {
+// As much of each slice is lent as the case says.
+fn with_slices(case: &[u8], file: &[u8]) {
     let mut array = [0u8; 131073];
     let mut wanted = [0u8; 131073];
     let mut scratch = [0u8; 131073];
-    let n = lent(case, 25, 131073);
-    let m = lent(case, 26, 131073);
-    let k = lent(case, 27, 131073);
-    with_file(
+    let n = lent(case, 27, 131073);
+    let m = lent(case, 28, 131073);
+    let k = lent(case, 29, 131073);
+    run_case(
         case,
         &mut array[0..n],
         &mut wanted[0..m],
         &mut scratch[0..k],
+        file,
     );
+}
+
+// One case: the file is made, and as much of it is used as the case says.
+fn one(case: &[u8]) {
+    let mut file = [0u8; 5200];
+    write(case, &mut file);
+    let n = lent(case, 14, 5200);
+    with_slices(case, &file[0..n]);
 }
 
 // All cases of a text.
 fn run_all(text: &[u8]) {
-    let n = text.len() / 297;
+    let n = text.len() / 311;
     let mut i = 0;
     while i < n {
-        let from = 297 * i;
-        let to = from + 297;
+        let from = 311 * i;
+        let to = from + 311;
         one(&text[from..to]);
         i += 1;
     }
