@@ -72,28 +72,30 @@ def digest(data):
 CASES = []
 
 
-def case(told, letter="B", size=1, room=FILE, before=(), seal=(), after=(), length=None, asked=None, back=BACK):
+def row_of(letter="B", size=1, room=FILE, before=(), seal=(), after=(), length=None, asked=None, back=BACK):
+    """The sixteen numbers of a case."""
     letter = letter if isinstance(letter, int) else ord(letter)
     asked = letter if asked is None else asked if isinstance(asked, int) else ord(asked)
     if length is None:
         length = max(512, 512 * ((min(size, 505 * MOST) + 504) // 505))
     two = lambda pairs: [x for pair in (list(pairs) + [(NONE, 0)] * 2)[:2] for x in pair]
     seals = (list(seal) + [NONE] * 2)[:2]
-    CASES.append((told, [letter, size, room] + two(before) + seals + two(after) + [length, asked, back]))
+    return [letter, size, room] + two(before) + seals + two(after) + [length, asked, back]
 
 
-def run(row):
-    letter, size, room, p1, v1, p2, v2, s1, s2, q1, w1, q2, w2, length, asked, back = row
-    file, out = bytearray(b"\xa5" * FILE), bytearray(b"\x5a" * BACK)
-    number, made = write(letter, pattern(size))
+def case(told, *about, **more):
+    CASES.append((told, row_of(*about, **more)))
+
+
+def spoiled(row, payload):
+    """The writer's refusal and length, and the buffer once the case's changes are made in it."""
+    letter, _, room, p1, v1, p2, v2, s1, s2, q1, w1, q2, w2 = row[:13]
+    file = bytearray(b"\xa5" * FILE)
+    number, made = write(letter, payload)
     if not number and len(made) > room:
         number = 37
-    said = "W"
-    if number:
-        said += f"!{number}"
-    else:
+    if not number:
         file[:len(made)] = made
-        said += f"={len(made)}"
     for p, v in (p1, v1), (p2, v2):
         if p < FILE:
             file[p] = v
@@ -103,6 +105,14 @@ def run(row):
     for p, v in (q1, w1), (q2, w2):
         if p < FILE:
             file[p] = v
+    return number, 0 if number else len(made), file
+
+
+def run(row):
+    length, asked, back = row[13:]
+    out = bytearray(b"\x5a" * BACK)
+    number, made, file = spoiled(row, pattern(row[1]))
+    said = f"W!{number}" if number else f"W={made}"
     data = bytes(file[:length])
     number, payload = judge(data, asked)
     said += f" J!{number}" if number else f" J={len(payload)}"
@@ -205,15 +215,20 @@ def fill():
     case("37 after all", size=4040, back=0)
 
 
-fill()
-want = sys.argv[1] if len(sys.argv) > 1 else ""
-for told, row in CASES:
-    line = " ".join(f"{n:05}" for n in row)
-    if want == "cases":
-        print(line)
-    elif want == "expected":
-        print(run(row))
-    elif want == "told":
-        print(f"{told}\n  {line}\n  {run(row)}")
-    else:
-        sys.exit(__doc__)
+def main():
+    fill()
+    want = sys.argv[1] if len(sys.argv) > 1 else ""
+    for told, row in CASES:
+        line = " ".join(f"{n:05}" for n in row)
+        if want == "cases":
+            print(line)
+        elif want == "expected":
+            print(run(row))
+        elif want == "told":
+            print(f"{told}\n  {line}\n  {run(row)}")
+        else:
+            sys.exit(__doc__)
+
+
+if __name__ == "__main__":
+    main()

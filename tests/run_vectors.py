@@ -85,19 +85,23 @@ def loader_number(number, rp, vpp, block, wanted, scratch):
     return 0
 
 
+def run_number(device, state, rp, vpp, block, array, wanted, scratch):
+    """The refusals of a run, 0 for none."""
+    if device.number not in BLOCKS or device.program == 0 or device.erase == 0:
+        return 1
+    if len(array) != SIZE[device.number]:
+        return 2
+    if not proper(device, state):
+        return 3
+    number = loader_number(device.number, rp, vpp, block, len(wanted), len(scratch))
+    if number == 0 and state.phase != "F":
+        return 12
+    return number
+
+
 def run(device, state, rp, vpp, block, array, wanted, scratch):
     """A run: the end, the count, the address and the state. Array and scratch are changed in place."""
-    number = 0
-    if device.number not in BLOCKS or device.program == 0 or device.erase == 0:
-        number = 1
-    elif len(array) != SIZE[device.number]:
-        number = 2
-    elif not proper(device, state):
-        number = 3
-    else:
-        number = loader_number(device.number, rp, vpp, block, len(wanted), len(scratch))
-    if number == 0 and state.phase != "F":
-        number = 12
+    number = run_number(device, state, rp, vpp, block, array, wanted, scratch)
     if number:
         return number, 0, 0, state
     work, count, byte = load(BLOCKS[device.number][block][0], wanted, scratch), 0, None
@@ -482,9 +486,71 @@ def barred(b):
     b.step(0xFF, 1, "the record as it was: write FFH")
 
 
+def over(b):
+    b.group("over", "more ends by hand, and steps after them; the records of refused starts")
+    b.fit(3, 1)
+    b.fill("W", 255, 0)
+    b.want(0, 0x5A)
+    b.want(511, 0xA5)
+    b.fill("C", 8, 1)
+    b.start("an erase that never is ready")
+    b.step(0x00, 517, "the second poll")
+    b.step(0x7F, 65533, "the last poll")
+    b.step(0x7F, 1, "20", ("E", 20))
+    b.step(0x80, 2, "20 again", ("E", 20))
+    for status, end in ((0xA8, 21), (0xF8, 21), (0xB0, 22), (0xE0, 23)):
+        b.start("an erase")
+        b.step(0x00, 516, "a poll")
+        b.step(status, 1, "ready with an error", ("E", end))
+        b.step(0x80, 2, "repeated", ("E", end))
+    b.start("nothing erased, two programs")
+    b.step(0xFF, 514, "40H at the first byte")
+    b.step(0x00, 2, "a poll")
+    b.step(0x80, 1, "40H at the last byte")
+    b.step(0x00, 2, "a poll")
+    b.step(0x98, 1, "21 at the second program", ("E", 21))
+    b.step(0x80, 2, "repeated", ("E", 21))
+    b.start("the verify differs at the first byte")
+    b.step(0xFF, 514, "40H at the first byte")
+    b.step(0x80, 3, "40H at the last byte")
+    b.step(0x80, 3, "write FFH")
+    b.step(0x00, 1, "the first read of the verify")
+    b.step(0x5B, 1, "25 at the first byte", ("E", 25))
+    b.step(0x5A, 2, "repeated", ("E", 25))
+    b.start("the verify differs at the last byte")
+    b.step(0xFF, 514, "40H at the first byte")
+    b.step(0x80, 6, "write FFH")
+    b.step(0x00, 1, "the first read of the verify")
+    b.step(0x5A, 1, "the second")
+    b.step(0xFF, 510, "the last")
+    b.step(0xFF, 1, "25 at the last byte", ("E", 25))
+    b.step(0xA5, 2, "repeated", ("E", 25))
+    b.use(9, 2, 3, 0, 512, 512)
+    b.start("1")
+    b.step(0xFF, 2, "1 again", ("X", 1))
+    b.use(3, 2, 3, 0, 512, 512)
+    b.handed(0, 0)
+    b.step(0xFF, 2, "with a part there is: the end that the start left", ("E", 1))
+    b.levels(0, 12000, 1)
+    b.start("4")
+    b.levels(1, 12000, 1)
+    b.handed(0, 0)
+    b.step(0xFF, 2, "with RP# high: the same", ("E", 4))
+    b.levels(1, 12000, 4)
+    b.start("10")
+    b.levels(1, 12000, 1)
+    b.handed(0, 0)
+    b.step(0xFF, 2, "with a block there is: the same", ("E", 10))
+    b.use(3, 2, 3, 0, 512, 511)
+    b.start("11")
+    b.step(0xFF, 2, "11 again", ("X", 11))
+    b.use(3, 2, 3, 0, 512, 512)
+    b.step(0xFF, 2, "with the block's length: the end that the start left", ("E", 11))
+
+
 def all_cases():
     b = Bench()
-    for part in (cards, blocks, ways, other_ends, refusals, by_hand, barred):
+    for part in (cards, blocks, ways, other_ends, refusals, by_hand, barred, over):
         part(b)
     return b
 
