@@ -26,7 +26,7 @@ use Rattle.chip.specs.declared.Effect.{Effect}
 use Rattle.chip.specs.declared.Effect.the-variants.{Nothing}
 use Rattle.chip.specs.Levels.{rpLow, vppLow, vppHigh, badPins}
 use Rattle.chip.specs.States.{atRest, badLeft, badAddress, badStatus}
-use Rattle.chip.proofs.Facts.{Proper}
+use Rattle.bus.proofs.Facts.{Proper}
 use Rattle.model.proofs.Status.{fits, status-fits}
 use Rattle.model.proofs.Keeping.{times}
 use Rattle.loader.specs.declared.Stage.the-variants.{Clearing, Ended}

@@ -11,7 +11,7 @@ use Rattle.device.specs.declared.Device.{Device}
 use Rattle.device.specs.Parts.{unknownDevice, sizeOf, lengthOf}
 use Rattle.chip.specs.declared.Pins.{Pins}
 use Rattle.chip.specs.declared.State.{State}
-use Rattle.chip.proofs.Facts.{Proper, proper-parts}
+use Rattle.bus.proofs.Facts.{Proper, proper-parts}
 use Rattle.loader.specs.Front.{barredPins, noBlock, wrongLengths}
 use Rattle.loader.proofs.Small.{length-small}
 use Rattle.run.specs.Runs.{underWay, runRows, runNumber}

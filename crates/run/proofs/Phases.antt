@@ -31,8 +31,8 @@ use Rattle.chip.specs.declared.Reply.the-variants.{Quiet, Gives, GivesArray, Re
 use Rattle.chip.specs.declared.State.{State}
 use Rattle.chip.specs.declared.Decision.{Decision}
 use Rattle.chip.specs.States.{atRest, isBusy, mostLeft}
-use Rattle.chip.specs.Settling.{endOf}
-use Rattle.chip.specs.Cycles.{decideOf, decidedAs}
+use Rattle.settling.specs.Settling.{endOf}
+use Rattle.bus.specs.Cycles.{decideOf, decidedAs}
 use Rattle.model.specs.Arrays.{erased, arrayOf, seenOf}
 use Rattle.model.proofs.Keeping.{st}
 use Rattle.loader.specs.declared.Stage.{Stage}

@@ -14,7 +14,7 @@ use Rattle.chip.specs.declared.Effect.the-variants.{Nothing, Program, Erase, Cu
 use Rattle.chip.specs.declared.Reply.{Reply}
 use Rattle.chip.specs.declared.Decision.{Decision}
 use Rattle.chip.specs.declared.Cycle.{Cycle}
-use Rattle.chip.specs.Cycles.{decideOf, decidedAs}
+use Rattle.bus.specs.Cycles.{decideOf, decidedAs}
 use Rattle.model.specs.declared.Answer.{Answer}
 use Rattle.model.specs.Arrays.{arrayOf, seenOf, arrayAfter, answerOf}
 use Rattle.model.specs.Begun.{begunBy}
