@@ -18,7 +18,7 @@ use Rattle.device.specs.Parts.{startOf}
 use Rattle.chip.specs.declared.Mode.the-variants.{Array}
 use Rattle.chip.specs.States.{atRest}
 use Rattle.loader.specs.declared.Stage.the-variants.{Clearing}
-use Rattle.loader.specs.Front.{recordAt}
+use Rattle.stepper.specs.Front.{recordAt}
 use Rattle.run.specs.Wear.{begunIn, heldIn, formula, operationsOf}
 use Rattle.run.specs.History.{Bus, worldAfter, effectsIn, begunOver, uncut, total, eraseOf, programIn}
 use Rattle.run.proofs.Demand.{Start}

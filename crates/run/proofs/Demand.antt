@@ -31,7 +31,7 @@ use Rattle.model.proofs.Status.{fits, status-fits}
 use Rattle.model.proofs.Keeping.{times}
 use Rattle.loader.specs.declared.Stage.the-variants.{Clearing, Ended}
 use Rattle.loader.specs.declared.Loader.{Loader}
-use Rattle.loader.specs.Front.{barredPins, noBlock, recordAt}
+use Rattle.stepper.specs.Front.{barredPins, noBlock, recordAt}
 use Rattle.loader.specs.Walks.{risesIn}
 use Rattle.run.specs.Turns.{Config, isEnded, moved, turnOf, after, bound, answerTo}
 use Rattle.run.specs.Runs.{underWay, runNumber, begin, driven, leftBy}

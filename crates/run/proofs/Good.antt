@@ -12,8 +12,8 @@ use Rattle.device.specs.Parts.{unknownDevice, sizeOf, lengthOf}
 use Rattle.chip.specs.declared.Pins.{Pins}
 use Rattle.chip.specs.declared.State.{State}
 use Rattle.bus.proofs.Facts.{Proper, proper-parts}
-use Rattle.loader.specs.Front.{barredPins, noBlock, wrongLengths}
-use Rattle.loader.proofs.Small.{length-small}
+use Rattle.stepper.specs.Front.{barredPins, noBlock, wrongLengths}
+use Rattle.stepper.proofs.Small.{length-small}
 use Rattle.run.specs.Runs.{underWay, runRows, runNumber}
 
 pub record Good (d : Device) (s : State) (p : Pins) (k array w sc : ℕ) : Type 0 where

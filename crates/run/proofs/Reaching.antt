@@ -20,7 +20,7 @@ use Rattle.model.specs.Arrays.{arrayOf, seenOf, arrayAfter, answerOf}
 use Rattle.model.specs.Begun.{begunBy}
 use Rattle.model.proofs.Lives.{begunFrom, begun-from}
 use Rattle.loader.specs.declared.Loader.{Loader}
-use Rattle.loader.specs.Moves.{cycleOf}
+use Rattle.stepper.specs.Outs.{cycleOf}
 use Rattle.run.specs.Turns.{Config, isEnded, loaderBy, scratchBy, answerTo, arrayTo, moved, turnOf, after}
 use Rattle.run.specs.Wear.{noted, begunTurn, begunIn}
 use Rattle.run.proofs.Turning.{conf, turn-going}
