@@ -21,7 +21,7 @@ use Rattle.chip.specs.declared.Cycle.{Cycle}
 use Rattle.chip.specs.declared.Decision.{Decision}
 use Rattle.chip.specs.Levels.{vppLow, vppHigh, badPins}
 use Rattle.chip.specs.States.{atRest, freshState}
-use Rattle.chip.specs.Cycles.{decideOf, decidedAs}
+use Rattle.bus.specs.Cycles.{decideOf, decidedAs}
 use Rattle.model.specs.declared.Seen.{Seen}
 use Rattle.model.specs.declared.Seen.the-variants.{NoData, Byte, Refused}
 use Rattle.model.specs.Arrays.{arrayOf, seenOf, arrayAfter, answerOf}

@@ -4,9 +4,9 @@ use mathlib.Core.Bool.{Bool, true, false}
 use Rattle.device.specs.Parts.{shapeOf, sizeIn, lengthIn, offsetIn, holderIn, turned, startIn, blockIn, unknownPart, unknownDevice, sizeOf, lengthOf, startOf, blockOf, codeOf}
 use Rattle.chip.specs.Levels.{vppLow, vppHigh, badPins, badLevels, locked}
 use Rattle.chip.specs.States.{badStatus, badLeft, badAddress, improper}
-use Rattle.chip.specs.Commands.{firstWrite, afterErase, whileErasing, whileSuspended, unsupplied, startedOf}
-use Rattle.chip.specs.Settling.{cutBy, countedOff, settleOf}
-use Rattle.chip.specs.Cycles.{pastArray, shortResidue, noCommand, suspendedRead, noIdentifier, numberOf, acceptOf, decideOf}
+use Rattle.commands.specs.Commands.{firstWrite, afterErase, whileErasing, whileSuspended, unsupplied, startedOf}
+use Rattle.settling.specs.Settling.{cutBy, countedOff, settleOf}
+use Rattle.bus.specs.Cycles.{pastArray, shortResidue, noCommand, suspendedRead, noIdentifier, numberOf, acceptOf, decideOf}
 use Rattle.model.specs.Arrays.{erased, residual, arrayAfter, answerOf}
 use Rattle.loadfile.specs.Check.{checkOf}
 use Rattle.cards.specs.Table.{card1, card3, card4, card5, card6, card7, card8, card9, card12, Cards}

@@ -13,7 +13,7 @@ use Rattle.device.specs.Parts.{shapeOf, sizeIn, lengthIn, offsetIn, startIn, un
 use Rattle.chip.specs.Levels.{vppLow, vppHigh, badPins}
 use Rattle.chip.specs.States.{badStatus, badLeft, badAddress, improper, freshState, atRest}
 use Rattle.chip.specs.declared.Mode.the-variants.{Array}
-use Rattle.loader.specs.Front.{barredPins, noBlock, wrongLengths}
+use Rattle.stepper.specs.Front.{barredPins, noBlock, wrongLengths}
 use Rattle.loader.specs.Walks.{risesIn}
 use Rattle.run.specs.declared.Ran.{Ran}
 use Rattle.run.specs.Runs.{runNumber, ranOf}

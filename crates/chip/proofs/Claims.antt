@@ -1,5 +1,4 @@
--- Two results that a promise allows are equal, for each public function of this crate. What the rules amount to is claimed
--- with the model, whose cycle applies them. Assumes nothing.
+-- Two results that a promise allows are equal, for each public function of this crate. Assumes nothing.
 use mathlib.Core.Path.{_≡_}
 use mathlib.Core.Bool.{Bool}
 use Prim.Native.Nat.{ℕ}
@@ -9,13 +8,10 @@ use Rattle.device.specs.declared.Device.{Device}
 use Rattle.chip.specs.declared.Pins.{Pins}
 use Rattle.chip.specs.declared.Cycle.{Cycle}
 use Rattle.chip.specs.declared.State.{State}
+use Rattle.chip.specs.declared.Mode.{Mode}
 use Rattle.chip.specs.declared.Phase.{Phase}
-use Rattle.chip.specs.declared.Action.{Action}
-use Rattle.chip.specs.declared.Decision.{Decision}
-use Rattle.chip.specs.Levels.{rpLow, vppLow, vppHigh, badPins, locked}
-use Rattle.chip.specs.States.{improper, freshState, resetOf}
-use Rattle.chip.specs.Commands.{actionOf}
-use Rattle.chip.specs.Cycles.{decideOf}
+use Rattle.chip.specs.Levels.{rpLow, vppLow, vppHigh, badPins, badLevels, locked}
+use Rattle.chip.specs.States.{isBusy, isPending, isArray, isIdentifier, improper, atRest, freshState, resetOf}
 
 pub rp-low-unique : (p : Pins) → Unique (λ (r : Bool). r ≡ rpLow p)
 rp-low-unique p = only (rpLow p)
@@ -29,20 +25,32 @@ vpp-high-unique part p = only (vppHigh part p)
 pub bad-pins-unique : (part : Part) (p : Pins) → Unique (λ (r : Bool). r ≡ badPins part p)
 bad-pins-unique part p = only (badPins part p)
 
+pub bad-levels-unique : (part : Part) (c : Cycle) → Unique (λ (r : Bool). r ≡ badLevels part c)
+bad-levels-unique part c = only (badLevels part c)
+
 pub locked-unique : (part : Part) (c : Cycle) → Unique (λ (r : Bool). r ≡ locked part c)
 locked-unique part c = only (locked part c)
 
+pub is-busy-unique : (ph : Phase) → Unique (λ (r : Bool). r ≡ isBusy ph)
+is-busy-unique ph = only (isBusy ph)
+
+pub is-pending-unique : (ph : Phase) → Unique (λ (r : Bool). r ≡ isPending ph)
+is-pending-unique ph = only (isPending ph)
+
+pub is-array-unique : (m : Mode) → Unique (λ (r : Bool). r ≡ isArray m)
+is-array-unique m = only (isArray m)
+
+pub is-identifier-unique : (m : Mode) → Unique (λ (r : Bool). r ≡ isIdentifier m)
+is-identifier-unique m = only (isIdentifier m)
+
 pub improper-unique : (d : Device) (s : State) → Unique (λ (r : Bool). r ≡ improper d s)
 improper-unique d s = only (improper d s)
+
+pub at-rest-unique : (m : Mode) (sr : ℕ) → Unique (λ (r : State). r ≡ atRest m sr)
+at-rest-unique m sr = only (atRest m sr)
 
 pub fresh-unique : Unique (λ (r : State). r ≡ freshState)
 fresh-unique = only freshState
 
 pub reset-unique : (s : State) → Unique (λ (r : State). r ≡ resetOf s)
 reset-unique s = only (resetOf s)
-
-pub action-unique : (ph : Phase) (b : ℕ) → Unique (λ (r : Action). r ≡ actionOf ph b)
-action-unique ph b = only (actionOf ph b)
-
-pub decide-unique : (d : Device) (s : State) (c : Cycle) (array residue : ℕ) → Unique (λ (r : Decision). r ≡ decideOf d s c array residue)
-decide-unique d s c array residue = only (decideOf d s c array residue)

@@ -42,7 +42,7 @@ fn bad_oe(kind: Kind, oe: u8) -> bool
 }
 
 // Refusal 4.
-pub(crate) fn bad_levels(part: Part, c: Cycle) -> bool
+pub fn bad_levels(part: Part, c: Cycle) -> bool
     ensures { λ r. ⌜ r ≡ badLevels part c ⌝ }
 {
     let p = c.pins;

@@ -1,9 +1,6 @@
-// The rules of a bus cycle, on values alone: no slice comes near them. `decide` says what a cycle answers, which state it
-// leaves, and what it does to the array.
-pub mod commands;
-pub mod cycles;
+// The values that the rules of a bus cycle are about: cycles, levels, states, effects and replies; when levels are bad and
+// when a state is proper.
 pub mod levels;
-mod settling;
 pub mod states;
 
 use device::Device;

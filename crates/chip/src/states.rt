@@ -22,7 +22,7 @@ ghost use Rattle.chip.specs.States.{
   resetOf,
 };
 
-pub(crate) fn is_busy(ph: Phase) -> bool
+pub fn is_busy(ph: Phase) -> bool
     ensures { λ r. ⌜ r ≡ isBusy ph ⌝ }
 {
     match ph {
@@ -35,7 +35,7 @@ pub(crate) fn is_busy(ph: Phase) -> bool
     }
 }
 
-pub(crate) fn is_pending(ph: Phase) -> bool
+pub fn is_pending(ph: Phase) -> bool
     ensures { λ r. ⌜ r ≡ isPending ph ⌝ }
 {
     match ph {
@@ -74,7 +74,7 @@ fn most_left(d: Device, ph: Phase) -> u16
     }
 }
 
-pub(crate) fn is_array(m: Mode) -> bool
+pub fn is_array(m: Mode) -> bool
     ensures { λ r. ⌜ r ≡ isArray m ⌝ }
 {
     match m {
@@ -84,7 +84,7 @@ pub(crate) fn is_array(m: Mode) -> bool
     }
 }
 
-pub(crate) fn is_status(m: Mode) -> bool
+fn is_status(m: Mode) -> bool
     ensures { λ r. ⌜ r ≡ isStatus m ⌝ }
 {
     match m {
@@ -94,7 +94,7 @@ pub(crate) fn is_status(m: Mode) -> bool
     }
 }
 
-pub(crate) fn is_identifier(m: Mode) -> bool
+pub fn is_identifier(m: Mode) -> bool
     ensures { λ r. ⌜ r ≡ isIdentifier m ⌝ }
 {
     match m {
@@ -155,7 +155,7 @@ pub fn improper(d: Device, s: State) -> bool
 }
 
 // Nothing awaited, running or suspended.
-pub(crate) fn at_rest(m: Mode, status: u8) -> State
+pub fn at_rest(m: Mode, status: u8) -> State
     ensures { λ r. ⌜ r ≡ atRest m status ⌝ }
 {
     State {

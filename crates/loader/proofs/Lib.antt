@@ -1,4 +1,2 @@
-pub mod Small
 pub mod Walking
-pub mod Again
 pub mod Claims

@@ -1,3 +1,2 @@
 pub mod Walks
 pub mod Moves
-pub mod Front

@@ -1,54 +1,14 @@
--- The loader's moves: the cycle that is out, what its byte does to scratch, and the record after it. Assumes nothing.
+-- The loader's moves: the record after a byte. Assumes nothing.
 use mathlib.Core.Bool.{Bool, true, false, not, _&&_, _||_}
 use mathlib.Core.List.{List}
 use Prim.Native.Nat.{ℕ, suc, _+_, _-_, _/_, _%_}
-use lib.ListN.{length, getD, set, replicate}
+use lib.ListN.{length, getD}
 use lib.Dec.{eqb, ltb, leb}
 use Rattle.cells.specs.Pick.{pick}
-use Rattle.device.specs.declared.Part.{Part}
-use Rattle.device.specs.Parts.{startOf}
-use Rattle.chip.specs.declared.Pins.{Pins}
-use Rattle.chip.specs.declared.Kind.{Kind}
-use Rattle.chip.specs.declared.Kind.the-variants.{Read, Write, Idle}
-use Rattle.chip.specs.declared.Cycle.{Cycle}
 use Rattle.loader.specs.declared.Stage.{Stage}
 use Rattle.loader.specs.declared.Stage.the-variants.{Clearing, Opening, Reading, EraseAsking, EraseConfirming, EraseWaiting, ProgramAsking, ProgramSending, ProgramWaiting, Closing, Verifying, Ended}
 use Rattle.loader.specs.declared.Loader.{Loader}
 use Rattle.loader.specs.Walks.{risesIn, diffFrom}
-
--- the block's first address
-unfoldable pub firstOf : Loader → ℕ
-firstOf l = startOf (l .part) (l .block)
-
--- no block is that long: a place beyond it belongs to no record that is taken
-abbrev pub reach : ℕ
-reach = 16777216
-
--- the address of the byte at the record's place
-unfoldable pub hereOf : Loader → ℕ
-hereOf l = pick (ltb (l .place) reach) (firstOf l + l .place) (firstOf l)
-
--- a cycle at an address with the record's levels, OE# normal
-abbrev pub cycleAt : Loader → Kind → ℕ → ℕ → Cycle
-cycleAt l kind address byte = record { kind = kind; pins = l .pins; oe = 0; address = address; byte = byte }
-
--- the cycle that is out: commands and an erase's polls at the block's first address, all about one byte at that byte
-abbrev pub cycleIn : Stage → Loader → List ℕ → Cycle
-cycleIn Clearing l w = cycleAt l Write (firstOf l) 0x50
-cycleIn Opening l w = cycleAt l Write (firstOf l) 0xFF
-cycleIn Reading l w = cycleAt l Read (hereOf l) 0
-cycleIn EraseAsking l w = cycleAt l Write (firstOf l) 0x20
-cycleIn EraseConfirming l w = cycleAt l Write (firstOf l) 0xD0
-cycleIn EraseWaiting l w = cycleAt l Read (firstOf l) 0
-cycleIn ProgramAsking l w = cycleAt l Write (hereOf l) 0x40
-cycleIn ProgramSending l w = cycleAt l Write (hereOf l) (getD w (l .place) 0)
-cycleIn ProgramWaiting l w = cycleAt l Read (hereOf l) 0
-cycleIn Closing l w = cycleAt l Write (firstOf l) 0xFF
-cycleIn Verifying l w = cycleAt l Read (hereOf l) 0
-cycleIn (Ended n) l w = cycleAt l Idle (firstOf l) 0
-
-abbrev pub cycleOf : Loader → List ℕ → Cycle
-cycleOf l w = cycleIn (l .stage) l w
 
 -- the record at another stage, place and count of polls
 abbrev pub at : Loader → Stage → ℕ → ℕ → Loader
@@ -83,28 +43,6 @@ eraseFault sr = pick (sr3 sr) 21 (pick (bothErrors sr) 22 (pick (sr5 sr) 23 0))
 -- a ready status of a program: the same with 24 and SR.4
 unfoldable pub programFault : ℕ → ℕ
 programFault sr = pick (sr3 sr) 21 (pick (bothErrors sr) 22 (pick (sr4 sr) 24 0))
-
--- an erase that ended well
-unfoldable pub erasedWell : ℕ → Bool
-erasedWell sr = isReady sr && eqb (eraseFault sr) 0
-
--- what the byte does to scratch: reads store it, an erase that ended well fills it with ones
-abbrev pub storeIn : Stage → ℕ → ℕ → List ℕ → List ℕ
-storeIn Clearing place b sc = sc
-storeIn Opening place b sc = sc
-storeIn Reading place b sc = set sc place b
-storeIn EraseAsking place b sc = sc
-storeIn EraseConfirming place b sc = sc
-storeIn EraseWaiting place b sc = pick (erasedWell b) (replicate (length sc) 255) sc
-storeIn ProgramAsking place b sc = sc
-storeIn ProgramSending place b sc = sc
-storeIn ProgramWaiting place b sc = sc
-storeIn Closing place b sc = sc
-storeIn Verifying place b sc = set sc place b
-storeIn (Ended n) place b sc = sc
-
-abbrev pub storeOf : Loader → ℕ → List ℕ → List ℕ
-storeOf l b sc = storeIn (l .stage) (l .place) b sc
 
 -- on to the first differing byte from place i on, or to the verify
 unfoldable pub onward : Loader → ℕ → List ℕ → List ℕ → Loader

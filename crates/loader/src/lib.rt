@@ -1,6 +1,4 @@
-// The steppable loader: the bus cycles for one flash block, one a step. It gives a cycle, takes the byte read, and gives
-// the next, as a record that goes in and comes out by value.
-pub mod front;
+// The loader's record, and where a byte read takes it. A cycle is out at each stage; `stepper` gives it and takes the byte.
 pub mod moves;
 pub mod walk;
 

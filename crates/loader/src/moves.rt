@@ -1,19 +1,11 @@
-// The loader's moves: the cycle that is out, what its byte does to scratch, and the record after it.
+// The loader's moves: the record after a byte.
 use crate::Loader;
 use crate::Stage;
 use crate::walk::diff_from;
-use crate::walk::put;
 use crate::walk::rises_in;
-use chip::Cycle;
-use chip::Kind;
 ghost use mathlib.Core.Path.{_≡_};
 ghost use Prim.Native.Nat.{_-_};
-ghost use Rattle.loader.specs.declared.Stage.the-variants.{EraseWaiting};
 ghost use Rattle.loader.specs.Moves.{
-  firstOf,
-  hereOf,
-  cycleAt,
-  cycleIn,
   at,
   endedBy,
   isReady,
@@ -23,8 +15,6 @@ ghost use Rattle.loader.specs.Moves.{
   bothErrors,
   eraseFault,
   programFault,
-  erasedWell,
-  storeIn,
   onward,
   afterReads,
   readMore,
@@ -34,61 +24,7 @@ ghost use Rattle.loader.specs.Moves.{
   programPolled,
   verifyMore,
   nextIn,
-  cycleOf,
-  storeOf,
-  nextOf,
 };
-
-fn first(l: Loader) -> u32
-    ensures { λ r. ⌜ r ≡ firstOf l ⌝ }
-{
-    let part = l.part;
-    device::start(part, l.block) as u32
-}
-
-// The address of the byte at the record's place.
-pub(crate) fn here(l: Loader) -> u32
-    ensures { λ r. ⌜ r ≡ hereOf l ⌝ }
-{
-    let a = first(l);
-    if l.place < 16777216 {
-        return a + l.place as u32;
-    }
-    a
-}
-
-fn cycle_at(l: Loader, kind: Kind, address: u32, byte: u8) -> Cycle
-    ensures { λ r. ⌜ r ≡ cycleAt l kind address byte ⌝ }
-{
-    let pins = l.pins;
-    Cycle {
-        kind: kind,
-        pins: pins,
-        oe: 0,
-        address: address,
-        byte: byte,
-    }
-}
-
-// The cycle that is out.
-pub(crate) fn cycle_in(stage: Stage, l: Loader, wanted: &[u8]) -> Cycle
-    ensures { λ r. ⌜ r ≡ cycleIn stage l (now (wanted .entry)) ⌝ }
-{
-    match stage {
-        Stage::Clearing => cycle_at(l, Kind::Write, first(l), 0x50),
-        Stage::Opening => cycle_at(l, Kind::Write, first(l), 0xFF),
-        Stage::Reading => cycle_at(l, Kind::Read, here(l), 0),
-        Stage::EraseAsking => cycle_at(l, Kind::Write, first(l), 0x20),
-        Stage::EraseConfirming => cycle_at(l, Kind::Write, first(l), 0xD0),
-        Stage::EraseWaiting => cycle_at(l, Kind::Read, first(l), 0),
-        Stage::ProgramAsking => cycle_at(l, Kind::Write, here(l), 0x40),
-        Stage::ProgramSending => cycle_at(l, Kind::Write, here(l), cells::nth(wanted, l.place)),
-        Stage::ProgramWaiting => cycle_at(l, Kind::Read, here(l), 0),
-        Stage::Closing => cycle_at(l, Kind::Write, first(l), 0xFF),
-        Stage::Verifying => cycle_at(l, Kind::Read, here(l), 0),
-        Stage::Ended(_) => cycle_at(l, Kind::Idle, first(l), 0),
-    }
-}
 
 fn moved(l: Loader, stage: Stage, place: usize, polls: u32) -> Loader
     ensures { λ r. ⌜ r ≡ at l stage place polls ⌝ }
@@ -111,7 +47,7 @@ pub fn ended_by(l: Loader, n: u8) -> Loader
     moved(l, Stage::Ended(n), l.place, 0)
 }
 
-fn is_ready(b: u8) -> bool
+pub fn is_ready(b: u8) -> bool
     ensures { λ r. ⌜ r ≡ isReady b ⌝ }
 {
     128 <= b
@@ -141,7 +77,7 @@ fn both_errors(b: u8) -> bool
     program_error(b) & erase_error(b)
 }
 
-fn erase_fault(b: u8) -> u8
+pub fn erase_fault(b: u8) -> u8
     ensures { λ r. ⌜ r ≡ eraseFault b ⌝ }
 {
     if supply_fault(b) {
@@ -169,41 +105,6 @@ fn program_fault(b: u8) -> u8
         return 24;
     }
     0
-}
-
-fn erased_well(b: u8) -> bool
-    ensures { λ r. ⌜ r ≡ erasedWell b ⌝ }
-{
-    is_ready(b) & (erase_fault(b) == 0)
-}
-
-// An erase that ended well fills scratch with ones.
-fn store_erase(b: u8, scratch: &mut [u8])
-    ensures { λ _. ⌜ now (scratch .exit) ≡ storeIn EraseWaiting 0 b (now (scratch .entry)) ⌝ }
-{
-    if erased_well(b) {
-        cells::fill(scratch, 255)
-    }
-}
-
-// What the byte does to scratch.
-pub(crate) fn store(stage: Stage, place: usize, b: u8, scratch: &mut [u8])
-    ensures { λ _. ⌜ now (scratch .exit) ≡ storeIn stage place b (now (scratch .entry)) ⌝ }
-{
-    match stage {
-        Stage::Clearing => {}
-        Stage::Opening => {}
-        Stage::Reading => put(scratch, place, b),
-        Stage::EraseAsking => {}
-        Stage::EraseConfirming => {}
-        Stage::EraseWaiting => store_erase(b, scratch),
-        Stage::ProgramAsking => {}
-        Stage::ProgramSending => {}
-        Stage::ProgramWaiting => {}
-        Stage::Closing => {}
-        Stage::Verifying => put(scratch, place, b),
-        Stage::Ended(_) => {}
-    }
 }
 
 // On to the first differing byte from `from` on, or to the verify.
@@ -304,7 +205,7 @@ fn verify_more(l: Loader, b: u8, wanted: &[u8]) -> Loader
 }
 
 // The record after a byte.
-pub(crate) fn next(stage: Stage, l: Loader, b: u8, wanted: &[u8], scratch: &[u8]) -> Loader
+pub fn next(stage: Stage, l: Loader, b: u8, wanted: &[u8], scratch: &[u8]) -> Loader
     ensures { λ r. ⌜ r ≡ nextIn stage l b (now (wanted .entry)) (now (scratch .entry)) ⌝ }
 {
     match stage {
@@ -321,22 +222,4 @@ pub(crate) fn next(stage: Stage, l: Loader, b: u8, wanted: &[u8], scratch: &[u8]
         Stage::Verifying => verify_more(l, b, wanted),
         Stage::Ended(_) => l,
     }
-}
-
-// A byte taken: scratch first, then the record, which reads the new scratch.
-pub fn advance(l: Loader, b: u8, wanted: &[u8], scratch: &mut [u8]) -> Loader
-    ensures { λ r. ⌜ r ≡ nextOf l b (now (wanted .entry)) (storeOf l b (now (scratch .entry))) ⌝ }
-    ensures { λ _. ⌜ now (scratch .exit) ≡ storeOf l b (now (scratch .entry)) ⌝ }
-{
-    let stage = l.stage;
-    store(stage, l.place, b, scratch);
-    next(stage, l, b, wanted, scratch)
-}
-
-// The cycle that is out.
-pub fn out(l: Loader, wanted: &[u8]) -> Cycle
-    ensures { λ r. ⌜ r ≡ cycleOf l (now (wanted .entry)) ⌝ }
-{
-    let stage = l.stage;
-    cycle_in(stage, l, wanted)
 }

@@ -1,6 +1,5 @@
 // Walks over what is wanted and what the block held.
 ghost use mathlib.Core.Path.{_≡_};
-ghost use lib.ListN.{set};
 ghost use Rattle.loader.specs.Walks.{mustRise, risesIn, diffFrom};
 
 // Some bit is 1 in the wanted byte where the held byte has a 0.
@@ -36,13 +35,4 @@ pub(crate) fn diff_from(from: usize, wanted: &[u8], scratch: &[u8]) -> usize
         i += 1;
     }
     i
-}
-
-// The byte at a place becomes b; nothing past the end.
-pub(crate) fn put(s: &mut [u8], at: usize, b: u8)
-    ensures { λ _. ⌜ now (s .exit) ≡ set (now (s .entry)) at b ⌝ }
-{
-    if at < s.len() {
-        s[at] = b;
-    }
 }

@@ -17,9 +17,9 @@ use Rattle.chip.specs.declared.Effect.{Effect}
 use Rattle.chip.specs.declared.Effect.the-variants.{Nothing}
 use Rattle.chip.specs.declared.Reply.the-variants.{Refuses, Gives}
 use Rattle.chip.specs.States.{improper, isBusy, freshState, resetOf}
-use Rattle.chip.specs.Settling.{settleOf}
-use Rattle.chip.specs.Cycles.{tableOf, numberOf, decideOf, respondOf}
-use Rattle.chip.proofs.Facts.{proper-parts, parts-proper}
+use Rattle.settling.specs.Settling.{settleOf}
+use Rattle.bus.specs.Cycles.{tableOf, numberOf, decideOf, respondOf}
+use Rattle.bus.proofs.Facts.{proper-parts, parts-proper}
 use Rattle.model.specs.declared.Seen.the-variants.{Refused}
 use Rattle.model.specs.declared.Answer.{Answer}
 use Rattle.model.specs.Arrays.{answerOf, arrayAfter}

@@ -16,7 +16,7 @@ use Rattle.chip.specs.declared.Effect.{Effect}
 use Rattle.chip.specs.declared.Effect.the-variants.{Nothing, Program, Erase, CutProgram, CutErase}
 use Rattle.chip.specs.declared.State.{State}
 use Rattle.chip.specs.declared.Cycle.{Cycle}
-use Rattle.chip.specs.Cycles.{decideOf}
+use Rattle.bus.specs.Cycles.{decideOf}
 use Rattle.model.specs.Arrays.{ones, erased, residual, arrayOf, arrayAfter, Within}
 use Rattle.model.proofs.Reach.{within}
 

@@ -22,11 +22,11 @@ use Rattle.chip.specs.declared.Phase.{Phase}
 use Rattle.chip.specs.declared.Phase.the-variants.{Free, EraseAwaited, DataAwaited, Programming, Erasing, Suspended}
 use Rattle.chip.specs.Levels.{rpLow, vppLow, locked}
 use Rattle.chip.specs.States.{badMode, badStatus, badLeft, badAddress, improper, isPending, isBusy, topBits, atRest, freshState, resetOf}
-use Rattle.chip.specs.Commands.{firstWrite, afterErase, whileErasing, whileSuspended, actionOf, performedOf, startedOf, unsupplied}
-use Rattle.chip.specs.Settling.{settledAs, cutBits, cutBy, countedOff, settleOf}
+use Rattle.commands.specs.Commands.{firstWrite, afterErase, whileErasing, whileSuspended, actionOf, performedOf, startedOf, unsupplied}
+use Rattle.settling.specs.Settling.{settledAs, cutBits, cutBy, countedOff, settleOf}
 use Rattle.chip.specs.declared.Reply.the-variants.{Gives}
-use Rattle.chip.specs.Cycles.{pastArray, numberOf, decideOf, acceptOf, respondOf, readOf, refusedBy}
-use Rattle.chip.proofs.Facts.{Proper, Fine}
+use Rattle.bus.specs.Cycles.{pastArray, numberOf, decideOf, acceptOf, respondOf, readOf, refusedBy}
+use Rattle.bus.proofs.Facts.{Proper, Fine}
 use Rattle.model.proofs.Outcome.{outcome, accept-ways}
 use Rattle.model.proofs.Status as sr
 use Rattle.model.proofs.Status.{fits, kept, status-fits, fits-status}

@@ -24,10 +24,10 @@ use Rattle.chip.specs.declared.Effect.{Effect}
 use Rattle.chip.specs.declared.Effect.the-variants.{Nothing, Program, Erase, CutProgram, CutErase}
 use Rattle.chip.specs.Levels.{rpLow, vppLow, locked}
 use Rattle.chip.specs.States.{isPending, isBusy, resetOf}
-use Rattle.chip.specs.Commands.{firstWrite, afterErase, whileErasing, whileSuspended, actionOf, performedOf, startedOf, unsupplied}
-use Rattle.chip.specs.Settling.{settledAs, cutOf, endOf, cutBy, countedOff, settleOf}
-use Rattle.chip.specs.Cycles.{isWrite, numberOf, decideOf, acceptOf, respondOf, refusedBy}
-use Rattle.chip.proofs.Ways.{refused, accepted}
+use Rattle.commands.specs.Commands.{firstWrite, afterErase, whileErasing, whileSuspended, actionOf, performedOf, startedOf, unsupplied}
+use Rattle.settling.specs.Settling.{settledAs, cutOf, endOf, cutBy, countedOff, settleOf}
+use Rattle.bus.specs.Cycles.{isWrite, numberOf, decideOf, acceptOf, respondOf, refusedBy}
+use Rattle.bus.proofs.Ways.{refused, accepted}
 use Rattle.model.proofs.Outcome.{outcome, accept-ways, accept-effect}
 use Rattle.model.specs.Begun.{operationOf, pendingIn, pendingOf, askedBy, startsOf, begunBy, isAwaited}
 use Rattle.model.proofs.Keeping.{st}

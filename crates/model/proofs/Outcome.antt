@@ -14,10 +14,10 @@ use Rattle.chip.specs.declared.Kind.{Kind}
 use Rattle.chip.specs.declared.Kind.the-variants.{Read, Write, Idle}
 use Rattle.chip.specs.declared.Reply.the-variants.{Quiet}
 use Rattle.chip.specs.Levels.{rpLow}
-use Rattle.chip.specs.Settling.{settleOf}
-use Rattle.chip.specs.Cycles.{numberOf, decideOf, acceptOf, respondOf, refusedBy, decidedAs}
-use Rattle.chip.proofs.Ways.{refused, accepted}
-use Rattle.chip.proofs.Facts.{Fine, fine}
+use Rattle.settling.specs.Settling.{settleOf}
+use Rattle.bus.specs.Cycles.{numberOf, decideOf, acceptOf, respondOf, refusedBy, decidedAs}
+use Rattle.bus.proofs.Ways.{refused, accepted}
+use Rattle.bus.proofs.Facts.{Fine, fine}
 
 -- whatever holds of a refusal and of an accepted cycle holds of the cycle
 pub outcome : (d : Device) (s : State) (c : Cycle) (n r : ℕ) (P : Decision → Type 0)

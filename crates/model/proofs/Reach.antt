@@ -21,9 +21,9 @@ use Rattle.chip.specs.declared.Phase.{Phase}
 use Rattle.chip.specs.declared.Phase.the-variants.{Free, EraseAwaited, DataAwaited, Programming, Erasing, Suspended}
 use Rattle.chip.specs.Levels.{rpLow, vppLow}
 use Rattle.chip.specs.States.{badAddress, isPending, isBusy}
-use Rattle.chip.specs.Settling.{settledAs, cutOf, endOf, residueFor, resetBy, cutBy, countedOff, settleOf}
-use Rattle.chip.specs.Cycles.{shortResidue, pastArray, isIdle, numberOf, decideOf, acceptOf, respondOf, readOf, decidedAs}
-use Rattle.chip.proofs.Facts.{Fine}
+use Rattle.settling.specs.Settling.{settledAs, cutOf, endOf, residueFor, resetBy, cutBy, countedOff, settleOf}
+use Rattle.bus.specs.Cycles.{shortResidue, pastArray, isIdle, numberOf, decideOf, acceptOf, respondOf, readOf, decidedAs}
+use Rattle.bus.proofs.Facts.{Fine}
 use Rattle.model.proofs.Outcome.{outcome, accept-ways, accept-effect}
 use Rattle.model.specs.Arrays.{Within, Shown}
 

@@ -18,12 +18,12 @@ use Rattle.chip.specs.declared.Mode.the-variants.{Array, Status, Identifier}
 use Rattle.chip.specs.declared.Reply.{Reply}
 use Rattle.chip.specs.declared.Reply.the-variants.{Quiet, Gives, GivesArray, Refuses}
 use Rattle.chip.specs.declared.Effect.the-variants.{Nothing}
-use Rattle.chip.specs.Settling.{settleOf}
-use Rattle.chip.specs.Cycles.{tableOf, numberOf, decideOf, acceptOf, respondOf, readOf, refusedBy}
+use Rattle.settling.specs.Settling.{settleOf}
+use Rattle.bus.specs.Cycles.{tableOf, numberOf, decideOf, acceptOf, respondOf, readOf, refusedBy}
 use mathlib.Core.Bool.{Bool, true, false}
 use Rattle.cells.specs.Pick.{unlike}
-use Rattle.chip.proofs.Ways.{refused, accepted}
-use Rattle.chip.proofs.Facts.{Fine}
+use Rattle.bus.proofs.Ways.{refused, accepted}
+use Rattle.bus.proofs.Facts.{Fine}
 use Rattle.model.specs.declared.Seen.the-variants.{NoData, Byte, Refused}
 use Rattle.model.specs.Arrays.{arrayOf, arrayAfter, answerOf, seenOf}
 use Rattle.model.proofs.Outcome.{outcome, accept-ways}

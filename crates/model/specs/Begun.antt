@@ -13,8 +13,8 @@ use Rattle.chip.specs.declared.Effect.the-variants.{Nothing, Program, Erase, Cu
 use Rattle.chip.specs.declared.State.{State}
 use Rattle.chip.specs.declared.Cycle.{Cycle}
 use Rattle.chip.specs.Levels.{rpLow, locked}
-use Rattle.chip.specs.Commands.{unsupplied}
-use Rattle.chip.specs.Cycles.{isWrite, numberOf}
+use Rattle.commands.specs.Commands.{unsupplied}
+use Rattle.bus.specs.Cycles.{isWrite, numberOf}
 
 -- the operation that an effect ends or cuts; an uncut effect is its own operation
 abbrev pub operationOf : Effect → Effect

@@ -1,4 +1,4 @@
-// The bench model: one bus cycle at a time on a lent array. The rules are in `chip`; here they are applied to the bytes.
+// The bench model: one bus cycle at a time on a lent array. The rules are in `bus`; here they are applied to the bytes.
 use chip::Cycle;
 use chip::Effect;
 use chip::Reply;
@@ -123,7 +123,7 @@ pub fn cycle(d: Device, s: State, c: Cycle, array: &mut [u8], residue: &[u8]) ->
     ensures { λ _. ⌜ now (array .exit) ≡ arrayAfter d s c (now (array .entry)) (now (residue .entry)) ⌝ }
 {
     let part = d.part;
-    let x = chip::cycles::decide(d, s, c, array.len(), residue.len());
+    let x = bus::decide(d, s, c, array.len(), residue.len());
     let effect = x.effect;
     let reply = x.reply;
     let state = x.state;

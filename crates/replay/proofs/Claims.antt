@@ -13,8 +13,8 @@ use Rattle.chip.specs.declared.State.{State}
 use Rattle.chip.specs.declared.Cycle.{Cycle}
 use Rattle.chip.specs.States.{freshState}
 use Rattle.chip.specs.Levels.{badLevels}
-use Rattle.chip.specs.Settling.{settleOf}
-use Rattle.chip.specs.Cycles.{tableOf, numberOf, pastArray, late}
+use Rattle.settling.specs.Settling.{settleOf}
+use Rattle.bus.specs.Cycles.{tableOf, numberOf, pastArray, late}
 use Rattle.model.specs.declared.Answer.{Answer}
 use Rattle.model.specs.declared.Seen.{Seen}
 use Rattle.model.specs.declared.Seen.the-variants.{Refused}

@@ -13,7 +13,7 @@ use Rattle.cells.specs.Numbers.{Foremost}
 use Rattle.chip.specs.declared.State.{State}
 use Rattle.chip.specs.declared.Cycle.{Cycle}
 use Rattle.chip.specs.States.{freshState}
-use Rattle.chip.specs.Cycles.{tableOf}
+use Rattle.bus.specs.Cycles.{tableOf}
 use Rattle.model.specs.declared.Seen.the-variants.{Refused}
 use Rattle.model.proofs.Claims as model
 use Rattle.replay.specs.Lines.{isLine, cycleIn}

@@ -16,8 +16,8 @@ use Rattle.chip.specs.declared.State.{State}
 use Rattle.chip.specs.declared.Cycle.{Cycle}
 use Rattle.chip.specs.Levels.{rpLow, vppLow, badLevels}
 use Rattle.chip.specs.States.{improper, freshState}
-use Rattle.chip.specs.Settling.{residueFor, settleOf}
-use Rattle.chip.specs.Cycles.{numberOf, late, pastArray, shortResidue}
+use Rattle.settling.specs.Settling.{residueFor, settleOf}
+use Rattle.bus.specs.Cycles.{numberOf, late, pastArray, shortResidue}
 use Rattle.model.proofs.Claims as model
 use Rattle.replay.specs.Replays.{benchT, stepOf, arrayBy}
 

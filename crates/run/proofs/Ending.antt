@@ -14,7 +14,7 @@ use Rattle.device.specs.declared.Device.{Device}
 use Rattle.chip.specs.declared.Pins.{Pins}
 use Rattle.chip.specs.declared.State.{State}
 use Rattle.loader.specs.declared.Stage.the-variants.{Clearing}
-use Rattle.loader.specs.Front.{recordAt}
+use Rattle.stepper.specs.Front.{recordAt}
 use Rattle.run.specs.declared.Ran.{Ran}
 use Rattle.run.specs.Turns.{Config, isEnded, answerTo, moved, turnOf, after, bound}
 use Rattle.run.specs.Runs.{runRows, runNumber, begin, ranBy, driven, leftBy, ranOf, bytesOf, scratchOf}

@@ -11,9 +11,9 @@ use Rattle.device.specs.declared.Device.{Device}
 use Rattle.device.specs.Parts.{unknownDevice, sizeOf, lengthOf}
 use Rattle.chip.specs.declared.Pins.{Pins}
 use Rattle.chip.specs.declared.State.{State}
-use Rattle.chip.proofs.Facts.{Proper, proper-parts}
-use Rattle.loader.specs.Front.{barredPins, noBlock, wrongLengths}
-use Rattle.loader.proofs.Small.{length-small}
+use Rattle.bus.proofs.Facts.{Proper, proper-parts}
+use Rattle.stepper.specs.Front.{barredPins, noBlock, wrongLengths}
+use Rattle.stepper.proofs.Small.{length-small}
 use Rattle.run.specs.Runs.{underWay, runRows, runNumber}
 
 pub record Good (d : Device) (s : State) (p : Pins) (k array w sc : ℕ) : Type 0 where

@@ -12,7 +12,8 @@ use Rattle.loader.specs.declared.Stage.{Stage}
 use Rattle.loader.specs.declared.Stage.the-variants.{Clearing, Opening, Reading, EraseAsking, EraseConfirming, EraseWaiting, ProgramAsking, ProgramSending, ProgramWaiting, Closing, Verifying, Ended}
 use Rattle.loader.specs.declared.Loader.{Loader}
 use Rattle.loader.specs.Walks.{nextDiff, diffFrom, risesIn}
-use Rattle.loader.specs.Moves.{at, endedBy, isReady, eraseFault, programFault, onward, afterReads, readMore, pollMore, erasePolled, past, programPolled, verifyMore, nextIn, nextOf, storeOf}
+use Rattle.loader.specs.Moves.{at, endedBy, isReady, eraseFault, programFault, onward, afterReads, readMore, pollMore, erasePolled, past, programPolled, verifyMore, nextIn, nextOf}
+use Rattle.stepper.specs.Stores.{storeOf}
 use Rattle.model.specs.declared.Seen.{Seen}
 use Rattle.model.specs.declared.Seen.the-variants.{NoData, Byte, Refused}
 use Rattle.run.specs.Turns.{isEnded, loaderBy, bound}

@@ -16,7 +16,7 @@ use Rattle.chip.specs.States.{improper}
 use Rattle.loader.specs.declared.Stage.{Stage}
 use Rattle.loader.specs.declared.Stage.the-variants.{Clearing, Opening, Reading, EraseAsking, EraseConfirming, EraseWaiting, ProgramAsking, ProgramSending, ProgramWaiting, Closing, Verifying, Ended}
 use Rattle.loader.specs.declared.Loader.{Loader}
-use Rattle.loader.specs.Front.{barredPins, noBlock, wrongLengths, recordAt, endAddress}
+use Rattle.stepper.specs.Front.{barredPins, noBlock, wrongLengths, recordAt, endAddress}
 use Rattle.run.specs.declared.Ran.{Ran}
 use Rattle.run.specs.Turns.{Config, after, bound}
 

@@ -12,7 +12,9 @@ use Rattle.model.specs.Arrays.{answerOf, arrayAfter}
 use Rattle.loader.specs.declared.Stage.{Stage}
 use Rattle.loader.specs.declared.Stage.the-variants.{Clearing, Opening, Reading, EraseAsking, EraseConfirming, EraseWaiting, ProgramAsking, ProgramSending, ProgramWaiting, Closing, Verifying, Ended}
 use Rattle.loader.specs.declared.Loader.{Loader}
-use Rattle.loader.specs.Moves.{cycleOf, storeOf, nextOf, endedBy}
+use Rattle.loader.specs.Moves.{nextOf, endedBy}
+use Rattle.stepper.specs.Outs.{cycleOf}
+use Rattle.stepper.specs.Stores.{storeOf}
 
 -- a load under way: the loader's record, the device's state, the array, scratch, and the cycles made
 pub record Config : Type 0 where

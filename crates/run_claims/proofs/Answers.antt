@@ -29,11 +29,11 @@ use Rattle.chip.specs.declared.Settled.{Settled}
 use Rattle.chip.specs.declared.Decision.{Decision}
 use Rattle.chip.specs.Levels.{rpLow, vppLow, badPins, badOe, badLevels, locked}
 use Rattle.chip.specs.States.{badMode, badStatus, badLeft, badAddress, improper, atRest, isBusy, isPending, mostLeft}
-use Rattle.chip.specs.Commands.{actionOf, firstWrite, afterErase, performedOf, startedOf, unsupplied}
-use Rattle.chip.specs.Settling.{settledAs, settleOf, countedOff, endOf, residueFor}
-use Rattle.chip.specs.Cycles.{isSuspended, pastArray, shortResidue, noCommand, suspendedRead, noIdentifier, judgeOf, lateOf, decideOf, acceptOf, respondOf, decidedAs}
-use Rattle.chip.proofs.Ways.{accepted, number-late}
-use Rattle.chip.proofs.Facts.{Proper, parts-proper}
+use Rattle.commands.specs.Commands.{actionOf, firstWrite, afterErase, performedOf, startedOf, unsupplied}
+use Rattle.settling.specs.Settling.{settledAs, settleOf, countedOff, endOf, residueFor}
+use Rattle.bus.specs.Cycles.{isSuspended, pastArray, shortResidue, noCommand, suspendedRead, noIdentifier, judgeOf, lateOf, decideOf, acceptOf, respondOf, decidedAs}
+use Rattle.bus.proofs.Ways.{accepted, number-late}
+use Rattle.bus.proofs.Facts.{Proper, parts-proper}
 use Rattle.model.proofs.Keeping.{st, rest-proper}
 use Rattle.model.proofs.Status.{fits, fits-status}
 use Rattle.run_claims.specs.Made.{busCycle as cyc}

@@ -12,7 +12,7 @@ use Rattle.chip.specs.declared.Mode.the-variants.{Array}
 use Rattle.chip.specs.declared.State.{State}
 use Rattle.chip.specs.States.{atRest}
 use Rattle.loader.specs.declared.Stage.the-variants.{Clearing}
-use Rattle.loader.specs.Front.{recordAt}
+use Rattle.stepper.specs.Front.{recordAt}
 use Rattle.run.specs.declared.Ran.{Ran}
 use Rattle.run.specs.Turns.{bound}
 use Rattle.run.specs.Runs.{begin, ranOf, bytesOf, scratchOf}

@@ -25,14 +25,15 @@ use Rattle.chip.specs.declared.Effect.{Effect}
 use Rattle.chip.specs.declared.Effect.the-variants.{Nothing}
 use Rattle.chip.specs.Levels.{rpLow, vppLow, vppHigh, badPins}
 use Rattle.chip.specs.States.{atRest, badLeft, badAddress, badStatus}
-use Rattle.chip.proofs.Facts.{Proper}
+use Rattle.bus.proofs.Facts.{Proper}
 use Rattle.model.proofs.Status.{fits, status-fits}
 use Rattle.model.proofs.Keeping.{times}
 use Rattle.loader.specs.declared.Stage.the-variants.{Clearing, Ended}
 use Rattle.loader.specs.declared.Loader.{Loader}
-use Rattle.loader.specs.Front.{barredPins, noBlock, recordAt}
+use Rattle.stepper.specs.Front.{barredPins, noBlock, recordAt}
 use Rattle.loader.specs.Walks.{risesIn, diffFrom}
-use Rattle.loader.specs.Moves.{cycleOf, isReady, eraseFault, programFault}
+use Rattle.loader.specs.Moves.{isReady, eraseFault, programFault}
+use Rattle.stepper.specs.Outs.{cycleOf}
 use Rattle.loader.specs.declared.Stage.{Stage}
 use Rattle.chip.specs.declared.Cycle.{Cycle}
 use lib.Bits.{bitOr}

@@ -23,7 +23,7 @@ use Rattle.chip.specs.declared.Effect.the-variants.{Nothing}
 use Rattle.chip.specs.declared.Reply.the-variants.{Quiet, Gives}
 use Rattle.chip.specs.declared.State.{State}
 use Rattle.chip.specs.States.{atRest}
-use Rattle.chip.specs.Cycles.{decidedAs}
+use Rattle.bus.specs.Cycles.{decidedAs}
 use Rattle.model.proofs.Status.{fits}
 use Rattle.model.proofs.Keeping.{st}
 use Rattle.model.proofs.Lives.{begunFrom}
@@ -31,7 +31,8 @@ use Rattle.loader.specs.declared.Stage.{Stage}
 use Rattle.loader.specs.declared.Stage.the-variants.{EraseAsking, EraseConfirming, EraseWaiting, ProgramAsking, ProgramSending, ProgramWaiting, Closing, Ended}
 use Rattle.loader.specs.declared.Loader.{Loader}
 use Rattle.loader.specs.Walks.{risesIn, diffFrom}
-use Rattle.loader.specs.Moves.{nextOf, storeOf, isReady, eraseFault, programFault, bothErrors, erasedWell, erasePolled, programPolled, endedBy}
+use Rattle.loader.specs.Moves.{nextOf, isReady, eraseFault, programFault, bothErrors, erasePolled, programPolled, endedBy}
+use Rattle.stepper.specs.Stores.{storeOf, erasedWell}
 use Rattle.run.specs.Turns.{Config, isEnded, turnOf}
 use Rattle.run.proofs.Turning.{conf}
 use Rattle.run_claims.specs.Made.{busCycle as cyc, closingOf}

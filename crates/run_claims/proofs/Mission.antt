@@ -24,7 +24,7 @@ use Rattle.chip.specs.declared.Effect.{Effect}
 use Rattle.chip.specs.declared.Effect.the-variants.{Nothing, Program, Erase}
 use Rattle.chip.specs.States.{atRest}
 use Rattle.loader.specs.declared.Stage.the-variants.{Clearing}
-use Rattle.loader.specs.Front.{recordAt, endAddress}
+use Rattle.stepper.specs.Front.{recordAt, endAddress}
 use Rattle.loader.specs.Walks.{risesIn}
 use Rattle.run.specs.declared.Ran.{Ran}
 use Rattle.run.specs.Turns.{Config, bound}

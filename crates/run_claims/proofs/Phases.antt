@@ -31,16 +31,18 @@ use Rattle.chip.specs.declared.Reply.the-variants.{Quiet, Gives, GivesArray, Re
 use Rattle.chip.specs.declared.State.{State}
 use Rattle.chip.specs.declared.Decision.{Decision}
 use Rattle.chip.specs.States.{atRest, isBusy, mostLeft}
-use Rattle.chip.specs.Settling.{endOf}
-use Rattle.chip.specs.Cycles.{decideOf, decidedAs}
+use Rattle.settling.specs.Settling.{endOf}
+use Rattle.bus.specs.Cycles.{decideOf, decidedAs}
 use Rattle.model.specs.Arrays.{erased, arrayOf, seenOf}
 use Rattle.model.proofs.Keeping.{st}
 use Rattle.loader.specs.declared.Stage.{Stage}
 use Rattle.loader.specs.declared.Stage.the-variants.{Clearing, Opening, Reading, EraseAsking, EraseConfirming, EraseWaiting, ProgramAsking, ProgramSending, ProgramWaiting, Closing, Verifying, Ended}
 use Rattle.loader.specs.declared.Loader.{Loader}
 use Rattle.loader.specs.Walks.{mustRise, rises, nextDiff, diffFrom, risesIn}
-use Rattle.loader.specs.Moves.{firstOf, hereOf, cycleOf, storeOf, nextOf, onward, afterReads, readMore, pollMore, erasePolled, past, programPolled, verifyMore, eraseFault, programFault, bothErrors, erasedWell}
-use Rattle.loader.proofs.Small.{length-small}
+use Rattle.loader.specs.Moves.{nextOf, onward, afterReads, readMore, pollMore, erasePolled, past, programPolled, verifyMore, eraseFault, programFault, bothErrors}
+use Rattle.stepper.specs.Outs.{firstOf, hereOf, cycleOf}
+use Rattle.stepper.specs.Stores.{storeOf, erasedWell}
+use Rattle.stepper.proofs.Small.{length-small}
 use Rattle.loader.proofs.Walking.{diff-turn, diff-over}
 use Rattle.chip.specs.declared.Cycle.{Cycle}
 use Rattle.model.specs.Begun.{isAwaited, pendingIn}

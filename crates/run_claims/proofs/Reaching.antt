@@ -14,7 +14,7 @@ use Rattle.chip.specs.declared.Effect.the-variants.{Nothing, Program, Erase, Cu
 use Rattle.chip.specs.declared.Reply.{Reply}
 use Rattle.chip.specs.declared.Decision.{Decision}
 use Rattle.chip.specs.declared.Cycle.{Cycle}
-use Rattle.chip.specs.Cycles.{decideOf, decidedAs}
+use Rattle.bus.specs.Cycles.{decideOf, decidedAs}
 use Rattle.run_claims.specs.History.{isCut}
 use Rattle.run_claims.specs.Made.{madeIn, isSmooth, smoothTurn, smoothIn}
 use Rattle.model.specs.declared.Answer.{Answer}
@@ -22,7 +22,7 @@ use Rattle.model.specs.Arrays.{arrayOf, seenOf, arrayAfter, answerOf}
 use Rattle.model.specs.Begun.{begunBy}
 use Rattle.model.proofs.Lives.{begunFrom, begun-from}
 use Rattle.loader.specs.declared.Loader.{Loader}
-use Rattle.loader.specs.Moves.{cycleOf}
+use Rattle.stepper.specs.Outs.{cycleOf}
 use Rattle.run.specs.Turns.{Config, isEnded, loaderBy, scratchBy, answerTo, arrayTo, moved, turnOf, after}
 use Rattle.run_claims.specs.Wear.{noted, begunTurn, begunIn}
 use Rattle.run.proofs.Turning.{conf, turn-going}

@@ -16,7 +16,7 @@ use Rattle.chip.specs.declared.Effect.{Effect}
 use Rattle.chip.specs.declared.State.{State}
 use Rattle.chip.specs.Levels.{vppLow}
 use Rattle.loader.specs.declared.Stage.the-variants.{Clearing}
-use Rattle.loader.specs.Front.{recordAt, endAddress}
+use Rattle.stepper.specs.Front.{recordAt, endAddress}
 use Rattle.loader.specs.Walks.{risesIn, diffFrom}
 use Rattle.loader.specs.Moves.{eraseFault, programFault, bothErrors}
 use Rattle.run.specs.declared.Ran.{Ran}

@@ -10,7 +10,7 @@ use Rattle.chip.specs.declared.State.{State}
 use Rattle.chip.specs.declared.Cycle.{Cycle}
 use Rattle.chip.specs.declared.Effect.{Effect}
 use Rattle.chip.specs.declared.Effect.the-variants.{Nothing, Program, Erase, CutProgram, CutErase}
-use Rattle.chip.specs.Cycles.{decideOf}
+use Rattle.bus.specs.Cycles.{decideOf}
 use Rattle.model.specs.Arrays.{answerOf, arrayAfter}
 use Rattle.model.specs.Begun.{begunBy}
 

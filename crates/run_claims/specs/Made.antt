@@ -13,8 +13,8 @@ use Rattle.chip.specs.declared.Cycle.{Cycle}
 use Rattle.chip.specs.declared.Reply.{Reply}
 use Rattle.chip.specs.declared.Reply.the-variants.{Quiet, Gives, GivesArray, Refuses}
 use Rattle.chip.specs.declared.Decision.{Decision}
-use Rattle.chip.specs.Cycles.{decideOf}
-use Rattle.loader.specs.Moves.{cycleOf}
+use Rattle.bus.specs.Cycles.{decideOf}
+use Rattle.stepper.specs.Outs.{cycleOf}
 use Rattle.loader.specs.Walks.{risesIn}
 use Rattle.run.specs.Turns.{Config, isEnded, turnOf}
 use Rattle.run_claims.specs.Wear.{baseOf}

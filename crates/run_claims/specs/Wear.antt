@@ -9,7 +9,7 @@ use Rattle.device.specs.declared.Device.{Device}
 use Rattle.chip.specs.declared.Effect.{Effect}
 use Rattle.chip.specs.declared.Effect.the-variants.{Nothing, Program, Erase, CutProgram, CutErase}
 use Rattle.model.specs.Begun.{begunBy}
-use Rattle.loader.specs.Moves.{cycleOf}
+use Rattle.stepper.specs.Outs.{cycleOf}
 use Rattle.loader.specs.Walks.{risesIn}
 use Rattle.run.specs.Turns.{Config, isEnded, turnOf}
 

@@ -218,7 +218,7 @@ fn bare() -> Bench {
     let state = model::fresh();
     let part = Part { number: 0 };
     let pins = Pins { rp: 0, vpp: 0 };
-    let loader = loader::front::record_at(part, pins, 0, Stage::Clearing);
+    let loader = stepper::front::record_at(part, pins, 0, Stage::Clearing);
     Bench {
         setup: Setup {
             device: Device {
@@ -540,7 +540,7 @@ fn start_line(b: Bench, wanted: &[u8], scratch: &[u8]) -> Bench {
     let pins = setup.pins;
     let m = lesser(setup.wanted, wanted.len());
     let k = lesser(setup.scratch, scratch.len());
-    let g = loader::front::start(part, pins, setup.block, &wanted[0..m], &scratch[0..k]);
+    let g = stepper::front::start(part, pins, setup.block, &wanted[0..m], &scratch[0..k]);
     let turn = g.turn;
     let loader = g.loader;
     let room = digest(&scratch[0..k]);
@@ -551,11 +551,11 @@ fn start_line(b: Bench, wanted: &[u8], scratch: &[u8]) -> Bench {
 
 // Steps with the same byte, at least one.
 fn steps(l: Loader, byte: u8, times: u32, wanted: &[u8], scratch: &mut [u8]) -> Given {
-    let mut g = loader::front::step(l, byte, wanted, scratch);
+    let mut g = stepper::front::step(l, byte, wanted, scratch);
     let mut i = 1;
     while i < times {
         let next = g.loader;
-        g = loader::front::step(next, byte, wanted, scratch);
+        g = stepper::front::step(next, byte, wanted, scratch);
         i += 1;
     }
     g

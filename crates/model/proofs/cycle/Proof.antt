@@ -3,7 +3,7 @@ use Prim.Native.Nat.{ℕ}
 use mathlib.Core.List.{List}
 use lib.ListN.{length}
 use Rattle.chip.specs.declared.Decision.{Decision}
-use Rattle.chip.specs.Cycles.{decideOf}
+use Rattle.bus.specs.Cycles.{decideOf}
 use Rattle.model.specs.Arrays.{Within, Shown, arrayOf, seenOf, arrayAfter, answerOf}
 use Rattle.model.proofs.Reach.{within, shown}
 use borrow.Author.Needs.{needs}
@@ -11,7 +11,7 @@ use Rattle.model.proofs.cycle.Statement.{statement}
 use Rattle.model.proofs.cycle.Tie as tie
 use Rattle.model.proofs.cycle.Reads as reads
 use Rattle.model.proofs.cycle.Lts as lts
-use Rattle.chip.proofs.cycles.decide.Reads as decide-reads
+use Rattle.bus.proofs.decide.Reads as decide-reads
 use Rattle.model.proofs.apply.Reads as apply-reads
 use Rattle.model.proofs.see.Reads as see-reads
 

@@ -1,7 +1,7 @@
 use mathlib.Core.Path.{_≡_, ap}
 use mathlib.Core.List.{[]}
 use Rattle.chip.specs.declared.Cycle.{Cycle}
-use Rattle.loader.specs.Moves.{cycleOf}
+use Rattle.stepper.specs.Outs.{cycleOf}
 use Rattle.model.specs.declared.Answer.{Answer}
 use Rattle.model.specs.Arrays.{answerOf, arrayAfter}
 use Rattle.run.specs.Turns.{loaderBy, scratchBy, answerTo, arrayTo}
@@ -13,7 +13,7 @@ use Rattle.run.proofs.both.Statement.{statement}
 use Rattle.run.proofs.both.Tie as tie
 use Rattle.run.proofs.both.Reads as reads
 use Rattle.run.proofs.both.Lts as lts
-use Rattle.loader.proofs.moves.out.Reads as out-reads
+use Rattle.stepper.proofs.outs.out.Reads as out-reads
 use Rattle.model.proofs.cycle.Reads as cycle-reads
 use Rattle.run.proofs.taken.Reads as taken-reads
 

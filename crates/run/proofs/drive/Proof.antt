@@ -8,7 +8,7 @@ use borrow.Author.Tests.{not-true, not-false}
 use lib.ListN.{length}
 use Rattle.run.specs.Turns.{Config, isEnded, answerTo}
 use Rattle.run.specs.Runs.{driven, begin, ranBy, endOf}
-use Rattle.loader.specs.Front.{endAddress}
+use Rattle.stepper.specs.Front.{endAddress}
 use Rattle.run.proofs.Measure.{remains}
 use Rattle.run.proofs.Turning.{conf, Keeps, keeps-start, keeps-turn, keeps-less, keeps-end}
 use Rattle.run.proofs.drive.Statement.{statement}

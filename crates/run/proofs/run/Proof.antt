@@ -5,7 +5,7 @@ use lib.Dec.{eqb}
 use Rattle.cells.specs.Pick.{pick-true, pick-false}
 use Rattle.loader.specs.declared.Loader.{Loader}
 use Rattle.loader.specs.declared.Stage.the-variants.{Clearing}
-use Rattle.loader.specs.Front.{recordAt}
+use Rattle.stepper.specs.Front.{recordAt}
 use Rattle.run.specs.Turns.{Config}
 use Rattle.run.specs.Runs.{runNumber, begin, ranBy, driven, leftBy, ranOf, bytesOf, scratchOf}
 use Rattle.run.proofs.Good.{short}
@@ -14,7 +14,7 @@ use Rattle.run.proofs.run.Statement.{statement}
 use Rattle.run.proofs.run.Tie as tie
 use Rattle.run.proofs.run.Reads as reads
 use Rattle.run.proofs.run.Lts as lts
-use Rattle.loader.proofs.front.record_at.Reads as record-at-reads
+use Rattle.stepper.proofs.front.record_at.Reads as record-at-reads
 use Rattle.run.proofs.drive.Reads as drive-reads
 use Rattle.run.proofs.run_number.Reads as run-number-reads
 

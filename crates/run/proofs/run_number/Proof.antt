@@ -9,9 +9,9 @@ use Rattle.run.proofs.run_number.Reads as reads
 use Rattle.run.proofs.run_number.Lts as lts
 use Rattle.chip.proofs.states.improper.Reads as improper-reads
 use Rattle.device.proofs.unknown_device.Reads as unknown-device-reads
-use Rattle.loader.proofs.front.barred_pins.Reads as barred-pins-reads
-use Rattle.loader.proofs.front.no_block.Reads as no-block-reads
-use Rattle.loader.proofs.front.wrong_lengths.Reads as wrong-lengths-reads
+use Rattle.stepper.proofs.front.barred_pins.Reads as barred-pins-reads
+use Rattle.stepper.proofs.front.no_block.Reads as no-block-reads
+use Rattle.stepper.proofs.front.wrong_lengths.Reads as wrong-lengths-reads
 use Rattle.run.proofs.under_way.Reads as under-way-reads
 use Rattle.run.proofs.wrong_array.Reads as wrong-array-reads
 

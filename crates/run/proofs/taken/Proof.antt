@@ -9,7 +9,7 @@ use Rattle.run.proofs.taken.Statement.{statement}
 use Rattle.run.proofs.taken.Tie as tie
 use Rattle.run.proofs.taken.Reads as reads
 use Rattle.run.proofs.taken.Lts as lts
-use Rattle.loader.proofs.moves.advance.Reads as advance-reads
+use Rattle.stepper.proofs.stores.advance.Reads as advance-reads
 use Rattle.loader.proofs.moves.ended_by.Reads as ended-by-reads
 
 -- src/lib.rt:37:47

@@ -7,7 +7,7 @@ use Rattle.run_vectors.proofs.steps.Statement.{statement}
 use Rattle.run_vectors.proofs.steps.Tie as tie
 use Rattle.run_vectors.proofs.steps.Reads as reads
 use Rattle.run_vectors.proofs.steps.Lts as lts
-use Rattle.loader.proofs.front.step.Reads as step-reads
+use Rattle.stepper.proofs.front.step.Reads as step-reads
 
 abbrev Inv-loop : tie.InvT-loop
 Inv-loop byte times wanted scratch₀ g₀ i₀ scratch g i = length scratch ≡ length scratch₀

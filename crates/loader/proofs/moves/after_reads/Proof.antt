@@ -11,24 +11,24 @@ use Rattle.loader.proofs.moves.moved.Reads as moved-reads
 use Rattle.loader.proofs.moves.onward.Reads as onward-reads
 use Rattle.loader.proofs.walk.rises_in.Reads as rises-in-reads
 
--- src/moves.rt:195:8
+-- src/moves.rt:96:8
 rises-in-requires : tie.Need-rises-in-requires
 rises-in-requires c κs = search needs
 
--- src/moves.rt:196:9
+-- src/moves.rt:97:9
 moved-requires : tie.Need-moved-requires
 moved-requires c κs = search needs
 
--- src/moves.rt:196:9
+-- src/moves.rt:97:9
 returns : tie.Need-returns
 unfolding afterReads
 returns c = simp (c .moved .ensures, sym (c .before .before .rises-in .ensures) ∙ c .before .if1 .taken)
 
--- src/moves.rt:198:5
+-- src/moves.rt:99:5
 onward-requires : tie.Need-onward-requires
 onward-requires c κs = search needs
 
--- src/moves.rt:192:1
+-- src/moves.rt:93:1
 returns-2 : tie.Need-returns-2
 unfolding afterReads
 returns-2 c = simp (c .onward .ensures, sym (c .before .before .rises-in .ensures) ∙ c .before .if1 .left)

@@ -10,15 +10,15 @@ use Rattle.loader.proofs.moves.both_errors.Lts as lts
 use Rattle.loader.proofs.moves.erase_error.Reads as erase-error-reads
 use Rattle.loader.proofs.moves.program_error.Reads as program-error-reads
 
--- src/moves.rt:112:5
+-- src/moves.rt:48:5
 program-error-requires : tie.Need-program-error-requires
 program-error-requires c κs = search needs
 
--- src/moves.rt:112:24
+-- src/moves.rt:48:24
 erase-error-requires : tie.Need-erase-error-requires
 erase-error-requires c κs = search needs
 
--- src/moves.rt:109:1
+-- src/moves.rt:45:1
 returns : tie.Need-returns
 unfolding bothErrors
 returns c = simp (c .erase-error .ensures, c .before .program-error .ensures)

@@ -10,24 +10,24 @@ use Rattle.loader.proofs.moves.onward.Lts as lts
 use Rattle.loader.proofs.moves.moved.Reads as moved-reads
 use Rattle.loader.proofs.walk.diff_from.Reads as diff-from-reads
 
--- src/moves.rt:185:9
+-- src/moves.rt:86:9
 diff-from-requires : tie.Need-diff-from-requires
 diff-from-requires c κs = search needs
 
--- src/moves.rt:187:9
+-- src/moves.rt:88:9
 moved-requires : tie.Need-moved-requires
 moved-requires c κs = search needs
 
--- src/moves.rt:187:9
+-- src/moves.rt:88:9
 returns : tie.Need-returns
 unfolding onward
 returns c = simp (c .moved .ensures, lt-ltb _ _ (c .before .if1 .taken), ← c .before .before .diff-from .ensures)
 
--- src/moves.rt:189:5
+-- src/moves.rt:90:5
 moved-requires-2 : tie.Need-moved-requires-2
 moved-requires-2 c κs = search needs
 
--- src/moves.rt:182:1
+-- src/moves.rt:83:1
 returns-2 : tie.Need-returns-2
 unfolding onward
 returns-2 c = simp (c .moved2 .ensures, le-ltb _ _ (c .before .if1 .left), ← c .before .before .diff-from .ensures)

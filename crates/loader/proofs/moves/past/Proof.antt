@@ -8,16 +8,16 @@ use Rattle.loader.proofs.moves.past.Tie as tie
 use Rattle.loader.proofs.moves.past.Reads as reads
 use Rattle.loader.proofs.moves.past.Lts as lts
 
--- src/moves.rt:247:16
+-- src/moves.rt:148:16
 add-result : tie.Need-add-result
 add-result c = search needs
 
--- src/moves.rt:247:9
+-- src/moves.rt:148:9
 returns : tie.Need-returns
 unfolding past
 returns c = simp (lt-ltb _ _ (c .if1 .taken))
 
--- src/moves.rt:243:1
+-- src/moves.rt:144:1
 returns-2 : tie.Need-returns-2
 unfolding past
 returns-2 c = simp (le-ltb _ _ (c .if1 .left))

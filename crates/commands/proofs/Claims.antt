@@ -1,0 +1,20 @@
+-- Two results that a promise allows are equal, for each public function of this crate. Assumes nothing.
+use mathlib.Core.Path.{_≡_}
+use mathlib.Core.Bool.{Bool}
+use Prim.Native.Nat.{ℕ}
+use Rattle.cells.specs.Pick.{Unique, only}
+use Rattle.device.specs.declared.Device.{Device}
+use Rattle.chip.specs.declared.Cycle.{Cycle}
+use Rattle.chip.specs.declared.State.{State}
+use Rattle.chip.specs.declared.Phase.{Phase}
+use Rattle.chip.specs.declared.Action.{Action}
+use Rattle.commands.specs.Commands.{actionOf, isRefuse, performedOf}
+
+pub action-unique : (ph : Phase) (b : ℕ) → Unique (λ (r : Action). r ≡ actionOf ph b)
+action-unique ph b = only (actionOf ph b)
+
+pub is-refuse-unique : (a : Action) → Unique (λ (r : Bool). r ≡ isRefuse a)
+is-refuse-unique a = only (isRefuse a)
+
+pub perform-unique : (a : Action) (d : Device) (c : Cycle) (s : State) → Unique (λ (r : State). r ≡ performedOf a d c s)
+perform-unique a d c s = only (performedOf a d c s)

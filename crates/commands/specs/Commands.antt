@@ -1,0 +1,104 @@
+-- What a write asks for, and what comes of it. Assumes nothing.
+use mathlib.Core.Bool.{Bool, true, false, not, _&&_, _||_}
+use Prim.Native.Nat.{ℕ, _/_, _%_}
+use lib.Bits.{bitAnd, bitOr}
+use lib.Dec.{eqb, ltb, leb}
+use Rattle.cells.specs.Pick.{pick}
+use Rattle.device.specs.declared.Part.{Part}
+use Rattle.device.specs.declared.Device.{Device}
+use Rattle.chip.specs.declared.Mode.{Mode}
+use Rattle.chip.specs.declared.Mode.the-variants.{Array, Status, Identifier}
+use Rattle.chip.specs.declared.Phase.{Phase}
+use Rattle.chip.specs.declared.Phase.the-variants.{Free, EraseAwaited, DataAwaited, Programming, Erasing, Suspended}
+use Rattle.chip.specs.declared.Action.{Action}
+use Rattle.chip.specs.declared.Action.the-variants.{ToArray, ToIdentifier, ToStatus, Clear, AwaitErase, AwaitData, Confirm, Store, WrongSecond, Suspend, Resume, Ignore, Refuse}
+use Rattle.chip.specs.declared.State.{State}
+use Rattle.chip.specs.declared.Cycle.{Cycle}
+use Rattle.chip.specs.Levels.{vppLow, locked}
+use Rattle.chip.specs.States.{atRest}
+
+-- nothing awaited or running
+unfoldable pub firstWrite : ℕ → Action
+firstWrite b =
+    pick (eqb b 0xFF) ToArray
+    (pick (eqb b 0x90) ToIdentifier
+    (pick (eqb b 0x70) ToStatus
+    (pick (eqb b 0x50) Clear
+    (pick (eqb b 0x20) AwaitErase
+    (pick (eqb b 0x40) AwaitData Refuse)))))
+
+-- after 20H
+unfoldable pub afterErase : ℕ → Action
+afterErase b = pick (eqb b 0xD0) Confirm WrongSecond
+
+-- while an erase is busy
+unfoldable pub whileErasing : ℕ → Action
+whileErasing b = pick (eqb b 0xB0) Suspend Ignore
+
+-- while suspended
+unfoldable pub whileSuspended : ℕ → Action
+whileSuspended b = pick (eqb b 0xFF) ToArray (pick (eqb b 0x70) ToStatus (pick (eqb b 0xD0) Resume Ignore))
+
+-- the command rules: after 40H every byte is data, and a busy program ignores every write
+abbrev pub actionOf : Phase → ℕ → Action
+actionOf Free b = firstWrite b
+actionOf EraseAwaited b = afterErase b
+actionOf DataAwaited b = Store
+actionOf (Programming x) b = Ignore
+actionOf Erasing b = whileErasing b
+actionOf Suspended b = whileSuspended b
+
+abbrev pub isRefuse : Action → Bool
+isRefuse ToArray = false
+isRefuse ToIdentifier = false
+isRefuse ToStatus = false
+isRefuse Clear = false
+isRefuse AwaitErase = false
+isRefuse AwaitData = false
+isRefuse Confirm = false
+isRefuse Store = false
+isRefuse WrongSecond = false
+isRefuse Suspend = false
+isRefuse Resume = false
+isRefuse Ignore = false
+isRefuse Refuse = true
+
+-- the state in another mode
+abbrev pub inMode : Mode → State → State
+inMode m s = record { mode = m; status = s .status; phase = s .phase; left = s .left; address = s .address }
+
+-- the state in another phase and status, mode read status; cycles to go and address stay
+abbrev pub inPhase : Phase → ℕ → State → State
+inPhase ph sr s = record { mode = Status; status = sr; phase = ph; left = s .left; address = s .address }
+
+-- the state with another status
+abbrev pub withStatus : ℕ → State → State
+withStatus sr s = record { mode = s .mode; status = sr; phase = s .phase; left = s .left; address = s .address }
+
+-- VPP is low at this cycle, or SR.3 is still set
+unfoldable pub unsupplied : Part → Cycle → State → Bool
+unsupplied part c s = vppLow part (c .pins) || not (eqb (s .status / 8 % 2) 0)
+
+-- a confirm or data: unsupplied sets SR.3 and the operation's error bit, locked the error bit (where both apply, the bits are
+-- those of the first); otherwise the operation starts at this cycle's address with its busy time to go and SR.7 clear
+unfoldable pub startedOf : Part → Cycle → State → Phase → ℕ → ℕ → State
+startedOf part c s ph time bit =
+    pick (unsupplied part c s) (atRest (s .mode) (bitOr (bitOr (s .status) 8) bit))
+    (pick (locked part c) (atRest (s .mode) (bitOr (s .status) bit))
+    (record { mode = s .mode; status = bitAnd (s .status) 127; phase = ph; left = time; address = c .address }))
+
+-- what an action makes of the state
+abbrev pub performedOf : Action → Device → Cycle → State → State
+performedOf ToArray d c s = inMode Array s
+performedOf ToIdentifier d c s = inMode Identifier s
+performedOf ToStatus d c s = inMode Status s
+performedOf Clear d c s = withStatus (bitAnd (s .status) 199) s
+performedOf AwaitErase d c s = inPhase EraseAwaited (s .status) s
+performedOf AwaitData d c s = inPhase DataAwaited (s .status) s
+performedOf Confirm d c s = startedOf (d .part) c s Erasing (d .erase) 32
+performedOf Store d c s = startedOf (d .part) c s (Programming (c .byte)) (d .program) 16
+performedOf WrongSecond d c s = atRest (s .mode) (bitOr (s .status) 48)
+performedOf Suspend d c s = inPhase Suspended (bitOr (s .status) 192) s
+performedOf Resume d c s = inPhase Erasing (bitAnd (s .status) 63) s
+performedOf Ignore d c s = s
+performedOf Refuse d c s = s

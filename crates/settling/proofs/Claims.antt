@@ -1,0 +1,16 @@
+-- Two results that a promise allows are equal, for each public function of this crate. Assumes nothing.
+use mathlib.Core.Path.{_≡_}
+use Prim.Native.Nat.{ℕ}
+use Rattle.cells.specs.Pick.{Unique, only}
+use Rattle.device.specs.declared.Part.{Part}
+use Rattle.chip.specs.declared.Pins.{Pins}
+use Rattle.chip.specs.declared.State.{State}
+use Rattle.chip.specs.declared.Phase.{Phase}
+use Rattle.chip.specs.declared.Settled.{Settled}
+use Rattle.settling.specs.Settling.{residueFor, settleOf}
+
+pub residue-for-unique : (ph : Phase) (part : Part) (a : ℕ) → Unique (λ (r : ℕ). r ≡ residueFor ph part a)
+residue-for-unique ph part a = only (residueFor ph part a)
+
+pub settle-unique : (part : Part) (s : State) (p : Pins) → Unique (λ (r : Settled). r ≡ settleOf part s p)
+settle-unique part s p = only (settleOf part s p)

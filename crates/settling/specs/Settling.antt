@@ -1,0 +1,79 @@
+-- Steps 1 to 3 of a cycle: what becomes of an operation before the read or write. Assumes nothing.
+use mathlib.Core.Bool.{Bool, true, false, not, _&&_, _||_}
+use Prim.Native.Nat.{ℕ, _+_, _-_}
+use lib.Bits.{bitAnd, bitOr}
+use lib.Dec.{eqb, ltb, leb}
+use Rattle.cells.specs.Pick.{pick}
+use Rattle.device.specs.Parts.{blockOf, lengthOf}
+use Rattle.device.specs.declared.Part.{Part}
+use Rattle.chip.specs.declared.Mode.the-variants.{Array, Status, Identifier}
+use Rattle.chip.specs.declared.Phase.{Phase}
+use Rattle.chip.specs.declared.Phase.the-variants.{Free, EraseAwaited, DataAwaited, Programming, Erasing, Suspended}
+use Rattle.chip.specs.declared.Effect.{Effect}
+use Rattle.chip.specs.declared.Effect.the-variants.{Nothing, Program, Erase, CutProgram, CutErase}
+use Rattle.chip.specs.declared.State.{State}
+use Rattle.chip.specs.declared.Pins.{Pins}
+use Rattle.chip.specs.declared.Settled.{Settled}
+use Rattle.chip.specs.Levels.{rpLow, vppLow}
+use Rattle.chip.specs.States.{isBusy, isPending, atRest, resetOf}
+
+abbrev pub settledAs : State → Effect → Settled
+settledAs s e = record { state = s; effect = e }
+
+-- the cut of the operation that is running or suspended at an address
+abbrev pub cutOf : Phase → Part → ℕ → Effect
+cutOf Free part a = Nothing
+cutOf EraseAwaited part a = Nothing
+cutOf DataAwaited part a = Nothing
+cutOf (Programming b) part a = CutProgram a b
+cutOf Erasing part a = CutErase (blockOf part a)
+cutOf Suspended part a = CutErase (blockOf part a)
+
+-- the end of the operation that is running
+abbrev pub endOf : Phase → Part → ℕ → Effect
+endOf Free part a = Nothing
+endOf EraseAwaited part a = Nothing
+endOf DataAwaited part a = Nothing
+endOf (Programming b) part a = Program a b
+endOf Erasing part a = Erase (blockOf part a)
+endOf Suspended part a = Nothing
+
+-- what a cut by VPP sets: SR.7 and SR.3, with SR.4 for a program or SR.5 for an erase
+abbrev pub cutBits : Phase → ℕ
+cutBits Free = 0
+cutBits EraseAwaited = 0
+cutBits DataAwaited = 0
+cutBits (Programming b) = 152
+cutBits Erasing = 168
+cutBits Suspended = 168
+
+-- the residue bytes that a cut needs: one for a program, the block's for an erase
+abbrev pub residueFor : Phase → Part → ℕ → ℕ
+residueFor Free part a = 0
+residueFor EraseAwaited part a = 0
+residueFor DataAwaited part a = 0
+residueFor (Programming b) part a = 1
+residueFor Erasing part a = lengthOf part (blockOf part a)
+residueFor Suspended part a = lengthOf part (blockOf part a)
+
+-- step 1: RP# low
+abbrev pub resetBy : Part → State → Settled
+resetBy part s = settledAs (resetOf s) (cutOf (s .phase) part (s .address))
+
+-- step 2: VPP low with an operation running or suspended; SR.6 is cleared
+unfoldable pub cutBy : Part → State → Settled
+cutBy part s = settledAs (atRest Status (bitOr (bitAnd (s .status) 191) (cutBits (s .phase)))) (cutOf (s .phase) part (s .address))
+
+-- step 3: a running operation counts one cycle off, and with none left it is finished
+unfoldable pub countedOff : Part → State → Settled
+countedOff part s =
+    pick (leb (s .left) 1) (settledAs (atRest (s .mode) (bitOr (s .status) 128)) (endOf (s .phase) part (s .address)))
+    (settledAs (record { mode = s .mode; status = s .status; phase = s .phase; left = s .left - 1; address = s .address }) Nothing)
+
+-- the three steps in their order
+unfoldable pub settleOf : Part → State → Pins → Settled
+settleOf part s p =
+    pick (rpLow p) (resetBy part s)
+    (pick (vppLow part p && isPending (s .phase)) (cutBy part s)
+    (pick (isBusy (s .phase)) (countedOff part s)
+    (settledAs s Nothing)))

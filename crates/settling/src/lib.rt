@@ -1,0 +1,141 @@
+// Steps 1 to 3 of a cycle: what becomes of an operation before the read or write.
+use chip::Effect;
+use chip::Mode;
+use chip::Phase;
+use chip::Pins;
+use chip::Settled;
+use chip::State;
+use chip::levels::rp_low;
+use chip::levels::vpp_low;
+use chip::states::at_rest;
+use chip::states::is_busy;
+use chip::states::is_pending;
+use chip::states::reset;
+use device::Part;
+ghost use mathlib.Core.Path.{_≡_};
+ghost use mathlib.Core.Bool.{_&&_};
+ghost use Rattle.settling.specs.Settling.{cutOf, endOf, cutBits, residueFor, resetBy, cutBy, countedOff, settleOf};
+
+// The cut of the operation that is running or suspended.
+fn cut(ph: Phase, part: Part, address: u32) -> Effect
+    ensures { λ r. ⌜ r ≡ cutOf ph part address ⌝ }
+{
+    match ph {
+        Phase::Free => Effect::Nothing,
+        Phase::EraseAwaited => Effect::Nothing,
+        Phase::DataAwaited => Effect::Nothing,
+        Phase::Programming(b) => Effect::CutProgram(address, b),
+        Phase::Erasing => Effect::CutErase(device::block_of(part, address)),
+        Phase::Suspended => Effect::CutErase(device::block_of(part, address)),
+    }
+}
+
+// The end of the operation that is running.
+fn end(ph: Phase, part: Part, address: u32) -> Effect
+    ensures { λ r. ⌜ r ≡ endOf ph part address ⌝ }
+{
+    match ph {
+        Phase::Free => Effect::Nothing,
+        Phase::EraseAwaited => Effect::Nothing,
+        Phase::DataAwaited => Effect::Nothing,
+        Phase::Programming(b) => Effect::Program(address, b),
+        Phase::Erasing => Effect::Erase(device::block_of(part, address)),
+        Phase::Suspended => Effect::Nothing,
+    }
+}
+
+fn cut_bits(ph: Phase) -> u8
+    ensures { λ r. ⌜ r ≡ cutBits ph ⌝ }
+{
+    match ph {
+        Phase::Free => 0,
+        Phase::EraseAwaited => 0,
+        Phase::DataAwaited => 0,
+        Phase::Programming(_) => 152,
+        Phase::Erasing => 168,
+        Phase::Suspended => 168,
+    }
+}
+
+// The residue bytes that a cut needs.
+pub fn residue_for(ph: Phase, part: Part, address: u32) -> usize
+    ensures { λ r. ⌜ r ≡ residueFor ph part address ⌝ }
+{
+    match ph {
+        Phase::Free => 0,
+        Phase::EraseAwaited => 0,
+        Phase::DataAwaited => 0,
+        Phase::Programming(_) => 1,
+        Phase::Erasing => device::length(part, device::block_of(part, address)),
+        Phase::Suspended => device::length(part, device::block_of(part, address)),
+    }
+}
+
+fn reset_by(part: Part, s: State) -> Settled
+    ensures { λ r. ⌜ r ≡ resetBy part s ⌝ }
+{
+    let ph = s.phase;
+    Settled {
+        state: reset(s),
+        effect: cut(ph, part, s.address),
+    }
+}
+
+fn cut_by(part: Part, s: State) -> Settled
+    ensures { λ r. ⌜ r ≡ cutBy part s ⌝ }
+{
+    let ph = s.phase;
+    Settled {
+        state: at_rest(Mode::Status, s.status & 191 | cut_bits(ph)),
+        effect: cut(ph, part, s.address),
+    }
+}
+
+fn counted_off(part: Part, s: State) -> Settled
+    ensures { λ r. ⌜ r ≡ countedOff part s ⌝ }
+{
+    let ph = s.phase;
+    let m = s.mode;
+    if s.left <= 1 {
+        return Settled {
+            state: at_rest(m, s.status | 128),
+            effect: end(ph, part, s.address),
+        };
+    }
+    Settled {
+        state: State {
+            mode: m,
+            status: s.status,
+            phase: ph,
+            left: s.left - 1,
+            address: s.address,
+        },
+        effect: Effect::Nothing,
+    }
+}
+
+fn both(a: bool, b: bool) -> bool
+    ensures { λ r. ⌜ r ≡ a && b ⌝ }
+{
+    a & b
+}
+
+// The three steps in their order.
+pub fn settle(part: Part, s: State, p: Pins) -> Settled
+    ensures { λ r. ⌜ r ≡ settleOf part s p ⌝ }
+{
+    let ph = s.phase;
+    if rp_low(p) {
+        return reset_by(part, s);
+    }
+    if both(vpp_low(part, p), is_pending(ph)) {
+        return cut_by(part, s);
+    }
+    if is_busy(ph) {
+        return counted_off(part, s);
+    }
+    Settled {
+        state: s,
+        effect: Effect::Nothing,
+    }
+}

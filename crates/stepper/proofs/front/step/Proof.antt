@@ -1,0 +1,74 @@
+use mathlib.Core.Path.{_≡_, ap}
+use Prim.Native.Nat.{ℕ}
+use lib.ListN.{length}
+use lib.Dec.{eqb}
+use Rattle.cells.specs.Pick.{pick-true, pick-false}
+use Rattle.loader.specs.declared.Loader.{Loader}
+use borrow.Author.Needs.{needs}
+use native.Mathlib.Omega.{arith}
+use borrow.Author.Tests.{lt-ltb, le-ltb, le-leb, lt-leb, eq-eqb, ne-eqb}
+use mathlib.Core.Path.{refl, sym, _∙_}
+use Rattle.stepper.specs.Front.{stepOf, scratchAfter, stepNumber, givenBy, barredBy}
+use Rattle.stepper.proofs.front.step.Statement.{statement}
+use Rattle.stepper.proofs.front.step.Tie as tie
+use Rattle.stepper.proofs.front.step.Reads as reads
+use Rattle.stepper.proofs.front.step.Lts as lts
+use Rattle.stepper.proofs.front.barred_by.Reads as barred-by-reads
+use Rattle.stepper.proofs.front.given_by.Reads as given-by-reads
+use Rattle.stepper.proofs.front.step_number.Reads as step-number-reads
+use Rattle.stepper.proofs.stores.advance.Reads as advance-reads
+
+-- src/front.rt:161:9
+step-number-requires : tie.Need-step-number-requires
+step-number-requires c κs = search needs
+
+-- src/front.rt:163:13
+advance-requires : tie.Need-advance-requires
+advance-requires c κs = search needs
+
+-- src/front.rt:164:9
+given-by-requires : tie.Need-given-by-requires
+given-by-requires c κs = search needs
+
+-- src/front.rt:164:9
+same-length : tie.Need-same-length
+same-length c = search needs
+
+-- src/front.rt:164:9
+returns : tie.Need-returns
+unfolding stepOf scratchAfter
+returns c =
+    let a = c .before .before .before .before .before .before .before .before .before .args in
+    let w = a .wanted .now in
+    let n = stepNumber (a .l) (length w) (length (a .scratch .now)) in
+    let z = eq-eqb n 0 (sym (c .before .before .before .before .before .before .step-number .ensures) ∙ c .before .before .before .before .before .if1 .taken) in (
+      c .given-by .ensures ∙ ap (λ (l : Loader). givenBy l w) (c .before .before .before .advance .ensures .0) ∙ sym (pick-true (eqb n 0) _ _ z),
+      c .before .before .before .advance .ensures .1 ∙ sym (pick-true (eqb n 0) _ _ z),
+    )
+
+-- src/front.rt:166:5
+barred-by-requires : tie.Need-barred-by-requires
+barred-by-requires c κs = search needs
+
+-- src/front.rt:157:1
+returns-2 : tie.Need-returns-2
+unfolding stepOf scratchAfter
+returns-2 c =
+    let a = c .before .before .before .before .before .args in
+    let w = a .wanted .now in
+    let n = stepNumber (a .l) (length w) (length (a .scratch .now)) in
+    let e : c .before .before .step-number .result ≡ n = c .before .before .step-number .ensures in
+    let z = ne-eqb n 0 (λ q. c .before .if1 .left (e ∙ q)) in
+    (c .barred-by .ensures ∙ ap (λ (m : ℕ). barredBy m (a .l)) e ∙ sym (pick-false (eqb n 0) _ _ z), sym (pick-false (eqb n 0) _ _ z))
+
+pub step-spec : {M : Type 1} → statement M
+step-spec =
+    tie.close
+    (tie.spec
+    step-number-requires
+    advance-requires
+    given-by-requires
+    same-length
+    returns
+    barred-by-requires
+    returns-2)

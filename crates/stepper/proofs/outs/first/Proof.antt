@@ -1,0 +1,27 @@
+use Rattle.stepper.proofs.Small.{start-small}
+use borrow.Author.Needs.{needs}
+use native.Mathlib.Omega.{arith}
+use borrow.Author.Tests.{lt-ltb, le-ltb, le-leb, lt-leb, eq-eqb, ne-eqb}
+use mathlib.Core.Path.{refl, sym, _∙_}
+use Rattle.stepper.specs.Outs.{firstOf}
+use Rattle.stepper.proofs.outs.first.Statement.{statement}
+use Rattle.stepper.proofs.outs.first.Tie as tie
+use Rattle.stepper.proofs.outs.first.Reads as reads
+use Rattle.stepper.proofs.outs.first.Lts as lts
+use Rattle.device.proofs.start.Reads as start-reads
+
+-- src/outs.rt:-15:5
+start-requires : tie.Need-start-requires
+start-requires c κs = search needs
+
+-- src/outs.rt:-15:5
+cast-result : tie.Need-cast-result
+cast-result c = record { fits = omega (arith, c .start .ensures, start-small (c .before .before .args .l .part) (c .before .before .args .l .block)) }
+
+-- src/outs.rt:-19:1
+returns : tie.Need-returns
+unfolding firstOf
+returns c = simp (c .start .ensures)
+
+pub first-spec : {M : Type 1} → statement M
+first-spec = tie.close (tie.spec start-requires cast-result returns)

@@ -1,0 +1,47 @@
+-- The cycle that is out. Assumes nothing.
+use mathlib.Core.List.{List}
+use Prim.Native.Nat.{ℕ, _+_}
+use lib.ListN.{getD}
+use lib.Dec.{ltb}
+use Rattle.cells.specs.Pick.{pick}
+use Rattle.device.specs.Parts.{startOf}
+use Rattle.chip.specs.declared.Kind.{Kind}
+use Rattle.chip.specs.declared.Kind.the-variants.{Read, Write, Idle}
+use Rattle.chip.specs.declared.Cycle.{Cycle}
+use Rattle.loader.specs.declared.Stage.{Stage}
+use Rattle.loader.specs.declared.Stage.the-variants.{Clearing, Opening, Reading, EraseAsking, EraseConfirming, EraseWaiting, ProgramAsking, ProgramSending, ProgramWaiting, Closing, Verifying, Ended}
+use Rattle.loader.specs.declared.Loader.{Loader}
+
+-- the block's first address
+unfoldable pub firstOf : Loader → ℕ
+firstOf l = startOf (l .part) (l .block)
+
+-- no block is that long: a place beyond it belongs to no record that is taken
+abbrev pub reach : ℕ
+reach = 16777216
+
+-- the address of the byte at the record's place
+unfoldable pub hereOf : Loader → ℕ
+hereOf l = pick (ltb (l .place) reach) (firstOf l + l .place) (firstOf l)
+
+-- a cycle at an address with the record's levels, OE# normal
+abbrev pub cycleAt : Loader → Kind → ℕ → ℕ → Cycle
+cycleAt l kind address byte = record { kind = kind; pins = l .pins; oe = 0; address = address; byte = byte }
+
+-- the cycle that is out: commands and an erase's polls at the block's first address, all about one byte at that byte
+abbrev pub cycleIn : Stage → Loader → List ℕ → Cycle
+cycleIn Clearing l w = cycleAt l Write (firstOf l) 0x50
+cycleIn Opening l w = cycleAt l Write (firstOf l) 0xFF
+cycleIn Reading l w = cycleAt l Read (hereOf l) 0
+cycleIn EraseAsking l w = cycleAt l Write (firstOf l) 0x20
+cycleIn EraseConfirming l w = cycleAt l Write (firstOf l) 0xD0
+cycleIn EraseWaiting l w = cycleAt l Read (firstOf l) 0
+cycleIn ProgramAsking l w = cycleAt l Write (hereOf l) 0x40
+cycleIn ProgramSending l w = cycleAt l Write (hereOf l) (getD w (l .place) 0)
+cycleIn ProgramWaiting l w = cycleAt l Read (hereOf l) 0
+cycleIn Closing l w = cycleAt l Write (firstOf l) 0xFF
+cycleIn Verifying l w = cycleAt l Read (hereOf l) 0
+cycleIn (Ended n) l w = cycleAt l Idle (firstOf l) 0
+
+abbrev pub cycleOf : Loader → List ℕ → Cycle
+cycleOf l w = cycleIn (l .stage) l w

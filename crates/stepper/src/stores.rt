@@ -1,0 +1,65 @@
+// A byte taken: what it does to scratch, and then the record after it.
+use loader::Loader;
+use loader::Stage;
+use loader::moves::erase_fault;
+use loader::moves::is_ready;
+use loader::moves::next;
+ghost use mathlib.Core.Path.{_≡_};
+ghost use lib.ListN.{set};
+ghost use Rattle.loader.specs.declared.Stage.the-variants.{EraseWaiting};
+ghost use Rattle.loader.specs.Moves.{nextOf};
+ghost use Rattle.stepper.specs.Stores.{erasedWell, storeIn, storeOf};
+
+// The byte at a place becomes b; nothing past the end.
+fn put(s: &mut [u8], at: usize, b: u8)
+    ensures { λ _. ⌜ now (s .exit) ≡ set (now (s .entry)) at b ⌝ }
+{
+    if at < s.len() {
+        s[at] = b;
+    }
+}
+
+fn erased_well(b: u8) -> bool
+    ensures { λ r. ⌜ r ≡ erasedWell b ⌝ }
+{
+    is_ready(b) & (erase_fault(b) == 0)
+}
+
+// An erase that ended well fills scratch with ones.
+fn store_erase(b: u8, scratch: &mut [u8])
+    ensures { λ _. ⌜ now (scratch .exit) ≡ storeIn EraseWaiting 0 b (now (scratch .entry)) ⌝ }
+{
+    if erased_well(b) {
+        cells::fill(scratch, 255)
+    }
+}
+
+// What the byte does to scratch.
+fn store(stage: Stage, place: usize, b: u8, scratch: &mut [u8])
+    ensures { λ _. ⌜ now (scratch .exit) ≡ storeIn stage place b (now (scratch .entry)) ⌝ }
+{
+    match stage {
+        Stage::Clearing => {}
+        Stage::Opening => {}
+        Stage::Reading => put(scratch, place, b),
+        Stage::EraseAsking => {}
+        Stage::EraseConfirming => {}
+        Stage::EraseWaiting => store_erase(b, scratch),
+        Stage::ProgramAsking => {}
+        Stage::ProgramSending => {}
+        Stage::ProgramWaiting => {}
+        Stage::Closing => {}
+        Stage::Verifying => put(scratch, place, b),
+        Stage::Ended(_) => {}
+    }
+}
+
+// A byte taken: scratch first, then the record, which reads the new scratch.
+pub fn advance(l: Loader, b: u8, wanted: &[u8], scratch: &mut [u8]) -> Loader
+    ensures { λ r. ⌜ r ≡ nextOf l b (now (wanted .entry)) (storeOf l b (now (scratch .entry))) ⌝ }
+    ensures { λ _. ⌜ now (scratch .exit) ≡ storeOf l b (now (scratch .entry)) ⌝ }
+{
+    let stage = l.stage;
+    store(stage, l.place, b, scratch);
+    next(stage, l, b, wanted, scratch)
+}
