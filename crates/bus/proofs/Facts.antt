@@ -1,12 +1,11 @@
 -- What is known of a cycle that nothing refuses, and of a proper state. Assumes nothing.
-use mathlib.Core.Path.{_≡_, refl, sym, ap, _∙_}
-use mathlib.Core.Bool.{Bool, true, false, not, _&&_, _||_}
-use mathlib.Core.List.{List, _∷_, _++_}
+use mathlib.Core.Path.{_≡_, refl}
+use mathlib.Core.Bool.{false, _||_}
 use Prim.Native.Nat.{ℕ}
 use lib.Dec.{eqb}
 use borrow.Author.Tests.{eqb-true, not-false}
-use Rattle.cells.specs.Pick.{or-left, or-right, or-both}
-use Rattle.cells.specs.Numbers.{Row, NoRow, given-no-row, no-head, no-tail, no-row-given, past, end}
+use Rattle.cells.specs.Pick.{or-left, or-right}
+use Rattle.cells.specs.Numbers.{given-no-row, no-head, no-tail}
 use Rattle.device.specs.declared.Device.{Device}
 use Rattle.device.specs.Parts.{unknownDevice, sizeOf}
 use Rattle.chip.specs.declared.State.{State}

@@ -1,12 +1,10 @@
 -- The ways out of a cycle: refused early, refused late, or accepted. Assumes nothing.
-use mathlib.Core.Path.{_≡_, refl, sym, ap, _∙_}
-use mathlib.Core.Bool.{Bool, true, false}
-use mathlib.Core.List.{List, _++_}
+use mathlib.Core.Path.{_≡_, refl, _∙_}
 use Prim.Native.Nat.{ℕ}
 use lib.Dec.{eqb}
-use borrow.Author.Tests.{eq-eqb, ne-eqb}
-use Rattle.cells.specs.Pick.{pick, pick-true, pick-false}
-use Rattle.cells.specs.Numbers.{given, given-append}
+use borrow.Author.Tests.{ne-eqb}
+use Rattle.cells.specs.Pick.{pick, pick-false}
+use Rattle.cells.specs.Numbers.{given-append}
 use Rattle.device.specs.declared.Device.{Device}
 use Rattle.chip.specs.declared.State.{State}
 use Rattle.chip.specs.declared.Cycle.{Cycle}

@@ -1,6 +1,6 @@
 -- Card 2, for every P: busy until the P-th read. Assumes nothing.
 use mathlib.Core.Path.{_≡_, refl, sym, ap, _∙_, subst}
-use mathlib.Core.Bool.{Bool, true, false}
+use mathlib.Core.Bool.{false}
 use mathlib.Core.List.{List, [], _∷_, _++_}
 use Prim.Native.Nat.{ℕ, zero, suc, _+_, _≤_, _<_}
 use native.Mathlib.Omega.{arith}
@@ -11,7 +11,7 @@ use lib.Bits.{bitAnd}
 use Rattle.device.specs.declared.Device.{Device}
 use Rattle.device.specs.Parts.{unknownDevice, sizeOf, blockOf}
 use Rattle.chip.specs.declared.Mode.the-variants.{Array, Status}
-use Rattle.chip.specs.declared.Phase.the-variants.{Free, DataAwaited, Programming}
+use Rattle.chip.specs.declared.Phase.the-variants.{DataAwaited, Programming}
 use Rattle.chip.specs.declared.Effect.{Effect}
 use Rattle.chip.specs.declared.Effect.the-variants.{Nothing, Program}
 use Rattle.chip.specs.declared.Reply.{Reply}
@@ -23,7 +23,7 @@ use Rattle.chip.specs.Levels.{vppLow, vppHigh, badPins}
 use Rattle.chip.specs.States.{atRest, freshState}
 use Rattle.bus.specs.Cycles.{decideOf, decidedAs}
 use Rattle.model.specs.declared.Seen.{Seen}
-use Rattle.model.specs.declared.Seen.the-variants.{NoData, Byte, Refused}
+use Rattle.model.specs.declared.Seen.the-variants.{NoData, Byte}
 use Rattle.model.specs.Arrays.{arrayOf, seenOf, arrayAfter, answerOf}
 use Rattle.model.proofs.Keeping.{st}
 use Rattle.run_claims.specs.History.{Bus, World, stepped, worldAfter}

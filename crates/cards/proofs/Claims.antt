@@ -1,7 +1,7 @@
 -- The bench cards hold. Assumes nothing.
 use mathlib.Core.Path.{_≡_, refl}
-use mathlib.Core.Bool.{Bool, true, false}
-use Rattle.device.specs.Parts.{shapeOf, sizeIn, lengthIn, offsetIn, holderIn, turned, startIn, blockIn, unknownPart, unknownDevice, sizeOf, lengthOf, startOf, blockOf, codeOf}
+use mathlib.Core.Bool.{true}
+use Rattle.device.specs.Parts.{shapeOf, sizeIn, lengthIn, offsetIn, holderIn, turned, startIn, blockIn, unknownPart, unknownDevice, sizeOf, lengthOf, startOf, blockOf}
 use Rattle.chip.specs.Levels.{vppLow, vppHigh, badPins, badLevels, locked}
 use Rattle.chip.specs.States.{badStatus, badLeft, badAddress, improper}
 use Rattle.commands.specs.Commands.{firstWrite, afterErase, whileErasing, whileSuspended, unsupplied, startedOf}

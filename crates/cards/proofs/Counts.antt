@@ -1,12 +1,10 @@
 -- Cards 10 and 11: instances of the count of a good run. Assumes nothing.
-use mathlib.Core.Path.{_≡_, refl, sym, ap, _∙_}
-use mathlib.Core.Bool.{Bool, true, false, not, _||_}
-use mathlib.Core.List.{List, [], _∷_}
-use Prim.Native.Nat.{ℕ, zero, suc, _+_, _*_, _<_}
+use mathlib.Core.Path.{_≡_, refl, ap, _∙_}
+use mathlib.Core.Bool.{Bool, true, false}
+use mathlib.Core.List.{List, _∷_}
+use Prim.Native.Nat.{ℕ, zero, suc, _+_, _*_}
 use native.Mathlib.Omega.{arith}
-use lib.ListN.{length, getD, replicate, length-replicate}
-use lib.Dec.{eqb}
-use borrow.Author.Tests.{eq-eqb}
+use lib.ListN.{length, replicate}
 use Rattle.cells.specs.Pick.{pick, unlike}
 use Rattle.cells.specs.Bytes.{Bytes, bytes-replicate}
 use Rattle.device.specs.Parts.{shapeOf, sizeIn, lengthIn, offsetIn, startIn, unknownPart, unknownDevice, sizeOf, lengthOf, startOf}
@@ -16,7 +14,7 @@ use Rattle.chip.specs.declared.Mode.the-variants.{Array}
 use Rattle.stepper.specs.Front.{barredPins, noBlock, wrongLengths}
 use Rattle.loader.specs.Walks.{risesIn}
 use Rattle.run.specs.declared.Ran.{Ran}
-use Rattle.run.specs.Runs.{runNumber, ranOf}
+use Rattle.run.specs.Runs.{runNumber}
 use Rattle.run_claims.specs.Wear.{differing, heldIn, formula}
 use Rattle.run_claims.proofs.Demand.{Start}
 use Rattle.run_claims.proofs.Same.{none-risen, none-differing}

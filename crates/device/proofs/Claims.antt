@@ -5,7 +5,7 @@ use mathlib.Core.List.{List, [], _∷_}
 use Prim.Native.Nat.{ℕ, _+_, _-_, _≤_, _<_}
 use Rattle.cells.specs.Pick.{Unique, only}
 use Rattle.device.specs.Blocks.{total, lengthAt, offsetAt, holder}
-use Rattle.device.specs.Parts.{shapeOf, fourOf, sizeIn, lengthIn, offsetIn, startIn, unknownPart, unknownDevice, sizeOf, lengthOf, startOf, blockOf, codeOf, countOf, countIn}
+use Rattle.device.specs.Parts.{shapeOf, sizeIn, lengthIn, offsetIn, startIn, unknownPart, unknownDevice, sizeOf, lengthOf, startOf, blockOf, codeOf, countOf, countIn}
 use Rattle.device.specs.declared.Part.{Part}
 use Rattle.device.specs.declared.Device.{Device}
 use Rattle.device.proofs.Cover.{Lies, covered, alone, ends-inside}

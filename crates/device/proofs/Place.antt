@@ -1,14 +1,12 @@
 -- The laws of blocks as addresses have them, for any description and for every part. Assumes nothing.
-use mathlib.Core.Path.{_≡_, refl, sym, ap, _∙_}
+use mathlib.Core.Path.{_≡_, refl}
 use mathlib.Core.Bool.{Bool, true, false}
-use mathlib.Core.List.{List, [], _∷_}
-use Prim.Native.Nat.{ℕ, zero, suc, _+_, _-_, _≤_, _<_}
+use Prim.Native.Nat.{ℕ, _+_, _-_, _≤_, _<_}
 use native.Mathlib.Omega.{arith}
-use lib.ListN.{length, getD}
 use lib.Dec.{eqb, lit≤}
 use Rattle.cells.specs.Pick.{pick, pick-ind}
 use Rattle.device.specs.Blocks.{total, lengthAt, offsetAt, holder}
-use Rattle.device.specs.Parts.{fourOf, shapeOf, lengthsOf, sizeIn, lengthIn, offsetIn, holderIn, turned, startIn, blockIn, sizeOf, lengthOf, startOf, blockOf}
+use Rattle.device.specs.Parts.{shapeOf, lengthsOf, sizeIn, lengthIn, offsetIn, holderIn, turned, startIn, blockIn, sizeOf}
 use Rattle.device.specs.declared.Part.{Part}
 use Rattle.device.specs.declared.Shape.{Shape}
 use Rattle.device.proofs.Cover.{ends-inside, covered, alone, Lies}

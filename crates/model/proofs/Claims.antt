@@ -1,6 +1,6 @@
 -- What is claimed of the bench model, in one place. Assumes nothing.
-use mathlib.Core.Path.{_≡_, refl}
-use mathlib.Core.Bool.{Bool, true, false}
+use mathlib.Core.Path.{_≡_}
+use mathlib.Core.Bool.{true, false}
 use mathlib.Core.List.{List}
 use mathlib.Core.Logic.{_↔_}
 use Prim.Native.Nat.{ℕ, _+_}
@@ -8,14 +8,13 @@ use lib.ListN.{length}
 use Rattle.cells.specs.Pick.{Unique, only}
 use Rattle.cells.specs.Bytes.{Bytes}
 use Rattle.cells.specs.Numbers.{Foremost, NoRow}
-use Rattle.device.specs.declared.Part.{Part}
 use Rattle.device.specs.declared.Device.{Device}
 use Rattle.chip.specs.declared.State.{State}
 use Rattle.chip.specs.declared.Cycle.{Cycle}
 use Rattle.chip.specs.declared.Kind.the-variants.{Read}
 use Rattle.chip.specs.declared.Effect.{Effect}
 use Rattle.chip.specs.declared.Effect.the-variants.{Nothing}
-use Rattle.chip.specs.declared.Reply.the-variants.{Refuses, Gives}
+use Rattle.chip.specs.declared.Reply.the-variants.{Gives}
 use Rattle.chip.specs.States.{improper, isBusy, freshState, resetOf}
 use Rattle.settling.specs.Settling.{settleOf}
 use Rattle.bus.specs.Cycles.{tableOf, numberOf, decideOf, respondOf}

@@ -1,16 +1,15 @@
 -- The array under an effect: it keeps its length, and its bytes stay bytes. Assumes nothing.
-use mathlib.Core.Path.{_≡_, refl, sym, ap, _∙_}
+use mathlib.Core.Path.{_≡_, refl}
 use mathlib.Core.List.{List}
-use Prim.Native.Nat.{ℕ, _+_, _≤_, _<_}
+use Prim.Native.Nat.{ℕ}
 use native.Mathlib.Omega.{arith}
-use lib.ListN.{length, getD, set, take, replicate, length-set, length-replicate}
+use lib.ListN.{length, getD, take, replicate, length-set, length-replicate}
 use lib.Seq.{length-take-le}
 use lib.Bits.{bitAnd, bitOr, and-le-l}
-use Rattle.cells.specs.Lists.{overlaid}
 use Rattle.cells.specs.Bytes.{Bytes, bytes-set, bytes-overlaid, bytes-replicate, bytes-take, overlaid-length}
 use Rattle.device.specs.declared.Part.{Part}
 use Rattle.device.specs.declared.Device.{Device}
-use Rattle.device.specs.Parts.{sizeOf, startOf, lengthOf}
+use Rattle.device.specs.Parts.{startOf, lengthOf}
 use Rattle.device.proofs.Claims.{blocks-end-inside}
 use Rattle.chip.specs.declared.Effect.{Effect}
 use Rattle.chip.specs.declared.Effect.the-variants.{Nothing, Program, Erase, CutProgram, CutErase}

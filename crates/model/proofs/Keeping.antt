@@ -1,12 +1,12 @@
 -- Proper stays proper: through settling, through an action, through a cycle. Assumes nothing.
-use mathlib.Core.Path.{_≡_, refl, sym, ap, _∙_, subst}
+use mathlib.Core.Path.{_≡_, refl, sym, ap, subst}
 use mathlib.Core.Bool.{Bool, true, false, not, _&&_, _||_}
-use Prim.Native.Nat.{ℕ, _+_, _-_, _≤_, _<_}
+use Prim.Native.Nat.{ℕ, _-_, _≤_, _<_}
 use native.Mathlib.Omega.{arith}
 use lib.Bits.{bitAnd, bitOr}
 use lib.Dec.{eqb, ltb, leb}
-use borrow.Author.Tests.{leb-false, leb-true, ltb-false, eqb-true, eqb-false, ne-eqb, eq-eqb, le-ltb, lt-leb}
-use Rattle.cells.specs.Pick.{pick, pick-ind, and-rest, and-left, and-right, or-left, or-right, or-both, unlike}
+use borrow.Author.Tests.{leb-false, ltb-false, eqb-false, ne-eqb, le-ltb}
+use Rattle.cells.specs.Pick.{pick-ind, and-right, or-left, or-right, or-both, unlike}
 use Rattle.device.specs.declared.Device.{Device}
 use Rattle.device.specs.Parts.{sizeOf, unknownDevice, unknownPart}
 use Rattle.chip.specs.declared.State.{State}
@@ -21,11 +21,11 @@ use Rattle.chip.specs.declared.Mode.the-variants.{Array, Status, Identifier}
 use Rattle.chip.specs.declared.Phase.{Phase}
 use Rattle.chip.specs.declared.Phase.the-variants.{Free, EraseAwaited, DataAwaited, Programming, Erasing, Suspended}
 use Rattle.chip.specs.Levels.{rpLow, vppLow, locked}
-use Rattle.chip.specs.States.{badMode, badStatus, badLeft, badAddress, improper, isPending, isBusy, topBits, atRest, freshState, resetOf}
+use Rattle.chip.specs.States.{badMode, badStatus, badLeft, badAddress, isPending, isBusy, topBits, atRest, freshState}
 use Rattle.commands.specs.Commands.{firstWrite, afterErase, whileErasing, whileSuspended, actionOf, performedOf, startedOf, unsupplied}
-use Rattle.settling.specs.Settling.{settledAs, cutBits, cutBy, countedOff, settleOf}
+use Rattle.settling.specs.Settling.{cutBits, cutBy, countedOff, settleOf}
 use Rattle.chip.specs.declared.Reply.the-variants.{Gives}
-use Rattle.bus.specs.Cycles.{pastArray, numberOf, decideOf, acceptOf, respondOf, readOf, refusedBy}
+use Rattle.bus.specs.Cycles.{pastArray, decideOf, acceptOf, respondOf, readOf}
 use Rattle.bus.proofs.Facts.{Proper, Fine}
 use Rattle.model.proofs.Outcome.{outcome, accept-ways}
 use Rattle.model.proofs.Status as sr

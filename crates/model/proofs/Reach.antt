@@ -1,11 +1,11 @@
 -- What a decided cycle touches lies inside the array and the residue. Assumes nothing.
-use mathlib.Core.Path.{_≡_, refl, sym, ap, _∙_, subst}
+use mathlib.Core.Path.{_≡_, refl}
 use mathlib.Core.Bool.{Bool, true, false, not, _&&_, _||_}
-use Prim.Native.Nat.{ℕ, _+_, _≤_, _<_}
+use Prim.Native.Nat.{ℕ, _≤_, _<_}
 use native.Mathlib.Omega.{arith}
 use lib.Dec.{eqb, ltb, leb}
-use borrow.Author.Tests.{leb-false, ltb-false, eqb-true, eqb-false}
-use Rattle.cells.specs.Pick.{pick, pick-ind, and-rest, or-left, and-left}
+use borrow.Author.Tests.{leb-false, ltb-false}
+use Rattle.cells.specs.Pick.{pick, pick-ind, and-rest, and-left}
 use Rattle.device.specs.declared.Part.{Part}
 use Rattle.device.specs.declared.Device.{Device}
 use Rattle.device.specs.Parts.{sizeOf}
@@ -21,8 +21,8 @@ use Rattle.chip.specs.declared.Phase.{Phase}
 use Rattle.chip.specs.declared.Phase.the-variants.{Free, EraseAwaited, DataAwaited, Programming, Erasing, Suspended}
 use Rattle.chip.specs.Levels.{rpLow, vppLow}
 use Rattle.chip.specs.States.{badAddress, isPending, isBusy}
-use Rattle.settling.specs.Settling.{settledAs, cutOf, endOf, residueFor, resetBy, cutBy, countedOff, settleOf}
-use Rattle.bus.specs.Cycles.{shortResidue, pastArray, isIdle, numberOf, decideOf, acceptOf, respondOf, readOf, decidedAs}
+use Rattle.settling.specs.Settling.{cutOf, endOf, residueFor, cutBy, countedOff, settleOf}
+use Rattle.bus.specs.Cycles.{shortResidue, pastArray, decideOf, acceptOf, respondOf, readOf}
 use Rattle.bus.proofs.Facts.{Fine}
 use Rattle.model.proofs.Outcome.{outcome, accept-ways, accept-effect}
 use Rattle.model.specs.Arrays.{Within, Shown}

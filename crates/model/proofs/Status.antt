@@ -1,13 +1,13 @@
 -- Facts of the status register under masks: one computed test over 256 values, and one law. Assumes nothing.
 use mathlib.Core.Path.{_≡_, refl, sym, ap, _∙_}
 use mathlib.Core.Bool.{Bool, true, false, not, _&&_, _||_}
-use Prim.Native.Nat.{ℕ, zero, suc, _+_, _/_, _%_, _≤_, _<_}
+use Prim.Native.Nat.{ℕ, zero, suc, _/_, _%_, _≤_, _<_}
 use native.Mathlib.Nat.{not-suc-le-zero}
 use native.Mathlib.Omega.{arith}
 use lib.Bits.{bitAnd, bitOr}
 use lib.Dec.{eqb}
-use borrow.Author.Tests.{eqb-true, eq-eqb, eqb-false, not-false}
-use Rattle.cells.specs.Pick.{and-left, and-right, or-left, or-right, or-both, unlike}
+use borrow.Author.Tests.{eqb-true, eqb-false, not-false}
+use Rattle.cells.specs.Pick.{and-left, and-right, or-left, or-right, unlike}
 use Rattle.chip.specs.declared.Phase.{Phase}
 use Rattle.chip.specs.declared.Phase.the-variants.{Free, EraseAwaited, DataAwaited, Programming, Erasing, Suspended}
 use Rattle.chip.specs.States.{badStatus, topBits}

@@ -5,7 +5,7 @@ use mathlib.Core.Logic.{_↔_}
 use Prim.Native.Nat.{ℕ}
 use native.Mathlib.Omega.{arith}
 use lib.ListN.{length}
-use Rattle.cells.specs.Numbers.{Foremost, NoRow, given, given-foremost, foremost-given, given-no-row, no-row-given}
+use Rattle.cells.specs.Numbers.{Foremost, NoRow, given-foremost, foremost-given, given-no-row, no-row-given}
 use Rattle.device.specs.declared.Device.{Device}
 use Rattle.chip.specs.declared.State.{State}
 use Rattle.chip.specs.declared.Cycle.{Cycle}
@@ -19,13 +19,12 @@ use Rattle.chip.specs.declared.Reply.{Reply}
 use Rattle.chip.specs.declared.Reply.the-variants.{Quiet, Gives, GivesArray, Refuses}
 use Rattle.chip.specs.declared.Effect.the-variants.{Nothing}
 use Rattle.settling.specs.Settling.{settleOf}
-use Rattle.bus.specs.Cycles.{tableOf, numberOf, decideOf, acceptOf, respondOf, readOf, refusedBy}
+use Rattle.bus.specs.Cycles.{tableOf, numberOf, decideOf, acceptOf, respondOf, readOf}
 use mathlib.Core.Bool.{Bool, true, false}
 use Rattle.cells.specs.Pick.{unlike}
 use Rattle.bus.proofs.Ways.{refused, accepted}
-use Rattle.bus.proofs.Facts.{Fine}
-use Rattle.model.specs.declared.Seen.the-variants.{NoData, Byte, Refused}
-use Rattle.model.specs.Arrays.{arrayOf, arrayAfter, answerOf, seenOf}
+use Rattle.model.specs.declared.Seen.the-variants.{Refused}
+use Rattle.model.specs.Arrays.{arrayAfter, answerOf, seenOf}
 use Rattle.model.proofs.Outcome.{outcome, accept-ways}
 
 -- the number that a reply refuses by, 0 where it gives no refusal

@@ -1,6 +1,6 @@
 -- What is claimed of a run, in one place. Assumes nothing.
-use mathlib.Core.Path.{_≡_, refl}
-use mathlib.Core.Bool.{Bool, true, false}
+use mathlib.Core.Path.{_≡_}
+use mathlib.Core.Bool.{true, false}
 use mathlib.Core.List.{List}
 use mathlib.Core.Logic.{_↔_}
 use Prim.Native.Nat.{ℕ, _-_, _<_}
@@ -11,8 +11,8 @@ use Rattle.device.specs.declared.Device.{Device}
 use Rattle.chip.specs.declared.Pins.{Pins}
 use Rattle.chip.specs.declared.State.{State}
 use Rattle.run.specs.declared.Ran.{Ran}
-use Rattle.run.specs.Turns.{Config, isEnded, after, bound}
-use Rattle.run.specs.Runs.{runRows, runNumber, begin, driven, ranOf, bytesOf, scratchOf}
+use Rattle.run.specs.Turns.{Config, isEnded, after}
+use Rattle.run.specs.Runs.{runRows, runNumber, driven, ranOf, bytesOf, scratchOf}
 use Rattle.run.proofs.Ending as ending
 
 -- The numbers: a run makes no cycle and ends with m exactly where m's own condition holds and that of no number before it does.

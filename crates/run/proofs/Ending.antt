@@ -8,18 +8,18 @@ use native.Mathlib.Omega.{arith}
 use lib.ListN.{length}
 use lib.Dec.{eqb, ltb}
 use borrow.Author.Tests.{ltb-true, ltb-false, eq-eqb, ne-eqb, eqb-true, eqb-false}
-use Rattle.cells.specs.Pick.{pick, pick-true, pick-false, unlike}
-use Rattle.cells.specs.Numbers.{Foremost, NoRow, given, given-foremost, foremost-given, given-no-row, no-row-given}
+use Rattle.cells.specs.Pick.{pick-true, pick-false, unlike}
+use Rattle.cells.specs.Numbers.{Foremost, NoRow, given-foremost, foremost-given, given-no-row, no-row-given}
 use Rattle.device.specs.declared.Device.{Device}
 use Rattle.chip.specs.declared.Pins.{Pins}
 use Rattle.chip.specs.declared.State.{State}
 use Rattle.loader.specs.declared.Stage.the-variants.{Clearing}
 use Rattle.stepper.specs.Front.{recordAt}
 use Rattle.run.specs.declared.Ran.{Ran}
-use Rattle.run.specs.Turns.{Config, isEnded, answerTo, moved, turnOf, after, bound}
+use Rattle.run.specs.Turns.{Config, isEnded, answerTo, moved, after, bound}
 use Rattle.run.specs.Runs.{runRows, runNumber, begin, ranBy, driven, leftBy, ranOf, bytesOf, scratchOf}
 use Rattle.run.proofs.Measure.{remains, remains-bound, remains-some, falls}
-use Rattle.run.proofs.Turning.{turn-ended, turn-going, ended-stays}
+use Rattle.run.proofs.Turning.{turn-going, ended-stays}
 
 -- whether a load under way has ended
 abbrev pub over : Config → Bool

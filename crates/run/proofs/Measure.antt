@@ -1,18 +1,18 @@
 -- A number that falls with every cycle of a load, for any record, byte and scratch: every load ends. Assumes nothing.
-use mathlib.Core.Path.{_≡_, refl, sym, ap, _∙_}
+use mathlib.Core.Path.{_≡_, refl}
 use mathlib.Core.Bool.{Bool, true, false}
 use mathlib.Core.List.{List}
 use Prim.Native.Nat.{ℕ, zero, suc, _+_, _-_, _*_, _≤_, _<_}
 use native.Mathlib.Omega.{arith}
 use lib.ListN.{length, getD}
 use lib.Dec.{eqb, ltb, leb}
-use borrow.Author.Tests.{ltb-true, ltb-false, leb-true, leb-false}
+use borrow.Author.Tests.{ltb-true, ltb-false, leb-false}
 use Rattle.cells.specs.Pick.{pick, pick-ind, unlike}
 use Rattle.loader.specs.declared.Stage.{Stage}
 use Rattle.loader.specs.declared.Stage.the-variants.{Clearing, Opening, Reading, EraseAsking, EraseConfirming, EraseWaiting, ProgramAsking, ProgramSending, ProgramWaiting, Closing, Verifying, Ended}
 use Rattle.loader.specs.declared.Loader.{Loader}
 use Rattle.loader.specs.Walks.{nextDiff, diffFrom, risesIn}
-use Rattle.loader.specs.Moves.{at, endedBy, isReady, eraseFault, programFault, onward, afterReads, readMore, pollMore, erasePolled, past, programPolled, verifyMore, nextIn, nextOf}
+use Rattle.loader.specs.Moves.{isReady, eraseFault, programFault, onward, afterReads, readMore, pollMore, erasePolled, past, programPolled, verifyMore, nextIn}
 use Rattle.stepper.specs.Stores.{storeOf}
 use Rattle.model.specs.declared.Seen.{Seen}
 use Rattle.model.specs.declared.Seen.the-variants.{NoData, Byte, Refused}

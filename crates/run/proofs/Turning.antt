@@ -1,18 +1,18 @@
 -- Turns: the end stays, and a load is its end after the bound. Assumes nothing.
 use mathlib.Core.Path.{_≡_, refl, sym, ap, _∙_, subst}
-use mathlib.Core.Bool.{Bool, true, false}
+use mathlib.Core.Bool.{true, false}
 use mathlib.Core.List.{List}
 use Prim.Native.Nat.{ℕ, zero, suc, _+_, _-_, _≤_, _<_}
 use native.Mathlib.Omega.{arith}
 use lib.ListN.{length}
-use Rattle.cells.specs.Pick.{pick, pick-true, pick-false}
+use Rattle.cells.specs.Pick.{pick-true, pick-false}
 use Rattle.device.specs.declared.Device.{Device}
 use Rattle.chip.specs.declared.State.{State}
 use Rattle.loader.specs.declared.Loader.{Loader}
 use Rattle.model.specs.declared.Seen.{Seen}
 use Rattle.run.specs.Turns.{Config, isEnded, loaderBy, scratchBy, answerTo, arrayTo, moved, turnOf, after, bound}
 use Rattle.run.specs.Runs.{driven}
-use Rattle.run.proofs.Measure.{remains, remains-bound, remains-some, falls}
+use Rattle.run.proofs.Measure.{remains, remains-bound, falls}
 
 pub turn-ended : (d : Device) (w : List ℕ) (c : Config) → isEnded (c .loader .stage) ≡ true → turnOf d w c ≡ c
 unfolding turnOf

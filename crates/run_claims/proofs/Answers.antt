@@ -1,41 +1,35 @@
 -- What the model answers to each cycle of a load: the one place that opens the model's rules. Assumes nothing.
-use mathlib.Core.Path.{_≡_, refl, sym, ap, _∙_, subst}
+use mathlib.Core.Path.{_≡_, refl, sym, ap, _∙_}
 use mathlib.Core.Bool.{Bool, true, false, not, _&&_, _||_}
-use mathlib.Core.List.{List, []}
-use Prim.Native.Nat.{ℕ, zero, suc, _+_, _-_, _≤_, _<_}
+use Prim.Native.Nat.{ℕ, _+_, _-_, _≤_, _<_}
 use native.Mathlib.Omega.{arith}
-use lib.ListN.{length, getD}
 use lib.Dec.{eqb, ltb, leb}
 use lib.Bits.{bitAnd, bitOr}
-use borrow.Author.Tests.{le-leb, lt-leb, leb-false, ne-eqb, eq-eqb, eqb-true, le-ltb}
-use Rattle.cells.specs.Pick.{pick, pick-true, pick-false, or-both, unlike}
-use Rattle.device.specs.declared.Part.{Part}
+use borrow.Author.Tests.{lt-leb, ne-eqb, eq-eqb, eqb-true, le-ltb}
+use Rattle.cells.specs.Pick.{pick, pick-false, or-both, unlike}
 use Rattle.device.specs.declared.Device.{Device}
-use Rattle.device.specs.Parts.{unknownDevice, sizeOf, lengthOf, startOf, blockOf}
-use Rattle.device.proofs.Claims.{blocks-end-inside}
+use Rattle.device.specs.Parts.{unknownDevice, sizeOf, blockOf}
 use Rattle.chip.specs.declared.Pins.{Pins}
 use Rattle.chip.specs.declared.Kind.{Kind}
 use Rattle.chip.specs.declared.Kind.the-variants.{Read, Write, Idle}
 use Rattle.chip.specs.declared.Mode.{Mode}
-use Rattle.chip.specs.declared.Mode.the-variants.{Array, Status, Identifier}
+use Rattle.chip.specs.declared.Mode.the-variants.{Array, Status}
 use Rattle.chip.specs.declared.Phase.{Phase}
 use Rattle.chip.specs.declared.Phase.the-variants.{Free, EraseAwaited, DataAwaited, Programming, Erasing, Suspended}
 use Rattle.chip.specs.declared.Effect.{Effect}
-use Rattle.chip.specs.declared.Effect.the-variants.{Nothing, Program, Erase, CutProgram, CutErase}
-use Rattle.chip.specs.declared.Reply.the-variants.{Quiet, Gives, GivesArray, Refuses}
+use Rattle.chip.specs.declared.Effect.the-variants.{Nothing}
+use Rattle.chip.specs.declared.Reply.the-variants.{Quiet, Gives, GivesArray}
 use Rattle.chip.specs.declared.State.{State}
-use Rattle.chip.specs.declared.Cycle.{Cycle}
 use Rattle.chip.specs.declared.Settled.{Settled}
-use Rattle.chip.specs.declared.Decision.{Decision}
 use Rattle.chip.specs.Levels.{rpLow, vppLow, badPins, badOe, badLevels, locked}
-use Rattle.chip.specs.States.{badMode, badStatus, badLeft, badAddress, improper, atRest, isBusy, isPending, mostLeft}
+use Rattle.chip.specs.States.{badMode, badStatus, badLeft, badAddress, atRest, isBusy, isPending, mostLeft}
 use Rattle.commands.specs.Commands.{actionOf, firstWrite, afterErase, performedOf, startedOf, unsupplied}
 use Rattle.settling.specs.Settling.{settledAs, settleOf, countedOff, endOf, residueFor}
 use Rattle.bus.specs.Cycles.{isSuspended, pastArray, shortResidue, noCommand, suspendedRead, noIdentifier, judgeOf, lateOf, decideOf, acceptOf, respondOf, decidedAs}
 use Rattle.bus.proofs.Ways.{accepted, number-late}
 use Rattle.bus.proofs.Facts.{Proper, parts-proper}
 use Rattle.model.proofs.Keeping.{st, rest-proper}
-use Rattle.model.proofs.Status.{fits, fits-status}
+use Rattle.model.proofs.Status.{fits}
 use Rattle.run_claims.specs.Made.{busCycle as cyc}
 
 -- a device that is known, and levels that a load may have

@@ -1,6 +1,6 @@
 -- What is claimed of a load's run beyond its promise, in one place. Assumes nothing.
 use mathlib.Core.Path.{_≡_}
-use mathlib.Core.Bool.{Bool, true, false}
+use mathlib.Core.Bool.{true}
 use mathlib.Core.List.{List}
 use Prim.Native.Nat.{ℕ, _+_, _≤_, _<_}
 use lib.ListN.{length, getD}
@@ -13,12 +13,11 @@ use Rattle.chip.specs.declared.State.{State}
 use Rattle.chip.specs.States.{atRest}
 use Rattle.loader.specs.declared.Stage.the-variants.{Clearing}
 use Rattle.stepper.specs.Front.{recordAt}
-use Rattle.run.specs.declared.Ran.{Ran}
 use Rattle.run.specs.Turns.{bound}
 use Rattle.run.specs.Runs.{begin, ranOf, bytesOf, scratchOf}
 use Rattle.run_claims.specs.Wear.{begunIn, heldIn, formula, operationsOf}
 use Rattle.run_claims.specs.History.{Bus, worldAfter, effectsIn, begunOver, uncut, total, eraseOf, programIn}
-use Rattle.run_claims.specs.Made.{madeIn, smoothIn, cyclesOf}
+use Rattle.run_claims.specs.Made.{madeIn, cyclesOf}
 use Rattle.run_claims.proofs.Demand.{Taken, Start}
 use Rattle.run_claims.proofs.Total as total-ends
 use Rattle.run_claims.proofs.Total.{Whole}

@@ -1,11 +1,11 @@
 -- From a run that nothing refuses to its end: what the phases reach is what the run returns and leaves. Assumes nothing.
 use mathlib.Core.Path.{_≡_, refl, sym, ap, _∙_, subst}
-use mathlib.Core.Bool.{Bool, true, false, not, _&&_, _||_}
+use mathlib.Core.Bool.{Bool, true, false, not, _&&_}
 use mathlib.Core.List.{List, [], _∷_}
 use Prim.Native.Nat.{ℕ, zero, suc, _+_, _-_, _*_, _≤_, _<_}
 use native.Mathlib.Nat.{zero-mul, one-mul}
 use native.Mathlib.Omega.{arith}
-use lib.ListN.{length, getD, take, drop, length-take, length-drop}
+use lib.ListN.{length, getD, drop, length-drop}
 use lib.Seq.{length-take-le}
 use lib.Dec.{eqb, leb}
 use borrow.Author.Tests.{eq-eqb, eqb-true, eqb-false, not-false, lt-leb, leb-true}
@@ -13,12 +13,11 @@ use Rattle.cells.specs.Pick.{pick, pick-true, pick-false, or-left, or-right, an
 use Rattle.cells.specs.Lists.{overlaid}
 use Rattle.cells.specs.Bytes.{Bytes}
 use Rattle.device.specs.declared.Device.{Device}
-use Rattle.device.specs.Parts.{sizeOf, lengthOf, startOf}
+use Rattle.device.specs.Parts.{lengthOf, startOf}
 use Rattle.device.proofs.Claims.{blocks-end-inside}
 use Rattle.chip.specs.declared.Pins.{Pins}
 use Rattle.chip.specs.declared.Phase.{Phase}
 use Rattle.chip.specs.declared.Phase.the-variants.{Free, EraseAwaited, DataAwaited, Programming, Erasing, Suspended}
-use Rattle.chip.specs.declared.Mode.{Mode}
 use Rattle.chip.specs.declared.Mode.the-variants.{Array, Status}
 use Rattle.chip.specs.declared.State.{State}
 use Rattle.chip.specs.declared.Effect.{Effect}
@@ -37,14 +36,13 @@ use Rattle.stepper.specs.Outs.{cycleOf}
 use Rattle.loader.specs.declared.Stage.{Stage}
 use Rattle.chip.specs.declared.Cycle.{Cycle}
 use lib.Bits.{bitOr}
-use Rattle.run.specs.Turns.{Config, isEnded, moved, turnOf, after, bound, answerTo}
+use Rattle.run.specs.Turns.{Config, isEnded, turnOf, after, bound}
 use Rattle.run.specs.Runs.{underWay, runNumber, begin, driven, leftBy, ranBy, ranOf, bytesOf, scratchOf}
-use Rattle.run.specs.declared.Ran.{Ran}
-use Rattle.run_claims.specs.Wear.{noted, begunTurn, begunIn, heldIn, baseOf, erasesOf, programsIn, differing, formula, operationsOf}
+use Rattle.run_claims.specs.Wear.{noted, begunTurn, begunIn, heldIn, baseOf, programsIn, formula, operationsOf}
 use Rattle.run_claims.specs.Made.{madeIn, smoothTurn, smoothIn, openingThen, closingOf, cyclesOf}
 use Rattle.run_claims.specs.Ends.{asWanted, eraseTried, programTried, faultCycles}
 use Rattle.run.proofs.Ending.{always-ends}
-use Rattle.run.proofs.Turning.{conf, turn-ended, turn-going, ended-stays}
+use Rattle.run.proofs.Turning.{conf, turn-ended, ended-stays}
 use Rattle.run.proofs.Good.{Good, good}
 use Rattle.run_claims.proofs.Answers.{Up, Ready, Stuck}
 use Rattle.run_claims.proofs.Reaching.{Reach}

@@ -1,24 +1,22 @@
 -- The ends that need no operation, and those where none can start. Assumes nothing.
 use mathlib.Core.Path.{_≡_, refl, sym, ap, _∙_, subst}
-use mathlib.Core.Bool.{Bool, true, false, not, _&&_, _||_}
+use mathlib.Core.Bool.{Bool, true, false, _&&_}
 use mathlib.Core.List.{List, [], _∷_}
-use Prim.Native.Nat.{ℕ, zero, suc, _+_, _-_, _*_, _≤_, _<_}
+use Prim.Native.Nat.{ℕ, _+_, _-_, _<_}
 use native.Mathlib.Omega.{arith}
 use lib.ListN.{length, getD, replicate}
-use lib.Dec.{eqb, ltb, leb}
-use lib.Bits.{bitAnd, bitOr}
-use borrow.Author.Tests.{lt-ltb, le-ltb, eq-eqb}
+use lib.Dec.{eqb, ltb}
+use lib.Bits.{bitOr}
+use borrow.Author.Tests.{lt-ltb, le-ltb}
 use Rattle.cells.specs.Pick.{pick, pick-true, pick-false}
 use Rattle.cells.specs.Lists.{overlaid}
 use Rattle.device.specs.declared.Device.{Device}
-use Rattle.device.specs.Parts.{sizeOf, lengthOf, startOf, blockOf}
+use Rattle.device.specs.Parts.{sizeOf, lengthOf, startOf}
 use Rattle.chip.specs.declared.Pins.{Pins}
-use Rattle.chip.specs.declared.Kind.the-variants.{Read, Write, Idle}
+use Rattle.chip.specs.declared.Kind.the-variants.{Read, Write}
 use Rattle.chip.specs.declared.Cycle.{Cycle}
-use Rattle.chip.specs.declared.Mode.{Mode}
 use Rattle.chip.specs.declared.Mode.the-variants.{Array, Status}
-use Rattle.chip.specs.declared.Phase.the-variants.{Free, EraseAwaited, DataAwaited}
-use Rattle.chip.specs.declared.Effect.{Effect}
+use Rattle.chip.specs.declared.Phase.the-variants.{EraseAwaited, DataAwaited}
 use Rattle.chip.specs.declared.Effect.the-variants.{Nothing}
 use Rattle.chip.specs.declared.Reply.the-variants.{Quiet, Gives}
 use Rattle.chip.specs.declared.State.{State}
@@ -31,15 +29,15 @@ use Rattle.loader.specs.declared.Stage.{Stage}
 use Rattle.loader.specs.declared.Stage.the-variants.{EraseAsking, EraseConfirming, EraseWaiting, ProgramAsking, ProgramSending, ProgramWaiting, Closing, Ended}
 use Rattle.loader.specs.declared.Loader.{Loader}
 use Rattle.loader.specs.Walks.{risesIn, diffFrom}
-use Rattle.loader.specs.Moves.{nextOf, isReady, eraseFault, programFault, bothErrors, erasePolled, programPolled, endedBy}
+use Rattle.loader.specs.Moves.{nextOf, isReady, eraseFault, programFault, erasePolled, programPolled}
 use Rattle.stepper.specs.Stores.{storeOf, erasedWell}
-use Rattle.run.specs.Turns.{Config, isEnded, turnOf}
+use Rattle.run.specs.Turns.{Config, isEnded}
 use Rattle.run.proofs.Turning.{conf}
 use Rattle.run_claims.specs.Made.{busCycle as cyc, closingOf}
 use Rattle.run_claims.specs.Ends.{asWanted, eraseTried, programTried}
 use Rattle.run_claims.proofs.Answers as answers
 use Rattle.run_claims.proofs.Answers.{Up, Stuck}
-use Rattle.run_claims.proofs.Reaching.{Reach, Told, Does, does-as, arrive, prepend, turned, does}
+use Rattle.run_claims.proofs.Reaching.{Reach, Told, does-as, arrive, prepend, turned, does}
 use Rattle.run_claims.proofs.Same.{same-list, none-risen, none-ahead, some-ahead}
 use Rattle.run_claims.proofs.Phases as phases
 

@@ -1,16 +1,16 @@
 -- Least wear: no uncut cycles from the same start to the same block contents begin fewer erases of the block or fewer programs
 -- in it. Assumes nothing.
 use mathlib.Core.Path.{_≡_, refl, sym, ap, _∙_, subst}
-use mathlib.Core.Bool.{Bool, true, false, not, _&&_, _||_}
-use mathlib.Core.List.{List, [], _∷_}
+use mathlib.Core.Bool.{Bool, true, false, not}
+use mathlib.Core.List.{List}
 use Prim.Native.Nat.{ℕ, zero, suc, _+_, _-_, _≤_, _<_}
 use native.Mathlib.Nat.{mod-eq-of-lt}
 use native.Mathlib.Omega.{arith}
-use lib.ListN.{length, getD, take, drop, replicate, getD-replicate}
+use lib.ListN.{length, getD, drop, replicate, getD-replicate}
 use lib.Seq.{getD-take, getD-drop}
 use lib.Bits.{bitAnd, and-mask}
-use lib.Dec.{eqb, ltb}
-use borrow.Author.Tests.{eqb-true, eqb-false, eq-eqb, ne-eqb, not-false, not-true}
+use lib.Dec.{eqb}
+use borrow.Author.Tests.{eqb-true, eqb-false, eq-eqb, not-false}
 use Rattle.cells.specs.Pick.{pick, pick-true, pick-false, or-both, or-left, or-right, unlike}
 use Rattle.cells.specs.Bytes.{Bytes}
 use Rattle.device.specs.declared.Device.{Device}
@@ -19,11 +19,11 @@ use Rattle.device.proofs.Claims.{blocks-end-inside}
 use Rattle.chip.specs.declared.Phase.{Phase}
 use Rattle.chip.specs.declared.Phase.the-variants.{Free, EraseAwaited, DataAwaited, Programming, Erasing, Suspended}
 use Rattle.chip.specs.declared.Effect.{Effect}
-use Rattle.chip.specs.declared.Effect.the-variants.{Nothing, Program, Erase, CutProgram, CutErase}
+use Rattle.chip.specs.declared.Effect.the-variants.{Nothing}
 use Rattle.model.specs.Begun.{pendingIn, pendingOf}
 use Rattle.loader.specs.Walks.{mustRise, rises, risesIn}
 use Rattle.run.specs.Runs.{underWay}
-use Rattle.run_claims.specs.Wear.{heldIn, baseOf, erasesOf, programsIn, differing, programsOf, operationsOf}
+use Rattle.run_claims.specs.Wear.{heldIn, baseOf, erasesOf, programsIn, differing}
 use Rattle.run_claims.specs.History.{Bus, World, worldAfter, effectsIn, begunOver, uncut, total, eraseOf, programAt, programIn}
 use Rattle.run_claims.proofs.Wearing.{lies, byteAll, bytes-after, only-loses, unprogrammed, total-more, ended-begun}
 

@@ -1,6 +1,6 @@
 -- Demand 3 and least wear in the mission's own words: what a run returns and leaves, how much it wears, and that nothing wears
 -- less. Assumes nothing.
-use mathlib.Core.Path.{_≡_, refl, sym, ap, _∙_, subst}
+use mathlib.Core.Path.{_≡_, refl, ap, _∙_, subst}
 use mathlib.Core.Bool.{Bool, true, false}
 use mathlib.Core.List.{List, [], _∷_}
 use Prim.Native.Nat.{ℕ, zero, suc, _+_, _-_, _*_, _≤_, _<_}
@@ -8,29 +8,28 @@ use native.Mathlib.Nat.{zero-mul, one-mul, add-mul, zero-add}
 use native.Mathlib.Omega.{arith}
 use lib.ListN.{length, getD, take, drop}
 use lib.Seq.{take-at, drop-at, length-take-le}
-use lib.Dec.{eqb, ltb}
+use lib.Dec.{eqb}
 use borrow.Author.Tests.{eq-eqb, le-ltb, lt-ltb}
-use Rattle.cells.specs.Pick.{pick, pick-true}
+use Rattle.cells.specs.Pick.{pick}
 use Rattle.cells.specs.Lists.{overlaid}
 use Rattle.cells.specs.Bytes.{Bytes, overlaid-before, overlaid-after}
 use Rattle.device.specs.declared.Device.{Device}
-use Rattle.device.specs.Parts.{sizeOf, startOf, lengthOf}
+use Rattle.device.specs.Parts.{startOf}
 use Rattle.device.proofs.Claims.{blocks-end-inside}
 use Rattle.chip.specs.declared.Pins.{Pins}
 use Rattle.chip.specs.declared.Cycle.{Cycle}
 use Rattle.chip.specs.declared.Mode.the-variants.{Array}
 use Rattle.chip.specs.declared.State.{State}
 use Rattle.chip.specs.declared.Effect.{Effect}
-use Rattle.chip.specs.declared.Effect.the-variants.{Nothing, Program, Erase}
+use Rattle.chip.specs.declared.Effect.the-variants.{Program, Erase}
 use Rattle.chip.specs.States.{atRest}
 use Rattle.loader.specs.declared.Stage.the-variants.{Clearing}
 use Rattle.stepper.specs.Front.{recordAt, endAddress}
 use Rattle.loader.specs.Walks.{risesIn}
-use Rattle.run.specs.declared.Ran.{Ran}
-use Rattle.run.specs.Turns.{Config, bound}
-use Rattle.run.specs.Runs.{runNumber, begin, ranBy, leftBy, ranOf, bytesOf, scratchOf}
+use Rattle.run.specs.Turns.{bound}
+use Rattle.run.specs.Runs.{begin, ranOf, bytesOf, scratchOf}
 use Rattle.run_claims.specs.Wear.{begunIn, heldIn, baseOf, erasesOf, programsIn, programsOf, differing, formula, operationsOf}
-use Rattle.run_claims.specs.History.{Bus, World, worldAfter, effectsIn, begunOver, uncut, total, eraseOf, programIn}
+use Rattle.run_claims.specs.History.{Bus, worldAfter, effectsIn, begunOver, uncut, total, eraseOf, programIn}
 use Rattle.run.proofs.Good.{good}
 use Rattle.run_claims.specs.Made.{madeIn, smoothIn, cyclesOf, readsThen, pollsThen, openingThen, eraseThen, programThen, programsThen, closingOf, programmingOf}
 use Rattle.run_claims.proofs.Demand.{Start, Left, goal, not-low, good-load, ran-left, bytes-left, scratch-left}

@@ -1,39 +1,36 @@
 -- The phases of a load against the model, from the back, each whatever follows. Assumes nothing.
 use mathlib.Core.Path.{_≡_, refl, sym, ap, _∙_, subst}
-use mathlib.Core.Bool.{Bool, true, false, not, _&&_, _||_}
-use mathlib.Core.List.{List, [], _∷_, _++_}
+use mathlib.Core.Bool.{Bool, true, false, not, _||_}
+use mathlib.Core.List.{List, [], _∷_}
 use Prim.Native.Nat.{ℕ, zero, suc, _+_, _-_, _*_, _/_, _%_, _≤_, _<_}
 use native.Mathlib.Nat.{mod-eq-of-lt, not-suc-le-zero, le-of-suc-le-suc, zero-mul, one-mul, add-mul, zero-add}
 use native.Mathlib.Omega.{arith}
-use lib.ListN.{length, getD, take, drop, set, replicate, length-replicate, getD-replicate}
+use lib.ListN.{length, getD, take, set, replicate, length-replicate, getD-replicate}
 use lib.Dec.{eqb, ltb, leb}
-use lib.Bits.{bitAnd, bitOr, and-mask, and-comm}
-use borrow.Author.Tests.{lt-ltb, le-ltb, eq-eqb, ne-eqb, eqb-true, eqb-false, ltb-true, ltb-false, lt-leb, not-false}
+use lib.Bits.{bitAnd, and-mask, and-comm}
+use borrow.Author.Tests.{lt-ltb, le-ltb, eq-eqb, eqb-true, lt-leb, not-false}
 use Rattle.cells.specs.Pick.{pick, pick-true, pick-false, and-right, or-left, or-right, unlike}
 use Rattle.model.proofs.Status.{fits, all-below}
 use Rattle.cells.specs.Lists.{overlaid, laid, laid-more, laid-all}
 use Rattle.cells.specs.Bytes.{Bytes, overlaid-in, overlaid-length}
 use Rattle.device.specs.declared.Device.{Device}
-use Rattle.device.specs.Parts.{sizeOf, lengthOf, startOf, blockOf, shapeOf, startIn, lengthIn}
-use Rattle.device.proofs.Place.{Holds}
+use Rattle.device.specs.Parts.{sizeOf, lengthOf, startOf, blockOf}
 use Rattle.device.proofs.Claims.{blocks-end-inside, blocks-apart}
 use Rattle.chip.specs.declared.Pins.{Pins}
 use Rattle.chip.specs.declared.Kind.{Kind}
-use Rattle.chip.specs.declared.Kind.the-variants.{Read, Write, Idle}
+use Rattle.chip.specs.declared.Kind.the-variants.{Read, Write}
 use Rattle.chip.specs.declared.Mode.{Mode}
-use Rattle.chip.specs.declared.Mode.the-variants.{Array, Status, Identifier}
+use Rattle.chip.specs.declared.Mode.the-variants.{Array, Status}
 use Rattle.chip.specs.declared.Phase.{Phase}
 use Rattle.chip.specs.declared.Phase.the-variants.{Free, EraseAwaited, DataAwaited, Programming, Erasing, Suspended}
 use Rattle.chip.specs.declared.Effect.{Effect}
-use Rattle.chip.specs.declared.Effect.the-variants.{Nothing, Program, Erase, CutProgram, CutErase}
+use Rattle.chip.specs.declared.Effect.the-variants.{Nothing, Program, Erase}
 use Rattle.chip.specs.declared.Reply.{Reply}
-use Rattle.chip.specs.declared.Reply.the-variants.{Quiet, Gives, GivesArray, Refuses}
+use Rattle.chip.specs.declared.Reply.the-variants.{Quiet, Gives, GivesArray}
 use Rattle.chip.specs.declared.State.{State}
-use Rattle.chip.specs.declared.Decision.{Decision}
 use Rattle.chip.specs.States.{atRest, isBusy, mostLeft}
-use Rattle.settling.specs.Settling.{endOf}
 use Rattle.bus.specs.Cycles.{decideOf, decidedAs}
-use Rattle.model.specs.Arrays.{erased, arrayOf, seenOf}
+use Rattle.model.specs.Arrays.{erased}
 use Rattle.model.proofs.Keeping.{st}
 use Rattle.loader.specs.declared.Stage.{Stage}
 use Rattle.loader.specs.declared.Stage.the-variants.{Clearing, Opening, Reading, EraseAsking, EraseConfirming, EraseWaiting, ProgramAsking, ProgramSending, ProgramWaiting, Closing, Verifying, Ended}
@@ -47,8 +44,8 @@ use Rattle.loader.proofs.Walking.{diff-turn, diff-over}
 use Rattle.chip.specs.declared.Cycle.{Cycle}
 use Rattle.model.specs.Begun.{isAwaited, pendingIn}
 use Rattle.model.proofs.Lives.{begunFrom}
-use Rattle.run.specs.Turns.{Config, isEnded, loaderBy, scratchBy, turnOf}
-use Rattle.run_claims.specs.Wear.{noted, begunTurn, programsOf, differing, baseOf, operationsOf}
+use Rattle.run.specs.Turns.{Config, isEnded, turnOf}
+use Rattle.run_claims.specs.Wear.{programsOf, differing, baseOf, operationsOf}
 use Rattle.run.proofs.Turning.{conf}
 use Rattle.run_claims.specs.Made.{busCycle as cyc, isSmooth, readsThen, pollsThen, openingThen, eraseThen, programThen, programsThen, closingOf, programmingOf, cyclesOf}
 use Rattle.run_claims.proofs.Reaching.{Reach, Told, Does, does-as, arrive, prepend, turned, does}

@@ -1,29 +1,26 @@
 -- A load reaches its end, whatever follows: turns put before turns. Assumes nothing.
-use mathlib.Core.Path.{_≡_, refl, sym, ap, _∙_, subst}
-use mathlib.Core.Bool.{Bool, true, false, not, _&&_}
+use mathlib.Core.Path.{_≡_, refl, ap, _∙_}
+use mathlib.Core.Bool.{Bool, true, false, _&&_}
 use mathlib.Core.List.{List, [], _∷_}
-use Prim.Native.Nat.{ℕ, zero, suc, _+_, _-_, _≤_, _<_}
-use native.Mathlib.Omega.{arith}
-use lib.ListN.{length, getD}
-use Rattle.cells.specs.Pick.{pick, pick-true, pick-false}
+use Prim.Native.Nat.{ℕ, suc, _+_, _-_}
+use lib.ListN.{length}
+use Rattle.cells.specs.Pick.{pick-false}
 use Rattle.device.specs.declared.Device.{Device}
 use Rattle.device.specs.Parts.{sizeOf}
 use Rattle.chip.specs.declared.State.{State}
 use Rattle.chip.specs.declared.Effect.{Effect}
-use Rattle.chip.specs.declared.Effect.the-variants.{Nothing, Program, Erase, CutProgram, CutErase}
+use Rattle.chip.specs.declared.Effect.the-variants.{Nothing}
 use Rattle.chip.specs.declared.Reply.{Reply}
 use Rattle.chip.specs.declared.Decision.{Decision}
 use Rattle.chip.specs.declared.Cycle.{Cycle}
 use Rattle.bus.specs.Cycles.{decideOf, decidedAs}
-use Rattle.run_claims.specs.History.{isCut}
 use Rattle.run_claims.specs.Made.{madeIn, isSmooth, smoothTurn, smoothIn}
-use Rattle.model.specs.declared.Answer.{Answer}
 use Rattle.model.specs.Arrays.{arrayOf, seenOf, arrayAfter, answerOf}
 use Rattle.model.specs.Begun.{begunBy}
 use Rattle.model.proofs.Lives.{begunFrom, begun-from}
 use Rattle.loader.specs.declared.Loader.{Loader}
 use Rattle.stepper.specs.Outs.{cycleOf}
-use Rattle.run.specs.Turns.{Config, isEnded, loaderBy, scratchBy, answerTo, arrayTo, moved, turnOf, after}
+use Rattle.run.specs.Turns.{Config, isEnded, loaderBy, scratchBy, answerTo, arrayTo, turnOf, after}
 use Rattle.run_claims.specs.Wear.{noted, begunTurn, begunIn}
 use Rattle.run.proofs.Turning.{conf, turn-going}
 

@@ -1,20 +1,20 @@
 -- A block that holds what is wanted, and one that does not: what the walks over it find. Assumes nothing.
-use mathlib.Core.Path.{_≡_, refl, sym, ap, _∙_, subst}
-use mathlib.Core.Bool.{Bool, true, false, not, _&&_, _||_}
-use mathlib.Core.List.{List, [], _∷_}
-use Prim.Native.Nat.{ℕ, zero, suc, _+_, _-_, _≤_, _<_}
+use mathlib.Core.Path.{_≡_, refl, _∙_, subst}
+use mathlib.Core.Bool.{Bool, true, false, not}
+use mathlib.Core.List.{List}
+use Prim.Native.Nat.{ℕ, zero, suc, _+_, _-_, _<_}
 use native.Mathlib.Nat.{not-suc-le-zero, le-of-suc-le-suc}
 use native.Mathlib.Omega.{arith}
 use lib.ListN.{length, getD}
 use lib.Seq.{ext-getD}
-use lib.Dec.{eqb, ltb}
-use lib.Bits.{bitAnd, and-self}
+use lib.Dec.{eqb}
+use lib.Bits.{and-self}
 use borrow.Author.Tests.{eq-eqb, eqb-true, eqb-false}
-use Rattle.cells.specs.Pick.{pick, unlike}
+use Rattle.cells.specs.Pick.{pick}
 use Rattle.device.specs.declared.Device.{Device}
 use Rattle.chip.specs.declared.Pins.{Pins}
 use Rattle.chip.specs.declared.Cycle.{Cycle}
-use Rattle.loader.specs.Walks.{mustRise, rises, nextDiff, risesIn, diffFrom}
+use Rattle.loader.specs.Walks.{rises, nextDiff, risesIn, diffFrom}
 use Rattle.run_claims.specs.Wear.{differing}
 use Rattle.run_claims.specs.Made.{programsThen}
 use Rattle.run_claims.specs.Ends.{asWanted}

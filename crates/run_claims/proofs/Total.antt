@@ -1,17 +1,15 @@
 -- Every end of a run that nothing refuses, as one statement. Assumes nothing.
 use mathlib.Core.Path.{_≡_, refl, sym, ap, _∙_, subst}
-use mathlib.Core.Bool.{Bool, true, false, not, _&&_}
-use mathlib.Core.List.{List, [], _∷_}
-use Prim.Native.Nat.{ℕ, zero, suc, _+_, _-_, _≤_, _<_}
-use lib.ListN.{length, getD}
+use mathlib.Core.Bool.{Bool, true, false, not}
+use mathlib.Core.List.{List, []}
+use Prim.Native.Nat.{ℕ, _-_}
+use lib.ListN.{length}
 use lib.Dec.{eqb}
 use borrow.Author.Tests.{eq-eqb, eqb-true}
-use Rattle.cells.specs.Pick.{pick, pick-true, pick-false, unlike}
-use Rattle.cells.specs.Lists.{overlaid}
+use Rattle.cells.specs.Pick.{pick, unlike}
 use Rattle.device.specs.declared.Device.{Device}
 use Rattle.device.specs.Parts.{startOf}
 use Rattle.chip.specs.declared.Pins.{Pins}
-use Rattle.chip.specs.declared.Cycle.{Cycle}
 use Rattle.chip.specs.declared.Effect.{Effect}
 use Rattle.chip.specs.declared.State.{State}
 use Rattle.chip.specs.Levels.{vppLow}
@@ -20,7 +18,7 @@ use Rattle.stepper.specs.Front.{recordAt, endAddress}
 use Rattle.loader.specs.Walks.{risesIn, diffFrom}
 use Rattle.loader.specs.Moves.{eraseFault, programFault, bothErrors}
 use Rattle.run.specs.declared.Ran.{Ran}
-use Rattle.run.specs.Turns.{Config, bound}
+use Rattle.run.specs.Turns.{bound}
 use Rattle.run.specs.Runs.{begin, ranOf, bytesOf, scratchOf}
 use Rattle.run_claims.specs.Wear.{heldIn}
 use Rattle.run_claims.specs.Made.{madeIn, smoothIn, cyclesOf}

@@ -1,8 +1,8 @@
 -- One byte under a list of effects, and what that costs at least. Assumes nothing.
 use mathlib.Core.Path.{_≡_, refl, sym, ap, _∙_, subst}
-use mathlib.Core.Bool.{Bool, true, false, not, _&&_, _||_}
+use mathlib.Core.Bool.{Bool, true, false, not}
 use mathlib.Core.List.{List, [], _∷_}
-use Prim.Native.Nat.{ℕ, zero, suc, _+_, _-_, _*_, _/_, _%_, _≤_, _<_, min}
+use Prim.Native.Nat.{ℕ, _+_, _-_, _*_, _/_, _%_, _≤_, _<_, min}
 use native.Mathlib.Nat.{lt-of-le-of-lt, min-le-left, mod-lt, zero-lt-suc}
 use native.Mathlib.Omega.{arith}
 use lib.Arith.{bin-ind}
@@ -10,14 +10,14 @@ use lib.Pow.{low}
 use lib.ListN.{length, getD, set, replicate, length-replicate, getD-replicate}
 use lib.Seq.{getD-set-same, getD-set-other}
 use lib.Bits.{bitAnd, and-self, and-step, and-shr}
-use lib.Dec.{eqb, ltb, leb}
-use borrow.Author.Tests.{eqb-true, eqb-false, eq-eqb, ne-eqb, ltb-true, ltb-false, lt-ltb, le-ltb, not-true}
+use lib.Dec.{eqb, ltb}
+use borrow.Author.Tests.{eqb-true, eqb-false, ne-eqb, ltb-true, ltb-false, lt-ltb, le-ltb, not-true}
 use Rattle.cells.specs.Pick.{pick, pick-true, pick-false, pick-same, and-left, and-right, unlike}
 use Rattle.cells.specs.Lists.{overlaid}
 use Rattle.cells.specs.Bytes.{overlaid-in, overlaid-before, overlaid-after}
 use Rattle.device.specs.declared.Part.{Part}
 use Rattle.device.specs.declared.Device.{Device}
-use Rattle.device.specs.Parts.{sizeOf, startOf, lengthOf, blockOf, shapeOf, startIn, lengthIn}
+use Rattle.device.specs.Parts.{sizeOf, startOf, lengthOf, blockOf, shapeOf}
 use Rattle.device.proofs.Place.{Holds}
 use Rattle.device.proofs.Claims.{blocks-end-inside, blocks-apart, blocks-cover}
 use Rattle.chip.specs.declared.Effect.{Effect}

@@ -1,14 +1,14 @@
 -- Start and step: their refusals exactly, what a refusal leaves, every record taken again, and the end that repeats. Assumes nothing.
 use mathlib.Core.Path.{_≡_, refl, sym, ap, _∙_, subst}
-use mathlib.Core.Bool.{Bool, true, false, not, _&&_, _||_}
+use mathlib.Core.Bool.{Bool, true, false, not, _&&_}
 use mathlib.Core.List.{List}
 use mathlib.Core.Logic.{_↔_}
-use Prim.Native.Nat.{ℕ, zero, suc, _+_, _-_, _≤_, _<_}
+use Prim.Native.Nat.{ℕ, _+_, _-_, _≤_, _<_}
 use native.Mathlib.Omega.{arith}
 use lib.ListN.{length, getD, length-set, length-replicate}
 use lib.Dec.{eqb, ltb, leb}
-use borrow.Author.Tests.{ltb-true, ltb-false, leb-true, leb-false, eqb-true, eqb-false, eq-eqb, ne-eqb, le-ltb, lt-leb, not-false}
-use Rattle.cells.specs.Pick.{pick, pick-ind, pick-true, pick-false, or-left, or-right, or-both, and-rest, unlike}
+use borrow.Author.Tests.{ltb-true, ltb-false, leb-false, eqb-true, eqb-false, eq-eqb, ne-eqb, le-ltb, lt-leb, not-false}
+use Rattle.cells.specs.Pick.{pick, pick-ind, pick-true, pick-false, or-left, or-right, and-rest, unlike}
 use Rattle.cells.specs.Numbers.{Foremost, NoRow, end, past, given, given-foremost, foremost-given, given-no-row, no-row-given, no-head, no-tail}
 use Rattle.device.specs.declared.Part.{Part}
 use Rattle.device.specs.Parts.{unknownPart, lengthOf}

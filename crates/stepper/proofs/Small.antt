@@ -1,8 +1,8 @@
 -- Addresses are small: a block begins inside the array. Assumes nothing.
-use Prim.Native.Nat.{ℕ, _+_, _≤_}
+use Prim.Native.Nat.{ℕ, _≤_}
 use native.Mathlib.Omega.{arith}
 use Rattle.device.specs.declared.Part.{Part}
-use Rattle.device.specs.Parts.{startOf, lengthOf, sizeOf}
+use Rattle.device.specs.Parts.{startOf, lengthOf}
 use Rattle.device.proofs.Claims.{blocks-end-inside}
 use Rattle.device.proofs.Place.{size-small}
 

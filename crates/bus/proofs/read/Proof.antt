@@ -1,38 +1,25 @@
 use borrow.Author.Needs.{needs}
-use native.Mathlib.Omega.{arith}
-use borrow.Author.Tests.{lt-ltb, le-ltb, le-leb, lt-leb, eq-eqb, ne-eqb}
-use mathlib.Core.Path.{refl, sym, _∙_}
 use Rattle.bus.proofs.read.Statement.{statement}
 use Rattle.bus.proofs.read.Tie as tie
-use Rattle.bus.proofs.read.Reads as reads
-use Rattle.bus.proofs.read.Lts as lts
-use Rattle.bus.proofs.identifier.Reads as identifier-reads
 
--- src/lib.rt:180:24
 enum-told : tie.Need-enum-told
 enum-told c = search needs
 
--- src/lib.rt:181:25
 enum-told-2 : tie.Need-enum-told-2
 enum-told-2 c = search needs
 
--- src/lib.rt:182:42
 enum-told-3 : tie.Need-enum-told-3
 enum-told-3 c = search needs
 
--- src/lib.rt:182:42
 identifier-requires : tie.Need-identifier-requires
 identifier-requires c κs = search needs
 
--- src/lib.rt:176:1
 returns : tie.Need-returns
 returns c = simp (c .enum-told .given .1)
 
--- src/lib.rt:176:1
 returns-2 : tie.Need-returns-2
 returns-2 c = simp (c .enum-told2 .given .1)
 
--- src/lib.rt:176:1
 returns-3 : tie.Need-returns-3
 returns-3 c = simp (c .identifier .ensures, c .before .enum-told3 .given .1)
 

@@ -1,43 +1,29 @@
 use borrow.Author.Needs.{needs}
-use native.Mathlib.Omega.{arith}
-use borrow.Author.Tests.{lt-ltb, le-ltb, le-leb, lt-leb, eq-eqb, ne-eqb}
-use mathlib.Core.Path.{refl, sym, _∙_}
+use mathlib.Core.Path.{sym, _∙_}
 use Rattle.commands.specs.Commands.{startedOf}
 use Rattle.commands.proofs.begin.Statement.{statement}
 use Rattle.commands.proofs.begin.Tie as tie
-use Rattle.commands.proofs.begin.Reads as reads
-use Rattle.commands.proofs.begin.Lts as lts
-use Rattle.commands.proofs.unsupplied.Reads as unsupplied-reads
-use Rattle.chip.proofs.levels.locked.Reads as locked-reads
-use Rattle.chip.proofs.states.at_rest.Reads as at-rest-reads
 
--- src/lib.rt:153:8
 unsupplied-requires : tie.Need-unsupplied-requires
 unsupplied-requires c κs = search needs
 
--- src/lib.rt:154:9
 at-rest-requires : tie.Need-at-rest-requires
 at-rest-requires c κs = search needs
 
--- src/lib.rt:154:9
 returns : tie.Need-returns
 unfolding startedOf
 returns c = simp (c .at-rest .ensures, sym (c .before .before .before .unsupplied .ensures) ∙ c .before .before .if1 .taken)
 
--- src/lib.rt:156:8
 locked-requires : tie.Need-locked-requires
 locked-requires c κs = search needs
 
--- src/lib.rt:157:9
 at-rest-requires-2 : tie.Need-at-rest-requires-2
 at-rest-requires-2 c κs = search needs
 
--- src/lib.rt:157:9
 returns-2 : tie.Need-returns-2
 unfolding startedOf
 returns-2 c = simp (c .at-rest2 .ensures, sym (c .before .before .before .locked .ensures) ∙ c .before .before .if2 .taken, sym (c .before .before .before .before .before .unsupplied .ensures) ∙ c .before .before .before .before .if1 .left)
 
--- src/lib.rt:149:1
 returns-3 : tie.Need-returns-3
 unfolding startedOf
 returns-3 c = simp (sym (c .before .before .locked .ensures) ∙ c .before .if2 .left, sym (c .before .before .before .before .unsupplied .ensures) ∙ c .before .before .before .if1 .left)

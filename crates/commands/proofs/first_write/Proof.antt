@@ -1,44 +1,32 @@
-use borrow.Author.Needs.{needs}
-use native.Mathlib.Omega.{arith}
-use borrow.Author.Tests.{lt-ltb, le-ltb, le-leb, lt-leb, eq-eqb, ne-eqb}
-use mathlib.Core.Path.{refl, sym, _∙_}
+use borrow.Author.Tests.{eq-eqb, ne-eqb}
 use Rattle.commands.specs.Commands.{firstWrite}
 use Rattle.commands.proofs.first_write.Statement.{statement}
 use Rattle.commands.proofs.first_write.Tie as tie
-use Rattle.commands.proofs.first_write.Reads as reads
-use Rattle.commands.proofs.first_write.Lts as lts
 
--- src/lib.rt:16:9
 returns : tie.Need-returns
 unfolding firstWrite
 returns c = simp (eq-eqb _ _ (c .if1 .taken))
 
--- src/lib.rt:19:9
 returns-2 : tie.Need-returns-2
 unfolding firstWrite
 returns-2 c = simp (eq-eqb _ _ (c .if2 .taken), ne-eqb _ _ (c .before .if1 .left))
 
--- src/lib.rt:22:9
 returns-3 : tie.Need-returns-3
 unfolding firstWrite
 returns-3 c = simp (eq-eqb _ _ (c .if3 .taken), ne-eqb _ _ (c .before .if2 .left), ne-eqb _ _ (c .before .before .if1 .left))
 
--- src/lib.rt:25:9
 returns-4 : tie.Need-returns-4
 unfolding firstWrite
 returns-4 c = simp (eq-eqb _ _ (c .if4 .taken), ne-eqb _ _ (c .before .if3 .left), ne-eqb _ _ (c .before .before .if2 .left), ne-eqb _ _ (c .before .before .before .if1 .left))
 
--- src/lib.rt:28:9
 returns-5 : tie.Need-returns-5
 unfolding firstWrite
 returns-5 c = simp (eq-eqb _ _ (c .if5 .taken), ne-eqb _ _ (c .before .if4 .left), ne-eqb _ _ (c .before .before .if3 .left), ne-eqb _ _ (c .before .before .before .if2 .left), ne-eqb _ _ (c .before .before .before .before .if1 .left))
 
--- src/lib.rt:31:9
 returns-6 : tie.Need-returns-6
 unfolding firstWrite
 returns-6 c = simp (eq-eqb _ _ (c .if6 .taken), ne-eqb _ _ (c .before .if5 .left), ne-eqb _ _ (c .before .before .if4 .left), ne-eqb _ _ (c .before .before .before .if3 .left), ne-eqb _ _ (c .before .before .before .before .if2 .left), ne-eqb _ _ (c .before .before .before .before .before .if1 .left))
 
--- src/lib.rt:12:1
 returns-7 : tie.Need-returns-7
 unfolding firstWrite
 returns-7 c = simp (ne-eqb _ _ (c .if6 .left), ne-eqb _ _ (c .before .if5 .left), ne-eqb _ _ (c .before .before .if4 .left), ne-eqb _ _ (c .before .before .before .if3 .left), ne-eqb _ _ (c .before .before .before .before .if2 .left), ne-eqb _ _ (c .before .before .before .before .before .if1 .left))

@@ -1,19 +1,11 @@
 use borrow.Author.Needs.{needs}
-use native.Mathlib.Omega.{arith}
-use borrow.Author.Tests.{lt-ltb, le-ltb, le-leb, lt-leb, eq-eqb, ne-eqb}
-use mathlib.Core.Path.{refl, sym, _∙_}
 use Rattle.device.specs.Parts.{codeOf}
 use Rattle.device.proofs.code.Statement.{statement}
 use Rattle.device.proofs.code.Tie as tie
-use Rattle.device.proofs.code.Reads as reads
-use Rattle.device.proofs.code.Lts as lts
-use Rattle.device.proofs.describe.Reads as describe-reads
 
--- src/lib.rt:290:9
 describe-requires : tie.Need-describe-requires
 describe-requires c κs = search needs
 
--- src/lib.rt:287:1
 returns : tie.Need-returns
 unfolding codeOf
 returns c = simp (c .describe .ensures)

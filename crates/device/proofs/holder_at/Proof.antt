@@ -1,78 +1,58 @@
 use borrow.Author.Needs.{needs}
-use native.Mathlib.Omega.{arith}
-use borrow.Author.Tests.{lt-ltb, le-ltb, le-leb, lt-leb, eq-eqb, ne-eqb}
-use mathlib.Core.Path.{refl, sym, _∙_}
+use borrow.Author.Tests.{lt-ltb, le-ltb}
 use Rattle.device.specs.Parts.{holderIn}
 use Rattle.device.proofs.holder_at.Statement.{statement}
 use Rattle.device.proofs.holder_at.Tie as tie
-use Rattle.device.proofs.holder_at.Reads as reads
-use Rattle.device.proofs.holder_at.Lts as lts
-use Rattle.device.proofs.wide.Reads as wide-reads
 
--- src/lib.rt:170:9
 wide-requires : tie.Need-wide-requires
 wide-requires c κs = search needs
 
--- src/lib.rt:172:9
 returns : tie.Need-returns
 unfolding holderIn
 returns c = simp (lt-ltb _ _ (c .if1 .taken), ← c .before .wide .ensures)
 
--- src/lib.rt:175:5
 wide-requires-2 : tie.Need-wide-requires-2
 wide-requires-2 c κs = search needs
 
--- src/lib.rt:177:9
 returns-2 : tie.Need-returns-2
 unfolding holderIn
 returns-2 c = simp (lt-ltb _ _ (c .if2 .taken), ← c .before .wide2 .ensures, le-ltb _ _ (c .before .before .if1 .left), ← c .before .before .before .wide .ensures)
 
--- src/lib.rt:180:5
 wide-requires-3 : tie.Need-wide-requires-3
 wide-requires-3 c κs = search needs
 
--- src/lib.rt:182:9
 returns-3 : tie.Need-returns-3
 unfolding holderIn
 returns-3 c = simp (lt-ltb _ _ (c .if3 .taken), ← c .before .wide3 .ensures, le-ltb _ _ (c .before .before .if2 .left), ← c .before .before .before .wide2 .ensures, le-ltb _ _ (c .before .before .before .before .if1 .left), ← c .before .before .before .before .before .wide .ensures)
 
--- src/lib.rt:185:5
 wide-requires-4 : tie.Need-wide-requires-4
 wide-requires-4 c κs = search needs
 
--- src/lib.rt:187:9
 returns-4 : tie.Need-returns-4
 unfolding holderIn
 returns-4 c = simp (lt-ltb _ _ (c .if4 .taken), ← c .before .wide4 .ensures, le-ltb _ _ (c .before .before .if3 .left), ← c .before .before .before .wide3 .ensures, le-ltb _ _ (c .before .before .before .before .if2 .left), ← c .before .before .before .before .before .wide2 .ensures, le-ltb _ _ (c .before .before .before .before .before .before .if1 .left), ← c .before .before .before .before .before .before .before .wide .ensures)
 
--- src/lib.rt:190:5
 wide-requires-5 : tie.Need-wide-requires-5
 wide-requires-5 c κs = search needs
 
--- src/lib.rt:192:9
 returns-5 : tie.Need-returns-5
 unfolding holderIn
 returns-5 c = simp (lt-ltb _ _ (c .if5 .taken), ← c .before .wide5 .ensures, le-ltb _ _ (c .before .before .if4 .left), ← c .before .before .before .wide4 .ensures, le-ltb _ _ (c .before .before .before .before .if3 .left), ← c .before .before .before .before .before .wide3 .ensures, le-ltb _ _ (c .before .before .before .before .before .before .if2 .left), ← c .before .before .before .before .before .before .before .wide2 .ensures, le-ltb _ _ (c .before .before .before .before .before .before .before .before .if1 .left), ← c .before .before .before .before .before .before .before .before .before .wide .ensures)
 
--- src/lib.rt:195:5
 wide-requires-6 : tie.Need-wide-requires-6
 wide-requires-6 c κs = search needs
 
--- src/lib.rt:197:9
 returns-6 : tie.Need-returns-6
 unfolding holderIn
 returns-6 c = simp (lt-ltb _ _ (c .if6 .taken), ← c .before .wide6 .ensures, le-ltb _ _ (c .before .before .if5 .left), ← c .before .before .before .wide5 .ensures, le-ltb _ _ (c .before .before .before .before .if4 .left), ← c .before .before .before .before .before .wide4 .ensures, le-ltb _ _ (c .before .before .before .before .before .before .if3 .left), ← c .before .before .before .before .before .before .before .wide3 .ensures, le-ltb _ _ (c .before .before .before .before .before .before .before .before .if2 .left), ← c .before .before .before .before .before .before .before .before .before .wide2 .ensures, le-ltb _ _ (c .before .before .before .before .before .before .before .before .before .before .if1 .left), ← c .before .before .before .before .before .before .before .before .before .before .before .wide .ensures)
 
--- src/lib.rt:200:5
 wide-requires-7 : tie.Need-wide-requires-7
 wide-requires-7 c κs = search needs
 
--- src/lib.rt:202:9
 returns-7 : tie.Need-returns-7
 unfolding holderIn
 returns-7 c = simp (lt-ltb _ _ (c .if7 .taken), ← c .before .wide7 .ensures, le-ltb _ _ (c .before .before .if6 .left), ← c .before .before .before .wide6 .ensures, le-ltb _ _ (c .before .before .before .before .if5 .left), ← c .before .before .before .before .before .wide5 .ensures, le-ltb _ _ (c .before .before .before .before .before .before .if4 .left), ← c .before .before .before .before .before .before .before .wide4 .ensures, le-ltb _ _ (c .before .before .before .before .before .before .before .before .if3 .left), ← c .before .before .before .before .before .before .before .before .before .wide3 .ensures, le-ltb _ _ (c .before .before .before .before .before .before .before .before .before .before .if2 .left), ← c .before .before .before .before .before .before .before .before .before .before .before .wide2 .ensures, le-ltb _ _ (c .before .before .before .before .before .before .before .before .before .before .before .before .if1 .left), ← c .before .before .before .before .before .before .before .before .before .before .before .before .before .wide .ensures)
 
--- src/lib.rt:166:1
 returns-8 : tie.Need-returns-8
 unfolding holderIn
 returns-8 c = simp (le-ltb _ _ (c .if7 .left), ← c .before .wide7 .ensures, le-ltb _ _ (c .before .before .if6 .left), ← c .before .before .before .wide6 .ensures, le-ltb _ _ (c .before .before .before .before .if5 .left), ← c .before .before .before .before .before .wide5 .ensures, le-ltb _ _ (c .before .before .before .before .before .before .if4 .left), ← c .before .before .before .before .before .before .before .wide4 .ensures, le-ltb _ _ (c .before .before .before .before .before .before .before .before .if3 .left), ← c .before .before .before .before .before .before .before .before .before .wide3 .ensures, le-ltb _ _ (c .before .before .before .before .before .before .before .before .before .before .if2 .left), ← c .before .before .before .before .before .before .before .before .before .before .before .wide2 .ensures, le-ltb _ _ (c .before .before .before .before .before .before .before .before .before .before .before .before .if1 .left), ← c .before .before .before .before .before .before .before .before .before .before .before .before .before .wide .ensures)

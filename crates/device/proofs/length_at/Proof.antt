@@ -1,93 +1,74 @@
 use borrow.Author.Needs.{needs}
 use native.Mathlib.Omega.{arith}
-use borrow.Author.Tests.{lt-ltb, le-ltb, le-leb, lt-leb, eq-eqb, ne-eqb}
-use mathlib.Core.Path.{_≡_, refl, sym, _∙_}
+use mathlib.Core.Path.{_≡_, sym}
 use Rattle.device.specs.Parts.{lengthIn, lengthsOf}
 use lib.ListN.{List·getD-eq-default}
 use Rattle.device.proofs.length_at.Statement.{statement}
 use Rattle.device.proofs.length_at.Tie as tie
-use Rattle.device.proofs.length_at.Reads as reads
-use Rattle.device.proofs.length_at.Lts as lts
-use Rattle.device.proofs.wide.Reads as wide-reads
 
--- src/lib.rt:107:9
 wide-requires : tie.Need-wide-requires
 wide-requires c κs = search needs
 
--- src/lib.rt:107:9
 returns : tie.Need-returns
 unfolding lengthIn
 returns c =
     let e : c .before .before .args .k ≡ 0 = omega arith in
     rw e (c .wide .ensures)
 
--- src/lib.rt:110:9
 wide-requires-2 : tie.Need-wide-requires-2
 wide-requires-2 c κs = search needs
 
--- src/lib.rt:110:9
 returns-2 : tie.Need-returns-2
 unfolding lengthIn
 returns-2 c =
     let e : c .before .before .before .args .k ≡ 1 = omega arith in
     rw e (c .wide2 .ensures)
 
--- src/lib.rt:113:9
 wide-requires-3 : tie.Need-wide-requires-3
 wide-requires-3 c κs = search needs
 
--- src/lib.rt:113:9
 returns-3 : tie.Need-returns-3
 unfolding lengthIn
 returns-3 c =
     let e : c .before .before .before .before .args .k ≡ 2 = omega arith in
     rw e (c .wide3 .ensures)
 
--- src/lib.rt:116:9
 wide-requires-4 : tie.Need-wide-requires-4
 wide-requires-4 c κs = search needs
 
--- src/lib.rt:116:9
 returns-4 : tie.Need-returns-4
 unfolding lengthIn
 returns-4 c =
     let e : c .before .before .before .before .before .args .k ≡ 3 = omega arith in
     rw e (c .wide4 .ensures)
 
--- src/lib.rt:119:9
 wide-requires-5 : tie.Need-wide-requires-5
 wide-requires-5 c κs = search needs
 
--- src/lib.rt:119:9
 returns-5 : tie.Need-returns-5
 unfolding lengthIn
 returns-5 c =
     let e : c .before .before .before .before .before .before .args .k ≡ 4 = omega arith in
     rw e (c .wide5 .ensures)
 
--- src/lib.rt:122:9
 wide-requires-6 : tie.Need-wide-requires-6
 wide-requires-6 c κs = search needs
 
--- src/lib.rt:122:9
 returns-6 : tie.Need-returns-6
 unfolding lengthIn
 returns-6 c =
     let e : c .before .before .before .before .before .before .before .args .k ≡ 5 = omega arith in
     rw e (c .wide6 .ensures)
 
--- src/lib.rt:125:9
 wide-requires-7 : tie.Need-wide-requires-7
 wide-requires-7 c κs = search needs
 
--- src/lib.rt:125:9
 returns-7 : tie.Need-returns-7
 unfolding lengthIn
 returns-7 c =
     let e : c .before .before .before .before .before .before .before .before .args .k ≡ 6 = omega arith in
     rw e (c .wide7 .ensures)
 
--- src/lib.rt:103:1
 returns-8 : tie.Need-returns-8
 unfolding lengthIn
 returns-8 c = sym (List·getD-eq-default (lengthsOf (c .before .before .before .before .before .before .before .args .s)) 0 {n = c .before .before .before .before .before .before .before .args .k} (c .if7 .left))

@@ -1,117 +1,92 @@
 use borrow.Author.Needs.{needs}
 use native.Mathlib.Omega.{arith}
-use borrow.Author.Tests.{lt-ltb, le-ltb, le-leb, lt-leb, eq-eqb, ne-eqb}
-use mathlib.Core.Path.{_≡_, refl, sym, _∙_}
+use mathlib.Core.Path.{_≡_}
 use Rattle.device.specs.Parts.{offsetIn, lengthsOf}
 use Rattle.device.proofs.Cover.{offset-past}
 use Rattle.device.proofs.offset_at.Statement.{statement}
 use Rattle.device.proofs.offset_at.Tie as tie
-use Rattle.device.proofs.offset_at.Reads as reads
-use Rattle.device.proofs.offset_at.Lts as lts
-use Rattle.device.proofs.wide.Reads as wide-reads
 
--- src/lib.rt:136:9
 returns : tie.Need-returns
 unfolding offsetIn
 returns c =
     let e : c .before .args .k ≡ 0 = omega arith in
     rw e (omega arith)
 
--- src/lib.rt:138:5
 wide-requires : tie.Need-wide-requires
 wide-requires c κs = search needs
 
--- src/lib.rt:140:9
 returns-2 : tie.Need-returns-2
 unfolding offsetIn
 returns-2 c =
     let e : c .before .before .before .args .k ≡ 1 = omega arith in
     rw e (omega arith)
 
--- src/lib.rt:142:15
 wide-requires-2 : tie.Need-wide-requires-2
 wide-requires-2 c κs = search needs
 
--- src/lib.rt:142:10
 add-at : tie.Need-add-at
 add-at c = search needs
 
--- src/lib.rt:144:9
 returns-3 : tie.Need-returns-3
 unfolding offsetIn
 returns-3 c =
     let e : c .before .before .before .before .before .args .k ≡ 2 = omega arith in
     rw e (omega arith)
 
--- src/lib.rt:146:15
 wide-requires-3 : tie.Need-wide-requires-3
 wide-requires-3 c κs = search needs
 
--- src/lib.rt:146:10
 add-at-2 : tie.Need-add-at-2
 add-at-2 c = search needs
 
--- src/lib.rt:148:9
 returns-4 : tie.Need-returns-4
 unfolding offsetIn
 returns-4 c =
     let e : c .before .before .before .before .before .before .before .args .k ≡ 3 = omega arith in
     rw e (omega arith)
 
--- src/lib.rt:150:15
 wide-requires-4 : tie.Need-wide-requires-4
 wide-requires-4 c κs = search needs
 
--- src/lib.rt:150:10
 add-at-3 : tie.Need-add-at-3
 add-at-3 c = search needs
 
--- src/lib.rt:152:9
 returns-5 : tie.Need-returns-5
 unfolding offsetIn
 returns-5 c =
     let e : c .before .before .before .before .before .before .before .before .before .args .k ≡ 4 = omega arith in
     rw e (omega arith)
 
--- src/lib.rt:154:15
 wide-requires-5 : tie.Need-wide-requires-5
 wide-requires-5 c κs = search needs
 
--- src/lib.rt:154:10
 add-at-4 : tie.Need-add-at-4
 add-at-4 c = search needs
 
--- src/lib.rt:156:9
 returns-6 : tie.Need-returns-6
 unfolding offsetIn
 returns-6 c =
     let e : c .before .before .before .before .before .before .before .before .before .before .before .args .k ≡ 5 = omega arith in
     rw e (omega arith)
 
--- src/lib.rt:158:15
 wide-requires-6 : tie.Need-wide-requires-6
 wide-requires-6 c κs = search needs
 
--- src/lib.rt:158:10
 add-at-5 : tie.Need-add-at-5
 add-at-5 c = search needs
 
--- src/lib.rt:160:9
 returns-7 : tie.Need-returns-7
 unfolding offsetIn
 returns-7 c =
     let e : c .before .before .before .before .before .before .before .before .before .before .before .before .before .args .k ≡ 6 = omega arith in
     rw e (omega arith)
 
--- src/lib.rt:162:10
 wide-requires-7 : tie.Need-wide-requires-7
 wide-requires-7 c κs = search needs
 
--- src/lib.rt:162:5
 add-result : tie.Need-add-result
 add-result c = search needs
 
--- src/lib.rt:131:1
 returns-8 : tie.Need-returns-8
 unfolding offsetIn
 returns-8 c = omega (arith, offset-past (lengthsOf (c .before .before .before .before .before .before .before .before .before .before .before .before .before .before .args .s)) (c .before .before .before .before .before .before .before .before .before .before .before .before .before .before .args .k) (omega arith))

@@ -1,14 +1,8 @@
-use borrow.Author.Needs.{needs}
-use native.Mathlib.Omega.{arith}
-use borrow.Author.Tests.{lt-ltb, le-ltb, le-leb, lt-leb, eq-eqb, ne-eqb}
-use mathlib.Core.Path.{refl, sym, _∙_}
+use mathlib.Core.Path.{refl}
 use Rattle.device.specs.Parts.{unknownPart}
 use Rattle.device.proofs.unknown_part.Statement.{statement}
 use Rattle.device.proofs.unknown_part.Tie as tie
-use Rattle.device.proofs.unknown_part.Reads as reads
-use Rattle.device.proofs.unknown_part.Lts as lts
 
--- src/lib.rt:245:1
 returns : tie.Need-returns
 unfolding unknownPart
 returns c = refl

@@ -4,34 +4,25 @@ use Rattle.cells.specs.Pick.{pick-false}
 use Rattle.loadfile.specs.File.{limit, readerOf}
 use Rattle.load.proofs.Filling.{sound-none, unsound-number}
 use borrow.Author.Needs.{needs}
-use native.Mathlib.Omega.{arith}
-use borrow.Author.Tests.{lt-ltb, le-ltb, le-leb, lt-leb, eq-eqb, ne-eqb}
-use mathlib.Core.Path.{refl, sym, _∙_}
+use borrow.Author.Tests.{lt-ltb, le-ltb}
+use mathlib.Core.Path.{sym, _∙_}
 use Rattle.load.specs.Loads.{fileNumber, numberIn}
 use Rattle.load.proofs.file_number.Statement.{statement}
 use Rattle.load.proofs.file_number.Tie as tie
-use Rattle.load.proofs.file_number.Reads as reads
-use Rattle.load.proofs.file_number.Lts as lts
-use Rattle.loadfile.proofs.judge.Reads as judge-reads
 
--- src/lib.rt:16:9
 returns : tie.Need-returns
 unfolding fileNumber
 returns c = simp (lt-ltb _ _ (c .if1 .taken))
 
--- src/lib.rt:18:9
 judge-requires : tie.Need-judge-requires
 judge-requires c κs = search needs
 
--- src/lib.rt:20:29
 enum-told : tie.Need-enum-told
 enum-told c = search needs
 
--- src/lib.rt:21:25
 enum-known-judged : tie.Need-enum-known-judged
 enum-known-judged c = search needs
 
--- src/lib.rt:12:1
 returns-2 : tie.Need-returns-2
 unfolding fileNumber
 returns-2 c =
@@ -39,7 +30,6 @@ returns-2 c =
     let o = readerOf limit (a .file .now) (a .asked) in
     sym (pick-false (ltb (a .n) (length (a .file .now))) 30 (numberIn o) (le-ltb (a .n) (length (a .file .now)) (c .before .before .before .if1 .left)) ∙ sound-none o _ (sym (c .before .before .judge .ensures) ∙ c .enum-told .given .1))
 
--- src/lib.rt:12:1
 returns-3 : tie.Need-returns-3
 unfolding fileNumber
 returns-3 c =

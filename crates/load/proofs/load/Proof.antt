@@ -7,45 +7,32 @@ use Rattle.cells.specs.Pick.{pick-true, pick-false}
 use Rattle.run.specs.Runs.{ranOf, bytesOf, scratchOf}
 use Rattle.load.proofs.Filling.{short-file}
 use borrow.Author.Needs.{needs}
-use native.Mathlib.Omega.{arith}
-use borrow.Author.Tests.{lt-ltb, le-ltb, le-leb, lt-leb, eq-eqb, ne-eqb}
-use mathlib.Core.Path.{refl, sym, _∙_}
+use borrow.Author.Tests.{eq-eqb, ne-eqb}
+use mathlib.Core.Path.{sym, _∙_}
 use Rattle.load.specs.Loads.{loadNumber, wantedOf, loadedOf, arrayLeft, wantedLeft, scratchLeft}
 use Rattle.load.proofs.load.Statement.{statement}
 use Rattle.load.proofs.load.Tie as tie
-use Rattle.load.proofs.load.Reads as reads
-use Rattle.load.proofs.load.Lts as lts
-use Rattle.load.proofs.fill_wanted.Reads as fill-wanted-reads
-use Rattle.load.proofs.load_number.Reads as load-number-reads
-use Rattle.run.proofs.run.Reads as run-reads
 
--- src/lib.rt:53:9
 load-number-requires : tie.Need-load-number-requires
 load-number-requires c κs = search needs
 
--- src/lib.rt:55:9
 fill-wanted-requires : tie.Need-fill-wanted-requires
 fill-wanted-requires c κs =
     let a = c .before .before .before .before .before .before .before .args in
     short-file (a .d) (a .s) (a .p) (a .block) (length (a .array .now)) (length (a .wanted .now)) (length (a .scratch .now)) (a .file .now) (a .asked) (sym (c .before .before .load-number .ensures) ∙ c .before .if1 .taken)
 
--- src/lib.rt:56:9
 run-requires : tie.Need-run-requires
 run-requires c κs = search needs
 
--- src/lib.rt:56:9
 same-length : tie.Need-same-length
 same-length c = search needs
 
--- src/lib.rt:56:9
 same-length-2 : tie.Need-same-length-2
 same-length-2 c = search needs
 
--- src/lib.rt:56:9
 same-length-3 : tie.Need-same-length-3
 same-length-3 c = search needs
 
--- src/lib.rt:56:9
 returns : tie.Need-returns
 unfolding loadedOf arrayLeft wantedLeft scratchLeft
 returns c =
@@ -64,7 +51,6 @@ returns c =
       ),
     )
 
--- src/lib.rt:47:1
 returns-2 : tie.Need-returns-2
 unfolding loadedOf arrayLeft wantedLeft scratchLeft
 returns-2 c =

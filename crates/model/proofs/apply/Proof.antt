@@ -1,94 +1,70 @@
-use mathlib.Core.Path.{_≡_, refl, sym, ap, _∙_, subst}
-use native.Mathlib.Omega.{arith}
+use mathlib.Core.Path.{subst}
 use lib.ListN.{length}
 use Rattle.chip.specs.declared.Effect.{Effect}
 use Rattle.model.specs.Arrays.{Within}
 use borrow.Author.Needs.{needs}
 use Rattle.model.proofs.apply.Statement.{statement}
 use Rattle.model.proofs.apply.Tie as tie
-use Rattle.model.proofs.apply.Reads as reads
-use Rattle.model.proofs.apply.Lts as lts
-use Rattle.model.proofs.cut_erase.Reads as cut-erase-reads
-use Rattle.model.proofs.cut_program.Reads as cut-program-reads
-use Rattle.model.proofs.erase.Reads as erase-reads
-use Rattle.model.proofs.program.Reads as program-reads
 
 enum-told : tie.Need-enum-told
 enum-told c = search needs
 
--- src/lib.rt:79:25
 enum-known-effect : tie.Need-enum-known-effect
 enum-known-effect c = search needs
 
--- src/lib.rt:79:35
 program-requires : tie.Need-program-requires
 program-requires c κs =
     let a = c .before .before .before .before .before .before .args in
     subst (λ (e : Effect). Within e (a .part) (length (a .array .now)) (length (a .residue .now))) (c .before .before .effect .given .1) (c .before .before .before .before .before .before .pre)
 
--- src/lib.rt:80:23
 enum-known-effect-2 : tie.Need-enum-known-effect-2
 enum-known-effect-2 c = search needs
 
--- src/lib.rt:80:29
 erase-requires : tie.Need-erase-requires
 erase-requires c κs =
     let a = c .before .before .before .before .before .before .args in
     subst (λ (e : Effect). Within e (a .part) (length (a .array .now)) (length (a .residue .now))) (c .before .before .effect2 .given .1) (c .before .before .before .before .before .before .pre)
 
--- src/lib.rt:81:28
 enum-known-effect-3 : tie.Need-enum-known-effect-3
 enum-known-effect-3 c = search needs
 
--- src/lib.rt:81:38
 cut-program-requires : tie.Need-cut-program-requires
 cut-program-requires c κs =
     let a = c .before .before .before .before .before .before .args in
     subst (λ (e : Effect). Within e (a .part) (length (a .array .now)) (length (a .residue .now))) (c .before .before .effect3 .given .1) (c .before .before .before .before .before .before .pre)
 
--- src/lib.rt:82:26
 enum-known-effect-4 : tie.Need-enum-known-effect-4
 enum-known-effect-4 c = search needs
 
--- src/lib.rt:82:32
 cut-erase-requires : tie.Need-cut-erase-requires
 cut-erase-requires c κs =
     let a = c .before .before .before .before .before .before .args in
     subst (λ (e : Effect). Within e (a .part) (length (a .array .now)) (length (a .residue .now))) (c .before .before .effect4 .given .1) (c .before .before .before .before .before .before .pre)
 
--- src/lib.rt:73:1
 returns : tie.Need-returns
 returns c = search needs
 
--- src/lib.rt:73:1
 same-length : tie.Need-same-length
 same-length c = search needs
 
--- src/lib.rt:73:1
 returns-2 : tie.Need-returns-2
 returns-2 c = simp (c .before .before .program .ensures, c .before .before .before .before .before .effect .given .1)
 
--- src/lib.rt:73:1
 same-length-2 : tie.Need-same-length-2
 same-length-2 c = search needs
 
--- src/lib.rt:73:1
 returns-3 : tie.Need-returns-3
 returns-3 c = simp (c .before .before .erase .ensures, c .before .before .before .before .before .effect2 .given .1)
 
--- src/lib.rt:73:1
 same-length-3 : tie.Need-same-length-3
 same-length-3 c = search needs
 
--- src/lib.rt:73:1
 returns-4 : tie.Need-returns-4
 returns-4 c = simp (c .before .before .cut-program .ensures, c .before .before .before .before .before .effect3 .given .1)
 
--- src/lib.rt:73:1
 same-length-4 : tie.Need-same-length-4
 same-length-4 c = search needs
 
--- src/lib.rt:73:1
 returns-5 : tie.Need-returns-5
 returns-5 c = simp (c .before .before .cut-erase .ensures, c .before .before .before .before .before .effect4 .given .1)
 

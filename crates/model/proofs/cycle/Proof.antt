@@ -1,4 +1,4 @@
-use mathlib.Core.Path.{_≡_, refl, sym, ap, _∙_, subst}
+use mathlib.Core.Path.{_≡_, sym, ap, _∙_, subst}
 use Prim.Native.Nat.{ℕ}
 use mathlib.Core.List.{List}
 use lib.ListN.{length}
@@ -9,24 +9,16 @@ use Rattle.model.proofs.Reach.{within, shown}
 use borrow.Author.Needs.{needs}
 use Rattle.model.proofs.cycle.Statement.{statement}
 use Rattle.model.proofs.cycle.Tie as tie
-use Rattle.model.proofs.cycle.Reads as reads
-use Rattle.model.proofs.cycle.Lts as lts
-use Rattle.bus.proofs.decide.Reads as decide-reads
-use Rattle.model.proofs.apply.Reads as apply-reads
-use Rattle.model.proofs.see.Reads as see-reads
 
--- src/lib.rt:122:9
 decide-requires : tie.Need-decide-requires
 decide-requires c κs = search needs
 
--- src/lib.rt:126:5
 apply-requires : tie.Need-apply-requires
 apply-requires c κs =
     let a = c .before .before .before .before .before .before .args in
     subst (λ (x : Decision). Within (x .effect) (a .d .part) (length (a .array .now)) (length (a .residue .now))) (sym (c .before .before .decide .ensures))
     (within (a .d) (a .s) (a .c) (length (a .array .now)) (length (a .residue .now)))
 
--- src/lib.rt:127:9
 see-requires : tie.Need-see-requires
 see-requires c κs =
     let a = c .before .before .before .before .before .before .before .before .before .before .args in
@@ -35,11 +27,9 @@ see-requires c κs =
     (subst (λ (x : Decision). Shown (x .reply) (length (a .array .now))) (sym (c .before .before .before .before .before .before .decide .ensures))
     (shown (a .d) (a .s) (a .c) (length (a .array .now)) (length (a .residue .now))))
 
--- src/lib.rt:117:1
 same-length : tie.Need-same-length
 same-length c = search needs
 
--- src/lib.rt:117:1
 returns : tie.Need-returns
 unfolding arrayAfter answerOf
 returns c =

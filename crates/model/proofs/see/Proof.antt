@@ -1,4 +1,4 @@
-use mathlib.Core.Path.{_≡_, refl, sym, ap, _∙_, subst}
+use mathlib.Core.Path.{subst}
 use native.Mathlib.Omega.{arith}
 use lib.ListN.{length}
 use Rattle.chip.specs.declared.Reply.{Reply}
@@ -6,50 +6,37 @@ use Rattle.model.specs.Arrays.{Shown}
 use borrow.Author.Needs.{needs}
 use Rattle.model.proofs.see.Statement.{statement}
 use Rattle.model.proofs.see.Tie as tie
-use Rattle.model.proofs.see.Reads as reads
-use Rattle.model.proofs.see.Lts as lts
-use Rattle.model.proofs.index.Reads as index-reads
 
--- src/lib.rt:92:25
 enum-told : tie.Need-enum-told
 enum-told c = search needs
 
--- src/lib.rt:93:22
 enum-known-reply : tie.Need-enum-known-reply
 enum-known-reply c = search needs
 
--- src/lib.rt:94:27
 enum-known-reply-2 : tie.Need-enum-known-reply-2
 enum-known-reply-2 c = search needs
 
--- src/lib.rt:95:17
 index-requires : tie.Need-index-requires
 index-requires c κs = search needs
 
--- src/lib.rt:96:24
 shared-slice-read-t9 : tie.Need-shared-slice-read-t9
 shared-slice-read-t9 c =
     let n = length (c .before .before .before .before .before .before .args .array .now) in
     let h = subst (λ (r : Reply). Shown r n) (c .before .before .before .reply2 .given .1) (c .before .before .before .before .before .before .pre) in
     omega (arith, h, c .before .index .ensures)
 
--- src/lib.rt:98:24
 enum-known-reply-3 : tie.Need-enum-known-reply-3
 enum-known-reply-3 c = search needs
 
--- src/lib.rt:87:1
 returns : tie.Need-returns
 returns c = search needs
 
--- src/lib.rt:87:1
 returns-2 : tie.Need-returns-2
 returns-2 c = simp (c .before .reply .given .1)
 
--- src/lib.rt:87:1
 returns-3 : tie.Need-returns-3
 returns-3 c = simp (c .before .index .ensures, c .before .before .before .reply2 .given .1)
 
--- src/lib.rt:87:1
 returns-4 : tie.Need-returns-4
 returns-4 c = simp (c .before .reply3 .given .1)
 

@@ -6,50 +6,34 @@ use Rattle.model.specs.declared.Answer.{Answer}
 use Rattle.model.specs.Arrays.{answerOf, arrayAfter}
 use Rattle.run.specs.Turns.{loaderBy, scratchBy, answerTo, arrayTo}
 use borrow.Author.Needs.{needs}
-use native.Mathlib.Omega.{arith}
-use borrow.Author.Tests.{lt-ltb, le-ltb, le-leb, lt-leb, eq-eqb, ne-eqb}
-use mathlib.Core.Path.{refl, sym, _∙_}
+use mathlib.Core.Path.{_∙_}
 use Rattle.run.proofs.both.Statement.{statement}
 use Rattle.run.proofs.both.Tie as tie
-use Rattle.run.proofs.both.Reads as reads
-use Rattle.run.proofs.both.Lts as lts
-use Rattle.stepper.proofs.outs.out.Reads as out-reads
-use Rattle.model.proofs.cycle.Reads as cycle-reads
-use Rattle.run.proofs.taken.Reads as taken-reads
 
--- src/lib.rt:54:9
 out-requires : tie.Need-out-requires
 out-requires c κs = search needs
 
--- src/lib.rt:55:42
 sub-cycle : tie.Need-sub-cycle
 sub-cycle c = search needs
 
--- src/lib.rt:55:42
 part-cycle-start : tie.Need-part-cycle-start
 part-cycle-start c = search needs
 
--- src/lib.rt:55:42
 part-cycle-end : tie.Need-part-cycle-end
 part-cycle-end c = search needs
 
--- src/lib.rt:55:9
 cycle-requires : tie.Need-cycle-requires
 cycle-requires c κs = search needs
 
--- src/lib.rt:59:17
 taken-requires : tie.Need-taken-requires
 taken-requires c κs = search needs
 
--- src/lib.rt:44:1
 same-length : tie.Need-same-length
 same-length c = search needs
 
--- src/lib.rt:44:1
 same-length-2 : tie.Need-same-length-2
 same-length-2 c = search needs
 
--- src/lib.rt:44:1
 returns : tie.Need-returns
 unfolding answerTo arrayTo
 returns c =

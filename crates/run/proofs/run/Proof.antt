@@ -1,4 +1,4 @@
-use mathlib.Core.Path.{_≡_, refl, sym, ap, _∙_}
+use mathlib.Core.Path.{_≡_, sym, ap, _∙_}
 use borrow.Author.Tests.{eq-eqb, ne-eqb}
 use lib.ListN.{length}
 use lib.Dec.{eqb}
@@ -12,35 +12,24 @@ use Rattle.run.proofs.Good.{short}
 use borrow.Author.Needs.{needs}
 use Rattle.run.proofs.run.Statement.{statement}
 use Rattle.run.proofs.run.Tie as tie
-use Rattle.run.proofs.run.Reads as reads
-use Rattle.run.proofs.run.Lts as lts
-use Rattle.stepper.proofs.front.record_at.Reads as record-at-reads
-use Rattle.run.proofs.drive.Reads as drive-reads
-use Rattle.run.proofs.run_number.Reads as run-number-reads
 
--- src/lib.rt:199:9
 run-number-requires : tie.Need-run-number-requires
 run-number-requires c κs = search needs
 
--- src/lib.rt:202:13
 record-at-requires : tie.Need-record-at-requires
 record-at-requires c κs = search needs
 
--- src/lib.rt:203:9
 drive-requires : tie.Need-drive-requires
 drive-requires c κs =
     let a = c .before .before .before .before .before .before .before .before .before .args in
     short (a .d) (a .s) (a .p) (a .block) (length (a .array .now)) (length (a .wanted .now)) (length (a .scratch .now)) (sym (c .before .before .before .before .before .run-number .ensures) ∙ c .before .before .before .before .if1 .taken)
 
--- src/lib.rt:203:9
 same-length : tie.Need-same-length
 same-length c = search needs
 
--- src/lib.rt:203:9
 same-length-2 : tie.Need-same-length-2
 same-length-2 c = search needs
 
--- src/lib.rt:203:9
 returns : tie.Need-returns
 unfolding ranOf bytesOf scratchOf leftBy
 returns c =
@@ -59,7 +48,6 @@ returns c =
       ),
     )
 
--- src/lib.rt:194:1
 returns-2 : tie.Need-returns-2
 unfolding ranOf bytesOf scratchOf
 returns-2 c =

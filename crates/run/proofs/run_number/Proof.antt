@@ -1,84 +1,58 @@
 use borrow.Author.Needs.{needs}
-use native.Mathlib.Omega.{arith}
-use borrow.Author.Tests.{lt-ltb, le-ltb, le-leb, lt-leb, eq-eqb, ne-eqb}
-use mathlib.Core.Path.{refl, sym, _∙_}
+use mathlib.Core.Path.{sym, _∙_}
 use Rattle.run.specs.Runs.{runNumber}
 use Rattle.run.proofs.run_number.Statement.{statement}
 use Rattle.run.proofs.run_number.Tie as tie
-use Rattle.run.proofs.run_number.Reads as reads
-use Rattle.run.proofs.run_number.Lts as lts
-use Rattle.chip.proofs.states.improper.Reads as improper-reads
-use Rattle.device.proofs.unknown_device.Reads as unknown-device-reads
-use Rattle.stepper.proofs.front.barred_pins.Reads as barred-pins-reads
-use Rattle.stepper.proofs.front.no_block.Reads as no-block-reads
-use Rattle.stepper.proofs.front.wrong_lengths.Reads as wrong-lengths-reads
-use Rattle.run.proofs.under_way.Reads as under-way-reads
-use Rattle.run.proofs.wrong_array.Reads as wrong-array-reads
 
--- src/lib.rt:169:8
 unknown-device-requires : tie.Need-unknown-device-requires
 unknown-device-requires c κs = search needs
 
--- src/lib.rt:170:9
 returns : tie.Need-returns
 unfolding runNumber
 returns c = simp (sym (c .before .unknown-device .ensures) ∙ c .if1 .taken)
 
--- src/lib.rt:172:8
 wrong-array-requires : tie.Need-wrong-array-requires
 wrong-array-requires c κs = search needs
 
--- src/lib.rt:173:9
 returns-2 : tie.Need-returns-2
 unfolding runNumber
 returns-2 c = simp (sym (c .before .wrong-array .ensures) ∙ c .if2 .taken, sym (c .before .before .before .unknown-device .ensures) ∙ c .before .before .if1 .left)
 
--- src/lib.rt:175:8
 improper-requires : tie.Need-improper-requires
 improper-requires c κs = search needs
 
--- src/lib.rt:176:9
 returns-3 : tie.Need-returns-3
 unfolding runNumber
 returns-3 c = simp (sym (c .before .improper .ensures) ∙ c .if3 .taken, sym (c .before .before .before .wrong-array .ensures) ∙ c .before .before .if2 .left, sym (c .before .before .before .before .before .unknown-device .ensures) ∙ c .before .before .before .before .if1 .left)
 
--- src/lib.rt:178:8
 barred-pins-requires : tie.Need-barred-pins-requires
 barred-pins-requires c κs = search needs
 
--- src/lib.rt:179:9
 returns-4 : tie.Need-returns-4
 unfolding runNumber
 returns-4 c = simp (sym (c .before .barred-pins .ensures) ∙ c .if4 .taken, sym (c .before .before .before .improper .ensures) ∙ c .before .before .if3 .left, sym (c .before .before .before .before .before .wrong-array .ensures) ∙ c .before .before .before .before .if2 .left, sym (c .before .before .before .before .before .before .before .unknown-device .ensures) ∙ c .before .before .before .before .before .before .if1 .left)
 
--- src/lib.rt:181:8
 no-block-requires : tie.Need-no-block-requires
 no-block-requires c κs = search needs
 
--- src/lib.rt:182:9
 returns-5 : tie.Need-returns-5
 unfolding runNumber
 returns-5 c = simp (sym (c .before .no-block .ensures) ∙ c .if5 .taken, sym (c .before .before .before .barred-pins .ensures) ∙ c .before .before .if4 .left, sym (c .before .before .before .before .before .improper .ensures) ∙ c .before .before .before .before .if3 .left, sym (c .before .before .before .before .before .before .before .wrong-array .ensures) ∙ c .before .before .before .before .before .before .if2 .left, sym (c .before .before .before .before .before .before .before .before .before .unknown-device .ensures) ∙ c .before .before .before .before .before .before .before .before .if1 .left)
 
--- src/lib.rt:184:8
 wrong-lengths-requires : tie.Need-wrong-lengths-requires
 wrong-lengths-requires c κs = search needs
 
--- src/lib.rt:185:9
 returns-6 : tie.Need-returns-6
 unfolding runNumber
 returns-6 c = simp (sym (c .before .wrong-lengths .ensures) ∙ c .if6 .taken, sym (c .before .before .before .no-block .ensures) ∙ c .before .before .if5 .left, sym (c .before .before .before .before .before .barred-pins .ensures) ∙ c .before .before .before .before .if4 .left, sym (c .before .before .before .before .before .before .before .improper .ensures) ∙ c .before .before .before .before .before .before .if3 .left, sym (c .before .before .before .before .before .before .before .before .before .wrong-array .ensures) ∙ c .before .before .before .before .before .before .before .before .if2 .left, sym (c .before .before .before .before .before .before .before .before .before .before .before .unknown-device .ensures) ∙ c .before .before .before .before .before .before .before .before .before .before .if1 .left)
 
--- src/lib.rt:187:8
 under-way-requires : tie.Need-under-way-requires
 under-way-requires c κs = search needs
 
--- src/lib.rt:188:9
 returns-7 : tie.Need-returns-7
 unfolding runNumber
 returns-7 c = simp (sym (c .before .under-way .ensures) ∙ c .if7 .taken, sym (c .before .before .before .wrong-lengths .ensures) ∙ c .before .before .if6 .left, sym (c .before .before .before .before .before .no-block .ensures) ∙ c .before .before .before .before .if5 .left, sym (c .before .before .before .before .before .before .before .barred-pins .ensures) ∙ c .before .before .before .before .before .before .if4 .left, sym (c .before .before .before .before .before .before .before .before .before .improper .ensures) ∙ c .before .before .before .before .before .before .before .before .if3 .left, sym (c .before .before .before .before .before .before .before .before .before .before .before .wrong-array .ensures) ∙ c .before .before .before .before .before .before .before .before .before .before .if2 .left, sym (c .before .before .before .before .before .before .before .before .before .before .before .before .before .unknown-device .ensures) ∙ c .before .before .before .before .before .before .before .before .before .before .before .before .if1 .left)
 
--- src/lib.rt:164:1
 returns-8 : tie.Need-returns-8
 unfolding runNumber
 returns-8 c = simp (sym (c .before .under-way .ensures) ∙ c .if7 .left, sym (c .before .before .before .wrong-lengths .ensures) ∙ c .before .before .if6 .left, sym (c .before .before .before .before .before .no-block .ensures) ∙ c .before .before .before .before .if5 .left, sym (c .before .before .before .before .before .before .before .barred-pins .ensures) ∙ c .before .before .before .before .before .before .if4 .left, sym (c .before .before .before .before .before .before .before .before .before .improper .ensures) ∙ c .before .before .before .before .before .before .before .before .if3 .left, sym (c .before .before .before .before .before .before .before .before .before .before .before .wrong-array .ensures) ∙ c .before .before .before .before .before .before .before .before .before .before .if2 .left, sym (c .before .before .before .before .before .before .before .before .before .before .before .before .before .unknown-device .ensures) ∙ c .before .before .before .before .before .before .before .before .before .before .before .before .if1 .left)

@@ -1,62 +1,43 @@
 use borrow.Author.Needs.{needs}
-use native.Mathlib.Omega.{arith}
-use borrow.Author.Tests.{lt-ltb, le-ltb, le-leb, lt-leb, eq-eqb, ne-eqb}
-use mathlib.Core.Path.{refl, sym, _∙_}
 use Rattle.settling.proofs.end.Statement.{statement}
 use Rattle.settling.proofs.end.Tie as tie
-use Rattle.settling.proofs.end.Reads as reads
-use Rattle.settling.proofs.end.Lts as lts
-use Rattle.device.proofs.block_of.Reads as block-of-reads
 
--- src/lib.rt:29:24
 enum-told : tie.Need-enum-told
 enum-told c = search needs
 
--- src/lib.rt:30:32
 enum-told-2 : tie.Need-enum-told-2
 enum-told-2 c = search needs
 
--- src/lib.rt:31:31
 enum-told-3 : tie.Need-enum-told-3
 enum-told-3 c = search needs
 
--- src/lib.rt:32:28
 enum-known-ph : tie.Need-enum-known-ph
 enum-known-ph c = search needs
 
--- src/lib.rt:33:41
 enum-told-4 : tie.Need-enum-told-4
 enum-told-4 c = search needs
 
--- src/lib.rt:33:41
 block-of-requires : tie.Need-block-of-requires
 block-of-requires c κs = search needs
 
--- src/lib.rt:34:29
 enum-told-5 : tie.Need-enum-told-5
 enum-told-5 c = search needs
 
--- src/lib.rt:25:1
 returns : tie.Need-returns
 returns c = search needs
 
--- src/lib.rt:25:1
 returns-2 : tie.Need-returns-2
 returns-2 c = search needs
 
--- src/lib.rt:25:1
 returns-3 : tie.Need-returns-3
 returns-3 c = search needs
 
--- src/lib.rt:25:1
 returns-4 : tie.Need-returns-4
 returns-4 c = simp (c .before .ph .given .1)
 
--- src/lib.rt:25:1
 returns-5 : tie.Need-returns-5
 returns-5 c = simp (c .block-of .ensures, c .before .enum-told4 .given .1)
 
--- src/lib.rt:25:1
 returns-6 : tie.Need-returns-6
 returns-6 c = search needs
 

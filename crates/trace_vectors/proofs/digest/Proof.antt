@@ -1,6 +1,5 @@
 -- `trace_vectors::digest` is safe and ends: the digest stays below its modulus. Assumes nothing.
 use Prim.Native.Nat.{_≤_, _<_, _-_}
-use mathlib.Core.Path.{_≡_}
 use borrow.Author.Needs.{needs}
 use lib.ListN.{length}
 use Rattle.trace_vectors.proofs.digest.Statement.{statement}

@@ -1,44 +1,30 @@
 use borrow.Author.Needs.{needs}
-use native.Mathlib.Omega.{arith}
-use borrow.Author.Tests.{lt-ltb, le-ltb, le-leb, lt-leb, eq-eqb, ne-eqb}
-use mathlib.Core.Path.{refl, sym, _∙_}
+use mathlib.Core.Path.{sym, _∙_}
 use Rattle.loader.specs.Moves.{eraseFault}
 use Rattle.loader.proofs.moves.erase_fault.Statement.{statement}
 use Rattle.loader.proofs.moves.erase_fault.Tie as tie
-use Rattle.loader.proofs.moves.erase_fault.Reads as reads
-use Rattle.loader.proofs.moves.erase_fault.Lts as lts
-use Rattle.loader.proofs.moves.both_errors.Reads as both-errors-reads
-use Rattle.loader.proofs.moves.erase_error.Reads as erase-error-reads
-use Rattle.loader.proofs.moves.supply_fault.Reads as supply-fault-reads
 
--- src/moves.rt:54:8
 supply-fault-requires : tie.Need-supply-fault-requires
 supply-fault-requires c κs = search needs
 
--- src/moves.rt:55:9
 returns : tie.Need-returns
 unfolding eraseFault
 returns c = simp (sym (c .before .supply-fault .ensures) ∙ c .if1 .taken)
 
--- src/moves.rt:57:8
 both-errors-requires : tie.Need-both-errors-requires
 both-errors-requires c κs = search needs
 
--- src/moves.rt:58:9
 returns-2 : tie.Need-returns-2
 unfolding eraseFault
 returns-2 c = simp (sym (c .before .both-errors .ensures) ∙ c .if2 .taken, sym (c .before .before .before .supply-fault .ensures) ∙ c .before .before .if1 .left)
 
--- src/moves.rt:60:8
 erase-error-requires : tie.Need-erase-error-requires
 erase-error-requires c κs = search needs
 
--- src/moves.rt:61:9
 returns-3 : tie.Need-returns-3
 unfolding eraseFault
 returns-3 c = simp (sym (c .before .erase-error .ensures) ∙ c .if3 .taken, sym (c .before .before .before .both-errors .ensures) ∙ c .before .before .if2 .left, sym (c .before .before .before .before .before .supply-fault .ensures) ∙ c .before .before .before .before .if1 .left)
 
--- src/moves.rt:51:1
 returns-4 : tie.Need-returns-4
 unfolding eraseFault
 returns-4 c = simp (sym (c .before .erase-error .ensures) ∙ c .if3 .left, sym (c .before .before .before .both-errors .ensures) ∙ c .before .before .if2 .left, sym (c .before .before .before .before .before .supply-fault .ensures) ∙ c .before .before .before .before .if1 .left)

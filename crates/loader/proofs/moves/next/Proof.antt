@@ -1,154 +1,109 @@
 use borrow.Author.Needs.{needs}
-use native.Mathlib.Omega.{arith}
-use borrow.Author.Tests.{lt-ltb, le-ltb, le-leb, lt-leb, eq-eqb, ne-eqb}
-use mathlib.Core.Path.{refl, sym, _∙_}
 use Rattle.loader.proofs.moves.next.Statement.{statement}
 use Rattle.loader.proofs.moves.next.Tie as tie
-use Rattle.loader.proofs.moves.next.Reads as reads
-use Rattle.loader.proofs.moves.next.Lts as lts
-use Rattle.loader.proofs.moves.erase_polled.Reads as erase-polled-reads
-use Rattle.loader.proofs.moves.moved.Reads as moved-reads
-use Rattle.loader.proofs.moves.program_polled.Reads as program-polled-reads
-use Rattle.loader.proofs.moves.read_more.Reads as read-more-reads
-use Rattle.loader.proofs.moves.verify_more.Reads as verify-more-reads
 
--- src/moves.rt:184:37
 enum-told : tie.Need-enum-told
 enum-told c = search needs
 
--- src/moves.rt:184:28
 moved-requires : tie.Need-moved-requires
 moved-requires c κs = search needs
 
--- src/moves.rt:185:36
 enum-told-2 : tie.Need-enum-told-2
 enum-told-2 c = search needs
 
--- src/moves.rt:185:27
 moved-requires-2 : tie.Need-moved-requires-2
 moved-requires-2 c κs = search needs
 
--- src/moves.rt:186:27
 enum-told-3 : tie.Need-enum-told-3
 enum-told-3 c = search needs
 
--- src/moves.rt:186:27
 read-more-requires : tie.Need-read-more-requires
 read-more-requires c κs = search needs
 
--- src/moves.rt:187:40
 enum-told-4 : tie.Need-enum-told-4
 enum-told-4 c = search needs
 
--- src/moves.rt:187:31
 moved-requires-3 : tie.Need-moved-requires-3
 moved-requires-3 c κs = search needs
 
--- src/moves.rt:188:44
 enum-told-5 : tie.Need-enum-told-5
 enum-told-5 c = search needs
 
--- src/moves.rt:188:35
 moved-requires-4 : tie.Need-moved-requires-4
 moved-requires-4 c κs = search needs
 
--- src/moves.rt:189:32
 enum-told-6 : tie.Need-enum-told-6
 enum-told-6 c = search needs
 
--- src/moves.rt:189:32
 erase-polled-requires : tie.Need-erase-polled-requires
 erase-polled-requires c κs = search needs
 
--- src/moves.rt:190:42
 enum-told-7 : tie.Need-enum-told-7
 enum-told-7 c = search needs
 
--- src/moves.rt:190:33
 moved-requires-5 : tie.Need-moved-requires-5
 moved-requires-5 c κs = search needs
 
--- src/moves.rt:191:43
 enum-told-8 : tie.Need-enum-told-8
 enum-told-8 c = search needs
 
--- src/moves.rt:191:34
 moved-requires-6 : tie.Need-moved-requires-6
 moved-requires-6 c κs = search needs
 
--- src/moves.rt:192:34
 enum-told-9 : tie.Need-enum-told-9
 enum-told-9 c = search needs
 
--- src/moves.rt:192:34
 program-polled-requires : tie.Need-program-polled-requires
 program-polled-requires c κs = search needs
 
--- src/moves.rt:193:36
 enum-told-10 : tie.Need-enum-told-10
 enum-told-10 c = search needs
 
--- src/moves.rt:193:27
 moved-requires-7 : tie.Need-moved-requires-7
 moved-requires-7 c κs = search needs
 
--- src/moves.rt:194:29
 enum-told-11 : tie.Need-enum-told-11
 enum-told-11 c = search needs
 
--- src/moves.rt:194:29
 verify-more-requires : tie.Need-verify-more-requires
 verify-more-requires c κs = search needs
 
--- src/moves.rt:195:28
 enum-told-12 : tie.Need-enum-told-12
 enum-told-12 c = search needs
 
--- src/moves.rt:180:1
 returns : tie.Need-returns
 returns c = simp (c .moved .ensures, c .before .enum-told .given .1)
 
--- src/moves.rt:180:1
 returns-2 : tie.Need-returns-2
 returns-2 c = simp (c .moved2 .ensures, c .before .enum-told2 .given .1)
 
--- src/moves.rt:180:1
 returns-3 : tie.Need-returns-3
 returns-3 c = simp (c .read-more .ensures, c .before .enum-told3 .given .1)
 
--- src/moves.rt:180:1
 returns-4 : tie.Need-returns-4
 returns-4 c = simp (c .moved3 .ensures, c .before .enum-told4 .given .1)
 
--- src/moves.rt:180:1
 returns-5 : tie.Need-returns-5
 returns-5 c = simp (c .moved4 .ensures, c .before .enum-told5 .given .1)
 
--- src/moves.rt:180:1
 returns-6 : tie.Need-returns-6
 returns-6 c = simp (c .erase-polled .ensures, c .before .enum-told6 .given .1)
 
--- src/moves.rt:180:1
 returns-7 : tie.Need-returns-7
 returns-7 c = simp (c .moved5 .ensures, c .before .enum-told7 .given .1)
 
--- src/moves.rt:180:1
 returns-8 : tie.Need-returns-8
 returns-8 c = simp (c .moved6 .ensures, c .before .enum-told8 .given .1)
 
--- src/moves.rt:180:1
 returns-9 : tie.Need-returns-9
 returns-9 c = simp (c .program-polled .ensures, c .before .enum-told9 .given .1)
 
--- src/moves.rt:180:1
 returns-10 : tie.Need-returns-10
 returns-10 c = simp (c .moved7 .ensures, c .before .enum-told10 .given .1)
 
--- src/moves.rt:180:1
 returns-11 : tie.Need-returns-11
 returns-11 c = simp (c .verify-more .ensures, c .before .enum-told11 .given .1)
 
--- src/moves.rt:180:1
 returns-12 : tie.Need-returns-12
 returns-12 c = simp (c .enum-told12 .given .1)
 

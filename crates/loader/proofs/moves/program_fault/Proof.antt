@@ -1,44 +1,30 @@
 use borrow.Author.Needs.{needs}
-use native.Mathlib.Omega.{arith}
-use borrow.Author.Tests.{lt-ltb, le-ltb, le-leb, lt-leb, eq-eqb, ne-eqb}
-use mathlib.Core.Path.{refl, sym, _∙_}
+use mathlib.Core.Path.{sym, _∙_}
 use Rattle.loader.specs.Moves.{programFault}
 use Rattle.loader.proofs.moves.program_fault.Statement.{statement}
 use Rattle.loader.proofs.moves.program_fault.Tie as tie
-use Rattle.loader.proofs.moves.program_fault.Reads as reads
-use Rattle.loader.proofs.moves.program_fault.Lts as lts
-use Rattle.loader.proofs.moves.both_errors.Reads as both-errors-reads
-use Rattle.loader.proofs.moves.program_error.Reads as program-error-reads
-use Rattle.loader.proofs.moves.supply_fault.Reads as supply-fault-reads
 
--- src/moves.rt:69:8
 supply-fault-requires : tie.Need-supply-fault-requires
 supply-fault-requires c κs = search needs
 
--- src/moves.rt:70:9
 returns : tie.Need-returns
 unfolding programFault
 returns c = simp (sym (c .before .supply-fault .ensures) ∙ c .if1 .taken)
 
--- src/moves.rt:72:8
 both-errors-requires : tie.Need-both-errors-requires
 both-errors-requires c κs = search needs
 
--- src/moves.rt:73:9
 returns-2 : tie.Need-returns-2
 unfolding programFault
 returns-2 c = simp (sym (c .before .both-errors .ensures) ∙ c .if2 .taken, sym (c .before .before .before .supply-fault .ensures) ∙ c .before .before .if1 .left)
 
--- src/moves.rt:75:8
 program-error-requires : tie.Need-program-error-requires
 program-error-requires c κs = search needs
 
--- src/moves.rt:76:9
 returns-3 : tie.Need-returns-3
 unfolding programFault
 returns-3 c = simp (sym (c .before .program-error .ensures) ∙ c .if3 .taken, sym (c .before .before .before .both-errors .ensures) ∙ c .before .before .if2 .left, sym (c .before .before .before .before .before .supply-fault .ensures) ∙ c .before .before .before .before .if1 .left)
 
--- src/moves.rt:66:1
 returns-4 : tie.Need-returns-4
 unfolding programFault
 returns-4 c = simp (sym (c .before .program-error .ensures) ∙ c .if3 .left, sym (c .before .before .before .both-errors .ensures) ∙ c .before .before .if2 .left, sym (c .before .before .before .before .before .supply-fault .ensures) ∙ c .before .before .before .before .if1 .left)

@@ -1,52 +1,35 @@
 use borrow.Author.Needs.{needs}
-use native.Mathlib.Omega.{arith}
-use borrow.Author.Tests.{lt-ltb, le-ltb, le-leb, lt-leb, eq-eqb, ne-eqb}
-use mathlib.Core.Path.{refl, sym, _∙_}
+use borrow.Author.Tests.{lt-ltb, le-ltb, eq-eqb, ne-eqb}
 use Rattle.loader.specs.Moves.{verifyMore}
 use Rattle.loader.proofs.moves.verify_more.Statement.{statement}
 use Rattle.loader.proofs.moves.verify_more.Tie as tie
-use Rattle.loader.proofs.moves.verify_more.Reads as reads
-use Rattle.loader.proofs.moves.verify_more.Lts as lts
-use Rattle.cells.proofs.nth.Reads as nth-reads
-use Rattle.loader.proofs.moves.ended_by.Reads as ended-by-reads
-use Rattle.loader.proofs.moves.last.Reads as last-reads
-use Rattle.loader.proofs.moves.moved.Reads as moved-reads
 
--- src/moves.rt:169:9
 last-requires : tie.Need-last-requires
 last-requires c κs = search needs
 
--- src/moves.rt:170:13
 nth-requires : tie.Need-nth-requires
 nth-requires c κs = search needs
 
--- src/moves.rt:172:47
 add-moved : tie.Need-add-moved
 add-moved c = search needs
 
--- src/moves.rt:172:13
 moved-requires : tie.Need-moved-requires
 moved-requires c κs = search needs
 
--- src/moves.rt:172:13
 returns : tie.Need-returns
 unfolding verifyMore
 returns c = simp (c .moved .ensures, lt-ltb _ _ (c .before .before .if2 .taken), eq-eqb _ _ (c .before .before .before .before .if1 .taken), ← c .before .before .before .before .before .nth .ensures, ← c .before .before .before .before .before .before .last .ensures)
 
--- src/moves.rt:174:9
 ended-by-requires : tie.Need-ended-by-requires
 ended-by-requires c κs = search needs
 
--- src/moves.rt:174:9
 returns-2 : tie.Need-returns-2
 unfolding verifyMore
 returns-2 c = simp (c .ended-by .ensures, le-ltb _ _ (c .before .if2 .left), eq-eqb _ _ (c .before .before .before .if1 .taken), ← c .before .before .before .before .nth .ensures, ← c .before .before .before .before .before .last .ensures)
 
--- src/moves.rt:176:5
 ended-by-requires-2 : tie.Need-ended-by-requires-2
 ended-by-requires-2 c κs = search needs
 
--- src/moves.rt:166:1
 returns-3 : tie.Need-returns-3
 unfolding verifyMore
 returns-3 c = simp (c .ended-by2 .ensures, ne-eqb _ _ (c .before .if1 .left), ← c .before .before .nth .ensures, ← c .before .before .before .last .ensures)

@@ -1,16 +1,15 @@
 -- `loader::walk::diff_from` meets its contract: what is left to look at is what was to look at. Assumes nothing.
-use mathlib.Core.Path.{_≡_, refl, sym, ap, _∙_}
-use mathlib.Core.Bool.{Bool, true, false, _||_}
-use mathlib.Core.List.{List}
-use Prim.Native.Nat.{ℕ, _+_, _-_, _≤_, _<_}
+use mathlib.Core.Path.{_≡_, refl, sym, _∙_}
+use mathlib.Core.Bool.{true, false}
+use Prim.Native.Nat.{_+_, _-_}
 use native.Mathlib.Omega.{arith}
 use borrow.Author.Needs.{needs}
 use borrow.Author.Tests.{eq-eqb, ne-eqb}
 use lib.ListN.{length, getD}
 use lib.Dec.{eqb}
-use Rattle.cells.specs.Pick.{pick, pick-true, pick-false}
-use Rattle.loader.specs.Walks.{mustRise, rises, nextDiff, risesIn, diffFrom}
-use Rattle.loader.proofs.Walking.{rises-turn, rises-over, diff-turn, diff-over}
+use Rattle.cells.specs.Pick.{pick-true, pick-false}
+use Rattle.loader.specs.Walks.{nextDiff, diffFrom}
+use Rattle.loader.proofs.Walking.{diff-turn, diff-over}
 use Rattle.loader.proofs.walk.diff_from.Statement.{statement}
 use Rattle.loader.proofs.walk.diff_from.Tie as tie
 

@@ -6,32 +6,21 @@ use Rattle.cells.specs.Pick.{pick-true, pick-false}
 use Rattle.loader.specs.declared.Loader.{Loader}
 use Rattle.loader.specs.declared.Stage.the-variants.{Ended}
 use borrow.Author.Needs.{needs}
-use native.Mathlib.Omega.{arith}
-use borrow.Author.Tests.{lt-ltb, le-ltb, le-leb, lt-leb, eq-eqb, ne-eqb}
-use mathlib.Core.Path.{refl, sym, _∙_}
+use borrow.Author.Tests.{eq-eqb, ne-eqb}
+use mathlib.Core.Path.{sym, _∙_}
 use Rattle.stepper.specs.Front.{startOf, startNumber, givenBy, barredBy, recordAt}
 use Rattle.stepper.proofs.front.start.Statement.{statement}
 use Rattle.stepper.proofs.front.start.Tie as tie
-use Rattle.stepper.proofs.front.start.Reads as reads
-use Rattle.stepper.proofs.front.start.Lts as lts
-use Rattle.stepper.proofs.front.barred_by.Reads as barred-by-reads
-use Rattle.stepper.proofs.front.given_by.Reads as given-by-reads
-use Rattle.stepper.proofs.front.record_at.Reads as record-at-reads
-use Rattle.stepper.proofs.front.start_number.Reads as start-number-reads
 
--- src/front.rt:149:9
 start-number-requires : tie.Need-start-number-requires
 start-number-requires c κs = search needs
 
--- src/front.rt:151:25
 record-at-requires : tie.Need-record-at-requires
 record-at-requires c κs = search needs
 
--- src/front.rt:151:9
 given-by-requires : tie.Need-given-by-requires
 given-by-requires c κs = search needs
 
--- src/front.rt:151:9
 returns : tie.Need-returns
 unfolding startOf
 returns c =
@@ -41,15 +30,12 @@ returns c =
     c .given-by .ensures ∙ ap (λ (l : Loader). givenBy l w) (c .before .record-at .ensures)
     ∙ sym (pick-true (eqb n 0) _ _ (eq-eqb n 0 (sym (c .before .before .before .start-number .ensures) ∙ c .before .before .if1 .taken)))
 
--- src/front.rt:153:18
 record-at-requires-2 : tie.Need-record-at-requires-2
 record-at-requires-2 c κs = search needs
 
--- src/front.rt:153:5
 barred-by-requires : tie.Need-barred-by-requires
 barred-by-requires c κs = search needs
 
--- src/front.rt:146:1
 returns-2 : tie.Need-returns-2
 unfolding startOf
 returns-2 c =

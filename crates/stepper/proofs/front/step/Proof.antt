@@ -5,36 +5,24 @@ use lib.Dec.{eqb}
 use Rattle.cells.specs.Pick.{pick-true, pick-false}
 use Rattle.loader.specs.declared.Loader.{Loader}
 use borrow.Author.Needs.{needs}
-use native.Mathlib.Omega.{arith}
-use borrow.Author.Tests.{lt-ltb, le-ltb, le-leb, lt-leb, eq-eqb, ne-eqb}
-use mathlib.Core.Path.{refl, sym, _∙_}
+use borrow.Author.Tests.{eq-eqb, ne-eqb}
+use mathlib.Core.Path.{sym, _∙_}
 use Rattle.stepper.specs.Front.{stepOf, scratchAfter, stepNumber, givenBy, barredBy}
 use Rattle.stepper.proofs.front.step.Statement.{statement}
 use Rattle.stepper.proofs.front.step.Tie as tie
-use Rattle.stepper.proofs.front.step.Reads as reads
-use Rattle.stepper.proofs.front.step.Lts as lts
-use Rattle.stepper.proofs.front.barred_by.Reads as barred-by-reads
-use Rattle.stepper.proofs.front.given_by.Reads as given-by-reads
-use Rattle.stepper.proofs.front.step_number.Reads as step-number-reads
-use Rattle.stepper.proofs.stores.advance.Reads as advance-reads
 
--- src/front.rt:161:9
 step-number-requires : tie.Need-step-number-requires
 step-number-requires c κs = search needs
 
--- src/front.rt:163:13
 advance-requires : tie.Need-advance-requires
 advance-requires c κs = search needs
 
--- src/front.rt:164:9
 given-by-requires : tie.Need-given-by-requires
 given-by-requires c κs = search needs
 
--- src/front.rt:164:9
 same-length : tie.Need-same-length
 same-length c = search needs
 
--- src/front.rt:164:9
 returns : tie.Need-returns
 unfolding stepOf scratchAfter
 returns c =
@@ -46,11 +34,9 @@ returns c =
       c .before .before .before .advance .ensures .1 ∙ sym (pick-true (eqb n 0) _ _ z),
     )
 
--- src/front.rt:166:5
 barred-by-requires : tie.Need-barred-by-requires
 barred-by-requires c κs = search needs
 
--- src/front.rt:157:1
 returns-2 : tie.Need-returns-2
 unfolding stepOf scratchAfter
 returns-2 c =

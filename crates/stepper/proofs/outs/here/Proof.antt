@@ -1,14 +1,10 @@
 use Rattle.stepper.proofs.Small.{start-small}
 use borrow.Author.Needs.{needs}
 use native.Mathlib.Omega.{arith}
-use borrow.Author.Tests.{lt-ltb, le-ltb, le-leb, lt-leb, eq-eqb, ne-eqb}
-use mathlib.Core.Path.{refl, sym, _∙_}
+use borrow.Author.Tests.{lt-ltb, le-ltb}
 use Rattle.stepper.specs.Outs.{hereOf, firstOf}
 use Rattle.stepper.proofs.outs.here.Statement.{statement}
 use Rattle.stepper.proofs.outs.here.Tie as tie
-use Rattle.stepper.proofs.outs.here.Reads as reads
-use Rattle.stepper.proofs.outs.here.Lts as lts
-use Rattle.stepper.proofs.outs.first.Reads as first-reads
 
 -- src/outs.rt:-8:9
 first-requires : tie.Need-first-requires

@@ -3,29 +3,19 @@ use mathlib.Core.Path.{ap}
 use mathlib.Core.List.{List}
 use Prim.Native.Nat.{ℕ}
 use borrow.Author.Needs.{needs}
-use native.Mathlib.Omega.{arith}
-use borrow.Author.Tests.{lt-ltb, le-ltb, le-leb, lt-leb, eq-eqb, ne-eqb}
-use mathlib.Core.Path.{refl, sym, _∙_}
+use mathlib.Core.Path.{_∙_}
 use Rattle.stepper.proofs.stores.advance.Statement.{statement}
 use Rattle.stepper.proofs.stores.advance.Tie as tie
-use Rattle.stepper.proofs.stores.advance.Reads as reads
-use Rattle.stepper.proofs.stores.advance.Lts as lts
-use Rattle.loader.proofs.moves.next.Reads as next-reads
-use Rattle.stepper.proofs.stores.store.Reads as store-reads
 
--- src/stores.rt:35:5
 store-requires : tie.Need-store-requires
 store-requires c κs = search needs
 
--- src/stores.rt:36:5
 next-requires : tie.Need-next-requires
 next-requires c κs = search needs
 
--- src/stores.rt:30:1
 same-length : tie.Need-same-length
 same-length c = search needs
 
--- src/stores.rt:30:1
 returns : tie.Need-returns
 returns c =
     let a = c .before .before .before .before .before .before .before .before .args in

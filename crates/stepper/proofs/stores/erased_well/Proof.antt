@@ -1,14 +1,7 @@
 use borrow.Author.Needs.{needs}
-use native.Mathlib.Omega.{arith}
-use borrow.Author.Tests.{lt-ltb, le-ltb, le-leb, lt-leb, eq-eqb, ne-eqb}
-use mathlib.Core.Path.{refl, sym, _∙_}
 use Rattle.stepper.specs.Stores.{erasedWell}
 use Rattle.stepper.proofs.stores.erased_well.Statement.{statement}
 use Rattle.stepper.proofs.stores.erased_well.Tie as tie
-use Rattle.stepper.proofs.stores.erased_well.Reads as reads
-use Rattle.stepper.proofs.stores.erased_well.Lts as lts
-use Rattle.loader.proofs.moves.erase_fault.Reads as erase-fault-reads
-use Rattle.loader.proofs.moves.is_ready.Reads as is-ready-reads
 
 -- src/stores.rt:-3:5
 is-ready-requires : tie.Need-is-ready-requires

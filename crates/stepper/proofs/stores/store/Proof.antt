@@ -1,13 +1,6 @@
 use borrow.Author.Needs.{needs}
-use native.Mathlib.Omega.{arith}
-use borrow.Author.Tests.{lt-ltb, le-ltb, le-leb, lt-leb, eq-eqb, ne-eqb}
-use mathlib.Core.Path.{refl, sym, _∙_}
 use Rattle.stepper.proofs.stores.store.Statement.{statement}
 use Rattle.stepper.proofs.stores.store.Tie as tie
-use Rattle.stepper.proofs.stores.store.Reads as reads
-use Rattle.stepper.proofs.stores.store.Lts as lts
-use Rattle.stepper.proofs.stores.store_erase.Reads as store-erase-reads
-use Rattle.stepper.proofs.stores.put.Reads as put-reads
 
 enum-told : tie.Need-enum-told
 enum-told c = search needs
@@ -15,11 +8,9 @@ enum-told c = search needs
 enum-told-2 : tie.Need-enum-told-2
 enum-told-2 c = search needs
 
--- src/stores.rt:16:31
 enum-told-3 : tie.Need-enum-told-3
 enum-told-3 c = search needs
 
--- src/stores.rt:16:27
 put-requires : tie.Need-put-requires
 put-requires c κs = search needs
 
@@ -29,11 +20,9 @@ enum-told-4 c = search needs
 enum-told-5 : tie.Need-enum-told-5
 enum-told-5 c = search needs
 
--- src/stores.rt:19:47
 enum-told-6 : tie.Need-enum-told-6
 enum-told-6 c = search needs
 
--- src/stores.rt:19:32
 store-erase-requires : tie.Need-store-erase-requires
 store-erase-requires c κs = search needs
 
@@ -49,74 +38,57 @@ enum-told-9 c = search needs
 enum-told-10 : tie.Need-enum-told-10
 enum-told-10 c = search needs
 
--- src/stores.rt:24:33
 enum-told-11 : tie.Need-enum-told-11
 enum-told-11 c = search needs
 
--- src/stores.rt:24:29
 put-requires-2 : tie.Need-put-requires-2
 put-requires-2 c κs = search needs
 
 enum-told-12 : tie.Need-enum-told-12
 enum-told-12 c = search needs
 
--- src/stores.rt:10:1
 returns : tie.Need-returns
 returns c = search needs
 
--- src/stores.rt:10:1
 returns-2 : tie.Need-returns-2
 returns-2 c = search needs
 
--- src/stores.rt:10:1
 same-length : tie.Need-same-length
 same-length c = search needs
 
--- src/stores.rt:10:1
 returns-3 : tie.Need-returns-3
 returns-3 c = simp (c .before .before .put .ensures, c .before .before .before .before .enum-told3 .given .1)
 
--- src/stores.rt:10:1
 returns-4 : tie.Need-returns-4
 returns-4 c = search needs
 
--- src/stores.rt:10:1
 returns-5 : tie.Need-returns-5
 returns-5 c = search needs
 
--- src/stores.rt:10:1
 same-length-2 : tie.Need-same-length-2
 same-length-2 c = search needs
 
--- src/stores.rt:10:1
 returns-6 : tie.Need-returns-6
 returns-6 c = simp (c .before .before .store-erase .ensures, c .before .before .before .before .enum-told6 .given .1)
 
--- src/stores.rt:10:1
 returns-7 : tie.Need-returns-7
 returns-7 c = search needs
 
--- src/stores.rt:10:1
 returns-8 : tie.Need-returns-8
 returns-8 c = search needs
 
--- src/stores.rt:10:1
 returns-9 : tie.Need-returns-9
 returns-9 c = search needs
 
--- src/stores.rt:10:1
 returns-10 : tie.Need-returns-10
 returns-10 c = search needs
 
--- src/stores.rt:10:1
 same-length-3 : tie.Need-same-length-3
 same-length-3 c = search needs
 
--- src/stores.rt:10:1
 returns-11 : tie.Need-returns-11
 returns-11 c = simp (c .before .before .put2 .ensures, c .before .before .before .before .enum-told11 .given .1)
 
--- src/stores.rt:10:1
 returns-12 : tie.Need-returns-12
 returns-12 c = search needs
 
