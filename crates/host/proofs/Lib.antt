@@ -1,0 +1,3 @@
+pub mod Border
+pub mod Returned
+pub mod Claims
