@@ -1,77 +1,40 @@
 -- What is claimed of the C functions, in one place. Assumes nothing.
-use mathlib.Core.Path.{_≡_, refl}
-use mathlib.Core.Bool.{Bool, true, false}
+use mathlib.Core.Path.{_≡_}
+use mathlib.Core.Bool.{true, false}
 use mathlib.Core.List.{List}
 use Prim.Native.Nat.{ℕ}
 use lib.ListN.{length, take}
 use lib.Dec.{ltb}
 use Rattle.cells.specs.Pick.{Unique, only}
-use Rattle.device.specs.declared.Part.{Part}
 use Rattle.device.specs.declared.Device.{Device}
 use Rattle.device.specs.Parts.{unknownPart, unknownDevice, sizeOf}
 use Rattle.chip.specs.declared.Pins.{Pins}
 use Rattle.chip.specs.declared.Cycle.{Cycle}
 use Rattle.chip.specs.declared.State.{State}
 use Rattle.chip.specs.States.{freshState, improper}
-use Rattle.chip.specs.Levels.{badLevels}
 use Rattle.model.specs.Arrays.{answerOf, arrayAfter}
 use Rattle.loader.specs.declared.Loader.{Loader}
 use Rattle.loader.specs.declared.Turn.the-variants.{Barred}
-use Rattle.loader.specs.Front.{badRecord, stepOf, scratchAfter}
+use Rattle.loader.specs.Front.{stepOf, scratchAfter}
 use Rattle.run.specs.Runs.{runNumber, ranOf, bytesOf, scratchOf}
 use Rattle.load.specs.Loads.{loadNumber, loadedOf, arrayLeft, wantedLeft, scratchLeft}
 use Rattle.loadfile.specs.Check.{checkOf}
-use Rattle.host.specs.Twins.{deviceIn, pinsIn, noState, stateIn, stateOut, cycleIn, cycleOut, noRecord, loaderIn, loaderOut}
-use Rattle.host.specs.Calls.{seenOut, valueOut, turnOut, cycled, arrayCycled, started, steppedOf, scratchStepped, runOf, arrayRun, scratchRun, loadOf, arrayLoad, wantedLoad, scratchLoad, writtenOf, fileLeft, readOf, payloadLeft}
-use Rattle.host.specs.declared.DeviceNumbers.{DeviceNumbers}
-use Rattle.host.specs.declared.StateNumbers.{StateNumbers}
-use Rattle.host.specs.declared.BusNumbers.{BusNumbers}
-use Rattle.host.specs.declared.AnswerNumbers.{AnswerNumbers}
-use Rattle.host.specs.declared.LoaderNumbers.{LoaderNumbers}
-use Rattle.host.specs.declared.TurnNumbers.{TurnNumbers}
-use Rattle.host.specs.declared.GivenNumbers.{GivenNumbers}
-use Rattle.host.specs.declared.RanNumbers.{RanNumbers}
-use Rattle.host.specs.declared.SizedNumbers.{SizedNumbers}
-use Rattle.host.proofs.Border as border
+use Rattle.twin.specs.Twins.{deviceIn, pinsIn, noState, stateIn, stateOut, cycleOut, noRecord, loaderIn, loaderOut}
+use Rattle.twin.specs.Answers.{seenOut, valueOut, turnOut}
+use Rattle.host.specs.Calls.{cycled, arrayCycled, started, steppedOf, scratchStepped, runOf, arrayRun, scratchRun, loadOf, arrayLoad, wantedLoad, scratchLoad, writtenOf, fileLeft, readOf, payloadLeft}
+use Rattle.twin.specs.declared.DeviceNumbers.{DeviceNumbers}
+use Rattle.twin.specs.declared.StateNumbers.{StateNumbers}
+use Rattle.twin.specs.declared.BusNumbers.{BusNumbers}
+use Rattle.twin.specs.declared.AnswerNumbers.{AnswerNumbers}
+use Rattle.twin.specs.declared.LoaderNumbers.{LoaderNumbers}
+use Rattle.twin.specs.declared.TurnNumbers.{TurnNumbers}
+use Rattle.twin.specs.declared.GivenNumbers.{GivenNumbers}
+use Rattle.twin.specs.declared.RanNumbers.{RanNumbers}
+use Rattle.twin.specs.declared.SizedNumbers.{SizedNumbers}
+use Rattle.twin.proofs.Border as border
 use Rattle.host.proofs.Returned as returned
 
--- There and back: every device, state, cycle and record has numbers, and these numbers stand for it.
-pub device-back : (d : Device) → deviceIn (returned.deviceOut d) ≡ d
-device-back d = refl
-
-pub state-back : (s : State) → stateIn (stateOut s) ≡ s
-state-back = border.state-back
-
-pub cycle-back : (c : Cycle) → cycleIn (cycleOut c) ≡ c
-cycle-back = border.cycle-back
-
-pub record-back : (l : Loader) → loaderIn (loaderOut l) ≡ l
-record-back = border.record-back
-
--- Back and there: numbers that stand for something are the only numbers of it.
-pub device-numbers : (n : DeviceNumbers) → returned.deviceOut (deviceIn n) ≡ n
-device-numbers n = refl
-
-pub state-numbers : (n : StateNumbers) → noState n ≡ false → stateOut (stateIn n) ≡ n
-state-numbers = border.state-numbers
-
-pub cycle-numbers : (n : BusNumbers) → ltb 2 (n .kind) ≡ false → cycleOut (cycleIn n) ≡ n
-cycle-numbers = border.cycle-numbers
-
-pub record-numbers : (n : LoaderNumbers) → noRecord n ≡ false → loaderOut (loaderIn n) ≡ n
-record-numbers = border.record-numbers
-
--- Numbers that stand for nothing meet the condition of their refusal: 3 for a state on every device, 4 for a kind, 3 for a record.
-pub no-state-improper : (n : StateNumbers) → noState n ≡ true → (d : Device) → improper d (stateIn n) ≡ true
-no-state-improper = border.no-state-improper
-
-pub no-kind-refused : (n : BusNumbers) → ltb 2 (n .kind) ≡ true → (part : Part) → badLevels part (cycleIn n) ≡ true
-no-kind-refused = border.no-kind-refused
-
-pub no-record-bad : (n : LoaderNumbers) → noRecord n ≡ true → badRecord (loaderIn n) ≡ true
-no-record-bad = border.no-record-bad
-
--- So they are refused in its place: after 1 and 2, after 1 to 3, after 1.
+-- Numbers that stand for no state, no kind or no record are refused in their place: 3 after 1 and 2, 4 after 1 to 3, 3 after 1.
 pub cycle-no-state : (d : DeviceNumbers) (s : StateNumbers) (c : BusNumbers) (xs rs : List ℕ) → unknownDevice (deviceIn d) ≡ false → length xs ≡ sizeOf (deviceIn d .part)
     → noState s ≡ true → cycled d s c xs rs ≡ record { seen = 2; value = 3; state = s }
 cycle-no-state = returned.cycle-no-state
@@ -120,9 +83,9 @@ read-refused = returned.read-refused
 
 -- On the numbers of typed values each C function is the typed function: its answer as numbers, and what it leaves in the slices.
 pub cycle-typed : (d : Device) (s : State) (c : Cycle) (xs rs : List ℕ)
-    → (cycled (returned.deviceOut d) (stateOut s) (cycleOut c) xs rs
+    → (cycled (border.deviceOut d) (stateOut s) (cycleOut c) xs rs
     ≡ record { seen = seenOut (answerOf d s c xs rs .seen); value = valueOut (answerOf d s c xs rs .seen); state = stateOut (answerOf d s c xs rs .state) })
-    × (arrayCycled (returned.deviceOut d) (stateOut s) (cycleOut c) xs rs ≡ arrayAfter d s c xs rs)
+    × (arrayCycled (border.deviceOut d) (stateOut s) (cycleOut c) xs rs ≡ arrayAfter d s c xs rs)
 cycle-typed = returned.cycle-typed
 
 pub step-typed : (l : Loader) (b : ℕ) (w sc : List ℕ)
@@ -131,16 +94,16 @@ pub step-typed : (l : Loader) (b : ℕ) (w sc : List ℕ)
 step-typed = returned.step-typed
 
 pub run-typed : (d : Device) (s : State) (p : Pins) (k : ℕ) (xs w sc : List ℕ)
-    → (runOf (returned.deviceOut d) (stateOut s) (p .rp) (p .vpp) k xs w sc ≡ returned.ranNumbers (ranOf d s p k xs w sc))
-    × (arrayRun (returned.deviceOut d) (stateOut s) (p .rp) (p .vpp) k xs w sc ≡ bytesOf d s p k xs w sc)
-    × (scratchRun (returned.deviceOut d) (stateOut s) (p .rp) (p .vpp) k xs w sc ≡ scratchOf d s p k xs w sc)
+    → (runOf (border.deviceOut d) (stateOut s) (p .rp) (p .vpp) k xs w sc ≡ returned.ranNumbers (ranOf d s p k xs w sc))
+    × (arrayRun (border.deviceOut d) (stateOut s) (p .rp) (p .vpp) k xs w sc ≡ bytesOf d s p k xs w sc)
+    × (scratchRun (border.deviceOut d) (stateOut s) (p .rp) (p .vpp) k xs w sc ≡ scratchOf d s p k xs w sc)
 run-typed = returned.run-typed
 
 pub load-typed : (d : Device) (s : State) (p : Pins) (k : ℕ) (f : List ℕ) (asked : ℕ) (xs w sc : List ℕ)
-    → (loadOf (returned.deviceOut d) (stateOut s) (p .rp) (p .vpp) k f asked xs w sc ≡ returned.ranNumbers (loadedOf d s p k xs w sc f asked))
-    × (arrayLoad (returned.deviceOut d) (stateOut s) (p .rp) (p .vpp) k f asked xs w sc ≡ arrayLeft d s p k xs w sc f asked)
-    × (wantedLoad (returned.deviceOut d) (stateOut s) (p .rp) (p .vpp) k f asked xs w sc ≡ wantedLeft d s p k xs w sc f asked)
-    × (scratchLoad (returned.deviceOut d) (stateOut s) (p .rp) (p .vpp) k f asked xs w sc ≡ scratchLeft d s p k xs w sc f asked)
+    → (loadOf (border.deviceOut d) (stateOut s) (p .rp) (p .vpp) k f asked xs w sc ≡ returned.ranNumbers (loadedOf d s p k xs w sc f asked))
+    × (arrayLoad (border.deviceOut d) (stateOut s) (p .rp) (p .vpp) k f asked xs w sc ≡ arrayLeft d s p k xs w sc f asked)
+    × (wantedLoad (border.deviceOut d) (stateOut s) (p .rp) (p .vpp) k f asked xs w sc ≡ wantedLeft d s p k xs w sc f asked)
+    × (scratchLoad (border.deviceOut d) (stateOut s) (p .rp) (p .vpp) k f asked xs w sc ≡ scratchLeft d s p k xs w sc f asked)
 load-typed = returned.load-typed
 
 -- Two results that a promise allows are equal, and so is what it leaves in each thing lent.

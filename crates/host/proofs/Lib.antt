@@ -1,3 +1,2 @@
-pub mod Border
 pub mod Returned
 pub mod Claims

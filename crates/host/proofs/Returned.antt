@@ -31,14 +31,15 @@ use Rattle.run.specs.Runs.{runRows, runNumber, ranOf, bytesOf, scratchOf}
 use Rattle.load.specs.Loads.{loadNumber, loadedOf, arrayLeft, wantedLeft, scratchLeft}
 use Rattle.load.proofs.Claims as load-claims
 use Rattle.loadfile.specs.File.{Outcome, refused, made, limit, inRoom, leftIn, readerOf, writerOf, readAs, writtenAs}
-use Rattle.host.specs.Twins.{deviceIn, pinsIn, noState, stateIn, stateOut, cycleIn, cycleOut, noRecord, loaderIn, loaderOut}
-use Rattle.host.specs.Calls.{stateBack, loaderBack, seenOut, valueOut, answerOut, turnOut, ranOut, cycled, arrayCycled, steppedOf, scratchStepped, runOf, arrayRun, scratchRun, loadOf, arrayLoad, wantedLoad, scratchLoad, writtenOut, readOut, writtenOf, fileLeft, readOf, payloadLeft}
-use Rattle.host.specs.declared.DeviceNumbers.{DeviceNumbers}
-use Rattle.host.specs.declared.StateNumbers.{StateNumbers}
-use Rattle.host.specs.declared.BusNumbers.{BusNumbers}
-use Rattle.host.specs.declared.LoaderNumbers.{LoaderNumbers}
-use Rattle.host.specs.declared.RanNumbers.{RanNumbers}
-use Rattle.host.proofs.Border.{out-state, out-record, state-back, cycle-back, record-back, state-numbers, record-numbers, no-state-improper, no-kind-refused, no-record-bad}
+use Rattle.twin.specs.Twins.{deviceIn, pinsIn, noState, stateIn, stateOut, cycleIn, cycleOut, noRecord, loaderIn, loaderOut}
+use Rattle.twin.specs.Answers.{stateBack, loaderBack, seenOut, valueOut, answerOut, turnOut, ranOut, writtenOut, readOut}
+use Rattle.host.specs.Calls.{cycled, arrayCycled, steppedOf, scratchStepped, runOf, arrayRun, scratchRun, loadOf, arrayLoad, wantedLoad, scratchLoad, writtenOf, fileLeft, readOf, payloadLeft}
+use Rattle.twin.specs.declared.DeviceNumbers.{DeviceNumbers}
+use Rattle.twin.specs.declared.StateNumbers.{StateNumbers}
+use Rattle.twin.specs.declared.BusNumbers.{BusNumbers}
+use Rattle.twin.specs.declared.LoaderNumbers.{LoaderNumbers}
+use Rattle.twin.specs.declared.RanNumbers.{RanNumbers}
+use Rattle.twin.proofs.Border.{deviceOut, out-state, out-record, state-back, cycle-back, record-back, state-numbers, record-numbers, no-state-improper, no-kind-refused, no-record-bad}
 
 -- a state or a record that is left as it was goes back as the numbers that came, whatever they are
 pub state-same : (n : StateNumbers) → stateBack n (stateIn n) ≡ n
@@ -175,10 +176,6 @@ write-refused letter p out z = write-left (inRoom (length out) (writerOf limit l
 pub read-refused : (f : List ℕ) (asked : ℕ) (out : List ℕ) → (readOf f asked out .number ≡ 0 → ⊥) → (readOf f asked out .length ≡ 0) × (payloadLeft f asked out ≡ out)
 unfolding readOf payloadLeft
 read-refused f asked out z = read-left (inRoom (length out) (readerOf limit f asked)) out z
-
--- a device's numbers
-abbrev pub deviceOut : Device → DeviceNumbers
-deviceOut d = record { number = d .part .number; program = d .program; erase = d .erase }
 
 -- what the C functions give for the numbers of typed values
 pub cycle-typed : (d : Device) (s : State) (c : Cycle) (xs rs : List ℕ)

@@ -1,13 +1,20 @@
 // What a C program gets of the library: numbers, byte slices and structs of numbers at the border, the typed functions behind
 // it. include/torfbarke.h declares the same structs and functions.
-mod twins;
-
 use device::Part;
+use twin::AnswerNumbers;
+use twin::BusNumbers;
+use twin::DeviceNumbers;
+use twin::GivenNumbers;
+use twin::LoaderNumbers;
+use twin::RanNumbers;
+use twin::SizedNumbers;
+use twin::StateNumbers;
+use twin::TurnNumbers;
 ghost use mathlib.Core.Path.{_≡_};
 ghost use lib.ListN.{take};
 ghost use Rattle.chip.specs.States.{freshState};
 ghost use Rattle.loadfile.specs.Check.{checkOf};
-ghost use Rattle.host.specs.Twins.{stateOut};
+ghost use Rattle.twin.specs.Twins.{stateOut};
 ghost use Rattle.host.specs.Calls.{
   cycled,
   arrayCycled,
@@ -27,95 +34,12 @@ ghost use Rattle.host.specs.Calls.{
   payloadLeft,
 };
 
-// A device: its number, and the cycles that a program and an erase take.
-#[repr(C)]
-pub struct DeviceNumbers {
-    pub number: u8,
-    pub program: u16,
-    pub erase: u16,
-}
-
-// A device's state.
-#[repr(C)]
-pub struct StateNumbers {
-    pub mode: u8,
-    pub status: u8,
-    pub phase: u8,
-    pub byte: u8,
-    pub left: u16,
-    pub address: u32,
-}
-
-// A bus cycle.
-#[repr(C)]
-pub struct BusNumbers {
-    pub kind: u8,
-    pub rp: u8,
-    pub oe: u8,
-    pub byte: u8,
-    pub vpp: u32,
-    pub address: u32,
-}
-
-// What a cycle answers beside the state that it leaves.
-#[repr(C)]
-pub struct AnswerNumbers {
-    pub seen: u8,
-    pub value: u8,
-    pub state: StateNumbers,
-}
-
-// The loader's record.
-#[repr(C)]
-pub struct LoaderNumbers {
-    pub part: u8,
-    pub rp: u8,
-    pub block: u8,
-    pub stage: u8,
-    pub end: u8,
-    pub vpp: u32,
-    pub polls: u32,
-    pub place: usize,
-}
-
-// What a start or a step says.
-#[repr(C)]
-pub struct TurnNumbers {
-    pub turn: u8,
-    pub number: u8,
-    pub address: u32,
-    pub cycle: BusNumbers,
-}
-
-// The same beside the record.
-#[repr(C)]
-pub struct GivenNumbers {
-    pub turn: TurnNumbers,
-    pub loader: LoaderNumbers,
-}
-
-// What a run or a load from a file returns.
-#[repr(C)]
-pub struct RanNumbers {
-    pub count: u64,
-    pub end: u8,
-    pub address: u32,
-    pub state: StateNumbers,
-}
-
-// What writer and reader return.
-#[repr(C)]
-pub struct SizedNumbers {
-    pub number: u8,
-    pub length: usize,
-}
-
 // A fresh device.
 #[no_mangle]
 pub extern "C" fn tb_fresh() -> StateNumbers
     ensures { λ r. ⌜ r ≡ stateOut freshState ⌝ }
 {
-    twins::state_out(model::fresh())
+    twin::states::state_out(model::fresh())
 }
 
 // One bus cycle.
@@ -130,11 +54,11 @@ pub extern "C" fn tb_cycle(
     ensures { λ r. ⌜ r ≡ cycled device state bus (now (array .entry)) (now (residue .entry)) ⌝ }
     ensures { λ _. ⌜ now (array .exit) ≡ arrayCycled device state bus (now (array .entry)) (now (residue .entry)) ⌝ }
 {
-    let d = twins::device_in(device);
-    let s = twins::state_in(state);
-    let c = twins::cycle_in(bus);
+    let d = twin::states::device_in(device);
+    let s = twin::states::state_in(state);
+    let c = twin::states::cycle_in(bus);
     let a = model::cycle(d, s, c, array, residue);
-    twins::answer_out(state, a)
+    twin::states::answer_out(state, a)
 }
 
 // The first cycle of a load.
@@ -150,12 +74,18 @@ pub extern "C" fn tb_start(
     ensures { λ r. ⌜ r ≡ started part rp vpp block (now (wanted .entry)) (now (scratch .entry)) ⌝ }
 {
     let known = Part { number: part };
-    let g = loader::front::start(known, twins::pins_in(rp, vpp), block, wanted, scratch);
+    let g = loader::front::start(
+        known,
+        twin::states::pins_in(rp, vpp),
+        block,
+        wanted,
+        scratch,
+    );
     let turn = g.turn;
     let record = g.loader;
     GivenNumbers {
-        turn: twins::turn_out(turn),
-        loader: twins::loader_out(record),
+        turn: twin::records::turn_out(turn),
+        loader: twin::records::loader_out(record),
     }
 }
 
@@ -164,12 +94,12 @@ pub fn stepped(l: LoaderNumbers, byte: u8, wanted: &[u8], scratch: &mut [u8]) ->
     ensures { λ r. ⌜ (r ≡ steppedOf l byte (now (wanted .entry)) (now (scratch .entry)))
         × (now (scratch .exit) ≡ scratchStepped l byte (now (wanted .entry)) (now (scratch .entry))) ⌝ }
 {
-    let g = loader::front::step(twins::loader_in(l), byte, wanted, scratch);
+    let g = loader::front::step(twin::records::loader_in(l), byte, wanted, scratch);
     let turn = g.turn;
     let moved = g.loader;
     GivenNumbers {
-        turn: twins::turn_out(turn),
-        loader: twins::loader_back(l, moved),
+        turn: twin::records::turn_out(turn),
+        loader: twin::records::loader_back(l, moved),
     }
 }
 
@@ -206,11 +136,11 @@ pub extern "C" fn tb_run(
     ensures { λ _. ⌜ now (array .exit) ≡ arrayRun device state rp vpp block (now (array .entry)) (now (wanted .entry)) (now (scratch .entry)) ⌝ }
     ensures { λ _. ⌜ now (scratch .exit) ≡ scratchRun device state rp vpp block (now (array .entry)) (now (wanted .entry)) (now (scratch .entry)) ⌝ }
 {
-    let d = twins::device_in(device);
-    let s = twins::state_in(state);
-    let p = twins::pins_in(rp, vpp);
+    let d = twin::states::device_in(device);
+    let s = twin::states::state_in(state);
+    let p = twin::states::pins_in(rp, vpp);
     let r = run::run(d, s, p, block, array, wanted, scratch);
-    twins::ran_out(state, r)
+    twin::states::ran_out(state, r)
 }
 
 // A load of one block from a file, against the model.
@@ -232,11 +162,11 @@ pub extern "C" fn tb_load(
     ensures { λ _. ⌜ now (wanted .exit) ≡ wantedLoad device state rp vpp block (now (file .entry)) letter (now (array .entry)) (now (wanted .entry)) (now (scratch .entry)) ⌝ }
     ensures { λ _. ⌜ now (scratch .exit) ≡ scratchLoad device state rp vpp block (now (file .entry)) letter (now (array .entry)) (now (wanted .entry)) (now (scratch .entry)) ⌝ }
 {
-    let d = twins::device_in(device);
-    let s = twins::state_in(state);
-    let p = twins::pins_in(rp, vpp);
+    let d = twin::states::device_in(device);
+    let s = twin::states::state_in(state);
+    let p = twin::states::pins_in(rp, vpp);
     let r = load::load(d, s, p, block, array, wanted, scratch, file, letter);
-    twins::ran_out(state, r)
+    twin::states::ran_out(state, r)
 }
 
 // The writer of a load file.
@@ -246,7 +176,7 @@ pub extern "C" fn tb_write(letter: u8, payload: &[u8], file: &mut [u8]) -> Sized
     ensures { λ _. ⌜ now (file .exit) ≡ fileLeft letter (now (payload .entry)) (now (file .entry)) ⌝ }
 {
     let written = loadfile::write(letter, payload, file);
-    twins::written_out(written)
+    twin::sizes::written_out(written)
 }
 
 // The reader of a load file, for the letter asked.
@@ -256,7 +186,7 @@ pub extern "C" fn tb_read(file: &[u8], letter: u8, payload: &mut [u8]) -> SizedN
     ensures { λ _. ⌜ now (payload .exit) ≡ payloadLeft (now (file .entry)) letter (now (payload .entry)) ⌝ }
 {
     let read = loadfile::read(file, letter, payload);
-    twins::read_out(read)
+    twin::sizes::read_out(read)
 }
 
 // The check over the first 510 bytes, or over all where there are fewer.

@@ -5,15 +5,16 @@ use mathlib.Core.Path.{_≡_, ap, _∙_}
 use Rattle.loader.specs.declared.Loader.{Loader}
 use Rattle.loader.specs.declared.Given.{Given}
 use Rattle.loader.specs.Front.{stepOf, scratchAfter}
-use Rattle.host.specs.Twins.{loaderIn}
-use Rattle.host.specs.Calls.{turnOut, loaderBack, steppedOf, scratchStepped}
+use Rattle.twin.specs.Twins.{loaderIn}
+use Rattle.twin.specs.Answers.{turnOut, loaderBack}
+use Rattle.host.specs.Calls.{steppedOf, scratchStepped}
 use Rattle.host.proofs.stepped.Statement.{statement}
 use Rattle.host.proofs.stepped.Tie as tie
 use Rattle.host.proofs.stepped.Reads as reads
 use Rattle.host.proofs.stepped.Lts as lts
-use Rattle.host.proofs.twins.loader_back.Reads as loader-back-reads
-use Rattle.host.proofs.twins.loader_in.Reads as loader-in-reads
-use Rattle.host.proofs.twins.turn_out.Reads as turn-out-reads
+use Rattle.twin.proofs.records.loader_back.Reads as loader-back-reads
+use Rattle.twin.proofs.records.loader_in.Reads as loader-in-reads
+use Rattle.twin.proofs.records.turn_out.Reads as turn-out-reads
 use Rattle.loader.proofs.front.step.Reads as step-reads
 
 -- src/lib.rt:96:33

@@ -2,16 +2,17 @@ use borrow.Author.Needs.{needs}
 use mathlib.Core.Path.{_≡_, ap, _∙_}
 use Rattle.model.specs.declared.Answer.{Answer}
 use Rattle.model.specs.Arrays.{answerOf, arrayAfter}
-use Rattle.host.specs.Twins.{deviceIn, stateIn, cycleIn}
-use Rattle.host.specs.Calls.{answerOut, cycled, arrayCycled}
+use Rattle.twin.specs.Twins.{deviceIn, stateIn, cycleIn}
+use Rattle.twin.specs.Answers.{answerOut}
+use Rattle.host.specs.Calls.{cycled, arrayCycled}
 use Rattle.host.proofs.tb_cycle.Statement.{statement}
 use Rattle.host.proofs.tb_cycle.Tie as tie
 use Rattle.host.proofs.tb_cycle.Reads as reads
 use Rattle.host.proofs.tb_cycle.Lts as lts
-use Rattle.host.proofs.twins.answer_out.Reads as answer-out-reads
-use Rattle.host.proofs.twins.cycle_in.Reads as cycle-in-reads
-use Rattle.host.proofs.twins.device_in.Reads as device-in-reads
-use Rattle.host.proofs.twins.state_in.Reads as state-in-reads
+use Rattle.twin.proofs.states.answer_out.Reads as answer-out-reads
+use Rattle.twin.proofs.states.cycle_in.Reads as cycle-in-reads
+use Rattle.twin.proofs.states.device_in.Reads as device-in-reads
+use Rattle.twin.proofs.states.state_in.Reads as state-in-reads
 use Rattle.model.proofs.cycle.Reads as cycle-reads
 
 -- src/lib.rt:133:9

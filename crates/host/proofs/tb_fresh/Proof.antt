@@ -1,12 +1,12 @@
 use borrow.Author.Needs.{needs}
 use mathlib.Core.Path.{_≡_, ap, _∙_}
 use Rattle.chip.specs.declared.State.{State}
-use Rattle.host.specs.Twins.{stateOut}
+use Rattle.twin.specs.Twins.{stateOut}
 use Rattle.host.proofs.tb_fresh.Statement.{statement}
 use Rattle.host.proofs.tb_fresh.Tie as tie
 use Rattle.host.proofs.tb_fresh.Reads as reads
 use Rattle.host.proofs.tb_fresh.Lts as lts
-use Rattle.host.proofs.twins.state_out.Reads as state-out-reads
+use Rattle.twin.proofs.states.state_out.Reads as state-out-reads
 use Rattle.model.proofs.fresh.Reads as fresh-reads
 
 -- src/lib.rt:118:22

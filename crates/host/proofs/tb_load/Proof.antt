@@ -2,16 +2,17 @@ use borrow.Author.Needs.{needs}
 use mathlib.Core.Path.{_≡_, ap, _∙_}
 use Rattle.run.specs.declared.Ran.{Ran}
 use Rattle.load.specs.Loads.{loadedOf, arrayLeft, wantedLeft, scratchLeft}
-use Rattle.host.specs.Twins.{deviceIn, stateIn, pinsIn}
-use Rattle.host.specs.Calls.{ranOut, loadOf, arrayLoad, wantedLoad, scratchLoad}
+use Rattle.twin.specs.Twins.{deviceIn, stateIn, pinsIn}
+use Rattle.twin.specs.Answers.{ranOut}
+use Rattle.host.specs.Calls.{loadOf, arrayLoad, wantedLoad, scratchLoad}
 use Rattle.host.proofs.tb_load.Statement.{statement}
 use Rattle.host.proofs.tb_load.Tie as tie
 use Rattle.host.proofs.tb_load.Reads as reads
 use Rattle.host.proofs.tb_load.Lts as lts
-use Rattle.host.proofs.twins.device_in.Reads as device-in-reads
-use Rattle.host.proofs.twins.pins_in.Reads as pins-in-reads
-use Rattle.host.proofs.twins.ran_out.Reads as ran-out-reads
-use Rattle.host.proofs.twins.state_in.Reads as state-in-reads
+use Rattle.twin.proofs.states.device_in.Reads as device-in-reads
+use Rattle.twin.proofs.states.pins_in.Reads as pins-in-reads
+use Rattle.twin.proofs.states.ran_out.Reads as ran-out-reads
+use Rattle.twin.proofs.states.state_in.Reads as state-in-reads
 use Rattle.load.proofs.load.Reads as load-reads
 
 -- src/lib.rt:235:9

@@ -2,16 +2,17 @@ use borrow.Author.Needs.{needs}
 use mathlib.Core.Path.{_≡_, ap, _∙_}
 use Rattle.run.specs.declared.Ran.{Ran}
 use Rattle.run.specs.Runs.{ranOf, bytesOf, scratchOf}
-use Rattle.host.specs.Twins.{deviceIn, stateIn, pinsIn}
-use Rattle.host.specs.Calls.{ranOut, runOf, arrayRun, scratchRun}
+use Rattle.twin.specs.Twins.{deviceIn, stateIn, pinsIn}
+use Rattle.twin.specs.Answers.{ranOut}
+use Rattle.host.specs.Calls.{runOf, arrayRun, scratchRun}
 use Rattle.host.proofs.tb_run.Statement.{statement}
 use Rattle.host.proofs.tb_run.Tie as tie
 use Rattle.host.proofs.tb_run.Reads as reads
 use Rattle.host.proofs.tb_run.Lts as lts
-use Rattle.host.proofs.twins.device_in.Reads as device-in-reads
-use Rattle.host.proofs.twins.pins_in.Reads as pins-in-reads
-use Rattle.host.proofs.twins.ran_out.Reads as ran-out-reads
-use Rattle.host.proofs.twins.state_in.Reads as state-in-reads
+use Rattle.twin.proofs.states.device_in.Reads as device-in-reads
+use Rattle.twin.proofs.states.pins_in.Reads as pins-in-reads
+use Rattle.twin.proofs.states.ran_out.Reads as ran-out-reads
+use Rattle.twin.proofs.states.state_in.Reads as state-in-reads
 use Rattle.run.proofs.run.Reads as run-reads
 
 -- src/lib.rt:209:9
