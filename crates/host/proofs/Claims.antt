@@ -1,0 +1,172 @@
+-- What is claimed of the C functions, in one place. Assumes nothing.
+use mathlib.Core.Path.{_≡_}
+use mathlib.Core.Bool.{true, false}
+use mathlib.Core.List.{List}
+use Prim.Native.Nat.{ℕ}
+use lib.ListN.{length, take}
+use lib.Dec.{ltb}
+use Rattle.cells.specs.Pick.{Unique, only}
+use Rattle.device.specs.declared.Device.{Device}
+use Rattle.device.specs.Parts.{unknownPart, unknownDevice, sizeOf}
+use Rattle.chip.specs.declared.Pins.{Pins}
+use Rattle.chip.specs.declared.Cycle.{Cycle}
+use Rattle.chip.specs.declared.State.{State}
+use Rattle.chip.specs.States.{freshState, improper}
+use Rattle.model.specs.Arrays.{answerOf, arrayAfter}
+use Rattle.loader.specs.declared.Loader.{Loader}
+use Rattle.loader.specs.declared.Turn.the-variants.{Barred}
+use Rattle.stepper.specs.Front.{stepOf, scratchAfter}
+use Rattle.run.specs.Runs.{runNumber, ranOf, bytesOf, scratchOf}
+use Rattle.load.specs.Loads.{loadNumber, loadedOf, arrayLeft, wantedLeft, scratchLeft}
+use Rattle.loadfile.specs.Check.{checkOf}
+use Rattle.twin.specs.Twins.{deviceIn, pinsIn, noState, stateIn, stateOut, cycleOut, noRecord, loaderIn, loaderOut}
+use Rattle.twin.specs.Answers.{seenOut, valueOut, turnOut}
+use Rattle.host.specs.Calls.{cycled, arrayCycled, started, steppedOf, scratchStepped, runOf, arrayRun, scratchRun, loadOf, arrayLoad, wantedLoad, scratchLoad, writtenOf, fileLeft, readOf, payloadLeft}
+use Rattle.twin.specs.declared.DeviceNumbers.{DeviceNumbers}
+use Rattle.twin.specs.declared.StateNumbers.{StateNumbers}
+use Rattle.twin.specs.declared.BusNumbers.{BusNumbers}
+use Rattle.twin.specs.declared.AnswerNumbers.{AnswerNumbers}
+use Rattle.twin.specs.declared.LoaderNumbers.{LoaderNumbers}
+use Rattle.twin.specs.declared.TurnNumbers.{TurnNumbers}
+use Rattle.twin.specs.declared.GivenNumbers.{GivenNumbers}
+use Rattle.twin.specs.declared.RanNumbers.{RanNumbers}
+use Rattle.twin.specs.declared.SizedNumbers.{SizedNumbers}
+use Rattle.twin.proofs.Border as border
+use Rattle.host.proofs.Returned as returned
+
+-- Numbers that stand for no state, no kind or no record are refused in their place: 3 after 1 and 2, 4 after 1 to 3, 3 after 1.
+pub cycle-no-state : (d : DeviceNumbers) (s : StateNumbers) (c : BusNumbers) (xs rs : List ℕ) → unknownDevice (deviceIn d) ≡ false → length xs ≡ sizeOf (deviceIn d .part)
+    → noState s ≡ true → cycled d s c xs rs ≡ record { seen = 2; value = 3; state = s }
+cycle-no-state = returned.cycle-no-state
+
+pub cycle-no-kind : (d : DeviceNumbers) (s : StateNumbers) (c : BusNumbers) (xs rs : List ℕ) → unknownDevice (deviceIn d) ≡ false → length xs ≡ sizeOf (deviceIn d .part)
+    → improper (deviceIn d) (stateIn s) ≡ false → ltb 2 (c .kind) ≡ true → cycled d s c xs rs ≡ record { seen = 2; value = 4; state = s }
+cycle-no-kind = returned.cycle-no-kind
+
+pub step-no-record : (l : LoaderNumbers) (b : ℕ) (w sc : List ℕ) → unknownPart (loaderIn l .part) ≡ false → noRecord l ≡ true
+    → (steppedOf l b w sc .turn ≡ turnOut (Barred 3)) × (steppedOf l b w sc .loader ≡ l)
+step-no-record = returned.step-no-record
+
+pub run-no-state : (d : DeviceNumbers) (s : StateNumbers) (rp vpp k : ℕ) (xs w sc : List ℕ) → unknownDevice (deviceIn d) ≡ false → length xs ≡ sizeOf (deviceIn d .part)
+    → noState s ≡ true → runOf d s rp vpp k xs w sc ≡ record { count = 0; end = 3; address = 0; state = s }
+run-no-state = returned.run-no-state
+
+pub load-no-state : (d : DeviceNumbers) (s : StateNumbers) (rp vpp k : ℕ) (xs w sc f : List ℕ) (asked : ℕ) → unknownDevice (deviceIn d) ≡ false
+    → length xs ≡ sizeOf (deviceIn d .part) → noState s ≡ true → loadOf d s rp vpp k f asked xs w sc ≡ record { count = 0; end = 3; address = 0; state = s }
+load-no-state = returned.load-no-state
+
+-- A refusal gives back the very numbers that came in, whatever they stand for, and leaves all that was lent.
+pub cycle-refused : (d : DeviceNumbers) (s : StateNumbers) (c : BusNumbers) (xs rs : List ℕ) → cycled d s c xs rs .seen ≡ 2
+    → (cycled d s c xs rs .state ≡ s) × (arrayCycled d s c xs rs ≡ xs)
+cycle-refused = returned.cycle-refused
+
+pub step-refused : (l : LoaderNumbers) (b : ℕ) (w sc : List ℕ) → steppedOf l b w sc .turn .turn ≡ 2
+    → (steppedOf l b w sc .loader ≡ l) × (scratchStepped l b w sc ≡ sc)
+step-refused = returned.step-refused
+
+pub run-refused : (d : DeviceNumbers) (s : StateNumbers) (rp vpp k : ℕ) (xs w sc : List ℕ) (m : ℕ) → (m ≡ 0 → ⊥)
+    → runNumber (deviceIn d) (stateIn s) (pinsIn rp vpp) k (length xs) (length w) (length sc) ≡ m
+    → (runOf d s rp vpp k xs w sc ≡ record { count = 0; end = m; address = 0; state = s }) × (arrayRun d s rp vpp k xs w sc ≡ xs) × (scratchRun d s rp vpp k xs w sc ≡ sc)
+run-refused = returned.run-refused
+
+pub load-refused : (d : DeviceNumbers) (s : StateNumbers) (rp vpp k : ℕ) (xs w sc f : List ℕ) (asked m : ℕ) → (m ≡ 0 → ⊥)
+    → loadNumber (deviceIn d) (stateIn s) (pinsIn rp vpp) k (length xs) (length w) (length sc) f asked ≡ m
+    → (loadOf d s rp vpp k f asked xs w sc ≡ record { count = 0; end = m; address = 0; state = s }) × (arrayLoad d s rp vpp k f asked xs w sc ≡ xs)
+    × (wantedLoad d s rp vpp k f asked xs w sc ≡ w) × (scratchLoad d s rp vpp k f asked xs w sc ≡ sc)
+load-refused = returned.load-refused
+
+pub write-refused : (letter : ℕ) (p out : List ℕ) → (writtenOf letter p out .number ≡ 0 → ⊥) → (writtenOf letter p out .length ≡ 0) × (fileLeft letter p out ≡ out)
+write-refused = returned.write-refused
+
+pub read-refused : (f : List ℕ) (asked : ℕ) (out : List ℕ) → (readOf f asked out .number ≡ 0 → ⊥) → (readOf f asked out .length ≡ 0) × (payloadLeft f asked out ≡ out)
+read-refused = returned.read-refused
+
+-- On the numbers of typed values each C function is the typed function: its answer as numbers, and what it leaves in the slices.
+pub cycle-typed : (d : Device) (s : State) (c : Cycle) (xs rs : List ℕ)
+    → (cycled (border.deviceOut d) (stateOut s) (cycleOut c) xs rs
+    ≡ record { seen = seenOut (answerOf d s c xs rs .seen); value = valueOut (answerOf d s c xs rs .seen); state = stateOut (answerOf d s c xs rs .state) })
+    × (arrayCycled (border.deviceOut d) (stateOut s) (cycleOut c) xs rs ≡ arrayAfter d s c xs rs)
+cycle-typed = returned.cycle-typed
+
+pub step-typed : (l : Loader) (b : ℕ) (w sc : List ℕ)
+    → (steppedOf (loaderOut l) b w sc ≡ record { turn = turnOut (stepOf l b w sc .turn); loader = loaderOut (stepOf l b w sc .loader) })
+    × (scratchStepped (loaderOut l) b w sc ≡ scratchAfter l b w sc)
+step-typed = returned.step-typed
+
+pub run-typed : (d : Device) (s : State) (p : Pins) (k : ℕ) (xs w sc : List ℕ)
+    → (runOf (border.deviceOut d) (stateOut s) (p .rp) (p .vpp) k xs w sc ≡ returned.ranNumbers (ranOf d s p k xs w sc))
+    × (arrayRun (border.deviceOut d) (stateOut s) (p .rp) (p .vpp) k xs w sc ≡ bytesOf d s p k xs w sc)
+    × (scratchRun (border.deviceOut d) (stateOut s) (p .rp) (p .vpp) k xs w sc ≡ scratchOf d s p k xs w sc)
+run-typed = returned.run-typed
+
+pub load-typed : (d : Device) (s : State) (p : Pins) (k : ℕ) (f : List ℕ) (asked : ℕ) (xs w sc : List ℕ)
+    → (loadOf (border.deviceOut d) (stateOut s) (p .rp) (p .vpp) k f asked xs w sc ≡ returned.ranNumbers (loadedOf d s p k xs w sc f asked))
+    × (arrayLoad (border.deviceOut d) (stateOut s) (p .rp) (p .vpp) k f asked xs w sc ≡ arrayLeft d s p k xs w sc f asked)
+    × (wantedLoad (border.deviceOut d) (stateOut s) (p .rp) (p .vpp) k f asked xs w sc ≡ wantedLeft d s p k xs w sc f asked)
+    × (scratchLoad (border.deviceOut d) (stateOut s) (p .rp) (p .vpp) k f asked xs w sc ≡ scratchLeft d s p k xs w sc f asked)
+load-typed = returned.load-typed
+
+-- Two results that a promise allows are equal, and so is what it leaves in each thing lent.
+pub fresh-unique : Unique (λ (r : StateNumbers). r ≡ stateOut freshState)
+fresh-unique = only (stateOut freshState)
+
+pub cycle-unique : (d : DeviceNumbers) (s : StateNumbers) (c : BusNumbers) (xs rs : List ℕ) → Unique (λ (r : AnswerNumbers). r ≡ cycled d s c xs rs)
+cycle-unique d s c xs rs = only (cycled d s c xs rs)
+
+pub cycle-array-unique : (d : DeviceNumbers) (s : StateNumbers) (c : BusNumbers) (xs rs : List ℕ) → Unique (λ (left : List ℕ). left ≡ arrayCycled d s c xs rs)
+cycle-array-unique d s c xs rs = only (arrayCycled d s c xs rs)
+
+pub start-unique : (part rp vpp k : ℕ) (w sc : List ℕ) → Unique (λ (r : GivenNumbers). r ≡ started part rp vpp k w sc)
+start-unique part rp vpp k w sc = only (started part rp vpp k w sc)
+
+-- the step by value, and the step on a record that is lent: what it says, the record, scratch
+pub stepped-unique : (l : LoaderNumbers) (b : ℕ) (w sc : List ℕ) → Unique (λ (r : GivenNumbers). r ≡ steppedOf l b w sc)
+stepped-unique l b w sc = only (steppedOf l b w sc)
+
+pub step-unique : (l : LoaderNumbers) (b : ℕ) (w sc : List ℕ) → Unique (λ (r : TurnNumbers). r ≡ steppedOf l b w sc .turn)
+step-unique l b w sc = only (steppedOf l b w sc .turn)
+
+pub step-record-unique : (l : LoaderNumbers) (b : ℕ) (w sc : List ℕ) → Unique (λ (left : LoaderNumbers). left ≡ steppedOf l b w sc .loader)
+step-record-unique l b w sc = only (steppedOf l b w sc .loader)
+
+pub step-scratch-unique : (l : LoaderNumbers) (b : ℕ) (w sc : List ℕ) → Unique (λ (left : List ℕ). left ≡ scratchStepped l b w sc)
+step-scratch-unique l b w sc = only (scratchStepped l b w sc)
+
+pub run-unique : (d : DeviceNumbers) (s : StateNumbers) (rp vpp k : ℕ) (xs w sc : List ℕ) → Unique (λ (r : RanNumbers). r ≡ runOf d s rp vpp k xs w sc)
+run-unique d s rp vpp k xs w sc = only (runOf d s rp vpp k xs w sc)
+
+pub run-array-unique : (d : DeviceNumbers) (s : StateNumbers) (rp vpp k : ℕ) (xs w sc : List ℕ) → Unique (λ (left : List ℕ). left ≡ arrayRun d s rp vpp k xs w sc)
+run-array-unique d s rp vpp k xs w sc = only (arrayRun d s rp vpp k xs w sc)
+
+pub run-scratch-unique : (d : DeviceNumbers) (s : StateNumbers) (rp vpp k : ℕ) (xs w sc : List ℕ) → Unique (λ (left : List ℕ). left ≡ scratchRun d s rp vpp k xs w sc)
+run-scratch-unique d s rp vpp k xs w sc = only (scratchRun d s rp vpp k xs w sc)
+
+pub load-unique : (d : DeviceNumbers) (s : StateNumbers) (rp vpp k : ℕ) (f : List ℕ) (asked : ℕ) (xs w sc : List ℕ) → Unique (λ (r : RanNumbers). r ≡ loadOf d s rp vpp k f asked xs w sc)
+load-unique d s rp vpp k f asked xs w sc = only (loadOf d s rp vpp k f asked xs w sc)
+
+pub load-array-unique : (d : DeviceNumbers) (s : StateNumbers) (rp vpp k : ℕ) (f : List ℕ) (asked : ℕ) (xs w sc : List ℕ)
+    → Unique (λ (left : List ℕ). left ≡ arrayLoad d s rp vpp k f asked xs w sc)
+load-array-unique d s rp vpp k f asked xs w sc = only (arrayLoad d s rp vpp k f asked xs w sc)
+
+pub load-wanted-unique : (d : DeviceNumbers) (s : StateNumbers) (rp vpp k : ℕ) (f : List ℕ) (asked : ℕ) (xs w sc : List ℕ)
+    → Unique (λ (left : List ℕ). left ≡ wantedLoad d s rp vpp k f asked xs w sc)
+load-wanted-unique d s rp vpp k f asked xs w sc = only (wantedLoad d s rp vpp k f asked xs w sc)
+
+pub load-scratch-unique : (d : DeviceNumbers) (s : StateNumbers) (rp vpp k : ℕ) (f : List ℕ) (asked : ℕ) (xs w sc : List ℕ)
+    → Unique (λ (left : List ℕ). left ≡ scratchLoad d s rp vpp k f asked xs w sc)
+load-scratch-unique d s rp vpp k f asked xs w sc = only (scratchLoad d s rp vpp k f asked xs w sc)
+
+pub write-unique : (letter : ℕ) (p out : List ℕ) → Unique (λ (r : SizedNumbers). r ≡ writtenOf letter p out)
+write-unique letter p out = only (writtenOf letter p out)
+
+pub write-file-unique : (letter : ℕ) (p out : List ℕ) → Unique (λ (left : List ℕ). left ≡ fileLeft letter p out)
+write-file-unique letter p out = only (fileLeft letter p out)
+
+pub read-unique : (f : List ℕ) (asked : ℕ) (out : List ℕ) → Unique (λ (r : SizedNumbers). r ≡ readOf f asked out)
+read-unique f asked out = only (readOf f asked out)
+
+pub read-payload-unique : (f : List ℕ) (asked : ℕ) (out : List ℕ) → Unique (λ (left : List ℕ). left ≡ payloadLeft f asked out)
+read-payload-unique f asked out = only (payloadLeft f asked out)
+
+pub check-unique : (block : List ℕ) → Unique (λ (r : ℕ). r ≡ checkOf (take 510 block))
+check-unique block = only (checkOf (take 510 block))

@@ -1,0 +1,65 @@
+use borrow.Author.Needs.{needs}
+use native.Mathlib.Omega.{arith}
+use borrow.Author.Tests.{lt-ltb, le-ltb, le-leb, lt-leb, eq-eqb, ne-eqb}
+use mathlib.Core.Path.{_≡_, ap, _∙_}
+use Rattle.loader.specs.declared.Loader.{Loader}
+use Rattle.loader.specs.declared.Given.{Given}
+use Rattle.stepper.specs.Front.{stepOf, scratchAfter}
+use Rattle.twin.specs.Twins.{loaderIn}
+use Rattle.twin.specs.Answers.{turnOut, loaderBack}
+use Rattle.host.specs.Calls.{steppedOf, scratchStepped}
+use Rattle.host.proofs.stepped.Statement.{statement}
+use Rattle.host.proofs.stepped.Tie as tie
+use Rattle.host.proofs.stepped.Reads as reads
+use Rattle.host.proofs.stepped.Lts as lts
+use Rattle.twin.proofs.records.loader_back.Reads as loader-back-reads
+use Rattle.twin.proofs.records.loader_in.Reads as loader-in-reads
+use Rattle.twin.proofs.records.turn_out.Reads as turn-out-reads
+use Rattle.stepper.proofs.front.step.Reads as step-reads
+
+-- src/lib.rt:96:33
+loader-in-requires : tie.Need-loader-in-requires
+loader-in-requires c κs = search needs
+
+-- src/lib.rt:96:9
+step-requires : tie.Need-step-requires
+step-requires c κs = search needs
+
+-- src/lib.rt:100:15
+turn-out-requires : tie.Need-turn-out-requires
+turn-out-requires c κs = search needs
+
+-- src/lib.rt:101:17
+loader-back-requires : tie.Need-loader-back-requires
+loader-back-requires c κs = search needs
+
+-- src/lib.rt:92:1
+same-length : tie.Need-same-length
+same-length c = search needs
+
+-- src/lib.rt:92:1
+returns : tie.Need-returns
+unfolding steppedOf scratchStepped
+returns c =
+    let a = c .before .before .before .before .before .before .before .before .before .before .args in
+    let w = a .wanted .now in
+    let sc = a .scratch .now in
+    let e : c .before .before .before .before .before .before .before .loader-in .result ≡ loaderIn (a .l) = c .before .before .before .before .before .before .before .loader-in .ensures in
+    let g : c .before .before .before .before .before .step .result ≡ stepOf (loaderIn (a .l)) (a .byte) w sc =
+    c .before .before .before .before .before .step .ensures .0 ∙ ap (λ (l : Loader). stepOf l (a .byte) w sc) e in
+    let turn = c .before .turn-out .ensures ∙ ap (λ (x : Given). turnOut (x .turn)) g in
+    let loader = c .loader-back .ensures ∙ ap (λ (x : Given). loaderBack (a .l) (x .loader)) g in (
+      λ i. record { turn = turn i; loader = loader i },
+      c .before .before .before .before .before .step .ensures .1 ∙ ap (λ (l : Loader). scratchAfter l (a .byte) w sc) e,
+    )
+
+pub stepped-spec : {M : Type 1} → statement M
+stepped-spec =
+    tie.close
+    (tie.spec
+    loader-in-requires
+    step-requires
+    turn-out-requires
+    loader-back-requires
+    same-length
+    returns)

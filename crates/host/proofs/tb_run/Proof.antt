@@ -1,0 +1,77 @@
+use borrow.Author.Needs.{needs}
+use mathlib.Core.Path.{_≡_, ap, _∙_}
+use Rattle.run.specs.declared.Ran.{Ran}
+use Rattle.run.specs.Runs.{ranOf, bytesOf, scratchOf}
+use Rattle.twin.specs.Twins.{deviceIn, stateIn, pinsIn}
+use Rattle.twin.specs.Answers.{ranOut}
+use Rattle.host.specs.Calls.{runOf, arrayRun, scratchRun}
+use Rattle.host.proofs.tb_run.Statement.{statement}
+use Rattle.host.proofs.tb_run.Tie as tie
+use Rattle.host.proofs.tb_run.Reads as reads
+use Rattle.host.proofs.tb_run.Lts as lts
+use Rattle.twin.proofs.states.device_in.Reads as device-in-reads
+use Rattle.twin.proofs.states.pins_in.Reads as pins-in-reads
+use Rattle.twin.proofs.states.ran_out.Reads as ran-out-reads
+use Rattle.twin.proofs.states.state_in.Reads as state-in-reads
+use Rattle.run.proofs.run.Reads as run-reads
+
+-- src/lib.rt:209:9
+device-in-requires : tie.Need-device-in-requires
+device-in-requires c κs = search needs
+
+-- src/lib.rt:210:9
+state-in-requires : tie.Need-state-in-requires
+state-in-requires c κs = search needs
+
+-- src/lib.rt:211:9
+pins-in-requires : tie.Need-pins-in-requires
+pins-in-requires c κs = search needs
+
+-- src/lib.rt:212:9
+run-requires : tie.Need-run-requires
+run-requires c κs = search needs
+
+-- src/lib.rt:213:5
+ran-out-requires : tie.Need-ran-out-requires
+ran-out-requires c κs = search needs
+
+-- src/lib.rt:194:1
+same-length : tie.Need-same-length
+same-length c = search needs
+
+-- src/lib.rt:194:1
+same-length-2 : tie.Need-same-length-2
+same-length-2 c = search needs
+
+-- src/lib.rt:194:1
+returns : tie.Need-returns
+unfolding runOf arrayRun scratchRun
+returns c =
+    let a = c .before .before .before .before .before .before .before .before .before .before .before .before .before .before .args in
+    let xs = a .array .now in
+    let w = a .wanted .now in
+    let sc = a .scratch .now in
+    let d : c .before .before .before .before .before .before .before .before .before .before .device-in .result ≡ deviceIn (a .device) = c .before .before .before .before .before .before .before .before .before .before .device-in .ensures in
+    let s : c .before .before .before .before .before .before .before .before .before .state-in .result ≡ stateIn (a .state) = c .before .before .before .before .before .before .before .before .before .state-in .ensures in
+    let p : c .before .before .before .before .before .before .before .before .pins-in .result ≡ pinsIn (a .rp) (a .vpp) = c .before .before .before .before .before .before .before .before .pins-in .ensures in
+    let g : c .before .before .before .before .before .run .result ≡ ranOf (deviceIn (a .device)) (stateIn (a .state)) (pinsIn (a .rp) (a .vpp)) (a .block) xs w sc =
+    c .before .before .before .before .before .run .ensures .0 ∙ (λ i. ranOf (d i) (s i) (p i) (a .block) xs w sc) in (
+      c .ran-out .ensures ∙ ap (λ (x : Ran). ranOut (a .state) x) g,
+      (
+        c .before .before .before .before .before .run .ensures .1 .0 ∙ (λ i. bytesOf (d i) (s i) (p i) (a .block) xs w sc),
+        c .before .before .before .before .before .run .ensures .1 .1 ∙ (λ i. scratchOf (d i) (s i) (p i) (a .block) xs w sc),
+      ),
+    )
+
+pub tb-run-spec : {M : Type 1} → statement M
+tb-run-spec =
+    tie.close
+    (tie.spec
+    device-in-requires
+    state-in-requires
+    pins-in-requires
+    run-requires
+    ran-out-requires
+    same-length
+    same-length-2
+    returns)

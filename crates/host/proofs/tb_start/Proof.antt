@@ -1,0 +1,51 @@
+use borrow.Author.Needs.{needs}
+use mathlib.Core.Path.{_≡_, ap, _∙_}
+use Rattle.chip.specs.declared.Pins.{Pins}
+use Rattle.loader.specs.declared.Given.{Given}
+use Rattle.stepper.specs.Front.{startOf}
+use Rattle.twin.specs.Twins.{pinsIn, loaderOut}
+use Rattle.twin.specs.Answers.{turnOut}
+use Rattle.host.specs.Calls.{started}
+use Rattle.host.proofs.tb_start.Statement.{statement}
+use Rattle.host.proofs.tb_start.Tie as tie
+use Rattle.host.proofs.tb_start.Reads as reads
+use Rattle.host.proofs.tb_start.Lts as lts
+use Rattle.twin.proofs.records.loader_out.Reads as loader-out-reads
+use Rattle.twin.proofs.states.pins_in.Reads as pins-in-reads
+use Rattle.twin.proofs.records.turn_out.Reads as turn-out-reads
+use Rattle.stepper.proofs.front.start.Reads as start-reads
+
+-- src/lib.rt:153:41
+pins-in-requires : tie.Need-pins-in-requires
+pins-in-requires c κs = search needs
+
+-- src/lib.rt:153:9
+start-requires : tie.Need-start-requires
+start-requires c κs = search needs
+
+-- src/lib.rt:157:15
+turn-out-requires : tie.Need-turn-out-requires
+turn-out-requires c κs = search needs
+
+-- src/lib.rt:158:17
+loader-out-requires : tie.Need-loader-out-requires
+loader-out-requires c κs = search needs
+
+-- src/lib.rt:141:1
+returns : tie.Need-returns
+unfolding started
+returns c =
+    let a = c .before .before .before .before .before .before .before .args in
+    let w = a .wanted .now in
+    let sc = a .scratch .now in
+    let p : c .before .before .before .before .pins-in .result ≡ pinsIn (a .rp) (a .vpp) = c .before .before .before .before .pins-in .ensures in
+    let g : c .before .before .before .start .result ≡ startOf (record { number = a .part }) (pinsIn (a .rp) (a .vpp)) (a .block) w sc =
+    c .before .before .before .start .ensures ∙ ap (λ (x : Pins). startOf (record { number = a .part }) x (a .block) w sc) p in
+    let turn = c .before .turn-out .ensures ∙ ap (λ (x : Given). turnOut (x .turn)) g in
+    let loader = c .loader-out .ensures ∙ ap (λ (x : Given). loaderOut (x .loader)) g in
+    λ i. record { turn = turn i; loader = loader i }
+
+pub tb-start-spec : {M : Type 1} → statement M
+tb-start-spec =
+    tie.close
+    (tie.spec pins-in-requires start-requires turn-out-requires loader-out-requires returns)

@@ -1,0 +1,78 @@
+-- What each C function gives: the typed function's answer as numbers. Assumes nothing.
+use mathlib.Core.List.{List}
+use Prim.Native.Nat.{ℕ}
+use lib.ListN.{length}
+use Rattle.model.specs.Arrays.{answerOf, arrayAfter}
+use Rattle.stepper.specs.Front.{startOf, stepOf, scratchAfter}
+use Rattle.run.specs.Runs.{ranOf, bytesOf, scratchOf}
+use Rattle.load.specs.Loads.{loadedOf, arrayLeft, wantedLeft, scratchLeft}
+use Rattle.loadfile.specs.File.{limit, inRoom, leftIn, readerOf, writerOf, readAs, writtenAs}
+use Rattle.twin.specs.Twins.{deviceIn, pinsIn, stateIn, cycleIn, loaderIn, loaderOut}
+use Rattle.twin.specs.Answers.{loaderBack, answerOut, turnOut, writtenOut, readOut, ranOut}
+use Rattle.twin.specs.declared.DeviceNumbers.{DeviceNumbers}
+use Rattle.twin.specs.declared.StateNumbers.{StateNumbers}
+use Rattle.twin.specs.declared.BusNumbers.{BusNumbers}
+use Rattle.twin.specs.declared.AnswerNumbers.{AnswerNumbers}
+use Rattle.twin.specs.declared.LoaderNumbers.{LoaderNumbers}
+use Rattle.twin.specs.declared.GivenNumbers.{GivenNumbers}
+use Rattle.twin.specs.declared.RanNumbers.{RanNumbers}
+use Rattle.twin.specs.declared.SizedNumbers.{SizedNumbers}
+
+-- one bus cycle: the answer, and the array
+unfoldable pub cycled : DeviceNumbers → StateNumbers → BusNumbers → List ℕ → List ℕ → AnswerNumbers
+cycled d s c xs rs = answerOut s (answerOf (deviceIn d) (stateIn s) (cycleIn c) xs rs)
+
+unfoldable pub arrayCycled : DeviceNumbers → StateNumbers → BusNumbers → List ℕ → List ℕ → List ℕ
+arrayCycled d s c xs rs = arrayAfter (deviceIn d) (stateIn s) (cycleIn c) xs rs
+
+-- a loader's start
+unfoldable pub started : ℕ → ℕ → ℕ → ℕ → List ℕ → List ℕ → GivenNumbers
+started part rp vpp k w sc =
+    record {
+      turn = turnOut (startOf (record { number = part }) (pinsIn rp vpp) k w sc .turn);
+      loader = loaderOut (startOf (record { number = part }) (pinsIn rp vpp) k w sc .loader);
+    }
+
+-- a loader's step: what it says and the record, and scratch
+unfoldable pub steppedOf : LoaderNumbers → ℕ → List ℕ → List ℕ → GivenNumbers
+steppedOf l b w sc =
+    record { turn = turnOut (stepOf (loaderIn l) b w sc .turn); loader = loaderBack l (stepOf (loaderIn l) b w sc .loader) }
+
+unfoldable pub scratchStepped : LoaderNumbers → ℕ → List ℕ → List ℕ → List ℕ
+scratchStepped l b w sc = scratchAfter (loaderIn l) b w sc
+
+-- a run: what it returns, the array, and scratch
+unfoldable pub runOf : DeviceNumbers → StateNumbers → ℕ → ℕ → ℕ → List ℕ → List ℕ → List ℕ → RanNumbers
+runOf d s rp vpp k xs w sc = ranOut s (ranOf (deviceIn d) (stateIn s) (pinsIn rp vpp) k xs w sc)
+
+unfoldable pub arrayRun : DeviceNumbers → StateNumbers → ℕ → ℕ → ℕ → List ℕ → List ℕ → List ℕ → List ℕ
+arrayRun d s rp vpp k xs w sc = bytesOf (deviceIn d) (stateIn s) (pinsIn rp vpp) k xs w sc
+
+unfoldable pub scratchRun : DeviceNumbers → StateNumbers → ℕ → ℕ → ℕ → List ℕ → List ℕ → List ℕ → List ℕ
+scratchRun d s rp vpp k xs w sc = scratchOf (deviceIn d) (stateIn s) (pinsIn rp vpp) k xs w sc
+
+-- a load from a file: what it returns, the array, wanted, and scratch
+unfoldable pub loadOf : DeviceNumbers → StateNumbers → ℕ → ℕ → ℕ → List ℕ → ℕ → List ℕ → List ℕ → List ℕ → RanNumbers
+loadOf d s rp vpp k f asked xs w sc = ranOut s (loadedOf (deviceIn d) (stateIn s) (pinsIn rp vpp) k xs w sc f asked)
+
+unfoldable pub arrayLoad : DeviceNumbers → StateNumbers → ℕ → ℕ → ℕ → List ℕ → ℕ → List ℕ → List ℕ → List ℕ → List ℕ
+arrayLoad d s rp vpp k f asked xs w sc = arrayLeft (deviceIn d) (stateIn s) (pinsIn rp vpp) k xs w sc f asked
+
+unfoldable pub wantedLoad : DeviceNumbers → StateNumbers → ℕ → ℕ → ℕ → List ℕ → ℕ → List ℕ → List ℕ → List ℕ → List ℕ
+wantedLoad d s rp vpp k f asked xs w sc = wantedLeft (deviceIn d) (stateIn s) (pinsIn rp vpp) k xs w sc f asked
+
+unfoldable pub scratchLoad : DeviceNumbers → StateNumbers → ℕ → ℕ → ℕ → List ℕ → ℕ → List ℕ → List ℕ → List ℕ → List ℕ
+scratchLoad d s rp vpp k f asked xs w sc = scratchLeft (deviceIn d) (stateIn s) (pinsIn rp vpp) k xs w sc f asked
+
+-- the writer and the reader: a number and a length, and the buffer that was lent
+unfoldable pub writtenOf : ℕ → List ℕ → List ℕ → SizedNumbers
+writtenOf letter p out = writtenOut (writtenAs (inRoom (length out) (writerOf limit letter p)))
+
+unfoldable pub fileLeft : ℕ → List ℕ → List ℕ → List ℕ
+fileLeft letter p out = leftIn out (inRoom (length out) (writerOf limit letter p))
+
+unfoldable pub readOf : List ℕ → ℕ → List ℕ → SizedNumbers
+readOf f asked out = readOut (readAs (inRoom (length out) (readerOf limit f asked)))
+
+unfoldable pub payloadLeft : List ℕ → ℕ → List ℕ → List ℕ
+payloadLeft f asked out = leftIn out (inRoom (length out) (readerOf limit f asked))

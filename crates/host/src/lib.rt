@@ -1,0 +1,198 @@
+// What a C program gets of the library: numbers, byte slices and structs of numbers at the border, the typed functions behind
+// it. include/torfbarke.h declares the same structs and functions.
+use device::Part;
+use twin::AnswerNumbers;
+use twin::BusNumbers;
+use twin::DeviceNumbers;
+use twin::GivenNumbers;
+use twin::LoaderNumbers;
+use twin::RanNumbers;
+use twin::SizedNumbers;
+use twin::StateNumbers;
+use twin::TurnNumbers;
+ghost use mathlib.Core.Path.{_≡_};
+ghost use lib.ListN.{take};
+ghost use Rattle.chip.specs.States.{freshState};
+ghost use Rattle.loadfile.specs.Check.{checkOf};
+ghost use Rattle.twin.specs.Twins.{stateOut};
+ghost use Rattle.host.specs.Calls.{
+  cycled,
+  arrayCycled,
+  started,
+  steppedOf,
+  scratchStepped,
+  runOf,
+  arrayRun,
+  scratchRun,
+  loadOf,
+  arrayLoad,
+  wantedLoad,
+  scratchLoad,
+  writtenOf,
+  fileLeft,
+  readOf,
+  payloadLeft,
+};
+
+// A fresh device.
+#[no_mangle]
+pub extern "C" fn tb_fresh() -> StateNumbers
+    ensures { λ r. ⌜ r ≡ stateOut freshState ⌝ }
+{
+    twin::states::state_out(model::fresh())
+}
+
+// One bus cycle.
+#[no_mangle]
+pub extern "C" fn tb_cycle(
+    device: DeviceNumbers,
+    state: StateNumbers,
+    bus: BusNumbers,
+    array: &mut [u8],
+    residue: &[u8],
+) -> AnswerNumbers
+    ensures { λ r. ⌜ r ≡ cycled device state bus (now (array .entry)) (now (residue .entry)) ⌝ }
+    ensures { λ _. ⌜ now (array .exit) ≡ arrayCycled device state bus (now (array .entry)) (now (residue .entry)) ⌝ }
+{
+    let d = twin::states::device_in(device);
+    let s = twin::states::state_in(state);
+    let c = twin::states::cycle_in(bus);
+    let a = model::cycle(d, s, c, array, residue);
+    twin::states::answer_out(state, a)
+}
+
+// The first cycle of a load.
+#[no_mangle]
+pub extern "C" fn tb_start(
+    part: u8,
+    rp: u8,
+    vpp: u32,
+    block: u8,
+    wanted: &[u8],
+    scratch: &[u8],
+) -> GivenNumbers
+    ensures { λ r. ⌜ r ≡ started part rp vpp block (now (wanted .entry)) (now (scratch .entry)) ⌝ }
+{
+    let known = Part { number: part };
+    let g = stepper::front::start(
+        known,
+        twin::states::pins_in(rp, vpp),
+        block,
+        wanted,
+        scratch,
+    );
+    let turn = g.turn;
+    let record = g.loader;
+    GivenNumbers {
+        turn: twin::records::turn_out(turn),
+        loader: twin::records::loader_out(record),
+    }
+}
+
+// A loader's step on numbers, by value.
+pub fn stepped(l: LoaderNumbers, byte: u8, wanted: &[u8], scratch: &mut [u8]) -> GivenNumbers
+    ensures { λ r. ⌜ (r ≡ steppedOf l byte (now (wanted .entry)) (now (scratch .entry)))
+        × (now (scratch .exit) ≡ scratchStepped l byte (now (wanted .entry)) (now (scratch .entry))) ⌝ }
+{
+    let g = stepper::front::step(twin::records::loader_in(l), byte, wanted, scratch);
+    let turn = g.turn;
+    let moved = g.loader;
+    GivenNumbers {
+        turn: twin::records::turn_out(turn),
+        loader: twin::records::loader_back(l, moved),
+    }
+}
+
+// The same where the host keeps the record: it is taken out, moved on by value, and stored back.
+#[no_mangle]
+pub extern "C" fn tb_step(
+    loader: &mut LoaderNumbers,
+    byte: u8,
+    wanted: &[u8],
+    scratch: &mut [u8],
+) -> TurnNumbers
+    ensures { λ r. ⌜ (now (loader .exit) ≡ steppedOf (now (loader .entry)) byte (now (wanted .entry)) (now (scratch .entry)) .loader)
+        × (r ≡ steppedOf (now (loader .entry)) byte (now (wanted .entry)) (now (scratch .entry)) .turn)
+        × (now (scratch .exit) ≡ scratchStepped (now (loader .entry)) byte (now (wanted .entry)) (now (scratch .entry))) ⌝ }
+{
+    let g = stepped(*loader, byte, wanted, scratch);
+    *loader = g.loader;
+    g.turn
+}
+
+// A load of one block, against the model.
+#[no_mangle]
+pub extern "C" fn tb_run(
+    device: DeviceNumbers,
+    state: StateNumbers,
+    rp: u8,
+    vpp: u32,
+    block: u8,
+    array: &mut [u8],
+    wanted: &[u8],
+    scratch: &mut [u8],
+) -> RanNumbers
+    ensures { λ r. ⌜ r ≡ runOf device state rp vpp block (now (array .entry)) (now (wanted .entry)) (now (scratch .entry)) ⌝ }
+    ensures { λ _. ⌜ now (array .exit) ≡ arrayRun device state rp vpp block (now (array .entry)) (now (wanted .entry)) (now (scratch .entry)) ⌝ }
+    ensures { λ _. ⌜ now (scratch .exit) ≡ scratchRun device state rp vpp block (now (array .entry)) (now (wanted .entry)) (now (scratch .entry)) ⌝ }
+{
+    let d = twin::states::device_in(device);
+    let s = twin::states::state_in(state);
+    let p = twin::states::pins_in(rp, vpp);
+    let r = run::run(d, s, p, block, array, wanted, scratch);
+    twin::states::ran_out(state, r)
+}
+
+// A load of one block from a file, against the model.
+#[no_mangle]
+pub extern "C" fn tb_load(
+    device: DeviceNumbers,
+    state: StateNumbers,
+    rp: u8,
+    vpp: u32,
+    block: u8,
+    file: &[u8],
+    letter: u8,
+    array: &mut [u8],
+    wanted: &mut [u8],
+    scratch: &mut [u8],
+) -> RanNumbers
+    ensures { λ r. ⌜ r ≡ loadOf device state rp vpp block (now (file .entry)) letter (now (array .entry)) (now (wanted .entry)) (now (scratch .entry)) ⌝ }
+    ensures { λ _. ⌜ now (array .exit) ≡ arrayLoad device state rp vpp block (now (file .entry)) letter (now (array .entry)) (now (wanted .entry)) (now (scratch .entry)) ⌝ }
+    ensures { λ _. ⌜ now (wanted .exit) ≡ wantedLoad device state rp vpp block (now (file .entry)) letter (now (array .entry)) (now (wanted .entry)) (now (scratch .entry)) ⌝ }
+    ensures { λ _. ⌜ now (scratch .exit) ≡ scratchLoad device state rp vpp block (now (file .entry)) letter (now (array .entry)) (now (wanted .entry)) (now (scratch .entry)) ⌝ }
+{
+    let d = twin::states::device_in(device);
+    let s = twin::states::state_in(state);
+    let p = twin::states::pins_in(rp, vpp);
+    let r = load::load(d, s, p, block, array, wanted, scratch, file, letter);
+    twin::states::ran_out(state, r)
+}
+
+// The writer of a load file.
+#[no_mangle]
+pub extern "C" fn tb_write(letter: u8, payload: &[u8], file: &mut [u8]) -> SizedNumbers
+    ensures { λ r. ⌜ r ≡ writtenOf letter (now (payload .entry)) (now (file .entry)) ⌝ }
+    ensures { λ _. ⌜ now (file .exit) ≡ fileLeft letter (now (payload .entry)) (now (file .entry)) ⌝ }
+{
+    let written = loadfile::write(letter, payload, file);
+    twin::sizes::written_out(written)
+}
+
+// The reader of a load file, for the letter asked.
+#[no_mangle]
+pub extern "C" fn tb_read(file: &[u8], letter: u8, payload: &mut [u8]) -> SizedNumbers
+    ensures { λ r. ⌜ r ≡ readOf (now (file .entry)) letter (now (payload .entry)) ⌝ }
+    ensures { λ _. ⌜ now (payload .exit) ≡ payloadLeft (now (file .entry)) letter (now (payload .entry)) ⌝ }
+{
+    let read = loadfile::read(file, letter, payload);
+    twin::sizes::read_out(read)
+}
+
+// The check over the first 510 bytes, or over all where there are fewer.
+#[no_mangle]
+pub extern "C" fn tb_check(block: &[u8]) -> u16
+    ensures { λ r. ⌜ r ≡ checkOf (take 510 (now (block .entry))) ⌝ }
+{
+    loadfile::check(block)
+}

@@ -1,0 +1,30 @@
+use borrow.Author.Needs.{needs}
+use native.Mathlib.Omega.{arith}
+use borrow.Author.Tests.{lt-ltb, le-ltb, le-leb, lt-leb, eq-eqb, ne-eqb}
+use mathlib.Core.Path.{refl, sym, _∙_}
+use Rattle.twin.proofs.records.loader_in.Statement.{statement}
+use Rattle.twin.proofs.records.loader_in.Tie as tie
+use Rattle.twin.proofs.records.loader_in.Reads as reads
+use Rattle.twin.proofs.records.loader_in.Lts as lts
+use Rattle.twin.proofs.states.pins_in.Reads as pins-in-reads
+use Rattle.twin.proofs.records.polls_in.Reads as polls-in-reads
+use Rattle.twin.proofs.records.stage_in.Reads as stage-in-reads
+
+-- src/records.rt:351:15
+pins-in-requires : tie.Need-pins-in-requires
+pins-in-requires c κs = search needs
+
+-- src/records.rt:353:16
+stage-in-requires : tie.Need-stage-in-requires
+stage-in-requires c κs = search needs
+
+-- src/records.rt:355:16
+polls-in-requires : tie.Need-polls-in-requires
+polls-in-requires c κs = search needs
+
+-- src/records.rt:346:1
+returns : tie.Need-returns
+returns c = simp (c .polls-in .ensures, c .before .stage-in .ensures, c .before .before .pins-in .ensures)
+
+pub loader-in-spec : {M : Type 1} → statement M
+loader-in-spec = tie.close (tie.spec pins-in-requires stage-in-requires polls-in-requires returns)

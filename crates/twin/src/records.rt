@@ -1,0 +1,158 @@
+// The loader's record, and what the loader says, as plain numbers.
+use crate::BusNumbers;
+use crate::LoaderNumbers;
+use crate::TurnNumbers;
+use crate::states::cycle_out;
+use crate::states::pins_in;
+use device::Part;
+use loader::Loader;
+use loader::Stage;
+use loader::Turn;
+ghost use mathlib.Core.Path.{_≡_};
+ghost use Rattle.twin.specs.Twins.{stageIn, stageOut, endOut, noRecord, pollsIn, loaderIn, loaderOut};
+ghost use Rattle.twin.specs.Answers.{loaderBack, noCycle, turnAt, turnOut};
+
+fn stage_in(n: u8, end: u8) -> Stage
+    ensures { λ r. ⌜ r ≡ stageIn n end ⌝ }
+{
+    match n {
+        0 => Stage::Clearing,
+        1 => Stage::Opening,
+        2 => Stage::Reading,
+        3 => Stage::EraseAsking,
+        4 => Stage::EraseConfirming,
+        5 => Stage::EraseWaiting,
+        6 => Stage::ProgramAsking,
+        7 => Stage::ProgramSending,
+        8 => Stage::ProgramWaiting,
+        9 => Stage::Closing,
+        10 => Stage::Verifying,
+        _ => Stage::Ended(end),
+    }
+}
+
+fn stage_out(stage: Stage) -> u8
+    ensures { λ r. ⌜ r ≡ stageOut stage ⌝ }
+{
+    match stage {
+        Stage::Clearing => 0,
+        Stage::Opening => 1,
+        Stage::Reading => 2,
+        Stage::EraseAsking => 3,
+        Stage::EraseConfirming => 4,
+        Stage::EraseWaiting => 5,
+        Stage::ProgramAsking => 6,
+        Stage::ProgramSending => 7,
+        Stage::ProgramWaiting => 8,
+        Stage::Closing => 9,
+        Stage::Verifying => 10,
+        Stage::Ended(_) => 11,
+    }
+}
+
+fn end_out(stage: Stage) -> u8
+    ensures { λ r. ⌜ r ≡ endOut stage ⌝ }
+{
+    match stage {
+        Stage::Clearing => 0,
+        Stage::Opening => 0,
+        Stage::Reading => 0,
+        Stage::EraseAsking => 0,
+        Stage::EraseConfirming => 0,
+        Stage::EraseWaiting => 0,
+        Stage::ProgramAsking => 0,
+        Stage::ProgramSending => 0,
+        Stage::ProgramWaiting => 0,
+        Stage::Closing => 0,
+        Stage::Verifying => 0,
+        Stage::Ended(n) => n,
+    }
+}
+
+fn no_record(n: LoaderNumbers) -> bool
+    ensures { λ r. ⌜ r ≡ noRecord n ⌝ }
+{
+    (11 < n.stage) | (!(n.end == 0) & !(n.stage == 11))
+}
+
+fn polls_in(n: LoaderNumbers) -> u32
+    ensures { λ r. ⌜ r ≡ pollsIn n ⌝ }
+{
+    if no_record(n) {
+        return 65535;
+    }
+    n.polls
+}
+
+pub fn loader_in(n: LoaderNumbers) -> Loader
+    ensures { λ r. ⌜ r ≡ loaderIn n ⌝ }
+{
+    Loader {
+        part: Part { number: n.part },
+        pins: pins_in(n.rp, n.vpp),
+        block: n.block,
+        stage: stage_in(n.stage, n.end),
+        place: n.place,
+        polls: polls_in(n),
+    }
+}
+
+pub fn loader_out(l: Loader) -> LoaderNumbers
+    ensures { λ r. ⌜ r ≡ loaderOut l ⌝ }
+{
+    let stage = l.stage;
+    LoaderNumbers {
+        part: l.part.number,
+        rp: l.pins.rp,
+        block: l.block,
+        stage: stage_out(stage),
+        end: end_out(stage),
+        vpp: l.pins.vpp,
+        polls: l.polls,
+        place: l.place,
+    }
+}
+
+// The record that goes back for one that came in.
+pub fn loader_back(n: LoaderNumbers, l: Loader) -> LoaderNumbers
+    ensures { λ r. ⌜ r ≡ loaderBack n l ⌝ }
+{
+    if no_record(n) {
+        return n;
+    }
+    loader_out(l)
+}
+
+fn no_cycle() -> BusNumbers
+    ensures { λ r. ⌜ r ≡ noCycle ⌝ }
+{
+    BusNumbers {
+        kind: 0,
+        rp: 0,
+        oe: 0,
+        byte: 0,
+        vpp: 0,
+        address: 0,
+    }
+}
+
+fn turn_at(turn: u8, number: u8, address: u32, cycle: BusNumbers) -> TurnNumbers
+    ensures { λ r. ⌜ r ≡ turnAt turn number address cycle ⌝ }
+{
+    TurnNumbers {
+        turn: turn,
+        number: number,
+        address: address,
+        cycle: cycle,
+    }
+}
+
+pub fn turn_out(turn: Turn) -> TurnNumbers
+    ensures { λ r. ⌜ r ≡ turnOut turn ⌝ }
+{
+    match turn {
+        Turn::Out(c) => turn_at(0, 0, 0, cycle_out(c)),
+        Turn::Over(n, a) => turn_at(1, n, a, no_cycle()),
+        Turn::Barred(n) => turn_at(2, n, 0, no_cycle()),
+    }
+}

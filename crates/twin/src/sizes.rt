@@ -1,0 +1,33 @@
+// What writer and reader answer, as plain numbers.
+use crate::SizedNumbers;
+use loadfile::ReadBack;
+use loadfile::Written;
+ghost use mathlib.Core.Path.{_≡_};
+ghost use Rattle.twin.specs.Answers.{sizedAs, writtenOut, readOut};
+
+fn sized_as(number: u8, size: usize) -> SizedNumbers
+    ensures { λ r. ⌜ r ≡ sizedAs number size ⌝ }
+{
+    SizedNumbers {
+        number: number,
+        length: size,
+    }
+}
+
+pub fn written_out(written: Written) -> SizedNumbers
+    ensures { λ r. ⌜ r ≡ writtenOut written ⌝ }
+{
+    match written {
+        Written::Wrote(size) => sized_as(0, size),
+        Written::NotWritten(n) => sized_as(n, 0),
+    }
+}
+
+pub fn read_out(read: ReadBack) -> SizedNumbers
+    ensures { λ r. ⌜ r ≡ readOut read ⌝ }
+{
+    match read {
+        ReadBack::Gave(size) => sized_as(0, size),
+        ReadBack::NotRead(n) => sized_as(n, 0),
+    }
+}
