@@ -102,6 +102,8 @@ static void scatter(void) {
         bus.byte = some_byte();
     if (chance(15))
         bus.vpp = ONE_OF(0, 6500);
+    if (chance(3))
+        bus = (tb_bus){(uint8_t)any32(), (uint8_t)any32(), (uint8_t)any32(), (uint8_t)any32(), any32(), any32()};
     lend(4);
     compare();
 }

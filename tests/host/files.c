@@ -122,6 +122,8 @@ static void made_up(void) {
         if (chance(98))
             check_at(at);
     }
+    if (chance(10))
+        twin_noise(&file, 0, file.length);
     if (chance(20))
         file.length = chance(50) ? below(4097) : ONE_OF(0, 511, 513, 4095, 4608);
     compare_read();

@@ -9,7 +9,12 @@
 int main(int argc, char **argv) {
     bool verbose = argc > 1 && strcmp(argv[1], "-v") == 0;
     int next = verbose ? 2 : 1;
-    uint64_t seed = argc > next ? strtoull(argv[next], NULL, 10) : 28001;
+    char *rest = "";
+    uint64_t seed = argc > next ? strtoull(argv[next], &rest, 10) : 28001;
+    if (argc > next + 1 || *rest != '\0') {
+        puts("usage: against [-v] [SEED], the seed a whole number");
+        return 2;
+    }
     setvbuf(stdout, NULL, _IOLBF, 0);
     seed_with(seed);
     cards();

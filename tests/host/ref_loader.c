@@ -10,10 +10,11 @@ enum {
 };
 enum { MOST_POLLS = 65535 };
 
+/* Every stage begins without polls. */
 static tb_loader at_stage(tb_loader l, uint8_t stage, size_t place) {
     l.stage = stage;
     l.place = place;
-    l.polls = 0;
+    l.polls = SLIP(4) ? l.polls : 0;
     return l;
 }
 
@@ -49,13 +50,8 @@ static tb_turn turn_of(tb_loader l, const uint8_t *wanted) {
 
 static tb_loader next_program(tb_loader l, size_t from, const uint8_t *wanted, const uint8_t *scratch, size_t n) {
     for (size_t i = from; i < n; i++)
-        if (scratch[i] != wanted[i]) {
-            uint32_t polls = l.polls;
-            l = at_stage(l, PROGRAM_ASK, i);
-            if (SLIP(4))
-                l.polls = polls;
-            return l;
-        }
+        if (scratch[i] != wanted[i])
+            return at_stage(l, PROGRAM_ASK, i);
     return at_stage(l, TO_VERIFY, 0);
 }
 
@@ -103,8 +99,8 @@ static tb_loader moved(tb_loader l, uint8_t byte, const uint8_t *wanted, uint8_t
         return l.place + 1 < n ? at_stage(l, READING, l.place + 1) : all_read(l, wanted, scratch, n);
     case ERASE_ASK: return at_stage(l, ERASE_CONFIRM, 0);
     case ERASE_CONFIRM: return at_stage(l, ERASE_WAIT, 0);
-    case PROGRAM_ASK: l.stage = PROGRAM_DATA; return l;
-    case PROGRAM_DATA: l.stage = PROGRAM_WAIT; l.polls = SLIP(4) ? l.polls : 0; return l;
+    case PROGRAM_ASK: return at_stage(l, PROGRAM_DATA, l.place);
+    case PROGRAM_DATA: return at_stage(l, PROGRAM_WAIT, l.place);
     case ERASE_WAIT:
     case PROGRAM_WAIT: return polled(l, byte, wanted, scratch, n);
     case TO_VERIFY: return at_stage(l, VERIFYING, 0);

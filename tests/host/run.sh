@@ -1,6 +1,6 @@
 #!/usr/bin/env bash
-# run.sh [SEED]: holds the library against a second implementation in C on random cases, then breaks that second implementation
-# in twelve ways, one at a time, and looks whether each is noticed. -v before the seed prints what was met, and how often.
+# run.sh [-v] [SEED]: holds the library against a second implementation in C on random cases, then breaks that second
+# implementation in twelve ways, one at a time, and looks whether each is noticed. -v prints what was met, and how often.
 set -eu
 here=$(cd "$(dirname "$0")" && pwd)
 . "$here/tools.sh"
@@ -12,7 +12,10 @@ build() { # build PROGRAM SLIP
 }
 
 build "$out/against" 0
-$RUN "$out/against" "$@" || fail "the library and the second implementation differ"
+status=0
+$RUN "$out/against" "$@" || status=$?
+[ "$status" != 1 ] || fail "the library and the second implementation differ"
+[ "$status" = 0 ] || fail "the tests did not run to their end"
 
 slips='1:a program stores its data without AND
 2:FFH after 40H goes back to read array
