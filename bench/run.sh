@@ -17,14 +17,15 @@ qemu-x86_64 -cpu qemu64 -plugin "$out/count.so" -d plugin -D "$out/marks" "$out/
     fail "the library and plain C differ: $(tail -n 1 "$out/rows")"
 
 awk '
-    $1 == "mark" { count[$2] = $3 }
-    $1 == "row" {
-        name = $0; sub(/^row [0-9]+ [0-9]+ /, "", name)
-        a = count[4 * $2 + 1] / $3; b = count[4 * $2 + 3] / $3
+    function line(name, a, b) {
         if (!rows++) printf "| %-46s | %10s | %10s | %5s |\n|---|---:|---:|---:|\n", "work", "library", "C", "ratio"
         printf "| %-46s | %10.0f | %10.0f | %5.2f |\n", name, a, b, a / b
         if (a / b > worst) worst = a / b
         if (a / b > 1.2) over++
     }
+    $1 == "mark" { count[$2] = $3; next }
+    { k = 4 * $2; name = $0; sub(/^[a-z]+ [0-9]+ [0-9]+ /, "", name) }
+    $1 == "row" { line(name, count[k + 1] / $3, count[k + 3] / $3) }
+    $1 == "more" { line(name, (count[k + 1] - count[k - 3]) / $3, (count[k + 3] - count[k - 1]) / $3) }
     END { printf "bench: %d rows, highest ratio %.2f, %d above 1.2\n", rows, worst, over }
 ' "$out/marks" "$out/rows"

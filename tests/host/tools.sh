@@ -1,7 +1,7 @@
 # Sourced by the scripts that link C with the library. The library's archive is for x86-64: on such a machine gcc builds and the
 # machine runs; on any other, Debian's cross compiler builds and its user-mode emulator runs.
 #   $CC ..        compiles for x86-64          $RUN PROGRAM ..  runs it
-#   archive       proves the library and leaves it in $lib; its header is in $inc
+#   archive       proves the library and leaves it in $lib, unless it is there; its header is in $inc
 #   emulator      makes sure of qemu-x86_64, also where $RUN does not need it
 #   fail WORDS    one line and the end
 root=$(cd "$(dirname "${BASH_SOURCE[0]}")/../.." && pwd)
@@ -31,6 +31,8 @@ emulator() { want 'command -v qemu-x86_64' qemu-user; }
 
 archive() {
     command -v rt >/dev/null || fail "the Rattle kit is missing: there is no command rt"
+    # nothing under crates/ is newer: the archive is the one of this code
+    [ -f "$lib" ] && [ -z "$(cd "$root" && find crates crates.txt -newer "$lib" -print -quit)" ] && return
     (cd "$root" && rt staticlib host) >"$out/staticlib.log" 2>&1 || fail "the library was not proved; target/c/staticlib.log says why"
 }
 
