@@ -4,5 +4,6 @@ set -eu
 here=$(cd "$(dirname "$0")" && pwd)
 . "$here/../tests/host/tools.sh"
 archive
-$CC -std=c11 -O2 -Wall -Wextra -Werror -static -I "$inc" "$here/table.c" "$lib" -o "$out/table" || fail "the example could not be built"
+$CC -std=c11 -O2 -Wall -Wextra -Werror -static -I "$inc" "$here/table.c" "$lib" -o "$out/table" ||
+    fail "the example could not be built"
 $RUN "$out/table"
