@@ -1,0 +1,195 @@
+/* Does each piece of work twice, by the library and by plain C, and marks where each begins and ends. For every row it prints
+ * its number, the calls, and its name; count.c says the instructions. A line `more` asks for a difference of two rows. */
+#include <stdio.h>
+#include <stdlib.h>
+#include <string.h>
+#include <unistd.h>
+
+#include "mark.h"
+#include "plain.h"
+
+typedef struct {
+    tb_answer (*cycle)(tb_device, tb_state, tb_bus, uint8_t *, size_t, const uint8_t *, size_t);
+    tb_ran (*run)(tb_device, tb_state, uint8_t, uint32_t, uint8_t, uint8_t *, size_t, const uint8_t *, size_t, uint8_t *, size_t);
+    tb_ran (*load)(tb_device, tb_state, uint8_t, uint32_t, uint8_t, const uint8_t *, size_t, uint8_t, uint8_t *, size_t,
+                   uint8_t *, size_t, uint8_t *, size_t);
+    tb_sized (*write)(uint8_t, const uint8_t *, size_t, uint8_t *, size_t);
+    tb_sized (*read)(const uint8_t *, size_t, uint8_t, uint8_t *, size_t);
+    uint16_t (*check)(const uint8_t *, size_t);
+} maker;
+
+static const maker proved = {tb_cycle, tb_run, tb_load, tb_write, tb_read, tb_check};
+static const maker plain = {c_cycle, c_run, c_load, c_write, c_read, c_check};
+
+/* What the work is done on; `ready` of a row sets it, and all of it is compared after the row. It stands at the start of a page,
+ * since the C library's copies go different ways for different addresses. */
+static _Alignas(4096) struct {
+    uint8_t array[131072], residue[8192], wanted[8192], scratch[8192], file[4096], payload[4040], back[4040];
+    tb_device device;
+    tb_state state;
+    tb_ran ran;
+    tb_sized sized;
+    uint32_t sum;
+} at;
+
+enum { TURNS = 100 };
+static size_t size; /* of the row at hand */
+
+/* Bytes that look like a table. */
+static uint8_t speck(size_t i) { return (uint8_t)(i * 37 + i / 256 * 11 + 5); }
+
+static void specks(uint8_t *to, size_t n) {
+    for (size_t i = 0; i < n; i++)
+        to[i] = speck(i);
+}
+
+/* A mix of cycles on bench T: identifier, array reads, four programs, an erase with a suspend, and some that are refused. */
+#define R(a) {0, 1, 0, 0, 12000, a}
+#define W(a, b) {1, 1, 0, b, 12000, a}
+#define PROGRAM(a, b) W(a, 0x40), W(a, b), R(a), R(a)
+static const tb_bus mix[] = {
+    W(0, 0x90), R(0), R(1), R(2), W(0, 0xFF), R(0x10), R(0x11), R(0x12), R(0x13), R(0x14), R(0x15), R(0x16), R(0x17),
+    PROGRAM(0x3A00, 0x5A), PROGRAM(0x3A01, 0xFF), PROGRAM(0x3A02, 0x00), PROGRAM(0x1234, 0xC3), W(0, 0xFF), R(0x3A00),
+    R(0x3A01), R(0x3A02), R(0x1234), W(0x3A00, 0x20), W(0x3A00, 0xD0), R(0x3A00), W(0x3A00, 0xB0), R(0x3A00), W(0, 0xFF), R(0x20),
+    R(0x21), R(0x22), R(0x23), R(0x3A01), W(0, 0xD0), R(0x3A00), R(0x3A00), R(0x3A00), W(0, 0x70), R(0), W(0, 0x00), R(0x4000),
+    {2, 1, 0, 0, 0, 0}, {2, 1, 0, 0, 12000, 0}, W(0x3C00, 0x40), W(0x3C00, 0x12), R(0x3C00), W(0, 0x50), W(0, 0xFF),
+    R(0x3A00), {0, 1, 0, 0, 9000, 0}, {0, 0, 0, 0, 12000, 0},
+};
+enum { MIXED = sizeof mix / sizeof mix[0] };
+
+static void part(uint8_t number, uint16_t p, uint16_t e) {
+    at.device = (tb_device){number, p, e};
+    at.state = (tb_state){0, 0x80, 0, 0, 0, 0};
+    specks(at.array, sizeof at.array);
+}
+
+static void ready_mix(void) { part(3, 2, 3); }
+static void work_mix(const maker *m) {
+    for (int t = 0; t < TURNS; t++)
+        for (int i = 0; i < MIXED; i++)
+            at.state = m->cycle(at.device, at.state, mix[i], at.array, 16384, at.residue, 8192).state;
+}
+
+static void work_reads(const maker *m) {
+    for (uint32_t i = 0; i < TURNS; i++)
+        at.sum += m->cycle(at.device, at.state, (tb_bus)R(i), at.array, 16384, NULL, 0).value;
+}
+
+/* An erase with one cycle to go, in the block of `size` bytes: it ends, or RP# falls. */
+static void ready_erase(void) {
+    part(1, 1, 1);
+    at.state = (tb_state){1, 0x00, 4, 0, 1, size == 4096 ? 0x1D000 : 0x1E000};
+    specks(at.residue, sizeof at.residue);
+}
+static void work_end(const maker *m) {
+    for (int t = 0; t < TURNS; t++)
+        at.sum += m->cycle(at.device, at.state, (tb_bus)R(0), at.array, 131072, NULL, 0).value;
+}
+static void work_cut(const maker *m) {
+    for (int t = 0; t < TURNS; t++)
+        at.sum += m->cycle(at.device, at.state, (tb_bus){2, 0, 0, 0, 12000, 0}, at.array, 131072, at.residue, 8192).state.status;
+}
+
+/* A load of block 1 or 0 of bench T: 512 or 1,024 bytes. */
+static uint32_t first_of(void) { return size == 512 ? 0x3A00 : 0x3C00; }
+static void ready_full(void) {
+    part(3, 2, 3);
+    memset(at.array + first_of(), 0, size);
+    for (size_t i = 0; i < size; i++)
+        at.wanted[i] = speck(i) & 0x7F;
+}
+static void ready_same(void) {
+    ready_full();
+    memcpy(at.array + first_of(), at.wanted, size);
+}
+static void work_run(const maker *m) {
+    at.ran = m->run(at.device, at.state, 2, 12000, size == 512 ? 1 : 0, at.array, 16384, at.wanted, size, at.scratch, size);
+}
+
+/* A file whose payload has `size` bytes. */
+static void ready_file(void) {
+    specks(at.payload, sizeof at.payload);
+    memset(at.file, 0, sizeof at.file);
+    at.sized = c_write('K', at.payload, size, at.file, sizeof at.file);
+}
+static void ready_load(void) {
+    size = 512;
+    ready_full();
+    size = 505;
+    ready_file();
+}
+static void work_load(const maker *m) {
+    at.ran = m->load(at.device, at.state, 1, 12000, 1, at.file, 512, 'K', at.array, 16384, at.wanted, 512, at.scratch, 512);
+}
+static void work_write(const maker *m) {
+    for (int t = 0; t < TURNS; t++)
+        at.sized = m->write('K', at.payload, size, at.file, sizeof at.file);
+}
+static void work_read(const maker *m) {
+    for (int t = 0; t < TURNS; t++)
+        at.sum += (uint32_t)m->read(at.file, at.sized.length, 'K', at.back, sizeof at.back).length;
+}
+static void work_check(const maker *m) {
+    for (int t = 0; t < TURNS; t++)
+        at.sum += m->check(at.file, 510);
+}
+
+static const struct {
+    const char *name;
+    size_t size;
+    unsigned calls;
+    void (*ready)(void), (*work)(const maker *);
+    const char *more;
+} rows[] = {
+    {"model: a mix of cycles, per cycle", 0, TURNS * MIXED, ready_mix, work_mix, NULL},
+    {"model: an array read", 0, TURNS, ready_mix, work_reads, NULL},
+    {"model: an erase's end, 4,096 bytes", 4096, TURNS, ready_erase, work_end, NULL},
+    {"model: an erase's end, 8,192 bytes", 8192, TURNS, ready_erase, work_end, "the fill alone, 4,096 bytes"},
+    {"model: an erase cut, 4,096 bytes copied", 4096, TURNS, ready_erase, work_cut, NULL},
+    {"model: an erase cut, 8,192 bytes copied", 8192, TURNS, ready_erase, work_cut, "the copy alone, 4,096 bytes"},
+    {"run: 512 bytes, one erase, all programmed", 512, 1, ready_full, work_run, NULL},
+    {"run: 1,024 bytes, one erase, all programmed", 1024, 1, ready_full, work_run, NULL},
+    {"run: 512 bytes held as wanted", 512, 1, ready_same, work_run, NULL},
+    {"run: 1,024 bytes held as wanted", 1024, 1, ready_same, work_run, NULL},
+    {"load from a file of one block", 505, 1, ready_load, work_load, NULL},
+    {"writer: one block", 505, TURNS, ready_file, work_write, NULL},
+    {"writer: eight blocks", 4040, TURNS, ready_file, work_write, NULL},
+    {"reader: one block", 505, TURNS, ready_file, work_read, NULL},
+    {"reader: eight blocks", 4040, TURNS, ready_file, work_read, NULL},
+    {"check of 510 bytes", 505, TURNS, ready_file, work_check, NULL},
+};
+
+/* A number over everything that the work left. */
+static uint64_t left(void) {
+    const tb_ran *r = &at.ran;
+    uint64_t h = r->count + r->end * 7u + r->address * 3u + at.sized.length + at.sized.number + at.sum + at.state.status +
+                 at.state.left * 5u + r->state.status + r->state.mode;
+    const uint8_t *all = at.array;
+    for (size_t i = 0; i < offsetof(__typeof__(at), device); i++)
+        h = h * 31 + all[i];
+    return h;
+}
+
+static uint64_t part_of_row(unsigned k, int which) {
+    memset(&at, 0, sizeof at);
+    size = rows[k].size;
+    rows[k].ready();
+    syscall(MARK, 4 * k + 2 * (unsigned)which);
+    rows[k].work(which == 0 ? &proved : &plain);
+    syscall(MARK, 4 * k + 2 * (unsigned)which + 1);
+    return left();
+}
+
+int main(void) {
+    for (unsigned k = 0; k < sizeof rows / sizeof rows[0]; k++) {
+        uint64_t a = part_of_row(k, 0), b = part_of_row(k, 1);
+        if (a != b) {
+            printf("the two differ in: %s\n", rows[k].name);
+            return 1;
+        }
+        printf("row %u %u %s\n", k, rows[k].calls, rows[k].name);
+        if (rows[k].more != NULL) /* what this row cost above the one before it */
+            printf("more %u %u %s\n", k, rows[k].calls, rows[k].more);
+    }
+    return 0;
+}

@@ -1,0 +1,195 @@
+/* Random numbers, buffers kept twice, and the parts that random cases are made of. */
+#include <stdio.h>
+#include <stdlib.h>
+#include <string.h>
+
+#include "cases.h"
+
+static uint64_t word = 1;
+
+void seed_with(uint64_t seed) {
+    word = seed * 2 + 1;
+    for (int i = 0; i < 16; i++)
+        any32();
+}
+
+uint32_t any32(void) {
+    word ^= word << 13;
+    word ^= word >> 7;
+    word ^= word << 17;
+    return (uint32_t)(word >> 24);
+}
+
+uint32_t below(uint32_t n) { return any32() % n; }
+bool chance(uint32_t percent) { return below(100) < percent; }
+uint32_t one_of(const uint32_t *from, size_t n) { return from[below((uint32_t)n)]; }
+
+enum { GUARD = 64 };
+
+static uint8_t *guarded(size_t room) {
+    uint8_t *p = malloc(room + 2 * GUARD);
+    if (p == NULL) {
+        puts("no memory");
+        exit(2);
+    }
+    memset(p, 0xA5, room + 2 * GUARD);
+    return p + GUARD;
+}
+
+void twin_new(twin *t, const char *name, size_t room) {
+    if (t->lib != NULL)
+        return;
+    *t = (twin){name, guarded(room), guarded(room), room, room};
+    twin_noise(t, 0, room);
+}
+
+void twin_set(twin *t, size_t at, uint8_t byte) { t->lib[at] = t->ref[at] = byte; }
+
+void twin_noise(twin *t, size_t from, size_t n) {
+    for (size_t i = from; i < from + n; i++)
+        twin_set(t, i, (uint8_t)any32());
+}
+
+void twin_fill(twin *t, size_t from, size_t n, uint8_t byte) {
+    memset(t->lib + from, byte, n);
+    memset(t->ref + from, byte, n);
+}
+
+void twin_copy(twin *t, size_t at, const uint8_t *bytes, size_t n) {
+    memcpy(t->lib + at, bytes, n);
+    memcpy(t->ref + at, bytes, n);
+}
+
+uint8_t *lib_of(twin *t) { return t->length == 0 && chance(50) ? NULL : t->lib; }
+uint8_t *ref_of(twin *t) { return t->length == 0 && chance(50) ? NULL : t->ref; }
+
+/* What is looked at: the bytes that are lent and a guard on each side. */
+static size_t seen_of(const twin *t) { return t->length + 2 * GUARD; }
+
+/* Where two copies differ; the whole length where they do not. */
+static size_t differs(const twin *t) {
+    size_t all = seen_of(t);
+    if (memcmp(t->lib - GUARD, t->ref - GUARD, all) == 0)
+        return all;
+    for (size_t i = 0; i < all; i++)
+        if (t->lib[i - GUARD] != t->ref[i - GUARD])
+            return i;
+    return all;
+}
+
+static void hold(const char *what, const char *kind, twin **twins, size_t n) {
+    for (size_t k = 0; k < n; k++) {
+        size_t at = differs(twins[k]);
+        if (at == seen_of(twins[k]))
+            continue;
+        printf("%s at %ld: the library has %02X, expected %02X (%s)\n", twins[k]->name, (long)at - GUARD,
+               twins[k]->lib[at - GUARD], twins[k]->ref[at - GUARD], kind);
+        mismatch(what);
+    }
+}
+
+void untouched(bool refused, const char *what, twin **twins, size_t n) {
+    if (refused)
+        hold(what, "changed by a refusal", twins, n);
+}
+
+void alike(bool answers, const char *what, twin **twins, size_t n) {
+    hold(what, "after the call", twins, n);
+    if (!answers)
+        mismatch(what);
+}
+
+/* Parts of cases. */
+
+uint8_t some_part(void) { return chance(97) ? (uint8_t)(1 + below(4)) : (uint8_t)ONE_OF(0, 5, 6, 255); }
+
+static uint16_t some_time(void) {
+    if (chance(90))
+        return (uint16_t)(1 + below(5));
+    return (uint16_t)ONE_OF(0, 1, 7, 300, 65534, 65535);
+}
+
+tb_device some_device(void) { return (tb_device){some_part(), some_time(), some_time()}; }
+
+uint32_t some_vpp(uint32_t rough) {
+    if (!chance(rough))
+        return ONE_OF(11400, 12000, 12000, 12600);
+    if (chance(70))
+        return ONE_OF(0, 3000, 6500);
+    return chance(80) ? ONE_OF(6501, 9000, 11399, 12601, 65536 + 12000, 4294967295u) : any32();
+}
+
+/* An address of interest: a block's edge, the array's, or any. */
+uint32_t some_address(uint8_t part) {
+    uint8_t p = ref_known(part) ? part : 3;
+    ref_block b = ref_block_of(p, (uint8_t)below(4));
+    switch (below(8)) {
+    case 0: return b.first;
+    case 1: return b.first + b.length - 1;
+    case 2: return b.first + b.length;
+    case 3: return b.first == 0 ? 0 : b.first - 1;
+    case 4: return ONE_OF(0, 1, 2, 3);
+    case 5: return chance(80) ? b.first + below(b.length) : ref_size(p) + below(3);
+    case 6: return chance(90) ? below(ref_size(p)) : any32();
+    }
+    return b.first + below(b.length);
+}
+
+static tb_state proper_state(tb_device d) {
+    uint8_t part = ref_known(d.number) ? d.number : 3;
+    tb_state s = {.phase = (uint8_t)below(6), .mode = STATUS, .status = (uint8_t)(below(8) << 3)};
+    if (s.phase == FREE)
+        s.mode = (uint8_t)below(3);
+    if (s.phase == SUSPENDED)
+        s.mode = (uint8_t)below(2);
+    if (s.phase < PROGRAMMING || s.phase == SUSPENDED)
+        s.status |= SR7;
+    if (s.phase == SUSPENDED)
+        s.status |= SR6;
+    if (s.phase < PROGRAMMING)
+        return s;
+    uint16_t most = s.phase == PROGRAMMING ? d.program : d.erase;
+    s.left = (uint16_t)(most == 0 ? 1 : chance(50) ? 1 + below(most) : ONE_OF(1, most));
+    s.address = some_address(part) % ref_size(part);
+    s.byte = s.phase == PROGRAMMING ? (uint8_t)any32() : 0;
+    return s;
+}
+
+/* A proper state, or one with a field spoilt, or any numbers. */
+tb_state some_state(tb_device d) {
+    tb_state s = proper_state(d);
+    if (chance(75))
+        return s;
+    switch (below(9)) {
+    case 0: s.mode = (uint8_t)(chance(70) ? below(4) : any32()); break;
+    case 1: s.status ^= (uint8_t)(1u << below(8)); break;
+    case 2: s.phase = (uint8_t)(chance(70) ? below(7) : any32()); break;
+    case 3: s.byte = (uint8_t)any32(); break;
+    case 4: s.left = (uint16_t)ONE_OF(0, 1, d.program, d.erase, (d.program + 1) & 0xFFFF, (d.erase + 1) & 0xFFFF, 65535); break;
+    case 5: s.address = some_address(d.number); break;
+    case 6: s.left = 0; break;
+    case 7: s.status = (uint8_t)any32(); break;
+    default:
+        s = (tb_state){(uint8_t)any32(), (uint8_t)any32(), (uint8_t)any32(), (uint8_t)any32(), (uint16_t)any32(), any32()};
+    }
+    return s;
+}
+
+/* Telling. */
+
+bool same_state(tb_state a, tb_state b) {
+    return a.mode == b.mode && a.status == b.status && a.phase == b.phase && a.byte == b.byte && a.left == b.left &&
+           a.address == b.address;
+}
+
+void tell_device(tb_device d) { printf("  device %u, P %u, E %u\n", d.number, d.program, d.erase); }
+
+void tell_state(const char *name, tb_state s) {
+    printf("  %s: mode %u, status %02X, phase %u, byte %02X, left %u, address %lX\n", name, s.mode, s.status, s.phase, s.byte,
+           s.left, (unsigned long)s.address);
+}
+
+void tell_bus(tb_bus c) {
+    printf("  cycle: kind %u, RP# %u, OE# %u, VPP %lu, address %lX, byte %02X\n", c.kind, c.rp, c.oe, (unsigned long)c.vpp,
+           (unsigned long)c.address, c.byte);
+}

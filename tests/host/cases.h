@@ -1,0 +1,63 @@
+/* What the random cases share: numbers from a seed, buffers kept twice, and the account of what was met. */
+#ifndef CASES_H
+#define CASES_H
+
+#include "ref.h"
+
+/* Random numbers. */
+void seed_with(uint64_t seed);
+uint32_t any32(void);
+uint32_t below(uint32_t n);               /* 0 to n-1 */
+bool chance(uint32_t percent);
+uint32_t one_of(const uint32_t *, size_t); /* an element */
+#define ONE_OF(...) one_of((const uint32_t[]){__VA_ARGS__}, sizeof((const uint32_t[]){__VA_ARGS__}) / sizeof(uint32_t))
+
+/* A buffer kept twice: `lib` is lent to the library, `ref` to the second implementation. Guard bytes stand on both sides. */
+typedef struct {
+    const char *name;
+    uint8_t *lib, *ref;
+    size_t room, length; /* what it can hold, and what is lent of it */
+} twin;
+void twin_new(twin *, const char *name, size_t room);           /* once; later calls do nothing */
+void twin_noise(twin *, size_t from, size_t n);                 /* random bytes, the same in both */
+void twin_fill(twin *, size_t from, size_t n, uint8_t byte);
+void twin_set(twin *, size_t at, uint8_t byte);
+void twin_copy(twin *, size_t at, const uint8_t *bytes, size_t n);
+uint8_t *lib_of(twin *); /* what is handed over: sometimes null where the length is 0 */
+uint8_t *ref_of(twin *);
+
+/* The account. A call is compared by its answer and by every byte that it was lent. */
+enum { IN_CYCLE, IN_START, IN_STEP, IN_RUN, IN_LOAD, IN_WRITE, IN_READ, GROUPS };
+void met(int group, uint8_t number);
+void met_phase(uint8_t phase);
+void met_stage(uint8_t stage);
+void count_cycle(void);
+void count_load(void);
+void count_file(void);
+void count_step(void);
+void untouched(bool refused, const char *what, twin **, size_t); /* between the two calls: a refusal changed nothing */
+void alike(bool answers, const char *what, twin **, size_t);     /* after both calls */
+_Noreturn void mismatch(const char *what);
+extern void (*tell_case)(void); /* prints the case at hand */
+int closing(uint64_t seed, bool verbose);
+
+/* Cases. */
+tb_device some_device(void);
+uint8_t some_part(void);
+uint32_t some_vpp(uint32_t rough);
+uint32_t some_address(uint8_t part);
+tb_state some_state(tb_device);
+void cards(void);
+void cycles(uint32_t walks, uint32_t scattered);
+void loads(uint32_t n);
+void files(uint32_t n);
+void steps(uint32_t fed, uint32_t forged);
+void endless(void); /* polls that never get ready */
+
+/* For telling. */
+void tell_device(tb_device);
+void tell_state(const char *, tb_state);
+void tell_bus(tb_bus);
+bool same_state(tb_state, tb_state);
+
+#endif

@@ -1,0 +1,164 @@
+/* Random loads of a block: from wanted bytes, and from a file. */
+#include <stdio.h>
+#include <string.h>
+
+#include "cases.h"
+
+static twin array, wanted, scratch, file;
+static tb_device device;
+static tb_state state;
+static uint8_t rp, block, letter;
+static uint32_t vpp;
+static tb_ran lib, ref;
+static bool from_file;
+
+static void tell_ran(const char *who, tb_ran r) {
+    printf("  %s: count %llu, end %u, address %lX\n", who, (unsigned long long)r.count, r.end, (unsigned long)r.address);
+    tell_state("after", r.state);
+}
+
+static void tell(void) {
+    tell_device(device);
+    tell_state("before", state);
+    printf("  RP# %u, VPP %lu, block %u, array %zu, wanted %zu, scratch %zu bytes\n", rp, (unsigned long)vpp, block,
+           array.length, wanted.length, scratch.length);
+    if (from_file)
+        printf("  file of %zu bytes, letter asked %02X\n", file.length, letter);
+    tell_ran("the library", lib);
+    tell_ran("expected", ref);
+}
+
+static bool same_ran(void) {
+    return lib.count == ref.count && lib.end == ref.end && lib.address == ref.address && same_state(lib.state, ref.state);
+}
+
+static void compare_run(void) {
+    twin *lent[] = {&array, &wanted, &scratch};
+    lib = tb_run(device, state, rp, vpp, block, lib_of(&array), array.length, lib_of(&wanted), wanted.length, lib_of(&scratch),
+                 scratch.length);
+    untouched(lib.count == 0, "run", lent, 3);
+    ref = ref_run(device, state, rp, vpp, block, ref_of(&array), array.length, ref_of(&wanted), wanted.length,
+                  ref_of(&scratch), scratch.length);
+    alike(same_ran(), "run", lent, 3);
+    met(IN_RUN, ref.end);
+}
+
+static void compare_load(void) {
+    twin *lent[] = {&array, &wanted, &scratch, &file};
+    lib = tb_load(device, state, rp, vpp, block, lib_of(&file), file.length, letter, lib_of(&array), array.length,
+                  lib_of(&wanted), wanted.length, lib_of(&scratch), scratch.length);
+    untouched(lib.count == 0, "load", lent, 4);
+    ref = ref_load(device, state, rp, vpp, block, ref_of(&file), file.length, letter, ref_of(&array), array.length,
+                   ref_of(&wanted), wanted.length, ref_of(&scratch), scratch.length);
+    alike(same_ran(), "load", lent, 4);
+    met(IN_LOAD, ref.end);
+}
+
+/* The block's bytes: noise, all ones, all zero or as they are. */
+static void fill_block(ref_block b) {
+    switch (below(5)) {
+    case 0: twin_noise(&array, b.first, b.length); break;
+    case 1: twin_fill(&array, b.first, b.length, 0xFF); break;
+    case 2: twin_fill(&array, b.first, b.length, 0x00); break;
+    }
+}
+
+/* Wanted: what is held, with some bytes changed (bits only cleared, or any), or ones with some bytes, or noise. */
+static void fill_wanted(ref_block b) {
+    uint32_t changes = below(40);
+    uint32_t how = below(4);
+    if (how < 2)
+        twin_copy(&wanted, 0, array.ref + b.first, b.length);
+    else if (how == 2 || b.length > 4096)
+        twin_fill(&wanted, 0, b.length, 0xFF);
+    else
+        twin_noise(&wanted, 0, b.length);
+    for (uint32_t i = 0; i < changes; i++) {
+        uint32_t at = chance(80) ? below(b.length) : ONE_OF(0, b.length - 1);
+        twin_set(&wanted, at, how == 0 ? wanted.ref[at] & (uint8_t)any32() : (uint8_t)any32());
+    }
+}
+
+/* Puts the right check into each block of the file. */
+static void check_again(void) {
+    for (size_t at = 0; at + 512 <= file.length; at += 512) {
+        uint16_t sum = ref_check(file.ref + at, 510);
+        twin_set(&file, at + 510, (uint8_t)(sum / 256));
+        twin_set(&file, at + 511, (uint8_t)(sum % 256));
+    }
+}
+
+static void some_file(ref_block b) {
+    static uint8_t payload[4040], bytes[4096];
+    uint32_t room = b.length < 4096 ? b.length / 512 * 505 : 4040;
+    uint32_t n = chance(5) ? 4040 : chance(40) ? ONE_OF(1, 504, 505, room - 1, room) : 1 + below(room);
+    letter = (uint8_t)"BEJKNRST"[below(8)];
+    for (uint32_t i = 0; i < n; i++)
+        payload[i] = (uint8_t)any32();
+    tb_sized made = ref_write(letter, payload, n, bytes, sizeof bytes);
+    file.length = made.length;
+    twin_copy(&file, 0, bytes, made.length);
+    if (chance(6))
+        letter = (uint8_t)any32();
+    if (chance(80))
+        return;
+    for (uint32_t i = 1 + below(2); i > 0; i--)
+        twin_set(&file, chance(70) ? below((uint32_t)made.length / 512) * 512 + below(5) : below((uint32_t)made.length),
+                 (uint8_t)any32());
+    if (chance(75))
+        check_again();
+    if (chance(10))
+        file.length = ONE_OF(0, 1, 511, 513, 512);
+}
+
+/* One of the things that a run is handed is bad. */
+static void spoil(void) {
+    switch (below(7)) {
+    case 0: device.number = (uint8_t)ONE_OF(0, 5, 255); break;
+    case 1: device.program = 0; break;
+    case 2: array.length = ONE_OF(0, array.length - 1, array.length + 1); break;
+    case 3: block = (uint8_t)ONE_OF(4, 5, 255); break;
+    case 4: wanted.length = ONE_OF(0, wanted.length - 1, wanted.length + 1); break;
+    case 5: scratch.length = ONE_OF(0, scratch.length - 1, scratch.length + 1); break;
+    default: state = some_state(device);
+    }
+}
+
+static void load(void) {
+    device = (tb_device){(uint8_t)(chance(85) ? 3 + below(2) : 1 + below(2)), (uint16_t)(1 + below(4)), (uint16_t)(1 + below(4))};
+    if (chance(3))
+        device.erase = (uint16_t)ONE_OF(300, 65534, 65535);
+    block = (uint8_t)(chance(4) ? 3 : ONE_OF(0, 1, 2));
+    rp = (uint8_t)(chance(5) ? ONE_OF(0, 3, 255) : block == 0 ? ONE_OF(1, 2, 2) : ONE_OF(1, 2));
+    vpp = some_vpp(8);
+    state = tb_fresh();
+    if (chance(30))
+        state = (tb_state){.mode = (uint8_t)below(3), .status = (uint8_t)(0x80 | below(8) << 3)};
+    if (chance(8))
+        state = some_state(device);
+    ref_block b = ref_block_of(device.number, block);
+    array.length = ref_size(device.number);
+    wanted.length = scratch.length = b.length;
+    fill_block(b);
+    fill_wanted(b);
+    twin_noise(&scratch, 0, 64);
+    some_file(b);
+    if (chance(20))
+        spoil();
+    from_file = chance(50);
+    if (from_file)
+        compare_load();
+    else
+        compare_run();
+    count_load();
+}
+
+void loads(uint32_t n) {
+    tell_case = tell;
+    twin_new(&array, "array", 131073);
+    twin_new(&wanted, "wanted", 131073);
+    twin_new(&scratch, "scratch", 131073);
+    twin_new(&file, "file", 4096);
+    for (uint32_t i = 0; i < n; i++)
+        load();
+}

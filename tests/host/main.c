@@ -1,0 +1,29 @@
+/* Holds the library against the second implementation.
+ *   against [-v] [SEED]     -v prints how often each number, phase and stage was met */
+#include <stdio.h>
+#include <stdlib.h>
+#include <string.h>
+
+#include "cases.h"
+
+int main(int argc, char **argv) {
+    bool verbose = argc > 1 && strcmp(argv[1], "-v") == 0;
+    int next = verbose ? 2 : 1;
+    char *rest = "";
+    uint64_t seed = argc > next ? strtoull(argv[next], &rest, 10) : 28001;
+    if (argc > next + 1 || *rest != '\0') {
+        puts("usage: against [-v] [SEED], the seed a whole number");
+        return 2;
+    }
+    setvbuf(stdout, NULL, _IOLBF, 0);
+    seed_with(seed);
+    cards();
+    for (int round = 0; round < 20; round++) {
+        files(1000);
+        cycles(125, 2000);
+        steps(20, 3000);
+        loads(100);
+    }
+    endless();
+    return closing(seed, verbose);
+}
