@@ -1,10 +1,12 @@
 // One bus cycle on values alone: judge, settle, respond. No slice comes near it.
+use chip::Action;
 use chip::Cycle;
 use chip::Decision;
 use chip::Effect;
 use chip::Kind;
 use chip::Mode;
 use chip::Phase;
+use chip::Pins;
 use chip::Reply;
 use chip::Settled;
 use chip::State;
@@ -13,7 +15,6 @@ use chip::levels::rp_low;
 use chip::levels::vpp_low;
 use chip::states::improper;
 use chip::states::is_array;
-use chip::states::is_identifier;
 use commands::action;
 use commands::is_refuse;
 use commands::perform;
@@ -22,28 +23,12 @@ use device::Part;
 use settling::residue_for;
 use settling::settle;
 ghost use mathlib.Core.Path.{_≡_};
-ghost use mathlib.Core.Bool.{not};
+ghost use mathlib.Core.Bool.{not, _||_};
+ghost use Rattle.chip.specs.Levels.{rpLow, vppLow};
 ghost use lib.Dec.{eqb};
 ghost use Rattle.device.specs.Parts.{sizeOf};
-ghost use Rattle.bus.specs.Cycles.{
-  isIdle,
-  isRead,
-  isWrite,
-  isSuspended,
-  pastArray,
-  shortResidue,
-  noCommand,
-  suspendedRead,
-  noIdentifier,
-  judgeOf,
-  lateOf,
-  refusedBy,
-  identifierOf,
-  readOf,
-  respondOf,
-  acceptOf,
-  decideOf,
-};
+ghost use Rattle.bus.specs.Cycles.{isIdle, isRead, isSuspended, pastArray, shortResidue, judgeOf, refusedBy, identifierOf, decideOf};
+ghost use Rattle.bus.specs.Arms.{givenBy, inSuspended, arrayArm, identifierArm, readArm, writeArm, arm, isFree, asksArray, passesFive, plainRead};
 
 fn is_idle(kind: Kind) -> bool
     ensures { λ r. ⌜ r ≡ isIdle kind ⌝ }
@@ -65,13 +50,16 @@ fn is_read(kind: Kind) -> bool
     }
 }
 
-fn is_write(kind: Kind) -> bool
-    ensures { λ r. ⌜ r ≡ isWrite kind ⌝ }
+fn is_free(ph: Phase) -> bool
+    ensures { λ r. ⌜ r ≡ isFree ph ⌝ }
 {
-    match kind {
-        Kind::Read => false,
-        Kind::Write => true,
-        Kind::Idle => false,
+    match ph {
+        Phase::Free => true,
+        Phase::EraseAwaited => false,
+        Phase::DataAwaited => false,
+        Phase::Programming(_) => false,
+        Phase::Erasing => false,
+        Phase::Suspended => false,
     }
 }
 
@@ -97,48 +85,23 @@ fn past_array(part: Part, c: Cycle) -> bool
     (device::size(part) <= c.address as usize) & !rp_low(p) & !is_idle(kind)
 }
 
+// A cycle with such levels cuts what is running or suspended.
+fn cuts(part: Part, p: Pins) -> bool
+    ensures { λ r. ⌜ r ≡ (rpLow p || vppLow part p) ⌝ }
+{
+    rp_low(p) | vpp_low(part, p)
+}
+
 // Refusal 6.
 fn short_residue(part: Part, s: State, c: Cycle, residue: usize) -> bool
     ensures { λ r. ⌜ r ≡ shortResidue part s c residue ⌝ }
 {
     let p = c.pins;
     let ph = s.phase;
-    (rp_low(p) | vpp_low(part, p)) & (residue < residue_for(ph, part, s.address))
-}
-
-// Refusal 7.
-fn no_command(t: State, c: Cycle) -> bool
-    ensures { λ r. ⌜ r ≡ noCommand t c ⌝ }
-{
-    let p = c.pins;
-    let kind = c.kind;
-    let ph = t.phase;
-    is_write(kind) & is_refuse(action(ph, c.byte)) & !rp_low(p)
-}
-
-// Refusal 8.
-fn suspended_read(part: Part, t: State, c: Cycle) -> bool
-    ensures { λ r. ⌜ r ≡ suspendedRead part t c ⌝ }
-{
-    let p = c.pins;
-    let kind = c.kind;
-    let ph = t.phase;
-    let m = t.mode;
-    is_read(kind)
-        & is_suspended(ph)
-        & is_array(m)
-        & (device::block_of(part, c.address) == device::block_of(part, t.address))
-        & !rp_low(p)
-}
-
-// Refusal 9.
-fn no_identifier(t: State, c: Cycle) -> bool
-    ensures { λ r. ⌜ r ≡ noIdentifier t c ⌝ }
-{
-    let p = c.pins;
-    let kind = c.kind;
-    let m = t.mode;
-    is_read(kind) & is_identifier(m) & (1 < c.address) & !rp_low(p)
+    if cuts(part, p) {
+        return residue < residue_for(ph, part, s.address);
+    }
+    false
 }
 
 fn wrong_length(part: Part, array: usize) -> bool
@@ -173,22 +136,6 @@ fn judge(d: Device, s: State, c: Cycle, array: usize, residue: usize) -> u8
     0
 }
 
-// Refusals 7 to 9, by the state that settling leaves, or 0.
-fn judge_late(part: Part, t: State, c: Cycle) -> u8
-    ensures { λ r. ⌜ r ≡ lateOf part t c ⌝ }
-{
-    if no_command(t, c) {
-        return 7;
-    }
-    if suspended_read(part, t, c) {
-        return 8;
-    }
-    if no_identifier(t, c) {
-        return 9;
-    }
-    0
-}
-
 fn refused(n: u8, s: State) -> Decision
     ensures { λ r. ⌜ r ≡ refusedBy n s ⌝ }
 {
@@ -208,81 +155,151 @@ fn identifier(part: Part, address: u32) -> u8
     device::code(part)
 }
 
-fn read(m: Mode, part: Part, address: u32, status: u8) -> Reply
-    ensures { λ r. ⌜ r ≡ readOf m part address status ⌝ }
+// The settled state and effect under a reply.
+fn given(reply: Reply, t: Settled) -> Decision
+    ensures { λ r. ⌜ r ≡ givenBy reply t ⌝ }
+{
+    let s = t.state;
+    let effect = t.effect;
+    Decision {
+        reply: reply,
+        state: s,
+        effect: effect,
+    }
+}
+
+// The address is in the suspended block.
+fn in_suspended(part: Part, s: State, address: u32) -> bool
+    ensures { λ r. ⌜ r ≡ inSuspended part s address ⌝ }
+{
+    let ph = s.phase;
+    if is_suspended(ph) {
+        return device::block_of(part, address) == device::block_of(part, s.address);
+    }
+    false
+}
+
+// An array read: 8, or the byte.
+fn read_array(part: Part, s: State, c: Cycle, t: Settled) -> Decision
+    ensures { λ r. ⌜ r ≡ arrayArm part s c t ⌝ }
+{
+    let after = t.state;
+    if in_suspended(part, after, c.address) {
+        return refused(8, s);
+    }
+    given(Reply::GivesArray(c.address), t)
+}
+
+// An identifier read: 9, or the code.
+fn read_identifier(part: Part, s: State, c: Cycle, t: Settled) -> Decision
+    ensures { λ r. ⌜ r ≡ identifierArm part s c t ⌝ }
+{
+    if 1 < c.address {
+        return refused(9, s);
+    }
+    given(Reply::Gives(identifier(part, c.address)), t)
+}
+
+fn read(m: Mode, part: Part, s: State, c: Cycle, t: Settled) -> Decision
+    ensures { λ r. ⌜ r ≡ readArm m part s c t ⌝ }
 {
     match m {
-        Mode::Array => Reply::GivesArray(address),
-        Mode::Status => Reply::Gives(status),
-        Mode::Identifier => Reply::Gives(identifier(part, address)),
+        Mode::Array => read_array(part, s, c, t),
+        Mode::Status => given(Reply::Gives(t.state.status), t),
+        Mode::Identifier => read_identifier(part, s, c, t),
     }
 }
 
-// Step 4: the read or write itself.
-fn respond(kind: Kind, d: Device, c: Cycle, t: Settled) -> Decision
-    ensures { λ r. ⌜ r ≡ respondOf kind d c t ⌝ }
+// A write: 7, or what comes of it.
+fn write(a: Action, d: Device, s: State, c: Cycle, t: Settled) -> Decision
+    ensures { λ r. ⌜ r ≡ writeArm a d s c t ⌝ }
 {
-    let s = t.state;
+    let after = t.state;
     let effect = t.effect;
+    if is_refuse(a) {
+        return refused(7, s);
+    }
+    Decision {
+        reply: Reply::Quiet,
+        state: perform(a, d, c, after),
+        effect: effect,
+    }
+}
+
+// Step 4: the read or write itself, or its refusal by the state that settling leaves.
+fn respond(kind: Kind, d: Device, s: State, c: Cycle, t: Settled) -> Decision
+    ensures { λ r. ⌜ r ≡ arm kind d s c t ⌝ }
+{
+    let after = t.state;
     match kind {
         Kind::Read => {
-            let m = s.mode;
+            let m = after.mode;
             let part = d.part;
-            Decision {
-                reply: read(m, part, c.address, s.status),
-                state: s,
-                effect: effect,
-            }
+            read(m, part, s, c, t)
         }
         Kind::Write => {
-            let ph = s.phase;
-            Decision {
-                reply: Reply::Quiet,
-                state: perform(action(ph, c.byte), d, c, s),
-                effect: effect,
-            }
+            let ph = after.phase;
+            write(action(ph, c.byte), d, s, c, t)
         }
-        Kind::Idle => Decision {
-            reply: Reply::Quiet,
-            state: s,
-            effect: effect,
-        },
+        Kind::Idle => given(Reply::Quiet, t),
     }
 }
 
-// With RP# low the cycle ends after step 1.
-fn accept(d: Device, c: Cycle, t: Settled) -> Decision
-    ensures { λ r. ⌜ r ≡ acceptOf d c t ⌝ }
-{
-    let p = c.pins;
-    let kind = c.kind;
-    let s = t.state;
-    let effect = t.effect;
-    if rp_low(p) {
-        return Decision {
-            reply: Reply::Quiet,
-            state: s,
-            effect: effect,
-        };
-    }
-    respond(kind, d, c, t)
-}
-
-// One bus cycle on a device whose array and residue have these lengths.
+// One bus cycle on a device whose array and residue have these lengths. With RP# low it ends after step 1.
 pub fn decide(d: Device, s: State, c: Cycle, array: usize, residue: usize) -> Decision
     ensures { λ r. ⌜ r ≡ decideOf d s c array residue ⌝ }
 {
     let part = d.part;
     let p = c.pins;
+    let kind = c.kind;
     let n = judge(d, s, c, array, residue);
     if n != 0 {
         return refused(n, s);
     }
     let t = settle(part, s, p);
-    let after = t.state;
-    let m = judge_late(part, after, c);
-    if m != 0 {
-        return refused(m, s);
+    if rp_low(p) {
+        return given(Reply::Quiet, t);
     }
-    accept(d, c, t)
+    respond(kind, d, s, c, t)
+}
+
+// An array read of a device at rest.
+fn asks_array(s: State, c: Cycle) -> bool
+    ensures { λ r. ⌜ r ≡ asksArray s c ⌝ }
+{
+    let ph = s.phase;
+    let m = s.mode;
+    let kind = c.kind;
+    let p = c.pins;
+    is_read(kind) & is_free(ph) & is_array(m) & !rp_low(p)
+}
+
+// None of refusals 1 to 5 applies to a read.
+fn passes_five(d: Device, s: State, c: Cycle, array: usize) -> bool
+    ensures { λ r. ⌜ r ≡ passesFive d s c array ⌝ }
+{
+    let part = d.part;
+    if device::unknown_device(d) {
+        return false;
+    }
+    if wrong_length(part, array) {
+        return false;
+    }
+    if improper(d, s) {
+        return false;
+    }
+    if bad_levels(part, c) {
+        return false;
+    }
+    (c.address as usize) < array
+}
+
+// An array read of a device at rest that nothing refuses: the commonest cycle, told from all others at small cost.
+pub fn plain_read(d: Device, s: State, c: Cycle, array: usize) -> bool
+    ensures { λ r. ⌜ r ≡ plainRead d s c array ⌝ }
+{
+    if asks_array(s, c) {
+        return passes_five(d, s, c, array);
+    }
+    false
 }

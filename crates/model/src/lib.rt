@@ -11,6 +11,7 @@ ghost use lib.ListN.{length, getD, set};
 ghost use lib.Bits.{bitAnd, bitOr};
 ghost use Rattle.chip.specs.States.{freshState, resetOf};
 ghost use Rattle.device.specs.Parts.{sizeOf, lengthOf};
+ghost use Rattle.model.specs.declared.Seen.the-variants.{Byte};
 ghost use Rattle.model.specs.Arrays.{Within, erased, residual, arrayOf, Shown, seenOf, answerOf, arrayAfter};
 
 // What the host sees of a cycle: no data, a byte, or a refusal by its number.
@@ -117,8 +118,8 @@ pub fn reset(s: State) -> State
     chip::states::reset(s)
 }
 
-// One bus cycle.
-pub fn cycle(d: Device, s: State, c: Cycle, array: &mut [u8], residue: &[u8]) -> Answer
+// Any bus cycle, by the decision on it.
+fn decided(d: Device, s: State, c: Cycle, array: &mut [u8], residue: &[u8]) -> Answer
     ensures { λ r. ⌜ r ≡ answerOf d s c (now (array .entry)) (now (residue .entry)) ⌝ }
     ensures { λ _. ⌜ now (array .exit) ≡ arrayAfter d s c (now (array .entry)) (now (residue .entry)) ⌝ }
 {
@@ -133,4 +134,27 @@ pub fn cycle(d: Device, s: State, c: Cycle, array: &mut [u8], residue: &[u8]) ->
         seen: seen,
         state: state,
     }
+}
+
+// A byte of the array, and the state as it was.
+fn show(s: State, address: u32, array: &[u8]) -> Answer
+    requires { ⌜ address < length (now array) ⌝ }
+    ensures { λ r. ⌜ r ≡ record { seen = Byte (getD (now (array .entry)) address 0); state = s } ⌝ }
+{
+    let at = index(address);
+    Answer {
+        seen: Seen::Byte(array[at]),
+        state: s,
+    }
+}
+
+// One bus cycle. A plain array read needs no decision.
+pub fn cycle(d: Device, s: State, c: Cycle, array: &mut [u8], residue: &[u8]) -> Answer
+    ensures { λ r. ⌜ r ≡ answerOf d s c (now (array .entry)) (now (residue .entry)) ⌝ }
+    ensures { λ _. ⌜ now (array .exit) ≡ arrayAfter d s c (now (array .entry)) (now (residue .entry)) ⌝ }
+{
+    if bus::plain_read(d, s, c, array.len()) {
+        return show(s, c.address, array);
+    }
+    decided(d, s, c, array, residue)
 }

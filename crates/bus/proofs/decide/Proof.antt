@@ -2,9 +2,11 @@ use borrow.Author.Needs.{needs}
 use mathlib.Core.Path.{sym, _∙_}
 use mathlib.Core.Path.{_≡_, ap}
 use Rattle.chip.specs.declared.Settled.{Settled}
-use Rattle.settling.specs.Settling.{settleOf}
-use Rattle.bus.specs.Cycles.{judgeOf, lateOf, acceptOf}
-use Rattle.bus.proofs.Ways.{number-early, number-late, refused, accepted}
+use Rattle.chip.specs.declared.Reply.the-variants.{Quiet}
+use Rattle.bus.specs.Cycles.{judgeOf}
+use Rattle.bus.specs.Arms.{givenBy, arm}
+use Rattle.bus.proofs.Ways.{number-early, refused}
+use Rattle.bus.proofs.Arms.{by-reset, by-arms}
 use Rattle.bus.proofs.decide.Statement.{statement}
 use Rattle.bus.proofs.decide.Tie as tie
 
@@ -23,32 +25,28 @@ returns c =
 settle-requires : tie.Need-settle-requires
 settle-requires c κs = search needs
 
-judge-late-requires : tie.Need-judge-late-requires
-judge-late-requires c κs = search needs
+rp-low-requires : tie.Need-rp-low-requires
+rp-low-requires c κs = search needs
 
-refused-requires-2 : tie.Need-refused-requires-2
-refused-requires-2 c κs = search needs
+given-requires : tie.Need-given-requires
+given-requires c κs = search needs
 
 returns-2 : tie.Need-returns-2
 returns-2 c =
-    let a = c .before .before .before .before .before .before .before .before .before .args in
-    let m = c .before .before .judge-late .result in
-    let e : lateOf (a .d .part) (settleOf (a .d .part) (a .s) (a .c .pins) .state) (a .c) ≡ m =
-    sym (c .before .before .judge-late .ensures ∙ ap (λ (t : Settled). lateOf (a .d .part) (t .state) (a .c)) (c .before .before .before .before .settle .ensures)) in
-    let z : judgeOf (a .d) (a .s) (a .c) (a .array) (a .residue) ≡ 0 = sym (c .before .before .before .before .before .before .judge .ensures) ∙ c .before .before .before .before .before .if1 .left in
-    c .refused2 .ensures ∙ sym (refused (a .d) (a .s) (a .c) (a .array) (a .residue) m (number-late (a .d) (a .s) (a .c) (a .array) (a .residue) m z e) (c .before .if2 .taken))
+    let a = c .before .before .before .before .before .before .before .before .args in
+    let z : judgeOf (a .d) (a .s) (a .c) (a .array) (a .residue) ≡ 0 = sym (c .before .before .before .before .before .judge .ensures) ∙ c .before .before .before .before .if1 .left in
+    c .given .ensures ∙ ap (λ (t : Settled). givenBy Quiet t) (c .before .before .before .settle .ensures)
+    ∙ sym (by-reset (a .d) (a .s) (a .c) (a .array) (a .residue) z (sym (c .before .before .rp-low .ensures) ∙ c .before .if2 .taken))
 
-accept-requires : tie.Need-accept-requires
-accept-requires c κs = search needs
+respond-requires : tie.Need-respond-requires
+respond-requires c κs = search needs
 
 returns-3 : tie.Need-returns-3
 returns-3 c =
-    let a = c .before .before .before .before .before .before .before .before .before .args in
-    let e : lateOf (a .d .part) (settleOf (a .d .part) (a .s) (a .c .pins) .state) (a .c) ≡ 0 =
-    sym (c .before .before .judge-late .ensures ∙ ap (λ (t : Settled). lateOf (a .d .part) (t .state) (a .c)) (c .before .before .before .before .settle .ensures)) ∙ c .before .if2 .left in
-    let z : judgeOf (a .d) (a .s) (a .c) (a .array) (a .residue) ≡ 0 = sym (c .before .before .before .before .before .before .judge .ensures) ∙ c .before .before .before .before .before .if1 .left in
-    c .accept .ensures ∙ ap (λ (t : Settled). acceptOf (a .d) (a .c) t) (c .before .before .before .before .settle .ensures)
-    ∙ sym (accepted (a .d) (a .s) (a .c) (a .array) (a .residue) (number-late (a .d) (a .s) (a .c) (a .array) (a .residue) 0 z e))
+    let a = c .before .before .before .before .before .before .before .before .args in
+    let z : judgeOf (a .d) (a .s) (a .c) (a .array) (a .residue) ≡ 0 = sym (c .before .before .before .before .before .judge .ensures) ∙ c .before .before .before .before .if1 .left in
+    c .respond .ensures ∙ ap (λ (t : Settled). arm (a .c .kind) (a .d) (a .s) (a .c) t) (c .before .before .before .settle .ensures)
+    ∙ sym (by-arms (a .d) (a .s) (a .c) (a .array) (a .residue) z (sym (c .before .before .rp-low .ensures) ∙ c .before .if2 .left))
 
 pub decide-spec : {M : Type 1} → statement M
 decide-spec =
@@ -58,8 +56,8 @@ decide-spec =
     refused-requires
     returns
     settle-requires
-    judge-late-requires
-    refused-requires-2
+    rp-low-requires
+    given-requires
     returns-2
-    accept-requires
+    respond-requires
     returns-3)

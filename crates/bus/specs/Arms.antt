@@ -1,0 +1,81 @@
+-- The answers to a cycle that refusals 1 to 6 let pass, kind by kind, in the order in which the code asks. That these are the
+-- answers of the table is proved (`by-arms`); nothing here needs to be believed. Assumes nothing.
+use mathlib.Core.Bool.{Bool, true, false, not, _&&_}
+use Prim.Native.Nat.{ℕ}
+use lib.Dec.{eqb, ltb}
+use Rattle.cells.specs.Pick.{pick}
+use Rattle.device.specs.Parts.{unknownDevice, sizeOf, blockOf}
+use Rattle.device.specs.declared.Part.{Part}
+use Rattle.device.specs.declared.Device.{Device}
+use Rattle.chip.specs.declared.Mode.{Mode}
+use Rattle.chip.specs.declared.Mode.the-variants.{Array, Status, Identifier}
+use Rattle.chip.specs.declared.Phase.{Phase}
+use Rattle.chip.specs.declared.Phase.the-variants.{Free, EraseAwaited, DataAwaited, Programming, Erasing, Suspended}
+use Rattle.chip.specs.Levels.{rpLow, badLevels}
+use Rattle.chip.specs.States.{improper, isArray}
+use Rattle.chip.specs.declared.Kind.{Kind}
+use Rattle.chip.specs.declared.Kind.the-variants.{Read, Write, Idle}
+use Rattle.chip.specs.declared.Reply.{Reply}
+use Rattle.chip.specs.declared.Reply.the-variants.{Quiet, Gives, GivesArray}
+use Rattle.chip.specs.declared.Action.{Action}
+use Rattle.chip.specs.declared.Settled.{Settled}
+use Rattle.chip.specs.declared.Decision.{Decision}
+use Rattle.chip.specs.declared.State.{State}
+use Rattle.chip.specs.declared.Cycle.{Cycle}
+use Rattle.commands.specs.Commands.{actionOf, isRefuse, performedOf}
+use Rattle.bus.specs.Cycles.{isRead, isSuspended, decidedAs, refusedBy, identifierOf}
+
+-- the settled state and effect under a reply
+abbrev pub givenBy : Reply → Settled → Decision
+givenBy r t = decidedAs r (t .state) (t .effect)
+
+-- an address in the suspended block; the blocks are looked up only where one is suspended
+unfoldable pub inSuspended : Part → State → ℕ → Bool
+inSuspended part u a = pick (isSuspended (u .phase)) (eqb (blockOf part a) (blockOf part (u .address))) false
+
+-- an array read: 8, or the byte
+unfoldable pub arrayArm : Part → State → Cycle → Settled → Decision
+arrayArm part s c t = pick (inSuspended part (t .state) (c .address)) (refusedBy 8 s) (givenBy (GivesArray (c .address)) t)
+
+-- an identifier read: 9, or the code
+unfoldable pub identifierArm : Part → State → Cycle → Settled → Decision
+identifierArm part s c t = pick (ltb 1 (c .address)) (refusedBy 9 s) (givenBy (Gives (identifierOf part (c .address))) t)
+
+-- a read, by mode
+abbrev pub readArm : Mode → Part → State → Cycle → Settled → Decision
+readArm Array part s c t = arrayArm part s c t
+readArm Status part s c t = givenBy (Gives (t .state .status)) t
+readArm Identifier part s c t = identifierArm part s c t
+
+-- a write, by the action that it asks for: 7, or what comes of it
+unfoldable pub writeArm : Action → Device → State → Cycle → Settled → Decision
+writeArm a d s c t = pick (isRefuse a) (refusedBy 7 s) (decidedAs Quiet (performedOf a d c (t .state)) (t .effect))
+
+abbrev pub arm : Kind → Device → State → Cycle → Settled → Decision
+arm Read d s c t = readArm (t .state .mode) (d .part) s c t
+arm Write d s c t = writeArm (actionOf (t .state .phase) (c .byte)) d s c t
+arm Idle d s c t = givenBy Quiet t
+
+abbrev pub isFree : Phase → Bool
+isFree Free = true
+isFree EraseAwaited = false
+isFree DataAwaited = false
+isFree (Programming b) = false
+isFree Erasing = false
+isFree Suspended = false
+
+-- an array read of a device with nothing awaited, running or suspended, RP# up
+unfoldable pub asksArray : State → Cycle → Bool
+asksArray s c = ((isRead (c .kind) && isFree (s .phase)) && isArray (s .mode)) && not (rpLow (c .pins))
+
+-- none of refusals 1 to 5 applies to a read
+unfoldable pub passesFive : Device → State → Cycle → ℕ → Bool
+passesFive d s c array =
+    pick (unknownDevice d) false
+    (pick (not (eqb array (sizeOf (d .part)))) false
+    (pick (improper d s) false
+    (pick (badLevels (d .part) c) false (ltb (c .address) array))))
+
+-- such a read that nothing refuses: its byte is the answer, and nothing else changes
+unfoldable pub plainRead : Device → State → Cycle → ℕ → Bool
+plainRead d s c array = pick (asksArray s c) (passesFive d s c array) false
