@@ -33,8 +33,8 @@ pub kept : (b : ℕ) (s : List ℕ) (i : ℕ) → i < length s → getD s i 0 �
 kept b s i h e = ap (allAre b) (from-here s i h) ∙ pick-true (eqb (getD s i 0) b) (allAre b (drop (i + 1) s)) false (eq-eqb _ _ e)
 
 -- a weighted sum: one byte more is counted
-pub counted : (s : List ℕ) (i : ℕ) → i < length s → wsum (i + 1) (drop i s) ≡ (i + 1) * getD s i 0 + wsum (i + 1 + 1) (drop (i + 1) s)
-counted s i h = ap (wsum (i + 1)) (from-here s i h) ∙ ap (λ (k : ℕ). (i + 1) * getD s i 0 + wsum k (drop (i + 1) s)) (sym (add-one (i + 1)))
+pub counted : (w : ℕ) (s : List ℕ) (i : ℕ) → i < length s → wsum w (drop i s) ≡ w * getD s i 0 + wsum (w + 1) (drop (i + 1) s)
+counted w s i h = ap (wsum w) (from-here s i h) ∙ ap (λ (k : ℕ). w * getD s i 0 + wsum k (drop (i + 1) s)) (sym (add-one w))
 
 -- a byte times a weight up to 510
 pub weighed : (w x : ℕ) → w ≤ 510 → x < 256 → w * x ≤ 130050

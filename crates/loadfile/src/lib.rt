@@ -34,10 +34,12 @@ pub fn check(block: &[u8]) -> u16
     ensures { λ r. ⌜ r ≡ checkOf (take 510 (now (block .entry))) ⌝ }
 {
     let n = cells::least(block.len(), 510);
-    let mut sum = 1;
+    let mut sum: u32 = 1;
+    let mut weight: u32 = 1;
     let mut i = 0;
     while i < n {
-        sum += (i + 1) * cells::wide(block[i]);
+        sum += weight * (block[i] as u32);
+        weight += 1;
         i += 1;
     }
     (sum % 65521) as u16
