@@ -1,9 +1,6 @@
 // Replays generated inputs on lent slices and prints a line for each. The cases and the lines that they must print come from
 // tests/trace_vectors.py, which reads a trace in its own way and says what a line shows.
 use replay::Replayed;
-ghost use mathlib.Core.Path.{_≡_};
-ghost use Prim.Native.Nat.{_≤_, _<_};
-ghost use lib.ListN.{length};
 
 // A case: so many bytes of input, with one byte put at a place, and so many bytes of room.
 struct Case {
@@ -22,28 +19,6 @@ fn tried(bytes: usize, place: usize, byte: u8, room: usize) -> Case {
     }
 }
 
-fn widened(x: u8) -> u64
-    ensures { λ r. ⌜ (r ≡ x) × (x < 256) ⌝ }
-{
-    x as u64
-}
-
-fn lesser(asked: usize, there: usize) -> usize
-    ensures { λ r. ⌜ r ≤ there ⌝ }
-{
-    if asked < there {
-        return asked;
-    }
-    there
-}
-
-// A byte put at a place, where there is one.
-fn put(s: &mut [u8], at: usize, b: u8) {
-    if at < s.len() {
-        s[at] = b;
-    }
-}
-
 // Four lines over and over: a program is asked for, given, and polled twice.
 fn sow(text: &mut [u8]) {
     let four =
@@ -55,24 +30,13 @@ fn sow(text: &mut [u8]) {
     }
 }
 
-// A number that any one changed byte changes.
-fn digest(s: &[u8]) -> u64 {
-    let mut h: u64 = 0;
-    let mut i = 0;
-    while i < s.len() {
-        h = (31 * h + widened(s[i])) % 65521;
-        i += 1;
-    }
-    h
-}
-
 // The last seven bytes of the output, or a newline where there are fewer.
 fn show_last(out: &[u8], used: usize) {
     if used < 7 {
         io::write_all(1, b"\n");
         return;
     }
-    let e = lesser(used, out.len());
+    let e = cells::least(used, out.len());
     if e < 7 {
         io::write_all(1, b"\n");
         return;
@@ -82,17 +46,17 @@ fn show_last(out: &[u8], used: usize) {
 }
 
 fn show(number: u64, r: Replayed, array: &[u8], out: &[u8]) {
-    let refusal = widened(r.refusal);
+    let refusal = r.refusal;
     let used = r.used;
     io::print_decimal(1, number);
     io::write_all(1, b" ");
-    io::print_decimal(1, refusal);
+    io::print_decimal(1, refusal as u64);
     io::write_all(1, b" ");
     io::print_decimal(1, used as u64);
     io::write_all(1, b" ");
-    io::print_hex(1, digest(out), 4);
+    io::print_hex(1, rows::digest(out), 4);
     io::write_all(1, b" ");
-    io::print_hex(1, digest(array), 4);
+    io::print_hex(1, rows::digest(array), 4);
     io::write_all(1, b" ");
     show_last(out, used);
 }
@@ -195,17 +159,23 @@ fn lengths(i: u64) -> Case {
     }
 }
 
+// The replay of a case, on a fresh array and a fresh output.
+fn replayed(c: Case, text: &[u8], array: &mut [u8], residue: &[u8], out: &mut [u8]) -> Replayed {
+    let n = cells::least(c.bytes, text.len());
+    let m = cells::least(c.room, out.len());
+    cells::fill(array, 255);
+    cells::fill(out, 46);
+    replay::replay(&text[0..n], array, residue, &mut out[0..m])
+}
+
+// One case: its byte is put into the text, and taken out again.
 fn run(i: u64, text: &mut [u8], array: &mut [u8], residue: &[u8], out: &mut [u8]) {
     let c = lengths(i);
     let at = c.place;
-    let n = lesser(c.bytes, text.len());
-    let m = lesser(c.room, out.len());
     let old = cells::nth(text, at);
-    put(text, at, c.byte);
-    cells::fill(array, 255);
-    cells::fill(out, 46);
-    let r = replay::replay(&text[0..n], array, residue, &mut out[0..m]);
-    put(text, at, old);
+    rows::put(text, at, c.byte);
+    let r = replayed(c, text, array, residue, out);
+    rows::put(text, at, old);
     show(i, r, array, out);
 }
 

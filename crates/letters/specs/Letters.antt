@@ -1,0 +1,59 @@
+-- Modes and phases as letters, and a row's state and device. Assumes nothing.
+use Prim.Native.Nat.{ℕ, _%_}
+use mathlib.Core.List.{List}
+use lib.Dec.{eqb}
+use lib.ListN.{getD}
+use Rattle.cells.specs.Pick.{pick}
+use Rattle.device.specs.declared.Device.{Device}
+use Rattle.chip.specs.declared.Mode.{Mode}
+use Rattle.chip.specs.declared.Mode.the-variants.{Array, Status, Identifier}
+use Rattle.chip.specs.declared.Phase.{Phase}
+use Rattle.chip.specs.declared.Phase.the-variants.{Free, EraseAwaited, DataAwaited, Programming, Erasing, Suspended}
+use Rattle.chip.specs.declared.State.{State}
+use Rattle.rows.specs.Text.{readOf, fieldOf}
+
+-- the mode of a letter: A, S, and the identifier for any other
+unfoldable pub modeBy : ℕ → Mode
+modeBy x = pick (eqb x 65) Array (pick (eqb x 83) Status Identifier)
+
+-- the phase of a letter: F, C, D, P with its byte, E, and suspended for any other
+unfoldable pub phaseBy : ℕ → ℕ → Phase
+phaseBy x byte =
+    pick (eqb x 70) Free
+    (pick (eqb x 67) EraseAwaited (pick (eqb x 68) DataAwaited (pick (eqb x 80) (Programming byte) (pick (eqb x 69) Erasing Suspended))))
+
+-- the letter of a mode, and of a phase
+abbrev pub modeLetter : Mode → ℕ
+modeLetter Array = 65
+modeLetter Status = 83
+modeLetter Identifier = 73
+
+abbrev pub phaseLetter : Phase → ℕ
+phaseLetter Free = 70
+phaseLetter EraseAwaited = 67
+phaseLetter DataAwaited = 68
+phaseLetter (Programming byte) = 80
+phaseLetter Erasing = 69
+phaseLetter Suspended = 83
+
+-- the number of n letters from a place of a row on
+abbrev pub at : List ℕ → ℕ → ℕ → ℕ → ℕ
+at row base place n = readOf base (fieldOf row place n)
+
+-- the state that a row tells
+unfoldable pub stateAt : List ℕ → State
+stateAt row = record {
+  mode = modeBy (getD row 5 0);
+  status = at row 16 2 2 % 256;
+  phase = phaseBy (getD row 7 0) (at row 16 8 2 % 256);
+  left = at row 10 11 5 % 65536;
+  address = at row 16 17 8;
+}
+
+-- the device that a row tells
+unfoldable pub deviceAt : List ℕ → Device
+deviceAt row = record {
+  part = record { number = at row 10 2 3 % 256 };
+  program = at row 10 6 5 % 65536;
+  erase = at row 10 12 5 % 65536;
+}

@@ -1,0 +1,100 @@
+// What the vector programs share about a device: its state and its description read off a row, modes and phases as letters.
+// Each function takes any input.
+use chip::Mode;
+use chip::Phase;
+use chip::State;
+use device::Device;
+use device::Part;
+ghost use mathlib.Core.Path.{_≡_};
+ghost use Rattle.letters.specs.Letters.{modeBy, phaseBy, modeLetter, phaseLetter, stateAt, deviceAt};
+
+// The mode that a letter stands for; any other letter for the identifier.
+pub fn mode_by(letter: u8) -> Mode
+    ensures { λ r. ⌜ r ≡ modeBy letter ⌝ }
+{
+    if letter == 65 {
+        return Mode::Array;
+    }
+    if letter == 83 {
+        return Mode::Status;
+    }
+    Mode::Identifier
+}
+
+// The phase that a letter stands for, with a program's byte; any other letter for a suspended erase.
+pub fn phase_by(letter: u8, byte: u8) -> Phase
+    ensures { λ r. ⌜ r ≡ phaseBy letter byte ⌝ }
+{
+    if letter == 70 {
+        return Phase::Free;
+    }
+    if letter == 67 {
+        return Phase::EraseAwaited;
+    }
+    if letter == 68 {
+        return Phase::DataAwaited;
+    }
+    if letter == 80 {
+        return Phase::Programming(byte);
+    }
+    if letter == 69 {
+        return Phase::Erasing;
+    }
+    Phase::Suspended
+}
+
+pub fn mode_letter(mode: Mode) -> u8
+    ensures { λ r. ⌜ r ≡ modeLetter mode ⌝ }
+{
+    match mode {
+        Mode::Array => 65,
+        Mode::Status => 83,
+        Mode::Identifier => 73,
+    }
+}
+
+pub fn phase_letter(phase: Phase) -> u8
+    ensures { λ r. ⌜ r ≡ phaseLetter phase ⌝ }
+{
+    match phase {
+        Phase::Free => 70,
+        Phase::EraseAwaited => 67,
+        Phase::DataAwaited => 68,
+        Phase::Programming(_) => 80,
+        Phase::Erasing => 69,
+        Phase::Suspended => 83,
+    }
+}
+
+// The state of a row: status, mode, phase with its byte, cycles left, address.
+pub fn state_at(row: &[u8]) -> State
+    ensures { λ r. ⌜ r ≡ stateAt (now (row .entry)) ⌝ }
+{
+    let status = rows::byte_at(row, 16, 2, 2);
+    let mode = mode_by(cells::nth(row, 5));
+    let byte = rows::byte_at(row, 16, 8, 2);
+    let phase = phase_by(cells::nth(row, 7), byte);
+    let left = rows::half_at(row, 10, 11, 5);
+    let address = rows::word_at(row, 16, 17, 8);
+    State {
+        mode: mode,
+        status: status,
+        phase: phase,
+        left: left,
+        address: address,
+    }
+}
+
+// The device of a row: its number, P and E.
+pub fn device_at(row: &[u8]) -> Device
+    ensures { λ r. ⌜ r ≡ deviceAt (now (row .entry)) ⌝ }
+{
+    let number = rows::byte_at(row, 10, 2, 3);
+    let program = rows::half_at(row, 10, 6, 5);
+    let erase = rows::half_at(row, 10, 12, 5);
+    Device {
+        part: Part { number: number },
+        program: program,
+        erase: erase,
+    }
+}

@@ -1,0 +1,39 @@
+-- Two results that a promise allows are equal, for each public function of this crate. Assumes nothing.
+use mathlib.Core.Path.{_≡_}
+use mathlib.Core.List.{List, []}
+use Prim.Native.Nat.{ℕ, _%_, _≤_, min}
+use lib.ListN.{length, set}
+use Rattle.cells.specs.Pick.{Unique, only}
+use Rattle.rows.specs.Text.{readOf, fieldOf, spelled, rowOf}
+use Rattle.rows.specs.Patterns.{digestOf, sown}
+
+pub word-at-unique : (s : List ℕ) (base at n : ℕ) → Unique (λ (r : ℕ). r ≡ readOf base (fieldOf s at n))
+word-at-unique s base at n = only (readOf base (fieldOf s at n))
+
+pub byte-at-unique : (s : List ℕ) (base at n : ℕ) → Unique (λ (r : ℕ). r ≡ readOf base (fieldOf s at n) % 256)
+byte-at-unique s base at n = only (readOf base (fieldOf s at n) % 256)
+
+pub half-at-unique : (s : List ℕ) (base at n : ℕ) → Unique (λ (r : ℕ). r ≡ readOf base (fieldOf s at n) % 65536)
+half-at-unique s base at n = only (readOf base (fieldOf s at n) % 65536)
+
+pub size-at-unique : (s : List ℕ) (base at n : ℕ) → Unique (λ (r : ℕ). r ≡ readOf base (fieldOf s at n))
+size-at-unique s base at n = only (readOf base (fieldOf s at n))
+
+pub row-length-unique : (s : List ℕ) → Unique (λ (r : ℕ). (r ≡ rowOf s) × (r ≤ length s) × (min 1 (length s) ≤ r))
+row-length-unique s r q p t = only (rowOf s) r q (p .0) (t .0)
+
+pub digest-unique : (s : List ℕ) → Unique (λ (r : ℕ). r ≡ digestOf s)
+digest-unique s = only (digestOf s)
+
+-- what is left in the slice lent
+pub decimal-unique : (out : List ℕ) (x : ℕ) → Unique (λ (left : List ℕ). left ≡ spelled 10 (length out) x [])
+decimal-unique out x = only (spelled 10 (length out) x [])
+
+pub hex-unique : (out : List ℕ) (x : ℕ) → Unique (λ (left : List ℕ). left ≡ spelled 16 (length out) x [])
+hex-unique out x = only (spelled 16 (length out) x [])
+
+pub sow-unique : (s : List ℕ) (top first step : ℕ) → Unique (λ (left : List ℕ). left ≡ sown top first step (length s))
+sow-unique s top first step = only (sown top first step (length s))
+
+pub put-unique : (s : List ℕ) (at b : ℕ) → Unique (λ (left : List ℕ). left ≡ set s at b)
+put-unique s at b = only (set s at b)
