@@ -2,62 +2,18 @@
 // A case is sixteen numbers of five digits; tests/loadfile_vectors.py says what they mean.
 ghost use Prim.Native.Nat.{_<_};
 
-// The number that a digit stands for; 0 for any other byte.
-fn digit(b: u8) -> usize
-    ensures { λ r. ⌜ r < 10 ⌝ }
-{
-    if b < 48 {
-        return 0;
-    }
-    if 57 < b {
-        return 0;
-    }
-    cells::wide(b - 48)
-}
-
 // Number k of a case.
 fn field(case: &[u8], k: usize) -> usize
     requires { ⌜ k < 100 ⌝ }
-    ensures { λ r. ⌜ r < 100000 ⌝ }
 {
-    let at = 6 * k;
-    let high = digit(cells::nth(case, at)) * 10000 + digit(cells::nth(case, at + 1)) * 1000;
-    let low = digit(cells::nth(case, at + 2)) * 100 + digit(cells::nth(case, at + 3)) * 10;
-    high + low + digit(cells::nth(case, at + 4))
+    rows::size_at(case, 10, 6 * k, 5)
 }
 
 // The same as a byte.
 fn byte(case: &[u8], k: usize) -> u8
     requires { ⌜ k < 100 ⌝ }
 {
-    (field(case, k) % 256) as u8
-}
-
-// The payload: byte i is 7 i + 3, modulo 251.
-fn pattern(s: &mut [u8]) {
-    let mut i = 0;
-    while i < s.len() {
-        s[i] = ((i % 251 * 7 + 3) % 251) as u8;
-        i += 1;
-    }
-}
-
-// One number for a whole buffer.
-fn digest(s: &[u8]) -> usize {
-    let mut d = 0;
-    let mut i = 0;
-    while i < s.len() {
-        d = (31 * d + cells::wide(s[i])) % 65521;
-        i += 1;
-    }
-    d
-}
-
-// One byte is changed, where there is one.
-fn change(file: &mut [u8], at: usize, b: u8) {
-    if at < file.len() {
-        file[at] = b;
-    }
+    rows::byte_at(case, 10, 6 * k, 5)
 }
 
 // Block k gets the check that fits it.
@@ -67,37 +23,37 @@ fn seal(file: &mut [u8], k: usize) {
         let to = from + 512;
         if to <= file.len() {
             let c = loadfile::check(&file[from..to]);
-            change(file, from + 510, (c / 256) as u8);
-            change(file, from + 511, (c % 256) as u8);
+            rows::put(file, from + 510, (c / 256) as u8);
+            rows::put(file, from + 511, (c % 256) as u8);
         }
     }
 }
 
 // The number of a refusal, or a length.
-fn tell(mark: &[u8], n: usize) {
+fn tell(mark: &[u8], n: u64) {
     io::write_all(1, mark);
-    io::print_decimal(1, n as u64);
+    io::print_decimal(1, n);
 }
 
 // The answer of the writer, of the judgement, of the reader.
 fn tell_written(w: loadfile::Written) {
     match w {
-        loadfile::Written::Wrote(n) => tell(b"W=", n),
-        loadfile::Written::NotWritten(n) => tell(b"W!", cells::wide(n)),
+        loadfile::Written::Wrote(n) => tell(b"W=", n as u64),
+        loadfile::Written::NotWritten(n) => tell(b"W!", n as u64),
     }
 }
 
 fn tell_judged(j: loadfile::Judged) {
     match j {
-        loadfile::Judged::Sound(n) => tell(b" J=", n),
-        loadfile::Judged::Unsound(n) => tell(b" J!", cells::wide(n)),
+        loadfile::Judged::Sound(n) => tell(b" J=", n as u64),
+        loadfile::Judged::Unsound(n) => tell(b" J!", n as u64),
     }
 }
 
 fn tell_read(r: loadfile::ReadBack) {
     match r {
-        loadfile::ReadBack::Gave(n) => tell(b" R=", n),
-        loadfile::ReadBack::NotRead(n) => tell(b" R!", cells::wide(n)),
+        loadfile::ReadBack::Gave(n) => tell(b" R=", n as u64),
+        loadfile::ReadBack::NotRead(n) => tell(b" R!", n as u64),
     }
 }
 
@@ -112,8 +68,8 @@ fn make(case: &[u8], payload: &[u8], file: &mut [u8]) {
 fn change_two(case: &[u8], k: usize, file: &mut [u8])
     requires { ⌜ k < 90 ⌝ }
 {
-    change(file, field(case, k), byte(case, k + 1));
-    change(file, field(case, k + 2), byte(case, k + 3));
+    rows::put(file, field(case, k), byte(case, k + 1));
+    rows::put(file, field(case, k + 2), byte(case, k + 3));
 }
 
 // Two bytes are changed, two blocks sealed, and two bytes changed after that.
@@ -138,12 +94,12 @@ fn run(case: &[u8]) {
     let mut payload = [0u8; 4200];
     let mut file = [165u8; 5200];
     let mut back = [90u8; 4200];
-    pattern(&mut payload);
+    rows::sow(&mut payload, 250, 3, 7);
     make(case, &payload, &mut file);
     spoil(case, &mut file);
     take(case, &file, &mut back);
-    tell(b" F ", digest(&file));
-    tell(b" B ", digest(&back));
+    tell(b" F ", rows::digest(&file));
+    tell(b" B ", rows::digest(&back));
     io::write_all(1, b"\n");
 }
 
