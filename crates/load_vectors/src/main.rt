@@ -1,63 +1,35 @@
 // Loads from a file: a case a line of standard input, an answer a line of standard output. A case is a name of 24 bytes and
 // 41 numbers of six digits; tests/load_vectors.py says what they mean and works out the answers.
-use chip::Mode;
-use chip::Phase;
 use chip::Pins;
 use chip::State;
 use device::Device;
 use device::Part;
 use run::Ran;
-ghost use mathlib.Core.Path.{_≡_};
 ghost use Prim.Native.Nat.{_<_, _≤_};
 
-// The number that a digit stands for; 0 for any other byte.
-fn digit(b: u8) -> usize
-    ensures { λ r. ⌜ r < 10 ⌝ }
-{
-    if b < 48 {
-        return 0;
-    }
-    if 57 < b {
-        return 0;
-    }
-    cells::wide(b - 48)
-}
-
-// The three digits from a place on.
-fn three(case: &[u8], at: usize) -> usize
-    requires { ⌜ at < 1000 ⌝ }
-    ensures { λ r. ⌜ r < 1000 ⌝ }
-{
-    let high = digit(cells::nth(case, at)) * 100 + digit(cells::nth(case, at + 1)) * 10;
-    high + digit(cells::nth(case, at + 2))
-}
-
-// Number k of a case.
+// Number k of a case: as a length, as a byte, as 16 bits, as 32 bits.
 fn field(case: &[u8], k: usize) -> usize
     requires { ⌜ k < 100 ⌝ }
-    ensures { λ r. ⌜ r < 1000000 ⌝ }
 {
-    let at = 7 * k + 24;
-    1000 * three(case, at) + three(case, at + 3)
+    rows::size_at(case, 10, 7 * k + 24, 6)
 }
 
-// The same as a byte.
 fn byte(case: &[u8], k: usize) -> u8
     requires { ⌜ k < 100 ⌝ }
 {
-    (field(case, k) % 256) as u8
+    rows::byte_at(case, 10, 7 * k + 24, 6)
 }
 
 fn half(case: &[u8], k: usize) -> u16
     requires { ⌜ k < 100 ⌝ }
 {
-    (field(case, k) % 65536) as u16
+    rows::half_at(case, 10, 7 * k + 24, 6)
 }
 
 fn word(case: &[u8], k: usize) -> u32
     requires { ⌜ k < 100 ⌝ }
 {
-    field(case, k) as u32
+    rows::word_at(case, 10, 7 * k + 24, 6)
 }
 
 // How much of a slice is lent, as number k says.
@@ -68,31 +40,13 @@ fn lent(case: &[u8], k: usize, there: usize) -> usize
     cells::least(field(case, k), there)
 }
 
-// A pattern of period 257; a step of 0 makes all bytes alike.
-fn sow(s: &mut [u8], first: usize, step: usize) {
-    let mut v = first % 257;
-    let mut i = 0;
-    while i < s.len() {
-        s[i] = (v % 256) as u8;
-        v = (v + step % 257) % 257;
-        i += 1;
-    }
-}
-
 // A slice gets the pattern of numbers j and j + 1.
 fn prepare(case: &[u8], j: usize, s: &mut [u8])
     requires { ⌜ j < 99 ⌝ }
 {
     let first = field(case, j);
     let step = field(case, j + 1);
-    sow(s, first, step);
-}
-
-// One byte is changed, where there is one.
-fn change(s: &mut [u8], at: usize, b: u8) {
-    if at < s.len() {
-        s[at] = b;
-    }
+    rows::sow(s, 256, first, step);
 }
 
 // So many bytes are changed, as the pairs of numbers from k on say.
@@ -102,7 +56,7 @@ fn change_all(case: &[u8], k: usize, n: usize, s: &mut [u8])
     let mut i = 0;
     while i < n {
         let at = k + 2 * i;
-        change(s, field(case, at), byte(case, at + 1));
+        rows::put(s, field(case, at), byte(case, at + 1));
         i += 1;
     }
 }
@@ -110,7 +64,7 @@ fn change_all(case: &[u8], k: usize, n: usize, s: &mut [u8])
 // A file is written over A5H, and six bytes of it are changed.
 fn write(case: &[u8], file: &mut [u8]) {
     let mut payload = [0u8; 4200];
-    sow(&mut payload, 3, 7);
+    rows::sow(&mut payload, 256, 3, 7);
     let size = lent(case, 1, 4200);
     cells::fill(file, 165);
     loadfile::write(byte(case, 0), &payload[0..size], file);
@@ -132,54 +86,6 @@ fn hold(case: &[u8], array: &mut [u8], file: &[u8]) {
     change_all(case, 37, 2, array);
 }
 
-fn mode_of(letter: u8) -> Mode {
-    if letter == b'A' {
-        return Mode::Array;
-    }
-    if letter == b'S' {
-        return Mode::Status;
-    }
-    Mode::Identifier
-}
-
-fn phase_of(letter: u8) -> Phase {
-    if letter == b'F' {
-        return Phase::Free;
-    }
-    if letter == b'C' {
-        return Phase::EraseAwaited;
-    }
-    if letter == b'D' {
-        return Phase::DataAwaited;
-    }
-    if letter == b'P' {
-        return Phase::Programming(0);
-    }
-    if letter == b'E' {
-        return Phase::Erasing;
-    }
-    Phase::Suspended
-}
-
-fn mode_letter(mode: Mode) -> u8 {
-    match mode {
-        Mode::Array => b'A',
-        Mode::Status => b'S',
-        Mode::Identifier => b'I',
-    }
-}
-
-fn phase_letter(phase: Phase) -> u8 {
-    match phase {
-        Phase::Free => b'F',
-        Phase::EraseAwaited => b'C',
-        Phase::DataAwaited => b'D',
-        Phase::Programming(_) => b'P',
-        Phase::Erasing => b'E',
-        Phase::Suspended => b'S',
-    }
-}
-
 fn device_of(case: &[u8]) -> Device {
     let number = byte(case, 16);
     let program = half(case, 17);
@@ -198,9 +104,9 @@ fn pins_of(case: &[u8]) -> Pins {
 }
 
 fn state_of(case: &[u8]) -> State {
-    let mode = mode_of(byte(case, 22));
+    let mode = letters::mode_by(byte(case, 22));
     let status = byte(case, 23);
-    let phase = phase_of(byte(case, 24));
+    let phase = letters::phase_by(byte(case, 24), 0);
     let left = half(case, 25);
     let address = word(case, 26);
     State {
@@ -238,30 +144,11 @@ fn loaded(
     )
 }
 
-// A number that any one changed byte changes.
-fn digest(s: &[u8]) -> usize {
-    let mut d = 0;
-    let mut i = 0;
-    while i < s.len() {
-        d = (31 * d + cells::wide(s[i])) % 65521;
-        i += 1;
-    }
-    d
-}
-
-fn hex(x: u8) -> u8 {
-    let n = x % 16;
-    if n < 10 {
-        return 48 + n;
-    }
-    55 + n
-}
-
 // A byte in hex.
 fn tell_byte(x: u8) {
-    let high = hex(x / 16);
-    let low = hex(x);
-    let text = [b' ', high, low];
+    let mut text = [0u8; 2];
+    rows::hex(&mut text, x as u64);
+    io::write_all(1, b" ");
     io::write_all(1, &text);
 }
 
@@ -282,7 +169,7 @@ fn last_of(s: &[u8]) -> u8 {
 
 // What a slice holds: a digest, its first byte and its last.
 fn tell_slice(mark: &[u8], s: &[u8]) {
-    tell(mark, digest(s) as u64);
+    tell(mark, rows::digest(s));
     tell_byte(cells::nth(s, 0));
     tell_byte(last_of(s));
 }
@@ -293,8 +180,8 @@ fn tell_state(s: State) {
     let phase = s.phase;
     io::write_all(1, b" S");
     tell_byte(s.status);
-    let m = mode_letter(mode);
-    let p = phase_letter(phase);
+    let m = letters::mode_letter(mode);
+    let p = letters::phase_letter(phase);
     let text = [b' ', m, b' ', p];
     io::write_all(1, &text);
 }

@@ -30,8 +30,8 @@ add-byte c = search needs
 byte-requires : tie.Need-byte-requires Inv-loop μ-loop
 byte-requires c κs = search needs
 
-change-requires : tie.Need-change-requires Inv-loop μ-loop
-change-requires c κs = search needs
+put-requires : tie.Need-put-requires Inv-loop μ-loop
+put-requires c κs = search needs
 
 add-i : tie.Need-add-i Inv-loop μ-loop
 add-i c = search needs
@@ -60,7 +60,7 @@ change-all-spec =
     field-requires
     add-byte
     byte-requires
-    change-requires
+    put-requires
     add-i
     loop-less
     loop-again
