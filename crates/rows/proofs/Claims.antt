@@ -1,10 +1,11 @@
 -- Two results that a promise allows are equal, for each public function of this crate. Assumes nothing.
 use mathlib.Core.Path.{_≡_}
 use mathlib.Core.List.{List, []}
-use Prim.Native.Nat.{ℕ, _%_, _≤_, min}
+use Prim.Native.Nat.{ℕ, _+_, _%_, _≤_, min, max}
 use lib.ListN.{length, set}
 use Rattle.cells.specs.Pick.{Unique, only}
-use Rattle.rows.specs.Text.{readOf, fieldOf, spelled, rowOf}
+use Rattle.rows.specs.declared.Group.{Group}
+use Rattle.rows.specs.Text.{readOf, fieldOf, spelled, nextRow, groupAt}
 use Rattle.rows.specs.Patterns.{digestOf, sown}
 
 pub word-at-unique : (s : List ℕ) (base at n : ℕ) → Unique (λ (r : ℕ). r ≡ readOf base (fieldOf s at n))
@@ -19,8 +20,11 @@ half-at-unique s base at n = only (readOf base (fieldOf s at n) % 65536)
 pub size-at-unique : (s : List ℕ) (base at n : ℕ) → Unique (λ (r : ℕ). r ≡ readOf base (fieldOf s at n))
 size-at-unique s base at n = only (readOf base (fieldOf s at n))
 
-pub row-length-unique : (s : List ℕ) → Unique (λ (r : ℕ). (r ≡ rowOf s) × (r ≤ length s) × (min 1 (length s) ≤ r))
-row-length-unique s r q p t = only (rowOf s) r q (p .0) (t .0)
+pub next-row-unique : (text : List ℕ) (at : ℕ) → Unique (λ (r : ℕ). (r ≡ nextRow text at) × (min (at + 1) (length text) ≤ r) × (r ≤ max at (length text)))
+next-row-unique text at r q p t = only (nextRow text at) r q (p .0) (t .0)
+
+pub group-at-unique : (row : List ℕ) → Unique (λ (r : Group). r ≡ groupAt row)
+group-at-unique row = only (groupAt row)
 
 pub digest-unique : (s : List ℕ) → Unique (λ (r : ℕ). r ≡ digestOf s)
 digest-unique s = only (digestOf s)

@@ -10,6 +10,7 @@ use lib.ListN.{length, getD, take, drop, set, length-set, length-drop, drop-of-l
 use lib.Seq.{drop-cons, drop-set-lt, getD-set-same, take-all}
 use borrow.Author.Tests.{leb-true, leb-false}
 use Rattle.cells.specs.Pick.{pick}
+use Rattle.rows.specs.declared.Group.{Group}
 
 -- a walk over a list: each element changes what is held by the step f
 abbrev pub walk : (ℕ → ℕ → ℕ) → ℕ → List ℕ → ℕ
@@ -45,6 +46,14 @@ spelled base (suc n) x after = spelled base n (x / base) (letterOf (x % base) �
 abbrev pub rowOf : List ℕ → ℕ
 rowOf [] = 0
 rowOf (x ∷ xs) = pick (eqb x 10) 1 (suc (rowOf xs))
+
+-- where the row after the one at a place begins
+unfoldable pub nextRow : List ℕ → ℕ → ℕ
+nextRow text at = at + rowOf (drop at text)
+
+-- the group that a row names: the letters at places 2 to 5
+unfoldable pub groupAt : List ℕ → Group
+groupAt row = record { a = getD row 2 0; b = getD row 3 0; c = getD row 4 0; d = getD row 5 0 }
 
 -- one element more of a walk
 pub walk-next : (f : ℕ → ℕ → ℕ) (v : ℕ) (xs : List ℕ) (i : ℕ) → i < length xs → walk f v (drop i xs) ≡ walk f (f v (getD xs i 0)) (drop (i + 1) xs)

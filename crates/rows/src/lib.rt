@@ -2,10 +2,34 @@
 // function takes any input.
 ghost use mathlib.Core.Path.{_≡_};
 ghost use mathlib.Core.List.{List, []};
-ghost use Prim.Native.Nat.{_<_, _≤_, _%_, min};
+ghost use Prim.Native.Nat.{_+_, _<_, _≤_, _%_, min, max};
 ghost use lib.ListN.{length, set};
-ghost use Rattle.rows.specs.Text.{digitOf, readOf, fieldOf, letterOf, spelled, rowOf};
+ghost use Rattle.rows.specs.Text.{digitOf, readOf, fieldOf, letterOf, spelled, nextRow, groupAt};
 ghost use Rattle.rows.specs.Patterns.{digestOf, sown};
+
+// The four letters of a group of rows.
+pub struct Group {
+    pub a: u8,
+    pub b: u8,
+    pub c: u8,
+    pub d: u8,
+}
+
+// The group that a row names.
+pub fn group_at(row: &[u8]) -> Group
+    ensures { λ r. ⌜ r ≡ groupAt (now (row .entry)) ⌝ }
+{
+    let a = cells::nth(row, 2);
+    let b = cells::nth(row, 3);
+    let c = cells::nth(row, 4);
+    let d = cells::nth(row, 5);
+    Group {
+        a: a,
+        b: b,
+        c: c,
+        d: d,
+    }
+}
 
 // What a digit is worth, 0 for any other letter.
 fn digit(x: u8) -> usize
@@ -108,13 +132,13 @@ pub fn hex(out: &mut [u8], x: u64)
     spell(out, 16, x)
 }
 
-// How many bytes the first row has, its newline among them.
-pub fn row_length(s: &[u8]) -> usize
-    ensures { λ r. ⌜ (r ≡ rowOf (now (s .entry))) × (r ≤ length (now (s .entry))) × (min 1 (length (now (s .entry))) ≤ r) ⌝ }
+// Where the next row begins: behind the newline, or at the end of the text.
+pub fn next_row(text: &[u8], at: usize) -> usize
+    ensures { λ r. ⌜ (r ≡ nextRow (now (text .entry)) at) × (min (at + 1) (length (now (text .entry))) ≤ r) × (r ≤ max at (length (now (text .entry)))) ⌝ }
 {
-    let mut i = 0;
-    while i < s.len() {
-        if s[i] == 10 {
+    let mut i = at;
+    while i < text.len() {
+        if text[i] == 10 {
             return i + 1;
         }
         i += 1;
