@@ -242,11 +242,7 @@ fn sow_part(s: &mut [u8], asked: usize, row: &[u8]) {
     rows::sow(&mut s[0..n], 256, first, step);
 }
 
-fn is_setting(op: u8) -> bool {
-    (op == b'G') | (op == b'D') | (op == b'S')
-}
-
-// The rows that set the bench.
+// The rows that set the bench; any other leaves it.
 fn set(row: &[u8], op: u8, b: Bench) -> Bench {
     if op == b'G' {
         return with_group(b, rows::group_at(row));
@@ -254,7 +250,10 @@ fn set(row: &[u8], op: u8, b: Bench) -> Bench {
     if op == b'D' {
         return with_device(b, row);
     }
-    with_state(b, letters::state_at(row))
+    if op == b'S' {
+        return with_state(b, letters::state_at(row));
+    }
+    b
 }
 
 fn is_cycle(op: u8) -> bool {
@@ -283,15 +282,17 @@ fn shown(op: u8, b: Bench, array: &[u8]) -> Bench {
     b
 }
 
-// One row.
-fn turn(row: &[u8], b: Bench, array: &mut [u8], residue: &mut [u8]) -> Bench {
-    let op = cells::nth(row, 0);
-    if is_setting(op) {
-        return set(row, op, b);
-    }
+// The rows that print a line.
+fn act(row: &[u8], op: u8, b: Bench, array: &mut [u8], residue: &[u8]) -> Bench {
     if is_cycle(op) {
         return run(b, cycle_of(row, kind_of(op)), array, residue);
     }
+    shown(op, b, array)
+}
+
+// One row. A row that sets the bench prints nothing, and one that prints sets nothing.
+fn turn(row: &[u8], b: Bench, array: &mut [u8], residue: &mut [u8]) -> Bench {
+    let op = cells::nth(row, 0);
     if op == b'A' {
         sow_part(array, b.array, row);
         return b;
@@ -300,7 +301,7 @@ fn turn(row: &[u8], b: Bench, array: &mut [u8], residue: &mut [u8]) -> Bench {
         sow_part(residue, b.residue, row);
         return b;
     }
-    shown(op, b, array)
+    act(row, op, set(row, op, b), array, residue)
 }
 
 // Every row in its order.
