@@ -222,9 +222,9 @@ fn run_case(case: &[u8], array: &mut [u8], wanted: &mut [u8], scratch: &mut [u8]
 
 // As much of each slice is lent as the case says.
 fn with_slices(case: &[u8], file: &[u8]) {
-    let mut array = [0u8; 131073];
-    let mut wanted = [0u8; 131073];
-    let mut scratch = [0u8; 131073];
+    let mut array = rows::blank();
+    let mut wanted = rows::blank();
+    let mut scratch = rows::blank();
     let n = lent(case, 27, 131073);
     let m = lent(case, 28, 131073);
     let k = lent(case, 29, 131073);

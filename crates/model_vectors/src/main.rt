@@ -10,8 +10,6 @@ use device::Device;
 use device::Part;
 use model::Seen;
 use rows::Group;
-ghost use mathlib.Core.Path.{_≡_};
-ghost use lib.ListN.{length};
 
 // What stands from row to row: the device and its state, how much of array and residue is lent, the group, and the lines
 // printed.
@@ -314,17 +312,10 @@ fn all(text: &[u8], array: &mut [u8], residue: &mut [u8]) {
     }
 }
 
-// As many bytes as an array can have, and one more.
-fn blank() -> [u8; 131073]
-    ensures { λ r. ⌜ 131073 ≡ length r ⌝ }
-{
-    [0; 131073]
-}
-
 fn main() {
     let mut text = [0u8; 131072];
-    let mut array = blank();
-    let mut residue = blank();
+    let mut array = rows::blank();
+    let mut residue = rows::blank();
     let n = io::read_full(0, &mut text);
     all(&text[..n], &mut array, &mut residue);
 }

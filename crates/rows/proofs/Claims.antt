@@ -2,7 +2,7 @@
 use mathlib.Core.Path.{_≡_}
 use mathlib.Core.List.{List, []}
 use Prim.Native.Nat.{ℕ, _+_, _%_, _≤_, min, max}
-use lib.ListN.{length, set}
+use lib.ListN.{length, set, replicate}
 use Rattle.cells.specs.Pick.{Unique, only}
 use Rattle.rows.specs.declared.Group.{Group}
 use Rattle.rows.specs.Text.{readOf, fieldOf, spelled, nextRow, groupAt}
@@ -41,3 +41,7 @@ sow-unique s top first step = only (sown top first step (length s))
 
 pub put-unique : (s : List ℕ) (at b : ℕ) → Unique (λ (left : List ℕ). left ≡ set s at b)
 put-unique s at b = only (set s at b)
+
+-- the array made
+pub blank-unique : Unique (λ (r : List ℕ). (r ≡ replicate {A = ℕ} 131073 0) × (131073 ≡ length r))
+blank-unique r q p t = only (replicate {A = ℕ} 131073 0) r q (p .0) (t .0)

@@ -2,8 +2,8 @@
 // function takes any input.
 ghost use mathlib.Core.Path.{_≡_};
 ghost use mathlib.Core.List.{List, []};
-ghost use Prim.Native.Nat.{_+_, _<_, _≤_, _%_, min, max};
-ghost use lib.ListN.{length, set};
+ghost use Prim.Native.Nat.{ℕ, _+_, _<_, _≤_, _%_, min, max};
+ghost use lib.ListN.{length, set, replicate};
 ghost use Rattle.rows.specs.Text.{digitOf, readOf, fieldOf, letterOf, spelled, nextRow, groupAt};
 ghost use Rattle.rows.specs.Patterns.{digestOf, sown};
 
@@ -181,4 +181,11 @@ pub fn put(s: &mut [u8], at: usize, b: u8)
     if at < s.len() {
         s[at] = b;
     }
+}
+
+// As many zeros as the largest array has bytes, and one more.
+pub fn blank() -> [u8; 131073]
+    ensures { λ r. ⌜ (r ≡ replicate {A = ℕ} 131073 0) × (131073 ≡ length r) ⌝ }
+{
+    [0; 131073]
 }

@@ -13,8 +13,6 @@ use loader::Stage;
 use loader::Turn;
 use rows::Group;
 use run::Ran;
-ghost use mathlib.Core.Path.{_≡_};
-ghost use lib.ListN.{length};
 
 // What is loaded and with what: the device, the levels, the block, and how much of each slice is lent.
 struct Setup {
@@ -495,18 +493,11 @@ fn all(text: &[u8], array: &mut [u8], wanted: &mut [u8], scratch: &mut [u8]) {
     }
 }
 
-// As many bytes as an array can have, and one more.
-fn blank() -> [u8; 131073]
-    ensures { λ r. ⌜ 131073 ≡ length r ⌝ }
-{
-    [0; 131073]
-}
-
 fn main() {
     let mut text = [0u8; 65536];
-    let mut array = blank();
-    let mut wanted = blank();
-    let mut scratch = blank();
+    let mut array = rows::blank();
+    let mut wanted = rows::blank();
+    let mut scratch = rows::blank();
     let n = io::read_full(0, &mut text);
     all(&text[..n], &mut array, &mut wanted, &mut scratch);
 }
