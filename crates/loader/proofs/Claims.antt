@@ -7,7 +7,10 @@ use Prim.Native.Nat.{ℕ}
 use Rattle.cells.specs.Pick.{Unique, only}
 use Rattle.loader.specs.declared.Stage.{Stage}
 use Rattle.loader.specs.declared.Loader.{Loader}
-use Rattle.loader.specs.Moves.{endedBy, isReady, eraseFault, nextIn}
+use Rattle.loader.specs.Moves.{at, endedBy, isReady, eraseFault, readMore, erasePolled, programPolled, verifyMore, nextIn}
+
+pub moved-unique : (l : Loader) (stage : Stage) (place polls : ℕ) → Unique (λ (r : Loader). r ≡ at l stage place polls)
+moved-unique l stage place polls = only (at l stage place polls)
 
 pub ended-by-unique : (l : Loader) (n : ℕ) → Unique (λ (r : Loader). r ≡ endedBy l n)
 ended-by-unique l n = only (endedBy l n)
@@ -17,6 +20,18 @@ is-ready-unique b = only (isReady b)
 
 pub erase-fault-unique : (b : ℕ) → Unique (λ (r : ℕ). r ≡ eraseFault b)
 erase-fault-unique b = only (eraseFault b)
+
+pub read-more-unique : (l : Loader) (w sc : List ℕ) → Unique (λ (r : Loader). r ≡ readMore l w sc)
+read-more-unique l w sc = only (readMore l w sc)
+
+pub erase-polled-unique : (l : Loader) (b : ℕ) (w sc : List ℕ) → Unique (λ (r : Loader). r ≡ erasePolled l b w sc)
+erase-polled-unique l b w sc = only (erasePolled l b w sc)
+
+pub program-polled-unique : (l : Loader) (b : ℕ) (w sc : List ℕ) → Unique (λ (r : Loader). r ≡ programPolled l b w sc)
+program-polled-unique l b w sc = only (programPolled l b w sc)
+
+pub verify-more-unique : (l : Loader) (b : ℕ) (w : List ℕ) → Unique (λ (r : Loader). r ≡ verifyMore l b w)
+verify-more-unique l b w = only (verifyMore l b w)
 
 pub next-unique : (stage : Stage) (l : Loader) (b : ℕ) (w sc : List ℕ) → Unique (λ (r : Loader). r ≡ nextIn stage l b w sc)
 next-unique stage l b w sc = only (nextIn stage l b w sc)

@@ -26,7 +26,8 @@ ghost use Rattle.loader.specs.Moves.{
   nextIn,
 };
 
-fn moved(l: Loader, stage: Stage, place: usize, polls: u32) -> Loader
+// The record at another stage, place and count of polls.
+pub fn moved(l: Loader, stage: Stage, place: usize, polls: u32) -> Loader
     ensures { λ r. ⌜ r ≡ at l stage place polls ⌝ }
 {
     let part = l.part;
@@ -137,7 +138,8 @@ fn last(n: usize) -> usize
     n - 1
 }
 
-fn read_more(l: Loader, wanted: &[u8], scratch: &[u8]) -> Loader
+// A byte of the first reads is in.
+pub fn read_more(l: Loader, wanted: &[u8], scratch: &[u8]) -> Loader
     ensures { λ r. ⌜ r ≡ readMore l (now (wanted .entry)) (now (scratch .entry)) ⌝ }
 {
     let end = last(wanted.len());
@@ -156,7 +158,8 @@ fn poll_more(l: Loader, stage: Stage) -> Loader
     moved(l, stage, l.place, l.polls + 1)
 }
 
-fn erase_polled(l: Loader, b: u8, wanted: &[u8], scratch: &[u8]) -> Loader
+// A poll of the erase is in.
+pub fn erase_polled(l: Loader, b: u8, wanted: &[u8], scratch: &[u8]) -> Loader
     ensures { λ r. ⌜ r ≡ erasePolled l b (now (wanted .entry)) (now (scratch .entry)) ⌝ }
 {
     if is_ready(b) {
@@ -178,7 +181,8 @@ fn past(p: usize, n: usize) -> usize
     p
 }
 
-fn program_polled(l: Loader, b: u8, wanted: &[u8], scratch: &[u8]) -> Loader
+// A poll of a program is in.
+pub fn program_polled(l: Loader, b: u8, wanted: &[u8], scratch: &[u8]) -> Loader
     ensures { λ r. ⌜ r ≡ programPolled l b (now (wanted .entry)) (now (scratch .entry)) ⌝ }
 {
     if is_ready(b) {
@@ -191,7 +195,8 @@ fn program_polled(l: Loader, b: u8, wanted: &[u8], scratch: &[u8]) -> Loader
     poll_more(l, Stage::ProgramWaiting)
 }
 
-fn verify_more(l: Loader, b: u8, wanted: &[u8]) -> Loader
+// A byte of the verify is in.
+pub fn verify_more(l: Loader, b: u8, wanted: &[u8]) -> Loader
     ensures { λ r. ⌜ r ≡ verifyMore l b (now (wanted .entry)) ⌝ }
 {
     let end = last(wanted.len());

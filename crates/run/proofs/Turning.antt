@@ -5,14 +5,38 @@ use mathlib.Core.List.{List}
 use Prim.Native.Nat.{ℕ, zero, suc, _+_, _-_, _≤_, _<_}
 use native.Mathlib.Omega.{arith}
 use lib.ListN.{length}
-use Rattle.cells.specs.Pick.{pick-true, pick-false}
+use Rattle.cells.specs.Pick.{pick-true, pick-false, unlike}
 use Rattle.device.specs.declared.Device.{Device}
 use Rattle.chip.specs.declared.State.{State}
 use Rattle.loader.specs.declared.Loader.{Loader}
+use Rattle.loader.specs.Moves.{endedBy, nextOf}
+use Rattle.stepper.specs.Outs.{firstOf}
+use Rattle.stepper.specs.Stores.{storeOf}
+use Rattle.stepper.proofs.Again.{first-kept}
 use Rattle.model.specs.declared.Seen.{Seen}
-use Rattle.run.specs.Turns.{Config, isEnded, loaderBy, scratchBy, answerTo, arrayTo, moved, turnOf, after, bound}
+use Rattle.model.specs.declared.Seen.the-variants.{NoData, Byte, Refused}
+use Rattle.run.specs.Turns.{Config, isEnded, isRefused, numberIn, loaderBy, scratchBy, answerTo, arrayTo, moved, turnOf, after, bound}
 use Rattle.run.specs.Runs.{driven}
 use Rattle.run.proofs.Measure.{remains, remains-bound, falls}
+
+-- an answer taken, refused or not
+pub took : (seen : Seen) (l : Loader) (w sc : List ℕ) → isRefused seen ≡ false
+    → (loaderBy seen l w sc ≡ nextOf l (numberIn seen) w (storeOf l (numberIn seen) sc)) × (scratchBy seen l sc ≡ storeOf l (numberIn seen) sc)
+took NoData l w sc e = (refl, refl)
+took (Byte b) l w sc e = (refl, refl)
+took (Refused n) l w sc e = absurd (unlike e)
+
+pub took-none : (seen : Seen) (l : Loader) (w sc : List ℕ) → isRefused seen ≡ true → (loaderBy seen l w sc ≡ endedBy l (numberIn seen)) × (scratchBy seen l sc ≡ sc)
+took-none NoData l w sc e = absurd (unlike (sym e))
+took-none (Byte b) l w sc e = absurd (unlike (sym e))
+took-none (Refused n) l w sc e = (refl, refl)
+
+-- the block begins where it began
+pub first-stays : (seen : Seen) (l : Loader) (w sc : List ℕ) → firstOf (loaderBy seen l w sc) ≡ firstOf l
+unfolding firstOf
+first-stays NoData l w sc = first-kept l 0 w (storeOf l 0 sc)
+first-stays (Byte b) l w sc = first-kept l b w (storeOf l b sc)
+first-stays (Refused n) l w sc = refl
 
 pub turn-ended : (d : Device) (w : List ℕ) (c : Config) → isEnded (c .loader .stage) ≡ true → turnOf d w c ≡ c
 unfolding turnOf

@@ -38,6 +38,17 @@ isEnded Closing = false
 isEnded Verifying = false
 isEnded (Ended n) = true
 
+abbrev pub isRefused : Seen → Bool
+isRefused NoData = false
+isRefused (Byte b) = false
+isRefused (Refused n) = true
+
+-- the number that an answer holds: the byte, 0 where none is given, or that of the refusal
+abbrev pub numberIn : Seen → ℕ
+numberIn NoData = 0
+numberIn (Byte b) = b
+numberIn (Refused n) = n
+
 -- what the loader makes of the model's answer: it takes the byte, 0 where none is given; a refusal would end the load
 abbrev pub loaderBy : Seen → Loader → List ℕ → List ℕ → Loader
 loaderBy NoData l w sc = nextOf l 0 w (storeOf l 0 sc)

@@ -1,4 +1,7 @@
 // The loader run against the model: the cycles are made one after the other until the load ends, and counted.
+pub mod takes;
+
+use crate::takes::take;
 use chip::Phase;
 use chip::Pins;
 use chip::State;
@@ -13,15 +16,16 @@ use stepper::front::end_address;
 use stepper::front::no_block;
 use stepper::front::record_at;
 use stepper::front::wrong_lengths;
-use stepper::outs::out;
-use stepper::stores::advance;
+use stepper::outs::cycle_in;
+use stepper::outs::first;
 ghost use mathlib.Core.Path.{_≡_};
 ghost use mathlib.Core.Bool.{not};
 ghost use Prim.Native.Nat.{_≤_};
 ghost use lib.ListN.{length};
 ghost use lib.Dec.{eqb};
 ghost use Rattle.device.specs.Parts.{sizeOf};
-ghost use Rattle.run.specs.Turns.{isEnded, loaderBy, scratchBy, answerTo, arrayTo};
+ghost use Rattle.stepper.specs.Outs.{firstOf, hereOf};
+ghost use Rattle.run.specs.Turns.{isEnded, isRefused, numberIn, loaderBy, scratchBy, answerTo, arrayTo};
 ghost use Rattle.run.specs.Runs.{underWay, runNumber, endOf, begin, ranBy, driven, ranOf, bytesOf, scratchOf};
 
 // What a run returns: the cycles made, the number of the end (0 well), for 25 the array address, and the device's state.
@@ -38,20 +42,52 @@ pub struct Held {
     pub state: State,
 }
 
+fn is_refused(seen: Seen) -> bool
+    ensures { λ r. ⌜ r ≡ isRefused seen ⌝ }
+{
+    match seen {
+        Seen::NoData => false,
+        Seen::Byte(_) => false,
+        Seen::Refused(_) => true,
+    }
+}
+
+fn number_in(seen: Seen) -> u8
+    ensures { λ r. ⌜ r ≡ numberIn seen ⌝ }
+{
+    match seen {
+        Seen::NoData => 0,
+        Seen::Byte(b) => b,
+        Seen::Refused(n) => n,
+    }
+}
+
 // The loader takes what the model answered.
 fn taken(seen: Seen, l: Loader, wanted: &[u8], scratch: &mut [u8]) -> Loader
     ensures { λ r. ⌜ r ≡ loaderBy seen l (now (wanted .entry)) (now (scratch .entry)) ⌝ }
     ensures { λ _. ⌜ now (scratch .exit) ≡ scratchBy seen l (now (scratch .entry)) ⌝ }
 {
-    match seen {
-        Seen::NoData => advance(l, 0, wanted, scratch),
-        Seen::Byte(b) => advance(l, b, wanted, scratch),
-        Seen::Refused(n) => ended_by(l, n),
+    let n = number_in(seen);
+    if is_refused(seen) {
+        return ended_by(l, n);
     }
+    take(l, n, wanted, scratch)
 }
 
-// One cycle made.
-fn both(d: Device, h: Held, wanted: &[u8], scratch: &mut [u8], array: &mut [u8]) -> Held
+// The address of the byte at the record's place, by the block's first address.
+fn here(start: u32, l: Loader) -> u32
+    requires { ⌜ start ≡ firstOf l ⌝ }
+    ensures { λ r. ⌜ r ≡ hereOf l ⌝ }
+{
+    if l.place < 16777216 {
+        return start + l.place as u32;
+    }
+    start
+}
+
+// One cycle made, by the block's first address.
+fn both(d: Device, start: u32, h: Held, wanted: &[u8], scratch: &mut [u8], array: &mut [u8]) -> Held
+    requires { ⌜ start ≡ firstOf (h .loader) ⌝ }
     ensures { λ r. ⌜ r .loader
         ≡ loaderBy (answerTo d (now (wanted .entry)) (h .loader) (h .state) (now (array .entry)) .seen) (h .loader) (now (wanted .entry)) (now (scratch .entry)) ⌝ }
     ensures { λ r. ⌜ r .state ≡ answerTo d (now (wanted .entry)) (h .loader) (h .state) (now (array .entry)) .state ⌝ }
@@ -61,7 +97,8 @@ fn both(d: Device, h: Held, wanted: &[u8], scratch: &mut [u8], array: &mut [u8])
 {
     let l = h.loader;
     let s = h.state;
-    let c = out(l, wanted);
+    let stage = l.stage;
+    let c = cycle_in(stage, start, here(start, l), l, wanted);
     let a = model::cycle(d, s, c, array, &wanted[0..0]);
     let seen = a.seen;
     let state = a.state;
@@ -123,12 +160,14 @@ fn drive(d: Device, s: State, l: Loader, wanted: &[u8], scratch: &mut [u8], arra
     ensures { λ _. ⌜ now (scratch .exit) ≡ driven d (now (wanted .entry)) (begin d s l (now (array .entry)) (now (scratch .entry))) .scratch ⌝ }
     ensures { λ _. ⌜ now (array .exit) ≡ driven d (now (wanted .entry)) (begin d s l (now (array .entry)) (now (scratch .entry))) .bytes ⌝ }
 {
+    let start = first(l);
     let mut moving = l;
     let mut state = s;
     let mut count: u64 = 0;
     while going(moving) {
         let h = both(
             d,
+            start,
             Held {
                 loader: moving,
                 state: state,

@@ -22,6 +22,7 @@ use Rattle.loader.specs.declared.Given.{Given}
 use Rattle.loader.specs.Walks.{diffFrom, risesIn}
 use Rattle.loader.specs.Moves as moves
 use Rattle.loader.specs.Moves.{at, endedBy, isReady, eraseFault, programFault, onward, afterReads, readMore, pollMore, erasePolled, programPolled, verifyMore, nextIn, nextOf}
+use Rattle.stepper.specs.Outs.{firstOf}
 use Rattle.stepper.specs.Stores.{erasedWell, storeIn, storeOf}
 use Rattle.stepper.specs.Front.{barredPins, noBlock, wrongLengths, badRecord, startRows, stepRows, startNumber, stepNumber, recordAt, endAddress, turnIn, givenBy, barredBy, startOf, stepOf, scratchAfter}
 
@@ -140,45 +141,48 @@ module _ (l : Loader) (b : ℕ) (w sc : List ℕ) where
   unfolding stepOf scratchAfter
   step-on e = (judged-given stepN onN w l e, pick-true (eqb stepN 0) (storeOf l b sc) sc (eq-eqb stepN 0 e))
 
--- a record of the same part, block and levels with its place in n bytes and its polls in bounds
+-- a record of the same part, block and levels; its place stays in n bytes and its polls in bounds
 pub record Kept (l : Loader) (n : ℕ) (r : Loader) : Type 0 where
   pub same : r ≡ at l (r .stage) (r .place) (r .polls)
-  pub place : r .place < n
-  pub polls : r .polls ≤ 65534
+  pub place : l .place < n → r .place < n
+  pub polls : l .polls ≤ 65534 → r .polls ≤ 65534
 
-kept-at : (l : Loader) (n : ℕ) (stage : Stage) (p q : ℕ) → p < n → q ≤ 65534 → Kept l n (at l stage p q)
+kept-at : (l : Loader) (n : ℕ) (stage : Stage) (p q : ℕ) → (l .place < n → p < n) → (l .polls ≤ 65534 → q ≤ 65534) → Kept l n (at l stage p q)
 kept-at l n stage p q h i = record { same = refl; place = h; polls = i }
 
-module _ (l : Loader) (w : List ℕ) (h : l .place < length w) (q : l .polls ≤ 65534) where
+module _ (l : Loader) (w : List ℕ) where
   abbrev In : Loader → Type 0
   In r = Kept l (length w) r
 
+  no-polls : l .polls ≤ 65534 → 0 ≤ 65534
+  no-polls q = omega arith
+
   kept-end : (n : ℕ) → In (endedBy l n)
-  kept-end n = kept-at l (length w) (Ended n) (l .place) 0 h (omega arith)
+  kept-end n = kept-at l (length w) (Ended n) (l .place) 0 (λ h. h) no-polls
 
   kept-first : (stage : Stage) → In (at l stage 0 0)
-  kept-first stage = kept-at l (length w) stage 0 0 (omega arith) (omega arith)
+  kept-first stage = kept-at l (length w) stage 0 0 (λ (h : l .place < length w). omega arith) no-polls
 
   kept-here : (stage : Stage) → In (at l stage (l .place) 0)
-  kept-here stage = kept-at l (length w) stage (l .place) 0 h (omega arith)
+  kept-here stage = kept-at l (length w) stage (l .place) 0 (λ h. h) no-polls
 
   kept-onward : (i : ℕ) (sc : List ℕ) → In (onward l i w sc)
   unfolding onward
   kept-onward i sc =
-      pick-ind In (ltb (diffFrom i w sc) (length w)) _ _ (λ e. kept-at l (length w) ProgramAsking (diffFrom i w sc) 0 (ltb-true _ _ e) (omega arith)) (λ e. kept-first Closing)
+      pick-ind In (ltb (diffFrom i w sc) (length w)) _ _ (λ e. kept-at l (length w) ProgramAsking (diffFrom i w sc) 0 (λ h. ltb-true _ _ e) no-polls) (λ e. kept-first Closing)
 
   kept-read : (sc : List ℕ) → In (readMore l w sc)
   unfolding readMore afterReads
   kept-read sc =
       pick-ind In (ltb (l .place) (length w - 1)) _ _
-      (λ e. kept-at l (length w) Reading (l .place + 1) 0 (let z = ltb-true (l .place) (length w - 1) e in omega arith) (omega arith))
+      (λ e. kept-at l (length w) Reading (l .place + 1) 0 (λ h. let z = ltb-true (l .place) (length w - 1) e in omega arith) no-polls)
       (λ e. pick-ind In (risesIn w sc) _ _ (λ r. kept-first EraseAsking) (λ r. kept-onward 0 sc))
 
   kept-poll : (stage : Stage) → In (pollMore l stage)
   unfolding pollMore
   kept-poll stage =
       pick-ind In (leb 65534 (l .polls)) _ _ (λ e. kept-end 20)
-      (λ e. kept-at l (length w) stage (l .place) (l .polls + 1) h (let z = leb-false 65534 (l .polls) e in omega arith))
+      (λ e. kept-at l (length w) stage (l .place) (l .polls + 1) (λ h. h) (λ q. let z = leb-false 65534 (l .polls) e in omega arith))
 
   kept-erase : (b : ℕ) (sc : List ℕ) → In (erasePolled l b w sc)
   unfolding erasePolled
@@ -197,7 +201,7 @@ module _ (l : Loader) (w : List ℕ) (h : l .place < length w) (q : l .polls ≤
   kept-verify b =
       pick-ind In (eqb b (getD w (l .place) 0)) _ _
       (λ e. pick-ind In (ltb (l .place) (length w - 1)) _ _
-      (λ i. kept-at l (length w) Verifying (l .place + 1) 0 (let z = ltb-true (l .place) (length w - 1) i in omega arith) (omega arith)) (λ i. kept-end 0))
+      (λ i. kept-at l (length w) Verifying (l .place + 1) 0 (λ h. let z = ltb-true (l .place) (length w - 1) i in omega arith) no-polls) (λ i. kept-end 0))
       (λ e. kept-end 25)
 
   -- every byte taken leaves such a record
@@ -213,7 +217,12 @@ module _ (l : Loader) (w : List ℕ) (h : l .place < length w) (q : l .polls ≤
   kept-next ProgramWaiting b sc = kept-program b sc
   kept-next Closing b sc = kept-first Verifying
   kept-next Verifying b sc = kept-verify b
-  kept-next (Ended n) b sc = record { same = refl; place = h; polls = q }
+  kept-next (Ended n) b sc = record { same = refl; place = λ h. h; polls = λ q. q }
+
+-- and begins the block at the same address
+pub first-kept : (l : Loader) (b : ℕ) (w sc : List ℕ) → firstOf (nextOf l b w sc) ≡ firstOf l
+unfolding firstOf
+first-kept l b w sc = ap firstOf (kept-next l w (l .stage) b sc .same)
 
 -- scratch keeps its length
 pub store-length : (stage : Stage) (place b : ℕ) (sc : List ℕ) → length (storeIn stage place b sc) ≡ length sc
@@ -294,7 +303,7 @@ kept-taken : (l r : Loader) (w sc : ℕ) → Taken l w sc → Kept l w r → ste
 kept-taken l r w sc t k =
     subst (λ (x : Loader). stepNumber x w sc ≡ 0) (sym (k .same))
     (taken-back (at l (r .stage) (r .place) (r .polls)) w sc
-    (record { known = t .known; levels = t .levels; block = t .block; lengths = t .lengths; wanted = t .wanted; place = k .place; polls = k .polls }))
+    (record { known = t .known; levels = t .levels; block = t .block; lengths = t .lengths; wanted = t .wanted; place = k .place (t .place); polls = k .polls (t .polls) }))
 
 -- every record that an accepted step gives is taken again
 pub step-again : (l : Loader) (b : ℕ) (w sc : List ℕ) → stepNumber l (length w) (length sc) ≡ 0
@@ -303,7 +312,7 @@ step-again l b w sc e =
     let t = taken l (length w) (length sc) e in
     let s = step-on l b w sc e in
     rw (s .0, s .1, store-length (l .stage) (l .place) b sc)
-    (kept-taken l (nextOf l b w (storeOf l b sc)) (length w) (length sc) t (kept-next l w (t .place) (t .polls) (l .stage) b (storeOf l b sc)))
+    (kept-taken l (nextOf l b w (storeOf l b sc)) (length w) (length sc) t (kept-next l w (l .stage) b (storeOf l b sc)))
 
 -- and so is the record of an accepted start
 start-gives : (part : Part) (p : Pins) (k : ℕ) (w sc : List ℕ) → startNumber part p k (length w) (length sc) ≡ 0

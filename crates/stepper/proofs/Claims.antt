@@ -4,20 +4,20 @@ use mathlib.Core.Bool.{Bool, false}
 use mathlib.Core.List.{List}
 use mathlib.Core.Logic.{_↔_}
 use Prim.Native.Nat.{ℕ}
-use lib.ListN.{length}
+use lib.ListN.{length, set}
 use Rattle.cells.specs.Pick.{Unique, only}
 use Rattle.cells.specs.Numbers.{Foremost, NoRow}
 use Rattle.device.specs.declared.Part.{Part}
 use Rattle.chip.specs.declared.Pins.{Pins}
 use Rattle.chip.specs.declared.Cycle.{Cycle}
 use Rattle.loader.specs.declared.Stage.{Stage}
-use Rattle.loader.specs.declared.Stage.the-variants.{Ended}
+use Rattle.loader.specs.declared.Stage.the-variants.{EraseWaiting, Ended}
 use Rattle.loader.specs.declared.Loader.{Loader}
 use Rattle.loader.specs.declared.Turn.the-variants.{Over, Barred}
 use Rattle.loader.specs.declared.Given.{Given}
 use Rattle.loader.specs.Moves.{nextOf}
-use Rattle.stepper.specs.Outs.{cycleOf}
-use Rattle.stepper.specs.Stores.{storeOf}
+use Rattle.stepper.specs.Outs.{firstOf, cycleIn, cycleOf}
+use Rattle.stepper.specs.Stores.{storeIn, storeOf}
 use Rattle.stepper.specs.Front.{barredPins, noBlock, wrongLengths, startRows, stepRows, startNumber, stepNumber, recordAt, endAddress, startOf, stepOf, scratchAfter}
 use Rattle.stepper.proofs.Again as again
 
@@ -95,6 +95,18 @@ advance-unique l b w sc = only (nextOf l b w (storeOf l b sc))
 
 pub advance-scratch-unique : (l : Loader) (b : ℕ) (sc : List ℕ) → Unique (λ (left : List ℕ). left ≡ storeOf l b sc)
 advance-scratch-unique l b sc = only (storeOf l b sc)
+
+pub put-unique : (sc : List ℕ) (place b : ℕ) → Unique (λ (left : List ℕ). left ≡ set sc place b)
+put-unique sc place b = only (set sc place b)
+
+pub store-erase-unique : (b : ℕ) (sc : List ℕ) → Unique (λ (left : List ℕ). left ≡ storeIn EraseWaiting 0 b sc)
+store-erase-unique b sc = only (storeIn EraseWaiting 0 b sc)
+
+pub first-unique : (l : Loader) → Unique (λ (r : ℕ). r ≡ firstOf l)
+first-unique l = only (firstOf l)
+
+pub cycle-in-unique : (stage : Stage) (first here : ℕ) (l : Loader) (w : List ℕ) → Unique (λ (r : Cycle). r ≡ cycleIn stage first here l w)
+cycle-in-unique stage first here l w = only (cycleIn stage first here l w)
 
 pub out-unique : (l : Loader) (w : List ℕ) → Unique (λ (r : Cycle). r ≡ cycleOf l w)
 out-unique l w = only (cycleOf l w)

@@ -29,19 +29,19 @@ abbrev pub cycleAt : Loader → Kind → ℕ → ℕ → Cycle
 cycleAt l kind address byte = record { kind = kind; pins = l .pins; oe = 0; address = address; byte = byte }
 
 -- the cycle that is out: commands and an erase's polls at the block's first address, all about one byte at that byte
-abbrev pub cycleIn : Stage → Loader → List ℕ → Cycle
-cycleIn Clearing l w = cycleAt l Write (firstOf l) 0x50
-cycleIn Opening l w = cycleAt l Write (firstOf l) 0xFF
-cycleIn Reading l w = cycleAt l Read (hereOf l) 0
-cycleIn EraseAsking l w = cycleAt l Write (firstOf l) 0x20
-cycleIn EraseConfirming l w = cycleAt l Write (firstOf l) 0xD0
-cycleIn EraseWaiting l w = cycleAt l Read (firstOf l) 0
-cycleIn ProgramAsking l w = cycleAt l Write (hereOf l) 0x40
-cycleIn ProgramSending l w = cycleAt l Write (hereOf l) (getD w (l .place) 0)
-cycleIn ProgramWaiting l w = cycleAt l Read (hereOf l) 0
-cycleIn Closing l w = cycleAt l Write (firstOf l) 0xFF
-cycleIn Verifying l w = cycleAt l Read (hereOf l) 0
-cycleIn (Ended n) l w = cycleAt l Idle (firstOf l) 0
+abbrev pub cycleIn : Stage → ℕ → ℕ → Loader → List ℕ → Cycle
+cycleIn Clearing first here l w = cycleAt l Write first 0x50
+cycleIn Opening first here l w = cycleAt l Write first 0xFF
+cycleIn Reading first here l w = cycleAt l Read here 0
+cycleIn EraseAsking first here l w = cycleAt l Write first 0x20
+cycleIn EraseConfirming first here l w = cycleAt l Write first 0xD0
+cycleIn EraseWaiting first here l w = cycleAt l Read first 0
+cycleIn ProgramAsking first here l w = cycleAt l Write here 0x40
+cycleIn ProgramSending first here l w = cycleAt l Write here (getD w (l .place) 0)
+cycleIn ProgramWaiting first here l w = cycleAt l Read here 0
+cycleIn Closing first here l w = cycleAt l Write first 0xFF
+cycleIn Verifying first here l w = cycleAt l Read here 0
+cycleIn (Ended n) first here l w = cycleAt l Idle first 0
 
 abbrev pub cycleOf : Loader → List ℕ → Cycle
-cycleOf l w = cycleIn (l .stage) l w
+cycleOf l w = cycleIn (l .stage) (firstOf l) (hereOf l) l w

@@ -6,7 +6,8 @@ use loader::Stage;
 ghost use mathlib.Core.Path.{_≡_};
 ghost use Rattle.stepper.specs.Outs.{firstOf, hereOf, cycleAt, cycleIn, cycleOf};
 
-fn first(l: Loader) -> u32
+// The block's first address.
+pub fn first(l: Loader) -> u32
     ensures { λ r. ⌜ r ≡ firstOf l ⌝ }
 {
     let part = l.part;
@@ -37,23 +38,23 @@ fn cycle_at(l: Loader, kind: Kind, address: u32, byte: u8) -> Cycle
     }
 }
 
-// The cycle that is out.
-fn cycle_in(stage: Stage, l: Loader, wanted: &[u8]) -> Cycle
-    ensures { λ r. ⌜ r ≡ cycleIn stage l (now (wanted .entry)) ⌝ }
+// The cycle that is out, by the block's first address and that of the byte at the record's place.
+pub fn cycle_in(stage: Stage, first: u32, here: u32, l: Loader, wanted: &[u8]) -> Cycle
+    ensures { λ r. ⌜ r ≡ cycleIn stage first here l (now (wanted .entry)) ⌝ }
 {
     match stage {
-        Stage::Clearing => cycle_at(l, Kind::Write, first(l), 0x50),
-        Stage::Opening => cycle_at(l, Kind::Write, first(l), 0xFF),
-        Stage::Reading => cycle_at(l, Kind::Read, here(l), 0),
-        Stage::EraseAsking => cycle_at(l, Kind::Write, first(l), 0x20),
-        Stage::EraseConfirming => cycle_at(l, Kind::Write, first(l), 0xD0),
-        Stage::EraseWaiting => cycle_at(l, Kind::Read, first(l), 0),
-        Stage::ProgramAsking => cycle_at(l, Kind::Write, here(l), 0x40),
-        Stage::ProgramSending => cycle_at(l, Kind::Write, here(l), cells::nth(wanted, l.place)),
-        Stage::ProgramWaiting => cycle_at(l, Kind::Read, here(l), 0),
-        Stage::Closing => cycle_at(l, Kind::Write, first(l), 0xFF),
-        Stage::Verifying => cycle_at(l, Kind::Read, here(l), 0),
-        Stage::Ended(_) => cycle_at(l, Kind::Idle, first(l), 0),
+        Stage::Clearing => cycle_at(l, Kind::Write, first, 0x50),
+        Stage::Opening => cycle_at(l, Kind::Write, first, 0xFF),
+        Stage::Reading => cycle_at(l, Kind::Read, here, 0),
+        Stage::EraseAsking => cycle_at(l, Kind::Write, first, 0x20),
+        Stage::EraseConfirming => cycle_at(l, Kind::Write, first, 0xD0),
+        Stage::EraseWaiting => cycle_at(l, Kind::Read, first, 0),
+        Stage::ProgramAsking => cycle_at(l, Kind::Write, here, 0x40),
+        Stage::ProgramSending => cycle_at(l, Kind::Write, here, cells::nth(wanted, l.place)),
+        Stage::ProgramWaiting => cycle_at(l, Kind::Read, here, 0),
+        Stage::Closing => cycle_at(l, Kind::Write, first, 0xFF),
+        Stage::Verifying => cycle_at(l, Kind::Read, here, 0),
+        Stage::Ended(_) => cycle_at(l, Kind::Idle, first, 0),
     }
 }
 
@@ -62,5 +63,6 @@ pub fn out(l: Loader, wanted: &[u8]) -> Cycle
     ensures { λ r. ⌜ r ≡ cycleOf l (now (wanted .entry)) ⌝ }
 {
     let stage = l.stage;
-    cycle_in(stage, l, wanted)
+    let a = first(l);
+    cycle_in(stage, a, here(l), l, wanted)
 }

@@ -11,7 +11,7 @@ ghost use Rattle.loader.specs.Moves.{nextOf};
 ghost use Rattle.stepper.specs.Stores.{erasedWell, storeIn, storeOf};
 
 // The byte at a place becomes b; nothing past the end.
-fn put(s: &mut [u8], at: usize, b: u8)
+pub fn put(s: &mut [u8], at: usize, b: u8)
     ensures { λ _. ⌜ now (s .exit) ≡ set (now (s .entry)) at b ⌝ }
 {
     if at < s.len() {
@@ -26,7 +26,7 @@ fn erased_well(b: u8) -> bool
 }
 
 // An erase that ended well fills scratch with ones.
-fn store_erase(b: u8, scratch: &mut [u8])
+pub fn store_erase(b: u8, scratch: &mut [u8])
     ensures { λ _. ⌜ now (scratch .exit) ≡ storeIn EraseWaiting 0 b (now (scratch .entry)) ⌝ }
 {
     if erased_well(b) {

@@ -1,17 +1,19 @@
-use mathlib.Core.Path.{_≡_, ap}
+use mathlib.Core.Path.{_≡_, ap, _∙_}
 use mathlib.Core.List.{[]}
 use Rattle.chip.specs.declared.Cycle.{Cycle}
-use Rattle.stepper.specs.Outs.{cycleOf}
+use Rattle.stepper.specs.Outs.{firstOf, hereOf, cycleIn, cycleOf}
 use Rattle.model.specs.declared.Answer.{Answer}
 use Rattle.model.specs.Arrays.{answerOf, arrayAfter}
 use Rattle.run.specs.Turns.{loaderBy, scratchBy, answerTo, arrayTo}
 use borrow.Author.Needs.{needs}
-use mathlib.Core.Path.{_∙_}
 use Rattle.run.proofs.both.Statement.{statement}
 use Rattle.run.proofs.both.Tie as tie
 
-out-requires : tie.Need-out-requires
-out-requires c κs = search needs
+here-requires : tie.Need-here-requires
+here-requires c κs = search needs
+
+cycle-in-requires : tie.Need-cycle-in-requires
+cycle-in-requires c κs = search needs
 
 sub-cycle : tie.Need-sub-cycle
 sub-cycle c = search needs
@@ -37,13 +39,15 @@ same-length-2 c = search needs
 returns : tie.Need-returns
 unfolding answerTo arrayTo
 returns c =
-    let a = c .before .before .before .before .before .before .before .before .before .before .before .before .before .before .before .before .args in
+    let a = c .before .before .before .before .before .before .before .before .before .before .before .before .before .before .before .before .before .args in
     let l = a .h .loader in
     let s = a .h .state in
     let w = a .wanted .now in
     let sc = a .scratch .now in
     let xs = a .array .now in
-    let o : c .before .before .before .before .before .before .before .before .before .before .out .result ≡ cycleOf l w = c .before .before .before .before .before .before .before .before .before .before .out .ensures in
+    let f : a .start ≡ firstOf l = c .before .before .before .before .before .before .before .before .before .before .before .before .before .before .before .before .before .pre in
+    let q : c .before .before .before .before .before .before .before .before .before .before .before .here .result ≡ hereOf l = c .before .before .before .before .before .before .before .before .before .before .before .here .ensures in
+    let o : c .before .before .before .before .before .before .before .before .before .before .cycle-in .result ≡ cycleOf l w = c .before .before .before .before .before .before .before .before .before .before .cycle-in .ensures ∙ (λ i. cycleIn (l .stage) (f i) (q i) l w) in
     let x : c .before .before .before .before .before .before .before .cycle .result ≡ answerOf (a .d) s (cycleOf l w) xs [] = c .before .before .before .before .before .before .before .cycle .ensures .0 ∙ ap (λ (k : Cycle). answerOf (a .d) s k xs []) o in (
       c .before .before .taken .ensures .0 ∙ ap (λ (y : Answer). loaderBy (y .seen) l w sc) x,
       (
@@ -59,7 +63,8 @@ pub both-spec : {M : Type 1} → statement M
 both-spec =
     tie.close
     (tie.spec
-    out-requires
+    here-requires
+    cycle-in-requires
     sub-cycle
     part-cycle-start
     part-cycle-end

@@ -7,54 +7,60 @@ use borrow.Author.Tests.{not-true, not-false}
 use lib.ListN.{length}
 use Rattle.run.specs.Turns.{Config, isEnded, answerTo}
 use Rattle.run.specs.Runs.{driven, begin, ranBy, endOf}
+use Rattle.stepper.specs.Outs.{firstOf}
 use Rattle.stepper.specs.Front.{endAddress}
 use Rattle.run.proofs.Measure.{remains}
-use Rattle.run.proofs.Turning.{conf, Keeps, keeps-start, keeps-turn, keeps-less, keeps-end}
+use Rattle.run.proofs.Turning.{conf, Keeps, keeps-start, keeps-turn, keeps-less, keeps-end, first-stays}
 use Rattle.run.proofs.drive.Statement.{statement}
 use Rattle.run.proofs.drive.Tie as tie
 
 abbrev Inv-loop : tie.InvT-loop
-Inv-loop d wanted scratch₀ array₀ moving₀ state₀ count₀ scratch array moving state count =
+Inv-loop d wanted scratch₀ array₀ start moving₀ state₀ count₀ scratch array moving state count =
     Keeps d wanted (driven d wanted (conf moving₀ state₀ array₀ scratch₀ 0)) (conf moving state array scratch count)
     × (length scratch ≡ length scratch₀)
     × (length array ≡ length array₀)
     × (length wanted ≤ 131072)
+    × (start ≡ firstOf moving)
 
 abbrev μ-loop : tie.MeasureT-loop
-μ-loop d wanted scratch₀ array₀ moving₀ state₀ count₀ scratch array moving state count = remains moving (length wanted)
+μ-loop d wanted scratch₀ array₀ start moving₀ state₀ count₀ scratch array moving state count = remains moving (length wanted)
+
+first-requires : tie.Need-first-requires Inv-loop μ-loop
+first-requires c κs = search needs
 
 loop-holds : tie.Need-loop-holds Inv-loop μ-loop
 loop-holds c =
-    let a = c .before .before .before .args in
-    (keeps-start (a .d) (a .wanted .now) (a .l) (a .s) (a .array .now) (a .scratch .now), refl, refl, c .before .before .before .pre)
+    let a = c .before .before .before .before .args in
+    (keeps-start (a .d) (a .wanted .now) (a .l) (a .s) (a .array .now) (a .scratch .now), refl, refl, c .before .before .before .before .pre, c .first .ensures)
 
 going-requires : tie.Need-going-requires Inv-loop μ-loop
 going-requires c κs = search needs
 
 both-requires : tie.Need-both-requires Inv-loop μ-loop
-both-requires c κs = search needs
+both-requires c κs = c .before .before .before .before .loop .inv .4
 
 add-count : tie.Need-add-count Inv-loop μ-loop
 add-count c = record { fits = omega (arith, c .before .before .before .before .before .before .before .before .before .before .before .loop .inv .0 .enough, c .before .before .before .before .before .before .before .before .before .before .before .loop .inv .3) }
 
 loop-less : tie.Need-loop-less Inv-loop μ-loop
 loop-less c =
-    let a = c .before .before .before .before .before .before .before .before .before .before .before .before .before .before .before .args in
+    let a = c .before .before .before .before .before .before .before .before .before .before .before .before .before .before .before .before .args in
     let l = c .before .before .before .before .before .before .before .before .before .before .before .loop in
     keeps-less (answerTo (a .d) (a .wanted .now) (l .moving) (l .state) (l .array) .seen) (l .moving) (a .wanted .now) (l .scratch) (c .before .before .before .before .before .before .both .result .loader)
     (not-true (isEnded (l .moving .stage)) (sym (c .before .before .before .before .before .before .before .before .before .before .going .ensures) ∙ c .before .before .before .before .before .before .before .before .before .if1 .taken)) (c .before .before .before .before .before .before .both .ensures .0)
 
 loop-again : tie.Need-loop-again Inv-loop μ-loop
 loop-again c =
-    let a = c .before .before .before .before .before .before .before .before .before .before .before .before .before .before .before .args in
+    let a = c .before .before .before .before .before .before .before .before .before .before .before .before .before .before .before .before .args in
     let l = c .before .before .before .before .before .before .before .before .before .before .before .loop in
     let g = not-true (isEnded (l .moving .stage)) (sym (c .before .before .before .before .before .before .before .before .before .before .going .ensures) ∙ c .before .before .before .before .before .before .before .before .before .if1 .taken) in
     let b = c .before .before .before .before .before .before .both in (
-      keeps-turn (a .d) (a .wanted .now) _ (l .moving) (l .state) (l .array) (l .scratch) (l .count) (l .inv .0) g (b .result .loader) (b .result .state) (b .last .1 .1 .1 .1 .0) (b .last .1 .1 .1 .0)
+      keeps-turn (a .d) (a .wanted .now) _ (l .moving) (l .state) (l .array) (l .scratch) (l .count) (l .inv .0) g (b .result .loader) (b .result .state) (b .last .1 .1 .1 .1 .1 .0) (b .last .1 .1 .1 .1 .0)
           (b .ensures .0) (b .ensures .1 .0) (b .ensures .1 .1 .0) (b .ensures .1 .1 .1),
-      b .kept .1 .1 .1 .0 ∙ l .inv .1,
-      b .kept .1 .1 .1 .1 .0 ∙ l .inv .2,
+      b .kept .1 .1 .1 .1 .0 ∙ l .inv .1,
+      b .kept .1 .1 .1 .1 .1 .0 ∙ l .inv .2,
       l .inv .3,
+      l .inv .4 ∙ sym (first-stays (answerTo (a .d) (a .wanted .now) (l .moving) (l .state) (l .array) .seen) (l .moving) (a .wanted .now) (l .scratch)) ∙ sym (ap firstOf (b .ensures .0)),
     )
 
 end-of-requires : tie.Need-end-of-requires Inv-loop μ-loop
@@ -71,7 +77,7 @@ same-length-2 c = c .before .before .before .before .loop .inv .2
 
 returns : tie.Need-returns Inv-loop μ-loop
 returns c =
-    let a = c .before .before .before .before .before .before .before .before .args in
+    let a = c .before .before .before .before .before .before .before .before .before .args in
     let l = c .before .before .before .before .loop in
     let e : conf (l .moving) (l .state) (l .array) (l .scratch) (l .count) ≡ driven (a .d) (a .wanted .now) (begin (a .d) (a .s) (a .l) (a .array .now) (a .scratch .now)) =
     keeps-end (a .d) (a .wanted .now) _ _ (l .inv .0) (not-false (isEnded (l .moving .stage)) (sym (c .before .before .before .going .ensures) ∙ c .before .before .if1 .left)) in
@@ -82,4 +88,4 @@ returns c =
 pub drive-spec : {M : Type 1} → statement M
 drive-spec =
     tie.close
-    (tie.spec Inv-loop μ-loop loop-holds going-requires both-requires add-count loop-less loop-again end-of-requires end-address-requires same-length same-length-2 returns)
+    (tie.spec Inv-loop μ-loop first-requires loop-holds going-requires both-requires add-count loop-less loop-again end-of-requires end-address-requires same-length same-length-2 returns)

@@ -1,71 +1,54 @@
-use mathlib.Core.Path.{ap}
-use Rattle.model.specs.declared.Seen.{Seen}
-use Rattle.run.specs.Turns.{loaderBy, scratchBy}
+use mathlib.Core.Path.{_≡_, ap, sym, _∙_}
+use Prim.Native.Nat.{ℕ}
+use Rattle.loader.specs.Moves.{endedBy, nextOf}
+use Rattle.stepper.specs.Stores.{storeOf}
+use Rattle.run.specs.Turns.{numberIn}
+use Rattle.run.proofs.Turning.{took, took-none}
 use borrow.Author.Needs.{needs}
-use mathlib.Core.Path.{sym, _∙_}
 use Rattle.run.proofs.taken.Statement.{statement}
 use Rattle.run.proofs.taken.Tie as tie
 
-enum-told : tie.Need-enum-told
-enum-told c = search needs
+number-in-requires : tie.Need-number-in-requires
+number-in-requires c κs = search needs
 
-advance-requires : tie.Need-advance-requires
-advance-requires c κs = search needs
-
-enum-known-seen : tie.Need-enum-known-seen
-enum-known-seen c = search needs
-
-advance-requires-2 : tie.Need-advance-requires-2
-advance-requires-2 c κs = search needs
-
-enum-known-seen-2 : tie.Need-enum-known-seen-2
-enum-known-seen-2 c = search needs
+is-refused-requires : tie.Need-is-refused-requires
+is-refused-requires c κs = search needs
 
 ended-by-requires : tie.Need-ended-by-requires
 ended-by-requires c κs = search needs
 
-same-length : tie.Need-same-length
-same-length c = search needs
-
 returns : tie.Need-returns
 returns c =
-    let a = c .before .before .before .before .before .before .before .before .args in
-    let w = a .wanted .now in
-    let sc = a .scratch .now in
-    let e = c .before .before .before .before .enum-told .given .1 in
-    (c .before .before .advance .ensures .0 ∙ sym (ap (λ (s : Seen). loaderBy s (a .l) w sc) e), c .before .before .advance .ensures .1 ∙ sym (ap (λ (s : Seen). scratchBy s (a .l) sc) e))
+    let a = c .before .before .before .before .before .before .args in
+    let e = sym (c .before .before .is-refused .ensures) ∙ c .before .if1 .taken in
+    let n : c .before .before .before .number-in .result ≡ numberIn (a .seen) = c .before .before .before .number-in .ensures in
+    let t = took-none (a .seen) (a .l) (a .wanted .now) (a .scratch .now) e in
+    (c .ended-by .ensures ∙ ap (λ (m : ℕ). endedBy (a .l) m) n ∙ sym (t .0), sym (t .1))
 
-same-length-2 : tie.Need-same-length-2
-same-length-2 c = search needs
+take-requires : tie.Need-take-requires
+take-requires c κs = search needs
+
+same-length : tie.Need-same-length
+same-length c = search needs
 
 returns-2 : tie.Need-returns-2
 returns-2 c =
     let a = c .before .before .before .before .before .before .before .before .before .args in
     let w = a .wanted .now in
     let sc = a .scratch .now in
-    let e = c .before .before .before .before .before .seen .given .1 in
-    (c .before .before .advance2 .ensures .0 ∙ sym (ap (λ (s : Seen). loaderBy s (a .l) w sc) e), c .before .before .advance2 .ensures .1 ∙ sym (ap (λ (s : Seen). scratchBy s (a .l) sc) e))
-
-returns-3 : tie.Need-returns-3
-returns-3 c =
-    let a = c .before .before .before .before .before .before .args in
-    let w = a .wanted .now in
-    let sc = a .scratch .now in
-    let e = c .before .before .seen2 .given .1 in
-    (c .ended-by .ensures ∙ sym (ap (λ (s : Seen). loaderBy s (a .l) w sc) e), sym (ap (λ (s : Seen). scratchBy s (a .l) sc) e))
+    let e = sym (c .before .before .before .before .before .is-refused .ensures) ∙ c .before .before .before .before .if1 .left in
+    let n : c .before .before .before .before .before .before .number-in .result ≡ numberIn (a .seen) = c .before .before .before .before .before .before .number-in .ensures in
+    let t = took (a .seen) (a .l) w sc e in
+    (c .before .before .take .ensures .0 ∙ ap (λ (m : ℕ). nextOf (a .l) m w (storeOf (a .l) m sc)) n ∙ sym (t .0), c .before .before .take .ensures .1 ∙ ap (λ (m : ℕ). storeOf (a .l) m sc) n ∙ sym (t .1))
 
 pub taken-spec : {M : Type 1} → statement M
 taken-spec =
     tie.close
     (tie.spec
-    enum-told
-    advance-requires
-    enum-known-seen
-    advance-requires-2
-    enum-known-seen-2
+    number-in-requires
+    is-refused-requires
     ended-by-requires
-    same-length
     returns
-    same-length-2
-    returns-2
-    returns-3)
+    take-requires
+    same-length
+    returns-2)
