@@ -1,7 +1,4 @@
 // The loader run against the model: the cycles are made one after the other until the load ends, and counted.
-pub mod takes;
-
-use crate::takes::take;
 use chip::Phase;
 use chip::Pins;
 use chip::State;
@@ -18,6 +15,7 @@ use stepper::front::record_at;
 use stepper::front::wrong_lengths;
 use stepper::outs::cycle_in;
 use stepper::outs::first;
+use takes::take;
 ghost use mathlib.Core.Path.{_≡_};
 ghost use mathlib.Core.Bool.{not};
 ghost use Prim.Native.Nat.{_≤_};

@@ -43,7 +43,7 @@ fn take_verify(l: Loader, b: u8, wanted: &[u8], scratch: &mut [u8]) -> Loader
 }
 
 // A byte taken. The last arm makes the record anew, field by field: the loop then has nothing of it to copy.
-pub(crate) fn take(l: Loader, b: u8, wanted: &[u8], scratch: &mut [u8]) -> Loader
+pub fn take(l: Loader, b: u8, wanted: &[u8], scratch: &mut [u8]) -> Loader
     ensures { λ r. ⌜ r ≡ nextOf l b (now (wanted .entry)) (storeOf l b (now (scratch .entry))) ⌝ }
     ensures { λ _. ⌜ now (scratch .exit) ≡ storeOf l b (now (scratch .entry)) ⌝ }
 {
