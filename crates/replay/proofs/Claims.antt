@@ -1,6 +1,6 @@
 -- What is claimed of the replay of a trace, in one place. Assumes nothing.
 use mathlib.Core.Path.{_≡_}
-use mathlib.Core.Bool.{Bool, true, false}
+use mathlib.Core.Bool.{true, false}
 use mathlib.Core.List.{List, [], _∷_, _++_}
 use mathlib.Core.Logic.{_↔_}
 use Prim.Native.Nat.{ℕ, suc, _+_, _-_, _*_, _≤_, _<_}
@@ -18,37 +18,14 @@ use Rattle.bus.specs.Cycles.{tableOf, numberOf, pastArray, late}
 use Rattle.model.specs.declared.Answer.{Answer}
 use Rattle.model.specs.declared.Seen.{Seen}
 use Rattle.model.specs.declared.Seen.the-variants.{Refused}
-use Rattle.replay.specs.declared.LineRead.{LineRead}
-use Rattle.replay.specs.declared.LineRead.the-variants.{NotALine, Stated}
 use Rattle.replay.specs.declared.Replayed.{Replayed}
-use Rattle.replay.specs.Lines.{isLine, cycleIn, readLine, lineOf, Fits}
+use Rattle.lines.specs.Lines.{isLine, cycleIn}
 use Rattle.replay.specs.Answers.{toldOf, printedOf, markOf, endOf}
 use Rattle.replay.specs.Replays.{benchT, stepOf, arrayBy, goodLines, answersOf, outputFrom, outputOf, arrayLeft, replayedIn, heldIn}
-use Rattle.replay.proofs.Forms as forms
 use Rattle.replay.proofs.Scans as scans
 use Rattle.replay.proofs.Turns as turns
 use Rattle.replay.proofs.Ends as ends
 use Rattle.replay.proofs.Never as never
-
--- Exactly the lines of the documented form are read: a list is read as a cycle exactly where the cycle fits a line and the
--- list is what is printed of it. (Both halves: what is printed is read back, and what is read prints as itself.)
-pub read-exactly : (xs : List ℕ) (c : Cycle) → (readLine xs ≡ Stated c) ↔ (Fits c × (lineOf c ≡ xs))
-read-exactly = forms.read-exactly
-
--- Each is read in one way: two cycles that fit and print alike are one.
-pub read-once : (c d : Cycle) → Fits c → Fits d → lineOf c ≡ lineOf d → c ≡ d
-read-once = forms.read-once
-
--- What is not read is no line: no cycle that fits prints as it.
-pub not-read : (xs : List ℕ) → (readLine xs ≡ NotALine) ↔ ((c : Cycle) → Fits c → lineOf c ≡ xs → ⊥)
-not-read = forms.not-read
-
--- The test and the reader agree, and a line has 20 bytes.
-pub line-read : (xs : List ℕ) → isLine xs ≡ true → readLine xs ≡ Stated (cycleIn xs)
-line-read = forms.line-read
-
-pub line-length : (xs : List ℕ) → isLine xs ≡ true → length xs ≡ 20
-line-length = scans.line-length
 
 -- A line's step is refused by m exactly where m's own condition holds on bench T and that of no lower number does.
 pub step-refused : (s : State) (c : Cycle) (xs rs : List ℕ) (m : ℕ) → (m ≡ 0 → ⊥)
@@ -108,15 +85,6 @@ pub output-most : (xs rs text : List ℕ) → length (outputOf xs rs text) ≤ 7
 output-most = ends.output-most
 
 -- Two results that a promise allows are equal, and so are two slices that it leaves.
-pub is-line-unique : (xs : List ℕ) → Unique (λ (r : Bool). r ≡ isLine xs)
-is-line-unique xs = only (isLine xs)
-
-pub cycle-in-unique : (xs : List ℕ) → Unique (λ (r : Cycle). r ≡ cycleIn xs)
-cycle-in-unique xs = only (cycleIn xs)
-
-pub read-line-unique : (xs : List ℕ) → Unique (λ (r : LineRead). r ≡ readLine xs)
-read-line-unique xs = only (readLine xs)
-
 pub bench-unique : Unique (λ (r : Device). r ≡ benchT)
 bench-unique = only benchT
 

@@ -16,7 +16,7 @@ use Rattle.chip.specs.States.{freshState}
 use Rattle.bus.specs.Cycles.{tableOf}
 use Rattle.model.specs.declared.Seen.the-variants.{Refused}
 use Rattle.model.proofs.Claims as model
-use Rattle.replay.specs.Lines.{isLine, cycleIn}
+use Rattle.lines.specs.Lines.{isLine, cycleIn}
 use Rattle.replay.specs.Answers.{printedOf, markOf, endOf}
 use Rattle.replay.specs.Replays.{benchT, stepOf, arrayBy, goodLines, answersOf, outputFrom, outputOf}
 use Rattle.replay.proofs.Scans.{not-line}

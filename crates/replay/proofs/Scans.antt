@@ -1,27 +1,17 @@
 -- The count of good lines: a turn of the scan, its end, and what the count promises of the text. Assumes nothing.
 use mathlib.Core.Path.{_≡_, refl, sym, ap, _∙_}
-use mathlib.Core.Bool.{Bool, true, false, _&&_}
+use mathlib.Core.Bool.{Bool, true, false}
 use mathlib.Core.List.{List}
 use Prim.Native.Nat.{ℕ, zero, suc, _+_, _-_, _*_, _≤_, _<_, min}
 use native.Mathlib.Omega.{arith}
 use native.Mathlib.Nat.{add-zero}
-use lib.Dec.{eqb}
 use lib.ListN.{length, take, drop, length-take, length-drop}
 use lib.Seq.{drop-drop}
-use borrow.Author.Tests.{eqb-true, ne-eqb}
-use Rattle.cells.specs.Pick.{pick, pick-true, pick-false, and-left}
-use Rattle.replay.specs.Lines.{isLine, goodFront, goodSupply, goodAddress, goodBack}
+use borrow.Author.Tests.{ne-eqb}
+use Rattle.cells.specs.Pick.{pick, pick-true, pick-false}
+use Rattle.lines.proofs.Forms.{line-length}
+use Rattle.lines.specs.Lines.{isLine}
 use Rattle.replay.specs.Replays.{goodLines}
-
--- a line has 20 bytes
-pub line-length : (xs : List ℕ) → isLine xs ≡ true → length xs ≡ 20
-unfolding isLine
-line-length xs e =
-    let a = eqb (length xs) 20 in
-    eqb-true (length xs) 20
-    (and-left a (goodFront xs)
-    (and-left (a && goodFront xs) (goodSupply xs)
-    (and-left ((a && goodFront xs) && goodSupply xs) (goodAddress xs) (and-left (((a && goodFront xs) && goodSupply xs) && goodAddress xs) (goodBack xs) e))))
 
 pub not-line : (xs : List ℕ) → (length xs ≡ 20 → ⊥) → isLine xs ≡ false
 unfolding isLine

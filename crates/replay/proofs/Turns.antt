@@ -13,7 +13,7 @@ use Rattle.cells.specs.Pick.{pick, pick-true}
 use Rattle.cells.specs.Lists.{copied, copied-whole}
 use Rattle.chip.specs.declared.State.{State}
 use Rattle.model.specs.declared.Answer.{Answer}
-use Rattle.replay.specs.Lines.{isLine, cycleIn}
+use Rattle.lines.specs.Lines.{isLine, cycleIn}
 use Rattle.replay.specs.Answers.{toldOf, printedOf, markOf, endOf}
 use Rattle.replay.specs.Replays.{stepOf, arrayBy, goodLines, answersOf, arraysOf, outputFrom, arrayFrom}
 use Rattle.replay.proofs.Scans.{past}

@@ -6,7 +6,7 @@ use Rattle.cells.specs.Pick.{pick}
 use Rattle.model.specs.declared.Seen.{Seen}
 use Rattle.model.specs.declared.Seen.the-variants.{NoData, Byte, Refused}
 use Rattle.model.specs.declared.Answer.{Answer}
-use Rattle.replay.specs.Lines.{decimalDigit, hexDigit}
+use Rattle.lines.specs.Lines.{decimalDigit, hexDigit}
 
 -- D for a byte, N for no data, X for a refusal
 abbrev pub letterOf : Seen → ℕ

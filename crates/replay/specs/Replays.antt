@@ -11,7 +11,7 @@ use Rattle.chip.specs.declared.Cycle.{Cycle}
 use Rattle.chip.specs.States.{freshState}
 use Rattle.model.specs.declared.Answer.{Answer}
 use Rattle.model.specs.Arrays.{answerOf, arrayAfter}
-use Rattle.replay.specs.Lines.{isLine, cycleIn}
+use Rattle.lines.specs.Lines.{isLine, cycleIn}
 use Rattle.replay.specs.Answers.{printedOf, endOf}
 use Rattle.replay.specs.declared.Replayed.{Replayed}
 

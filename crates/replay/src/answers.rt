@@ -4,7 +4,7 @@ ghost use mathlib.Core.Path.{_≡_};
 ghost use Prim.Native.Nat.{_<_};
 ghost use lib.ListN.{length};
 ghost use Rattle.cells.specs.Lists.{copied};
-ghost use Rattle.replay.specs.Lines.{decimalDigit, hexDigit};
+ghost use Rattle.lines.specs.Lines.{decimalDigit, hexDigit};
 ghost use Rattle.replay.specs.Answers.{letterOf, firstOf, secondOf, toldOf, markOf, endOf};
 
 fn hex_digit(n: u8) -> u8

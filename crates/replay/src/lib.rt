@@ -1,6 +1,5 @@
 // A trace replayed against the bench model: lines of 20 bytes in, answers of 8 bytes out.
 pub mod answers;
-pub mod lines;
 
 use chip::Cycle;
 use chip::State;
@@ -13,7 +12,7 @@ ghost use Prim.Native.Nat.{_+_, _*_, _≤_, _<_};
 ghost use lib.ListN.{length, take, drop};
 ghost use Rattle.cells.specs.Lists.{copied};
 ghost use Rattle.chip.specs.States.{freshState};
-ghost use Rattle.replay.specs.Lines.{isLine, cycleIn};
+ghost use Rattle.lines.specs.Lines.{isLine, cycleIn};
 ghost use Rattle.replay.specs.Answers.{printedOf, endOf};
 ghost use Rattle.replay.specs.Replays.{
   benchT,
@@ -28,12 +27,6 @@ ghost use Rattle.replay.specs.Replays.{
   heldIn,
   Used,
 };
-
-// What a line says: the cycle that it states, or that it is none.
-pub enum LineRead {
-    NotALine,
-    Stated(Cycle),
-}
 
 // How a replay went: refused by 37, or by nothing (0) with so many bytes of output.
 pub struct Replayed {

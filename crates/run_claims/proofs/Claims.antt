@@ -2,7 +2,7 @@
 use mathlib.Core.Path.{_≡_}
 use mathlib.Core.Bool.{true}
 use mathlib.Core.List.{List}
-use Prim.Native.Nat.{ℕ, _+_, _≤_, _<_}
+use Prim.Native.Nat.{ℕ, _+_, _*_, _≤_, _<_}
 use lib.ListN.{length, getD}
 use Rattle.cells.specs.Bytes.{Bytes}
 use Rattle.device.specs.declared.Device.{Device}
@@ -19,6 +19,8 @@ use Rattle.run_claims.specs.Wear.{begunIn, heldIn, formula, operationsOf
 use Rattle.run_claims.specs.History.{Bus, worldAfter, effectsIn, begunOver, uncut, total, eraseOf, programIn}
 use Rattle.run_claims.specs.Made.{madeIn, cyclesOf}
 use Rattle.run_claims.proofs.Demand.{Taken, Start}
+use Rattle.run_claims.specs.Ends.{asWanted}
+use Rattle.run_claims.proofs.Same as same
 use Rattle.run_claims.proofs.Total as total-ends
 use Rattle.run_claims.proofs.Total.{Whole}
 use Rattle.run_claims.proofs.Mission as mission
@@ -75,6 +77,10 @@ nothing-less = mission.nothing-less
 -- otherwise well. The model refuses none of its cycles, and none cuts an operation.
 pub every-end : (d : Device) (s : State) (p : Pins) (k : ℕ) (xs w sc : List ℕ) → Taken d s p k xs w sc → Whole d s p k xs w sc
 every-end = total-ends.every-end
+
+-- With nothing to erase or program the count is 2n + 3.
+pub nothing-to-do : (d : Device) (w ys : List ℕ) → length ys ≡ length w → asWanted w ys ≡ true → formula d w ys ≡ 2 * length w + 3
+nothing-to-do = same.same-formula
 
 -- 20, 22 and 25 never come from the model.
 pub never : (d : Device) (s : State) (p : Pins) (k : ℕ) (xs w sc : List ℕ) → Taken d s p k xs w sc

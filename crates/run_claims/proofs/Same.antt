@@ -1,8 +1,8 @@
 -- A block that holds what is wanted, and one that does not: what the walks over it find. Assumes nothing.
-use mathlib.Core.Path.{_≡_, refl, _∙_, subst}
+use mathlib.Core.Path.{_≡_, refl, _∙_, subst, ap}
 use mathlib.Core.Bool.{Bool, true, false, not}
 use mathlib.Core.List.{List}
-use Prim.Native.Nat.{ℕ, zero, suc, _+_, _-_, _<_}
+use Prim.Native.Nat.{ℕ, zero, suc, _+_, _-_, _*_, _<_}
 use native.Mathlib.Nat.{not-suc-le-zero, le-of-suc-le-suc}
 use native.Mathlib.Omega.{arith}
 use lib.ListN.{length, getD}
@@ -15,7 +15,7 @@ use Rattle.device.specs.declared.Device.{Device}
 use Rattle.chip.specs.declared.Pins.{Pins}
 use Rattle.chip.specs.declared.Cycle.{Cycle}
 use Rattle.loader.specs.Walks.{rises, nextDiff, risesIn, diffFrom}
-use Rattle.run_claims.specs.Wear.{differing}
+use Rattle.run_claims.specs.Wear.{differing, formula}
 use Rattle.run_claims.specs.Made.{programsThen}
 use Rattle.run_claims.specs.Ends.{asWanted}
 
@@ -79,3 +79,10 @@ some-ahead w s e =
     let q : length w - 0 ≡ length w = omega arith in
     let h = some-next (length w) 0 w s (eqb-false (differing (length w) 0 w s) 0 e) in
     rw q (omega arith)
+
+-- with nothing to do the formula is 2n + 3
+pub same-formula : (d : Device) (w ys : List ℕ) → length ys ≡ length w → asWanted w ys ≡ true → formula d w ys ≡ 2 * length w + 3
+same-formula d w ys l e =
+    let held : ys ≡ w = same-list w ys l e in
+    let level : risesIn w ys ≡ false = ap (λ (z : List ℕ). risesIn w z) held ∙ none-risen w in
+    rw (level, held, none-differing (length w) 0 w) (omega arith)

@@ -3,7 +3,7 @@ use mathlib.Core.Path.{_≡_, ap, _∙_}
 use Rattle.cells.specs.Lists.{copied}
 use Rattle.chip.specs.declared.Cycle.{Cycle}
 use Rattle.model.specs.declared.Answer.{Answer}
-use Rattle.replay.specs.Lines.{cycleIn}
+use Rattle.lines.specs.Lines.{cycleIn}
 use Rattle.replay.specs.Answers.{printedOf}
 use Rattle.replay.specs.Replays.{arrayBy, stepOf}
 use borrow.Author.Needs.{needs}

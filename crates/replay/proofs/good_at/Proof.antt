@@ -2,7 +2,7 @@
 use mathlib.Core.Path.{_≡_, ap, sym, _∙_}
 use Prim.Native.Nat.{ℕ, _+_, _-_, _*_}
 use lib.ListN.{take, drop}
-use Rattle.replay.specs.Lines.{isLine}
+use Rattle.lines.specs.Lines.{isLine}
 use Rattle.replay.proofs.Scans.{cut-off}
 use borrow.Author.Needs.{needs}
 use native.Mathlib.Omega.{arith}

@@ -1,5 +1,5 @@
 -- `replay::answers::hex_digit` meets its contract. Assumes nothing.
-use Rattle.replay.specs.Lines.{hexDigit}
+use Rattle.lines.specs.Lines.{hexDigit}
 use borrow.Author.Needs.{needs}
 use borrow.Author.Tests.{lt-ltb, le-ltb}
 use Rattle.replay.proofs.answers.hex_digit.Statement.{statement}

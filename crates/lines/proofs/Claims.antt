@@ -1,0 +1,43 @@
+-- What is claimed of the lines of a trace, in one place. Assumes nothing.
+use mathlib.Core.Path.{_≡_}
+use mathlib.Core.Bool.{Bool, true}
+use mathlib.Core.List.{List}
+use mathlib.Core.Logic.{_↔_}
+use Prim.Native.Nat.{ℕ}
+use lib.ListN.{length}
+use Rattle.cells.specs.Pick.{Unique, only}
+use Rattle.chip.specs.declared.Cycle.{Cycle}
+use Rattle.lines.specs.declared.LineRead.{LineRead}
+use Rattle.lines.specs.declared.LineRead.the-variants.{NotALine, Stated}
+use Rattle.lines.specs.Lines.{isLine, cycleIn, readLine, lineOf, Fits}
+use Rattle.lines.proofs.Forms as forms
+
+-- Exactly the lines of the documented form are read: a list is read as a cycle exactly where the cycle fits a line and the
+-- list is what is printed of it. (Both halves: what is printed is read back, and what is read prints as itself.)
+pub read-exactly : (xs : List ℕ) (c : Cycle) → (readLine xs ≡ Stated c) ↔ (Fits c × (lineOf c ≡ xs))
+read-exactly = forms.read-exactly
+
+-- Each is read in one way: two cycles that fit and print alike are one.
+pub read-once : (c d : Cycle) → Fits c → Fits d → lineOf c ≡ lineOf d → c ≡ d
+read-once = forms.read-once
+
+-- What is not read is no line: no cycle that fits prints as it.
+pub not-read : (xs : List ℕ) → (readLine xs ≡ NotALine) ↔ ((c : Cycle) → Fits c → lineOf c ≡ xs → ⊥)
+not-read = forms.not-read
+
+-- The test and the reader agree, and a line has 20 bytes.
+pub line-read : (xs : List ℕ) → isLine xs ≡ true → readLine xs ≡ Stated (cycleIn xs)
+line-read = forms.line-read
+
+pub line-length : (xs : List ℕ) → isLine xs ≡ true → length xs ≡ 20
+line-length = forms.line-length
+
+-- Two results that a promise allows are equal.
+pub is-line-unique : (xs : List ℕ) → Unique (λ (r : Bool). r ≡ isLine xs)
+is-line-unique xs = only (isLine xs)
+
+pub cycle-in-unique : (xs : List ℕ) → Unique (λ (r : Cycle). r ≡ cycleIn xs)
+cycle-in-unique xs = only (cycleIn xs)
+
+pub read-line-unique : (xs : List ℕ) → Unique (λ (r : LineRead). r ≡ readLine xs)
+read-line-unique xs = only (readLine xs)

@@ -1,0 +1,113 @@
+-- The lines of a trace: their form, the cycle that one states, and how a cycle is printed. Assumes nothing.
+use mathlib.Core.Bool.{Bool, _&&_, _||_}
+use mathlib.Core.List.{List, [], _∷_}
+use Prim.Native.Nat.{ℕ, _+_, _*_, _/_, _%_, _<_}
+use lib.Dec.{eqb, ltb, leb}
+use lib.ListN.{length, getD}
+use Rattle.cells.specs.Pick.{pick}
+use Rattle.chip.specs.declared.Kind.{Kind}
+use Rattle.chip.specs.declared.Kind.the-variants.{Read, Write, Idle}
+use Rattle.chip.specs.declared.Cycle.{Cycle}
+use Rattle.lines.specs.declared.LineRead.{LineRead}
+use Rattle.lines.specs.declared.LineRead.the-variants.{NotALine, Stated}
+
+-- a decimal digit: '0' to '9'
+unfoldable pub isDigit : ℕ → Bool
+isDigit b = leb 48 b && leb b 57
+
+-- a hexadecimal digit: '0' to '9' or 'A' to 'F', capitals only
+unfoldable pub isHex : ℕ → Bool
+isHex b = isDigit b || (leb 65 b && leb b 70)
+
+-- a kind: R, W or I
+unfoldable pub isKind : ℕ → Bool
+isKind b = (eqb b 82 || eqb b 87) || eqb b 73
+
+-- kind, RP# and OE#, each followed by a space
+unfoldable pub goodFront : List ℕ → Bool
+goodFront xs =
+    ((((isKind (getD xs 0 0) && eqb (getD xs 1 0) 32) && isDigit (getD xs 2 0)) && eqb (getD xs 3 0) 32) && isDigit (getD xs 4 0)) && eqb (getD xs 5 0) 32
+
+-- VPP in five digits, and a space
+unfoldable pub goodSupply : List ℕ → Bool
+goodSupply xs =
+    ((((isDigit (getD xs 6 0) && isDigit (getD xs 7 0)) && isDigit (getD xs 8 0)) && isDigit (getD xs 9 0)) && isDigit (getD xs 10 0)) && eqb (getD xs 11 0) 32
+
+-- the address in four hexadecimal digits, and a space
+unfoldable pub goodAddress : List ℕ → Bool
+goodAddress xs = (((isHex (getD xs 12 0) && isHex (getD xs 13 0)) && isHex (getD xs 14 0)) && isHex (getD xs 15 0)) && eqb (getD xs 16 0) 32
+
+-- data in two hexadecimal digits, and the newline
+unfoldable pub goodBack : List ℕ → Bool
+goodBack xs = (isHex (getD xs 17 0) && isHex (getD xs 18 0)) && eqb (getD xs 19 0) 10
+
+-- a line of the documented form: 20 bytes, each what its place asks for
+unfoldable pub isLine : List ℕ → Bool
+isLine xs = (((eqb (length xs) 20 && goodFront xs) && goodSupply xs) && goodAddress xs) && goodBack xs
+
+-- the kind that a letter names
+unfoldable pub kindOf : ℕ → Kind
+kindOf b = pick (eqb b 82) Read (pick (eqb b 87) Write Idle)
+
+-- what a decimal digit counts
+abbrev pub digitOf : ℕ → ℕ
+digitOf b = b % 16
+
+-- what a hexadecimal digit counts: the letters go on from 10
+unfoldable pub hexOf : ℕ → ℕ
+hexOf b = pick (ltb b 65) (b % 16) ((b + 9) % 16)
+
+-- five decimal digits as a number
+abbrev pub fiveOf : ℕ → ℕ → ℕ → ℕ → ℕ → ℕ
+fiveOf a b c d e = (((digitOf a * 10 + digitOf b) * 10 + digitOf c) * 10 + digitOf d) * 10 + digitOf e
+
+-- four hexadecimal digits as a number
+abbrev pub fourOf : ℕ → ℕ → ℕ → ℕ → ℕ
+fourOf a b c d = ((hexOf a * 16 + hexOf b) * 16 + hexOf c) * 16 + hexOf d
+
+-- two hexadecimal digits as a byte
+abbrev pub twoOf : ℕ → ℕ → ℕ
+twoOf a b = hexOf a * 16 + hexOf b
+
+abbrev pub cycleAs : Kind → ℕ → ℕ → ℕ → ℕ → ℕ → Cycle
+cycleAs k rp oe vpp a b = record { kind = k; pins = record { rp = rp; vpp = vpp }; oe = oe; address = a; byte = b }
+
+-- the cycle that a line states, read off its places
+unfoldable pub cycleIn : List ℕ → Cycle
+cycleIn xs =
+    cycleAs (kindOf (getD xs 0 0)) (digitOf (getD xs 2 0)) (digitOf (getD xs 4 0)) (fiveOf (getD xs 6 0) (getD xs 7 0) (getD xs 8 0) (getD xs 9 0) (getD xs 10 0))
+    (fourOf (getD xs 12 0) (getD xs 13 0) (getD xs 14 0) (getD xs 15 0))
+    (twoOf (getD xs 17 0) (getD xs 18 0))
+
+-- a line read: its cycle, or no line
+unfoldable pub readLine : List ℕ → LineRead
+readLine xs = pick (isLine xs) (Stated (cycleIn xs)) NotALine
+
+-- the letter of a kind
+abbrev pub letterFor : Kind → ℕ
+letterFor Read = 82
+letterFor Write = 87
+letterFor Idle = 73
+
+-- a number's last decimal digit, printed
+abbrev pub decimalDigit : ℕ → ℕ
+decimalDigit n = 48 + n % 10
+
+-- a number below 16, printed as one hexadecimal digit
+unfoldable pub hexDigit : ℕ → ℕ
+hexDigit n = pick (ltb n 10) (48 + n) (55 + n)
+
+-- the line that states a cycle
+abbrev pub lineOf : Cycle → List ℕ
+lineOf c =
+    letterFor (c .kind) ∷ 32
+    ∷ (48 + c .pins .rp) ∷ 32
+    ∷ (48 + c .oe) ∷ 32
+    ∷ decimalDigit (c .pins .vpp / 10000) ∷ decimalDigit (c .pins .vpp / 1000) ∷ decimalDigit (c .pins .vpp / 100) ∷ decimalDigit (c .pins .vpp / 10) ∷ decimalDigit (c .pins .vpp) ∷ 32
+    ∷ hexDigit (c .address / 4096 % 16) ∷ hexDigit (c .address / 256 % 16) ∷ hexDigit (c .address / 16 % 16) ∷ hexDigit (c .address % 16) ∷ 32
+    ∷ hexDigit (c .byte / 16 % 16) ∷ hexDigit (c .byte % 16) ∷ 10
+    ∷ []
+
+-- a cycle that fits a line: each number has as many digits as the line has room for
+abbrev pub Fits : Cycle → Type 0
+Fits c = (c .pins .rp < 10) × (c .oe < 10) × (c .pins .vpp < 100000) × (c .address < 65536) × (c .byte < 256)

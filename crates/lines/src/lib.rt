@@ -1,0 +1,194 @@
+// A line of a trace: kind, RP#, OE#, VPP in five digits, address in four hexadecimal digits, data in two, single spaces, newline.
+use chip::Cycle;
+use chip::Kind;
+use chip::Pins;
+ghost use mathlib.Core.Path.{_≡_};
+ghost use Prim.Native.Nat.{_<_};
+ghost use Rattle.lines.specs.Lines.{
+  isDigit,
+  isHex,
+  isKind,
+  goodFront,
+  goodSupply,
+  goodAddress,
+  goodBack,
+  isLine,
+  kindOf,
+  digitOf,
+  hexOf,
+  fiveOf,
+  fourOf,
+  twoOf,
+  cycleIn,
+  readLine,
+};
+
+// What a line says: the cycle that it states, or that it is none.
+pub enum LineRead {
+    NotALine,
+    Stated(Cycle),
+}
+
+fn is_digit(b: u8) -> bool
+    ensures { λ r. ⌜ r ≡ isDigit b ⌝ }
+{
+    (48 <= b) & (b <= 57)
+}
+
+// Capitals only.
+fn is_hex(b: u8) -> bool
+    ensures { λ r. ⌜ r ≡ isHex b ⌝ }
+{
+    is_digit(b) | (65 <= b) & (b <= 70)
+}
+
+fn is_kind(b: u8) -> bool
+    ensures { λ r. ⌜ r ≡ isKind b ⌝ }
+{
+    (b == 82) | (b == 87) | (b == 73)
+}
+
+// Kind, RP# and OE#, each with its space.
+fn good_front(line: &[u8]) -> bool
+    ensures { λ r. ⌜ r ≡ goodFront (now (line .entry)) ⌝ }
+{
+    is_kind(cells::nth(line, 0))
+        & (cells::nth(line, 1) == 32)
+        & is_digit(cells::nth(line, 2))
+        & (cells::nth(line, 3) == 32)
+        & is_digit(cells::nth(line, 4))
+        & (cells::nth(line, 5) == 32)
+}
+
+// VPP and its space.
+fn good_supply(line: &[u8]) -> bool
+    ensures { λ r. ⌜ r ≡ goodSupply (now (line .entry)) ⌝ }
+{
+    is_digit(cells::nth(line, 6))
+        & is_digit(cells::nth(line, 7))
+        & is_digit(cells::nth(line, 8))
+        & is_digit(cells::nth(line, 9))
+        & is_digit(cells::nth(line, 10))
+        & (cells::nth(line, 11) == 32)
+}
+
+// The address and its space.
+fn good_address(line: &[u8]) -> bool
+    ensures { λ r. ⌜ r ≡ goodAddress (now (line .entry)) ⌝ }
+{
+    is_hex(cells::nth(line, 12))
+        & is_hex(cells::nth(line, 13))
+        & is_hex(cells::nth(line, 14))
+        & is_hex(cells::nth(line, 15))
+        & (cells::nth(line, 16) == 32)
+}
+
+// Data and the newline.
+fn good_back(line: &[u8]) -> bool
+    ensures { λ r. ⌜ r ≡ goodBack (now (line .entry)) ⌝ }
+{
+    is_hex(cells::nth(line, 17)) & is_hex(cells::nth(line, 18)) & (cells::nth(line, 19) == 10)
+}
+
+// Whether 20 bytes are a line of the documented form.
+pub fn is_line(line: &[u8]) -> bool
+    ensures { λ r. ⌜ r ≡ isLine (now (line .entry)) ⌝ }
+{
+    let n = line.len();
+    (n == 20) & good_front(line) & good_supply(line) & good_address(line) & good_back(line)
+}
+
+fn kind_of(b: u8) -> Kind
+    ensures { λ r. ⌜ r ≡ kindOf b ⌝ }
+{
+    if b == 82 {
+        return Kind::Read;
+    }
+    if b == 87 {
+        return Kind::Write;
+    }
+    Kind::Idle
+}
+
+// What a digit counts, as a level.
+fn level(b: u8) -> u8
+    ensures { λ r. ⌜ r ≡ digitOf b ⌝ }
+{
+    b % 16
+}
+
+fn digit(b: u8) -> u32
+    ensures { λ r. ⌜ r ≡ digitOf b ⌝ }
+{
+    (b % 16) as u32
+}
+
+fn hex(b: u8) -> u32
+    ensures { λ r. ⌜ (r ≡ hexOf b) × (r < 16) ⌝ }
+{
+    let n = b as u32;
+    if n < 65 {
+        return n % 16;
+    }
+    (n + 9) % 16
+}
+
+fn five(a: u8, b: u8, c: u8, d: u8, e: u8) -> u32
+    ensures { λ r. ⌜ r ≡ fiveOf a b c d e ⌝ }
+{
+    (((digit(a) * 10 + digit(b)) * 10 + digit(c)) * 10 + digit(d)) * 10 + digit(e)
+}
+
+fn four(a: u8, b: u8, c: u8, d: u8) -> u32
+    ensures { λ r. ⌜ r ≡ fourOf a b c d ⌝ }
+{
+    ((hex(a) * 16 + hex(b)) * 16 + hex(c)) * 16 + hex(d)
+}
+
+fn two(a: u8, b: u8) -> u8
+    ensures { λ r. ⌜ r ≡ twoOf a b ⌝ }
+{
+    (hex(a) * 16 + hex(b)) as u8
+}
+
+// The cycle that a line states, read off its places.
+pub fn cycle_in(line: &[u8]) -> Cycle
+    ensures { λ r. ⌜ r ≡ cycleIn (now (line .entry)) ⌝ }
+{
+    let kind = kind_of(cells::nth(line, 0));
+    let rp = level(cells::nth(line, 2));
+    let oe = level(cells::nth(line, 4));
+    let vpp = five(
+        cells::nth(line, 6),
+        cells::nth(line, 7),
+        cells::nth(line, 8),
+        cells::nth(line, 9),
+        cells::nth(line, 10),
+    );
+    let address = four(
+        cells::nth(line, 12),
+        cells::nth(line, 13),
+        cells::nth(line, 14),
+        cells::nth(line, 15),
+    );
+    let byte = two(cells::nth(line, 17), cells::nth(line, 18));
+    let pins = Pins { rp: rp, vpp: vpp };
+    Cycle {
+        kind: kind,
+        pins: pins,
+        oe: oe,
+        address: address,
+        byte: byte,
+    }
+}
+
+// A line read.
+pub fn read_line(line: &[u8]) -> LineRead
+    ensures { λ r. ⌜ r ≡ readLine (now (line .entry)) ⌝ }
+{
+    if is_line(line) {
+        let c = cycle_in(line);
+        return LineRead::Stated(c);
+    }
+    LineRead::NotALine
+}
