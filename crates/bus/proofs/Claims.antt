@@ -1,18 +1,26 @@
--- Two results that the promise of a cycle allows are equal. What the rules amount to is claimed with the model, whose cycle
--- applies them. Assumes nothing.
+-- Two results that a promise allows are equal. What the rules amount to is claimed with the model, whose cycle applies them.
+-- Assumes nothing.
 use mathlib.Core.Path.{_≡_}
+use mathlib.Core.Bool.{Bool}
 use Prim.Native.Nat.{ℕ}
 use Rattle.cells.specs.Pick.{Unique, only}
 use Rattle.device.specs.declared.Device.{Device}
 use Rattle.chip.specs.declared.State.{State}
 use Rattle.chip.specs.declared.Cycle.{Cycle}
 use Rattle.chip.specs.declared.Decision.{Decision}
-use mathlib.Core.Bool.{Bool}
-use Rattle.bus.specs.Cycles.{decideOf}
-use Rattle.bus.specs.Arms.{plainRead}
+use Rattle.bus.specs.Cycles.{judgeOf, decideOf}
+use Rattle.bus.specs.Arms.{passOf, asksArray}
+use Rattle.bus.proofs.Passing as passing
 
-pub decide-unique : (d : Device) (s : State) (c : Cycle) (array residue : ℕ) → Unique (λ (r : Decision). r ≡ decideOf d s c array residue)
-decide-unique d s c array residue = only (decideOf d s c array residue)
+-- What passes refusals 1 to 6 is decided as the table says.
+pub passes : (d : Device) (s : State) (c : Cycle) (array residue : ℕ) → judgeOf d s c array residue ≡ 0 → decideOf d s c array residue ≡ passOf d s c
+passes = passing.passes
 
-pub plain-read-unique : (d : Device) (s : State) (c : Cycle) (array : ℕ) → Unique (λ (r : Bool). r ≡ plainRead d s c array)
-plain-read-unique d s c array = only (plainRead d s c array)
+pub judge-unique : (d : Device) (s : State) (c : Cycle) (array residue : ℕ) → Unique (λ (r : ℕ). r ≡ judgeOf d s c array residue)
+judge-unique d s c array residue = only (judgeOf d s c array residue)
+
+pub pass-unique : (d : Device) (s : State) (c : Cycle) → Unique (λ (r : Decision). r ≡ passOf d s c)
+pass-unique d s c = only (passOf d s c)
+
+pub asks-array-unique : (s : State) (c : Cycle) → Unique (λ (r : Bool). r ≡ asksArray s c)
+asks-array-unique s c = only (asksArray s c)

@@ -1,5 +1,5 @@
 pub mod Ways
 pub mod Arms
-pub mod Plain
+pub mod Passing
 pub mod Facts
 pub mod Claims

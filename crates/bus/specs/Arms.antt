@@ -4,15 +4,15 @@ use mathlib.Core.Bool.{Bool, true, false, not, _&&_}
 use Prim.Native.Nat.{ℕ}
 use lib.Dec.{eqb, ltb}
 use Rattle.cells.specs.Pick.{pick}
-use Rattle.device.specs.Parts.{unknownDevice, sizeOf, blockOf}
+use Rattle.device.specs.Parts.{blockOf}
 use Rattle.device.specs.declared.Part.{Part}
 use Rattle.device.specs.declared.Device.{Device}
 use Rattle.chip.specs.declared.Mode.{Mode}
 use Rattle.chip.specs.declared.Mode.the-variants.{Array, Status, Identifier}
 use Rattle.chip.specs.declared.Phase.{Phase}
 use Rattle.chip.specs.declared.Phase.the-variants.{Free, EraseAwaited, DataAwaited, Programming, Erasing, Suspended}
-use Rattle.chip.specs.Levels.{rpLow, badLevels}
-use Rattle.chip.specs.States.{improper, isArray}
+use Rattle.chip.specs.Levels.{rpLow}
+use Rattle.chip.specs.States.{isArray}
 use Rattle.chip.specs.declared.Kind.{Kind}
 use Rattle.chip.specs.declared.Kind.the-variants.{Read, Write, Idle}
 use Rattle.chip.specs.declared.Reply.{Reply}
@@ -22,6 +22,7 @@ use Rattle.chip.specs.declared.Settled.{Settled}
 use Rattle.chip.specs.declared.Decision.{Decision}
 use Rattle.chip.specs.declared.State.{State}
 use Rattle.chip.specs.declared.Cycle.{Cycle}
+use Rattle.settling.specs.Settling.{settleOf}
 use Rattle.commands.specs.Commands.{actionOf, isRefuse, performedOf}
 use Rattle.bus.specs.Cycles.{isRead, isSuspended, decidedAs, refusedBy, identifierOf}
 
@@ -56,6 +57,11 @@ arm Read d s c t = readArm (t .state .mode) (d .part) s c t
 arm Write d s c t = writeArm (actionOf (t .state .phase) (c .byte)) d s c t
 arm Idle d s c t = givenBy Quiet t
 
+-- a cycle that refusals 1 to 6 let pass; with RP# low it ends after step 1
+unfoldable pub passOf : Device → State → Cycle → Decision
+passOf d s c =
+    pick (rpLow (c .pins)) (givenBy Quiet (settleOf (d .part) s (c .pins))) (arm (c .kind) d s c (settleOf (d .part) s (c .pins)))
+
 abbrev pub isFree : Phase → Bool
 isFree Free = true
 isFree EraseAwaited = false
@@ -67,15 +73,3 @@ isFree Suspended = false
 -- an array read of a device with nothing awaited, running or suspended, RP# up
 unfoldable pub asksArray : State → Cycle → Bool
 asksArray s c = ((isRead (c .kind) && isFree (s .phase)) && isArray (s .mode)) && not (rpLow (c .pins))
-
--- none of refusals 1 to 5 applies to a read
-unfoldable pub passesFive : Device → State → Cycle → ℕ → Bool
-passesFive d s c array =
-    pick (unknownDevice d) false
-    (pick (not (eqb array (sizeOf (d .part)))) false
-    (pick (improper d s) false
-    (pick (badLevels (d .part) c) false (ltb (c .address) array))))
-
--- such a read that nothing refuses: its byte is the answer, and nothing else changes
-unfoldable pub plainRead : Device → State → Cycle → ℕ → Bool
-plainRead d s c array = pick (asksArray s c) (passesFive d s c array) false

@@ -27,8 +27,8 @@ ghost use mathlib.Core.Bool.{not, _||_};
 ghost use Rattle.chip.specs.Levels.{rpLow, vppLow};
 ghost use lib.Dec.{eqb};
 ghost use Rattle.device.specs.Parts.{sizeOf};
-ghost use Rattle.bus.specs.Cycles.{isIdle, isRead, isSuspended, pastArray, shortResidue, judgeOf, refusedBy, identifierOf, decideOf};
-ghost use Rattle.bus.specs.Arms.{givenBy, inSuspended, arrayArm, identifierArm, readArm, writeArm, arm, isFree, asksArray, passesFive, plainRead};
+ghost use Rattle.bus.specs.Cycles.{isIdle, isRead, isSuspended, pastArray, shortResidue, judgeOf, refusedBy, identifierOf};
+ghost use Rattle.bus.specs.Arms.{givenBy, inSuspended, arrayArm, identifierArm, readArm, writeArm, arm, passOf, isFree, asksArray};
 
 fn is_idle(kind: Kind) -> bool
     ensures { λ r. ⌜ r ≡ isIdle kind ⌝ }
@@ -111,7 +111,7 @@ fn wrong_length(part: Part, array: usize) -> bool
 }
 
 // Refusals 1 to 6, the lowest that applies, or 0.
-fn judge(d: Device, s: State, c: Cycle, array: usize, residue: usize) -> u8
+pub fn judge(d: Device, s: State, c: Cycle, array: usize, residue: usize) -> u8
     ensures { λ r. ⌜ r ≡ judgeOf d s c array residue ⌝ }
 {
     let part = d.part;
@@ -245,17 +245,13 @@ fn respond(kind: Kind, d: Device, s: State, c: Cycle, t: Settled) -> Decision
     }
 }
 
-// One bus cycle on a device whose array and residue have these lengths. With RP# low it ends after step 1.
-pub fn decide(d: Device, s: State, c: Cycle, array: usize, residue: usize) -> Decision
-    ensures { λ r. ⌜ r ≡ decideOf d s c array residue ⌝ }
+// A cycle that refusals 1 to 6 let pass. With RP# low it ends after step 1.
+pub fn pass(d: Device, s: State, c: Cycle) -> Decision
+    ensures { λ r. ⌜ r ≡ passOf d s c ⌝ }
 {
     let part = d.part;
     let p = c.pins;
     let kind = c.kind;
-    let n = judge(d, s, c, array, residue);
-    if n != 0 {
-        return refused(n, s);
-    }
     let t = settle(part, s, p);
     if rp_low(p) {
         return given(Reply::Quiet, t);
@@ -263,8 +259,8 @@ pub fn decide(d: Device, s: State, c: Cycle, array: usize, residue: usize) -> De
     respond(kind, d, s, c, t)
 }
 
-// An array read of a device at rest.
-fn asks_array(s: State, c: Cycle) -> bool
+// An array read of a device at rest with RP# up: the commonest cycle, told from all others at small cost.
+pub fn asks_array(s: State, c: Cycle) -> bool
     ensures { λ r. ⌜ r ≡ asksArray s c ⌝ }
 {
     let ph = s.phase;
@@ -272,34 +268,4 @@ fn asks_array(s: State, c: Cycle) -> bool
     let kind = c.kind;
     let p = c.pins;
     is_read(kind) & is_free(ph) & is_array(m) & !rp_low(p)
-}
-
-// None of refusals 1 to 5 applies to a read.
-fn passes_five(d: Device, s: State, c: Cycle, array: usize) -> bool
-    ensures { λ r. ⌜ r ≡ passesFive d s c array ⌝ }
-{
-    let part = d.part;
-    if device::unknown_device(d) {
-        return false;
-    }
-    if wrong_length(part, array) {
-        return false;
-    }
-    if improper(d, s) {
-        return false;
-    }
-    if bad_levels(part, c) {
-        return false;
-    }
-    (c.address as usize) < array
-}
-
-// An array read of a device at rest that nothing refuses: the commonest cycle, told from all others at small cost.
-pub fn plain_read(d: Device, s: State, c: Cycle, array: usize) -> bool
-    ensures { λ r. ⌜ r ≡ plainRead d s c array ⌝ }
-{
-    if asks_array(s, c) {
-        return passes_five(d, s, c, array);
-    }
-    false
 }

@@ -8,6 +8,7 @@ use lib.ListN.{length}
 use Rattle.cells.specs.Pick.{Unique, only}
 use Rattle.cells.specs.Bytes.{Bytes}
 use Rattle.cells.specs.Numbers.{Foremost, NoRow}
+use Rattle.device.specs.declared.Part.{Part}
 use Rattle.device.specs.declared.Device.{Device}
 use Rattle.chip.specs.declared.State.{State}
 use Rattle.chip.specs.declared.Cycle.{Cycle}
@@ -17,16 +18,18 @@ use Rattle.chip.specs.declared.Effect.the-variants.{Nothing}
 use Rattle.chip.specs.declared.Reply.the-variants.{Gives}
 use Rattle.chip.specs.States.{improper, isBusy, freshState, resetOf}
 use Rattle.settling.specs.Settling.{settleOf}
-use Rattle.bus.specs.Cycles.{tableOf, numberOf, decideOf, respondOf}
+use Rattle.bus.specs.Cycles.{tableOf, numberOf, judgeOf, decideOf, respondOf}
 use Rattle.bus.proofs.Facts.{proper-parts, parts-proper}
 use Rattle.model.specs.declared.Seen.the-variants.{Refused}
 use Rattle.model.specs.declared.Answer.{Answer}
 use Rattle.model.specs.Arrays.{answerOf, arrayAfter}
+use Rattle.model.specs.Passed.{passedOf, arrayPassed, programmedAt, erasedAt}
 use Rattle.model.specs.Begun.{operationOf, pendingOf, startsOf, begunBy, isAwaited}
 use Rattle.model.proofs.Keeping as keeping
 use Rattle.model.proofs.Lives as lives
 use Rattle.model.proofs.Contents as contents
 use Rattle.model.proofs.Table as table
+use Rattle.model.proofs.Passing as passing
 
 -- The numbers: a cycle is refused by m exactly where m's own condition holds and that of no lower number does.
 pub refused-exactly : (d : Device) (s : State) (c : Cycle) (xs rs : List ℕ) (m : ℕ) → (m ≡ 0 → ⊥)
@@ -83,6 +86,13 @@ pub conserved : (f : Effect → ℕ) → f Nothing ≡ 0 → (d : Device) (s : S
     → f (operationOf (decideOf d s c n r .effect)) + f (pendingOf (d .part) (decideOf d s c n r .state)) ≡ f (begunBy d s c n r) + f (pendingOf (d .part) s)
 conserved = lives.conserved
 
+-- What refusals 1 to 6 let pass is answered by `passed`, and the array is left as it leaves it.
+pub passed-answer : (d : Device) (s : State) (c : Cycle) (xs rs : List ℕ) → judgeOf d s c (length xs) (length rs) ≡ 0 → passedOf d s c xs rs ≡ answerOf d s c xs rs
+passed-answer = passing.passed-answer
+
+pub passed-array : (d : Device) (s : State) (c : Cycle) (xs rs : List ℕ) → judgeOf d s c (length xs) (length rs) ≡ 0 → arrayPassed d s c xs rs ≡ arrayAfter d s c xs rs
+passed-array = passing.passed-array
+
 -- Two results that a promise allows are equal, and so are two arrays that it leaves.
 pub cycle-unique : (d : Device) (s : State) (c : Cycle) (xs rs : List ℕ) → Unique (λ (r : Answer). r ≡ answerOf d s c xs rs)
 cycle-unique d s c xs rs = only (answerOf d s c xs rs)
@@ -95,3 +105,15 @@ fresh-unique = only freshState
 
 pub reset-unique : (s : State) → Unique (λ (r : State). r ≡ resetOf s)
 reset-unique s = only (resetOf s)
+
+pub passed-unique : (d : Device) (s : State) (c : Cycle) (xs rs : List ℕ) → Unique (λ (r : Answer). r ≡ passedOf d s c xs rs)
+passed-unique d s c xs rs = only (passedOf d s c xs rs)
+
+pub passed-array-unique : (d : Device) (s : State) (c : Cycle) (xs rs : List ℕ) → Unique (λ (left : List ℕ). left ≡ arrayPassed d s c xs rs)
+passed-array-unique d s c xs rs = only (arrayPassed d s c xs rs)
+
+pub program-at-unique : (a b : ℕ) (xs : List ℕ) → Unique (λ (left : List ℕ). left ≡ programmedAt a b xs)
+program-at-unique a b xs = only (programmedAt a b xs)
+
+pub erase-at-unique : (part : Part) (a : ℕ) (xs : List ℕ) → Unique (λ (left : List ℕ). left ≡ erasedAt part a xs)
+erase-at-unique part a xs = only (erasedAt part a xs)

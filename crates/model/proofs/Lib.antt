@@ -1,6 +1,7 @@
 pub mod Overlay
 pub mod Outcome
 pub mod Reach
+pub mod Passing
 pub mod Status
 pub mod Keeping
 pub mod Lives

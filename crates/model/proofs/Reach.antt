@@ -1,7 +1,7 @@
 -- What a decided cycle touches lies inside the array and the residue. Assumes nothing.
 use mathlib.Core.Path.{_≡_, refl}
-use mathlib.Core.Bool.{Bool, true, false, not, _&&_, _||_}
-use Prim.Native.Nat.{ℕ, _≤_, _<_}
+use mathlib.Core.Bool.{true, false, not, _&&_, _||_}
+use Prim.Native.Nat.{ℕ, _≤_}
 use native.Mathlib.Omega.{arith}
 use lib.Dec.{eqb, ltb, leb}
 use borrow.Author.Tests.{leb-false, ltb-false}
@@ -13,19 +13,15 @@ use Rattle.chip.specs.declared.State.{State}
 use Rattle.chip.specs.declared.Cycle.{Cycle}
 use Rattle.chip.specs.declared.Settled.{Settled}
 use Rattle.chip.specs.declared.Decision.{Decision}
-use Rattle.chip.specs.declared.Kind.{Kind}
-use Rattle.chip.specs.declared.Kind.the-variants.{Read, Write, Idle}
-use Rattle.chip.specs.declared.Mode.{Mode}
-use Rattle.chip.specs.declared.Mode.the-variants.{Array, Status, Identifier}
 use Rattle.chip.specs.declared.Phase.{Phase}
 use Rattle.chip.specs.declared.Phase.the-variants.{Free, EraseAwaited, DataAwaited, Programming, Erasing, Suspended}
 use Rattle.chip.specs.Levels.{rpLow, vppLow}
 use Rattle.chip.specs.States.{badAddress, isPending, isBusy}
 use Rattle.settling.specs.Settling.{cutOf, endOf, residueFor, cutBy, countedOff, settleOf}
-use Rattle.bus.specs.Cycles.{shortResidue, pastArray, decideOf, acceptOf, respondOf, readOf}
+use Rattle.bus.specs.Cycles.{shortResidue, decideOf}
 use Rattle.bus.proofs.Facts.{Fine}
-use Rattle.model.proofs.Outcome.{outcome, accept-ways, accept-effect}
-use Rattle.model.specs.Arrays.{Within, Shown}
+use Rattle.model.proofs.Outcome.{outcome, accept-effect}
+use Rattle.model.specs.Arrays.{Within}
 
 -- a cut and an end find their bytes
 cut-within : (ph : Phase) (part : Part) (a n r : ℕ) → n ≡ sizeOf part → pick (isPending ph) (leb (sizeOf part) a) (not (eqb a 0)) ≡ false
@@ -63,37 +59,8 @@ settle-within d s c n r f =
     long : (rpLow (c .pins) || vppLow (d .part) (c .pins)) ≡ true → residueFor (s .phase) (d .part) (s .address) ≤ r
     long h = ltb-false r _ (and-rest _ (ltb r (residueFor (s .phase) (d .part) (s .address))) h (f .enough))
 
--- the reply of an accepted cycle
-accept-shown : (d : Device) (s : State) (c : Cycle) (n r : ℕ) (t : Settled) → Fine d s c n r → Shown (acceptOf d c t .reply) n
-unfolding pastArray
-accept-shown d s c n r t f = accept-ways d c t (λ (x : Decision). Shown (x .reply) n) (λ e. refl) (λ e k q. kinds k q e)
-  where
-    out : (b : Bool) → ((b && true) && true) ≡ false → b ≡ false
-    out true h = h
-    out false h = refl
-
-    read : (m : Mode) → c .address < n → Shown (readOf m (d .part) (c .address) (t .state .status)) n
-    read Array h = h
-    read Status h = refl
-    read Identifier h = refl
-
-    below : c .kind ≡ Read → rpLow (c .pins) ≡ false → c .address < n
-    below k e =
-        let b : leb (sizeOf (d .part)) (c .address) ≡ false = out (leb (sizeOf (d .part)) (c .address)) (simp (k, e) at (f .inside)) in
-        omega (arith, leb-false (sizeOf (d .part)) (c .address) b, f .sized)
-
-    kinds : (k : Kind) → c .kind ≡ k → rpLow (c .pins) ≡ false → Shown (respondOf k d c t .reply) n
-    kinds Read k e = read (t .state .mode) (below k e)
-    kinds Write k e = refl
-    kinds Idle k e = refl
-
--- whatever the cycle, its effect finds its bytes, and so does its reply
+-- whatever the cycle, its effect finds its bytes
 pub within : (d : Device) (s : State) (c : Cycle) (n r : ℕ) → Within (decideOf d s c n r .effect) (d .part) n r
 within d s c n r =
     outcome d s c n r (λ (x : Decision). Within (x .effect) (d .part) n r) (λ m z e. refl)
     (λ z f. rw (accept-effect d c (settleOf (d .part) s (c .pins))) (settle-within d s c n r f))
-
-pub shown : (d : Device) (s : State) (c : Cycle) (n r : ℕ) → Shown (decideOf d s c n r .reply) n
-shown d s c n r =
-    outcome d s c n r (λ (x : Decision). Shown (x .reply) n) (λ m z e. refl)
-    (λ z f. accept-shown d s c n r (settleOf (d .part) s (c .pins)) f)

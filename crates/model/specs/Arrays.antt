@@ -1,7 +1,7 @@
 -- What a cycle does to the array, and what the host sees. Assumes nothing.
 use mathlib.Core.Path.{_≡_}
 use mathlib.Core.List.{List}
-use Prim.Native.Nat.{ℕ, _+_, _≤_, _<_}
+use Prim.Native.Nat.{ℕ, _≤_, _<_}
 use lib.ListN.{length, getD, set, take, replicate}
 use lib.Bits.{bitAnd, bitOr}
 use Rattle.cells.specs.Lists.{overlaid}
@@ -46,13 +46,6 @@ Within (Program at b) part n r = at < n
 Within (Erase k) part n r = n ≡ sizeOf part
 Within (CutProgram at b) part n r = (at < n) × (0 < r)
 Within (CutErase k) part n r = (n ≡ sizeOf part) × (lengthOf part k ≤ r)
-
--- a reply finds its byte in an array of this length
-abbrev pub Shown : Reply → ℕ → Type 0
-Shown Quiet n = n ≡ n
-Shown (Gives b) n = n ≡ n
-Shown (GivesArray a) n = a < n
-Shown (Refuses m) n = n ≡ n
 
 -- what the host sees of a reply
 abbrev pub seenOf : Reply → List ℕ → Seen

@@ -11,8 +11,9 @@ ghost use lib.ListN.{length, getD, set};
 ghost use lib.Bits.{bitAnd, bitOr};
 ghost use Rattle.chip.specs.States.{freshState, resetOf};
 ghost use Rattle.device.specs.Parts.{sizeOf, lengthOf};
-ghost use Rattle.model.specs.declared.Seen.the-variants.{Byte};
-ghost use Rattle.model.specs.Arrays.{Within, erased, residual, arrayOf, Shown, seenOf, answerOf, arrayAfter};
+ghost use Rattle.model.specs.declared.Seen.the-variants.{Byte, Refused};
+ghost use Rattle.model.specs.Arrays.{Within, erased, residual, arrayOf, seenOf, answerOf, arrayAfter};
+ghost use Rattle.model.specs.Passed.{findsIn, doneOf, programmedAt, erasedAt, passedOf, arrayPassed};
 
 // What the host sees of a cycle: no data, a byte, or a refusal by its number.
 pub enum Seen {
@@ -88,18 +89,54 @@ fn apply(effect: Effect, part: Part, array: &mut [u8], residue: &[u8])
     }
 }
 
+// The effect finds its bytes in an array and a residue of these lengths.
+fn finds(effect: Effect, part: Part, array: usize, residue: usize) -> bool
+    ensures { λ r. ⌜ r ≡ findsIn effect part array residue ⌝ }
+{
+    match effect {
+        Effect::Nothing => true,
+        Effect::Program(at, _) => index(at) < array,
+        Effect::Erase(_) => array == device::size(part),
+        Effect::CutProgram(at, _) => (index(at) < array) & (0 < residue),
+        Effect::CutErase(k) => (array == device::size(part)) & (device::length(part, k) <= residue),
+    }
+}
+
+// The effect done where it finds its bytes, and left undone elsewhere.
+fn put(effect: Effect, part: Part, array: &mut [u8], residue: &[u8])
+    ensures { λ _. ⌜ now (array .exit) ≡ doneOf effect part (now (residue .entry)) (now (array .entry)) ⌝ }
+{
+    if finds(effect, part, array.len(), residue.len()) {
+        return apply(effect, part, array, residue);
+    }
+}
+
+// A program that ends: nothing where its byte is not there.
+pub fn program_at(address: u32, byte: u8, array: &mut [u8])
+    ensures { λ _. ⌜ now (array .exit) ≡ programmedAt address byte (now (array .entry)) ⌝ }
+{
+    if index(address) < array.len() {
+        return program(array, address, byte);
+    }
+}
+
+// An erase that ends: nothing where the array is not the part's.
+pub fn erase_at(part: Part, address: u32, array: &mut [u8])
+    ensures { λ _. ⌜ now (array .exit) ≡ erasedAt part address (now (array .entry)) ⌝ }
+{
+    if array.len() == device::size(part) {
+        return erase(part, device::block_of(part, address), array);
+    }
+}
+
 // What the host sees of a reply.
 fn see(reply: Reply, array: &[u8]) -> Seen
-    requires { ⌜ Shown reply (length (now array)) ⌝ }
     ensures { λ r. ⌜ r ≡ seenOf reply (now (array .entry)) ⌝ }
 {
     match reply {
         Reply::Quiet => Seen::NoData,
         Reply::Gives(b) => Seen::Byte(b),
-        Reply::GivesArray(a) => {
-            let at = index(a);
-            Seen::Byte(array[at])
-        }
+        Reply::GivesArray(a) => Seen::Byte(cells::nth(array, index(a))),
         Reply::Refuses(n) => Seen::Refused(n),
     }
 }
@@ -118,17 +155,31 @@ pub fn reset(s: State) -> State
     chip::states::reset(s)
 }
 
-// Any bus cycle, by the decision on it.
-fn decided(d: Device, s: State, c: Cycle, array: &mut [u8], residue: &[u8]) -> Answer
-    ensures { λ r. ⌜ r ≡ answerOf d s c (now (array .entry)) (now (residue .entry)) ⌝ }
-    ensures { λ _. ⌜ now (array .exit) ≡ arrayAfter d s c (now (array .entry)) (now (residue .entry)) ⌝ }
+// A byte of the array, and the state as it was.
+fn show(s: State, address: u32, array: &[u8]) -> Answer
+    ensures { λ r. ⌜ r ≡ record { seen = Byte (getD (now (array .entry)) address 0); state = s } ⌝ }
 {
+    let b = cells::nth(array, index(address));
+    Answer {
+        seen: Seen::Byte(b),
+        state: s,
+    }
+}
+
+// A cycle that refusals 1 to 6 let pass. They are not tested again; an effect that does not find its bytes is left undone.
+pub fn passed(d: Device, s: State, c: Cycle, array: &mut [u8], residue: &[u8]) -> Answer
+    ensures { λ r. ⌜ r ≡ passedOf d s c (now (array .entry)) (now (residue .entry)) ⌝ }
+    ensures { λ _. ⌜ now (array .exit) ≡ arrayPassed d s c (now (array .entry)) (now (residue .entry)) ⌝ }
+{
+    if bus::asks_array(s, c) {
+        return show(s, c.address, array);
+    }
     let part = d.part;
-    let x = bus::decide(d, s, c, array.len(), residue.len());
+    let x = bus::pass(d, s, c);
     let effect = x.effect;
     let reply = x.reply;
     let state = x.state;
-    apply(effect, part, array, residue);
+    put(effect, part, array, residue);
     let seen = see(reply, array);
     Answer {
         seen: seen,
@@ -136,25 +187,23 @@ fn decided(d: Device, s: State, c: Cycle, array: &mut [u8], residue: &[u8]) -> A
     }
 }
 
-// A byte of the array, and the state as it was.
-fn show(s: State, address: u32, array: &[u8]) -> Answer
-    requires { ⌜ address < length (now array) ⌝ }
-    ensures { λ r. ⌜ r ≡ record { seen = Byte (getD (now (array .entry)) address 0); state = s } ⌝ }
+fn refused(n: u8, s: State) -> Answer
+    ensures { λ r. ⌜ r ≡ record { seen = Refused n; state = s } ⌝ }
 {
-    let at = index(address);
     Answer {
-        seen: Seen::Byte(array[at]),
+        seen: Seen::Refused(n),
         state: s,
     }
 }
 
-// One bus cycle. A plain array read needs no decision.
+// One bus cycle.
 pub fn cycle(d: Device, s: State, c: Cycle, array: &mut [u8], residue: &[u8]) -> Answer
     ensures { λ r. ⌜ r ≡ answerOf d s c (now (array .entry)) (now (residue .entry)) ⌝ }
     ensures { λ _. ⌜ now (array .exit) ≡ arrayAfter d s c (now (array .entry)) (now (residue .entry)) ⌝ }
 {
-    if bus::plain_read(d, s, c, array.len()) {
-        return show(s, c.address, array);
+    let n = bus::judge(d, s, c, array.len(), residue.len());
+    if n != 0 {
+        return refused(n, s);
     }
-    decided(d, s, c, array, residue)
+    passed(d, s, c, array, residue)
 }

@@ -1,8 +1,3 @@
-use mathlib.Core.Path.{subst}
-use native.Mathlib.Omega.{arith}
-use lib.ListN.{length}
-use Rattle.chip.specs.declared.Reply.{Reply}
-use Rattle.model.specs.Arrays.{Shown}
 use borrow.Author.Needs.{needs}
 use Rattle.model.proofs.see.Statement.{statement}
 use Rattle.model.proofs.see.Tie as tie
@@ -19,11 +14,8 @@ enum-known-reply-2 c = search needs
 index-requires : tie.Need-index-requires
 index-requires c κs = search needs
 
-shared-slice-read-t9 : tie.Need-shared-slice-read-t9
-shared-slice-read-t9 c =
-    let n = length (c .before .before .before .before .before .before .args .array .now) in
-    let h = subst (λ (r : Reply). Shown r n) (c .before .before .before .reply2 .given .1) (c .before .before .before .before .before .before .pre) in
-    omega (arith, h, c .before .index .ensures)
+nth-requires : tie.Need-nth-requires
+nth-requires c κs = search needs
 
 enum-known-reply-3 : tie.Need-enum-known-reply-3
 enum-known-reply-3 c = search needs
@@ -35,7 +27,7 @@ returns-2 : tie.Need-returns-2
 returns-2 c = simp (c .before .reply .given .1)
 
 returns-3 : tie.Need-returns-3
-returns-3 c = simp (c .before .index .ensures, c .before .before .before .reply2 .given .1)
+returns-3 c = simp (c .nth .ensures, c .before .index .ensures, c .before .before .before .reply2 .given .1)
 
 returns-4 : tie.Need-returns-4
 returns-4 c = simp (c .before .reply3 .given .1)
@@ -48,7 +40,7 @@ see-spec =
     enum-known-reply
     enum-known-reply-2
     index-requires
-    shared-slice-read-t9
+    nth-requires
     enum-known-reply-3
     returns
     returns-2

@@ -1,0 +1,101 @@
+-- A cycle is refused by its early number, or passes; and an array read at rest passes with its byte. Assumes nothing.
+use mathlib.Core.Path.{_≡_, refl, sym, ap, _∙_}
+use mathlib.Core.Bool.{Bool, true, false, not, _&&_}
+use Prim.Native.Nat.{ℕ}
+use Rattle.cells.specs.Pick.{pick-true, pick-false, and-left, and-right, unlike}
+use Rattle.device.specs.declared.Device.{Device}
+use Rattle.chip.specs.declared.Kind.{Kind}
+use Rattle.chip.specs.declared.Kind.the-variants.{Read, Write, Idle}
+use Rattle.chip.specs.declared.Mode.{Mode}
+use Rattle.chip.specs.declared.Mode.the-variants.{Array, Status, Identifier}
+use Rattle.chip.specs.declared.Phase.{Phase}
+use Rattle.chip.specs.declared.Phase.the-variants.{Free, EraseAwaited, DataAwaited, Programming, Erasing, Suspended}
+use Rattle.chip.specs.declared.State.{State}
+use Rattle.chip.specs.declared.Cycle.{Cycle}
+use Rattle.chip.specs.declared.Effect.the-variants.{Nothing}
+use Rattle.chip.specs.declared.Reply.the-variants.{GivesArray}
+use Rattle.chip.specs.declared.Settled.{Settled}
+use Rattle.chip.specs.Levels.{rpLow, vppLow}
+use Rattle.chip.specs.States.{isArray}
+use Rattle.settling.specs.Settling.{settledAs, settleOf}
+use Rattle.bus.specs.Cycles.{isRead, judgeOf, refusedBy, decidedAs, decideOf}
+use Rattle.bus.specs.Arms.{isFree, inSuspended, arrayArm, arm, passOf, asksArray}
+use Rattle.bus.proofs.Ways.{number-early, refused}
+use Rattle.bus.proofs.Arms.{by-reset, by-arms}
+
+-- none of refusals 1 to 6: the cycle passes
+pub passes : (d : Device) (s : State) (c : Cycle) (array residue : ℕ) → judgeOf d s c array residue ≡ 0 → decideOf d s c array residue ≡ passOf d s c
+unfolding passOf
+passes d s c array residue z = go (rpLow (c .pins)) refl
+  where
+    go : (b : Bool) → rpLow (c .pins) ≡ b → decideOf d s c array residue ≡ passOf d s c
+    go true r = by-reset d s c array residue z r ∙ sym (pick-true (rpLow (c .pins)) _ _ r)
+    go false r = by-arms d s c array residue z r ∙ sym (pick-false (rpLow (c .pins)) _ _ r)
+
+-- one of them: it is refused by that number
+pub stops : (d : Device) (s : State) (c : Cycle) (array residue : ℕ) → (judgeOf d s c array residue ≡ 0 → ⊥)
+    → decideOf d s c array residue ≡ refusedBy (judgeOf d s c array residue) s
+stops d s c array residue z =
+    refused d s c array residue (judgeOf d s c array residue) (number-early d s c array residue (judgeOf d s c array residue) refl z) z
+
+is-read : (k : Kind) → isRead k ≡ true → k ≡ Read
+is-read Read e = refl
+is-read Write e = absurd (unlike (sym e))
+is-read Idle e = absurd (unlike (sym e))
+
+is-free : (ph : Phase) → isFree ph ≡ true → ph ≡ Free
+is-free Free e = refl
+is-free EraseAwaited e = absurd (unlike (sym e))
+is-free DataAwaited e = absurd (unlike (sym e))
+is-free (Programming b) e = absurd (unlike (sym e))
+is-free Erasing e = absurd (unlike (sym e))
+is-free Suspended e = absurd (unlike (sym e))
+
+is-array : (m : Mode) → isArray m ≡ true → m ≡ Array
+is-array Array e = refl
+is-array Status e = absurd (unlike (sym e))
+is-array Identifier e = absurd (unlike (sym e))
+
+not-true : (b : Bool) → not b ≡ true → b ≡ false
+not-true true e = absurd (unlike (sym e))
+not-true false e = refl
+
+none : (x : Bool) → (x && false) ≡ false
+none true = refl
+none false = refl
+
+module _ (d : Device) (s : State) (c : Cycle) (asks : asksArray s c ≡ true) where
+  abbrev first : Bool
+  first = isRead (c .kind) && isFree (s .phase)
+
+  abbrev three : Bool
+  three = first && isArray (s .mode)
+
+  before : three ≡ true
+  unfolding asksArray
+  before = and-left three (not (rpLow (c .pins))) asks
+
+  kind : c .kind ≡ Read
+  kind = is-read (c .kind) (and-left (isRead (c .kind)) (isFree (s .phase)) (and-left first (isArray (s .mode)) before))
+
+  free : s .phase ≡ Free
+  free = is-free (s .phase) (and-right (isRead (c .kind)) (isFree (s .phase)) (and-left first (isArray (s .mode)) before))
+
+  mode : s .mode ≡ Array
+  mode = is-array (s .mode) (and-right first (isArray (s .mode)) before)
+
+  up : rpLow (c .pins) ≡ false
+  unfolding asksArray
+  up = not-true (rpLow (c .pins)) (and-right three (not (rpLow (c .pins))) asks)
+
+  settled : settleOf (d .part) s (c .pins) ≡ settledAs s Nothing
+  unfolding settleOf
+  settled = simp (up, free, none (vppLow (d .part) (c .pins)))
+
+  -- its byte is the answer, and nothing else changes
+  pub shows : passOf d s c ≡ decidedAs (GivesArray (c .address)) s Nothing
+  unfolding passOf arrayArm inSuspended
+  shows =
+      pick-false (rpLow (c .pins)) _ _ up
+      ∙ ap (λ (k : Kind). arm k d s c (settleOf (d .part) s (c .pins))) kind ∙ ap (λ (t : Settled). arm Read d s c t) settled
+      ∙ simp (mode, free)

@@ -1,0 +1,38 @@
+use borrow.Author.Needs.{needs}
+use mathlib.Core.Path.{sym, ap, _∙_}
+use Rattle.cells.specs.Pick.{pick-true, pick-false}
+use Rattle.chip.specs.declared.Settled.{Settled}
+use Rattle.chip.specs.declared.Reply.the-variants.{Quiet}
+use Rattle.chip.specs.Levels.{rpLow}
+use Rattle.bus.specs.Arms.{givenBy, arm, passOf}
+use Rattle.bus.proofs.pass.Statement.{statement}
+use Rattle.bus.proofs.pass.Tie as tie
+
+settle-requires : tie.Need-settle-requires
+settle-requires c κs = search needs
+
+rp-low-requires : tie.Need-rp-low-requires
+rp-low-requires c κs = search needs
+
+given-requires : tie.Need-given-requires
+given-requires c κs = search needs
+
+returns : tie.Need-returns
+unfolding passOf
+returns c =
+    let a = c .before .before .before .before .before .before .args in
+    c .given .ensures ∙ ap (λ (t : Settled). givenBy Quiet t) (c .before .before .before .settle .ensures)
+    ∙ sym (pick-true (rpLow (a .c .pins)) _ _ (sym (c .before .before .rp-low .ensures) ∙ c .before .if1 .taken))
+
+respond-requires : tie.Need-respond-requires
+respond-requires c κs = search needs
+
+returns-2 : tie.Need-returns-2
+unfolding passOf
+returns-2 c =
+    let a = c .before .before .before .before .before .before .args in
+    c .respond .ensures ∙ ap (λ (t : Settled). arm (a .c .kind) (a .d) (a .s) (a .c) t) (c .before .before .before .settle .ensures)
+    ∙ sym (pick-false (rpLow (a .c .pins)) _ _ (sym (c .before .before .rp-low .ensures) ∙ c .before .if1 .left))
+
+pub pass-spec : {M : Type 1} → statement M
+pass-spec = tie.close (tie.spec settle-requires rp-low-requires given-requires returns respond-requires returns-2)

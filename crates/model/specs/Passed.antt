@@ -1,0 +1,45 @@
+-- A cycle that refusals 1 to 6 let pass, on any array and residue. That it is the cycle's answer where they do is proved
+-- (`passed-answer`); nothing here needs to be believed. Assumes nothing.
+use mathlib.Core.Bool.{Bool, true, _&&_}
+use mathlib.Core.List.{List}
+use Prim.Native.Nat.{ℕ}
+use lib.ListN.{length, getD, set}
+use lib.Dec.{eqb, ltb, leb}
+use lib.Bits.{bitAnd}
+use Rattle.cells.specs.Pick.{pick}
+use Rattle.device.specs.Parts.{sizeOf, lengthOf, blockOf}
+use Rattle.device.specs.declared.Part.{Part}
+use Rattle.device.specs.declared.Device.{Device}
+use Rattle.chip.specs.declared.Effect.{Effect}
+use Rattle.chip.specs.declared.Effect.the-variants.{Nothing, Program, Erase, CutProgram, CutErase}
+use Rattle.chip.specs.declared.State.{State}
+use Rattle.chip.specs.declared.Cycle.{Cycle}
+use Rattle.bus.specs.Arms.{passOf}
+use Rattle.model.specs.declared.Answer.{Answer}
+use Rattle.model.specs.Arrays.{erased, arrayOf, seenOf}
+
+-- an effect finds its bytes in an array and a residue of these lengths
+abbrev pub findsIn : Effect → Part → ℕ → ℕ → Bool
+findsIn Nothing part n r = true
+findsIn (Program at b) part n r = ltb at n
+findsIn (Erase k) part n r = eqb n (sizeOf part)
+findsIn (CutProgram at b) part n r = ltb at n && ltb 0 r
+findsIn (CutErase k) part n r = eqb n (sizeOf part) && leb (lengthOf part k) r
+
+-- an effect done where it finds its bytes, and left undone elsewhere
+abbrev pub doneOf : Effect → Part → List ℕ → List ℕ → List ℕ
+doneOf e part rs xs = pick (findsIn e part (length xs) (length rs)) (arrayOf e part rs xs) xs
+
+-- a program that ends, and an erase that ends, on any array
+unfoldable pub programmedAt : ℕ → ℕ → List ℕ → List ℕ
+programmedAt at b xs = pick (ltb at (length xs)) (set xs at (bitAnd (getD xs at 0) b)) xs
+
+unfoldable pub erasedAt : Part → ℕ → List ℕ → List ℕ
+erasedAt part a xs = pick (eqb (length xs) (sizeOf part)) (erased part (blockOf part a) xs) xs
+
+-- the array after a cycle that passed, and the answer to it
+unfoldable pub arrayPassed : Device → State → Cycle → List ℕ → List ℕ → List ℕ
+arrayPassed d s c xs rs = doneOf (passOf d s c .effect) (d .part) rs xs
+
+unfoldable pub passedOf : Device → State → Cycle → List ℕ → List ℕ → Answer
+passedOf d s c xs rs = record { seen = seenOf (passOf d s c .reply) (arrayPassed d s c xs rs); state = passOf d s c .state }
