@@ -1,5 +1,7 @@
 pub mod Measure
 pub mod Turning
 pub mod Good
+pub mod Judging
+pub mod Sound
 pub mod Ending
 pub mod Claims

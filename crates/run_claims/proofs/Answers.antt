@@ -1,4 +1,4 @@
--- What the model answers to each cycle of a load: the one place that opens the model's rules. Assumes nothing.
+-- What the model answers to each cycle of a load: the place that opens the model's rules, with Judging of run. Assumes nothing.
 use mathlib.Core.Path.{_≡_, refl, sym, ap, _∙_}
 use mathlib.Core.Bool.{Bool, true, false, not, _&&_, _||_}
 use Prim.Native.Nat.{ℕ, _+_, _-_, _≤_, _<_}
@@ -11,7 +11,7 @@ use Rattle.device.specs.declared.Device.{Device}
 use Rattle.device.specs.Parts.{unknownDevice, sizeOf, blockOf}
 use Rattle.chip.specs.declared.Pins.{Pins}
 use Rattle.chip.specs.declared.Kind.{Kind}
-use Rattle.chip.specs.declared.Kind.the-variants.{Read, Write, Idle}
+use Rattle.chip.specs.declared.Kind.the-variants.{Read, Write}
 use Rattle.chip.specs.declared.Mode.{Mode}
 use Rattle.chip.specs.declared.Mode.the-variants.{Array, Status}
 use Rattle.chip.specs.declared.Phase.{Phase}
@@ -21,15 +21,16 @@ use Rattle.chip.specs.declared.Effect.the-variants.{Nothing}
 use Rattle.chip.specs.declared.Reply.the-variants.{Quiet, Gives, GivesArray}
 use Rattle.chip.specs.declared.State.{State}
 use Rattle.chip.specs.declared.Settled.{Settled}
-use Rattle.chip.specs.Levels.{rpLow, vppLow, badPins, badOe, badLevels, locked}
+use Rattle.chip.specs.Levels.{rpLow, vppLow, badPins, locked}
 use Rattle.chip.specs.States.{badMode, badStatus, badLeft, badAddress, atRest, isBusy, isPending, mostLeft}
 use Rattle.commands.specs.Commands.{actionOf, firstWrite, afterErase, performedOf, startedOf, unsupplied}
-use Rattle.settling.specs.Settling.{settledAs, settleOf, countedOff, endOf, residueFor}
-use Rattle.bus.specs.Cycles.{isSuspended, pastArray, shortResidue, noCommand, suspendedRead, noIdentifier, judgeOf, lateOf, decideOf, acceptOf, respondOf, decidedAs}
+use Rattle.settling.specs.Settling.{settledAs, settleOf, countedOff, endOf}
+use Rattle.bus.specs.Cycles.{isSuspended, shortResidue, noCommand, suspendedRead, noIdentifier, lateOf, decideOf, acceptOf, respondOf, decidedAs}
 use Rattle.bus.proofs.Ways.{accepted, number-late}
-use Rattle.bus.proofs.Facts.{Proper, parts-proper}
+use Rattle.bus.proofs.Facts.{Proper}
 use Rattle.model.proofs.Keeping.{st, rest-proper}
 use Rattle.model.proofs.Status.{fits}
+use Rattle.run.proofs.Judging.{unasked, unasked-high, judged}
 use Rattle.run_claims.specs.Made.{busCycle as cyc}
 
 -- a device that is known, and levels that a load may have
@@ -60,24 +61,6 @@ unfolding startedOf unsupplied locked
 locked-stuck d p k e z f = record { stays = λ s ph a b time bit q h. simp (e, q, h, z, f) }
 
 module _ (d : Device) (p : Pins) (u : Up d p) where
-  -- no residue is asked for where nothing is pending
-  unasked : (s : State) (kind : Kind) (a b : ℕ) → isPending (s .phase) ≡ false → shortResidue (d .part) s (cyc p kind a b) 0 ≡ false
-  unfolding shortResidue
-  unasked s kind a b e = go (s .phase) e
-    where
-      both : (x y : Bool) → ((x || y) && false) ≡ false
-      both true y = refl
-      both false true = refl
-      both false false = refl
-
-      go : (ph : Phase) → isPending ph ≡ false → ((rpLow p || vppLow (d .part) p) && ltb 0 (residueFor ph (d .part) (s .address))) ≡ false
-      go Free q = both (rpLow p) (vppLow (d .part) p)
-      go EraseAwaited q = both (rpLow p) (vppLow (d .part) p)
-      go DataAwaited q = both (rpLow p) (vppLow (d .part) p)
-      go (Programming x) q = absurd (unlike q)
-      go Erasing q = absurd (unlike q)
-      go Suspended q = absurd (unlike q)
-
   -- with nothing pending, steps 1 to 3 leave the state
   rest : (s : State) → isPending (s .phase) ≡ false → settleOf (d .part) s p ≡ settledAs s Nothing
   unfolding settleOf
@@ -95,18 +78,6 @@ module _ (d : Device) (p : Pins) (u : Up d p) where
       calm Erasing q = absurd (unlike q)
       calm Suspended q = refl
 
-  -- none of refusals 1 to 6
-  judged : (s : State) (kind : Kind) (a b : ℕ) → Proper d s → a < sizeOf (d .part) → shortResidue (d .part) s (cyc p kind a b) 0 ≡ false
-      → judgeOf d s (cyc p kind a b) (sizeOf (d .part)) 0 ≡ 0
-  unfolding judgeOf badLevels pastArray
-  judged s kind a b q h z =
-      simp (u .known, eq-eqb (sizeOf (d .part)) (sizeOf (d .part)) refl, parts-proper d s q, u .levels, normal kind, lt-leb (sizeOf (d .part)) a h, u .up, z)
-    where
-      normal : (kind : Kind) → badOe kind 0 ≡ false
-      normal Read = refl
-      normal Write = refl
-      normal Idle = refl
-
   -- a cycle that no late number refuses goes on to its read or write
   decides : (s t : State) (e : Effect) (kind : Kind) (a b : ℕ) → Proper d s → a < sizeOf (d .part) → shortResidue (d .part) s (cyc p kind a b) 0 ≡ false
       → settleOf (d .part) s p ≡ settledAs t e → lateOf (d .part) t (cyc p kind a b) ≡ 0
@@ -114,14 +85,14 @@ module _ (d : Device) (p : Pins) (u : Up d p) where
   unfolding acceptOf
   decides s t e kind a b q h z g l =
       accepted d s (cyc p kind a b) (sizeOf (d .part)) 0
-      (number-late d s (cyc p kind a b) (sizeOf (d .part)) 0 0 (judged s kind a b q h z) (ap (λ (x : Settled). lateOf (d .part) (x .state) (cyc p kind a b)) g ∙ l))
+      (number-late d s (cyc p kind a b) (sizeOf (d .part)) 0 0 (judged d s (cyc p kind a b) (sizeOf (d .part)) (u .known) refl q (u .levels) refl h z) (ap (λ (x : Settled). lateOf (d .part) (x .state) (cyc p kind a b)) g ∙ l))
       ∙ pick-false (rpLow p) _ _ (u .up)
       ∙ ap (λ (x : Settled). respondOf kind d (cyc p kind a b) x) g
 
   -- .. where nothing is pending
   calm-decides : (s : State) (kind : Kind) (a b : ℕ) → Proper d s → a < sizeOf (d .part) → isPending (s .phase) ≡ false → lateOf (d .part) s (cyc p kind a b) ≡ 0
       → decideOf d s (cyc p kind a b) (sizeOf (d .part)) 0 ≡ respondOf kind d (cyc p kind a b) (settledAs s Nothing)
-  calm-decides s kind a b q h e l = decides s s Nothing kind a b q h (unasked s kind a b e) (rest s e) l
+  calm-decides s kind a b q h e l = decides s s Nothing kind a b q h (unasked (d .part) s (cyc p kind a b) e) (rest s e) l
 
   -- a write to a device at rest
   rest-write : (m : Mode) (x a b : ℕ) → fits 2 x ≡ true → a < sizeOf (d .part) → lateOf (d .part) (atRest m x) (cyc p Write a b) ≡ 0
@@ -239,17 +210,13 @@ module _ (d : Device) (p : Pins) (u : Up d p) where
     unfolding settleOf
     counts s e = simp (u .up, r .high, e)
 
-    full : (s : State) (b : ℕ) → shortResidue (d .part) s (cyc p Read b 0) 0 ≡ false
-    unfolding shortResidue
-    full s b = simp (u .up, r .high)
-
     -- a poll while cycles are left, and the last one
     pub waits : (ph : Phase) (left a b : ℕ) → isBusy ph ≡ true → 0 < left → left + 1 ≤ mostLeft d ph → a < sizeOf (d .part) → b < sizeOf (d .part)
         → decideOf d (st Status 0 ph (left + 1) a) (cyc p Read b 0) (sizeOf (d .part)) 0 ≡ decidedAs (Gives 0) (st Status 0 ph left a) Nothing
     unfolding countedOff
     waits ph left a b e z m h g =
         let s : State = st Status 0 ph (left + 1) a in
-        decides s (st Status 0 ph left a) Nothing Read b 0 (busy-proper ph (left + 1) a e (omega arith) m h) g (full s b)
+        decides s (st Status 0 ph left a) Nothing Read b 0 (busy-proper ph (left + 1) a e (omega arith) m h) g (unasked-high (d .part) s (cyc p Read b 0) (u .up) (r .high))
         (counts s e ∙ pick-false (leb (left + 1) 1) _ _ (lt-leb (left + 1) 1 (omega arith)) ∙ ap (λ (j : ℕ). settledAs (st Status 0 ph j a) Nothing) (let q : left + 1 - 1 ≡ left = omega arith in q))
         (late-status (st Status 0 ph left a) b refl)
 
@@ -258,4 +225,4 @@ module _ (d : Device) (p : Pins) (u : Up d p) where
     unfolding countedOff
     ends ph a b e m h g =
         let s : State = st Status 0 ph 1 a in
-        decides s (atRest Status 128) (endOf ph (d .part) a) Read b 0 (busy-proper ph 1 a e (omega arith) m h) g (full s b) (counts s e) (late-status (atRest Status 128) b refl)
+        decides s (atRest Status 128) (endOf ph (d .part) a) Read b 0 (busy-proper ph 1 a e (omega arith) m h) g (unasked-high (d .part) s (cyc p Read b 0) (u .up) (r .high)) (counts s e) (late-status (atRest Status 128) b refl)

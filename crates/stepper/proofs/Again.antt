@@ -321,7 +321,8 @@ unfolding startOf
 start-gives part p k w sc e =
     judged-given (startNumber part p k (length w) (length sc)) (recordAt part p k Clearing) w (recordAt part p k (Ended (startNumber part p k (length w) (length sc)))) e
 
-some-block : (part : Part) (k : ℕ) → noBlock part k ≡ false → 0 < lengthOf part k
+-- a block that there is has a byte
+pub some-block : (part : Part) (k : ℕ) → noBlock part k ≡ false → 0 < lengthOf part k
 unfolding noBlock
 some-block part k e = let z : lengthOf part k ≡ 0 → ⊥ = eqb-false _ _ e in omega arith
 
