@@ -180,3 +180,12 @@ sound-turn d w sc xs l s z e =
     (cycle-length d s (cycleOf l w) xs [])
     (cycle-proper d s (cycleOf l w) (length xs) 0 (z .proper))
     (out-calm d w l s (length xs) z)
+
+-- the same of what a cycle was seen to leave
+pub sound-next : (d : Device) (w sc xs : List ℕ) (l : Loader) (s : State) → Sound d w l s (length xs) → isEnded (l .stage) ≡ false → (l′ : Loader) (s′ : State) (xs′ : List ℕ)
+    → l′ ≡ loaderBy (answerTo d w l s xs .seen) l w sc → s′ ≡ answerTo d w l s xs .state → xs′ ≡ arrayTo d w l s xs → Sound d w l′ s′ (length xs′)
+sound-next d w sc xs l s h e l′ s′ xs′ el es ex =
+    subst (λ (x : Loader). Sound d w x s′ (length xs′)) (sym el)
+    (subst (λ (x : State). Sound d w (loaderBy (answerTo d w l s xs .seen) l w sc) x (length xs′)) (sym es)
+    (subst (λ (x : List ℕ). Sound d w (loaderBy (answerTo d w l s xs .seen) l w sc) (answerTo d w l s xs .state) (length x)) (sym ex)
+    (sound-turn d w sc xs l s h e)))

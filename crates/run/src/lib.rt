@@ -18,11 +18,13 @@ use stepper::outs::first;
 use takes::take;
 ghost use mathlib.Core.Path.{_≡_};
 ghost use mathlib.Core.Bool.{not};
-ghost use Prim.Native.Nat.{_≤_};
 ghost use lib.ListN.{length};
 ghost use lib.Dec.{eqb};
 ghost use Rattle.device.specs.Parts.{sizeOf};
-ghost use Rattle.stepper.specs.Outs.{firstOf, hereOf};
+ghost use Rattle.bus.specs.Cycles.{judgeOf};
+ghost use Rattle.loader.specs.declared.Stage.the-variants.{Clearing};
+ghost use Rattle.stepper.specs.Outs.{firstOf, hereOf, cycleOf};
+ghost use Rattle.stepper.specs.Front.{recordAt};
 ghost use Rattle.run.specs.Turns.{isEnded, isRefused, numberIn, loaderBy, scratchBy, answerTo, arrayTo};
 ghost use Rattle.run.specs.Runs.{underWay, runNumber, endOf, begin, ranBy, driven, ranOf, bytesOf, scratchOf};
 
@@ -83,9 +85,9 @@ fn here(start: u32, l: Loader) -> u32
     start
 }
 
-// One cycle made, by the block's first address.
+// One cycle made, by the block's first address. Refusals 1 to 6 do not apply to it.
 fn both(d: Device, start: u32, h: Held, wanted: &[u8], scratch: &mut [u8], array: &mut [u8]) -> Held
-    requires { ⌜ start ≡ firstOf (h .loader) ⌝ }
+    requires { ⌜ (start ≡ firstOf (h .loader)) × (judgeOf d (h .state) (cycleOf (h .loader) (now wanted)) (length (now array)) 0 ≡ 0) ⌝ }
     ensures { λ r. ⌜ r .loader
         ≡ loaderBy (answerTo d (now (wanted .entry)) (h .loader) (h .state) (now (array .entry)) .seen) (h .loader) (now (wanted .entry)) (now (scratch .entry)) ⌝ }
     ensures { λ r. ⌜ r .state ≡ answerTo d (now (wanted .entry)) (h .loader) (h .state) (now (array .entry)) .state ⌝ }
@@ -97,7 +99,7 @@ fn both(d: Device, start: u32, h: Held, wanted: &[u8], scratch: &mut [u8], array
     let s = h.state;
     let stage = l.stage;
     let c = cycle_in(stage, start, here(start, l), l, wanted);
-    let a = model::cycle(d, s, c, array, &wanted[0..0]);
+    let a = model::passed(d, s, c, array, &wanted[0..0]);
     let seen = a.seen;
     let state = a.state;
     Held {
@@ -151,9 +153,10 @@ fn end_of(stage: Stage) -> u8
     }
 }
 
-// The load made to its end.
+// The load made to its end, from a beginning that nothing refuses.
 fn drive(d: Device, s: State, l: Loader, wanted: &[u8], scratch: &mut [u8], array: &mut [u8]) -> Ran
-    requires { ⌜ length (now wanted) ≤ 131072 ⌝ }
+    requires { ⌜ (runNumber d s (l .pins) (l .block) (length (now array)) (length (now wanted)) (length (now scratch)) ≡ 0)
+        × (l ≡ recordAt (d .part) (l .pins) (l .block) Clearing) ⌝ }
     ensures { λ r. ⌜ r ≡ ranBy (driven d (now (wanted .entry)) (begin d s l (now (array .entry)) (now (scratch .entry)))) ⌝ }
     ensures { λ _. ⌜ now (scratch .exit) ≡ driven d (now (wanted .entry)) (begin d s l (now (array .entry)) (now (scratch .entry))) .scratch ⌝ }
     ensures { λ _. ⌜ now (array .exit) ≡ driven d (now (wanted .entry)) (begin d s l (now (array .entry)) (now (scratch .entry))) .bytes ⌝ }

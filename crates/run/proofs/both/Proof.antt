@@ -3,29 +3,33 @@ use mathlib.Core.List.{[]}
 use Rattle.chip.specs.declared.Cycle.{Cycle}
 use Rattle.stepper.specs.Outs.{firstOf, hereOf, cycleIn, cycleOf}
 use Rattle.model.specs.declared.Answer.{Answer}
-use Rattle.model.specs.Arrays.{answerOf, arrayAfter}
+use lib.ListN.{length}
+use Rattle.bus.specs.Cycles.{judgeOf}
+use Rattle.model.specs.Arrays.{answerOf}
+use Rattle.model.specs.Passed.{passedOf, arrayPassed}
+use Rattle.model.proofs.Passing.{passed-answer, passed-array}
 use Rattle.run.specs.Turns.{loaderBy, scratchBy, answerTo, arrayTo}
 use borrow.Author.Needs.{needs}
 use Rattle.run.proofs.both.Statement.{statement}
 use Rattle.run.proofs.both.Tie as tie
 
 here-requires : tie.Need-here-requires
-here-requires c κs = search needs
+here-requires c κs = c .before .before .before .before .before .pre .0
 
 cycle-in-requires : tie.Need-cycle-in-requires
 cycle-in-requires c κs = search needs
 
-sub-cycle : tie.Need-sub-cycle
-sub-cycle c = search needs
+sub-passed : tie.Need-sub-passed
+sub-passed c = search needs
 
-part-cycle-start : tie.Need-part-cycle-start
-part-cycle-start c = search needs
+part-passed-start : tie.Need-part-passed-start
+part-passed-start c = search needs
 
-part-cycle-end : tie.Need-part-cycle-end
-part-cycle-end c = search needs
+part-passed-end : tie.Need-part-passed-end
+part-passed-end c = search needs
 
-cycle-requires : tie.Need-cycle-requires
-cycle-requires c κs = search needs
+passed-requires : tie.Need-passed-requires
+passed-requires c κs = search needs
 
 taken-requires : tie.Need-taken-requires
 taken-requires c κs = search needs
@@ -45,16 +49,17 @@ returns c =
     let w = a .wanted .now in
     let sc = a .scratch .now in
     let xs = a .array .now in
-    let f : a .start ≡ firstOf l = c .before .before .before .before .before .before .before .before .before .before .before .before .before .before .before .before .before .pre in
+    let f : a .start ≡ firstOf l = c .before .before .before .before .before .before .before .before .before .before .before .before .before .before .before .before .before .pre .0 in
+    let z : judgeOf (a .d) s (cycleOf l w) (length xs) 0 ≡ 0 = c .before .before .before .before .before .before .before .before .before .before .before .before .before .before .before .before .before .pre .1 in
     let q : c .before .before .before .before .before .before .before .before .before .before .before .here .result ≡ hereOf l = c .before .before .before .before .before .before .before .before .before .before .before .here .ensures in
     let o : c .before .before .before .before .before .before .before .before .before .before .cycle-in .result ≡ cycleOf l w = c .before .before .before .before .before .before .before .before .before .before .cycle-in .ensures ∙ (λ i. cycleIn (l .stage) (f i) (q i) l w) in
-    let x : c .before .before .before .before .before .before .before .cycle .result ≡ answerOf (a .d) s (cycleOf l w) xs [] = c .before .before .before .before .before .before .before .cycle .ensures .0 ∙ ap (λ (k : Cycle). answerOf (a .d) s k xs []) o in (
+    let x : c .before .before .before .before .before .before .before .passed .result ≡ answerOf (a .d) s (cycleOf l w) xs [] = c .before .before .before .before .before .before .before .passed .ensures .0 ∙ ap (λ (k : Cycle). passedOf (a .d) s k xs []) o ∙ passed-answer (a .d) s (cycleOf l w) xs [] z in (
       c .before .before .taken .ensures .0 ∙ ap (λ (y : Answer). loaderBy (y .seen) l w sc) x,
       (
         ap (λ (y : Answer). y .state) x,
         (
           c .before .before .taken .ensures .1 ∙ ap (λ (y : Answer). scratchBy (y .seen) l sc) x,
-          c .before .before .before .before .before .before .before .cycle .ensures .1 ∙ ap (λ (k : Cycle). arrayAfter (a .d) s k xs []) o,
+          c .before .before .before .before .before .before .before .passed .ensures .1 ∙ ap (λ (k : Cycle). arrayPassed (a .d) s k xs []) o ∙ passed-array (a .d) s (cycleOf l w) xs [] z,
         ),
       ),
     )
@@ -65,10 +70,10 @@ both-spec =
     (tie.spec
     here-requires
     cycle-in-requires
-    sub-cycle
-    part-cycle-start
-    part-cycle-end
-    cycle-requires
+    sub-passed
+    part-passed-start
+    part-passed-end
+    passed-requires
     taken-requires
     same-length
     same-length-2

@@ -1,5 +1,5 @@
 -- `run::drive` meets its contract: what is left of the bound leads to the same end, and the cycles to go fall. Assumes nothing.
-use mathlib.Core.Path.{_≡_, refl, sym, ap, _∙_}
+use mathlib.Core.Path.{_≡_, refl, sym, ap, _∙_, subst}
 use Prim.Native.Nat.{ℕ, _-_, _≤_}
 use native.Mathlib.Omega.{arith}
 use borrow.Author.Needs.{needs}
@@ -10,6 +10,9 @@ use Rattle.run.specs.Runs.{driven, begin, ranBy, endOf}
 use Rattle.stepper.specs.Outs.{firstOf}
 use Rattle.stepper.specs.Front.{endAddress}
 use Rattle.run.proofs.Measure.{remains}
+use Rattle.loader.specs.declared.Loader.{Loader}
+use Rattle.run.proofs.Good.{short}
+use Rattle.run.proofs.Sound.{Sound, sound-start, sound-judged, sound-next}
 use Rattle.run.proofs.Turning.{conf, Keeps, keeps-start, keeps-turn, keeps-less, keeps-end, first-stays}
 use Rattle.run.proofs.drive.Statement.{statement}
 use Rattle.run.proofs.drive.Tie as tie
@@ -21,6 +24,7 @@ Inv-loop d wanted scratch₀ array₀ start moving₀ state₀ count₀ scratch 
     × (length array ≡ length array₀)
     × (length wanted ≤ 131072)
     × (start ≡ firstOf moving)
+    × Sound d wanted moving state (length array)
 
 abbrev μ-loop : tie.MeasureT-loop
 μ-loop d wanted scratch₀ array₀ start moving₀ state₀ count₀ scratch array moving state count = remains moving (length wanted)
@@ -31,13 +35,25 @@ first-requires c κs = search needs
 loop-holds : tie.Need-loop-holds Inv-loop μ-loop
 loop-holds c =
     let a = c .before .before .before .before .args in
-    (keeps-start (a .d) (a .wanted .now) (a .l) (a .s) (a .array .now) (a .scratch .now), refl, refl, c .before .before .before .before .pre, c .first .ensures)
+    let z = c .before .before .before .before .pre .0 in (
+      keeps-start (a .d) (a .wanted .now) (a .l) (a .s) (a .array .now) (a .scratch .now),
+      refl,
+      refl,
+      short (a .d) (a .s) (a .l .pins) (a .l .block) (length (a .array .now)) (length (a .wanted .now)) (length (a .scratch .now)) z,
+      c .first .ensures,
+      subst (λ (l : Loader). Sound (a .d) (a .wanted .now) l (a .s) (length (a .array .now))) (sym (c .before .before .before .before .pre .1))
+          (sound-start (a .d) (a .s) (a .l .pins) (a .l .block) (a .array .now) (a .wanted .now) (a .scratch .now) z),
+    )
 
 going-requires : tie.Need-going-requires Inv-loop μ-loop
 going-requires c κs = search needs
 
 both-requires : tie.Need-both-requires Inv-loop μ-loop
-both-requires c κs = c .before .before .before .before .loop .inv .4
+both-requires c κs =
+    let a = c .before .before .before .before .before .before .before .before .before .args in
+    let l = c .before .before .before .before .loop in
+    let g = not-true (isEnded (l .moving .stage)) (sym (c .before .before .before .going .ensures) ∙ c .before .before .if1 .taken) in
+    (l .inv .4, sound-judged (a .d) (a .wanted .now) (l .moving) (l .state) (length (l .array)) (l .inv .5) g)
 
 add-count : tie.Need-add-count Inv-loop μ-loop
 add-count c = record { fits = omega (arith, c .before .before .before .before .before .before .before .before .before .before .before .loop .inv .0 .enough, c .before .before .before .before .before .before .before .before .before .before .before .loop .inv .3) }
@@ -61,6 +77,8 @@ loop-again c =
       b .kept .1 .1 .1 .1 .1 .0 ∙ l .inv .2,
       l .inv .3,
       l .inv .4 ∙ sym (first-stays (answerTo (a .d) (a .wanted .now) (l .moving) (l .state) (l .array) .seen) (l .moving) (a .wanted .now) (l .scratch)) ∙ sym (ap firstOf (b .ensures .0)),
+      sound-next (a .d) (a .wanted .now) (l .scratch) (l .array) (l .moving) (l .state) (l .inv .5) g (b .result .loader) (b .result .state) (b .last .1 .1 .1 .1 .1 .0)
+          (b .ensures .0) (b .ensures .1 .0) (b .ensures .1 .1 .1),
     )
 
 end-of-requires : tie.Need-end-of-requires Inv-loop μ-loop

@@ -1,4 +1,4 @@
-use mathlib.Core.Path.{_≡_, sym, ap, _∙_}
+use mathlib.Core.Path.{_≡_, refl, sym, ap, _∙_, subst}
 use borrow.Author.Tests.{eq-eqb, ne-eqb}
 use lib.ListN.{length}
 use lib.Dec.{eqb}
@@ -8,7 +8,6 @@ use Rattle.loader.specs.declared.Stage.the-variants.{Clearing}
 use Rattle.stepper.specs.Front.{recordAt}
 use Rattle.run.specs.Turns.{Config}
 use Rattle.run.specs.Runs.{runNumber, begin, ranBy, driven, leftBy, ranOf, bytesOf, scratchOf}
-use Rattle.run.proofs.Good.{short}
 use borrow.Author.Needs.{needs}
 use Rattle.run.proofs.run.Statement.{statement}
 use Rattle.run.proofs.run.Tie as tie
@@ -22,7 +21,11 @@ record-at-requires c κs = search needs
 drive-requires : tie.Need-drive-requires
 drive-requires c κs =
     let a = c .before .before .before .before .before .before .before .before .before .args in
-    short (a .d) (a .s) (a .p) (a .block) (length (a .array .now)) (length (a .wanted .now)) (length (a .scratch .now)) (sym (c .before .before .before .before .before .run-number .ensures) ∙ c .before .before .before .before .if1 .taken)
+    let e : c .before .before .record-at .result ≡ recordAt (a .d .part) (a .p) (a .block) Clearing = c .before .before .record-at .ensures in
+    let z : runNumber (a .d) (a .s) (a .p) (a .block) (length (a .array .now)) (length (a .wanted .now)) (length (a .scratch .now)) ≡ 0 =
+    sym (c .before .before .before .before .before .run-number .ensures) ∙ c .before .before .before .before .if1 .taken in
+    subst (λ (l : Loader). (runNumber (a .d) (a .s) (l .pins) (l .block) (length (a .array .now)) (length (a .wanted .now)) (length (a .scratch .now)) ≡ 0)
+    × (l ≡ recordAt (a .d .part) (l .pins) (l .block) Clearing)) (sym e) (z, refl)
 
 same-length : tie.Need-same-length
 same-length c = search needs
