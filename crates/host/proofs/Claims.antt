@@ -21,7 +21,8 @@ use Rattle.load.specs.Loads.{loadNumber, loadedOf, arrayLeft, wantedLeft, scrat
 use Rattle.loadfile.specs.Check.{checkOf}
 use Rattle.twin.specs.Twins.{deviceIn, pinsIn, noState, stateIn, stateOut, cycleOut, noRecord, loaderIn, loaderOut}
 use Rattle.twin.specs.Answers.{seenOut, valueOut, turnOut}
-use Rattle.host.specs.Calls.{cycled, arrayCycled, started, steppedOf, scratchStepped, runOf, arrayRun, scratchRun, loadOf, arrayLoad, wantedLoad, scratchLoad, writtenOf, fileLeft, readOf, payloadLeft}
+use Rattle.short.specs.Cycled.{cycled, arrayCycled}
+use Rattle.host.specs.Calls.{started, steppedOf, scratchStepped, runOf, arrayRun, scratchRun, loadOf, arrayLoad, wantedLoad, scratchLoad, writtenOf, fileLeft, readOf, payloadLeft}
 use Rattle.twin.specs.declared.DeviceNumbers.{DeviceNumbers}
 use Rattle.twin.specs.declared.StateNumbers.{StateNumbers}
 use Rattle.twin.specs.declared.BusNumbers.{BusNumbers}

@@ -1,13 +1,13 @@
 -- What the C functions give back: what came in where they refuse, and else the typed functions' answers. Assumes nothing.
 use mathlib.Core.Path.{_≡_, refl, sym, _∙_, ap}
-use mathlib.Core.Bool.{Bool, true, false, not}
+use mathlib.Core.Bool.{true, false, not}
 use mathlib.Core.List.{List}
 use Prim.Native.Nat.{ℕ}
 use native.Mathlib.Omega.{arith}
 use lib.ListN.{length}
 use lib.Dec.{eqb, ltb}
 use borrow.Author.Tests.{eq-eqb, ne-eqb}
-use Rattle.cells.specs.Pick.{pick-false, pick-ind}
+use Rattle.cells.specs.Pick.{pick-false}
 use Rattle.cells.specs.Numbers.{Foremost, here, below, foremost-given}
 use Rattle.device.specs.declared.Device.{Device}
 use Rattle.device.specs.Parts.{unknownPart, unknownDevice, sizeOf}
@@ -17,13 +17,11 @@ use Rattle.chip.specs.declared.State.{State}
 use Rattle.chip.specs.States.{improper}
 use Rattle.model.specs.declared.Seen.{Seen}
 use Rattle.model.specs.declared.Seen.the-variants.{NoData, Byte, Refused}
-use Rattle.model.specs.declared.Answer.{Answer}
 use Rattle.model.specs.Arrays.{answerOf, arrayAfter}
 use Rattle.model.proofs.Claims as model-claims
 use Rattle.loader.specs.declared.Loader.{Loader}
 use Rattle.loader.specs.declared.Turn.{Turn}
 use Rattle.loader.specs.declared.Turn.the-variants.{Out, Over, Barred}
-use Rattle.loader.specs.declared.Given.{Given}
 use Rattle.stepper.specs.Front.{stepOf, scratchAfter}
 use Rattle.stepper.proofs.Claims as loader-claims
 use Rattle.run.specs.declared.Ran.{Ran}
@@ -33,22 +31,14 @@ use Rattle.load.proofs.Claims as load-claims
 use Rattle.loadfile.specs.File.{Outcome, refused, made, limit, inRoom, leftIn, readerOf, writerOf, readAs, writtenAs}
 use Rattle.twin.specs.Twins.{deviceIn, pinsIn, noState, stateIn, stateOut, cycleIn, cycleOut, noRecord, loaderIn, loaderOut}
 use Rattle.twin.specs.Answers.{stateBack, loaderBack, seenOut, valueOut, answerOut, turnOut, ranOut, writtenOut, readOut}
-use Rattle.host.specs.Calls.{cycled, arrayCycled, steppedOf, scratchStepped, runOf, arrayRun, scratchRun, loadOf, arrayLoad, wantedLoad, scratchLoad, writtenOf, fileLeft, readOf, payloadLeft}
+use Rattle.short.specs.Cycled.{cycled, arrayCycled}
+use Rattle.host.specs.Calls.{steppedOf, scratchStepped, runOf, arrayRun, scratchRun, loadOf, arrayLoad, wantedLoad, scratchLoad, writtenOf, fileLeft, readOf, payloadLeft}
 use Rattle.twin.specs.declared.DeviceNumbers.{DeviceNumbers}
 use Rattle.twin.specs.declared.StateNumbers.{StateNumbers}
 use Rattle.twin.specs.declared.BusNumbers.{BusNumbers}
 use Rattle.twin.specs.declared.LoaderNumbers.{LoaderNumbers}
 use Rattle.twin.specs.declared.RanNumbers.{RanNumbers}
-use Rattle.twin.proofs.Border.{deviceOut, out-state, out-record, state-back, cycle-back, record-back, state-numbers, record-numbers, no-state-improper, no-kind-refused, no-record-bad}
-
--- a state or a record that is left as it was goes back as the numbers that came, whatever they are
-pub state-same : (n : StateNumbers) → stateBack n (stateIn n) ≡ n
-unfolding stateBack
-state-same n = pick-ind (λ (x : StateNumbers). x ≡ n) (noState n) n (stateOut (stateIn n)) (λ _. refl) (λ e. state-numbers n e)
-
-pub record-same : (n : LoaderNumbers) → loaderBack n (loaderIn n) ≡ n
-unfolding loaderBack
-record-same n = pick-ind (λ (x : LoaderNumbers). x ≡ n) (noRecord n) n (loaderOut (loaderIn n)) (λ _. refl) (λ e. record-numbers n e)
+use Rattle.twin.proofs.Border.{deviceOut, out-state, out-record, state-back, cycle-back, record-back, state-same, record-same, no-state-improper, no-kind-refused, no-record-bad}
 
 -- the state or record that goes back for one that came as a state's or a record's numbers
 state-given : (s t : State) → stateBack (stateOut s) t ≡ stateOut t

@@ -15,9 +15,8 @@ ghost use lib.ListN.{take};
 ghost use Rattle.chip.specs.States.{freshState};
 ghost use Rattle.loadfile.specs.Check.{checkOf};
 ghost use Rattle.twin.specs.Twins.{stateOut};
+ghost use Rattle.short.specs.Cycled.{cycled, arrayCycled};
 ghost use Rattle.host.specs.Calls.{
-  cycled,
-  arrayCycled,
   started,
   steppedOf,
   scratchStepped,
@@ -54,11 +53,7 @@ pub extern "C" fn tb_cycle(
     ensures { λ r. ⌜ r ≡ cycled device state bus (now (array .entry)) (now (residue .entry)) ⌝ }
     ensures { λ _. ⌜ now (array .exit) ≡ arrayCycled device state bus (now (array .entry)) (now (residue .entry)) ⌝ }
 {
-    let d = twin::states::device_in(device);
-    let s = twin::states::state_in(state);
-    let c = twin::states::cycle_in(bus);
-    let a = model::cycle(d, s, c, array, residue);
-    twin::states::answer_out(state, a)
+    short::cycle(device, state, bus, array, residue)
 }
 
 // The first cycle of a load.

@@ -5,7 +5,7 @@ use Prim.Native.Nat.{ℕ, zero, suc, _≤_}
 use native.Mathlib.Omega.{arith}
 use lib.Dec.{eqb, ltb}
 use borrow.Author.Tests.{ltb-false, eqb-true}
-use Rattle.cells.specs.Pick.{pick, pick-true, pick-false, or-left, or-right}
+use Rattle.cells.specs.Pick.{pick-true, pick-false, pick-ind, or-left, or-right}
 use Rattle.device.specs.declared.Part.{Part}
 use Rattle.device.specs.declared.Device.{Device}
 use Rattle.chip.specs.declared.Kind.{Kind}
@@ -23,6 +23,7 @@ use Rattle.loader.specs.declared.Stage.the-variants.{Clearing, Opening, Reading
 use Rattle.loader.specs.declared.Loader.{Loader}
 use Rattle.stepper.specs.Front.{badRecord}
 use Rattle.twin.specs.Twins.{modeIn, modeOut, phaseIn, phaseOut, byteOut, noState, stateIn, stateOut, kindIn, kindOut, oeIn, cycleIn, cycleOut, stageIn, stageOut, endOut, noRecord, pollsIn, loaderIn, loaderOut}
+use Rattle.twin.specs.Answers.{stateBack, loaderBack}
 use Rattle.twin.specs.declared.DeviceNumbers.{DeviceNumbers}
 use Rattle.twin.specs.declared.StateNumbers.{StateNumbers}
 use Rattle.twin.specs.declared.BusNumbers.{BusNumbers}
@@ -270,3 +271,12 @@ no-kind-refused n e part =
 pub no-record-bad : (n : LoaderNumbers) → noRecord n ≡ true → badRecord (loaderIn n) ≡ true
 unfolding badRecord pollsIn
 no-record-bad n e = rw e refl
+
+-- a state or a record that is left as it was goes back as the numbers that came, whatever they are
+pub state-same : (n : StateNumbers) → stateBack n (stateIn n) ≡ n
+unfolding stateBack
+state-same n = pick-ind (λ (x : StateNumbers). x ≡ n) (noState n) n (stateOut (stateIn n)) (λ _. refl) (λ e. state-numbers n e)
+
+pub record-same : (n : LoaderNumbers) → loaderBack n (loaderIn n) ≡ n
+unfolding loaderBack
+record-same n = pick-ind (λ (x : LoaderNumbers). x ≡ n) (noRecord n) n (loaderOut (loaderIn n)) (λ _. refl) (λ e. record-numbers n e)

@@ -1,6 +1,6 @@
 -- What is claimed of numbers and what they stand for, in one place. Assumes nothing.
 use mathlib.Core.Path.{_≡_, refl}
-use mathlib.Core.Bool.{Bool, true, false}
+use mathlib.Core.Bool.{true, false}
 use Prim.Native.Nat.{ℕ}
 use lib.Dec.{ltb}
 use Rattle.cells.specs.Pick.{Unique, only}
@@ -8,6 +8,7 @@ use Rattle.device.specs.declared.Part.{Part}
 use Rattle.device.specs.declared.Device.{Device}
 use Rattle.chip.specs.declared.Pins.{Pins}
 use Rattle.chip.specs.declared.Cycle.{Cycle}
+use Rattle.chip.specs.declared.Phase.{Phase}
 use Rattle.chip.specs.declared.State.{State}
 use Rattle.chip.specs.States.{improper}
 use Rattle.chip.specs.Levels.{badLevels}
@@ -18,7 +19,7 @@ use Rattle.stepper.specs.Front.{badRecord}
 use Rattle.run.specs.declared.Ran.{Ran}
 use Rattle.loadfile.specs.declared.Written.{Written}
 use Rattle.loadfile.specs.declared.ReadBack.{ReadBack}
-use Rattle.twin.specs.Twins.{deviceIn, pinsIn, noState, stateIn, stateOut, cycleIn, cycleOut, noRecord, loaderIn, loaderOut}
+use Rattle.twin.specs.Twins.{deviceIn, pinsIn, phaseIn, noState, stateIn, stateOut, cycleIn, cycleOut, noRecord, loaderIn, loaderOut}
 use Rattle.twin.specs.Answers.{answerOut, ranOut, loaderBack, turnOut, writtenOut, readOut}
 use Rattle.twin.specs.declared.DeviceNumbers.{DeviceNumbers}
 use Rattle.twin.specs.declared.StateNumbers.{StateNumbers}
@@ -72,6 +73,9 @@ device-in-unique n = only (deviceIn n)
 
 pub pins-in-unique : (rp : ℕ) (vpp : ℕ) → Unique (λ (r : Pins). r ≡ pinsIn rp vpp)
 pins-in-unique rp vpp = only (pinsIn rp vpp)
+
+pub phase-in-unique : (n byte : ℕ) → Unique (λ (r : Phase). r ≡ phaseIn n byte)
+phase-in-unique n byte = only (phaseIn n byte)
 
 pub state-in-unique : (n : StateNumbers) → Unique (λ (r : State). r ≡ stateIn n)
 state-in-unique n = only (stateIn n)

@@ -73,7 +73,7 @@ fn mode_out(m: Mode) -> u8
     }
 }
 
-fn phase_in(n: u8, byte: u8) -> Phase
+pub fn phase_in(n: u8, byte: u8) -> Phase
     ensures { λ r. ⌜ r ≡ phaseIn n byte ⌝ }
 {
     if n == 0 {

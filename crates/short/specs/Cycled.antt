@@ -1,0 +1,29 @@
+-- One bus cycle on numbers: the typed model's answer as numbers. Assumes nothing.
+use mathlib.Core.List.{List}
+use Prim.Native.Nat.{ℕ}
+use Rattle.model.specs.Arrays.{answerOf, arrayAfter}
+use Rattle.model.specs.Passed.{passedOf, arrayPassed}
+use Rattle.twin.specs.Twins.{deviceIn, stateIn, cycleIn}
+use Rattle.twin.specs.Answers.{answerOut}
+use Rattle.twin.specs.declared.DeviceNumbers.{DeviceNumbers}
+use Rattle.twin.specs.declared.StateNumbers.{StateNumbers}
+use Rattle.twin.specs.declared.BusNumbers.{BusNumbers}
+use Rattle.twin.specs.declared.AnswerNumbers.{AnswerNumbers}
+
+-- the answer, and the array
+unfoldable pub cycled : DeviceNumbers → StateNumbers → BusNumbers → List ℕ → List ℕ → AnswerNumbers
+cycled d s c xs rs = answerOut s (answerOf (deviceIn d) (stateIn s) (cycleIn c) xs rs)
+
+unfoldable pub arrayCycled : DeviceNumbers → StateNumbers → BusNumbers → List ℕ → List ℕ → List ℕ
+arrayCycled d s c xs rs = arrayAfter (deviceIn d) (stateIn s) (cycleIn c) xs rs
+
+-- the same of a cycle that refusals 1 to 6 let pass
+unfoldable pub passedIn : DeviceNumbers → StateNumbers → BusNumbers → List ℕ → List ℕ → AnswerNumbers
+passedIn d s c xs rs = answerOut s (passedOf (deviceIn d) (stateIn s) (cycleIn c) xs rs)
+
+unfoldable pub arrayPassedIn : DeviceNumbers → StateNumbers → BusNumbers → List ℕ → List ℕ → List ℕ
+arrayPassedIn d s c xs rs = arrayPassed (deviceIn d) (stateIn s) (cycleIn c) xs rs
+
+-- an answer: what is seen, the byte or the number, and the state after
+abbrev pub answerAs : ℕ → ℕ → StateNumbers → AnswerNumbers
+answerAs seen value s = record { seen = seen; value = value; state = s }

@@ -1,0 +1,4 @@
+pub mod Cycled
+pub mod Judging
+pub mod Reads
+pub mod Writes

@@ -1,0 +1,65 @@
+-- A write on numbers, RP# up, while nothing runs or is suspended. That this is the model's answer is proved (`write-way`);
+-- nothing here needs to be believed. Assumes nothing.
+use mathlib.Core.Bool.{Bool, false, not, _||_}
+use Prim.Native.Nat.{ℕ, _/_, _%_}
+use lib.Dec.{eqb, ltb, leb}
+use lib.Bits.{bitAnd, bitOr}
+use Rattle.cells.specs.Pick.{pick}
+use Rattle.device.specs.Parts.{blockOf}
+use Rattle.twin.specs.declared.DeviceNumbers.{DeviceNumbers}
+use Rattle.twin.specs.declared.StateNumbers.{StateNumbers}
+use Rattle.twin.specs.declared.BusNumbers.{BusNumbers}
+use Rattle.twin.specs.declared.AnswerNumbers.{AnswerNumbers}
+use Rattle.short.specs.Cycled.{answerAs}
+use Rattle.short.specs.Reads.{partIn}
+
+-- a write, and an idle cycle, while nothing runs or is suspended
+unfoldable pub isWrite : StateNumbers → BusNumbers → Bool
+isWrite s c = pick (eqb (c .kind) 1) (ltb (s .phase) 3) false
+
+unfoldable pub isIdle : StateNumbers → BusNumbers → Bool
+isIdle s c = pick (eqb (c .kind) 2) (ltb (s .phase) 3) false
+
+-- another mode, status or phase; nothing is being programmed
+abbrev pub turnedTo : StateNumbers → ℕ → ℕ → ℕ → AnswerNumbers
+turnedTo s mode status phase =
+    answerAs 0 0 (record { mode = mode; status = status; phase = phase; byte = 0; left = s .left; address = s .address })
+
+-- a first write: 7 where the byte is no command
+unfoldable pub firstIn : StateNumbers → ℕ → AnswerNumbers
+firstIn s b =
+    pick (eqb b 0xFF) (turnedTo s 0 (s .status) 0)
+    (pick (eqb b 0x90) (turnedTo s 2 (s .status) 0)
+    (pick (eqb b 0x70) (turnedTo s 1 (s .status) 0)
+    (pick (eqb b 0x50) (turnedTo s (s .mode) (bitAnd (s .status) 199) 0)
+    (pick (eqb b 0x20) (turnedTo s 1 (s .status) 1)
+    (pick (eqb b 0x40) (turnedTo s 1 (s .status) 2) (answerAs 2 7 s))))))
+
+-- at rest with this mode and status
+abbrev pub restAs : ℕ → ℕ → AnswerNumbers
+restAs mode status = answerAs 0 0 (record { mode = mode; status = status; phase = 0; byte = 0; left = 0; address = 0 })
+
+-- VPP is low, or SR.3 says that it was
+unfoldable pub unsuppliedIn : StateNumbers → BusNumbers → Bool
+unsuppliedIn s c = leb (c .vpp) 6500 || not (eqb (s .status / 8 % 2) 0)
+
+-- the address is in the boot block and nothing unlocks it; the block is looked up only where nothing does
+unfoldable pub lockedIn : DeviceNumbers → BusNumbers → Bool
+lockedIn d c = pick (eqb (c .rp) 2 || eqb (c .oe) 1) false (eqb (blockOf (partIn d) (c .address)) 0)
+
+-- a confirm or data: the operation starts, or the error bits say why not
+unfoldable pub begunIn : DeviceNumbers → StateNumbers → BusNumbers → ℕ → ℕ → ℕ → ℕ → AnswerNumbers
+begunIn d s c phase byte left bit =
+    pick (unsuppliedIn s c) (restAs (s .mode) (bitOr (bitOr (s .status) 8) bit))
+    (pick (lockedIn d c) (restAs (s .mode) (bitOr (s .status) bit))
+    (answerAs 0 0 (record { mode = s .mode; status = bitAnd (s .status) 127; phase = phase; byte = byte; left = left; address = c .address })))
+
+-- the write after 20H
+unfoldable pub secondIn : DeviceNumbers → StateNumbers → BusNumbers → AnswerNumbers
+secondIn d s c = pick (eqb (c .byte) 0xD0) (begunIn d s c 4 0 (d .erase) 32) (restAs (s .mode) (bitOr (s .status) 48))
+
+-- a write, by what is awaited
+unfoldable pub writtenIn : DeviceNumbers → StateNumbers → BusNumbers → AnswerNumbers
+writtenIn d s c =
+    pick (eqb (s .phase) 0) (firstIn s (c .byte))
+    (pick (eqb (s .phase) 1) (secondIn d s c) (begunIn d s c 3 (c .byte) (d .program) 16))

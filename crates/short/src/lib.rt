@@ -1,0 +1,62 @@
+// A bus cycle on the numbers that cross the border to C. The common cycles are answered from the numbers themselves; any other
+// goes through the typed model.
+mod answers;
+mod judge;
+mod reads;
+mod writes;
+
+use crate::answers::answer;
+use twin::AnswerNumbers;
+use twin::BusNumbers;
+use twin::DeviceNumbers;
+use twin::StateNumbers;
+ghost use mathlib.Core.Path.{_≡_};
+ghost use Rattle.short.specs.Cycled.{cycled, arrayCycled, passedIn, arrayPassedIn};
+
+// A cycle that refusals 1 to 6 let pass, by the typed model.
+fn passed(
+    device: DeviceNumbers,
+    state: StateNumbers,
+    bus: BusNumbers,
+    array: &mut [u8],
+    residue: &[u8],
+) -> AnswerNumbers
+    ensures { λ r. ⌜ r ≡ passedIn device state bus (now (array .entry)) (now (residue .entry)) ⌝ }
+    ensures { λ _. ⌜ now (array .exit) ≡ arrayPassedIn device state bus (now (array .entry)) (now (residue .entry)) ⌝ }
+{
+    let d = twin::states::device_in(device);
+    let s = twin::states::state_in(state);
+    let c = twin::states::cycle_in(bus);
+    let a = model::passed(d, s, c, array, residue);
+    twin::states::answer_out(state, a)
+}
+
+// One bus cycle.
+pub fn cycle(
+    device: DeviceNumbers,
+    state: StateNumbers,
+    bus: BusNumbers,
+    array: &mut [u8],
+    residue: &[u8],
+) -> AnswerNumbers
+    ensures { λ r. ⌜ r ≡ cycled device state bus (now (array .entry)) (now (residue .entry)) ⌝ }
+    ensures { λ _. ⌜ now (array .exit) ≡ arrayCycled device state bus (now (array .entry)) (now (residue .entry)) ⌝ }
+{
+    let n = judge::number(device, state, bus, array.len(), residue.len());
+    if n != 0 {
+        return answer(2, n, state);
+    }
+    if bus.rp == 0 {
+        return passed(device, state, bus, array, residue);
+    }
+    if reads::is_read(state, bus) {
+        return reads::read(device, state, bus.address, array);
+    }
+    if writes::is_write(state, bus) {
+        return writes::write(device, state, bus);
+    }
+    if writes::is_idle(state, bus) {
+        return answer(0, 0, state);
+    }
+    passed(device, state, bus, array, residue)
+}
