@@ -77,8 +77,7 @@ quietly : (d : DeviceNumbers) (s : StateNumbers) (c : BusNumbers) (xs rs : List 
     → (quiet xs v ≡ passedIn d s c xs rs) × (xs ≡ arrayPassedIn d s c xs rs)
 quietly d s c xs rs v ok e f =
     let g : Effect → AnswerNumbers = λ (w : Effect).
-    answerAs (seenOut (seenOf (v .reply) (doneOf w (partIn d) rs xs))) (valueOut (seenOf (v .reply) (doneOf w (partIn d) rs xs))) (stateOut (v .state)) in
-    (
+    answerAs (seenOut (seenOf (v .reply) (doneOf w (partIn d) rs xs))) (valueOut (seenOf (v .reply) (doneOf w (partIn d) rs xs))) (stateOut (v .state)) in (
       sym (told d s c xs rs ok ∙ ap (toldAs (partIn d) xs rs) e ∙ ap g f),
       sym (told-array d s c xs rs ∙ ap (λ (w : Decision). doneOf (w .effect) (partIn d) rs xs) e ∙ ap (λ (w : Effect). doneOf w (partIn d) rs xs) f),
     )
