@@ -10,7 +10,7 @@ use Rattle.chip.specs.declared.Cycle.{Cycle}
 use Rattle.chip.specs.declared.State.{State}
 use Rattle.chip.specs.declared.Mode.{Mode}
 use Rattle.chip.specs.declared.Phase.{Phase}
-use Rattle.chip.specs.Levels.{rpLow, vppLow, vppHigh, badPins, badLevels, locked}
+use Rattle.chip.specs.Levels.{rpLow, vppLow, vppHigh, badPins, badLevels, unlocked, locked}
 use Rattle.chip.specs.States.{isBusy, isPending, isArray, isIdentifier, improper, atRest, freshState, resetOf}
 
 pub rp-low-unique : (p : Pins) → Unique (λ (r : Bool). r ≡ rpLow p)
@@ -27,6 +27,9 @@ bad-pins-unique part p = only (badPins part p)
 
 pub bad-levels-unique : (part : Part) (c : Cycle) → Unique (λ (r : Bool). r ≡ badLevels part c)
 bad-levels-unique part c = only (badLevels part c)
+
+pub unlocked-unique : (part : Part) (p : Pins) (oe : ℕ) → Unique (λ (r : Bool). r ≡ unlocked part p oe)
+unlocked-unique part p oe = only (unlocked part p oe)
 
 pub locked-unique : (part : Part) (c : Cycle) → Unique (λ (r : Bool). r ≡ locked part c)
 locked-unique part c = only (locked part c)

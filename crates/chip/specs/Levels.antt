@@ -35,6 +35,10 @@ badOe Idle oe = ltb 0 oe
 unfoldable pub badLevels : Part → Cycle → Bool
 badLevels part c = badPins part (c .pins) || badOe (c .kind) (c .oe)
 
+-- RP# or OE# at V_HH unlocks the boot block
+abbrev pub unlocked : Part → Pins → ℕ → Bool
+unlocked part p oe = eqb (p .rp) 2 || eqb oe 1
+
 -- the address is in the boot block, and neither RP# nor OE# is at V_HH
 unfoldable pub locked : Part → Cycle → Bool
-locked part c = (eqb (blockOf part (c .address)) 0 && not (eqb (c .pins .rp) 2)) && not (eqb (c .oe) 1)
+locked part c = not (unlocked part (c .pins) (c .oe)) && eqb (blockOf part (c .address)) 0

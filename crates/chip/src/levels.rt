@@ -5,7 +5,7 @@ use crate::Pins;
 use device::Part;
 ghost use mathlib.Core.Path.{_≡_};
 ghost use lib.Dec.{eqb};
-ghost use Rattle.chip.specs.Levels.{rpLow, vppLow, vppHigh, badPins, badOe, badLevels, locked};
+ghost use Rattle.chip.specs.Levels.{rpLow, vppLow, vppHigh, badPins, badOe, badLevels, unlocked, locked};
 
 pub fn rp_low(p: Pins) -> bool
     ensures { λ r. ⌜ r ≡ rpLow p ⌝ }
@@ -50,10 +50,20 @@ pub fn bad_levels(part: Part, c: Cycle) -> bool
     bad_pins(part, p) | bad_oe(kind, c.oe)
 }
 
+// RP# or OE# at V_HH unlocks the boot block.
+pub fn unlocked(part: Part, p: Pins, oe: u8) -> bool
+    ensures { λ r. ⌜ r ≡ unlocked part p oe ⌝ }
+{
+    (p.rp == 2) | (oe == 1)
+}
+
 // The address is in the boot block, and nothing unlocks it.
 pub fn locked(part: Part, c: Cycle) -> bool
     ensures { λ r. ⌜ r ≡ locked part c ⌝ }
 {
     let p = c.pins;
-    (device::block_of(part, c.address) == 0) & !(p.rp == 2) & !(c.oe == 1)
+    if unlocked(part, p, c.oe) {
+        return false;
+    }
+    device::block_of(part, c.address) == 0
 }

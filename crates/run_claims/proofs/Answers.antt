@@ -31,7 +31,6 @@ use Rattle.bus.proofs.Facts.{Proper}
 use Rattle.model.proofs.Keeping.{st, rest-proper}
 use Rattle.model.proofs.Status.{fits}
 use Rattle.run.proofs.Judging.{unasked, unasked-high, judged}
-use Rattle.run_claims.specs.Made.{busCycle as cyc}
 
 -- a device that is known, and levels that a load may have
 pub record Up (d : Device) (p : Pins) : Type 0 where
@@ -170,7 +169,7 @@ module _ (d : Device) (p : Pins) (u : Up d p) where
     unfolding locked
     open-at a b e = go (eqb k 0) refl
       where
-        go : (t : Bool) → eqb k 0 ≡ t → ((eqb (blockOf (d .part) a) 0 && not (eqb (p .rp) 2)) && not (eqb 0 1)) ≡ false
+        go : (t : Bool) → eqb k 0 ≡ t → (not (eqb (p .rp) 2 || eqb 0 1) && eqb (blockOf (d .part) a) 0) ≡ false
         go true q = simp (e, q, eq-eqb (p .rp) 2 (r .unlocked (eqb-true k 0 q)))
         go false q = simp (e, q)
 

@@ -24,7 +24,7 @@ pub stands : (d : DeviceNumbers) (s : StateNumbers) (c : Cycle) (array residue :
 stands = judged.stands
 
 -- The short ways answer what the typed model answers: a read, a write, an idle cycle.
-pub read-way : (d : DeviceNumbers) (s : StateNumbers) (c : BusNumbers) (xs rs : List ℕ) → noState s ≡ false → eqb (c .rp) 0 ≡ false → isRead s c ≡ true
+pub read-way : (d : DeviceNumbers) (s : StateNumbers) (c : BusNumbers) (xs rs : List ℕ) → noState s ≡ false → eqb (c .rp) 0 ≡ false → isRead d s c ≡ true
     → (runsIn s ≡ true → s .mode ≡ 1) → (readIn d s (c .address) xs ≡ passedIn d s c xs rs) × (arrayRead d s xs ≡ arrayPassedIn d s c xs rs)
 read-way = reading.read-way
 

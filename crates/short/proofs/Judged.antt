@@ -12,7 +12,7 @@ use Rattle.device.specs.declared.Device.{Device}
 use Rattle.device.specs.Parts.{unknownDevice, sizeOf}
 use Rattle.chip.specs.declared.Cycle.{Cycle}
 use Rattle.chip.specs.declared.State.{State}
-use Rattle.chip.specs.Levels.{vppLow, badPins, badLevels}
+use Rattle.chip.specs.Levels.{badPins, badLevels}
 use Rattle.chip.specs.States.{isStatus, isIdentifier, badStatus, badLeft, badAddress, improper}
 use Rattle.settling.specs.Settling.{residueFor}
 use Rattle.bus.specs.Cycles.{isIdle, pastArray, shortResidue, early, judgeOf}
@@ -230,13 +230,13 @@ none-needed false residue = refl
 cut-same : (part : Part) (c : BusNumbers) (residue mode status phase byte left address : ℕ)
     → residueShort part (record { mode = mode; status = status; phase = phase; byte = byte; left = left; address = address }) c residue
     ≡ shortResidue part (typed (record { mode = mode; status = status; phase = phase; byte = byte; left = left; address = address })) (cycleIn c) residue
-unfolding residueShort shortResidue cutBy vppLow phaseIn
-cut-same part c residue mode status zero byte left address = none-needed (eqb (c .rp) 0 || leb (c .vpp) 6500) residue
-cut-same part c residue mode status (suc zero) byte left address = none-needed (eqb (c .rp) 0 || leb (c .vpp) 6500) residue
-cut-same part c residue mode status (suc (suc zero)) byte left address = none-needed (eqb (c .rp) 0 || leb (c .vpp) 6500) residue
+unfolding residueShort shortResidue cutBy phaseIn
+cut-same part c residue mode status zero byte left address = none-needed (cutBy part c) residue
+cut-same part c residue mode status (suc zero) byte left address = none-needed (cutBy part c) residue
+cut-same part c residue mode status (suc (suc zero)) byte left address = none-needed (cutBy part c) residue
 cut-same part c residue mode status (suc (suc (suc k))) byte left address =
     let w : Bool = ltb residue (residueFor (phaseIn (suc (suc (suc k))) byte) part address) in
-    let q : Bool = eqb (c .rp) 0 || leb (c .vpp) 6500 in
+    let q : Bool = cutBy part c in
     ap (λ (t : Bool). pick t false (pick q w false)) (le-ltb (suc (suc (suc k))) 3 (omega arith)) ∙ pick-and q w
 
 -- refusal 6 by the numbers

@@ -1,13 +1,13 @@
 -- A read on numbers is the model's. Assumes nothing.
 use mathlib.Core.Path.{_≡_, refl, sym, ap, _∙_, subst}
-use mathlib.Core.Bool.{Bool, true, false}
+use mathlib.Core.Bool.{Bool, true, false, not}
 use mathlib.Core.List.{List}
 use Prim.Native.Nat.{ℕ, _-_, _<_, _≤_}
 use native.Mathlib.Omega.{arith}
 use lib.ListN.{getD}
 use lib.Dec.{eqb, ltb}
 use lib.Bits.{bitOr}
-use borrow.Author.Tests.{ltb-true, ltb-false, lt-leb, le-leb, eqb-true}
+use borrow.Author.Tests.{not-true, ltb-true, ltb-false, lt-leb, le-leb, eqb-true}
 use Rattle.cells.specs.Pick.{pick, pick-false, pick-ap, pick-ind, unlike}
 use Rattle.device.specs.declared.Part.{Part}
 use Rattle.device.specs.Parts.{codeOf}
@@ -49,15 +49,17 @@ module _ (d : DeviceNumbers) (t : State) (c : BusNumbers) (xs rs : List ℕ) whe
   told-array = tells.told-array d (stateOut t) c xs rs ∙ ap (λ (u : State). doneOf (passOf (deviceIn d) u (cycleIn c) .effect) (partIn d) rs xs) (state-back t)
 
 -- what is known of such a read
-read-kind : (s : StateNumbers) (c : BusNumbers) → isRead s c ≡ true → c .kind ≡ 0
+read-kind : (d : DeviceNumbers) (s : StateNumbers) (c : BusNumbers) → isRead d s c ≡ true → c .kind ≡ 0
 unfolding isRead
-read-kind s c e = eqb-true (c .kind) 0 (yes-then (eqb (c .kind) 0) (pick (ltb (s .phase) 3) true (ltb 6500 (c .vpp))) e .0)
+read-kind d s c e =
+    eqb-true (c .kind) 0 (yes-then (eqb (c .kind) 0) (pick (ltb (s .phase) 3) true (not (vppLow (partIn d) (cycleIn c .pins)))) e .0)
 
-read-high : (part : Part) (s : StateNumbers) (c : BusNumbers) → isRead s c ≡ true → ltb (s .phase) 3 ≡ false → vppLow part (cycleIn c .pins) ≡ false
-unfolding isRead vppLow
-read-high part s c e f =
-    let q = yes-then (eqb (c .kind) 0) (pick (ltb (s .phase) 3) true (ltb 6500 (c .vpp))) e .1 in
-    lt-leb (c .vpp) 6500 (ltb-true 6500 (c .vpp) (sym (pick-false (ltb (s .phase) 3) true (ltb 6500 (c .vpp)) f) ∙ q))
+read-high : (d : DeviceNumbers) (s : StateNumbers) (c : BusNumbers) → isRead d s c ≡ true → ltb (s .phase) 3 ≡ false → vppLow (partIn d) (cycleIn c .pins) ≡ false
+unfolding isRead
+read-high d s c e f =
+    let low = vppLow (partIn d) (cycleIn c .pins) in
+    let q = yes-then (eqb (c .kind) 0) (pick (ltb (s .phase) 3) true (not low)) e .1 in
+    not-true low (sym (pick-false (ltb (s .phase) 3) true (not low) f) ∙ q)
 
 -- the suspended block, by number and by phase
 same-block : (d : DeviceNumbers) (m : Mode) (x : ℕ) (ph : Phase) (l a b : ℕ) → suspendedAt d (stateOut (st m x ph l a)) b ≡ inSuspended (partIn d) (st m x ph l a) b
@@ -189,29 +191,29 @@ runs-status Identifier e = absurd (omega (arith, e))
 abbrev Same : DeviceNumbers → StateNumbers → BusNumbers → List ℕ → List ℕ → Type 0
 Same d s c xs rs = (readIn d s (c .address) xs ≡ passedIn d s c xs rs) × (arrayRead d s xs ≡ arrayPassedIn d s c xs rs)
 
-by-phase : (d : DeviceNumbers) (c : BusNumbers) (xs rs : List ℕ) (m : Mode) (x : ℕ) (ph : Phase) (l a : ℕ) → eqb (c .rp) 0 ≡ false → isRead (stateOut (st m x ph l a)) c ≡ true
+by-phase : (d : DeviceNumbers) (c : BusNumbers) (xs rs : List ℕ) (m : Mode) (x : ℕ) (ph : Phase) (l a : ℕ) → eqb (c .rp) 0 ≡ false → isRead d (stateOut (st m x ph l a)) c ≡ true
     → (runsIn (stateOut (st m x ph l a)) ≡ true → modeOut m ≡ 1) → Same d (stateOut (st m x ph l a)) c xs rs
 unfolding readIn arrayRead runsIn
-by-phase d c xs rs m x Free l a up e f = at-rest d c xs rs (read-kind (stateOut (st m x Free l a)) c e) up m x Free l a refl refl
-by-phase d c xs rs m x EraseAwaited l a up e f = at-rest d c xs rs (read-kind (stateOut (st m x EraseAwaited l a)) c e) up m x EraseAwaited l a refl refl
-by-phase d c xs rs m x DataAwaited l a up e f = at-rest d c xs rs (read-kind (stateOut (st m x DataAwaited l a)) c e) up m x DataAwaited l a refl refl
+by-phase d c xs rs m x Free l a up e f = at-rest d c xs rs (read-kind d (stateOut (st m x Free l a)) c e) up m x Free l a refl refl
+by-phase d c xs rs m x EraseAwaited l a up e f = at-rest d c xs rs (read-kind d (stateOut (st m x EraseAwaited l a)) c e) up m x EraseAwaited l a refl refl
+by-phase d c xs rs m x DataAwaited l a up e f = at-rest d c xs rs (read-kind d (stateOut (st m x DataAwaited l a)) c e) up m x DataAwaited l a refl refl
 by-phase d c xs rs m x (Programming y) l a up e f =
     let s = stateOut (st m x (Programming y) l a) in
     subst (λ (n : Mode). Same d (stateOut (st n x (Programming y) l a)) c xs rs) (sym (runs-status m (f refl)))
-    (running d c xs rs (read-kind s c e) up x (Programming y) l a refl (read-high (partIn d) s c e refl))
+    (running d c xs rs (read-kind d s c e) up x (Programming y) l a refl (read-high d s c e refl))
 by-phase d c xs rs m x Erasing l a up e f =
     let s = stateOut (st m x Erasing l a) in
     subst (λ (n : Mode). Same d (stateOut (st n x Erasing l a)) c xs rs) (sym (runs-status m (f refl)))
-    (running d c xs rs (read-kind s c e) up x Erasing l a refl (read-high (partIn d) s c e refl))
+    (running d c xs rs (read-kind d s c e) up x Erasing l a refl (read-high d s c e refl))
 by-phase d c xs rs m x Suspended l a up e f =
     let s = stateOut (st m x Suspended l a) in
-    suspended d c xs rs (read-kind s c e) up m x l a (read-high (partIn d) s c e refl)
+    suspended d c xs rs (read-kind d s c e) up m x l a (read-high d s c e refl)
 
 -- numbers that stand for a state; where an operation runs, reads give the status
-pub read-way : (d : DeviceNumbers) (s : StateNumbers) (c : BusNumbers) (xs rs : List ℕ) → noState s ≡ false → eqb (c .rp) 0 ≡ false → isRead s c ≡ true
+pub read-way : (d : DeviceNumbers) (s : StateNumbers) (c : BusNumbers) (xs rs : List ℕ) → noState s ≡ false → eqb (c .rp) 0 ≡ false → isRead d s c ≡ true
     → (runsIn s ≡ true → s .mode ≡ 1) → (readIn d s (c .address) xs ≡ passedIn d s c xs rs) × (arrayRead d s xs ≡ arrayPassedIn d s c xs rs)
 read-way d s c xs rs z up e f =
-    subst (λ (n : StateNumbers). eqb (c .rp) 0 ≡ false → isRead n c ≡ true → (runsIn n ≡ true → n .mode ≡ 1) → Same d n c xs rs) (state-numbers s z)
+    subst (λ (n : StateNumbers). eqb (c .rp) 0 ≡ false → isRead d n c ≡ true → (runsIn n ≡ true → n .mode ≡ 1) → Same d n c xs rs) (state-numbers s z)
     (λ u g h. let t = stateIn s in by-phase d c xs rs (t .mode) (t .status) (t .phase) (t .left) (t .address) u g h)
     up e f
 

@@ -1,14 +1,13 @@
 -- A write and an idle cycle on numbers, RP# up, while nothing runs or is suspended: what they answer is what the model answers,
 -- and the array stays as it is. Assumes nothing.
 use mathlib.Core.Path.{_≡_, refl, sym, ap, _∙_}
-use mathlib.Core.Bool.{Bool, true, false, not, _&&_, _||_}
+use mathlib.Core.Bool.{Bool, true, false}
 use mathlib.Core.List.{List}
 use Prim.Native.Nat.{ℕ}
 use lib.Dec.{eqb, ltb}
 use lib.Bits.{bitAnd, bitOr}
 use borrow.Author.Tests.{eqb-true}
 use Rattle.cells.specs.Pick.{pick, pick-false, unlike}
-use Rattle.device.specs.Parts.{blockOf}
 use Rattle.device.specs.declared.Part.{Part}
 use Rattle.device.specs.declared.Device.{Device}
 use Rattle.chip.specs.declared.Kind.{Kind}
@@ -34,7 +33,7 @@ use Rattle.bus.specs.Cycles.{decidedAs, refusedBy}
 use Rattle.bus.specs.Arms.{writeArm, arm, passOf}
 use Rattle.model.specs.Arrays.{seenOf}
 use Rattle.model.specs.Passed.{doneOf}
-use Rattle.twin.specs.Twins.{deviceIn, noState, stateIn, stateOut, phaseOut, byteOut, modeOut, kindIn, oeIn, cycleIn}
+use Rattle.twin.specs.Twins.{deviceIn, noState, stateIn, stateOut, phaseOut, byteOut, modeOut, kindIn, cycleIn}
 use Rattle.twin.specs.Answers.{seenOut, valueOut}
 use Rattle.twin.specs.declared.DeviceNumbers.{DeviceNumbers}
 use Rattle.twin.specs.declared.StateNumbers.{StateNumbers}
@@ -44,7 +43,7 @@ use Rattle.twin.proofs.Border.{state-numbers}
 use Rattle.short.specs.Cycled.{passedIn, arrayPassedIn, answerAs}
 use Rattle.short.specs.Reads.{partIn}
 use Rattle.short.proofs.Told.{toldAs, told, told-array, yes-then, none}
-use Rattle.short.specs.Writes.{isWrite, isIdle, turnedTo, firstIn, restAs, unsuppliedIn, lockedIn, begunIn, secondIn, writtenIn}
+use Rattle.short.specs.Writes.{isWrite, isIdle, turnedTo, firstIn, restAs, unsuppliedIn, begunIn, secondIn, writtenIn}
 
 -- a decision that changes nothing in the array, as numbers
 abbrev quiet : List ℕ → Decision → AnswerNumbers
@@ -91,22 +90,6 @@ no-effect b d s c = go (isRefuse b)
     go true = refl
     go false = refl
 
--- the three tests of the lock in the other order
-lock-order : (block rp oe : Bool) → pick (rp || oe) false block ≡ ((block && not rp) && not oe)
-lock-order true true true = refl
-lock-order true true false = refl
-lock-order true false true = refl
-lock-order true false false = refl
-lock-order false true true = refl
-lock-order false true false = refl
-lock-order false false true = refl
-lock-order false false false = refl
-
--- OE# of a write is the number that came in
-write-oe : (c : BusNumbers) → c .kind ≡ 1 → oeIn (c .kind) (c .oe) ≡ c .oe
-unfolding oeIn
-write-oe c e = simp (e)
-
 -- a write's numbers name a write
 write-kind : (c : BusNumbers) → c .kind ≡ 1 → kindIn (c .kind) ≡ Write
 unfolding kindIn
@@ -117,37 +100,20 @@ idle-kind : (c : BusNumbers) → c .kind ≡ 2 → kindIn (c .kind) ≡ Idle
 unfolding kindIn
 idle-kind c e = simp (e)
 
--- both definitions say the same of the lock
-same-lock : (d : DeviceNumbers) (c : BusNumbers) → c .kind ≡ 1 → lockedIn d c ≡ locked (partIn d) (cycleIn c)
-unfolding lockedIn locked
-same-lock d c e =
-    lock-order (eqb (blockOf (partIn d) (c .address)) 0) (eqb (c .rp) 2) (eqb (c .oe) 1)
-    ∙ ap (λ (oe : ℕ). (eqb (blockOf (partIn d) (c .address)) 0 && not (eqb (c .rp) 2)) && not (eqb oe 1)) (sym (write-oe c e))
-
--- both definitions say the same of the supply
-same-supply : (d : DeviceNumbers) (s : State) (c : BusNumbers) → unsuppliedIn (stateOut s) c ≡ unsupplied (partIn d) (cycleIn c) s
-unfolding unsuppliedIn unsupplied vppLow
-same-supply d s c = refl
-
 -- one of three states by two tests, as numbers
-one-of : (p q : Bool) → p ≡ q → (u v : Bool) → u ≡ v → (x y z : State)
+one-of : (p u : Bool) (x y z : State)
     → pick p (answerAs 0 0 (stateOut x)) (pick u (answerAs 0 0 (stateOut y)) (answerAs 0 0 (stateOut z)))
-    ≡ answerAs 0 0 (stateOut (pick q x (pick v y z)))
-one-of true true e u v f x y z = refl
-one-of true false e u v f x y z = absurd (unlike e)
-one-of false true e u v f x y z = absurd (unlike (sym e))
-one-of false false e true true f x y z = refl
-one-of false false e true false f x y z = absurd (unlike f)
-one-of false false e false true f x y z = absurd (unlike (sym f))
-one-of false false e false false f x y z = refl
+    ≡ answerAs 0 0 (stateOut (pick p x (pick u y z)))
+one-of true u x y z = refl
+one-of false true x y z = refl
+one-of false false x y z = refl
 
 -- a confirm or data starts the same operation, or sets the same bits
-same-start : (d : DeviceNumbers) (s : State) (c : BusNumbers) (ph : Phase) (time bit : ℕ) → c .kind ≡ 1
+same-start : (d : DeviceNumbers) (s : State) (c : BusNumbers) (ph : Phase) (time bit : ℕ)
     → begunIn d (stateOut s) c (phaseOut ph) (byteOut ph) time bit ≡ answerAs 0 0 (stateOut (startedOf (partIn d) (cycleIn c) s ph time bit))
-unfolding begunIn startedOf
-same-start d s c ph time bit e =
-    one-of (unsuppliedIn (stateOut s) c) (unsupplied (partIn d) (cycleIn c) s) (same-supply d s c)
-    (lockedIn d c) (locked (partIn d) (cycleIn c)) (same-lock d c e)
+unfolding begunIn startedOf unsuppliedIn unsupplied
+same-start d s c ph time bit =
+    one-of (unsupplied (partIn d) (cycleIn c) s) (locked (partIn d) (cycleIn c))
     (atRest (s .mode) (bitOr (bitOr (s .status) 8) bit)) (atRest (s .mode) (bitOr (s .status) bit))
     (record { mode = s .mode; status = bitAnd (s .status) 127; phase = ph; left = time; address = c .address })
 
@@ -185,36 +151,35 @@ same-first d m sr left a c xs =
     go false false false false false false = refl
 
 -- the write after 20H: both definitions answer the same
-same-second : (d : DeviceNumbers) (s : State) (c : BusNumbers) (xs : List ℕ) → c .kind ≡ 1
+same-second : (d : DeviceNumbers) (s : State) (c : BusNumbers) (xs : List ℕ)
     → secondIn d (stateOut s) c ≡ quiet xs (writeArm (afterErase (c .byte)) (deviceIn d) s (cycleIn c) (settledAs s Nothing))
 unfolding secondIn afterErase writeArm
-same-second d s c xs e = go (eqb (c .byte) 0xD0)
+same-second d s c xs = go (eqb (c .byte) 0xD0)
   where
     go : (p : Bool)
         → pick p (begunIn d (stateOut s) c 4 0 (d .erase) 32) (restAs (modeOut (s .mode)) (bitOr (s .status) 48))
         ≡ quiet xs (pick (isRefuse (pick p Confirm WrongSecond)) (refusedBy 7 s) (decidedAs Quiet (performedOf (pick p Confirm WrongSecond) (deviceIn d) (cycleIn c) s) Nothing))
-    go true = same-start d s c Erasing (d .erase) 32 e
+    go true = same-start d s c Erasing (d .erase) 32
     go false = refl
 
 -- the write after 40H: both definitions answer the same
-same-data : (d : DeviceNumbers) (s : State) (c : BusNumbers) (xs : List ℕ) → c .kind ≡ 1
+same-data : (d : DeviceNumbers) (s : State) (c : BusNumbers) (xs : List ℕ)
     → begunIn d (stateOut s) c 3 (c .byte) (d .program) 16 ≡ quiet xs (writeArm Store (deviceIn d) s (cycleIn c) (settledAs s Nothing))
 unfolding writeArm
-same-data d s c xs e = same-start d s c (Programming (c .byte)) (d .program) 16 e
+same-data d s c xs = same-start d s c (Programming (c .byte)) (d .program) 16
 
 -- a write, by what is awaited: both definitions answer the same
-same-write : (d : DeviceNumbers) (m : Mode) (sr : ℕ) (ph : Phase) (left a : ℕ) (c : BusNumbers) (xs : List ℕ) → c .kind ≡ 1
-    → ltb (phaseOut ph) 3 ≡ true
+same-write : (d : DeviceNumbers) (m : Mode) (sr : ℕ) (ph : Phase) (left a : ℕ) (c : BusNumbers) (xs : List ℕ) → ltb (phaseOut ph) 3 ≡ true
     → writtenIn d (stateOut (record { mode = m; status = sr; phase = ph; left = left; address = a })) c
     ≡ quiet xs (writeArm (actionOf ph (c .byte)) (deviceIn d) (record { mode = m; status = sr; phase = ph; left = left; address = a }) (cycleIn c)
     (settledAs (record { mode = m; status = sr; phase = ph; left = left; address = a }) Nothing))
 unfolding writtenIn
-same-write d m sr Free left a c xs e low = same-first d m sr left a c xs
-same-write d m sr EraseAwaited left a c xs e low = same-second d (record { mode = m; status = sr; phase = EraseAwaited; left = left; address = a }) c xs e
-same-write d m sr DataAwaited left a c xs e low = same-data d (record { mode = m; status = sr; phase = DataAwaited; left = left; address = a }) c xs e
-same-write d m sr (Programming b) left a c xs e low = absurd (unlike (sym low))
-same-write d m sr Erasing left a c xs e low = absurd (unlike (sym low))
-same-write d m sr Suspended left a c xs e low = absurd (unlike (sym low))
+same-write d m sr Free left a c xs low = same-first d m sr left a c xs
+same-write d m sr EraseAwaited left a c xs low = same-second d (record { mode = m; status = sr; phase = EraseAwaited; left = left; address = a }) c xs
+same-write d m sr DataAwaited left a c xs low = same-data d (record { mode = m; status = sr; phase = DataAwaited; left = left; address = a }) c xs
+same-write d m sr (Programming b) left a c xs low = absurd (unlike (sym low))
+same-write d m sr Erasing left a c xs low = absurd (unlike (sym low))
+same-write d m sr Suspended left a c xs low = absurd (unlike (sym low))
 
 -- the phase of the state that the numbers stand for is as low
 low-in : (s : StateNumbers) → noState s ≡ false → ltb (s .phase) 3 ≡ true → ltb (phaseOut (stateIn s .phase)) 3 ≡ true
@@ -232,7 +197,7 @@ write-way d s c xs rs ok up w =
     let passed : passOf (deviceIn d) t (cycleIn c) ≡ v = passes-as (deviceIn d) t (cycleIn c) Write up low (write-kind c kind) in
     let way = quietly d s c xs rs v ok passed (no-effect (actionOf (t .phase) (c .byte)) (deviceIn d) t (cycleIn c)) in (
       ap (λ (n : StateNumbers). writtenIn d n c) (sym (state-numbers s ok))
-          ∙ same-write d (t .mode) (t .status) (t .phase) (t .left) (t .address) c xs kind low ∙ way .0,
+          ∙ same-write d (t .mode) (t .status) (t .phase) (t .left) (t .address) c xs low ∙ way .0,
       way .1,
     )
 

@@ -6,7 +6,7 @@ use Rattle.cells.specs.Pick.{pick}
 use Rattle.device.specs.declared.Part.{Part}
 use Rattle.device.specs.declared.Device.{Device}
 use Rattle.device.specs.Parts.{unknownDevice, sizeOf}
-use Rattle.chip.specs.Levels.{badPins}
+use Rattle.chip.specs.Levels.{rpLow, vppLow, badPins}
 use Rattle.settling.specs.Settling.{residueFor}
 use Rattle.twin.specs.Twins.{pinsIn, phaseIn}
 use Rattle.twin.specs.declared.DeviceNumbers.{DeviceNumbers}
@@ -45,17 +45,17 @@ levelsWrong part c = (ltb 2 (c .kind) || badPins part (pinsIn (c .rp) (c .vpp)))
 
 -- the address of a read or write is past an array of this size, and RP# is not low
 unfoldable pub pastSize : BusNumbers → ℕ → Bool
-pastSize c size = (leb size (c .address) && not (eqb (c .rp) 0)) && ltb (c .kind) 2
+pastSize c size = (leb size (c .address) && not (rpLow (pinsIn (c .rp) (c .vpp)))) && ltb (c .kind) 2
 
 -- RP# or VPP is low
-unfoldable pub cutBy : BusNumbers → Bool
-cutBy c = eqb (c .rp) 0 || leb (c .vpp) 6500
+unfoldable pub cutBy : Part → BusNumbers → Bool
+cutBy part c = rpLow (pinsIn (c .rp) (c .vpp)) || vppLow part (pinsIn (c .rp) (c .vpp))
 
 -- the cycle cuts an operation, and the residue is too short for it
 unfoldable pub residueShort : Part → StateNumbers → BusNumbers → ℕ → Bool
 residueShort part s c residue =
     pick (ltb (s .phase) 3) false
-    (pick (cutBy c) (ltb residue (residueFor (phaseIn (s .phase) (s .byte)) part (s .address)))
+    (pick (cutBy part c) (ltb residue (residueFor (phaseIn (s .phase) (s .byte)) part (s .address)))
     false)
 
 -- refusals 1 to 6 of the numbers, the lowest that applies, or 0

@@ -1,6 +1,6 @@
 -- A read on numbers, RP# up, with no cut: nothing runs, or the operation that runs counts one cycle off or ends. That this is
 -- the model's answer is proved (`read-way`); nothing here needs to be believed. Assumes nothing.
-use mathlib.Core.Bool.{Bool, true, false, _||_}
+use mathlib.Core.Bool.{Bool, true, false, not, _||_}
 use mathlib.Core.List.{List}
 use Prim.Native.Nat.{ℕ, _-_}
 use lib.ListN.{getD}
@@ -9,6 +9,8 @@ use lib.Bits.{bitOr}
 use Rattle.cells.specs.Pick.{pick}
 use Rattle.device.specs.declared.Part.{Part}
 use Rattle.device.specs.Parts.{blockOf, codeOf}
+use Rattle.chip.specs.Levels.{vppLow}
+use Rattle.twin.specs.Twins.{pinsIn}
 use Rattle.model.specs.Passed.{programmedAt, erasedAt}
 use Rattle.twin.specs.declared.DeviceNumbers.{DeviceNumbers}
 use Rattle.twin.specs.declared.StateNumbers.{StateNumbers}
@@ -21,8 +23,8 @@ abbrev pub partIn : DeviceNumbers → Part
 partIn d = record { number = d .number }
 
 -- a read that cuts nothing
-unfoldable pub isRead : StateNumbers → BusNumbers → Bool
-isRead s c = pick (eqb (c .kind) 0) (pick (ltb (s .phase) 3) true (ltb 6500 (c .vpp))) false
+unfoldable pub isRead : DeviceNumbers → StateNumbers → BusNumbers → Bool
+isRead d s c = pick (eqb (c .kind) 0) (pick (ltb (s .phase) 3) true (not (vppLow (partIn d) (pinsIn (c .rp) (c .vpp))))) false
 
 -- programming or erasing
 unfoldable pub runsIn : StateNumbers → Bool

@@ -2,10 +2,11 @@
 -- nothing here needs to be believed. Assumes nothing.
 use mathlib.Core.Bool.{Bool, false, not, _||_}
 use Prim.Native.Nat.{ℕ, _/_, _%_}
-use lib.Dec.{eqb, ltb, leb}
+use lib.Dec.{eqb, ltb}
 use lib.Bits.{bitAnd, bitOr}
 use Rattle.cells.specs.Pick.{pick}
-use Rattle.device.specs.Parts.{blockOf}
+use Rattle.chip.specs.Levels.{vppLow, locked}
+use Rattle.twin.specs.Twins.{pinsIn, cycleIn}
 use Rattle.twin.specs.declared.DeviceNumbers.{DeviceNumbers}
 use Rattle.twin.specs.declared.StateNumbers.{StateNumbers}
 use Rattle.twin.specs.declared.BusNumbers.{BusNumbers}
@@ -40,18 +41,14 @@ abbrev pub restAs : ℕ → ℕ → AnswerNumbers
 restAs mode status = answerAs 0 0 (record { mode = mode; status = status; phase = 0; byte = 0; left = 0; address = 0 })
 
 -- VPP is low, or SR.3 says that it was
-unfoldable pub unsuppliedIn : StateNumbers → BusNumbers → Bool
-unsuppliedIn s c = leb (c .vpp) 6500 || not (eqb (s .status / 8 % 2) 0)
-
--- the address is in the boot block and nothing unlocks it; the block is looked up only where nothing does
-unfoldable pub lockedIn : DeviceNumbers → BusNumbers → Bool
-lockedIn d c = pick (eqb (c .rp) 2 || eqb (c .oe) 1) false (eqb (blockOf (partIn d) (c .address)) 0)
+unfoldable pub unsuppliedIn : DeviceNumbers → StateNumbers → BusNumbers → Bool
+unsuppliedIn d s c = vppLow (partIn d) (pinsIn (c .rp) (c .vpp)) || not (eqb (s .status / 8 % 2) 0)
 
 -- a confirm or data: the operation starts, or the error bits say why not
 unfoldable pub begunIn : DeviceNumbers → StateNumbers → BusNumbers → ℕ → ℕ → ℕ → ℕ → AnswerNumbers
 begunIn d s c phase byte left bit =
-    pick (unsuppliedIn s c) (restAs (s .mode) (bitOr (bitOr (s .status) 8) bit))
-    (pick (lockedIn d c) (restAs (s .mode) (bitOr (s .status) bit))
+    pick (unsuppliedIn d s c) (restAs (s .mode) (bitOr (bitOr (s .status) 8) bit))
+    (pick (locked (partIn d) (cycleIn c)) (restAs (s .mode) (bitOr (s .status) bit))
     (answerAs 0 0 (record { mode = s .mode; status = bitAnd (s .status) 127; phase = phase; byte = byte; left = left; address = c .address })))
 
 -- the write after 20H

@@ -1,9 +1,13 @@
 // Refusals 1 to 6 of a bus cycle, told from its numbers.
+use chip::levels::bad_pins;
+use chip::levels::rp_low;
+use chip::levels::vpp_low;
 use device::Part;
 use settling::residue_for;
 use twin::BusNumbers;
 use twin::DeviceNumbers;
 use twin::StateNumbers;
+use twin::states::pins_in;
 ghost use mathlib.Core.Path.{_≡_};
 ghost use Rattle.bus.specs.Cycles.{judgeOf};
 ghost use Rattle.twin.specs.Twins.{deviceIn, stateIn, cycleIn};
@@ -69,23 +73,21 @@ fn bad_oe(kind: u8, oe: u8) -> bool
 fn bad_levels(part: Part, c: BusNumbers) -> bool
     ensures { λ r. ⌜ r ≡ levelsWrong part c ⌝ }
 {
-    (2 < c.kind)
-        | chip::levels::bad_pins(part, twin::states::pins_in(c.rp, c.vpp))
-        | bad_oe(c.kind, c.oe)
+    (2 < c.kind) | bad_pins(part, pins_in(c.rp, c.vpp)) | bad_oe(c.kind, c.oe)
 }
 
 // Refusal 5.
 fn past_array(c: BusNumbers, size: usize) -> bool
     ensures { λ r. ⌜ r ≡ pastSize c size ⌝ }
 {
-    (size <= c.address as usize) & !(c.rp == 0) & (c.kind < 2)
+    (size <= c.address as usize) & !rp_low(pins_in(c.rp, c.vpp)) & (c.kind < 2)
 }
 
 // The levels of a cycle cut what is running or suspended.
-fn cuts(c: BusNumbers) -> bool
-    ensures { λ r. ⌜ r ≡ cutBy c ⌝ }
+fn cuts(part: Part, c: BusNumbers) -> bool
+    ensures { λ r. ⌜ r ≡ cutBy part c ⌝ }
 {
-    (c.rp == 0) | (c.vpp <= 6500)
+    rp_low(pins_in(c.rp, c.vpp)) | vpp_low(part, pins_in(c.rp, c.vpp))
 }
 
 // Refusal 6.
@@ -95,7 +97,7 @@ fn short_residue(part: Part, s: StateNumbers, c: BusNumbers, residue: usize) -> 
     if s.phase < 3 {
         return false;
     }
-    if cuts(c) {
+    if cuts(part, c) {
         return residue < residue_for(twin::states::phase_in(s.phase, s.byte), part, s.address);
     }
     false

@@ -6,12 +6,23 @@ mod reads;
 mod writes;
 
 use crate::answers::answer;
+use chip::levels::rp_low;
 use twin::AnswerNumbers;
 use twin::BusNumbers;
 use twin::DeviceNumbers;
 use twin::StateNumbers;
+use twin::states::pins_in;
 ghost use mathlib.Core.Path.{_≡_};
+ghost use Rattle.chip.specs.Levels.{rpLow};
+ghost use Rattle.twin.specs.Twins.{pinsIn};
 ghost use Rattle.short.specs.Cycled.{cycled, arrayCycled, passedIn, arrayPassedIn};
+
+// RP# is low.
+fn is_low(c: BusNumbers) -> bool
+    ensures { λ r. ⌜ r ≡ rpLow (pinsIn (c .rp) (c .vpp)) ⌝ }
+{
+    rp_low(pins_in(c.rp, c.vpp))
+}
 
 // A cycle that refusals 1 to 6 let pass, by the typed model.
 fn passed(
@@ -46,10 +57,10 @@ pub fn cycle(
     if n != 0 {
         return answer(2, n, state);
     }
-    if bus.rp == 0 {
+    if is_low(bus) {
         return passed(device, state, bus, array, residue);
     }
-    if reads::is_read(state, bus) {
+    if reads::is_read(device, state, bus) {
         return reads::read(device, state, bus.address, array);
     }
     if writes::is_write(state, bus) {

@@ -1,10 +1,12 @@
 // A read on numbers, RP# up, with no cut.
 use crate::answers::answer;
+use chip::levels::vpp_low;
 use device::Part;
 use twin::AnswerNumbers;
 use twin::BusNumbers;
 use twin::DeviceNumbers;
 use twin::StateNumbers;
+use twin::states::pins_in;
 ghost use mathlib.Core.Path.{_≡_};
 ghost use Prim.Native.Nat.{_<_};
 ghost use Rattle.short.specs.Reads.{
@@ -21,14 +23,15 @@ ghost use Rattle.short.specs.Reads.{
   arrayRead,
 };
 
-pub(crate) fn is_read(s: StateNumbers, c: BusNumbers) -> bool
-    ensures { λ r. ⌜ r ≡ isRead s c ⌝ }
+pub(crate) fn is_read(d: DeviceNumbers, s: StateNumbers, c: BusNumbers) -> bool
+    ensures { λ r. ⌜ r ≡ isRead d s c ⌝ }
 {
     if c.kind == 0 {
         if s.phase < 3 {
             return true;
         }
-        return 6500 < c.vpp;
+        let part = Part { number: d.number };
+        return !vpp_low(part, pins_in(c.rp, c.vpp));
     }
     false
 }

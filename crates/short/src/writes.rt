@@ -1,12 +1,19 @@
 // A write on numbers, RP# up, while nothing runs or is suspended.
 use crate::answers::answer;
+use chip::levels::locked;
+use chip::levels::vpp_low;
 use device::Part;
 use twin::AnswerNumbers;
 use twin::BusNumbers;
 use twin::DeviceNumbers;
 use twin::StateNumbers;
+use twin::states::cycle_in;
+use twin::states::pins_in;
 ghost use mathlib.Core.Path.{_≡_};
-ghost use Rattle.short.specs.Writes.{isWrite, isIdle, turnedTo, firstIn, restAs, unsuppliedIn, lockedIn, begunIn, secondIn, writtenIn};
+ghost use Rattle.chip.specs.Levels.{locked};
+ghost use Rattle.twin.specs.Twins.{cycleIn};
+ghost use Rattle.short.specs.Reads.{partIn};
+ghost use Rattle.short.specs.Writes.{isWrite, isIdle, turnedTo, firstIn, restAs, unsuppliedIn, begunIn, secondIn, writtenIn};
 
 pub(crate) fn is_write(s: StateNumbers, c: BusNumbers) -> bool
     ensures { λ r. ⌜ r ≡ isWrite s c ⌝ }
@@ -77,20 +84,19 @@ fn rest(mode: u8, status: u8) -> AnswerNumbers
     )
 }
 
-fn unsupplied(s: StateNumbers, c: BusNumbers) -> bool
-    ensures { λ r. ⌜ r ≡ unsuppliedIn s c ⌝ }
+fn unsupplied(d: DeviceNumbers, s: StateNumbers, c: BusNumbers) -> bool
+    ensures { λ r. ⌜ r ≡ unsuppliedIn d s c ⌝ }
 {
-    (c.vpp <= 6500) | !(s.status / 8 % 2 == 0)
+    let part = Part { number: d.number };
+    vpp_low(part, pins_in(c.rp, c.vpp)) | !(s.status / 8 % 2 == 0)
 }
 
-fn locked(d: DeviceNumbers, c: BusNumbers) -> bool
-    ensures { λ r. ⌜ r ≡ lockedIn d c ⌝ }
+// The address is in the boot block, and nothing unlocks it.
+fn shut(d: DeviceNumbers, c: BusNumbers) -> bool
+    ensures { λ r. ⌜ r ≡ locked (partIn d) (cycleIn c) ⌝ }
 {
-    if (c.rp == 2) | (c.oe == 1) {
-        return false;
-    }
     let part = Part { number: d.number };
-    device::block_of(part, c.address) == 0
+    locked(part, cycle_in(c))
 }
 
 // A confirm or data: the operation starts, or the error bits say why not.
@@ -105,10 +111,10 @@ fn begin(
 ) -> AnswerNumbers
     ensures { λ r. ⌜ r ≡ begunIn d s c phase byte left bit ⌝ }
 {
-    if unsupplied(s, c) {
+    if unsupplied(d, s, c) {
         return rest(s.mode, s.status | 8 | bit);
     }
-    if locked(d, c) {
+    if shut(d, c) {
         return rest(s.mode, s.status | bit);
     }
     answer(

@@ -1,5 +1,4 @@
 use borrow.Author.Needs.{needs}
-use borrow.Author.Tests.{ne-eqb}
 use mathlib.Core.Path.{_≡_, sym, _∙_}
 use lib.ListN.{length}
 use Rattle.bus.specs.Cycles.{judgeOf}
@@ -22,6 +21,9 @@ returns c =
     let a = c .before .before .before .before .before .args in
     let w = refused-way (a .device) (a .state) (a .bus) (a .array .now) (a .residue .now) (c .before .before .number .result) (c .before .before .number .ensures) (c .before .if1 .taken) in
     (c .answer .ensures ∙ w .0, w .1)
+
+is-low-requires : tie.Need-is-low-requires
+is-low-requires c κs = search needs
 
 passed-requires : tie.Need-passed-requires
 passed-requires c κs = search needs
@@ -55,7 +57,7 @@ returns-3 c =
     let z : judgeOf (deviceIn (a .device)) (stateIn (a .state)) (cycleIn (a .bus)) (length xs) (length rs) ≡ 0 = sym (c .before .before .before .before .before .before .before .before .before .number .ensures) ∙ c .before .before .before .before .before .before .before .before .if1 .left in
     let w = passed-way (a .device) (a .state) (a .bus) xs rs z in
     let v =
-    read-way (a .device) (a .state) (a .bus) xs rs (stands (a .device) (a .state) (cycleIn (a .bus)) (length xs) (length rs) z) (ne-eqb (a .bus .rp) 0 (c .before .before .before .before .before .before .if2 .left)) (sym (c .before .before .before .before .before .is-read .ensures) ∙ c .before .before .before .before .if3 .taken)
+    read-way (a .device) (a .state) (a .bus) xs rs (stands (a .device) (a .state) (cycleIn (a .bus)) (length xs) (length rs) z) (sym (c .before .before .before .before .before .before .before .is-low .ensures) ∙ c .before .before .before .before .before .before .if2 .left) (sym (c .before .before .before .before .before .is-read .ensures) ∙ c .before .before .before .before .if3 .taken)
     (runs-status (a .device) (a .state) (a .bus) xs rs z) in
     (c .before .before .read .ensures .0 ∙ v .0 ∙ w .0, c .before .before .read .ensures .1 ∙ v .1 ∙ w .1)
 
@@ -72,7 +74,7 @@ returns-4 c =
     let rs = a .residue .now in
     let z : judgeOf (deviceIn (a .device)) (stateIn (a .state)) (cycleIn (a .bus)) (length xs) (length rs) ≡ 0 = sym (c .before .before .before .before .before .before .before .before .number .ensures) ∙ c .before .before .before .before .before .before .before .if1 .left in
     let w = passed-way (a .device) (a .state) (a .bus) xs rs z in
-    let v = write-way (a .device) (a .state) (a .bus) xs rs (stands (a .device) (a .state) (cycleIn (a .bus)) (length xs) (length rs) z) (ne-eqb (a .bus .rp) 0 (c .before .before .before .before .before .if2 .left)) (sym (c .before .before .is-write .ensures) ∙ c .before .if4 .taken) in
+    let v = write-way (a .device) (a .state) (a .bus) xs rs (stands (a .device) (a .state) (cycleIn (a .bus)) (length xs) (length rs) z) (sym (c .before .before .before .before .before .before .is-low .ensures) ∙ c .before .before .before .before .before .if2 .left) (sym (c .before .before .is-write .ensures) ∙ c .before .if4 .taken) in
     (c .write .ensures ∙ v .0 ∙ w .0, v .1 ∙ w .1)
 
 is-idle-requires : tie.Need-is-idle-requires
@@ -88,7 +90,7 @@ returns-5 c =
     let rs = a .residue .now in
     let z : judgeOf (deviceIn (a .device)) (stateIn (a .state)) (cycleIn (a .bus)) (length xs) (length rs) ≡ 0 = sym (c .before .before .before .before .before .before .before .before .before .before .number .ensures) ∙ c .before .before .before .before .before .before .before .before .before .if1 .left in
     let w = passed-way (a .device) (a .state) (a .bus) xs rs z in
-    let v = idle-way (a .device) (a .state) (a .bus) xs rs (stands (a .device) (a .state) (cycleIn (a .bus)) (length xs) (length rs) z) (ne-eqb (a .bus .rp) 0 (c .before .before .before .before .before .before .before .if2 .left)) (sym (c .before .before .is-idle .ensures) ∙ c .before .if5 .taken) in
+    let v = idle-way (a .device) (a .state) (a .bus) xs rs (stands (a .device) (a .state) (cycleIn (a .bus)) (length xs) (length rs) z) (sym (c .before .before .before .before .before .before .before .before .is-low .ensures) ∙ c .before .before .before .before .before .before .before .if2 .left) (sym (c .before .before .is-idle .ensures) ∙ c .before .if5 .taken) in
     (c .answer2 .ensures ∙ v .0 ∙ w .0, v .1 ∙ w .1)
 
 passed-requires-2 : tie.Need-passed-requires-2
@@ -113,6 +115,7 @@ cycle-spec =
     number-requires
     answer-requires
     returns
+    is-low-requires
     passed-requires
     same-length
     returns-2

@@ -3,7 +3,6 @@ use borrow.Author.Tests.{eq-eqb, ne-eqb}
 use Rattle.short.specs.Reads.{arrayEnded}
 use Rattle.short.proofs.reads.finish.Statement.{statement}
 use Rattle.short.proofs.reads.finish.Tie as tie
-use Rattle.short.proofs.reads.finish.Reads as reads
 
 program-at-requires : tie.Need-program-at-requires
 program-at-requires c κs = search needs

@@ -3,7 +3,6 @@ use borrow.Author.Tests.{lt-ltb, le-ltb, eq-eqb, ne-eqb}
 use Rattle.short.specs.Reads.{identified}
 use Rattle.short.proofs.reads.identify.Statement.{statement}
 use Rattle.short.proofs.reads.identify.Tie as tie
-use Rattle.short.proofs.reads.identify.Reads as reads
 
 answer-requires : tie.Need-answer-requires
 answer-requires c κs = search needs

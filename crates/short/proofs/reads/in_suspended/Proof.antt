@@ -3,7 +3,6 @@ use borrow.Author.Tests.{eq-eqb, ne-eqb}
 use Rattle.short.specs.Reads.{suspendedAt}
 use Rattle.short.proofs.reads.in_suspended.Statement.{statement}
 use Rattle.short.proofs.reads.in_suspended.Tie as tie
-use Rattle.short.proofs.reads.in_suspended.Reads as reads
 
 block-of-requires : tie.Need-block-of-requires
 block-of-requires c κs = search needs

@@ -2,7 +2,6 @@ use mathlib.Core.Path.{refl}
 use Rattle.short.specs.Reads.{runsIn}
 use Rattle.short.proofs.reads.runs.Statement.{statement}
 use Rattle.short.proofs.reads.runs.Tie as tie
-use Rattle.short.proofs.reads.runs.Reads as reads
 
 returns : tie.Need-returns
 unfolding runsIn

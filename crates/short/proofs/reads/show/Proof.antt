@@ -3,7 +3,6 @@ use mathlib.Core.Path.{sym, _∙_}
 use Rattle.short.specs.Reads.{shownAt}
 use Rattle.short.proofs.reads.show.Statement.{statement}
 use Rattle.short.proofs.reads.show.Tie as tie
-use Rattle.short.proofs.reads.show.Reads as reads
 
 in-suspended-requires : tie.Need-in-suspended-requires
 in-suspended-requires c κs = search needs

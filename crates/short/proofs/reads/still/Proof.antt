@@ -3,7 +3,6 @@ use borrow.Author.Tests.{eq-eqb, ne-eqb}
 use Rattle.short.specs.Reads.{stillOf}
 use Rattle.short.proofs.reads.still.Statement.{statement}
 use Rattle.short.proofs.reads.still.Tie as tie
-use Rattle.short.proofs.reads.still.Reads as reads
 
 show-requires : tie.Need-show-requires
 show-requires c κs = search needs

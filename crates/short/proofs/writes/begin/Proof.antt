@@ -14,22 +14,22 @@ returns : tie.Need-returns
 unfolding begunIn
 returns c = simp (c .rest .ensures, sym (c .before .before .before .unsupplied .ensures) ∙ c .before .before .if1 .taken)
 
-locked-requires : tie.Need-locked-requires
-locked-requires c κs = search needs
+shut-requires : tie.Need-shut-requires
+shut-requires c κs = search needs
 
 rest-requires-2 : tie.Need-rest-requires-2
 rest-requires-2 c κs = search needs
 
 returns-2 : tie.Need-returns-2
 unfolding begunIn
-returns-2 c = simp (c .rest2 .ensures, sym (c .before .before .before .locked .ensures) ∙ c .before .before .if2 .taken, sym (c .before .before .before .before .before .unsupplied .ensures) ∙ c .before .before .before .before .if1 .left)
+returns-2 c = simp (c .rest2 .ensures, sym (c .before .before .before .shut .ensures) ∙ c .before .before .if2 .taken, sym (c .before .before .before .before .before .unsupplied .ensures) ∙ c .before .before .before .before .if1 .left)
 
 answer-requires : tie.Need-answer-requires
 answer-requires c κs = search needs
 
 returns-3 : tie.Need-returns-3
 unfolding begunIn
-returns-3 c = simp (c .answer .ensures, sym (c .before .before .before .locked .ensures) ∙ c .before .before .if2 .left, sym (c .before .before .before .before .before .unsupplied .ensures) ∙ c .before .before .before .before .if1 .left)
+returns-3 c = simp (c .answer .ensures, sym (c .before .before .before .shut .ensures) ∙ c .before .before .if2 .left, sym (c .before .before .before .before .before .unsupplied .ensures) ∙ c .before .before .before .before .if1 .left)
 
 pub begin-spec : {M : Type 1} → statement M
 begin-spec =
@@ -38,7 +38,7 @@ begin-spec =
     unsupplied-requires
     rest-requires
     returns
-    locked-requires
+    shut-requires
     rest-requires-2
     returns-2
     answer-requires
