@@ -8,7 +8,7 @@ use Rattle.commands.specs.Commands.{firstWrite, afterErase, whileErasing, while
 use Rattle.settling.specs.Settling.{cutBy, countedOff, settleOf}
 use Rattle.bus.specs.Cycles.{pastArray, shortResidue, noCommand, suspendedRead, noIdentifier, numberOf, acceptOf, decideOf}
 use Rattle.model.specs.Arrays.{erased, residual, arrayAfter, answerOf}
-use Rattle.loadfile.specs.Check.{checkOf}
+use Rattle.seal.specs.Check.{checkOf}
 use Rattle.cards.specs.Table.{card1, card3, card4, card5, card6, card7, card8, card9, card12, Cards}
 use Rattle.cards.proofs.Busy.{two}
 use Rattle.cards.proofs.Counts.{ten, eleven}

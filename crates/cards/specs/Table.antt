@@ -18,7 +18,7 @@ use Rattle.chip.specs.States.{freshState, atRest}
 use Rattle.model.specs.declared.Seen.{Seen}
 use Rattle.model.specs.declared.Seen.the-variants.{NoData, Byte, Refused}
 use Rattle.model.specs.Arrays.{answerOf}
-use Rattle.loadfile.specs.Check.{checkOf}
+use Rattle.seal.specs.Check.{checkOf}
 use Rattle.run_claims.specs.History.{Bus, World, stepped, worldAfter}
 use Rattle.run.specs.Runs.{ranOf}
 use Rattle.run_claims.specs.Wear.{heldIn}

@@ -18,7 +18,7 @@ use Rattle.loader.specs.declared.Turn.the-variants.{Barred}
 use Rattle.stepper.specs.Front.{stepOf, scratchAfter}
 use Rattle.run.specs.Runs.{runNumber, ranOf, bytesOf, scratchOf}
 use Rattle.load.specs.Loads.{loadNumber, loadedOf, arrayLeft, wantedLeft, scratchLeft}
-use Rattle.loadfile.specs.Check.{checkOf}
+use Rattle.seal.specs.Check.{checkOf}
 use Rattle.twin.specs.Twins.{deviceIn, pinsIn, noState, stateIn, stateOut, cycleOut, noRecord, loaderIn, loaderOut}
 use Rattle.twin.specs.Answers.{seenOut, valueOut, turnOut}
 use Rattle.short.specs.Cycled.{cycled, arrayCycled}

@@ -13,7 +13,7 @@ use twin::TurnNumbers;
 ghost use mathlib.Core.Path.{_≡_};
 ghost use lib.ListN.{take};
 ghost use Rattle.chip.specs.States.{freshState};
-ghost use Rattle.loadfile.specs.Check.{checkOf};
+ghost use Rattle.seal.specs.Check.{checkOf};
 ghost use Rattle.twin.specs.Twins.{stateOut};
 ghost use Rattle.short.specs.Cycled.{cycled, arrayCycled};
 ghost use Rattle.host.specs.Calls.{
@@ -189,5 +189,5 @@ pub extern "C" fn tb_read(file: &[u8], letter: u8, payload: &mut [u8]) -> SizedN
 pub extern "C" fn tb_check(block: &[u8]) -> u16
     ensures { λ r. ⌜ r ≡ checkOf (take 510 (now (block .entry))) ⌝ }
 {
-    loadfile::check(block)
+    seal::check(block)
 }

@@ -1,4 +1,2 @@
-pub mod Walks
-pub mod Verdicts
 pub mod Parts
 pub mod Answers

@@ -10,7 +10,7 @@ use lib.Dec.{leb}
 use borrow.Author.Tests.{leb-true, leb-false}
 use borrow.Rule.Slice.PartMut.{putMid, midOf, mid-len}
 use Rattle.cells.specs.Lists.{copied, copied-whole, laid}
-use Rattle.loadfile.specs.Block.{headOf, frontOf, sealed, blockOf}
+use Rattle.loadfile.specs.Layout.{headOf, frontOf, sealed, blockOf}
 use Rattle.loadfile.specs.File.{blocksOf, placesOf}
 use Rattle.loadfile.specs.Sizes.{block-length, chunk-length, places-length, places-from}
 

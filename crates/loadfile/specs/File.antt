@@ -6,7 +6,8 @@ use lib.ListN.{getD, take, drop, length}
 use lib.Dec.{eqb, ltb}
 use Rattle.cells.specs.Pick.{pick}
 use Rattle.cells.specs.Numbers.{Row, row, given}
-use Rattle.loadfile.specs.Block.{isLetter, blockOf, blockRows, usedOf}
+use Rattle.blocks.specs.Block.{isLetter, blockRows, usedOf}
+use Rattle.loadfile.specs.Layout.{blockOf}
 use Rattle.loadfile.specs.declared.Written.{Written}
 use Rattle.loadfile.specs.declared.Written.the-variants.{Wrote, NotWritten}
 use Rattle.loadfile.specs.declared.Judged.{Judged}

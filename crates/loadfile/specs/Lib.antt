@@ -1,5 +1,4 @@
-pub mod Check
-pub mod Block
+pub mod Layout
 pub mod File
 pub mod Tables
 pub mod Sizes

@@ -9,9 +9,10 @@ use lib.Dec.{eqb, ltb}
 use borrow.Author.Tests.{eq-eqb, ne-eqb, eqb-true, eqb-false, ltb-false, not-false, le-ltb, lt-ltb}
 use Rattle.cells.specs.Pick.{pick, pick-true, pick-false}
 use Rattle.cells.specs.Numbers.{Row, row, given}
-use Rattle.loadfile.specs.Block.{isLetter}
+use Rattle.blocks.specs.Block.{isLetter}
+use Rattle.blocks.specs.Tables.{none-of-two, not-given}
 use Rattle.loadfile.specs.File.{Outcome, refused, made, outcomeBy, inRoom, fileOf, blocksRows, blocksIn, payloadOf, lengthWrong, payloadWrong, readRows, writeRows, readerOf, writerOf, judgedAs}
-use Rattle.loadfile.specs.Tables.{after-blocks, none-of-two, not-given}
+use Rattle.loadfile.specs.Tables.{after-blocks}
 use Rattle.loadfile.specs.declared.Judged.the-variants.{Sound, Unsound}
 
 -- a number other than 0 refuses, 0 lets through

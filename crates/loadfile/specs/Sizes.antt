@@ -1,18 +1,15 @@
 -- Lengths: of a block, of the blocks of a payload, and of the payload of right blocks. Assumes nothing.
 use mathlib.Core.Path.{_≡_, refl, sym, _∙_, ap}
 use mathlib.Core.List.{List, [], _∷_, _++_, append-nil}
-use mathlib.Core.Bool.{false}
 use Prim.Native.Nat.{ℕ, zero, suc, _+_, _*_, _-_, _≤_, _<_}
 use native.Mathlib.Omega.{arith}
 use lib.ListN.{length, take, drop, replicate, length-append, length-take, length-drop, length-replicate}
 use lib.Seq.{take-nil, drop-drop, length-take-le, take-all, take-take, take-append-add, drop-append-add}
-use lib.Dec.{eqb, ltb}
-use borrow.Author.Tests.{eq-eqb, ne-eqb, eqb-true, eqb-false, ltb-false, not-false}
-use Rattle.cells.specs.Pick.{pick-true, pick-false}
 use Rattle.cells.specs.Numbers.{given}
-use Rattle.loadfile.specs.Block.{headOf, frontOf, blockOf, usedOf, usedWrong}
+use Rattle.blocks.specs.Block.{usedOf}
+use Rattle.blocks.specs.Tables.{right, used-last, used-other}
+use Rattle.loadfile.specs.Layout.{headOf, frontOf, blockOf}
 use Rattle.loadfile.specs.File.{blocksOf, blocksRows, payloadOf, placesOf}
-use Rattle.loadfile.specs.Tables.{right, none-of-two}
 
 -- the front of a block has 510 bytes, a block 512
 pub front-length : (ℓ i n : ℕ) (chunk : List ℕ) → length chunk ≤ 505 → length (frontOf ℓ i n chunk) ≡ 510
@@ -39,18 +36,6 @@ blocks-length (suc left) ℓ i n p =
     let r : length (blocksOf left ℓ (i + 1) n (drop 505 p)) ≡ 512 * left = blocks-length left ℓ (i + 1) n (drop 505 p) in
     length-append (blockOf ℓ i n (take 505 p)) (blocksOf left ℓ (i + 1) n (drop 505 p))
     ∙ (let q : length (blockOf ℓ i n (take 505 p)) + length (blocksOf left ℓ (i + 1) n (drop 505 p)) ≡ 512 * suc left = omega arith in q)
-
--- the used count of a right block: 1 to 505 in the last, 505 in every other
-pub used-last : (i n : ℕ) (b : List ℕ) → i + 1 ≡ n → usedWrong i n b ≡ false → (0 < usedOf b) × (usedOf b ≤ 505)
-unfolding usedWrong
-used-last i n b e w =
-    let t = none-of-two (eqb (usedOf b) 0) (ltb 505 (usedOf b)) (sym (pick-true (eqb (i + 1) n) _ _ (eq-eqb _ _ e)) ∙ w) in
-    let z : usedOf b ≡ 0 → ⊥ = eqb-false _ _ (t .0) in
-    (omega arith, ltb-false _ _ (t .1))
-
-pub used-other : (i n : ℕ) (b : List ℕ) → (i + 1 ≡ n → ⊥) → usedWrong i n b ≡ false → usedOf b ≡ 505
-unfolding usedWrong
-used-other i n b e w = eqb-true _ _ (not-false _ (sym (pick-false (eqb (i + 1) n) _ _ (ne-eqb _ _ e)) ∙ w))
 
 -- the payload places of so many blocks
 pub places-length : (left : ℕ) (f : List ℕ) → length f ≡ 512 * left → length (placesOf left f) ≡ 505 * left

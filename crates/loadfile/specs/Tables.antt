@@ -1,22 +1,17 @@
 -- Laws of the reader's table: what is asked after the blocks, and one block at a time. Assumes nothing.
 use mathlib.Core.Path.{_≡_, refl, _∙_, ap}
 use mathlib.Core.List.{List, [], _++_}
-use mathlib.Core.Bool.{Bool, true, false, _||_}
+use mathlib.Core.Bool.{true}
 use Prim.Native.Nat.{ℕ, zero, suc, _+_, _*_, _-_, _<_}
 use native.Mathlib.Omega.{arith}
-use lib.ListN.{take, drop}
-use lib.Seq.{drop-drop}
+use lib.ListN.{length, take, drop, length-drop}
+use lib.Seq.{drop-drop, length-take-le}
 use lib.Dec.{eqb}
 use Rattle.cells.specs.Pick.{pick}
-use Rattle.cells.specs.Numbers.{Row, row, given, numbered, given-append}
-use Rattle.loadfile.specs.Check.{checkWrong}
-use Rattle.loadfile.specs.Block.{blockRows, letterWrong, placeWrong, usedWrong, paddingWrong}
+use Rattle.cells.specs.Numbers.{Row, given, numbered, given-append}
+use Rattle.blocks.specs.Block.{blockRows}
+use Rattle.blocks.specs.Tables.{after-block}
 use Rattle.loadfile.specs.File.{blocksRows}
-
--- what is asked after a block counts only where the block is right
-pub after-block : (first i n : ℕ) (b : List ℕ) (rest : List Row)
-    → given (blockRows first i n b rest) ≡ pick (eqb (given (blockRows first i n b [])) 0) (given rest) (given (blockRows first i n b []))
-after-block first i n b rest = given-append (blockRows first i n b []) rest refl
 
 -- the rows of the blocks stand before those that are asked after them, and none has the number 0
 pub blocks-append : (left first i n : ℕ) (f : List ℕ) (rest : List Row) → blocksRows left first i n f rest ≡ blocksRows left first i n f [] ++ rest
@@ -32,6 +27,12 @@ pub after-blocks : (left first i n : ℕ) (f : List ℕ) (rest : List Row)
 after-blocks left first i n f rest =
     ap given (blocks-append left first i n f rest) ∙ given-append (blocksRows left first i n f []) rest (blocks-numbered left first i n f)
 
+-- block i of n is 512 bytes long
+pub block-cut : (i n : ℕ) (f : List ℕ) → i < n → length f ≡ 512 * n → length (take 512 (drop (512 * i) f)) ≡ 512
+block-cut i n f h e =
+    let d : length (drop (512 * i) f) ≡ length f - 512 * i = length-drop (512 * i) f in
+    length-take-le 512 (drop (512 * i) f) (omega arith)
+
 -- a walk over the blocks, at block i: the rest of the walk, where this block is right
 pub turn : (first i n : ℕ) (f : List ℕ) → i < n
     → given (blocksRows (n - i) first i n (drop (512 * i) f) [])
@@ -46,34 +47,3 @@ turn first i n f h =
     ∙ after-block first i n B (blocksRows (n - (i + 1)) first (i + 1) n (drop 512 (drop (512 * i) f)) [])
     ∙ ap (λ (z : List ℕ). pick (eqb (given (blockRows first i n B [])) 0) (given (blocksRows (n - (i + 1)) first (i + 1) n z [])) (given (blockRows first i n B [])))
     (drop-drop 512 (512 * i) f ∙ ap (λ (k : ℕ). drop k f) d)
-
--- a block at which nothing is refused is right in each point, and so is what comes after it
-pub record Right (first i n : ℕ) (b : List ℕ) : Type 0 where
-  pub check : checkWrong b ≡ false
-  pub letter : letterWrong first b ≡ false
-  pub place : placeWrong i n b ≡ false
-  pub used : usedWrong i n b ≡ false
-  pub padding : paddingWrong b ≡ false
-
--- neither of two tests held
-pub none-of-two : (p q : Bool) → (p || q) ≡ false → (p ≡ false) × (q ≡ false)
-none-of-two true q e = (e, absurd (let z : _≡_ {A = ℕ} 0 1 = cc in omega arith))
-none-of-two false q e = (refl, e)
-
--- a row that gives nothing does not hold, and neither does the rest
-pub not-given : (t : Bool) (k x : ℕ) → pick t (suc k) x ≡ 0 → (t ≡ false) × (x ≡ 0)
-not-given true k x e = absurd (omega arith)
-not-given false k x e = (refl, e)
-
-pub right : (first i n : ℕ) (b : List ℕ) (rest : List Row) → given (blockRows first i n b rest) ≡ 0 → Right first i n b × (given rest ≡ 0)
-right first i n b rest e =
-    let c = not-given (checkWrong b) 30 _ e in
-    let l = not-given (letterWrong first b) 31 _ (c .1) in
-    let p = not-given (placeWrong i n b) 32 _ (l .1) in
-    let u = not-given (usedWrong i n b || paddingWrong b) 33 _ (p .1) in
-    let w = none-of-two (usedWrong i n b) (paddingWrong b) (u .0) in
-    (record { check = c .0; letter = l .0; place = p .0; used = w .0; padding = w .1 }, u .1)
-
--- and the other way round
-pub right-given : (first i n : ℕ) (b : List ℕ) (rest : List Row) → Right first i n b → given (blockRows first i n b rest) ≡ given rest
-right-given first i n b rest r = simp (r .check, r .letter, r .place, r .used, r .padding)

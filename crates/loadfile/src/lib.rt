@@ -1,11 +1,11 @@
-// The load file: the check of a block, the writer, the reader and its judgement alone. Each public function takes any input.
+// The load file: the writer, the reader and its judgement alone. Each public function takes any input.
 ghost use mathlib.Core.Path.{_≡_};
 ghost use mathlib.Core.List.{[], _++_};
 ghost use Prim.Native.Nat.{_+_, _-_, _*_, _<_, _≤_};
 ghost use lib.ListN.{length, getD, take, drop};
 ghost use Rattle.cells.specs.Numbers.{given};
-ghost use Rattle.loadfile.specs.Check.{checkOf, checkFault, pair, storedOf};
-ghost use Rattle.loadfile.specs.Block.{within, allAre, isLetter, headOf, sealed, blockOf, usedOf, letterWrong, placeWrong, usedWrong, paddingWrong, blockRows};
+ghost use Rattle.blocks.specs.Block.{usedOf};
+ghost use Rattle.loadfile.specs.Layout.{headOf, sealed, blockOf};
 ghost use Rattle.loadfile.specs.File.{limit, countOf, blocksOf, payloadWrong, lengthWrong, blocksRows, placesOf, writerOf, readerOf, inRoom, leftIn, writtenAs, judgedAs, readAs};
 
 // The most blocks that a file has.
@@ -29,155 +29,6 @@ pub enum ReadBack {
     NotRead(u8),
 }
 
-// The check over the first 510 bytes, or over all where there are fewer.
-pub fn check(block: &[u8]) -> u16
-    ensures { λ r. ⌜ r ≡ checkOf (take 510 (now (block .entry))) ⌝ }
-{
-    let n = cells::least(block.len(), 510);
-    let mut sum: u32 = 1;
-    let mut weight: u32 = 1;
-    let mut i = 0;
-    while i < n {
-        sum += weight * (block[i] as u32);
-        weight += 1;
-        i += 1;
-    }
-    (sum % 65521) as u16
-}
-
-// Two bytes as one number, the high byte first.
-fn joined(high: u8, low: u8) -> usize
-    ensures { λ r. ⌜ (r ≡ pair high low) × (r < 65536) ⌝ }
-{
-    cells::wide(high) * 256 + cells::wide(low)
-}
-
-// What the check alone says of a block: 31, or 0.
-pub fn check_fault(block: &[u8]) -> u8
-    ensures { λ r. ⌜ r ≡ checkFault (now (block .entry)) ⌝ }
-{
-    let stored = joined(cells::nth(block, 510), cells::nth(block, 511));
-    let right = check(block) as usize;
-    if right == stored {
-        return 0;
-    }
-    31
-}
-
-// Whether x stands in s.
-fn one_of(x: u8, s: &[u8]) -> bool
-    ensures { λ r. ⌜ r ≡ within x (now (s .entry)) ⌝ }
-{
-    let mut i = 0;
-    while i < s.len() {
-        if x == s[i] {
-            return true;
-        }
-        i += 1;
-    }
-    false
-}
-
-// Whether x is one of the eight letters.
-fn is_letter(x: u8) -> bool
-    ensures { λ r. ⌜ r ≡ isLetter x ⌝ }
-{
-    one_of(x, b"BEJKNRST")
-}
-
-// Whether every byte is FFH.
-fn all_ff(s: &[u8]) -> bool
-    ensures { λ r. ⌜ r ≡ allAre 255 (now (s .entry)) ⌝ }
-{
-    let mut i = 0;
-    while i < s.len() {
-        if s[i] != 255 {
-            return false;
-        }
-        i += 1;
-    }
-    true
-}
-
-// The payload bytes that a block says it uses.
-fn used(block: &[u8]) -> usize
-    ensures { λ r. ⌜ (r ≡ usedOf (now (block .entry))) × (r < 65536) ⌝ }
-{
-    joined(cells::nth(block, 3), cells::nth(block, 4))
-}
-
-// 32: the letter is none of the eight, or not the first block's.
-fn letter_wrong(block: &[u8], first: u8) -> bool
-    ensures { λ r. ⌜ r ≡ letterWrong first (now (block .entry)) ⌝ }
-{
-    let x = cells::nth(block, 0);
-    let known = is_letter(x);
-    let same = x == first;
-    !known | !same
-}
-
-// 33: the number is not the block's place, or the count is not the file's.
-fn place_wrong(block: &[u8], i: usize, n: usize) -> bool
-    ensures { λ r. ⌜ r ≡ placeWrong i n (now (block .entry)) ⌝ }
-{
-    let place = cells::wide(cells::nth(block, 1)) == i;
-    let count = cells::wide(cells::nth(block, 2)) == n;
-    !place | !count
-}
-
-// 34, the used count: the last block uses 1 to 505, every other 505.
-fn used_wrong(block: &[u8], i: usize, n: usize) -> bool
-    requires { ⌜ i < n ⌝ }
-    ensures { λ r. ⌜ r ≡ usedWrong i n (now (block .entry)) ⌝ }
-{
-    let u = used(block);
-    if i + 1 == n {
-        let none = u == 0;
-        let over = 505 < u;
-        return none | over;
-    }
-    let full = u == 505;
-    !full
-}
-
-// 34, the padding: some byte from the used ones up to byte 509 is not FFH.
-fn padding_wrong(block: &[u8]) -> bool
-    requires { ⌜ length (now block) ≡ 512 ⌝ }
-    ensures { λ r. ⌜ r ≡ paddingWrong (now (block .entry)) ⌝ }
-{
-    let u = used(block);
-    if 505 < u {
-        return false;
-    }
-    let from = 5 + u;
-    let clean = all_ff(&block[from..510]);
-    !clean
-}
-
-// The first refusal of one block as block i of n: 31 to 34, or 0.
-fn block_fault(block: &[u8], first: u8, i: usize, n: usize) -> u8
-    requires { ⌜ (length (now block) ≡ 512) × (i < n) ⌝ }
-    ensures { λ r. ⌜ r ≡ given (blockRows first i n (now (block .entry)) []) ⌝ }
-{
-    let wrong = check_fault(block);
-    if wrong != 0 {
-        return wrong;
-    }
-    if letter_wrong(block, first) {
-        return 32;
-    }
-    if place_wrong(block, i, n) {
-        return 33;
-    }
-    if used_wrong(block, i, n) {
-        return 34;
-    }
-    if padding_wrong(block) {
-        return 34;
-    }
-    0
-}
-
 // The first refusal of n blocks, block by block: 31 to 34, or 0.
 fn blocks_fault(file: &[u8], n: usize) -> u8
     requires { ⌜ length (now file) ≡ 512 * n ⌝ }
@@ -188,7 +39,7 @@ fn blocks_fault(file: &[u8], n: usize) -> u8
     while i < n {
         let from = 512 * i;
         let to = from + 512;
-        let found = block_fault(&file[from..to], first, i, n);
+        let found = blocks::block_fault(&file[from..to], first, i, n);
         if found != 0 {
             return found;
         }
@@ -215,7 +66,7 @@ fn payload_size(file: &[u8], n: usize) -> usize
     let whole = n - 1;
     let from = 512 * whole;
     let to = from + 512;
-    505 * whole + used(&file[from..to])
+    505 * whole + blocks::used(&file[from..to])
 }
 
 // The judgement of a file for the letter asked: 30, then 31 to 34 block by block, then 35, in one walk.
@@ -291,7 +142,7 @@ fn put_check(out: &mut [u8])
     requires { ⌜ length (now out) ≡ 512 ⌝ }
     ensures { λ _. ⌜ now (out .exit) ≡ sealed (take 510 (now (out .entry))) ⌝ }
 {
-    let c = check(out);
+    let c = seal::check(out);
     out[510] = (c / 256) as u8;
     out[511] = (c % 256) as u8;
 }
@@ -345,7 +196,7 @@ pub fn write(letter: u8, payload: &[u8], out: &mut [u8]) -> Written
     ensures { λ r. ⌜ r ≡ writtenAs (inRoom (length (now (out .entry))) (writerOf limit letter (now (payload .entry)))) ⌝ }
     ensures { λ _. ⌜ now (out .exit) ≡ leftIn (now (out .entry)) (inRoom (length (now (out .entry))) (writerOf limit letter (now (payload .entry)))) ⌝ }
 {
-    let known = is_letter(letter);
+    let known = blocks::is_letter(letter);
     if !known {
         return Written::NotWritten(32);
     }

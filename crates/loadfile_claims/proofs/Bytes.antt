@@ -9,7 +9,7 @@ use lib.Seq.{getD-drop, getD-take, drop-cons}
 use lib.Dec.{eqb}
 use borrow.Author.Tests.{eq-eqb, eqb-true}
 use Rattle.cells.specs.Pick.{pick-true, pick-false}
-use Rattle.loadfile.specs.Block.{allAre}
+use Rattle.blocks.specs.Block.{allAre}
 
 -- every element is a byte (past the end 0 is read)
 abbrev pub Bytes : List ℕ → Type 0

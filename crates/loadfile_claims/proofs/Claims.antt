@@ -11,8 +11,8 @@ use lib.Dec.{ltb}
 use borrow.Author.Tests.{ne-eqb}
 use Rattle.cells.specs.Pick.{Unique, only}
 use Rattle.cells.specs.Numbers.{row}
-use Rattle.loadfile.specs.Check.{wsum, checkOf, checkWrong, checkFault, storedOf}
-use Rattle.loadfile.specs.Block.{isLetter}
+use Rattle.seal.specs.Check.{wsum, checkOf, checkWrong, storedOf}
+use Rattle.blocks.specs.Block.{isLetter}
 use Rattle.loadfile.specs.File.{limit, refused, made, fileOf, readerOf, writerOf, inRoom, leftIn, blocksIn, payloadOf, readRows, writeRows, writtenAs, judgedAs, readAs}
 use Rattle.loadfile.specs.Outcomes.{payload-right, payload-fits, writer-lets, writer-made}
 use Rattle.loadfile.specs.declared.Written.{Written}
@@ -106,13 +106,7 @@ pub card-12 : checkOf (replicate {A = ℕ} 510 255) ≡ 8629
 unfolding checkOf
 card-12 = refl
 
--- two results that one promise allows are equal, for each public function
-pub check-unique : (b : List ℕ) → Unique (λ (r : ℕ). r ≡ checkOf (take 510 b))
-check-unique b = only (checkOf (take 510 b))
-
-pub check-fault-unique : (b : List ℕ) → Unique (λ (r : ℕ). r ≡ checkFault b)
-check-fault-unique b = only (checkFault b)
-
+-- two results that one promise allows are equal, for each public function of `loadfile`
 pub judge-unique : (f : List ℕ) (asked : ℕ) → Unique (λ (r : Judged). r ≡ judgedAs (readerOf limit f asked))
 judge-unique f asked = only (judgedAs (readerOf limit f asked))
 

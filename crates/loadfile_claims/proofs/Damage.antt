@@ -11,10 +11,10 @@ use lib.Dec.{eqb, ltb}
 use borrow.Author.Tests.{ne-eqb, eqb-true, eqb-false, ltb-true, ltb-false, not-false}
 use Rattle.cells.specs.Pick.{pick, pick-true, pick-false}
 use Rattle.cells.specs.Numbers.{given}
-use Rattle.loadfile.specs.Check.{wsum, checkOf, checkWrong, storedOf, pair}
-use Rattle.loadfile.specs.Block.{blockRows}
+use Rattle.seal.specs.Check.{wsum, checkOf, checkWrong, storedOf, pair}
+use Rattle.blocks.specs.Block.{blockRows}
+use Rattle.blocks.specs.Tables.{right, right-given}
 use Rattle.loadfile.specs.File.{blocksRows, blocksIn, payloadOf, refused, made, lengthWrong, readerOf}
-use Rattle.loadfile.specs.Tables.{right, right-given}
 use Rattle.loadfile.specs.Outcomes.{length-right, reader-lets, reader-block}
 use Rattle.loadfile_claims.proofs.Bytes.{Bytes, bytes-drop}
 

@@ -9,11 +9,12 @@ use lib.Seq.{take-at, drop-at, take-all, take-add, drop-drop, drop-cons, drop-le
 use lib.Dec.{eqb}
 use borrow.Author.Tests.{eqb-true, not-false}
 use Rattle.cells.specs.Numbers.{given}
-use Rattle.loadfile.specs.Check.{checkOf, checkWrong, storedOf}
-use Rattle.loadfile.specs.Block.{isLetter, headOf, frontOf, sealed, blockOf, usedOf, part, letterWrong, placeWrong, paddingWrong}
+use Rattle.seal.specs.Check.{checkOf, checkWrong, storedOf}
+use Rattle.blocks.specs.Block.{isLetter, usedOf, part, letterWrong, placeWrong, paddingWrong}
+use Rattle.blocks.specs.Tables.{Right, right, none-of-two, used-last, used-other}
+use Rattle.loadfile.specs.Layout.{headOf, frontOf, sealed, blockOf}
 use Rattle.loadfile.specs.File.{countOf, blocksOf, fileOf, blocksRows, payloadOf, blocksIn, made, readerOf, writerOf}
-use Rattle.loadfile.specs.Tables.{Right, right, none-of-two}
-use Rattle.loadfile.specs.Sizes.{used-last, used-other, sized}
+use Rattle.loadfile.specs.Sizes.{sized}
 use Rattle.loadfile.specs.Outcomes.{length-right, payload-fits, reader-lets, writer-made}
 use Rattle.loadfile_claims.proofs.Bytes.{Bytes, bytes-drop, byte-take, all-repeated, first-five}
 

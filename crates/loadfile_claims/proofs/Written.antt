@@ -10,10 +10,11 @@ use lib.Dec.{eqb, ltb}
 use borrow.Author.Tests.{eq-eqb, ne-eqb, eqb-true, le-ltb}
 use Rattle.cells.specs.Pick.{pick-true, pick-false}
 use Rattle.cells.specs.Numbers.{given}
-use Rattle.loadfile.specs.Check.{checkOf, checkWrong, storedOf, pair}
-use Rattle.loadfile.specs.Block.{isLetter, letters, within, allAre, headOf, frontOf, blockOf, usedOf, part, letterWrong, placeWrong, usedWrong, paddingWrong, blockRows}
+use Rattle.seal.specs.Check.{checkOf, checkWrong, storedOf, pair}
+use Rattle.blocks.specs.Block.{isLetter, letters, within, allAre, usedOf, part, letterWrong, placeWrong, usedWrong, paddingWrong, blockRows}
+use Rattle.blocks.specs.Tables.{Right, right-given}
+use Rattle.loadfile.specs.Layout.{headOf, frontOf, blockOf}
 use Rattle.loadfile.specs.File.{countOf, blocksOf, fileOf, blocksRows, payloadOf, blocksIn, refused, made, lengthWrong, readerOf, writerOf}
-use Rattle.loadfile.specs.Tables.{Right, right-given}
 use Rattle.loadfile.specs.Sizes.{front-length, block-length, chunk-length, blocks-length}
 use Rattle.loadfile.specs.Outcomes.{payload-right, length-fits, reader-made, reader-35, writer-lets}
 use Rattle.loadfile_claims.proofs.Bytes.{Bytes, bytes-none, none, more, each-bytes, bytes-append, bytes-take, bytes-drop, bytes-replicate, repeated-all}

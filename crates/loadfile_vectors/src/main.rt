@@ -22,7 +22,7 @@ fn seal(file: &mut [u8], k: usize) {
         let from = 512 * k;
         let to = from + 512;
         if to <= file.len() {
-            let c = loadfile::check(&file[from..to]);
+            let c = seal::check(&file[from..to]);
             rows::put(file, from + 510, (c / 256) as u8);
             rows::put(file, from + 511, (c % 256) as u8);
         }

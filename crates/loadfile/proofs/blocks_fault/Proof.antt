@@ -9,9 +9,10 @@ use lib.Dec.{eqb}
 use borrow.Author.Tests.{eq-eqb, ne-eqb}
 use Rattle.cells.specs.Pick.{pick-true, pick-false}
 use Rattle.cells.specs.Numbers.{given}
-use Rattle.loadfile.specs.Block.{blockRows}
+use Rattle.blocks.specs.Block.{blockRows, faultOf}
+use Rattle.blocks.specs.Tables.{fault-given}
 use Rattle.loadfile.specs.File.{blocksRows}
-use Rattle.loadfile.specs.Tables.{turn}
+use Rattle.loadfile.specs.Tables.{turn, block-cut}
 use Rattle.loadfile.proofs.blocks_fault.Statement.{statement}
 use Rattle.loadfile.proofs.blocks_fault.Tie as tie
 
@@ -58,8 +59,10 @@ returns c =
     let f = a .file .now in
     let i = l .i in
     let e : 512 * i + 512 - 512 * i ≡ 512 = omega arith in
-    let G = given (blockRows F i n (take 512 (drop (512 * i) f)) []) in
-    let r : c .before .block-fault .result ≡ G = c .before .block-fault .ensures ∙ ap (λ (k : ℕ). given (blockRows F i n (take k (drop (512 * i) f)) [])) e in
+    let B = take 512 (drop (512 * i) f) in
+    let G = given (blockRows F i n B []) in
+    let r : c .before .block-fault .result ≡ G =
+    c .before .block-fault .ensures ∙ ap (λ (k : ℕ). faultOf F i n (take k (drop (512 * i) f))) e ∙ fault-given F i n B (block-cut i n f (omega arith) (omega arith)) (omega arith) in
     let t = turn F i n f (omega arith) in
     r ∙ sym (pick-false (eqb G 0) _ G (ne-eqb G 0 (λ (q : G ≡ 0). c .if1 .taken (r ∙ q)))) ∙ sym t ∙ l .inv .1
 
@@ -78,8 +81,10 @@ loop-again c =
     let f = a .file .now in
     let i = l .i in
     let e : 512 * i + 512 - 512 * i ≡ 512 = omega arith in
-    let G = given (blockRows F i n (take 512 (drop (512 * i) f)) []) in
-    let r : c .before .block-fault .result ≡ G = c .before .block-fault .ensures ∙ ap (λ (k : ℕ). given (blockRows F i n (take k (drop (512 * i) f)) [])) e in
+    let B = take 512 (drop (512 * i) f) in
+    let G = given (blockRows F i n B []) in
+    let r : c .before .block-fault .result ≡ G =
+    c .before .block-fault .ensures ∙ ap (λ (k : ℕ). faultOf F i n (take k (drop (512 * i) f))) e ∙ fault-given F i n B (block-cut i n f (omega arith) (omega arith)) (omega arith) in
     let t = turn F i n f (omega arith) in
     (omega arith, sym (pick-true (eqb G 0) _ G (eq-eqb G 0 (sym r ∙ c .if1 .left))) ∙ sym t ∙ l .inv .1)
 

@@ -4,7 +4,7 @@ use mathlib.Core.Path.{_≡_, ap, _∙_}
 use Prim.Native.Nat.{ℕ, _+_, _-_, _*_}
 use native.Mathlib.Omega.{arith}
 use lib.ListN.{take, drop}
-use Rattle.loadfile.specs.Block.{usedOf}
+use Rattle.blocks.specs.Block.{usedOf}
 use Rattle.loadfile.proofs.payload_size.Statement.{statement}
 use Rattle.loadfile.proofs.payload_size.Tie as tie
 

@@ -4,7 +4,7 @@ use mathlib.Core.List.{List, [], _∷_, _++_, append-nil}
 use Prim.Native.Nat.{ℕ, _/_, _%_}
 use lib.ListN.{take, drop, drop-of-length-le}
 use lib.Seq.{sets-eq}
-use Rattle.loadfile.specs.Check.{checkOf}
+use Rattle.seal.specs.Check.{checkOf}
 use native.Mathlib.Omega.{arith}
 use mathlib.Core.Path.{_≡_, ap, _∙_}
 use Rattle.loadfile.proofs.put_check.Statement.{statement}
