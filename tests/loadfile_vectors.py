@@ -1,15 +1,18 @@
 #!/usr/bin/env python3
 """The vectors of the load file, worked out from document 01 alone.
 
-usage: loadfile_vectors.py cases      the cases, one a line: what crates/loadfile_vectors reads (its file stdin)
-       loadfile_vectors.py expected   what it must print (its file stdout)
-       loadfile_vectors.py told       both, with what each case is about
+    python3 tests/loadfile_vectors.py table      the cases, one a line: what crates/loadfile_vectors reads (its file stdin)
+    python3 tests/loadfile_vectors.py expected   what it must print (its file stdout)
+    python3 tests/loadfile_vectors.py check      whether both files are what the script prints
+    python3 tests/loadfile_vectors.py told       the cases and lines, with what each case is about
 
 A case: a payload is written under a letter into the front of a buffer of A5H, some bytes of the buffer are changed
 (up to two), up to two blocks get the check that fits them, some bytes are changed after that (up to two), and the
 front of the buffer is judged and read for a letter into the front of a buffer of 5AH.
 """
 import sys
+
+from model_vectors import called
 
 LETTERS = b"BEJKNRST"
 MOST = 8
@@ -215,20 +218,19 @@ def fill():
     case("37 after all", size=4040, back=0)
 
 
-def main():
-    fill()
-    want = sys.argv[1] if len(sys.argv) > 1 else ""
-    for told, row in CASES:
-        line = " ".join(f"{n:05}" for n in row)
-        if want == "cases":
-            print(line)
-        elif want == "expected":
-            print(run(row))
-        elif want == "told":
-            print(f"{told}\n  {line}\n  {run(row)}")
-        else:
-            sys.exit(__doc__)
+class All:
+    """The rows of the table, and the line that each must print."""
+
+    def __init__(self):
+        fill()
+        self.rows = [" ".join(f"{n:05}" for n in row) for told, row in CASES]
+        self.lines = [run(row) for told, row in CASES]
 
 
 if __name__ == "__main__":
-    main()
+    if sys.argv[1:] == ["told"]:
+        cases = All()
+        for (told, row), line, answer in zip(CASES, cases.rows, cases.lines):
+            print(f"{told}\n  {line}\n  {answer}")
+    else:
+        called("loadfile_vectors", All, __doc__)

@@ -4,7 +4,7 @@ use mathlib.Core.Bool.{Bool, true, false, _&&_}
 use Prim.Native.Nat.{ℕ}
 use native.Mathlib.Omega.{arith}
 use lib.Dec.{eqb, ltb}
-use Rattle.cells.specs.Pick.{pick, pick-true, pick-false}
+use Rattle.cells.specs.Pick.{pick, pick-true, pick-false, and-none}
 use Rattle.device.specs.declared.Device.{Device}
 use Rattle.device.specs.Parts.{blockOf}
 use Rattle.chip.specs.declared.Kind.{Kind}
@@ -23,10 +23,6 @@ use Rattle.chip.specs.States.{isArray, isIdentifier}
 use Rattle.bus.specs.Cycles.{isRead, isWrite, isSuspended, noCommand, suspendedRead, noIdentifier, judgeOf, lateOf, readOf, respondOf, refusedBy, acceptOf, decideOf}
 use Rattle.bus.specs.Arms.{givenBy, inSuspended, arrayArm, identifierArm, readArm, writeArm, arm}
 use Rattle.bus.proofs.Ways.{number-late, refused, accepted}
-
-and-none : (x : Bool) → (x && false) ≡ false
-and-none true = refl
-and-none false = refl
 
 and-all : (x : Bool) → (x && true) ≡ x
 and-all true = refl

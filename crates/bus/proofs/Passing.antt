@@ -2,7 +2,7 @@
 use mathlib.Core.Path.{_≡_, refl, sym, ap, _∙_}
 use mathlib.Core.Bool.{Bool, true, false, not, _&&_}
 use Prim.Native.Nat.{ℕ}
-use Rattle.cells.specs.Pick.{pick-true, pick-false, and-left, and-right, unlike}
+use Rattle.cells.specs.Pick.{pick-true, pick-false, and-left, and-right, unlike, and-none}
 use Rattle.device.specs.declared.Device.{Device}
 use Rattle.chip.specs.declared.Kind.{Kind}
 use Rattle.chip.specs.declared.Kind.the-variants.{Read, Write, Idle}
@@ -60,10 +60,6 @@ not-true : (b : Bool) → not b ≡ true → b ≡ false
 not-true true e = absurd (unlike (sym e))
 not-true false e = refl
 
-none : (x : Bool) → (x && false) ≡ false
-none true = refl
-none false = refl
-
 module _ (d : Device) (s : State) (c : Cycle) (asks : asksArray s c ≡ true) where
   abbrev first : Bool
   first = isRead (c .kind) && isFree (s .phase)
@@ -90,7 +86,7 @@ module _ (d : Device) (s : State) (c : Cycle) (asks : asksArray s c ≡ true) wh
 
   settled : settleOf (d .part) s (c .pins) ≡ settledAs s Nothing
   unfolding settleOf
-  settled = simp (up, free, none (vppLow (d .part) (c .pins)))
+  settled = simp (up, free, and-none (vppLow (d .part) (c .pins)))
 
   -- its byte is the answer, and nothing else changes
   pub shows : passOf d s c ≡ decidedAs (GivesArray (c .address)) s Nothing

@@ -66,6 +66,11 @@ and-rest true b p e = e
 and-rest false true p e = sym p
 and-rest false false p e = refl
 
+-- a test beside one that fails
+pub and-none : (a : Bool) → (a && false) ≡ false
+and-none true = refl
+and-none false = refl
+
 -- true is not false
 pub unlike : true ≡ false → ⊥
 unlike e = let z : _≡_ {A = ℕ} 0 1 = cc in omega arith

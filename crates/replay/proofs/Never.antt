@@ -7,6 +7,7 @@ use native.Mathlib.Omega.{arith}
 use lib.Dec.{eqb}
 use lib.ListN.{length}
 use borrow.Author.Tests.{eq-eqb, le-ltb}
+use Rattle.cells.specs.Pick.{and-none}
 use Rattle.cells.specs.Numbers.{row, given}
 use Rattle.device.specs.Parts.{unknownDevice, unknownPart, sizeOf, sizeIn, shapeOf, lengthOf, blockOf}
 use Rattle.device.proofs.Claims.{blocks-end-inside}
@@ -45,15 +46,11 @@ residue-most (Programming b) a = omega arith
 residue-most Erasing a = block-most (blockOf (benchT .part) a)
 residue-most Suspended a = block-most (blockOf (benchT .part) a)
 
-never : (b : Bool) → (b && false) ≡ false
-never true = refl
-never false = refl
-
 long : (s : State) (c : Cycle) (r : ℕ) → 16384 ≤ r → shortResidue (benchT .part) s c r ≡ false
 unfolding shortResidue
 long s c r h =
     ap (λ (t : Bool). (rpLow (c .pins) || vppLow (benchT .part) (c .pins)) && t) (le-ltb r (residueFor (s .phase) (benchT .part) (s .address)) (omega (arith, residue-most (s .phase) (s .address))))
-    ∙ never (rpLow (c .pins) || vppLow (benchT .part) (c .pins))
+    ∙ and-none (rpLow (c .pins) || vppLow (benchT .part) (c .pins))
 
 pub left-over : (s : State) (c : Cycle) (xs : List ℕ) (r : ℕ) → Sound s xs → 16384 ≤ r
     → numberOf benchT s c (length xs) r

@@ -5,7 +5,7 @@ use Prim.Native.Nat.{ℕ, _<_}
 use native.Mathlib.Omega.{arith}
 use lib.Dec.{eqb, ltb}
 use borrow.Author.Tests.{lt-leb, eq-eqb, eqb-true, eqb-false}
-use Rattle.cells.specs.Pick.{pick, or-both, unlike}
+use Rattle.cells.specs.Pick.{pick, or-both, unlike, and-none}
 use Rattle.cells.specs.Numbers.{past, end, no-row-given}
 use Rattle.device.specs.declared.Part.{Part}
 use Rattle.device.specs.declared.Device.{Device}
@@ -32,15 +32,10 @@ pub unasked : (part : Part) (s : State) (c : Cycle) → isPending (s .phase) ≡
 unfolding shortResidue
 unasked part s c e = go (s .phase) e
   where
-    both : (x y : Bool) → ((x || y) && false) ≡ false
-    both true y = refl
-    both false true = refl
-    both false false = refl
-
     go : (ph : Phase) → isPending ph ≡ false → ((rpLow (c .pins) || vppLow part (c .pins)) && ltb 0 (residueFor ph part (s .address))) ≡ false
-    go Free q = both (rpLow (c .pins)) (vppLow part (c .pins))
-    go EraseAwaited q = both (rpLow (c .pins)) (vppLow part (c .pins))
-    go DataAwaited q = both (rpLow (c .pins)) (vppLow part (c .pins))
+    go Free q = and-none (rpLow (c .pins) || vppLow part (c .pins))
+    go EraseAwaited q = and-none (rpLow (c .pins) || vppLow part (c .pins))
+    go DataAwaited q = and-none (rpLow (c .pins) || vppLow part (c .pins))
     go (Programming x) q = absurd (unlike q)
     go Erasing q = absurd (unlike q)
     go Suspended q = absurd (unlike q)

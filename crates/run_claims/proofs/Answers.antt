@@ -6,7 +6,7 @@ use native.Mathlib.Omega.{arith}
 use lib.Dec.{eqb, ltb, leb}
 use lib.Bits.{bitAnd, bitOr}
 use borrow.Author.Tests.{lt-leb, ne-eqb, eq-eqb, eqb-true, le-ltb}
-use Rattle.cells.specs.Pick.{pick, pick-false, or-both, unlike}
+use Rattle.cells.specs.Pick.{pick, pick-false, or-both, unlike, and-none}
 use Rattle.device.specs.declared.Device.{Device}
 use Rattle.device.specs.Parts.{unknownDevice, sizeOf, blockOf}
 use Rattle.chip.specs.declared.Pins.{Pins}
@@ -31,6 +31,7 @@ use Rattle.bus.proofs.Facts.{Proper}
 use Rattle.model.proofs.Keeping.{st, rest-proper}
 use Rattle.model.proofs.Status.{fits}
 use Rattle.run.proofs.Judging.{unasked, unasked-high, judged}
+use Rattle.run_claims.specs.Made.{busCycle as cyc}
 
 -- a device that is known, and levels that a load may have
 pub record Up (d : Device) (p : Pins) : Type 0 where
@@ -63,12 +64,8 @@ module _ (d : Device) (p : Pins) (u : Up d p) where
   -- with nothing pending, steps 1 to 3 leave the state
   rest : (s : State) → isPending (s .phase) ≡ false → settleOf (d .part) s p ≡ settledAs s Nothing
   unfolding settleOf
-  rest s e = simp (u .up, e, calm (s .phase) e, none (vppLow (d .part) p))
+  rest s e = simp (u .up, e, calm (s .phase) e, and-none (vppLow (d .part) p))
     where
-      none : (x : Bool) → (x && false) ≡ false
-      none true = refl
-      none false = refl
-
       calm : (ph : Phase) → isPending ph ≡ false → isBusy ph ≡ false
       calm Free q = refl
       calm EraseAwaited q = refl
@@ -170,8 +167,8 @@ module _ (d : Device) (p : Pins) (u : Up d p) where
     open-at a b e = go (eqb k 0) refl
       where
         go : (t : Bool) → eqb k 0 ≡ t → (not (eqb (p .rp) 2 || eqb 0 1) && eqb (blockOf (d .part) a) 0) ≡ false
-        go true q = simp (e, q, eq-eqb (p .rp) 2 (r .unlocked (eqb-true k 0 q)))
-        go false q = simp (e, q)
+        go true q = simp (eq-eqb (p .rp) 2 (r .unlocked (eqb-true k 0 q)))
+        go false q = simp (e, q) (and-none (not (eqb (p .rp) 2 || eqb 0 1)))
 
     supplied : (s : State) (a b : ℕ) → s .status ≡ 128 → unsupplied (d .part) (cyc p Write a b) s ≡ false
     unfolding unsupplied

@@ -8,7 +8,7 @@ use lib.ListN.{getD}
 use lib.Dec.{eqb, ltb}
 use lib.Bits.{bitOr}
 use borrow.Author.Tests.{not-true, ltb-true, ltb-false, lt-leb, le-leb, eqb-true}
-use Rattle.cells.specs.Pick.{pick, pick-false, pick-ap, pick-ind, unlike}
+use Rattle.cells.specs.Pick.{pick, pick-false, pick-ap, pick-ind, unlike, and-none}
 use Rattle.device.specs.declared.Part.{Part}
 use Rattle.device.specs.Parts.{codeOf}
 use Rattle.chip.specs.declared.Kind.{Kind}
@@ -37,7 +37,7 @@ use Rattle.twin.specs.declared.AnswerNumbers.{AnswerNumbers}
 use Rattle.twin.proofs.Border.{out-state, state-back, state-numbers}
 use Rattle.short.specs.Cycled.{passedIn, arrayPassedIn, answerAs}
 use Rattle.short.proofs.Told as tells
-use Rattle.short.proofs.Told.{st, toldAs, yes-then, none}
+use Rattle.short.proofs.Told.{st, toldAs, yes-then}
 use Rattle.short.specs.Reads.{partIn, isRead, runsIn, suspendedAt, shownAt, identified, stillOf, countedIn, endedIn, arrayEnded, readIn, arrayRead}
 
 -- a passed cycle from a state's numbers
@@ -159,7 +159,7 @@ module _ (d : DeviceNumbers) (c : BusNumbers) (xs rs : List ℕ) (k : c .kind �
       → (stillOf d (stateOut (st m x ph l a)) (c .address) xs ≡ passedIn d (stateOut (st m x ph l a)) c xs rs)
       × (xs ≡ arrayPassedIn d (stateOut (st m x ph l a)) c xs rs)
   unfolding settleOf
-  at-rest m x ph l a e b = by-still m x ph l a (simp (up, e, b, none (vppLow (partIn d) (cycleIn c .pins))))
+  at-rest m x ph l a e b = by-still m x ph l a (simp (up, e, b, and-none (vppLow (partIn d) (cycleIn c .pins))))
 
   suspended : (m : Mode) (x l a : ℕ) → vppLow (partIn d) (cycleIn c .pins) ≡ false
       → (stillOf d (stateOut (st m x Suspended l a)) (c .address) xs ≡ passedIn d (stateOut (st m x Suspended l a)) c xs rs)

@@ -1,6 +1,6 @@
--- A passed cycle from numbers that stand for a state is its decision as numbers; and small facts of tests. Assumes nothing.
+-- A passed cycle from numbers that stand for a state is its decision as numbers. Assumes nothing.
 use mathlib.Core.Path.{_≡_, refl, sym}
-use mathlib.Core.Bool.{Bool, true, false, _&&_}
+use mathlib.Core.Bool.{Bool, true, false}
 use mathlib.Core.List.{List}
 use Prim.Native.Nat.{ℕ}
 use Rattle.cells.specs.Pick.{pick, pick-false, unlike}
@@ -42,11 +42,7 @@ module _ (d : DeviceNumbers) (s : StateNumbers) (c : BusNumbers) (xs rs : List �
   unfolding arrayPassedIn arrayPassed
   told-array = refl
 
--- two tests that both hold, and a test beside one that fails
+-- two tests that both hold
 pub yes-then : (b x : Bool) → pick b x false ≡ true → (b ≡ true) × (x ≡ true)
 yes-then true x e = (refl, e)
 yes-then false x e = absurd (unlike (sym e))
-
-pub none : (x : Bool) → (x && false) ≡ false
-none true = refl
-none false = refl

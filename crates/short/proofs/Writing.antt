@@ -7,7 +7,7 @@ use Prim.Native.Nat.{ℕ}
 use lib.Dec.{eqb, ltb}
 use lib.Bits.{bitAnd, bitOr}
 use borrow.Author.Tests.{eqb-true}
-use Rattle.cells.specs.Pick.{pick, pick-false, unlike}
+use Rattle.cells.specs.Pick.{pick, pick-false, unlike, and-none}
 use Rattle.device.specs.declared.Part.{Part}
 use Rattle.device.specs.declared.Device.{Device}
 use Rattle.chip.specs.declared.Kind.{Kind}
@@ -42,7 +42,7 @@ use Rattle.twin.specs.declared.AnswerNumbers.{AnswerNumbers}
 use Rattle.twin.proofs.Border.{state-numbers}
 use Rattle.short.specs.Cycled.{passedIn, arrayPassedIn, answerAs}
 use Rattle.short.specs.Reads.{partIn}
-use Rattle.short.proofs.Told.{toldAs, told, told-array, yes-then, none}
+use Rattle.short.proofs.Told.{toldAs, told, told-array, yes-then}
 use Rattle.short.specs.Writes.{isWrite, isIdle, turnedTo, firstIn, restAs, unsuppliedIn, begunIn, secondIn, writtenIn}
 
 -- a decision that changes nothing in the array, as numbers
@@ -54,9 +54,9 @@ still : (part : Part) (m : Mode) (sr : ℕ) (ph : Phase) (left a : ℕ) (p : Pin
     → settleOf part (record { mode = m; status = sr; phase = ph; left = left; address = a }) p
     ≡ settledAs (record { mode = m; status = sr; phase = ph; left = left; address = a }) Nothing
 unfolding settleOf
-still part m sr Free left a p up e = simp (up, none (vppLow part p))
-still part m sr EraseAwaited left a p up e = simp (up, none (vppLow part p))
-still part m sr DataAwaited left a p up e = simp (up, none (vppLow part p))
+still part m sr Free left a p up e = simp (up, and-none (vppLow part p))
+still part m sr EraseAwaited left a p up e = simp (up, and-none (vppLow part p))
+still part m sr DataAwaited left a p up e = simp (up, and-none (vppLow part p))
 still part m sr (Programming b) left a p up e = absurd (unlike (sym e))
 still part m sr Erasing left a p up e = absurd (unlike (sym e))
 still part m sr Suspended left a p up e = absurd (unlike (sym e))

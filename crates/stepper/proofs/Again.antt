@@ -8,7 +8,7 @@ use native.Mathlib.Omega.{arith}
 use lib.ListN.{length, getD, length-set, length-replicate}
 use lib.Dec.{eqb, ltb, leb}
 use borrow.Author.Tests.{ltb-true, ltb-false, leb-false, eqb-true, eqb-false, eq-eqb, ne-eqb, le-ltb, lt-leb, not-false}
-use Rattle.cells.specs.Pick.{pick, pick-ind, pick-true, pick-false, or-left, or-right, and-rest, unlike}
+use Rattle.cells.specs.Pick.{pick, pick-ind, pick-true, pick-false, or-left, or-right, and-rest, unlike, and-none}
 use Rattle.cells.specs.Numbers.{Foremost, NoRow, end, past, given, given-foremost, foremost-given, given-no-row, no-row-given, no-head, no-tail}
 use Rattle.device.specs.declared.Part.{Part}
 use Rattle.device.specs.Parts.{unknownPart, lengthOf}
@@ -267,11 +267,7 @@ in-bounds l n e =
 bounds-good : (l : Loader) → l .place < lengthOf (l .part) (l .block) → l .polls ≤ 65534 → badRecord l ≡ false
 unfolding badRecord
 bounds-good l h q =
-    rw (le-ltb 65534 (l .polls) q, lt-leb (lengthOf (l .part) (l .block)) (l .place) h) (none (not (noBlock (l .part) (l .block))))
-  where
-    none : (b : Bool) → (b && false) ≡ false
-    none true = refl
-    none false = refl
+    rw (le-ltb 65534 (l .polls) q, lt-leb (lengthOf (l .part) (l .block)) (l .place) h) (and-none (not (noBlock (l .part) (l .block))))
 
 pub taken : (l : Loader) (w sc : ℕ) → stepNumber l w sc ≡ 0 → Taken l w sc
 unfolding stepNumber

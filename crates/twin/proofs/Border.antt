@@ -5,7 +5,7 @@ use Prim.Native.Nat.{ℕ, zero, suc, _≤_}
 use native.Mathlib.Omega.{arith}
 use lib.Dec.{eqb, ltb}
 use borrow.Author.Tests.{ltb-false, eqb-true}
-use Rattle.cells.specs.Pick.{pick-true, pick-false, pick-ind, or-left, or-right}
+use Rattle.cells.specs.Pick.{pick-true, pick-false, pick-ind, or-left, or-right, and-none}
 use Rattle.device.specs.declared.Part.{Part}
 use Rattle.device.specs.declared.Device.{Device}
 use Rattle.chip.specs.declared.Kind.{Kind}
@@ -33,11 +33,7 @@ use Rattle.twin.specs.declared.LoaderNumbers.{LoaderNumbers}
 abbrev pub deviceOut : Device → DeviceNumbers
 deviceOut d = record { number = d .part .number; program = d .program; erase = d .erase }
 
--- a test beside one that fails, and beside one that holds
-and-no : (a : Bool) → (a && false) ≡ false
-and-no true = refl
-and-no false = refl
-
+-- a test beside one that holds
 or-yes : (a : Bool) → (a || true) ≡ true
 or-yes true = refl
 or-yes false = refl
@@ -99,7 +95,7 @@ out-state s = by-phase (s .phase) (ltb 2 (modeOut (s .mode))) (mode-low (s .mode
     by-phase Free t e = rw e refl
     by-phase EraseAwaited t e = rw e refl
     by-phase DataAwaited t e = rw e refl
-    by-phase (Programming b) t e = rw e (and-no (not (eqb b 0)))
+    by-phase (Programming b) t e = rw e (and-none (not (eqb b 0)))
     by-phase Erasing t e = rw e refl
     by-phase Suspended t e = rw e refl
 
@@ -119,7 +115,7 @@ out-record l = by-stage (l .stage)
     by-stage ProgramWaiting = refl
     by-stage Closing = refl
     by-stage Verifying = refl
-    by-stage (Ended n) = and-no (not (eqb n 0))
+    by-stage (Ended n) = and-none (not (eqb n 0))
 
 -- out and in again: state, cycle, record
 pub state-back : (s : State) → stateIn (stateOut s) ≡ s
