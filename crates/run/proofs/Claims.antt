@@ -12,8 +12,13 @@ use Rattle.chip.specs.declared.Pins.{Pins}
 use Rattle.chip.specs.declared.State.{State}
 use Rattle.run.specs.declared.Ran.{Ran}
 use Rattle.run.specs.Turns.{Config, isEnded, after}
-use Rattle.run.specs.Runs.{runRows, runNumber, driven, ranOf, bytesOf, scratchOf}
+use Rattle.run.specs.Runs.{runRows, runNumber, begin, driven, ranOf, bytesOf, scratchOf}
+use Rattle.loader.specs.declared.Stage.the-variants.{Clearing}
+use Rattle.stepper.specs.Outs.{cycleOf}
+use Rattle.stepper.specs.Front.{recordAt}
+use Rattle.bus.specs.Cycles.{judgeOf}
 use Rattle.run.proofs.Ending as ending
+use Rattle.run.proofs.Sound as sound
 
 -- The numbers: a run makes no cycle and ends with m exactly where m's own condition holds and that of no number before it does.
 pub refused-exactly : (d : Device) (s : State) (p : Pins) (k : ℕ) (xs w sc : List ℕ) (m : ℕ) → (m ≡ 0 → ⊥)
@@ -52,6 +57,15 @@ first-only = ending.first-only
 pub promise-once : (d : Device) (s : State) (p : Pins) (k : ℕ) (xs w sc : List ℕ) (r t : Ran) (x y u v : List ℕ)
     → ending.Promise d s p k xs w sc r x u → ending.Promise d s p k xs w sc t y v → (r ≡ t) × (x ≡ y) × (u ≡ v)
 promise-once = ending.promise-once
+
+-- None of refusals 1 to 6 ever applies to the cycle that is out: the loop need not test them again.
+pub passes-ever : (d : Device) (s : State) (p : Pins) (k : ℕ) (xs w sc : List ℕ) → runNumber d s p k (length xs) (length w) (length sc) ≡ 0 → (j : ℕ)
+    → isEnded (after j d w (begin d s (recordAt (d .part) p k Clearing) xs sc) .loader .stage) ≡ false
+    → judgeOf d (after j d w (begin d s (recordAt (d .part) p k Clearing) xs sc) .state)
+    (cycleOf (after j d w (begin d s (recordAt (d .part) p k Clearing) xs sc) .loader) w)
+    (length (after j d w (begin d s (recordAt (d .part) p k Clearing) xs sc) .bytes)) 0
+    ≡ 0
+passes-ever = sound.passes-ever
 
 -- Two results that the promise allows are equal, and so are two arrays and two scratches that it leaves.
 pub run-unique : (d : Device) (s : State) (p : Pins) (k : ℕ) (xs w sc : List ℕ) → Unique (λ (r : Ran). r ≡ ranOf d s p k xs w sc)

@@ -2,7 +2,7 @@
 use mathlib.Core.Path.{_≡_, refl, sym, ap, _∙_, subst}
 use mathlib.Core.Bool.{Bool, true, false}
 use mathlib.Core.List.{List, []}
-use Prim.Native.Nat.{ℕ, _+_, _≤_, _<_}
+use Prim.Native.Nat.{ℕ, zero, suc, _+_, _≤_, _<_}
 use native.Mathlib.Omega.{arith}
 use lib.ListN.{length}
 use lib.Dec.{ltb}
@@ -34,8 +34,8 @@ use Rattle.stepper.specs.Outs.{firstOf, reach, hereOf, cycleAt, cycleIn, cycleO
 use Rattle.stepper.specs.Stores.{storeOf}
 use Rattle.stepper.specs.Front.{barredPins, noBlock, recordAt}
 use Rattle.stepper.proofs.Again.{some-block, Kept, kept-next}
-use Rattle.run.specs.Turns.{isEnded, loaderBy, answerTo, arrayTo}
-use Rattle.run.specs.Runs.{underWay, runNumber}
+use Rattle.run.specs.Turns.{Config, isEnded, loaderBy, answerTo, arrayTo, moved, turnOf, after}
+use Rattle.run.specs.Runs.{underWay, runNumber, begin}
 use Rattle.run.proofs.Good.{Good, good}
 use Rattle.run.proofs.Judging.{unasked, unasked-high, judged, stays-calm}
 
@@ -189,3 +189,24 @@ sound-next d w sc xs l s h e l′ s′ xs′ el es ex =
     (subst (λ (x : State). Sound d w (loaderBy (answerTo d w l s xs .seen) l w sc) x (length xs′)) (sym es)
     (subst (λ (x : List ℕ). Sound d w (loaderBy (answerTo d w l s xs .seen) l w sc) (answerTo d w l s xs .state) (length x)) (sym ex)
     (sound-turn d w sc xs l s h e)))
+
+-- it holds however many turns are made
+sound-after : (j : ℕ) (d : Device) (w : List ℕ) (c : Config) → Sound d w (c .loader) (c .state) (length (c .bytes))
+    → Sound d w (after j d w c .loader) (after j d w c .state) (length (after j d w c .bytes))
+unfolding turnOf
+sound-after zero d w c h = h
+sound-after (suc j) d w c h =
+    sound-after j d w (turnOf d w c)
+    (pick-ind (λ (x : Config). Sound d w (x .loader) (x .state) (length (x .bytes))) (isEnded (c .loader .stage)) c (moved d w c) (λ e. h)
+    (λ e. sound-turn d w (c .scratch) (c .bytes) (c .loader) (c .state) h e))
+
+-- so a run meets none of refusals 1 to 6
+pub passes-ever : (d : Device) (s : State) (p : Pins) (k : ℕ) (xs w sc : List ℕ) → runNumber d s p k (length xs) (length w) (length sc) ≡ 0 → (j : ℕ)
+    → isEnded (after j d w (begin d s (recordAt (d .part) p k Clearing) xs sc) .loader .stage) ≡ false
+    → judgeOf d (after j d w (begin d s (recordAt (d .part) p k Clearing) xs sc) .state)
+    (cycleOf (after j d w (begin d s (recordAt (d .part) p k Clearing) xs sc) .loader) w)
+    (length (after j d w (begin d s (recordAt (d .part) p k Clearing) xs sc) .bytes)) 0
+    ≡ 0
+passes-ever d s p k xs w sc z j e =
+    let c : Config = begin d s (recordAt (d .part) p k Clearing) xs sc in
+    sound-judged d w (after j d w c .loader) (after j d w c .state) (length (after j d w c .bytes)) (sound-after j d w c (sound-start d s p k xs w sc z)) e
