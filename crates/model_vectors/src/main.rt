@@ -22,7 +22,15 @@ struct Bench {
     lines: u32,
 }
 
-fn cycle_of(row: &[u8], kind: Kind) -> Cycle {
+// The bus cycle of a row: a read, a write, or else an idle one.
+fn cycle_of(row: &[u8], op: u8) -> Cycle {
+    let mut kind = Kind::Idle;
+    if op == b'R' {
+        kind = Kind::Read;
+    }
+    if op == b'W' {
+        kind = Kind::Write;
+    }
     let rp = rows::byte_at(row, 10, 2, 3);
     let oe = rows::byte_at(row, 10, 6, 3);
     let vpp = rows::word_at(row, 10, 10, 10);
@@ -59,48 +67,6 @@ fn bare() -> Bench {
     }
 }
 
-fn with_device(b: Bench, row: &[u8]) -> Bench {
-    let device = letters::device_at(row);
-    let state = b.state;
-    let group = b.group;
-    let array = rows::size_at(row, 10, 18, 6);
-    let residue = rows::size_at(row, 10, 25, 6);
-    Bench {
-        device: device,
-        state: state,
-        array: array,
-        residue: residue,
-        group: group,
-        lines: b.lines,
-    }
-}
-
-fn with_state(b: Bench, state: State) -> Bench {
-    let device = b.device;
-    let group = b.group;
-    Bench {
-        device: device,
-        state: state,
-        array: b.array,
-        residue: b.residue,
-        group: group,
-        lines: b.lines,
-    }
-}
-
-fn with_group(b: Bench, group: Group) -> Bench {
-    let device = b.device;
-    let state = b.state;
-    Bench {
-        device: device,
-        state: state,
-        array: b.array,
-        residue: b.residue,
-        group: group,
-        lines: b.lines,
-    }
-}
-
 // The bench after one more line, in the state that the line shows.
 fn after_line(b: Bench, state: State) -> Bench {
     let device = b.device;
@@ -116,22 +82,18 @@ fn after_line(b: Bench, state: State) -> Bench {
     }
 }
 
-fn print_text(text: &[u8]) {
-    io::write_all(1, text);
-}
-
 // A number in as many decimal digits as a slice has, and a space.
 fn print_decimal(text: &mut [u8], x: u64) {
     rows::decimal(text, x);
-    print_text(text);
-    print_text(b" ");
+    io::write_all(1, text);
+    io::write_all(1, b" ");
 }
 
 // A number in as many hex digits as a slice has, and what comes after it.
 fn print_hex(text: &mut [u8], x: u64, end: &[u8]) {
     rows::hex(text, x);
-    print_text(text);
-    print_text(end);
+    io::write_all(1, text);
+    io::write_all(1, end);
 }
 
 fn print_byte(x: u8) {
@@ -143,40 +105,29 @@ fn print_byte(x: u8) {
 fn print_label(g: Group, line: u32) {
     let letters = [g.a, g.b, g.c, g.d, b' '];
     let mut text = [0u8; 3];
-    print_text(&letters);
+    io::write_all(1, &letters);
     print_decimal(&mut text, line as u64);
-}
-
-fn print_given(x: u8) {
-    print_text(b"D ");
-    print_byte(x);
-}
-
-fn print_refused(n: u8) {
-    let mut text = [0u8; 2];
-    print_text(b"X ");
-    print_decimal(&mut text, n as u64);
 }
 
 // What was seen.
 fn print_seen(seen: Seen) {
     match seen {
-        Seen::NoData => print_text(b"N -- "),
-        Seen::Byte(b) => print_given(b),
-        Seen::Refused(n) => print_refused(n),
+        Seen::NoData => {
+            io::write_all(1, b"N -- ");
+        }
+        Seen::Byte(b) => {
+            io::write_all(1, b"D ");
+            print_byte(b);
+        }
+        Seen::Refused(n) => {
+            let mut text = [0u8; 2];
+            io::write_all(1, b"X ");
+            print_decimal(&mut text, n as u64);
+        }
     }
 }
 
-// The byte of a phase, where it has one.
-fn print_phase(phase: Phase) {
-    if let Phase::Programming(b) = phase {
-        print_byte(b);
-        return;
-    }
-    print_text(b"-- ");
-}
-
-// Status, mode and phase.
+// Status, mode and phase, and the byte of the phase, where it has one.
 fn print_state(s: State) {
     let mode = s.mode;
     let phase = s.phase;
@@ -184,8 +135,12 @@ fn print_state(s: State) {
     let p = letters::phase_letter(phase);
     let text = [m, b' ', p];
     print_byte(s.status);
-    print_text(&text);
-    print_phase(phase);
+    io::write_all(1, &text);
+    if let Phase::Programming(b) = phase {
+        print_byte(b);
+        return;
+    }
+    io::write_all(1, b"-- ");
 }
 
 // Cycles left, address and digest.
@@ -208,12 +163,12 @@ fn print_line(b: Bench, seen: Seen, sum: u64) {
     print_numbers(state.left, state.address, sum);
 }
 
-// A line about a state that no cycle left.
-fn show(b: Bench, state: State, array: &[u8]) -> Bench {
+// Prints a line about a state and what was seen, and gives the bench after it.
+fn show(b: Bench, state: State, seen: Seen, array: &[u8]) -> Bench {
     let n = cells::least(b.array, array.len());
     let sum = rows::digest(&array[0..n]);
     let after = after_line(b, state);
-    print_line(after, Seen::NoData, sum);
+    print_line(after, seen, sum);
     after
 }
 
@@ -226,10 +181,7 @@ fn run(b: Bench, c: Cycle, array: &mut [u8], residue: &[u8]) -> Bench {
     let x = model::cycle(device, before, c, &mut array[0..n], &residue[0..m]);
     let seen = x.seen;
     let state = x.state;
-    let sum = rows::digest(&array[0..n]);
-    let after = after_line(b, state);
-    print_line(after, seen, sum);
-    after
+    show(b, state, seen, array)
 }
 
 // Fills what is lent, as a row says.
@@ -240,55 +192,54 @@ fn sow_part(s: &mut [u8], asked: usize, row: &[u8]) {
     rows::sow(&mut s[0..n], 256, first, step);
 }
 
-// The rows that set the bench; any other leaves it.
+// The rows that set the bench, those that make the device fresh or reset it among them; any other leaves it.
 fn set(row: &[u8], op: u8, b: Bench) -> Bench {
+    let before = b.state;
+    let mut device = b.device;
+    let mut state = before;
+    let mut array = b.array;
+    let mut residue = b.residue;
+    let mut group = b.group;
     if op == b'G' {
-        return with_group(b, rows::group_at(row));
+        group = rows::group_at(row);
     }
     if op == b'D' {
-        return with_device(b, row);
+        device = letters::device_at(row);
+        array = rows::size_at(row, 10, 18, 6);
+        residue = rows::size_at(row, 10, 25, 6);
     }
     if op == b'S' {
-        return with_state(b, letters::state_at(row));
+        state = letters::state_at(row);
     }
-    b
-}
-
-fn is_cycle(op: u8) -> bool {
-    (op == b'R') | (op == b'W') | (op == b'I')
-}
-
-fn kind_of(op: u8) -> Kind {
-    if op == b'R' {
-        return Kind::Read;
-    }
-    if op == b'W' {
-        return Kind::Write;
-    }
-    Kind::Idle
-}
-
-// The rows that show a fresh device or one that was reset.
-fn shown(op: u8, b: Bench, array: &[u8]) -> Bench {
-    let state = b.state;
     if op == b'F' {
-        return show(b, model::fresh(), array);
+        state = model::fresh();
     }
     if op == b'Z' {
-        return show(b, model::reset(state), array);
+        state = model::reset(before);
+    }
+    Bench {
+        device: device,
+        state: state,
+        array: array,
+        residue: residue,
+        group: group,
+        lines: b.lines,
+    }
+}
+
+// The rows that print a line: those of a bus cycle, and those of a device that is fresh or was reset.
+fn act(row: &[u8], op: u8, b: Bench, array: &mut [u8], residue: &[u8]) -> Bench {
+    let state = b.state;
+    if (op == b'R') | (op == b'W') | (op == b'I') {
+        return run(b, cycle_of(row, op), array, residue);
+    }
+    if (op == b'F') | (op == b'Z') {
+        return show(b, state, Seen::NoData, array);
     }
     b
 }
 
-// The rows that print a line.
-fn act(row: &[u8], op: u8, b: Bench, array: &mut [u8], residue: &[u8]) -> Bench {
-    if is_cycle(op) {
-        return run(b, cycle_of(row, kind_of(op)), array, residue);
-    }
-    shown(op, b, array)
-}
-
-// One row. A row that sets the bench prints nothing, and one that prints sets nothing.
+// One row: first what it sets, then what it prints.
 fn turn(row: &[u8], b: Bench, array: &mut [u8], residue: &mut [u8]) -> Bench {
     let op = cells::nth(row, 0);
     if op == b'A' {
@@ -313,7 +264,7 @@ fn all(text: &[u8], array: &mut [u8], residue: &mut [u8]) {
 }
 
 fn main() {
-    let mut text = [0u8; 131072];
+    let mut text = rows::blank();
     let mut array = rows::blank();
     let mut residue = rows::blank();
     let n = io::read_full(0, &mut text);

@@ -95,35 +95,8 @@ fn bare() -> Bench {
     }
 }
 
-fn with_setup(b: Bench, setup: Setup) -> Bench {
-    let state = b.state;
-    let loader = b.loader;
-    let group = b.group;
-    Bench {
-        setup: setup,
-        state: state,
-        loader: loader,
-        group: group,
-        lines: b.lines,
-    }
-}
-
-fn with_state(b: Bench, state: State) -> Bench {
-    let setup = b.setup;
-    let loader = b.loader;
-    let group = b.group;
-    Bench {
-        setup: setup,
-        state: state,
-        loader: loader,
-        group: group,
-        lines: b.lines,
-    }
-}
-
-fn with_group(b: Bench, group: Group) -> Bench {
-    let setup = b.setup;
-    let state = b.state;
+// The bench with another setup, state or group.
+fn with(b: Bench, setup: Setup, state: State, group: Group) -> Bench {
     let loader = b.loader;
     Bench {
         setup: setup,
@@ -245,24 +218,16 @@ fn print_cycle(c: Cycle) {
     print_byte(c.byte);
 }
 
-// The end.
-fn print_end(n: u8, address: u32) {
-    print_number(b'E', n);
-    print_address(address);
-}
-
+// What the loader gave: the cycle that is out, the end, or a refusal.
 fn print_turn(turn: Turn) {
     match turn {
         Turn::Out(c) => print_cycle(c),
-        Turn::Over(n, address) => print_end(n, address),
+        Turn::Over(n, address) => {
+            print_number(b'E', n);
+            print_address(address);
+        }
         Turn::Barred(n) => print_number(b'X', n),
     }
-}
-
-// A step: what the loader gave, and a digest of scratch.
-fn print_step(turn: Turn, scratch: u64) {
-    print_turn(turn);
-    print_sum(scratch, b"\n");
 }
 
 // A whole run on what is lent.
@@ -303,30 +268,26 @@ fn run_line(b: Bench, array: &mut [u8], wanted: &[u8], scratch: &mut [u8]) -> Be
     after
 }
 
-// A start on what is lent.
-fn started(setup: Setup, wanted: &[u8], scratch: &[u8]) -> Given {
-    let device = setup.device;
-    let part = device.part;
-    let pins = setup.pins;
-    let m = cells::least(setup.wanted, wanted.len());
-    let k = cells::least(setup.scratch, scratch.len());
-    stepper::front::start(part, pins, setup.block, &wanted[0..m], &scratch[0..k])
-}
-
 // The line of a start or a step.
 fn given_line(b: Bench, g: Given, room: u64) -> Bench {
     let state = b.state;
     let turn = g.turn;
     let loader = g.loader;
     let after = after_line(b, state, loader);
-    print_step(turn, room);
+    print_turn(turn);
+    print_sum(room, b"\n");
     after
 }
 
 // A start and its line.
 fn start_line(b: Bench, wanted: &[u8], scratch: &[u8]) -> Bench {
     let setup = b.setup;
-    let g = started(setup, wanted, scratch);
+    let device = setup.device;
+    let part = device.part;
+    let pins = setup.pins;
+    let m = cells::least(setup.wanted, wanted.len());
+    let k = cells::least(setup.scratch, scratch.len());
+    let g = stepper::front::start(part, pins, setup.block, &wanted[0..m], &scratch[0..k]);
     let room = sum_of(scratch, setup.scratch);
     given_line(b, g, room)
 }
@@ -407,23 +368,25 @@ fn handed(b: Bench, row: &[u8]) -> Bench {
 // The rows that set the bench; any other leaves it.
 fn set(row: &[u8], op: u8, b: Bench) -> Bench {
     let setup = b.setup;
+    let state = b.state;
+    let group = b.group;
     if op == b'G' {
-        return with_group(b, rows::group_at(row));
+        return with(b, setup, state, rows::group_at(row));
     }
     if op == b'D' {
-        return with_setup(b, setup_of(row, setup));
+        return with(b, setup_of(row, setup), state, group);
     }
     if op == b'S' {
-        return with_state(b, letters::state_at(row));
+        return with(b, setup, letters::state_at(row), group);
     }
     if op == b'F' {
-        return with_state(b, model::fresh());
+        return with(b, setup, model::fresh(), group);
     }
     if op == b'K' {
         return handed(b, row);
     }
     if op == b'L' {
-        return with_setup(b, levels_of(row, setup));
+        return with(b, levels_of(row, setup), state, group);
     }
     b
 }
@@ -453,8 +416,11 @@ fn fill(row: &[u8], op: u8, setup: Setup, array: &mut [u8], wanted: &mut [u8], s
     sow_part(scratch, setup.scratch, row)
 }
 
-// The rows that start and step the loader.
-fn feed(row: &[u8], op: u8, b: Bench, wanted: &[u8], scratch: &mut [u8]) -> Bench {
+// The rows that print a line.
+fn act(row: &[u8], op: u8, b: Bench, array: &mut [u8], wanted: &[u8], scratch: &mut [u8]) -> Bench {
+    if op == b'R' {
+        return run_line(b, array, wanted, scratch);
+    }
     if op == b'Q' {
         return start_line(b, wanted, scratch);
     }
@@ -462,14 +428,6 @@ fn feed(row: &[u8], op: u8, b: Bench, wanted: &[u8], scratch: &mut [u8]) -> Benc
         return step_line(b, row, wanted, scratch);
     }
     b
-}
-
-// The rows that print a line.
-fn act(row: &[u8], op: u8, b: Bench, array: &mut [u8], wanted: &[u8], scratch: &mut [u8]) -> Bench {
-    if op == b'R' {
-        return run_line(b, array, wanted, scratch);
-    }
-    feed(row, op, b, wanted, scratch)
 }
 
 // One row. A row that sets the bench prints nothing, and one that prints sets nothing.
@@ -494,7 +452,7 @@ fn all(text: &[u8], array: &mut [u8], wanted: &mut [u8], scratch: &mut [u8]) {
 }
 
 fn main() {
-    let mut text = [0u8; 65536];
+    let mut text = rows::blank();
     let mut array = rows::blank();
     let mut wanted = rows::blank();
     let mut scratch = rows::blank();
