@@ -54,7 +54,7 @@ module _ (d : Device) (a : ℕ) (xs : List ℕ) (known : unknownDevice d ≡ fal
   up = record { known = known; levels = supplied d .0; up = refl }
 
   ready : Ready d normal (blockOf (d .part) a)
-  ready = record { base = up; high = supplied d .1; unlocked = λ e. absurd (free e) }
+  ready = record { base = up; high = supplied d .1; unlock = λ e. absurd (free e) }
 
   -- one cycle, from what the device decides
   step : (s t : State) (c : Cycle) (r : Reply) (e : Effect) → decideOf d s c (sizeOf (d .part)) 0 ≡ decidedAs r t e → arrayOf e (d .part) [] xs ≡ xs

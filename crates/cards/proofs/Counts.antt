@@ -8,6 +8,7 @@ use lib.ListN.{length, replicate}
 use Rattle.cells.specs.Pick.{pick, unlike}
 use Rattle.cells.specs.Bytes.{Bytes, bytes-replicate}
 use Rattle.device.specs.Parts.{shapeOf, sizeIn, lengthIn, offsetIn, startIn, unknownPart, unknownDevice, sizeOf, lengthOf, startOf}
+use Rattle.chip.specs.Cells.{ones}
 use Rattle.chip.specs.Levels.{vppLow, vppHigh, badPins}
 use Rattle.chip.specs.States.{badStatus, badLeft, badAddress, improper, freshState, atRest}
 use Rattle.chip.specs.declared.Mode.the-variants.{Array}
@@ -35,6 +36,7 @@ unfolding shapeOf sizeIn lengthIn offsetIn startIn startOf
 first = refl
 
 counts : (n : ℕ) (held w : List ℕ) → length w ≡ 512 → Bytes w → formula benchT w held ≡ n → Counts n held w
+unfolding ones
 counts n held w lw bytes f xs sc lx ls h =
     ends-well benchT freshState normal 1 xs w sc start
     ∙ ap (λ (ys : List ℕ). result (formula benchT w ys)) (ap (λ (a : ℕ). heldIn a (length w) xs) first ∙ ap (λ (k : ℕ). heldIn 0x3A00 k xs) lw ∙ h)
@@ -45,16 +47,16 @@ counts n held w lw bytes f xs sc lx ls h =
 
     start : Start benchT freshState normal 1 xs w sc
     start = record {
-      base = record { taken = rw (lx, lw, ls) accepted; programs = omega arith; erases = omega arith; bytes = bytes };
+      base = record { taken = rw (lx, lw, ls) accepted; programs = omega arith; erases = omega arith; bytes = λ (i : ℕ). omega (arith, bytes i) };
       high = supply;
-      unlocked = λ (e : _≡_ {A = ℕ} 1 0). absurd (omega arith);
+      unlock = λ (e : _≡_ {A = ℕ} 1 0). absurd (omega arith);
     }
 
 -- a block that holds what is wanted
 level : (w : List ℕ) → length w ≡ 512 → formula benchT w w ≡ 1027
 level w e = go (risesIn w w) (none-risen w)
   where
-    go : (t : Bool) → t ≡ false → 2 * length w + 3 + pick t 1 0 * (2 + 3) + differing (length w) 0 w (pick t (replicate (length w) 255) w) * (2 + 2) ≡ 1027
+    go : (t : Bool) → t ≡ false → 2 * length w + 3 + pick t 1 0 * (2 + 3) + differing (length w) 0 w (pick t (replicate (length w) ones) w) * (2 + 2) ≡ 1027
     go true q = absurd (unlike q)
     go false q = rw (none-differing (length w) 0 w, e) refl
 
@@ -64,11 +66,11 @@ bytes-10 (suc i) = bytes-replicate 511 255 (omega arith) i
 
 -- the formula, computed
 pub ten : Card10
-unfolding risesIn
+unfolding risesIn ones
 ten = counts _ (same 512 255) (0x5A ∷ same 511 255) refl bytes-10 refl
 
 pub eleven : Card11
-unfolding risesIn
+unfolding risesIn ones
 eleven = (
   counts _ (same 512 0) (same 512 255) refl (bytes-replicate 512 255 (omega arith)) refl,
   λ (w : List ℕ) (e : length w ≡ 512) (b : Bytes w). counts _ w w e b (level w e),

@@ -36,7 +36,7 @@ unfoldable pub badLevels : Part → Cycle → Bool
 badLevels part c = badPins part (c .pins) || badOe (c .kind) (c .oe)
 
 -- RP# or OE# at V_HH unlocks the boot block
-abbrev pub unlocked : Part → Pins → ℕ → Bool
+unfoldable pub unlocked : Part → Pins → ℕ → Bool
 unlocked part p oe = eqb (p .rp) 2 || eqb oe 1
 
 -- the address is in the boot block, and neither RP# nor OE# is at V_HH

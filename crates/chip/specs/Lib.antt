@@ -1,2 +1,3 @@
+pub mod Cells
 pub mod Levels
 pub mod States

@@ -6,6 +6,7 @@ use native.Mathlib.Omega.{arith}
 use lib.ListN.{length, getD, take, replicate, length-set, length-replicate}
 use lib.Seq.{length-take-le}
 use lib.Bits.{bitAnd, bitOr, and-le-l}
+use Rattle.chip.specs.Cells.{ones}
 use Rattle.cells.specs.Bytes.{Bytes, bytes-set, bytes-overlaid, bytes-replicate, bytes-take, overlaid-length}
 use Rattle.device.specs.declared.Part.{Part}
 use Rattle.device.specs.declared.Device.{Device}
@@ -16,7 +17,7 @@ use Rattle.chip.specs.declared.Effect.the-variants.{Nothing, Program, Erase, Cu
 use Rattle.chip.specs.declared.State.{State}
 use Rattle.chip.specs.declared.Cycle.{Cycle}
 use Rattle.bus.specs.Cycles.{decideOf}
-use Rattle.model.specs.Arrays.{ones, erased, residual, arrayOf, arrayAfter, Within}
+use Rattle.model.specs.Arrays.{erased, residual, arrayOf, arrayAfter, Within}
 use Rattle.model.proofs.Reach.{within}
 
 pub effect-length : (e : Effect) (part : Part) (rs xs : List ℕ) → Within e part (length xs) (length rs) → length (arrayOf e part rs xs) ≡ length xs
@@ -30,7 +31,7 @@ effect-length (CutErase k) part rs xs w =
     overlaid-length xs (startOf part k) (take (lengthOf part k) rs) (rw (length-take-le (lengthOf part k) rs (w .1), w .0) (blocks-end-inside part k))
 
 pub effect-bytes : (e : Effect) (part : Part) (rs xs : List ℕ) → Bytes rs → Bytes xs → Bytes (arrayOf e part rs xs)
-unfolding erased residual
+unfolding erased residual ones
 effect-bytes Nothing part rs xs r x = x
 effect-bytes (Program a b) part rs xs r x = bytes-set xs a (bitAnd (getD xs a 0) b) x (omega (arith, and-le-l (getD xs a 0) b, x a))
 effect-bytes (Erase k) part rs xs r x = bytes-overlaid xs (startOf part k) (replicate (lengthOf part k) ones) x (bytes-replicate (lengthOf part k) ones (omega arith))

@@ -6,6 +6,7 @@ use native.Mathlib.Omega.{arith}
 use lib.ListN.{length, take, drop, replicate, length-replicate}
 use lib.Seq.{length-take-le}
 use borrow.Rule.Slice.PartMut.{putMid, midOf, mid-len}
+use Rattle.chip.specs.Cells.{ones}
 use Rattle.cells.specs.Lists.{overlaid, copied, copied-whole}
 use Rattle.device.specs.declared.Part.{Part}
 use Rattle.device.specs.Parts.{sizeOf, startOf, lengthOf}
@@ -25,7 +26,7 @@ module _ (part : Part) (k : ℕ) (xs : List ℕ) (a n : ℕ) (ea : a ≡ startOf
   span = mid-len a (a + n) xs inside ∙ (let e : a + n - a ≡ n = omega arith in e)
 
   pub filled : (ys : List ℕ) → ys ≡ replicate (length (midOf a (a + n - a) xs)) 255 → putMid a (a + n - a) xs ys ≡ erased part k xs
-  unfolding erased
+  unfolding erased ones
   filled ys e =
       let f : ys ≡ replicate (lengthOf part k) 255 = e ∙ ap (λ (m : ℕ). replicate m 255) (span ∙ en) in
       let l : length ys ≡ a + n - a = ap (λ (z : List ℕ). length z) e ∙ length-replicate (length (midOf a (a + n - a) xs)) 255 ∙ mid-len a (a + n) xs inside in

@@ -4,6 +4,7 @@ use mathlib.Core.List.{List}
 use Prim.Native.Nat.{ℕ, _≤_, _<_}
 use lib.ListN.{length, getD, set, take, replicate}
 use lib.Bits.{bitAnd, bitOr}
+use Rattle.chip.specs.Cells.{ones}
 use Rattle.cells.specs.Lists.{overlaid}
 use Rattle.device.specs.Parts.{sizeOf, startOf, lengthOf}
 use Rattle.device.specs.declared.Part.{Part}
@@ -18,10 +19,6 @@ use Rattle.bus.specs.Cycles.{decideOf}
 use Rattle.model.specs.declared.Seen.{Seen}
 use Rattle.model.specs.declared.Seen.the-variants.{NoData, Byte, Refused}
 use Rattle.model.specs.declared.Answer.{Answer}
-
--- an erased cell: all ones
-abbrev pub ones : ℕ
-ones = 255
 
 -- an erase that ends leaves ones in its whole block
 unfoldable pub erased : Part → ℕ → List ℕ → List ℕ

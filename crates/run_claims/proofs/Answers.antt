@@ -21,7 +21,7 @@ use Rattle.chip.specs.declared.Effect.the-variants.{Nothing}
 use Rattle.chip.specs.declared.Reply.the-variants.{Quiet, Gives, GivesArray}
 use Rattle.chip.specs.declared.State.{State}
 use Rattle.chip.specs.declared.Settled.{Settled}
-use Rattle.chip.specs.Levels.{rpLow, vppLow, badPins, locked}
+use Rattle.chip.specs.Levels.{rpLow, vppLow, badPins, locked, unlocked}
 use Rattle.chip.specs.States.{badMode, badStatus, badLeft, badAddress, atRest, isBusy, isPending, mostLeft}
 use Rattle.commands.specs.Commands.{actionOf, firstWrite, afterErase, performedOf, startedOf, unsupplied}
 use Rattle.settling.specs.Settling.{settledAs, settleOf, countedOff, endOf}
@@ -43,7 +43,7 @@ pub record Up (d : Device) (p : Pins) : Type 0 where
 pub record Ready (d : Device) (p : Pins) (k : ℕ) : Type 0 where
   pub base : Up d p
   pub high : vppLow (d .part) p ≡ false
-  pub unlocked : k ≡ 0 → p .rp ≡ 2
+  pub unlock : k ≡ 0 → unlocked (d .part) p 0 ≡ true
 
 -- an operation in block k cannot start: the error bits that come of it, with SR.3 or without
 pub record Stuck (d : Device) (p : Pins) (k low : ℕ) : Type 0 where
@@ -56,7 +56,7 @@ unfolding startedOf unsupplied
 unsupplied-stuck d p k e = record { stays = λ s ph a b time bit q h. simp (e, q) }
 
 -- .. because it is the boot block and RP# is not at unlock level
-pub locked-stuck : (d : Device) (p : Pins) (k : ℕ) → vppLow (d .part) p ≡ false → eqb k 0 ≡ true → eqb (p .rp) 2 ≡ false → Stuck d p k 0
+pub locked-stuck : (d : Device) (p : Pins) (k : ℕ) → vppLow (d .part) p ≡ false → eqb k 0 ≡ true → unlocked (d .part) p 0 ≡ false → Stuck d p k 0
 unfolding startedOf unsupplied locked
 locked-stuck d p k e z f = record { stays = λ s ph a b time bit q h. simp (e, q, h, z, f) }
 
@@ -166,9 +166,9 @@ module _ (d : Device) (p : Pins) (u : Up d p) where
     unfolding locked
     open-at a b e = go (eqb k 0) refl
       where
-        go : (t : Bool) → eqb k 0 ≡ t → (not (eqb (p .rp) 2 || eqb 0 1) && eqb (blockOf (d .part) a) 0) ≡ false
-        go true q = simp (eq-eqb (p .rp) 2 (r .unlocked (eqb-true k 0 q)))
-        go false q = simp (e, q) (and-none (not (eqb (p .rp) 2 || eqb 0 1)))
+        go : (t : Bool) → eqb k 0 ≡ t → (not (unlocked (d .part) p 0) && eqb (blockOf (d .part) a) 0) ≡ false
+        go true q = simp (r .unlock (eqb-true k 0 q))
+        go false q = simp (e, q) (and-none (not (unlocked (d .part) p 0)))
 
     supplied : (s : State) (a b : ℕ) → s .status ≡ 128 → unsupplied (d .part) (cyc p Write a b) s ≡ false
     unfolding unsupplied

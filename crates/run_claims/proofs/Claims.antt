@@ -4,7 +4,7 @@ use mathlib.Core.Bool.{true}
 use mathlib.Core.List.{List}
 use Prim.Native.Nat.{ℕ, _+_, _*_, _≤_, _<_}
 use lib.ListN.{length, getD}
-use Rattle.cells.specs.Bytes.{Bytes}
+use Rattle.chip.specs.Cells.{ones, Cells, and-ones}
 use Rattle.device.specs.declared.Device.{Device}
 use Rattle.device.specs.Parts.{startOf}
 use Rattle.chip.specs.declared.Pins.{Pins}
@@ -64,7 +64,7 @@ cycles-counted = mission.cycles-long
 -- Least wear: cycles of any kind from the same start, refused ones among them, that cut no operation and leave the block as
 -- wanted, begin at least as many erases of that block and at least as many programs in it as the load.
 pub nothing-less : (d : Device) (s : State) (p : Pins) (k : ℕ) (xs w sc : List ℕ) → Start d s p k xs w sc
-    → (bs : List Bus) → Bytes xs → uncut (effectsIn d (record { state = s; bytes = xs }) bs) ≡ true
+    → (bs : List Bus) → Cells xs → uncut (effectsIn d (record { state = s; bytes = xs }) bs) ≡ true
     → heldIn (startOf (d .part) k) (length w) (worldAfter d (record { state = s; bytes = xs }) bs .bytes) ≡ w
     → (total (eraseOf k) (begunIn (bound (length w)) d w (begin d s (recordAt (d .part) p k Clearing) xs sc)) ≤ total (eraseOf k) (begunOver d (record { state = s; bytes = xs }) bs))
     × (total (programIn (startOf (d .part) k) (length w)) (begunIn (bound (length w)) d w (begin d s (recordAt (d .part) p k Clearing) xs sc))

@@ -9,9 +9,9 @@ use lib.ListN.{length, getD, drop, length-drop}
 use lib.Seq.{length-take-le}
 use lib.Dec.{eqb, leb}
 use borrow.Author.Tests.{eq-eqb, eqb-true, eqb-false, not-false, lt-leb, leb-true}
+use Rattle.chip.specs.Cells.{ones, Cells, and-ones}
 use Rattle.cells.specs.Pick.{pick, pick-true, pick-false, or-left, or-right, and-left, unlike}
 use Rattle.cells.specs.Lists.{overlaid}
-use Rattle.cells.specs.Bytes.{Bytes}
 use Rattle.device.specs.declared.Device.{Device}
 use Rattle.device.specs.Parts.{lengthOf, startOf}
 use Rattle.device.proofs.Claims.{blocks-end-inside}
@@ -22,7 +22,7 @@ use Rattle.chip.specs.declared.Mode.the-variants.{Array, Status}
 use Rattle.chip.specs.declared.State.{State}
 use Rattle.chip.specs.declared.Effect.{Effect}
 use Rattle.chip.specs.declared.Effect.the-variants.{Nothing}
-use Rattle.chip.specs.Levels.{rpLow, vppLow, vppHigh, badPins}
+use Rattle.chip.specs.Levels.{rpLow, vppLow, vppHigh, badPins, unlocked}
 use Rattle.chip.specs.States.{atRest, badLeft, badAddress, badStatus}
 use Rattle.bus.proofs.Facts.{Proper}
 use Rattle.model.proofs.Status.{fits, status-fits}
@@ -116,13 +116,13 @@ pub record Taken (d : Device) (s : State) (p : Pins) (k : ℕ) (xs w sc : List �
   pub taken : runNumber d s p k (length xs) (length w) (length sc) ≡ 0
   pub programs : d .program ≤ 65535
   pub erases : d .erase ≤ 65535
-  pub bytes : Bytes w
+  pub bytes : Cells w
 
 -- the mission's start: such a run with VPP in its 12 V band, and RP# at unlock level for the boot block
 pub record Start (d : Device) (s : State) (p : Pins) (k : ℕ) (xs w sc : List ℕ) : Type 0 where
   pub base : Taken d s p k xs w sc
   pub high : vppHigh (d .part) p ≡ true
-  pub unlocked : k ≡ 0 → p .rp ≡ 2
+  pub unlock : k ≡ 0 → unlocked (d .part) p 0 ≡ true
 
 -- VPP in the high band is not in the low one
 pub not-low : (d : Device) (p : Pins) → vppHigh (d .part) p ≡ true → vppLow (d .part) p ≡ false
@@ -210,9 +210,9 @@ module _ (d : Device) (s : State) (p : Pins) (k : ℕ) (xs w sc : List ℕ) (t :
       (phases.opening d p k u w (g .wanted) some xs (g .sized) ys sc ly (g .scratch ∙ sym (g .wanted)) (s .mode) (s .status) (resting d s (g .proper) (g .free) .1) e es cs r)
 
   -- the load where its operations can start
-  module _ (high : vppLow (d .part) p ≡ false) (unlocked : k ≡ 0 → p .rp ≡ 2) where
+  module _ (high : vppLow (d .part) p ≡ false) (unlock : k ≡ 0 → unlocked (d .part) p 0 ≡ true) where
     ready : Ready d p k
-    ready = record { base = u; high = high; unlocked = unlocked }
+    ready = record { base = u; high = high; unlock = unlock }
 
     counts : formula d w ys ≡ 2 * length w + 3 + (pick (risesIn w ys) (2 + d .erase) 0 + phases.costs d p k u w (g .wanted) some xs (g .sized) (length w) 0 (baseOf w ys))
     counts = rw (phases.costs-are d p k u w (g .wanted) some xs (g .sized) (length w) 0 (baseOf w ys)) (go (risesIn w ys))

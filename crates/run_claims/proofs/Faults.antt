@@ -8,6 +8,7 @@ use lib.ListN.{length, getD, replicate}
 use lib.Dec.{eqb, ltb}
 use lib.Bits.{bitOr}
 use borrow.Author.Tests.{lt-ltb, le-ltb}
+use Rattle.chip.specs.Cells.{ones}
 use Rattle.cells.specs.Pick.{pick, pick-true, pick-false}
 use Rattle.cells.specs.Lists.{overlaid}
 use Rattle.device.specs.declared.Device.{Device}
@@ -78,7 +79,7 @@ module _ (d : Device) (p : Pins) (k : ℕ) (u : Up d p) (w : List ℕ) (lw : len
   unfolding erasedWell
   erase-keeps x n sc e z = rw (e, z) (go (isReady x))
     where
-      go : (t : Bool) → pick (t && false) (replicate (length sc) 255) sc ≡ sc
+      go : (t : Bool) → pick (t && false) (replicate (length sc) ones) sc ≡ sc
       go true = refl
       go false = refl
 

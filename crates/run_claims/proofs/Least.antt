@@ -8,11 +8,11 @@ use native.Mathlib.Nat.{mod-eq-of-lt}
 use native.Mathlib.Omega.{arith}
 use lib.ListN.{length, getD, drop, replicate, getD-replicate}
 use lib.Seq.{getD-take, getD-drop}
-use lib.Bits.{bitAnd, and-mask}
+use lib.Bits.{bitAnd, and-comm}
 use lib.Dec.{eqb}
 use borrow.Author.Tests.{eqb-true, eqb-false, eq-eqb, not-false}
+use Rattle.chip.specs.Cells.{ones, Cells, and-ones}
 use Rattle.cells.specs.Pick.{pick, pick-true, pick-false, or-both, or-left, or-right, unlike}
-use Rattle.cells.specs.Bytes.{Bytes}
 use Rattle.device.specs.declared.Device.{Device}
 use Rattle.device.specs.Parts.{sizeOf, startOf, lengthOf, blockOf}
 use Rattle.device.proofs.Claims.{blocks-end-inside}
@@ -74,7 +74,7 @@ nothing-pending f z d v u = ap f (free (v .state .phase) u) ∙ z
     free Erasing e = absurd (unlike e)
     free Suspended e = absurd (unlike e)
 
-module _ (d : Device) (k : ℕ) (v : World) (w : List ℕ) (bs : List Bus) (lx : length (v .bytes) ≡ sizeOf (d .part)) (lw : length w ≡ lengthOf (d .part) k) (bx : Bytes (v .bytes))
+module _ (d : Device) (k : ℕ) (v : World) (w : List ℕ) (bs : List Bus) (lx : length (v .bytes) ≡ sizeOf (d .part)) (lw : length w ≡ lengthOf (d .part) k) (bx : Cells (v .bytes))
     (free : underWay (v .state .phase) ≡ false) (clean : uncut (effectsIn d v bs) ≡ true)
     (reached : heldIn (startOf (d .part) k) (length w) (worldAfter d v bs .bytes) ≡ w) where
   abbrev a : ℕ
@@ -119,9 +119,9 @@ module _ (d : Device) (k : ℕ) (v : World) (w : List ℕ) (bs : List Bus) (lx :
           some (suc n) z false = omega arith
 
   -- a byte that no program touched is as held, or all ones
-  rests : (i : ℕ) → i < length w → total (programAt (a + i)) es ≡ 0 → getD w i 0 ≡ pick (eqb (total (eraseOf k) es) 0) (getD ys i 0) 255
+  rests : (i : ℕ) → i < length w → total (programAt (a + i)) es ≡ 0 → getD w i 0 ≡ pick (eqb (total (eraseOf k) es) 0) (getD ys i 0) ones
   rests i h z =
-      came i h ∙ unprogrammed es (d .part) (a + i) (getD ys i 0) z ∙ ap (λ (j : ℕ). pick (eqb (total (eraseOf j) es) 0) (getD ys i 0) 255) (home i h)
+      came i h ∙ unprogrammed es (d .part) (a + i) (getD ys i 0) z ∙ ap (λ (j : ℕ). pick (eqb (total (eraseOf j) es) 0) (getD ys i 0) ones) (home i h)
 
   -- a place where the base of the programs differs is programmed
   programmed : (i : ℕ) → i < length w → (getD (baseOf w ys) i 0 ≡ getD w i 0 → ⊥) → 0 < total (programAt (a + i)) es
@@ -134,19 +134,19 @@ module _ (d : Device) (k : ℕ) (v : World) (w : List ℕ) (bs : List Bus) (lx :
 
       clash : total (programAt (a + i)) es ≡ 0 → (b : Bool) → eqb (total (eraseOf k) es) 0 ≡ b → (t : Bool) → rises (length w) 0 w ys ≡ t → getD (baseOf w ys) i 0 ≡ getD w i 0
       clash z true e true t = absurd (let q = none-rises (length w) 0 w ys (λ j p r. loses (eqb-true _ _ e) j (omega arith)) in unlike (sym t ∙ q))
-      clash z true e false t = ap (λ (y : List ℕ). getD y i 0) (pick-false (rises (length w) 0 w ys) (replicate (length w) 255) ys t) ∙ sym (rests i h z ∙ pick-true (eqb (total (eraseOf k) es) 0) (getD ys i 0) 255 e)
+      clash z true e false t = ap (λ (y : List ℕ). getD y i 0) (pick-false (rises (length w) 0 w ys) (replicate (length w) ones) ys t) ∙ sym (rests i h z ∙ pick-true (eqb (total (eraseOf k) es) 0) (getD ys i 0) ones e)
       clash z false e true t =
-          ap (λ (y : List ℕ). getD y i 0) (pick-true (rises (length w) 0 w ys) (replicate (length w) 255) ys t) ∙ getD-replicate (length w) i 255 0 h
-          ∙ sym (rests i h z ∙ pick-false (eqb (total (eraseOf k) es) 0) (getD ys i 0) 255 e)
+          ap (λ (y : List ℕ). getD y i 0) (pick-true (rises (length w) 0 w ys) (replicate (length w) ones) ys t) ∙ getD-replicate (length w) i ones 0 h
+          ∙ sym (rests i h z ∙ pick-false (eqb (total (eraseOf k) es) 0) (getD ys i 0) ones e)
       clash z false e false t =
-          let f : getD w i 0 ≡ 255 = rests i h z ∙ pick-false (eqb (total (eraseOf k) es) 0) (getD ys i 0) 255 e in
+          let f : getD w i 0 ≡ ones = rests i h z ∙ pick-false (eqb (total (eraseOf k) es) 0) (getD ys i 0) ones e in
           let m : mustRise (getD ys i 0) (getD w i 0) ≡ false = some-rises (length w) 0 w ys i (omega arith) (omega arith) t in
           let c : bitAnd (getD ys i 0) (getD w i 0) ≡ getD w i 0 = eqb-true _ _ (not-false (eqb (bitAnd (getD ys i 0) (getD w i 0)) (getD w i 0)) m) in
-          let y : bitAnd (getD ys i 0) 255 ≡ getD ys i 0 = and-mask (getD ys i 0) 8 ∙ mod-eq-of-lt (small i h) in
-          ap (λ (u : List ℕ). getD u i 0) (pick-false (rises (length w) 0 w ys) (replicate (length w) 255) ys t) ∙ sym y ∙ ap (λ (x : ℕ). bitAnd (getD ys i 0) x) (sym f) ∙ c
+          let y : bitAnd (getD ys i 0) ones ≡ getD ys i 0 = and-comm (getD ys i 0) ones ∙ and-ones (getD ys i 0) (small i h) in
+          ap (λ (u : List ℕ). getD u i 0) (pick-false (rises (length w) 0 w ys) (replicate (length w) ones) ys t) ∙ sym y ∙ ap (λ (x : ℕ). bitAnd (getD ys i 0) x) (sym f) ∙ c
         where
-          small : (i : ℕ) → i < length w → getD ys i 0 < 256
-          small i h = subst (λ (x : ℕ). x < 256) (sym (held (v .bytes) i h)) (bx (a + i))
+          small : (i : ℕ) → i < length w → getD ys i 0 ≤ ones
+          small i h = subst (λ (x : ℕ). x ≤ ones) (sym (held (v .bytes) i h)) (bx (a + i))
 
   -- both bounds at once, on what the cycles begin
   pub least : (erasesOf w ys ≤ total (eraseOf k) (begunOver d v bs)) × (programsIn w ys ≤ total (programIn a (length w)) (begunOver d v bs))

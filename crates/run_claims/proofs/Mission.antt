@@ -10,9 +10,10 @@ use lib.ListN.{length, getD, take, drop}
 use lib.Seq.{take-at, drop-at, length-take-le}
 use lib.Dec.{eqb}
 use borrow.Author.Tests.{eq-eqb, le-ltb, lt-ltb}
+use Rattle.chip.specs.Cells.{ones, Cells, and-ones}
 use Rattle.cells.specs.Pick.{pick}
 use Rattle.cells.specs.Lists.{overlaid}
-use Rattle.cells.specs.Bytes.{Bytes, overlaid-before, overlaid-after}
+use Rattle.cells.specs.Bytes.{overlaid-before, overlaid-after}
 use Rattle.device.specs.declared.Device.{Device}
 use Rattle.device.specs.Parts.{startOf}
 use Rattle.device.proofs.Claims.{blocks-end-inside}
@@ -107,7 +108,7 @@ module _ (d : Device) (s : State) (p : Pins) (k : ℕ) (xs w sc : List ℕ) (sta
 
   -- how the load is left
   loaded : Left d s p k xs w sc (goal d s p k xs w sc (start .base)) (operationsOf k a w ys) (cyclesOf d p a w ys)
-  loaded = good-load d s p k xs w sc (start .base) (not-low d p (start .high)) (start .unlocked)
+  loaded = good-load d s p k xs w sc (start .base) (not-low d p (start .high)) (start .unlock)
 
   -- a load ends well, with the count of the formula, in mode read array with status 80H
   pub ends-well : ranOf d s p k xs w sc ≡ record { count = formula d w ys; end = 0; address = 0; state = atRest Array 128 }
@@ -153,7 +154,7 @@ module _ (d : Device) (s : State) (p : Pins) (k : ℕ) (xs w sc : List ℕ) (sta
   none-refused = loaded .smooth
 
   -- no uncut cycles from the same start to the same block contents begin fewer erases of the block or fewer programs in it
-  pub nothing-less : (bs : List Bus) → Bytes xs → uncut (effectsIn d (record { state = s; bytes = xs }) bs) ≡ true
+  pub nothing-less : (bs : List Bus) → Cells xs → uncut (effectsIn d (record { state = s; bytes = xs }) bs) ≡ true
       → heldIn a (length w) (worldAfter d (record { state = s; bytes = xs }) bs .bytes) ≡ w
       → (total (eraseOf k) load ≤ total (eraseOf k) (begunOver d (record { state = s; bytes = xs }) bs))
       × (total (programIn a (length w)) load ≤ total (programIn a (length w)) (begunOver d (record { state = s; bytes = xs }) bs))

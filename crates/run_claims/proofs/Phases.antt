@@ -9,10 +9,11 @@ use lib.ListN.{length, getD, take, set, replicate, length-replicate, getD-replic
 use lib.Dec.{eqb, ltb, leb}
 use lib.Bits.{bitAnd, and-mask, and-comm}
 use borrow.Author.Tests.{lt-ltb, le-ltb, eq-eqb, eqb-true, lt-leb, not-false}
+use Rattle.chip.specs.Cells.{ones, Cells, and-ones}
 use Rattle.cells.specs.Pick.{pick, pick-true, pick-false, and-right, or-left, or-right, unlike}
 use Rattle.model.proofs.Status.{fits, all-below}
 use Rattle.cells.specs.Lists.{overlaid, laid, laid-more, laid-all}
-use Rattle.cells.specs.Bytes.{Bytes, overlaid-in, overlaid-length}
+use Rattle.cells.specs.Bytes.{overlaid-in, overlaid-length}
 use Rattle.device.specs.declared.Device.{Device}
 use Rattle.device.specs.Parts.{sizeOf, lengthOf, startOf, blockOf}
 use Rattle.device.proofs.Claims.{blocks-end-inside, blocks-apart}
@@ -62,10 +63,6 @@ cleared x f =
     imply : (x y : Bool) → (not x || y) ≡ true → x ≡ true → y ≡ true
     imply true y h k = h
     imply false y h k = absurd (unlike (sym k))
-
--- all ones keep any byte
-all-ones : (v : ℕ) → v < 256 → bitAnd 255 v ≡ v
-all-ones v h = and-comm 255 v ∙ and-mask v 8 ∙ mod-eq-of-lt h
 
 -- where no bit must rise, every byte held keeps the bits wanted
 no-rise : (n i : ℕ) (w s : List ℕ) → rises n i w s ≡ false → (j : ℕ) → j < n → mustRise (getD s (i + j) 0) (getD w (i + j) 0) ≡ false
@@ -376,11 +373,11 @@ module _ (d : Device) (p : Pins) (k : ℕ) (u : Up d p) (w : List ℕ) (lw : len
 
     -- the block all ones
     abbrev blank : List ℕ
-    blank = replicate (length w) 255
+    blank = replicate (length w) ones
 
     erased-blank : (X : List ℕ) (j : ℕ) → j ≡ k → erased (d .part) j X ≡ overlaid X a blank
     unfolding erased
-    erased-blank X j e = ap (λ (i : ℕ). overlaid X (startOf (d .part) i) (replicate (lengthOf (d .part) i) 255)) e ∙ ap (λ (n : ℕ). overlaid X a (replicate n 255)) (sym lw)
+    erased-blank X j e = ap (λ (i : ℕ). overlaid X (startOf (d .part) i) (replicate (lengthOf (d .part) i) ones)) e ∙ ap (λ (n : ℕ). overlaid X a (replicate n ones)) (sym lw)
 
     erase-poll : (q : ℕ) (sc : List ℕ) → nextOf (rec EraseWaiting 0 q) 0 w sc ≡ pollMore (rec EraseWaiting 0 q) EraseWaiting
     unfolding erasePolled
@@ -392,7 +389,7 @@ module _ (d : Device) (p : Pins) (k : ℕ) (u : Up d p) (w : List ℕ) (lw : len
 
     erase-fills : (q : ℕ) (sc : List ℕ) → length sc ≡ length w → storeOf (rec EraseWaiting 0 q) 128 sc ≡ blank
     unfolding erasedWell eraseFault bothErrors
-    erase-fills q sc e = ap (λ (n : ℕ). replicate n 255) e
+    erase-fills q sc e = ap (λ (n : ℕ). replicate n ones) e
 
     erased-on : (q : ℕ) (sc : List ℕ) → nextOf (rec EraseWaiting 0 q) 128 w sc ≡ onto 0 sc
     unfolding erasePolled eraseFault bothErrors
@@ -415,7 +412,7 @@ module _ (d : Device) (p : Pins) (k : ℕ) (u : Up d p) (w : List ℕ) (lw : len
         (d .erase) (cnt + 1 + 1) e es cs z b (omega arith)
         (λ q cnt′ t. prepend d w _ _ e Nothing (cyc p Read a 0) es cs
         (turned d w (rec EraseWaiting 0 q) (st Status 0 Erasing 1 a) X sc cnt′ refl lX (cyc p Read a 0) (Gives 128) (atRest Status 128) (Erase (blockOf (d .part) a)) (told3 q)
-        ∙ (λ x. conf ((ap (λ (y : List ℕ). nextOf (rec EraseWaiting 0 q) 128 w y) (erase-fills q sc ls) ∙ erased-on q blank) x) (atRest Status 128) (ones x) (erase-fills q sc ls x) (cnt′ + 1)))
+        ∙ (λ x. conf ((ap (λ (y : List ℕ). nextOf (rec EraseWaiting 0 q) 128 w y) (erase-fills q sc ls) ∙ erased-on q blank) x) (atRest Status 128) (all-erased x) (erase-fills q sc ls x) (cnt′ + 1)))
         (does d w (rec EraseWaiting 0 q) (st Status 0 Erasing 1 a) X sc cnt′ refl lX (cyc p Read a 0) (Gives 128) (atRest Status 128) (Erase (blockOf (d .part) a)) (told3 q))
         (rest (cnt′ + 1) (omega arith)))))
       where
@@ -437,8 +434,8 @@ module _ (d : Device) (p : Pins) (k : ℕ) (u : Up d p) (w : List ℕ) (lw : len
         told3 : (q : ℕ) → Told d w (rec EraseWaiting 0 q) (st Status 0 Erasing 1 a) (cyc p Read a 0) (Gives 128) (atRest Status 128) (Erase (blockOf (d .part) a))
         told3 q = told-first EraseWaiting 0 q Read 0 (st Status 0 Erasing 1 a) (Gives 128) (atRest Status 128) (Erase (blockOf (d .part) a)) refl (answers.ends d p u k r Erasing a a refl z a-inside a-inside) refl
 
-        ones : erased (d .part) (blockOf (d .part) a) X ≡ overlaid xs a blank
-        ones = erased-blank X (blockOf (d .part) a) block-first ∙ over-over xs a ys blank (a-within xs lx) (ly ∙ sym (length-replicate (length w) 255))
+        all-erased : erased (d .part) (blockOf (d .part) a) X ≡ overlaid xs a blank
+        all-erased = erased-blank X (blockOf (d .part) a) block-first ∙ over-over xs a ys blank (a-within xs lx) (ly ∙ sym (length-replicate (length w) ones))
 
     -- one more byte of the first reads
     read-next : (i : ℕ) (sc : List ℕ) → i + 1 < length w → readMore (rec Reading i 0) w sc ≡ rec Reading (i + 1) 0
@@ -511,7 +508,7 @@ module _ (d : Device) (p : Pins) (k : ℕ) (u : Up d p) (w : List ℕ) (lw : len
           told2 = told-first Opening 0 0 Write 0xFF (atRest m 128) Quiet (atRest Array 128) Nothing refl (answers.opens d p u m 128 a refl a-inside) refl
 
       -- the whole load, whether some bit must rise or none
-      pub loading : (r : Ready d p k) (m : Mode) (x c : ℕ) → fits 2 x ≡ true → Bytes w → 0 < d .program → d .program ≤ 65535 → 0 < d .erase → d .erase ≤ 65535
+      pub loading : (r : Ready d p k) (m : Mode) (x c : ℕ) → fits 2 x ≡ true → Cells w → 0 < d .program → d .program ≤ 65535 → 0 < d .erase → d .erase ≤ 65535
           → c ≡ 2 * length w + 3 + (pick (risesIn w ys) (2 + d .erase) 0 + costs (length w) 0 (baseOf w ys))
           → Reach d w (fore m x) (final (overlaid xs a w) c) (operationsOf k a w ys) (cyclesOf d p a w ys)
       loading r m x c f bw zp bp ze be q = opening m x f (final (overlaid xs a w) c) _ _ (go (risesIn w ys) refl)
@@ -526,10 +523,10 @@ module _ (d : Device) (p : Pins) (k : ℕ) (u : Up d p) (w : List ℕ) (lw : len
           go true t =
               rw t
               (erasing r Array (2 + length w) ys ys (final (overlaid xs a w) c) (programsOf (length w) a 0 w blank) (programsThen d p (length w) a 0 w blank last) ly ly ze be
-              (λ cnt′ y. walking r blank (length-replicate (length w) 255) (λ i h. full i h) zp bp (length w) 0 cnt′ c Status (omega arith) (let z = rw t at q in omega arith)))
+              (λ cnt′ y. walking r blank (length-replicate (length w) ones) (λ i h. full i h) zp bp (length w) 0 cnt′ c Status (omega arith) (let z = rw t at q in omega arith)))
             where
               full : (i : ℕ) → i < length w → bitAnd (getD blank i 0) (getD w i 0) ≡ getD w i 0
-              full i h = ap (λ (y : ℕ). bitAnd y (getD w i 0)) (getD-replicate (length w) i 255 0 h) ∙ all-ones (getD w i 0) (bw i)
+              full i h = ap (λ (y : ℕ). bitAnd y (getD w i 0)) (getD-replicate (length w) i ones 0 h) ∙ and-ones (getD w i 0) (bw i)
           go false t =
               rw t
               (walking r ys ly (λ i h. unrisen ys t i h) zp bp (length w) 0 (2 + length w) c Array (omega arith) (let z = rw t at q in omega arith))

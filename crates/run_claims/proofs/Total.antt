@@ -12,7 +12,7 @@ use Rattle.device.specs.Parts.{startOf}
 use Rattle.chip.specs.declared.Pins.{Pins}
 use Rattle.chip.specs.declared.Effect.{Effect}
 use Rattle.chip.specs.declared.State.{State}
-use Rattle.chip.specs.Levels.{vppLow}
+use Rattle.chip.specs.Levels.{vppLow, unlocked}
 use Rattle.loader.specs.declared.Stage.the-variants.{Clearing}
 use Rattle.stepper.specs.Front.{recordAt, endAddress}
 use Rattle.loader.specs.Walks.{risesIn, diffFrom}
@@ -70,7 +70,7 @@ module _ (d : Device) (s : State) (p : Pins) (k : ℕ) (xs w sc : List ℕ) (t :
   unfolding endNumber faultStatus shut eraseFault programFault bothErrors
   every-end = held (asWanted w ys) refl
     where
-      shut-block : vppLow (d .part) p ≡ false → eqb k 0 ≡ true → eqb (p .rp) 2 ≡ false → asWanted w ys ≡ false → (r : Bool) → risesIn w ys ≡ r → Whole d s p k xs w sc
+      shut-block : vppLow (d .part) p ≡ false → eqb k 0 ≡ true → unlocked (d .part) p 0 ≡ false → asWanted w ys ≡ false → (r : Bool) → risesIn w ys ≡ r → Whole d s p k xs w sc
       shut-block v z f o true r = fault 23 160 0 (simp (o, v, z, f, r)) refl refl (simp (v, r)) (erase-load d s p k xs w sc t 0 160 23 (locked-stuck d p k v z f) refl refl refl refl refl r)
       shut-block v z f o false r =
           fault 24 144 (diffFrom 0 w ys) (simp (o, v, z, f, r)) refl refl (simp (v, r)) (program-load d s p k xs w sc t 0 144 24 (locked-stuck d p k v z f) refl refl refl refl refl r o)
@@ -83,12 +83,12 @@ module _ (d : Device) (s : State) (p : Pins) (k : ℕ) (xs w sc : List ℕ) (t :
       other-block : vppLow (d .part) p ≡ false → asWanted w ys ≡ false → eqb k 0 ≡ false → Whole d s p k xs w sc
       other-block v o z = well _ (simp (o, v, z)) (good-load d s p k xs w sc t v (λ q. absurd (unlike (sym (eq-eqb k 0 q) ∙ z))))
 
-      boot-block : vppLow (d .part) p ≡ false → asWanted w ys ≡ false → eqb k 0 ≡ true → (f : Bool) → eqb (p .rp) 2 ≡ f → Whole d s p k xs w sc
-      boot-block v o z true f = well _ (simp (o, v, z, f)) (good-load d s p k xs w sc t v (λ q. eqb-true (p .rp) 2 f))
+      boot-block : vppLow (d .part) p ≡ false → asWanted w ys ≡ false → eqb k 0 ≡ true → (f : Bool) → unlocked (d .part) p 0 ≡ f → Whole d s p k xs w sc
+      boot-block v o z true f = well _ (simp (o, v, z, f)) (good-load d s p k xs w sc t v (λ q. f))
       boot-block v o z false f = shut-block v z f o (risesIn w ys) refl
 
       blocks : vppLow (d .part) p ≡ false → asWanted w ys ≡ false → (z : Bool) → eqb k 0 ≡ z → Whole d s p k xs w sc
-      blocks v o true z = boot-block v o z (eqb (p .rp) 2) refl
+      blocks v o true z = boot-block v o z (unlocked (d .part) p 0) refl
       blocks v o false z = other-block v o z
 
       supply : asWanted w ys ≡ false → (v : Bool) → vppLow (d .part) p ≡ v → Whole d s p k xs w sc
@@ -102,7 +102,7 @@ module _ (d : Device) (s : State) (p : Pins) (k : ℕ) (xs w sc : List ℕ) (t :
 -- the ends: 20, 22 and 25 are not among them
 pub only-ends : (d : Device) (p : Pins) (k : ℕ) (w ys : List ℕ) (P : ℕ → Type 0) → P 0 → P 21 → P 23 → P 24 → P (endNumber d p k w ys)
 unfolding endNumber
-only-ends d p k w ys P p0 p21 p23 p24 = go (asWanted w ys) (vppLow (d .part) p) (shut p k) (risesIn w ys)
+only-ends d p k w ys P p0 p21 p23 p24 = go (asWanted w ys) (vppLow (d .part) p) (shut (d .part) p k) (risesIn w ys)
   where
     go : (a b c e : Bool) → P (pick a 0 (pick b 21 (pick c (pick e 23 24) 0)))
     go true b c e = p0

@@ -4,6 +4,7 @@ use mathlib.Core.List.{List, [], _∷_}
 use Prim.Native.Nat.{ℕ, _+_}
 use lib.ListN.{length, getD}
 use lib.Dec.{eqb}
+use Rattle.device.specs.declared.Part.{Part}
 use Rattle.cells.specs.Pick.{pick}
 use Rattle.cells.specs.Lists.{overlaid}
 use Rattle.device.specs.declared.Device.{Device}
@@ -12,7 +13,7 @@ use Rattle.chip.specs.declared.Kind.the-variants.{Read, Write}
 use Rattle.chip.specs.declared.Cycle.{Cycle}
 use Rattle.chip.specs.declared.Mode.the-variants.{Array, Status}
 use Rattle.chip.specs.declared.State.{State}
-use Rattle.chip.specs.Levels.{vppLow}
+use Rattle.chip.specs.Levels.{vppLow, unlocked}
 use Rattle.chip.specs.States.{atRest}
 use Rattle.loader.specs.Walks.{risesIn, diffFrom}
 use Rattle.run.specs.declared.Ran.{Ran}
@@ -24,12 +25,12 @@ unfoldable pub asWanted : List ℕ → List ℕ → Bool
 asWanted w ys = eqb (differing (length w) 0 w ys) 0
 
 -- the boot block, and RP# not at unlock level
-unfoldable pub shut : Pins → ℕ → Bool
-shut p k = eqb k 0 && not (eqb (p .rp) 2)
+unfoldable pub shut : Part → Pins → ℕ → Bool
+shut part p k = eqb k 0 && not (unlocked part p 0)
 
 -- the end's number: well with nothing to do; else 21 with VPP low; else 23 or 24 where the block is shut; else well
 unfoldable pub endNumber : Device → Pins → ℕ → List ℕ → List ℕ → ℕ
-endNumber d p k w ys = pick (asWanted w ys) 0 (pick (vppLow (d .part) p) 21 (pick (shut p k) (pick (risesIn w ys) 23 24) 0))
+endNumber d p k w ys = pick (asWanted w ys) 0 (pick (vppLow (d .part) p) 21 (pick (shut (d .part) p k) (pick (risesIn w ys) 23 24) 0))
 
 -- the status that the first operation leaves which cannot start: SR.7 with SR.5 or SR.4, and SR.3 where VPP is low
 unfoldable pub faultStatus : Device → Pins → List ℕ → List ℕ → ℕ

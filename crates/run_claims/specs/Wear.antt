@@ -4,6 +4,7 @@ use mathlib.Core.List.{List, [], _∷_}
 use Prim.Native.Nat.{ℕ, zero, suc, _+_, _*_}
 use lib.ListN.{length, getD, take, drop, replicate}
 use lib.Dec.{eqb}
+use Rattle.chip.specs.Cells.{ones}
 use Rattle.cells.specs.Pick.{pick}
 use Rattle.device.specs.declared.Device.{Device}
 use Rattle.chip.specs.declared.Effect.{Effect}
@@ -46,7 +47,7 @@ heldIn a n xs = take n (drop a xs)
 
 -- what the programs of a load start from: all ones if some bit must rise, else what was held
 abbrev pub baseOf : List ℕ → List ℕ → List ℕ
-baseOf w ys = pick (risesIn w ys) (replicate (length w) 255) ys
+baseOf w ys = pick (risesIn w ys) (replicate (length w) ones) ys
 
 -- erases and programs that a load begins
 abbrev pub erasesOf : List ℕ → List ℕ → ℕ

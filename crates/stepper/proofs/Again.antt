@@ -8,6 +8,7 @@ use native.Mathlib.Omega.{arith}
 use lib.ListN.{length, getD, length-set, length-replicate}
 use lib.Dec.{eqb, ltb, leb}
 use borrow.Author.Tests.{ltb-true, ltb-false, leb-false, eqb-true, eqb-false, eq-eqb, ne-eqb, le-ltb, lt-leb, not-false}
+use Rattle.chip.specs.Cells.{ones}
 use Rattle.cells.specs.Pick.{pick, pick-ind, pick-true, pick-false, or-left, or-right, and-rest, unlike, and-none}
 use Rattle.cells.specs.Numbers.{Foremost, NoRow, end, past, given, given-foremost, foremost-given, given-no-row, no-row-given, no-head, no-tail}
 use Rattle.device.specs.declared.Part.{Part}
@@ -232,7 +233,7 @@ store-length Reading place b sc = length-set sc place b
 store-length EraseAsking place b sc = refl
 store-length EraseConfirming place b sc = refl
 store-length EraseWaiting place b sc =
-    pick-ind (λ (xs : List ℕ). length xs ≡ length sc) (erasedWell b) _ _ (λ e. length-replicate (length sc) 255) (λ e. refl)
+    pick-ind (λ (xs : List ℕ). length xs ≡ length sc) (erasedWell b) _ _ (λ e. length-replicate (length sc) ones) (λ e. refl)
 store-length ProgramAsking place b sc = refl
 store-length ProgramSending place b sc = refl
 store-length ProgramWaiting place b sc = refl

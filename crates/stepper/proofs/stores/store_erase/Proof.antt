@@ -1,5 +1,6 @@
 use borrow.Author.Needs.{needs}
 use mathlib.Core.Path.{sym, _∙_}
+use Rattle.chip.specs.Cells.{ones}
 use Rattle.stepper.proofs.stores.store_erase.Statement.{statement}
 use Rattle.stepper.proofs.stores.store_erase.Tie as tie
 
@@ -13,6 +14,7 @@ same-length : tie.Need-same-length
 same-length c = search needs
 
 returns : tie.Need-returns
+unfolding ones
 returns c = simp (c .before .before .fill .ensures, sym (c .before .before .before .before .before .erased-well .ensures) ∙ c .before .before .before .before .if1 .taken)
 
 returns-2 : tie.Need-returns-2
