@@ -3,7 +3,8 @@ use mathlib.Core.Path.{_≡_}
 use mathlib.Core.List.{List}
 use mathlib.Core.Bool.{Bool}
 use Prim.Native.Nat.{ℕ, _<_}
-use Rattle.cells.specs.Pick.{Unique, only}
+use Rattle.cells.specs.Choice.{Unique}
+use Rattle.cells.proofs.Choice.{only}
 use Rattle.blocks.specs.Block.{isLetter, usedOf, faultOf}
 
 pub is-letter-unique : (x : ℕ) → Unique (λ (r : Bool). r ≡ isLetter x)

@@ -5,7 +5,7 @@ use mathlib.Core.Bool.{Bool, true, false, not}
 use Prim.Native.Nat.{ℕ, _+_, _-_, _<_}
 use native.Mathlib.Omega.{arith}
 use lib.ListN.{take, drop}
-use Rattle.cells.specs.Pick.{pick-true, pick-false}
+use Rattle.cells.proofs.Choice.{if-true, if-false}
 use Rattle.cells.specs.Numbers.{given}
 use Rattle.seal.specs.Check.{checkWrong, checkFault}
 use Rattle.blocks.specs.Block.{allAre, usedOf, paddingWrong, blockRows}
@@ -26,12 +26,12 @@ pub check-first : (first i n : ℕ) (b : List ℕ) (r : ℕ) → r ≡ checkFaul
 check-first first i n b r e z = go (checkWrong b) refl
   where
     go : (t : Bool) → checkWrong b ≡ t → r ≡ given (blockRows first i n b [])
-    go true q = e ∙ pick-true (checkWrong b) 31 0 q ∙ sym (pick-true (checkWrong b) 31 _ q)
-    go false q = absurd (z (e ∙ pick-false (checkWrong b) 31 0 q))
+    go true q = e ∙ if-true (checkWrong b) 31 0 q ∙ sym (if-true (checkWrong b) 31 _ q)
+    go false q = absurd (z (e ∙ if-false (checkWrong b) 31 0 q))
 
 pub check-passed : (b : List ℕ) (r : ℕ) → r ≡ checkFault b → r ≡ 0 → checkWrong b ≡ false
 check-passed b r e z = go (checkWrong b) refl
   where
     go : (t : Bool) → checkWrong b ≡ t → checkWrong b ≡ false
-    go true q = absurd (let w : _≡_ {A = ℕ} 31 0 = sym (pick-true (checkWrong b) 31 0 q) ∙ sym e ∙ z in omega arith)
+    go true q = absurd (let w : _≡_ {A = ℕ} 31 0 = sym (if-true (checkWrong b) 31 0 q) ∙ sym e ∙ z in omega arith)
     go false q = q

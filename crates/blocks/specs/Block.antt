@@ -4,7 +4,7 @@ use mathlib.Core.Bool.{Bool, true, false, not, _||_, _&&_}
 use Prim.Native.Nat.{ℕ, _+_, _-_}
 use lib.ListN.{getD, take, drop, length}
 use lib.Dec.{eqb, ltb}
-use Rattle.cells.specs.Pick.{pick}
+use Rattle.cells.specs.Choice.{if_then_else_}
 use Rattle.cells.specs.Numbers.{Row, row, given}
 use Rattle.seal.specs.Check.{checkWrong, pair}
 
@@ -15,7 +15,7 @@ letters = 66 ∷ 69 ∷ 74 ∷ 75 ∷ 78 ∷ 82 ∷ 83 ∷ 84 ∷ []
 -- x stands in the list
 abbrev pub within : ℕ → List ℕ → Bool
 within x [] = false
-within x (y ∷ ys) = pick (eqb x y) true (within x ys)
+within x (y ∷ ys) = if eqb x y then true else within x ys
 
 -- x is one of the eight letters
 unfoldable pub isLetter : ℕ → Bool
@@ -24,7 +24,7 @@ isLetter x = within x letters
 -- every number of the list is b
 abbrev pub allAre : ℕ → List ℕ → Bool
 allAre b [] = true
-allAre b (x ∷ xs) = pick (eqb x b) (allAre b xs) false
+allAre b (x ∷ xs) = if eqb x b then allAre b xs else false
 
 -- the bytes used, as a block tells them in bytes 3 and 4
 abbrev pub usedOf : List ℕ → ℕ
@@ -44,7 +44,7 @@ placeWrong i n b = not (eqb (getD b 1 0) i) || not (eqb (getD b 2 0) n)
 
 -- 34, the used count: the last block uses 1 to 505, every other exactly 505
 unfoldable pub usedWrong : ℕ → ℕ → List ℕ → Bool
-usedWrong i n b = pick (eqb (i + 1) n) (eqb (usedOf b) 0 || ltb 505 (usedOf b)) (not (eqb (usedOf b) 505))
+usedWrong i n b = if eqb (i + 1) n then eqb (usedOf b) 0 || ltb 505 (usedOf b) else not (eqb (usedOf b) 505)
 
 -- 34, the padding: some byte from the used ones up to byte 509 is not FFH
 unfoldable pub paddingWrong : List ℕ → Bool
@@ -61,4 +61,4 @@ blockRows first i n b after =
 
 -- the first refusal of a block as block i of n; what is no block at all has no right check
 unfoldable pub faultOf : ℕ → ℕ → ℕ → List ℕ → ℕ
-faultOf first i n b = pick (eqb (length b) 512 && ltb i n) (given (blockRows first i n b [])) 31
+faultOf first i n b = if eqb (length b) 512 && ltb i n then given (blockRows first i n b []) else 31

@@ -4,7 +4,8 @@ use mathlib.Core.Bool.{Bool, true, false, _&&_}
 use Prim.Native.Nat.{ℕ}
 use native.Mathlib.Omega.{arith}
 use lib.Dec.{eqb, ltb}
-use Rattle.cells.specs.Pick.{pick, pick-true, pick-false, and-none}
+use Rattle.cells.specs.Choice.{if_then_else_}
+use Rattle.cells.proofs.Choice.{if-true, if-false, and-none}
 use Rattle.device.specs.declared.Device.{Device}
 use Rattle.device.specs.Parts.{blockOf}
 use Rattle.chip.specs.declared.Kind.{Kind}
@@ -30,11 +31,11 @@ and-all false = refl
 
 -- the late number of each kind of cycle, with RP# up
 module _ (d : Device) (c : Cycle) (u : State) where
-  number-write : c .kind ≡ Write → rpLow (c .pins) ≡ false → lateOf (d .part) u c ≡ pick (isRefuse (actionOf (u .phase) (c .byte))) 7 0
+  number-write : c .kind ≡ Write → rpLow (c .pins) ≡ false → lateOf (d .part) u c ≡ (if isRefuse (actionOf (u .phase) (c .byte)) then 7 else 0)
   unfolding lateOf noCommand suspendedRead noIdentifier
   number-write k r = simp (k, r) (go (isRefuse (actionOf (u .phase) (c .byte))))
     where
-      go : (x : Bool) → _≡_ {A = ℕ} (pick (x && true) 7 0) (pick x 7 0)
+      go : (x : Bool) → _≡_ {A = ℕ} (if x && true then 7 else 0) (if x then 7 else 0)
       go true = refl
       go false = refl
 
@@ -42,11 +43,11 @@ module _ (d : Device) (c : Cycle) (u : State) where
   unfolding lateOf noCommand suspendedRead noIdentifier
   number-idle k = simp k
 
-  number-array : c .kind ≡ Read → rpLow (c .pins) ≡ false → u .mode ≡ Array → lateOf (d .part) u c ≡ pick (inSuspended (d .part) u (c .address)) 8 0
+  number-array : c .kind ≡ Read → rpLow (c .pins) ≡ false → u .mode ≡ Array → lateOf (d .part) u c ≡ (if inSuspended (d .part) u (c .address) then 8 else 0)
   unfolding lateOf noCommand suspendedRead noIdentifier inSuspended
   number-array k r m = simp (k, r, m) (go (isSuspended (u .phase)) (eqb (blockOf (d .part) (c .address)) (blockOf (d .part) (u .address))))
     where
-      go : (x y : Bool) → _≡_ {A = ℕ} (pick (((x && true) && y) && true) 8 0) (pick (pick x y false) 8 0)
+      go : (x y : Bool) → _≡_ {A = ℕ} (if ((x && true) && y) && true then 8 else 0) (if (if x then y else false) then 8 else 0)
       go true true = refl
       go true false = refl
       go false y = refl
@@ -55,15 +56,15 @@ module _ (d : Device) (c : Cycle) (u : State) where
   unfolding lateOf noCommand suspendedRead noIdentifier
   number-status k r m = simp (k, r, m) (go (isSuspended (u .phase)))
     where
-      go : (x : Bool) → _≡_ {A = ℕ} (pick (((x && false) && eqb (blockOf (d .part) (c .address)) (blockOf (d .part) (u .address))) && true) 8 0) 0
+      go : (x : Bool) → _≡_ {A = ℕ} (if ((x && false) && eqb (blockOf (d .part) (c .address)) (blockOf (d .part) (u .address))) && true then 8 else 0) 0
       go true = refl
       go false = refl
 
-  number-identifier : c .kind ≡ Read → rpLow (c .pins) ≡ false → u .mode ≡ Identifier → lateOf (d .part) u c ≡ pick (ltb 1 (c .address)) 9 0
+  number-identifier : c .kind ≡ Read → rpLow (c .pins) ≡ false → u .mode ≡ Identifier → lateOf (d .part) u c ≡ (if ltb 1 (c .address) then 9 else 0)
   unfolding lateOf noCommand suspendedRead noIdentifier
   number-identifier k r m = simp (k, r, m) (go (isSuspended (u .phase)) (ltb 1 (c .address)))
     where
-      go : (x y : Bool) → _≡_ {A = ℕ} (pick (((x && false) && eqb (blockOf (d .part) (c .address)) (blockOf (d .part) (u .address))) && true) 8 (pick (y && true) 9 0)) (pick y 9 0)
+      go : (x y : Bool) → _≡_ {A = ℕ} (if ((x && false) && eqb (blockOf (d .part) (c .address)) (blockOf (d .part) (u .address))) && true then 8 else if y && true then 9 else 0) (if y then 9 else 0)
       go true true = refl
       go true false = refl
       go false true = refl
@@ -85,14 +86,14 @@ module _ (d : Device) (s : State) (c : Cycle) (array residue : ℕ) (z : judgeOf
         and-none (((isRead (c .kind) && isSuspended (t .state .phase)) && isArray (t .state .mode)) && eqb (blockOf (d .part) (c .address)) (blockOf (d .part) (t .state .address))),
         and-none ((isRead (c .kind) && isIdentifier (t .state .mode)) && ltb 1 (c .address)),
       )))
-      ∙ pick-true (rpLow (c .pins)) _ _ r
+      ∙ if-true (rpLow (c .pins)) _ _ r
 
   -- one late number, by one test: refused by it, or answered
-  by-one : (n : ℕ) (x : Decision) (b : Bool) → lateOf (d .part) (t .state) c ≡ pick b n 0 → (n ≡ 0 → ⊥) → rpLow (c .pins) ≡ false → respondOf (c .kind) d c t ≡ x
-      → decideOf d s c array residue ≡ pick b (refusedBy n s) x
+  by-one : (n : ℕ) (x : Decision) (b : Bool) → lateOf (d .part) (t .state) c ≡ (if b then n else 0) → (n ≡ 0 → ⊥) → rpLow (c .pins) ≡ false → respondOf (c .kind) d c t ≡ x
+      → decideOf d s c array residue ≡ (if b then refusedBy n s else x)
   unfolding acceptOf
   by-one n x true e nz r q = refused d s c array residue n (number-late d s c array residue n z e) nz
-  by-one n x false e nz r q = accepted d s c array residue (number-late d s c array residue 0 z e) ∙ pick-false (rpLow (c .pins)) _ _ r ∙ q
+  by-one n x false e nz r q = accepted d s c array residue (number-late d s c array residue 0 z e) ∙ if-false (rpLow (c .pins)) _ _ r ∙ q
 
   module _ (r : rpLow (c .pins) ≡ false) where
     -- a write
@@ -100,7 +101,7 @@ module _ (d : Device) (s : State) (c : Cycle) (array residue : ℕ) (z : judgeOf
     unfolding writeArm
     by-write k = by-one 7 _ (isRefuse (actionOf (t .state .phase) (c .byte))) late (λ q. omega arith) r (ap (λ (x : Kind). respondOf x d c t) k)
       where
-        late : lateOf (d .part) (t .state) c ≡ pick (isRefuse (actionOf (t .state .phase) (c .byte))) 7 0
+        late : lateOf (d .part) (t .state) c ≡ (if isRefuse (actionOf (t .state .phase) (c .byte)) then 7 else 0)
         late = number-write d c (t .state) k r
 
     by-idle : c .kind ≡ Idle → decideOf d s c array residue ≡ arm Idle d s c t

@@ -4,8 +4,8 @@ use mathlib.Core.Bool.{false, _||_}
 use Prim.Native.Nat.{ℕ}
 use lib.Dec.{eqb}
 use borrow.Author.Tests.{eqb-true, not-false}
-use Rattle.cells.specs.Pick.{or-left, or-right}
-use Rattle.cells.specs.Numbers.{given-no-row, no-head, no-tail}
+use Rattle.cells.proofs.Choice.{or-left, or-right}
+use Rattle.cells.proofs.Numbers.{given-no-row, no-head, no-tail}
 use Rattle.device.specs.declared.Device.{Device}
 use Rattle.device.specs.Parts.{unknownDevice, sizeOf}
 use Rattle.chip.specs.declared.State.{State}

@@ -2,7 +2,7 @@
 use mathlib.Core.Path.{_≡_, refl, sym, ap, _∙_}
 use mathlib.Core.Bool.{Bool, true, false, not, _&&_}
 use Prim.Native.Nat.{ℕ}
-use Rattle.cells.specs.Pick.{pick-true, pick-false, and-left, and-right, unlike, and-none}
+use Rattle.cells.proofs.Choice.{if-true, if-false, and-left, and-right, unlike, and-none}
 use Rattle.device.specs.declared.Device.{Device}
 use Rattle.chip.specs.declared.Kind.{Kind}
 use Rattle.chip.specs.declared.Kind.the-variants.{Read, Write, Idle}
@@ -29,8 +29,8 @@ unfolding passOf
 passes d s c array residue z = go (rpLow (c .pins)) refl
   where
     go : (b : Bool) → rpLow (c .pins) ≡ b → decideOf d s c array residue ≡ passOf d s c
-    go true r = by-reset d s c array residue z r ∙ sym (pick-true (rpLow (c .pins)) _ _ r)
-    go false r = by-arms d s c array residue z r ∙ sym (pick-false (rpLow (c .pins)) _ _ r)
+    go true r = by-reset d s c array residue z r ∙ sym (if-true (rpLow (c .pins)) _ _ r)
+    go false r = by-arms d s c array residue z r ∙ sym (if-false (rpLow (c .pins)) _ _ r)
 
 -- one of them: it is refused by that number
 pub stops : (d : Device) (s : State) (c : Cycle) (array residue : ℕ) → (judgeOf d s c array residue ≡ 0 → ⊥)
@@ -92,6 +92,6 @@ module _ (d : Device) (s : State) (c : Cycle) (asks : asksArray s c ≡ true) wh
   pub shows : passOf d s c ≡ decidedAs (GivesArray (c .address)) s Nothing
   unfolding passOf arrayArm inSuspended
   shows =
-      pick-false (rpLow (c .pins)) _ _ up
+      if-false (rpLow (c .pins)) _ _ up
       ∙ ap (λ (k : Kind). arm k d s c (settleOf (d .part) s (c .pins))) kind ∙ ap (λ (t : Settled). arm Read d s c t) settled
       ∙ simp (mode, free)

@@ -3,7 +3,7 @@
 use mathlib.Core.Bool.{Bool, true, false, not, _&&_}
 use Prim.Native.Nat.{ℕ}
 use lib.Dec.{eqb, ltb}
-use Rattle.cells.specs.Pick.{pick}
+use Rattle.cells.specs.Choice.{if_then_else_}
 use Rattle.device.specs.Parts.{blockOf}
 use Rattle.device.specs.declared.Part.{Part}
 use Rattle.device.specs.declared.Device.{Device}
@@ -32,15 +32,15 @@ givenBy r t = decidedAs r (t .state) (t .effect)
 
 -- an address in the suspended block; the blocks are looked up only where one is suspended
 unfoldable pub inSuspended : Part → State → ℕ → Bool
-inSuspended part u a = pick (isSuspended (u .phase)) (eqb (blockOf part a) (blockOf part (u .address))) false
+inSuspended part u a = if isSuspended (u .phase) then eqb (blockOf part a) (blockOf part (u .address)) else false
 
 -- an array read: 8, or the byte
 unfoldable pub arrayArm : Part → State → Cycle → Settled → Decision
-arrayArm part s c t = pick (inSuspended part (t .state) (c .address)) (refusedBy 8 s) (givenBy (GivesArray (c .address)) t)
+arrayArm part s c t = if inSuspended part (t .state) (c .address) then refusedBy 8 s else givenBy (GivesArray (c .address)) t
 
 -- an identifier read: 9, or the code
 unfoldable pub identifierArm : Part → State → Cycle → Settled → Decision
-identifierArm part s c t = pick (ltb 1 (c .address)) (refusedBy 9 s) (givenBy (Gives (identifierOf part (c .address))) t)
+identifierArm part s c t = if ltb 1 (c .address) then refusedBy 9 s else givenBy (Gives (identifierOf part (c .address))) t
 
 -- a read, by mode
 abbrev pub readArm : Mode → Part → State → Cycle → Settled → Decision
@@ -50,7 +50,7 @@ readArm Identifier part s c t = identifierArm part s c t
 
 -- a write, by the action that it asks for: 7, or what comes of it
 unfoldable pub writeArm : Action → Device → State → Cycle → Settled → Decision
-writeArm a d s c t = pick (isRefuse a) (refusedBy 7 s) (decidedAs Quiet (performedOf a d c (t .state)) (t .effect))
+writeArm a d s c t = if isRefuse a then refusedBy 7 s else decidedAs Quiet (performedOf a d c (t .state)) (t .effect)
 
 abbrev pub arm : Kind → Device → State → Cycle → Settled → Decision
 arm Read d s c t = readArm (t .state .mode) (d .part) s c t
@@ -60,7 +60,7 @@ arm Idle d s c t = givenBy Quiet t
 -- a cycle that refusals 1 to 6 let pass; with RP# low it ends after step 1
 unfoldable pub passOf : Device → State → Cycle → Decision
 passOf d s c =
-    pick (rpLow (c .pins)) (givenBy Quiet (settleOf (d .part) s (c .pins))) (arm (c .kind) d s c (settleOf (d .part) s (c .pins)))
+    if rpLow (c .pins) then givenBy Quiet (settleOf (d .part) s (c .pins)) else arm (c .kind) d s c (settleOf (d .part) s (c .pins))
 
 abbrev pub isFree : Phase → Bool
 isFree Free = true

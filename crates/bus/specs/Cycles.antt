@@ -3,7 +3,7 @@ use mathlib.Core.Bool.{Bool, true, false, not, _&&_, _||_}
 use mathlib.Core.List.{List, [], _∷_, _++_}
 use Prim.Native.Nat.{ℕ}
 use lib.Dec.{eqb, ltb, leb}
-use Rattle.cells.specs.Pick.{pick}
+use Rattle.cells.specs.Choice.{if_then_else_}
 use Rattle.cells.specs.Numbers.{Row, row, given}
 use Rattle.device.specs.Parts.{unknownDevice, sizeOf, blockOf, codeOf}
 use Rattle.device.specs.declared.Part.{Part}
@@ -110,7 +110,7 @@ refusedBy n s = decidedAs (Refuses n) s Nothing
 
 -- 89H at address 0, the part's code at 1
 unfoldable pub identifierOf : Part → ℕ → ℕ
-identifierOf part a = pick (eqb a 0) 0x89 (codeOf part)
+identifierOf part a = if eqb a 0 then 0x89 else codeOf part
 
 -- a read, by mode
 abbrev pub readOf : Mode → Part → ℕ → ℕ → Reply
@@ -126,9 +126,9 @@ respondOf Idle d c t = decidedAs Quiet (t .state) (t .effect)
 
 -- with RP# low the cycle ends after step 1
 unfoldable pub acceptOf : Device → Cycle → Settled → Decision
-acceptOf d c t = pick (rpLow (c .pins)) (decidedAs Quiet (t .state) (t .effect)) (respondOf (c .kind) d c t)
+acceptOf d c t = if rpLow (c .pins) then decidedAs Quiet (t .state) (t .effect) else respondOf (c .kind) d c t
 
 -- one bus cycle: refused by its number, or the four steps
 unfoldable pub decideOf : Device → State → Cycle → ℕ → ℕ → Decision
 decideOf d s c array residue =
-    pick (eqb (numberOf d s c array residue) 0) (acceptOf d c (settleOf (d .part) s (c .pins))) (refusedBy (numberOf d s c array residue) s)
+    if eqb (numberOf d s c array residue) 0 then acceptOf d c (settleOf (d .part) s (c .pins)) else refusedBy (numberOf d s c array residue) s

@@ -5,8 +5,10 @@ use mathlib.Core.List.{List, _∷_}
 use Prim.Native.Nat.{ℕ, zero, suc, _+_, _*_}
 use native.Mathlib.Omega.{arith}
 use lib.ListN.{length, replicate}
-use Rattle.cells.specs.Pick.{pick, unlike}
-use Rattle.cells.specs.Bytes.{Bytes, bytes-replicate}
+use Rattle.cells.specs.Choice.{if_then_else_}
+use Rattle.cells.proofs.Choice.{unlike}
+use Rattle.cells.specs.Lists.{Bytes}
+use Rattle.cells.proofs.Bytes.{bytes-replicate}
 use Rattle.device.specs.Parts.{shapeOf, sizeIn, lengthIn, offsetIn, startIn, unknownPart, unknownDevice, sizeOf, lengthOf, startOf}
 use Rattle.chip.specs.Cells.{ones}
 use Rattle.chip.specs.Levels.{vppLow, vppHigh, badPins}
@@ -56,7 +58,7 @@ counts n held w lw bytes f xs sc lx ls h =
 level : (w : List ℕ) → length w ≡ 512 → formula benchT w w ≡ 1027
 level w e = go (risesIn w w) (none-risen w)
   where
-    go : (t : Bool) → t ≡ false → 2 * length w + 3 + pick t 1 0 * (2 + 3) + differing (length w) 0 w (pick t (replicate (length w) ones) w) * (2 + 2) ≡ 1027
+    go : (t : Bool) → t ≡ false → 2 * length w + 3 + (if t then 1 else 0) * (2 + 3) + differing (length w) 0 w (if t then replicate (length w) ones else w) * (2 + 2) ≡ 1027
     go true q = absurd (unlike q)
     go false q = rw (none-differing (length w) 0 w, e) refl
 

@@ -8,7 +8,7 @@ use lib.Dec.{eqb}
 use Rattle.device.specs.declared.Part.{Part}
 use Rattle.device.specs.declared.Device.{Device}
 use Rattle.device.specs.Parts.{unknownDevice, sizeOf, blockOf}
-use Rattle.cells.specs.Bytes.{Bytes}
+use Rattle.cells.specs.Lists.{Bytes}
 use Rattle.chip.specs.declared.Kind.the-variants.{Read, Write}
 use Rattle.chip.specs.declared.Pins.{Pins}
 use Rattle.chip.specs.declared.Cycle.{Cycle}

@@ -3,7 +3,8 @@ use mathlib.Core.Path.{_≡_}
 use mathlib.Core.List.{List}
 use Prim.Native.Nat.{ℕ, _<_, min}
 use lib.ListN.{length, getD, replicate}
-use Rattle.cells.specs.Pick.{Unique, only}
+use Rattle.cells.specs.Choice.{Unique}
+use Rattle.cells.proofs.Choice.{only}
 use Rattle.cells.specs.Lists.{copied}
 
 pub wide-unique : (x : ℕ) → Unique (λ (r : ℕ). (r ≡ x) × (x < 256))

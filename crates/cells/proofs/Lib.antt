@@ -1,2 +1,6 @@
-pub mod Claims
+pub mod Choice
+pub mod Lists
+pub mod Bytes
+pub mod Numbers
 pub mod Pieces
+pub mod Claims

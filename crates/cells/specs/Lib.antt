@@ -1,4 +1,3 @@
-pub mod Pick
+pub mod Choice
 pub mod Lists
 pub mod Numbers
-pub mod Bytes

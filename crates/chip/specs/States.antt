@@ -2,7 +2,7 @@
 use mathlib.Core.Bool.{Bool, true, false, not, _&&_, _||_}
 use Prim.Native.Nat.{ℕ, _/_, _%_}
 use lib.Dec.{eqb, ltb, leb}
-use Rattle.cells.specs.Pick.{pick}
+use Rattle.cells.specs.Choice.{if_then_else_}
 use Rattle.device.specs.Parts.{sizeOf}
 use Rattle.device.specs.declared.Device.{Device}
 use Rattle.chip.specs.declared.Mode.{Mode}
@@ -77,11 +77,11 @@ badStatus ph sr = not (eqb (sr % 8) 0) || not (eqb (sr / 64) (topBits ph))
 
 -- cycles to go: not from 1 to P or E with an operation, not zero without one
 unfoldable pub badLeft : Device → Phase → ℕ → Bool
-badLeft d ph left = pick (isPending ph) (eqb left 0 || ltb (mostLeft d ph) left) (not (eqb left 0))
+badLeft d ph left = if isPending ph then eqb left 0 || ltb (mostLeft d ph) left else not (eqb left 0)
 
 -- the operation's address: not inside the array, or not zero without one
 unfoldable pub badAddress : Device → Phase → ℕ → Bool
-badAddress d ph a = pick (isPending ph) (leb (sizeOf (d .part)) a) (not (eqb a 0))
+badAddress d ph a = if isPending ph then leb (sizeOf (d .part)) a else not (eqb a 0)
 
 -- refusal 3: the state is not proper
 unfoldable pub improper : Device → State → Bool

@@ -4,23 +4,7 @@ use crate::Phase;
 use crate::State;
 use device::Device;
 ghost use mathlib.Core.Path.{_≡_};
-ghost use Rattle.chip.specs.States.{
-  isBusy,
-  isPending,
-  topBits,
-  mostLeft,
-  isArray,
-  isStatus,
-  isIdentifier,
-  badMode,
-  badStatus,
-  badLeft,
-  badAddress,
-  improper,
-  atRest,
-  freshState,
-  resetOf,
-};
+ghost use Rattle.chip.specs.States.{isBusy, isPending, topBits, mostLeft, isArray, isStatus, isIdentifier, badMode, badStatus, badLeft, badAddress, improper, atRest, freshState, resetOf};
 
 pub fn is_busy(ph: Phase) -> bool
     ensures { λ r. ⌜ r ≡ isBusy ph ⌝ }

@@ -3,7 +3,7 @@ use mathlib.Core.Bool.{Bool, true, false, not, _&&_, _||_}
 use Prim.Native.Nat.{ℕ, _/_, _%_}
 use lib.Bits.{bitAnd, bitOr}
 use lib.Dec.{eqb, ltb, leb}
-use Rattle.cells.specs.Pick.{pick}
+use Rattle.cells.specs.Choice.{if_then_else_}
 use Rattle.device.specs.declared.Part.{Part}
 use Rattle.device.specs.declared.Device.{Device}
 use Rattle.chip.specs.declared.Mode.{Mode}
@@ -20,24 +20,24 @@ use Rattle.chip.specs.States.{atRest}
 -- nothing awaited or running
 unfoldable pub firstWrite : ℕ → Action
 firstWrite b =
-    pick (eqb b 0xFF) ToArray
-    (pick (eqb b 0x90) ToIdentifier
-    (pick (eqb b 0x70) ToStatus
-    (pick (eqb b 0x50) Clear
-    (pick (eqb b 0x20) AwaitErase
-    (pick (eqb b 0x40) AwaitData Refuse)))))
+    if eqb b 0xFF then ToArray
+    else if eqb b 0x90 then ToIdentifier
+    else if eqb b 0x70 then ToStatus
+    else if eqb b 0x50 then Clear
+    else if eqb b 0x20 then AwaitErase
+    else if eqb b 0x40 then AwaitData else Refuse
 
 -- after 20H
 unfoldable pub afterErase : ℕ → Action
-afterErase b = pick (eqb b 0xD0) Confirm WrongSecond
+afterErase b = if eqb b 0xD0 then Confirm else WrongSecond
 
 -- while an erase is busy
 unfoldable pub whileErasing : ℕ → Action
-whileErasing b = pick (eqb b 0xB0) Suspend Ignore
+whileErasing b = if eqb b 0xB0 then Suspend else Ignore
 
 -- while suspended
 unfoldable pub whileSuspended : ℕ → Action
-whileSuspended b = pick (eqb b 0xFF) ToArray (pick (eqb b 0x70) ToStatus (pick (eqb b 0xD0) Resume Ignore))
+whileSuspended b = if eqb b 0xFF then ToArray else if eqb b 0x70 then ToStatus else if eqb b 0xD0 then Resume else Ignore
 
 -- the command rules: after 40H every byte is data, and a busy program ignores every write
 abbrev pub actionOf : Phase → ℕ → Action
@@ -83,9 +83,9 @@ unsupplied part c s = vppLow part (c .pins) || not (eqb (s .status / 8 % 2) 0)
 -- those of the first); otherwise the operation starts at this cycle's address with its busy time to go and SR.7 clear
 unfoldable pub startedOf : Part → Cycle → State → Phase → ℕ → ℕ → State
 startedOf part c s ph time bit =
-    pick (unsupplied part c s) (atRest (s .mode) (bitOr (bitOr (s .status) 8) bit))
-    (pick (locked part c) (atRest (s .mode) (bitOr (s .status) bit))
-    (record { mode = s .mode; status = bitAnd (s .status) 127; phase = ph; left = time; address = c .address }))
+    if unsupplied part c s then atRest (s .mode) (bitOr (bitOr (s .status) 8) bit)
+    else if locked part c then atRest (s .mode) (bitOr (s .status) bit)
+    else record { mode = s .mode; status = bitAnd (s .status) 127; phase = ph; left = time; address = c .address }
 
 -- what an action makes of the state
 abbrev pub performedOf : Action → Device → Cycle → State → State

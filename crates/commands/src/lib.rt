@@ -10,20 +10,7 @@ use chip::states::at_rest;
 use device::Device;
 use device::Part;
 ghost use mathlib.Core.Path.{_≡_};
-ghost use Rattle.commands.specs.Commands.{
-  firstWrite,
-  afterErase,
-  whileErasing,
-  whileSuspended,
-  actionOf,
-  isRefuse,
-  inMode,
-  inPhase,
-  withStatus,
-  unsupplied,
-  startedOf,
-  performedOf,
-};
+ghost use Rattle.commands.specs.Commands.{firstWrite, afterErase, whileErasing, whileSuspended, actionOf, isRefuse, inMode, inPhase, withStatus, unsupplied, startedOf, performedOf};
 
 fn first_write(b: u8) -> Action
     ensures { λ r. ⌜ r ≡ firstWrite b ⌝ }

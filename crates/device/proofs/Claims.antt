@@ -3,7 +3,8 @@ use mathlib.Core.Path.{_≡_, refl, sym}
 use mathlib.Core.Bool.{Bool}
 use mathlib.Core.List.{List, [], _∷_}
 use Prim.Native.Nat.{ℕ, _+_, _-_, _≤_, _<_}
-use Rattle.cells.specs.Pick.{Unique, only}
+use Rattle.cells.specs.Choice.{Unique}
+use Rattle.cells.proofs.Choice.{only}
 use Rattle.device.specs.Blocks.{total, lengthAt, offsetAt, holder}
 use Rattle.device.specs.Parts.{shapeOf, sizeIn, lengthIn, offsetIn, startIn, unknownPart, unknownDevice, sizeOf, lengthOf, startOf, blockOf, codeOf, countOf, countIn}
 use Rattle.device.specs.declared.Part.{Part}

@@ -4,7 +4,8 @@ use mathlib.Core.Bool.{Bool, true, false}
 use Prim.Native.Nat.{ℕ, _+_, _-_, _≤_, _<_}
 use native.Mathlib.Omega.{arith}
 use lib.Dec.{eqb, lit≤}
-use Rattle.cells.specs.Pick.{pick, pick-ind}
+use Rattle.cells.specs.Choice.{if_then_else_}
+use Rattle.cells.proofs.Choice.{if-ind}
 use Rattle.device.specs.Blocks.{total, lengthAt, offsetAt, holder}
 use Rattle.device.specs.Parts.{shapeOf, lengthsOf, sizeIn, lengthIn, offsetIn, holderIn, turned, startIn, blockIn, sizeOf}
 use Rattle.device.specs.declared.Part.{Part}
@@ -22,7 +23,7 @@ unfolding startIn lengthIn sizeIn offsetIn
 fits s k = go (s .top) (ends-inside (lengthsOf s) k)
   where
     go : (top : Bool) → offsetAt (lengthsOf s) k + lengthAt (lengthsOf s) k ≤ total (lengthsOf s)
-        → pick top (total (lengthsOf s) - offsetAt (lengthsOf s) k - lengthAt (lengthsOf s) k) (offsetAt (lengthsOf s) k) + lengthAt (lengthsOf s) k ≤ total (lengthsOf s)
+        → (if top then total (lengthsOf s) - offsetAt (lengthsOf s) k - lengthAt (lengthsOf s) k else offsetAt (lengthsOf s) k) + lengthAt (lengthsOf s) k ≤ total (lengthsOf s)
     go true h = turn (total (lengthsOf s)) (offsetAt (lengthsOf s) k) (lengthAt (lengthsOf s) k) h
       where
         turn : (n o l : ℕ) → o + l ≤ n → n - o - l + l ≤ n
@@ -56,9 +57,9 @@ sole s k a h = go (s .top) refl (h .from) (h .to)
     up n o l e f t = (omega arith, omega arith)
 
     go : (top : Bool) → s .top ≡ top
-        → pick (s .top) (total (lengthsOf s) - offsetAt (lengthsOf s) k - lengthAt (lengthsOf s) k) (offsetAt (lengthsOf s) k) ≤ a
-        → a < pick (s .top) (total (lengthsOf s) - offsetAt (lengthsOf s) k - lengthAt (lengthsOf s) k) (offsetAt (lengthsOf s) k) + lengthAt (lengthsOf s) k
-        → holder (lengthsOf s) (pick (s .top) (total (lengthsOf s) - 1 - a) a) ≡ k
+        → (if s .top then total (lengthsOf s) - offsetAt (lengthsOf s) k - lengthAt (lengthsOf s) k else offsetAt (lengthsOf s) k) ≤ a
+        → a < (if s .top then total (lengthsOf s) - offsetAt (lengthsOf s) k - lengthAt (lengthsOf s) k else offsetAt (lengthsOf s) k) + lengthAt (lengthsOf s) k
+        → holder (lengthsOf s) (if s .top then total (lengthsOf s) - 1 - a else a) ≡ k
     go true e f t =
         let r = up (total (lengthsOf s)) (offsetAt (lengthsOf s) k) (lengthAt (lengthsOf s) k) (ends-inside (lengthsOf s) k) (rw e at f) (rw e at t) in
         rw e (alone (lengthsOf s) k (total (lengthsOf s) - 1 - a) (record { from = r .0; to = r .1 }))
@@ -68,6 +69,6 @@ sole s k a h = go (s .top) refl (h .from) (h .to)
 pub size-small : (p : Part) → sizeOf p ≤ 131072
 unfolding sizeOf shapeOf sizeIn
 size-small p =
-    pick-ind (λ (s : Shape). total (lengthsOf s) ≤ 131072) (eqb (p .number) 1) _ _ (λ e. lit≤ tt) (λ e.
-    pick-ind (λ (s : Shape). total (lengthsOf s) ≤ 131072) (eqb (p .number) 2) _ _ (λ e. lit≤ tt) (λ e.
-    pick-ind (λ (s : Shape). total (lengthsOf s) ≤ 131072) (eqb (p .number) 3) _ _ (λ e. lit≤ tt) (λ e. lit≤ tt)))
+    if-ind (λ (s : Shape). total (lengthsOf s) ≤ 131072) (eqb (p .number) 1) _ _ (λ e. lit≤ tt) (λ e.
+    if-ind (λ (s : Shape). total (lengthsOf s) ≤ 131072) (eqb (p .number) 2) _ _ (λ e. lit≤ tt) (λ e.
+    if-ind (λ (s : Shape). total (lengthsOf s) ≤ 131072) (eqb (p .number) 3) _ _ (λ e. lit≤ tt) (λ e. lit≤ tt)))

@@ -4,7 +4,7 @@ use mathlib.Core.List.{List, [], _∷_}
 use Prim.Native.Nat.{ℕ, zero, suc, _+_, _-_}
 use lib.ListN.{getD}
 use lib.Dec.{ltb, eqb}
-use Rattle.cells.specs.Pick.{pick}
+use Rattle.cells.specs.Choice.{if_then_else_}
 
 -- the bytes of all blocks together
 abbrev pub total : List ℕ → ℕ
@@ -24,9 +24,9 @@ offsetAt (l ∷ ls) (suc k) = l + offsetAt ls k
 -- the block that holds the byte at place p, counted from the boot end
 abbrev pub holder : List ℕ → ℕ → ℕ
 holder [] p = 0
-holder (l ∷ ls) p = pick (ltb p l) 0 (suc (holder ls (p - l)))
+holder (l ∷ ls) p = if ltb p l then 0 else suc (holder ls (p - l))
 
 -- how many blocks have any bytes
 abbrev pub count : List ℕ → ℕ
 count [] = 0
-count (l ∷ ls) = pick (eqb l 0) 0 1 + count ls
+count (l ∷ ls) = (if eqb l 0 then 0 else 1) + count ls

@@ -3,7 +3,7 @@ use mathlib.Core.Bool.{Bool, true, false, not, _&&_, _||_}
 use mathlib.Core.List.{List, [], _∷_}
 use Prim.Native.Nat.{ℕ, zero, suc, _+_, _-_}
 use lib.Dec.{eqb, ltb}
-use Rattle.cells.specs.Pick.{pick}
+use Rattle.cells.specs.Choice.{if_then_else_}
 use Rattle.device.specs.Blocks.{total, lengthAt, offsetAt, holder, count}
 use Rattle.device.specs.declared.Part.{Part}
 use Rattle.device.specs.declared.Device.{Device}
@@ -17,10 +17,10 @@ fourOf boot parameter main top code =
 -- the table of parts: 28F001BX-T, 28F001BX-B, bench T, bench B
 unfoldable pub shapeOf : Part → Shape
 shapeOf p =
-    pick (eqb (p .number) 1) (fourOf 8192 4096 114688 true 148)
-    (pick (eqb (p .number) 2) (fourOf 8192 4096 114688 false 149)
-    (pick (eqb (p .number) 3) (fourOf 1024 512 14336 true 148)
-    (fourOf 1024 512 14336 false 149)))
+    if eqb (p .number) 1 then fourOf 8192 4096 114688 true 148
+    else if eqb (p .number) 2 then fourOf 8192 4096 114688 false 149
+    else if eqb (p .number) 3 then fourOf 1024 512 14336 true 148
+    else fourOf 1024 512 14336 false 149
 
 -- the block lengths of a description, outward from the boot block
 abbrev pub lengthsOf : Shape → List ℕ
@@ -48,11 +48,11 @@ countIn s = count (lengthsOf s)
 
 -- a place counted from the boot end, as an address, and an address as such a place: at the top they run against each other
 unfoldable pub turned : Bool → ℕ → ℕ → ℕ
-turned top n a = pick top (n - 1 - a) a
+turned top n a = if top then n - 1 - a else a
 
 -- the first address of block k: at the top the boot block comes last
 unfoldable pub startIn : Shape → ℕ → ℕ
-startIn s k = pick (s .top) (sizeIn s - offsetIn s k - lengthIn s k) (offsetIn s k)
+startIn s k = if s .top then sizeIn s - offsetIn s k - lengthIn s k else offsetIn s k
 
 -- the block that holds an address
 unfoldable pub blockIn : Shape → ℕ → ℕ

@@ -2,27 +2,8 @@
 ghost use mathlib.Core.Path.{_≡_};
 ghost use Prim.Native.Nat.{_-_, _≤_};
 ghost use lib.Dec.{eqb};
-ghost use Rattle.cells.specs.Pick.{pick};
-ghost use Rattle.device.specs.Parts.{
-  fourOf,
-  shapeOf,
-  sizeIn,
-  lengthIn,
-  offsetIn,
-  holderIn,
-  countIn,
-  turned,
-  startIn,
-  blockIn,
-  unknownPart,
-  unknownDevice,
-  sizeOf,
-  lengthOf,
-  startOf,
-  blockOf,
-  codeOf,
-  countOf,
-};
+ghost use Rattle.cells.specs.Choice.{if_then_else_};
+ghost use Rattle.device.specs.Parts.{fourOf, shapeOf, sizeIn, lengthIn, offsetIn, holderIn, countIn, turned, startIn, blockIn, unknownPart, unknownDevice, sizeOf, lengthOf, startOf, blockOf, codeOf, countOf};
 
 // What a loader knows of the flash: its number, 1 to 4.
 pub struct Part {
@@ -69,7 +50,7 @@ fn less(a: usize, b: usize) -> usize
 
 // One where a length is not zero.
 fn one(l: u32) -> u8
-    ensures { λ r. ⌜ (r ≡ pick (eqb l 0) 0 1) × (r ≤ 1) ⌝ }
+    ensures { λ r. ⌜ (r ≡ (if eqb l 0 then 0 else 1)) × (r ≤ 1) ⌝ }
 {
     if l == 0 {
         return 0;

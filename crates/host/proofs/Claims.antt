@@ -5,7 +5,8 @@ use mathlib.Core.List.{List}
 use Prim.Native.Nat.{ℕ}
 use lib.ListN.{length, take}
 use lib.Dec.{ltb}
-use Rattle.cells.specs.Pick.{Unique, only}
+use Rattle.cells.specs.Choice.{Unique}
+use Rattle.cells.proofs.Choice.{only}
 use Rattle.device.specs.declared.Device.{Device}
 use Rattle.device.specs.Parts.{unknownPart, unknownDevice, sizeOf}
 use Rattle.chip.specs.declared.Pins.{Pins}

@@ -7,8 +7,9 @@ use native.Mathlib.Omega.{arith}
 use lib.ListN.{length}
 use lib.Dec.{eqb, ltb}
 use borrow.Author.Tests.{eq-eqb, ne-eqb}
-use Rattle.cells.specs.Pick.{pick-false}
-use Rattle.cells.specs.Numbers.{Foremost, here, below, foremost-given}
+use Rattle.cells.proofs.Choice.{if-false}
+use Rattle.cells.specs.Numbers.{Foremost, here, below}
+use Rattle.cells.proofs.Numbers.{foremost-given}
 use Rattle.device.specs.declared.Device.{Device}
 use Rattle.device.specs.Parts.{unknownPart, unknownDevice, sizeOf}
 use Rattle.chip.specs.declared.Pins.{Pins}
@@ -43,11 +44,11 @@ use Rattle.twin.proofs.Border.{deviceOut, out-state, out-record, state-back, cy
 -- the state or record that goes back for one that came as a state's or a record's numbers
 state-given : (s t : State) → stateBack (stateOut s) t ≡ stateOut t
 unfolding stateBack
-state-given s t = pick-false (noState (stateOut s)) (stateOut s) (stateOut t) (out-state s)
+state-given s t = if-false (noState (stateOut s)) (stateOut s) (stateOut t) (out-state s)
 
 record-given : (l m : Loader) → loaderBack (loaderOut l) m ≡ loaderOut m
 unfolding loaderBack
-record-given l m = pick-false (noRecord (loaderOut l)) (loaderOut l) (loaderOut m) (out-record l)
+record-given l m = if-false (noRecord (loaderOut l)) (loaderOut l) (loaderOut m) (out-record l)
 
 -- a refusal by its number
 seen-two : (x : Seen) → seenOut x ≡ 2 → x ≡ Refused (valueOut x)
@@ -117,9 +118,9 @@ module _ (d : DeviceNumbers) (s : StateNumbers) (rp vpp k : ℕ) (xs w sc : List
   run-refused m z e =
       let q : eqb numberOfRun 0 ≡ false = ne-eqb numberOfRun 0 (λ (h : numberOfRun ≡ 0). z (sym e ∙ h)) in
       let t = state-same s in (
-        ap (λ (r : Ran). ranOut s r) (pick-false (eqb numberOfRun 0) _ _ q) ∙ (λ i. record { count = 0; end = e i; address = 0; state = t i }),
-        pick-false (eqb numberOfRun 0) _ xs q,
-        pick-false (eqb numberOfRun 0) _ sc q,
+        ap (λ (r : Ran). ranOut s r) (if-false (eqb numberOfRun 0) _ _ q) ∙ (λ i. record { count = 0; end = e i; address = 0; state = t i }),
+        if-false (eqb numberOfRun 0) _ xs q,
+        if-false (eqb numberOfRun 0) _ sc q,
       )
 
   -- numbers that stand for no state have the number 3, after 1 and 2
@@ -148,7 +149,7 @@ module _ (d : DeviceNumbers) (s : StateNumbers) (rp vpp k : ℕ) (xs w sc : List
   unfolding loadNumber
   load-no-state f asked known whole e =
       let t = third known whole e in
-      load-refused f asked 3 (λ (z : 3 ≡ 0). (omega arith)) (pick-false (eqb numberOfRun 0) _ numberOfRun (ap (λ (n : ℕ). eqb n 0) t) ∙ t) .0
+      load-refused f asked 3 (λ (z : 3 ≡ 0). (omega arith)) (if-false (eqb numberOfRun 0) _ numberOfRun (ap (λ (n : ℕ). eqb n 0) t) ∙ t) .0
 
 -- the writer's and the reader's refusals
 write-left : (o : Outcome) (out : List ℕ) → (writtenOut (writtenAs o) .number ≡ 0 → ⊥) → (writtenOut (writtenAs o) .length ≡ 0) × (leftIn out o ≡ out)

@@ -16,22 +16,7 @@ ghost use Rattle.chip.specs.States.{freshState};
 ghost use Rattle.seal.specs.Check.{checkOf};
 ghost use Rattle.twin.specs.Twins.{stateOut};
 ghost use Rattle.short.specs.Cycled.{cycled, arrayCycled};
-ghost use Rattle.host.specs.Calls.{
-  started,
-  steppedOf,
-  scratchStepped,
-  runOf,
-  arrayRun,
-  scratchRun,
-  loadOf,
-  arrayLoad,
-  wantedLoad,
-  scratchLoad,
-  writtenOf,
-  fileLeft,
-  readOf,
-  payloadLeft,
-};
+ghost use Rattle.host.specs.Calls.{started, steppedOf, scratchStepped, runOf, arrayRun, scratchRun, loadOf, arrayLoad, wantedLoad, scratchLoad, writtenOf, fileLeft, readOf, payloadLeft};
 
 // A fresh device.
 #[no_mangle]

@@ -3,7 +3,7 @@ use Prim.Native.Nat.{ℕ, _%_}
 use mathlib.Core.List.{List}
 use lib.Dec.{eqb}
 use lib.ListN.{getD}
-use Rattle.cells.specs.Pick.{pick}
+use Rattle.cells.specs.Choice.{if_then_else_}
 use Rattle.device.specs.declared.Device.{Device}
 use Rattle.chip.specs.declared.Mode.{Mode}
 use Rattle.chip.specs.declared.Mode.the-variants.{Array, Status, Identifier}
@@ -14,13 +14,13 @@ use Rattle.rows.specs.Text.{readOf, fieldOf}
 
 -- the mode of a letter: A, S, and the identifier for any other
 unfoldable pub modeBy : ℕ → Mode
-modeBy x = pick (eqb x 65) Array (pick (eqb x 83) Status Identifier)
+modeBy x = if eqb x 65 then Array else if eqb x 83 then Status else Identifier
 
 -- the phase of a letter: F, C, D, P with its byte, E, and suspended for any other
 unfoldable pub phaseBy : ℕ → ℕ → Phase
 phaseBy x byte =
-    pick (eqb x 70) Free
-    (pick (eqb x 67) EraseAwaited (pick (eqb x 68) DataAwaited (pick (eqb x 80) (Programming byte) (pick (eqb x 69) Erasing Suspended))))
+    if eqb x 70 then Free
+    else if eqb x 67 then EraseAwaited else if eqb x 68 then DataAwaited else if eqb x 80 then Programming byte else if eqb x 69 then Erasing else Suspended
 
 -- the letter of a mode, and of a phase
 abbrev pub modeLetter : Mode → ℕ

@@ -10,7 +10,7 @@ use lib.Dec.{eqb, ltb, leb}
 use lib.ListN.{length, getD, drop}
 use lib.Seq.{drop-cons, drop-length}
 use borrow.Author.Tests.{eqb-true, leb-true, lt-ltb, le-ltb, le-leb, lt-leb, ltb-true, ltb-false}
-use Rattle.cells.specs.Pick.{pick-true, pick-false, and-left, and-right}
+use Rattle.cells.proofs.Choice.{if-true, if-false, and-left, and-right}
 use Rattle.chip.specs.declared.Kind.{Kind}
 use Rattle.chip.specs.declared.Kind.the-variants.{Read, Write, Idle}
 use Rattle.chip.specs.declared.Cycle.{Cycle}
@@ -249,7 +249,7 @@ printed-cycle c f = λ i. record {
 pub read-back : (c : Cycle) → Fits c → readLine (lineOf c) ≡ Stated c
 unfolding readLine
 read-back c f =
-    pick-true (isLine (lineOf c)) (Stated (cycleIn (lineOf c))) NotALine (printed-good c f) ∙ ap (λ (x : Cycle). Stated x) (printed-cycle c f)
+    if-true (isLine (lineOf c)) (Stated (cycleIn (lineOf c))) NotALine (printed-good c f) ∙ ap (λ (x : Cycle). Stated x) (printed-cycle c f)
 
 -- what a line states fits, and prints as the line
 five-small : (a b c d e : ℕ) → isDigit a ≡ true → isDigit b ≡ true → isDigit c ≡ true → isDigit d ≡ true → isDigit e ≡ true → fiveOf a b c d e < 100000
@@ -365,9 +365,9 @@ unfolding readLine
 read-good xs c q = go (isLine xs) refl
   where
     go : (b : Bool) → isLine xs ≡ b → (isLine xs ≡ true) × (cycleIn xs ≡ c)
-    go true e = let z : Stated (cycleIn xs) ≡ Stated c = sym (pick-true (isLine xs) (Stated (cycleIn xs)) NotALine e) ∙ q in (e, cc)
+    go true e = let z : Stated (cycleIn xs) ≡ Stated c = sym (if-true (isLine xs) (Stated (cycleIn xs)) NotALine e) ∙ q in (e, cc)
     go false e =
-        let z : NotALine ≡ Stated c = sym (pick-false (isLine xs) (Stated (cycleIn xs)) NotALine e) ∙ q in
+        let z : NotALine ≡ Stated c = sym (if-false (isLine xs) (Stated (cycleIn xs)) NotALine e) ∙ q in
         absurd (let w : _≡_ {A = ℕ} 0 1 = cc in omega arith)
 
 pub read-prints : (xs : List ℕ) (c : Cycle) → readLine xs ≡ Stated c → Fits c × (lineOf c ≡ xs)
@@ -387,11 +387,11 @@ read-once c d f g e =
 
 pub line-read : (xs : List ℕ) → isLine xs ≡ true → readLine xs ≡ Stated (cycleIn xs)
 unfolding readLine
-line-read xs e = pick-true (isLine xs) (Stated (cycleIn xs)) NotALine e
+line-read xs e = if-true (isLine xs) (Stated (cycleIn xs)) NotALine e
 
 unread : (xs : List ℕ) → isLine xs ≡ false → readLine xs ≡ NotALine
 unfolding readLine
-unread xs e = pick-false (isLine xs) (Stated (cycleIn xs)) NotALine e
+unread xs e = if-false (isLine xs) (Stated (cycleIn xs)) NotALine e
 
 pub not-read : (xs : List ℕ) → (readLine xs ≡ NotALine) ↔ ((c : Cycle) → Fits c → lineOf c ≡ xs → ⊥)
 not-read xs = (

@@ -4,7 +4,7 @@ use mathlib.Core.List.{List, [], _∷_}
 use Prim.Native.Nat.{ℕ, _+_, _*_, _/_, _%_, _<_}
 use lib.Dec.{eqb, ltb, leb}
 use lib.ListN.{length, getD}
-use Rattle.cells.specs.Pick.{pick}
+use Rattle.cells.specs.Choice.{if_then_else_}
 use Rattle.chip.specs.declared.Kind.{Kind}
 use Rattle.chip.specs.declared.Kind.the-variants.{Read, Write, Idle}
 use Rattle.chip.specs.declared.Cycle.{Cycle}
@@ -47,7 +47,7 @@ isLine xs = (((eqb (length xs) 20 && goodFront xs) && goodSupply xs) && goodAddr
 
 -- the kind that a letter names
 unfoldable pub kindOf : ℕ → Kind
-kindOf b = pick (eqb b 82) Read (pick (eqb b 87) Write Idle)
+kindOf b = if eqb b 82 then Read else if eqb b 87 then Write else Idle
 
 -- what a decimal digit counts
 abbrev pub digitOf : ℕ → ℕ
@@ -55,7 +55,7 @@ digitOf b = b % 16
 
 -- what a hexadecimal digit counts: the letters go on from 10
 unfoldable pub hexOf : ℕ → ℕ
-hexOf b = pick (ltb b 65) (b % 16) ((b + 9) % 16)
+hexOf b = if ltb b 65 then b % 16 else (b + 9) % 16
 
 -- five decimal digits as a number
 abbrev pub fiveOf : ℕ → ℕ → ℕ → ℕ → ℕ → ℕ
@@ -81,7 +81,7 @@ cycleIn xs =
 
 -- a line read: its cycle, or no line
 unfoldable pub readLine : List ℕ → LineRead
-readLine xs = pick (isLine xs) (Stated (cycleIn xs)) NotALine
+readLine xs = if isLine xs then Stated (cycleIn xs) else NotALine
 
 -- the letter of a kind
 abbrev pub letterFor : Kind → ℕ
@@ -95,7 +95,7 @@ decimalDigit n = 48 + n % 10
 
 -- a number below 16, printed as one hexadecimal digit
 unfoldable pub hexDigit : ℕ → ℕ
-hexDigit n = pick (ltb n 10) (48 + n) (55 + n)
+hexDigit n = if ltb n 10 then 48 + n else 55 + n
 
 -- the line that states a cycle
 abbrev pub lineOf : Cycle → List ℕ

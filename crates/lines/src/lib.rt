@@ -4,24 +4,7 @@ use chip::Kind;
 use chip::Pins;
 ghost use mathlib.Core.Path.{_≡_};
 ghost use Prim.Native.Nat.{_<_};
-ghost use Rattle.lines.specs.Lines.{
-  isDigit,
-  isHex,
-  isKind,
-  goodFront,
-  goodSupply,
-  goodAddress,
-  goodBack,
-  isLine,
-  kindOf,
-  digitOf,
-  hexOf,
-  fiveOf,
-  fourOf,
-  twoOf,
-  cycleIn,
-  readLine,
-};
+ghost use Rattle.lines.specs.Lines.{isDigit, isHex, isKind, goodFront, goodSupply, goodAddress, goodBack, isLine, kindOf, digitOf, hexOf, fiveOf, fourOf, twoOf, cycleIn, readLine};
 
 // What a line says: the cycle that it states, or that it is none.
 pub enum LineRead {

@@ -9,7 +9,7 @@ use borrow.Rule.Slice.PartMut.{putMid, midOf}
 use lib.Dec.{eqb, ltb}
 use borrow.Author.Tests.{ne-eqb, eqb-false, ltb-false}
 use mathlib.Core.Bool.{Bool, true, false}
-use Rattle.cells.specs.Pick.{pick-false}
+use Rattle.cells.proofs.Choice.{if-false}
 use Rattle.cells.specs.Lists.{copied}
 use Rattle.device.specs.declared.Device.{Device}
 use Rattle.chip.specs.declared.Pins.{Pins}
@@ -64,4 +64,4 @@ unfolding loadedOf arrayLeft wantedLeft scratchLeft
 refused-touches-nothing d s p k xs w sc f asked m z e =
     let n : ℕ = loadNumber d s p k (length xs) (length w) (length sc) f asked in
     let q : eqb n 0 ≡ false = ne-eqb n 0 (λ h. z (sym e ∙ h)) in
-    (pick-false (eqb n 0) _ _ q ∙ (λ i. record { count = 0; end = e i; address = 0; state = s }), pick-false (eqb n 0) _ xs q, pick-false (eqb n 0) _ w q, pick-false (eqb n 0) _ sc q)
+    (if-false (eqb n 0) _ _ q ∙ (λ i. record { count = 0; end = e i; address = 0; state = s }), if-false (eqb n 0) _ xs q, if-false (eqb n 0) _ w q, if-false (eqb n 0) _ sc q)

@@ -6,7 +6,7 @@ use Prim.Native.Nat.{ℕ, suc, _+_, _-_, _≤_, _<_}
 use native.Mathlib.Omega.{arith}
 use lib.ListN.{getD}
 use lib.Dec.{eqb}
-use Rattle.cells.specs.Pick.{pick}
+use Rattle.cells.specs.Choice.{if_then_else_}
 use Rattle.loader.specs.Walks.{mustRise, rises, nextDiff}
 
 -- with one byte more to look at, the walk looks at it first
@@ -16,7 +16,7 @@ rises-turn n i w s h = ap (λ (k : ℕ). rises k i w s) (let e : n - i ≡ suc (
 pub rises-over : (n i : ℕ) (w s : List ℕ) → n ≤ i → rises (n - i) i w s ≡ false
 rises-over n i w s h = ap (λ (k : ℕ). rises k i w s) (let e : n - i ≡ 0 = omega arith in e)
 
-pub diff-turn : (n i : ℕ) (w s : List ℕ) → i < n → nextDiff (n - i) i w s ≡ pick (eqb (getD s i 0) (getD w i 0)) (nextDiff (n - (i + 1)) (i + 1) w s) i
+pub diff-turn : (n i : ℕ) (w s : List ℕ) → i < n → nextDiff (n - i) i w s ≡ (if eqb (getD s i 0) (getD w i 0) then nextDiff (n - (i + 1)) (i + 1) w s else i)
 diff-turn n i w s h = ap (λ (k : ℕ). nextDiff k i w s) (let e : n - i ≡ suc (n - (i + 1)) = omega arith in e)
 
 pub diff-over : (n i : ℕ) (w s : List ℕ) → n ≤ i → nextDiff (n - i) i w s ≡ i

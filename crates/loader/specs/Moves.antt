@@ -4,7 +4,7 @@ use mathlib.Core.List.{List}
 use Prim.Native.Nat.{ℕ, suc, _+_, _-_, _/_, _%_}
 use lib.ListN.{length, getD}
 use lib.Dec.{eqb, ltb, leb}
-use Rattle.cells.specs.Pick.{pick}
+use Rattle.cells.specs.Choice.{if_then_else_}
 use Rattle.loader.specs.declared.Stage.{Stage}
 use Rattle.loader.specs.declared.Stage.the-variants.{Clearing, Opening, Reading, EraseAsking, EraseConfirming, EraseWaiting, ProgramAsking, ProgramSending, ProgramWaiting, Closing, Verifying, Ended}
 use Rattle.loader.specs.declared.Loader.{Loader}
@@ -38,45 +38,45 @@ bothErrors sr = sr4 sr && sr5 sr
 
 -- a ready status of an erase: 21 with SR.3, else 22 with SR.4 and SR.5, else 23 with SR.5, else 0
 unfoldable pub eraseFault : ℕ → ℕ
-eraseFault sr = pick (sr3 sr) 21 (pick (bothErrors sr) 22 (pick (sr5 sr) 23 0))
+eraseFault sr = if sr3 sr then 21 else if bothErrors sr then 22 else if sr5 sr then 23 else 0
 
 -- a ready status of a program: the same with 24 and SR.4
 unfoldable pub programFault : ℕ → ℕ
-programFault sr = pick (sr3 sr) 21 (pick (bothErrors sr) 22 (pick (sr4 sr) 24 0))
+programFault sr = if sr3 sr then 21 else if bothErrors sr then 22 else if sr4 sr then 24 else 0
 
 -- on to the first differing byte from place i on, or to the verify
 unfoldable pub onward : Loader → ℕ → List ℕ → List ℕ → Loader
-onward l i w sc = pick (ltb (diffFrom i w sc) (length w)) (at l ProgramAsking (diffFrom i w sc) 0) (at l Closing 0 0)
+onward l i w sc = if ltb (diffFrom i w sc) (length w) then at l ProgramAsking (diffFrom i w sc) 0 else at l Closing 0 0
 
 -- after the first reads: an erase if some bit must rise
 unfoldable pub afterReads : Loader → List ℕ → List ℕ → Loader
-afterReads l w sc = pick (risesIn w sc) (at l EraseAsking 0 0) (onward l 0 w sc)
+afterReads l w sc = if risesIn w sc then at l EraseAsking 0 0 else onward l 0 w sc
 
 -- one byte of the first reads is in: the next, or what follows them
 unfoldable pub readMore : Loader → List ℕ → List ℕ → Loader
-readMore l w sc = pick (ltb (l .place) (length w - 1)) (at l Reading (l .place + 1) 0) (afterReads l w sc)
+readMore l w sc = if ltb (l .place) (length w - 1) then at l Reading (l .place + 1) 0 else afterReads l w sc
 
 -- a poll without SR.7: another, or 20 as the 65,535th is taken
 unfoldable pub pollMore : Loader → Stage → Loader
-pollMore l stage = pick (leb 65534 (l .polls)) (endedBy l 20) (at l stage (l .place) (l .polls + 1))
+pollMore l stage = if leb 65534 (l .polls) then endedBy l 20 else at l stage (l .place) (l .polls + 1)
 
 -- a poll of the erase is in
 unfoldable pub erasePolled : Loader → ℕ → List ℕ → List ℕ → Loader
-erasePolled l b w sc = pick (isReady b) (pick (eqb (eraseFault b) 0) (onward l 0 w sc) (endedBy l (eraseFault b))) (pollMore l EraseWaiting)
+erasePolled l b w sc = if isReady b then (if eqb (eraseFault b) 0 then onward l 0 w sc else endedBy l (eraseFault b)) else pollMore l EraseWaiting
 
 -- the place after p, no further than the end
 unfoldable pub past : ℕ → ℕ → ℕ
-past p n = pick (ltb p n) (p + 1) p
+past p n = if ltb p n then p + 1 else p
 
 -- a poll of a program is in
 unfoldable pub programPolled : Loader → ℕ → List ℕ → List ℕ → Loader
 programPolled l b w sc =
-    pick (isReady b) (pick (eqb (programFault b) 0) (onward l (past (l .place) (length w)) w sc) (endedBy l (programFault b))) (pollMore l ProgramWaiting)
+    if isReady b then (if eqb (programFault b) 0 then onward l (past (l .place) (length w)) w sc else endedBy l (programFault b)) else pollMore l ProgramWaiting
 
 -- one byte of the verify is in: 25 where it differs, else the next, or the end
 unfoldable pub verifyMore : Loader → ℕ → List ℕ → Loader
 verifyMore l b w =
-    pick (eqb b (getD w (l .place) 0)) (pick (ltb (l .place) (length w - 1)) (at l Verifying (l .place + 1) 0) (endedBy l 0)) (endedBy l 25)
+    if eqb b (getD w (l .place) 0) then (if ltb (l .place) (length w - 1) then at l Verifying (l .place + 1) 0 else endedBy l 0) else endedBy l 25
 
 -- the record after a byte, by what is wanted and the scratch that the byte leaves
 abbrev pub nextIn : Stage → Loader → ℕ → List ℕ → List ℕ → Loader

@@ -5,7 +5,7 @@ use Prim.Native.Nat.{ℕ, zero, suc, _+_, _-_}
 use lib.ListN.{length, getD}
 use lib.Bits.{bitAnd}
 use lib.Dec.{eqb}
-use Rattle.cells.specs.Pick.{pick}
+use Rattle.cells.specs.Choice.{if_then_else_}
 
 -- some bit is 1 in the wanted byte where the held byte has a 0
 abbrev pub mustRise : ℕ → ℕ → Bool
@@ -19,7 +19,7 @@ rises (suc k) i w s = mustRise (getD s i 0) (getD w i 0) || rises k (i + 1) w s
 -- the first place from i on, within k bytes, where the two differ; the place after them where none does
 abbrev pub nextDiff : ℕ → ℕ → List ℕ → List ℕ → ℕ
 nextDiff zero i w s = i
-nextDiff (suc k) i w s = pick (eqb (getD s i 0) (getD w i 0)) (nextDiff k (i + 1) w s) i
+nextDiff (suc k) i w s = if eqb (getD s i 0) (getD w i 0) then nextDiff k (i + 1) w s else i
 
 -- some bit of the block must rise
 unfoldable pub risesIn : List ℕ → List ℕ → Bool

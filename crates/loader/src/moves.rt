@@ -5,26 +5,7 @@ use crate::walk::diff_from;
 use crate::walk::rises_in;
 ghost use mathlib.Core.Path.{_≡_};
 ghost use Prim.Native.Nat.{_-_};
-ghost use Rattle.loader.specs.Moves.{
-  at,
-  endedBy,
-  isReady,
-  sr3,
-  sr4,
-  sr5,
-  bothErrors,
-  eraseFault,
-  programFault,
-  onward,
-  afterReads,
-  readMore,
-  pollMore,
-  erasePolled,
-  past,
-  programPolled,
-  verifyMore,
-  nextIn,
-};
+ghost use Rattle.loader.specs.Moves.{at, endedBy, isReady, sr3, sr4, sr5, bothErrors, eraseFault, programFault, onward, afterReads, readMore, pollMore, erasePolled, past, programPolled, verifyMore, nextIn};
 
 // The record at another stage, place and count of polls.
 pub fn moved(l: Loader, stage: Stage, place: usize, polls: u32) -> Loader

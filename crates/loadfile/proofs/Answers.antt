@@ -6,8 +6,8 @@ use native.Mathlib.Omega.{arith}
 use lib.ListN.{length, getD, take, drop}
 use lib.Seq.{length-take-le}
 use Rattle.loadfile.specs.File.{Outcome, refused, made, inRoom, leftIn, payloadOf, placesOf, readerOf, judgedAs}
-use Rattle.loadfile.specs.Sizes.{sized}
-use Rattle.loadfile.specs.Outcomes.{length-right, reader-lets, judged-made, room-37, room-made}
+use Rattle.loadfile.proofs.Sizes.{sized}
+use Rattle.loadfile.proofs.Outcomes.{length-right, reader-lets, judged-made, room-37, room-made}
 use Rattle.loadfile.specs.declared.Judged.the-variants.{Sound}
 
 -- a file that was judged sound with k bytes: its payload is the first k of its payload places

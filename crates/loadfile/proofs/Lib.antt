@@ -1,2 +1,5 @@
+pub mod Tables
+pub mod Sizes
+pub mod Outcomes
 pub mod Parts
 pub mod Answers

@@ -9,10 +9,11 @@ use mathlib.Core.Bool.{Bool, true, false}
 use lib.Dec.{leb}
 use borrow.Author.Tests.{leb-true, leb-false}
 use borrow.Rule.Slice.PartMut.{putMid, midOf, mid-len}
-use Rattle.cells.specs.Lists.{copied, copied-whole, laid}
+use Rattle.cells.specs.Lists.{copied, laid}
+use Rattle.cells.proofs.Lists.{copied-whole}
 use Rattle.loadfile.specs.Layout.{headOf, frontOf, sealed, blockOf}
 use Rattle.loadfile.specs.File.{blocksOf, placesOf}
-use Rattle.loadfile.specs.Sizes.{block-length, chunk-length, places-length, places-from}
+use Rattle.loadfile.proofs.Sizes.{block-length, chunk-length, places-length, places-from}
 
 -- a part that begins where A ends is written: A, what was written, and the rest
 pub put-at : (A X Y : List ℕ) (a k : ℕ) → length A ≡ a → putMid a k (A ++ X) Y ≡ (A ++ Y) ++ drop k X

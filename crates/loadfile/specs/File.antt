@@ -4,7 +4,7 @@ use mathlib.Core.Bool.{Bool, not, _||_}
 use Prim.Native.Nat.{ℕ, zero, suc, _+_, _*_, _/_, _%_}
 use lib.ListN.{getD, take, drop, length}
 use lib.Dec.{eqb, ltb}
-use Rattle.cells.specs.Pick.{pick}
+use Rattle.cells.specs.Choice.{if_then_else_}
 use Rattle.cells.specs.Numbers.{Row, row, given}
 use Rattle.blocks.specs.Block.{isLetter, blockRows, usedOf}
 use Rattle.loadfile.specs.Layout.{blockOf}
@@ -39,12 +39,12 @@ pub data Outcome : Type 0 where
 
 -- the outcome of a table: 0 lets the bytes through
 abbrev pub outcomeBy : ℕ → List ℕ → Outcome
-outcomeBy n bytes = pick (eqb n 0) (made bytes) (refused n)
+outcomeBy n bytes = if eqb n 0 then made bytes else refused n
 
 -- what comes of it where there is room for so many bytes: 37 where they do not fit
 abbrev pub inRoom : ℕ → Outcome → Outcome
 inRoom room (refused n) = refused n
-inRoom room (made bytes) = pick (ltb room (length bytes)) (refused 37) (made bytes)
+inRoom room (made bytes) = if ltb room (length bytes) then refused 37 else made bytes
 
 -- what is left of a lent buffer: untouched by a refusal; else the bytes, and past them what was there
 abbrev pub leftIn : List ℕ → Outcome → List ℕ

@@ -8,7 +8,7 @@ use lib.ListN.{length, getD, take, drop, replicate}
 use lib.Seq.{getD-drop, getD-take, drop-cons}
 use lib.Dec.{eqb}
 use borrow.Author.Tests.{eq-eqb, eqb-true}
-use Rattle.cells.specs.Pick.{pick-true, pick-false}
+use Rattle.cells.proofs.Choice.{if-true, if-false}
 use Rattle.blocks.specs.Block.{allAre}
 
 -- every element is a byte (past the end 0 is read)
@@ -60,13 +60,13 @@ all-repeated b (x ∷ xs) e = go (eqb x b) refl (all-repeated b xs)
     go : (t : Bool) → eqb x b ≡ t → (allAre b xs ≡ true → xs ≡ replicate (length xs) b) → x ∷ xs ≡ b ∷ replicate (length xs) b
     go true q r =
         let h : x ≡ b = eqb-true x b q in
-        let t : xs ≡ replicate (length xs) b = r (sym (pick-true (eqb x b) (allAre b xs) false q) ∙ e) in
+        let t : xs ≡ replicate (length xs) b = r (sym (if-true (eqb x b) (allAre b xs) false q) ∙ e) in
         ap (λ (z : ℕ). z ∷ xs) h ∙ ap (λ (z : List ℕ). b ∷ z) t
-    go false q r = absurd (let w : false ≡ true = sym (pick-false (eqb x b) (allAre b xs) false q) ∙ e in let z : _≡_ {A = ℕ} 0 1 = cc in omega arith)
+    go false q r = absurd (let w : false ≡ true = sym (if-false (eqb x b) (allAre b xs) false q) ∙ e in let z : _≡_ {A = ℕ} 0 1 = cc in omega arith)
 
 pub repeated-all : (b n : ℕ) → allAre b (replicate n b) ≡ true
 repeated-all b zero = refl
-repeated-all b (suc n) = pick-true (eqb b b) (allAre b (replicate n b)) false (eq-eqb b b refl) ∙ repeated-all b n
+repeated-all b (suc n) = if-true (eqb b b) (allAre b (replicate n b)) false (eq-eqb b b refl) ∙ repeated-all b n
 
 -- the first five elements, written out
 pub first-five : (xs : List ℕ) → 5 ≤ length xs → xs ≡ getD xs 0 0 ∷ getD xs 1 0 ∷ getD xs 2 0 ∷ getD xs 3 0 ∷ getD xs 4 0 ∷ drop 5 xs

@@ -9,12 +9,13 @@ use lib.ListN.{length, getD, take, drop, set, replicate, length-set}
 use lib.Seq.{drop-append-seam, getD-set-other}
 use lib.Dec.{ltb}
 use borrow.Author.Tests.{ne-eqb}
-use Rattle.cells.specs.Pick.{Unique, only}
+use Rattle.cells.specs.Choice.{Unique}
+use Rattle.cells.proofs.Choice.{only}
 use Rattle.cells.specs.Numbers.{row}
 use Rattle.seal.specs.Check.{wsum, checkOf, checkWrong, storedOf}
 use Rattle.blocks.specs.Block.{isLetter}
 use Rattle.loadfile.specs.File.{limit, refused, made, fileOf, readerOf, writerOf, inRoom, leftIn, blocksIn, payloadOf, readRows, writeRows, writtenAs, judgedAs, readAs}
-use Rattle.loadfile.specs.Outcomes.{payload-right, payload-fits, writer-lets, writer-made}
+use Rattle.loadfile.proofs.Outcomes.{payload-right, payload-fits, writer-lets, writer-made}
 use Rattle.loadfile.specs.declared.Written.{Written}
 use Rattle.loadfile.specs.declared.Judged.{Judged}
 use Rattle.loadfile.specs.declared.ReadBack.{ReadBack}

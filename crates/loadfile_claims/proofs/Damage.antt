@@ -9,19 +9,20 @@ use lib.ListN.{length, getD, take, drop, set, length-set, length-drop}
 use lib.Seq.{length-take-le, take-set-lt, take-set-le, drop-set-add, getD-set-same, getD-set-other, getD-take, getD-drop}
 use lib.Dec.{eqb, ltb}
 use borrow.Author.Tests.{ne-eqb, eqb-true, eqb-false, ltb-true, ltb-false, not-false}
-use Rattle.cells.specs.Pick.{pick, pick-true, pick-false}
+use Rattle.cells.specs.Choice.{if_then_else_}
+use Rattle.cells.proofs.Choice.{if-true, if-false}
 use Rattle.cells.specs.Numbers.{given}
 use Rattle.seal.specs.Check.{wsum, checkOf, checkWrong, storedOf, pair}
 use Rattle.blocks.specs.Block.{blockRows}
-use Rattle.blocks.specs.Tables.{right, right-given}
+use Rattle.blocks.proofs.Tables.{right, right-given}
 use Rattle.loadfile.specs.File.{blocksRows, blocksIn, payloadOf, refused, made, lengthWrong, readerOf}
-use Rattle.loadfile.specs.Outcomes.{length-right, reader-lets, reader-block}
+use Rattle.loadfile.proofs.Outcomes.{length-right, reader-lets, reader-block}
 use Rattle.loadfile_claims.proofs.Bytes.{Bytes, bytes-drop}
 
 -- 65,521 has no divisor from 2 to k + 1: a test that is computed
 abbrev prime-up-to : ℕ → Bool
 prime-up-to zero = true
-prime-up-to (suc k) = pick (eqb (65521 % suc (suc k)) 0) false (prime-up-to k)
+prime-up-to (suc k) = if eqb (65521 % suc (suc k)) 0 then false else prime-up-to k
 
 no-divisor : (k w : ℕ) → prime-up-to k ≡ true → 2 ≤ w → w ≤ k + 1 → 65521 % w ≡ 0 → ⊥
 no-divisor zero w t l h e = omega arith
@@ -29,11 +30,11 @@ no-divisor (suc k) w t l h e = go (eqb (65521 % suc (suc k)) 0) refl (eqb w (suc
   where
     go : (p : Bool) → eqb (65521 % suc (suc k)) 0 ≡ p → (q : Bool) → eqb w (suc (suc k)) ≡ q
         → (prime-up-to k ≡ true → 2 ≤ w → w ≤ k + 1 → 65521 % w ≡ 0 → ⊥) → ⊥
-    go true p q r rest = let x : false ≡ true = sym (pick-true (eqb (65521 % suc (suc k)) 0) false (prime-up-to k) p) ∙ t in let z : _≡_ {A = ℕ} 0 1 = cc in omega arith
+    go true p q r rest = let x : false ≡ true = sym (if-true (eqb (65521 % suc (suc k)) 0) false (prime-up-to k) p) ∙ t in let z : _≡_ {A = ℕ} 0 1 = cc in omega arith
     go false p true r rest = eqb-false (65521 % suc (suc k)) 0 p (ap (λ (x : ℕ). 65521 % x) (sym (eqb-true w (suc (suc k)) r)) ∙ e)
     go false p false r rest =
         let n : w ≡ suc (suc k) → ⊥ = eqb-false w (suc (suc k)) r in
-        rest (sym (pick-false (eqb (65521 % suc (suc k)) 0) false (prime-up-to k) p) ∙ t) l (omega arith) e
+        rest (sym (if-false (eqb (65521 % suc (suc k)) 0) false (prime-up-to k) p) ∙ t) l (omega arith) e
 
 prime : prime-up-to 509 ≡ true
 prime = refl
@@ -148,7 +149,7 @@ at-first left first other i n f k v l h bytes g byte z =
     let w : checkWrong (take 512 (set f k v)) ≡ true =
     ap checkWrong t
     ∙ found-out B k v (length-take-le 512 f l) h (λ (m : ℕ) (q : m < 512). subst (λ (y : ℕ). y < 256) (sym (getD-take 512 f m 0 q)) (bytes m)) (r .check) byte (λ (q : v ≡ getD B k 0). z (q ∙ o)) in
-    pick-true (checkWrong (take 512 (set f k v))) 31 _ w
+    if-true (checkWrong (take 512 (set f k v))) 31 _ w
 
 -- or of any later one: those before it stay right
 in-walk : (left first i n : ℕ) (f : List ℕ) (k v : ℕ) → length f ≡ 512 * left → k < 512 * left → Bytes f → given (blocksRows left first i n f []) ≡ 0 → v < 256

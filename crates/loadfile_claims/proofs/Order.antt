@@ -8,20 +8,22 @@ use native.Mathlib.Omega.{arith}
 use lib.ListN.{length, getD}
 use lib.Dec.{eqb, ltb}
 use borrow.Author.Tests.{eqb-false, eq-eqb}
-use Rattle.cells.specs.Pick.{pick, pick-true, pick-false}
-use Rattle.cells.specs.Numbers.{Row, row, given, Foremost, here, below, NoRow, numbered, foremost-given, no-row-given, given-foremost, given-no-row, given-append}
+use Rattle.cells.specs.Choice.{if_then_else_}
+use Rattle.cells.proofs.Choice.{if-true, if-false}
+use Rattle.cells.specs.Numbers.{Row, row, given, Foremost, here, below, NoRow, numbered}
+use Rattle.cells.proofs.Numbers.{foremost-given, no-row-given, given-foremost, given-no-row, given-append}
 use Rattle.loadfile.specs.File.{Outcome, refused, made, outcomeBy, inRoom, fileOf, payloadOf, blocksIn, lengthWrong, writeRows, readRows, blocksRows, readerOf, writerOf}
-use Rattle.loadfile.specs.Tables.{blocks-append, blocks-numbered}
-use Rattle.loadfile.specs.Outcomes.{outcome-refused, outcome-made, outcome-lets}
+use Rattle.loadfile.proofs.Tables.{blocks-append, blocks-numbered}
+use Rattle.loadfile.proofs.Outcomes.{outcome-refused, outcome-made, outcome-lets}
 
 -- a first row that holds has a number other than 0, where every row has
 foremost-numbered : {rs : List Row} {n : ℕ} → numbered rs ≡ true → Foremost rs n → n ≡ 0 → ⊥
-foremost-numbered m (here {r = r} {rs = rs} h) z = let w : false ≡ true = sym (pick-true (eqb (r .number) 0) false (numbered rs) (eq-eqb (r .number) 0 z)) ∙ m in let q : _≡_ {A = ℕ} 0 1 = cc in omega arith
+foremost-numbered m (here {r = r} {rs = rs} h) z = let w : false ≡ true = sym (if-true (eqb (r .number) 0) false (numbered rs) (eq-eqb (r .number) 0 z)) ∙ m in let q : _≡_ {A = ℕ} 0 1 = cc in omega arith
 foremost-numbered m (below {r = r} {rs = rs} h f) z = go (eqb (r .number) 0) refl (λ (t : numbered rs ≡ true). foremost-numbered t f z)
   where
     go : (t : Bool) → eqb (r .number) 0 ≡ t → (numbered rs ≡ true → ⊥) → ⊥
-    go true q rest = let w : false ≡ true = sym (pick-true (eqb (r .number) 0) false (numbered rs) q) ∙ m in let x : _≡_ {A = ℕ} 0 1 = cc in omega arith
-    go false q rest = rest (sym (pick-false (eqb (r .number) 0) false (numbered rs) q) ∙ m)
+    go true q rest = let w : false ≡ true = sym (if-true (eqb (r .number) 0) false (numbered rs) q) ∙ m in let x : _≡_ {A = ℕ} 0 1 = cc in omega arith
+    go false q rest = rest (sym (if-false (eqb (r .number) 0) false (numbered rs) q) ∙ m)
 
 -- an outcome by a table: refused by n exactly where n's row is the first that holds, let through exactly where none holds
 pub record Ordered (rs : List Row) (bytes : List ℕ) (o : Outcome) : Type 0 where
@@ -32,9 +34,9 @@ refused-inv : (x : ℕ) (bytes : List ℕ) (n : ℕ) → outcomeBy x bytes ≡ r
 refused-inv x bytes n e = go (eqb x 0) refl
   where
     go : (t : Bool) → eqb x 0 ≡ t → (x ≡ n) × (n ≡ 0 → ⊥)
-    go true q = absurd (let w : made bytes ≡ refused n = sym (pick-true (eqb x 0) (made bytes) (refused x) q) ∙ e in let z : _≡_ {A = ℕ} 0 1 = cc in omega arith)
+    go true q = absurd (let w : made bytes ≡ refused n = sym (if-true (eqb x 0) (made bytes) (refused x) q) ∙ e in let z : _≡_ {A = ℕ} 0 1 = cc in omega arith)
     go false q =
-        let w : refused x ≡ refused n = sym (pick-false (eqb x 0) (made bytes) (refused x) q) ∙ e in
+        let w : refused x ≡ refused n = sym (if-false (eqb x 0) (made bytes) (refused x) q) ∙ e in
         let y : x ≡ n = cc in
         (y, λ (z : n ≡ 0). eqb-false x 0 q (y ∙ z))
 
@@ -59,7 +61,7 @@ room-row rs bytes room m =
     ∙ ap (λ (k : ℕ). outcomeBy k bytes) (sym (given-append rs (row 37 (ltb room (length bytes)) ∷ []) m))
   where
     plain : (G : ℕ) (t : Bool) → eqb G 0 ≡ t → (s : Bool) → ltb room (length bytes) ≡ s
-        → inRoom room (outcomeBy G bytes) ≡ outcomeBy (pick (eqb G 0) (pick (ltb room (length bytes)) 37 0) G) bytes
+        → inRoom room (outcomeBy G bytes) ≡ outcomeBy (if eqb G 0 then (if ltb room (length bytes) then 37 else 0) else G) bytes
     plain G true q true p = simp (q, p)
     plain G true q false p = simp (q, p)
     plain G false q true p = simp (q, p)
@@ -84,9 +86,9 @@ read-numbered most f asked rest m =
     join [] ss a b = b
     join (r ∷ rs) ss a b = go (eqb (r .number) 0) refl (λ (t : numbered rs ≡ true). join rs ss t b)
       where
-        go : (t : Bool) → eqb (r .number) 0 ≡ t → (numbered rs ≡ true → numbered (rs ++ ss) ≡ true) → pick (eqb (r .number) 0) false (numbered (rs ++ ss)) ≡ true
-        go true q rest′ = absurd (let w : false ≡ true = sym (pick-true (eqb (r .number) 0) false (numbered rs) q) ∙ a in let x : _≡_ {A = ℕ} 0 1 = cc in omega arith)
-        go false q rest′ = pick-false (eqb (r .number) 0) false (numbered (rs ++ ss)) q ∙ rest′ (sym (pick-false (eqb (r .number) 0) false (numbered rs) q) ∙ a)
+        go : (t : Bool) → eqb (r .number) 0 ≡ t → (numbered rs ≡ true → numbered (rs ++ ss) ≡ true) → (if eqb (r .number) 0 then false else numbered (rs ++ ss)) ≡ true
+        go true q rest′ = absurd (let w : false ≡ true = sym (if-true (eqb (r .number) 0) false (numbered rs) q) ∙ a in let x : _≡_ {A = ℕ} 0 1 = cc in omega arith)
+        go false q rest′ = if-false (eqb (r .number) 0) false (numbered (rs ++ ss)) q ∙ rest′ (sym (if-false (eqb (r .number) 0) false (numbered rs) q) ∙ a)
 
 -- the judgement: 30, then 31 to 34 block by block, then 35
 pub judges-in-order : (most : ℕ) (f : List ℕ) (asked : ℕ) → Ordered (readRows most f asked []) (payloadOf (blocksIn f) f) (readerOf most f asked)

@@ -11,11 +11,11 @@ use borrow.Author.Tests.{eqb-true, not-false}
 use Rattle.cells.specs.Numbers.{given}
 use Rattle.seal.specs.Check.{checkOf, checkWrong, storedOf}
 use Rattle.blocks.specs.Block.{isLetter, usedOf, part, letterWrong, placeWrong, paddingWrong}
-use Rattle.blocks.specs.Tables.{Right, right, none-of-two, used-last, used-other}
+use Rattle.blocks.proofs.Tables.{Right, right, none-of-two, used-last, used-other}
 use Rattle.loadfile.specs.Layout.{headOf, frontOf, sealed, blockOf}
 use Rattle.loadfile.specs.File.{countOf, blocksOf, fileOf, blocksRows, payloadOf, blocksIn, made, readerOf, writerOf}
-use Rattle.loadfile.specs.Sizes.{sized}
-use Rattle.loadfile.specs.Outcomes.{length-right, payload-fits, reader-lets, writer-made}
+use Rattle.loadfile.proofs.Sizes.{sized}
+use Rattle.loadfile.proofs.Outcomes.{length-right, payload-fits, reader-lets, writer-made}
 use Rattle.loadfile_claims.proofs.Bytes.{Bytes, bytes-drop, byte-take, all-repeated, first-five}
 
 -- one right block of bytes

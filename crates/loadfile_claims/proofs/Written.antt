@@ -8,15 +8,15 @@ use lib.ListN.{length, getD, take, drop, replicate, length-append, length-drop, 
 use lib.Seq.{take-at, drop-at, getD-at, getD-append-add, take-all, length-take-le}
 use lib.Dec.{eqb, ltb}
 use borrow.Author.Tests.{eq-eqb, ne-eqb, eqb-true, le-ltb}
-use Rattle.cells.specs.Pick.{pick-true, pick-false}
+use Rattle.cells.proofs.Choice.{if-true, if-false}
 use Rattle.cells.specs.Numbers.{given}
 use Rattle.seal.specs.Check.{checkOf, checkWrong, storedOf, pair}
 use Rattle.blocks.specs.Block.{isLetter, letters, within, allAre, usedOf, part, letterWrong, placeWrong, usedWrong, paddingWrong, blockRows}
-use Rattle.blocks.specs.Tables.{Right, right-given}
+use Rattle.blocks.proofs.Tables.{Right, right-given}
 use Rattle.loadfile.specs.Layout.{headOf, frontOf, blockOf}
 use Rattle.loadfile.specs.File.{countOf, blocksOf, fileOf, blocksRows, payloadOf, blocksIn, refused, made, lengthWrong, readerOf, writerOf}
-use Rattle.loadfile.specs.Sizes.{front-length, block-length, chunk-length, blocks-length}
-use Rattle.loadfile.specs.Outcomes.{payload-right, length-fits, reader-made, reader-35, writer-lets}
+use Rattle.loadfile.proofs.Sizes.{front-length, block-length, chunk-length, blocks-length}
+use Rattle.loadfile.proofs.Outcomes.{payload-right, length-fits, reader-made, reader-35, writer-lets}
 use Rattle.loadfile_claims.proofs.Bytes.{Bytes, bytes-none, none, more, each-bytes, bytes-append, bytes-take, bytes-drop, bytes-replicate, repeated-all}
 
 -- one block, from its payload bytes
@@ -95,11 +95,11 @@ module _ (ℓ i n : ℕ) (chunk : List ℕ) (few : length chunk ≤ 505) where
   used-good-last e z =
       let a : eqb (usedOf (blockOf ℓ i n chunk)) 0 ≡ false = ne-eqb (usedOf (blockOf ℓ i n chunk)) 0 (λ (q : usedOf (blockOf ℓ i n chunk) ≡ 0). (omega (arith, used-is))) in
       let b : ltb 505 (usedOf (blockOf ℓ i n chunk)) ≡ false = le-ltb 505 (usedOf (blockOf ℓ i n chunk)) (omega (arith, used-is)) in
-      pick-true (eqb (i + 1) n) _ _ (eq-eqb _ _ e) ∙ ap (λ (t : Bool). t || ltb 505 (usedOf (blockOf ℓ i n chunk))) a ∙ b
+      if-true (eqb (i + 1) n) _ _ (eq-eqb _ _ e) ∙ ap (λ (t : Bool). t || ltb 505 (usedOf (blockOf ℓ i n chunk))) a ∙ b
 
   used-good-other : (i + 1 ≡ n → ⊥) → length chunk ≡ 505 → usedWrong i n (blockOf ℓ i n chunk) ≡ false
   unfolding usedWrong
-  used-good-other e z = pick-false (eqb (i + 1) n) _ _ (ne-eqb _ _ e) ∙ ap not (eq-eqb _ 505 (used-is ∙ z))
+  used-good-other e z = if-false (eqb (i + 1) n) _ _ (ne-eqb _ _ e) ∙ ap not (eq-eqb _ 505 (used-is ∙ z))
 
   pub block-right-last : isLetter ℓ ≡ true → i + 1 ≡ n → 0 < length chunk → Right ℓ i n (blockOf ℓ i n chunk)
   block-right-last e l z = record { check = check-good; letter = letter-good e; place = place-good; used = used-good-last l z; padding = padding-good }
@@ -206,7 +206,7 @@ within-bytes x (y ∷ ys) h e = go (eqb x y) refl (within-bytes x ys (λ (k : �
   where
     go : (t : Bool) → eqb x y ≡ t → (within x ys ≡ true → x < 256) → x < 256
     go true q rest = subst (λ (z : ℕ). z < 256) (sym (eqb-true x y q)) (h 0)
-    go false q rest = rest (sym (pick-false (eqb x y) true (within x ys) q) ∙ e)
+    go false q rest = rest (sym (if-false (eqb x y) true (within x ys) q) ∙ e)
 
 letter-byte : (ℓ : ℕ) → isLetter ℓ ≡ true → ℓ < 256
 unfolding isLetter

@@ -7,7 +7,8 @@ use lib.ListN.{length, getD, take, replicate, length-set, length-replicate}
 use lib.Seq.{length-take-le}
 use lib.Bits.{bitAnd, bitOr, and-le-l}
 use Rattle.chip.specs.Cells.{ones}
-use Rattle.cells.specs.Bytes.{Bytes, bytes-set, bytes-overlaid, bytes-replicate, bytes-take, overlaid-length}
+use Rattle.cells.specs.Lists.{Bytes}
+use Rattle.cells.proofs.Bytes.{bytes-set, bytes-overlaid, bytes-replicate, bytes-take, overlaid-length}
 use Rattle.device.specs.declared.Part.{Part}
 use Rattle.device.specs.declared.Device.{Device}
 use Rattle.device.specs.Parts.{startOf, lengthOf}

@@ -6,7 +6,7 @@ use native.Mathlib.Omega.{arith}
 use lib.Bits.{bitAnd, bitOr}
 use lib.Dec.{eqb, ltb, leb}
 use borrow.Author.Tests.{leb-false, ltb-false, eqb-false, ne-eqb, le-ltb}
-use Rattle.cells.specs.Pick.{pick-ind, and-right, or-left, or-right, or-both, unlike}
+use Rattle.cells.proofs.Choice.{if-ind, and-right, or-left, or-right, or-both, unlike}
 use Rattle.device.specs.declared.Device.{Device}
 use Rattle.device.specs.Parts.{sizeOf, unknownDevice, unknownPart}
 use Rattle.chip.specs.declared.State.{State}
@@ -79,12 +79,12 @@ counted-left d Suspended l p h e = absurd (unlike (sym p))
 pub settle-proper : (d : Device) (s : State) (c : Cycle) → Proper d s → Proper d (settleOf (d .part) s (c .pins) .state)
 unfolding settleOf cutBy countedOff
 settle-proper d s c p =
-    pick-ind In (rpLow (c .pins)) _ _ (λ e. fresh-proper d)
-    (λ e. pick-ind In (vppLow (d .part) (c .pins) && isPending (s .phase)) _ _
+    if-ind In (rpLow (c .pins)) _ _ (λ e. fresh-proper d)
+    (λ e. if-ind In (vppLow (d .part) (c .pins) && isPending (s .phase)) _ _
     (λ v. rest-proper d Status (bitOr (bitAnd (s .status) 191) (cutBits (s .phase)))
     (cut-status (s .phase) (and-right (vppLow (d .part) (c .pins)) (isPending (s .phase)) v) (s .status) (status-fits (s .phase) (s .status) (p .status))))
-    (λ v. pick-ind In (isBusy (s .phase)) _ _
-    (λ b. pick-ind In (leb (s .left) 1) _ _
+    (λ v. if-ind In (isBusy (s .phase)) _ _
+    (λ b. if-ind In (leb (s .left) 1) _ _
     (λ l. rest-proper d (s .mode) (bitOr (s .status) 128)
     (kept (λ y. bitOr y 128) 0 2 (omega arith) sr.finish (s .status) (subst (λ (n : ℕ). fits n (s .status) ≡ true) (busy-top (s .phase) b) (status-fits (s .phase) (s .status) (p .status)))))
     (λ l. record { mode = p .mode; status = p .status; left = counted-left d (s .phase) (s .left) b l (p .left); address = p .address }))
@@ -98,8 +98,8 @@ started-proper : (d : Device) (c : Cycle) (s : State) (ph : Phase) (time bit : �
     → Proper d (st (s .mode) (bitAnd (s .status) 127) ph time (c .address)) → Proper d (startedOf (d .part) c s ph time bit)
 unfolding startedOf
 started-proper d c s ph time bit low lock run =
-    pick-ind (λ (u : State). Proper d u) (unsupplied (d .part) c s) _ _ (λ e. rest-proper d (s .mode) (bitOr (bitOr (s .status) 8) bit) low)
-    (λ e. pick-ind (λ (u : State). Proper d u) (locked (d .part) c) _ _ (λ l. rest-proper d (s .mode) (bitOr (s .status) bit) lock) (λ l. run))
+    if-ind (λ (u : State). Proper d u) (unsupplied (d .part) c s) _ _ (λ e. rest-proper d (s .mode) (bitOr (bitOr (s .status) 8) bit) low)
+    (λ e. if-ind (λ (u : State). Proper d u) (locked (d .part) c) _ _ (λ l. rest-proper d (s .mode) (bitOr (s .status) bit) lock) (λ l. run))
 
 full : (most : ℕ) → (most ≡ 0 → ⊥) → (eqb most 0 || ltb most most) ≡ false
 full most z = or-both (eqb most 0) (ltb most most) (ne-eqb most 0 z) (le-ltb most most (omega arith))
@@ -109,20 +109,20 @@ pub act-proper : (d : Device) (c : Cycle) → (d .program ≡ 0 → ⊥) → (d 
     → (m : Mode) (x : ℕ) (ph : Phase) (l a : ℕ) → Proper d (st m x ph l a) → Proper d (performedOf (actionOf ph (c .byte)) d c (st m x ph l a))
 unfolding firstWrite afterErase whileErasing whileSuspended badStatus badLeft badAddress
 act-proper d c zp ze h m x Free l a p =
-    pick-ind P (eqb (c .byte) 0xFF) _ _ (λ e. record { mode = refl; status = p .status; left = p .left; address = p .address })
-    (λ e. pick-ind P (eqb (c .byte) 0x90) _ _ (λ e. record { mode = refl; status = p .status; left = p .left; address = p .address })
-    (λ e. pick-ind P (eqb (c .byte) 0x70) _ _ (λ e. record { mode = refl; status = p .status; left = p .left; address = p .address })
-    (λ e. pick-ind P (eqb (c .byte) 0x50) _ _
+    if-ind P (eqb (c .byte) 0xFF) _ _ (λ e. record { mode = refl; status = p .status; left = p .left; address = p .address })
+    (λ e. if-ind P (eqb (c .byte) 0x90) _ _ (λ e. record { mode = refl; status = p .status; left = p .left; address = p .address })
+    (λ e. if-ind P (eqb (c .byte) 0x70) _ _ (λ e. record { mode = refl; status = p .status; left = p .left; address = p .address })
+    (λ e. if-ind P (eqb (c .byte) 0x50) _ _
     (λ e. record { mode = refl; status = fits-status Free (bitAnd x 199) (kept (λ y. bitAnd y 199) 2 2 (omega arith) sr.clear x (status-fits Free x (p .status))); left = p .left; address = p .address })
-    (λ e. pick-ind P (eqb (c .byte) 0x20) _ _ (λ e. record { mode = refl; status = p .status; left = p .left; address = p .address })
-    (λ e. pick-ind P (eqb (c .byte) 0x40) _ _ (λ e. record { mode = refl; status = p .status; left = p .left; address = p .address })
+    (λ e. if-ind P (eqb (c .byte) 0x20) _ _ (λ e. record { mode = refl; status = p .status; left = p .left; address = p .address })
+    (λ e. if-ind P (eqb (c .byte) 0x40) _ _ (λ e. record { mode = refl; status = p .status; left = p .left; address = p .address })
     (λ e. p))))))
   where
     P : Action → Type 0
     P x′ = Proper d (performedOf x′ d c (st m x Free l a))
 act-proper d c zp ze h m x EraseAwaited l a p =
     let f : fits 2 x ≡ true = status-fits EraseAwaited x (p .status) in
-    pick-ind (λ (y : Action). Proper d (performedOf y d c (st m x EraseAwaited l a))) (eqb (c .byte) 0xD0) _ _
+    if-ind (λ (y : Action). Proper d (performedOf y d c (st m x EraseAwaited l a))) (eqb (c .byte) 0xD0) _ _
     (λ e. started-proper d c (st m x EraseAwaited l a) Erasing (d .erase) 32 (kept (λ y. bitOr (bitOr y 8) 32) 2 2 (omega arith) sr.low-erase x f)
     (kept (λ y. bitOr y 32) 2 2 (omega arith) sr.locked-erase x f)
     (record { mode = p .mode; status = fits-status Erasing (bitAnd x 127) (kept (λ y. bitAnd y 127) 2 0 (omega arith) sr.start x f); left = full (d .erase) ze; address = h }))
@@ -134,13 +134,13 @@ act-proper d c zp ze h m x DataAwaited l a p =
     (record { mode = p .mode; status = fits-status (Programming (c .byte)) (bitAnd x 127) (kept (λ y. bitAnd y 127) 2 0 (omega arith) sr.start x f); left = full (d .program) zp; address = h })
 act-proper d c zp ze h m x (Programming b) l a p = p
 act-proper d c zp ze h m x Erasing l a p =
-    pick-ind (λ (y : Action). Proper d (performedOf y d c (st m x Erasing l a))) (eqb (c .byte) 0xB0) _ _
+    if-ind (λ (y : Action). Proper d (performedOf y d c (st m x Erasing l a))) (eqb (c .byte) 0xB0) _ _
     (λ e. record { mode = refl; status = fits-status Suspended (bitOr x 192) (kept (λ y. bitOr y 192) 0 3 (omega arith) sr.suspend x (status-fits Erasing x (p .status))); left = p .left; address = p .address })
     (λ e. p)
 act-proper d c zp ze h m x Suspended l a p =
-    pick-ind P (eqb (c .byte) 0xFF) _ _ (λ e. record { mode = refl; status = p .status; left = p .left; address = p .address })
-    (λ e. pick-ind P (eqb (c .byte) 0x70) _ _ (λ e. record { mode = refl; status = p .status; left = p .left; address = p .address })
-    (λ e. pick-ind P (eqb (c .byte) 0xD0) _ _
+    if-ind P (eqb (c .byte) 0xFF) _ _ (λ e. record { mode = refl; status = p .status; left = p .left; address = p .address })
+    (λ e. if-ind P (eqb (c .byte) 0x70) _ _ (λ e. record { mode = refl; status = p .status; left = p .left; address = p .address })
+    (λ e. if-ind P (eqb (c .byte) 0xD0) _ _
     (λ e. record { mode = refl; status = fits-status Erasing (bitAnd x 63) (kept (λ y. bitAnd y 63) 3 0 (omega arith) sr.resume x (status-fits Suspended x (p .status))); left = p .left; address = p .address })
     (λ e. p)))
   where

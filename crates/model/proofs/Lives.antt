@@ -5,7 +5,8 @@ use Prim.Native.Nat.{ℕ, _+_}
 use native.Mathlib.Omega.{arith}
 use lib.Dec.{eqb, leb}
 use borrow.Author.Tests.{eqb-true, eqb-false, eq-eqb, ne-eqb}
-use Rattle.cells.specs.Pick.{pick, pick-ind, pick-same, pick-true, pick-false, unlike}
+use Rattle.cells.specs.Choice.{if_then_else_}
+use Rattle.cells.proofs.Choice.{if-ind, if-same, if-true, if-false, unlike}
 use Rattle.device.specs.declared.Part.{Part}
 use Rattle.device.specs.declared.Device.{Device}
 use Rattle.device.specs.Parts.{blockOf}
@@ -34,7 +35,7 @@ use Rattle.model.proofs.Keeping.{st}
 
 -- awaited before and running after: the same operation, told by the states
 abbrev pub begunFrom : Part → State → State → Effect
-begunFrom part s t = pick (isAwaited (s .phase)) (pendingOf part t) Nothing
+begunFrom part s t = if isAwaited (s .phase) then pendingOf part t else Nothing
 
 cut-same : (ph : Phase) (part : Part) (a : ℕ) → operationOf (cutOf ph part a) ≡ pendingIn ph part a
 cut-same Free part a = refl
@@ -73,7 +74,7 @@ pub settle-awaited : (part : Part) (s : State) (c : Cycle) → isAwaited (s .pha
 unfolding settleOf
 settle-awaited part s c e h = simp (h, still (s .phase) e .0, still (s .phase) e .1) (go (vppLow part (c .pins)))
   where
-    go : (b : Bool) → pick (b && false) (cutBy part s) (settledAs s Nothing) ≡ settledAs s Nothing
+    go : (b : Bool) → (if b && false then cutBy part s else settledAs s Nothing) ≡ settledAs s Nothing
     go true = refl
     go false = refl
 
@@ -81,9 +82,9 @@ settle-awaited part s c e h = simp (h, still (s .phase) e .0, still (s .phase) e
 settle-unawaited : (part : Part) (s : State) (c : Cycle) → isAwaited (s .phase) ≡ false → isAwaited (settleOf part s (c .pins) .state .phase) ≡ false
 unfolding settleOf cutBy countedOff
 settle-unawaited part s c e =
-    pick-ind In (rpLow (c .pins)) _ _ (λ x. refl)
-    (λ x. pick-ind In (vppLow part (c .pins) && isPending (s .phase)) _ _ (λ v. refl)
-    (λ v. pick-ind In (isBusy (s .phase)) _ _ (λ b. pick-ind In (leb (s .left) 1) _ _ (λ l. refl) (λ l. e)) (λ b. e)))
+    if-ind In (rpLow (c .pins)) _ _ (λ x. refl)
+    (λ x. if-ind In (vppLow part (c .pins) && isPending (s .phase)) _ _ (λ v. refl)
+    (λ v. if-ind In (isBusy (s .phase)) _ _ (λ b. if-ind In (leb (s .left) 1) _ _ (λ l. refl) (λ l. e)) (λ b. e)))
   where
     In : Settled → Type 0
     In t = isAwaited (t .state .phase) ≡ false
@@ -94,10 +95,10 @@ module _ (f : Effect → ℕ) (zero : f Nothing ≡ 0) where
       → f (operationOf (settleOf part s (c .pins) .effect)) + f (pendingOf part (settleOf part s (c .pins) .state)) ≡ f (pendingOf part s)
   unfolding settleOf cutBy countedOff
   settle-conserves part s c =
-      pick-ind In (rpLow (c .pins)) _ _ (λ x. over)
-      (λ x. pick-ind In (vppLow part (c .pins) && isPending (s .phase)) _ _ (λ v. over)
-      (λ v. pick-ind In (isBusy (s .phase)) _ _
-      (λ b. pick-ind In (leb (s .left) 1) _ _ (λ l. rw (end-same (s .phase) part (s .address) b, zero) (omega arith)) (λ l. same)) (λ b. same)))
+      if-ind In (rpLow (c .pins)) _ _ (λ x. over)
+      (λ x. if-ind In (vppLow part (c .pins) && isPending (s .phase)) _ _ (λ v. over)
+      (λ v. if-ind In (isBusy (s .phase)) _ _
+      (λ b. if-ind In (leb (s .left) 1) _ _ (λ l. rw (end-same (s .phase) part (s .address) b, zero) (omega arith)) (λ l. same)) (λ b. same)))
     where
       In : Settled → Type 0
       In t = f (operationOf (t .effect)) + f (pendingOf part (t .state)) ≡ f (pendingOf part s)
@@ -110,12 +111,12 @@ module _ (f : Effect → ℕ) (zero : f Nothing ≡ 0) where
 
 -- a second write starts what it asks for, unless it is unsupplied or locked
 started-pending : (part : Part) (c : Cycle) (s : State) (ph : Phase) (time bit : ℕ)
-    → pendingOf part (startedOf part c s ph time bit) ≡ pick (not (unsupplied part c s) && not (locked part c)) (pendingIn ph part (c .address)) Nothing
+    → pendingOf part (startedOf part c s ph time bit) ≡ (if not (unsupplied part c s) && not (locked part c) then pendingIn ph part (c .address) else Nothing)
 unfolding startedOf
 started-pending part c s ph time bit = go (unsupplied part c s) (locked part c) refl refl
   where
     go : (u l : Bool) → unsupplied part c s ≡ u → locked part c ≡ l
-        → pendingOf part (startedOf part c s ph time bit) ≡ pick (not (unsupplied part c s) && not (locked part c)) (pendingIn ph part (c .address)) Nothing
+        → pendingOf part (startedOf part c s ph time bit) ≡ (if not (unsupplied part c s) && not (locked part c) then pendingIn ph part (c .address) else Nothing)
     go true l e h = simp e
     go false true e h = simp (e, h)
     go false false e h = simp (e, h)
@@ -125,12 +126,12 @@ act-pending : (d : Device) (c : Cycle) (m : Mode) (x : ℕ) (ph : Phase) (l a : 
     → pendingOf (d .part) (performedOf (actionOf ph (c .byte)) d c (st m x ph l a)) ≡ pendingIn ph (d .part) a
 unfolding firstWrite whileErasing whileSuspended
 act-pending d c m x Free l a e =
-    pick-ind P (eqb (c .byte) 0xFF) _ _ (λ b. refl)
-    (λ b. pick-ind P (eqb (c .byte) 0x90) _ _ (λ b. refl)
-    (λ b. pick-ind P (eqb (c .byte) 0x70) _ _ (λ b. refl)
-    (λ b. pick-ind P (eqb (c .byte) 0x50) _ _ (λ b. refl)
-    (λ b. pick-ind P (eqb (c .byte) 0x20) _ _ (λ b. refl)
-    (λ b. pick-ind P (eqb (c .byte) 0x40) _ _ (λ b. refl) (λ b. refl))))))
+    if-ind P (eqb (c .byte) 0xFF) _ _ (λ b. refl)
+    (λ b. if-ind P (eqb (c .byte) 0x90) _ _ (λ b. refl)
+    (λ b. if-ind P (eqb (c .byte) 0x70) _ _ (λ b. refl)
+    (λ b. if-ind P (eqb (c .byte) 0x50) _ _ (λ b. refl)
+    (λ b. if-ind P (eqb (c .byte) 0x20) _ _ (λ b. refl)
+    (λ b. if-ind P (eqb (c .byte) 0x40) _ _ (λ b. refl) (λ b. refl))))))
   where
     P : Action → Type 0
     P y = pendingOf (d .part) (performedOf y d c (st m x Free l a)) ≡ Nothing
@@ -138,9 +139,9 @@ act-pending d c m x EraseAwaited l a e = absurd (unlike e)
 act-pending d c m x DataAwaited l a e = absurd (unlike e)
 act-pending d c m x (Programming b) l a e = refl
 act-pending d c m x Erasing l a e =
-    pick-ind (λ (y : Action). pendingOf (d .part) (performedOf y d c (st m x Erasing l a)) ≡ pendingIn Erasing (d .part) a) (eqb (c .byte) 0xB0) _ _ (λ b. refl) (λ b. refl)
+    if-ind (λ (y : Action). pendingOf (d .part) (performedOf y d c (st m x Erasing l a)) ≡ pendingIn Erasing (d .part) a) (eqb (c .byte) 0xB0) _ _ (λ b. refl) (λ b. refl)
 act-pending d c m x Suspended l a e =
-    pick-ind P (eqb (c .byte) 0xFF) _ _ (λ b. refl) (λ b. pick-ind P (eqb (c .byte) 0x70) _ _ (λ b. refl) (λ b. pick-ind P (eqb (c .byte) 0xD0) _ _ (λ b. refl) (λ b. refl)))
+    if-ind P (eqb (c .byte) 0xFF) _ _ (λ b. refl) (λ b. if-ind P (eqb (c .byte) 0x70) _ _ (λ b. refl) (λ b. if-ind P (eqb (c .byte) 0xD0) _ _ (λ b. refl) (λ b. refl)))
   where
     P : Action → Type 0
     P y = pendingOf (d .part) (performedOf y d c (st m x Suspended l a)) ≡ pendingIn Suspended (d .part) a
@@ -148,16 +149,16 @@ act-pending d c m x Suspended l a e =
 -- .. and what is asked for where one is
 act-starts : (d : Device) (c : Cycle) (m : Mode) (x : ℕ) (ph : Phase) (l a : ℕ) → isAwaited ph ≡ true
     → pendingOf (d .part) (performedOf (actionOf ph (c .byte)) d c (st m x ph l a))
-    ≡ pick (not (unsupplied (d .part) c (st m x ph l a)) && not (locked (d .part) c)) (askedBy ph (d .part) (c .address) (c .byte)) Nothing
+    ≡ (if not (unsupplied (d .part) c (st m x ph l a)) && not (locked (d .part) c) then askedBy ph (d .part) (c .address) (c .byte) else Nothing)
 unfolding afterErase
 act-starts d c m x Free l a e = absurd (unlike (sym e))
 act-starts d c m x EraseAwaited l a e = go (eqb (c .byte) 0xD0) refl
   where
     go : (b : Bool) → eqb (c .byte) 0xD0 ≡ b
-        → pendingOf (d .part) (performedOf (pick (eqb (c .byte) 0xD0) Confirm WrongSecond) d c (st m x EraseAwaited l a))
-        ≡ pick (not (unsupplied (d .part) c (st m x EraseAwaited l a)) && not (locked (d .part) c)) (pick (eqb (c .byte) 0xD0) (Erase (blockOf (d .part) (c .address))) Nothing) Nothing
+        → pendingOf (d .part) (performedOf (if eqb (c .byte) 0xD0 then Confirm else WrongSecond) d c (st m x EraseAwaited l a))
+        ≡ (if not (unsupplied (d .part) c (st m x EraseAwaited l a)) && not (locked (d .part) c) then (if eqb (c .byte) 0xD0 then Erase (blockOf (d .part) (c .address)) else Nothing) else Nothing)
     go true q = rw q (started-pending (d .part) c (st m x EraseAwaited l a) Erasing (d .erase) 32)
-    go false q = rw q (sym (pick-same (not (unsupplied (d .part) c (st m x EraseAwaited l a)) && not (locked (d .part) c)) Nothing))
+    go false q = rw q (sym (if-same (not (unsupplied (d .part) c (st m x EraseAwaited l a)) && not (locked (d .part) c)) Nothing))
 act-starts d c m x DataAwaited l a e = started-pending (d .part) c (st m x DataAwaited l a) (Programming (c .byte)) (d .program) 16
 act-starts d c m x (Programming b) l a e = absurd (unlike (sym e))
 act-starts d c m x Erasing l a e = absurd (unlike (sym e))
@@ -195,7 +196,7 @@ starts-from d s c = go (isAwaited (s .phase)) refl (rpLow (c .pins)) refl
     G : State → Type 0
     G u = startsOf part s c ≡ begunFrom part s u
 
-    starts : (w r : Bool) → isWrite (c .kind) ≡ w → rpLow (c .pins) ≡ r → startsOf part s c ≡ pick (((w && not r) && not (unsupplied part c s)) && not (locked part c)) asked Nothing
+    starts : (w r : Bool) → isWrite (c .kind) ≡ w → rpLow (c .pins) ≡ r → startsOf part s c ≡ (if ((w && not r) && not (unsupplied part c s)) && not (locked part c) then asked else Nothing)
     starts w r e h = simp (e, h)
 
     none : (e : isAwaited (s .phase) ≡ true) → begunFrom part s s ≡ Nothing
@@ -205,22 +206,22 @@ starts-from d s c = go (isAwaited (s .phase)) refl (rpLow (c .pins)) refl
     kinds Read k e h = starts false false (ap isWrite k) h ∙ sym (none e)
     kinds Write k e h =
         starts true false (ap isWrite k) h
-        ∙ sym (pick-true (isAwaited (s .phase)) _ Nothing e ∙ act-starts d c (s .mode) (s .status) (s .phase) (s .left) (s .address) e)
+        ∙ sym (if-true (isAwaited (s .phase)) _ Nothing e ∙ act-starts d c (s .mode) (s .status) (s .phase) (s .left) (s .address) e)
     kinds Idle k e h = starts false false (ap isWrite k) h ∙ sym (none e)
 
-    low : (w : Bool) → pick (((w && not true) && not (unsupplied part c s)) && not (locked part c)) asked Nothing ≡ Nothing
+    low : (w : Bool) → (if ((w && not true) && not (unsupplied part c s)) && not (locked part c) then asked else Nothing) ≡ Nothing
     low true = refl
     low false = refl
 
     go : (a : Bool) → isAwaited (s .phase) ≡ a → (r : Bool) → rpLow (c .pins) ≡ r → G (acceptOf d c (settleOf part s (c .pins)) .state)
     go false e r h =
         starts (isWrite (c .kind)) (rpLow (c .pins)) refl refl
-        ∙ ap (λ (x : Effect). pick (((isWrite (c .kind) && not (rpLow (c .pins))) && not (unsupplied part c s)) && not (locked part c)) x Nothing) (unasked (s .phase) part (c .address) (c .byte) e)
-        ∙ pick-same (((isWrite (c .kind) && not (rpLow (c .pins))) && not (unsupplied part c s)) && not (locked part c)) Nothing
-        ∙ sym (pick-false (isAwaited (s .phase)) _ Nothing e)
+        ∙ ap (λ (x : Effect). (if ((isWrite (c .kind) && not (rpLow (c .pins))) && not (unsupplied part c s)) && not (locked part c) then x else Nothing)) (unasked (s .phase) part (c .address) (c .byte) e)
+        ∙ if-same (((isWrite (c .kind) && not (rpLow (c .pins))) && not (unsupplied part c s)) && not (locked part c)) Nothing
+        ∙ sym (if-false (isAwaited (s .phase)) _ Nothing e)
     go true e true h =
         starts (isWrite (c .kind)) true refl h ∙ low (isWrite (c .kind))
-        ∙ sym (ap (λ (u : State). begunFrom part s u) (accept-low d s c h) ∙ pick-same (isAwaited (s .phase)) Nothing)
+        ∙ sym (ap (λ (u : State). begunFrom part s u) (accept-low d s c h) ∙ if-same (isAwaited (s .phase)) Nothing)
     go true e false h = rw (accept-up d c (settleOf part s (c .pins)) h, settle-awaited part s c e h) (kinds (c .kind) refl e h)
 
 -- nothing begins from a state to itself
@@ -237,7 +238,7 @@ unfolding begunBy
 begun-from d s c n r = go (eqb (numberOf d s c n r) 0) refl
   where
     go : (b : Bool) → eqb (numberOf d s c n r) 0 ≡ b
-        → pick (eqb (numberOf d s c n r) 0) (startsOf (d .part) s c) Nothing ≡ begunFrom (d .part) s (decideOf d s c n r .state)
+        → (if eqb (numberOf d s c n r) 0 then startsOf (d .part) s c else Nothing) ≡ begunFrom (d .part) s (decideOf d s c n r .state)
     go true e = rw (e, accepted d s c n r (eqb-true _ _ e)) (starts-from d s c)
     go false e = rw (e, refused d s c n r (numberOf d s c n r) refl (eqb-false _ _ e)) (sym (begun-still (d .part) s))
 
@@ -253,7 +254,7 @@ module _ (f : Effect → ℕ) (none : f Nothing ≡ 0) where
       ≡ f (begunFrom (d .part) s (acceptOf d c (settleOf (d .part) s (c .pins)) .state)) + f (pendingOf (d .part) (settleOf (d .part) s (c .pins) .state))
   accept-adds d s c =
       accept-ways d c t P
-      (λ h. rw (settle-low (d .part) s c h, pick-same (isAwaited (s .phase)) Nothing, none) (omega arith))
+      (λ h. rw (settle-low (d .part) s c h, if-same (isAwaited (s .phase)) Nothing, none) (omega arith))
       (λ h k q. go (isAwaited (s .phase)) refl h k)
     where
       t : Settled
@@ -279,13 +280,13 @@ module _ (f : Effect → ℕ) (none : f Nothing ≡ 0) where
 
 -- with no second write awaited a cycle begins nothing; a resume is such a cycle
 pub begun-unawaited : (d : Device) (s : State) (c : Cycle) (n r : ℕ) → isAwaited (s .phase) ≡ false → begunBy d s c n r ≡ Nothing
-begun-unawaited d s c n r e = begun-from d s c n r ∙ pick-false (isAwaited (s .phase)) (pendingOf (d .part) (decideOf d s c n r .state)) Nothing e
+begun-unawaited d s c n r e = begun-from d s c n r ∙ if-false (isAwaited (s .phase)) (pendingOf (d .part) (decideOf d s c n r .state)) Nothing e
 
 -- a refused cycle begins nothing, and an accepted one what it starts
 pub begun-refused : (d : Device) (s : State) (c : Cycle) (n r : ℕ) → (numberOf d s c n r ≡ 0 → ⊥) → begunBy d s c n r ≡ Nothing
 unfolding begunBy
-begun-refused d s c n r z = pick-false (eqb (numberOf d s c n r) 0) (startsOf (d .part) s c) Nothing (ne-eqb (numberOf d s c n r) 0 z)
+begun-refused d s c n r z = if-false (eqb (numberOf d s c n r) 0) (startsOf (d .part) s c) Nothing (ne-eqb (numberOf d s c n r) 0 z)
 
 pub begun-accepted : (d : Device) (s : State) (c : Cycle) (n r : ℕ) → numberOf d s c n r ≡ 0 → begunBy d s c n r ≡ startsOf (d .part) s c
 unfolding begunBy
-begun-accepted d s c n r e = pick-true (eqb (numberOf d s c n r) 0) (startsOf (d .part) s c) Nothing (eq-eqb (numberOf d s c n r) 0 e)
+begun-accepted d s c n r e = if-true (eqb (numberOf d s c n r) 0) (startsOf (d .part) s c) Nothing (eq-eqb (numberOf d s c n r) 0 e)

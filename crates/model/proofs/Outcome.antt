@@ -4,7 +4,7 @@ use mathlib.Core.Bool.{Bool, true, false}
 use Prim.Native.Nat.{ℕ}
 use lib.Dec.{eqb}
 use borrow.Author.Tests.{eqb-true, eqb-false}
-use Rattle.cells.specs.Pick.{pick}
+use Rattle.cells.specs.Choice.{if_then_else_}
 use Rattle.device.specs.declared.Device.{Device}
 use Rattle.chip.specs.declared.State.{State}
 use Rattle.chip.specs.declared.Cycle.{Cycle}
@@ -38,7 +38,7 @@ pub accept-ways : (d : Device) (c : Cycle) (t : Settled) (P : Decision → Type 
 unfolding acceptOf
 accept-ways d c t P f g = go (rpLow (c .pins)) refl
   where
-    go : (b : Bool) → rpLow (c .pins) ≡ b → P (pick (rpLow (c .pins)) (decidedAs Quiet (t .state) (t .effect)) (respondOf (c .kind) d c t))
+    go : (b : Bool) → rpLow (c .pins) ≡ b → P (if rpLow (c .pins) then decidedAs Quiet (t .state) (t .effect) else respondOf (c .kind) d c t)
     go true e = rw e (f e)
     go false e = rw e (g e (c .kind) refl)
 

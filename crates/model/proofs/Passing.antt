@@ -6,7 +6,7 @@ use Prim.Native.Nat.{ℕ}
 use lib.ListN.{length}
 use lib.Dec.{eqb, ltb, leb}
 use borrow.Author.Tests.{lt-ltb, ltb-true, le-leb, leb-true, eq-eqb, eqb-true}
-use Rattle.cells.specs.Pick.{pick-true, and-left, and-right}
+use Rattle.cells.proofs.Choice.{if-true, and-left, and-right}
 use Rattle.device.specs.declared.Part.{Part}
 use Rattle.device.specs.declared.Device.{Device}
 use Rattle.device.specs.Parts.{sizeOf, lengthOf}
@@ -51,7 +51,7 @@ module _ (d : Device) (s : State) (c : Cycle) (xs rs : List ℕ) (z : judgeOf d 
   unfolding arrayPassed arrayAfter
   passed-array =
       sym (ap (λ (x : Decision). doneOf (x .effect) (d .part) rs xs) same)
-      ∙ pick-true (findsIn (decideOf d s c (length xs) (length rs) .effect) (d .part) (length xs) (length rs)) _ _
+      ∙ if-true (findsIn (decideOf d s c (length xs) (length rs) .effect) (d .part) (length xs) (length rs)) _ _
       (finds (decideOf d s c (length xs) (length rs) .effect) (d .part) (length xs) (length rs) (within d s c (length xs) (length rs)))
 
   pub passed-answer : passedOf d s c xs rs ≡ answerOf d s c xs rs

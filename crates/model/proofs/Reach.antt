@@ -5,7 +5,8 @@ use Prim.Native.Nat.{ℕ, _≤_}
 use native.Mathlib.Omega.{arith}
 use lib.Dec.{eqb, ltb, leb}
 use borrow.Author.Tests.{leb-false, ltb-false}
-use Rattle.cells.specs.Pick.{pick, pick-ind, and-rest, and-left}
+use Rattle.cells.specs.Choice.{if_then_else_}
+use Rattle.cells.proofs.Choice.{if-ind, and-rest, and-left}
 use Rattle.device.specs.declared.Part.{Part}
 use Rattle.device.specs.declared.Device.{Device}
 use Rattle.device.specs.Parts.{sizeOf}
@@ -24,7 +25,7 @@ use Rattle.model.proofs.Outcome.{outcome, accept-effect}
 use Rattle.model.specs.Arrays.{Within}
 
 -- a cut and an end find their bytes
-cut-within : (ph : Phase) (part : Part) (a n r : ℕ) → n ≡ sizeOf part → pick (isPending ph) (leb (sizeOf part) a) (not (eqb a 0)) ≡ false
+cut-within : (ph : Phase) (part : Part) (a n r : ℕ) → n ≡ sizeOf part → (if isPending ph then leb (sizeOf part) a else not (eqb a 0)) ≡ false
     → residueFor ph part a ≤ r → Within (cutOf ph part a) part n r
 cut-within Free part a n r e b h = refl
 cut-within EraseAwaited part a n r e b h = refl
@@ -33,7 +34,7 @@ cut-within (Programming x) part a n r e b h = (omega (arith, leb-false (sizeOf p
 cut-within Erasing part a n r e b h = (e, h)
 cut-within Suspended part a n r e b h = (e, h)
 
-end-within : (ph : Phase) (part : Part) (a n r : ℕ) → n ≡ sizeOf part → pick (isPending ph) (leb (sizeOf part) a) (not (eqb a 0)) ≡ false
+end-within : (ph : Phase) (part : Part) (a n r : ℕ) → n ≡ sizeOf part → (if isPending ph then leb (sizeOf part) a else not (eqb a 0)) ≡ false
     → Within (endOf ph part a) part n r
 end-within Free part a n r e b = refl
 end-within EraseAwaited part a n r e b = refl
@@ -46,11 +47,11 @@ end-within Suspended part a n r e b = refl
 settle-within : (d : Device) (s : State) (c : Cycle) (n r : ℕ) → Fine d s c n r → Within (settleOf (d .part) s (c .pins) .effect) (d .part) n r
 unfolding settleOf cutBy countedOff badAddress shortResidue
 settle-within d s c n r f =
-    pick-ind In (rpLow (c .pins)) _ _ (λ e. cut-within (s .phase) (d .part) (s .address) n r (f .sized) (f .proper .address) (long (simp e)))
-    (λ e. pick-ind In (vppLow (d .part) (c .pins) && isPending (s .phase)) _ _
+    if-ind In (rpLow (c .pins)) _ _ (λ e. cut-within (s .phase) (d .part) (s .address) n r (f .sized) (f .proper .address) (long (simp e)))
+    (λ e. if-ind In (vppLow (d .part) (c .pins) && isPending (s .phase)) _ _
     (λ v. cut-within (s .phase) (d .part) (s .address) n r (f .sized) (f .proper .address) (long (simp (e, and-left (vppLow (d .part) (c .pins)) (isPending (s .phase)) v))))
-    (λ v. pick-ind In (isBusy (s .phase)) _ _
-    (λ b. pick-ind In (leb (s .left) 1) _ _ (λ l. end-within (s .phase) (d .part) (s .address) n r (f .sized) (f .proper .address)) (λ l. refl))
+    (λ v. if-ind In (isBusy (s .phase)) _ _
+    (λ b. if-ind In (leb (s .left) 1) _ _ (λ l. end-within (s .phase) (d .part) (s .address) n r (f .sized) (f .proper .address)) (λ l. refl))
     (λ b. refl)))
   where
     In : Settled → Type 0

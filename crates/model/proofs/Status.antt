@@ -7,7 +7,7 @@ use native.Mathlib.Omega.{arith}
 use lib.Bits.{bitAnd, bitOr}
 use lib.Dec.{eqb}
 use borrow.Author.Tests.{eqb-true, eqb-false, not-false}
-use Rattle.cells.specs.Pick.{and-left, and-right, or-left, or-right, unlike}
+use Rattle.cells.proofs.Choice.{and-left, and-right, or-left, or-right, unlike}
 use Rattle.chip.specs.declared.Phase.{Phase}
 use Rattle.chip.specs.declared.Phase.the-variants.{Free, EraseAwaited, DataAwaited, Programming, Erasing, Suspended}
 use Rattle.chip.specs.States.{badStatus, topBits}

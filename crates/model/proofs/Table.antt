@@ -5,7 +5,8 @@ use mathlib.Core.Logic.{_↔_}
 use Prim.Native.Nat.{ℕ}
 use native.Mathlib.Omega.{arith}
 use lib.ListN.{length}
-use Rattle.cells.specs.Numbers.{Foremost, NoRow, given-foremost, foremost-given, given-no-row, no-row-given}
+use Rattle.cells.specs.Numbers.{Foremost, NoRow}
+use Rattle.cells.proofs.Numbers.{given-foremost, foremost-given, given-no-row, no-row-given}
 use Rattle.device.specs.declared.Device.{Device}
 use Rattle.chip.specs.declared.State.{State}
 use Rattle.chip.specs.declared.Cycle.{Cycle}
@@ -21,7 +22,7 @@ use Rattle.chip.specs.declared.Effect.the-variants.{Nothing}
 use Rattle.settling.specs.Settling.{settleOf}
 use Rattle.bus.specs.Cycles.{tableOf, numberOf, decideOf, acceptOf, respondOf, readOf}
 use mathlib.Core.Bool.{Bool, true, false}
-use Rattle.cells.specs.Pick.{unlike}
+use Rattle.cells.proofs.Choice.{unlike}
 use Rattle.bus.proofs.Ways.{refused, accepted}
 use Rattle.model.specs.declared.Seen.the-variants.{Refused}
 use Rattle.model.specs.Arrays.{arrayAfter, answerOf, seenOf}

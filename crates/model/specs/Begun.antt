@@ -2,7 +2,7 @@
 use mathlib.Core.Bool.{Bool, true, false, not, _&&_}
 use Prim.Native.Nat.{ℕ}
 use lib.Dec.{eqb}
-use Rattle.cells.specs.Pick.{pick}
+use Rattle.cells.specs.Choice.{if_then_else_}
 use Rattle.device.specs.declared.Part.{Part}
 use Rattle.device.specs.declared.Device.{Device}
 use Rattle.device.specs.Parts.{blockOf}
@@ -39,7 +39,7 @@ pendingOf part s = pendingIn (s .phase) part (s .address)
 -- what a second write asks for at its own address: after 20H an erase by D0H, after 40H a program of whatever byte
 abbrev pub askedBy : Phase → Part → ℕ → ℕ → Effect
 askedBy Free part a b = Nothing
-askedBy EraseAwaited part a b = pick (eqb b 0xD0) (Erase (blockOf part a)) Nothing
+askedBy EraseAwaited part a b = if eqb b 0xD0 then Erase (blockOf part a) else Nothing
 askedBy DataAwaited part a b = Program a b
 askedBy (Programming x) part a b = Nothing
 askedBy Erasing part a b = Nothing
@@ -48,13 +48,13 @@ askedBy Suspended part a b = Nothing
 -- a write with RP# up that is neither unsupplied nor locked starts what it asks for
 unfoldable pub startsOf : Part → State → Cycle → Effect
 startsOf part s c =
-    pick (((isWrite (c .kind) && not (rpLow (c .pins))) && not (unsupplied part c s)) && not (locked part c))
-    (askedBy (s .phase) part (c .address) (c .byte))
-    Nothing
+    if ((isWrite (c .kind) && not (rpLow (c .pins))) && not (unsupplied part c s)) && not (locked part c)
+    then askedBy (s .phase) part (c .address) (c .byte)
+    else Nothing
 
 -- the operation that a cycle begins; a refused cycle begins none
 unfoldable pub begunBy : Device → State → Cycle → ℕ → ℕ → Effect
-begunBy d s c array residue = pick (eqb (numberOf d s c array residue) 0) (startsOf (d .part) s c) Nothing
+begunBy d s c array residue = if eqb (numberOf d s c array residue) 0 then startsOf (d .part) s c else Nothing
 
 -- a second write is awaited
 abbrev pub isAwaited : Phase → Bool

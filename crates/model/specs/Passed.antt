@@ -6,7 +6,7 @@ use Prim.Native.Nat.{ℕ}
 use lib.ListN.{length, getD, set}
 use lib.Dec.{eqb, ltb, leb}
 use lib.Bits.{bitAnd}
-use Rattle.cells.specs.Pick.{pick}
+use Rattle.cells.specs.Choice.{if_then_else_}
 use Rattle.device.specs.Parts.{sizeOf, lengthOf, blockOf}
 use Rattle.device.specs.declared.Part.{Part}
 use Rattle.device.specs.declared.Device.{Device}
@@ -28,14 +28,14 @@ findsIn (CutErase k) part n r = eqb n (sizeOf part) && leb (lengthOf part k) r
 
 -- an effect done where it finds its bytes, and left undone elsewhere
 abbrev pub doneOf : Effect → Part → List ℕ → List ℕ → List ℕ
-doneOf e part rs xs = pick (findsIn e part (length xs) (length rs)) (arrayOf e part rs xs) xs
+doneOf e part rs xs = if findsIn e part (length xs) (length rs) then arrayOf e part rs xs else xs
 
 -- a program that ends, and an erase that ends, on any array
 unfoldable pub programmedAt : ℕ → ℕ → List ℕ → List ℕ
-programmedAt at b xs = pick (ltb at (length xs)) (set xs at (bitAnd (getD xs at 0) b)) xs
+programmedAt at b xs = if ltb at (length xs) then set xs at (bitAnd (getD xs at 0) b) else xs
 
 unfoldable pub erasedAt : Part → ℕ → List ℕ → List ℕ
-erasedAt part a xs = pick (eqb (length xs) (sizeOf part)) (erased part (blockOf part a) xs) xs
+erasedAt part a xs = if eqb (length xs) (sizeOf part) then erased part (blockOf part a) xs else xs
 
 -- the array after a cycle that passed, and the answer to it
 unfoldable pub arrayPassed : Device → State → Cycle → List ℕ → List ℕ → List ℕ

@@ -8,7 +8,7 @@ use native.Mathlib.Omega.{arith}
 use lib.Dec.{eqb}
 use lib.ListN.{length, take, drop}
 use borrow.Author.Tests.{ne-eqb}
-use Rattle.cells.specs.Pick.{pick-false}
+use Rattle.cells.proofs.Choice.{if-false}
 use Rattle.cells.specs.Numbers.{Foremost}
 use Rattle.chip.specs.declared.State.{State}
 use Rattle.chip.specs.declared.Cycle.{Cycle}
@@ -38,7 +38,7 @@ good-line k n s xs rs text e = rw e refl
 -- what ends before line n, with bytes left over, ends with its mark
 marked : (n left : ℕ) → (left ≡ 0 → ⊥) → endOf n left ≡ markOf n
 unfolding endOf
-marked n left h = pick-false (eqb left 0) [] (markOf n) (ne-eqb left 0 h)
+marked n left h = if-false (eqb left 0) [] (markOf n) (ne-eqb left 0 h)
 
 pub bad-line : (k n : ℕ) (s : State) (xs rs text : List ℕ) → isLine (take 20 text) ≡ false → (length text ≡ 0 → ⊥)
     → outputFrom (suc k) n s xs rs text ≡ markOf n

@@ -7,7 +7,7 @@ use native.Mathlib.Omega.{arith}
 use lib.Dec.{eqb}
 use lib.ListN.{length}
 use borrow.Author.Tests.{eq-eqb, le-ltb}
-use Rattle.cells.specs.Pick.{and-none}
+use Rattle.cells.proofs.Choice.{and-none}
 use Rattle.cells.specs.Numbers.{row, given}
 use Rattle.device.specs.Parts.{unknownDevice, unknownPart, sizeOf, sizeIn, shapeOf, lengthOf, blockOf}
 use Rattle.device.proofs.Claims.{blocks-end-inside}

@@ -8,7 +8,8 @@ use native.Mathlib.Nat.{add-zero}
 use lib.ListN.{length, take, drop, length-take, length-drop}
 use lib.Seq.{drop-drop}
 use borrow.Author.Tests.{ne-eqb}
-use Rattle.cells.specs.Pick.{pick, pick-true, pick-false}
+use Rattle.cells.specs.Choice.{if_then_else_}
+use Rattle.cells.proofs.Choice.{if-true, if-false}
 use Rattle.lines.proofs.Forms.{line-length}
 use Rattle.lines.specs.Lines.{isLine}
 use Rattle.replay.specs.Replays.{goodLines}
@@ -23,7 +24,7 @@ cut-off text a h =
     not-line (take 20 (drop a text))
     (λ (e : length (take 20 (drop a text)) ≡ 20). let l : min 20 (length text - a) ≡ 20 = ap (λ (n : ℕ). min 20 n) (sym (length-drop a text)) ∙ sym (length-take 20 (drop a text)) ∙ e in omega arith)
 
-more : (k : ℕ) (text : List ℕ) → goodLines (suc k) text ≡ pick (isLine (take 20 text)) (suc (goodLines k (drop 20 text))) 0
+more : (k : ℕ) (text : List ℕ) → goodLines (suc k) text ≡ (if isLine (take 20 text) then suc (goodLines k (drop 20 text)) else 0)
 unfolding goodLines
 more k text = refl
 
@@ -32,10 +33,10 @@ unfolding goodLines
 none text = refl
 
 pub good-first : (k : ℕ) (text : List ℕ) → isLine (take 20 text) ≡ true → goodLines (suc k) text ≡ suc (goodLines k (drop 20 text))
-good-first k text e = more k text ∙ pick-true (isLine (take 20 text)) (suc (goodLines k (drop 20 text))) 0 e
+good-first k text e = more k text ∙ if-true (isLine (take 20 text)) (suc (goodLines k (drop 20 text))) 0 e
 
 pub bad-first : (k : ℕ) (text : List ℕ) → isLine (take 20 text) ≡ false → goodLines (suc k) text ≡ 0
-bad-first k text e = more k text ∙ pick-false (isLine (take 20 text)) (suc (goodLines k (drop 20 text))) 0 e
+bad-first k text e = more k text ∙ if-false (isLine (take 20 text)) (suc (goodLines k (drop 20 text))) 0 e
 
 -- the text after line i: what is left is one line shorter
 pub past : (i : ℕ) (text : List ℕ) → drop 20 (drop (20 * i) text) ≡ drop (20 * (i + 1)) text

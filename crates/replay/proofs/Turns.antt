@@ -9,8 +9,10 @@ use lib.ListN.{length, take, drop, length-append, length-drop, take-append-drop}
 use borrow.Author.Tests.{eq-eqb}
 use lib.Seq.{take-nil, drop-drop, take-at, drop-at, length-take-le, take-all}
 use borrow.Rule.Slice.PartMut.{putMid, midOf, mid-len, drop-put, same-len-mid}
-use Rattle.cells.specs.Pick.{pick, pick-true}
-use Rattle.cells.specs.Lists.{copied, copied-whole}
+use Rattle.cells.specs.Choice.{if_then_else_}
+use Rattle.cells.proofs.Choice.{if-true}
+use Rattle.cells.specs.Lists.{copied}
+use Rattle.cells.proofs.Lists.{copied-whole}
 use Rattle.chip.specs.declared.State.{State}
 use Rattle.model.specs.declared.Answer.{Answer}
 use Rattle.lines.specs.Lines.{isLine, cycleIn}
@@ -177,7 +179,7 @@ pub end-any : (n left : ℕ) → length (endOf n left) ≡ length (endOf 0 left)
 unfolding endOf markOf
 end-any n left = go (eqb left 0) refl
   where
-    go : (b : Bool) → eqb left 0 ≡ b → length (pick (eqb left 0) [] (markOf n)) ≡ length (pick (eqb left 0) [] (markOf 0))
+    go : (b : Bool) → eqb left 0 ≡ b → length (if eqb left 0 then [] else markOf n) ≡ length (if eqb left 0 then [] else markOf 0)
     go true e = rw e refl
     go false e = rw e refl
 
@@ -185,14 +187,14 @@ end-any n left = go (eqb left 0) refl
 pub end-nothing : (n left : ℕ) (out : List ℕ) → left ≡ 0 → out ≡ copied out (endOf n left)
 unfolding endOf
 end-nothing n left out h =
-    let e : pick (eqb left 0) [] (markOf n) ≡ [] = pick-true (eqb left 0) [] (markOf n) (eq-eqb left 0 h) in
+    let e : (if eqb left 0 then [] else markOf n) ≡ [] = if-true (eqb left 0) [] (markOf n) (eq-eqb left 0 h) in
     sym (ap (λ (w : List ℕ). copied out w) e ∙ ap (λ (w : List ℕ). w ++ out) (take-nil (length out)))
 
 pub end-short : (left : ℕ) → length (endOf 0 left) ≤ 7
 unfolding endOf markOf
 end-short left = go (eqb left 0) refl
   where
-    go : (b : Bool) → eqb left 0 ≡ b → length (pick (eqb left 0) [] (markOf 0)) ≤ 7
+    go : (b : Bool) → eqb left 0 ≡ b → length (if eqb left 0 then [] else markOf 0) ≤ 7
     go true e = rw e (omega arith)
     go false e = rw e (omega arith)
 

@@ -8,7 +8,7 @@ use lib.ListN.{length, drop, length-append}
 use lib.Seq.{length-take-le}
 use borrow.Author.Tests.{lt-ltb, le-ltb}
 use borrow.Rule.Slice.PartMut.{putMid, midOf, same-len-mid}
-use Rattle.cells.specs.Pick.{pick-true, pick-false}
+use Rattle.cells.proofs.Choice.{if-true, if-false}
 use Rattle.cells.specs.Lists.{copied}
 use Rattle.chip.specs.States.{freshState}
 use Rattle.replay.specs.Answers.{endOf}
@@ -19,11 +19,11 @@ use Rattle.replay.proofs.Turns.{answers-length, end-any, end-short, put
 -- where the room is too short, a slice is as it was; where it is not, it is the other
 held-short : (room : ℕ) (ys before after : List ℕ) → room < length ys → before ≡ heldIn room ys before after
 unfolding heldIn
-held-short room ys before after h = sym (pick-true (ltb room (length ys)) before after (lt-ltb room (length ys) h))
+held-short room ys before after h = sym (if-true (ltb room (length ys)) before after (lt-ltb room (length ys) h))
 
 held-long : (room : ℕ) (ys before after : List ℕ) → length ys ≤ room → after ≡ heldIn room ys before after
 unfolding heldIn
-held-long room ys before after h = sym (pick-false (ltb room (length ys)) before after (le-ltb room (length ys) h))
+held-long room ys before after h = sym (if-false (ltb room (length ys)) before after (le-ltb room (length ys) h))
 
 module _ (g el : ℕ) (xs rs text out : List ℕ) (eg : g ≡ goodLines 9998 text) (ee : el ≡ length (endOf 0 (length text - 20 * g))) where
   pub few : g ≤ 9998
@@ -62,7 +62,7 @@ module _ (g el : ℕ) (xs rs text out : List ℕ) (eg : g ≡ goodLines 9998 tex
     pub refused : replayedAs 37 0 ≡ replayedIn (length out) (outputOf xs rs text)
     unfolding replayedIn
     refused =
-        sym (pick-true (ltb (length out) (length (outputOf xs rs text))) (replayedAs 37 0) (replayedAs 0 (length (outputOf xs rs text))) (lt-ltb (length out) (length (outputOf xs rs text)) lacks))
+        sym (if-true (ltb (length out) (length (outputOf xs rs text))) (replayedAs 37 0) (replayedAs 0 (length (outputOf xs rs text))) (lt-ltb (length out) (length (outputOf xs rs text)) lacks))
 
     pub refused-array : xs ≡ heldIn (length out) (outputOf xs rs text) xs (arrayLeft xs rs text)
     refused-array = held-short (length out) (outputOf xs rs text) xs (arrayLeft xs rs text) lacks
@@ -79,7 +79,7 @@ module _ (g el : ℕ) (xs rs text out : List ℕ) (eg : g ≡ goodLines 9998 tex
     unfolding replayedIn
     done =
         ap (λ (m : ℕ). replayedAs 0 m) (sym whole-length)
-        ∙ sym (pick-false (ltb (length out) (length (outputOf xs rs text))) (replayedAs 37 0) (replayedAs 0 (length (outputOf xs rs text))) (le-ltb (length out) (length (outputOf xs rs text)) fits))
+        ∙ sym (if-false (ltb (length out) (length (outputOf xs rs text))) (replayedAs 37 0) (replayedAs 0 (length (outputOf xs rs text))) (le-ltb (length out) (length (outputOf xs rs text)) fits))
 
     pub done-array : (ys : List ℕ) → ys ≡ arraysOf g freshState xs rs text → ys ≡ heldIn (length out) (outputOf xs rs text) xs (arrayLeft xs rs text)
     done-array ys e = e ∙ sym array-left ∙ held-long (length out) (outputOf xs rs text) xs (arrayLeft xs rs text) fits

@@ -2,7 +2,7 @@
 use mathlib.Core.List.{List, [], _∷_}
 use Prim.Native.Nat.{ℕ, _/_, _%_}
 use lib.Dec.{eqb}
-use Rattle.cells.specs.Pick.{pick}
+use Rattle.cells.specs.Choice.{if_then_else_}
 use Rattle.model.specs.declared.Seen.{Seen}
 use Rattle.model.specs.declared.Seen.the-variants.{NoData, Byte, Refused}
 use Rattle.model.specs.declared.Answer.{Answer}
@@ -39,4 +39,4 @@ markOf n = 63 ∷ 32 ∷ decimalDigit (n / 1000) ∷ decimalDigit (n / 100) ∷ 
 
 -- how a trace ends before line n: without a word where no byte is left over, else with the mark
 unfoldable pub endOf : ℕ → ℕ → List ℕ
-endOf n left = pick (eqb left 0) [] (markOf n)
+endOf n left = if eqb left 0 then [] else markOf n

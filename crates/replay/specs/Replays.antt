@@ -4,7 +4,7 @@ use mathlib.Core.List.{List, [], _++_}
 use Prim.Native.Nat.{ℕ, zero, suc, _≤_}
 use lib.Dec.{ltb}
 use lib.ListN.{length, take, drop}
-use Rattle.cells.specs.Pick.{pick}
+use Rattle.cells.specs.Choice.{if_then_else_}
 use Rattle.device.specs.declared.Device.{Device}
 use Rattle.chip.specs.declared.State.{State}
 use Rattle.chip.specs.declared.Cycle.{Cycle}
@@ -29,7 +29,7 @@ arrayBy s c xs rs = arrayAfter benchT s c xs rs
 -- how many good lines come first, k at most
 unfoldable pub goodLines : ℕ → List ℕ → ℕ
 goodLines zero text = 0
-goodLines (suc k) text = pick (isLine (take 20 text)) (suc (goodLines k (drop 20 text))) 0
+goodLines (suc k) text = if isLine (take 20 text) then suc (goodLines k (drop 20 text)) else 0
 
 -- the answers to the first k lines, from a state and an array, and the array that they leave
 unfoldable pub answersOf : ℕ → State → List ℕ → List ℕ → List ℕ → List ℕ
@@ -48,18 +48,18 @@ arraysOf (suc k) s xs rs text =
 unfoldable pub outputFrom : ℕ → ℕ → State → List ℕ → List ℕ → List ℕ → List ℕ
 outputFrom zero n s xs rs text = endOf n (length text)
 outputFrom (suc k) n s xs rs text =
-    pick (isLine (take 20 text))
-    (printedOf (stepOf s (cycleIn (take 20 text)) xs rs)
-    ++ outputFrom k (suc n) (stepOf s (cycleIn (take 20 text)) xs rs .state) (arrayBy s (cycleIn (take 20 text)) xs rs) rs (drop 20 text))
-    (endOf n (length text))
+    if isLine (take 20 text)
+    then printedOf (stepOf s (cycleIn (take 20 text)) xs rs)
+    ++ outputFrom k (suc n) (stepOf s (cycleIn (take 20 text)) xs rs .state) (arrayBy s (cycleIn (take 20 text)) xs rs) rs (drop 20 text)
+    else endOf n (length text)
 
 -- the array that the same walk leaves
 unfoldable pub arrayFrom : ℕ → State → List ℕ → List ℕ → List ℕ → List ℕ
 arrayFrom zero s xs rs text = xs
 arrayFrom (suc k) s xs rs text =
-    pick (isLine (take 20 text))
-    (arrayFrom k (stepOf s (cycleIn (take 20 text)) xs rs .state) (arrayBy s (cycleIn (take 20 text)) xs rs) rs (drop 20 text))
-    xs
+    if isLine (take 20 text)
+    then arrayFrom k (stepOf s (cycleIn (take 20 text)) xs rs .state) (arrayBy s (cycleIn (take 20 text)) xs rs) rs (drop 20 text)
+    else xs
 
 -- a whole trace: a fresh device, lines counted from 1, line 9999 never answered
 unfoldable pub outputOf : List ℕ → List ℕ → List ℕ → List ℕ
@@ -73,11 +73,11 @@ abbrev pub replayedAs : ℕ → ℕ → Replayed
 replayedAs n m = record { refusal = n; used = m }
 
 unfoldable pub replayedIn : ℕ → List ℕ → Replayed
-replayedIn room ys = pick (ltb room (length ys)) (replayedAs 37 0) (replayedAs 0 (length ys))
+replayedIn room ys = if ltb room (length ys) then replayedAs 37 0 else replayedAs 0 (length ys)
 
 -- what a lent slice holds at the end: with too little room for the output it is untouched
 unfoldable pub heldIn : ℕ → List ℕ → List ℕ → List ℕ → List ℕ
-heldIn room ys before after = pick (ltb room (length ys)) before after
+heldIn room ys before after = if ltb room (length ys) then before else after
 
 -- n bytes of a slice are used, and there are that many
 abbrev pub Used : ℕ → List ℕ → Type 0

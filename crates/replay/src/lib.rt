@@ -14,19 +14,7 @@ ghost use Rattle.cells.specs.Lists.{copied};
 ghost use Rattle.chip.specs.States.{freshState};
 ghost use Rattle.lines.specs.Lines.{isLine, cycleIn};
 ghost use Rattle.replay.specs.Answers.{printedOf, endOf};
-ghost use Rattle.replay.specs.Replays.{
-  benchT,
-  stepOf,
-  arrayBy,
-  goodLines,
-  answersOf,
-  arraysOf,
-  outputOf,
-  arrayLeft,
-  replayedIn,
-  heldIn,
-  Used,
-};
+ghost use Rattle.replay.specs.Replays.{benchT, stepOf, arrayBy, goodLines, answersOf, arraysOf, outputOf, arrayLeft, replayedIn, heldIn, Used};
 
 // How a replay went: refused by 37, or by nothing (0) with so many bytes of output.
 pub struct Replayed {

@@ -3,7 +3,8 @@ use mathlib.Core.Path.{_≡_}
 use mathlib.Core.List.{List, []}
 use Prim.Native.Nat.{ℕ, _+_, _%_, _≤_, min, max}
 use lib.ListN.{length, set, replicate}
-use Rattle.cells.specs.Pick.{Unique, only}
+use Rattle.cells.specs.Choice.{Unique}
+use Rattle.cells.proofs.Choice.{only}
 use Rattle.rows.specs.declared.Group.{Group}
 use Rattle.rows.specs.Text.{readOf, fieldOf, spelled, nextRow, groupAt}
 use Rattle.rows.specs.Patterns.{digestOf, sown}

@@ -8,8 +8,9 @@ use native.Mathlib.Omega.{arith}
 use lib.ListN.{length}
 use lib.Dec.{eqb, ltb}
 use borrow.Author.Tests.{ltb-true, ltb-false, eq-eqb, ne-eqb, eqb-true, eqb-false}
-use Rattle.cells.specs.Pick.{pick-true, pick-false, unlike}
-use Rattle.cells.specs.Numbers.{Foremost, NoRow, given-foremost, foremost-given, given-no-row, no-row-given}
+use Rattle.cells.proofs.Choice.{if-true, if-false, unlike}
+use Rattle.cells.specs.Numbers.{Foremost, NoRow}
+use Rattle.cells.proofs.Numbers.{given-foremost, foremost-given, given-no-row, no-row-given}
 use Rattle.device.specs.declared.Device.{Device}
 use Rattle.chip.specs.declared.Pins.{Pins}
 use Rattle.chip.specs.declared.State.{State}
@@ -137,18 +138,18 @@ module _ (d : Device) (s : State) (p : Pins) (k : ℕ) (xs w sc : List ℕ) wher
   refused-ran : (number ≡ 0 → ⊥) → (ranOf d s p k xs w sc ≡ refusalBy number) × (bytesOf d s p k xs w sc ≡ xs) × (scratchOf d s p k xs w sc ≡ sc)
   unfolding ranOf bytesOf scratchOf
   refused-ran z = (
-    pick-false (eqb number 0) (ranBy (leftBy d s p k xs w sc)) (refusalBy number) (ne-eqb number 0 z),
-    pick-false (eqb number 0) _ xs (ne-eqb number 0 z),
-    pick-false (eqb number 0) (leftBy d s p k xs w sc .scratch) sc (ne-eqb number 0 z),
+    if-false (eqb number 0) (ranBy (leftBy d s p k xs w sc)) (refusalBy number) (ne-eqb number 0 z),
+    if-false (eqb number 0) _ xs (ne-eqb number 0 z),
+    if-false (eqb number 0) (leftBy d s p k xs w sc .scratch) sc (ne-eqb number 0 z),
   )
 
   accepted-ran : number ≡ 0
       → (ranOf d s p k xs w sc ≡ ranBy (driven d w beginning)) × (bytesOf d s p k xs w sc ≡ driven d w beginning .bytes) × (scratchOf d s p k xs w sc ≡ driven d w beginning .scratch)
   unfolding ranOf bytesOf scratchOf leftBy
   accepted-ran z = (
-    pick-true (eqb number 0) (ranBy (leftBy d s p k xs w sc)) (refusalBy number) (eq-eqb number 0 z),
-    pick-true (eqb number 0) (leftBy d s p k xs w sc .bytes) xs (eq-eqb number 0 z),
-    pick-true (eqb number 0) (leftBy d s p k xs w sc .scratch) sc (eq-eqb number 0 z),
+    if-true (eqb number 0) (ranBy (leftBy d s p k xs w sc)) (refusalBy number) (eq-eqb number 0 z),
+    if-true (eqb number 0) (leftBy d s p k xs w sc .bytes) xs (eq-eqb number 0 z),
+    if-true (eqb number 0) (leftBy d s p k xs w sc .scratch) sc (eq-eqb number 0 z),
   )
 
   -- a run that nothing refuses makes a cycle

@@ -5,8 +5,8 @@ use Prim.Native.Nat.{ℕ, _≤_}
 use native.Mathlib.Omega.{arith}
 use lib.Dec.{eqb}
 use borrow.Author.Tests.{eqb-true, not-false}
-use Rattle.cells.specs.Pick.{or-left, or-right}
-use Rattle.cells.specs.Numbers.{given-no-row, no-head, no-tail}
+use Rattle.cells.proofs.Choice.{or-left, or-right}
+use Rattle.cells.proofs.Numbers.{given-no-row, no-head, no-tail}
 use Rattle.device.specs.declared.Device.{Device}
 use Rattle.device.specs.Parts.{unknownDevice, sizeOf, lengthOf}
 use Rattle.chip.specs.declared.Pins.{Pins}

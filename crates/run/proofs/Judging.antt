@@ -5,8 +5,10 @@ use Prim.Native.Nat.{ℕ, _<_}
 use native.Mathlib.Omega.{arith}
 use lib.Dec.{eqb, ltb}
 use borrow.Author.Tests.{lt-leb, eq-eqb, eqb-true, eqb-false}
-use Rattle.cells.specs.Pick.{pick, or-both, unlike, and-none}
-use Rattle.cells.specs.Numbers.{past, end, no-row-given}
+use Rattle.cells.specs.Choice.{if_then_else_}
+use Rattle.cells.proofs.Choice.{or-both, unlike, and-none}
+use Rattle.cells.specs.Numbers.{past, end}
+use Rattle.cells.proofs.Numbers.{no-row-given}
 use Rattle.device.specs.declared.Part.{Part}
 use Rattle.device.specs.declared.Device.{Device}
 use Rattle.device.specs.Parts.{unknownDevice, sizeOf}
@@ -94,7 +96,7 @@ none-starts : (part : Part) (s : State) (c : Cycle) → vppLow part (c .pins) �
 unfolding startsOf unsupplied
 none-starts part s c v = simp v (go (isWrite (c .kind) && not (rpLow (c .pins))) (not (locked part c)))
   where
-    go : (x y : Bool) → pick ((x && false) && y) (askedBy (s .phase) part (c .address) (c .byte)) Nothing ≡ Nothing
+    go : (x y : Bool) → (if (x && false) && y then askedBy (s .phase) part (c .address) (c .byte) else Nothing) ≡ Nothing
     go true y = refl
     go false y = refl
 

@@ -7,7 +7,8 @@ use native.Mathlib.Omega.{arith}
 use lib.ListN.{length, getD}
 use lib.Dec.{eqb, ltb, leb}
 use borrow.Author.Tests.{ltb-true, ltb-false, leb-false}
-use Rattle.cells.specs.Pick.{pick, pick-ind, unlike}
+use Rattle.cells.specs.Choice.{if_then_else_}
+use Rattle.cells.proofs.Choice.{if-ind, unlike}
 use Rattle.loader.specs.declared.Stage.{Stage}
 use Rattle.loader.specs.declared.Stage.the-variants.{Clearing, Opening, Reading, EraseAsking, EraseConfirming, EraseWaiting, ProgramAsking, ProgramSending, ProgramWaiting, Closing, Verifying, Ended}
 use Rattle.loader.specs.declared.Loader.{Loader}
@@ -74,7 +75,7 @@ remains-some (Ended m) n p q e = absurd (unlike e)
 next-ahead : (k i : ℕ) (w s : List ℕ) → i ≤ nextDiff k i w s
 next-ahead zero i w s = omega arith
 next-ahead (suc k) i w s =
-    pick-ind (λ (j : ℕ). i ≤ j) (eqb (getD s i 0) (getD w i 0)) (nextDiff k (i + 1) w s) i (λ e. omega (arith, next-ahead k (i + 1) w s)) (λ e. omega arith)
+    if-ind (λ (j : ℕ). i ≤ j) (eqb (getD s i 0) (getD w i 0)) (nextDiff k (i + 1) w s) i (λ e. omega (arith, next-ahead k (i + 1) w s)) (λ e. omega arith)
 
 diff-ahead : (i : ℕ) (w s : List ℕ) → i ≤ diffFrom i w s
 unfolding diffFrom
@@ -85,7 +86,7 @@ module _ (l : Loader) (w sc : List ℕ) where
   onward-first : remains (onward l 0 w sc) (length w) ≤ programs (length w)
   unfolding onward
   onward-first =
-      pick-ind (λ (r : Loader). remains r (length w) ≤ programs (length w)) (ltb (diffFrom 0 w sc) (length w)) _ _
+      if-ind (λ (r : Loader). remains r (length w) ≤ programs (length w)) (ltb (diffFrom 0 w sc) (length w)) _ _
       (λ e. least (diffFrom 0 w sc) (length w)) (λ e. omega arith)
     where
       least : (j n : ℕ) → (n - 1 - j) * 65537 + (n + 65540) ≤ programs n
@@ -105,22 +106,22 @@ module _ (l : Loader) (w sc : List ℕ) where
       In : Loader → Type 0
       In r = remains r (length w) ≤ (length w - 1 - p) * 65537 + (length w + 3)
 
-      go : (b : Bool) → ltb p (length w) ≡ b → In (onward l (pick (ltb p (length w)) (p + 1) p) w sc)
+      go : (b : Bool) → ltb p (length w) ≡ b → In (onward l (if ltb p (length w) then p + 1 else p) w sc)
       go true e =
           rw e
-          (pick-ind In (ltb (diffFrom (p + 1) w sc) (length w)) _ _
+          (if-ind In (ltb (diffFrom (p + 1) w sc) (length w)) _ _
           (λ h. closer (length w) (diffFrom (p + 1) w sc) (ltb-true _ _ h) (diff-ahead (p + 1) w sc)) (λ h. omega arith))
       go false e =
           rw e
-          (pick-ind In (ltb (diffFrom p w sc) (length w)) _ _
+          (if-ind In (ltb (diffFrom p w sc) (length w)) _ _
           (λ h. far (diffFrom p w sc) (ltb-false _ _ e) (diff-ahead p w sc) h) (λ h. omega arith))
 
   -- one more byte read
   read-falls : remains (readMore l w sc) (length w) < remainsIn Reading (length w) (l .place) (l .polls)
   unfolding readMore afterReads
   read-falls =
-      pick-ind In (ltb (l .place) (length w - 1)) _ _ (λ e. nearer (length w) (l .place) (ltb-true _ _ e))
-      (λ e. pick-ind In (risesIn w sc) _ _ (λ r. omega arith) (λ r. omega (arith, onward-first)))
+      if-ind In (ltb (l .place) (length w - 1)) _ _ (λ e. nearer (length w) (l .place) (ltb-true _ _ e))
+      (λ e. if-ind In (risesIn w sc) _ _ (λ r. omega arith) (λ r. omega (arith, onward-first)))
     where
       In : Loader → Type 0
       In r = remains r (length w) < remainsIn Reading (length w) (l .place) (l .polls)
@@ -131,14 +132,14 @@ module _ (l : Loader) (w sc : List ℕ) where
   -- one poll more, of either operation
   erase-poll : remains (pollMore l EraseWaiting) (length w) < remainsIn EraseWaiting (length w) (l .place) (l .polls)
   unfolding pollMore
-  erase-poll = pick-ind In (leb 65534 (l .polls)) _ _ (λ e. omega arith) (λ e. let z = leb-false 65534 (l .polls) e in omega arith)
+  erase-poll = if-ind In (leb 65534 (l .polls)) _ _ (λ e. omega arith) (λ e. let z = leb-false 65534 (l .polls) e in omega arith)
     where
       In : Loader → Type 0
       In r = remains r (length w) < remainsIn EraseWaiting (length w) (l .place) (l .polls)
 
   program-poll : remains (pollMore l ProgramWaiting) (length w) < remainsIn ProgramWaiting (length w) (l .place) (l .polls)
   unfolding pollMore
-  program-poll = pick-ind In (leb 65534 (l .polls)) _ _ (λ e. omega arith) (λ e. let z = leb-false 65534 (l .polls) e in poll ((length w - 1 - l .place) * 65537) (length w) (l .polls) z)
+  program-poll = if-ind In (leb 65534 (l .polls)) _ _ (λ e. omega arith) (λ e. let z = leb-false 65534 (l .polls) e in poll ((length w - 1 - l .place) * 65537) (length w) (l .polls) z)
     where
       In : Loader → Type 0
       In r = remains r (length w) < remainsIn ProgramWaiting (length w) (l .place) (l .polls)
@@ -149,7 +150,7 @@ module _ (l : Loader) (w sc : List ℕ) where
   erase-falls : (b : ℕ) → remains (erasePolled l b w sc) (length w) < remainsIn EraseWaiting (length w) (l .place) (l .polls)
   unfolding erasePolled
   erase-falls b =
-      pick-ind In (isReady b) _ _ (λ r. pick-ind In (eqb (eraseFault b) 0) _ _ (λ f. omega (arith, onward-first)) (λ f. omega arith)) (λ r. erase-poll)
+      if-ind In (isReady b) _ _ (λ r. if-ind In (eqb (eraseFault b) 0) _ _ (λ f. omega (arith, onward-first)) (λ f. omega arith)) (λ r. erase-poll)
     where
       In : Loader → Type 0
       In r = remains r (length w) < remainsIn EraseWaiting (length w) (l .place) (l .polls)
@@ -157,7 +158,7 @@ module _ (l : Loader) (w sc : List ℕ) where
   program-falls : (b : ℕ) → remains (programPolled l b w sc) (length w) < remainsIn ProgramWaiting (length w) (l .place) (l .polls)
   unfolding programPolled
   program-falls b =
-      pick-ind In (isReady b) _ _ (λ r. pick-ind In (eqb (programFault b) 0) _ _ (λ f. omega (arith, onward-next (l .place))) (λ f. omega arith)) (λ r. program-poll)
+      if-ind In (isReady b) _ _ (λ r. if-ind In (eqb (programFault b) 0) _ _ (λ f. omega (arith, onward-next (l .place))) (λ f. omega arith)) (λ r. program-poll)
     where
       In : Loader → Type 0
       In r = remains r (length w) < remainsIn ProgramWaiting (length w) (l .place) (l .polls)
@@ -165,8 +166,8 @@ module _ (l : Loader) (w sc : List ℕ) where
   verify-falls : (b : ℕ) → remains (verifyMore l b w) (length w) < remainsIn Verifying (length w) (l .place) (l .polls)
   unfolding verifyMore
   verify-falls b =
-      pick-ind In (eqb b (getD w (l .place) 0)) _ _
-      (λ e. pick-ind In (ltb (l .place) (length w - 1)) _ _ (λ h. nearer (length w) (l .place) (ltb-true _ _ h)) (λ h. omega arith)) (λ e. omega arith)
+      if-ind In (eqb b (getD w (l .place) 0)) _ _
+      (λ e. if-ind In (ltb (l .place) (length w - 1)) _ _ (λ h. nearer (length w) (l .place) (ltb-true _ _ h)) (λ h. omega arith)) (λ e. omega arith)
     where
       In : Loader → Type 0
       In r = remains r (length w) < remainsIn Verifying (length w) (l .place) (l .polls)

@@ -6,7 +6,7 @@ use Prim.Native.Nat.{ℕ, zero, suc, _+_, _≤_, _<_}
 use native.Mathlib.Omega.{arith}
 use lib.ListN.{length}
 use lib.Dec.{ltb}
-use Rattle.cells.specs.Pick.{pick-ind, or-left, or-right, unlike}
+use Rattle.cells.proofs.Choice.{if-ind, or-left, or-right, unlike}
 use Rattle.device.specs.declared.Part.{Part}
 use Rattle.device.specs.declared.Device.{Device}
 use Rattle.device.specs.Parts.{unknownDevice, sizeOf, startOf, lengthOf}
@@ -113,7 +113,7 @@ module _ (d : Device) (w : List ℕ) (l : Loader) (s : State) (n : ℕ) (z : Sou
   here-inside : hereOf l < sizeOf (d .part)
   unfolding hereOf firstOf
   here-inside =
-      pick-ind (λ (a : ℕ). a < sizeOf (d .part)) (ltb (l .place) reach) _ _
+      if-ind (λ (a : ℕ). a < sizeOf (d .part)) (ltb (l .place) reach) _ _
       (λ e. subst (λ (part : Part). startOf part (l .block) + l .place < sizeOf (d .part)) (sym (z .same)) (in-block (l .place) (z .place)))
       (λ e. first-inside)
 
@@ -197,7 +197,7 @@ unfolding turnOf
 sound-after zero d w c h = h
 sound-after (suc j) d w c h =
     sound-after j d w (turnOf d w c)
-    (pick-ind (λ (x : Config). Sound d w (x .loader) (x .state) (length (x .bytes))) (isEnded (c .loader .stage)) c (moved d w c) (λ e. h)
+    (if-ind (λ (x : Config). Sound d w (x .loader) (x .state) (length (x .bytes))) (isEnded (c .loader .stage)) c (moved d w c) (λ e. h)
     (λ e. sound-turn d w (c .scratch) (c .bytes) (c .loader) (c .state) h e))
 
 -- so a run meets none of refusals 1 to 6

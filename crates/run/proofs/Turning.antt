@@ -5,7 +5,7 @@ use mathlib.Core.List.{List}
 use Prim.Native.Nat.{ℕ, zero, suc, _+_, _-_, _≤_, _<_}
 use native.Mathlib.Omega.{arith}
 use lib.ListN.{length}
-use Rattle.cells.specs.Pick.{pick-true, pick-false, unlike}
+use Rattle.cells.proofs.Choice.{if-true, if-false, unlike}
 use Rattle.device.specs.declared.Device.{Device}
 use Rattle.chip.specs.declared.State.{State}
 use Rattle.loader.specs.declared.Loader.{Loader}
@@ -40,11 +40,11 @@ first-stays (Refused n) l w sc = refl
 
 pub turn-ended : (d : Device) (w : List ℕ) (c : Config) → isEnded (c .loader .stage) ≡ true → turnOf d w c ≡ c
 unfolding turnOf
-turn-ended d w c e = pick-true (isEnded (c .loader .stage)) c (moved d w c) e
+turn-ended d w c e = if-true (isEnded (c .loader .stage)) c (moved d w c) e
 
 pub turn-going : (d : Device) (w : List ℕ) (c : Config) → isEnded (c .loader .stage) ≡ false → turnOf d w c ≡ moved d w c
 unfolding turnOf
-turn-going d w c e = pick-false (isEnded (c .loader .stage)) c (moved d w c) e
+turn-going d w c e = if-false (isEnded (c .loader .stage)) c (moved d w c) e
 
 -- an ended load stays as it is
 pub ended-stays : (k : ℕ) (d : Device) (w : List ℕ) (c : Config) → isEnded (c .loader .stage) ≡ true → after k d w c ≡ c

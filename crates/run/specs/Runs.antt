@@ -4,7 +4,7 @@ use mathlib.Core.List.{List, [], _∷_}
 use Prim.Native.Nat.{ℕ}
 use lib.ListN.{length}
 use lib.Dec.{eqb}
-use Rattle.cells.specs.Pick.{pick}
+use Rattle.cells.specs.Choice.{if_then_else_}
 use Rattle.cells.specs.Numbers.{Row, row, given}
 use Rattle.device.specs.declared.Device.{Device}
 use Rattle.device.specs.Parts.{unknownDevice, sizeOf}
@@ -78,11 +78,11 @@ leftBy d s p k xs w sc = driven d w (begin d s (recordAt (d .part) p k Clearing)
 -- what a run returns, and what it leaves in the array and in scratch; a refusal counts no cycle and touches nothing
 unfoldable pub ranOf : Device → State → Pins → ℕ → List ℕ → List ℕ → List ℕ → Ran
 ranOf d s p k xs w sc =
-    pick (eqb (runNumber d s p k (length xs) (length w) (length sc)) 0) (ranBy (leftBy d s p k xs w sc))
-    (record { count = 0; end = runNumber d s p k (length xs) (length w) (length sc); address = 0; state = s })
+    if eqb (runNumber d s p k (length xs) (length w) (length sc)) 0 then ranBy (leftBy d s p k xs w sc)
+    else record { count = 0; end = runNumber d s p k (length xs) (length w) (length sc); address = 0; state = s }
 
 unfoldable pub bytesOf : Device → State → Pins → ℕ → List ℕ → List ℕ → List ℕ → List ℕ
-bytesOf d s p k xs w sc = pick (eqb (runNumber d s p k (length xs) (length w) (length sc)) 0) (leftBy d s p k xs w sc .bytes) xs
+bytesOf d s p k xs w sc = if eqb (runNumber d s p k (length xs) (length w) (length sc)) 0 then leftBy d s p k xs w sc .bytes else xs
 
 unfoldable pub scratchOf : Device → State → Pins → ℕ → List ℕ → List ℕ → List ℕ → List ℕ
-scratchOf d s p k xs w sc = pick (eqb (runNumber d s p k (length xs) (length w) (length sc)) 0) (leftBy d s p k xs w sc .scratch) sc
+scratchOf d s p k xs w sc = if eqb (runNumber d s p k (length xs) (length w) (length sc)) 0 then leftBy d s p k xs w sc .scratch else sc

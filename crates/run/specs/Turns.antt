@@ -2,7 +2,7 @@
 use mathlib.Core.Bool.{Bool, true, false}
 use mathlib.Core.List.{List, []}
 use Prim.Native.Nat.{ℕ, zero, suc, _+_, _*_}
-use Rattle.cells.specs.Pick.{pick}
+use Rattle.cells.specs.Choice.{if_then_else_}
 use Rattle.device.specs.declared.Device.{Device}
 use Rattle.chip.specs.declared.State.{State}
 use Rattle.model.specs.declared.Seen.{Seen}
@@ -81,7 +81,7 @@ moved d w c =
 
 -- a turn: one cycle, and none after the end
 unfoldable pub turnOf : Device → List ℕ → Config → Config
-turnOf d w c = pick (isEnded (c .loader .stage)) c (moved d w c)
+turnOf d w c = if isEnded (c .loader .stage) then c else moved d w c
 
 -- k turns
 abbrev pub after : ℕ → Device → List ℕ → Config → Config

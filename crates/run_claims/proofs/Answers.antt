@@ -6,7 +6,8 @@ use native.Mathlib.Omega.{arith}
 use lib.Dec.{eqb, ltb, leb}
 use lib.Bits.{bitAnd, bitOr}
 use borrow.Author.Tests.{lt-leb, ne-eqb, eq-eqb, eqb-true, le-ltb}
-use Rattle.cells.specs.Pick.{pick, pick-false, or-both, unlike, and-none}
+use Rattle.cells.specs.Choice.{if_then_else_}
+use Rattle.cells.proofs.Choice.{if-false, or-both, unlike, and-none}
 use Rattle.device.specs.declared.Device.{Device}
 use Rattle.device.specs.Parts.{unknownDevice, sizeOf, blockOf}
 use Rattle.chip.specs.declared.Pins.{Pins}
@@ -82,7 +83,7 @@ module _ (d : Device) (p : Pins) (u : Up d p) where
   decides s t e kind a b q h z g l =
       accepted d s (cyc p kind a b) (sizeOf (d .part)) 0
       (number-late d s (cyc p kind a b) (sizeOf (d .part)) 0 0 (judged d s (cyc p kind a b) (sizeOf (d .part)) (u .known) refl q (u .levels) refl h z) (ap (λ (x : Settled). lateOf (d .part) (x .state) (cyc p kind a b)) g ∙ l))
-      ∙ pick-false (rpLow p) _ _ (u .up)
+      ∙ if-false (rpLow p) _ _ (u .up)
       ∙ ap (λ (x : Settled). respondOf kind d (cyc p kind a b) x) g
 
   -- .. where nothing is pending
@@ -126,7 +127,7 @@ module _ (d : Device) (p : Pins) (u : Up d p) where
   unfolding lateOf noCommand suspendedRead noIdentifier
   late-status s a m = simp m (go (isSuspended (s .phase)))
     where
-      go : (t : Bool) → _≡_ {A = ℕ} (pick (((t && false) && eqb (blockOf (d .part) a) (blockOf (d .part) (s .address))) && not (rpLow p)) 8 0) 0
+      go : (t : Bool) → _≡_ {A = ℕ} (if ((t && false) && eqb (blockOf (d .part) a) (blockOf (d .part) (s .address))) && not (rpLow p) then 8 else 0) 0
       go true = refl
       go false = refl
 
@@ -213,7 +214,7 @@ module _ (d : Device) (p : Pins) (u : Up d p) where
     waits ph left a b e z m h g =
         let s : State = st Status 0 ph (left + 1) a in
         decides s (st Status 0 ph left a) Nothing Read b 0 (busy-proper ph (left + 1) a e (omega arith) m h) g (unasked-high (d .part) s (cyc p Read b 0) (u .up) (r .high))
-        (counts s e ∙ pick-false (leb (left + 1) 1) _ _ (lt-leb (left + 1) 1 (omega arith)) ∙ ap (λ (j : ℕ). settledAs (st Status 0 ph j a) Nothing) (let q : left + 1 - 1 ≡ left = omega arith in q))
+        (counts s e ∙ if-false (leb (left + 1) 1) _ _ (lt-leb (left + 1) 1 (omega arith)) ∙ ap (λ (j : ℕ). settledAs (st Status 0 ph j a) Nothing) (let q : left + 1 - 1 ≡ left = omega arith in q))
         (late-status (st Status 0 ph left a) b refl)
 
     pub ends : (ph : Phase) (a b : ℕ) → isBusy ph ≡ true → 1 ≤ mostLeft d ph → a < sizeOf (d .part) → b < sizeOf (d .part)

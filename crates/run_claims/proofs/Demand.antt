@@ -9,8 +9,10 @@ use lib.ListN.{length, getD, drop, length-drop}
 use lib.Seq.{length-take-le}
 use lib.Dec.{eqb, leb}
 use borrow.Author.Tests.{eq-eqb, eqb-true, eqb-false, not-false, lt-leb, leb-true}
-use Rattle.chip.specs.Cells.{ones, Cells, and-ones}
-use Rattle.cells.specs.Pick.{pick, pick-true, pick-false, or-left, or-right, and-left, unlike}
+use Rattle.chip.specs.Cells.{ones, Cells}
+use Rattle.chip.proofs.Ones.{and-ones}
+use Rattle.cells.specs.Choice.{if_then_else_}
+use Rattle.cells.proofs.Choice.{if-true, if-false, or-left, or-right, and-left, unlike}
 use Rattle.cells.specs.Lists.{overlaid}
 use Rattle.device.specs.declared.Device.{Device}
 use Rattle.device.specs.Parts.{lengthOf, startOf}
@@ -60,7 +62,7 @@ same-end (suc i) (suc j) d w c a b = same-end i j d w (turnOf d w c) a b
 begun-ended : (j : ℕ) (d : Device) (w : List ℕ) (c : Config) → isEnded (c .loader .stage) ≡ true → begunIn j d w c ≡ []
 unfolding begunTurn
 begun-ended zero d w c e = refl
-begun-ended (suc j) d w c e = rw (pick-true (isEnded (c .loader .stage)) Nothing _ e, turn-ended d w c e) (begun-ended j d w c e)
+begun-ended (suc j) d w c e = rw (if-true (isEnded (c .loader .stage)) Nothing _ e, turn-ended d w c e) (begun-ended j d w c e)
 
 pub same-begun : (i j : ℕ) (d : Device) (w : List ℕ) (c : Config) → isEnded (after i d w c .loader .stage) ≡ true → isEnded (after j d w c .loader .stage) ≡ true → begunIn i d w c ≡ begunIn j d w c
 same-begun zero j d w c a b = sym (begun-ended j d w c a)
@@ -75,12 +77,12 @@ made-ended (suc j) d w c e = rw (e, turn-ended d w c e) (made-ended j d w c e)
 same-made : (i j : ℕ) (d : Device) (w : List ℕ) (c : Config) → isEnded (after i d w c .loader .stage) ≡ true → isEnded (after j d w c .loader .stage) ≡ true → madeIn i d w c ≡ madeIn j d w c
 same-made zero j d w c a b = sym (made-ended j d w c a)
 same-made (suc i) zero d w c a b = made-ended (suc i) d w c b
-same-made (suc i) (suc j) d w c a b = ap (λ (cs : List Cycle). pick (isEnded (c .loader .stage)) cs (cycleOf (c .loader) w ∷ cs)) (same-made i j d w (turnOf d w c) a b)
+same-made (suc i) (suc j) d w c a b = ap (λ (cs : List Cycle). (if isEnded (c .loader .stage) then cs else cycleOf (c .loader) w ∷ cs)) (same-made i j d w (turnOf d w c) a b)
 
 smooth-ended : (j : ℕ) (d : Device) (w : List ℕ) (c : Config) → isEnded (c .loader .stage) ≡ true → smoothIn j d w c ≡ true
 unfolding smoothTurn
 smooth-ended zero d w c e = refl
-smooth-ended (suc j) d w c e = rw (pick-true (isEnded (c .loader .stage)) true _ e, turn-ended d w c e) (smooth-ended j d w c e)
+smooth-ended (suc j) d w c e = rw (if-true (isEnded (c .loader .stage)) true _ e, turn-ended d w c e) (smooth-ended j d w c e)
 
 same-smooth : (i j : ℕ) (d : Device) (w : List ℕ) (c : Config) → isEnded (after i d w c .loader .stage) ≡ true → isEnded (after j d w c .loader .stage) ≡ true → smoothIn i d w c ≡ smoothIn j d w c
 same-smooth zero j d w c a b = sym (smooth-ended j d w c a)
@@ -214,11 +216,11 @@ module _ (d : Device) (s : State) (p : Pins) (k : ℕ) (xs w sc : List ℕ) (t :
     ready : Ready d p k
     ready = record { base = u; high = high; unlock = unlock }
 
-    counts : formula d w ys ≡ 2 * length w + 3 + (pick (risesIn w ys) (2 + d .erase) 0 + phases.costs d p k u w (g .wanted) some xs (g .sized) (length w) 0 (baseOf w ys))
+    counts : formula d w ys ≡ 2 * length w + 3 + ((if risesIn w ys then 2 + d .erase else 0) + phases.costs d p k u w (g .wanted) some xs (g .sized) (length w) 0 (baseOf w ys))
     counts = rw (phases.costs-are d p k u w (g .wanted) some xs (g .sized) (length w) 0 (baseOf w ys)) (go (risesIn w ys))
       where
-        go : (x : Bool) → 2 * length w + 3 + pick x 1 0 * (2 + d .erase) + programsIn w ys * (2 + d .program)
-            ≡ 2 * length w + 3 + (pick x (2 + d .erase) 0 + programsIn w ys * (2 + d .program))
+        go : (x : Bool) → 2 * length w + 3 + (if x then 1 else 0) * (2 + d .erase) + programsIn w ys * (2 + d .program)
+            ≡ 2 * length w + 3 + ((if x then 2 + d .erase else 0) + programsIn w ys * (2 + d .program))
         go true = rw (one-mul (2 + d .erase)) (omega arith)
         go false = rw (zero-mul (2 + d .erase)) (omega arith)
 
@@ -265,7 +267,7 @@ module _ (d : Device) (s : State) (p : Pins) (k : ℕ) (xs w sc : List ℕ) (t :
       → Left d s p k xs w sc (broken n x 0) [] (faultCycles p a w ys)
   erase-load low x n stuck q f ready e z y =
       stopped n x 0 (eraseTried p a) (faults.erase-fails d p k u w (g .wanted) some xs (g .sized) ys ly low x n (2 + length w) stuck q f ready e z y)
-      (faultCycles p a w ys) (ap (λ (cs : List Cycle). openingThen p a (length w) cs) (pick-true (risesIn w ys) _ _ y))
+      (faultCycles p a w ys) (ap (λ (cs : List Cycle). openingThen p a (length w) cs) (if-true (risesIn w ys) _ _ y))
 
   -- .. a program
   pub program-load : (low x n : ℕ) → Stuck d p k low → bitOr (bitOr 128 low) 16 ≡ x → fits 2 x ≡ true → isReady x ≡ true → programFault x ≡ n → eqb n 0 ≡ false → risesIn w ys ≡ false
@@ -273,7 +275,7 @@ module _ (d : Device) (s : State) (p : Pins) (k : ℕ) (xs w sc : List ℕ) (t :
   program-load low x n stuck q f ready e z y o =
       stopped n x (diffFrom 0 w ys) (programTried p (a + diffFrom 0 w ys) (getD w (diffFrom 0 w ys) 0))
       (faults.program-fails d p k u w (g .wanted) some xs (g .sized) ys ly low x n (2 + length w) stuck q f ready e z y o)
-      (faultCycles p a w ys) (ap (λ (cs : List Cycle). openingThen p a (length w) cs) (pick-false (risesIn w ys) _ _ y))
+      (faultCycles p a w ys) (ap (λ (cs : List Cycle). openingThen p a (length w) cs) (if-false (risesIn w ys) _ _ y))
 
   -- what a run returns and leaves, where it is known how it is left
   go-on : eqb (runNumber d s p k (length xs) (length w) (length sc)) 0 ≡ true
@@ -282,12 +284,12 @@ module _ (d : Device) (s : State) (p : Pins) (k : ℕ) (xs w sc : List ℕ) (t :
   module _ (e : Config) (es : List Effect) (cs : List Cycle) (left : Left d s p k xs w sc e es cs) where
     pub ran-left : ranOf d s p k xs w sc ≡ ranBy e
     unfolding ranOf
-    ran-left = pick-true (eqb (runNumber d s p k (length xs) (length w) (length sc)) 0) _ _ go-on ∙ ap ranBy (left .end)
+    ran-left = if-true (eqb (runNumber d s p k (length xs) (length w) (length sc)) 0) _ _ go-on ∙ ap ranBy (left .end)
 
     pub bytes-left : bytesOf d s p k xs w sc ≡ e .bytes
     unfolding bytesOf
-    bytes-left = pick-true (eqb (runNumber d s p k (length xs) (length w) (length sc)) 0) _ _ go-on ∙ ap (λ (c : Config). c .bytes) (left .end)
+    bytes-left = if-true (eqb (runNumber d s p k (length xs) (length w) (length sc)) 0) _ _ go-on ∙ ap (λ (c : Config). c .bytes) (left .end)
 
     pub scratch-left : scratchOf d s p k xs w sc ≡ e .scratch
     unfolding scratchOf
-    scratch-left = pick-true (eqb (runNumber d s p k (length xs) (length w) (length sc)) 0) _ _ go-on ∙ ap (λ (c : Config). c .scratch) (left .end)
+    scratch-left = if-true (eqb (runNumber d s p k (length xs) (length w) (length sc)) 0) _ _ go-on ∙ ap (λ (c : Config). c .scratch) (left .end)

@@ -9,7 +9,8 @@ use lib.Dec.{eqb, ltb}
 use lib.Bits.{bitOr}
 use borrow.Author.Tests.{lt-ltb, le-ltb}
 use Rattle.chip.specs.Cells.{ones}
-use Rattle.cells.specs.Pick.{pick, pick-true, pick-false}
+use Rattle.cells.specs.Choice.{if_then_else_}
+use Rattle.cells.proofs.Choice.{if-true, if-false}
 use Rattle.cells.specs.Lists.{overlaid}
 use Rattle.device.specs.declared.Device.{Device}
 use Rattle.device.specs.Parts.{sizeOf, lengthOf, startOf}
@@ -79,7 +80,7 @@ module _ (d : Device) (p : Pins) (k : ℕ) (u : Up d p) (w : List ℕ) (lw : len
   unfolding erasedWell
   erase-keeps x n sc e z = rw (e, z) (go (isReady x))
     where
-      go : (t : Bool) → pick (t && false) (replicate (length sc) ones) sc ≡ sc
+      go : (t : Bool) → (if t && false then replicate (length sc) ones else sc) ≡ sc
       go true = refl
       go false = refl
 
@@ -95,14 +96,14 @@ module _ (d : Device) (p : Pins) (k : ℕ) (u : Up d p) (w : List ℕ) (lw : len
     lX = phases.sized d p k u w lw some xs lx ys ly
 
     abbrev pub judged : ℕ → Config
-    judged cnt = conf (pick (risesIn w ys) (rec EraseAsking 0 0) (phases.onto d p k u w lw some 0 ys)) (atRest Array 128) X ys cnt
+    judged cnt = conf (if risesIn w ys then rec EraseAsking 0 0 else phases.onto d p k u w lw some 0 ys) (atRest Array 128) X ys cnt
 
     -- an erase that cannot start
     pub erase-fails : (low x n cnt : ℕ) → Stuck d p k low → bitOr (bitOr 128 low) 32 ≡ x → fits 2 x ≡ true → isReady x ≡ true → eraseFault x ≡ n → eqb n 0 ≡ false → risesIn w ys ≡ true
         → Reach d w (judged cnt) (conf (rec (Ended n) 0 0) (atRest Status x) X ys (cnt + 3)) [] (eraseTried p a)
     erase-fails low x n cnt stuck q f ready e z t =
         subst (λ (l : Loader). Reach d w (conf l (atRest Array 128) X ys cnt) (conf (rec (Ended n) 0 0) (atRest Status x) X ys (cnt + 3)) [] (eraseTried p a))
-        (sym (pick-true (risesIn w ys) _ _ t))
+        (sym (if-true (risesIn w ys) _ _ t))
         (failing EraseAsking EraseConfirming EraseWaiting refl refl refl 0 x n (st Status 128 EraseAwaited 0 0) (cyc p Write a 0x20) (cyc p Write a 0xD0) (cyc p Read a 0)
         (phases.told-first d p k u w lw some EraseAsking 0 0 Write 0x20 (atRest Array 128) Quiet (st Status 128 EraseAwaited 0 0) Nothing refl (answers.asks-erase d p u Array 128 a refl a-inside) refl)
         (phases.told-first d p k u w lw some EraseConfirming 0 0 Write 0xD0 (st Status 128 EraseAwaited 0 0) Quiet (atRest Status x) Nothing refl
@@ -120,7 +121,7 @@ module _ (d : Device) (p : Pins) (k : ℕ) (u : Up d p) (w : List ℕ) (lw : len
         (programTried p (a + diffFrom 0 w ys) (getD w (diffFrom 0 w ys) 0))
     program-fails low x n cnt stuck q f ready e z t s =
         subst (λ (l : Loader). Reach d w (conf l (atRest Array 128) X ys cnt) (conf (rec (Ended n) i 0) (atRest Status x) X ys (cnt + 3)) [] (programTried p (a + i) v))
-        (sym (pick-false (risesIn w ys) _ _ t ∙ pick-true (ltb i (length w)) _ _ (lt-ltb i (length w) h)))
+        (sym (if-false (risesIn w ys) _ _ t ∙ if-true (ltb i (length w)) _ _ (lt-ltb i (length w) h)))
         (failing ProgramAsking ProgramSending ProgramWaiting refl refl refl i x n (st Status 128 DataAwaited 0 0) (cyc p Write (a + i) 0x40) (cyc p Write (a + i) v) (cyc p Read (a + i) 0)
         (phases.told-here d p k u w lw some ProgramAsking i 0 Write 0x40 (atRest Array 128) Quiet (st Status 128 DataAwaited 0 0) Nothing h refl (answers.asks-program d p u Array 128 (a + i) refl inside) refl)
         (phases.told-here d p k u w lw some ProgramSending i 0 Write v (st Status 128 DataAwaited 0 0) Quiet (atRest Status x) Nothing h refl
@@ -151,8 +152,8 @@ module _ (d : Device) (p : Pins) (k : ℕ) (u : Up d p) (w : List ℕ) (lw : len
         same : ys ≡ w
         same = same-list w ys ly t
 
-        closes : pick (risesIn w ys) (rec EraseAsking 0 0) (phases.onto d p k u w lw some 0 ys) ≡ rec Closing 0 0
+        closes : (if risesIn w ys then rec EraseAsking 0 0 else phases.onto d p k u w lw some 0 ys) ≡ rec Closing 0 0
         closes =
-            ap (λ (z : List ℕ). pick (risesIn w z) (rec EraseAsking 0 0) (phases.onto d p k u w lw some 0 z)) same
-            ∙ pick-false (risesIn w w) _ _ (none-risen w)
-            ∙ pick-false (ltb (diffFrom 0 w w) (length w)) _ _ (le-ltb (diffFrom 0 w w) (length w) (let y = none-ahead w in omega arith))
+            ap (λ (z : List ℕ). (if risesIn w z then rec EraseAsking 0 0 else phases.onto d p k u w lw some 0 z)) same
+            ∙ if-false (risesIn w w) _ _ (none-risen w)
+            ∙ if-false (ltb (diffFrom 0 w w) (length w)) _ _ (le-ltb (diffFrom 0 w w) (length w) (let y = none-ahead w in omega arith))

@@ -6,7 +6,8 @@ use native.Mathlib.Nat.{zero-add, suc-add}
 use native.Mathlib.Omega.{arith}
 use lib.ListN.{length, getD, take, drop, set, length-append, length-take, length-drop, length-set, take-append-drop}
 use lib.Seq.{take-at, drop-at, length-take-le, set-append-left, set-getD, getD-append-add, getD-drop}
-use Rattle.cells.specs.Lists.{overlaid, laid, laid-more}
+use Rattle.cells.specs.Lists.{overlaid, laid}
+use Rattle.cells.proofs.Lists.{laid-more}
 
 set-right : (p q : List ℕ) (i v : ℕ) → set (p ++ q) (length p + i) v ≡ p ++ set q i v
 set-right [] q i v = ap (λ (j : ℕ). set q j v) (zero-add i)

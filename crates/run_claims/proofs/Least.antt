@@ -11,8 +11,10 @@ use lib.Seq.{getD-take, getD-drop}
 use lib.Bits.{bitAnd, and-comm}
 use lib.Dec.{eqb}
 use borrow.Author.Tests.{eqb-true, eqb-false, eq-eqb, not-false}
-use Rattle.chip.specs.Cells.{ones, Cells, and-ones}
-use Rattle.cells.specs.Pick.{pick, pick-true, pick-false, or-both, or-left, or-right, unlike}
+use Rattle.chip.specs.Cells.{ones, Cells}
+use Rattle.chip.proofs.Ones.{and-ones}
+use Rattle.cells.specs.Choice.{if_then_else_}
+use Rattle.cells.proofs.Choice.{if-true, if-false, or-both, or-left, or-right, unlike}
 use Rattle.device.specs.declared.Device.{Device}
 use Rattle.device.specs.Parts.{sizeOf, startOf, lengthOf, blockOf}
 use Rattle.device.proofs.Claims.{blocks-end-inside}
@@ -58,7 +60,7 @@ needed es a (suc n) i w s h = go (eqb (getD s i 0) (getD w i 0)) refl (needed es
         ∙ ap (λ (m : ℕ). total (programAt (a + i)) es + total (programIn m n) es) (let z : a + i + 1 ≡ a + (i + 1) = omega arith in z)
 
     go : (b : Bool) → eqb (getD s i 0) (getD w i 0) ≡ b → differing n (i + 1) w s ≤ total (programIn (a + (i + 1)) n) es
-        → pick (eqb (getD s i 0) (getD w i 0)) 0 1 + differing n (i + 1) w s ≤ total (programIn (a + i) (suc n)) es
+        → (if eqb (getD s i 0) (getD w i 0) then 0 else 1) + differing n (i + 1) w s ≤ total (programIn (a + i) (suc n)) es
     go true b more = rw (b, split) (omega arith)
     go false b more = rw (b, split) (let z = h i (omega arith) (omega arith) (eqb-false (getD s i 0) (getD w i 0) b) in omega arith)
 
@@ -113,15 +115,15 @@ module _ (d : Device) (k : ℕ) (v : World) (w : List ℕ) (bs : List Bus) (lx :
       go true e = rw (none-rises (length w) 0 w ys (λ j p q. loses (eqb-true _ _ e) j (omega arith))) (omega arith)
       go false e = let z = eqb-false (total (eraseOf k) es) 0 e in some (total (eraseOf k) es) z (rises (length w) 0 w ys)
         where
-          some : (n : ℕ) → (n ≡ 0 → ⊥) → (t : Bool) → pick t 1 0 ≤ n
+          some : (n : ℕ) → (n ≡ 0 → ⊥) → (t : Bool) → (if t then 1 else 0) ≤ n
           some zero z t = absurd (z refl)
           some (suc n) z true = omega arith
           some (suc n) z false = omega arith
 
   -- a byte that no program touched is as held, or all ones
-  rests : (i : ℕ) → i < length w → total (programAt (a + i)) es ≡ 0 → getD w i 0 ≡ pick (eqb (total (eraseOf k) es) 0) (getD ys i 0) ones
+  rests : (i : ℕ) → i < length w → total (programAt (a + i)) es ≡ 0 → getD w i 0 ≡ (if eqb (total (eraseOf k) es) 0 then getD ys i 0 else ones)
   rests i h z =
-      came i h ∙ unprogrammed es (d .part) (a + i) (getD ys i 0) z ∙ ap (λ (j : ℕ). pick (eqb (total (eraseOf j) es) 0) (getD ys i 0) ones) (home i h)
+      came i h ∙ unprogrammed es (d .part) (a + i) (getD ys i 0) z ∙ ap (λ (j : ℕ). (if eqb (total (eraseOf j) es) 0 then getD ys i 0 else ones)) (home i h)
 
   -- a place where the base of the programs differs is programmed
   programmed : (i : ℕ) → i < length w → (getD (baseOf w ys) i 0 ≡ getD w i 0 → ⊥) → 0 < total (programAt (a + i)) es
@@ -134,16 +136,16 @@ module _ (d : Device) (k : ℕ) (v : World) (w : List ℕ) (bs : List Bus) (lx :
 
       clash : total (programAt (a + i)) es ≡ 0 → (b : Bool) → eqb (total (eraseOf k) es) 0 ≡ b → (t : Bool) → rises (length w) 0 w ys ≡ t → getD (baseOf w ys) i 0 ≡ getD w i 0
       clash z true e true t = absurd (let q = none-rises (length w) 0 w ys (λ j p r. loses (eqb-true _ _ e) j (omega arith)) in unlike (sym t ∙ q))
-      clash z true e false t = ap (λ (y : List ℕ). getD y i 0) (pick-false (rises (length w) 0 w ys) (replicate (length w) ones) ys t) ∙ sym (rests i h z ∙ pick-true (eqb (total (eraseOf k) es) 0) (getD ys i 0) ones e)
+      clash z true e false t = ap (λ (y : List ℕ). getD y i 0) (if-false (rises (length w) 0 w ys) (replicate (length w) ones) ys t) ∙ sym (rests i h z ∙ if-true (eqb (total (eraseOf k) es) 0) (getD ys i 0) ones e)
       clash z false e true t =
-          ap (λ (y : List ℕ). getD y i 0) (pick-true (rises (length w) 0 w ys) (replicate (length w) ones) ys t) ∙ getD-replicate (length w) i ones 0 h
-          ∙ sym (rests i h z ∙ pick-false (eqb (total (eraseOf k) es) 0) (getD ys i 0) ones e)
+          ap (λ (y : List ℕ). getD y i 0) (if-true (rises (length w) 0 w ys) (replicate (length w) ones) ys t) ∙ getD-replicate (length w) i ones 0 h
+          ∙ sym (rests i h z ∙ if-false (eqb (total (eraseOf k) es) 0) (getD ys i 0) ones e)
       clash z false e false t =
-          let f : getD w i 0 ≡ ones = rests i h z ∙ pick-false (eqb (total (eraseOf k) es) 0) (getD ys i 0) ones e in
+          let f : getD w i 0 ≡ ones = rests i h z ∙ if-false (eqb (total (eraseOf k) es) 0) (getD ys i 0) ones e in
           let m : mustRise (getD ys i 0) (getD w i 0) ≡ false = some-rises (length w) 0 w ys i (omega arith) (omega arith) t in
           let c : bitAnd (getD ys i 0) (getD w i 0) ≡ getD w i 0 = eqb-true _ _ (not-false (eqb (bitAnd (getD ys i 0) (getD w i 0)) (getD w i 0)) m) in
           let y : bitAnd (getD ys i 0) ones ≡ getD ys i 0 = and-comm (getD ys i 0) ones ∙ and-ones (getD ys i 0) (small i h) in
-          ap (λ (u : List ℕ). getD u i 0) (pick-false (rises (length w) 0 w ys) (replicate (length w) ones) ys t) ∙ sym y ∙ ap (λ (x : ℕ). bitAnd (getD ys i 0) x) (sym f) ∙ c
+          ap (λ (u : List ℕ). getD u i 0) (if-false (rises (length w) 0 w ys) (replicate (length w) ones) ys t) ∙ sym y ∙ ap (λ (x : ℕ). bitAnd (getD ys i 0) x) (sym f) ∙ c
         where
           small : (i : ℕ) → i < length w → getD ys i 0 ≤ ones
           small i h = subst (λ (x : ℕ). x ≤ ones) (sym (held (v .bytes) i h)) (bx (a + i))

@@ -10,10 +10,11 @@ use lib.ListN.{length, getD, take, drop}
 use lib.Seq.{take-at, drop-at, length-take-le}
 use lib.Dec.{eqb}
 use borrow.Author.Tests.{eq-eqb, le-ltb, lt-ltb}
-use Rattle.chip.specs.Cells.{ones, Cells, and-ones}
-use Rattle.cells.specs.Pick.{pick}
+use Rattle.chip.specs.Cells.{ones, Cells}
+use Rattle.chip.proofs.Ones.{and-ones}
+use Rattle.cells.specs.Choice.{if_then_else_}
 use Rattle.cells.specs.Lists.{overlaid}
-use Rattle.cells.specs.Bytes.{overlaid-before, overlaid-after}
+use Rattle.cells.proofs.Bytes.{overlaid-before, overlaid-after}
 use Rattle.device.specs.declared.Device.{Device}
 use Rattle.device.specs.Parts.{startOf}
 use Rattle.device.proofs.Claims.{blocks-end-inside}
@@ -42,7 +43,7 @@ programs-counted zero i a n b w s lo hi = refl
 programs-counted (suc j) i a n b w s lo hi = go (eqb (getD s i 0) (getD w i 0)) (programs-counted j (i + 1) a n b w s (omega arith) (omega arith))
   where
     go : (t : Bool) → total (programIn a n) (programsOf j b (i + 1) w s) ≡ differing j (i + 1) w s
-        → total (programIn a n) (pick t (programsOf j b (i + 1) w s) (Program (b + i) (getD w i 0) ∷ programsOf j b (i + 1) w s)) ≡ pick t 0 1 + differing j (i + 1) w s
+        → total (programIn a n) (if t then programsOf j b (i + 1) w s else Program (b + i) (getD w i 0) ∷ programsOf j b (i + 1) w s) ≡ (if t then 0 else 1) + differing j (i + 1) w s
     go true e = omega arith
     go false e = rw (le-ltb (b + i) a lo, lt-ltb (b + i) (a + n) (omega arith)) (omega arith)
 
@@ -50,7 +51,7 @@ no-erase : (j i k b : ℕ) (w s : List ℕ) → total (eraseOf k) (programsOf j 
 no-erase zero i k b w s = refl
 no-erase (suc j) i k b w s = go (eqb (getD s i 0) (getD w i 0)) (no-erase j (i + 1) k b w s)
   where
-    go : (t : Bool) → total (eraseOf k) (programsOf j b (i + 1) w s) ≡ 0 → total (eraseOf k) (pick t (programsOf j b (i + 1) w s) (Program (b + i) (getD w i 0) ∷ programsOf j b (i + 1) w s)) ≡ 0
+    go : (t : Bool) → total (eraseOf k) (programsOf j b (i + 1) w s) ≡ 0 → total (eraseOf k) (if t then programsOf j b (i + 1) w s else Program (b + i) (getD w i 0) ∷ programsOf j b (i + 1) w s) ≡ 0
     go true e = e
     go false e = omega arith
 
@@ -61,7 +62,7 @@ operations-erase : (k a : ℕ) (w ys : List ℕ) → total (eraseOf k) (operatio
 operations-erase k a w ys = go (risesIn w ys) (no-erase (length w) 0 k a w (baseOf w ys))
   where
     go : (t : Bool) → total (eraseOf k) (programsOf (length w) a 0 w (baseOf w ys)) ≡ 0
-        → total (eraseOf k) (pick t (Erase k ∷ programsOf (length w) a 0 w (baseOf w ys)) (programsOf (length w) a 0 w (baseOf w ys))) ≡ pick t 1 0
+        → total (eraseOf k) (if t then Erase k ∷ programsOf (length w) a 0 w (baseOf w ys) else programsOf (length w) a 0 w (baseOf w ys)) ≡ (if t then 1 else 0)
     go true e = rw (eq-eqb k k refl) (omega arith)
     go false e = e
 
@@ -69,7 +70,7 @@ operations-program : (k a : ℕ) (w ys : List ℕ) → total (programIn a (lengt
 operations-program k a w ys = go (risesIn w ys) (programs-counted (length w) 0 a (length w) a w (baseOf w ys) (omega arith) (omega arith))
   where
     go : (t : Bool) → total (programIn a (length w)) (programsOf (length w) a 0 w (baseOf w ys)) ≡ programsIn w ys
-        → total (programIn a (length w)) (pick t (Erase k ∷ programsOf (length w) a 0 w (baseOf w ys)) (programsOf (length w) a 0 w (baseOf w ys))) ≡ programsIn w ys
+        → total (programIn a (length w)) (if t then Erase k ∷ programsOf (length w) a 0 w (baseOf w ys) else programsOf (length w) a 0 w (baseOf w ys)) ≡ programsIn w ys
     go true e = no-program (length w) a k (programsOf (length w) a 0 w (baseOf w ys)) ∙ e
     go false e = e
 
@@ -87,7 +88,7 @@ programs-long d p zero a i w s cs = rw (zero-mul (2 + d .program)) (omega arith)
 programs-long d p (suc k) a i w s cs = go (eqb (getD s i 0) (getD w i 0)) (programs-long d p k a (i + 1) w s cs)
   where
     go : (t : Bool) → length (programsThen d p k a (i + 1) w s cs) ≡ differing k (i + 1) w s * (2 + d .program) + length cs
-        → length (pick t (programsThen d p k a (i + 1) w s cs) (programThen d p (a + i) (getD w i 0) (programsThen d p k a (i + 1) w s cs))) ≡ (pick t 0 1 + differing k (i + 1) w s) * (2 + d .program) + length cs
+        → length (if t then programsThen d p k a (i + 1) w s cs else programThen d p (a + i) (getD w i 0) (programsThen d p k a (i + 1) w s cs)) ≡ ((if t then 0 else 1) + differing k (i + 1) w s) * (2 + d .program) + length cs
     go true e = rw (zero-add (differing k (i + 1) w s)) e
     go false e = rw (add-mul 1 (differing k (i + 1) w s) (2 + d .program), one-mul (2 + d .program)) (let f = polls-long p (d .program) (a + i) (programsThen d p k a (i + 1) w s cs) in omega arith)
 
@@ -95,7 +96,7 @@ pub cycles-long : (d : Device) (p : Pins) (a : ℕ) (w ys : List ℕ) → length
 cycles-long d p a w ys = go (risesIn w ys) (programs-long d p (length w) a 0 w (baseOf w ys) (closingOf p a (length w))) (reads-long p (length w) a 0 [])
   where
     go : (t : Bool) → length (programmingOf d p a w ys) ≡ programsIn w ys * (2 + d .program) + length (closingOf p a (length w)) → length (readsThen p (length w) a 0 []) ≡ length w + 0
-        → length (openingThen p a (length w) (pick t (eraseThen d p a (programmingOf d p a w ys)) (programmingOf d p a w ys))) ≡ 2 * length w + 3 + pick t 1 0 * (2 + d .erase) + programsIn w ys * (2 + d .program)
+        → length (openingThen p a (length w) (if t then eraseThen d p a (programmingOf d p a w ys) else programmingOf d p a w ys)) ≡ 2 * length w + 3 + (if t then 1 else 0) * (2 + d .erase) + programsIn w ys * (2 + d .program)
     go true e c = rw (one-mul (2 + d .erase)) (let r = reads-long p (length w) a 0 (eraseThen d p a (programmingOf d p a w ys)) in let f = polls-long p (d .erase) a (programmingOf d p a w ys) in omega arith)
     go false e c = rw (zero-mul (2 + d .erase)) (let r = reads-long p (length w) a 0 (programmingOf d p a w ys) in omega arith)
 

@@ -9,11 +9,14 @@ use lib.ListN.{length, getD, take, set, replicate, length-replicate, getD-replic
 use lib.Dec.{eqb, ltb, leb}
 use lib.Bits.{bitAnd, and-mask, and-comm}
 use borrow.Author.Tests.{lt-ltb, le-ltb, eq-eqb, eqb-true, lt-leb, not-false}
-use Rattle.chip.specs.Cells.{ones, Cells, and-ones}
-use Rattle.cells.specs.Pick.{pick, pick-true, pick-false, and-right, or-left, or-right, unlike}
+use Rattle.chip.specs.Cells.{ones, Cells}
+use Rattle.chip.proofs.Ones.{and-ones}
+use Rattle.cells.specs.Choice.{if_then_else_}
+use Rattle.cells.proofs.Choice.{if-true, if-false, and-right, or-left, or-right, unlike}
 use Rattle.model.proofs.Status.{fits, all-below}
-use Rattle.cells.specs.Lists.{overlaid, laid, laid-more, laid-all}
-use Rattle.cells.specs.Bytes.{overlaid-in, overlaid-length}
+use Rattle.cells.specs.Lists.{overlaid, laid}
+use Rattle.cells.proofs.Lists.{laid-more, laid-all}
+use Rattle.cells.proofs.Bytes.{overlaid-in, overlaid-length}
 use Rattle.device.specs.declared.Device.{Device}
 use Rattle.device.specs.Parts.{sizeOf, lengthOf, startOf, blockOf}
 use Rattle.device.proofs.Claims.{blocks-end-inside, blocks-apart}
@@ -104,7 +107,7 @@ module _ (d : Device) (p : Pins) (k : ℕ) (u : Up d p) (w : List ℕ) (lw : len
 
   pub here : (stage : Stage) (i q : ℕ) → i < length w → hereOf (rec stage i q) ≡ a + i
   unfolding hereOf firstOf
-  here stage i q h = pick-true (ltb i 16777216) (a + i) a (lt-ltb i 16777216 (omega (arith, length-small (d .part) k)))
+  here stage i q h = if-true (ltb i 16777216) (a + i) a (lt-ltb i 16777216 (omega (arith, length-small (d .part) k)))
 
   -- a stage whose cycle goes to an address known, and what the model decides on it
   pub told-here : (stage : Stage) (i q : ℕ) (kind : Kind) (b : ℕ) (s : State) (reply : Reply) (s′ : State) (e : Effect) → i < length w → cycleOf (rec stage i q) w ≡ cyc p kind (hereOf (rec stage i q)) b
@@ -119,12 +122,12 @@ module _ (d : Device) (p : Pins) (k : ℕ) (u : Up d p) (w : List ℕ) (lw : len
   verify-next : (i b : ℕ) → b ≡ getD w i 0 → i + 1 < length w → verifyMore (rec Verifying i 0) b w ≡ rec Verifying (i + 1) 0
   unfolding verifyMore
   verify-next i b e h =
-      pick-true (eqb b (getD w i 0)) _ _ (eq-eqb b (getD w i 0) e) ∙ pick-true (ltb i (length w - 1)) _ _ (lt-ltb i (length w - 1) (omega arith))
+      if-true (eqb b (getD w i 0)) _ _ (eq-eqb b (getD w i 0) e) ∙ if-true (ltb i (length w - 1)) _ _ (lt-ltb i (length w - 1) (omega arith))
 
   verify-last : (i b : ℕ) → b ≡ getD w i 0 → i + 1 ≡ length w → verifyMore (rec Verifying i 0) b w ≡ rec (Ended 0) i 0
   unfolding verifyMore
   verify-last i b e h =
-      pick-true (eqb b (getD w i 0)) _ _ (eq-eqb b (getD w i 0) e) ∙ pick-false (ltb i (length w - 1)) _ _ (le-ltb i (length w - 1) (omega arith))
+      if-true (eqb b (getD w i 0)) _ _ (eq-eqb b (getD w i 0) e) ∙ if-false (ltb i (length w - 1)) _ _ (le-ltb i (length w - 1) (omega arith))
 
   module _ (xs : List ℕ) (lx : length xs ≡ sizeOf (d .part)) (holds : (i : ℕ) → i < length w → getD xs (a + i) 0 ≡ getD w i 0) (sc : List ℕ) (ls : length sc ≡ length w) where
     -- one byte of the verify
@@ -161,7 +164,7 @@ module _ (d : Device) (p : Pins) (k : ℕ) (u : Up d p) (w : List ℕ) (lw : len
 
   -- on to the first differing byte from place i on, or to the verify
   abbrev pub onto : ℕ → List ℕ → Loader
-  onto i sc = pick (ltb (diffFrom i w sc) (length w)) (rec ProgramAsking (diffFrom i w sc) 0) (rec Closing 0 0)
+  onto i sc = if ltb (diffFrom i w sc) (length w) then rec ProgramAsking (diffFrom i w sc) 0 else rec Closing 0 0
 
   onward-onto : (stage : Stage) (i q j : ℕ) (sc : List ℕ) → onward (rec stage i q) j w sc ≡ onto j sc
   unfolding onward
@@ -206,7 +209,7 @@ module _ (d : Device) (p : Pins) (k : ℕ) (u : Up d p) (w : List ℕ) (lw : len
         (polled : (q : ℕ) → nextOf (rec W i q) 0 w (storeOf (rec W i q) 0 sc) ≡ pollMore (rec W i q) W) (kept : (q : ℕ) → storeOf (rec W i q) 0 sc ≡ sc) where
       poll-more : (q : ℕ) → q < 65534 → pollMore (rec W i q) W ≡ rec W i (q + 1)
       unfolding pollMore
-      poll-more q h = pick-false (leb 65534 q) _ _ (lt-leb 65534 q h)
+      poll-more q h = if-false (leb 65534 q) _ _ (lt-leb 65534 q h)
 
       waiting : (left q cnt : ℕ) (e : Config) (es : List Effect) (cs : List Cycle) → q + (left + 1) ≤ 65535 → left + 1 ≤ mostLeft d ph
           → ((q′ cnt′ : ℕ) → cnt′ ≡ cnt + left → Reach d w (conf (rec W i q′) (st Status 0 ph 1 adr) X sc cnt′) e es cs)
@@ -226,7 +229,7 @@ module _ (d : Device) (p : Pins) (k : ℕ) (u : Up d p) (w : List ℕ) (lw : len
           none : begunFrom (d .part) (st Status 0 ph (left + 1 + 1) adr) (st Status 0 ph (left + 1) adr) ≡ Nothing
           none = quiet ph busy
             where
-              quiet : (x : Phase) → isBusy x ≡ true → pick (isAwaited x) (pendingIn x (d .part) adr) Nothing ≡ Nothing
+              quiet : (x : Phase) → isBusy x ≡ true → (if isAwaited x then pendingIn x (d .part) adr else Nothing) ≡ Nothing
               quiet Free b = refl
               quiet EraseAwaited b = absurd (unlike (sym b))
               quiet DataAwaited b = absurd (unlike (sym b))
@@ -247,7 +250,7 @@ module _ (d : Device) (p : Pins) (k : ℕ) (u : Up d p) (w : List ℕ) (lw : len
     -- a program that ended well goes on to the next differing byte
     programmed : (i q : ℕ) (sc : List ℕ) → i < length w → programPolled (rec ProgramWaiting i q) 128 w sc ≡ onto (i + 1) sc
     unfolding programPolled programFault bothErrors past
-    programmed i q sc h = ap (λ (j : ℕ). onward (rec ProgramWaiting i q) j w sc) (pick-true (ltb i (length w)) (i + 1) i (lt-ltb i (length w) h)) ∙ onward-onto ProgramWaiting i q (i + 1) sc
+    programmed i q sc h = ap (λ (j : ℕ). onward (rec ProgramWaiting i q) j w sc) (if-true (ltb i (length w)) (i + 1) i (lt-ltb i (length w) h)) ∙ onward-onto ProgramWaiting i q (i + 1) sc
 
     program-poll : (i q : ℕ) (sc : List ℕ) → nextOf (rec ProgramWaiting i q) 0 w sc ≡ pollMore (rec ProgramWaiting i q) ProgramWaiting
     unfolding programPolled
@@ -306,24 +309,24 @@ module _ (d : Device) (p : Pins) (k : ℕ) (u : Up d p) (w : List ℕ) (lw : len
     -- the cycles that the programs take
     abbrev pub costs : ℕ → ℕ → List ℕ → ℕ
     costs zero i sc = 0
-    costs (suc j) i sc = pick (eqb (getD sc i 0) (getD w i 0)) 0 (2 + d .program) + costs j (i + 1) sc
+    costs (suc j) i sc = (if eqb (getD sc i 0) (getD w i 0) then 0 else 2 + d .program) + costs j (i + 1) sc
 
     onto-past : (i : ℕ) (sc : List ℕ) → length w ≤ i → onto i sc ≡ rec Closing 0 0
     unfolding diffFrom
-    onto-past i sc h = pick-false (ltb (nextDiff (length w - i) i w sc) (length w)) _ _ (le-ltb _ (length w) (rw (diff-over (length w) i w sc h) h))
+    onto-past i sc h = if-false (ltb (nextDiff (length w - i) i w sc) (length w)) _ _ (le-ltb _ (length w) (rw (diff-over (length w) i w sc h) h))
 
     onto-differs : (i : ℕ) (sc : List ℕ) → i < length w → eqb (getD sc i 0) (getD w i 0) ≡ false → onto i sc ≡ rec ProgramAsking i 0
     unfolding diffFrom
     onto-differs i sc h e =
-        let q : nextDiff (length w - i) i w sc ≡ i = diff-turn (length w) i w sc h ∙ pick-false (eqb (getD sc i 0) (getD w i 0)) (nextDiff (length w - (i + 1)) (i + 1) w sc) i e in
-        ap (λ (j : ℕ). pick (ltb j (length w)) (rec ProgramAsking j 0) (rec Closing 0 0)) q ∙ pick-true (ltb i (length w)) _ _ (lt-ltb i (length w) h)
+        let q : nextDiff (length w - i) i w sc ≡ i = diff-turn (length w) i w sc h ∙ if-false (eqb (getD sc i 0) (getD w i 0)) (nextDiff (length w - (i + 1)) (i + 1) w sc) i e in
+        ap (λ (j : ℕ). (if ltb j (length w) then rec ProgramAsking j 0 else rec Closing 0 0)) q ∙ if-true (ltb i (length w)) _ _ (lt-ltb i (length w) h)
 
     onto-agrees : (i : ℕ) (sc : List ℕ) → i < length w → eqb (getD sc i 0) (getD w i 0) ≡ true → onto i sc ≡ onto (i + 1) sc
     unfolding diffFrom
     onto-agrees i sc h e =
         let q : nextDiff (length w - i) i w sc ≡ nextDiff (length w - (i + 1)) (i + 1) w sc =
-        diff-turn (length w) i w sc h ∙ pick-true (eqb (getD sc i 0) (getD w i 0)) (nextDiff (length w - (i + 1)) (i + 1) w sc) i e in
-        ap (λ (j : ℕ). pick (ltb j (length w)) (rec ProgramAsking j 0) (rec Closing 0 0)) q
+        diff-turn (length w) i w sc h ∙ if-true (eqb (getD sc i 0) (getD w i 0)) (nextDiff (length w - (i + 1)) (i + 1) w sc) i e in
+        ap (λ (j : ℕ). (if ltb j (length w) then rec ProgramAsking j 0 else rec Closing 0 0)) q
 
     -- the programs from place i on, then the verify
     walking : (r : Ready d p k) (sc : List ℕ) → length sc ≡ length w → ((i : ℕ) → i < length w → bitAnd (getD sc i 0) (getD w i 0) ≡ getD w i 0) → 0 < d .program → d .program ≤ 65535
@@ -352,7 +355,7 @@ module _ (d : Device) (p : Pins) (k : ℕ) (u : Up d p) (w : List ℕ) (lw : len
         go : (t : Bool) → eqb (getD sc i 0) (getD w i 0) ≡ t
             → ((cnt′ c′ : ℕ) (m′ : Mode) → i + 1 + j ≡ length w → c′ ≡ cnt′ + (costs j (i + 1) sc + (1 + length w))
             → Reach d w (conf (onto (i + 1) sc) (atRest m′ 128) (overlaid xs a (laid (i + 1) w sc)) sc cnt′) (final (overlaid xs a w) c′) es cs)
-            → From (onto i sc) (laid i w sc) cnt m (pick (eqb (getD sc i 0) (getD w i 0)) es (Program (a + i) (getD w i 0) ∷ es)) (pick (eqb (getD sc i 0) (getD w i 0)) cs (programThen d p (a + i) (getD w i 0) cs))
+            → From (onto i sc) (laid i w sc) cnt m (if eqb (getD sc i 0) (getD w i 0) then es else Program (a + i) (getD w i 0) ∷ es) (if eqb (getD sc i 0) (getD w i 0) then cs else programThen d p (a + i) (getD w i 0) cs)
         go true t more =
             rw t
             (subst (λ (l : Loader). From l (laid i w sc) cnt m es cs) (sym (onto-agrees i sc h t))
@@ -440,13 +443,13 @@ module _ (d : Device) (p : Pins) (k : ℕ) (u : Up d p) (w : List ℕ) (lw : len
     -- one more byte of the first reads
     read-next : (i : ℕ) (sc : List ℕ) → i + 1 < length w → readMore (rec Reading i 0) w sc ≡ rec Reading (i + 1) 0
     unfolding readMore
-    read-next i sc h = pick-true (ltb i (length w - 1)) _ _ (lt-ltb i (length w - 1) (omega arith))
+    read-next i sc h = if-true (ltb i (length w - 1)) _ _ (lt-ltb i (length w - 1) (omega arith))
 
     read-last : (i : ℕ) (sc : List ℕ) → i + 1 ≡ length w → readMore (rec Reading i 0) w sc ≡ afterReads (rec Reading i 0) w sc
     unfolding readMore
-    read-last i sc h = pick-false (ltb i (length w - 1)) _ _ (le-ltb i (length w - 1) (omega arith))
+    read-last i sc h = if-false (ltb i (length w - 1)) _ _ (le-ltb i (length w - 1) (omega arith))
 
-    after-same : (i : ℕ) (sc : List ℕ) → afterReads (rec Reading i 0) w sc ≡ pick (risesIn w sc) (rec EraseAsking 0 0) (onto 0 sc)
+    after-same : (i : ℕ) (sc : List ℕ) → afterReads (rec Reading i 0) w sc ≡ (if risesIn w sc then rec EraseAsking 0 0 else onto 0 sc)
     unfolding afterReads onward
     after-same i sc = refl
 
@@ -458,7 +461,7 @@ module _ (d : Device) (p : Pins) (k : ℕ) (u : Up d p) (w : List ℕ) (lw : len
       laid-read i h = ap (λ (v : ℕ). set (laid i ys sc) i v) (byte-at ys i ly h) ∙ laid-more ys sc i (omega arith) (omega arith)
 
       reading : (j i cnt : ℕ) (e : Config) (es : List Effect) (cs : List Cycle) → i + (j + 1) ≡ length w
-          → ((cnt′ : ℕ) → cnt′ ≡ cnt + (j + 1) → Reach d w (conf (pick (risesIn w ys) (rec EraseAsking 0 0) (onto 0 ys)) (atRest Array 128) (overlaid xs a ys) ys cnt′) e es cs)
+          → ((cnt′ : ℕ) → cnt′ ≡ cnt + (j + 1) → Reach d w (conf (if risesIn w ys then rec EraseAsking 0 0 else onto 0 ys) (atRest Array 128) (overlaid xs a ys) ys cnt′) e es cs)
           → Reach d w (conf (rec Reading i 0) (atRest Array 128) (overlaid xs a ys) (laid i ys sc) cnt) e es (readsThen p (suc j) a i cs)
       reading zero i cnt e es cs q rest =
           let h : i < length w = omega arith in
@@ -483,7 +486,7 @@ module _ (d : Device) (p : Pins) (k : ℕ) (u : Up d p) (w : List ℕ) (lw : len
       fore m x = conf (rec Clearing 0 0) (atRest m x) (overlaid xs a ys) sc 0
 
       abbrev pub judged : ℕ → Config
-      judged cnt = conf (pick (risesIn w ys) (rec EraseAsking 0 0) (onto 0 ys)) (atRest Array 128) (overlaid xs a ys) ys cnt
+      judged cnt = conf (if risesIn w ys then rec EraseAsking 0 0 else onto 0 ys) (atRest Array 128) (overlaid xs a ys) ys cnt
 
       -- 50H, FFH and the first reads, from any mode and any error bits
       pub opening : (m : Mode) (x : ℕ) → fits 2 x ≡ true → (e : Config) (es : List Effect) (cs : List Cycle) → Reach d w (judged (2 + length w)) e es cs
@@ -509,7 +512,7 @@ module _ (d : Device) (p : Pins) (k : ℕ) (u : Up d p) (w : List ℕ) (lw : len
 
       -- the whole load, whether some bit must rise or none
       pub loading : (r : Ready d p k) (m : Mode) (x c : ℕ) → fits 2 x ≡ true → Cells w → 0 < d .program → d .program ≤ 65535 → 0 < d .erase → d .erase ≤ 65535
-          → c ≡ 2 * length w + 3 + (pick (risesIn w ys) (2 + d .erase) 0 + costs (length w) 0 (baseOf w ys))
+          → c ≡ 2 * length w + 3 + ((if risesIn w ys then 2 + d .erase else 0) + costs (length w) 0 (baseOf w ys))
           → Reach d w (fore m x) (final (overlaid xs a w) c) (operationsOf k a w ys) (cyclesOf d p a w ys)
       loading r m x c f bw zp bp ze be q = opening m x f (final (overlaid xs a w) c) _ _ (go (risesIn w ys) refl)
         where
@@ -519,7 +522,7 @@ module _ (d : Device) (p : Pins) (k : ℕ) (u : Up d p) (w : List ℕ) (lw : len
           last : List Cycle
           last = closingOf p a (length w)
 
-          go : (t : Bool) → risesIn w ys ≡ t → End (operationsOf k a w ys) (pick (risesIn w ys) (eraseThen d p a (programmingOf d p a w ys)) (programmingOf d p a w ys))
+          go : (t : Bool) → risesIn w ys ≡ t → End (operationsOf k a w ys) (if risesIn w ys then eraseThen d p a (programmingOf d p a w ys) else programmingOf d p a w ys)
           go true t =
               rw t
               (erasing r Array (2 + length w) ys ys (final (overlaid xs a w) c) (programsOf (length w) a 0 w blank) (programsThen d p (length w) a 0 w blank last) ly ly ze be
@@ -537,6 +540,6 @@ module _ (d : Device) (p : Pins) (k : ℕ) (u : Up d p) (w : List ℕ) (lw : len
     costs-are (suc j) i sc = go (eqb (getD sc i 0) (getD w i 0)) (costs-are j (i + 1) sc)
       where
         go : (t : Bool) → costs j (i + 1) sc ≡ differing j (i + 1) w sc * (2 + d .program)
-            → pick t 0 (2 + d .program) + costs j (i + 1) sc ≡ (pick t 0 1 + differing j (i + 1) w sc) * (2 + d .program)
+            → (if t then 0 else 2 + d .program) + costs j (i + 1) sc ≡ ((if t then 0 else 1) + differing j (i + 1) w sc) * (2 + d .program)
         go true e = rw e (let z = zero-add (differing j (i + 1) w sc) in rw z (omega arith))
         go false e = rw (e, add-mul 1 (differing j (i + 1) w sc) (2 + d .program), one-mul (2 + d .program)) refl

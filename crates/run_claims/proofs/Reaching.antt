@@ -4,7 +4,7 @@ use mathlib.Core.Bool.{Bool, true, false, _&&_}
 use mathlib.Core.List.{List, [], _∷_}
 use Prim.Native.Nat.{ℕ, suc, _+_, _-_}
 use lib.ListN.{length}
-use Rattle.cells.specs.Pick.{pick-false}
+use Rattle.cells.proofs.Choice.{if-false}
 use Rattle.device.specs.declared.Device.{Device}
 use Rattle.device.specs.Parts.{sizeOf}
 use Rattle.chip.specs.declared.State.{State}
@@ -56,7 +56,7 @@ prepend d w c c′ e op cy es cs t x r =
       begun =
           ap (λ (o : Effect). noted o (begunIn (r .turns) d w (turnOf d w c))) (x .begins) ∙ ap (λ (y : Config). noted op (begunIn (r .turns) d w y)) t ∙ ap (λ (z : List Effect). noted op z) (r .begun);
       made =
-          pick-false (isEnded (c .loader .stage)) (madeIn (r .turns) d w (turnOf d w c)) (cycleOf (c .loader) w ∷ madeIn (r .turns) d w (turnOf d w c)) (x .going)
+          if-false (isEnded (c .loader .stage)) (madeIn (r .turns) d w (turnOf d w c)) (cycleOf (c .loader) w ∷ madeIn (r .turns) d w (turnOf d w c)) (x .going)
           ∙ (λ i. x .makes i ∷ madeIn (r .turns) d w (t i))
           ∙ ap (λ (z : List Cycle). cy ∷ z) (r .made);
       smooth =
@@ -97,9 +97,9 @@ module _ (d : Device) (w : List ℕ) (l : Loader) (s : State) (xs sc : List ℕ)
       record {
         going = going;
         begins =
-            pick-false (isEnded (l .stage)) Nothing (begunBy d s (cycleOf l w) (length xs) 0) going
+            if-false (isEnded (l .stage)) Nothing (begunBy d s (cycleOf l w) (length xs) 0) going
             ∙ begun-from d s (cycleOf l w) (length xs) 0
             ∙ ap (λ (x : Decision). begunFrom (d .part) s (x .state)) here;
         makes = told .out;
-        smooth = pick-false (isEnded (l .stage)) true (isSmooth (decideOf d s (cycleOf l w) (length xs) 0)) going ∙ ap isSmooth here ∙ told .fine;
+        smooth = if-false (isEnded (l .stage)) true (isSmooth (decideOf d s (cycleOf l w) (length xs) 0)) going ∙ ap isSmooth here ∙ told .fine;
       }

@@ -10,7 +10,7 @@ use lib.Seq.{ext-getD}
 use lib.Dec.{eqb}
 use lib.Bits.{and-self}
 use borrow.Author.Tests.{eq-eqb, eqb-true, eqb-false}
-use Rattle.cells.specs.Pick.{pick}
+use Rattle.cells.specs.Choice.{if_then_else_}
 use Rattle.device.specs.declared.Device.{Device}
 use Rattle.chip.specs.declared.Pins.{Pins}
 use Rattle.chip.specs.declared.Cycle.{Cycle}
@@ -25,7 +25,7 @@ same-at zero i w s e m h = absurd (not-suc-le-zero h)
 same-at (suc k) i w s e m h = go (eqb (getD s i 0) (getD w i 0)) refl (same-at k (i + 1) w s) e m h
   where
     go : (t : Bool) → eqb (getD s i 0) (getD w i 0) ≡ t → (differing k (i + 1) w s ≡ 0 → (m : ℕ) → m < k → getD s (i + 1 + m) 0 ≡ getD w (i + 1 + m) 0)
-        → pick t 0 1 + differing k (i + 1) w s ≡ 0 → (m : ℕ) → m < suc k → getD s (i + m) 0 ≡ getD w (i + m) 0
+        → (if t then 0 else 1) + differing k (i + 1) w s ≡ 0 → (m : ℕ) → m < suc k → getD s (i + m) 0 ≡ getD w (i + m) 0
     go true q more z zero l =
         subst (λ (x : ℕ). getD s x 0 ≡ getD w x 0) (let y : i ≡ i + 0 = omega arith in y) (eqb-true (getD s i 0) (getD w i 0) q)
     go true q more z (suc m) l =
@@ -69,7 +69,7 @@ some-next : (k i : ℕ) (w s : List ℕ) → (differing k i w s ≡ 0 → ⊥) �
 some-next zero i w s z = absurd (z refl)
 some-next (suc k) i w s z = go (eqb (getD s i 0) (getD w i 0)) (some-next k (i + 1) w s) z
   where
-    go : (t : Bool) → ((differing k (i + 1) w s ≡ 0 → ⊥) → nextDiff k (i + 1) w s < i + 1 + k) → (pick t 0 1 + differing k (i + 1) w s ≡ 0 → ⊥) → pick t (nextDiff k (i + 1) w s) i < i + suc k
+    go : (t : Bool) → ((differing k (i + 1) w s ≡ 0 → ⊥) → nextDiff k (i + 1) w s < i + 1 + k) → ((if t then 0 else 1) + differing k (i + 1) w s ≡ 0 → ⊥) → (if t then nextDiff k (i + 1) w s else i) < i + suc k
     go true more y = let x = more (λ q. y (omega arith)) in omega arith
     go false more y = omega arith
 

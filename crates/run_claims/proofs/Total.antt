@@ -6,7 +6,8 @@ use Prim.Native.Nat.{ℕ, _-_}
 use lib.ListN.{length}
 use lib.Dec.{eqb}
 use borrow.Author.Tests.{eq-eqb, eqb-true}
-use Rattle.cells.specs.Pick.{pick, unlike}
+use Rattle.cells.specs.Choice.{if_then_else_}
+use Rattle.cells.proofs.Choice.{unlike}
 use Rattle.device.specs.declared.Device.{Device}
 use Rattle.device.specs.Parts.{startOf}
 use Rattle.chip.specs.declared.Pins.{Pins}
@@ -104,7 +105,7 @@ pub only-ends : (d : Device) (p : Pins) (k : ℕ) (w ys : List ℕ) (P : ℕ →
 unfolding endNumber
 only-ends d p k w ys P p0 p21 p23 p24 = go (asWanted w ys) (vppLow (d .part) p) (shut (d .part) p k) (risesIn w ys)
   where
-    go : (a b c e : Bool) → P (pick a 0 (pick b 21 (pick c (pick e 23 24) 0)))
+    go : (a b c e : Bool) → P (if a then 0 else if b then 21 else if c then (if e then 23 else 24) else 0)
     go true b c e = p0
     go false true c e = p21
     go false false true true = p23
@@ -120,7 +121,7 @@ module _ (d : Device) (s : State) (p : Pins) (k : ℕ) (xs w sc : List ℕ) (t :
   unfolding ranAs
   end-is = ap (λ (r : Ran). r .end) (every-end d s p k xs w sc t .ran) ∙ go (endNumber d p k w (heldIn (startOf (d .part) k) (length w) xs)) (eqb (endNumber d p k w (heldIn (startOf (d .part) k) (length w) xs)) 0) refl
     where
-      go : (n : ℕ) (z : Bool) → eqb n 0 ≡ z → pick z (wellRan d w (heldIn (startOf (d .part) k) (length w) xs)) (faultRan d p w (heldIn (startOf (d .part) k) (length w) xs) n) .end ≡ n
+      go : (n : ℕ) (z : Bool) → eqb n 0 ≡ z → (if z then wellRan d w (heldIn (startOf (d .part) k) (length w) xs) else faultRan d p w (heldIn (startOf (d .part) k) (length w) xs) n) .end ≡ n
       go n true e = sym (eqb-true n 0 e)
       go n false e = refl
 

@@ -13,9 +13,10 @@ use lib.Bits.{bitAnd, and-self, and-step, and-shr}
 use lib.Dec.{eqb, ltb}
 use borrow.Author.Tests.{eqb-true, eqb-false, ne-eqb, ltb-true, ltb-false, lt-ltb, le-ltb, not-true}
 use Rattle.chip.specs.Cells.{ones}
-use Rattle.cells.specs.Pick.{pick, pick-true, pick-false, pick-same, and-left, and-right, unlike}
+use Rattle.cells.specs.Choice.{if_then_else_}
+use Rattle.cells.proofs.Choice.{if-true, if-false, if-same, and-left, and-right, unlike}
 use Rattle.cells.specs.Lists.{overlaid}
-use Rattle.cells.specs.Bytes.{overlaid-in, overlaid-before, overlaid-after}
+use Rattle.cells.proofs.Bytes.{overlaid-in, overlaid-before, overlaid-after}
 use Rattle.device.specs.declared.Part.{Part}
 use Rattle.device.specs.declared.Device.{Device}
 use Rattle.device.specs.Parts.{sizeOf, startOf, lengthOf, blockOf, shapeOf}
@@ -33,8 +34,8 @@ use Rattle.run_claims.specs.History.{Bus, World, stepped, worldAfter, ef
 -- what an uncut effect makes of the byte v at address x
 abbrev pub byteBy : Part → ℕ → Effect → ℕ → ℕ
 byteBy part x Nothing v = v
-byteBy part x (Program at b) v = pick (eqb at x) (bitAnd v b) v
-byteBy part x (Erase j) v = pick (eqb j (blockOf part x)) ones v
+byteBy part x (Program at b) v = if eqb at x then bitAnd v b else v
+byteBy part x (Erase j) v = if eqb j (blockOf part x) then ones else v
 byteBy part x (CutProgram at b) v = v
 byteBy part x (CutErase j) v = v
 
@@ -54,7 +55,7 @@ holds part j x h e =
     (q .from, q .to)
 
 -- an erase as one byte sees it
-erase-byte : (part : Part) (j x : ℕ) (xs : List ℕ) → length xs ≡ sizeOf part → x < sizeOf part → getD (erased part j xs) x 0 ≡ pick (eqb j (blockOf part x)) ones (getD xs x 0)
+erase-byte : (part : Part) (j x : ℕ) (xs : List ℕ) → length xs ≡ sizeOf part → x < sizeOf part → getD (erased part j xs) x 0 ≡ (if eqb j (blockOf part x) then ones else getD xs x 0)
 unfolding erased
 erase-byte part j x xs lx hx = go (eqb j (blockOf part x)) refl
   where
@@ -86,15 +87,15 @@ erase-byte part j x xs lx hx = go (eqb j (blockOf part x)) refl
             split true b = absurd (ne (sym (lies part j x f (ltb-true _ _ b))))
             split false b = ltb-false _ _ b
 
-    go : (b : Bool) → eqb j (blockOf part x) ≡ b → getD (overlaid xs s R) x 0 ≡ pick (eqb j (blockOf part x)) ones (getD xs x 0)
+    go : (b : Bool) → eqb j (blockOf part x) ≡ b → getD (overlaid xs s R) x 0 ≡ (if eqb j (blockOf part x) then ones else getD xs x 0)
     go true e =
         let h = holds part j x hx (eqb-true _ _ e) in
         let l = length-replicate {A = ℕ} n ones in
         let q : s + (x - s) ≡ x = omega (arith, h .0) in
         subst (λ (y : ℕ). getD (overlaid xs s R) y 0 ≡ ones) q
         (overlaid-in xs s R fit (x - s) (omega (arith, h .0, h .1)) ∙ getD-replicate n (x - s) ones 0 (omega (arith, h .0, h .1)))
-        ∙ sym (pick-true (eqb j (blockOf part x)) ones (getD xs x 0) e)
-    go false e = away e (ltb x s) refl ∙ sym (pick-false (eqb j (blockOf part x)) ones (getD xs x 0) e)
+        ∙ sym (if-true (eqb j (blockOf part x)) ones (getD xs x 0) e)
+    go false e = away e (ltb x s) refl ∙ sym (if-false (eqb j (blockOf part x)) ones (getD xs x 0) e)
 
 -- an uncut effect as one byte sees it
 effect-byte : (e : Effect) (part : Part) (rs xs : List ℕ) (x : ℕ) → length xs ≡ sizeOf part → x < sizeOf part → Within e part (length xs) (length rs) → isCut e ≡ false
@@ -102,13 +103,13 @@ effect-byte : (e : Effect) (part : Part) (rs xs : List ℕ) (x : ℕ) → length
 effect-byte Nothing part rs xs x lx hx w c = refl
 effect-byte (Program at b) part rs xs x lx hx w c = go (eqb at x) refl
   where
-    go : (t : Bool) → eqb at x ≡ t → getD (set xs at (bitAnd (getD xs at 0) b)) x 0 ≡ pick (eqb at x) (bitAnd (getD xs x 0) b) (getD xs x 0)
+    go : (t : Bool) → eqb at x ≡ t → getD (set xs at (bitAnd (getD xs at 0) b)) x 0 ≡ (if eqb at x then bitAnd (getD xs x 0) b else getD xs x 0)
     go true t =
         let q : at ≡ x = eqb-true at x t in
         subst (λ (y : ℕ). getD (set xs at (bitAnd (getD xs at 0) b)) y 0 ≡ bitAnd (getD xs y 0) b) q (getD-set-same xs at (bitAnd (getD xs at 0) b) 0 w)
-        ∙ sym (pick-true (eqb at x) (bitAnd (getD xs x 0) b) (getD xs x 0) t)
+        ∙ sym (if-true (eqb at x) (bitAnd (getD xs x 0) b) (getD xs x 0) t)
     go false t =
-        getD-set-other xs at x (bitAnd (getD xs at 0) b) 0 (λ q. eqb-false at x t (sym q)) ∙ sym (pick-false (eqb at x) (bitAnd (getD xs x 0) b) (getD xs x 0) t)
+        getD-set-other xs at x (bitAnd (getD xs at 0) b) 0 (λ q. eqb-false at x t (sym q)) ∙ sym (if-false (eqb at x) (bitAnd (getD xs x 0) b) (getD xs x 0) t)
 effect-byte (Erase j) part rs xs x lx hx w c = erase-byte part j x xs lx hx
 effect-byte (CutProgram at b) part rs xs x lx hx w c = absurd (unlike c)
 effect-byte (CutErase j) part rs xs x lx hx w c = absurd (unlike c)
@@ -160,13 +161,13 @@ only-loses (Nothing ∷ es) part x v z = only-loses es part x v (omega arith)
 only-loses (Program at b ∷ es) part x v z = go (eqb at x) (only-loses es part x)
   where
     go : (t : Bool) → ((u : ℕ) → total (eraseOf (blockOf part x)) es ≡ 0 → bitAnd u (byteAll part x es u) ≡ byteAll part x es u)
-        → bitAnd v (byteAll part x es (pick t (bitAnd v b) v)) ≡ byteAll part x es (pick t (bitAnd v b) v)
+        → bitAnd v (byteAll part x es (if t then bitAnd v b else v)) ≡ byteAll part x es (if t then bitAnd v b else v)
     go true more = under v b (byteAll part x es (bitAnd v b)) (more (bitAnd v b) (omega arith))
     go false more = more v (omega arith)
 only-loses (Erase j ∷ es) part x v z = go (eqb j (blockOf part x)) refl (only-loses es part x v)
   where
     go : (t : Bool) → eqb j (blockOf part x) ≡ t → (total (eraseOf (blockOf part x)) es ≡ 0 → bitAnd v (byteAll part x es v) ≡ byteAll part x es v)
-        → bitAnd v (byteAll part x es (pick (eqb j (blockOf part x)) ones v)) ≡ byteAll part x es (pick (eqb j (blockOf part x)) ones v)
+        → bitAnd v (byteAll part x es (if eqb j (blockOf part x) then ones else v)) ≡ byteAll part x es (if eqb j (blockOf part x) then ones else v)
     go true t more = absurd (let q = rw t at z in omega arith)
     go false t more = rw t (more (let q = rw t at z in omega arith))
 only-loses (CutProgram at b ∷ es) part x v z = only-loses es part x v (omega arith)
@@ -174,29 +175,29 @@ only-loses (CutErase j ∷ es) part x v z = only-loses es part x v (omega arith)
 
 -- without a program on it a byte is as it was, or all ones after an erase of its block
 pub unprogrammed : (es : List Effect) (part : Part) (x v : ℕ) → total (programAt x) es ≡ 0
-    → byteAll part x es v ≡ pick (eqb (total (eraseOf (blockOf part x)) es) 0) v ones
+    → byteAll part x es v ≡ (if eqb (total (eraseOf (blockOf part x)) es) 0 then v else ones)
 unprogrammed [] part x v z = refl
-unprogrammed (Nothing ∷ es) part x v z = unprogrammed es part x v (omega arith) ∙ ap (λ (n : ℕ). pick (eqb n 0) v ones) (let q : total (eraseOf (blockOf part x)) es ≡ 0 + total (eraseOf (blockOf part x)) es = omega arith in q)
+unprogrammed (Nothing ∷ es) part x v z = unprogrammed es part x v (omega arith) ∙ ap (λ (n : ℕ). (if eqb n 0 then v else ones)) (let q : total (eraseOf (blockOf part x)) es ≡ 0 + total (eraseOf (blockOf part x)) es = omega arith in q)
 unprogrammed (Program at b ∷ es) part x v z = go (eqb at x) refl (unprogrammed es part x v)
   where
-    go : (t : Bool) → eqb at x ≡ t → (total (programAt x) es ≡ 0 → byteAll part x es v ≡ pick (eqb (total (eraseOf (blockOf part x)) es) 0) v ones)
-        → byteAll part x es (pick (eqb at x) (bitAnd v b) v) ≡ pick (eqb (0 + total (eraseOf (blockOf part x)) es) 0) v ones
+    go : (t : Bool) → eqb at x ≡ t → (total (programAt x) es ≡ 0 → byteAll part x es v ≡ (if eqb (total (eraseOf (blockOf part x)) es) 0 then v else ones))
+        → byteAll part x es (if eqb at x then bitAnd v b else v) ≡ (if eqb (0 + total (eraseOf (blockOf part x)) es) 0 then v else ones)
     go true t more = absurd (let q = rw t at z in omega arith)
     go false t more =
         rw t (more (let q = rw t at z in omega arith))
-        ∙ ap (λ (n : ℕ). pick (eqb n 0) v ones) (let q : total (eraseOf (blockOf part x)) es ≡ 0 + total (eraseOf (blockOf part x)) es = omega arith in q)
+        ∙ ap (λ (n : ℕ). (if eqb n 0 then v else ones)) (let q : total (eraseOf (blockOf part x)) es ≡ 0 + total (eraseOf (blockOf part x)) es = omega arith in q)
 unprogrammed (Erase j ∷ es) part x v z = go (eqb j (blockOf part x)) refl (unprogrammed es part x)
   where
-    go : (t : Bool) → eqb j (blockOf part x) ≡ t → ((u : ℕ) → total (programAt x) es ≡ 0 → byteAll part x es u ≡ pick (eqb (total (eraseOf (blockOf part x)) es) 0) u ones)
-        → byteAll part x es (pick (eqb j (blockOf part x)) ones v) ≡ pick (eqb (pick (eqb j (blockOf part x)) 1 0 + total (eraseOf (blockOf part x)) es) 0) v ones
+    go : (t : Bool) → eqb j (blockOf part x) ≡ t → ((u : ℕ) → total (programAt x) es ≡ 0 → byteAll part x es u ≡ (if eqb (total (eraseOf (blockOf part x)) es) 0 then u else ones))
+        → byteAll part x es (if eqb j (blockOf part x) then ones else v) ≡ (if eqb ((if eqb j (blockOf part x) then 1 else 0) + total (eraseOf (blockOf part x)) es) 0 then v else ones)
     go true t more =
         rw t
-        (more ones (omega arith) ∙ pick-same (eqb (total (eraseOf (blockOf part x)) es) 0) ones
-        ∙ sym (pick-false (eqb (1 + total (eraseOf (blockOf part x)) es) 0) v ones (ne-eqb (1 + total (eraseOf (blockOf part x)) es) 0 (λ q. omega arith))))
+        (more ones (omega arith) ∙ if-same (eqb (total (eraseOf (blockOf part x)) es) 0) ones
+        ∙ sym (if-false (eqb (1 + total (eraseOf (blockOf part x)) es) 0) v ones (ne-eqb (1 + total (eraseOf (blockOf part x)) es) 0 (λ q. omega arith))))
     go false t more =
-        rw t (more v (omega arith) ∙ ap (λ (n : ℕ). pick (eqb n 0) v ones) (let q : total (eraseOf (blockOf part x)) es ≡ 0 + total (eraseOf (blockOf part x)) es = omega arith in q))
-unprogrammed (CutProgram at b ∷ es) part x v z = unprogrammed es part x v (omega arith) ∙ ap (λ (n : ℕ). pick (eqb n 0) v ones) (let q : total (eraseOf (blockOf part x)) es ≡ 0 + total (eraseOf (blockOf part x)) es = omega arith in q)
-unprogrammed (CutErase j ∷ es) part x v z = unprogrammed es part x v (omega arith) ∙ ap (λ (n : ℕ). pick (eqb n 0) v ones) (let q : total (eraseOf (blockOf part x)) es ≡ 0 + total (eraseOf (blockOf part x)) es = omega arith in q)
+        rw t (more v (omega arith) ∙ ap (λ (n : ℕ). (if eqb n 0 then v else ones)) (let q : total (eraseOf (blockOf part x)) es ≡ 0 + total (eraseOf (blockOf part x)) es = omega arith in q))
+unprogrammed (CutProgram at b ∷ es) part x v z = unprogrammed es part x v (omega arith) ∙ ap (λ (n : ℕ). (if eqb n 0 then v else ones)) (let q : total (eraseOf (blockOf part x)) es ≡ 0 + total (eraseOf (blockOf part x)) es = omega arith in q)
+unprogrammed (CutErase j ∷ es) part x v z = unprogrammed es part x v (omega arith) ∙ ap (λ (n : ℕ). (if eqb n 0 then v else ones)) (let q : total (eraseOf (blockOf part x)) es ≡ 0 + total (eraseOf (blockOf part x)) es = omega arith in q)
 
 -- one place more of a block adds the programs at that place
 program-more : (a n : ℕ) (e : Effect) → programIn a (n + 1) e ≡ programAt a e + programIn (a + 1) n e
@@ -204,7 +205,7 @@ program-more a n Nothing = omega arith
 program-more a n (Program at b) = go (ltb at a) (eqb at a) refl refl (ltb at (a + (n + 1))) (ltb at (a + 1 + n)) refl refl
   where
     go : (s t : Bool) → ltb at a ≡ s → eqb at a ≡ t → (u y : Bool) → ltb at (a + (n + 1)) ≡ u → ltb at (a + 1 + n) ≡ y
-        → pick (ltb at a) 0 (pick (ltb at (a + (n + 1))) 1 0) ≡ pick (eqb at a) 1 0 + pick (ltb at (a + 1)) 0 (pick (ltb at (a + 1 + n)) 1 0)
+        → (if ltb at a then 0 else if ltb at (a + (n + 1)) then 1 else 0) ≡ (if eqb at a then 1 else 0) + (if ltb at (a + 1) then 0 else if ltb at (a + 1 + n) then 1 else 0)
     go true true p q u y i k = absurd (let h = ltb-true at a p in let g = eqb-true at a q in omega arith)
     go true false p q u y i k = rw (p, q, lt-ltb at (a + 1) (let h = ltb-true at a p in omega arith)) (omega arith)
     go false true p q u y i k =

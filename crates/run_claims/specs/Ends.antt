@@ -5,7 +5,7 @@ use Prim.Native.Nat.{ℕ, _+_}
 use lib.ListN.{length, getD}
 use lib.Dec.{eqb}
 use Rattle.device.specs.declared.Part.{Part}
-use Rattle.cells.specs.Pick.{pick}
+use Rattle.cells.specs.Choice.{if_then_else_}
 use Rattle.cells.specs.Lists.{overlaid}
 use Rattle.device.specs.declared.Device.{Device}
 use Rattle.chip.specs.declared.Pins.{Pins}
@@ -30,11 +30,11 @@ shut part p k = eqb k 0 && not (unlocked part p 0)
 
 -- the end's number: well with nothing to do; else 21 with VPP low; else 23 or 24 where the block is shut; else well
 unfoldable pub endNumber : Device → Pins → ℕ → List ℕ → List ℕ → ℕ
-endNumber d p k w ys = pick (asWanted w ys) 0 (pick (vppLow (d .part) p) 21 (pick (shut (d .part) p k) (pick (risesIn w ys) 23 24) 0))
+endNumber d p k w ys = if asWanted w ys then 0 else if vppLow (d .part) p then 21 else if shut (d .part) p k then (if risesIn w ys then 23 else 24) else 0
 
 -- the status that the first operation leaves which cannot start: SR.7 with SR.5 or SR.4, and SR.3 where VPP is low
 unfoldable pub faultStatus : Device → Pins → List ℕ → List ℕ → ℕ
-faultStatus d p w ys = pick (vppLow (d .part) p) (pick (risesIn w ys) 168 152) (pick (risesIn w ys) 160 144)
+faultStatus d p w ys = if vppLow (d .part) p then (if risesIn w ys then 168 else 152) else if risesIn w ys then 160 else 144
 
 -- the two writes of an operation that does not start, and one poll
 abbrev pub eraseTried : Pins → ℕ → List Cycle
@@ -45,7 +45,7 @@ programTried p x b = busCycle p Write x 0x40 ∷ busCycle p Write x b ∷ busCyc
 
 -- the cycles up to such an end: the first reads, then the erase, or the program of the first byte that differs
 abbrev pub faultCycles : Pins → ℕ → List ℕ → List ℕ → List Cycle
-faultCycles p a w ys = openingThen p a (length w) (pick (risesIn w ys) (eraseTried p a) (programTried p (a + diffFrom 0 w ys) (getD w (diffFrom 0 w ys) 0)))
+faultCycles p a w ys = openingThen p a (length w) (if risesIn w ys then eraseTried p a else programTried p (a + diffFrom 0 w ys) (getD w (diffFrom 0 w ys) 0))
 
 -- a run that ends well, and one that ends by a fault at cycle n + 5
 abbrev pub wellRan : Device → List ℕ → List ℕ → Ran
@@ -56,13 +56,13 @@ faultRan d p w ys n = record { count = length w + 5; end = n; address = 0; state
 
 -- what such a run returns, what it leaves in array and scratch, and its cycles
 unfoldable pub ranAs : Device → Pins → ℕ → List ℕ → List ℕ → Ran
-ranAs d p k w ys = pick (eqb (endNumber d p k w ys) 0) (wellRan d w ys) (faultRan d p w ys (endNumber d p k w ys))
+ranAs d p k w ys = if eqb (endNumber d p k w ys) 0 then wellRan d w ys else faultRan d p w ys (endNumber d p k w ys)
 
 unfoldable pub bytesAs : Device → Pins → ℕ → ℕ → List ℕ → List ℕ → List ℕ → List ℕ
-bytesAs d p k a w ys xs = pick (eqb (endNumber d p k w ys) 0) (overlaid xs a w) xs
+bytesAs d p k a w ys xs = if eqb (endNumber d p k w ys) 0 then overlaid xs a w else xs
 
 unfoldable pub scratchAs : Device → Pins → ℕ → List ℕ → List ℕ → List ℕ
-scratchAs d p k w ys = pick (eqb (endNumber d p k w ys) 0) w ys
+scratchAs d p k w ys = if eqb (endNumber d p k w ys) 0 then w else ys
 
 unfoldable pub cyclesAs : Device → Pins → ℕ → ℕ → List ℕ → List ℕ → List Cycle
-cyclesAs d p k a w ys = pick (eqb (endNumber d p k w ys) 0) (cyclesOf d p a w ys) (faultCycles p a w ys)
+cyclesAs d p k a w ys = if eqb (endNumber d p k w ys) 0 then cyclesOf d p a w ys else faultCycles p a w ys

@@ -4,7 +4,7 @@ use mathlib.Core.List.{List, [], _∷_}
 use Prim.Native.Nat.{ℕ, _+_}
 use lib.ListN.{length}
 use lib.Dec.{eqb, ltb}
-use Rattle.cells.specs.Pick.{pick}
+use Rattle.cells.specs.Choice.{if_then_else_}
 use Rattle.device.specs.declared.Device.{Device}
 use Rattle.chip.specs.declared.State.{State}
 use Rattle.chip.specs.declared.Cycle.{Cycle}
@@ -67,20 +67,20 @@ total f (e ∷ es) = f e + total f es
 abbrev pub eraseOf : ℕ → Effect → ℕ
 eraseOf k Nothing = 0
 eraseOf k (Program at b) = 0
-eraseOf k (Erase j) = pick (eqb j k) 1 0
+eraseOf k (Erase j) = if eqb j k then 1 else 0
 eraseOf k (CutProgram at b) = 0
 eraseOf k (CutErase j) = 0
 
 abbrev pub programAt : ℕ → Effect → ℕ
 programAt x Nothing = 0
-programAt x (Program at b) = pick (eqb at x) 1 0
+programAt x (Program at b) = if eqb at x then 1 else 0
 programAt x (Erase j) = 0
 programAt x (CutProgram at b) = 0
 programAt x (CutErase j) = 0
 
 abbrev pub programIn : ℕ → ℕ → Effect → ℕ
 programIn a n Nothing = 0
-programIn a n (Program at b) = pick (ltb at a) 0 (pick (ltb at (a + n)) 1 0)
+programIn a n (Program at b) = if ltb at a then 0 else if ltb at (a + n) then 1 else 0
 programIn a n (Erase j) = 0
 programIn a n (CutProgram at b) = 0
 programIn a n (CutErase j) = 0

@@ -4,7 +4,7 @@ use mathlib.Core.List.{List, [], _∷_}
 use Prim.Native.Nat.{ℕ, zero, suc, _+_}
 use lib.ListN.{length, getD}
 use lib.Dec.{eqb}
-use Rattle.cells.specs.Pick.{pick}
+use Rattle.cells.specs.Choice.{if_then_else_}
 use Rattle.device.specs.declared.Device.{Device}
 use Rattle.chip.specs.declared.Pins.{Pins}
 use Rattle.chip.specs.declared.Kind.{Kind}
@@ -23,7 +23,7 @@ use Rattle.run_claims.specs.History.{isCut}
 -- the cycles that k turns make, in their order
 abbrev pub madeIn : ℕ → Device → List ℕ → Config → List Cycle
 madeIn zero d w c = []
-madeIn (suc k) d w c = pick (isEnded (c .loader .stage)) (madeIn k d w (turnOf d w c)) (cycleOf (c .loader) w ∷ madeIn k d w (turnOf d w c))
+madeIn (suc k) d w c = if isEnded (c .loader .stage) then madeIn k d w (turnOf d w c) else cycleOf (c .loader) w ∷ madeIn k d w (turnOf d w c)
 
 abbrev pub isRefused : Reply → Bool
 isRefused Quiet = false
@@ -37,7 +37,7 @@ isSmooth x = not (isRefused (x .reply)) && not (isCut (x .effect))
 
 -- .. in one turn
 unfoldable pub smoothTurn : Device → List ℕ → Config → Bool
-smoothTurn d w c = pick (isEnded (c .loader .stage)) true (isSmooth (decideOf d (c .state) (cycleOf (c .loader) w) (length (c .bytes)) 0))
+smoothTurn d w c = if isEnded (c .loader .stage) then true else isSmooth (decideOf d (c .state) (cycleOf (c .loader) w) (length (c .bytes)) 0)
 
 -- .. in each of k turns
 abbrev pub smoothIn : ℕ → Device → List ℕ → Config → Bool
@@ -74,7 +74,7 @@ programThen d p x b cs = busCycle p Write x 0x40 ∷ busCycle p Write x b ∷ po
 abbrev pub programsThen : Device → Pins → ℕ → ℕ → ℕ → List ℕ → List ℕ → List Cycle → List Cycle
 programsThen d p zero a i w s cs = cs
 programsThen d p (suc k) a i w s cs =
-    pick (eqb (getD s i 0) (getD w i 0)) (programsThen d p k a (i + 1) w s cs) (programThen d p (a + i) (getD w i 0) (programsThen d p k a (i + 1) w s cs))
+    if eqb (getD s i 0) (getD w i 0) then programsThen d p k a (i + 1) w s cs else programThen d p (a + i) (getD w i 0) (programsThen d p k a (i + 1) w s cs)
 
 -- the last FFH and the verify's reads
 abbrev pub closingOf : Pins → ℕ → ℕ → List Cycle
@@ -86,4 +86,4 @@ programmingOf d p a w ys = programsThen d p (length w) a 0 w (baseOf w ys) (clos
 
 -- the cycles of a good load of a block at a that holds ys
 abbrev pub cyclesOf : Device → Pins → ℕ → List ℕ → List ℕ → List Cycle
-cyclesOf d p a w ys = openingThen p a (length w) (pick (risesIn w ys) (eraseThen d p a (programmingOf d p a w ys)) (programmingOf d p a w ys))
+cyclesOf d p a w ys = openingThen p a (length w) (if risesIn w ys then eraseThen d p a (programmingOf d p a w ys) else programmingOf d p a w ys)

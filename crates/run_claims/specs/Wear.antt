@@ -5,7 +5,7 @@ use Prim.Native.Nat.{ℕ, zero, suc, _+_, _*_}
 use lib.ListN.{length, getD, take, drop, replicate}
 use lib.Dec.{eqb}
 use Rattle.chip.specs.Cells.{ones}
-use Rattle.cells.specs.Pick.{pick}
+use Rattle.cells.specs.Choice.{if_then_else_}
 use Rattle.device.specs.declared.Device.{Device}
 use Rattle.chip.specs.declared.Effect.{Effect}
 use Rattle.chip.specs.declared.Effect.the-variants.{Nothing, Program, Erase, CutProgram, CutErase}
@@ -24,7 +24,7 @@ noted (CutErase k) es = CutErase k ∷ es
 
 -- what one turn begins
 unfoldable pub begunTurn : Device → List ℕ → Config → Effect
-begunTurn d w c = pick (isEnded (c .loader .stage)) Nothing (begunBy d (c .state) (cycleOf (c .loader) w) (length (c .bytes)) 0)
+begunTurn d w c = if isEnded (c .loader .stage) then Nothing else begunBy d (c .state) (cycleOf (c .loader) w) (length (c .bytes)) 0
 
 -- what k turns begin, in their order
 abbrev pub begunIn : ℕ → Device → List ℕ → Config → List Effect
@@ -34,12 +34,12 @@ begunIn (suc k) d w c = noted (begunTurn d w c) (begunIn k d w (turnOf d w c))
 -- the programs that bring the bytes from place i on, k of them, from s to w, in a block that starts at a
 abbrev pub programsOf : ℕ → ℕ → ℕ → List ℕ → List ℕ → List Effect
 programsOf zero a i w s = []
-programsOf (suc k) a i w s = pick (eqb (getD s i 0) (getD w i 0)) (programsOf k a (i + 1) w s) (Program (a + i) (getD w i 0) ∷ programsOf k a (i + 1) w s)
+programsOf (suc k) a i w s = if eqb (getD s i 0) (getD w i 0) then programsOf k a (i + 1) w s else Program (a + i) (getD w i 0) ∷ programsOf k a (i + 1) w s
 
 -- how many bytes differ
 abbrev pub differing : ℕ → ℕ → List ℕ → List ℕ → ℕ
 differing zero i w s = 0
-differing (suc k) i w s = pick (eqb (getD s i 0) (getD w i 0)) 0 1 + differing k (i + 1) w s
+differing (suc k) i w s = (if eqb (getD s i 0) (getD w i 0) then 0 else 1) + differing k (i + 1) w s
 
 -- what a block of an array holds
 abbrev pub heldIn : ℕ → ℕ → List ℕ → List ℕ
@@ -47,11 +47,11 @@ heldIn a n xs = take n (drop a xs)
 
 -- what the programs of a load start from: all ones if some bit must rise, else what was held
 abbrev pub baseOf : List ℕ → List ℕ → List ℕ
-baseOf w ys = pick (risesIn w ys) (replicate (length w) ones) ys
+baseOf w ys = if risesIn w ys then replicate (length w) ones else ys
 
 -- erases and programs that a load begins
 abbrev pub erasesOf : List ℕ → List ℕ → ℕ
-erasesOf w ys = pick (risesIn w ys) 1 0
+erasesOf w ys = if risesIn w ys then 1 else 0
 
 abbrev pub programsIn : List ℕ → List ℕ → ℕ
 programsIn w ys = differing (length w) 0 w (baseOf w ys)
@@ -62,4 +62,4 @@ formula d w ys = 2 * length w + 3 + erasesOf w ys * (2 + d .erase) + programsIn 
 
 -- the operations that a load of a block k at a begins, in their order
 abbrev pub operationsOf : ℕ → ℕ → List ℕ → List ℕ → List Effect
-operationsOf k a w ys = pick (risesIn w ys) (Erase k ∷ programsOf (length w) a 0 w (baseOf w ys)) (programsOf (length w) a 0 w (baseOf w ys))
+operationsOf k a w ys = if risesIn w ys then Erase k ∷ programsOf (length w) a 0 w (baseOf w ys) else programsOf (length w) a 0 w (baseOf w ys)

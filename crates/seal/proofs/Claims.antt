@@ -3,7 +3,8 @@ use mathlib.Core.Path.{_≡_}
 use mathlib.Core.List.{List}
 use Prim.Native.Nat.{ℕ, _<_}
 use lib.ListN.{take}
-use Rattle.cells.specs.Pick.{Unique, only}
+use Rattle.cells.specs.Choice.{Unique}
+use Rattle.cells.proofs.Choice.{only}
 use Rattle.seal.specs.Check.{checkOf, checkFault, pair}
 
 pub check-unique : (b : List ℕ) → Unique (λ (r : ℕ). r ≡ checkOf (take 510 b))

@@ -4,7 +4,7 @@ use mathlib.Core.Bool.{Bool, not}
 use Prim.Native.Nat.{ℕ, suc, _+_, _*_, _%_}
 use lib.ListN.{getD, take}
 use lib.Dec.{eqb}
-use Rattle.cells.specs.Pick.{pick}
+use Rattle.cells.specs.Choice.{if_then_else_}
 
 -- k times the first byte, k + 1 times the next, and so on, added up
 abbrev pub wsum : ℕ → List ℕ → ℕ
@@ -29,4 +29,4 @@ checkWrong b = not (eqb (checkOf (take 510 b)) (storedOf b))
 
 -- what the check alone says of a block: its refusal, or 0
 abbrev pub checkFault : List ℕ → ℕ
-checkFault b = pick (checkWrong b) 31 0
+checkFault b = if checkWrong b then 31 else 0

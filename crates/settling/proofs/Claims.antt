@@ -1,7 +1,8 @@
 -- Two results that a promise allows are equal, for each public function of this crate. Assumes nothing.
 use mathlib.Core.Path.{_≡_}
 use Prim.Native.Nat.{ℕ}
-use Rattle.cells.specs.Pick.{Unique, only}
+use Rattle.cells.specs.Choice.{Unique}
+use Rattle.cells.proofs.Choice.{only}
 use Rattle.device.specs.declared.Part.{Part}
 use Rattle.chip.specs.declared.Pins.{Pins}
 use Rattle.chip.specs.declared.State.{State}

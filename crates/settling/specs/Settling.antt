@@ -3,7 +3,7 @@ use mathlib.Core.Bool.{Bool, true, false, not, _&&_, _||_}
 use Prim.Native.Nat.{ℕ, _+_, _-_}
 use lib.Bits.{bitAnd, bitOr}
 use lib.Dec.{eqb, ltb, leb}
-use Rattle.cells.specs.Pick.{pick}
+use Rattle.cells.specs.Choice.{if_then_else_}
 use Rattle.device.specs.Parts.{blockOf, lengthOf}
 use Rattle.device.specs.declared.Part.{Part}
 use Rattle.chip.specs.declared.Mode.the-variants.{Array, Status, Identifier}
@@ -67,13 +67,13 @@ cutBy part s = settledAs (atRest Status (bitOr (bitAnd (s .status) 191) (cutBits
 -- step 3: a running operation counts one cycle off, and with none left it is finished
 unfoldable pub countedOff : Part → State → Settled
 countedOff part s =
-    pick (leb (s .left) 1) (settledAs (atRest (s .mode) (bitOr (s .status) 128)) (endOf (s .phase) part (s .address)))
-    (settledAs (record { mode = s .mode; status = s .status; phase = s .phase; left = s .left - 1; address = s .address }) Nothing)
+    if leb (s .left) 1 then settledAs (atRest (s .mode) (bitOr (s .status) 128)) (endOf (s .phase) part (s .address))
+    else settledAs (record { mode = s .mode; status = s .status; phase = s .phase; left = s .left - 1; address = s .address }) Nothing
 
 -- the three steps in their order
 unfoldable pub settleOf : Part → State → Pins → Settled
 settleOf part s p =
-    pick (rpLow p) (resetBy part s)
-    (pick (vppLow part p && isPending (s .phase)) (cutBy part s)
-    (pick (isBusy (s .phase)) (countedOff part s)
-    (settledAs s Nothing)))
+    if rpLow p then resetBy part s
+    else if vppLow part p && isPending (s .phase) then cutBy part s
+    else if isBusy (s .phase) then countedOff part s
+    else settledAs s Nothing

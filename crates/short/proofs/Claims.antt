@@ -4,7 +4,8 @@ use mathlib.Core.Bool.{true, false}
 use mathlib.Core.List.{List}
 use Prim.Native.Nat.{ℕ}
 use lib.Dec.{eqb}
-use Rattle.cells.specs.Pick.{Unique, only}
+use Rattle.cells.specs.Choice.{Unique}
+use Rattle.cells.proofs.Choice.{only}
 use Rattle.chip.specs.declared.Cycle.{Cycle}
 use Rattle.bus.specs.Cycles.{judgeOf}
 use Rattle.twin.specs.Twins.{deviceIn, noState, stateIn}

@@ -4,8 +4,8 @@ use mathlib.Core.Bool.{true, false}
 use mathlib.Core.List.{List}
 use Prim.Native.Nat.{ℕ}
 use lib.ListN.{length}
-use Rattle.cells.specs.Pick.{unlike}
-use Rattle.cells.specs.Numbers.{given-no-row, no-head, no-tail}
+use Rattle.cells.proofs.Choice.{unlike}
+use Rattle.cells.proofs.Numbers.{given-no-row, no-head, no-tail}
 use Rattle.chip.specs.declared.Mode.{Mode}
 use Rattle.chip.specs.declared.Mode.the-variants.{Array, Status, Identifier}
 use Rattle.chip.specs.declared.Phase.{Phase}

@@ -5,8 +5,9 @@ use Prim.Native.Nat.{ℕ, zero, suc, _<_}
 use native.Mathlib.Omega.{arith}
 use lib.Dec.{eqb, ltb, leb}
 use borrow.Author.Tests.{lt-ltb, le-ltb, ne-eqb, eqb-true}
-use Rattle.cells.specs.Pick.{pick, pick-false, unlike}
-use Rattle.cells.specs.Numbers.{given-no-row, no-head, no-tail}
+use Rattle.cells.specs.Choice.{if_then_else_}
+use Rattle.cells.proofs.Choice.{if-false, unlike}
+use Rattle.cells.proofs.Numbers.{given-no-row, no-head, no-tail}
 use Rattle.device.specs.declared.Part.{Part}
 use Rattle.device.specs.declared.Device.{Device}
 use Rattle.device.specs.Parts.{unknownDevice, sizeOf}
@@ -170,7 +171,7 @@ in-or d s = go (noState s) refl
   where
     go : (b : Bool) → noState s ≡ b → improper d (stateIn s) ≡ (b || improper d (typed s))
     go true q = no-state-improper s q d
-    go false q = ap (λ (t : State). improper d t) (pick-false (noState s) _ _ q)
+    go false q = ap (λ (t : State). improper d t) (if-false (noState s) _ _ q)
 
 -- refusal 3 by the numbers
 pub improper-same : (d : DeviceNumbers) (s : StateNumbers) (size : ℕ) → size ≡ sizeOf (deviceIn d .part) → improperBy d s size ≡ improper (deviceIn d) (stateIn s)
@@ -178,11 +179,11 @@ improper-same d s size e =
     ap (λ (n : ℕ). improperBy d s n) e ∙ by-phase d (s .mode) (s .status) (s .phase) (s .byte) (s .left) (s .address) ∙ sym (in-or (deviceIn d) s)
 
 -- OE# by the number of the kind
-plain-oe : (oe : ℕ) → pick (eqb oe 0) false true ≡ ltb 0 oe
+plain-oe : (oe : ℕ) → (if eqb oe 0 then false else true) ≡ ltb 0 oe
 plain-oe zero = refl
 plain-oe (suc k) = simp (ne-eqb (suc k) 0 (λ e. omega arith), lt-ltb 0 (suc k) (omega arith))
 
-write-oe : (oe : ℕ) → pick (eqb oe 0) false (ltb 1 oe) ≡ ltb 1 oe
+write-oe : (oe : ℕ) → (if eqb oe 0 then false else ltb 1 oe) ≡ ltb 1 oe
 write-oe zero = refl
 write-oe (suc k) = simp (ne-eqb (suc k) 0 (λ e. omega arith))
 
@@ -218,7 +219,7 @@ past-same part c size e =
     λ i. (leb (e i) (c .address) && not (eqb (c .rp) 0)) && p i
 
 -- a cut under a test, and a residue that nothing needs
-pick-and : (a b : Bool) → pick a b false ≡ (a && b)
+pick-and : (a b : Bool) → (if a then b else false) ≡ (a && b)
 pick-and true b = refl
 pick-and false b = refl
 
@@ -237,35 +238,35 @@ cut-same part c residue mode status (suc (suc zero)) byte left address = none-ne
 cut-same part c residue mode status (suc (suc (suc k))) byte left address =
     let w : Bool = ltb residue (residueFor (phaseIn (suc (suc (suc k))) byte) part address) in
     let q : Bool = cutBy part c in
-    ap (λ (t : Bool). pick t false (pick q w false)) (le-ltb (suc (suc (suc k))) 3 (omega arith)) ∙ pick-and q w
+    ap (λ (t : Bool). (if t then false else if q then w else false)) (le-ltb (suc (suc (suc k))) 3 (omega arith)) ∙ pick-and q w
 
 -- refusal 6 by the numbers
 pub residue-same : (part : Part) (s : StateNumbers) (c : BusNumbers) (residue : ℕ) → noState s ≡ false
     → residueShort part s c residue ≡ shortResidue part (stateIn s) (cycleIn c) residue
 unfolding stateIn
 residue-same part s c residue e =
-    cut-same part c residue (s .mode) (s .status) (s .phase) (s .byte) (s .left) (s .address) ∙ ap (λ (t : State). shortResidue part t (cycleIn c) residue) (sym (pick-false (noState s) _ _ e))
+    cut-same part c residue (s .mode) (s .status) (s .phase) (s .byte) (s .left) (s .address) ∙ ap (λ (t : State). shortResidue part t (cycleIn c) residue) (sym (if-false (noState s) _ _ e))
 
 -- the rows below the third, for a state that is proper
 module _ (d : DeviceNumbers) (s : StateNumbers) (c : BusNumbers) (array residue : ℕ) where
   low-rows : array ≡ sizeOf (deviceIn d .part) → (t : Bool) → improper (deviceIn d) (stateIn s) ≡ t
-      → _≡_ {A = ℕ} (pick t 3 (pick (badLevels (deviceIn d .part) (cycleIn c)) 4 (pick (pastArray (deviceIn d .part) (cycleIn c)) 5 (pick (shortResidue (deviceIn d .part) (stateIn s) (cycleIn c) residue) 6 0))))
-      (pick t 3 (pick (levelsWrong (deviceIn d .part) c) 4 (pick (pastSize c array) 5 (pick (residueShort (deviceIn d .part) s c residue) 6 0))))
+      → _≡_ {A = ℕ} (if t then 3 else if badLevels (deviceIn d .part) (cycleIn c) then 4 else if pastArray (deviceIn d .part) (cycleIn c) then 5 else if shortResidue (deviceIn d .part) (stateIn s) (cycleIn c) residue then 6 else 0)
+      (if t then 3 else if levelsWrong (deviceIn d .part) c then 4 else if pastSize c array then 5 else if residueShort (deviceIn d .part) s c residue then 6 else 0)
   low-rows l true q = refl
   low-rows l false q =
       let u = sym (levels-same (deviceIn d .part) c) in
       let v = sym (past-same (deviceIn d .part) c array l) in
       let w = sym (residue-same (deviceIn d .part) s c residue (proper-stands (deviceIn d) s q)) in
-      λ i. pick (u i) 4 (pick (v i) 5 (pick (w i) 6 0))
+      λ i. (if u i then 4 else if v i then 5 else if w i then 6 else 0)
 
   -- the rows below the second, for an array of the right length
   mid-rows : (t : Bool) → eqb array (sizeOf (deviceIn d .part)) ≡ t
-      → _≡_ {A = ℕ} (pick (not t) 2 (pick (improper (deviceIn d) (stateIn s)) 3 (pick (badLevels (deviceIn d .part) (cycleIn c)) 4 (pick (pastArray (deviceIn d .part) (cycleIn c)) 5 (pick (shortResidue (deviceIn d .part) (stateIn s) (cycleIn c) residue) 6 0)))))
-      (pick (not t) 2 (pick (improperBy d s array) 3 (pick (levelsWrong (deviceIn d .part) c) 4 (pick (pastSize c array) 5 (pick (residueShort (deviceIn d .part) s c residue) 6 0)))))
+      → _≡_ {A = ℕ} (if not t then 2 else if improper (deviceIn d) (stateIn s) then 3 else if badLevels (deviceIn d .part) (cycleIn c) then 4 else if pastArray (deviceIn d .part) (cycleIn c) then 5 else if shortResidue (deviceIn d .part) (stateIn s) (cycleIn c) residue then 6 else 0)
+      (if not t then 2 else if improperBy d s array then 3 else if levelsWrong (deviceIn d .part) c then 4 else if pastSize c array then 5 else if residueShort (deviceIn d .part) s c residue then 6 else 0)
   mid-rows true q =
       let l : array ≡ sizeOf (deviceIn d .part) = eqb-true array (sizeOf (deviceIn d .part)) q in
       low-rows l (improper (deviceIn d) (stateIn s)) refl
-      ∙ ap (λ (t : Bool). pick t 3 (pick (levelsWrong (deviceIn d .part) c) 4 (pick (pastSize c array) 5 (pick (residueShort (deviceIn d .part) s c residue) 6 0)))) (sym (improper-same d s array l))
+      ∙ ap (λ (t : Bool). (if t then 3 else if levelsWrong (deviceIn d .part) c then 4 else if pastSize c array then 5 else if residueShort (deviceIn d .part) s c residue then 6 else 0)) (sym (improper-same d s array l))
   mid-rows false q = refl
 
 -- refusals 1 to 6 by the numbers, with the device that is made of its numbers
@@ -274,7 +275,7 @@ pub number-same : (d : DeviceNumbers) (s : StateNumbers) (c : BusNumbers) (array
 unfolding judgeOf numberBy
 number-same d s c array residue x e =
     ap (λ (y : Device). numberBy y d s c array residue) e
-    ∙ ap (λ (t : ℕ). pick (unknownDevice (deviceIn d)) 1 t) (sym (mid-rows d s c array residue (eqb array (sizeOf (deviceIn d .part))) refl))
+    ∙ ap (λ (t : ℕ). (if unknownDevice (deviceIn d) then 1 else t)) (sym (mid-rows d s c array residue (eqb array (sizeOf (deviceIn d .part))) refl))
 
 -- the number of a cycle by the facts of the tests, one law for each way out
 module _ (d : DeviceNumbers) (s : StateNumbers) (c : BusNumbers) (array residue : ℕ) (x : Device) (e : x ≡ deviceIn d) where

@@ -8,7 +8,8 @@ use lib.ListN.{getD}
 use lib.Dec.{eqb, ltb}
 use lib.Bits.{bitOr}
 use borrow.Author.Tests.{not-true, ltb-true, ltb-false, lt-leb, le-leb, eqb-true}
-use Rattle.cells.specs.Pick.{pick, pick-false, pick-ap, pick-ind, unlike, and-none}
+use Rattle.cells.specs.Choice.{if_then_else_}
+use Rattle.cells.proofs.Choice.{if-false, if-ap, if-ind, unlike, and-none}
 use Rattle.device.specs.declared.Part.{Part}
 use Rattle.device.specs.Parts.{codeOf}
 use Rattle.chip.specs.declared.Kind.{Kind}
@@ -52,14 +53,14 @@ module _ (d : DeviceNumbers) (t : State) (c : BusNumbers) (xs rs : List ℕ) whe
 read-kind : (d : DeviceNumbers) (s : StateNumbers) (c : BusNumbers) → isRead d s c ≡ true → c .kind ≡ 0
 unfolding isRead
 read-kind d s c e =
-    eqb-true (c .kind) 0 (yes-then (eqb (c .kind) 0) (pick (ltb (s .phase) 3) true (not (vppLow (partIn d) (cycleIn c .pins)))) e .0)
+    eqb-true (c .kind) 0 (yes-then (eqb (c .kind) 0) (if ltb (s .phase) 3 then true else not (vppLow (partIn d) (cycleIn c .pins))) e .0)
 
 read-high : (d : DeviceNumbers) (s : StateNumbers) (c : BusNumbers) → isRead d s c ≡ true → ltb (s .phase) 3 ≡ false → vppLow (partIn d) (cycleIn c .pins) ≡ false
 unfolding isRead
 read-high d s c e f =
     let low = vppLow (partIn d) (cycleIn c .pins) in
-    let q = yes-then (eqb (c .kind) 0) (pick (ltb (s .phase) 3) true (not low)) e .1 in
-    not-true low (sym (pick-false (ltb (s .phase) 3) true (not low) f) ∙ q)
+    let q = yes-then (eqb (c .kind) 0) (if ltb (s .phase) 3 then true else not low) e .1 in
+    not-true low (sym (if-false (ltb (s .phase) 3) true (not low) f) ∙ q)
 
 -- the suspended block, by number and by phase
 same-block : (d : DeviceNumbers) (m : Mode) (x : ℕ) (ph : Phase) (l a b : ℕ) → suspendedAt d (stateOut (st m x ph l a)) b ≡ inSuspended (partIn d) (st m x ph l a) b
@@ -78,21 +79,21 @@ still-told : (d : DeviceNumbers) (m : Mode) (x : ℕ) (ph : Phase) (l a : ℕ) (
 unfolding stillOf shownAt identified arrayArm identifierArm identifierOf
 still-told d Array x ph l a c xs rs =
     let s = st Array x ph l a in
-    ap (λ (b : Bool). pick b (answerAs 2 8 (stateOut s)) (answerAs 1 (getD xs (c .address) 0) (stateOut s))) (same-block d Array x ph l a (c .address))
-    ∙ sym (pick-ap (toldAs (partIn d) xs rs) (inSuspended (partIn d) s (c .address)) _ _)
+    ap (λ (b : Bool). (if b then answerAs 2 8 (stateOut s) else answerAs 1 (getD xs (c .address) 0) (stateOut s))) (same-block d Array x ph l a (c .address))
+    ∙ sym (if-ap (toldAs (partIn d) xs rs) (inSuspended (partIn d) s (c .address)) _ _)
 still-told d Status x ph l a c xs rs = refl
 still-told d Identifier x ph l a c xs rs =
     let s = stateOut (st Identifier x ph l a) in
-    ap (λ (y : AnswerNumbers). pick (ltb 1 (c .address)) (answerAs 2 9 s) y) (sym (pick-ap (λ (y : ℕ). answerAs 1 y s) (eqb (c .address) 0) 0x89 (codeOf (partIn d))))
-    ∙ sym (pick-ap (toldAs (partIn d) xs rs) (ltb 1 (c .address)) _ _)
+    ap (λ (y : AnswerNumbers). (if ltb 1 (c .address) then answerAs 2 9 s else y)) (sym (if-ap (λ (y : ℕ). answerAs 1 y s) (eqb (c .address) 0) 0x89 (codeOf (partIn d))))
+    ∙ sym (if-ap (toldAs (partIn d) xs rs) (ltb 1 (c .address)) _ _)
 
 -- .. and the array
 undone : (part : Part) (m : Mode) (t : State) (c : Cycle) (xs rs : List ℕ) → doneOf (readArm m part t c (settledAs t Nothing) .effect) part rs xs ≡ xs
 unfolding arrayArm identifierArm
 undone part Array t c xs rs =
-    pick-ind (λ (y : Decision). doneOf (y .effect) part rs xs ≡ xs) (inSuspended part t (c .address)) _ _ (λ e. refl) (λ e. refl)
+    if-ind (λ (y : Decision). doneOf (y .effect) part rs xs ≡ xs) (inSuspended part t (c .address)) _ _ (λ e. refl) (λ e. refl)
 undone part Status t c xs rs = refl
-undone part Identifier t c xs rs = pick-ind (λ (y : Decision). doneOf (y .effect) part rs xs ≡ xs) (ltb 1 (c .address)) _ _ (λ e. refl) (λ e. refl)
+undone part Identifier t c xs rs = if-ind (λ (y : Decision). doneOf (y .effect) part rs xs ≡ xs) (ltb 1 (c .address)) _ _ (λ e. refl) (λ e. refl)
 
 -- what the end of a running operation does, by number and by phase
 end-done : (d : DeviceNumbers) (m : Mode) (x : ℕ) (ph : Phase) (l a : ℕ) (xs rs : List ℕ) → isBusy ph ≡ true
@@ -114,7 +115,7 @@ module _ (d : DeviceNumbers) (c : BusNumbers) (xs rs : List ℕ) (k : c .kind �
       → passOf (deviceIn d) t (cycleIn c) ≡ readArm (u .mode) (partIn d) t (cycleIn c) (settledAs u e)
   unfolding passOf
   passes t u e q =
-      pick-false (rpLow (cycleIn c .pins)) _ _ up
+      if-false (rpLow (cycleIn c .pins)) _ _ up
       ∙ ap (λ (x : Kind). arm x (deviceIn d) t (cycleIn c) (settleOf (partIn d) t (cycleIn c .pins))) kind
       ∙ ap (λ (x : Settled). arm Read (deviceIn d) t (cycleIn c) x) q
 
@@ -169,15 +170,15 @@ module _ (d : DeviceNumbers) (c : BusNumbers) (xs rs : List ℕ) (k : c .kind �
 
   -- an operation runs: one cycle is counted off, or it ends
   running : (x : ℕ) (ph : Phase) (l a : ℕ) → isBusy ph ≡ true → vppLow (partIn d) (cycleIn c .pins) ≡ false
-      → (pick (ltb 1 l) (answerAs 1 x (countedIn (stateOut (st Status x ph l a)))) (answerAs 1 (bitOr x 128) (endedIn (stateOut (st Status x ph l a))))
+      → ((if ltb 1 l then answerAs 1 x (countedIn (stateOut (st Status x ph l a))) else answerAs 1 (bitOr x 128) (endedIn (stateOut (st Status x ph l a))))
       ≡ passedIn d (stateOut (st Status x ph l a)) c xs rs)
-      × (pick (ltb 1 l) xs (arrayEnded d (stateOut (st Status x ph l a)) xs) ≡ arrayPassedIn d (stateOut (st Status x ph l a)) c xs rs)
+      × ((if ltb 1 l then xs else arrayEnded d (stateOut (st Status x ph l a)) xs) ≡ arrayPassedIn d (stateOut (st Status x ph l a)) c xs rs)
   running x ph l a b v = go (ltb 1 l) refl
     where
       go : (h : Bool) → ltb 1 l ≡ h
-          → (pick h (answerAs 1 x (countedIn (stateOut (st Status x ph l a)))) (answerAs 1 (bitOr x 128) (endedIn (stateOut (st Status x ph l a))))
+          → ((if h then answerAs 1 x (countedIn (stateOut (st Status x ph l a))) else answerAs 1 (bitOr x 128) (endedIn (stateOut (st Status x ph l a))))
           ≡ passedIn d (stateOut (st Status x ph l a)) c xs rs)
-          × (pick h xs (arrayEnded d (stateOut (st Status x ph l a)) xs) ≡ arrayPassedIn d (stateOut (st Status x ph l a)) c xs rs)
+          × ((if h then xs else arrayEnded d (stateOut (st Status x ph l a)) xs) ≡ arrayPassedIn d (stateOut (st Status x ph l a)) c xs rs)
       go true e = counted-told x ph l a (ltb-true 1 l e) b v
       go false e = ended-told x ph l a (ltb-false 1 l e) b v
 

@@ -3,7 +3,8 @@ use mathlib.Core.Path.{_≡_, refl, sym}
 use mathlib.Core.Bool.{Bool, true, false}
 use mathlib.Core.List.{List}
 use Prim.Native.Nat.{ℕ}
-use Rattle.cells.specs.Pick.{pick, pick-false, unlike}
+use Rattle.cells.specs.Choice.{if_then_else_}
+use Rattle.cells.proofs.Choice.{if-false, unlike}
 use Rattle.device.specs.declared.Part.{Part}
 use Rattle.chip.specs.declared.Mode.{Mode}
 use Rattle.chip.specs.declared.Phase.{Phase}
@@ -36,13 +37,13 @@ module _ (d : DeviceNumbers) (s : StateNumbers) (c : BusNumbers) (xs rs : List �
   unfolding passedIn passedOf arrayPassed stateBack
   told ok =
       let p : Answer = passedOf (deviceIn d) (stateIn s) (cycleIn c) xs rs in
-      λ i. answerAs (seenOut (p .seen)) (valueOut (p .seen)) (pick-false (noState s) s (stateOut (p .state)) ok i)
+      λ i. answerAs (seenOut (p .seen)) (valueOut (p .seen)) (if-false (noState s) s (stateOut (p .state)) ok i)
 
   pub told-array : arrayPassedIn d s c xs rs ≡ doneOf (passOf (deviceIn d) (stateIn s) (cycleIn c) .effect) (partIn d) rs xs
   unfolding arrayPassedIn arrayPassed
   told-array = refl
 
 -- two tests that both hold
-pub yes-then : (b x : Bool) → pick b x false ≡ true → (b ≡ true) × (x ≡ true)
+pub yes-then : (b x : Bool) → (if b then x else false) ≡ true → (b ≡ true) × (x ≡ true)
 yes-then true x e = (refl, e)
 yes-then false x e = absurd (unlike (sym e))

@@ -7,7 +7,8 @@ use Prim.Native.Nat.{ℕ}
 use lib.Dec.{eqb, ltb}
 use lib.Bits.{bitAnd, bitOr}
 use borrow.Author.Tests.{eqb-true}
-use Rattle.cells.specs.Pick.{pick, pick-false, unlike, and-none}
+use Rattle.cells.specs.Choice.{if_then_else_}
+use Rattle.cells.proofs.Choice.{if-false, unlike, and-none}
 use Rattle.device.specs.declared.Part.{Part}
 use Rattle.device.specs.declared.Device.{Device}
 use Rattle.chip.specs.declared.Kind.{Kind}
@@ -66,7 +67,7 @@ passes-as : (d : Device) (s : State) (c : Cycle) (k : Kind) → rpLow (c .pins) 
     → passOf d s c ≡ arm k d s c (settledAs s Nothing)
 unfolding passOf
 passes-as d s c k up low e =
-    pick-false (rpLow (c .pins)) _ _ up
+    if-false (rpLow (c .pins)) _ _ up
     ∙ ap (λ (j : Kind). arm j d s c (settleOf (d .part) s (c .pins))) e
     ∙ ap (λ (t : Settled). arm k d s c t) (still (d .part) (s .mode) (s .status) (s .phase) (s .left) (s .address) (c .pins) up low)
 
@@ -86,7 +87,7 @@ no-effect : (b : Action) (d : Device) (s : State) (c : Cycle) → writeArm b d s
 unfolding writeArm
 no-effect b d s c = go (isRefuse b)
   where
-    go : (t : Bool) → pick t (refusedBy 7 s) (decidedAs Quiet (performedOf b d c s) Nothing) .effect ≡ Nothing
+    go : (t : Bool) → (if t then refusedBy 7 s else decidedAs Quiet (performedOf b d c s) Nothing) .effect ≡ Nothing
     go true = refl
     go false = refl
 
@@ -102,8 +103,8 @@ idle-kind c e = simp (e)
 
 -- one of three states by two tests, as numbers
 one-of : (p u : Bool) (x y z : State)
-    → pick p (answerAs 0 0 (stateOut x)) (pick u (answerAs 0 0 (stateOut y)) (answerAs 0 0 (stateOut z)))
-    ≡ answerAs 0 0 (stateOut (pick p x (pick u y z)))
+    → (if p then answerAs 0 0 (stateOut x) else if u then answerAs 0 0 (stateOut y) else answerAs 0 0 (stateOut z))
+    ≡ answerAs 0 0 (stateOut (if p then x else if u then y else z))
 one-of true u x y z = refl
 one-of false true x y z = refl
 one-of false false x y z = refl
@@ -123,7 +124,7 @@ freeAt m sr left a = record { mode = m; status = sr; phase = Free; left = left; 
 
 -- what a first write asks for, by the six tests of its byte
 abbrev asked : Bool → Bool → Bool → Bool → Bool → Bool → Action
-asked p q r u v w = pick p ToArray (pick q ToIdentifier (pick r ToStatus (pick u Clear (pick v AwaitErase (pick w AwaitData Refuse)))))
+asked p q r u v w = if p then ToArray else if q then ToIdentifier else if r then ToStatus else if u then Clear else if v then AwaitErase else if w then AwaitData else Refuse
 
 -- a first write: both definitions answer the same
 same-first : (d : DeviceNumbers) (m : Mode) (sr left a : ℕ) (c : BusNumbers) (xs : List ℕ)
@@ -135,13 +136,13 @@ same-first d m sr left a c xs =
     go (eqb (c .byte) 0xFF) (eqb (c .byte) 0x90) (eqb (c .byte) 0x70) (eqb (c .byte) 0x50) (eqb (c .byte) 0x20) (eqb (c .byte) 0x40)
   where
     go : (p q r u v w : Bool)
-        → pick p (turnedTo (stateOut (freeAt m sr left a)) 0 sr 0)
-        (pick q (turnedTo (stateOut (freeAt m sr left a)) 2 sr 0)
-        (pick r (turnedTo (stateOut (freeAt m sr left a)) 1 sr 0)
-        (pick u (turnedTo (stateOut (freeAt m sr left a)) (modeOut m) (bitAnd sr 199) 0)
-        (pick v (turnedTo (stateOut (freeAt m sr left a)) 1 sr 1)
-        (pick w (turnedTo (stateOut (freeAt m sr left a)) 1 sr 2) (answerAs 2 7 (stateOut (freeAt m sr left a))))))))
-        ≡ quiet xs (pick (isRefuse (asked p q r u v w)) (refusedBy 7 (freeAt m sr left a)) (decidedAs Quiet (performedOf (asked p q r u v w) (deviceIn d) (cycleIn c) (freeAt m sr left a)) Nothing))
+        → (if p then turnedTo (stateOut (freeAt m sr left a)) 0 sr 0
+        else if q then turnedTo (stateOut (freeAt m sr left a)) 2 sr 0
+        else if r then turnedTo (stateOut (freeAt m sr left a)) 1 sr 0
+        else if u then turnedTo (stateOut (freeAt m sr left a)) (modeOut m) (bitAnd sr 199) 0
+        else if v then turnedTo (stateOut (freeAt m sr left a)) 1 sr 1
+        else if w then turnedTo (stateOut (freeAt m sr left a)) 1 sr 2 else answerAs 2 7 (stateOut (freeAt m sr left a)))
+        ≡ quiet xs (if isRefuse (asked p q r u v w) then refusedBy 7 (freeAt m sr left a) else decidedAs Quiet (performedOf (asked p q r u v w) (deviceIn d) (cycleIn c) (freeAt m sr left a)) Nothing)
     go true q r u v w = refl
     go false true r u v w = refl
     go false false true u v w = refl
@@ -157,8 +158,8 @@ unfolding secondIn afterErase writeArm
 same-second d s c xs = go (eqb (c .byte) 0xD0)
   where
     go : (p : Bool)
-        → pick p (begunIn d (stateOut s) c 4 0 (d .erase) 32) (restAs (modeOut (s .mode)) (bitOr (s .status) 48))
-        ≡ quiet xs (pick (isRefuse (pick p Confirm WrongSecond)) (refusedBy 7 s) (decidedAs Quiet (performedOf (pick p Confirm WrongSecond) (deviceIn d) (cycleIn c) s) Nothing))
+        → (if p then begunIn d (stateOut s) c 4 0 (d .erase) 32 else restAs (modeOut (s .mode)) (bitOr (s .status) 48))
+        ≡ quiet xs (if isRefuse (if p then Confirm else WrongSecond) then refusedBy 7 s else decidedAs Quiet (performedOf (if p then Confirm else WrongSecond) (deviceIn d) (cycleIn c) s) Nothing)
     go true = same-start d s c Erasing (d .erase) 32
     go false = refl
 

@@ -2,7 +2,7 @@
 use mathlib.Core.Bool.{Bool, true, false, not, _&&_, _||_}
 use Prim.Native.Nat.{ℕ, _/_, _%_}
 use lib.Dec.{eqb, ltb, leb}
-use Rattle.cells.specs.Pick.{pick}
+use Rattle.cells.specs.Choice.{if_then_else_}
 use Rattle.device.specs.declared.Part.{Part}
 use Rattle.device.specs.declared.Device.{Device}
 use Rattle.device.specs.Parts.{unknownDevice, sizeOf}
@@ -28,16 +28,16 @@ wayWrong s top most size = ((eqb (s .left) 0 || ltb most (s .left)) || leb size 
 -- the numbers stand for no proper state of a device with an array of this size
 unfoldable pub improperBy : DeviceNumbers → StateNumbers → ℕ → Bool
 improperBy d s size =
-    pick (eqb (s .phase) 0) (ltb 2 (s .mode) || restWrong s)
-    (pick (ltb (s .phase) 3) (not (eqb (s .mode) 1) || restWrong s)
-    (pick (eqb (s .phase) 3) (not (eqb (s .mode) 1) || wayWrong s 0 (d .program) size)
-    (pick (eqb (s .phase) 4) ((not (eqb (s .mode) 1) || not (eqb (s .byte) 0)) || wayWrong s 0 (d .erase) size)
-    (pick (eqb (s .phase) 5) ((ltb 1 (s .mode) || not (eqb (s .byte) 0)) || wayWrong s 3 (d .erase) size)
-    true))))
+    if eqb (s .phase) 0 then ltb 2 (s .mode) || restWrong s
+    else if ltb (s .phase) 3 then not (eqb (s .mode) 1) || restWrong s
+    else if eqb (s .phase) 3 then not (eqb (s .mode) 1) || wayWrong s 0 (d .program) size
+    else if eqb (s .phase) 4 then (not (eqb (s .mode) 1) || not (eqb (s .byte) 0)) || wayWrong s 0 (d .erase) size
+    else if eqb (s .phase) 5 then (ltb 1 (s .mode) || not (eqb (s .byte) 0)) || wayWrong s 3 (d .erase) size
+    else true
 
 -- OE# is not 0, nor 1 on a write
 unfoldable pub oeWrong : ℕ → ℕ → Bool
-oeWrong kind oe = pick (eqb oe 0) false (pick (eqb kind 1) (ltb 1 oe) true)
+oeWrong kind oe = if eqb oe 0 then false else if eqb kind 1 then ltb 1 oe else true
 
 -- no such kind of cycle, or a pin level outside what the cycle allows
 unfoldable pub levelsWrong : Part → BusNumbers → Bool
@@ -54,17 +54,17 @@ cutBy part c = rpLow (pinsIn (c .rp) (c .vpp)) || vppLow part (pinsIn (c .rp) (c
 -- the cycle cuts an operation, and the residue is too short for it
 unfoldable pub residueShort : Part → StateNumbers → BusNumbers → ℕ → Bool
 residueShort part s c residue =
-    pick (ltb (s .phase) 3) false
-    (pick (cutBy part c) (ltb residue (residueFor (phaseIn (s .phase) (s .byte)) part (s .address)))
-    false)
+    if ltb (s .phase) 3 then false
+    else if cutBy part c then ltb residue (residueFor (phaseIn (s .phase) (s .byte)) part (s .address))
+    else false
 
 -- refusals 1 to 6 of the numbers, the lowest that applies, or 0
 unfoldable pub numberBy : Device → DeviceNumbers → StateNumbers → BusNumbers → ℕ → ℕ → ℕ
 numberBy x d s c array residue =
-    pick (unknownDevice x) 1
-    (pick (not (eqb array (sizeOf (x .part)))) 2
-    (pick (improperBy d s array) 3
-    (pick (levelsWrong (x .part) c) 4
-    (pick (pastSize c array) 5
-    (pick (residueShort (x .part) s c residue) 6
-    0)))))
+    if unknownDevice x then 1
+    else if not (eqb array (sizeOf (x .part))) then 2
+    else if improperBy d s array then 3
+    else if levelsWrong (x .part) c then 4
+    else if pastSize c array then 5
+    else if residueShort (x .part) s c residue then 6
+    else 0

@@ -6,7 +6,7 @@ use Prim.Native.Nat.{ℕ, _-_}
 use lib.ListN.{getD}
 use lib.Dec.{eqb, ltb}
 use lib.Bits.{bitOr}
-use Rattle.cells.specs.Pick.{pick}
+use Rattle.cells.specs.Choice.{if_then_else_}
 use Rattle.device.specs.declared.Part.{Part}
 use Rattle.device.specs.Parts.{blockOf, codeOf}
 use Rattle.chip.specs.Levels.{vppLow}
@@ -24,7 +24,7 @@ partIn d = record { number = d .number }
 
 -- a read that cuts nothing
 unfoldable pub isRead : DeviceNumbers → StateNumbers → BusNumbers → Bool
-isRead d s c = pick (eqb (c .kind) 0) (pick (ltb (s .phase) 3) true (not (vppLow (partIn d) (pinsIn (c .rp) (c .vpp))))) false
+isRead d s c = if eqb (c .kind) 0 then (if ltb (s .phase) 3 then true else not (vppLow (partIn d) (pinsIn (c .rp) (c .vpp)))) else false
 
 -- programming or erasing
 unfoldable pub runsIn : StateNumbers → Bool
@@ -32,19 +32,19 @@ runsIn s = eqb (s .phase) 3 || eqb (s .phase) 4
 
 -- the address is in the suspended block
 unfoldable pub suspendedAt : DeviceNumbers → StateNumbers → ℕ → Bool
-suspendedAt d s a = pick (eqb (s .phase) 5) (eqb (blockOf (partIn d) a) (blockOf (partIn d) (s .address))) false
+suspendedAt d s a = if eqb (s .phase) 5 then eqb (blockOf (partIn d) a) (blockOf (partIn d) (s .address)) else false
 
 -- an array read: 8, or the byte
 unfoldable pub shownAt : DeviceNumbers → StateNumbers → ℕ → List ℕ → AnswerNumbers
-shownAt d s a xs = pick (suspendedAt d s a) (answerAs 2 8 s) (answerAs 1 (getD xs a 0) s)
+shownAt d s a xs = if suspendedAt d s a then answerAs 2 8 s else answerAs 1 (getD xs a 0) s
 
 -- an identifier read: 9, or the code
 unfoldable pub identified : DeviceNumbers → StateNumbers → ℕ → AnswerNumbers
-identified d s a = pick (ltb 1 a) (answerAs 2 9 s) (pick (eqb a 0) (answerAs 1 0x89 s) (answerAs 1 (codeOf (partIn d)) s))
+identified d s a = if ltb 1 a then answerAs 2 9 s else if eqb a 0 then answerAs 1 0x89 s else answerAs 1 (codeOf (partIn d)) s
 
 -- a read while nothing runs, by mode
 unfoldable pub stillOf : DeviceNumbers → StateNumbers → ℕ → List ℕ → AnswerNumbers
-stillOf d s a xs = pick (eqb (s .mode) 0) (shownAt d s a xs) (pick (eqb (s .mode) 1) (answerAs 1 (s .status) s) (identified d s a))
+stillOf d s a xs = if eqb (s .mode) 0 then shownAt d s a xs else if eqb (s .mode) 1 then answerAs 1 (s .status) s else identified d s a
 
 -- one cycle counted off
 abbrev pub countedIn : StateNumbers → StateNumbers
@@ -56,14 +56,14 @@ endedIn s = record { mode = s .mode; status = bitOr (s .status) 128; phase = 0; 
 
 -- what the end of the operation leaves in the array
 unfoldable pub arrayEnded : DeviceNumbers → StateNumbers → List ℕ → List ℕ
-arrayEnded d s xs = pick (eqb (s .phase) 3) (programmedAt (s .address) (s .byte) xs) (erasedAt (partIn d) (s .address) xs)
+arrayEnded d s xs = if eqb (s .phase) 3 then programmedAt (s .address) (s .byte) xs else erasedAt (partIn d) (s .address) xs
 
 -- a read: the answer, and the array
 unfoldable pub readIn : DeviceNumbers → StateNumbers → ℕ → List ℕ → AnswerNumbers
 readIn d s a xs =
-    pick (runsIn s)
-    (pick (ltb 1 (s .left)) (answerAs 1 (s .status) (countedIn s)) (answerAs 1 (bitOr (s .status) 128) (endedIn s)))
-    (stillOf d s a xs)
+    if runsIn s
+    then (if ltb 1 (s .left) then answerAs 1 (s .status) (countedIn s) else answerAs 1 (bitOr (s .status) 128) (endedIn s))
+    else stillOf d s a xs
 
 unfoldable pub arrayRead : DeviceNumbers → StateNumbers → List ℕ → List ℕ
-arrayRead d s xs = pick (runsIn s) (pick (ltb 1 (s .left)) xs (arrayEnded d s xs)) xs
+arrayRead d s xs = if runsIn s then (if ltb 1 (s .left) then xs else arrayEnded d s xs) else xs

@@ -4,7 +4,7 @@ use mathlib.Core.Bool.{Bool, false, not, _||_}
 use Prim.Native.Nat.{ℕ, _/_, _%_}
 use lib.Dec.{eqb, ltb}
 use lib.Bits.{bitAnd, bitOr}
-use Rattle.cells.specs.Pick.{pick}
+use Rattle.cells.specs.Choice.{if_then_else_}
 use Rattle.chip.specs.Levels.{vppLow, locked}
 use Rattle.twin.specs.Twins.{pinsIn, cycleIn}
 use Rattle.twin.specs.declared.DeviceNumbers.{DeviceNumbers}
@@ -16,10 +16,10 @@ use Rattle.short.specs.Reads.{partIn}
 
 -- a write, and an idle cycle, while nothing runs or is suspended
 unfoldable pub isWrite : StateNumbers → BusNumbers → Bool
-isWrite s c = pick (eqb (c .kind) 1) (ltb (s .phase) 3) false
+isWrite s c = if eqb (c .kind) 1 then ltb (s .phase) 3 else false
 
 unfoldable pub isIdle : StateNumbers → BusNumbers → Bool
-isIdle s c = pick (eqb (c .kind) 2) (ltb (s .phase) 3) false
+isIdle s c = if eqb (c .kind) 2 then ltb (s .phase) 3 else false
 
 -- another mode, status or phase; nothing is being programmed
 abbrev pub turnedTo : StateNumbers → ℕ → ℕ → ℕ → AnswerNumbers
@@ -29,12 +29,12 @@ turnedTo s mode status phase =
 -- a first write: 7 where the byte is no command
 unfoldable pub firstIn : StateNumbers → ℕ → AnswerNumbers
 firstIn s b =
-    pick (eqb b 0xFF) (turnedTo s 0 (s .status) 0)
-    (pick (eqb b 0x90) (turnedTo s 2 (s .status) 0)
-    (pick (eqb b 0x70) (turnedTo s 1 (s .status) 0)
-    (pick (eqb b 0x50) (turnedTo s (s .mode) (bitAnd (s .status) 199) 0)
-    (pick (eqb b 0x20) (turnedTo s 1 (s .status) 1)
-    (pick (eqb b 0x40) (turnedTo s 1 (s .status) 2) (answerAs 2 7 s))))))
+    if eqb b 0xFF then turnedTo s 0 (s .status) 0
+    else if eqb b 0x90 then turnedTo s 2 (s .status) 0
+    else if eqb b 0x70 then turnedTo s 1 (s .status) 0
+    else if eqb b 0x50 then turnedTo s (s .mode) (bitAnd (s .status) 199) 0
+    else if eqb b 0x20 then turnedTo s 1 (s .status) 1
+    else if eqb b 0x40 then turnedTo s 1 (s .status) 2 else answerAs 2 7 s
 
 -- at rest with this mode and status
 abbrev pub restAs : ℕ → ℕ → AnswerNumbers
@@ -47,16 +47,16 @@ unsuppliedIn d s c = vppLow (partIn d) (pinsIn (c .rp) (c .vpp)) || not (eqb (s 
 -- a confirm or data: the operation starts, or the error bits say why not
 unfoldable pub begunIn : DeviceNumbers → StateNumbers → BusNumbers → ℕ → ℕ → ℕ → ℕ → AnswerNumbers
 begunIn d s c phase byte left bit =
-    pick (unsuppliedIn d s c) (restAs (s .mode) (bitOr (bitOr (s .status) 8) bit))
-    (pick (locked (partIn d) (cycleIn c)) (restAs (s .mode) (bitOr (s .status) bit))
-    (answerAs 0 0 (record { mode = s .mode; status = bitAnd (s .status) 127; phase = phase; byte = byte; left = left; address = c .address })))
+    if unsuppliedIn d s c then restAs (s .mode) (bitOr (bitOr (s .status) 8) bit)
+    else if locked (partIn d) (cycleIn c) then restAs (s .mode) (bitOr (s .status) bit)
+    else answerAs 0 0 (record { mode = s .mode; status = bitAnd (s .status) 127; phase = phase; byte = byte; left = left; address = c .address })
 
 -- the write after 20H
 unfoldable pub secondIn : DeviceNumbers → StateNumbers → BusNumbers → AnswerNumbers
-secondIn d s c = pick (eqb (c .byte) 0xD0) (begunIn d s c 4 0 (d .erase) 32) (restAs (s .mode) (bitOr (s .status) 48))
+secondIn d s c = if eqb (c .byte) 0xD0 then begunIn d s c 4 0 (d .erase) 32 else restAs (s .mode) (bitOr (s .status) 48)
 
 -- a write, by what is awaited
 unfoldable pub writtenIn : DeviceNumbers → StateNumbers → BusNumbers → AnswerNumbers
 writtenIn d s c =
-    pick (eqb (s .phase) 0) (firstIn s (c .byte))
-    (pick (eqb (s .phase) 1) (secondIn d s c) (begunIn d s c 3 (c .byte) (d .program) 16))
+    if eqb (s .phase) 0 then firstIn s (c .byte)
+    else if eqb (s .phase) 1 then secondIn d s c else begunIn d s c 3 (c .byte) (d .program) 16

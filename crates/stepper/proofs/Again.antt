@@ -9,8 +9,10 @@ use lib.ListN.{length, getD, length-set, length-replicate}
 use lib.Dec.{eqb, ltb, leb}
 use borrow.Author.Tests.{ltb-true, ltb-false, leb-false, eqb-true, eqb-false, eq-eqb, ne-eqb, le-ltb, lt-leb, not-false}
 use Rattle.chip.specs.Cells.{ones}
-use Rattle.cells.specs.Pick.{pick, pick-ind, pick-true, pick-false, or-left, or-right, and-rest, unlike, and-none}
-use Rattle.cells.specs.Numbers.{Foremost, NoRow, end, past, given, given-foremost, foremost-given, given-no-row, no-row-given, no-head, no-tail}
+use Rattle.cells.specs.Choice.{if_then_else_}
+use Rattle.cells.proofs.Choice.{if-ind, if-true, if-false, or-left, or-right, and-rest, unlike, and-none}
+use Rattle.cells.specs.Numbers.{Foremost, NoRow, end, past, given}
+use Rattle.cells.proofs.Numbers.{given-foremost, foremost-given, given-no-row, no-row-given, no-head, no-tail}
 use Rattle.device.specs.declared.Part.{Part}
 use Rattle.device.specs.Parts.{unknownPart, lengthOf}
 use Rattle.chip.specs.declared.Pins.{Pins}
@@ -56,27 +58,27 @@ free-in (Ended n) l w = (refl, refl)
 -- an answer by a number: what is given where it is 0, the refusal with its record where it is not
 module _ (n : ℕ) (l : Loader) (w : List ℕ) (r : Loader) where
   abbrev pub judged : Given
-  judged = pick (eqb n 0) (givenBy l w) (barredBy n r)
+  judged = if eqb n 0 then givenBy l w else barredBy n r
 
   judged-told : barring (judged .turn) ≡ n
-  judged-told = pick-ind (λ (g : Given). barring (g .turn) ≡ n) (eqb n 0) _ _ (λ e. free-in (l .stage) l w .1 ∙ sym (eqb-true n 0 e)) (λ e. refl)
+  judged-told = if-ind (λ (g : Given). barring (g .turn) ≡ n) (eqb n 0) _ _ (λ e. free-in (l .stage) l w .1 ∙ sym (eqb-true n 0 e)) (λ e. refl)
 
   judged-barred : (n ≡ 0 → ⊥) → judged ≡ barredBy n r
-  judged-barred z = pick-false (eqb n 0) (givenBy l w) (barredBy n r) (ne-eqb n 0 z)
+  judged-barred z = if-false (eqb n 0) (givenBy l w) (barredBy n r) (ne-eqb n 0 z)
 
   judged-given : n ≡ 0 → judged ≡ givenBy l w
-  judged-given e = pick-true (eqb n 0) (givenBy l w) (barredBy n r) (eq-eqb n 0 e)
+  judged-given e = if-true (eqb n 0) (givenBy l w) (barredBy n r) (eq-eqb n 0 e)
 
   judged-free : isBarred (judged .turn) ≡ false → n ≡ 0
   judged-free =
-      pick-ind (λ (g : Given). isBarred (g .turn) ≡ false → n ≡ 0) (eqb n 0) _ _ (λ e q. eqb-true n 0 e) (λ e q. absurd (unlike q))
+      if-ind (λ (g : Given). isBarred (g .turn) ≡ false → n ≡ 0) (eqb n 0) _ _ (λ e q. eqb-true n 0 e) (λ e q. absurd (unlike q))
 
   judged-left : (m : ℕ) → judged .turn ≡ Barred m → (n ≡ m) × (judged .loader ≡ r) × (eqb n 0 ≡ false)
   judged-left m q = (sym judged-told ∙ ap barring q, both .0, both .1)
     where
       both : (judged .loader ≡ r) × (eqb n 0 ≡ false)
       both =
-          pick-ind (λ (g : Given). isBarred (g .turn) ≡ true → (g .loader ≡ r) × (eqb n 0 ≡ false)) (eqb n 0) _ _
+          if-ind (λ (g : Given). isBarred (g .turn) ≡ true → (g .loader ≡ r) × (eqb n 0 ≡ false)) (eqb n 0) _ _
           (λ e b. absurd (unlike (sym b ∙ free-in (l .stage) l w .0))) (λ e b. (refl, e)) (ap isBarred q)
 
 module _ (part : Part) (p : Pins) (k : ℕ) (w sc : List ℕ) where
@@ -135,12 +137,12 @@ module _ (l : Loader) (b : ℕ) (w sc : List ℕ) where
   unfolding stepOf scratchAfter
   step-refused m e =
       let h = judged-left stepN onN w l m e in
-      (h .1, pick-false (eqb stepN 0) (storeOf l b sc) sc (h .2))
+      (h .1, if-false (eqb stepN 0) (storeOf l b sc) sc (h .2))
 
   -- what an accepted step gives and leaves
   pub step-on : stepN ≡ 0 → (stepOf l b w sc ≡ givenBy onN w) × (scratchAfter l b w sc ≡ storeOf l b sc)
   unfolding stepOf scratchAfter
-  step-on e = (judged-given stepN onN w l e, pick-true (eqb stepN 0) (storeOf l b sc) sc (eq-eqb stepN 0 e))
+  step-on e = (judged-given stepN onN w l e, if-true (eqb stepN 0) (storeOf l b sc) sc (eq-eqb stepN 0 e))
 
 -- a record of the same part, block and levels; its place stays in n bytes and its polls in bounds
 pub record Kept (l : Loader) (n : ℕ) (r : Loader) : Type 0 where
@@ -170,38 +172,38 @@ module _ (l : Loader) (w : List ℕ) where
   kept-onward : (i : ℕ) (sc : List ℕ) → In (onward l i w sc)
   unfolding onward
   kept-onward i sc =
-      pick-ind In (ltb (diffFrom i w sc) (length w)) _ _ (λ e. kept-at l (length w) ProgramAsking (diffFrom i w sc) 0 (λ h. ltb-true _ _ e) no-polls) (λ e. kept-first Closing)
+      if-ind In (ltb (diffFrom i w sc) (length w)) _ _ (λ e. kept-at l (length w) ProgramAsking (diffFrom i w sc) 0 (λ h. ltb-true _ _ e) no-polls) (λ e. kept-first Closing)
 
   kept-read : (sc : List ℕ) → In (readMore l w sc)
   unfolding readMore afterReads
   kept-read sc =
-      pick-ind In (ltb (l .place) (length w - 1)) _ _
+      if-ind In (ltb (l .place) (length w - 1)) _ _
       (λ e. kept-at l (length w) Reading (l .place + 1) 0 (λ h. let z = ltb-true (l .place) (length w - 1) e in omega arith) no-polls)
-      (λ e. pick-ind In (risesIn w sc) _ _ (λ r. kept-first EraseAsking) (λ r. kept-onward 0 sc))
+      (λ e. if-ind In (risesIn w sc) _ _ (λ r. kept-first EraseAsking) (λ r. kept-onward 0 sc))
 
   kept-poll : (stage : Stage) → In (pollMore l stage)
   unfolding pollMore
   kept-poll stage =
-      pick-ind In (leb 65534 (l .polls)) _ _ (λ e. kept-end 20)
+      if-ind In (leb 65534 (l .polls)) _ _ (λ e. kept-end 20)
       (λ e. kept-at l (length w) stage (l .place) (l .polls + 1) (λ h. h) (λ q. let z = leb-false 65534 (l .polls) e in omega arith))
 
   kept-erase : (b : ℕ) (sc : List ℕ) → In (erasePolled l b w sc)
   unfolding erasePolled
   kept-erase b sc =
-      pick-ind In (isReady b) _ _ (λ r. pick-ind In (eqb (eraseFault b) 0) _ _ (λ f. kept-onward 0 sc) (λ f. kept-end (eraseFault b))) (λ r. kept-poll EraseWaiting)
+      if-ind In (isReady b) _ _ (λ r. if-ind In (eqb (eraseFault b) 0) _ _ (λ f. kept-onward 0 sc) (λ f. kept-end (eraseFault b))) (λ r. kept-poll EraseWaiting)
 
   kept-program : (b : ℕ) (sc : List ℕ) → In (programPolled l b w sc)
   unfolding programPolled
   kept-program b sc =
-      pick-ind In (isReady b) _ _
-      (λ r. pick-ind In (eqb (programFault b) 0) _ _ (λ f. kept-onward (moves.past (l .place) (length w)) sc) (λ f. kept-end (programFault b)))
+      if-ind In (isReady b) _ _
+      (λ r. if-ind In (eqb (programFault b) 0) _ _ (λ f. kept-onward (moves.past (l .place) (length w)) sc) (λ f. kept-end (programFault b)))
       (λ r. kept-poll ProgramWaiting)
 
   kept-verify : (b : ℕ) → In (verifyMore l b w)
   unfolding verifyMore
   kept-verify b =
-      pick-ind In (eqb b (getD w (l .place) 0)) _ _
-      (λ e. pick-ind In (ltb (l .place) (length w - 1)) _ _
+      if-ind In (eqb b (getD w (l .place) 0)) _ _
+      (λ e. if-ind In (ltb (l .place) (length w - 1)) _ _
       (λ i. kept-at l (length w) Verifying (l .place + 1) 0 (λ h. let z = ltb-true (l .place) (length w - 1) i in omega arith) no-polls) (λ i. kept-end 0))
       (λ e. kept-end 25)
 
@@ -233,7 +235,7 @@ store-length Reading place b sc = length-set sc place b
 store-length EraseAsking place b sc = refl
 store-length EraseConfirming place b sc = refl
 store-length EraseWaiting place b sc =
-    pick-ind (λ (xs : List ℕ). length xs ≡ length sc) (erasedWell b) _ _ (λ e. length-replicate (length sc) ones) (λ e. refl)
+    if-ind (λ (xs : List ℕ). length xs ≡ length sc) (erasedWell b) _ _ (λ e. length-replicate (length sc) ones) (λ e. refl)
 store-length ProgramAsking place b sc = refl
 store-length ProgramSending place b sc = refl
 store-length ProgramWaiting place b sc = refl

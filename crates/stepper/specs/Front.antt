@@ -4,7 +4,7 @@ use mathlib.Core.List.{List, [], _∷_}
 use Prim.Native.Nat.{ℕ}
 use lib.ListN.{length}
 use lib.Dec.{eqb, ltb, leb}
-use Rattle.cells.specs.Pick.{pick}
+use Rattle.cells.specs.Choice.{if_then_else_}
 use Rattle.cells.specs.Numbers.{Row, row, given}
 use Rattle.device.specs.declared.Part.{Part}
 use Rattle.device.specs.Parts.{unknownPart, lengthOf}
@@ -63,7 +63,7 @@ recordAt part p k stage = record { part = part; pins = p; block = k; stage = sta
 
 -- the address that an end gives: the byte's for 25, else 0
 unfoldable pub endAddress : Loader → ℕ → ℕ
-endAddress l n = pick (eqb n 25) (hereOf l) 0
+endAddress l n = if eqb n 25 then hereOf l else 0
 
 -- what a record gives: the cycle that is out, or its end again
 abbrev pub turnIn : Stage → Loader → List ℕ → Turn
@@ -90,14 +90,14 @@ barredBy n l = record { turn = Barred n; loader = l }
 -- the start: a refused one gives a record that has ended with the number
 unfoldable pub startOf : Part → Pins → ℕ → List ℕ → List ℕ → Given
 startOf part p k w sc =
-    pick (eqb (startNumber part p k (length w) (length sc)) 0) (givenBy (recordAt part p k Clearing) w)
-    (barredBy (startNumber part p k (length w) (length sc)) (recordAt part p k (Ended (startNumber part p k (length w) (length sc)))))
+    if eqb (startNumber part p k (length w) (length sc)) 0 then givenBy (recordAt part p k Clearing) w
+    else barredBy (startNumber part p k (length w) (length sc)) (recordAt part p k (Ended (startNumber part p k (length w) (length sc))))
 
 -- a step: what is given ..
 unfoldable pub stepOf : Loader → ℕ → List ℕ → List ℕ → Given
 stepOf l b w sc =
-    pick (eqb (stepNumber l (length w) (length sc)) 0) (givenBy (nextOf l b w (storeOf l b sc)) w) (barredBy (stepNumber l (length w) (length sc)) l)
+    if eqb (stepNumber l (length w) (length sc)) 0 then givenBy (nextOf l b w (storeOf l b sc)) w else barredBy (stepNumber l (length w) (length sc)) l
 
 -- .. and what is left in scratch
 unfoldable pub scratchAfter : Loader → ℕ → List ℕ → List ℕ → List ℕ
-scratchAfter l b w sc = pick (eqb (stepNumber l (length w) (length sc)) 0) (storeOf l b sc) sc
+scratchAfter l b w sc = if eqb (stepNumber l (length w) (length sc)) 0 then storeOf l b sc else sc

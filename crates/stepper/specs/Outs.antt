@@ -3,7 +3,7 @@ use mathlib.Core.List.{List}
 use Prim.Native.Nat.{ℕ, _+_}
 use lib.ListN.{getD}
 use lib.Dec.{ltb}
-use Rattle.cells.specs.Pick.{pick}
+use Rattle.cells.specs.Choice.{if_then_else_}
 use Rattle.device.specs.Parts.{startOf}
 use Rattle.chip.specs.declared.Kind.{Kind}
 use Rattle.chip.specs.declared.Kind.the-variants.{Read, Write, Idle}
@@ -22,7 +22,7 @@ reach = 16777216
 
 -- the address of the byte at the record's place
 unfoldable pub hereOf : Loader → ℕ
-hereOf l = pick (ltb (l .place) reach) (firstOf l + l .place) (firstOf l)
+hereOf l = if ltb (l .place) reach then firstOf l + l .place else firstOf l
 
 -- a cycle at an address with the record's levels, OE# normal
 abbrev pub cycleAt : Loader → Kind → ℕ → ℕ → Cycle

@@ -5,7 +5,7 @@ use Prim.Native.Nat.{ℕ}
 use lib.ListN.{length, set, replicate}
 use lib.Dec.{eqb}
 use Rattle.chip.specs.Cells.{ones}
-use Rattle.cells.specs.Pick.{pick}
+use Rattle.cells.specs.Choice.{if_then_else_}
 use Rattle.loader.specs.declared.Stage.{Stage}
 use Rattle.loader.specs.declared.Stage.the-variants.{Clearing, Opening, Reading, EraseAsking, EraseConfirming, EraseWaiting, ProgramAsking, ProgramSending, ProgramWaiting, Closing, Verifying, Ended}
 use Rattle.loader.specs.declared.Loader.{Loader}
@@ -22,7 +22,7 @@ storeIn Opening place b sc = sc
 storeIn Reading place b sc = set sc place b
 storeIn EraseAsking place b sc = sc
 storeIn EraseConfirming place b sc = sc
-storeIn EraseWaiting place b sc = pick (erasedWell b) (replicate (length sc) ones) sc
+storeIn EraseWaiting place b sc = if erasedWell b then replicate (length sc) ones else sc
 storeIn ProgramAsking place b sc = sc
 storeIn ProgramSending place b sc = sc
 storeIn ProgramWaiting place b sc = sc

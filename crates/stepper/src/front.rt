@@ -12,22 +12,7 @@ use loader::Stage;
 use loader::Turn;
 ghost use mathlib.Core.Path.{_≡_};
 ghost use lib.ListN.{length};
-ghost use Rattle.stepper.specs.Front.{
-  barredPins,
-  noBlock,
-  wrongLengths,
-  badRecord,
-  startNumber,
-  stepNumber,
-  recordAt,
-  endAddress,
-  turnIn,
-  givenBy,
-  barredBy,
-  startOf,
-  stepOf,
-  scratchAfter,
-};
+ghost use Rattle.stepper.specs.Front.{barredPins, noBlock, wrongLengths, badRecord, startNumber, stepNumber, recordAt, endAddress, turnIn, givenBy, barredBy, startOf, stepOf, scratchAfter};
 
 // Refusal 4 of a loader.
 pub fn barred_pins(part: Part, p: Pins) -> bool

@@ -5,7 +5,7 @@ use Prim.Native.Nat.{ℕ, zero, suc, _≤_}
 use native.Mathlib.Omega.{arith}
 use lib.Dec.{eqb, ltb}
 use borrow.Author.Tests.{ltb-false, eqb-true}
-use Rattle.cells.specs.Pick.{pick-true, pick-false, pick-ind, or-left, or-right, and-none}
+use Rattle.cells.proofs.Choice.{if-true, if-false, if-ind, or-left, or-right, and-none}
 use Rattle.device.specs.declared.Part.{Part}
 use Rattle.device.specs.declared.Device.{Device}
 use Rattle.chip.specs.declared.Kind.{Kind}
@@ -123,7 +123,7 @@ unfolding stateIn
 state-back s =
     let m = mode-back (s .mode) in
     let p = phase-back (s .phase) in
-    pick-false (noState (stateOut s)) _ _ (out-state s) ∙ (λ i. record { mode = m i; status = s .status; phase = p i; left = s .left; address = s .address })
+    if-false (noState (stateOut s)) _ _ (out-state s) ∙ (λ i. record { mode = m i; status = s .status; phase = p i; left = s .left; address = s .address })
 
 pub cycle-back : (c : Cycle) → cycleIn (cycleOut c) ≡ c
 cycle-back c =
@@ -135,7 +135,7 @@ pub record-back : (l : Loader) → loaderIn (loaderOut l) ≡ l
 unfolding pollsIn
 record-back l =
     let s = stage-back (l .stage) in
-    let n : pollsIn (loaderOut l) ≡ l .polls = pick-false (noRecord (loaderOut l)) 65535 (l .polls) (out-record l) in
+    let n : pollsIn (loaderOut l) ≡ l .polls = if-false (noRecord (loaderOut l)) 65535 (l .polls) (out-record l) in
     λ i. record { part = l .part; pins = l .pins; block = l .block; stage = s i; place = l .place; polls = n i }
 
 -- in and out again, for numbers in their range
@@ -223,13 +223,13 @@ state-numbers n e =
     let m = mode-number (n .mode) low in
     let p = phase-number (n .phase) (n .byte) least in
     let b = byte-number (n .phase) (n .byte) least (or-right (ltb 2 (n .mode) || ltb 5 (n .phase)) _ e) in
-    ap (λ (s : State). stateOut s) (pick-false (noState n) _ _ e) ∙ (λ i. record { mode = m i; status = n .status; phase = p i; byte = b i; left = n .left; address = n .address })
+    ap (λ (s : State). stateOut s) (if-false (noState n) _ _ e) ∙ (λ i. record { mode = m i; status = n .status; phase = p i; byte = b i; left = n .left; address = n .address })
 
 pub cycle-numbers : (n : BusNumbers) → ltb 2 (n .kind) ≡ false → cycleOut (cycleIn n) ≡ n
 unfolding oeIn
 cycle-numbers n e =
     let k = kind-number (n .kind) (ltb-false 2 (n .kind) e) in
-    let oe : oeIn (n .kind) (n .oe) ≡ n .oe = pick-false (ltb 2 (n .kind)) 2 (n .oe) e in
+    let oe : oeIn (n .kind) (n .oe) ≡ n .oe = if-false (ltb 2 (n .kind)) 2 (n .oe) e in
     λ i. record { kind = k i; rp = n .rp; oe = oe i; byte = n .byte; vpp = n .vpp; address = n .address }
 
 pub record-numbers : (n : LoaderNumbers) → noRecord n ≡ false → loaderOut (loaderIn n) ≡ n
@@ -238,7 +238,7 @@ record-numbers n e =
     let low : n .stage ≤ 11 = ltb-false 11 (n .stage) (or-left (ltb 11 (n .stage)) _ e) in
     let s = stage-number (n .stage) (n .end) low in
     let z = end-number (n .stage) (n .end) low (or-right (ltb 11 (n .stage)) _ e) in
-    let q : pollsIn n ≡ n .polls = pick-false (noRecord n) 65535 (n .polls) e in
+    let q : pollsIn n ≡ n .polls = if-false (noRecord n) 65535 (n .polls) e in
     λ i. record { part = n .part; rp = n .rp; block = n .block; stage = s i; end = z i; vpp = n .vpp; polls = q i; place = n .place }
 
 -- at rest with SR.7 clear is improper on every device
@@ -249,13 +249,13 @@ rest-improper d = refl
 -- numbers that stand for no state are improper on every device
 pub no-state-improper : (n : StateNumbers) → noState n ≡ true → (d : Device) → improper d (stateIn n) ≡ true
 unfolding stateIn
-no-state-improper n e d = ap (λ (s : State). improper d s) (pick-true (noState n) _ _ e) ∙ rest-improper d
+no-state-improper n e d = ap (λ (s : State). improper d s) (if-true (noState n) _ _ e) ∙ rest-improper d
 
 -- a kind that is none is refused as a level, whatever the part
 pub no-kind-refused : (n : BusNumbers) → ltb 2 (n .kind) ≡ true → (part : Part) → badLevels part (cycleIn n) ≡ true
 unfolding badLevels oeIn
 no-kind-refused n e part =
-    ap (λ (oe : ℕ). badPins part (cycleIn n .pins) || badOe (kindIn (n .kind)) oe) (pick-true (ltb 2 (n .kind)) 2 (n .oe) e)
+    ap (λ (oe : ℕ). badPins part (cycleIn n .pins) || badOe (kindIn (n .kind)) oe) (if-true (ltb 2 (n .kind)) 2 (n .oe) e)
     ∙ ap (λ (t : Bool). badPins part (cycleIn n .pins) || t) (two-bad (kindIn (n .kind))) ∙ or-yes (badPins part (cycleIn n .pins))
   where
     two-bad : (k : Kind) → badOe k 2 ≡ true
@@ -271,8 +271,8 @@ no-record-bad n e = rw e refl
 -- a state or a record that is left as it was goes back as the numbers that came, whatever they are
 pub state-same : (n : StateNumbers) → stateBack n (stateIn n) ≡ n
 unfolding stateBack
-state-same n = pick-ind (λ (x : StateNumbers). x ≡ n) (noState n) n (stateOut (stateIn n)) (λ _. refl) (λ e. state-numbers n e)
+state-same n = if-ind (λ (x : StateNumbers). x ≡ n) (noState n) n (stateOut (stateIn n)) (λ _. refl) (λ e. state-numbers n e)
 
 pub record-same : (n : LoaderNumbers) → loaderBack n (loaderIn n) ≡ n
 unfolding loaderBack
-record-same n = pick-ind (λ (x : LoaderNumbers). x ≡ n) (noRecord n) n (loaderOut (loaderIn n)) (λ _. refl) (λ e. record-numbers n e)
+record-same n = if-ind (λ (x : LoaderNumbers). x ≡ n) (noRecord n) n (loaderOut (loaderIn n)) (λ _. refl) (λ e. record-numbers n e)

@@ -3,7 +3,8 @@ use mathlib.Core.Path.{_≡_, refl}
 use mathlib.Core.Bool.{true, false}
 use Prim.Native.Nat.{ℕ}
 use lib.Dec.{ltb}
-use Rattle.cells.specs.Pick.{Unique, only}
+use Rattle.cells.specs.Choice.{Unique}
+use Rattle.cells.proofs.Choice.{only}
 use Rattle.device.specs.declared.Part.{Part}
 use Rattle.device.specs.declared.Device.{Device}
 use Rattle.chip.specs.declared.Pins.{Pins}

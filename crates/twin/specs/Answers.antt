@@ -1,6 +1,6 @@
 -- What the typed functions answer, as plain numbers. Assumes nothing.
 use Prim.Native.Nat.{ℕ}
-use Rattle.cells.specs.Pick.{pick}
+use Rattle.cells.specs.Choice.{if_then_else_}
 use Rattle.chip.specs.declared.State.{State}
 use Rattle.model.specs.declared.Seen.{Seen}
 use Rattle.model.specs.declared.Seen.the-variants.{NoData, Byte, Refused}
@@ -24,11 +24,11 @@ use Rattle.twin.specs.declared.SizedNumbers.{SizedNumbers}
 
 -- the state that goes back for a state that came in; numbers that stand for none go back as they came
 unfoldable pub stateBack : StateNumbers → State → StateNumbers
-stateBack n s = pick (noState n) n (stateOut s)
+stateBack n s = if noState n then n else stateOut s
 
 -- the record that goes back for a record that came in; numbers that stand for none go back as they came
 unfoldable pub loaderBack : LoaderNumbers → Loader → LoaderNumbers
-loaderBack n l = pick (noRecord n) n (loaderOut l)
+loaderBack n l = if noRecord n then n else loaderOut l
 
 -- what is seen of a cycle: 0 no data, 1 a byte, 2 a refusal
 abbrev pub seenOut : Seen → ℕ

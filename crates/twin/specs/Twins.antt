@@ -2,7 +2,7 @@
 use mathlib.Core.Bool.{Bool, true, false, not, _&&_, _||_}
 use Prim.Native.Nat.{ℕ}
 use lib.Dec.{eqb, ltb}
-use Rattle.cells.specs.Pick.{pick}
+use Rattle.cells.specs.Choice.{if_then_else_}
 use Rattle.device.specs.declared.Part.{Part}
 use Rattle.device.specs.declared.Device.{Device}
 use Rattle.chip.specs.declared.Pins.{Pins}
@@ -33,7 +33,7 @@ pinsIn rp vpp = record { rp = rp; vpp = vpp }
 
 -- modes: 0 read array, 1 read status, 2 identifier
 unfoldable pub modeIn : ℕ → Mode
-modeIn n = pick (eqb n 0) Array (pick (eqb n 1) Status Identifier)
+modeIn n = if eqb n 0 then Array else if eqb n 1 then Status else Identifier
 
 abbrev pub modeOut : Mode → ℕ
 modeOut Array = 0
@@ -43,11 +43,11 @@ modeOut Identifier = 2
 -- phases: 0 free, 1 confirm awaited, 2 data awaited, 3 programming a byte, 4 erasing, 5 suspended
 unfoldable pub phaseIn : ℕ → ℕ → Phase
 phaseIn n byte =
-    pick (eqb n 0) Free
-    (pick (eqb n 1) EraseAwaited
-    (pick (eqb n 2) DataAwaited
-    (pick (eqb n 3) (Programming byte)
-    (pick (eqb n 4) Erasing Suspended))))
+    if eqb n 0 then Free
+    else if eqb n 1 then EraseAwaited
+    else if eqb n 2 then DataAwaited
+    else if eqb n 3 then Programming byte
+    else if eqb n 4 then Erasing else Suspended
 
 abbrev pub phaseOut : Phase → ℕ
 phaseOut Free = 0
@@ -73,8 +73,8 @@ noState n = (ltb 2 (n .mode) || ltb 5 (n .phase)) || (not (eqb (n .byte) 0) && n
 -- numbers as a state; those that stand for none become one that is improper on every device: at rest with SR.7 clear
 unfoldable pub stateIn : StateNumbers → State
 stateIn n =
-    pick (noState n) (atRest Array 0)
-    (record { mode = modeIn (n .mode); status = n .status; phase = phaseIn (n .phase) (n .byte); left = n .left; address = n .address })
+    if noState n then atRest Array 0
+    else record { mode = modeIn (n .mode); status = n .status; phase = phaseIn (n .phase) (n .byte); left = n .left; address = n .address }
 
 abbrev pub stateOut : State → StateNumbers
 stateOut s =
@@ -89,7 +89,7 @@ stateOut s =
 
 -- kinds of cycle: 0 read, 1 write, 2 idle
 unfoldable pub kindIn : ℕ → Kind
-kindIn n = pick (eqb n 0) Read (pick (eqb n 1) Write Idle)
+kindIn n = if eqb n 0 then Read else if eqb n 1 then Write else Idle
 
 abbrev pub kindOut : Kind → ℕ
 kindOut Read = 0
@@ -98,7 +98,7 @@ kindOut Idle = 2
 
 -- OE# of a cycle; where the kind is none, a level that every kind refuses
 unfoldable pub oeIn : ℕ → ℕ → ℕ
-oeIn kind oe = pick (ltb 2 kind) 2 oe
+oeIn kind oe = if ltb 2 kind then 2 else oe
 
 -- numbers as a cycle
 abbrev pub cycleIn : BusNumbers → Cycle
@@ -112,17 +112,17 @@ cycleOut c =
 -- stages of a load: 0 to 10 by the cycle that is out, 11 ended with a number
 unfoldable pub stageIn : ℕ → ℕ → Stage
 stageIn n end =
-    pick (eqb n 0) Clearing
-    (pick (eqb n 1) Opening
-    (pick (eqb n 2) Reading
-    (pick (eqb n 3) EraseAsking
-    (pick (eqb n 4) EraseConfirming
-    (pick (eqb n 5) EraseWaiting
-    (pick (eqb n 6) ProgramAsking
-    (pick (eqb n 7) ProgramSending
-    (pick (eqb n 8) ProgramWaiting
-    (pick (eqb n 9) Closing
-    (pick (eqb n 10) Verifying (Ended end)))))))))))
+    if eqb n 0 then Clearing
+    else if eqb n 1 then Opening
+    else if eqb n 2 then Reading
+    else if eqb n 3 then EraseAsking
+    else if eqb n 4 then EraseConfirming
+    else if eqb n 5 then EraseWaiting
+    else if eqb n 6 then ProgramAsking
+    else if eqb n 7 then ProgramSending
+    else if eqb n 8 then ProgramWaiting
+    else if eqb n 9 then Closing
+    else if eqb n 10 then Verifying else Ended end
 
 abbrev pub stageOut : Stage → ℕ
 stageOut Clearing = 0
@@ -159,7 +159,7 @@ noRecord n = ltb 11 (n .stage) || (not (eqb (n .end) 0) && not (eqb (n .stage) 1
 
 -- polls of a record; where the numbers stand for none, a count that every step refuses
 unfoldable pub pollsIn : LoaderNumbers → ℕ
-pollsIn n = pick (noRecord n) 65535 (n .polls)
+pollsIn n = if noRecord n then 65535 else n .polls
 
 -- numbers as a loader's record
 abbrev pub loaderIn : LoaderNumbers → Loader

@@ -16,23 +16,7 @@ use model::Answer;
 use model::Seen;
 use run::Ran;
 ghost use mathlib.Core.Path.{_≡_};
-ghost use Rattle.twin.specs.Twins.{
-  deviceIn,
-  pinsIn,
-  modeIn,
-  modeOut,
-  phaseIn,
-  phaseOut,
-  byteOut,
-  noState,
-  stateIn,
-  stateOut,
-  kindIn,
-  kindOut,
-  oeIn,
-  cycleIn,
-  cycleOut,
-};
+ghost use Rattle.twin.specs.Twins.{deviceIn, pinsIn, modeIn, modeOut, phaseIn, phaseOut, byteOut, noState, stateIn, stateOut, kindIn, kindOut, oeIn, cycleIn, cycleOut};
 ghost use Rattle.twin.specs.Answers.{stateBack, seenOut, valueOut, answerOut, ranOut};
 
 pub fn device_in(n: DeviceNumbers) -> Device

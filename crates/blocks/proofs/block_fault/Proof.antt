@@ -3,7 +3,7 @@ use borrow.Author.Needs.{needs}
 use borrow.Author.Tests.{lt-ltb, le-ltb, eq-eqb, ne-eqb}
 use mathlib.Core.Path.{sym, _∙_}
 use Rattle.blocks.specs.Block.{faultOf}
-use Rattle.blocks.specs.Tables.{fault-given}
+use Rattle.blocks.proofs.Tables.{fault-given}
 use Rattle.blocks.proofs.Verdicts.{check-first, check-passed}
 use Rattle.blocks.proofs.block_fault.Statement.{statement}
 use Rattle.blocks.proofs.block_fault.Tie as tie

@@ -1,6 +1,6 @@
 use borrow.Author.Needs.{needs}
 use mathlib.Core.Path.{sym, ap, _∙_}
-use Rattle.cells.specs.Pick.{pick-true, pick-false}
+use Rattle.cells.proofs.Choice.{if-true, if-false}
 use Rattle.chip.specs.declared.Settled.{Settled}
 use Rattle.chip.specs.declared.Reply.the-variants.{Quiet}
 use Rattle.chip.specs.Levels.{rpLow}
@@ -22,7 +22,7 @@ unfolding passOf
 returns c =
     let a = c .before .before .before .before .before .before .args in
     c .given .ensures ∙ ap (λ (t : Settled). givenBy Quiet t) (c .before .before .before .settle .ensures)
-    ∙ sym (pick-true (rpLow (a .c .pins)) _ _ (sym (c .before .before .rp-low .ensures) ∙ c .before .if1 .taken))
+    ∙ sym (if-true (rpLow (a .c .pins)) _ _ (sym (c .before .before .rp-low .ensures) ∙ c .before .if1 .taken))
 
 respond-requires : tie.Need-respond-requires
 respond-requires c κs = search needs
@@ -32,7 +32,7 @@ unfolding passOf
 returns-2 c =
     let a = c .before .before .before .before .before .before .args in
     c .respond .ensures ∙ ap (λ (t : Settled). arm (a .c .kind) (a .d) (a .s) (a .c) t) (c .before .before .before .settle .ensures)
-    ∙ sym (pick-false (rpLow (a .c .pins)) _ _ (sym (c .before .before .rp-low .ensures) ∙ c .before .if1 .left))
+    ∙ sym (if-false (rpLow (a .c .pins)) _ _ (sym (c .before .before .rp-low .ensures) ∙ c .before .if1 .left))
 
 pub pass-spec : {M : Type 1} → statement M
 pass-spec = tie.close (tie.spec settle-requires rp-low-requires given-requires returns respond-requires returns-2)

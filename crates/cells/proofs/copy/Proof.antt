@@ -6,7 +6,8 @@ use Prim.Native.Nat.{ℕ, _+_, _≤_, _-_, min}
 use native.Mathlib.Omega.{arith}
 use lib.ListN.{length}
 use borrow.Rule.Slice.PartMut.{putMid, midOf, mid-len, same-len-mid}
-use Rattle.cells.specs.Lists.{laid, copied-least}
+use Rattle.cells.specs.Lists.{laid}
+use Rattle.cells.proofs.Lists.{copied-least}
 use Rattle.cells.proofs.Pieces.{laid-piece}
 use Rattle.cells.proofs.copy.Statement.{statement}
 use Rattle.cells.proofs.copy.Tie as tie

@@ -4,7 +4,8 @@ use mathlib.Core.List.{List}
 use Prim.Native.Nat.{ℕ, _≤_, _-_, _<_}
 use native.Mathlib.Omega.{arith}
 use lib.ListN.{length, replicate, set, length-set, length-replicate}
-use Rattle.cells.specs.Lists.{laid, laid-all, filled-more}
+use Rattle.cells.specs.Lists.{laid}
+use Rattle.cells.proofs.Lists.{laid-all, filled-more}
 use Rattle.cells.proofs.fill.Statement.{statement}
 use Rattle.cells.proofs.fill.Tie as tie
 

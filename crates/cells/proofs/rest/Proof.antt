@@ -4,7 +4,8 @@ use mathlib.Core.List.{List}
 use Prim.Native.Nat.{ℕ, _≤_, _-_}
 use native.Mathlib.Omega.{arith}
 use lib.ListN.{length, set, getD, length-set}
-use Rattle.cells.specs.Lists.{laid, laid-more, laid-all}
+use Rattle.cells.specs.Lists.{laid}
+use Rattle.cells.proofs.Lists.{laid-more, laid-all}
 use Rattle.cells.proofs.rest.Statement.{statement}
 use Rattle.cells.proofs.rest.Tie as tie
 

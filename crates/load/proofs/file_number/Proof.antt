@@ -1,6 +1,6 @@
 use lib.ListN.{length}
 use lib.Dec.{ltb}
-use Rattle.cells.specs.Pick.{pick-false}
+use Rattle.cells.proofs.Choice.{if-false}
 use Rattle.loadfile.specs.File.{limit, readerOf}
 use Rattle.load.proofs.Filling.{sound-none, unsound-number}
 use borrow.Author.Needs.{needs}
@@ -28,14 +28,14 @@ unfolding fileNumber
 returns-2 c =
     let a = c .before .before .before .before .before .args in
     let o = readerOf limit (a .file .now) (a .asked) in
-    sym (pick-false (ltb (a .n) (length (a .file .now))) 30 (numberIn o) (le-ltb (a .n) (length (a .file .now)) (c .before .before .before .if1 .left)) ∙ sound-none o _ (sym (c .before .before .judge .ensures) ∙ c .enum-told .given .1))
+    sym (if-false (ltb (a .n) (length (a .file .now))) 30 (numberIn o) (le-ltb (a .n) (length (a .file .now)) (c .before .before .before .if1 .left)) ∙ sound-none o _ (sym (c .before .before .judge .ensures) ∙ c .enum-told .given .1))
 
 returns-3 : tie.Need-returns-3
 unfolding fileNumber
 returns-3 c =
     let a = c .before .before .before .before .before .before .args in
     let o = readerOf limit (a .file .now) (a .asked) in
-    sym (pick-false (ltb (a .n) (length (a .file .now))) 30 (numberIn o) (le-ltb (a .n) (length (a .file .now)) (c .before .before .before .before .if1 .left)) ∙ unsound-number o _ (sym (c .before .before .before .judge .ensures) ∙ c .before .judged .given .1))
+    sym (if-false (ltb (a .n) (length (a .file .now))) 30 (numberIn o) (le-ltb (a .n) (length (a .file .now)) (c .before .before .before .before .if1 .left)) ∙ unsound-number o _ (sym (c .before .before .before .judge .ensures) ∙ c .before .judged .given .1))
 
 pub file-number-spec : {M : Type 1} → statement M
 file-number-spec =

@@ -3,7 +3,7 @@ use mathlib.Core.List.{List}
 use Prim.Native.Nat.{ℕ}
 use lib.ListN.{length}
 use lib.Dec.{eqb}
-use Rattle.cells.specs.Pick.{pick-true, pick-false}
+use Rattle.cells.proofs.Choice.{if-true, if-false}
 use Rattle.run.specs.Runs.{ranOf, bytesOf, scratchOf}
 use Rattle.load.proofs.Filling.{short-file}
 use borrow.Author.Needs.{needs}
@@ -41,12 +41,12 @@ returns c =
     let z = eq-eqb n 0 (sym (c .before .before .before .before .before .before .before .before .before .before .before .before .before .load-number .ensures) ∙ c .before .before .before .before .before .before .before .before .before .before .before .before .if1 .taken) in
     let e : c .before .before .before .before .before .before .before .before .before .before .fill-wanted .last .1 .0 ≡ wantedOf (a .file .now) (length (a .wanted .now)) = c .before .before .before .before .before .before .before .before .before .before .fill-wanted .ensures in
     let r = c .before .before .before .before .run .ensures in (
-      r .0 ∙ ap (λ (w : List ℕ). ranOf (a .d) (a .s) (a .p) (a .block) (a .array .now) w (a .scratch .now)) e ∙ sym (pick-true (eqb n 0) _ _ z),
+      r .0 ∙ ap (λ (w : List ℕ). ranOf (a .d) (a .s) (a .p) (a .block) (a .array .now) w (a .scratch .now)) e ∙ sym (if-true (eqb n 0) _ _ z),
       (
-        r .1 .0 ∙ ap (λ (w : List ℕ). bytesOf (a .d) (a .s) (a .p) (a .block) (a .array .now) w (a .scratch .now)) e ∙ sym (pick-true (eqb n 0) _ _ z),
+        r .1 .0 ∙ ap (λ (w : List ℕ). bytesOf (a .d) (a .s) (a .p) (a .block) (a .array .now) w (a .scratch .now)) e ∙ sym (if-true (eqb n 0) _ _ z),
         (
-          e ∙ sym (pick-true (eqb n 0) _ _ z),
-          r .1 .1 ∙ ap (λ (w : List ℕ). scratchOf (a .d) (a .s) (a .p) (a .block) (a .array .now) w (a .scratch .now)) e ∙ sym (pick-true (eqb n 0) _ _ z),
+          e ∙ sym (if-true (eqb n 0) _ _ z),
+          r .1 .1 ∙ ap (λ (w : List ℕ). scratchOf (a .d) (a .s) (a .p) (a .block) (a .array .now) w (a .scratch .now)) e ∙ sym (if-true (eqb n 0) _ _ z),
         ),
       ),
     )
@@ -58,8 +58,8 @@ returns-2 c =
     let n = loadNumber (a .d) (a .s) (a .p) (a .block) (length (a .array .now)) (length (a .wanted .now)) (length (a .scratch .now)) (a .file .now) (a .asked) in
     let e : c .before .load-number .result ≡ n = c .before .load-number .ensures in
     let z = ne-eqb n 0 (λ q. c .if1 .left (e ∙ q)) in (
-      (λ i. record { count = 0; end = e i; address = 0; state = a .s }) ∙ sym (pick-false (eqb n 0) _ _ z),
-      (sym (pick-false (eqb n 0) _ _ z), (sym (pick-false (eqb n 0) _ _ z), sym (pick-false (eqb n 0) _ _ z))),
+      (λ i. record { count = 0; end = e i; address = 0; state = a .s }) ∙ sym (if-false (eqb n 0) _ _ z),
+      (sym (if-false (eqb n 0) _ _ z), (sym (if-false (eqb n 0) _ _ z), sym (if-false (eqb n 0) _ _ z))),
     )
 
 pub load-spec : {M : Type 1} → statement M

@@ -7,12 +7,12 @@ use borrow.Author.Needs.{needs}
 use lib.ListN.{getD, take, drop}
 use lib.Dec.{eqb}
 use borrow.Author.Tests.{eq-eqb, ne-eqb}
-use Rattle.cells.specs.Pick.{pick-true, pick-false}
+use Rattle.cells.proofs.Choice.{if-true, if-false}
 use Rattle.cells.specs.Numbers.{given}
 use Rattle.blocks.specs.Block.{blockRows, faultOf}
-use Rattle.blocks.specs.Tables.{fault-given}
+use Rattle.blocks.proofs.Tables.{fault-given}
 use Rattle.loadfile.specs.File.{blocksRows}
-use Rattle.loadfile.specs.Tables.{turn, block-cut}
+use Rattle.loadfile.proofs.Tables.{turn, block-cut}
 use Rattle.loadfile.proofs.blocks_fault.Statement.{statement}
 use Rattle.loadfile.proofs.blocks_fault.Tie as tie
 
@@ -64,7 +64,7 @@ returns c =
     let r : c .before .block-fault .result ≡ G =
     c .before .block-fault .ensures ∙ ap (λ (k : ℕ). faultOf F i n (take k (drop (512 * i) f))) e ∙ fault-given F i n B (block-cut i n f (omega arith) (omega arith)) (omega arith) in
     let t = turn F i n f (omega arith) in
-    r ∙ sym (pick-false (eqb G 0) _ G (ne-eqb G 0 (λ (q : G ≡ 0). c .if1 .taken (r ∙ q)))) ∙ sym t ∙ l .inv .1
+    r ∙ sym (if-false (eqb G 0) _ G (ne-eqb G 0 (λ (q : G ≡ 0). c .if1 .taken (r ∙ q)))) ∙ sym t ∙ l .inv .1
 
 add-i : tie.Need-add-i Inv-loop μ-loop
 add-i c = omega arith
@@ -86,7 +86,7 @@ loop-again c =
     let r : c .before .block-fault .result ≡ G =
     c .before .block-fault .ensures ∙ ap (λ (k : ℕ). faultOf F i n (take k (drop (512 * i) f))) e ∙ fault-given F i n B (block-cut i n f (omega arith) (omega arith)) (omega arith) in
     let t = turn F i n f (omega arith) in
-    (omega arith, sym (pick-true (eqb G 0) _ G (eq-eqb G 0 (sym r ∙ c .if1 .left))) ∙ sym t ∙ l .inv .1)
+    (omega arith, sym (if-true (eqb G 0) _ G (eq-eqb G 0 (sym r ∙ c .if1 .left))) ∙ sym t ∙ l .inv .1)
 
 returns-2 : tie.Need-returns-2 Inv-loop μ-loop
 returns-2 c =

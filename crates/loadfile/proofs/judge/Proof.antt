@@ -9,8 +9,8 @@ use lib.ListN.{length, getD}
 use Rattle.cells.specs.Numbers.{given}
 use Rattle.loadfile.specs.declared.Judged.the-variants.{Sound}
 use Rattle.loadfile.specs.File.{limit, lengthWrong, blocksRows, blocksIn, judgedAs}
-use Rattle.loadfile.specs.Sizes.{sized}
-use Rattle.loadfile.specs.Outcomes.{length-right, reader-30, reader-block, reader-35, reader-made}
+use Rattle.loadfile.proofs.Sizes.{sized}
+use Rattle.loadfile.proofs.Outcomes.{length-right, reader-30, reader-block, reader-35, reader-made}
 use Rattle.loadfile.proofs.judge.Statement.{statement}
 use Rattle.loadfile.proofs.judge.Tie as tie
 

@@ -6,7 +6,7 @@ use native.Mathlib.Omega.{arith}
 use lib.ListN.{length, take}
 use Rattle.loadfile.specs.declared.ReadBack.the-variants.{Gave}
 use Rattle.loadfile.specs.File.{limit, refused, inRoom, leftIn, placesOf, readerOf, readAs}
-use Rattle.loadfile.specs.Outcomes.{judged-refused}
+use Rattle.loadfile.proofs.Outcomes.{judged-refused}
 use Rattle.loadfile.proofs.Answers.{held, too-short, long-enough, front-of, cut}
 use Rattle.loadfile.proofs.read.Statement.{statement}
 use Rattle.loadfile.proofs.read.Tie as tie

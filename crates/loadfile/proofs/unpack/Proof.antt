@@ -6,9 +6,8 @@ use native.Mathlib.Omega.{arith}
 use borrow.Author.Needs.{needs}
 use lib.ListN.{length, take, drop}
 use borrow.Rule.Slice.PartMut.{same-len-mid, putMid, midOf}
-use Rattle.cells.specs.Lists.{copied}
+use Rattle.cells.specs.Lists.{copied, laid}
 use lib.Seq.{drop-length}
-use Rattle.cells.specs.Lists.{laid}
 use Rattle.loadfile.specs.File.{placesOf}
 use Rattle.loadfile.proofs.Parts.{unpacked}
 use Rattle.loadfile.proofs.unpack.Statement.{statement}

@@ -7,8 +7,8 @@ use lib.ListN.{length}
 use borrow.Author.Tests.{not-true, not-false}
 use Rattle.loadfile.specs.declared.Written.the-variants.{Wrote}
 use Rattle.loadfile.specs.File.{limit, refused, made, inRoom, leftIn, countOf, fileOf, writerOf, writtenAs}
-use Rattle.loadfile.specs.Sizes.{blocks-length}
-use Rattle.loadfile.specs.Outcomes.{payload-right, writer-32, writer-36, writer-made, room-37, room-made}
+use Rattle.loadfile.proofs.Sizes.{blocks-length}
+use Rattle.loadfile.proofs.Outcomes.{payload-right, writer-32, writer-36, writer-made, room-37, room-made}
 use Rattle.loadfile.proofs.Answers.{front-of, cut}
 use Rattle.loadfile.proofs.write.Statement.{statement}
 use Rattle.loadfile.proofs.write.Tie as tie

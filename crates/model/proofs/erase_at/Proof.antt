@@ -4,7 +4,7 @@ use mathlib.Core.Path.{sym, ap, _∙_}
 use Prim.Native.Nat.{ℕ}
 use lib.ListN.{length}
 use lib.Dec.{eqb}
-use Rattle.cells.specs.Pick.{pick-true, pick-false}
+use Rattle.cells.proofs.Choice.{if-true, if-false}
 use Rattle.device.specs.Parts.{sizeOf}
 use Rattle.model.specs.Arrays.{erased}
 use Rattle.model.specs.Passed.{erasedAt}
@@ -28,14 +28,14 @@ unfolding erasedAt
 returns c =
     let a = c .before .before .before .before .before .before .before .before .args in
     c .before .before .erase .ensures ∙ ap (λ (k : ℕ). erased (a .part) k (a .array .now)) (c .before .before .before .before .block-of .ensures)
-    ∙ sym (pick-true (eqb (length (a .array .now)) (sizeOf (a .part))) _ _
+    ∙ sym (if-true (eqb (length (a .array .now)) (sizeOf (a .part))) _ _
     (eq-eqb (length (a .array .now)) (sizeOf (a .part)) (c .before .before .before .before .before .if1 .taken ∙ c .before .before .before .before .before .before .size .ensures)))
 
 returns-2 : tie.Need-returns-2
 unfolding erasedAt
 returns-2 c =
     let a = c .before .before .before .args in
-    sym (pick-false (eqb (length (a .array .now)) (sizeOf (a .part))) _ _
+    sym (if-false (eqb (length (a .array .now)) (sizeOf (a .part))) _ _
     (ne-eqb (length (a .array .now)) (sizeOf (a .part)) (λ e. c .if1 .left (e ∙ sym (c .before .size .ensures)))))
 
 pub erase-at-spec : {M : Type 1} → statement M

@@ -4,7 +4,7 @@ use borrow.Author.Tests.{lt-ltb, le-ltb}
 use mathlib.Core.Path.{sym, _∙_}
 use lib.ListN.{length}
 use lib.Dec.{ltb}
-use Rattle.cells.specs.Pick.{pick-true, pick-false}
+use Rattle.cells.proofs.Choice.{if-true, if-false}
 use Rattle.model.specs.Passed.{programmedAt}
 use Rattle.model.proofs.program_at.Statement.{statement}
 use Rattle.model.proofs.program_at.Tie as tie
@@ -23,14 +23,14 @@ unfolding programmedAt
 returns c =
     let a = c .before .before .before .before .before .before .before .args in
     c .before .before .program .ensures
-    ∙ sym (pick-true (ltb (a .address) (length (a .array .now))) _ _
+    ∙ sym (if-true (ltb (a .address) (length (a .array .now))) _ _
     (lt-ltb (a .address) (length (a .array .now)) (omega (arith, c .before .before .before .before .before .index .ensures, c .before .before .before .before .if1 .taken))))
 
 returns-2 : tie.Need-returns-2
 unfolding programmedAt
 returns-2 c =
     let a = c .before .before .before .args in
-    sym (pick-false (ltb (a .address) (length (a .array .now))) _ _
+    sym (if-false (ltb (a .address) (length (a .array .now))) _ _
     (le-ltb (a .address) (length (a .array .now)) (omega (arith, c .before .index .ensures, c .if1 .left))))
 
 pub program-at-spec : {M : Type 1} → statement M

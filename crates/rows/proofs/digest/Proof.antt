@@ -4,7 +4,8 @@ use Prim.Native.Nat.{ℕ, _+_, _*_, _-_, _%_, _≤_, _<_}
 use native.Mathlib.Omega.{arith}
 use borrow.Author.Needs.{needs}
 use lib.ListN.{length, getD, drop}
-use Rattle.rows.specs.Text.{walk, walk-next, walk-end}
+use Rattle.rows.specs.Text.{walk}
+use Rattle.rows.proofs.Text.{walk-next, walk-end}
 use Rattle.rows.specs.Patterns.{digestMore, digestOf}
 use Rattle.rows.proofs.digest.Statement.{statement}
 use Rattle.rows.proofs.digest.Tie as tie

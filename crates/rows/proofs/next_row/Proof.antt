@@ -4,7 +4,8 @@ use Prim.Native.Nat.{_+_, _-_, _≤_, _<_, max}
 use native.Mathlib.Omega.{arith}
 use borrow.Author.Tests.{eq-eqb, ne-eqb}
 use lib.ListN.{length, drop, drop-of-length-le}
-use Rattle.rows.specs.Text.{rowOf, nextRow, row-on, row-end}
+use Rattle.rows.specs.Text.{rowOf, nextRow}
+use Rattle.rows.proofs.Text.{row-on, row-end}
 use Rattle.rows.proofs.next_row.Statement.{statement}
 use Rattle.rows.proofs.next_row.Tie as tie
 

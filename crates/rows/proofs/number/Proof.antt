@@ -5,7 +5,8 @@ use native.Mathlib.Omega.{arith}
 use native.Mathlib.Nat.{mul-le-mul-right}
 use borrow.Author.Needs.{needs}
 use lib.ListN.{length, getD, drop}
-use Rattle.rows.specs.Text.{walk, digitOf, readMore, readOf, walk-next, walk-end}
+use Rattle.rows.specs.Text.{walk, digitOf, readMore, readOf}
+use Rattle.rows.proofs.Text.{walk-next, walk-end}
 use Rattle.rows.proofs.number.Statement.{statement}
 use Rattle.rows.proofs.number.Tie as tie
 

@@ -5,8 +5,10 @@ use Prim.Native.Nat.{ℕ, _+_, _-_, _%_, _≤_, _<_}
 use native.Mathlib.Omega.{arith}
 use native.Mathlib.Nat.{mod-lt}
 use lib.ListN.{length, drop, set, length-set}
-use Rattle.cells.specs.Lists.{laid, laid-more, laid-all}
-use Rattle.rows.specs.Patterns.{sown, sownFrom, sown-length, sown-byte, sown-next}
+use Rattle.cells.specs.Lists.{laid}
+use Rattle.cells.proofs.Lists.{laid-more, laid-all}
+use Rattle.rows.specs.Patterns.{sown, sownFrom}
+use Rattle.rows.proofs.Patterns.{sown-length, sown-byte, sown-next}
 use Rattle.rows.proofs.sow.Statement.{statement}
 use Rattle.rows.proofs.sow.Tie as tie
 

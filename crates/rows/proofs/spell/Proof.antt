@@ -6,7 +6,8 @@ use native.Mathlib.Omega.{arith}
 use native.Mathlib.Nat.{mod-lt}
 use lib.ListN.{length, drop, length-set}
 use lib.Seq.{drop-length}
-use Rattle.rows.specs.Text.{spelled, spelled-back}
+use Rattle.rows.specs.Text.{spelled}
+use Rattle.rows.proofs.Text.{spelled-back}
 use Rattle.rows.proofs.spell.Statement.{statement}
 use Rattle.rows.proofs.spell.Tie as tie
 

@@ -3,7 +3,8 @@ use mathlib.Core.Path.{ap, _∙_}
 use mathlib.Core.List.{List}
 use Prim.Native.Nat.{ℕ}
 use borrow.Author.Needs.{needs}
-use Rattle.rows.specs.Text.{readOf, field-part}
+use Rattle.rows.specs.Text.{readOf}
+use Rattle.rows.proofs.Text.{field-part}
 use Rattle.rows.proofs.word_at.Statement.{statement}
 use Rattle.rows.proofs.word_at.Tie as tie
 

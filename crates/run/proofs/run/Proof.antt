@@ -2,7 +2,7 @@ use mathlib.Core.Path.{_≡_, refl, sym, ap, _∙_, subst}
 use borrow.Author.Tests.{eq-eqb, ne-eqb}
 use lib.ListN.{length}
 use lib.Dec.{eqb}
-use Rattle.cells.specs.Pick.{pick-true, pick-false}
+use Rattle.cells.proofs.Choice.{if-true, if-false}
 use Rattle.loader.specs.declared.Loader.{Loader}
 use Rattle.loader.specs.declared.Stage.the-variants.{Clearing}
 use Rattle.stepper.specs.Front.{recordAt}
@@ -44,10 +44,10 @@ returns c =
     let z = eq-eqb n 0 (sym (c .before .before .before .before .before .before .before .before .before .before .run-number .ensures) ∙ c .before .before .before .before .before .before .before .before .before .if1 .taken) in
     let e : c .before .before .before .before .before .before .before .record-at .result ≡ recordAt (a .d .part) (a .p) (a .block) Clearing = c .before .before .before .before .before .before .before .record-at .ensures in
     let f : Loader → Config = λ (l : Loader). driven (a .d) w (begin (a .d) (a .s) l xs sc) in (
-      c .before .before .before .before .drive .ensures .0 ∙ ap (λ (l : Loader). ranBy (f l)) e ∙ sym (pick-true (eqb n 0) _ _ z),
+      c .before .before .before .before .drive .ensures .0 ∙ ap (λ (l : Loader). ranBy (f l)) e ∙ sym (if-true (eqb n 0) _ _ z),
       (
-        c .before .before .before .before .drive .ensures .1 .1 ∙ ap (λ (l : Loader). f l .bytes) e ∙ sym (pick-true (eqb n 0) _ _ z),
-        c .before .before .before .before .drive .ensures .1 .0 ∙ ap (λ (l : Loader). f l .scratch) e ∙ sym (pick-true (eqb n 0) _ _ z),
+        c .before .before .before .before .drive .ensures .1 .1 ∙ ap (λ (l : Loader). f l .bytes) e ∙ sym (if-true (eqb n 0) _ _ z),
+        c .before .before .before .before .drive .ensures .1 .0 ∙ ap (λ (l : Loader). f l .scratch) e ∙ sym (if-true (eqb n 0) _ _ z),
       ),
     )
 
@@ -58,8 +58,8 @@ returns-2 c =
     let n = runNumber (a .d) (a .s) (a .p) (a .block) (length (a .array .now)) (length (a .wanted .now)) (length (a .scratch .now)) in
     let e : c .before .run-number .result ≡ n = c .before .run-number .ensures in
     let z = ne-eqb n 0 (λ q. c .if1 .left (e ∙ q)) in (
-      (λ i. record { count = 0; end = e i; address = 0; state = a .s }) ∙ sym (pick-false (eqb n 0) _ _ z),
-      (sym (pick-false (eqb n 0) _ _ z), sym (pick-false (eqb n 0) _ _ z)),
+      (λ i. record { count = 0; end = e i; address = 0; state = a .s }) ∙ sym (if-false (eqb n 0) _ _ z),
+      (sym (if-false (eqb n 0) _ _ z), sym (if-false (eqb n 0) _ _ z)),
     )
 
 pub run-spec : {M : Type 1} → statement M

@@ -7,7 +7,7 @@ use borrow.Author.Needs.{needs}
 use borrow.Author.Tests.{eq-eqb, ne-eqb}
 use lib.ListN.{length, getD}
 use lib.Dec.{eqb}
-use Rattle.cells.specs.Pick.{pick-true, pick-false}
+use Rattle.cells.proofs.Choice.{if-true, if-false}
 use Rattle.loader.specs.Walks.{nextDiff, diffFrom}
 use Rattle.loader.proofs.Walking.{diff-turn, diff-over}
 use Rattle.loader.proofs.walk.diff_from.Statement.{statement}
@@ -36,7 +36,7 @@ returns c =
     let w = a .wanted .now in
     let s = a .scratch .now in
     let t : eqb (getD s (l .i) 0) (getD w (l .i) 0) ≡ false = ne-eqb _ _ (λ q. c .if1 .taken (c .before .before .nth .ensures ∙ q)) in
-    sym (sym (l .inv) ∙ diff-turn (length w) (l .i) w s (c .before .before .before .loop-test .taken) ∙ pick-false (eqb (getD s (l .i) 0) (getD w (l .i) 0)) (nextDiff (length w - (l .i + 1)) (l .i + 1) w s) (l .i) t)
+    sym (sym (l .inv) ∙ diff-turn (length w) (l .i) w s (c .before .before .before .loop-test .taken) ∙ if-false (eqb (getD s (l .i) 0) (getD w (l .i) 0)) (nextDiff (length w - (l .i + 1)) (l .i + 1) w s) (l .i) t)
 
 add-i : tie.Need-add-i Inv-loop μ-loop
 add-i c = omega arith
@@ -51,7 +51,7 @@ loop-again c =
     let w = a .wanted .now in
     let s = a .scratch .now in
     let t : eqb (getD s (l .i) 0) (getD w (l .i) 0) ≡ true = eq-eqb _ _ (sym (c .before .before .nth .ensures) ∙ c .if1 .left) in
-    sym (diff-turn (length w) (l .i) w s (c .before .before .before .loop-test .taken) ∙ pick-true (eqb (getD s (l .i) 0) (getD w (l .i) 0)) (nextDiff (length w - (l .i + 1)) (l .i + 1) w s) (l .i) t) ∙ l .inv
+    sym (diff-turn (length w) (l .i) w s (c .before .before .before .loop-test .taken) ∙ if-true (eqb (getD s (l .i) 0) (getD w (l .i) 0)) (nextDiff (length w - (l .i + 1)) (l .i + 1) w s) (l .i) t) ∙ l .inv
 
 returns-2 : tie.Need-returns-2 Inv-loop μ-loop
 returns-2 c =

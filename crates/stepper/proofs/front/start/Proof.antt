@@ -2,7 +2,7 @@ use mathlib.Core.Path.{_≡_, ap}
 use Prim.Native.Nat.{ℕ}
 use lib.ListN.{length}
 use lib.Dec.{eqb}
-use Rattle.cells.specs.Pick.{pick-true, pick-false}
+use Rattle.cells.proofs.Choice.{if-true, if-false}
 use Rattle.loader.specs.declared.Loader.{Loader}
 use Rattle.loader.specs.declared.Stage.the-variants.{Ended}
 use borrow.Author.Needs.{needs}
@@ -28,7 +28,7 @@ returns c =
     let w = a .wanted .now in
     let n = startNumber (a .part) (a .p) (a .block) (length w) (length (a .scratch .now)) in
     c .given-by .ensures ∙ ap (λ (l : Loader). givenBy l w) (c .before .record-at .ensures)
-    ∙ sym (pick-true (eqb n 0) _ _ (eq-eqb n 0 (sym (c .before .before .before .start-number .ensures) ∙ c .before .before .if1 .taken)))
+    ∙ sym (if-true (eqb n 0) _ _ (eq-eqb n 0 (sym (c .before .before .before .start-number .ensures) ∙ c .before .before .if1 .taken)))
 
 record-at-requires-2 : tie.Need-record-at-requires-2
 record-at-requires-2 c κs = search needs
@@ -45,7 +45,7 @@ returns-2 c =
     let e : c .before .before .before .start-number .result ≡ n = c .before .before .before .start-number .ensures in
     c .barred-by .ensures ∙ ap (λ (l : Loader). barredBy (c .before .before .before .start-number .result) l) (c .before .record-at2 .ensures)
     ∙ ap (λ (m : ℕ). barredBy m (recordAt (a .part) (a .p) (a .block) (Ended m))) e
-    ∙ sym (pick-false (eqb n 0) _ _ (ne-eqb n 0 (λ q. c .before .before .if1 .left (e ∙ q))))
+    ∙ sym (if-false (eqb n 0) _ _ (ne-eqb n 0 (λ q. c .before .before .if1 .left (e ∙ q))))
 
 pub start-spec : {M : Type 1} → statement M
 start-spec =

@@ -2,7 +2,7 @@ use mathlib.Core.Path.{_≡_, ap}
 use Prim.Native.Nat.{ℕ}
 use lib.ListN.{length}
 use lib.Dec.{eqb}
-use Rattle.cells.specs.Pick.{pick-true, pick-false}
+use Rattle.cells.proofs.Choice.{if-true, if-false}
 use Rattle.loader.specs.declared.Loader.{Loader}
 use borrow.Author.Needs.{needs}
 use borrow.Author.Tests.{eq-eqb, ne-eqb}
@@ -30,8 +30,8 @@ returns c =
     let w = a .wanted .now in
     let n = stepNumber (a .l) (length w) (length (a .scratch .now)) in
     let z = eq-eqb n 0 (sym (c .before .before .before .before .before .before .step-number .ensures) ∙ c .before .before .before .before .before .if1 .taken) in (
-      c .given-by .ensures ∙ ap (λ (l : Loader). givenBy l w) (c .before .before .before .advance .ensures .0) ∙ sym (pick-true (eqb n 0) _ _ z),
-      c .before .before .before .advance .ensures .1 ∙ sym (pick-true (eqb n 0) _ _ z),
+      c .given-by .ensures ∙ ap (λ (l : Loader). givenBy l w) (c .before .before .before .advance .ensures .0) ∙ sym (if-true (eqb n 0) _ _ z),
+      c .before .before .before .advance .ensures .1 ∙ sym (if-true (eqb n 0) _ _ z),
     )
 
 barred-by-requires : tie.Need-barred-by-requires
@@ -45,7 +45,7 @@ returns-2 c =
     let n = stepNumber (a .l) (length w) (length (a .scratch .now)) in
     let e : c .before .before .step-number .result ≡ n = c .before .before .step-number .ensures in
     let z = ne-eqb n 0 (λ q. c .before .if1 .left (e ∙ q)) in
-    (c .barred-by .ensures ∙ ap (λ (m : ℕ). barredBy m (a .l)) e ∙ sym (pick-false (eqb n 0) _ _ z), sym (pick-false (eqb n 0) _ _ z))
+    (c .barred-by .ensures ∙ ap (λ (m : ℕ). barredBy m (a .l)) e ∙ sym (if-false (eqb n 0) _ _ z), sym (if-false (eqb n 0) _ _ z))
 
 pub step-spec : {M : Type 1} → statement M
 step-spec =

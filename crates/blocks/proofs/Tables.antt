@@ -7,14 +7,16 @@ use native.Mathlib.Omega.{arith}
 use lib.ListN.{length}
 use lib.Dec.{eqb, ltb}
 use borrow.Author.Tests.{eq-eqb, ne-eqb, lt-ltb, eqb-true, eqb-false, ltb-false, not-false}
-use Rattle.cells.specs.Pick.{pick, pick-true, pick-false}
-use Rattle.cells.specs.Numbers.{Row, given, given-append}
+use Rattle.cells.specs.Choice.{if_then_else_}
+use Rattle.cells.proofs.Choice.{if-true, if-false}
+use Rattle.cells.specs.Numbers.{Row, given}
+use Rattle.cells.proofs.Numbers.{given-append}
 use Rattle.seal.specs.Check.{checkWrong}
 use Rattle.blocks.specs.Block.{blockRows, usedOf, letterWrong, placeWrong, usedWrong, paddingWrong, faultOf}
 
 -- what is asked after a block counts only where the block is right
 pub after-block : (first i n : ℕ) (b : List ℕ) (rest : List Row)
-    → given (blockRows first i n b rest) ≡ pick (eqb (given (blockRows first i n b [])) 0) (given rest) (given (blockRows first i n b []))
+    → given (blockRows first i n b rest) ≡ (if eqb (given (blockRows first i n b [])) 0 then given rest else given (blockRows first i n b []))
 after-block first i n b rest = given-append (blockRows first i n b []) rest refl
 
 -- a block at which nothing is refused is right in each point, and so is what comes after it
@@ -31,7 +33,7 @@ none-of-two true q e = (e, absurd (let z : _≡_ {A = ℕ} 0 1 = cc in omega ari
 none-of-two false q e = (refl, e)
 
 -- a row that gives nothing does not hold, and neither does the rest
-pub not-given : (t : Bool) (k x : ℕ) → pick t (suc k) x ≡ 0 → (t ≡ false) × (x ≡ 0)
+pub not-given : (t : Bool) (k x : ℕ) → (if t then suc k else x) ≡ 0 → (t ≡ false) × (x ≡ 0)
 not-given true k x e = absurd (omega arith)
 not-given false k x e = (refl, e)
 
@@ -52,13 +54,13 @@ right-given first i n b rest r = simp (r .check, r .letter, r .place, r .used, r
 pub used-last : (i n : ℕ) (b : List ℕ) → i + 1 ≡ n → usedWrong i n b ≡ false → (0 < usedOf b) × (usedOf b ≤ 505)
 unfolding usedWrong
 used-last i n b e w =
-    let t = none-of-two (eqb (usedOf b) 0) (ltb 505 (usedOf b)) (sym (pick-true (eqb (i + 1) n) _ _ (eq-eqb _ _ e)) ∙ w) in
+    let t = none-of-two (eqb (usedOf b) 0) (ltb 505 (usedOf b)) (sym (if-true (eqb (i + 1) n) _ _ (eq-eqb _ _ e)) ∙ w) in
     let z : usedOf b ≡ 0 → ⊥ = eqb-false _ _ (t .0) in
     (omega arith, ltb-false _ _ (t .1))
 
 pub used-other : (i n : ℕ) (b : List ℕ) → (i + 1 ≡ n → ⊥) → usedWrong i n b ≡ false → usedOf b ≡ 505
 unfolding usedWrong
-used-other i n b e w = eqb-true _ _ (not-false _ (sym (pick-false (eqb (i + 1) n) _ _ (ne-eqb _ _ e)) ∙ w))
+used-other i n b e w = eqb-true _ _ (not-false _ (sym (if-false (eqb (i + 1) n) _ _ (ne-eqb _ _ e)) ∙ w))
 
 -- of 512 bytes as a block of the file the table alone decides
 pub fault-given : (first i n : ℕ) (b : List ℕ) → length b ≡ 512 → i < n → faultOf first i n b ≡ given (blockRows first i n b [])

@@ -7,7 +7,7 @@ use lib.ListN.{length, take, drop, replicate, length-append, length-take, length
 use lib.Seq.{take-nil, drop-drop, length-take-le, take-all, take-take, take-append-add, drop-append-add}
 use Rattle.cells.specs.Numbers.{given}
 use Rattle.blocks.specs.Block.{usedOf}
-use Rattle.blocks.specs.Tables.{right, used-last, used-other}
+use Rattle.blocks.proofs.Tables.{right, used-last, used-other}
 use Rattle.loadfile.specs.Layout.{headOf, frontOf, blockOf}
 use Rattle.loadfile.specs.File.{blocksOf, blocksRows, payloadOf, placesOf}
 

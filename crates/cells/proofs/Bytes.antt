@@ -1,4 +1,4 @@
--- Lists whose elements are bytes, and what keeps them so; and a list with a part laid over it. Assumes nothing.
+-- What keeps a list of bytes one; and a list with a part laid over it, place by place. Assumes nothing.
 use mathlib.Core.Path.{_≡_, refl, sym, ap, _∙_, subst}
 use mathlib.Core.Bool.{Bool, true, false}
 use mathlib.Core.List.{List, [], _∷_, _++_}
@@ -8,11 +8,7 @@ use lib.ListN.{length, getD, take, drop, set, replicate, length-append, length-t
 use lib.Seq.{getD-append-add, getD-take, getD-drop, getD-set-same, getD-set-other, length-take-le, set-out}
 use lib.Dec.{ltb, eqb}
 use borrow.Author.Tests.{ltb-true, ltb-false, eqb-true, eqb-false}
-use Rattle.cells.specs.Lists.{overlaid}
-
--- every element is below 256
-abbrev pub Bytes : List ℕ → Type 0
-Bytes xs = (i : ℕ) → getD xs i 0 < 256
+use Rattle.cells.specs.Lists.{overlaid, Bytes}
 
 pub bytes-append : (xs ys : List ℕ) → Bytes xs → Bytes ys → Bytes (xs ++ ys)
 bytes-append xs ys p q i = go (ltb i (length xs)) refl

@@ -7,10 +7,11 @@ use native.Mathlib.Omega.{arith}
 use lib.ListN.{length, take, drop, length-drop}
 use lib.Seq.{drop-drop, length-take-le}
 use lib.Dec.{eqb}
-use Rattle.cells.specs.Pick.{pick}
-use Rattle.cells.specs.Numbers.{Row, given, numbered, given-append}
+use Rattle.cells.specs.Choice.{if_then_else_}
+use Rattle.cells.specs.Numbers.{Row, given, numbered}
+use Rattle.cells.proofs.Numbers.{given-append}
 use Rattle.blocks.specs.Block.{blockRows}
-use Rattle.blocks.specs.Tables.{after-block}
+use Rattle.blocks.proofs.Tables.{after-block}
 use Rattle.loadfile.specs.File.{blocksRows}
 
 -- the rows of the blocks stand before those that are asked after them, and none has the number 0
@@ -23,7 +24,7 @@ blocks-numbered zero first i n f = refl
 blocks-numbered (suc left) first i n f = blocks-numbered left first (i + 1) n (drop 512 f)
 
 pub after-blocks : (left first i n : ℕ) (f : List ℕ) (rest : List Row)
-    → given (blocksRows left first i n f rest) ≡ pick (eqb (given (blocksRows left first i n f [])) 0) (given rest) (given (blocksRows left first i n f []))
+    → given (blocksRows left first i n f rest) ≡ (if eqb (given (blocksRows left first i n f [])) 0 then given rest else given (blocksRows left first i n f []))
 after-blocks left first i n f rest =
     ap given (blocks-append left first i n f rest) ∙ given-append (blocksRows left first i n f []) rest (blocks-numbered left first i n f)
 
@@ -36,14 +37,14 @@ block-cut i n f h e =
 -- a walk over the blocks, at block i: the rest of the walk, where this block is right
 pub turn : (first i n : ℕ) (f : List ℕ) → i < n
     → given (blocksRows (n - i) first i n (drop (512 * i) f) [])
-    ≡ pick (eqb (given (blockRows first i n (take 512 (drop (512 * i) f)) [])) 0)
-    (given (blocksRows (n - (i + 1)) first (i + 1) n (drop (512 * (i + 1)) f) []))
-    (given (blockRows first i n (take 512 (drop (512 * i) f)) []))
+    ≡ (if eqb (given (blockRows first i n (take 512 (drop (512 * i) f)) [])) 0
+    then given (blocksRows (n - (i + 1)) first (i + 1) n (drop (512 * (i + 1)) f) [])
+    else given (blockRows first i n (take 512 (drop (512 * i) f)) []))
 turn first i n f h =
     let B = take 512 (drop (512 * i) f) in
     let e : n - i ≡ suc (n - (i + 1)) = omega arith in
     let d : 512 * i + 512 ≡ 512 * (i + 1) = omega arith in
     ap (λ (k : ℕ). given (blocksRows k first i n (drop (512 * i) f) [])) e
     ∙ after-block first i n B (blocksRows (n - (i + 1)) first (i + 1) n (drop 512 (drop (512 * i) f)) [])
-    ∙ ap (λ (z : List ℕ). pick (eqb (given (blockRows first i n B [])) 0) (given (blocksRows (n - (i + 1)) first (i + 1) n z [])) (given (blockRows first i n B [])))
+    ∙ ap (λ (z : List ℕ). (if eqb (given (blockRows first i n B [])) 0 then given (blocksRows (n - (i + 1)) first (i + 1) n z []) else given (blockRows first i n B [])))
     (drop-drop 512 (512 * i) f ∙ ap (λ (k : ℕ). drop k f) d)
