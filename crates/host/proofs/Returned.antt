@@ -26,7 +26,8 @@ use Rattle.loader.specs.declared.Turn.the-variants.{Out, Over, Barred}
 use Rattle.stepper.specs.Front.{stepOf, scratchAfter}
 use Rattle.stepper.proofs.Claims as loader-claims
 use Rattle.run.specs.declared.Ran.{Ran}
-use Rattle.run.specs.Runs.{runRows, runNumber, ranOf, bytesOf, scratchOf}
+use Rattle.run.specs.Runs.{runRows, runNumber, ranOf, bytesOf, scratchOf, RunLeft}
+use Rattle.run.proofs.Leaving.{left-refused}
 use Rattle.load.specs.Loads.{loadNumber, loadedOf, arrayLeft, wantedLeft, scratchLeft}
 use Rattle.load.proofs.Claims as load-claims
 use Rattle.loadfile.specs.File.{Outcome, refused, made, limit, inRoom, leftIn, readerOf, writerOf, readAs, writtenAs}
@@ -114,13 +115,13 @@ module _ (d : DeviceNumbers) (s : StateNumbers) (rp vpp k : ℕ) (xs w sc : List
 
   pub run-refused : (m : ℕ) → (m ≡ 0 → ⊥) → numberOfRun ≡ m
       → (runOf d s rp vpp k xs w sc ≡ record { count = 0; end = m; address = 0; state = s }) × (arrayRun d s rp vpp k xs w sc ≡ xs) × (scratchRun d s rp vpp k xs w sc ≡ sc)
-  unfolding runOf arrayRun scratchRun ranOf bytesOf scratchOf
+  unfolding runOf arrayRun scratchRun
   run-refused m z e =
-      let q : eqb numberOfRun 0 ≡ false = ne-eqb numberOfRun 0 (λ (h : numberOfRun ≡ 0). z (sym e ∙ h)) in
+      let q = left-refused (deviceIn d) (stateIn s) (pinsIn rp vpp) k xs w sc (λ (h : numberOfRun ≡ 0). z (sym e ∙ h)) in
       let t = state-same s in (
-        ap (λ (r : Ran). ranOut s r) (if-false (eqb numberOfRun 0) _ _ q) ∙ (λ i. record { count = 0; end = e i; address = 0; state = t i }),
-        if-false (eqb numberOfRun 0) _ xs q,
-        if-false (eqb numberOfRun 0) _ sc q,
+        ap (λ (r : RunLeft). ranOut s (r .ran)) q ∙ (λ i. record { count = 0; end = e i; address = 0; state = t i }),
+        ap (λ (r : RunLeft). r .bytes) q,
+        ap (λ (r : RunLeft). r .scratch) q,
       )
 
   -- numbers that stand for no state have the number 3, after 1 and 2

@@ -18,7 +18,8 @@ use Rattle.loader.specs.declared.Stage.the-variants.{Clearing}
 use Rattle.stepper.specs.Front.{recordAt}
 use Rattle.run.specs.declared.Ran.{Ran}
 use Rattle.run.specs.Turns.{Config, isEnded, answerTo, moved, after, bound}
-use Rattle.run.specs.Runs.{runRows, runNumber, begin, ranBy, driven, leftBy, ranOf, bytesOf, scratchOf}
+use Rattle.run.specs.Runs.{runRows, runNumber, begin, ranBy, driven, leftBy, ranOf, bytesOf, scratchOf, RunLeft}
+use Rattle.run.proofs.Leaving.{left-made, left-refused}
 use Rattle.run.proofs.Measure.{remains, remains-bound, remains-some, falls}
 use Rattle.run.proofs.Turning.{turn-going, ended-stays}
 
@@ -136,21 +137,14 @@ module _ (d : Device) (s : State) (p : Pins) (k : ℕ) (xs w sc : List ℕ) wher
   refusalBy m = record { count = 0; end = m; address = 0; state = s }
 
   refused-ran : (number ≡ 0 → ⊥) → (ranOf d s p k xs w sc ≡ refusalBy number) × (bytesOf d s p k xs w sc ≡ xs) × (scratchOf d s p k xs w sc ≡ sc)
-  unfolding ranOf bytesOf scratchOf
-  refused-ran z = (
-    if-false (eqb number 0) (ranBy (leftBy d s p k xs w sc)) (refusalBy number) (ne-eqb number 0 z),
-    if-false (eqb number 0) _ xs (ne-eqb number 0 z),
-    if-false (eqb number 0) (leftBy d s p k xs w sc .scratch) sc (ne-eqb number 0 z),
-  )
+  refused-ran z =
+      let e = left-refused d s p k xs w sc z in (ap (λ (r : RunLeft). r .ran) e, ap (λ (r : RunLeft). r .bytes) e, ap (λ (r : RunLeft). r .scratch) e)
 
   accepted-ran : number ≡ 0
       → (ranOf d s p k xs w sc ≡ ranBy (driven d w beginning)) × (bytesOf d s p k xs w sc ≡ driven d w beginning .bytes) × (scratchOf d s p k xs w sc ≡ driven d w beginning .scratch)
-  unfolding ranOf bytesOf scratchOf leftBy
-  accepted-ran z = (
-    if-true (eqb number 0) (ranBy (leftBy d s p k xs w sc)) (refusalBy number) (eq-eqb number 0 z),
-    if-true (eqb number 0) (leftBy d s p k xs w sc .bytes) xs (eq-eqb number 0 z),
-    if-true (eqb number 0) (leftBy d s p k xs w sc .scratch) sc (eq-eqb number 0 z),
-  )
+  unfolding leftBy
+  accepted-ran z =
+      let e = left-made d s p k xs w sc z in (ap (λ (r : RunLeft). r .ran) e, ap (λ (r : RunLeft). r .bytes) e, ap (λ (r : RunLeft). r .scratch) e)
 
   -- a run that nothing refuses makes a cycle
   some-cycle : 0 < driven d w beginning .count

@@ -1,3 +1,4 @@
+pub mod Leaving
 pub mod Measure
 pub mod Turning
 pub mod Good

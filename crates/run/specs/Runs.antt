@@ -75,14 +75,32 @@ driven d w c = after (bound (length w)) d w c
 unfoldable pub leftBy : Device → State → Pins → ℕ → List ℕ → List ℕ → List ℕ → Config
 leftBy d s p k xs w sc = driven d w (begin d s (recordAt (d .part) p k Clearing) xs sc)
 
--- what a run returns, and what it leaves in the array and in scratch; a refusal counts no cycle and touches nothing
-unfoldable pub ranOf : Device → State → Pins → ℕ → List ℕ → List ℕ → List ℕ → Ran
-ranOf d s p k xs w sc =
-    if eqb (runNumber d s p k (length xs) (length w) (length sc)) 0 then ranBy (leftBy d s p k xs w sc)
-    else record { count = 0; end = runNumber d s p k (length xs) (length w) (length sc); address = 0; state = s }
+-- what a run returns and leaves: its result, the array and scratch
+pub record RunLeft : Type 0 where
+  pub ran : Ran
+  pub bytes : List ℕ
+  pub scratch : List ℕ
 
-unfoldable pub bytesOf : Device → State → Pins → ℕ → List ℕ → List ℕ → List ℕ → List ℕ
-bytesOf d s p k xs w sc = if eqb (runNumber d s p k (length xs) (length w) (length sc)) 0 then leftBy d s p k xs w sc .bytes else xs
+-- .. of a load that was made
+abbrev pub runMade : Config → RunLeft
+runMade c = record { ran = ranBy c; bytes = c .bytes; scratch = c .scratch }
 
-unfoldable pub scratchOf : Device → State → Pins → ℕ → List ℕ → List ℕ → List ℕ → List ℕ
-scratchOf d s p k xs w sc = if eqb (runNumber d s p k (length xs) (length w) (length sc)) 0 then leftBy d s p k xs w sc .scratch else sc
+-- .. of a run that is refused: no cycle is counted and nothing is touched
+abbrev pub runRefused : ℕ → State → List ℕ → List ℕ → RunLeft
+runRefused n s xs sc = record { ran = record { count = 0; end = n; address = 0; state = s }; bytes = xs; scratch = sc }
+
+-- a run: refused by its number, or the load made to its end
+unfoldable pub runLeft : Device → State → Pins → ℕ → List ℕ → List ℕ → List ℕ → RunLeft
+runLeft d s p k xs w sc =
+    if eqb (runNumber d s p k (length xs) (length w) (length sc)) 0 then runMade (leftBy d s p k xs w sc)
+    else runRefused (runNumber d s p k (length xs) (length w) (length sc)) s xs sc
+
+-- its three parts
+abbrev pub ranOf : Device → State → Pins → ℕ → List ℕ → List ℕ → List ℕ → Ran
+ranOf d s p k xs w sc = runLeft d s p k xs w sc .ran
+
+abbrev pub bytesOf : Device → State → Pins → ℕ → List ℕ → List ℕ → List ℕ → List ℕ
+bytesOf d s p k xs w sc = runLeft d s p k xs w sc .bytes
+
+abbrev pub scratchOf : Device → State → Pins → ℕ → List ℕ → List ℕ → List ℕ → List ℕ
+scratchOf d s p k xs w sc = runLeft d s p k xs w sc .scratch

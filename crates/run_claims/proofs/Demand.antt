@@ -39,7 +39,8 @@ use Rattle.loader.specs.declared.Stage.{Stage}
 use Rattle.chip.specs.declared.Cycle.{Cycle}
 use lib.Bits.{bitOr}
 use Rattle.run.specs.Turns.{Config, isEnded, turnOf, after, bound}
-use Rattle.run.specs.Runs.{underWay, runNumber, begin, driven, leftBy, ranBy, ranOf, bytesOf, scratchOf}
+use Rattle.run.specs.Runs.{underWay, runNumber, begin, driven, leftBy, ranBy, RunLeft, runMade, runLeft, ranOf, bytesOf, scratchOf}
+use Rattle.run.proofs.Leaving.{left-made}
 use Rattle.run_claims.specs.Wear.{noted, begunTurn, begunIn, heldIn, baseOf, programsIn, formula, operationsOf}
 use Rattle.run_claims.specs.Made.{madeIn, smoothTurn, smoothIn, openingThen, closingOf, cyclesOf}
 use Rattle.run_claims.specs.Ends.{asWanted, eraseTried, programTried, faultCycles}
@@ -278,18 +279,15 @@ module _ (d : Device) (s : State) (p : Pins) (k : ℕ) (xs w sc : List ℕ) (t :
       (faultCycles p a w ys) (ap (λ (cs : List Cycle). openingThen p a (length w) cs) (if-false (risesIn w ys) _ _ y))
 
   -- what a run returns and leaves, where it is known how it is left
-  go-on : eqb (runNumber d s p k (length xs) (length w) (length sc)) 0 ≡ true
-  go-on = eq-eqb (runNumber d s p k (length xs) (length w) (length sc)) 0 (t .taken)
-
   module _ (e : Config) (es : List Effect) (cs : List Cycle) (left : Left d s p k xs w sc e es cs) where
+    run-left : runLeft d s p k xs w sc ≡ runMade e
+    run-left = left-made d s p k xs w sc (t .taken) ∙ ap runMade (left .end)
+
     pub ran-left : ranOf d s p k xs w sc ≡ ranBy e
-    unfolding ranOf
-    ran-left = if-true (eqb (runNumber d s p k (length xs) (length w) (length sc)) 0) _ _ go-on ∙ ap ranBy (left .end)
+    ran-left = ap (λ (r : RunLeft). r .ran) run-left
 
     pub bytes-left : bytesOf d s p k xs w sc ≡ e .bytes
-    unfolding bytesOf
-    bytes-left = if-true (eqb (runNumber d s p k (length xs) (length w) (length sc)) 0) _ _ go-on ∙ ap (λ (c : Config). c .bytes) (left .end)
+    bytes-left = ap (λ (r : RunLeft). r .bytes) run-left
 
     pub scratch-left : scratchOf d s p k xs w sc ≡ e .scratch
-    unfolding scratchOf
-    scratch-left = if-true (eqb (runNumber d s p k (length xs) (length w) (length sc)) 0) _ _ go-on ∙ ap (λ (c : Config). c .scratch) (left .end)
+    scratch-left = ap (λ (r : RunLeft). r .scratch) run-left

@@ -1,13 +1,11 @@
 use mathlib.Core.Path.{_≡_, refl, sym, ap, _∙_, subst}
-use borrow.Author.Tests.{eq-eqb, ne-eqb}
 use lib.ListN.{length}
-use lib.Dec.{eqb}
-use Rattle.cells.proofs.Choice.{if-true, if-false}
 use Rattle.loader.specs.declared.Loader.{Loader}
 use Rattle.loader.specs.declared.Stage.the-variants.{Clearing}
 use Rattle.stepper.specs.Front.{recordAt}
 use Rattle.run.specs.Turns.{Config}
-use Rattle.run.specs.Runs.{runNumber, begin, ranBy, driven, leftBy, ranOf, bytesOf, scratchOf}
+use Rattle.run.specs.Runs.{runNumber, begin, ranBy, driven, leftBy, RunLeft}
+use Rattle.run.proofs.Leaving.{left-made, left-refused}
 use borrow.Author.Needs.{needs}
 use Rattle.run.proofs.run.Statement.{statement}
 use Rattle.run.proofs.run.Tie as tie
@@ -34,32 +32,32 @@ same-length-2 : tie.Need-same-length-2
 same-length-2 c = search needs
 
 returns : tie.Need-returns
-unfolding ranOf bytesOf scratchOf leftBy
+unfolding leftBy
 returns c =
     let a = c .before .before .before .before .before .before .before .before .before .before .before .before .before .before .args in
     let xs = a .array .now in
     let w = a .wanted .now in
     let sc = a .scratch .now in
-    let n = runNumber (a .d) (a .s) (a .p) (a .block) (length (a .array .now)) (length (a .wanted .now)) (length (a .scratch .now)) in
-    let z = eq-eqb n 0 (sym (c .before .before .before .before .before .before .before .before .before .before .run-number .ensures) ∙ c .before .before .before .before .before .before .before .before .before .if1 .taken) in
+    let z : runNumber (a .d) (a .s) (a .p) (a .block) (length xs) (length w) (length sc) ≡ 0 =
+    sym (c .before .before .before .before .before .before .before .before .before .before .run-number .ensures) ∙ c .before .before .before .before .before .before .before .before .before .if1 .taken in
     let e : c .before .before .before .before .before .before .before .record-at .result ≡ recordAt (a .d .part) (a .p) (a .block) Clearing = c .before .before .before .before .before .before .before .record-at .ensures in
-    let f : Loader → Config = λ (l : Loader). driven (a .d) w (begin (a .d) (a .s) l xs sc) in (
-      c .before .before .before .before .drive .ensures .0 ∙ ap (λ (l : Loader). ranBy (f l)) e ∙ sym (if-true (eqb n 0) _ _ z),
+    let f : Loader → Config = λ (l : Loader). driven (a .d) w (begin (a .d) (a .s) l xs sc) in
+    let m = left-made (a .d) (a .s) (a .p) (a .block) xs w sc z in (
+      c .before .before .before .before .drive .ensures .0 ∙ ap (λ (l : Loader). ranBy (f l)) e ∙ sym (ap (λ (r : RunLeft). r .ran) m),
       (
-        c .before .before .before .before .drive .ensures .1 .1 ∙ ap (λ (l : Loader). f l .bytes) e ∙ sym (if-true (eqb n 0) _ _ z),
-        c .before .before .before .before .drive .ensures .1 .0 ∙ ap (λ (l : Loader). f l .scratch) e ∙ sym (if-true (eqb n 0) _ _ z),
+        c .before .before .before .before .drive .ensures .1 .1 ∙ ap (λ (l : Loader). f l .bytes) e ∙ sym (ap (λ (r : RunLeft). r .bytes) m),
+        c .before .before .before .before .drive .ensures .1 .0 ∙ ap (λ (l : Loader). f l .scratch) e ∙ sym (ap (λ (r : RunLeft). r .scratch) m),
       ),
     )
 
 returns-2 : tie.Need-returns-2
-unfolding ranOf bytesOf scratchOf
 returns-2 c =
     let a = c .before .before .before .before .before .args in
     let n = runNumber (a .d) (a .s) (a .p) (a .block) (length (a .array .now)) (length (a .wanted .now)) (length (a .scratch .now)) in
     let e : c .before .run-number .result ≡ n = c .before .run-number .ensures in
-    let z = ne-eqb n 0 (λ q. c .if1 .left (e ∙ q)) in (
-      (λ i. record { count = 0; end = e i; address = 0; state = a .s }) ∙ sym (if-false (eqb n 0) _ _ z),
-      (sym (if-false (eqb n 0) _ _ z), sym (if-false (eqb n 0) _ _ z)),
+    let m = left-refused (a .d) (a .s) (a .p) (a .block) (a .array .now) (a .wanted .now) (a .scratch .now) (λ q. c .if1 .left (e ∙ q)) in (
+      (λ i. record { count = 0; end = e i; address = 0; state = a .s }) ∙ sym (ap (λ (r : RunLeft). r .ran) m),
+      (sym (ap (λ (r : RunLeft). r .bytes) m), sym (ap (λ (r : RunLeft). r .scratch) m)),
     )
 
 pub run-spec : {M : Type 1} → statement M
