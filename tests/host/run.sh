@@ -2,20 +2,22 @@
 # run.sh [-v] [SEED]: holds the library against a second implementation in C on random cases, then breaks that second
 # implementation in twelve ways, one at a time, and looks whether each is noticed. -v prints what was met, and how often.
 set -eu
-here=$(cd "$(dirname "$0")" && pwd)
+here=$(dirname -- "$(readlink -f -- "$0")")
+# shellcheck source=tests/host/tools.sh
 . "$here/tools.sh"
 archive
+compiler
 
 build() { # build PROGRAM SLIP
     $CC -std=c11 -O2 -Wall -Wextra -Werror -static -DBREAK="$2" -I "$inc" "$here"/*.c "$lib" -o "$1" ||
-        fail "the tests could not be built"
+        fail 3 "the tests could not be built"
 }
 
 build "$out/against" 0
 status=0
 $RUN "$out/against" "$@" || status=$?
-[ "$status" != 1 ] || fail "the library and the second implementation differ"
-[ "$status" = 0 ] || fail "the tests did not run to their end"
+[ "$status" != 1 ] || fail 1 "the library and the second implementation differ"
+[ "$status" = 0 ] || fail 1 "the tests did not run to their end"
 
 slips='1:a program stores its data without AND
 2:FFH after 40H goes back to read array
@@ -34,7 +36,8 @@ while IFS=: read -r number slip; do
     build "$out/broken" "$number"
     status=0
     $RUN "$out/broken" "$@" >"$out/broken.log" 2>&1 </dev/null || status=$?
-    [ "$status" = 1 ] && tail -n 1 "$out/broken.log" | grep -q '^MISMATCH' || fail "not noticed: $slip"
+    [ "$status" = 1 ] || fail 1 "not noticed: $slip"
+    tail -n 1 "$out/broken.log" | grep -q '^MISMATCH' || fail 1 "not noticed as a mismatch: $slip"
     noticed=$((noticed + 1))
     printf 'noticed: %s\n' "$slip"
 done <<<"$slips"

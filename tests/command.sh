@@ -1,0 +1,168 @@
+#!/usr/bin/env bash
+# command.sh: drives ./torfbarke the way a person would: every way to hand over a trace, every fault of a line, wrong calls, a full
+# disk, a first call that builds, calls at the same time. Where TORFBARKE_PROGRAMS names a folder with the programs they are taken
+# from there; otherwise the first call proves and builds them. Expected answers are those of the page's own example.
+set -eu
+unset CDPATH
+root=$(cd "$(dirname "$0")/.." && pwd)
+work=$(mktemp -d)
+trap 'rm -rf "$work"' EXIT
+cases=0
+
+wrong() {
+    printf 'tests/command.sh: %s\n' "$1" >&2
+    sed 's/^/  out: /' "$work/out" | head -n 5 >&2
+    sed 's/^/  err: /' "$work/err" | head -n 5 >&2
+    exit 1
+}
+
+# try NAME STATUS OUT ERR: the last call, kept by `call`, ended so: standard output is the text OUT, standard error has the words ERR
+call() {
+    status=0
+    "$@" >"$work/out" 2>"$work/err" || status=$?
+}
+try() {
+    cases=$((cases + 1))
+    [ "$status" = "$2" ] || wrong "$1: status $status, not $2"
+    [ "$3" = '*' ] || printf '%s' "$3" | cmp -s - "$work/out" || wrong "$1: other answers"
+    if [ -z "$4" ]; then [ ! -s "$work/err" ] || wrong "$1: words on standard error"; else grep -qF -- "$4" "$work/err" || wrong "$1: standard error lacks '$4'"; fi
+}
+
+page='W 1 0 12000 0010 40
+W 1 0 12000 0010 5A
+R 1 0 12000 0010 00
+R 1 0 12000 0010 00
+W 1 0 12000 0000 FF
+R 1 0 12000 0010 00
+W 1 0 12000 0000 00
+R 1 0 05000 4000 00
+'
+answers='N -- 80
+N -- 00
+D 00 00
+D 80 80
+N -- 80
+D 5A 80
+X 07 80
+X 05 80
+'
+printf '%s' "$page" >"$work/page.txt"
+tb=$root/torfbarke
+"$tb" replay "$work/page.txt" >/dev/null # whatever has to be built is built here
+
+# the ways to hand over a trace
+call "$tb" replay "$work/page.txt"; try 'a file' 0 "$answers" ''
+call "$tb" replay <"$work/page.txt"; try 'standard input' 0 "$answers" ''
+# shellcheck disable=SC2002
+piped() { cat "$work/page.txt" | "$tb" replay "$@"; }
+call piped; try 'a pipe' 0 "$answers" ''
+call piped -; try 'a pipe, by its name' 0 "$answers" ''
+call piped /dev/stdin; try '/dev/stdin' 0 "$answers" ''
+mkfifo "$work/fifo"
+cat "$work/page.txt" >"$work/fifo" &
+call "$tb" replay "$work/fifo"; try 'a FIFO' 0 "$answers" ''
+ln -s "$tb" "$work/link"
+call "$work/link" replay "$work/page.txt"; try 'through a link' 0 "$answers" ''
+[ ! -e "$work/target" ] || wrong 'a folder is left beside the link'
+cp "$work/page.txt" "$work/-x"
+in_work() { (cd "$work" && "$@"); }
+call in_work "$tb" replay ./-x; try 'a file named -x' 0 "$answers" ''
+call in_work "$tb" replay -- -x; try 'a file named -x, after --' 0 "$answers" ''
+call in_work "$tb" replay -x; try 'an option that is none' 2 '' './-x'
+call in_work env CDPATH=/tmp "$tb" replay page.txt; try 'with CDPATH' 0 "$answers" ''
+: >"$work/empty"
+call "$tb" replay "$work/empty"; try 'an empty trace' 0 '' ''
+call "$tb" replay --sample; try 'the sample' 0 '*' ''
+grep -q '^?' "$work/out" && wrong 'the sample does not end well'
+call "$tb" replay "$root/samples/bad-line.txt"; try 'the sample of a bad line' 1 'N -- 80
+? 0002
+' 'small letter'
+call "$tb" replay --words "$work/page.txt"; try 'in words' 0 '*' ''
+[ "$(wc -l <"$work/out")" = 8 ] || wrong 'in words: not a line for each'
+grep -q 'W 1 0 12000 0000 00  X 07 80 .*refused by 7' "$work/out" || wrong 'in words: 7 is not told'
+grep -q 'R 1 0 12000 0010 00  D 5A 80 .*gave 5A; ready' "$work/out" || wrong 'in words: the byte is not told'
+
+# wrong calls
+call "$tb"; try 'no word' 2 '' 'replay'
+call "$tb" --help; try '--help' 0 '*' ''
+call "$tb" replay --help; try 'replay --help' 0 '*' ''
+grep -q 'Exit status' "$work/out" || wrong 'replay --help: no statuses'
+call "$tb" reply; try 'a word that is none' 2 '' "no word 'reply'"
+call "$tb" replay ''; try 'an empty name' 2 '' 'empty'
+call "$tb" replay "$work/nowhere"; try 'no such file' 2 '' 'there is no file'
+call "$tb" replay "$work"; try 'a folder' 2 '' 'folder'
+call "$tb" replay "$work/page.txt" "$work/page.txt"; try 'two files' 2 '' 'one trace'
+call "$tb" replay --sample "$work/page.txt"; try 'a file and the sample' 2 '' 'not both'
+if command -v script >/dev/null; then
+    call script -qec "'$tb' replay" /dev/null </dev/null
+    cases=$((cases + 1))
+    [ "$status" = 2 ] || wrong 'on a terminal: another status'
+    grep -q 'no trace' "$work/out" || wrong 'on a terminal: nothing is told'
+fi
+full() { "$tb" replay "$work/page.txt" >/dev/full; }
+call full; try 'a full disk' 4 '' 'could not be written'
+
+# what is wrong with a line, in words: the bytes of the second line (the first where a mark has to come first)
+line() { # line NAME WORDS BYTES
+    printf 'W 1 0 12000 0010 40\n%b' "$3" >"$work/bad.txt"
+    call "$tb" replay "$work/bad.txt"; try "$1" 1 'N -- 80
+? 0002
+' "$2"
+}
+line 'too short' 'too short: 5 letters' 'R 1 0\nR 1 0 12000 0010 00\n'
+line 'too long' 'too long: 20 letters' 'R 1 0 12000 0010 000\n'
+line 'a carriage return' 'carriage return' 'R 1 0 12000 0010 00\r\n'
+line 'a blank line' 'blank' '\nR 1 0 12000 0010 00\n'
+line 'a small letter at column 14' "column 14 has 'a', a small letter" 'R 1 0 12000 0a10 00\n'
+line 'a tab' 'column 2 has a tab' 'R\t1 0 12000 0010 00\n'
+line 'no newline' 'no newline' 'R 1 0 12000 0010 00'
+line 'a wrong kind' 'column 1' 'X 1 0 12000 0010 00\n'
+line 'a sign' "column 7 has '-'" 'R 1 0 -2000 0010 00\n'
+line 'a byte of zero' 'byte 00H' 'R 1 0 12000\00000010 00\n'
+printf '\357\273\277%s' "$page" >"$work/bad.txt"
+call "$tb" replay "$work/bad.txt"; try 'a byte-order mark' 1 '? 0001
+' 'byte-order mark'
+yes 'I 1 0 12000 0000 00' | head -n 9998 >"$work/most.txt"
+call "$tb" replay "$work/most.txt"; try '9,998 lines' 0 '*' ''
+[ "$(grep -c '^N -- 80$' "$work/out")" = 9998 ] || wrong '9,998 lines: not all answered'
+yes 'I 1 0 12000 0000 00' | head -n 20000 >"$work/more.txt"
+call "$tb" replay "$work/more.txt"; try 'too many lines' 1 '*' 'at most 9,998'
+[ "$(tail -n 1 "$work/out")" = '? 9999' ] || wrong 'too many lines: no mark'
+
+# a first call, with a kit that builds at once: calls at the same time wait for one build, a failed build is told, no kit is told
+mkdir "$work/kit"
+cat >"$work/kit/rt" <<'KIT'
+#!/bin/sh
+[ "$1" = doc ] && { echo "$REAL_DOC"; exit 0; }
+echo built >>"$BUILDS"
+[ -z "${BUILD_FAILS-}" ] || { echo 'rt: not proved'; exit 1; }
+sleep 1
+mkdir -p target/bin
+cp "$PROGRAM" target/bin/trace
+echo 'rt: cells proved (1 s)'
+echo 'rt: ok, 1 crates proved'
+KIT
+chmod +x "$work/kit/rt"
+if [ -n "${TORFBARKE_PROGRAMS-}" ]; then
+    export PROGRAM=$TORFBARKE_PROGRAMS/trace BUILDS=$work/builds
+    REAL_DOC=$(rt doc 2>/dev/null || true)
+    export REAL_DOC
+    first() { env -u TORFBARKE_PROGRAMS XDG_CACHE_HOME="$work/cache$1" PATH="$work/kit:$PATH" "$tb" replay "$work/page.txt"; }
+    for pair in 1 2 3 4 5; do
+        first "$pair" >"$work/one" 2>"$work/one.err" &
+        call first "$pair"
+        wait $! || wrong 'two calls at once: the other failed'
+        cases=$((cases + 1))
+        [ "$status" = 0 ] || wrong 'two calls at once: one failed'
+        cmp -s "$work/out" "$work/one" || wrong 'two calls at once: answers differ'
+        [ "$(cat "$work/out")" = "${answers%?}" ] || wrong 'two calls at once: other answers'
+        [ "$(wc -l <"$work/builds")" = "$pair" ] || wrong 'two calls at once: built twice'
+    done
+    call first 6; try 'a first call tells what goes on' 0 "$answers" 'proved 1 of'
+    call first 6; try 'a second call is quiet' 0 "$answers" ''
+    export BUILD_FAILS=yes
+    call first 7; try 'a build that fails' 3 '' 'was not built'
+    without() { env -u TORFBARKE_PROGRAMS XDG_CACHE_HOME="$work/cache8" PATH=/usr/bin:/bin "$tb" replay "$work/page.txt"; }
+    PATH=/usr/bin:/bin command -v rt >/dev/null || { call without; try 'no kit' 3 '' 'kit is missing'; }
+fi
+printf 'tests/command.sh: %s cases, as expected\n' "$cases"
