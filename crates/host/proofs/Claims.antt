@@ -22,8 +22,9 @@ use Rattle.load.specs.Loads.{loadNumber, loadedOf, arrayLeft, wantedLeft, scrat
 use Rattle.seal.specs.Check.{checkOf}
 use Rattle.twin.specs.Twins.{deviceIn, pinsIn, noState, stateIn, stateOut, cycleOut, noRecord, loaderIn, loaderOut}
 use Rattle.twin.specs.Answers.{seenOut, valueOut, turnOut}
-use Rattle.short.specs.Cycled.{cycled, arrayCycled}
-use Rattle.host.specs.Calls.{started, steppedOf, scratchStepped, runOf, arrayRun, scratchRun, loadOf, arrayLoad, wantedLoad, scratchLoad, writtenOf, fileLeft, readOf, payloadLeft}
+use Rattle.twin.specs.declared.BlockNumbers.{BlockNumbers}
+use Rattle.host.specs.Geometry.{sizeGiven, blockGiven}
+use Rattle.host.specs.Calls.{cycled, arrayCycled, started, steppedOf, scratchStepped, runOf, arrayRun, scratchRun, loadOf, arrayLoad, wantedLoad, scratchLoad, writtenOf, fileLeft, readOf, payloadLeft}
 use Rattle.twin.specs.declared.DeviceNumbers.{DeviceNumbers}
 use Rattle.twin.specs.declared.StateNumbers.{StateNumbers}
 use Rattle.twin.specs.declared.BusNumbers.{BusNumbers}
@@ -111,6 +112,12 @@ load-typed = returned.load-typed
 -- Two results that a promise allows are equal, and so is what it leaves in each thing lent.
 pub fresh-unique : Unique (λ (r : StateNumbers). r ≡ stateOut freshState)
 fresh-unique = only (stateOut freshState)
+
+pub size-unique : (n : ℕ) → Unique (λ (r : ℕ). r ≡ sizeGiven n)
+size-unique n = only (sizeGiven n)
+
+pub block-unique : (n k : ℕ) → Unique (λ (r : BlockNumbers). r ≡ blockGiven n k)
+block-unique n k = only (blockGiven n k)
 
 pub cycle-unique : (d : DeviceNumbers) (s : StateNumbers) (c : BusNumbers) (xs rs : List ℕ) → Unique (λ (r : AnswerNumbers). r ≡ cycled d s c xs rs)
 cycle-unique d s c xs rs = only (cycled d s c xs rs)

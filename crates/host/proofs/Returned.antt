@@ -33,8 +33,7 @@ use Rattle.load.proofs.Claims as load-claims
 use Rattle.loadfile.specs.File.{Outcome, refused, made, limit, inRoom, leftIn, readerOf, writerOf, readAs, writtenAs}
 use Rattle.twin.specs.Twins.{deviceIn, pinsIn, noState, stateIn, stateOut, cycleIn, cycleOut, noRecord, loaderIn, loaderOut}
 use Rattle.twin.specs.Answers.{stateBack, loaderBack, seenOut, valueOut, answerOut, turnOut, ranOut, writtenOut, readOut}
-use Rattle.short.specs.Cycled.{cycled, arrayCycled}
-use Rattle.host.specs.Calls.{steppedOf, scratchStepped, runOf, arrayRun, scratchRun, loadOf, arrayLoad, wantedLoad, scratchLoad, writtenOf, fileLeft, readOf, payloadLeft}
+use Rattle.host.specs.Calls.{cycled, arrayCycled, steppedOf, scratchStepped, runOf, arrayRun, scratchRun, loadOf, arrayLoad, wantedLoad, scratchLoad, writtenOf, fileLeft, readOf, payloadLeft}
 use Rattle.twin.specs.declared.DeviceNumbers.{DeviceNumbers}
 use Rattle.twin.specs.declared.StateNumbers.{StateNumbers}
 use Rattle.twin.specs.declared.BusNumbers.{BusNumbers}

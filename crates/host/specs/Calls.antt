@@ -1,19 +1,29 @@
--- What each C function gives: the typed function's answer as numbers (a cycle's is in crate short). Assumes nothing.
+-- What each C function gives: the typed function's answer as numbers. Assumes nothing.
 use mathlib.Core.List.{List}
 use Prim.Native.Nat.{ℕ}
 use lib.ListN.{length}
+use Rattle.model.specs.Arrays.{answerOf, arrayAfter}
 use Rattle.stepper.specs.Front.{startOf, stepOf, scratchAfter}
 use Rattle.run.specs.Runs.{ranOf, bytesOf, scratchOf}
 use Rattle.load.specs.Loads.{loadedOf, arrayLeft, wantedLeft, scratchLeft}
 use Rattle.loadfile.specs.File.{limit, inRoom, leftIn, readerOf, writerOf, readAs, writtenAs}
-use Rattle.twin.specs.Twins.{deviceIn, pinsIn, stateIn, loaderIn, loaderOut}
-use Rattle.twin.specs.Answers.{loaderBack, turnOut, writtenOut, readOut, ranOut}
+use Rattle.twin.specs.Twins.{deviceIn, pinsIn, stateIn, cycleIn, loaderIn, loaderOut}
+use Rattle.twin.specs.Answers.{answerOut, loaderBack, turnOut, writtenOut, readOut, ranOut}
 use Rattle.twin.specs.declared.DeviceNumbers.{DeviceNumbers}
 use Rattle.twin.specs.declared.StateNumbers.{StateNumbers}
+use Rattle.twin.specs.declared.BusNumbers.{BusNumbers}
+use Rattle.twin.specs.declared.AnswerNumbers.{AnswerNumbers}
 use Rattle.twin.specs.declared.LoaderNumbers.{LoaderNumbers}
 use Rattle.twin.specs.declared.GivenNumbers.{GivenNumbers}
 use Rattle.twin.specs.declared.RanNumbers.{RanNumbers}
 use Rattle.twin.specs.declared.SizedNumbers.{SizedNumbers}
+
+-- a bus cycle: the answer, and the array
+unfoldable pub cycled : DeviceNumbers → StateNumbers → BusNumbers → List ℕ → List ℕ → AnswerNumbers
+cycled d s c xs rs = answerOut s (answerOf (deviceIn d) (stateIn s) (cycleIn c) xs rs)
+
+unfoldable pub arrayCycled : DeviceNumbers → StateNumbers → BusNumbers → List ℕ → List ℕ → List ℕ
+arrayCycled d s c xs rs = arrayAfter (deviceIn d) (stateIn s) (cycleIn c) xs rs
 
 -- a loader's start
 unfoldable pub started : ℕ → ℕ → ℕ → ℕ → List ℕ → List ℕ → GivenNumbers

@@ -2,6 +2,7 @@
 // it. include/torfbarke.h declares the same structs and functions.
 use device::Part;
 use twin::AnswerNumbers;
+use twin::BlockNumbers;
 use twin::BusNumbers;
 use twin::DeviceNumbers;
 use twin::GivenNumbers;
@@ -15,8 +16,8 @@ ghost use lib.ListN.{take};
 ghost use Rattle.chip.specs.States.{freshState};
 ghost use Rattle.seal.specs.Check.{checkOf};
 ghost use Rattle.twin.specs.Twins.{stateOut};
-ghost use Rattle.short.specs.Cycled.{cycled, arrayCycled};
-ghost use Rattle.host.specs.Calls.{started, steppedOf, scratchStepped, runOf, arrayRun, scratchRun, loadOf, arrayLoad, wantedLoad, scratchLoad, writtenOf, fileLeft, readOf, payloadLeft};
+ghost use Rattle.host.specs.Geometry.{sizeGiven, blockGiven};
+ghost use Rattle.host.specs.Calls.{cycled, arrayCycled, started, steppedOf, scratchStepped, runOf, arrayRun, scratchRun, loadOf, arrayLoad, wantedLoad, scratchLoad, writtenOf, fileLeft, readOf, payloadLeft};
 
 // A fresh device.
 #[no_mangle]
@@ -24,6 +25,42 @@ pub extern "C" fn tb_fresh() -> StateNumbers
     ensures { λ r. ⌜ r ≡ stateOut freshState ⌝ }
 {
     twin::states::state_out(model::fresh())
+}
+
+// The bytes of a part's array; 0 for a number that is no part's.
+#[no_mangle]
+pub extern "C" fn tb_size(part: u8) -> usize
+    ensures { λ r. ⌜ r ≡ sizeGiven part ⌝ }
+{
+    let known = Part { number: part };
+    if device::unknown_part(known) {
+        return 0;
+    }
+    device::size(known)
+}
+
+// The first address and the bytes of a flash block; both 0 where there is none.
+#[no_mangle]
+pub extern "C" fn tb_block(part: u8, block: u8) -> BlockNumbers
+    ensures { λ r. ⌜ r ≡ blockGiven part block ⌝ }
+{
+    let known = Part { number: part };
+    if device::unknown_part(known) {
+        return BlockNumbers {
+            first: 0,
+            length: 0,
+        };
+    }
+    if stepper::front::no_block(known, block) {
+        return BlockNumbers {
+            first: 0,
+            length: 0,
+        };
+    }
+    BlockNumbers {
+        first: device::start(known, block),
+        length: device::length(known, block),
+    }
 }
 
 // One bus cycle.
@@ -38,7 +75,11 @@ pub extern "C" fn tb_cycle(
     ensures { λ r. ⌜ r ≡ cycled device state bus (now (array .entry)) (now (residue .entry)) ⌝ }
     ensures { λ _. ⌜ now (array .exit) ≡ arrayCycled device state bus (now (array .entry)) (now (residue .entry)) ⌝ }
 {
-    short::cycle(device, state, bus, array, residue)
+    let d = twin::states::device_in(device);
+    let s = twin::states::state_in(state);
+    let c = twin::states::cycle_in(bus);
+    let a = model::cycle(d, s, c, array, residue);
+    twin::states::answer_out(state, a)
 }
 
 // The first cycle of a load.
@@ -131,8 +172,8 @@ pub extern "C" fn tb_load(
     rp: u8,
     vpp: u32,
     block: u8,
-    file: &[u8],
     letter: u8,
+    file: &[u8],
     array: &mut [u8],
     wanted: &mut [u8],
     scratch: &mut [u8],
@@ -151,7 +192,7 @@ pub extern "C" fn tb_load(
 
 // The writer of a load file.
 #[no_mangle]
-pub extern "C" fn tb_write(letter: u8, payload: &[u8], file: &mut [u8]) -> SizedNumbers
+pub extern "C" fn tb_file_write(letter: u8, payload: &[u8], file: &mut [u8]) -> SizedNumbers
     ensures { λ r. ⌜ r ≡ writtenOf letter (now (payload .entry)) (now (file .entry)) ⌝ }
     ensures { λ _. ⌜ now (file .exit) ≡ fileLeft letter (now (payload .entry)) (now (file .entry)) ⌝ }
 {
@@ -161,7 +202,7 @@ pub extern "C" fn tb_write(letter: u8, payload: &[u8], file: &mut [u8]) -> Sized
 
 // The reader of a load file, for the letter asked.
 #[no_mangle]
-pub extern "C" fn tb_read(file: &[u8], letter: u8, payload: &mut [u8]) -> SizedNumbers
+pub extern "C" fn tb_file_read(letter: u8, file: &[u8], payload: &mut [u8]) -> SizedNumbers
     ensures { λ r. ⌜ r ≡ readOf (now (file .entry)) letter (now (payload .entry)) ⌝ }
     ensures { λ _. ⌜ now (payload .exit) ≡ payloadLeft (now (file .entry)) letter (now (payload .entry)) ⌝ }
 {
@@ -171,7 +212,7 @@ pub extern "C" fn tb_read(file: &[u8], letter: u8, payload: &mut [u8]) -> SizedN
 
 // The check over the first 510 bytes, or over all where there are fewer.
 #[no_mangle]
-pub extern "C" fn tb_check(block: &[u8]) -> u16
+pub extern "C" fn tb_block_check(block: &[u8]) -> u16
     ensures { λ r. ⌜ r ≡ checkOf (take 510 (now (block .entry))) ⌝ }
 {
     seal::check(block)

@@ -86,3 +86,10 @@ pub struct SizedNumbers {
     pub number: u8,
     pub length: usize,
 }
+
+// Where a flash block lies.
+#[repr(C)]
+pub struct BlockNumbers {
+    pub first: usize,
+    pub length: usize,
+}

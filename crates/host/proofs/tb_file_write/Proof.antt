@@ -3,10 +3,10 @@ use mathlib.Core.Path.{_≡_, ap, _∙_}
 use Rattle.loadfile.specs.declared.Written.{Written}
 use Rattle.twin.specs.Answers.{writtenOut}
 use Rattle.host.specs.Calls.{writtenOf, fileLeft}
-use Rattle.host.proofs.tb_write.Statement.{statement}
-use Rattle.host.proofs.tb_write.Tie as tie
-use Rattle.host.proofs.tb_write.Reads as reads
-use Rattle.host.proofs.tb_write.Lts as lts
+use Rattle.host.proofs.tb_file_write.Statement.{statement}
+use Rattle.host.proofs.tb_file_write.Tie as tie
+use Rattle.host.proofs.tb_file_write.Reads as reads
+use Rattle.host.proofs.tb_file_write.Lts as lts
 use Rattle.twin.proofs.sizes.written_out.Reads as written-out-reads
 use Rattle.loadfile.proofs.write.Reads as write-reads
 
@@ -27,5 +27,5 @@ returns : tie.Need-returns
 unfolding writtenOf fileLeft
 returns c = (c .written-out .ensures ∙ ap (λ (x : Written). writtenOut x) (c .before .before .before .write .ensures .0), c .before .before .before .write .ensures .1)
 
-pub tb-write-spec : {M : Type 1} → statement M
-tb-write-spec = tie.close (tie.spec write-requires written-out-requires same-length returns)
+pub tb-file-write-spec : {M : Type 1} → statement M
+tb-file-write-spec = tie.close (tie.spec write-requires written-out-requires same-length returns)

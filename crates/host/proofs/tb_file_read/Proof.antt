@@ -3,10 +3,10 @@ use mathlib.Core.Path.{_≡_, ap, _∙_}
 use Rattle.loadfile.specs.declared.ReadBack.{ReadBack}
 use Rattle.twin.specs.Answers.{readOut}
 use Rattle.host.specs.Calls.{readOf, payloadLeft}
-use Rattle.host.proofs.tb_read.Statement.{statement}
-use Rattle.host.proofs.tb_read.Tie as tie
-use Rattle.host.proofs.tb_read.Reads as reads
-use Rattle.host.proofs.tb_read.Lts as lts
+use Rattle.host.proofs.tb_file_read.Statement.{statement}
+use Rattle.host.proofs.tb_file_read.Tie as tie
+use Rattle.host.proofs.tb_file_read.Reads as reads
+use Rattle.host.proofs.tb_file_read.Lts as lts
 use Rattle.twin.proofs.sizes.read_out.Reads as read-out-reads
 use Rattle.loadfile.proofs.read.Reads as read-reads
 
@@ -27,5 +27,5 @@ returns : tie.Need-returns
 unfolding readOf payloadLeft
 returns c = (c .read-out .ensures ∙ ap (λ (x : ReadBack). readOut x) (c .before .before .before .read .ensures .0), c .before .before .before .read .ensures .1)
 
-pub tb-read-spec : {M : Type 1} → statement M
-tb-read-spec = tie.close (tie.spec read-requires read-out-requires same-length returns)
+pub tb-file-read-spec : {M : Type 1} → statement M
+tb-file-read-spec = tie.close (tie.spec read-requires read-out-requires same-length returns)

@@ -1,4 +1,0 @@
-pub mod Cycled
-pub mod Judging
-pub mod Reads
-pub mod Writes
