@@ -9,4 +9,5 @@ pub mod Wearing
 pub mod Least
 pub mod Mission
 pub mod Total
+pub mod Counting
 pub mod Claims
