@@ -26,6 +26,8 @@ use Rattle.run_claims.proofs.Same as same
 use Rattle.run_claims.proofs.Total as total-ends
 use Rattle.run_claims.proofs.Total.{Whole}
 use Rattle.run_claims.proofs.Counting as counting
+use Rattle.run_claims.specs.Stepping.{Stepped}
+use Rattle.run_claims.proofs.Stepping as stepping
 use Rattle.run_claims.proofs.Mission as mission
 
 -- Demand 3, from the mission's start (`Start`: nothing refused, so a proper state with nothing under way; VPP in its 12 V band;
@@ -80,6 +82,12 @@ nothing-less = mission.nothing-less
 -- otherwise well. The model refuses none of its cycles, and none cuts an operation.
 pub every-end : (d : Device) (s : State) (p : Pins) (k : ℕ) (xs w sc : List ℕ) → Taken d s p k xs w sc → Whole d s p k xs w sc
 every-end = total-ends.every-end
+
+-- Stepping by hand is the run (`Stepped` of specs/Stepping, a sentence a field). From a start that nothing refuses, a host that gives
+-- the device the cycle that is out, and hands the byte read to the step (after a write any byte), gets the run's next record and cycle
+-- at every turn; at the last the run's end and address, with the run's state, array, scratch and count.
+pub stepped-by-hand : (d : Device) (s : State) (p : Pins) (k : ℕ) (xs w sc : List ℕ) → Taken d s p k xs w sc → Stepped d s p k xs w sc
+stepped-by-hand d s p k xs w sc t = stepping.stepped d s p k xs w sc (every-end d s p k xs w sc t)
 
 -- The count is the number of cycles made: any number of turns from anywhere adds to it the length of the list of their cycles.
 pub counts-made : (k : ℕ) (d : Device) (w : List ℕ) (c : Config) → after k d w c .count ≡ c .count + length (madeIn k d w c)

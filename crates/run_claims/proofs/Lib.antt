@@ -10,4 +10,5 @@ pub mod Least
 pub mod Mission
 pub mod Total
 pub mod Counting
+pub mod Stepping
 pub mod Claims
