@@ -6,6 +6,7 @@ use Prim.Native.Nat.{ℕ, _+_, _*_, _≤_, _<_}
 use lib.ListN.{length, getD}
 use Rattle.chip.specs.Cells.{ones, Cells}
 use Rattle.chip.proofs.Ones.{and-ones}
+use Rattle.cells.specs.Numbers.{NoRow}
 use Rattle.device.specs.declared.Device.{Device}
 use Rattle.device.specs.Parts.{startOf}
 use Rattle.chip.specs.declared.Pins.{Pins}
@@ -14,16 +15,19 @@ use Rattle.chip.specs.declared.State.{State}
 use Rattle.chip.specs.States.{atRest}
 use Rattle.loader.specs.declared.Stage.the-variants.{Clearing}
 use Rattle.stepper.specs.Front.{recordAt}
-use Rattle.run.specs.Turns.{bound}
-use Rattle.run.specs.Runs.{begin, ranOf, bytesOf, scratchOf}
+use Rattle.run.specs.Turns.{Config, after, bound}
+use Rattle.run.specs.Runs.{runRows, begin, ranOf, bytesOf, scratchOf}
 use Rattle.run_claims.specs.Wear.{begunIn, heldIn, formula, operationsOf}
 use Rattle.run_claims.specs.History.{Bus, worldAfter, effectsIn, begunOver, uncut, total, eraseOf, programIn}
 use Rattle.run_claims.specs.Made.{madeIn, cyclesOf}
 use Rattle.run_claims.proofs.Demand.{Taken, Start}
-use Rattle.run_claims.specs.Ends.{asWanted}
+use Rattle.run_claims.specs.Ends.{asWanted, ranAs, cyclesAs}
 use Rattle.run_claims.proofs.Same as same
 use Rattle.run_claims.proofs.Total as total-ends
 use Rattle.run_claims.proofs.Total.{Whole}
+use Rattle.run_claims.proofs.Counting as counting
+use Rattle.run_claims.specs.Stepping.{Stepped}
+use Rattle.run_claims.proofs.Stepping as stepping
 use Rattle.run_claims.proofs.Mission as mission
 
 -- Demand 3, from the mission's start (`Start`: nothing refused, so a proper state with nothing under way; VPP in its 12 V band;
@@ -78,6 +82,25 @@ nothing-less = mission.nothing-less
 -- otherwise well. The model refuses none of its cycles, and none cuts an operation.
 pub every-end : (d : Device) (s : State) (p : Pins) (k : ℕ) (xs w sc : List ℕ) → Taken d s p k xs w sc → Whole d s p k xs w sc
 every-end = total-ends.every-end
+
+-- Stepping by hand is the run (`Stepped` of specs/Stepping, a sentence a field). From a start that nothing refuses, a host that gives
+-- the device the cycle that is out, and hands the byte read to the step (after a write any byte), gets the run's next record and cycle
+-- at every turn; at the last the run's end and address, with the run's state, array, scratch and count.
+pub stepped-by-hand : (d : Device) (s : State) (p : Pins) (k : ℕ) (xs w sc : List ℕ) → Taken d s p k xs w sc → Stepped d s p k xs w sc
+stepped-by-hand d s p k xs w sc t = stepping.stepped d s p k xs w sc (every-end d s p k xs w sc t)
+
+-- The count is the number of cycles made: any number of turns from anywhere adds to it the length of the list of their cycles.
+pub counts-made : (k : ℕ) (d : Device) (w : List ℕ) (c : Config) → after k d w c .count ≡ c .count + length (madeIn k d w c)
+counts-made = counting.counts-made
+
+-- So a run that nothing refuses returns the number of its cycles, whatever its end; P, E and the wanted bytes are free here.
+pub run-counts : (d : Device) (s : State) (p : Pins) (k : ℕ) (xs w sc : List ℕ) → NoRow (runRows d s p k (length xs) (length w) (length sc))
+    → ranOf d s p k xs w sc .count ≡ length (madeIn (bound (length w)) d w (begin d s (recordAt (d .part) p k Clearing) xs sc))
+run-counts = counting.run-counts
+
+-- The cycles that specs/Ends lists are as many as the count that it lists: the formula for a good end, n + 5 for 21, 23 and 24.
+pub ends-counted : (d : Device) (p : Pins) (k a : ℕ) (w ys : List ℕ) → length (cyclesAs d p k a w ys) ≡ ranAs d p k w ys .count
+ends-counted = counting.ends-counted
 
 -- With nothing to erase or program the count is 2n + 3.
 pub nothing-to-do : (d : Device) (w ys : List ℕ) → length ys ≡ length w → asWanted w ys ≡ true → formula d w ys ≡ 2 * length w + 3

@@ -9,4 +9,6 @@ pub mod Wearing
 pub mod Least
 pub mod Mission
 pub mod Total
+pub mod Counting
+pub mod Stepping
 pub mod Claims

@@ -75,7 +75,7 @@ operations-program k a w ys = go (risesIn w ys) (programs-counted (length w) 0 a
     go false e = e
 
 -- the length of the list of cycles is the formula
-reads-long : (p : Pins) (n a i : ℕ) (cs : List Cycle) → length (readsThen p n a i cs) ≡ n + length cs
+pub reads-long : (p : Pins) (n a i : ℕ) (cs : List Cycle) → length (readsThen p n a i cs) ≡ n + length cs
 reads-long p zero a i cs = omega arith
 reads-long p (suc n) a i cs = let e = reads-long p n a (i + 1) cs in omega arith
 

@@ -314,7 +314,7 @@ step-again l b w sc e =
     (kept-taken l (nextOf l b w (storeOf l b sc)) (length w) (length sc) t (kept-next l w (l .stage) b (storeOf l b sc)))
 
 -- and so is the record of an accepted start
-start-gives : (part : Part) (p : Pins) (k : ℕ) (w sc : List ℕ) → startNumber part p k (length w) (length sc) ≡ 0
+pub start-gives : (part : Part) (p : Pins) (k : ℕ) (w sc : List ℕ) → startNumber part p k (length w) (length sc) ≡ 0
     → startOf part p k w sc ≡ givenBy (recordAt part p k Clearing) w
 unfolding startOf
 start-gives part p k w sc e =
