@@ -11,14 +11,14 @@
 typedef struct {
     tb_answer (*cycle)(tb_device, tb_state, tb_bus, uint8_t *, size_t, const uint8_t *, size_t);
     tb_ran (*run)(tb_device, tb_state, uint8_t, uint32_t, uint8_t, uint8_t *, size_t, const uint8_t *, size_t, uint8_t *, size_t);
-    tb_ran (*load)(tb_device, tb_state, uint8_t, uint32_t, uint8_t, const uint8_t *, size_t, uint8_t, uint8_t *, size_t,
+    tb_ran (*load)(tb_device, tb_state, uint8_t, uint32_t, uint8_t, uint8_t, const uint8_t *, size_t, uint8_t *, size_t,
                    uint8_t *, size_t, uint8_t *, size_t);
     tb_sized (*write)(uint8_t, const uint8_t *, size_t, uint8_t *, size_t);
-    tb_sized (*read)(const uint8_t *, size_t, uint8_t, uint8_t *, size_t);
+    tb_sized (*read)(uint8_t, const uint8_t *, size_t, uint8_t *, size_t);
     uint16_t (*check)(const uint8_t *, size_t);
 } maker;
 
-static const maker proved = {tb_cycle, tb_run, tb_load, tb_write, tb_read, tb_check};
+static const maker proved = {tb_cycle, tb_run, tb_load, tb_file_write, tb_file_read, tb_block_check};
 static const maker plain = {c_cycle, c_run, c_load, c_write, c_read, c_check};
 
 /* What the work is done on; `ready` of a row sets it, and all of it is compared after the row. It stands at the start of a page,
@@ -119,7 +119,7 @@ static void ready_load(void) {
     ready_file();
 }
 static void work_load(const maker *m) {
-    at.ran = m->load(at.device, at.state, 1, 12000, 1, at.file, 512, 'K', at.array, 16384, at.wanted, 512, at.scratch, 512);
+    at.ran = m->load(at.device, at.state, 1, 12000, 1, 'K', at.file, 512, at.array, 16384, at.wanted, 512, at.scratch, 512);
 }
 static void work_write(const maker *m) {
     for (int t = 0; t < TURNS; t++)
@@ -127,7 +127,7 @@ static void work_write(const maker *m) {
 }
 static void work_read(const maker *m) {
     for (int t = 0; t < TURNS; t++)
-        at.sum += (uint32_t)m->read(at.file, at.sized.length, 'K', at.back, sizeof at.back).length;
+        at.sum += (uint32_t)m->read('K', at.file, at.sized.length, at.back, sizeof at.back).length;
 }
 static void work_check(const maker *m) {
     for (int t = 0; t < TURNS; t++)

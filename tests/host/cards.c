@@ -23,7 +23,7 @@ static void fresh(uint8_t byte) {
 }
 
 static void cycle(uint8_t kind, uint8_t rp, uint32_t vpp, uint32_t address, uint8_t byte) {
-    tb_bus bus = {.kind = kind, .rp = rp, .byte = byte, .vpp = vpp, .address = address};
+    tb_bus bus = {.kind = kind, .rp = rp, .byte = byte, .vpp_mv = vpp, .address = address};
     last = tb_cycle(device, state, bus, array, sizeof array, residue, sizeof residue);
     state = last.state;
 }
@@ -116,11 +116,11 @@ static void loads_and_files(void) {
     card(10, count_of(0xFF, false, 0x5A) == 1031);
     card(11, count_of(0x00, false, 0xFF) == 1032 && count_of(0x00, true, 0xFF) == 1027);
     memset(ones, 0xFF, sizeof ones);
-    card(12, tb_check(ones, sizeof ones) == 8629);
-    card(13, tb_write('K', payload, 505, file, sizeof file).length == 512);
-    card(13, tb_write('K', payload, 506, file, sizeof file).length == 1024);
-    card(13, tb_write('K', payload, 4040, file, sizeof file).length == 4096);
-    card(13, tb_write('K', payload, 4041, file, sizeof file).number == 36);
+    card(12, tb_block_check(ones, sizeof ones) == 8629);
+    card(13, tb_file_write('K', payload, 505, file, sizeof file).length == 512);
+    card(13, tb_file_write('K', payload, 506, file, sizeof file).length == 1024);
+    card(13, tb_file_write('K', payload, 4040, file, sizeof file).length == 4096);
+    card(13, tb_file_write('K', payload, 4041, file, sizeof file).number == 36);
 }
 
 void cards(void) {

@@ -190,6 +190,6 @@ void tell_state(const char *name, tb_state s) {
 }
 
 void tell_bus(tb_bus c) {
-    printf("  cycle: kind %u, RP# %u, OE# %u, VPP %lu, address %lX, byte %02X\n", c.kind, c.rp, c.oe, (unsigned long)c.vpp,
+    printf("  cycle: kind %u, RP# %u, OE# %u, VPP %lu, address %lX, byte %02X\n", c.kind, c.rp, c.oe, (unsigned long)c.vpp_mv,
            (unsigned long)c.address, c.byte);
 }

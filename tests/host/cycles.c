@@ -55,7 +55,7 @@ static void next_bus(uint32_t rough, uint32_t home) {
     bus.kind = (uint8_t)(chance(rough / 8) ? any32() : ONE_OF(READ, READ, READ, WRITE, WRITE, WRITE, WRITE, IDLE));
     bus.rp = (uint8_t)(chance(rough / 2) ? ONE_OF(0, 0, 2, 3, 255) : ONE_OF(1, 1, 1, 2));
     bus.oe = (uint8_t)(chance(rough / 4) ? ONE_OF(1, 2, 255) : bus.kind == WRITE && chance(15));
-    bus.vpp = some_vpp(rough);
+    bus.vpp_mv = some_vpp(rough);
     bus.address = chance(60) ? home : some_address(device.number);
     bus.byte = next_byte(before.phase, rough);
 }
@@ -101,7 +101,7 @@ static void scatter(void) {
     if (chance(30))
         bus.byte = some_byte();
     if (chance(15))
-        bus.vpp = ONE_OF(0, 6500);
+        bus.vpp_mv = ONE_OF(0, 6500);
     if (chance(3))
         bus = (tb_bus){(uint8_t)any32(), (uint8_t)any32(), (uint8_t)any32(), (uint8_t)any32(), any32(), any32()};
     lend(4);

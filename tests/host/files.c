@@ -22,7 +22,7 @@ static bool same_sized(void) { return lib.number == ref.number && lib.length == 
 
 static void compare_write(void) {
     twin *lent[] = {&payload, &file};
-    lib = tb_write(letter, lib_of(&payload), payload.length, lib_of(&file), file.length);
+    lib = tb_file_write(letter, lib_of(&payload), payload.length, lib_of(&file), file.length);
     untouched(lib.number != 0, "write", lent, 2);
     ref = ref_write(letter, ref_of(&payload), payload.length, ref_of(&file), file.length);
     alike(same_sized(), "write", lent, 2);
@@ -31,9 +31,9 @@ static void compare_write(void) {
 
 static void compare_read(void) {
     twin *lent[] = {&file, &back};
-    lib = tb_read(lib_of(&file), file.length, letter, lib_of(&back), back.length);
+    lib = tb_file_read(letter, lib_of(&file), file.length, lib_of(&back), back.length);
     untouched(lib.number != 0, "read", lent, 2);
-    ref = ref_read(ref_of(&file), file.length, letter, ref_of(&back), back.length);
+    ref = ref_read(letter, ref_of(&file), file.length, ref_of(&back), back.length);
     alike(same_sized(), "read", lent, 2);
     met(IN_READ, ref.number);
 }
@@ -43,7 +43,7 @@ static void compare_check(void) {
     size_t kept = file.length;
     twin *lent[] = {&file};
     file.length = n;
-    uint16_t sum = tb_check(lib_of(&file), n);
+    uint16_t sum = tb_block_check(lib_of(&file), n);
     alike(sum == ref_check(ref_of(&file), n), "check", lent, 1);
     file.length = kept;
 }

@@ -45,10 +45,10 @@ static void compare_run(void) {
 
 static void compare_load(void) {
     twin *lent[] = {&array, &wanted, &scratch, &file};
-    lib = tb_load(device, state, rp, vpp, block, lib_of(&file), file.length, letter, lib_of(&array), array.length,
+    lib = tb_load(device, state, rp, vpp, block, letter, lib_of(&file), file.length, lib_of(&array), array.length,
                   lib_of(&wanted), wanted.length, lib_of(&scratch), scratch.length);
     untouched(lib.count == 0, "load", lent, 4);
-    ref = ref_load(device, state, rp, vpp, block, ref_of(&file), file.length, letter, ref_of(&array), array.length,
+    ref = ref_load(device, state, rp, vpp, block, letter, ref_of(&file), file.length, ref_of(&array), array.length,
                    ref_of(&wanted), wanted.length, ref_of(&scratch), scratch.length);
     alike(same_ran(), "load", lent, 4);
     met(IN_LOAD, ref.end);

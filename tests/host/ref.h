@@ -42,10 +42,10 @@ tb_given ref_start(uint8_t part, uint8_t rp, uint32_t vpp, uint8_t block, const 
 tb_turn ref_step(tb_loader *, uint8_t byte, const uint8_t *wanted, size_t, uint8_t *scratch, size_t);
 tb_ran ref_run(tb_device, tb_state, uint8_t rp, uint32_t vpp, uint8_t block, uint8_t *array, size_t, const uint8_t *wanted,
                size_t, uint8_t *scratch, size_t);
-tb_ran ref_load(tb_device, tb_state, uint8_t rp, uint32_t vpp, uint8_t block, const uint8_t *file, size_t, uint8_t letter,
+tb_ran ref_load(tb_device, tb_state, uint8_t rp, uint32_t vpp, uint8_t block, uint8_t letter, const uint8_t *file, size_t,
                 uint8_t *array, size_t, uint8_t *wanted, size_t, uint8_t *scratch, size_t);
 tb_sized ref_write(uint8_t letter, const uint8_t *payload, size_t, uint8_t *file, size_t);
-tb_sized ref_read(const uint8_t *file, size_t, uint8_t letter, uint8_t *payload, size_t);
+tb_sized ref_read(uint8_t letter, const uint8_t *file, size_t, uint8_t *payload, size_t);
 uint16_t ref_check(const uint8_t *block, size_t);
 
 #endif

@@ -79,7 +79,7 @@ uint8_t ref_judge(const uint8_t *file, size_t n, uint8_t letter, size_t *length)
     return 0;
 }
 
-tb_sized ref_read(const uint8_t *file, size_t n, uint8_t letter, uint8_t *payload, size_t m) {
+tb_sized ref_read(uint8_t letter, const uint8_t *file, size_t n, uint8_t *payload, size_t m) {
     size_t length = 0;
     uint8_t fault = ref_judge(file, n, letter, &length);
     if (fault != 0)

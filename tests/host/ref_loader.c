@@ -30,7 +30,7 @@ static bool levels_bad(uint8_t rp, uint32_t vpp) { return (rp != RP_HIGH && rp !
 /* What the record has out: a cycle or the end. */
 static tb_turn turn_of(tb_loader l, const uint8_t *wanted) {
     uint32_t first = ref_block_of(l.part, l.block).first, here = first + (uint32_t)l.place;
-    tb_bus c = {.kind = WRITE, .rp = l.rp, .vpp = l.vpp, .address = first};
+    tb_bus c = {.kind = WRITE, .rp = l.rp, .vpp_mv = l.vpp_mv, .address = first};
     switch (l.stage) {
     case CLEARING: c.byte = 0x50; break;
     case TO_ARRAY:
@@ -136,12 +136,12 @@ static uint8_t step_refused(tb_loader l, size_t wanted, size_t scratch) {
         return 3;
     if (l.block <= 3 && l.place >= ref_block_of(l.part, l.block).length + (SLIP(9) ? 1 : 0))
         return 3;
-    return start_refused(l.part, l.rp, l.vpp, l.block, wanted, scratch);
+    return start_refused(l.part, l.rp, l.vpp_mv, l.block, wanted, scratch);
 }
 
 tb_given ref_start(uint8_t part, uint8_t rp, uint32_t vpp, uint8_t block, const uint8_t *wanted, size_t n,
                    const uint8_t *scratch, size_t m) {
-    tb_loader l = {.part = part, .rp = rp, .block = block, .stage = CLEARING, .vpp = vpp};
+    tb_loader l = {.part = part, .rp = rp, .block = block, .stage = CLEARING, .vpp_mv = vpp};
     uint8_t number = start_refused(part, rp, vpp, block, n, m);
     (void)scratch;
     if (number != 0)
@@ -197,7 +197,7 @@ tb_ran ref_run(tb_device d, tb_state s, uint8_t rp, uint32_t vpp, uint8_t block,
     return drive(d, s, rp, vpp, block, array, size, wanted, scratch, n);
 }
 
-tb_ran ref_load(tb_device d, tb_state s, uint8_t rp, uint32_t vpp, uint8_t block, const uint8_t *file, size_t k, uint8_t letter,
+tb_ran ref_load(tb_device d, tb_state s, uint8_t rp, uint32_t vpp, uint8_t block, uint8_t letter, const uint8_t *file, size_t k,
                 uint8_t *array, size_t size, uint8_t *wanted, size_t n, uint8_t *scratch, size_t m) {
     size_t payload;
     uint8_t number = run_refused(d, s, rp, vpp, block, size, n, m);

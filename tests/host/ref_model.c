@@ -51,11 +51,11 @@ bool ref_proper(tb_device d, tb_state s) {
 }
 
 static bool pins_bad(tb_bus c) {
-    return c.kind > IDLE || c.rp > RP_VHH || c.oe > 1 || (c.oe == 1 && c.kind != WRITE) || !ref_vpp_good(c.vpp);
+    return c.kind > IDLE || c.rp > RP_VHH || c.oe > 1 || (c.oe == 1 && c.kind != WRITE) || !ref_vpp_good(c.vpp_mv);
 }
 
 static bool residue_short(tb_device d, tb_state s, tb_bus c, size_t residue) {
-    if (!pending(s) || (c.rp != RP_LOW && !ref_vpp_low(c.vpp)))
+    if (!pending(s) || (c.rp != RP_LOW && !ref_vpp_low(c.vpp_mv)))
         return false; /* no cut */
     if (s.phase == PROGRAMMING)
         return residue < 1;
@@ -76,7 +76,7 @@ enum { STAYS, FINISHED, CUT };
 
 /* Steps 2 and 3. */
 static int settle(tb_state *s, tb_bus c) {
-    if (ref_vpp_low(c.vpp) && pending(*s) && !(SLIP(3) && running(*s) && s->left == 1)) {
+    if (ref_vpp_low(c.vpp_mv) && pending(*s) && !(SLIP(3) && running(*s) && s->left == 1)) {
         s->status |= SR7 | SR3 | (s->phase == PROGRAMMING ? SR4 : SR5);
         s->status &= (uint8_t)~SR6;
         s->mode = STATUS;
@@ -145,7 +145,7 @@ static tb_state begin(tb_device d, tb_state s, tb_bus c) {
     bool erase = s.phase == ERASE_AWAITED;
     uint8_t error = erase ? SR5 : SR4;
     uint32_t address = SLIP(8) && erase && asked_at < ref_size(d.number) ? asked_at : c.address;
-    bool unsupplied = ref_vpp_low(c.vpp) || (s.status & SR3);
+    bool unsupplied = ref_vpp_low(c.vpp_mv) || (s.status & SR3);
     bool locked = ref_block_at(d.number, address) == 0 && c.rp != RP_VHH && c.oe != 1;
     s.phase = FREE;
     if (unsupplied)

@@ -10,7 +10,7 @@ static uint8_t byte;
 
 static void tell_loader(const char *who, tb_loader l) {
     printf("  %s: part %u, RP# %u, VPP %lu, block %u, stage %u, end %u, polls %lu, place %zu\n", who, l.part, l.rp,
-           (unsigned long)l.vpp, l.block, l.stage, l.end, (unsigned long)l.polls, l.place);
+           (unsigned long)l.vpp_mv, l.block, l.stage, l.end, (unsigned long)l.polls, l.place);
 }
 
 static void tell_turn(const char *who, tb_turn t) {
@@ -30,17 +30,17 @@ static void tell(void) {
 static bool same_turn(void) {
     tb_bus a = lib.cycle, b = ref.cycle;
     return lib.turn == ref.turn && lib.number == ref.number && lib.address == ref.address && a.kind == b.kind && a.rp == b.rp &&
-           a.oe == b.oe && a.byte == b.byte && a.vpp == b.vpp && a.address == b.address;
+           a.oe == b.oe && a.byte == b.byte && a.vpp_mv == b.vpp_mv && a.address == b.address;
 }
 
 static bool same_record(tb_loader a, tb_loader b) {
-    return a.part == b.part && a.rp == b.rp && a.block == b.block && a.stage == b.stage && a.end == b.end && a.vpp == b.vpp &&
+    return a.part == b.part && a.rp == b.rp && a.block == b.block && a.stage == b.stage && a.end == b.end && a.vpp_mv == b.vpp_mv &&
            a.polls == b.polls && a.place == b.place;
 }
 
 static void compare_start(uint8_t part, uint8_t rp, uint32_t vpp, uint8_t block) {
     twin *lent[] = {&wanted, &scratch};
-    before = (tb_loader){.part = part, .rp = rp, .block = block, .vpp = vpp};
+    before = (tb_loader){.part = part, .rp = rp, .block = block, .vpp_mv = vpp};
     tb_given a = tb_start(part, rp, vpp, block, lib_of(&wanted), wanted.length, lib_of(&scratch), scratch.length);
     tb_given b = ref_start(part, rp, vpp, block, ref_of(&wanted), wanted.length, ref_of(&scratch), scratch.length);
     lib = a.turn, lib_record = a.loader;
@@ -137,7 +137,7 @@ static void bad_start(void) {
 static void forge(void) {
     uint8_t part = chance(90) ? (uint8_t)(3 + below(2)) : some_part(), block = (uint8_t)(chance(92) ? below(3) : any32());
     ref_block b = ref_block_of(ref_known(part) ? part : 3, block & 3);
-    tb_loader l = {.part = part, .rp = (uint8_t)(chance(95) ? 1 + below(2) : any32()), .block = block, .vpp = some_vpp(6)};
+    tb_loader l = {.part = part, .rp = (uint8_t)(chance(95) ? 1 + below(2) : any32()), .block = block, .vpp_mv = some_vpp(6)};
     l.stage = (uint8_t)(chance(95) ? below(12) : any32());
     l.end = (uint8_t)(l.stage == 11 ? (chance(70) ? ONE_OF(0, 20, 21, 25, 25, 11) : any32()) : chance(96) ? 0 : any32());
     l.polls = chance(50) ? 0 : chance(90) ? 65530 + below(6) : any32();
