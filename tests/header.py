@@ -1,0 +1,135 @@
+"""Holds include/torfbarke.h against the crates: structs field by field, functions parameter by parameter, the numbers of modes,
+phases, kinds, stages, answers and turns, the refusals, the parts' blocks, the supply bands and the load file's limits.
+
+    python3 tests/header.py        names every difference, and ends with 1 where there is one
+
+What is compared on the other side is what the proofs speak of: the structs and functions of the code, the clauses of specs/.
+"""
+import pathlib
+import re
+import sys
+
+ROOT = pathlib.Path(__file__).resolve().parent.parent
+HEADER = (ROOT / "include/torfbarke.h").read_text()
+faults = []
+
+
+def text(pattern):
+    """All files of the crates that fit a pattern, without comments."""
+    found = sorted((ROOT / "crates").glob(pattern))
+    if not found:
+        faults.append(f"no file crates/{pattern}")
+    return "\n".join(re.sub(r"(//|--)[^\n]*", "", path.read_text()) for path in found)
+
+
+def same(what, header, code):
+    if header != code:
+        faults.append(f"{what}: the header has {header}, the crates have {code}")
+
+
+def snake(name):
+    return re.sub(r"(?<!^)([A-Z])", r"_\1", name).upper()
+
+
+plain = re.sub(r"/\*.*?\*/", "", HEADER, flags=re.S)
+constants = {name: int(value, 0) for name, value in re.findall(r"\b(TB_\w+) = (0x[0-9A-F]+|\d+)", plain)}
+
+# structs
+STRUCTS = {"Device": "tb_device", "State": "tb_state", "Bus": "tb_bus", "Answer": "tb_answer", "Loader": "tb_loader", "Turn": "tb_turn",
+           "Given": "tb_given", "Ran": "tb_ran", "Sized": "tb_sized", "Block": "tb_span"}
+TYPES = {"u8": "uint8_t", "u16": "uint16_t", "u32": "uint32_t", "u64": "uint64_t", "usize": "size_t", "": "void"}
+TYPES.update({f"{crate}Numbers": c for crate, c in STRUCTS.items()})
+
+
+def without_unit(name):
+    return re.sub(r"_mv$", "", name)
+
+
+in_code = {}
+for name, body in re.findall(r"#\[repr\(C\)\]\s*pub struct (\w+)Numbers \{(.*?)\n\}", text("*/src/*.rt"), re.S):
+    in_code[STRUCTS.get(name, name)] = [(TYPES[t], f) for f, t in re.findall(r"pub (\w+): (\w+),", body)]
+in_header = {}
+for body, name in re.findall(r"typedef struct \{(.*?)\} (\w+);", plain, re.S):
+    in_header[name] = [(t, without_unit(f.strip())) for t, fs in re.findall(r"(\w+) ([^;]+);", body) for f in fs.split(",")]
+same("structs", sorted(in_header), sorted(in_code))
+for name in sorted(in_header.keys() & in_code.keys()):
+    same(f"struct {name}", in_header[name], in_code[name])
+
+# functions
+code_functions = {}
+for name, arguments, result in re.findall(r'pub extern "C" fn (\w+)\((.*?)\)(?: -> (\w+))?\s+ensures', text("*/src/*.rt"), re.S):
+    parameters = []
+    for argument, kind in re.findall(r"(\w+): ([^,]+)", arguments):
+        kind = kind.strip()
+        if kind in ("&[u8]", "&mut [u8]"):
+            parameters += [("const uint8_t *" if kind == "&[u8]" else "uint8_t *", argument), ("size_t", argument + "_length")]
+        elif kind.startswith("&mut "):
+            parameters.append((TYPES[kind[5:]] + " *", argument))
+        else:
+            parameters.append((TYPES[kind], argument))
+    code_functions[name] = (TYPES[result], parameters)
+header_functions = {}
+declared = re.sub(r"static inline [^;{]*\{.*?\n\}", "", plain, flags=re.S)
+for result, name, arguments in re.findall(r"^(\w+) (tb_\w+)\(([^)]*)\);", declared, re.M):
+    parameters = []
+    for argument in re.sub(r"\s+", " ", arguments).split(","):
+        kind, star, called = re.match(r" ?((?:const )?\w+) ?(\*?)(\w*)$", argument).groups()
+        if called:
+            parameters.append((kind + (" *" if star else ""), without_unit(called)))
+    header_functions[name] = (result, parameters)
+same("functions", sorted(header_functions), sorted(code_functions))
+for name in sorted(header_functions.keys() & code_functions.keys()):
+    same(f"function {name}", header_functions[name], code_functions[name])
+
+# numbers of the variants, as the border's definitions have them
+border = text("*/specs/Twins.antt") + text("*/specs/Answers.antt")
+for function, prefix in (("modeOut", "TB_MODE_"), ("phaseOut", "TB_"), ("kindOut", "TB_CYCLE_"), ("stageOut", "TB_"), ("seenOut", "TB_")):
+    clauses = re.findall(rf"^{function} \(?([A-Z]\w*)[^=\n]*= (\d+)$", border, re.M)
+    if not clauses:
+        faults.append(f"no clauses of {function}")
+    for variant, number in clauses:
+        same(prefix + snake(variant), constants.get(prefix + snake(variant)), int(number))
+for variant, number in re.findall(r"^turnOut \((\w+)[^)]*\) = turnAt (\d+)", border, re.M):
+    name = "TB_CYCLE_OUT" if variant == "Out" else "TB_" + variant.upper()
+    same(name, constants.get(name), int(number))
+
+# refusals: the same set of numbers on both sides, and each with its number in the operators' table
+listed = re.search(r"enum \{\s*TB_OK = 0,(.*?)\};", plain, re.S).group(1)
+refusals = sorted(int(n) for n in re.findall(r"= (\d+)", listed))
+operators = sorted(int(n) for n in re.findall(r"^\| (\d+) \|", (ROOT / "docs/OPERATORS.md").read_text(), re.M))
+same("refusals, beside docs/OPERATORS.md", refusals, operators)
+given = {int(n) for n in re.findall(r"\brow (\d+) \(", text("*/specs/*.antt"))}
+given |= {int(n) for n in re.findall(r"\b(?:then|else) (2[0-4])\b", text("loader/specs/*.antt"))}
+given |= {int(n) for n in re.findall(r"endedBy l (2\d)\b", text("loader/specs/*.antt"))}
+given |= {int(n) for n in re.findall(r"refused (3\d)\b", text("*/specs/*.antt"))}
+same("refusals, beside the tables of specs/", refusals, sorted(given))
+
+# parts: size and blocks, from the description of each
+parts = {}
+for number, boot, parameter, main, top in re.findall(r"(?:eqb \(p \.number\) (\d+) then|else) fourOf (\d+) (\d+) (\d+) (true|false)", text("device/specs/Parts.antt")):
+    number = int(number) if number else len(parts) + 1
+    lengths = [int(boot), int(parameter), int(parameter), int(main)]
+    at, spans = 0, []
+    for length in lengths:
+        spans.append((sum(lengths) - at - length if top == "true" else at, length))
+        at += length
+    parts[number] = (sum(lengths), spans)
+told = {}
+for name, size, spans in re.findall(r"^ \*\s+(TB_\w+),\s+([\d,]+) bytes: ([^\n*]*)", HEADER, re.M):
+    ranges = re.findall(r"\b([0-9A-F]{4,5})-([0-9A-F]{4,5})", spans)
+    told[constants[name]] = (int(size.replace(",", "")), [(int(a, 16), int(b, 16) - int(a, 16) + 1) for a, b in ranges])
+same("parts", told, parts)
+same("TB_SIZE_MOST", constants["TB_SIZE_MOST"], max(size for size, _ in parts.values()))
+same("TB_BLOCK_MOST", constants["TB_BLOCK_MOST"], max(length for _, spans in parts.values() for _, length in spans))
+
+# supply bands, load file, letters
+levels = text("chip/specs/Levels.antt")
+bands = [int(n) for n in re.findall(r"leb \(p \.vpp\) (\d+)", levels) + re.findall(r"leb (\d+) \(p \.vpp\)", levels)]
+same("supply bands", [constants["TB_VPP_LOW_MOST_MV"], constants["TB_VPP_HIGH_MOST_MV"], constants["TB_VPP_HIGH_LEAST_MV"]], bands)
+limit = int(re.search(r"^limit = (\d+)", text("*/specs/File.antt"), re.M).group(1))
+same("limits of a load file", [constants[n] for n in ("TB_FILE_BLOCKS_MOST", "TB_FILE_MOST", "TB_PAYLOAD_MOST")], [limit, 512 * limit, 505 * limit])
+letters = re.search(r"^letters = (.*)$", text("*/specs/Block.antt"), re.M).group(1)
+same("letters", re.search(r'TB_LETTERS "(\w+)"', HEADER).group(1), "".join(chr(int(n)) for n in re.findall(r"\d+", letters)))
+
+print("\n".join(faults) if faults else f"tests/header.py: {len(in_header)} structs, {len(header_functions)} functions, {len(constants)} numbers: as in the crates")
+sys.exit(1 if faults else 0)
