@@ -15,7 +15,10 @@ use Rattle.run.specs.declared.Ran.{Ran}
 use Rattle.run.specs.Turns.{Config, isEnded, after}
 use Rattle.run.specs.Runs.{runRows, runNumber, begin, driven, ranOf, bytesOf, scratchOf}
 use Rattle.loader.specs.declared.Stage.the-variants.{Clearing}
+use Rattle.loader.specs.declared.Loader.{Loader}
+use Rattle.loader.specs.Moves.{nextOf}
 use Rattle.stepper.specs.Outs.{cycleOf}
+use Rattle.stepper.specs.Stores.{storeOf}
 use Rattle.stepper.specs.Front.{recordAt}
 use Rattle.bus.specs.Cycles.{judgeOf}
 use Rattle.run.proofs.Ending as ending
@@ -80,3 +83,9 @@ run-scratch-unique d s p k xs w sc = only (scratchOf d s p k xs w sc)
 
 pub run-number-unique : (d : Device) (s : State) (p : Pins) (k array w sc : ℕ) → Unique (λ (r : ℕ). r ≡ runNumber d s p k array w sc)
 run-number-unique d s p k array w sc = only (runNumber d s p k array w sc)
+
+pub take-unique : (l : Loader) (b : ℕ) (w sc : List ℕ) → Unique (λ (r : Loader). r ≡ nextOf l b w (storeOf l b sc))
+take-unique l b w sc = only (nextOf l b w (storeOf l b sc))
+
+pub take-scratch-unique : (l : Loader) (b : ℕ) (sc : List ℕ) → Unique (λ (left : List ℕ). left ≡ storeOf l b sc)
+take-scratch-unique l b sc = only (storeOf l b sc)

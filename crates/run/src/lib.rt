@@ -1,4 +1,7 @@
 // The loader run against the model: the cycles are made one after the other until the load ends, and counted.
+mod taking;
+
+use crate::taking::take;
 use chip::Phase;
 use chip::Pins;
 use chip::State;
@@ -15,7 +18,6 @@ use stepper::front::record_at;
 use stepper::front::wrong_lengths;
 use stepper::outs::cycle_in;
 use stepper::outs::first;
-use takes::take;
 ghost use mathlib.Core.Path.{_≡_};
 ghost use mathlib.Core.Bool.{not};
 ghost use lib.ListN.{length};

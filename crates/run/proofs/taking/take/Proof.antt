@@ -7,8 +7,8 @@ use Rattle.loader.specs.declared.Loader.{Loader}
 use Rattle.loader.specs.Moves.{at, nextIn, nextOf}
 use Rattle.stepper.specs.Stores.{storeIn, storeOf}
 use borrow.Author.Needs.{needs}
-use Rattle.takes.proofs.take.Statement.{statement}
-use Rattle.takes.proofs.take.Tie as tie
+use Rattle.run.proofs.taking.take.Statement.{statement}
+use Rattle.run.proofs.taking.take.Tie as tie
 
 -- what a stage makes of a byte
 by : (l : Loader) (b : ℕ) (w sc : List ℕ) (s : Stage) → l .stage ≡ s

@@ -3,8 +3,8 @@ use mathlib.Core.List.{List}
 use Prim.Native.Nat.{ℕ}
 use Rattle.loader.specs.Moves.{readMore}
 use borrow.Author.Needs.{needs}
-use Rattle.takes.proofs.take_read.Statement.{statement}
-use Rattle.takes.proofs.take_read.Tie as tie
+use Rattle.run.proofs.taking.take_read.Statement.{statement}
+use Rattle.run.proofs.taking.take_read.Tie as tie
 
 put-requires : tie.Need-put-requires
 put-requires c κs = search needs

@@ -3,8 +3,8 @@ use mathlib.Core.List.{List}
 use Prim.Native.Nat.{ℕ}
 use Rattle.loader.specs.Moves.{erasePolled}
 use borrow.Author.Needs.{needs}
-use Rattle.takes.proofs.take_erase.Statement.{statement}
-use Rattle.takes.proofs.take_erase.Tie as tie
+use Rattle.run.proofs.taking.take_erase.Statement.{statement}
+use Rattle.run.proofs.taking.take_erase.Tie as tie
 
 store-erase-requires : tie.Need-store-erase-requires
 store-erase-requires c κs = search needs
