@@ -96,7 +96,7 @@ for variant, number in re.findall(r"^turnOut \((\w+)[^)]*\) = turnAt (\d+)", bor
 # refusals: the same set of numbers on both sides, and each with its number in the operators' table
 listed = re.search(r"enum \{\s*TB_OK = 0,(.*?)\};", plain, re.S).group(1)
 refusals = sorted(int(n) for n in re.findall(r"= (\d+)", listed))
-operators = sorted(int(n) for n in re.findall(r"^\| (\d+) \|", (ROOT / "docs/OPERATORS.md").read_text(), re.M))
+operators = sorted(int(n) for n in re.findall(r"^\| (\d+) \|", (ROOT / "docs/OPERATORS.md").read_text().split("## Every number")[1], re.M))
 same("refusals, beside docs/OPERATORS.md", refusals, operators)
 given = {int(n) for n in re.findall(r"\brow (\d+) \(", text("*/specs/*.antt"))}
 given |= {int(n) for n in re.findall(r"\b(?:then|else) (2[0-4])\b", text("loader/specs/*.antt"))}
@@ -123,7 +123,7 @@ same("TB_SIZE_MOST", constants["TB_SIZE_MOST"], max(size for size, _ in parts.va
 same("TB_BLOCK_MOST", constants["TB_BLOCK_MOST"], max(length for _, spans in parts.values() for _, length in spans))
 
 # supply bands, load file, letters
-levels = text("chip/specs/Levels.antt")
+levels = text("*/specs/Levels.antt")
 bands = [int(n) for n in re.findall(r"leb \(p \.vpp\) (\d+)", levels) + re.findall(r"leb (\d+) \(p \.vpp\)", levels)]
 same("supply bands", [constants["TB_VPP_LOW_MOST_MV"], constants["TB_VPP_HIGH_MOST_MV"], constants["TB_VPP_HIGH_LEAST_MV"]], bands)
 limit = int(re.search(r"^limit = (\d+)", text("*/specs/File.antt"), re.M).group(1))
