@@ -19,11 +19,10 @@ use Rattle.run.specs.Runs.{begin, ranOf, bytesOf, scratchOf}
 use Rattle.run_claims.specs.Wear.{begunIn, heldIn, formula, operationsOf}
 use Rattle.run_claims.specs.History.{Bus, worldAfter, effectsIn, begunOver, uncut, total, eraseOf, programIn}
 use Rattle.run_claims.specs.Made.{madeIn, cyclesOf}
-use Rattle.run_claims.proofs.Demand.{Taken, Start}
-use Rattle.run_claims.specs.Ends.{asWanted}
+use Rattle.run_claims.specs.Ends.{asWanted, Whole}
+use Rattle.run_claims.specs.Mission.{Taken, Start}
 use Rattle.run_claims.proofs.Same as same
 use Rattle.run_claims.proofs.Total as total-ends
-use Rattle.run_claims.proofs.Total.{Whole}
 use Rattle.run_claims.proofs.Mission as mission
 
 -- Demand 3, from the mission's start (`Start`: nothing refused, so a proper state with nothing under way; VPP in its 12 V band;

@@ -4,6 +4,7 @@ pub mod Layers
 pub mod Phases
 pub mod Same
 pub mod Faults
+pub mod Starts
 pub mod Demand
 pub mod Wearing
 pub mod Least

@@ -34,7 +34,9 @@ use Rattle.run_claims.specs.Wear.{begunIn, heldIn, baseOf, erasesOf, pro
 use Rattle.run_claims.specs.History.{Bus, worldAfter, effectsIn, begunOver, uncut, total, eraseOf, programIn}
 use Rattle.run.proofs.Good.{good}
 use Rattle.run_claims.specs.Made.{madeIn, smoothIn, cyclesOf, readsThen, pollsThen, openingThen, eraseThen, programThen, programsThen, closingOf, programmingOf}
-use Rattle.run_claims.proofs.Demand.{Start, Left, goal, not-low, good-load, ran-left, bytes-left, scratch-left}
+use Rattle.run_claims.specs.Mission.{Start}
+use Rattle.run_claims.proofs.Demand.{Left, goal, not-low, good-load, ran-left, bytes-left, scratch-left}
+use Rattle.run_claims.proofs.Starts.{none-refuses}
 use Rattle.run_claims.proofs.Least.{least}
 
 -- the programs of a load are counted, all in the block, and none of them is an erase
@@ -124,7 +126,7 @@ module _ (d : Device) (s : State) (p : Pins) (k : ℕ) (xs w sc : List ℕ) (sta
   scratch-wanted = scratch-left d s p k xs w sc (start .base) _ _ _ loaded
 
   inside : a + length w ≤ length xs
-  inside = let g = good d s p k (length xs) (length w) (length sc) (start .base .taken) in omega (arith, blocks-end-inside (d .part) k, g .sized, g .wanted)
+  inside = let g = good d s p k (length xs) (length w) (length sc) (none-refuses d s p k xs w sc (start .base)) in omega (arith, blocks-end-inside (d .part) k, g .sized, g .wanted)
 
   -- the block holds the wanted bytes
   pub block-holds : heldIn a (length w) (bytesOf d s p k xs w sc) ≡ w
@@ -160,7 +162,7 @@ module _ (d : Device) (s : State) (p : Pins) (k : ℕ) (xs w sc : List ℕ) (sta
       → (total (eraseOf k) load ≤ total (eraseOf k) (begunOver d (record { state = s; bytes = xs }) bs))
       × (total (programIn a (length w)) load ≤ total (programIn a (length w)) (begunOver d (record { state = s; bytes = xs }) bs))
   nothing-less bs bx u h =
-      let g = good d s p k (length xs) (length w) (length sc) (start .base .taken) in
+      let g = good d s p k (length xs) (length w) (length sc) (none-refuses d s p k xs w sc (start .base)) in
       let m = least d k (record { state = s; bytes = xs }) w bs (g .sized) (g .wanted) bx (g .free) u h in
       let e = ap (λ (es : List Effect). total (eraseOf k) es) begins-just ∙ operations-erase k a w ys in
       let q = ap (λ (es : List Effect). total (programIn a (length w)) es) begins-just ∙ operations-program k a w ys in
