@@ -8,6 +8,7 @@ pub mod Starts
 pub mod Demand
 pub mod Wearing
 pub mod Least
+pub mod Own
 pub mod Mission
 pub mod Total
 pub mod Claims

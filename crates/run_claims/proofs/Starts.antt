@@ -2,6 +2,7 @@
 use mathlib.Core.Path.{_≡_, ap, _∙_}
 use mathlib.Core.Bool.{true, false, not, _||_}
 use mathlib.Core.List.{List}
+use mathlib.Core.Logic.{_↔_}
 use Prim.Native.Nat.{ℕ, _≤_}
 use lib.ListN.{length}
 use lib.Dec.{eqb}
@@ -66,3 +67,6 @@ module _ (d : Device) (s : State) (p : Pins) (k : ℕ) (xs w sc : List ℕ) wher
         erases = erases;
         bytes = bytes;
       }
+
+  pub taken-exactly : d .program ≤ 65535 → d .erase ≤ 65535 → Cells w → Taken d s p k xs w sc ↔ (runNumber d s p k (length xs) (length w) (length sc) ≡ 0)
+  taken-exactly programs erases bytes = (none-refuses, λ n. taken-if n programs erases bytes)

@@ -27,6 +27,11 @@ noted (Erase k) es = Erase k ∷ es
 noted (CutProgram a b) es = CutProgram a b ∷ es
 noted (CutErase k) es = CutErase k ∷ es
 
+-- the operations of a list, without the places where nothing is
+abbrev pub notedAll : List Effect → List Effect
+notedAll [] = []
+notedAll (e ∷ es) = noted e (notedAll es)
+
 -- what one turn begins
 unfoldable pub begunTurn : Device → List ℕ → Config → Effect
 begunTurn d w c = if isEnded (c .loader .stage) then Nothing else begunBy d (c .state) (cycleOf (c .loader) w) (length (c .bytes)) 0
