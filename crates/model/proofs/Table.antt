@@ -21,7 +21,7 @@ use Rattle.chip.specs.declared.Reply.the-variants.{Quiet, Gives, GivesArray, Re
 use Rattle.chip.specs.declared.Effect.the-variants.{Nothing}
 use Rattle.settling.specs.Settling.{settleOf}
 use Rattle.bus.specs.Cycles.{tableOf, numberOf, decideOf, acceptOf, respondOf, readOf}
-use mathlib.Core.Bool.{Bool, true, false}
+use mathlib.Core.Bool.{true, false}
 use Rattle.cells.proofs.Choice.{unlike}
 use Rattle.bus.proofs.Ways.{refused, accepted}
 use Rattle.model.specs.declared.Seen.the-variants.{Refused}

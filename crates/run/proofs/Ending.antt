@@ -7,8 +7,8 @@ use Prim.Native.Nat.{ℕ, zero, suc, _+_, _-_, _*_, _≤_, _<_}
 use native.Mathlib.Omega.{arith}
 use lib.ListN.{length}
 use lib.Dec.{eqb, ltb}
-use borrow.Author.Tests.{ltb-true, ltb-false, eq-eqb, ne-eqb, eqb-true, eqb-false}
-use Rattle.cells.proofs.Choice.{if-true, if-false, unlike}
+use borrow.Author.Tests.{ltb-true, ltb-false, eqb-true, eqb-false}
+use Rattle.cells.proofs.Choice.{unlike}
 use Rattle.cells.specs.Numbers.{Foremost, NoRow}
 use Rattle.cells.proofs.Numbers.{given-foremost, foremost-given, given-no-row, no-row-given}
 use Rattle.device.specs.declared.Device.{Device}

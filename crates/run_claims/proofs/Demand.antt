@@ -1,6 +1,6 @@
 -- From a run that nothing refuses to its end: what the phases reach is what the run returns and leaves. Assumes nothing.
 use mathlib.Core.Path.{_≡_, refl, sym, ap, _∙_, subst}
-use mathlib.Core.Bool.{Bool, true, false, not, _&&_}
+use mathlib.Core.Bool.{Bool, true, false, _&&_}
 use mathlib.Core.List.{List, [], _∷_}
 use Prim.Native.Nat.{ℕ, zero, suc, _+_, _-_, _*_, _≤_, _<_}
 use native.Mathlib.Nat.{zero-mul, one-mul}
@@ -8,11 +8,9 @@ use native.Mathlib.Omega.{arith}
 use lib.ListN.{length, getD, drop, length-drop}
 use lib.Seq.{length-take-le}
 use lib.Dec.{eqb, leb}
-use borrow.Author.Tests.{eq-eqb, eqb-true, eqb-false, not-false, lt-leb, leb-true}
-use Rattle.chip.specs.Cells.{ones, Cells}
-use Rattle.chip.proofs.Ones.{and-ones}
+use borrow.Author.Tests.{eqb-true, eqb-false, not-false, lt-leb, leb-true}
 use Rattle.cells.specs.Choice.{if_then_else_}
-use Rattle.cells.proofs.Choice.{if-true, if-false, or-left, or-right, and-left, unlike}
+use Rattle.cells.proofs.Choice.{if-true, if-false, and-left, unlike}
 use Rattle.cells.specs.Lists.{overlaid}
 use Rattle.device.specs.declared.Device.{Device}
 use Rattle.device.specs.Parts.{lengthOf, startOf}
@@ -24,14 +22,14 @@ use Rattle.chip.specs.declared.Mode.the-variants.{Array, Status}
 use Rattle.chip.specs.declared.State.{State}
 use Rattle.chip.specs.declared.Effect.{Effect}
 use Rattle.chip.specs.declared.Effect.the-variants.{Nothing}
-use Rattle.chip.specs.Levels.{rpLow, vppLow, vppHigh, badPins, unlocked}
+use Rattle.chip.specs.Levels.{vppLow, vppHigh, unlocked}
 use Rattle.chip.specs.States.{atRest, badLeft, badAddress, badStatus}
 use Rattle.bus.proofs.Facts.{Proper}
 use Rattle.model.proofs.Status.{fits, status-fits}
 use Rattle.model.proofs.Keeping.{times}
 use Rattle.loader.specs.declared.Stage.the-variants.{Clearing, Ended}
 use Rattle.loader.specs.declared.Loader.{Loader}
-use Rattle.stepper.specs.Front.{barredPins, noBlock, recordAt}
+use Rattle.stepper.specs.Front.{noBlock}
 use Rattle.loader.specs.Walks.{risesIn, diffFrom}
 use Rattle.loader.specs.Moves.{isReady, eraseFault, programFault}
 use Rattle.stepper.specs.Outs.{cycleOf}

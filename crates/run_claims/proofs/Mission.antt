@@ -10,8 +10,7 @@ use lib.ListN.{length, getD, take, drop}
 use lib.Seq.{take-at, drop-at, length-take-le}
 use lib.Dec.{eqb, ltb}
 use borrow.Author.Tests.{eq-eqb, le-ltb, lt-ltb, ltb-true, ltb-false}
-use Rattle.chip.specs.Cells.{ones, Cells}
-use Rattle.chip.proofs.Ones.{and-ones}
+use Rattle.chip.specs.Cells.{Cells}
 use Rattle.cells.specs.Choice.{if_then_else_}
 use Rattle.cells.specs.Lists.{overlaid}
 use Rattle.cells.proofs.Bytes.{overlaid-before, overlaid-after}
@@ -29,7 +28,7 @@ use Rattle.stepper.specs.Front.{endAddress}
 use Rattle.loader.specs.Walks.{risesIn}
 use Rattle.run.specs.declared.Ran.{Ran}
 use Rattle.run.specs.Turns.{bound}
-use Rattle.run.specs.Runs.{beginning, driven, leftBy, ranBy, ranOf, bytesOf, scratchOf}
+use Rattle.run.specs.Runs.{beginning, driven, leftBy, ranOf, bytesOf, scratchOf}
 use Rattle.run_claims.specs.Wear.{begunByLoad, heldIn, heldBy, baseOf, erasesOf, programsIn, programsOf, differing, formula, operationsOf}
 use Rattle.run_claims.specs.History.{Bus, World, worldOf, worldAfter, effectsIn, begunOver, uncut, total, eraseOf, programIn, programOf, erasesBegun, programsBegun}
 use Rattle.run.proofs.Good.{good}

@@ -1,13 +1,12 @@
 -- A load's own cycles as one history among others: they lead where the load leads, begin what it begins, and none is refused or
 -- cuts an operation. Assumes nothing.
-use mathlib.Core.Path.{_≡_, refl, sym, ap, _∙_, subst}
+use mathlib.Core.Path.{_≡_, refl, ap, _∙_, subst}
 use mathlib.Core.Bool.{Bool, true, false, not, _&&_}
 use mathlib.Core.List.{List, [], _∷_}
 use Prim.Native.Nat.{ℕ, zero, suc, _+_}
 use native.Mathlib.Omega.{arith}
 use lib.ListN.{length}
-use Rattle.cells.specs.Choice.{if_then_else_}
-use Rattle.cells.proofs.Choice.{if-true, if-false, and-left, and-right}
+use Rattle.cells.proofs.Choice.{and-left, and-right}
 use Rattle.device.specs.declared.Device.{Device}
 use Rattle.chip.specs.declared.Cycle.{Cycle}
 use Rattle.chip.specs.declared.Effect.{Effect}
@@ -19,7 +18,7 @@ use Rattle.stepper.specs.Outs.{cycleOf}
 use Rattle.run.specs.Turns.{Config, isEnded, answerTo, arrayTo, turnOf, after}
 use Rattle.run.proofs.Turning.{turn-ended, turn-going}
 use Rattle.run_claims.specs.Wear.{noted, notedAll, begunTurn, begunIn}
-use Rattle.run_claims.specs.History.{Bus, World, worldOf, busesOf, stepped, worldAfter, effectBy, effectsIn, begunOver, acceptsAll, isCut, uncut, total}
+use Rattle.run_claims.specs.History.{Bus, World, worldOf, busesOf, stepped, worldAfter, effectsIn, begunOver, acceptsAll, isCut, uncut, total}
 use Rattle.run_claims.specs.Made.{madeIn, isSmooth, smoothTurn, smoothIn}
 
 -- the operations without the places where nothing is weigh the same

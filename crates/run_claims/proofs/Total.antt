@@ -1,6 +1,6 @@
 -- Every end of a run that nothing refuses, as one statement. Assumes nothing.
 use mathlib.Core.Path.{_≡_, refl, sym, ap, _∙_, subst}
-use mathlib.Core.Bool.{Bool, true, false, not}
+use mathlib.Core.Bool.{Bool, true, false}
 use mathlib.Core.List.{List, []}
 use Prim.Native.Nat.{ℕ, _-_}
 use lib.ListN.{length}
@@ -14,15 +14,13 @@ use Rattle.chip.specs.declared.Pins.{Pins}
 use Rattle.chip.specs.declared.Effect.{Effect}
 use Rattle.chip.specs.declared.State.{State}
 use Rattle.chip.specs.Levels.{vppLow, unlocked}
-use Rattle.loader.specs.declared.Stage.the-variants.{Clearing}
-use Rattle.stepper.specs.Front.{recordAt, endAddress}
+use Rattle.stepper.specs.Front.{endAddress}
 use Rattle.loader.specs.Walks.{risesIn, diffFrom}
 use Rattle.loader.specs.Moves.{eraseFault, programFault, bothErrors}
 use Rattle.run.specs.declared.Ran.{Ran}
-use Rattle.run.specs.Turns.{bound}
-use Rattle.run.specs.Runs.{begin, ranOf, bytesOf, scratchOf}
+use Rattle.run.specs.Runs.{ranOf}
 use Rattle.run_claims.specs.Wear.{heldIn}
-use Rattle.run_claims.specs.Made.{madeIn, smoothIn, cyclesOf}
+use Rattle.run_claims.specs.Made.{cyclesOf}
 use Rattle.run_claims.specs.Ends.{asWanted, shut, endNumber, faultStatus, faultCycles, wellRan, faultRan, ranAs, bytesAs, scratchAs, cyclesAs, Whole}
 use Rattle.run_claims.proofs.Answers.{unsupplied-stuck, locked-stuck}
 use Rattle.run_claims.specs.Mission.{Taken}
