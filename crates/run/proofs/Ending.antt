@@ -121,6 +121,7 @@ module _ (d : Device) (s : State) (p : Pins) (k : ℕ) (xs w sc : List ℕ) wher
   abbrev pub number : ℕ
   number = runNumber d s p k (length xs) (length w) (length sc)
 
+  -- where this run begins
   abbrev start : Config
   start = beginning d s p k xs sc
 

@@ -12,14 +12,16 @@ use Rattle.chip.specs.declared.Pins.{Pins}
 use Rattle.chip.specs.declared.Mode.the-variants.{Array}
 use Rattle.chip.specs.declared.State.{State}
 use Rattle.chip.specs.States.{atRest}
+use Rattle.run.specs.Turns.{Config, after}
 use Rattle.run.specs.Runs.{runNumber, ranOf, bytesOf, scratchOf}
-use Rattle.run_claims.specs.Wear.{begunByLoad, heldIn, heldBy, formula, operationsOf}
-use Rattle.run_claims.specs.History.{Bus, worldOf}
-use Rattle.run_claims.specs.Made.{cyclesOfLoad, cyclesOf}
+use Rattle.run_claims.specs.Wear.{notedAll, begunIn, begunByLoad, heldIn, heldBy, formula, operationsOf}
+use Rattle.run_claims.specs.History.{Bus, worldOf, busesOf, worldAfter, begunOver}
+use Rattle.run_claims.specs.Made.{madeIn, cyclesOfLoad, cyclesOf}
 use Rattle.run_claims.specs.Ends.{asWanted, Whole}
 use Rattle.run_claims.specs.Mission.{Taken, Start, Brings, ownCycles, NoFewer, Demand3}
 use Rattle.run_claims.proofs.Same as same
 use Rattle.run_claims.proofs.Starts as starts
+use Rattle.run_claims.proofs.Own as own
 use Rattle.run_claims.proofs.Total as total-ends
 use Rattle.run_claims.proofs.Mission as mission
 
@@ -71,6 +73,14 @@ cycles-counted = mission.cycles-long
 pub nothing-less : (d : Device) (s : State) (p : Pins) (k : ℕ) (xs w sc : List ℕ) → Start d s p k xs w sc → Cells xs
     → (bs : List Bus) → Brings d (worldOf s xs) k w bs → NoFewer d (worldOf s xs) k (ownCycles d s p k xs w sc) bs
 nothing-less d s p k xs w sc start = mission.demand-3 d s p k xs w sc start .least-wear
+
+-- A load's cycles, put to a device alone, lead it to where the load is and begin what the load begins. From any input whatever.
+pub own-leads : (d : Device) (w : List ℕ) (j : ℕ) (c : Config)
+    → worldAfter d (worldOf (c .state) (c .bytes)) (busesOf (madeIn j d w c)) ≡ worldOf (after j d w c .state) (after j d w c .bytes)
+own-leads = own.own-leads
+
+pub own-begins : (d : Device) (w : List ℕ) (j : ℕ) (c : Config) → notedAll (begunOver d (worldOf (c .state) (c .bytes)) (busesOf (madeIn j d w c))) ≡ begunIn j d w c
+own-begins = own.own-begins
 
 -- Every end. A run that nothing refuses, whatever VPP and RP# (`Taken`), returns and leaves what specs/Ends says, and makes the
 -- cycles listed there: with nothing to erase or program it ends well in 2n + 3 cycles; otherwise with VPP low it ends 21, and with

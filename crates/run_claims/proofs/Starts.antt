@@ -22,6 +22,7 @@ use Rattle.run.specs.Runs.{runRows, runNumber}
 use Rattle.run.proofs.Good.{good}
 use Rattle.run_claims.specs.Mission.{Taken}
 
+-- pins that do not bar a run are not bad, with RP# not low; and the other way round
 pub levels-of : (d : Device) (p : Pins) → barredPins (d .part) p ≡ false → (badPins (d .part) p ≡ false) × (rpLow p ≡ false)
 unfolding barredPins
 levels-of d p e = (or-left (badPins (d .part) p) (rpLow p) e, or-right (badPins (d .part) p) (rpLow p) e)
@@ -34,6 +35,7 @@ levels-both d p b l = or-both (badPins (d .part) p) (rpLow p) b l
 right : (n m : ℕ) → n ≡ m → not (eqb n m) ≡ false
 right n m e = ap not (eq-eqb n m e)
 
+-- .. nor are both
 lengths-right : (d : Device) (k w sc : ℕ) → w ≡ lengthOf (d .part) k → sc ≡ lengthOf (d .part) k → wrongLengths (d .part) k w sc ≡ false
 unfolding wrongLengths
 lengths-right d k w sc e f = or-both (not (eqb w (lengthOf (d .part) k))) (not (eqb sc (lengthOf (d .part) k))) (right w _ e) (right sc _ f)
@@ -68,5 +70,6 @@ module _ (d : Device) (s : State) (p : Pins) (k : ℕ) (xs w sc : List ℕ) wher
         bytes = bytes;
       }
 
+  -- both at once
   pub taken-exactly : d .program ≤ 65535 → d .erase ≤ 65535 → Cells w → Taken d s p k xs w sc ↔ (runNumber d s p k (length xs) (length w) (length sc) ≡ 0)
   taken-exactly programs erases bytes = (none-refuses, λ n. taken-if n programs erases bytes)

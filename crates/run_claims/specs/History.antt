@@ -26,6 +26,7 @@ pub record World : Type 0 where
   pub state : State
   pub bytes : List ℕ
 
+-- .. by its two parts
 abbrev pub worldOf : State → List ℕ → World
 worldOf s xs = record { state = s; bytes = xs }
 
@@ -44,6 +45,7 @@ abbrev pub worldAfter : Device → World → List Bus → World
 worldAfter d v [] = v
 worldAfter d v (b ∷ bs) = worldAfter d (stepped d v b) bs
 
+-- what one cycle does to the array
 abbrev pub effectBy : Device → World → Bus → Effect
 effectBy d v b = decideOf d (v .state) (b .cycle) (length (v .bytes)) (length (b .residue)) .effect
 
@@ -63,6 +65,7 @@ acceptsAll d v [] = true
 acceptsAll d v (b ∷ bs) =
     not (isRefusal (decideOf d (v .state) (b .cycle) (length (v .bytes)) (length (b .residue)) .reply)) && acceptsAll d (stepped d v b) bs
 
+-- an effect that cuts an operation
 abbrev pub isCut : Effect → Bool
 isCut Nothing = false
 isCut (Program a b) = false
