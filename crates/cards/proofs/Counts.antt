@@ -19,7 +19,8 @@ use Rattle.loader.specs.Walks.{risesIn}
 use Rattle.run.specs.declared.Ran.{Ran}
 use Rattle.run.specs.Runs.{runNumber}
 use Rattle.run_claims.specs.Wear.{differing, heldIn, formula}
-use Rattle.run_claims.proofs.Demand.{Start}
+use Rattle.run_claims.specs.Mission.{Start}
+use Rattle.run_claims.proofs.Starts.{taken-if}
 use Rattle.run_claims.proofs.Same.{none-risen, none-differing}
 use Rattle.run_claims.proofs.Claims.{ends-well}
 use Rattle.cards.specs.Table.{benchT, normal, same, Counts, Card10, Card11}
@@ -49,7 +50,7 @@ counts n held w lw bytes f xs sc lx ls h =
 
     start : Start benchT freshState normal 1 xs w sc
     start = record {
-      base = record { taken = rw (lx, lw, ls) accepted; programs = omega arith; erases = omega arith; bytes = λ (i : ℕ). omega (arith, bytes i) };
+      base = taken-if benchT freshState normal 1 xs w sc (rw (lx, lw, ls) accepted) (omega arith) (omega arith) (λ (i : ℕ). omega (arith, bytes i));
       high = supply;
       unlock = λ (e : _≡_ {A = ℕ} 1 0). absurd (omega arith);
     }

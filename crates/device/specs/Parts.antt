@@ -1,7 +1,7 @@
 -- The parts we load, each by a short description, and all that follows from it. Assumes nothing.
-use mathlib.Core.Bool.{Bool, true, false, not, _&&_, _||_}
+use mathlib.Core.Bool.{Bool, true, false, _||_}
 use mathlib.Core.List.{List, [], _∷_}
-use Prim.Native.Nat.{ℕ, zero, suc, _+_, _-_}
+use Prim.Native.Nat.{ℕ, _+_, _-_, _≤_, _<_}
 use lib.Dec.{eqb, ltb}
 use Rattle.cells.specs.Choice.{if_then_else_}
 use Rattle.device.specs.Blocks.{total, lengthAt, offsetAt, holder, count}
@@ -58,6 +58,11 @@ startIn s k = if s .top then sizeIn s - offsetIn s k - lengthIn s k else offsetI
 unfoldable pub blockIn : Shape → ℕ → ℕ
 blockIn s a = holderIn s (turned (s .top) (sizeIn s) a)
 
+-- an address lies in block k
+pub record Holds (s : Shape) (k a : ℕ) : Type 0 where
+  pub from : startIn s k ≤ a
+  pub to : a < startIn s k + lengthIn s k
+
 -- refusal 1 of a part: its number is not 1 to 4
 unfoldable pub unknownPart : Part → Bool
 unknownPart p = eqb (p .number) 0 || ltb 4 (p .number)
@@ -89,3 +94,14 @@ codeOf p = shapeOf p .code
 -- how many blocks the part has
 unfoldable pub countOf : Part → ℕ
 countOf p = countIn (shapeOf p)
+
+-- the last address of block k
+abbrev pub lastOf : Part → ℕ → ℕ
+lastOf p k = startOf p k + lengthOf p k - 1
+
+-- a device's row in the table of the four: each block's first and last address, outward from the boot block, then the size, the
+-- number of blocks and the identifier code
+abbrev pub tableRow : ℕ → List ℕ
+tableRow n =
+    let p : Part = record { number = n } in
+    startOf p 0 ∷ lastOf p 0 ∷ startOf p 1 ∷ lastOf p 1 ∷ startOf p 2 ∷ lastOf p 2 ∷ startOf p 3 ∷ lastOf p 3 ∷ sizeOf p ∷ countOf p ∷ codeOf p ∷ []

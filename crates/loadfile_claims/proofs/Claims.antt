@@ -19,11 +19,12 @@ use Rattle.loadfile.proofs.Outcomes.{payload-right, payload-fits, writer-lets, 
 use Rattle.loadfile.specs.declared.Written.{Written}
 use Rattle.loadfile.specs.declared.Judged.{Judged}
 use Rattle.loadfile.specs.declared.ReadBack.{ReadBack}
-use Rattle.loadfile_claims.proofs.Bytes.{Bytes}
+use Rattle.cells.specs.Lists.{Bytes}
+use Rattle.loadfile_claims.specs.Orders.{Ordered}
 use Rattle.loadfile_claims.proofs.Written.{written-read, written-other, written-bytes}
 use Rattle.loadfile_claims.proofs.Reading.{read-written}
 use Rattle.loadfile_claims.proofs.Damage.{damaged, wsum-set}
-use Rattle.loadfile_claims.proofs.Order.{Ordered, writes-in-order, judges-in-order, reads-in-order}
+use Rattle.loadfile_claims.proofs.Order.{writes-in-order, judges-in-order, reads-in-order}
 
 -- what the writer makes of a payload, the reader gives back for that letter
 pub comes-back : (most ℓ : ℕ) (p f : List ℕ) → writerOf most ℓ p ≡ made f → readerOf most f ℓ ≡ made p

@@ -23,9 +23,9 @@ use Rattle.bus.specs.Cycles.{tableOf, numberOf, judgeOf, decideOf, respondOf}
 use Rattle.bus.proofs.Facts.{proper-parts, parts-proper}
 use Rattle.model.specs.declared.Seen.the-variants.{Refused}
 use Rattle.model.specs.declared.Answer.{Answer}
-use Rattle.model.specs.Arrays.{answerOf, arrayAfter}
+use Rattle.model.specs.Arrays.{isRefusal, answerOf, arrayAfter}
 use Rattle.model.specs.Passed.{passedOf, arrayPassed, programmedAt, erasedAt}
-use Rattle.model.specs.Begun.{operationOf, pendingOf, startsOf, begunBy, isAwaited}
+use Rattle.model.specs.Begun.{operationOf, pendingOf, startsOf, begunBy, isAwaited, begunFrom}
 use Rattle.model.proofs.Keeping as keeping
 use Rattle.model.proofs.Lives as lives
 use Rattle.model.proofs.Contents as contents
@@ -38,7 +38,7 @@ pub refused-exactly : (d : Device) (s : State) (c : Cycle) (xs rs : List ℕ) (m
 refused-exactly = table.host-numbers
 
 -- It is accepted exactly where none of the nine conditions holds.
-pub accepted-exactly : (d : Device) (s : State) (c : Cycle) (n r : ℕ) → (table.isRefusal (decideOf d s c n r .reply) ≡ false) ↔ NoRow (tableOf d s c n r)
+pub accepted-exactly : (d : Device) (s : State) (c : Cycle) (n r : ℕ) → (isRefusal (decideOf d s c n r .reply) ≡ false) ↔ NoRow (tableOf d s c n r)
 accepted-exactly = table.accepted-exactly
 
 -- A refused cycle has not happened: state and array are as before. (The answer is the refusal, so no data is given.)
@@ -78,7 +78,7 @@ begun-refused = lives.begun-refused
 pub begun-unawaited : (d : Device) (s : State) (c : Cycle) (n r : ℕ) → isAwaited (s .phase) ≡ false → begunBy d s c n r ≡ Nothing
 begun-unawaited = lives.begun-unawaited
 
-pub begun-from : (d : Device) (s : State) (c : Cycle) (n r : ℕ) → begunBy d s c n r ≡ lives.begunFrom (d .part) s (decideOf d s c n r .state)
+pub begun-from : (d : Device) (s : State) (c : Cycle) (n r : ℕ) → begunBy d s c n r ≡ begunFrom (d .part) s (decideOf d s c n r .state)
 begun-from = lives.begun-from
 
 -- The law of lives, for every cycle and every weight of operations: what ended or was cut and what is pending after weighs

@@ -30,12 +30,8 @@ use Rattle.settling.specs.Settling.{settledAs, cutOf, endOf, cutBy, countedOff,
 use Rattle.bus.specs.Cycles.{isWrite, numberOf, decideOf, acceptOf, respondOf}
 use Rattle.bus.proofs.Ways.{refused, accepted}
 use Rattle.model.proofs.Outcome.{outcome, accept-ways, accept-effect}
-use Rattle.model.specs.Begun.{operationOf, pendingIn, pendingOf, askedBy, startsOf, begunBy, isAwaited}
+use Rattle.model.specs.Begun.{operationOf, pendingIn, pendingOf, askedBy, startsOf, begunBy, isAwaited, begunFrom}
 use Rattle.model.proofs.Keeping.{st}
-
--- awaited before and running after: the same operation, told by the states
-abbrev pub begunFrom : Part → State → State → Effect
-begunFrom part s t = if isAwaited (s .phase) then pendingOf part t else Nothing
 
 cut-same : (ph : Phase) (part : Part) (a : ℕ) → operationOf (cutOf ph part a) ≡ pendingIn ph part a
 cut-same Free part a = refl

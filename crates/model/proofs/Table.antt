@@ -21,11 +21,11 @@ use Rattle.chip.specs.declared.Reply.the-variants.{Quiet, Gives, GivesArray, Re
 use Rattle.chip.specs.declared.Effect.the-variants.{Nothing}
 use Rattle.settling.specs.Settling.{settleOf}
 use Rattle.bus.specs.Cycles.{tableOf, numberOf, decideOf, acceptOf, respondOf, readOf}
-use mathlib.Core.Bool.{Bool, true, false}
+use mathlib.Core.Bool.{true, false}
 use Rattle.cells.proofs.Choice.{unlike}
 use Rattle.bus.proofs.Ways.{refused, accepted}
 use Rattle.model.specs.declared.Seen.the-variants.{Refused}
-use Rattle.model.specs.Arrays.{arrayAfter, answerOf, seenOf}
+use Rattle.model.specs.Arrays.{isRefusal, arrayAfter, answerOf, seenOf}
 use Rattle.model.proofs.Outcome.{outcome, accept-ways}
 
 -- the number that a reply refuses by, 0 where it gives no refusal
@@ -34,13 +34,6 @@ refusal Quiet = 0
 refusal (Gives b) = 0
 refusal (GivesArray a) = 0
 refusal (Refuses m) = m
-
--- a reply that is a refusal
-abbrev pub isRefusal : Reply → Bool
-isRefusal Quiet = false
-isRefusal (Gives b) = false
-isRefusal (GivesArray a) = false
-isRefusal (Refuses m) = true
 
 -- an accepted cycle is not refused
 accept-answers : (d : Device) (c : Cycle) (t : Settled) → isRefusal (acceptOf d c t .reply) ≡ false

@@ -1,5 +1,6 @@
 -- What a cycle does to the array, and what the host sees. Assumes nothing.
 use mathlib.Core.Path.{_≡_}
+use mathlib.Core.Bool.{Bool, true, false}
 use mathlib.Core.List.{List}
 use Prim.Native.Nat.{ℕ, _≤_, _<_}
 use lib.ListN.{length, getD, set, take, replicate}
@@ -43,6 +44,13 @@ Within (Program at b) part n r = at < n
 Within (Erase k) part n r = n ≡ sizeOf part
 Within (CutProgram at b) part n r = (at < n) × (0 < r)
 Within (CutErase k) part n r = (n ≡ sizeOf part) × (lengthOf part k ≤ r)
+
+-- a reply that is a refusal
+abbrev pub isRefusal : Reply → Bool
+isRefusal Quiet = false
+isRefusal (Gives b) = false
+isRefusal (GivesArray a) = false
+isRefusal (Refuses m) = true
 
 -- what the host sees of a reply
 abbrev pub seenOf : Reply → List ℕ → Seen

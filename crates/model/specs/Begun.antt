@@ -64,3 +64,7 @@ isAwaited DataAwaited = true
 isAwaited (Programming b) = false
 isAwaited Erasing = false
 isAwaited Suspended = false
+
+-- awaited before and running after: the same operation, told by the states
+abbrev pub begunFrom : Part → State → State → Effect
+begunFrom part s t = if isAwaited (s .phase) then pendingOf part t else Nothing

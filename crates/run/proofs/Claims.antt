@@ -13,13 +13,12 @@ use Rattle.chip.specs.declared.Pins.{Pins}
 use Rattle.chip.specs.declared.State.{State}
 use Rattle.run.specs.declared.Ran.{Ran}
 use Rattle.run.specs.Turns.{Config, isEnded, after}
-use Rattle.run.specs.Runs.{runRows, runNumber, begin, driven, ranOf, bytesOf, scratchOf}
-use Rattle.loader.specs.declared.Stage.the-variants.{Clearing}
+use Rattle.run.specs.Runs.{runRows, runNumber, driven, ranOf, bytesOf, scratchOf, beginning}
 use Rattle.loader.specs.declared.Loader.{Loader}
 use Rattle.loader.specs.Moves.{nextOf}
 use Rattle.stepper.specs.Outs.{cycleOf}
 use Rattle.stepper.specs.Stores.{storeOf}
-use Rattle.stepper.specs.Front.{recordAt}
+use Rattle.run.specs.Promises.{FirstEnd, Promise}
 use Rattle.bus.specs.Cycles.{judgeOf}
 use Rattle.run.proofs.Ending as ending
 use Rattle.run.proofs.Sound as sound
@@ -50,24 +49,24 @@ always-ends = ending.always-ends
 -- The promise of a run that nothing refuses: the count is the first number of cycles after which the load has ended, and the
 -- end, the address, the state, the array and scratch are what those cycles leave.
 pub first-end : (d : Device) (s : State) (p : Pins) (k : ℕ) (xs w sc : List ℕ) → NoRow (runRows d s p k (length xs) (length w) (length sc))
-    → ending.Promise d s p k xs w sc (ranOf d s p k xs w sc) (bytesOf d s p k xs w sc) (scratchOf d s p k xs w sc)
+    → Promise d s p k xs w sc (ranOf d s p k xs w sc) (bytesOf d s p k xs w sc) (scratchOf d s p k xs w sc)
 first-end = ending.run-first
 
 -- There is one such number: an early stop or an invented count does not meet it.
-pub first-only : (d : Device) (w : List ℕ) (c e : Config) → ending.FirstEnd d w c e → (k : ℕ) → isEnded (after k d w c .loader .stage) ≡ true
+pub first-only : (d : Device) (w : List ℕ) (c e : Config) → FirstEnd d w c e → (k : ℕ) → isEnded (after k d w c .loader .stage) ≡ true
     → ((j : ℕ) → j < k → isEnded (after j d w c .loader .stage) ≡ false) → k ≡ e .count
 first-only = ending.first-only
 
 pub promise-once : (d : Device) (s : State) (p : Pins) (k : ℕ) (xs w sc : List ℕ) (r t : Ran) (x y u v : List ℕ)
-    → ending.Promise d s p k xs w sc r x u → ending.Promise d s p k xs w sc t y v → (r ≡ t) × (x ≡ y) × (u ≡ v)
+    → Promise d s p k xs w sc r x u → Promise d s p k xs w sc t y v → (r ≡ t) × (x ≡ y) × (u ≡ v)
 promise-once = ending.promise-once
 
 -- None of refusals 1 to 6 ever applies to the cycle that is out: the loop need not test them again.
 pub passes-ever : (d : Device) (s : State) (p : Pins) (k : ℕ) (xs w sc : List ℕ) → runNumber d s p k (length xs) (length w) (length sc) ≡ 0 → (j : ℕ)
-    → isEnded (after j d w (begin d s (recordAt (d .part) p k Clearing) xs sc) .loader .stage) ≡ false
-    → judgeOf d (after j d w (begin d s (recordAt (d .part) p k Clearing) xs sc) .state)
-    (cycleOf (after j d w (begin d s (recordAt (d .part) p k Clearing) xs sc) .loader) w)
-    (length (after j d w (begin d s (recordAt (d .part) p k Clearing) xs sc) .bytes)) 0
+    → isEnded (after j d w (beginning d s p k xs sc) .loader .stage) ≡ false
+    → judgeOf d (after j d w (beginning d s p k xs sc) .state)
+    (cycleOf (after j d w (beginning d s p k xs sc) .loader) w)
+    (length (after j d w (beginning d s p k xs sc) .bytes)) 0
     ≡ 0
 passes-ever = sound.passes-ever
 

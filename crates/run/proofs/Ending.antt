@@ -7,18 +7,17 @@ use Prim.Native.Nat.{ℕ, zero, suc, _+_, _-_, _*_, _≤_, _<_}
 use native.Mathlib.Omega.{arith}
 use lib.ListN.{length}
 use lib.Dec.{eqb, ltb}
-use borrow.Author.Tests.{ltb-true, ltb-false, eq-eqb, ne-eqb, eqb-true, eqb-false}
-use Rattle.cells.proofs.Choice.{if-true, if-false, unlike}
+use borrow.Author.Tests.{ltb-true, ltb-false, eqb-true, eqb-false}
+use Rattle.cells.proofs.Choice.{unlike}
 use Rattle.cells.specs.Numbers.{Foremost, NoRow}
 use Rattle.cells.proofs.Numbers.{given-foremost, foremost-given, given-no-row, no-row-given}
 use Rattle.device.specs.declared.Device.{Device}
 use Rattle.chip.specs.declared.Pins.{Pins}
 use Rattle.chip.specs.declared.State.{State}
-use Rattle.loader.specs.declared.Stage.the-variants.{Clearing}
-use Rattle.stepper.specs.Front.{recordAt}
 use Rattle.run.specs.declared.Ran.{Ran}
 use Rattle.run.specs.Turns.{Config, isEnded, answerTo, moved, after, bound}
-use Rattle.run.specs.Runs.{runRows, runNumber, begin, ranBy, driven, leftBy, ranOf, bytesOf, scratchOf, RunLeft}
+use Rattle.run.specs.Runs.{runRows, runNumber, beginning, ranBy, driven, leftBy, ranOf, bytesOf, scratchOf, RunLeft}
+use Rattle.run.specs.Promises.{FirstEnd, Promise}
 use Rattle.run.proofs.Leaving.{left-made, left-refused}
 use Rattle.run.proofs.Measure.{remains, remains-bound, remains-some, falls}
 use Rattle.run.proofs.Turning.{turn-going, ended-stays}
@@ -93,12 +92,6 @@ module _ (d : Device) (w : List ℕ) where
   unfolding driven
   always-ends c = enough (bound (length w)) c (remains-bound (c .loader .stage) (length w) (c .loader .place) (c .loader .polls))
 
--- e is what the first k cycles from c leave after which the load has ended, k being e's count
-pub record FirstEnd (d : Device) (w : List ℕ) (c e : Config) : Type 0 where
-  pub reached : e ≡ after (e .count) d w c
-  pub ended : isEnded (e .loader .stage) ≡ true
-  pub first : (j : ℕ) → j < e .count → isEnded (after j d w c .loader .stage) ≡ false
-
 pub first-end : (d : Device) (w : List ℕ) (c : Config) → c .count ≡ 0 → FirstEnd d w c (driven d w c)
 unfolding driven
 first-end d w c z =
@@ -128,9 +121,9 @@ module _ (d : Device) (s : State) (p : Pins) (k : ℕ) (xs w sc : List ℕ) wher
   abbrev pub number : ℕ
   number = runNumber d s p k (length xs) (length w) (length sc)
 
-  -- the beginning of this run
-  abbrev pub beginning : Config
-  beginning = begin d s (recordAt (d .part) p k Clearing) xs sc
+  -- where this run begins
+  abbrev start : Config
+  start = beginning d s p k xs sc
 
   -- what a refusal returns
   abbrev pub refusalBy : ℕ → Ran
@@ -141,20 +134,20 @@ module _ (d : Device) (s : State) (p : Pins) (k : ℕ) (xs w sc : List ℕ) wher
       let e = left-refused d s p k xs w sc z in (ap (λ (r : RunLeft). r .ran) e, ap (λ (r : RunLeft). r .bytes) e, ap (λ (r : RunLeft). r .scratch) e)
 
   accepted-ran : number ≡ 0
-      → (ranOf d s p k xs w sc ≡ ranBy (driven d w beginning)) × (bytesOf d s p k xs w sc ≡ driven d w beginning .bytes) × (scratchOf d s p k xs w sc ≡ driven d w beginning .scratch)
+      → (ranOf d s p k xs w sc ≡ ranBy (driven d w start)) × (bytesOf d s p k xs w sc ≡ driven d w start .bytes) × (scratchOf d s p k xs w sc ≡ driven d w start .scratch)
   unfolding leftBy
   accepted-ran z =
       let e = left-made d s p k xs w sc z in (ap (λ (r : RunLeft). r .ran) e, ap (λ (r : RunLeft). r .bytes) e, ap (λ (r : RunLeft). r .scratch) e)
 
   -- a run that nothing refuses makes a cycle
-  some-cycle : 0 < driven d w beginning .count
+  some-cycle : 0 < driven d w start .count
   unfolding driven
   some-cycle =
-      subst (λ (m : ℕ). 0 < after m d w beginning .count) (let q : suc (length w * 65539 + 196621) ≡ bound (length w) = omega arith in q)
-      (subst (λ (x : Config). 0 < x .count) (sym (after-going d w (length w * 65539 + 196621) beginning refl)) grown)
+      subst (λ (m : ℕ). 0 < after m d w start .count) (let q : suc (length w * 65539 + 196621) ≡ bound (length w) = omega arith in q)
+      (subst (λ (x : Config). 0 < x .count) (sym (after-going d w (length w * 65539 + 196621) start refl)) grown)
     where
-      grown : 0 < after (length w * 65539 + 196621) d w (moved d w beginning) .count
-      grown = omega (arith, count-grows d w (length w * 65539 + 196621) (moved d w beginning))
+      grown : 0 < after (length w * 65539 + 196621) d w (moved d w start) .count
+      grown = omega (arith, count-grows d w (length w * 65539 + 196621) (moved d w start))
 
   row-of : (m : ℕ) → (m ≡ 0 → ⊥) → number ≡ m → Foremost (runRows d s p k (length xs) (length w) (length sc)) m
   unfolding runNumber
@@ -179,7 +172,7 @@ module _ (d : Device) (s : State) (p : Pins) (k : ℕ) (xs w sc : List ℕ) wher
     where
       forth : (ranOf d s p k xs w sc .count ≡ 0) × (ranOf d s p k xs w sc .end ≡ m) → (b : Bool) → eqb number 0 ≡ b → Foremost (runRows d s p k (length xs) (length w) (length sc)) m
       forth h true e =
-          absurd (let y : driven d w beginning .count ≡ 0 = sym (ap (λ (r : Ran). r .count) (accepted-ran (eqb-true _ _ e) .0)) ∙ h .0 in omega (arith, some-cycle))
+          absurd (let y : driven d w start .count ≡ 0 = sym (ap (λ (r : Ran). r .count) (accepted-ran (eqb-true _ _ e) .0)) ∙ h .0 in omega (arith, some-cycle))
       forth h false e = row-of m z (sym (ap (λ (r : Ran). r .end) (refused-ran (eqb-false _ _ e) .0)) ∙ h .1)
 
       back : Foremost (runRows d s p k (length xs) (length w) (length sc)) m → (ranOf d s p k xs w sc .count ≡ 0) × (ranOf d s p k xs w sc .end ≡ m)
@@ -207,19 +200,11 @@ module _ (d : Device) (s : State) (p : Pins) (k : ℕ) (xs w sc : List ℕ) wher
       let r = refused-ran (λ e. z (sym q ∙ e)) in
       (r .0 ∙ ap refusalBy q, r .1, r .2)
 
-  -- the promise of a run that nothing refuses
-  pub record Promise (r : Ran) (left scratch : List ℕ) : Type 0 where
-    pub returned : r ≡ ranBy (after (r .count) d w beginning)
-    pub array : left ≡ after (r .count) d w beginning .bytes
-    pub room : scratch ≡ after (r .count) d w beginning .scratch
-    pub ended : isEnded (after (r .count) d w beginning .loader .stage) ≡ true
-    pub first : (j : ℕ) → j < r .count → isEnded (after j d w beginning .loader .stage) ≡ false
-
 -- a run that nothing refuses returns the first number of cycles after which the load has ended, and what those leave
 pub run-first : (d : Device) (s : State) (p : Pins) (k : ℕ) (xs w sc : List ℕ) → NoRow (runRows d s p k (length xs) (length w) (length sc))
     → Promise d s p k xs w sc (ranOf d s p k xs w sc) (bytesOf d s p k xs w sc) (scratchOf d s p k xs w sc)
 run-first d s p k xs w sc f =
-    let c = beginning d s p k xs w sc in
+    let c = beginning d s p k xs sc in
     let e = driven d w c in
     let a = accepted-ran d s p k xs w sc (rows-none d s p k xs w sc f) in
     let h : FirstEnd d w c e = first-end d w c refl in
@@ -237,7 +222,7 @@ run-first d s p k xs w sc f =
 pub promise-once : (d : Device) (s : State) (p : Pins) (k : ℕ) (xs w sc : List ℕ) (r t : Ran) (x y u v : List ℕ)
     → Promise d s p k xs w sc r x u → Promise d s p k xs w sc t y v → (r ≡ t) × (x ≡ y) × (u ≡ v)
 promise-once d s p k xs w sc r t x y u v f g =
-    let c = beginning d s p k xs w sc in
+    let c = beginning d s p k xs sc in
     let n : r .count ≡ t .count = go (ltb (r .count) (t .count)) refl (ltb (t .count) (r .count)) refl in (
       f .returned ∙ ap (λ (j : ℕ). ranBy (after j d w c)) n ∙ sym (g .returned),
       f .array ∙ ap (λ (j : ℕ). after j d w c .bytes) n ∙ sym (g .array),

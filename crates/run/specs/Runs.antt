@@ -63,6 +63,10 @@ endOf (Ended n) = n
 abbrev pub begin : Device → State → Loader → List ℕ → List ℕ → Config
 begin d s l xs sc = record { loader = l; state = s; bytes = xs; scratch = sc; count = 0 }
 
+-- .. of a load of block k
+abbrev pub beginning : Device → State → Pins → ℕ → List ℕ → List ℕ → Config
+beginning d s p k xs sc = begin d s (recordAt (d .part) p k Clearing) xs sc
+
 -- what is returned of a load under way
 abbrev pub ranBy : Config → Ran
 ranBy c = record { count = c .count; end = endOf (c .loader .stage); address = endAddress (c .loader) (endOf (c .loader .stage)); state = c .state }
@@ -73,7 +77,7 @@ driven d w c = after (bound (length w)) d w c
 
 -- a whole run, as it is left
 unfoldable pub leftBy : Device → State → Pins → ℕ → List ℕ → List ℕ → List ℕ → Config
-leftBy d s p k xs w sc = driven d w (begin d s (recordAt (d .part) p k Clearing) xs sc)
+leftBy d s p k xs w sc = driven d w (beginning d s p k xs sc)
 
 -- what a run returns and leaves: its result, the array and scratch
 pub record RunLeft : Type 0 where

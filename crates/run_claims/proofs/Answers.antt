@@ -5,7 +5,7 @@ use Prim.Native.Nat.{ℕ, _+_, _-_, _≤_, _<_}
 use native.Mathlib.Omega.{arith}
 use lib.Dec.{eqb, ltb, leb}
 use lib.Bits.{bitAnd, bitOr}
-use borrow.Author.Tests.{lt-leb, ne-eqb, eq-eqb, eqb-true, le-ltb}
+use borrow.Author.Tests.{lt-leb, ne-eqb, eqb-true, le-ltb}
 use Rattle.cells.specs.Choice.{if_then_else_}
 use Rattle.cells.proofs.Choice.{if-false, or-both, unlike, and-none}
 use Rattle.device.specs.declared.Device.{Device}

@@ -2,10 +2,10 @@
 use mathlib.Core.Path.{_≡_}
 use mathlib.Core.Bool.{true}
 use mathlib.Core.List.{List}
+use mathlib.Core.Logic.{_↔_}
 use Prim.Native.Nat.{ℕ, _+_, _*_, _≤_, _<_}
 use lib.ListN.{length, getD}
 use Rattle.chip.specs.Cells.{ones, Cells}
-use Rattle.chip.proofs.Ones.{and-ones}
 use Rattle.cells.specs.Numbers.{NoRow}
 use Rattle.device.specs.declared.Device.{Device}
 use Rattle.device.specs.Parts.{startOf}
@@ -16,22 +16,32 @@ use Rattle.chip.specs.States.{atRest}
 use Rattle.loader.specs.declared.Stage.the-variants.{Clearing}
 use Rattle.stepper.specs.Front.{recordAt}
 use Rattle.run.specs.Turns.{Config, after, bound}
-use Rattle.run.specs.Runs.{runRows, begin, ranOf, bytesOf, scratchOf}
-use Rattle.run_claims.specs.Wear.{begunIn, heldIn, formula, operationsOf}
-use Rattle.run_claims.specs.History.{Bus, worldAfter, effectsIn, begunOver, uncut, total, eraseOf, programIn}
-use Rattle.run_claims.specs.Made.{madeIn, cyclesOf}
-use Rattle.run_claims.proofs.Demand.{Taken, Start}
-use Rattle.run_claims.specs.Ends.{asWanted, ranAs, cyclesAs}
+use Rattle.run.specs.Runs.{runRows, begin, ranOf, bytesOf, scratchOf, runNumber}
+use Rattle.run_claims.specs.Wear.{begunIn, heldIn, formula, operationsOf, notedAll, begunByLoad, heldBy}
+use Rattle.run_claims.specs.History.{Bus, worldAfter, begunOver, worldOf, busesOf}
+use Rattle.run_claims.specs.Made.{madeIn, cyclesOf, cyclesOfLoad}
+use Rattle.run_claims.specs.Ends.{asWanted, ranAs, cyclesAs, Whole}
+use Rattle.run_claims.specs.Mission.{Taken, Start, Brings, ownCycles, NoFewer, Demand3}
 use Rattle.run_claims.proofs.Same as same
+use Rattle.run_claims.proofs.Starts as starts
+use Rattle.run_claims.proofs.Own as own
 use Rattle.run_claims.proofs.Total as total-ends
-use Rattle.run_claims.proofs.Total.{Whole}
 use Rattle.run_claims.proofs.Counting as counting
 use Rattle.run_claims.specs.Stepping.{Stepped}
 use Rattle.run_claims.proofs.Stepping as stepping
 use Rattle.run_claims.proofs.Mission as mission
 
--- Demand 3, from the mission's start (`Start`: nothing refused, so a proper state with nothing under way; VPP in its 12 V band;
--- RP# at unlock level for the boot block). The load ends well, and the count is 2n + 3 + e(2 + E) + p(2 + P).
+-- Demand 3, every clause in the mission's order (specs/Mission), from its start: a proper state with nothing under way, VPP in its
+-- 12 V band, RP# high, at unlock level for the boot block.
+pub demand-3 : (d : Device) (s : State) (p : Pins) (k : ℕ) (xs w sc : List ℕ) → Start d s p k xs w sc → Demand3 d s p k xs w sc
+demand-3 = mission.demand-3
+
+-- A proper idle start (`Taken`) is just what no number of a run refuses, with busy times up to 65,535 and wanted bytes.
+pub taken-exactly : (d : Device) (s : State) (p : Pins) (k : ℕ) (xs w sc : List ℕ) → d .program ≤ 65535 → d .erase ≤ 65535 → Cells w
+    → Taken d s p k xs w sc ↔ (runNumber d s p k (length xs) (length w) (length sc) ≡ 0)
+taken-exactly = starts.taken-exactly
+
+-- The clauses one by one. All that the run returns: the load ends well, and the count is 2n + 3 + e(2 + E) + p(2 + P).
 pub ends-well : (d : Device) (s : State) (p : Pins) (k : ℕ) (xs w sc : List ℕ) → Start d s p k xs w sc
     → ranOf d s p k xs w sc ≡ record { count = formula d w (heldIn (startOf (d .part) k) (length w) xs); end = 0; address = 0; state = atRest Array 128 }
 ends-well = mission.ends-well
@@ -52,29 +62,31 @@ scratch-left = mission.scratch-wanted
 -- It erases once if some bit must rise, otherwise never; it programs each byte that then differs once, and no other: the list of
 -- the operations begun, in their order.
 pub begins-just : (d : Device) (s : State) (p : Pins) (k : ℕ) (xs w sc : List ℕ) → Start d s p k xs w sc
-    → begunIn (bound (length w)) d w (begin d s (recordAt (d .part) p k Clearing) xs sc)
-    ≡ operationsOf k (startOf (d .part) k) w (heldIn (startOf (d .part) k) (length w) xs)
-begins-just = mission.begins-just
+    → begunByLoad d s p k xs w sc ≡ operationsOf k (startOf (d .part) k) w (heldBy (d .part) k xs)
+begins-just d s p k xs w sc start = mission.demand-3 d s p k xs w sc start .begins
 
 -- The cycles of a good load, one after the other: 50H, FFH, n reads; 20H, D0H, E polls if some bit must rise; 40H, the byte, P
 -- polls for each byte that then differs; FFH, n reads. There are as many as the formula says.
 pub cycles-are : (d : Device) (s : State) (p : Pins) (k : ℕ) (xs w sc : List ℕ) → Start d s p k xs w sc
-    → madeIn (bound (length w)) d w (begin d s (recordAt (d .part) p k Clearing) xs sc)
-    ≡ cyclesOf d p (startOf (d .part) k) w (heldIn (startOf (d .part) k) (length w) xs)
-cycles-are = mission.cycles-are
+    → cyclesOfLoad d s p k xs w sc ≡ cyclesOf d p (startOf (d .part) k) w (heldBy (d .part) k xs)
+cycles-are = mission.cycles-listed
 
 pub cycles-counted : (d : Device) (p : Pins) (a : ℕ) (w ys : List ℕ) → length (cyclesOf d p a w ys) ≡ formula d w ys
 cycles-counted = mission.cycles-long
 
 -- Least wear: cycles of any kind from the same start, refused ones among them, that cut no operation and leave the block as
--- wanted, begin at least as many erases of that block and at least as many programs in it as the load.
-pub nothing-less : (d : Device) (s : State) (p : Pins) (k : ℕ) (xs w sc : List ℕ) → Start d s p k xs w sc
-    → (bs : List Bus) → Cells xs → uncut (effectsIn d (record { state = s; bytes = xs }) bs) ≡ true
-    → heldIn (startOf (d .part) k) (length w) (worldAfter d (record { state = s; bytes = xs }) bs .bytes) ≡ w
-    → (total (eraseOf k) (begunIn (bound (length w)) d w (begin d s (recordAt (d .part) p k Clearing) xs sc)) ≤ total (eraseOf k) (begunOver d (record { state = s; bytes = xs }) bs))
-    × (total (programIn (startOf (d .part) k) (length w)) (begunIn (bound (length w)) d w (begin d s (recordAt (d .part) p k Clearing) xs sc))
-    ≤ total (programIn (startOf (d .part) k) (length w)) (begunOver d (record { state = s; bytes = xs }) bs))
-nothing-less = mission.nothing-less
+-- wanted, begin at least as many erases of that block and at least as many programs in it as the load's own cycles.
+pub nothing-less : (d : Device) (s : State) (p : Pins) (k : ℕ) (xs w sc : List ℕ) → Start d s p k xs w sc → Cells xs
+    → (bs : List Bus) → Brings d (worldOf s xs) k w bs → NoFewer d (worldOf s xs) k (ownCycles d s p k xs w sc) bs
+nothing-less d s p k xs w sc start = mission.demand-3 d s p k xs w sc start .least-wear
+
+-- A load's cycles, put to a device alone, lead it to where the load is and begin what the load begins. From any input whatever.
+pub own-leads : (d : Device) (w : List ℕ) (j : ℕ) (c : Config)
+    → worldAfter d (worldOf (c .state) (c .bytes)) (busesOf (madeIn j d w c)) ≡ worldOf (after j d w c .state) (after j d w c .bytes)
+own-leads = own.own-leads
+
+pub own-begins : (d : Device) (w : List ℕ) (j : ℕ) (c : Config) → notedAll (begunOver d (worldOf (c .state) (c .bytes)) (busesOf (madeIn j d w c))) ≡ begunIn j d w c
+own-begins = own.own-begins
 
 -- Every end. A run that nothing refuses, whatever VPP and RP# (`Taken`), returns and leaves what specs/Ends says, and makes the
 -- cycles listed there: with nothing to erase or program it ends well in 2n + 3 cycles; otherwise with VPP low it ends 21, and with
@@ -95,7 +107,7 @@ counts-made = counting.counts-made
 
 -- So a run that nothing refuses returns the number of its cycles, whatever its end; P, E and the wanted bytes are free here.
 pub run-counts : (d : Device) (s : State) (p : Pins) (k : ℕ) (xs w sc : List ℕ) → NoRow (runRows d s p k (length xs) (length w) (length sc))
-    → ranOf d s p k xs w sc .count ≡ length (madeIn (bound (length w)) d w (begin d s (recordAt (d .part) p k Clearing) xs sc))
+    → ranOf d s p k xs w sc .count ≡ length (cyclesOfLoad d s p k xs w sc)
 run-counts = counting.run-counts
 
 -- The cycles that specs/Ends lists are as many as the count that it lists: the formula for a good end, n + 5 for 21, 23 and 24.

@@ -20,7 +20,7 @@ use Rattle.run.specs.Turns.{Config, isEnded, turnOf, after, bound}
 use Rattle.run.specs.Runs.{runRows, runNumber, begin, driven, leftBy, RunLeft, ranOf}
 use Rattle.run.proofs.Leaving.{left-made}
 use Rattle.run.proofs.Turning.{turn-ended, turn-going}
-use Rattle.run_claims.specs.Made.{madeIn, openingThen, cyclesOf}
+use Rattle.run_claims.specs.Made.{madeIn, cyclesOfLoad, openingThen, cyclesOf}
 use Rattle.run_claims.specs.Ends.{endNumber, eraseTried, programTried, faultCycles, wellRan, faultRan, ranAs, cyclesAs}
 use Rattle.run_claims.proofs.Mission.{reads-long, cycles-long}
 
@@ -36,7 +36,7 @@ counts-made (suc k) d w c = go (isEnded (c .loader .stage)) refl (counts-made k 
 
 -- so the count that a run returns is the number of its cycles
 pub run-counts : (d : Device) (s : State) (p : Pins) (k : ℕ) (xs w sc : List ℕ) → NoRow (runRows d s p k (length xs) (length w) (length sc))
-    → ranOf d s p k xs w sc .count ≡ length (madeIn (bound (length w)) d w (begin d s (recordAt (d .part) p k Clearing) xs sc))
+    → ranOf d s p k xs w sc .count ≡ length (cyclesOfLoad d s p k xs w sc)
 unfolding runNumber leftBy driven
 run-counts d s p k xs w sc f =
     let c : Config = begin d s (recordAt (d .part) p k Clearing) xs sc in

@@ -1,6 +1,6 @@
 -- From a run that nothing refuses to its end: what the phases reach is what the run returns and leaves. Assumes nothing.
 use mathlib.Core.Path.{_≡_, refl, sym, ap, _∙_, subst}
-use mathlib.Core.Bool.{Bool, true, false, not, _&&_}
+use mathlib.Core.Bool.{Bool, true, false, _&&_}
 use mathlib.Core.List.{List, [], _∷_}
 use Prim.Native.Nat.{ℕ, zero, suc, _+_, _-_, _*_, _≤_, _<_}
 use native.Mathlib.Nat.{zero-mul, one-mul}
@@ -8,11 +8,9 @@ use native.Mathlib.Omega.{arith}
 use lib.ListN.{length, getD, drop, length-drop}
 use lib.Seq.{length-take-le}
 use lib.Dec.{eqb, leb}
-use borrow.Author.Tests.{eq-eqb, eqb-true, eqb-false, not-false, lt-leb, leb-true}
-use Rattle.chip.specs.Cells.{ones, Cells}
-use Rattle.chip.proofs.Ones.{and-ones}
+use borrow.Author.Tests.{eqb-true, eqb-false, not-false, lt-leb, leb-true}
 use Rattle.cells.specs.Choice.{if_then_else_}
-use Rattle.cells.proofs.Choice.{if-true, if-false, or-left, or-right, and-left, unlike}
+use Rattle.cells.proofs.Choice.{if-true, if-false, and-left, unlike}
 use Rattle.cells.specs.Lists.{overlaid}
 use Rattle.device.specs.declared.Device.{Device}
 use Rattle.device.specs.Parts.{lengthOf, startOf}
@@ -24,14 +22,14 @@ use Rattle.chip.specs.declared.Mode.the-variants.{Array, Status}
 use Rattle.chip.specs.declared.State.{State}
 use Rattle.chip.specs.declared.Effect.{Effect}
 use Rattle.chip.specs.declared.Effect.the-variants.{Nothing}
-use Rattle.chip.specs.Levels.{rpLow, vppLow, vppHigh, badPins, unlocked}
+use Rattle.chip.specs.Levels.{vppLow, vppHigh, unlocked}
 use Rattle.chip.specs.States.{atRest, badLeft, badAddress, badStatus}
 use Rattle.bus.proofs.Facts.{Proper}
 use Rattle.model.proofs.Status.{fits, status-fits}
 use Rattle.model.proofs.Keeping.{times}
 use Rattle.loader.specs.declared.Stage.the-variants.{Clearing, Ended}
 use Rattle.loader.specs.declared.Loader.{Loader}
-use Rattle.stepper.specs.Front.{barredPins, noBlock, recordAt}
+use Rattle.stepper.specs.Front.{noBlock}
 use Rattle.loader.specs.Walks.{risesIn, diffFrom}
 use Rattle.loader.specs.Moves.{isReady, eraseFault, programFault}
 use Rattle.stepper.specs.Outs.{cycleOf}
@@ -39,14 +37,16 @@ use Rattle.loader.specs.declared.Stage.{Stage}
 use Rattle.chip.specs.declared.Cycle.{Cycle}
 use lib.Bits.{bitOr}
 use Rattle.run.specs.Turns.{Config, isEnded, turnOf, after, bound}
-use Rattle.run.specs.Runs.{underWay, runNumber, begin, driven, leftBy, ranBy, RunLeft, runMade, runLeft, ranOf, bytesOf, scratchOf}
+use Rattle.run.specs.Runs.{underWay, beginning, driven, leftBy, ranBy, RunLeft, runMade, runLeft, ranOf, bytesOf, scratchOf}
 use Rattle.run.proofs.Leaving.{left-made}
-use Rattle.run_claims.specs.Wear.{noted, begunTurn, begunIn, heldIn, baseOf, programsIn, formula, operationsOf}
-use Rattle.run_claims.specs.Made.{madeIn, smoothTurn, smoothIn, openingThen, closingOf, cyclesOf}
+use Rattle.run_claims.specs.Wear.{noted, begunTurn, begunIn, begunByLoad, heldIn, baseOf, programsIn, formula, operationsOf}
+use Rattle.run_claims.specs.Made.{madeIn, cyclesOfLoad, smoothTurn, smoothIn, smoothLoad, openingThen, closingOf, cyclesOf}
 use Rattle.run_claims.specs.Ends.{asWanted, eraseTried, programTried, faultCycles}
 use Rattle.run.proofs.Ending.{always-ends}
 use Rattle.run.proofs.Turning.{conf, turn-ended, ended-stays}
 use Rattle.run.proofs.Good.{Good, good}
+use Rattle.run_claims.specs.Mission.{Taken}
+use Rattle.run_claims.proofs.Starts.{levels-of, none-refuses}
 use Rattle.run_claims.proofs.Answers.{Up, Ready, Stuck}
 use Rattle.run_claims.proofs.Reaching.{Reach}
 use Rattle.run_claims.proofs.Layers.{over-self}
@@ -114,27 +114,10 @@ resting d s q u =
     free Erasing e = absurd (unlike e)
     free Suspended e = absurd (unlike e)
 
--- a run that nothing refuses, with busy times up to 65,535 and wanted bytes
-pub record Taken (d : Device) (s : State) (p : Pins) (k : ℕ) (xs w sc : List ℕ) : Type 0 where
-  pub taken : runNumber d s p k (length xs) (length w) (length sc) ≡ 0
-  pub programs : d .program ≤ 65535
-  pub erases : d .erase ≤ 65535
-  pub bytes : Cells w
-
--- the mission's start: such a run with VPP in its 12 V band, and RP# at unlock level for the boot block
-pub record Start (d : Device) (s : State) (p : Pins) (k : ℕ) (xs w sc : List ℕ) : Type 0 where
-  pub base : Taken d s p k xs w sc
-  pub high : vppHigh (d .part) p ≡ true
-  pub unlock : k ≡ 0 → unlocked (d .part) p 0 ≡ true
-
 -- VPP in the high band is not in the low one
 pub not-low : (d : Device) (p : Pins) → vppHigh (d .part) p ≡ true → vppLow (d .part) p ≡ false
 unfolding vppHigh vppLow
 not-low d p e = lt-leb (p .vpp) 6500 (let z = leb-true 11400 (p .vpp) (and-left (leb 11400 (p .vpp)) (leb (p .vpp) 12600) e) in omega arith)
-
-levels-of : (d : Device) (p : Pins) → barredPins (d .part) p ≡ false → (badPins (d .part) p ≡ false) × (rpLow p ≡ false)
-unfolding barredPins
-levels-of d p e = (or-left (badPins (d .part) p) (rpLow p) e, or-right (badPins (d .part) p) (rpLow p) e)
 
 some-bytes : (d : Device) (k : ℕ) → noBlock (d .part) k ≡ false → lengthOf (d .part) k ≡ 0 → ⊥
 unfolding noBlock
@@ -147,13 +130,13 @@ over (suc n) z = omega arith
 -- where a run is left, what it began and made, and that no cycle of it was refused or cut anything
 pub record Left (d : Device) (s : State) (p : Pins) (k : ℕ) (xs w sc : List ℕ) (e : Config) (es : List Effect) (cs : List Cycle) : Type 0 where
   pub end : leftBy d s p k xs w sc ≡ e
-  pub begun : begunIn (bound (length w)) d w (begin d s (recordAt (d .part) p k Clearing) xs sc) ≡ es
-  pub made : madeIn (bound (length w)) d w (begin d s (recordAt (d .part) p k Clearing) xs sc) ≡ cs
-  pub smooth : smoothIn (bound (length w)) d w (begin d s (recordAt (d .part) p k Clearing) xs sc) ≡ true
+  pub begun : begunByLoad d s p k xs w sc ≡ es
+  pub made : cyclesOfLoad d s p k xs w sc ≡ cs
+  pub smooth : smoothLoad d s p k xs w sc ≡ true
 
 module _ (d : Device) (s : State) (p : Pins) (k : ℕ) (xs w sc : List ℕ) (t : Taken d s p k xs w sc) where
   g : Good d s p k (length xs) (length w) (length sc)
-  g = good d s p k (length xs) (length w) (length sc) (t .taken)
+  g = good d s p k (length xs) (length w) (length sc) (none-refuses d s p k xs w sc t)
 
   u : Up d p
   u = record { known = g .known; levels = levels-of d p (g .levels) .0; up = levels-of d p (g .levels) .1 }
@@ -177,7 +160,7 @@ module _ (d : Device) (s : State) (p : Pins) (k : ℕ) (xs w sc : List ℕ) (t :
   rec stage place = record { part = d .part; pins = p; block = k; stage = stage; place = place; polls = 0 }
 
   abbrev started : Config
-  started = begin d s (recordAt (d .part) p k Clearing) xs sc
+  started = beginning d s p k xs sc
 
   -- where a good load comes to, and one that a fault ends
   abbrev pub goal : Config
@@ -202,8 +185,8 @@ module _ (d : Device) (s : State) (p : Pins) (k : ℕ) (xs w sc : List ℕ) (t :
   -- a load from a device at rest, over the block as it is held, is the load from the start
   from-rest : (e : Config) (es : List Effect) (cs : List Cycle) → Reach d w (conf (rec Clearing 0) (atRest (s .mode) (s .status)) (overlaid xs a ys) sc 0) e es cs → Reach d w started e es cs
   from-rest e es cs r =
-      subst (λ (x : State). Reach d w (begin d x (recordAt (d .part) p k Clearing) xs sc) e es cs) (sym (resting d s (g .proper) (g .free) .0))
-      (subst (λ (z : List ℕ). Reach d w (begin d (atRest (s .mode) (s .status)) (recordAt (d .part) p k Clearing) z sc) e es cs) (over-self xs a (length w) fitting) r)
+      subst (λ (x : State). Reach d w (beginning d x p k xs sc) e es cs) (sym (resting d s (g .proper) (g .free) .0))
+      (subst (λ (z : List ℕ). Reach d w (beginning d (atRest (s .mode) (s .status)) p k z sc) e es cs) (over-self xs a (length w) fitting) r)
 
   -- 50H, FFH and the first reads come first, whatever follows
   opened : (e : Config) (es : List Effect) (cs : List Cycle) → Reach d w (faults.judged d p k u w (g .wanted) some xs (g .sized) ys ly (2 + length w)) e es cs
@@ -281,7 +264,7 @@ module _ (d : Device) (s : State) (p : Pins) (k : ℕ) (xs w sc : List ℕ) (t :
   -- what a run returns and leaves, where it is known how it is left
   module _ (e : Config) (es : List Effect) (cs : List Cycle) (left : Left d s p k xs w sc e es cs) where
     run-left : runLeft d s p k xs w sc ≡ runMade e
-    run-left = left-made d s p k xs w sc (t .taken) ∙ ap runMade (left .end)
+    run-left = left-made d s p k xs w sc (none-refuses d s p k xs w sc t) ∙ ap runMade (left .end)
 
     pub ran-left : ranOf d s p k xs w sc ≡ ranBy e
     ran-left = ap (λ (r : RunLeft). r .ran) run-left

@@ -4,9 +4,11 @@ pub mod Layers
 pub mod Phases
 pub mod Same
 pub mod Faults
+pub mod Starts
 pub mod Demand
 pub mod Wearing
 pub mod Least
+pub mod Own
 pub mod Mission
 pub mod Total
 pub mod Counting

@@ -1,6 +1,6 @@
 -- Demand 3 and least wear in the mission's own words: what a run returns and leaves, how much it wears, and that nothing wears
 -- less. Assumes nothing.
-use mathlib.Core.Path.{_≡_, refl, ap, _∙_, subst}
+use mathlib.Core.Path.{_≡_, refl, sym, ap, _∙_, subst}
 use mathlib.Core.Bool.{Bool, true, false}
 use mathlib.Core.List.{List, [], _∷_}
 use Prim.Native.Nat.{ℕ, zero, suc, _+_, _-_, _*_, _≤_, _<_}
@@ -8,34 +8,37 @@ use native.Mathlib.Nat.{zero-mul, one-mul, add-mul, zero-add}
 use native.Mathlib.Omega.{arith}
 use lib.ListN.{length, getD, take, drop}
 use lib.Seq.{take-at, drop-at, length-take-le}
-use lib.Dec.{eqb}
-use borrow.Author.Tests.{eq-eqb, le-ltb, lt-ltb}
-use Rattle.chip.specs.Cells.{ones, Cells}
-use Rattle.chip.proofs.Ones.{and-ones}
+use lib.Dec.{eqb, ltb}
+use borrow.Author.Tests.{eq-eqb, le-ltb, lt-ltb, ltb-true, ltb-false}
+use Rattle.chip.specs.Cells.{Cells}
 use Rattle.cells.specs.Choice.{if_then_else_}
 use Rattle.cells.specs.Lists.{overlaid}
 use Rattle.cells.proofs.Bytes.{overlaid-before, overlaid-after}
 use Rattle.device.specs.declared.Device.{Device}
-use Rattle.device.specs.Parts.{startOf}
+use Rattle.device.specs.Parts.{startOf, blockOf}
 use Rattle.device.proofs.Claims.{blocks-end-inside}
 use Rattle.chip.specs.declared.Pins.{Pins}
 use Rattle.chip.specs.declared.Cycle.{Cycle}
 use Rattle.chip.specs.declared.Mode.the-variants.{Array}
 use Rattle.chip.specs.declared.State.{State}
 use Rattle.chip.specs.declared.Effect.{Effect}
-use Rattle.chip.specs.declared.Effect.the-variants.{Program, Erase}
+use Rattle.chip.specs.declared.Effect.the-variants.{Nothing, Program, Erase}
 use Rattle.chip.specs.States.{atRest}
-use Rattle.loader.specs.declared.Stage.the-variants.{Clearing}
-use Rattle.stepper.specs.Front.{recordAt, endAddress}
+use Rattle.stepper.specs.Front.{endAddress}
 use Rattle.loader.specs.Walks.{risesIn}
+use Rattle.run.specs.declared.Ran.{Ran}
 use Rattle.run.specs.Turns.{bound}
-use Rattle.run.specs.Runs.{begin, ranOf, bytesOf, scratchOf}
-use Rattle.run_claims.specs.Wear.{begunIn, heldIn, baseOf, erasesOf, programsIn, programsOf, differing, formula, operationsOf}
-use Rattle.run_claims.specs.History.{Bus, worldAfter, effectsIn, begunOver, uncut, total, eraseOf, programIn}
+use Rattle.run.specs.Runs.{beginning, driven, leftBy, ranOf, bytesOf, scratchOf}
+use Rattle.run_claims.specs.Wear.{begunByLoad, heldIn, heldBy, baseOf, erasesOf, programsIn, programsOf, differing, formula, operationsOf}
+use Rattle.run_claims.specs.History.{Bus, World, worldOf, worldAfter, effectsIn, begunOver, uncut, total, eraseOf, programIn, programOf, erasesBegun, programsBegun}
 use Rattle.run.proofs.Good.{good}
-use Rattle.run_claims.specs.Made.{madeIn, smoothIn, cyclesOf, readsThen, pollsThen, openingThen, eraseThen, programThen, programsThen, closingOf, programmingOf}
-use Rattle.run_claims.proofs.Demand.{Start, Left, goal, not-low, good-load, ran-left, bytes-left, scratch-left}
+use Rattle.run_claims.specs.Made.{cyclesOfLoad, smoothLoad, cyclesOf, readsThen, pollsThen, openingThen, eraseThen, programThen, programsThen, closingOf, programmingOf}
+use Rattle.run_claims.specs.Mission.{Start, Brings, ownCycles, NoFewer, Demand3}
+use Rattle.run_claims.proofs.Demand.{Left, goal, not-low, good-load, ran-left, bytes-left, scratch-left}
+use Rattle.run_claims.proofs.Starts.{none-refuses}
+use Rattle.run_claims.proofs.Wearing.{lies}
 use Rattle.run_claims.proofs.Least.{least}
+use Rattle.run_claims.proofs.Own.{noted-total, deviceIn, own-leads as leads, own-begins as begins, own-smooth as smooth}
 
 -- the programs of a load are counted, all in the block, and none of them is an erase
 programs-counted : (j i a n b : ℕ) (w s : List ℕ) → a ≤ b + i → b + i + j ≤ a + n → total (programIn a n) (programsOf j b i w s) ≡ differing j i w s
@@ -124,7 +127,7 @@ module _ (d : Device) (s : State) (p : Pins) (k : ℕ) (xs w sc : List ℕ) (sta
   scratch-wanted = scratch-left d s p k xs w sc (start .base) _ _ _ loaded
 
   inside : a + length w ≤ length xs
-  inside = let g = good d s p k (length xs) (length w) (length sc) (start .base .taken) in omega (arith, blocks-end-inside (d .part) k, g .sized, g .wanted)
+  inside = let g = good d s p k (length xs) (length w) (length sc) (none-refuses d s p k xs w sc (start .base)) in omega (arith, blocks-end-inside (d .part) k, g .sized, g .wanted)
 
   -- the block holds the wanted bytes
   pub block-holds : heldIn a (length w) (bytesOf d s p k xs w sc) ≡ w
@@ -140,28 +143,94 @@ module _ (d : Device) (s : State) (p : Pins) (k : ℕ) (xs w sc : List ℕ) (sta
     λ h. rw array-left (subst (λ (y : ℕ). getD (overlaid xs a w) y 0 ≡ getD xs y 0) (let q : a + (length w + (x - a - length w)) ≡ x = omega arith in q) (overlaid-after xs a w inside (x - a - length w))),
   )
 
-  abbrev load : List Effect
-  load = begunIn (bound (length w)) d w (begin d s (recordAt (d .part) p k Clearing) xs sc)
-
   -- it erases once if some bit must rise, otherwise never; it programs each byte that then differs once and no other
-  pub begins-just : load ≡ operationsOf k a w ys
+  pub begins-just : begunByLoad d s p k xs w sc ≡ operationsOf k a w ys
   begins-just = loaded .begun
 
   -- the cycles that it makes, one after the other; the model refuses none of them, and none cuts an operation
-  pub cycles-are : madeIn (bound (length w)) d w (begin d s (recordAt (d .part) p k Clearing) xs sc) ≡ cyclesOf d p a w ys
+  pub cycles-are : cyclesOfLoad d s p k xs w sc ≡ cyclesOf d p a w ys
   cycles-are = loaded .made
 
-  pub none-refused : smoothIn (bound (length w)) d w (begin d s (recordAt (d .part) p k Clearing) xs sc) ≡ true
+  pub none-refused : smoothLoad d s p k xs w sc ≡ true
   none-refused = loaded .smooth
 
   -- no uncut cycles from the same start to the same block contents begin fewer erases of the block or fewer programs in it
-  pub nothing-less : (bs : List Bus) → Cells xs → uncut (effectsIn d (record { state = s; bytes = xs }) bs) ≡ true
-      → heldIn a (length w) (worldAfter d (record { state = s; bytes = xs }) bs .bytes) ≡ w
-      → (total (eraseOf k) load ≤ total (eraseOf k) (begunOver d (record { state = s; bytes = xs }) bs))
-      × (total (programIn a (length w)) load ≤ total (programIn a (length w)) (begunOver d (record { state = s; bytes = xs }) bs))
+  pub nothing-less : (bs : List Bus) → Cells xs → uncut (effectsIn d (worldOf s xs) bs) ≡ true
+      → heldIn a (length w) (worldAfter d (worldOf s xs) bs .bytes) ≡ w
+      → (total (eraseOf k) (begunByLoad d s p k xs w sc) ≤ total (eraseOf k) (begunOver d (worldOf s xs) bs))
+      × (total (programIn a (length w)) (begunByLoad d s p k xs w sc) ≤ total (programIn a (length w)) (begunOver d (worldOf s xs) bs))
   nothing-less bs bx u h =
-      let g = good d s p k (length xs) (length w) (length sc) (start .base .taken) in
-      let m = least d k (record { state = s; bytes = xs }) w bs (g .sized) (g .wanted) bx (g .free) u h in
+      let g = good d s p k (length xs) (length w) (length sc) (none-refuses d s p k xs w sc (start .base)) in
+      let m = least d k (worldOf s xs) w bs (g .sized) (g .wanted) bx (g .free) u h in
       let e = ap (λ (es : List Effect). total (eraseOf k) es) begins-just ∙ operations-erase k a w ys in
       let q = ap (λ (es : List Effect). total (programIn a (length w)) es) begins-just ∙ operations-program k a w ys in
       (omega (arith, m .0), omega (arith, m .1))
+
+  -- what the block held, by the block's own length
+  held-is : (zs : List ℕ) → heldIn a (length w) zs ≡ heldBy (d .part) k zs
+  held-is zs = ap (λ (n : ℕ). heldIn a n zs) (start .base .wanted)
+
+  pub cycles-listed : cyclesOfLoad d s p k xs w sc ≡ cyclesOf d p a w (heldBy (d .part) k xs)
+  cycles-listed = cycles-are ∙ ap (λ (zs : List ℕ). cyclesOf d p a w zs) (held-is xs)
+
+  -- an address outside the block
+  others-are : (x : ℕ) → (blockOf (d .part) x ≡ k → ⊥) → getD (bytesOf d s p k xs w sc) x 0 ≡ getD xs x 0
+  others-are x h = go (ltb x a) refl (ltb x (a + length w)) refl
+    where
+      go : (b : Bool) → ltb x a ≡ b → (c : Bool) → ltb x (a + length w) ≡ c → getD (bytesOf d s p k xs w sc) x 0 ≡ getD xs x 0
+      go true e c f = others-stay x .0 (ltb-true x a e)
+      go false e false f = others-stay x .1 (ltb-false x (a + length w) f)
+      go false e true f =
+          absurd (h (lies (d .part) k x (ltb-false x a e) (subst (λ (n : ℕ). x < a + n) (start .base .wanted) (ltb-true x (a + length w) f))))
+
+  abbrev own : List Bus
+  own = ownCycles d s p k xs w sc
+
+  -- where the load's own cycles lead
+  own-world : worldAfter d (worldOf s xs) own ≡ worldOf (ranOf d s p k xs w sc .state) (bytesOf d s p k xs w sc)
+  unfolding leftBy driven
+  own-world =
+      leads d w (bound (length w)) (beginning d s p k xs sc)
+      ∙ ap deviceIn (loaded .end)
+      ∙ sym (λ i. worldOf (ends-well i .state) (array-left i))
+
+  own-holds : Brings d (worldOf s xs) k w own
+  own-holds =
+      record {
+        whole = smooth d w (bound (length w)) (beginning d s p k xs sc) none-refused .1;
+        there = ap (λ (v : World). heldBy (d .part) k (v .bytes)) own-world ∙ sym (held-is (bytesOf d s p k xs w sc)) ∙ block-holds;
+      }
+
+  -- nothing wears less than the load's own cycles
+  least-wear : Cells xs → (bs : List Bus) → Brings d (worldOf s xs) k w bs → NoFewer d (worldOf s xs) k own bs
+  least-wear bx bs h =
+      let m = nothing-less bs bx (h .whole) (held-is (worldAfter d (worldOf s xs) bs .bytes) ∙ h .there) in
+      record {
+        erases = subst (λ (n : ℕ). n ≤ erasesBegun d (worldOf s xs) k bs) (sym (weighs (eraseOf k) refl)) (m .0);
+        programs =
+            subst (λ (n : ℕ). n ≤ programsBegun d (worldOf s xs) k bs) (sym (weighs (programOf (d .part) k) refl))
+            (subst (λ (n : ℕ). total (programIn a n) (begunByLoad d s p k xs w sc) ≤ total (programIn a n) (begunOver d (worldOf s xs) bs)) (start .base .wanted) (m .1));
+      }
+    where
+      weighs : (f : Effect → ℕ) → f Nothing ≡ 0 → total f (begunOver d (worldOf s xs) own) ≡ total f (begunByLoad d s p k xs w sc)
+      weighs f z =
+          sym (noted-total f z (begunOver d (worldOf s xs) own))
+          ∙ ap (λ (es : List Effect). total f es) (begins d w (bound (length w)) (beginning d s p k xs sc))
+
+  -- demand 3 whole
+  pub demand-3 : Demand3 d s p k xs w sc
+  demand-3 =
+      record {
+        well = ap (λ (r : Ran). r .end) ends-well;
+        block = sym (held-is (bytesOf d s p k xs w sc)) ∙ block-holds;
+        others = others-are;
+        array-left = array-left;
+        begins = begins-just ∙ ap (λ (ys : List ℕ). operationsOf k a w ys) (held-is xs);
+        own-accepted = smooth d w (bound (length w)) (beginning d s p k xs sc) none-refused .0;
+        own-brings = own-holds;
+        own-leads = own-world;
+        own-begins = begins d w (bound (length w)) (beginning d s p k xs sc);
+        least-wear = least-wear;
+        counted = ap (λ (r : Ran). r .count) ends-well ∙ sym (ap (λ (cs : List Cycle). length cs) cycles-are ∙ cycles-long d p a w ys);
+        by-formula = ap (λ (r : Ran). r .count) ends-well ∙ ap (λ (ys : List ℕ). formula d w ys) (held-is xs);
+      }

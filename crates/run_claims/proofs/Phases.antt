@@ -3,11 +3,11 @@ use mathlib.Core.Path.{_≡_, refl, sym, ap, _∙_, subst}
 use mathlib.Core.Bool.{Bool, true, false, not, _||_}
 use mathlib.Core.List.{List, [], _∷_}
 use Prim.Native.Nat.{ℕ, zero, suc, _+_, _-_, _*_, _/_, _%_, _≤_, _<_}
-use native.Mathlib.Nat.{mod-eq-of-lt, not-suc-le-zero, le-of-suc-le-suc, zero-mul, one-mul, add-mul, zero-add}
+use native.Mathlib.Nat.{not-suc-le-zero, le-of-suc-le-suc, zero-mul, one-mul, add-mul, zero-add}
 use native.Mathlib.Omega.{arith}
-use lib.ListN.{length, getD, take, set, replicate, length-replicate, getD-replicate}
+use lib.ListN.{length, getD, set, replicate, length-replicate, getD-replicate}
 use lib.Dec.{eqb, ltb, leb}
-use lib.Bits.{bitAnd, and-mask, and-comm}
+use lib.Bits.{bitAnd}
 use borrow.Author.Tests.{lt-ltb, le-ltb, eq-eqb, eqb-true, lt-leb, not-false}
 use Rattle.chip.specs.Cells.{ones, Cells}
 use Rattle.chip.proofs.Ones.{and-ones}
@@ -46,8 +46,7 @@ use Rattle.stepper.specs.Stores.{storeOf, erasedWell}
 use Rattle.stepper.proofs.Small.{length-small}
 use Rattle.loader.proofs.Walking.{diff-turn, diff-over}
 use Rattle.chip.specs.declared.Cycle.{Cycle}
-use Rattle.model.specs.Begun.{isAwaited, pendingIn}
-use Rattle.model.proofs.Lives.{begunFrom}
+use Rattle.model.specs.Begun.{isAwaited, pendingIn, begunFrom}
 use Rattle.run.specs.Turns.{Config, isEnded, turnOf}
 use Rattle.run_claims.specs.Wear.{programsOf, differing, baseOf, operationsOf}
 use Rattle.run.proofs.Turning.{conf}

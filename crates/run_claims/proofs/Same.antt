@@ -1,6 +1,6 @@
 -- A block that holds what is wanted, and one that does not: what the walks over it find. Assumes nothing.
 use mathlib.Core.Path.{_≡_, refl, _∙_, subst, ap}
-use mathlib.Core.Bool.{Bool, true, false, not}
+use mathlib.Core.Bool.{Bool, true, false}
 use mathlib.Core.List.{List}
 use Prim.Native.Nat.{ℕ, zero, suc, _+_, _-_, _*_, _<_}
 use native.Mathlib.Nat.{not-suc-le-zero, le-of-suc-le-suc}

@@ -29,7 +29,7 @@ use Rattle.bus.specs.Cycles.{isRead, decideOf, respondOf, readOf}
 use Rattle.settling.specs.Settling.{settleOf}
 use Rattle.model.specs.declared.Seen.{Seen}
 use Rattle.model.specs.declared.Seen.the-variants.{Byte}
-use Rattle.model.specs.Arrays.{seenOf, answerOf}
+use Rattle.model.specs.Arrays.{seenOf, answerOf, isRefusal}
 use Rattle.model.proofs.Outcome.{outcome, accept-ways}
 use Rattle.loader.specs.declared.Stage.{Stage}
 use Rattle.loader.specs.declared.Stage.the-variants.{Clearing, Opening, Reading, EraseAsking, EraseConfirming, EraseWaiting, ProgramAsking, ProgramSending, ProgramWaiting, Closing, Verifying, Ended}
@@ -46,12 +46,12 @@ use Rattle.run.specs.Turns as turns
 use Rattle.run.specs.Turns.{Config, isEnded, numberIn, answerTo, moved, turnOf, after, bound}
 use Rattle.run.specs.Runs.{runRows, endOf, ranBy, begin, driven, ranOf, bytesOf, scratchOf}
 use Rattle.run.proofs.Turning.{took, turn-ended, turn-going, ended-stays}
-use Rattle.run.proofs.Ending.{always-ends, Promise, run-first, run-accepted}
+use Rattle.run.specs.Promises.{Promise}
+use Rattle.run.proofs.Ending.{always-ends, run-first, run-accepted}
 use Rattle.run_claims.specs.Wear.{heldIn}
-use Rattle.run_claims.specs.Made.{isRefused, isSmooth, smoothTurn, smoothIn}
-use Rattle.run_claims.specs.Ends.{endNumber, wellRan, faultRan, ranAs}
+use Rattle.run_claims.specs.Made.{isSmooth, smoothTurn, smoothIn}
+use Rattle.run_claims.specs.Ends.{endNumber, wellRan, faultRan, ranAs, Whole}
 use Rattle.run_claims.specs.Stepping.{answerAt, Handed, runAt, overAt, Stepped}
-use Rattle.run_claims.proofs.Total.{Whole}
 
 -- the last of some turns
 after-last : (j : ℕ) (d : Device) (w : List ℕ) (c : Config) → after (suc j) d w c ≡ turnOf d w (after j d w c)
@@ -73,25 +73,25 @@ smooth-at (suc m) (suc j) d w c e h g = smooth-at m j d w (turnOf d w c) e (and-
 
 -- a smooth turn: the model takes the cycle that is out
 smooth-taken : (d : Device) (w : List ℕ) (c : Config) → isEnded (c .loader .stage) ≡ false → smoothTurn d w c ≡ true
-    → isRefused (decideOf d (c .state) (cycleOf (c .loader) w) (length (c .bytes)) 0 .reply) ≡ false
+    → isRefusal (decideOf d (c .state) (cycleOf (c .loader) w) (length (c .bytes)) 0 .reply) ≡ false
 unfolding smoothTurn
 smooth-taken d w c g h =
     let x : Decision = decideOf d (c .state) (cycleOf (c .loader) w) (length (c .bytes)) 0 in
-    not-true (isRefused (x .reply)) (and-left (not (isRefused (x .reply))) _ (sym (if-false (isEnded (c .loader .stage)) true (isSmooth x) g) ∙ h))
+    not-true (isRefusal (x .reply)) (and-left (not (isRefusal (x .reply))) _ (sym (if-false (isEnded (c .loader .stage)) true (isSmooth x) g) ∙ h))
 
 -- what a host sees of a reply is a refusal where the reply is one
-seen-taken : (r : Reply) (xs : List ℕ) → isRefused r ≡ false → turns.isRefused (seenOf r xs) ≡ false
+seen-taken : (r : Reply) (xs : List ℕ) → isRefusal r ≡ false → turns.isRefused (seenOf r xs) ≡ false
 seen-taken Quiet xs e = refl
 seen-taken (Gives b) xs e = refl
 seen-taken (GivesArray a) xs e = refl
 seen-taken (Refuses n) xs e = e
 
 -- a read that is taken with RP# up is answered by a byte
-read-answered : (d : Device) (s : State) (c : Cycle) (n r : ℕ) (xs : List ℕ) → c .kind ≡ Read → rpLow (c .pins) ≡ false → isRefused (decideOf d s c n r .reply) ≡ false
+read-answered : (d : Device) (s : State) (c : Cycle) (n r : ℕ) (xs : List ℕ) → c .kind ≡ Read → rpLow (c .pins) ≡ false → isRefusal (decideOf d s c n r .reply) ≡ false
     → seenOf (decideOf d s c n r .reply) xs ≡ Byte (numberIn (seenOf (decideOf d s c n r .reply) xs))
 read-answered d s c n r xs kind up =
-    outcome d s c n r (λ (x : Decision). isRefused (x .reply) ≡ false → seenOf (x .reply) xs ≡ Byte (numberIn (seenOf (x .reply) xs))) (λ m z e q. absurd (unlike q))
-    (λ z f. accept-ways d c (settleOf (d .part) s (c .pins)) (λ (x : Decision). isRefused (x .reply) ≡ false → seenOf (x .reply) xs ≡ Byte (numberIn (seenOf (x .reply) xs)))
+    outcome d s c n r (λ (x : Decision). isRefusal (x .reply) ≡ false → seenOf (x .reply) xs ≡ Byte (numberIn (seenOf (x .reply) xs))) (λ m z e q. absurd (unlike q))
+    (λ z f. accept-ways d c (settleOf (d .part) s (c .pins)) (λ (x : Decision). isRefusal (x .reply) ≡ false → seenOf (x .reply) xs ≡ Byte (numberIn (seenOf (x .reply) xs)))
     (λ e q. absurd (unlike (sym e ∙ up))) (λ e k h q. kinds (settleOf (d .part) s (c .pins)) k (sym h ∙ kind)))
   where
     reads : (m : Mode) (a sr : ℕ) → seenOf (readOf m (d .part) a sr) xs ≡ Byte (numberIn (seenOf (readOf m (d .part) a sr) xs))
@@ -144,7 +144,7 @@ alike (Ended n) first here l w sc b x h = record { stored = refl; next = refl }
 
 -- one turn that the model takes, from a record whose tests pass
 module _ (d : Device) (w : List ℕ) (c : Config) (going : isEnded (c .loader .stage) ≡ false)
-    (fine : isRefused (decideOf d (c .state) (cycleOf (c .loader) w) (length (c .bytes)) 0 .reply) ≡ false)
+    (fine : isRefusal (decideOf d (c .state) (cycleOf (c .loader) w) (length (c .bytes)) 0 .reply) ≡ false)
     (passes : stepNumber (c .loader) (length w) (length (c .scratch)) ≡ 0) where
   abbrev seen : Seen
   seen = answerAt d w c .seen
@@ -243,7 +243,7 @@ module _ (d : Device) (s : State) (p : Pins) (k : ℕ) (xs w sc : List ℕ) (fre
   unfolding driven
   bounded = always-ends d w (at 0)
 
-  fine : (j : ℕ) → over j ≡ false → isRefused (decideOf d (at j .state) (cycleOf (at j .loader) w) (length (at j .bytes)) 0 .reply) ≡ false
+  fine : (j : ℕ) → over j ≡ false → isRefusal (decideOf d (at j .state) (cycleOf (at j .loader) w) (length (at j .bytes)) 0 .reply) ≡ false
   fine j e = smooth-taken d w (at j) e (smooth-at (bound (length w)) j d w (at 0) bounded smooth e)
 
   -- the tests of every step pass

@@ -1,6 +1,6 @@
 -- Every end of a run that nothing refuses, as one statement. Assumes nothing.
 use mathlib.Core.Path.{_≡_, refl, sym, ap, _∙_, subst}
-use mathlib.Core.Bool.{Bool, true, false, not}
+use mathlib.Core.Bool.{Bool, true, false}
 use mathlib.Core.List.{List, []}
 use Prim.Native.Nat.{ℕ, _-_}
 use lib.ListN.{length}
@@ -14,26 +14,17 @@ use Rattle.chip.specs.declared.Pins.{Pins}
 use Rattle.chip.specs.declared.Effect.{Effect}
 use Rattle.chip.specs.declared.State.{State}
 use Rattle.chip.specs.Levels.{vppLow, unlocked}
-use Rattle.loader.specs.declared.Stage.the-variants.{Clearing}
-use Rattle.stepper.specs.Front.{recordAt, endAddress}
+use Rattle.stepper.specs.Front.{endAddress}
 use Rattle.loader.specs.Walks.{risesIn, diffFrom}
 use Rattle.loader.specs.Moves.{eraseFault, programFault, bothErrors}
 use Rattle.run.specs.declared.Ran.{Ran}
-use Rattle.run.specs.Turns.{bound}
-use Rattle.run.specs.Runs.{begin, ranOf, bytesOf, scratchOf}
+use Rattle.run.specs.Runs.{ranOf}
 use Rattle.run_claims.specs.Wear.{heldIn}
-use Rattle.run_claims.specs.Made.{madeIn, smoothIn, cyclesOf}
-use Rattle.run_claims.specs.Ends.{asWanted, shut, endNumber, faultStatus, faultCycles, wellRan, faultRan, ranAs, bytesAs, scratchAs, cyclesAs}
+use Rattle.run_claims.specs.Made.{cyclesOf}
+use Rattle.run_claims.specs.Ends.{asWanted, shut, endNumber, faultStatus, faultCycles, wellRan, faultRan, ranAs, bytesAs, scratchAs, cyclesAs, Whole}
 use Rattle.run_claims.proofs.Answers.{unsupplied-stuck, locked-stuck}
-use Rattle.run_claims.proofs.Demand.{Taken, Left, goal, broken, ran-left, bytes-left, scratch-left, good-load, same-load, erase-load, program-load}
-
--- what a run returns, what it leaves in array and scratch, the cycles that it makes, and that the model takes them all and nothing is cut
-pub record Whole (d : Device) (s : State) (p : Pins) (k : ℕ) (xs w sc : List ℕ) : Type 0 where
-  pub ran : ranOf d s p k xs w sc ≡ ranAs d p k w (heldIn (startOf (d .part) k) (length w) xs)
-  pub bytes : bytesOf d s p k xs w sc ≡ bytesAs d p k (startOf (d .part) k) w (heldIn (startOf (d .part) k) (length w) xs) xs
-  pub scratch : scratchOf d s p k xs w sc ≡ scratchAs d p k w (heldIn (startOf (d .part) k) (length w) xs)
-  pub made : madeIn (bound (length w)) d w (begin d s (recordAt (d .part) p k Clearing) xs sc) ≡ cyclesAs d p k (startOf (d .part) k) w (heldIn (startOf (d .part) k) (length w) xs)
-  pub smooth : smoothIn (bound (length w)) d w (begin d s (recordAt (d .part) p k Clearing) xs sc) ≡ true
+use Rattle.run_claims.specs.Mission.{Taken}
+use Rattle.run_claims.proofs.Demand.{Left, goal, broken, ran-left, bytes-left, scratch-left, good-load, same-load, erase-load, program-load}
 
 module _ (d : Device) (s : State) (p : Pins) (k : ℕ) (xs w sc : List ℕ) (t : Taken d s p k xs w sc) where
   abbrev a : ℕ

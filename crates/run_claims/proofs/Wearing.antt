@@ -19,8 +19,7 @@ use Rattle.cells.specs.Lists.{overlaid}
 use Rattle.cells.proofs.Bytes.{overlaid-in, overlaid-before, overlaid-after}
 use Rattle.device.specs.declared.Part.{Part}
 use Rattle.device.specs.declared.Device.{Device}
-use Rattle.device.specs.Parts.{sizeOf, startOf, lengthOf, blockOf, shapeOf}
-use Rattle.device.proofs.Place.{Holds}
+use Rattle.device.specs.Parts.{sizeOf, startOf, lengthOf, blockOf, shapeOf, Holds}
 use Rattle.device.proofs.Claims.{blocks-end-inside, blocks-apart, blocks-cover}
 use Rattle.chip.specs.declared.Effect.{Effect}
 use Rattle.chip.specs.declared.Effect.the-variants.{Nothing, Program, Erase, CutProgram, CutErase}

@@ -1,5 +1,6 @@
 -- How a run that nothing refuses ends, for every supply and level that is let in. Assumes nothing.
-use mathlib.Core.Bool.{Bool, true, false, not, _&&_}
+use mathlib.Core.Path.{_≡_}
+use mathlib.Core.Bool.{Bool, true, not, _&&_}
 use mathlib.Core.List.{List, [], _∷_}
 use Prim.Native.Nat.{ℕ, _+_}
 use lib.ListN.{length, getD}
@@ -8,6 +9,7 @@ use Rattle.device.specs.declared.Part.{Part}
 use Rattle.cells.specs.Choice.{if_then_else_}
 use Rattle.cells.specs.Lists.{overlaid}
 use Rattle.device.specs.declared.Device.{Device}
+use Rattle.device.specs.Parts.{startOf}
 use Rattle.chip.specs.declared.Pins.{Pins}
 use Rattle.chip.specs.declared.Kind.the-variants.{Read, Write}
 use Rattle.chip.specs.declared.Cycle.{Cycle}
@@ -17,8 +19,9 @@ use Rattle.chip.specs.Levels.{vppLow, unlocked}
 use Rattle.chip.specs.States.{atRest}
 use Rattle.loader.specs.Walks.{risesIn, diffFrom}
 use Rattle.run.specs.declared.Ran.{Ran}
-use Rattle.run_claims.specs.Wear.{differing, formula}
-use Rattle.run_claims.specs.Made.{busCycle, openingThen, cyclesOf}
+use Rattle.run.specs.Runs.{ranOf, bytesOf, scratchOf}
+use Rattle.run_claims.specs.Wear.{differing, heldIn, formula}
+use Rattle.run_claims.specs.Made.{busCycle, openingThen, cyclesOf, cyclesOfLoad, smoothLoad}
 
 -- the block holds what is wanted: nothing to erase or program
 unfoldable pub asWanted : List ℕ → List ℕ → Bool
@@ -66,3 +69,11 @@ scratchAs d p k w ys = if eqb (endNumber d p k w ys) 0 then w else ys
 
 unfoldable pub cyclesAs : Device → Pins → ℕ → ℕ → List ℕ → List ℕ → List Cycle
 cyclesAs d p k a w ys = if eqb (endNumber d p k w ys) 0 then cyclesOf d p a w ys else faultCycles p a w ys
+
+-- what a run returns, what it leaves in array and scratch, the cycles that it makes, and that the model takes them all and nothing is cut
+pub record Whole (d : Device) (s : State) (p : Pins) (k : ℕ) (xs w sc : List ℕ) : Type 0 where
+  pub ran : ranOf d s p k xs w sc ≡ ranAs d p k w (heldIn (startOf (d .part) k) (length w) xs)
+  pub bytes : bytesOf d s p k xs w sc ≡ bytesAs d p k (startOf (d .part) k) w (heldIn (startOf (d .part) k) (length w) xs) xs
+  pub scratch : scratchOf d s p k xs w sc ≡ scratchAs d p k w (heldIn (startOf (d .part) k) (length w) xs)
+  pub made : cyclesOfLoad d s p k xs w sc ≡ cyclesAs d p k (startOf (d .part) k) w (heldIn (startOf (d .part) k) (length w) xs)
+  pub smooth : smoothLoad d s p k xs w sc ≡ true

@@ -5,13 +5,15 @@ use Prim.Native.Nat.{ℕ, _+_}
 use lib.ListN.{length}
 use lib.Dec.{eqb, ltb}
 use Rattle.cells.specs.Choice.{if_then_else_}
+use Rattle.device.specs.declared.Part.{Part}
 use Rattle.device.specs.declared.Device.{Device}
+use Rattle.device.specs.Parts.{lengthOf, startOf}
 use Rattle.chip.specs.declared.State.{State}
 use Rattle.chip.specs.declared.Cycle.{Cycle}
 use Rattle.chip.specs.declared.Effect.{Effect}
 use Rattle.chip.specs.declared.Effect.the-variants.{Nothing, Program, Erase, CutProgram, CutErase}
 use Rattle.bus.specs.Cycles.{decideOf}
-use Rattle.model.specs.Arrays.{answerOf, arrayAfter}
+use Rattle.model.specs.Arrays.{isRefusal, answerOf, arrayAfter}
 use Rattle.model.specs.Begun.{begunBy}
 
 -- a cycle with the residue that is lent with it
@@ -24,6 +26,16 @@ pub record World : Type 0 where
   pub state : State
   pub bytes : List ℕ
 
+-- .. by its two parts
+abbrev pub worldOf : State → List ℕ → World
+worldOf s xs = record { state = s; bytes = xs }
+
+-- cycles with no residue
+abbrev pub busesOf : List Cycle → List Bus
+busesOf [] = []
+busesOf (c ∷ cs) = record { cycle = c; residue = [] } ∷ busesOf cs
+
+-- a device after one cycle
 abbrev pub stepped : Device → World → Bus → World
 stepped d v b =
     record { state = answerOf d (v .state) (b .cycle) (v .bytes) (b .residue) .state; bytes = arrayAfter d (v .state) (b .cycle) (v .bytes) (b .residue) }
@@ -33,6 +45,7 @@ abbrev pub worldAfter : Device → World → List Bus → World
 worldAfter d v [] = v
 worldAfter d v (b ∷ bs) = worldAfter d (stepped d v b) bs
 
+-- what one cycle does to the array
 abbrev pub effectBy : Device → World → Bus → Effect
 effectBy d v b = decideOf d (v .state) (b .cycle) (length (v .bytes)) (length (b .residue)) .effect
 
@@ -46,6 +59,13 @@ abbrev pub begunOver : Device → World → List Bus → List Effect
 begunOver d v [] = []
 begunOver d v (b ∷ bs) = begunBy d (v .state) (b .cycle) (length (v .bytes)) (length (b .residue)) ∷ begunOver d (stepped d v b) bs
 
+-- the model accepts every one of them
+abbrev pub acceptsAll : Device → World → List Bus → Bool
+acceptsAll d v [] = true
+acceptsAll d v (b ∷ bs) =
+    not (isRefusal (decideOf d (v .state) (b .cycle) (length (v .bytes)) (length (b .residue)) .reply)) && acceptsAll d (stepped d v b) bs
+
+-- an effect that cuts an operation
 abbrev pub isCut : Effect → Bool
 isCut Nothing = false
 isCut (Program a b) = false
@@ -84,3 +104,14 @@ programIn a n (Program at b) = if ltb at a then 0 else if ltb at (a + n) then 1 
 programIn a n (Erase j) = 0
 programIn a n (CutProgram at b) = 0
 programIn a n (CutErase j) = 0
+
+-- the weight of a program in block k
+abbrev pub programOf : Part → ℕ → Effect → ℕ
+programOf part k = programIn (startOf part k) (lengthOf part k)
+
+-- how many erases of block k cycles begin, and how many programs in it
+abbrev pub erasesBegun : Device → World → ℕ → List Bus → ℕ
+erasesBegun d v k bs = total (eraseOf k) (begunOver d v bs)
+
+abbrev pub programsBegun : Device → World → ℕ → List Bus → ℕ
+programsBegun d v k bs = total (programOf (d .part) k) (begunOver d v bs)

@@ -3,3 +3,4 @@ pub mod History
 pub mod Made
 pub mod Ends
 pub mod Stepping
+pub mod Mission

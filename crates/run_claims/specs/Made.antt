@@ -1,5 +1,5 @@
 -- The cycles that a load makes, by turning the definitions, and the list of a good load's cycles. Assumes nothing.
-use mathlib.Core.Bool.{Bool, true, false, not, _&&_}
+use mathlib.Core.Bool.{Bool, true, not, _&&_}
 use mathlib.Core.List.{List, [], _∷_}
 use Prim.Native.Nat.{ℕ, zero, suc, _+_}
 use lib.ListN.{length, getD}
@@ -8,15 +8,16 @@ use Rattle.cells.specs.Choice.{if_then_else_}
 use Rattle.device.specs.declared.Device.{Device}
 use Rattle.chip.specs.declared.Pins.{Pins}
 use Rattle.chip.specs.declared.Kind.{Kind}
-use Rattle.chip.specs.declared.Kind.the-variants.{Read, Write, Idle}
+use Rattle.chip.specs.declared.Kind.the-variants.{Read, Write}
 use Rattle.chip.specs.declared.Cycle.{Cycle}
-use Rattle.chip.specs.declared.Reply.{Reply}
-use Rattle.chip.specs.declared.Reply.the-variants.{Quiet, Gives, GivesArray, Refuses}
+use Rattle.chip.specs.declared.State.{State}
 use Rattle.chip.specs.declared.Decision.{Decision}
 use Rattle.bus.specs.Cycles.{decideOf}
+use Rattle.model.specs.Arrays.{isRefusal}
 use Rattle.stepper.specs.Outs.{cycleOf}
 use Rattle.loader.specs.Walks.{risesIn}
-use Rattle.run.specs.Turns.{Config, isEnded, turnOf}
+use Rattle.run.specs.Turns.{Config, isEnded, turnOf, bound}
+use Rattle.run.specs.Runs.{beginning}
 use Rattle.run_claims.specs.Wear.{baseOf}
 use Rattle.run_claims.specs.History.{isCut}
 
@@ -25,15 +26,13 @@ abbrev pub madeIn : ℕ → Device → List ℕ → Config → List Cycle
 madeIn zero d w c = []
 madeIn (suc k) d w c = if isEnded (c .loader .stage) then madeIn k d w (turnOf d w c) else cycleOf (c .loader) w ∷ madeIn k d w (turnOf d w c)
 
-abbrev pub isRefused : Reply → Bool
-isRefused Quiet = false
-isRefused (Gives b) = false
-isRefused (GivesArray a) = false
-isRefused (Refuses n) = true
+-- the cycles that a load of block k makes, up to its end
+abbrev pub cyclesOfLoad : Device → State → Pins → ℕ → List ℕ → List ℕ → List ℕ → List Cycle
+cyclesOfLoad d s p k xs w sc = madeIn (bound (length w)) d w (beginning d s p k xs sc)
 
 -- the model takes the cycle, and the cycle cuts nothing
 abbrev pub isSmooth : Decision → Bool
-isSmooth x = not (isRefused (x .reply)) && not (isCut (x .effect))
+isSmooth x = not (isRefusal (x .reply)) && not (isCut (x .effect))
 
 -- .. in one turn
 unfoldable pub smoothTurn : Device → List ℕ → Config → Bool
@@ -43,6 +42,10 @@ smoothTurn d w c = if isEnded (c .loader .stage) then true else isSmooth (decide
 abbrev pub smoothIn : ℕ → Device → List ℕ → Config → Bool
 smoothIn zero d w c = true
 smoothIn (suc k) d w c = smoothTurn d w c && smoothIn k d w (turnOf d w c)
+
+-- .. in a load of block k, up to its end
+abbrev pub smoothLoad : Device → State → Pins → ℕ → List ℕ → List ℕ → List ℕ → Bool
+smoothLoad d s p k xs w sc = smoothIn (bound (length w)) d w (beginning d s p k xs sc)
 
 -- a cycle of a load, OE# normal
 abbrev pub busCycle : Pins → Kind → ℕ → ℕ → Cycle

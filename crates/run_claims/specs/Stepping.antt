@@ -15,7 +15,7 @@ use Rattle.loader.specs.declared.Turn.the-variants.{Over}
 use Rattle.stepper.specs.Outs.{cycleOf}
 use Rattle.stepper.specs.Front.{recordAt, givenBy, startOf, stepOf, scratchAfter}
 use Rattle.run.specs.Turns.{Config, isEnded, isRefused, numberIn, answerTo, arrayTo, after}
-use Rattle.run.specs.Runs.{begin, ranOf, bytesOf, scratchOf}
+use Rattle.run.specs.Runs.{beginning, ranOf, bytesOf, scratchOf}
 
 -- the model's answer to the cycle that is out at c
 abbrev pub answerAt : Device → List ℕ → Config → Answer
@@ -28,7 +28,7 @@ Handed d w c b = (x : ℕ) → cycleOf (c .loader) w .kind ≡ Read → answerAt
 module _ (d : Device) (s : State) (p : Pins) (k : ℕ) (xs w sc : List ℕ) where
   -- the run after j cycles: loader, state, array, scratch and count
   abbrev pub runAt : ℕ → Config
-  runAt j = after j d w (begin d s (recordAt (d .part) p k Clearing) xs sc)
+  runAt j = after j d w (beginning d s p k xs sc)
 
   -- whether it has ended by then
   abbrev pub overAt : ℕ → Bool

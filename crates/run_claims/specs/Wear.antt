@@ -1,18 +1,22 @@
 -- The operations that a load begins, by the model's own definition, and what is wanted of it. Assumes nothing.
-use mathlib.Core.Bool.{Bool, true, false}
 use mathlib.Core.List.{List, [], _∷_}
 use Prim.Native.Nat.{ℕ, zero, suc, _+_, _*_}
 use lib.ListN.{length, getD, take, drop, replicate}
 use lib.Dec.{eqb}
 use Rattle.chip.specs.Cells.{ones}
 use Rattle.cells.specs.Choice.{if_then_else_}
+use Rattle.device.specs.declared.Part.{Part}
 use Rattle.device.specs.declared.Device.{Device}
+use Rattle.device.specs.Parts.{lengthOf, startOf}
+use Rattle.chip.specs.declared.Pins.{Pins}
+use Rattle.chip.specs.declared.State.{State}
 use Rattle.chip.specs.declared.Effect.{Effect}
 use Rattle.chip.specs.declared.Effect.the-variants.{Nothing, Program, Erase, CutProgram, CutErase}
 use Rattle.model.specs.Begun.{begunBy}
 use Rattle.stepper.specs.Outs.{cycleOf}
 use Rattle.loader.specs.Walks.{risesIn}
-use Rattle.run.specs.Turns.{Config, isEnded, turnOf}
+use Rattle.run.specs.Turns.{Config, isEnded, turnOf, bound}
+use Rattle.run.specs.Runs.{beginning}
 
 -- an operation noted before those that follow
 abbrev pub noted : Effect → List Effect → List Effect
@@ -22,6 +26,11 @@ noted (Erase k) es = Erase k ∷ es
 noted (CutProgram a b) es = CutProgram a b ∷ es
 noted (CutErase k) es = CutErase k ∷ es
 
+-- the operations of a list, without the places where nothing is
+abbrev pub notedAll : List Effect → List Effect
+notedAll [] = []
+notedAll (e ∷ es) = noted e (notedAll es)
+
 -- what one turn begins
 unfoldable pub begunTurn : Device → List ℕ → Config → Effect
 begunTurn d w c = if isEnded (c .loader .stage) then Nothing else begunBy d (c .state) (cycleOf (c .loader) w) (length (c .bytes)) 0
@@ -30,6 +39,10 @@ begunTurn d w c = if isEnded (c .loader .stage) then Nothing else begunBy d (c .
 abbrev pub begunIn : ℕ → Device → List ℕ → Config → List Effect
 begunIn zero d w c = []
 begunIn (suc k) d w c = noted (begunTurn d w c) (begunIn k d w (turnOf d w c))
+
+-- what a load of block k begins, up to its end
+abbrev pub begunByLoad : Device → State → Pins → ℕ → List ℕ → List ℕ → List ℕ → List Effect
+begunByLoad d s p k xs w sc = begunIn (bound (length w)) d w (beginning d s p k xs sc)
 
 -- the programs that bring the bytes from place i on, k of them, from s to w, in a block that starts at a
 abbrev pub programsOf : ℕ → ℕ → ℕ → List ℕ → List ℕ → List Effect
@@ -41,9 +54,13 @@ abbrev pub differing : ℕ → ℕ → List ℕ → List ℕ → ℕ
 differing zero i w s = 0
 differing (suc k) i w s = (if eqb (getD s i 0) (getD w i 0) then 0 else 1) + differing k (i + 1) w s
 
--- what a block of an array holds
+-- the n bytes that an array holds from a on
 abbrev pub heldIn : ℕ → ℕ → List ℕ → List ℕ
 heldIn a n xs = take n (drop a xs)
+
+-- what block k of an array holds
+abbrev pub heldBy : Part → ℕ → List ℕ → List ℕ
+heldBy part k xs = heldIn (startOf part k) (lengthOf part k) xs
 
 -- what the programs of a load start from: all ones if some bit must rise, else what was held
 abbrev pub baseOf : List ℕ → List ℕ → List ℕ

@@ -1,6 +1,6 @@
 -- Start and step: their refusals exactly, what a refusal leaves, every record taken again, and the end that repeats. Assumes nothing.
 use mathlib.Core.Path.{_≡_, refl, sym, ap, _∙_, subst}
-use mathlib.Core.Bool.{Bool, true, false, not, _&&_}
+use mathlib.Core.Bool.{true, false, not, _&&_}
 use mathlib.Core.List.{List}
 use mathlib.Core.Logic.{_↔_}
 use Prim.Native.Nat.{ℕ, _+_, _-_, _≤_, _<_}
@@ -27,18 +27,13 @@ use Rattle.loader.specs.Moves as moves
 use Rattle.loader.specs.Moves.{at, endedBy, isReady, eraseFault, programFault, onward, afterReads, readMore, pollMore, erasePolled, programPolled, verifyMore, nextIn, nextOf}
 use Rattle.stepper.specs.Outs.{firstOf}
 use Rattle.stepper.specs.Stores.{erasedWell, storeIn, storeOf}
-use Rattle.stepper.specs.Front.{barredPins, noBlock, wrongLengths, badRecord, startRows, stepRows, startNumber, stepNumber, recordAt, endAddress, turnIn, givenBy, barredBy, startOf, stepOf, scratchAfter}
+use Rattle.stepper.specs.Front.{barredPins, noBlock, wrongLengths, badRecord, startRows, stepRows, startNumber, stepNumber, recordAt, endAddress, turnIn, givenBy, barredBy, isBarred, startOf, stepOf, scratchAfter}
 
--- the number that an answer refuses by, 0 where it is no refusal; and whether it is one
+-- the number that an answer refuses by, 0 where it is no refusal
 abbrev pub barring : Turn → ℕ
 barring (Out c) = 0
 barring (Over n a) = 0
 barring (Barred m) = m
-
-abbrev pub isBarred : Turn → Bool
-isBarred (Out c) = false
-isBarred (Over n a) = false
-isBarred (Barred m) = true
 
 -- a record's own answer is no refusal
 free-in : (stage : Stage) (l : Loader) (w : List ℕ) → (isBarred (turnIn stage l w) ≡ false) × (barring (turnIn stage l w) ≡ 0)

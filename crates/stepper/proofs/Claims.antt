@@ -19,7 +19,7 @@ use Rattle.loader.specs.declared.Given.{Given}
 use Rattle.loader.specs.Moves.{nextOf}
 use Rattle.stepper.specs.Outs.{firstOf, cycleIn, cycleOf}
 use Rattle.stepper.specs.Stores.{storeIn, storeOf}
-use Rattle.stepper.specs.Front.{barredPins, noBlock, wrongLengths, startRows, stepRows, startNumber, stepNumber, recordAt, endAddress, startOf, stepOf, scratchAfter}
+use Rattle.stepper.specs.Front.{barredPins, noBlock, wrongLengths, startRows, stepRows, startNumber, stepNumber, recordAt, endAddress, isBarred, startOf, stepOf, scratchAfter}
 use Rattle.stepper.proofs.Again as again
 
 -- The numbers: a start is refused by m exactly where m's own condition holds and that of no number before it does ..
@@ -28,7 +28,7 @@ pub start-refused-exactly : (part : Part) (p : Pins) (k : ℕ) (w sc : List ℕ)
 start-refused-exactly = again.start-numbers
 
 pub start-accepted-exactly : (part : Part) (p : Pins) (k : ℕ) (w sc : List ℕ)
-    → (again.isBarred (startOf part p k w sc .turn) ≡ false) ↔ NoRow (startRows part p k (length w) (length sc))
+    → (isBarred (startOf part p k w sc .turn) ≡ false) ↔ NoRow (startRows part p k (length w) (length sc))
 start-accepted-exactly = again.start-accepted
 
 -- .. and so is a step.
@@ -36,7 +36,7 @@ pub step-refused-exactly : (l : Loader) (b : ℕ) (w sc : List ℕ) (m : ℕ) �
     → (stepOf l b w sc .turn ≡ Barred m) ↔ Foremost (stepRows l (length w) (length sc)) m
 step-refused-exactly = again.step-numbers
 
-pub step-accepted-exactly : (l : Loader) (b : ℕ) (w sc : List ℕ) → (again.isBarred (stepOf l b w sc .turn) ≡ false) ↔ NoRow (stepRows l (length w) (length sc))
+pub step-accepted-exactly : (l : Loader) (b : ℕ) (w sc : List ℕ) → (isBarred (stepOf l b w sc .turn) ≡ false) ↔ NoRow (stepRows l (length w) (length sc))
 step-accepted-exactly = again.step-accepted
 
 -- A refused step leaves the record and scratch as they were; a refused start gives a record that has ended with the number.

@@ -87,6 +87,12 @@ givenBy l w = record { turn = turnIn (l .stage) l w; loader = l }
 abbrev pub barredBy : ℕ → Loader → Given
 barredBy n l = record { turn = Barred n; loader = l }
 
+-- what is given is a refusal
+abbrev pub isBarred : Turn → Bool
+isBarred (Out c) = false
+isBarred (Over n a) = false
+isBarred (Barred m) = true
+
 -- the start: a refused one gives a record that has ended with the number
 unfoldable pub startOf : Part → Pins → ℕ → List ℕ → List ℕ → Given
 startOf part p k w sc =
