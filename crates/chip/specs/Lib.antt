@@ -1,3 +1,4 @@
 pub mod Cells
 pub mod Levels
+pub mod Status
 pub mod States

@@ -5,6 +5,7 @@ use lib.Dec.{eqb, ltb, leb}
 use Rattle.cells.specs.Choice.{if_then_else_}
 use Rattle.device.specs.Parts.{sizeOf}
 use Rattle.device.specs.declared.Device.{Device}
+use Rattle.chip.specs.Status.{SR7}
 use Rattle.chip.specs.declared.Mode.{Mode}
 use Rattle.chip.specs.declared.Mode.the-variants.{Array, Status, Identifier}
 use Rattle.chip.specs.declared.Phase.{Phase}
@@ -94,8 +95,8 @@ atRest m sr = record { mode = m; status = sr; phase = Free; left = 0; address = 
 
 -- a fresh device: read array, 80H
 abbrev pub freshState : State
-freshState = atRest Array 128
+freshState = atRest Array SR7
 
 -- what RP# low makes of a state
 abbrev pub resetOf : State → State
-resetOf s = atRest Array 128
+resetOf s = atRest Array SR7

@@ -6,6 +6,17 @@ use device::Device;
 ghost use mathlib.Core.Path.{_≡_};
 ghost use Rattle.chip.specs.States.{isBusy, isPending, topBits, mostLeft, isArray, isStatus, isIdentifier, badMode, badStatus, badLeft, badAddress, improper, atRest, freshState, resetOf};
 
+// The bits of the status register: ready, erase suspended, erase error, program error, VPP low.
+pub const SR7: u8 = 0x80;
+
+pub const SR6: u8 = 0x40;
+
+pub const SR5: u8 = 0x20;
+
+pub const SR4: u8 = 0x10;
+
+pub const SR3: u8 = 0x08;
+
 pub fn is_busy(ph: Phase) -> bool
     ensures { λ r. ⌜ r ≡ isBusy ph ⌝ }
 {
@@ -155,12 +166,12 @@ pub fn at_rest(m: Mode, status: u8) -> State
 pub fn fresh() -> State
     ensures { λ r. ⌜ r ≡ freshState ⌝ }
 {
-    at_rest(Mode::Array, 128)
+    at_rest(Mode::Array, SR7)
 }
 
 // What RP# low makes of a state.
 pub fn reset(s: State) -> State
     ensures { λ r. ⌜ r ≡ resetOf s ⌝ }
 {
-    at_rest(Mode::Array, 128)
+    at_rest(Mode::Array, SR7)
 }

@@ -5,11 +5,11 @@ use mathlib.Core.List.{List}
 use Prim.Native.Nat.{ℕ, _-_}
 use lib.ListN.{getD}
 use lib.Dec.{eqb, ltb}
-use lib.Bits.{bitOr}
 use Rattle.cells.specs.Choice.{if_then_else_}
 use Rattle.device.specs.declared.Part.{Part}
 use Rattle.device.specs.Parts.{blockOf, codeOf}
 use Rattle.chip.specs.Levels.{vppLow}
+use Rattle.chip.specs.Status.{SR7, withBits}
 use Rattle.twin.specs.Twins.{pinsIn}
 use Rattle.model.specs.Passed.{programmedAt, erasedAt}
 use Rattle.twin.specs.declared.DeviceNumbers.{DeviceNumbers}
@@ -52,7 +52,7 @@ countedIn s = record { mode = s .mode; status = s .status; phase = s .phase; byt
 
 -- the operation has ended: at rest and ready
 abbrev pub endedIn : StateNumbers → StateNumbers
-endedIn s = record { mode = s .mode; status = bitOr (s .status) 128; phase = 0; byte = 0; left = 0; address = 0 }
+endedIn s = record { mode = s .mode; status = withBits (s .status) SR7; phase = 0; byte = 0; left = 0; address = 0 }
 
 -- what the end of the operation leaves in the array
 unfoldable pub arrayEnded : DeviceNumbers → StateNumbers → List ℕ → List ℕ
@@ -62,7 +62,7 @@ arrayEnded d s xs = if eqb (s .phase) 3 then programmedAt (s .address) (s .byte)
 unfoldable pub readIn : DeviceNumbers → StateNumbers → ℕ → List ℕ → AnswerNumbers
 readIn d s a xs =
     if runsIn s
-    then (if ltb 1 (s .left) then answerAs 1 (s .status) (countedIn s) else answerAs 1 (bitOr (s .status) 128) (endedIn s))
+    then (if ltb 1 (s .left) then answerAs 1 (s .status) (countedIn s) else answerAs 1 (withBits (s .status) SR7) (endedIn s))
     else stillOf d s a xs
 
 unfoldable pub arrayRead : DeviceNumbers → StateNumbers → List ℕ → List ℕ

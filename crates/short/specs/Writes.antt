@@ -1,11 +1,11 @@
 -- A write on numbers, RP# up, while nothing runs or is suspended. That this is the model's answer is proved (`write-way`);
 -- nothing here needs to be believed. Assumes nothing.
-use mathlib.Core.Bool.{Bool, false, not, _||_}
-use Prim.Native.Nat.{ℕ, _/_, _%_}
+use mathlib.Core.Bool.{Bool, false, _||_}
+use Prim.Native.Nat.{ℕ, _+_}
 use lib.Dec.{eqb, ltb}
-use lib.Bits.{bitAnd, bitOr}
 use Rattle.cells.specs.Choice.{if_then_else_}
 use Rattle.chip.specs.Levels.{vppLow, locked}
+use Rattle.chip.specs.Status.{SR7, SR5, SR4, SR3, withBits, withoutBits, isSet}
 use Rattle.twin.specs.Twins.{pinsIn, cycleIn}
 use Rattle.twin.specs.declared.DeviceNumbers.{DeviceNumbers}
 use Rattle.twin.specs.declared.StateNumbers.{StateNumbers}
@@ -32,7 +32,7 @@ firstIn s b =
     if eqb b 0xFF then turnedTo s 0 (s .status) 0
     else if eqb b 0x90 then turnedTo s 2 (s .status) 0
     else if eqb b 0x70 then turnedTo s 1 (s .status) 0
-    else if eqb b 0x50 then turnedTo s (s .mode) (bitAnd (s .status) 199) 0
+    else if eqb b 0x50 then turnedTo s (s .mode) (withoutBits (s .status) (SR5 + SR4 + SR3)) 0
     else if eqb b 0x20 then turnedTo s 1 (s .status) 1
     else if eqb b 0x40 then turnedTo s 1 (s .status) 2 else answerAs 2 7 s
 
@@ -42,21 +42,21 @@ restAs mode status = answerAs 0 0 (record { mode = mode; status = status; phase 
 
 -- VPP is low, or SR.3 says that it was
 unfoldable pub unsuppliedIn : DeviceNumbers → StateNumbers → BusNumbers → Bool
-unsuppliedIn d s c = vppLow (partIn d) (pinsIn (c .rp) (c .vpp)) || not (eqb (s .status / 8 % 2) 0)
+unsuppliedIn d s c = vppLow (partIn d) (pinsIn (c .rp) (c .vpp)) || isSet (s .status) SR3
 
 -- a confirm or data: the operation starts, or the error bits say why not
 unfoldable pub begunIn : DeviceNumbers → StateNumbers → BusNumbers → ℕ → ℕ → ℕ → ℕ → AnswerNumbers
 begunIn d s c phase byte left bit =
-    if unsuppliedIn d s c then restAs (s .mode) (bitOr (bitOr (s .status) 8) bit)
-    else if locked (partIn d) (cycleIn c) then restAs (s .mode) (bitOr (s .status) bit)
-    else answerAs 0 0 (record { mode = s .mode; status = bitAnd (s .status) 127; phase = phase; byte = byte; left = left; address = c .address })
+    if unsuppliedIn d s c then restAs (s .mode) (withBits (withBits (s .status) SR3) bit)
+    else if locked (partIn d) (cycleIn c) then restAs (s .mode) (withBits (s .status) bit)
+    else answerAs 0 0 (record { mode = s .mode; status = withoutBits (s .status) SR7; phase = phase; byte = byte; left = left; address = c .address })
 
 -- the write after 20H
 unfoldable pub secondIn : DeviceNumbers → StateNumbers → BusNumbers → AnswerNumbers
-secondIn d s c = if eqb (c .byte) 0xD0 then begunIn d s c 4 0 (d .erase) 32 else restAs (s .mode) (bitOr (s .status) 48)
+secondIn d s c = if eqb (c .byte) 0xD0 then begunIn d s c 4 0 (d .erase) SR5 else restAs (s .mode) (withBits (s .status) (SR5 + SR4))
 
 -- a write, by what is awaited
 unfoldable pub writtenIn : DeviceNumbers → StateNumbers → BusNumbers → AnswerNumbers
 writtenIn d s c =
     if eqb (s .phase) 0 then firstIn s (c .byte)
-    else if eqb (s .phase) 1 then secondIn d s c else begunIn d s c 3 (c .byte) (d .program) 16
+    else if eqb (s .phase) 1 then secondIn d s c else begunIn d s c 3 (c .byte) (d .program) SR4

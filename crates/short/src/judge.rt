@@ -7,6 +7,14 @@ use settling::residue_for;
 use twin::BusNumbers;
 use twin::DeviceNumbers;
 use twin::StateNumbers;
+use twin::states::ERASING;
+use twin::states::FREE;
+use twin::states::IDENTIFIER;
+use twin::states::IDLE;
+use twin::states::PROGRAMMING;
+use twin::states::STATUS;
+use twin::states::SUSPENDED;
+use twin::states::WRITE;
 use twin::states::pins_in;
 ghost use mathlib.Core.Path.{_≡_};
 ghost use Rattle.bus.specs.Cycles.{judgeOf};
@@ -39,20 +47,20 @@ fn improper(d: DeviceNumbers, s: StateNumbers, size: usize) -> bool
     ensures { λ r. ⌜ r ≡ improperBy d s size ⌝ }
 {
     let ph = s.phase;
-    if ph == 0 {
-        return (2 < s.mode) | rest_wrong(s);
+    if ph == FREE {
+        return (IDENTIFIER < s.mode) | rest_wrong(s);
     }
-    if ph < 3 {
-        return !(s.mode == 1) | rest_wrong(s);
+    if ph < PROGRAMMING {
+        return !(s.mode == STATUS) | rest_wrong(s);
     }
-    if ph == 3 {
-        return !(s.mode == 1) | way_wrong(s, 0, d.program, size);
+    if ph == PROGRAMMING {
+        return !(s.mode == STATUS) | way_wrong(s, 0, d.program, size);
     }
-    if ph == 4 {
-        return !(s.mode == 1) | !(s.byte == 0) | way_wrong(s, 0, d.erase, size);
+    if ph == ERASING {
+        return !(s.mode == STATUS) | !(s.byte == 0) | way_wrong(s, 0, d.erase, size);
     }
-    if ph == 5 {
-        return (1 < s.mode) | !(s.byte == 0) | way_wrong(s, 3, d.erase, size);
+    if ph == SUSPENDED {
+        return (STATUS < s.mode) | !(s.byte == 0) | way_wrong(s, 3, d.erase, size);
     }
     true
 }
@@ -63,7 +71,7 @@ fn bad_oe(kind: u8, oe: u8) -> bool
     if oe == 0 {
         return false;
     }
-    if kind == 1 {
+    if kind == WRITE {
         return 1 < oe;
     }
     true
@@ -73,14 +81,14 @@ fn bad_oe(kind: u8, oe: u8) -> bool
 fn bad_levels(part: Part, c: BusNumbers) -> bool
     ensures { λ r. ⌜ r ≡ levelsWrong part c ⌝ }
 {
-    (2 < c.kind) | bad_pins(part, pins_in(c.rp, c.vpp)) | bad_oe(c.kind, c.oe)
+    (IDLE < c.kind) | bad_pins(part, pins_in(c.rp, c.vpp)) | bad_oe(c.kind, c.oe)
 }
 
 // Refusal 5.
 fn past_array(c: BusNumbers, size: usize) -> bool
     ensures { λ r. ⌜ r ≡ pastSize c size ⌝ }
 {
-    (size <= c.address as usize) & !rp_low(pins_in(c.rp, c.vpp)) & (c.kind < 2)
+    (size <= c.address as usize) & !rp_low(pins_in(c.rp, c.vpp)) & (c.kind < IDLE)
 }
 
 // The levels of a cycle cut what is running or suspended.
@@ -94,7 +102,7 @@ fn cuts(part: Part, c: BusNumbers) -> bool
 fn short_residue(part: Part, s: StateNumbers, c: BusNumbers, residue: usize) -> bool
     ensures { λ r. ⌜ r ≡ residueShort part s c residue ⌝ }
 {
-    if s.phase < 3 {
+    if s.phase < PROGRAMMING {
         return false;
     }
     if cuts(part, c) {

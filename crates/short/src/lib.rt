@@ -11,6 +11,8 @@ use twin::AnswerNumbers;
 use twin::BusNumbers;
 use twin::DeviceNumbers;
 use twin::StateNumbers;
+use twin::states::NO_DATA;
+use twin::states::REFUSED;
 use twin::states::pins_in;
 ghost use mathlib.Core.Path.{_≡_};
 ghost use Rattle.chip.specs.Levels.{rpLow};
@@ -55,7 +57,7 @@ pub fn cycle(
 {
     let n = judge::number(device, state, bus, array.len(), residue.len());
     if n != 0 {
-        return answer(2, n, state);
+        return answer(REFUSED, n, state);
     }
     if is_low(bus) {
         return passed(device, state, bus, array, residue);
@@ -67,7 +69,7 @@ pub fn cycle(
         return writes::write(device, state, bus);
     }
     if writes::is_idle(state, bus) {
-        return answer(0, 0, state);
+        return answer(NO_DATA, 0, state);
     }
     passed(device, state, bus, array, residue)
 }

@@ -1,11 +1,21 @@
 // A read on numbers, RP# up, with no cut.
 use crate::answers::answer;
 use chip::levels::vpp_low;
+use chip::states::SR7;
 use device::Part;
 use twin::AnswerNumbers;
 use twin::BusNumbers;
 use twin::DeviceNumbers;
 use twin::StateNumbers;
+use twin::states::ARRAY;
+use twin::states::BYTE;
+use twin::states::ERASING;
+use twin::states::FREE;
+use twin::states::PROGRAMMING;
+use twin::states::READ;
+use twin::states::REFUSED;
+use twin::states::STATUS;
+use twin::states::SUSPENDED;
 use twin::states::pins_in;
 ghost use mathlib.Core.Path.{_≡_};
 ghost use Prim.Native.Nat.{_<_};
@@ -14,8 +24,8 @@ ghost use Rattle.short.specs.Reads.{isRead, runsIn, suspendedAt, shownAt
 pub(crate) fn is_read(d: DeviceNumbers, s: StateNumbers, c: BusNumbers) -> bool
     ensures { λ r. ⌜ r ≡ isRead d s c ⌝ }
 {
-    if c.kind == 0 {
-        if s.phase < 3 {
+    if c.kind == READ {
+        if s.phase < PROGRAMMING {
             return true;
         }
         let part = Part { number: d.number };
@@ -27,13 +37,13 @@ pub(crate) fn is_read(d: DeviceNumbers, s: StateNumbers, c: BusNumbers) -> bool
 fn runs(s: StateNumbers) -> bool
     ensures { λ r. ⌜ r ≡ runsIn s ⌝ }
 {
-    (s.phase == 3) | (s.phase == 4)
+    (s.phase == PROGRAMMING) | (s.phase == ERASING)
 }
 
 fn in_suspended(d: DeviceNumbers, s: StateNumbers, address: u32) -> bool
     ensures { λ r. ⌜ r ≡ suspendedAt d s address ⌝ }
 {
-    if s.phase == 5 {
+    if s.phase == SUSPENDED {
         let part = Part { number: d.number };
         return device::block_of(part, address) == device::block_of(part, s.address);
     }
@@ -45,10 +55,10 @@ fn show(d: DeviceNumbers, s: StateNumbers, address: u32, array: &[u8]) -> Answer
     ensures { λ r. ⌜ r ≡ shownAt d s address (now (array .entry)) ⌝ }
 {
     if in_suspended(d, s, address) {
-        return answer(2, 8, s);
+        return answer(REFUSED, 8, s);
     }
     let at = address as usize;
-    answer(1, cells::nth(array, at), s)
+    answer(BYTE, cells::nth(array, at), s)
 }
 
 // An identifier read: 9, or the code.
@@ -56,24 +66,24 @@ fn identify(d: DeviceNumbers, s: StateNumbers, address: u32) -> AnswerNumbers
     ensures { λ r. ⌜ r ≡ identified d s address ⌝ }
 {
     if 1 < address {
-        return answer(2, 9, s);
+        return answer(REFUSED, 9, s);
     }
     if address == 0 {
-        return answer(1, 0x89, s);
+        return answer(BYTE, 0x89, s);
     }
     let part = Part { number: d.number };
-    answer(1, device::code(part), s)
+    answer(BYTE, device::code(part), s)
 }
 
 // A read while nothing runs.
 fn still(d: DeviceNumbers, s: StateNumbers, address: u32, array: &[u8]) -> AnswerNumbers
     ensures { λ r. ⌜ r ≡ stillOf d s address (now (array .entry)) ⌝ }
 {
-    if s.mode == 0 {
+    if s.mode == ARRAY {
         return show(d, s, address, array);
     }
-    if s.mode == 1 {
-        return answer(1, s.status, s);
+    if s.mode == STATUS {
+        return answer(BYTE, s.status, s);
     }
     identify(d, s, address)
 }
@@ -97,7 +107,7 @@ fn counted(s: StateNumbers) -> StateNumbers
 fn finish(d: DeviceNumbers, s: StateNumbers, array: &mut [u8])
     ensures { λ _. ⌜ now (array .exit) ≡ arrayEnded d s (now (array .entry)) ⌝ }
 {
-    if s.phase == 3 {
+    if s.phase == PROGRAMMING {
         return model::program_at(s.address, s.byte, array);
     }
     let part = Part { number: d.number };
@@ -110,8 +120,8 @@ fn ended(s: StateNumbers) -> StateNumbers
 {
     StateNumbers {
         mode: s.mode,
-        status: s.status | 128,
-        phase: 0,
+        status: s.status | SR7,
+        phase: FREE,
         byte: 0,
         left: 0,
         address: 0,
@@ -129,10 +139,10 @@ pub(crate) fn read(
 {
     if runs(s) {
         if 1 < s.left {
-            return answer(1, s.status, counted(s));
+            return answer(BYTE, s.status, counted(s));
         }
         finish(d, s, array);
-        return answer(1, s.status | 128, ended(s));
+        return answer(BYTE, s.status | SR7, ended(s));
     }
     still(d, s, address, array)
 }

@@ -2,11 +2,27 @@
 use crate::answers::answer;
 use chip::levels::locked;
 use chip::levels::vpp_low;
+use chip::states::SR3;
+use chip::states::SR4;
+use chip::states::SR5;
+use chip::states::SR7;
 use device::Part;
 use twin::AnswerNumbers;
 use twin::BusNumbers;
 use twin::DeviceNumbers;
 use twin::StateNumbers;
+use twin::states::ARRAY;
+use twin::states::DATA_AWAITED;
+use twin::states::ERASE_AWAITED;
+use twin::states::ERASING;
+use twin::states::FREE;
+use twin::states::IDENTIFIER;
+use twin::states::IDLE;
+use twin::states::NO_DATA;
+use twin::states::PROGRAMMING;
+use twin::states::REFUSED;
+use twin::states::STATUS;
+use twin::states::WRITE;
 use twin::states::cycle_in;
 use twin::states::pins_in;
 ghost use mathlib.Core.Path.{_≡_};
@@ -15,11 +31,18 @@ ghost use Rattle.twin.specs.Twins.{cycleIn};
 ghost use Rattle.short.specs.Reads.{partIn};
 ghost use Rattle.short.specs.Writes.{isWrite, isIdle, turnedTo, firstIn, restAs, unsuppliedIn, begunIn, secondIn, writtenIn};
 
+// What a wrong second write sets; what a start and 50H keep.
+const ERRORS: u8 = SR5 + SR4;
+
+const BUSY: u8 = 0xFF - SR7;
+
+const CLEARED: u8 = 0xFF - SR5 - SR4 - SR3;
+
 pub(crate) fn is_write(s: StateNumbers, c: BusNumbers) -> bool
     ensures { λ r. ⌜ r ≡ isWrite s c ⌝ }
 {
-    if c.kind == 1 {
-        return s.phase < 3;
+    if c.kind == WRITE {
+        return s.phase < PROGRAMMING;
     }
     false
 }
@@ -27,8 +50,8 @@ pub(crate) fn is_write(s: StateNumbers, c: BusNumbers) -> bool
 pub(crate) fn is_idle(s: StateNumbers, c: BusNumbers) -> bool
     ensures { λ r. ⌜ r ≡ isIdle s c ⌝ }
 {
-    if c.kind == 2 {
-        return s.phase < 3;
+    if c.kind == IDLE {
+        return s.phase < PROGRAMMING;
     }
     false
 }
@@ -38,7 +61,7 @@ fn turned(s: StateNumbers, mode: u8, status: u8, phase: u8) -> AnswerNumbers
     ensures { λ r. ⌜ r ≡ turnedTo s mode status phase ⌝ }
 {
     answer(
-        0,
+        NO_DATA,
         0,
         StateNumbers {
             mode: mode,
@@ -56,13 +79,13 @@ fn first(s: StateNumbers, b: u8) -> AnswerNumbers
     ensures { λ r. ⌜ r ≡ firstIn s b ⌝ }
 {
     match b {
-        0xFF => turned(s, 0, s.status, 0),
-        0x90 => turned(s, 2, s.status, 0),
-        0x70 => turned(s, 1, s.status, 0),
-        0x50 => turned(s, s.mode, s.status & 199, 0),
-        0x20 => turned(s, 1, s.status, 1),
-        0x40 => turned(s, 1, s.status, 2),
-        _ => answer(2, 7, s),
+        0xFF => turned(s, ARRAY, s.status, FREE),
+        0x90 => turned(s, IDENTIFIER, s.status, FREE),
+        0x70 => turned(s, STATUS, s.status, FREE),
+        0x50 => turned(s, s.mode, s.status & CLEARED, FREE),
+        0x20 => turned(s, STATUS, s.status, ERASE_AWAITED),
+        0x40 => turned(s, STATUS, s.status, DATA_AWAITED),
+        _ => answer(REFUSED, 7, s),
     }
 }
 
@@ -71,12 +94,12 @@ fn rest(mode: u8, status: u8) -> AnswerNumbers
     ensures { λ r. ⌜ r ≡ restAs mode status ⌝ }
 {
     answer(
-        0,
+        NO_DATA,
         0,
         StateNumbers {
             mode: mode,
             status: status,
-            phase: 0,
+            phase: FREE,
             byte: 0,
             left: 0,
             address: 0,
@@ -88,7 +111,7 @@ fn unsupplied(d: DeviceNumbers, s: StateNumbers, c: BusNumbers) -> bool
     ensures { λ r. ⌜ r ≡ unsuppliedIn d s c ⌝ }
 {
     let part = Part { number: d.number };
-    vpp_low(part, pins_in(c.rp, c.vpp)) | !(s.status / 8 % 2 == 0)
+    vpp_low(part, pins_in(c.rp, c.vpp)) | !(s.status / SR3 % 2 == 0)
 }
 
 // The address is in the boot block, and nothing unlocks it.
@@ -112,17 +135,17 @@ fn begin(
     ensures { λ r. ⌜ r ≡ begunIn d s c phase byte left bit ⌝ }
 {
     if unsupplied(d, s, c) {
-        return rest(s.mode, s.status | 8 | bit);
+        return rest(s.mode, s.status | SR3 | bit);
     }
     if shut(d, c) {
         return rest(s.mode, s.status | bit);
     }
     answer(
-        0,
+        NO_DATA,
         0,
         StateNumbers {
             mode: s.mode,
-            status: s.status & 127,
+            status: s.status & BUSY,
             phase: phase,
             byte: byte,
             left: left,
@@ -136,19 +159,19 @@ fn second(d: DeviceNumbers, s: StateNumbers, c: BusNumbers) -> AnswerNumbers
     ensures { λ r. ⌜ r ≡ secondIn d s c ⌝ }
 {
     if c.byte == 0xD0 {
-        return begin(d, s, c, 4, 0, d.erase, 32);
+        return begin(d, s, c, ERASING, 0, d.erase, SR5);
     }
-    rest(s.mode, s.status | 48)
+    rest(s.mode, s.status | ERRORS)
 }
 
 pub(crate) fn write(d: DeviceNumbers, s: StateNumbers, c: BusNumbers) -> AnswerNumbers
     ensures { λ r. ⌜ r ≡ writtenIn d s c ⌝ }
 {
-    if s.phase == 0 {
+    if s.phase == FREE {
         return first(s, c.byte);
     }
-    if s.phase == 1 {
+    if s.phase == ERASE_AWAITED {
         return second(d, s, c);
     }
-    begin(d, s, c, 3, c.byte, d.program, 16)
+    begin(d, s, c, PROGRAMMING, c.byte, d.program, SR4)
 }
