@@ -11,7 +11,8 @@ use Rattle.device.specs.Parts.{unknownDevice, sizeOf}
 use Rattle.chip.specs.declared.State.{State}
 use Rattle.chip.specs.declared.Cycle.{Cycle}
 use Rattle.chip.specs.Levels.{badLevels}
-use Rattle.chip.specs.States.{badMode, badStatus, badLeft, badAddress, improper}
+use Rattle.chip.specs.States.{improper}
+use Rattle.chip.specs.Inner.{badMode, badStatus, badLeft, badAddress}
 use Rattle.settling.specs.Settling.{settleOf}
 use Rattle.bus.specs.Cycles.{tableOf, numberOf, pastArray, shortResidue, noCommand, suspendedRead, noIdentifier}
 

@@ -18,8 +18,10 @@ use Rattle.chip.specs.declared.Settled.{Settled}
 use Rattle.chip.specs.Levels.{rpLow, vppLow}
 use Rattle.chip.specs.States.{isArray}
 use Rattle.settling.specs.Settling.{settledAs, settleOf}
-use Rattle.bus.specs.Cycles.{isRead, judgeOf, refusedBy, decidedAs, decideOf}
-use Rattle.bus.specs.Arms.{isFree, inSuspended, arrayArm, arm, passOf, asksArray}
+use Rattle.bus.specs.Cycles.{judgeOf, refusedBy, decidedAs, decideOf}
+use Rattle.bus.specs.Arms.{inSuspended, arrayArm, arm, passOf, asksArray}
+use Rattle.chip.specs.Phases.{isFree}
+use Rattle.chip.specs.Kinds.{isRead}
 use Rattle.bus.proofs.Ways.{number-early, refused}
 use Rattle.bus.proofs.Arms.{by-reset, by-arms}
 

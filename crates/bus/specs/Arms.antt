@@ -24,7 +24,9 @@ use Rattle.chip.specs.declared.State.{State}
 use Rattle.chip.specs.declared.Cycle.{Cycle}
 use Rattle.settling.specs.Settling.{settleOf}
 use Rattle.commands.specs.Commands.{actionOf, isRefuse, performedOf}
-use Rattle.bus.specs.Cycles.{isRead, isSuspended, decidedAs, refusedBy, identifierOf}
+use Rattle.bus.specs.Cycles.{decidedAs, refusedBy, identifierOf}
+use Rattle.chip.specs.Phases.{isSuspended}
+use Rattle.chip.specs.Kinds.{isRead}
 
 -- the settled state and effect under a reply
 abbrev pub givenBy : Reply → Settled → Decision
@@ -61,14 +63,6 @@ arm Idle d s c t = givenBy Quiet t
 unfoldable pub passOf : Device → State → Cycle → Decision
 passOf d s c =
     if rpLow (c .pins) then givenBy Quiet (settleOf (d .part) s (c .pins)) else arm (c .kind) d s c (settleOf (d .part) s (c .pins))
-
-abbrev pub isFree : Phase → Bool
-isFree Free = true
-isFree EraseAwaited = false
-isFree DataAwaited = false
-isFree (Programming b) = false
-isFree Erasing = false
-isFree Suspended = false
 
 -- an array read of a device with nothing awaited, running or suspended, RP# up
 unfoldable pub asksArray : State → Cycle → Bool

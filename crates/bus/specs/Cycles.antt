@@ -27,29 +27,6 @@ use Rattle.chip.specs.States.{improper, isArray, isIdentifier}
 use Rattle.commands.specs.Commands.{actionOf, isRefuse, performedOf}
 use Rattle.settling.specs.Settling.{settleOf, residueFor}
 
-abbrev pub isIdle : Kind → Bool
-isIdle Read = false
-isIdle Write = false
-isIdle Idle = true
-
-abbrev pub isRead : Kind → Bool
-isRead Read = true
-isRead Write = false
-isRead Idle = false
-
-abbrev pub isWrite : Kind → Bool
-isWrite Read = false
-isWrite Write = true
-isWrite Idle = false
-
-abbrev pub isSuspended : Phase → Bool
-isSuspended Free = false
-isSuspended EraseAwaited = false
-isSuspended DataAwaited = false
-isSuspended (Programming b) = false
-isSuspended Erasing = false
-isSuspended Suspended = true
-
 -- refusal 5: the address is past the array; not asked with RP# low, nor of an idle cycle
 unfoldable pub pastArray : Part → Cycle → Bool
 pastArray part c = (leb (sizeOf part) (c .address) && not (rpLow (c .pins))) && not (isIdle (c .kind))

@@ -27,8 +27,10 @@ ghost use mathlib.Core.Bool.{not, _||_};
 ghost use Rattle.chip.specs.Levels.{rpLow, vppLow};
 ghost use lib.Dec.{eqb};
 ghost use Rattle.device.specs.Parts.{sizeOf};
-ghost use Rattle.bus.specs.Cycles.{isIdle, isRead, isSuspended, pastArray, shortResidue, judgeOf, refusedBy, identifierOf};
-ghost use Rattle.bus.specs.Arms.{givenBy, inSuspended, arrayArm, identifierArm, readArm, writeArm, arm, passOf, isFree, asksArray};
+ghost use Rattle.bus.specs.Cycles.{pastArray, shortResidue, judgeOf, refusedBy, identifierOf};
+ghost use Rattle.bus.specs.Arms.{givenBy, inSuspended, arrayArm, identifierArm, readArm, writeArm, arm, passOf, asksArray};
+ghost use Rattle.chip.specs.Phases.{isSuspended, isFree};
+ghost use Rattle.chip.specs.Kinds.{isIdle, isRead};
 
 fn is_idle(kind: Kind) -> bool
     ensures { λ r. ⌜ r ≡ isIdle kind ⌝ }

@@ -4,7 +4,8 @@ use mathlib.Core.Bool.{true}
 use Rattle.device.specs.Parts.{shapeOf, sizeIn, lengthIn, offsetIn, holderIn, turned, startIn, blockIn, unknownPart, unknownDevice, sizeOf, lengthOf, startOf, blockOf}
 use Rattle.chip.specs.Levels.{vppLow, vppHigh, badPins, badLevels, unlocked, locked}
 use Rattle.chip.specs.Cells.{ones}
-use Rattle.chip.specs.States.{badStatus, badLeft, badAddress, improper}
+use Rattle.chip.specs.States.{improper}
+use Rattle.chip.specs.Inner.{badStatus, badLeft, badAddress}
 use Rattle.commands.specs.Commands.{firstWrite, afterErase, whileErasing, whileSuspended, unsupplied, startedOf}
 use Rattle.settling.specs.Settling.{cutBy, countedOff, settleOf}
 use Rattle.bus.specs.Cycles.{pastArray, shortResidue, noCommand, suspendedRead, noIdentifier, numberOf, acceptOf, decideOf}

@@ -12,7 +12,8 @@ use Rattle.cells.proofs.Bytes.{bytes-replicate}
 use Rattle.device.specs.Parts.{shapeOf, sizeIn, lengthIn, offsetIn, startIn, unknownPart, unknownDevice, sizeOf, lengthOf, startOf}
 use Rattle.chip.specs.Cells.{ones}
 use Rattle.chip.specs.Levels.{vppLow, vppHigh, badPins}
-use Rattle.chip.specs.States.{badStatus, badLeft, badAddress, improper, freshState, atRest}
+use Rattle.chip.specs.States.{improper, freshState, atRest}
+use Rattle.chip.specs.Inner.{badStatus, badLeft, badAddress}
 use Rattle.chip.specs.declared.Mode.the-variants.{Array}
 use Rattle.stepper.specs.Front.{barredPins, noBlock, wrongLengths}
 use Rattle.loader.specs.Walks.{risesIn}

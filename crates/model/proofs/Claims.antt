@@ -17,7 +17,7 @@ use Rattle.chip.specs.declared.Kind.the-variants.{Read}
 use Rattle.chip.specs.declared.Effect.{Effect}
 use Rattle.chip.specs.declared.Effect.the-variants.{Nothing}
 use Rattle.chip.specs.declared.Reply.the-variants.{Gives}
-use Rattle.chip.specs.States.{improper, isBusy, freshState, resetOf}
+use Rattle.chip.specs.States.{improper, freshState, resetOf}
 use Rattle.settling.specs.Settling.{settleOf}
 use Rattle.bus.specs.Cycles.{tableOf, numberOf, judgeOf, decideOf, respondOf}
 use Rattle.bus.proofs.Facts.{proper-parts, parts-proper}
@@ -25,7 +25,8 @@ use Rattle.model.specs.declared.Seen.the-variants.{Refused}
 use Rattle.model.specs.declared.Answer.{Answer}
 use Rattle.model.specs.Arrays.{answerOf, arrayAfter}
 use Rattle.model.specs.Passed.{passedOf, arrayPassed, programmedAt, erasedAt}
-use Rattle.model.specs.Begun.{operationOf, pendingOf, startsOf, begunBy, isAwaited}
+use Rattle.model.specs.Begun.{operationOf, pendingOf, startsOf, begunBy}
+use Rattle.chip.specs.Phases.{isBusy, isAwaited}
 use Rattle.model.proofs.Keeping as keeping
 use Rattle.model.proofs.Lives as lives
 use Rattle.model.proofs.Contents as contents

@@ -21,7 +21,9 @@ use Rattle.chip.specs.declared.Mode.the-variants.{Array, Status, Identifier}
 use Rattle.chip.specs.declared.Phase.{Phase}
 use Rattle.chip.specs.declared.Phase.the-variants.{Free, EraseAwaited, DataAwaited, Programming, Erasing, Suspended}
 use Rattle.chip.specs.Levels.{rpLow, vppLow, locked}
-use Rattle.chip.specs.States.{badMode, badStatus, badLeft, badAddress, isPending, isBusy, topBits, atRest, freshState}
+use Rattle.chip.specs.States.{atRest, freshState}
+use Rattle.chip.specs.Inner.{badMode, badStatus, badLeft, badAddress, topBits}
+use Rattle.chip.specs.Phases.{isPending, isBusy}
 use Rattle.commands.specs.Commands.{firstWrite, afterErase, whileErasing, whileSuspended, actionOf, performedOf, startedOf, unsupplied}
 use Rattle.settling.specs.Settling.{cutBits, cutBy, countedOff, settleOf}
 use Rattle.chip.specs.declared.Reply.the-variants.{Gives}

@@ -24,13 +24,15 @@ use Rattle.chip.specs.declared.Phase.the-variants.{Free, EraseAwaited, DataAwai
 use Rattle.chip.specs.declared.Effect.{Effect}
 use Rattle.chip.specs.declared.Effect.the-variants.{Nothing, Erase}
 use Rattle.chip.specs.Levels.{rpLow, vppLow, locked}
-use Rattle.chip.specs.States.{isPending, isBusy, resetOf}
+use Rattle.chip.specs.States.{resetOf}
 use Rattle.commands.specs.Commands.{firstWrite, afterErase, whileErasing, whileSuspended, actionOf, performedOf, startedOf, unsupplied}
 use Rattle.settling.specs.Settling.{settledAs, cutOf, endOf, cutBy, countedOff, settleOf}
-use Rattle.bus.specs.Cycles.{isWrite, numberOf, decideOf, acceptOf, respondOf}
+use Rattle.bus.specs.Cycles.{numberOf, decideOf, acceptOf, respondOf}
 use Rattle.bus.proofs.Ways.{refused, accepted}
 use Rattle.model.proofs.Outcome.{outcome, accept-ways, accept-effect}
-use Rattle.model.specs.Begun.{operationOf, pendingIn, pendingOf, askedBy, startsOf, begunBy, isAwaited}
+use Rattle.model.specs.Begun.{operationOf, pendingIn, pendingOf, askedBy, startsOf, begunBy}
+use Rattle.chip.specs.Kinds.{isWrite}
+use Rattle.chip.specs.Phases.{isPending, isBusy, isAwaited}
 use Rattle.model.proofs.Keeping.{st}
 
 -- awaited before and running after: the same operation, told by the states

@@ -17,7 +17,8 @@ use Rattle.chip.specs.declared.Decision.{Decision}
 use Rattle.chip.specs.declared.Phase.{Phase}
 use Rattle.chip.specs.declared.Phase.the-variants.{Free, EraseAwaited, DataAwaited, Programming, Erasing, Suspended}
 use Rattle.chip.specs.Levels.{rpLow, vppLow}
-use Rattle.chip.specs.States.{badAddress, isPending, isBusy}
+use Rattle.chip.specs.Inner.{badAddress}
+use Rattle.chip.specs.Phases.{isPending, isBusy}
 use Rattle.settling.specs.Settling.{cutOf, endOf, residueFor, cutBy, countedOff, settleOf}
 use Rattle.bus.specs.Cycles.{shortResidue, decideOf}
 use Rattle.bus.proofs.Facts.{Fine}

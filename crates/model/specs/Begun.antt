@@ -14,7 +14,8 @@ use Rattle.chip.specs.declared.State.{State}
 use Rattle.chip.specs.declared.Cycle.{Cycle}
 use Rattle.chip.specs.Levels.{rpLow, locked}
 use Rattle.commands.specs.Commands.{unsupplied}
-use Rattle.bus.specs.Cycles.{isWrite, numberOf}
+use Rattle.bus.specs.Cycles.{numberOf}
+use Rattle.chip.specs.Kinds.{isWrite}
 
 -- the operation that an effect ends or cuts; an uncut effect is its own operation
 abbrev pub operationOf : Effect → Effect
@@ -55,12 +56,3 @@ startsOf part s c =
 -- the operation that a cycle begins; a refused cycle begins none
 unfoldable pub begunBy : Device → State → Cycle → ℕ → ℕ → Effect
 begunBy d s c array residue = if eqb (numberOf d s c array residue) 0 then startsOf (d .part) s c else Nothing
-
--- a second write is awaited
-abbrev pub isAwaited : Phase → Bool
-isAwaited Free = false
-isAwaited EraseAwaited = true
-isAwaited DataAwaited = true
-isAwaited (Programming b) = false
-isAwaited Erasing = false
-isAwaited Suspended = false

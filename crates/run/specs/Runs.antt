@@ -20,15 +20,6 @@ use Rattle.stepper.specs.Front.{barredPins, noBlock, wrongLengths, recordAt, en
 use Rattle.run.specs.declared.Ran.{Ran}
 use Rattle.run.specs.Turns.{Config, after, bound}
 
--- refusal 12: something is awaited, running or suspended
-abbrev pub underWay : Phase → Bool
-underWay Free = false
-underWay EraseAwaited = true
-underWay DataAwaited = true
-underWay (Programming b) = true
-underWay Erasing = true
-underWay Suspended = true
-
 -- the tests of a run, in their order
 abbrev pub runRows : Device → State → Pins → ℕ → ℕ → ℕ → ℕ → List Row
 runRows d s p k array w sc =

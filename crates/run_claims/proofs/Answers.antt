@@ -23,10 +23,12 @@ use Rattle.chip.specs.declared.Reply.the-variants.{Quiet, Gives, GivesArray}
 use Rattle.chip.specs.declared.State.{State}
 use Rattle.chip.specs.declared.Settled.{Settled}
 use Rattle.chip.specs.Levels.{rpLow, vppLow, badPins, locked, unlocked}
-use Rattle.chip.specs.States.{badMode, badStatus, badLeft, badAddress, atRest, isBusy, isPending, mostLeft}
+use Rattle.chip.specs.States.{atRest, mostLeft}
+use Rattle.chip.specs.Inner.{badMode, badStatus, badLeft, badAddress}
 use Rattle.commands.specs.Commands.{actionOf, firstWrite, afterErase, performedOf, startedOf, unsupplied}
 use Rattle.settling.specs.Settling.{settledAs, settleOf, countedOff, endOf}
-use Rattle.bus.specs.Cycles.{isSuspended, shortResidue, noCommand, suspendedRead, noIdentifier, lateOf, decideOf, acceptOf, respondOf, decidedAs}
+use Rattle.bus.specs.Cycles.{shortResidue, noCommand, suspendedRead, noIdentifier, lateOf, decideOf, acceptOf, respondOf, decidedAs}
+use Rattle.chip.specs.Phases.{isBusy, isPending, isSuspended}
 use Rattle.bus.proofs.Ways.{accepted, number-late}
 use Rattle.bus.proofs.Facts.{Proper}
 use Rattle.model.proofs.Keeping.{st, rest-proper}

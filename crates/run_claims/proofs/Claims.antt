@@ -29,7 +29,7 @@ use Rattle.run_claims.proofs.Mission as mission
 -- Demand 3, from the mission's start (`Start`: nothing refused, so a proper state with nothing under way; VPP in its 12 V band;
 -- RP# at unlock level for the boot block). The load ends well, and the count is 2n + 3 + e(2 + E) + p(2 + P).
 pub ends-well : (d : Device) (s : State) (p : Pins) (k : ℕ) (xs w sc : List ℕ) → Start d s p k xs w sc
-    → ranOf d s p k xs w sc ≡ record { count = formula d w (heldIn (startOf (d .part) k) (length w) xs); end = 0; address = 0; state = atRest Array 128 }
+    → ranOf d s p k xs w sc ≡ record { count = formula d w (heldIn (startOf (d .part) k) (length w) xs); end = 0; address = 0; state = atRest Array 0x80 }
 ends-well = mission.ends-well
 
 -- The block holds the wanted bytes, every other byte is as before, and scratch holds the wanted bytes.

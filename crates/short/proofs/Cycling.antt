@@ -11,7 +11,7 @@ use Rattle.chip.specs.declared.Mode.the-variants.{Array, Status, Identifier}
 use Rattle.chip.specs.declared.Phase.{Phase}
 use Rattle.chip.specs.declared.Phase.the-variants.{Free, EraseAwaited, DataAwaited, Programming, Erasing, Suspended}
 use Rattle.chip.specs.declared.Decision.{Decision}
-use Rattle.chip.specs.States.{badMode}
+use Rattle.chip.specs.Inner.{badMode}
 use Rattle.bus.specs.Cycles.{early, judgeOf}
 use Rattle.bus.proofs.Facts.{proper-parts}
 use Rattle.bus.proofs.Passing.{stops}

@@ -14,9 +14,11 @@ use Rattle.device.specs.Parts.{unknownDevice, sizeOf}
 use Rattle.chip.specs.declared.Cycle.{Cycle}
 use Rattle.chip.specs.declared.State.{State}
 use Rattle.chip.specs.Levels.{badPins, badLevels}
-use Rattle.chip.specs.States.{isStatus, isIdentifier, badStatus, badLeft, badAddress, improper}
+use Rattle.chip.specs.States.{isStatus, isIdentifier, improper}
+use Rattle.chip.specs.Inner.{badStatus, badLeft, badAddress}
 use Rattle.settling.specs.Settling.{residueFor}
-use Rattle.bus.specs.Cycles.{isIdle, pastArray, shortResidue, early, judgeOf}
+use Rattle.bus.specs.Cycles.{pastArray, shortResidue, early, judgeOf}
+use Rattle.chip.specs.Kinds.{isIdle}
 use Rattle.twin.specs.Twins.{deviceIn, modeIn, phaseIn, noState, stateIn, kindIn, oeIn, cycleIn}
 use Rattle.twin.specs.declared.DeviceNumbers.{DeviceNumbers}
 use Rattle.twin.specs.declared.StateNumbers.{StateNumbers}

@@ -25,7 +25,8 @@ use Rattle.chip.specs.declared.Effect.the-variants.{Nothing}
 use Rattle.chip.specs.declared.Settled.{Settled}
 use Rattle.chip.specs.declared.Decision.{Decision}
 use Rattle.chip.specs.Levels.{rpLow, vppLow}
-use Rattle.chip.specs.States.{isBusy, isPending, atRest}
+use Rattle.chip.specs.States.{atRest}
+use Rattle.chip.specs.Phases.{isBusy, isPending}
 use Rattle.settling.specs.Settling.{settledAs, settleOf, countedOff, endOf}
 use Rattle.bus.specs.Cycles.{identifierOf}
 use Rattle.bus.specs.Arms.{inSuspended, arrayArm, identifierArm, readArm, arm, passOf}
