@@ -1,9 +1,9 @@
 -- Begun, pending and ended operations, and the law that ties them. Assumes nothing.
 use mathlib.Core.Path.{_≡_, refl, sym, ap, _∙_}
 use mathlib.Core.Bool.{Bool, true, false, not, _&&_}
-use Prim.Native.Nat.{ℕ, _+_}
+use Prim.Native.Nat.{ℕ, _+_, _-_}
 use native.Mathlib.Omega.{arith}
-use lib.Dec.{eqb, leb}
+use lib.Dec.{eqb}
 use borrow.Author.Tests.{eqb-true, eqb-false, eq-eqb, ne-eqb}
 use Rattle.cells.specs.Choice.{if_then_else_}
 use Rattle.cells.proofs.Choice.{if-ind, if-same, if-true, if-false, unlike}
@@ -30,14 +30,10 @@ use Rattle.settling.specs.Settling.{settledAs, cutOf, endOf, cutBy, countedOff,
 use Rattle.bus.specs.Cycles.{numberOf, decideOf, acceptOf, respondOf}
 use Rattle.bus.proofs.Ways.{refused, accepted}
 use Rattle.model.proofs.Outcome.{outcome, accept-ways, accept-effect}
-use Rattle.model.specs.Begun.{operationOf, pendingIn, pendingOf, askedBy, startsOf, begunBy}
+use Rattle.model.specs.Begun.{operationOf, pendingIn, pendingOf, askedBy, startsOf, begunBy, begunFrom}
 use Rattle.chip.specs.Kinds.{isWrite}
 use Rattle.chip.specs.Phases.{isPending, isBusy, isAwaited}
 use Rattle.model.proofs.Keeping.{st}
-
--- awaited before and running after: the same operation, told by the states
-abbrev pub begunFrom : Part → State → State → Effect
-begunFrom part s t = if isAwaited (s .phase) then pendingOf part t else Nothing
 
 cut-same : (ph : Phase) (part : Part) (a : ℕ) → operationOf (cutOf ph part a) ≡ pendingIn ph part a
 cut-same Free part a = refl
@@ -86,7 +82,7 @@ unfolding settleOf cutBy countedOff
 settle-unawaited part s c e =
     if-ind In (rpLow (c .pins)) _ _ (λ x. refl)
     (λ x. if-ind In (vppLow part (c .pins) && isPending (s .phase)) _ _ (λ v. refl)
-    (λ v. if-ind In (isBusy (s .phase)) _ _ (λ b. if-ind In (leb (s .left) 1) _ _ (λ l. refl) (λ l. e)) (λ b. e)))
+    (λ v. if-ind In (isBusy (s .phase)) _ _ (λ b. if-ind In (eqb (s .left - 1) 0) _ _ (λ l. refl) (λ l. e)) (λ b. e)))
   where
     In : Settled → Type 0
     In t = isAwaited (t .state .phase) ≡ false
@@ -100,7 +96,7 @@ module _ (f : Effect → ℕ) (zero : f Nothing ≡ 0) where
       if-ind In (rpLow (c .pins)) _ _ (λ x. over)
       (λ x. if-ind In (vppLow part (c .pins) && isPending (s .phase)) _ _ (λ v. over)
       (λ v. if-ind In (isBusy (s .phase)) _ _
-      (λ b. if-ind In (leb (s .left) 1) _ _ (λ l. rw (end-same (s .phase) part (s .address) b, zero) (omega arith)) (λ l. same)) (λ b. same)))
+      (λ b. if-ind In (eqb (s .left - 1) 0) _ _ (λ l. rw (end-same (s .phase) part (s .address) b, zero) (omega arith)) (λ l. same)) (λ b. same)))
     where
       In : Settled → Type 0
       In t = f (operationOf (t .effect)) + f (pendingOf part (t .state)) ≡ f (pendingOf part s)

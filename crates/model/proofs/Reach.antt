@@ -1,7 +1,7 @@
 -- What a decided cycle touches lies inside the array and the residue. Assumes nothing.
 use mathlib.Core.Path.{_≡_, refl}
 use mathlib.Core.Bool.{true, false, not, _&&_, _||_}
-use Prim.Native.Nat.{ℕ, _≤_}
+use Prim.Native.Nat.{ℕ, _-_, _≤_}
 use native.Mathlib.Omega.{arith}
 use lib.Dec.{eqb, ltb, leb}
 use borrow.Author.Tests.{leb-false, ltb-false}
@@ -52,7 +52,7 @@ settle-within d s c n r f =
     (λ e. if-ind In (vppLow (d .part) (c .pins) && isPending (s .phase)) _ _
     (λ v. cut-within (s .phase) (d .part) (s .address) n r (f .sized) (f .proper .address) (long (simp (e, and-left (vppLow (d .part) (c .pins)) (isPending (s .phase)) v))))
     (λ v. if-ind In (isBusy (s .phase)) _ _
-    (λ b. if-ind In (leb (s .left) 1) _ _ (λ l. end-within (s .phase) (d .part) (s .address) n r (f .sized) (f .proper .address)) (λ l. refl))
+    (λ b. if-ind In (eqb (s .left - 1) 0) _ _ (λ l. end-within (s .phase) (d .part) (s .address) n r (f .sized) (f .proper .address)) (λ l. refl))
     (λ b. refl)))
   where
     In : Settled → Type 0

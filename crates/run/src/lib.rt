@@ -100,7 +100,7 @@ fn both(d: Device, start: u32, h: Held, wanted: &[u8], scratch: &mut [u8], array
     let s = h.state;
     let stage = l.stage;
     let c = cycle_in(stage, start, here(start, l), l, wanted);
-    let a = model::passed(d, s, c, array, &wanted[0..0]);
+    let a = model::after_judging(d, s, c, array, &wanted[0..0]);
     let seen = a.seen;
     let state = a.state;
     Held {

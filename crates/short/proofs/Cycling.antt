@@ -17,14 +17,14 @@ use Rattle.bus.proofs.Facts.{proper-parts}
 use Rattle.bus.proofs.Passing.{stops}
 use Rattle.model.specs.declared.Answer.{Answer}
 use Rattle.model.specs.Arrays.{arrayOf, seenOf, answerOf, arrayAfter}
-use Rattle.model.proofs.Passing.{passed-answer, passed-array}
+use Rattle.model.proofs.Passing.{judged-answer, judged-array}
 use Rattle.twin.specs.Twins.{deviceIn, stateIn, stateOut, modeOut, cycleIn}
 use Rattle.twin.specs.Answers.{answerOut}
 use Rattle.twin.specs.declared.DeviceNumbers.{DeviceNumbers}
 use Rattle.twin.specs.declared.StateNumbers.{StateNumbers}
 use Rattle.twin.specs.declared.BusNumbers.{BusNumbers}
 use Rattle.twin.proofs.Border.{state-same, state-numbers}
-use Rattle.short.specs.Cycled.{cycled, arrayCycled, passedIn, arrayPassedIn, answerAs}
+use Rattle.short.specs.Cycled.{cycled, arrayCycled, judgedIn, arrayJudgedIn, answerAs}
 use Rattle.short.specs.Reads.{runsIn}
 use Rattle.short.proofs.Judged.{stands}
 use Rattle.short.proofs.Told.{st}
@@ -44,11 +44,11 @@ module _ (d : DeviceNumbers) (s : StateNumbers) (c : BusNumbers) (xs rs : List �
       )
 
   -- none of them
-  pub passed-way : judged ≡ 0 → (passedIn d s c xs rs ≡ cycled d s c xs rs) × (arrayPassedIn d s c xs rs ≡ arrayCycled d s c xs rs)
-  unfolding cycled arrayCycled passedIn arrayPassedIn
-  passed-way z = (
-    ap (λ (x : Answer). answerOut s x) (passed-answer (deviceIn d) (stateIn s) (cycleIn c) xs rs z),
-    passed-array (deviceIn d) (stateIn s) (cycleIn c) xs rs z,
+  pub judged-way : judged ≡ 0 → (judgedIn d s c xs rs ≡ cycled d s c xs rs) × (arrayJudgedIn d s c xs rs ≡ arrayCycled d s c xs rs)
+  unfolding cycled arrayCycled judgedIn arrayJudgedIn
+  judged-way z = (
+    ap (λ (x : Answer). answerOut s x) (judged-answer (deviceIn d) (stateIn s) (cycleIn c) xs rs z),
+    judged-array (deviceIn d) (stateIn s) (cycleIn c) xs rs z,
   )
 
   -- .. and then an operation that runs has its mode

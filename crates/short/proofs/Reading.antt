@@ -29,26 +29,26 @@ use Rattle.chip.specs.States.{atRest}
 use Rattle.chip.specs.Phases.{isBusy, isPending}
 use Rattle.settling.specs.Settling.{settledAs, settleOf, countedOff, endOf}
 use Rattle.bus.specs.Cycles.{identifierOf}
-use Rattle.bus.specs.Arms.{inSuspended, arrayArm, identifierArm, readArm, arm, passOf}
-use Rattle.model.specs.Passed.{doneOf, programmedAt, erasedAt}
+use Rattle.bus.specs.Inner.{inSuspended, arrayArm, identifierArm, readArm, arm, decideJudged}
+use Rattle.model.specs.Inner.{doneOf, programmedAt, erasedAt}
 use Rattle.twin.specs.Twins.{deviceIn, kindIn, noState, stateIn, stateOut, modeOut, cycleIn}
 use Rattle.twin.specs.declared.DeviceNumbers.{DeviceNumbers}
 use Rattle.twin.specs.declared.StateNumbers.{StateNumbers}
 use Rattle.twin.specs.declared.BusNumbers.{BusNumbers}
 use Rattle.twin.specs.declared.AnswerNumbers.{AnswerNumbers}
 use Rattle.twin.proofs.Border.{out-state, state-back, state-numbers}
-use Rattle.short.specs.Cycled.{passedIn, arrayPassedIn, answerAs}
+use Rattle.short.specs.Cycled.{judgedIn, arrayJudgedIn, answerAs}
 use Rattle.short.proofs.Told as tells
 use Rattle.short.proofs.Told.{st, toldAs, yes-then}
 use Rattle.short.specs.Reads.{partIn, isRead, runsIn, suspendedAt, shownAt, identified, stillOf, countedIn, endedIn, arrayEnded, readIn, arrayRead}
 
 -- a passed cycle from a state's numbers
 module _ (d : DeviceNumbers) (t : State) (c : BusNumbers) (xs rs : List ℕ) where
-  told : passedIn d (stateOut t) c xs rs ≡ toldAs (partIn d) xs rs (passOf (deviceIn d) t (cycleIn c))
-  told = tells.told d (stateOut t) c xs rs (out-state t) ∙ ap (λ (u : State). toldAs (partIn d) xs rs (passOf (deviceIn d) u (cycleIn c))) (state-back t)
+  told : judgedIn d (stateOut t) c xs rs ≡ toldAs (partIn d) xs rs (decideJudged (deviceIn d) t (cycleIn c))
+  told = tells.told d (stateOut t) c xs rs (out-state t) ∙ ap (λ (u : State). toldAs (partIn d) xs rs (decideJudged (deviceIn d) u (cycleIn c))) (state-back t)
 
-  told-array : arrayPassedIn d (stateOut t) c xs rs ≡ doneOf (passOf (deviceIn d) t (cycleIn c) .effect) (partIn d) rs xs
-  told-array = tells.told-array d (stateOut t) c xs rs ∙ ap (λ (u : State). doneOf (passOf (deviceIn d) u (cycleIn c) .effect) (partIn d) rs xs) (state-back t)
+  told-array : arrayJudgedIn d (stateOut t) c xs rs ≡ doneOf (decideJudged (deviceIn d) t (cycleIn c) .effect) (partIn d) rs xs
+  told-array = tells.told-array d (stateOut t) c xs rs ∙ ap (λ (u : State). doneOf (decideJudged (deviceIn d) u (cycleIn c) .effect) (partIn d) rs xs) (state-back t)
 
 -- what is known of such a read
 read-kind : (d : DeviceNumbers) (s : StateNumbers) (c : BusNumbers) → isRead d s c ≡ true → c .kind ≡ 0
@@ -113,8 +113,8 @@ module _ (d : DeviceNumbers) (c : BusNumbers) (xs rs : List ℕ) (k : c .kind �
   kind = ap (λ (n : ℕ). kindIn n) k
 
   passes : (t u : State) (e : Effect) → settleOf (partIn d) t (cycleIn c .pins) ≡ settledAs u e
-      → passOf (deviceIn d) t (cycleIn c) ≡ readArm (u .mode) (partIn d) t (cycleIn c) (settledAs u e)
-  unfolding passOf
+      → decideJudged (deviceIn d) t (cycleIn c) ≡ readArm (u .mode) (partIn d) t (cycleIn c) (settledAs u e)
+  unfolding decideJudged
   passes t u e q =
       if-false (rpLow (cycleIn c .pins)) _ _ up
       ∙ ap (λ (x : Kind). arm x (deviceIn d) t (cycleIn c) (settleOf (partIn d) t (cycleIn c .pins))) kind
@@ -122,8 +122,8 @@ module _ (d : DeviceNumbers) (c : BusNumbers) (xs rs : List ℕ) (k : c .kind �
 
   -- nothing runs
   by-still : (m : Mode) (x : ℕ) (ph : Phase) (l a : ℕ) → settleOf (partIn d) (st m x ph l a) (cycleIn c .pins) ≡ settledAs (st m x ph l a) Nothing
-      → (stillOf d (stateOut (st m x ph l a)) (c .address) xs ≡ passedIn d (stateOut (st m x ph l a)) c xs rs)
-      × (xs ≡ arrayPassedIn d (stateOut (st m x ph l a)) c xs rs)
+      → (stillOf d (stateOut (st m x ph l a)) (c .address) xs ≡ judgedIn d (stateOut (st m x ph l a)) c xs rs)
+      × (xs ≡ arrayJudgedIn d (stateOut (st m x ph l a)) c xs rs)
   by-still m x ph l a q =
       let t = st m x ph l a in
       let p = passes t t Nothing q in (
@@ -133,8 +133,8 @@ module _ (d : DeviceNumbers) (c : BusNumbers) (xs rs : List ℕ) (k : c .kind �
 
   -- an operation runs
   counted-told : (x : ℕ) (ph : Phase) (l a : ℕ) → 1 < l → isBusy ph ≡ true → vppLow (partIn d) (cycleIn c .pins) ≡ false
-      → (answerAs 1 x (countedIn (stateOut (st Status x ph l a))) ≡ passedIn d (stateOut (st Status x ph l a)) c xs rs)
-      × (xs ≡ arrayPassedIn d (stateOut (st Status x ph l a)) c xs rs)
+      → (answerAs 1 x (countedIn (stateOut (st Status x ph l a))) ≡ judgedIn d (stateOut (st Status x ph l a)) c xs rs)
+      × (xs ≡ arrayJudgedIn d (stateOut (st Status x ph l a)) c xs rs)
   unfolding settleOf countedOff
   counted-told x ph l a h b v =
       let t = st Status x ph l a in
@@ -144,8 +144,8 @@ module _ (d : DeviceNumbers) (c : BusNumbers) (xs rs : List ℕ) (k : c .kind �
       (sym (told d t c xs rs ∙ ap (toldAs (partIn d) xs rs) p), sym (told-array d t c xs rs ∙ ap (λ (y : Decision). doneOf (y .effect) (partIn d) rs xs) p))
 
   ended-told : (x : ℕ) (ph : Phase) (l a : ℕ) → l ≤ 1 → isBusy ph ≡ true → vppLow (partIn d) (cycleIn c .pins) ≡ false
-      → (answerAs 1 (bitOr x 128) (endedIn (stateOut (st Status x ph l a))) ≡ passedIn d (stateOut (st Status x ph l a)) c xs rs)
-      × (arrayEnded d (stateOut (st Status x ph l a)) xs ≡ arrayPassedIn d (stateOut (st Status x ph l a)) c xs rs)
+      → (answerAs 1 (bitOr x 128) (endedIn (stateOut (st Status x ph l a))) ≡ judgedIn d (stateOut (st Status x ph l a)) c xs rs)
+      × (arrayEnded d (stateOut (st Status x ph l a)) xs ≡ arrayJudgedIn d (stateOut (st Status x ph l a)) c xs rs)
   unfolding settleOf countedOff
   ended-told x ph l a h b v =
       let t = st Status x ph l a in
@@ -158,28 +158,28 @@ module _ (d : DeviceNumbers) (c : BusNumbers) (xs rs : List ℕ) (k : c .kind �
 
   -- nothing runs, by phase
   at-rest : (m : Mode) (x : ℕ) (ph : Phase) (l a : ℕ) → isPending ph ≡ false → isBusy ph ≡ false
-      → (stillOf d (stateOut (st m x ph l a)) (c .address) xs ≡ passedIn d (stateOut (st m x ph l a)) c xs rs)
-      × (xs ≡ arrayPassedIn d (stateOut (st m x ph l a)) c xs rs)
+      → (stillOf d (stateOut (st m x ph l a)) (c .address) xs ≡ judgedIn d (stateOut (st m x ph l a)) c xs rs)
+      × (xs ≡ arrayJudgedIn d (stateOut (st m x ph l a)) c xs rs)
   unfolding settleOf
   at-rest m x ph l a e b = by-still m x ph l a (simp (up, e, b, and-none (vppLow (partIn d) (cycleIn c .pins))))
 
   suspended : (m : Mode) (x l a : ℕ) → vppLow (partIn d) (cycleIn c .pins) ≡ false
-      → (stillOf d (stateOut (st m x Suspended l a)) (c .address) xs ≡ passedIn d (stateOut (st m x Suspended l a)) c xs rs)
-      × (xs ≡ arrayPassedIn d (stateOut (st m x Suspended l a)) c xs rs)
+      → (stillOf d (stateOut (st m x Suspended l a)) (c .address) xs ≡ judgedIn d (stateOut (st m x Suspended l a)) c xs rs)
+      × (xs ≡ arrayJudgedIn d (stateOut (st m x Suspended l a)) c xs rs)
   unfolding settleOf
   suspended m x l a v = by-still m x Suspended l a (simp (up, v))
 
   -- an operation runs: one cycle is counted off, or it ends
   running : (x : ℕ) (ph : Phase) (l a : ℕ) → isBusy ph ≡ true → vppLow (partIn d) (cycleIn c .pins) ≡ false
       → ((if ltb 1 l then answerAs 1 x (countedIn (stateOut (st Status x ph l a))) else answerAs 1 (bitOr x 128) (endedIn (stateOut (st Status x ph l a))))
-      ≡ passedIn d (stateOut (st Status x ph l a)) c xs rs)
-      × ((if ltb 1 l then xs else arrayEnded d (stateOut (st Status x ph l a)) xs) ≡ arrayPassedIn d (stateOut (st Status x ph l a)) c xs rs)
+      ≡ judgedIn d (stateOut (st Status x ph l a)) c xs rs)
+      × ((if ltb 1 l then xs else arrayEnded d (stateOut (st Status x ph l a)) xs) ≡ arrayJudgedIn d (stateOut (st Status x ph l a)) c xs rs)
   running x ph l a b v = go (ltb 1 l) refl
     where
       go : (h : Bool) → ltb 1 l ≡ h
           → ((if h then answerAs 1 x (countedIn (stateOut (st Status x ph l a))) else answerAs 1 (bitOr x 128) (endedIn (stateOut (st Status x ph l a))))
-          ≡ passedIn d (stateOut (st Status x ph l a)) c xs rs)
-          × ((if h then xs else arrayEnded d (stateOut (st Status x ph l a)) xs) ≡ arrayPassedIn d (stateOut (st Status x ph l a)) c xs rs)
+          ≡ judgedIn d (stateOut (st Status x ph l a)) c xs rs)
+          × ((if h then xs else arrayEnded d (stateOut (st Status x ph l a)) xs) ≡ arrayJudgedIn d (stateOut (st Status x ph l a)) c xs rs)
       go true e = counted-told x ph l a (ltb-true 1 l e) b v
       go false e = ended-told x ph l a (ltb-false 1 l e) b v
 
@@ -191,7 +191,7 @@ runs-status Identifier e = absurd (omega (arith, e))
 
 -- the law for the numbers of a state
 abbrev Same : DeviceNumbers → StateNumbers → BusNumbers → List ℕ → List ℕ → Type 0
-Same d s c xs rs = (readIn d s (c .address) xs ≡ passedIn d s c xs rs) × (arrayRead d s xs ≡ arrayPassedIn d s c xs rs)
+Same d s c xs rs = (readIn d s (c .address) xs ≡ judgedIn d s c xs rs) × (arrayRead d s xs ≡ arrayJudgedIn d s c xs rs)
 
 by-phase : (d : DeviceNumbers) (c : BusNumbers) (xs rs : List ℕ) (m : Mode) (x : ℕ) (ph : Phase) (l a : ℕ) → eqb (c .rp) 0 ≡ false → isRead d (stateOut (st m x ph l a)) c ≡ true
     → (runsIn (stateOut (st m x ph l a)) ≡ true → modeOut m ≡ 1) → Same d (stateOut (st m x ph l a)) c xs rs
@@ -213,7 +213,7 @@ by-phase d c xs rs m x Suspended l a up e f =
 
 -- numbers that stand for a state; where an operation runs, reads give the status
 pub read-way : (d : DeviceNumbers) (s : StateNumbers) (c : BusNumbers) (xs rs : List ℕ) → noState s ≡ false → eqb (c .rp) 0 ≡ false → isRead d s c ≡ true
-    → (runsIn s ≡ true → s .mode ≡ 1) → (readIn d s (c .address) xs ≡ passedIn d s c xs rs) × (arrayRead d s xs ≡ arrayPassedIn d s c xs rs)
+    → (runsIn s ≡ true → s .mode ≡ 1) → (readIn d s (c .address) xs ≡ judgedIn d s c xs rs) × (arrayRead d s xs ≡ arrayJudgedIn d s c xs rs)
 read-way d s c xs rs z up e f =
     subst (λ (n : StateNumbers). eqb (c .rp) 0 ≡ false → isRead d n c ≡ true → (runsIn n ≡ true → n .mode ≡ 1) → Same d n c xs rs) (state-numbers s z)
     (λ u g h. let t = stateIn s in by-phase d c xs rs (t .mode) (t .status) (t .phase) (t .left) (t .address) u g h)

@@ -10,17 +10,17 @@ use Rattle.chip.specs.declared.Mode.{Mode}
 use Rattle.chip.specs.declared.Phase.{Phase}
 use Rattle.chip.specs.declared.State.{State}
 use Rattle.chip.specs.declared.Decision.{Decision}
-use Rattle.bus.specs.Arms.{passOf}
+use Rattle.bus.specs.Inner.{decideJudged}
 use Rattle.model.specs.declared.Answer.{Answer}
 use Rattle.model.specs.Arrays.{seenOf}
-use Rattle.model.specs.Passed.{doneOf, arrayPassed, passedOf}
+use Rattle.model.specs.Inner.{doneOf, arrayJudged, answerJudged}
 use Rattle.twin.specs.Twins.{deviceIn, noState, stateIn, stateOut, cycleIn}
 use Rattle.twin.specs.Answers.{stateBack, seenOut, valueOut}
 use Rattle.twin.specs.declared.DeviceNumbers.{DeviceNumbers}
 use Rattle.twin.specs.declared.StateNumbers.{StateNumbers}
 use Rattle.twin.specs.declared.BusNumbers.{BusNumbers}
 use Rattle.twin.specs.declared.AnswerNumbers.{AnswerNumbers}
-use Rattle.short.specs.Cycled.{passedIn, arrayPassedIn, answerAs}
+use Rattle.short.specs.Cycled.{judgedIn, arrayJudgedIn, answerAs}
 use Rattle.short.specs.Reads.{partIn}
 
 -- a state written out
@@ -33,14 +33,14 @@ toldAs part xs rs x =
     answerAs (seenOut (seenOf (x .reply) (doneOf (x .effect) part rs xs))) (valueOut (seenOf (x .reply) (doneOf (x .effect) part rs xs))) (stateOut (x .state))
 
 module _ (d : DeviceNumbers) (s : StateNumbers) (c : BusNumbers) (xs rs : List ℕ) where
-  pub told : noState s ≡ false → passedIn d s c xs rs ≡ toldAs (partIn d) xs rs (passOf (deviceIn d) (stateIn s) (cycleIn c))
-  unfolding passedIn passedOf arrayPassed stateBack
+  pub told : noState s ≡ false → judgedIn d s c xs rs ≡ toldAs (partIn d) xs rs (decideJudged (deviceIn d) (stateIn s) (cycleIn c))
+  unfolding judgedIn answerJudged arrayJudged stateBack
   told ok =
-      let p : Answer = passedOf (deviceIn d) (stateIn s) (cycleIn c) xs rs in
+      let p : Answer = answerJudged (deviceIn d) (stateIn s) (cycleIn c) xs rs in
       λ i. answerAs (seenOut (p .seen)) (valueOut (p .seen)) (if-false (noState s) s (stateOut (p .state)) ok i)
 
-  pub told-array : arrayPassedIn d s c xs rs ≡ doneOf (passOf (deviceIn d) (stateIn s) (cycleIn c) .effect) (partIn d) rs xs
-  unfolding arrayPassedIn arrayPassed
+  pub told-array : arrayJudgedIn d s c xs rs ≡ doneOf (decideJudged (deviceIn d) (stateIn s) (cycleIn c) .effect) (partIn d) rs xs
+  unfolding arrayJudgedIn arrayJudged
   told-array = refl
 
 -- two tests that both hold

@@ -31,9 +31,9 @@ use Rattle.chip.specs.States.{atRest}
 use Rattle.settling.specs.Settling.{settledAs, settleOf}
 use Rattle.commands.specs.Commands.{firstWrite, afterErase, actionOf, isRefuse, performedOf, unsupplied, startedOf}
 use Rattle.bus.specs.Cycles.{decidedAs, refusedBy}
-use Rattle.bus.specs.Arms.{writeArm, arm, passOf}
+use Rattle.bus.specs.Inner.{writeArm, arm, decideJudged}
 use Rattle.model.specs.Arrays.{seenOf}
-use Rattle.model.specs.Passed.{doneOf}
+use Rattle.model.specs.Inner.{doneOf}
 use Rattle.twin.specs.Twins.{deviceIn, noState, stateIn, stateOut, phaseOut, byteOut, modeOut, kindIn, cycleIn}
 use Rattle.twin.specs.Answers.{seenOut, valueOut}
 use Rattle.twin.specs.declared.DeviceNumbers.{DeviceNumbers}
@@ -41,7 +41,7 @@ use Rattle.twin.specs.declared.StateNumbers.{StateNumbers}
 use Rattle.twin.specs.declared.BusNumbers.{BusNumbers}
 use Rattle.twin.specs.declared.AnswerNumbers.{AnswerNumbers}
 use Rattle.twin.proofs.Border.{state-numbers}
-use Rattle.short.specs.Cycled.{passedIn, arrayPassedIn, answerAs}
+use Rattle.short.specs.Cycled.{judgedIn, arrayJudgedIn, answerAs}
 use Rattle.short.specs.Reads.{partIn}
 use Rattle.short.proofs.Told.{toldAs, told, told-array, yes-then}
 use Rattle.short.specs.Writes.{isWrite, isIdle, turnedTo, firstIn, restAs, unsuppliedIn, begunIn, secondIn, writtenIn}
@@ -64,8 +64,8 @@ still part m sr Suspended left a p up e = absurd (unlike (sym e))
 
 -- such a cycle is its kind's arm on the state itself
 passes-as : (d : Device) (s : State) (c : Cycle) (k : Kind) → rpLow (c .pins) ≡ false → ltb (phaseOut (s .phase)) 3 ≡ true → c .kind ≡ k
-    → passOf d s c ≡ arm k d s c (settledAs s Nothing)
-unfolding passOf
+    → decideJudged d s c ≡ arm k d s c (settledAs s Nothing)
+unfolding decideJudged
 passes-as d s c k up low e =
     if-false (rpLow (c .pins)) _ _ up
     ∙ ap (λ (j : Kind). arm j d s c (settleOf (d .part) s (c .pins))) e
@@ -73,8 +73,8 @@ passes-as d s c k up low e =
 
 -- a cycle that passed without an effect, as numbers
 quietly : (d : DeviceNumbers) (s : StateNumbers) (c : BusNumbers) (xs rs : List ℕ) (v : Decision) → noState s ≡ false
-    → passOf (deviceIn d) (stateIn s) (cycleIn c) ≡ v → v .effect ≡ Nothing
-    → (quiet xs v ≡ passedIn d s c xs rs) × (xs ≡ arrayPassedIn d s c xs rs)
+    → decideJudged (deviceIn d) (stateIn s) (cycleIn c) ≡ v → v .effect ≡ Nothing
+    → (quiet xs v ≡ judgedIn d s c xs rs) × (xs ≡ arrayJudgedIn d s c xs rs)
 quietly d s c xs rs v ok e f =
     let g : Effect → AnswerNumbers = λ (w : Effect).
     answerAs (seenOut (seenOf (v .reply) (doneOf w (partIn d) rs xs))) (valueOut (seenOf (v .reply) (doneOf w (partIn d) rs xs))) (stateOut (v .state)) in (
@@ -188,14 +188,14 @@ low-in s ok low = ap (λ (n : StateNumbers). ltb (n .phase) 3) (state-numbers s 
 
 -- a write while nothing runs or is suspended
 pub write-way : (d : DeviceNumbers) (s : StateNumbers) (c : BusNumbers) (xs rs : List ℕ) → noState s ≡ false → eqb (c .rp) 0 ≡ false → isWrite s c ≡ true
-    → (writtenIn d s c ≡ passedIn d s c xs rs) × (xs ≡ arrayPassedIn d s c xs rs)
+    → (writtenIn d s c ≡ judgedIn d s c xs rs) × (xs ≡ arrayJudgedIn d s c xs rs)
 unfolding isWrite
 write-way d s c xs rs ok up w =
     let kind : c .kind ≡ 1 = eqb-true (c .kind) 1 (yes-then (eqb (c .kind) 1) (ltb (s .phase) 3) w .0) in
     let t : State = stateIn s in
     let low : ltb (phaseOut (t .phase)) 3 ≡ true = low-in s ok (yes-then (eqb (c .kind) 1) (ltb (s .phase) 3) w .1) in
     let v : Decision = writeArm (actionOf (t .phase) (c .byte)) (deviceIn d) t (cycleIn c) (settledAs t Nothing) in
-    let passed : passOf (deviceIn d) t (cycleIn c) ≡ v = passes-as (deviceIn d) t (cycleIn c) Write up low (write-kind c kind) in
+    let passed : decideJudged (deviceIn d) t (cycleIn c) ≡ v = passes-as (deviceIn d) t (cycleIn c) Write up low (write-kind c kind) in
     let way = quietly d s c xs rs v ok passed (no-effect (actionOf (t .phase) (c .byte)) (deviceIn d) t (cycleIn c)) in (
       ap (λ (n : StateNumbers). writtenIn d n c) (sym (state-numbers s ok))
           ∙ same-write d (t .mode) (t .status) (t .phase) (t .left) (t .address) c xs low ∙ way .0,
@@ -204,12 +204,12 @@ write-way d s c xs rs ok up w =
 
 -- an idle cycle while nothing runs or is suspended
 pub idle-way : (d : DeviceNumbers) (s : StateNumbers) (c : BusNumbers) (xs rs : List ℕ) → noState s ≡ false → eqb (c .rp) 0 ≡ false → isIdle s c ≡ true
-    → (answerAs 0 0 s ≡ passedIn d s c xs rs) × (xs ≡ arrayPassedIn d s c xs rs)
+    → (answerAs 0 0 s ≡ judgedIn d s c xs rs) × (xs ≡ arrayJudgedIn d s c xs rs)
 unfolding isIdle
 idle-way d s c xs rs ok up w =
     let kind : c .kind ≡ 2 = eqb-true (c .kind) 2 (yes-then (eqb (c .kind) 2) (ltb (s .phase) 3) w .0) in
     let t : State = stateIn s in
     let low : ltb (phaseOut (t .phase)) 3 ≡ true = low-in s ok (yes-then (eqb (c .kind) 2) (ltb (s .phase) 3) w .1) in
-    let passed : passOf (deviceIn d) t (cycleIn c) ≡ decidedAs Quiet t Nothing = passes-as (deviceIn d) t (cycleIn c) Idle up low (idle-kind c kind) in
+    let passed : decideJudged (deviceIn d) t (cycleIn c) ≡ decidedAs Quiet t Nothing = passes-as (deviceIn d) t (cycleIn c) Idle up low (idle-kind c kind) in
     let way = quietly d s c xs rs (decidedAs Quiet t Nothing) ok passed refl in
     (ap (λ (n : StateNumbers). answerAs 0 0 n) (sym (state-numbers s ok)) ∙ way .0, way .1)

@@ -2,7 +2,7 @@
 use mathlib.Core.List.{List}
 use Prim.Native.Nat.{ℕ}
 use Rattle.model.specs.Arrays.{answerOf, arrayAfter}
-use Rattle.model.specs.Passed.{passedOf, arrayPassed}
+use Rattle.model.specs.Inner.{answerJudged, arrayJudged}
 use Rattle.twin.specs.Twins.{deviceIn, stateIn, cycleIn}
 use Rattle.twin.specs.Answers.{answerOut}
 use Rattle.twin.specs.declared.DeviceNumbers.{DeviceNumbers}
@@ -18,11 +18,11 @@ unfoldable pub arrayCycled : DeviceNumbers → StateNumbers → BusNumbers → L
 arrayCycled d s c xs rs = arrayAfter (deviceIn d) (stateIn s) (cycleIn c) xs rs
 
 -- the same of a cycle that refusals 1 to 6 let pass
-unfoldable pub passedIn : DeviceNumbers → StateNumbers → BusNumbers → List ℕ → List ℕ → AnswerNumbers
-passedIn d s c xs rs = answerOut s (passedOf (deviceIn d) (stateIn s) (cycleIn c) xs rs)
+unfoldable pub judgedIn : DeviceNumbers → StateNumbers → BusNumbers → List ℕ → List ℕ → AnswerNumbers
+judgedIn d s c xs rs = answerOut s (answerJudged (deviceIn d) (stateIn s) (cycleIn c) xs rs)
 
-unfoldable pub arrayPassedIn : DeviceNumbers → StateNumbers → BusNumbers → List ℕ → List ℕ → List ℕ
-arrayPassedIn d s c xs rs = arrayPassed (deviceIn d) (stateIn s) (cycleIn c) xs rs
+unfoldable pub arrayJudgedIn : DeviceNumbers → StateNumbers → BusNumbers → List ℕ → List ℕ → List ℕ
+arrayJudgedIn d s c xs rs = arrayJudged (deviceIn d) (stateIn s) (cycleIn c) xs rs
 
 -- an answer: what is seen, the byte or the number, and the state after
 abbrev pub answerAs : ℕ → ℕ → StateNumbers → AnswerNumbers

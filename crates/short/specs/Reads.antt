@@ -11,7 +11,7 @@ use Rattle.device.specs.Parts.{blockOf, codeOf}
 use Rattle.chip.specs.Levels.{vppLow}
 use Rattle.chip.specs.Status.{SR7, withBits}
 use Rattle.twin.specs.Twins.{pinsIn}
-use Rattle.model.specs.Passed.{programmedAt, erasedAt}
+use Rattle.model.specs.Inner.{programmedAt, erasedAt}
 use Rattle.twin.specs.declared.DeviceNumbers.{DeviceNumbers}
 use Rattle.twin.specs.declared.StateNumbers.{StateNumbers}
 use Rattle.twin.specs.declared.BusNumbers.{BusNumbers}

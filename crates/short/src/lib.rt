@@ -17,7 +17,7 @@ use twin::states::pins_in;
 ghost use mathlib.Core.Path.{_≡_};
 ghost use Rattle.chip.specs.Levels.{rpLow};
 ghost use Rattle.twin.specs.Twins.{pinsIn};
-ghost use Rattle.short.specs.Cycled.{cycled, arrayCycled, passedIn, arrayPassedIn};
+ghost use Rattle.short.specs.Cycled.{cycled, arrayCycled, judgedIn, arrayJudgedIn};
 
 // RP# is low.
 fn is_low(c: BusNumbers) -> bool
@@ -26,21 +26,21 @@ fn is_low(c: BusNumbers) -> bool
     rp_low(pins_in(c.rp, c.vpp))
 }
 
-// A cycle that refusals 1 to 6 let pass, by the typed model.
-fn passed(
+// A cycle to which refusals 1 to 6 do not apply, by the typed model.
+fn by_model(
     device: DeviceNumbers,
     state: StateNumbers,
     bus: BusNumbers,
     array: &mut [u8],
     residue: &[u8],
 ) -> AnswerNumbers
-    ensures { λ r. ⌜ r ≡ passedIn device state bus (now (array .entry)) (now (residue .entry)) ⌝ }
-    ensures { λ _. ⌜ now (array .exit) ≡ arrayPassedIn device state bus (now (array .entry)) (now (residue .entry)) ⌝ }
+    ensures { λ r. ⌜ r ≡ judgedIn device state bus (now (array .entry)) (now (residue .entry)) ⌝ }
+    ensures { λ _. ⌜ now (array .exit) ≡ arrayJudgedIn device state bus (now (array .entry)) (now (residue .entry)) ⌝ }
 {
     let d = twin::states::device_in(device);
     let s = twin::states::state_in(state);
     let c = twin::states::cycle_in(bus);
-    let a = model::passed(d, s, c, array, residue);
+    let a = model::after_judging(d, s, c, array, residue);
     twin::states::answer_out(state, a)
 }
 
@@ -60,7 +60,7 @@ pub fn cycle(
         return answer(REFUSED, n, state);
     }
     if is_low(bus) {
-        return passed(device, state, bus, array, residue);
+        return by_model(device, state, bus, array, residue);
     }
     if reads::is_read(device, state, bus) {
         return reads::read(device, state, bus.address, array);
@@ -71,5 +71,5 @@ pub fn cycle(
     if writes::is_idle(state, bus) {
         return answer(NO_DATA, 0, state);
     }
-    passed(device, state, bus, array, residue)
+    by_model(device, state, bus, array, residue)
 }

@@ -6,7 +6,7 @@ use Rattle.twin.specs.Twins.{deviceIn, stateIn, cycleIn}
 use Rattle.short.proofs.Judged.{stands}
 use Rattle.short.proofs.Reading.{read-way}
 use Rattle.short.proofs.Writing.{write-way, idle-way}
-use Rattle.short.proofs.Cycling.{refused-way, passed-way, runs-status}
+use Rattle.short.proofs.Cycling.{refused-way, judged-way, runs-status}
 use Rattle.short.proofs.cycle.Statement.{statement}
 use Rattle.short.proofs.cycle.Tie as tie
 
@@ -25,8 +25,8 @@ returns c =
 is-low-requires : tie.Need-is-low-requires
 is-low-requires c κs = search needs
 
-passed-requires : tie.Need-passed-requires
-passed-requires c κs = search needs
+by-model-requires : tie.Need-by-model-requires
+by-model-requires c κs = search needs
 
 same-length : tie.Need-same-length
 same-length c = search needs
@@ -37,8 +37,8 @@ returns-2 c =
     let xs = a .array .now in
     let rs = a .residue .now in
     let z : judgeOf (deviceIn (a .device)) (stateIn (a .state)) (cycleIn (a .bus)) (length xs) (length rs) ≡ 0 = sym (c .before .before .before .before .before .before .before .number .ensures) ∙ c .before .before .before .before .before .before .if1 .left in
-    let w = passed-way (a .device) (a .state) (a .bus) xs rs z in
-    (c .before .before .passed .ensures .0 ∙ w .0, c .before .before .passed .ensures .1 ∙ w .1)
+    let w = judged-way (a .device) (a .state) (a .bus) xs rs z in
+    (c .before .before .by-model .ensures .0 ∙ w .0, c .before .before .by-model .ensures .1 ∙ w .1)
 
 is-read-requires : tie.Need-is-read-requires
 is-read-requires c κs = search needs
@@ -55,7 +55,7 @@ returns-3 c =
     let xs = a .array .now in
     let rs = a .residue .now in
     let z : judgeOf (deviceIn (a .device)) (stateIn (a .state)) (cycleIn (a .bus)) (length xs) (length rs) ≡ 0 = sym (c .before .before .before .before .before .before .before .before .before .number .ensures) ∙ c .before .before .before .before .before .before .before .before .if1 .left in
-    let w = passed-way (a .device) (a .state) (a .bus) xs rs z in
+    let w = judged-way (a .device) (a .state) (a .bus) xs rs z in
     let v =
     read-way (a .device) (a .state) (a .bus) xs rs (stands (a .device) (a .state) (cycleIn (a .bus)) (length xs) (length rs) z) (sym (c .before .before .before .before .before .before .before .is-low .ensures) ∙ c .before .before .before .before .before .before .if2 .left) (sym (c .before .before .before .before .before .is-read .ensures) ∙ c .before .before .before .before .if3 .taken)
     (runs-status (a .device) (a .state) (a .bus) xs rs z) in
@@ -73,7 +73,7 @@ returns-4 c =
     let xs = a .array .now in
     let rs = a .residue .now in
     let z : judgeOf (deviceIn (a .device)) (stateIn (a .state)) (cycleIn (a .bus)) (length xs) (length rs) ≡ 0 = sym (c .before .before .before .before .before .before .before .before .number .ensures) ∙ c .before .before .before .before .before .before .before .if1 .left in
-    let w = passed-way (a .device) (a .state) (a .bus) xs rs z in
+    let w = judged-way (a .device) (a .state) (a .bus) xs rs z in
     let v = write-way (a .device) (a .state) (a .bus) xs rs (stands (a .device) (a .state) (cycleIn (a .bus)) (length xs) (length rs) z) (sym (c .before .before .before .before .before .before .is-low .ensures) ∙ c .before .before .before .before .before .if2 .left) (sym (c .before .before .is-write .ensures) ∙ c .before .if4 .taken) in
     (c .write .ensures ∙ v .0 ∙ w .0, v .1 ∙ w .1)
 
@@ -89,12 +89,12 @@ returns-5 c =
     let xs = a .array .now in
     let rs = a .residue .now in
     let z : judgeOf (deviceIn (a .device)) (stateIn (a .state)) (cycleIn (a .bus)) (length xs) (length rs) ≡ 0 = sym (c .before .before .before .before .before .before .before .before .before .before .number .ensures) ∙ c .before .before .before .before .before .before .before .before .before .if1 .left in
-    let w = passed-way (a .device) (a .state) (a .bus) xs rs z in
+    let w = judged-way (a .device) (a .state) (a .bus) xs rs z in
     let v = idle-way (a .device) (a .state) (a .bus) xs rs (stands (a .device) (a .state) (cycleIn (a .bus)) (length xs) (length rs) z) (sym (c .before .before .before .before .before .before .before .before .is-low .ensures) ∙ c .before .before .before .before .before .before .before .if2 .left) (sym (c .before .before .is-idle .ensures) ∙ c .before .if5 .taken) in
     (c .answer2 .ensures ∙ v .0 ∙ w .0, v .1 ∙ w .1)
 
-passed-requires-2 : tie.Need-passed-requires-2
-passed-requires-2 c κs = search needs
+by-model-requires-2 : tie.Need-by-model-requires-2
+by-model-requires-2 c κs = search needs
 
 same-length-3 : tie.Need-same-length-3
 same-length-3 c = search needs
@@ -105,8 +105,8 @@ returns-6 c =
     let xs = a .array .now in
     let rs = a .residue .now in
     let z : judgeOf (deviceIn (a .device)) (stateIn (a .state)) (cycleIn (a .bus)) (length xs) (length rs) ≡ 0 = sym (c .before .before .before .before .before .before .before .before .before .before .before .before .before .number .ensures) ∙ c .before .before .before .before .before .before .before .before .before .before .before .before .if1 .left in
-    let w = passed-way (a .device) (a .state) (a .bus) xs rs z in
-    (c .before .before .passed2 .ensures .0 ∙ w .0, c .before .before .passed2 .ensures .1 ∙ w .1)
+    let w = judged-way (a .device) (a .state) (a .bus) xs rs z in
+    (c .before .before .by-model2 .ensures .0 ∙ w .0, c .before .before .by-model2 .ensures .1 ∙ w .1)
 
 pub cycle-spec : {M : Type 1} → statement M
 cycle-spec =
@@ -116,7 +116,7 @@ cycle-spec =
     answer-requires
     returns
     is-low-requires
-    passed-requires
+    by-model-requires
     same-length
     returns-2
     is-read-requires
@@ -129,6 +129,6 @@ cycle-spec =
     is-idle-requires
     answer-requires-2
     returns-5
-    passed-requires-2
+    by-model-requires-2
     same-length-3
     returns-6)
