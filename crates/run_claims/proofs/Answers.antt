@@ -216,7 +216,7 @@ module _ (d : Device) (p : Pins) (u : Up d p) where
     waits ph left a b e z m h g =
         let s : State = st Status 0 ph (left + 1) a in
         decides s (st Status 0 ph left a) Nothing Read b 0 (busy-proper ph (left + 1) a e (omega arith) m h) g (unasked-high (d .part) s (cyc p Read b 0) (u .up) (r .high))
-        (counts s e ∙ if-false (leb (left + 1) 1) _ _ (lt-leb (left + 1) 1 (omega arith)) ∙ ap (λ (j : ℕ). settledAs (st Status 0 ph j a) Nothing) (let q : left + 1 - 1 ≡ left = omega arith in q))
+        (counts s e ∙ if-false (eqb (left + 1 - 1) 0) _ _ (ne-eqb (left + 1 - 1) 0 (λ q. omega arith)) ∙ ap (λ (j : ℕ). settledAs (st Status 0 ph j a) Nothing) (let q : left + 1 - 1 ≡ left = omega arith in q))
         (late-status (st Status 0 ph left a) b refl)
 
     pub ends : (ph : Phase) (a b : ℕ) → isBusy ph ≡ true → 1 ≤ mostLeft d ph → a < sizeOf (d .part) → b < sizeOf (d .part)

@@ -26,7 +26,7 @@ use Rattle.chip.specs.States.{atRest}
 use Rattle.bus.specs.Cycles.{decidedAs}
 use Rattle.model.proofs.Status.{fits}
 use Rattle.model.proofs.Keeping.{st}
-use Rattle.model.proofs.Lives.{begunFrom}
+use Rattle.model.specs.Begun.{begunFrom}
 use Rattle.loader.specs.declared.Stage.{Stage}
 use Rattle.loader.specs.declared.Stage.the-variants.{EraseAsking, EraseConfirming, EraseWaiting, ProgramAsking, ProgramSending, ProgramWaiting, Closing, Ended}
 use Rattle.loader.specs.declared.Loader.{Loader}

@@ -46,9 +46,8 @@ use Rattle.stepper.specs.Stores.{storeOf, erasedWell}
 use Rattle.stepper.proofs.Small.{length-small}
 use Rattle.loader.proofs.Walking.{diff-turn, diff-over}
 use Rattle.chip.specs.declared.Cycle.{Cycle}
-use Rattle.model.specs.Begun.{pendingIn}
+use Rattle.model.specs.Begun.{pendingIn, begunFrom}
 use Rattle.chip.specs.Phases.{isBusy, isAwaited}
-use Rattle.model.proofs.Lives.{begunFrom}
 use Rattle.run.specs.Turns.{Config, isEnded, turnOf}
 use Rattle.run_claims.specs.Wear.{programsOf, differing, baseOf, operationsOf}
 use Rattle.run.proofs.Turning.{conf}

@@ -16,8 +16,8 @@ use Rattle.chip.specs.declared.Cycle.{Cycle}
 use Rattle.bus.specs.Cycles.{decideOf, decidedAs}
 use Rattle.run_claims.specs.Made.{madeIn, isSmooth, smoothTurn, smoothIn}
 use Rattle.model.specs.Arrays.{arrayOf, seenOf, arrayAfter, answerOf}
-use Rattle.model.specs.Begun.{begunBy}
-use Rattle.model.proofs.Lives.{begunFrom, begun-from}
+use Rattle.model.specs.Begun.{begunBy, begunFrom}
+use Rattle.model.proofs.Lives.{begun-from}
 use Rattle.loader.specs.declared.Loader.{Loader}
 use Rattle.stepper.specs.Outs.{cycleOf}
 use Rattle.run.specs.Turns.{Config, isEnded, loaderBy, scratchBy, answerTo, arrayTo, turnOf, after}

@@ -14,8 +14,8 @@ use Rattle.twin.specs.declared.StateNumbers.{StateNumbers}
 use Rattle.twin.specs.declared.BusNumbers.{BusNumbers}
 use Rattle.twin.specs.declared.AnswerNumbers.{AnswerNumbers}
 use Rattle.short.specs.Cycled.{cycled, arrayCycled, judgedIn, arrayJudgedIn, answerAs}
-use Rattle.short.specs.Reads.{isRead, runsIn, readIn, arrayRead}
-use Rattle.short.specs.Writes.{isWrite, isIdle, writtenIn}
+use Rattle.short.specs.Reads.{uncutRead, runsIn, readIn, arrayRead}
+use Rattle.short.specs.Writes.{restingWrite, restingIdle, writtenIn}
 use Rattle.short.proofs.Judged as judged
 use Rattle.short.proofs.Reading as reading
 use Rattle.short.proofs.Writing as writing
@@ -25,15 +25,15 @@ pub stands : (d : DeviceNumbers) (s : StateNumbers) (c : Cycle) (array residue :
 stands = judged.stands
 
 -- The short ways answer what the typed model answers: a read, a write, an idle cycle.
-pub read-way : (d : DeviceNumbers) (s : StateNumbers) (c : BusNumbers) (xs rs : List ℕ) → noState s ≡ false → eqb (c .rp) 0 ≡ false → isRead d s c ≡ true
+pub read-way : (d : DeviceNumbers) (s : StateNumbers) (c : BusNumbers) (xs rs : List ℕ) → noState s ≡ false → eqb (c .rp) 0 ≡ false → uncutRead d s c ≡ true
     → (runsIn s ≡ true → s .mode ≡ 1) → (readIn d s (c .address) xs ≡ judgedIn d s c xs rs) × (arrayRead d s xs ≡ arrayJudgedIn d s c xs rs)
 read-way = reading.read-way
 
-pub write-way : (d : DeviceNumbers) (s : StateNumbers) (c : BusNumbers) (xs rs : List ℕ) → noState s ≡ false → eqb (c .rp) 0 ≡ false → isWrite s c ≡ true
+pub write-way : (d : DeviceNumbers) (s : StateNumbers) (c : BusNumbers) (xs rs : List ℕ) → noState s ≡ false → eqb (c .rp) 0 ≡ false → restingWrite s c ≡ true
     → (writtenIn d s c ≡ judgedIn d s c xs rs) × (xs ≡ arrayJudgedIn d s c xs rs)
 write-way = writing.write-way
 
-pub idle-way : (d : DeviceNumbers) (s : StateNumbers) (c : BusNumbers) (xs rs : List ℕ) → noState s ≡ false → eqb (c .rp) 0 ≡ false → isIdle s c ≡ true
+pub idle-way : (d : DeviceNumbers) (s : StateNumbers) (c : BusNumbers) (xs rs : List ℕ) → noState s ≡ false → eqb (c .rp) 0 ≡ false → restingIdle s c ≡ true
     → (answerAs 0 0 s ≡ judgedIn d s c xs rs) × (xs ≡ arrayJudgedIn d s c xs rs)
 idle-way = writing.idle-way
 

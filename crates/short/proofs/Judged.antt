@@ -15,7 +15,8 @@ use Rattle.chip.specs.declared.Cycle.{Cycle}
 use Rattle.chip.specs.declared.State.{State}
 use Rattle.chip.specs.Levels.{badPins, badLevels}
 use Rattle.chip.specs.States.{isStatus, isIdentifier, improper}
-use Rattle.chip.specs.Inner.{badStatus, badLeft, badAddress}
+use Rattle.chip.specs.Inner.{badMode, badStatus, badLeft, badAddress}
+use Rattle.chip.proofs.Proper.{improper-parts}
 use Rattle.settling.specs.Settling.{residueFor}
 use Rattle.bus.specs.Cycles.{pastArray, shortResidue, early, judgeOf}
 use Rattle.chip.specs.Kinds.{isIdle}
@@ -24,7 +25,7 @@ use Rattle.twin.specs.declared.DeviceNumbers.{DeviceNumbers}
 use Rattle.twin.specs.declared.StateNumbers.{StateNumbers}
 use Rattle.twin.specs.declared.BusNumbers.{BusNumbers}
 use Rattle.twin.proofs.Border.{no-state-improper, no-kind-refused}
-use Rattle.short.specs.Judging.{bitsWrong, restWrong, wayWrong, improperBy, oeWrong, levelsWrong, pastSize, cutBy, residueShort, numberBy}
+use Rattle.short.specs.Judging.{bitsWrong, restWrong, wayWrong, improperBy, oeWrong, levelsWrong, pastSize, cutsIn, residueShort, numberBy}
 
 -- a proper state's numbers stand for it
 pub proper-stands : (d : Device) (s : StateNumbers) → improper d (stateIn s) ≡ false → noState s ≡ false
@@ -120,12 +121,16 @@ high-none : (s : StateNumbers) → 5 < s .phase → noState s ≡ true
 unfolding noState
 high-none s h = rw (lt-ltb 5 (s .phase) h) (or-yes (ltb 2 (s .mode)) (not (eqb (s .byte) 0) && not (eqb (s .phase) 3)))
 
+-- improper as the code of the typed model tests it
+abbrev tested : Device → State → Bool
+tested d s = ((badMode (s .phase) (s .mode) || badStatus (s .phase) (s .status)) || badLeft d (s .phase) (s .left)) || badAddress d (s .phase) (s .address)
+
 -- improper by the numbers: no state, or an improper one; by the phase's number
 by-phase : (d : DeviceNumbers) (mode status phase byte left address : ℕ)
     → improperBy d (record { mode = mode; status = status; phase = phase; byte = byte; left = left; address = address }) (sizeOf (deviceIn d .part))
     ≡ (noState (record { mode = mode; status = status; phase = phase; byte = byte; left = left; address = address })
-    || improper (deviceIn d) (typed (record { mode = mode; status = status; phase = phase; byte = byte; left = left; address = address })))
-unfolding improperBy restWrong wayWrong bitsWrong noState improper badStatus badLeft badAddress phaseIn
+    || tested (deviceIn d) (typed (record { mode = mode; status = status; phase = phase; byte = byte; left = left; address = address })))
+unfolding improperBy restWrong wayWrong bitsWrong noState badStatus badLeft badAddress phaseIn
 by-phase d mode status zero byte left address =
     let n : Bool = not (eqb byte 0) in
     let l : Bool = not (eqb left 0) in
@@ -164,7 +169,7 @@ by-phase d mode status (suc (suc (suc (suc (suc zero))))) byte left address =
 by-phase d mode status (suc (suc (suc (suc (suc (suc k)))))) byte left address =
     let n : StateNumbers = record { mode = mode; status = status; phase = suc (suc (suc (suc (suc (suc k))))); byte = byte; left = left; address = address } in
     let h : 5 < n .phase = omega arith in
-    high-improper d n (sizeOf (deviceIn d .part)) h ∙ ap (λ (t : Bool). t || improper (deviceIn d) (typed n)) (sym (high-none n h))
+    high-improper d n (sizeOf (deviceIn d .part)) h ∙ ap (λ (t : Bool). t || tested (deviceIn d) (typed n)) (sym (high-none n h))
 
 -- numbers that stand for no state are improper, all others as the state that they name
 in-or : (d : Device) (s : StateNumbers) → improper d (stateIn s) ≡ (noState s || improper d (typed s))
@@ -178,7 +183,8 @@ in-or d s = go (noState s) refl
 -- refusal 3 by the numbers
 pub improper-same : (d : DeviceNumbers) (s : StateNumbers) (size : ℕ) → size ≡ sizeOf (deviceIn d .part) → improperBy d s size ≡ improper (deviceIn d) (stateIn s)
 improper-same d s size e =
-    ap (λ (n : ℕ). improperBy d s n) e ∙ by-phase d (s .mode) (s .status) (s .phase) (s .byte) (s .left) (s .address) ∙ sym (in-or (deviceIn d) s)
+    ap (λ (n : ℕ). improperBy d s n) e ∙ by-phase d (s .mode) (s .status) (s .phase) (s .byte) (s .left) (s .address)
+    ∙ ap (λ (t : Bool). noState s || t) (sym (improper-parts (deviceIn d) (typed s))) ∙ sym (in-or (deviceIn d) s)
 
 -- OE# by the number of the kind
 plain-oe : (oe : ℕ) → (if eqb oe 0 then false else true) ≡ ltb 0 oe
@@ -233,13 +239,13 @@ none-needed false residue = refl
 cut-same : (part : Part) (c : BusNumbers) (residue mode status phase byte left address : ℕ)
     → residueShort part (record { mode = mode; status = status; phase = phase; byte = byte; left = left; address = address }) c residue
     ≡ shortResidue part (typed (record { mode = mode; status = status; phase = phase; byte = byte; left = left; address = address })) (cycleIn c) residue
-unfolding residueShort shortResidue cutBy phaseIn
-cut-same part c residue mode status zero byte left address = none-needed (cutBy part c) residue
-cut-same part c residue mode status (suc zero) byte left address = none-needed (cutBy part c) residue
-cut-same part c residue mode status (suc (suc zero)) byte left address = none-needed (cutBy part c) residue
+unfolding residueShort shortResidue cutsIn phaseIn
+cut-same part c residue mode status zero byte left address = none-needed (cutsIn part c) residue
+cut-same part c residue mode status (suc zero) byte left address = none-needed (cutsIn part c) residue
+cut-same part c residue mode status (suc (suc zero)) byte left address = none-needed (cutsIn part c) residue
 cut-same part c residue mode status (suc (suc (suc k))) byte left address =
     let w : Bool = ltb residue (residueFor (phaseIn (suc (suc (suc k))) byte) part address) in
-    let q : Bool = cutBy part c in
+    let q : Bool = cutsIn part c in
     ap (λ (t : Bool). (if t then false else if q then w else false)) (le-ltb (suc (suc (suc k))) 3 (omega arith)) ∙ pick-and q w
 
 -- refusal 6 by the numbers

@@ -7,7 +7,7 @@ use native.Mathlib.Omega.{arith}
 use lib.ListN.{getD}
 use lib.Dec.{eqb, ltb}
 use lib.Bits.{bitOr}
-use borrow.Author.Tests.{not-true, ltb-true, ltb-false, lt-leb, le-leb, eqb-true}
+use borrow.Author.Tests.{not-true, ltb-true, ltb-false, eqb-true, eq-eqb, ne-eqb}
 use Rattle.cells.specs.Choice.{if_then_else_}
 use Rattle.cells.proofs.Choice.{if-false, if-ap, if-ind, unlike, and-none}
 use Rattle.device.specs.declared.Part.{Part}
@@ -40,7 +40,7 @@ use Rattle.twin.proofs.Border.{out-state, state-back, state-numbers}
 use Rattle.short.specs.Cycled.{judgedIn, arrayJudgedIn, answerAs}
 use Rattle.short.proofs.Told as tells
 use Rattle.short.proofs.Told.{st, toldAs, yes-then}
-use Rattle.short.specs.Reads.{partIn, isRead, runsIn, suspendedAt, shownAt, identified, stillOf, countedIn, endedIn, arrayEnded, readIn, arrayRead}
+use Rattle.short.specs.Reads.{partIn, uncutRead, runsIn, suspendedAt, shownAt, identified, stillOf, countedIn, endedIn, arrayEnded, readIn, arrayRead}
 
 -- a passed cycle from a state's numbers
 module _ (d : DeviceNumbers) (t : State) (c : BusNumbers) (xs rs : List ℕ) where
@@ -51,13 +51,13 @@ module _ (d : DeviceNumbers) (t : State) (c : BusNumbers) (xs rs : List ℕ) whe
   told-array = tells.told-array d (stateOut t) c xs rs ∙ ap (λ (u : State). doneOf (decideJudged (deviceIn d) u (cycleIn c) .effect) (partIn d) rs xs) (state-back t)
 
 -- what is known of such a read
-read-kind : (d : DeviceNumbers) (s : StateNumbers) (c : BusNumbers) → isRead d s c ≡ true → c .kind ≡ 0
-unfolding isRead
+read-kind : (d : DeviceNumbers) (s : StateNumbers) (c : BusNumbers) → uncutRead d s c ≡ true → c .kind ≡ 0
+unfolding uncutRead
 read-kind d s c e =
     eqb-true (c .kind) 0 (yes-then (eqb (c .kind) 0) (if ltb (s .phase) 3 then true else not (vppLow (partIn d) (cycleIn c .pins))) e .0)
 
-read-high : (d : DeviceNumbers) (s : StateNumbers) (c : BusNumbers) → isRead d s c ≡ true → ltb (s .phase) 3 ≡ false → vppLow (partIn d) (cycleIn c .pins) ≡ false
-unfolding isRead
+read-high : (d : DeviceNumbers) (s : StateNumbers) (c : BusNumbers) → uncutRead d s c ≡ true → ltb (s .phase) 3 ≡ false → vppLow (partIn d) (cycleIn c .pins) ≡ false
+unfolding uncutRead
 read-high d s c e f =
     let low = vppLow (partIn d) (cycleIn c .pins) in
     let q = yes-then (eqb (c .kind) 0) (if ltb (s .phase) 3 then true else not low) e .1 in
@@ -139,7 +139,7 @@ module _ (d : DeviceNumbers) (c : BusNumbers) (xs rs : List ℕ) (k : c .kind �
   counted-told x ph l a h b v =
       let t = st Status x ph l a in
       let u = st Status x ph (l - 1) a in
-      let q : settleOf (partIn d) t (cycleIn c .pins) ≡ settledAs u Nothing = simp (up, v, b, lt-leb l 1 h) in
+      let q : settleOf (partIn d) t (cycleIn c .pins) ≡ settledAs u Nothing = simp (up, v, b, ne-eqb (l - 1) 0 (λ z. omega arith)) in
       let p = passes t u Nothing q in
       (sym (told d t c xs rs ∙ ap (toldAs (partIn d) xs rs) p), sym (told-array d t c xs rs ∙ ap (λ (y : Decision). doneOf (y .effect) (partIn d) rs xs) p))
 
@@ -150,7 +150,7 @@ module _ (d : DeviceNumbers) (c : BusNumbers) (xs rs : List ℕ) (k : c .kind �
   ended-told x ph l a h b v =
       let t = st Status x ph l a in
       let u = atRest Status (bitOr x 128) in
-      let q : settleOf (partIn d) t (cycleIn c .pins) ≡ settledAs u (endOf ph (partIn d) a) = simp (up, v, b, le-leb l 1 h) in
+      let q : settleOf (partIn d) t (cycleIn c .pins) ≡ settledAs u (endOf ph (partIn d) a) = simp (up, v, b, eq-eqb (l - 1) 0 (omega arith)) in
       let p = passes t u (endOf ph (partIn d) a) q in (
         sym (told d t c xs rs ∙ ap (toldAs (partIn d) xs rs) p),
         end-done d Status x ph l a xs rs b ∙ sym (told-array d t c xs rs ∙ ap (λ (y : Decision). doneOf (y .effect) (partIn d) rs xs) p),
@@ -193,7 +193,7 @@ runs-status Identifier e = absurd (omega (arith, e))
 abbrev Same : DeviceNumbers → StateNumbers → BusNumbers → List ℕ → List ℕ → Type 0
 Same d s c xs rs = (readIn d s (c .address) xs ≡ judgedIn d s c xs rs) × (arrayRead d s xs ≡ arrayJudgedIn d s c xs rs)
 
-by-phase : (d : DeviceNumbers) (c : BusNumbers) (xs rs : List ℕ) (m : Mode) (x : ℕ) (ph : Phase) (l a : ℕ) → eqb (c .rp) 0 ≡ false → isRead d (stateOut (st m x ph l a)) c ≡ true
+by-phase : (d : DeviceNumbers) (c : BusNumbers) (xs rs : List ℕ) (m : Mode) (x : ℕ) (ph : Phase) (l a : ℕ) → eqb (c .rp) 0 ≡ false → uncutRead d (stateOut (st m x ph l a)) c ≡ true
     → (runsIn (stateOut (st m x ph l a)) ≡ true → modeOut m ≡ 1) → Same d (stateOut (st m x ph l a)) c xs rs
 unfolding readIn arrayRead runsIn
 by-phase d c xs rs m x Free l a up e f = at-rest d c xs rs (read-kind d (stateOut (st m x Free l a)) c e) up m x Free l a refl refl
@@ -212,10 +212,10 @@ by-phase d c xs rs m x Suspended l a up e f =
     suspended d c xs rs (read-kind d s c e) up m x l a (read-high d s c e refl)
 
 -- numbers that stand for a state; where an operation runs, reads give the status
-pub read-way : (d : DeviceNumbers) (s : StateNumbers) (c : BusNumbers) (xs rs : List ℕ) → noState s ≡ false → eqb (c .rp) 0 ≡ false → isRead d s c ≡ true
+pub read-way : (d : DeviceNumbers) (s : StateNumbers) (c : BusNumbers) (xs rs : List ℕ) → noState s ≡ false → eqb (c .rp) 0 ≡ false → uncutRead d s c ≡ true
     → (runsIn s ≡ true → s .mode ≡ 1) → (readIn d s (c .address) xs ≡ judgedIn d s c xs rs) × (arrayRead d s xs ≡ arrayJudgedIn d s c xs rs)
 read-way d s c xs rs z up e f =
-    subst (λ (n : StateNumbers). eqb (c .rp) 0 ≡ false → isRead d n c ≡ true → (runsIn n ≡ true → n .mode ≡ 1) → Same d n c xs rs) (state-numbers s z)
+    subst (λ (n : StateNumbers). eqb (c .rp) 0 ≡ false → uncutRead d n c ≡ true → (runsIn n ≡ true → n .mode ≡ 1) → Same d n c xs rs) (state-numbers s z)
     (λ u g h. let t = stateIn s in by-phase d c xs rs (t .mode) (t .status) (t .phase) (t .left) (t .address) u g h)
     up e f
 

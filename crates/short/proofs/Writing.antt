@@ -44,7 +44,7 @@ use Rattle.twin.proofs.Border.{state-numbers}
 use Rattle.short.specs.Cycled.{judgedIn, arrayJudgedIn, answerAs}
 use Rattle.short.specs.Reads.{partIn}
 use Rattle.short.proofs.Told.{toldAs, told, told-array, yes-then}
-use Rattle.short.specs.Writes.{isWrite, isIdle, turnedTo, firstIn, restAs, unsuppliedIn, begunIn, secondIn, writtenIn}
+use Rattle.short.specs.Writes.{restingWrite, restingIdle, turnedTo, firstIn, restAs, unsuppliedIn, startedIn, secondIn, writtenIn}
 
 -- a decision that changes nothing in the array, as numbers
 abbrev quiet : List ℕ → Decision → AnswerNumbers
@@ -111,8 +111,8 @@ one-of false false x y z = refl
 
 -- a confirm or data starts the same operation, or sets the same bits
 same-start : (d : DeviceNumbers) (s : State) (c : BusNumbers) (ph : Phase) (time bit : ℕ)
-    → begunIn d (stateOut s) c (phaseOut ph) (byteOut ph) time bit ≡ answerAs 0 0 (stateOut (startedOf (partIn d) (cycleIn c) s ph time bit))
-unfolding begunIn startedOf unsuppliedIn unsupplied
+    → startedIn d (stateOut s) c (phaseOut ph) (byteOut ph) time bit ≡ answerAs 0 0 (stateOut (startedOf (partIn d) (cycleIn c) s ph time bit))
+unfolding startedIn startedOf unsuppliedIn unsupplied
 same-start d s c ph time bit =
     one-of (unsupplied (partIn d) (cycleIn c) s) (locked (partIn d) (cycleIn c))
     (atRest (s .mode) (bitOr (bitOr (s .status) 8) bit)) (atRest (s .mode) (bitOr (s .status) bit))
@@ -158,14 +158,14 @@ unfolding secondIn afterErase writeArm
 same-second d s c xs = go (eqb (c .byte) 0xD0)
   where
     go : (p : Bool)
-        → (if p then begunIn d (stateOut s) c 4 0 (d .erase) 32 else restAs (modeOut (s .mode)) (bitOr (s .status) 48))
+        → (if p then startedIn d (stateOut s) c 4 0 (d .erase) 32 else restAs (modeOut (s .mode)) (bitOr (s .status) 48))
         ≡ quiet xs (if isRefuse (if p then Confirm else WrongSecond) then refusedBy 7 s else decidedAs Quiet (performedOf (if p then Confirm else WrongSecond) (deviceIn d) (cycleIn c) s) Nothing)
     go true = same-start d s c Erasing (d .erase) 32
     go false = refl
 
 -- the write after 40H: both definitions answer the same
 same-data : (d : DeviceNumbers) (s : State) (c : BusNumbers) (xs : List ℕ)
-    → begunIn d (stateOut s) c 3 (c .byte) (d .program) 16 ≡ quiet xs (writeArm Store (deviceIn d) s (cycleIn c) (settledAs s Nothing))
+    → startedIn d (stateOut s) c 3 (c .byte) (d .program) 16 ≡ quiet xs (writeArm Store (deviceIn d) s (cycleIn c) (settledAs s Nothing))
 unfolding writeArm
 same-data d s c xs = same-start d s c (Programming (c .byte)) (d .program) 16
 
@@ -187,9 +187,9 @@ low-in : (s : StateNumbers) → noState s ≡ false → ltb (s .phase) 3 ≡ tru
 low-in s ok low = ap (λ (n : StateNumbers). ltb (n .phase) 3) (state-numbers s ok) ∙ low
 
 -- a write while nothing runs or is suspended
-pub write-way : (d : DeviceNumbers) (s : StateNumbers) (c : BusNumbers) (xs rs : List ℕ) → noState s ≡ false → eqb (c .rp) 0 ≡ false → isWrite s c ≡ true
+pub write-way : (d : DeviceNumbers) (s : StateNumbers) (c : BusNumbers) (xs rs : List ℕ) → noState s ≡ false → eqb (c .rp) 0 ≡ false → restingWrite s c ≡ true
     → (writtenIn d s c ≡ judgedIn d s c xs rs) × (xs ≡ arrayJudgedIn d s c xs rs)
-unfolding isWrite
+unfolding restingWrite
 write-way d s c xs rs ok up w =
     let kind : c .kind ≡ 1 = eqb-true (c .kind) 1 (yes-then (eqb (c .kind) 1) (ltb (s .phase) 3) w .0) in
     let t : State = stateIn s in
@@ -203,9 +203,9 @@ write-way d s c xs rs ok up w =
     )
 
 -- an idle cycle while nothing runs or is suspended
-pub idle-way : (d : DeviceNumbers) (s : StateNumbers) (c : BusNumbers) (xs rs : List ℕ) → noState s ≡ false → eqb (c .rp) 0 ≡ false → isIdle s c ≡ true
+pub idle-way : (d : DeviceNumbers) (s : StateNumbers) (c : BusNumbers) (xs rs : List ℕ) → noState s ≡ false → eqb (c .rp) 0 ≡ false → restingIdle s c ≡ true
     → (answerAs 0 0 s ≡ judgedIn d s c xs rs) × (xs ≡ arrayJudgedIn d s c xs rs)
-unfolding isIdle
+unfolding restingIdle
 idle-way d s c xs rs ok up w =
     let kind : c .kind ≡ 2 = eqb-true (c .kind) 2 (yes-then (eqb (c .kind) 2) (ltb (s .phase) 3) w .0) in
     let t : State = stateIn s in

@@ -48,14 +48,14 @@ unfoldable pub pastSize : BusNumbers → ℕ → Bool
 pastSize c size = (leb size (c .address) && not (rpLow (pinsIn (c .rp) (c .vpp)))) && ltb (c .kind) 2
 
 -- RP# or VPP is low
-unfoldable pub cutBy : Part → BusNumbers → Bool
-cutBy part c = rpLow (pinsIn (c .rp) (c .vpp)) || vppLow part (pinsIn (c .rp) (c .vpp))
+unfoldable pub cutsIn : Part → BusNumbers → Bool
+cutsIn part c = rpLow (pinsIn (c .rp) (c .vpp)) || vppLow part (pinsIn (c .rp) (c .vpp))
 
 -- the cycle cuts an operation, and the residue is too short for it
 unfoldable pub residueShort : Part → StateNumbers → BusNumbers → ℕ → Bool
 residueShort part s c residue =
     if ltb (s .phase) 3 then false
-    else if cutBy part c then ltb residue (residueFor (phaseIn (s .phase) (s .byte)) part (s .address))
+    else if cutsIn part c then ltb residue (residueFor (phaseIn (s .phase) (s .byte)) part (s .address))
     else false
 
 -- refusals 1 to 6 of the numbers, the lowest that applies, or 0

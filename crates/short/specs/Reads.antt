@@ -23,8 +23,8 @@ abbrev pub partIn : DeviceNumbers → Part
 partIn d = record { number = d .number }
 
 -- a read that cuts nothing
-unfoldable pub isRead : DeviceNumbers → StateNumbers → BusNumbers → Bool
-isRead d s c = if eqb (c .kind) 0 then (if ltb (s .phase) 3 then true else not (vppLow (partIn d) (pinsIn (c .rp) (c .vpp)))) else false
+unfoldable pub uncutRead : DeviceNumbers → StateNumbers → BusNumbers → Bool
+uncutRead d s c = if eqb (c .kind) 0 then (if ltb (s .phase) 3 then true else not (vppLow (partIn d) (pinsIn (c .rp) (c .vpp)))) else false
 
 -- programming or erasing
 unfoldable pub runsIn : StateNumbers → Bool

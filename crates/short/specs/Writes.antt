@@ -15,11 +15,11 @@ use Rattle.short.specs.Cycled.{answerAs}
 use Rattle.short.specs.Reads.{partIn}
 
 -- a write, and an idle cycle, while nothing runs or is suspended
-unfoldable pub isWrite : StateNumbers → BusNumbers → Bool
-isWrite s c = if eqb (c .kind) 1 then ltb (s .phase) 3 else false
+unfoldable pub restingWrite : StateNumbers → BusNumbers → Bool
+restingWrite s c = if eqb (c .kind) 1 then ltb (s .phase) 3 else false
 
-unfoldable pub isIdle : StateNumbers → BusNumbers → Bool
-isIdle s c = if eqb (c .kind) 2 then ltb (s .phase) 3 else false
+unfoldable pub restingIdle : StateNumbers → BusNumbers → Bool
+restingIdle s c = if eqb (c .kind) 2 then ltb (s .phase) 3 else false
 
 -- another mode, status or phase; nothing is being programmed
 abbrev pub turnedTo : StateNumbers → ℕ → ℕ → ℕ → AnswerNumbers
@@ -45,18 +45,18 @@ unfoldable pub unsuppliedIn : DeviceNumbers → StateNumbers → BusNumbers → 
 unsuppliedIn d s c = vppLow (partIn d) (pinsIn (c .rp) (c .vpp)) || isSet (s .status) SR3
 
 -- a confirm or data: the operation starts, or the error bits say why not
-unfoldable pub begunIn : DeviceNumbers → StateNumbers → BusNumbers → ℕ → ℕ → ℕ → ℕ → AnswerNumbers
-begunIn d s c phase byte left bit =
+unfoldable pub startedIn : DeviceNumbers → StateNumbers → BusNumbers → ℕ → ℕ → ℕ → ℕ → AnswerNumbers
+startedIn d s c phase byte left bit =
     if unsuppliedIn d s c then restAs (s .mode) (withBits (withBits (s .status) SR3) bit)
     else if locked (partIn d) (cycleIn c) then restAs (s .mode) (withBits (s .status) bit)
     else answerAs 0 0 (record { mode = s .mode; status = withoutBits (s .status) SR7; phase = phase; byte = byte; left = left; address = c .address })
 
 -- the write after 20H
 unfoldable pub secondIn : DeviceNumbers → StateNumbers → BusNumbers → AnswerNumbers
-secondIn d s c = if eqb (c .byte) 0xD0 then begunIn d s c 4 0 (d .erase) SR5 else restAs (s .mode) (withBits (s .status) (SR5 + SR4))
+secondIn d s c = if eqb (c .byte) 0xD0 then startedIn d s c 4 0 (d .erase) SR5 else restAs (s .mode) (withBits (s .status) (SR5 + SR4))
 
 -- a write, by what is awaited
 unfoldable pub writtenIn : DeviceNumbers → StateNumbers → BusNumbers → AnswerNumbers
 writtenIn d s c =
     if eqb (s .phase) 0 then firstIn s (c .byte)
-    else if eqb (s .phase) 1 then secondIn d s c else begunIn d s c 3 (c .byte) (d .program) SR4
+    else if eqb (s .phase) 1 then secondIn d s c else startedIn d s c 3 (c .byte) (d .program) SR4

@@ -19,7 +19,7 @@ use twin::states::pins_in;
 ghost use mathlib.Core.Path.{_≡_};
 ghost use Rattle.bus.specs.Cycles.{judgeOf};
 ghost use Rattle.twin.specs.Twins.{deviceIn, stateIn, cycleIn};
-ghost use Rattle.short.specs.Judging.{bitsWrong, restWrong, wayWrong, improperBy, oeWrong, levelsWrong, pastSize, cutBy, residueShort};
+ghost use Rattle.short.specs.Judging.{bitsWrong, restWrong, wayWrong, improperBy, oeWrong, levelsWrong, pastSize, cutsIn, residueShort};
 
 // The status does not fit a phase with these top bits.
 fn bits_wrong(status: u8, top: u8) -> bool
@@ -93,7 +93,7 @@ fn past_array(c: BusNumbers, size: usize) -> bool
 
 // The levels of a cycle cut what is running or suspended.
 fn cuts(part: Part, c: BusNumbers) -> bool
-    ensures { λ r. ⌜ r ≡ cutBy part c ⌝ }
+    ensures { λ r. ⌜ r ≡ cutsIn part c ⌝ }
 {
     rp_low(pins_in(c.rp, c.vpp)) | vpp_low(part, pins_in(c.rp, c.vpp))
 }

@@ -19,10 +19,10 @@ use twin::states::SUSPENDED;
 use twin::states::pins_in;
 ghost use mathlib.Core.Path.{_≡_};
 ghost use Prim.Native.Nat.{_<_};
-ghost use Rattle.short.specs.Reads.{isRead, runsIn, suspendedAt, shownAt, identified, stillOf, countedIn, endedIn, arrayEnded, readIn, arrayRead};
+ghost use Rattle.short.specs.Reads.{uncutRead, runsIn, suspendedAt, shownAt, identified, stillOf, countedIn, endedIn, arrayEnded, readIn, arrayRead};
 
 pub(crate) fn is_read(d: DeviceNumbers, s: StateNumbers, c: BusNumbers) -> bool
-    ensures { λ r. ⌜ r ≡ isRead d s c ⌝ }
+    ensures { λ r. ⌜ r ≡ uncutRead d s c ⌝ }
 {
     if c.kind == READ {
         if s.phase < PROGRAMMING {

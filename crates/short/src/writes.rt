@@ -29,7 +29,7 @@ ghost use mathlib.Core.Path.{_≡_};
 ghost use Rattle.chip.specs.Levels.{locked};
 ghost use Rattle.twin.specs.Twins.{cycleIn};
 ghost use Rattle.short.specs.Reads.{partIn};
-ghost use Rattle.short.specs.Writes.{isWrite, isIdle, turnedTo, firstIn, restAs, unsuppliedIn, begunIn, secondIn, writtenIn};
+ghost use Rattle.short.specs.Writes.{restingWrite, restingIdle, turnedTo, firstIn, restAs, unsuppliedIn, startedIn, secondIn, writtenIn};
 
 // What a wrong second write sets; what a start and 50H keep.
 const ERRORS: u8 = SR5 + SR4;
@@ -39,7 +39,7 @@ const BUSY: u8 = 0xFF - SR7;
 const CLEARED: u8 = 0xFF - SR5 - SR4 - SR3;
 
 pub(crate) fn is_write(s: StateNumbers, c: BusNumbers) -> bool
-    ensures { λ r. ⌜ r ≡ isWrite s c ⌝ }
+    ensures { λ r. ⌜ r ≡ restingWrite s c ⌝ }
 {
     if c.kind == WRITE {
         return s.phase < PROGRAMMING;
@@ -48,7 +48,7 @@ pub(crate) fn is_write(s: StateNumbers, c: BusNumbers) -> bool
 }
 
 pub(crate) fn is_idle(s: StateNumbers, c: BusNumbers) -> bool
-    ensures { λ r. ⌜ r ≡ isIdle s c ⌝ }
+    ensures { λ r. ⌜ r ≡ restingIdle s c ⌝ }
 {
     if c.kind == IDLE {
         return s.phase < PROGRAMMING;
@@ -132,7 +132,7 @@ fn begin(
     left: u16,
     bit: u8,
 ) -> AnswerNumbers
-    ensures { λ r. ⌜ r ≡ begunIn d s c phase byte left bit ⌝ }
+    ensures { λ r. ⌜ r ≡ startedIn d s c phase byte left bit ⌝ }
 {
     if unsupplied(d, s, c) {
         return rest(s.mode, s.status | SR3 | bit);

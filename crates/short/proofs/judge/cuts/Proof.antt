@@ -1,5 +1,5 @@
 use borrow.Author.Needs.{needs}
-use Rattle.short.specs.Judging.{cutBy}
+use Rattle.short.specs.Judging.{cutsIn}
 use Rattle.short.proofs.judge.cuts.Statement.{statement}
 use Rattle.short.proofs.judge.cuts.Tie as tie
 
@@ -16,7 +16,7 @@ vpp-low-requires : tie.Need-vpp-low-requires
 vpp-low-requires c κs = search needs
 
 returns : tie.Need-returns
-unfolding cutBy
+unfolding cutsIn
 returns c = simp (c .vpp-low .ensures, c .before .pins-in2 .ensures, c .before .before .rp-low .ensures, c .before .before .before .pins-in .ensures)
 
 pub cuts-spec : {M : Type 1} → statement M

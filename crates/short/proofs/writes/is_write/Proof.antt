@@ -1,14 +1,14 @@
 use borrow.Author.Tests.{eq-eqb, ne-eqb}
-use Rattle.short.specs.Writes.{isWrite}
+use Rattle.short.specs.Writes.{restingWrite}
 use Rattle.short.proofs.writes.is_write.Statement.{statement}
 use Rattle.short.proofs.writes.is_write.Tie as tie
 
 returns : tie.Need-returns
-unfolding isWrite
+unfolding restingWrite
 returns c = simp (eq-eqb _ _ (c .before .if1 .taken))
 
 returns-2 : tie.Need-returns-2
-unfolding isWrite
+unfolding restingWrite
 returns-2 c = simp (ne-eqb _ _ (c .if1 .left))
 
 pub is-write-spec : {M : Type 1} → statement M
