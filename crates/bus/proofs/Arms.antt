@@ -21,8 +21,10 @@ use Rattle.chip.specs.Levels.{rpLow}
 use Rattle.commands.specs.Commands.{actionOf, isRefuse}
 use Rattle.settling.specs.Settling.{settleOf}
 use Rattle.chip.specs.States.{isArray, isIdentifier}
-use Rattle.bus.specs.Cycles.{isRead, isWrite, isSuspended, noCommand, suspendedRead, noIdentifier, judgeOf, lateOf, readOf, respondOf, refusedBy, acceptOf, decideOf}
-use Rattle.bus.specs.Arms.{givenBy, inSuspended, arrayArm, identifierArm, readArm, writeArm, arm}
+use Rattle.bus.specs.Cycles.{noCommand, suspendedRead, noIdentifier, judgeOf, lateOf, readOf, respondOf, refusedBy, acceptOf, decideOf}
+use Rattle.chip.specs.Phases.{isSuspended}
+use Rattle.chip.specs.Kinds.{isRead, isWrite}
+use Rattle.bus.specs.Inner.{givenBy, inSuspended, arrayArm, identifierArm, readArm, writeArm, arm}
 use Rattle.bus.proofs.Ways.{number-late, refused, accepted}
 
 and-all : (x : Bool) → (x && true) ≡ x

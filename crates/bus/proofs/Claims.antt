@@ -10,18 +10,18 @@ use Rattle.chip.specs.declared.State.{State}
 use Rattle.chip.specs.declared.Cycle.{Cycle}
 use Rattle.chip.specs.declared.Decision.{Decision}
 use Rattle.bus.specs.Cycles.{judgeOf, decideOf}
-use Rattle.bus.specs.Arms.{passOf, asksArray}
+use Rattle.bus.specs.Inner.{decideJudged, asksArray}
 use Rattle.bus.proofs.Passing as passing
 
 -- What passes refusals 1 to 6 is decided as the table says.
-pub passes : (d : Device) (s : State) (c : Cycle) (array residue : ℕ) → judgeOf d s c array residue ≡ 0 → decideOf d s c array residue ≡ passOf d s c
+pub passes : (d : Device) (s : State) (c : Cycle) (array residue : ℕ) → judgeOf d s c array residue ≡ 0 → decideOf d s c array residue ≡ decideJudged d s c
 passes = passing.passes
 
 pub judge-unique : (d : Device) (s : State) (c : Cycle) (array residue : ℕ) → Unique (λ (r : ℕ). r ≡ judgeOf d s c array residue)
 judge-unique d s c array residue = only (judgeOf d s c array residue)
 
-pub pass-unique : (d : Device) (s : State) (c : Cycle) → Unique (λ (r : Decision). r ≡ passOf d s c)
-pass-unique d s c = only (passOf d s c)
+pub decide-judged-unique : (d : Device) (s : State) (c : Cycle) → Unique (λ (r : Decision). r ≡ decideJudged d s c)
+decide-judged-unique d s c = only (decideJudged d s c)
 
 pub asks-array-unique : (s : State) (c : Cycle) → Unique (λ (r : Bool). r ≡ asksArray s c)
 asks-array-unique s c = only (asksArray s c)

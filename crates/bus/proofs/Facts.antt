@@ -1,5 +1,5 @@
 -- What is known of a cycle that nothing refuses, and of a proper state. Assumes nothing.
-use mathlib.Core.Path.{_≡_, refl}
+use mathlib.Core.Path.{_≡_, refl, sym, _∙_}
 use mathlib.Core.Bool.{false, _||_}
 use Prim.Native.Nat.{ℕ}
 use lib.Dec.{eqb}
@@ -11,7 +11,9 @@ use Rattle.device.specs.Parts.{unknownDevice, sizeOf}
 use Rattle.chip.specs.declared.State.{State}
 use Rattle.chip.specs.declared.Cycle.{Cycle}
 use Rattle.chip.specs.Levels.{badLevels}
-use Rattle.chip.specs.States.{badMode, badStatus, badLeft, badAddress, improper}
+use Rattle.chip.specs.States.{improper}
+use Rattle.chip.specs.Inner.{badMode, badStatus, badLeft, badAddress}
+use Rattle.chip.proofs.Proper.{improper-parts}
 use Rattle.settling.specs.Settling.{settleOf}
 use Rattle.bus.specs.Cycles.{tableOf, numberOf, pastArray, shortResidue, noCommand, suspendedRead, noIdentifier}
 
@@ -23,12 +25,12 @@ pub record Proper (d : Device) (s : State) : Type 0 where
   pub address : badAddress d (s .phase) (s .address) ≡ false
 
 pub proper-parts : (d : Device) (s : State) → improper d s ≡ false → Proper d s
-unfolding improper
-proper-parts d s e =
+proper-parts d s h =
     let a = badMode (s .phase) (s .mode) in
     let b = badStatus (s .phase) (s .status) in
     let l = badLeft d (s .phase) (s .left) in
     let m = badAddress d (s .phase) (s .address) in
+    let e : (((a || b) || l) || m) ≡ false = sym (improper-parts d s) ∙ h in
     record {
       mode = or-left a b (or-left (a || b) l (or-left ((a || b) || l) m e));
       status = or-right a b (or-left (a || b) l (or-left ((a || b) || l) m e));
@@ -37,8 +39,7 @@ proper-parts d s e =
     }
 
 pub parts-proper : (d : Device) (s : State) → Proper d s → improper d s ≡ false
-unfolding improper
-parts-proper d s p = simp (p .mode, p .status, p .left, p .address)
+parts-proper d s p = improper-parts d s ∙ simp (p .mode, p .status, p .left, p .address)
 
 -- none of the nine numbers applies
 pub record Fine (d : Device) (s : State) (c : Cycle) (array residue : ℕ) : Type 0 where

@@ -18,17 +18,19 @@ use Rattle.chip.specs.declared.Settled.{Settled}
 use Rattle.chip.specs.Levels.{rpLow, vppLow}
 use Rattle.chip.specs.States.{isArray}
 use Rattle.settling.specs.Settling.{settledAs, settleOf}
-use Rattle.bus.specs.Cycles.{isRead, judgeOf, refusedBy, decidedAs, decideOf}
-use Rattle.bus.specs.Arms.{isFree, inSuspended, arrayArm, arm, passOf, asksArray}
+use Rattle.bus.specs.Cycles.{judgeOf, refusedBy, decidedAs, decideOf}
+use Rattle.bus.specs.Inner.{inSuspended, arrayArm, arm, decideJudged, asksArray}
+use Rattle.chip.specs.Phases.{isFree}
+use Rattle.chip.specs.Kinds.{isRead}
 use Rattle.bus.proofs.Ways.{number-early, refused}
 use Rattle.bus.proofs.Arms.{by-reset, by-arms}
 
 -- none of refusals 1 to 6: the cycle passes
-pub passes : (d : Device) (s : State) (c : Cycle) (array residue : ℕ) → judgeOf d s c array residue ≡ 0 → decideOf d s c array residue ≡ passOf d s c
-unfolding passOf
+pub passes : (d : Device) (s : State) (c : Cycle) (array residue : ℕ) → judgeOf d s c array residue ≡ 0 → decideOf d s c array residue ≡ decideJudged d s c
+unfolding decideJudged
 passes d s c array residue z = go (rpLow (c .pins)) refl
   where
-    go : (b : Bool) → rpLow (c .pins) ≡ b → decideOf d s c array residue ≡ passOf d s c
+    go : (b : Bool) → rpLow (c .pins) ≡ b → decideOf d s c array residue ≡ decideJudged d s c
     go true r = by-reset d s c array residue z r ∙ sym (if-true (rpLow (c .pins)) _ _ r)
     go false r = by-arms d s c array residue z r ∙ sym (if-false (rpLow (c .pins)) _ _ r)
 
@@ -89,8 +91,8 @@ module _ (d : Device) (s : State) (c : Cycle) (asks : asksArray s c ≡ true) wh
   settled = simp (up, free, and-none (vppLow (d .part) (c .pins)))
 
   -- its byte is the answer, and nothing else changes
-  pub shows : passOf d s c ≡ decidedAs (GivesArray (c .address)) s Nothing
-  unfolding passOf arrayArm inSuspended
+  pub shows : decideJudged d s c ≡ decidedAs (GivesArray (c .address)) s Nothing
+  unfolding decideJudged arrayArm inSuspended
   shows =
       if-false (rpLow (c .pins)) _ _ up
       ∙ ap (λ (k : Kind). arm k d s c (settleOf (d .part) s (c .pins))) kind ∙ ap (λ (t : Settled). arm Read d s c t) settled

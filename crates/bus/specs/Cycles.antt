@@ -12,8 +12,6 @@ use Rattle.chip.specs.declared.Mode.{Mode}
 use Rattle.chip.specs.declared.Mode.the-variants.{Array, Status, Identifier}
 use Rattle.chip.specs.declared.Kind.{Kind}
 use Rattle.chip.specs.declared.Kind.the-variants.{Read, Write, Idle}
-use Rattle.chip.specs.declared.Phase.{Phase}
-use Rattle.chip.specs.declared.Phase.the-variants.{Free, EraseAwaited, DataAwaited, Programming, Erasing, Suspended}
 use Rattle.chip.specs.declared.Effect.{Effect}
 use Rattle.chip.specs.declared.Effect.the-variants.{Nothing}
 use Rattle.chip.specs.declared.Reply.{Reply}
@@ -22,33 +20,12 @@ use Rattle.chip.specs.declared.Settled.{Settled}
 use Rattle.chip.specs.declared.Decision.{Decision}
 use Rattle.chip.specs.declared.State.{State}
 use Rattle.chip.specs.declared.Cycle.{Cycle}
+use Rattle.chip.specs.Kinds.{isRead, isWrite, isIdle}
 use Rattle.chip.specs.Levels.{rpLow, vppLow, badLevels}
+use Rattle.chip.specs.Phases.{isSuspended}
 use Rattle.chip.specs.States.{improper, isArray, isIdentifier}
 use Rattle.commands.specs.Commands.{actionOf, isRefuse, performedOf}
 use Rattle.settling.specs.Settling.{settleOf, residueFor}
-
-abbrev pub isIdle : Kind → Bool
-isIdle Read = false
-isIdle Write = false
-isIdle Idle = true
-
-abbrev pub isRead : Kind → Bool
-isRead Read = true
-isRead Write = false
-isRead Idle = false
-
-abbrev pub isWrite : Kind → Bool
-isWrite Read = false
-isWrite Write = true
-isWrite Idle = false
-
-abbrev pub isSuspended : Phase → Bool
-isSuspended Free = false
-isSuspended EraseAwaited = false
-isSuspended DataAwaited = false
-isSuspended (Programming b) = false
-isSuspended Erasing = false
-isSuspended Suspended = true
 
 -- refusal 5: the address is past the array; not asked with RP# low, nor of an idle cycle
 unfoldable pub pastArray : Part → Cycle → Bool
@@ -95,12 +72,15 @@ tableOf d s c array residue = early d s c array residue ++ late (d .part) (settl
 unfoldable pub numberOf : Device → State → Cycle → ℕ → ℕ → ℕ
 numberOf d s c array residue = given (tableOf d s c array residue)
 
+-- the number of refusals 1 to 6 alone, 0 where none of them applies
 unfoldable pub judgeOf : Device → State → Cycle → ℕ → ℕ → ℕ
 judgeOf d s c array residue = given (early d s c array residue)
 
+-- the number of refusals 7 to 9 alone
 unfoldable pub lateOf : Part → State → Cycle → ℕ
 lateOf part t c = given (late part t c)
 
+-- a decision by its parts
 abbrev pub decidedAs : Reply → State → Effect → Decision
 decidedAs r s e = record { reply = r; state = s; effect = e }
 

@@ -27,8 +27,10 @@ ghost use mathlib.Core.Bool.{not, _||_};
 ghost use Rattle.chip.specs.Levels.{rpLow, vppLow};
 ghost use lib.Dec.{eqb};
 ghost use Rattle.device.specs.Parts.{sizeOf};
-ghost use Rattle.bus.specs.Cycles.{isIdle, isRead, isSuspended, pastArray, shortResidue, judgeOf, refusedBy, identifierOf};
-ghost use Rattle.bus.specs.Arms.{givenBy, inSuspended, arrayArm, identifierArm, readArm, writeArm, arm, passOf, isFree, asksArray};
+ghost use Rattle.bus.specs.Cycles.{pastArray, shortResidue, judgeOf, refusedBy, identifierOf};
+ghost use Rattle.bus.specs.Inner.{givenBy, inSuspended, arrayArm, identifierArm, readArm, writeArm, arm, decideJudged, asksArray};
+ghost use Rattle.chip.specs.Phases.{isSuspended, isFree};
+ghost use Rattle.chip.specs.Kinds.{isIdle, isRead};
 
 fn is_idle(kind: Kind) -> bool
     ensures { λ r. ⌜ r ≡ isIdle kind ⌝ }
@@ -245,9 +247,9 @@ fn respond(kind: Kind, d: Device, s: State, c: Cycle, t: Settled) -> Decision
     }
 }
 
-// A cycle that refusals 1 to 6 let pass. With RP# low it ends after step 1.
-pub fn pass(d: Device, s: State, c: Cycle) -> Decision
-    ensures { λ r. ⌜ r ≡ passOf d s c ⌝ }
+// Only for callers that know refusals 1 to 6 not to apply. With RP# low the cycle ends after step 1.
+pub fn decide_judged(d: Device, s: State, c: Cycle) -> Decision
+    ensures { λ r. ⌜ r ≡ decideJudged d s c ⌝ }
 {
     let part = d.part;
     let p = c.pins;

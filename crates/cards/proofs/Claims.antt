@@ -4,7 +4,7 @@ use mathlib.Core.Bool.{true}
 use Rattle.device.specs.Parts.{shapeOf, sizeIn, lengthIn, offsetIn, holderIn, turned, startIn, blockIn, unknownPart, unknownDevice, sizeOf, lengthOf, startOf, blockOf}
 use Rattle.chip.specs.Levels.{vppLow, vppHigh, badPins, badLevels, unlocked, locked}
 use Rattle.chip.specs.Cells.{ones}
-use Rattle.chip.specs.States.{badStatus, badLeft, badAddress, improper}
+use Rattle.chip.specs.States.{proper, improper}
 use Rattle.commands.specs.Commands.{firstWrite, afterErase, whileErasing, whileSuspended, unsupplied, startedOf}
 use Rattle.settling.specs.Settling.{cutBy, countedOff, settleOf}
 use Rattle.bus.specs.Cycles.{pastArray, shortResidue, noCommand, suspendedRead, noIdentifier, numberOf, acceptOf, decideOf}
@@ -15,35 +15,35 @@ use Rattle.cards.proofs.Busy.{two}
 use Rattle.cards.proofs.Counts.{ten, eleven}
 
 holds-1 : card1 ≡ true
-unfolding shapeOf sizeIn lengthIn offsetIn holderIn turned startIn blockIn unknownPart unknownDevice sizeOf lengthOf startOf blockOf vppLow vppHigh badPins badLevels unlocked ones locked badStatus badLeft badAddress improper firstWrite afterErase whileErasing whileSuspended unsupplied startedOf cutBy countedOff settleOf pastArray shortResidue noCommand suspendedRead noIdentifier numberOf acceptOf decideOf erased residual arrayAfter answerOf
+unfolding shapeOf sizeIn lengthIn offsetIn holderIn turned startIn blockIn unknownPart unknownDevice sizeOf lengthOf startOf blockOf vppLow vppHigh badPins badLevels unlocked ones locked proper improper firstWrite afterErase whileErasing whileSuspended unsupplied startedOf cutBy countedOff settleOf pastArray shortResidue noCommand suspendedRead noIdentifier numberOf acceptOf decideOf erased residual arrayAfter answerOf
 holds-1 = refl
 
 holds-3 : card3 ≡ true
-unfolding shapeOf sizeIn lengthIn offsetIn holderIn turned startIn blockIn unknownPart unknownDevice sizeOf lengthOf startOf blockOf vppLow vppHigh badPins badLevels unlocked ones locked badStatus badLeft badAddress improper firstWrite afterErase whileErasing whileSuspended unsupplied startedOf cutBy countedOff settleOf pastArray shortResidue noCommand suspendedRead noIdentifier numberOf acceptOf decideOf erased residual arrayAfter answerOf
+unfolding shapeOf sizeIn lengthIn offsetIn holderIn turned startIn blockIn unknownPart unknownDevice sizeOf lengthOf startOf blockOf vppLow vppHigh badPins badLevels unlocked ones locked proper improper firstWrite afterErase whileErasing whileSuspended unsupplied startedOf cutBy countedOff settleOf pastArray shortResidue noCommand suspendedRead noIdentifier numberOf acceptOf decideOf erased residual arrayAfter answerOf
 holds-3 = refl
 
 holds-4 : card4 ≡ true
-unfolding shapeOf sizeIn lengthIn offsetIn holderIn turned startIn blockIn unknownPart unknownDevice sizeOf lengthOf startOf blockOf vppLow vppHigh badPins badLevels unlocked ones locked badStatus badLeft badAddress improper firstWrite afterErase whileErasing whileSuspended unsupplied startedOf cutBy countedOff settleOf pastArray shortResidue noCommand suspendedRead noIdentifier numberOf acceptOf decideOf erased residual arrayAfter answerOf
+unfolding shapeOf sizeIn lengthIn offsetIn holderIn turned startIn blockIn unknownPart unknownDevice sizeOf lengthOf startOf blockOf vppLow vppHigh badPins badLevels unlocked ones locked proper improper firstWrite afterErase whileErasing whileSuspended unsupplied startedOf cutBy countedOff settleOf pastArray shortResidue noCommand suspendedRead noIdentifier numberOf acceptOf decideOf erased residual arrayAfter answerOf
 holds-4 = refl
 
 holds-5 : card5 ≡ true
-unfolding shapeOf sizeIn lengthIn offsetIn holderIn turned startIn blockIn unknownPart unknownDevice sizeOf lengthOf startOf blockOf vppLow vppHigh badPins badLevels unlocked ones locked badStatus badLeft badAddress improper firstWrite afterErase whileErasing whileSuspended unsupplied startedOf cutBy countedOff settleOf pastArray shortResidue noCommand suspendedRead noIdentifier numberOf acceptOf decideOf erased residual arrayAfter answerOf
+unfolding shapeOf sizeIn lengthIn offsetIn holderIn turned startIn blockIn unknownPart unknownDevice sizeOf lengthOf startOf blockOf vppLow vppHigh badPins badLevels unlocked ones locked proper improper firstWrite afterErase whileErasing whileSuspended unsupplied startedOf cutBy countedOff settleOf pastArray shortResidue noCommand suspendedRead noIdentifier numberOf acceptOf decideOf erased residual arrayAfter answerOf
 holds-5 = refl
 
 holds-6 : card6 ≡ true
-unfolding shapeOf sizeIn lengthIn offsetIn holderIn turned startIn blockIn unknownPart unknownDevice sizeOf lengthOf startOf blockOf vppLow vppHigh badPins badLevels unlocked ones locked badStatus badLeft badAddress improper firstWrite afterErase whileErasing whileSuspended unsupplied startedOf cutBy countedOff settleOf pastArray shortResidue noCommand suspendedRead noIdentifier numberOf acceptOf decideOf erased residual arrayAfter answerOf
+unfolding shapeOf sizeIn lengthIn offsetIn holderIn turned startIn blockIn unknownPart unknownDevice sizeOf lengthOf startOf blockOf vppLow vppHigh badPins badLevels unlocked ones locked proper improper firstWrite afterErase whileErasing whileSuspended unsupplied startedOf cutBy countedOff settleOf pastArray shortResidue noCommand suspendedRead noIdentifier numberOf acceptOf decideOf erased residual arrayAfter answerOf
 holds-6 = refl
 
 holds-7 : card7 ≡ true
-unfolding shapeOf sizeIn lengthIn offsetIn holderIn turned startIn blockIn unknownPart unknownDevice sizeOf lengthOf startOf blockOf vppLow vppHigh badPins badLevels unlocked ones locked badStatus badLeft badAddress improper firstWrite afterErase whileErasing whileSuspended unsupplied startedOf cutBy countedOff settleOf pastArray shortResidue noCommand suspendedRead noIdentifier numberOf acceptOf decideOf erased residual arrayAfter answerOf
+unfolding shapeOf sizeIn lengthIn offsetIn holderIn turned startIn blockIn unknownPart unknownDevice sizeOf lengthOf startOf blockOf vppLow vppHigh badPins badLevels unlocked ones locked proper improper firstWrite afterErase whileErasing whileSuspended unsupplied startedOf cutBy countedOff settleOf pastArray shortResidue noCommand suspendedRead noIdentifier numberOf acceptOf decideOf erased residual arrayAfter answerOf
 holds-7 = refl
 
 holds-8 : card8 ≡ true
-unfolding shapeOf sizeIn lengthIn offsetIn holderIn turned startIn blockIn unknownPart unknownDevice sizeOf lengthOf startOf blockOf vppLow vppHigh badPins badLevels unlocked ones locked badStatus badLeft badAddress improper firstWrite afterErase whileErasing whileSuspended unsupplied startedOf cutBy countedOff settleOf pastArray shortResidue noCommand suspendedRead noIdentifier numberOf acceptOf decideOf erased residual arrayAfter answerOf
+unfolding shapeOf sizeIn lengthIn offsetIn holderIn turned startIn blockIn unknownPart unknownDevice sizeOf lengthOf startOf blockOf vppLow vppHigh badPins badLevels unlocked ones locked proper improper firstWrite afterErase whileErasing whileSuspended unsupplied startedOf cutBy countedOff settleOf pastArray shortResidue noCommand suspendedRead noIdentifier numberOf acceptOf decideOf erased residual arrayAfter answerOf
 holds-8 = refl
 
 holds-9 : card9 ≡ true
-unfolding shapeOf sizeIn lengthIn offsetIn holderIn turned startIn blockIn unknownPart unknownDevice sizeOf lengthOf startOf blockOf vppLow vppHigh badPins badLevels unlocked ones locked badStatus badLeft badAddress improper firstWrite afterErase whileErasing whileSuspended unsupplied startedOf cutBy countedOff settleOf pastArray shortResidue noCommand suspendedRead noIdentifier numberOf acceptOf decideOf erased residual arrayAfter answerOf
+unfolding shapeOf sizeIn lengthIn offsetIn holderIn turned startIn blockIn unknownPart unknownDevice sizeOf lengthOf startOf blockOf vppLow vppHigh badPins badLevels unlocked ones locked proper improper firstWrite afterErase whileErasing whileSuspended unsupplied startedOf cutBy countedOff settleOf pastArray shortResidue noCommand suspendedRead noIdentifier numberOf acceptOf decideOf erased residual arrayAfter answerOf
 holds-9 = refl
 
 holds-12 : card12 ≡ true

@@ -12,7 +12,7 @@ use Rattle.cells.proofs.Bytes.{bytes-replicate}
 use Rattle.device.specs.Parts.{shapeOf, sizeIn, lengthIn, offsetIn, startIn, unknownPart, unknownDevice, sizeOf, lengthOf, startOf}
 use Rattle.chip.specs.Cells.{ones}
 use Rattle.chip.specs.Levels.{vppLow, vppHigh, badPins}
-use Rattle.chip.specs.States.{badStatus, badLeft, badAddress, improper, freshState, atRest}
+use Rattle.chip.specs.States.{proper, improper, freshState, atRest}
 use Rattle.chip.specs.declared.Mode.the-variants.{Array}
 use Rattle.stepper.specs.Front.{barredPins, noBlock, wrongLengths}
 use Rattle.loader.specs.Walks.{risesIn}
@@ -27,7 +27,7 @@ use Rattle.cards.specs.Table.{benchT, normal, same, Counts, Card10, Card
 
 -- nothing refuses such a run
 accepted : runNumber benchT freshState normal 1 16384 512 512 ≡ 0
-unfolding runNumber shapeOf sizeIn lengthIn unknownPart unknownDevice sizeOf lengthOf vppLow vppHigh badPins badStatus badLeft badAddress improper barredPins noBlock wrongLengths
+unfolding runNumber shapeOf sizeIn lengthIn unknownPart unknownDevice sizeOf lengthOf vppLow vppHigh badPins proper improper barredPins noBlock wrongLengths
 accepted = refl
 
 supply : vppHigh (benchT .part) normal ≡ true

@@ -1,6 +1,7 @@
--- Two results that a promise allows are equal, for each public function of this crate. Assumes nothing.
+-- What is claimed of states, and that two results that a promise allows are equal, for each public function of this crate.
+-- Assumes nothing.
 use mathlib.Core.Path.{_≡_}
-use mathlib.Core.Bool.{Bool}
+use mathlib.Core.Bool.{Bool, _||_}
 use Prim.Native.Nat.{ℕ}
 use Rattle.cells.specs.Choice.{Unique}
 use Rattle.cells.proofs.Choice.{only}
@@ -12,8 +13,17 @@ use Rattle.chip.specs.declared.State.{State}
 use Rattle.chip.specs.declared.Mode.{Mode}
 use Rattle.chip.specs.declared.Phase.{Phase}
 use Rattle.chip.specs.Levels.{rpLow, vppLow, vppHigh, badPins, badLevels, unlocked, locked}
-use Rattle.chip.specs.States.{isBusy, isPending, isArray, isIdentifier, improper, atRest, freshState, resetOf}
+use Rattle.chip.specs.States.{isArray, isIdentifier, improper, atRest, freshState, resetOf}
+use Rattle.chip.specs.Phases.{isBusy, isPending}
+use Rattle.chip.specs.Inner.{badMode, badStatus, badLeft, badAddress}
+use Rattle.chip.proofs.Proper as parts
 
+-- The code's tests of a state, part by part, are together `improper`.
+pub improper-parts : (d : Device) (s : State)
+    → improper d s ≡ (((badMode (s .phase) (s .mode) || badStatus (s .phase) (s .status)) || badLeft d (s .phase) (s .left)) || badAddress d (s .phase) (s .address))
+improper-parts = parts.improper-parts
+
+-- Two results that a promise allows are equal.
 pub rp-low-unique : (p : Pins) → Unique (λ (r : Bool). r ≡ rpLow p)
 rp-low-unique p = only (rpLow p)
 

@@ -1,3 +1,7 @@
 pub mod Cells
+pub mod Kinds
 pub mod Levels
+pub mod Phases
+pub mod Status
 pub mod States
+pub mod Inner

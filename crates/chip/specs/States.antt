@@ -1,4 +1,4 @@
--- Device states: the status register and what makes a state proper. Assumes nothing.
+-- Device states: what makes one proper, and the states that the rules name. Assumes nothing.
 use mathlib.Core.Bool.{Bool, true, false, not, _&&_, _||_}
 use Prim.Native.Nat.{ℕ, _/_, _%_}
 use lib.Dec.{eqb, ltb, leb}
@@ -10,43 +10,10 @@ use Rattle.chip.specs.declared.Mode.the-variants.{Array, Status, Identif
 use Rattle.chip.specs.declared.Phase.{Phase}
 use Rattle.chip.specs.declared.Phase.the-variants.{Free, EraseAwaited, DataAwaited, Programming, Erasing, Suspended}
 use Rattle.chip.specs.declared.State.{State}
+use Rattle.chip.specs.Phases.{isAwaited, isBusy, isSuspended, isPending}
+use Rattle.chip.specs.Status.{SR7, SR6, SR3}
 
--- an operation is running
-abbrev pub isBusy : Phase → Bool
-isBusy Free = false
-isBusy EraseAwaited = false
-isBusy DataAwaited = false
-isBusy (Programming b) = true
-isBusy Erasing = true
-isBusy Suspended = false
-
--- an operation is running or suspended
-abbrev pub isPending : Phase → Bool
-isPending Free = false
-isPending EraseAwaited = false
-isPending DataAwaited = false
-isPending (Programming b) = true
-isPending Erasing = true
-isPending Suspended = true
-
--- SR.7 and SR.6 as a number: SR.7 clear exactly when busy, SR.6 set exactly when suspended
-abbrev pub topBits : Phase → ℕ
-topBits Free = 2
-topBits EraseAwaited = 2
-topBits DataAwaited = 2
-topBits (Programming b) = 0
-topBits Erasing = 0
-topBits Suspended = 3
-
--- the most cycles that an operation can have to go: P for a program, E for an erase, none without one
-abbrev pub mostLeft : Device → Phase → ℕ
-mostLeft d Free = 0
-mostLeft d EraseAwaited = 0
-mostLeft d DataAwaited = 0
-mostLeft d (Programming b) = d .program
-mostLeft d Erasing = d .erase
-mostLeft d Suspended = d .erase
-
+-- the three modes
 abbrev pub isArray : Mode → Bool
 isArray Array = true
 isArray Status = false
@@ -62,31 +29,52 @@ isIdentifier Array = false
 isIdentifier Status = false
 isIdentifier Identifier = true
 
--- the mode is not status while awaiting or busy, or is identifier while suspended
-abbrev pub badMode : Phase → Mode → Bool
-badMode Free m = false
-badMode EraseAwaited m = not (isStatus m)
-badMode DataAwaited m = not (isStatus m)
-badMode (Programming b) m = not (isStatus m)
-badMode Erasing m = not (isStatus m)
-badMode Suspended m = isIdentifier m
+-- the most cycles that an operation can have to go: P for a program, E for an erase, none without one
+abbrev pub mostLeft : Device → Phase → ℕ
+mostLeft d Free = 0
+mostLeft d EraseAwaited = 0
+mostLeft d DataAwaited = 0
+mostLeft d (Programming b) = d .program
+mostLeft d Erasing = d .erase
+mostLeft d Suspended = d .erase
 
--- SR.2-0 are not zero, or SR.7 and SR.6 do not fit the phase
-unfoldable pub badStatus : Phase → ℕ → Bool
-badStatus ph sr = not (eqb (sr % 8) 0) || not (eqb (sr / 64) (topBits ph))
+-- mode status while awaiting or busy; array or status while suspended
+abbrev pub properMode : Phase → Mode → Bool
+properMode ph m = if isAwaited ph || isBusy ph then isStatus m else if isSuspended ph then isArray m || isStatus m else true
 
--- cycles to go: not from 1 to P or E with an operation, not zero without one
-unfoldable pub badLeft : Device → Phase → ℕ → Bool
-badLeft d ph left = if isPending ph then eqb left 0 || ltb (mostLeft d ph) left else not (eqb left 0)
+-- SR.7, the top bit, is clear exactly when busy
+abbrev pub properReady : Phase → ℕ → Bool
+properReady ph sr = eqb (sr / SR7) (if isBusy ph then 0 else 1)
 
--- the operation's address: not inside the array, or not zero without one
-unfoldable pub badAddress : Device → Phase → ℕ → Bool
-badAddress d ph a = if isPending ph then leb (sizeOf (d .part)) a else not (eqb a 0)
+-- SR.6 is set exactly when suspended
+abbrev pub properHeld : Phase → ℕ → Bool
+properHeld ph sr = eqb (sr / SR6 % 2) (if isSuspended ph then 1 else 0)
+
+-- SR.2-0, all that is below SR.3, are zero
+abbrev pub properLow : ℕ → Bool
+properLow sr = eqb (sr % SR3) 0
+
+-- cycles to go: from 1 to P or E with an operation running or suspended, zero without one
+abbrev pub properLeft : Device → Phase → ℕ → Bool
+properLeft d ph left = if isPending ph then leb 1 left && leb left (mostLeft d ph) else eqb left 0
+
+-- the operation's address: inside the array, zero without one
+abbrev pub properAddress : Device → Phase → ℕ → Bool
+properAddress d ph a = if isPending ph then ltb a (sizeOf (d .part)) else eqb a 0
+
+-- a proper state
+unfoldable pub proper : Device → State → Bool
+proper d s =
+    properMode (s .phase) (s .mode)
+    && properReady (s .phase) (s .status)
+    && properHeld (s .phase) (s .status)
+    && properLow (s .status)
+    && properLeft d (s .phase) (s .left)
+    && properAddress d (s .phase) (s .address)
 
 -- refusal 3: the state is not proper
 unfoldable pub improper : Device → State → Bool
-improper d s =
-    ((badMode (s .phase) (s .mode) || badStatus (s .phase) (s .status)) || badLeft d (s .phase) (s .left)) || badAddress d (s .phase) (s .address)
+improper d s = not (proper d s)
 
 -- nothing awaited, running or suspended, with a mode and a status
 abbrev pub atRest : Mode → ℕ → State
@@ -94,8 +82,8 @@ atRest m sr = record { mode = m; status = sr; phase = Free; left = 0; address = 
 
 -- a fresh device: read array, 80H
 abbrev pub freshState : State
-freshState = atRest Array 128
+freshState = atRest Array SR7
 
 -- what RP# low makes of a state
 abbrev pub resetOf : State → State
-resetOf s = atRest Array 128
+resetOf s = atRest Array SR7

@@ -4,7 +4,20 @@ use crate::Phase;
 use crate::State;
 use device::Device;
 ghost use mathlib.Core.Path.{_≡_};
-ghost use Rattle.chip.specs.States.{isBusy, isPending, topBits, mostLeft, isArray, isStatus, isIdentifier, badMode, badStatus, badLeft, badAddress, improper, atRest, freshState, resetOf};
+ghost use Rattle.chip.specs.States.{mostLeft, isArray, isStatus, isIdentifier, improper, atRest, freshState, resetOf};
+ghost use Rattle.chip.specs.Inner.{topBits, badMode, badStatus, badLeft, badAddress};
+ghost use Rattle.chip.specs.Phases.{isBusy, isPending};
+
+// The bits of the status register: ready, erase suspended, erase error, program error, VPP low.
+pub const SR7: u8 = 0x80;
+
+pub const SR6: u8 = 0x40;
+
+pub const SR5: u8 = 0x20;
+
+pub const SR4: u8 = 0x10;
+
+pub const SR3: u8 = 0x08;
 
 pub fn is_busy(ph: Phase) -> bool
     ensures { λ r. ⌜ r ≡ isBusy ph ⌝ }
@@ -104,7 +117,7 @@ fn bad_mode(ph: Phase, m: Mode) -> bool
 fn bad_status(ph: Phase, status: u8) -> bool
     ensures { λ r. ⌜ r ≡ badStatus ph status ⌝ }
 {
-    !(status % 8 == 0) | !(status / 64 == top_bits(ph))
+    !(status % SR3 == 0) | !(status / SR6 == top_bits(ph))
 }
 
 fn bad_left(d: Device, ph: Phase, left: u16) -> bool
@@ -155,12 +168,12 @@ pub fn at_rest(m: Mode, status: u8) -> State
 pub fn fresh() -> State
     ensures { λ r. ⌜ r ≡ freshState ⌝ }
 {
-    at_rest(Mode::Array, 128)
+    at_rest(Mode::Array, SR7)
 }
 
 // What RP# low makes of a state.
 pub fn reset(s: State) -> State
     ensures { λ r. ⌜ r ≡ resetOf s ⌝ }
 {
-    at_rest(Mode::Array, 128)
+    at_rest(Mode::Array, SR7)
 }

@@ -1,7 +1,6 @@
 -- What a write asks for, and what comes of it. Assumes nothing.
 use mathlib.Core.Bool.{Bool, true, false, not, _&&_, _||_}
-use Prim.Native.Nat.{ℕ, _/_, _%_}
-use lib.Bits.{bitAnd, bitOr}
+use Prim.Native.Nat.{ℕ, _+_}
 use lib.Dec.{eqb, ltb, leb}
 use Rattle.cells.specs.Choice.{if_then_else_}
 use Rattle.device.specs.declared.Part.{Part}
@@ -15,6 +14,7 @@ use Rattle.chip.specs.declared.Action.the-variants.{ToArray, ToIdentifier, ToSt
 use Rattle.chip.specs.declared.State.{State}
 use Rattle.chip.specs.declared.Cycle.{Cycle}
 use Rattle.chip.specs.Levels.{vppLow, locked}
+use Rattle.chip.specs.Status.{SR7, SR6, SR5, SR4, SR3, withBits, withoutBits, isSet}
 use Rattle.chip.specs.States.{atRest}
 
 -- nothing awaited or running
@@ -77,28 +77,28 @@ withStatus sr s = record { mode = s .mode; status = sr; phase = s .phase; left =
 
 -- VPP is low at this cycle, or SR.3 is still set
 unfoldable pub unsupplied : Part → Cycle → State → Bool
-unsupplied part c s = vppLow part (c .pins) || not (eqb (s .status / 8 % 2) 0)
+unsupplied part c s = vppLow part (c .pins) || isSet (s .status) SR3
 
 -- a confirm or data: unsupplied sets SR.3 and the operation's error bit, locked the error bit (where both apply, the bits are
 -- those of the first); otherwise the operation starts at this cycle's address with its busy time to go and SR.7 clear
 unfoldable pub startedOf : Part → Cycle → State → Phase → ℕ → ℕ → State
 startedOf part c s ph time bit =
-    if unsupplied part c s then atRest (s .mode) (bitOr (bitOr (s .status) 8) bit)
-    else if locked part c then atRest (s .mode) (bitOr (s .status) bit)
-    else record { mode = s .mode; status = bitAnd (s .status) 127; phase = ph; left = time; address = c .address }
+    if unsupplied part c s then atRest (s .mode) (withBits (withBits (s .status) SR3) bit)
+    else if locked part c then atRest (s .mode) (withBits (s .status) bit)
+    else record { mode = s .mode; status = withoutBits (s .status) SR7; phase = ph; left = time; address = c .address }
 
 -- what an action makes of the state
 abbrev pub performedOf : Action → Device → Cycle → State → State
 performedOf ToArray d c s = inMode Array s
 performedOf ToIdentifier d c s = inMode Identifier s
 performedOf ToStatus d c s = inMode Status s
-performedOf Clear d c s = withStatus (bitAnd (s .status) 199) s
+performedOf Clear d c s = withStatus (withoutBits (s .status) (SR5 + SR4 + SR3)) s
 performedOf AwaitErase d c s = inPhase EraseAwaited (s .status) s
 performedOf AwaitData d c s = inPhase DataAwaited (s .status) s
-performedOf Confirm d c s = startedOf (d .part) c s Erasing (d .erase) 32
-performedOf Store d c s = startedOf (d .part) c s (Programming (c .byte)) (d .program) 16
-performedOf WrongSecond d c s = atRest (s .mode) (bitOr (s .status) 48)
-performedOf Suspend d c s = inPhase Suspended (bitOr (s .status) 192) s
-performedOf Resume d c s = inPhase Erasing (bitAnd (s .status) 63) s
+performedOf Confirm d c s = startedOf (d .part) c s Erasing (d .erase) SR5
+performedOf Store d c s = startedOf (d .part) c s (Programming (c .byte)) (d .program) SR4
+performedOf WrongSecond d c s = atRest (s .mode) (withBits (s .status) (SR5 + SR4))
+performedOf Suspend d c s = inPhase Suspended (withBits (s .status) (SR7 + SR6)) s
+performedOf Resume d c s = inPhase Erasing (withoutBits (s .status) (SR7 + SR6)) s
 performedOf Ignore d c s = s
 performedOf Refuse d c s = s

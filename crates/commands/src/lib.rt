@@ -6,11 +6,28 @@ use chip::Phase;
 use chip::State;
 use chip::levels::locked;
 use chip::levels::vpp_low;
+use chip::states::SR3;
+use chip::states::SR4;
+use chip::states::SR5;
+use chip::states::SR6;
+use chip::states::SR7;
 use chip::states::at_rest;
 use device::Device;
 use device::Part;
 ghost use mathlib.Core.Path.{_≡_};
 ghost use Rattle.commands.specs.Commands.{firstWrite, afterErase, whileErasing, whileSuspended, actionOf, isRefuse, inMode, inPhase, withStatus, unsupplied, startedOf, performedOf};
+
+// What is set: by a wrong second write, and by a suspend.
+const ERRORS: u8 = SR5 + SR4;
+
+const HELD: u8 = SR7 + SR6;
+
+// What is kept: by a start, by a resume, and by 50H.
+const BUSY: u8 = 0xFF - SR7;
+
+const RESUMED: u8 = 0xFF - SR7 - SR6;
+
+const CLEARED: u8 = 0xFF - SR5 - SR4 - SR3;
 
 fn first_write(b: u8) -> Action
     ensures { λ r. ⌜ r ≡ firstWrite b ⌝ }
@@ -146,7 +163,7 @@ fn unsupplied(part: Part, c: Cycle, s: State) -> bool
     ensures { λ r. ⌜ r ≡ unsupplied part c s ⌝ }
 {
     let p = c.pins;
-    vpp_low(part, p) | !(s.status / 8 % 2 == 0)
+    vpp_low(part, p) | !(s.status / SR3 % 2 == 0)
 }
 
 // A confirm or data: the operation starts, or the error bits say why not.
@@ -155,14 +172,14 @@ fn begin(part: Part, c: Cycle, s: State, ph: Phase, time: u16, bit: u8) -> State
 {
     let m = s.mode;
     if unsupplied(part, c, s) {
-        return at_rest(m, s.status | 8 | bit);
+        return at_rest(m, s.status | SR3 | bit);
     }
     if locked(part, c) {
         return at_rest(m, s.status | bit);
     }
     State {
         mode: m,
-        status: s.status & 127,
+        status: s.status & BUSY,
         phase: ph,
         left: time,
         address: c.address,
@@ -178,17 +195,17 @@ pub fn perform(a: Action, d: Device, c: Cycle, s: State) -> State
         Action::ToArray => in_mode(Mode::Array, s),
         Action::ToIdentifier => in_mode(Mode::Identifier, s),
         Action::ToStatus => in_mode(Mode::Status, s),
-        Action::Clear => with_status(s.status & 199, s),
+        Action::Clear => with_status(s.status & CLEARED, s),
         Action::AwaitErase => in_phase(Phase::EraseAwaited, s.status, s),
         Action::AwaitData => in_phase(Phase::DataAwaited, s.status, s),
-        Action::Confirm => begin(part, c, s, Phase::Erasing, d.erase, 32),
-        Action::Store => begin(part, c, s, Phase::Programming(c.byte), d.program, 16),
+        Action::Confirm => begin(part, c, s, Phase::Erasing, d.erase, SR5),
+        Action::Store => begin(part, c, s, Phase::Programming(c.byte), d.program, SR4),
         Action::WrongSecond => {
             let m = s.mode;
-            at_rest(m, s.status | 48)
+            at_rest(m, s.status | ERRORS)
         }
-        Action::Suspend => in_phase(Phase::Suspended, s.status | 192, s),
-        Action::Resume => in_phase(Phase::Erasing, s.status & 63, s),
+        Action::Suspend => in_phase(Phase::Suspended, s.status | HELD, s),
+        Action::Resume => in_phase(Phase::Erasing, s.status & RESUMED, s),
         Action::Ignore => s,
         Action::Refuse => s,
     }

@@ -6,7 +6,7 @@ use Prim.Native.Nat.{ℕ, _+_, _≤_, _<_}
 use Rattle.cells.specs.Choice.{Unique}
 use Rattle.cells.proofs.Choice.{only}
 use Rattle.device.specs.Blocks.{total, lengthAt, offsetAt, holder, Lies}
-use Rattle.device.specs.Parts.{shapeOf, sizeIn, lengthIn, offsetIn, startIn, Holds, unknownPart, unknownDevice, sizeOf, lengthOf, startOf, blockOf, codeOf, countOf, countIn, tableRow}
+use Rattle.device.specs.Parts.{shapeOf, sizeIn, lengthIn, offsetIn, startIn, Holds, unknownPart, unknownDevice, sizeOf, lengthOf, startOf, blockOf, codeOf, tableRow}
 use Rattle.device.specs.declared.Part.{Part}
 use Rattle.device.specs.declared.Device.{Device}
 use Rattle.device.proofs.Cover.{covered, alone, ends-inside}
@@ -35,14 +35,14 @@ pub blocks-end-inside : (p : Part) (k : ℕ) → startOf p k + lengthOf p k ≤ 
 unfolding startOf lengthOf sizeOf
 blocks-end-inside p k = fits (shapeOf p) k
 
--- The table of the four devices: each block's first and last address, outward from the boot block, then the size, the number
--- of blocks and the identifier code.
+-- The table of the four devices: each block's first and last address, outward from the boot block, then the size and the
+-- identifier code.
 pub four-devices :
-    (tableRow 1 ≡ 0x1E000 ∷ 0x1FFFF ∷ 0x1D000 ∷ 0x1DFFF ∷ 0x1C000 ∷ 0x1CFFF ∷ 0x00000 ∷ 0x1BFFF ∷ 131072 ∷ 4 ∷ 0x94 ∷ [])
-    × (tableRow 2 ≡ 0x00000 ∷ 0x01FFF ∷ 0x02000 ∷ 0x02FFF ∷ 0x03000 ∷ 0x03FFF ∷ 0x04000 ∷ 0x1FFFF ∷ 131072 ∷ 4 ∷ 0x95 ∷ [])
-    × (tableRow 3 ≡ 0x3C00 ∷ 0x3FFF ∷ 0x3A00 ∷ 0x3BFF ∷ 0x3800 ∷ 0x39FF ∷ 0x0000 ∷ 0x37FF ∷ 16384 ∷ 4 ∷ 0x94 ∷ [])
-    × (tableRow 4 ≡ 0x0000 ∷ 0x03FF ∷ 0x0400 ∷ 0x05FF ∷ 0x0600 ∷ 0x07FF ∷ 0x0800 ∷ 0x3FFF ∷ 16384 ∷ 4 ∷ 0x95 ∷ [])
-unfolding shapeOf sizeOf lengthOf startOf codeOf countOf sizeIn lengthIn offsetIn startIn countIn
+    (tableRow 1 ≡ 0x1E000 ∷ 0x1FFFF ∷ 0x1D000 ∷ 0x1DFFF ∷ 0x1C000 ∷ 0x1CFFF ∷ 0x00000 ∷ 0x1BFFF ∷ 131072 ∷ 0x94 ∷ [])
+    × (tableRow 2 ≡ 0x00000 ∷ 0x01FFF ∷ 0x02000 ∷ 0x02FFF ∷ 0x03000 ∷ 0x03FFF ∷ 0x04000 ∷ 0x1FFFF ∷ 131072 ∷ 0x95 ∷ [])
+    × (tableRow 3 ≡ 0x3C00 ∷ 0x3FFF ∷ 0x3A00 ∷ 0x3BFF ∷ 0x3800 ∷ 0x39FF ∷ 0x0000 ∷ 0x37FF ∷ 16384 ∷ 0x94 ∷ [])
+    × (tableRow 4 ≡ 0x0000 ∷ 0x03FF ∷ 0x0400 ∷ 0x05FF ∷ 0x0600 ∷ 0x07FF ∷ 0x0800 ∷ 0x3FFF ∷ 16384 ∷ 0x95 ∷ [])
+unfolding shapeOf sizeOf lengthOf startOf codeOf sizeIn lengthIn offsetIn startIn
 four-devices = (refl, refl, refl, refl)
 
 -- Two results that a promise allows are equal, for each public function.
@@ -66,6 +66,3 @@ block-of-unique p a = only (blockOf p a)
 
 pub code-unique : (p : Part) → Unique (λ (r : ℕ). r ≡ codeOf p)
 code-unique p = only (codeOf p)
-
-pub blocks-unique : (p : Part) → Unique (λ (r : ℕ). r ≡ countOf p)
-blocks-unique p = only (countOf p)

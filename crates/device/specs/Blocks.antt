@@ -2,7 +2,7 @@
 use mathlib.Core.List.{List, [], _∷_}
 use Prim.Native.Nat.{ℕ, zero, suc, _+_, _-_, _≤_, _<_}
 use lib.ListN.{getD}
-use lib.Dec.{ltb, eqb}
+use lib.Dec.{ltb}
 use Rattle.cells.specs.Choice.{if_then_else_}
 
 -- the bytes of all blocks together
@@ -24,11 +24,6 @@ offsetAt (l ∷ ls) (suc k) = l + offsetAt ls k
 abbrev pub holder : List ℕ → ℕ → ℕ
 holder [] p = 0
 holder (l ∷ ls) p = if ltb p l then 0 else suc (holder ls (p - l))
-
--- how many blocks have any bytes
-abbrev pub count : List ℕ → ℕ
-count [] = 0
-count (l ∷ ls) = (if eqb l 0 then 0 else 1) + count ls
 
 -- the byte at place p lies in block k
 pub record Lies (ls : List ℕ) (k p : ℕ) : Type 0 where

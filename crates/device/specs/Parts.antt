@@ -4,7 +4,7 @@ use mathlib.Core.List.{List, [], _∷_}
 use Prim.Native.Nat.{ℕ, _+_, _-_, _≤_, _<_}
 use lib.Dec.{eqb, ltb}
 use Rattle.cells.specs.Choice.{if_then_else_}
-use Rattle.device.specs.Blocks.{total, lengthAt, offsetAt, holder, count}
+use Rattle.device.specs.Blocks.{total, lengthAt, offsetAt, holder}
 use Rattle.device.specs.declared.Part.{Part}
 use Rattle.device.specs.declared.Device.{Device}
 use Rattle.device.specs.declared.Shape.{Shape}
@@ -17,10 +17,10 @@ fourOf boot parameter main top code =
 -- the table of parts: 28F001BX-T, 28F001BX-B, bench T, bench B
 unfoldable pub shapeOf : Part → Shape
 shapeOf p =
-    if eqb (p .number) 1 then fourOf 8192 4096 114688 true 148
-    else if eqb (p .number) 2 then fourOf 8192 4096 114688 false 149
-    else if eqb (p .number) 3 then fourOf 1024 512 14336 true 148
-    else fourOf 1024 512 14336 false 149
+    if eqb (p .number) 1 then fourOf 8192 4096 114688 true 0x94
+    else if eqb (p .number) 2 then fourOf 8192 4096 114688 false 0x95
+    else if eqb (p .number) 3 then fourOf 1024 512 14336 true 0x94
+    else fourOf 1024 512 14336 false 0x95
 
 -- the block lengths of a description, outward from the boot block
 abbrev pub lengthsOf : Shape → List ℕ
@@ -41,10 +41,6 @@ offsetIn s k = offsetAt (lengthsOf s) k
 -- the block at a place counted from the boot end
 unfoldable pub holderIn : Shape → ℕ → ℕ
 holderIn s p = holder (lengthsOf s) p
-
--- how many blocks there are
-unfoldable pub countIn : Shape → ℕ
-countIn s = count (lengthsOf s)
 
 -- a place counted from the boot end, as an address, and an address as such a place: at the top they run against each other
 unfoldable pub turned : Bool → ℕ → ℕ → ℕ
@@ -91,17 +87,13 @@ blockOf p a = blockIn (shapeOf p) a
 unfoldable pub codeOf : Part → ℕ
 codeOf p = shapeOf p .code
 
--- how many blocks the part has
-unfoldable pub countOf : Part → ℕ
-countOf p = countIn (shapeOf p)
-
 -- the last address of block k
 abbrev pub lastOf : Part → ℕ → ℕ
 lastOf p k = startOf p k + lengthOf p k - 1
 
--- a device's row in the table of the four: each block's first and last address, outward from the boot block, then the size, the
--- number of blocks and the identifier code
+-- a device's row in the table of the four: each block's first and last address, outward from the boot block, then the size and the
+-- identifier code
 abbrev pub tableRow : ℕ → List ℕ
 tableRow n =
     let p : Part = record { number = n } in
-    startOf p 0 ∷ lastOf p 0 ∷ startOf p 1 ∷ lastOf p 1 ∷ startOf p 2 ∷ lastOf p 2 ∷ startOf p 3 ∷ lastOf p 3 ∷ sizeOf p ∷ countOf p ∷ codeOf p ∷ []
+    startOf p 0 ∷ lastOf p 0 ∷ startOf p 1 ∷ lastOf p 1 ∷ startOf p 2 ∷ lastOf p 2 ∷ startOf p 3 ∷ lastOf p 3 ∷ sizeOf p ∷ codeOf p ∷ []

@@ -1,9 +1,7 @@
 // The parts we load: size, blocks and identifier, each derived from one short description of a part.
 ghost use mathlib.Core.Path.{_≡_};
-ghost use Prim.Native.Nat.{_-_, _≤_};
-ghost use lib.Dec.{eqb};
-ghost use Rattle.cells.specs.Choice.{if_then_else_};
-ghost use Rattle.device.specs.Parts.{fourOf, shapeOf, sizeIn, lengthIn, offsetIn, holderIn, countIn, turned, startIn, blockIn, unknownPart, unknownDevice, sizeOf, lengthOf, startOf, blockOf, codeOf, countOf};
+ghost use Prim.Native.Nat.{_-_};
+ghost use Rattle.device.specs.Parts.{fourOf, shapeOf, sizeIn, lengthIn, offsetIn, holderIn, turned, startIn, blockIn, unknownPart, unknownDevice, sizeOf, lengthOf, startOf, blockOf, codeOf};
 
 // What a loader knows of the flash: its number, 1 to 4.
 pub struct Part {
@@ -48,16 +46,6 @@ fn less(a: usize, b: usize) -> usize
     a - b
 }
 
-// One where a length is not zero.
-fn one(l: u32) -> u8
-    ensures { λ r. ⌜ (r ≡ (if eqb l 0 then 0 else 1)) × (r ≤ 1) ⌝ }
-{
-    if l == 0 {
-        return 0;
-    }
-    1
-}
-
 fn four(boot: u32, parameter: u32, main: u32, top: bool, code: u8) -> Shape
     ensures { λ r. ⌜ r ≡ fourOf boot parameter main top code ⌝ }
 {
@@ -80,15 +68,15 @@ fn describe(p: Part) -> Shape
 {
     let n = p.number;
     if n == 1 {
-        return four(8192, 4096, 114688, true, 148);
+        return four(8192, 4096, 114688, true, 0x94);
     }
     if n == 2 {
-        return four(8192, 4096, 114688, false, 149);
+        return four(8192, 4096, 114688, false, 0x95);
     }
     if n == 3 {
-        return four(1024, 512, 14336, true, 148);
+        return four(1024, 512, 14336, true, 0x94);
     }
-    four(1024, 512, 14336, false, 149)
+    four(1024, 512, 14336, false, 0x95)
 }
 
 fn sum(s: Shape) -> usize
@@ -232,14 +220,6 @@ fn block_at(s: Shape, address: u32) -> u8
     holder_at(s, turn(top, sum(s), wide(address)))
 }
 
-// How many blocks a description has.
-fn number(s: Shape) -> u8
-    ensures { λ r. ⌜ r ≡ countIn s ⌝ }
-{
-    one(s.l0)
-        + (one(s.l1) + (one(s.l2) + (one(s.l3) + (one(s.l4) + (one(s.l5) + (one(s.l6) + 0))))))
-}
-
 // Refusal 1 of a part alone.
 pub fn unknown_part(p: Part) -> bool
     ensures { λ r. ⌜ r ≡ unknownPart p ⌝ }
@@ -288,11 +268,4 @@ pub fn code(p: Part) -> u8
 {
     let s = describe(p);
     s.code
-}
-
-// How many blocks the part has.
-pub fn blocks(p: Part) -> u8
-    ensures { λ r. ⌜ r ≡ countOf p ⌝ }
-{
-    number(describe(p))
 }

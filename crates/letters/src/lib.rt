@@ -12,10 +12,10 @@ ghost use Rattle.letters.specs.Letters.{modeBy, phaseBy, modeLetter, pha
 pub fn mode_by(letter: u8) -> Mode
     ensures { λ r. ⌜ r ≡ modeBy letter ⌝ }
 {
-    if letter == 65 {
+    if letter == b'A' {
         return Mode::Array;
     }
-    if letter == 83 {
+    if letter == b'S' {
         return Mode::Status;
     }
     Mode::Identifier
@@ -25,19 +25,19 @@ pub fn mode_by(letter: u8) -> Mode
 pub fn phase_by(letter: u8, byte: u8) -> Phase
     ensures { λ r. ⌜ r ≡ phaseBy letter byte ⌝ }
 {
-    if letter == 70 {
+    if letter == b'F' {
         return Phase::Free;
     }
-    if letter == 67 {
+    if letter == b'C' {
         return Phase::EraseAwaited;
     }
-    if letter == 68 {
+    if letter == b'D' {
         return Phase::DataAwaited;
     }
-    if letter == 80 {
+    if letter == b'P' {
         return Phase::Programming(byte);
     }
-    if letter == 69 {
+    if letter == b'E' {
         return Phase::Erasing;
     }
     Phase::Suspended
@@ -47,9 +47,9 @@ pub fn mode_letter(mode: Mode) -> u8
     ensures { λ r. ⌜ r ≡ modeLetter mode ⌝ }
 {
     match mode {
-        Mode::Array => 65,
-        Mode::Status => 83,
-        Mode::Identifier => 73,
+        Mode::Array => b'A',
+        Mode::Status => b'S',
+        Mode::Identifier => b'I',
     }
 }
 
@@ -57,12 +57,12 @@ pub fn phase_letter(phase: Phase) -> u8
     ensures { λ r. ⌜ r ≡ phaseLetter phase ⌝ }
 {
     match phase {
-        Phase::Free => 70,
-        Phase::EraseAwaited => 67,
-        Phase::DataAwaited => 68,
-        Phase::Programming(_) => 80,
-        Phase::Erasing => 69,
-        Phase::Suspended => 83,
+        Phase::Free => b'F',
+        Phase::EraseAwaited => b'C',
+        Phase::DataAwaited => b'D',
+        Phase::Programming(_) => b'P',
+        Phase::Erasing => b'E',
+        Phase::Suspended => b'S',
     }
 }
 

@@ -15,20 +15,20 @@ pub enum LineRead {
 fn is_digit(b: u8) -> bool
     ensures { λ r. ⌜ r ≡ isDigit b ⌝ }
 {
-    (48 <= b) & (b <= 57)
+    (b'0' <= b) & (b <= b'9')
 }
 
 // Capitals only.
 fn is_hex(b: u8) -> bool
     ensures { λ r. ⌜ r ≡ isHex b ⌝ }
 {
-    is_digit(b) | (65 <= b) & (b <= 70)
+    is_digit(b) | (b'A' <= b) & (b <= b'F')
 }
 
 fn is_kind(b: u8) -> bool
     ensures { λ r. ⌜ r ≡ isKind b ⌝ }
 {
-    (b == 82) | (b == 87) | (b == 73)
+    (b == b'R') | (b == b'W') | (b == b'I')
 }
 
 // Kind, RP# and OE#, each with its space.
@@ -36,11 +36,11 @@ fn good_front(line: &[u8]) -> bool
     ensures { λ r. ⌜ r ≡ goodFront (now (line .entry)) ⌝ }
 {
     is_kind(cells::nth(line, 0))
-        & (cells::nth(line, 1) == 32)
+        & (cells::nth(line, 1) == b' ')
         & is_digit(cells::nth(line, 2))
-        & (cells::nth(line, 3) == 32)
+        & (cells::nth(line, 3) == b' ')
         & is_digit(cells::nth(line, 4))
-        & (cells::nth(line, 5) == 32)
+        & (cells::nth(line, 5) == b' ')
 }
 
 // VPP and its space.
@@ -52,7 +52,7 @@ fn good_supply(line: &[u8]) -> bool
         & is_digit(cells::nth(line, 8))
         & is_digit(cells::nth(line, 9))
         & is_digit(cells::nth(line, 10))
-        & (cells::nth(line, 11) == 32)
+        & (cells::nth(line, 11) == b' ')
 }
 
 // The address and its space.
@@ -63,14 +63,14 @@ fn good_address(line: &[u8]) -> bool
         & is_hex(cells::nth(line, 13))
         & is_hex(cells::nth(line, 14))
         & is_hex(cells::nth(line, 15))
-        & (cells::nth(line, 16) == 32)
+        & (cells::nth(line, 16) == b' ')
 }
 
 // Data and the newline.
 fn good_back(line: &[u8]) -> bool
     ensures { λ r. ⌜ r ≡ goodBack (now (line .entry)) ⌝ }
 {
-    is_hex(cells::nth(line, 17)) & is_hex(cells::nth(line, 18)) & (cells::nth(line, 19) == 10)
+    is_hex(cells::nth(line, 17)) & is_hex(cells::nth(line, 18)) & (cells::nth(line, 19) == b'\n')
 }
 
 // Whether 20 bytes are a line of the documented form.
@@ -84,10 +84,10 @@ pub fn is_line(line: &[u8]) -> bool
 fn kind_of(b: u8) -> Kind
     ensures { λ r. ⌜ r ≡ kindOf b ⌝ }
 {
-    if b == 82 {
+    if b == b'R' {
         return Kind::Read;
     }
-    if b == 87 {
+    if b == b'W' {
         return Kind::Write;
     }
     Kind::Idle
@@ -106,11 +106,14 @@ fn digit(b: u8) -> u32
     (b % 16) as u32
 }
 
+// Where the letters among the digits begin.
+const LETTERS: u32 = b'A' as u32;
+
 fn hex(b: u8) -> u32
     ensures { λ r. ⌜ (r ≡ hexOf b) × (r < 16) ⌝ }
 {
     let n = b as u32;
-    if n < 65 {
+    if n < LETTERS {
         return n % 16;
     }
     (n + 9) % 16

@@ -20,17 +20,17 @@ endedBy l n = at l (Ended n) (l .place) 0
 
 -- SR.7 of a status
 abbrev pub isReady : ℕ → Bool
-isReady sr = leb 128 sr
+isReady sr = leb 0x80 sr
 
 -- bit k of a status as a test: SR.3, SR.4, SR.5
 abbrev pub sr3 : ℕ → Bool
-sr3 sr = eqb (sr / 8 % 2) 1
+sr3 sr = eqb (sr / 0x08 % 2) 1
 
 abbrev pub sr4 : ℕ → Bool
-sr4 sr = eqb (sr / 16 % 2) 1
+sr4 sr = eqb (sr / 0x10 % 2) 1
 
 abbrev pub sr5 : ℕ → Bool
-sr5 sr = eqb (sr / 32 % 2) 1
+sr5 sr = eqb (sr / 0x20 % 2) 1
 
 -- SR.4 and SR.5 together: a wrong second write
 unfoldable pub bothErrors : ℕ → Bool

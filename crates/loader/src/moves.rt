@@ -3,6 +3,10 @@ use crate::Loader;
 use crate::Stage;
 use crate::walk::diff_from;
 use crate::walk::rises_in;
+use chip::states::SR3;
+use chip::states::SR4;
+use chip::states::SR5;
+use chip::states::SR7;
 ghost use mathlib.Core.Path.{_≡_};
 ghost use Prim.Native.Nat.{_-_};
 ghost use Rattle.loader.specs.Moves.{at, endedBy, isReady, sr3, sr4, sr5, bothErrors, eraseFault, programFault, onward, afterReads, readMore, pollMore, erasePolled, past, programPolled, verifyMore, nextIn};
@@ -32,25 +36,25 @@ pub fn ended_by(l: Loader, n: u8) -> Loader
 pub fn is_ready(b: u8) -> bool
     ensures { λ r. ⌜ r ≡ isReady b ⌝ }
 {
-    128 <= b
+    SR7 <= b
 }
 
 fn supply_fault(b: u8) -> bool
     ensures { λ r. ⌜ r ≡ sr3 b ⌝ }
 {
-    b / 8 % 2 == 1
+    b / SR3 % 2 == 1
 }
 
 fn program_error(b: u8) -> bool
     ensures { λ r. ⌜ r ≡ sr4 b ⌝ }
 {
-    b / 16 % 2 == 1
+    b / SR4 % 2 == 1
 }
 
 fn erase_error(b: u8) -> bool
     ensures { λ r. ⌜ r ≡ sr5 b ⌝ }
 {
-    b / 32 % 2 == 1
+    b / SR5 % 2 == 1
 }
 
 fn both_errors(b: u8) -> bool

@@ -16,16 +16,17 @@ use Rattle.chip.specs.declared.Cycle.{Cycle}
 use Rattle.chip.specs.declared.Kind.the-variants.{Read}
 use Rattle.chip.specs.declared.Effect.{Effect}
 use Rattle.chip.specs.declared.Effect.the-variants.{Nothing}
-use Rattle.chip.specs.declared.Reply.the-variants.{Gives}
-use Rattle.chip.specs.States.{improper, isBusy, freshState, resetOf}
+use Rattle.chip.specs.Levels.{rpLow}
+use Rattle.chip.specs.States.{improper, freshState, resetOf}
 use Rattle.settling.specs.Settling.{settleOf}
-use Rattle.bus.specs.Cycles.{tableOf, numberOf, judgeOf, decideOf, respondOf}
+use Rattle.bus.specs.Cycles.{tableOf, numberOf, judgeOf, decideOf}
 use Rattle.bus.proofs.Facts.{proper-parts, parts-proper}
-use Rattle.model.specs.declared.Seen.the-variants.{Refused}
+use Rattle.model.specs.declared.Seen.the-variants.{Byte, Refused}
 use Rattle.model.specs.declared.Answer.{Answer}
-use Rattle.model.specs.Arrays.{isRefusal, answerOf, arrayAfter}
-use Rattle.model.specs.Passed.{passedOf, arrayPassed, programmedAt, erasedAt}
-use Rattle.model.specs.Begun.{operationOf, pendingOf, startsOf, begunBy, isAwaited, begunFrom}
+use Rattle.model.specs.Arrays.{Accepted, answerOf, arrayAfter}
+use Rattle.model.specs.Inner.{answerJudged, arrayJudged, programmedAt, erasedAt}
+use Rattle.model.specs.Begun.{operationOf, pendingOf, startsOf, begunBy, begunFrom}
+use Rattle.chip.specs.Phases.{isBusy, isAwaited}
 use Rattle.model.proofs.Keeping as keeping
 use Rattle.model.proofs.Lives as lives
 use Rattle.model.proofs.Contents as contents
@@ -38,8 +39,8 @@ pub refused-exactly : (d : Device) (s : State) (c : Cycle) (xs rs : List ℕ) (m
 refused-exactly = table.host-numbers
 
 -- It is accepted exactly where none of the nine conditions holds.
-pub accepted-exactly : (d : Device) (s : State) (c : Cycle) (n r : ℕ) → (isRefusal (decideOf d s c n r .reply) ≡ false) ↔ NoRow (tableOf d s c n r)
-accepted-exactly = table.accepted-exactly
+pub accepted-exactly : (d : Device) (s : State) (c : Cycle) (xs rs : List ℕ) → Accepted (answerOf d s c xs rs) ↔ NoRow (tableOf d s c (length xs) (length rs))
+accepted-exactly = table.host-accepted
 
 -- A refused cycle has not happened: state and array are as before. (The answer is the refusal, so no data is given.)
 pub refused-nothing : (d : Device) (s : State) (c : Cycle) (xs rs : List ℕ) (m : ℕ) → answerOf d s c xs rs .seen ≡ Refused m
@@ -55,10 +56,17 @@ unfolding answerOf
 stays-proper d s c xs rs p =
     parts-proper d (decideOf d s c (length xs) (length rs) .state) (keeping.cycle-proper d s c (length xs) (length rs) (proper-parts d s p))
 
--- While an operation is busy, every read gives the status.
-pub busy-read : (d : Device) (s : State) (c : Cycle) → improper d s ≡ false → isBusy (settleOf (d .part) s (c .pins) .state .phase) ≡ true
-    → respondOf Read d c (settleOf (d .part) s (c .pins)) .reply ≡ Gives (settleOf (d .part) s (c .pins) .state .status)
-busy-read d s c p = keeping.busy-read d s c (proper-parts d s p)
+-- Every accepted read with RP# up shows the status register while an operation is busy: still busy after steps 1 to 3 ..
+pub busy-read : (d : Device) (s : State) (c : Cycle) (xs rs : List ℕ) → Accepted (answerOf d s c xs rs) → c .kind ≡ Read → rpLow (c .pins) ≡ false
+    → isBusy (settleOf (d .part) s (c .pins) .state .phase) ≡ true
+    → answerOf d s c xs rs .seen ≡ Byte (answerOf d s c xs rs .state .status)
+busy-read = table.busy-read
+
+-- .. or busy in the state that was handed in, on the cycle too where the operation ends or VPP falls.
+pub busy-read-ending : (d : Device) (s : State) (c : Cycle) (xs rs : List ℕ) → Accepted (answerOf d s c xs rs) → c .kind ≡ Read → rpLow (c .pins) ≡ false
+    → isBusy (s .phase) ≡ true
+    → answerOf d s c xs rs .seen ≡ Byte (answerOf d s c xs rs .state .status)
+busy-read-ending = table.busy-read-ending
 
 -- The array keeps its length, and its bytes stay bytes.
 pub keeps-length : (d : Device) (s : State) (c : Cycle) (xs rs : List ℕ) → length (arrayAfter d s c xs rs) ≡ length xs
@@ -88,11 +96,11 @@ pub conserved : (f : Effect → ℕ) → f Nothing ≡ 0 → (d : Device) (s : S
 conserved = lives.conserved
 
 -- What refusals 1 to 6 let pass is answered by `passed`, and the array is left as it leaves it.
-pub passed-answer : (d : Device) (s : State) (c : Cycle) (xs rs : List ℕ) → judgeOf d s c (length xs) (length rs) ≡ 0 → passedOf d s c xs rs ≡ answerOf d s c xs rs
-passed-answer = passing.passed-answer
+pub judged-answer : (d : Device) (s : State) (c : Cycle) (xs rs : List ℕ) → judgeOf d s c (length xs) (length rs) ≡ 0 → answerJudged d s c xs rs ≡ answerOf d s c xs rs
+judged-answer = passing.judged-answer
 
-pub passed-array : (d : Device) (s : State) (c : Cycle) (xs rs : List ℕ) → judgeOf d s c (length xs) (length rs) ≡ 0 → arrayPassed d s c xs rs ≡ arrayAfter d s c xs rs
-passed-array = passing.passed-array
+pub judged-array : (d : Device) (s : State) (c : Cycle) (xs rs : List ℕ) → judgeOf d s c (length xs) (length rs) ≡ 0 → arrayJudged d s c xs rs ≡ arrayAfter d s c xs rs
+judged-array = passing.judged-array
 
 -- Two results that a promise allows are equal, and so are two arrays that it leaves.
 pub cycle-unique : (d : Device) (s : State) (c : Cycle) (xs rs : List ℕ) → Unique (λ (r : Answer). r ≡ answerOf d s c xs rs)
@@ -107,11 +115,11 @@ fresh-unique = only freshState
 pub reset-unique : (s : State) → Unique (λ (r : State). r ≡ resetOf s)
 reset-unique s = only (resetOf s)
 
-pub passed-unique : (d : Device) (s : State) (c : Cycle) (xs rs : List ℕ) → Unique (λ (r : Answer). r ≡ passedOf d s c xs rs)
-passed-unique d s c xs rs = only (passedOf d s c xs rs)
+pub after-judging-unique : (d : Device) (s : State) (c : Cycle) (xs rs : List ℕ) → Unique (λ (r : Answer). r ≡ answerJudged d s c xs rs)
+after-judging-unique d s c xs rs = only (answerJudged d s c xs rs)
 
-pub passed-array-unique : (d : Device) (s : State) (c : Cycle) (xs rs : List ℕ) → Unique (λ (left : List ℕ). left ≡ arrayPassed d s c xs rs)
-passed-array-unique d s c xs rs = only (arrayPassed d s c xs rs)
+pub after-judging-array-unique : (d : Device) (s : State) (c : Cycle) (xs rs : List ℕ) → Unique (λ (left : List ℕ). left ≡ arrayJudged d s c xs rs)
+after-judging-array-unique d s c xs rs = only (arrayJudged d s c xs rs)
 
 pub program-at-unique : (a b : ℕ) (xs : List ℕ) → Unique (λ (left : List ℕ). left ≡ programmedAt a b xs)
 program-at-unique a b xs = only (programmedAt a b xs)

@@ -1,11 +1,11 @@
 -- Proper stays proper: through settling, through an action, through a cycle. Assumes nothing.
-use mathlib.Core.Path.{_≡_, refl, sym, ap, subst}
+use mathlib.Core.Path.{_≡_, refl, sym, subst, _∙_}
 use mathlib.Core.Bool.{Bool, true, false, not, _&&_, _||_}
 use Prim.Native.Nat.{ℕ, _-_, _≤_, _<_}
 use native.Mathlib.Omega.{arith}
 use lib.Bits.{bitAnd, bitOr}
 use lib.Dec.{eqb, ltb, leb}
-use borrow.Author.Tests.{leb-false, ltb-false, eqb-false, ne-eqb, le-ltb}
+use borrow.Author.Tests.{ltb-false, eqb-false, ne-eqb, le-ltb}
 use Rattle.cells.proofs.Choice.{if-ind, and-right, or-left, or-right, or-both, unlike}
 use Rattle.device.specs.declared.Device.{Device}
 use Rattle.device.specs.Parts.{sizeOf, unknownDevice, unknownPart}
@@ -21,11 +21,12 @@ use Rattle.chip.specs.declared.Mode.the-variants.{Array, Status, Identifier}
 use Rattle.chip.specs.declared.Phase.{Phase}
 use Rattle.chip.specs.declared.Phase.the-variants.{Free, EraseAwaited, DataAwaited, Programming, Erasing, Suspended}
 use Rattle.chip.specs.Levels.{rpLow, vppLow, locked}
-use Rattle.chip.specs.States.{badMode, badStatus, badLeft, badAddress, isPending, isBusy, topBits, atRest, freshState}
+use Rattle.chip.specs.States.{atRest, freshState}
+use Rattle.chip.specs.Inner.{badMode, badStatus, badLeft, badAddress, topBits}
+use Rattle.chip.specs.Phases.{isPending, isBusy}
 use Rattle.commands.specs.Commands.{firstWrite, afterErase, whileErasing, whileSuspended, actionOf, performedOf, startedOf, unsupplied}
 use Rattle.settling.specs.Settling.{cutBits, cutBy, countedOff, settleOf}
-use Rattle.chip.specs.declared.Reply.the-variants.{Gives}
-use Rattle.bus.specs.Cycles.{pastArray, decideOf, acceptOf, respondOf, readOf}
+use Rattle.bus.specs.Cycles.{pastArray, decideOf, acceptOf, respondOf}
 use Rattle.bus.proofs.Facts.{Proper, Fine}
 use Rattle.model.proofs.Outcome.{outcome, accept-ways}
 use Rattle.model.proofs.Status as sr
@@ -41,15 +42,15 @@ unfolding badLeft badAddress
 rest-proper d m x e = record { mode = refl; status = fits-status Free x e; left = refl; address = refl }
 
 pub fresh-proper : (d : Device) → Proper d freshState
-fresh-proper d = rest-proper d Array 128 refl
+fresh-proper d = rest-proper d Array 0x80 refl
 
-cut-status : (ph : Phase) → isPending ph ≡ true → (x : ℕ) → fits (topBits ph) x ≡ true → fits 2 (bitOr (bitAnd x 191) (cutBits ph)) ≡ true
+cut-status : (ph : Phase) → isPending ph ≡ true → (x : ℕ) → fits (topBits ph) x ≡ true → fits 2 (bitOr (bitAnd x 0xBF) (cutBits ph)) ≡ true
 cut-status Free p x e = absurd (unlike (sym p))
 cut-status EraseAwaited p x e = absurd (unlike (sym p))
 cut-status DataAwaited p x e = absurd (unlike (sym p))
-cut-status (Programming b) p x e = kept (λ y. bitOr (bitAnd y 191) 152) 0 2 (omega arith) sr.cut-program x e
-cut-status Erasing p x e = kept (λ y. bitOr (bitAnd y 191) 168) 0 2 (omega arith) sr.cut-erase x e
-cut-status Suspended p x e = kept (λ y. bitOr (bitAnd y 191) 168) 3 2 (omega arith) sr.cut-suspended x e
+cut-status (Programming b) p x e = kept (λ y. bitOr (bitAnd y 0xBF) 0x98) 0 2 (omega arith) sr.cut-program x e
+cut-status Erasing p x e = kept (λ y. bitOr (bitAnd y 0xBF) 0xA8) 0 2 (omega arith) sr.cut-erase x e
+cut-status Suspended p x e = kept (λ y. bitOr (bitAnd y 0xBF) 0xA8) 3 2 (omega arith) sr.cut-suspended x e
 
 busy-top : (ph : Phase) → isBusy ph ≡ true → topBits ph ≡ 0
 busy-top Free p = absurd (unlike (sym p))
@@ -60,13 +61,12 @@ busy-top Erasing p = refl
 busy-top Suspended p = absurd (unlike (sym p))
 
 -- one cycle counted off leaves a count in range
-one-less : (most l : ℕ) → leb l 1 ≡ false → (eqb l 0 || ltb most l) ≡ false → (eqb (l - 1) 0 || ltb most (l - 1)) ≡ false
+one-less : (most l : ℕ) → eqb (l - 1) 0 ≡ false → (eqb l 0 || ltb most l) ≡ false → (eqb (l - 1) 0 || ltb most (l - 1)) ≡ false
 one-less most l h e =
-    let g : 1 < l = leb-false l 1 h in
     let m : l ≤ most = ltb-false most l (or-right (eqb l 0) (ltb most l) e) in
-    or-both (eqb (l - 1) 0) (ltb most (l - 1)) (ne-eqb (l - 1) 0 (λ q. omega arith)) (le-ltb most (l - 1) (omega arith))
+    or-both (eqb (l - 1) 0) (ltb most (l - 1)) h (le-ltb most (l - 1) (omega arith))
 
-counted-left : (d : Device) (ph : Phase) (l : ℕ) → isBusy ph ≡ true → leb l 1 ≡ false → badLeft d ph l ≡ false → badLeft d ph (l - 1) ≡ false
+counted-left : (d : Device) (ph : Phase) (l : ℕ) → isBusy ph ≡ true → eqb (l - 1) 0 ≡ false → badLeft d ph l ≡ false → badLeft d ph (l - 1) ≡ false
 unfolding badLeft
 counted-left d Free l p h e = absurd (unlike (sym p))
 counted-left d EraseAwaited l p h e = absurd (unlike (sym p))
@@ -81,12 +81,12 @@ unfolding settleOf cutBy countedOff
 settle-proper d s c p =
     if-ind In (rpLow (c .pins)) _ _ (λ e. fresh-proper d)
     (λ e. if-ind In (vppLow (d .part) (c .pins) && isPending (s .phase)) _ _
-    (λ v. rest-proper d Status (bitOr (bitAnd (s .status) 191) (cutBits (s .phase)))
+    (λ v. rest-proper d Status (bitOr (bitAnd (s .status) 0xBF) (cutBits (s .phase)))
     (cut-status (s .phase) (and-right (vppLow (d .part) (c .pins)) (isPending (s .phase)) v) (s .status) (status-fits (s .phase) (s .status) (p .status))))
     (λ v. if-ind In (isBusy (s .phase)) _ _
-    (λ b. if-ind In (leb (s .left) 1) _ _
-    (λ l. rest-proper d (s .mode) (bitOr (s .status) 128)
-    (kept (λ y. bitOr y 128) 0 2 (omega arith) sr.finish (s .status) (subst (λ (n : ℕ). fits n (s .status) ≡ true) (busy-top (s .phase) b) (status-fits (s .phase) (s .status) (p .status)))))
+    (λ b. if-ind In (eqb (s .left - 1) 0) _ _
+    (λ l. rest-proper d (s .mode) (bitOr (s .status) 0x80)
+    (kept (λ y. bitOr y 0x80) 0 2 (omega arith) sr.finish (s .status) (subst (λ (n : ℕ). fits n (s .status) ≡ true) (busy-top (s .phase) b) (status-fits (s .phase) (s .status) (p .status)))))
     (λ l. record { mode = p .mode; status = p .status; left = counted-left d (s .phase) (s .left) b l (p .left); address = p .address }))
     (λ b. p)))
   where
@@ -94,11 +94,11 @@ settle-proper d s c p =
     In t = Proper d (t .state)
 
 -- a confirm or data, of either operation
-started-proper : (d : Device) (c : Cycle) (s : State) (ph : Phase) (time bit : ℕ) → fits 2 (bitOr (bitOr (s .status) 8) bit) ≡ true → fits 2 (bitOr (s .status) bit) ≡ true
-    → Proper d (st (s .mode) (bitAnd (s .status) 127) ph time (c .address)) → Proper d (startedOf (d .part) c s ph time bit)
+started-proper : (d : Device) (c : Cycle) (s : State) (ph : Phase) (time bit : ℕ) → fits 2 (bitOr (bitOr (s .status) 0x08) bit) ≡ true → fits 2 (bitOr (s .status) bit) ≡ true
+    → Proper d (st (s .mode) (bitAnd (s .status) 0x7F) ph time (c .address)) → Proper d (startedOf (d .part) c s ph time bit)
 unfolding startedOf
 started-proper d c s ph time bit low lock run =
-    if-ind (λ (u : State). Proper d u) (unsupplied (d .part) c s) _ _ (λ e. rest-proper d (s .mode) (bitOr (bitOr (s .status) 8) bit) low)
+    if-ind (λ (u : State). Proper d u) (unsupplied (d .part) c s) _ _ (λ e. rest-proper d (s .mode) (bitOr (bitOr (s .status) 0x08) bit) low)
     (λ e. if-ind (λ (u : State). Proper d u) (locked (d .part) c) _ _ (λ l. rest-proper d (s .mode) (bitOr (s .status) bit) lock) (λ l. run))
 
 full : (most : ℕ) → (most ≡ 0 → ⊥) → (eqb most 0 || ltb most most) ≡ false
@@ -113,7 +113,7 @@ act-proper d c zp ze h m x Free l a p =
     (λ e. if-ind P (eqb (c .byte) 0x90) _ _ (λ e. record { mode = refl; status = p .status; left = p .left; address = p .address })
     (λ e. if-ind P (eqb (c .byte) 0x70) _ _ (λ e. record { mode = refl; status = p .status; left = p .left; address = p .address })
     (λ e. if-ind P (eqb (c .byte) 0x50) _ _
-    (λ e. record { mode = refl; status = fits-status Free (bitAnd x 199) (kept (λ y. bitAnd y 199) 2 2 (omega arith) sr.clear x (status-fits Free x (p .status))); left = p .left; address = p .address })
+    (λ e. record { mode = refl; status = fits-status Free (bitAnd x 0xC7) (kept (λ y. bitAnd y 0xC7) 2 2 (omega arith) sr.clear x (status-fits Free x (p .status))); left = p .left; address = p .address })
     (λ e. if-ind P (eqb (c .byte) 0x20) _ _ (λ e. record { mode = refl; status = p .status; left = p .left; address = p .address })
     (λ e. if-ind P (eqb (c .byte) 0x40) _ _ (λ e. record { mode = refl; status = p .status; left = p .left; address = p .address })
     (λ e. p))))))
@@ -123,25 +123,25 @@ act-proper d c zp ze h m x Free l a p =
 act-proper d c zp ze h m x EraseAwaited l a p =
     let f : fits 2 x ≡ true = status-fits EraseAwaited x (p .status) in
     if-ind (λ (y : Action). Proper d (performedOf y d c (st m x EraseAwaited l a))) (eqb (c .byte) 0xD0) _ _
-    (λ e. started-proper d c (st m x EraseAwaited l a) Erasing (d .erase) 32 (kept (λ y. bitOr (bitOr y 8) 32) 2 2 (omega arith) sr.low-erase x f)
-    (kept (λ y. bitOr y 32) 2 2 (omega arith) sr.locked-erase x f)
-    (record { mode = p .mode; status = fits-status Erasing (bitAnd x 127) (kept (λ y. bitAnd y 127) 2 0 (omega arith) sr.start x f); left = full (d .erase) ze; address = h }))
-    (λ e. rest-proper d m (bitOr x 48) (kept (λ y. bitOr y 48) 2 2 (omega arith) sr.wrong-second x f))
+    (λ e. started-proper d c (st m x EraseAwaited l a) Erasing (d .erase) 0x20 (kept (λ y. bitOr (bitOr y 0x08) 0x20) 2 2 (omega arith) sr.low-erase x f)
+    (kept (λ y. bitOr y 0x20) 2 2 (omega arith) sr.locked-erase x f)
+    (record { mode = p .mode; status = fits-status Erasing (bitAnd x 0x7F) (kept (λ y. bitAnd y 0x7F) 2 0 (omega arith) sr.start x f); left = full (d .erase) ze; address = h }))
+    (λ e. rest-proper d m (bitOr x 0x30) (kept (λ y. bitOr y 0x30) 2 2 (omega arith) sr.wrong-second x f))
 act-proper d c zp ze h m x DataAwaited l a p =
     let f : fits 2 x ≡ true = status-fits DataAwaited x (p .status) in
-    started-proper d c (st m x DataAwaited l a) (Programming (c .byte)) (d .program) 16 (kept (λ y. bitOr (bitOr y 8) 16) 2 2 (omega arith) sr.low-program x f)
-    (kept (λ y. bitOr y 16) 2 2 (omega arith) sr.locked-program x f)
-    (record { mode = p .mode; status = fits-status (Programming (c .byte)) (bitAnd x 127) (kept (λ y. bitAnd y 127) 2 0 (omega arith) sr.start x f); left = full (d .program) zp; address = h })
+    started-proper d c (st m x DataAwaited l a) (Programming (c .byte)) (d .program) 0x10 (kept (λ y. bitOr (bitOr y 0x08) 0x10) 2 2 (omega arith) sr.low-program x f)
+    (kept (λ y. bitOr y 0x10) 2 2 (omega arith) sr.locked-program x f)
+    (record { mode = p .mode; status = fits-status (Programming (c .byte)) (bitAnd x 0x7F) (kept (λ y. bitAnd y 0x7F) 2 0 (omega arith) sr.start x f); left = full (d .program) zp; address = h })
 act-proper d c zp ze h m x (Programming b) l a p = p
 act-proper d c zp ze h m x Erasing l a p =
     if-ind (λ (y : Action). Proper d (performedOf y d c (st m x Erasing l a))) (eqb (c .byte) 0xB0) _ _
-    (λ e. record { mode = refl; status = fits-status Suspended (bitOr x 192) (kept (λ y. bitOr y 192) 0 3 (omega arith) sr.suspend x (status-fits Erasing x (p .status))); left = p .left; address = p .address })
+    (λ e. record { mode = refl; status = fits-status Suspended (bitOr x 0xC0) (kept (λ y. bitOr y 0xC0) 0 3 (omega arith) sr.suspend x (status-fits Erasing x (p .status))); left = p .left; address = p .address })
     (λ e. p)
 act-proper d c zp ze h m x Suspended l a p =
     if-ind P (eqb (c .byte) 0xFF) _ _ (λ e. record { mode = refl; status = p .status; left = p .left; address = p .address })
     (λ e. if-ind P (eqb (c .byte) 0x70) _ _ (λ e. record { mode = refl; status = p .status; left = p .left; address = p .address })
     (λ e. if-ind P (eqb (c .byte) 0xD0) _ _
-    (λ e. record { mode = refl; status = fits-status Erasing (bitAnd x 63) (kept (λ y. bitAnd y 63) 3 0 (omega arith) sr.resume x (status-fits Suspended x (p .status))); left = p .left; address = p .address })
+    (λ e. record { mode = refl; status = fits-status Erasing (bitAnd x 0x3F) (kept (λ y. bitAnd y 0x3F) 3 0 (omega arith) sr.resume x (status-fits Suspended x (p .status))); left = p .left; address = p .address })
     (λ e. p)))
   where
     P : Action → Type 0
@@ -184,7 +184,7 @@ accept-proper d s c n r f = accept-ways d c (settleOf (d .part) s (c .pins)) (λ
 pub cycle-proper : (d : Device) (s : State) (c : Cycle) (n r : ℕ) → Proper d s → Proper d (decideOf d s c n r .state)
 cycle-proper d s c n r p = outcome d s c n r (λ (x : Decision). Proper d (x .state)) (λ m z e. p) (λ z. accept-proper d s c n r)
 
--- while busy the mode is read status, so every read gives the status
+-- while busy the mode is read status
 busy-mode : (ph : Phase) (m : Mode) → isBusy ph ≡ true → badMode ph m ≡ false → m ≡ Status
 busy-mode Free m b e = absurd (unlike (sym b))
 busy-mode EraseAwaited m b e = absurd (unlike (sym b))
@@ -197,8 +197,21 @@ busy-mode Erasing Status b e = refl
 busy-mode Erasing Identifier b e = absurd (unlike e)
 busy-mode Suspended m b e = absurd (unlike (sym b))
 
-pub busy-read : (d : Device) (s : State) (c : Cycle) → Proper d s → isBusy (settleOf (d .part) s (c .pins) .state .phase) ≡ true
-    → respondOf Read d c (settleOf (d .part) s (c .pins)) .reply ≡ Gives (settleOf (d .part) s (c .pins) .state .status)
-busy-read d s c p b =
-    let t : State = settleOf (d .part) s (c .pins) .state in
-    ap (λ (m : Mode). readOf m (d .part) (c .address) (t .status)) (busy-mode (t .phase) (t .mode) b (settle-proper d s c p .mode))
+pub settled-busy : (d : Device) (s : State) (c : Cycle) → Proper d s → isBusy (settleOf (d .part) s (c .pins) .state .phase) ≡ true
+    → settleOf (d .part) s (c .pins) .state .mode ≡ Status
+settled-busy d s c p b = let t : State = settleOf (d .part) s (c .pins) .state in busy-mode (t .phase) (t .mode) b (settle-proper d s c p .mode)
+
+-- with RP# up steps 2 and 3 leave that mode, also where they cut or end the operation
+pub settled-mode : (d : Device) (s : State) (c : Cycle) → Proper d s → rpLow (c .pins) ≡ false → isBusy (s .phase) ≡ true
+    → settleOf (d .part) s (c .pins) .state .mode ≡ Status
+unfolding settleOf cutBy countedOff
+settled-mode d s c p up b =
+    if-ind In (rpLow (c .pins)) _ _ (λ e. absurd (unlike (sym e ∙ up)))
+    (λ e. if-ind In (vppLow (d .part) (c .pins) && isPending (s .phase)) _ _ (λ v. refl)
+    (λ v. if-ind In (isBusy (s .phase)) _ _ (λ f. if-ind In (eqb (s .left - 1) 0) _ _ (λ l. m) (λ l. m)) (λ f. m)))
+  where
+    In : Settled → Type 0
+    In t = t .state .mode ≡ Status
+
+    m : s .mode ≡ Status
+    m = busy-mode (s .phase) (s .mode) b (p .mode)

@@ -1,9 +1,9 @@
 -- Begun, pending and ended operations, and the law that ties them. Assumes nothing.
 use mathlib.Core.Path.{_≡_, refl, sym, ap, _∙_}
 use mathlib.Core.Bool.{Bool, true, false, not, _&&_}
-use Prim.Native.Nat.{ℕ, _+_}
+use Prim.Native.Nat.{ℕ, _+_, _-_}
 use native.Mathlib.Omega.{arith}
-use lib.Dec.{eqb, leb}
+use lib.Dec.{eqb}
 use borrow.Author.Tests.{eqb-true, eqb-false, eq-eqb, ne-eqb}
 use Rattle.cells.specs.Choice.{if_then_else_}
 use Rattle.cells.proofs.Choice.{if-ind, if-same, if-true, if-false, unlike}
@@ -24,13 +24,15 @@ use Rattle.chip.specs.declared.Phase.the-variants.{Free, EraseAwaited, DataAwai
 use Rattle.chip.specs.declared.Effect.{Effect}
 use Rattle.chip.specs.declared.Effect.the-variants.{Nothing, Erase}
 use Rattle.chip.specs.Levels.{rpLow, vppLow, locked}
-use Rattle.chip.specs.States.{isPending, isBusy, resetOf}
+use Rattle.chip.specs.States.{resetOf}
 use Rattle.commands.specs.Commands.{firstWrite, afterErase, whileErasing, whileSuspended, actionOf, performedOf, startedOf, unsupplied}
 use Rattle.settling.specs.Settling.{settledAs, cutOf, endOf, cutBy, countedOff, settleOf}
-use Rattle.bus.specs.Cycles.{isWrite, numberOf, decideOf, acceptOf, respondOf}
+use Rattle.bus.specs.Cycles.{numberOf, decideOf, acceptOf, respondOf}
 use Rattle.bus.proofs.Ways.{refused, accepted}
 use Rattle.model.proofs.Outcome.{outcome, accept-ways, accept-effect}
-use Rattle.model.specs.Begun.{operationOf, pendingIn, pendingOf, askedBy, startsOf, begunBy, isAwaited, begunFrom}
+use Rattle.model.specs.Begun.{operationOf, pendingIn, pendingOf, askedBy, startsOf, begunBy, begunFrom}
+use Rattle.chip.specs.Kinds.{isWrite}
+use Rattle.chip.specs.Phases.{isPending, isBusy, isAwaited}
 use Rattle.model.proofs.Keeping.{st}
 
 cut-same : (ph : Phase) (part : Part) (a : ℕ) → operationOf (cutOf ph part a) ≡ pendingIn ph part a
@@ -80,7 +82,7 @@ unfolding settleOf cutBy countedOff
 settle-unawaited part s c e =
     if-ind In (rpLow (c .pins)) _ _ (λ x. refl)
     (λ x. if-ind In (vppLow part (c .pins) && isPending (s .phase)) _ _ (λ v. refl)
-    (λ v. if-ind In (isBusy (s .phase)) _ _ (λ b. if-ind In (leb (s .left) 1) _ _ (λ l. refl) (λ l. e)) (λ b. e)))
+    (λ v. if-ind In (isBusy (s .phase)) _ _ (λ b. if-ind In (eqb (s .left - 1) 0) _ _ (λ l. refl) (λ l. e)) (λ b. e)))
   where
     In : Settled → Type 0
     In t = isAwaited (t .state .phase) ≡ false
@@ -94,7 +96,7 @@ module _ (f : Effect → ℕ) (zero : f Nothing ≡ 0) where
       if-ind In (rpLow (c .pins)) _ _ (λ x. over)
       (λ x. if-ind In (vppLow part (c .pins) && isPending (s .phase)) _ _ (λ v. over)
       (λ v. if-ind In (isBusy (s .phase)) _ _
-      (λ b. if-ind In (leb (s .left) 1) _ _ (λ l. rw (end-same (s .phase) part (s .address) b, zero) (omega arith)) (λ l. same)) (λ b. same)))
+      (λ b. if-ind In (eqb (s .left - 1) 0) _ _ (λ l. rw (end-same (s .phase) part (s .address) b, zero) (omega arith)) (λ l. same)) (λ b. same)))
     where
       In : Settled → Type 0
       In t = f (operationOf (t .effect)) + f (pendingOf part (t .state)) ≡ f (pendingOf part s)

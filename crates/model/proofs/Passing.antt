@@ -16,10 +16,10 @@ use Rattle.chip.specs.declared.State.{State}
 use Rattle.chip.specs.declared.Cycle.{Cycle}
 use Rattle.chip.specs.declared.Decision.{Decision}
 use Rattle.bus.specs.Cycles.{judgeOf, decideOf}
-use Rattle.bus.specs.Arms.{passOf}
+use Rattle.bus.specs.Inner.{decideJudged}
 use Rattle.bus.proofs.Passing.{passes}
 use Rattle.model.specs.Arrays.{Within, seenOf, answerOf, arrayAfter}
-use Rattle.model.specs.Passed.{findsIn, doneOf, passedOf, arrayPassed}
+use Rattle.model.specs.Inner.{findsIn, doneOf, answerJudged, arrayJudged}
 use Rattle.model.proofs.Reach.{within}
 
 -- the test of an effect's bytes says what it should
@@ -44,16 +44,16 @@ finds (CutProgram at b) part n r h = both (lt-ltb at n (h .0)) (lt-ltb 0 r (h .1
 finds (CutErase k) part n r h = both (eq-eqb n (sizeOf part) (h .0)) (le-leb (lengthOf part k) r (h .1))
 
 module _ (d : Device) (s : State) (c : Cycle) (xs rs : List ℕ) (z : judgeOf d s c (length xs) (length rs) ≡ 0) where
-  same : decideOf d s c (length xs) (length rs) ≡ passOf d s c
+  same : decideOf d s c (length xs) (length rs) ≡ decideJudged d s c
   same = passes d s c (length xs) (length rs) z
 
-  pub passed-array : arrayPassed d s c xs rs ≡ arrayAfter d s c xs rs
-  unfolding arrayPassed arrayAfter
-  passed-array =
+  pub judged-array : arrayJudged d s c xs rs ≡ arrayAfter d s c xs rs
+  unfolding arrayJudged arrayAfter
+  judged-array =
       sym (ap (λ (x : Decision). doneOf (x .effect) (d .part) rs xs) same)
       ∙ if-true (findsIn (decideOf d s c (length xs) (length rs) .effect) (d .part) (length xs) (length rs)) _ _
       (finds (decideOf d s c (length xs) (length rs) .effect) (d .part) (length xs) (length rs) (within d s c (length xs) (length rs)))
 
-  pub passed-answer : passedOf d s c xs rs ≡ answerOf d s c xs rs
-  unfolding passedOf answerOf
-  passed-answer = λ i. record { seen = seenOf (sym same i .reply) (passed-array i); state = sym same i .state }
+  pub judged-answer : answerJudged d s c xs rs ≡ answerOf d s c xs rs
+  unfolding answerJudged answerOf
+  judged-answer = λ i. record { seen = seenOf (sym same i .reply) (judged-array i); state = sym same i .state }

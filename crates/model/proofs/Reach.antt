@@ -1,7 +1,7 @@
 -- What a decided cycle touches lies inside the array and the residue. Assumes nothing.
 use mathlib.Core.Path.{_≡_, refl}
 use mathlib.Core.Bool.{true, false, not, _&&_, _||_}
-use Prim.Native.Nat.{ℕ, _≤_}
+use Prim.Native.Nat.{ℕ, _-_, _≤_}
 use native.Mathlib.Omega.{arith}
 use lib.Dec.{eqb, ltb, leb}
 use borrow.Author.Tests.{leb-false, ltb-false}
@@ -17,7 +17,8 @@ use Rattle.chip.specs.declared.Decision.{Decision}
 use Rattle.chip.specs.declared.Phase.{Phase}
 use Rattle.chip.specs.declared.Phase.the-variants.{Free, EraseAwaited, DataAwaited, Programming, Erasing, Suspended}
 use Rattle.chip.specs.Levels.{rpLow, vppLow}
-use Rattle.chip.specs.States.{badAddress, isPending, isBusy}
+use Rattle.chip.specs.Inner.{badAddress}
+use Rattle.chip.specs.Phases.{isPending, isBusy}
 use Rattle.settling.specs.Settling.{cutOf, endOf, residueFor, cutBy, countedOff, settleOf}
 use Rattle.bus.specs.Cycles.{shortResidue, decideOf}
 use Rattle.bus.proofs.Facts.{Fine}
@@ -51,7 +52,7 @@ settle-within d s c n r f =
     (λ e. if-ind In (vppLow (d .part) (c .pins) && isPending (s .phase)) _ _
     (λ v. cut-within (s .phase) (d .part) (s .address) n r (f .sized) (f .proper .address) (long (simp (e, and-left (vppLow (d .part) (c .pins)) (isPending (s .phase)) v))))
     (λ v. if-ind In (isBusy (s .phase)) _ _
-    (λ b. if-ind In (leb (s .left) 1) _ _ (λ l. end-within (s .phase) (d .part) (s .address) n r (f .sized) (f .proper .address)) (λ l. refl))
+    (λ b. if-ind In (eqb (s .left - 1) 0) _ _ (λ l. end-within (s .phase) (d .part) (s .address) n r (f .sized) (f .proper .address)) (λ l. refl))
     (λ b. refl)))
   where
     In : Settled → Type 0

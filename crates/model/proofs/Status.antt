@@ -10,7 +10,7 @@ use borrow.Author.Tests.{eqb-true, eqb-false, not-false}
 use Rattle.cells.proofs.Choice.{and-left, and-right, or-left, or-right, unlike}
 use Rattle.chip.specs.declared.Phase.{Phase}
 use Rattle.chip.specs.declared.Phase.the-variants.{Free, EraseAwaited, DataAwaited, Programming, Erasing, Suspended}
-use Rattle.chip.specs.States.{badStatus, topBits}
+use Rattle.chip.specs.Inner.{badStatus, topBits}
 
 -- the test holds of every number below n
 abbrev pub allBelow : (ℕ → Bool) → ℕ → Bool
@@ -83,41 +83,41 @@ status-byte ph sr e =
     top Suspended = omega arith
 
 -- what each mask of the rules does to SR.7-6
-pub finish : keeps (λ sr. bitOr sr 128) 0 2 ≡ true
+pub finish : keeps (λ sr. bitOr sr 0x80) 0 2 ≡ true
 finish = refl
 
-pub cut-program : keeps (λ sr. bitOr (bitAnd sr 191) 152) 0 2 ≡ true
+pub cut-program : keeps (λ sr. bitOr (bitAnd sr 0xBF) 0x98) 0 2 ≡ true
 cut-program = refl
 
-pub cut-erase : keeps (λ sr. bitOr (bitAnd sr 191) 168) 0 2 ≡ true
+pub cut-erase : keeps (λ sr. bitOr (bitAnd sr 0xBF) 0xA8) 0 2 ≡ true
 cut-erase = refl
 
-pub cut-suspended : keeps (λ sr. bitOr (bitAnd sr 191) 168) 3 2 ≡ true
+pub cut-suspended : keeps (λ sr. bitOr (bitAnd sr 0xBF) 0xA8) 3 2 ≡ true
 cut-suspended = refl
 
-pub clear : keeps (λ sr. bitAnd sr 199) 2 2 ≡ true
+pub clear : keeps (λ sr. bitAnd sr 0xC7) 2 2 ≡ true
 clear = refl
 
-pub start : keeps (λ sr. bitAnd sr 127) 2 0 ≡ true
+pub start : keeps (λ sr. bitAnd sr 0x7F) 2 0 ≡ true
 start = refl
 
-pub low-erase : keeps (λ sr. bitOr (bitOr sr 8) 32) 2 2 ≡ true
+pub low-erase : keeps (λ sr. bitOr (bitOr sr 0x08) 0x20) 2 2 ≡ true
 low-erase = refl
 
-pub low-program : keeps (λ sr. bitOr (bitOr sr 8) 16) 2 2 ≡ true
+pub low-program : keeps (λ sr. bitOr (bitOr sr 0x08) 0x10) 2 2 ≡ true
 low-program = refl
 
-pub locked-erase : keeps (λ sr. bitOr sr 32) 2 2 ≡ true
+pub locked-erase : keeps (λ sr. bitOr sr 0x20) 2 2 ≡ true
 locked-erase = refl
 
-pub locked-program : keeps (λ sr. bitOr sr 16) 2 2 ≡ true
+pub locked-program : keeps (λ sr. bitOr sr 0x10) 2 2 ≡ true
 locked-program = refl
 
-pub wrong-second : keeps (λ sr. bitOr sr 48) 2 2 ≡ true
+pub wrong-second : keeps (λ sr. bitOr sr 0x30) 2 2 ≡ true
 wrong-second = refl
 
-pub suspend : keeps (λ sr. bitOr sr 192) 0 3 ≡ true
+pub suspend : keeps (λ sr. bitOr sr 0xC0) 0 3 ≡ true
 suspend = refl
 
-pub resume : keeps (λ sr. bitAnd sr 63) 3 0 ≡ true
+pub resume : keeps (λ sr. bitAnd sr 0x3F) 3 0 ≡ true
 resume = refl

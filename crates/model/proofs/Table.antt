@@ -5,6 +5,8 @@ use mathlib.Core.Logic.{_↔_}
 use Prim.Native.Nat.{ℕ}
 use native.Mathlib.Omega.{arith}
 use lib.ListN.{length}
+use lib.Dec.{eqb}
+use borrow.Author.Tests.{eqb-true, eqb-false}
 use Rattle.cells.specs.Numbers.{Foremost, NoRow}
 use Rattle.cells.proofs.Numbers.{given-foremost, foremost-given, given-no-row, no-row-given}
 use Rattle.device.specs.declared.Device.{Device}
@@ -19,14 +21,19 @@ use Rattle.chip.specs.declared.Mode.the-variants.{Array, Status, Identifier}
 use Rattle.chip.specs.declared.Reply.{Reply}
 use Rattle.chip.specs.declared.Reply.the-variants.{Quiet, Gives, GivesArray, Refuses}
 use Rattle.chip.specs.declared.Effect.the-variants.{Nothing}
+use Rattle.chip.specs.Levels.{rpLow}
+use Rattle.chip.specs.Phases.{isBusy}
 use Rattle.settling.specs.Settling.{settleOf}
-use Rattle.bus.specs.Cycles.{tableOf, numberOf, decideOf, acceptOf, respondOf, readOf}
-use mathlib.Core.Bool.{true, false}
+use Rattle.bus.specs.Cycles.{tableOf, numberOf, decideOf, acceptOf, respondOf, readOf, decidedAs}
+use mathlib.Core.Bool.{true, false, Bool}
 use Rattle.cells.proofs.Choice.{unlike}
 use Rattle.bus.proofs.Ways.{refused, accepted}
-use Rattle.model.specs.declared.Seen.the-variants.{Refused}
-use Rattle.model.specs.Arrays.{isRefusal, arrayAfter, answerOf, seenOf}
+use Rattle.model.specs.declared.Seen.the-variants.{Refused, Byte}
+use Rattle.model.specs.Arrays.{isRefusal, arrayAfter, answerOf, seenOf, Accepted}
+use Rattle.bus.proofs.Facts.{fine}
 use Rattle.model.proofs.Outcome.{outcome, accept-ways}
+use Rattle.model.proofs.Keeping.{settled-busy, settled-mode}
+use Rattle.model.proofs.Lives.{accept-up}
 
 -- the number that a reply refuses by, 0 where it gives no refusal
 abbrev pub refusal : Reply → ℕ
@@ -70,14 +77,6 @@ module _ (d : Device) (s : State) (c : Cycle) (n r : ℕ) where
     λ f. ap (λ (x : Decision). x .reply) (refused d s c n r m (foremost-given f) z),
   )
 
-  -- accepted exactly where no row holds
-  pub accepted-exactly : (isRefusal (decideOf d s c n r .reply) ≡ false) ↔ NoRow (tableOf d s c n r)
-  unfolding numberOf
-  accepted-exactly = (
-    λ e. given-no-row (tableOf d s c n r) refl (sym told ∙ calm (decideOf d s c n r .reply) e),
-    λ f. ap (λ (x : Decision). isRefusal (x .reply)) (accepted d s c n r (no-row-given f)) ∙ accept-answers d c (settleOf (d .part) s (c .pins)),
-  )
-
   -- a refused cycle leaves the state and does nothing to the array
   pub refused-nothing : isRefusal (decideOf d s c n r .reply) ≡ true → (decideOf d s c n r .state ≡ s) × (decideOf d s c n r .effect ≡ Nothing)
   refused-nothing =
@@ -106,3 +105,47 @@ host-refused d s c xs rs m e =
     let q : decideOf d s c (length xs) (length rs) .reply ≡ Refuses m = seen-refused (decideOf d s c (length xs) (length rs) .reply) (arrayAfter d s c xs rs) m e in
     let w = refused-nothing d s c (length xs) (length rs) (ap isRefusal q) in
     (w .0, rw (w .1) refl)
+
+-- what the host sees refused by no number has the number 0, and back
+module _ (d : Device) (s : State) (c : Cycle) (xs rs : List ℕ) where
+  host-zero : Accepted (answerOf d s c xs rs) → numberOf d s c (length xs) (length rs) ≡ 0
+  unfolding answerOf
+  host-zero a = go (eqb (numberOf d s c (length xs) (length rs)) 0) refl
+    where
+      go : (b : Bool) → eqb (numberOf d s c (length xs) (length rs)) 0 ≡ b → numberOf d s c (length xs) (length rs) ≡ 0
+      go true e = eqb-true (numberOf d s c (length xs) (length rs)) 0 e
+      go false e =
+          let z = eqb-false (numberOf d s c (length xs) (length rs)) 0 e in
+          absurd (a (numberOf d s c (length xs) (length rs)) (ap (λ (x : Decision). seenOf (x .reply) (arrayAfter d s c xs rs)) (refused d s c (length xs) (length rs) (numberOf d s c (length xs) (length rs)) refl z)))
+
+  zero-host : numberOf d s c (length xs) (length rs) ≡ 0 → Accepted (answerOf d s c xs rs)
+  unfolding answerOf
+  zero-host z m e =
+      let q : decideOf d s c (length xs) (length rs) .reply ≡ Refuses m = seen-refused (decideOf d s c (length xs) (length rs) .reply) (arrayAfter d s c xs rs) m e in
+      let w : isRefusal (decideOf d s c (length xs) (length rs) .reply) ≡ false =
+      ap (λ (x : Decision). isRefusal (x .reply)) (accepted d s c (length xs) (length rs) z) ∙ accept-answers d c (settleOf (d .part) s (c .pins)) in
+      unlike (sym (ap isRefusal q) ∙ w)
+
+  -- accepted exactly where no row holds
+  pub host-accepted : Accepted (answerOf d s c xs rs) ↔ NoRow (tableOf d s c (length xs) (length rs))
+  unfolding numberOf
+  host-accepted = (λ a. given-no-row (tableOf d s c (length xs) (length rs)) refl (host-zero a), λ f. zero-host (no-row-given f))
+
+  -- an accepted read in mode status shows the status of the state that it leaves
+  status-shown : Accepted (answerOf d s c xs rs) → c .kind ≡ Read → rpLow (c .pins) ≡ false → settleOf (d .part) s (c .pins) .state .mode ≡ Status
+      → answerOf d s c xs rs .seen ≡ Byte (answerOf d s c xs rs .state .status)
+  unfolding answerOf
+  status-shown a k up m =
+      let t : Settled = settleOf (d .part) s (c .pins) in
+      let e : decideOf d s c (length xs) (length rs) ≡ decidedAs (Gives (t .state .status)) (t .state) (t .effect) =
+      accepted d s c (length xs) (length rs) (host-zero a) ∙ accept-up d c t up ∙ ap (λ (x : Kind). respondOf x d c t) k
+      ∙ ap (λ (x : Mode). decidedAs (readOf x (d .part) (c .address) (t .state .status)) (t .state) (t .effect)) m in
+      ap (λ (x : Decision). seenOf (x .reply) (arrayAfter d s c xs rs)) e ∙ sym (ap (λ (x : Decision). Byte (x .state .status)) e)
+
+  pub busy-read : Accepted (answerOf d s c xs rs) → c .kind ≡ Read → rpLow (c .pins) ≡ false → isBusy (settleOf (d .part) s (c .pins) .state .phase) ≡ true
+      → answerOf d s c xs rs .seen ≡ Byte (answerOf d s c xs rs .state .status)
+  busy-read a k up b = status-shown a k up (settled-busy d s c (fine d s c (length xs) (length rs) (host-zero a) .proper) b)
+
+  pub busy-read-ending : Accepted (answerOf d s c xs rs) → c .kind ≡ Read → rpLow (c .pins) ≡ false → isBusy (s .phase) ≡ true
+      → answerOf d s c xs rs .seen ≡ Byte (answerOf d s c xs rs .state .status)
+  busy-read-ending a k up b = status-shown a k up (settled-mode d s c (fine d s c (length xs) (length rs) (host-zero a) .proper) up b)

@@ -59,6 +59,10 @@ seenOf (Gives b) xs = Byte b
 seenOf (GivesArray a) xs = Byte (getD xs a 0)
 seenOf (Refuses n) xs = Refused n
 
+-- a cycle is accepted: what the host sees is no refusal
+abbrev pub Accepted : Answer → Type 0
+Accepted a = (m : ℕ) → a .seen ≡ Refused m → ⊥
+
 -- the array after a cycle
 unfoldable pub arrayAfter : Device → State → Cycle → List ℕ → List ℕ → List ℕ
 arrayAfter d s c xs rs = arrayOf (decideOf d s c (length xs) (length rs) .effect) (d .part) rs xs

@@ -14,7 +14,9 @@ use Rattle.chip.specs.declared.State.{State}
 use Rattle.chip.specs.declared.Cycle.{Cycle}
 use Rattle.chip.specs.Levels.{rpLow, locked}
 use Rattle.commands.specs.Commands.{unsupplied}
-use Rattle.bus.specs.Cycles.{isWrite, numberOf}
+use Rattle.bus.specs.Cycles.{numberOf}
+use Rattle.chip.specs.Kinds.{isWrite}
+use Rattle.chip.specs.Phases.{isAwaited}
 
 -- the operation that an effect ends or cuts; an uncut effect is its own operation
 abbrev pub operationOf : Effect → Effect
@@ -33,6 +35,7 @@ pendingIn (Programming b) part a = Program a b
 pendingIn Erasing part a = Erase (blockOf part a)
 pendingIn Suspended part a = Erase (blockOf part a)
 
+-- the same of a state
 abbrev pub pendingOf : Part → State → Effect
 pendingOf part s = pendingIn (s .phase) part (s .address)
 
@@ -56,15 +59,6 @@ startsOf part s c =
 unfoldable pub begunBy : Device → State → Cycle → ℕ → ℕ → Effect
 begunBy d s c array residue = if eqb (numberOf d s c array residue) 0 then startsOf (d .part) s c else Nothing
 
--- a second write is awaited
-abbrev pub isAwaited : Phase → Bool
-isAwaited Free = false
-isAwaited EraseAwaited = true
-isAwaited DataAwaited = true
-isAwaited (Programming b) = false
-isAwaited Erasing = false
-isAwaited Suspended = false
-
--- awaited before and running after: the same operation, told by the states
+-- the same told by the states before and after: a second write was awaited, and this is pending now
 abbrev pub begunFrom : Part → State → State → Effect
 begunFrom part s t = if isAwaited (s .phase) then pendingOf part t else Nothing

@@ -1,3 +1,3 @@
 pub mod Arrays
 pub mod Begun
-pub mod Passed
+pub mod Inner

@@ -13,7 +13,7 @@ ghost use Rattle.chip.specs.States.{freshState, resetOf};
 ghost use Rattle.device.specs.Parts.{sizeOf, lengthOf};
 ghost use Rattle.model.specs.declared.Seen.the-variants.{Byte, Refused};
 ghost use Rattle.model.specs.Arrays.{Within, erased, residual, arrayOf, seenOf, answerOf, arrayAfter};
-ghost use Rattle.model.specs.Passed.{findsIn, doneOf, programmedAt, erasedAt, passedOf, arrayPassed};
+ghost use Rattle.model.specs.Inner.{findsIn, doneOf, programmedAt, erasedAt, answerJudged, arrayJudged};
 
 // What the host sees of a cycle: no data, a byte, or a refusal by its number.
 pub enum Seen {
@@ -166,16 +166,17 @@ fn show(s: State, address: u32, array: &[u8]) -> Answer
     }
 }
 
-// A cycle that refusals 1 to 6 let pass. They are not tested again; an effect that does not find its bytes is left undone.
-pub fn passed(d: Device, s: State, c: Cycle, array: &mut [u8], residue: &[u8]) -> Answer
-    ensures { λ r. ⌜ r ≡ passedOf d s c (now (array .entry)) (now (residue .entry)) ⌝ }
-    ensures { λ _. ⌜ now (array .exit) ≡ arrayPassed d s c (now (array .entry)) (now (residue .entry)) ⌝ }
+// Only for callers that know refusals 1 to 6 not to apply: they are not tested again, and what they would refuse is answered
+// as the rules forbid. An effect that does not find its bytes is left undone.
+pub fn after_judging(d: Device, s: State, c: Cycle, array: &mut [u8], residue: &[u8]) -> Answer
+    ensures { λ r. ⌜ r ≡ answerJudged d s c (now (array .entry)) (now (residue .entry)) ⌝ }
+    ensures { λ _. ⌜ now (array .exit) ≡ arrayJudged d s c (now (array .entry)) (now (residue .entry)) ⌝ }
 {
     if bus::asks_array(s, c) {
         return show(s, c.address, array);
     }
     let part = d.part;
-    let x = bus::pass(d, s, c);
+    let x = bus::decide_judged(d, s, c);
     let effect = x.effect;
     let reply = x.reply;
     let state = x.state;
@@ -205,5 +206,5 @@ pub fn cycle(d: Device, s: State, c: Cycle, array: &mut [u8], residue: &[u8]) ->
     if n != 0 {
         return refused(n, s);
     }
-    passed(d, s, c, array, residue)
+    after_judging(d, s, c, array, residue)
 }

@@ -7,36 +7,41 @@ ghost use Rattle.cells.specs.Lists.{copied};
 ghost use Rattle.lines.specs.Lines.{decimalDigit, hexDigit};
 ghost use Rattle.replay.specs.Answers.{letterOf, firstOf, secondOf, toldOf, markOf, endOf};
 
+// The digit 0 as a length, and what a letter counts from.
+const ZERO: usize = b'0' as usize;
+
+const TEN: u8 = b'A' - 10;
+
 fn hex_digit(n: u8) -> u8
     requires { ⌜ n < 16 ⌝ }
     ensures { λ r. ⌜ r ≡ hexDigit n ⌝ }
 {
     if n < 10 {
-        return 48 + n;
+        return b'0' + n;
     }
-    55 + n
+    TEN + n
 }
 
 fn decimal_digit(n: usize) -> u8
     ensures { λ r. ⌜ r ≡ decimalDigit n ⌝ }
 {
-    (48 + n % 10) as u8
+    (ZERO + n % 10) as u8
 }
 
 // A byte's decimal digit.
 fn small_digit(n: u8) -> u8
     ensures { λ r. ⌜ r ≡ decimalDigit n ⌝ }
 {
-    48 + n % 10
+    b'0' + n % 10
 }
 
 fn letter(seen: Seen) -> u8
     ensures { λ r. ⌜ r ≡ letterOf seen ⌝ }
 {
     match seen {
-        Seen::NoData => 78,
-        Seen::Byte(_) => 68,
-        Seen::Refused(_) => 88,
+        Seen::NoData => b'N',
+        Seen::Byte(_) => b'D',
+        Seen::Refused(_) => b'X',
     }
 }
 
@@ -44,7 +49,7 @@ fn first(seen: Seen) -> u8
     ensures { λ r. ⌜ r ≡ firstOf seen ⌝ }
 {
     match seen {
-        Seen::NoData => 45,
+        Seen::NoData => b'-',
         Seen::Byte(b) => hex_digit(b / 16 % 16),
         Seen::Refused(n) => small_digit(n / 10),
     }
@@ -54,7 +59,7 @@ fn second(seen: Seen) -> u8
     ensures { λ r. ⌜ r ≡ secondOf seen ⌝ }
 {
     match seen {
-        Seen::NoData => 45,
+        Seen::NoData => b'-',
         Seen::Byte(b) => hex_digit(b % 16),
         Seen::Refused(n) => small_digit(n),
     }
@@ -66,13 +71,13 @@ pub fn write_answer(seen: Seen, sr: u8, out: &mut [u8])
 {
     let line = [
         letter(seen),
-        32,
+        b' ',
         first(seen),
         second(seen),
-        32,
+        b' ',
         hex_digit(sr / 16 % 16),
         hex_digit(sr % 16),
-        10,
+        b'\n',
     ];
     cells::copy(out, &line)
 }
@@ -82,13 +87,13 @@ pub fn write_mark(number: usize, out: &mut [u8])
     ensures { λ _. ⌜ now (out .exit) ≡ copied (now (out .entry)) (markOf number) ⌝ }
 {
     let line = [
-        63,
-        32,
+        b'?',
+        b' ',
         decimal_digit(number / 1000),
         decimal_digit(number / 100),
         decimal_digit(number / 10),
         decimal_digit(number),
-        10,
+        b'\n',
     ];
     cells::copy(out, &line)
 }

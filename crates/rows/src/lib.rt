@@ -31,21 +31,28 @@ pub fn group_at(row: &[u8]) -> Group
     }
 }
 
+// Past the last digit and the last letter, and what a letter counts from.
+const PAST_9: u8 = b'9' + 1;
+
+const PAST_F: u8 = b'F' + 1;
+
+const TEN: u8 = b'A' - 10;
+
 // What a digit is worth, 0 for any other letter.
 fn digit(x: u8) -> usize
     ensures { λ r. ⌜ (r ≡ digitOf x) × (r < 16) ⌝ }
 {
-    if x < 48 {
+    if x < b'0' {
         return 0;
     }
-    if x < 58 {
-        return cells::wide(x - 48);
+    if x < PAST_9 {
+        return cells::wide(x - b'0');
     }
-    if x < 65 {
+    if x < b'A' {
         return 0;
     }
-    if x < 71 {
-        return cells::wide(x - 55);
+    if x < PAST_F {
+        return cells::wide(x - TEN);
     }
     0
 }
@@ -100,9 +107,9 @@ fn letter(d: u64) -> u8
 {
     let n = d as u8;
     if n < 10 {
-        return 48 + n;
+        return b'0' + n;
     }
-    55 + n
+    TEN + n
 }
 
 // A whole slice gets the last digits of x.
@@ -138,7 +145,7 @@ pub fn next_row(text: &[u8], at: usize) -> usize
 {
     let mut i = at;
     while i < text.len() {
-        if text[i] == 10 {
+        if text[i] == b'\n' {
             return i + 1;
         }
         i += 1;

@@ -14,7 +14,8 @@ use Rattle.chip.specs.declared.State.{State}
 use Rattle.bus.proofs.Facts.{Proper, proper-parts}
 use Rattle.stepper.specs.Front.{barredPins, noBlock, wrongLengths}
 use Rattle.stepper.proofs.Small.{length-small}
-use Rattle.run.specs.Runs.{underWay, runRows, runNumber}
+use Rattle.run.specs.Runs.{runRows, runNumber}
+use Rattle.chip.specs.Phases.{underWay}
 
 pub record Good (d : Device) (s : State) (p : Pins) (k array w sc : ℕ) : Type 0 where
   pub known : unknownDevice d ≡ false

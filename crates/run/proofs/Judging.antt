@@ -21,10 +21,11 @@ use Rattle.chip.specs.declared.Effect.the-variants.{Nothing, Program, Erase, Cu
 use Rattle.chip.specs.declared.State.{State}
 use Rattle.chip.specs.declared.Cycle.{Cycle}
 use Rattle.chip.specs.Levels.{rpLow, vppLow, badPins, badOe, badLevels, locked}
-use Rattle.chip.specs.States.{isPending}
 use Rattle.commands.specs.Commands.{unsupplied}
 use Rattle.settling.specs.Settling.{residueFor}
-use Rattle.bus.specs.Cycles.{isIdle, isWrite, pastArray, shortResidue, numberOf, judgeOf, decideOf}
+use Rattle.bus.specs.Cycles.{pastArray, shortResidue, numberOf, judgeOf, decideOf}
+use Rattle.chip.specs.Kinds.{isIdle, isWrite}
+use Rattle.chip.specs.Phases.{isPending}
 use Rattle.bus.proofs.Facts.{Proper, parts-proper}
 use Rattle.model.specs.Begun.{pendingIn, pendingOf, askedBy, startsOf, begunBy}
 use Rattle.model.proofs.Lives.{conserved, begun-accepted, begun-refused}

@@ -19,7 +19,6 @@ use Rattle.chip.specs.declared.Phase.the-variants.{Free, EraseAwaited, DataAwai
 use Rattle.chip.specs.declared.State.{State}
 use Rattle.chip.specs.declared.Cycle.{Cycle}
 use Rattle.chip.specs.Levels.{rpLow, vppLow, badPins}
-use Rattle.chip.specs.States.{isPending}
 use Rattle.bus.specs.Cycles.{shortResidue, judgeOf, decideOf}
 use Rattle.bus.proofs.Facts.{Proper}
 use Rattle.model.specs.declared.Seen.{Seen}
@@ -35,7 +34,8 @@ use Rattle.stepper.specs.Stores.{storeOf}
 use Rattle.stepper.specs.Front.{barredPins, noBlock, recordAt}
 use Rattle.stepper.proofs.Again.{some-block, Kept, kept-next}
 use Rattle.run.specs.Turns.{Config, isEnded, loaderBy, answerTo, arrayTo, moved, turnOf, after}
-use Rattle.run.specs.Runs.{underWay, runNumber, begin}
+use Rattle.run.specs.Runs.{runNumber, begin}
+use Rattle.chip.specs.Phases.{isPending, underWay}
 use Rattle.run.proofs.Good.{Good, good}
 use Rattle.run.proofs.Judging.{unasked, unasked-high, judged, stays-calm}
 

@@ -1,5 +1,5 @@
 -- A run: its tests, its beginning and what it returns. Assumes nothing.
-use mathlib.Core.Bool.{Bool, true, false, not}
+use mathlib.Core.Bool.{not}
 use mathlib.Core.List.{List, [], _∷_}
 use Prim.Native.Nat.{ℕ}
 use lib.ListN.{length}
@@ -9,9 +9,8 @@ use Rattle.cells.specs.Numbers.{Row, row, given}
 use Rattle.device.specs.declared.Device.{Device}
 use Rattle.device.specs.Parts.{unknownDevice, sizeOf}
 use Rattle.chip.specs.declared.Pins.{Pins}
-use Rattle.chip.specs.declared.Phase.{Phase}
-use Rattle.chip.specs.declared.Phase.the-variants.{Free, EraseAwaited, DataAwaited, Programming, Erasing, Suspended}
 use Rattle.chip.specs.declared.State.{State}
+use Rattle.chip.specs.Phases.{underWay}
 use Rattle.chip.specs.States.{improper}
 use Rattle.loader.specs.declared.Stage.{Stage}
 use Rattle.loader.specs.declared.Stage.the-variants.{Clearing, Opening, Reading, EraseAsking, EraseConfirming, EraseWaiting, ProgramAsking, ProgramSending, ProgramWaiting, Closing, Verifying, Ended}
@@ -20,16 +19,7 @@ use Rattle.stepper.specs.Front.{barredPins, noBlock, wrongLengths, recordAt, en
 use Rattle.run.specs.declared.Ran.{Ran}
 use Rattle.run.specs.Turns.{Config, after, bound}
 
--- refusal 12: something is awaited, running or suspended
-abbrev pub underWay : Phase → Bool
-underWay Free = false
-underWay EraseAwaited = true
-underWay DataAwaited = true
-underWay (Programming b) = true
-underWay Erasing = true
-underWay Suspended = true
-
--- the tests of a run, in their order
+-- the tests of a run, in their order; 12 is something awaited, running or suspended
 abbrev pub runRows : Device → State → Pins → ℕ → ℕ → ℕ → ℕ → List Row
 runRows d s p k array w sc =
     row 1 (unknownDevice d)

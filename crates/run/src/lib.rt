@@ -28,7 +28,8 @@ ghost use Rattle.loader.specs.declared.Stage.the-variants.{Clearing};
 ghost use Rattle.stepper.specs.Outs.{firstOf, hereOf, cycleOf};
 ghost use Rattle.stepper.specs.Front.{recordAt};
 ghost use Rattle.run.specs.Turns.{isEnded, isRefused, numberIn, loaderBy, scratchBy, answerTo, arrayTo};
-ghost use Rattle.run.specs.Runs.{underWay, runNumber, endOf, begin, ranBy, driven, ranOf, bytesOf, scratchOf};
+ghost use Rattle.run.specs.Runs.{runNumber, endOf, begin, ranBy, driven, ranOf, bytesOf, scratchOf};
+ghost use Rattle.chip.specs.Phases.{underWay};
 
 // What a run returns: the cycles made, the number of the end (0 well), for 25 the array address, and the device's state.
 pub struct Ran {
@@ -101,7 +102,7 @@ fn both(d: Device, start: u32, h: Held, wanted: &[u8], scratch: &mut [u8], array
     let s = h.state;
     let stage = l.stage;
     let c = cycle_in(stage, start, here(start, l), l, wanted);
-    let a = model::passed(d, s, c, array, &wanted[0..0]);
+    let a = model::after_judging(d, s, c, array, &wanted[0..0]);
     let seen = a.seen;
     let state = a.state;
     Held {

@@ -23,10 +23,12 @@ use Rattle.chip.specs.declared.Reply.the-variants.{Quiet, Gives, GivesArray}
 use Rattle.chip.specs.declared.State.{State}
 use Rattle.chip.specs.declared.Settled.{Settled}
 use Rattle.chip.specs.Levels.{rpLow, vppLow, badPins, locked, unlocked}
-use Rattle.chip.specs.States.{badMode, badStatus, badLeft, badAddress, atRest, isBusy, isPending, mostLeft}
+use Rattle.chip.specs.States.{atRest, mostLeft}
+use Rattle.chip.specs.Inner.{badMode, badStatus, badLeft, badAddress}
 use Rattle.commands.specs.Commands.{actionOf, firstWrite, afterErase, performedOf, startedOf, unsupplied}
 use Rattle.settling.specs.Settling.{settledAs, settleOf, countedOff, endOf}
-use Rattle.bus.specs.Cycles.{isSuspended, shortResidue, noCommand, suspendedRead, noIdentifier, lateOf, decideOf, acceptOf, respondOf, decidedAs}
+use Rattle.bus.specs.Cycles.{shortResidue, noCommand, suspendedRead, noIdentifier, lateOf, decideOf, acceptOf, respondOf, decidedAs}
+use Rattle.chip.specs.Phases.{isBusy, isPending, isSuspended}
 use Rattle.bus.proofs.Ways.{accepted, number-late}
 use Rattle.bus.proofs.Facts.{Proper}
 use Rattle.model.proofs.Keeping.{st, rest-proper}
@@ -214,7 +216,7 @@ module _ (d : Device) (p : Pins) (u : Up d p) where
     waits ph left a b e z m h g =
         let s : State = st Status 0 ph (left + 1) a in
         decides s (st Status 0 ph left a) Nothing Read b 0 (busy-proper ph (left + 1) a e (omega arith) m h) g (unasked-high (d .part) s (cyc p Read b 0) (u .up) (r .high))
-        (counts s e ∙ if-false (leb (left + 1) 1) _ _ (lt-leb (left + 1) 1 (omega arith)) ∙ ap (λ (j : ℕ). settledAs (st Status 0 ph j a) Nothing) (let q : left + 1 - 1 ≡ left = omega arith in q))
+        (counts s e ∙ if-false (eqb (left + 1 - 1) 0) _ _ (ne-eqb (left + 1 - 1) 0 (λ q. omega arith)) ∙ ap (λ (j : ℕ). settledAs (st Status 0 ph j a) Nothing) (let q : left + 1 - 1 ≡ left = omega arith in q))
         (late-status (st Status 0 ph left a) b refl)
 
     pub ends : (ph : Phase) (a b : ℕ) → isBusy ph ≡ true → 1 ≤ mostLeft d ph → a < sizeOf (d .part) → b < sizeOf (d .part)

@@ -23,7 +23,8 @@ use Rattle.chip.specs.declared.State.{State}
 use Rattle.chip.specs.declared.Effect.{Effect}
 use Rattle.chip.specs.declared.Effect.the-variants.{Nothing}
 use Rattle.chip.specs.Levels.{vppLow, vppHigh, unlocked}
-use Rattle.chip.specs.States.{atRest, badLeft, badAddress, badStatus}
+use Rattle.chip.specs.States.{atRest}
+use Rattle.chip.specs.Inner.{badLeft, badAddress, badStatus}
 use Rattle.bus.proofs.Facts.{Proper}
 use Rattle.model.proofs.Status.{fits, status-fits}
 use Rattle.model.proofs.Keeping.{times}
@@ -37,7 +38,8 @@ use Rattle.loader.specs.declared.Stage.{Stage}
 use Rattle.chip.specs.declared.Cycle.{Cycle}
 use lib.Bits.{bitOr}
 use Rattle.run.specs.Turns.{Config, isEnded, turnOf, after, bound}
-use Rattle.run.specs.Runs.{underWay, beginning, driven, leftBy, ranBy, RunLeft, runMade, runLeft, ranOf, bytesOf, scratchOf}
+use Rattle.run.specs.Runs.{beginning, driven, leftBy, ranBy, RunLeft, runMade, runLeft, ranOf, bytesOf, scratchOf}
+use Rattle.chip.specs.Phases.{underWay}
 use Rattle.run.proofs.Leaving.{left-made}
 use Rattle.run_claims.specs.Wear.{noted, begunTurn, begunIn, begunByLoad, heldIn, baseOf, programsIn, formula, operationsOf}
 use Rattle.run_claims.specs.Made.{madeIn, cyclesOfLoad, smoothTurn, smoothIn, smoothLoad, openingThen, closingOf, cyclesOf}

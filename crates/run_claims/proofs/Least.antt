@@ -23,7 +23,7 @@ use Rattle.chip.specs.declared.Effect.{Effect}
 use Rattle.chip.specs.declared.Effect.the-variants.{Nothing}
 use Rattle.model.specs.Begun.{pendingIn, pendingOf}
 use Rattle.loader.specs.Walks.{mustRise, rises, risesIn}
-use Rattle.run.specs.Runs.{underWay}
+use Rattle.chip.specs.Phases.{underWay}
 use Rattle.run_claims.specs.Wear.{heldIn, baseOf, erasesOf, programsIn, differing}
 use Rattle.run_claims.specs.History.{Bus, World, worldAfter, effectsIn, begunOver, uncut, total, eraseOf, programAt, programIn}
 use Rattle.run_claims.proofs.Wearing.{lies, byteAll, bytes-after, only-loses, unprogrammed, total-more, ended-begun}

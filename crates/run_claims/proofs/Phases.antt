@@ -32,7 +32,7 @@ use Rattle.chip.specs.declared.Effect.the-variants.{Nothing, Program, Erase}
 use Rattle.chip.specs.declared.Reply.{Reply}
 use Rattle.chip.specs.declared.Reply.the-variants.{Quiet, Gives, GivesArray}
 use Rattle.chip.specs.declared.State.{State}
-use Rattle.chip.specs.States.{atRest, isBusy, mostLeft}
+use Rattle.chip.specs.States.{atRest, mostLeft}
 use Rattle.bus.specs.Cycles.{decideOf, decidedAs}
 use Rattle.model.specs.Arrays.{erased}
 use Rattle.model.proofs.Keeping.{st}
@@ -46,7 +46,8 @@ use Rattle.stepper.specs.Stores.{storeOf, erasedWell}
 use Rattle.stepper.proofs.Small.{length-small}
 use Rattle.loader.proofs.Walking.{diff-turn, diff-over}
 use Rattle.chip.specs.declared.Cycle.{Cycle}
-use Rattle.model.specs.Begun.{isAwaited, pendingIn, begunFrom}
+use Rattle.model.specs.Begun.{pendingIn, begunFrom}
+use Rattle.chip.specs.Phases.{isBusy, isAwaited}
 use Rattle.run.specs.Turns.{Config, isEnded, turnOf}
 use Rattle.run_claims.specs.Wear.{programsOf, differing, baseOf, operationsOf}
 use Rattle.run.proofs.Turning.{conf}

@@ -25,7 +25,8 @@ use Rattle.chip.specs.declared.Decision.{Decision}
 use Rattle.chip.specs.declared.Settled.{Settled}
 use Rattle.chip.specs.declared.State.{State}
 use Rattle.chip.specs.Levels.{rpLow, badPins}
-use Rattle.bus.specs.Cycles.{isRead, decideOf, respondOf, readOf}
+use Rattle.bus.specs.Cycles.{decideOf, respondOf, readOf}
+use Rattle.chip.specs.Kinds.{isRead}
 use Rattle.settling.specs.Settling.{settleOf}
 use Rattle.model.specs.declared.Seen.{Seen}
 use Rattle.model.specs.declared.Seen.the-variants.{Byte}

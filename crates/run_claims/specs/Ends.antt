@@ -37,7 +37,7 @@ endNumber d p k w ys = if asWanted w ys then 0 else if vppLow (d .part) p then 2
 
 -- the status that the first operation leaves which cannot start: SR.7 with SR.5 or SR.4, and SR.3 where VPP is low
 unfoldable pub faultStatus : Device → Pins → List ℕ → List ℕ → ℕ
-faultStatus d p w ys = if vppLow (d .part) p then (if risesIn w ys then 168 else 152) else if risesIn w ys then 160 else 144
+faultStatus d p w ys = if vppLow (d .part) p then (if risesIn w ys then 0xA8 else 0x98) else if risesIn w ys then 0xA0 else 0x90
 
 -- the two writes of an operation that does not start, and one poll
 abbrev pub eraseTried : Pins → ℕ → List Cycle
@@ -52,7 +52,7 @@ faultCycles p a w ys = openingThen p a (length w) (if risesIn w ys then eraseTri
 
 -- a run that ends well, and one that ends by a fault at cycle n + 5
 abbrev pub wellRan : Device → List ℕ → List ℕ → Ran
-wellRan d w ys = record { count = formula d w ys; end = 0; address = 0; state = atRest Array 128 }
+wellRan d w ys = record { count = formula d w ys; end = 0; address = 0; state = atRest Array 0x80 }
 
 abbrev pub faultRan : Device → Pins → List ℕ → List ℕ → ℕ → Ran
 faultRan d p w ys n = record { count = length w + 5; end = n; address = 0; state = atRest Status (faultStatus d p w ys) }

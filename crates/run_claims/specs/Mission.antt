@@ -13,7 +13,8 @@ use Rattle.chip.specs.Cells.{Cells}
 use Rattle.chip.specs.Levels.{rpLow, vppHigh, badPins, unlocked}
 use Rattle.chip.specs.States.{improper}
 use Rattle.stepper.specs.Front.{noBlock}
-use Rattle.run.specs.Runs.{underWay, ranOf, bytesOf}
+use Rattle.run.specs.Runs.{ranOf, bytesOf}
+use Rattle.chip.specs.Phases.{underWay}
 use Rattle.run_claims.specs.Wear.{begunByLoad, heldBy, notedAll, operationsOf, formula}
 use Rattle.run_claims.specs.History.{Bus, World, worldOf, busesOf, worldAfter, effectsIn, begunOver, acceptsAll, uncut, erasesBegun, programsBegun}
 use Rattle.run_claims.specs.Made.{cyclesOfLoad}

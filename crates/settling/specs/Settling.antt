@@ -1,8 +1,7 @@
 -- Steps 1 to 3 of a cycle: what becomes of an operation before the read or write. Assumes nothing.
 use mathlib.Core.Bool.{Bool, true, false, not, _&&_, _||_}
 use Prim.Native.Nat.{ℕ, _+_, _-_}
-use lib.Bits.{bitAnd, bitOr}
-use lib.Dec.{eqb, ltb, leb}
+use lib.Dec.{eqb}
 use Rattle.cells.specs.Choice.{if_then_else_}
 use Rattle.device.specs.Parts.{blockOf, lengthOf}
 use Rattle.device.specs.declared.Part.{Part}
@@ -15,7 +14,9 @@ use Rattle.chip.specs.declared.State.{State}
 use Rattle.chip.specs.declared.Pins.{Pins}
 use Rattle.chip.specs.declared.Settled.{Settled}
 use Rattle.chip.specs.Levels.{rpLow, vppLow}
-use Rattle.chip.specs.States.{isBusy, isPending, atRest, resetOf}
+use Rattle.chip.specs.Status.{SR7, SR6, SR5, SR4, SR3, withBits, withoutBits}
+use Rattle.chip.specs.States.{atRest, resetOf}
+use Rattle.chip.specs.Phases.{isBusy, isPending}
 
 abbrev pub settledAs : State → Effect → Settled
 settledAs s e = record { state = s; effect = e }
@@ -43,9 +44,9 @@ abbrev pub cutBits : Phase → ℕ
 cutBits Free = 0
 cutBits EraseAwaited = 0
 cutBits DataAwaited = 0
-cutBits (Programming b) = 152
-cutBits Erasing = 168
-cutBits Suspended = 168
+cutBits (Programming b) = SR7 + SR4 + SR3
+cutBits Erasing = SR7 + SR5 + SR3
+cutBits Suspended = SR7 + SR5 + SR3
 
 -- the residue bytes that a cut needs: one for a program, the block's for an erase
 abbrev pub residueFor : Phase → Part → ℕ → ℕ
@@ -62,12 +63,12 @@ resetBy part s = settledAs (resetOf s) (cutOf (s .phase) part (s .address))
 
 -- step 2: VPP low with an operation running or suspended; SR.6 is cleared
 unfoldable pub cutBy : Part → State → Settled
-cutBy part s = settledAs (atRest Status (bitOr (bitAnd (s .status) 191) (cutBits (s .phase)))) (cutOf (s .phase) part (s .address))
+cutBy part s = settledAs (atRest Status (withBits (withoutBits (s .status) SR6) (cutBits (s .phase)))) (cutOf (s .phase) part (s .address))
 
--- step 3: a running operation counts one cycle off, and with none left it is finished
+-- step 3: a running operation counts one cycle off; at zero it is finished
 unfoldable pub countedOff : Part → State → Settled
 countedOff part s =
-    if leb (s .left) 1 then settledAs (atRest (s .mode) (bitOr (s .status) 128)) (endOf (s .phase) part (s .address))
+    if eqb (s .left - 1) 0 then settledAs (atRest (s .mode) (withBits (s .status) SR7)) (endOf (s .phase) part (s .address))
     else settledAs (record { mode = s .mode; status = s .status; phase = s .phase; left = s .left - 1; address = s .address }) Nothing
 
 -- the three steps in their order

@@ -7,6 +7,11 @@ use chip::Settled;
 use chip::State;
 use chip::levels::rp_low;
 use chip::levels::vpp_low;
+use chip::states::SR3;
+use chip::states::SR4;
+use chip::states::SR5;
+use chip::states::SR6;
+use chip::states::SR7;
 use chip::states::at_rest;
 use chip::states::is_busy;
 use chip::states::is_pending;
@@ -44,6 +49,13 @@ fn end(ph: Phase, part: Part, address: u32) -> Effect
     }
 }
 
+// What a cut by VPP sets, and what it keeps.
+const CUT_PROGRAM: u8 = SR7 + SR4 + SR3;
+
+const CUT_ERASE: u8 = SR7 + SR5 + SR3;
+
+const UNSUSPENDED: u8 = 0xFF - SR6;
+
 fn cut_bits(ph: Phase) -> u8
     ensures { λ r. ⌜ r ≡ cutBits ph ⌝ }
 {
@@ -51,9 +63,9 @@ fn cut_bits(ph: Phase) -> u8
         Phase::Free => 0,
         Phase::EraseAwaited => 0,
         Phase::DataAwaited => 0,
-        Phase::Programming(_) => 152,
-        Phase::Erasing => 168,
-        Phase::Suspended => 168,
+        Phase::Programming(_) => CUT_PROGRAM,
+        Phase::Erasing => CUT_ERASE,
+        Phase::Suspended => CUT_ERASE,
     }
 }
 
@@ -86,7 +98,7 @@ fn cut_by(part: Part, s: State) -> Settled
 {
     let ph = s.phase;
     Settled {
-        state: at_rest(Mode::Status, s.status & 191 | cut_bits(ph)),
+        state: at_rest(Mode::Status, s.status & UNSUSPENDED | cut_bits(ph)),
         effect: cut(ph, part, s.address),
     }
 }
@@ -98,7 +110,7 @@ fn counted_off(part: Part, s: State) -> Settled
     let m = s.mode;
     if s.left <= 1 {
         return Settled {
-            state: at_rest(m, s.status | 128),
+            state: at_rest(m, s.status | SR7),
             effect: end(ph, part, s.address),
         };
     }

@@ -19,6 +19,40 @@ ghost use mathlib.Core.Path.{_≡_};
 ghost use Rattle.twin.specs.Twins.{deviceIn, pinsIn, modeIn, modeOut, phaseIn, phaseOut, byteOut, noState, stateIn, stateOut, kindIn, kindOut, oeIn, cycleIn, cycleOut};
 ghost use Rattle.twin.specs.Answers.{stateBack, seenOut, valueOut, answerOut, ranOut};
 
+// Modes as numbers.
+pub const ARRAY: u8 = 0;
+
+pub const STATUS: u8 = 1;
+
+pub const IDENTIFIER: u8 = 2;
+
+// Phases as numbers. From PROGRAMMING on an operation is running or suspended.
+pub const FREE: u8 = 0;
+
+pub const ERASE_AWAITED: u8 = 1;
+
+pub const DATA_AWAITED: u8 = 2;
+
+pub const PROGRAMMING: u8 = 3;
+
+pub const ERASING: u8 = 4;
+
+pub const SUSPENDED: u8 = 5;
+
+// Kinds of cycle as numbers.
+pub const READ: u8 = 0;
+
+pub const WRITE: u8 = 1;
+
+pub const IDLE: u8 = 2;
+
+// What a cycle answers, as a number.
+pub const NO_DATA: u8 = 0;
+
+pub const BYTE: u8 = 1;
+
+pub const REFUSED: u8 = 2;
+
 pub fn device_in(n: DeviceNumbers) -> Device
     ensures { λ r. ⌜ r ≡ deviceIn n ⌝ }
 {
@@ -38,10 +72,10 @@ pub fn pins_in(rp: u8, vpp: u32) -> Pins
 fn mode_in(n: u8) -> Mode
     ensures { λ r. ⌜ r ≡ modeIn n ⌝ }
 {
-    if n == 0 {
+    if n == ARRAY {
         return Mode::Array;
     }
-    if n == 1 {
+    if n == STATUS {
         return Mode::Status;
     }
     Mode::Identifier
@@ -51,28 +85,28 @@ fn mode_out(m: Mode) -> u8
     ensures { λ r. ⌜ r ≡ modeOut m ⌝ }
 {
     match m {
-        Mode::Array => 0,
-        Mode::Status => 1,
-        Mode::Identifier => 2,
+        Mode::Array => ARRAY,
+        Mode::Status => STATUS,
+        Mode::Identifier => IDENTIFIER,
     }
 }
 
 pub fn phase_in(n: u8, byte: u8) -> Phase
     ensures { λ r. ⌜ r ≡ phaseIn n byte ⌝ }
 {
-    if n == 0 {
+    if n == FREE {
         return Phase::Free;
     }
-    if n == 1 {
+    if n == ERASE_AWAITED {
         return Phase::EraseAwaited;
     }
-    if n == 2 {
+    if n == DATA_AWAITED {
         return Phase::DataAwaited;
     }
-    if n == 3 {
+    if n == PROGRAMMING {
         return Phase::Programming(byte);
     }
-    if n == 4 {
+    if n == ERASING {
         return Phase::Erasing;
     }
     Phase::Suspended
@@ -82,12 +116,12 @@ fn phase_out(ph: Phase) -> u8
     ensures { λ r. ⌜ r ≡ phaseOut ph ⌝ }
 {
     match ph {
-        Phase::Free => 0,
-        Phase::EraseAwaited => 1,
-        Phase::DataAwaited => 2,
-        Phase::Programming(_) => 3,
-        Phase::Erasing => 4,
-        Phase::Suspended => 5,
+        Phase::Free => FREE,
+        Phase::EraseAwaited => ERASE_AWAITED,
+        Phase::DataAwaited => DATA_AWAITED,
+        Phase::Programming(_) => PROGRAMMING,
+        Phase::Erasing => ERASING,
+        Phase::Suspended => SUSPENDED,
     }
 }
 
@@ -107,7 +141,7 @@ fn byte_out(ph: Phase) -> u8
 fn no_state(n: StateNumbers) -> bool
     ensures { λ r. ⌜ r ≡ noState n ⌝ }
 {
-    (2 < n.mode) | (5 < n.phase) | (!(n.byte == 0) & !(n.phase == 3))
+    (IDENTIFIER < n.mode) | (SUSPENDED < n.phase) | (!(n.byte == 0) & !(n.phase == PROGRAMMING))
 }
 
 pub fn state_in(n: StateNumbers) -> State
@@ -159,10 +193,10 @@ pub(crate) fn state_back(n: StateNumbers, s: State) -> StateNumbers
 fn kind_in(n: u8) -> Kind
     ensures { λ r. ⌜ r ≡ kindIn n ⌝ }
 {
-    if n == 0 {
+    if n == READ {
         return Kind::Read;
     }
-    if n == 1 {
+    if n == WRITE {
         return Kind::Write;
     }
     Kind::Idle
@@ -172,16 +206,16 @@ fn kind_out(kind: Kind) -> u8
     ensures { λ r. ⌜ r ≡ kindOut kind ⌝ }
 {
     match kind {
-        Kind::Read => 0,
-        Kind::Write => 1,
-        Kind::Idle => 2,
+        Kind::Read => READ,
+        Kind::Write => WRITE,
+        Kind::Idle => IDLE,
     }
 }
 
 fn oe_in(kind: u8, oe: u8) -> u8
     ensures { λ r. ⌜ r ≡ oeIn kind oe ⌝ }
 {
-    if 2 < kind {
+    if IDLE < kind {
         return 2;
     }
     oe
@@ -217,9 +251,9 @@ fn seen_out(seen: Seen) -> u8
     ensures { λ r. ⌜ r ≡ seenOut seen ⌝ }
 {
     match seen {
-        Seen::NoData => 0,
-        Seen::Byte(_) => 1,
-        Seen::Refused(_) => 2,
+        Seen::NoData => NO_DATA,
+        Seen::Byte(_) => BYTE,
+        Seen::Refused(_) => REFUSED,
     }
 }
 

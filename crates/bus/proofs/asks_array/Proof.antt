@@ -1,5 +1,5 @@
 use borrow.Author.Needs.{needs}
-use Rattle.bus.specs.Arms.{asksArray}
+use Rattle.bus.specs.Inner.{asksArray}
 use Rattle.bus.proofs.asks_array.Statement.{statement}
 use Rattle.bus.proofs.asks_array.Tie as tie
 

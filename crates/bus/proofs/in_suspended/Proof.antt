@@ -1,6 +1,6 @@
 use borrow.Author.Needs.{needs}
 use mathlib.Core.Path.{sym, _∙_}
-use Rattle.bus.specs.Arms.{inSuspended}
+use Rattle.bus.specs.Inner.{inSuspended}
 use Rattle.bus.proofs.in_suspended.Statement.{statement}
 use Rattle.bus.proofs.in_suspended.Tie as tie
 

@@ -1,6 +1,6 @@
 use borrow.Author.Needs.{needs}
 use mathlib.Core.Path.{sym, _∙_}
-use Rattle.bus.specs.Arms.{arrayArm}
+use Rattle.bus.specs.Inner.{arrayArm}
 use Rattle.bus.proofs.read_array.Statement.{statement}
 use Rattle.bus.proofs.read_array.Tie as tie
 

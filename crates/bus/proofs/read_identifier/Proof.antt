@@ -1,6 +1,6 @@
 use borrow.Author.Needs.{needs}
 use borrow.Author.Tests.{lt-ltb, le-ltb}
-use Rattle.bus.specs.Arms.{identifierArm}
+use Rattle.bus.specs.Inner.{identifierArm}
 use Rattle.bus.proofs.read_identifier.Statement.{statement}
 use Rattle.bus.proofs.read_identifier.Tie as tie
 

@@ -1,6 +1,6 @@
 use borrow.Author.Needs.{needs}
 use mathlib.Core.Path.{sym, _∙_}
-use Rattle.bus.specs.Arms.{writeArm}
+use Rattle.bus.specs.Inner.{writeArm}
 use Rattle.bus.proofs.write.Statement.{statement}
 use Rattle.bus.proofs.write.Tie as tie
 

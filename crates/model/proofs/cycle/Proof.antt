@@ -6,7 +6,7 @@ use Rattle.bus.specs.Cycles.{judgeOf, refusedBy, decideOf}
 use Rattle.bus.proofs.Passing.{stops}
 use Rattle.model.specs.declared.Seen.the-variants.{Refused}
 use Rattle.model.specs.Arrays.{arrayOf, seenOf, answerOf, arrayAfter}
-use Rattle.model.proofs.Passing.{passed-answer, passed-array}
+use Rattle.model.proofs.Passing.{judged-answer, judged-array}
 use Rattle.model.proofs.cycle.Statement.{statement}
 use Rattle.model.proofs.cycle.Tie as tie
 
@@ -30,8 +30,8 @@ returns c =
       sym (ap (λ (x : Decision). arrayOf (x .effect) (a .d .part) rs xs) e),
     )
 
-passed-requires : tie.Need-passed-requires
-passed-requires c κs = search needs
+after-judging-requires : tie.Need-after-judging-requires
+after-judging-requires c κs = search needs
 
 same-length : tie.Need-same-length
 same-length c = search needs
@@ -42,11 +42,11 @@ returns-2 c =
     let xs = a .array .now in
     let rs = a .residue .now in
     let z : judgeOf (a .d) (a .s) (a .c) (length xs) (length rs) ≡ 0 = sym (c .before .before .before .before .before .judge .ensures) ∙ c .before .before .before .before .if1 .left in (
-      c .before .before .passed .ensures .0 ∙ passed-answer (a .d) (a .s) (a .c) xs rs z,
-      c .before .before .passed .ensures .1 ∙ passed-array (a .d) (a .s) (a .c) xs rs z,
+      c .before .before .after-judging .ensures .0 ∙ judged-answer (a .d) (a .s) (a .c) xs rs z,
+      c .before .before .after-judging .ensures .1 ∙ judged-array (a .d) (a .s) (a .c) xs rs z,
     )
 
 pub cycle-spec : {M : Type 1} → statement M
 cycle-spec =
     tie.close
-    (tie.spec judge-requires refused-requires returns passed-requires same-length returns-2)
+    (tie.spec judge-requires refused-requires returns after-judging-requires same-length returns-2)

@@ -7,7 +7,7 @@ use lib.Dec.{eqb}
 use Rattle.cells.proofs.Choice.{if-true, if-false}
 use Rattle.device.specs.Parts.{sizeOf}
 use Rattle.model.specs.Arrays.{erased}
-use Rattle.model.specs.Passed.{erasedAt}
+use Rattle.model.specs.Inner.{erasedAt}
 use Rattle.model.proofs.erase_at.Statement.{statement}
 use Rattle.model.proofs.erase_at.Tie as tie
 

@@ -5,7 +5,7 @@ use mathlib.Core.Path.{sym, _∙_}
 use lib.ListN.{length}
 use lib.Dec.{ltb}
 use Rattle.cells.proofs.Choice.{if-true, if-false}
-use Rattle.model.specs.Passed.{programmedAt}
+use Rattle.model.specs.Inner.{programmedAt}
 use Rattle.model.proofs.program_at.Statement.{statement}
 use Rattle.model.proofs.program_at.Tie as tie
 

@@ -6,8 +6,8 @@ use Rattle.model.specs.declared.Answer.{Answer}
 use lib.ListN.{length}
 use Rattle.bus.specs.Cycles.{judgeOf}
 use Rattle.model.specs.Arrays.{answerOf}
-use Rattle.model.specs.Passed.{passedOf, arrayPassed}
-use Rattle.model.proofs.Passing.{passed-answer, passed-array}
+use Rattle.model.specs.Inner.{answerJudged, arrayJudged}
+use Rattle.model.proofs.Passing.{judged-answer, judged-array}
 use Rattle.run.specs.Turns.{loaderBy, scratchBy, answerTo, arrayTo}
 use borrow.Author.Needs.{needs}
 use Rattle.run.proofs.both.Statement.{statement}
@@ -19,17 +19,17 @@ here-requires c κs = c .before .before .before .before .before .pre .0
 cycle-in-requires : tie.Need-cycle-in-requires
 cycle-in-requires c κs = search needs
 
-sub-passed : tie.Need-sub-passed
-sub-passed c = search needs
+sub-after-judging : tie.Need-sub-after-judging
+sub-after-judging c = search needs
 
-part-passed-start : tie.Need-part-passed-start
-part-passed-start c = search needs
+part-after-judging-start : tie.Need-part-after-judging-start
+part-after-judging-start c = search needs
 
-part-passed-end : tie.Need-part-passed-end
-part-passed-end c = search needs
+part-after-judging-end : tie.Need-part-after-judging-end
+part-after-judging-end c = search needs
 
-passed-requires : tie.Need-passed-requires
-passed-requires c κs = search needs
+after-judging-requires : tie.Need-after-judging-requires
+after-judging-requires c κs = search needs
 
 taken-requires : tie.Need-taken-requires
 taken-requires c κs = search needs
@@ -53,13 +53,13 @@ returns c =
     let z : judgeOf (a .d) s (cycleOf l w) (length xs) 0 ≡ 0 = c .before .before .before .before .before .before .before .before .before .before .before .before .before .before .before .before .before .pre .1 in
     let q : c .before .before .before .before .before .before .before .before .before .before .before .here .result ≡ hereOf l = c .before .before .before .before .before .before .before .before .before .before .before .here .ensures in
     let o : c .before .before .before .before .before .before .before .before .before .before .cycle-in .result ≡ cycleOf l w = c .before .before .before .before .before .before .before .before .before .before .cycle-in .ensures ∙ (λ i. cycleIn (l .stage) (f i) (q i) l w) in
-    let x : c .before .before .before .before .before .before .before .passed .result ≡ answerOf (a .d) s (cycleOf l w) xs [] = c .before .before .before .before .before .before .before .passed .ensures .0 ∙ ap (λ (k : Cycle). passedOf (a .d) s k xs []) o ∙ passed-answer (a .d) s (cycleOf l w) xs [] z in (
+    let x : c .before .before .before .before .before .before .before .after-judging .result ≡ answerOf (a .d) s (cycleOf l w) xs [] = c .before .before .before .before .before .before .before .after-judging .ensures .0 ∙ ap (λ (k : Cycle). answerJudged (a .d) s k xs []) o ∙ judged-answer (a .d) s (cycleOf l w) xs [] z in (
       c .before .before .taken .ensures .0 ∙ ap (λ (y : Answer). loaderBy (y .seen) l w sc) x,
       (
         ap (λ (y : Answer). y .state) x,
         (
           c .before .before .taken .ensures .1 ∙ ap (λ (y : Answer). scratchBy (y .seen) l sc) x,
-          c .before .before .before .before .before .before .before .passed .ensures .1 ∙ ap (λ (k : Cycle). arrayPassed (a .d) s k xs []) o ∙ passed-array (a .d) s (cycleOf l w) xs [] z,
+          c .before .before .before .before .before .before .before .after-judging .ensures .1 ∙ ap (λ (k : Cycle). arrayJudged (a .d) s k xs []) o ∙ judged-array (a .d) s (cycleOf l w) xs [] z,
         ),
       ),
     )
@@ -70,10 +70,10 @@ both-spec =
     (tie.spec
     here-requires
     cycle-in-requires
-    sub-passed
-    part-passed-start
-    part-passed-end
-    passed-requires
+    sub-after-judging
+    part-after-judging-start
+    part-after-judging-end
+    after-judging-requires
     taken-requires
     same-length
     same-length-2

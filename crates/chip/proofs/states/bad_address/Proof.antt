@@ -1,6 +1,6 @@
 use borrow.Author.Needs.{needs}
 use mathlib.Core.Path.{sym, _∙_}
-use Rattle.chip.specs.States.{badAddress}
+use Rattle.chip.specs.Inner.{badAddress}
 use Rattle.chip.proofs.states.bad_address.Statement.{statement}
 use Rattle.chip.proofs.states.bad_address.Tie as tie
 

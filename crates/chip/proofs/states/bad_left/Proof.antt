@@ -1,6 +1,6 @@
 use borrow.Author.Needs.{needs}
 use mathlib.Core.Path.{sym, _∙_}
-use Rattle.chip.specs.States.{badLeft}
+use Rattle.chip.specs.Inner.{badLeft}
 use Rattle.chip.proofs.states.bad_left.Statement.{statement}
 use Rattle.chip.proofs.states.bad_left.Tie as tie
 

@@ -1,5 +1,5 @@
 use borrow.Author.Needs.{needs}
-use Rattle.chip.specs.States.{badStatus}
+use Rattle.chip.specs.Inner.{badStatus}
 use Rattle.chip.proofs.states.bad_status.Statement.{statement}
 use Rattle.chip.proofs.states.bad_status.Tie as tie
 

@@ -1,5 +1,6 @@
 use borrow.Author.Needs.{needs}
-use Rattle.chip.specs.States.{improper}
+use mathlib.Core.Path.{sym, _∙_}
+use Rattle.chip.proofs.Proper.{improper-parts}
 use Rattle.chip.proofs.states.improper.Statement.{statement}
 use Rattle.chip.proofs.states.improper.Tie as tie
 
@@ -16,8 +17,9 @@ bad-address-requires : tie.Need-bad-address-requires
 bad-address-requires c κs = search needs
 
 returns : tie.Need-returns
-unfolding improper
-returns c = simp (c .bad-address .ensures, c .before .bad-left .ensures, c .before .before .bad-status .ensures, c .before .before .before .bad-mode .ensures)
+returns c =
+    simp (c .bad-address .ensures, c .before .bad-left .ensures, c .before .before .bad-status .ensures, c .before .before .before .bad-mode .ensures)
+    (sym (improper-parts _ _))
 
 pub improper-spec : {M : Type 1} → statement M
 improper-spec =

@@ -4,9 +4,9 @@ use Rattle.cells.proofs.Choice.{if-true, if-false}
 use Rattle.chip.specs.declared.Settled.{Settled}
 use Rattle.chip.specs.declared.Reply.the-variants.{Quiet}
 use Rattle.chip.specs.Levels.{rpLow}
-use Rattle.bus.specs.Arms.{givenBy, arm, passOf}
-use Rattle.bus.proofs.pass.Statement.{statement}
-use Rattle.bus.proofs.pass.Tie as tie
+use Rattle.bus.specs.Inner.{givenBy, arm, decideJudged}
+use Rattle.bus.proofs.decide_judged.Statement.{statement}
+use Rattle.bus.proofs.decide_judged.Tie as tie
 
 settle-requires : tie.Need-settle-requires
 settle-requires c κs = search needs
@@ -18,7 +18,7 @@ given-requires : tie.Need-given-requires
 given-requires c κs = search needs
 
 returns : tie.Need-returns
-unfolding passOf
+unfolding decideJudged
 returns c =
     let a = c .before .before .before .before .before .before .args in
     c .given .ensures ∙ ap (λ (t : Settled). givenBy Quiet t) (c .before .before .before .settle .ensures)
@@ -28,11 +28,11 @@ respond-requires : tie.Need-respond-requires
 respond-requires c κs = search needs
 
 returns-2 : tie.Need-returns-2
-unfolding passOf
+unfolding decideJudged
 returns-2 c =
     let a = c .before .before .before .before .before .before .args in
     c .respond .ensures ∙ ap (λ (t : Settled). arm (a .c .kind) (a .d) (a .s) (a .c) t) (c .before .before .before .settle .ensures)
     ∙ sym (if-false (rpLow (a .c .pins)) _ _ (sym (c .before .before .rp-low .ensures) ∙ c .before .if1 .left))
 
-pub pass-spec : {M : Type 1} → statement M
-pass-spec = tie.close (tie.spec settle-requires rp-low-requires given-requires returns respond-requires returns-2)
+pub decide-judged-spec : {M : Type 1} → statement M
+decide-judged-spec = tie.close (tie.spec settle-requires rp-low-requires given-requires returns respond-requires returns-2)

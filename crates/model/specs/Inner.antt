@@ -1,5 +1,6 @@
--- A cycle that refusals 1 to 6 let pass, on any array and residue. That it is the cycle's answer where they do is proved
--- (`passed-answer`); nothing here needs to be believed. Assumes nothing.
+-- A cycle after it was judged, on any array and residue. Not part of what a buyer must believe, and meant only for callers that know
+-- refusals 1 to 6 not to apply: that it then is the cycle's answer is proved (`judged-answer`). Where one of them would apply, it
+-- answers what the rules forbid: a byte, a new state or a changed array instead of the refusal. Assumes nothing.
 use mathlib.Core.Bool.{Bool, true, _&&_}
 use mathlib.Core.List.{List}
 use Prim.Native.Nat.{ℕ}
@@ -14,7 +15,7 @@ use Rattle.chip.specs.declared.Effect.{Effect}
 use Rattle.chip.specs.declared.Effect.the-variants.{Nothing, Program, Erase, CutProgram, CutErase}
 use Rattle.chip.specs.declared.State.{State}
 use Rattle.chip.specs.declared.Cycle.{Cycle}
-use Rattle.bus.specs.Arms.{passOf}
+use Rattle.bus.specs.Inner.{decideJudged}
 use Rattle.model.specs.declared.Answer.{Answer}
 use Rattle.model.specs.Arrays.{erased, arrayOf, seenOf}
 
@@ -37,9 +38,9 @@ programmedAt at b xs = if ltb at (length xs) then set xs at (bitAnd (getD xs at 
 unfoldable pub erasedAt : Part → ℕ → List ℕ → List ℕ
 erasedAt part a xs = if eqb (length xs) (sizeOf part) then erased part (blockOf part a) xs else xs
 
--- the array after a cycle that passed, and the answer to it
-unfoldable pub arrayPassed : Device → State → Cycle → List ℕ → List ℕ → List ℕ
-arrayPassed d s c xs rs = doneOf (passOf d s c .effect) (d .part) rs xs
+-- the array after a cycle that was judged, and the answer to it: only where refusals 1 to 6 do not apply
+unfoldable pub arrayJudged : Device → State → Cycle → List ℕ → List ℕ → List ℕ
+arrayJudged d s c xs rs = doneOf (decideJudged d s c .effect) (d .part) rs xs
 
-unfoldable pub passedOf : Device → State → Cycle → List ℕ → List ℕ → Answer
-passedOf d s c xs rs = record { seen = seenOf (passOf d s c .reply) (arrayPassed d s c xs rs); state = passOf d s c .state }
+unfoldable pub answerJudged : Device → State → Cycle → List ℕ → List ℕ → Answer
+answerJudged d s c xs rs = record { seen = seenOf (decideJudged d s c .reply) (arrayJudged d s c xs rs); state = decideJudged d s c .state }

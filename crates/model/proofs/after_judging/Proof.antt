@@ -6,12 +6,12 @@ use Rattle.chip.specs.declared.Decision.{Decision}
 use Rattle.chip.specs.declared.Effect.the-variants.{Nothing}
 use Rattle.chip.specs.declared.Reply.the-variants.{GivesArray}
 use Rattle.bus.specs.Cycles.{decidedAs}
-use Rattle.bus.specs.Arms.{passOf}
+use Rattle.bus.specs.Inner.{decideJudged}
 use Rattle.bus.proofs.Passing.{shows}
 use Rattle.model.specs.Arrays.{seenOf}
-use Rattle.model.specs.Passed.{doneOf, passedOf, arrayPassed}
-use Rattle.model.proofs.passed.Statement.{statement}
-use Rattle.model.proofs.passed.Tie as tie
+use Rattle.model.specs.Inner.{doneOf, answerJudged, arrayJudged}
+use Rattle.model.proofs.after_judging.Statement.{statement}
+use Rattle.model.proofs.after_judging.Tie as tie
 
 asks-array-requires : tie.Need-asks-array-requires
 asks-array-requires c κs = search needs
@@ -23,17 +23,17 @@ same-length : tie.Need-same-length
 same-length c = search needs
 
 returns : tie.Need-returns
-unfolding passedOf arrayPassed
+unfolding answerJudged arrayJudged
 returns c =
     let a = c .before .before .before .before .before .before .args in
     let xs = a .array .now in
     let rs = a .residue .now in
-    let e : passOf (a .d) (a .s) (a .c) ≡ decidedAs (GivesArray (a .c .address)) (a .s) Nothing =
+    let e : decideJudged (a .d) (a .s) (a .c) ≡ decidedAs (GivesArray (a .c .address)) (a .s) Nothing =
     shows (a .d) (a .s) (a .c) (sym (c .before .before .before .asks-array .ensures) ∙ c .before .before .if1 .taken) in
     (c .show .ensures ∙ sym (ap (λ (x : Decision). record { seen = seenOf (x .reply) (doneOf (x .effect) (a .d .part) rs xs); state = x .state }) e), sym (ap (λ (x : Decision). doneOf (x .effect) (a .d .part) rs xs) e))
 
-pass-requires : tie.Need-pass-requires
-pass-requires c κs = search needs
+decide-judged-requires : tie.Need-decide-judged-requires
+decide-judged-requires c κs = search needs
 
 put-requires : tie.Need-put-requires
 put-requires c κs = search needs
@@ -45,28 +45,28 @@ same-length-2 : tie.Need-same-length-2
 same-length-2 c = search needs
 
 returns-2 : tie.Need-returns-2
-unfolding passedOf arrayPassed
+unfolding answerJudged arrayJudged
 returns-2 c =
     let a = c .before .before .before .before .before .before .before .before .before .before .before .before .before .args in
     let xs = a .array .now in
     let rs = a .residue .now in
-    let x : Decision = passOf (a .d) (a .s) (a .c) in
-    let e : c .before .before .before .before .before .before .before .pass .result ≡ x = c .before .before .before .before .before .before .before .pass .ensures in
+    let x : Decision = decideJudged (a .d) (a .s) (a .c) in
+    let e : c .before .before .before .before .before .before .before .decide-judged .result ≡ x = c .before .before .before .before .before .before .before .decide-judged .ensures in
     let left : c .before .before .before .before .put .last .1 .1 .0 ≡ doneOf (x .effect) (a .d .part) rs xs = c .before .before .before .before .put .ensures ∙ ap (λ (y : Decision). doneOf (y .effect) (a .d .part) rs xs) e in
     let p : c .see .result ≡ seenOf (x .reply) (doneOf (x .effect) (a .d .part) rs xs) =
     c .see .ensures ∙ ap (λ (y : Decision). seenOf (y .reply) (c .before .before .before .before .put .last .1 .1 .0)) e ∙ ap (λ (ys : List ℕ). seenOf (x .reply) ys) left in
-    let q : c .before .before .before .before .before .before .before .pass .result .state ≡ x .state = ap (λ (y : Decision). y .state) e in
+    let q : c .before .before .before .before .before .before .before .decide-judged .result .state ≡ x .state = ap (λ (y : Decision). y .state) e in
     (λ i. record { seen = p i; state = q i }, left)
 
-pub passed-spec : {M : Type 1} → statement M
-passed-spec =
+pub after-judging-spec : {M : Type 1} → statement M
+after-judging-spec =
     tie.close
     (tie.spec
     asks-array-requires
     show-requires
     same-length
     returns
-    pass-requires
+    decide-judged-requires
     put-requires
     see-requires
     same-length-2

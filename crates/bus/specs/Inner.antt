@@ -1,5 +1,6 @@
--- The answers to a cycle that refusals 1 to 6 let pass, kind by kind, in the order in which the code asks. That these are the
--- answers of the table is proved (`by-arms`); nothing here needs to be believed. Assumes nothing.
+-- The answers kind by kind, in the order in which the code asks. Not part of what a buyer must believe, and meant only for callers
+-- that know refusals 1 to 6 not to apply: that the table then gives the same is proved (`passes`). Where one of them would apply,
+-- what is said here is not the device's answer. Assumes nothing.
 use mathlib.Core.Bool.{Bool, true, false, not, _&&_}
 use Prim.Native.Nat.{ℕ}
 use lib.Dec.{eqb, ltb}
@@ -9,8 +10,6 @@ use Rattle.device.specs.declared.Part.{Part}
 use Rattle.device.specs.declared.Device.{Device}
 use Rattle.chip.specs.declared.Mode.{Mode}
 use Rattle.chip.specs.declared.Mode.the-variants.{Array, Status, Identifier}
-use Rattle.chip.specs.declared.Phase.{Phase}
-use Rattle.chip.specs.declared.Phase.the-variants.{Free, EraseAwaited, DataAwaited, Programming, Erasing, Suspended}
 use Rattle.chip.specs.Levels.{rpLow}
 use Rattle.chip.specs.States.{isArray}
 use Rattle.chip.specs.declared.Kind.{Kind}
@@ -24,7 +23,9 @@ use Rattle.chip.specs.declared.State.{State}
 use Rattle.chip.specs.declared.Cycle.{Cycle}
 use Rattle.settling.specs.Settling.{settleOf}
 use Rattle.commands.specs.Commands.{actionOf, isRefuse, performedOf}
-use Rattle.bus.specs.Cycles.{isRead, isSuspended, decidedAs, refusedBy, identifierOf}
+use Rattle.bus.specs.Cycles.{decidedAs, refusedBy, identifierOf}
+use Rattle.chip.specs.Phases.{isSuspended, isFree}
+use Rattle.chip.specs.Kinds.{isRead}
 
 -- the settled state and effect under a reply
 abbrev pub givenBy : Reply → Settled → Decision
@@ -52,23 +53,16 @@ readArm Identifier part s c t = identifierArm part s c t
 unfoldable pub writeArm : Action → Device → State → Cycle → Settled → Decision
 writeArm a d s c t = if isRefuse a then refusedBy 7 s else decidedAs Quiet (performedOf a d c (t .state)) (t .effect)
 
+-- step 4, by the kind of the cycle
 abbrev pub arm : Kind → Device → State → Cycle → Settled → Decision
 arm Read d s c t = readArm (t .state .mode) (d .part) s c t
 arm Write d s c t = writeArm (actionOf (t .state .phase) (c .byte)) d s c t
 arm Idle d s c t = givenBy Quiet t
 
--- a cycle that refusals 1 to 6 let pass; with RP# low it ends after step 1
-unfoldable pub passOf : Device → State → Cycle → Decision
-passOf d s c =
+-- a cycle that refusals 1 to 6 do not stop; with RP# low it ends after step 1
+unfoldable pub decideJudged : Device → State → Cycle → Decision
+decideJudged d s c =
     if rpLow (c .pins) then givenBy Quiet (settleOf (d .part) s (c .pins)) else arm (c .kind) d s c (settleOf (d .part) s (c .pins))
-
-abbrev pub isFree : Phase → Bool
-isFree Free = true
-isFree EraseAwaited = false
-isFree DataAwaited = false
-isFree (Programming b) = false
-isFree Erasing = false
-isFree Suspended = false
 
 -- an array read of a device with nothing awaited, running or suspended, RP# up
 unfoldable pub asksArray : State → Cycle → Bool
