@@ -6,7 +6,7 @@ use Prim.Native.Nat.{ℕ}
 use native.Mathlib.Omega.{arith}
 use lib.ListN.{length}
 use lib.Dec.{ltb}
-use borrow.Author.Tests.{eq-eqb, ne-eqb}
+use borrow.Author.Tests.{eq-eqb}
 use Rattle.cells.proofs.Choice.{if-false}
 use Rattle.cells.specs.Numbers.{Foremost, here, below}
 use Rattle.cells.proofs.Numbers.{foremost-given}
