@@ -8,14 +8,11 @@ use lib.ListN.{length, getD, take, drop, replicate}
 use lib.Seq.{getD-drop, getD-take, drop-cons}
 use lib.Dec.{eqb}
 use borrow.Author.Tests.{eq-eqb, eqb-true}
+use Rattle.cells.specs.Lists.{Bytes}
 use Rattle.cells.proofs.Choice.{if-true, if-false}
 use Rattle.blocks.specs.Block.{allAre}
 
--- every element is a byte (past the end 0 is read)
-abbrev pub Bytes : List ℕ → Type 0
-Bytes f = (k : ℕ) → getD f k 0 < 256
-
--- so is every element of what is left behind a place
+-- every element of what is left behind a place is a byte
 pub bytes-drop : (n : ℕ) (f : List ℕ) → Bytes f → Bytes (drop n f)
 bytes-drop n f h k = subst (λ (x : ℕ). x < 256) (sym (getD-drop n f k 0)) (h (n + k))
 

@@ -13,6 +13,7 @@ use Rattle.cells.proofs.Choice.{if-true, if-false}
 use Rattle.cells.specs.Numbers.{Row, row, given, Foremost, here, below, NoRow, numbered}
 use Rattle.cells.proofs.Numbers.{foremost-given, no-row-given, given-foremost, given-no-row, given-append}
 use Rattle.loadfile.specs.File.{Outcome, refused, made, outcomeBy, inRoom, fileOf, payloadOf, blocksIn, lengthWrong, writeRows, readRows, blocksRows, readerOf, writerOf}
+use Rattle.loadfile_claims.specs.Tabled.{Ordered}
 use Rattle.loadfile.proofs.Tables.{blocks-append, blocks-numbered}
 use Rattle.loadfile.proofs.Outcomes.{outcome-refused, outcome-made, outcome-lets}
 
@@ -24,11 +25,6 @@ foremost-numbered m (below {r = r} {rs = rs} h f) z = go (eqb (r .number) 0) ref
     go : (t : Bool) → eqb (r .number) 0 ≡ t → (numbered rs ≡ true → ⊥) → ⊥
     go true q rest = let w : false ≡ true = sym (if-true (eqb (r .number) 0) false (numbered rs) q) ∙ m in let x : _≡_ {A = ℕ} 0 1 = cc in omega arith
     go false q rest = rest (sym (if-false (eqb (r .number) 0) false (numbered rs) q) ∙ m)
-
--- an outcome by a table: refused by n exactly where n's row is the first that holds, let through exactly where none holds
-pub record Ordered (rs : List Row) (bytes : List ℕ) (o : Outcome) : Type 0 where
-  pub refuses : (n : ℕ) → o ≡ refused n ↔ Foremost rs n
-  pub lets : o ≡ made bytes ↔ NoRow rs
 
 refused-inv : (x : ℕ) (bytes : List ℕ) (n : ℕ) → outcomeBy x bytes ≡ refused n → (x ≡ n) × (n ≡ 0 → ⊥)
 refused-inv x bytes n e = go (eqb x 0) refl

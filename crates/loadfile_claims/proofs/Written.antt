@@ -17,7 +17,8 @@ use Rattle.loadfile.specs.Layout.{headOf, frontOf, blockOf}
 use Rattle.loadfile.specs.File.{countOf, blocksOf, fileOf, blocksRows, payloadOf, blocksIn, refused, made, lengthWrong, readerOf, writerOf}
 use Rattle.loadfile.proofs.Sizes.{front-length, block-length, chunk-length, blocks-length}
 use Rattle.loadfile.proofs.Outcomes.{payload-right, length-fits, reader-made, reader-35, writer-lets}
-use Rattle.loadfile_claims.proofs.Bytes.{Bytes, bytes-none, none, more, each-bytes, bytes-append, bytes-take, bytes-drop, bytes-replicate, repeated-all}
+use Rattle.cells.specs.Lists.{Bytes}
+use Rattle.loadfile_claims.proofs.Bytes.{bytes-none, none, more, each-bytes, bytes-append, bytes-take, bytes-drop, bytes-replicate, repeated-all}
 
 -- one block, from its payload bytes
 module _ (ℓ i n : ℕ) (chunk : List ℕ) (few : length chunk ≤ 505) where
