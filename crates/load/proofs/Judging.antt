@@ -2,14 +2,14 @@
 use mathlib.Core.Path.{_≡_, refl, sym, ap, _∙_}
 use mathlib.Core.Bool.{Bool, true, false, not, _||_}
 use mathlib.Core.List.{List, [], _∷_}
-use Prim.Native.Nat.{ℕ, zero, suc, _+_, _≤_, _<_}
+use Prim.Native.Nat.{ℕ, _≤_, _<_}
 use native.Mathlib.Omega.{arith}
-use lib.ListN.{length, getD, drop}
+use lib.ListN.{length, getD}
 use lib.Dec.{eqb, ltb}
 use borrow.Author.Tests.{eqb-true, ltb-false, le-ltb, lt-ltb}
 use Rattle.cells.specs.Choice.{if_then_else_}
 use Rattle.cells.proofs.Choice.{if-true, if-false, or-right}
-use Rattle.cells.specs.Numbers.{Row, row, given, numbered, NoRow}
+use Rattle.cells.specs.Numbers.{row, given, numbered, NoRow}
 use Rattle.cells.proofs.Numbers.{given-append, given-no-row, no-head}
 use Rattle.device.specs.declared.Device.{Device}
 use Rattle.chip.specs.declared.Pins.{Pins}
@@ -17,13 +17,10 @@ use Rattle.chip.specs.declared.State.{State}
 use Rattle.run.specs.Runs.{runRows, runNumber}
 use Rattle.loadfile.specs.File.{Outcome, refused, made, outcomeBy, limit, lengthWrong, blocksIn, blocksRows, payloadOf, readRows, readerOf, judgedAs}
 use Rattle.loadfile.specs.declared.Judged.the-variants.{Sound, Unsound}
+use Rattle.loadfile.proofs.Tables.{blocks-numbered}
 use Rattle.load.specs.Loads.{fileRows, fileNumber, loadRows, loadNumber}
 
--- no row of a table has the number 0
-blocks-numbered : (left first i n : ℕ) (f : List ℕ) (rest : List Row) → numbered (blocksRows left first i n f rest) ≡ numbered rest
-blocks-numbered zero first i n f rest = refl
-blocks-numbered (suc left) first i n f rest = blocks-numbered left first (i + 1) n (drop 512 f) rest
-
+-- no row of a load has the number 0
 file-numbered : (f : List ℕ) (asked n : ℕ) → numbered (fileRows f asked n) ≡ true
 file-numbered f asked n = blocks-numbered (blocksIn f) (getD f 0 0) 0 (blocksIn f) f (row 35 (not (eqb (getD f 0 0) asked)) ∷ [])
 
@@ -46,6 +43,7 @@ both-none a b e = go (eqb a 0) refl
         let z : a ≡ 0 = sym (if-false (eqb a 0) b a q) ∙ e in
         absurd (let y : _≡_ {A = ℕ} 0 1 = let v : true ≡ false = sym (ap (λ (m : ℕ). eqb m 0) z) ∙ q in cc in omega arith)
 
+-- a load that nothing refuses: neither its run nor its file is refused
 pub none-refuses : (d : Device) (s : State) (p : Pins) (k array w sc : ℕ) (f : List ℕ) (asked : ℕ) → loadNumber d s p k array w sc f asked ≡ 0
     → (runNumber d s p k array w sc ≡ 0) × (fileNumber f asked w ≡ 0)
 none-refuses d s p k array w sc f asked e =
@@ -101,6 +99,7 @@ unsound-number n m bytes e = go (eqb n 0) refl
         let v : Sound (length bytes) ≡ Unsound m = sym (ap judgedAs (if-true (eqb n 0) (made bytes) (refused n) q)) ∙ e in
         absurd (let z : _≡_ {A = ℕ} 0 1 = cc in omega arith)
 
+-- the file's number, told by the reader's judgement
 pub sound-0 : (f : List ℕ) (asked n k : ℕ) → length f ≤ n → judgedAs (readerOf limit f asked) ≡ Sound k → fileNumber f asked n ≡ 0
 unfolding readerOf
 sound-0 f asked n k h e = reader-number f asked n h ∙ sound-none (given (readRows limit f asked [])) k (payloadOf (blocksIn f) f) e

@@ -20,6 +20,7 @@ use Rattle.load.specs.Loads.{fileNumber, loadNumber, loadRefused, loadLeft}
 use Rattle.load.proofs.Judging.{file-after, none-refuses, no-longer, unsound-m}
 use Rattle.load.proofs.Leaving.{refused-left}
 
+-- a run that no test refuses has the number 0
 run-none : (d : Device) (s : State) (p : Pins) (k array w sc : ℕ) → NoRow (runRows d s p k array w sc) → runNumber d s p k array w sc ≡ 0
 unfolding runNumber
 run-none d s p k array w sc r = no-row-given r
@@ -45,10 +46,12 @@ module _ (d : Device) (s : State) (p : Pins) (k : ℕ) (xs w sc f : List ℕ) (a
       never ∙ ap (λ (j : ℕ). loadRefused j s xs w sc) q
 
 module _ (d : Device) (s : State) (p : Pins) (k : ℕ) (xs w sc : List ℕ) (ℓ : ℕ) (payload f : List ℕ) (made-of : writerOf limit ℓ payload ≡ made f) (asked : ℕ) where
+  -- a written file under another letter
   pub other-letter-35 : (ℓ ≡ asked → ⊥) → NoRow (runRows d s p k (length xs) (length w) (length sc)) → length f ≤ length w
       → loadLeft d s p k xs w sc f asked ≡ loadRefused 35 s xs w sc
   other-letter-35 z r h = by-reader d s p k xs w sc f asked 35 (λ (q : 35 ≡ 0). (omega arith)) (other-letter limit ℓ payload f made-of asked z) r h
 
+  -- a written file with a byte changed
   pub changed-byte-31 : Bytes payload → (i v : ℕ) → i < length f → v < 256 → (v ≡ getD f i 0 → ⊥) → NoRow (runRows d s p k (length xs) (length w) (length sc)) → length f ≤ length w
       → loadLeft d s p k xs w sc (set f i v) asked ≡ loadRefused 31 s xs w sc
   changed-byte-31 b i v h u c r l =

@@ -30,9 +30,11 @@ unfolding ones
 cells-of xs h i = omega (arith, h i)
 
 module _ (d : Device) (s : State) (p : Pins) (k : ℕ) (xs w sc f : List ℕ) (asked : ℕ) (t : FileStart d s p k xs w sc f asked) where
+  -- what the load wants
   abbrev wish : List ℕ
   wish = wantedOf f (length w)
 
+  -- nothing is refused, so what is wanted is as long as the block
   none : loadNumber d s p k (length xs) (length w) (length sc) f asked ≡ 0
   none = rows-none d s p k xs w sc f asked (t .accepted)
 
@@ -53,9 +55,11 @@ module _ (d : Device) (s : State) (p : Pins) (k : ℕ) (xs w sc f : List ℕ) (a
         unlock = t .unlock;
       }
 
+  -- the load leaves what its run leaves, and wanted filled
   left : loadLeft d s p k xs w sc f asked ≡ loadMade (runLeft d s p k xs wish sc) wish
   left = made-left d s p k xs w sc f asked none
 
+  -- demand 3 of that run
   pub loaded : FileLoaded d s p k xs w sc f asked
   loaded =
       record {

@@ -25,8 +25,7 @@ pub record FileStart (d : Device) (s : State) (p : Pins) (k : ℕ) (xs w sc f : 
   pub high : vppHigh (d .part) p ≡ true
   pub unlock : k ≡ 0 → unlocked (d .part) p 0 ≡ true
 
--- the file is in the block: the load ended well in as many cycles as the formula says; the block, wanted and scratch hold the file and
--- FFH to their ends; every byte outside the block is as before
+-- ended well in the formula's cycles: block, wanted and scratch hold the file and FFH to the end, every byte outside is as before
 pub record FileLoaded (d : Device) (s : State) (p : Pins) (k : ℕ) (xs w sc f : List ℕ) (asked : ℕ) : Type 0 where
   pub ran : loadedOf d s p k xs w sc f asked
       ≡ record { count = formula d (wantedOf f (length w)) (heldIn (startOf (d .part) k) (length w) xs); end = 0; address = 0; state = atRest Array 0x80 }
