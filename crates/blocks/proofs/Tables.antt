@@ -1,18 +1,19 @@
 -- Laws of the table of one block: what is asked after it, and what a right block is. Assumes nothing.
 use mathlib.Core.Path.{_≡_, refl, sym, _∙_}
 use mathlib.Core.List.{List, []}
-use mathlib.Core.Bool.{Bool, true, false, _||_}
+use mathlib.Core.Logic.{_↔_}
+use mathlib.Core.Bool.{Bool, true, false, not, _||_}
 use Prim.Native.Nat.{ℕ, suc, _+_, _≤_, _<_}
 use native.Mathlib.Omega.{arith}
-use lib.ListN.{length}
+use lib.ListN.{length, getD}
 use lib.Dec.{eqb, ltb}
-use borrow.Author.Tests.{eq-eqb, ne-eqb, lt-ltb, eqb-true, eqb-false, ltb-false, not-false}
+use borrow.Author.Tests.{eq-eqb, ne-eqb, eqb-true, eqb-false, ltb-false, not-false}
 use Rattle.cells.specs.Choice.{if_then_else_}
 use Rattle.cells.proofs.Choice.{if-true, if-false}
-use Rattle.cells.specs.Numbers.{Row, given}
-use Rattle.cells.proofs.Numbers.{given-append}
+use Rattle.cells.specs.Numbers.{Row, given, Foremost, NoRow}
+use Rattle.cells.proofs.Numbers.{given-append, given-foremost, foremost-given, given-no-row, no-row-given}
 use Rattle.seal.specs.Check.{checkWrong}
-use Rattle.blocks.specs.Block.{blockRows, usedOf, letterWrong, placeWrong, usedWrong, paddingWrong, faultOf}
+use Rattle.blocks.specs.Block.{blockRows, usedOf, letterWrong, placeWrong, usedWrong, paddingWrong, faultRows, faultOf}
 
 -- what is asked after a block counts only where the block is right
 pub after-block : (first i n : ℕ) (b : List ℕ) (rest : List Row)
@@ -62,7 +63,24 @@ pub used-other : (i n : ℕ) (b : List ℕ) → (i + 1 ≡ n → ⊥) → usedWr
 unfolding usedWrong
 used-other i n b e w = eqb-true _ _ (not-false _ (sym (if-false (eqb (i + 1) n) _ _ (ne-eqb _ _ e)) ∙ w))
 
--- of 512 bytes as a block of the file the table alone decides
-pub fault-given : (first i n : ℕ) (b : List ℕ) → length b ≡ 512 → i < n → faultOf first i n b ≡ given (blockRows first i n b [])
+-- the number of a slice by the rows that hold
+pub fault-exactly : (first i n : ℕ) (b : List ℕ) (m : ℕ) → (m ≡ 0 → ⊥) → (faultOf first i n b ≡ m) ↔ Foremost (faultRows first i n b) m
 unfolding faultOf
-fault-given first i n b l h = simp (eq-eqb (length b) 512 l, lt-ltb i n h)
+fault-exactly first i n b m z = (λ e. given-foremost (faultRows first i n b) m z e, λ h. foremost-given h)
+
+pub sound-exactly : (first i n : ℕ) (b : List ℕ) → (faultOf first i n b ≡ 0) ↔ NoRow (faultRows first i n b)
+unfolding faultOf
+sound-exactly first i n b = (λ e. given-no-row (faultRows first i n b) refl e, λ h. no-row-given h)
+
+-- of 512 bytes the block's table alone decides, at whatever place they are asked for
+pub fault-given : (first i n : ℕ) (b : List ℕ) → length b ≡ 512 → faultOf first i n b ≡ given (blockRows first i n b [])
+unfolding faultOf
+fault-given first i n b l = simp (eq-eqb (length b) 512 l)
+
+-- a block that stands at its place has a number that is a byte
+pub place-byte : (i n : ℕ) (b : List ℕ) → getD b 1 0 < 256 → placeWrong i n b ≡ false → i < 256
+unfolding placeWrong
+place-byte i n b h e =
+    let w = none-of-two (not (eqb (getD b 1 0) i)) (not (eqb (getD b 2 0) n)) e in
+    let q : getD b 1 0 ≡ i = eqb-true (getD b 1 0) i (not-false (eqb (getD b 1 0) i) (w .0)) in
+    omega arith

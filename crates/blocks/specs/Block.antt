@@ -1,6 +1,6 @@
 -- One block of a load file: what is wrong with it. Assumes nothing.
 use mathlib.Core.List.{List, [], _∷_}
-use mathlib.Core.Bool.{Bool, true, false, not, _||_, _&&_}
+use mathlib.Core.Bool.{Bool, true, false, not, _||_}
 use Prim.Native.Nat.{ℕ, _+_, _-_}
 use lib.ListN.{getD, take, drop, length}
 use lib.Dec.{eqb, ltb}
@@ -59,6 +59,10 @@ blockRows first i n b after =
     ∷ row 34 (usedWrong i n b || paddingWrong b)
     ∷ after
 
--- the first refusal of a block as block i of n; what is no block at all has no right check
+-- the refusals of a slice as block i of n: 30 where it is not 512 bytes long, then those of the block
+abbrev pub faultRows : ℕ → ℕ → ℕ → List ℕ → List Row
+faultRows first i n b = row 30 (not (eqb (length b) 512)) ∷ blockRows first i n b []
+
+-- the first refusal of a slice as block i of n, or 0
 unfoldable pub faultOf : ℕ → ℕ → ℕ → List ℕ → ℕ
-faultOf first i n b = if eqb (length b) 512 && ltb i n then given (blockRows first i n b []) else 31
+faultOf first i n b = given (faultRows first i n b)

@@ -67,7 +67,7 @@ fn place_wrong(block: &[u8], i: usize, n: usize) -> bool
 
 // 34, the used count: the last block uses 1 to 505, every other 505.
 fn used_wrong(block: &[u8], i: usize, n: usize) -> bool
-    requires { ⌜ i < n ⌝ }
+    requires { ⌜ i < 256 ⌝ }
     ensures { λ r. ⌜ r ≡ usedWrong i n (now (block .entry)) ⌝ }
 {
     let u = used(block);
@@ -94,15 +94,12 @@ fn padding_wrong(block: &[u8]) -> bool
     !clean
 }
 
-// The first refusal of one block as block i of n: 31 to 34, or 0. What is no block at all is refused 31.
+// The first refusal of a slice as block i of n: 30 where it is not 512 bytes long, then 31 to 34, or 0.
 pub fn block_fault(block: &[u8], first: u8, i: usize, n: usize) -> u8
     ensures { λ r. ⌜ r ≡ faultOf first i n (now (block .entry)) ⌝ }
 {
     if block.len() != 512 {
-        return 31;
-    }
-    if n <= i {
-        return 31;
+        return 30;
     }
     let wrong = seal::check_fault(block);
     if wrong != 0 {

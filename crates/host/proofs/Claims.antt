@@ -18,7 +18,7 @@ use Rattle.loader.specs.declared.Loader.{Loader}
 use Rattle.loader.specs.declared.Turn.the-variants.{Barred}
 use Rattle.stepper.specs.Front.{stepOf, scratchAfter}
 use Rattle.run.specs.Runs.{runNumber, ranOf, bytesOf, scratchOf}
-use Rattle.load.specs.Loads.{loadNumber, loadedOf, arrayLeft, wantedLeft, scratchLeft}
+use Rattle.load.specs.Loads.{loadNumber, loadedOf, bytesLoaded, wantedLoaded, scratchLoaded}
 use Rattle.seal.specs.Check.{checkOf}
 use Rattle.twin.specs.Twins.{deviceIn, pinsIn, noState, stateIn, stateOut, cycleOut, noRecord, loaderIn, loaderOut}
 use Rattle.twin.specs.Answers.{seenOut, valueOut, turnOut}
@@ -104,9 +104,9 @@ run-typed = returned.run-typed
 
 pub load-typed : (d : Device) (s : State) (p : Pins) (k : ℕ) (f : List ℕ) (asked : ℕ) (xs w sc : List ℕ)
     → (loadOf (border.deviceOut d) (stateOut s) (p .rp) (p .vpp) k f asked xs w sc ≡ returned.ranNumbers (loadedOf d s p k xs w sc f asked))
-    × (arrayLoad (border.deviceOut d) (stateOut s) (p .rp) (p .vpp) k f asked xs w sc ≡ arrayLeft d s p k xs w sc f asked)
-    × (wantedLoad (border.deviceOut d) (stateOut s) (p .rp) (p .vpp) k f asked xs w sc ≡ wantedLeft d s p k xs w sc f asked)
-    × (scratchLoad (border.deviceOut d) (stateOut s) (p .rp) (p .vpp) k f asked xs w sc ≡ scratchLeft d s p k xs w sc f asked)
+    × (arrayLoad (border.deviceOut d) (stateOut s) (p .rp) (p .vpp) k f asked xs w sc ≡ bytesLoaded d s p k xs w sc f asked)
+    × (wantedLoad (border.deviceOut d) (stateOut s) (p .rp) (p .vpp) k f asked xs w sc ≡ wantedLoaded d s p k xs w sc f asked)
+    × (scratchLoad (border.deviceOut d) (stateOut s) (p .rp) (p .vpp) k f asked xs w sc ≡ scratchLoaded d s p k xs w sc f asked)
 load-typed = returned.load-typed
 
 -- Two results that a promise allows are equal, and so is what it leaves in each thing lent.

@@ -5,8 +5,8 @@ use mathlib.Core.List.{List}
 use Prim.Native.Nat.{ℕ}
 use native.Mathlib.Omega.{arith}
 use lib.ListN.{length}
-use lib.Dec.{eqb, ltb}
-use borrow.Author.Tests.{eq-eqb, ne-eqb}
+use lib.Dec.{ltb}
+use borrow.Author.Tests.{eq-eqb}
 use Rattle.cells.proofs.Choice.{if-false}
 use Rattle.cells.specs.Numbers.{Foremost, here, below}
 use Rattle.cells.proofs.Numbers.{foremost-given}
@@ -28,8 +28,8 @@ use Rattle.stepper.proofs.Claims as loader-claims
 use Rattle.run.specs.declared.Ran.{Ran}
 use Rattle.run.specs.Runs.{runRows, runNumber, ranOf, bytesOf, scratchOf, RunLeft}
 use Rattle.run.proofs.Leaving.{left-refused}
-use Rattle.load.specs.Loads.{loadNumber, loadedOf, arrayLeft, wantedLeft, scratchLeft}
-use Rattle.load.proofs.Claims as load-claims
+use Rattle.load.specs.Loads.{loadRows, loadNumber, loadedOf, bytesLoaded, wantedLoaded, scratchLoaded}
+use Rattle.load.proofs.Leaving as load-leaving
 use Rattle.loadfile.specs.File.{Outcome, refused, made, limit, inRoom, leftIn, readerOf, writerOf, readAs, writtenAs}
 use Rattle.twin.specs.Twins.{deviceIn, pinsIn, noState, stateIn, stateOut, cycleIn, cycleOut, noRecord, loaderIn, loaderOut}
 use Rattle.twin.specs.Answers.{stateBack, loaderBack, seenOut, valueOut, answerOut, turnOut, ranOut, writtenOut, readOut}
@@ -140,7 +140,7 @@ module _ (d : DeviceNumbers) (s : StateNumbers) (rp vpp k : ℕ) (xs w sc : List
       × (wantedLoad d s rp vpp k f asked xs w sc ≡ w) × (scratchLoad d s rp vpp k f asked xs w sc ≡ sc)
   unfolding loadOf arrayLoad wantedLoad scratchLoad
   load-refused f asked m z e =
-      let n = load-claims.refused-touches-nothing (deviceIn d) (stateIn s) (pinsIn rp vpp) k xs w sc f asked m z e in
+      let n = load-leaving.refused-touches-nothing (deviceIn d) (stateIn s) (pinsIn rp vpp) k xs w sc f asked m z e in
       let t = state-same s in
       (ap (λ (r : Ran). ranOut s r) (n .0) ∙ (λ i. record { count = 0; end = m; address = 0; state = t i }), n .1, n .2, n .3)
 
@@ -148,8 +148,9 @@ module _ (d : DeviceNumbers) (s : StateNumbers) (rp vpp k : ℕ) (xs w sc : List
       → loadOf d s rp vpp k f asked xs w sc ≡ record { count = 0; end = 3; address = 0; state = s }
   unfolding loadNumber
   load-no-state f asked known whole e =
-      let t = third known whole e in
-      load-refused f asked 3 (λ (z : 3 ≡ 0). (omega arith)) (if-false (eqb numberOfRun 0) _ numberOfRun (ap (λ (n : ℕ). eqb n 0) t) ∙ t) .0
+      let h : Foremost (loadRows (deviceIn d) (stateIn s) (pinsIn rp vpp) k (length xs) (length w) (length sc) f asked) 3 =
+      below known (below (ap not (eq-eqb (length xs) (sizeOf (deviceIn d .part)) whole)) (here (no-state-improper s e (deviceIn d)))) in
+      load-refused f asked 3 (λ (z : 3 ≡ 0). (omega arith)) (foremost-given h) .0
 
 -- the writer's and the reader's refusals
 write-left : (o : Outcome) (out : List ℕ) → (writtenOut (writtenAs o) .number ≡ 0 → ⊥) → (writtenOut (writtenAs o) .length ≡ 0) × (leftIn out o ≡ out)
@@ -215,16 +216,16 @@ run-typed d s p k xs w sc =
 
 pub load-typed : (d : Device) (s : State) (p : Pins) (k : ℕ) (f : List ℕ) (asked : ℕ) (xs w sc : List ℕ)
     → (loadOf (deviceOut d) (stateOut s) (p .rp) (p .vpp) k f asked xs w sc ≡ ranNumbers (loadedOf d s p k xs w sc f asked))
-    × (arrayLoad (deviceOut d) (stateOut s) (p .rp) (p .vpp) k f asked xs w sc ≡ arrayLeft d s p k xs w sc f asked)
-    × (wantedLoad (deviceOut d) (stateOut s) (p .rp) (p .vpp) k f asked xs w sc ≡ wantedLeft d s p k xs w sc f asked)
-    × (scratchLoad (deviceOut d) (stateOut s) (p .rp) (p .vpp) k f asked xs w sc ≡ scratchLeft d s p k xs w sc f asked)
+    × (arrayLoad (deviceOut d) (stateOut s) (p .rp) (p .vpp) k f asked xs w sc ≡ bytesLoaded d s p k xs w sc f asked)
+    × (wantedLoad (deviceOut d) (stateOut s) (p .rp) (p .vpp) k f asked xs w sc ≡ wantedLoaded d s p k xs w sc f asked)
+    × (scratchLoad (deviceOut d) (stateOut s) (p .rp) (p .vpp) k f asked xs w sc ≡ scratchLoaded d s p k xs w sc f asked)
 unfolding loadOf arrayLoad wantedLoad scratchLoad
 load-typed d s p k f asked xs w sc =
     let t = state-back s in
     let r : Ran = loadedOf d s p k xs w sc f asked in
     let back = state-given s (r .state) in (
       (λ i. ranOut (stateOut s) (loadedOf d (t i) p k xs w sc f asked)) ∙ (λ i. record { count = r .count; end = r .end; address = r .address; state = back i }),
-      λ i. arrayLeft d (t i) p k xs w sc f asked,
-      λ i. wantedLeft d (t i) p k xs w sc f asked,
-      λ i. scratchLeft d (t i) p k xs w sc f asked,
+      λ i. bytesLoaded d (t i) p k xs w sc f asked,
+      λ i. wantedLoaded d (t i) p k xs w sc f asked,
+      λ i. scratchLoaded d (t i) p k xs w sc f asked,
     )

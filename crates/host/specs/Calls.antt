@@ -5,7 +5,7 @@ use lib.ListN.{length}
 use Rattle.model.specs.Arrays.{answerOf, arrayAfter}
 use Rattle.stepper.specs.Front.{startOf, stepOf, scratchAfter}
 use Rattle.run.specs.Runs.{ranOf, bytesOf, scratchOf}
-use Rattle.load.specs.Loads.{loadedOf, arrayLeft, wantedLeft, scratchLeft}
+use Rattle.load.specs.Loads.{loadedOf, bytesLoaded, wantedLoaded, scratchLoaded}
 use Rattle.loadfile.specs.File.{limit, inRoom, leftIn, readerOf, writerOf, readAs, writtenAs}
 use Rattle.twin.specs.Twins.{deviceIn, pinsIn, stateIn, cycleIn, loaderIn, loaderOut}
 use Rattle.twin.specs.Answers.{answerOut, loaderBack, turnOut, writtenOut, readOut, ranOut}
@@ -56,13 +56,13 @@ unfoldable pub loadOf : DeviceNumbers → StateNumbers → ℕ → ℕ → ℕ �
 loadOf d s rp vpp k f asked xs w sc = ranOut s (loadedOf (deviceIn d) (stateIn s) (pinsIn rp vpp) k xs w sc f asked)
 
 unfoldable pub arrayLoad : DeviceNumbers → StateNumbers → ℕ → ℕ → ℕ → List ℕ → ℕ → List ℕ → List ℕ → List ℕ → List ℕ
-arrayLoad d s rp vpp k f asked xs w sc = arrayLeft (deviceIn d) (stateIn s) (pinsIn rp vpp) k xs w sc f asked
+arrayLoad d s rp vpp k f asked xs w sc = bytesLoaded (deviceIn d) (stateIn s) (pinsIn rp vpp) k xs w sc f asked
 
 unfoldable pub wantedLoad : DeviceNumbers → StateNumbers → ℕ → ℕ → ℕ → List ℕ → ℕ → List ℕ → List ℕ → List ℕ → List ℕ
-wantedLoad d s rp vpp k f asked xs w sc = wantedLeft (deviceIn d) (stateIn s) (pinsIn rp vpp) k xs w sc f asked
+wantedLoad d s rp vpp k f asked xs w sc = wantedLoaded (deviceIn d) (stateIn s) (pinsIn rp vpp) k xs w sc f asked
 
 unfoldable pub scratchLoad : DeviceNumbers → StateNumbers → ℕ → ℕ → ℕ → List ℕ → ℕ → List ℕ → List ℕ → List ℕ → List ℕ
-scratchLoad d s rp vpp k f asked xs w sc = scratchLeft (deviceIn d) (stateIn s) (pinsIn rp vpp) k xs w sc f asked
+scratchLoad d s rp vpp k f asked xs w sc = scratchLoaded (deviceIn d) (stateIn s) (pinsIn rp vpp) k xs w sc f asked
 
 -- the writer and the reader: a number and a length, and the buffer that was lent
 unfoldable pub writtenOf : ℕ → List ℕ → List ℕ → SizedNumbers

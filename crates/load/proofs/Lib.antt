@@ -1,2 +1,4 @@
 pub mod Filling
+pub mod Judging
+pub mod Leaving
 pub mod Claims

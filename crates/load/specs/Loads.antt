@@ -1,45 +1,74 @@
 -- A load from a file: after a run's own tests the file is judged, and only then wanted is filled and the run made. Assumes nothing.
-use mathlib.Core.Bool.{Bool, true, false}
+use mathlib.Core.Bool.{Bool, true, false, not, _||_}
 use mathlib.Core.List.{List, [], _∷_, _++_}
 use Prim.Native.Nat.{ℕ, _-_}
-use lib.ListN.{length, replicate}
+use lib.ListN.{length, getD, replicate}
 use lib.Dec.{eqb, ltb}
 use Rattle.cells.specs.Choice.{if_then_else_}
+use Rattle.cells.specs.Numbers.{Row, row, given}
 use Rattle.device.specs.declared.Device.{Device}
 use Rattle.chip.specs.declared.Pins.{Pins}
 use Rattle.chip.specs.declared.State.{State}
-use Rattle.loadfile.specs.File.{Outcome, refused, made, limit, readerOf}
+use Rattle.loadfile.specs.File.{limit, lengthWrong, blocksIn, blocksRows}
 use Rattle.run.specs.declared.Ran.{Ran}
-use Rattle.run.specs.Runs.{runNumber, ranOf, bytesOf, scratchOf}
+use Rattle.run.specs.Runs.{runRows, RunLeft, runLeft}
 
--- the reader's number for a file and the letter asked, 0 where it is read
-abbrev pub numberIn : Outcome → ℕ
-numberIn (refused n) = n
-numberIn (made bytes) = 0
+-- the tests of a file for a block of n bytes: 30 also where it is longer than the block, then 31 to 34 block by block, then 35
+abbrev pub fileRows : List ℕ → ℕ → ℕ → List Row
+fileRows f asked n =
+    row 30 (lengthWrong limit (length f) || ltb n (length f))
+    ∷ blocksRows (blocksIn f) (getD f 0 0) 0 (blocksIn f) f (row 35 (not (eqb (getD f 0 0) asked)) ∷ [])
 
--- refusals 30 to 35 of a load: 30 also where the file is longer than the flash block of n bytes
+-- the file's number alone
 unfoldable pub fileNumber : List ℕ → ℕ → ℕ → ℕ
-fileNumber f asked n = if ltb n (length f) then 30 else numberIn (readerOf limit f asked)
+fileNumber f asked n = given (fileRows f asked n)
+
+-- the tests of a load from a file, in their order: a run's, then the file's
+abbrev pub loadRows : Device → State → Pins → ℕ → ℕ → ℕ → ℕ → List ℕ → ℕ → List Row
+loadRows d s p k array w sc f asked = runRows d s p k array w sc ++ fileRows f asked w
+
+-- the number of a load from a file
+unfoldable pub loadNumber : Device → State → Pins → ℕ → ℕ → ℕ → ℕ → List ℕ → ℕ → ℕ
+loadNumber d s p k array w sc f asked = given (loadRows d s p k array w sc f asked)
 
 -- what a load wants of a block of n bytes: the file, then FFH to the end
 abbrev pub wantedOf : List ℕ → ℕ → List ℕ
 wantedOf f n = f ++ replicate (n - length f) 255
 
--- the number of a load from a file: a run's, then the file's
-unfoldable pub loadNumber : Device → State → Pins → ℕ → ℕ → ℕ → ℕ → List ℕ → ℕ → ℕ
-loadNumber d s p k array w sc f asked = if eqb (runNumber d s p k array w sc) 0 then fileNumber f asked w else runNumber d s p k array w sc
+-- wanted after a load's tests: filled where they gave 0, else as it was
+unfoldable pub wantedBy : ℕ → List ℕ → List ℕ → List ℕ
+wantedBy n f w = if eqb n 0 then wantedOf f (length w) else w
 
--- what it returns, and what it leaves in the array, in wanted and in scratch; a refusal counts no cycle and touches nothing
-unfoldable pub loadedOf : Device → State → Pins → ℕ → List ℕ → List ℕ → List ℕ → List ℕ → ℕ → Ran
-loadedOf d s p k xs w sc f asked =
-    if eqb (loadNumber d s p k (length xs) (length w) (length sc) f asked) 0 then ranOf d s p k xs (wantedOf f (length w)) sc
-    else record { count = 0; end = loadNumber d s p k (length xs) (length w) (length sc) f asked; address = 0; state = s }
+-- what a load returns and leaves: its result, the array, wanted and scratch
+pub record LoadLeft : Type 0 where
+  pub ran : Ran
+  pub bytes : List ℕ
+  pub wanted : List ℕ
+  pub scratch : List ℕ
 
-unfoldable pub arrayLeft : Device → State → Pins → ℕ → List ℕ → List ℕ → List ℕ → List ℕ → ℕ → List ℕ
-arrayLeft d s p k xs w sc f asked = if eqb (loadNumber d s p k (length xs) (length w) (length sc) f asked) 0 then bytesOf d s p k xs (wantedOf f (length w)) sc else xs
+-- .. of a load whose run was made, with what was wanted of it
+abbrev pub loadMade : RunLeft → List ℕ → LoadLeft
+loadMade r w = record { ran = r .ran; bytes = r .bytes; wanted = w; scratch = r .scratch }
 
-unfoldable pub wantedLeft : Device → State → Pins → ℕ → List ℕ → List ℕ → List ℕ → List ℕ → ℕ → List ℕ
-wantedLeft d s p k xs w sc f asked = if eqb (loadNumber d s p k (length xs) (length w) (length sc) f asked) 0 then wantedOf f (length w) else w
+-- .. of a load that is refused: no cycle is counted and nothing is touched
+abbrev pub loadRefused : ℕ → State → List ℕ → List ℕ → List ℕ → LoadLeft
+loadRefused n s xs w sc = record { ran = record { count = 0; end = n; address = 0; state = s }; bytes = xs; wanted = w; scratch = sc }
 
-unfoldable pub scratchLeft : Device → State → Pins → ℕ → List ℕ → List ℕ → List ℕ → List ℕ → ℕ → List ℕ
-scratchLeft d s p k xs w sc f asked = if eqb (loadNumber d s p k (length xs) (length w) (length sc) f asked) 0 then scratchOf d s p k xs (wantedOf f (length w)) sc else sc
+-- a load: refused by its number, or wanted filled and the run made
+unfoldable pub loadLeft : Device → State → Pins → ℕ → List ℕ → List ℕ → List ℕ → List ℕ → ℕ → LoadLeft
+loadLeft d s p k xs w sc f asked =
+    if eqb (loadNumber d s p k (length xs) (length w) (length sc) f asked) 0 then loadMade (runLeft d s p k xs (wantedOf f (length w)) sc) (wantedOf f (length w))
+    else loadRefused (loadNumber d s p k (length xs) (length w) (length sc) f asked) s xs w sc
+
+-- its four parts
+abbrev pub loadedOf : Device → State → Pins → ℕ → List ℕ → List ℕ → List ℕ → List ℕ → ℕ → Ran
+loadedOf d s p k xs w sc f asked = loadLeft d s p k xs w sc f asked .ran
+
+abbrev pub bytesLoaded : Device → State → Pins → ℕ → List ℕ → List ℕ → List ℕ → List ℕ → ℕ → List ℕ
+bytesLoaded d s p k xs w sc f asked = loadLeft d s p k xs w sc f asked .bytes
+
+abbrev pub wantedLoaded : Device → State → Pins → ℕ → List ℕ → List ℕ → List ℕ → List ℕ → ℕ → List ℕ
+wantedLoaded d s p k xs w sc f asked = loadLeft d s p k xs w sc f asked .wanted
+
+abbrev pub scratchLoaded : Device → State → Pins → ℕ → List ℕ → List ℕ → List ℕ → List ℕ → ℕ → List ℕ
+scratchLoaded d s p k xs w sc f asked = loadLeft d s p k xs w sc f asked .scratch

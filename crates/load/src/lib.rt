@@ -7,7 +7,7 @@ use run::Ran;
 ghost use mathlib.Core.Path.{_≡_};
 ghost use Prim.Native.Nat.{_≤_};
 ghost use lib.ListN.{length};
-ghost use Rattle.load.specs.Loads.{fileNumber, wantedOf, loadNumber, loadedOf, arrayLeft, wantedLeft, scratchLeft};
+ghost use Rattle.load.specs.Loads.{fileNumber, wantedBy, loadNumber, loadedOf, bytesLoaded, wantedLoaded, scratchLoaded};
 
 // Refusals 30 to 35 of a file for the letter asked and a block of n bytes, or 0.
 fn file_number(file: &[u8], asked: u8, n: usize) -> u8
@@ -23,11 +23,14 @@ fn file_number(file: &[u8], asked: u8, n: usize) -> u8
     }
 }
 
-// Wanted becomes the file, then FFH to its end.
-fn fill_wanted(file: &[u8], wanted: &mut [u8])
-    requires { ⌜ length (now file) ≤ length (now wanted) ⌝ }
-    ensures { λ _. ⌜ now (wanted .exit) ≡ wantedOf (now (file .entry)) (length (now (wanted .entry))) ⌝ }
+// Where the number is 0, wanted becomes the file, then FFH to its end.
+fn fill_wanted(number: u8, file: &[u8], wanted: &mut [u8])
+    requires { ⌜ (number ≡ 0 → length (now file) ≤ length (now wanted)) ⌝ }
+    ensures { λ _. ⌜ now (wanted .exit) ≡ wantedBy number (now (file .entry)) (now (wanted .entry)) ⌝ }
 {
+    if number != 0 {
+        return;
+    }
     let n = file.len();
     cells::copy(wanted, file);
     cells::fill(&mut wanted[n..], 255)
@@ -67,9 +70,9 @@ pub fn load(
     asked: u8,
 ) -> Ran
     ensures { λ r. ⌜ r ≡ loadedOf d s p block (now (array .entry)) (now (wanted .entry)) (now (scratch .entry)) (now (file .entry)) asked ⌝ }
-    ensures { λ _. ⌜ now (array .exit) ≡ arrayLeft d s p block (now (array .entry)) (now (wanted .entry)) (now (scratch .entry)) (now (file .entry)) asked ⌝ }
-    ensures { λ _. ⌜ now (wanted .exit) ≡ wantedLeft d s p block (now (array .entry)) (now (wanted .entry)) (now (scratch .entry)) (now (file .entry)) asked ⌝ }
-    ensures { λ _. ⌜ now (scratch .exit) ≡ scratchLeft d s p block (now (array .entry)) (now (wanted .entry)) (now (scratch .entry)) (now (file .entry)) asked ⌝ }
+    ensures { λ _. ⌜ now (array .exit) ≡ bytesLoaded d s p block (now (array .entry)) (now (wanted .entry)) (now (scratch .entry)) (now (file .entry)) asked ⌝ }
+    ensures { λ _. ⌜ now (wanted .exit) ≡ wantedLoaded d s p block (now (array .entry)) (now (wanted .entry)) (now (scratch .entry)) (now (file .entry)) asked ⌝ }
+    ensures { λ _. ⌜ now (scratch .exit) ≡ scratchLoaded d s p block (now (array .entry)) (now (wanted .entry)) (now (scratch .entry)) (now (file .entry)) asked ⌝ }
 {
     let n = load_number(
         d,
@@ -82,8 +85,8 @@ pub fn load(
         file,
         asked,
     );
+    fill_wanted(n, file, wanted);
     if n == 0 {
-        fill_wanted(file, wanted);
         return run::run(d, s, p, block, array, wanted, scratch);
     }
     Ran {

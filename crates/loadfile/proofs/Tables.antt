@@ -14,19 +14,21 @@ use Rattle.blocks.specs.Block.{blockRows}
 use Rattle.blocks.proofs.Tables.{after-block}
 use Rattle.loadfile.specs.File.{blocksRows}
 
--- the rows of the blocks stand before those that are asked after them, and none has the number 0
+-- the rows of the blocks stand before those that are asked after them
 pub blocks-append : (left first i n : ℕ) (f : List ℕ) (rest : List Row) → blocksRows left first i n f rest ≡ blocksRows left first i n f [] ++ rest
 blocks-append zero first i n f rest = refl
 blocks-append (suc left) first i n f rest = ap (blockRows first i n (take 512 f)) (blocks-append left first (i + 1) n (drop 512 f) rest)
 
-pub blocks-numbered : (left first i n : ℕ) (f : List ℕ) → numbered (blocksRows left first i n f []) ≡ true
-blocks-numbered zero first i n f = refl
-blocks-numbered (suc left) first i n f = blocks-numbered left first (i + 1) n (drop 512 f)
+-- none of them has the number 0
+pub blocks-numbered : (left first i n : ℕ) (f : List ℕ) (rest : List Row) → numbered (blocksRows left first i n f rest) ≡ numbered rest
+blocks-numbered zero first i n f rest = refl
+blocks-numbered (suc left) first i n f rest = blocks-numbered left first (i + 1) n (drop 512 f) rest
 
+-- what is asked after the blocks counts only where nothing is wrong with them
 pub after-blocks : (left first i n : ℕ) (f : List ℕ) (rest : List Row)
     → given (blocksRows left first i n f rest) ≡ (if eqb (given (blocksRows left first i n f [])) 0 then given rest else given (blocksRows left first i n f []))
 after-blocks left first i n f rest =
-    ap given (blocks-append left first i n f rest) ∙ given-append (blocksRows left first i n f []) rest (blocks-numbered left first i n f)
+    ap given (blocks-append left first i n f rest) ∙ given-append (blocksRows left first i n f []) rest (blocks-numbered left first i n f [])
 
 -- block i of n is 512 bytes long
 pub block-cut : (i n : ℕ) (f : List ℕ) → i < n → length f ≡ 512 * n → length (take 512 (drop (512 * i) f)) ≡ 512

@@ -137,20 +137,20 @@ fn put_head(out: &mut [u8], letter: u8, i: u8, n: u8, u: usize)
     out[4] = (u % 256) as u8;
 }
 
-// The check over the first 510 bytes of a block goes behind them.
+// The check over the first 510 bytes goes behind them.
 fn put_check(out: &mut [u8])
-    requires { ⌜ length (now out) ≡ 512 ⌝ }
-    ensures { λ _. ⌜ now (out .exit) ≡ sealed (take 510 (now (out .entry))) ⌝ }
+    requires { ⌜ 512 ≤ length (now out) ⌝ }
+    ensures { λ _. ⌜ now (out .exit) ≡ sealed (take 510 (now (out .entry))) ++ drop 512 (now (out .entry)) ⌝ }
 {
     let c = seal::check(out);
     out[510] = (c / 256) as u8;
     out[511] = (c % 256) as u8;
 }
 
-// Out becomes block i of n with its part of the payload.
+// The front of out becomes block i of n with its part of the payload; what lies behind the block stays.
 fn put_block(out: &mut [u8], letter: u8, i: u8, n: u8, chunk: &[u8])
-    requires { ⌜ (length (now out) ≡ 512) × (length (now chunk) ≤ 505) ⌝ }
-    ensures { λ _. ⌜ now (out .exit) ≡ blockOf letter i n (now (chunk .entry)) ⌝ }
+    requires { ⌜ (512 ≤ length (now out)) × (length (now chunk) ≤ 505) ⌝ }
+    ensures { λ _. ⌜ now (out .exit) ≡ blockOf letter i n (now (chunk .entry)) ++ drop 512 (now (out .entry)) ⌝ }
 {
     let u = chunk.len();
     let end = 5 + u;
@@ -160,19 +160,18 @@ fn put_block(out: &mut [u8], letter: u8, i: u8, n: u8, chunk: &[u8])
     put_check(out);
 }
 
-// Out becomes the n blocks of a payload.
+// The front of out becomes the n blocks of a payload; what lies behind them stays.
 fn pack(out: &mut [u8], letter: u8, payload: &[u8], n: usize)
-    requires { ⌜ (length (now out) ≡ 512 * n) × (length (now payload) ≤ 505 * n) × (505 * n < length (now payload) + 505) × (n < 256) ⌝ }
-    ensures { λ _. ⌜ now (out .exit) ≡ blocksOf n letter 0 n (now (payload .entry)) ⌝ }
+    requires { ⌜ (512 * n ≤ length (now out)) × (length (now payload) ≤ 505 * n) × (505 * n < length (now payload) + 505) × (n < 256) ⌝ }
+    ensures { λ _. ⌜ now (out .exit) ≡ blocksOf n letter 0 n (now (payload .entry)) ++ drop (512 * n) (now (out .entry)) ⌝ }
 {
     let mut i = 0;
     while i < n {
         let to = 512 * i;
-        let end = to + 512;
         let from = 505 * i;
         let stop = cells::least(from + 505, payload.len());
         put_block(
-            &mut out[to..end],
+            &mut out[to..],
             letter,
             i as u8,
             n as u8,
@@ -209,6 +208,6 @@ pub fn write(letter: u8, payload: &[u8], out: &mut [u8]) -> Written
     if out.len() < whole {
         return Written::NotWritten(37);
     }
-    pack(&mut out[0..whole], letter, payload, n);
+    pack(out, letter, payload, n);
     Written::Wrote(whole)
 }

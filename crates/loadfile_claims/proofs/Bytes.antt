@@ -1,18 +1,21 @@
--- Laws of lists, and of lists of bytes, that the claims stand on. Assumes nothing.
+-- Lists of bytes, and the laws of lists that the claims stand on. Assumes nothing.
 use mathlib.Core.Path.{_≡_, refl, sym, _∙_, ap, subst}
-use mathlib.Core.List.{List, [], _∷_}
+use mathlib.Core.List.{List, [], _∷_, _++_}
 use mathlib.Core.Bool.{Bool, true, false}
-use Prim.Native.Nat.{ℕ, zero, suc, _≤_, _<_}
+use Prim.Native.Nat.{ℕ, zero, suc, _+_, _≤_, _<_}
 use native.Mathlib.Omega.{arith}
 use lib.ListN.{length, getD, take, drop, replicate}
-use lib.Seq.{getD-take, drop-cons}
+use lib.Seq.{getD-drop, getD-take, drop-cons}
 use lib.Dec.{eqb}
 use borrow.Author.Tests.{eq-eqb, eqb-true}
 use Rattle.cells.specs.Lists.{Bytes}
 use Rattle.cells.proofs.Choice.{if-true, if-false}
 use Rattle.blocks.specs.Block.{allAre}
 
--- an element of the first bytes is a byte
+-- every element of what is left behind a place is a byte
+pub bytes-drop : (n : ℕ) (f : List ℕ) → Bytes f → Bytes (drop n f)
+bytes-drop n f h k = subst (λ (x : ℕ). x < 256) (sym (getD-drop n f k 0)) (h (n + k))
+
 pub byte-take : (n : ℕ) (f : List ℕ) (k : ℕ) → k < n → Bytes f → getD (take n f) k 0 < 256
 byte-take n f k e h = subst (λ (x : ℕ). x < 256) (sym (getD-take n f k 0 e)) (h k)
 
@@ -23,6 +26,19 @@ bytes-none k = omega arith
 pub bytes-cons : (x : ℕ) (xs : List ℕ) → x < 256 → Bytes xs → Bytes (x ∷ xs)
 bytes-cons x xs e h zero = e
 bytes-cons x xs e h (suc k) = h k
+
+pub bytes-append : (xs ys : List ℕ) → Bytes xs → Bytes ys → Bytes (xs ++ ys)
+bytes-append [] ys h g = g
+bytes-append (x ∷ xs) ys h g = bytes-cons x (xs ++ ys) (h 0) (bytes-append xs ys (λ (k : ℕ). h (suc k)) g)
+
+pub bytes-take : (n : ℕ) (xs : List ℕ) → Bytes xs → Bytes (take n xs)
+bytes-take zero xs h = bytes-none
+bytes-take (suc n) [] h = bytes-none
+bytes-take (suc n) (x ∷ xs) h = bytes-cons x (take n xs) (h 0) (bytes-take n xs (λ (k : ℕ). h (suc k)))
+
+pub bytes-replicate : (n b : ℕ) → b < 256 → Bytes (replicate n b)
+bytes-replicate zero b h = bytes-none
+bytes-replicate (suc n) b h = bytes-cons b (replicate n b) h (bytes-replicate n b h)
 
 -- the same of a list that is written out, element by element
 pub data Each : List ℕ → Type 0 where

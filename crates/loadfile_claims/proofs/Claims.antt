@@ -5,7 +5,7 @@ use mathlib.Core.Bool.{true, not}
 use mathlib.Core.Logic.{_↔_}
 use Prim.Native.Nat.{ℕ, _+_, _*_, _%_, _≤_, _<_}
 use native.Mathlib.Omega.{arith}
-use lib.ListN.{length, getD, take, drop, set, replicate, length-set}
+use lib.ListN.{length, getD, take, drop, set, length-set}
 use lib.Seq.{drop-append-seam, getD-set-other}
 use lib.Dec.{ltb}
 use borrow.Author.Tests.{ne-eqb}
@@ -20,10 +20,12 @@ use Rattle.loadfile.specs.declared.Written.{Written}
 use Rattle.loadfile.specs.declared.Judged.{Judged}
 use Rattle.loadfile.specs.declared.ReadBack.{ReadBack}
 use Rattle.cells.specs.Lists.{Bytes}
-use Rattle.loadfile_claims.specs.Orders.{Ordered}
 use Rattle.loadfile_claims.proofs.Written.{written-read, written-other, written-bytes}
 use Rattle.loadfile_claims.proofs.Reading.{read-written}
 use Rattle.loadfile_claims.proofs.Damage.{damaged, wsum-set}
+use Rattle.loadfile_claims.specs.Tabled.{Ordered}
+use Rattle.loadfile_claims.specs.Roomy.{ReadsInto, WritesGivenRoom}
+use Rattle.loadfile_claims.proofs.Given as given
 use Rattle.loadfile_claims.proofs.Order.{writes-in-order, judges-in-order, reads-in-order}
 
 -- what the writer makes of a payload, the reader gives back for that letter
@@ -50,6 +52,11 @@ reads-exactly most ℓ f p bytes = (
   λ (e : readerOf most f ℓ ≡ made p). writes-exactly most ℓ p f .0 (read-written most ℓ f p bytes e),
   λ (h : (isLetter ℓ ≡ true) × (0 < length p) × (length p ≤ 505 * most) × (f ≡ fileOf ℓ p)). written-read most ℓ p f (writes-exactly most ℓ p f .1 h),
 )
+
+-- Given room, on the functions' own answers at the limit: bytes f are read for a letter into `out`, with p's length as the answer and
+-- p left at the front, exactly when p has room there and the writer, given room, makes f of p under that letter.
+pub given-room : (f : List ℕ) (ℓ : ℕ) (out p : List ℕ) → Bytes f → ReadsInto f ℓ out p ↔ ((length p ≤ length out) × WritesGivenRoom ℓ p f)
+given-room = given.given-room
 
 -- a file written under one letter is refused 35 for every other byte that is asked
 pub other-letter : (most ℓ : ℕ) (p f : List ℕ) → writerOf most ℓ p ≡ made f → (asked : ℕ) → (ℓ ≡ asked → ⊥) → readerOf most f asked ≡ refused 35
@@ -102,11 +109,6 @@ untouched out n = refl
 
 pub past-stays : (out bytes : List ℕ) → drop (length bytes) (leftIn out (made bytes)) ≡ drop (length bytes) out
 past-stays out bytes = drop-append-seam bytes (drop (length bytes) out)
-
--- bench card 12: the check over 510 bytes FFH is 8,629
-pub card-12 : checkOf (replicate {A = ℕ} 510 255) ≡ 8629
-unfolding checkOf
-card-12 = refl
 
 -- two results that one promise allows are equal, for each public function of `loadfile`
 pub judge-unique : (f : List ℕ) (asked : ℕ) → Unique (λ (r : Judged). r ≡ judgedAs (readerOf limit f asked))

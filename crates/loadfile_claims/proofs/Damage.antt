@@ -18,7 +18,7 @@ use Rattle.blocks.proofs.Tables.{right, right-given}
 use Rattle.loadfile.specs.File.{blocksRows, blocksIn, payloadOf, refused, made, lengthWrong, readerOf}
 use Rattle.loadfile.proofs.Outcomes.{length-right, reader-lets, reader-block}
 use Rattle.cells.specs.Lists.{Bytes}
-use Rattle.cells.proofs.Bytes.{bytes-drop}
+use Rattle.loadfile_claims.proofs.Bytes.{bytes-drop}
 
 -- 65,521 has no divisor from 2 to k + 1: a test that is computed
 abbrev prime-up-to : ℕ → Bool

@@ -2,6 +2,7 @@
 use mathlib.Core.Path.{_≡_, refl, sym, _∙_, ap, subst}
 use mathlib.Core.List.{List, [], _∷_, _++_, append-assoc}
 use mathlib.Core.Bool.{Bool, true, false, not}
+use mathlib.Core.Logic.{_↔_}
 use Prim.Native.Nat.{ℕ}
 use native.Mathlib.Omega.{arith}
 use lib.ListN.{length, getD}
@@ -11,8 +12,8 @@ use Rattle.cells.specs.Choice.{if_then_else_}
 use Rattle.cells.proofs.Choice.{if-true, if-false}
 use Rattle.cells.specs.Numbers.{Row, row, given, Foremost, here, below, NoRow, numbered}
 use Rattle.cells.proofs.Numbers.{foremost-given, no-row-given, given-foremost, given-no-row, given-append}
-use Rattle.loadfile.specs.File.{refused, made, outcomeBy, inRoom, fileOf, payloadOf, blocksIn, lengthWrong, writeRows, readRows, blocksRows, readerOf, writerOf}
-use Rattle.loadfile_claims.specs.Orders.{Ordered}
+use Rattle.loadfile.specs.File.{Outcome, refused, made, outcomeBy, inRoom, fileOf, payloadOf, blocksIn, lengthWrong, writeRows, readRows, blocksRows, readerOf, writerOf}
+use Rattle.loadfile_claims.specs.Tabled.{Ordered}
 use Rattle.loadfile.proofs.Tables.{blocks-append, blocks-numbered}
 use Rattle.loadfile.proofs.Outcomes.{outcome-refused, outcome-made, outcome-lets}
 
@@ -71,19 +72,9 @@ writes-in-order most ℓ p room =
     (sym (room-row (writeRows most ℓ p []) (fileOf ℓ p) room refl))
     (ordered (writeRows most ℓ p (row 37 (ltb room (length (fileOf ℓ p))) ∷ [])) (fileOf ℓ p) refl)
 
--- no row of the reader has the number 0, and what is asked after 35 stands behind it
+-- no row of the reader has the number 0
 read-numbered : (most : ℕ) (f : List ℕ) (asked : ℕ) (rest : List Row) → numbered rest ≡ true → numbered (readRows most f asked rest) ≡ true
-read-numbered most f asked rest m =
-    ap numbered (blocks-append (blocksIn f) (getD f 0 0) 0 (blocksIn f) f (row 35 (not (eqb (getD f 0 0) asked)) ∷ rest))
-    ∙ join (blocksRows (blocksIn f) (getD f 0 0) 0 (blocksIn f) f []) (row 35 (not (eqb (getD f 0 0) asked)) ∷ rest) (blocks-numbered (blocksIn f) (getD f 0 0) 0 (blocksIn f) f) m
-  where
-    join : (rs ss : List Row) → numbered rs ≡ true → numbered ss ≡ true → numbered (rs ++ ss) ≡ true
-    join [] ss a b = b
-    join (r ∷ rs) ss a b = go (eqb (r .number) 0) refl (λ (t : numbered rs ≡ true). join rs ss t b)
-      where
-        go : (t : Bool) → eqb (r .number) 0 ≡ t → (numbered rs ≡ true → numbered (rs ++ ss) ≡ true) → (if eqb (r .number) 0 then false else numbered (rs ++ ss)) ≡ true
-        go true q rest′ = absurd (let w : false ≡ true = sym (if-true (eqb (r .number) 0) false (numbered rs) q) ∙ a in let x : _≡_ {A = ℕ} 0 1 = cc in omega arith)
-        go false q rest′ = if-false (eqb (r .number) 0) false (numbered (rs ++ ss)) q ∙ rest′ (sym (if-false (eqb (r .number) 0) false (numbered rs) q) ∙ a)
+read-numbered most f asked rest m = blocks-numbered (blocksIn f) (getD f 0 0) 0 (blocksIn f) f (row 35 (not (eqb (getD f 0 0) asked)) ∷ rest) ∙ m
 
 -- the judgement: 30, then 31 to 34 block by block, then 35
 pub judges-in-order : (most : ℕ) (f : List ℕ) (asked : ℕ) → Ordered (readRows most f asked []) (payloadOf (blocksIn f) f) (readerOf most f asked)

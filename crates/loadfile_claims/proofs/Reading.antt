@@ -17,8 +17,7 @@ use Rattle.loadfile.specs.File.{countOf, blocksOf, fileOf, blocksRows, payloadO
 use Rattle.loadfile.proofs.Sizes.{sized}
 use Rattle.loadfile.proofs.Outcomes.{length-right, payload-fits, reader-lets, writer-made}
 use Rattle.cells.specs.Lists.{Bytes}
-use Rattle.cells.proofs.Bytes.{bytes-drop}
-use Rattle.loadfile_claims.proofs.Bytes.{byte-take, all-repeated, first-five}
+use Rattle.loadfile_claims.proofs.Bytes.{bytes-drop, byte-take, all-repeated, first-five}
 
 -- one right block of bytes
 module _ (first i n : ℕ) (b : List ℕ) (r : Right first i n b) (long : length b ≡ 512) (few : usedOf b ≤ 505)

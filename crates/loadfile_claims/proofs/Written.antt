@@ -18,8 +18,7 @@ use Rattle.loadfile.specs.File.{countOf, blocksOf, fileOf, blocksRows, payloadO
 use Rattle.loadfile.proofs.Sizes.{front-length, block-length, chunk-length, blocks-length}
 use Rattle.loadfile.proofs.Outcomes.{payload-right, length-fits, reader-made, reader-35, writer-lets}
 use Rattle.cells.specs.Lists.{Bytes}
-use Rattle.cells.proofs.Bytes.{bytes-append, bytes-take, bytes-drop, bytes-replicate}
-use Rattle.loadfile_claims.proofs.Bytes.{bytes-none, none, more, each-bytes, repeated-all}
+use Rattle.loadfile_claims.proofs.Bytes.{bytes-none, none, more, each-bytes, bytes-append, bytes-take, bytes-drop, bytes-replicate, repeated-all}
 
 -- one block, from its payload bytes
 module _ (ℓ i n : ℕ) (chunk : List ℕ) (few : length chunk ≤ 505) where

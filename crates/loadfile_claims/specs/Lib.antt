@@ -1,1 +1,2 @@
-pub mod Orders
+pub mod Tabled
+pub mod Roomy

@@ -1,7 +1,7 @@
 use borrow.Author.Needs.{needs}
 use mathlib.Core.Path.{_≡_, ap, _∙_}
 use Rattle.run.specs.declared.Ran.{Ran}
-use Rattle.load.specs.Loads.{loadedOf, arrayLeft, wantedLeft, scratchLeft}
+use Rattle.load.specs.Loads.{loadedOf, bytesLoaded, wantedLoaded, scratchLoaded}
 use Rattle.twin.specs.Twins.{deviceIn, stateIn, pinsIn}
 use Rattle.twin.specs.Answers.{ranOut}
 use Rattle.host.specs.Calls.{loadOf, arrayLoad, wantedLoad, scratchLoad}
@@ -63,10 +63,10 @@ returns c =
     c .before .before .before .before .before .before .before .load .ensures .0 ∙ (λ i. loadedOf (d i) (s i) (p i) (a .block) xs w sc f (a .letter)) in (
       c .ran-out .ensures ∙ ap (λ (x : Ran). ranOut (a .state) x) g,
       (
-        c .before .before .before .before .before .before .before .load .ensures .1 .0 ∙ (λ i. arrayLeft (d i) (s i) (p i) (a .block) xs w sc f (a .letter)),
+        c .before .before .before .before .before .before .before .load .ensures .1 .0 ∙ (λ i. bytesLoaded (d i) (s i) (p i) (a .block) xs w sc f (a .letter)),
         (
-          c .before .before .before .before .before .before .before .load .ensures .1 .1 .0 ∙ (λ i. wantedLeft (d i) (s i) (p i) (a .block) xs w sc f (a .letter)),
-          c .before .before .before .before .before .before .before .load .ensures .1 .1 .1 ∙ (λ i. scratchLeft (d i) (s i) (p i) (a .block) xs w sc f (a .letter)),
+          c .before .before .before .before .before .before .before .load .ensures .1 .1 .0 ∙ (λ i. wantedLoaded (d i) (s i) (p i) (a .block) xs w sc f (a .letter)),
+          c .before .before .before .before .before .before .before .load .ensures .1 .1 .1 ∙ (λ i. scratchLoaded (d i) (s i) (p i) (a .block) xs w sc f (a .letter)),
         ),
       ),
     )

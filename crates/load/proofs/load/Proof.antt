@@ -1,15 +1,13 @@
-use mathlib.Core.Path.{_≡_, ap}
+use mathlib.Core.Path.{_≡_, ap, sym, _∙_}
 use mathlib.Core.List.{List}
 use Prim.Native.Nat.{ℕ}
 use lib.ListN.{length}
-use lib.Dec.{eqb}
-use Rattle.cells.proofs.Choice.{if-true, if-false}
 use Rattle.run.specs.Runs.{ranOf, bytesOf, scratchOf}
-use Rattle.load.proofs.Filling.{short-file}
+use Rattle.load.proofs.Filling.{wanted-filled, wanted-stays}
+use Rattle.load.proofs.Judging.{short-file}
+use Rattle.load.proofs.Leaving.{made-left, refused-left}
 use borrow.Author.Needs.{needs}
-use borrow.Author.Tests.{eq-eqb, ne-eqb}
-use mathlib.Core.Path.{sym, _∙_}
-use Rattle.load.specs.Loads.{loadNumber, wantedOf, loadedOf, arrayLeft, wantedLeft, scratchLeft}
+use Rattle.load.specs.Loads.{loadNumber, wantedOf, wantedBy, LoadLeft}
 use Rattle.load.proofs.load.Statement.{statement}
 use Rattle.load.proofs.load.Tie as tie
 
@@ -18,8 +16,8 @@ load-number-requires c κs = search needs
 
 fill-wanted-requires : tie.Need-fill-wanted-requires
 fill-wanted-requires c κs =
-    let a = c .before .before .before .before .before .before .before .args in
-    short-file (a .d) (a .s) (a .p) (a .block) (length (a .array .now)) (length (a .wanted .now)) (length (a .scratch .now)) (a .file .now) (a .asked) (sym (c .before .before .load-number .ensures) ∙ c .before .if1 .taken)
+    let a = c .before .before .before .before .before .before .args in
+    λ z. short-file (a .d) (a .s) (a .p) (a .block) (length (a .array .now)) (length (a .wanted .now)) (length (a .scratch .now)) (a .file .now) (a .asked) (sym (c .before .load-number .ensures) ∙ z)
 
 run-requires : tie.Need-run-requires
 run-requires c κs = search needs
@@ -34,32 +32,43 @@ same-length-3 : tie.Need-same-length-3
 same-length-3 c = search needs
 
 returns : tie.Need-returns
-unfolding loadedOf arrayLeft wantedLeft scratchLeft
 returns c =
-    let a = c .before .before .before .before .before .before .before .before .before .before .before .before .before .before .before .before .before .before .args in
-    let n = loadNumber (a .d) (a .s) (a .p) (a .block) (length (a .array .now)) (length (a .wanted .now)) (length (a .scratch .now)) (a .file .now) (a .asked) in
-    let z = eq-eqb n 0 (sym (c .before .before .before .before .before .before .before .before .before .before .before .before .before .load-number .ensures) ∙ c .before .before .before .before .before .before .before .before .before .before .before .before .if1 .taken) in
-    let e : c .before .before .before .before .before .before .before .before .before .before .fill-wanted .last .1 .0 ≡ wantedOf (a .file .now) (length (a .wanted .now)) = c .before .before .before .before .before .before .before .before .before .before .fill-wanted .ensures in
-    let r = c .before .before .before .before .run .ensures in (
-      r .0 ∙ ap (λ (w : List ℕ). ranOf (a .d) (a .s) (a .p) (a .block) (a .array .now) w (a .scratch .now)) e ∙ sym (if-true (eqb n 0) _ _ z),
+    let s = c .before .before .before .before .before .before .before .before .before .before .before in
+    let a = s .before .before .before .before .before .before .before .args in
+    let z = c .before .before .before .before .before .before .before .before .if1 .taken in
+    let n : loadNumber (a .d) (a .s) (a .p) (a .block) (length (a .array .now)) (length (a .wanted .now)) (length (a .scratch .now)) (a .file .now) (a .asked) ≡ 0 = sym (s .before .before .load-number .ensures) ∙ z in
+    let e : s .fill-wanted .last .1 .1 .0 ≡ wantedOf (a .file .now) (length (a .wanted .now)) =
+    s .fill-wanted .ensures ∙ wanted-filled (s .before .before .load-number .result) (a .file .now) (a .wanted .now) z in
+    let r = c .before .before .before .before .run .ensures in
+    let m = made-left (a .d) (a .s) (a .p) (a .block) (a .array .now) (a .wanted .now) (a .scratch .now) (a .file .now) (a .asked) n in (
+      r .0 ∙ ap (λ (w : List ℕ). ranOf (a .d) (a .s) (a .p) (a .block) (a .array .now) w (a .scratch .now)) e ∙ sym (ap (λ (x : LoadLeft). x .ran) m),
       (
-        r .1 .0 ∙ ap (λ (w : List ℕ). bytesOf (a .d) (a .s) (a .p) (a .block) (a .array .now) w (a .scratch .now)) e ∙ sym (if-true (eqb n 0) _ _ z),
+        r .1 .0 ∙ ap (λ (w : List ℕ). bytesOf (a .d) (a .s) (a .p) (a .block) (a .array .now) w (a .scratch .now)) e ∙ sym (ap (λ (x : LoadLeft). x .bytes) m),
         (
-          e ∙ sym (if-true (eqb n 0) _ _ z),
-          r .1 .1 ∙ ap (λ (w : List ℕ). scratchOf (a .d) (a .s) (a .p) (a .block) (a .array .now) w (a .scratch .now)) e ∙ sym (if-true (eqb n 0) _ _ z),
+          e ∙ sym (ap (λ (x : LoadLeft). x .wanted) m),
+          r .1 .1 ∙ ap (λ (w : List ℕ). scratchOf (a .d) (a .s) (a .p) (a .block) (a .array .now) w (a .scratch .now)) e ∙ sym (ap (λ (x : LoadLeft). x .scratch) m),
         ),
       ),
     )
 
+same-length-4 : tie.Need-same-length-4
+same-length-4 c = search needs
+
 returns-2 : tie.Need-returns-2
-unfolding loadedOf arrayLeft wantedLeft scratchLeft
 returns-2 c =
-    let a = c .before .before .before .before .before .before .args in
-    let n = loadNumber (a .d) (a .s) (a .p) (a .block) (length (a .array .now)) (length (a .wanted .now)) (length (a .scratch .now)) (a .file .now) (a .asked) in
-    let e : c .before .load-number .result ≡ n = c .before .load-number .ensures in
-    let z = ne-eqb n 0 (λ q. c .if1 .left (e ∙ q)) in (
-      (λ i. record { count = 0; end = e i; address = 0; state = a .s }) ∙ sym (if-false (eqb n 0) _ _ z),
-      (sym (if-false (eqb n 0) _ _ z), (sym (if-false (eqb n 0) _ _ z), sym (if-false (eqb n 0) _ _ z))),
+    let s = c .before .before .before in
+    let a = s .before .before .before .before .before .before .before .args in
+    let e : s .before .before .load-number .result ≡ loadNumber (a .d) (a .s) (a .p) (a .block) (length (a .array .now)) (length (a .wanted .now)) (length (a .scratch .now)) (a .file .now) (a .asked) = s .before .before .load-number .ensures in
+    let m = refused-left (a .d) (a .s) (a .p) (a .block) (a .array .now) (a .wanted .now) (a .scratch .now) (a .file .now) (a .asked) (λ q. c .if1 .left (e ∙ q)) in (
+      (λ i. record { count = 0; end = e i; address = 0; state = a .s }) ∙ sym (ap (λ (x : LoadLeft). x .ran) m),
+      (
+        sym (ap (λ (x : LoadLeft). x .bytes) m),
+        (
+          s .fill-wanted .ensures ∙ wanted-stays (s .before .before .load-number .result) (a .file .now) (a .wanted .now) (c .if1 .left)
+              ∙ sym (ap (λ (x : LoadLeft). x .wanted) m),
+          sym (ap (λ (x : LoadLeft). x .scratch) m),
+        ),
+      ),
     )
 
 pub load-spec : {M : Type 1} → statement M
@@ -73,4 +82,5 @@ load-spec =
     same-length-2
     same-length-3
     returns
+    same-length-4
     returns-2)

@@ -62,7 +62,7 @@ returns c =
     let B = take 512 (drop (512 * i) f) in
     let G = given (blockRows F i n B []) in
     let r : c .before .block-fault .result ≡ G =
-    c .before .block-fault .ensures ∙ ap (λ (k : ℕ). faultOf F i n (take k (drop (512 * i) f))) e ∙ fault-given F i n B (block-cut i n f (omega arith) (omega arith)) (omega arith) in
+    c .before .block-fault .ensures ∙ ap (λ (k : ℕ). faultOf F i n (take k (drop (512 * i) f))) e ∙ fault-given F i n B (block-cut i n f (omega arith) (omega arith)) in
     let t = turn F i n f (omega arith) in
     r ∙ sym (if-false (eqb G 0) _ G (ne-eqb G 0 (λ (q : G ≡ 0). c .if1 .taken (r ∙ q)))) ∙ sym t ∙ l .inv .1
 
@@ -84,7 +84,7 @@ loop-again c =
     let B = take 512 (drop (512 * i) f) in
     let G = given (blockRows F i n B []) in
     let r : c .before .block-fault .result ≡ G =
-    c .before .block-fault .ensures ∙ ap (λ (k : ℕ). faultOf F i n (take k (drop (512 * i) f))) e ∙ fault-given F i n B (block-cut i n f (omega arith) (omega arith)) (omega arith) in
+    c .before .block-fault .ensures ∙ ap (λ (k : ℕ). faultOf F i n (take k (drop (512 * i) f))) e ∙ fault-given F i n B (block-cut i n f (omega arith) (omega arith)) in
     let t = turn F i n f (omega arith) in
     (omega arith, sym (if-true (eqb G 0) _ G (eq-eqb G 0 (sym r ∙ c .if1 .left))) ∙ sym t ∙ l .inv .1)
 

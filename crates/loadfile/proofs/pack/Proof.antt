@@ -1,20 +1,20 @@
 -- `loadfile::pack` meets its contract: the blocks written and the blocks left to write make up the file. Assumes nothing.
-use mathlib.Core.Path.{_≡_, sym, ap, _∙_}
-use mathlib.Core.List.{List, [], _++_, append-nil}
+use mathlib.Core.Path.{_≡_, refl, ap, _∙_}
+use mathlib.Core.List.{_++_}
 use Prim.Native.Nat.{ℕ, _≤_, _-_, _+_, _*_}
 use native.Mathlib.Omega.{arith}
 use borrow.Author.Needs.{needs}
 use lib.ListN.{length, take, drop}
 use borrow.Rule.Slice.PartMut.{same-len-mid}
-use lib.Seq.{take-all}
 use Rattle.loadfile.specs.File.{blocksOf}
-use Rattle.loadfile.proofs.Parts.{packed}
+use Rattle.loadfile.proofs.Parts.{packed, behind, further, all-packed}
 use Rattle.loadfile.proofs.pack.Statement.{statement}
 use Rattle.loadfile.proofs.pack.Tie as tie
 
 abbrev Inv-loop : tie.InvT-loop
 Inv-loop out₀ letter payload n i₀ out i =
-    (i ≤ n) × (length out ≡ 512 * n) × (take (512 * i) out ++ blocksOf (n - i) letter i n (drop (505 * i) payload) ≡ blocksOf n letter 0 n payload)
+    (i ≤ n) × (length out ≡ length out₀) × (take (512 * i) out ++ blocksOf (n - i) letter i n (drop (505 * i) payload) ≡ blocksOf n letter 0 n payload)
+    × (drop (512 * i) out ≡ drop (512 * i) out₀)
 
 abbrev μ-loop : tie.MeasureT-loop
 μ-loop out₀ letter payload n i₀ out i = n - i
@@ -23,13 +23,10 @@ loop-holds : tie.Need-loop-holds Inv-loop μ-loop
 loop-holds c =
     let a = c .before .before .args in
     let z : a .n - 0 ≡ a .n = omega arith in
-    (omega arith, omega arith, ap (λ (k : ℕ). blocksOf k (a .letter) 0 (a .n) (a .payload .now)) z)
+    (omega arith, omega arith, ap (λ (k : ℕ). blocksOf k (a .letter) 0 (a .n) (a .payload .now)) z, refl)
 
 mul-to : tie.Need-mul-to Inv-loop μ-loop
 mul-to c = omega arith
-
-add-end : tie.Need-add-end Inv-loop μ-loop
-add-end c = omega arith
 
 mul-from : tie.Need-mul-from Inv-loop μ-loop
 mul-from c = omega arith
@@ -80,9 +77,11 @@ loop-again c =
     let l = m .before .before .loop in
     let a = m .before .before .before .before .before .args in (
       omega arith,
-      same-len-mid (512 * l .i) (512 * l .i + 512 - 512 * l .i) (l .out) (p .last .0) (p .kept .0) ∙ l .inv .1,
-      packed (a .letter) (l .i) (a .n) (m .least .result) (a .payload .now) (l .out) (p .last .0) (omega arith) (l .inv .1) (m .least .ensures) (p .ensures)
+      same-len-mid (512 * l .i) (length (l .out) - 512 * l .i) (l .out) (p .last .0) (p .kept .0) ∙ l .inv .1,
+      packed (a .letter) (l .i) (a .n) (m .least .result) (a .payload .now) (l .out) (p .last .0) (omega arith) (omega arith) (m .least .ensures) (p .ensures)
           ∙ l .inv .2,
+      behind (a .letter) (l .i) (a .n) (m .least .result) (a .payload .now) (l .out) (p .last .0) (omega arith) (omega arith) (m .least .ensures) (p .ensures)
+          ∙ further (l .i) (l .out) (a .out .now) (l .inv .3),
     )
 
 same-length : tie.Need-same-length Inv-loop μ-loop
@@ -92,12 +91,7 @@ returns : tie.Need-returns Inv-loop μ-loop
 returns c =
     let l = c .before .loop in
     let a = c .before .before .before .before .args in
-    let z : a .n - l .i ≡ 0 = omega arith in
-    let b : blocksOf (a .n - l .i) (a .letter) (l .i) (a .n) (drop (505 * l .i) (a .payload .now)) ≡ [] =
-    ap (λ (k : ℕ). blocksOf k (a .letter) (l .i) (a .n) (drop (505 * l .i) (a .payload .now))) z in
-    let t : take (512 * l .i) (l .out) ≡ l .out = take-all (512 * l .i) (l .out) (omega arith) in
-    sym (ap (λ (x : List ℕ). x ++ blocksOf (a .n - l .i) (a .letter) (l .i) (a .n) (drop (505 * l .i) (a .payload .now))) t ∙ ap (λ (x : List ℕ). l .out ++ x) b ∙ append-nil (l .out))
-    ∙ l .inv .2
+    all-packed (a .letter) (l .i) (a .n) (a .payload .now) (l .out) (a .out .now) (blocksOf (a .n) (a .letter) 0 (a .n) (a .payload .now)) (l .inv .0) (omega arith) (l .inv .2) (l .inv .3)
 
 pub pack-spec : {M : Type 1} → statement M
 pack-spec =
@@ -107,7 +101,6 @@ pack-spec =
     μ-loop
     loop-holds
     mul-to
-    add-end
     mul-from
     add-least
     least-requires

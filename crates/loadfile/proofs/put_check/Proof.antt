@@ -1,8 +1,8 @@
 -- `loadfile::put_check` meets its contract. Assumes nothing.
 use borrow.Author.Needs.{needs}
-use mathlib.Core.List.{List, [], _∷_, _++_, append-nil}
+use mathlib.Core.List.{[], _∷_, _++_}
 use Prim.Native.Nat.{ℕ, _/_, _%_}
-use lib.ListN.{take, drop, drop-of-length-le}
+use lib.ListN.{take, drop}
 use lib.Seq.{sets-eq}
 use Rattle.seal.specs.Check.{checkOf}
 use native.Mathlib.Omega.{arith}
@@ -33,11 +33,7 @@ returns c =
     let o = c .before .before .before .args .out .now in
     let r = c .check .result in
     let e : r ≡ checkOf (take 510 o) = c .check .ensures in
-    let n : drop 512 o ≡ [] = drop-of-length-le o {i = 512} (omega arith) in
-    sets-eq (r / 256 ∷ r % 256 ∷ []) o 510 (omega arith)
-    ∙ ap (λ (z : List ℕ). (take 510 o ++ (r / 256 ∷ r % 256 ∷ [])) ++ z) n
-    ∙ append-nil (take 510 o ++ (r / 256 ∷ r % 256 ∷ []))
-    ∙ ap (λ (v : ℕ). take 510 o ++ (v / 256 ∷ v % 256 ∷ [])) e
+    sets-eq (r / 256 ∷ r % 256 ∷ []) o 510 (omega arith) ∙ ap (λ (v : ℕ). (take 510 o ++ (v / 256 ∷ v % 256 ∷ [])) ++ drop 512 o) e
 
 pub put-check-spec : {M : Type 1} → statement M
 put-check-spec =

@@ -1,15 +1,15 @@
 -- `loadfile::write` meets its contract, by one law for each way out. Assumes nothing.
 use borrow.Author.Needs.{needs}
 use mathlib.Core.Path.{_≡_, sym, ap, _∙_}
-use Prim.Native.Nat.{_*_}
+use mathlib.Core.List.{_++_}
+use Prim.Native.Nat.{ℕ, _*_}
 use native.Mathlib.Omega.{arith}
-use lib.ListN.{length}
+use lib.ListN.{length, drop}
 use borrow.Author.Tests.{not-true, not-false}
 use Rattle.loadfile.specs.declared.Written.the-variants.{Wrote}
 use Rattle.loadfile.specs.File.{limit, refused, made, inRoom, leftIn, countOf, fileOf, writerOf, writtenAs}
 use Rattle.loadfile.proofs.Sizes.{blocks-length}
 use Rattle.loadfile.proofs.Outcomes.{payload-right, writer-32, writer-36, writer-made, room-37, room-made}
-use Rattle.loadfile.proofs.Answers.{front-of, cut}
 use Rattle.loadfile.proofs.write.Statement.{statement}
 use Rattle.loadfile.proofs.write.Tie as tie
 
@@ -57,22 +57,13 @@ returns-3 c =
     ∙ room-37 (length out) (fileOf (a .letter) (a .payload .now)) (omega (arith, c .if3 .taken)) in
     (sym (ap writtenAs q), sym (ap (leftIn out) q))
 
-sub-pack : tie.Need-sub-pack
-sub-pack c = search needs
-
-part-pack-start : tie.Need-part-pack-start
-part-pack-start c = search needs
-
-part-pack-end : tie.Need-part-pack-end
-part-pack-end c = search needs
-
 pack-requires : tie.Need-pack-requires
 pack-requires c κs =
     let p = c .before .before .before in
     let a = p .before .before .before .before .before .args in
     let s = length (a .payload .now) in
     let r = payload-right limit s (sym (p .payload-wrong .ensures) ∙ c .before .before .if2 .left) in
-    (cut (a .out .now) (512 * countOf s) (c .before .if3 .left), omega arith, omega arith, omega arith)
+    (c .before .if3 .left, omega arith, omega arith, omega arith)
 
 same-length : tie.Need-same-length
 same-length c = search needs
@@ -91,7 +82,7 @@ returns-4 c =
     ap (inRoom (length out))
     (writer-made limit (a .letter) (a .payload .now) (sym (m .before .is-letter .ensures) ∙ not-false _ (m .if1 .left)) (sym (p .payload-wrong .ensures) ∙ g .before .if2 .left))
     ∙ room-made (length out) (fileOf (a .letter) (a .payload .now)) (omega (arith, g .if3 .left)) in
-    (sym (ap writtenAs q ∙ ap Wrote l), front-of out (u .last .0) _ (fileOf (a .letter) (a .payload .now)) (512 * n) q l (u .ensures))
+    (sym (ap writtenAs q ∙ ap Wrote l), u .ensures ∙ ap (λ (k : ℕ). fileOf (a .letter) (a .payload .now) ++ drop k out) (sym l) ∙ sym (ap (leftIn out) q))
 
 pub write-spec : {M : Type 1} → statement M
 write-spec =
@@ -104,9 +95,6 @@ write-spec =
     add-n
     mul-whole
     returns-3
-    sub-pack
-    part-pack-start
-    part-pack-end
     pack-requires
     same-length
     returns-4)

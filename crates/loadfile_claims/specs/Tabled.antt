@@ -1,4 +1,4 @@
--- What it means that refusals come in the order of a table. Assumes nothing.
+-- An outcome that a table of refusals decides. Assumes nothing.
 use mathlib.Core.Path.{_≡_}
 use mathlib.Core.List.{List}
 use mathlib.Core.Logic.{_↔_}
@@ -6,7 +6,7 @@ use Prim.Native.Nat.{ℕ}
 use Rattle.cells.specs.Numbers.{Row, Foremost, NoRow}
 use Rattle.loadfile.specs.File.{Outcome, refused, made}
 
--- an outcome by a table: refused by n exactly where n's row is the first that holds, let through exactly where none holds
+-- refused by n exactly where n's row is the first that holds, let through exactly where none holds
 pub record Ordered (rs : List Row) (bytes : List ℕ) (o : Outcome) : Type 0 where
   pub refuses : (n : ℕ) → o ≡ refused n ↔ Foremost rs n
   pub lets : o ≡ made bytes ↔ NoRow rs
