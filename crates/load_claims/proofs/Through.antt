@@ -16,7 +16,8 @@ use Rattle.chip.specs.States.{atRest}
 use Rattle.run.specs.declared.Ran.{Ran}
 use Rattle.run.specs.Runs.{runNumber, runLeft, bytesOf}
 use Rattle.run_claims.specs.Wear.{heldIn, formula}
-use Rattle.run_claims.proofs.Demand.{Start}
+use Rattle.run_claims.specs.Mission.{Start}
+use Rattle.run_claims.proofs.Starts.{taken-if}
 use Rattle.run_claims.proofs.Claims as run-claims
 use Rattle.load.specs.Loads.{loadNumber, wantedOf, LoadLeft, loadMade, loadLeft}
 use Rattle.load.proofs.Filling.{wanted-length}
@@ -45,12 +46,12 @@ module _ (d : Device) (s : State) (p : Pins) (k : ℕ) (xs w sc f : List ℕ) (a
   start : Start d s p k xs wish sc
   start =
       record {
-        base = record {
-          taken = subst (λ (n : ℕ). runNumber d s p k (length xs) n (length sc) ≡ 0) (sym long) (none-refuses d s p k (length xs) (length w) (length sc) f asked none .0);
-          programs = t .programs;
-          erases = t .erases;
-          bytes = cells-of wish (bytes-append f (replicate (length w - length f) 255) (t .bytes) (bytes-replicate (length w - length f) 255 (omega arith)));
-        };
+        base =
+            taken-if d s p k xs wish sc
+            (subst (λ (n : ℕ). runNumber d s p k (length xs) n (length sc) ≡ 0) (sym long) (none-refuses d s p k (length xs) (length w) (length sc) f asked none .0))
+            (t .programs)
+            (t .erases)
+            (cells-of wish (bytes-append f (replicate (length w - length f) 255) (t .bytes) (bytes-replicate (length w - length f) 255 (omega arith))));
         high = t .high;
         unlock = t .unlock;
       }
@@ -72,6 +73,8 @@ module _ (d : Device) (s : State) (p : Pins) (k : ℕ) (xs w sc f : List ℕ) (a
         behind = λ x h. ap (λ (y : LoadLeft). getD (y .bytes) x 0) left ∙ run-claims.others-stay d s p k xs wish sc start x .1 (omega (arith, long));
         wanted = ap (λ (x : LoadLeft). x .wanted) left;
         scratch = ap (λ (x : LoadLeft). x .scratch) left ∙ run-claims.scratch-left d s p k xs wish sc start;
+        demand = run-claims.demand-3 d s p k xs wish sc start;
+        left = left;
       }
     where
       at : ℕ → Ran

@@ -13,8 +13,10 @@ use Rattle.chip.specs.declared.Mode.the-variants.{Array}
 use Rattle.chip.specs.declared.State.{State}
 use Rattle.chip.specs.Levels.{vppHigh, unlocked}
 use Rattle.chip.specs.States.{atRest}
+use Rattle.run.specs.Runs.{runLeft}
 use Rattle.run_claims.specs.Wear.{heldIn, formula}
-use Rattle.load.specs.Loads.{loadRows, wantedOf, loadedOf, bytesLoaded, wantedLoaded, scratchLoaded}
+use Rattle.run_claims.specs.Mission.{Demand3}
+use Rattle.load.specs.Loads.{loadRows, wantedOf, loadMade, loadLeft, loadedOf, bytesLoaded, wantedLoaded, scratchLoaded}
 
 -- a load that nothing refuses, of bytes, with busy times of 16 bits, VPP in its 12 V band, and RP# at unlock level for the boot block
 pub record FileStart (d : Device) (s : State) (p : Pins) (k : ℕ) (xs w sc f : List ℕ) (asked : ℕ) : Type 0 where
@@ -25,7 +27,7 @@ pub record FileStart (d : Device) (s : State) (p : Pins) (k : ℕ) (xs w sc f : 
   pub high : vppHigh (d .part) p ≡ true
   pub unlock : k ≡ 0 → unlocked (d .part) p 0 ≡ true
 
--- ended well in the formula's cycles: block, wanted and scratch hold the file and FFH to the end, every byte outside is as before
+-- all of demand 3 holds of the run with the file and FFH as what is wanted, and the load leaves what that run leaves: ended well in the formula's cycles: block, wanted and scratch hold the file and FFH to the end, every byte outside is as before
 pub record FileLoaded (d : Device) (s : State) (p : Pins) (k : ℕ) (xs w sc f : List ℕ) (asked : ℕ) : Type 0 where
   pub ran : loadedOf d s p k xs w sc f asked
       ≡ record { count = formula d (wantedOf f (length w)) (heldIn (startOf (d .part) k) (length w) xs); end = 0; address = 0; state = atRest Array 0x80 }
@@ -34,3 +36,5 @@ pub record FileLoaded (d : Device) (s : State) (p : Pins) (k : ℕ) (xs w sc f :
   pub behind : (x : ℕ) → startOf (d .part) k + length w ≤ x → getD (bytesLoaded d s p k xs w sc f asked) x 0 ≡ getD xs x 0
   pub wanted : wantedLoaded d s p k xs w sc f asked ≡ wantedOf f (length w)
   pub scratch : scratchLoaded d s p k xs w sc f asked ≡ wantedOf f (length w)
+  pub demand : Demand3 d s p k xs (wantedOf f (length w)) sc
+  pub left : loadLeft d s p k xs w sc f asked ≡ loadMade (runLeft d s p k xs (wantedOf f (length w)) sc) (wantedOf f (length w))
