@@ -1,5 +1,6 @@
 // The loader's record, and where a byte read takes it. A cycle is out at each stage; `stepper` gives it and takes the byte.
 pub mod moves;
+pub mod stages;
 pub mod walk;
 
 use chip::Cycle;
@@ -20,6 +21,12 @@ pub enum Stage {
     Closing,
     Verifying,
     Ended(u8),
+}
+
+// Whether a stage is the end of a load, and by which number. Before the end there is none, and 255 stands for that.
+pub struct StageEnd {
+    pub ended: bool,
+    pub end: u8,
 }
 
 // The loader's record: the part, the block and the levels it works with, the cycle that is out, the place in the block, and

@@ -12,7 +12,8 @@ use Rattle.device.specs.declared.Device.{Device}
 use Rattle.chip.specs.declared.Pins.{Pins}
 use Rattle.chip.specs.declared.State.{State}
 use Rattle.run.specs.declared.Ran.{Ran}
-use Rattle.run.specs.Turns.{Config, isEnded, after}
+use Rattle.run.specs.Turns.{Config, after}
+use Rattle.loader.specs.Stages.{isEnded}
 use Rattle.run.specs.Runs.{runRows, runNumber, driven, ranOf, bytesOf, scratchOf, beginning}
 use Rattle.loader.specs.declared.Loader.{Loader}
 use Rattle.loader.specs.Moves.{nextOf}

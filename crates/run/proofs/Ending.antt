@@ -15,7 +15,8 @@ use Rattle.device.specs.declared.Device.{Device}
 use Rattle.chip.specs.declared.Pins.{Pins}
 use Rattle.chip.specs.declared.State.{State}
 use Rattle.run.specs.declared.Ran.{Ran}
-use Rattle.run.specs.Turns.{Config, isEnded, answerTo, moved, after, bound}
+use Rattle.run.specs.Turns.{Config, answerTo, moved, after, bound}
+use Rattle.loader.specs.Stages.{isEnded}
 use Rattle.run.specs.Runs.{runRows, runNumber, beginning, ranBy, driven, leftBy, ranOf, bytesOf, scratchOf, RunLeft}
 use Rattle.run.specs.Promises.{FirstEnd, Promise}
 use Rattle.run.proofs.Leaving.{left-made, left-refused}

@@ -17,7 +17,8 @@ use Rattle.loader.specs.Moves.{isReady, eraseFault, programFault, onward, after
 use Rattle.stepper.specs.Stores.{storeOf}
 use Rattle.model.specs.declared.Seen.{Seen}
 use Rattle.model.specs.declared.Seen.the-variants.{NoData, Byte, Refused}
-use Rattle.run.specs.Turns.{isEnded, loaderBy, bound}
+use Rattle.run.specs.Turns.{loaderBy, bound}
+use Rattle.loader.specs.Stages.{isEnded}
 
 -- the most cycles from the first program of a load of n bytes to its end
 abbrev programs : ℕ → ℕ

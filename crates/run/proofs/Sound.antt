@@ -33,7 +33,8 @@ use Rattle.stepper.specs.Outs.{firstOf, reach, hereOf, cycleAt, cycleIn, cycleO
 use Rattle.stepper.specs.Stores.{storeOf}
 use Rattle.stepper.specs.Front.{barredPins, noBlock, recordAt}
 use Rattle.stepper.proofs.Again.{some-block, Kept, kept-next}
-use Rattle.run.specs.Turns.{Config, isEnded, loaderBy, answerTo, arrayTo, moved, turnOf, after}
+use Rattle.run.specs.Turns.{Config, loaderBy, answerTo, arrayTo, moved, turnOf, after}
+use Rattle.loader.specs.Stages.{isEnded}
 use Rattle.run.specs.Runs.{runNumber, begin}
 use Rattle.chip.specs.Phases.{isPending, underWay}
 use Rattle.run.proofs.Good.{Good, good}

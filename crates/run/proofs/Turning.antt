@@ -15,7 +15,8 @@ use Rattle.stepper.specs.Stores.{storeOf}
 use Rattle.stepper.proofs.Again.{first-kept}
 use Rattle.model.specs.declared.Seen.{Seen}
 use Rattle.model.specs.declared.Seen.the-variants.{NoData, Byte, Refused}
-use Rattle.run.specs.Turns.{Config, isEnded, isRefused, numberIn, loaderBy, scratchBy, answerTo, arrayTo, moved, turnOf, after, bound}
+use Rattle.run.specs.Turns.{Config, isRefused, numberIn, loaderBy, scratchBy, answerTo, arrayTo, moved, turnOf, after, bound}
+use Rattle.loader.specs.Stages.{isEnded}
 use Rattle.run.specs.Runs.{driven}
 use Rattle.run.proofs.Measure.{remains, remains-bound, falls}
 

@@ -7,7 +7,8 @@ use Rattle.device.specs.declared.Device.{Device}
 use Rattle.chip.specs.declared.Pins.{Pins}
 use Rattle.chip.specs.declared.State.{State}
 use Rattle.run.specs.declared.Ran.{Ran}
-use Rattle.run.specs.Turns.{Config, isEnded, after}
+use Rattle.run.specs.Turns.{Config, after}
+use Rattle.loader.specs.Stages.{isEnded}
 use Rattle.run.specs.Runs.{beginning, ranBy}
 
 -- e is what the first k cycles from c leave after which the load has ended, k being e's count

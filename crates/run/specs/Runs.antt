@@ -15,6 +15,7 @@ use Rattle.chip.specs.States.{improper}
 use Rattle.loader.specs.declared.Stage.{Stage}
 use Rattle.loader.specs.declared.Stage.the-variants.{Clearing, Opening, Reading, EraseAsking, EraseConfirming, EraseWaiting, ProgramAsking, ProgramSending, ProgramWaiting, Closing, Verifying, Ended}
 use Rattle.loader.specs.declared.Loader.{Loader}
+use Rattle.loader.specs.Stages.{endBy}
 use Rattle.stepper.specs.Front.{barredPins, noBlock, wrongLengths, recordAt, endAddress}
 use Rattle.run.specs.declared.Ran.{Ran}
 use Rattle.run.specs.Turns.{Config, after, bound}
@@ -34,21 +35,6 @@ runRows d s p k array w sc =
 unfoldable pub runNumber : Device → State → Pins → ℕ → ℕ → ℕ → ℕ → ℕ
 runNumber d s p k array w sc = given (runRows d s p k array w sc)
 
--- the number of the end; a load that has not ended has none, and 255 stands for that
-abbrev pub endOf : Stage → ℕ
-endOf Clearing = 255
-endOf Opening = 255
-endOf Reading = 255
-endOf EraseAsking = 255
-endOf EraseConfirming = 255
-endOf EraseWaiting = 255
-endOf ProgramAsking = 255
-endOf ProgramSending = 255
-endOf ProgramWaiting = 255
-endOf Closing = 255
-endOf Verifying = 255
-endOf (Ended n) = n
-
 -- the beginning of a load
 abbrev pub begin : Device → State → Loader → List ℕ → List ℕ → Config
 begin d s l xs sc = record { loader = l; state = s; bytes = xs; scratch = sc; count = 0 }
@@ -59,7 +45,7 @@ beginning d s p k xs sc = begin d s (recordAt (d .part) p k Clearing) xs sc
 
 -- what is returned of a load under way
 abbrev pub ranBy : Config → Ran
-ranBy c = record { count = c .count; end = endOf (c .loader .stage); address = endAddress (c .loader) (endOf (c .loader .stage)); state = c .state }
+ranBy c = record { count = c .count; end = endBy (c .loader .stage); address = endAddress (c .loader) (endBy (c .loader .stage)); state = c .state }
 
 -- the load made to its end
 unfoldable pub driven : Device → List ℕ → Config → Config

@@ -12,6 +12,7 @@ use Rattle.model.specs.Arrays.{answerOf, arrayAfter}
 use Rattle.loader.specs.declared.Stage.{Stage}
 use Rattle.loader.specs.declared.Stage.the-variants.{Clearing, Opening, Reading, EraseAsking, EraseConfirming, EraseWaiting, ProgramAsking, ProgramSending, ProgramWaiting, Closing, Verifying, Ended}
 use Rattle.loader.specs.declared.Loader.{Loader}
+use Rattle.loader.specs.Stages.{isEnded}
 use Rattle.loader.specs.Moves.{nextOf, endedBy}
 use Rattle.stepper.specs.Outs.{cycleOf}
 use Rattle.stepper.specs.Stores.{storeOf}
@@ -23,20 +24,6 @@ pub record Config : Type 0 where
   pub bytes : List ℕ
   pub scratch : List ℕ
   pub count : ℕ
-
-abbrev pub isEnded : Stage → Bool
-isEnded Clearing = false
-isEnded Opening = false
-isEnded Reading = false
-isEnded EraseAsking = false
-isEnded EraseConfirming = false
-isEnded EraseWaiting = false
-isEnded ProgramAsking = false
-isEnded ProgramSending = false
-isEnded ProgramWaiting = false
-isEnded Closing = false
-isEnded Verifying = false
-isEnded (Ended n) = true
 
 abbrev pub isRefused : Seen → Bool
 isRefused NoData = false

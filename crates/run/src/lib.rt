@@ -10,6 +10,7 @@ use device::Part;
 use loader::Loader;
 use loader::Stage;
 use loader::moves::ended_by;
+use loader::stages::stage_end;
 use model::Seen;
 use stepper::front::barred_pins;
 use stepper::front::end_address;
@@ -25,10 +26,11 @@ ghost use lib.Dec.{eqb};
 ghost use Rattle.device.specs.Parts.{sizeOf};
 ghost use Rattle.bus.specs.Cycles.{judgeOf};
 ghost use Rattle.loader.specs.declared.Stage.the-variants.{Clearing};
+ghost use Rattle.loader.specs.Stages.{isEnded};
 ghost use Rattle.stepper.specs.Outs.{firstOf, hereOf, cycleOf};
 ghost use Rattle.stepper.specs.Front.{recordAt};
-ghost use Rattle.run.specs.Turns.{isEnded, isRefused, numberIn, loaderBy, scratchBy, answerTo, arrayTo};
-ghost use Rattle.run.specs.Runs.{runNumber, endOf, begin, ranBy, driven, ranOf, bytesOf, scratchOf};
+ghost use Rattle.run.specs.Turns.{isRefused, numberIn, loaderBy, scratchBy, answerTo, arrayTo};
+ghost use Rattle.run.specs.Runs.{runNumber, begin, ranBy, driven, ranOf, bytesOf, scratchOf};
 ghost use Rattle.chip.specs.Phases.{underWay};
 
 // What a run returns: the cycles made, the number of the end (0 well), for 25 the array address, and the device's state.
@@ -111,49 +113,12 @@ fn both(d: Device, start: u32, h: Held, wanted: &[u8], scratch: &mut [u8], array
     }
 }
 
-fn is_ended(stage: Stage) -> bool
-    ensures { λ r. ⌜ r ≡ isEnded stage ⌝ }
-{
-    match stage {
-        Stage::Clearing => false,
-        Stage::Opening => false,
-        Stage::Reading => false,
-        Stage::EraseAsking => false,
-        Stage::EraseConfirming => false,
-        Stage::EraseWaiting => false,
-        Stage::ProgramAsking => false,
-        Stage::ProgramSending => false,
-        Stage::ProgramWaiting => false,
-        Stage::Closing => false,
-        Stage::Verifying => false,
-        Stage::Ended(_) => true,
-    }
-}
-
 fn going(l: Loader) -> bool
     ensures { λ r. ⌜ r ≡ not (isEnded (l .stage)) ⌝ }
 {
     let stage = l.stage;
-    !is_ended(stage)
-}
-
-fn end_of(stage: Stage) -> u8
-    ensures { λ r. ⌜ r ≡ endOf stage ⌝ }
-{
-    match stage {
-        Stage::Clearing => 255,
-        Stage::Opening => 255,
-        Stage::Reading => 255,
-        Stage::EraseAsking => 255,
-        Stage::EraseConfirming => 255,
-        Stage::EraseWaiting => 255,
-        Stage::ProgramAsking => 255,
-        Stage::ProgramSending => 255,
-        Stage::ProgramWaiting => 255,
-        Stage::Closing => 255,
-        Stage::Verifying => 255,
-        Stage::Ended(n) => n,
-    }
+    let e = stage_end(stage);
+    !e.ended
 }
 
 // The load made to its end, from a beginning that nothing refuses.
@@ -185,7 +150,8 @@ fn drive(d: Device, s: State, l: Loader, wanted: &[u8], scratch: &mut [u8], arra
         count += 1;
     }
     let stage = moving.stage;
-    let end = end_of(stage);
+    let e = stage_end(stage);
+    let end = e.end;
     Ran {
         count: count,
         end: end,

@@ -16,7 +16,8 @@ use Rattle.loader.specs.declared.Stage.the-variants.{Clearing}
 use Rattle.loader.specs.Walks.{risesIn, diffFrom}
 use Rattle.stepper.specs.Outs.{cycleOf}
 use Rattle.stepper.specs.Front.{recordAt}
-use Rattle.run.specs.Turns.{Config, isEnded, turnOf, after, bound}
+use Rattle.run.specs.Turns.{Config, turnOf, after, bound}
+use Rattle.loader.specs.Stages.{isEnded}
 use Rattle.run.specs.Runs.{runRows, runNumber, begin, driven, leftBy, RunLeft, ranOf}
 use Rattle.run.proofs.Leaving.{left-made}
 use Rattle.run.proofs.Turning.{turn-ended, turn-going}

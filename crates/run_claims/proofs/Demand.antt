@@ -37,7 +37,8 @@ use Rattle.stepper.specs.Outs.{cycleOf}
 use Rattle.loader.specs.declared.Stage.{Stage}
 use Rattle.chip.specs.declared.Cycle.{Cycle}
 use lib.Bits.{bitOr}
-use Rattle.run.specs.Turns.{Config, isEnded, turnOf, after, bound}
+use Rattle.run.specs.Turns.{Config, turnOf, after, bound}
+use Rattle.loader.specs.Stages.{isEnded}
 use Rattle.run.specs.Runs.{beginning, driven, leftBy, ranBy, RunLeft, runMade, runLeft, ranOf, bytesOf, scratchOf}
 use Rattle.chip.specs.Phases.{underWay}
 use Rattle.run.proofs.Leaving.{left-made}

@@ -33,7 +33,8 @@ use Rattle.loader.specs.declared.Loader.{Loader}
 use Rattle.loader.specs.Walks.{risesIn, diffFrom}
 use Rattle.loader.specs.Moves.{nextOf, isReady, eraseFault, programFault, erasePolled, programPolled}
 use Rattle.stepper.specs.Stores.{storeOf, erasedWell}
-use Rattle.run.specs.Turns.{Config, isEnded}
+use Rattle.run.specs.Turns.{Config}
+use Rattle.loader.specs.Stages.{isEnded}
 use Rattle.run.proofs.Turning.{conf}
 use Rattle.run_claims.specs.Made.{busCycle as cyc, closingOf}
 use Rattle.run_claims.specs.Ends.{asWanted, eraseTried, programTried}

@@ -15,7 +15,8 @@ use Rattle.bus.specs.Cycles.{decideOf}
 use Rattle.model.specs.Arrays.{isRefusal}
 use Rattle.model.specs.Begun.{begunBy}
 use Rattle.stepper.specs.Outs.{cycleOf}
-use Rattle.run.specs.Turns.{Config, isEnded, answerTo, arrayTo, turnOf, after}
+use Rattle.run.specs.Turns.{Config, answerTo, arrayTo, turnOf, after}
+use Rattle.loader.specs.Stages.{isEnded}
 use Rattle.run.proofs.Turning.{turn-ended, turn-going}
 use Rattle.run_claims.specs.Wear.{noted, notedAll, begunTurn, begunIn}
 use Rattle.run_claims.specs.History.{Bus, World, worldOf, busesOf, stepped, worldAfter, effectsIn, begunOver, acceptsAll, isCut, uncut, total}

@@ -48,7 +48,8 @@ use Rattle.loader.proofs.Walking.{diff-turn, diff-over}
 use Rattle.chip.specs.declared.Cycle.{Cycle}
 use Rattle.model.specs.Begun.{pendingIn, begunFrom}
 use Rattle.chip.specs.Phases.{isBusy, isAwaited}
-use Rattle.run.specs.Turns.{Config, isEnded, turnOf}
+use Rattle.run.specs.Turns.{Config, turnOf}
+use Rattle.loader.specs.Stages.{isEnded}
 use Rattle.run_claims.specs.Wear.{programsOf, differing, baseOf, operationsOf}
 use Rattle.run.proofs.Turning.{conf}
 use Rattle.run_claims.specs.Made.{busCycle as cyc, isSmooth, readsThen, pollsThen, openingThen, eraseThen, programThen, programsThen, closingOf, programmingOf, cyclesOf}

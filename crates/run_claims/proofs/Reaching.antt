@@ -20,7 +20,8 @@ use Rattle.model.specs.Begun.{begunBy, begunFrom}
 use Rattle.model.proofs.Lives.{begun-from}
 use Rattle.loader.specs.declared.Loader.{Loader}
 use Rattle.stepper.specs.Outs.{cycleOf}
-use Rattle.run.specs.Turns.{Config, isEnded, loaderBy, scratchBy, answerTo, arrayTo, turnOf, after}
+use Rattle.run.specs.Turns.{Config, loaderBy, scratchBy, answerTo, arrayTo, turnOf, after}
+use Rattle.loader.specs.Stages.{isEnded}
 use Rattle.run_claims.specs.Wear.{noted, begunTurn, begunIn}
 use Rattle.run.proofs.Turning.{conf, turn-going}
 

@@ -44,8 +44,9 @@ use Rattle.stepper.specs.Front.{barredPins, startNumber, stepNumber, recordAt, 
 use Rattle.stepper.proofs.Again.{taken, start-gives, start-again, step-on, step-again}
 use Rattle.run.specs.declared.Ran.{Ran}
 use Rattle.run.specs.Turns as turns
-use Rattle.run.specs.Turns.{Config, isEnded, numberIn, answerTo, moved, turnOf, after, bound}
-use Rattle.run.specs.Runs.{runRows, endOf, ranBy, begin, driven, ranOf, bytesOf, scratchOf}
+use Rattle.run.specs.Turns.{Config, numberIn, answerTo, moved, turnOf, after, bound}
+use Rattle.loader.specs.Stages.{isEnded, endBy}
+use Rattle.run.specs.Runs.{runRows, ranBy, begin, driven, ranOf, bytesOf, scratchOf}
 use Rattle.run.proofs.Turning.{took, turn-ended, turn-going, ended-stays}
 use Rattle.run.specs.Promises.{Promise}
 use Rattle.run.proofs.Ending.{always-ends, run-first, run-accepted}
@@ -208,7 +209,7 @@ start-passes d s p k array w sc r =
     no-row-given (past (known-part d (no-head r)) (past (no-head r4) (past (no-head r5) (past (no-head r6) end))))
 
 -- a record that has ended tells its number and address
-over-told : (stage : Stage) (l : Loader) (w : List ℕ) → isEnded stage ≡ true → turnIn stage l w ≡ Over (endOf stage) (endAddress l (endOf stage))
+over-told : (stage : Stage) (l : Loader) (w : List ℕ) → isEnded stage ≡ true → turnIn stage l w ≡ Over (endBy stage) (endAddress l (endBy stage))
 over-told Clearing l w e = absurd (unlike (sym e))
 over-told Opening l w e = absurd (unlike (sym e))
 over-told Reading l w e = absurd (unlike (sym e))

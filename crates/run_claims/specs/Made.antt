@@ -16,7 +16,8 @@ use Rattle.bus.specs.Cycles.{decideOf}
 use Rattle.model.specs.Arrays.{isRefusal}
 use Rattle.stepper.specs.Outs.{cycleOf}
 use Rattle.loader.specs.Walks.{risesIn}
-use Rattle.run.specs.Turns.{Config, isEnded, turnOf, bound}
+use Rattle.run.specs.Turns.{Config, turnOf, bound}
+use Rattle.loader.specs.Stages.{isEnded}
 use Rattle.run.specs.Runs.{beginning}
 use Rattle.run_claims.specs.Wear.{baseOf}
 use Rattle.run_claims.specs.History.{isCut}

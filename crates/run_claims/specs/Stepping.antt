@@ -14,7 +14,8 @@ use Rattle.loader.specs.declared.Stage.the-variants.{Clearing}
 use Rattle.loader.specs.declared.Turn.the-variants.{Over}
 use Rattle.stepper.specs.Outs.{cycleOf}
 use Rattle.stepper.specs.Front.{recordAt, givenBy, startOf, stepOf, scratchAfter}
-use Rattle.run.specs.Turns.{Config, isEnded, isRefused, numberIn, answerTo, arrayTo, after}
+use Rattle.run.specs.Turns.{Config, isRefused, numberIn, answerTo, arrayTo, after}
+use Rattle.loader.specs.Stages.{isEnded}
 use Rattle.run.specs.Runs.{beginning, ranOf, bytesOf, scratchOf}
 
 -- the model's answer to the cycle that is out at c

@@ -15,7 +15,8 @@ use Rattle.chip.specs.declared.Effect.the-variants.{Nothing, Program, Erase, Cu
 use Rattle.model.specs.Begun.{begunBy}
 use Rattle.stepper.specs.Outs.{cycleOf}
 use Rattle.loader.specs.Walks.{risesIn}
-use Rattle.run.specs.Turns.{Config, isEnded, turnOf, bound}
+use Rattle.run.specs.Turns.{Config, turnOf, bound}
+use Rattle.loader.specs.Stages.{isEnded}
 use Rattle.run.specs.Runs.{beginning}
 
 -- an operation noted before those that follow

@@ -16,6 +16,7 @@ use Rattle.loader.specs.declared.Loader.{Loader}
 use Rattle.loader.specs.declared.Turn.{Turn}
 use Rattle.loader.specs.declared.Turn.the-variants.{Out, Over, Barred}
 use Rattle.loader.specs.declared.Given.{Given}
+use Rattle.loader.specs.Stages.{isEnded, endBy}
 use Rattle.loader.specs.Moves.{nextOf}
 use Rattle.stepper.specs.Outs.{hereOf, cycleOf}
 use Rattle.stepper.specs.Stores.{storeOf}
@@ -67,18 +68,7 @@ endAddress l n = if eqb n 25 then hereOf l else 0
 
 -- what a record gives: the cycle that is out, or its end again
 abbrev pub turnIn : Stage → Loader → List ℕ → Turn
-turnIn Clearing l w = Out (cycleOf l w)
-turnIn Opening l w = Out (cycleOf l w)
-turnIn Reading l w = Out (cycleOf l w)
-turnIn EraseAsking l w = Out (cycleOf l w)
-turnIn EraseConfirming l w = Out (cycleOf l w)
-turnIn EraseWaiting l w = Out (cycleOf l w)
-turnIn ProgramAsking l w = Out (cycleOf l w)
-turnIn ProgramSending l w = Out (cycleOf l w)
-turnIn ProgramWaiting l w = Out (cycleOf l w)
-turnIn Closing l w = Out (cycleOf l w)
-turnIn Verifying l w = Out (cycleOf l w)
-turnIn (Ended n) l w = Over n (endAddress l n)
+turnIn stage l w = if isEnded stage then Over (endBy stage) (endAddress l (endBy stage)) else Out (cycleOf l w)
 
 abbrev pub givenBy : Loader → List ℕ → Given
 givenBy l w = record { turn = turnIn (l .stage) l w; loader = l }

@@ -10,6 +10,7 @@ use loader::Given;
 use loader::Loader;
 use loader::Stage;
 use loader::Turn;
+use loader::stages::stage_end;
 ghost use mathlib.Core.Path.{_≡_};
 ghost use lib.ListN.{length};
 ghost use Rattle.stepper.specs.Front.{barredPins, noBlock, wrongLengths, badRecord, startNumber, stepNumber, recordAt, endAddress, turnIn, givenBy, barredBy, startOf, stepOf, scratchAfter};
@@ -111,21 +112,12 @@ pub fn end_address(l: Loader, n: u8) -> u32
 fn turn(stage: Stage, l: Loader, wanted: &[u8]) -> Turn
     ensures { λ r. ⌜ r ≡ turnIn stage l (now (wanted .entry)) ⌝ }
 {
-    let c = out(l, wanted);
-    match stage {
-        Stage::Clearing => Turn::Out(c),
-        Stage::Opening => Turn::Out(c),
-        Stage::Reading => Turn::Out(c),
-        Stage::EraseAsking => Turn::Out(c),
-        Stage::EraseConfirming => Turn::Out(c),
-        Stage::EraseWaiting => Turn::Out(c),
-        Stage::ProgramAsking => Turn::Out(c),
-        Stage::ProgramSending => Turn::Out(c),
-        Stage::ProgramWaiting => Turn::Out(c),
-        Stage::Closing => Turn::Out(c),
-        Stage::Verifying => Turn::Out(c),
-        Stage::Ended(n) => Turn::Over(n, end_address(l, n)),
+    let e = stage_end(stage);
+    let ended = e.ended;
+    if ended {
+        return Turn::Over(e.end, end_address(l, e.end));
     }
+    Turn::Out(out(l, wanted))
 }
 
 fn given_by(l: Loader, wanted: &[u8]) -> Given

@@ -18,6 +18,7 @@ use Rattle.chip.specs.States.{atRest}
 use Rattle.loader.specs.declared.Stage.{Stage}
 use Rattle.loader.specs.declared.Stage.the-variants.{Clearing, Opening, Reading, EraseAsking, EraseConfirming, EraseWaiting, ProgramAsking, ProgramSending, ProgramWaiting, Closing, Verifying, Ended}
 use Rattle.loader.specs.declared.Loader.{Loader}
+use Rattle.loader.specs.Stages.{isEnded, endBy}
 use Rattle.twin.specs.declared.DeviceNumbers.{DeviceNumbers}
 use Rattle.twin.specs.declared.StateNumbers.{StateNumbers}
 use Rattle.twin.specs.declared.BusNumbers.{BusNumbers}
@@ -140,18 +141,7 @@ stageOut (Ended end) = 11
 
 -- the number of the end, 0 while the load goes on
 abbrev pub endOut : Stage → ℕ
-endOut Clearing = 0
-endOut Opening = 0
-endOut Reading = 0
-endOut EraseAsking = 0
-endOut EraseConfirming = 0
-endOut EraseWaiting = 0
-endOut ProgramAsking = 0
-endOut ProgramSending = 0
-endOut ProgramWaiting = 0
-endOut Closing = 0
-endOut Verifying = 0
-endOut (Ended end) = end
+endOut stage = if isEnded stage then endBy stage else 0
 
 -- the numbers stand for no record: no such stage, or an end's number in a load that goes on
 unfoldable pub noRecord : LoaderNumbers → Bool

@@ -8,6 +8,7 @@ use device::Part;
 use loader::Loader;
 use loader::Stage;
 use loader::Turn;
+use loader::stages::stage_end;
 ghost use mathlib.Core.Path.{_≡_};
 ghost use Rattle.twin.specs.Twins.{stageIn, stageOut, endOut, noRecord, pollsIn, loaderIn, loaderOut};
 ghost use Rattle.twin.specs.Answers.{loaderBack, noCycle, turnAt, turnOut};
@@ -53,20 +54,12 @@ fn stage_out(stage: Stage) -> u8
 fn end_out(stage: Stage) -> u8
     ensures { λ r. ⌜ r ≡ endOut stage ⌝ }
 {
-    match stage {
-        Stage::Clearing => 0,
-        Stage::Opening => 0,
-        Stage::Reading => 0,
-        Stage::EraseAsking => 0,
-        Stage::EraseConfirming => 0,
-        Stage::EraseWaiting => 0,
-        Stage::ProgramAsking => 0,
-        Stage::ProgramSending => 0,
-        Stage::ProgramWaiting => 0,
-        Stage::Closing => 0,
-        Stage::Verifying => 0,
-        Stage::Ended(n) => n,
+    let e = stage_end(stage);
+    let ended = e.ended;
+    if ended {
+        return e.end;
     }
+    0
 }
 
 fn no_record(n: LoaderNumbers) -> bool

@@ -5,8 +5,10 @@ use native.Mathlib.Omega.{arith}
 use borrow.Author.Needs.{needs}
 use borrow.Author.Tests.{not-true, not-false}
 use lib.ListN.{length}
-use Rattle.run.specs.Turns.{Config, isEnded, answerTo}
-use Rattle.run.specs.Runs.{driven, begin, ranBy, endOf}
+use Rattle.run.specs.Turns.{Config, answerTo}
+use Rattle.loader.specs.Stages.{isEnded, endBy}
+use Rattle.run.specs.Runs.{driven, begin, ranBy}
+use Rattle.loader.specs.declared.StageEnd.{StageEnd}
 use Rattle.stepper.specs.Outs.{firstOf}
 use Rattle.stepper.specs.Front.{endAddress}
 use Rattle.run.proofs.Measure.{remains}
@@ -81,8 +83,8 @@ loop-again c =
           (b .ensures .0) (b .ensures .1 .0) (b .ensures .1 .1 .1),
     )
 
-end-of-requires : tie.Need-end-of-requires Inv-loop μ-loop
-end-of-requires c κs = search needs
+stage-end-requires : tie.Need-stage-end-requires Inv-loop μ-loop
+stage-end-requires c κs = search needs
 
 end-address-requires : tie.Need-end-address-requires Inv-loop μ-loop
 end-address-requires c κs = search needs
@@ -99,11 +101,11 @@ returns c =
     let l = c .before .before .before .before .loop in
     let e : conf (l .moving) (l .state) (l .array) (l .scratch) (l .count) ≡ driven (a .d) (a .wanted .now) (begin (a .d) (a .s) (a .l) (a .array .now) (a .scratch .now)) =
     keeps-end (a .d) (a .wanted .now) _ _ (l .inv .0) (not-false (isEnded (l .moving .stage)) (sym (c .before .before .before .going .ensures) ∙ c .before .before .if1 .left)) in
-    let n : c .before .end-of .result ≡ endOf (l .moving .stage) = c .before .end-of .ensures in
-    let m : c .end-address .result ≡ endAddress (l .moving) (endOf (l .moving .stage)) = c .end-address .ensures ∙ ap (λ (k : ℕ). endAddress (l .moving) k) n in
+    let n : c .before .stage-end .result .end ≡ endBy (l .moving .stage) = ap (λ (x : StageEnd). x .end) (c .before .stage-end .ensures) in
+    let m : c .end-address .result ≡ endAddress (l .moving) (endBy (l .moving .stage)) = c .end-address .ensures ∙ ap (λ (k : ℕ). endAddress (l .moving) k) n in
     ((λ i. record { count = l .count; end = n i; address = m i; state = l .state }) ∙ ap ranBy e, (ap (λ (x : Config). x .scratch) e, ap (λ (x : Config). x .bytes) e))
 
 pub drive-spec : {M : Type 1} → statement M
 drive-spec =
     tie.close
-    (tie.spec Inv-loop μ-loop first-requires loop-holds going-requires both-requires add-count loop-less loop-again end-of-requires end-address-requires same-length same-length-2 returns)
+    (tie.spec Inv-loop μ-loop first-requires loop-holds going-requires both-requires add-count loop-less loop-again stage-end-requires end-address-requires same-length same-length-2 returns)

@@ -1,112 +1,51 @@
 use borrow.Author.Needs.{needs}
+use mathlib.Core.Path.{_≡_, sym, ap, _∙_}
+use mathlib.Core.Bool.{true, false}
+use mathlib.Core.List.{List}
+use Prim.Native.Nat.{ℕ}
+use Rattle.cells.proofs.Choice.{if-true, if-false}
+use Rattle.chip.specs.declared.Cycle.{Cycle}
+use Rattle.loader.specs.declared.Stage.{Stage}
+use Rattle.loader.specs.declared.StageEnd.{StageEnd}
+use Rattle.loader.specs.declared.Loader.{Loader}
+use Rattle.loader.specs.declared.Turn.the-variants.{Out, Over}
+use Rattle.loader.specs.Stages.{stageEnd, isEnded, endBy}
+use Rattle.stepper.specs.Outs.{cycleOf}
+use Rattle.stepper.specs.Front.{endAddress, turnIn}
 use Rattle.stepper.proofs.front.turn.Statement.{statement}
 use Rattle.stepper.proofs.front.turn.Tie as tie
 
-out-requires : tie.Need-out-requires
-out-requires c κs = search needs
+-- what is said at the end, and before it
+module _ (stage : Stage) (l : Loader) (w : List ℕ) (e : StageEnd) (p : e ≡ stageEnd stage) where
+  over : (a : ℕ) → e .ended ≡ true → a ≡ endAddress l (e .end) → Over (e .end) a ≡ turnIn stage l w
+  over a t q =
+      let n : e .end ≡ endBy stage = ap (λ (x : StageEnd). x .end) p in
+      let m : a ≡ endAddress l (endBy stage) = q ∙ ap (λ (k : ℕ). endAddress l k) n in
+      (λ i. Over (n i) (m i)) ∙ sym (if-true (isEnded stage) (Over (endBy stage) (endAddress l (endBy stage))) (Out (cycleOf l w)) (sym (ap (λ (x : StageEnd). x .ended) p) ∙ t))
 
-enum-told : tie.Need-enum-told
-enum-told c = search needs
+  out : (c : Cycle) → e .ended ≡ false → c ≡ cycleOf l w → Out c ≡ turnIn stage l w
+  out c t q =
+      ap (λ (x : Cycle). Out x) q
+      ∙ sym (if-false (isEnded stage) (Over (endBy stage) (endAddress l (endBy stage))) (Out (cycleOf l w)) (sym (ap (λ (x : StageEnd). x .ended) p) ∙ t))
 
-enum-told-2 : tie.Need-enum-told-2
-enum-told-2 c = search needs
-
-enum-told-3 : tie.Need-enum-told-3
-enum-told-3 c = search needs
-
-enum-told-4 : tie.Need-enum-told-4
-enum-told-4 c = search needs
-
-enum-told-5 : tie.Need-enum-told-5
-enum-told-5 c = search needs
-
-enum-told-6 : tie.Need-enum-told-6
-enum-told-6 c = search needs
-
-enum-told-7 : tie.Need-enum-told-7
-enum-told-7 c = search needs
-
-enum-told-8 : tie.Need-enum-told-8
-enum-told-8 c = search needs
-
-enum-told-9 : tie.Need-enum-told-9
-enum-told-9 c = search needs
-
-enum-told-10 : tie.Need-enum-told-10
-enum-told-10 c = search needs
-
-enum-told-11 : tie.Need-enum-told-11
-enum-told-11 c = search needs
-
-enum-known-stage : tie.Need-enum-known-stage
-enum-known-stage c = search needs
+stage-end-requires : tie.Need-stage-end-requires
+stage-end-requires c κs = search needs
 
 end-address-requires : tie.Need-end-address-requires
 end-address-requires c κs = search needs
 
 returns : tie.Need-returns
-returns c = simp (c .enum-told .given .1, c .before .before .out .ensures)
+returns c =
+    let a = c .before .before .before .before .args in
+    over (a .stage) (a .l) (a .wanted .now) (c .before .before .stage-end .result) (c .before .before .stage-end .ensures) _ (c .before .if1 .taken) (c .end-address .ensures)
+
+out-requires : tie.Need-out-requires
+out-requires c κs = search needs
 
 returns-2 : tie.Need-returns-2
-returns-2 c = simp (c .enum-told2 .given .1, c .before .before .out .ensures)
-
-returns-3 : tie.Need-returns-3
-returns-3 c = simp (c .enum-told3 .given .1, c .before .before .out .ensures)
-
-returns-4 : tie.Need-returns-4
-returns-4 c = simp (c .enum-told4 .given .1, c .before .before .out .ensures)
-
-returns-5 : tie.Need-returns-5
-returns-5 c = simp (c .enum-told5 .given .1, c .before .before .out .ensures)
-
-returns-6 : tie.Need-returns-6
-returns-6 c = simp (c .enum-told6 .given .1, c .before .before .out .ensures)
-
-returns-7 : tie.Need-returns-7
-returns-7 c = simp (c .enum-told7 .given .1, c .before .before .out .ensures)
-
-returns-8 : tie.Need-returns-8
-returns-8 c = simp (c .enum-told8 .given .1, c .before .before .out .ensures)
-
-returns-9 : tie.Need-returns-9
-returns-9 c = simp (c .enum-told9 .given .1, c .before .before .out .ensures)
-
-returns-10 : tie.Need-returns-10
-returns-10 c = simp (c .enum-told10 .given .1, c .before .before .out .ensures)
-
-returns-11 : tie.Need-returns-11
-returns-11 c = simp (c .enum-told11 .given .1, c .before .before .out .ensures)
-
-returns-12 : tie.Need-returns-12
-returns-12 c = simp (c .end-address .ensures, c .before .before .stage .given .1, c .before .before .before .before .out .ensures)
+returns-2 c =
+    let a = c .before .before .before .before .args in
+    out (a .stage) (a .l) (a .wanted .now) (c .before .before .stage-end .result) (c .before .before .stage-end .ensures) _ (c .before .if1 .left) (c .out .ensures)
 
 pub turn-spec : {M : Type 1} → statement M
-turn-spec =
-    tie.close
-    (tie.spec
-    out-requires
-    enum-told
-    enum-told-2
-    enum-told-3
-    enum-told-4
-    enum-told-5
-    enum-told-6
-    enum-told-7
-    enum-told-8
-    enum-told-9
-    enum-told-10
-    enum-told-11
-    enum-known-stage
-    end-address-requires
-    returns
-    returns-2
-    returns-3
-    returns-4
-    returns-5
-    returns-6
-    returns-7
-    returns-8
-    returns-9
-    returns-10
-    returns-11
-    returns-12)
+turn-spec = tie.close (tie.spec stage-end-requires end-address-requires returns out-requires returns-2)
