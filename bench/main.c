@@ -6,7 +6,7 @@
 #include <unistd.h>
 
 #include "mark.h"
-#include "plain.h"
+#include "second.h"
 
 typedef struct {
     tb_answer (*cycle)(tb_device, tb_state, tb_bus, uint8_t *, size_t, const uint8_t *, size_t);
@@ -19,7 +19,7 @@ typedef struct {
 } maker;
 
 static const maker proved = {tb_cycle, tb_run, tb_load, tb_file_write, tb_file_read, tb_block_check};
-static const maker plain = {c_cycle, c_run, c_load, c_write, c_read, c_check};
+static const maker plain = {c_cycle, c_run, c_load, c_file_write, c_file_read, c_block_check};
 
 /* What the work is done on; `ready` of a row sets it, and all of it is compared after the row. It stands at the start of a page,
  * since the C library's copies go different ways for different addresses. */
@@ -110,7 +110,7 @@ static void work_run(const maker *m) {
 static void ready_file(void) {
     specks(at.payload, sizeof at.payload);
     memset(at.file, 0, sizeof at.file);
-    at.sized = c_write('K', at.payload, size, at.file, sizeof at.file);
+    at.sized = c_file_write('K', at.payload, size, at.file, sizeof at.file);
 }
 static void ready_load(void) {
     size = 512;
