@@ -52,7 +52,9 @@ static uint8_t next_byte(uint8_t phase, uint32_t rough) {
 }
 
 static void next_bus(uint32_t rough, uint32_t home) {
-    bus.kind = (uint8_t)(chance(rough / 8) ? any32() : ONE_OF(TB_CYCLE_READ, TB_CYCLE_READ, TB_CYCLE_READ, TB_CYCLE_WRITE, TB_CYCLE_WRITE, TB_CYCLE_WRITE, TB_CYCLE_WRITE, TB_CYCLE_IDLE));
+    static const uint32_t kinds[8] = {TB_CYCLE_READ,  TB_CYCLE_READ,  TB_CYCLE_READ,  TB_CYCLE_WRITE,
+                                      TB_CYCLE_WRITE, TB_CYCLE_WRITE, TB_CYCLE_WRITE, TB_CYCLE_IDLE};
+    bus.kind = (uint8_t)(chance(rough / 8) ? any32() : one_of(kinds, 8));
     bus.rp = (uint8_t)(chance(rough / 2) ? ONE_OF(0, 0, 2, 3, 255) : ONE_OF(1, 1, 1, 2));
     bus.oe = (uint8_t)(chance(rough / 4) ? ONE_OF(1, 2, 255) : bus.kind == TB_CYCLE_WRITE && chance(15));
     bus.vpp_mv = some_vpp(rough);

@@ -1,7 +1,9 @@
 /* The second implementation: a bus cycle, refusals 1 to 6 first. */
 #include "second_cycle.h"
 
-tb_state c_fresh(void) { return (tb_state){.mode = TB_MODE_ARRAY, .status = SR7}; }
+static const tb_state fresh = {.mode = TB_MODE_ARRAY, .status = SR7};
+
+tb_state c_fresh(void) { return fresh; }
 
 static inline bool residue_short(const part_rules *p, const tb_state *s, const tb_bus *b, size_t residue) {
     if (!pending(s->phase) || (b->rp != TB_RP_LOW && !vpp_low(b->vpp_mv)))
@@ -37,7 +39,7 @@ tb_answer c_cycle(tb_device d, tb_state s, tb_bus b, uint8_t *array, size_t n, c
     if (b.rp == TB_RP_LOW) {
         if (pending(s.phase))
             touch(&c, CUT, &s);
-        return (tb_answer){TB_NO_DATA, 0, c_fresh()};
+        return (tb_answer){TB_NO_DATA, 0, fresh};
     }
     number = passed(&c, &s, &b, &value);
     if (number != TB_OK)
