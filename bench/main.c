@@ -1,5 +1,6 @@
-/* Does each piece of work twice, by the library and by the second implementation in C, and marks where each begins and ends. For every row it prints
- * its number, the calls, and its name; count.c says the instructions. A line `more` asks for a difference of two rows. */
+/* Does each piece of work twice, by the library and by the second implementation in C, and marks where each begins and ends. For
+ * every row it prints its number, the calls, and its name; count.c says the instructions. A line `more` asks for a difference of
+ * two rows. */
 #include <stdio.h>
 #include <stdlib.h>
 #include <string.h>

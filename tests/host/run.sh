@@ -26,7 +26,8 @@ alone() { # alone COMPILER LANGUAGE STANDARD..: the header by itself, with its a
 
 overlapping() { # overlapping STATUS FLAG: the run on overlapping memory ends with that status
     local status=0
-    $CC -std=c11 "$2" "${strict[@]}" -static "$here/header/overlap.c" "$lib" -o "$out/overlap" || fail 3 "the overlap could not be built"
+    $CC -std=c11 "$2" "${strict[@]}" -static "$here/header/overlap.c" "$lib" -o "$out/overlap" ||
+        fail 3 "the run on overlapping memory could not be built"
     $RUN "$out/overlap" 2>"$out/overlap.log" || status=$?
     [ "$status" = "$1" ] || fail 1 "a run on overlapping memory, compiled with $2, ended with status $status and not $1"
 }
@@ -61,7 +62,7 @@ objects "$out/cases" 0 "$here"/!(second_*).c
 build "$out/against" 0
 status=0
 $RUN "$out/against" "$@" || status=$?
-[ "$status" != 1 ] || fail 1 "the library and the second implementation differ"
+[ "$status" != 1 ] || fail 1 "the library does not do what the tests expect"
 [ "$status" = 0 ] || fail 1 "the tests did not run to their end"
 
 slips='1:a program stores its data without AND

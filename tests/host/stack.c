@@ -8,9 +8,8 @@
 
 #include "cases.h"
 
-/* What the header says that a call needs at most; run.sh reads it there. */
 #ifndef STACK
-#define STACK 792
+#error "STACK is what the header says that a call needs at most; run.sh reads it there"
 #endif
 enum { ROOM = 65536, PAINT = 0xC7, CALLER = 96 };
 
