@@ -1,15 +1,21 @@
-/* Does each piece of work twice, by the library and by plain C, and marks where each begins and ends. For every row it prints
- * its number, the calls, and its name; count.c says the instructions. A line `more` asks for a difference of two rows. */
+/* Does each piece of work twice, by the library and by the second implementation in C, and marks where each begins and ends. For
+ * every row it prints its number, the calls, and its name; count.c says the instructions. A line `more` asks for a difference of
+ * two rows. */
 #include <stdio.h>
 #include <stdlib.h>
 #include <string.h>
 #include <unistd.h>
 
 #include "mark.h"
-#include "plain.h"
+#include "second.h"
 
 typedef struct {
+    size_t (*size)(uint8_t);
+    tb_span (*block)(uint8_t, uint8_t);
+    tb_state (*fresh)(void);
     tb_answer (*cycle)(tb_device, tb_state, tb_bus, uint8_t *, size_t, const uint8_t *, size_t);
+    tb_given (*start)(uint8_t, uint8_t, uint32_t, uint8_t, const uint8_t *, size_t, const uint8_t *, size_t);
+    tb_turn (*step)(tb_loader *, uint8_t, const uint8_t *, size_t, uint8_t *, size_t);
     tb_ran (*run)(tb_device, tb_state, uint8_t, uint32_t, uint8_t, uint8_t *, size_t, const uint8_t *, size_t, uint8_t *, size_t);
     tb_ran (*load)(tb_device, tb_state, uint8_t, uint32_t, uint8_t, uint8_t, const uint8_t *, size_t, uint8_t *, size_t,
                    uint8_t *, size_t, uint8_t *, size_t);
@@ -18,8 +24,10 @@ typedef struct {
     uint16_t (*check)(const uint8_t *, size_t);
 } maker;
 
-static const maker proved = {tb_cycle, tb_run, tb_load, tb_file_write, tb_file_read, tb_block_check};
-static const maker plain = {c_cycle, c_run, c_load, c_write, c_read, c_check};
+static const maker proved = {tb_size, tb_block, tb_fresh, tb_cycle, tb_start, tb_step, tb_run, tb_load, tb_file_write,
+                             tb_file_read, tb_block_check};
+static const maker second = {c_size, c_block, c_fresh, c_cycle, c_start, c_step, c_run, c_load, c_file_write, c_file_read,
+                             c_block_check};
 
 /* What the work is done on; `ready` of a row sets it, and all of it is compared after the row. It stands at the start of a page,
  * since the C library's copies go different ways for different addresses. */
@@ -27,8 +35,11 @@ static _Alignas(4096) struct {
     uint8_t array[131072], residue[8192], wanted[8192], scratch[8192], file[4096], payload[4040], back[4040];
     tb_device device;
     tb_state state;
+    tb_answer answer;
+    tb_given given;
     tb_ran ran;
     tb_sized sized;
+    tb_span span;
     uint32_t sum;
 } at;
 
@@ -90,6 +101,25 @@ static void work_cut(const maker *m) {
         at.sum += m->cycle(at.device, at.state, (tb_bus){2, 0, 0, 0, 12000, 0}, at.array, 131072, at.residue, 8192).state.status;
 }
 
+/* One cycle over and over from one state of bench T. */
+static tb_bus same;
+static void ready_same_cycle(tb_state state, tb_bus cycle) {
+    part(3, 2, 3);
+    at.state = state;
+    same = cycle;
+    specks(at.residue, sizeof at.residue);
+}
+static void ready_idle(void) { ready_same_cycle((tb_state){0, 0x80, 0, 0, 0, 0}, (tb_bus){2, 1, 0, 0, 12000, 0}); }
+static void ready_command(void) { ready_same_cycle((tb_state){0, 0x80, 0, 0, 0, 0}, (tb_bus)W(0, 0x70)); }
+static void ready_suspend(void) { ready_same_cycle((tb_state){1, 0x00, 4, 0, 3, 0x3A00}, (tb_bus)W(0, 0xB0)); }
+static void ready_resume(void) { ready_same_cycle((tb_state){1, 0xC0, 5, 0, 3, 0x3A00}, (tb_bus)W(0, 0xD0)); }
+static void ready_fall(void) { ready_same_cycle((tb_state){1, 0x00, 3, 0x5A, 2, 0x10}, (tb_bus){0, 1, 0, 0, 0, 0x10}); }
+static void ready_reset(void) { ready_same_cycle((tb_state){1, 0xB0, 0, 0, 0, 0}, (tb_bus){0, 0, 0, 0, 12000, 0}); }
+static void work_same_cycle(const maker *m) {
+    for (int t = 0; t < TURNS; t++)
+        at.answer = m->cycle(at.device, at.state, same, at.array, 16384, at.residue, 8192);
+}
+
 /* A load of block 1 or 0 of bench T: 512 or 1,024 bytes. */
 static uint32_t first_of(void) { return size == 512 ? 0x3A00 : 0x3C00; }
 static void ready_full(void) {
@@ -106,11 +136,51 @@ static void work_run(const maker *m) {
     at.ran = m->run(at.device, at.state, 2, 12000, size == 512 ? 1 : 0, at.array, 16384, at.wanted, size, at.scratch, size);
 }
 
+/* The same load by hand: what a part would answer to each of its cycles is worked out before. */
+enum { STEPS = 2 + 512 + 3 + 3 * 512 + 1 + 512 };
+static uint8_t fed[STEPS];
+static void ready_steps(void) {
+    ready_full();
+    at.given = c_start(3, 1, 12000, 1, at.wanted, size, at.scratch, size);
+    tb_state state = at.state;
+    tb_turn turn = at.given.turn;
+    tb_loader loader = at.given.loader;
+    for (size_t i = 0; i < STEPS; i++) {
+        tb_answer a = c_cycle((tb_device){3, 1, 1}, state, turn.cycle, at.array, 16384, NULL, 0);
+        state = a.state;
+        fed[i] = a.value;
+        turn = c_step(&loader, a.value, at.wanted, size, at.scratch, size);
+    }
+    memset(at.scratch, 0, sizeof at.scratch);
+}
+static void work_start(const maker *m) {
+    for (int t = 0; t < TURNS; t++)
+        at.given = m->start(3, 1, 12000, 1, at.wanted, size, at.scratch, size);
+}
+static void work_steps(const maker *m) {
+    for (size_t i = 0; i < STEPS; i++)
+        at.given.turn = m->step(&at.given.loader, fed[i], at.wanted, size, at.scratch, size);
+}
+
+static void ready_nothing(void) {}
+static void work_fresh(const maker *m) {
+    for (int t = 0; t < TURNS; t++)
+        at.state = m->fresh();
+}
+static void work_size(const maker *m) {
+    for (int t = 0; t < TURNS; t++)
+        at.sum += (uint32_t)m->size(3);
+}
+static void work_block(const maker *m) {
+    for (int t = 0; t < TURNS; t++)
+        at.span = m->block(3, 1);
+}
+
 /* A file whose payload has `size` bytes. */
 static void ready_file(void) {
     specks(at.payload, sizeof at.payload);
     memset(at.file, 0, sizeof at.file);
-    at.sized = c_write('K', at.payload, size, at.file, sizeof at.file);
+    at.sized = c_file_write('K', at.payload, size, at.file, sizeof at.file);
 }
 static void ready_load(void) {
     size = 512;
@@ -147,6 +217,17 @@ static const struct {
     {"model: an erase's end, 8,192 bytes", 8192, TURNS, ready_erase, work_end, "the fill alone, 4,096 bytes"},
     {"model: an erase cut, 4,096 bytes copied", 4096, TURNS, ready_erase, work_cut, NULL},
     {"model: an erase cut, 8,192 bytes copied", 8192, TURNS, ready_erase, work_cut, "the copy alone, 4,096 bytes"},
+    {"model: an idle cycle", 0, TURNS, ready_idle, work_same_cycle, NULL},
+    {"model: a write, 70H", 0, TURNS, ready_command, work_same_cycle, NULL},
+    {"model: B0H while an erase is busy", 0, TURNS, ready_suspend, work_same_cycle, NULL},
+    {"model: D0H while suspended", 0, TURNS, ready_resume, work_same_cycle, NULL},
+    {"model: a program cut by VPP", 0, TURNS, ready_fall, work_same_cycle, NULL},
+    {"model: a reset by RP# low", 0, TURNS, ready_reset, work_same_cycle, NULL},
+    {"fresh", 0, TURNS, ready_nothing, work_fresh, NULL},
+    {"size of a part", 0, TURNS, ready_nothing, work_size, NULL},
+    {"block of a part", 0, TURNS, ready_nothing, work_block, NULL},
+    {"loader: a start", 512, TURNS, ready_full, work_start, NULL},
+    {"loader: a load of 512 bytes, per step", 512, STEPS, ready_steps, work_steps, NULL},
     {"run: 512 bytes, one erase, all programmed", 512, 1, ready_full, work_run, NULL},
     {"run: 1,024 bytes, one erase, all programmed", 1024, 1, ready_full, work_run, NULL},
     {"run: 512 bytes held as wanted", 512, 1, ready_same, work_run, NULL},
@@ -159,14 +240,30 @@ static const struct {
     {"check of 510 bytes", 505, TURNS, ready_file, work_check, NULL},
 };
 
-/* A number over everything that the work left. */
+/* A number over everything that the work left. Structs have padding, so it goes field by field. */
+static uint64_t more(uint64_t h, uint64_t x) { return (h ^ x) * 0x100000001B3u + (x >> 32); }
+static uint64_t with_state(uint64_t h, tb_state s) {
+    return more(more(more(more(more(more(h, s.mode), s.status), s.phase), s.byte), s.left), s.address);
+}
+static uint64_t with_given(uint64_t h, tb_given g) {
+    tb_bus c = g.turn.cycle;
+    tb_loader l = g.loader;
+    const uint64_t all[] = {g.turn.turn, g.turn.number, g.turn.address, c.kind, c.rp, c.oe, c.byte, c.vpp_mv, c.address,
+                            l.part, l.rp, l.block, l.stage, l.end, l.vpp_mv, l.polls, l.place};
+    for (size_t i = 0; i < sizeof all / sizeof all[0]; i++)
+        h = more(h, all[i]);
+    return h;
+}
 static uint64_t left(void) {
-    const tb_ran *r = &at.ran;
-    uint64_t h = r->count + r->end * 7u + r->address * 3u + at.sized.length + at.sized.number + at.sum + at.state.status +
-                 at.state.left * 5u + r->state.status + r->state.mode;
-    const uint8_t *all = at.array;
+    const uint8_t *bytes = at.array;
+    const uint64_t all[] = {at.answer.seen, at.answer.value, at.ran.count, at.ran.end, at.ran.address, at.sized.number,
+                            at.sized.length, at.span.first, at.span.length, at.sum};
+    uint64_t h = 14695981039346656037u;
+    h = with_given(with_state(with_state(with_state(h, at.state), at.answer.state), at.ran.state), at.given);
+    for (size_t i = 0; i < sizeof all / sizeof all[0]; i++)
+        h = more(h, all[i]);
     for (size_t i = 0; i < offsetof(__typeof__(at), device); i++)
-        h = h * 31 + all[i];
+        h = more(h, bytes[i]);
     return h;
 }
 
@@ -175,7 +272,7 @@ static uint64_t part_of_row(unsigned k, int which) {
     size = rows[k].size;
     rows[k].ready();
     syscall(MARK, 4 * k + 2 * (unsigned)which);
-    rows[k].work(which == 0 ? &proved : &plain);
+    rows[k].work(which == 0 ? &proved : &second);
     syscall(MARK, 4 * k + 2 * (unsigned)which + 1);
     return left();
 }

@@ -1,6 +1,7 @@
 #!/usr/bin/env bash
-# Counts instructions: the library's and those of the same work in C at gcc -O3, in one run, and prints a table. The counts are
-# exact: every run of the same two gives the same numbers, on any machine. Both run under qemu-x86_64 with count.c.
+# Counts instructions: the library's and those of the second implementation in C (tests/host/second*) at gcc -O3, in one run, and
+# prints a table. The counts are exact: every run of the same two gives the same numbers, on any machine. Both run under
+# qemu-x86_64 with count.c.
 set -eu
 here=$(dirname -- "$(readlink -f -- "$0")")
 # shellcheck source=tests/host/tools.sh
@@ -13,10 +14,12 @@ want 'command -v gcc' gcc libc6-dev
 # the emulator's plugin interface is at 1 before qemu 9, and 2 is taken from then on
 major=$(qemu-x86_64 --version | sed -n 's/^qemu-x86_64 version \([0-9]*\).*/\1/p')
 gcc -O2 -fPIC -shared -DVERSION=$((major < 9 ? 1 : 2)) "$here/count.c" -o "$out/count.so" || fail 3 "the counter could not be built"
-$CC -std=gnu11 -O3 -Wall -Wextra -Werror -static -I "$inc" "$here/main.c" "$here/plain.c" "$lib" -o "$out/bench" ||
+second=$here/../tests/host
+$CC -std=gnu11 -O3 -Wall -Wextra -Werror -static -I "$inc" -I "$second" "$here/main.c" "$second"/second_*.c "$lib" \
+    -o "$out/bench" ||
     fail 3 "the bench could not be built"
 qemu-x86_64 -cpu qemu64 -plugin "$out/count.so" -d plugin -D "$out/marks" "$out/bench" >"$out/rows" ||
-    fail 1 "the library and plain C differ: $(tail -n 1 "$out/rows")"
+    fail 1 "the library and the second implementation differ: $(tail -n 1 "$out/rows")"
 
 awk '
     function line(name, a, b) {

@@ -7,19 +7,21 @@
 void (*tell_case)(void);
 
 static uint64_t numbers[GROUPS][256], phases[256], stages[256];
-static uint64_t all_cycles, all_loads, all_files, all_steps;
+static uint64_t all_blocks, all_cycles, all_loads, all_files, all_steps;
 
 void met(int group, uint8_t number) { numbers[group][number]++; }
 void met_phase(uint8_t phase) { phases[phase]++; }
 void met_stage(uint8_t stage) { stages[stage]++; }
+void count_block(void) { all_blocks++; }
 void count_cycle(void) { all_cycles++; }
 void count_load(void) { all_loads++; }
 void count_file(void) { all_files++; }
 void count_step(void) { all_steps++; }
 
 static void counts(void) {
-    printf("%llu cycles, %llu loads, %llu files, %llu steps", (unsigned long long)all_cycles, (unsigned long long)all_loads,
-           (unsigned long long)all_files, (unsigned long long)all_steps);
+    printf("%llu blocks of parts, %llu cycles, %llu loads, %llu files, %llu steps", (unsigned long long)all_blocks,
+           (unsigned long long)all_cycles, (unsigned long long)all_loads, (unsigned long long)all_files,
+           (unsigned long long)all_steps);
 }
 
 void mismatch(const char *what) {

@@ -30,10 +30,10 @@ static void cycle(uint8_t kind, uint8_t rp, uint32_t vpp, uint32_t address, uint
 
 /* Two writes at 12,000 mV, or the second at another level, and then polls until the operation must have ended. */
 static void operate(uint8_t first, uint8_t second, uint32_t address, uint8_t rp, uint32_t vpp, int polls) {
-    cycle(WRITE, rp, 12000, address, first);
-    cycle(WRITE, rp, vpp, address, second);
+    cycle(TB_CYCLE_WRITE, rp, 12000, address, first);
+    cycle(TB_CYCLE_WRITE, rp, vpp, address, second);
     while (polls-- > 0)
-        cycle(READ, rp, 12000, address, 0);
+        cycle(TB_CYCLE_READ, rp, 12000, address, 0);
 }
 
 static bool all(uint32_t first, uint32_t n, uint8_t byte) {
@@ -49,14 +49,14 @@ static void operations(void) {
     card(1, array[0x10] == 0x00 && state.status == 0x80);
     fresh(0x3C);
     operate(0x40, 0xFF, 0x10, 1, 12000, 1);
-    card(2, state.phase == PROGRAMMING);
-    cycle(READ, 1, 12000, 0x10, 0);
+    card(2, state.phase == TB_PROGRAMMING);
+    cycle(TB_CYCLE_READ, 1, 12000, 0x10, 0);
     card(2, array[0x10] == 0x3C && last.value == 0x80);
     fresh(0x00);
     operate(0x20, 0xFF, 0x10, 1, 12000, 5);
     card(3, state.status == 0xB0 && all(0, sizeof array, 0x00));
     operate(0x50, 0x40, 0x10, 1, 12000, 0);
-    cycle(WRITE, 1, 6500, 0x10, 0x12);
+    cycle(TB_CYCLE_WRITE, 1, 6500, 0x10, 0x12);
     card(4, state.status == 0x98);
     fresh(0x00);
     operate(0x20, 0xD0, 0x10, 1, 6500, 0);
@@ -70,12 +70,12 @@ static void levels(void) {
     } list[] = {{6500, true}, {6501, false}, {11399, false}, {11400, true}, {12600, true}, {12601, false}};
     for (size_t i = 0; i < sizeof list / sizeof list[0]; i++) {
         fresh(0x00);
-        cycle(READ, 1, list[i].vpp, 0, 0);
+        cycle(TB_CYCLE_READ, 1, list[i].vpp, 0, 0);
         card(5, list[i].good ? last.seen == 1 : last.seen == 2 && last.value == 4);
     }
     fresh(0x00);
     operate(0x40, 0x00, 0x10, 1, 11400, 0);
-    card(5, state.phase == PROGRAMMING);
+    card(5, state.phase == TB_PROGRAMMING);
 }
 
 static void erases(void) {
@@ -87,18 +87,18 @@ static void erases(void) {
     card(6, state.status == 0x80 && all(0x3C00, 0x400, 0xFF) && all(0, 0x3C00, 0x00));
     fresh(0x00);
     operate(0x20, 0xD0, 0x3A00, 1, 12000, 0);
-    cycle(WRITE, 1, 12000, 0, 0xB0);
+    cycle(TB_CYCLE_WRITE, 1, 12000, 0, 0xB0);
     card(7, state.status == 0xC0);
     fresh(0x00);
-    cycle(WRITE, 1, 12000, 0x3A00, 0x20);
-    cycle(WRITE, 1, 12000, 0x3800, 0xD0);
+    cycle(TB_CYCLE_WRITE, 1, 12000, 0x3A00, 0x20);
+    cycle(TB_CYCLE_WRITE, 1, 12000, 0x3800, 0xD0);
     for (int i = 0; i < 3; i++)
-        cycle(READ, 1, 12000, 0, 0);
+        cycle(TB_CYCLE_READ, 1, 12000, 0, 0);
     card(8, all(0x3800, 0x200, 0xFF) && all(0x3A00, 0x200, 0x00));
     fresh(0xF0);
     memset(residue, 0x33, sizeof residue);
     operate(0x40, 0x0F, 0x10, 1, 12000, 0);
-    cycle(READ, 1, 0, 0x10, 0);
+    cycle(TB_CYCLE_READ, 1, 0, 0x10, 0);
     card(9, array[0x10] == 0x30 && state.status == 0x98);
 }
 

@@ -103,6 +103,8 @@ void alike(bool answers, const char *what, twin **twins, size_t n) {
 
 uint8_t some_part(void) { return chance(97) ? (uint8_t)(1 + below(4)) : (uint8_t)ONE_OF(0, 5, 6, 255); }
 
+uint8_t real_part(uint8_t part) { return c_size(part) == 0 ? TB_BENCH_T : part; }
+
 static uint16_t some_time(void) {
     if (chance(90))
         return (uint16_t)(1 + below(5));
@@ -121,37 +123,37 @@ uint32_t some_vpp(uint32_t rough) {
 
 /* An address of interest: a block's edge, the array's, or any. */
 uint32_t some_address(uint8_t part) {
-    uint8_t p = ref_known(part) ? part : 3;
-    ref_block b = ref_block_of(p, (uint8_t)below(4));
+    uint8_t p = real_part(part);
+    tb_span b = c_block(p, (uint8_t)below(4));
     switch (below(8)) {
     case 0: return b.first;
     case 1: return b.first + b.length - 1;
     case 2: return b.first + b.length;
     case 3: return b.first == 0 ? 0 : b.first - 1;
     case 4: return ONE_OF(0, 1, 2, 3);
-    case 5: return chance(80) ? b.first + below(b.length) : ref_size(p) + below(3);
-    case 6: return chance(90) ? below(ref_size(p)) : any32();
+    case 5: return chance(80) ? b.first + below(b.length) : c_size(p) + below(3);
+    case 6: return chance(90) ? below(c_size(p)) : any32();
     }
     return b.first + below(b.length);
 }
 
 static tb_state proper_state(tb_device d) {
-    uint8_t part = ref_known(d.number) ? d.number : 3;
-    tb_state s = {.phase = (uint8_t)below(6), .mode = STATUS, .status = (uint8_t)(below(8) << 3)};
-    if (s.phase == FREE)
+    uint8_t part = real_part(d.number);
+    tb_state s = {.phase = (uint8_t)below(6), .mode = TB_MODE_STATUS, .status = (uint8_t)(below(8) << 3)};
+    if (s.phase == TB_FREE)
         s.mode = (uint8_t)below(3);
-    if (s.phase == SUSPENDED)
+    if (s.phase == TB_SUSPENDED)
         s.mode = (uint8_t)below(2);
-    if (s.phase < PROGRAMMING || s.phase == SUSPENDED)
-        s.status |= SR7;
-    if (s.phase == SUSPENDED)
-        s.status |= SR6;
-    if (s.phase < PROGRAMMING)
+    if (s.phase < TB_PROGRAMMING || s.phase == TB_SUSPENDED)
+        s.status |= TB_SR_READY;
+    if (s.phase == TB_SUSPENDED)
+        s.status |= TB_SR_SUSPENDED;
+    if (s.phase < TB_PROGRAMMING)
         return s;
-    uint16_t most = s.phase == PROGRAMMING ? d.program : d.erase;
+    uint16_t most = s.phase == TB_PROGRAMMING ? d.program : d.erase;
     s.left = (uint16_t)(most == 0 ? 1 : chance(50) ? 1 + below(most) : ONE_OF(1, most));
-    s.address = some_address(part) % ref_size(part);
-    s.byte = s.phase == PROGRAMMING ? (uint8_t)any32() : 0;
+    s.address = some_address(part) % c_size(part);
+    s.byte = s.phase == TB_PROGRAMMING ? (uint8_t)any32() : 0;
     return s;
 }
 

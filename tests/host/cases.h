@@ -2,7 +2,7 @@
 #ifndef CASES_H
 #define CASES_H
 
-#include "ref.h"
+#include "second.h"
 
 /* Random numbers. */
 void seed_with(uint64_t seed);
@@ -31,6 +31,7 @@ enum { IN_CYCLE, IN_START, IN_STEP, IN_RUN, IN_LOAD, IN_WRITE, IN_READ, GROUPS }
 void met(int group, uint8_t number);
 void met_phase(uint8_t phase);
 void met_stage(uint8_t stage);
+void count_block(void); /* of a part */
 void count_cycle(void);
 void count_load(void);
 void count_file(void);
@@ -44,10 +45,13 @@ int closing(uint64_t seed, bool verbose);
 /* Cases. */
 tb_device some_device(void);
 uint8_t some_part(void);
+uint8_t real_part(uint8_t part); /* the part, or bench T where there is none of that number */
 uint32_t some_vpp(uint32_t rough);
 uint32_t some_address(uint8_t part);
 tb_state some_state(tb_device);
 void cards(void);
+void parts(void);
+void stack(bool verbose);
 void cycles(uint32_t walks, uint32_t scattered);
 void loads(uint32_t n);
 void files(uint32_t n);

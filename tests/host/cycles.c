@@ -24,7 +24,7 @@ static void compare(void) {
     twin *lent[] = {&array, &residue};
     lib = tb_cycle(device, before, bus, lib_of(&array), array.length, lib_of(&residue), residue.length);
     untouched(lib.seen == 2, "cycle", lent, 2);
-    ref = ref_cycle(device, before, bus, ref_of(&array), array.length, ref_of(&residue), residue.length);
+    ref = c_cycle(device, before, bus, ref_of(&array), array.length, ref_of(&residue), residue.length);
     alike(lib.seen == ref.seen && lib.value == ref.value && same_state(lib.state, ref.state), "cycle", lent, 2);
     count_cycle();
     met(IN_CYCLE, ref.seen == 2 ? ref.value : 0);
@@ -43,18 +43,20 @@ static uint8_t next_byte(uint8_t phase, uint32_t rough) {
     if (chance(rough))
         return some_byte();
     switch (phase) {
-    case ERASE_AWAITED: return chance(85) ? 0xD0 : some_byte();
-    case DATA_AWAITED: return (uint8_t)(chance(20) ? 0xFF : any32());
-    case ERASING: return chance(60) ? 0xB0 : some_byte();
-    case SUSPENDED: return (uint8_t)ONE_OF(0xD0, 0xD0, 0xFF, 0x70, some_byte());
+    case TB_ERASE_AWAITED: return chance(85) ? 0xD0 : some_byte();
+    case TB_DATA_AWAITED: return (uint8_t)(chance(20) ? 0xFF : any32());
+    case TB_ERASING: return chance(60) ? 0xB0 : some_byte();
+    case TB_SUSPENDED: return (uint8_t)ONE_OF(0xD0, 0xD0, 0xFF, 0x70, some_byte());
     }
     return (uint8_t)ONE_OF(0x20, 0x20, 0x40, 0x40, 0x50, 0xFF, 0x70, 0x90);
 }
 
 static void next_bus(uint32_t rough, uint32_t home) {
-    bus.kind = (uint8_t)(chance(rough / 8) ? any32() : ONE_OF(READ, READ, READ, WRITE, WRITE, WRITE, WRITE, IDLE));
+    static const uint32_t kinds[8] = {TB_CYCLE_READ,  TB_CYCLE_READ,  TB_CYCLE_READ,  TB_CYCLE_WRITE,
+                                      TB_CYCLE_WRITE, TB_CYCLE_WRITE, TB_CYCLE_WRITE, TB_CYCLE_IDLE};
+    bus.kind = (uint8_t)(chance(rough / 8) ? any32() : one_of(kinds, 8));
     bus.rp = (uint8_t)(chance(rough / 2) ? ONE_OF(0, 0, 2, 3, 255) : ONE_OF(1, 1, 1, 2));
-    bus.oe = (uint8_t)(chance(rough / 4) ? ONE_OF(1, 2, 255) : bus.kind == WRITE && chance(15));
+    bus.oe = (uint8_t)(chance(rough / 4) ? ONE_OF(1, 2, 255) : bus.kind == TB_CYCLE_WRITE && chance(15));
     bus.vpp_mv = some_vpp(rough);
     bus.address = chance(60) ? home : some_address(device.number);
     bus.byte = next_byte(before.phase, rough);
@@ -63,12 +65,12 @@ static void next_bus(uint32_t rough, uint32_t home) {
 static size_t some_residue(void) {
     if (chance(60))
         return residue.room;
-    ref_block b = ref_block_of(ref_known(device.number) ? device.number : 3, (uint8_t)below(4));
+    tb_span b = c_block(real_part(device.number), (uint8_t)below(4));
     return ONE_OF(0, 0, 1, b.length - 1, b.length, b.length + 1);
 }
 
 static void lend(uint32_t bad_length) {
-    uint32_t size = ref_known(device.number) ? ref_size(device.number) : 16384;
+    size_t size = c_size(real_part(device.number));
     array.length = chance(bad_length) ? ONE_OF(0, 1, size - 1, size + 1, 16384, 131072) : size;
     residue.length = some_residue();
 }
@@ -76,14 +78,14 @@ static void lend(uint32_t bad_length) {
 static void walk(void) {
     uint32_t rough = ONE_OF(0, 0, 4, 20);
     device = some_device();
-    if (!ref_known(device.number))
+    if (c_size(device.number) == 0)
         device.number = 4;
     uint32_t home = some_address(device.number);
     before = tb_fresh();
-    if (!same_state(before, ref_fresh()))
+    if (!same_state(before, c_fresh()))
         mismatch("fresh");
     if (chance(10))
-        twin_noise(&array, some_address(device.number) % ref_size(device.number), 1);
+        twin_noise(&array, some_address(device.number) % c_size(device.number), 1);
     for (uint32_t i = 0; i < 32; i++) {
         next_bus(rough, home);
         lend(0);

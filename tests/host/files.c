@@ -24,7 +24,7 @@ static void compare_write(void) {
     twin *lent[] = {&payload, &file};
     lib = tb_file_write(letter, lib_of(&payload), payload.length, lib_of(&file), file.length);
     untouched(lib.number != 0, "write", lent, 2);
-    ref = ref_write(letter, ref_of(&payload), payload.length, ref_of(&file), file.length);
+    ref = c_file_write(letter, ref_of(&payload), payload.length, ref_of(&file), file.length);
     alike(same_sized(), "write", lent, 2);
     met(IN_WRITE, ref.number);
 }
@@ -33,7 +33,7 @@ static void compare_read(void) {
     twin *lent[] = {&file, &back};
     lib = tb_file_read(letter, lib_of(&file), file.length, lib_of(&back), back.length);
     untouched(lib.number != 0, "read", lent, 2);
-    ref = ref_read(letter, ref_of(&file), file.length, ref_of(&back), back.length);
+    ref = c_file_read(letter, ref_of(&file), file.length, ref_of(&back), back.length);
     alike(same_sized(), "read", lent, 2);
     met(IN_READ, ref.number);
 }
@@ -44,7 +44,7 @@ static void compare_check(void) {
     twin *lent[] = {&file};
     file.length = n;
     uint16_t sum = tb_block_check(lib_of(&file), n);
-    alike(sum == ref_check(ref_of(&file), n), "check", lent, 1);
+    alike(sum == c_block_check(ref_of(&file), n), "check", lent, 1);
     file.length = kept;
 }
 
@@ -74,7 +74,7 @@ static void written(void) {
 }
 
 static void check_at(size_t at) {
-    uint16_t sum = ref_check(file.ref + at, 510);
+    uint16_t sum = c_block_check(file.ref + at, 510);
     twin_set(&file, at + 510, (uint8_t)(sum / 256));
     twin_set(&file, at + 511, (uint8_t)(sum % 256));
 }

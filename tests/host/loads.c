@@ -37,7 +37,7 @@ static void compare_run(void) {
     lib = tb_run(device, state, rp, vpp, block, lib_of(&array), array.length, lib_of(&wanted), wanted.length, lib_of(&scratch),
                  scratch.length);
     untouched(lib.count == 0, "run", lent, 3);
-    ref = ref_run(device, state, rp, vpp, block, ref_of(&array), array.length, ref_of(&wanted), wanted.length,
+    ref = c_run(device, state, rp, vpp, block, ref_of(&array), array.length, ref_of(&wanted), wanted.length,
                   ref_of(&scratch), scratch.length);
     alike(same_ran(), "run", lent, 3);
     met(IN_RUN, ref.end);
@@ -48,14 +48,14 @@ static void compare_load(void) {
     lib = tb_load(device, state, rp, vpp, block, letter, lib_of(&file), file.length, lib_of(&array), array.length,
                   lib_of(&wanted), wanted.length, lib_of(&scratch), scratch.length);
     untouched(lib.count == 0, "load", lent, 4);
-    ref = ref_load(device, state, rp, vpp, block, letter, ref_of(&file), file.length, ref_of(&array), array.length,
+    ref = c_load(device, state, rp, vpp, block, letter, ref_of(&file), file.length, ref_of(&array), array.length,
                    ref_of(&wanted), wanted.length, ref_of(&scratch), scratch.length);
     alike(same_ran(), "load", lent, 4);
     met(IN_LOAD, ref.end);
 }
 
 /* The block's bytes: noise, all ones, all zero or as they are. */
-static void fill_block(ref_block b) {
+static void fill_block(tb_span b) {
     switch (below(5)) {
     case 0: twin_noise(&array, b.first, b.length); break;
     case 1: twin_fill(&array, b.first, b.length, 0xFF); break;
@@ -64,7 +64,7 @@ static void fill_block(ref_block b) {
 }
 
 /* Wanted: what is held, with some bytes changed (bits only cleared, or any), or ones with some bytes, or noise. */
-static void fill_wanted(ref_block b) {
+static void fill_wanted(tb_span b) {
     uint32_t changes = below(40);
     uint32_t how = below(4);
     if (how < 2)
@@ -82,20 +82,20 @@ static void fill_wanted(ref_block b) {
 /* Puts the right check into each block of the file. */
 static void check_again(void) {
     for (size_t at = 0; at + 512 <= file.length; at += 512) {
-        uint16_t sum = ref_check(file.ref + at, 510);
+        uint16_t sum = c_block_check(file.ref + at, 510);
         twin_set(&file, at + 510, (uint8_t)(sum / 256));
         twin_set(&file, at + 511, (uint8_t)(sum % 256));
     }
 }
 
-static void some_file(ref_block b) {
+static void some_file(tb_span b) {
     static uint8_t payload[4040], bytes[4096];
     uint32_t room = b.length < 4096 ? b.length / 512 * 505 : 4040;
     uint32_t n = chance(5) ? 4040 : chance(40) ? ONE_OF(1, 504, 505, room - 1, room) : 1 + below(room);
     letter = (uint8_t)"BEJKNRST"[below(8)];
     for (uint32_t i = 0; i < n; i++)
         payload[i] = (uint8_t)any32();
-    tb_sized made = ref_write(letter, payload, n, bytes, sizeof bytes);
+    tb_sized made = c_file_write(letter, payload, n, bytes, sizeof bytes);
     file.length = made.length;
     twin_copy(&file, 0, bytes, made.length);
     if (chance(6))
@@ -136,8 +136,8 @@ static void load(void) {
         state = (tb_state){.mode = (uint8_t)below(3), .status = (uint8_t)(0x80 | below(8) << 3)};
     if (chance(8))
         state = some_state(device);
-    ref_block b = ref_block_of(device.number, block);
-    array.length = ref_size(device.number);
+    tb_span b = c_block(device.number, block);
+    array.length = c_size(device.number);
     wanted.length = scratch.length = b.length;
     fill_block(b);
     fill_wanted(b);

@@ -17,7 +17,9 @@ int main(int argc, char **argv) {
     }
     setvbuf(stdout, NULL, _IOLBF, 0);
     seed_with(seed);
+    parts();
     cards();
+    stack(verbose);
     for (int round = 0; round < 20; round++) {
         files(1000);
         cycles(125, 2000);

@@ -1,6 +1,7 @@
 #!/usr/bin/env bash
-# run.sh [-v] [SEED]: holds the library against a second implementation in C on random cases, then breaks that second
-# implementation in twelve ways, one at a time, and looks whether each is noticed. -v prints what was met, and how often.
+# run.sh [-v] [SEED]: compiles the header as each language that it is for; holds the library against a second implementation in C
+# on random cases; then breaks that second implementation in twelve ways, one at a time, and looks whether each is noticed.
+# -v prints what was met, and how often.
 set -eu
 here=$(dirname -- "$(readlink -f -- "$0")")
 # shellcheck source=tests/host/tools.sh
@@ -8,15 +9,60 @@ here=$(dirname -- "$(readlink -f -- "$0")")
 archive
 compiler
 
-build() { # build PROGRAM SLIP
-    $CC -std=c11 -O2 -Wall -Wextra -Werror -static -DBREAK="$2" -I "$inc" "$here"/*.c "$lib" -o "$1" ||
+strict=(-O2 -Wall -Wextra -pedantic -Werror -I "$inc")
+tongues=''
+
+alone() { # alone COMPILER LANGUAGE STANDARD..: the header by itself, with its assertions and without
+    local with tongue compile=$1 language=$2
+    shift 2
+    for tongue; do
+        for with in -DWITH -DNDEBUG -DTB_UNCHECKED; do
+            "$compile" -x "$language" -std="$tongue" "$with" "${strict[@]}" -c "$here/header/alone.c" -o "$out/alone.o" ||
+                fail 1 "the header does not compile as $tongue with $with"
+        done
+        tongues="$tongues $tongue"
+    done
+}
+
+overlapping() { # overlapping STATUS FLAG: the run on overlapping memory ends with that status
+    local status=0
+    $CC -std=c11 "$2" "${strict[@]}" -static "$here/header/overlap.c" "$lib" -o "$out/overlap" ||
+        fail 3 "the run on overlapping memory could not be built"
+    $RUN "$out/overlap" 2>"$out/overlap.log" || status=$?
+    [ "$status" = "$1" ] || fail 1 "a run on overlapping memory, compiled with $2, ended with status $status and not $1"
+}
+
+alone "$CC" c c99 c11 c17
+plus=${CC%gcc}g++
+if command -v "$plus" >/dev/null; then alone "$plus" c++ c++11 c++17; fi
+overlapping 6 -DWITH
+grep -q tb_apart "$out/overlap.log" || fail 1 "an overlap did not stop at the header's assertion"
+overlapping 0 -DTB_UNCHECKED
+overlapping 0 -DNDEBUG
+printf 'header:%s; an overlap stops a run, and does not with TB_UNCHECKED\n' "$tongues"
+
+stack=$(sed -n 's/.*No call needs more than \([0-9]*\) bytes of stack.*/\1/p' "$inc/torfbarke.h")
+[ -n "$stack" ] || fail 1 "the header does not say how much stack a call needs"
+
+objects() { # objects FOLDER SLIP FILE..
+    local folder=$1 slip=$2
+    shift 2
+    mkdir -p -- "$folder"
+    (cd -- "$folder" && $CC -std=c11 -O3 -Wall -Wextra -Werror -DBREAK="$slip" -DSTACK="$stack" -I "$inc" -c "$@") ||
         fail 3 "the tests could not be built"
 }
 
+build() { # build PROGRAM SLIP
+    objects "$out/slip$2" "$2" "$here"/second_*.c
+    $CC -static "$out"/cases/*.o "$out/slip$2"/*.o "$lib" -o "$1" || fail 3 "the tests could not be linked"
+}
+
+shopt -s extglob
+objects "$out/cases" 0 "$here"/!(second_*).c
 build "$out/against" 0
 status=0
 $RUN "$out/against" "$@" || status=$?
-[ "$status" != 1 ] || fail 1 "the library and the second implementation differ"
+[ "$status" != 1 ] || fail 1 "the library does not do what the tests expect"
 [ "$status" = 0 ] || fail 1 "the tests did not run to their end"
 
 slips='1:a program stores its data without AND

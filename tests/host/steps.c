@@ -42,7 +42,7 @@ static void compare_start(uint8_t part, uint8_t rp, uint32_t vpp, uint8_t block)
     twin *lent[] = {&wanted, &scratch};
     before = (tb_loader){.part = part, .rp = rp, .block = block, .vpp_mv = vpp};
     tb_given a = tb_start(part, rp, vpp, block, lib_of(&wanted), wanted.length, lib_of(&scratch), scratch.length);
-    tb_given b = ref_start(part, rp, vpp, block, ref_of(&wanted), wanted.length, ref_of(&scratch), scratch.length);
+    tb_given b = c_start(part, rp, vpp, block, ref_of(&wanted), wanted.length, ref_of(&scratch), scratch.length);
     lib = a.turn, lib_record = a.loader;
     ref = b.turn, ref_record = b.loader;
     alike(same_turn() && same_record(lib_record, ref_record), "start", lent, 2);
@@ -56,7 +56,7 @@ static void compare_step(void) {
     untouched(lib.turn == 2, "step", lent, 2);
     if (lib.turn == 2 && !same_record(lib_record, before))
         mismatch("step: a refusal moved the record");
-    ref = ref_step(&ref_record, byte, ref_of(&wanted), wanted.length, ref_of(&scratch), scratch.length);
+    ref = c_step(&ref_record, byte, ref_of(&wanted), wanted.length, ref_of(&scratch), scratch.length);
     alike(same_turn() && same_record(lib_record, ref_record), "step", lent, 2);
     count_step();
     if (ref.turn != 0)
@@ -65,7 +65,7 @@ static void compare_step(void) {
         met_stage(before.stage);
 }
 
-static void some_bytes(ref_block b) {
+static void some_bytes(tb_span b) {
     wanted.length = scratch.length = b.length;
     twin_fill(&wanted, 0, b.length, 0xFF);
     for (uint32_t i = below(12); i > 0; i--)
@@ -94,7 +94,7 @@ static uint8_t fed(int how) {
 static void feed(void) {
     uint8_t part = (uint8_t)(3 + below(2)), block = (uint8_t)ONE_OF(0, 1, 1, 2, 2);
     int how = (int)below(3);
-    some_bytes(ref_block_of(part, block));
+    some_bytes(c_block(part, block));
     compare_start(part, (uint8_t)(1 + below(2)), some_vpp(0), block);
     while (ref.turn == 0) {
         byte = fed(how);
@@ -109,7 +109,7 @@ static void feed(void) {
 /* Polls that never get ready: 65,535 of them. */
 static void poll_on(bool erase) {
     uint64_t polls = 0;
-    some_bytes(ref_block_of(3, 1));
+    some_bytes(c_block(3, 1));
     twin_fill(&wanted, 0, 512, erase ? 0xFF : 0x00);
     compare_start(3, 1, 12000, 1);
     while (ref.turn == 0) {
@@ -125,7 +125,7 @@ static void poll_on(bool erase) {
 /* A start with something bad in it. */
 static void bad_start(void) {
     uint8_t part = some_part(), block = (uint8_t)(chance(80) ? below(4) : ONE_OF(4, 255));
-    ref_block b = ref_block_of(ref_known(part) ? part : 3, block & 3);
+    tb_span b = c_block(real_part(part), block & 3);
     wanted.length = chance(90) ? b.length : ONE_OF(0, b.length - 1, b.length + 1);
     scratch.length = chance(90) ? b.length : ONE_OF(0, b.length - 1, b.length + 1);
     compare_start(part, (uint8_t)(chance(80) ? 1 + below(2) : ONE_OF(0, 3, 255)), some_vpp(20), block);
@@ -136,7 +136,7 @@ static void bad_start(void) {
 /* Any numbers as a record, mostly near good ones; then some steps on. */
 static void forge(void) {
     uint8_t part = chance(90) ? (uint8_t)(3 + below(2)) : some_part(), block = (uint8_t)(chance(92) ? below(3) : any32());
-    ref_block b = ref_block_of(ref_known(part) ? part : 3, block & 3);
+    tb_span b = c_block(real_part(part), block & 3);
     tb_loader l = {.part = part, .rp = (uint8_t)(chance(95) ? 1 + below(2) : any32()), .block = block, .vpp_mv = some_vpp(6)};
     l.stage = (uint8_t)(chance(95) ? below(12) : any32());
     l.end = (uint8_t)(l.stage == 11 ? (chance(70) ? ONE_OF(0, 20, 21, 25, 25, 11) : any32()) : chance(96) ? 0 : any32());

@@ -1,0 +1,33 @@
+/* A second implementation of the rules, in C: each function of torfbarke.h once more, with c_ in place of tb_. It is written from
+ * the rules and not from the proved code, so that the two can be held against each other; and it is as good C as we can write, so
+ * that the bench can measure by it. */
+#ifndef SECOND_H
+#define SECOND_H
+
+#include <stdbool.h>
+
+#include "torfbarke.h"
+
+/* BREAK=n puts one slip into this implementation, to show that the tests notice it. With 0, which is none, every SLIP is the
+ * constant 0 and nothing of it is left in the code. */
+#ifndef BREAK
+#define BREAK 0
+#endif
+#define SLIP(n) (BREAK == (n))
+
+size_t c_size(uint8_t part);
+tb_span c_block(uint8_t part, uint8_t block);
+tb_state c_fresh(void);
+tb_answer c_cycle(tb_device, tb_state, tb_bus, uint8_t *array, size_t, const uint8_t *residue, size_t);
+tb_given c_start(uint8_t part, uint8_t rp, uint32_t vpp, uint8_t block, const uint8_t *wanted, size_t, const uint8_t *scratch,
+                 size_t);
+tb_turn c_step(tb_loader *, uint8_t byte, const uint8_t *wanted, size_t, uint8_t *scratch, size_t);
+tb_ran c_run(tb_device, tb_state, uint8_t rp, uint32_t vpp, uint8_t block, uint8_t *array, size_t, const uint8_t *wanted, size_t,
+             uint8_t *scratch, size_t);
+tb_ran c_load(tb_device, tb_state, uint8_t rp, uint32_t vpp, uint8_t block, uint8_t letter, const uint8_t *file, size_t,
+              uint8_t *array, size_t, uint8_t *wanted, size_t, uint8_t *scratch, size_t);
+tb_sized c_file_write(uint8_t letter, const uint8_t *payload, size_t, uint8_t *file, size_t);
+tb_sized c_file_read(uint8_t letter, const uint8_t *file, size_t, uint8_t *payload, size_t);
+uint16_t c_block_check(const uint8_t *block, size_t);
+
+#endif

@@ -1,0 +1,179 @@
+/* The second implementation: proper states, and a bus cycle that refusals 1 to 6 let pass. A run calls it for each of its cycles,
+ * so it stands here, where the compiler can lay it into its callers. */
+#ifndef SECOND_CYCLE_H
+#define SECOND_CYCLE_H
+
+#include <string.h>
+
+#include "second_parts.h"
+
+enum { SR7 = TB_SR_READY, SR6 = TB_SR_SUSPENDED, SR5 = TB_SR_ERASE_ERROR, SR4 = TB_SR_PROGRAM_ERROR, SR3 = TB_SR_VPP_LOW };
+
+/* The device's numbers, its part and the memory that a cycle works on. */
+typedef struct {
+    const part_rules *part;
+    tb_device device;
+    uint8_t *array;
+    const uint8_t *residue;
+} second_chip;
+
+/* The phases with an operation, running or suspended, are the last three. */
+static inline bool pending(uint8_t phase) { return phase >= TB_PROGRAMMING; }
+
+/* Whether a state is proper on a device. */
+static inline bool proper(const part_rules *p, const tb_device *d, const tb_state *s) {
+    if (!pending(s->phase)) {
+        if ((s->status & (SR7 | SR6 | 7)) != SR7 || s->byte != 0 || s->left != 0 || s->address != 0)
+            return false;
+        return s->phase == TB_FREE ? s->mode <= TB_MODE_IDENTIFIER : s->mode == TB_MODE_STATUS;
+    }
+    if (s->phase > TB_SUSPENDED || (s->status & 7) != 0 || s->address >= p->size || s->left == 0)
+        return false;
+    if (s->phase == TB_SUSPENDED)
+        return s->mode <= TB_MODE_STATUS && s->status >> 6 == 3 && s->byte == 0 && s->left <= d->erase;
+    if (s->mode != TB_MODE_STATUS || s->status >> 6 != 0)
+        return false;
+    return s->phase == TB_PROGRAMMING ? s->left <= d->program : s->left <= d->erase && s->byte == 0;
+}
+
+/* The operation is over; what it leaves of the status is its own affair. */
+static inline void rest(tb_state *s) {
+    s->phase = TB_FREE;
+    s->byte = 0;
+    s->left = 0;
+    s->address = 0;
+}
+
+/* What becomes of the array: nothing, or an operation that ended or was cut does its work. */
+typedef enum { STAYS, FINISHED, CUT } effect;
+
+static inline void touch(const second_chip *c, effect what, const tb_state *s) {
+    if (s->phase == TB_PROGRAMMING) {
+        uint8_t *byte = c->array + s->address, with = what == CUT ? s->byte | c->residue[0] : s->byte;
+        *byte = SLIP(1) && what == FINISHED ? with : *byte & with;
+        return;
+    }
+    unsigned k = block_at(c->part, s->address);
+    uint8_t *block = c->array + c->part->block[k].first;
+    if (what == CUT)
+        memcpy(block, c->residue, c->part->block[k].length);
+    else
+        memset(block, 0xFF, c->part->block[k].length);
+}
+
+/* Steps 2 and 3, for an operation running or suspended. */
+static inline effect settle(tb_state *s, uint32_t vpp) {
+    if (vpp_low(vpp) && !(SLIP(3) && s->phase != TB_SUSPENDED && s->left == 1)) {
+        s->status = (s->status & ~SR6) | SR7 | SR3 | (s->phase == TB_PROGRAMMING ? SR4 : SR5);
+        s->mode = TB_MODE_STATUS;
+        rest(s);
+        return CUT;
+    }
+    if (s->phase == TB_SUSPENDED || --s->left != 0)
+        return STAYS;
+    s->status |= SR7;
+    rest(s);
+    return FINISHED;
+}
+
+/* A read: 0 and the byte, or 8 or 9. The array is read only where nothing was running, so no effect can be due. */
+static inline uint8_t respond(const second_chip *c, const tb_state *s, uint32_t address, uint8_t *value) {
+    if (s->mode == TB_MODE_STATUS) {
+        *value = s->status;
+    } else if (s->mode == TB_MODE_ARRAY) {
+        if (s->phase == TB_SUSPENDED && holds(c->part, block_at(c->part, s->address), address))
+            return TB_SUSPENDED_READ;
+        *value = c->array[address];
+    } else {
+        if (address > 1)
+            return TB_NO_IDENTIFIER;
+        *value = address == 0 ? 0x89 : (uint8_t)c->part->code;
+    }
+    return TB_OK;
+}
+
+/* A write with nothing awaited or running: 0 or 7. */
+static inline uint8_t command(tb_state *s, uint8_t byte) {
+    switch (byte) {
+    case 0xFF: s->mode = TB_MODE_ARRAY; return TB_OK;
+    case 0x90: s->mode = TB_MODE_IDENTIFIER; return TB_OK;
+    case 0x70: s->mode = TB_MODE_STATUS; return TB_OK;
+    case 0x50: s->status &= ~(SR5 | SR4 | SR3); return TB_OK;
+    case 0x20: s->mode = TB_MODE_STATUS, s->phase = TB_ERASE_AWAITED; return TB_OK;
+    case 0x40: s->mode = TB_MODE_STATUS, s->phase = TB_DATA_AWAITED; return TB_OK;
+    }
+    return TB_NO_COMMAND;
+}
+
+/* Only for slip 8: where 20H was last written. */
+static uint32_t asked_at;
+
+/* A confirm or data: the operation starts, or error bits say why not. */
+static inline void begin(const second_chip *c, tb_state *s, const tb_bus *b) {
+    bool erase = s->phase == TB_ERASE_AWAITED, low = vpp_low(b->vpp_mv) || (s->status & SR3) != 0;
+    uint32_t address = SLIP(8) && erase && asked_at < c->part->size ? asked_at : b->address;
+    if (low || (b->rp != TB_RP_VHH && b->oe != TB_OE_VHH && holds(c->part, 0, address))) {
+        s->status |= (erase ? SR5 : SR4) | (low ? SR3 : 0);
+        s->phase = TB_FREE;
+        return;
+    }
+    s->status &= ~SR7;
+    s->phase = erase ? TB_ERASING : TB_PROGRAMMING;
+    s->left = erase ? c->device.erase : c->device.program;
+    s->byte = erase ? 0 : b->byte;
+    s->address = address;
+}
+
+static inline void suspended_write(tb_state *s, uint8_t byte) {
+    if (byte == 0xFF) {
+        s->mode = TB_MODE_ARRAY;
+    } else if (byte == 0x70) {
+        s->mode = TB_MODE_STATUS;
+    } else if (byte == 0xD0) {
+        s->mode = TB_MODE_STATUS;
+        s->phase = TB_ERASING;
+        s->status &= ~(SR7 | SR6);
+    }
+}
+
+/* A write: 0 or 7. */
+static inline uint8_t written(const second_chip *c, tb_state *s, const tb_bus *b) {
+    if (SLIP(8) && b->byte == 0x20 && s->phase == TB_FREE)
+        asked_at = b->address;
+    if (SLIP(2) && s->phase == TB_DATA_AWAITED && b->byte == 0xFF)
+        s->phase = TB_FREE;
+    switch (s->phase) {
+    case TB_FREE: return command(s, b->byte);
+    case TB_DATA_AWAITED: begin(c, s, b); break;
+    case TB_ERASE_AWAITED:
+        if (b->byte == 0xD0)
+            begin(c, s, b);
+        else
+            s->phase = TB_FREE, s->status |= SR5 | SR4;
+        break;
+    case TB_ERASING:
+        if (b->byte == 0xB0)
+            s->phase = TB_SUSPENDED, s->status |= SR7 | SR6;
+        break;
+    case TB_SUSPENDED: suspended_write(s, b->byte); break;
+    }
+    return TB_OK; /* a program ignores all writes */
+}
+
+/* A cycle with RP# not low that refusals 1 to 6 let pass: 0, and a read's byte in *value; or 7 to 9, and all is as it was. */
+static inline uint8_t passed(const second_chip *c, tb_state *s, const tb_bus *b, uint8_t *value) {
+    tb_state before = *s;
+    effect what = pending(s->phase) ? settle(s, b->vpp_mv) : STAYS;
+    uint8_t number = TB_OK;
+    if (b->kind == TB_CYCLE_READ)
+        number = respond(c, s, b->address, value);
+    else if (b->kind == TB_CYCLE_WRITE)
+        number = written(c, s, b);
+    if (number != TB_OK)
+        *s = before;
+    else if (what != STAYS)
+        touch(c, what, &before);
+    return number;
+}
+
+#endif

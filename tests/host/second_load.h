@@ -1,0 +1,59 @@
+/* The second implementation: what a load judges, whether it is stepped or run. */
+#ifndef SECOND_LOAD_H
+#define SECOND_LOAD_H
+
+#include <string.h>
+
+#include "second_parts.h"
+
+enum { POLLS_MOST = 65535 };
+
+static inline bool levels_bad(uint8_t rp, uint32_t vpp) { return (rp != TB_RP_HIGH && rp != TB_RP_VHH) || !vpp_good(vpp); }
+
+/* 10 and 11, or 0. */
+static inline uint8_t lengths_bad(const part_rules *p, uint8_t block, size_t wanted, size_t scratch) {
+    if (block > 3)
+        return TB_NO_BLOCK;
+    return wanted != p->block[block].length || scratch != wanted ? TB_WRONG_LENGTH : TB_OK;
+}
+
+/* Eight bytes at a time; a block's length is a multiple of eight. */
+static inline uint64_t eight(const uint8_t *at) {
+    uint64_t word;
+    memcpy(&word, at, 8);
+    return word;
+}
+
+/* Whether some wanted byte has a 1 where scratch has a 0. */
+static inline bool must_erase(const uint8_t *wanted, const uint8_t *scratch, size_t n) {
+    for (size_t i = 0; i < n; i += 8)
+        if (eight(wanted + i) & ~eight(scratch + i))
+            return true;
+    return false;
+}
+
+/* The first place from `from` on where scratch differs from wanted; n where there is none. */
+static inline size_t differs_from(size_t from, const uint8_t *wanted, const uint8_t *scratch, size_t n) {
+    while (from + 8 <= n && eight(wanted + from) == eight(scratch + from))
+        from += 8;
+    while (from < n && wanted[from] == scratch[from])
+        from++;
+    return from;
+}
+
+/* The number that a ready status ends an operation with; 0 where it went well. */
+static inline uint8_t status_judged(uint8_t status, bool erase) {
+    uint8_t own = erase ? TB_SR_ERASE_ERROR : TB_SR_PROGRAM_ERROR, both = TB_SR_ERASE_ERROR | TB_SR_PROGRAM_ERROR;
+    uint8_t failed = erase ? TB_ERASE_FAILED : TB_PROGRAM_FAILED;
+    if (SLIP(11))
+        return TB_OK;
+    if (SLIP(6) && (status & own) != 0 && (status & both) != both)
+        return failed;
+    if (status & TB_SR_VPP_LOW)
+        return TB_VPP_FELL;
+    if ((status & both) == both)
+        return TB_WRONG_SEQUENCE;
+    return status & own ? failed : TB_OK;
+}
+
+#endif
