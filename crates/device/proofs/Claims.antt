@@ -2,54 +2,49 @@
 use mathlib.Core.Path.{_≡_, refl, sym}
 use mathlib.Core.Bool.{Bool}
 use mathlib.Core.List.{List, [], _∷_}
-use Prim.Native.Nat.{ℕ, _+_, _-_, _≤_, _<_}
+use Prim.Native.Nat.{ℕ, _+_, _≤_, _<_}
 use Rattle.cells.specs.Choice.{Unique}
 use Rattle.cells.proofs.Choice.{only}
-use Rattle.device.specs.Blocks.{total, lengthAt, offsetAt, holder}
-use Rattle.device.specs.Parts.{shapeOf, sizeIn, lengthIn, offsetIn, startIn, unknownPart, unknownDevice, sizeOf, lengthOf, startOf, blockOf, codeOf}
+use Rattle.device.specs.Blocks.{total, lengthAt, offsetAt, holder, Lies}
+use Rattle.device.specs.Parts.{shapeOf, sizeIn, lengthIn, offsetIn, startIn, unknownPart, unknownDevice, sizeOf, lengthOf, startOf, blockOf, codeOf, Holds, deviceRow}
 use Rattle.device.specs.declared.Part.{Part}
 use Rattle.device.specs.declared.Device.{Device}
-use Rattle.device.proofs.Cover.{Lies, covered, alone, ends-inside}
-use Rattle.device.proofs.Place.{Holds, named, sole, fits}
+use Rattle.device.proofs.Cover.{covered, alone, ends-inside}
+use Rattle.device.proofs.Place.{named, sole, fits}
 
--- For any list of lengths: every place is in the block named for it, in no other, and every block ends inside.
+-- For any list of lengths: every place lies in the block named for it ..
 pub lists-cover : (ls : List ℕ) (p : ℕ) → p < total ls → Lies ls (holder ls p) p
 lists-cover = covered
 
+-- .. it lies in no other ..
 pub lists-apart : (ls : List ℕ) (j k p : ℕ) → Lies ls j p → Lies ls k p → j ≡ k
 lists-apart ls j k p x y = only (holder ls p) j k (sym (alone ls j p x)) (sym (alone ls k p y))
 
+-- .. and every block ends inside.
 pub lists-end-inside : (ls : List ℕ) (k : ℕ) → offsetAt ls k + lengthAt ls k ≤ total ls
 lists-end-inside = ends-inside
 
--- The same of every part's addresses, whichever end the boot block is at.
+-- The same of every part's addresses, whichever end the boot block is at: the block named for an address holds it ..
 pub blocks-cover : (p : Part) (a : ℕ) → a < sizeOf p → Holds (shapeOf p) (blockOf p a) a
 unfolding sizeOf blockOf
 blocks-cover p a h = named (shapeOf p) a h
 
+-- .. an address lies in no block but the one named for it ..
 pub blocks-apart : (p : Part) (k a : ℕ) → Holds (shapeOf p) k a → blockOf p a ≡ k
 unfolding blockOf
 blocks-apart p k a h = sole (shapeOf p) k a h
 
+-- .. and every block ends inside the array.
 pub blocks-end-inside : (p : Part) (k : ℕ) → startOf p k + lengthOf p k ≤ sizeOf p
 unfolding startOf lengthOf sizeOf
 blocks-end-inside p k = fits (shapeOf p) k
 
--- The table of the four devices: each block's first and last address, outward from the boot block, then the size and the
--- identifier code.
-abbrev last : Part → ℕ → ℕ
-last p k = startOf p k + lengthOf p k - 1
-
-abbrev row : ℕ → List ℕ
-row n =
-    let p : Part = record { number = n } in
-    startOf p 0 ∷ last p 0 ∷ startOf p 1 ∷ last p 1 ∷ startOf p 2 ∷ last p 2 ∷ startOf p 3 ∷ last p 3 ∷ sizeOf p ∷ codeOf p ∷ []
-
+-- The table of the four devices.
 pub four-devices :
-    (row 1 ≡ 0x1E000 ∷ 0x1FFFF ∷ 0x1D000 ∷ 0x1DFFF ∷ 0x1C000 ∷ 0x1CFFF ∷ 0x00000 ∷ 0x1BFFF ∷ 131072 ∷ 0x94 ∷ [])
-    × (row 2 ≡ 0x00000 ∷ 0x01FFF ∷ 0x02000 ∷ 0x02FFF ∷ 0x03000 ∷ 0x03FFF ∷ 0x04000 ∷ 0x1FFFF ∷ 131072 ∷ 0x95 ∷ [])
-    × (row 3 ≡ 0x3C00 ∷ 0x3FFF ∷ 0x3A00 ∷ 0x3BFF ∷ 0x3800 ∷ 0x39FF ∷ 0x0000 ∷ 0x37FF ∷ 16384 ∷ 0x94 ∷ [])
-    × (row 4 ≡ 0x0000 ∷ 0x03FF ∷ 0x0400 ∷ 0x05FF ∷ 0x0600 ∷ 0x07FF ∷ 0x0800 ∷ 0x3FFF ∷ 16384 ∷ 0x95 ∷ [])
+    (deviceRow 1 ≡ 0x1E000 ∷ 0x1FFFF ∷ 0x1D000 ∷ 0x1DFFF ∷ 0x1C000 ∷ 0x1CFFF ∷ 0x00000 ∷ 0x1BFFF ∷ 131072 ∷ 0x94 ∷ [])
+    × (deviceRow 2 ≡ 0x00000 ∷ 0x01FFF ∷ 0x02000 ∷ 0x02FFF ∷ 0x03000 ∷ 0x03FFF ∷ 0x04000 ∷ 0x1FFFF ∷ 131072 ∷ 0x95 ∷ [])
+    × (deviceRow 3 ≡ 0x3C00 ∷ 0x3FFF ∷ 0x3A00 ∷ 0x3BFF ∷ 0x3800 ∷ 0x39FF ∷ 0x0000 ∷ 0x37FF ∷ 16384 ∷ 0x94 ∷ [])
+    × (deviceRow 4 ≡ 0x0000 ∷ 0x03FF ∷ 0x0400 ∷ 0x05FF ∷ 0x0600 ∷ 0x07FF ∷ 0x0800 ∷ 0x3FFF ∷ 16384 ∷ 0x95 ∷ [])
 unfolding shapeOf sizeOf lengthOf startOf codeOf sizeIn lengthIn offsetIn startIn
 four-devices = (refl, refl, refl, refl)
 

@@ -8,7 +8,7 @@ use native.Mathlib.Omega.{arith}
 use lib.ListN.{length}
 use lib.Dec.{ltb}
 use borrow.Author.Tests.{ltb-true, ltb-false, lt-ltb, le-ltb}
-use Rattle.device.specs.Blocks.{total, lengthAt, offsetAt, holder}
+use Rattle.device.specs.Blocks.{total, lengthAt, offsetAt, holder, Lies}
 
 -- past the last block lies the whole array
 pub offset-past : (ls : List ℕ) (k : ℕ) → length ls ≤ k → offsetAt ls k ≡ total ls
@@ -21,11 +21,6 @@ pub ends-inside : (ls : List ℕ) (k : ℕ) → offsetAt ls k + lengthAt ls k �
 ends-inside [] k = omega arith
 ends-inside (l ∷ ls) zero = omega arith
 ends-inside (l ∷ ls) (suc k) = omega (arith, ends-inside ls k)
-
--- the byte at place p lies in block k
-pub record Lies (ls : List ℕ) (k p : ℕ) : Type 0 where
-  pub from : offsetAt ls k ≤ p
-  pub to : p < offsetAt ls k + lengthAt ls k
 
 -- the blocks cover the array: the block named for a place holds it
 pub covered : (ls : List ℕ) (p : ℕ) → p < total ls → Lies ls (holder ls p) p

@@ -6,16 +6,11 @@ use native.Mathlib.Omega.{arith}
 use lib.Dec.{eqb, lit≤}
 use Rattle.cells.specs.Choice.{if_then_else_}
 use Rattle.cells.proofs.Choice.{if-ind}
-use Rattle.device.specs.Blocks.{total, lengthAt, offsetAt, holder}
-use Rattle.device.specs.Parts.{shapeOf, lengthsOf, sizeIn, lengthIn, offsetIn, holderIn, turned, startIn, blockIn, sizeOf}
+use Rattle.device.specs.Blocks.{total, lengthAt, offsetAt, holder, Lies}
+use Rattle.device.specs.Parts.{shapeOf, lengthsOf, sizeIn, lengthIn, offsetIn, holderIn, turned, startIn, blockIn, sizeOf, Holds}
 use Rattle.device.specs.declared.Part.{Part}
 use Rattle.device.specs.declared.Shape.{Shape}
-use Rattle.device.proofs.Cover.{ends-inside, covered, alone, Lies}
-
--- an address lies in block k
-pub record Holds (s : Shape) (k a : ℕ) : Type 0 where
-  pub from : startIn s k ≤ a
-  pub to : a < startIn s k + lengthIn s k
+use Rattle.device.proofs.Cover.{ends-inside, covered, alone}
 
 -- a block ends inside the array
 pub fits : (s : Shape) (k : ℕ) → startIn s k + lengthIn s k ≤ sizeIn s

@@ -1,7 +1,6 @@
 -- Flash blocks as a list of lengths, counted outward from the boot block. Assumes nothing.
-use mathlib.Core.Bool.{Bool, true, false}
 use mathlib.Core.List.{List, [], _∷_}
-use Prim.Native.Nat.{ℕ, zero, suc, _+_, _-_}
+use Prim.Native.Nat.{ℕ, zero, suc, _+_, _-_, _≤_, _<_}
 use lib.ListN.{getD}
 use lib.Dec.{ltb}
 use Rattle.cells.specs.Choice.{if_then_else_}
@@ -25,3 +24,8 @@ offsetAt (l ∷ ls) (suc k) = l + offsetAt ls k
 abbrev pub holder : List ℕ → ℕ → ℕ
 holder [] p = 0
 holder (l ∷ ls) p = if ltb p l then 0 else suc (holder ls (p - l))
+
+-- the byte at place p lies in block k
+pub record Lies (ls : List ℕ) (k p : ℕ) : Type 0 where
+  pub from : offsetAt ls k ≤ p
+  pub to : p < offsetAt ls k + lengthAt ls k

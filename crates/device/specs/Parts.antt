@@ -1,7 +1,7 @@
 -- The parts we load, each by a short description, and all that follows from it. Assumes nothing.
-use mathlib.Core.Bool.{Bool, true, false, not, _&&_, _||_}
+use mathlib.Core.Bool.{Bool, true, false, _||_}
 use mathlib.Core.List.{List, [], _∷_}
-use Prim.Native.Nat.{ℕ, zero, suc, _+_, _-_}
+use Prim.Native.Nat.{ℕ, _+_, _-_, _≤_, _<_}
 use lib.Dec.{eqb, ltb}
 use Rattle.cells.specs.Choice.{if_then_else_}
 use Rattle.device.specs.Blocks.{total, lengthAt, offsetAt, holder}
@@ -81,3 +81,18 @@ blockOf p a = blockIn (shapeOf p) a
 -- the part's own identifier code
 unfoldable pub codeOf : Part → ℕ
 codeOf p = shapeOf p .code
+
+-- an address lies in block k
+pub record Holds (s : Shape) (k a : ℕ) : Type 0 where
+  pub from : startIn s k ≤ a
+  pub to : a < startIn s k + lengthIn s k
+
+-- the last address of block k
+abbrev pub lastOf : Part → ℕ → ℕ
+lastOf p k = startOf p k + lengthOf p k - 1
+
+-- a device's row: each block's first and last address, outward from the boot block, then the size and the identifier code
+abbrev pub deviceRow : ℕ → List ℕ
+deviceRow n =
+    let p : Part = record { number = n } in
+    startOf p 0 ∷ lastOf p 0 ∷ startOf p 1 ∷ lastOf p 1 ∷ startOf p 2 ∷ lastOf p 2 ∷ startOf p 3 ∷ lastOf p 3 ∷ sizeOf p ∷ codeOf p ∷ []

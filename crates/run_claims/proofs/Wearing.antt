@@ -19,12 +19,12 @@ use Rattle.cells.specs.Lists.{overlaid}
 use Rattle.cells.proofs.Bytes.{overlaid-in, overlaid-before, overlaid-after}
 use Rattle.device.specs.declared.Part.{Part}
 use Rattle.device.specs.declared.Device.{Device}
-use Rattle.device.specs.Parts.{sizeOf, startOf, lengthOf, blockOf, shapeOf}
-use Rattle.device.proofs.Place.{Holds}
+use Rattle.device.specs.Parts.{sizeOf, startOf, lengthOf, blockOf, shapeOf, Holds}
 use Rattle.device.proofs.Claims.{blocks-end-inside, blocks-apart, blocks-cover}
 use Rattle.chip.specs.declared.Effect.{Effect}
 use Rattle.chip.specs.declared.Effect.the-variants.{Nothing, Program, Erase, CutProgram, CutErase}
-use Rattle.model.specs.Arrays.{erased, arrayOf, arrayAfter, answerOf, Within}
+use Rattle.model.specs.Arrays.{erased, arrayOf, arrayAfter, answerOf}
+use Rattle.model.specs.Inner.{Within}
 use Rattle.model.specs.Begun.{operationOf, pendingOf, begunBy}
 use Rattle.model.proofs.Reach.{within}
 use Rattle.model.proofs.Contents.{cycle-length}

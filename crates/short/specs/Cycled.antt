@@ -10,17 +10,19 @@ use Rattle.twin.specs.declared.StateNumbers.{StateNumbers}
 use Rattle.twin.specs.declared.BusNumbers.{BusNumbers}
 use Rattle.twin.specs.declared.AnswerNumbers.{AnswerNumbers}
 
--- the answer, and the array
+-- the answer
 unfoldable pub cycled : DeviceNumbers → StateNumbers → BusNumbers → List ℕ → List ℕ → AnswerNumbers
 cycled d s c xs rs = answerOut s (answerOf (deviceIn d) (stateIn s) (cycleIn c) xs rs)
 
+-- the array
 unfoldable pub arrayCycled : DeviceNumbers → StateNumbers → BusNumbers → List ℕ → List ℕ → List ℕ
 arrayCycled d s c xs rs = arrayAfter (deviceIn d) (stateIn s) (cycleIn c) xs rs
 
--- the same of a cycle that refusals 1 to 6 let pass
+-- the same of a cycle that was judged: only where refusals 1 to 6 do not apply
 unfoldable pub judgedIn : DeviceNumbers → StateNumbers → BusNumbers → List ℕ → List ℕ → AnswerNumbers
 judgedIn d s c xs rs = answerOut s (answerJudged (deviceIn d) (stateIn s) (cycleIn c) xs rs)
 
+-- and the array then
 unfoldable pub arrayJudgedIn : DeviceNumbers → StateNumbers → BusNumbers → List ℕ → List ℕ → List ℕ
 arrayJudgedIn d s c xs rs = arrayJudged (deviceIn d) (stateIn s) (cycleIn c) xs rs
 

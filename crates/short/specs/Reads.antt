@@ -58,12 +58,13 @@ endedIn s = record { mode = s .mode; status = withBits (s .status) SR7; phase = 
 unfoldable pub arrayEnded : DeviceNumbers → StateNumbers → List ℕ → List ℕ
 arrayEnded d s xs = if eqb (s .phase) 3 then programmedAt (s .address) (s .byte) xs else erasedAt (partIn d) (s .address) xs
 
--- a read: the answer, and the array
+-- a read: the answer
 unfoldable pub readIn : DeviceNumbers → StateNumbers → ℕ → List ℕ → AnswerNumbers
 readIn d s a xs =
     if runsIn s
     then (if ltb 1 (s .left) then answerAs 1 (s .status) (countedIn s) else answerAs 1 (withBits (s .status) SR7) (endedIn s))
     else stillOf d s a xs
 
+-- and the array
 unfoldable pub arrayRead : DeviceNumbers → StateNumbers → List ℕ → List ℕ
 arrayRead d s xs = if runsIn s then (if ltb 1 (s .left) then xs else arrayEnded d s xs) else xs

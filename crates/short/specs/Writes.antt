@@ -14,10 +14,11 @@ use Rattle.twin.specs.declared.AnswerNumbers.{AnswerNumbers}
 use Rattle.short.specs.Cycled.{answerAs}
 use Rattle.short.specs.Reads.{partIn}
 
--- a write, and an idle cycle, while nothing runs or is suspended
+-- a write while nothing runs or is suspended
 unfoldable pub restingWrite : StateNumbers → BusNumbers → Bool
 restingWrite s c = if eqb (c .kind) 1 then ltb (s .phase) 3 else false
 
+-- an idle cycle then
 unfoldable pub restingIdle : StateNumbers → BusNumbers → Bool
 restingIdle s c = if eqb (c .kind) 2 then ltb (s .phase) 3 else false
 
