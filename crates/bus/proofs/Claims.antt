@@ -13,7 +13,7 @@ use Rattle.bus.specs.Cycles.{judgeOf, decideOf}
 use Rattle.bus.specs.Inner.{decideJudged, asksArray}
 use Rattle.bus.proofs.Passing as passing
 
--- What passes refusals 1 to 6 is decided as the table says.
+-- Where refusals 1 to 6 do not apply, `decide_judged` gives the table's decision.
 pub passes : (d : Device) (s : State) (c : Cycle) (array residue : ℕ) → judgeOf d s c array residue ≡ 0 → decideOf d s c array residue ≡ decideJudged d s c
 passes = passing.passes
 

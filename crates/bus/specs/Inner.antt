@@ -1,7 +1,7 @@
 -- The answers kind by kind, in the order in which the code asks. Not part of what a buyer must believe, and meant only for callers
 -- that know refusals 1 to 6 not to apply: that the table then gives the same is proved (`passes`). Where one of them would apply,
 -- what is said here is not the device's answer. Assumes nothing.
-use mathlib.Core.Bool.{Bool, true, false, not, _&&_}
+use mathlib.Core.Bool.{Bool, false, not, _&&_}
 use Prim.Native.Nat.{ℕ}
 use lib.Dec.{eqb, ltb}
 use Rattle.cells.specs.Choice.{if_then_else_}
@@ -10,7 +10,9 @@ use Rattle.device.specs.declared.Part.{Part}
 use Rattle.device.specs.declared.Device.{Device}
 use Rattle.chip.specs.declared.Mode.{Mode}
 use Rattle.chip.specs.declared.Mode.the-variants.{Array, Status, Identifier}
+use Rattle.chip.specs.Kinds.{isRead}
 use Rattle.chip.specs.Levels.{rpLow}
+use Rattle.chip.specs.Phases.{isFree, isSuspended}
 use Rattle.chip.specs.States.{isArray}
 use Rattle.chip.specs.declared.Kind.{Kind}
 use Rattle.chip.specs.declared.Kind.the-variants.{Read, Write, Idle}
@@ -24,8 +26,6 @@ use Rattle.chip.specs.declared.Cycle.{Cycle}
 use Rattle.settling.specs.Settling.{settleOf}
 use Rattle.commands.specs.Commands.{actionOf, isRefuse, performedOf}
 use Rattle.bus.specs.Cycles.{decidedAs, refusedBy, identifierOf}
-use Rattle.chip.specs.Phases.{isSuspended, isFree}
-use Rattle.chip.specs.Kinds.{isRead}
 
 -- the settled state and effect under a reply
 abbrev pub givenBy : Reply → Settled → Decision

@@ -1,10 +1,10 @@
 -- A state is improper exactly where one of the code's tests says so. Assumes nothing.
 use mathlib.Core.Path.{_≡_, refl, sym, ap, _∙_}
 use mathlib.Core.Bool.{Bool, true, false, not, _&&_, _||_}
-use Prim.Native.Nat.{ℕ, _+_, _*_, _/_, _%_, _≤_, _<_}
+use Prim.Native.Nat.{ℕ, _+_, _*_, _/_, _%_, _<_}
 use native.Mathlib.Omega.{arith}
 use lib.Dec.{eqb, ltb, leb}
-use borrow.Author.Tests.{eqb-true, eqb-false, eq-eqb, ne-eqb, ltb-true, ltb-false, lt-ltb, le-ltb, le-leb, lt-leb}
+use borrow.Author.Tests.{eqb-true, eqb-false, eq-eqb, ne-eqb, ltb-true, ltb-false, le-leb, lt-leb}
 use Rattle.cells.specs.Choice.{if_then_else_}
 use Rattle.device.specs.Parts.{sizeOf}
 use Rattle.device.specs.declared.Device.{Device}
@@ -13,7 +13,7 @@ use Rattle.chip.specs.declared.Mode.the-variants.{Array, Status, Identif
 use Rattle.chip.specs.declared.Phase.{Phase}
 use Rattle.chip.specs.declared.Phase.the-variants.{Free, EraseAwaited, DataAwaited, Programming, Erasing, Suspended}
 use Rattle.chip.specs.declared.State.{State}
-use Rattle.chip.specs.States.{isStatus, mostLeft, properMode, properReady, properHeld, properLow, properLeft, properAddress, proper, improper}
+use Rattle.chip.specs.States.{isStatus, properMode, properReady, properHeld, properLow, properLeft, properAddress, proper, improper}
 use Rattle.chip.specs.Inner.{topBits, badMode, badStatus, badLeft, badAddress}
 
 -- the mode

@@ -13,17 +13,19 @@ use Rattle.chip.specs.declared.State.{State}
 use Rattle.chip.specs.Phases.{isAwaited, isBusy, isSuspended, isPending}
 use Rattle.chip.specs.Status.{SR7, SR6, SR3}
 
--- the three modes
+-- a read gives the array's byte
 abbrev pub isArray : Mode → Bool
 isArray Array = true
 isArray Status = false
 isArray Identifier = false
 
+-- a read gives the status
 abbrev pub isStatus : Mode → Bool
 isStatus Array = false
 isStatus Status = true
 isStatus Identifier = false
 
+-- a read gives an identifier
 abbrev pub isIdentifier : Mode → Bool
 isIdentifier Array = false
 isIdentifier Status = false

@@ -1,7 +1,7 @@
 -- What a write asks for, and what comes of it. Assumes nothing.
-use mathlib.Core.Bool.{Bool, true, false, not, _&&_, _||_}
+use mathlib.Core.Bool.{Bool, true, false, _||_}
 use Prim.Native.Nat.{ℕ, _+_}
-use lib.Dec.{eqb, ltb, leb}
+use lib.Dec.{eqb}
 use Rattle.cells.specs.Choice.{if_then_else_}
 use Rattle.device.specs.declared.Part.{Part}
 use Rattle.device.specs.declared.Device.{Device}
@@ -48,6 +48,7 @@ actionOf (Programming x) b = Ignore
 actionOf Erasing b = whileErasing b
 actionOf Suspended b = whileSuspended b
 
+-- the write asks for nothing that there is
 abbrev pub isRefuse : Action → Bool
 isRefuse ToArray = false
 isRefuse ToIdentifier = false

@@ -47,10 +47,11 @@ pub refused-nothing : (d : Device) (s : State) (c : Cycle) (xs rs : List ℕ) (m
     → (answerOf d s c xs rs .state ≡ s) × (arrayAfter d s c xs rs ≡ xs)
 refused-nothing = table.host-refused
 
--- A fresh device is proper, and every cycle from a proper state leaves one.
+-- A fresh device is proper ..
 pub fresh-proper : (d : Device) → improper d freshState ≡ false
 fresh-proper d = parts-proper d freshState (keeping.fresh-proper d)
 
+-- .. and every cycle from a proper state leaves one.
 pub stays-proper : (d : Device) (s : State) (c : Cycle) (xs rs : List ℕ) → improper d s ≡ false → improper d (answerOf d s c xs rs .state) ≡ false
 unfolding answerOf
 stays-proper d s c xs rs p =
@@ -68,24 +69,27 @@ pub busy-read-ending : (d : Device) (s : State) (c : Cycle) (xs rs : List ℕ) �
     → answerOf d s c xs rs .seen ≡ Byte (answerOf d s c xs rs .state .status)
 busy-read-ending = table.busy-read-ending
 
--- The array keeps its length, and its bytes stay bytes.
+-- The array keeps its length ..
 pub keeps-length : (d : Device) (s : State) (c : Cycle) (xs rs : List ℕ) → length (arrayAfter d s c xs rs) ≡ length xs
 keeps-length = contents.cycle-length
 
+-- .. and its bytes stay bytes.
 pub stays-bytes : (d : Device) (s : State) (c : Cycle) (xs rs : List ℕ) → Bytes rs → Bytes xs → Bytes (arrayAfter d s c xs rs)
 stays-bytes = contents.cycle-bytes
 
--- Begun: an accepted cycle begins what it starts, a refused one nothing, and where no second write is awaited (a resume, for
--- one) nothing begins. The states before and after tell the same.
+-- Begun: an accepted cycle begins what it starts ..
 pub begun-accepted : (d : Device) (s : State) (c : Cycle) (n r : ℕ) → numberOf d s c n r ≡ 0 → begunBy d s c n r ≡ startsOf (d .part) s c
 begun-accepted = lives.begun-accepted
 
+-- .. a refused one begins nothing ..
 pub begun-refused : (d : Device) (s : State) (c : Cycle) (n r : ℕ) → (numberOf d s c n r ≡ 0 → ⊥) → begunBy d s c n r ≡ Nothing
 begun-refused = lives.begun-refused
 
+-- .. and where no second write is awaited (a resume, for one) nothing begins.
 pub begun-unawaited : (d : Device) (s : State) (c : Cycle) (n r : ℕ) → isAwaited (s .phase) ≡ false → begunBy d s c n r ≡ Nothing
 begun-unawaited = lives.begun-unawaited
 
+-- The states before and after tell the same.
 pub begun-from : (d : Device) (s : State) (c : Cycle) (n r : ℕ) → begunBy d s c n r ≡ begunFrom (d .part) s (decideOf d s c n r .state)
 begun-from = lives.begun-from
 
@@ -95,10 +99,11 @@ pub conserved : (f : Effect → ℕ) → f Nothing ≡ 0 → (d : Device) (s : S
     → f (operationOf (decideOf d s c n r .effect)) + f (pendingOf (d .part) (decideOf d s c n r .state)) ≡ f (begunBy d s c n r) + f (pendingOf (d .part) s)
 conserved = lives.conserved
 
--- What refusals 1 to 6 let pass is answered by `passed`, and the array is left as it leaves it.
+-- Where refusals 1 to 6 do not apply, `after_judging` gives the cycle's answer ..
 pub judged-answer : (d : Device) (s : State) (c : Cycle) (xs rs : List ℕ) → judgeOf d s c (length xs) (length rs) ≡ 0 → answerJudged d s c xs rs ≡ answerOf d s c xs rs
 judged-answer = passing.judged-answer
 
+-- .. and leaves the array as the cycle does.
 pub judged-array : (d : Device) (s : State) (c : Cycle) (xs rs : List ℕ) → judgeOf d s c (length xs) (length rs) ≡ 0 → arrayJudged d s c xs rs ≡ arrayAfter d s c xs rs
 judged-array = passing.judged-array
 

@@ -18,7 +18,8 @@ use Rattle.chip.specs.declared.Effect.the-variants.{Nothing, Program, Erase, Cu
 use Rattle.chip.specs.declared.State.{State}
 use Rattle.chip.specs.declared.Cycle.{Cycle}
 use Rattle.bus.specs.Cycles.{decideOf}
-use Rattle.model.specs.Arrays.{erased, residual, arrayOf, arrayAfter, Within}
+use Rattle.model.specs.Arrays.{erased, residual, arrayOf, arrayAfter}
+use Rattle.model.specs.Inner.{Within}
 use Rattle.model.proofs.Reach.{within}
 
 pub effect-length : (e : Effect) (part : Part) (rs xs : List ℕ) → Within e part (length xs) (length rs) → length (arrayOf e part rs xs) ≡ length xs

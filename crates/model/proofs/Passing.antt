@@ -1,4 +1,4 @@
--- A cycle that refusals 1 to 6 let pass is answered by `passed`. Assumes nothing.
+-- A cycle to which refusals 1 to 6 do not apply is answered by `after_judging`. Assumes nothing.
 use mathlib.Core.Path.{_≡_, refl, sym, ap, _∙_}
 use mathlib.Core.Bool.{Bool, true, _&&_}
 use mathlib.Core.List.{List}
@@ -18,8 +18,8 @@ use Rattle.chip.specs.declared.Decision.{Decision}
 use Rattle.bus.specs.Cycles.{judgeOf, decideOf}
 use Rattle.bus.specs.Inner.{decideJudged}
 use Rattle.bus.proofs.Passing.{passes}
-use Rattle.model.specs.Arrays.{Within, seenOf, answerOf, arrayAfter}
-use Rattle.model.specs.Inner.{findsIn, doneOf, answerJudged, arrayJudged}
+use Rattle.model.specs.Arrays.{seenOf, answerOf, arrayAfter}
+use Rattle.model.specs.Inner.{findsIn, doneOf, answerJudged, arrayJudged, Within}
 use Rattle.model.proofs.Reach.{within}
 
 -- the test of an effect's bytes says what it should

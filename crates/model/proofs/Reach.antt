@@ -23,7 +23,7 @@ use Rattle.settling.specs.Settling.{cutOf, endOf, residueFor, cutBy, countedOff
 use Rattle.bus.specs.Cycles.{shortResidue, decideOf}
 use Rattle.bus.proofs.Facts.{Fine}
 use Rattle.model.proofs.Outcome.{outcome, accept-effect}
-use Rattle.model.specs.Arrays.{Within}
+use Rattle.model.specs.Inner.{Within}
 
 -- a cut and an end find their bytes
 cut-within : (ph : Phase) (part : Part) (a n r : ℕ) → n ≡ sizeOf part → (if isPending ph then leb (sizeOf part) a else not (eqb a 0)) ≡ false

@@ -2,12 +2,12 @@
 use mathlib.Core.Path.{_≡_}
 use mathlib.Core.Bool.{Bool, true, false}
 use mathlib.Core.List.{List}
-use Prim.Native.Nat.{ℕ, _≤_, _<_}
+use Prim.Native.Nat.{ℕ}
 use lib.ListN.{length, getD, set, take, replicate}
 use lib.Bits.{bitAnd, bitOr}
 use Rattle.chip.specs.Cells.{ones}
 use Rattle.cells.specs.Lists.{overlaid}
-use Rattle.device.specs.Parts.{sizeOf, startOf, lengthOf}
+use Rattle.device.specs.Parts.{startOf, lengthOf}
 use Rattle.device.specs.declared.Part.{Part}
 use Rattle.device.specs.declared.Device.{Device}
 use Rattle.chip.specs.declared.Effect.{Effect}
@@ -36,14 +36,6 @@ arrayOf (Program at b) part rs xs = set xs at (bitAnd (getD xs at 0) b)
 arrayOf (Erase k) part rs xs = erased part k xs
 arrayOf (CutProgram at b) part rs xs = set xs at (bitAnd (getD xs at 0) (bitOr b (getD rs 0 0)))
 arrayOf (CutErase k) part rs xs = residual part k rs xs
-
--- an effect finds its bytes in an array and a residue of these lengths
-abbrev pub Within : Effect → Part → ℕ → ℕ → Type 0
-Within Nothing part n r = n ≡ n
-Within (Program at b) part n r = at < n
-Within (Erase k) part n r = n ≡ sizeOf part
-Within (CutProgram at b) part n r = (at < n) × (0 < r)
-Within (CutErase k) part n r = (n ≡ sizeOf part) × (lengthOf part k ≤ r)
 
 -- a reply that is a refusal
 abbrev pub isRefusal : Reply → Bool

@@ -1,5 +1,5 @@
 -- Operations over their life: which one a cycle begins, which is pending in a state, which one an effect ends or cuts. Assumes nothing.
-use mathlib.Core.Bool.{Bool, true, false, not, _&&_}
+use mathlib.Core.Bool.{not, _&&_}
 use Prim.Native.Nat.{ℕ}
 use lib.Dec.{eqb}
 use Rattle.cells.specs.Choice.{if_then_else_}
@@ -12,11 +12,11 @@ use Rattle.chip.specs.declared.Effect.{Effect}
 use Rattle.chip.specs.declared.Effect.the-variants.{Nothing, Program, Erase, CutProgram, CutErase}
 use Rattle.chip.specs.declared.State.{State}
 use Rattle.chip.specs.declared.Cycle.{Cycle}
+use Rattle.chip.specs.Kinds.{isWrite}
 use Rattle.chip.specs.Levels.{rpLow, locked}
+use Rattle.chip.specs.Phases.{isAwaited}
 use Rattle.commands.specs.Commands.{unsupplied}
 use Rattle.bus.specs.Cycles.{numberOf}
-use Rattle.chip.specs.Kinds.{isWrite}
-use Rattle.chip.specs.Phases.{isAwaited}
 
 -- the operation that an effect ends or cuts; an uncut effect is its own operation
 abbrev pub operationOf : Effect → Effect

@@ -1,9 +1,10 @@
 -- A cycle after it was judged, on any array and residue. Not part of what a buyer must believe, and meant only for callers that know
 -- refusals 1 to 6 not to apply: that it then is the cycle's answer is proved (`judged-answer`). Where one of them would apply, it
 -- answers what the rules forbid: a byte, a new state or a changed array instead of the refusal. Assumes nothing.
+use mathlib.Core.Path.{_≡_}
 use mathlib.Core.Bool.{Bool, true, _&&_}
 use mathlib.Core.List.{List}
-use Prim.Native.Nat.{ℕ}
+use Prim.Native.Nat.{ℕ, _≤_, _<_}
 use lib.ListN.{length, getD, set}
 use lib.Dec.{eqb, ltb, leb}
 use lib.Bits.{bitAnd}
@@ -20,6 +21,14 @@ use Rattle.model.specs.declared.Answer.{Answer}
 use Rattle.model.specs.Arrays.{erased, arrayOf, seenOf}
 
 -- an effect finds its bytes in an array and a residue of these lengths
+abbrev pub Within : Effect → Part → ℕ → ℕ → Type 0
+Within Nothing part n r = n ≡ n
+Within (Program at b) part n r = at < n
+Within (Erase k) part n r = n ≡ sizeOf part
+Within (CutProgram at b) part n r = (at < n) × (0 < r)
+Within (CutErase k) part n r = (n ≡ sizeOf part) × (lengthOf part k ≤ r)
+
+-- the same as a test
 abbrev pub findsIn : Effect → Part → ℕ → ℕ → Bool
 findsIn Nothing part n r = true
 findsIn (Program at b) part n r = ltb at n
@@ -31,16 +40,18 @@ findsIn (CutErase k) part n r = eqb n (sizeOf part) && leb (lengthOf part k) r
 abbrev pub doneOf : Effect → Part → List ℕ → List ℕ → List ℕ
 doneOf e part rs xs = if findsIn e part (length xs) (length rs) then arrayOf e part rs xs else xs
 
--- a program that ends, and an erase that ends, on any array
+-- a program that ends, on any array
 unfoldable pub programmedAt : ℕ → ℕ → List ℕ → List ℕ
 programmedAt at b xs = if ltb at (length xs) then set xs at (bitAnd (getD xs at 0) b) else xs
 
+-- an erase that ends, on any array
 unfoldable pub erasedAt : Part → ℕ → List ℕ → List ℕ
 erasedAt part a xs = if eqb (length xs) (sizeOf part) then erased part (blockOf part a) xs else xs
 
--- the array after a cycle that was judged, and the answer to it: only where refusals 1 to 6 do not apply
+-- the array after a cycle that was judged: only where refusals 1 to 6 do not apply
 unfoldable pub arrayJudged : Device → State → Cycle → List ℕ → List ℕ → List ℕ
 arrayJudged d s c xs rs = doneOf (decideJudged d s c .effect) (d .part) rs xs
 
+-- the answer to it: only where they do not apply
 unfoldable pub answerJudged : Device → State → Cycle → List ℕ → List ℕ → Answer
 answerJudged d s c xs rs = record { seen = seenOf (decideJudged d s c .reply) (arrayJudged d s c xs rs); state = decideJudged d s c .state }

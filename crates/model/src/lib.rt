@@ -12,8 +12,8 @@ ghost use lib.Bits.{bitAnd, bitOr};
 ghost use Rattle.chip.specs.States.{freshState, resetOf};
 ghost use Rattle.device.specs.Parts.{sizeOf, lengthOf};
 ghost use Rattle.model.specs.declared.Seen.the-variants.{Byte, Refused};
-ghost use Rattle.model.specs.Arrays.{Within, erased, residual, arrayOf, seenOf, answerOf, arrayAfter};
-ghost use Rattle.model.specs.Inner.{findsIn, doneOf, programmedAt, erasedAt, answerJudged, arrayJudged};
+ghost use Rattle.model.specs.Arrays.{erased, residual, arrayOf, seenOf, answerOf, arrayAfter};
+ghost use Rattle.model.specs.Inner.{findsIn, doneOf, programmedAt, erasedAt, answerJudged, arrayJudged, Within};
 
 // What the host sees of a cycle: no data, a byte, or a refusal by its number.
 pub enum Seen {

@@ -23,7 +23,8 @@ use Rattle.device.specs.Parts.{sizeOf, startOf, lengthOf, blockOf, shapeOf, Hol
 use Rattle.device.proofs.Claims.{blocks-end-inside, blocks-apart, blocks-cover}
 use Rattle.chip.specs.declared.Effect.{Effect}
 use Rattle.chip.specs.declared.Effect.the-variants.{Nothing, Program, Erase, CutProgram, CutErase}
-use Rattle.model.specs.Arrays.{erased, arrayOf, arrayAfter, answerOf, Within}
+use Rattle.model.specs.Arrays.{erased, arrayOf, arrayAfter, answerOf}
+use Rattle.model.specs.Inner.{Within}
 use Rattle.model.specs.Begun.{operationOf, pendingOf, begunBy}
 use Rattle.model.proofs.Reach.{within}
 use Rattle.model.proofs.Contents.{cycle-length}

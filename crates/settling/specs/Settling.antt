@@ -1,11 +1,11 @@
 -- Steps 1 to 3 of a cycle: what becomes of an operation before the read or write. Assumes nothing.
-use mathlib.Core.Bool.{Bool, true, false, not, _&&_, _||_}
+use mathlib.Core.Bool.{_&&_}
 use Prim.Native.Nat.{ℕ, _+_, _-_}
 use lib.Dec.{eqb}
 use Rattle.cells.specs.Choice.{if_then_else_}
 use Rattle.device.specs.Parts.{blockOf, lengthOf}
 use Rattle.device.specs.declared.Part.{Part}
-use Rattle.chip.specs.declared.Mode.the-variants.{Array, Status, Identifier}
+use Rattle.chip.specs.declared.Mode.the-variants.{Status}
 use Rattle.chip.specs.declared.Phase.{Phase}
 use Rattle.chip.specs.declared.Phase.the-variants.{Free, EraseAwaited, DataAwaited, Programming, Erasing, Suspended}
 use Rattle.chip.specs.declared.Effect.{Effect}
@@ -14,10 +14,11 @@ use Rattle.chip.specs.declared.State.{State}
 use Rattle.chip.specs.declared.Pins.{Pins}
 use Rattle.chip.specs.declared.Settled.{Settled}
 use Rattle.chip.specs.Levels.{rpLow, vppLow}
+use Rattle.chip.specs.Phases.{isBusy, isPending}
 use Rattle.chip.specs.Status.{SR7, SR6, SR5, SR4, SR3, withBits, withoutBits}
 use Rattle.chip.specs.States.{atRest, resetOf}
-use Rattle.chip.specs.Phases.{isBusy, isPending}
 
+-- a settled state by its parts
 abbrev pub settledAs : State → Effect → Settled
 settledAs s e = record { state = s; effect = e }
 

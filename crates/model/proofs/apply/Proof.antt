@@ -1,7 +1,7 @@
 use mathlib.Core.Path.{subst}
 use lib.ListN.{length}
 use Rattle.chip.specs.declared.Effect.{Effect}
-use Rattle.model.specs.Arrays.{Within}
+use Rattle.model.specs.Inner.{Within}
 use borrow.Author.Needs.{needs}
 use Rattle.model.proofs.apply.Statement.{statement}
 use Rattle.model.proofs.apply.Tie as tie

@@ -1,5 +1,5 @@
 use borrow.Author.Needs.{needs}
-use mathlib.Core.Path.{sym, _∙_}
+use mathlib.Core.Path.{sym}
 use Rattle.chip.proofs.Proper.{improper-parts}
 use Rattle.chip.proofs.states.improper.Statement.{statement}
 use Rattle.chip.proofs.states.improper.Tie as tie
