@@ -46,7 +46,7 @@ form-if d [] (x ∷ xs) l f = absurd (omega arith)
 form-if d (p ∷ ps) [] l f = absurd (omega arith)
 form-if d (p ∷ ps) (x ∷ xs) l f = both (f 0 (omega arith)) (form-if d ps xs (omega arith) (λ (i : ℕ) (h : i < length ps). f (suc i) (omega arith)))
 
--- the two together
+-- exactly such lists are of the form
 pub form-exactly : (d : Place) (ps : List Place) (xs : List ℕ)
     → (fits ps xs ≡ true) ↔ ((length xs ≡ length ps) × ((i : ℕ) → i < length ps → isAt (getD ps i d) (getD xs i 0) ≡ true))
 form-exactly d ps xs = (
