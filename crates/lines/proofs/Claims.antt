@@ -3,14 +3,15 @@ use mathlib.Core.Path.{_≡_}
 use mathlib.Core.Bool.{Bool, true}
 use mathlib.Core.List.{List}
 use mathlib.Core.Logic.{_↔_}
-use Prim.Native.Nat.{ℕ}
-use lib.ListN.{length}
+use Prim.Native.Nat.{ℕ, _<_}
+use lib.ListN.{length, getD}
 use Rattle.cells.specs.Choice.{Unique}
 use Rattle.cells.proofs.Choice.{only}
 use Rattle.chip.specs.declared.Cycle.{Cycle}
 use Rattle.lines.specs.declared.LineRead.{LineRead}
 use Rattle.lines.specs.declared.LineRead.the-variants.{NotALine, Stated}
-use Rattle.lines.specs.Lines.{isLine, cycleIn, readLine, lineOf, Fits}
+use Rattle.lines.specs.Lines.{Place, isAt, fits, isLine, cycleIn, readLine, lineOf, Fits}
+use Rattle.lines.proofs.Places as places
 use Rattle.lines.proofs.Forms as forms
 
 -- Exactly the lines of the documented form are read: a list is read as a cycle exactly where the cycle fits a line and the
@@ -32,6 +33,12 @@ line-read = forms.line-read
 
 pub line-length : (xs : List ℕ) → isLine xs ≡ true → length xs ≡ 20
 line-length = forms.line-length
+
+-- Whatever the form: a list is of a form exactly where it has the form's length and at each place what the place asks for. (The
+-- place d is only what stands past a form's end.)
+pub form-exactly : (d : Place) (ps : List Place) (xs : List ℕ)
+    → (fits ps xs ≡ true) ↔ ((length xs ≡ length ps) × ((i : ℕ) → i < length ps → isAt (getD ps i d) (getD xs i 0) ≡ true))
+form-exactly = places.form-exactly
 
 -- Two results that a promise allows are equal.
 pub is-line-unique : (xs : List ℕ) → Unique (λ (r : Bool). r ≡ isLine xs)

@@ -15,20 +15,18 @@ use Rattle.chip.specs.declared.Kind.{Kind}
 use Rattle.chip.specs.declared.Kind.the-variants.{Read, Write, Idle}
 use Rattle.chip.specs.declared.Cycle.{Cycle}
 use Rattle.lines.specs.declared.LineRead.the-variants.{NotALine, Stated}
-use Rattle.lines.specs.Lines.{isDigit, isHex, isKind, goodFront, goodSupply, goodAddress, goodBack, isLine, kindOf, digitOf, hexOf, fiveOf, fourOf, twoOf, cycleIn, readLine, letterFor, decimalDigit, hexDigit, lineOf, Fits}
+use Rattle.lines.specs.Lines.{isDigit, isHex, isKind, isAt, fits, newline, lineForm, isLine, kindOf, digitOf, hexOf, fiveOf, fourOf, twoOf, cycleIn, readLine, letterFor, decimalDigit, hexDigit, lineOf, Fits}
+use Rattle.lines.proofs.Places.{both, form-length, form-at}
 
 -- a line has 20 bytes
 pub line-length : (xs : List ℕ) → isLine xs ≡ true → length xs ≡ 20
 unfolding isLine
-line-length xs e =
-    let a = eqb (length xs) 20 in
-    eqb-true (length xs) 20
-    (and-left a (goodFront xs)
-    (and-left (a && goodFront xs) (goodSupply xs)
-    (and-left ((a && goodFront xs) && goodSupply xs) (goodAddress xs) (and-left (((a && goodFront xs) && goodSupply xs) && goodAddress xs) (goodBack xs) e))))
+line-length xs e = form-length lineForm xs e
 
-both : {a b : Bool} → a ≡ true → b ≡ true → (a && b) ≡ true
-both p q = rw (p, q) refl
+-- a line has at each place what the form asks for there
+placed : (xs : List ℕ) → isLine xs ≡ true → (i : ℕ) → ltb i 20 ≡ true → isAt (getD lineForm i newline) (getD xs i 0) ≡ true
+unfolding isLine
+placed xs e i h = form-at newline lineForm xs e i (ltb-true i 20 h)
 
 -- a decimal digit
 digit-good : (n : ℕ) → n < 10 → isDigit (48 + n) ≡ true
@@ -144,48 +142,6 @@ page v = omega arith
 section : (v : ℕ) → v / 4096 ≡ v / 256 / 16
 section v = omega arith
 
--- the parts of an `and` that holds
-parts-3 : (a b c : Bool) → ((a && b) && c) ≡ true → (a ≡ true) × (b ≡ true) × (c ≡ true)
-parts-3 a b c h = let k = and-left (a && b) c h in (and-left a b k, and-right a b k, and-right (a && b) c h)
-
-parts-5 : (a b c d e : Bool) → ((((a && b) && c) && d) && e) ≡ true → (a ≡ true) × (b ≡ true) × (c ≡ true) × (d ≡ true) × (e ≡ true)
-parts-5 a b c d e h =
-    let l = and-left (((a && b) && c) && d) e h in
-    let k = parts-3 a b c (and-left ((a && b) && c) d l) in
-    (k .0, k .1, k .2, and-right ((a && b) && c) d l, and-right (((a && b) && c) && d) e h)
-
-parts-6 : (a b c d e f : Bool) → (((((a && b) && c) && d) && e) && f) ≡ true
-    → (a ≡ true) × (b ≡ true) × (c ≡ true) × (d ≡ true) × (e ≡ true) × (f ≡ true)
-parts-6 a b c d e f h =
-    let k = parts-5 a b c d e (and-left ((((a && b) && c) && d) && e) f h) in
-    (k .0, k .1, k .2, k .3, k .4, and-right ((((a && b) && c) && d) && e) f h)
-
-line-parts : (xs : List ℕ) → isLine xs ≡ true
-    → (eqb (length xs) 20 ≡ true) × (goodFront xs ≡ true) × (goodSupply xs ≡ true) × (goodAddress xs ≡ true) × (goodBack xs ≡ true)
-unfolding isLine
-line-parts xs e = parts-5 (eqb (length xs) 20) (goodFront xs) (goodSupply xs) (goodAddress xs) (goodBack xs) e
-
--- what a good line has at each place
-front : (xs : List ℕ) → isLine xs ≡ true
-    → (isKind (getD xs 0 0) ≡ true) × (eqb (getD xs 1 0) 32 ≡ true) × (isDigit (getD xs 2 0) ≡ true) × (eqb (getD xs 3 0) 32 ≡ true) × (isDigit (getD xs 4 0) ≡ true) × (eqb (getD xs 5 0) 32 ≡ true)
-unfolding goodFront
-front xs e = parts-6 (isKind (getD xs 0 0)) (eqb (getD xs 1 0) 32) (isDigit (getD xs 2 0)) (eqb (getD xs 3 0) 32) (isDigit (getD xs 4 0)) (eqb (getD xs 5 0) 32) (line-parts xs e .1)
-
-supply : (xs : List ℕ) → isLine xs ≡ true
-    → (isDigit (getD xs 6 0) ≡ true) × (isDigit (getD xs 7 0) ≡ true) × (isDigit (getD xs 8 0) ≡ true) × (isDigit (getD xs 9 0) ≡ true) × (isDigit (getD xs 10 0) ≡ true) × (eqb (getD xs 11 0) 32 ≡ true)
-unfolding goodSupply
-supply xs e = parts-6 (isDigit (getD xs 6 0)) (isDigit (getD xs 7 0)) (isDigit (getD xs 8 0)) (isDigit (getD xs 9 0)) (isDigit (getD xs 10 0)) (eqb (getD xs 11 0) 32) (line-parts xs e .2)
-
-address : (xs : List ℕ) → isLine xs ≡ true
-    → (isHex (getD xs 12 0) ≡ true) × (isHex (getD xs 13 0) ≡ true) × (isHex (getD xs 14 0) ≡ true) × (isHex (getD xs 15 0) ≡ true) × (eqb (getD xs 16 0) 32 ≡ true)
-unfolding goodAddress
-address xs e = parts-5 (isHex (getD xs 12 0)) (isHex (getD xs 13 0)) (isHex (getD xs 14 0)) (isHex (getD xs 15 0)) (eqb (getD xs 16 0) 32) (line-parts xs e .3)
-
-back : (xs : List ℕ) → isLine xs ≡ true
-    → (isHex (getD xs 17 0) ≡ true) × (isHex (getD xs 18 0) ≡ true) × (eqb (getD xs 19 0) 10 ≡ true)
-unfolding goodBack
-back xs e = parts-3 (isHex (getD xs 17 0)) (isHex (getD xs 18 0)) (eqb (getD xs 19 0) 10) (line-parts xs e .4)
-
 -- the elements of a list one by one, k of them from place i on
 spelled : ℕ → ℕ → List ℕ → List ℕ
 spelled zero i xs = []
@@ -225,16 +181,16 @@ two-back v h =
     rw (f (v / 16), f v) (sixteen v (v / 16 % 16) (omega arith))
 
 printed-good : (c : Cycle) → Fits c → isLine (lineOf c) ≡ true
-unfolding isLine goodFront goodSupply goodAddress goodBack
+unfolding isLine fits
 printed-good c f =
     let d : (n : ℕ) → isDigit (decimalDigit n) ≡ true = λ (n : ℕ). digit-good (n % 10) (omega arith) in
     let h : (n : ℕ) → isHex (hexDigit (n % 16)) ≡ true = λ (n : ℕ). hex-good (n % 16) (omega arith) in
-    both
-    (both
-    (both (both refl (both (both (both (both (both (kind-good (c .kind)) refl) (digit-good (c .pins .rp) (f .0))) refl) (digit-good (c .oe) (f .1))) refl))
-    (both (both (both (both (both (d (c .pins .vpp / 10000)) (d (c .pins .vpp / 1000))) (d (c .pins .vpp / 100))) (d (c .pins .vpp / 10))) (d (c .pins .vpp))) refl))
-    (both (both (both (both (h (c .address / 4096)) (h (c .address / 256))) (h (c .address / 16))) (h (c .address))) refl))
-    (both (both (h (c .byte / 16)) (h (c .byte))) refl)
+    both (kind-good (c .kind))
+    (both (digit-good (c .pins .rp) (f .0))
+    (both (digit-good (c .oe) (f .1))
+    (both (d (c .pins .vpp / 10000)) (both (d (c .pins .vpp / 1000)) (both (d (c .pins .vpp / 100)) (both (d (c .pins .vpp / 10)) (both (d (c .pins .vpp))
+    (both (h (c .address / 4096)) (both (h (c .address / 256)) (both (h (c .address / 16)) (both (h (c .address))
+    (both (h (c .byte / 16)) (both (h (c .byte)) refl)))))))))))))
 
 printed-cycle : (c : Cycle) → Fits c → cycleIn (lineOf c) ≡ c
 unfolding cycleIn
@@ -264,9 +220,9 @@ two-small a b = omega (arith, hex-small a, hex-small b)
 line-fits : (xs : List ℕ) → isLine xs ≡ true → Fits (cycleIn xs)
 unfolding cycleIn
 line-fits xs e = (
-  digit-small (getD xs 2 0) (front xs e .2),
-  digit-small (getD xs 4 0) (front xs e .4),
-  five-small (getD xs 6 0) (getD xs 7 0) (getD xs 8 0) (getD xs 9 0) (getD xs 10 0) (supply xs e .0) (supply xs e .1) (supply xs e .2) (supply xs e .3) (supply xs e .4),
+  digit-small (getD xs 2 0) (placed xs e 2 refl),
+  digit-small (getD xs 4 0) (placed xs e 4 refl),
+  five-small (getD xs 6 0) (getD xs 7 0) (getD xs 8 0) (getD xs 9 0) (getD xs 10 0) (placed xs e 6 refl) (placed xs e 7 refl) (placed xs e 8 refl) (placed xs e 9 refl) (placed xs e 10 refl),
   four-small (getD xs 12 0) (getD xs 13 0) (getD xs 14 0) (getD xs 15 0),
   two-small (getD xs 17 0) (getD xs 18 0),
 )
@@ -334,26 +290,26 @@ two-1 a b q = ap (λ (n : ℕ). hexDigit n) (sixteen-last (hexOf a) (hexOf b) (h
 line-spelled : (xs : List ℕ) → isLine xs ≡ true → lineOf (cycleIn xs) ≡ spelled 20 0 xs
 unfolding cycleIn spelled
 line-spelled xs e = λ i.
-    (kind-form (getD xs 0 0) (front xs e .0) i)
-    ∷ ((sym (eqb-true (getD xs 1 0) 32 (front xs e .1))) i)
-    ∷ (digit-form (getD xs 2 0) (front xs e .2) i)
-    ∷ ((sym (eqb-true (getD xs 3 0) 32 (front xs e .3))) i)
-    ∷ (digit-form (getD xs 4 0) (front xs e .4) i)
-    ∷ ((sym (eqb-true (getD xs 5 0) 32 (front xs e .5))) i)
-    ∷ (five-0 (getD xs 6 0) (getD xs 7 0) (getD xs 8 0) (getD xs 9 0) (getD xs 10 0) (supply xs e .0) (supply xs e .1) (supply xs e .2) (supply xs e .3) (supply xs e .4) i)
-    ∷ (five-1 (getD xs 6 0) (getD xs 7 0) (getD xs 8 0) (getD xs 9 0) (getD xs 10 0) (supply xs e .0) (supply xs e .1) (supply xs e .2) (supply xs e .3) (supply xs e .4) i)
-    ∷ (five-2 (getD xs 6 0) (getD xs 7 0) (getD xs 8 0) (getD xs 9 0) (getD xs 10 0) (supply xs e .0) (supply xs e .1) (supply xs e .2) (supply xs e .3) (supply xs e .4) i)
-    ∷ (five-3 (getD xs 6 0) (getD xs 7 0) (getD xs 8 0) (getD xs 9 0) (getD xs 10 0) (supply xs e .0) (supply xs e .1) (supply xs e .2) (supply xs e .3) (supply xs e .4) i)
-    ∷ (five-4 (getD xs 6 0) (getD xs 7 0) (getD xs 8 0) (getD xs 9 0) (getD xs 10 0) (supply xs e .0) (supply xs e .1) (supply xs e .2) (supply xs e .3) (supply xs e .4) i)
-    ∷ ((sym (eqb-true (getD xs 11 0) 32 (supply xs e .5))) i)
-    ∷ (four-0 (getD xs 12 0) (getD xs 13 0) (getD xs 14 0) (getD xs 15 0) (address xs e .0) (address xs e .1) (address xs e .2) (address xs e .3) i)
-    ∷ (four-1 (getD xs 12 0) (getD xs 13 0) (getD xs 14 0) (getD xs 15 0) (address xs e .0) (address xs e .1) (address xs e .2) (address xs e .3) i)
-    ∷ (four-2 (getD xs 12 0) (getD xs 13 0) (getD xs 14 0) (getD xs 15 0) (address xs e .0) (address xs e .1) (address xs e .2) (address xs e .3) i)
-    ∷ (four-3 (getD xs 12 0) (getD xs 13 0) (getD xs 14 0) (getD xs 15 0) (address xs e .0) (address xs e .1) (address xs e .2) (address xs e .3) i)
-    ∷ ((sym (eqb-true (getD xs 16 0) 32 (address xs e .4))) i)
-    ∷ (two-0 (getD xs 17 0) (getD xs 18 0) (back xs e .0) i)
-    ∷ (two-1 (getD xs 17 0) (getD xs 18 0) (back xs e .1) i)
-    ∷ ((sym (eqb-true (getD xs 19 0) 10 (back xs e .2))) i)
+    (kind-form (getD xs 0 0) (placed xs e 0 refl) i)
+    ∷ ((sym (eqb-true (getD xs 1 0) 32 (placed xs e 1 refl))) i)
+    ∷ (digit-form (getD xs 2 0) (placed xs e 2 refl) i)
+    ∷ ((sym (eqb-true (getD xs 3 0) 32 (placed xs e 3 refl))) i)
+    ∷ (digit-form (getD xs 4 0) (placed xs e 4 refl) i)
+    ∷ ((sym (eqb-true (getD xs 5 0) 32 (placed xs e 5 refl))) i)
+    ∷ (five-0 (getD xs 6 0) (getD xs 7 0) (getD xs 8 0) (getD xs 9 0) (getD xs 10 0) (placed xs e 6 refl) (placed xs e 7 refl) (placed xs e 8 refl) (placed xs e 9 refl) (placed xs e 10 refl) i)
+    ∷ (five-1 (getD xs 6 0) (getD xs 7 0) (getD xs 8 0) (getD xs 9 0) (getD xs 10 0) (placed xs e 6 refl) (placed xs e 7 refl) (placed xs e 8 refl) (placed xs e 9 refl) (placed xs e 10 refl) i)
+    ∷ (five-2 (getD xs 6 0) (getD xs 7 0) (getD xs 8 0) (getD xs 9 0) (getD xs 10 0) (placed xs e 6 refl) (placed xs e 7 refl) (placed xs e 8 refl) (placed xs e 9 refl) (placed xs e 10 refl) i)
+    ∷ (five-3 (getD xs 6 0) (getD xs 7 0) (getD xs 8 0) (getD xs 9 0) (getD xs 10 0) (placed xs e 6 refl) (placed xs e 7 refl) (placed xs e 8 refl) (placed xs e 9 refl) (placed xs e 10 refl) i)
+    ∷ (five-4 (getD xs 6 0) (getD xs 7 0) (getD xs 8 0) (getD xs 9 0) (getD xs 10 0) (placed xs e 6 refl) (placed xs e 7 refl) (placed xs e 8 refl) (placed xs e 9 refl) (placed xs e 10 refl) i)
+    ∷ ((sym (eqb-true (getD xs 11 0) 32 (placed xs e 11 refl))) i)
+    ∷ (four-0 (getD xs 12 0) (getD xs 13 0) (getD xs 14 0) (getD xs 15 0) (placed xs e 12 refl) (placed xs e 13 refl) (placed xs e 14 refl) (placed xs e 15 refl) i)
+    ∷ (four-1 (getD xs 12 0) (getD xs 13 0) (getD xs 14 0) (getD xs 15 0) (placed xs e 12 refl) (placed xs e 13 refl) (placed xs e 14 refl) (placed xs e 15 refl) i)
+    ∷ (four-2 (getD xs 12 0) (getD xs 13 0) (getD xs 14 0) (getD xs 15 0) (placed xs e 12 refl) (placed xs e 13 refl) (placed xs e 14 refl) (placed xs e 15 refl) i)
+    ∷ (four-3 (getD xs 12 0) (getD xs 13 0) (getD xs 14 0) (getD xs 15 0) (placed xs e 12 refl) (placed xs e 13 refl) (placed xs e 14 refl) (placed xs e 15 refl) i)
+    ∷ ((sym (eqb-true (getD xs 16 0) 32 (placed xs e 16 refl))) i)
+    ∷ (two-0 (getD xs 17 0) (getD xs 18 0) (placed xs e 17 refl) i)
+    ∷ (two-1 (getD xs 17 0) (getD xs 18 0) (placed xs e 18 refl) i)
+    ∷ ((sym (eqb-true (getD xs 19 0) 10 (placed xs e 19 refl))) i)
     ∷ []
 
 line-again : (xs : List ℕ) → isLine xs ≡ true → lineOf (cycleIn xs) ≡ xs

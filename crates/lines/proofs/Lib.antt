@@ -1,2 +1,4 @@
+pub mod Places
+pub mod Runs
 pub mod Forms
 pub mod Claims

@@ -1,9 +1,9 @@
 -- The lines of a trace: their form, the cycle that one states, and how a cycle is printed. Assumes nothing.
-use mathlib.Core.Bool.{Bool, _&&_, _||_}
+use mathlib.Core.Bool.{Bool, true, false, _&&_, _||_}
 use mathlib.Core.List.{List, [], _∷_}
 use Prim.Native.Nat.{ℕ, _+_, _*_, _/_, _%_, _<_}
 use lib.Dec.{eqb, ltb, leb}
-use lib.ListN.{length, getD}
+use lib.ListN.{getD}
 use Rattle.cells.specs.Choice.{if_then_else_}
 use Rattle.chip.specs.declared.Kind.{Kind}
 use Rattle.chip.specs.declared.Kind.the-variants.{Read, Write, Idle}
@@ -23,27 +23,49 @@ isHex b = isDigit b || (leb 65 b && leb b 70)
 unfoldable pub isKind : ℕ → Bool
 isKind b = (eqb b 82 || eqb b 87) || eqb b 73
 
--- kind, RP# and OE#, each followed by a space
-unfoldable pub goodFront : List ℕ → Bool
-goodFront xs =
-    ((((isKind (getD xs 0 0) && eqb (getD xs 1 0) 32) && isDigit (getD xs 2 0)) && eqb (getD xs 3 0) 32) && isDigit (getD xs 4 0)) && eqb (getD xs 5 0) 32
+-- what one place of a line asks for: a kind, a decimal digit, a hexadecimal digit, or one byte and no other
+pub data Place : Type 0 where
+  aKind : Place
+  aDigit : Place
+  aHex : Place
+  exactly : ℕ → Place
 
--- VPP in five digits, and a space
-unfoldable pub goodSupply : List ℕ → Bool
-goodSupply xs =
-    ((((isDigit (getD xs 6 0) && isDigit (getD xs 7 0)) && isDigit (getD xs 8 0)) && isDigit (getD xs 9 0)) && isDigit (getD xs 10 0)) && eqb (getD xs 11 0) 32
+-- whether a byte is what a place asks for
+abbrev pub isAt : Place → ℕ → Bool
+isAt aKind b = isKind b
+isAt aDigit b = isDigit b
+isAt aHex b = isHex b
+isAt (exactly x) b = eqb b x
 
--- the address in four hexadecimal digits, and a space
-unfoldable pub goodAddress : List ℕ → Bool
-goodAddress xs = (((isHex (getD xs 12 0) && isHex (getD xs 13 0)) && isHex (getD xs 14 0)) && isHex (getD xs 15 0)) && eqb (getD xs 16 0) 32
+-- whether a list is of a form: as many bytes as places, each what its place asks for
+unfoldable pub fits : List Place → List ℕ → Bool
+fits [] [] = true
+fits [] (x ∷ xs) = false
+fits (p ∷ ps) [] = false
+fits (p ∷ ps) (x ∷ xs) = isAt p x && fits ps xs
 
--- data in two hexadecimal digits, and the newline
-unfoldable pub goodBack : List ℕ → Bool
-goodBack xs = (isHex (getD xs 17 0) && isHex (getD xs 18 0)) && eqb (getD xs 19 0) 10
+-- a single space
+abbrev pub space : Place
+space = exactly 32
 
--- a line of the documented form: 20 bytes, each what its place asks for
+-- the newline that ends a line
+abbrev pub newline : Place
+newline = exactly 10
+
+-- a line's form: kind; RP#; OE#; VPP in five digits; the address in four hexadecimal digits; data in two; single spaces, a newline
+abbrev pub lineForm : List Place
+lineForm =
+    aKind ∷ space
+    ∷ aDigit ∷ space
+    ∷ aDigit ∷ space
+    ∷ aDigit ∷ aDigit ∷ aDigit ∷ aDigit ∷ aDigit ∷ space
+    ∷ aHex ∷ aHex ∷ aHex ∷ aHex ∷ space
+    ∷ aHex ∷ aHex ∷ newline
+    ∷ []
+
+-- a line of a trace: a list of that form
 unfoldable pub isLine : List ℕ → Bool
-isLine xs = (((eqb (length xs) 20 && goodFront xs) && goodSupply xs) && goodAddress xs) && goodBack xs
+isLine xs = fits lineForm xs
 
 -- the kind that a letter names
 unfoldable pub kindOf : ℕ → Kind
@@ -69,6 +91,7 @@ fourOf a b c d = ((hexOf a * 16 + hexOf b) * 16 + hexOf c) * 16 + hexOf d
 abbrev pub twoOf : ℕ → ℕ → ℕ
 twoOf a b = hexOf a * 16 + hexOf b
 
+-- a cycle put together from its parts
 abbrev pub cycleAs : Kind → ℕ → ℕ → ℕ → ℕ → ℕ → Cycle
 cycleAs k rp oe vpp a b = record { kind = k; pins = record { rp = rp; vpp = vpp }; oe = oe; address = a; byte = b }
 

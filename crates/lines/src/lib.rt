@@ -3,8 +3,10 @@ use chip::Cycle;
 use chip::Kind;
 use chip::Pins;
 ghost use mathlib.Core.Path.{_≡_};
+ghost use mathlib.Core.Bool.{true};
 ghost use Prim.Native.Nat.{_<_};
-ghost use Rattle.lines.specs.Lines.{isDigit, isHex, isKind, goodFront, goodSupply, goodAddress, goodBack, isLine, kindOf, digitOf, hexOf, fiveOf, fourOf, twoOf, cycleIn, readLine};
+ghost use Rattle.lines.specs.Lines.{isDigit, isHex, isKind, isLine, kindOf, digitOf, hexOf, fiveOf, fourOf, twoOf, cycleIn, readLine};
+ghost use Rattle.lines.specs.Inner.{metFrom, frontRun, supplyRun, addressRun, backRun};
 
 // What a line says: the cycle that it states, or that it is none.
 pub enum LineRead {
@@ -33,7 +35,7 @@ fn is_kind(b: u8) -> bool
 
 // Kind, RP# and OE#, each with its space.
 fn good_front(line: &[u8]) -> bool
-    ensures { λ r. ⌜ r ≡ goodFront (now (line .entry)) ⌝ }
+    ensures { λ r. ⌜ r ≡ metFrom true frontRun 0 (now (line .entry)) ⌝ }
 {
     is_kind(cells::nth(line, 0))
         & (cells::nth(line, 1) == b' ')
@@ -45,7 +47,7 @@ fn good_front(line: &[u8]) -> bool
 
 // VPP and its space.
 fn good_supply(line: &[u8]) -> bool
-    ensures { λ r. ⌜ r ≡ goodSupply (now (line .entry)) ⌝ }
+    ensures { λ r. ⌜ r ≡ metFrom true supplyRun 6 (now (line .entry)) ⌝ }
 {
     is_digit(cells::nth(line, 6))
         & is_digit(cells::nth(line, 7))
@@ -57,7 +59,7 @@ fn good_supply(line: &[u8]) -> bool
 
 // The address and its space.
 fn good_address(line: &[u8]) -> bool
-    ensures { λ r. ⌜ r ≡ goodAddress (now (line .entry)) ⌝ }
+    ensures { λ r. ⌜ r ≡ metFrom true addressRun 12 (now (line .entry)) ⌝ }
 {
     is_hex(cells::nth(line, 12))
         & is_hex(cells::nth(line, 13))
@@ -68,7 +70,7 @@ fn good_address(line: &[u8]) -> bool
 
 // Data and the newline.
 fn good_back(line: &[u8]) -> bool
-    ensures { λ r. ⌜ r ≡ goodBack (now (line .entry)) ⌝ }
+    ensures { λ r. ⌜ r ≡ metFrom true backRun 17 (now (line .entry)) ⌝ }
 {
     is_hex(cells::nth(line, 17)) & is_hex(cells::nth(line, 18)) & (cells::nth(line, 19) == b'\n')
 }

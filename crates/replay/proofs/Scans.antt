@@ -7,16 +7,17 @@ use native.Mathlib.Omega.{arith}
 use native.Mathlib.Nat.{add-zero}
 use lib.ListN.{length, take, drop, length-take, length-drop}
 use lib.Seq.{drop-drop}
-use borrow.Author.Tests.{ne-eqb}
 use Rattle.cells.specs.Choice.{if_then_else_}
 use Rattle.cells.proofs.Choice.{if-true, if-false}
+use Rattle.lines.proofs.Places.{unfit}
 use Rattle.lines.proofs.Forms.{line-length}
-use Rattle.lines.specs.Lines.{isLine}
+use Rattle.lines.specs.Lines.{lineForm, isLine}
 use Rattle.replay.specs.Replays.{goodLines}
 
+-- a list of another length is no line
 pub not-line : (xs : List ℕ) → (length xs ≡ 20 → ⊥) → isLine xs ≡ false
 unfolding isLine
-not-line xs h = simp (ne-eqb (length xs) 20 h)
+not-line xs h = unfit lineForm xs h
 
 -- fewer than 20 bytes from a place on are no line
 pub cut-off : (text : List ℕ) (a : ℕ) → length text < a + 20 → isLine (take 20 (drop a text)) ≡ false

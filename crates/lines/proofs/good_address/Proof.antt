@@ -1,6 +1,5 @@
 -- `lines::good_address` meets its contract. Assumes nothing.
 use borrow.Author.Needs.{needs}
-use Rattle.lines.specs.Lines.{goodAddress}
 use Rattle.lines.proofs.good_address.Statement.{statement}
 use Rattle.lines.proofs.good_address.Tie as tie
 
@@ -32,7 +31,6 @@ nth-requires-5 : tie.Need-nth-requires-5
 nth-requires-5 c κs = search needs
 
 returns : tie.Need-returns
-unfolding goodAddress
 returns c = simp (c .nth5 .ensures, c .before .is-hex4 .ensures, c .before .before .nth4 .ensures, c .before .before .before .is-hex3 .ensures, c .before .before .before .before .nth3 .ensures, c .before .before .before .before .before .is-hex2 .ensures, c .before .before .before .before .before .before .nth2 .ensures, c .before .before .before .before .before .before .before .is-hex .ensures, c .before .before .before .before .before .before .before .before .nth .ensures)
 
 pub good-address-spec : {M : Type 1} → statement M

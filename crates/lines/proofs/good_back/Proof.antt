@@ -1,6 +1,5 @@
 -- `lines::good_back` meets its contract. Assumes nothing.
 use borrow.Author.Needs.{needs}
-use Rattle.lines.specs.Lines.{goodBack}
 use Rattle.lines.proofs.good_back.Statement.{statement}
 use Rattle.lines.proofs.good_back.Tie as tie
 
@@ -20,7 +19,6 @@ nth-requires-3 : tie.Need-nth-requires-3
 nth-requires-3 c κs = search needs
 
 returns : tie.Need-returns
-unfolding goodBack
 returns c = simp (c .nth3 .ensures, c .before .is-hex2 .ensures, c .before .before .nth2 .ensures, c .before .before .before .is-hex .ensures, c .before .before .before .before .nth .ensures)
 
 pub good-back-spec : {M : Type 1} → statement M

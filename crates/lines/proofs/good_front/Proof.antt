@@ -1,6 +1,5 @@
 -- `lines::good_front` meets its contract. Assumes nothing.
 use borrow.Author.Needs.{needs}
-use Rattle.lines.specs.Lines.{goodFront}
 use Rattle.lines.proofs.good_front.Statement.{statement}
 use Rattle.lines.proofs.good_front.Tie as tie
 
@@ -32,7 +31,6 @@ nth-requires-6 : tie.Need-nth-requires-6
 nth-requires-6 c κs = search needs
 
 returns : tie.Need-returns
-unfolding goodFront
 returns c = simp (c .nth6 .ensures, c .before .is-digit2 .ensures, c .before .before .nth5 .ensures, c .before .before .before .nth4 .ensures, c .before .before .before .before .is-digit .ensures, c .before .before .before .before .before .nth3 .ensures, c .before .before .before .before .before .before .nth2 .ensures, c .before .before .before .before .before .before .before .is-kind .ensures, c .before .before .before .before .before .before .before .before .nth .ensures)
 
 pub good-front-spec : {M : Type 1} → statement M

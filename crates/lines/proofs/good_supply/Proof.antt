@@ -1,6 +1,5 @@
 -- `lines::good_supply` meets its contract. Assumes nothing.
 use borrow.Author.Needs.{needs}
-use Rattle.lines.specs.Lines.{goodSupply}
 use Rattle.lines.proofs.good_supply.Statement.{statement}
 use Rattle.lines.proofs.good_supply.Tie as tie
 
@@ -38,7 +37,6 @@ nth-requires-6 : tie.Need-nth-requires-6
 nth-requires-6 c κs = search needs
 
 returns : tie.Need-returns
-unfolding goodSupply
 returns c = simp (c .nth6 .ensures, c .before .is-digit5 .ensures, c .before .before .nth5 .ensures, c .before .before .before .is-digit4 .ensures, c .before .before .before .before .nth4 .ensures, c .before .before .before .before .before .is-digit3 .ensures, c .before .before .before .before .before .before .nth3 .ensures, c .before .before .before .before .before .before .before .is-digit2 .ensures, c .before .before .before .before .before .before .before .before .nth2 .ensures, c .before .before .before .before .before .before .before .before .before .is-digit .ensures, c .before .before .before .before .before .before .before .before .before .before .nth .ensures)
 
 pub good-supply-spec : {M : Type 1} → statement M

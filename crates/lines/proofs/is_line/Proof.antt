@@ -1,6 +1,7 @@
 -- `lines::is_line` meets its contract. Assumes nothing.
 use borrow.Author.Needs.{needs}
-use Rattle.lines.specs.Lines.{isLine}
+use mathlib.Core.Path.{sym}
+use Rattle.lines.proofs.Runs.{line-runs}
 use Rattle.lines.proofs.is_line.Statement.{statement}
 use Rattle.lines.proofs.is_line.Tie as tie
 
@@ -17,8 +18,7 @@ good-back-requires : tie.Need-good-back-requires
 good-back-requires c κs = search needs
 
 returns : tie.Need-returns
-unfolding isLine
-returns c = simp (c .good-back .ensures, c .before .good-address .ensures, c .before .before .good-supply .ensures, c .before .before .before .good-front .ensures)
+returns c = simp (c .good-back .ensures, c .before .good-address .ensures, c .before .before .good-supply .ensures, c .before .before .before .good-front .ensures) (sym (line-runs _))
 
 pub is-line-spec : {M : Type 1} → statement M
 is-line-spec =
