@@ -19,7 +19,7 @@ use Rattle.model.specs.declared.Seen.{Seen}
 use Rattle.model.specs.declared.Seen.the-variants.{NoData, Byte, Refused}
 use Rattle.model.specs.Arrays.{answerOf}
 use Rattle.seal.specs.Check.{checkOf}
-use Rattle.run_claims.specs.History.{Bus, World, stepped, worldAfter}
+use Rattle.model_history.specs.History.{Bus, World, stepped, worldAfter}
 use Rattle.run.specs.Runs.{ranOf}
 use Rattle.run_claims.specs.Wear.{heldIn}
 

@@ -18,7 +18,7 @@ use Rattle.stepper.specs.Front.{recordAt}
 use Rattle.run.specs.Turns.{Config, after, bound}
 use Rattle.run.specs.Runs.{runRows, begin, ranOf, bytesOf, scratchOf, runNumber}
 use Rattle.run_claims.specs.Wear.{begunIn, heldIn, formula, operationsOf, notedAll, begunByLoad, heldBy}
-use Rattle.run_claims.specs.History.{Bus, worldAfter, begunOver, worldOf, busesOf}
+use Rattle.model_history.specs.History.{Bus, worldAfter, begunOver, worldOf, busesOf}
 use Rattle.run_claims.specs.Made.{madeIn, cyclesOf, cyclesOfLoad}
 use Rattle.run_claims.specs.Ends.{asWanted, ranAs, cyclesAs, Whole}
 use Rattle.run_claims.specs.Mission.{Taken, Start, Brings, ownCycles, NoFewer, Demand3}

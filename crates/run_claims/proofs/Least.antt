@@ -25,8 +25,8 @@ use Rattle.model.specs.Begun.{pendingIn, pendingOf}
 use Rattle.loader.specs.Walks.{mustRise, rises, risesIn}
 use Rattle.chip.specs.Phases.{underWay}
 use Rattle.run_claims.specs.Wear.{heldIn, baseOf, erasesOf, programsIn, differing}
-use Rattle.run_claims.specs.History.{Bus, World, worldAfter, effectsIn, begunOver, uncut, total, eraseOf, programAt, programIn}
-use Rattle.run_claims.proofs.Wearing.{lies, byteAll, bytes-after, only-loses, unprogrammed, total-more, ended-begun}
+use Rattle.model_history.specs.History.{Bus, World, worldAfter, effectsIn, begunOver, uncut, total, eraseOf, programAt, programIn}
+use Rattle.model_history.proofs.Wearing.{lies, byteAll, bytes-after, only-loses, unprogrammed, total-more, ended-begun}
 
 -- no bit must rise where every byte held keeps the bits wanted
 none-rises : (n i : ℕ) (w s : List ℕ) → ((j : ℕ) → i ≤ j → j < i + n → bitAnd (getD s j 0) (getD w j 0) ≡ getD w j 0) → rises n i w s ≡ false

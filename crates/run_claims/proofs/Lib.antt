@@ -6,7 +6,6 @@ pub mod Same
 pub mod Faults
 pub mod Starts
 pub mod Demand
-pub mod Wearing
 pub mod Least
 pub mod Own
 pub mod Mission

@@ -30,13 +30,13 @@ use Rattle.run.specs.declared.Ran.{Ran}
 use Rattle.run.specs.Turns.{bound}
 use Rattle.run.specs.Runs.{beginning, driven, leftBy, ranOf, bytesOf, scratchOf}
 use Rattle.run_claims.specs.Wear.{begunByLoad, heldIn, heldBy, baseOf, erasesOf, programsIn, programsOf, differing, formula, operationsOf}
-use Rattle.run_claims.specs.History.{Bus, World, worldOf, worldAfter, effectsIn, begunOver, uncut, total, eraseOf, programIn, programOf, erasesBegun, programsBegun}
+use Rattle.model_history.specs.History.{Bus, World, worldOf, worldAfter, effectsIn, begunOver, uncut, total, eraseOf, programIn, programOf, erasesBegun, programsBegun}
 use Rattle.run.proofs.Good.{good}
 use Rattle.run_claims.specs.Made.{cyclesOfLoad, smoothLoad, cyclesOf, readsThen, pollsThen, openingThen, eraseThen, programThen, programsThen, closingOf, programmingOf}
 use Rattle.run_claims.specs.Mission.{Start, Brings, ownCycles, NoFewer, Demand3}
 use Rattle.run_claims.proofs.Demand.{Left, goal, not-low, good-load, ran-left, bytes-left, scratch-left}
 use Rattle.run_claims.proofs.Starts.{none-refuses}
-use Rattle.run_claims.proofs.Wearing.{lies}
+use Rattle.model_history.proofs.Wearing.{lies}
 use Rattle.run_claims.proofs.Least.{least}
 use Rattle.run_claims.proofs.Own.{noted-total, deviceIn, own-leads as leads, own-begins as begins, own-smooth as smooth}
 

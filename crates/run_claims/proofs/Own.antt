@@ -19,7 +19,7 @@ use Rattle.run.specs.Turns.{Config, answerTo, arrayTo, turnOf, after}
 use Rattle.loader.specs.Stages.{isEnded}
 use Rattle.run.proofs.Turning.{turn-ended, turn-going}
 use Rattle.run_claims.specs.Wear.{noted, notedAll, begunTurn, begunIn}
-use Rattle.run_claims.specs.History.{Bus, World, worldOf, busesOf, stepped, worldAfter, effectsIn, begunOver, acceptsAll, isCut, uncut, total}
+use Rattle.model_history.specs.History.{Bus, World, worldOf, busesOf, stepped, worldAfter, effectsIn, begunOver, acceptsAll, isCut, uncut, total}
 use Rattle.run_claims.specs.Made.{madeIn, isSmooth, smoothTurn, smoothIn}
 
 -- the operations without the places where nothing is weigh the same

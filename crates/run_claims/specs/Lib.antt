@@ -1,5 +1,4 @@
 pub mod Wear
-pub mod History
 pub mod Made
 pub mod Ends
 pub mod Stepping

@@ -20,7 +20,7 @@ use Rattle.run.specs.Turns.{Config, turnOf, bound}
 use Rattle.loader.specs.Stages.{isEnded}
 use Rattle.run.specs.Runs.{beginning}
 use Rattle.run_claims.specs.Wear.{baseOf}
-use Rattle.run_claims.specs.History.{isCut}
+use Rattle.model_history.specs.History.{isCut}
 
 -- the cycles that k turns make, in their order
 abbrev pub madeIn : ℕ → Device → List ℕ → Config → List Cycle

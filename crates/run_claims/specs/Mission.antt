@@ -16,7 +16,7 @@ use Rattle.stepper.specs.Front.{noBlock}
 use Rattle.run.specs.Runs.{ranOf, bytesOf}
 use Rattle.chip.specs.Phases.{underWay}
 use Rattle.run_claims.specs.Wear.{begunByLoad, heldBy, notedAll, operationsOf, formula}
-use Rattle.run_claims.specs.History.{Bus, World, worldOf, busesOf, worldAfter, effectsIn, begunOver, acceptsAll, uncut, erasesBegun, programsBegun}
+use Rattle.model_history.specs.History.{Bus, World, worldOf, busesOf, worldAfter, effectsIn, begunOver, acceptsAll, uncut, erasesBegun, programsBegun}
 use Rattle.run_claims.specs.Made.{cyclesOfLoad}
 
 -- a proper idle start at any supply that is let in: a known device with its array, a proper state with nothing under way, a block

@@ -29,7 +29,7 @@ use Rattle.model.specs.Begun.{operationOf, pendingOf, begunBy}
 use Rattle.model.proofs.Reach.{within}
 use Rattle.model.proofs.Contents.{cycle-length}
 use Rattle.model.proofs.Lives.{conserved}
-use Rattle.run_claims.specs.History.{Bus, World, stepped, worldAfter, effectBy, effectsIn, begunOver, isCut, uncut, total, eraseOf, programAt, programIn}
+use Rattle.model_history.specs.History.{Bus, World, stepped, worldAfter, effectBy, effectsIn, begunOver, isCut, uncut, total, eraseOf, programAt, programIn}
 
 -- what an uncut effect makes of the byte v at address x
 abbrev pub byteBy : Part → ℕ → Effect → ℕ → ℕ
