@@ -20,21 +20,21 @@ use Rattle.stepper.specs.Front.{stepOf, scratchAfter}
 use Rattle.run.specs.Runs.{runNumber, ranOf, bytesOf, scratchOf}
 use Rattle.load.specs.Loads.{loadNumber, loadedOf, bytesLoaded, wantedLoaded, scratchLoaded}
 use Rattle.seal.specs.Check.{checkOf}
-use Rattle.twin.specs.Twins.{deviceIn, pinsIn, noState, stateIn, stateOut, cycleOut, noRecord, loaderIn, loaderOut}
-use Rattle.twin.specs.Answers.{seenOut, valueOut, turnOut}
-use Rattle.twin.specs.declared.BlockNumbers.{BlockNumbers}
+use Rattle.twin.specs.Twins.{deviceIn, deviceOut, pinsIn, noState, stateIn, stateOut, cycleOut}
+use Rattle.c_records.specs.Records.{noRecord, loaderIn, loaderOut, turnOut}
+use Rattle.twin.specs.Answers.{seenOut, valueOut}
+use Rattle.c_records.specs.declared.BlockNumbers.{BlockNumbers}
 use Rattle.host.specs.Geometry.{sizeGiven, blockGiven}
-use Rattle.host.specs.Calls.{cycled, arrayCycled, started, steppedOf, scratchStepped, runOf, arrayRun, scratchRun, loadOf, arrayLoad, wantedLoad, scratchLoad, writtenOf, fileLeft, readOf, payloadLeft}
+use Rattle.host.specs.Calls.{cycled, arrayCycled, started, steppedOf, scratchStepped, runOf, arrayRun, scratchRun, loadOf, arrayLoad, wantedLoad, scratchLoad, writtenOf, fileLeft, readOf, payloadLeft, ranNumbers}
 use Rattle.twin.specs.declared.DeviceNumbers.{DeviceNumbers}
 use Rattle.twin.specs.declared.StateNumbers.{StateNumbers}
 use Rattle.twin.specs.declared.BusNumbers.{BusNumbers}
 use Rattle.twin.specs.declared.AnswerNumbers.{AnswerNumbers}
-use Rattle.twin.specs.declared.LoaderNumbers.{LoaderNumbers}
-use Rattle.twin.specs.declared.TurnNumbers.{TurnNumbers}
-use Rattle.twin.specs.declared.GivenNumbers.{GivenNumbers}
-use Rattle.twin.specs.declared.RanNumbers.{RanNumbers}
-use Rattle.twin.specs.declared.SizedNumbers.{SizedNumbers}
-use Rattle.twin.proofs.Border as border
+use Rattle.c_records.specs.declared.LoaderNumbers.{LoaderNumbers}
+use Rattle.c_records.specs.declared.TurnNumbers.{TurnNumbers}
+use Rattle.c_records.specs.declared.GivenNumbers.{GivenNumbers}
+use Rattle.c_records.specs.declared.RanNumbers.{RanNumbers}
+use Rattle.c_records.specs.declared.SizedNumbers.{SizedNumbers}
 use Rattle.host.proofs.Returned as returned
 
 -- Numbers that stand for no state, no kind or no record are refused in their place: 3 after 1 and 2, 4 after 1 to 3, 3 after 1.
@@ -86,9 +86,9 @@ read-refused = returned.read-refused
 
 -- On the numbers of typed values each C function is the typed function: its answer as numbers, and what it leaves in the slices.
 pub cycle-typed : (d : Device) (s : State) (c : Cycle) (xs rs : List ℕ)
-    → (cycled (border.deviceOut d) (stateOut s) (cycleOut c) xs rs
+    → (cycled (deviceOut d) (stateOut s) (cycleOut c) xs rs
     ≡ record { seen = seenOut (answerOf d s c xs rs .seen); value = valueOut (answerOf d s c xs rs .seen); state = stateOut (answerOf d s c xs rs .state) })
-    × (arrayCycled (border.deviceOut d) (stateOut s) (cycleOut c) xs rs ≡ arrayAfter d s c xs rs)
+    × (arrayCycled (deviceOut d) (stateOut s) (cycleOut c) xs rs ≡ arrayAfter d s c xs rs)
 cycle-typed = returned.cycle-typed
 
 pub step-typed : (l : Loader) (b : ℕ) (w sc : List ℕ)
@@ -97,16 +97,16 @@ pub step-typed : (l : Loader) (b : ℕ) (w sc : List ℕ)
 step-typed = returned.step-typed
 
 pub run-typed : (d : Device) (s : State) (p : Pins) (k : ℕ) (xs w sc : List ℕ)
-    → (runOf (border.deviceOut d) (stateOut s) (p .rp) (p .vpp) k xs w sc ≡ returned.ranNumbers (ranOf d s p k xs w sc))
-    × (arrayRun (border.deviceOut d) (stateOut s) (p .rp) (p .vpp) k xs w sc ≡ bytesOf d s p k xs w sc)
-    × (scratchRun (border.deviceOut d) (stateOut s) (p .rp) (p .vpp) k xs w sc ≡ scratchOf d s p k xs w sc)
+    → (runOf (deviceOut d) (stateOut s) (p .rp) (p .vpp) k xs w sc ≡ ranNumbers (ranOf d s p k xs w sc))
+    × (arrayRun (deviceOut d) (stateOut s) (p .rp) (p .vpp) k xs w sc ≡ bytesOf d s p k xs w sc)
+    × (scratchRun (deviceOut d) (stateOut s) (p .rp) (p .vpp) k xs w sc ≡ scratchOf d s p k xs w sc)
 run-typed = returned.run-typed
 
 pub load-typed : (d : Device) (s : State) (p : Pins) (k : ℕ) (f : List ℕ) (asked : ℕ) (xs w sc : List ℕ)
-    → (loadOf (border.deviceOut d) (stateOut s) (p .rp) (p .vpp) k f asked xs w sc ≡ returned.ranNumbers (loadedOf d s p k xs w sc f asked))
-    × (arrayLoad (border.deviceOut d) (stateOut s) (p .rp) (p .vpp) k f asked xs w sc ≡ bytesLoaded d s p k xs w sc f asked)
-    × (wantedLoad (border.deviceOut d) (stateOut s) (p .rp) (p .vpp) k f asked xs w sc ≡ wantedLoaded d s p k xs w sc f asked)
-    × (scratchLoad (border.deviceOut d) (stateOut s) (p .rp) (p .vpp) k f asked xs w sc ≡ scratchLoaded d s p k xs w sc f asked)
+    → (loadOf (deviceOut d) (stateOut s) (p .rp) (p .vpp) k f asked xs w sc ≡ ranNumbers (loadedOf d s p k xs w sc f asked))
+    × (arrayLoad (deviceOut d) (stateOut s) (p .rp) (p .vpp) k f asked xs w sc ≡ bytesLoaded d s p k xs w sc f asked)
+    × (wantedLoad (deviceOut d) (stateOut s) (p .rp) (p .vpp) k f asked xs w sc ≡ wantedLoaded d s p k xs w sc f asked)
+    × (scratchLoad (deviceOut d) (stateOut s) (p .rp) (p .vpp) k f asked xs w sc ≡ scratchLoaded d s p k xs w sc f asked)
 load-typed = returned.load-typed
 
 -- Two results that a promise allows are equal, and so is what it leaves in each thing lent.

@@ -31,15 +31,17 @@ use Rattle.run.proofs.Leaving.{left-refused}
 use Rattle.load.specs.Loads.{loadRows, loadNumber, loadedOf, bytesLoaded, wantedLoaded, scratchLoaded}
 use Rattle.load.proofs.Leaving as load-leaving
 use Rattle.loadfile.specs.File.{Outcome, refused, made, limit, inRoom, leftIn, readerOf, writerOf, readAs, writtenAs}
-use Rattle.twin.specs.Twins.{deviceIn, pinsIn, noState, stateIn, stateOut, cycleIn, cycleOut, noRecord, loaderIn, loaderOut}
-use Rattle.twin.specs.Answers.{stateBack, loaderBack, seenOut, valueOut, answerOut, turnOut, ranOut, writtenOut, readOut}
-use Rattle.host.specs.Calls.{cycled, arrayCycled, steppedOf, scratchStepped, runOf, arrayRun, scratchRun, loadOf, arrayLoad, wantedLoad, scratchLoad, writtenOf, fileLeft, readOf, payloadLeft}
+use Rattle.twin.specs.Twins.{deviceIn, pinsIn, noState, stateIn, stateOut, cycleIn, cycleOut, deviceOut}
+use Rattle.c_records.specs.Records.{noRecord, loaderIn, loaderOut, loaderBack, turnOut, ranOut, writtenOut, readOut}
+use Rattle.twin.specs.Answers.{stateBack, seenOut, valueOut, answerOut}
+use Rattle.host.specs.Calls.{cycled, arrayCycled, steppedOf, scratchStepped, runOf, arrayRun, scratchRun, loadOf, arrayLoad, wantedLoad, scratchLoad, writtenOf, fileLeft, readOf, payloadLeft, ranNumbers}
 use Rattle.twin.specs.declared.DeviceNumbers.{DeviceNumbers}
 use Rattle.twin.specs.declared.StateNumbers.{StateNumbers}
 use Rattle.twin.specs.declared.BusNumbers.{BusNumbers}
-use Rattle.twin.specs.declared.LoaderNumbers.{LoaderNumbers}
-use Rattle.twin.specs.declared.RanNumbers.{RanNumbers}
-use Rattle.twin.proofs.Border.{deviceOut, out-state, out-record, state-back, cycle-back, record-back, state-same, record-same, no-state-improper, no-kind-refused, no-record-bad}
+use Rattle.c_records.specs.declared.LoaderNumbers.{LoaderNumbers}
+use Rattle.c_records.specs.declared.RanNumbers.{RanNumbers}
+use Rattle.twin.proofs.Border.{out-state, state-back, cycle-back, state-same, no-state-improper, no-kind-refused}
+use Rattle.c_records.proofs.Border.{out-record, record-back, record-same, no-record-bad}
 
 -- the state or record that goes back for one that came as a state's or a record's numbers
 state-given : (s t : State) → stateBack (stateOut s) t ≡ stateOut t
@@ -195,10 +197,6 @@ step-typed l b w sc =
           ∙ (λ i. record { turn = turnOut (stepOf l b w sc .turn); loader = back i }),
       λ i. scratchAfter (m i) b w sc,
     )
-
--- what a run or a load returns, as numbers
-abbrev pub ranNumbers : Ran → RanNumbers
-ranNumbers r = record { count = r .count; end = r .end; address = r .address; state = stateOut (r .state) }
 
 pub run-typed : (d : Device) (s : State) (p : Pins) (k : ℕ) (xs w sc : List ℕ)
     → (runOf (deviceOut d) (stateOut s) (p .rp) (p .vpp) k xs w sc ≡ ranNumbers (ranOf d s p k xs w sc))

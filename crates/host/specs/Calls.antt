@@ -4,19 +4,21 @@ use Prim.Native.Nat.{ℕ}
 use lib.ListN.{length}
 use Rattle.model.specs.Arrays.{answerOf, arrayAfter}
 use Rattle.stepper.specs.Front.{startOf, stepOf, scratchAfter}
+use Rattle.run.specs.declared.Ran.{Ran}
 use Rattle.run.specs.Runs.{ranOf, bytesOf, scratchOf}
 use Rattle.load.specs.Loads.{loadedOf, bytesLoaded, wantedLoaded, scratchLoaded}
 use Rattle.loadfile.specs.File.{limit, inRoom, leftIn, readerOf, writerOf, readAs, writtenAs}
-use Rattle.twin.specs.Twins.{deviceIn, pinsIn, stateIn, cycleIn, loaderIn, loaderOut}
-use Rattle.twin.specs.Answers.{answerOut, loaderBack, turnOut, writtenOut, readOut, ranOut}
+use Rattle.twin.specs.Twins.{stateOut, deviceIn, pinsIn, stateIn, cycleIn}
+use Rattle.c_records.specs.Records.{loaderIn, loaderOut, loaderBack, turnOut, writtenOut, readOut, ranOut}
+use Rattle.twin.specs.Answers.{answerOut}
 use Rattle.twin.specs.declared.DeviceNumbers.{DeviceNumbers}
 use Rattle.twin.specs.declared.StateNumbers.{StateNumbers}
 use Rattle.twin.specs.declared.BusNumbers.{BusNumbers}
 use Rattle.twin.specs.declared.AnswerNumbers.{AnswerNumbers}
-use Rattle.twin.specs.declared.LoaderNumbers.{LoaderNumbers}
-use Rattle.twin.specs.declared.GivenNumbers.{GivenNumbers}
-use Rattle.twin.specs.declared.RanNumbers.{RanNumbers}
-use Rattle.twin.specs.declared.SizedNumbers.{SizedNumbers}
+use Rattle.c_records.specs.declared.LoaderNumbers.{LoaderNumbers}
+use Rattle.c_records.specs.declared.GivenNumbers.{GivenNumbers}
+use Rattle.c_records.specs.declared.RanNumbers.{RanNumbers}
+use Rattle.c_records.specs.declared.SizedNumbers.{SizedNumbers}
 
 -- a bus cycle: the answer, and the array
 unfoldable pub cycled : DeviceNumbers → StateNumbers → BusNumbers → List ℕ → List ℕ → AnswerNumbers
@@ -40,6 +42,10 @@ steppedOf l b w sc =
 
 unfoldable pub scratchStepped : LoaderNumbers → ℕ → List ℕ → List ℕ → List ℕ
 scratchStepped l b w sc = scratchAfter (loaderIn l) b w sc
+
+-- what a run or a load returns, as numbers
+abbrev pub ranNumbers : Ran → RanNumbers
+ranNumbers r = record { count = r .count; end = r .end; address = r .address; state = stateOut (r .state) }
 
 -- a run: what it returns, the array, and scratch
 unfoldable pub runOf : DeviceNumbers → StateNumbers → ℕ → ℕ → ℕ → List ℕ → List ℕ → List ℕ → RanNumbers

@@ -5,7 +5,7 @@ use Rattle.cells.specs.Choice.{if_then_else_}
 use Rattle.device.specs.declared.Part.{Part}
 use Rattle.device.specs.Parts.{unknownPart, sizeOf, startOf, lengthOf}
 use Rattle.stepper.specs.Front.{noBlock}
-use Rattle.twin.specs.declared.BlockNumbers.{BlockNumbers}
+use Rattle.c_records.specs.declared.BlockNumbers.{BlockNumbers}
 
 -- the part of a number
 abbrev pub partBy : ℕ → Part

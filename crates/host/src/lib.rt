@@ -1,16 +1,16 @@
 // What a C program gets of the library: numbers, byte slices and structs of numbers at the border, the typed functions behind
 // it. include/torfbarke.h declares the same structs and functions.
+use c_records::BlockNumbers;
+use c_records::GivenNumbers;
+use c_records::LoaderNumbers;
+use c_records::RanNumbers;
+use c_records::SizedNumbers;
+use c_records::TurnNumbers;
 use device::Part;
 use twin::AnswerNumbers;
-use twin::BlockNumbers;
 use twin::BusNumbers;
 use twin::DeviceNumbers;
-use twin::GivenNumbers;
-use twin::LoaderNumbers;
-use twin::RanNumbers;
-use twin::SizedNumbers;
 use twin::StateNumbers;
-use twin::TurnNumbers;
 ghost use mathlib.Core.Path.{_≡_};
 ghost use lib.ListN.{take};
 ghost use Rattle.chip.specs.States.{freshState};
@@ -105,8 +105,8 @@ pub extern "C" fn tb_start(
     let turn = g.turn;
     let record = g.loader;
     GivenNumbers {
-        turn: twin::records::turn_out(turn),
-        loader: twin::records::loader_out(record),
+        turn: c_records::records::turn_out(turn),
+        loader: c_records::records::loader_out(record),
     }
 }
 
@@ -115,12 +115,12 @@ pub fn stepped(l: LoaderNumbers, byte: u8, wanted: &[u8], scratch: &mut [u8]) ->
     ensures { λ r. ⌜ (r ≡ steppedOf l byte (now (wanted .entry)) (now (scratch .entry)))
         × (now (scratch .exit) ≡ scratchStepped l byte (now (wanted .entry)) (now (scratch .entry))) ⌝ }
 {
-    let g = stepper::front::step(twin::records::loader_in(l), byte, wanted, scratch);
+    let g = stepper::front::step(c_records::records::loader_in(l), byte, wanted, scratch);
     let turn = g.turn;
     let moved = g.loader;
     GivenNumbers {
-        turn: twin::records::turn_out(turn),
-        loader: twin::records::loader_back(l, moved),
+        turn: c_records::records::turn_out(turn),
+        loader: c_records::records::loader_back(l, moved),
     }
 }
 
@@ -161,7 +161,7 @@ pub extern "C" fn tb_run(
     let s = twin::states::state_in(state);
     let p = twin::states::pins_in(rp, vpp);
     let r = run::run(d, s, p, block, array, wanted, scratch);
-    twin::states::ran_out(state, r)
+    c_records::runs::ran_out(state, r)
 }
 
 // A load of one block from a file, against the model.
@@ -187,7 +187,7 @@ pub extern "C" fn tb_load(
     let s = twin::states::state_in(state);
     let p = twin::states::pins_in(rp, vpp);
     let r = load::load(d, s, p, block, array, wanted, scratch, file, letter);
-    twin::states::ran_out(state, r)
+    c_records::runs::ran_out(state, r)
 }
 
 // The writer of a load file.
@@ -197,7 +197,7 @@ pub extern "C" fn tb_file_write(letter: u8, payload: &[u8], file: &mut [u8]) -> 
     ensures { λ _. ⌜ now (file .exit) ≡ fileLeft letter (now (payload .entry)) (now (file .entry)) ⌝ }
 {
     let written = loadfile::write(letter, payload, file);
-    twin::sizes::written_out(written)
+    c_records::sizes::written_out(written)
 }
 
 // The reader of a load file, for the letter asked.
@@ -207,7 +207,7 @@ pub extern "C" fn tb_file_read(letter: u8, file: &[u8], payload: &mut [u8]) -> S
     ensures { λ _. ⌜ now (payload .exit) ≡ payloadLeft (now (file .entry)) letter (now (payload .entry)) ⌝ }
 {
     let read = loadfile::read(file, letter, payload);
-    twin::sizes::read_out(read)
+    c_records::sizes::read_out(read)
 }
 
 // The check over the first 510 bytes, or over all where there are fewer.

@@ -18,20 +18,10 @@ use Rattle.chip.specs.declared.Phase.the-variants.{Free, EraseAwaited, DataAwai
 use Rattle.chip.specs.declared.State.{State}
 use Rattle.chip.specs.States.{atRest, proper, improper}
 use Rattle.chip.specs.Levels.{badPins, badOe, badLevels}
-use Rattle.loader.specs.declared.Stage.{Stage}
-use Rattle.loader.specs.declared.Stage.the-variants.{Clearing, Opening, Reading, EraseAsking, EraseConfirming, EraseWaiting, ProgramAsking, ProgramSending, ProgramWaiting, Closing, Verifying, Ended}
-use Rattle.loader.specs.declared.Loader.{Loader}
-use Rattle.stepper.specs.Front.{badRecord}
-use Rattle.twin.specs.Twins.{modeIn, modeOut, phaseIn, phaseOut, byteOut, noState, stateIn, stateOut, kindIn, kindOut, oeIn, cycleIn, cycleOut, stageIn, stageOut, endOut, noRecord, pollsIn, loaderIn, loaderOut}
-use Rattle.twin.specs.Answers.{stateBack, loaderBack}
-use Rattle.twin.specs.declared.DeviceNumbers.{DeviceNumbers}
+use Rattle.twin.specs.Twins.{modeIn, modeOut, phaseIn, phaseOut, byteOut, noState, stateIn, stateOut, kindIn, kindOut, oeIn, cycleIn, cycleOut}
+use Rattle.twin.specs.Answers.{stateBack}
 use Rattle.twin.specs.declared.StateNumbers.{StateNumbers}
 use Rattle.twin.specs.declared.BusNumbers.{BusNumbers}
-use Rattle.twin.specs.declared.LoaderNumbers.{LoaderNumbers}
-
--- a device's numbers
-abbrev pub deviceOut : Device → DeviceNumbers
-deviceOut d = record { number = d .part .number; program = d .program; erase = d .erase }
 
 -- a test beside one that holds
 or-yes : (a : Bool) → (a || true) ≡ true
@@ -66,21 +56,6 @@ oe-back Read oe = refl
 oe-back Write oe = refl
 oe-back Idle oe = refl
 
-stage-back : (s : Stage) → stageIn (stageOut s) (endOut s) ≡ s
-unfolding stageIn
-stage-back Clearing = refl
-stage-back Opening = refl
-stage-back Reading = refl
-stage-back EraseAsking = refl
-stage-back EraseConfirming = refl
-stage-back EraseWaiting = refl
-stage-back ProgramAsking = refl
-stage-back ProgramSending = refl
-stage-back ProgramWaiting = refl
-stage-back Closing = refl
-stage-back Verifying = refl
-stage-back (Ended n) = refl
-
 -- the numbers of a state stand for one, those of a record for one
 pub out-state : (s : State) → noState (stateOut s) ≡ false
 unfolding noState
@@ -99,24 +74,6 @@ out-state s = by-phase (s .phase) (ltb 2 (modeOut (s .mode))) (mode-low (s .mode
     by-phase Erasing t e = rw e refl
     by-phase Suspended t e = rw e refl
 
-pub out-record : (l : Loader) → noRecord (loaderOut l) ≡ false
-unfolding noRecord
-out-record l = by-stage (l .stage)
-  where
-    by-stage : (s : Stage) → (ltb 11 (stageOut s) || (not (eqb (endOut s) 0) && not (eqb (stageOut s) 11))) ≡ false
-    by-stage Clearing = refl
-    by-stage Opening = refl
-    by-stage Reading = refl
-    by-stage EraseAsking = refl
-    by-stage EraseConfirming = refl
-    by-stage EraseWaiting = refl
-    by-stage ProgramAsking = refl
-    by-stage ProgramSending = refl
-    by-stage ProgramWaiting = refl
-    by-stage Closing = refl
-    by-stage Verifying = refl
-    by-stage (Ended n) = and-none (not (eqb n 0))
-
 -- out and in again: state, cycle, record
 pub state-back : (s : State) → stateIn (stateOut s) ≡ s
 unfolding stateIn
@@ -130,13 +87,6 @@ cycle-back c =
     let k = kind-back (c .kind) in
     let oe = oe-back (c .kind) (c .oe) in
     λ i. record { kind = k i; pins = c .pins; oe = oe i; address = c .address; byte = c .byte }
-
-pub record-back : (l : Loader) → loaderIn (loaderOut l) ≡ l
-unfolding pollsIn
-record-back l =
-    let s = stage-back (l .stage) in
-    let n : pollsIn (loaderOut l) ≡ l .polls = if-false (noRecord (loaderOut l)) 65535 (l .polls) (out-record l) in
-    λ i. record { part = l .part; pins = l .pins; block = l .block; stage = s i; place = l .place; polls = n i }
 
 -- in and out again, for numbers in their range
 mode-number : (n : ℕ) → n ≤ 2 → modeOut (modeIn n) ≡ n
@@ -157,7 +107,7 @@ phase-number (suc (suc (suc (suc (suc zero))))) b h = refl
 phase-number (suc (suc (suc (suc (suc (suc k)))))) b h = absurd (omega arith)
 
 -- no byte, where none may be
-plain-byte : (b : ℕ) → (not (eqb b 0) && true) ≡ false → b ≡ 0
+pub plain-byte : (b : ℕ) → (not (eqb b 0) && true) ≡ false → b ≡ 0
 plain-byte b e = go (eqb b 0) refl e
   where
     go : (t : Bool) → eqb b 0 ≡ t → (not t && true) ≡ false → b ≡ 0
@@ -181,38 +131,6 @@ kind-number (suc zero) h = refl
 kind-number (suc (suc zero)) h = refl
 kind-number (suc (suc (suc k))) h = absurd (omega arith)
 
-stage-number : (n end : ℕ) → n ≤ 11 → stageOut (stageIn n end) ≡ n
-unfolding stageIn
-stage-number zero end h = refl
-stage-number (suc zero) end h = refl
-stage-number (suc (suc zero)) end h = refl
-stage-number (suc (suc (suc zero))) end h = refl
-stage-number (suc (suc (suc (suc zero)))) end h = refl
-stage-number (suc (suc (suc (suc (suc zero))))) end h = refl
-stage-number (suc (suc (suc (suc (suc (suc zero)))))) end h = refl
-stage-number (suc (suc (suc (suc (suc (suc (suc zero))))))) end h = refl
-stage-number (suc (suc (suc (suc (suc (suc (suc (suc zero)))))))) end h = refl
-stage-number (suc (suc (suc (suc (suc (suc (suc (suc (suc zero))))))))) end h = refl
-stage-number (suc (suc (suc (suc (suc (suc (suc (suc (suc (suc zero)))))))))) end h = refl
-stage-number (suc (suc (suc (suc (suc (suc (suc (suc (suc (suc (suc zero))))))))))) end h = refl
-stage-number (suc (suc (suc (suc (suc (suc (suc (suc (suc (suc (suc (suc k)))))))))))) end h = absurd (omega arith)
-
-end-number : (n end : ℕ) → n ≤ 11 → (not (eqb end 0) && not (eqb n 11)) ≡ false → endOut (stageIn n end) ≡ end
-unfolding stageIn
-end-number zero end h e = sym (plain-byte end e)
-end-number (suc zero) end h e = sym (plain-byte end e)
-end-number (suc (suc zero)) end h e = sym (plain-byte end e)
-end-number (suc (suc (suc zero))) end h e = sym (plain-byte end e)
-end-number (suc (suc (suc (suc zero)))) end h e = sym (plain-byte end e)
-end-number (suc (suc (suc (suc (suc zero))))) end h e = sym (plain-byte end e)
-end-number (suc (suc (suc (suc (suc (suc zero)))))) end h e = sym (plain-byte end e)
-end-number (suc (suc (suc (suc (suc (suc (suc zero))))))) end h e = sym (plain-byte end e)
-end-number (suc (suc (suc (suc (suc (suc (suc (suc zero)))))))) end h e = sym (plain-byte end e)
-end-number (suc (suc (suc (suc (suc (suc (suc (suc (suc zero))))))))) end h e = sym (plain-byte end e)
-end-number (suc (suc (suc (suc (suc (suc (suc (suc (suc (suc zero)))))))))) end h e = sym (plain-byte end e)
-end-number (suc (suc (suc (suc (suc (suc (suc (suc (suc (suc (suc zero))))))))))) end h e = refl
-end-number (suc (suc (suc (suc (suc (suc (suc (suc (suc (suc (suc (suc k)))))))))))) end h e = absurd (omega arith)
-
 -- in and out again: state, cycle, record
 pub state-numbers : (n : StateNumbers) → noState n ≡ false → stateOut (stateIn n) ≡ n
 unfolding stateIn noState
@@ -231,15 +149,6 @@ cycle-numbers n e =
     let k = kind-number (n .kind) (ltb-false 2 (n .kind) e) in
     let oe : oeIn (n .kind) (n .oe) ≡ n .oe = if-false (ltb 2 (n .kind)) 2 (n .oe) e in
     λ i. record { kind = k i; rp = n .rp; oe = oe i; byte = n .byte; vpp = n .vpp; address = n .address }
-
-pub record-numbers : (n : LoaderNumbers) → noRecord n ≡ false → loaderOut (loaderIn n) ≡ n
-unfolding pollsIn noRecord
-record-numbers n e =
-    let low : n .stage ≤ 11 = ltb-false 11 (n .stage) (or-left (ltb 11 (n .stage)) _ e) in
-    let s = stage-number (n .stage) (n .end) low in
-    let z = end-number (n .stage) (n .end) low (or-right (ltb 11 (n .stage)) _ e) in
-    let q : pollsIn n ≡ n .polls = if-false (noRecord n) 65535 (n .polls) e in
-    λ i. record { part = n .part; rp = n .rp; block = n .block; stage = s i; end = z i; vpp = n .vpp; polls = q i; place = n .place }
 
 -- at rest with SR.7 clear is improper on every device
 rest-improper : (d : Device) → improper d (atRest Array 0) ≡ true
@@ -263,16 +172,7 @@ no-kind-refused n e part =
     two-bad Write = refl
     two-bad Idle = refl
 
--- numbers that stand for no record are a bad record
-pub no-record-bad : (n : LoaderNumbers) → noRecord n ≡ true → badRecord (loaderIn n) ≡ true
-unfolding badRecord pollsIn
-no-record-bad n e = rw e refl
-
 -- a state or a record that is left as it was goes back as the numbers that came, whatever they are
 pub state-same : (n : StateNumbers) → stateBack n (stateIn n) ≡ n
 unfolding stateBack
 state-same n = if-ind (λ (x : StateNumbers). x ≡ n) (noState n) n (stateOut (stateIn n)) (λ _. refl) (λ e. state-numbers n e)
-
-pub record-same : (n : LoaderNumbers) → loaderBack n (loaderIn n) ≡ n
-unfolding loaderBack
-record-same n = if-ind (λ (x : LoaderNumbers). x ≡ n) (noRecord n) n (loaderOut (loaderIn n)) (λ _. refl) (λ e. record-numbers n e)

@@ -14,26 +14,16 @@ use Rattle.chip.specs.declared.State.{State}
 use Rattle.chip.specs.States.{improper}
 use Rattle.chip.specs.Levels.{badLevels}
 use Rattle.model.specs.declared.Answer.{Answer}
-use Rattle.loader.specs.declared.Loader.{Loader}
-use Rattle.loader.specs.declared.Turn.{Turn}
-use Rattle.stepper.specs.Front.{badRecord}
-use Rattle.run.specs.declared.Ran.{Ran}
-use Rattle.loadfile.specs.declared.Written.{Written}
-use Rattle.loadfile.specs.declared.ReadBack.{ReadBack}
-use Rattle.twin.specs.Twins.{deviceIn, pinsIn, phaseIn, noState, stateIn, stateOut, cycleIn, cycleOut, noRecord, loaderIn, loaderOut}
-use Rattle.twin.specs.Answers.{answerOut, ranOut, loaderBack, turnOut, writtenOut, readOut}
+use Rattle.twin.specs.Twins.{deviceIn, deviceOut, pinsIn, phaseIn, noState, stateIn, stateOut, cycleIn, cycleOut}
+use Rattle.twin.specs.Answers.{stateBack, answerOut}
 use Rattle.twin.specs.declared.DeviceNumbers.{DeviceNumbers}
 use Rattle.twin.specs.declared.StateNumbers.{StateNumbers}
 use Rattle.twin.specs.declared.BusNumbers.{BusNumbers}
 use Rattle.twin.specs.declared.AnswerNumbers.{AnswerNumbers}
-use Rattle.twin.specs.declared.LoaderNumbers.{LoaderNumbers}
-use Rattle.twin.specs.declared.TurnNumbers.{TurnNumbers}
-use Rattle.twin.specs.declared.RanNumbers.{RanNumbers}
-use Rattle.twin.specs.declared.SizedNumbers.{SizedNumbers}
 use Rattle.twin.proofs.Border as border
 
 -- There and back: every device, state, cycle and record has numbers, and these numbers stand for it.
-pub device-back : (d : Device) → deviceIn (border.deviceOut d) ≡ d
+pub device-back : (d : Device) → deviceIn (deviceOut d) ≡ d
 device-back d = refl
 
 pub state-back : (s : State) → stateIn (stateOut s) ≡ s
@@ -42,11 +32,8 @@ state-back = border.state-back
 pub cycle-back : (c : Cycle) → cycleIn (cycleOut c) ≡ c
 cycle-back = border.cycle-back
 
-pub record-back : (l : Loader) → loaderIn (loaderOut l) ≡ l
-record-back = border.record-back
-
 -- Back and there: numbers that stand for something are the only numbers of it.
-pub device-numbers : (n : DeviceNumbers) → border.deviceOut (deviceIn n) ≡ n
+pub device-numbers : (n : DeviceNumbers) → deviceOut (deviceIn n) ≡ n
 device-numbers n = refl
 
 pub state-numbers : (n : StateNumbers) → noState n ≡ false → stateOut (stateIn n) ≡ n
@@ -55,18 +42,12 @@ state-numbers = border.state-numbers
 pub cycle-numbers : (n : BusNumbers) → ltb 2 (n .kind) ≡ false → cycleOut (cycleIn n) ≡ n
 cycle-numbers = border.cycle-numbers
 
-pub record-numbers : (n : LoaderNumbers) → noRecord n ≡ false → loaderOut (loaderIn n) ≡ n
-record-numbers = border.record-numbers
-
 -- Numbers that stand for nothing meet the condition of their refusal: 3 for a state on every device, 4 for a kind, 3 for a record.
 pub no-state-improper : (n : StateNumbers) → noState n ≡ true → (d : Device) → improper d (stateIn n) ≡ true
 no-state-improper = border.no-state-improper
 
 pub no-kind-refused : (n : BusNumbers) → ltb 2 (n .kind) ≡ true → (part : Part) → badLevels part (cycleIn n) ≡ true
 no-kind-refused = border.no-kind-refused
-
-pub no-record-bad : (n : LoaderNumbers) → noRecord n ≡ true → badRecord (loaderIn n) ≡ true
-no-record-bad = border.no-record-bad
 
 -- Two results that a promise allows are equal.
 pub device-in-unique : (n : DeviceNumbers) → Unique (λ (r : Device). r ≡ deviceIn n)
@@ -90,23 +71,8 @@ cycle-in-unique n = only (cycleIn n)
 pub answer-out-unique : (n : StateNumbers) (a : Answer) → Unique (λ (r : AnswerNumbers). r ≡ answerOut n a)
 answer-out-unique n a = only (answerOut n a)
 
-pub ran-out-unique : (n : StateNumbers) (ran : Ran) → Unique (λ (r : RanNumbers). r ≡ ranOut n ran)
-ran-out-unique n ran = only (ranOut n ran)
+pub state-back-unique : (n : StateNumbers) (s : State) → Unique (λ (r : StateNumbers). r ≡ stateBack n s)
+state-back-unique n s = only (stateBack n s)
 
-pub loader-in-unique : (n : LoaderNumbers) → Unique (λ (r : Loader). r ≡ loaderIn n)
-loader-in-unique n = only (loaderIn n)
-
-pub loader-out-unique : (l : Loader) → Unique (λ (r : LoaderNumbers). r ≡ loaderOut l)
-loader-out-unique l = only (loaderOut l)
-
-pub loader-back-unique : (n : LoaderNumbers) (l : Loader) → Unique (λ (r : LoaderNumbers). r ≡ loaderBack n l)
-loader-back-unique n l = only (loaderBack n l)
-
-pub turn-out-unique : (turn : Turn) → Unique (λ (r : TurnNumbers). r ≡ turnOut turn)
-turn-out-unique turn = only (turnOut turn)
-
-pub written-out-unique : (written : Written) → Unique (λ (r : SizedNumbers). r ≡ writtenOut written)
-written-out-unique written = only (writtenOut written)
-
-pub read-out-unique : (read : ReadBack) → Unique (λ (r : SizedNumbers). r ≡ readOut read)
-read-out-unique read = only (readOut read)
+pub cycle-out-unique : (c : Cycle) → Unique (λ (r : BusNumbers). r ≡ cycleOut c)
+cycle-out-unique c = only (cycleOut c)

@@ -1,9 +1,8 @@
--- Device, state, cycle and loader's record as plain numbers, each way. Assumes nothing.
-use mathlib.Core.Bool.{Bool, true, false, not, _&&_, _||_}
+-- Device, state and cycle as plain numbers, each way. Assumes nothing.
+use mathlib.Core.Bool.{Bool, not, _&&_, _||_}
 use Prim.Native.Nat.{ℕ}
 use lib.Dec.{eqb, ltb}
 use Rattle.cells.specs.Choice.{if_then_else_}
-use Rattle.device.specs.declared.Part.{Part}
 use Rattle.device.specs.declared.Device.{Device}
 use Rattle.chip.specs.declared.Pins.{Pins}
 use Rattle.chip.specs.declared.Kind.{Kind}
@@ -15,18 +14,17 @@ use Rattle.chip.specs.declared.Phase.{Phase}
 use Rattle.chip.specs.declared.Phase.the-variants.{Free, EraseAwaited, DataAwaited, Programming, Erasing, Suspended}
 use Rattle.chip.specs.declared.State.{State}
 use Rattle.chip.specs.States.{atRest}
-use Rattle.loader.specs.declared.Stage.{Stage}
-use Rattle.loader.specs.declared.Stage.the-variants.{Clearing, Opening, Reading, EraseAsking, EraseConfirming, EraseWaiting, ProgramAsking, ProgramSending, ProgramWaiting, Closing, Verifying, Ended}
-use Rattle.loader.specs.declared.Loader.{Loader}
-use Rattle.loader.specs.Stages.{isEnded, endBy}
 use Rattle.twin.specs.declared.DeviceNumbers.{DeviceNumbers}
 use Rattle.twin.specs.declared.StateNumbers.{StateNumbers}
 use Rattle.twin.specs.declared.BusNumbers.{BusNumbers}
-use Rattle.twin.specs.declared.LoaderNumbers.{LoaderNumbers}
 
 -- the device that three numbers name
 abbrev pub deviceIn : DeviceNumbers → Device
 deviceIn n = record { part = record { number = n .number }; program = n .program; erase = n .erase }
+
+-- a device's numbers
+abbrev pub deviceOut : Device → DeviceNumbers
+deviceOut d = record { number = d .part .number; program = d .program; erase = d .erase }
 
 -- the levels that a run keeps fixed
 abbrev pub pinsIn : ℕ → ℕ → Pins
@@ -109,69 +107,3 @@ cycleIn n =
 abbrev pub cycleOut : Cycle → BusNumbers
 cycleOut c =
     record { kind = kindOut (c .kind); rp = c .pins .rp; oe = c .oe; byte = c .byte; vpp = c .pins .vpp; address = c .address }
-
--- stages of a load: 0 to 10 by the cycle that is out, 11 ended with a number
-unfoldable pub stageIn : ℕ → ℕ → Stage
-stageIn n end =
-    if eqb n 0 then Clearing
-    else if eqb n 1 then Opening
-    else if eqb n 2 then Reading
-    else if eqb n 3 then EraseAsking
-    else if eqb n 4 then EraseConfirming
-    else if eqb n 5 then EraseWaiting
-    else if eqb n 6 then ProgramAsking
-    else if eqb n 7 then ProgramSending
-    else if eqb n 8 then ProgramWaiting
-    else if eqb n 9 then Closing
-    else if eqb n 10 then Verifying else Ended end
-
-abbrev pub stageOut : Stage → ℕ
-stageOut Clearing = 0
-stageOut Opening = 1
-stageOut Reading = 2
-stageOut EraseAsking = 3
-stageOut EraseConfirming = 4
-stageOut EraseWaiting = 5
-stageOut ProgramAsking = 6
-stageOut ProgramSending = 7
-stageOut ProgramWaiting = 8
-stageOut Closing = 9
-stageOut Verifying = 10
-stageOut (Ended end) = 11
-
--- the number of the end, 0 while the load goes on
-abbrev pub endOut : Stage → ℕ
-endOut stage = if isEnded stage then endBy stage else 0
-
--- the numbers stand for no record: no such stage, or an end's number in a load that goes on
-unfoldable pub noRecord : LoaderNumbers → Bool
-noRecord n = ltb 11 (n .stage) || (not (eqb (n .end) 0) && not (eqb (n .stage) 11))
-
--- polls of a record; where the numbers stand for none, a count that every step refuses
-unfoldable pub pollsIn : LoaderNumbers → ℕ
-pollsIn n = if noRecord n then 65535 else n .polls
-
--- numbers as a loader's record
-abbrev pub loaderIn : LoaderNumbers → Loader
-loaderIn n =
-    record {
-      part = record { number = n .part };
-      pins = pinsIn (n .rp) (n .vpp);
-      block = n .block;
-      stage = stageIn (n .stage) (n .end);
-      place = n .place;
-      polls = pollsIn n;
-    }
-
-abbrev pub loaderOut : Loader → LoaderNumbers
-loaderOut l =
-    record {
-      part = l .part .number;
-      rp = l .pins .rp;
-      block = l .block;
-      stage = stageOut (l .stage);
-      end = endOut (l .stage);
-      vpp = l .pins .vpp;
-      polls = l .polls;
-      place = l .place;
-    }

@@ -1,8 +1,7 @@
-// Device, state, cycle, and what a cycle or a run answers, as plain numbers.
+// Device, state, cycle, and what a cycle answers, as plain numbers.
 use crate::AnswerNumbers;
 use crate::BusNumbers;
 use crate::DeviceNumbers;
-use crate::RanNumbers;
 use crate::StateNumbers;
 use chip::Cycle;
 use chip::Kind;
@@ -14,10 +13,9 @@ use device::Device;
 use device::Part;
 use model::Answer;
 use model::Seen;
-use run::Ran;
 ghost use mathlib.Core.Path.{_≡_};
 ghost use Rattle.twin.specs.Twins.{deviceIn, pinsIn, modeIn, modeOut, phaseIn, phaseOut, byteOut, noState, stateIn, stateOut, kindIn, kindOut, oeIn, cycleIn, cycleOut};
-ghost use Rattle.twin.specs.Answers.{stateBack, seenOut, valueOut, answerOut, ranOut};
+ghost use Rattle.twin.specs.Answers.{stateBack, seenOut, valueOut, answerOut};
 
 // Modes as numbers.
 pub const ARRAY: u8 = 0;
@@ -181,7 +179,7 @@ pub fn state_out(s: State) -> StateNumbers
 }
 
 // The state that goes back for one that came in.
-pub(crate) fn state_back(n: StateNumbers, s: State) -> StateNumbers
+pub fn state_back(n: StateNumbers, s: State) -> StateNumbers
     ensures { λ r. ⌜ r ≡ stateBack n s ⌝ }
 {
     if no_state(n) {
@@ -233,7 +231,7 @@ pub fn cycle_in(n: BusNumbers) -> Cycle
     }
 }
 
-pub(crate) fn cycle_out(c: Cycle) -> BusNumbers
+pub fn cycle_out(c: Cycle) -> BusNumbers
     ensures { λ r. ⌜ r ≡ cycleOut c ⌝ }
 {
     let kind = c.kind;
@@ -275,18 +273,6 @@ pub fn answer_out(n: StateNumbers, a: Answer) -> AnswerNumbers
     AnswerNumbers {
         seen: seen_out(seen),
         value: value_out(seen),
-        state: state_back(n, state),
-    }
-}
-
-pub fn ran_out(n: StateNumbers, ran: Ran) -> RanNumbers
-    ensures { λ r. ⌜ r ≡ ranOut n ran ⌝ }
-{
-    let state = ran.state;
-    RanNumbers {
-        count: ran.count,
-        end: ran.end,
-        address: ran.address,
         state: state_back(n, state),
     }
 }

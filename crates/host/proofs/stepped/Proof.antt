@@ -5,16 +5,15 @@ use mathlib.Core.Path.{_≡_, ap, _∙_}
 use Rattle.loader.specs.declared.Loader.{Loader}
 use Rattle.loader.specs.declared.Given.{Given}
 use Rattle.stepper.specs.Front.{stepOf, scratchAfter}
-use Rattle.twin.specs.Twins.{loaderIn}
-use Rattle.twin.specs.Answers.{turnOut, loaderBack}
+use Rattle.c_records.specs.Records.{loaderIn, turnOut, loaderBack}
 use Rattle.host.specs.Calls.{steppedOf, scratchStepped}
 use Rattle.host.proofs.stepped.Statement.{statement}
 use Rattle.host.proofs.stepped.Tie as tie
 use Rattle.host.proofs.stepped.Reads as reads
 use Rattle.host.proofs.stepped.Lts as lts
-use Rattle.twin.proofs.records.loader_back.Reads as loader-back-reads
-use Rattle.twin.proofs.records.loader_in.Reads as loader-in-reads
-use Rattle.twin.proofs.records.turn_out.Reads as turn-out-reads
+use Rattle.c_records.proofs.records.loader_back.Reads as loader-back-reads
+use Rattle.c_records.proofs.records.loader_in.Reads as loader-in-reads
+use Rattle.c_records.proofs.records.turn_out.Reads as turn-out-reads
 use Rattle.stepper.proofs.front.step.Reads as step-reads
 
 -- src/lib.rt:96:33

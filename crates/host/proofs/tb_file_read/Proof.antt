@@ -1,13 +1,13 @@
 use borrow.Author.Needs.{needs}
 use mathlib.Core.Path.{_≡_, ap, _∙_}
 use Rattle.loadfile.specs.declared.ReadBack.{ReadBack}
-use Rattle.twin.specs.Answers.{readOut}
+use Rattle.c_records.specs.Records.{readOut}
 use Rattle.host.specs.Calls.{readOf, payloadLeft}
 use Rattle.host.proofs.tb_file_read.Statement.{statement}
 use Rattle.host.proofs.tb_file_read.Tie as tie
 use Rattle.host.proofs.tb_file_read.Reads as reads
 use Rattle.host.proofs.tb_file_read.Lts as lts
-use Rattle.twin.proofs.sizes.read_out.Reads as read-out-reads
+use Rattle.c_records.proofs.sizes.read_out.Reads as read-out-reads
 use Rattle.loadfile.proofs.read.Reads as read-reads
 
 -- src/lib.rt:258:9

@@ -1,13 +1,13 @@
 use borrow.Author.Needs.{needs}
 use mathlib.Core.Path.{_≡_, ap, _∙_}
 use Rattle.loadfile.specs.declared.Written.{Written}
-use Rattle.twin.specs.Answers.{writtenOut}
+use Rattle.c_records.specs.Records.{writtenOut}
 use Rattle.host.specs.Calls.{writtenOf, fileLeft}
 use Rattle.host.proofs.tb_file_write.Statement.{statement}
 use Rattle.host.proofs.tb_file_write.Tie as tie
 use Rattle.host.proofs.tb_file_write.Reads as reads
 use Rattle.host.proofs.tb_file_write.Lts as lts
-use Rattle.twin.proofs.sizes.written_out.Reads as written-out-reads
+use Rattle.c_records.proofs.sizes.written_out.Reads as written-out-reads
 use Rattle.loadfile.proofs.write.Reads as write-reads
 
 -- src/lib.rt:248:9

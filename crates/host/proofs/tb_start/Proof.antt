@@ -3,16 +3,16 @@ use mathlib.Core.Path.{_≡_, ap, _∙_}
 use Rattle.chip.specs.declared.Pins.{Pins}
 use Rattle.loader.specs.declared.Given.{Given}
 use Rattle.stepper.specs.Front.{startOf}
-use Rattle.twin.specs.Twins.{pinsIn, loaderOut}
-use Rattle.twin.specs.Answers.{turnOut}
+use Rattle.twin.specs.Twins.{pinsIn}
+use Rattle.c_records.specs.Records.{loaderOut, turnOut}
 use Rattle.host.specs.Calls.{started}
 use Rattle.host.proofs.tb_start.Statement.{statement}
 use Rattle.host.proofs.tb_start.Tie as tie
 use Rattle.host.proofs.tb_start.Reads as reads
 use Rattle.host.proofs.tb_start.Lts as lts
-use Rattle.twin.proofs.records.loader_out.Reads as loader-out-reads
+use Rattle.c_records.proofs.records.loader_out.Reads as loader-out-reads
 use Rattle.twin.proofs.states.pins_in.Reads as pins-in-reads
-use Rattle.twin.proofs.records.turn_out.Reads as turn-out-reads
+use Rattle.c_records.proofs.records.turn_out.Reads as turn-out-reads
 use Rattle.stepper.proofs.front.start.Reads as start-reads
 
 -- src/lib.rt:153:41

@@ -41,14 +41,14 @@ use denote.Triple.Table.{entered, cited}
 use denote.Triple.Walked.{says, Stays, stay-ref, stay-none, stay-none-slice, gave-slice, goes-none-slice, goes-gave-slice, walkOf, AllGo, goes-none, goes-ref, Walks, ends-at, walked, walk-meets}
 use denote.Exit.{yes}
 use Rattle.host.specs.Calls.{steppedOf, scratchStepped}
-use Rattle.twin.specs.declared.LoaderNumbers.{LoaderNumbers}
-use Rattle.twin.specs.declared.GivenNumbers.{GivenNumbers}
-use Rattle.twin.proofs.LoaderNumbers as L
-use Rattle.twin.proofs.LoaderNumbers.Laws as L′
-use Rattle.twin.proofs.TurnNumbers as U
-use Rattle.twin.proofs.TurnNumbers.Laws as U′
-use Rattle.twin.proofs.GivenNumbers as G
-use Rattle.twin.proofs.GivenNumbers.Laws as G′
+use Rattle.c_records.specs.declared.LoaderNumbers.{LoaderNumbers}
+use Rattle.c_records.specs.declared.GivenNumbers.{GivenNumbers}
+use Rattle.c_records.proofs.LoaderNumbers as L
+use Rattle.c_records.proofs.LoaderNumbers.Laws as L′
+use Rattle.c_records.proofs.TurnNumbers as U
+use Rattle.c_records.proofs.TurnNumbers.Laws as U′
+use Rattle.c_records.proofs.GivenNumbers as G
+use Rattle.c_records.proofs.GivenNumbers.Laws as G′
 use Rattle.host.proofs.stepped as inner
 use Rattle.host.proofs.stepped.Symbol as inner-def
 use Rattle.host.proofs.stepped.Symbol.{name as #inner}

@@ -1,69 +1,52 @@
-use borrow.Author.Needs.{needs}
-use native.Mathlib.Omega.{arith}
-use borrow.Author.Tests.{lt-ltb, le-ltb, le-leb, lt-leb, eq-eqb, ne-eqb}
-use mathlib.Core.Path.{refl, sym, _∙_}
-use Rattle.twin.specs.Twins.{stageIn}
-use Rattle.twin.proofs.records.stage_in.Statement.{statement}
-use Rattle.twin.proofs.records.stage_in.Tie as tie
-use Rattle.twin.proofs.records.stage_in.Reads as reads
-use Rattle.twin.proofs.records.stage_in.Lts as lts
+use borrow.Author.Tests.{ne-eqb}
+use Rattle.c_records.specs.Records.{stageIn}
+use Rattle.c_records.proofs.records.stage_in.Statement.{statement}
+use Rattle.c_records.proofs.records.stage_in.Tie as tie
 
--- src/records.rt:274:1
 returns : tie.Need-returns
 unfolding stageIn
 returns c = simp (c .match .keys1)
 
--- src/records.rt:274:1
 returns-2 : tie.Need-returns-2
 unfolding stageIn
 returns-2 c = simp (c .match .keys2)
 
--- src/records.rt:274:1
 returns-3 : tie.Need-returns-3
 unfolding stageIn
 returns-3 c = simp (c .match .keys3)
 
--- src/records.rt:274:1
 returns-4 : tie.Need-returns-4
 unfolding stageIn
 returns-4 c = simp (c .match .keys4)
 
--- src/records.rt:274:1
 returns-5 : tie.Need-returns-5
 unfolding stageIn
 returns-5 c = simp (c .match .keys5)
 
--- src/records.rt:274:1
 returns-6 : tie.Need-returns-6
 unfolding stageIn
 returns-6 c = simp (c .match .keys6)
 
--- src/records.rt:274:1
 returns-7 : tie.Need-returns-7
 unfolding stageIn
 returns-7 c = simp (c .match .keys7)
 
--- src/records.rt:274:1
 returns-8 : tie.Need-returns-8
 unfolding stageIn
 returns-8 c = simp (c .match .keys8)
 
--- src/records.rt:274:1
 returns-9 : tie.Need-returns-9
 unfolding stageIn
 returns-9 c = simp (c .match .keys9)
 
--- src/records.rt:274:1
 returns-10 : tie.Need-returns-10
 unfolding stageIn
 returns-10 c = simp (c .match .keys10)
 
--- src/records.rt:274:1
 returns-11 : tie.Need-returns-11
 unfolding stageIn
 returns-11 c = simp (c .match .keys11)
 
--- src/records.rt:274:1
 returns-12 : tie.Need-returns-12
 unfolding stageIn
 returns-12 c =

@@ -3,7 +3,7 @@ use crate::SizedNumbers;
 use loadfile::ReadBack;
 use loadfile::Written;
 ghost use mathlib.Core.Path.{_≡_};
-ghost use Rattle.twin.specs.Answers.{sizedAs, writtenOut, readOut};
+ghost use Rattle.c_records.specs.Records.{sizedAs, writtenOut, readOut};
 
 fn sized_as(number: u8, size: usize) -> SizedNumbers
     ensures { λ r. ⌜ r ≡ sizedAs number size ⌝ }

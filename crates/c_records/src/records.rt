@@ -1,17 +1,16 @@
 // The loader's record, and what the loader says, as plain numbers.
-use crate::BusNumbers;
 use crate::LoaderNumbers;
 use crate::TurnNumbers;
-use crate::states::cycle_out;
-use crate::states::pins_in;
 use device::Part;
 use loader::Loader;
 use loader::Stage;
 use loader::Turn;
 use loader::stages::stage_end;
+use twin::BusNumbers;
+use twin::states::cycle_out;
+use twin::states::pins_in;
 ghost use mathlib.Core.Path.{_≡_};
-ghost use Rattle.twin.specs.Twins.{stageIn, stageOut, endOut, noRecord, pollsIn, loaderIn, loaderOut};
-ghost use Rattle.twin.specs.Answers.{loaderBack, noCycle, turnAt, turnOut};
+ghost use Rattle.c_records.specs.Records.{stageIn, stageOut, endOut, noRecord, pollsIn, loaderIn, loaderOut, loaderBack, noCycle, turnAt, turnOut};
 
 fn stage_in(n: u8, end: u8) -> Stage
     ensures { λ r. ⌜ r ≡ stageIn n end ⌝ }

@@ -1,0 +1,122 @@
+-- The loader's record, and what start, step, run, load, writer and reader say, as plain numbers. Assumes nothing.
+use mathlib.Core.Bool.{Bool, not, _&&_, _||_}
+use Prim.Native.Nat.{ℕ}
+use lib.Dec.{eqb, ltb}
+use Rattle.cells.specs.Choice.{if_then_else_}
+use Rattle.twin.specs.declared.StateNumbers.{StateNumbers}
+use Rattle.twin.specs.declared.BusNumbers.{BusNumbers}
+use Rattle.loader.specs.declared.Stage.{Stage}
+use Rattle.loader.specs.declared.Stage.the-variants.{Clearing, Opening, Reading, EraseAsking, EraseConfirming, EraseWaiting, ProgramAsking, ProgramSending, ProgramWaiting, Closing, Verifying, Ended}
+use Rattle.loader.specs.declared.Loader.{Loader}
+use Rattle.loader.specs.Stages.{isEnded, endBy}
+use Rattle.c_records.specs.declared.LoaderNumbers.{LoaderNumbers}
+use Rattle.loader.specs.declared.Turn.{Turn}
+use Rattle.loader.specs.declared.Turn.the-variants.{Out, Over, Barred}
+use Rattle.run.specs.declared.Ran.{Ran}
+use Rattle.loadfile.specs.declared.Written.{Written}
+use Rattle.loadfile.specs.declared.Written.the-variants.{Wrote, NotWritten}
+use Rattle.loadfile.specs.declared.ReadBack.{ReadBack}
+use Rattle.loadfile.specs.declared.ReadBack.the-variants.{Gave, NotRead}
+use Rattle.twin.specs.Twins.{cycleOut, pinsIn}
+use Rattle.c_records.specs.declared.TurnNumbers.{TurnNumbers}
+use Rattle.c_records.specs.declared.RanNumbers.{RanNumbers}
+use Rattle.c_records.specs.declared.SizedNumbers.{SizedNumbers}
+use Rattle.twin.specs.Answers.{stateBack}
+
+-- stages of a load: 0 to 10 by the cycle that is out, 11 ended with a number
+unfoldable pub stageIn : ℕ → ℕ → Stage
+stageIn n end =
+    if eqb n 0 then Clearing
+    else if eqb n 1 then Opening
+    else if eqb n 2 then Reading
+    else if eqb n 3 then EraseAsking
+    else if eqb n 4 then EraseConfirming
+    else if eqb n 5 then EraseWaiting
+    else if eqb n 6 then ProgramAsking
+    else if eqb n 7 then ProgramSending
+    else if eqb n 8 then ProgramWaiting
+    else if eqb n 9 then Closing
+    else if eqb n 10 then Verifying else Ended end
+
+abbrev pub stageOut : Stage → ℕ
+stageOut Clearing = 0
+stageOut Opening = 1
+stageOut Reading = 2
+stageOut EraseAsking = 3
+stageOut EraseConfirming = 4
+stageOut EraseWaiting = 5
+stageOut ProgramAsking = 6
+stageOut ProgramSending = 7
+stageOut ProgramWaiting = 8
+stageOut Closing = 9
+stageOut Verifying = 10
+stageOut (Ended end) = 11
+
+-- the number of the end, 0 while the load goes on
+abbrev pub endOut : Stage → ℕ
+endOut stage = if isEnded stage then endBy stage else 0
+
+-- the numbers stand for no record: no such stage, or an end's number in a load that goes on
+unfoldable pub noRecord : LoaderNumbers → Bool
+noRecord n = ltb 11 (n .stage) || (not (eqb (n .end) 0) && not (eqb (n .stage) 11))
+
+-- polls of a record; where the numbers stand for none, a count that every step refuses
+unfoldable pub pollsIn : LoaderNumbers → ℕ
+pollsIn n = if noRecord n then 65535 else n .polls
+
+-- numbers as a loader's record
+abbrev pub loaderIn : LoaderNumbers → Loader
+loaderIn n =
+    record {
+      part = record { number = n .part };
+      pins = pinsIn (n .rp) (n .vpp);
+      block = n .block;
+      stage = stageIn (n .stage) (n .end);
+      place = n .place;
+      polls = pollsIn n;
+    }
+
+abbrev pub loaderOut : Loader → LoaderNumbers
+loaderOut l =
+    record {
+      part = l .part .number;
+      rp = l .pins .rp;
+      block = l .block;
+      stage = stageOut (l .stage);
+      end = endOut (l .stage);
+      vpp = l .pins .vpp;
+      polls = l .polls;
+      place = l .place;
+    }
+
+-- the record that goes back for a record that came in; numbers that stand for none go back as they came
+unfoldable pub loaderBack : LoaderNumbers → Loader → LoaderNumbers
+loaderBack n l = if noRecord n then n else loaderOut l
+
+-- no cycle: all numbers zero
+abbrev pub noCycle : BusNumbers
+noCycle = record { kind = 0; rp = 0; oe = 0; byte = 0; vpp = 0; address = 0 }
+
+abbrev pub turnAt : ℕ → ℕ → ℕ → BusNumbers → TurnNumbers
+turnAt turn number address cycle = record { turn = turn; number = number; address = address; cycle = cycle }
+
+-- what a step says: 0 a cycle is out, 1 over with a number and an address, 2 refused by a number
+abbrev pub turnOut : Turn → TurnNumbers
+turnOut (Out c) = turnAt 0 0 0 (cycleOut c)
+turnOut (Over n a) = turnAt 1 n a noCycle
+turnOut (Barred n) = turnAt 2 n 0 noCycle
+
+-- bytes made and their number, or a refusal and 0
+abbrev pub sizedAs : ℕ → ℕ → SizedNumbers
+sizedAs number size = record { number = number; length = size }
+
+abbrev pub writtenOut : Written → SizedNumbers
+writtenOut (Wrote size) = sizedAs 0 size
+writtenOut (NotWritten n) = sizedAs n 0
+
+abbrev pub readOut : ReadBack → SizedNumbers
+readOut (Gave size) = sizedAs 0 size
+readOut (NotRead n) = sizedAs n 0
+
+abbrev pub ranOut : StateNumbers → Ran → RanNumbers
+ranOut n r = record { count = r .count; end = r .end; address = r .address; state = stateBack n (r .state) }
