@@ -22,7 +22,7 @@ use Rattle.model.specs.declared.Seen.the-variants.{Refused}
 use Rattle.replay.specs.declared.Replayed.{Replayed}
 use Rattle.lines.specs.Lines.{isLine, cycleIn}
 use Rattle.replay.specs.Answers.{toldOf, printedOf, markOf, endOf}
-use Rattle.replay.specs.Replays.{benchT, stepOf, arrayBy, goodLines, answersOf, outputFrom, outputOf, arrayLeft, replayedIn, heldIn}
+use Rattle.replay.specs.Replays.{benchT, stepOf, arrayBy, goodLines, answersOf, outputFrom, outputOf, arrayLeft, replayedIn, heldIn, BenchSound}
 use Rattle.replay.proofs.Scans as scans
 use Rattle.replay.proofs.Turns as turns
 use Rattle.replay.proofs.Ends as ends
@@ -35,15 +35,15 @@ step-refused = ends.step-refused
 
 -- Of its table only 4, 5, 7, 8 and 9 are left while the bench is sound (its state proper, its array of the part's length, a
 -- residue as long); a fresh bench is sound, and every step leaves it so. So 1, 2, 3 and 6 never come in the trace program.
-pub bench-refusals : (s : State) (c : Cycle) (xs : List ℕ) (r : ℕ) → never.Sound s xs → 16384 ≤ r
+pub bench-refusals : (s : State) (c : Cycle) (xs : List ℕ) (r : ℕ) → BenchSound s xs → 16384 ≤ r
     → numberOf benchT s c (length xs) r
     ≡ given (row 4 (badLevels (benchT .part) c) ∷ row 5 (pastArray (benchT .part) c) ∷ late (benchT .part) (settleOf (benchT .part) s (c .pins) .state) c)
 bench-refusals = never.left-over
 
-pub fresh-sound : (xs : List ℕ) → length xs ≡ 16384 → never.Sound freshState xs
+pub fresh-sound : (xs : List ℕ) → length xs ≡ 16384 → BenchSound freshState xs
 fresh-sound = never.fresh-sound
 
-pub stays-sound : (s : State) (c : Cycle) (xs rs : List ℕ) → never.Sound s xs → never.Sound (stepOf s c xs rs .state) (arrayBy s c xs rs)
+pub stays-sound : (s : State) (c : Cycle) (xs rs : List ℕ) → BenchSound s xs → BenchSound (stepOf s c xs rs .state) (arrayBy s c xs rs)
 stays-sound = never.stays-sound
 
 -- The replay walks the lines: a good line, before line 9999, is answered by eight bytes and the rest replayed from what it left ..

@@ -20,12 +20,7 @@ use Rattle.chip.specs.States.{improper, freshState}
 use Rattle.settling.specs.Settling.{residueFor, settleOf}
 use Rattle.bus.specs.Cycles.{numberOf, late, pastArray, shortResidue}
 use Rattle.model.proofs.Claims as model
-use Rattle.replay.specs.Replays.{benchT, stepOf, arrayBy}
-
--- the bench is sound: its state is proper, its array has the part's length
-pub record Sound (s : State) (xs : List ℕ) : Type 0 where
-  pub proper : improper benchT s ≡ false
-  pub sized : length xs ≡ 16384
+use Rattle.replay.specs.Replays.{benchT, BenchSound, stepOf, arrayBy}
 
 size-is : sizeOf (benchT .part) ≡ 16384
 unfolding sizeOf sizeIn shapeOf
@@ -52,7 +47,7 @@ long s c r h =
     ap (λ (t : Bool). (rpLow (c .pins) || vppLow (benchT .part) (c .pins)) && t) (le-ltb r (residueFor (s .phase) (benchT .part) (s .address)) (omega (arith, residue-most (s .phase) (s .address))))
     ∙ and-none (rpLow (c .pins) || vppLow (benchT .part) (c .pins))
 
-pub left-over : (s : State) (c : Cycle) (xs : List ℕ) (r : ℕ) → Sound s xs → 16384 ≤ r
+pub left-over : (s : State) (c : Cycle) (xs : List ℕ) (r : ℕ) → BenchSound s xs → 16384 ≤ r
     → numberOf benchT s c (length xs) r
     ≡ given (row 4 (badLevels (benchT .part) c) ∷ row 5 (pastArray (benchT .part) c) ∷ late (benchT .part) (settleOf (benchT .part) s (c .pins) .state) c)
 unfolding numberOf
@@ -60,9 +55,9 @@ left-over s c xs r h q =
     let e : eqb (length xs) (sizeOf (benchT .part)) ≡ true = eq-eqb (length xs) (sizeOf (benchT .part)) (h .sized ∙ sym size-is) in
     simp (known, e, h .proper, long s c r q)
 
-pub fresh-sound : (xs : List ℕ) → length xs ≡ 16384 → Sound freshState xs
+pub fresh-sound : (xs : List ℕ) → length xs ≡ 16384 → BenchSound freshState xs
 fresh-sound xs e = record { proper = model.fresh-proper benchT; sized = e }
 
-pub stays-sound : (s : State) (c : Cycle) (xs rs : List ℕ) → Sound s xs → Sound (stepOf s c xs rs .state) (arrayBy s c xs rs)
+pub stays-sound : (s : State) (c : Cycle) (xs rs : List ℕ) → BenchSound s xs → BenchSound (stepOf s c xs rs .state) (arrayBy s c xs rs)
 unfolding stepOf arrayBy
 stays-sound s c xs rs h = record { proper = model.stays-proper benchT s c xs rs (h .proper); sized = model.keeps-length benchT s c xs rs ∙ h .sized }

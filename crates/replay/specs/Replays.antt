@@ -1,4 +1,5 @@
 -- A whole trace replayed: its output, the array that it leaves, and both where the room is too short. Assumes nothing.
+use mathlib.Core.Bool.{false}
 use mathlib.Core.Path.{_≡_}
 use mathlib.Core.List.{List, [], _++_}
 use Prim.Native.Nat.{ℕ, zero, suc, _≤_}
@@ -8,7 +9,7 @@ use Rattle.cells.specs.Choice.{if_then_else_}
 use Rattle.device.specs.declared.Device.{Device}
 use Rattle.chip.specs.declared.State.{State}
 use Rattle.chip.specs.declared.Cycle.{Cycle}
-use Rattle.chip.specs.States.{freshState}
+use Rattle.chip.specs.States.{freshState, improper}
 use Rattle.model.specs.declared.Answer.{Answer}
 use Rattle.model.specs.Arrays.{answerOf, arrayAfter}
 use Rattle.lines.specs.Lines.{isLine, cycleIn}
@@ -18,6 +19,11 @@ use Rattle.replay.specs.declared.Replayed.{Replayed}
 -- bench T: device 3, a program busy for 2 cycles and an erase for 3
 abbrev pub benchT : Device
 benchT = record { part = record { number = 3 }; program = 2; erase = 3 }
+
+-- the bench is sound: its state is proper, its array has the part's length
+pub record BenchSound (s : State) (xs : List ℕ) : Type 0 where
+  pub proper : improper benchT s ≡ false
+  pub sized : length xs ≡ 16384
 
 -- one line's step on bench T: the answer, and the array after it
 unfoldable pub stepOf : State → Cycle → List ℕ → List ℕ → Answer
