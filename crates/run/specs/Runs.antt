@@ -1,6 +1,6 @@
 -- A run: its tests, its beginning and what it returns. Assumes nothing.
 use mathlib.Core.Bool.{not}
-use mathlib.Core.List.{List, [], _∷_}
+use mathlib.Core.List.{List, [], _∷_, _++_}
 use Prim.Native.Nat.{ℕ}
 use lib.ListN.{length}
 use lib.Dec.{eqb}
@@ -16,7 +16,7 @@ use Rattle.loader.specs.declared.Stage.{Stage}
 use Rattle.loader.specs.declared.Stage.the-variants.{Clearing, Opening, Reading, EraseAsking, EraseConfirming, EraseWaiting, ProgramAsking, ProgramSending, ProgramWaiting, Closing, Verifying, Ended}
 use Rattle.loader.specs.declared.Loader.{Loader}
 use Rattle.loader.specs.Stages.{endBy}
-use Rattle.stepper.specs.Front.{barredPins, noBlock, wrongLengths, recordAt, endAddress}
+use Rattle.stepper.specs.Front.{setupRows, recordAt, endAddress}
 use Rattle.run.specs.declared.Ran.{Ran}
 use Rattle.run.specs.Turns.{Config, after, bound}
 
@@ -26,11 +26,7 @@ runRows d s p k array w sc =
     row 1 (unknownDevice d)
     ∷ row 2 (not (eqb array (sizeOf (d .part))))
     ∷ row 3 (improper d s)
-    ∷ row 4 (barredPins (d .part) p)
-    ∷ row 10 (noBlock (d .part) k)
-    ∷ row 11 (wrongLengths (d .part) k w sc)
-    ∷ row 12 (underWay (s .phase))
-    ∷ []
+    ∷ (setupRows (d .part) p k w sc ++ (row 12 (underWay (s .phase)) ∷ []))
 
 unfoldable pub runNumber : Device → State → Pins → ℕ → ℕ → ℕ → ℕ → ℕ
 runNumber d s p k array w sc = given (runRows d s p k array w sc)

@@ -12,11 +12,9 @@ use loader::Stage;
 use loader::moves::ended_by;
 use loader::stages::stage_end;
 use model::Seen;
-use stepper::front::barred_pins;
 use stepper::front::end_address;
-use stepper::front::no_block;
 use stepper::front::record_at;
-use stepper::front::wrong_lengths;
+use stepper::front::setup_number;
 use stepper::outs::cycle_in;
 use stepper::outs::first;
 ghost use mathlib.Core.Path.{_≡_};
@@ -202,14 +200,9 @@ pub fn run_number(
     if chip::states::improper(d, s) {
         return 3;
     }
-    if barred_pins(part, p) {
-        return 4;
-    }
-    if no_block(part, block) {
-        return 10;
-    }
-    if wrong_lengths(part, block, wanted, scratch) {
-        return 11;
+    let n = setup_number(part, p, block, wanted, scratch);
+    if n != 0 {
+        return n;
     }
     if under_way(ph) {
         return 12;

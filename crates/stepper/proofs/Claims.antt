@@ -19,7 +19,7 @@ use Rattle.loader.specs.declared.Given.{Given}
 use Rattle.loader.specs.Moves.{nextOf}
 use Rattle.stepper.specs.Outs.{firstOf, cycleIn, cycleOf}
 use Rattle.stepper.specs.Stores.{storeIn, storeOf}
-use Rattle.stepper.specs.Front.{barredPins, noBlock, wrongLengths, startRows, stepRows, startNumber, stepNumber, recordAt, endAddress, isBarred, startOf, stepOf, scratchAfter}
+use Rattle.stepper.specs.Front.{barredPins, noBlock, wrongLengths, setupNumber, startRows, stepRows, startNumber, stepNumber, recordAt, endAddress, isBarred, startOf, stepOf, scratchAfter}
 use Rattle.stepper.proofs.Again as again
 
 -- The numbers: a start is refused by m exactly where m's own condition holds and that of no number before it does ..
@@ -75,6 +75,9 @@ no-block-unique part k = only (noBlock part k)
 
 pub wrong-lengths-unique : (part : Part) (k w sc : ℕ) → Unique (λ (r : Bool). r ≡ wrongLengths part k w sc)
 wrong-lengths-unique part k w sc = only (wrongLengths part k w sc)
+
+pub setup-number-unique : (part : Part) (p : Pins) (k w sc : ℕ) → Unique (λ (r : ℕ). r ≡ setupNumber part p k w sc)
+setup-number-unique part p k w sc = only (setupNumber part p k w sc)
 
 pub record-at-unique : (part : Part) (p : Pins) (k : ℕ) (stage : Stage) → Unique (λ (r : Loader). r ≡ recordAt part p k stage)
 record-at-unique part p k stage = only (recordAt part p k stage)

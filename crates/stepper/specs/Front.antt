@@ -37,23 +37,23 @@ wrongLengths part k w sc = not (eqb w (lengthOf part k)) || not (eqb sc (lengthO
 unfoldable pub badRecord : Loader → Bool
 badRecord l = ltb 65534 (l .polls) || (not (noBlock (l .part) (l .block)) && leb (lengthOf (l .part) (l .block)) (l .place))
 
+-- levels, block and lengths: what a start, a step and a run test alike, in their order
+abbrev pub setupRows : Part → Pins → ℕ → ℕ → ℕ → List Row
+setupRows part p k w sc = row 4 (barredPins part p) ∷ row 10 (noBlock part k) ∷ row 11 (wrongLengths part k w sc) ∷ []
+
+unfoldable pub setupNumber : Part → Pins → ℕ → ℕ → ℕ → ℕ
+setupNumber part p k w sc = given (setupRows part p k w sc)
+
 -- the tests of a start, in their order
 abbrev pub startRows : Part → Pins → ℕ → ℕ → ℕ → List Row
-startRows part p k w sc =
-    row 1 (unknownPart part) ∷ row 4 (barredPins part p) ∷ row 10 (noBlock part k) ∷ row 11 (wrongLengths part k w sc) ∷ []
+startRows part p k w sc = row 1 (unknownPart part) ∷ setupRows part p k w sc
 
 unfoldable pub startNumber : Part → Pins → ℕ → ℕ → ℕ → ℕ
 startNumber part p k w sc = given (startRows part p k w sc)
 
 -- the tests of a step, in their order
 abbrev pub stepRows : Loader → ℕ → ℕ → List Row
-stepRows l w sc =
-    row 1 (unknownPart (l .part))
-    ∷ row 3 (badRecord l)
-    ∷ row 4 (barredPins (l .part) (l .pins))
-    ∷ row 10 (noBlock (l .part) (l .block))
-    ∷ row 11 (wrongLengths (l .part) (l .block) w sc)
-    ∷ []
+stepRows l w sc = row 1 (unknownPart (l .part)) ∷ row 3 (badRecord l) ∷ setupRows (l .part) (l .pins) (l .block) w sc
 
 unfoldable pub stepNumber : Loader → ℕ → ℕ → ℕ
 stepNumber l w sc = given (stepRows l w sc)

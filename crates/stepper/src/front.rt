@@ -13,7 +13,7 @@ use loader::Turn;
 use loader::stages::stage_end;
 ghost use mathlib.Core.Path.{_≡_};
 ghost use lib.ListN.{length};
-ghost use Rattle.stepper.specs.Front.{barredPins, noBlock, wrongLengths, badRecord, startNumber, stepNumber, recordAt, endAddress, turnIn, givenBy, barredBy, startOf, stepOf, scratchAfter};
+ghost use Rattle.stepper.specs.Front.{barredPins, noBlock, wrongLengths, setupNumber, badRecord, startNumber, stepNumber, recordAt, endAddress, turnIn, givenBy, barredBy, startOf, stepOf, scratchAfter};
 
 // Refusal 4 of a loader.
 pub fn barred_pins(part: Part, p: Pins) -> bool
@@ -45,12 +45,10 @@ fn bad_record(l: Loader) -> bool
     (65534 < l.polls) | (!no_block(part, l.block) & (device::length(part, l.block) <= l.place))
 }
 
-fn start_number(part: Part, p: Pins, block: u8, wanted: usize, scratch: usize) -> u8
-    ensures { λ r. ⌜ r ≡ startNumber part p block wanted scratch ⌝ }
+// Refusals 4, 10 and 11, the first of them that applies, or 0.
+pub fn setup_number(part: Part, p: Pins, block: u8, wanted: usize, scratch: usize) -> u8
+    ensures { λ r. ⌜ r ≡ setupNumber part p block wanted scratch ⌝ }
 {
-    if device::unknown_part(part) {
-        return 1;
-    }
     if barred_pins(part, p) {
         return 4;
     }
@@ -61,6 +59,15 @@ fn start_number(part: Part, p: Pins, block: u8, wanted: usize, scratch: usize) -
         return 11;
     }
     0
+}
+
+fn start_number(part: Part, p: Pins, block: u8, wanted: usize, scratch: usize) -> u8
+    ensures { λ r. ⌜ r ≡ startNumber part p block wanted scratch ⌝ }
+{
+    if device::unknown_part(part) {
+        return 1;
+    }
+    setup_number(part, p, block, wanted, scratch)
 }
 
 fn step_number(l: Loader, wanted: usize, scratch: usize) -> u8
@@ -74,16 +81,7 @@ fn step_number(l: Loader, wanted: usize, scratch: usize) -> u8
     if bad_record(l) {
         return 3;
     }
-    if barred_pins(part, p) {
-        return 4;
-    }
-    if no_block(part, l.block) {
-        return 10;
-    }
-    if wrong_lengths(part, l.block, wanted, scratch) {
-        return 11;
-    }
-    0
+    setup_number(part, p, l.block, wanted, scratch)
 }
 
 pub fn record_at(part: Part, p: Pins, block: u8, stage: Stage) -> Loader

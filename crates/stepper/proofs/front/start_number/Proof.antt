@@ -1,6 +1,6 @@
 use borrow.Author.Needs.{needs}
 use mathlib.Core.Path.{sym, _∙_}
-use Rattle.stepper.specs.Front.{startNumber}
+use Rattle.stepper.specs.Front.{startNumber, setupNumber}
 use Rattle.stepper.proofs.front.start_number.Statement.{statement}
 use Rattle.stepper.proofs.front.start_number.Tie as tie
 
@@ -8,44 +8,16 @@ unknown-part-requires : tie.Need-unknown-part-requires
 unknown-part-requires c κs = search needs
 
 returns : tie.Need-returns
-unfolding startNumber
+unfolding startNumber setupNumber
 returns c = simp (sym (c .before .unknown-part .ensures) ∙ c .if1 .taken)
 
-barred-pins-requires : tie.Need-barred-pins-requires
-barred-pins-requires c κs = search needs
+setup-number-requires : tie.Need-setup-number-requires
+setup-number-requires c κs = search needs
 
 returns-2 : tie.Need-returns-2
-unfolding startNumber
-returns-2 c = simp (sym (c .before .barred-pins .ensures) ∙ c .if2 .taken, sym (c .before .before .before .unknown-part .ensures) ∙ c .before .before .if1 .left)
-
-no-block-requires : tie.Need-no-block-requires
-no-block-requires c κs = search needs
-
-returns-3 : tie.Need-returns-3
-unfolding startNumber
-returns-3 c = simp (sym (c .before .no-block .ensures) ∙ c .if3 .taken, sym (c .before .before .before .barred-pins .ensures) ∙ c .before .before .if2 .left, sym (c .before .before .before .before .before .unknown-part .ensures) ∙ c .before .before .before .before .if1 .left)
-
-wrong-lengths-requires : tie.Need-wrong-lengths-requires
-wrong-lengths-requires c κs = search needs
-
-returns-4 : tie.Need-returns-4
-unfolding startNumber
-returns-4 c = simp (sym (c .before .wrong-lengths .ensures) ∙ c .if4 .taken, sym (c .before .before .before .no-block .ensures) ∙ c .before .before .if3 .left, sym (c .before .before .before .before .before .barred-pins .ensures) ∙ c .before .before .before .before .if2 .left, sym (c .before .before .before .before .before .before .before .unknown-part .ensures) ∙ c .before .before .before .before .before .before .if1 .left)
-
-returns-5 : tie.Need-returns-5
-unfolding startNumber
-returns-5 c = simp (sym (c .before .wrong-lengths .ensures) ∙ c .if4 .left, sym (c .before .before .before .no-block .ensures) ∙ c .before .before .if3 .left, sym (c .before .before .before .before .before .barred-pins .ensures) ∙ c .before .before .before .before .if2 .left, sym (c .before .before .before .before .before .before .before .unknown-part .ensures) ∙ c .before .before .before .before .before .before .if1 .left)
+unfolding startNumber setupNumber
+returns-2 c = simp (c .setup-number .ensures, sym (c .before .before .unknown-part .ensures) ∙ c .before .if1 .left)
 
 pub start-number-spec : {M : Type 1} → statement M
 start-number-spec =
-    tie.close
-    (tie.spec
-    unknown-part-requires
-    returns
-    barred-pins-requires
-    returns-2
-    no-block-requires
-    returns-3
-    wrong-lengths-requires
-    returns-4
-    returns-5)
+    tie.close (tie.spec unknown-part-requires returns setup-number-requires returns-2)
