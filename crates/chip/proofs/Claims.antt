@@ -1,7 +1,7 @@
--- What is claimed of states, and that two results that a promise allows are equal, for each public function of this crate.
+-- What is claimed of levels and states, and that two results that a promise allows are equal, for each public function of this crate.
 -- Assumes nothing.
 use mathlib.Core.Path.{_≡_}
-use mathlib.Core.Bool.{Bool, _||_}
+use mathlib.Core.Bool.{Bool, true, false, _||_}
 use Prim.Native.Nat.{ℕ}
 use Rattle.cells.specs.Choice.{Unique}
 use Rattle.cells.proofs.Choice.{only}
@@ -16,7 +16,12 @@ use Rattle.chip.specs.Levels.{rpLow, vppLow, vppHigh, badPins, badLevels
 use Rattle.chip.specs.States.{isArray, isIdentifier, improper, atRest, freshState, resetOf}
 use Rattle.chip.specs.Phases.{isBusy, isPending}
 use Rattle.chip.specs.Inner.{badMode, badStatus, badLeft, badAddress}
+use Rattle.chip.proofs.Bands as bands
 use Rattle.chip.proofs.Proper as parts
+
+-- VPP high is not low, whatever the part.
+pub not-low : (part : Part) (p : Pins) → vppHigh part p ≡ true → vppLow part p ≡ false
+not-low = bands.not-low
 
 -- The code's tests of a state, part by part, are together `improper`.
 pub improper-parts : (d : Device) (s : State)

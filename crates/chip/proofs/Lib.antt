@@ -1,3 +1,4 @@
+pub mod Bands
 pub mod Ones
 pub mod Proper
 pub mod Claims

@@ -7,10 +7,10 @@ use native.Mathlib.Nat.{zero-mul, one-mul}
 use native.Mathlib.Omega.{arith}
 use lib.ListN.{length, getD, drop, length-drop}
 use lib.Seq.{length-take-le}
-use lib.Dec.{eqb, leb}
-use borrow.Author.Tests.{eqb-true, eqb-false, not-false, lt-leb, leb-true}
+use lib.Dec.{eqb}
+use borrow.Author.Tests.{eqb-true, eqb-false, not-false}
 use Rattle.cells.specs.Choice.{if_then_else_}
-use Rattle.cells.proofs.Choice.{if-true, if-false, and-left, unlike}
+use Rattle.cells.proofs.Choice.{if-true, if-false, unlike}
 use Rattle.cells.specs.Lists.{overlaid}
 use Rattle.device.specs.declared.Device.{Device}
 use Rattle.device.specs.Parts.{lengthOf, startOf}
@@ -22,7 +22,7 @@ use Rattle.chip.specs.declared.Mode.the-variants.{Array, Status}
 use Rattle.chip.specs.declared.State.{State}
 use Rattle.chip.specs.declared.Effect.{Effect}
 use Rattle.chip.specs.declared.Effect.the-variants.{Nothing}
-use Rattle.chip.specs.Levels.{vppLow, vppHigh, unlocked}
+use Rattle.chip.specs.Levels.{vppLow, unlocked}
 use Rattle.chip.specs.States.{atRest}
 use Rattle.chip.specs.Inner.{badLeft, badAddress, badStatus}
 use Rattle.bus.proofs.Facts.{Proper}
@@ -115,11 +115,6 @@ resting d s q u =
     free (Programming b) e = absurd (unlike e)
     free Erasing e = absurd (unlike e)
     free Suspended e = absurd (unlike e)
-
--- VPP in the high band is not in the low one
-pub not-low : (d : Device) (p : Pins) → vppHigh (d .part) p ≡ true → vppLow (d .part) p ≡ false
-unfolding vppHigh vppLow
-not-low d p e = lt-leb (p .vpp) 6500 (let z = leb-true 11400 (p .vpp) (and-left (leb 11400 (p .vpp)) (leb (p .vpp) 12600) e) in omega arith)
 
 some-bytes : (d : Device) (k : ℕ) → noBlock (d .part) k ≡ false → lengthOf (d .part) k ≡ 0 → ⊥
 unfolding noBlock

@@ -24,6 +24,7 @@ use Rattle.chip.specs.declared.State.{State}
 use Rattle.chip.specs.declared.Effect.{Effect}
 use Rattle.chip.specs.declared.Effect.the-variants.{Nothing, Program, Erase}
 use Rattle.chip.specs.States.{atRest}
+use Rattle.chip.proofs.Bands.{not-low}
 use Rattle.stepper.specs.Front.{endAddress}
 use Rattle.loader.specs.Walks.{risesIn}
 use Rattle.run.specs.declared.Ran.{Ran}
@@ -34,7 +35,7 @@ use Rattle.run_claims.specs.History.{Bus, World, worldOf, worldAfter, ef
 use Rattle.run.proofs.Good.{good}
 use Rattle.run_claims.specs.Made.{cyclesOfLoad, smoothLoad, cyclesOf, readsThen, pollsThen, openingThen, eraseThen, programThen, programsThen, closingOf, programmingOf}
 use Rattle.run_claims.specs.Mission.{Start, Brings, ownCycles, NoFewer, Demand3}
-use Rattle.run_claims.proofs.Demand.{Left, goal, not-low, good-load, ran-left, bytes-left, scratch-left}
+use Rattle.run_claims.proofs.Demand.{Left, goal, good-load, ran-left, bytes-left, scratch-left}
 use Rattle.run_claims.proofs.Starts.{none-refuses}
 use Rattle.run_claims.proofs.Wearing.{lies}
 use Rattle.run_claims.proofs.Least.{least}
@@ -112,7 +113,7 @@ module _ (d : Device) (s : State) (p : Pins) (k : ℕ) (xs w sc : List ℕ) (sta
 
   -- how the load is left
   loaded : Left d s p k xs w sc (goal d s p k xs w sc (start .base)) (operationsOf k a w ys) (cyclesOf d p a w ys)
-  loaded = good-load d s p k xs w sc (start .base) (not-low d p (start .high)) (start .unlock)
+  loaded = good-load d s p k xs w sc (start .base) (not-low (d .part) p (start .high)) (start .unlock)
 
   -- a load ends well, with the count of the formula, in mode read array with status 80H
   pub ends-well : ranOf d s p k xs w sc ≡ record { count = formula d w ys; end = 0; address = 0; state = atRest Array 128 }
