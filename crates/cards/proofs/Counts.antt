@@ -46,7 +46,7 @@ counts n held w lw bytes f xs sc lx ls h =
     ∙ ap result f
   where
     result : ℕ → Ran
-    result k = record { count = k; end = 0; address = 0; state = atRest Array 128 }
+    result k = record { count = k; end = 0; address = 0; state = atRest freshState Array 128 }
 
     start : Start benchT freshState normal 1 xs w sc
     start = record {

@@ -65,8 +65,8 @@ is-identifier-unique m = only (isIdentifier m)
 pub improper-unique : (d : Device) (s : State) → Unique (λ (r : Bool). r ≡ improper d s)
 improper-unique d s = only (improper d s)
 
-pub at-rest-unique : (m : Mode) (sr : ℕ) → Unique (λ (r : State). r ≡ atRest m sr)
-at-rest-unique m sr = only (atRest m sr)
+pub at-rest-unique : (s : State) (m : Mode) (sr : ℕ) → Unique (λ (r : State). r ≡ atRest s m sr)
+at-rest-unique s m sr = only (atRest s m sr)
 
 pub fresh-unique : Unique (λ (r : State). r ≡ freshState)
 fresh-unique = only freshState

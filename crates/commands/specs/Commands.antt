@@ -83,8 +83,8 @@ unsupplied part c s = vppLow part (c .pins) || isSet (s .status) SR3
 -- those of the first); otherwise the operation starts at this cycle's address with its busy time to go and SR.7 clear
 unfoldable pub startedOf : Part → Cycle → State → Phase → ℕ → ℕ → State
 startedOf part c s ph time bit =
-    if unsupplied part c s then atRest (s .mode) (withBits (withBits (s .status) SR3) bit)
-    else if locked part c then atRest (s .mode) (withBits (s .status) bit)
+    if unsupplied part c s then atRest s (s .mode) (withBits (withBits (s .status) SR3) bit)
+    else if locked part c then atRest s (s .mode) (withBits (s .status) bit)
     else record { mode = s .mode; status = withoutBits (s .status) SR7; phase = ph; left = time; address = c .address }
 
 -- what an action makes of the state
@@ -97,7 +97,7 @@ performedOf AwaitErase d c s = inPhase EraseAwaited (s .status) s
 performedOf AwaitData d c s = inPhase DataAwaited (s .status) s
 performedOf Confirm d c s = startedOf (d .part) c s Erasing (d .erase) SR5
 performedOf Store d c s = startedOf (d .part) c s (Programming (c .byte)) (d .program) SR4
-performedOf WrongSecond d c s = atRest (s .mode) (withBits (s .status) (SR5 + SR4))
+performedOf WrongSecond d c s = atRest s (s .mode) (withBits (s .status) (SR5 + SR4))
 performedOf Suspend d c s = inPhase Suspended (withBits (s .status) (SR7 + SR6)) s
 performedOf Resume d c s = inPhase Erasing (withoutBits (s .status) (SR7 + SR6)) s
 performedOf Ignore d c s = s

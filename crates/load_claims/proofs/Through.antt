@@ -78,4 +78,4 @@ module _ (d : Device) (s : State) (p : Pins) (k : ℕ) (xs w sc f : List ℕ) (a
       }
     where
       at : ℕ → Ran
-      at n = record { count = n; end = 0; address = 0; state = atRest Array 128 }
+      at n = record { count = n; end = 0; address = 0; state = atRest s Array 128 }

@@ -43,7 +43,7 @@ taken-exactly = starts.taken-exactly
 
 -- The clauses one by one. All that the run returns: the load ends well, and the count is 2n + 3 + e(2 + E) + p(2 + P).
 pub ends-well : (d : Device) (s : State) (p : Pins) (k : ℕ) (xs w sc : List ℕ) → Start d s p k xs w sc
-    → ranOf d s p k xs w sc ≡ record { count = formula d w (heldIn (startOf (d .part) k) (length w) xs); end = 0; address = 0; state = atRest Array 0x80 }
+    → ranOf d s p k xs w sc ≡ record { count = formula d w (heldIn (startOf (d .part) k) (length w) xs); end = 0; address = 0; state = atRest s Array 0x80 }
 ends-well = mission.ends-well
 
 -- The block holds the wanted bytes, every other byte is as before, and scratch holds the wanted bytes.
@@ -111,7 +111,7 @@ pub run-counts : (d : Device) (s : State) (p : Pins) (k : ℕ) (xs w sc : List �
 run-counts = counting.run-counts
 
 -- The cycles that specs/Ends lists are as many as the count that it lists: the formula for a good end, n + 5 for 21, 23 and 24.
-pub ends-counted : (d : Device) (p : Pins) (k a : ℕ) (w ys : List ℕ) → length (cyclesAs d p k a w ys) ≡ ranAs d p k w ys .count
+pub ends-counted : (d : Device) (s : State) (p : Pins) (k a : ℕ) (w ys : List ℕ) → length (cyclesAs d p k a w ys) ≡ ranAs d s p k w ys .count
 ends-counted = counting.ends-counted
 
 -- With nothing to erase or program the count is 2n + 3.

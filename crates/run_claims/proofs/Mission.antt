@@ -116,7 +116,7 @@ module _ (d : Device) (s : State) (p : Pins) (k : ℕ) (xs w sc : List ℕ) (sta
   loaded = good-load d s p k xs w sc (start .base) (not-low (d .part) p (start .high)) (start .unlock)
 
   -- a load ends well, with the count of the formula, in mode read array with status 80H
-  pub ends-well : ranOf d s p k xs w sc ≡ record { count = formula d w ys; end = 0; address = 0; state = atRest Array 128 }
+  pub ends-well : ranOf d s p k xs w sc ≡ record { count = formula d w ys; end = 0; address = 0; state = atRest s Array 128 }
   unfolding endAddress
   ends-well = ran-left d s p k xs w sc (start .base) _ _ _ loaded
 

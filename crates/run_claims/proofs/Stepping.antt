@@ -307,12 +307,12 @@ module _ (d : Device) (s : State) (p : Pins) (k : ℕ) (xs w sc : List ℕ) (fre
       }
 
 -- a run that returns what specs/Ends says counts a cycle, so nothing refused it
-some-counted : (d : Device) (p : Pins) (k : ℕ) (w ys : List ℕ) → 0 < ranAs d p k w ys .count
+some-counted : (d : Device) (s : State) (p : Pins) (k : ℕ) (w ys : List ℕ) → 0 < ranAs d s p k w ys .count
 unfolding ranAs
-some-counted d p k w ys =
-    if-ind (λ (r : Ran). 0 < r .count) (eqb (endNumber d p k w ys) 0) (wellRan d w ys) (faultRan d p w ys (endNumber d p k w ys)) (λ e. omega arith) (λ e. omega arith)
+some-counted d s p k w ys =
+    if-ind (λ (r : Ran). 0 < r .count) (eqb (endNumber d p k w ys) 0) (wellRan d s w ys) (faultRan d s p w ys (endNumber d p k w ys)) (λ e. omega arith) (λ e. omega arith)
 
 pub stepped : (d : Device) (s : State) (p : Pins) (k : ℕ) (xs w sc : List ℕ) → Whole d s p k xs w sc → Stepped d s p k xs w sc
 stepped d s p k xs w sc h =
     by-hand d s p k xs w sc
-    (run-accepted d s p k xs w sc .0 (subst (λ (r : Ran). 0 < r .count) (sym (h .ran)) (some-counted d p k w (heldIn (parts.startOf (d .part) k) (length w) xs)))) (h .smooth)
+    (run-accepted d s p k xs w sc .0 (subst (λ (r : Ran). 0 < r .count) (sym (h .ran)) (some-counted d s p k w (heldIn (parts.startOf (d .part) k) (length w) xs)))) (h .smooth)

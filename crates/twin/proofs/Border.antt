@@ -16,7 +16,7 @@ use Rattle.chip.specs.declared.Mode.the-variants.{Array, Status, Identifier}
 use Rattle.chip.specs.declared.Phase.{Phase}
 use Rattle.chip.specs.declared.Phase.the-variants.{Free, EraseAwaited, DataAwaited, Programming, Erasing, Suspended}
 use Rattle.chip.specs.declared.State.{State}
-use Rattle.chip.specs.States.{atRest, proper, improper}
+use Rattle.chip.specs.States.{atRest, freshState, proper, improper}
 use Rattle.chip.specs.Levels.{badPins, badOe, badLevels}
 use Rattle.loader.specs.declared.Stage.{Stage}
 use Rattle.loader.specs.declared.Stage.the-variants.{Clearing, Opening, Reading, EraseAsking, EraseConfirming, EraseWaiting, ProgramAsking, ProgramSending, ProgramWaiting, Closing, Verifying, Ended}
@@ -242,7 +242,7 @@ record-numbers n e =
     λ i. record { part = n .part; rp = n .rp; block = n .block; stage = s i; end = z i; vpp = n .vpp; polls = q i; place = n .place }
 
 -- at rest with SR.7 clear is improper on every device
-rest-improper : (d : Device) → improper d (atRest Array 0) ≡ true
+rest-improper : (d : Device) → improper d (atRest freshState Array 0) ≡ true
 unfolding improper proper
 rest-improper d = refl
 

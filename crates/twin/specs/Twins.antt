@@ -14,7 +14,7 @@ use Rattle.chip.specs.declared.Mode.the-variants.{Array, Status, Identifier}
 use Rattle.chip.specs.declared.Phase.{Phase}
 use Rattle.chip.specs.declared.Phase.the-variants.{Free, EraseAwaited, DataAwaited, Programming, Erasing, Suspended}
 use Rattle.chip.specs.declared.State.{State}
-use Rattle.chip.specs.States.{atRest}
+use Rattle.chip.specs.States.{atRest, freshState}
 use Rattle.loader.specs.declared.Stage.{Stage}
 use Rattle.loader.specs.declared.Stage.the-variants.{Clearing, Opening, Reading, EraseAsking, EraseConfirming, EraseWaiting, ProgramAsking, ProgramSending, ProgramWaiting, Closing, Verifying, Ended}
 use Rattle.loader.specs.declared.Loader.{Loader}
@@ -73,7 +73,7 @@ noState n = (ltb 2 (n .mode) || ltb 5 (n .phase)) || (not (eqb (n .byte) 0) && n
 -- numbers as a state; those that stand for none become one that is improper on every device: at rest with SR.7 clear
 unfoldable pub stateIn : StateNumbers → State
 stateIn n =
-    if noState n then atRest Array 0
+    if noState n then atRest freshState Array 0
     else record { mode = modeIn (n .mode); status = n .status; phase = phaseIn (n .phase) (n .byte); left = n .left; address = n .address }
 
 abbrev pub stateOut : State → StateNumbers
