@@ -12,6 +12,7 @@ use Rattle.chip.specs.declared.Cycle.{Cycle}
 use Rattle.chip.specs.declared.State.{State}
 use Rattle.chip.specs.declared.Mode.{Mode}
 use Rattle.chip.specs.declared.Phase.{Phase}
+use Rattle.chip.specs.Cells.{ones}
 use Rattle.chip.specs.Levels.{rpLow, vppLow, vppHigh, badPins, badLevels, unlocked, locked}
 use Rattle.chip.specs.States.{isArray, isIdentifier, improper, atRest, freshState, resetOf}
 use Rattle.chip.specs.Phases.{isBusy, isPending}
@@ -29,6 +30,9 @@ pub improper-parts : (d : Device) (s : State)
 improper-parts = parts.improper-parts
 
 -- Two results that a promise allows are equal.
+pub ones-unique : (part : Part) → Unique (λ (r : ℕ). r ≡ ones part)
+ones-unique part = only (ones part)
+
 pub rp-low-unique : (p : Pins) → Unique (λ (r : Bool). r ≡ rpLow p)
 rp-low-unique p = only (rpLow p)
 

@@ -178,18 +178,18 @@ module _ (d : Device) (s : State) (p : Pins) (k : ℕ) (xs w sc : List ℕ) (t :
     ready : Ready d p k
     ready = record { base = u; high = high; unlock = unlock }
 
-    counts : formula d w ys ≡ 2 * length w + 3 + ((if risesIn w ys then 2 + d .erase else 0) + phases.costs d p k u s w (g .wanted) some xs (g .sized) (length w) 0 (baseOf w ys))
-    counts = rw (phases.costs-are d p k u s w (g .wanted) some xs (g .sized) (length w) 0 (baseOf w ys)) (go (risesIn w ys))
+    counts : formula d w ys ≡ 2 * length w + 3 + ((if risesIn w ys then 2 + d .erase else 0) + phases.costs d p k u s w (g .wanted) some xs (g .sized) (length w) 0 (baseOf (d .part) w ys))
+    counts = rw (phases.costs-are d p k u s w (g .wanted) some xs (g .sized) (length w) 0 (baseOf (d .part) w ys)) (go (risesIn w ys))
       where
-        go : (x : Bool) → 2 * length w + 3 + (if x then 1 else 0) * (2 + d .erase) + programsIn w ys * (2 + d .program)
-            ≡ 2 * length w + 3 + ((if x then 2 + d .erase else 0) + programsIn w ys * (2 + d .program))
+        go : (x : Bool) → 2 * length w + 3 + (if x then 1 else 0) * (2 + d .erase) + programsIn (d .part) w ys * (2 + d .program)
+            ≡ 2 * length w + 3 + ((if x then 2 + d .erase else 0) + programsIn (d .part) w ys * (2 + d .program))
         go true = rw (one-mul (2 + d .erase)) (omega arith)
         go false = rw (zero-mul (2 + d .erase)) (omega arith)
 
-    pub good-load : Left d s p k xs w sc goal (operationsOf k a w ys) (cyclesOf d p a w ys)
+    pub good-load : Left d s p k xs w sc goal (operationsOf (d .part) k a w ys) (cyclesOf d p a w ys)
     good-load =
-        comes goal (operationsOf k a w ys) (cyclesOf d p a w ys) refl
-        (from-rest goal (operationsOf k a w ys) (cyclesOf d p a w ys)
+        comes goal (operationsOf (d .part) k a w ys) (cyclesOf d p a w ys) refl
+        (from-rest goal (operationsOf (d .part) k a w ys) (cyclesOf d p a w ys)
         (phases.loading d p k u s w (g .wanted) some xs (g .sized) ys sc ly (g .scratch ∙ sym (g .wanted)) ready (s .mode) (s .status) (formula d w ys) (ready-status d s (g .proper) (g .free)) (t .bytes)
         (over (d .program) (times d (g .known) .0)) (t .programs) (over (d .erase) (times d (g .known) .1)) (t .erases) counts))
 

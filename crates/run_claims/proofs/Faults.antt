@@ -81,7 +81,7 @@ module _ (d : Device) (p : Pins) (k : ℕ) (u : Up d p) (was : State) (w : List 
   unfolding erasedWell
   erase-keeps x n sc e z = rw (e, z) (go (isReady x))
     where
-      go : (t : Bool) → (if t && false then replicate (length sc) ones else sc) ≡ sc
+      go : (t : Bool) → (if t && false then replicate (length sc) (ones (d .part)) else sc) ≡ sc
       go true = refl
       go false = refl
 

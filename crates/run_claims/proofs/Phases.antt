@@ -377,11 +377,11 @@ module _ (d : Device) (p : Pins) (k : ℕ) (u : Up d p) (was : State) (w : List 
 
     -- the block all ones
     abbrev blank : List ℕ
-    blank = replicate (length w) ones
+    blank = replicate (length w) (ones (d .part))
 
     erased-blank : (X : List ℕ) (j : ℕ) → j ≡ k → erased (d .part) j X ≡ overlaid X a blank
     unfolding erased
-    erased-blank X j e = ap (λ (i : ℕ). overlaid X (startOf (d .part) i) (replicate (lengthOf (d .part) i) ones)) e ∙ ap (λ (n : ℕ). overlaid X a (replicate n ones)) (sym lw)
+    erased-blank X j e = ap (λ (i : ℕ). overlaid X (startOf (d .part) i) (replicate (lengthOf (d .part) i) (ones (d .part)))) e ∙ ap (λ (n : ℕ). overlaid X a (replicate n (ones (d .part)))) (sym lw)
 
     erase-poll : (q : ℕ) (sc : List ℕ) → nextOf (rec EraseWaiting 0 q) 0 w sc ≡ pollMore (rec EraseWaiting 0 q) EraseWaiting
     unfolding erasePolled
@@ -393,7 +393,7 @@ module _ (d : Device) (p : Pins) (k : ℕ) (u : Up d p) (was : State) (w : List 
 
     erase-fills : (q : ℕ) (sc : List ℕ) → length sc ≡ length w → storeOf (rec EraseWaiting 0 q) 128 sc ≡ blank
     unfolding erasedWell eraseFault bothErrors
-    erase-fills q sc e = ap (λ (n : ℕ). replicate n ones) e
+    erase-fills q sc e = ap (λ (n : ℕ). replicate n (ones (d .part))) e
 
     erased-on : (q : ℕ) (sc : List ℕ) → nextOf (rec EraseWaiting 0 q) 128 w sc ≡ onto 0 sc
     unfolding erasePolled eraseFault bothErrors
@@ -439,7 +439,7 @@ module _ (d : Device) (p : Pins) (k : ℕ) (u : Up d p) (was : State) (w : List 
         told3 q = told-first EraseWaiting 0 q Read 0 (st was Status 0 Erasing 1 a) (Gives 128) (atRest was Status 128) (Erase (blockOf (d .part) a)) refl (answers.ends d p u was k r Erasing a a refl z a-inside a-inside) refl
 
         all-erased : erased (d .part) (blockOf (d .part) a) X ≡ overlaid xs a blank
-        all-erased = erased-blank X (blockOf (d .part) a) block-first ∙ over-over xs a ys blank (a-within xs lx) (ly ∙ sym (length-replicate (length w) ones))
+        all-erased = erased-blank X (blockOf (d .part) a) block-first ∙ over-over xs a ys blank (a-within xs lx) (ly ∙ sym (length-replicate (length w) (ones (d .part))))
 
     -- one more byte of the first reads
     read-next : (i : ℕ) (sc : List ℕ) → i + 1 < length w → readMore (rec Reading i 0) w sc ≡ rec Reading (i + 1) 0
@@ -512,9 +512,9 @@ module _ (d : Device) (p : Pins) (k : ℕ) (u : Up d p) (was : State) (w : List 
           told2 = told-first Opening 0 0 Write 0xFF (atRest was m 128) Quiet (atRest was Array 128) Nothing refl (answers.opens d p u was m 128 a refl a-inside) refl
 
       -- the whole load, whether some bit must rise or none
-      pub loading : (r : Ready d p k) (m : Mode) (x c : ℕ) → fits 2 x ≡ true → Cells w → 0 < d .program → d .program ≤ 65535 → 0 < d .erase → d .erase ≤ 65535
-          → c ≡ 2 * length w + 3 + ((if risesIn w ys then 2 + d .erase else 0) + costs (length w) 0 (baseOf w ys))
-          → Reach d w (fore m x) (final (overlaid xs a w) c) (operationsOf k a w ys) (cyclesOf d p a w ys)
+      pub loading : (r : Ready d p k) (m : Mode) (x c : ℕ) → fits 2 x ≡ true → Cells (d .part) w → 0 < d .program → d .program ≤ 65535 → 0 < d .erase → d .erase ≤ 65535
+          → c ≡ 2 * length w + 3 + ((if risesIn w ys then 2 + d .erase else 0) + costs (length w) 0 (baseOf (d .part) w ys))
+          → Reach d w (fore m x) (final (overlaid xs a w) c) (operationsOf (d .part) k a w ys) (cyclesOf d p a w ys)
       loading r m x c f bw zp bp ze be q = opening m x f (final (overlaid xs a w) c) _ _ (go (risesIn w ys) refl)
         where
           End : List Effect → List Cycle → Type 0
@@ -523,14 +523,14 @@ module _ (d : Device) (p : Pins) (k : ℕ) (u : Up d p) (was : State) (w : List 
           last : List Cycle
           last = closingOf p a (length w)
 
-          go : (t : Bool) → risesIn w ys ≡ t → End (operationsOf k a w ys) (if risesIn w ys then eraseThen d p a (programmingOf d p a w ys) else programmingOf d p a w ys)
+          go : (t : Bool) → risesIn w ys ≡ t → End (operationsOf (d .part) k a w ys) (if risesIn w ys then eraseThen d p a (programmingOf d p a w ys) else programmingOf d p a w ys)
           go true t =
               rw t
               (erasing r Array (2 + length w) ys ys (final (overlaid xs a w) c) (programsOf (length w) a 0 w blank) (programsThen d p (length w) a 0 w blank last) ly ly ze be
-              (λ cnt′ y. walking r blank (length-replicate (length w) ones) (λ i h. full i h) zp bp (length w) 0 cnt′ c Status (omega arith) (let z = rw t at q in omega arith)))
+              (λ cnt′ y. walking r blank (length-replicate (length w) (ones (d .part))) (λ i h. full i h) zp bp (length w) 0 cnt′ c Status (omega arith) (let z = rw t at q in omega arith)))
             where
               full : (i : ℕ) → i < length w → bitAnd (getD blank i 0) (getD w i 0) ≡ getD w i 0
-              full i h = ap (λ (y : ℕ). bitAnd y (getD w i 0)) (getD-replicate (length w) i ones 0 h) ∙ and-ones (getD w i 0) (bw i)
+              full i h = ap (λ (y : ℕ). bitAnd y (getD w i 0)) (getD-replicate (length w) i (ones (d .part)) 0 h) ∙ and-ones (d .part) (getD w i 0) (bw i)
           go false t =
               rw t
               (walking r ys ly (λ i h. unrisen ys t i h) zp bp (length w) 0 (2 + length w) c Array (omega arith) (let z = rw t at q in omega arith))

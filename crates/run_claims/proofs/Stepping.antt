@@ -122,12 +122,12 @@ out-pins (Ended n) first here l w = refl
 
 -- two bytes move a record alike: the same byte after a read, any two after a write
 pub record Alike (stage : Stage) (l : Loader) (w sc : List ℕ) (b x : ℕ) : Type 0 where
-  pub stored : storeIn stage (l .place) b sc ≡ storeIn stage (l .place) x sc
-  pub next : nextIn stage l b w (storeIn stage (l .place) b sc) ≡ nextIn stage l x w (storeIn stage (l .place) x sc)
+  pub stored : storeIn stage (l .part) (l .place) b sc ≡ storeIn stage (l .part) (l .place) x sc
+  pub next : nextIn stage l b w (storeIn stage (l .part) (l .place) b sc) ≡ nextIn stage l x w (storeIn stage (l .part) (l .place) x sc)
 
 same-byte : (stage : Stage) (l : Loader) (w sc : List ℕ) (b x : ℕ) → b ≡ x → Alike stage l w sc b x
 same-byte stage l w sc b x q =
-    record { stored = ap (λ (y : ℕ). storeIn stage (l .place) y sc) q; next = ap (λ (y : ℕ). nextIn stage l y w (storeIn stage (l .place) y sc)) q }
+    record { stored = ap (λ (y : ℕ). storeIn stage (l .part) (l .place) y sc) q; next = ap (λ (y : ℕ). nextIn stage l y w (storeIn stage (l .part) (l .place) y sc)) q }
 
 alike : (stage : Stage) (first here : ℕ) (l : Loader) (w sc : List ℕ) (b x : ℕ) → (cycleIn stage first here l w .kind ≡ Read → b ≡ x) → Alike stage l w sc b x
 alike Clearing first here l w sc b x h = record { stored = refl; next = refl }
