@@ -17,6 +17,10 @@ use Rattle.chip.specs.Levels.{vppLow, locked}
 use Rattle.chip.specs.Status.{SR7, SR6, SR5, SR4, SR3, withBits, withoutBits, isSet}
 use Rattle.chip.specs.States.{atRest}
 
+-- the command byte of a cycle: its byte
+abbrev pub commandOf : Cycle → ℕ
+commandOf c = c .byte
+
 -- nothing awaited or running
 unfoldable pub firstWrite : ℕ → Action
 firstWrite b =
@@ -40,13 +44,13 @@ unfoldable pub whileSuspended : ℕ → Action
 whileSuspended b = if eqb b 0xFF then ToArray else if eqb b 0x70 then ToStatus else if eqb b 0xD0 then Resume else Ignore
 
 -- the command rules: after 40H every byte is data, and a busy program ignores every write
-abbrev pub actionOf : Phase → ℕ → Action
-actionOf Free b = firstWrite b
-actionOf EraseAwaited b = afterErase b
-actionOf DataAwaited b = Store
-actionOf (Programming x) b = Ignore
-actionOf Erasing b = whileErasing b
-actionOf Suspended b = whileSuspended b
+abbrev pub actionOf : Part → Phase → ℕ → Action
+actionOf part Free b = firstWrite b
+actionOf part EraseAwaited b = afterErase b
+actionOf part DataAwaited b = Store
+actionOf part (Programming x) b = Ignore
+actionOf part Erasing b = whileErasing b
+actionOf part Suspended b = whileSuspended b
 
 abbrev pub isRefuse : Action → Bool
 isRefuse ToArray = false

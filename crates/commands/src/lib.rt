@@ -87,8 +87,8 @@ fn while_suspended(b: u8) -> Action
 }
 
 // The command rules, by what the device is about and the byte written.
-pub fn action(ph: Phase, b: u8) -> Action
-    ensures { λ r. ⌜ r ≡ actionOf ph b ⌝ }
+pub fn action(part: Part, ph: Phase, b: u8) -> Action
+    ensures { λ r. ⌜ r ≡ actionOf part ph b ⌝ }
 {
     match ph {
         Phase::Free => first_write(b),

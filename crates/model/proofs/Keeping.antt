@@ -24,7 +24,7 @@ use Rattle.chip.specs.Levels.{rpLow, vppLow, locked}
 use Rattle.chip.specs.States.{atRest, freshState}
 use Rattle.chip.specs.Inner.{badMode, badStatus, badLeft, badAddress, topBits}
 use Rattle.chip.specs.Phases.{isPending, isBusy}
-use Rattle.commands.specs.Commands.{firstWrite, afterErase, whileErasing, whileSuspended, actionOf, performedOf, startedOf, unsupplied}
+use Rattle.commands.specs.Commands.{firstWrite, afterErase, whileErasing, whileSuspended, commandOf, actionOf, performedOf, startedOf, unsupplied}
 use Rattle.settling.specs.Settling.{cutBits, cutBy, countedOff, settleOf}
 use Rattle.bus.specs.Cycles.{pastArray, decideOf, acceptOf, respondOf}
 use Rattle.bus.proofs.Facts.{Proper, Fine}
@@ -106,23 +106,23 @@ full most z = or-both (eqb most 0) (ltb most most) (ne-eqb most 0 z) (le-ltb mos
 
 -- any action that the phase and the byte ask for
 pub act-proper : (d : Device) (c : Cycle) → (d .program ≡ 0 → ⊥) → (d .erase ≡ 0 → ⊥) → leb (sizeOf (d .part)) (c .address) ≡ false
-    → (s : State) (m : Mode) (x : ℕ) (ph : Phase) (l a : ℕ) → Proper d (st s m x ph l a) → Proper d (performedOf (actionOf ph (c .byte)) d c (st s m x ph l a))
+    → (s : State) (m : Mode) (x : ℕ) (ph : Phase) (l a : ℕ) → Proper d (st s m x ph l a) → Proper d (performedOf (actionOf (d .part) ph (commandOf c)) d c (st s m x ph l a))
 unfolding firstWrite afterErase whileErasing whileSuspended badStatus badLeft badAddress
 act-proper d c zp ze h s m x Free l a p =
-    if-ind P (eqb (c .byte) 0xFF) _ _ (λ e. record { mode = refl; status = p .status; left = p .left; address = p .address })
-    (λ e. if-ind P (eqb (c .byte) 0x90) _ _ (λ e. record { mode = refl; status = p .status; left = p .left; address = p .address })
-    (λ e. if-ind P (eqb (c .byte) 0x70) _ _ (λ e. record { mode = refl; status = p .status; left = p .left; address = p .address })
-    (λ e. if-ind P (eqb (c .byte) 0x50) _ _
+    if-ind P (eqb (commandOf c) 0xFF) _ _ (λ e. record { mode = refl; status = p .status; left = p .left; address = p .address })
+    (λ e. if-ind P (eqb (commandOf c) 0x90) _ _ (λ e. record { mode = refl; status = p .status; left = p .left; address = p .address })
+    (λ e. if-ind P (eqb (commandOf c) 0x70) _ _ (λ e. record { mode = refl; status = p .status; left = p .left; address = p .address })
+    (λ e. if-ind P (eqb (commandOf c) 0x50) _ _
     (λ e. record { mode = refl; status = fits-status Free (bitAnd x 0xC7) (kept (λ y. bitAnd y 0xC7) 2 2 (omega arith) sr.clear x (status-fits Free x (p .status))); left = p .left; address = p .address })
-    (λ e. if-ind P (eqb (c .byte) 0x20) _ _ (λ e. record { mode = refl; status = p .status; left = p .left; address = p .address })
-    (λ e. if-ind P (eqb (c .byte) 0x40) _ _ (λ e. record { mode = refl; status = p .status; left = p .left; address = p .address })
+    (λ e. if-ind P (eqb (commandOf c) 0x20) _ _ (λ e. record { mode = refl; status = p .status; left = p .left; address = p .address })
+    (λ e. if-ind P (eqb (commandOf c) 0x40) _ _ (λ e. record { mode = refl; status = p .status; left = p .left; address = p .address })
     (λ e. p))))))
   where
     P : Action → Type 0
     P x′ = Proper d (performedOf x′ d c (st s m x Free l a))
 act-proper d c zp ze h s m x EraseAwaited l a p =
     let f : fits 2 x ≡ true = status-fits EraseAwaited x (p .status) in
-    if-ind (λ (y : Action). Proper d (performedOf y d c (st s m x EraseAwaited l a))) (eqb (c .byte) 0xD0) _ _
+    if-ind (λ (y : Action). Proper d (performedOf y d c (st s m x EraseAwaited l a))) (eqb (commandOf c) 0xD0) _ _
     (λ e. started-proper d c (st s m x EraseAwaited l a) Erasing (d .erase) 0x20 (kept (λ y. bitOr (bitOr y 0x08) 0x20) 2 2 (omega arith) sr.low-erase x f)
     (kept (λ y. bitOr y 0x20) 2 2 (omega arith) sr.locked-erase x f)
     (record { mode = p .mode; status = fits-status Erasing (bitAnd x 0x7F) (kept (λ y. bitAnd y 0x7F) 2 0 (omega arith) sr.start x f); left = full (d .erase) ze; address = h }))
@@ -134,13 +134,13 @@ act-proper d c zp ze h s m x DataAwaited l a p =
     (record { mode = p .mode; status = fits-status (Programming (c .byte)) (bitAnd x 0x7F) (kept (λ y. bitAnd y 0x7F) 2 0 (omega arith) sr.start x f); left = full (d .program) zp; address = h })
 act-proper d c zp ze h s m x (Programming b) l a p = p
 act-proper d c zp ze h s m x Erasing l a p =
-    if-ind (λ (y : Action). Proper d (performedOf y d c (st s m x Erasing l a))) (eqb (c .byte) 0xB0) _ _
+    if-ind (λ (y : Action). Proper d (performedOf y d c (st s m x Erasing l a))) (eqb (commandOf c) 0xB0) _ _
     (λ e. record { mode = refl; status = fits-status Suspended (bitOr x 0xC0) (kept (λ y. bitOr y 0xC0) 0 3 (omega arith) sr.suspend x (status-fits Erasing x (p .status))); left = p .left; address = p .address })
     (λ e. p)
 act-proper d c zp ze h s m x Suspended l a p =
-    if-ind P (eqb (c .byte) 0xFF) _ _ (λ e. record { mode = refl; status = p .status; left = p .left; address = p .address })
-    (λ e. if-ind P (eqb (c .byte) 0x70) _ _ (λ e. record { mode = refl; status = p .status; left = p .left; address = p .address })
-    (λ e. if-ind P (eqb (c .byte) 0xD0) _ _
+    if-ind P (eqb (commandOf c) 0xFF) _ _ (λ e. record { mode = refl; status = p .status; left = p .left; address = p .address })
+    (λ e. if-ind P (eqb (commandOf c) 0x70) _ _ (λ e. record { mode = refl; status = p .status; left = p .left; address = p .address })
+    (λ e. if-ind P (eqb (commandOf c) 0xD0) _ _
     (λ e. record { mode = refl; status = fits-status Erasing (bitAnd x 0x3F) (kept (λ y. bitAnd y 0x3F) 3 0 (omega arith) sr.resume x (status-fits Suspended x (p .status))); left = p .left; address = p .address })
     (λ e. p)))
   where

@@ -96,7 +96,7 @@ module _ (d : Device) (p : Pins) (u : Up d p) (was : State) where
 
   -- a write to a device at rest
   rest-write : (m : Mode) (x a b : ℕ) → fits 2 x ≡ true → a < sizeOf (d .part) → lateOf (d .part) (atRest was m x) (cyc p Write a b) ≡ 0
-      → decideOf d (atRest was m x) (cyc p Write a b) (sizeOf (d .part)) 0 ≡ decidedAs Quiet (performedOf (actionOf Free b) d (cyc p Write a b) (atRest was m x)) Nothing
+      → decideOf d (atRest was m x) (cyc p Write a b) (sizeOf (d .part)) 0 ≡ decidedAs Quiet (performedOf (actionOf (d .part) Free b) d (cyc p Write a b) (atRest was m x)) Nothing
   rest-write m x a b f h l = calm-decides (atRest was m x) Write a b (rest-proper d was m x f) h refl l
 
   pub clears : (m : Mode) (x a : ℕ) → fits 2 x ≡ true → a < sizeOf (d .part)

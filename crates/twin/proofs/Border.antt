@@ -255,10 +255,10 @@ no-state-improper n e d = ap (λ (s : State). improper d s) (if-true (noState n)
 pub no-kind-refused : (n : BusNumbers) → ltb 2 (n .kind) ≡ true → (part : Part) → badLevels part (cycleIn n) ≡ true
 unfolding badLevels oeIn
 no-kind-refused n e part =
-    ap (λ (oe : ℕ). badPins part (cycleIn n .pins) || badOe (kindIn (n .kind)) oe) (if-true (ltb 2 (n .kind)) 2 (n .oe) e)
+    ap (λ (oe : ℕ). badPins part (cycleIn n .pins) || badOe part (kindIn (n .kind)) oe) (if-true (ltb 2 (n .kind)) 2 (n .oe) e)
     ∙ ap (λ (t : Bool). badPins part (cycleIn n .pins) || t) (two-bad (kindIn (n .kind))) ∙ or-yes (badPins part (cycleIn n .pins))
   where
-    two-bad : (k : Kind) → badOe k 2 ≡ true
+    two-bad : (k : Kind) → badOe part k 2 ≡ true
     two-bad Read = refl
     two-bad Write = refl
     two-bad Idle = refl
