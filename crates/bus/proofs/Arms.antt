@@ -18,10 +18,10 @@ use Rattle.chip.specs.declared.Reply.the-variants.{Quiet}
 use Rattle.chip.specs.declared.Settled.{Settled}
 use Rattle.chip.specs.declared.Decision.{Decision}
 use Rattle.chip.specs.Levels.{rpLow}
-use Rattle.commands.specs.Commands.{actionOf, isRefuse}
+use Rattle.commands.specs.Commands.{commandOf, actionOf, isRefuse}
 use Rattle.settling.specs.Settling.{settleOf}
 use Rattle.chip.specs.States.{isArray, isIdentifier}
-use Rattle.bus.specs.Cycles.{noCommand, suspendedRead, noIdentifier, judgeOf, lateOf, readOf, respondOf, refusedBy, acceptOf, decideOf}
+use Rattle.bus.specs.Cycles.{noCommand, suspendedRead, codePlace, noIdentifier, judgeOf, lateOf, readOf, respondOf, refusedBy, acceptOf, decideOf}
 use Rattle.chip.specs.Phases.{isSuspended}
 use Rattle.chip.specs.Kinds.{isRead, isWrite}
 use Rattle.bus.specs.Inner.{givenBy, inSuspended, arrayArm, identifierArm, readArm, writeArm, arm}
@@ -33,9 +33,9 @@ and-all false = refl
 
 -- the late number of each kind of cycle, with RP# up
 module _ (d : Device) (c : Cycle) (u : State) where
-  number-write : c .kind ≡ Write → rpLow (c .pins) ≡ false → lateOf (d .part) u c ≡ (if isRefuse (actionOf (u .phase) (c .byte)) then 7 else 0)
+  number-write : c .kind ≡ Write → rpLow (c .pins) ≡ false → lateOf (d .part) u c ≡ (if isRefuse (actionOf (d .part) (u .phase) (commandOf c)) then 7 else 0)
   unfolding lateOf noCommand suspendedRead noIdentifier
-  number-write k r = simp (k, r) (go (isRefuse (actionOf (u .phase) (c .byte))))
+  number-write k r = simp (k, r) (go (isRefuse (actionOf (d .part) (u .phase) (commandOf c))))
     where
       go : (x : Bool) → _≡_ {A = ℕ} (if x && true then 7 else 0) (if x then 7 else 0)
       go true = refl
@@ -62,9 +62,9 @@ module _ (d : Device) (c : Cycle) (u : State) where
       go true = refl
       go false = refl
 
-  number-identifier : c .kind ≡ Read → rpLow (c .pins) ≡ false → u .mode ≡ Identifier → lateOf (d .part) u c ≡ (if ltb 1 (c .address) then 9 else 0)
+  number-identifier : c .kind ≡ Read → rpLow (c .pins) ≡ false → u .mode ≡ Identifier → lateOf (d .part) u c ≡ (if ltb 1 (codePlace (d .part) (c .address)) then 9 else 0)
   unfolding lateOf noCommand suspendedRead noIdentifier
-  number-identifier k r m = simp (k, r, m) (go (isSuspended (u .phase)) (ltb 1 (c .address)))
+  number-identifier k r m = simp (k, r, m) (go (isSuspended (u .phase)) (ltb 1 (codePlace (d .part) (c .address))))
     where
       go : (x y : Bool) → _≡_ {A = ℕ} (if ((x && false) && eqb (blockOf (d .part) (c .address)) (blockOf (d .part) (u .address))) && true then 8 else if y && true then 9 else 0) (if y then 9 else 0)
       go true true = refl
@@ -84,9 +84,9 @@ module _ (d : Device) (s : State) (c : Cycle) (array residue : ℕ) (z : judgeOf
       (number-late d s c array residue 0 z
       (simp (
         r,
-        and-none (isWrite (c .kind) && isRefuse (actionOf (t .state .phase) (c .byte))),
+        and-none (isWrite (c .kind) && isRefuse (actionOf (d .part) (t .state .phase) (commandOf c))),
         and-none (((isRead (c .kind) && isSuspended (t .state .phase)) && isArray (t .state .mode)) && eqb (blockOf (d .part) (c .address)) (blockOf (d .part) (t .state .address))),
-        and-none ((isRead (c .kind) && isIdentifier (t .state .mode)) && ltb 1 (c .address)),
+        and-none ((isRead (c .kind) && isIdentifier (t .state .mode)) && ltb 1 (codePlace (d .part) (c .address))),
       )))
       ∙ if-true (rpLow (c .pins)) _ _ r
 
@@ -101,9 +101,9 @@ module _ (d : Device) (s : State) (c : Cycle) (array residue : ℕ) (z : judgeOf
     -- a write
     by-write : c .kind ≡ Write → decideOf d s c array residue ≡ arm Write d s c t
     unfolding writeArm
-    by-write k = by-one 7 _ (isRefuse (actionOf (t .state .phase) (c .byte))) late (λ q. omega arith) r (ap (λ (x : Kind). respondOf x d c t) k)
+    by-write k = by-one 7 _ (isRefuse (actionOf (d .part) (t .state .phase) (commandOf c))) late (λ q. omega arith) r (ap (λ (x : Kind). respondOf x d c t) k)
       where
-        late : lateOf (d .part) (t .state) c ≡ (if isRefuse (actionOf (t .state .phase) (c .byte)) then 7 else 0)
+        late : lateOf (d .part) (t .state) c ≡ (if isRefuse (actionOf (d .part) (t .state .phase) (commandOf c)) then 7 else 0)
         late = number-write d c (t .state) k r
 
     by-idle : c .kind ≡ Idle → decideOf d s c array residue ≡ arm Idle d s c t
@@ -117,7 +117,7 @@ module _ (d : Device) (s : State) (c : Cycle) (array residue : ℕ) (z : judgeOf
     unfolding arrayArm identifierArm
     by-read Array e k = by-one 8 _ (inSuspended (d .part) (t .state) (c .address)) (number-array d c (t .state) k r e) (λ q. omega arith) r (reads k e)
     by-read Status e k = by-one 8 _ false (number-status d c (t .state) k r e) (λ q. omega arith) r (reads k e)
-    by-read Identifier e k = by-one 9 _ (ltb 1 (c .address)) (number-identifier d c (t .state) k r e) (λ q. omega arith) r (reads k e)
+    by-read Identifier e k = by-one 9 _ (ltb 1 (codePlace (d .part) (c .address))) (number-identifier d c (t .state) k r e) (λ q. omega arith) r (reads k e)
 
     pub by-arms : decideOf d s c array residue ≡ arm (c .kind) d s c t
     by-arms = go (c .kind) refl

@@ -49,9 +49,9 @@ pub record Fine (d : Device) (s : State) (c : Cycle) (array residue : ℕ) : Typ
   pub levels : badLevels (d .part) c ≡ false
   pub inside : pastArray (d .part) c ≡ false
   pub enough : shortResidue (d .part) s c residue ≡ false
-  pub command : noCommand (settleOf (d .part) s (c .pins) .state) c ≡ false
+  pub command : noCommand (d .part) (settleOf (d .part) s (c .pins) .state) c ≡ false
   pub reading : suspendedRead (d .part) (settleOf (d .part) s (c .pins) .state) c ≡ false
-  pub naming : noIdentifier (settleOf (d .part) s (c .pins) .state) c ≡ false
+  pub naming : noIdentifier (d .part) (settleOf (d .part) s (c .pins) .state) c ≡ false
 
 pub fine : (d : Device) (s : State) (c : Cycle) (array residue : ℕ) → numberOf d s c array residue ≡ 0 → Fine d s c array residue
 unfolding numberOf

@@ -24,7 +24,7 @@ use Rattle.chip.specs.Kinds.{isRead, isWrite, isIdle}
 use Rattle.chip.specs.Levels.{rpLow, vppLow, badLevels}
 use Rattle.chip.specs.Phases.{isSuspended}
 use Rattle.chip.specs.States.{improper, isArray, isIdentifier}
-use Rattle.commands.specs.Commands.{actionOf, isRefuse, performedOf}
+use Rattle.commands.specs.Commands.{commandOf, actionOf, isRefuse, performedOf}
 use Rattle.settling.specs.Settling.{settleOf, residueFor}
 
 -- refusal 5: the address is past the array; not asked with RP# low, nor of an idle cycle
@@ -36,8 +36,8 @@ unfoldable pub shortResidue : Part → State → Cycle → ℕ → Bool
 shortResidue part s c residue = (rpLow (c .pins) || vppLow part (c .pins)) && ltb residue (residueFor (s .phase) part (s .address))
 
 -- refusal 7: a write of a byte that is no command
-unfoldable pub noCommand : State → Cycle → Bool
-noCommand t c = (isWrite (c .kind) && isRefuse (actionOf (t .phase) (c .byte))) && not (rpLow (c .pins))
+unfoldable pub noCommand : Part → State → Cycle → Bool
+noCommand part t c = (isWrite (c .kind) && isRefuse (actionOf part (t .phase) (commandOf c))) && not (rpLow (c .pins))
 
 -- refusal 8: an array read in the suspended block
 unfoldable pub suspendedRead : Part → State → Cycle → Bool
@@ -45,9 +45,13 @@ suspendedRead part t c =
     (((isRead (c .kind) && isSuspended (t .phase)) && isArray (t .mode)) && eqb (blockOf part (c .address)) (blockOf part (t .address)))
     && not (rpLow (c .pins))
 
+-- which identifier code an address asks for, 0 or 1, or none: the address itself
+abbrev pub codePlace : Part → ℕ → ℕ
+codePlace part a = a
+
 -- refusal 9: an identifier read elsewhere than at 0 and 1
-unfoldable pub noIdentifier : State → Cycle → Bool
-noIdentifier t c = ((isRead (c .kind) && isIdentifier (t .mode)) && ltb 1 (c .address)) && not (rpLow (c .pins))
+unfoldable pub noIdentifier : Part → State → Cycle → Bool
+noIdentifier part t c = ((isRead (c .kind) && isIdentifier (t .mode)) && ltb 1 (codePlace part (c .address))) && not (rpLow (c .pins))
 
 -- refusals 1 to 6, each by its own condition
 abbrev pub early : Device → State → Cycle → ℕ → ℕ → List Row
@@ -62,7 +66,7 @@ early d s c array residue =
 
 -- refusals 7 to 9, by the state that steps 2 and 3 would leave
 abbrev pub late : Part → State → Cycle → List Row
-late part t c = row 7 (noCommand t c) ∷ row 8 (suspendedRead part t c) ∷ row 9 (noIdentifier t c) ∷ []
+late part t c = row 7 (noCommand part t c) ∷ row 8 (suspendedRead part t c) ∷ row 9 (noIdentifier part t c) ∷ []
 
 -- the table of a cycle
 abbrev pub tableOf : Device → State → Cycle → ℕ → ℕ → List Row
@@ -90,7 +94,7 @@ refusedBy n s = decidedAs (Refuses n) s Nothing
 
 -- 89H at address 0, the part's code at 1
 unfoldable pub identifierOf : Part → ℕ → ℕ
-identifierOf part a = if eqb a 0 then 0x89 else codeOf part
+identifierOf part a = if eqb (codePlace part a) 0 then 0x89 else codeOf part
 
 -- a read, by mode
 abbrev pub readOf : Mode → Part → ℕ → ℕ → Reply
@@ -101,7 +105,7 @@ readOf Identifier part a sr = Gives (identifierOf part a)
 -- step 4: the read or write itself
 abbrev pub respondOf : Kind → Device → Cycle → Settled → Decision
 respondOf Read d c t = decidedAs (readOf (t .state .mode) (d .part) (c .address) (t .state .status)) (t .state) (t .effect)
-respondOf Write d c t = decidedAs Quiet (performedOf (actionOf (t .state .phase) (c .byte)) d c (t .state)) (t .effect)
+respondOf Write d c t = decidedAs Quiet (performedOf (actionOf (d .part) (t .state .phase) (commandOf c)) d c (t .state)) (t .effect)
 respondOf Idle d c t = decidedAs Quiet (t .state) (t .effect)
 
 -- with RP# low the cycle ends after step 1

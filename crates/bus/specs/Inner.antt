@@ -24,8 +24,8 @@ use Rattle.chip.specs.declared.Decision.{Decision}
 use Rattle.chip.specs.declared.State.{State}
 use Rattle.chip.specs.declared.Cycle.{Cycle}
 use Rattle.settling.specs.Settling.{settleOf}
-use Rattle.commands.specs.Commands.{actionOf, isRefuse, performedOf}
-use Rattle.bus.specs.Cycles.{decidedAs, refusedBy, identifierOf}
+use Rattle.commands.specs.Commands.{actionOf, isRefuse, performedOf, commandOf}
+use Rattle.bus.specs.Cycles.{decidedAs, refusedBy, identifierOf, codePlace}
 
 -- the settled state and effect under a reply
 abbrev pub givenBy : Reply → Settled → Decision
@@ -41,7 +41,7 @@ arrayArm part s c t = if inSuspended part (t .state) (c .address) then refusedBy
 
 -- an identifier read: 9, or the code
 unfoldable pub identifierArm : Part → State → Cycle → Settled → Decision
-identifierArm part s c t = if ltb 1 (c .address) then refusedBy 9 s else givenBy (Gives (identifierOf part (c .address))) t
+identifierArm part s c t = if ltb 1 (codePlace part (c .address)) then refusedBy 9 s else givenBy (Gives (identifierOf part (c .address))) t
 
 -- a read, by mode
 abbrev pub readArm : Mode → Part → State → Cycle → Settled → Decision
@@ -56,7 +56,7 @@ writeArm a d s c t = if isRefuse a then refusedBy 7 s else decidedAs Quiet (perf
 -- step 4, by the kind of the cycle
 abbrev pub arm : Kind → Device → State → Cycle → Settled → Decision
 arm Read d s c t = readArm (t .state .mode) (d .part) s c t
-arm Write d s c t = writeArm (actionOf (t .state .phase) (c .byte)) d s c t
+arm Write d s c t = writeArm (actionOf (d .part) (t .state .phase) (commandOf c)) d s c t
 arm Idle d s c t = givenBy Quiet t
 
 -- a cycle that refusals 1 to 6 do not stop; with RP# low it ends after step 1

@@ -241,7 +241,8 @@ fn respond(kind: Kind, d: Device, s: State, c: Cycle, t: Settled) -> Decision
         }
         Kind::Write => {
             let ph = after.phase;
-            write(action(ph, c.byte), d, s, c, t)
+            let part = d.part;
+            write(action(part, ph, c.byte), d, s, c, t)
         }
         Kind::Idle => given(Reply::Quiet, t),
     }

@@ -46,7 +46,7 @@ counts n held w lw bytes f xs sc lx ls h =
     ∙ ap result f
   where
     result : ℕ → Ran
-    result k = record { count = k; end = 0; address = 0; state = atRest Array 128 }
+    result k = record { count = k; end = 0; address = 0; state = atRest freshState Array 128 }
 
     start : Start benchT freshState normal 1 xs w sc
     start = record {
@@ -59,7 +59,7 @@ counts n held w lw bytes f xs sc lx ls h =
 level : (w : List ℕ) → length w ≡ 512 → formula benchT w w ≡ 1027
 level w e = go (risesIn w w) (none-risen w)
   where
-    go : (t : Bool) → t ≡ false → 2 * length w + 3 + (if t then 1 else 0) * (2 + 3) + differing (length w) 0 w (if t then replicate (length w) ones else w) * (2 + 2) ≡ 1027
+    go : (t : Bool) → t ≡ false → 2 * length w + 3 + (if t then 1 else 0) * (2 + 3) + differing (length w) 0 w (if t then replicate (length w) (ones (benchT .part)) else w) * (2 + 2) ≡ 1027
     go true q = absurd (unlike q)
     go false q = rw (none-differing (length w) 0 w, e) refl
 

@@ -107,7 +107,7 @@ abbrev pub Card2 : Type 0
 Card2 = (d : Device) (m a : ℕ) (xs : List ℕ) → unknownDevice d ≡ false → d .program ≡ suc m → a < sizeOf (d .part) → (blockOf (d .part) a ≡ 0 → ⊥)
     → length xs ≡ sizeOf (d .part) → getD xs a 0 ≡ 0x3C
     → (seenIn d (fresh xs) (cycles2 m a) ≡ NoData ∷ NoData ∷ (replicate {A = Seen} m (Byte 0) ++ (Byte 0x80 ∷ [])))
-    × (worldAfter d (fresh xs) (cycles2 m a) ≡ record { state = atRest Status 0x80; bytes = xs })
+    × (worldAfter d (fresh xs) (cycles2 m a) ≡ record { state = atRest freshState Status 0x80; bytes = xs })
     × (getD (worldAfter d (fresh xs) (cycles2 m a) .bytes) a 0 ≡ 0x3C)
 
 -- 3: 20H and then FFH show B0H, and nothing is erased in the E cycles and one more that follow
@@ -154,7 +154,7 @@ card9 = shows (worldAfter benchT (fresh (spot 255 0xF0)) (write normal 16 0x40 �
 -- a good run on block 1 of bench T, fresh, makes n cycles, whatever the other blocks and scratch hold
 abbrev pub Counts : ℕ → List ℕ → List ℕ → Type 0
 Counts n held wanted = (xs sc : List ℕ) → length xs ≡ 16384 → length sc ≡ 512 → heldIn 0x3A00 512 xs ≡ held
-    → ranOf benchT freshState normal 1 xs wanted sc ≡ record { count = n; end = 0; address = 0; state = atRest Array 0x80 }
+    → ranOf benchT freshState normal 1 xs wanted sc ≡ record { count = n; end = 0; address = 0; state = atRest freshState Array 0x80 }
 
 -- 10: the block held FFH, wanted is 5AH and then FFH: 1,031 cycles
 abbrev pub Card10 : Type 0

@@ -1,7 +1,7 @@
--- What is claimed of states, and that two results that a promise allows are equal, for each public function of this crate.
+-- What is claimed of levels and states, and that two results that a promise allows are equal, for each public function of this crate.
 -- Assumes nothing.
 use mathlib.Core.Path.{_≡_}
-use mathlib.Core.Bool.{Bool, _||_}
+use mathlib.Core.Bool.{Bool, true, false, _||_}
 use Prim.Native.Nat.{ℕ}
 use Rattle.cells.specs.Choice.{Unique}
 use Rattle.cells.proofs.Choice.{only}
@@ -12,11 +12,17 @@ use Rattle.chip.specs.declared.Cycle.{Cycle}
 use Rattle.chip.specs.declared.State.{State}
 use Rattle.chip.specs.declared.Mode.{Mode}
 use Rattle.chip.specs.declared.Phase.{Phase}
+use Rattle.chip.specs.Cells.{ones}
 use Rattle.chip.specs.Levels.{rpLow, vppLow, vppHigh, badPins, badLevels, unlocked, locked}
 use Rattle.chip.specs.States.{isArray, isIdentifier, improper, atRest, freshState, resetOf}
 use Rattle.chip.specs.Phases.{isBusy, isPending}
 use Rattle.chip.specs.Inner.{badMode, badStatus, badLeft, badAddress}
+use Rattle.chip.proofs.Bands as bands
 use Rattle.chip.proofs.Proper as parts
+
+-- VPP high is not low, whatever the part.
+pub not-low : (part : Part) (p : Pins) → vppHigh part p ≡ true → vppLow part p ≡ false
+not-low = bands.not-low
 
 -- The code's tests of a state, part by part, are together `improper`.
 pub improper-parts : (d : Device) (s : State)
@@ -24,6 +30,9 @@ pub improper-parts : (d : Device) (s : State)
 improper-parts = parts.improper-parts
 
 -- Two results that a promise allows are equal.
+pub ones-unique : (part : Part) → Unique (λ (r : ℕ). r ≡ ones part)
+ones-unique part = only (ones part)
+
 pub rp-low-unique : (p : Pins) → Unique (λ (r : Bool). r ≡ rpLow p)
 rp-low-unique p = only (rpLow p)
 
@@ -60,8 +69,8 @@ is-identifier-unique m = only (isIdentifier m)
 pub improper-unique : (d : Device) (s : State) → Unique (λ (r : Bool). r ≡ improper d s)
 improper-unique d s = only (improper d s)
 
-pub at-rest-unique : (m : Mode) (sr : ℕ) → Unique (λ (r : State). r ≡ atRest m sr)
-at-rest-unique m sr = only (atRest m sr)
+pub at-rest-unique : (s : State) (m : Mode) (sr : ℕ) → Unique (λ (r : State). r ≡ atRest s m sr)
+at-rest-unique s m sr = only (atRest s m sr)
 
 pub fresh-unique : Unique (λ (r : State). r ≡ freshState)
 fresh-unique = only freshState

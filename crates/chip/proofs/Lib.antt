@@ -1,3 +1,5 @@
+pub mod Bands
 pub mod Ones
 pub mod Proper
+pub mod Rest
 pub mod Claims

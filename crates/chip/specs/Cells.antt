@@ -2,11 +2,12 @@
 use mathlib.Core.List.{List}
 use Prim.Native.Nat.{ℕ, _≤_}
 use lib.ListN.{getD}
+use Rattle.device.specs.declared.Part.{Part}
 
--- an erased cell: all ones
-unfoldable pub ones : ℕ
-ones = 255
+-- an erased cell of a part: all ones, of a byte today
+unfoldable pub ones : Part → ℕ
+ones part = 255
 
 -- every cell is at most all ones
-abbrev pub Cells : List ℕ → Type 0
-Cells xs = (i : ℕ) → getD xs i 0 ≤ ones
+abbrev pub Cells : Part → List ℕ → Type 0
+Cells part xs = (i : ℕ) → getD xs i 0 ≤ ones part

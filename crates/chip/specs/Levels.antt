@@ -26,14 +26,14 @@ unfoldable pub badPins : Part → Pins → Bool
 badPins part p = ltb 2 (p .rp) || not (vppLow part p || vppHigh part p)
 
 -- OE# is not 0, nor 1 on a write
-abbrev pub badOe : Kind → ℕ → Bool
-badOe Read oe = ltb 0 oe
-badOe Write oe = ltb 1 oe
-badOe Idle oe = ltb 0 oe
+abbrev pub badOe : Part → Kind → ℕ → Bool
+badOe part Read oe = ltb 0 oe
+badOe part Write oe = ltb 1 oe
+badOe part Idle oe = ltb 0 oe
 
 -- refusal 4: a pin level outside what the cycle allows
 unfoldable pub badLevels : Part → Cycle → Bool
-badLevels part c = badPins part (c .pins) || badOe (c .kind) (c .oe)
+badLevels part c = badPins part (c .pins) || badOe part (c .kind) (c .oe)
 
 -- RP# or OE# at V_HH unlocks the boot block
 unfoldable pub unlocked : Part → Pins → ℕ → Bool

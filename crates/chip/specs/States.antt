@@ -78,14 +78,14 @@ proper d s =
 unfoldable pub improper : Device → State → Bool
 improper d s = not (proper d s)
 
--- nothing awaited, running or suspended, with a mode and a status
-abbrev pub atRest : Mode → ℕ → State
-atRest m sr = record { mode = m; status = sr; phase = Free; left = 0; address = 0 }
+-- a state come to rest: nothing awaited, running or suspended, with a mode and a status
+abbrev pub atRest : State → Mode → ℕ → State
+atRest s m sr = record { mode = m; status = sr; phase = Free; left = 0; address = 0 }
 
--- a fresh device: read array, 80H
+-- a fresh device: read array, 80H, nothing carried
 abbrev pub freshState : State
-freshState = atRest Array SR7
+freshState = record { mode = Array; status = SR7; phase = Free; left = 0; address = 0 }
 
 -- what RP# low makes of a state
 abbrev pub resetOf : State → State
-resetOf s = atRest Array SR7
+resetOf s = atRest s Array SR7

@@ -31,8 +31,8 @@ pub fn bad_pins(part: Part, p: Pins) -> bool
     (2 < p.rp) | !(vpp_low(part, p) | vpp_high(part, p))
 }
 
-fn bad_oe(kind: Kind, oe: u8) -> bool
-    ensures { λ r. ⌜ r ≡ badOe kind oe ⌝ }
+fn bad_oe(part: Part, kind: Kind, oe: u8) -> bool
+    ensures { λ r. ⌜ r ≡ badOe part kind oe ⌝ }
 {
     match kind {
         Kind::Read => 0 < oe,
@@ -47,7 +47,7 @@ pub fn bad_levels(part: Part, c: Cycle) -> bool
 {
     let p = c.pins;
     let kind = c.kind;
-    bad_pins(part, p) | bad_oe(kind, c.oe)
+    bad_pins(part, p) | bad_oe(part, kind, c.oe)
 }
 
 // RP# or OE# at V_HH unlocks the boot block.

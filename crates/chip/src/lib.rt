@@ -1,5 +1,6 @@
 // The values that the rules of a bus cycle are about: cycles, levels, states, effects and replies; when levels are bad and
 // when a state is proper.
+pub mod blank;
 pub mod levels;
 pub mod states;
 

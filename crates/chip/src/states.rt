@@ -151,9 +151,9 @@ pub fn improper(d: Device, s: State) -> bool
         | bad_address(d, ph, s.address)
 }
 
-// Nothing awaited, running or suspended.
-pub fn at_rest(m: Mode, status: u8) -> State
-    ensures { λ r. ⌜ r ≡ atRest m status ⌝ }
+// A state come to rest: nothing awaited, running or suspended.
+pub fn at_rest(s: State, m: Mode, status: u8) -> State
+    ensures { λ r. ⌜ r ≡ atRest s m status ⌝ }
 {
     State {
         mode: m,
@@ -168,12 +168,18 @@ pub fn at_rest(m: Mode, status: u8) -> State
 pub fn fresh() -> State
     ensures { λ r. ⌜ r ≡ freshState ⌝ }
 {
-    at_rest(Mode::Array, SR7)
+    State {
+        mode: Mode::Array,
+        status: SR7,
+        phase: Phase::Free,
+        left: 0,
+        address: 0,
+    }
 }
 
 // What RP# low makes of a state.
 pub fn reset(s: State) -> State
     ensures { λ r. ⌜ r ≡ resetOf s ⌝ }
 {
-    at_rest(Mode::Array, SR7)
+    at_rest(s, Mode::Array, SR7)
 }

@@ -4,6 +4,7 @@ use mathlib.Core.Bool.{Bool}
 use Prim.Native.Nat.{ℕ}
 use Rattle.cells.specs.Choice.{Unique}
 use Rattle.cells.proofs.Choice.{only}
+use Rattle.device.specs.declared.Part.{Part}
 use Rattle.device.specs.declared.Device.{Device}
 use Rattle.chip.specs.declared.Cycle.{Cycle}
 use Rattle.chip.specs.declared.State.{State}
@@ -11,8 +12,8 @@ use Rattle.chip.specs.declared.Phase.{Phase}
 use Rattle.chip.specs.declared.Action.{Action}
 use Rattle.commands.specs.Commands.{actionOf, isRefuse, performedOf}
 
-pub action-unique : (ph : Phase) (b : ℕ) → Unique (λ (r : Action). r ≡ actionOf ph b)
-action-unique ph b = only (actionOf ph b)
+pub action-unique : (part : Part) (ph : Phase) (b : ℕ) → Unique (λ (r : Action). r ≡ actionOf part ph b)
+action-unique part ph b = only (actionOf part ph b)
 
 pub is-refuse-unique : (a : Action) → Unique (λ (r : Bool). r ≡ isRefuse a)
 is-refuse-unique a = only (isRefuse a)

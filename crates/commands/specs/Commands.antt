@@ -17,6 +17,10 @@ use Rattle.chip.specs.Levels.{vppLow, locked}
 use Rattle.chip.specs.Status.{SR7, SR6, SR5, SR4, SR3, withBits, withoutBits, isSet}
 use Rattle.chip.specs.States.{atRest}
 
+-- the command byte of a cycle: its byte
+abbrev pub commandOf : Cycle → ℕ
+commandOf c = c .byte
+
 -- nothing awaited or running
 unfoldable pub firstWrite : ℕ → Action
 firstWrite b =
@@ -40,13 +44,13 @@ unfoldable pub whileSuspended : ℕ → Action
 whileSuspended b = if eqb b 0xFF then ToArray else if eqb b 0x70 then ToStatus else if eqb b 0xD0 then Resume else Ignore
 
 -- the command rules: after 40H every byte is data, and a busy program ignores every write
-abbrev pub actionOf : Phase → ℕ → Action
-actionOf Free b = firstWrite b
-actionOf EraseAwaited b = afterErase b
-actionOf DataAwaited b = Store
-actionOf (Programming x) b = Ignore
-actionOf Erasing b = whileErasing b
-actionOf Suspended b = whileSuspended b
+abbrev pub actionOf : Part → Phase → ℕ → Action
+actionOf part Free b = firstWrite b
+actionOf part EraseAwaited b = afterErase b
+actionOf part DataAwaited b = Store
+actionOf part (Programming x) b = Ignore
+actionOf part Erasing b = whileErasing b
+actionOf part Suspended b = whileSuspended b
 
 -- the write asks for nothing that there is
 abbrev pub isRefuse : Action → Bool
@@ -84,8 +88,8 @@ unsupplied part c s = vppLow part (c .pins) || isSet (s .status) SR3
 -- those of the first); otherwise the operation starts at this cycle's address with its busy time to go and SR.7 clear
 unfoldable pub startedOf : Part → Cycle → State → Phase → ℕ → ℕ → State
 startedOf part c s ph time bit =
-    if unsupplied part c s then atRest (s .mode) (withBits (withBits (s .status) SR3) bit)
-    else if locked part c then atRest (s .mode) (withBits (s .status) bit)
+    if unsupplied part c s then atRest s (s .mode) (withBits (withBits (s .status) SR3) bit)
+    else if locked part c then atRest s (s .mode) (withBits (s .status) bit)
     else record { mode = s .mode; status = withoutBits (s .status) SR7; phase = ph; left = time; address = c .address }
 
 -- what an action makes of the state
@@ -98,7 +102,7 @@ performedOf AwaitErase d c s = inPhase EraseAwaited (s .status) s
 performedOf AwaitData d c s = inPhase DataAwaited (s .status) s
 performedOf Confirm d c s = startedOf (d .part) c s Erasing (d .erase) SR5
 performedOf Store d c s = startedOf (d .part) c s (Programming (c .byte)) (d .program) SR4
-performedOf WrongSecond d c s = atRest (s .mode) (withBits (s .status) (SR5 + SR4))
+performedOf WrongSecond d c s = atRest s (s .mode) (withBits (s .status) (SR5 + SR4))
 performedOf Suspend d c s = inPhase Suspended (withBits (s .status) (SR7 + SR6)) s
 performedOf Resume d c s = inPhase Erasing (withoutBits (s .status) (SR7 + SR6)) s
 performedOf Ignore d c s = s

@@ -87,8 +87,8 @@ fn while_suspended(b: u8) -> Action
 }
 
 // The command rules, by what the device is about and the byte written.
-pub fn action(ph: Phase, b: u8) -> Action
-    ensures { λ r. ⌜ r ≡ actionOf ph b ⌝ }
+pub fn action(part: Part, ph: Phase, b: u8) -> Action
+    ensures { λ r. ⌜ r ≡ actionOf part ph b ⌝ }
 {
     match ph {
         Phase::Free => first_write(b),
@@ -172,10 +172,10 @@ fn begin(part: Part, c: Cycle, s: State, ph: Phase, time: u16, bit: u8) -> State
 {
     let m = s.mode;
     if unsupplied(part, c, s) {
-        return at_rest(m, s.status | SR3 | bit);
+        return at_rest(s, m, s.status | SR3 | bit);
     }
     if locked(part, c) {
-        return at_rest(m, s.status | bit);
+        return at_rest(s, m, s.status | bit);
     }
     State {
         mode: m,
@@ -202,7 +202,7 @@ pub fn perform(a: Action, d: Device, c: Cycle, s: State) -> State
         Action::Store => begin(part, c, s, Phase::Programming(c.byte), d.program, SR4),
         Action::WrongSecond => {
             let m = s.mode;
-            at_rest(m, s.status | ERRORS)
+            at_rest(s, m, s.status | ERRORS)
         }
         Action::Suspend => in_phase(Phase::Suspended, s.status | HELD, s),
         Action::Resume => in_phase(Phase::Erasing, s.status & RESUMED, s),

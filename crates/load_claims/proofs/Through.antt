@@ -6,6 +6,7 @@ use native.Mathlib.Omega.{arith}
 use lib.ListN.{length, getD, replicate}
 use Rattle.cells.specs.Lists.{Bytes}
 use Rattle.cells.proofs.Bytes.{bytes-append, bytes-replicate}
+use Rattle.device.specs.declared.Part.{Part}
 use Rattle.device.specs.declared.Device.{Device}
 use Rattle.device.specs.Parts.{startOf}
 use Rattle.chip.specs.declared.Pins.{Pins}
@@ -26,9 +27,9 @@ use Rattle.load.proofs.Leaving.{made-left, rows-none}
 use Rattle.load_claims.specs.Through.{FileStart, FileLoaded}
 
 -- bytes are cells
-cells-of : (xs : List ℕ) → Bytes xs → Cells xs
+cells-of : (part : Part) (xs : List ℕ) → Bytes xs → Cells part xs
 unfolding ones
-cells-of xs h i = omega (arith, h i)
+cells-of part xs h i = omega (arith, h i)
 
 module _ (d : Device) (s : State) (p : Pins) (k : ℕ) (xs w sc f : List ℕ) (asked : ℕ) (t : FileStart d s p k xs w sc f asked) where
   -- what the load wants
@@ -51,7 +52,7 @@ module _ (d : Device) (s : State) (p : Pins) (k : ℕ) (xs w sc f : List ℕ) (a
             (subst (λ (n : ℕ). runNumber d s p k (length xs) n (length sc) ≡ 0) (sym long) (none-refuses d s p k (length xs) (length w) (length sc) f asked none .0))
             (t .programs)
             (t .erases)
-            (cells-of wish (bytes-append f (replicate (length w - length f) 255) (t .bytes) (bytes-replicate (length w - length f) 255 (omega arith))));
+            (cells-of (d .part) wish (bytes-append f (replicate (length w - length f) 255) (t .bytes) (bytes-replicate (length w - length f) 255 (omega arith))));
         high = t .high;
         unlock = t .unlock;
       }
@@ -78,4 +79,4 @@ module _ (d : Device) (s : State) (p : Pins) (k : ℕ) (xs w sc f : List ℕ) (a
       }
     where
       at : ℕ → Ran
-      at n = record { count = n; end = 0; address = 0; state = atRest Array 128 }
+      at n = record { count = n; end = 0; address = 0; state = atRest s Array 128 }

@@ -30,7 +30,7 @@ pub record FileStart (d : Device) (s : State) (p : Pins) (k : ℕ) (xs w sc f : 
 -- all of demand 3 holds of the run with the file and FFH as what is wanted, and the load leaves what that run leaves: ended well in the formula's cycles: block, wanted and scratch hold the file and FFH to the end, every byte outside is as before
 pub record FileLoaded (d : Device) (s : State) (p : Pins) (k : ℕ) (xs w sc f : List ℕ) (asked : ℕ) : Type 0 where
   pub ran : loadedOf d s p k xs w sc f asked
-      ≡ record { count = formula d (wantedOf f (length w)) (heldIn (startOf (d .part) k) (length w) xs); end = 0; address = 0; state = atRest Array 0x80 }
+      ≡ record { count = formula d (wantedOf f (length w)) (heldIn (startOf (d .part) k) (length w) xs); end = 0; address = 0; state = atRest s Array 0x80 }
   pub holds : heldIn (startOf (d .part) k) (length w) (bytesLoaded d s p k xs w sc f asked) ≡ wantedOf f (length w)
   pub before : (x : ℕ) → x < startOf (d .part) k → getD (bytesLoaded d s p k xs w sc f asked) x 0 ≡ getD xs x 0
   pub behind : (x : ℕ) → startOf (d .part) k + length w ≤ x → getD (bytesLoaded d s p k xs w sc f asked) x 0 ≡ getD xs x 0

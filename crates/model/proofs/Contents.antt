@@ -27,7 +27,7 @@ unfolding erased residual
 effect-length Nothing part rs xs w = refl
 effect-length (Program a b) part rs xs w = length-set xs a (bitAnd (getD xs a 0) b)
 effect-length (Erase k) part rs xs w =
-    overlaid-length xs (startOf part k) (replicate (lengthOf part k) ones) (rw (length-replicate (lengthOf part k) ones, w) (blocks-end-inside part k))
+    overlaid-length xs (startOf part k) (replicate (lengthOf part k) (ones part)) (rw (length-replicate (lengthOf part k) (ones part), w) (blocks-end-inside part k))
 effect-length (CutProgram a b) part rs xs w = length-set xs a (bitAnd (getD xs a 0) (bitOr b (getD rs 0 0)))
 effect-length (CutErase k) part rs xs w =
     overlaid-length xs (startOf part k) (take (lengthOf part k) rs) (rw (length-take-le (lengthOf part k) rs (w .1), w .0) (blocks-end-inside part k))
@@ -36,7 +36,7 @@ pub effect-bytes : (e : Effect) (part : Part) (rs xs : List ℕ) → Bytes rs �
 unfolding erased residual ones
 effect-bytes Nothing part rs xs r x = x
 effect-bytes (Program a b) part rs xs r x = bytes-set xs a (bitAnd (getD xs a 0) b) x (omega (arith, and-le-l (getD xs a 0) b, x a))
-effect-bytes (Erase k) part rs xs r x = bytes-overlaid xs (startOf part k) (replicate (lengthOf part k) ones) x (bytes-replicate (lengthOf part k) ones (omega arith))
+effect-bytes (Erase k) part rs xs r x = bytes-overlaid xs (startOf part k) (replicate (lengthOf part k) (ones part)) x (bytes-replicate (lengthOf part k) (ones part) (omega arith))
 effect-bytes (CutProgram a b) part rs xs r x =
     bytes-set xs a (bitAnd (getD xs a 0) (bitOr b (getD rs 0 0))) x (omega (arith, and-le-l (getD xs a 0) (bitOr b (getD rs 0 0)), x a))
 effect-bytes (CutErase k) part rs xs r x = bytes-overlaid xs (startOf part k) (take (lengthOf part k) rs) x (bytes-take (lengthOf part k) rs r)

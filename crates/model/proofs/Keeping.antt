@@ -24,7 +24,7 @@ use Rattle.chip.specs.Levels.{rpLow, vppLow, locked}
 use Rattle.chip.specs.States.{atRest, freshState}
 use Rattle.chip.specs.Inner.{badMode, badStatus, badLeft, badAddress, topBits}
 use Rattle.chip.specs.Phases.{isPending, isBusy}
-use Rattle.commands.specs.Commands.{firstWrite, afterErase, whileErasing, whileSuspended, actionOf, performedOf, startedOf, unsupplied}
+use Rattle.commands.specs.Commands.{firstWrite, afterErase, whileErasing, whileSuspended, commandOf, actionOf, performedOf, startedOf, unsupplied}
 use Rattle.settling.specs.Settling.{cutBits, cutBy, countedOff, settleOf}
 use Rattle.bus.specs.Cycles.{pastArray, decideOf, acceptOf, respondOf}
 use Rattle.bus.proofs.Facts.{Proper, Fine}
@@ -32,17 +32,17 @@ use Rattle.model.proofs.Outcome.{outcome, accept-ways}
 use Rattle.model.proofs.Status as sr
 use Rattle.model.proofs.Status.{fits, kept, status-fits, fits-status}
 
--- a state written out
-abbrev pub st : Mode → ℕ → Phase → ℕ → ℕ → State
-st m x ph l a = record { mode = m; status = x; phase = ph; left = l; address = a }
+-- a state written out, from one whose other parts it keeps
+abbrev pub st : State → Mode → ℕ → Phase → ℕ → ℕ → State
+st s m x ph l a = record { mode = m; status = x; phase = ph; left = l; address = a }
 
 -- at rest with a ready status is proper, whatever the mode
-pub rest-proper : (d : Device) (m : Mode) (x : ℕ) → fits 2 x ≡ true → Proper d (atRest m x)
+pub rest-proper : (d : Device) (s : State) (m : Mode) (x : ℕ) → fits 2 x ≡ true → Proper d (atRest s m x)
 unfolding badLeft badAddress
-rest-proper d m x e = record { mode = refl; status = fits-status Free x e; left = refl; address = refl }
+rest-proper d s m x e = record { mode = refl; status = fits-status Free x e; left = refl; address = refl }
 
 pub fresh-proper : (d : Device) → Proper d freshState
-fresh-proper d = rest-proper d Array 0x80 refl
+fresh-proper d = rest-proper d freshState Array 0x80 refl
 
 cut-status : (ph : Phase) → isPending ph ≡ true → (x : ℕ) → fits (topBits ph) x ≡ true → fits 2 (bitOr (bitAnd x 0xBF) (cutBits ph)) ≡ true
 cut-status Free p x e = absurd (unlike (sym p))
@@ -79,13 +79,13 @@ counted-left d Suspended l p h e = absurd (unlike (sym p))
 pub settle-proper : (d : Device) (s : State) (c : Cycle) → Proper d s → Proper d (settleOf (d .part) s (c .pins) .state)
 unfolding settleOf cutBy countedOff
 settle-proper d s c p =
-    if-ind In (rpLow (c .pins)) _ _ (λ e. fresh-proper d)
+    if-ind In (rpLow (c .pins)) _ _ (λ e. rest-proper d s Array 0x80 refl)
     (λ e. if-ind In (vppLow (d .part) (c .pins) && isPending (s .phase)) _ _
-    (λ v. rest-proper d Status (bitOr (bitAnd (s .status) 0xBF) (cutBits (s .phase)))
+    (λ v. rest-proper d s Status (bitOr (bitAnd (s .status) 0xBF) (cutBits (s .phase)))
     (cut-status (s .phase) (and-right (vppLow (d .part) (c .pins)) (isPending (s .phase)) v) (s .status) (status-fits (s .phase) (s .status) (p .status))))
     (λ v. if-ind In (isBusy (s .phase)) _ _
     (λ b. if-ind In (eqb (s .left - 1) 0) _ _
-    (λ l. rest-proper d (s .mode) (bitOr (s .status) 0x80)
+    (λ l. rest-proper d s (s .mode) (bitOr (s .status) 0x80)
     (kept (λ y. bitOr y 0x80) 0 2 (omega arith) sr.finish (s .status) (subst (λ (n : ℕ). fits n (s .status) ≡ true) (busy-top (s .phase) b) (status-fits (s .phase) (s .status) (p .status)))))
     (λ l. record { mode = p .mode; status = p .status; left = counted-left d (s .phase) (s .left) b l (p .left); address = p .address }))
     (λ b. p)))
@@ -95,57 +95,57 @@ settle-proper d s c p =
 
 -- a confirm or data, of either operation
 started-proper : (d : Device) (c : Cycle) (s : State) (ph : Phase) (time bit : ℕ) → fits 2 (bitOr (bitOr (s .status) 0x08) bit) ≡ true → fits 2 (bitOr (s .status) bit) ≡ true
-    → Proper d (st (s .mode) (bitAnd (s .status) 0x7F) ph time (c .address)) → Proper d (startedOf (d .part) c s ph time bit)
+    → Proper d (st s (s .mode) (bitAnd (s .status) 0x7F) ph time (c .address)) → Proper d (startedOf (d .part) c s ph time bit)
 unfolding startedOf
 started-proper d c s ph time bit low lock run =
-    if-ind (λ (u : State). Proper d u) (unsupplied (d .part) c s) _ _ (λ e. rest-proper d (s .mode) (bitOr (bitOr (s .status) 0x08) bit) low)
-    (λ e. if-ind (λ (u : State). Proper d u) (locked (d .part) c) _ _ (λ l. rest-proper d (s .mode) (bitOr (s .status) bit) lock) (λ l. run))
+    if-ind (λ (u : State). Proper d u) (unsupplied (d .part) c s) _ _ (λ e. rest-proper d s (s .mode) (bitOr (bitOr (s .status) 0x08) bit) low)
+    (λ e. if-ind (λ (u : State). Proper d u) (locked (d .part) c) _ _ (λ l. rest-proper d s (s .mode) (bitOr (s .status) bit) lock) (λ l. run))
 
 full : (most : ℕ) → (most ≡ 0 → ⊥) → (eqb most 0 || ltb most most) ≡ false
 full most z = or-both (eqb most 0) (ltb most most) (ne-eqb most 0 z) (le-ltb most most (omega arith))
 
 -- any action that the phase and the byte ask for
 pub act-proper : (d : Device) (c : Cycle) → (d .program ≡ 0 → ⊥) → (d .erase ≡ 0 → ⊥) → leb (sizeOf (d .part)) (c .address) ≡ false
-    → (m : Mode) (x : ℕ) (ph : Phase) (l a : ℕ) → Proper d (st m x ph l a) → Proper d (performedOf (actionOf ph (c .byte)) d c (st m x ph l a))
+    → (s : State) (m : Mode) (x : ℕ) (ph : Phase) (l a : ℕ) → Proper d (st s m x ph l a) → Proper d (performedOf (actionOf (d .part) ph (commandOf c)) d c (st s m x ph l a))
 unfolding firstWrite afterErase whileErasing whileSuspended badStatus badLeft badAddress
-act-proper d c zp ze h m x Free l a p =
-    if-ind P (eqb (c .byte) 0xFF) _ _ (λ e. record { mode = refl; status = p .status; left = p .left; address = p .address })
-    (λ e. if-ind P (eqb (c .byte) 0x90) _ _ (λ e. record { mode = refl; status = p .status; left = p .left; address = p .address })
-    (λ e. if-ind P (eqb (c .byte) 0x70) _ _ (λ e. record { mode = refl; status = p .status; left = p .left; address = p .address })
-    (λ e. if-ind P (eqb (c .byte) 0x50) _ _
+act-proper d c zp ze h s m x Free l a p =
+    if-ind P (eqb (commandOf c) 0xFF) _ _ (λ e. record { mode = refl; status = p .status; left = p .left; address = p .address })
+    (λ e. if-ind P (eqb (commandOf c) 0x90) _ _ (λ e. record { mode = refl; status = p .status; left = p .left; address = p .address })
+    (λ e. if-ind P (eqb (commandOf c) 0x70) _ _ (λ e. record { mode = refl; status = p .status; left = p .left; address = p .address })
+    (λ e. if-ind P (eqb (commandOf c) 0x50) _ _
     (λ e. record { mode = refl; status = fits-status Free (bitAnd x 0xC7) (kept (λ y. bitAnd y 0xC7) 2 2 (omega arith) sr.clear x (status-fits Free x (p .status))); left = p .left; address = p .address })
-    (λ e. if-ind P (eqb (c .byte) 0x20) _ _ (λ e. record { mode = refl; status = p .status; left = p .left; address = p .address })
-    (λ e. if-ind P (eqb (c .byte) 0x40) _ _ (λ e. record { mode = refl; status = p .status; left = p .left; address = p .address })
+    (λ e. if-ind P (eqb (commandOf c) 0x20) _ _ (λ e. record { mode = refl; status = p .status; left = p .left; address = p .address })
+    (λ e. if-ind P (eqb (commandOf c) 0x40) _ _ (λ e. record { mode = refl; status = p .status; left = p .left; address = p .address })
     (λ e. p))))))
   where
     P : Action → Type 0
-    P x′ = Proper d (performedOf x′ d c (st m x Free l a))
-act-proper d c zp ze h m x EraseAwaited l a p =
+    P x′ = Proper d (performedOf x′ d c (st s m x Free l a))
+act-proper d c zp ze h s m x EraseAwaited l a p =
     let f : fits 2 x ≡ true = status-fits EraseAwaited x (p .status) in
-    if-ind (λ (y : Action). Proper d (performedOf y d c (st m x EraseAwaited l a))) (eqb (c .byte) 0xD0) _ _
-    (λ e. started-proper d c (st m x EraseAwaited l a) Erasing (d .erase) 0x20 (kept (λ y. bitOr (bitOr y 0x08) 0x20) 2 2 (omega arith) sr.low-erase x f)
+    if-ind (λ (y : Action). Proper d (performedOf y d c (st s m x EraseAwaited l a))) (eqb (commandOf c) 0xD0) _ _
+    (λ e. started-proper d c (st s m x EraseAwaited l a) Erasing (d .erase) 0x20 (kept (λ y. bitOr (bitOr y 0x08) 0x20) 2 2 (omega arith) sr.low-erase x f)
     (kept (λ y. bitOr y 0x20) 2 2 (omega arith) sr.locked-erase x f)
     (record { mode = p .mode; status = fits-status Erasing (bitAnd x 0x7F) (kept (λ y. bitAnd y 0x7F) 2 0 (omega arith) sr.start x f); left = full (d .erase) ze; address = h }))
-    (λ e. rest-proper d m (bitOr x 0x30) (kept (λ y. bitOr y 0x30) 2 2 (omega arith) sr.wrong-second x f))
-act-proper d c zp ze h m x DataAwaited l a p =
+    (λ e. rest-proper d (st s m x EraseAwaited l a) m (bitOr x 0x30) (kept (λ y. bitOr y 0x30) 2 2 (omega arith) sr.wrong-second x f))
+act-proper d c zp ze h s m x DataAwaited l a p =
     let f : fits 2 x ≡ true = status-fits DataAwaited x (p .status) in
-    started-proper d c (st m x DataAwaited l a) (Programming (c .byte)) (d .program) 0x10 (kept (λ y. bitOr (bitOr y 0x08) 0x10) 2 2 (omega arith) sr.low-program x f)
+    started-proper d c (st s m x DataAwaited l a) (Programming (c .byte)) (d .program) 0x10 (kept (λ y. bitOr (bitOr y 0x08) 0x10) 2 2 (omega arith) sr.low-program x f)
     (kept (λ y. bitOr y 0x10) 2 2 (omega arith) sr.locked-program x f)
     (record { mode = p .mode; status = fits-status (Programming (c .byte)) (bitAnd x 0x7F) (kept (λ y. bitAnd y 0x7F) 2 0 (omega arith) sr.start x f); left = full (d .program) zp; address = h })
-act-proper d c zp ze h m x (Programming b) l a p = p
-act-proper d c zp ze h m x Erasing l a p =
-    if-ind (λ (y : Action). Proper d (performedOf y d c (st m x Erasing l a))) (eqb (c .byte) 0xB0) _ _
+act-proper d c zp ze h s m x (Programming b) l a p = p
+act-proper d c zp ze h s m x Erasing l a p =
+    if-ind (λ (y : Action). Proper d (performedOf y d c (st s m x Erasing l a))) (eqb (commandOf c) 0xB0) _ _
     (λ e. record { mode = refl; status = fits-status Suspended (bitOr x 0xC0) (kept (λ y. bitOr y 0xC0) 0 3 (omega arith) sr.suspend x (status-fits Erasing x (p .status))); left = p .left; address = p .address })
     (λ e. p)
-act-proper d c zp ze h m x Suspended l a p =
-    if-ind P (eqb (c .byte) 0xFF) _ _ (λ e. record { mode = refl; status = p .status; left = p .left; address = p .address })
-    (λ e. if-ind P (eqb (c .byte) 0x70) _ _ (λ e. record { mode = refl; status = p .status; left = p .left; address = p .address })
-    (λ e. if-ind P (eqb (c .byte) 0xD0) _ _
+act-proper d c zp ze h s m x Suspended l a p =
+    if-ind P (eqb (commandOf c) 0xFF) _ _ (λ e. record { mode = refl; status = p .status; left = p .left; address = p .address })
+    (λ e. if-ind P (eqb (commandOf c) 0x70) _ _ (λ e. record { mode = refl; status = p .status; left = p .left; address = p .address })
+    (λ e. if-ind P (eqb (commandOf c) 0xD0) _ _
     (λ e. record { mode = refl; status = fits-status Erasing (bitAnd x 0x3F) (kept (λ y. bitAnd y 0x3F) 3 0 (omega arith) sr.resume x (status-fits Suspended x (p .status))); left = p .left; address = p .address })
     (λ e. p)))
   where
     P : Action → Type 0
-    P y = Proper d (performedOf y d c (st m x Suspended l a))
+    P y = Proper d (performedOf y d c (st s m x Suspended l a))
 
 -- the address of a read or write that is accepted
 pub address-inside : (d : Device) (c : Cycle) → pastArray (d .part) c ≡ false → rpLow (c .pins) ≡ false → c .kind ≡ Write → leb (sizeOf (d .part)) (c .address) ≡ false
@@ -177,7 +177,7 @@ accept-proper d s c n r f = accept-ways d c (settleOf (d .part) s (c .pins)) (λ
 
     kinds : (k : Kind) → c .kind ≡ k → rpLow (c .pins) ≡ false → Proper d (respondOf k d c (settleOf (d .part) s (c .pins)) .state)
     kinds Read k e = p
-    kinds Write k e = act-proper d c (times d (f .known) .0) (times d (f .known) .1) (address-inside d c (f .inside) e k) (t .mode) (t .status) (t .phase) (t .left) (t .address) p
+    kinds Write k e = act-proper d c (times d (f .known) .0) (times d (f .known) .1) (address-inside d c (f .inside) e k) t (t .mode) (t .status) (t .phase) (t .left) (t .address) p
     kinds Idle k e = p
 
 -- a cycle from a proper state leaves a proper state, refused or not

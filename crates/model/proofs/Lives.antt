@@ -25,7 +25,7 @@ use Rattle.chip.specs.declared.Effect.{Effect}
 use Rattle.chip.specs.declared.Effect.the-variants.{Nothing, Erase}
 use Rattle.chip.specs.Levels.{rpLow, vppLow, locked}
 use Rattle.chip.specs.States.{resetOf}
-use Rattle.commands.specs.Commands.{firstWrite, afterErase, whileErasing, whileSuspended, actionOf, performedOf, startedOf, unsupplied}
+use Rattle.commands.specs.Commands.{firstWrite, afterErase, whileErasing, whileSuspended, commandOf, actionOf, performedOf, startedOf, unsupplied}
 use Rattle.settling.specs.Settling.{settledAs, cutOf, endOf, cutBy, countedOff, settleOf}
 use Rattle.bus.specs.Cycles.{numberOf, decideOf, acceptOf, respondOf}
 use Rattle.bus.proofs.Ways.{refused, accepted}
@@ -120,56 +120,56 @@ started-pending part c s ph time bit = go (unsupplied part c s) (locked part c) 
     go false false e h = simp (e, h)
 
 -- an action starts nothing where no second write is awaited ..
-act-pending : (d : Device) (c : Cycle) (m : Mode) (x : ℕ) (ph : Phase) (l a : ℕ) → isAwaited ph ≡ false
-    → pendingOf (d .part) (performedOf (actionOf ph (c .byte)) d c (st m x ph l a)) ≡ pendingIn ph (d .part) a
+act-pending : (d : Device) (c : Cycle) (s : State) (m : Mode) (x : ℕ) (ph : Phase) (l a : ℕ) → isAwaited ph ≡ false
+    → pendingOf (d .part) (performedOf (actionOf (d .part) ph (commandOf c)) d c (st s m x ph l a)) ≡ pendingIn ph (d .part) a
 unfolding firstWrite whileErasing whileSuspended
-act-pending d c m x Free l a e =
-    if-ind P (eqb (c .byte) 0xFF) _ _ (λ b. refl)
-    (λ b. if-ind P (eqb (c .byte) 0x90) _ _ (λ b. refl)
-    (λ b. if-ind P (eqb (c .byte) 0x70) _ _ (λ b. refl)
-    (λ b. if-ind P (eqb (c .byte) 0x50) _ _ (λ b. refl)
-    (λ b. if-ind P (eqb (c .byte) 0x20) _ _ (λ b. refl)
-    (λ b. if-ind P (eqb (c .byte) 0x40) _ _ (λ b. refl) (λ b. refl))))))
+act-pending d c s m x Free l a e =
+    if-ind P (eqb (commandOf c) 0xFF) _ _ (λ b. refl)
+    (λ b. if-ind P (eqb (commandOf c) 0x90) _ _ (λ b. refl)
+    (λ b. if-ind P (eqb (commandOf c) 0x70) _ _ (λ b. refl)
+    (λ b. if-ind P (eqb (commandOf c) 0x50) _ _ (λ b. refl)
+    (λ b. if-ind P (eqb (commandOf c) 0x20) _ _ (λ b. refl)
+    (λ b. if-ind P (eqb (commandOf c) 0x40) _ _ (λ b. refl) (λ b. refl))))))
   where
     P : Action → Type 0
-    P y = pendingOf (d .part) (performedOf y d c (st m x Free l a)) ≡ Nothing
-act-pending d c m x EraseAwaited l a e = absurd (unlike e)
-act-pending d c m x DataAwaited l a e = absurd (unlike e)
-act-pending d c m x (Programming b) l a e = refl
-act-pending d c m x Erasing l a e =
-    if-ind (λ (y : Action). pendingOf (d .part) (performedOf y d c (st m x Erasing l a)) ≡ pendingIn Erasing (d .part) a) (eqb (c .byte) 0xB0) _ _ (λ b. refl) (λ b. refl)
-act-pending d c m x Suspended l a e =
-    if-ind P (eqb (c .byte) 0xFF) _ _ (λ b. refl) (λ b. if-ind P (eqb (c .byte) 0x70) _ _ (λ b. refl) (λ b. if-ind P (eqb (c .byte) 0xD0) _ _ (λ b. refl) (λ b. refl)))
+    P y = pendingOf (d .part) (performedOf y d c (st s m x Free l a)) ≡ Nothing
+act-pending d c s m x EraseAwaited l a e = absurd (unlike e)
+act-pending d c s m x DataAwaited l a e = absurd (unlike e)
+act-pending d c s m x (Programming b) l a e = refl
+act-pending d c s m x Erasing l a e =
+    if-ind (λ (y : Action). pendingOf (d .part) (performedOf y d c (st s m x Erasing l a)) ≡ pendingIn Erasing (d .part) a) (eqb (commandOf c) 0xB0) _ _ (λ b. refl) (λ b. refl)
+act-pending d c s m x Suspended l a e =
+    if-ind P (eqb (commandOf c) 0xFF) _ _ (λ b. refl) (λ b. if-ind P (eqb (commandOf c) 0x70) _ _ (λ b. refl) (λ b. if-ind P (eqb (commandOf c) 0xD0) _ _ (λ b. refl) (λ b. refl)))
   where
     P : Action → Type 0
-    P y = pendingOf (d .part) (performedOf y d c (st m x Suspended l a)) ≡ pendingIn Suspended (d .part) a
+    P y = pendingOf (d .part) (performedOf y d c (st s m x Suspended l a)) ≡ pendingIn Suspended (d .part) a
 
 -- .. and what is asked for where one is
-act-starts : (d : Device) (c : Cycle) (m : Mode) (x : ℕ) (ph : Phase) (l a : ℕ) → isAwaited ph ≡ true
-    → pendingOf (d .part) (performedOf (actionOf ph (c .byte)) d c (st m x ph l a))
-    ≡ (if not (unsupplied (d .part) c (st m x ph l a)) && not (locked (d .part) c) then askedBy ph (d .part) (c .address) (c .byte) else Nothing)
+act-starts : (d : Device) (c : Cycle) (s : State) (m : Mode) (x : ℕ) (ph : Phase) (l a : ℕ) → isAwaited ph ≡ true
+    → pendingOf (d .part) (performedOf (actionOf (d .part) ph (commandOf c)) d c (st s m x ph l a))
+    ≡ (if not (unsupplied (d .part) c (st s m x ph l a)) && not (locked (d .part) c) then askedBy ph (d .part) c else Nothing)
 unfolding afterErase
-act-starts d c m x Free l a e = absurd (unlike (sym e))
-act-starts d c m x EraseAwaited l a e = go (eqb (c .byte) 0xD0) refl
+act-starts d c s m x Free l a e = absurd (unlike (sym e))
+act-starts d c s m x EraseAwaited l a e = go (eqb (commandOf c) 0xD0) refl
   where
-    go : (b : Bool) → eqb (c .byte) 0xD0 ≡ b
-        → pendingOf (d .part) (performedOf (if eqb (c .byte) 0xD0 then Confirm else WrongSecond) d c (st m x EraseAwaited l a))
-        ≡ (if not (unsupplied (d .part) c (st m x EraseAwaited l a)) && not (locked (d .part) c) then (if eqb (c .byte) 0xD0 then Erase (blockOf (d .part) (c .address)) else Nothing) else Nothing)
-    go true q = rw q (started-pending (d .part) c (st m x EraseAwaited l a) Erasing (d .erase) 32)
-    go false q = rw q (sym (if-same (not (unsupplied (d .part) c (st m x EraseAwaited l a)) && not (locked (d .part) c)) Nothing))
-act-starts d c m x DataAwaited l a e = started-pending (d .part) c (st m x DataAwaited l a) (Programming (c .byte)) (d .program) 16
-act-starts d c m x (Programming b) l a e = absurd (unlike (sym e))
-act-starts d c m x Erasing l a e = absurd (unlike (sym e))
-act-starts d c m x Suspended l a e = absurd (unlike (sym e))
+    go : (b : Bool) → eqb (commandOf c) 0xD0 ≡ b
+        → pendingOf (d .part) (performedOf (if eqb (commandOf c) 0xD0 then Confirm else WrongSecond) d c (st s m x EraseAwaited l a))
+        ≡ (if not (unsupplied (d .part) c (st s m x EraseAwaited l a)) && not (locked (d .part) c) then (if eqb (commandOf c) 0xD0 then Erase (blockOf (d .part) (c .address)) else Nothing) else Nothing)
+    go true q = rw q (started-pending (d .part) c (st s m x EraseAwaited l a) Erasing (d .erase) 32)
+    go false q = rw q (sym (if-same (not (unsupplied (d .part) c (st s m x EraseAwaited l a)) && not (locked (d .part) c)) Nothing))
+act-starts d c s m x DataAwaited l a e = started-pending (d .part) c (st s m x DataAwaited l a) (Programming (c .byte)) (d .program) 16
+act-starts d c s m x (Programming b) l a e = absurd (unlike (sym e))
+act-starts d c s m x Erasing l a e = absurd (unlike (sym e))
+act-starts d c s m x Suspended l a e = absurd (unlike (sym e))
 
 -- nothing is asked for where no second write is awaited
-unasked : (ph : Phase) (part : Part) (a b : ℕ) → isAwaited ph ≡ false → askedBy ph part a b ≡ Nothing
-unasked Free part a b e = refl
-unasked EraseAwaited part a b e = absurd (unlike e)
-unasked DataAwaited part a b e = absurd (unlike e)
-unasked (Programming x) part a b e = refl
-unasked Erasing part a b e = refl
-unasked Suspended part a b e = refl
+unasked : (ph : Phase) (part : Part) (c : Cycle) → isAwaited ph ≡ false → askedBy ph part c ≡ Nothing
+unasked Free part c e = refl
+unasked EraseAwaited part c e = absurd (unlike e)
+unasked DataAwaited part c e = absurd (unlike e)
+unasked (Programming x) part c e = refl
+unasked Erasing part c e = refl
+unasked Suspended part c e = refl
 
 -- an accepted cycle with RP# low leaves a reset device, and with RP# up goes on to its read or write
 accept-low : (d : Device) (s : State) (c : Cycle) → rpLow (c .pins) ≡ true → acceptOf d c (settleOf (d .part) s (c .pins)) .state ≡ resetOf s
@@ -189,7 +189,7 @@ starts-from d s c = go (isAwaited (s .phase)) refl (rpLow (c .pins)) refl
     part = d .part
 
     asked : Effect
-    asked = askedBy (s .phase) part (c .address) (c .byte)
+    asked = askedBy (s .phase) part c
 
     G : State → Type 0
     G u = startsOf part s c ≡ begunFrom part s u
@@ -204,7 +204,7 @@ starts-from d s c = go (isAwaited (s .phase)) refl (rpLow (c .pins)) refl
     kinds Read k e h = starts false false (ap isWrite k) h ∙ sym (none e)
     kinds Write k e h =
         starts true false (ap isWrite k) h
-        ∙ sym (if-true (isAwaited (s .phase)) _ Nothing e ∙ act-starts d c (s .mode) (s .status) (s .phase) (s .left) (s .address) e)
+        ∙ sym (if-true (isAwaited (s .phase)) _ Nothing e ∙ act-starts d c s (s .mode) (s .status) (s .phase) (s .left) (s .address) e)
     kinds Idle k e h = starts false false (ap isWrite k) h ∙ sym (none e)
 
     low : (w : Bool) → (if ((w && not true) && not (unsupplied part c s)) && not (locked part c) then asked else Nothing) ≡ Nothing
@@ -214,7 +214,7 @@ starts-from d s c = go (isAwaited (s .phase)) refl (rpLow (c .pins)) refl
     go : (a : Bool) → isAwaited (s .phase) ≡ a → (r : Bool) → rpLow (c .pins) ≡ r → G (acceptOf d c (settleOf part s (c .pins)) .state)
     go false e r h =
         starts (isWrite (c .kind)) (rpLow (c .pins)) refl refl
-        ∙ ap (λ (x : Effect). (if ((isWrite (c .kind) && not (rpLow (c .pins))) && not (unsupplied part c s)) && not (locked part c) then x else Nothing)) (unasked (s .phase) part (c .address) (c .byte) e)
+        ∙ ap (λ (x : Effect). (if ((isWrite (c .kind) && not (rpLow (c .pins))) && not (unsupplied part c s)) && not (locked part c) then x else Nothing)) (unasked (s .phase) part c e)
         ∙ if-same (((isWrite (c .kind) && not (rpLow (c .pins))) && not (unsupplied part c s)) && not (locked part c)) Nothing
         ∙ sym (if-false (isAwaited (s .phase)) _ Nothing e)
     go true e true h =
@@ -264,7 +264,7 @@ module _ (f : Effect → ℕ) (none : f Nothing ≡ 0) where
       go : (a : Bool) → isAwaited (s .phase) ≡ a → rpLow (c .pins) ≡ false → (k : Kind) → P (respondOf k d c t)
       go true e h k = rw (e, settle-awaited (d .part) s c e h, awaited-free (s .phase) (d .part) (s .address) e, none) (omega arith)
       go false e h Read = rw (e, none) (omega arith)
-      go false e h Write = rw (e, none, act-pending d c (t .state .mode) (t .state .status) (t .state .phase) (t .state .left) (t .state .address) (settle-unawaited (d .part) s c e)) (omega arith)
+      go false e h Write = rw (e, none, act-pending d c (t .state) (t .state .mode) (t .state .status) (t .state .phase) (t .state .left) (t .state .address) (settle-unawaited (d .part) s c e)) (omega arith)
       go false e h Idle = rw (e, none) (omega arith)
 
   -- the law of lives: what ended or was cut and what is pending after is what began and what was pending before

@@ -26,12 +26,12 @@ module _ (part : Part) (k : ℕ) (xs : List ℕ) (a n : ℕ) (ea : a ≡ startOf
   span : length (midOf a (a + n - a) xs) ≡ n
   span = mid-len a (a + n) xs inside ∙ (let e : a + n - a ≡ n = omega arith in e)
 
-  pub filled : (ys : List ℕ) → ys ≡ replicate (length (midOf a (a + n - a) xs)) 255 → putMid a (a + n - a) xs ys ≡ erased part k xs
-  unfolding erased ones
-  filled ys e =
-      let f : ys ≡ replicate (lengthOf part k) 255 = e ∙ ap (λ (m : ℕ). replicate m 255) (span ∙ en) in
-      let l : length ys ≡ a + n - a = ap (λ (z : List ℕ). length z) e ∙ length-replicate (length (midOf a (a + n - a) xs)) 255 ∙ mid-len a (a + n) xs inside in
-      put xs ys a (a + n - a) l ∙ ap (λ (z : List ℕ). overlaid xs a z) f ∙ ap (λ (m : ℕ). overlaid xs m (replicate (lengthOf part k) 255)) ea
+  pub filled : (v : ℕ) → v ≡ ones part → (ys : List ℕ) → ys ≡ replicate (length (midOf a (a + n - a) xs)) v → putMid a (a + n - a) xs ys ≡ erased part k xs
+  unfolding erased
+  filled v o ys e =
+      let f : ys ≡ replicate (lengthOf part k) (ones part) = e ∙ ap (λ (m : ℕ). replicate m v) (span ∙ en) ∙ ap (λ (x : ℕ). replicate (lengthOf part k) x) o in
+      let l : length ys ≡ a + n - a = ap (λ (z : List ℕ). length z) e ∙ length-replicate (length (midOf a (a + n - a) xs)) v ∙ mid-len a (a + n) xs inside in
+      put xs ys a (a + n - a) l ∙ ap (λ (z : List ℕ). overlaid xs a z) f ∙ ap (λ (m : ℕ). overlaid xs m (replicate (lengthOf part k) (ones part))) ea
 
   pub laid-over : (rs ys : List ℕ) → n ≤ length rs → ys ≡ copied (midOf a (a + n - a) xs) (midOf 0 (n - 0) rs) → putMid a (a + n - a) xs ys ≡ residual part k rs xs
   unfolding residual

@@ -23,7 +23,7 @@ use Rattle.model.specs.declared.Answer.{Answer}
 
 -- an erase that ends leaves ones in its whole block
 unfoldable pub erased : Part → ℕ → List ℕ → List ℕ
-erased part k xs = overlaid xs (startOf part k) (replicate (lengthOf part k) ones)
+erased part k xs = overlaid xs (startOf part k) (replicate (lengthOf part k) (ones part))
 
 -- an erase that is cut leaves residue byte i at byte i of the block
 unfoldable pub residual : Part → ℕ → List ℕ → List ℕ → List ℕ

@@ -15,7 +15,7 @@ use Rattle.chip.specs.declared.Cycle.{Cycle}
 use Rattle.chip.specs.Kinds.{isWrite}
 use Rattle.chip.specs.Levels.{rpLow, locked}
 use Rattle.chip.specs.Phases.{isAwaited}
-use Rattle.commands.specs.Commands.{unsupplied}
+use Rattle.commands.specs.Commands.{unsupplied, commandOf}
 use Rattle.bus.specs.Cycles.{numberOf}
 
 -- the operation that an effect ends or cuts; an uncut effect is its own operation
@@ -40,19 +40,19 @@ abbrev pub pendingOf : Part → State → Effect
 pendingOf part s = pendingIn (s .phase) part (s .address)
 
 -- what a second write asks for at its own address: after 20H an erase by D0H, after 40H a program of whatever byte
-abbrev pub askedBy : Phase → Part → ℕ → ℕ → Effect
-askedBy Free part a b = Nothing
-askedBy EraseAwaited part a b = if eqb b 0xD0 then Erase (blockOf part a) else Nothing
-askedBy DataAwaited part a b = Program a b
-askedBy (Programming x) part a b = Nothing
-askedBy Erasing part a b = Nothing
-askedBy Suspended part a b = Nothing
+abbrev pub askedBy : Phase → Part → Cycle → Effect
+askedBy Free part c = Nothing
+askedBy EraseAwaited part c = if eqb (commandOf c) 0xD0 then Erase (blockOf part (c .address)) else Nothing
+askedBy DataAwaited part c = Program (c .address) (c .byte)
+askedBy (Programming x) part c = Nothing
+askedBy Erasing part c = Nothing
+askedBy Suspended part c = Nothing
 
 -- a write with RP# up that is neither unsupplied nor locked starts what it asks for
 unfoldable pub startsOf : Part → State → Cycle → Effect
 startsOf part s c =
     if ((isWrite (c .kind) && not (rpLow (c .pins))) && not (unsupplied part c s)) && not (locked part c)
-    then askedBy (s .phase) part (c .address) (c .byte)
+    then askedBy (s .phase) part c
     else Nothing
 
 -- the operation that a cycle begins; a refused cycle begins none

@@ -3,6 +3,7 @@ use chip::Cycle;
 use chip::Effect;
 use chip::Reply;
 use chip::State;
+use chip::blank::ones;
 use device::Device;
 use device::Part;
 ghost use mathlib.Core.Path.{_≡_};
@@ -61,7 +62,8 @@ fn erase(part: Part, k: u8, array: &mut [u8])
 {
     let a = device::start(part, k);
     let e = a + device::length(part, k);
-    cells::fill(&mut array[a..e], 255)
+    let blank = ones(part);
+    cells::fill(&mut array[a..e], blank)
 }
 
 // A cut erase: the block is the residue's first bytes.

@@ -35,7 +35,7 @@ use Rattle.model_history.specs.History.{Bus, World, stepped, worldAfter,
 abbrev pub byteBy : Part → ℕ → Effect → ℕ → ℕ
 byteBy part x Nothing v = v
 byteBy part x (Program at b) v = if eqb at x then bitAnd v b else v
-byteBy part x (Erase j) v = if eqb j (blockOf part x) then ones else v
+byteBy part x (Erase j) v = if eqb j (blockOf part x) then (ones part) else v
 byteBy part x (CutProgram at b) v = v
 byteBy part x (CutErase j) v = v
 
@@ -55,7 +55,7 @@ holds part j x h e =
     (q .from, q .to)
 
 -- an erase as one byte sees it
-erase-byte : (part : Part) (j x : ℕ) (xs : List ℕ) → length xs ≡ sizeOf part → x < sizeOf part → getD (erased part j xs) x 0 ≡ (if eqb j (blockOf part x) then ones else getD xs x 0)
+erase-byte : (part : Part) (j x : ℕ) (xs : List ℕ) → length xs ≡ sizeOf part → x < sizeOf part → getD (erased part j xs) x 0 ≡ (if eqb j (blockOf part x) then (ones part) else getD xs x 0)
 unfolding erased
 erase-byte part j x xs lx hx = go (eqb j (blockOf part x)) refl
   where
@@ -66,17 +66,17 @@ erase-byte part j x xs lx hx = go (eqb j (blockOf part x)) refl
     n = lengthOf part j
 
     R : List ℕ
-    R = replicate n ones
+    R = replicate n (ones part)
 
     fit : s + length R ≤ length xs
-    fit = omega (arith, length-replicate {A = ℕ} n ones, blocks-end-inside part j)
+    fit = omega (arith, length-replicate {A = ℕ} n (ones part), blocks-end-inside part j)
 
     away : eqb j (blockOf part x) ≡ false → (t : Bool) → ltb x s ≡ t → getD (overlaid xs s R) x 0 ≡ getD xs x 0
     away e true t = overlaid-before xs s R fit x (ltb-true _ _ t)
     away e false t =
         let f : s ≤ x = ltb-false _ _ t in
         let o : s + n ≤ x = outside part j x f (eqb-false _ _ e) in
-        let l = length-replicate {A = ℕ} n ones in
+        let l = length-replicate {A = ℕ} n (ones part) in
         let q : s + (length R + (x - s - n)) ≡ x = omega arith in
         subst (λ (y : ℕ). getD (overlaid xs s R) y 0 ≡ getD xs y 0) q (overlaid-after xs s R fit (x - s - n))
       where
@@ -87,15 +87,15 @@ erase-byte part j x xs lx hx = go (eqb j (blockOf part x)) refl
             split true b = absurd (ne (sym (lies part j x f (ltb-true _ _ b))))
             split false b = ltb-false _ _ b
 
-    go : (b : Bool) → eqb j (blockOf part x) ≡ b → getD (overlaid xs s R) x 0 ≡ (if eqb j (blockOf part x) then ones else getD xs x 0)
+    go : (b : Bool) → eqb j (blockOf part x) ≡ b → getD (overlaid xs s R) x 0 ≡ (if eqb j (blockOf part x) then (ones part) else getD xs x 0)
     go true e =
         let h = holds part j x hx (eqb-true _ _ e) in
-        let l = length-replicate {A = ℕ} n ones in
+        let l = length-replicate {A = ℕ} n (ones part) in
         let q : s + (x - s) ≡ x = omega (arith, h .0) in
-        subst (λ (y : ℕ). getD (overlaid xs s R) y 0 ≡ ones) q
-        (overlaid-in xs s R fit (x - s) (omega (arith, h .0, h .1)) ∙ getD-replicate n (x - s) ones 0 (omega (arith, h .0, h .1)))
-        ∙ sym (if-true (eqb j (blockOf part x)) ones (getD xs x 0) e)
-    go false e = away e (ltb x s) refl ∙ sym (if-false (eqb j (blockOf part x)) ones (getD xs x 0) e)
+        subst (λ (y : ℕ). getD (overlaid xs s R) y 0 ≡ (ones part)) q
+        (overlaid-in xs s R fit (x - s) (omega (arith, h .0, h .1)) ∙ getD-replicate n (x - s) (ones part) 0 (omega (arith, h .0, h .1)))
+        ∙ sym (if-true (eqb j (blockOf part x)) (ones part) (getD xs x 0) e)
+    go false e = away e (ltb x s) refl ∙ sym (if-false (eqb j (blockOf part x)) (ones part) (getD xs x 0) e)
 
 -- an uncut effect as one byte sees it
 effect-byte : (e : Effect) (part : Part) (rs xs : List ℕ) (x : ℕ) → length xs ≡ sizeOf part → x < sizeOf part → Within e part (length xs) (length rs) → isCut e ≡ false
@@ -167,7 +167,7 @@ only-loses (Program at b ∷ es) part x v z = go (eqb at x) (only-loses es part 
 only-loses (Erase j ∷ es) part x v z = go (eqb j (blockOf part x)) refl (only-loses es part x v)
   where
     go : (t : Bool) → eqb j (blockOf part x) ≡ t → (total (eraseOf (blockOf part x)) es ≡ 0 → bitAnd v (byteAll part x es v) ≡ byteAll part x es v)
-        → bitAnd v (byteAll part x es (if eqb j (blockOf part x) then ones else v)) ≡ byteAll part x es (if eqb j (blockOf part x) then ones else v)
+        → bitAnd v (byteAll part x es (if eqb j (blockOf part x) then (ones part) else v)) ≡ byteAll part x es (if eqb j (blockOf part x) then (ones part) else v)
     go true t more = absurd (let q = rw t at z in omega arith)
     go false t more = rw t (more (let q = rw t at z in omega arith))
 only-loses (CutProgram at b ∷ es) part x v z = only-loses es part x v (omega arith)
@@ -175,29 +175,29 @@ only-loses (CutErase j ∷ es) part x v z = only-loses es part x v (omega arith)
 
 -- without a program on it a byte is as it was, or all ones after an erase of its block
 pub unprogrammed : (es : List Effect) (part : Part) (x v : ℕ) → total (programAt x) es ≡ 0
-    → byteAll part x es v ≡ (if eqb (total (eraseOf (blockOf part x)) es) 0 then v else ones)
+    → byteAll part x es v ≡ (if eqb (total (eraseOf (blockOf part x)) es) 0 then v else (ones part))
 unprogrammed [] part x v z = refl
-unprogrammed (Nothing ∷ es) part x v z = unprogrammed es part x v (omega arith) ∙ ap (λ (n : ℕ). (if eqb n 0 then v else ones)) (let q : total (eraseOf (blockOf part x)) es ≡ 0 + total (eraseOf (blockOf part x)) es = omega arith in q)
+unprogrammed (Nothing ∷ es) part x v z = unprogrammed es part x v (omega arith) ∙ ap (λ (n : ℕ). (if eqb n 0 then v else (ones part))) (let q : total (eraseOf (blockOf part x)) es ≡ 0 + total (eraseOf (blockOf part x)) es = omega arith in q)
 unprogrammed (Program at b ∷ es) part x v z = go (eqb at x) refl (unprogrammed es part x v)
   where
-    go : (t : Bool) → eqb at x ≡ t → (total (programAt x) es ≡ 0 → byteAll part x es v ≡ (if eqb (total (eraseOf (blockOf part x)) es) 0 then v else ones))
-        → byteAll part x es (if eqb at x then bitAnd v b else v) ≡ (if eqb (0 + total (eraseOf (blockOf part x)) es) 0 then v else ones)
+    go : (t : Bool) → eqb at x ≡ t → (total (programAt x) es ≡ 0 → byteAll part x es v ≡ (if eqb (total (eraseOf (blockOf part x)) es) 0 then v else (ones part)))
+        → byteAll part x es (if eqb at x then bitAnd v b else v) ≡ (if eqb (0 + total (eraseOf (blockOf part x)) es) 0 then v else (ones part))
     go true t more = absurd (let q = rw t at z in omega arith)
     go false t more =
         rw t (more (let q = rw t at z in omega arith))
-        ∙ ap (λ (n : ℕ). (if eqb n 0 then v else ones)) (let q : total (eraseOf (blockOf part x)) es ≡ 0 + total (eraseOf (blockOf part x)) es = omega arith in q)
+        ∙ ap (λ (n : ℕ). (if eqb n 0 then v else (ones part))) (let q : total (eraseOf (blockOf part x)) es ≡ 0 + total (eraseOf (blockOf part x)) es = omega arith in q)
 unprogrammed (Erase j ∷ es) part x v z = go (eqb j (blockOf part x)) refl (unprogrammed es part x)
   where
-    go : (t : Bool) → eqb j (blockOf part x) ≡ t → ((u : ℕ) → total (programAt x) es ≡ 0 → byteAll part x es u ≡ (if eqb (total (eraseOf (blockOf part x)) es) 0 then u else ones))
-        → byteAll part x es (if eqb j (blockOf part x) then ones else v) ≡ (if eqb ((if eqb j (blockOf part x) then 1 else 0) + total (eraseOf (blockOf part x)) es) 0 then v else ones)
+    go : (t : Bool) → eqb j (blockOf part x) ≡ t → ((u : ℕ) → total (programAt x) es ≡ 0 → byteAll part x es u ≡ (if eqb (total (eraseOf (blockOf part x)) es) 0 then u else (ones part)))
+        → byteAll part x es (if eqb j (blockOf part x) then (ones part) else v) ≡ (if eqb ((if eqb j (blockOf part x) then 1 else 0) + total (eraseOf (blockOf part x)) es) 0 then v else (ones part))
     go true t more =
         rw t
-        (more ones (omega arith) ∙ if-same (eqb (total (eraseOf (blockOf part x)) es) 0) ones
-        ∙ sym (if-false (eqb (1 + total (eraseOf (blockOf part x)) es) 0) v ones (ne-eqb (1 + total (eraseOf (blockOf part x)) es) 0 (λ q. omega arith))))
+        (more (ones part) (omega arith) ∙ if-same (eqb (total (eraseOf (blockOf part x)) es) 0) (ones part)
+        ∙ sym (if-false (eqb (1 + total (eraseOf (blockOf part x)) es) 0) v (ones part) (ne-eqb (1 + total (eraseOf (blockOf part x)) es) 0 (λ q. omega arith))))
     go false t more =
-        rw t (more v (omega arith) ∙ ap (λ (n : ℕ). (if eqb n 0 then v else ones)) (let q : total (eraseOf (blockOf part x)) es ≡ 0 + total (eraseOf (blockOf part x)) es = omega arith in q))
-unprogrammed (CutProgram at b ∷ es) part x v z = unprogrammed es part x v (omega arith) ∙ ap (λ (n : ℕ). (if eqb n 0 then v else ones)) (let q : total (eraseOf (blockOf part x)) es ≡ 0 + total (eraseOf (blockOf part x)) es = omega arith in q)
-unprogrammed (CutErase j ∷ es) part x v z = unprogrammed es part x v (omega arith) ∙ ap (λ (n : ℕ). (if eqb n 0 then v else ones)) (let q : total (eraseOf (blockOf part x)) es ≡ 0 + total (eraseOf (blockOf part x)) es = omega arith in q)
+        rw t (more v (omega arith) ∙ ap (λ (n : ℕ). (if eqb n 0 then v else (ones part))) (let q : total (eraseOf (blockOf part x)) es ≡ 0 + total (eraseOf (blockOf part x)) es = omega arith in q))
+unprogrammed (CutProgram at b ∷ es) part x v z = unprogrammed es part x v (omega arith) ∙ ap (λ (n : ℕ). (if eqb n 0 then v else (ones part))) (let q : total (eraseOf (blockOf part x)) es ≡ 0 + total (eraseOf (blockOf part x)) es = omega arith in q)
+unprogrammed (CutErase j ∷ es) part x v z = unprogrammed es part x v (omega arith) ∙ ap (λ (n : ℕ). (if eqb n 0 then v else (ones part))) (let q : total (eraseOf (blockOf part x)) es ≡ 0 + total (eraseOf (blockOf part x)) es = omega arith in q)
 
 -- one place more of a block adds the programs at that place
 program-more : (a n : ℕ) (e : Effect) → programIn a (n + 1) e ≡ programAt a e + programIn (a + 1) n e

@@ -58,11 +58,11 @@ judged d s c n k e p v o h z =
     (past k
     (past (ap not (eq-eqb n (sizeOf (d .part)) e))
     (past (parts-proper d s p)
-    (past (or-both (badPins (d .part) (c .pins)) (badOe (c .kind) (c .oe)) v (ap (λ (x : ℕ). badOe (c .kind) x) o ∙ normal (c .kind)))
+    (past (or-both (badPins (d .part) (c .pins)) (badOe (d .part) (c .kind) (c .oe)) v (ap (λ (x : ℕ). badOe (d .part) (c .kind) x) o ∙ normal (c .kind)))
     (past (ap (λ (b : Bool). (b && not (rpLow (c .pins))) && not (isIdle (c .kind))) (lt-leb (sizeOf (d .part)) (c .address) h))
     (past z end))))))
   where
-    normal : (kind : Kind) → badOe kind 0 ≡ false
+    normal : (kind : Kind) → badOe (d .part) kind 0 ≡ false
     normal Read = refl
     normal Write = refl
     normal Idle = refl
@@ -97,7 +97,7 @@ none-starts : (part : Part) (s : State) (c : Cycle) → vppLow part (c .pins) �
 unfolding startsOf unsupplied
 none-starts part s c v = simp v (go (isWrite (c .kind) && not (rpLow (c .pins))) (not (locked part c)))
   where
-    go : (x y : Bool) → (if (x && false) && y then askedBy (s .phase) part (c .address) (c .byte) else Nothing) ≡ Nothing
+    go : (x y : Bool) → (if (x && false) && y then askedBy (s .phase) part c else Nothing) ≡ Nothing
     go true y = refl
     go false y = refl
 

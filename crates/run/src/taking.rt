@@ -26,10 +26,11 @@ fn take_read(l: Loader, b: u8, wanted: &[u8], scratch: &mut [u8]) -> Loader
 
 // A poll of the erase.
 fn take_erase(l: Loader, b: u8, wanted: &[u8], scratch: &mut [u8]) -> Loader
-    ensures { λ r. ⌜ r ≡ erasePolled l b (now (wanted .entry)) (storeIn EraseWaiting 0 b (now (scratch .entry))) ⌝ }
-    ensures { λ _. ⌜ now (scratch .exit) ≡ storeIn EraseWaiting 0 b (now (scratch .entry)) ⌝ }
+    ensures { λ r. ⌜ r ≡ erasePolled l b (now (wanted .entry)) (storeIn EraseWaiting (l .part) 0 b (now (scratch .entry))) ⌝ }
+    ensures { λ _. ⌜ now (scratch .exit) ≡ storeIn EraseWaiting (l .part) 0 b (now (scratch .entry)) ⌝ }
 {
-    store_erase(b, scratch);
+    let part = l.part;
+    store_erase(part, b, scratch);
     erase_polled(l, b, wanted, scratch)
 }
 

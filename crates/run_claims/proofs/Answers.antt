@@ -51,7 +51,7 @@ pub record Ready (d : Device) (p : Pins) (k : ℕ) : Type 0 where
 -- an operation in block k cannot start: the error bits that come of it, with SR.3 or without
 pub record Stuck (d : Device) (p : Pins) (k low : ℕ) : Type 0 where
   pub stays : (s : State) (ph : Phase) (a b time bit : ℕ) → s .status ≡ 128 → blockOf (d .part) a ≡ k
-      → startedOf (d .part) (cyc p Write a b) s ph time bit ≡ atRest (s .mode) (bitOr (bitOr 128 low) bit)
+      → startedOf (d .part) (cyc p Write a b) s ph time bit ≡ atRest s (s .mode) (bitOr (bitOr 128 low) bit)
 
 -- .. because VPP is low
 pub unsupplied-stuck : (d : Device) (p : Pins) (k : ℕ) → vppLow (d .part) p ≡ true → Stuck d p k 8
@@ -63,7 +63,8 @@ pub locked-stuck : (d : Device) (p : Pins) (k : ℕ) → vppLow (d .part) p ≡ 
 unfolding startedOf unsupplied locked
 locked-stuck d p k e z f = record { stays = λ s ph a b time bit q h. simp (e, q, h, z, f) }
 
-module _ (d : Device) (p : Pins) (u : Up d p) where
+-- `was` is the state that the states of these cycles come from
+module _ (d : Device) (p : Pins) (u : Up d p) (was : State) where
   -- with nothing pending, steps 1 to 3 leave the state
   rest : (s : State) → isPending (s .phase) ≡ false → settleOf (d .part) s p ≡ settledAs s Nothing
   unfolding settleOf
@@ -94,35 +95,35 @@ module _ (d : Device) (p : Pins) (u : Up d p) where
   calm-decides s kind a b q h e l = decides s s Nothing kind a b q h (unasked (d .part) s (cyc p kind a b) e) (rest s e) l
 
   -- a write to a device at rest
-  rest-write : (m : Mode) (x a b : ℕ) → fits 2 x ≡ true → a < sizeOf (d .part) → lateOf (d .part) (atRest m x) (cyc p Write a b) ≡ 0
-      → decideOf d (atRest m x) (cyc p Write a b) (sizeOf (d .part)) 0 ≡ decidedAs Quiet (performedOf (actionOf Free b) d (cyc p Write a b) (atRest m x)) Nothing
-  rest-write m x a b f h l = calm-decides (atRest m x) Write a b (rest-proper d m x f) h refl l
+  rest-write : (m : Mode) (x a b : ℕ) → fits 2 x ≡ true → a < sizeOf (d .part) → lateOf (d .part) (atRest was m x) (cyc p Write a b) ≡ 0
+      → decideOf d (atRest was m x) (cyc p Write a b) (sizeOf (d .part)) 0 ≡ decidedAs Quiet (performedOf (actionOf (d .part) Free b) d (cyc p Write a b) (atRest was m x)) Nothing
+  rest-write m x a b f h l = calm-decides (atRest was m x) Write a b (rest-proper d was m x f) h refl l
 
   pub clears : (m : Mode) (x a : ℕ) → fits 2 x ≡ true → a < sizeOf (d .part)
-      → decideOf d (atRest m x) (cyc p Write a 0x50) (sizeOf (d .part)) 0 ≡ decidedAs Quiet (atRest m (bitAnd x 199)) Nothing
+      → decideOf d (atRest was m x) (cyc p Write a 0x50) (sizeOf (d .part)) 0 ≡ decidedAs Quiet (atRest was m (bitAnd x 199)) Nothing
   unfolding firstWrite lateOf noCommand suspendedRead noIdentifier
   clears m x a f h = rest-write m x a 0x50 f h refl
 
   pub opens : (m : Mode) (x a : ℕ) → fits 2 x ≡ true → a < sizeOf (d .part)
-      → decideOf d (atRest m x) (cyc p Write a 0xFF) (sizeOf (d .part)) 0 ≡ decidedAs Quiet (atRest Array x) Nothing
+      → decideOf d (atRest was m x) (cyc p Write a 0xFF) (sizeOf (d .part)) 0 ≡ decidedAs Quiet (atRest was Array x) Nothing
   unfolding firstWrite lateOf noCommand suspendedRead noIdentifier
   opens m x a f h = rest-write m x a 0xFF f h refl
 
   pub asks-erase : (m : Mode) (x a : ℕ) → fits 2 x ≡ true → a < sizeOf (d .part)
-      → decideOf d (atRest m x) (cyc p Write a 0x20) (sizeOf (d .part)) 0 ≡ decidedAs Quiet (st Status x EraseAwaited 0 0) Nothing
+      → decideOf d (atRest was m x) (cyc p Write a 0x20) (sizeOf (d .part)) 0 ≡ decidedAs Quiet (st was Status x EraseAwaited 0 0) Nothing
   unfolding firstWrite lateOf noCommand suspendedRead noIdentifier
   asks-erase m x a f h = rest-write m x a 0x20 f h refl
 
   pub asks-program : (m : Mode) (x a : ℕ) → fits 2 x ≡ true → a < sizeOf (d .part)
-      → decideOf d (atRest m x) (cyc p Write a 0x40) (sizeOf (d .part)) 0 ≡ decidedAs Quiet (st Status x DataAwaited 0 0) Nothing
+      → decideOf d (atRest was m x) (cyc p Write a 0x40) (sizeOf (d .part)) 0 ≡ decidedAs Quiet (st was Status x DataAwaited 0 0) Nothing
   unfolding firstWrite lateOf noCommand suspendedRead noIdentifier
   asks-program m x a f h = rest-write m x a 0x40 f h refl
 
   -- an array read
   pub reads : (x a : ℕ) → fits 2 x ≡ true → a < sizeOf (d .part)
-      → decideOf d (atRest Array x) (cyc p Read a 0) (sizeOf (d .part)) 0 ≡ decidedAs (GivesArray a) (atRest Array x) Nothing
+      → decideOf d (atRest was Array x) (cyc p Read a 0) (sizeOf (d .part)) 0 ≡ decidedAs (GivesArray a) (atRest was Array x) Nothing
   unfolding lateOf noCommand suspendedRead noIdentifier
-  reads x a f h = calm-decides (atRest Array x) Read a 0 (rest-proper d Array x f) h refl refl
+  reads x a f h = calm-decides (atRest was Array x) Read a 0 (rest-proper d was Array x f) h refl refl
 
   -- no late number refuses a read of the status
   late-status : (s : State) (a : ℕ) → s .mode ≡ Status → lateOf (d .part) s (cyc p Read a 0) ≡ 0
@@ -135,33 +136,33 @@ module _ (d : Device) (p : Pins) (u : Up d p) where
 
   -- a poll of a device at rest
   pub reads-status : (x a : ℕ) → fits 2 x ≡ true → a < sizeOf (d .part)
-      → decideOf d (atRest Status x) (cyc p Read a 0) (sizeOf (d .part)) 0 ≡ decidedAs (Gives x) (atRest Status x) Nothing
-  reads-status x a f h = calm-decides (atRest Status x) Read a 0 (rest-proper d Status x f) h refl (late-status (atRest Status x) a refl)
+      → decideOf d (atRest was Status x) (cyc p Read a 0) (sizeOf (d .part)) 0 ≡ decidedAs (Gives x) (atRest was Status x) Nothing
+  reads-status x a f h = calm-decides (atRest was Status x) Read a 0 (rest-proper d was Status x f) h refl (late-status (atRest was Status x) a refl)
 
-  asked-proper : (ph : Phase) → badMode ph Status ≡ false → badStatus ph 128 ≡ false → badLeft d ph 0 ≡ false → badAddress d ph 0 ≡ false → Proper d (st Status 128 ph 0 0)
+  asked-proper : (ph : Phase) → badMode ph Status ≡ false → badStatus ph 128 ≡ false → badLeft d ph 0 ≡ false → badAddress d ph 0 ≡ false → Proper d (st was Status 128 ph 0 0)
   asked-proper ph a b c e = record { mode = a; status = b; left = c; address = e }
 
   -- a confirm, and a byte of data, do what comes of an operation that is to start
   confirm-does : (a : ℕ) → a < sizeOf (d .part)
-      → decideOf d (st Status 128 EraseAwaited 0 0) (cyc p Write a 0xD0) (sizeOf (d .part)) 0
-      ≡ decidedAs Quiet (startedOf (d .part) (cyc p Write a 0xD0) (st Status 128 EraseAwaited 0 0) Erasing (d .erase) 32) Nothing
+      → decideOf d (st was Status 128 EraseAwaited 0 0) (cyc p Write a 0xD0) (sizeOf (d .part)) 0
+      ≡ decidedAs Quiet (startedOf (d .part) (cyc p Write a 0xD0) (st was Status 128 EraseAwaited 0 0) Erasing (d .erase) 32) Nothing
   unfolding afterErase lateOf noCommand suspendedRead noIdentifier badStatus badLeft badAddress
-  confirm-does a h = calm-decides (st Status 128 EraseAwaited 0 0) Write a 0xD0 (asked-proper EraseAwaited refl refl refl refl) h refl refl
+  confirm-does a h = calm-decides (st was Status 128 EraseAwaited 0 0) Write a 0xD0 (asked-proper EraseAwaited refl refl refl refl) h refl refl
 
   data-does : (a b : ℕ) → a < sizeOf (d .part)
-      → decideOf d (st Status 128 DataAwaited 0 0) (cyc p Write a b) (sizeOf (d .part)) 0
-      ≡ decidedAs Quiet (startedOf (d .part) (cyc p Write a b) (st Status 128 DataAwaited 0 0) (Programming b) (d .program) 16) Nothing
+      → decideOf d (st was Status 128 DataAwaited 0 0) (cyc p Write a b) (sizeOf (d .part)) 0
+      ≡ decidedAs Quiet (startedOf (d .part) (cyc p Write a b) (st was Status 128 DataAwaited 0 0) (Programming b) (d .program) 16) Nothing
   unfolding lateOf noCommand suspendedRead noIdentifier badStatus badLeft badAddress
-  data-does a b h = calm-decides (st Status 128 DataAwaited 0 0) Write a b (asked-proper DataAwaited refl refl refl refl) h refl refl
+  data-does a b h = calm-decides (st was Status 128 DataAwaited 0 0) Write a b (asked-proper DataAwaited refl refl refl refl) h refl refl
 
   -- where no operation can start both leave the device at rest with error bits
   pub confirm-fails : (k low a : ℕ) → Stuck d p k low → a < sizeOf (d .part) → blockOf (d .part) a ≡ k
-      → decideOf d (st Status 128 EraseAwaited 0 0) (cyc p Write a 0xD0) (sizeOf (d .part)) 0 ≡ decidedAs Quiet (atRest Status (bitOr (bitOr 128 low) 32)) Nothing
-  confirm-fails k low a z h e = confirm-does a h ∙ ap (λ (x : State). decidedAs Quiet x Nothing) (z .stays (st Status 128 EraseAwaited 0 0) Erasing a 0xD0 (d .erase) 32 refl e)
+      → decideOf d (st was Status 128 EraseAwaited 0 0) (cyc p Write a 0xD0) (sizeOf (d .part)) 0 ≡ decidedAs Quiet (atRest was Status (bitOr (bitOr 128 low) 32)) Nothing
+  confirm-fails k low a z h e = confirm-does a h ∙ ap (λ (x : State). decidedAs Quiet x Nothing) (z .stays (st was Status 128 EraseAwaited 0 0) Erasing a 0xD0 (d .erase) 32 refl e)
 
   pub data-fails : (k low a b : ℕ) → Stuck d p k low → a < sizeOf (d .part) → blockOf (d .part) a ≡ k
-      → decideOf d (st Status 128 DataAwaited 0 0) (cyc p Write a b) (sizeOf (d .part)) 0 ≡ decidedAs Quiet (atRest Status (bitOr (bitOr 128 low) 16)) Nothing
-  data-fails k low a b z h e = data-does a b h ∙ ap (λ (x : State). decidedAs Quiet x Nothing) (z .stays (st Status 128 DataAwaited 0 0) (Programming b) a b (d .program) 16 refl e)
+      → decideOf d (st was Status 128 DataAwaited 0 0) (cyc p Write a b) (sizeOf (d .part)) 0 ≡ decidedAs Quiet (atRest was Status (bitOr (bitOr 128 low) 16)) Nothing
+  data-fails k low a b z h e = data-does a b h ∙ ap (λ (x : State). decidedAs Quiet x Nothing) (z .stays (st was Status 128 DataAwaited 0 0) (Programming b) a b (d .program) 16 refl e)
 
   module _ (k : ℕ) (r : Ready d p k) where
     -- a block that a load may write is not locked
@@ -179,23 +180,23 @@ module _ (d : Device) (p : Pins) (u : Up d p) where
 
     -- a confirm and a byte of data start their operation
     starts : (s : State) (ph : Phase) (a b time bit : ℕ) → s .status ≡ 128 → s .mode ≡ Status → blockOf (d .part) a ≡ k
-        → startedOf (d .part) (cyc p Write a b) s ph time bit ≡ st Status 0 ph time a
+        → startedOf (d .part) (cyc p Write a b) s ph time bit ≡ st s Status 0 ph time a
     unfolding startedOf
     starts s ph a b time bit e m h = simp (supplied s a b e, open-at a b h, e, m)
 
     pub confirms : (a : ℕ) → a < sizeOf (d .part) → blockOf (d .part) a ≡ k
-        → decideOf d (st Status 128 EraseAwaited 0 0) (cyc p Write a 0xD0) (sizeOf (d .part)) 0 ≡ decidedAs Quiet (st Status 0 Erasing (d .erase) a) Nothing
-    confirms a h e = confirm-does a h ∙ ap (λ (x : State). decidedAs Quiet x Nothing) (starts (st Status 128 EraseAwaited 0 0) Erasing a 0xD0 (d .erase) 32 refl refl e)
+        → decideOf d (st was Status 128 EraseAwaited 0 0) (cyc p Write a 0xD0) (sizeOf (d .part)) 0 ≡ decidedAs Quiet (st was Status 0 Erasing (d .erase) a) Nothing
+    confirms a h e = confirm-does a h ∙ ap (λ (x : State). decidedAs Quiet x Nothing) (starts (st was Status 128 EraseAwaited 0 0) Erasing a 0xD0 (d .erase) 32 refl refl e)
 
     pub sends : (a b : ℕ) → a < sizeOf (d .part) → blockOf (d .part) a ≡ k
-        → decideOf d (st Status 128 DataAwaited 0 0) (cyc p Write a b) (sizeOf (d .part)) 0 ≡ decidedAs Quiet (st Status 0 (Programming b) (d .program) a) Nothing
-    sends a b h e = data-does a b h ∙ ap (λ (x : State). decidedAs Quiet x Nothing) (starts (st Status 128 DataAwaited 0 0) (Programming b) a b (d .program) 16 refl refl e)
+        → decideOf d (st was Status 128 DataAwaited 0 0) (cyc p Write a b) (sizeOf (d .part)) 0 ≡ decidedAs Quiet (st was Status 0 (Programming b) (d .program) a) Nothing
+    sends a b h e = data-does a b h ∙ ap (λ (x : State). decidedAs Quiet x Nothing) (starts (st was Status 128 DataAwaited 0 0) (Programming b) a b (d .program) 16 refl refl e)
 
     -- a running operation is proper
     in-range : (most left : ℕ) → 0 < left → left ≤ most → (eqb left 0 || ltb most left) ≡ false
     in-range most left h m = or-both (eqb left 0) (ltb most left) (ne-eqb left 0 (λ q. omega arith)) (le-ltb most left m)
 
-    busy-proper : (ph : Phase) (left a : ℕ) → isBusy ph ≡ true → 0 < left → left ≤ mostLeft d ph → a < sizeOf (d .part) → Proper d (st Status 0 ph left a)
+    busy-proper : (ph : Phase) (left a : ℕ) → isBusy ph ≡ true → 0 < left → left ≤ mostLeft d ph → a < sizeOf (d .part) → Proper d (st was Status 0 ph left a)
     unfolding badStatus badLeft badAddress
     busy-proper Free left a b z m h = absurd (unlike (sym b))
     busy-proper EraseAwaited left a b z m h = absurd (unlike (sym b))
@@ -211,17 +212,17 @@ module _ (d : Device) (p : Pins) (u : Up d p) where
 
     -- a poll while cycles are left, and the last one
     pub waits : (ph : Phase) (left a b : ℕ) → isBusy ph ≡ true → 0 < left → left + 1 ≤ mostLeft d ph → a < sizeOf (d .part) → b < sizeOf (d .part)
-        → decideOf d (st Status 0 ph (left + 1) a) (cyc p Read b 0) (sizeOf (d .part)) 0 ≡ decidedAs (Gives 0) (st Status 0 ph left a) Nothing
+        → decideOf d (st was Status 0 ph (left + 1) a) (cyc p Read b 0) (sizeOf (d .part)) 0 ≡ decidedAs (Gives 0) (st was Status 0 ph left a) Nothing
     unfolding countedOff
     waits ph left a b e z m h g =
-        let s : State = st Status 0 ph (left + 1) a in
-        decides s (st Status 0 ph left a) Nothing Read b 0 (busy-proper ph (left + 1) a e (omega arith) m h) g (unasked-high (d .part) s (cyc p Read b 0) (u .up) (r .high))
-        (counts s e ∙ if-false (eqb (left + 1 - 1) 0) _ _ (ne-eqb (left + 1 - 1) 0 (λ q. omega arith)) ∙ ap (λ (j : ℕ). settledAs (st Status 0 ph j a) Nothing) (let q : left + 1 - 1 ≡ left = omega arith in q))
-        (late-status (st Status 0 ph left a) b refl)
+        let s : State = st was Status 0 ph (left + 1) a in
+        decides s (st was Status 0 ph left a) Nothing Read b 0 (busy-proper ph (left + 1) a e (omega arith) m h) g (unasked-high (d .part) s (cyc p Read b 0) (u .up) (r .high))
+        (counts s e ∙ if-false (eqb (left + 1 - 1) 0) _ _ (ne-eqb (left + 1 - 1) 0 (λ q. omega arith)) ∙ ap (λ (j : ℕ). settledAs (st was Status 0 ph j a) Nothing) (let q : left + 1 - 1 ≡ left = omega arith in q))
+        (late-status (st was Status 0 ph left a) b refl)
 
     pub ends : (ph : Phase) (a b : ℕ) → isBusy ph ≡ true → 1 ≤ mostLeft d ph → a < sizeOf (d .part) → b < sizeOf (d .part)
-        → decideOf d (st Status 0 ph 1 a) (cyc p Read b 0) (sizeOf (d .part)) 0 ≡ decidedAs (Gives 128) (atRest Status 128) (endOf ph (d .part) a)
+        → decideOf d (st was Status 0 ph 1 a) (cyc p Read b 0) (sizeOf (d .part)) 0 ≡ decidedAs (Gives 128) (atRest was Status 128) (endOf ph (d .part) a)
     unfolding countedOff
     ends ph a b e m h g =
-        let s : State = st Status 0 ph 1 a in
-        decides s (atRest Status 128) (endOf ph (d .part) a) Read b 0 (busy-proper ph 1 a e (omega arith) m h) g (unasked-high (d .part) s (cyc p Read b 0) (u .up) (r .high)) (counts s e) (late-status (atRest Status 128) b refl)
+        let s : State = st was Status 0 ph 1 a in
+        decides s (atRest was Status 128) (endOf ph (d .part) a) Read b 0 (busy-proper ph 1 a e (omega arith) m h) g (unasked-high (d .part) s (cyc p Read b 0) (u .up) (r .high)) (counts s e) (late-status (atRest was Status 128) b refl)

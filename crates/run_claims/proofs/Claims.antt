@@ -37,13 +37,13 @@ pub demand-3 : (d : Device) (s : State) (p : Pins) (k : ℕ) (xs w sc : List ℕ
 demand-3 = mission.demand-3
 
 -- A proper idle start (`Taken`) is just what no number of a run refuses, with busy times up to 65,535 and wanted bytes.
-pub taken-exactly : (d : Device) (s : State) (p : Pins) (k : ℕ) (xs w sc : List ℕ) → d .program ≤ 65535 → d .erase ≤ 65535 → Cells w
+pub taken-exactly : (d : Device) (s : State) (p : Pins) (k : ℕ) (xs w sc : List ℕ) → d .program ≤ 65535 → d .erase ≤ 65535 → Cells (d .part) w
     → Taken d s p k xs w sc ↔ (runNumber d s p k (length xs) (length w) (length sc) ≡ 0)
 taken-exactly = starts.taken-exactly
 
 -- The clauses one by one. All that the run returns: the load ends well, and the count is 2n + 3 + e(2 + E) + p(2 + P).
 pub ends-well : (d : Device) (s : State) (p : Pins) (k : ℕ) (xs w sc : List ℕ) → Start d s p k xs w sc
-    → ranOf d s p k xs w sc ≡ record { count = formula d w (heldIn (startOf (d .part) k) (length w) xs); end = 0; address = 0; state = atRest Array 0x80 }
+    → ranOf d s p k xs w sc ≡ record { count = formula d w (heldIn (startOf (d .part) k) (length w) xs); end = 0; address = 0; state = atRest s Array 0x80 }
 ends-well = mission.ends-well
 
 -- The block holds the wanted bytes, every other byte is as before, and scratch holds the wanted bytes.
@@ -62,7 +62,7 @@ scratch-left = mission.scratch-wanted
 -- It erases once if some bit must rise, otherwise never; it programs each byte that then differs once, and no other: the list of
 -- the operations begun, in their order.
 pub begins-just : (d : Device) (s : State) (p : Pins) (k : ℕ) (xs w sc : List ℕ) → Start d s p k xs w sc
-    → begunByLoad d s p k xs w sc ≡ operationsOf k (startOf (d .part) k) w (heldBy (d .part) k xs)
+    → begunByLoad d s p k xs w sc ≡ operationsOf (d .part) k (startOf (d .part) k) w (heldBy (d .part) k xs)
 begins-just d s p k xs w sc start = mission.demand-3 d s p k xs w sc start .begins
 
 -- The cycles of a good load, one after the other: 50H, FFH, n reads; 20H, D0H, E polls if some bit must rise; 40H, the byte, P
@@ -76,7 +76,7 @@ cycles-counted = mission.cycles-long
 
 -- Least wear: cycles of any kind from the same start, refused ones among them, that cut no operation and leave the block as
 -- wanted, begin at least as many erases of that block and at least as many programs in it as the load's own cycles.
-pub nothing-less : (d : Device) (s : State) (p : Pins) (k : ℕ) (xs w sc : List ℕ) → Start d s p k xs w sc → Cells xs
+pub nothing-less : (d : Device) (s : State) (p : Pins) (k : ℕ) (xs w sc : List ℕ) → Start d s p k xs w sc → Cells (d .part) xs
     → (bs : List Bus) → Brings d (worldOf s xs) k w bs → NoFewer d (worldOf s xs) k (ownCycles d s p k xs w sc) bs
 nothing-less d s p k xs w sc start = mission.demand-3 d s p k xs w sc start .least-wear
 
@@ -111,7 +111,7 @@ pub run-counts : (d : Device) (s : State) (p : Pins) (k : ℕ) (xs w sc : List �
 run-counts = counting.run-counts
 
 -- The cycles that specs/Ends lists are as many as the count that it lists: the formula for a good end, n + 5 for 21, 23 and 24.
-pub ends-counted : (d : Device) (p : Pins) (k a : ℕ) (w ys : List ℕ) → length (cyclesAs d p k a w ys) ≡ ranAs d p k w ys .count
+pub ends-counted : (d : Device) (s : State) (p : Pins) (k a : ℕ) (w ys : List ℕ) → length (cyclesAs d p k a w ys) ≡ ranAs d s p k w ys .count
 ends-counted = counting.ends-counted
 
 -- With nothing to erase or program the count is 2n + 3.

@@ -54,10 +54,10 @@ fault-long p a w ys = go (a + diffFrom 0 w ys) (getD w (diffFrom 0 w ys) 0) (ris
     go x b false = let r = reads-long p (length w) a 0 (programTried p x b) in omega arith
 
 -- the listed cycles are as many as the listed count, whatever the end
-pub ends-counted : (d : Device) (p : Pins) (k a : ℕ) (w ys : List ℕ) → length (cyclesAs d p k a w ys) ≡ ranAs d p k w ys .count
+pub ends-counted : (d : Device) (s : State) (p : Pins) (k a : ℕ) (w ys : List ℕ) → length (cyclesAs d p k a w ys) ≡ ranAs d s p k w ys .count
 unfolding cyclesAs ranAs
-ends-counted d p k a w ys = go (eqb (endNumber d p k w ys) 0)
+ends-counted d s p k a w ys = go (eqb (endNumber d p k w ys) 0)
   where
-    go : (t : Bool) → length (if t then cyclesOf d p a w ys else faultCycles p a w ys) ≡ (if t then wellRan d w ys else faultRan d p w ys (endNumber d p k w ys)) .count
+    go : (t : Bool) → length (if t then cyclesOf d p a w ys else faultCycles p a w ys) ≡ (if t then wellRan d s w ys else faultRan d s p w ys (endNumber d p k w ys)) .count
     go true = cycles-long d p a w ys
     go false = fault-long p a w ys

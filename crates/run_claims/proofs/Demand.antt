@@ -7,24 +7,25 @@ use native.Mathlib.Nat.{zero-mul, one-mul}
 use native.Mathlib.Omega.{arith}
 use lib.ListN.{length, getD, drop, length-drop}
 use lib.Seq.{length-take-le}
-use lib.Dec.{eqb, leb}
-use borrow.Author.Tests.{eqb-true, eqb-false, not-false, lt-leb, leb-true}
+use lib.Dec.{eqb}
+use borrow.Author.Tests.{eqb-true, eqb-false, not-false}
 use Rattle.cells.specs.Choice.{if_then_else_}
-use Rattle.cells.proofs.Choice.{if-true, if-false, and-left, unlike}
+use Rattle.cells.proofs.Choice.{if-true, if-false, unlike}
 use Rattle.cells.specs.Lists.{overlaid}
 use Rattle.device.specs.declared.Device.{Device}
 use Rattle.device.specs.Parts.{lengthOf, startOf}
 use Rattle.device.proofs.Claims.{blocks-end-inside}
 use Rattle.chip.specs.declared.Pins.{Pins}
 use Rattle.chip.specs.declared.Phase.{Phase}
-use Rattle.chip.specs.declared.Phase.the-variants.{Free, EraseAwaited, DataAwaited, Programming, Erasing, Suspended}
+use Rattle.chip.specs.declared.Phase.the-variants.{Free}
 use Rattle.chip.specs.declared.Mode.the-variants.{Array, Status}
 use Rattle.chip.specs.declared.State.{State}
 use Rattle.chip.specs.declared.Effect.{Effect}
 use Rattle.chip.specs.declared.Effect.the-variants.{Nothing}
-use Rattle.chip.specs.Levels.{vppLow, vppHigh, unlocked}
+use Rattle.chip.specs.Levels.{vppLow, unlocked}
 use Rattle.chip.specs.States.{atRest}
-use Rattle.chip.specs.Inner.{badLeft, badAddress, badStatus}
+use Rattle.chip.specs.Inner.{badStatus}
+use Rattle.chip.proofs.Rest.{free-phase, resting}
 use Rattle.bus.proofs.Facts.{Proper}
 use Rattle.model.proofs.Status.{fits, status-fits}
 use Rattle.model.proofs.Keeping.{times}
@@ -93,34 +94,9 @@ same-smooth zero j d w c a b = sym (smooth-ended j d w c a)
 same-smooth (suc i) zero d w c a b = smooth-ended (suc i) d w c b
 same-smooth (suc i) (suc j) d w c a b = ap (λ (x : Bool). smoothTurn d w c && x) (same-smooth i j d w (turnOf d w c) a b)
 
-none-left : (d : Device) (n : ℕ) → badLeft d Free n ≡ false → n ≡ 0
-unfolding badLeft
-none-left d n h = eqb-true n 0 (not-false (eqb n 0) h)
-
-none-at : (d : Device) (n : ℕ) → badAddress d Free n ≡ false → n ≡ 0
-unfolding badAddress
-none-at d n h = eqb-true n 0 (not-false (eqb n 0) h)
-
--- a proper state that is not under way is at rest, and ready
-resting : (d : Device) (s : State) → Proper d s → underWay (s .phase) ≡ false → (s ≡ atRest (s .mode) (s .status)) × (fits 2 (s .status) ≡ true)
-resting d s q u =
-    let e : s .phase ≡ Free = free (s .phase) u in
-    let l : s .left ≡ 0 = none-left d (s .left) (subst (λ (x : Phase). badLeft d x (s .left) ≡ false) e (q .left)) in
-    let r : s .address ≡ 0 = none-at d (s .address) (subst (λ (x : Phase). badAddress d x (s .address) ≡ false) e (q .address)) in
-    ((λ i. record { mode = s .mode; status = s .status; phase = e i; left = l i; address = r i }), status-fits Free (s .status) (subst (λ (x : Phase). badStatus x (s .status) ≡ false) e (q .status)))
-  where
-    free : (ph : Phase) → underWay ph ≡ false → ph ≡ Free
-    free Free e = refl
-    free EraseAwaited e = absurd (unlike e)
-    free DataAwaited e = absurd (unlike e)
-    free (Programming b) e = absurd (unlike e)
-    free Erasing e = absurd (unlike e)
-    free Suspended e = absurd (unlike e)
-
--- VPP in the high band is not in the low one
-pub not-low : (d : Device) (p : Pins) → vppHigh (d .part) p ≡ true → vppLow (d .part) p ≡ false
-unfolding vppHigh vppLow
-not-low d p e = lt-leb (p .vpp) 6500 (let z = leb-true 11400 (p .vpp) (and-left (leb 11400 (p .vpp)) (leb (p .vpp) 12600) e) in omega arith)
+-- a proper state that is not under way is ready
+ready-status : (d : Device) (s : State) → Proper d s → underWay (s .phase) ≡ false → fits 2 (s .status) ≡ true
+ready-status d s q u = status-fits Free (s .status) (subst (λ (x : Phase). badStatus x (s .status) ≡ false) (free-phase (s .phase) u) (q .status))
 
 some-bytes : (d : Device) (k : ℕ) → noBlock (d .part) k ≡ false → lengthOf (d .part) k ≡ 0 → ⊥
 unfolding noBlock
@@ -167,10 +143,10 @@ module _ (d : Device) (s : State) (p : Pins) (k : ℕ) (xs w sc : List ℕ) (t :
 
   -- where a good load comes to, and one that a fault ends
   abbrev pub goal : Config
-  goal = conf (rec (Ended 0) (length w - 1)) (atRest Array 128) (overlaid xs a w) w (formula d w ys)
+  goal = conf (rec (Ended 0) (length w - 1)) (atRest s Array 128) (overlaid xs a w) w (formula d w ys)
 
   abbrev pub broken : ℕ → ℕ → ℕ → Config
-  broken n x i = conf (rec (Ended n) i) (atRest Status x) xs ys (length w + 5)
+  broken n x i = conf (rec (Ended n) i) (atRest s Status x) xs ys (length w + 5)
 
   -- what some turns reach that have ended is what the run comes to
   comes : (e : Config) (es : List Effect) (cs : List Cycle) → isEnded (e .loader .stage) ≡ true → Reach d w started e es cs → Left d s p k xs w sc e es cs
@@ -186,36 +162,36 @@ module _ (d : Device) (s : State) (p : Pins) (k : ℕ) (xs w sc : List ℕ) (t :
       }
 
   -- a load from a device at rest, over the block as it is held, is the load from the start
-  from-rest : (e : Config) (es : List Effect) (cs : List Cycle) → Reach d w (conf (rec Clearing 0) (atRest (s .mode) (s .status)) (overlaid xs a ys) sc 0) e es cs → Reach d w started e es cs
+  from-rest : (e : Config) (es : List Effect) (cs : List Cycle) → Reach d w (conf (rec Clearing 0) (atRest s (s .mode) (s .status)) (overlaid xs a ys) sc 0) e es cs → Reach d w started e es cs
   from-rest e es cs r =
-      subst (λ (x : State). Reach d w (beginning d x p k xs sc) e es cs) (sym (resting d s (g .proper) (g .free) .0))
-      (subst (λ (z : List ℕ). Reach d w (beginning d (atRest (s .mode) (s .status)) p k z sc) e es cs) (over-self xs a (length w) fitting) r)
+      subst (λ (x : State). Reach d w (beginning d x p k xs sc) e es cs) (sym (resting d s (g .free) (g .proper .left) (g .proper .address)))
+      (subst (λ (z : List ℕ). Reach d w (beginning d (atRest s (s .mode) (s .status)) p k z sc) e es cs) (over-self xs a (length w) fitting) r)
 
   -- 50H, FFH and the first reads come first, whatever follows
-  opened : (e : Config) (es : List Effect) (cs : List Cycle) → Reach d w (faults.judged d p k u w (g .wanted) some xs (g .sized) ys ly (2 + length w)) e es cs
+  opened : (e : Config) (es : List Effect) (cs : List Cycle) → Reach d w (faults.judged d p k u s w (g .wanted) some xs (g .sized) ys ly (2 + length w)) e es cs
       → Reach d w started e es (openingThen p a (length w) cs)
   opened e es cs r =
       from-rest e es (openingThen p a (length w) cs)
-      (phases.opening d p k u w (g .wanted) some xs (g .sized) ys sc ly (g .scratch ∙ sym (g .wanted)) (s .mode) (s .status) (resting d s (g .proper) (g .free) .1) e es cs r)
+      (phases.opening d p k u s w (g .wanted) some xs (g .sized) ys sc ly (g .scratch ∙ sym (g .wanted)) (s .mode) (s .status) (ready-status d s (g .proper) (g .free)) e es cs r)
 
   -- the load where its operations can start
   module _ (high : vppLow (d .part) p ≡ false) (unlock : k ≡ 0 → unlocked (d .part) p 0 ≡ true) where
     ready : Ready d p k
     ready = record { base = u; high = high; unlock = unlock }
 
-    counts : formula d w ys ≡ 2 * length w + 3 + ((if risesIn w ys then 2 + d .erase else 0) + phases.costs d p k u w (g .wanted) some xs (g .sized) (length w) 0 (baseOf w ys))
-    counts = rw (phases.costs-are d p k u w (g .wanted) some xs (g .sized) (length w) 0 (baseOf w ys)) (go (risesIn w ys))
+    counts : formula d w ys ≡ 2 * length w + 3 + ((if risesIn w ys then 2 + d .erase else 0) + phases.costs d p k u s w (g .wanted) some xs (g .sized) (length w) 0 (baseOf (d .part) w ys))
+    counts = rw (phases.costs-are d p k u s w (g .wanted) some xs (g .sized) (length w) 0 (baseOf (d .part) w ys)) (go (risesIn w ys))
       where
-        go : (x : Bool) → 2 * length w + 3 + (if x then 1 else 0) * (2 + d .erase) + programsIn w ys * (2 + d .program)
-            ≡ 2 * length w + 3 + ((if x then 2 + d .erase else 0) + programsIn w ys * (2 + d .program))
+        go : (x : Bool) → 2 * length w + 3 + (if x then 1 else 0) * (2 + d .erase) + programsIn (d .part) w ys * (2 + d .program)
+            ≡ 2 * length w + 3 + ((if x then 2 + d .erase else 0) + programsIn (d .part) w ys * (2 + d .program))
         go true = rw (one-mul (2 + d .erase)) (omega arith)
         go false = rw (zero-mul (2 + d .erase)) (omega arith)
 
-    pub good-load : Left d s p k xs w sc goal (operationsOf k a w ys) (cyclesOf d p a w ys)
+    pub good-load : Left d s p k xs w sc goal (operationsOf (d .part) k a w ys) (cyclesOf d p a w ys)
     good-load =
-        comes goal (operationsOf k a w ys) (cyclesOf d p a w ys) refl
-        (from-rest goal (operationsOf k a w ys) (cyclesOf d p a w ys)
-        (phases.loading d p k u w (g .wanted) some xs (g .sized) ys sc ly (g .scratch ∙ sym (g .wanted)) ready (s .mode) (s .status) (formula d w ys) (resting d s (g .proper) (g .free) .1) (t .bytes)
+        comes goal (operationsOf (d .part) k a w ys) (cyclesOf d p a w ys) refl
+        (from-rest goal (operationsOf (d .part) k a w ys) (cyclesOf d p a w ys)
+        (phases.loading d p k u s w (g .wanted) some xs (g .sized) ys sc ly (g .scratch ∙ sym (g .wanted)) ready (s .mode) (s .status) (formula d w ys) (ready-status d s (g .proper) (g .free)) (t .bytes)
         (over (d .program) (times d (g .known) .0)) (t .programs) (over (d .erase) (times d (g .known) .1)) (t .erases) counts))
 
   -- the load of a block that holds what is wanted
@@ -223,7 +199,7 @@ module _ (d : Device) (s : State) (p : Pins) (k : ℕ) (xs w sc : List ℕ) (t :
   same-load e =
       comes goal [] (cyclesOf d p a w ys) refl
       (subst (λ (cs : List Cycle). Reach d w started goal [] cs) (sym listed)
-      (opened goal [] (closingOf p a (length w)) (faults.nothing-done d p k u w (g .wanted) some xs (g .sized) ys ly (2 + length w) (formula d w ys) e counted)))
+      (opened goal [] (closingOf p a (length w)) (faults.nothing-done d p k u s w (g .wanted) some xs (g .sized) ys ly (2 + length w) (formula d w ys) e counted)))
     where
       held : ys ≡ w
       held = same-list w ys ly e
@@ -239,21 +215,21 @@ module _ (d : Device) (s : State) (p : Pins) (k : ℕ) (xs w sc : List ℕ) (t :
 
   -- the load whose first operation cannot start: the array is as before
   stopped : (n x i : ℕ) (cs : List Cycle)
-      → Reach d w (faults.judged d p k u w (g .wanted) some xs (g .sized) ys ly (2 + length w)) (conf (rec (Ended n) i) (atRest Status x) (overlaid xs a ys) ys (2 + length w + 3)) [] cs
+      → Reach d w (faults.judged d p k u s w (g .wanted) some xs (g .sized) ys ly (2 + length w)) (conf (rec (Ended n) i) (atRest s Status x) (overlaid xs a ys) ys (2 + length w + 3)) [] cs
       → (all : List Cycle) → all ≡ openingThen p a (length w) cs → Left d s p k xs w sc (broken n x i) [] all
   stopped n x i cs r all q =
       comes (broken n x i) [] all refl
       (subst (λ (z : List Cycle). Reach d w started (broken n x i) [] z) (sym q)
       (subst (λ (c : Config). Reach d w started c [] (openingThen p a (length w) cs)) back (opened _ [] cs r)))
     where
-      back : conf (rec (Ended n) i) (atRest Status x) (overlaid xs a ys) ys (2 + length w + 3) ≡ broken n x i
-      back = λ j. conf (rec (Ended n) i) (atRest Status x) (over-self xs a (length w) fitting j) ys ((let z : 2 + length w + 3 ≡ length w + 5 = omega arith in z) j)
+      back : conf (rec (Ended n) i) (atRest s Status x) (overlaid xs a ys) ys (2 + length w + 3) ≡ broken n x i
+      back = λ j. conf (rec (Ended n) i) (atRest s Status x) (over-self xs a (length w) fitting j) ys ((let z : 2 + length w + 3 ≡ length w + 5 = omega arith in z) j)
 
   -- .. an erase
   pub erase-load : (low x n : ℕ) → Stuck d p k low → bitOr (bitOr 128 low) 32 ≡ x → fits 2 x ≡ true → isReady x ≡ true → eraseFault x ≡ n → eqb n 0 ≡ false → risesIn w ys ≡ true
       → Left d s p k xs w sc (broken n x 0) [] (faultCycles p a w ys)
   erase-load low x n stuck q f ready e z y =
-      stopped n x 0 (eraseTried p a) (faults.erase-fails d p k u w (g .wanted) some xs (g .sized) ys ly low x n (2 + length w) stuck q f ready e z y)
+      stopped n x 0 (eraseTried p a) (faults.erase-fails d p k u s w (g .wanted) some xs (g .sized) ys ly low x n (2 + length w) stuck q f ready e z y)
       (faultCycles p a w ys) (ap (λ (cs : List Cycle). openingThen p a (length w) cs) (if-true (risesIn w ys) _ _ y))
 
   -- .. a program
@@ -261,7 +237,7 @@ module _ (d : Device) (s : State) (p : Pins) (k : ℕ) (xs w sc : List ℕ) (t :
       → asWanted w ys ≡ false → Left d s p k xs w sc (broken n x (diffFrom 0 w ys)) [] (faultCycles p a w ys)
   program-load low x n stuck q f ready e z y o =
       stopped n x (diffFrom 0 w ys) (programTried p (a + diffFrom 0 w ys) (getD w (diffFrom 0 w ys) 0))
-      (faults.program-fails d p k u w (g .wanted) some xs (g .sized) ys ly low x n (2 + length w) stuck q f ready e z y o)
+      (faults.program-fails d p k u s w (g .wanted) some xs (g .sized) ys ly low x n (2 + length w) stuck q f ready e z y o)
       (faultCycles p a w ys) (ap (λ (cs : List Cycle). openingThen p a (length w) cs) (if-false (risesIn w ys) _ _ y))
 
   -- what a run returns and leaves, where it is known how it is left

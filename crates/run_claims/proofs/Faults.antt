@@ -44,7 +44,8 @@ use Rattle.run_claims.proofs.Reaching.{Reach, Told, does-as, arrive, pr
 use Rattle.run_claims.proofs.Same.{same-list, none-risen, none-ahead, some-ahead}
 use Rattle.run_claims.proofs.Phases as phases
 
-module _ (d : Device) (p : Pins) (k : ℕ) (u : Up d p) (w : List ℕ) (lw : length w ≡ lengthOf (d .part) k) (some : 0 < length w) where
+-- `was` is the state that the load began in
+module _ (d : Device) (p : Pins) (k : ℕ) (u : Up d p) (was : State) (w : List ℕ) (lw : length w ≡ lengthOf (d .part) k) (some : 0 < length w) where
   abbrev a : ℕ
   a = startOf (d .part) k
 
@@ -53,24 +54,24 @@ module _ (d : Device) (p : Pins) (k : ℕ) (u : Up d p) (w : List ℕ) (lw : len
 
   -- two writes and a poll that finds a fault: the end by its number, with nothing begun
   module _ (A B C : Stage) (goA : isEnded A ≡ false) (goB : isEnded B ≡ false) (goC : isEnded C ≡ false) (i x n : ℕ) (asked : State) (c1 c2 c3 : Cycle)
-      (t1 : Told d w (rec A i 0) (atRest Array 128) c1 Quiet asked Nothing) (t2 : Told d w (rec B i 0) asked c2 Quiet (atRest Status x) Nothing)
-      (t3 : Told d w (rec C i 0) (atRest Status x) c3 (Gives x) (atRest Status x) Nothing) (b2 : begunFrom (d .part) asked (atRest Status x) ≡ Nothing)
+      (t1 : Told d w (rec A i 0) (atRest was Array 128) c1 Quiet asked Nothing) (t2 : Told d w (rec B i 0) asked c2 Quiet (atRest was Status x) Nothing)
+      (t3 : Told d w (rec C i 0) (atRest was Status x) c3 (Gives x) (atRest was Status x) Nothing) (b2 : begunFrom (d .part) asked (atRest was Status x) ≡ Nothing)
       (X sc : List ℕ) (lX : length X ≡ sizeOf (d .part))
       (n1 : nextOf (rec A i 0) 0 w (storeOf (rec A i 0) 0 sc) ≡ rec B i 0) (k1 : storeOf (rec A i 0) 0 sc ≡ sc)
       (n2 : nextOf (rec B i 0) 0 w (storeOf (rec B i 0) 0 sc) ≡ rec C i 0) (k2 : storeOf (rec B i 0) 0 sc ≡ sc)
       (n3 : nextOf (rec C i 0) x w (storeOf (rec C i 0) x sc) ≡ rec (Ended n) i 0) (k3 : storeOf (rec C i 0) x sc ≡ sc) where
-    failing : (cnt : ℕ) → Reach d w (conf (rec A i 0) (atRest Array 128) X sc cnt) (conf (rec (Ended n) i 0) (atRest Status x) X sc (cnt + 3)) [] (c1 ∷ c2 ∷ c3 ∷ [])
+    failing : (cnt : ℕ) → Reach d w (conf (rec A i 0) (atRest was Array 128) X sc cnt) (conf (rec (Ended n) i 0) (atRest was Status x) X sc (cnt + 3)) [] (c1 ∷ c2 ∷ c3 ∷ [])
     failing cnt =
         prepend d w _ _ _ Nothing c1 [] (c2 ∷ c3 ∷ [])
-        (turned d w (rec A i 0) (atRest Array 128) X sc cnt goA lX c1 Quiet asked Nothing t1 ∙ (λ t. conf (n1 t) asked X (k1 t) (cnt + 1)))
-        (does d w (rec A i 0) (atRest Array 128) X sc cnt goA lX c1 Quiet asked Nothing t1)
+        (turned d w (rec A i 0) (atRest was Array 128) X sc cnt goA lX c1 Quiet asked Nothing t1 ∙ (λ t. conf (n1 t) asked X (k1 t) (cnt + 1)))
+        (does d w (rec A i 0) (atRest was Array 128) X sc cnt goA lX c1 Quiet asked Nothing t1)
         (prepend d w _ _ _ Nothing c2 [] (c3 ∷ [])
-        (turned d w (rec B i 0) asked X sc (cnt + 1) goB lX c2 Quiet (atRest Status x) Nothing t2 ∙ (λ t. conf (n2 t) (atRest Status x) X (k2 t) (cnt + 1 + 1)))
-        (does-as d w _ _ Nothing c2 b2 (does d w (rec B i 0) asked X sc (cnt + 1) goB lX c2 Quiet (atRest Status x) Nothing t2))
+        (turned d w (rec B i 0) asked X sc (cnt + 1) goB lX c2 Quiet (atRest was Status x) Nothing t2 ∙ (λ t. conf (n2 t) (atRest was Status x) X (k2 t) (cnt + 1 + 1)))
+        (does-as d w _ _ Nothing c2 b2 (does d w (rec B i 0) asked X sc (cnt + 1) goB lX c2 Quiet (atRest was Status x) Nothing t2))
         (prepend d w _ _ _ Nothing c3 [] []
-        (turned d w (rec C i 0) (atRest Status x) X sc (cnt + 1 + 1) goC lX c3 (Gives x) (atRest Status x) Nothing t3 ∙ (λ t. conf (n3 t) (atRest Status x) X (k3 t) (cnt + 1 + 1 + 1)))
-        (does d w (rec C i 0) (atRest Status x) X sc (cnt + 1 + 1) goC lX c3 (Gives x) (atRest Status x) Nothing t3)
-        (arrive d w _ _ (ap (λ (m : ℕ). conf (rec (Ended n) i 0) (atRest Status x) X sc m) (let z : cnt + 1 + 1 + 1 ≡ cnt + 3 = omega arith in z)))))
+        (turned d w (rec C i 0) (atRest was Status x) X sc (cnt + 1 + 1) goC lX c3 (Gives x) (atRest was Status x) Nothing t3 ∙ (λ t. conf (n3 t) (atRest was Status x) X (k3 t) (cnt + 1 + 1 + 1)))
+        (does d w (rec C i 0) (atRest was Status x) X sc (cnt + 1 + 1) goC lX c3 (Gives x) (atRest was Status x) Nothing t3)
+        (arrive d w _ _ (ap (λ (m : ℕ). conf (rec (Ended n) i 0) (atRest was Status x) X sc m) (let z : cnt + 1 + 1 + 1 ≡ cnt + 3 = omega arith in z)))))
 
   -- a ready status with a fault ends the load, and scratch stays
   erase-ends : (x n : ℕ) (sc : List ℕ) → isReady x ≡ true → eraseFault x ≡ n → eqb n 0 ≡ false → nextOf (rec EraseWaiting 0 0) x w sc ≡ rec (Ended n) 0 0
@@ -81,7 +82,7 @@ module _ (d : Device) (p : Pins) (k : ℕ) (u : Up d p) (w : List ℕ) (lw : len
   unfolding erasedWell
   erase-keeps x n sc e z = rw (e, z) (go (isReady x))
     where
-      go : (t : Bool) → (if t && false then replicate (length sc) ones else sc) ≡ sc
+      go : (t : Bool) → (if t && false then replicate (length sc) (ones (d .part)) else sc) ≡ sc
       go true = refl
       go false = refl
 
@@ -94,40 +95,40 @@ module _ (d : Device) (p : Pins) (k : ℕ) (u : Up d p) (w : List ℕ) (lw : len
     X = overlaid xs a ys
 
     lX : length X ≡ sizeOf (d .part)
-    lX = phases.sized d p k u w lw some xs lx ys ly
+    lX = phases.sized d p k u was w lw some xs lx ys ly
 
     abbrev pub judged : ℕ → Config
-    judged cnt = conf (if risesIn w ys then rec EraseAsking 0 0 else phases.onto d p k u w lw some 0 ys) (atRest Array 128) X ys cnt
+    judged cnt = conf (if risesIn w ys then rec EraseAsking 0 0 else phases.onto d p k u was w lw some 0 ys) (atRest was Array 128) X ys cnt
 
     -- an erase that cannot start
     pub erase-fails : (low x n cnt : ℕ) → Stuck d p k low → bitOr (bitOr 128 low) 32 ≡ x → fits 2 x ≡ true → isReady x ≡ true → eraseFault x ≡ n → eqb n 0 ≡ false → risesIn w ys ≡ true
-        → Reach d w (judged cnt) (conf (rec (Ended n) 0 0) (atRest Status x) X ys (cnt + 3)) [] (eraseTried p a)
+        → Reach d w (judged cnt) (conf (rec (Ended n) 0 0) (atRest was Status x) X ys (cnt + 3)) [] (eraseTried p a)
     erase-fails low x n cnt stuck q f ready e z t =
-        subst (λ (l : Loader). Reach d w (conf l (atRest Array 128) X ys cnt) (conf (rec (Ended n) 0 0) (atRest Status x) X ys (cnt + 3)) [] (eraseTried p a))
+        subst (λ (l : Loader). Reach d w (conf l (atRest was Array 128) X ys cnt) (conf (rec (Ended n) 0 0) (atRest was Status x) X ys (cnt + 3)) [] (eraseTried p a))
         (sym (if-true (risesIn w ys) _ _ t))
-        (failing EraseAsking EraseConfirming EraseWaiting refl refl refl 0 x n (st Status 128 EraseAwaited 0 0) (cyc p Write a 0x20) (cyc p Write a 0xD0) (cyc p Read a 0)
-        (phases.told-first d p k u w lw some EraseAsking 0 0 Write 0x20 (atRest Array 128) Quiet (st Status 128 EraseAwaited 0 0) Nothing refl (answers.asks-erase d p u Array 128 a refl a-inside) refl)
-        (phases.told-first d p k u w lw some EraseConfirming 0 0 Write 0xD0 (st Status 128 EraseAwaited 0 0) Quiet (atRest Status x) Nothing refl
-        (answers.confirm-fails d p u k low a stuck a-inside (phases.block-first d p k u w lw some) ∙ ap (λ (y : ℕ). decidedAs Quiet (atRest Status y) Nothing) q) refl)
-        (phases.told-first d p k u w lw some EraseWaiting 0 0 Read 0 (atRest Status x) (Gives x) (atRest Status x) Nothing refl (answers.reads-status d p u x a f a-inside) refl)
+        (failing EraseAsking EraseConfirming EraseWaiting refl refl refl 0 x n (st was Status 128 EraseAwaited 0 0) (cyc p Write a 0x20) (cyc p Write a 0xD0) (cyc p Read a 0)
+        (phases.told-first d p k u was w lw some EraseAsking 0 0 Write 0x20 (atRest was Array 128) Quiet (st was Status 128 EraseAwaited 0 0) Nothing refl (answers.asks-erase d p u was Array 128 a refl a-inside) refl)
+        (phases.told-first d p k u was w lw some EraseConfirming 0 0 Write 0xD0 (st was Status 128 EraseAwaited 0 0) Quiet (atRest was Status x) Nothing refl
+        (answers.confirm-fails d p u was k low a stuck a-inside (phases.block-first d p k u was w lw some) ∙ ap (λ (y : ℕ). decidedAs Quiet (atRest was Status y) Nothing) q) refl)
+        (phases.told-first d p k u was w lw some EraseWaiting 0 0 Read 0 (atRest was Status x) (Gives x) (atRest was Status x) Nothing refl (answers.reads-status d p u was x a f a-inside) refl)
         refl X ys lX refl refl refl refl (ap (λ (v : List ℕ). nextOf (rec EraseWaiting 0 0) x w v) (erase-keeps x n ys e z) ∙ erase-ends x n ys ready e z) (erase-keeps x n ys e z) cnt)
       where
         a-inside : a < sizeOf (d .part)
-        a-inside = phases.a-inside d p k u w lw some
+        a-inside = phases.a-inside d p k u was w lw some
 
     -- a program that cannot start
     pub program-fails : (low x n cnt : ℕ) → Stuck d p k low → bitOr (bitOr 128 low) 16 ≡ x → fits 2 x ≡ true → isReady x ≡ true → programFault x ≡ n → eqb n 0 ≡ false → risesIn w ys ≡ false
         → asWanted w ys ≡ false
-        → Reach d w (judged cnt) (conf (rec (Ended n) (diffFrom 0 w ys) 0) (atRest Status x) X ys (cnt + 3)) []
+        → Reach d w (judged cnt) (conf (rec (Ended n) (diffFrom 0 w ys) 0) (atRest was Status x) X ys (cnt + 3)) []
         (programTried p (a + diffFrom 0 w ys) (getD w (diffFrom 0 w ys) 0))
     program-fails low x n cnt stuck q f ready e z t s =
-        subst (λ (l : Loader). Reach d w (conf l (atRest Array 128) X ys cnt) (conf (rec (Ended n) i 0) (atRest Status x) X ys (cnt + 3)) [] (programTried p (a + i) v))
+        subst (λ (l : Loader). Reach d w (conf l (atRest was Array 128) X ys cnt) (conf (rec (Ended n) i 0) (atRest was Status x) X ys (cnt + 3)) [] (programTried p (a + i) v))
         (sym (if-false (risesIn w ys) _ _ t ∙ if-true (ltb i (length w)) _ _ (lt-ltb i (length w) h)))
-        (failing ProgramAsking ProgramSending ProgramWaiting refl refl refl i x n (st Status 128 DataAwaited 0 0) (cyc p Write (a + i) 0x40) (cyc p Write (a + i) v) (cyc p Read (a + i) 0)
-        (phases.told-here d p k u w lw some ProgramAsking i 0 Write 0x40 (atRest Array 128) Quiet (st Status 128 DataAwaited 0 0) Nothing h refl (answers.asks-program d p u Array 128 (a + i) refl inside) refl)
-        (phases.told-here d p k u w lw some ProgramSending i 0 Write v (st Status 128 DataAwaited 0 0) Quiet (atRest Status x) Nothing h refl
-        (answers.data-fails d p u k low (a + i) v stuck inside (phases.block-at d p k u w lw some i h) ∙ ap (λ (y : ℕ). decidedAs Quiet (atRest Status y) Nothing) q) refl)
-        (phases.told-here d p k u w lw some ProgramWaiting i 0 Read 0 (atRest Status x) (Gives x) (atRest Status x) Nothing h refl (answers.reads-status d p u x (a + i) f inside) refl)
+        (failing ProgramAsking ProgramSending ProgramWaiting refl refl refl i x n (st was Status 128 DataAwaited 0 0) (cyc p Write (a + i) 0x40) (cyc p Write (a + i) v) (cyc p Read (a + i) 0)
+        (phases.told-here d p k u was w lw some ProgramAsking i 0 Write 0x40 (atRest was Array 128) Quiet (st was Status 128 DataAwaited 0 0) Nothing h refl (answers.asks-program d p u was Array 128 (a + i) refl inside) refl)
+        (phases.told-here d p k u was w lw some ProgramSending i 0 Write v (st was Status 128 DataAwaited 0 0) Quiet (atRest was Status x) Nothing h refl
+        (answers.data-fails d p u was k low (a + i) v stuck inside (phases.block-at d p k u was w lw some i h) ∙ ap (λ (y : ℕ). decidedAs Quiet (atRest was Status y) Nothing) q) refl)
+        (phases.told-here d p k u was w lw some ProgramWaiting i 0 Read 0 (atRest was Status x) (Gives x) (atRest was Status x) Nothing h refl (answers.reads-status d p u was x (a + i) f inside) refl)
         refl X ys lX refl refl refl refl (program-ends i x n ys ready e z) refl cnt)
       where
         i : ℕ
@@ -140,21 +141,21 @@ module _ (d : Device) (p : Pins) (k : ℕ) (u : Up d p) (w : List ℕ) (lw : len
         h = some-ahead w ys s
 
         inside : a + i < sizeOf (d .part)
-        inside = phases.inside d p k u w lw some i h
+        inside = phases.inside d p k u was w lw some i h
 
     -- a block that holds what is wanted: the last FFH and the verify
     pub nothing-done : (cnt c : ℕ) → asWanted w ys ≡ true → c ≡ cnt + (1 + length w)
-        → Reach d w (judged cnt) (phases.final d p k u w lw some (overlaid xs a w) c) [] (closingOf p a (length w))
+        → Reach d w (judged cnt) (phases.final d p k u was w lw some (overlaid xs a w) c) [] (closingOf p a (length w))
     nothing-done cnt c t q =
-        subst (λ (l : Loader). Reach d w (conf l (atRest Array 128) X ys cnt) (phases.final d p k u w lw some (overlaid xs a w) c) [] (closingOf p a (length w))) (sym closes)
-        (subst (λ (z : List ℕ). Reach d w (conf (rec Closing 0 0) (atRest Array 128) (overlaid xs a z) ys cnt) (phases.final d p k u w lw some (overlaid xs a w) c) [] (closingOf p a (length w))) (sym same)
-        (phases.closing d p k u w lw some xs lx Array ys cnt c ly q))
+        subst (λ (l : Loader). Reach d w (conf l (atRest was Array 128) X ys cnt) (phases.final d p k u was w lw some (overlaid xs a w) c) [] (closingOf p a (length w))) (sym closes)
+        (subst (λ (z : List ℕ). Reach d w (conf (rec Closing 0 0) (atRest was Array 128) (overlaid xs a z) ys cnt) (phases.final d p k u was w lw some (overlaid xs a w) c) [] (closingOf p a (length w))) (sym same)
+        (phases.closing d p k u was w lw some xs lx Array ys cnt c ly q))
       where
         same : ys ≡ w
         same = same-list w ys ly t
 
-        closes : (if risesIn w ys then rec EraseAsking 0 0 else phases.onto d p k u w lw some 0 ys) ≡ rec Closing 0 0
+        closes : (if risesIn w ys then rec EraseAsking 0 0 else phases.onto d p k u was w lw some 0 ys) ≡ rec Closing 0 0
         closes =
-            ap (λ (z : List ℕ). (if risesIn w z then rec EraseAsking 0 0 else phases.onto d p k u w lw some 0 z)) same
+            ap (λ (z : List ℕ). (if risesIn w z then rec EraseAsking 0 0 else phases.onto d p k u was w lw some 0 z)) same
             ∙ if-false (risesIn w w) _ _ (none-risen w)
             ∙ if-false (ltb (diffFrom 0 w w) (length w)) _ _ (le-ltb (diffFrom 0 w w) (length w) (let y = none-ahead w in omega arith))

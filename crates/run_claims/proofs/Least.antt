@@ -75,7 +75,7 @@ nothing-pending f z d v u = ap f (free (v .state .phase) u) ∙ z
     free Erasing e = absurd (unlike e)
     free Suspended e = absurd (unlike e)
 
-module _ (d : Device) (k : ℕ) (v : World) (w : List ℕ) (bs : List Bus) (lx : length (v .bytes) ≡ sizeOf (d .part)) (lw : length w ≡ lengthOf (d .part) k) (bx : Cells (v .bytes))
+module _ (d : Device) (k : ℕ) (v : World) (w : List ℕ) (bs : List Bus) (lx : length (v .bytes) ≡ sizeOf (d .part)) (lw : length w ≡ lengthOf (d .part) k) (bx : Cells (d .part) (v .bytes))
     (free : underWay (v .state .phase) ≡ false) (clean : uncut (effectsIn d v bs) ≡ true)
     (reached : heldIn (startOf (d .part) k) (length w) (worldAfter d v bs .bytes) ≡ w) where
   abbrev a : ℕ
@@ -120,12 +120,12 @@ module _ (d : Device) (k : ℕ) (v : World) (w : List ℕ) (bs : List Bus) (lx :
           some (suc n) z false = omega arith
 
   -- a byte that no program touched is as held, or all ones
-  rests : (i : ℕ) → i < length w → total (programAt (a + i)) es ≡ 0 → getD w i 0 ≡ (if eqb (total (eraseOf k) es) 0 then getD ys i 0 else ones)
+  rests : (i : ℕ) → i < length w → total (programAt (a + i)) es ≡ 0 → getD w i 0 ≡ (if eqb (total (eraseOf k) es) 0 then getD ys i 0 else (ones (d .part)))
   rests i h z =
-      came i h ∙ unprogrammed es (d .part) (a + i) (getD ys i 0) z ∙ ap (λ (j : ℕ). (if eqb (total (eraseOf j) es) 0 then getD ys i 0 else ones)) (home i h)
+      came i h ∙ unprogrammed es (d .part) (a + i) (getD ys i 0) z ∙ ap (λ (j : ℕ). (if eqb (total (eraseOf j) es) 0 then getD ys i 0 else (ones (d .part)))) (home i h)
 
   -- a place where the base of the programs differs is programmed
-  programmed : (i : ℕ) → i < length w → (getD (baseOf w ys) i 0 ≡ getD w i 0 → ⊥) → 0 < total (programAt (a + i)) es
+  programmed : (i : ℕ) → i < length w → (getD (baseOf (d .part) w ys) i 0 ≡ getD w i 0 → ⊥) → 0 < total (programAt (a + i)) es
   unfolding risesIn
   programmed i h ne = positive (total (programAt (a + i)) es) (λ z. ne (clash z (eqb (total (eraseOf k) es) 0) refl (rises (length w) 0 w ys) refl))
     where
@@ -133,30 +133,30 @@ module _ (d : Device) (k : ℕ) (v : World) (w : List ℕ) (bs : List Bus) (lx :
       positive zero z = absurd (z refl)
       positive (suc n) z = omega arith
 
-      clash : total (programAt (a + i)) es ≡ 0 → (b : Bool) → eqb (total (eraseOf k) es) 0 ≡ b → (t : Bool) → rises (length w) 0 w ys ≡ t → getD (baseOf w ys) i 0 ≡ getD w i 0
+      clash : total (programAt (a + i)) es ≡ 0 → (b : Bool) → eqb (total (eraseOf k) es) 0 ≡ b → (t : Bool) → rises (length w) 0 w ys ≡ t → getD (baseOf (d .part) w ys) i 0 ≡ getD w i 0
       clash z true e true t = absurd (let q = none-rises (length w) 0 w ys (λ j p r. loses (eqb-true _ _ e) j (omega arith)) in unlike (sym t ∙ q))
-      clash z true e false t = ap (λ (y : List ℕ). getD y i 0) (if-false (rises (length w) 0 w ys) (replicate (length w) ones) ys t) ∙ sym (rests i h z ∙ if-true (eqb (total (eraseOf k) es) 0) (getD ys i 0) ones e)
+      clash z true e false t = ap (λ (y : List ℕ). getD y i 0) (if-false (rises (length w) 0 w ys) (replicate (length w) (ones (d .part))) ys t) ∙ sym (rests i h z ∙ if-true (eqb (total (eraseOf k) es) 0) (getD ys i 0) (ones (d .part)) e)
       clash z false e true t =
-          ap (λ (y : List ℕ). getD y i 0) (if-true (rises (length w) 0 w ys) (replicate (length w) ones) ys t) ∙ getD-replicate (length w) i ones 0 h
-          ∙ sym (rests i h z ∙ if-false (eqb (total (eraseOf k) es) 0) (getD ys i 0) ones e)
+          ap (λ (y : List ℕ). getD y i 0) (if-true (rises (length w) 0 w ys) (replicate (length w) (ones (d .part))) ys t) ∙ getD-replicate (length w) i (ones (d .part)) 0 h
+          ∙ sym (rests i h z ∙ if-false (eqb (total (eraseOf k) es) 0) (getD ys i 0) (ones (d .part)) e)
       clash z false e false t =
-          let f : getD w i 0 ≡ ones = rests i h z ∙ if-false (eqb (total (eraseOf k) es) 0) (getD ys i 0) ones e in
+          let f : getD w i 0 ≡ (ones (d .part)) = rests i h z ∙ if-false (eqb (total (eraseOf k) es) 0) (getD ys i 0) (ones (d .part)) e in
           let m : mustRise (getD ys i 0) (getD w i 0) ≡ false = some-rises (length w) 0 w ys i (omega arith) (omega arith) t in
           let c : bitAnd (getD ys i 0) (getD w i 0) ≡ getD w i 0 = eqb-true _ _ (not-false (eqb (bitAnd (getD ys i 0) (getD w i 0)) (getD w i 0)) m) in
-          let y : bitAnd (getD ys i 0) ones ≡ getD ys i 0 = and-comm (getD ys i 0) ones ∙ and-ones (getD ys i 0) (small i h) in
-          ap (λ (u : List ℕ). getD u i 0) (if-false (rises (length w) 0 w ys) (replicate (length w) ones) ys t) ∙ sym y ∙ ap (λ (x : ℕ). bitAnd (getD ys i 0) x) (sym f) ∙ c
+          let y : bitAnd (getD ys i 0) (ones (d .part)) ≡ getD ys i 0 = and-comm (getD ys i 0) (ones (d .part)) ∙ and-ones (d .part) (getD ys i 0) (small i h) in
+          ap (λ (u : List ℕ). getD u i 0) (if-false (rises (length w) 0 w ys) (replicate (length w) (ones (d .part))) ys t) ∙ sym y ∙ ap (λ (x : ℕ). bitAnd (getD ys i 0) x) (sym f) ∙ c
         where
-          small : (i : ℕ) → i < length w → getD ys i 0 ≤ ones
-          small i h = subst (λ (x : ℕ). x ≤ ones) (sym (held (v .bytes) i h)) (bx (a + i))
+          small : (i : ℕ) → i < length w → getD ys i 0 ≤ (ones (d .part))
+          small i h = subst (λ (x : ℕ). x ≤ (ones (d .part))) (sym (held (v .bytes) i h)) (bx (a + i))
 
   -- both bounds at once, on what the cycles begin
-  pub least : (erasesOf w ys ≤ total (eraseOf k) (begunOver d v bs)) × (programsIn w ys ≤ total (programIn a (length w)) (begunOver d v bs))
+  pub least : (erasesOf w ys ≤ total (eraseOf k) (begunOver d v bs)) × (programsIn (d .part) w ys ≤ total (programIn a (length w)) (begunOver d v bs))
   least =
       let e = ended-begun (eraseOf k) refl bs d v clean in
       let ez = nothing-pending (eraseOf k) refl d v free in
       let p = ended-begun (programIn a (length w)) refl bs d v clean in
       let pz = nothing-pending (programIn a (length w)) refl d v free in
-      let n : programsIn w ys ≤ total (programIn (a + 0) (length w)) es = needed es a (length w) 0 w (baseOf w ys) (λ j lo hi. programmed j (omega arith)) in
+      let n : programsIn (d .part) w ys ≤ total (programIn (a + 0) (length w)) es = needed es a (length w) 0 w (baseOf (d .part) w ys) (λ j lo hi. programmed j (omega arith)) in
       let s : total (programIn (a + 0) (length w)) es ≡ total (programIn a (length w)) es = ap (λ (m : ℕ). total (programIn m (length w)) es) (let z : a + 0 ≡ a = omega arith in z) in
       let o = erased-once in
       (omega arith, omega arith)

@@ -14,6 +14,7 @@ use Rattle.chip.specs.Cells.{Cells}
 use Rattle.cells.specs.Choice.{if_then_else_}
 use Rattle.cells.specs.Lists.{overlaid}
 use Rattle.cells.proofs.Bytes.{overlaid-before, overlaid-after}
+use Rattle.device.specs.declared.Part.{Part}
 use Rattle.device.specs.declared.Device.{Device}
 use Rattle.device.specs.Parts.{startOf, blockOf}
 use Rattle.device.proofs.Claims.{blocks-end-inside}
@@ -24,6 +25,7 @@ use Rattle.chip.specs.declared.State.{State}
 use Rattle.chip.specs.declared.Effect.{Effect}
 use Rattle.chip.specs.declared.Effect.the-variants.{Nothing, Program, Erase}
 use Rattle.chip.specs.States.{atRest}
+use Rattle.chip.proofs.Bands.{not-low}
 use Rattle.stepper.specs.Front.{endAddress}
 use Rattle.loader.specs.Walks.{risesIn}
 use Rattle.run.specs.declared.Ran.{Ran}
@@ -34,7 +36,7 @@ use Rattle.model_history.specs.History.{Bus, World, worldOf, worldAfter, effect
 use Rattle.run.proofs.Good.{good}
 use Rattle.run_claims.specs.Made.{cyclesOfLoad, smoothLoad, cyclesOf, readsThen, pollsThen, openingThen, eraseThen, programThen, programsThen, closingOf, programmingOf}
 use Rattle.run_claims.specs.Mission.{Start, Brings, ownCycles, NoFewer, Demand3}
-use Rattle.run_claims.proofs.Demand.{Left, goal, not-low, good-load, ran-left, bytes-left, scratch-left}
+use Rattle.run_claims.proofs.Demand.{Left, goal, good-load, ran-left, bytes-left, scratch-left}
 use Rattle.run_claims.proofs.Starts.{none-refuses}
 use Rattle.model_history.proofs.Wearing.{lies}
 use Rattle.run_claims.proofs.Least.{least}
@@ -61,20 +63,20 @@ no-erase (suc j) i k b w s = go (eqb (getD s i 0) (getD w i 0)) (no-erase j (i +
 no-program : (n a k : ℕ) (es : List Effect) → total (programIn a n) (Erase k ∷ es) ≡ total (programIn a n) es
 no-program n a k es = omega arith
 
-operations-erase : (k a : ℕ) (w ys : List ℕ) → total (eraseOf k) (operationsOf k a w ys) ≡ erasesOf w ys
-operations-erase k a w ys = go (risesIn w ys) (no-erase (length w) 0 k a w (baseOf w ys))
+operations-erase : (part : Part) (k a : ℕ) (w ys : List ℕ) → total (eraseOf k) (operationsOf part k a w ys) ≡ erasesOf w ys
+operations-erase part k a w ys = go (risesIn w ys) (no-erase (length w) 0 k a w (baseOf part w ys))
   where
-    go : (t : Bool) → total (eraseOf k) (programsOf (length w) a 0 w (baseOf w ys)) ≡ 0
-        → total (eraseOf k) (if t then Erase k ∷ programsOf (length w) a 0 w (baseOf w ys) else programsOf (length w) a 0 w (baseOf w ys)) ≡ (if t then 1 else 0)
+    go : (t : Bool) → total (eraseOf k) (programsOf (length w) a 0 w (baseOf part w ys)) ≡ 0
+        → total (eraseOf k) (if t then Erase k ∷ programsOf (length w) a 0 w (baseOf part w ys) else programsOf (length w) a 0 w (baseOf part w ys)) ≡ (if t then 1 else 0)
     go true e = rw (eq-eqb k k refl) (omega arith)
     go false e = e
 
-operations-program : (k a : ℕ) (w ys : List ℕ) → total (programIn a (length w)) (operationsOf k a w ys) ≡ programsIn w ys
-operations-program k a w ys = go (risesIn w ys) (programs-counted (length w) 0 a (length w) a w (baseOf w ys) (omega arith) (omega arith))
+operations-program : (part : Part) (k a : ℕ) (w ys : List ℕ) → total (programIn a (length w)) (operationsOf part k a w ys) ≡ programsIn part w ys
+operations-program part k a w ys = go (risesIn w ys) (programs-counted (length w) 0 a (length w) a w (baseOf part w ys) (omega arith) (omega arith))
   where
-    go : (t : Bool) → total (programIn a (length w)) (programsOf (length w) a 0 w (baseOf w ys)) ≡ programsIn w ys
-        → total (programIn a (length w)) (if t then Erase k ∷ programsOf (length w) a 0 w (baseOf w ys) else programsOf (length w) a 0 w (baseOf w ys)) ≡ programsIn w ys
-    go true e = no-program (length w) a k (programsOf (length w) a 0 w (baseOf w ys)) ∙ e
+    go : (t : Bool) → total (programIn a (length w)) (programsOf (length w) a 0 w (baseOf part w ys)) ≡ programsIn part w ys
+        → total (programIn a (length w)) (if t then Erase k ∷ programsOf (length w) a 0 w (baseOf part w ys) else programsOf (length w) a 0 w (baseOf part w ys)) ≡ programsIn part w ys
+    go true e = no-program (length w) a k (programsOf (length w) a 0 w (baseOf part w ys)) ∙ e
     go false e = e
 
 -- the length of the list of cycles is the formula
@@ -96,10 +98,10 @@ programs-long d p (suc k) a i w s cs = go (eqb (getD s i 0) (getD w i 0)) (progr
     go false e = rw (add-mul 1 (differing k (i + 1) w s) (2 + d .program), one-mul (2 + d .program)) (let f = polls-long p (d .program) (a + i) (programsThen d p k a (i + 1) w s cs) in omega arith)
 
 pub cycles-long : (d : Device) (p : Pins) (a : ℕ) (w ys : List ℕ) → length (cyclesOf d p a w ys) ≡ formula d w ys
-cycles-long d p a w ys = go (risesIn w ys) (programs-long d p (length w) a 0 w (baseOf w ys) (closingOf p a (length w))) (reads-long p (length w) a 0 [])
+cycles-long d p a w ys = go (risesIn w ys) (programs-long d p (length w) a 0 w (baseOf (d .part) w ys) (closingOf p a (length w))) (reads-long p (length w) a 0 [])
   where
-    go : (t : Bool) → length (programmingOf d p a w ys) ≡ programsIn w ys * (2 + d .program) + length (closingOf p a (length w)) → length (readsThen p (length w) a 0 []) ≡ length w + 0
-        → length (openingThen p a (length w) (if t then eraseThen d p a (programmingOf d p a w ys) else programmingOf d p a w ys)) ≡ 2 * length w + 3 + (if t then 1 else 0) * (2 + d .erase) + programsIn w ys * (2 + d .program)
+    go : (t : Bool) → length (programmingOf d p a w ys) ≡ programsIn (d .part) w ys * (2 + d .program) + length (closingOf p a (length w)) → length (readsThen p (length w) a 0 []) ≡ length w + 0
+        → length (openingThen p a (length w) (if t then eraseThen d p a (programmingOf d p a w ys) else programmingOf d p a w ys)) ≡ 2 * length w + 3 + (if t then 1 else 0) * (2 + d .erase) + programsIn (d .part) w ys * (2 + d .program)
     go true e c = rw (one-mul (2 + d .erase)) (let r = reads-long p (length w) a 0 (eraseThen d p a (programmingOf d p a w ys)) in let f = polls-long p (d .erase) a (programmingOf d p a w ys) in omega arith)
     go false e c = rw (zero-mul (2 + d .erase)) (let r = reads-long p (length w) a 0 (programmingOf d p a w ys) in omega arith)
 
@@ -111,11 +113,11 @@ module _ (d : Device) (s : State) (p : Pins) (k : ℕ) (xs w sc : List ℕ) (sta
   ys = heldIn (startOf (d .part) k) (length w) xs
 
   -- how the load is left
-  loaded : Left d s p k xs w sc (goal d s p k xs w sc (start .base)) (operationsOf k a w ys) (cyclesOf d p a w ys)
-  loaded = good-load d s p k xs w sc (start .base) (not-low d p (start .high)) (start .unlock)
+  loaded : Left d s p k xs w sc (goal d s p k xs w sc (start .base)) (operationsOf (d .part) k a w ys) (cyclesOf d p a w ys)
+  loaded = good-load d s p k xs w sc (start .base) (not-low (d .part) p (start .high)) (start .unlock)
 
   -- a load ends well, with the count of the formula, in mode read array with status 80H
-  pub ends-well : ranOf d s p k xs w sc ≡ record { count = formula d w ys; end = 0; address = 0; state = atRest Array 128 }
+  pub ends-well : ranOf d s p k xs w sc ≡ record { count = formula d w ys; end = 0; address = 0; state = atRest s Array 128 }
   unfolding endAddress
   ends-well = ran-left d s p k xs w sc (start .base) _ _ _ loaded
 
@@ -144,7 +146,7 @@ module _ (d : Device) (s : State) (p : Pins) (k : ℕ) (xs w sc : List ℕ) (sta
   )
 
   -- it erases once if some bit must rise, otherwise never; it programs each byte that then differs once and no other
-  pub begins-just : begunByLoad d s p k xs w sc ≡ operationsOf k a w ys
+  pub begins-just : begunByLoad d s p k xs w sc ≡ operationsOf (d .part) k a w ys
   begins-just = loaded .begun
 
   -- the cycles that it makes, one after the other; the model refuses none of them, and none cuts an operation
@@ -155,15 +157,15 @@ module _ (d : Device) (s : State) (p : Pins) (k : ℕ) (xs w sc : List ℕ) (sta
   none-refused = loaded .smooth
 
   -- no uncut cycles from the same start to the same block contents begin fewer erases of the block or fewer programs in it
-  pub nothing-less : (bs : List Bus) → Cells xs → uncut (effectsIn d (worldOf s xs) bs) ≡ true
+  pub nothing-less : (bs : List Bus) → Cells (d .part) xs → uncut (effectsIn d (worldOf s xs) bs) ≡ true
       → heldIn a (length w) (worldAfter d (worldOf s xs) bs .bytes) ≡ w
       → (total (eraseOf k) (begunByLoad d s p k xs w sc) ≤ total (eraseOf k) (begunOver d (worldOf s xs) bs))
       × (total (programIn a (length w)) (begunByLoad d s p k xs w sc) ≤ total (programIn a (length w)) (begunOver d (worldOf s xs) bs))
   nothing-less bs bx u h =
       let g = good d s p k (length xs) (length w) (length sc) (none-refuses d s p k xs w sc (start .base)) in
       let m = least d k (worldOf s xs) w bs (g .sized) (g .wanted) bx (g .free) u h in
-      let e = ap (λ (es : List Effect). total (eraseOf k) es) begins-just ∙ operations-erase k a w ys in
-      let q = ap (λ (es : List Effect). total (programIn a (length w)) es) begins-just ∙ operations-program k a w ys in
+      let e = ap (λ (es : List Effect). total (eraseOf k) es) begins-just ∙ operations-erase (d .part) k a w ys in
+      let q = ap (λ (es : List Effect). total (programIn a (length w)) es) begins-just ∙ operations-program (d .part) k a w ys in
       (omega (arith, m .0), omega (arith, m .1))
 
   -- what the block held, by the block's own length
@@ -202,7 +204,7 @@ module _ (d : Device) (s : State) (p : Pins) (k : ℕ) (xs w sc : List ℕ) (sta
       }
 
   -- nothing wears less than the load's own cycles
-  least-wear : Cells xs → (bs : List Bus) → Brings d (worldOf s xs) k w bs → NoFewer d (worldOf s xs) k own bs
+  least-wear : Cells (d .part) xs → (bs : List Bus) → Brings d (worldOf s xs) k w bs → NoFewer d (worldOf s xs) k own bs
   least-wear bx bs h =
       let m = nothing-less bs bx (h .whole) (held-is (worldAfter d (worldOf s xs) bs .bytes) ∙ h .there) in
       record {
@@ -225,7 +227,7 @@ module _ (d : Device) (s : State) (p : Pins) (k : ℕ) (xs w sc : List ℕ) (sta
         block = sym (held-is (bytesOf d s p k xs w sc)) ∙ block-holds;
         others = others-are;
         array-left = array-left;
-        begins = begins-just ∙ ap (λ (ys : List ℕ). operationsOf k a w ys) (held-is xs);
+        begins = begins-just ∙ ap (λ (ys : List ℕ). operationsOf (d .part) k a w ys) (held-is xs);
         own-accepted = smooth d w (bound (length w)) (beginning d s p k xs sc) none-refused .0;
         own-brings = own-holds;
         own-leads = own-world;

@@ -78,7 +78,8 @@ no-rise (suc n) i w s e (suc j) h =
     subst (λ (m : ℕ). mustRise (getD s m 0) (getD w m 0) ≡ false) (let q : i + 1 + j ≡ i + suc j = omega arith in q)
     (no-rise n (i + 1) w s (or-right (mustRise (getD s i 0) (getD w i 0)) (rises n (i + 1) w s) e) j (le-of-suc-le-suc h))
 
-module _ (d : Device) (p : Pins) (k : ℕ) (u : Up d p) (w : List ℕ) (lw : length w ≡ lengthOf (d .part) k) (some : 0 < length w) where
+-- `was` is the state that the load began in
+module _ (d : Device) (p : Pins) (k : ℕ) (u : Up d p) (was : State) (w : List ℕ) (lw : length w ≡ lengthOf (d .part) k) (some : 0 < length w) where
   abbrev pub a : ℕ
   a = startOf (d .part) k
 
@@ -132,24 +133,24 @@ module _ (d : Device) (p : Pins) (k : ℕ) (u : Up d p) (w : List ℕ) (lw : len
 
   module _ (xs : List ℕ) (lx : length xs ≡ sizeOf (d .part)) (holds : (i : ℕ) → i < length w → getD xs (a + i) 0 ≡ getD w i 0) (sc : List ℕ) (ls : length sc ≡ length w) where
     -- one byte of the verify
-    verify-told : (i : ℕ) (h : i < length w) → Told d w (rec Verifying i 0) (atRest Array 128) (cyc p Read (a + i) 0) (GivesArray (a + i)) (atRest Array 128) Nothing
-    verify-told i h = told-here Verifying i 0 Read 0 (atRest Array 128) (GivesArray (a + i)) (atRest Array 128) Nothing h refl (answers.reads d p u 128 (a + i) refl (inside i h)) refl
+    verify-told : (i : ℕ) (h : i < length w) → Told d w (rec Verifying i 0) (atRest was Array 128) (cyc p Read (a + i) 0) (GivesArray (a + i)) (atRest was Array 128) Nothing
+    verify-told i h = told-here Verifying i 0 Read 0 (atRest was Array 128) (GivesArray (a + i)) (atRest was Array 128) Nothing h refl (answers.reads d p u was 128 (a + i) refl (inside i h)) refl
 
     verify-turn : (i cnt : ℕ) (h : i < length w) (l′ : Loader) → verifyMore (rec Verifying i 0) (getD xs (a + i) 0) w ≡ l′
-        → turnOf d w (conf (rec Verifying i 0) (atRest Array 128) xs (laid i w sc) cnt) ≡ conf l′ (atRest Array 128) xs (laid (i + 1) w sc) (cnt + 1)
+        → turnOf d w (conf (rec Verifying i 0) (atRest was Array 128) xs (laid i w sc) cnt) ≡ conf l′ (atRest was Array 128) xs (laid (i + 1) w sc) (cnt + 1)
     verify-turn i cnt h l′ e =
-        turned d w (rec Verifying i 0) (atRest Array 128) xs (laid i w sc) cnt refl lx (cyc p Read (a + i) 0) (GivesArray (a + i)) (atRest Array 128) Nothing (verify-told i h)
-        ∙ (λ j. conf (e j) (atRest Array 128) xs ((ap (λ (v : ℕ). set (laid i w sc) i v) (holds i h) ∙ laid-more w sc i h (omega arith)) j) (cnt + 1))
+        turned d w (rec Verifying i 0) (atRest was Array 128) xs (laid i w sc) cnt refl lx (cyc p Read (a + i) 0) (GivesArray (a + i)) (atRest was Array 128) Nothing (verify-told i h)
+        ∙ (λ j. conf (e j) (atRest was Array 128) xs ((ap (λ (v : ℕ). set (laid i w sc) i v) (holds i h) ∙ laid-more w sc i h (omega arith)) j) (cnt + 1))
 
-    verify-does : (i cnt : ℕ) (h : i < length w) → Does d w (conf (rec Verifying i 0) (atRest Array 128) xs (laid i w sc) cnt) Nothing (cyc p Read (a + i) 0)
-    verify-does i cnt h = does d w (rec Verifying i 0) (atRest Array 128) xs (laid i w sc) cnt refl lx (cyc p Read (a + i) 0) (GivesArray (a + i)) (atRest Array 128) Nothing (verify-told i h)
+    verify-does : (i cnt : ℕ) (h : i < length w) → Does d w (conf (rec Verifying i 0) (atRest was Array 128) xs (laid i w sc) cnt) Nothing (cyc p Read (a + i) 0)
+    verify-does i cnt h = does d w (rec Verifying i 0) (atRest was Array 128) xs (laid i w sc) cnt refl lx (cyc p Read (a + i) 0) (GivesArray (a + i)) (atRest was Array 128) Nothing (verify-told i h)
 
     verifying : (j i cnt c : ℕ) → i + (j + 1) ≡ length w → c ≡ cnt + (j + 1)
-        → Reach d w (conf (rec Verifying i 0) (atRest Array 128) xs (laid i w sc) cnt) (conf (rec (Ended 0) (length w - 1) 0) (atRest Array 128) xs w c) [] (readsThen p (suc j) a i [])
+        → Reach d w (conf (rec Verifying i 0) (atRest was Array 128) xs (laid i w sc) cnt) (conf (rec (Ended 0) (length w - 1) 0) (atRest was Array 128) xs w c) [] (readsThen p (suc j) a i [])
     verifying zero i cnt c e q =
         let h : i < length w = omega arith in
         prepend d w _ _ _ Nothing (cyc p Read (a + i) 0) [] [] (verify-turn i cnt h (rec (Ended 0) i 0) (verify-last i (getD xs (a + i) 0) (holds i h) (omega arith))) (verify-does i cnt h)
-        (arrive d w _ _ (λ t. conf (rec (Ended 0) ((let z : i ≡ length w - 1 = omega arith in z) t) 0) (atRest Array 128) xs (whole t) ((let z : cnt + 1 ≡ c = omega arith in z) t)))
+        (arrive d w _ _ (λ t. conf (rec (Ended 0) ((let z : i ≡ length w - 1 = omega arith in z) t) 0) (atRest was Array 128) xs (whole t) ((let z : cnt + 1 ≡ c = omega arith in z) t)))
       where
         whole : laid (i + 1) w sc ≡ w
         whole = ap (λ (m : ℕ). laid m w sc) (let z : i + 1 ≡ length sc = omega arith in z) ∙ laid-all w sc (sym ls)
@@ -161,7 +162,7 @@ module _ (d : Device) (p : Pins) (k : ℕ) (u : Up d p) (w : List ℕ) (lw : len
 
   -- the end that a load comes to
   abbrev pub final : List ℕ → ℕ → Config
-  final xs c = conf (rec (Ended 0) (length w - 1) 0) (atRest Array 128) xs w c
+  final xs c = conf (rec (Ended 0) (length w - 1) 0) (atRest was Array 128) xs w c
 
   -- on to the first differing byte from place i on, or to the verify
   abbrev pub onto : ℕ → List ℕ → Loader
@@ -188,16 +189,16 @@ module _ (d : Device) (p : Pins) (k : ℕ) (u : Up d p) (w : List ℕ) (lw : len
 
     -- the last FFH and the verify
     pub closing : (m : Mode) (sc : List ℕ) (cnt c : ℕ) → length sc ≡ length w → c ≡ cnt + (1 + length w)
-        → Reach d w (conf (rec Closing 0 0) (atRest m 128) (overlaid xs a w) sc cnt) (final (overlaid xs a w) c) [] (closingOf p a (length w))
+        → Reach d w (conf (rec Closing 0 0) (atRest was m 128) (overlaid xs a w) sc cnt) (final (overlaid xs a w) c) [] (closingOf p a (length w))
     closing m sc cnt c ls q =
         prepend d w _ _ _ Nothing (cyc p Write a 0xFF) [] (readsThen p (length w) a 0 [])
-        (turned d w (rec Closing 0 0) (atRest m 128) (overlaid xs a w) sc cnt refl (sized w refl) (cyc p Write a 0xFF) Quiet (atRest Array 128) Nothing told)
-        (does d w (rec Closing 0 0) (atRest m 128) (overlaid xs a w) sc cnt refl (sized w refl) (cyc p Write a 0xFF) Quiet (atRest Array 128) Nothing told)
-        (subst (λ (n : ℕ). Reach d w (conf (rec Verifying 0 0) (atRest Array 128) (overlaid xs a w) sc (cnt + 1)) (final (overlaid xs a w) c) [] (readsThen p n a 0 [])) one-more
+        (turned d w (rec Closing 0 0) (atRest was m 128) (overlaid xs a w) sc cnt refl (sized w refl) (cyc p Write a 0xFF) Quiet (atRest was Array 128) Nothing told)
+        (does d w (rec Closing 0 0) (atRest was m 128) (overlaid xs a w) sc cnt refl (sized w refl) (cyc p Write a 0xFF) Quiet (atRest was Array 128) Nothing told)
+        (subst (λ (n : ℕ). Reach d w (conf (rec Verifying 0 0) (atRest was Array 128) (overlaid xs a w) sc (cnt + 1)) (final (overlaid xs a w) c) [] (readsThen p n a 0 [])) one-more
         (verifying (overlaid xs a w) (sized w refl) (λ i h. byte-at w i refl h) sc ls (length w - 1) 0 (cnt + 1) c (omega arith) (omega arith)))
       where
-        told : Told d w (rec Closing 0 0) (atRest m 128) (cyc p Write a 0xFF) Quiet (atRest Array 128) Nothing
-        told = told-first Closing 0 0 Write 0xFF (atRest m 128) Quiet (atRest Array 128) Nothing refl (answers.opens d p u m 128 a refl a-inside) refl
+        told : Told d w (rec Closing 0 0) (atRest was m 128) (cyc p Write a 0xFF) Quiet (atRest was Array 128) Nothing
+        told = told-first Closing 0 0 Write 0xFF (atRest was m 128) Quiet (atRest was Array 128) Nothing refl (answers.opens d p u was m 128 a refl a-inside) refl
 
     -- the last of some polls, put to the others
     polls-last : (n x : ℕ) (cs : List Cycle) → pollsThen p n x (cyc p Read x 0 ∷ cs) ≡ pollsThen p (suc n) x cs
@@ -213,21 +214,21 @@ module _ (d : Device) (p : Pins) (k : ℕ) (u : Up d p) (w : List ℕ) (lw : len
       poll-more q h = if-false (leb 65534 q) _ _ (lt-leb 65534 q h)
 
       waiting : (left q cnt : ℕ) (e : Config) (es : List Effect) (cs : List Cycle) → q + (left + 1) ≤ 65535 → left + 1 ≤ mostLeft d ph
-          → ((q′ cnt′ : ℕ) → cnt′ ≡ cnt + left → Reach d w (conf (rec W i q′) (st Status 0 ph 1 adr) X sc cnt′) e es cs)
-          → Reach d w (conf (rec W i q) (st Status 0 ph (left + 1) adr) X sc cnt) e es (pollsThen p left to cs)
+          → ((q′ cnt′ : ℕ) → cnt′ ≡ cnt + left → Reach d w (conf (rec W i q′) (st was Status 0 ph 1 adr) X sc cnt′) e es cs)
+          → Reach d w (conf (rec W i q) (st was Status 0 ph (left + 1) adr) X sc cnt) e es (pollsThen p left to cs)
       waiting zero q cnt e es cs h m rest = rest q cnt (omega arith)
       waiting (suc left) q cnt e es cs h m rest =
-          subst (λ (n : ℕ). Reach d w (conf (rec W i q) (st Status 0 ph n adr) X sc cnt) e es (pollsThen p (suc left) to cs)) (let z : left + 1 + 1 ≡ suc left + 1 = omega arith in z)
-          (prepend d w _ (conf (rec W i (q + 1)) (st Status 0 ph (left + 1) adr) X sc (cnt + 1)) e Nothing (cyc p Read to 0) es (pollsThen p left to cs)
-          (turned d w (rec W i q) (st Status 0 ph (left + 1 + 1) adr) X sc cnt going lX (cyc p Read to 0) (Gives 0) (st Status 0 ph (left + 1) adr) Nothing told
-          ∙ (λ t. conf ((polled q ∙ poll-more q (omega arith)) t) (st Status 0 ph (left + 1) adr) X (kept q t) (cnt + 1)))
-          (does-as d w _ _ Nothing (cyc p Read to 0) none (does d w (rec W i q) (st Status 0 ph (left + 1 + 1) adr) X sc cnt going lX (cyc p Read to 0) (Gives 0) (st Status 0 ph (left + 1) adr) Nothing told))
+          subst (λ (n : ℕ). Reach d w (conf (rec W i q) (st was Status 0 ph n adr) X sc cnt) e es (pollsThen p (suc left) to cs)) (let z : left + 1 + 1 ≡ suc left + 1 = omega arith in z)
+          (prepend d w _ (conf (rec W i (q + 1)) (st was Status 0 ph (left + 1) adr) X sc (cnt + 1)) e Nothing (cyc p Read to 0) es (pollsThen p left to cs)
+          (turned d w (rec W i q) (st was Status 0 ph (left + 1 + 1) adr) X sc cnt going lX (cyc p Read to 0) (Gives 0) (st was Status 0 ph (left + 1) adr) Nothing told
+          ∙ (λ t. conf ((polled q ∙ poll-more q (omega arith)) t) (st was Status 0 ph (left + 1) adr) X (kept q t) (cnt + 1)))
+          (does-as d w _ _ Nothing (cyc p Read to 0) none (does d w (rec W i q) (st was Status 0 ph (left + 1 + 1) adr) X sc cnt going lX (cyc p Read to 0) (Gives 0) (st was Status 0 ph (left + 1) adr) Nothing told))
           (waiting left (q + 1) (cnt + 1) e es cs (omega arith) (omega arith) (λ q′ cnt′ z. rest q′ cnt′ (omega arith))))
         where
-          told : Told d w (rec W i q) (st Status 0 ph (left + 1 + 1) adr) (cyc p Read to 0) (Gives 0) (st Status 0 ph (left + 1) adr) Nothing
-          told = record { out = goes q; decided = answers.waits d p u k r ph (left + 1) adr to busy (omega arith) (omega arith) adr-in to-in; fine = refl }
+          told : Told d w (rec W i q) (st was Status 0 ph (left + 1 + 1) adr) (cyc p Read to 0) (Gives 0) (st was Status 0 ph (left + 1) adr) Nothing
+          told = record { out = goes q; decided = answers.waits d p u was k r ph (left + 1) adr to busy (omega arith) (omega arith) adr-in to-in; fine = refl }
 
-          none : begunFrom (d .part) (st Status 0 ph (left + 1 + 1) adr) (st Status 0 ph (left + 1) adr) ≡ Nothing
+          none : begunFrom (d .part) (st was Status 0 ph (left + 1 + 1) adr) (st was Status 0 ph (left + 1) adr) ≡ Nothing
           none = quiet ph busy
             where
               quiet : (x : Phase) → isBusy x ≡ true → (if isAwaited x then pendingIn x (d .part) adr else Nothing) ≡ Nothing
@@ -240,11 +241,11 @@ module _ (d : Device) (p : Pins) (k : ℕ) (u : Up d p) (w : List ℕ) (lw : len
 
       -- all the polls of an operation that takes n cycles
       waiting-all : (n cnt : ℕ) (e : Config) (es : List Effect) (cs : List Cycle) → 0 < n → n ≤ 65535 → n ≤ mostLeft d ph
-          → ((q cnt′ : ℕ) → cnt′ + 1 ≡ cnt + n → Reach d w (conf (rec W i q) (st Status 0 ph 1 adr) X sc cnt′) e es (cyc p Read to 0 ∷ cs))
-          → Reach d w (conf (rec W i 0) (st Status 0 ph n adr) X sc cnt) e es (pollsThen p n to cs)
+          → ((q cnt′ : ℕ) → cnt′ + 1 ≡ cnt + n → Reach d w (conf (rec W i q) (st was Status 0 ph 1 adr) X sc cnt′) e es (cyc p Read to 0 ∷ cs))
+          → Reach d w (conf (rec W i 0) (st was Status 0 ph n adr) X sc cnt) e es (pollsThen p n to cs)
       waiting-all n cnt e es cs z b m rest =
-          subst (λ (x : ℕ). Reach d w (conf (rec W i 0) (st Status 0 ph x adr) X sc cnt) e es (pollsThen p n to cs)) (let t : n - 1 + 1 ≡ n = omega arith in t)
-          (subst (λ (y : List Cycle). Reach d w (conf (rec W i 0) (st Status 0 ph (n - 1 + 1) adr) X sc cnt) e es y)
+          subst (λ (x : ℕ). Reach d w (conf (rec W i 0) (st was Status 0 ph x adr) X sc cnt) e es (pollsThen p n to cs)) (let t : n - 1 + 1 ≡ n = omega arith in t)
+          (subst (λ (y : List Cycle). Reach d w (conf (rec W i 0) (st was Status 0 ph (n - 1 + 1) adr) X sc cnt) e es y)
           (polls-last (n - 1) to cs ∙ ap (λ (x : ℕ). pollsThen p x to cs) (let t : suc (n - 1) ≡ n = omega arith in t))
           (waiting (n - 1) 0 cnt e es (cyc p Read to 0 ∷ cs) (omega arith) (omega arith) (λ q cnt′ t. rest q cnt′ (omega arith))))
 
@@ -261,22 +262,22 @@ module _ (d : Device) (p : Pins) (k : ℕ) (u : Up d p) (w : List ℕ) (lw : len
     one-program : (r : Ready d p k) (m : Mode) (i cnt : ℕ) (ys sc : List ℕ) (e : Config) (es : List Effect) (cs : List Cycle) → i < length w → length ys ≡ length w
         → bitAnd (getD ys i 0) (getD w i 0) ≡ getD w i 0
         → 0 < d .program → d .program ≤ 65535
-        → ((cnt′ : ℕ) → cnt′ ≡ cnt + (2 + d .program) → Reach d w (conf (onto (i + 1) sc) (atRest Status 128) (overlaid xs a (set ys i (getD w i 0))) sc cnt′) e es cs)
-        → Reach d w (conf (rec ProgramAsking i 0) (atRest m 128) (overlaid xs a ys) sc cnt) e (Program (a + i) (getD w i 0) ∷ es) (programThen d p (a + i) (getD w i 0) cs)
+        → ((cnt′ : ℕ) → cnt′ ≡ cnt + (2 + d .program) → Reach d w (conf (onto (i + 1) sc) (atRest was Status 128) (overlaid xs a (set ys i (getD w i 0))) sc cnt′) e es cs)
+        → Reach d w (conf (rec ProgramAsking i 0) (atRest was m 128) (overlaid xs a ys) sc cnt) e (Program (a + i) (getD w i 0) ∷ es) (programThen d p (a + i) (getD w i 0) cs)
     one-program r m i cnt ys sc e es cs h ly falls z b rest =
         prepend d w _ _ e Nothing (cyc p Write (a + i) 0x40) (Program (a + i) v ∷ es) _
-        (turned d w (rec ProgramAsking i 0) (atRest m 128) X sc cnt refl lX (cyc p Write (a + i) 0x40) Quiet asked Nothing told1)
-        (does d w (rec ProgramAsking i 0) (atRest m 128) X sc cnt refl lX (cyc p Write (a + i) 0x40) Quiet asked Nothing told1)
+        (turned d w (rec ProgramAsking i 0) (atRest was m 128) X sc cnt refl lX (cyc p Write (a + i) 0x40) Quiet asked Nothing told1)
+        (does d w (rec ProgramAsking i 0) (atRest was m 128) X sc cnt refl lX (cyc p Write (a + i) 0x40) Quiet asked Nothing told1)
         (prepend d w _ _ e (Program (a + i) v) (cyc p Write (a + i) v) es _
-        (turned d w (rec ProgramSending i 0) asked X sc (cnt + 1) refl lX (cyc p Write (a + i) v) Quiet (st Status 0 (Programming v) (d .program) (a + i)) Nothing told2)
-        (does d w (rec ProgramSending i 0) asked X sc (cnt + 1) refl lX (cyc p Write (a + i) v) Quiet (st Status 0 (Programming v) (d .program) (a + i)) Nothing told2)
+        (turned d w (rec ProgramSending i 0) asked X sc (cnt + 1) refl lX (cyc p Write (a + i) v) Quiet (st was Status 0 (Programming v) (d .program) (a + i)) Nothing told2)
+        (does d w (rec ProgramSending i 0) asked X sc (cnt + 1) refl lX (cyc p Write (a + i) v) Quiet (st was Status 0 (Programming v) (d .program) (a + i)) Nothing told2)
         (waiting-all r ProgramWaiting i (Programming v) (a + i) (a + i) refl refl (inside i h) (inside i h) X sc lX
         (λ q. ap (λ (x : ℕ). cyc p Read x 0) (here ProgramWaiting i q h)) (λ q. program-poll i q sc) (λ q. refl)
         (d .program) (cnt + 1 + 1) e es cs z b (omega arith)
         (λ q cnt′ t. prepend d w _ _ e Nothing (cyc p Read (a + i) 0) es cs
-        (turned d w (rec ProgramWaiting i q) (st Status 0 (Programming v) 1 (a + i)) X sc cnt′ refl lX (cyc p Read (a + i) 0) (Gives 128) (atRest Status 128) (Program (a + i) v) (told3 q)
-        ∙ (λ x. conf (programmed i q sc h x) (atRest Status 128) (stored x) sc (cnt′ + 1)))
-        (does d w (rec ProgramWaiting i q) (st Status 0 (Programming v) 1 (a + i)) X sc cnt′ refl lX (cyc p Read (a + i) 0) (Gives 128) (atRest Status 128) (Program (a + i) v) (told3 q))
+        (turned d w (rec ProgramWaiting i q) (st was Status 0 (Programming v) 1 (a + i)) X sc cnt′ refl lX (cyc p Read (a + i) 0) (Gives 128) (atRest was Status 128) (Program (a + i) v) (told3 q)
+        ∙ (λ x. conf (programmed i q sc h x) (atRest was Status 128) (stored x) sc (cnt′ + 1)))
+        (does d w (rec ProgramWaiting i q) (st was Status 0 (Programming v) 1 (a + i)) X sc cnt′ refl lX (cyc p Read (a + i) 0) (Gives 128) (atRest was Status 128) (Program (a + i) v) (told3 q))
         (rest (cnt′ + 1) (omega arith)))))
       where
         v : ℕ
@@ -289,18 +290,18 @@ module _ (d : Device) (p : Pins) (k : ℕ) (u : Up d p) (w : List ℕ) (lw : len
         lX = sized ys ly
 
         asked : State
-        asked = st Status 128 DataAwaited 0 0
+        asked = st was Status 128 DataAwaited 0 0
 
-        told1 : Told d w (rec ProgramAsking i 0) (atRest m 128) (cyc p Write (a + i) 0x40) Quiet asked Nothing
-        told1 = told-here ProgramAsking i 0 Write 0x40 (atRest m 128) Quiet asked Nothing h refl (answers.asks-program d p u m 128 (a + i) refl (inside i h)) refl
+        told1 : Told d w (rec ProgramAsking i 0) (atRest was m 128) (cyc p Write (a + i) 0x40) Quiet asked Nothing
+        told1 = told-here ProgramAsking i 0 Write 0x40 (atRest was m 128) Quiet asked Nothing h refl (answers.asks-program d p u was m 128 (a + i) refl (inside i h)) refl
 
-        told2 : Told d w (rec ProgramSending i 0) asked (cyc p Write (a + i) v) Quiet (st Status 0 (Programming v) (d .program) (a + i)) Nothing
-        told2 = told-here ProgramSending i 0 Write v asked Quiet (st Status 0 (Programming v) (d .program) (a + i)) Nothing h refl (answers.sends d p u k r (a + i) v (inside i h) (block-at i h)) refl
+        told2 : Told d w (rec ProgramSending i 0) asked (cyc p Write (a + i) v) Quiet (st was Status 0 (Programming v) (d .program) (a + i)) Nothing
+        told2 = told-here ProgramSending i 0 Write v asked Quiet (st was Status 0 (Programming v) (d .program) (a + i)) Nothing h refl (answers.sends d p u was k r (a + i) v (inside i h) (block-at i h)) refl
 
-        told3 : (q : ℕ) → Told d w (rec ProgramWaiting i q) (st Status 0 (Programming v) 1 (a + i)) (cyc p Read (a + i) 0) (Gives 128) (atRest Status 128) (Program (a + i) v)
+        told3 : (q : ℕ) → Told d w (rec ProgramWaiting i q) (st was Status 0 (Programming v) 1 (a + i)) (cyc p Read (a + i) 0) (Gives 128) (atRest was Status 128) (Program (a + i) v)
         told3 q =
-            told-here ProgramWaiting i q Read 0 (st Status 0 (Programming v) 1 (a + i)) (Gives 128) (atRest Status 128) (Program (a + i) v) h refl
-            (answers.ends d p u k r (Programming v) (a + i) (a + i) refl z (inside i h) (inside i h)) refl
+            told-here ProgramWaiting i q Read 0 (st was Status 0 (Programming v) 1 (a + i)) (Gives 128) (atRest was Status 128) (Program (a + i) v) h refl
+            (answers.ends d p u was k r (Programming v) (a + i) (a + i) refl z (inside i h) (inside i h)) refl
 
         stored : set X (a + i) (bitAnd (getD X (a + i) 0) v) ≡ overlaid xs a (set ys i v)
         stored =
@@ -332,10 +333,10 @@ module _ (d : Device) (p : Pins) (k : ℕ) (u : Up d p) (w : List ℕ) (lw : len
     -- the programs from place i on, then the verify
     walking : (r : Ready d p k) (sc : List ℕ) → length sc ≡ length w → ((i : ℕ) → i < length w → bitAnd (getD sc i 0) (getD w i 0) ≡ getD w i 0) → 0 < d .program → d .program ≤ 65535
         → (j i cnt c : ℕ) (m : Mode) → i + j ≡ length w → c ≡ cnt + (costs j i sc + (1 + length w))
-        → Reach d w (conf (onto i sc) (atRest m 128) (overlaid xs a (laid i w sc)) sc cnt) (final (overlaid xs a w) c) (programsOf j a i w sc) (programsThen d p j a i w sc (closingOf p a (length w)))
+        → Reach d w (conf (onto i sc) (atRest was m 128) (overlaid xs a (laid i w sc)) sc cnt) (final (overlaid xs a w) c) (programsOf j a i w sc) (programsThen d p j a i w sc (closingOf p a (length w)))
     walking r sc ls falls z b zero i cnt c m e q =
-        subst (λ (l : Loader). Reach d w (conf l (atRest m 128) (overlaid xs a (laid i w sc)) sc cnt) (final (overlaid xs a w) c) [] (closingOf p a (length w))) (sym (onto-past i sc (omega arith)))
-        (subst (λ (y : List ℕ). Reach d w (conf (rec Closing 0 0) (atRest m 128) (overlaid xs a y) sc cnt) (final (overlaid xs a w) c) [] (closingOf p a (length w))) (sym whole) (closing m sc cnt c ls (omega arith)))
+        subst (λ (l : Loader). Reach d w (conf l (atRest was m 128) (overlaid xs a (laid i w sc)) sc cnt) (final (overlaid xs a w) c) [] (closingOf p a (length w))) (sym (onto-past i sc (omega arith)))
+        (subst (λ (y : List ℕ). Reach d w (conf (rec Closing 0 0) (atRest was m 128) (overlaid xs a y) sc cnt) (final (overlaid xs a w) c) [] (closingOf p a (length w))) (sym whole) (closing m sc cnt c ls (omega arith)))
       where
         whole : laid i w sc ≡ w
         whole = ap (λ (n : ℕ). laid n w sc) (let t : i ≡ length sc = omega arith in t) ∙ laid-all w sc (sym ls)
@@ -351,11 +352,11 @@ module _ (d : Device) (p : Pins) (k : ℕ) (u : Up d p) (w : List ℕ) (lw : len
         cs = programsThen d p j a (i + 1) w sc (closingOf p a (length w))
 
         From : Loader → List ℕ → ℕ → Mode → List Effect → List Cycle → Type 0
-        From l y n m′ fs ds = Reach d w (conf l (atRest m′ 128) (overlaid xs a y) sc n) (final (overlaid xs a w) c) fs ds
+        From l y n m′ fs ds = Reach d w (conf l (atRest was m′ 128) (overlaid xs a y) sc n) (final (overlaid xs a w) c) fs ds
 
         go : (t : Bool) → eqb (getD sc i 0) (getD w i 0) ≡ t
             → ((cnt′ c′ : ℕ) (m′ : Mode) → i + 1 + j ≡ length w → c′ ≡ cnt′ + (costs j (i + 1) sc + (1 + length w))
-            → Reach d w (conf (onto (i + 1) sc) (atRest m′ 128) (overlaid xs a (laid (i + 1) w sc)) sc cnt′) (final (overlaid xs a w) c′) es cs)
+            → Reach d w (conf (onto (i + 1) sc) (atRest was m′ 128) (overlaid xs a (laid (i + 1) w sc)) sc cnt′) (final (overlaid xs a w) c′) es cs)
             → From (onto i sc) (laid i w sc) cnt m (if eqb (getD sc i 0) (getD w i 0) then es else Program (a + i) (getD w i 0) ∷ es) (if eqb (getD sc i 0) (getD w i 0) then cs else programThen d p (a + i) (getD w i 0) cs)
         go true t more =
             rw t
@@ -377,11 +378,11 @@ module _ (d : Device) (p : Pins) (k : ℕ) (u : Up d p) (w : List ℕ) (lw : len
 
     -- the block all ones
     abbrev blank : List ℕ
-    blank = replicate (length w) ones
+    blank = replicate (length w) (ones (d .part))
 
     erased-blank : (X : List ℕ) (j : ℕ) → j ≡ k → erased (d .part) j X ≡ overlaid X a blank
     unfolding erased
-    erased-blank X j e = ap (λ (i : ℕ). overlaid X (startOf (d .part) i) (replicate (lengthOf (d .part) i) ones)) e ∙ ap (λ (n : ℕ). overlaid X a (replicate n ones)) (sym lw)
+    erased-blank X j e = ap (λ (i : ℕ). overlaid X (startOf (d .part) i) (replicate (lengthOf (d .part) i) (ones (d .part)))) e ∙ ap (λ (n : ℕ). overlaid X a (replicate n (ones (d .part)))) (sym lw)
 
     erase-poll : (q : ℕ) (sc : List ℕ) → nextOf (rec EraseWaiting 0 q) 0 w sc ≡ pollMore (rec EraseWaiting 0 q) EraseWaiting
     unfolding erasePolled
@@ -393,7 +394,7 @@ module _ (d : Device) (p : Pins) (k : ℕ) (u : Up d p) (w : List ℕ) (lw : len
 
     erase-fills : (q : ℕ) (sc : List ℕ) → length sc ≡ length w → storeOf (rec EraseWaiting 0 q) 128 sc ≡ blank
     unfolding erasedWell eraseFault bothErrors
-    erase-fills q sc e = ap (λ (n : ℕ). replicate n ones) e
+    erase-fills q sc e = ap (λ (n : ℕ). replicate n (ones (d .part))) e
 
     erased-on : (q : ℕ) (sc : List ℕ) → nextOf (rec EraseWaiting 0 q) 128 w sc ≡ onto 0 sc
     unfolding erasePolled eraseFault bothErrors
@@ -401,23 +402,23 @@ module _ (d : Device) (p : Pins) (k : ℕ) (u : Up d p) (w : List ℕ) (lw : len
 
     -- the erase: 20H, D0H, E polls
     erasing : (r : Ready d p k) (m : Mode) (cnt : ℕ) (ys sc : List ℕ) (e : Config) (es : List Effect) (cs : List Cycle) → length ys ≡ length w → length sc ≡ length w → 0 < d .erase → d .erase ≤ 65535
-        → ((cnt′ : ℕ) → cnt′ ≡ cnt + (2 + d .erase) → Reach d w (conf (onto 0 blank) (atRest Status 128) (overlaid xs a blank) blank cnt′) e es cs)
-        → Reach d w (conf (rec EraseAsking 0 0) (atRest m 128) (overlaid xs a ys) sc cnt) e (Erase k ∷ es) (eraseThen d p a cs)
+        → ((cnt′ : ℕ) → cnt′ ≡ cnt + (2 + d .erase) → Reach d w (conf (onto 0 blank) (atRest was Status 128) (overlaid xs a blank) blank cnt′) e es cs)
+        → Reach d w (conf (rec EraseAsking 0 0) (atRest was m 128) (overlaid xs a ys) sc cnt) e (Erase k ∷ es) (eraseThen d p a cs)
     erasing r m cnt ys sc e es cs ly ls z b rest =
         prepend d w _ _ e Nothing (cyc p Write a 0x20) (Erase k ∷ es) _
-        (turned d w (rec EraseAsking 0 0) (atRest m 128) X sc cnt refl lX (cyc p Write a 0x20) Quiet asked Nothing told1)
-        (does d w (rec EraseAsking 0 0) (atRest m 128) X sc cnt refl lX (cyc p Write a 0x20) Quiet asked Nothing told1)
+        (turned d w (rec EraseAsking 0 0) (atRest was m 128) X sc cnt refl lX (cyc p Write a 0x20) Quiet asked Nothing told1)
+        (does d w (rec EraseAsking 0 0) (atRest was m 128) X sc cnt refl lX (cyc p Write a 0x20) Quiet asked Nothing told1)
         (prepend d w _ _ e (Erase k) (cyc p Write a 0xD0) es _
-        (turned d w (rec EraseConfirming 0 0) asked X sc (cnt + 1) refl lX (cyc p Write a 0xD0) Quiet (st Status 0 Erasing (d .erase) a) Nothing told2)
+        (turned d w (rec EraseConfirming 0 0) asked X sc (cnt + 1) refl lX (cyc p Write a 0xD0) Quiet (st was Status 0 Erasing (d .erase) a) Nothing told2)
         (does-as d w _ _ (Erase k) (cyc p Write a 0xD0) (ap Erase block-first)
-        (does d w (rec EraseConfirming 0 0) asked X sc (cnt + 1) refl lX (cyc p Write a 0xD0) Quiet (st Status 0 Erasing (d .erase) a) Nothing told2))
+        (does d w (rec EraseConfirming 0 0) asked X sc (cnt + 1) refl lX (cyc p Write a 0xD0) Quiet (st was Status 0 Erasing (d .erase) a) Nothing told2))
         (waiting-all r EraseWaiting 0 Erasing a a refl refl a-inside a-inside X sc lX
         (λ q. ap (λ (x : ℕ). cyc p Read x 0) (first EraseWaiting 0 q)) (λ q. ap (λ (y : List ℕ). nextOf (rec EraseWaiting 0 q) 0 w y) (erase-keeps q sc) ∙ erase-poll q sc) (λ q. erase-keeps q sc)
         (d .erase) (cnt + 1 + 1) e es cs z b (omega arith)
         (λ q cnt′ t. prepend d w _ _ e Nothing (cyc p Read a 0) es cs
-        (turned d w (rec EraseWaiting 0 q) (st Status 0 Erasing 1 a) X sc cnt′ refl lX (cyc p Read a 0) (Gives 128) (atRest Status 128) (Erase (blockOf (d .part) a)) (told3 q)
-        ∙ (λ x. conf ((ap (λ (y : List ℕ). nextOf (rec EraseWaiting 0 q) 128 w y) (erase-fills q sc ls) ∙ erased-on q blank) x) (atRest Status 128) (all-erased x) (erase-fills q sc ls x) (cnt′ + 1)))
-        (does d w (rec EraseWaiting 0 q) (st Status 0 Erasing 1 a) X sc cnt′ refl lX (cyc p Read a 0) (Gives 128) (atRest Status 128) (Erase (blockOf (d .part) a)) (told3 q))
+        (turned d w (rec EraseWaiting 0 q) (st was Status 0 Erasing 1 a) X sc cnt′ refl lX (cyc p Read a 0) (Gives 128) (atRest was Status 128) (Erase (blockOf (d .part) a)) (told3 q)
+        ∙ (λ x. conf ((ap (λ (y : List ℕ). nextOf (rec EraseWaiting 0 q) 128 w y) (erase-fills q sc ls) ∙ erased-on q blank) x) (atRest was Status 128) (all-erased x) (erase-fills q sc ls x) (cnt′ + 1)))
+        (does d w (rec EraseWaiting 0 q) (st was Status 0 Erasing 1 a) X sc cnt′ refl lX (cyc p Read a 0) (Gives 128) (atRest was Status 128) (Erase (blockOf (d .part) a)) (told3 q))
         (rest (cnt′ + 1) (omega arith)))))
       where
         X : List ℕ
@@ -427,19 +428,19 @@ module _ (d : Device) (p : Pins) (k : ℕ) (u : Up d p) (w : List ℕ) (lw : len
         lX = sized ys ly
 
         asked : State
-        asked = st Status 128 EraseAwaited 0 0
+        asked = st was Status 128 EraseAwaited 0 0
 
-        told1 : Told d w (rec EraseAsking 0 0) (atRest m 128) (cyc p Write a 0x20) Quiet asked Nothing
-        told1 = told-first EraseAsking 0 0 Write 0x20 (atRest m 128) Quiet asked Nothing refl (answers.asks-erase d p u m 128 a refl a-inside) refl
+        told1 : Told d w (rec EraseAsking 0 0) (atRest was m 128) (cyc p Write a 0x20) Quiet asked Nothing
+        told1 = told-first EraseAsking 0 0 Write 0x20 (atRest was m 128) Quiet asked Nothing refl (answers.asks-erase d p u was m 128 a refl a-inside) refl
 
-        told2 : Told d w (rec EraseConfirming 0 0) asked (cyc p Write a 0xD0) Quiet (st Status 0 Erasing (d .erase) a) Nothing
-        told2 = told-first EraseConfirming 0 0 Write 0xD0 asked Quiet (st Status 0 Erasing (d .erase) a) Nothing refl (answers.confirms d p u k r a a-inside block-first) refl
+        told2 : Told d w (rec EraseConfirming 0 0) asked (cyc p Write a 0xD0) Quiet (st was Status 0 Erasing (d .erase) a) Nothing
+        told2 = told-first EraseConfirming 0 0 Write 0xD0 asked Quiet (st was Status 0 Erasing (d .erase) a) Nothing refl (answers.confirms d p u was k r a a-inside block-first) refl
 
-        told3 : (q : ℕ) → Told d w (rec EraseWaiting 0 q) (st Status 0 Erasing 1 a) (cyc p Read a 0) (Gives 128) (atRest Status 128) (Erase (blockOf (d .part) a))
-        told3 q = told-first EraseWaiting 0 q Read 0 (st Status 0 Erasing 1 a) (Gives 128) (atRest Status 128) (Erase (blockOf (d .part) a)) refl (answers.ends d p u k r Erasing a a refl z a-inside a-inside) refl
+        told3 : (q : ℕ) → Told d w (rec EraseWaiting 0 q) (st was Status 0 Erasing 1 a) (cyc p Read a 0) (Gives 128) (atRest was Status 128) (Erase (blockOf (d .part) a))
+        told3 q = told-first EraseWaiting 0 q Read 0 (st was Status 0 Erasing 1 a) (Gives 128) (atRest was Status 128) (Erase (blockOf (d .part) a)) refl (answers.ends d p u was k r Erasing a a refl z a-inside a-inside) refl
 
         all-erased : erased (d .part) (blockOf (d .part) a) X ≡ overlaid xs a blank
-        all-erased = erased-blank X (blockOf (d .part) a) block-first ∙ over-over xs a ys blank (a-within xs lx) (ly ∙ sym (length-replicate (length w) ones))
+        all-erased = erased-blank X (blockOf (d .part) a) block-first ∙ over-over xs a ys blank (a-within xs lx) (ly ∙ sym (length-replicate (length w) (ones (d .part))))
 
     -- one more byte of the first reads
     read-next : (i : ℕ) (sc : List ℕ) → i + 1 < length w → readMore (rec Reading i 0) w sc ≡ rec Reading (i + 1) 0
@@ -455,21 +456,21 @@ module _ (d : Device) (p : Pins) (k : ℕ) (u : Up d p) (w : List ℕ) (lw : len
     after-same i sc = refl
 
     module _ (ys sc : List ℕ) (ly : length ys ≡ length w) (ls : length sc ≡ length w) where
-      read-told : (i : ℕ) (h : i < length w) → Told d w (rec Reading i 0) (atRest Array 128) (cyc p Read (a + i) 0) (GivesArray (a + i)) (atRest Array 128) Nothing
-      read-told i h = told-here Reading i 0 Read 0 (atRest Array 128) (GivesArray (a + i)) (atRest Array 128) Nothing h refl (answers.reads d p u 128 (a + i) refl (inside i h)) refl
+      read-told : (i : ℕ) (h : i < length w) → Told d w (rec Reading i 0) (atRest was Array 128) (cyc p Read (a + i) 0) (GivesArray (a + i)) (atRest was Array 128) Nothing
+      read-told i h = told-here Reading i 0 Read 0 (atRest was Array 128) (GivesArray (a + i)) (atRest was Array 128) Nothing h refl (answers.reads d p u was 128 (a + i) refl (inside i h)) refl
 
       laid-read : (i : ℕ) (h : i < length w) → set (laid i ys sc) i (getD (overlaid xs a ys) (a + i) 0) ≡ laid (i + 1) ys sc
       laid-read i h = ap (λ (v : ℕ). set (laid i ys sc) i v) (byte-at ys i ly h) ∙ laid-more ys sc i (omega arith) (omega arith)
 
       reading : (j i cnt : ℕ) (e : Config) (es : List Effect) (cs : List Cycle) → i + (j + 1) ≡ length w
-          → ((cnt′ : ℕ) → cnt′ ≡ cnt + (j + 1) → Reach d w (conf (if risesIn w ys then rec EraseAsking 0 0 else onto 0 ys) (atRest Array 128) (overlaid xs a ys) ys cnt′) e es cs)
-          → Reach d w (conf (rec Reading i 0) (atRest Array 128) (overlaid xs a ys) (laid i ys sc) cnt) e es (readsThen p (suc j) a i cs)
+          → ((cnt′ : ℕ) → cnt′ ≡ cnt + (j + 1) → Reach d w (conf (if risesIn w ys then rec EraseAsking 0 0 else onto 0 ys) (atRest was Array 128) (overlaid xs a ys) ys cnt′) e es cs)
+          → Reach d w (conf (rec Reading i 0) (atRest was Array 128) (overlaid xs a ys) (laid i ys sc) cnt) e es (readsThen p (suc j) a i cs)
       reading zero i cnt e es cs q rest =
           let h : i < length w = omega arith in
           prepend d w _ _ e Nothing (cyc p Read (a + i) 0) es cs
-          (turned d w (rec Reading i 0) (atRest Array 128) (overlaid xs a ys) (laid i ys sc) cnt refl (sized ys ly) (cyc p Read (a + i) 0) (GivesArray (a + i)) (atRest Array 128) Nothing (read-told i h)
-          ∙ (λ t. conf ((ap (λ (y : List ℕ). readMore (rec Reading i 0) w y) (laid-read i h ∙ whole) ∙ read-last i ys (omega arith) ∙ after-same i ys) t) (atRest Array 128) (overlaid xs a ys) ((laid-read i h ∙ whole) t) (cnt + 1)))
-          (does d w (rec Reading i 0) (atRest Array 128) (overlaid xs a ys) (laid i ys sc) cnt refl (sized ys ly) (cyc p Read (a + i) 0) (GivesArray (a + i)) (atRest Array 128) Nothing (read-told i h))
+          (turned d w (rec Reading i 0) (atRest was Array 128) (overlaid xs a ys) (laid i ys sc) cnt refl (sized ys ly) (cyc p Read (a + i) 0) (GivesArray (a + i)) (atRest was Array 128) Nothing (read-told i h)
+          ∙ (λ t. conf ((ap (λ (y : List ℕ). readMore (rec Reading i 0) w y) (laid-read i h ∙ whole) ∙ read-last i ys (omega arith) ∙ after-same i ys) t) (atRest was Array 128) (overlaid xs a ys) ((laid-read i h ∙ whole) t) (cnt + 1)))
+          (does d w (rec Reading i 0) (atRest was Array 128) (overlaid xs a ys) (laid i ys sc) cnt refl (sized ys ly) (cyc p Read (a + i) 0) (GivesArray (a + i)) (atRest was Array 128) Nothing (read-told i h))
           (rest (cnt + 1) (omega arith))
         where
           whole : laid (i + 1) ys sc ≡ ys
@@ -477,44 +478,44 @@ module _ (d : Device) (p : Pins) (k : ℕ) (u : Up d p) (w : List ℕ) (lw : len
       reading (suc j) i cnt e es cs q rest =
           let h : i < length w = omega arith in
           prepend d w _ _ e Nothing (cyc p Read (a + i) 0) es (readsThen p (suc j) a (i + 1) cs)
-          (turned d w (rec Reading i 0) (atRest Array 128) (overlaid xs a ys) (laid i ys sc) cnt refl (sized ys ly) (cyc p Read (a + i) 0) (GivesArray (a + i)) (atRest Array 128) Nothing (read-told i h)
-          ∙ (λ t. conf (read-next i (set (laid i ys sc) i (getD (overlaid xs a ys) (a + i) 0)) (omega arith) t) (atRest Array 128) (overlaid xs a ys) (laid-read i h t) (cnt + 1)))
-          (does d w (rec Reading i 0) (atRest Array 128) (overlaid xs a ys) (laid i ys sc) cnt refl (sized ys ly) (cyc p Read (a + i) 0) (GivesArray (a + i)) (atRest Array 128) Nothing (read-told i h))
+          (turned d w (rec Reading i 0) (atRest was Array 128) (overlaid xs a ys) (laid i ys sc) cnt refl (sized ys ly) (cyc p Read (a + i) 0) (GivesArray (a + i)) (atRest was Array 128) Nothing (read-told i h)
+          ∙ (λ t. conf (read-next i (set (laid i ys sc) i (getD (overlaid xs a ys) (a + i) 0)) (omega arith) t) (atRest was Array 128) (overlaid xs a ys) (laid-read i h t) (cnt + 1)))
+          (does d w (rec Reading i 0) (atRest was Array 128) (overlaid xs a ys) (laid i ys sc) cnt refl (sized ys ly) (cyc p Read (a + i) 0) (GivesArray (a + i)) (atRest was Array 128) Nothing (read-told i h))
           (reading j (i + 1) (cnt + 1) e es cs (omega arith) (λ cnt′ z. rest cnt′ (omega arith)))
 
       -- where a load stands before it, and after the first reads
       abbrev pub fore : Mode → ℕ → Config
-      fore m x = conf (rec Clearing 0 0) (atRest m x) (overlaid xs a ys) sc 0
+      fore m x = conf (rec Clearing 0 0) (atRest was m x) (overlaid xs a ys) sc 0
 
       abbrev pub judged : ℕ → Config
-      judged cnt = conf (if risesIn w ys then rec EraseAsking 0 0 else onto 0 ys) (atRest Array 128) (overlaid xs a ys) ys cnt
+      judged cnt = conf (if risesIn w ys then rec EraseAsking 0 0 else onto 0 ys) (atRest was Array 128) (overlaid xs a ys) ys cnt
 
       -- 50H, FFH and the first reads, from any mode and any error bits
       pub opening : (m : Mode) (x : ℕ) → fits 2 x ≡ true → (e : Config) (es : List Effect) (cs : List Cycle) → Reach d w (judged (2 + length w)) e es cs
           → Reach d w (fore m x) e es (openingThen p a (length w) cs)
       opening m x f e es cs rest =
           prepend d w _ _ e Nothing (cyc p Write a 0x50) es _
-          (turned d w (rec Clearing 0 0) (atRest m x) (overlaid xs a ys) sc 0 refl (sized ys ly) (cyc p Write a 0x50) Quiet (atRest m 128) Nothing told1)
-          (does d w (rec Clearing 0 0) (atRest m x) (overlaid xs a ys) sc 0 refl (sized ys ly) (cyc p Write a 0x50) Quiet (atRest m 128) Nothing told1)
+          (turned d w (rec Clearing 0 0) (atRest was m x) (overlaid xs a ys) sc 0 refl (sized ys ly) (cyc p Write a 0x50) Quiet (atRest was m 128) Nothing told1)
+          (does d w (rec Clearing 0 0) (atRest was m x) (overlaid xs a ys) sc 0 refl (sized ys ly) (cyc p Write a 0x50) Quiet (atRest was m 128) Nothing told1)
           (prepend d w _ _ e Nothing (cyc p Write a 0xFF) es _
-          (turned d w (rec Opening 0 0) (atRest m 128) (overlaid xs a ys) sc (0 + 1) refl (sized ys ly) (cyc p Write a 0xFF) Quiet (atRest Array 128) Nothing told2)
-          (does d w (rec Opening 0 0) (atRest m 128) (overlaid xs a ys) sc (0 + 1) refl (sized ys ly) (cyc p Write a 0xFF) Quiet (atRest Array 128) Nothing told2)
-          (subst (λ (n : ℕ). Reach d w (conf (rec Reading 0 0) (atRest Array 128) (overlaid xs a ys) sc (0 + 1 + 1)) e es (readsThen p n a 0 cs)) one-more
+          (turned d w (rec Opening 0 0) (atRest was m 128) (overlaid xs a ys) sc (0 + 1) refl (sized ys ly) (cyc p Write a 0xFF) Quiet (atRest was Array 128) Nothing told2)
+          (does d w (rec Opening 0 0) (atRest was m 128) (overlaid xs a ys) sc (0 + 1) refl (sized ys ly) (cyc p Write a 0xFF) Quiet (atRest was Array 128) Nothing told2)
+          (subst (λ (n : ℕ). Reach d w (conf (rec Reading 0 0) (atRest was Array 128) (overlaid xs a ys) sc (0 + 1 + 1)) e es (readsThen p n a 0 cs)) one-more
           (reading (length w - 1) 0 (0 + 1 + 1) e es cs (omega arith)
           (λ cnt z. subst (λ (n : ℕ). Reach d w (judged n) e es cs) (let y : 2 + length w ≡ cnt = omega arith in y) rest))))
         where
-          told1 : Told d w (rec Clearing 0 0) (atRest m x) (cyc p Write a 0x50) Quiet (atRest m 128) Nothing
+          told1 : Told d w (rec Clearing 0 0) (atRest was m x) (cyc p Write a 0x50) Quiet (atRest was m 128) Nothing
           told1 =
-              told-first Clearing 0 0 Write 0x50 (atRest m x) Quiet (atRest m 128) Nothing refl
-              (answers.clears d p u m x a f a-inside ∙ ap (λ (y : ℕ). decidedAs Quiet (atRest m y) Nothing) (cleared x f)) refl
+              told-first Clearing 0 0 Write 0x50 (atRest was m x) Quiet (atRest was m 128) Nothing refl
+              (answers.clears d p u was m x a f a-inside ∙ ap (λ (y : ℕ). decidedAs Quiet (atRest was m y) Nothing) (cleared x f)) refl
 
-          told2 : Told d w (rec Opening 0 0) (atRest m 128) (cyc p Write a 0xFF) Quiet (atRest Array 128) Nothing
-          told2 = told-first Opening 0 0 Write 0xFF (atRest m 128) Quiet (atRest Array 128) Nothing refl (answers.opens d p u m 128 a refl a-inside) refl
+          told2 : Told d w (rec Opening 0 0) (atRest was m 128) (cyc p Write a 0xFF) Quiet (atRest was Array 128) Nothing
+          told2 = told-first Opening 0 0 Write 0xFF (atRest was m 128) Quiet (atRest was Array 128) Nothing refl (answers.opens d p u was m 128 a refl a-inside) refl
 
       -- the whole load, whether some bit must rise or none
-      pub loading : (r : Ready d p k) (m : Mode) (x c : ℕ) → fits 2 x ≡ true → Cells w → 0 < d .program → d .program ≤ 65535 → 0 < d .erase → d .erase ≤ 65535
-          → c ≡ 2 * length w + 3 + ((if risesIn w ys then 2 + d .erase else 0) + costs (length w) 0 (baseOf w ys))
-          → Reach d w (fore m x) (final (overlaid xs a w) c) (operationsOf k a w ys) (cyclesOf d p a w ys)
+      pub loading : (r : Ready d p k) (m : Mode) (x c : ℕ) → fits 2 x ≡ true → Cells (d .part) w → 0 < d .program → d .program ≤ 65535 → 0 < d .erase → d .erase ≤ 65535
+          → c ≡ 2 * length w + 3 + ((if risesIn w ys then 2 + d .erase else 0) + costs (length w) 0 (baseOf (d .part) w ys))
+          → Reach d w (fore m x) (final (overlaid xs a w) c) (operationsOf (d .part) k a w ys) (cyclesOf d p a w ys)
       loading r m x c f bw zp bp ze be q = opening m x f (final (overlaid xs a w) c) _ _ (go (risesIn w ys) refl)
         where
           End : List Effect → List Cycle → Type 0
@@ -523,14 +524,14 @@ module _ (d : Device) (p : Pins) (k : ℕ) (u : Up d p) (w : List ℕ) (lw : len
           last : List Cycle
           last = closingOf p a (length w)
 
-          go : (t : Bool) → risesIn w ys ≡ t → End (operationsOf k a w ys) (if risesIn w ys then eraseThen d p a (programmingOf d p a w ys) else programmingOf d p a w ys)
+          go : (t : Bool) → risesIn w ys ≡ t → End (operationsOf (d .part) k a w ys) (if risesIn w ys then eraseThen d p a (programmingOf d p a w ys) else programmingOf d p a w ys)
           go true t =
               rw t
               (erasing r Array (2 + length w) ys ys (final (overlaid xs a w) c) (programsOf (length w) a 0 w blank) (programsThen d p (length w) a 0 w blank last) ly ly ze be
-              (λ cnt′ y. walking r blank (length-replicate (length w) ones) (λ i h. full i h) zp bp (length w) 0 cnt′ c Status (omega arith) (let z = rw t at q in omega arith)))
+              (λ cnt′ y. walking r blank (length-replicate (length w) (ones (d .part))) (λ i h. full i h) zp bp (length w) 0 cnt′ c Status (omega arith) (let z = rw t at q in omega arith)))
             where
               full : (i : ℕ) → i < length w → bitAnd (getD blank i 0) (getD w i 0) ≡ getD w i 0
-              full i h = ap (λ (y : ℕ). bitAnd y (getD w i 0)) (getD-replicate (length w) i ones 0 h) ∙ and-ones (getD w i 0) (bw i)
+              full i h = ap (λ (y : ℕ). bitAnd y (getD w i 0)) (getD-replicate (length w) i (ones (d .part)) 0 h) ∙ and-ones (d .part) (getD w i 0) (bw i)
           go false t =
               rw t
               (walking r ys ly (λ i h. unrisen ys t i h) zp bp (length w) 0 (2 + length w) c Array (omega arith) (let z = rw t at q in omega arith))

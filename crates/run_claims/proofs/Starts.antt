@@ -52,7 +52,7 @@ module _ (d : Device) (s : State) (p : Pins) (k : ℕ) (xs w sc : List ℕ) wher
           (past (t .block) (past (lengths-right d k (length w) (length sc) (t .wanted) (t .scratch)) (past (t .idle) end))))))
 
   -- and a run that no number refuses starts so, with busy times up to 65,535 and wanted bytes
-  pub taken-if : runNumber d s p k (length xs) (length w) (length sc) ≡ 0 → d .program ≤ 65535 → d .erase ≤ 65535 → Cells w → Taken d s p k xs w sc
+  pub taken-if : runNumber d s p k (length xs) (length w) (length sc) ≡ 0 → d .program ≤ 65535 → d .erase ≤ 65535 → Cells (d .part) w → Taken d s p k xs w sc
   taken-if n programs erases bytes =
       let g = good d s p k (length xs) (length w) (length sc) n in
       record {
@@ -71,5 +71,5 @@ module _ (d : Device) (s : State) (p : Pins) (k : ℕ) (xs w sc : List ℕ) wher
       }
 
   -- both at once
-  pub taken-exactly : d .program ≤ 65535 → d .erase ≤ 65535 → Cells w → Taken d s p k xs w sc ↔ (runNumber d s p k (length xs) (length w) (length sc) ≡ 0)
+  pub taken-exactly : d .program ≤ 65535 → d .erase ≤ 65535 → Cells (d .part) w → Taken d s p k xs w sc ↔ (runNumber d s p k (length xs) (length w) (length sc) ≡ 0)
   taken-exactly programs erases bytes = (none-refuses, λ n. taken-if n programs erases bytes)

@@ -123,12 +123,12 @@ out-pins (Ended n) first here l w = refl
 
 -- two bytes move a record alike: the same byte after a read, any two after a write
 pub record Alike (stage : Stage) (l : Loader) (w sc : List ℕ) (b x : ℕ) : Type 0 where
-  pub stored : storeIn stage (l .place) b sc ≡ storeIn stage (l .place) x sc
-  pub next : nextIn stage l b w (storeIn stage (l .place) b sc) ≡ nextIn stage l x w (storeIn stage (l .place) x sc)
+  pub stored : storeIn stage (l .part) (l .place) b sc ≡ storeIn stage (l .part) (l .place) x sc
+  pub next : nextIn stage l b w (storeIn stage (l .part) (l .place) b sc) ≡ nextIn stage l x w (storeIn stage (l .part) (l .place) x sc)
 
 same-byte : (stage : Stage) (l : Loader) (w sc : List ℕ) (b x : ℕ) → b ≡ x → Alike stage l w sc b x
 same-byte stage l w sc b x q =
-    record { stored = ap (λ (y : ℕ). storeIn stage (l .place) y sc) q; next = ap (λ (y : ℕ). nextIn stage l y w (storeIn stage (l .place) y sc)) q }
+    record { stored = ap (λ (y : ℕ). storeIn stage (l .part) (l .place) y sc) q; next = ap (λ (y : ℕ). nextIn stage l y w (storeIn stage (l .part) (l .place) y sc)) q }
 
 alike : (stage : Stage) (first here : ℕ) (l : Loader) (w sc : List ℕ) (b x : ℕ) → (cycleIn stage first here l w .kind ≡ Read → b ≡ x) → Alike stage l w sc b x
 alike Clearing first here l w sc b x h = record { stored = refl; next = refl }
@@ -308,12 +308,12 @@ module _ (d : Device) (s : State) (p : Pins) (k : ℕ) (xs w sc : List ℕ) (fre
       }
 
 -- a run that returns what specs/Ends says counts a cycle, so nothing refused it
-some-counted : (d : Device) (p : Pins) (k : ℕ) (w ys : List ℕ) → 0 < ranAs d p k w ys .count
+some-counted : (d : Device) (s : State) (p : Pins) (k : ℕ) (w ys : List ℕ) → 0 < ranAs d s p k w ys .count
 unfolding ranAs
-some-counted d p k w ys =
-    if-ind (λ (r : Ran). 0 < r .count) (eqb (endNumber d p k w ys) 0) (wellRan d w ys) (faultRan d p w ys (endNumber d p k w ys)) (λ e. omega arith) (λ e. omega arith)
+some-counted d s p k w ys =
+    if-ind (λ (r : Ran). 0 < r .count) (eqb (endNumber d p k w ys) 0) (wellRan d s w ys) (faultRan d s p w ys (endNumber d p k w ys)) (λ e. omega arith) (λ e. omega arith)
 
 pub stepped : (d : Device) (s : State) (p : Pins) (k : ℕ) (xs w sc : List ℕ) → Whole d s p k xs w sc → Stepped d s p k xs w sc
 stepped d s p k xs w sc h =
     by-hand d s p k xs w sc
-    (run-accepted d s p k xs w sc .0 (subst (λ (r : Ran). 0 < r .count) (sym (h .ran)) (some-counted d p k w (heldIn (parts.startOf (d .part) k) (length w) xs)))) (h .smooth)
+    (run-accepted d s p k xs w sc .0 (subst (λ (r : Ran). 0 < r .count) (sym (h .ran)) (some-counted d s p k w (heldIn (parts.startOf (d .part) k) (length w) xs)))) (h .smooth)

@@ -112,7 +112,7 @@ module _ (d : Device) (s : State) (p : Pins) (k : ℕ) (xs w sc : List ℕ) (t :
   unfolding ranAs
   end-is = ap (λ (r : Ran). r .end) (every-end d s p k xs w sc t .ran) ∙ go (endNumber d p k w (heldIn (startOf (d .part) k) (length w) xs)) (eqb (endNumber d p k w (heldIn (startOf (d .part) k) (length w) xs)) 0) refl
     where
-      go : (n : ℕ) (z : Bool) → eqb n 0 ≡ z → (if z then wellRan d w (heldIn (startOf (d .part) k) (length w) xs) else faultRan d p w (heldIn (startOf (d .part) k) (length w) xs) n) .end ≡ n
+      go : (n : ℕ) (z : Bool) → eqb n 0 ≡ z → (if z then wellRan d s w (heldIn (startOf (d .part) k) (length w) xs) else faultRan d s p w (heldIn (startOf (d .part) k) (length w) xs) n) .end ≡ n
       go n true e = sym (eqb-true n 0 e)
       go n false e = refl
 

@@ -51,15 +51,15 @@ abbrev pub faultCycles : Pins → ℕ → List ℕ → List ℕ → List Cycle
 faultCycles p a w ys = openingThen p a (length w) (if risesIn w ys then eraseTried p a else programTried p (a + diffFrom 0 w ys) (getD w (diffFrom 0 w ys) 0))
 
 -- a run that ends well, and one that ends by a fault at cycle n + 5
-abbrev pub wellRan : Device → List ℕ → List ℕ → Ran
-wellRan d w ys = record { count = formula d w ys; end = 0; address = 0; state = atRest Array 0x80 }
+abbrev pub wellRan : Device → State → List ℕ → List ℕ → Ran
+wellRan d s w ys = record { count = formula d w ys; end = 0; address = 0; state = atRest s Array 0x80 }
 
-abbrev pub faultRan : Device → Pins → List ℕ → List ℕ → ℕ → Ran
-faultRan d p w ys n = record { count = length w + 5; end = n; address = 0; state = atRest Status (faultStatus d p w ys) }
+abbrev pub faultRan : Device → State → Pins → List ℕ → List ℕ → ℕ → Ran
+faultRan d s p w ys n = record { count = length w + 5; end = n; address = 0; state = atRest s Status (faultStatus d p w ys) }
 
 -- what such a run returns, what it leaves in array and scratch, and its cycles
-unfoldable pub ranAs : Device → Pins → ℕ → List ℕ → List ℕ → Ran
-ranAs d p k w ys = if eqb (endNumber d p k w ys) 0 then wellRan d w ys else faultRan d p w ys (endNumber d p k w ys)
+unfoldable pub ranAs : Device → State → Pins → ℕ → List ℕ → List ℕ → Ran
+ranAs d s p k w ys = if eqb (endNumber d p k w ys) 0 then wellRan d s w ys else faultRan d s p w ys (endNumber d p k w ys)
 
 unfoldable pub bytesAs : Device → Pins → ℕ → ℕ → List ℕ → List ℕ → List ℕ → List ℕ
 bytesAs d p k a w ys xs = if eqb (endNumber d p k w ys) 0 then overlaid xs a w else xs
@@ -72,7 +72,7 @@ cyclesAs d p k a w ys = if eqb (endNumber d p k w ys) 0 then cyclesOf d p a w ys
 
 -- what a run returns, what it leaves in array and scratch, the cycles that it makes, and that the model takes them all and nothing is cut
 pub record Whole (d : Device) (s : State) (p : Pins) (k : ℕ) (xs w sc : List ℕ) : Type 0 where
-  pub ran : ranOf d s p k xs w sc ≡ ranAs d p k w (heldIn (startOf (d .part) k) (length w) xs)
+  pub ran : ranOf d s p k xs w sc ≡ ranAs d s p k w (heldIn (startOf (d .part) k) (length w) xs)
   pub bytes : bytesOf d s p k xs w sc ≡ bytesAs d p k (startOf (d .part) k) w (heldIn (startOf (d .part) k) (length w) xs) xs
   pub scratch : scratchOf d s p k xs w sc ≡ scratchAs d p k w (heldIn (startOf (d .part) k) (length w) xs)
   pub made : cyclesOfLoad d s p k xs w sc ≡ cyclesAs d p k (startOf (d .part) k) w (heldIn (startOf (d .part) k) (length w) xs)

@@ -86,7 +86,7 @@ closingOf p a n = busCycle p Write a 0xFF ∷ readsThen p n a 0 []
 
 -- the programs from what the block holds after an erase, or without one, and the verify
 abbrev pub programmingOf : Device → Pins → ℕ → List ℕ → List ℕ → List Cycle
-programmingOf d p a w ys = programsThen d p (length w) a 0 w (baseOf w ys) (closingOf p a (length w))
+programmingOf d p a w ys = programsThen d p (length w) a 0 w (baseOf (d .part) w ys) (closingOf p a (length w))
 
 -- the cycles of a good load of a block at a that holds ys
 abbrev pub cyclesOf : Device → Pins → ℕ → List ℕ → List ℕ → List Cycle

@@ -33,7 +33,7 @@ pub record Taken (d : Device) (s : State) (p : Pins) (k : ℕ) (xs w sc : List �
   pub levels : badPins (d .part) p ≡ false
   pub programs : d .program ≤ 65535
   pub erases : d .erase ≤ 65535
-  pub bytes : Cells w
+  pub bytes : Cells (d .part) w
 
 -- the mission's start: such a start with VPP in its 12 V band, and RP# at unlock level for the boot block
 pub record Start (d : Device) (s : State) (p : Pins) (k : ℕ) (xs w sc : List ℕ) : Type 0 where
@@ -66,7 +66,7 @@ pub record Demand3 (d : Device) (s : State) (p : Pins) (k : ℕ) (xs w sc : List
   -- .. so the array is the old one with the wanted bytes laid over the block
   pub array-left : bytesOf d s p k xs w sc ≡ overlaid xs (startOf (d .part) k) w
   -- it erases once if some bit must rise, otherwise never; it programs each byte that then differs once and no other
-  pub begins : begunByLoad d s p k xs w sc ≡ operationsOf k (startOf (d .part) k) w (heldBy (d .part) k xs)
+  pub begins : begunByLoad d s p k xs w sc ≡ operationsOf (d .part) k (startOf (d .part) k) w (heldBy (d .part) k xs)
   -- its own cycles are accepted, cut nothing and bring the block to what is wanted; they lead to what the run leaves, and begin that list
   pub own-accepted : acceptsAll d (worldOf s xs) (ownCycles d s p k xs w sc) ≡ true
   pub own-brings : Brings d (worldOf s xs) k w (ownCycles d s p k xs w sc)
@@ -74,7 +74,7 @@ pub record Demand3 (d : Device) (s : State) (p : Pins) (k : ℕ) (xs w sc : List
   pub own-begins : notedAll (begunOver d (worldOf s xs) (ownCycles d s p k xs w sc)) ≡ begunByLoad d s p k xs w sc
   -- no uncut cycles from the same start to the same block contents, refused ones among them or not, begin fewer erases of that block
   -- or fewer programs in it
-  pub least-wear : Cells xs → (bs : List Bus) → Brings d (worldOf s xs) k w bs → NoFewer d (worldOf s xs) k (ownCycles d s p k xs w sc) bs
+  pub least-wear : Cells (d .part) xs → (bs : List Bus) → Brings d (worldOf s xs) k w bs → NoFewer d (worldOf s xs) k (ownCycles d s p k xs w sc) bs
   -- the reported count is the number of cycles made ..
   pub counted : ranOf d s p k xs w sc .count ≡ length (cyclesOfLoad d s p k xs w sc)
   -- .. by the formula

@@ -64,20 +64,20 @@ abbrev pub heldBy : Part → ℕ → List ℕ → List ℕ
 heldBy part k xs = heldIn (startOf part k) (lengthOf part k) xs
 
 -- what the programs of a load start from: all ones if some bit must rise, else what was held
-abbrev pub baseOf : List ℕ → List ℕ → List ℕ
-baseOf w ys = if risesIn w ys then replicate (length w) ones else ys
+abbrev pub baseOf : Part → List ℕ → List ℕ → List ℕ
+baseOf part w ys = if risesIn w ys then replicate (length w) (ones part) else ys
 
 -- erases and programs that a load begins
 abbrev pub erasesOf : List ℕ → List ℕ → ℕ
 erasesOf w ys = if risesIn w ys then 1 else 0
 
-abbrev pub programsIn : List ℕ → List ℕ → ℕ
-programsIn w ys = differing (length w) 0 w (baseOf w ys)
+abbrev pub programsIn : Part → List ℕ → List ℕ → ℕ
+programsIn part w ys = differing (length w) 0 w (baseOf part w ys)
 
 -- the count of a good run: 2n + 3 + e(2 + E) + p(2 + P)
 abbrev pub formula : Device → List ℕ → List ℕ → ℕ
-formula d w ys = 2 * length w + 3 + erasesOf w ys * (2 + d .erase) + programsIn w ys * (2 + d .program)
+formula d w ys = 2 * length w + 3 + erasesOf w ys * (2 + d .erase) + programsIn (d .part) w ys * (2 + d .program)
 
 -- the operations that a load of a block k at a begins, in their order
-abbrev pub operationsOf : ℕ → ℕ → List ℕ → List ℕ → List Effect
-operationsOf k a w ys = if risesIn w ys then Erase k ∷ programsOf (length w) a 0 w (baseOf w ys) else programsOf (length w) a 0 w (baseOf w ys)
+abbrev pub operationsOf : Part → ℕ → ℕ → List ℕ → List ℕ → List Effect
+operationsOf part k a w ys = if risesIn w ys then Erase k ∷ programsOf (length w) a 0 w (baseOf part w ys) else programsOf (length w) a 0 w (baseOf part w ys)

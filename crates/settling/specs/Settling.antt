@@ -64,12 +64,12 @@ resetBy part s = settledAs (resetOf s) (cutOf (s .phase) part (s .address))
 
 -- step 2: VPP low with an operation running or suspended; SR.6 is cleared
 unfoldable pub cutBy : Part → State → Settled
-cutBy part s = settledAs (atRest Status (withBits (withoutBits (s .status) SR6) (cutBits (s .phase)))) (cutOf (s .phase) part (s .address))
+cutBy part s = settledAs (atRest s Status (withBits (withoutBits (s .status) SR6) (cutBits (s .phase)))) (cutOf (s .phase) part (s .address))
 
 -- step 3: a running operation counts one cycle off; at zero it is finished
 unfoldable pub countedOff : Part → State → Settled
 countedOff part s =
-    if eqb (s .left - 1) 0 then settledAs (atRest (s .mode) (withBits (s .status) SR7)) (endOf (s .phase) part (s .address))
+    if eqb (s .left - 1) 0 then settledAs (atRest s (s .mode) (withBits (s .status) SR7)) (endOf (s .phase) part (s .address))
     else settledAs (record { mode = s .mode; status = s .status; phase = s .phase; left = s .left - 1; address = s .address }) Nothing
 
 -- the three steps in their order

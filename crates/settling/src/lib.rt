@@ -98,7 +98,7 @@ fn cut_by(part: Part, s: State) -> Settled
 {
     let ph = s.phase;
     Settled {
-        state: at_rest(Mode::Status, s.status & UNSUSPENDED | cut_bits(ph)),
+        state: at_rest(s, Mode::Status, s.status & UNSUSPENDED | cut_bits(ph)),
         effect: cut(ph, part, s.address),
     }
 }
@@ -110,7 +110,7 @@ fn counted_off(part: Part, s: State) -> Settled
     let m = s.mode;
     if s.left <= 1 {
         return Settled {
-            state: at_rest(m, s.status | SR7),
+            state: at_rest(s, m, s.status | SR7),
             effect: end(ph, part, s.address),
         };
     }

@@ -223,20 +223,20 @@ unfolding firstOf
 first-kept l b w sc = ap firstOf (kept-next l w (l .stage) b sc .same)
 
 -- scratch keeps its length
-pub store-length : (stage : Stage) (place b : ℕ) (sc : List ℕ) → length (storeIn stage place b sc) ≡ length sc
-store-length Clearing place b sc = refl
-store-length Opening place b sc = refl
-store-length Reading place b sc = length-set sc place b
-store-length EraseAsking place b sc = refl
-store-length EraseConfirming place b sc = refl
-store-length EraseWaiting place b sc =
-    if-ind (λ (xs : List ℕ). length xs ≡ length sc) (erasedWell b) _ _ (λ e. length-replicate (length sc) ones) (λ e. refl)
-store-length ProgramAsking place b sc = refl
-store-length ProgramSending place b sc = refl
-store-length ProgramWaiting place b sc = refl
-store-length Closing place b sc = refl
-store-length Verifying place b sc = length-set sc place b
-store-length (Ended n) place b sc = refl
+pub store-length : (stage : Stage) (part : Part) (place b : ℕ) (sc : List ℕ) → length (storeIn stage part place b sc) ≡ length sc
+store-length Clearing part place b sc = refl
+store-length Opening part place b sc = refl
+store-length Reading part place b sc = length-set sc place b
+store-length EraseAsking part place b sc = refl
+store-length EraseConfirming part place b sc = refl
+store-length EraseWaiting part place b sc =
+    if-ind (λ (xs : List ℕ). length xs ≡ length sc) (erasedWell b) _ _ (λ e. length-replicate (length sc) (ones part)) (λ e. refl)
+store-length ProgramAsking part place b sc = refl
+store-length ProgramSending part place b sc = refl
+store-length ProgramWaiting part place b sc = refl
+store-length Closing part place b sc = refl
+store-length Verifying part place b sc = length-set sc place b
+store-length (Ended n) part place b sc = refl
 
 -- what is known of a record that is taken
 pub record Taken (l : Loader) (w sc : ℕ) : Type 0 where
@@ -305,7 +305,7 @@ pub step-again : (l : Loader) (b : ℕ) (w sc : List ℕ) → stepNumber l (leng
 step-again l b w sc e =
     let t = taken l (length w) (length sc) e in
     let s = step-on l b w sc e in
-    rw (s .0, s .1, store-length (l .stage) (l .place) b sc)
+    rw (s .0, s .1, store-length (l .stage) (l .part) (l .place) b sc)
     (kept-taken l (nextOf l b w (storeOf l b sc)) (length w) (length sc) t (kept-next l w (l .stage) b (storeOf l b sc)))
 
 -- and so is the record of an accepted start
@@ -342,7 +342,7 @@ pub end-again : (l : Loader) (b n : ℕ) (w sc : List ℕ) → stepNumber l (len
     → (stepOf l b w sc ≡ record { turn = Over n (endAddress l n); loader = l }) × (scratchAfter l b w sc ≡ sc)
 end-again l b n w sc e q =
     let s = step-on l b w sc e in
-    let stored : storeOf l b sc ≡ sc = ap (λ (st : Stage). storeIn st (l .place) b sc) q in
+    let stored : storeOf l b sc ≡ sc = ap (λ (st : Stage). storeIn st (l .part) (l .place) b sc) q in
     let stays : nextOf l b w (storeOf l b sc) ≡ l = ap (λ (st : Stage). nextIn st l b w (storeOf l b sc)) q in
     let tells : turnIn (l .stage) l w ≡ Over n (endAddress l n) = ap (λ (st : Stage). turnIn st l w) q in
     let same : givenBy (nextOf l b w (storeOf l b sc)) w ≡ record { turn = Over n (endAddress l n); loader = l } =

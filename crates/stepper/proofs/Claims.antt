@@ -103,8 +103,8 @@ advance-scratch-unique l b sc = only (storeOf l b sc)
 pub put-unique : (sc : List ℕ) (place b : ℕ) → Unique (λ (left : List ℕ). left ≡ set sc place b)
 put-unique sc place b = only (set sc place b)
 
-pub store-erase-unique : (b : ℕ) (sc : List ℕ) → Unique (λ (left : List ℕ). left ≡ storeIn EraseWaiting 0 b sc)
-store-erase-unique b sc = only (storeIn EraseWaiting 0 b sc)
+pub store-erase-unique : (part : Part) (b : ℕ) (sc : List ℕ) → Unique (λ (left : List ℕ). left ≡ storeIn EraseWaiting part 0 b sc)
+store-erase-unique part b sc = only (storeIn EraseWaiting part 0 b sc)
 
 pub first-unique : (l : Loader) → Unique (λ (r : ℕ). r ≡ firstOf l)
 first-unique l = only (firstOf l)

@@ -1,4 +1,6 @@
 // A byte taken: what it does to scratch, and then the record after it.
+use chip::blank::ones;
+use device::Part;
 use loader::Loader;
 use loader::Stage;
 use loader::moves::erase_fault;
@@ -26,17 +28,18 @@ fn erased_well(b: u8) -> bool
 }
 
 // An erase that ended well fills scratch with ones.
-pub fn store_erase(b: u8, scratch: &mut [u8])
-    ensures { λ _. ⌜ now (scratch .exit) ≡ storeIn EraseWaiting 0 b (now (scratch .entry)) ⌝ }
+pub fn store_erase(part: Part, b: u8, scratch: &mut [u8])
+    ensures { λ _. ⌜ now (scratch .exit) ≡ storeIn EraseWaiting part 0 b (now (scratch .entry)) ⌝ }
 {
     if erased_well(b) {
-        cells::fill(scratch, 255)
+        let blank = ones(part);
+        cells::fill(scratch, blank)
     }
 }
 
 // What the byte does to scratch.
-fn store(stage: Stage, place: usize, b: u8, scratch: &mut [u8])
-    ensures { λ _. ⌜ now (scratch .exit) ≡ storeIn stage place b (now (scratch .entry)) ⌝ }
+fn store(stage: Stage, part: Part, place: usize, b: u8, scratch: &mut [u8])
+    ensures { λ _. ⌜ now (scratch .exit) ≡ storeIn stage part place b (now (scratch .entry)) ⌝ }
 {
     match stage {
         Stage::Clearing => {}
@@ -44,7 +47,7 @@ fn store(stage: Stage, place: usize, b: u8, scratch: &mut [u8])
         Stage::Reading => put(scratch, place, b),
         Stage::EraseAsking => {}
         Stage::EraseConfirming => {}
-        Stage::EraseWaiting => store_erase(b, scratch),
+        Stage::EraseWaiting => store_erase(part, b, scratch),
         Stage::ProgramAsking => {}
         Stage::ProgramSending => {}
         Stage::ProgramWaiting => {}
@@ -60,6 +63,7 @@ pub fn advance(l: Loader, b: u8, wanted: &[u8], scratch: &mut [u8]) -> Loader
     ensures { λ _. ⌜ now (scratch .exit) ≡ storeOf l b (now (scratch .entry)) ⌝ }
 {
     let stage = l.stage;
-    store(stage, l.place, b, scratch);
+    let part = l.part;
+    store(stage, part, l.place, b, scratch);
     next(stage, l, b, wanted, scratch)
 }

@@ -16,7 +16,7 @@ use Rattle.chip.specs.declared.Mode.the-variants.{Array, Status, Identifier}
 use Rattle.chip.specs.declared.Phase.{Phase}
 use Rattle.chip.specs.declared.Phase.the-variants.{Free, EraseAwaited, DataAwaited, Programming, Erasing, Suspended}
 use Rattle.chip.specs.declared.State.{State}
-use Rattle.chip.specs.States.{atRest, proper, improper}
+use Rattle.chip.specs.States.{atRest, freshState, proper, improper}
 use Rattle.chip.specs.Levels.{badPins, badOe, badLevels}
 use Rattle.twin.specs.Twins.{modeIn, modeOut, phaseIn, phaseOut, byteOut, noState, stateIn, stateOut, kindIn, kindOut, oeIn, cycleIn, cycleOut}
 use Rattle.twin.specs.Answers.{stateBack}
@@ -151,7 +151,7 @@ cycle-numbers n e =
     λ i. record { kind = k i; rp = n .rp; oe = oe i; byte = n .byte; vpp = n .vpp; address = n .address }
 
 -- at rest with SR.7 clear is improper on every device
-rest-improper : (d : Device) → improper d (atRest Array 0) ≡ true
+rest-improper : (d : Device) → improper d (atRest freshState Array 0) ≡ true
 unfolding improper proper
 rest-improper d = refl
 
@@ -164,10 +164,10 @@ no-state-improper n e d = ap (λ (s : State). improper d s) (if-true (noState n)
 pub no-kind-refused : (n : BusNumbers) → ltb 2 (n .kind) ≡ true → (part : Part) → badLevels part (cycleIn n) ≡ true
 unfolding badLevels oeIn
 no-kind-refused n e part =
-    ap (λ (oe : ℕ). badPins part (cycleIn n .pins) || badOe (kindIn (n .kind)) oe) (if-true (ltb 2 (n .kind)) 2 (n .oe) e)
+    ap (λ (oe : ℕ). badPins part (cycleIn n .pins) || badOe part (kindIn (n .kind)) oe) (if-true (ltb 2 (n .kind)) 2 (n .oe) e)
     ∙ ap (λ (t : Bool). badPins part (cycleIn n .pins) || t) (two-bad (kindIn (n .kind))) ∙ or-yes (badPins part (cycleIn n .pins))
   where
-    two-bad : (k : Kind) → badOe k 2 ≡ true
+    two-bad : (k : Kind) → badOe part k 2 ≡ true
     two-bad Read = refl
     two-bad Write = refl
     two-bad Idle = refl

@@ -27,7 +27,7 @@ returns : tie.Need-returns
 returns c = simp (c .read .ensures, c .before .before .enum-told .given .1)
 
 returns-2 : tie.Need-returns-2
-returns-2 c = simp (c .write .ensures, c .before .action .ensures, c .before .before .enum-told2 .given .1)
+returns-2 c = simp (c .write .ensures, c .before .action .ensures, c .before .before .before .enum-told2 .given .1)
 
 returns-3 : tie.Need-returns-3
 returns-3 c = simp (c .given .ensures, c .before .enum-told3 .given .1)

@@ -12,9 +12,9 @@ use Rattle.run.proofs.taking.take.Tie as tie
 
 -- what a stage makes of a byte
 by : (l : Loader) (b : ℕ) (w sc : List ℕ) (s : Stage) → l .stage ≡ s
-    → (nextIn s l b w (storeIn s (l .place) b sc) ≡ nextOf l b w (storeOf l b sc)) × (storeIn s (l .place) b sc ≡ storeOf l b sc)
+    → (nextIn s l b w (storeIn s (l .part) (l .place) b sc) ≡ nextOf l b w (storeOf l b sc)) × (storeIn s (l .part) (l .place) b sc ≡ storeOf l b sc)
 by l b w sc s e =
-    (ap (λ (x : Stage). nextIn x l b w (storeIn x (l .place) b sc)) (sym e), ap (λ (x : Stage). storeIn x (l .place) b sc) (sym e))
+    (ap (λ (x : Stage). nextIn x l b w (storeIn x (l .part) (l .place) b sc)) (sym e), ap (λ (x : Stage). storeIn x (l .part) (l .place) b sc) (sym e))
 
 enum-told : tie.Need-enum-told
 enum-told c = search needs

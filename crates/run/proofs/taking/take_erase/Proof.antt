@@ -17,7 +17,7 @@ same-length c = search needs
 
 returns : tie.Need-returns
 returns c =
-    let a = c .before .before .before .before .before .before .before .before .args in
+    let a = c .before .before .before .before .before .before .before .before .before .args in
     let e = c .before .before .before .before .store-erase .ensures in
     (c .erase-polled .ensures ∙ ap (λ (z : List ℕ). erasePolled (a .l) (a .b) (a .wanted .now) z) e, e)
 

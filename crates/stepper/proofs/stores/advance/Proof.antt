@@ -18,7 +18,7 @@ same-length c = search needs
 
 returns : tie.Need-returns
 returns c =
-    let a = c .before .before .before .before .before .before .before .before .args in
+    let a = c .before .before .before .before .before .before .before .before .before .args in
     let e = c .before .before .before .before .store .ensures in
     (c .next .ensures ∙ ap (λ (z : List ℕ). nextIn (a .l .stage) (a .l) (a .b) (a .wanted .now) z) e, e)
 
