@@ -21,10 +21,10 @@ use Rattle.chip.specs.Levels.{rpLow}
 use Rattle.commands.specs.Commands.{commandOf, actionOf, isRefuse}
 use Rattle.settling.specs.Settling.{settleOf}
 use Rattle.chip.specs.States.{isArray, isIdentifier}
-use Rattle.bus.specs.Cycles.{noCommand, suspendedRead, codePlace, noIdentifier, judgeOf, lateOf, readOf, respondOf, refusedBy, acceptOf, decideOf}
+use Rattle.bus.specs.Cycles.{noCommand, suspendedRead, codePlace, noIdentifier, judgeOf, lateOf, replyTo, respondOf, refusedBy, acceptOf, decideOf}
 use Rattle.chip.specs.Phases.{isSuspended}
 use Rattle.chip.specs.Kinds.{isRead, isWrite}
-use Rattle.bus.specs.Inner.{givenBy, inSuspended, arrayArm, identifierArm, readArm, writeArm, arm}
+use Rattle.bus.specs.Inner.{settledBy, inSuspended, arrayArm, identifierArm, readArm, writeArm, arm}
 use Rattle.bus.proofs.Ways.{number-late, refused, accepted}
 
 and-all : (x : Bool) → (x && true) ≡ x
@@ -77,7 +77,7 @@ module _ (d : Device) (s : State) (c : Cycle) (array residue : ℕ) (z : judgeOf
   t = settleOf (d .part) s (c .pins)
 
   -- with RP# low no late number is asked
-  pub by-reset : rpLow (c .pins) ≡ true → decideOf d s c array residue ≡ givenBy Quiet t
+  pub by-reset : rpLow (c .pins) ≡ true → decideOf d s c array residue ≡ settledBy Quiet t
   unfolding lateOf noCommand suspendedRead noIdentifier acceptOf
   by-reset r =
       accepted d s c array residue
@@ -109,8 +109,8 @@ module _ (d : Device) (s : State) (c : Cycle) (array residue : ℕ) (z : judgeOf
     by-idle : c .kind ≡ Idle → decideOf d s c array residue ≡ arm Idle d s c t
     by-idle k = by-one 7 _ false (number-idle d c (t .state) k) (λ q. omega arith) r (ap (λ (x : Kind). respondOf x d c t) k)
 
-    reads : {m : Mode} → c .kind ≡ Read → t .state .mode ≡ m → respondOf (c .kind) d c t ≡ givenBy (readOf m (d .part) (c .address) (t .state .status)) t
-    reads k e = ap (λ (x : Kind). respondOf x d c t) k ∙ ap (λ (x : Mode). givenBy (readOf x (d .part) (c .address) (t .state .status)) t) e
+    reads : {m : Mode} → c .kind ≡ Read → t .state .mode ≡ m → respondOf (c .kind) d c t ≡ settledBy (replyTo m (d .part) (c .address) (t .state .status)) t
+    reads k e = ap (λ (x : Kind). respondOf x d c t) k ∙ ap (λ (x : Mode). settledBy (replyTo x (d .part) (c .address) (t .state .status)) t) e
 
     -- a read, by mode
     by-read : (m : Mode) → t .state .mode ≡ m → c .kind ≡ Read → decideOf d s c array residue ≡ readArm m (d .part) s c t

@@ -97,14 +97,14 @@ unfoldable pub identifierOf : Part → ℕ → ℕ
 identifierOf part a = if eqb (codePlace part a) 0 then 0x89 else codeOf part
 
 -- a read, by mode
-abbrev pub readOf : Mode → Part → ℕ → ℕ → Reply
-readOf Array part a sr = GivesArray a
-readOf Status part a sr = Gives sr
-readOf Identifier part a sr = Gives (identifierOf part a)
+abbrev pub replyTo : Mode → Part → ℕ → ℕ → Reply
+replyTo Array part a sr = GivesArray a
+replyTo Status part a sr = Gives sr
+replyTo Identifier part a sr = Gives (identifierOf part a)
 
 -- step 4: the read or write itself
 abbrev pub respondOf : Kind → Device → Cycle → Settled → Decision
-respondOf Read d c t = decidedAs (readOf (t .state .mode) (d .part) (c .address) (t .state .status)) (t .state) (t .effect)
+respondOf Read d c t = decidedAs (replyTo (t .state .mode) (d .part) (c .address) (t .state .status)) (t .state) (t .effect)
 respondOf Write d c t = decidedAs Quiet (performedOf (actionOf (d .part) (t .state .phase) (commandOf c)) d c (t .state)) (t .effect)
 respondOf Idle d c t = decidedAs Quiet (t .state) (t .effect)
 

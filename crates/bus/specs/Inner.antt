@@ -28,8 +28,8 @@ use Rattle.commands.specs.Commands.{actionOf, isRefuse, performedOf, commandOf}
 use Rattle.bus.specs.Cycles.{decidedAs, refusedBy, identifierOf, codePlace}
 
 -- the settled state and effect under a reply
-abbrev pub givenBy : Reply → Settled → Decision
-givenBy r t = decidedAs r (t .state) (t .effect)
+abbrev pub settledBy : Reply → Settled → Decision
+settledBy r t = decidedAs r (t .state) (t .effect)
 
 -- an address in the suspended block; the blocks are looked up only where one is suspended
 unfoldable pub inSuspended : Part → State → ℕ → Bool
@@ -37,16 +37,16 @@ inSuspended part u a = if isSuspended (u .phase) then eqb (blockOf part a) (bloc
 
 -- an array read: 8, or the byte
 unfoldable pub arrayArm : Part → State → Cycle → Settled → Decision
-arrayArm part s c t = if inSuspended part (t .state) (c .address) then refusedBy 8 s else givenBy (GivesArray (c .address)) t
+arrayArm part s c t = if inSuspended part (t .state) (c .address) then refusedBy 8 s else settledBy (GivesArray (c .address)) t
 
 -- an identifier read: 9, or the code
 unfoldable pub identifierArm : Part → State → Cycle → Settled → Decision
-identifierArm part s c t = if ltb 1 (codePlace part (c .address)) then refusedBy 9 s else givenBy (Gives (identifierOf part (c .address))) t
+identifierArm part s c t = if ltb 1 (codePlace part (c .address)) then refusedBy 9 s else settledBy (Gives (identifierOf part (c .address))) t
 
 -- a read, by mode
 abbrev pub readArm : Mode → Part → State → Cycle → Settled → Decision
 readArm Array part s c t = arrayArm part s c t
-readArm Status part s c t = givenBy (Gives (t .state .status)) t
+readArm Status part s c t = settledBy (Gives (t .state .status)) t
 readArm Identifier part s c t = identifierArm part s c t
 
 -- a write, by the action that it asks for: 7, or what comes of it
@@ -57,12 +57,12 @@ writeArm a d s c t = if isRefuse a then refusedBy 7 s else decidedAs Quiet (perf
 abbrev pub arm : Kind → Device → State → Cycle → Settled → Decision
 arm Read d s c t = readArm (t .state .mode) (d .part) s c t
 arm Write d s c t = writeArm (actionOf (d .part) (t .state .phase) (commandOf c)) d s c t
-arm Idle d s c t = givenBy Quiet t
+arm Idle d s c t = settledBy Quiet t
 
 -- a cycle that refusals 1 to 6 do not stop; with RP# low it ends after step 1
 unfoldable pub decideJudged : Device → State → Cycle → Decision
 decideJudged d s c =
-    if rpLow (c .pins) then givenBy Quiet (settleOf (d .part) s (c .pins)) else arm (c .kind) d s c (settleOf (d .part) s (c .pins))
+    if rpLow (c .pins) then settledBy Quiet (settleOf (d .part) s (c .pins)) else arm (c .kind) d s c (settleOf (d .part) s (c .pins))
 
 -- an array read of a device with nothing awaited, running or suspended, RP# up
 unfoldable pub asksArray : State → Cycle → Bool

@@ -28,7 +28,7 @@ ghost use Rattle.chip.specs.Levels.{rpLow, vppLow};
 ghost use lib.Dec.{eqb};
 ghost use Rattle.device.specs.Parts.{sizeOf};
 ghost use Rattle.bus.specs.Cycles.{pastArray, shortResidue, judgeOf, refusedBy, identifierOf};
-ghost use Rattle.bus.specs.Inner.{givenBy, inSuspended, arrayArm, identifierArm, readArm, writeArm, arm, decideJudged, asksArray};
+ghost use Rattle.bus.specs.Inner.{settledBy, inSuspended, arrayArm, identifierArm, readArm, writeArm, arm, decideJudged, asksArray};
 ghost use Rattle.chip.specs.Phases.{isSuspended, isFree};
 ghost use Rattle.chip.specs.Kinds.{isIdle, isRead};
 
@@ -159,7 +159,7 @@ fn identifier(part: Part, address: u32) -> u8
 
 // The settled state and effect under a reply.
 fn given(reply: Reply, t: Settled) -> Decision
-    ensures { λ r. ⌜ r ≡ givenBy reply t ⌝ }
+    ensures { λ r. ⌜ r ≡ settledBy reply t ⌝ }
 {
     let s = t.state;
     let effect = t.effect;

@@ -23,43 +23,43 @@ use Rattle.run_claims.specs.Mission.{Start}
 use Rattle.run_claims.proofs.Starts.{taken-if}
 use Rattle.run_claims.proofs.Same.{none-risen, none-differing}
 use Rattle.run_claims.proofs.Claims.{ends-well}
-use Rattle.cards.specs.Table.{benchT, normal, same, Counts, Card10, Card11}
+use Rattle.cards.specs.Table.{deviceT, normal, same, Counts, Card10, Card11}
 
 -- nothing refuses such a run
-accepted : runNumber benchT freshState normal 1 16384 512 512 ≡ 0
+accepted : runNumber deviceT freshState normal 1 16384 512 512 ≡ 0
 unfolding runNumber shapeOf sizeIn lengthIn unknownPart unknownDevice sizeOf lengthOf vppLow vppHigh badPins proper improper barredPins noBlock wrongLengths
 accepted = refl
 
-supply : vppHigh (benchT .part) normal ≡ true
+supply : vppHigh (deviceT .part) normal ≡ true
 unfolding vppHigh
 supply = refl
 
-first : startOf (benchT .part) 1 ≡ 0x3A00
+first : startOf (deviceT .part) 1 ≡ 0x3A00
 unfolding shapeOf sizeIn lengthIn offsetIn startIn startOf
 first = refl
 
-counts : (n : ℕ) (held w : List ℕ) → length w ≡ 512 → Bytes w → formula benchT w held ≡ n → Counts n held w
+counts : (n : ℕ) (held w : List ℕ) → length w ≡ 512 → Bytes w → formula deviceT w held ≡ n → Counts n held w
 unfolding ones
 counts n held w lw bytes f xs sc lx ls h =
-    ends-well benchT freshState normal 1 xs w sc start
-    ∙ ap (λ (ys : List ℕ). result (formula benchT w ys)) (ap (λ (a : ℕ). heldIn a (length w) xs) first ∙ ap (λ (k : ℕ). heldIn 0x3A00 k xs) lw ∙ h)
+    ends-well deviceT freshState normal 1 xs w sc start
+    ∙ ap (λ (ys : List ℕ). result (formula deviceT w ys)) (ap (λ (a : ℕ). heldIn a (length w) xs) first ∙ ap (λ (k : ℕ). heldIn 0x3A00 k xs) lw ∙ h)
     ∙ ap result f
   where
     result : ℕ → Ran
     result k = record { count = k; end = 0; address = 0; state = atRest freshState Array 128 }
 
-    start : Start benchT freshState normal 1 xs w sc
+    start : Start deviceT freshState normal 1 xs w sc
     start = record {
-      base = taken-if benchT freshState normal 1 xs w sc (rw (lx, lw, ls) accepted) (omega arith) (omega arith) (λ (i : ℕ). omega (arith, bytes i));
+      base = taken-if deviceT freshState normal 1 xs w sc (rw (lx, lw, ls) accepted) (omega arith) (omega arith) (λ (i : ℕ). omega (arith, bytes i));
       high = supply;
       unlock = λ (e : _≡_ {A = ℕ} 1 0). absurd (omega arith);
     }
 
 -- a block that holds what is wanted
-level : (w : List ℕ) → length w ≡ 512 → formula benchT w w ≡ 1027
+level : (w : List ℕ) → length w ≡ 512 → formula deviceT w w ≡ 1027
 level w e = go (risesIn w w) (none-risen w)
   where
-    go : (t : Bool) → t ≡ false → 2 * length w + 3 + (if t then 1 else 0) * (2 + 3) + differing (length w) 0 w (if t then replicate (length w) (ones (benchT .part)) else w) * (2 + 2) ≡ 1027
+    go : (t : Bool) → t ≡ false → 2 * length w + 3 + (if t then 1 else 0) * (2 + 3) + differing (length w) 0 w (if t then replicate (length w) (ones (deviceT .part)) else w) * (2 + 2) ≡ 1027
     go true q = absurd (unlike q)
     go false q = rw (none-differing (length w) 0 w, e) refl
 

@@ -27,18 +27,18 @@ use Rattle.run_claims.specs.Wear.{heldIn}
 abbrev pub device : ℕ → ℕ → ℕ → Device
 device number program erase = record { part = record { number = number }; program = program; erase = erase }
 
-abbrev pub benchT : Device
-benchT = device 3 2 3
+abbrev pub deviceT : Device
+deviceT = device 3 2 3
 
-abbrev pub benchB : Device
-benchB = device 4 2 3
+abbrev pub deviceB : Device
+deviceB = device 4 2 3
 
 -- RP# high or at V_HH, with VPP in millivolts
-abbrev pub at : ℕ → ℕ → Pins
-at rp vpp = record { rp = rp; vpp = vpp }
+abbrev pub pinsAt : ℕ → ℕ → Pins
+pinsAt rp vpp = record { rp = rp; vpp = vpp }
 
 abbrev pub normal : Pins
-normal = at 1 12000
+normal = pinsAt 1 12000
 
 -- a write and a status or array read, OE# normal, with the residue that is lent
 abbrev pub write : Pins → ℕ → ℕ → Bus
@@ -96,7 +96,7 @@ spot b x = same 16 b ++ (x ∷ same 16367 b)
 
 -- 1: 5AH programmed over A5H leaves 00H, and the status is 80H
 abbrev pub card1 : Bool
-card1 = shows (worldAfter benchT (fresh (spot 255 0xA5)) (write normal 16 0x40 ∷ write normal 16 0x5A ∷ read normal 16 ∷ read normal 16 ∷ [])) 0x80 (spot 255 0)
+card1 = shows (worldAfter deviceT (fresh (spot 255 0xA5)) (write normal 16 0x40 ∷ write normal 16 0x5A ∷ read normal 16 ∷ read normal 16 ∷ [])) 0x80 (spot 255 0)
 
 -- 2: FFH programmed over 3CH, on every device with P = m + 1, at every address outside the boot block: m reads give 00H, busy, the
 -- P-th gives 80H, and every byte is what it was, the 3CH too
@@ -112,49 +112,49 @@ Card2 = (d : Device) (m a : ℕ) (xs : List ℕ) → unknownDevice d ≡ false �
 
 -- 3: 20H and then FFH show B0H, and nothing is erased in the E cycles and one more that follow
 abbrev pub card3 : Bool
-card3 = shows (worldAfter benchB (fresh (plain 0)) (write normal 1024 0x20 ∷ write normal 1024 0xFF ∷ read normal 1024 ∷ read normal 1024 ∷ read normal 1024 ∷ read normal 1024 ∷ [])) 0xB0 (plain 0)
+card3 = shows (worldAfter deviceB (fresh (plain 0)) (write normal 1024 0x20 ∷ write normal 1024 0xFF ∷ read normal 1024 ∷ read normal 1024 ∷ read normal 1024 ∷ read normal 1024 ∷ [])) 0xB0 (plain 0)
 
 -- 4: data sent, and an erase confirmed, at 6,500 mV show 98H and A8H; nothing starts
 abbrev pub card4 : Bool
 card4 =
-    shows (worldAfter benchB (fresh (plain 255)) (write normal 1024 0x40 ∷ write (at 1 6500) 1024 0 ∷ read normal 1024 ∷ read normal 1024 ∷ [])) 0x98 (plain 255)
-    && shows (worldAfter benchB (fresh (plain 0)) (write normal 1024 0x20 ∷ write (at 1 6500) 1024 0xD0 ∷ read normal 1024 ∷ read normal 1024 ∷ read normal 1024 ∷ [])) 0xA8 (plain 0)
+    shows (worldAfter deviceB (fresh (plain 255)) (write normal 1024 0x40 ∷ write (pinsAt 1 6500) 1024 0 ∷ read normal 1024 ∷ read normal 1024 ∷ [])) 0x98 (plain 255)
+    && shows (worldAfter deviceB (fresh (plain 0)) (write normal 1024 0x20 ∷ write (pinsAt 1 6500) 1024 0xD0 ∷ read normal 1024 ∷ read normal 1024 ∷ read normal 1024 ∷ [])) 0xA8 (plain 0)
 
 -- 5: 6,501 and 11,399 mV are refused 4, and the awaited byte is still awaited; at 11,400 it is programmed
 abbrev pub awaiting : World
-awaiting = worldAfter benchT (fresh (spot 255 0xA5)) (write normal 16 0x40 ∷ [])
+awaiting = worldAfter deviceT (fresh (spot 255 0xA5)) (write normal 16 0x40 ∷ [])
 
 abbrev pub card5 : Bool
 card5 =
-    (refuses 4 (seenOn benchT awaiting (write (at 1 6501) 16 0x5A)) && refuses 4 (seenOn benchT awaiting (write (at 1 11399) 16 0x5A)))
-    && shows (worldAfter benchT awaiting (write (at 1 6501) 16 0 ∷ write (at 1 11399) 16 0 ∷ write (at 1 11400) 16 0x5A ∷ read (at 1 11400) 16 ∷ read (at 1 11400) 16 ∷ [])) 0x80 (spot 255 0)
+    (refuses 4 (seenOn deviceT awaiting (write (pinsAt 1 6501) 16 0x5A)) && refuses 4 (seenOn deviceT awaiting (write (pinsAt 1 11399) 16 0x5A)))
+    && shows (worldAfter deviceT awaiting (write (pinsAt 1 6501) 16 0 ∷ write (pinsAt 1 11399) 16 0 ∷ write (pinsAt 1 11400) 16 0x5A ∷ read (pinsAt 1 11400) 16 ∷ read (pinsAt 1 11400) 16 ∷ [])) 0x80 (spot 255 0)
 
 -- 6: an erase of the boot block with RP# high shows A0H and erases nothing; with RP# at V_HH it erases that block alone
 abbrev pub card6 : Bool
 card6 =
-    shows (worldAfter benchB (fresh (plain 0)) (write normal 0 0x20 ∷ write normal 0 0xD0 ∷ read normal 0 ∷ read normal 0 ∷ read normal 0 ∷ [])) 0xA0 (plain 0)
-    && shows (worldAfter benchB (fresh (plain 0)) (write normal 0 0x20 ∷ write (at 2 12000) 0 0xD0 ∷ read normal 0 ∷ read normal 0 ∷ read normal 0 ∷ [])) 0x80 (same 1024 255 ++ same 15360 0)
+    shows (worldAfter deviceB (fresh (plain 0)) (write normal 0 0x20 ∷ write normal 0 0xD0 ∷ read normal 0 ∷ read normal 0 ∷ read normal 0 ∷ [])) 0xA0 (plain 0)
+    && shows (worldAfter deviceB (fresh (plain 0)) (write normal 0 0x20 ∷ write (pinsAt 2 12000) 0 0xD0 ∷ read normal 0 ∷ read normal 0 ∷ read normal 0 ∷ [])) 0x80 (same 1024 255 ++ same 15360 0)
 
 -- 7: a suspended erase shows C0H
 abbrev pub card7 : Bool
 card7 =
-    gives 0xC0 (seenOn benchB (worldAfter benchB (fresh (plain 0)) (write normal 1024 0x20 ∷ write normal 1024 0xD0 ∷ write normal 1024 0xB0 ∷ [])) (read normal 1024))
-    && shows (worldAfter benchB (fresh (plain 0)) (write normal 1024 0x20 ∷ write normal 1024 0xD0 ∷ write normal 1024 0xB0 ∷ read normal 1024 ∷ [])) 0xC0 (plain 0)
+    gives 0xC0 (seenOn deviceB (worldAfter deviceB (fresh (plain 0)) (write normal 1024 0x20 ∷ write normal 1024 0xD0 ∷ write normal 1024 0xB0 ∷ [])) (read normal 1024))
+    && shows (worldAfter deviceB (fresh (plain 0)) (write normal 1024 0x20 ∷ write normal 1024 0xD0 ∷ write normal 1024 0xB0 ∷ read normal 1024 ∷ [])) 0xC0 (plain 0)
 
 -- 8: 20H in block 1 and D0H in block 2 erase block 2, and no other
 abbrev pub card8 : Bool
 card8 =
-    shows (worldAfter benchB (fresh (plain 0)) (write normal 1024 0x20 ∷ write normal 1536 0xD0 ∷ read normal 1024 ∷ read normal 1024 ∷ read normal 1024 ∷ [])) 0x80
+    shows (worldAfter deviceB (fresh (plain 0)) (write normal 1024 0x20 ∷ write normal 1536 0xD0 ∷ read normal 1024 ∷ read normal 1024 ∷ read normal 1024 ∷ [])) 0x80
     (same 1536 0 ++ (same 512 255 ++ same 14336 0))
 
 -- 9: a program of 0FH over F0H, cut by VPP with a residue of 33H, leaves 30H and shows 98H
 abbrev pub card9 : Bool
-card9 = shows (worldAfter benchT (fresh (spot 255 0xF0)) (write normal 16 0x40 ∷ write normal 16 0x0F ∷ lent (0x33 ∷ []) (read (at 1 5000) 16) ∷ [])) 0x98 (spot 255 0x30)
+card9 = shows (worldAfter deviceT (fresh (spot 255 0xF0)) (write normal 16 0x40 ∷ write normal 16 0x0F ∷ lent (0x33 ∷ []) (read (pinsAt 1 5000) 16) ∷ [])) 0x98 (spot 255 0x30)
 
 -- a good run on block 1 of bench T, fresh, makes n cycles, whatever the other blocks and scratch hold
 abbrev pub Counts : ℕ → List ℕ → List ℕ → Type 0
 Counts n held wanted = (xs sc : List ℕ) → length xs ≡ 16384 → length sc ≡ 512 → heldIn 0x3A00 512 xs ≡ held
-    → ranOf benchT freshState normal 1 xs wanted sc ≡ record { count = n; end = 0; address = 0; state = atRest freshState Array 0x80 }
+    → ranOf deviceT freshState normal 1 xs wanted sc ≡ record { count = n; end = 0; address = 0; state = atRest freshState Array 0x80 }
 
 -- 10: the block held FFH, wanted is 5AH and then FFH: 1,031 cycles
 abbrev pub Card10 : Type 0

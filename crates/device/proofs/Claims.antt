@@ -5,7 +5,7 @@ use mathlib.Core.List.{List, [], _∷_}
 use Prim.Native.Nat.{ℕ, _+_, _≤_, _<_}
 use Rattle.cells.specs.Choice.{Unique}
 use Rattle.cells.proofs.Choice.{only}
-use Rattle.device.specs.Blocks.{total, lengthAt, offsetAt, holder, Lies}
+use Rattle.device.specs.Blocks.{bytesOfAll, lengthAt, offsetAt, holder, Lies}
 use Rattle.device.specs.Parts.{shapeOf, sizeIn, lengthIn, offsetIn, startIn, Holds, unknownPart, unknownDevice, sizeOf, lengthOf, startOf, blockOf, codeOf, tableRow}
 use Rattle.device.specs.declared.Part.{Part}
 use Rattle.device.specs.declared.Device.{Device}
@@ -13,13 +13,13 @@ use Rattle.device.proofs.Cover.{covered, alone, ends-inside}
 use Rattle.device.proofs.Place.{named, sole, fits}
 
 -- For any list of lengths: every place is in the block named for it, in no other, and every block ends inside.
-pub lists-cover : (ls : List ℕ) (p : ℕ) → p < total ls → Lies ls (holder ls p) p
+pub lists-cover : (ls : List ℕ) (p : ℕ) → p < bytesOfAll ls → Lies ls (holder ls p) p
 lists-cover = covered
 
 pub lists-apart : (ls : List ℕ) (j k p : ℕ) → Lies ls j p → Lies ls k p → j ≡ k
 lists-apart ls j k p x y = only (holder ls p) j k (sym (alone ls j p x)) (sym (alone ls k p y))
 
-pub lists-end-inside : (ls : List ℕ) (k : ℕ) → offsetAt ls k + lengthAt ls k ≤ total ls
+pub lists-end-inside : (ls : List ℕ) (k : ℕ) → offsetAt ls k + lengthAt ls k ≤ bytesOfAll ls
 lists-end-inside = ends-inside
 
 -- The same of every part's addresses, whichever end the boot block is at.

@@ -6,7 +6,7 @@ use native.Mathlib.Omega.{arith}
 use lib.Dec.{eqb, lit≤}
 use Rattle.cells.specs.Choice.{if_then_else_}
 use Rattle.cells.proofs.Choice.{if-ind}
-use Rattle.device.specs.Blocks.{total, lengthAt, offsetAt, holder, Lies}
+use Rattle.device.specs.Blocks.{bytesOfAll, lengthAt, offsetAt, holder, Lies}
 use Rattle.device.specs.Parts.{shapeOf, lengthsOf, sizeIn, lengthIn, offsetIn, holderIn, turned, startIn, blockIn, Holds, sizeOf}
 use Rattle.device.specs.declared.Part.{Part}
 use Rattle.device.specs.declared.Shape.{Shape}
@@ -17,9 +17,9 @@ pub fits : (s : Shape) (k : ℕ) → startIn s k + lengthIn s k ≤ sizeIn s
 unfolding startIn lengthIn sizeIn offsetIn
 fits s k = go (s .top) (ends-inside (lengthsOf s) k)
   where
-    go : (top : Bool) → offsetAt (lengthsOf s) k + lengthAt (lengthsOf s) k ≤ total (lengthsOf s)
-        → (if top then total (lengthsOf s) - offsetAt (lengthsOf s) k - lengthAt (lengthsOf s) k else offsetAt (lengthsOf s) k) + lengthAt (lengthsOf s) k ≤ total (lengthsOf s)
-    go true h = turn (total (lengthsOf s)) (offsetAt (lengthsOf s) k) (lengthAt (lengthsOf s) k) h
+    go : (top : Bool) → offsetAt (lengthsOf s) k + lengthAt (lengthsOf s) k ≤ bytesOfAll (lengthsOf s)
+        → (if top then bytesOfAll (lengthsOf s) - offsetAt (lengthsOf s) k - lengthAt (lengthsOf s) k else offsetAt (lengthsOf s) k) + lengthAt (lengthsOf s) k ≤ bytesOfAll (lengthsOf s)
+    go true h = turn (bytesOfAll (lengthsOf s)) (offsetAt (lengthsOf s) k) (lengthAt (lengthsOf s) k) h
       where
         turn : (n o l : ℕ) → o + l ≤ n → n - o - l + l ≤ n
         turn n o l h = omega arith
@@ -35,9 +35,9 @@ named s a h = go (s .top) refl
 
     go : (top : Bool) → s .top ≡ top → Holds s (blockIn s a) a
     go true e =
-        let k : ℕ = holder (lengthsOf s) (total (lengthsOf s) - 1 - a) in
-        let i : Lies (lengthsOf s) k (total (lengthsOf s) - 1 - a) = covered (lengthsOf s) (total (lengthsOf s) - 1 - a) (omega arith) in
-        let r = up (total (lengthsOf s)) (offsetAt (lengthsOf s) k) (lengthAt (lengthsOf s) k) (total (lengthsOf s) - 1 - a) (ends-inside (lengthsOf s) k) h refl (i .from) (i .to) in
+        let k : ℕ = holder (lengthsOf s) (bytesOfAll (lengthsOf s) - 1 - a) in
+        let i : Lies (lengthsOf s) k (bytesOfAll (lengthsOf s) - 1 - a) = covered (lengthsOf s) (bytesOfAll (lengthsOf s) - 1 - a) (omega arith) in
+        let r = up (bytesOfAll (lengthsOf s)) (offsetAt (lengthsOf s) k) (lengthAt (lengthsOf s) k) (bytesOfAll (lengthsOf s) - 1 - a) (ends-inside (lengthsOf s) k) h refl (i .from) (i .to) in
         record { from = rw e (r .0); to = rw e (r .1) }
     go false e =
         let i : Lies (lengthsOf s) (holder (lengthsOf s) a) a = covered (lengthsOf s) a h in
@@ -52,18 +52,18 @@ sole s k a h = go (s .top) refl (h .from) (h .to)
     up n o l e f t = (omega arith, omega arith)
 
     go : (top : Bool) → s .top ≡ top
-        → (if s .top then total (lengthsOf s) - offsetAt (lengthsOf s) k - lengthAt (lengthsOf s) k else offsetAt (lengthsOf s) k) ≤ a
-        → a < (if s .top then total (lengthsOf s) - offsetAt (lengthsOf s) k - lengthAt (lengthsOf s) k else offsetAt (lengthsOf s) k) + lengthAt (lengthsOf s) k
-        → holder (lengthsOf s) (if s .top then total (lengthsOf s) - 1 - a else a) ≡ k
+        → (if s .top then bytesOfAll (lengthsOf s) - offsetAt (lengthsOf s) k - lengthAt (lengthsOf s) k else offsetAt (lengthsOf s) k) ≤ a
+        → a < (if s .top then bytesOfAll (lengthsOf s) - offsetAt (lengthsOf s) k - lengthAt (lengthsOf s) k else offsetAt (lengthsOf s) k) + lengthAt (lengthsOf s) k
+        → holder (lengthsOf s) (if s .top then bytesOfAll (lengthsOf s) - 1 - a else a) ≡ k
     go true e f t =
-        let r = up (total (lengthsOf s)) (offsetAt (lengthsOf s) k) (lengthAt (lengthsOf s) k) (ends-inside (lengthsOf s) k) (rw e at f) (rw e at t) in
-        rw e (alone (lengthsOf s) k (total (lengthsOf s) - 1 - a) (record { from = r .0; to = r .1 }))
+        let r = up (bytesOfAll (lengthsOf s)) (offsetAt (lengthsOf s) k) (lengthAt (lengthsOf s) k) (ends-inside (lengthsOf s) k) (rw e at f) (rw e at t) in
+        rw e (alone (lengthsOf s) k (bytesOfAll (lengthsOf s) - 1 - a) (record { from = r .0; to = r .1 }))
     go false e f t = rw e (alone (lengthsOf s) k a (record { from = rw e at f; to = rw e at t }))
 
 -- no array is larger than 131,072 bytes
 pub size-small : (p : Part) → sizeOf p ≤ 131072
 unfolding sizeOf shapeOf sizeIn
 size-small p =
-    if-ind (λ (s : Shape). total (lengthsOf s) ≤ 131072) (eqb (p .number) 1) _ _ (λ e. lit≤ tt) (λ e.
-    if-ind (λ (s : Shape). total (lengthsOf s) ≤ 131072) (eqb (p .number) 2) _ _ (λ e. lit≤ tt) (λ e.
-    if-ind (λ (s : Shape). total (lengthsOf s) ≤ 131072) (eqb (p .number) 3) _ _ (λ e. lit≤ tt) (λ e. lit≤ tt)))
+    if-ind (λ (s : Shape). bytesOfAll (lengthsOf s) ≤ 131072) (eqb (p .number) 1) _ _ (λ e. lit≤ tt) (λ e.
+    if-ind (λ (s : Shape). bytesOfAll (lengthsOf s) ≤ 131072) (eqb (p .number) 2) _ _ (λ e. lit≤ tt) (λ e.
+    if-ind (λ (s : Shape). bytesOfAll (lengthsOf s) ≤ 131072) (eqb (p .number) 3) _ _ (λ e. lit≤ tt) (λ e. lit≤ tt)))

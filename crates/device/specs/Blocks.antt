@@ -6,9 +6,9 @@ use lib.Dec.{ltb}
 use Rattle.cells.specs.Choice.{if_then_else_}
 
 -- the bytes of all blocks together
-abbrev pub total : List ℕ → ℕ
-total [] = 0
-total (l ∷ ls) = l + total ls
+abbrev pub bytesOfAll : List ℕ → ℕ
+bytesOfAll [] = 0
+bytesOfAll (l ∷ ls) = l + bytesOfAll ls
 
 -- the bytes of block k; 0 where there is no such block
 abbrev pub lengthAt : List ℕ → ℕ → ℕ

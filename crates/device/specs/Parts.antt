@@ -4,23 +4,23 @@ use mathlib.Core.List.{List, [], _∷_}
 use Prim.Native.Nat.{ℕ, _+_, _-_, _≤_, _<_}
 use lib.Dec.{eqb, ltb}
 use Rattle.cells.specs.Choice.{if_then_else_}
-use Rattle.device.specs.Blocks.{total, lengthAt, offsetAt, holder}
+use Rattle.device.specs.Blocks.{bytesOfAll, lengthAt, offsetAt, holder}
 use Rattle.device.specs.declared.Part.{Part}
 use Rattle.device.specs.declared.Device.{Device}
 use Rattle.device.specs.declared.Shape.{Shape}
 
 -- four blocks outward from the boot block: boot, two parameter blocks, main
-abbrev pub fourOf : ℕ → ℕ → ℕ → Bool → ℕ → Shape
-fourOf boot parameter main top code =
+abbrev pub fourBlocks : ℕ → ℕ → ℕ → Bool → ℕ → Shape
+fourBlocks boot parameter main top code =
     record { l0 = boot; l1 = parameter; l2 = parameter; l3 = main; l4 = 0; l5 = 0; l6 = 0; top = top; code = code }
 
 -- the table of parts: 28F001BX-T, 28F001BX-B, bench T, bench B
 unfoldable pub shapeOf : Part → Shape
 shapeOf p =
-    if eqb (p .number) 1 then fourOf 8192 4096 114688 true 0x94
-    else if eqb (p .number) 2 then fourOf 8192 4096 114688 false 0x95
-    else if eqb (p .number) 3 then fourOf 1024 512 14336 true 0x94
-    else fourOf 1024 512 14336 false 0x95
+    if eqb (p .number) 1 then fourBlocks 8192 4096 114688 true 0x94
+    else if eqb (p .number) 2 then fourBlocks 8192 4096 114688 false 0x95
+    else if eqb (p .number) 3 then fourBlocks 1024 512 14336 true 0x94
+    else fourBlocks 1024 512 14336 false 0x95
 
 -- the block lengths of a description, outward from the boot block
 abbrev pub lengthsOf : Shape → List ℕ
@@ -28,7 +28,7 @@ lengthsOf s = s .l0 ∷ s .l1 ∷ s .l2 ∷ s .l3 ∷ s .l4 ∷ s .l5 ∷ s .l6 
 
 -- the bytes of all blocks of a description
 unfoldable pub sizeIn : Shape → ℕ
-sizeIn s = total (lengthsOf s)
+sizeIn s = bytesOfAll (lengthsOf s)
 
 -- the bytes of its block k
 unfoldable pub lengthIn : Shape → ℕ → ℕ

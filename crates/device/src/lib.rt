@@ -1,7 +1,7 @@
 // The parts we load: size, blocks and identifier, each derived from one short description of a part.
 ghost use mathlib.Core.Path.{_≡_};
 ghost use Prim.Native.Nat.{_-_};
-ghost use Rattle.device.specs.Parts.{fourOf, shapeOf, sizeIn, lengthIn, offsetIn, holderIn, turned, startIn, blockIn, unknownPart, unknownDevice, sizeOf, lengthOf, startOf, blockOf, codeOf};
+ghost use Rattle.device.specs.Parts.{fourBlocks, shapeOf, sizeIn, lengthIn, offsetIn, holderIn, turned, startIn, blockIn, unknownPart, unknownDevice, sizeOf, lengthOf, startOf, blockOf, codeOf};
 
 // What a loader knows of the flash: its number, 1 to 4.
 pub struct Part {
@@ -47,7 +47,7 @@ fn less(a: usize, b: usize) -> usize
 }
 
 fn four(boot: u32, parameter: u32, main: u32, top: bool, code: u8) -> Shape
-    ensures { λ r. ⌜ r ≡ fourOf boot parameter main top code ⌝ }
+    ensures { λ r. ⌜ r ≡ fourBlocks boot parameter main top code ⌝ }
 {
     Shape {
         l0: boot,

@@ -16,7 +16,7 @@ use Rattle.chip.specs.States.{freshState, improper}
 use Rattle.model.specs.Arrays.{answerOf, arrayAfter}
 use Rattle.loader.specs.declared.Loader.{Loader}
 use Rattle.loader.specs.declared.Turn.the-variants.{Barred}
-use Rattle.stepper.specs.Front.{stepOf, scratchAfter}
+use Rattle.stepper.specs.Front.{stepGiven, scratchAfter}
 use Rattle.run.specs.Runs.{runNumber, ranOf, bytesOf, scratchOf}
 use Rattle.load.specs.Loads.{loadNumber, loadedOf, bytesLoaded, wantedLoaded, scratchLoaded}
 use Rattle.seal.specs.Check.{checkOf}
@@ -25,7 +25,7 @@ use Rattle.c_records.specs.Records.{noRecord, loaderIn, loaderOut, turnOut}
 use Rattle.twin.specs.Answers.{seenOut, valueOut}
 use Rattle.c_records.specs.declared.BlockNumbers.{BlockNumbers}
 use Rattle.host.specs.Geometry.{sizeGiven, blockGiven}
-use Rattle.host.specs.Calls.{cycled, arrayCycled, started, steppedOf, scratchStepped, runOf, arrayRun, scratchRun, loadOf, arrayLoad, wantedLoad, scratchLoad, writtenOf, fileLeft, readOf, payloadLeft, ranNumbers}
+use Rattle.host.specs.Calls.{cycled, arrayCycled, started, steppedOf, scratchStepped, runOf, arrayRun, scratchRun, loadOf, arrayLoad, wantedLoad, scratchLoad, writtenOf, fileLeft, fileRead, payloadLeft, ranNumbers}
 use Rattle.twin.specs.declared.DeviceNumbers.{DeviceNumbers}
 use Rattle.twin.specs.declared.StateNumbers.{StateNumbers}
 use Rattle.twin.specs.declared.BusNumbers.{BusNumbers}
@@ -81,7 +81,7 @@ load-refused = returned.load-refused
 pub write-refused : (letter : ℕ) (p out : List ℕ) → (writtenOf letter p out .number ≡ 0 → ⊥) → (writtenOf letter p out .length ≡ 0) × (fileLeft letter p out ≡ out)
 write-refused = returned.write-refused
 
-pub read-refused : (f : List ℕ) (asked : ℕ) (out : List ℕ) → (readOf f asked out .number ≡ 0 → ⊥) → (readOf f asked out .length ≡ 0) × (payloadLeft f asked out ≡ out)
+pub read-refused : (f : List ℕ) (asked : ℕ) (out : List ℕ) → (fileRead f asked out .number ≡ 0 → ⊥) → (fileRead f asked out .length ≡ 0) × (payloadLeft f asked out ≡ out)
 read-refused = returned.read-refused
 
 -- On the numbers of typed values each C function is the typed function: its answer as numbers, and what it leaves in the slices.
@@ -92,7 +92,7 @@ pub cycle-typed : (d : Device) (s : State) (c : Cycle) (xs rs : List ℕ)
 cycle-typed = returned.cycle-typed
 
 pub step-typed : (l : Loader) (b : ℕ) (w sc : List ℕ)
-    → (steppedOf (loaderOut l) b w sc ≡ record { turn = turnOut (stepOf l b w sc .turn); loader = loaderOut (stepOf l b w sc .loader) })
+    → (steppedOf (loaderOut l) b w sc ≡ record { turn = turnOut (stepGiven l b w sc .turn); loader = loaderOut (stepGiven l b w sc .loader) })
     × (scratchStepped (loaderOut l) b w sc ≡ scratchAfter l b w sc)
 step-typed = returned.step-typed
 
@@ -171,8 +171,8 @@ write-unique letter p out = only (writtenOf letter p out)
 pub write-file-unique : (letter : ℕ) (p out : List ℕ) → Unique (λ (left : List ℕ). left ≡ fileLeft letter p out)
 write-file-unique letter p out = only (fileLeft letter p out)
 
-pub read-unique : (f : List ℕ) (asked : ℕ) (out : List ℕ) → Unique (λ (r : SizedNumbers). r ≡ readOf f asked out)
-read-unique f asked out = only (readOf f asked out)
+pub read-unique : (f : List ℕ) (asked : ℕ) (out : List ℕ) → Unique (λ (r : SizedNumbers). r ≡ fileRead f asked out)
+read-unique f asked out = only (fileRead f asked out)
 
 pub read-payload-unique : (f : List ℕ) (asked : ℕ) (out : List ℕ) → Unique (λ (left : List ℕ). left ≡ payloadLeft f asked out)
 read-payload-unique f asked out = only (payloadLeft f asked out)

@@ -23,7 +23,7 @@ use Rattle.model.proofs.Claims as model-claims
 use Rattle.loader.specs.declared.Loader.{Loader}
 use Rattle.loader.specs.declared.Turn.{Turn}
 use Rattle.loader.specs.declared.Turn.the-variants.{Out, Over, Barred}
-use Rattle.stepper.specs.Front.{stepOf, scratchAfter}
+use Rattle.stepper.specs.Front.{stepGiven, scratchAfter}
 use Rattle.stepper.proofs.Claims as loader-claims
 use Rattle.run.specs.declared.Ran.{Ran}
 use Rattle.run.specs.Runs.{runRows, runNumber, ranOf, bytesOf, scratchOf, RunLeft}
@@ -34,7 +34,7 @@ use Rattle.loadfile.specs.File.{Outcome, refused, made, limit, inRoom, leftIn, 
 use Rattle.twin.specs.Twins.{deviceIn, pinsIn, noState, stateIn, stateOut, cycleIn, cycleOut, deviceOut}
 use Rattle.c_records.specs.Records.{noRecord, loaderIn, loaderOut, loaderBack, turnOut, ranOut, writtenOut, readOut}
 use Rattle.twin.specs.Answers.{stateBack, seenOut, valueOut, answerOut}
-use Rattle.host.specs.Calls.{cycled, arrayCycled, steppedOf, scratchStepped, runOf, arrayRun, scratchRun, loadOf, arrayLoad, wantedLoad, scratchLoad, writtenOf, fileLeft, readOf, payloadLeft, ranNumbers}
+use Rattle.host.specs.Calls.{cycled, arrayCycled, steppedOf, scratchStepped, runOf, arrayRun, scratchRun, loadOf, arrayLoad, wantedLoad, scratchLoad, writtenOf, fileLeft, fileRead, payloadLeft, ranNumbers}
 use Rattle.twin.specs.declared.DeviceNumbers.{DeviceNumbers}
 use Rattle.twin.specs.declared.StateNumbers.{StateNumbers}
 use Rattle.twin.specs.declared.BusNumbers.{BusNumbers}
@@ -98,14 +98,14 @@ module _ (l : LoaderNumbers) (b : ℕ) (w sc : List ℕ) where
   pub step-refused : steppedOf l b w sc .turn .turn ≡ 2 → (steppedOf l b w sc .loader ≡ l) × (scratchStepped l b w sc ≡ sc)
   unfolding steppedOf scratchStepped
   step-refused e =
-      let turn : Turn = stepOf (loaderIn l) b w sc .turn in
+      let turn : Turn = stepGiven (loaderIn l) b w sc .turn in
       let k = loader-claims.step-refused-leaves (loaderIn l) b w sc (turnOut turn .number) (turn-two turn e) in
       (ap (λ (m : Loader). loaderBack l m) (k .0) ∙ record-same l, k .1)
 
   pub step-no-record : unknownPart (loaderIn l .part) ≡ false → noRecord l ≡ true → (steppedOf l b w sc .turn ≡ turnOut (Barred 3)) × (steppedOf l b w sc .loader ≡ l)
   unfolding steppedOf
   step-no-record known e =
-      let turn : stepOf (loaderIn l) b w sc .turn ≡ Barred 3 =
+      let turn : stepGiven (loaderIn l) b w sc .turn ≡ Barred 3 =
       loader-claims.step-refused-exactly (loaderIn l) b w sc 3 (λ (z : 3 ≡ 0). (omega arith)) .1 (below known (here (no-record-bad l e))) in
       let k = loader-claims.step-refused-leaves (loaderIn l) b w sc 3 turn in
       (ap (λ (t : Turn). turnOut t) turn, ap (λ (m : Loader). loaderBack l m) (k .0) ∙ record-same l)
@@ -167,8 +167,8 @@ pub write-refused : (letter : ℕ) (p out : List ℕ) → (writtenOf letter p ou
 unfolding writtenOf fileLeft
 write-refused letter p out z = write-left (inRoom (length out) (writerOf limit letter p)) out z
 
-pub read-refused : (f : List ℕ) (asked : ℕ) (out : List ℕ) → (readOf f asked out .number ≡ 0 → ⊥) → (readOf f asked out .length ≡ 0) × (payloadLeft f asked out ≡ out)
-unfolding readOf payloadLeft
+pub read-refused : (f : List ℕ) (asked : ℕ) (out : List ℕ) → (fileRead f asked out .number ≡ 0 → ⊥) → (fileRead f asked out .length ≡ 0) × (payloadLeft f asked out ≡ out)
+unfolding fileRead payloadLeft
 read-refused f asked out z = read-left (inRoom (length out) (readerOf limit f asked)) out z
 
 -- what the C functions give for the numbers of typed values
@@ -187,14 +187,14 @@ cycle-typed d s c xs rs =
     )
 
 pub step-typed : (l : Loader) (b : ℕ) (w sc : List ℕ)
-    → (steppedOf (loaderOut l) b w sc ≡ record { turn = turnOut (stepOf l b w sc .turn); loader = loaderOut (stepOf l b w sc .loader) })
+    → (steppedOf (loaderOut l) b w sc ≡ record { turn = turnOut (stepGiven l b w sc .turn); loader = loaderOut (stepGiven l b w sc .loader) })
     × (scratchStepped (loaderOut l) b w sc ≡ scratchAfter l b w sc)
 unfolding steppedOf scratchStepped
 step-typed l b w sc =
     let m = record-back l in
-    let back = record-given l (stepOf l b w sc .loader) in (
-      (λ i. record { turn = turnOut (stepOf (m i) b w sc .turn); loader = loaderBack (loaderOut l) (stepOf (m i) b w sc .loader) })
-          ∙ (λ i. record { turn = turnOut (stepOf l b w sc .turn); loader = back i }),
+    let back = record-given l (stepGiven l b w sc .loader) in (
+      (λ i. record { turn = turnOut (stepGiven (m i) b w sc .turn); loader = loaderBack (loaderOut l) (stepGiven (m i) b w sc .loader) })
+          ∙ (λ i. record { turn = turnOut (stepGiven l b w sc .turn); loader = back i }),
       λ i. scratchAfter (m i) b w sc,
     )
 

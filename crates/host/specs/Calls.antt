@@ -3,7 +3,7 @@ use mathlib.Core.List.{List}
 use Prim.Native.Nat.{ℕ}
 use lib.ListN.{length}
 use Rattle.model.specs.Arrays.{answerOf, arrayAfter}
-use Rattle.stepper.specs.Front.{startOf, stepOf, scratchAfter}
+use Rattle.stepper.specs.Front.{startGiven, stepGiven, scratchAfter}
 use Rattle.run.specs.declared.Ran.{Ran}
 use Rattle.run.specs.Runs.{ranOf, bytesOf, scratchOf}
 use Rattle.load.specs.Loads.{loadedOf, bytesLoaded, wantedLoaded, scratchLoaded}
@@ -31,14 +31,14 @@ arrayCycled d s c xs rs = arrayAfter (deviceIn d) (stateIn s) (cycleIn c) xs rs
 unfoldable pub started : ℕ → ℕ → ℕ → ℕ → List ℕ → List ℕ → GivenNumbers
 started part rp vpp k w sc =
     record {
-      turn = turnOut (startOf (record { number = part }) (pinsIn rp vpp) k w sc .turn);
-      loader = loaderOut (startOf (record { number = part }) (pinsIn rp vpp) k w sc .loader);
+      turn = turnOut (startGiven (record { number = part }) (pinsIn rp vpp) k w sc .turn);
+      loader = loaderOut (startGiven (record { number = part }) (pinsIn rp vpp) k w sc .loader);
     }
 
 -- a loader's step: what it says and the record, and scratch
 unfoldable pub steppedOf : LoaderNumbers → ℕ → List ℕ → List ℕ → GivenNumbers
 steppedOf l b w sc =
-    record { turn = turnOut (stepOf (loaderIn l) b w sc .turn); loader = loaderBack l (stepOf (loaderIn l) b w sc .loader) }
+    record { turn = turnOut (stepGiven (loaderIn l) b w sc .turn); loader = loaderBack l (stepGiven (loaderIn l) b w sc .loader) }
 
 unfoldable pub scratchStepped : LoaderNumbers → ℕ → List ℕ → List ℕ → List ℕ
 scratchStepped l b w sc = scratchAfter (loaderIn l) b w sc
@@ -77,8 +77,8 @@ writtenOf letter p out = writtenOut (writtenAs (inRoom (length out) (writerOf li
 unfoldable pub fileLeft : ℕ → List ℕ → List ℕ → List ℕ
 fileLeft letter p out = leftIn out (inRoom (length out) (writerOf limit letter p))
 
-unfoldable pub readOf : List ℕ → ℕ → List ℕ → SizedNumbers
-readOf f asked out = readOut (readAs (inRoom (length out) (readerOf limit f asked)))
+unfoldable pub fileRead : List ℕ → ℕ → List ℕ → SizedNumbers
+fileRead f asked out = readOut (readAs (inRoom (length out) (readerOf limit f asked)))
 
 unfoldable pub payloadLeft : List ℕ → ℕ → List ℕ → List ℕ
 payloadLeft f asked out = leftIn out (inRoom (length out) (readerOf limit f asked))

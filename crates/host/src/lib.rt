@@ -17,7 +17,7 @@ ghost use Rattle.chip.specs.States.{freshState};
 ghost use Rattle.seal.specs.Check.{checkOf};
 ghost use Rattle.twin.specs.Twins.{stateOut};
 ghost use Rattle.host.specs.Geometry.{sizeGiven, blockGiven};
-ghost use Rattle.host.specs.Calls.{cycled, arrayCycled, started, steppedOf, scratchStepped, runOf, arrayRun, scratchRun, loadOf, arrayLoad, wantedLoad, scratchLoad, writtenOf, fileLeft, readOf, payloadLeft};
+ghost use Rattle.host.specs.Calls.{cycled, arrayCycled, started, steppedOf, scratchStepped, runOf, arrayRun, scratchRun, loadOf, arrayLoad, wantedLoad, scratchLoad, writtenOf, fileLeft, fileRead, payloadLeft};
 
 // A fresh device.
 #[no_mangle]
@@ -203,7 +203,7 @@ pub extern "C" fn tb_file_write(letter: u8, payload: &[u8], file: &mut [u8]) -> 
 // The reader of a load file, for the letter asked.
 #[no_mangle]
 pub extern "C" fn tb_file_read(letter: u8, file: &[u8], payload: &mut [u8]) -> SizedNumbers
-    ensures { λ r. ⌜ r ≡ readOf (now (file .entry)) letter (now (payload .entry)) ⌝ }
+    ensures { λ r. ⌜ r ≡ fileRead (now (file .entry)) letter (now (payload .entry)) ⌝ }
     ensures { λ _. ⌜ now (payload .exit) ≡ payloadLeft (now (file .entry)) letter (now (payload .entry)) ⌝ }
 {
     let read = loadfile::read(file, letter, payload);

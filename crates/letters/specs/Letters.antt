@@ -10,7 +10,7 @@ use Rattle.chip.specs.declared.Mode.the-variants.{Array, Status, Identifier}
 use Rattle.chip.specs.declared.Phase.{Phase}
 use Rattle.chip.specs.declared.Phase.the-variants.{Free, EraseAwaited, DataAwaited, Programming, Erasing, Suspended}
 use Rattle.chip.specs.declared.State.{State}
-use Rattle.rows.specs.Text.{readOf, fieldOf}
+use Rattle.rows.specs.Text.{numberRead, fieldOf}
 
 -- the mode of a letter: A, S, and the identifier for any other
 unfoldable pub modeBy : ℕ → Mode
@@ -37,23 +37,23 @@ phaseLetter Erasing = 69
 phaseLetter Suspended = 83
 
 -- the number of n letters from a place of a row on
-abbrev pub at : List ℕ → ℕ → ℕ → ℕ → ℕ
-at row base place n = readOf base (fieldOf row place n)
+abbrev pub numberAt : List ℕ → ℕ → ℕ → ℕ → ℕ
+numberAt row base place n = numberRead base (fieldOf row place n)
 
 -- the state that a row tells
 unfoldable pub stateAt : List ℕ → State
 stateAt row = record {
   mode = modeBy (getD row 5 0);
-  status = at row 16 2 2 % 256;
-  phase = phaseBy (getD row 7 0) (at row 16 8 2 % 256);
-  left = at row 10 11 5 % 65536;
-  address = at row 16 17 8;
+  status = numberAt row 16 2 2 % 256;
+  phase = phaseBy (getD row 7 0) (numberAt row 16 8 2 % 256);
+  left = numberAt row 10 11 5 % 65536;
+  address = numberAt row 16 17 8;
 }
 
 -- the device that a row tells
 unfoldable pub deviceAt : List ℕ → Device
 deviceAt row = record {
-  part = record { number = at row 10 2 3 % 256 };
-  program = at row 10 6 5 % 65536;
-  erase = at row 10 12 5 % 65536;
+  part = record { number = numberAt row 10 2 3 % 256 };
+  program = numberAt row 10 6 5 % 65536;
+  erase = numberAt row 10 12 5 % 65536;
 }

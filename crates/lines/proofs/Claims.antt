@@ -10,7 +10,7 @@ use Rattle.cells.proofs.Choice.{only}
 use Rattle.chip.specs.declared.Cycle.{Cycle}
 use Rattle.lines.specs.declared.LineRead.{LineRead}
 use Rattle.lines.specs.declared.LineRead.the-variants.{NotALine, Stated}
-use Rattle.lines.specs.Lines.{Place, isAt, fits, isLine, cycleIn, readLine, lineOf, Fits}
+use Rattle.lines.specs.Lines.{Place, isAt, fits, isLine, cycleStated, readLine, lineOf, Fits}
 use Rattle.lines.proofs.Places as places
 use Rattle.lines.proofs.Forms as forms
 
@@ -28,7 +28,7 @@ pub not-read : (xs : List ℕ) → (readLine xs ≡ NotALine) ↔ ((c : Cycle) �
 not-read = forms.not-read
 
 -- The test and the reader agree, and a line has 20 bytes.
-pub line-read : (xs : List ℕ) → isLine xs ≡ true → readLine xs ≡ Stated (cycleIn xs)
+pub line-read : (xs : List ℕ) → isLine xs ≡ true → readLine xs ≡ Stated (cycleStated xs)
 line-read = forms.line-read
 
 pub line-length : (xs : List ℕ) → isLine xs ≡ true → length xs ≡ 20
@@ -44,8 +44,8 @@ form-exactly = places.form-exactly
 pub is-line-unique : (xs : List ℕ) → Unique (λ (r : Bool). r ≡ isLine xs)
 is-line-unique xs = only (isLine xs)
 
-pub cycle-in-unique : (xs : List ℕ) → Unique (λ (r : Cycle). r ≡ cycleIn xs)
-cycle-in-unique xs = only (cycleIn xs)
+pub cycle-in-unique : (xs : List ℕ) → Unique (λ (r : Cycle). r ≡ cycleStated xs)
+cycle-in-unique xs = only (cycleStated xs)
 
 pub read-line-unique : (xs : List ℕ) → Unique (λ (r : LineRead). r ≡ readLine xs)
 read-line-unique xs = only (readLine xs)

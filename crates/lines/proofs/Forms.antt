@@ -15,7 +15,7 @@ use Rattle.chip.specs.declared.Kind.{Kind}
 use Rattle.chip.specs.declared.Kind.the-variants.{Read, Write, Idle}
 use Rattle.chip.specs.declared.Cycle.{Cycle}
 use Rattle.lines.specs.declared.LineRead.the-variants.{NotALine, Stated}
-use Rattle.lines.specs.Lines.{isDigit, isHex, isKind, isAt, fits, newline, lineForm, isLine, kindOf, digitOf, hexOf, fiveOf, fourOf, twoOf, cycleIn, readLine, letterFor, decimalDigit, hexDigit, lineOf, Fits}
+use Rattle.lines.specs.Lines.{isDigit, isHex, isKind, isAt, fits, newline, lineForm, isLine, kindOf, digitOf, hexOf, fiveDigits, fourHex, twoHex, cycleStated, readLine, letterFor, decimalDigit, hexDigit, lineOf, Fits}
 use Rattle.lines.proofs.Places.{both, form-length, form-at}
 
 -- a line has 20 bytes
@@ -157,7 +157,7 @@ spelled-rest (suc k) i xs e =
 
 -- what is printed of a cycle that fits is a line, and states that cycle
 five-back : (v : ℕ) → v < 100000
-    → fiveOf (decimalDigit (v / 10000)) (decimalDigit (v / 1000)) (decimalDigit (v / 100)) (decimalDigit (v / 10)) (decimalDigit v) ≡ v
+    → fiveDigits (decimalDigit (v / 10000)) (decimalDigit (v / 1000)) (decimalDigit (v / 100)) (decimalDigit (v / 10)) (decimalDigit v) ≡ v
 five-back v h =
     let f : (n : ℕ) → digitOf (decimalDigit n) ≡ n % 10 = λ (n : ℕ). digit-back (n % 10) (omega arith) in
     let a : v / 10000 % 10 ≡ v / 1000 / 10 = omega (arith, myriad v) in
@@ -167,7 +167,7 @@ five-back v h =
     ten (v / 10) ((v / 10000 % 10 * 10 + v / 1000 % 10) * 10 + v / 100 % 10) (c ∙ hundred v) in
     rw (f (v / 10000), f (v / 1000), f (v / 100), f (v / 10), f v) (ten v (((v / 10000 % 10 * 10 + v / 1000 % 10) * 10 + v / 100 % 10) * 10 + v / 10 % 10) d)
 
-four-back : (v : ℕ) → v < 65536 → fourOf (hexDigit (v / 4096 % 16)) (hexDigit (v / 256 % 16)) (hexDigit (v / 16 % 16)) (hexDigit (v % 16)) ≡ v
+four-back : (v : ℕ) → v < 65536 → fourHex (hexDigit (v / 4096 % 16)) (hexDigit (v / 256 % 16)) (hexDigit (v / 16 % 16)) (hexDigit (v % 16)) ≡ v
 four-back v h =
     let f : (n : ℕ) → hexOf (hexDigit (n % 16)) ≡ n % 16 = λ (n : ℕ). hex-back (n % 16) (omega arith) in
     let a : v / 4096 % 16 ≡ v / 256 / 16 = omega (arith, section v) in
@@ -175,7 +175,7 @@ four-back v h =
     let c : (v / 4096 % 16 * 16 + v / 256 % 16) * 16 + v / 16 % 16 ≡ v / 16 = sixteen (v / 16) (v / 4096 % 16 * 16 + v / 256 % 16) (b ∙ page v) in
     rw (f (v / 4096), f (v / 256), f (v / 16), f v) (sixteen v ((v / 4096 % 16 * 16 + v / 256 % 16) * 16 + v / 16 % 16) c)
 
-two-back : (v : ℕ) → v < 256 → twoOf (hexDigit (v / 16 % 16)) (hexDigit (v % 16)) ≡ v
+two-back : (v : ℕ) → v < 256 → twoHex (hexDigit (v / 16 % 16)) (hexDigit (v % 16)) ≡ v
 two-back v h =
     let f : (n : ℕ) → hexOf (hexDigit (n % 16)) ≡ n % 16 = λ (n : ℕ). hex-back (n % 16) (omega arith) in
     rw (f (v / 16), f v) (sixteen v (v / 16 % 16) (omega arith))
@@ -192,8 +192,8 @@ printed-good c f =
     (both (h (c .address / 4096)) (both (h (c .address / 256)) (both (h (c .address / 16)) (both (h (c .address))
     (both (h (c .byte / 16)) (both (h (c .byte)) refl)))))))))))))
 
-printed-cycle : (c : Cycle) → Fits c → cycleIn (lineOf c) ≡ c
-unfolding cycleIn
+printed-cycle : (c : Cycle) → Fits c → cycleStated (lineOf c) ≡ c
+unfolding cycleStated
 printed-cycle c f = λ i. record {
   kind = kind-back (c .kind) i;
   pins = record { rp = digit-back (c .pins .rp) (f .0) i; vpp = five-back (c .pins .vpp) (f .2) i };
@@ -205,20 +205,20 @@ printed-cycle c f = λ i. record {
 pub read-back : (c : Cycle) → Fits c → readLine (lineOf c) ≡ Stated c
 unfolding readLine
 read-back c f =
-    if-true (isLine (lineOf c)) (Stated (cycleIn (lineOf c))) NotALine (printed-good c f) ∙ ap (λ (x : Cycle). Stated x) (printed-cycle c f)
+    if-true (isLine (lineOf c)) (Stated (cycleStated (lineOf c))) NotALine (printed-good c f) ∙ ap (λ (x : Cycle). Stated x) (printed-cycle c f)
 
 -- what a line states fits, and prints as the line
-five-small : (a b c d e : ℕ) → isDigit a ≡ true → isDigit b ≡ true → isDigit c ≡ true → isDigit d ≡ true → isDigit e ≡ true → fiveOf a b c d e < 100000
+five-small : (a b c d e : ℕ) → isDigit a ≡ true → isDigit b ≡ true → isDigit c ≡ true → isDigit d ≡ true → isDigit e ≡ true → fiveDigits a b c d e < 100000
 five-small a b c d e p q r s t = omega (arith, digit-small a p, digit-small b q, digit-small c r, digit-small d s, digit-small e t)
 
-four-small : (a b c d : ℕ) → fourOf a b c d < 65536
+four-small : (a b c d : ℕ) → fourHex a b c d < 65536
 four-small a b c d = omega (arith, hex-small a, hex-small b, hex-small c, hex-small d)
 
-two-small : (a b : ℕ) → twoOf a b < 256
+two-small : (a b : ℕ) → twoHex a b < 256
 two-small a b = omega (arith, hex-small a, hex-small b)
 
-line-fits : (xs : List ℕ) → isLine xs ≡ true → Fits (cycleIn xs)
-unfolding cycleIn
+line-fits : (xs : List ℕ) → isLine xs ≡ true → Fits (cycleStated xs)
+unfolding cycleStated
 line-fits xs e = (
   digit-small (getD xs 2 0) (placed xs e 2 refl),
   digit-small (getD xs 4 0) (placed xs e 4 refl),
@@ -229,66 +229,66 @@ line-fits xs e = (
 
 -- the digits of five digits
 module _ (a b c d e : ℕ) (p : isDigit a ≡ true) (q : isDigit b ≡ true) (r : isDigit c ≡ true) (s : isDigit d ≡ true) (t : isDigit e ≡ true) where
-  v1 : fiveOf a b c d e / 10 ≡ ((digitOf a * 10 + digitOf b) * 10 + digitOf c) * 10 + digitOf d
+  v1 : fiveDigits a b c d e / 10 ≡ ((digitOf a * 10 + digitOf b) * 10 + digitOf c) * 10 + digitOf d
   v1 = ten-front (((digitOf a * 10 + digitOf b) * 10 + digitOf c) * 10 + digitOf d) (digitOf e) (digit-small e t)
 
-  v2 : fiveOf a b c d e / 100 ≡ (digitOf a * 10 + digitOf b) * 10 + digitOf c
-  v2 = hundred (fiveOf a b c d e) ∙ ap (λ (n : ℕ). n / 10) v1 ∙ ten-front ((digitOf a * 10 + digitOf b) * 10 + digitOf c) (digitOf d) (digit-small d s)
+  v2 : fiveDigits a b c d e / 100 ≡ (digitOf a * 10 + digitOf b) * 10 + digitOf c
+  v2 = hundred (fiveDigits a b c d e) ∙ ap (λ (n : ℕ). n / 10) v1 ∙ ten-front ((digitOf a * 10 + digitOf b) * 10 + digitOf c) (digitOf d) (digit-small d s)
 
-  v3 : fiveOf a b c d e / 1000 ≡ digitOf a * 10 + digitOf b
-  v3 = thousand (fiveOf a b c d e) ∙ ap (λ (n : ℕ). n / 10) v2 ∙ ten-front (digitOf a * 10 + digitOf b) (digitOf c) (digit-small c r)
+  v3 : fiveDigits a b c d e / 1000 ≡ digitOf a * 10 + digitOf b
+  v3 = thousand (fiveDigits a b c d e) ∙ ap (λ (n : ℕ). n / 10) v2 ∙ ten-front (digitOf a * 10 + digitOf b) (digitOf c) (digit-small c r)
 
-  v4 : fiveOf a b c d e / 10000 ≡ digitOf a
-  v4 = myriad (fiveOf a b c d e) ∙ ap (λ (n : ℕ). n / 10) v3 ∙ ten-front (digitOf a) (digitOf b) (digit-small b q)
+  v4 : fiveDigits a b c d e / 10000 ≡ digitOf a
+  v4 = myriad (fiveDigits a b c d e) ∙ ap (λ (n : ℕ). n / 10) v3 ∙ ten-front (digitOf a) (digitOf b) (digit-small b q)
 
-  five-0 : decimalDigit (fiveOf a b c d e / 10000) ≡ a
+  five-0 : decimalDigit (fiveDigits a b c d e / 10000) ≡ a
   five-0 = ap (λ (n : ℕ). 48 + n % 10) v4 ∙ ap (λ (n : ℕ). 48 + n) (let z : digitOf a % 10 ≡ digitOf a = omega (arith, digit-small a p) in z) ∙ digit-form a p
 
-  five-1 : decimalDigit (fiveOf a b c d e / 1000) ≡ b
+  five-1 : decimalDigit (fiveDigits a b c d e / 1000) ≡ b
   five-1 = ap (λ (n : ℕ). 48 + n % 10) v3 ∙ ap (λ (n : ℕ). 48 + n) (ten-last (digitOf a) (digitOf b) (digit-small b q)) ∙ digit-form b q
 
-  five-2 : decimalDigit (fiveOf a b c d e / 100) ≡ c
+  five-2 : decimalDigit (fiveDigits a b c d e / 100) ≡ c
   five-2 = ap (λ (n : ℕ). 48 + n % 10) v2 ∙ ap (λ (n : ℕ). 48 + n) (ten-last (digitOf a * 10 + digitOf b) (digitOf c) (digit-small c r)) ∙ digit-form c r
 
-  five-3 : decimalDigit (fiveOf a b c d e / 10) ≡ d
+  five-3 : decimalDigit (fiveDigits a b c d e / 10) ≡ d
   five-3 = ap (λ (n : ℕ). 48 + n % 10) v1 ∙ ap (λ (n : ℕ). 48 + n) (ten-last ((digitOf a * 10 + digitOf b) * 10 + digitOf c) (digitOf d) (digit-small d s)) ∙ digit-form d s
 
-  five-4 : decimalDigit (fiveOf a b c d e) ≡ e
+  five-4 : decimalDigit (fiveDigits a b c d e) ≡ e
   five-4 = ap (λ (n : ℕ). 48 + n) (ten-last (((digitOf a * 10 + digitOf b) * 10 + digitOf c) * 10 + digitOf d) (digitOf e) (digit-small e t)) ∙ digit-form e t
 
 -- the digits of four
 module _ (a b c d : ℕ) (p : isHex a ≡ true) (q : isHex b ≡ true) (r : isHex c ≡ true) (s : isHex d ≡ true) where
-  w1 : fourOf a b c d / 16 ≡ (hexOf a * 16 + hexOf b) * 16 + hexOf c
+  w1 : fourHex a b c d / 16 ≡ (hexOf a * 16 + hexOf b) * 16 + hexOf c
   w1 = sixteen-front ((hexOf a * 16 + hexOf b) * 16 + hexOf c) (hexOf d) (hex-small d)
 
-  w2 : fourOf a b c d / 256 ≡ hexOf a * 16 + hexOf b
-  w2 = page (fourOf a b c d) ∙ ap (λ (n : ℕ). n / 16) w1 ∙ sixteen-front (hexOf a * 16 + hexOf b) (hexOf c) (hex-small c)
+  w2 : fourHex a b c d / 256 ≡ hexOf a * 16 + hexOf b
+  w2 = page (fourHex a b c d) ∙ ap (λ (n : ℕ). n / 16) w1 ∙ sixteen-front (hexOf a * 16 + hexOf b) (hexOf c) (hex-small c)
 
-  w3 : fourOf a b c d / 4096 ≡ hexOf a
-  w3 = section (fourOf a b c d) ∙ ap (λ (n : ℕ). n / 16) w2 ∙ sixteen-front (hexOf a) (hexOf b) (hex-small b)
+  w3 : fourHex a b c d / 4096 ≡ hexOf a
+  w3 = section (fourHex a b c d) ∙ ap (λ (n : ℕ). n / 16) w2 ∙ sixteen-front (hexOf a) (hexOf b) (hex-small b)
 
-  four-0 : hexDigit (fourOf a b c d / 4096 % 16) ≡ a
+  four-0 : hexDigit (fourHex a b c d / 4096 % 16) ≡ a
   four-0 = ap (λ (n : ℕ). hexDigit (n % 16)) w3 ∙ ap (λ (n : ℕ). hexDigit n) (let z : hexOf a % 16 ≡ hexOf a = omega (arith, hex-small a) in z) ∙ hex-form a p
 
-  four-1 : hexDigit (fourOf a b c d / 256 % 16) ≡ b
+  four-1 : hexDigit (fourHex a b c d / 256 % 16) ≡ b
   four-1 = ap (λ (n : ℕ). hexDigit (n % 16)) w2 ∙ ap (λ (n : ℕ). hexDigit n) (sixteen-last (hexOf a) (hexOf b) (hex-small b)) ∙ hex-form b q
 
-  four-2 : hexDigit (fourOf a b c d / 16 % 16) ≡ c
+  four-2 : hexDigit (fourHex a b c d / 16 % 16) ≡ c
   four-2 = ap (λ (n : ℕ). hexDigit (n % 16)) w1 ∙ ap (λ (n : ℕ). hexDigit n) (sixteen-last (hexOf a * 16 + hexOf b) (hexOf c) (hex-small c)) ∙ hex-form c r
 
-  four-3 : hexDigit (fourOf a b c d % 16) ≡ d
+  four-3 : hexDigit (fourHex a b c d % 16) ≡ d
   four-3 = ap (λ (n : ℕ). hexDigit n) (sixteen-last ((hexOf a * 16 + hexOf b) * 16 + hexOf c) (hexOf d) (hex-small d)) ∙ hex-form d s
 
-two-0 : (a b : ℕ) → isHex a ≡ true → hexDigit (twoOf a b / 16 % 16) ≡ a
+two-0 : (a b : ℕ) → isHex a ≡ true → hexDigit (twoHex a b / 16 % 16) ≡ a
 two-0 a b p =
     ap (λ (n : ℕ). hexDigit (n % 16)) (sixteen-front (hexOf a) (hexOf b) (hex-small b))
     ∙ ap (λ (n : ℕ). hexDigit n) (let z : hexOf a % 16 ≡ hexOf a = omega (arith, hex-small a) in z) ∙ hex-form a p
 
-two-1 : (a b : ℕ) → isHex b ≡ true → hexDigit (twoOf a b % 16) ≡ b
+two-1 : (a b : ℕ) → isHex b ≡ true → hexDigit (twoHex a b % 16) ≡ b
 two-1 a b q = ap (λ (n : ℕ). hexDigit n) (sixteen-last (hexOf a) (hexOf b) (hex-small b)) ∙ hex-form b q
 
-line-spelled : (xs : List ℕ) → isLine xs ≡ true → lineOf (cycleIn xs) ≡ spelled 20 0 xs
-unfolding cycleIn spelled
+line-spelled : (xs : List ℕ) → isLine xs ≡ true → lineOf (cycleStated xs) ≡ spelled 20 0 xs
+unfolding cycleStated spelled
 line-spelled xs e = λ i.
     (kind-form (getD xs 0 0) (placed xs e 0 refl) i)
     ∷ ((sym (eqb-true (getD xs 1 0) 32 (placed xs e 1 refl))) i)
@@ -312,18 +312,18 @@ line-spelled xs e = λ i.
     ∷ ((sym (eqb-true (getD xs 19 0) 10 (placed xs e 19 refl))) i)
     ∷ []
 
-line-again : (xs : List ℕ) → isLine xs ≡ true → lineOf (cycleIn xs) ≡ xs
+line-again : (xs : List ℕ) → isLine xs ≡ true → lineOf (cycleStated xs) ≡ xs
 line-again xs e = line-spelled xs e ∙ spelled-rest 20 0 xs (let z : 0 + 20 ≡ length xs = sym (line-length xs e) in z)
 
 -- a line that is read is of the form
-pub read-good : (xs : List ℕ) (c : Cycle) → readLine xs ≡ Stated c → (isLine xs ≡ true) × (cycleIn xs ≡ c)
+pub read-good : (xs : List ℕ) (c : Cycle) → readLine xs ≡ Stated c → (isLine xs ≡ true) × (cycleStated xs ≡ c)
 unfolding readLine
 read-good xs c q = go (isLine xs) refl
   where
-    go : (b : Bool) → isLine xs ≡ b → (isLine xs ≡ true) × (cycleIn xs ≡ c)
-    go true e = let z : Stated (cycleIn xs) ≡ Stated c = sym (if-true (isLine xs) (Stated (cycleIn xs)) NotALine e) ∙ q in (e, cc)
+    go : (b : Bool) → isLine xs ≡ b → (isLine xs ≡ true) × (cycleStated xs ≡ c)
+    go true e = let z : Stated (cycleStated xs) ≡ Stated c = sym (if-true (isLine xs) (Stated (cycleStated xs)) NotALine e) ∙ q in (e, cc)
     go false e =
-        let z : NotALine ≡ Stated c = sym (if-false (isLine xs) (Stated (cycleIn xs)) NotALine e) ∙ q in
+        let z : NotALine ≡ Stated c = sym (if-false (isLine xs) (Stated (cycleStated xs)) NotALine e) ∙ q in
         absurd (let w : _≡_ {A = ℕ} 0 1 = cc in omega arith)
 
 pub read-prints : (xs : List ℕ) (c : Cycle) → readLine xs ≡ Stated c → Fits c × (lineOf c ≡ xs)
@@ -341,13 +341,13 @@ pub read-once : (c d : Cycle) → Fits c → Fits d → lineOf c ≡ lineOf d �
 read-once c d f g e =
     let z : Stated c ≡ Stated d = sym (read-back c f) ∙ ap (λ (l : List ℕ). readLine l) e ∙ read-back d g in cc
 
-pub line-read : (xs : List ℕ) → isLine xs ≡ true → readLine xs ≡ Stated (cycleIn xs)
+pub line-read : (xs : List ℕ) → isLine xs ≡ true → readLine xs ≡ Stated (cycleStated xs)
 unfolding readLine
-line-read xs e = if-true (isLine xs) (Stated (cycleIn xs)) NotALine e
+line-read xs e = if-true (isLine xs) (Stated (cycleStated xs)) NotALine e
 
 unread : (xs : List ℕ) → isLine xs ≡ false → readLine xs ≡ NotALine
 unfolding readLine
-unread xs e = if-false (isLine xs) (Stated (cycleIn xs)) NotALine e
+unread xs e = if-false (isLine xs) (Stated (cycleStated xs)) NotALine e
 
 pub not-read : (xs : List ℕ) → (readLine xs ≡ NotALine) ↔ ((c : Cycle) → Fits c → lineOf c ≡ xs → ⊥)
 not-read xs = (
@@ -358,5 +358,5 @@ not-read xs = (
 )
   where
     go : ((c : Cycle) → Fits c → lineOf c ≡ xs → ⊥) → (b : Bool) → isLine xs ≡ b → readLine xs ≡ NotALine
-    go h true e = let k = read-prints xs (cycleIn xs) (line-read xs e) in absurd (h (cycleIn xs) (k .0) (k .1))
+    go h true e = let k = read-prints xs (cycleStated xs) (line-read xs e) in absurd (h (cycleStated xs) (k .0) (k .1))
     go h false e = unread xs e

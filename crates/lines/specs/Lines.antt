@@ -80,31 +80,31 @@ unfoldable pub hexOf : ℕ → ℕ
 hexOf b = if ltb b 65 then b % 16 else (b + 9) % 16
 
 -- five decimal digits as a number
-abbrev pub fiveOf : ℕ → ℕ → ℕ → ℕ → ℕ → ℕ
-fiveOf a b c d e = (((digitOf a * 10 + digitOf b) * 10 + digitOf c) * 10 + digitOf d) * 10 + digitOf e
+abbrev pub fiveDigits : ℕ → ℕ → ℕ → ℕ → ℕ → ℕ
+fiveDigits a b c d e = (((digitOf a * 10 + digitOf b) * 10 + digitOf c) * 10 + digitOf d) * 10 + digitOf e
 
 -- four hexadecimal digits as a number
-abbrev pub fourOf : ℕ → ℕ → ℕ → ℕ → ℕ
-fourOf a b c d = ((hexOf a * 16 + hexOf b) * 16 + hexOf c) * 16 + hexOf d
+abbrev pub fourHex : ℕ → ℕ → ℕ → ℕ → ℕ
+fourHex a b c d = ((hexOf a * 16 + hexOf b) * 16 + hexOf c) * 16 + hexOf d
 
 -- two hexadecimal digits as a byte
-abbrev pub twoOf : ℕ → ℕ → ℕ
-twoOf a b = hexOf a * 16 + hexOf b
+abbrev pub twoHex : ℕ → ℕ → ℕ
+twoHex a b = hexOf a * 16 + hexOf b
 
 -- a cycle put together from its parts
 abbrev pub cycleAs : Kind → ℕ → ℕ → ℕ → ℕ → ℕ → Cycle
 cycleAs k rp oe vpp a b = record { kind = k; pins = record { rp = rp; vpp = vpp }; oe = oe; address = a; byte = b }
 
 -- the cycle that a line states, read off its places
-unfoldable pub cycleIn : List ℕ → Cycle
-cycleIn xs =
-    cycleAs (kindOf (getD xs 0 0)) (digitOf (getD xs 2 0)) (digitOf (getD xs 4 0)) (fiveOf (getD xs 6 0) (getD xs 7 0) (getD xs 8 0) (getD xs 9 0) (getD xs 10 0))
-    (fourOf (getD xs 12 0) (getD xs 13 0) (getD xs 14 0) (getD xs 15 0))
-    (twoOf (getD xs 17 0) (getD xs 18 0))
+unfoldable pub cycleStated : List ℕ → Cycle
+cycleStated xs =
+    cycleAs (kindOf (getD xs 0 0)) (digitOf (getD xs 2 0)) (digitOf (getD xs 4 0)) (fiveDigits (getD xs 6 0) (getD xs 7 0) (getD xs 8 0) (getD xs 9 0) (getD xs 10 0))
+    (fourHex (getD xs 12 0) (getD xs 13 0) (getD xs 14 0) (getD xs 15 0))
+    (twoHex (getD xs 17 0) (getD xs 18 0))
 
 -- a line read: its cycle, or no line
 unfoldable pub readLine : List ℕ → LineRead
-readLine xs = if isLine xs then Stated (cycleIn xs) else NotALine
+readLine xs = if isLine xs then Stated (cycleStated xs) else NotALine
 
 -- the letter of a kind
 abbrev pub letterFor : Kind → ℕ

@@ -5,7 +5,7 @@ use chip::Pins;
 ghost use mathlib.Core.Path.{_≡_};
 ghost use mathlib.Core.Bool.{true};
 ghost use Prim.Native.Nat.{_<_};
-ghost use Rattle.lines.specs.Lines.{isDigit, isHex, isKind, isLine, kindOf, digitOf, hexOf, fiveOf, fourOf, twoOf, cycleIn, readLine};
+ghost use Rattle.lines.specs.Lines.{isDigit, isHex, isKind, isLine, kindOf, digitOf, hexOf, fiveDigits, fourHex, twoHex, cycleStated, readLine};
 ghost use Rattle.lines.specs.Inner.{metFrom, frontRun, supplyRun, addressRun, backRun};
 
 // What a line says: the cycle that it states, or that it is none.
@@ -122,26 +122,26 @@ fn hex(b: u8) -> u32
 }
 
 fn five(a: u8, b: u8, c: u8, d: u8, e: u8) -> u32
-    ensures { λ r. ⌜ r ≡ fiveOf a b c d e ⌝ }
+    ensures { λ r. ⌜ r ≡ fiveDigits a b c d e ⌝ }
 {
     (((digit(a) * 10 + digit(b)) * 10 + digit(c)) * 10 + digit(d)) * 10 + digit(e)
 }
 
 fn four(a: u8, b: u8, c: u8, d: u8) -> u32
-    ensures { λ r. ⌜ r ≡ fourOf a b c d ⌝ }
+    ensures { λ r. ⌜ r ≡ fourHex a b c d ⌝ }
 {
     ((hex(a) * 16 + hex(b)) * 16 + hex(c)) * 16 + hex(d)
 }
 
 fn two(a: u8, b: u8) -> u8
-    ensures { λ r. ⌜ r ≡ twoOf a b ⌝ }
+    ensures { λ r. ⌜ r ≡ twoHex a b ⌝ }
 {
     (hex(a) * 16 + hex(b)) as u8
 }
 
 // The cycle that a line states, read off its places.
 pub fn cycle_in(line: &[u8]) -> Cycle
-    ensures { λ r. ⌜ r ≡ cycleIn (now (line .entry)) ⌝ }
+    ensures { λ r. ⌜ r ≡ cycleStated (now (line .entry)) ⌝ }
 {
     let kind = kind_of(cells::nth(line, 0));
     let rp = level(cells::nth(line, 2));

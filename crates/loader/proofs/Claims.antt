@@ -8,10 +8,10 @@ use Rattle.cells.specs.Choice.{Unique}
 use Rattle.cells.proofs.Choice.{only}
 use Rattle.loader.specs.declared.Stage.{Stage}
 use Rattle.loader.specs.declared.Loader.{Loader}
-use Rattle.loader.specs.Moves.{at, endedBy, isReady, eraseFault, readMore, erasePolled, programPolled, verifyMore, nextIn}
+use Rattle.loader.specs.Moves.{movedTo, endedBy, isReady, eraseFault, afterRead, erasePolled, programPolled, verifyMore, nextIn}
 
-pub moved-unique : (l : Loader) (stage : Stage) (place polls : ℕ) → Unique (λ (r : Loader). r ≡ at l stage place polls)
-moved-unique l stage place polls = only (at l stage place polls)
+pub moved-unique : (l : Loader) (stage : Stage) (place polls : ℕ) → Unique (λ (r : Loader). r ≡ movedTo l stage place polls)
+moved-unique l stage place polls = only (movedTo l stage place polls)
 
 pub ended-by-unique : (l : Loader) (n : ℕ) → Unique (λ (r : Loader). r ≡ endedBy l n)
 ended-by-unique l n = only (endedBy l n)
@@ -22,8 +22,8 @@ is-ready-unique b = only (isReady b)
 pub erase-fault-unique : (b : ℕ) → Unique (λ (r : ℕ). r ≡ eraseFault b)
 erase-fault-unique b = only (eraseFault b)
 
-pub read-more-unique : (l : Loader) (w sc : List ℕ) → Unique (λ (r : Loader). r ≡ readMore l w sc)
-read-more-unique l w sc = only (readMore l w sc)
+pub read-more-unique : (l : Loader) (w sc : List ℕ) → Unique (λ (r : Loader). r ≡ afterRead l w sc)
+read-more-unique l w sc = only (afterRead l w sc)
 
 pub erase-polled-unique : (l : Loader) (b : ℕ) (w sc : List ℕ) → Unique (λ (r : Loader). r ≡ erasePolled l b w sc)
 erase-polled-unique l b w sc = only (erasePolled l b w sc)

@@ -11,12 +11,12 @@ use Rattle.loader.specs.declared.Loader.{Loader}
 use Rattle.loader.specs.Walks.{risesIn, diffFrom}
 
 -- the record at another stage, place and count of polls
-abbrev pub at : Loader → Stage → ℕ → ℕ → Loader
-at l stage place polls = record { part = l .part; pins = l .pins; block = l .block; stage = stage; place = place; polls = polls }
+abbrev pub movedTo : Loader → Stage → ℕ → ℕ → Loader
+movedTo l stage place polls = record { part = l .part; pins = l .pins; block = l .block; stage = stage; place = place; polls = polls }
 
 -- the end by a number, at the record's place
 abbrev pub endedBy : Loader → ℕ → Loader
-endedBy l n = at l (Ended n) (l .place) 0
+endedBy l n = movedTo l (Ended n) (l .place) 0
 
 -- SR.7 of a status
 abbrev pub isReady : ℕ → Bool
@@ -46,19 +46,19 @@ programFault sr = if sr3 sr then 21 else if bothErrors sr then 22 else if sr4 sr
 
 -- on to the first differing byte from place i on, or to the verify
 unfoldable pub onward : Loader → ℕ → List ℕ → List ℕ → Loader
-onward l i w sc = if ltb (diffFrom i w sc) (length w) then at l ProgramAsking (diffFrom i w sc) 0 else at l Closing 0 0
+onward l i w sc = if ltb (diffFrom i w sc) (length w) then movedTo l ProgramAsking (diffFrom i w sc) 0 else movedTo l Closing 0 0
 
 -- after the first reads: an erase if some bit must rise
 unfoldable pub afterReads : Loader → List ℕ → List ℕ → Loader
-afterReads l w sc = if risesIn w sc then at l EraseAsking 0 0 else onward l 0 w sc
+afterReads l w sc = if risesIn w sc then movedTo l EraseAsking 0 0 else onward l 0 w sc
 
 -- one byte of the first reads is in: the next, or what follows them
-unfoldable pub readMore : Loader → List ℕ → List ℕ → Loader
-readMore l w sc = if ltb (l .place) (length w - 1) then at l Reading (l .place + 1) 0 else afterReads l w sc
+unfoldable pub afterRead : Loader → List ℕ → List ℕ → Loader
+afterRead l w sc = if ltb (l .place) (length w - 1) then movedTo l Reading (l .place + 1) 0 else afterReads l w sc
 
 -- a poll without SR.7: another, or 20 as the 65,535th is taken
 unfoldable pub pollMore : Loader → Stage → Loader
-pollMore l stage = if leb 65534 (l .polls) then endedBy l 20 else at l stage (l .place) (l .polls + 1)
+pollMore l stage = if leb 65534 (l .polls) then endedBy l 20 else movedTo l stage (l .place) (l .polls + 1)
 
 -- a poll of the erase is in
 unfoldable pub erasePolled : Loader → ℕ → List ℕ → List ℕ → Loader
@@ -76,20 +76,20 @@ programPolled l b w sc =
 -- one byte of the verify is in: 25 where it differs, else the next, or the end
 unfoldable pub verifyMore : Loader → ℕ → List ℕ → Loader
 verifyMore l b w =
-    if eqb b (getD w (l .place) 0) then (if ltb (l .place) (length w - 1) then at l Verifying (l .place + 1) 0 else endedBy l 0) else endedBy l 25
+    if eqb b (getD w (l .place) 0) then (if ltb (l .place) (length w - 1) then movedTo l Verifying (l .place + 1) 0 else endedBy l 0) else endedBy l 25
 
 -- the record after a byte, by what is wanted and the scratch that the byte leaves
 abbrev pub nextIn : Stage → Loader → ℕ → List ℕ → List ℕ → Loader
-nextIn Clearing l b w sc = at l Opening 0 0
-nextIn Opening l b w sc = at l Reading 0 0
-nextIn Reading l b w sc = readMore l w sc
-nextIn EraseAsking l b w sc = at l EraseConfirming 0 0
-nextIn EraseConfirming l b w sc = at l EraseWaiting 0 0
+nextIn Clearing l b w sc = movedTo l Opening 0 0
+nextIn Opening l b w sc = movedTo l Reading 0 0
+nextIn Reading l b w sc = afterRead l w sc
+nextIn EraseAsking l b w sc = movedTo l EraseConfirming 0 0
+nextIn EraseConfirming l b w sc = movedTo l EraseWaiting 0 0
 nextIn EraseWaiting l b w sc = erasePolled l b w sc
-nextIn ProgramAsking l b w sc = at l ProgramSending (l .place) 0
-nextIn ProgramSending l b w sc = at l ProgramWaiting (l .place) 0
+nextIn ProgramAsking l b w sc = movedTo l ProgramSending (l .place) 0
+nextIn ProgramSending l b w sc = movedTo l ProgramWaiting (l .place) 0
 nextIn ProgramWaiting l b w sc = programPolled l b w sc
-nextIn Closing l b w sc = at l Verifying 0 0
+nextIn Closing l b w sc = movedTo l Verifying 0 0
 nextIn Verifying l b w sc = verifyMore l b w
 nextIn (Ended n) l b w sc = l
 

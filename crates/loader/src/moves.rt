@@ -9,11 +9,11 @@ use chip::states::SR5;
 use chip::states::SR7;
 ghost use mathlib.Core.Path.{_≡_};
 ghost use Prim.Native.Nat.{_-_};
-ghost use Rattle.loader.specs.Moves.{at, endedBy, isReady, sr3, sr4, sr5, bothErrors, eraseFault, programFault, onward, afterReads, readMore, pollMore, erasePolled, past, programPolled, verifyMore, nextIn};
+ghost use Rattle.loader.specs.Moves.{movedTo, endedBy, isReady, sr3, sr4, sr5, bothErrors, eraseFault, programFault, onward, afterReads, afterRead, pollMore, erasePolled, past, programPolled, verifyMore, nextIn};
 
 // The record at another stage, place and count of polls.
 pub fn moved(l: Loader, stage: Stage, place: usize, polls: u32) -> Loader
-    ensures { λ r. ⌜ r ≡ at l stage place polls ⌝ }
+    ensures { λ r. ⌜ r ≡ movedTo l stage place polls ⌝ }
 {
     let part = l.part;
     let pins = l.pins;
@@ -125,7 +125,7 @@ fn last(n: usize) -> usize
 
 // A byte of the first reads is in.
 pub fn read_more(l: Loader, wanted: &[u8], scratch: &[u8]) -> Loader
-    ensures { λ r. ⌜ r ≡ readMore l (now (wanted .entry)) (now (scratch .entry)) ⌝ }
+    ensures { λ r. ⌜ r ≡ afterRead l (now (wanted .entry)) (now (scratch .entry)) ⌝ }
 {
     let end = last(wanted.len());
     if l.place < end {

@@ -11,7 +11,7 @@ use borrow.Author.Tests.{leb-true, leb-false}
 use borrow.Rule.Slice.PartMut.{putMid, midOf, mid-len}
 use Rattle.cells.specs.Lists.{copied, laid}
 use Rattle.cells.proofs.Lists.{copied-whole}
-use Rattle.loadfile.specs.Layout.{headOf, frontOf, sealed, blockOf}
+use Rattle.loadfile.specs.Layout.{headOf, frontOf, sealed, blockWritten}
 use Rattle.loadfile.specs.File.{blocksOf, placesOf}
 use Rattle.loadfile.proofs.Sizes.{block-length, chunk-length, places-length, places-from}
 
@@ -33,8 +33,8 @@ pub block-put : (ℓ i n : ℕ) (chunk out o₁ y₁ y₂ : List ℕ) → 512 �
     → y₂ ≡ replicate (length (midOf (5 + length chunk) (510 - (5 + length chunk)) (putMid 5 (5 + length chunk - 5) o₁ y₁))) 255
     → sealed (take 510 (putMid (5 + length chunk) (510 - (5 + length chunk)) (putMid 5 (5 + length chunk - 5) o₁ y₁) y₂))
     ++ drop 512 (putMid (5 + length chunk) (510 - (5 + length chunk)) (putMid 5 (5 + length chunk - 5) o₁ y₁) y₂)
-    ≡ blockOf ℓ i n chunk ++ drop 512 out
-unfolding blockOf
+    ≡ blockWritten ℓ i n chunk ++ drop 512 out
+unfolding blockWritten
 block-put ℓ i n chunk out o₁ y₁ y₂ h k e₁ e₂ e₃ =
     let u = length chunk in
     let H = headOf ℓ i n u in
@@ -92,7 +92,7 @@ up-to a k xs = go (leb (a + k) (length xs)) refl
 
 -- the writer's walk, at block i of a room out: the block, and behind it what was there
 module _ (ℓ i n e : ℕ) (p out y : List ℕ) (h : i < n) (lo : 512 * n ≤ length out) (e₁ : e ≡ min (505 * i + 505) (length p))
-    (e₂ : y ≡ blockOf ℓ i n (take (e - 505 * i) (drop (505 * i) p)) ++ drop 512 (midOf (512 * i) (length out - 512 * i) out)) where
+    (e₂ : y ≡ blockWritten ℓ i n (take (e - 505 * i) (drop (505 * i) p)) ++ drop 512 (midOf (512 * i) (length out - 512 * i) out)) where
   abbrev chunk : List ℕ
   chunk = take 505 (drop (505 * i) p)
 
@@ -100,25 +100,25 @@ module _ (ℓ i n e : ℕ) (p out y : List ℕ) (h : i < n) (lo : 512 * n ≤ le
   rest = drop (512 * (i + 1)) out
 
   -- the room with block i put
-  put : putMid (512 * i) (length out - 512 * i) out y ≡ (take (512 * i) out ++ blockOf ℓ i n chunk) ++ rest
+  put : putMid (512 * i) (length out - 512 * i) out y ≡ (take (512 * i) out ++ blockWritten ℓ i n chunk) ++ rest
   put =
       let A = take (512 * i) out in
-      let B = blockOf ℓ i n chunk in
+      let B = blockWritten ℓ i n chunk in
       let k = length out - 512 * i in
       let lD : length (drop (512 * i) out) ≡ k = length-drop (512 * i) out in
       let d : 512 * i + 512 ≡ 512 * (i + 1) = omega arith in
       let x : drop k (drop (512 * i) out) ≡ [] = drop-of-length-le (drop (512 * i) out) {i = k} (omega arith) in
       let m : midOf (512 * i) k out ≡ drop (512 * i) out = take-all k (drop (512 * i) out) (omega arith) in
       let r : drop 512 (midOf (512 * i) k out) ≡ rest = ap (drop 512) m ∙ drop-drop 512 (512 * i) out ∙ ap (λ (j : ℕ). drop j out) d in
-      let b : blockOf ℓ i n (take (e - 505 * i) (drop (505 * i) p)) ≡ B =
-      ap (λ (j : ℕ). blockOf ℓ i n (take (j - 505 * i) (drop (505 * i) p))) e₁ ∙ ap (blockOf ℓ i n) (up-to (505 * i) 505 p) in
+      let b : blockWritten ℓ i n (take (e - 505 * i) (drop (505 * i) p)) ≡ B =
+      ap (λ (j : ℕ). blockWritten ℓ i n (take (j - 505 * i) (drop (505 * i) p))) e₁ ∙ ap (blockWritten ℓ i n) (up-to (505 * i) 505 p) in
       let yc : y ≡ B ++ rest = e₂ ∙ ap (λ (z : List ℕ). z ++ drop 512 (midOf (512 * i) k out)) b ∙ ap (λ (z : List ℕ). B ++ z) r in
       ap (λ (z : List ℕ). A ++ (y ++ z)) x ∙ ap (λ (z : List ℕ). A ++ z) (append-nil y ∙ yc) ∙ sym (append-assoc A B rest)
 
-  put-length : length (take (512 * i) out ++ blockOf ℓ i n chunk) ≡ 512 * (i + 1)
+  put-length : length (take (512 * i) out ++ blockWritten ℓ i n chunk) ≡ 512 * (i + 1)
   put-length =
       let A = take (512 * i) out in
-      let B = blockOf ℓ i n chunk in
+      let B = blockWritten ℓ i n chunk in
       let lA : length A ≡ 512 * i = length-take-le (512 * i) out (omega arith) in
       let lB : length B ≡ 512 = block-length ℓ i n chunk (chunk-length (drop (505 * i) p)) in
       length-append A B ∙ (let q : length A + length B ≡ 512 * (i + 1) = omega arith in q)
@@ -128,7 +128,7 @@ module _ (ℓ i n e : ℕ) (p out y : List ℕ) (h : i < n) (lo : 512 * n ≤ le
       ≡ take (512 * i) out ++ blocksOf (n - i) ℓ i n (drop (505 * i) p)
   packed =
       let A = take (512 * i) out in
-      let B = blockOf ℓ i n chunk in
+      let B = blockWritten ℓ i n chunk in
       let more = blocksOf (n - (i + 1)) ℓ (i + 1) n (drop (505 * (i + 1)) p) in
       let t : take (512 * (i + 1)) (putMid (512 * i) (length out - 512 * i) out y) ≡ A ++ B = ap (take (512 * (i + 1))) put ∙ take-at (A ++ B) rest (512 * (i + 1)) put-length in
       let k : n - i ≡ suc (n - (i + 1)) = omega arith in
@@ -140,7 +140,7 @@ module _ (ℓ i n e : ℕ) (p out y : List ℕ) (h : i < n) (lo : 512 * n ≤ le
 
   -- and what lies behind it is as it was
   pub behind : drop (512 * (i + 1)) (putMid (512 * i) (length out - 512 * i) out y) ≡ drop (512 * (i + 1)) out
-  behind = ap (drop (512 * (i + 1))) put ∙ drop-at (take (512 * i) out ++ blockOf ℓ i n chunk) rest (512 * (i + 1)) put-length
+  behind = ap (drop (512 * (i + 1))) put ∙ drop-at (take (512 * i) out ++ blockWritten ℓ i n chunk) rest (512 * (i + 1)) put-length
 
 -- lists that agree from block i on agree from the next block on
 pub further : (i : ℕ) (xs ys : List ℕ) → drop (512 * i) xs ≡ drop (512 * i) ys → drop (512 * (i + 1)) xs ≡ drop (512 * (i + 1)) ys

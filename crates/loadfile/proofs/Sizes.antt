@@ -8,7 +8,7 @@ use lib.Seq.{take-nil, drop-drop, length-take-le, take-all, take-take, take-appe
 use Rattle.cells.specs.Numbers.{given}
 use Rattle.blocks.specs.Block.{usedOf}
 use Rattle.blocks.proofs.Tables.{right, used-last, used-other}
-use Rattle.loadfile.specs.Layout.{headOf, frontOf, blockOf}
+use Rattle.loadfile.specs.Layout.{headOf, frontOf, blockWritten}
 use Rattle.loadfile.specs.File.{blocksOf, blocksRows, payloadOf, placesOf}
 
 -- the front of a block has 510 bytes, a block 512
@@ -19,8 +19,8 @@ front-length ℓ i n chunk h =
     let p : length P ≡ 505 - length chunk = length-replicate (505 - length chunk) 255 in
     length-append (headOf ℓ i n (length chunk)) (chunk ++ P) ∙ (let q : 5 + length (chunk ++ P) ≡ 510 = omega arith in q)
 
-pub block-length : (ℓ i n : ℕ) (chunk : List ℕ) → length chunk ≤ 505 → length (blockOf ℓ i n chunk) ≡ 512
-unfolding blockOf
+pub block-length : (ℓ i n : ℕ) (chunk : List ℕ) → length chunk ≤ 505 → length (blockWritten ℓ i n chunk) ≡ 512
+unfolding blockWritten
 block-length ℓ i n chunk h =
     let f : length (frontOf ℓ i n chunk) ≡ 510 = front-length ℓ i n chunk h in
     length-append (frontOf ℓ i n chunk) _ ∙ (let q : length (frontOf ℓ i n chunk) + 2 ≡ 512 = omega arith in q)
@@ -32,10 +32,10 @@ chunk-length p = simp length-take (omega arith)
 pub blocks-length : (left ℓ i n : ℕ) (p : List ℕ) → length (blocksOf left ℓ i n p) ≡ 512 * left
 blocks-length zero ℓ i n p = refl
 blocks-length (suc left) ℓ i n p =
-    let b : length (blockOf ℓ i n (take 505 p)) ≡ 512 = block-length ℓ i n (take 505 p) (chunk-length p) in
+    let b : length (blockWritten ℓ i n (take 505 p)) ≡ 512 = block-length ℓ i n (take 505 p) (chunk-length p) in
     let r : length (blocksOf left ℓ (i + 1) n (drop 505 p)) ≡ 512 * left = blocks-length left ℓ (i + 1) n (drop 505 p) in
-    length-append (blockOf ℓ i n (take 505 p)) (blocksOf left ℓ (i + 1) n (drop 505 p))
-    ∙ (let q : length (blockOf ℓ i n (take 505 p)) + length (blocksOf left ℓ (i + 1) n (drop 505 p)) ≡ 512 * suc left = omega arith in q)
+    length-append (blockWritten ℓ i n (take 505 p)) (blocksOf left ℓ (i + 1) n (drop 505 p))
+    ∙ (let q : length (blockWritten ℓ i n (take 505 p)) + length (blocksOf left ℓ (i + 1) n (drop 505 p)) ≡ 512 * suc left = omega arith in q)
 
 -- the payload places of so many blocks
 pub places-length : (left : ℕ) (f : List ℕ) → length f ≡ 512 * left → length (placesOf left f) ≡ 505 * left

@@ -7,7 +7,7 @@ use lib.Dec.{eqb, ltb}
 use Rattle.cells.specs.Choice.{if_then_else_}
 use Rattle.cells.specs.Numbers.{Row, row, given}
 use Rattle.blocks.specs.Block.{isLetter, blockRows, usedOf}
-use Rattle.loadfile.specs.Layout.{blockOf}
+use Rattle.loadfile.specs.Layout.{blockWritten}
 use Rattle.loadfile.specs.declared.Written.{Written}
 use Rattle.loadfile.specs.declared.Written.the-variants.{Wrote, NotWritten}
 use Rattle.loadfile.specs.declared.Judged.{Judged}
@@ -26,7 +26,7 @@ countOf size = (size + 504) / 505
 -- the blocks from number i of n on, with `left` of them to go and their payload
 abbrev pub blocksOf : ℕ → ℕ → ℕ → ℕ → List ℕ → List ℕ
 blocksOf zero ℓ i n p = []
-blocksOf (suc left) ℓ i n p = blockOf ℓ i n (take 505 p) ++ blocksOf left ℓ (i + 1) n (drop 505 p)
+blocksOf (suc left) ℓ i n p = blockWritten ℓ i n (take 505 p) ++ blocksOf left ℓ (i + 1) n (drop 505 p)
 
 -- the load file of a payload under a letter
 abbrev pub fileOf : ℕ → List ℕ → List ℕ

@@ -17,5 +17,5 @@ abbrev pub sealed : List ℕ → List ℕ
 sealed bs = bs ++ (checkOf bs / 256 ∷ checkOf bs % 256 ∷ [])
 
 -- block i of n, with its part of the payload
-unfoldable pub blockOf : ℕ → ℕ → ℕ → List ℕ → List ℕ
-blockOf ℓ i n chunk = sealed (frontOf ℓ i n chunk)
+unfoldable pub blockWritten : ℕ → ℕ → ℕ → List ℕ → List ℕ
+blockWritten ℓ i n chunk = sealed (frontOf ℓ i n chunk)

@@ -5,7 +5,7 @@ ghost use Prim.Native.Nat.{_+_, _-_, _*_, _<_, _≤_};
 ghost use lib.ListN.{length, getD, take, drop};
 ghost use Rattle.cells.specs.Numbers.{given};
 ghost use Rattle.blocks.specs.Block.{usedOf};
-ghost use Rattle.loadfile.specs.Layout.{headOf, sealed, blockOf};
+ghost use Rattle.loadfile.specs.Layout.{headOf, sealed, blockWritten};
 ghost use Rattle.loadfile.specs.File.{limit, countOf, blocksOf, payloadWrong, lengthWrong, blocksRows, placesOf, writerOf, readerOf, inRoom, leftIn, writtenAs, judgedAs, readAs};
 
 // The most blocks that a file has.
@@ -150,7 +150,7 @@ fn put_check(out: &mut [u8])
 // The front of out becomes block i of n with its part of the payload; what lies behind the block stays.
 fn put_block(out: &mut [u8], letter: u8, i: u8, n: u8, chunk: &[u8])
     requires { ⌜ (512 ≤ length (now out)) × (length (now chunk) ≤ 505) ⌝ }
-    ensures { λ _. ⌜ now (out .exit) ≡ blockOf letter i n (now (chunk .entry)) ++ drop 512 (now (out .entry)) ⌝ }
+    ensures { λ _. ⌜ now (out .exit) ≡ blockWritten letter i n (now (chunk .entry)) ++ drop 512 (now (out .entry)) ⌝ }
 {
     let u = chunk.len();
     let end = 5 + u;

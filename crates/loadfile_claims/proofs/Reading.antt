@@ -12,7 +12,7 @@ use Rattle.cells.specs.Numbers.{given}
 use Rattle.seal.specs.Check.{checkOf, checkWrong, storedOf}
 use Rattle.blocks.specs.Block.{isLetter, usedOf, part, letterWrong, placeWrong, paddingWrong}
 use Rattle.blocks.proofs.Tables.{Right, right, none-of-two, used-last, used-other}
-use Rattle.loadfile.specs.Layout.{headOf, frontOf, sealed, blockOf}
+use Rattle.loadfile.specs.Layout.{headOf, frontOf, sealed, blockWritten}
 use Rattle.loadfile.specs.File.{countOf, blocksOf, fileOf, blocksRows, payloadOf, blocksIn, made, readerOf, writerOf}
 use Rattle.loadfile.proofs.Sizes.{sized}
 use Rattle.loadfile.proofs.Outcomes.{length-right, payload-fits, reader-lets, writer-made}
@@ -88,8 +88,8 @@ module _ (first i n : ℕ) (b : List ℕ) (r : Right first i n b) (long : length
       ∙ (λ j. h j ∷ l j ∷ [])
 
   -- it is the block that would be written
-  pub block-is : b ≡ blockOf first i n (take (usedOf b) (drop 5 b))
-  unfolding blockOf
+  pub block-is : b ≡ blockWritten first i n (take (usedOf b) (drop 5 b))
+  unfolding blockWritten
   block-is =
       sym (take-append-drop 510 b)
       ∙ ap (λ (x : List ℕ). take 510 b ++ x) tail-is
@@ -110,7 +110,7 @@ blocks-are (suc zero) first i n f z s l bytes g =
     let x = letter-is first i n B r lB (u .1) (byte-take 512 f 3 (omega arith) bytes) (byte-take 512 f 4 (omega arith) bytes) (byte-take 512 f 511 (omega arith) bytes) in
     let lC : length C ≤ 505 = (let q : length C ≡ usedOf B = length-take-le (usedOf B) (drop 5 B) (let d : length (drop 5 B) ≡ length B - 5 = length-drop 5 B in omega arith) in omega arith) in
     let c : take 505 (C ++ []) ≡ C = ap (take 505) (append-nil C) ∙ take-all 505 C lC in (
-      sym t ∙ w ∙ ap (blockOf first i n) (sym c) ∙ sym (append-nil _),
+      sym t ∙ w ∙ ap (blockWritten first i n) (sym c) ∙ sym (append-nil _),
       ap isLetter (sym (x .1)) ∙ x .0,
     )
 blocks-are (suc (suc left)) first i n f z s l bytes g =
@@ -127,8 +127,8 @@ blocks-are (suc (suc left)) first i n f z s l bytes g =
     let P = payloadOf (suc left) (drop 512 f) in
     let y = blocks-are (suc left) first (i + 1) n (drop 512 f) (omega arith) (omega arith) lD (bytes-drop 512 f bytes) (R .1) in (
       sym (take-append-drop 512 f)
-          ∙ ap (λ (k : List ℕ). k ++ drop 512 f) (w ∙ ap (blockOf first i n) (sym (take-at C P 505 lC)))
-          ∙ ap (λ (k : List ℕ). blockOf first i n (take 505 (C ++ P)) ++ k) (y .0 ∙ ap (blocksOf (suc left) first (i + 1) n) (sym (drop-at C P 505 lC))),
+          ∙ ap (λ (k : List ℕ). k ++ drop 512 f) (w ∙ ap (blockWritten first i n) (sym (take-at C P 505 lC)))
+          ∙ ap (λ (k : List ℕ). blockWritten first i n (take 505 (C ++ P)) ++ k) (y .0 ∙ ap (blocksOf (suc left) first (i + 1) n) (sym (drop-at C P 505 lC))),
       ap isLetter (sym (x .1)) ∙ x .0,
     )
 

@@ -13,7 +13,7 @@ use Rattle.cells.specs.Numbers.{given}
 use Rattle.seal.specs.Check.{checkOf, checkWrong, storedOf, pair}
 use Rattle.blocks.specs.Block.{isLetter, letters, within, allAre, usedOf, part, letterWrong, placeWrong, usedWrong, paddingWrong, blockRows}
 use Rattle.blocks.proofs.Tables.{Right, right-given}
-use Rattle.loadfile.specs.Layout.{headOf, frontOf, blockOf}
+use Rattle.loadfile.specs.Layout.{headOf, frontOf, blockWritten}
 use Rattle.loadfile.specs.File.{countOf, blocksOf, fileOf, blocksRows, payloadOf, blocksIn, refused, made, lengthWrong, readerOf, writerOf}
 use Rattle.loadfile.proofs.Sizes.{front-length, block-length, chunk-length, blocks-length}
 use Rattle.loadfile.proofs.Outcomes.{payload-right, length-fits, reader-made, reader-35, writer-lets}
@@ -31,12 +31,12 @@ module _ (ℓ i n : ℕ) (chunk : List ℕ) (few : length chunk ≤ 505) where
   T : List ℕ
   T = C / 256 ∷ C % 256 ∷ []
 
-  front : take 510 (blockOf ℓ i n chunk) ≡ frontOf ℓ i n chunk
-  unfolding blockOf F C T
+  front : take 510 (blockWritten ℓ i n chunk) ≡ frontOf ℓ i n chunk
+  unfolding blockWritten F C T
   front = take-at F T 510 (front-length ℓ i n chunk few)
 
-  stored : storedOf (blockOf ℓ i n chunk) ≡ checkOf (frontOf ℓ i n chunk)
-  unfolding blockOf F C T
+  stored : storedOf (blockWritten ℓ i n chunk) ≡ checkOf (frontOf ℓ i n chunk)
+  unfolding blockWritten F C T
   stored =
       let l : length F ≡ 510 = front-length ℓ i n chunk few in
       let h : getD (F ++ T) 510 0 ≡ C / 256 = getD-at F (C / 256) (C % 256 ∷ []) 0 510 l in
@@ -44,12 +44,12 @@ module _ (ℓ i n : ℕ) (chunk : List ℕ) (few : length chunk ≤ 505) where
       let k : getD (F ++ T) 511 0 ≡ C % 256 = ap (λ (m : ℕ). getD (F ++ T) m 0) w ∙ getD-append-add F T 1 0 in
       (λ j. pair (h j) (k j)) ∙ (let q : C / 256 * 256 + C % 256 ≡ C = omega arith in q)
 
-  check-good : checkWrong (blockOf ℓ i n chunk) ≡ false
+  check-good : checkWrong (blockWritten ℓ i n chunk) ≡ false
   unfolding checkWrong
   check-good = ap not (eq-eqb _ _ (ap checkOf front ∙ sym stored))
 
-  used-is : usedOf (blockOf ℓ i n chunk) ≡ length chunk
-  unfolding blockOf
+  used-is : usedOf (blockWritten ℓ i n chunk) ≡ length chunk
+  unfolding blockWritten
   used-is = let u = length chunk in let q : u / 256 * 256 + u % 256 ≡ u = omega arith in q
 
   P : List ℕ
@@ -63,52 +63,52 @@ module _ (ℓ i n : ℕ) (chunk : List ℕ) (few : length chunk ≤ 505) where
   unfolding P
   pad-all = repeated-all 255 (505 - length chunk)
 
-  opened : blockOf ℓ i n chunk ≡ (headOf ℓ i n (length chunk) ++ chunk) ++ (P ++ T)
-  unfolding blockOf F C T P
+  opened : blockWritten ℓ i n chunk ≡ (headOf ℓ i n (length chunk) ++ chunk) ++ (P ++ T)
+  unfolding blockWritten F C T P
   opened = ap (λ (z : List ℕ). headOf ℓ i n (length chunk) ++ z) (append-assoc chunk P T)
 
-  padding-good : paddingWrong (blockOf ℓ i n chunk) ≡ false
+  padding-good : paddingWrong (blockWritten ℓ i n chunk) ≡ false
   unfolding paddingWrong
   padding-good =
       let u = length chunk in
       let A = headOf ℓ i n u ++ chunk in
       let lP : length P ≡ 510 - (5 + u) = pad-length ∙ (let q : 505 - u ≡ 510 - (5 + u) = omega arith in q) in
-      let t : part (5 + u) 510 (blockOf ℓ i n chunk) ≡ P =
+      let t : part (5 + u) 510 (blockWritten ℓ i n chunk) ≡ P =
       ap (part (5 + u) 510) opened ∙ ap (take (510 - (5 + u))) (drop-at A (P ++ T) (5 + u) (length-append (headOf ℓ i n u) chunk)) ∙ take-at P T (510 - (5 + u)) lP in
-      ap (λ (k : ℕ). not (allAre 255 (part (5 + k) 510 (blockOf ℓ i n chunk)))) used-is ∙ ap (λ (z : List ℕ). not (allAre 255 z)) t ∙ ap not pad-all
+      ap (λ (k : ℕ). not (allAre 255 (part (5 + k) 510 (blockWritten ℓ i n chunk)))) used-is ∙ ap (λ (z : List ℕ). not (allAre 255 z)) t ∙ ap not pad-all
 
-  chunk-back : take (usedOf (blockOf ℓ i n chunk)) (drop 5 (blockOf ℓ i n chunk)) ≡ chunk
+  chunk-back : take (usedOf (blockWritten ℓ i n chunk)) (drop 5 (blockWritten ℓ i n chunk)) ≡ chunk
   chunk-back =
-      ap (λ (k : ℕ). take k (drop 5 (blockOf ℓ i n chunk))) used-is
+      ap (λ (k : ℕ). take k (drop 5 (blockWritten ℓ i n chunk))) used-is
       ∙ ap (λ (z : List ℕ). take (length chunk) (drop 5 z)) opened
       ∙ take-at chunk (P ++ T) (length chunk) refl
 
-  letter-good : isLetter ℓ ≡ true → letterWrong ℓ (blockOf ℓ i n chunk) ≡ false
-  unfolding letterWrong blockOf
+  letter-good : isLetter ℓ ≡ true → letterWrong ℓ (blockWritten ℓ i n chunk) ≡ false
+  unfolding letterWrong blockWritten
   letter-good e = let q : eqb ℓ ℓ ≡ true = eq-eqb ℓ ℓ refl in simp (e, q)
 
-  place-good : placeWrong i n (blockOf ℓ i n chunk) ≡ false
-  unfolding placeWrong blockOf
+  place-good : placeWrong i n (blockWritten ℓ i n chunk) ≡ false
+  unfolding placeWrong blockWritten
   place-good = let q : eqb i i ≡ true = eq-eqb i i refl in let r : eqb n n ≡ true = eq-eqb n n refl in simp (q, r)
 
-  used-good-last : i + 1 ≡ n → 0 < length chunk → usedWrong i n (blockOf ℓ i n chunk) ≡ false
+  used-good-last : i + 1 ≡ n → 0 < length chunk → usedWrong i n (blockWritten ℓ i n chunk) ≡ false
   unfolding usedWrong
   used-good-last e z =
-      let a : eqb (usedOf (blockOf ℓ i n chunk)) 0 ≡ false = ne-eqb (usedOf (blockOf ℓ i n chunk)) 0 (λ (q : usedOf (blockOf ℓ i n chunk) ≡ 0). (omega (arith, used-is))) in
-      let b : ltb 505 (usedOf (blockOf ℓ i n chunk)) ≡ false = le-ltb 505 (usedOf (blockOf ℓ i n chunk)) (omega (arith, used-is)) in
-      if-true (eqb (i + 1) n) _ _ (eq-eqb _ _ e) ∙ ap (λ (t : Bool). t || ltb 505 (usedOf (blockOf ℓ i n chunk))) a ∙ b
+      let a : eqb (usedOf (blockWritten ℓ i n chunk)) 0 ≡ false = ne-eqb (usedOf (blockWritten ℓ i n chunk)) 0 (λ (q : usedOf (blockWritten ℓ i n chunk) ≡ 0). (omega (arith, used-is))) in
+      let b : ltb 505 (usedOf (blockWritten ℓ i n chunk)) ≡ false = le-ltb 505 (usedOf (blockWritten ℓ i n chunk)) (omega (arith, used-is)) in
+      if-true (eqb (i + 1) n) _ _ (eq-eqb _ _ e) ∙ ap (λ (t : Bool). t || ltb 505 (usedOf (blockWritten ℓ i n chunk))) a ∙ b
 
-  used-good-other : (i + 1 ≡ n → ⊥) → length chunk ≡ 505 → usedWrong i n (blockOf ℓ i n chunk) ≡ false
+  used-good-other : (i + 1 ≡ n → ⊥) → length chunk ≡ 505 → usedWrong i n (blockWritten ℓ i n chunk) ≡ false
   unfolding usedWrong
   used-good-other e z = if-false (eqb (i + 1) n) _ _ (ne-eqb _ _ e) ∙ ap not (eq-eqb _ 505 (used-is ∙ z))
 
-  pub block-right-last : isLetter ℓ ≡ true → i + 1 ≡ n → 0 < length chunk → Right ℓ i n (blockOf ℓ i n chunk)
+  pub block-right-last : isLetter ℓ ≡ true → i + 1 ≡ n → 0 < length chunk → Right ℓ i n (blockWritten ℓ i n chunk)
   block-right-last e l z = record { check = check-good; letter = letter-good e; place = place-good; used = used-good-last l z; padding = padding-good }
 
-  pub block-right-other : isLetter ℓ ≡ true → (i + 1 ≡ n → ⊥) → length chunk ≡ 505 → Right ℓ i n (blockOf ℓ i n chunk)
+  pub block-right-other : isLetter ℓ ≡ true → (i + 1 ≡ n → ⊥) → length chunk ≡ 505 → Right ℓ i n (blockWritten ℓ i n chunk)
   block-right-other e l z = record { check = check-good; letter = letter-good e; place = place-good; used = used-good-other l z; padding = padding-good }
 
-  pub chunk-of : take (usedOf (blockOf ℓ i n chunk)) (drop 5 (blockOf ℓ i n chunk)) ≡ chunk
+  pub chunk-of : take (usedOf (blockWritten ℓ i n chunk)) (drop 5 (blockWritten ℓ i n chunk)) ≡ chunk
   chunk-of = chunk-back
 
 -- all blocks of a payload: nothing is refused, and the payload comes back
@@ -117,7 +117,7 @@ pub blocks-right : (left ℓ i n : ℕ) (p : List ℕ) → isLetter ℓ ≡ true
 blocks-right zero ℓ i n p e z s h k = absurd (omega arith)
 blocks-right (suc zero) ℓ i n p e z s h k =
     let c = take 505 p in
-    let B = blockOf ℓ i n c in
+    let B = blockWritten ℓ i n c in
     let few = chunk-length p in
     let t : take 512 (B ++ []) ≡ B = take-at B [] 512 (block-length ℓ i n c few) in
     let whole : c ≡ p = take-all 505 p (omega arith) in
@@ -127,7 +127,7 @@ blocks-right (suc zero) ℓ i n p e z s h k =
     )
 blocks-right (suc (suc left)) ℓ i n p e z s h k =
     let c = take 505 p in
-    let B = blockOf ℓ i n c in
+    let B = blockWritten ℓ i n c in
     let few = chunk-length p in
     let R = blocksOf (suc left) ℓ (i + 1) n (drop 505 p) in
     let t : take 512 (B ++ R) ≡ B = take-at B R 512 (block-length ℓ i n c few) in
@@ -154,7 +154,7 @@ file-size ℓ p =
     ap (λ (m : ℕ). m / 512) l ∙ (let q : 512 * k / 512 ≡ k = omega arith in q)
 
 first-letter : (left ℓ i n : ℕ) (p : List ℕ) → getD (blocksOf (suc left) ℓ i n p) 0 0 ≡ ℓ
-unfolding blockOf
+unfolding blockWritten
 first-letter left ℓ i n p = refl
 
 pub file-letter : (ℓ : ℕ) (p : List ℕ) → 0 < length p → getD (fileOf ℓ p) 0 0 ≡ ℓ
@@ -215,8 +215,8 @@ letter-byte ℓ e =
     within-bytes ℓ letters
     (each-bytes (more (omega arith) (more (omega arith) (more (omega arith) (more (omega arith) (more (omega arith) (more (omega arith) (more (omega arith) (more (omega arith) none))))))))) e
 
-block-bytes : (ℓ i n : ℕ) (chunk : List ℕ) → ℓ < 256 → i < 256 → n < 256 → length chunk ≤ 505 → Bytes chunk → Bytes (blockOf ℓ i n chunk)
-unfolding blockOf checkOf
+block-bytes : (ℓ i n : ℕ) (chunk : List ℕ) → ℓ < 256 → i < 256 → n < 256 → length chunk ≤ 505 → Bytes chunk → Bytes (blockWritten ℓ i n chunk)
+unfolding blockWritten checkOf
 block-bytes ℓ i n chunk a b c few h =
     let u = length chunk in
     let F = frontOf ℓ i n chunk in
@@ -230,7 +230,7 @@ block-bytes ℓ i n chunk a b c few h =
 blocks-bytes : (left ℓ i n : ℕ) (p : List ℕ) → ℓ < 256 → i + left ≤ n → n < 256 → Bytes p → Bytes (blocksOf left ℓ i n p)
 blocks-bytes zero ℓ i n p a b c h = bytes-none
 blocks-bytes (suc left) ℓ i n p a b c h =
-    bytes-append (blockOf ℓ i n (take 505 p)) (blocksOf left ℓ (i + 1) n (drop 505 p))
+    bytes-append (blockWritten ℓ i n (take 505 p)) (blocksOf left ℓ (i + 1) n (drop 505 p))
     (block-bytes ℓ i n (take 505 p) a (omega arith) c (chunk-length p) (bytes-take 505 p h))
     (blocks-bytes left ℓ (i + 1) n (drop 505 p) a (omega arith) c (bytes-drop 505 p h))
 

@@ -24,7 +24,7 @@ use Rattle.bus.proofs.Facts.{proper-parts, parts-proper}
 use Rattle.model.specs.declared.Seen.the-variants.{Byte, Refused}
 use Rattle.model.specs.declared.Answer.{Answer}
 use Rattle.model.specs.Arrays.{Accepted, answerOf, arrayAfter}
-use Rattle.model.specs.Inner.{answerJudged, arrayJudged, programmedAt, erasedAt}
+use Rattle.model.specs.Inner.{answerJudged, arrayJudged}
 use Rattle.model.specs.Begun.{operationOf, pendingOf, startsOf, begunBy, begunFrom}
 use Rattle.chip.specs.Phases.{isBusy, isAwaited}
 use Rattle.model.proofs.Keeping as keeping
@@ -125,9 +125,3 @@ after-judging-unique d s c xs rs = only (answerJudged d s c xs rs)
 
 pub after-judging-array-unique : (d : Device) (s : State) (c : Cycle) (xs rs : List ℕ) → Unique (λ (left : List ℕ). left ≡ arrayJudged d s c xs rs)
 after-judging-array-unique d s c xs rs = only (arrayJudged d s c xs rs)
-
-pub program-at-unique : (a b : ℕ) (xs : List ℕ) → Unique (λ (left : List ℕ). left ≡ programmedAt a b xs)
-program-at-unique a b xs = only (programmedAt a b xs)
-
-pub erase-at-unique : (part : Part) (a : ℕ) (xs : List ℕ) → Unique (λ (left : List ℕ). left ≡ erasedAt part a xs)
-erase-at-unique part a xs = only (erasedAt part a xs)

@@ -26,7 +26,7 @@ use Rattle.chip.specs.declared.Effect.the-variants.{Nothing, Erase}
 use Rattle.chip.specs.Levels.{rpLow, vppLow, locked}
 use Rattle.chip.specs.States.{resetOf}
 use Rattle.commands.specs.Commands.{firstWrite, afterErase, whileErasing, whileSuspended, commandOf, actionOf, performedOf, startedOf, unsupplied}
-use Rattle.settling.specs.Settling.{settledAs, cutOf, endOf, cutBy, countedOff, settleOf}
+use Rattle.settling.specs.Settling.{settledAs, cutOf, finishOf, cutBy, countedOff, settleOf}
 use Rattle.bus.specs.Cycles.{numberOf, decideOf, acceptOf, respondOf}
 use Rattle.bus.proofs.Ways.{refused, accepted}
 use Rattle.model.proofs.Outcome.{outcome, accept-ways, accept-effect}
@@ -43,7 +43,7 @@ cut-same (Programming b) part a = refl
 cut-same Erasing part a = refl
 cut-same Suspended part a = refl
 
-end-same : (ph : Phase) (part : Part) (a : ℕ) → isBusy ph ≡ true → operationOf (endOf ph part a) ≡ pendingIn ph part a
+end-same : (ph : Phase) (part : Part) (a : ℕ) → isBusy ph ≡ true → operationOf (finishOf ph part a) ≡ pendingIn ph part a
 end-same Free part a b = refl
 end-same EraseAwaited part a b = refl
 end-same DataAwaited part a b = refl

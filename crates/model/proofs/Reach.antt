@@ -19,7 +19,7 @@ use Rattle.chip.specs.declared.Phase.the-variants.{Free, EraseAwaited, DataAwai
 use Rattle.chip.specs.Levels.{rpLow, vppLow}
 use Rattle.chip.specs.Inner.{badAddress}
 use Rattle.chip.specs.Phases.{isPending, isBusy}
-use Rattle.settling.specs.Settling.{cutOf, endOf, residueFor, cutBy, countedOff, settleOf}
+use Rattle.settling.specs.Settling.{cutOf, finishOf, residueFor, cutBy, countedOff, settleOf}
 use Rattle.bus.specs.Cycles.{shortResidue, decideOf}
 use Rattle.bus.proofs.Facts.{Fine}
 use Rattle.model.proofs.Outcome.{outcome, accept-effect}
@@ -36,7 +36,7 @@ cut-within Erasing part a n r e b h = (e, h)
 cut-within Suspended part a n r e b h = (e, h)
 
 end-within : (ph : Phase) (part : Part) (a n r : ℕ) → n ≡ sizeOf part → (if isPending ph then leb (sizeOf part) a else not (eqb a 0)) ≡ false
-    → Within (endOf ph part a) part n r
+    → Within (finishOf ph part a) part n r
 end-within Free part a n r e b = refl
 end-within EraseAwaited part a n r e b = refl
 end-within DataAwaited part a n r e b = refl

@@ -24,7 +24,7 @@ use Rattle.chip.specs.declared.Effect.the-variants.{Nothing}
 use Rattle.chip.specs.Levels.{rpLow}
 use Rattle.chip.specs.Phases.{isBusy}
 use Rattle.settling.specs.Settling.{settleOf}
-use Rattle.bus.specs.Cycles.{tableOf, numberOf, decideOf, acceptOf, respondOf, readOf, decidedAs}
+use Rattle.bus.specs.Cycles.{tableOf, numberOf, decideOf, acceptOf, respondOf, replyTo, decidedAs}
 use mathlib.Core.Bool.{true, false, Bool}
 use Rattle.cells.proofs.Choice.{unlike}
 use Rattle.bus.proofs.Ways.{refused, accepted}
@@ -46,7 +46,7 @@ refusal (Refuses m) = m
 accept-answers : (d : Device) (c : Cycle) (t : Settled) → isRefusal (acceptOf d c t .reply) ≡ false
 accept-answers d c t = accept-ways d c t (λ (x : Decision). isRefusal (x .reply) ≡ false) (λ e. refl) (λ e k q. kinds k)
   where
-    reads : (m : Mode) → isRefusal (readOf m (d .part) (c .address) (t .state .status)) ≡ false
+    reads : (m : Mode) → isRefusal (replyTo m (d .part) (c .address) (t .state .status)) ≡ false
     reads Array = refl
     reads Status = refl
     reads Identifier = refl
@@ -139,7 +139,7 @@ module _ (d : Device) (s : State) (c : Cycle) (xs rs : List ℕ) where
       let t : Settled = settleOf (d .part) s (c .pins) in
       let e : decideOf d s c (length xs) (length rs) ≡ decidedAs (Gives (t .state .status)) (t .state) (t .effect) =
       accepted d s c (length xs) (length rs) (host-zero a) ∙ accept-up d c t up ∙ ap (λ (x : Kind). respondOf x d c t) k
-      ∙ ap (λ (x : Mode). decidedAs (readOf x (d .part) (c .address) (t .state .status)) (t .state) (t .effect)) m in
+      ∙ ap (λ (x : Mode). decidedAs (replyTo x (d .part) (c .address) (t .state .status)) (t .state) (t .effect)) m in
       ap (λ (x : Decision). seenOf (x .reply) (arrayAfter d s c xs rs)) e ∙ sym (ap (λ (x : Decision). Byte (x .state .status)) e)
 
   pub busy-read : Accepted (answerOf d s c xs rs) → c .kind ≡ Read → rpLow (c .pins) ≡ false → isBusy (settleOf (d .part) s (c .pins) .state .phase) ≡ true

@@ -40,14 +40,6 @@ findsIn (CutErase k) part n r = eqb n (sizeOf part) && leb (lengthOf part k) r
 abbrev pub doneOf : Effect → Part → List ℕ → List ℕ → List ℕ
 doneOf e part rs xs = if findsIn e part (length xs) (length rs) then arrayOf e part rs xs else xs
 
--- a program that ends, on any array
-unfoldable pub programmedAt : ℕ → ℕ → List ℕ → List ℕ
-programmedAt at b xs = if ltb at (length xs) then set xs at (bitAnd (getD xs at 0) b) else xs
-
--- an erase that ends, on any array
-unfoldable pub erasedAt : Part → ℕ → List ℕ → List ℕ
-erasedAt part a xs = if eqb (length xs) (sizeOf part) then erased part (blockOf part a) xs else xs
-
 -- the array after a cycle that was judged: only where refusals 1 to 6 do not apply
 unfoldable pub arrayJudged : Device → State → Cycle → List ℕ → List ℕ → List ℕ
 arrayJudged d s c xs rs = doneOf (decideJudged d s c .effect) (d .part) rs xs

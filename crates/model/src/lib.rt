@@ -14,7 +14,7 @@ ghost use Rattle.chip.specs.States.{freshState, resetOf};
 ghost use Rattle.device.specs.Parts.{sizeOf, lengthOf};
 ghost use Rattle.model.specs.declared.Seen.the-variants.{Byte, Refused};
 ghost use Rattle.model.specs.Arrays.{erased, residual, arrayOf, seenOf, answerOf, arrayAfter};
-ghost use Rattle.model.specs.Inner.{findsIn, doneOf, programmedAt, erasedAt, answerJudged, arrayJudged, Within};
+ghost use Rattle.model.specs.Inner.{findsIn, doneOf, answerJudged, arrayJudged, Within};
 
 // What the host sees of a cycle: no data, a byte, or a refusal by its number.
 pub enum Seen {
@@ -110,24 +110,6 @@ fn put(effect: Effect, part: Part, array: &mut [u8], residue: &[u8])
 {
     if finds(effect, part, array.len(), residue.len()) {
         return apply(effect, part, array, residue);
-    }
-}
-
-// A program that ends: nothing where its byte is not there.
-pub fn program_at(address: u32, byte: u8, array: &mut [u8])
-    ensures { λ _. ⌜ now (array .exit) ≡ programmedAt address byte (now (array .entry)) ⌝ }
-{
-    if index(address) < array.len() {
-        return program(array, address, byte);
-    }
-}
-
-// An erase that ends: nothing where the array is not the part's.
-pub fn erase_at(part: Part, address: u32, array: &mut [u8])
-    ensures { λ _. ⌜ now (array .exit) ≡ erasedAt part address (now (array .entry)) ⌝ }
-{
-    if array.len() == device::size(part) {
-        return erase(part, device::block_of(part, address), array);
     }
 }
 

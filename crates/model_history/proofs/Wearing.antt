@@ -29,7 +29,7 @@ use Rattle.model.specs.Begun.{operationOf, pendingOf, begunBy}
 use Rattle.model.proofs.Reach.{within}
 use Rattle.model.proofs.Contents.{cycle-length}
 use Rattle.model.proofs.Lives.{conserved}
-use Rattle.model_history.specs.History.{Bus, World, stepped, worldAfter, effectBy, effectsIn, begunOver, isCut, uncut, total, eraseOf, programAt, programIn}
+use Rattle.model_history.specs.History.{Bus, World, stepped, worldAfter, effectBy, effectsIn, begunOver, isCut, uncut, totalOf, eraseOf, programAt, programIn}
 
 -- what an uncut effect makes of the byte v at address x
 abbrev pub byteBy : Part → ℕ → Effect → ℕ → ℕ
@@ -155,18 +155,18 @@ under v b f h =
     ap (λ (x : ℕ). bitAnd v x) (sym h) ∙ sym (and-three v (bitAnd v b) f) ∙ ap (λ (x : ℕ). bitAnd x f) (sym (and-three v v b) ∙ ap (λ (x : ℕ). bitAnd x b) (and-self v)) ∙ h
 
 -- without an erase of its block a byte only loses bits
-pub only-loses : (es : List Effect) (part : Part) (x v : ℕ) → total (eraseOf (blockOf part x)) es ≡ 0 → bitAnd v (byteAll part x es v) ≡ byteAll part x es v
+pub only-loses : (es : List Effect) (part : Part) (x v : ℕ) → totalOf (eraseOf (blockOf part x)) es ≡ 0 → bitAnd v (byteAll part x es v) ≡ byteAll part x es v
 only-loses [] part x v z = and-self v
 only-loses (Nothing ∷ es) part x v z = only-loses es part x v (omega arith)
 only-loses (Program at b ∷ es) part x v z = go (eqb at x) (only-loses es part x)
   where
-    go : (t : Bool) → ((u : ℕ) → total (eraseOf (blockOf part x)) es ≡ 0 → bitAnd u (byteAll part x es u) ≡ byteAll part x es u)
+    go : (t : Bool) → ((u : ℕ) → totalOf (eraseOf (blockOf part x)) es ≡ 0 → bitAnd u (byteAll part x es u) ≡ byteAll part x es u)
         → bitAnd v (byteAll part x es (if t then bitAnd v b else v)) ≡ byteAll part x es (if t then bitAnd v b else v)
     go true more = under v b (byteAll part x es (bitAnd v b)) (more (bitAnd v b) (omega arith))
     go false more = more v (omega arith)
 only-loses (Erase j ∷ es) part x v z = go (eqb j (blockOf part x)) refl (only-loses es part x v)
   where
-    go : (t : Bool) → eqb j (blockOf part x) ≡ t → (total (eraseOf (blockOf part x)) es ≡ 0 → bitAnd v (byteAll part x es v) ≡ byteAll part x es v)
+    go : (t : Bool) → eqb j (blockOf part x) ≡ t → (totalOf (eraseOf (blockOf part x)) es ≡ 0 → bitAnd v (byteAll part x es v) ≡ byteAll part x es v)
         → bitAnd v (byteAll part x es (if eqb j (blockOf part x) then (ones part) else v)) ≡ byteAll part x es (if eqb j (blockOf part x) then (ones part) else v)
     go true t more = absurd (let q = rw t at z in omega arith)
     go false t more = rw t (more (let q = rw t at z in omega arith))
@@ -174,30 +174,30 @@ only-loses (CutProgram at b ∷ es) part x v z = only-loses es part x v (omega a
 only-loses (CutErase j ∷ es) part x v z = only-loses es part x v (omega arith)
 
 -- without a program on it a byte is as it was, or all ones after an erase of its block
-pub unprogrammed : (es : List Effect) (part : Part) (x v : ℕ) → total (programAt x) es ≡ 0
-    → byteAll part x es v ≡ (if eqb (total (eraseOf (blockOf part x)) es) 0 then v else (ones part))
+pub unprogrammed : (es : List Effect) (part : Part) (x v : ℕ) → totalOf (programAt x) es ≡ 0
+    → byteAll part x es v ≡ (if eqb (totalOf (eraseOf (blockOf part x)) es) 0 then v else (ones part))
 unprogrammed [] part x v z = refl
-unprogrammed (Nothing ∷ es) part x v z = unprogrammed es part x v (omega arith) ∙ ap (λ (n : ℕ). (if eqb n 0 then v else (ones part))) (let q : total (eraseOf (blockOf part x)) es ≡ 0 + total (eraseOf (blockOf part x)) es = omega arith in q)
+unprogrammed (Nothing ∷ es) part x v z = unprogrammed es part x v (omega arith) ∙ ap (λ (n : ℕ). (if eqb n 0 then v else (ones part))) (let q : totalOf (eraseOf (blockOf part x)) es ≡ 0 + totalOf (eraseOf (blockOf part x)) es = omega arith in q)
 unprogrammed (Program at b ∷ es) part x v z = go (eqb at x) refl (unprogrammed es part x v)
   where
-    go : (t : Bool) → eqb at x ≡ t → (total (programAt x) es ≡ 0 → byteAll part x es v ≡ (if eqb (total (eraseOf (blockOf part x)) es) 0 then v else (ones part)))
-        → byteAll part x es (if eqb at x then bitAnd v b else v) ≡ (if eqb (0 + total (eraseOf (blockOf part x)) es) 0 then v else (ones part))
+    go : (t : Bool) → eqb at x ≡ t → (totalOf (programAt x) es ≡ 0 → byteAll part x es v ≡ (if eqb (totalOf (eraseOf (blockOf part x)) es) 0 then v else (ones part)))
+        → byteAll part x es (if eqb at x then bitAnd v b else v) ≡ (if eqb (0 + totalOf (eraseOf (blockOf part x)) es) 0 then v else (ones part))
     go true t more = absurd (let q = rw t at z in omega arith)
     go false t more =
         rw t (more (let q = rw t at z in omega arith))
-        ∙ ap (λ (n : ℕ). (if eqb n 0 then v else (ones part))) (let q : total (eraseOf (blockOf part x)) es ≡ 0 + total (eraseOf (blockOf part x)) es = omega arith in q)
+        ∙ ap (λ (n : ℕ). (if eqb n 0 then v else (ones part))) (let q : totalOf (eraseOf (blockOf part x)) es ≡ 0 + totalOf (eraseOf (blockOf part x)) es = omega arith in q)
 unprogrammed (Erase j ∷ es) part x v z = go (eqb j (blockOf part x)) refl (unprogrammed es part x)
   where
-    go : (t : Bool) → eqb j (blockOf part x) ≡ t → ((u : ℕ) → total (programAt x) es ≡ 0 → byteAll part x es u ≡ (if eqb (total (eraseOf (blockOf part x)) es) 0 then u else (ones part)))
-        → byteAll part x es (if eqb j (blockOf part x) then (ones part) else v) ≡ (if eqb ((if eqb j (blockOf part x) then 1 else 0) + total (eraseOf (blockOf part x)) es) 0 then v else (ones part))
+    go : (t : Bool) → eqb j (blockOf part x) ≡ t → ((u : ℕ) → totalOf (programAt x) es ≡ 0 → byteAll part x es u ≡ (if eqb (totalOf (eraseOf (blockOf part x)) es) 0 then u else (ones part)))
+        → byteAll part x es (if eqb j (blockOf part x) then (ones part) else v) ≡ (if eqb ((if eqb j (blockOf part x) then 1 else 0) + totalOf (eraseOf (blockOf part x)) es) 0 then v else (ones part))
     go true t more =
         rw t
-        (more (ones part) (omega arith) ∙ if-same (eqb (total (eraseOf (blockOf part x)) es) 0) (ones part)
-        ∙ sym (if-false (eqb (1 + total (eraseOf (blockOf part x)) es) 0) v (ones part) (ne-eqb (1 + total (eraseOf (blockOf part x)) es) 0 (λ q. omega arith))))
+        (more (ones part) (omega arith) ∙ if-same (eqb (totalOf (eraseOf (blockOf part x)) es) 0) (ones part)
+        ∙ sym (if-false (eqb (1 + totalOf (eraseOf (blockOf part x)) es) 0) v (ones part) (ne-eqb (1 + totalOf (eraseOf (blockOf part x)) es) 0 (λ q. omega arith))))
     go false t more =
-        rw t (more v (omega arith) ∙ ap (λ (n : ℕ). (if eqb n 0 then v else (ones part))) (let q : total (eraseOf (blockOf part x)) es ≡ 0 + total (eraseOf (blockOf part x)) es = omega arith in q))
-unprogrammed (CutProgram at b ∷ es) part x v z = unprogrammed es part x v (omega arith) ∙ ap (λ (n : ℕ). (if eqb n 0 then v else (ones part))) (let q : total (eraseOf (blockOf part x)) es ≡ 0 + total (eraseOf (blockOf part x)) es = omega arith in q)
-unprogrammed (CutErase j ∷ es) part x v z = unprogrammed es part x v (omega arith) ∙ ap (λ (n : ℕ). (if eqb n 0 then v else (ones part))) (let q : total (eraseOf (blockOf part x)) es ≡ 0 + total (eraseOf (blockOf part x)) es = omega arith in q)
+        rw t (more v (omega arith) ∙ ap (λ (n : ℕ). (if eqb n 0 then v else (ones part))) (let q : totalOf (eraseOf (blockOf part x)) es ≡ 0 + totalOf (eraseOf (blockOf part x)) es = omega arith in q))
+unprogrammed (CutProgram at b ∷ es) part x v z = unprogrammed es part x v (omega arith) ∙ ap (λ (n : ℕ). (if eqb n 0 then v else (ones part))) (let q : totalOf (eraseOf (blockOf part x)) es ≡ 0 + totalOf (eraseOf (blockOf part x)) es = omega arith in q)
+unprogrammed (CutErase j ∷ es) part x v z = unprogrammed es part x v (omega arith) ∙ ap (λ (n : ℕ). (if eqb n 0 then v else (ones part))) (let q : totalOf (eraseOf (blockOf part x)) es ≡ 0 + totalOf (eraseOf (blockOf part x)) es = omega arith in q)
 
 -- one place more of a block adds the programs at that place
 program-more : (a n : ℕ) (e : Effect) → programIn a (n + 1) e ≡ programAt a e + programIn (a + 1) n e
@@ -219,7 +219,7 @@ program-more a n (Erase j) = omega arith
 program-more a n (CutProgram at b) = omega arith
 program-more a n (CutErase j) = omega arith
 
-pub total-more : (es : List Effect) (a n : ℕ) → total (programIn a (n + 1)) es ≡ total (programAt a) es + total (programIn (a + 1) n) es
+pub total-more : (es : List Effect) (a n : ℕ) → totalOf (programIn a (n + 1)) es ≡ totalOf (programAt a) es + totalOf (programIn (a + 1) n) es
 total-more [] a n = omega arith
 total-more (e ∷ es) a n = omega (arith, program-more a n e, total-more es a n)
 
@@ -238,7 +238,7 @@ law f z d v b = conserved f z d (v .state) (b .cycle) (length (v .bytes)) (lengt
 
 -- what ends is begun: for cycles from a device with nothing pending
 pub ended-begun : (f : Effect → ℕ) → f Nothing ≡ 0 → (bs : List Bus) (d : Device) (v : World) → uncut (effectsIn d v bs) ≡ true
-    → total f (effectsIn d v bs) ≤ total f (begunOver d v bs) + f (pendingOf (d .part) (v .state))
+    → totalOf f (effectsIn d v bs) ≤ totalOf f (begunOver d v bs) + f (pendingOf (d .part) (v .state))
 ended-begun f z [] d v u = omega arith
 ended-begun f z (b ∷ bs) d v u =
     let c = law f z d v b in

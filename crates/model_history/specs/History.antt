@@ -79,9 +79,9 @@ uncut [] = true
 uncut (e ∷ es) = not (isCut e) && uncut es
 
 -- the sum of a weight over operations
-abbrev pub total : (Effect → ℕ) → List Effect → ℕ
-total f [] = 0
-total f (e ∷ es) = f e + total f es
+abbrev pub totalOf : (Effect → ℕ) → List Effect → ℕ
+totalOf f [] = 0
+totalOf f (e ∷ es) = f e + totalOf f es
 
 -- the weight of an erase of block k, of a program at an address, and of a program in n bytes from a on
 abbrev pub eraseOf : ℕ → Effect → ℕ
@@ -111,7 +111,7 @@ programOf part k = programIn (startOf part k) (lengthOf part k)
 
 -- how many erases of block k cycles begin, and how many programs in it
 abbrev pub erasesBegun : Device → World → ℕ → List Bus → ℕ
-erasesBegun d v k bs = total (eraseOf k) (begunOver d v bs)
+erasesBegun d v k bs = totalOf (eraseOf k) (begunOver d v bs)
 
 abbrev pub programsBegun : Device → World → ℕ → List Bus → ℕ
-programsBegun d v k bs = total (programOf (d .part) k) (begunOver d v bs)
+programsBegun d v k bs = totalOf (programOf (d .part) k) (begunOver d v bs)

@@ -20,9 +20,9 @@ use Rattle.model.specs.declared.Answer.{Answer}
 use Rattle.model.specs.declared.Seen.{Seen}
 use Rattle.model.specs.declared.Seen.the-variants.{Refused}
 use Rattle.replay.specs.declared.Replayed.{Replayed}
-use Rattle.lines.specs.Lines.{isLine, cycleIn}
-use Rattle.replay.specs.Answers.{toldOf, printedOf, markOf, endOf}
-use Rattle.replay.specs.Replays.{benchT, stepOf, arrayBy, goodLines, answersOf, outputFrom, outputOf, arrayLeft, replayedIn, heldIn, BenchSound}
+use Rattle.lines.specs.Lines.{isLine, cycleStated}
+use Rattle.replay.specs.Answers.{answerText, printedOf, markOf, traceEnd}
+use Rattle.replay.specs.Replays.{benchT, lineStep, arrayBy, goodLines, answersOf, outputFrom, outputOf, arrayLeft, replayedIn, leftInRoom, BenchSound}
 use Rattle.replay.proofs.Scans as scans
 use Rattle.replay.proofs.Turns as turns
 use Rattle.replay.proofs.Ends as ends
@@ -30,7 +30,7 @@ use Rattle.replay.proofs.Never as never
 
 -- A line's step is refused by m exactly where m's own condition holds on bench T and that of no lower number does.
 pub step-refused : (s : State) (c : Cycle) (xs rs : List ℕ) (m : ℕ) → (m ≡ 0 → ⊥)
-    → (stepOf s c xs rs .seen ≡ Refused m) ↔ Foremost (tableOf benchT s c (length xs) (length rs)) m
+    → (lineStep s c xs rs .seen ≡ Refused m) ↔ Foremost (tableOf benchT s c (length xs) (length rs)) m
 step-refused = ends.step-refused
 
 -- Of its table only 4, 5, 7, 8 and 9 are left while the bench is sound (its state proper, its array of the part's length, a
@@ -43,14 +43,14 @@ bench-refusals = never.left-over
 pub fresh-sound : (xs : List ℕ) → length xs ≡ 16384 → BenchSound freshState xs
 fresh-sound = never.fresh-sound
 
-pub stays-sound : (s : State) (c : Cycle) (xs rs : List ℕ) → BenchSound s xs → BenchSound (stepOf s c xs rs .state) (arrayBy s c xs rs)
+pub stays-sound : (s : State) (c : Cycle) (xs rs : List ℕ) → BenchSound s xs → BenchSound (lineStep s c xs rs .state) (arrayBy s c xs rs)
 stays-sound = never.stays-sound
 
 -- The replay walks the lines: a good line, before line 9999, is answered by eight bytes and the rest replayed from what it left ..
 pub good-line : (k n : ℕ) (s : State) (xs rs text : List ℕ) → isLine (take 20 text) ≡ true
     → outputFrom (suc k) n s xs rs text
-    ≡ printedOf (stepOf s (cycleIn (take 20 text)) xs rs)
-    ++ outputFrom k (suc n) (stepOf s (cycleIn (take 20 text)) xs rs .state) (arrayBy s (cycleIn (take 20 text)) xs rs) rs (drop 20 text)
+    ≡ printedOf (lineStep s (cycleStated (take 20 text)) xs rs)
+    ++ outputFrom k (suc n) (lineStep s (cycleStated (take 20 text)) xs rs .state) (arrayBy s (cycleStated (take 20 text)) xs rs) rs (drop 20 text)
 good-line = ends.good-line
 
 pub eight-bytes : (a : Answer) → length (printedOf a) ≡ 8
@@ -75,7 +75,7 @@ line-9999 = ends.line-9999
 -- Whatever the input, the output is the answers to the good lines that come first, 9998 at most, then the end before the next line.
 pub output-whole : (xs rs text : List ℕ)
     → outputOf xs rs text
-    ≡ answersOf (goodLines 9998 text) freshState xs rs text ++ endOf (goodLines 9998 text + 1) (length text - 20 * goodLines 9998 text)
+    ≡ answersOf (goodLines 9998 text) freshState xs rs text ++ traceEnd (goodLines 9998 text + 1) (length text - 20 * goodLines 9998 text)
 output-whole = ends.output-whole
 
 pub good-most : (k : ℕ) (text : List ℕ) → goodLines k text ≤ k
@@ -89,39 +89,39 @@ output-most = ends.output-most
 pub bench-unique : Unique (λ (r : Device). r ≡ benchT)
 bench-unique = only benchT
 
-pub step-unique : (s : State) (c : Cycle) (xs rs : List ℕ) → Unique (λ (r : Answer). r ≡ stepOf s c xs rs)
-step-unique s c xs rs = only (stepOf s c xs rs)
+pub step-unique : (s : State) (c : Cycle) (xs rs : List ℕ) → Unique (λ (r : Answer). r ≡ lineStep s c xs rs)
+step-unique s c xs rs = only (lineStep s c xs rs)
 
 pub step-array-unique : (s : State) (c : Cycle) (xs rs : List ℕ) → Unique (λ (left : List ℕ). left ≡ arrayBy s c xs rs)
 step-array-unique s c xs rs = only (arrayBy s c xs rs)
 
-pub answer-line-unique : (s : State) (line xs rs : List ℕ) → Unique (λ (r : State). r ≡ stepOf s (cycleIn line) xs rs .state)
-answer-line-unique s line xs rs = only (stepOf s (cycleIn line) xs rs .state)
+pub answer-line-unique : (s : State) (line xs rs : List ℕ) → Unique (λ (r : State). r ≡ lineStep s (cycleStated line) xs rs .state)
+answer-line-unique s line xs rs = only (lineStep s (cycleStated line) xs rs .state)
 
-pub answer-line-array-unique : (s : State) (line xs rs : List ℕ) → Unique (λ (left : List ℕ). left ≡ arrayBy s (cycleIn line) xs rs)
-answer-line-array-unique s line xs rs = only (arrayBy s (cycleIn line) xs rs)
+pub answer-line-array-unique : (s : State) (line xs rs : List ℕ) → Unique (λ (left : List ℕ). left ≡ arrayBy s (cycleStated line) xs rs)
+answer-line-array-unique s line xs rs = only (arrayBy s (cycleStated line) xs rs)
 
-pub answer-line-out-unique : (s : State) (line xs rs out : List ℕ) → Unique (λ (left : List ℕ). left ≡ copied out (printedOf (stepOf s (cycleIn line) xs rs)))
-answer-line-out-unique s line xs rs out = only (copied out (printedOf (stepOf s (cycleIn line) xs rs)))
+pub answer-line-out-unique : (s : State) (line xs rs out : List ℕ) → Unique (λ (left : List ℕ). left ≡ copied out (printedOf (lineStep s (cycleStated line) xs rs)))
+answer-line-out-unique s line xs rs out = only (copied out (printedOf (lineStep s (cycleStated line) xs rs)))
 
-pub write-answer-unique : (seen : Seen) (sr : ℕ) (out : List ℕ) → Unique (λ (left : List ℕ). left ≡ copied out (toldOf seen sr))
-write-answer-unique seen sr out = only (copied out (toldOf seen sr))
+pub write-answer-unique : (seen : Seen) (sr : ℕ) (out : List ℕ) → Unique (λ (left : List ℕ). left ≡ copied out (answerText seen sr))
+write-answer-unique seen sr out = only (copied out (answerText seen sr))
 
 pub write-mark-unique : (n : ℕ) (out : List ℕ) → Unique (λ (left : List ℕ). left ≡ copied out (markOf n))
 write-mark-unique n out = only (copied out (markOf n))
 
-pub write-end-unique : (n over : ℕ) (out : List ℕ) → Unique (λ (left : List ℕ). left ≡ copied out (endOf n over))
-write-end-unique n over out = only (copied out (endOf n over))
+pub write-end-unique : (n over : ℕ) (out : List ℕ) → Unique (λ (left : List ℕ). left ≡ copied out (traceEnd n over))
+write-end-unique n over out = only (copied out (traceEnd n over))
 
-pub end-length-unique : (over : ℕ) → Unique (λ (r : ℕ). r ≡ length (endOf 0 over))
-end-length-unique over = only (length (endOf 0 over))
+pub end-length-unique : (over : ℕ) → Unique (λ (r : ℕ). r ≡ length (traceEnd 0 over))
+end-length-unique over = only (length (traceEnd 0 over))
 
 pub replay-unique : (room : ℕ) (xs rs text : List ℕ) → Unique (λ (r : Replayed). r ≡ replayedIn room (outputOf xs rs text))
 replay-unique room xs rs text = only (replayedIn room (outputOf xs rs text))
 
-pub replay-array-unique : (room : ℕ) (xs rs text : List ℕ) → Unique (λ (left : List ℕ). left ≡ heldIn room (outputOf xs rs text) xs (arrayLeft xs rs text))
-replay-array-unique room xs rs text = only (heldIn room (outputOf xs rs text) xs (arrayLeft xs rs text))
+pub replay-array-unique : (room : ℕ) (xs rs text : List ℕ) → Unique (λ (left : List ℕ). left ≡ leftInRoom room (outputOf xs rs text) xs (arrayLeft xs rs text))
+replay-array-unique room xs rs text = only (leftInRoom room (outputOf xs rs text) xs (arrayLeft xs rs text))
 
 pub replay-out-unique : (xs rs text out : List ℕ)
-    → Unique (λ (left : List ℕ). left ≡ heldIn (length out) (outputOf xs rs text) out (copied out (outputOf xs rs text)))
-replay-out-unique xs rs text out = only (heldIn (length out) (outputOf xs rs text) out (copied out (outputOf xs rs text)))
+    → Unique (λ (left : List ℕ). left ≡ leftInRoom (length out) (outputOf xs rs text) out (copied out (outputOf xs rs text)))
+replay-out-unique xs rs text out = only (leftInRoom (length out) (outputOf xs rs text) out (copied out (outputOf xs rs text)))

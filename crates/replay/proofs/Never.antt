@@ -20,7 +20,7 @@ use Rattle.chip.specs.States.{improper, freshState}
 use Rattle.settling.specs.Settling.{residueFor, settleOf}
 use Rattle.bus.specs.Cycles.{numberOf, late, pastArray, shortResidue}
 use Rattle.model.proofs.Claims as model
-use Rattle.replay.specs.Replays.{benchT, BenchSound, stepOf, arrayBy}
+use Rattle.replay.specs.Replays.{benchT, BenchSound, lineStep, arrayBy}
 
 size-is : sizeOf (benchT .part) ≡ 16384
 unfolding sizeOf sizeIn shapeOf
@@ -58,6 +58,6 @@ left-over s c xs r h q =
 pub fresh-sound : (xs : List ℕ) → length xs ≡ 16384 → BenchSound freshState xs
 fresh-sound xs e = record { proper = model.fresh-proper benchT; sized = e }
 
-pub stays-sound : (s : State) (c : Cycle) (xs rs : List ℕ) → BenchSound s xs → BenchSound (stepOf s c xs rs .state) (arrayBy s c xs rs)
-unfolding stepOf arrayBy
+pub stays-sound : (s : State) (c : Cycle) (xs rs : List ℕ) → BenchSound s xs → BenchSound (lineStep s c xs rs .state) (arrayBy s c xs rs)
+unfolding lineStep arrayBy
 stays-sound s c xs rs h = record { proper = model.stays-proper benchT s c xs rs (h .proper); sized = model.keeps-length benchT s c xs rs ∙ h .sized }

@@ -15,22 +15,22 @@ use Rattle.cells.specs.Lists.{copied}
 use Rattle.cells.proofs.Lists.{copied-whole}
 use Rattle.chip.specs.declared.State.{State}
 use Rattle.model.specs.declared.Answer.{Answer}
-use Rattle.lines.specs.Lines.{isLine, cycleIn}
-use Rattle.replay.specs.Answers.{toldOf, printedOf, markOf, endOf}
-use Rattle.replay.specs.Replays.{stepOf, arrayBy, goodLines, answersOf, arraysOf, outputFrom, arrayFrom}
+use Rattle.lines.specs.Lines.{isLine, cycleStated}
+use Rattle.replay.specs.Answers.{answerText, printedOf, markOf, traceEnd}
+use Rattle.replay.specs.Replays.{lineStep, arrayBy, goodLines, answersOf, arraysOf, outputFrom, arrayFrom}
 use Rattle.replay.proofs.Scans.{past}
 
 -- an answer is eight bytes long
 pub answer-length : (a : Answer) → length (printedOf a) ≡ 8
-unfolding toldOf
+unfolding answerText
 answer-length a = refl
 
 -- the answer to the first line of a text, and the state and array after it
 abbrev pub answerTo : State → List ℕ → List ℕ → List ℕ → Answer
-answerTo s xs rs text = stepOf s (cycleIn (take 20 text)) xs rs
+answerTo s xs rs text = lineStep s (cycleStated (take 20 text)) xs rs
 
 abbrev pub arrayTo : State → List ℕ → List ℕ → List ℕ → List ℕ
-arrayTo s xs rs text = arrayBy s (cycleIn (take 20 text)) xs rs
+arrayTo s xs rs text = arrayBy s (cycleStated (take 20 text)) xs rs
 
 answers-none : (s : State) (xs rs text : List ℕ) → answersOf zero s xs rs text ≡ []
 unfolding answersOf
@@ -111,24 +111,24 @@ over-part i out a h =
 
 -- one turn of the loop that answers line i of g: t and ys are the state and array it leaves, zs the eight bytes it writes
 module _ (g i : ℕ) (s t : State) (xs ys zs rs text out : List ℕ) (h : i < g) (fits : 8 * g ≤ length out)
-    (es : t ≡ stepOf s (cycleIn (take (20 * i + 20 - 20 * i) (drop (20 * i) text))) xs rs .state)
-    (ea : ys ≡ arrayBy s (cycleIn (take (20 * i + 20 - 20 * i) (drop (20 * i) text))) xs rs)
-    (eo : zs ≡ copied (midOf (8 * i) (8 * i + 8 - 8 * i) out) (printedOf (stepOf s (cycleIn (take (20 * i + 20 - 20 * i) (drop (20 * i) text))) xs rs))) where
+    (es : t ≡ lineStep s (cycleStated (take (20 * i + 20 - 20 * i) (drop (20 * i) text))) xs rs .state)
+    (ea : ys ≡ arrayBy s (cycleStated (take (20 * i + 20 - 20 * i) (drop (20 * i) text))) xs rs)
+    (eo : zs ≡ copied (midOf (8 * i) (8 * i + 8 - 8 * i) out) (printedOf (lineStep s (cycleStated (take (20 * i + 20 - 20 * i) (drop (20 * i) text))) xs rs))) where
   n : 20 * i + 20 - 20 * i ≡ 20
   n = omega arith
 
   st : t ≡ answerTo s xs rs (drop (20 * i) text) .state
-  st = es ∙ ap (λ (m : ℕ). stepOf s (cycleIn (take m (drop (20 * i) text))) xs rs .state) n
+  st = es ∙ ap (λ (m : ℕ). lineStep s (cycleStated (take m (drop (20 * i) text))) xs rs .state) n
 
   ar : ys ≡ arrayTo s xs rs (drop (20 * i) text)
-  ar = ea ∙ ap (λ (m : ℕ). arrayBy s (cycleIn (take m (drop (20 * i) text))) xs rs) n
+  ar = ea ∙ ap (λ (m : ℕ). arrayBy s (cycleStated (take m (drop (20 * i) text))) xs rs) n
 
   room : 8 * i + 8 ≤ length out
   room = omega arith
 
   pr : zs ≡ printedOf (answerTo s xs rs (drop (20 * i) text))
   pr =
-      eo ∙ ap (λ (m : ℕ). copied (midOf (8 * i) (8 * i + 8 - 8 * i) out) (printedOf (stepOf s (cycleIn (take m (drop (20 * i) text))) xs rs))) n
+      eo ∙ ap (λ (m : ℕ). copied (midOf (8 * i) (8 * i + 8 - 8 * i) out) (printedOf (lineStep s (cycleStated (take m (drop (20 * i) text))) xs rs))) n
       ∙ over-part i out (answerTo s xs rs (drop (20 * i) text)) room
 
   eight : length zs ≡ 8
@@ -175,8 +175,8 @@ turned-over g i s xs rs text out out₀ B e q r =
     ∙ ap (λ (w : List ℕ). B ++ w) (r ∙ ap (λ (m : ℕ). drop (8 * m) out₀) e)
 
 -- an end is as long whatever its number
-pub end-any : (n left : ℕ) → length (endOf n left) ≡ length (endOf 0 left)
-unfolding endOf markOf
+pub end-any : (n left : ℕ) → length (traceEnd n left) ≡ length (traceEnd 0 left)
+unfolding traceEnd markOf
 end-any n left = go (eqb left 0) refl
   where
     go : (b : Bool) → eqb left 0 ≡ b → length (if eqb left 0 then [] else markOf n) ≡ length (if eqb left 0 then [] else markOf 0)
@@ -184,14 +184,14 @@ end-any n left = go (eqb left 0) refl
     go false e = rw e refl
 
 -- no byte left over: nothing is written
-pub end-nothing : (n left : ℕ) (out : List ℕ) → left ≡ 0 → out ≡ copied out (endOf n left)
-unfolding endOf
+pub end-nothing : (n left : ℕ) (out : List ℕ) → left ≡ 0 → out ≡ copied out (traceEnd n left)
+unfolding traceEnd
 end-nothing n left out h =
     let e : (if eqb left 0 then [] else markOf n) ≡ [] = if-true (eqb left 0) [] (markOf n) (eq-eqb left 0 h) in
     sym (ap (λ (w : List ℕ). copied out w) e ∙ ap (λ (w : List ℕ). w ++ out) (take-nil (length out)))
 
-pub end-short : (left : ℕ) → length (endOf 0 left) ≤ 7
-unfolding endOf markOf
+pub end-short : (left : ℕ) → length (traceEnd 0 left) ≤ 7
+unfolding traceEnd markOf
 end-short left = go (eqb left 0) refl
   where
     go : (b : Bool) → eqb left 0 ≡ b → length (if eqb left 0 then [] else markOf 0) ≤ 7
@@ -215,20 +215,20 @@ put-end A E out at n a e h =
     ∙ sym (ap (λ (w : List ℕ). w ++ drop (length (A ++ E)) out) (take-all (length out) (A ++ E) (subst (λ (m : ℕ). m ≤ length out) (sym lae) h)) ∙ ap (λ (k : ℕ). (A ++ E) ++ drop k out) lae)
 
 -- the output is the answers to the good lines, then the end
-end-next : (n g : ℕ) (text : List ℕ) → endOf (suc n + g) (length (drop 20 text) - 20 * g) ≡ endOf (n + suc g) (length text - 20 * suc g)
+end-next : (n g : ℕ) (text : List ℕ) → traceEnd (suc n + g) (length (drop 20 text) - 20 * g) ≡ traceEnd (n + suc g) (length text - 20 * suc g)
 end-next n g text =
     let a : suc n + g ≡ n + suc g = omega arith in
     let b : length (drop 20 text) - 20 * g ≡ length text - 20 * suc g = omega (arith, length-drop 20 text) in
-    ap (λ (m : ℕ). endOf m (length (drop 20 text) - 20 * g)) a ∙ ap (λ (m : ℕ). endOf (n + suc g) m) b
+    ap (λ (m : ℕ). traceEnd m (length (drop 20 text) - 20 * g)) a ∙ ap (λ (m : ℕ). traceEnd (n + suc g) m) b
 
-end-here : (n : ℕ) (text : List ℕ) → endOf n (length text) ≡ endOf (n + 0) (length text - 20 * 0)
+end-here : (n : ℕ) (text : List ℕ) → traceEnd n (length text) ≡ traceEnd (n + 0) (length text - 20 * 0)
 end-here n text =
     let a : n ≡ n + 0 = omega arith in
     let b : length text ≡ length text - 20 * 0 = omega arith in
-    ap (λ (m : ℕ). endOf m (length text)) a ∙ ap (λ (m : ℕ). endOf (n + 0) m) b
+    ap (λ (m : ℕ). traceEnd m (length text)) a ∙ ap (λ (m : ℕ). traceEnd (n + 0) m) b
 
 pub output-is : (k n : ℕ) (s : State) (xs rs text : List ℕ)
-    → outputFrom k n s xs rs text ≡ answersOf (goodLines k text) s xs rs text ++ endOf (n + goodLines k text) (length text - 20 * goodLines k text)
+    → outputFrom k n s xs rs text ≡ answersOf (goodLines k text) s xs rs text ++ traceEnd (n + goodLines k text) (length text - 20 * goodLines k text)
 unfolding outputFrom answersOf goodLines
 output-is zero n s xs rs text = end-here n text
 output-is (suc k) n s xs rs text =
@@ -237,15 +237,15 @@ output-is (suc k) n s xs rs text =
     go : (b : Bool) → isLine (take 20 text) ≡ b
         → outputFrom k (suc n) (answerTo s xs rs text .state) (arrayTo s xs rs text) rs (drop 20 text)
         ≡ answersOf (goodLines k (drop 20 text)) (answerTo s xs rs text .state) (arrayTo s xs rs text) rs (drop 20 text)
-        ++ endOf (suc n + goodLines k (drop 20 text)) (length (drop 20 text) - 20 * goodLines k (drop 20 text))
+        ++ traceEnd (suc n + goodLines k (drop 20 text)) (length (drop 20 text) - 20 * goodLines k (drop 20 text))
         → outputFrom (suc k) n s xs rs text
-        ≡ answersOf (goodLines (suc k) text) s xs rs text ++ endOf (n + goodLines (suc k) text) (length text - 20 * goodLines (suc k) text)
+        ≡ answersOf (goodLines (suc k) text) s xs rs text ++ traceEnd (n + goodLines (suc k) text) (length text - 20 * goodLines (suc k) text)
     go true e ih =
         let g = goodLines k (drop 20 text) in
         let y : List ℕ = printedOf (answerTo s xs rs text) in
         let z : List ℕ = answersOf g (answerTo s xs rs text .state) (arrayTo s xs rs text) rs (drop 20 text) in
         rw e
-        (ap (λ (w : List ℕ). y ++ w) ih ∙ ap (λ (w : List ℕ). y ++ (z ++ w)) (end-next n g text) ∙ sym (append-assoc y z (endOf (n + suc g) (length text - 20 * suc g))))
+        (ap (λ (w : List ℕ). y ++ w) ih ∙ ap (λ (w : List ℕ). y ++ (z ++ w)) (end-next n g text) ∙ sym (append-assoc y z (traceEnd (n + suc g) (length text - 20 * suc g))))
     go false e ih = rw e (end-here n text)
 
 pub array-is : (k : ℕ) (s : State) (xs rs text : List ℕ) → arrayFrom k s xs rs text ≡ arraysOf (goodLines k text) s xs rs text

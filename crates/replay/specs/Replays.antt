@@ -12,8 +12,8 @@ use Rattle.chip.specs.declared.Cycle.{Cycle}
 use Rattle.chip.specs.States.{freshState, improper}
 use Rattle.model.specs.declared.Answer.{Answer}
 use Rattle.model.specs.Arrays.{answerOf, arrayAfter}
-use Rattle.lines.specs.Lines.{isLine, cycleIn}
-use Rattle.replay.specs.Answers.{printedOf, endOf}
+use Rattle.lines.specs.Lines.{isLine, cycleStated}
+use Rattle.replay.specs.Answers.{printedOf, traceEnd}
 use Rattle.replay.specs.declared.Replayed.{Replayed}
 
 -- bench T: device 3, a program busy for 2 cycles and an erase for 3
@@ -26,8 +26,8 @@ pub record BenchSound (s : State) (xs : List ℕ) : Type 0 where
   pub sized : length xs ≡ 16384
 
 -- one line's step on bench T: the answer, and the array after it
-unfoldable pub stepOf : State → Cycle → List ℕ → List ℕ → Answer
-stepOf s c xs rs = answerOf benchT s c xs rs
+unfoldable pub lineStep : State → Cycle → List ℕ → List ℕ → Answer
+lineStep s c xs rs = answerOf benchT s c xs rs
 
 unfoldable pub arrayBy : State → Cycle → List ℕ → List ℕ → List ℕ
 arrayBy s c xs rs = arrayAfter benchT s c xs rs
@@ -41,30 +41,30 @@ goodLines (suc k) text = if isLine (take 20 text) then suc (goodLines k (drop 20
 unfoldable pub answersOf : ℕ → State → List ℕ → List ℕ → List ℕ → List ℕ
 answersOf zero s xs rs text = []
 answersOf (suc k) s xs rs text =
-    printedOf (stepOf s (cycleIn (take 20 text)) xs rs)
-    ++ answersOf k (stepOf s (cycleIn (take 20 text)) xs rs .state) (arrayBy s (cycleIn (take 20 text)) xs rs) rs (drop 20 text)
+    printedOf (lineStep s (cycleStated (take 20 text)) xs rs)
+    ++ answersOf k (lineStep s (cycleStated (take 20 text)) xs rs .state) (arrayBy s (cycleStated (take 20 text)) xs rs) rs (drop 20 text)
 
 unfoldable pub arraysOf : ℕ → State → List ℕ → List ℕ → List ℕ → List ℕ
 arraysOf zero s xs rs text = xs
 arraysOf (suc k) s xs rs text =
-    arraysOf k (stepOf s (cycleIn (take 20 text)) xs rs .state) (arrayBy s (cycleIn (take 20 text)) xs rs) rs (drop 20 text)
+    arraysOf k (lineStep s (cycleStated (take 20 text)) xs rs .state) (arrayBy s (cycleStated (take 20 text)) xs rs) rs (drop 20 text)
 
 -- the output from line n on, k lines before the last that may be answered: a good line is answered and the rest replayed;
 -- where there is none, or k is used up, the trace ends
 unfoldable pub outputFrom : ℕ → ℕ → State → List ℕ → List ℕ → List ℕ → List ℕ
-outputFrom zero n s xs rs text = endOf n (length text)
+outputFrom zero n s xs rs text = traceEnd n (length text)
 outputFrom (suc k) n s xs rs text =
     if isLine (take 20 text)
-    then printedOf (stepOf s (cycleIn (take 20 text)) xs rs)
-    ++ outputFrom k (suc n) (stepOf s (cycleIn (take 20 text)) xs rs .state) (arrayBy s (cycleIn (take 20 text)) xs rs) rs (drop 20 text)
-    else endOf n (length text)
+    then printedOf (lineStep s (cycleStated (take 20 text)) xs rs)
+    ++ outputFrom k (suc n) (lineStep s (cycleStated (take 20 text)) xs rs .state) (arrayBy s (cycleStated (take 20 text)) xs rs) rs (drop 20 text)
+    else traceEnd n (length text)
 
 -- the array that the same walk leaves
 unfoldable pub arrayFrom : ℕ → State → List ℕ → List ℕ → List ℕ → List ℕ
 arrayFrom zero s xs rs text = xs
 arrayFrom (suc k) s xs rs text =
     if isLine (take 20 text)
-    then arrayFrom k (stepOf s (cycleIn (take 20 text)) xs rs .state) (arrayBy s (cycleIn (take 20 text)) xs rs) rs (drop 20 text)
+    then arrayFrom k (lineStep s (cycleStated (take 20 text)) xs rs .state) (arrayBy s (cycleStated (take 20 text)) xs rs) rs (drop 20 text)
     else xs
 
 -- a whole trace: a fresh device, lines counted from 1, line 9999 never answered
@@ -82,8 +82,8 @@ unfoldable pub replayedIn : ℕ → List ℕ → Replayed
 replayedIn room ys = if ltb room (length ys) then replayedAs 37 0 else replayedAs 0 (length ys)
 
 -- what a lent slice holds at the end: with too little room for the output it is untouched
-unfoldable pub heldIn : ℕ → List ℕ → List ℕ → List ℕ → List ℕ
-heldIn room ys before after = if ltb room (length ys) then before else after
+unfoldable pub leftInRoom : ℕ → List ℕ → List ℕ → List ℕ → List ℕ
+leftInRoom room ys before after = if ltb room (length ys) then before else after
 
 -- n bytes of a slice are used, and there are that many
 abbrev pub Used : ℕ → List ℕ → Type 0

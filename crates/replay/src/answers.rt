@@ -5,7 +5,7 @@ ghost use Prim.Native.Nat.{_<_};
 ghost use lib.ListN.{length};
 ghost use Rattle.cells.specs.Lists.{copied};
 ghost use Rattle.lines.specs.Lines.{decimalDigit, hexDigit};
-ghost use Rattle.replay.specs.Answers.{letterOf, firstOf, secondOf, toldOf, markOf, endOf};
+ghost use Rattle.replay.specs.Answers.{signOf, firstSign, secondSign, answerText, markOf, traceEnd};
 
 // The digit 0 as a length, and what a letter counts from.
 const ZERO: usize = b'0' as usize;
@@ -36,7 +36,7 @@ fn small_digit(n: u8) -> u8
 }
 
 fn letter(seen: Seen) -> u8
-    ensures { λ r. ⌜ r ≡ letterOf seen ⌝ }
+    ensures { λ r. ⌜ r ≡ signOf seen ⌝ }
 {
     match seen {
         Seen::NoData => b'N',
@@ -46,7 +46,7 @@ fn letter(seen: Seen) -> u8
 }
 
 fn first(seen: Seen) -> u8
-    ensures { λ r. ⌜ r ≡ firstOf seen ⌝ }
+    ensures { λ r. ⌜ r ≡ firstSign seen ⌝ }
 {
     match seen {
         Seen::NoData => b'-',
@@ -56,7 +56,7 @@ fn first(seen: Seen) -> u8
 }
 
 fn second(seen: Seen) -> u8
-    ensures { λ r. ⌜ r ≡ secondOf seen ⌝ }
+    ensures { λ r. ⌜ r ≡ secondSign seen ⌝ }
 {
     match seen {
         Seen::NoData => b'-',
@@ -67,7 +67,7 @@ fn second(seen: Seen) -> u8
 
 // An answer, over the front of out: what is seen, and a status register.
 pub fn write_answer(seen: Seen, sr: u8, out: &mut [u8])
-    ensures { λ _. ⌜ now (out .exit) ≡ copied (now (out .entry)) (toldOf seen sr) ⌝ }
+    ensures { λ _. ⌜ now (out .exit) ≡ copied (now (out .entry)) (answerText seen sr) ⌝ }
 {
     let line = [
         letter(seen),
@@ -100,7 +100,7 @@ pub fn write_mark(number: usize, out: &mut [u8])
 
 // The end of a trace before a line, with so many bytes left over.
 pub fn write_end(number: usize, left: usize, out: &mut [u8])
-    ensures { λ _. ⌜ now (out .exit) ≡ copied (now (out .entry)) (endOf number left) ⌝ }
+    ensures { λ _. ⌜ now (out .exit) ≡ copied (now (out .entry)) (traceEnd number left) ⌝ }
 {
     if left == 0 {
         return;
@@ -110,7 +110,7 @@ pub fn write_end(number: usize, left: usize, out: &mut [u8])
 
 // How long that end is.
 pub fn end_length(left: usize) -> usize
-    ensures { λ r. ⌜ r ≡ length (endOf 0 left) ⌝ }
+    ensures { λ r. ⌜ r ≡ length (traceEnd 0 left) ⌝ }
 {
     if left == 0 {
         return 0;

@@ -12,9 +12,9 @@ ghost use Prim.Native.Nat.{_+_, _*_, _≤_, _<_};
 ghost use lib.ListN.{length, take, drop};
 ghost use Rattle.cells.specs.Lists.{copied};
 ghost use Rattle.chip.specs.States.{freshState};
-ghost use Rattle.lines.specs.Lines.{isLine, cycleIn};
-ghost use Rattle.replay.specs.Answers.{printedOf, endOf};
-ghost use Rattle.replay.specs.Replays.{benchT, stepOf, arrayBy, goodLines, answersOf, arraysOf, outputOf, arrayLeft, replayedIn, heldIn, Used};
+ghost use Rattle.lines.specs.Lines.{isLine, cycleStated};
+ghost use Rattle.replay.specs.Answers.{printedOf, traceEnd};
+ghost use Rattle.replay.specs.Replays.{benchT, lineStep, arrayBy, goodLines, answersOf, arraysOf, outputOf, arrayLeft, replayedIn, leftInRoom, Used};
 
 // How a replay went: refused by 37, or by nothing (0) with so many bytes of output.
 pub struct Replayed {
@@ -36,7 +36,7 @@ pub fn bench() -> Device
 
 // One line's step: the cycle that a line states, on bench T.
 pub fn step(s: State, c: Cycle, array: &mut [u8], residue: &[u8]) -> Answer
-    ensures { λ r. ⌜ r ≡ stepOf s c (now (array .entry)) (now (residue .entry)) ⌝ }
+    ensures { λ r. ⌜ r ≡ lineStep s c (now (array .entry)) (now (residue .entry)) ⌝ }
     ensures { λ _. ⌜ now (array .exit) ≡ arrayBy s c (now (array .entry)) (now (residue .entry)) ⌝ }
 {
     let d = bench();
@@ -45,10 +45,10 @@ pub fn step(s: State, c: Cycle, array: &mut [u8], residue: &[u8]) -> Answer
 
 // A line of the documented form is answered: its answer is laid over the front of out.
 pub fn answer_line(s: State, line: &[u8], array: &mut [u8], residue: &[u8], out: &mut [u8]) -> State
-    ensures { λ r. ⌜ r ≡ stepOf s (cycleIn (now (line .entry))) (now (array .entry)) (now (residue .entry)) .state ⌝ }
-    ensures { λ _. ⌜ now (array .exit) ≡ arrayBy s (cycleIn (now (line .entry))) (now (array .entry)) (now (residue .entry)) ⌝ }
+    ensures { λ r. ⌜ r ≡ lineStep s (cycleStated (now (line .entry))) (now (array .entry)) (now (residue .entry)) .state ⌝ }
+    ensures { λ _. ⌜ now (array .exit) ≡ arrayBy s (cycleStated (now (line .entry))) (now (array .entry)) (now (residue .entry)) ⌝ }
     ensures { λ _. ⌜ now (out .exit)
-        ≡ copied (now (out .entry)) (printedOf (stepOf s (cycleIn (now (line .entry))) (now (array .entry)) (now (residue .entry)))) ⌝ }
+        ≡ copied (now (out .entry)) (printedOf (lineStep s (cycleStated (now (line .entry))) (now (array .entry)) (now (residue .entry)))) ⌝ }
 {
     let c = lines::cycle_in(line);
     let a = step(s, c, array, residue);
@@ -110,10 +110,10 @@ fn answer_lines(g: usize, text: &[u8], array: &mut [u8], residue: &[u8], out: &m
 pub fn replay(text: &[u8], array: &mut [u8], residue: &[u8], out: &mut [u8]) -> Replayed
     ensures { λ r. ⌜ r ≡ replayedIn (length (now (out .entry))) (outputOf (now (array .entry)) (now (residue .entry)) (now (text .entry))) ⌝ }
     ensures { λ _. ⌜ now (array .exit)
-        ≡ heldIn (length (now (out .entry))) (outputOf (now (array .entry)) (now (residue .entry)) (now (text .entry)))
+        ≡ leftInRoom (length (now (out .entry))) (outputOf (now (array .entry)) (now (residue .entry)) (now (text .entry)))
         (now (array .entry)) (arrayLeft (now (array .entry)) (now (residue .entry)) (now (text .entry))) ⌝ }
     ensures { λ _. ⌜ now (out .exit)
-        ≡ heldIn (length (now (out .entry))) (outputOf (now (array .entry)) (now (residue .entry)) (now (text .entry)))
+        ≡ leftInRoom (length (now (out .entry))) (outputOf (now (array .entry)) (now (residue .entry)) (now (text .entry)))
         (now (out .entry)) (copied (now (out .entry)) (outputOf (now (array .entry)) (now (residue .entry)) (now (text .entry)))) ⌝ }
     ensures { λ r. ⌜ Used (r .used) (now (out .exit)) ⌝ }
 {

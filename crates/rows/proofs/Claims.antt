@@ -6,20 +6,20 @@ use lib.ListN.{length, set, replicate}
 use Rattle.cells.specs.Choice.{Unique}
 use Rattle.cells.proofs.Choice.{only}
 use Rattle.rows.specs.declared.Group.{Group}
-use Rattle.rows.specs.Text.{readOf, fieldOf, spelled, nextRow, groupAt}
+use Rattle.rows.specs.Text.{numberRead, fieldOf, spelled, nextRow, groupAt}
 use Rattle.rows.specs.Patterns.{digestOf, sown}
 
-pub word-at-unique : (s : List ℕ) (base at n : ℕ) → Unique (λ (r : ℕ). r ≡ readOf base (fieldOf s at n))
-word-at-unique s base at n = only (readOf base (fieldOf s at n))
+pub word-at-unique : (s : List ℕ) (base at n : ℕ) → Unique (λ (r : ℕ). r ≡ numberRead base (fieldOf s at n))
+word-at-unique s base at n = only (numberRead base (fieldOf s at n))
 
-pub byte-at-unique : (s : List ℕ) (base at n : ℕ) → Unique (λ (r : ℕ). r ≡ readOf base (fieldOf s at n) % 256)
-byte-at-unique s base at n = only (readOf base (fieldOf s at n) % 256)
+pub byte-at-unique : (s : List ℕ) (base at n : ℕ) → Unique (λ (r : ℕ). r ≡ numberRead base (fieldOf s at n) % 256)
+byte-at-unique s base at n = only (numberRead base (fieldOf s at n) % 256)
 
-pub half-at-unique : (s : List ℕ) (base at n : ℕ) → Unique (λ (r : ℕ). r ≡ readOf base (fieldOf s at n) % 65536)
-half-at-unique s base at n = only (readOf base (fieldOf s at n) % 65536)
+pub half-at-unique : (s : List ℕ) (base at n : ℕ) → Unique (λ (r : ℕ). r ≡ numberRead base (fieldOf s at n) % 65536)
+half-at-unique s base at n = only (numberRead base (fieldOf s at n) % 65536)
 
-pub size-at-unique : (s : List ℕ) (base at n : ℕ) → Unique (λ (r : ℕ). r ≡ readOf base (fieldOf s at n))
-size-at-unique s base at n = only (readOf base (fieldOf s at n))
+pub size-at-unique : (s : List ℕ) (base at n : ℕ) → Unique (λ (r : ℕ). r ≡ numberRead base (fieldOf s at n))
+size-at-unique s base at n = only (numberRead base (fieldOf s at n))
 
 pub next-row-unique : (text : List ℕ) (at : ℕ) → Unique (λ (r : ℕ). (r ≡ nextRow text at) × (min (at + 1) (length text) ≤ r) × (r ≤ max at (length text)))
 next-row-unique text at r q p t = only (nextRow text at) r q (p .0) (t .0)

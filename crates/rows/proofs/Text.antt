@@ -9,7 +9,7 @@ use lib.Dec.{ltb, eqb, leb}
 use lib.ListN.{length, getD, take, drop, set, length-set, length-drop, drop-of-length-le}
 use lib.Seq.{drop-cons, drop-set-lt, getD-set-same, take-all}
 use borrow.Author.Tests.{leb-true, leb-false}
-use Rattle.rows.specs.Text.{walk, fieldOf, letterOf, spelled, rowOf}
+use Rattle.rows.specs.Text.{walk, fieldOf, digitLetter, spelled, rowOf}
 
 -- one element more of a walk
 pub walk-next : (f : ℕ → ℕ → ℕ) (v : ℕ) (xs : List ℕ) (i : ℕ) → i < length xs → walk f v (drop i xs) ≡ walk f (f v (getD xs i 0)) (drop (i + 1) xs)
@@ -66,7 +66,7 @@ walk-end f v xs i h = rw (drop-of-length-le xs {i = i} h) refl
 
 -- one digit fewer to spell: it is written before what follows
 pub spelled-back :
-    (base x : ℕ) (out : List ℕ) (i b : ℕ) → 0 < i → i ≤ length out → b ≡ letterOf (x % base) → spelled base (i - 1) (x / base) (drop (i - 1) (set out (i - 1) b)) ≡ spelled base i x (drop i out)
+    (base x : ℕ) (out : List ℕ) (i b : ℕ) → 0 < i → i ≤ length out → b ≡ digitLetter (x % base) → spelled base (i - 1) (x / base) (drop (i - 1) (set out (i - 1) b)) ≡ spelled base i x (drop i out)
 spelled-back base x out i b h k e = go (i - 1) (omega arith)
   where
     go : (j : ℕ) → i ≡ suc j → spelled base j (x / base) (drop j (set out j b)) ≡ spelled base i x (drop i out)

@@ -12,29 +12,29 @@ walk f v [] = v
 walk f v (x ∷ xs) = walk f (f v x) xs
 
 -- what a digit is worth, 0 for any other letter
-unfoldable pub digitOf : ℕ → ℕ
-digitOf x = if ltb x 48 then 0 else if ltb x 58 then x - 48 else if ltb x 65 then 0 else if ltb x 71 then x - 55 else 0
+unfoldable pub digitRead : ℕ → ℕ
+digitRead x = if ltb x 48 then 0 else if ltb x 58 then x - 48 else if ltb x 65 then 0 else if ltb x 71 then x - 55 else 0
 
 -- one digit more of a number in a base, modulo 2 to the 32
-abbrev pub readMore : ℕ → ℕ → ℕ → ℕ
-readMore base v x = (base * v + digitOf x) % 4294967296
+abbrev pub digitMore : ℕ → ℕ → ℕ → ℕ
+digitMore base v x = (base * v + digitRead x) % 4294967296
 
 -- the number that letters spell in a base
-unfoldable pub readOf : ℕ → List ℕ → ℕ
-readOf base xs = walk (readMore base) 0 xs
+unfoldable pub numberRead : ℕ → List ℕ → ℕ
+numberRead base xs = walk (digitMore base) 0 xs
 
 -- so many letters from a place on, as many as there are
 abbrev pub fieldOf : List ℕ → ℕ → ℕ → List ℕ
 fieldOf xs at n = take n (drop at xs)
 
 -- the letter of a digit
-unfoldable pub letterOf : ℕ → ℕ
-letterOf d = if ltb d 10 then 48 + d else 55 + d
+unfoldable pub digitLetter : ℕ → ℕ
+digitLetter d = if ltb d 10 then 48 + d else 55 + d
 
 -- the last n digits of x in a base, the highest first, and then what follows
 abbrev pub spelled : ℕ → ℕ → ℕ → List ℕ → List ℕ
 spelled base zero x after = after
-spelled base (suc n) x after = spelled base n (x / base) (letterOf (x % base) ∷ after)
+spelled base (suc n) x after = spelled base n (x / base) (digitLetter (x % base) ∷ after)
 
 -- the bytes of the first row, its newline among them
 abbrev pub rowOf : List ℕ → ℕ

@@ -4,7 +4,7 @@ ghost use mathlib.Core.Path.{_≡_};
 ghost use mathlib.Core.List.{List, []};
 ghost use Prim.Native.Nat.{ℕ, _+_, _<_, _≤_, _%_, min, max};
 ghost use lib.ListN.{length, set, replicate};
-ghost use Rattle.rows.specs.Text.{digitOf, readOf, fieldOf, letterOf, spelled, nextRow, groupAt};
+ghost use Rattle.rows.specs.Text.{digitRead, numberRead, fieldOf, digitLetter, spelled, nextRow, groupAt};
 ghost use Rattle.rows.specs.Patterns.{digestOf, sown};
 
 // The four letters of a group of rows.
@@ -40,7 +40,7 @@ const TEN: u8 = b'A' - 10;
 
 // What a digit is worth, 0 for any other letter.
 fn digit(x: u8) -> usize
-    ensures { λ r. ⌜ (r ≡ digitOf x) × (r < 16) ⌝ }
+    ensures { λ r. ⌜ (r ≡ digitRead x) × (r < 16) ⌝ }
 {
     if x < b'0' {
         return 0;
@@ -59,7 +59,7 @@ fn digit(x: u8) -> usize
 
 // The number that a whole slice spells.
 fn number(s: &[u8], base: u8) -> u32
-    ensures { λ r. ⌜ r ≡ readOf base (now (s .entry)) ⌝ }
+    ensures { λ r. ⌜ r ≡ numberRead base (now (s .entry)) ⌝ }
 {
     let b = cells::wide(base);
     let mut v = 0;
@@ -73,7 +73,7 @@ fn number(s: &[u8], base: u8) -> u32
 
 // The number that so many letters from a place on spell, modulo 2 to the 32.
 pub fn word_at(s: &[u8], base: u8, at: usize, n: usize) -> u32
-    ensures { λ r. ⌜ r ≡ readOf base (fieldOf (now (s .entry)) at n) ⌝ }
+    ensures { λ r. ⌜ r ≡ numberRead base (fieldOf (now (s .entry)) at n) ⌝ }
 {
     let from = cells::least(at, s.len());
     let count = cells::least(n, s.len() - from);
@@ -83,19 +83,19 @@ pub fn word_at(s: &[u8], base: u8, at: usize, n: usize) -> u32
 
 // The same as a byte, as 16 bits, as a length.
 pub fn byte_at(s: &[u8], base: u8, at: usize, n: usize) -> u8
-    ensures { λ r. ⌜ r ≡ readOf base (fieldOf (now (s .entry)) at n) % 256 ⌝ }
+    ensures { λ r. ⌜ r ≡ numberRead base (fieldOf (now (s .entry)) at n) % 256 ⌝ }
 {
     (word_at(s, base, at, n) % 256) as u8
 }
 
 pub fn half_at(s: &[u8], base: u8, at: usize, n: usize) -> u16
-    ensures { λ r. ⌜ r ≡ readOf base (fieldOf (now (s .entry)) at n) % 65536 ⌝ }
+    ensures { λ r. ⌜ r ≡ numberRead base (fieldOf (now (s .entry)) at n) % 65536 ⌝ }
 {
     (word_at(s, base, at, n) % 65536) as u16
 }
 
 pub fn size_at(s: &[u8], base: u8, at: usize, n: usize) -> usize
-    ensures { λ r. ⌜ r ≡ readOf base (fieldOf (now (s .entry)) at n) ⌝ }
+    ensures { λ r. ⌜ r ≡ numberRead base (fieldOf (now (s .entry)) at n) ⌝ }
 {
     word_at(s, base, at, n) as usize
 }
@@ -103,7 +103,7 @@ pub fn size_at(s: &[u8], base: u8, at: usize, n: usize) -> usize
 // The letter of a digit below 16.
 fn letter(d: u64) -> u8
     requires { ⌜ d < 16 ⌝ }
-    ensures { λ r. ⌜ r ≡ letterOf d ⌝ }
+    ensures { λ r. ⌜ r ≡ digitLetter d ⌝ }
 {
     let n = d as u8;
     if n < 10 {

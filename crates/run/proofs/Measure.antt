@@ -13,7 +13,7 @@ use Rattle.loader.specs.declared.Stage.{Stage}
 use Rattle.loader.specs.declared.Stage.the-variants.{Clearing, Opening, Reading, EraseAsking, EraseConfirming, EraseWaiting, ProgramAsking, ProgramSending, ProgramWaiting, Closing, Verifying, Ended}
 use Rattle.loader.specs.declared.Loader.{Loader}
 use Rattle.loader.specs.Walks.{nextDiff, diffFrom, risesIn}
-use Rattle.loader.specs.Moves.{isReady, eraseFault, programFault, onward, afterReads, readMore, pollMore, erasePolled, past, programPolled, verifyMore, nextIn}
+use Rattle.loader.specs.Moves.{isReady, eraseFault, programFault, onward, afterReads, afterRead, pollMore, erasePolled, past, programPolled, verifyMore, nextIn}
 use Rattle.stepper.specs.Stores.{storeOf}
 use Rattle.model.specs.declared.Seen.{Seen}
 use Rattle.model.specs.declared.Seen.the-variants.{NoData, Byte, Refused}
@@ -118,8 +118,8 @@ module _ (l : Loader) (w sc : List ℕ) where
           (λ h. far (diffFrom p w sc) (ltb-false _ _ e) (diff-ahead p w sc) h) (λ h. omega arith))
 
   -- one more byte read
-  read-falls : remains (readMore l w sc) (length w) < remainsIn Reading (length w) (l .place) (l .polls)
-  unfolding readMore afterReads
+  read-falls : remains (afterRead l w sc) (length w) < remainsIn Reading (length w) (l .place) (l .polls)
+  unfolding afterRead afterReads
   read-falls =
       if-ind In (ltb (l .place) (length w - 1)) _ _ (λ e. nearer (length w) (l .place) (ltb-true _ _ e))
       (λ e. if-ind In (risesIn w sc) _ _ (λ r. omega arith) (λ r. omega (arith, onward-first)))

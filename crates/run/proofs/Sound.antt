@@ -29,7 +29,7 @@ use Rattle.model.proofs.Contents.{cycle-length}
 use Rattle.loader.specs.declared.Stage.{Stage}
 use Rattle.loader.specs.declared.Stage.the-variants.{Clearing, Opening, Reading, EraseAsking, EraseConfirming, EraseWaiting, ProgramAsking, ProgramSending, ProgramWaiting, Closing, Verifying, Ended}
 use Rattle.loader.specs.declared.Loader.{Loader}
-use Rattle.stepper.specs.Outs.{firstOf, reach, hereOf, cycleAt, cycleIn, cycleOf}
+use Rattle.stepper.specs.Outs.{firstAddress, reach, hereOf, cycleAt, cycleAtStage, cycleOf}
 use Rattle.stepper.specs.Stores.{storeOf}
 use Rattle.stepper.specs.Front.{barredPins, noBlock, recordAt}
 use Rattle.stepper.proofs.Again.{some-block, Kept, kept-next}
@@ -86,7 +86,7 @@ sound-start d s p k xs w sc e = sound-good d s p k (length xs) (length sc) w (go
 
 -- the cycle that is out has the record's levels and OE# normal, at the block's first address or at the byte's
 out-ways : (P : Cycle → Type 0) (l : Loader) (w : List ℕ) (first here n : ℕ) → first < n → here < n → ((kind : Kind) (a b : ℕ) → a < n → P (cycleAt l kind a b))
-    → (stage : Stage) → P (cycleIn stage first here l w)
+    → (stage : Stage) → P (cycleAtStage stage first here l w)
 out-ways P l w first here n f h g Clearing = g Write first 0x50 f
 out-ways P l w first here n f h g Opening = g Write first 0xFF f
 out-ways P l w first here n f h g Reading = g Read here 0 h
@@ -105,14 +105,14 @@ module _ (d : Device) (w : List ℕ) (l : Loader) (s : State) (n : ℕ) (z : Sou
   in-block : (i : ℕ) → i < length w → startOf (d .part) (l .block) + i < sizeOf (d .part)
   in-block i h = omega (arith, z .wanted, blocks-end-inside (d .part) (l .block))
 
-  first-inside : firstOf l < sizeOf (d .part)
-  unfolding firstOf
+  first-inside : firstAddress l < sizeOf (d .part)
+  unfolding firstAddress
   first-inside =
       subst (λ (part : Part). startOf part (l .block) < sizeOf (d .part)) (sym (z .same))
       (omega (arith, z .place, in-block (l .place) (z .place)))
 
   here-inside : hereOf l < sizeOf (d .part)
-  unfolding hereOf firstOf
+  unfolding hereOf firstAddress
   here-inside =
       if-ind (λ (a : ℕ). a < sizeOf (d .part)) (ltb (l .place) reach) _ _
       (λ e. subst (λ (part : Part). startOf part (l .block) + l .place < sizeOf (d .part)) (sym (z .same)) (in-block (l .place) (z .place)))
@@ -120,7 +120,7 @@ module _ (d : Device) (w : List ℕ) (l : Loader) (s : State) (n : ℕ) (z : Sou
 
   -- what holds of every cycle with the record's levels at an address in the array holds of the one that is out
   out : (P : Cycle → Type 0) → ((kind : Kind) (a b : ℕ) → a < sizeOf (d .part) → P (cycleAt l kind a b)) → P (cycleOf l w)
-  out P g = out-ways P l w (firstOf l) (hereOf l) (sizeOf (d .part)) first-inside here-inside g (l .stage)
+  out P g = out-ways P l w (firstAddress l) (hereOf l) (sizeOf (d .part)) first-inside here-inside g (l .stage)
 
   -- no residue is asked for: with VPP low nothing runs
   enough : (kind : Kind) (a b : ℕ) → shortResidue (d .part) s (cycleAt l kind a b) 0 ≡ false

@@ -10,7 +10,7 @@ use Rattle.device.specs.declared.Device.{Device}
 use Rattle.chip.specs.declared.State.{State}
 use Rattle.loader.specs.declared.Loader.{Loader}
 use Rattle.loader.specs.Moves.{endedBy, nextOf}
-use Rattle.stepper.specs.Outs.{firstOf}
+use Rattle.stepper.specs.Outs.{firstAddress}
 use Rattle.stepper.specs.Stores.{storeOf}
 use Rattle.stepper.proofs.Again.{first-kept}
 use Rattle.model.specs.declared.Seen.{Seen}
@@ -33,8 +33,8 @@ took-none (Byte b) l w sc e = absurd (unlike (sym e))
 took-none (Refused n) l w sc e = (refl, refl)
 
 -- the block begins where it began
-pub first-stays : (seen : Seen) (l : Loader) (w sc : List ℕ) → firstOf (loaderBy seen l w sc) ≡ firstOf l
-unfolding firstOf
+pub first-stays : (seen : Seen) (l : Loader) (w sc : List ℕ) → firstAddress (loaderBy seen l w sc) ≡ firstAddress l
+unfolding firstAddress
 first-stays NoData l w sc = first-kept l 0 w (storeOf l 0 sc)
 first-stays (Byte b) l w sc = first-kept l b w (storeOf l b sc)
 first-stays (Refused n) l w sc = refl

@@ -25,7 +25,7 @@ ghost use Rattle.device.specs.Parts.{sizeOf};
 ghost use Rattle.bus.specs.Cycles.{judgeOf};
 ghost use Rattle.loader.specs.declared.Stage.the-variants.{Clearing};
 ghost use Rattle.loader.specs.Stages.{isEnded};
-ghost use Rattle.stepper.specs.Outs.{firstOf, hereOf, cycleOf};
+ghost use Rattle.stepper.specs.Outs.{firstAddress, hereOf, cycleOf};
 ghost use Rattle.stepper.specs.Front.{recordAt};
 ghost use Rattle.run.specs.Turns.{isRefused, numberIn, loaderBy, scratchBy, answerTo, arrayTo};
 ghost use Rattle.run.specs.Runs.{runNumber, begin, ranBy, driven, ranOf, bytesOf, scratchOf};
@@ -79,7 +79,7 @@ fn taken(seen: Seen, l: Loader, wanted: &[u8], scratch: &mut [u8]) -> Loader
 
 // The address of the byte at the record's place, by the block's first address.
 fn here(start: u32, l: Loader) -> u32
-    requires { ⌜ start ≡ firstOf l ⌝ }
+    requires { ⌜ start ≡ firstAddress l ⌝ }
     ensures { λ r. ⌜ r ≡ hereOf l ⌝ }
 {
     if l.place < 16777216 {
@@ -90,7 +90,7 @@ fn here(start: u32, l: Loader) -> u32
 
 // One cycle made, by the block's first address. Refusals 1 to 6 do not apply to it.
 fn both(d: Device, start: u32, h: Held, wanted: &[u8], scratch: &mut [u8], array: &mut [u8]) -> Held
-    requires { ⌜ (start ≡ firstOf (h .loader)) × (judgeOf d (h .state) (cycleOf (h .loader) (now wanted)) (length (now array)) 0 ≡ 0) ⌝ }
+    requires { ⌜ (start ≡ firstAddress (h .loader)) × (judgeOf d (h .state) (cycleOf (h .loader) (now wanted)) (length (now array)) 0 ≡ 0) ⌝ }
     ensures { λ r. ⌜ r .loader
         ≡ loaderBy (answerTo d (now (wanted .entry)) (h .loader) (h .state) (now (array .entry)) .seen) (h .loader) (now (wanted .entry)) (now (scratch .entry)) ⌝ }
     ensures { λ r. ⌜ r .state ≡ answerTo d (now (wanted .entry)) (h .loader) (h .state) (now (array .entry)) .state ⌝ }

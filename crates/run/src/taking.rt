@@ -12,12 +12,12 @@ use stepper::stores::store_erase;
 ghost use mathlib.Core.Path.{_≡_};
 ghost use lib.ListN.{set};
 ghost use Rattle.loader.specs.declared.Stage.the-variants.{EraseWaiting};
-ghost use Rattle.loader.specs.Moves.{readMore, erasePolled, verifyMore, nextOf};
+ghost use Rattle.loader.specs.Moves.{afterRead, erasePolled, verifyMore, nextOf};
 ghost use Rattle.stepper.specs.Stores.{storeIn, storeOf};
 
 // A byte of the first reads.
 fn take_read(l: Loader, b: u8, wanted: &[u8], scratch: &mut [u8]) -> Loader
-    ensures { λ r. ⌜ r ≡ readMore l (now (wanted .entry)) (set (now (scratch .entry)) (l .place) b) ⌝ }
+    ensures { λ r. ⌜ r ≡ afterRead l (now (wanted .entry)) (set (now (scratch .entry)) (l .place) b) ⌝ }
     ensures { λ _. ⌜ now (scratch .exit) ≡ set (now (scratch .entry)) (l .place) b ⌝ }
 {
     put(scratch, l.place, b);

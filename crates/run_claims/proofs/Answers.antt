@@ -26,7 +26,7 @@ use Rattle.chip.specs.Levels.{rpLow, vppLow, badPins, locked, unlocked}
 use Rattle.chip.specs.States.{atRest, mostLeft}
 use Rattle.chip.specs.Inner.{badMode, badStatus, badLeft, badAddress}
 use Rattle.commands.specs.Commands.{actionOf, firstWrite, afterErase, performedOf, startedOf, unsupplied}
-use Rattle.settling.specs.Settling.{settledAs, settleOf, countedOff, endOf}
+use Rattle.settling.specs.Settling.{settledAs, settleOf, countedOff, finishOf}
 use Rattle.bus.specs.Cycles.{shortResidue, noCommand, suspendedRead, noIdentifier, lateOf, decideOf, acceptOf, respondOf, decidedAs}
 use Rattle.chip.specs.Phases.{isBusy, isPending, isSuspended}
 use Rattle.bus.proofs.Ways.{accepted, number-late}
@@ -221,8 +221,8 @@ module _ (d : Device) (p : Pins) (u : Up d p) (was : State) where
         (late-status (st was Status 0 ph left a) b refl)
 
     pub ends : (ph : Phase) (a b : ℕ) → isBusy ph ≡ true → 1 ≤ mostLeft d ph → a < sizeOf (d .part) → b < sizeOf (d .part)
-        → decideOf d (st was Status 0 ph 1 a) (cyc p Read b 0) (sizeOf (d .part)) 0 ≡ decidedAs (Gives 128) (atRest was Status 128) (endOf ph (d .part) a)
+        → decideOf d (st was Status 0 ph 1 a) (cyc p Read b 0) (sizeOf (d .part)) 0 ≡ decidedAs (Gives 128) (atRest was Status 128) (finishOf ph (d .part) a)
     unfolding countedOff
     ends ph a b e m h g =
         let s : State = st was Status 0 ph 1 a in
-        decides s (atRest was Status 128) (endOf ph (d .part) a) Read b 0 (busy-proper ph 1 a e (omega arith) m h) g (unasked-high (d .part) s (cyc p Read b 0) (u .up) (r .high)) (counts s e) (late-status (atRest was Status 128) b refl)
+        decides s (atRest was Status 128) (finishOf ph (d .part) a) Read b 0 (busy-proper ph 1 a e (omega arith) m h) g (unasked-high (d .part) s (cyc p Read b 0) (u .up) (r .high)) (counts s e) (late-status (atRest was Status 128) b refl)

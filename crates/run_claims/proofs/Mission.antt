@@ -32,7 +32,7 @@ use Rattle.run.specs.declared.Ran.{Ran}
 use Rattle.run.specs.Turns.{bound}
 use Rattle.run.specs.Runs.{beginning, driven, leftBy, ranOf, bytesOf, scratchOf}
 use Rattle.run_claims.specs.Wear.{begunByLoad, heldIn, heldBy, baseOf, erasesOf, programsIn, programsOf, differing, formula, operationsOf}
-use Rattle.model_history.specs.History.{Bus, World, worldOf, worldAfter, effectsIn, begunOver, uncut, total, eraseOf, programIn, programOf, erasesBegun, programsBegun}
+use Rattle.model_history.specs.History.{Bus, World, worldOf, worldAfter, effectsIn, begunOver, uncut, totalOf, eraseOf, programIn, programOf, erasesBegun, programsBegun}
 use Rattle.run.proofs.Good.{good}
 use Rattle.run_claims.specs.Made.{cyclesOfLoad, smoothLoad, cyclesOf, readsThen, pollsThen, openingThen, eraseThen, programThen, programsThen, closingOf, programmingOf}
 use Rattle.run_claims.specs.Mission.{Start, Brings, ownCycles, NoFewer, Demand3}
@@ -43,39 +43,39 @@ use Rattle.run_claims.proofs.Least.{least}
 use Rattle.run_claims.proofs.Own.{noted-total, deviceIn, own-leads as leads, own-begins as begins, own-smooth as smooth}
 
 -- the programs of a load are counted, all in the block, and none of them is an erase
-programs-counted : (j i a n b : ℕ) (w s : List ℕ) → a ≤ b + i → b + i + j ≤ a + n → total (programIn a n) (programsOf j b i w s) ≡ differing j i w s
+programs-counted : (j i a n b : ℕ) (w s : List ℕ) → a ≤ b + i → b + i + j ≤ a + n → totalOf (programIn a n) (programsOf j b i w s) ≡ differing j i w s
 programs-counted zero i a n b w s lo hi = refl
 programs-counted (suc j) i a n b w s lo hi = go (eqb (getD s i 0) (getD w i 0)) (programs-counted j (i + 1) a n b w s (omega arith) (omega arith))
   where
-    go : (t : Bool) → total (programIn a n) (programsOf j b (i + 1) w s) ≡ differing j (i + 1) w s
-        → total (programIn a n) (if t then programsOf j b (i + 1) w s else Program (b + i) (getD w i 0) ∷ programsOf j b (i + 1) w s) ≡ (if t then 0 else 1) + differing j (i + 1) w s
+    go : (t : Bool) → totalOf (programIn a n) (programsOf j b (i + 1) w s) ≡ differing j (i + 1) w s
+        → totalOf (programIn a n) (if t then programsOf j b (i + 1) w s else Program (b + i) (getD w i 0) ∷ programsOf j b (i + 1) w s) ≡ (if t then 0 else 1) + differing j (i + 1) w s
     go true e = omega arith
     go false e = rw (le-ltb (b + i) a lo, lt-ltb (b + i) (a + n) (omega arith)) (omega arith)
 
-no-erase : (j i k b : ℕ) (w s : List ℕ) → total (eraseOf k) (programsOf j b i w s) ≡ 0
+no-erase : (j i k b : ℕ) (w s : List ℕ) → totalOf (eraseOf k) (programsOf j b i w s) ≡ 0
 no-erase zero i k b w s = refl
 no-erase (suc j) i k b w s = go (eqb (getD s i 0) (getD w i 0)) (no-erase j (i + 1) k b w s)
   where
-    go : (t : Bool) → total (eraseOf k) (programsOf j b (i + 1) w s) ≡ 0 → total (eraseOf k) (if t then programsOf j b (i + 1) w s else Program (b + i) (getD w i 0) ∷ programsOf j b (i + 1) w s) ≡ 0
+    go : (t : Bool) → totalOf (eraseOf k) (programsOf j b (i + 1) w s) ≡ 0 → totalOf (eraseOf k) (if t then programsOf j b (i + 1) w s else Program (b + i) (getD w i 0) ∷ programsOf j b (i + 1) w s) ≡ 0
     go true e = e
     go false e = omega arith
 
-no-program : (n a k : ℕ) (es : List Effect) → total (programIn a n) (Erase k ∷ es) ≡ total (programIn a n) es
+no-program : (n a k : ℕ) (es : List Effect) → totalOf (programIn a n) (Erase k ∷ es) ≡ totalOf (programIn a n) es
 no-program n a k es = omega arith
 
-operations-erase : (part : Part) (k a : ℕ) (w ys : List ℕ) → total (eraseOf k) (operationsOf part k a w ys) ≡ erasesOf w ys
+operations-erase : (part : Part) (k a : ℕ) (w ys : List ℕ) → totalOf (eraseOf k) (operationsOf part k a w ys) ≡ erasesOf w ys
 operations-erase part k a w ys = go (risesIn w ys) (no-erase (length w) 0 k a w (baseOf part w ys))
   where
-    go : (t : Bool) → total (eraseOf k) (programsOf (length w) a 0 w (baseOf part w ys)) ≡ 0
-        → total (eraseOf k) (if t then Erase k ∷ programsOf (length w) a 0 w (baseOf part w ys) else programsOf (length w) a 0 w (baseOf part w ys)) ≡ (if t then 1 else 0)
+    go : (t : Bool) → totalOf (eraseOf k) (programsOf (length w) a 0 w (baseOf part w ys)) ≡ 0
+        → totalOf (eraseOf k) (if t then Erase k ∷ programsOf (length w) a 0 w (baseOf part w ys) else programsOf (length w) a 0 w (baseOf part w ys)) ≡ (if t then 1 else 0)
     go true e = rw (eq-eqb k k refl) (omega arith)
     go false e = e
 
-operations-program : (part : Part) (k a : ℕ) (w ys : List ℕ) → total (programIn a (length w)) (operationsOf part k a w ys) ≡ programsIn part w ys
+operations-program : (part : Part) (k a : ℕ) (w ys : List ℕ) → totalOf (programIn a (length w)) (operationsOf part k a w ys) ≡ programsIn part w ys
 operations-program part k a w ys = go (risesIn w ys) (programs-counted (length w) 0 a (length w) a w (baseOf part w ys) (omega arith) (omega arith))
   where
-    go : (t : Bool) → total (programIn a (length w)) (programsOf (length w) a 0 w (baseOf part w ys)) ≡ programsIn part w ys
-        → total (programIn a (length w)) (if t then Erase k ∷ programsOf (length w) a 0 w (baseOf part w ys) else programsOf (length w) a 0 w (baseOf part w ys)) ≡ programsIn part w ys
+    go : (t : Bool) → totalOf (programIn a (length w)) (programsOf (length w) a 0 w (baseOf part w ys)) ≡ programsIn part w ys
+        → totalOf (programIn a (length w)) (if t then Erase k ∷ programsOf (length w) a 0 w (baseOf part w ys) else programsOf (length w) a 0 w (baseOf part w ys)) ≡ programsIn part w ys
     go true e = no-program (length w) a k (programsOf (length w) a 0 w (baseOf part w ys)) ∙ e
     go false e = e
 
@@ -159,13 +159,13 @@ module _ (d : Device) (s : State) (p : Pins) (k : ℕ) (xs w sc : List ℕ) (sta
   -- no uncut cycles from the same start to the same block contents begin fewer erases of the block or fewer programs in it
   pub nothing-less : (bs : List Bus) → Cells (d .part) xs → uncut (effectsIn d (worldOf s xs) bs) ≡ true
       → heldIn a (length w) (worldAfter d (worldOf s xs) bs .bytes) ≡ w
-      → (total (eraseOf k) (begunByLoad d s p k xs w sc) ≤ total (eraseOf k) (begunOver d (worldOf s xs) bs))
-      × (total (programIn a (length w)) (begunByLoad d s p k xs w sc) ≤ total (programIn a (length w)) (begunOver d (worldOf s xs) bs))
+      → (totalOf (eraseOf k) (begunByLoad d s p k xs w sc) ≤ totalOf (eraseOf k) (begunOver d (worldOf s xs) bs))
+      × (totalOf (programIn a (length w)) (begunByLoad d s p k xs w sc) ≤ totalOf (programIn a (length w)) (begunOver d (worldOf s xs) bs))
   nothing-less bs bx u h =
       let g = good d s p k (length xs) (length w) (length sc) (none-refuses d s p k xs w sc (start .base)) in
       let m = least d k (worldOf s xs) w bs (g .sized) (g .wanted) bx (g .free) u h in
-      let e = ap (λ (es : List Effect). total (eraseOf k) es) begins-just ∙ operations-erase (d .part) k a w ys in
-      let q = ap (λ (es : List Effect). total (programIn a (length w)) es) begins-just ∙ operations-program (d .part) k a w ys in
+      let e = ap (λ (es : List Effect). totalOf (eraseOf k) es) begins-just ∙ operations-erase (d .part) k a w ys in
+      let q = ap (λ (es : List Effect). totalOf (programIn a (length w)) es) begins-just ∙ operations-program (d .part) k a w ys in
       (omega (arith, m .0), omega (arith, m .1))
 
   -- what the block held, by the block's own length
@@ -211,13 +211,13 @@ module _ (d : Device) (s : State) (p : Pins) (k : ℕ) (xs w sc : List ℕ) (sta
         erases = subst (λ (n : ℕ). n ≤ erasesBegun d (worldOf s xs) k bs) (sym (weighs (eraseOf k) refl)) (m .0);
         programs =
             subst (λ (n : ℕ). n ≤ programsBegun d (worldOf s xs) k bs) (sym (weighs (programOf (d .part) k) refl))
-            (subst (λ (n : ℕ). total (programIn a n) (begunByLoad d s p k xs w sc) ≤ total (programIn a n) (begunOver d (worldOf s xs) bs)) (start .base .wanted) (m .1));
+            (subst (λ (n : ℕ). totalOf (programIn a n) (begunByLoad d s p k xs w sc) ≤ totalOf (programIn a n) (begunOver d (worldOf s xs) bs)) (start .base .wanted) (m .1));
       }
     where
-      weighs : (f : Effect → ℕ) → f Nothing ≡ 0 → total f (begunOver d (worldOf s xs) own) ≡ total f (begunByLoad d s p k xs w sc)
+      weighs : (f : Effect → ℕ) → f Nothing ≡ 0 → totalOf f (begunOver d (worldOf s xs) own) ≡ totalOf f (begunByLoad d s p k xs w sc)
       weighs f z =
           sym (noted-total f z (begunOver d (worldOf s xs) own))
-          ∙ ap (λ (es : List Effect). total f es) (begins d w (bound (length w)) (beginning d s p k xs sc))
+          ∙ ap (λ (es : List Effect). totalOf f es) (begins d w (bound (length w)) (beginning d s p k xs sc))
 
   -- demand 3 whole
   pub demand-3 : Demand3 d s p k xs w sc

@@ -19,15 +19,15 @@ use Rattle.run.specs.Turns.{Config, answerTo, arrayTo, turnOf, after}
 use Rattle.loader.specs.Stages.{isEnded}
 use Rattle.run.proofs.Turning.{turn-ended, turn-going}
 use Rattle.run_claims.specs.Wear.{noted, notedAll, begunTurn, begunIn}
-use Rattle.model_history.specs.History.{Bus, World, worldOf, busesOf, stepped, worldAfter, effectsIn, begunOver, acceptsAll, isCut, uncut, total}
+use Rattle.model_history.specs.History.{Bus, World, worldOf, busesOf, stepped, worldAfter, effectsIn, begunOver, acceptsAll, isCut, uncut, totalOf}
 use Rattle.run_claims.specs.Made.{madeIn, isSmooth, smoothTurn, smoothIn}
 
 -- the operations without the places where nothing is weigh the same
-pub noted-total : (f : Effect → ℕ) → f Nothing ≡ 0 → (es : List Effect) → total f (notedAll es) ≡ total f es
+pub noted-total : (f : Effect → ℕ) → f Nothing ≡ 0 → (es : List Effect) → totalOf f (notedAll es) ≡ totalOf f es
 noted-total f z [] = refl
 noted-total f z (e ∷ es) = each e (noted-total f z es)
   where
-    each : (e : Effect) → total f (notedAll es) ≡ total f es → total f (noted e (notedAll es)) ≡ f e + total f es
+    each : (e : Effect) → totalOf f (notedAll es) ≡ totalOf f es → totalOf f (noted e (notedAll es)) ≡ f e + totalOf f es
     each Nothing h = omega arith
     each (Program a b) h = ap (λ (n : ℕ). f (Program a b) + n) h
     each (Erase k) h = ap (λ (n : ℕ). f (Erase k) + n) h

@@ -40,8 +40,8 @@ use Rattle.loader.specs.declared.Stage.{Stage}
 use Rattle.loader.specs.declared.Stage.the-variants.{Clearing, Opening, Reading, EraseAsking, EraseConfirming, EraseWaiting, ProgramAsking, ProgramSending, ProgramWaiting, Closing, Verifying, Ended}
 use Rattle.loader.specs.declared.Loader.{Loader}
 use Rattle.loader.specs.Walks.{mustRise, rises, nextDiff, diffFrom, risesIn}
-use Rattle.loader.specs.Moves.{nextOf, onward, afterReads, readMore, pollMore, erasePolled, past, programPolled, verifyMore, eraseFault, programFault, bothErrors}
-use Rattle.stepper.specs.Outs.{firstOf, hereOf, cycleOf}
+use Rattle.loader.specs.Moves.{nextOf, onward, afterReads, afterRead, pollMore, erasePolled, past, programPolled, verifyMore, eraseFault, programFault, bothErrors}
+use Rattle.stepper.specs.Outs.{firstAddress, hereOf, cycleOf}
 use Rattle.stepper.specs.Stores.{storeOf, erasedWell}
 use Rattle.stepper.proofs.Small.{length-small}
 use Rattle.loader.proofs.Walking.{diff-turn, diff-over}
@@ -103,12 +103,12 @@ module _ (d : Device) (p : Pins) (k : ℕ) (u : Up d p) (was : State) (w : List 
   pub block-first : blockOf (d .part) a ≡ k
   block-first = subst (λ (x : ℕ). blockOf (d .part) x ≡ k) (let q : a + 0 ≡ a = omega arith in q) (block-at 0 some)
 
-  pub first : (stage : Stage) (i q : ℕ) → firstOf (rec stage i q) ≡ a
-  unfolding firstOf
+  pub first : (stage : Stage) (i q : ℕ) → firstAddress (rec stage i q) ≡ a
+  unfolding firstAddress
   first stage i q = refl
 
   pub here : (stage : Stage) (i q : ℕ) → i < length w → hereOf (rec stage i q) ≡ a + i
-  unfolding hereOf firstOf
+  unfolding hereOf firstAddress
   here stage i q h = if-true (ltb i 16777216) (a + i) a (lt-ltb i 16777216 (omega (arith, length-small (d .part) k)))
 
   -- a stage whose cycle goes to an address known, and what the model decides on it
@@ -116,7 +116,7 @@ module _ (d : Device) (p : Pins) (k : ℕ) (u : Up d p) (was : State) (w : List 
       → decideOf d s (cyc p kind (a + i) b) (sizeOf (d .part)) 0 ≡ decidedAs reply s′ e → isSmooth (decidedAs reply s′ e) ≡ true → Told d w (rec stage i q) s (cyc p kind (a + i) b) reply s′ e
   told-here stage i q kind b s reply s′ e h o x f = record { out = o ∙ ap (λ (y : ℕ). cyc p kind y b) (here stage i q h); decided = x; fine = f }
 
-  pub told-first : (stage : Stage) (i q : ℕ) (kind : Kind) (b : ℕ) (s : State) (reply : Reply) (s′ : State) (e : Effect) → cycleOf (rec stage i q) w ≡ cyc p kind (firstOf (rec stage i q)) b
+  pub told-first : (stage : Stage) (i q : ℕ) (kind : Kind) (b : ℕ) (s : State) (reply : Reply) (s′ : State) (e : Effect) → cycleOf (rec stage i q) w ≡ cyc p kind (firstAddress (rec stage i q)) b
       → decideOf d s (cyc p kind a b) (sizeOf (d .part)) 0 ≡ decidedAs reply s′ e → isSmooth (decidedAs reply s′ e) ≡ true → Told d w (rec stage i q) s (cyc p kind a b) reply s′ e
   told-first stage i q kind b s reply s′ e o x f = record { out = o ∙ ap (λ (y : ℕ). cyc p kind y b) (first stage i q); decided = x; fine = f }
 
@@ -443,12 +443,12 @@ module _ (d : Device) (p : Pins) (k : ℕ) (u : Up d p) (was : State) (w : List 
         all-erased = erased-blank X (blockOf (d .part) a) block-first ∙ over-over xs a ys blank (a-within xs lx) (ly ∙ sym (length-replicate (length w) (ones (d .part))))
 
     -- one more byte of the first reads
-    read-next : (i : ℕ) (sc : List ℕ) → i + 1 < length w → readMore (rec Reading i 0) w sc ≡ rec Reading (i + 1) 0
-    unfolding readMore
+    read-next : (i : ℕ) (sc : List ℕ) → i + 1 < length w → afterRead (rec Reading i 0) w sc ≡ rec Reading (i + 1) 0
+    unfolding afterRead
     read-next i sc h = if-true (ltb i (length w - 1)) _ _ (lt-ltb i (length w - 1) (omega arith))
 
-    read-last : (i : ℕ) (sc : List ℕ) → i + 1 ≡ length w → readMore (rec Reading i 0) w sc ≡ afterReads (rec Reading i 0) w sc
-    unfolding readMore
+    read-last : (i : ℕ) (sc : List ℕ) → i + 1 ≡ length w → afterRead (rec Reading i 0) w sc ≡ afterReads (rec Reading i 0) w sc
+    unfolding afterRead
     read-last i sc h = if-false (ltb i (length w - 1)) _ _ (le-ltb i (length w - 1) (omega arith))
 
     after-same : (i : ℕ) (sc : List ℕ) → afterReads (rec Reading i 0) w sc ≡ (if risesIn w sc then rec EraseAsking 0 0 else onto 0 sc)
@@ -469,7 +469,7 @@ module _ (d : Device) (p : Pins) (k : ℕ) (u : Up d p) (was : State) (w : List 
           let h : i < length w = omega arith in
           prepend d w _ _ e Nothing (cyc p Read (a + i) 0) es cs
           (turned d w (rec Reading i 0) (atRest was Array 128) (overlaid xs a ys) (laid i ys sc) cnt refl (sized ys ly) (cyc p Read (a + i) 0) (GivesArray (a + i)) (atRest was Array 128) Nothing (read-told i h)
-          ∙ (λ t. conf ((ap (λ (y : List ℕ). readMore (rec Reading i 0) w y) (laid-read i h ∙ whole) ∙ read-last i ys (omega arith) ∙ after-same i ys) t) (atRest was Array 128) (overlaid xs a ys) ((laid-read i h ∙ whole) t) (cnt + 1)))
+          ∙ (λ t. conf ((ap (λ (y : List ℕ). afterRead (rec Reading i 0) w y) (laid-read i h ∙ whole) ∙ read-last i ys (omega arith) ∙ after-same i ys) t) (atRest was Array 128) (overlaid xs a ys) ((laid-read i h ∙ whole) t) (cnt + 1)))
           (does d w (rec Reading i 0) (atRest was Array 128) (overlaid xs a ys) (laid i ys sc) cnt refl (sized ys ly) (cyc p Read (a + i) 0) (GivesArray (a + i)) (atRest was Array 128) Nothing (read-told i h))
           (rest (cnt + 1) (omega arith))
         where

@@ -25,7 +25,7 @@ use Rattle.chip.specs.declared.Decision.{Decision}
 use Rattle.chip.specs.declared.Settled.{Settled}
 use Rattle.chip.specs.declared.State.{State}
 use Rattle.chip.specs.Levels.{rpLow, badPins}
-use Rattle.bus.specs.Cycles.{decideOf, respondOf, readOf}
+use Rattle.bus.specs.Cycles.{decideOf, respondOf, replyTo}
 use Rattle.chip.specs.Kinds.{isRead}
 use Rattle.settling.specs.Settling.{settleOf}
 use Rattle.model.specs.declared.Seen.{Seen}
@@ -38,9 +38,9 @@ use Rattle.loader.specs.declared.Loader.{Loader}
 use Rattle.loader.specs.declared.Turn.the-variants.{Over}
 use Rattle.loader.specs.declared.Given.{Given}
 use Rattle.loader.specs.Moves.{nextIn, nextOf}
-use Rattle.stepper.specs.Outs.{cycleIn, cycleOf}
+use Rattle.stepper.specs.Outs.{cycleAtStage, cycleOf}
 use Rattle.stepper.specs.Stores.{storeIn, storeOf}
-use Rattle.stepper.specs.Front.{barredPins, startNumber, stepNumber, recordAt, endAddress, turnIn, givenBy, stepOf, scratchAfter}
+use Rattle.stepper.specs.Front.{barredPins, startNumber, stepNumber, recordAt, endAddress, turnIn, turnGiven, stepGiven, scratchAfter}
 use Rattle.stepper.proofs.Again.{taken, start-gives, start-again, step-on, step-again}
 use Rattle.run.specs.declared.Ran.{Ran}
 use Rattle.run.specs.Turns as turns
@@ -96,7 +96,7 @@ read-answered d s c n r xs kind up =
     (λ z f. accept-ways d c (settleOf (d .part) s (c .pins)) (λ (x : Decision). isRefusal (x .reply) ≡ false → seenOf (x .reply) xs ≡ Byte (numberIn (seenOf (x .reply) xs)))
     (λ e q. absurd (unlike (sym e ∙ up))) (λ e k h q. kinds (settleOf (d .part) s (c .pins)) k (sym h ∙ kind)))
   where
-    reads : (m : Mode) (a sr : ℕ) → seenOf (readOf m (d .part) a sr) xs ≡ Byte (numberIn (seenOf (readOf m (d .part) a sr) xs))
+    reads : (m : Mode) (a sr : ℕ) → seenOf (replyTo m (d .part) a sr) xs ≡ Byte (numberIn (seenOf (replyTo m (d .part) a sr) xs))
     reads Array a sr = refl
     reads Status a sr = refl
     reads Identifier a sr = refl
@@ -107,7 +107,7 @@ read-answered d s c n r xs kind up =
     kinds t Idle q = absurd (unlike (sym (ap isRead q)))
 
 -- the cycle that is out has the record's levels
-out-pins : (stage : Stage) (first here : ℕ) (l : Loader) (w : List ℕ) → cycleIn stage first here l w .pins ≡ l .pins
+out-pins : (stage : Stage) (first here : ℕ) (l : Loader) (w : List ℕ) → cycleAtStage stage first here l w .pins ≡ l .pins
 out-pins Clearing first here l w = refl
 out-pins Opening first here l w = refl
 out-pins Reading first here l w = refl
@@ -130,7 +130,7 @@ same-byte : (stage : Stage) (l : Loader) (w sc : List ℕ) (b x : ℕ) → b ≡
 same-byte stage l w sc b x q =
     record { stored = ap (λ (y : ℕ). storeIn stage (l .part) (l .place) y sc) q; next = ap (λ (y : ℕ). nextIn stage l y w (storeIn stage (l .part) (l .place) y sc)) q }
 
-alike : (stage : Stage) (first here : ℕ) (l : Loader) (w sc : List ℕ) (b x : ℕ) → (cycleIn stage first here l w .kind ≡ Read → b ≡ x) → Alike stage l w sc b x
+alike : (stage : Stage) (first here : ℕ) (l : Loader) (w sc : List ℕ) (b x : ℕ) → (cycleAtStage stage first here l w .kind ≡ Read → b ≡ x) → Alike stage l w sc b x
 alike Clearing first here l w sc b x h = record { stored = refl; next = refl }
 alike Opening first here l w sc b x h = record { stored = refl; next = refl }
 alike Reading first here l w sc b x h = same-byte Reading l w sc b x (h refl)
@@ -178,10 +178,10 @@ module _ (d : Device) (w : List ℕ) (c : Config) (going : isEnded (c .loader .s
   turn-passes : stepNumber (turnOf d w c .loader) (length w) (length (turnOf d w c .scratch)) ≡ 0
   turn-passes =
       let s = step-on (c .loader) (numberIn seen) w (c .scratch) passes in
-      let l : stepOf (c .loader) (numberIn seen) w (c .scratch) .loader ≡ turnOf d w c .loader = ap (λ (g : Given). g .loader) (s .0) ∙ sym turn-loader in
+      let l : stepGiven (c .loader) (numberIn seen) w (c .scratch) .loader ≡ turnOf d w c .loader = ap (λ (g : Given). g .loader) (s .0) ∙ sym turn-loader in
       let r : scratchAfter (c .loader) (numberIn seen) w (c .scratch) ≡ turnOf d w c .scratch = s .1 ∙ sym turn-scratch in
       subst (λ (x : Loader). stepNumber x (length w) (length (turnOf d w c .scratch)) ≡ 0) l
-      (subst (λ (x : List ℕ). stepNumber (stepOf (c .loader) (numberIn seen) w (c .scratch) .loader) (length w) (length x) ≡ 0) r
+      (subst (λ (x : List ℕ). stepNumber (stepGiven (c .loader) (numberIn seen) w (c .scratch) .loader) (length w) (length x) ≡ 0) r
       (step-again (c .loader) (numberIn seen) w (c .scratch) passes))
 
   -- the step with the byte handed on gives and leaves the same
@@ -189,8 +189,8 @@ module _ (d : Device) (w : List ℕ) (c : Config) (going : isEnded (c .loader .s
     same : Alike (c .loader .stage) (c .loader) w (c .scratch) b (numberIn seen)
     same = alike (c .loader .stage) _ _ (c .loader) w (c .scratch) b (numberIn seen) (λ kind. handed (numberIn seen) kind (turn-read kind))
 
-    pub step-given : stepOf (c .loader) b w (c .scratch) ≡ givenBy (turnOf d w c .loader) w
-    step-given = step-on (c .loader) b w (c .scratch) passes .0 ∙ ap (λ (l : Loader). givenBy l w) (same .next ∙ sym turn-loader)
+    pub step-given : stepGiven (c .loader) b w (c .scratch) ≡ turnGiven (turnOf d w c .loader) w
+    step-given = step-on (c .loader) b w (c .scratch) passes .0 ∙ ap (λ (l : Loader). turnGiven l w) (same .next ∙ sym turn-loader)
 
     pub step-stored : scratchAfter (c .loader) b w (c .scratch) ≡ turnOf d w c .scratch
     step-stored = step-on (c .loader) b w (c .scratch) passes .1 ∙ same .stored ∙ sym turn-scratch
@@ -279,10 +279,10 @@ module _ (d : Device) (s : State) (p : Pins) (k : ℕ) (xs w sc : List ℕ) (fre
   ended-as : (j : ℕ) → over j ≡ false → over (suc j) ≡ true → ranBy (at (suc j)) ≡ ran
   ended-as j e z = sym (promise .returned ∙ ap (λ (i : ℕ). ranBy (at i)) (counting j e z))
 
-  stepping : (j b : ℕ) → over j ≡ false → Handed d w (at j) b → stepOf (at j .loader) b w (at j .scratch) ≡ givenBy (at (suc j) .loader) w
-  stepping j b e h = step-given d w (at j) e (fine j e) (passes j) b h ∙ ap (λ (c : Config). givenBy (c .loader) w) (sym (last j))
+  stepping : (j b : ℕ) → over j ≡ false → Handed d w (at j) b → stepGiven (at j .loader) b w (at j .scratch) ≡ turnGiven (at (suc j) .loader) w
+  stepping j b e h = step-given d w (at j) e (fine j e) (passes j) b h ∙ ap (λ (c : Config). turnGiven (c .loader) w) (sym (last j))
 
-  ending : (j b : ℕ) → over j ≡ false → over (suc j) ≡ true → Handed d w (at j) b → stepOf (at j .loader) b w (at j .scratch) .turn ≡ Over (ran .end) (ran .address)
+  ending : (j b : ℕ) → over j ≡ false → over (suc j) ≡ true → Handed d w (at j) b → stepGiven (at j .loader) b w (at j .scratch) .turn ≡ Over (ran .end) (ran .address)
   ending j b e z h =
       ap (λ (g : Given). g .turn) (stepping j b e h)
       ∙ over-told (at (suc j) .loader .stage) (at (suc j) .loader) w z

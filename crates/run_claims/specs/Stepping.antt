@@ -13,7 +13,7 @@ use Rattle.model.specs.declared.Answer.{Answer}
 use Rattle.loader.specs.declared.Stage.the-variants.{Clearing}
 use Rattle.loader.specs.declared.Turn.the-variants.{Over}
 use Rattle.stepper.specs.Outs.{cycleOf}
-use Rattle.stepper.specs.Front.{recordAt, givenBy, startOf, stepOf, scratchAfter}
+use Rattle.stepper.specs.Front.{recordAt, turnGiven, startGiven, stepGiven, scratchAfter}
 use Rattle.run.specs.Turns.{Config, isRefused, numberIn, answerTo, arrayTo, after}
 use Rattle.loader.specs.Stages.{isEnded}
 use Rattle.run.specs.Runs.{beginning, ranOf, bytesOf, scratchOf}
@@ -38,7 +38,7 @@ module _ (d : Device) (s : State) (p : Pins) (k : ℕ) (xs w sc : List ℕ) wher
   -- stepping by hand is the run, sentence by sentence
   pub record Stepped : Type 0 where
     -- the start gives the first record of the run and the cycle that is out there
-    pub starts : startOf (d .part) p k w sc ≡ givenBy (runAt 0 .loader) w
+    pub starts : startGiven (d .part) p k w sc ≡ turnGiven (runAt 0 .loader) w
     -- the run is before its end for as many cycles as it counts, and no longer
     pub lasts : (j : ℕ) → (overAt j ≡ false) ↔ (j < ranOf d s p k xs w sc .count)
     -- before its end the model takes the cycle that is out, answers a read by a byte, and leaves the run's next state and array
@@ -49,12 +49,12 @@ module _ (d : Device) (s : State) (p : Pins) (k : ℕ) (xs w sc : List ℕ) wher
         → (answerAt d w (runAt j) .state ≡ runAt (suc j) .state) × (arrayTo d w (runAt j .loader) (runAt j .state) (runAt j .bytes) ≡ runAt (suc j) .bytes)
     -- with that byte handed on, the step gives the run's next record and the cycle that is out there, or the end
     pub steps : (j b : ℕ) → overAt j ≡ false → Handed d w (runAt j) b
-        → stepOf (runAt j .loader) b w (runAt j .scratch) ≡ givenBy (runAt (suc j) .loader) w
+        → stepGiven (runAt j .loader) b w (runAt j .scratch) ≡ turnGiven (runAt (suc j) .loader) w
     -- and it leaves the run's scratch
     pub stores : (j b : ℕ) → overAt j ≡ false → Handed d w (runAt j) b → scratchAfter (runAt j .loader) b w (runAt j .scratch) ≡ runAt (suc j) .scratch
     -- the step that ends gives the run's end and address
     pub ends : (j b : ℕ) → overAt j ≡ false → overAt (suc j) ≡ true → Handed d w (runAt j) b
-        → stepOf (runAt j .loader) b w (runAt j .scratch) .turn ≡ Over (ranOf d s p k xs w sc .end) (ranOf d s p k xs w sc .address)
+        → stepGiven (runAt j .loader) b w (runAt j .scratch) .turn ≡ Over (ranOf d s p k xs w sc .end) (ranOf d s p k xs w sc .address)
     -- it comes after as many cycles as the run counts
     pub counts : (j : ℕ) → overAt j ≡ false → overAt (suc j) ≡ true → ranOf d s p k xs w sc .count ≡ suc j
     -- and state, array and scratch are then those that the run returns and leaves

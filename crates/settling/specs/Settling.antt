@@ -32,13 +32,13 @@ cutOf Erasing part a = CutErase (blockOf part a)
 cutOf Suspended part a = CutErase (blockOf part a)
 
 -- the end of the operation that is running
-abbrev pub endOf : Phase → Part → ℕ → Effect
-endOf Free part a = Nothing
-endOf EraseAwaited part a = Nothing
-endOf DataAwaited part a = Nothing
-endOf (Programming b) part a = Program a b
-endOf Erasing part a = Erase (blockOf part a)
-endOf Suspended part a = Nothing
+abbrev pub finishOf : Phase → Part → ℕ → Effect
+finishOf Free part a = Nothing
+finishOf EraseAwaited part a = Nothing
+finishOf DataAwaited part a = Nothing
+finishOf (Programming b) part a = Program a b
+finishOf Erasing part a = Erase (blockOf part a)
+finishOf Suspended part a = Nothing
 
 -- what a cut by VPP sets: SR.7 and SR.3, with SR.4 for a program or SR.5 for an erase
 abbrev pub cutBits : Phase → ℕ
@@ -69,7 +69,7 @@ cutBy part s = settledAs (atRest s Status (withBits (withoutBits (s .status) SR6
 -- step 3: a running operation counts one cycle off; at zero it is finished
 unfoldable pub countedOff : Part → State → Settled
 countedOff part s =
-    if eqb (s .left - 1) 0 then settledAs (atRest s (s .mode) (withBits (s .status) SR7)) (endOf (s .phase) part (s .address))
+    if eqb (s .left - 1) 0 then settledAs (atRest s (s .mode) (withBits (s .status) SR7)) (finishOf (s .phase) part (s .address))
     else settledAs (record { mode = s .mode; status = s .status; phase = s .phase; left = s .left - 1; address = s .address }) Nothing
 
 -- the three steps in their order

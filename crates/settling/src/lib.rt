@@ -19,7 +19,7 @@ use chip::states::reset;
 use device::Part;
 ghost use mathlib.Core.Path.{_≡_};
 ghost use mathlib.Core.Bool.{_&&_};
-ghost use Rattle.settling.specs.Settling.{cutOf, endOf, cutBits, residueFor, resetBy, cutBy, countedOff, settleOf};
+ghost use Rattle.settling.specs.Settling.{cutOf, finishOf, cutBits, residueFor, resetBy, cutBy, countedOff, settleOf};
 
 // The cut of the operation that is running or suspended.
 fn cut(ph: Phase, part: Part, address: u32) -> Effect
@@ -37,7 +37,7 @@ fn cut(ph: Phase, part: Part, address: u32) -> Effect
 
 // The end of the operation that is running.
 fn end(ph: Phase, part: Part, address: u32) -> Effect
-    ensures { λ r. ⌜ r ≡ endOf ph part address ⌝ }
+    ensures { λ r. ⌜ r ≡ finishOf ph part address ⌝ }
 {
     match ph {
         Phase::Free => Effect::Nothing,

@@ -24,10 +24,10 @@ use Rattle.loader.specs.declared.Turn.the-variants.{Out, Over, Barred}
 use Rattle.loader.specs.declared.Given.{Given}
 use Rattle.loader.specs.Walks.{diffFrom, risesIn}
 use Rattle.loader.specs.Moves as moves
-use Rattle.loader.specs.Moves.{at, endedBy, isReady, eraseFault, programFault, onward, afterReads, readMore, pollMore, erasePolled, programPolled, verifyMore, nextIn, nextOf}
-use Rattle.stepper.specs.Outs.{firstOf}
+use Rattle.loader.specs.Moves.{movedTo, endedBy, isReady, eraseFault, programFault, onward, afterReads, afterRead, pollMore, erasePolled, programPolled, verifyMore, nextIn, nextOf}
+use Rattle.stepper.specs.Outs.{firstAddress}
 use Rattle.stepper.specs.Stores.{erasedWell, storeIn, storeOf}
-use Rattle.stepper.specs.Front.{barredPins, noBlock, wrongLengths, badRecord, startRows, stepRows, startNumber, stepNumber, recordAt, endAddress, turnIn, givenBy, barredBy, isBarred, startOf, stepOf, scratchAfter}
+use Rattle.stepper.specs.Front.{barredPins, noBlock, wrongLengths, badRecord, startRows, stepRows, startNumber, stepNumber, recordAt, endAddress, turnIn, turnGiven, barredBy, isBarred, startGiven, stepGiven, scratchAfter}
 
 -- the number that an answer refuses by, 0 where it is no refusal
 abbrev pub barring : Turn → ℕ
@@ -53,16 +53,16 @@ free-in (Ended n) l w = (refl, refl)
 -- an answer by a number: what is given where it is 0, the refusal with its record where it is not
 module _ (n : ℕ) (l : Loader) (w : List ℕ) (r : Loader) where
   abbrev pub judged : Given
-  judged = if eqb n 0 then givenBy l w else barredBy n r
+  judged = if eqb n 0 then turnGiven l w else barredBy n r
 
   judged-told : barring (judged .turn) ≡ n
   judged-told = if-ind (λ (g : Given). barring (g .turn) ≡ n) (eqb n 0) _ _ (λ e. free-in (l .stage) l w .1 ∙ sym (eqb-true n 0 e)) (λ e. refl)
 
   judged-barred : (n ≡ 0 → ⊥) → judged ≡ barredBy n r
-  judged-barred z = if-false (eqb n 0) (givenBy l w) (barredBy n r) (ne-eqb n 0 z)
+  judged-barred z = if-false (eqb n 0) (turnGiven l w) (barredBy n r) (ne-eqb n 0 z)
 
-  judged-given : n ≡ 0 → judged ≡ givenBy l w
-  judged-given e = if-true (eqb n 0) (givenBy l w) (barredBy n r) (eq-eqb n 0 e)
+  judged-given : n ≡ 0 → judged ≡ turnGiven l w
+  judged-given e = if-true (eqb n 0) (turnGiven l w) (barredBy n r) (eq-eqb n 0 e)
 
   judged-free : isBarred (judged .turn) ≡ false → n ≡ 0
   judged-free =
@@ -81,8 +81,8 @@ module _ (part : Part) (p : Pins) (k : ℕ) (w sc : List ℕ) where
   startN = startNumber part p k (length w) (length sc)
 
   -- refused by m exactly where m's row is the first that holds
-  pub start-numbers : (m : ℕ) → (m ≡ 0 → ⊥) → (startOf part p k w sc .turn ≡ Barred m) ↔ Foremost (startRows part p k (length w) (length sc)) m
-  unfolding startOf startNumber
+  pub start-numbers : (m : ℕ) → (m ≡ 0 → ⊥) → (startGiven part p k w sc .turn ≡ Barred m) ↔ Foremost (startRows part p k (length w) (length sc)) m
+  unfolding startGiven startNumber
   start-numbers m z = (
     λ e. given-foremost (startRows part p k (length w) (length sc)) m z
         (sym (judged-told startN (recordAt part p k Clearing) w (recordAt part p k (Ended startN))) ∙ ap barring e),
@@ -90,8 +90,8 @@ module _ (part : Part) (p : Pins) (k : ℕ) (w sc : List ℕ) where
         ap (λ (g : Given). g .turn) (judged-barred startN (recordAt part p k Clearing) w (recordAt part p k (Ended startN)) (λ e. z (sym q ∙ e))) ∙ ap Barred q,
   )
 
-  pub start-accepted : (isBarred (startOf part p k w sc .turn) ≡ false) ↔ NoRow (startRows part p k (length w) (length sc))
-  unfolding startOf startNumber
+  pub start-accepted : (isBarred (startGiven part p k w sc .turn) ≡ false) ↔ NoRow (startRows part p k (length w) (length sc))
+  unfolding startGiven startNumber
   start-accepted = (
     λ e. given-no-row (startRows part p k (length w) (length sc)) refl
         (judged-free startN (recordAt part p k Clearing) w (recordAt part p k (Ended startN)) e),
@@ -99,8 +99,8 @@ module _ (part : Part) (p : Pins) (k : ℕ) (w sc : List ℕ) where
   )
 
   -- a refused start gives a record that has ended with the number
-  pub start-refused : (m : ℕ) → startOf part p k w sc .turn ≡ Barred m → startOf part p k w sc .loader ≡ recordAt part p k (Ended m)
-  unfolding startOf
+  pub start-refused : (m : ℕ) → startGiven part p k w sc .turn ≡ Barred m → startGiven part p k w sc .loader ≡ recordAt part p k (Ended m)
+  unfolding startGiven
   start-refused m e =
       let h = judged-left startN (recordAt part p k Clearing) w (recordAt part p k (Ended startN)) m e in
       h .1 ∙ ap (λ (n : ℕ). recordAt part p k (Ended n)) (h .0)
@@ -112,40 +112,40 @@ module _ (l : Loader) (b : ℕ) (w sc : List ℕ) where
   abbrev onN : Loader
   onN = nextOf l b w (storeOf l b sc)
 
-  pub step-numbers : (m : ℕ) → (m ≡ 0 → ⊥) → (stepOf l b w sc .turn ≡ Barred m) ↔ Foremost (stepRows l (length w) (length sc)) m
-  unfolding stepOf stepNumber
+  pub step-numbers : (m : ℕ) → (m ≡ 0 → ⊥) → (stepGiven l b w sc .turn ≡ Barred m) ↔ Foremost (stepRows l (length w) (length sc)) m
+  unfolding stepGiven stepNumber
   step-numbers m z = (
     λ e. given-foremost (stepRows l (length w) (length sc)) m z (sym (judged-told stepN onN w l) ∙ ap barring e),
     λ f. let q : given (stepRows l (length w) (length sc)) ≡ m = foremost-given f in
         ap (λ (g : Given). g .turn) (judged-barred stepN onN w l (λ e. z (sym q ∙ e))) ∙ ap Barred q,
   )
 
-  pub step-accepted : (isBarred (stepOf l b w sc .turn) ≡ false) ↔ NoRow (stepRows l (length w) (length sc))
-  unfolding stepOf stepNumber
+  pub step-accepted : (isBarred (stepGiven l b w sc .turn) ≡ false) ↔ NoRow (stepRows l (length w) (length sc))
+  unfolding stepGiven stepNumber
   step-accepted = (
     λ e. given-no-row (stepRows l (length w) (length sc)) refl (judged-free stepN onN w l e),
     λ f. ap (λ (g : Given). isBarred (g .turn)) (judged-given stepN onN w l (no-row-given f)) ∙ free-in (onN .stage) onN w .0,
   )
 
   -- a refused step leaves the record and scratch
-  pub step-refused : (m : ℕ) → stepOf l b w sc .turn ≡ Barred m → (stepOf l b w sc .loader ≡ l) × (scratchAfter l b w sc ≡ sc)
-  unfolding stepOf scratchAfter
+  pub step-refused : (m : ℕ) → stepGiven l b w sc .turn ≡ Barred m → (stepGiven l b w sc .loader ≡ l) × (scratchAfter l b w sc ≡ sc)
+  unfolding stepGiven scratchAfter
   step-refused m e =
       let h = judged-left stepN onN w l m e in
       (h .1, if-false (eqb stepN 0) (storeOf l b sc) sc (h .2))
 
   -- what an accepted step gives and leaves
-  pub step-on : stepN ≡ 0 → (stepOf l b w sc ≡ givenBy onN w) × (scratchAfter l b w sc ≡ storeOf l b sc)
-  unfolding stepOf scratchAfter
+  pub step-on : stepN ≡ 0 → (stepGiven l b w sc ≡ turnGiven onN w) × (scratchAfter l b w sc ≡ storeOf l b sc)
+  unfolding stepGiven scratchAfter
   step-on e = (judged-given stepN onN w l e, if-true (eqb stepN 0) (storeOf l b sc) sc (eq-eqb stepN 0 e))
 
 -- a record of the same part, block and levels; its place stays in n bytes and its polls in bounds
 pub record Kept (l : Loader) (n : ℕ) (r : Loader) : Type 0 where
-  pub same : r ≡ at l (r .stage) (r .place) (r .polls)
+  pub same : r ≡ movedTo l (r .stage) (r .place) (r .polls)
   pub place : l .place < n → r .place < n
   pub polls : l .polls ≤ 65534 → r .polls ≤ 65534
 
-kept-at : (l : Loader) (n : ℕ) (stage : Stage) (p q : ℕ) → (l .place < n → p < n) → (l .polls ≤ 65534 → q ≤ 65534) → Kept l n (at l stage p q)
+kept-at : (l : Loader) (n : ℕ) (stage : Stage) (p q : ℕ) → (l .place < n → p < n) → (l .polls ≤ 65534 → q ≤ 65534) → Kept l n (movedTo l stage p q)
 kept-at l n stage p q h i = record { same = refl; place = h; polls = i }
 
 module _ (l : Loader) (w : List ℕ) where
@@ -158,10 +158,10 @@ module _ (l : Loader) (w : List ℕ) where
   kept-end : (n : ℕ) → In (endedBy l n)
   kept-end n = kept-at l (length w) (Ended n) (l .place) 0 (λ h. h) no-polls
 
-  kept-first : (stage : Stage) → In (at l stage 0 0)
+  kept-first : (stage : Stage) → In (movedTo l stage 0 0)
   kept-first stage = kept-at l (length w) stage 0 0 (λ (h : l .place < length w). omega arith) no-polls
 
-  kept-here : (stage : Stage) → In (at l stage (l .place) 0)
+  kept-here : (stage : Stage) → In (movedTo l stage (l .place) 0)
   kept-here stage = kept-at l (length w) stage (l .place) 0 (λ h. h) no-polls
 
   kept-onward : (i : ℕ) (sc : List ℕ) → In (onward l i w sc)
@@ -169,8 +169,8 @@ module _ (l : Loader) (w : List ℕ) where
   kept-onward i sc =
       if-ind In (ltb (diffFrom i w sc) (length w)) _ _ (λ e. kept-at l (length w) ProgramAsking (diffFrom i w sc) 0 (λ h. ltb-true _ _ e) no-polls) (λ e. kept-first Closing)
 
-  kept-read : (sc : List ℕ) → In (readMore l w sc)
-  unfolding readMore afterReads
+  kept-read : (sc : List ℕ) → In (afterRead l w sc)
+  unfolding afterRead afterReads
   kept-read sc =
       if-ind In (ltb (l .place) (length w - 1)) _ _
       (λ e. kept-at l (length w) Reading (l .place + 1) 0 (λ h. let z = ltb-true (l .place) (length w - 1) e in omega arith) no-polls)
@@ -218,9 +218,9 @@ module _ (l : Loader) (w : List ℕ) where
   kept-next (Ended n) b sc = record { same = refl; place = λ h. h; polls = λ q. q }
 
 -- and begins the block at the same address
-pub first-kept : (l : Loader) (b : ℕ) (w sc : List ℕ) → firstOf (nextOf l b w sc) ≡ firstOf l
-unfolding firstOf
-first-kept l b w sc = ap firstOf (kept-next l w (l .stage) b sc .same)
+pub first-kept : (l : Loader) (b : ℕ) (w sc : List ℕ) → firstAddress (nextOf l b w sc) ≡ firstAddress l
+unfolding firstAddress
+first-kept l b w sc = ap firstAddress (kept-next l w (l .stage) b sc .same)
 
 -- scratch keeps its length
 pub store-length : (stage : Stage) (part : Part) (place b : ℕ) (sc : List ℕ) → length (storeIn stage part place b sc) ≡ length sc
@@ -296,12 +296,12 @@ taken-back l w sc t =
 kept-taken : (l r : Loader) (w sc : ℕ) → Taken l w sc → Kept l w r → stepNumber r w sc ≡ 0
 kept-taken l r w sc t k =
     subst (λ (x : Loader). stepNumber x w sc ≡ 0) (sym (k .same))
-    (taken-back (at l (r .stage) (r .place) (r .polls)) w sc
+    (taken-back (movedTo l (r .stage) (r .place) (r .polls)) w sc
     (record { known = t .known; levels = t .levels; block = t .block; lengths = t .lengths; wanted = t .wanted; place = k .place (t .place); polls = k .polls (t .polls) }))
 
 -- every record that an accepted step gives is taken again
 pub step-again : (l : Loader) (b : ℕ) (w sc : List ℕ) → stepNumber l (length w) (length sc) ≡ 0
-    → stepNumber (stepOf l b w sc .loader) (length w) (length (scratchAfter l b w sc)) ≡ 0
+    → stepNumber (stepGiven l b w sc .loader) (length w) (length (scratchAfter l b w sc)) ≡ 0
 step-again l b w sc e =
     let t = taken l (length w) (length sc) e in
     let s = step-on l b w sc e in
@@ -310,8 +310,8 @@ step-again l b w sc e =
 
 -- and so is the record of an accepted start
 pub start-gives : (part : Part) (p : Pins) (k : ℕ) (w sc : List ℕ) → startNumber part p k (length w) (length sc) ≡ 0
-    → startOf part p k w sc ≡ givenBy (recordAt part p k Clearing) w
-unfolding startOf
+    → startGiven part p k w sc ≡ turnGiven (recordAt part p k Clearing) w
+unfolding startGiven
 start-gives part p k w sc e =
     judged-given (startNumber part p k (length w) (length sc)) (recordAt part p k Clearing) w (recordAt part p k (Ended (startNumber part p k (length w) (length sc)))) e
 
@@ -333,20 +333,20 @@ first-taken part p k w sc e =
     (record { known = no-head r; levels = no-head r2; block = no-head r3; lengths = no-head r4; wanted = n; place = h; polls = omega arith })
 
 pub start-again : (part : Part) (p : Pins) (k : ℕ) (w sc : List ℕ) → startNumber part p k (length w) (length sc) ≡ 0
-    → stepNumber (startOf part p k w sc .loader) (length w) (length sc) ≡ 0
+    → stepNumber (startGiven part p k w sc .loader) (length w) (length sc) ≡ 0
 start-again part p k w sc e =
     subst (λ (g : Given). stepNumber (g .loader) (length w) (length sc) ≡ 0) (sym (start-gives part p k w sc e)) (first-taken part p k (length w) (length sc) e)
 
 -- a record that has ended gives its end again, with the same record and scratch
 pub end-again : (l : Loader) (b n : ℕ) (w sc : List ℕ) → stepNumber l (length w) (length sc) ≡ 0 → l .stage ≡ Ended n
-    → (stepOf l b w sc ≡ record { turn = Over n (endAddress l n); loader = l }) × (scratchAfter l b w sc ≡ sc)
+    → (stepGiven l b w sc ≡ record { turn = Over n (endAddress l n); loader = l }) × (scratchAfter l b w sc ≡ sc)
 end-again l b n w sc e q =
     let s = step-on l b w sc e in
     let stored : storeOf l b sc ≡ sc = ap (λ (st : Stage). storeIn st (l .part) (l .place) b sc) q in
     let stays : nextOf l b w (storeOf l b sc) ≡ l = ap (λ (st : Stage). nextIn st l b w (storeOf l b sc)) q in
     let tells : turnIn (l .stage) l w ≡ Over n (endAddress l n) = ap (λ (st : Stage). turnIn st l w) q in
-    let same : givenBy (nextOf l b w (storeOf l b sc)) w ≡ record { turn = Over n (endAddress l n); loader = l } =
-    ap (λ (r : Loader). givenBy r w) stays ∙ ap (λ (t : Turn). given-as t l) tells in
+    let same : turnGiven (nextOf l b w (storeOf l b sc)) w ≡ record { turn = Over n (endAddress l n); loader = l } =
+    ap (λ (r : Loader). turnGiven r w) stays ∙ ap (λ (t : Turn). given-as t l) tells in
     (s .0 ∙ same, s .1 ∙ stored)
   where
     given-as : Turn → Loader → Given
@@ -371,17 +371,17 @@ over-stage (Ended m) l w n a e =
     (ap Ended q, ap (λ (j : ℕ). endAddress l j) (sym q) ∙ f)
 
 -- a step that gave an end gives it again at the next step, whatever the byte: the same answer, record and scratch
-pub over-again : (l : Loader) (b n a : ℕ) (w sc : List ℕ) → stepNumber l (length w) (length sc) ≡ 0 → stepOf l b w sc .turn ≡ Over n a → (b′ : ℕ)
-    → (stepOf (stepOf l b w sc .loader) b′ w (scratchAfter l b w sc) ≡ stepOf l b w sc)
-    × (scratchAfter (stepOf l b w sc .loader) b′ w (scratchAfter l b w sc) ≡ scratchAfter l b w sc)
+pub over-again : (l : Loader) (b n a : ℕ) (w sc : List ℕ) → stepNumber l (length w) (length sc) ≡ 0 → stepGiven l b w sc .turn ≡ Over n a → (b′ : ℕ)
+    → (stepGiven (stepGiven l b w sc .loader) b′ w (scratchAfter l b w sc) ≡ stepGiven l b w sc)
+    × (scratchAfter (stepGiven l b w sc .loader) b′ w (scratchAfter l b w sc) ≡ scratchAfter l b w sc)
 over-again l b n a w sc e o b′ =
-    let r = stepOf l b w sc .loader in
+    let r = stepGiven l b w sc .loader in
     let s = step-on l b w sc e in
     let t : turnIn (r .stage) r w ≡ Over n a = subst (λ (g : Given). turnIn (g .loader .stage) (g .loader) w ≡ g .turn) (sym (s .0)) refl ∙ o in
     let k = over-stage (r .stage) r w n a t in
     let z = end-again r b′ n w (scratchAfter l b w sc) (step-again l b w sc e) (k .0) in
     (z .0 ∙ whole (k .1) o, z .1)
   where
-    whole : endAddress (stepOf l b w sc .loader) n ≡ a → stepOf l b w sc .turn ≡ Over n a
-        → record { turn = Over n (endAddress (stepOf l b w sc .loader) n); loader = stepOf l b w sc .loader } ≡ stepOf l b w sc
-    whole p q = λ i. record { turn = (ap (λ (x : ℕ). Over n x) p ∙ sym q) i; loader = stepOf l b w sc .loader }
+    whole : endAddress (stepGiven l b w sc .loader) n ≡ a → stepGiven l b w sc .turn ≡ Over n a
+        → record { turn = Over n (endAddress (stepGiven l b w sc .loader) n); loader = stepGiven l b w sc .loader } ≡ stepGiven l b w sc
+    whole p q = λ i. record { turn = (ap (λ (x : ℕ). Over n x) p ∙ sym q) i; loader = stepGiven l b w sc .loader }

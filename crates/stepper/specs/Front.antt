@@ -70,8 +70,8 @@ endAddress l n = if eqb n 25 then hereOf l else 0
 abbrev pub turnIn : Stage → Loader → List ℕ → Turn
 turnIn stage l w = if isEnded stage then Over (endBy stage) (endAddress l (endBy stage)) else Out (cycleOf l w)
 
-abbrev pub givenBy : Loader → List ℕ → Given
-givenBy l w = record { turn = turnIn (l .stage) l w; loader = l }
+abbrev pub turnGiven : Loader → List ℕ → Given
+turnGiven l w = record { turn = turnIn (l .stage) l w; loader = l }
 
 -- a refusal gives the record with it
 abbrev pub barredBy : ℕ → Loader → Given
@@ -84,15 +84,15 @@ isBarred (Over n a) = false
 isBarred (Barred m) = true
 
 -- the start: a refused one gives a record that has ended with the number
-unfoldable pub startOf : Part → Pins → ℕ → List ℕ → List ℕ → Given
-startOf part p k w sc =
-    if eqb (startNumber part p k (length w) (length sc)) 0 then givenBy (recordAt part p k Clearing) w
+unfoldable pub startGiven : Part → Pins → ℕ → List ℕ → List ℕ → Given
+startGiven part p k w sc =
+    if eqb (startNumber part p k (length w) (length sc)) 0 then turnGiven (recordAt part p k Clearing) w
     else barredBy (startNumber part p k (length w) (length sc)) (recordAt part p k (Ended (startNumber part p k (length w) (length sc))))
 
 -- a step: what is given ..
-unfoldable pub stepOf : Loader → ℕ → List ℕ → List ℕ → Given
-stepOf l b w sc =
-    if eqb (stepNumber l (length w) (length sc)) 0 then givenBy (nextOf l b w (storeOf l b sc)) w else barredBy (stepNumber l (length w) (length sc)) l
+unfoldable pub stepGiven : Loader → ℕ → List ℕ → List ℕ → Given
+stepGiven l b w sc =
+    if eqb (stepNumber l (length w) (length sc)) 0 then turnGiven (nextOf l b w (storeOf l b sc)) w else barredBy (stepNumber l (length w) (length sc)) l
 
 -- .. and what is left in scratch
 unfoldable pub scratchAfter : Loader → ℕ → List ℕ → List ℕ → List ℕ

@@ -13,8 +13,8 @@ use Rattle.loader.specs.declared.Stage.the-variants.{Clearing, Opening, Reading
 use Rattle.loader.specs.declared.Loader.{Loader}
 
 -- the block's first address
-unfoldable pub firstOf : Loader → ℕ
-firstOf l = startOf (l .part) (l .block)
+unfoldable pub firstAddress : Loader → ℕ
+firstAddress l = startOf (l .part) (l .block)
 
 -- no block is that long: a place beyond it belongs to no record that is taken
 abbrev pub reach : ℕ
@@ -22,26 +22,26 @@ reach = 16777216
 
 -- the address of the byte at the record's place
 unfoldable pub hereOf : Loader → ℕ
-hereOf l = if ltb (l .place) reach then firstOf l + l .place else firstOf l
+hereOf l = if ltb (l .place) reach then firstAddress l + l .place else firstAddress l
 
 -- a cycle at an address with the record's levels, OE# normal
 abbrev pub cycleAt : Loader → Kind → ℕ → ℕ → Cycle
 cycleAt l kind address byte = record { kind = kind; pins = l .pins; oe = 0; address = address; byte = byte }
 
 -- the cycle that is out: commands and an erase's polls at the block's first address, all about one byte at that byte
-abbrev pub cycleIn : Stage → ℕ → ℕ → Loader → List ℕ → Cycle
-cycleIn Clearing first here l w = cycleAt l Write first 0x50
-cycleIn Opening first here l w = cycleAt l Write first 0xFF
-cycleIn Reading first here l w = cycleAt l Read here 0
-cycleIn EraseAsking first here l w = cycleAt l Write first 0x20
-cycleIn EraseConfirming first here l w = cycleAt l Write first 0xD0
-cycleIn EraseWaiting first here l w = cycleAt l Read first 0
-cycleIn ProgramAsking first here l w = cycleAt l Write here 0x40
-cycleIn ProgramSending first here l w = cycleAt l Write here (getD w (l .place) 0)
-cycleIn ProgramWaiting first here l w = cycleAt l Read here 0
-cycleIn Closing first here l w = cycleAt l Write first 0xFF
-cycleIn Verifying first here l w = cycleAt l Read here 0
-cycleIn (Ended n) first here l w = cycleAt l Idle first 0
+abbrev pub cycleAtStage : Stage → ℕ → ℕ → Loader → List ℕ → Cycle
+cycleAtStage Clearing first here l w = cycleAt l Write first 0x50
+cycleAtStage Opening first here l w = cycleAt l Write first 0xFF
+cycleAtStage Reading first here l w = cycleAt l Read here 0
+cycleAtStage EraseAsking first here l w = cycleAt l Write first 0x20
+cycleAtStage EraseConfirming first here l w = cycleAt l Write first 0xD0
+cycleAtStage EraseWaiting first here l w = cycleAt l Read first 0
+cycleAtStage ProgramAsking first here l w = cycleAt l Write here 0x40
+cycleAtStage ProgramSending first here l w = cycleAt l Write here (getD w (l .place) 0)
+cycleAtStage ProgramWaiting first here l w = cycleAt l Read here 0
+cycleAtStage Closing first here l w = cycleAt l Write first 0xFF
+cycleAtStage Verifying first here l w = cycleAt l Read here 0
+cycleAtStage (Ended n) first here l w = cycleAt l Idle first 0
 
 abbrev pub cycleOf : Loader → List ℕ → Cycle
-cycleOf l w = cycleIn (l .stage) (firstOf l) (hereOf l) l w
+cycleOf l w = cycleAtStage (l .stage) (firstAddress l) (hereOf l) l w

@@ -13,7 +13,7 @@ use loader::Turn;
 use loader::stages::stage_end;
 ghost use mathlib.Core.Path.{_≡_};
 ghost use lib.ListN.{length};
-ghost use Rattle.stepper.specs.Front.{barredPins, noBlock, wrongLengths, setupNumber, badRecord, startNumber, stepNumber, recordAt, endAddress, turnIn, givenBy, barredBy, startOf, stepOf, scratchAfter};
+ghost use Rattle.stepper.specs.Front.{barredPins, noBlock, wrongLengths, setupNumber, badRecord, startNumber, stepNumber, recordAt, endAddress, turnIn, turnGiven, barredBy, startGiven, stepGiven, scratchAfter};
 
 // Refusal 4 of a loader.
 pub fn barred_pins(part: Part, p: Pins) -> bool
@@ -119,7 +119,7 @@ fn turn(stage: Stage, l: Loader, wanted: &[u8]) -> Turn
 }
 
 fn given_by(l: Loader, wanted: &[u8]) -> Given
-    ensures { λ r. ⌜ r ≡ givenBy l (now (wanted .entry)) ⌝ }
+    ensures { λ r. ⌜ r ≡ turnGiven l (now (wanted .entry)) ⌝ }
 {
     let stage = l.stage;
     Given {
@@ -139,7 +139,7 @@ fn barred_by(n: u8, l: Loader) -> Given
 
 // The first cycle of a load.
 pub fn start(part: Part, p: Pins, block: u8, wanted: &[u8], scratch: &[u8]) -> Given
-    ensures { λ r. ⌜ r ≡ startOf part p block (now (wanted .entry)) (now (scratch .entry)) ⌝ }
+    ensures { λ r. ⌜ r ≡ startGiven part p block (now (wanted .entry)) (now (scratch .entry)) ⌝ }
 {
     let n = start_number(part, p, block, wanted.len(), scratch.len());
     if n == 0 {
@@ -150,7 +150,7 @@ pub fn start(part: Part, p: Pins, block: u8, wanted: &[u8], scratch: &[u8]) -> G
 
 // The byte read by the cycle that was out goes in, the next cycle or the end comes out.
 pub fn step(l: Loader, b: u8, wanted: &[u8], scratch: &mut [u8]) -> Given
-    ensures { λ r. ⌜ r ≡ stepOf l b (now (wanted .entry)) (now (scratch .entry)) ⌝ }
+    ensures { λ r. ⌜ r ≡ stepGiven l b (now (wanted .entry)) (now (scratch .entry)) ⌝ }
     ensures { λ _. ⌜ now (scratch .exit) ≡ scratchAfter l b (now (wanted .entry)) (now (scratch .entry)) ⌝ }
 {
     let n = step_number(l, wanted.len(), scratch.len());

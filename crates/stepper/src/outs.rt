@@ -4,11 +4,11 @@ use chip::Kind;
 use loader::Loader;
 use loader::Stage;
 ghost use mathlib.Core.Path.{_≡_};
-ghost use Rattle.stepper.specs.Outs.{firstOf, hereOf, cycleAt, cycleIn, cycleOf};
+ghost use Rattle.stepper.specs.Outs.{firstAddress, hereOf, cycleAt, cycleAtStage, cycleOf};
 
 // The block's first address.
 pub fn first(l: Loader) -> u32
-    ensures { λ r. ⌜ r ≡ firstOf l ⌝ }
+    ensures { λ r. ⌜ r ≡ firstAddress l ⌝ }
 {
     let part = l.part;
     device::start(part, l.block) as u32
@@ -40,7 +40,7 @@ fn cycle_at(l: Loader, kind: Kind, address: u32, byte: u8) -> Cycle
 
 // The cycle that is out, by the block's first address and that of the byte at the record's place.
 pub fn cycle_in(stage: Stage, first: u32, here: u32, l: Loader, wanted: &[u8]) -> Cycle
-    ensures { λ r. ⌜ r ≡ cycleIn stage first here l (now (wanted .entry)) ⌝ }
+    ensures { λ r. ⌜ r ≡ cycleAtStage stage first here l (now (wanted .entry)) ⌝ }
 {
     match stage {
         Stage::Clearing => cycle_at(l, Kind::Write, first, 0x50),

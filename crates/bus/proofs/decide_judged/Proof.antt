@@ -4,7 +4,7 @@ use Rattle.cells.proofs.Choice.{if-true, if-false}
 use Rattle.chip.specs.declared.Settled.{Settled}
 use Rattle.chip.specs.declared.Reply.the-variants.{Quiet}
 use Rattle.chip.specs.Levels.{rpLow}
-use Rattle.bus.specs.Inner.{givenBy, arm, decideJudged}
+use Rattle.bus.specs.Inner.{settledBy, arm, decideJudged}
 use Rattle.bus.proofs.decide_judged.Statement.{statement}
 use Rattle.bus.proofs.decide_judged.Tie as tie
 
@@ -21,7 +21,7 @@ returns : tie.Need-returns
 unfolding decideJudged
 returns c =
     let a = c .before .before .before .before .before .before .args in
-    c .given .ensures ∙ ap (λ (t : Settled). givenBy Quiet t) (c .before .before .before .settle .ensures)
+    c .given .ensures ∙ ap (λ (t : Settled). settledBy Quiet t) (c .before .before .before .settle .ensures)
     ∙ sym (if-true (rpLow (a .c .pins)) _ _ (sym (c .before .before .rp-low .ensures) ∙ c .before .if1 .taken))
 
 respond-requires : tie.Need-respond-requires

@@ -4,7 +4,7 @@ use borrow.Author.Tests.{lt-ltb, le-ltb, le-leb, lt-leb, eq-eqb, ne-eqb}
 use mathlib.Core.Path.{_≡_, ap, _∙_}
 use Rattle.loader.specs.declared.Loader.{Loader}
 use Rattle.loader.specs.declared.Given.{Given}
-use Rattle.stepper.specs.Front.{stepOf, scratchAfter}
+use Rattle.stepper.specs.Front.{stepGiven, scratchAfter}
 use Rattle.c_records.specs.Records.{loaderIn, turnOut, loaderBack}
 use Rattle.host.specs.Calls.{steppedOf, scratchStepped}
 use Rattle.host.proofs.stepped.Statement.{statement}
@@ -44,8 +44,8 @@ returns c =
     let w = a .wanted .now in
     let sc = a .scratch .now in
     let e : c .before .before .before .before .before .before .before .loader-in .result ≡ loaderIn (a .l) = c .before .before .before .before .before .before .before .loader-in .ensures in
-    let g : c .before .before .before .before .before .step .result ≡ stepOf (loaderIn (a .l)) (a .byte) w sc =
-    c .before .before .before .before .before .step .ensures .0 ∙ ap (λ (l : Loader). stepOf l (a .byte) w sc) e in
+    let g : c .before .before .before .before .before .step .result ≡ stepGiven (loaderIn (a .l)) (a .byte) w sc =
+    c .before .before .before .before .before .step .ensures .0 ∙ ap (λ (l : Loader). stepGiven l (a .byte) w sc) e in
     let turn = c .before .turn-out .ensures ∙ ap (λ (x : Given). turnOut (x .turn)) g in
     let loader = c .loader-back .ensures ∙ ap (λ (x : Given). loaderBack (a .l) (x .loader)) g in (
       λ i. record { turn = turn i; loader = loader i },

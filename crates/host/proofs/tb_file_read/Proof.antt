@@ -2,7 +2,7 @@ use borrow.Author.Needs.{needs}
 use mathlib.Core.Path.{_≡_, ap, _∙_}
 use Rattle.loadfile.specs.declared.ReadBack.{ReadBack}
 use Rattle.c_records.specs.Records.{readOut}
-use Rattle.host.specs.Calls.{readOf, payloadLeft}
+use Rattle.host.specs.Calls.{fileRead, payloadLeft}
 use Rattle.host.proofs.tb_file_read.Statement.{statement}
 use Rattle.host.proofs.tb_file_read.Tie as tie
 use Rattle.host.proofs.tb_file_read.Reads as reads
@@ -24,7 +24,7 @@ same-length c = search needs
 
 -- src/lib.rt:253:1
 returns : tie.Need-returns
-unfolding readOf payloadLeft
+unfolding fileRead payloadLeft
 returns c = (c .read-out .ensures ∙ ap (λ (x : ReadBack). readOut x) (c .before .before .before .read .ensures .0), c .before .before .before .read .ensures .1)
 
 pub tb-file-read-spec : {M : Type 1} → statement M

@@ -2,7 +2,7 @@ use borrow.Author.Needs.{needs}
 use mathlib.Core.Path.{_≡_, ap, _∙_}
 use Rattle.chip.specs.declared.Pins.{Pins}
 use Rattle.loader.specs.declared.Given.{Given}
-use Rattle.stepper.specs.Front.{startOf}
+use Rattle.stepper.specs.Front.{startGiven}
 use Rattle.twin.specs.Twins.{pinsIn}
 use Rattle.c_records.specs.Records.{loaderOut, turnOut}
 use Rattle.host.specs.Calls.{started}
@@ -39,8 +39,8 @@ returns c =
     let w = a .wanted .now in
     let sc = a .scratch .now in
     let p : c .before .before .before .before .pins-in .result ≡ pinsIn (a .rp) (a .vpp) = c .before .before .before .before .pins-in .ensures in
-    let g : c .before .before .before .start .result ≡ startOf (record { number = a .part }) (pinsIn (a .rp) (a .vpp)) (a .block) w sc =
-    c .before .before .before .start .ensures ∙ ap (λ (x : Pins). startOf (record { number = a .part }) x (a .block) w sc) p in
+    let g : c .before .before .before .start .result ≡ startGiven (record { number = a .part }) (pinsIn (a .rp) (a .vpp)) (a .block) w sc =
+    c .before .before .before .start .ensures ∙ ap (λ (x : Pins). startGiven (record { number = a .part }) x (a .block) w sc) p in
     let turn = c .before .turn-out .ensures ∙ ap (λ (x : Given). turnOut (x .turn)) g in
     let loader = c .loader-out .ensures ∙ ap (λ (x : Given). loaderOut (x .loader)) g in
     λ i. record { turn = turn i; loader = loader i }

@@ -1,6 +1,6 @@
 -- `lines::cycle_in` meets its contract. Assumes nothing.
 use borrow.Author.Needs.{needs}
-use Rattle.lines.specs.Lines.{cycleIn}
+use Rattle.lines.specs.Lines.{cycleStated}
 use Rattle.lines.proofs.cycle_in.Statement.{statement}
 use Rattle.lines.proofs.cycle_in.Tie as tie
 
@@ -65,7 +65,7 @@ two-requires : tie.Need-two-requires
 two-requires c κs = search needs
 
 returns : tie.Need-returns
-unfolding cycleIn
+unfolding cycleStated
 returns c = simp (c .two .ensures, c .before .nth14 .ensures, c .before .before .nth13 .ensures, c .before .before .before .four .ensures, c .before .before .before .before .nth12 .ensures, c .before .before .before .before .before .nth11 .ensures, c .before .before .before .before .before .before .nth10 .ensures, c .before .before .before .before .before .before .before .nth9 .ensures, c .before .before .before .before .before .before .before .before .five .ensures, c .before .before .before .before .before .before .before .before .before .nth8 .ensures, c .before .before .before .before .before .before .before .before .before .before .nth7 .ensures, c .before .before .before .before .before .before .before .before .before .before .before .nth6 .ensures, c .before .before .before .before .before .before .before .before .before .before .before .before .nth5 .ensures, c .before .before .before .before .before .before .before .before .before .before .before .before .before .nth4 .ensures, c .before .before .before .before .before .before .before .before .before .before .before .before .before .before .level2 .ensures, c .before .before .before .before .before .before .before .before .before .before .before .before .before .before .before .nth3 .ensures, c .before .before .before .before .before .before .before .before .before .before .before .before .before .before .before .before .level .ensures, c .before .before .before .before .before .before .before .before .before .before .before .before .before .before .before .before .before .nth2 .ensures, c .before .before .before .before .before .before .before .before .before .before .before .before .before .before .before .before .before .before .kind-of .ensures, c .before .before .before .before .before .before .before .before .before .before .before .before .before .before .before .before .before .before .before .nth .ensures)
 
 pub cycle-in-spec : {M : Type 1} → statement M

@@ -3,9 +3,9 @@ use mathlib.Core.Path.{_≡_, ap, _∙_}
 use Rattle.cells.specs.Lists.{copied}
 use Rattle.chip.specs.declared.Cycle.{Cycle}
 use Rattle.model.specs.declared.Answer.{Answer}
-use Rattle.lines.specs.Lines.{cycleIn}
+use Rattle.lines.specs.Lines.{cycleStated}
 use Rattle.replay.specs.Answers.{printedOf}
-use Rattle.replay.specs.Replays.{arrayBy, stepOf}
+use Rattle.replay.specs.Replays.{arrayBy, lineStep}
 use borrow.Author.Needs.{needs}
 use Rattle.replay.proofs.answer_line.Statement.{statement}
 use Rattle.replay.proofs.answer_line.Tie as tie
@@ -30,7 +30,7 @@ returns c =
     let a = c .before .before .before .before .before .before .before .before .before .before .before .before .before .before .args in
     let e = c .before .before .before .before .before .before .before .before .before .cycle-in .ensures in
     let k = c .before .before .before .before .before .before .before .step .ensures in
-    let f : c .before .before .before .before .before .before .before .step .result ≡ stepOf (a .s) (cycleIn (a .line .now)) (a .array .now) (a .residue .now) = k .0 ∙ ap (λ (x : Cycle). stepOf (a .s) x (a .array .now) (a .residue .now)) e in (
+    let f : c .before .before .before .before .before .before .before .step .result ≡ lineStep (a .s) (cycleStated (a .line .now)) (a .array .now) (a .residue .now) = k .0 ∙ ap (λ (x : Cycle). lineStep (a .s) x (a .array .now) (a .residue .now)) e in (
       ap (λ (x : Answer). x .state) f,
       (k .1 ∙ ap (λ (x : Cycle). arrayBy (a .s) x (a .array .now) (a .residue .now)) e, c .before .before .write-answer .ensures ∙ ap (λ (x : Answer). copied (a .out .now) (printedOf x)) f),
     )

@@ -2,7 +2,7 @@
 use mathlib.Core.Path.{ap, _∙_}
 use Rattle.device.specs.declared.Device.{Device}
 use Rattle.model.specs.Arrays.{answerOf, arrayAfter}
-use Rattle.replay.specs.Replays.{arrayBy, stepOf}
+use Rattle.replay.specs.Replays.{arrayBy, lineStep}
 use borrow.Author.Needs.{needs}
 use Rattle.replay.proofs.step.Statement.{statement}
 use Rattle.replay.proofs.step.Tie as tie
@@ -17,7 +17,7 @@ same-length : tie.Need-same-length
 same-length c = search needs
 
 returns : tie.Need-returns
-unfolding stepOf arrayBy
+unfolding lineStep arrayBy
 returns c =
     let a = c .before .before .before .before .before .before .before .args in
     let e = c .before .before .before .before .bench .ensures in (

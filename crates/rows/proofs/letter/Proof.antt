@@ -1,7 +1,7 @@
 -- `rows::letter` meets its contract. Assumes nothing.
 use borrow.Author.Needs.{needs}
 use borrow.Author.Tests.{lt-ltb, le-ltb}
-use Rattle.rows.specs.Text.{letterOf}
+use Rattle.rows.specs.Text.{digitLetter}
 use Rattle.rows.proofs.letter.Statement.{statement}
 use Rattle.rows.proofs.letter.Tie as tie
 
@@ -12,14 +12,14 @@ add-result : tie.Need-add-result
 add-result c = search needs
 
 returns : tie.Need-returns
-unfolding letterOf
+unfolding digitLetter
 returns c = simp (lt-ltb _ _ (c .if1 .taken))
 
 add-result-2 : tie.Need-add-result-2
 add-result-2 c = search needs
 
 returns-2 : tie.Need-returns-2
-unfolding letterOf
+unfolding digitLetter
 returns-2 c = simp (le-ltb _ _ (c .if1 .left))
 
 pub letter-spec : {M : Type 1} → statement M

@@ -5,13 +5,13 @@ use native.Mathlib.Omega.{arith}
 use native.Mathlib.Nat.{mul-le-mul-right}
 use borrow.Author.Needs.{needs}
 use lib.ListN.{length, getD, drop}
-use Rattle.rows.specs.Text.{walk, digitOf, readMore, readOf}
+use Rattle.rows.specs.Text.{walk, digitRead, digitMore, numberRead}
 use Rattle.rows.proofs.Text.{walk-next, walk-end}
 use Rattle.rows.proofs.number.Statement.{statement}
 use Rattle.rows.proofs.number.Tie as tie
 
 -- one digit more, with the base and the digit as the code has them
-more : (b base v r x : ℕ) → b ≡ base → r ≡ digitOf x → (b * v + r) % 4294967296 ≡ readMore base v x
+more : (b base v r x : ℕ) → b ≡ base → r ≡ digitRead x → (b * v + r) % 4294967296 ≡ digitMore base v x
 more b base v r x p q = rw (p, q) refl
 
 -- a product of a byte and a number fits
@@ -19,7 +19,7 @@ product : (b v : ℕ) → b < 256 → b * v ≤ 255 * v
 product b v h = mul-le-mul-right v (omega arith)
 
 abbrev Inv-loop : tie.InvT-loop
-Inv-loop s base b v₀ i₀ v i = (v < 4294967296) × (i ≤ length s) × (b ≡ base) × (b < 256) × (walk (readMore base) v (drop i s) ≡ walk (readMore base) 0 s)
+Inv-loop s base b v₀ i₀ v i = (v < 4294967296) × (i ≤ length s) × (b ≡ base) × (b < 256) × (walk (digitMore base) v (drop i s) ≡ walk (digitMore base) 0 s)
 
 abbrev μ-loop : tie.MeasureT-loop
 μ-loop s base b v₀ i₀ v i = length s - i
@@ -55,7 +55,7 @@ loop-again c =
     let l = c .before .before .before .loop in
     let a = c .before .before .before .before .before .before .args in
     let s = a .s .now in
-    let f = readMore (a .base) in (
+    let f = digitMore (a .base) in (
       omega arith,
       omega arith,
       l .inv .2,
@@ -67,11 +67,11 @@ cast-result : tie.Need-cast-result Inv-loop μ-loop
 cast-result c = omega arith
 
 returns : tie.Need-returns Inv-loop μ-loop
-unfolding readOf
+unfolding numberRead
 returns c =
     let l = c .before .loop in
     let a = c .before .before .before .before .args in
-    sym (walk-end (readMore (a .base)) (l .v) (a .s .now) (l .i) (omega arith)) ∙ l .inv .4
+    sym (walk-end (digitMore (a .base)) (l .v) (a .s .now) (l .i) (omega arith)) ∙ l .inv .4
 
 pub number-spec : {M : Type 1} → statement M
 number-spec = tie.close (tie.spec Inv-loop μ-loop wide-requires loop-holds mul-v shared-slice-read-digit digit-requires add-v add-i loop-less loop-again cast-result returns)

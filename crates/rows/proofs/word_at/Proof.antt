@@ -3,7 +3,7 @@ use mathlib.Core.Path.{ap, _∙_}
 use mathlib.Core.List.{List}
 use Prim.Native.Nat.{ℕ}
 use borrow.Author.Needs.{needs}
-use Rattle.rows.specs.Text.{readOf}
+use Rattle.rows.specs.Text.{numberRead}
 use Rattle.rows.proofs.Text.{field-part}
 use Rattle.rows.proofs.word_at.Statement.{statement}
 use Rattle.rows.proofs.word_at.Tie as tie
@@ -35,7 +35,7 @@ number-requires c κs = search needs
 returns : tie.Need-returns
 returns c =
     let a = c .before .before .before .before .before .args in
-    c .number .ensures ∙ ap (λ (l : List ℕ). readOf (a .base) l) (field-part (a .s .now) (a .at) (a .n) _ _ (c .before .before .before .least .ensures) (c .before .before .least2 .ensures))
+    c .number .ensures ∙ ap (λ (l : List ℕ). numberRead (a .base) l) (field-part (a .s .now) (a .at) (a .n) _ _ (c .before .before .before .least .ensures) (c .before .before .least2 .ensures))
 
 pub word-at-spec : {M : Type 1} → statement M
 word-at-spec = tie.close (tie.spec least-requires sub-least least-requires-2 add-to sub-number part-number-start part-number-end number-requires returns)

@@ -1,7 +1,7 @@
 use mathlib.Core.Path.{_≡_, ap, _∙_}
 use mathlib.Core.List.{[]}
 use Rattle.chip.specs.declared.Cycle.{Cycle}
-use Rattle.stepper.specs.Outs.{firstOf, hereOf, cycleIn, cycleOf}
+use Rattle.stepper.specs.Outs.{firstAddress, hereOf, cycleAtStage, cycleOf}
 use Rattle.model.specs.declared.Answer.{Answer}
 use lib.ListN.{length}
 use Rattle.bus.specs.Cycles.{judgeOf}
@@ -49,10 +49,10 @@ returns c =
     let w = a .wanted .now in
     let sc = a .scratch .now in
     let xs = a .array .now in
-    let f : a .start ≡ firstOf l = c .before .before .before .before .before .before .before .before .before .before .before .before .before .before .before .before .before .pre .0 in
+    let f : a .start ≡ firstAddress l = c .before .before .before .before .before .before .before .before .before .before .before .before .before .before .before .before .before .pre .0 in
     let z : judgeOf (a .d) s (cycleOf l w) (length xs) 0 ≡ 0 = c .before .before .before .before .before .before .before .before .before .before .before .before .before .before .before .before .before .pre .1 in
     let q : c .before .before .before .before .before .before .before .before .before .before .before .here .result ≡ hereOf l = c .before .before .before .before .before .before .before .before .before .before .before .here .ensures in
-    let o : c .before .before .before .before .before .before .before .before .before .before .cycle-in .result ≡ cycleOf l w = c .before .before .before .before .before .before .before .before .before .before .cycle-in .ensures ∙ (λ i. cycleIn (l .stage) (f i) (q i) l w) in
+    let o : c .before .before .before .before .before .before .before .before .before .before .cycle-in .result ≡ cycleOf l w = c .before .before .before .before .before .before .before .before .before .before .cycle-in .ensures ∙ (λ i. cycleAtStage (l .stage) (f i) (q i) l w) in
     let x : c .before .before .before .before .before .before .before .after-judging .result ≡ answerOf (a .d) s (cycleOf l w) xs [] = c .before .before .before .before .before .before .before .after-judging .ensures .0 ∙ ap (λ (k : Cycle). answerJudged (a .d) s k xs []) o ∙ judged-answer (a .d) s (cycleOf l w) xs [] z in (
       c .before .before .taken .ensures .0 ∙ ap (λ (y : Answer). loaderBy (y .seen) l w sc) x,
       (

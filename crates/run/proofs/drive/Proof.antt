@@ -9,7 +9,7 @@ use Rattle.run.specs.Turns.{Config, answerTo}
 use Rattle.loader.specs.Stages.{isEnded, endBy}
 use Rattle.run.specs.Runs.{driven, begin, ranBy}
 use Rattle.loader.specs.declared.StageEnd.{StageEnd}
-use Rattle.stepper.specs.Outs.{firstOf}
+use Rattle.stepper.specs.Outs.{firstAddress}
 use Rattle.stepper.specs.Front.{endAddress}
 use Rattle.run.proofs.Measure.{remains}
 use Rattle.loader.specs.declared.Loader.{Loader}
@@ -25,7 +25,7 @@ Inv-loop d wanted scratch₀ array₀ start moving₀ state₀ count₀ scratch 
     × (length scratch ≡ length scratch₀)
     × (length array ≡ length array₀)
     × (length wanted ≤ 131072)
-    × (start ≡ firstOf moving)
+    × (start ≡ firstAddress moving)
     × Sound d wanted moving state (length array)
 
 abbrev μ-loop : tie.MeasureT-loop
@@ -78,7 +78,7 @@ loop-again c =
       b .kept .1 .1 .1 .1 .0 ∙ l .inv .1,
       b .kept .1 .1 .1 .1 .1 .0 ∙ l .inv .2,
       l .inv .3,
-      l .inv .4 ∙ sym (first-stays (answerTo (a .d) (a .wanted .now) (l .moving) (l .state) (l .array) .seen) (l .moving) (a .wanted .now) (l .scratch)) ∙ sym (ap firstOf (b .ensures .0)),
+      l .inv .4 ∙ sym (first-stays (answerTo (a .d) (a .wanted .now) (l .moving) (l .state) (l .array) .seen) (l .moving) (a .wanted .now) (l .scratch)) ∙ sym (ap firstAddress (b .ensures .0)),
       sound-next (a .d) (a .wanted .now) (l .scratch) (l .array) (l .moving) (l .state) (l .inv .5) g (b .result .loader) (b .result .state) (b .last .1 .1 .1 .1 .1 .0)
           (b .ensures .0) (b .ensures .1 .0) (b .ensures .1 .1 .1),
     )

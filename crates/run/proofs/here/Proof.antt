@@ -1,4 +1,4 @@
-use Rattle.stepper.specs.Outs.{firstOf, hereOf}
+use Rattle.stepper.specs.Outs.{firstAddress, hereOf}
 use Rattle.stepper.proofs.Small.{start-small}
 use borrow.Author.Needs.{needs}
 use native.Mathlib.Omega.{arith}
@@ -10,7 +10,7 @@ cast-result : tie.Need-cast-result
 cast-result c = search needs
 
 add-result : tie.Need-add-result
-unfolding firstOf
+unfolding firstAddress
 add-result c =
     let a = c .before .before .before .args in
     record { fits = omega (arith, c .before .before .before .pre, start-small (a .l .part) (a .l .block)) }

@@ -1,6 +1,6 @@
 use borrow.Author.Needs.{needs}
 use borrow.Author.Tests.{lt-ltb, le-ltb}
-use Rattle.loader.specs.Moves.{readMore}
+use Rattle.loader.specs.Moves.{afterRead}
 use Rattle.loader.proofs.moves.read_more.Statement.{statement}
 use Rattle.loader.proofs.moves.read_more.Tie as tie
 
@@ -14,14 +14,14 @@ moved-requires : tie.Need-moved-requires
 moved-requires c κs = search needs
 
 returns : tie.Need-returns
-unfolding readMore
+unfolding afterRead
 returns c = simp (c .moved .ensures, lt-ltb _ _ (c .before .before .if1 .taken), ← c .before .before .before .before .last .ensures)
 
 after-reads-requires : tie.Need-after-reads-requires
 after-reads-requires c κs = search needs
 
 returns-2 : tie.Need-returns-2
-unfolding readMore
+unfolding afterRead
 returns-2 c = simp (c .after-reads .ensures, le-ltb _ _ (c .before .if1 .left), ← c .before .before .before .last .ensures)
 
 pub read-more-spec : {M : Type 1} → statement M

@@ -1,5 +1,5 @@
 -- `replay::answers::write_answer` meets its contract. Assumes nothing.
-use Rattle.replay.specs.Answers.{toldOf}
+use Rattle.replay.specs.Answers.{answerText}
 use borrow.Author.Needs.{needs}
 use Rattle.replay.proofs.answers.write_answer.Statement.{statement}
 use Rattle.replay.proofs.answers.write_answer.Tie as tie
@@ -29,7 +29,7 @@ same-length : tie.Need-same-length
 same-length c = search needs
 
 returns : tie.Need-returns
-unfolding toldOf
+unfolding answerText
 returns c = simp (c .before .before .copy .ensures, c .before .before .before .before .before .hex-digit2 .ensures, c .before .before .before .before .before .before .hex-digit .ensures, c .before .before .before .before .before .before .before .second .ensures, c .before .before .before .before .before .before .before .before .first .ensures, c .before .before .before .before .before .before .before .before .before .letter .ensures)
 
 pub write-answer-spec : {M : Type 1} → statement M

@@ -1,5 +1,5 @@
 -- `replay::answers::write_end` meets its contract. Assumes nothing.
-use Rattle.replay.specs.Answers.{endOf}
+use Rattle.replay.specs.Answers.{traceEnd}
 use Rattle.replay.proofs.Turns.{end-nothing}
 use borrow.Author.Needs.{needs}
 use borrow.Author.Tests.{ne-eqb}
@@ -16,7 +16,7 @@ same-length : tie.Need-same-length
 same-length c = search needs
 
 returns-2 : tie.Need-returns-2
-unfolding endOf
+unfolding traceEnd
 returns-2 c = simp (c .before .before .write-mark .ensures, ne-eqb _ _ (c .before .before .before .before .if1 .left))
 
 pub write-end-spec : {M : Type 1} → statement M

@@ -4,7 +4,7 @@ use Prim.Native.Nat.{ℕ}
 use Rattle.loader.specs.declared.Stage.{Stage}
 use Rattle.loader.specs.declared.Stage.the-variants.{Clearing, Opening, Reading, EraseAsking, EraseConfirming, EraseWaiting, ProgramAsking, ProgramSending, ProgramWaiting, Closing, Verifying}
 use Rattle.loader.specs.declared.Loader.{Loader}
-use Rattle.loader.specs.Moves.{at, nextIn, nextOf}
+use Rattle.loader.specs.Moves.{movedTo, nextIn, nextOf}
 use Rattle.stepper.specs.Stores.{storeIn, storeOf}
 use borrow.Author.Needs.{needs}
 use Rattle.run.proofs.taking.take.Statement.{statement}
@@ -171,7 +171,7 @@ returns-12 c =
     let a = c .before .before .before .before .before .before .args in
     let e = c .before .before .stage .given .1 in
     let k = by (a .l) (a .b) (a .wanted .now) (a .scratch .now) _ e in
-    (c .moved8 .ensures ∙ ap (λ (s : Stage). at (a .l) s (a .l .place) (a .l .polls)) (sym e) ∙ k .0, k .1)
+    (c .moved8 .ensures ∙ ap (λ (s : Stage). movedTo (a .l) s (a .l .place) (a .l .polls)) (sym e) ∙ k .0, k .1)
 
 pub take-spec : {M : Type 1} → statement M
 take-spec =

@@ -1,7 +1,7 @@
 use mathlib.Core.Path.{ap, _∙_}
 use mathlib.Core.List.{List}
 use Prim.Native.Nat.{ℕ}
-use Rattle.loader.specs.Moves.{readMore}
+use Rattle.loader.specs.Moves.{afterRead}
 use borrow.Author.Needs.{needs}
 use Rattle.run.proofs.taking.take_read.Statement.{statement}
 use Rattle.run.proofs.taking.take_read.Tie as tie
@@ -19,7 +19,7 @@ returns : tie.Need-returns
 returns c =
     let a = c .before .before .before .before .before .before .before .before .args in
     let e = c .before .before .before .before .put .ensures in
-    (c .read-more .ensures ∙ ap (λ (z : List ℕ). readMore (a .l) (a .wanted .now) z) e, e)
+    (c .read-more .ensures ∙ ap (λ (z : List ℕ). afterRead (a .l) (a .wanted .now) z) e, e)
 
 pub take-read-spec : {M : Type 1} → statement M
 take-read-spec = tie.close (tie.spec put-requires read-more-requires same-length returns)

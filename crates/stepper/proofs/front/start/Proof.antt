@@ -8,7 +8,7 @@ use Rattle.loader.specs.declared.Stage.the-variants.{Ended}
 use borrow.Author.Needs.{needs}
 use borrow.Author.Tests.{eq-eqb, ne-eqb}
 use mathlib.Core.Path.{sym, _∙_}
-use Rattle.stepper.specs.Front.{startOf, startNumber, givenBy, barredBy, recordAt}
+use Rattle.stepper.specs.Front.{startGiven, startNumber, turnGiven, barredBy, recordAt}
 use Rattle.stepper.proofs.front.start.Statement.{statement}
 use Rattle.stepper.proofs.front.start.Tie as tie
 
@@ -22,12 +22,12 @@ given-by-requires : tie.Need-given-by-requires
 given-by-requires c κs = search needs
 
 returns : tie.Need-returns
-unfolding startOf
+unfolding startGiven
 returns c =
     let a = c .before .before .before .before .before .before .args in
     let w = a .wanted .now in
     let n = startNumber (a .part) (a .p) (a .block) (length w) (length (a .scratch .now)) in
-    c .given-by .ensures ∙ ap (λ (l : Loader). givenBy l w) (c .before .record-at .ensures)
+    c .given-by .ensures ∙ ap (λ (l : Loader). turnGiven l w) (c .before .record-at .ensures)
     ∙ sym (if-true (eqb n 0) _ _ (eq-eqb n 0 (sym (c .before .before .before .start-number .ensures) ∙ c .before .before .if1 .taken)))
 
 record-at-requires-2 : tie.Need-record-at-requires-2
@@ -37,7 +37,7 @@ barred-by-requires : tie.Need-barred-by-requires
 barred-by-requires c κs = search needs
 
 returns-2 : tie.Need-returns-2
-unfolding startOf
+unfolding startGiven
 returns-2 c =
     let a = c .before .before .before .before .before .before .args in
     let w = a .wanted .now in

@@ -7,7 +7,7 @@ use Rattle.loader.specs.declared.Loader.{Loader}
 use borrow.Author.Needs.{needs}
 use borrow.Author.Tests.{eq-eqb, ne-eqb}
 use mathlib.Core.Path.{sym, _∙_}
-use Rattle.stepper.specs.Front.{stepOf, scratchAfter, stepNumber, givenBy, barredBy}
+use Rattle.stepper.specs.Front.{stepGiven, scratchAfter, stepNumber, turnGiven, barredBy}
 use Rattle.stepper.proofs.front.step.Statement.{statement}
 use Rattle.stepper.proofs.front.step.Tie as tie
 
@@ -24,13 +24,13 @@ same-length : tie.Need-same-length
 same-length c = search needs
 
 returns : tie.Need-returns
-unfolding stepOf scratchAfter
+unfolding stepGiven scratchAfter
 returns c =
     let a = c .before .before .before .before .before .before .before .before .before .args in
     let w = a .wanted .now in
     let n = stepNumber (a .l) (length w) (length (a .scratch .now)) in
     let z = eq-eqb n 0 (sym (c .before .before .before .before .before .before .step-number .ensures) ∙ c .before .before .before .before .before .if1 .taken) in (
-      c .given-by .ensures ∙ ap (λ (l : Loader). givenBy l w) (c .before .before .before .advance .ensures .0) ∙ sym (if-true (eqb n 0) _ _ z),
+      c .given-by .ensures ∙ ap (λ (l : Loader). turnGiven l w) (c .before .before .before .advance .ensures .0) ∙ sym (if-true (eqb n 0) _ _ z),
       c .before .before .before .advance .ensures .1 ∙ sym (if-true (eqb n 0) _ _ z),
     )
 
@@ -38,7 +38,7 @@ barred-by-requires : tie.Need-barred-by-requires
 barred-by-requires c κs = search needs
 
 returns-2 : tie.Need-returns-2
-unfolding stepOf scratchAfter
+unfolding stepGiven scratchAfter
 returns-2 c =
     let a = c .before .before .before .before .before .args in
     let w = a .wanted .now in

@@ -1,7 +1,7 @@
 use Rattle.stepper.proofs.Small.{start-small}
 use borrow.Author.Needs.{needs}
 use native.Mathlib.Omega.{arith}
-use Rattle.stepper.specs.Outs.{firstOf}
+use Rattle.stepper.specs.Outs.{firstAddress}
 use Rattle.stepper.proofs.outs.first.Statement.{statement}
 use Rattle.stepper.proofs.outs.first.Tie as tie
 
@@ -15,7 +15,7 @@ cast-result c = record { fits = omega (arith, c .start .ensures, start-small (c 
 
 -- src/outs.rt:-19:1
 returns : tie.Need-returns
-unfolding firstOf
+unfolding firstAddress
 returns c = simp (c .start .ensures)
 
 pub first-spec : {M : Type 1} → statement M

@@ -2,7 +2,7 @@ use Rattle.stepper.proofs.Small.{start-small}
 use borrow.Author.Needs.{needs}
 use native.Mathlib.Omega.{arith}
 use borrow.Author.Tests.{lt-ltb, le-ltb}
-use Rattle.stepper.specs.Outs.{hereOf, firstOf}
+use Rattle.stepper.specs.Outs.{hereOf, firstAddress}
 use Rattle.stepper.proofs.outs.here.Statement.{statement}
 use Rattle.stepper.proofs.outs.here.Tie as tie
 
@@ -16,7 +16,7 @@ cast-result c = search needs
 
 -- src/outs.rt:-6:16
 add-result : tie.Need-add-result
-unfolding firstOf
+unfolding firstAddress
 add-result c = record { fits = omega (arith, c .before .before .before .first .ensures, start-small (c .before .before .before .before .args .l .part) (c .before .before .before .before .args .l .block)) }
 
 -- src/outs.rt:-6:9
