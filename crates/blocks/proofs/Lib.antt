@@ -2,3 +2,4 @@ pub mod Tables
 pub mod Walks
 pub mod Verdicts
 pub mod Claims
+pub mod Unique

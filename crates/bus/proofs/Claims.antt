@@ -1,27 +1,14 @@
 -- Two results that a promise allows are equal. What the rules amount to is claimed with the model, whose cycle applies them.
 -- Assumes nothing.
 use mathlib.Core.Path.{_≡_}
-use mathlib.Core.Bool.{Bool}
 use Prim.Native.Nat.{ℕ}
-use Rattle.cells.specs.Choice.{Unique}
-use Rattle.cells.proofs.Choice.{only}
 use Rattle.device.specs.declared.Device.{Device}
 use Rattle.chip.specs.declared.State.{State}
 use Rattle.chip.specs.declared.Cycle.{Cycle}
-use Rattle.chip.specs.declared.Decision.{Decision}
 use Rattle.bus.specs.Cycles.{judgeOf, decideOf}
-use Rattle.bus.specs.Inner.{decideJudged, asksArray}
+use Rattle.bus.specs.Inner.{decideJudged}
 use Rattle.bus.proofs.Passing as passing
 
 -- Where refusals 1 to 6 do not apply, `decide_judged` gives the table's decision.
 pub passes : (d : Device) (s : State) (c : Cycle) (array residue : ℕ) → judgeOf d s c array residue ≡ 0 → decideOf d s c array residue ≡ decideJudged d s c
 passes = passing.passes
-
-pub judge-unique : (d : Device) (s : State) (c : Cycle) (array residue : ℕ) → Unique (λ (r : ℕ). r ≡ judgeOf d s c array residue)
-judge-unique d s c array residue = only (judgeOf d s c array residue)
-
-pub decide-judged-unique : (d : Device) (s : State) (c : Cycle) → Unique (λ (r : Decision). r ≡ decideJudged d s c)
-decide-judged-unique d s c = only (decideJudged d s c)
-
-pub asks-array-unique : (s : State) (c : Cycle) → Unique (λ (r : Bool). r ≡ asksArray s c)
-asks-array-unique s c = only (asksArray s c)

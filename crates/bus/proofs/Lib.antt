@@ -3,3 +3,4 @@ pub mod Arms
 pub mod Passing
 pub mod Facts
 pub mod Claims
+pub mod Unique

@@ -27,7 +27,6 @@ use Rattle.model.specs.declared.Seen.the-variants.{NoData, Byte}
 use Rattle.model.specs.Arrays.{arrayOf, seenOf, arrayAfter, answerOf}
 use Rattle.model.proofs.Keeping.{st}
 use Rattle.model_history.specs.History.{Bus, World, stepped, worldAfter}
-use Rattle.run_claims.specs.Made.{busCycle as cyc}
 use Rattle.run_claims.proofs.Answers.{Up, Ready, asks-program, sends, waits, ends}
 use Rattle.cards.specs.Table.{normal, write, read, fresh, seenOn, seenIn, cycles2, Card2}
 

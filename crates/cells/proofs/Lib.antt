@@ -3,4 +3,4 @@ pub mod Lists
 pub mod Bytes
 pub mod Numbers
 pub mod Pieces
-pub mod Claims
+pub mod Unique

@@ -3,3 +3,4 @@ pub mod Ones
 pub mod Proper
 pub mod Rest
 pub mod Claims
+pub mod Unique

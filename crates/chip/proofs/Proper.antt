@@ -5,7 +5,6 @@ use Prim.Native.Nat.{ℕ, _+_, _*_, _/_, _%_, _<_}
 use native.Mathlib.Omega.{arith}
 use lib.Dec.{eqb, ltb, leb}
 use borrow.Author.Tests.{eqb-true, eqb-false, eq-eqb, ne-eqb, ltb-true, ltb-false, le-leb, lt-leb}
-use Rattle.cells.specs.Choice.{if_then_else_}
 use Rattle.device.specs.Parts.{sizeOf}
 use Rattle.device.specs.declared.Device.{Device}
 use Rattle.chip.specs.declared.Mode.{Mode}

@@ -1,14 +1,11 @@
 -- What is claimed of the parts, in one place. Assumes nothing.
 use mathlib.Core.Path.{_≡_, refl, sym}
-use mathlib.Core.Bool.{Bool}
 use mathlib.Core.List.{List, [], _∷_}
 use Prim.Native.Nat.{ℕ, _+_, _≤_, _<_}
-use Rattle.cells.specs.Choice.{Unique}
 use Rattle.cells.proofs.Choice.{only}
 use Rattle.device.specs.Blocks.{bytesOfAll, lengthAt, offsetAt, holder, Lies}
-use Rattle.device.specs.Parts.{shapeOf, sizeIn, lengthIn, offsetIn, startIn, Holds, unknownPart, unknownDevice, sizeOf, lengthOf, startOf, blockOf, codeOf, tableRow}
+use Rattle.device.specs.Parts.{shapeOf, sizeIn, lengthIn, offsetIn, startIn, Holds, sizeOf, lengthOf, startOf, blockOf, codeOf, tableRow}
 use Rattle.device.specs.declared.Part.{Part}
-use Rattle.device.specs.declared.Device.{Device}
 use Rattle.device.proofs.Cover.{covered, alone, ends-inside}
 use Rattle.device.proofs.Place.{named, sole, fits}
 
@@ -44,25 +41,3 @@ pub four-devices :
     × (tableRow 4 ≡ 0x0000 ∷ 0x03FF ∷ 0x0400 ∷ 0x05FF ∷ 0x0600 ∷ 0x07FF ∷ 0x0800 ∷ 0x3FFF ∷ 16384 ∷ 0x95 ∷ [])
 unfolding shapeOf sizeOf lengthOf startOf codeOf sizeIn lengthIn offsetIn startIn
 four-devices = (refl, refl, refl, refl)
-
--- Two results that a promise allows are equal, for each public function.
-pub unknown-part-unique : (p : Part) → Unique (λ (r : Bool). r ≡ unknownPart p)
-unknown-part-unique p = only (unknownPart p)
-
-pub unknown-device-unique : (d : Device) → Unique (λ (r : Bool). r ≡ unknownDevice d)
-unknown-device-unique d = only (unknownDevice d)
-
-pub size-unique : (p : Part) → Unique (λ (r : ℕ). r ≡ sizeOf p)
-size-unique p = only (sizeOf p)
-
-pub length-unique : (p : Part) (k : ℕ) → Unique (λ (r : ℕ). r ≡ lengthOf p k)
-length-unique p k = only (lengthOf p k)
-
-pub start-unique : (p : Part) (k : ℕ) → Unique (λ (r : ℕ). r ≡ startOf p k)
-start-unique p k = only (startOf p k)
-
-pub block-of-unique : (p : Part) (a : ℕ) → Unique (λ (r : ℕ). r ≡ blockOf p a)
-block-of-unique p a = only (blockOf p a)
-
-pub code-unique : (p : Part) → Unique (λ (r : ℕ). r ≡ codeOf p)
-code-unique p = only (codeOf p)

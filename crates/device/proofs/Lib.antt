@@ -1,3 +1,4 @@
 pub mod Cover
 pub mod Place
 pub mod Claims
+pub mod Unique

@@ -1,2 +1,3 @@
 pub mod Returned
 pub mod Claims
+pub mod Unique

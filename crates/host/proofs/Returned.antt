@@ -39,7 +39,6 @@ use Rattle.twin.specs.declared.DeviceNumbers.{DeviceNumbers}
 use Rattle.twin.specs.declared.StateNumbers.{StateNumbers}
 use Rattle.twin.specs.declared.BusNumbers.{BusNumbers}
 use Rattle.c_records.specs.declared.LoaderNumbers.{LoaderNumbers}
-use Rattle.c_records.specs.declared.RanNumbers.{RanNumbers}
 use Rattle.twin.proofs.Border.{out-state, state-back, cycle-back, state-same, no-state-improper, no-kind-refused}
 use Rattle.c_records.proofs.Border.{out-record, record-back, record-same, no-record-bad}
 

@@ -1,14 +1,12 @@
 -- What is claimed of the lines of a trace, in one place. Assumes nothing.
 use mathlib.Core.Path.{_≡_}
-use mathlib.Core.Bool.{Bool, true}
+use mathlib.Core.Bool.{true}
 use mathlib.Core.List.{List}
 use mathlib.Core.Logic.{_↔_}
 use Prim.Native.Nat.{ℕ, _<_}
 use lib.ListN.{length, getD}
-use Rattle.cells.specs.Choice.{Unique}
 use Rattle.cells.proofs.Choice.{only}
 use Rattle.chip.specs.declared.Cycle.{Cycle}
-use Rattle.lines.specs.declared.LineRead.{LineRead}
 use Rattle.lines.specs.declared.LineRead.the-variants.{NotALine, Stated}
 use Rattle.lines.specs.Lines.{Place, isAt, fits, isLine, cycleStated, readLine, lineOf, Fits}
 use Rattle.lines.proofs.Places as places
@@ -39,13 +37,3 @@ line-length = forms.line-length
 pub form-exactly : (d : Place) (ps : List Place) (xs : List ℕ)
     → (fits ps xs ≡ true) ↔ ((length xs ≡ length ps) × ((i : ℕ) → i < length ps → isAt (getD ps i d) (getD xs i 0) ≡ true))
 form-exactly = places.form-exactly
-
--- Two results that a promise allows are equal.
-pub is-line-unique : (xs : List ℕ) → Unique (λ (r : Bool). r ≡ isLine xs)
-is-line-unique xs = only (isLine xs)
-
-pub cycle-in-unique : (xs : List ℕ) → Unique (λ (r : Cycle). r ≡ cycleStated xs)
-cycle-in-unique xs = only (cycleStated xs)
-
-pub read-line-unique : (xs : List ℕ) → Unique (λ (r : LineRead). r ≡ readLine xs)
-read-line-unique xs = only (readLine xs)

@@ -2,3 +2,4 @@ pub mod Places
 pub mod Runs
 pub mod Forms
 pub mod Claims
+pub mod Unique

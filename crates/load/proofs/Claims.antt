@@ -4,13 +4,11 @@ use mathlib.Core.List.{List}
 use mathlib.Core.Logic.{_↔_}
 use Prim.Native.Nat.{ℕ, _<_}
 use lib.ListN.{length}
-use Rattle.cells.specs.Choice.{Unique}
 use Rattle.cells.proofs.Choice.{only}
 use Rattle.cells.specs.Numbers.{Foremost, NoRow}
 use Rattle.device.specs.declared.Device.{Device}
 use Rattle.chip.specs.declared.Pins.{Pins}
 use Rattle.chip.specs.declared.State.{State}
-use Rattle.run.specs.declared.Ran.{Ran}
 use Rattle.load.specs.Loads.{loadRows, loadedOf, bytesLoaded, wantedLoaded, scratchLoaded}
 use Rattle.load.proofs.Leaving as leaving
 
@@ -28,16 +26,3 @@ pub refused-leaves : (d : Device) (s : State) (p : Pins) (k : ℕ) (xs w sc f : 
     → (loadedOf d s p k xs w sc f asked ≡ record { count = 0; end = m; address = 0; state = s }) × (bytesLoaded d s p k xs w sc f asked ≡ xs)
     × (wantedLoaded d s p k xs w sc f asked ≡ w) × (scratchLoaded d s p k xs w sc f asked ≡ sc)
 refused-leaves = leaving.refused-leaves
-
--- Two results that the promise allows are equal, and so is what it leaves in the three slices.
-pub load-unique : (d : Device) (s : State) (p : Pins) (k : ℕ) (xs w sc f : List ℕ) (asked : ℕ) → Unique (λ (r : Ran). r ≡ loadedOf d s p k xs w sc f asked)
-load-unique d s p k xs w sc f asked = only (loadedOf d s p k xs w sc f asked)
-
-pub load-array-unique : (d : Device) (s : State) (p : Pins) (k : ℕ) (xs w sc f : List ℕ) (asked : ℕ) → Unique (λ (left : List ℕ). left ≡ bytesLoaded d s p k xs w sc f asked)
-load-array-unique d s p k xs w sc f asked = only (bytesLoaded d s p k xs w sc f asked)
-
-pub load-wanted-unique : (d : Device) (s : State) (p : Pins) (k : ℕ) (xs w sc f : List ℕ) (asked : ℕ) → Unique (λ (left : List ℕ). left ≡ wantedLoaded d s p k xs w sc f asked)
-load-wanted-unique d s p k xs w sc f asked = only (wantedLoaded d s p k xs w sc f asked)
-
-pub load-scratch-unique : (d : Device) (s : State) (p : Pins) (k : ℕ) (xs w sc f : List ℕ) (asked : ℕ) → Unique (λ (left : List ℕ). left ≡ scratchLoaded d s p k xs w sc f asked)
-load-scratch-unique d s p k xs w sc f asked = only (scratchLoaded d s p k xs w sc f asked)

@@ -15,7 +15,7 @@ use Rattle.device.specs.declared.Device.{Device}
 use Rattle.chip.specs.declared.Pins.{Pins}
 use Rattle.chip.specs.declared.State.{State}
 use Rattle.run.specs.Runs.{runRows, runNumber}
-use Rattle.loadfile.specs.File.{Outcome, refused, made, outcomeBy, limit, lengthWrong, blocksIn, blocksRows, payloadOf, readRows, readerOf, judgedAs}
+use Rattle.loadfile.specs.File.{refused, made, outcomeBy, limit, lengthWrong, blocksIn, blocksRows, payloadOf, readRows, readerOf, judgedAs}
 use Rattle.loadfile.specs.declared.Judged.the-variants.{Sound, Unsound}
 use Rattle.loadfile.proofs.Tables.{blocks-numbered}
 use Rattle.load.specs.Loads.{fileRows, fileNumber, loadRows, loadNumber}

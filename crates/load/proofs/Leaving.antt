@@ -3,7 +3,7 @@ use mathlib.Core.Path.{_≡_, refl, sym, ap, _∙_, subst}
 use mathlib.Core.Bool.{Bool, true, false}
 use mathlib.Core.List.{List}
 use mathlib.Core.Logic.{_↔_}
-use Prim.Native.Nat.{ℕ, _≤_, _<_}
+use Prim.Native.Nat.{ℕ, _<_}
 use native.Mathlib.Omega.{arith}
 use lib.ListN.{length}
 use lib.Dec.{eqb}
@@ -15,7 +15,7 @@ use Rattle.device.specs.declared.Device.{Device}
 use Rattle.chip.specs.declared.Pins.{Pins}
 use Rattle.chip.specs.declared.State.{State}
 use Rattle.run.specs.declared.Ran.{Ran}
-use Rattle.run.specs.Runs.{runRows, runNumber, runLeft, ranOf}
+use Rattle.run.specs.Runs.{runRows, runNumber, runLeft}
 use Rattle.run.proofs.Claims as run-claims
 use Rattle.load.specs.Loads.{loadRows, loadNumber, wantedOf, LoadLeft, loadMade, loadRefused, loadLeft, loadedOf, bytesLoaded, wantedLoaded, scratchLoaded}
 use Rattle.load.proofs.Filling.{wanted-length}

@@ -2,3 +2,4 @@ pub mod Filling
 pub mod Judging
 pub mod Leaving
 pub mod Claims
+pub mod Unique

@@ -1,2 +1,2 @@
 pub mod Walking
-pub mod Claims
+pub mod Unique

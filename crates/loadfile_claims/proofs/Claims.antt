@@ -9,16 +9,11 @@ use lib.ListN.{length, getD, take, drop, set, length-set}
 use lib.Seq.{drop-append-seam, getD-set-other}
 use lib.Dec.{ltb}
 use borrow.Author.Tests.{ne-eqb}
-use Rattle.cells.specs.Choice.{Unique}
-use Rattle.cells.proofs.Choice.{only}
 use Rattle.cells.specs.Numbers.{row}
 use Rattle.seal.specs.Check.{wsum, checkOf, checkWrong, storedOf}
 use Rattle.blocks.specs.Block.{isLetter}
-use Rattle.loadfile.specs.File.{limit, refused, made, fileOf, readerOf, writerOf, inRoom, leftIn, blocksIn, payloadOf, readRows, writeRows, writtenAs, judgedAs, readAs}
+use Rattle.loadfile.specs.File.{limit, refused, made, fileOf, readerOf, writerOf, inRoom, leftIn, blocksIn, payloadOf, readRows, writeRows}
 use Rattle.loadfile.proofs.Outcomes.{payload-right, payload-fits, writer-lets, writer-made}
-use Rattle.loadfile.specs.declared.Written.{Written}
-use Rattle.loadfile.specs.declared.Judged.{Judged}
-use Rattle.loadfile.specs.declared.ReadBack.{ReadBack}
 use Rattle.cells.specs.Lists.{Bytes}
 use Rattle.loadfile_claims.proofs.Written.{written-read, written-other, written-bytes}
 use Rattle.loadfile_claims.proofs.Reading.{read-written}
@@ -109,19 +104,3 @@ untouched out n = refl
 
 pub past-stays : (out bytes : List ℕ) → drop (length bytes) (leftIn out (made bytes)) ≡ drop (length bytes) out
 past-stays out bytes = drop-append-seam bytes (drop (length bytes) out)
-
--- two results that one promise allows are equal, for each public function of `loadfile`
-pub judge-unique : (f : List ℕ) (asked : ℕ) → Unique (λ (r : Judged). r ≡ judgedAs (readerOf limit f asked))
-judge-unique f asked = only (judgedAs (readerOf limit f asked))
-
-pub read-unique : (f : List ℕ) (asked : ℕ) (out : List ℕ) → Unique (λ (r : ReadBack). r ≡ readAs (inRoom (length out) (readerOf limit f asked)))
-read-unique f asked out = only (readAs (inRoom (length out) (readerOf limit f asked)))
-
-pub read-left-unique : (f : List ℕ) (asked : ℕ) (out : List ℕ) → Unique (λ (left : List ℕ). left ≡ leftIn out (inRoom (length out) (readerOf limit f asked)))
-read-left-unique f asked out = only (leftIn out (inRoom (length out) (readerOf limit f asked)))
-
-pub write-unique : (ℓ : ℕ) (p out : List ℕ) → Unique (λ (r : Written). r ≡ writtenAs (inRoom (length out) (writerOf limit ℓ p)))
-write-unique ℓ p out = only (writtenAs (inRoom (length out) (writerOf limit ℓ p)))
-
-pub write-left-unique : (ℓ : ℕ) (p out : List ℕ) → Unique (λ (left : List ℕ). left ≡ leftIn out (inRoom (length out) (writerOf limit ℓ p)))
-write-left-unique ℓ p out = only (leftIn out (inRoom (length out) (writerOf limit ℓ p)))

@@ -11,8 +11,8 @@ use lib.Dec.{ltb}
 use borrow.Author.Tests.{ltb-false}
 use Rattle.cells.specs.Lists.{Bytes}
 use Rattle.cells.proofs.Choice.{if-true, if-false}
-use Rattle.loadfile.specs.declared.Written.the-variants.{Wrote, NotWritten}
-use Rattle.loadfile.specs.declared.ReadBack.the-variants.{Gave, NotRead}
+use Rattle.loadfile.specs.declared.Written.the-variants.{Wrote}
+use Rattle.loadfile.specs.declared.ReadBack.the-variants.{Gave}
 use Rattle.loadfile.specs.File.{Outcome, refused, made, limit, inRoom, leftIn, readerOf, writerOf, readAs, writtenAs}
 use Rattle.loadfile.proofs.Outcomes.{room-made}
 use Rattle.loadfile_claims.specs.Roomy.{ReadsInto, WritesInto, WritesGivenRoom}

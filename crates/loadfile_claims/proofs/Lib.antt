@@ -5,3 +5,4 @@ pub mod Damage
 pub mod Given
 pub mod Order
 pub mod Claims
+pub mod Unique

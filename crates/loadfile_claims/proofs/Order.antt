@@ -2,7 +2,6 @@
 use mathlib.Core.Path.{_≡_, refl, sym, _∙_, ap, subst}
 use mathlib.Core.List.{List, [], _∷_, _++_, append-assoc}
 use mathlib.Core.Bool.{Bool, true, false, not}
-use mathlib.Core.Logic.{_↔_}
 use Prim.Native.Nat.{ℕ}
 use native.Mathlib.Omega.{arith}
 use lib.ListN.{length, getD}
@@ -12,7 +11,7 @@ use Rattle.cells.specs.Choice.{if_then_else_}
 use Rattle.cells.proofs.Choice.{if-true, if-false}
 use Rattle.cells.specs.Numbers.{Row, row, given, Foremost, here, below, NoRow, numbered}
 use Rattle.cells.proofs.Numbers.{foremost-given, no-row-given, given-foremost, given-no-row, given-append}
-use Rattle.loadfile.specs.File.{Outcome, refused, made, outcomeBy, inRoom, fileOf, payloadOf, blocksIn, lengthWrong, writeRows, readRows, blocksRows, readerOf, writerOf}
+use Rattle.loadfile.specs.File.{refused, made, outcomeBy, inRoom, fileOf, payloadOf, blocksIn, lengthWrong, writeRows, readRows, blocksRows, readerOf, writerOf}
 use Rattle.loadfile_claims.specs.Tabled.{Ordered}
 use Rattle.loadfile.proofs.Tables.{blocks-append, blocks-numbered}
 use Rattle.loadfile.proofs.Outcomes.{outcome-refused, outcome-made, outcome-lets}

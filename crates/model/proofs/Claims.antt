@@ -5,11 +5,8 @@ use mathlib.Core.List.{List}
 use mathlib.Core.Logic.{_↔_}
 use Prim.Native.Nat.{ℕ, _+_}
 use lib.ListN.{length}
-use Rattle.cells.specs.Choice.{Unique}
-use Rattle.cells.proofs.Choice.{only}
 use Rattle.cells.specs.Lists.{Bytes}
 use Rattle.cells.specs.Numbers.{Foremost, NoRow}
-use Rattle.device.specs.declared.Part.{Part}
 use Rattle.device.specs.declared.Device.{Device}
 use Rattle.chip.specs.declared.State.{State}
 use Rattle.chip.specs.declared.Cycle.{Cycle}
@@ -17,12 +14,11 @@ use Rattle.chip.specs.declared.Kind.the-variants.{Read}
 use Rattle.chip.specs.declared.Effect.{Effect}
 use Rattle.chip.specs.declared.Effect.the-variants.{Nothing}
 use Rattle.chip.specs.Levels.{rpLow}
-use Rattle.chip.specs.States.{improper, freshState, resetOf}
+use Rattle.chip.specs.States.{improper, freshState}
 use Rattle.settling.specs.Settling.{settleOf}
 use Rattle.bus.specs.Cycles.{tableOf, numberOf, judgeOf, decideOf}
 use Rattle.bus.proofs.Facts.{proper-parts, parts-proper}
 use Rattle.model.specs.declared.Seen.the-variants.{Byte, Refused}
-use Rattle.model.specs.declared.Answer.{Answer}
 use Rattle.model.specs.Arrays.{Accepted, answerOf, arrayAfter}
 use Rattle.model.specs.Inner.{answerJudged, arrayJudged}
 use Rattle.model.specs.Begun.{operationOf, pendingOf, startsOf, begunBy, begunFrom}
@@ -106,22 +102,3 @@ judged-answer = passing.judged-answer
 -- .. and leaves the array as the cycle does.
 pub judged-array : (d : Device) (s : State) (c : Cycle) (xs rs : List ℕ) → judgeOf d s c (length xs) (length rs) ≡ 0 → arrayJudged d s c xs rs ≡ arrayAfter d s c xs rs
 judged-array = passing.judged-array
-
--- Two results that a promise allows are equal, and so are two arrays that it leaves.
-pub cycle-unique : (d : Device) (s : State) (c : Cycle) (xs rs : List ℕ) → Unique (λ (r : Answer). r ≡ answerOf d s c xs rs)
-cycle-unique d s c xs rs = only (answerOf d s c xs rs)
-
-pub cycle-array-unique : (d : Device) (s : State) (c : Cycle) (xs rs : List ℕ) → Unique (λ (left : List ℕ). left ≡ arrayAfter d s c xs rs)
-cycle-array-unique d s c xs rs = only (arrayAfter d s c xs rs)
-
-pub fresh-unique : Unique (λ (r : State). r ≡ freshState)
-fresh-unique = only freshState
-
-pub reset-unique : (s : State) → Unique (λ (r : State). r ≡ resetOf s)
-reset-unique s = only (resetOf s)
-
-pub after-judging-unique : (d : Device) (s : State) (c : Cycle) (xs rs : List ℕ) → Unique (λ (r : Answer). r ≡ answerJudged d s c xs rs)
-after-judging-unique d s c xs rs = only (answerJudged d s c xs rs)
-
-pub after-judging-array-unique : (d : Device) (s : State) (c : Cycle) (xs rs : List ℕ) → Unique (λ (left : List ℕ). left ≡ arrayJudged d s c xs rs)
-after-judging-array-unique d s c xs rs = only (arrayJudged d s c xs rs)

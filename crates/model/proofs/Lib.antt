@@ -8,3 +8,4 @@ pub mod Lives
 pub mod Contents
 pub mod Table
 pub mod Claims
+pub mod Unique

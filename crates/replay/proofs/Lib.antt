@@ -4,3 +4,4 @@ pub mod Wholes
 pub mod Ends
 pub mod Never
 pub mod Claims
+pub mod Unique

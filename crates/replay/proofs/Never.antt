@@ -16,7 +16,7 @@ use Rattle.chip.specs.declared.Phase.the-variants.{Free, EraseAwaited, DataAwai
 use Rattle.chip.specs.declared.State.{State}
 use Rattle.chip.specs.declared.Cycle.{Cycle}
 use Rattle.chip.specs.Levels.{rpLow, vppLow, badLevels}
-use Rattle.chip.specs.States.{improper, freshState}
+use Rattle.chip.specs.States.{freshState}
 use Rattle.settling.specs.Settling.{residueFor, settleOf}
 use Rattle.bus.specs.Cycles.{numberOf, late, pastArray, shortResidue}
 use Rattle.model.proofs.Claims as model

@@ -1,3 +1,3 @@
 pub mod Text
 pub mod Patterns
-pub mod Claims
+pub mod Unique

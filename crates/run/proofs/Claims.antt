@@ -5,8 +5,6 @@ use mathlib.Core.List.{List}
 use mathlib.Core.Logic.{_↔_}
 use Prim.Native.Nat.{ℕ, _-_, _<_}
 use lib.ListN.{length}
-use Rattle.cells.specs.Choice.{Unique}
-use Rattle.cells.proofs.Choice.{only}
 use Rattle.cells.specs.Numbers.{Foremost, NoRow}
 use Rattle.device.specs.declared.Device.{Device}
 use Rattle.chip.specs.declared.Pins.{Pins}
@@ -15,10 +13,7 @@ use Rattle.run.specs.declared.Ran.{Ran}
 use Rattle.run.specs.Turns.{Config, after}
 use Rattle.loader.specs.Stages.{isEnded}
 use Rattle.run.specs.Runs.{runRows, runNumber, driven, ranOf, bytesOf, scratchOf, beginning}
-use Rattle.loader.specs.declared.Loader.{Loader}
-use Rattle.loader.specs.Moves.{nextOf}
 use Rattle.stepper.specs.Outs.{cycleOf}
-use Rattle.stepper.specs.Stores.{storeOf}
 use Rattle.run.specs.Promises.{FirstEnd, Promise}
 use Rattle.bus.specs.Cycles.{judgeOf}
 use Rattle.run.proofs.Ending as ending
@@ -70,22 +65,3 @@ pub passes-ever : (d : Device) (s : State) (p : Pins) (k : ℕ) (xs w sc : List 
     (length (after j d w (beginning d s p k xs sc) .bytes)) 0
     ≡ 0
 passes-ever = sound.passes-ever
-
--- Two results that the promise allows are equal, and so are two arrays and two scratches that it leaves.
-pub run-unique : (d : Device) (s : State) (p : Pins) (k : ℕ) (xs w sc : List ℕ) → Unique (λ (r : Ran). r ≡ ranOf d s p k xs w sc)
-run-unique d s p k xs w sc = only (ranOf d s p k xs w sc)
-
-pub run-array-unique : (d : Device) (s : State) (p : Pins) (k : ℕ) (xs w sc : List ℕ) → Unique (λ (left : List ℕ). left ≡ bytesOf d s p k xs w sc)
-run-array-unique d s p k xs w sc = only (bytesOf d s p k xs w sc)
-
-pub run-scratch-unique : (d : Device) (s : State) (p : Pins) (k : ℕ) (xs w sc : List ℕ) → Unique (λ (left : List ℕ). left ≡ scratchOf d s p k xs w sc)
-run-scratch-unique d s p k xs w sc = only (scratchOf d s p k xs w sc)
-
-pub run-number-unique : (d : Device) (s : State) (p : Pins) (k array w sc : ℕ) → Unique (λ (r : ℕ). r ≡ runNumber d s p k array w sc)
-run-number-unique d s p k array w sc = only (runNumber d s p k array w sc)
-
-pub take-unique : (l : Loader) (b : ℕ) (w sc : List ℕ) → Unique (λ (r : Loader). r ≡ nextOf l b w (storeOf l b sc))
-take-unique l b w sc = only (nextOf l b w (storeOf l b sc))
-
-pub take-scratch-unique : (l : Loader) (b : ℕ) (sc : List ℕ) → Unique (λ (left : List ℕ). left ≡ storeOf l b sc)
-take-scratch-unique l b sc = only (storeOf l b sc)

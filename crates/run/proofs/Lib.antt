@@ -6,3 +6,4 @@ pub mod Judging
 pub mod Sound
 pub mod Ending
 pub mod Claims
+pub mod Unique

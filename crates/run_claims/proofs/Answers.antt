@@ -3,7 +3,7 @@ use mathlib.Core.Path.{_≡_, refl, sym, ap, _∙_}
 use mathlib.Core.Bool.{Bool, true, false, not, _&&_, _||_}
 use Prim.Native.Nat.{ℕ, _+_, _-_, _≤_, _<_}
 use native.Mathlib.Omega.{arith}
-use lib.Dec.{eqb, ltb, leb}
+use lib.Dec.{eqb, ltb}
 use lib.Bits.{bitAnd, bitOr}
 use borrow.Author.Tests.{lt-leb, ne-eqb, eqb-true, le-ltb}
 use Rattle.cells.specs.Choice.{if_then_else_}
@@ -34,7 +34,6 @@ use Rattle.bus.proofs.Facts.{Proper}
 use Rattle.model.proofs.Keeping.{st, rest-proper}
 use Rattle.model.proofs.Status.{fits}
 use Rattle.run.proofs.Judging.{unasked, unasked-high, judged}
-use Rattle.run_claims.specs.Made.{busCycle as cyc}
 
 -- a device that is known, and levels that a load may have
 pub record Up (d : Device) (p : Pins) : Type 0 where

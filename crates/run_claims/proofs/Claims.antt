@@ -13,9 +13,7 @@ use Rattle.chip.specs.declared.Pins.{Pins}
 use Rattle.chip.specs.declared.Mode.the-variants.{Array}
 use Rattle.chip.specs.declared.State.{State}
 use Rattle.chip.specs.States.{atRest}
-use Rattle.loader.specs.declared.Stage.the-variants.{Clearing}
-use Rattle.stepper.specs.Front.{recordAt}
-use Rattle.run.specs.Turns.{Config, after, bound}
+use Rattle.run.specs.Turns.{Config, after}
 use Rattle.run.specs.Runs.{runRows, begin, ranOf, bytesOf, scratchOf, runNumber}
 use Rattle.run_claims.specs.Wear.{begunIn, heldIn, formula, operationsOf, notedAll, begunByLoad, heldBy}
 use Rattle.model_history.specs.History.{Bus, worldAfter, begunOver, worldOf, busesOf}

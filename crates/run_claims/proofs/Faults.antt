@@ -36,7 +36,7 @@ use Rattle.stepper.specs.Stores.{storeOf, erasedWell}
 use Rattle.run.specs.Turns.{Config}
 use Rattle.loader.specs.Stages.{isEnded}
 use Rattle.run.proofs.Turning.{conf}
-use Rattle.run_claims.specs.Made.{busCycle as cyc, closingOf}
+use Rattle.run_claims.specs.Made.{closingOf}
 use Rattle.run_claims.specs.Ends.{asWanted, eraseTried, programTried}
 use Rattle.run_claims.proofs.Answers as answers
 use Rattle.run_claims.proofs.Answers.{Up, Stuck}

@@ -52,7 +52,7 @@ use Rattle.run.specs.Turns.{Config, turnOf}
 use Rattle.loader.specs.Stages.{isEnded}
 use Rattle.run_claims.specs.Wear.{programsOf, differing, baseOf, operationsOf}
 use Rattle.run.proofs.Turning.{conf}
-use Rattle.run_claims.specs.Made.{busCycle as cyc, isSmooth, readsThen, pollsThen, openingThen, eraseThen, programThen, programsThen, closingOf, programmingOf, cyclesOf}
+use Rattle.run_claims.specs.Made.{isSmooth, readsThen, pollsThen, openingThen, eraseThen, programThen, programsThen, closingOf, programmingOf, cyclesOf}
 use Rattle.run_claims.proofs.Reaching.{Reach, Told, Does, does-as, arrive, prepend, turned, does}
 use Rattle.run_claims.proofs.Layers.{put-over, over-over, laid-length, laid-here, laid-agree}
 use Rattle.run_claims.proofs.Answers as answers

@@ -1,3 +1,3 @@
 pub mod Walks
 pub mod Verdicts
-pub mod Claims
+pub mod Unique

@@ -1,3 +1,4 @@
 pub mod Small
 pub mod Again
 pub mod Claims
+pub mod Unique

@@ -1,6 +1,4 @@
 use borrow.Author.Needs.{needs}
-use native.Mathlib.Omega.{arith}
-use borrow.Author.Tests.{lt-ltb, le-ltb, le-leb, lt-leb, eq-eqb, ne-eqb}
 use mathlib.Core.Path.{_≡_, ap, _∙_}
 use Rattle.loader.specs.declared.Loader.{Loader}
 use Rattle.loader.specs.declared.Given.{Given}
@@ -9,34 +7,22 @@ use Rattle.c_records.specs.Records.{loaderIn, turnOut, loaderBack}
 use Rattle.host.specs.Calls.{steppedOf, scratchStepped}
 use Rattle.host.proofs.stepped.Statement.{statement}
 use Rattle.host.proofs.stepped.Tie as tie
-use Rattle.host.proofs.stepped.Reads as reads
-use Rattle.host.proofs.stepped.Lts as lts
-use Rattle.c_records.proofs.records.loader_back.Reads as loader-back-reads
-use Rattle.c_records.proofs.records.loader_in.Reads as loader-in-reads
-use Rattle.c_records.proofs.records.turn_out.Reads as turn-out-reads
-use Rattle.stepper.proofs.front.step.Reads as step-reads
 
--- src/lib.rt:96:33
 loader-in-requires : tie.Need-loader-in-requires
 loader-in-requires c κs = search needs
 
--- src/lib.rt:96:9
 step-requires : tie.Need-step-requires
 step-requires c κs = search needs
 
--- src/lib.rt:100:15
 turn-out-requires : tie.Need-turn-out-requires
 turn-out-requires c κs = search needs
 
--- src/lib.rt:101:17
 loader-back-requires : tie.Need-loader-back-requires
 loader-back-requires c κs = search needs
 
--- src/lib.rt:92:1
 same-length : tie.Need-same-length
 same-length c = search needs
 
--- src/lib.rt:92:1
 returns : tie.Need-returns
 unfolding steppedOf scratchStepped
 returns c =

@@ -7,47 +7,31 @@ use Rattle.c_records.specs.Records.{ranOut}
 use Rattle.host.specs.Calls.{loadOf, arrayLoad, wantedLoad, scratchLoad}
 use Rattle.host.proofs.tb_load.Statement.{statement}
 use Rattle.host.proofs.tb_load.Tie as tie
-use Rattle.host.proofs.tb_load.Reads as reads
-use Rattle.host.proofs.tb_load.Lts as lts
-use Rattle.twin.proofs.states.device_in.Reads as device-in-reads
-use Rattle.twin.proofs.states.pins_in.Reads as pins-in-reads
-use Rattle.c_records.proofs.runs.ran_out.Reads as ran-out-reads
-use Rattle.twin.proofs.states.state_in.Reads as state-in-reads
-use Rattle.load.proofs.load.Reads as load-reads
 
--- src/lib.rt:235:9
 device-in-requires : tie.Need-device-in-requires
 device-in-requires c κs = search needs
 
--- src/lib.rt:236:9
 state-in-requires : tie.Need-state-in-requires
 state-in-requires c κs = search needs
 
--- src/lib.rt:237:9
 pins-in-requires : tie.Need-pins-in-requires
 pins-in-requires c κs = search needs
 
--- src/lib.rt:238:9
 load-requires : tie.Need-load-requires
 load-requires c κs = search needs
 
--- src/lib.rt:239:5
 ran-out-requires : tie.Need-ran-out-requires
 ran-out-requires c κs = search needs
 
--- src/lib.rt:217:1
 same-length : tie.Need-same-length
 same-length c = search needs
 
--- src/lib.rt:217:1
 same-length-2 : tie.Need-same-length-2
 same-length-2 c = search needs
 
--- src/lib.rt:217:1
 same-length-3 : tie.Need-same-length-3
 same-length-3 c = search needs
 
--- src/lib.rt:217:1
 returns : tie.Need-returns
 unfolding loadOf arrayLoad wantedLoad scratchLoad
 returns c =

@@ -7,43 +7,28 @@ use Rattle.c_records.specs.Records.{ranOut}
 use Rattle.host.specs.Calls.{runOf, arrayRun, scratchRun}
 use Rattle.host.proofs.tb_run.Statement.{statement}
 use Rattle.host.proofs.tb_run.Tie as tie
-use Rattle.host.proofs.tb_run.Reads as reads
-use Rattle.host.proofs.tb_run.Lts as lts
-use Rattle.twin.proofs.states.device_in.Reads as device-in-reads
-use Rattle.twin.proofs.states.pins_in.Reads as pins-in-reads
-use Rattle.c_records.proofs.runs.ran_out.Reads as ran-out-reads
-use Rattle.twin.proofs.states.state_in.Reads as state-in-reads
-use Rattle.run.proofs.run.Reads as run-reads
 
--- src/lib.rt:209:9
 device-in-requires : tie.Need-device-in-requires
 device-in-requires c κs = search needs
 
--- src/lib.rt:210:9
 state-in-requires : tie.Need-state-in-requires
 state-in-requires c κs = search needs
 
--- src/lib.rt:211:9
 pins-in-requires : tie.Need-pins-in-requires
 pins-in-requires c κs = search needs
 
--- src/lib.rt:212:9
 run-requires : tie.Need-run-requires
 run-requires c κs = search needs
 
--- src/lib.rt:213:5
 ran-out-requires : tie.Need-ran-out-requires
 ran-out-requires c κs = search needs
 
--- src/lib.rt:194:1
 same-length : tie.Need-same-length
 same-length c = search needs
 
--- src/lib.rt:194:1
 same-length-2 : tie.Need-same-length-2
 same-length-2 c = search needs
 
--- src/lib.rt:194:1
 returns : tie.Need-returns
 unfolding runOf arrayRun scratchRun
 returns c =

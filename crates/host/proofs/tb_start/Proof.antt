@@ -8,30 +8,19 @@ use Rattle.c_records.specs.Records.{loaderOut, turnOut}
 use Rattle.host.specs.Calls.{started}
 use Rattle.host.proofs.tb_start.Statement.{statement}
 use Rattle.host.proofs.tb_start.Tie as tie
-use Rattle.host.proofs.tb_start.Reads as reads
-use Rattle.host.proofs.tb_start.Lts as lts
-use Rattle.c_records.proofs.records.loader_out.Reads as loader-out-reads
-use Rattle.twin.proofs.states.pins_in.Reads as pins-in-reads
-use Rattle.c_records.proofs.records.turn_out.Reads as turn-out-reads
-use Rattle.stepper.proofs.front.start.Reads as start-reads
 
--- src/lib.rt:153:41
 pins-in-requires : tie.Need-pins-in-requires
 pins-in-requires c κs = search needs
 
--- src/lib.rt:153:9
 start-requires : tie.Need-start-requires
 start-requires c κs = search needs
 
--- src/lib.rt:157:15
 turn-out-requires : tie.Need-turn-out-requires
 turn-out-requires c κs = search needs
 
--- src/lib.rt:158:17
 loader-out-requires : tie.Need-loader-out-requires
 loader-out-requires c κs = search needs
 
--- src/lib.rt:141:1
 returns : tie.Need-returns
 unfolding started
 returns c =

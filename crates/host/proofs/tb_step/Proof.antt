@@ -51,10 +51,8 @@ use Rattle.c_records.proofs.GivenNumbers as G
 use Rattle.c_records.proofs.GivenNumbers.Laws as G′
 use Rattle.host.proofs.stepped as inner
 use Rattle.host.proofs.stepped.Symbol as inner-def
-use Rattle.host.proofs.stepped.Symbol.{name as #inner}
 use Rattle.host.proofs.stepped.Met as inner-met
 use Rattle.host.proofs.tb_step as outer
-use Rattle.host.proofs.tb_step.Key.{name as #outer}
 use Rattle.host.proofs.tb_step.Statement as stated
 use Rattle.host.proofs.tb_step.Code as code
 

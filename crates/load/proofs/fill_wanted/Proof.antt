@@ -1,5 +1,4 @@
 use mathlib.Core.Path.{sym, _∙_}
-use native.Mathlib.Omega.{arith}
 use Rattle.load.proofs.Filling.{filled, wanted-filled, wanted-stays}
 use borrow.Author.Needs.{needs}
 use Rattle.load.proofs.fill_wanted.Statement.{statement}

@@ -7,7 +7,7 @@ use Rattle.load.proofs.Filling.{wanted-filled, wanted-stays}
 use Rattle.load.proofs.Judging.{short-file}
 use Rattle.load.proofs.Leaving.{made-left, refused-left}
 use borrow.Author.Needs.{needs}
-use Rattle.load.specs.Loads.{loadNumber, wantedOf, wantedBy, LoadLeft}
+use Rattle.load.specs.Loads.{loadNumber, wantedOf, LoadLeft}
 use Rattle.load.proofs.load.Statement.{statement}
 use Rattle.load.proofs.load.Tie as tie
 

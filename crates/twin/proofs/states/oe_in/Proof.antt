@@ -1,19 +1,12 @@
-use borrow.Author.Needs.{needs}
-use native.Mathlib.Omega.{arith}
-use borrow.Author.Tests.{lt-ltb, le-ltb, le-leb, lt-leb, eq-eqb, ne-eqb}
-use mathlib.Core.Path.{refl, sym, _∙_}
+use borrow.Author.Tests.{lt-ltb, le-ltb}
 use Rattle.twin.specs.Twins.{oeIn}
 use Rattle.twin.proofs.states.oe_in.Statement.{statement}
 use Rattle.twin.proofs.states.oe_in.Tie as tie
-use Rattle.twin.proofs.states.oe_in.Reads as reads
-use Rattle.twin.proofs.states.oe_in.Lts as lts
 
--- src/states.rt:211:9
 returns : tie.Need-returns
 unfolding oeIn
 returns c = simp (lt-ltb _ _ (c .if1 .taken))
 
--- src/states.rt:207:1
 returns-2 : tie.Need-returns-2
 unfolding oeIn
 returns-2 c = simp (le-ltb _ _ (c .if1 .left))

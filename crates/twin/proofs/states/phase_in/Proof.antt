@@ -1,39 +1,28 @@
-use borrow.Author.Needs.{needs}
-use native.Mathlib.Omega.{arith}
-use borrow.Author.Tests.{lt-ltb, le-ltb, le-leb, lt-leb, eq-eqb, ne-eqb}
-use mathlib.Core.Path.{refl, sym, _∙_}
+use borrow.Author.Tests.{eq-eqb, ne-eqb}
 use Rattle.twin.specs.Twins.{phaseIn}
 use Rattle.twin.proofs.states.phase_in.Statement.{statement}
 use Rattle.twin.proofs.states.phase_in.Tie as tie
-use Rattle.twin.proofs.states.phase_in.Reads as reads
-use Rattle.twin.proofs.states.phase_in.Lts as lts
 
--- src/states.rt:90:9
 returns : tie.Need-returns
 unfolding phaseIn
 returns c = simp (eq-eqb _ _ (c .if1 .taken))
 
--- src/states.rt:93:9
 returns-2 : tie.Need-returns-2
 unfolding phaseIn
 returns-2 c = simp (eq-eqb _ _ (c .if2 .taken), ne-eqb _ _ (c .before .if1 .left))
 
--- src/states.rt:96:9
 returns-3 : tie.Need-returns-3
 unfolding phaseIn
 returns-3 c = simp (eq-eqb _ _ (c .if3 .taken), ne-eqb _ _ (c .before .if2 .left), ne-eqb _ _ (c .before .before .if1 .left))
 
--- src/states.rt:99:9
 returns-4 : tie.Need-returns-4
 unfolding phaseIn
 returns-4 c = simp (eq-eqb _ _ (c .if4 .taken), ne-eqb _ _ (c .before .if3 .left), ne-eqb _ _ (c .before .before .if2 .left), ne-eqb _ _ (c .before .before .before .if1 .left))
 
--- src/states.rt:102:9
 returns-5 : tie.Need-returns-5
 unfolding phaseIn
 returns-5 c = simp (eq-eqb _ _ (c .if5 .taken), ne-eqb _ _ (c .before .if4 .left), ne-eqb _ _ (c .before .before .if3 .left), ne-eqb _ _ (c .before .before .before .if2 .left), ne-eqb _ _ (c .before .before .before .before .if1 .left))
 
--- src/states.rt:86:1
 returns-6 : tie.Need-returns-6
 unfolding phaseIn
 returns-6 c = simp (ne-eqb _ _ (c .if5 .left), ne-eqb _ _ (c .before .if4 .left), ne-eqb _ _ (c .before .before .if3 .left), ne-eqb _ _ (c .before .before .before .if2 .left), ne-eqb _ _ (c .before .before .before .before .if1 .left))

@@ -1,5 +1,4 @@
--- Two results that a promise allows are equal, for each public function of this crate. What is claimed of the loader stands with
--- `stepper`. Assumes nothing.
+-- Two results that a promise of this crate allows are equal, and so is what it leaves in each thing lent. Assumes nothing.
 use mathlib.Core.Path.{_≡_}
 use mathlib.Core.Bool.{Bool}
 use mathlib.Core.List.{List}
