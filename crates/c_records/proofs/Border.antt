@@ -5,14 +5,14 @@ use Prim.Native.Nat.{ℕ, zero, suc, _≤_}
 use native.Mathlib.Omega.{arith}
 use lib.Dec.{eqb, ltb}
 use borrow.Author.Tests.{ltb-false}
-use Rattle.cells.proofs.Choice.{if-false, if-ind, or-left, or-right, and-none}
+use Rattle.common.proofs.Choice.{if-false, if-ind, or-left, or-right, and-none}
 use Rattle.loader.specs.declared.Stage.{Stage}
 use Rattle.loader.specs.declared.Stage.the-variants.{Clearing, Opening, Reading, EraseAsking, EraseConfirming, EraseWaiting, ProgramAsking, ProgramSending, ProgramWaiting, Closing, Verifying, Ended}
 use Rattle.loader.specs.declared.Loader.{Loader}
-use Rattle.stepper.specs.Front.{badRecord}
+use Rattle.loader_steps.specs.Front.{badRecord}
 use Rattle.c_records.specs.Records.{stageIn, stageOut, endOut, noRecord, pollsIn, loaderIn, loaderOut, loaderBack}
 use Rattle.c_records.specs.declared.LoaderNumbers.{LoaderNumbers}
-use Rattle.twin.proofs.Border.{plain-byte}
+use Rattle.c_cycle.proofs.Border.{plain-byte}
 
 stage-back : (s : Stage) → stageIn (stageOut s) (endOut s) ≡ s
 unfolding stageIn

@@ -2,7 +2,7 @@
 use mathlib.Core.Path.{_≡_}
 use mathlib.Core.Bool.{true, false}
 use Rattle.loader.specs.declared.Loader.{Loader}
-use Rattle.stepper.specs.Front.{badRecord}
+use Rattle.loader_steps.specs.Front.{badRecord}
 use Rattle.c_records.specs.Records.{noRecord, loaderIn, loaderOut}
 use Rattle.c_records.specs.declared.LoaderNumbers.{LoaderNumbers}
 use Rattle.c_records.proofs.Border as border

@@ -1,14 +1,14 @@
 -- Two results that a promise of this crate allows are equal, and so is what it leaves in each thing lent. Assumes nothing.
 use mathlib.Core.Path.{_≡_}
-use Rattle.cells.specs.Choice.{Unique}
-use Rattle.cells.proofs.Choice.{only}
+use Rattle.common.specs.Choice.{Unique}
+use Rattle.common.proofs.Choice.{only}
 use Rattle.loader.specs.declared.Loader.{Loader}
 use Rattle.loader.specs.declared.Turn.{Turn}
-use Rattle.run.specs.declared.Ran.{Ran}
-use Rattle.loadfile.specs.declared.Written.{Written}
-use Rattle.loadfile.specs.declared.ReadBack.{ReadBack}
+use Rattle.loader_run.specs.declared.Ran.{Ran}
+use Rattle.file_codec.specs.declared.Written.{Written}
+use Rattle.file_codec.specs.declared.ReadBack.{ReadBack}
 use Rattle.c_records.specs.Records.{loaderIn, loaderOut, ranOut, loaderBack, turnOut, writtenOut, readOut}
-use Rattle.twin.specs.declared.StateNumbers.{StateNumbers}
+use Rattle.c_cycle.specs.declared.StateNumbers.{StateNumbers}
 use Rattle.c_records.specs.declared.LoaderNumbers.{LoaderNumbers}
 use Rattle.c_records.specs.declared.TurnNumbers.{TurnNumbers}
 use Rattle.c_records.specs.declared.RanNumbers.{RanNumbers}

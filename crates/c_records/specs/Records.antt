@@ -2,9 +2,9 @@
 use mathlib.Core.Bool.{Bool, not, _&&_, _||_}
 use Prim.Native.Nat.{ℕ}
 use lib.Dec.{eqb, ltb}
-use Rattle.cells.specs.Choice.{if_then_else_}
-use Rattle.twin.specs.declared.StateNumbers.{StateNumbers}
-use Rattle.twin.specs.declared.BusNumbers.{BusNumbers}
+use Rattle.common.specs.Choice.{if_then_else_}
+use Rattle.c_cycle.specs.declared.StateNumbers.{StateNumbers}
+use Rattle.c_cycle.specs.declared.BusNumbers.{BusNumbers}
 use Rattle.loader.specs.declared.Stage.{Stage}
 use Rattle.loader.specs.declared.Stage.the-variants.{Clearing, Opening, Reading, EraseAsking, EraseConfirming, EraseWaiting, ProgramAsking, ProgramSending, ProgramWaiting, Closing, Verifying, Ended}
 use Rattle.loader.specs.declared.Loader.{Loader}
@@ -12,16 +12,16 @@ use Rattle.loader.specs.Stages.{isEnded, endBy}
 use Rattle.c_records.specs.declared.LoaderNumbers.{LoaderNumbers}
 use Rattle.loader.specs.declared.Turn.{Turn}
 use Rattle.loader.specs.declared.Turn.the-variants.{Out, Over, Barred}
-use Rattle.run.specs.declared.Ran.{Ran}
-use Rattle.loadfile.specs.declared.Written.{Written}
-use Rattle.loadfile.specs.declared.Written.the-variants.{Wrote, NotWritten}
-use Rattle.loadfile.specs.declared.ReadBack.{ReadBack}
-use Rattle.loadfile.specs.declared.ReadBack.the-variants.{Gave, NotRead}
-use Rattle.twin.specs.Twins.{cycleOut, pinsIn}
+use Rattle.loader_run.specs.declared.Ran.{Ran}
+use Rattle.file_codec.specs.declared.Written.{Written}
+use Rattle.file_codec.specs.declared.Written.the-variants.{Wrote, NotWritten}
+use Rattle.file_codec.specs.declared.ReadBack.{ReadBack}
+use Rattle.file_codec.specs.declared.ReadBack.the-variants.{Gave, NotRead}
+use Rattle.c_cycle.specs.Twins.{cycleOut, pinsIn}
 use Rattle.c_records.specs.declared.TurnNumbers.{TurnNumbers}
 use Rattle.c_records.specs.declared.RanNumbers.{RanNumbers}
 use Rattle.c_records.specs.declared.SizedNumbers.{SizedNumbers}
-use Rattle.twin.specs.Answers.{stateBack}
+use Rattle.c_cycle.specs.Answers.{stateBack}
 
 -- stages of a load: 0 to 10 by the cycle that is out, 11 ended with a number
 unfoldable pub stageIn : ℕ → ℕ → Stage

@@ -4,8 +4,8 @@ pub mod records;
 pub mod runs;
 pub mod sizes;
 
-use twin::BusNumbers;
-use twin::StateNumbers;
+use c_cycle::BusNumbers;
+use c_cycle::StateNumbers;
 
 // The loader's record.
 #[repr(C)]

@@ -1,14 +1,14 @@
 // The loader's record, and what the loader says, as plain numbers.
 use crate::LoaderNumbers;
 use crate::TurnNumbers;
+use c_cycle::BusNumbers;
+use c_cycle::states::cycle_out;
+use c_cycle::states::pins_in;
 use device::Part;
 use loader::Loader;
 use loader::Stage;
 use loader::Turn;
 use loader::stages::stage_end;
-use twin::BusNumbers;
-use twin::states::cycle_out;
-use twin::states::pins_in;
 ghost use mathlib.Core.Path.{_≡_};
 ghost use Rattle.c_records.specs.Records.{stageIn, stageOut, endOut, noRecord, pollsIn, loaderIn, loaderOut, loaderBack, noCycle, turnAt, turnOut};
 

@@ -1,8 +1,8 @@
 // What a run or a load returns, as plain numbers.
 use crate::RanNumbers;
-use run::Ran;
-use twin::StateNumbers;
-use twin::states::state_back;
+use c_cycle::StateNumbers;
+use c_cycle::states::state_back;
+use loader_run::Ran;
 ghost use mathlib.Core.Path.{_≡_};
 ghost use Rattle.c_records.specs.Records.{ranOut};
 

@@ -1,7 +1,7 @@
 // What writer and reader answer, as plain numbers.
 use crate::SizedNumbers;
-use loadfile::ReadBack;
-use loadfile::Written;
+use file_codec::ReadBack;
+use file_codec::Written;
 ghost use mathlib.Core.Path.{_≡_};
 ghost use Rattle.c_records.specs.Records.{sizedAs, writtenOut, readOut};
 

@@ -10,24 +10,24 @@ use lib.Seq.{set-getD}
 use lib.Bits.{bitAnd}
 use Rattle.device.specs.declared.Device.{Device}
 use Rattle.device.specs.Parts.{unknownDevice, sizeOf, blockOf}
-use Rattle.chip.specs.declared.Mode.the-variants.{Array, Status}
-use Rattle.chip.specs.declared.Phase.the-variants.{DataAwaited, Programming}
-use Rattle.chip.specs.declared.Effect.{Effect}
-use Rattle.chip.specs.declared.Effect.the-variants.{Nothing, Program}
-use Rattle.chip.specs.declared.Reply.{Reply}
-use Rattle.chip.specs.declared.Reply.the-variants.{Quiet, Gives}
-use Rattle.chip.specs.declared.State.{State}
-use Rattle.chip.specs.declared.Cycle.{Cycle}
-use Rattle.chip.specs.declared.Decision.{Decision}
-use Rattle.chip.specs.Levels.{vppLow, vppHigh, badPins}
-use Rattle.chip.specs.States.{atRest, freshState}
-use Rattle.bus.specs.Cycles.{decideOf, decidedAs}
+use Rattle.model_types.specs.declared.Mode.the-variants.{Array, Status}
+use Rattle.model_types.specs.declared.Phase.the-variants.{DataAwaited, Programming}
+use Rattle.model_types.specs.declared.Effect.{Effect}
+use Rattle.model_types.specs.declared.Effect.the-variants.{Nothing, Program}
+use Rattle.model_types.specs.declared.Reply.{Reply}
+use Rattle.model_types.specs.declared.Reply.the-variants.{Quiet, Gives}
+use Rattle.model_types.specs.declared.State.{State}
+use Rattle.model_types.specs.declared.Cycle.{Cycle}
+use Rattle.model_types.specs.declared.Decision.{Decision}
+use Rattle.model_types.specs.Levels.{vppLow, vppHigh, badPins}
+use Rattle.model_types.specs.States.{atRest, freshState}
+use Rattle.model_rules.specs.Cycles.{decideOf, decidedAs}
 use Rattle.model.specs.declared.Seen.{Seen}
 use Rattle.model.specs.declared.Seen.the-variants.{NoData, Byte}
 use Rattle.model.specs.Arrays.{arrayOf, seenOf, arrayAfter, answerOf}
 use Rattle.model.proofs.Keeping.{st}
 use Rattle.model_history.specs.History.{Bus, World, stepped, worldAfter}
-use Rattle.run_claims.proofs.Answers.{Up, Ready, asks-program, sends, waits, ends}
+use Rattle.loader_run_claims.proofs.Answers.{Up, Ready, asks-program, sends, waits, ends}
 use Rattle.cards.specs.Table.{normal, write, read, fresh, seenOn, seenIn, cycles2, Card2}
 
 supplied : (d : Device) → (badPins (d .part) normal ≡ false) × (vppLow (d .part) normal ≡ false)

@@ -2,14 +2,14 @@
 use mathlib.Core.Path.{_≡_, refl}
 use mathlib.Core.Bool.{true}
 use Rattle.device.specs.Parts.{shapeOf, sizeIn, lengthIn, offsetIn, holderIn, turned, startIn, blockIn, unknownPart, unknownDevice, sizeOf, lengthOf, startOf, blockOf}
-use Rattle.chip.specs.Levels.{vppLow, vppHigh, badPins, badLevels, unlocked, locked}
-use Rattle.chip.specs.Cells.{ones}
-use Rattle.chip.specs.States.{proper, improper}
-use Rattle.commands.specs.Commands.{firstWrite, afterErase, whileErasing, whileSuspended, unsupplied, startedOf}
-use Rattle.settling.specs.Settling.{cutBy, countedOff, settleOf}
-use Rattle.bus.specs.Cycles.{pastArray, shortResidue, noCommand, suspendedRead, noIdentifier, numberOf, acceptOf, decideOf}
+use Rattle.model_types.specs.Levels.{vppLow, vppHigh, badPins, badLevels, unlocked, locked}
+use Rattle.model_types.specs.Cells.{ones}
+use Rattle.model_types.specs.States.{proper, improper}
+use Rattle.model_commands.specs.Commands.{firstWrite, afterErase, whileErasing, whileSuspended, unsupplied, startedOf}
+use Rattle.model_operation.specs.Settling.{cutBy, countedOff, settleOf}
+use Rattle.model_rules.specs.Cycles.{pastArray, shortResidue, noCommand, suspendedRead, noIdentifier, numberOf, acceptOf, decideOf}
 use Rattle.model.specs.Arrays.{erased, residual, arrayAfter, answerOf}
-use Rattle.seal.specs.Check.{checkOf}
+use Rattle.file_check.specs.Check.{checkOf}
 use Rattle.cards.specs.Table.{card1, card3, card4, card5, card6, card7, card8, card9, card12, Cards}
 use Rattle.cards.proofs.Busy.{two}
 use Rattle.cards.proofs.Counts.{ten, eleven}

@@ -5,24 +5,24 @@ use mathlib.Core.List.{List, _∷_}
 use Prim.Native.Nat.{ℕ, zero, suc, _+_, _*_}
 use native.Mathlib.Omega.{arith}
 use lib.ListN.{length, replicate}
-use Rattle.cells.specs.Choice.{if_then_else_}
-use Rattle.cells.proofs.Choice.{unlike}
-use Rattle.cells.specs.Lists.{Bytes}
-use Rattle.cells.proofs.Bytes.{bytes-replicate}
+use Rattle.common.specs.Choice.{if_then_else_}
+use Rattle.common.proofs.Choice.{unlike}
+use Rattle.common.specs.Lists.{Bytes}
+use Rattle.common.proofs.Bytes.{bytes-replicate}
 use Rattle.device.specs.Parts.{shapeOf, sizeIn, lengthIn, offsetIn, startIn, unknownPart, unknownDevice, sizeOf, lengthOf, startOf}
-use Rattle.chip.specs.Cells.{ones}
-use Rattle.chip.specs.Levels.{vppLow, vppHigh, badPins}
-use Rattle.chip.specs.States.{proper, improper, freshState, atRest}
-use Rattle.chip.specs.declared.Mode.the-variants.{Array}
-use Rattle.stepper.specs.Front.{barredPins, noBlock, wrongLengths}
+use Rattle.model_types.specs.Cells.{ones}
+use Rattle.model_types.specs.Levels.{vppLow, vppHigh, badPins}
+use Rattle.model_types.specs.States.{proper, improper, freshState, atRest}
+use Rattle.model_types.specs.declared.Mode.the-variants.{Array}
+use Rattle.loader_steps.specs.Front.{barredPins, noBlock, wrongLengths}
 use Rattle.loader.specs.Walks.{risesIn}
-use Rattle.run.specs.declared.Ran.{Ran}
-use Rattle.run.specs.Runs.{runNumber}
-use Rattle.run_claims.specs.Wear.{differing, heldIn, formula}
-use Rattle.run_claims.specs.Mission.{Start}
-use Rattle.run_claims.proofs.Starts.{taken-if}
-use Rattle.run_claims.proofs.Same.{none-risen, none-differing}
-use Rattle.run_claims.proofs.Claims.{ends-well}
+use Rattle.loader_run.specs.declared.Ran.{Ran}
+use Rattle.loader_run.specs.Runs.{runNumber}
+use Rattle.loader_run_claims.specs.Wear.{differing, heldIn, formula}
+use Rattle.loader_run_claims.specs.Mission.{Start}
+use Rattle.loader_run_claims.proofs.Starts.{taken-if}
+use Rattle.loader_run_claims.proofs.Same.{none-risen, none-differing}
+use Rattle.loader_run_claims.proofs.Claims.{ends-well}
 use Rattle.cards.specs.Table.{deviceT, normal, same, Counts, Card10, Card11}
 
 -- nothing refuses such a run

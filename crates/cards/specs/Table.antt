@@ -1,27 +1,24 @@
 -- The bench cards, on bench T (device 3) and bench B (device 4) with P 2 and E 3 where nothing else is said. Assumes nothing.
 use mathlib.Core.Path.{_≡_}
-use mathlib.Core.Bool.{Bool, true, false, not, _&&_}
+use mathlib.Core.Bool.{Bool, true, false, _&&_}
 use mathlib.Core.List.{List, [], _∷_, _++_}
-use Prim.Native.Nat.{ℕ, zero, suc, _+_, _<_}
-use lib.ListN.{length, getD, set, replicate}
+use Prim.Native.Nat.{ℕ, suc, _+_, _<_}
+use lib.ListN.{length, getD, replicate}
 use lib.Dec.{eqb}
-use Rattle.device.specs.declared.Part.{Part}
 use Rattle.device.specs.declared.Device.{Device}
 use Rattle.device.specs.Parts.{unknownDevice, sizeOf, blockOf}
-use Rattle.cells.specs.Lists.{Bytes}
-use Rattle.chip.specs.declared.Kind.the-variants.{Read, Write}
-use Rattle.chip.specs.declared.Pins.{Pins}
-use Rattle.chip.specs.declared.Cycle.{Cycle}
-use Rattle.chip.specs.declared.State.{State}
-use Rattle.chip.specs.declared.Mode.the-variants.{Array, Status}
-use Rattle.chip.specs.States.{freshState, atRest}
+use Rattle.common.specs.Lists.{Bytes}
+use Rattle.model_types.specs.declared.Kind.the-variants.{Read, Write}
+use Rattle.model_types.specs.declared.Pins.{Pins}
+use Rattle.model_types.specs.declared.Mode.the-variants.{Array, Status}
+use Rattle.model_types.specs.States.{freshState, atRest}
 use Rattle.model.specs.declared.Seen.{Seen}
 use Rattle.model.specs.declared.Seen.the-variants.{NoData, Byte, Refused}
 use Rattle.model.specs.Arrays.{answerOf}
-use Rattle.seal.specs.Check.{checkOf}
+use Rattle.file_check.specs.Check.{checkOf}
 use Rattle.model_history.specs.History.{Bus, World, stepped, worldAfter}
-use Rattle.run.specs.Runs.{ranOf}
-use Rattle.run_claims.specs.Wear.{heldIn}
+use Rattle.loader_run.specs.Runs.{ranOf}
+use Rattle.loader_run_claims.specs.Wear.{heldIn}
 
 -- a part with its busy times
 abbrev pub device : ℕ → ℕ → ℕ → Device

@@ -2,7 +2,7 @@
 use mathlib.Core.Path.{_≡_, refl, sym}
 use mathlib.Core.List.{List, [], _∷_}
 use Prim.Native.Nat.{ℕ, _+_, _≤_, _<_}
-use Rattle.cells.proofs.Choice.{only}
+use Rattle.common.proofs.Choice.{only}
 use Rattle.device.specs.Blocks.{bytesOfAll, lengthAt, offsetAt, holder, Lies}
 use Rattle.device.specs.Parts.{shapeOf, sizeIn, lengthIn, offsetIn, startIn, Holds, sizeOf, lengthOf, startOf, blockOf, codeOf, tableRow}
 use Rattle.device.specs.declared.Part.{Part}

@@ -2,8 +2,8 @@
 use mathlib.Core.Path.{_≡_}
 use mathlib.Core.Bool.{Bool}
 use Prim.Native.Nat.{ℕ}
-use Rattle.cells.specs.Choice.{Unique}
-use Rattle.cells.proofs.Choice.{only}
+use Rattle.common.specs.Choice.{Unique}
+use Rattle.common.proofs.Choice.{only}
 use Rattle.device.specs.Parts.{unknownPart, unknownDevice, sizeOf, lengthOf, startOf, blockOf, codeOf}
 use Rattle.device.specs.declared.Part.{Part}
 use Rattle.device.specs.declared.Device.{Device}

@@ -3,7 +3,7 @@ use mathlib.Core.List.{List, [], _∷_}
 use Prim.Native.Nat.{ℕ, zero, suc, _+_, _-_, _≤_, _<_}
 use lib.ListN.{getD}
 use lib.Dec.{ltb}
-use Rattle.cells.specs.Choice.{if_then_else_}
+use Rattle.common.specs.Choice.{if_then_else_}
 
 -- the bytes of all blocks together
 abbrev pub bytesOfAll : List ℕ → ℕ

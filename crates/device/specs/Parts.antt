@@ -3,7 +3,7 @@ use mathlib.Core.Bool.{Bool, true, false, _||_}
 use mathlib.Core.List.{List, [], _∷_}
 use Prim.Native.Nat.{ℕ, _+_, _-_, _≤_, _<_}
 use lib.Dec.{eqb, ltb}
-use Rattle.cells.specs.Choice.{if_then_else_}
+use Rattle.common.specs.Choice.{if_then_else_}
 use Rattle.device.specs.Blocks.{bytesOfAll, lengthAt, offsetAt, holder}
 use Rattle.device.specs.declared.Part.{Part}
 use Rattle.device.specs.declared.Device.{Device}

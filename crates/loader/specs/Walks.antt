@@ -1,11 +1,11 @@
 -- Walks over what is wanted and what the block held: by the bytes left, at a place. Assumes nothing.
-use mathlib.Core.Bool.{Bool, true, false, not, _||_}
+use mathlib.Core.Bool.{Bool, false, not, _||_}
 use mathlib.Core.List.{List}
 use Prim.Native.Nat.{ℕ, zero, suc, _+_, _-_}
 use lib.ListN.{length, getD}
 use lib.Bits.{bitAnd}
 use lib.Dec.{eqb}
-use Rattle.cells.specs.Choice.{if_then_else_}
+use Rattle.common.specs.Choice.{if_then_else_}
 
 -- some bit is 1 in the wanted byte where the held byte has a 0
 abbrev pub mustRise : ℕ → ℕ → Bool

@@ -3,9 +3,9 @@ pub mod moves;
 pub mod stages;
 pub mod walk;
 
-use chip::Cycle;
-use chip::Pins;
 use device::Part;
+use model_types::Cycle;
+use model_types::Pins;
 
 // Which cycle is out. `Ended` holds the number of the end: 0 for well.
 pub enum Stage {

@@ -3,10 +3,10 @@ use crate::Loader;
 use crate::Stage;
 use crate::walk::diff_from;
 use crate::walk::rises_in;
-use chip::states::SR3;
-use chip::states::SR4;
-use chip::states::SR5;
-use chip::states::SR7;
+use model_types::states::SR3;
+use model_types::states::SR4;
+use model_types::states::SR5;
+use model_types::states::SR7;
 ghost use mathlib.Core.Path.{_≡_};
 ghost use Prim.Native.Nat.{_-_};
 ghost use Rattle.loader.specs.Moves.{movedTo, endedBy, isReady, sr3, sr4, sr5, bothErrors, eraseFault, programFault, onward, afterReads, afterRead, pollMore, erasePolled, past, programPolled, verifyMore, nextIn};
@@ -185,7 +185,7 @@ pub fn verify_more(l: Loader, b: u8, wanted: &[u8]) -> Loader
     ensures { λ r. ⌜ r ≡ verifyMore l b (now (wanted .entry)) ⌝ }
 {
     let end = last(wanted.len());
-    if b == cells::nth(wanted, l.place) {
+    if b == common::nth(wanted, l.place) {
         if l.place < end {
             return moved(l, Stage::Verifying, l.place + 1, 0);
         }

@@ -15,7 +15,7 @@ pub(crate) fn rises_in(wanted: &[u8], scratch: &[u8]) -> bool
 {
     let mut i = 0;
     while i < wanted.len() {
-        if must_rise(cells::nth(scratch, i), wanted[i]) {
+        if must_rise(common::nth(scratch, i), wanted[i]) {
             return true;
         }
         i += 1;
@@ -29,7 +29,7 @@ pub(crate) fn diff_from(from: usize, wanted: &[u8], scratch: &[u8]) -> usize
 {
     let mut i = from;
     while i < wanted.len() {
-        if cells::nth(scratch, i) != wanted[i] {
+        if common::nth(scratch, i) != wanted[i] {
             return i;
         }
         i += 1;

@@ -5,24 +5,24 @@ use mathlib.Core.List.{List}
 use mathlib.Core.Logic.{_↔_}
 use Prim.Native.Nat.{ℕ, _+_}
 use lib.ListN.{length}
-use Rattle.cells.specs.Lists.{Bytes}
-use Rattle.cells.specs.Numbers.{Foremost, NoRow}
+use Rattle.common.specs.Lists.{Bytes}
+use Rattle.common.specs.Numbers.{Foremost, NoRow}
 use Rattle.device.specs.declared.Device.{Device}
-use Rattle.chip.specs.declared.State.{State}
-use Rattle.chip.specs.declared.Cycle.{Cycle}
-use Rattle.chip.specs.declared.Kind.the-variants.{Read}
-use Rattle.chip.specs.declared.Effect.{Effect}
-use Rattle.chip.specs.declared.Effect.the-variants.{Nothing}
-use Rattle.chip.specs.Levels.{rpLow}
-use Rattle.chip.specs.States.{improper, freshState}
-use Rattle.settling.specs.Settling.{settleOf}
-use Rattle.bus.specs.Cycles.{tableOf, numberOf, judgeOf, decideOf}
-use Rattle.bus.proofs.Facts.{proper-parts, parts-proper}
+use Rattle.model_types.specs.declared.State.{State}
+use Rattle.model_types.specs.declared.Cycle.{Cycle}
+use Rattle.model_types.specs.declared.Kind.the-variants.{Read}
+use Rattle.model_types.specs.declared.Effect.{Effect}
+use Rattle.model_types.specs.declared.Effect.the-variants.{Nothing}
+use Rattle.model_types.specs.Levels.{rpLow}
+use Rattle.model_types.specs.States.{improper, freshState}
+use Rattle.model_operation.specs.Settling.{settleOf}
+use Rattle.model_rules.specs.Cycles.{tableOf, numberOf, judgeOf, decideOf}
+use Rattle.model_rules.proofs.Facts.{proper-parts, parts-proper}
 use Rattle.model.specs.declared.Seen.the-variants.{Byte, Refused}
 use Rattle.model.specs.Arrays.{Accepted, answerOf, arrayAfter}
 use Rattle.model.specs.Inner.{answerJudged, arrayJudged}
 use Rattle.model.specs.Begun.{operationOf, pendingOf, startsOf, begunBy, begunFrom}
-use Rattle.chip.specs.Phases.{isBusy, isAwaited}
+use Rattle.model_types.specs.Phases.{isBusy, isAwaited}
 use Rattle.model.proofs.Keeping as keeping
 use Rattle.model.proofs.Lives as lives
 use Rattle.model.proofs.Contents as contents

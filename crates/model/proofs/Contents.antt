@@ -6,18 +6,18 @@ use native.Mathlib.Omega.{arith}
 use lib.ListN.{length, getD, take, replicate, length-set, length-replicate}
 use lib.Seq.{length-take-le}
 use lib.Bits.{bitAnd, bitOr, and-le-l}
-use Rattle.chip.specs.Cells.{ones}
-use Rattle.cells.specs.Lists.{Bytes}
-use Rattle.cells.proofs.Bytes.{bytes-set, bytes-overlaid, bytes-replicate, bytes-take, overlaid-length}
+use Rattle.model_types.specs.Cells.{ones}
+use Rattle.common.specs.Lists.{Bytes}
+use Rattle.common.proofs.Bytes.{bytes-set, bytes-overlaid, bytes-replicate, bytes-take, overlaid-length}
 use Rattle.device.specs.declared.Part.{Part}
 use Rattle.device.specs.declared.Device.{Device}
 use Rattle.device.specs.Parts.{startOf, lengthOf}
 use Rattle.device.proofs.Claims.{blocks-end-inside}
-use Rattle.chip.specs.declared.Effect.{Effect}
-use Rattle.chip.specs.declared.Effect.the-variants.{Nothing, Program, Erase, CutProgram, CutErase}
-use Rattle.chip.specs.declared.State.{State}
-use Rattle.chip.specs.declared.Cycle.{Cycle}
-use Rattle.bus.specs.Cycles.{decideOf}
+use Rattle.model_types.specs.declared.Effect.{Effect}
+use Rattle.model_types.specs.declared.Effect.the-variants.{Nothing, Program, Erase, CutProgram, CutErase}
+use Rattle.model_types.specs.declared.State.{State}
+use Rattle.model_types.specs.declared.Cycle.{Cycle}
+use Rattle.model_rules.specs.Cycles.{decideOf}
 use Rattle.model.specs.Arrays.{erased, residual, arrayOf, arrayAfter}
 use Rattle.model.specs.Inner.{Within}
 use Rattle.model.proofs.Reach.{within}

@@ -6,28 +6,28 @@ use native.Mathlib.Omega.{arith}
 use lib.Bits.{bitAnd, bitOr}
 use lib.Dec.{eqb, ltb, leb}
 use borrow.Author.Tests.{ltb-false, eqb-false, ne-eqb, le-ltb}
-use Rattle.cells.proofs.Choice.{if-ind, and-right, or-left, or-right, or-both, unlike}
+use Rattle.common.proofs.Choice.{if-ind, and-right, or-left, or-right, or-both, unlike}
 use Rattle.device.specs.declared.Device.{Device}
 use Rattle.device.specs.Parts.{sizeOf, unknownDevice, unknownPart}
-use Rattle.chip.specs.declared.State.{State}
-use Rattle.chip.specs.declared.Cycle.{Cycle}
-use Rattle.chip.specs.declared.Settled.{Settled}
-use Rattle.chip.specs.declared.Decision.{Decision}
-use Rattle.chip.specs.declared.Action.{Action}
-use Rattle.chip.specs.declared.Kind.{Kind}
-use Rattle.chip.specs.declared.Kind.the-variants.{Read, Write, Idle}
-use Rattle.chip.specs.declared.Mode.{Mode}
-use Rattle.chip.specs.declared.Mode.the-variants.{Array, Status, Identifier}
-use Rattle.chip.specs.declared.Phase.{Phase}
-use Rattle.chip.specs.declared.Phase.the-variants.{Free, EraseAwaited, DataAwaited, Programming, Erasing, Suspended}
-use Rattle.chip.specs.Levels.{rpLow, vppLow, locked}
-use Rattle.chip.specs.States.{atRest, freshState}
-use Rattle.chip.specs.Inner.{badMode, badStatus, badLeft, badAddress, topBits}
-use Rattle.chip.specs.Phases.{isPending, isBusy}
-use Rattle.commands.specs.Commands.{firstWrite, afterErase, whileErasing, whileSuspended, commandOf, actionOf, performedOf, startedOf, unsupplied}
-use Rattle.settling.specs.Settling.{cutBits, cutBy, countedOff, settleOf}
-use Rattle.bus.specs.Cycles.{pastArray, decideOf, acceptOf, respondOf}
-use Rattle.bus.proofs.Facts.{Proper, Fine}
+use Rattle.model_types.specs.declared.State.{State}
+use Rattle.model_types.specs.declared.Cycle.{Cycle}
+use Rattle.model_types.specs.declared.Settled.{Settled}
+use Rattle.model_types.specs.declared.Decision.{Decision}
+use Rattle.model_types.specs.declared.Action.{Action}
+use Rattle.model_types.specs.declared.Kind.{Kind}
+use Rattle.model_types.specs.declared.Kind.the-variants.{Read, Write, Idle}
+use Rattle.model_types.specs.declared.Mode.{Mode}
+use Rattle.model_types.specs.declared.Mode.the-variants.{Array, Status, Identifier}
+use Rattle.model_types.specs.declared.Phase.{Phase}
+use Rattle.model_types.specs.declared.Phase.the-variants.{Free, EraseAwaited, DataAwaited, Programming, Erasing, Suspended}
+use Rattle.model_types.specs.Levels.{rpLow, vppLow, locked}
+use Rattle.model_types.specs.States.{atRest, freshState}
+use Rattle.model_types.specs.Inner.{badMode, badStatus, badLeft, badAddress, topBits}
+use Rattle.model_types.specs.Phases.{isPending, isBusy}
+use Rattle.model_commands.specs.Commands.{firstWrite, afterErase, whileErasing, whileSuspended, commandOf, actionOf, performedOf, startedOf, unsupplied}
+use Rattle.model_operation.specs.Settling.{cutBits, cutBy, countedOff, settleOf}
+use Rattle.model_rules.specs.Cycles.{pastArray, decideOf, acceptOf, respondOf}
+use Rattle.model_rules.proofs.Facts.{Proper, Fine}
 use Rattle.model.proofs.Outcome.{outcome, accept-ways}
 use Rattle.model.proofs.Status as sr
 use Rattle.model.proofs.Status.{fits, kept, status-fits, fits-status}

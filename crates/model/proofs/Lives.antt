@@ -5,34 +5,34 @@ use Prim.Native.Nat.{ℕ, _+_, _-_}
 use native.Mathlib.Omega.{arith}
 use lib.Dec.{eqb}
 use borrow.Author.Tests.{eqb-true, eqb-false, eq-eqb, ne-eqb}
-use Rattle.cells.specs.Choice.{if_then_else_}
-use Rattle.cells.proofs.Choice.{if-ind, if-same, if-true, if-false, unlike}
+use Rattle.common.specs.Choice.{if_then_else_}
+use Rattle.common.proofs.Choice.{if-ind, if-same, if-true, if-false, unlike}
 use Rattle.device.specs.declared.Part.{Part}
 use Rattle.device.specs.declared.Device.{Device}
 use Rattle.device.specs.Parts.{blockOf}
-use Rattle.chip.specs.declared.State.{State}
-use Rattle.chip.specs.declared.Cycle.{Cycle}
-use Rattle.chip.specs.declared.Settled.{Settled}
-use Rattle.chip.specs.declared.Decision.{Decision}
-use Rattle.chip.specs.declared.Action.{Action}
-use Rattle.chip.specs.declared.Action.the-variants.{Confirm, WrongSecond}
-use Rattle.chip.specs.declared.Kind.{Kind}
-use Rattle.chip.specs.declared.Kind.the-variants.{Read, Write, Idle}
-use Rattle.chip.specs.declared.Mode.{Mode}
-use Rattle.chip.specs.declared.Phase.{Phase}
-use Rattle.chip.specs.declared.Phase.the-variants.{Free, EraseAwaited, DataAwaited, Programming, Erasing, Suspended}
-use Rattle.chip.specs.declared.Effect.{Effect}
-use Rattle.chip.specs.declared.Effect.the-variants.{Nothing, Erase}
-use Rattle.chip.specs.Levels.{rpLow, vppLow, locked}
-use Rattle.chip.specs.States.{resetOf}
-use Rattle.commands.specs.Commands.{firstWrite, afterErase, whileErasing, whileSuspended, commandOf, actionOf, performedOf, startedOf, unsupplied}
-use Rattle.settling.specs.Settling.{settledAs, cutOf, finishOf, cutBy, countedOff, settleOf}
-use Rattle.bus.specs.Cycles.{numberOf, decideOf, acceptOf, respondOf}
-use Rattle.bus.proofs.Ways.{refused, accepted}
+use Rattle.model_types.specs.declared.State.{State}
+use Rattle.model_types.specs.declared.Cycle.{Cycle}
+use Rattle.model_types.specs.declared.Settled.{Settled}
+use Rattle.model_types.specs.declared.Decision.{Decision}
+use Rattle.model_types.specs.declared.Action.{Action}
+use Rattle.model_types.specs.declared.Action.the-variants.{Confirm, WrongSecond}
+use Rattle.model_types.specs.declared.Kind.{Kind}
+use Rattle.model_types.specs.declared.Kind.the-variants.{Read, Write, Idle}
+use Rattle.model_types.specs.declared.Mode.{Mode}
+use Rattle.model_types.specs.declared.Phase.{Phase}
+use Rattle.model_types.specs.declared.Phase.the-variants.{Free, EraseAwaited, DataAwaited, Programming, Erasing, Suspended}
+use Rattle.model_types.specs.declared.Effect.{Effect}
+use Rattle.model_types.specs.declared.Effect.the-variants.{Nothing, Erase}
+use Rattle.model_types.specs.Levels.{rpLow, vppLow, locked}
+use Rattle.model_types.specs.States.{resetOf}
+use Rattle.model_commands.specs.Commands.{firstWrite, afterErase, whileErasing, whileSuspended, commandOf, actionOf, performedOf, startedOf, unsupplied}
+use Rattle.model_operation.specs.Settling.{settledAs, cutOf, finishOf, cutBy, countedOff, settleOf}
+use Rattle.model_rules.specs.Cycles.{numberOf, decideOf, acceptOf, respondOf}
+use Rattle.model_rules.proofs.Ways.{refused, accepted}
 use Rattle.model.proofs.Outcome.{outcome, accept-ways, accept-effect}
 use Rattle.model.specs.Begun.{operationOf, pendingIn, pendingOf, askedBy, startsOf, begunBy, begunFrom}
-use Rattle.chip.specs.Kinds.{isWrite}
-use Rattle.chip.specs.Phases.{isPending, isBusy, isAwaited}
+use Rattle.model_types.specs.Kinds.{isWrite}
+use Rattle.model_types.specs.Phases.{isPending, isBusy, isAwaited}
 use Rattle.model.proofs.Keeping.{st}
 
 cut-same : (ph : Phase) (part : Part) (a : ℕ) → operationOf (cutOf ph part a) ≡ pendingIn ph part a

@@ -4,20 +4,20 @@ use mathlib.Core.Bool.{Bool, true, false}
 use Prim.Native.Nat.{ℕ}
 use lib.Dec.{eqb}
 use borrow.Author.Tests.{eqb-true, eqb-false}
-use Rattle.cells.specs.Choice.{if_then_else_}
+use Rattle.common.specs.Choice.{if_then_else_}
 use Rattle.device.specs.declared.Device.{Device}
-use Rattle.chip.specs.declared.State.{State}
-use Rattle.chip.specs.declared.Cycle.{Cycle}
-use Rattle.chip.specs.declared.Settled.{Settled}
-use Rattle.chip.specs.declared.Decision.{Decision}
-use Rattle.chip.specs.declared.Kind.{Kind}
-use Rattle.chip.specs.declared.Kind.the-variants.{Read, Write, Idle}
-use Rattle.chip.specs.declared.Reply.the-variants.{Quiet}
-use Rattle.chip.specs.Levels.{rpLow}
-use Rattle.settling.specs.Settling.{settleOf}
-use Rattle.bus.specs.Cycles.{numberOf, decideOf, acceptOf, respondOf, refusedBy, decidedAs}
-use Rattle.bus.proofs.Ways.{refused, accepted}
-use Rattle.bus.proofs.Facts.{Fine, fine}
+use Rattle.model_types.specs.declared.State.{State}
+use Rattle.model_types.specs.declared.Cycle.{Cycle}
+use Rattle.model_types.specs.declared.Settled.{Settled}
+use Rattle.model_types.specs.declared.Decision.{Decision}
+use Rattle.model_types.specs.declared.Kind.{Kind}
+use Rattle.model_types.specs.declared.Kind.the-variants.{Read, Write, Idle}
+use Rattle.model_types.specs.declared.Reply.the-variants.{Quiet}
+use Rattle.model_types.specs.Levels.{rpLow}
+use Rattle.model_operation.specs.Settling.{settleOf}
+use Rattle.model_rules.specs.Cycles.{numberOf, decideOf, acceptOf, respondOf, refusedBy, decidedAs}
+use Rattle.model_rules.proofs.Ways.{refused, accepted}
+use Rattle.model_rules.proofs.Facts.{Fine, fine}
 
 -- whatever holds of a refusal and of an accepted cycle holds of the cycle
 pub outcome : (d : Device) (s : State) (c : Cycle) (n r : ℕ) (P : Decision → Type 0)

@@ -6,9 +6,9 @@ use native.Mathlib.Omega.{arith}
 use lib.ListN.{length, take, drop, replicate, length-replicate}
 use lib.Seq.{length-take-le}
 use borrow.Rule.Slice.PartMut.{putMid, midOf, mid-len}
-use Rattle.chip.specs.Cells.{ones}
-use Rattle.cells.specs.Lists.{overlaid, copied}
-use Rattle.cells.proofs.Lists.{copied-whole}
+use Rattle.model_types.specs.Cells.{ones}
+use Rattle.common.specs.Lists.{overlaid, copied}
+use Rattle.common.proofs.Lists.{copied-whole}
 use Rattle.device.specs.declared.Part.{Part}
 use Rattle.device.specs.Parts.{sizeOf, startOf, lengthOf}
 use Rattle.device.proofs.Claims.{blocks-end-inside}

@@ -6,18 +6,18 @@ use Prim.Native.Nat.{ℕ}
 use lib.ListN.{length}
 use lib.Dec.{eqb, ltb, leb}
 use borrow.Author.Tests.{lt-ltb, ltb-true, le-leb, leb-true, eq-eqb, eqb-true}
-use Rattle.cells.proofs.Choice.{if-true, and-left, and-right}
+use Rattle.common.proofs.Choice.{if-true, and-left, and-right}
 use Rattle.device.specs.declared.Part.{Part}
 use Rattle.device.specs.declared.Device.{Device}
 use Rattle.device.specs.Parts.{sizeOf, lengthOf}
-use Rattle.chip.specs.declared.Effect.{Effect}
-use Rattle.chip.specs.declared.Effect.the-variants.{Nothing, Program, Erase, CutProgram, CutErase}
-use Rattle.chip.specs.declared.State.{State}
-use Rattle.chip.specs.declared.Cycle.{Cycle}
-use Rattle.chip.specs.declared.Decision.{Decision}
-use Rattle.bus.specs.Cycles.{judgeOf, decideOf}
-use Rattle.bus.specs.Inner.{decideJudged}
-use Rattle.bus.proofs.Passing.{passes}
+use Rattle.model_types.specs.declared.Effect.{Effect}
+use Rattle.model_types.specs.declared.Effect.the-variants.{Nothing, Program, Erase, CutProgram, CutErase}
+use Rattle.model_types.specs.declared.State.{State}
+use Rattle.model_types.specs.declared.Cycle.{Cycle}
+use Rattle.model_types.specs.declared.Decision.{Decision}
+use Rattle.model_rules.specs.Cycles.{judgeOf, decideOf}
+use Rattle.model_rules.specs.Inner.{decideJudged}
+use Rattle.model_rules.proofs.Passing.{passes}
 use Rattle.model.specs.Arrays.{seenOf, answerOf, arrayAfter}
 use Rattle.model.specs.Inner.{findsIn, doneOf, answerJudged, arrayJudged, Within}
 use Rattle.model.proofs.Reach.{within}

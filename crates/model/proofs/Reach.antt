@@ -5,23 +5,23 @@ use Prim.Native.Nat.{ℕ, _-_, _≤_}
 use native.Mathlib.Omega.{arith}
 use lib.Dec.{eqb, ltb, leb}
 use borrow.Author.Tests.{leb-false, ltb-false}
-use Rattle.cells.specs.Choice.{if_then_else_}
-use Rattle.cells.proofs.Choice.{if-ind, and-rest, and-left}
+use Rattle.common.specs.Choice.{if_then_else_}
+use Rattle.common.proofs.Choice.{if-ind, and-rest, and-left}
 use Rattle.device.specs.declared.Part.{Part}
 use Rattle.device.specs.declared.Device.{Device}
 use Rattle.device.specs.Parts.{sizeOf}
-use Rattle.chip.specs.declared.State.{State}
-use Rattle.chip.specs.declared.Cycle.{Cycle}
-use Rattle.chip.specs.declared.Settled.{Settled}
-use Rattle.chip.specs.declared.Decision.{Decision}
-use Rattle.chip.specs.declared.Phase.{Phase}
-use Rattle.chip.specs.declared.Phase.the-variants.{Free, EraseAwaited, DataAwaited, Programming, Erasing, Suspended}
-use Rattle.chip.specs.Levels.{rpLow, vppLow}
-use Rattle.chip.specs.Inner.{badAddress}
-use Rattle.chip.specs.Phases.{isPending, isBusy}
-use Rattle.settling.specs.Settling.{cutOf, finishOf, residueFor, cutBy, countedOff, settleOf}
-use Rattle.bus.specs.Cycles.{shortResidue, decideOf}
-use Rattle.bus.proofs.Facts.{Fine}
+use Rattle.model_types.specs.declared.State.{State}
+use Rattle.model_types.specs.declared.Cycle.{Cycle}
+use Rattle.model_types.specs.declared.Settled.{Settled}
+use Rattle.model_types.specs.declared.Decision.{Decision}
+use Rattle.model_types.specs.declared.Phase.{Phase}
+use Rattle.model_types.specs.declared.Phase.the-variants.{Free, EraseAwaited, DataAwaited, Programming, Erasing, Suspended}
+use Rattle.model_types.specs.Levels.{rpLow, vppLow}
+use Rattle.model_types.specs.Inner.{badAddress}
+use Rattle.model_types.specs.Phases.{isPending, isBusy}
+use Rattle.model_operation.specs.Settling.{cutOf, finishOf, residueFor, cutBy, countedOff, settleOf}
+use Rattle.model_rules.specs.Cycles.{shortResidue, decideOf}
+use Rattle.model_rules.proofs.Facts.{Fine}
 use Rattle.model.proofs.Outcome.{outcome, accept-effect}
 use Rattle.model.specs.Inner.{Within}
 

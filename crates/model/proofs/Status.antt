@@ -7,10 +7,10 @@ use native.Mathlib.Omega.{arith}
 use lib.Bits.{bitAnd, bitOr}
 use lib.Dec.{eqb}
 use borrow.Author.Tests.{eqb-true, eqb-false, not-false}
-use Rattle.cells.proofs.Choice.{and-left, and-right, or-left, or-right, unlike}
-use Rattle.chip.specs.declared.Phase.{Phase}
-use Rattle.chip.specs.declared.Phase.the-variants.{Free, EraseAwaited, DataAwaited, Programming, Erasing, Suspended}
-use Rattle.chip.specs.Inner.{badStatus, topBits}
+use Rattle.common.proofs.Choice.{and-left, and-right, or-left, or-right, unlike}
+use Rattle.model_types.specs.declared.Phase.{Phase}
+use Rattle.model_types.specs.declared.Phase.the-variants.{Free, EraseAwaited, DataAwaited, Programming, Erasing, Suspended}
+use Rattle.model_types.specs.Inner.{badStatus, topBits}
 
 -- the test holds of every number below n
 abbrev pub allBelow : (ℕ → Bool) → ℕ → Bool

@@ -7,30 +7,30 @@ use native.Mathlib.Omega.{arith}
 use lib.ListN.{length}
 use lib.Dec.{eqb}
 use borrow.Author.Tests.{eqb-true, eqb-false}
-use Rattle.cells.specs.Numbers.{Foremost, NoRow}
-use Rattle.cells.proofs.Numbers.{given-foremost, foremost-given, given-no-row, no-row-given}
+use Rattle.common.specs.Numbers.{Foremost, NoRow}
+use Rattle.common.proofs.Numbers.{given-foremost, foremost-given, given-no-row, no-row-given}
 use Rattle.device.specs.declared.Device.{Device}
-use Rattle.chip.specs.declared.State.{State}
-use Rattle.chip.specs.declared.Cycle.{Cycle}
-use Rattle.chip.specs.declared.Settled.{Settled}
-use Rattle.chip.specs.declared.Decision.{Decision}
-use Rattle.chip.specs.declared.Kind.{Kind}
-use Rattle.chip.specs.declared.Kind.the-variants.{Read, Write, Idle}
-use Rattle.chip.specs.declared.Mode.{Mode}
-use Rattle.chip.specs.declared.Mode.the-variants.{Array, Status, Identifier}
-use Rattle.chip.specs.declared.Reply.{Reply}
-use Rattle.chip.specs.declared.Reply.the-variants.{Quiet, Gives, GivesArray, Refuses}
-use Rattle.chip.specs.declared.Effect.the-variants.{Nothing}
-use Rattle.chip.specs.Levels.{rpLow}
-use Rattle.chip.specs.Phases.{isBusy}
-use Rattle.settling.specs.Settling.{settleOf}
-use Rattle.bus.specs.Cycles.{tableOf, numberOf, decideOf, acceptOf, respondOf, replyTo, decidedAs}
+use Rattle.model_types.specs.declared.State.{State}
+use Rattle.model_types.specs.declared.Cycle.{Cycle}
+use Rattle.model_types.specs.declared.Settled.{Settled}
+use Rattle.model_types.specs.declared.Decision.{Decision}
+use Rattle.model_types.specs.declared.Kind.{Kind}
+use Rattle.model_types.specs.declared.Kind.the-variants.{Read, Write, Idle}
+use Rattle.model_types.specs.declared.Mode.{Mode}
+use Rattle.model_types.specs.declared.Mode.the-variants.{Array, Status, Identifier}
+use Rattle.model_types.specs.declared.Reply.{Reply}
+use Rattle.model_types.specs.declared.Reply.the-variants.{Quiet, Gives, GivesArray, Refuses}
+use Rattle.model_types.specs.declared.Effect.the-variants.{Nothing}
+use Rattle.model_types.specs.Levels.{rpLow}
+use Rattle.model_types.specs.Phases.{isBusy}
+use Rattle.model_operation.specs.Settling.{settleOf}
+use Rattle.model_rules.specs.Cycles.{tableOf, numberOf, decideOf, acceptOf, respondOf, replyTo, decidedAs}
 use mathlib.Core.Bool.{true, false, Bool}
-use Rattle.cells.proofs.Choice.{unlike}
-use Rattle.bus.proofs.Ways.{refused, accepted}
+use Rattle.common.proofs.Choice.{unlike}
+use Rattle.model_rules.proofs.Ways.{refused, accepted}
 use Rattle.model.specs.declared.Seen.the-variants.{Refused, Byte}
 use Rattle.model.specs.Arrays.{isRefusal, arrayAfter, answerOf, seenOf, Accepted}
-use Rattle.bus.proofs.Facts.{fine}
+use Rattle.model_rules.proofs.Facts.{fine}
 use Rattle.model.proofs.Outcome.{outcome, accept-ways}
 use Rattle.model.proofs.Keeping.{settled-busy, settled-mode}
 use Rattle.model.proofs.Lives.{accept-up}

@@ -2,12 +2,12 @@
 use mathlib.Core.Path.{_≡_}
 use mathlib.Core.List.{List}
 use Prim.Native.Nat.{ℕ}
-use Rattle.cells.specs.Choice.{Unique}
-use Rattle.cells.proofs.Choice.{only}
+use Rattle.common.specs.Choice.{Unique}
+use Rattle.common.proofs.Choice.{only}
 use Rattle.device.specs.declared.Device.{Device}
-use Rattle.chip.specs.declared.State.{State}
-use Rattle.chip.specs.declared.Cycle.{Cycle}
-use Rattle.chip.specs.States.{freshState, resetOf}
+use Rattle.model_types.specs.declared.State.{State}
+use Rattle.model_types.specs.declared.Cycle.{Cycle}
+use Rattle.model_types.specs.States.{freshState, resetOf}
 use Rattle.model.specs.declared.Answer.{Answer}
 use Rattle.model.specs.Arrays.{answerOf, arrayAfter}
 use Rattle.model.specs.Inner.{answerJudged, arrayJudged}

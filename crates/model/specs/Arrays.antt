@@ -5,18 +5,18 @@ use mathlib.Core.List.{List}
 use Prim.Native.Nat.{ℕ}
 use lib.ListN.{length, getD, set, take, replicate}
 use lib.Bits.{bitAnd, bitOr}
-use Rattle.chip.specs.Cells.{ones}
-use Rattle.cells.specs.Lists.{overlaid}
+use Rattle.model_types.specs.Cells.{ones}
+use Rattle.common.specs.Lists.{overlaid}
 use Rattle.device.specs.Parts.{startOf, lengthOf}
 use Rattle.device.specs.declared.Part.{Part}
 use Rattle.device.specs.declared.Device.{Device}
-use Rattle.chip.specs.declared.Effect.{Effect}
-use Rattle.chip.specs.declared.Effect.the-variants.{Nothing, Program, Erase, CutProgram, CutErase}
-use Rattle.chip.specs.declared.Reply.{Reply}
-use Rattle.chip.specs.declared.Reply.the-variants.{Quiet, Gives, GivesArray, Refuses}
-use Rattle.chip.specs.declared.State.{State}
-use Rattle.chip.specs.declared.Cycle.{Cycle}
-use Rattle.bus.specs.Cycles.{decideOf}
+use Rattle.model_types.specs.declared.Effect.{Effect}
+use Rattle.model_types.specs.declared.Effect.the-variants.{Nothing, Program, Erase, CutProgram, CutErase}
+use Rattle.model_types.specs.declared.Reply.{Reply}
+use Rattle.model_types.specs.declared.Reply.the-variants.{Quiet, Gives, GivesArray, Refuses}
+use Rattle.model_types.specs.declared.State.{State}
+use Rattle.model_types.specs.declared.Cycle.{Cycle}
+use Rattle.model_rules.specs.Cycles.{decideOf}
 use Rattle.model.specs.declared.Seen.{Seen}
 use Rattle.model.specs.declared.Seen.the-variants.{NoData, Byte, Refused}
 use Rattle.model.specs.declared.Answer.{Answer}

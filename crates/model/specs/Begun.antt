@@ -2,21 +2,21 @@
 use mathlib.Core.Bool.{not, _&&_}
 use Prim.Native.Nat.{ℕ}
 use lib.Dec.{eqb}
-use Rattle.cells.specs.Choice.{if_then_else_}
+use Rattle.common.specs.Choice.{if_then_else_}
 use Rattle.device.specs.declared.Part.{Part}
 use Rattle.device.specs.declared.Device.{Device}
 use Rattle.device.specs.Parts.{blockOf}
-use Rattle.chip.specs.declared.Phase.{Phase}
-use Rattle.chip.specs.declared.Phase.the-variants.{Free, EraseAwaited, DataAwaited, Programming, Erasing, Suspended}
-use Rattle.chip.specs.declared.Effect.{Effect}
-use Rattle.chip.specs.declared.Effect.the-variants.{Nothing, Program, Erase, CutProgram, CutErase}
-use Rattle.chip.specs.declared.State.{State}
-use Rattle.chip.specs.declared.Cycle.{Cycle}
-use Rattle.chip.specs.Kinds.{isWrite}
-use Rattle.chip.specs.Levels.{rpLow, locked}
-use Rattle.chip.specs.Phases.{isAwaited}
-use Rattle.commands.specs.Commands.{unsupplied, commandOf}
-use Rattle.bus.specs.Cycles.{numberOf}
+use Rattle.model_types.specs.declared.Phase.{Phase}
+use Rattle.model_types.specs.declared.Phase.the-variants.{Free, EraseAwaited, DataAwaited, Programming, Erasing, Suspended}
+use Rattle.model_types.specs.declared.Effect.{Effect}
+use Rattle.model_types.specs.declared.Effect.the-variants.{Nothing, Program, Erase, CutProgram, CutErase}
+use Rattle.model_types.specs.declared.State.{State}
+use Rattle.model_types.specs.declared.Cycle.{Cycle}
+use Rattle.model_types.specs.Kinds.{isWrite}
+use Rattle.model_types.specs.Levels.{rpLow, locked}
+use Rattle.model_types.specs.Phases.{isAwaited}
+use Rattle.model_commands.specs.Commands.{unsupplied, commandOf}
+use Rattle.model_rules.specs.Cycles.{numberOf}
 
 -- the operation that an effect ends or cuts; an uncut effect is its own operation
 abbrev pub operationOf : Effect → Effect

@@ -5,20 +5,19 @@ use mathlib.Core.Path.{_≡_}
 use mathlib.Core.Bool.{Bool, true, _&&_}
 use mathlib.Core.List.{List}
 use Prim.Native.Nat.{ℕ, _≤_, _<_}
-use lib.ListN.{length, getD, set}
+use lib.ListN.{length}
 use lib.Dec.{eqb, ltb, leb}
-use lib.Bits.{bitAnd}
-use Rattle.cells.specs.Choice.{if_then_else_}
-use Rattle.device.specs.Parts.{sizeOf, lengthOf, blockOf}
+use Rattle.common.specs.Choice.{if_then_else_}
+use Rattle.device.specs.Parts.{sizeOf, lengthOf}
 use Rattle.device.specs.declared.Part.{Part}
 use Rattle.device.specs.declared.Device.{Device}
-use Rattle.chip.specs.declared.Effect.{Effect}
-use Rattle.chip.specs.declared.Effect.the-variants.{Nothing, Program, Erase, CutProgram, CutErase}
-use Rattle.chip.specs.declared.State.{State}
-use Rattle.chip.specs.declared.Cycle.{Cycle}
-use Rattle.bus.specs.Inner.{decideJudged}
+use Rattle.model_types.specs.declared.Effect.{Effect}
+use Rattle.model_types.specs.declared.Effect.the-variants.{Nothing, Program, Erase, CutProgram, CutErase}
+use Rattle.model_types.specs.declared.State.{State}
+use Rattle.model_types.specs.declared.Cycle.{Cycle}
+use Rattle.model_rules.specs.Inner.{decideJudged}
 use Rattle.model.specs.declared.Answer.{Answer}
-use Rattle.model.specs.Arrays.{erased, arrayOf, seenOf}
+use Rattle.model.specs.Arrays.{arrayOf, seenOf}
 
 -- an effect finds its bytes in an array and a residue of these lengths
 abbrev pub Within : Effect → Part → ℕ → ℕ → Type 0

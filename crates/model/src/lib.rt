@@ -1,16 +1,16 @@
 // The bench model: one bus cycle at a time on a lent array. The rules are in `bus`; here they are applied to the bytes.
-use chip::Cycle;
-use chip::Effect;
-use chip::Reply;
-use chip::State;
-use chip::blank::ones;
 use device::Device;
 use device::Part;
+use model_types::Cycle;
+use model_types::Effect;
+use model_types::Reply;
+use model_types::State;
+use model_types::blank::ones;
 ghost use mathlib.Core.Path.{_≡_};
 ghost use Prim.Native.Nat.{_<_, _≤_};
 ghost use lib.ListN.{length, getD, set};
 ghost use lib.Bits.{bitAnd, bitOr};
-ghost use Rattle.chip.specs.States.{freshState, resetOf};
+ghost use Rattle.model_types.specs.States.{freshState, resetOf};
 ghost use Rattle.device.specs.Parts.{sizeOf, lengthOf};
 ghost use Rattle.model.specs.declared.Seen.the-variants.{Byte, Refused};
 ghost use Rattle.model.specs.Arrays.{erased, residual, arrayOf, seenOf, answerOf, arrayAfter};
@@ -63,7 +63,7 @@ fn erase(part: Part, k: u8, array: &mut [u8])
     let a = device::start(part, k);
     let e = a + device::length(part, k);
     let blank = ones(part);
-    cells::fill(&mut array[a..e], blank)
+    common::fill(&mut array[a..e], blank)
 }
 
 // A cut erase: the block is the residue's first bytes.
@@ -74,7 +74,7 @@ fn cut_erase(part: Part, k: u8, array: &mut [u8], residue: &[u8])
     let a = device::start(part, k);
     let n = device::length(part, k);
     let e = a + n;
-    cells::copy(&mut array[a..e], &residue[0..n])
+    common::copy(&mut array[a..e], &residue[0..n])
 }
 
 // The one place where the array is written.
@@ -120,7 +120,7 @@ fn see(reply: Reply, array: &[u8]) -> Seen
     match reply {
         Reply::Quiet => Seen::NoData,
         Reply::Gives(b) => Seen::Byte(b),
-        Reply::GivesArray(a) => Seen::Byte(cells::nth(array, index(a))),
+        Reply::GivesArray(a) => Seen::Byte(common::nth(array, index(a))),
         Reply::Refuses(n) => Seen::Refused(n),
     }
 }
@@ -129,21 +129,21 @@ fn see(reply: Reply, array: &[u8]) -> Seen
 pub fn fresh() -> State
     ensures { λ r. ⌜ r ≡ freshState ⌝ }
 {
-    chip::states::fresh()
+    model_types::states::fresh()
 }
 
 // What RP# low makes of a state.
 pub fn reset(s: State) -> State
     ensures { λ r. ⌜ r ≡ resetOf s ⌝ }
 {
-    chip::states::reset(s)
+    model_types::states::reset(s)
 }
 
 // A byte of the array, and the state as it was.
 fn show(s: State, address: u32, array: &[u8]) -> Answer
     ensures { λ r. ⌜ r ≡ record { seen = Byte (getD (now (array .entry)) address 0); state = s } ⌝ }
 {
-    let b = cells::nth(array, index(address));
+    let b = common::nth(array, index(address));
     Answer {
         seen: Seen::Byte(b),
         state: s,
@@ -156,11 +156,11 @@ pub fn after_judging(d: Device, s: State, c: Cycle, array: &mut [u8], residue: &
     ensures { λ r. ⌜ r ≡ answerJudged d s c (now (array .entry)) (now (residue .entry)) ⌝ }
     ensures { λ _. ⌜ now (array .exit) ≡ arrayJudged d s c (now (array .entry)) (now (residue .entry)) ⌝ }
 {
-    if bus::asks_array(s, c) {
+    if model_rules::asks_array(s, c) {
         return show(s, c.address, array);
     }
     let part = d.part;
-    let x = bus::decide_judged(d, s, c);
+    let x = model_rules::decide_judged(d, s, c);
     let effect = x.effect;
     let reply = x.reply;
     let state = x.state;
@@ -186,7 +186,7 @@ pub fn cycle(d: Device, s: State, c: Cycle, array: &mut [u8], residue: &[u8]) ->
     ensures { λ r. ⌜ r ≡ answerOf d s c (now (array .entry)) (now (residue .entry)) ⌝ }
     ensures { λ _. ⌜ now (array .exit) ≡ arrayAfter d s c (now (array .entry)) (now (residue .entry)) ⌝ }
 {
-    let n = bus::judge(d, s, c, array.len(), residue.len());
+    let n = model_rules::judge(d, s, c, array.len(), residue.len());
     if n != 0 {
         return refused(n, s);
     }

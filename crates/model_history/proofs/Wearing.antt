@@ -12,17 +12,17 @@ use lib.Seq.{getD-set-same, getD-set-other}
 use lib.Bits.{bitAnd, and-self, and-step, and-shr}
 use lib.Dec.{eqb, ltb}
 use borrow.Author.Tests.{eqb-true, eqb-false, ne-eqb, ltb-true, ltb-false, lt-ltb, le-ltb, not-true}
-use Rattle.chip.specs.Cells.{ones}
-use Rattle.cells.specs.Choice.{if_then_else_}
-use Rattle.cells.proofs.Choice.{if-true, if-false, if-same, and-left, and-right, unlike}
-use Rattle.cells.specs.Lists.{overlaid}
-use Rattle.cells.proofs.Bytes.{overlaid-in, overlaid-before, overlaid-after}
+use Rattle.model_types.specs.Cells.{ones}
+use Rattle.common.specs.Choice.{if_then_else_}
+use Rattle.common.proofs.Choice.{if-true, if-false, if-same, and-left, and-right, unlike}
+use Rattle.common.specs.Lists.{overlaid}
+use Rattle.common.proofs.Bytes.{overlaid-in, overlaid-before, overlaid-after}
 use Rattle.device.specs.declared.Part.{Part}
 use Rattle.device.specs.declared.Device.{Device}
 use Rattle.device.specs.Parts.{sizeOf, startOf, lengthOf, blockOf, shapeOf, Holds}
 use Rattle.device.proofs.Claims.{blocks-end-inside, blocks-apart, blocks-cover}
-use Rattle.chip.specs.declared.Effect.{Effect}
-use Rattle.chip.specs.declared.Effect.the-variants.{Nothing, Program, Erase, CutProgram, CutErase}
+use Rattle.model_types.specs.declared.Effect.{Effect}
+use Rattle.model_types.specs.declared.Effect.the-variants.{Nothing, Program, Erase, CutProgram, CutErase}
 use Rattle.model.specs.Arrays.{erased, arrayOf, arrayAfter, answerOf}
 use Rattle.model.specs.Inner.{Within}
 use Rattle.model.specs.Begun.{operationOf, pendingOf, begunBy}

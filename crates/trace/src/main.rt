@@ -5,7 +5,7 @@ fn main() {
     let residue = [255u8; 16384];
     let mut out = [0u8; 79991];
     let n = io::read_full(0, &mut text);
-    let r = replay::replay(&text[..n], &mut array, &residue, &mut out);
+    let r = trace_replay::replay(&text[..n], &mut array, &residue, &mut out);
     let m = r.used;
     io::write_all(1, &out[..m]);
 }

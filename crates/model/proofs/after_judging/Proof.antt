@@ -2,12 +2,12 @@ use borrow.Author.Needs.{needs}
 use mathlib.Core.Path.{_≡_, sym, ap, _∙_}
 use mathlib.Core.List.{List}
 use Prim.Native.Nat.{ℕ}
-use Rattle.chip.specs.declared.Decision.{Decision}
-use Rattle.chip.specs.declared.Effect.the-variants.{Nothing}
-use Rattle.chip.specs.declared.Reply.the-variants.{GivesArray}
-use Rattle.bus.specs.Cycles.{decidedAs}
-use Rattle.bus.specs.Inner.{decideJudged}
-use Rattle.bus.proofs.Passing.{shows}
+use Rattle.model_types.specs.declared.Decision.{Decision}
+use Rattle.model_types.specs.declared.Effect.the-variants.{Nothing}
+use Rattle.model_types.specs.declared.Reply.the-variants.{GivesArray}
+use Rattle.model_rules.specs.Cycles.{decidedAs}
+use Rattle.model_rules.specs.Inner.{decideJudged}
+use Rattle.model_rules.proofs.Passing.{shows}
 use Rattle.model.specs.Arrays.{seenOf}
 use Rattle.model.specs.Inner.{doneOf, answerJudged, arrayJudged}
 use Rattle.model.proofs.after_judging.Statement.{statement}

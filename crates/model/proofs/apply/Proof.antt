@@ -1,6 +1,6 @@
 use mathlib.Core.Path.{subst}
 use lib.ListN.{length}
-use Rattle.chip.specs.declared.Effect.{Effect}
+use Rattle.model_types.specs.declared.Effect.{Effect}
 use Rattle.model.specs.Inner.{Within}
 use borrow.Author.Needs.{needs}
 use Rattle.model.proofs.apply.Statement.{statement}

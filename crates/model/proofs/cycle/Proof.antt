@@ -1,9 +1,9 @@
 use borrow.Author.Needs.{needs}
 use mathlib.Core.Path.{_≡_, sym, ap, _∙_}
 use lib.ListN.{length}
-use Rattle.chip.specs.declared.Decision.{Decision}
-use Rattle.bus.specs.Cycles.{judgeOf, refusedBy, decideOf}
-use Rattle.bus.proofs.Passing.{stops}
+use Rattle.model_types.specs.declared.Decision.{Decision}
+use Rattle.model_rules.specs.Cycles.{judgeOf, refusedBy, decideOf}
+use Rattle.model_rules.proofs.Passing.{stops}
 use Rattle.model.specs.declared.Seen.the-variants.{Refused}
 use Rattle.model.specs.Arrays.{arrayOf, seenOf, answerOf, arrayAfter}
 use Rattle.model.proofs.Passing.{judged-answer, judged-array}

@@ -7,7 +7,7 @@ use borrow.Author.Needs.{needs}
 use borrow.Author.Tests.{eq-eqb, ne-eqb}
 use lib.ListN.{length, getD}
 use lib.Dec.{eqb}
-use Rattle.cells.proofs.Choice.{if-true, if-false}
+use Rattle.common.proofs.Choice.{if-true, if-false}
 use Rattle.loader.specs.Walks.{nextDiff, diffFrom}
 use Rattle.loader.proofs.Walking.{diff-turn, diff-over}
 use Rattle.loader.proofs.walk.diff_from.Statement.{statement}

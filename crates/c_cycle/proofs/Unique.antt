@@ -1,0 +1,44 @@
+-- Two results that a promise of this crate allows are equal, and so is what it leaves in each thing lent. Assumes nothing.
+use mathlib.Core.Path.{_≡_}
+use Prim.Native.Nat.{ℕ}
+use Rattle.common.specs.Choice.{Unique}
+use Rattle.common.proofs.Choice.{only}
+use Rattle.device.specs.declared.Device.{Device}
+use Rattle.model_types.specs.declared.Pins.{Pins}
+use Rattle.model_types.specs.declared.Cycle.{Cycle}
+use Rattle.model_types.specs.declared.Phase.{Phase}
+use Rattle.model_types.specs.declared.State.{State}
+use Rattle.model.specs.declared.Answer.{Answer}
+use Rattle.c_cycle.specs.Twins.{deviceIn, pinsIn, phaseIn, stateIn, stateOut, cycleIn, cycleOut}
+use Rattle.c_cycle.specs.Answers.{stateBack, answerOut}
+use Rattle.c_cycle.specs.declared.DeviceNumbers.{DeviceNumbers}
+use Rattle.c_cycle.specs.declared.StateNumbers.{StateNumbers}
+use Rattle.c_cycle.specs.declared.BusNumbers.{BusNumbers}
+use Rattle.c_cycle.specs.declared.AnswerNumbers.{AnswerNumbers}
+
+pub device-in-unique : (n : DeviceNumbers) → Unique (λ (r : Device). r ≡ deviceIn n)
+device-in-unique n = only (deviceIn n)
+
+pub pins-in-unique : (rp : ℕ) (vpp : ℕ) → Unique (λ (r : Pins). r ≡ pinsIn rp vpp)
+pins-in-unique rp vpp = only (pinsIn rp vpp)
+
+pub phase-in-unique : (n byte : ℕ) → Unique (λ (r : Phase). r ≡ phaseIn n byte)
+phase-in-unique n byte = only (phaseIn n byte)
+
+pub state-in-unique : (n : StateNumbers) → Unique (λ (r : State). r ≡ stateIn n)
+state-in-unique n = only (stateIn n)
+
+pub state-out-unique : (s : State) → Unique (λ (r : StateNumbers). r ≡ stateOut s)
+state-out-unique s = only (stateOut s)
+
+pub cycle-in-unique : (n : BusNumbers) → Unique (λ (r : Cycle). r ≡ cycleIn n)
+cycle-in-unique n = only (cycleIn n)
+
+pub answer-out-unique : (n : StateNumbers) (a : Answer) → Unique (λ (r : AnswerNumbers). r ≡ answerOut n a)
+answer-out-unique n a = only (answerOut n a)
+
+pub state-back-unique : (n : StateNumbers) (s : State) → Unique (λ (r : StateNumbers). r ≡ stateBack n s)
+state-back-unique n s = only (stateBack n s)
+
+pub cycle-out-unique : (c : Cycle) → Unique (λ (r : BusNumbers). r ≡ cycleOut c)
+cycle-out-unique c = only (cycleOut c)

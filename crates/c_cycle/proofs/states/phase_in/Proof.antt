@@ -1,0 +1,31 @@
+use borrow.Author.Tests.{eq-eqb, ne-eqb}
+use Rattle.c_cycle.specs.Twins.{phaseIn}
+use Rattle.c_cycle.proofs.states.phase_in.Statement.{statement}
+use Rattle.c_cycle.proofs.states.phase_in.Tie as tie
+
+returns : tie.Need-returns
+unfolding phaseIn
+returns c = simp (eq-eqb _ _ (c .if1 .taken))
+
+returns-2 : tie.Need-returns-2
+unfolding phaseIn
+returns-2 c = simp (eq-eqb _ _ (c .if2 .taken), ne-eqb _ _ (c .before .if1 .left))
+
+returns-3 : tie.Need-returns-3
+unfolding phaseIn
+returns-3 c = simp (eq-eqb _ _ (c .if3 .taken), ne-eqb _ _ (c .before .if2 .left), ne-eqb _ _ (c .before .before .if1 .left))
+
+returns-4 : tie.Need-returns-4
+unfolding phaseIn
+returns-4 c = simp (eq-eqb _ _ (c .if4 .taken), ne-eqb _ _ (c .before .if3 .left), ne-eqb _ _ (c .before .before .if2 .left), ne-eqb _ _ (c .before .before .before .if1 .left))
+
+returns-5 : tie.Need-returns-5
+unfolding phaseIn
+returns-5 c = simp (eq-eqb _ _ (c .if5 .taken), ne-eqb _ _ (c .before .if4 .left), ne-eqb _ _ (c .before .before .if3 .left), ne-eqb _ _ (c .before .before .before .if2 .left), ne-eqb _ _ (c .before .before .before .before .if1 .left))
+
+returns-6 : tie.Need-returns-6
+unfolding phaseIn
+returns-6 c = simp (ne-eqb _ _ (c .if5 .left), ne-eqb _ _ (c .before .if4 .left), ne-eqb _ _ (c .before .before .if3 .left), ne-eqb _ _ (c .before .before .before .if2 .left), ne-eqb _ _ (c .before .before .before .before .if1 .left))
+
+pub phase-in-spec : {M : Type 1} → statement M
+phase-in-spec = tie.close (tie.spec returns returns-2 returns-3 returns-4 returns-5 returns-6)

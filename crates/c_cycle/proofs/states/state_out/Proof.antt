@@ -1,0 +1,19 @@
+use borrow.Author.Needs.{needs}
+use Rattle.c_cycle.proofs.states.state_out.Statement.{statement}
+use Rattle.c_cycle.proofs.states.state_out.Tie as tie
+
+mode-out-requires : tie.Need-mode-out-requires
+mode-out-requires c κs = search needs
+
+phase-out-requires : tie.Need-phase-out-requires
+phase-out-requires c κs = search needs
+
+byte-out-requires : tie.Need-byte-out-requires
+byte-out-requires c κs = search needs
+
+returns : tie.Need-returns
+returns c = simp (c .byte-out .ensures, c .before .phase-out .ensures, c .before .before .mode-out .ensures)
+
+pub state-out-spec : {M : Type 1} → statement M
+state-out-spec =
+    tie.close (tie.spec mode-out-requires phase-out-requires byte-out-requires returns)

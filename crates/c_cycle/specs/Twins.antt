@@ -1,0 +1,109 @@
+-- Device, state and cycle as plain numbers, each way. Assumes nothing.
+use mathlib.Core.Bool.{Bool, not, _&&_, _||_}
+use Prim.Native.Nat.{ℕ}
+use lib.Dec.{eqb, ltb}
+use Rattle.common.specs.Choice.{if_then_else_}
+use Rattle.device.specs.declared.Device.{Device}
+use Rattle.model_types.specs.declared.Pins.{Pins}
+use Rattle.model_types.specs.declared.Kind.{Kind}
+use Rattle.model_types.specs.declared.Kind.the-variants.{Read, Write, Idle}
+use Rattle.model_types.specs.declared.Cycle.{Cycle}
+use Rattle.model_types.specs.declared.Mode.{Mode}
+use Rattle.model_types.specs.declared.Mode.the-variants.{Array, Status, Identifier}
+use Rattle.model_types.specs.declared.Phase.{Phase}
+use Rattle.model_types.specs.declared.Phase.the-variants.{Free, EraseAwaited, DataAwaited, Programming, Erasing, Suspended}
+use Rattle.model_types.specs.declared.State.{State}
+use Rattle.model_types.specs.States.{atRest, freshState}
+use Rattle.c_cycle.specs.declared.DeviceNumbers.{DeviceNumbers}
+use Rattle.c_cycle.specs.declared.StateNumbers.{StateNumbers}
+use Rattle.c_cycle.specs.declared.BusNumbers.{BusNumbers}
+
+-- the device that three numbers name
+abbrev pub deviceIn : DeviceNumbers → Device
+deviceIn n = record { part = record { number = n .number }; program = n .program; erase = n .erase }
+
+-- a device's numbers
+abbrev pub deviceOut : Device → DeviceNumbers
+deviceOut d = record { number = d .part .number; program = d .program; erase = d .erase }
+
+-- the levels that a run keeps fixed
+abbrev pub pinsIn : ℕ → ℕ → Pins
+pinsIn rp vpp = record { rp = rp; vpp = vpp }
+
+-- modes: 0 read array, 1 read status, 2 identifier
+unfoldable pub modeIn : ℕ → Mode
+modeIn n = if eqb n 0 then Array else if eqb n 1 then Status else Identifier
+
+abbrev pub modeOut : Mode → ℕ
+modeOut Array = 0
+modeOut Status = 1
+modeOut Identifier = 2
+
+-- phases: 0 free, 1 confirm awaited, 2 data awaited, 3 programming a byte, 4 erasing, 5 suspended
+unfoldable pub phaseIn : ℕ → ℕ → Phase
+phaseIn n byte =
+    if eqb n 0 then Free
+    else if eqb n 1 then EraseAwaited
+    else if eqb n 2 then DataAwaited
+    else if eqb n 3 then Programming byte
+    else if eqb n 4 then Erasing else Suspended
+
+abbrev pub phaseOut : Phase → ℕ
+phaseOut Free = 0
+phaseOut EraseAwaited = 1
+phaseOut DataAwaited = 2
+phaseOut (Programming byte) = 3
+phaseOut Erasing = 4
+phaseOut Suspended = 5
+
+-- the byte that is being programmed, 0 in every other phase
+abbrev pub byteOut : Phase → ℕ
+byteOut Free = 0
+byteOut EraseAwaited = 0
+byteOut DataAwaited = 0
+byteOut (Programming byte) = byte
+byteOut Erasing = 0
+byteOut Suspended = 0
+
+-- the numbers stand for no state: no such mode, no such phase, or a byte where none is being programmed
+unfoldable pub noState : StateNumbers → Bool
+noState n = (ltb 2 (n .mode) || ltb 5 (n .phase)) || (not (eqb (n .byte) 0) && not (eqb (n .phase) 3))
+
+-- numbers as a state; those that stand for none become one that is improper on every device: at rest with SR.7 clear
+unfoldable pub stateIn : StateNumbers → State
+stateIn n =
+    if noState n then atRest freshState Array 0
+    else record { mode = modeIn (n .mode); status = n .status; phase = phaseIn (n .phase) (n .byte); left = n .left; address = n .address }
+
+abbrev pub stateOut : State → StateNumbers
+stateOut s =
+    record {
+      mode = modeOut (s .mode);
+      status = s .status;
+      phase = phaseOut (s .phase);
+      byte = byteOut (s .phase);
+      left = s .left;
+      address = s .address;
+    }
+
+-- kinds of cycle: 0 read, 1 write, 2 idle
+unfoldable pub kindIn : ℕ → Kind
+kindIn n = if eqb n 0 then Read else if eqb n 1 then Write else Idle
+
+abbrev pub kindOut : Kind → ℕ
+kindOut Read = 0
+kindOut Write = 1
+kindOut Idle = 2
+
+-- OE# of a cycle; where the kind is none, a level that every kind refuses
+unfoldable pub oeIn : ℕ → ℕ → ℕ
+oeIn kind oe = if ltb 2 kind then 2 else oe
+
+-- numbers as a cycle
+abbrev pub cycleIn : BusNumbers → Cycle
+cycleIn n =
+    record { kind = kindIn (n .kind); pins = pinsIn (n .rp) (n .vpp); oe = oeIn (n .kind) (n .oe); address = n .address; byte = n .byte }
+
+abbrev pub cycleOut : Cycle → BusNumbers
+cycleOut c =
+    record { kind = kindOut (c .kind); rp = c .pins .rp; oe = c .oe; byte = c .byte; vpp = c .pins .vpp; address = c .address }

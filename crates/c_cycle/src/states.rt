@@ -1,0 +1,278 @@
+// Device, state, cycle, and what a cycle answers, as plain numbers.
+use crate::AnswerNumbers;
+use crate::BusNumbers;
+use crate::DeviceNumbers;
+use crate::StateNumbers;
+use device::Device;
+use device::Part;
+use model::Answer;
+use model::Seen;
+use model_types::Cycle;
+use model_types::Kind;
+use model_types::Mode;
+use model_types::Phase;
+use model_types::Pins;
+use model_types::State;
+ghost use mathlib.Core.Path.{_≡_};
+ghost use Rattle.c_cycle.specs.Twins.{deviceIn, pinsIn, modeIn, modeOut, phaseIn, phaseOut, byteOut, noState, stateIn, stateOut, kindIn, kindOut, oeIn, cycleIn, cycleOut};
+ghost use Rattle.c_cycle.specs.Answers.{stateBack, seenOut, valueOut, answerOut};
+
+// Modes as numbers.
+pub const ARRAY: u8 = 0;
+
+pub const STATUS: u8 = 1;
+
+pub const IDENTIFIER: u8 = 2;
+
+// Phases as numbers. From PROGRAMMING on an operation is running or suspended.
+pub const FREE: u8 = 0;
+
+pub const ERASE_AWAITED: u8 = 1;
+
+pub const DATA_AWAITED: u8 = 2;
+
+pub const PROGRAMMING: u8 = 3;
+
+pub const ERASING: u8 = 4;
+
+pub const SUSPENDED: u8 = 5;
+
+// Kinds of cycle as numbers.
+pub const READ: u8 = 0;
+
+pub const WRITE: u8 = 1;
+
+pub const IDLE: u8 = 2;
+
+// What a cycle answers, as a number.
+pub const NO_DATA: u8 = 0;
+
+pub const BYTE: u8 = 1;
+
+pub const REFUSED: u8 = 2;
+
+pub fn device_in(n: DeviceNumbers) -> Device
+    ensures { λ r. ⌜ r ≡ deviceIn n ⌝ }
+{
+    Device {
+        part: Part { number: n.number },
+        program: n.program,
+        erase: n.erase,
+    }
+}
+
+pub fn pins_in(rp: u8, vpp: u32) -> Pins
+    ensures { λ r. ⌜ r ≡ pinsIn rp vpp ⌝ }
+{
+    Pins { rp: rp, vpp: vpp }
+}
+
+fn mode_in(n: u8) -> Mode
+    ensures { λ r. ⌜ r ≡ modeIn n ⌝ }
+{
+    if n == ARRAY {
+        return Mode::Array;
+    }
+    if n == STATUS {
+        return Mode::Status;
+    }
+    Mode::Identifier
+}
+
+fn mode_out(m: Mode) -> u8
+    ensures { λ r. ⌜ r ≡ modeOut m ⌝ }
+{
+    match m {
+        Mode::Array => ARRAY,
+        Mode::Status => STATUS,
+        Mode::Identifier => IDENTIFIER,
+    }
+}
+
+pub fn phase_in(n: u8, byte: u8) -> Phase
+    ensures { λ r. ⌜ r ≡ phaseIn n byte ⌝ }
+{
+    if n == FREE {
+        return Phase::Free;
+    }
+    if n == ERASE_AWAITED {
+        return Phase::EraseAwaited;
+    }
+    if n == DATA_AWAITED {
+        return Phase::DataAwaited;
+    }
+    if n == PROGRAMMING {
+        return Phase::Programming(byte);
+    }
+    if n == ERASING {
+        return Phase::Erasing;
+    }
+    Phase::Suspended
+}
+
+fn phase_out(ph: Phase) -> u8
+    ensures { λ r. ⌜ r ≡ phaseOut ph ⌝ }
+{
+    match ph {
+        Phase::Free => FREE,
+        Phase::EraseAwaited => ERASE_AWAITED,
+        Phase::DataAwaited => DATA_AWAITED,
+        Phase::Programming(_) => PROGRAMMING,
+        Phase::Erasing => ERASING,
+        Phase::Suspended => SUSPENDED,
+    }
+}
+
+fn byte_out(ph: Phase) -> u8
+    ensures { λ r. ⌜ r ≡ byteOut ph ⌝ }
+{
+    match ph {
+        Phase::Free => 0,
+        Phase::EraseAwaited => 0,
+        Phase::DataAwaited => 0,
+        Phase::Programming(b) => b,
+        Phase::Erasing => 0,
+        Phase::Suspended => 0,
+    }
+}
+
+fn no_state(n: StateNumbers) -> bool
+    ensures { λ r. ⌜ r ≡ noState n ⌝ }
+{
+    (IDENTIFIER < n.mode) | (SUSPENDED < n.phase) | (!(n.byte == 0) & !(n.phase == PROGRAMMING))
+}
+
+pub fn state_in(n: StateNumbers) -> State
+    ensures { λ r. ⌜ r ≡ stateIn n ⌝ }
+{
+    if no_state(n) {
+        return State {
+            mode: Mode::Array,
+            status: 0,
+            phase: Phase::Free,
+            left: 0,
+            address: 0,
+        };
+    }
+    State {
+        mode: mode_in(n.mode),
+        status: n.status,
+        phase: phase_in(n.phase, n.byte),
+        left: n.left,
+        address: n.address,
+    }
+}
+
+pub fn state_out(s: State) -> StateNumbers
+    ensures { λ r. ⌜ r ≡ stateOut s ⌝ }
+{
+    let m = s.mode;
+    let ph = s.phase;
+    StateNumbers {
+        mode: mode_out(m),
+        status: s.status,
+        phase: phase_out(ph),
+        byte: byte_out(ph),
+        left: s.left,
+        address: s.address,
+    }
+}
+
+// The state that goes back for one that came in.
+pub fn state_back(n: StateNumbers, s: State) -> StateNumbers
+    ensures { λ r. ⌜ r ≡ stateBack n s ⌝ }
+{
+    if no_state(n) {
+        return n;
+    }
+    state_out(s)
+}
+
+fn kind_in(n: u8) -> Kind
+    ensures { λ r. ⌜ r ≡ kindIn n ⌝ }
+{
+    if n == READ {
+        return Kind::Read;
+    }
+    if n == WRITE {
+        return Kind::Write;
+    }
+    Kind::Idle
+}
+
+fn kind_out(kind: Kind) -> u8
+    ensures { λ r. ⌜ r ≡ kindOut kind ⌝ }
+{
+    match kind {
+        Kind::Read => READ,
+        Kind::Write => WRITE,
+        Kind::Idle => IDLE,
+    }
+}
+
+fn oe_in(kind: u8, oe: u8) -> u8
+    ensures { λ r. ⌜ r ≡ oeIn kind oe ⌝ }
+{
+    if IDLE < kind {
+        return 2;
+    }
+    oe
+}
+
+pub fn cycle_in(n: BusNumbers) -> Cycle
+    ensures { λ r. ⌜ r ≡ cycleIn n ⌝ }
+{
+    Cycle {
+        kind: kind_in(n.kind),
+        pins: pins_in(n.rp, n.vpp),
+        oe: oe_in(n.kind, n.oe),
+        address: n.address,
+        byte: n.byte,
+    }
+}
+
+pub fn cycle_out(c: Cycle) -> BusNumbers
+    ensures { λ r. ⌜ r ≡ cycleOut c ⌝ }
+{
+    let kind = c.kind;
+    BusNumbers {
+        kind: kind_out(kind),
+        rp: c.pins.rp,
+        oe: c.oe,
+        byte: c.byte,
+        vpp: c.pins.vpp,
+        address: c.address,
+    }
+}
+
+fn seen_out(seen: Seen) -> u8
+    ensures { λ r. ⌜ r ≡ seenOut seen ⌝ }
+{
+    match seen {
+        Seen::NoData => NO_DATA,
+        Seen::Byte(_) => BYTE,
+        Seen::Refused(_) => REFUSED,
+    }
+}
+
+fn value_out(seen: Seen) -> u8
+    ensures { λ r. ⌜ r ≡ valueOut seen ⌝ }
+{
+    match seen {
+        Seen::NoData => 0,
+        Seen::Byte(b) => b,
+        Seen::Refused(n) => n,
+    }
+}
+
+pub fn answer_out(n: StateNumbers, a: Answer) -> AnswerNumbers
+    ensures { λ r. ⌜ r ≡ answerOut n a ⌝ }
+{
+    let seen = a.seen;
+    let state = a.state;
+    AnswerNumbers {
+        seen: seen_out(seen),
+        value: value_out(seen),
+        state: state_back(n, state),
+    }
+}

@@ -1,0 +1,92 @@
+-- Two results that a promise of this crate allows are equal, and so is what it leaves in each thing lent. Assumes nothing.
+use mathlib.Core.Path.{_≡_}
+use mathlib.Core.List.{List}
+use Prim.Native.Nat.{ℕ}
+use lib.ListN.{take}
+use Rattle.common.specs.Choice.{Unique}
+use Rattle.common.proofs.Choice.{only}
+use Rattle.model_types.specs.States.{freshState}
+use Rattle.file_check.specs.Check.{checkOf}
+use Rattle.c_cycle.specs.Twins.{stateOut}
+use Rattle.c_records.specs.declared.BlockNumbers.{BlockNumbers}
+use Rattle.c_functions.specs.Geometry.{sizeGiven, blockGiven}
+use Rattle.c_functions.specs.Calls.{cycled, arrayCycled, started, steppedOf, scratchStepped, runOf, arrayRun, scratchRun, loadOf, arrayLoad, wantedLoad, scratchLoad, writtenOf, fileLeft, fileRead, payloadLeft}
+use Rattle.c_cycle.specs.declared.DeviceNumbers.{DeviceNumbers}
+use Rattle.c_cycle.specs.declared.StateNumbers.{StateNumbers}
+use Rattle.c_cycle.specs.declared.BusNumbers.{BusNumbers}
+use Rattle.c_cycle.specs.declared.AnswerNumbers.{AnswerNumbers}
+use Rattle.c_records.specs.declared.LoaderNumbers.{LoaderNumbers}
+use Rattle.c_records.specs.declared.TurnNumbers.{TurnNumbers}
+use Rattle.c_records.specs.declared.GivenNumbers.{GivenNumbers}
+use Rattle.c_records.specs.declared.RanNumbers.{RanNumbers}
+use Rattle.c_records.specs.declared.SizedNumbers.{SizedNumbers}
+
+pub fresh-unique : Unique (λ (r : StateNumbers). r ≡ stateOut freshState)
+fresh-unique = only (stateOut freshState)
+
+pub size-unique : (n : ℕ) → Unique (λ (r : ℕ). r ≡ sizeGiven n)
+size-unique n = only (sizeGiven n)
+
+pub block-unique : (n k : ℕ) → Unique (λ (r : BlockNumbers). r ≡ blockGiven n k)
+block-unique n k = only (blockGiven n k)
+
+pub cycle-unique : (d : DeviceNumbers) (s : StateNumbers) (c : BusNumbers) (xs rs : List ℕ) → Unique (λ (r : AnswerNumbers). r ≡ cycled d s c xs rs)
+cycle-unique d s c xs rs = only (cycled d s c xs rs)
+
+pub cycle-array-unique : (d : DeviceNumbers) (s : StateNumbers) (c : BusNumbers) (xs rs : List ℕ) → Unique (λ (left : List ℕ). left ≡ arrayCycled d s c xs rs)
+cycle-array-unique d s c xs rs = only (arrayCycled d s c xs rs)
+
+pub start-unique : (part rp vpp k : ℕ) (w sc : List ℕ) → Unique (λ (r : GivenNumbers). r ≡ started part rp vpp k w sc)
+start-unique part rp vpp k w sc = only (started part rp vpp k w sc)
+
+-- the step by value, and the step on a record that is lent: what it says, the record, scratch
+pub stepped-unique : (l : LoaderNumbers) (b : ℕ) (w sc : List ℕ) → Unique (λ (r : GivenNumbers). r ≡ steppedOf l b w sc)
+stepped-unique l b w sc = only (steppedOf l b w sc)
+
+pub step-unique : (l : LoaderNumbers) (b : ℕ) (w sc : List ℕ) → Unique (λ (r : TurnNumbers). r ≡ steppedOf l b w sc .turn)
+step-unique l b w sc = only (steppedOf l b w sc .turn)
+
+pub step-record-unique : (l : LoaderNumbers) (b : ℕ) (w sc : List ℕ) → Unique (λ (left : LoaderNumbers). left ≡ steppedOf l b w sc .loader)
+step-record-unique l b w sc = only (steppedOf l b w sc .loader)
+
+pub step-scratch-unique : (l : LoaderNumbers) (b : ℕ) (w sc : List ℕ) → Unique (λ (left : List ℕ). left ≡ scratchStepped l b w sc)
+step-scratch-unique l b w sc = only (scratchStepped l b w sc)
+
+pub run-unique : (d : DeviceNumbers) (s : StateNumbers) (rp vpp k : ℕ) (xs w sc : List ℕ) → Unique (λ (r : RanNumbers). r ≡ runOf d s rp vpp k xs w sc)
+run-unique d s rp vpp k xs w sc = only (runOf d s rp vpp k xs w sc)
+
+pub run-array-unique : (d : DeviceNumbers) (s : StateNumbers) (rp vpp k : ℕ) (xs w sc : List ℕ) → Unique (λ (left : List ℕ). left ≡ arrayRun d s rp vpp k xs w sc)
+run-array-unique d s rp vpp k xs w sc = only (arrayRun d s rp vpp k xs w sc)
+
+pub run-scratch-unique : (d : DeviceNumbers) (s : StateNumbers) (rp vpp k : ℕ) (xs w sc : List ℕ) → Unique (λ (left : List ℕ). left ≡ scratchRun d s rp vpp k xs w sc)
+run-scratch-unique d s rp vpp k xs w sc = only (scratchRun d s rp vpp k xs w sc)
+
+pub load-unique : (d : DeviceNumbers) (s : StateNumbers) (rp vpp k : ℕ) (f : List ℕ) (asked : ℕ) (xs w sc : List ℕ) → Unique (λ (r : RanNumbers). r ≡ loadOf d s rp vpp k f asked xs w sc)
+load-unique d s rp vpp k f asked xs w sc = only (loadOf d s rp vpp k f asked xs w sc)
+
+pub load-array-unique : (d : DeviceNumbers) (s : StateNumbers) (rp vpp k : ℕ) (f : List ℕ) (asked : ℕ) (xs w sc : List ℕ)
+    → Unique (λ (left : List ℕ). left ≡ arrayLoad d s rp vpp k f asked xs w sc)
+load-array-unique d s rp vpp k f asked xs w sc = only (arrayLoad d s rp vpp k f asked xs w sc)
+
+pub load-wanted-unique : (d : DeviceNumbers) (s : StateNumbers) (rp vpp k : ℕ) (f : List ℕ) (asked : ℕ) (xs w sc : List ℕ)
+    → Unique (λ (left : List ℕ). left ≡ wantedLoad d s rp vpp k f asked xs w sc)
+load-wanted-unique d s rp vpp k f asked xs w sc = only (wantedLoad d s rp vpp k f asked xs w sc)
+
+pub load-scratch-unique : (d : DeviceNumbers) (s : StateNumbers) (rp vpp k : ℕ) (f : List ℕ) (asked : ℕ) (xs w sc : List ℕ)
+    → Unique (λ (left : List ℕ). left ≡ scratchLoad d s rp vpp k f asked xs w sc)
+load-scratch-unique d s rp vpp k f asked xs w sc = only (scratchLoad d s rp vpp k f asked xs w sc)
+
+pub write-unique : (letter : ℕ) (p out : List ℕ) → Unique (λ (r : SizedNumbers). r ≡ writtenOf letter p out)
+write-unique letter p out = only (writtenOf letter p out)
+
+pub write-file-unique : (letter : ℕ) (p out : List ℕ) → Unique (λ (left : List ℕ). left ≡ fileLeft letter p out)
+write-file-unique letter p out = only (fileLeft letter p out)
+
+pub read-unique : (f : List ℕ) (asked : ℕ) (out : List ℕ) → Unique (λ (r : SizedNumbers). r ≡ fileRead f asked out)
+read-unique f asked out = only (fileRead f asked out)
+
+pub read-payload-unique : (f : List ℕ) (asked : ℕ) (out : List ℕ) → Unique (λ (left : List ℕ). left ≡ payloadLeft f asked out)
+read-payload-unique f asked out = only (payloadLeft f asked out)
+
+pub check-unique : (block : List ℕ) → Unique (λ (r : ℕ). r ≡ checkOf (take 510 block))
+check-unique block = only (checkOf (take 510 block))

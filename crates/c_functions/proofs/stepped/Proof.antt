@@ -1,0 +1,50 @@
+use borrow.Author.Needs.{needs}
+use mathlib.Core.Path.{_≡_, ap, _∙_}
+use Rattle.loader.specs.declared.Loader.{Loader}
+use Rattle.loader.specs.declared.Given.{Given}
+use Rattle.loader_steps.specs.Front.{stepGiven, scratchAfter}
+use Rattle.c_records.specs.Records.{loaderIn, turnOut, loaderBack}
+use Rattle.c_functions.specs.Calls.{steppedOf, scratchStepped}
+use Rattle.c_functions.proofs.stepped.Statement.{statement}
+use Rattle.c_functions.proofs.stepped.Tie as tie
+
+loader-in-requires : tie.Need-loader-in-requires
+loader-in-requires c κs = search needs
+
+step-requires : tie.Need-step-requires
+step-requires c κs = search needs
+
+turn-out-requires : tie.Need-turn-out-requires
+turn-out-requires c κs = search needs
+
+loader-back-requires : tie.Need-loader-back-requires
+loader-back-requires c κs = search needs
+
+same-length : tie.Need-same-length
+same-length c = search needs
+
+returns : tie.Need-returns
+unfolding steppedOf scratchStepped
+returns c =
+    let a = c .before .before .before .before .before .before .before .before .before .before .args in
+    let w = a .wanted .now in
+    let sc = a .scratch .now in
+    let e : c .before .before .before .before .before .before .before .loader-in .result ≡ loaderIn (a .l) = c .before .before .before .before .before .before .before .loader-in .ensures in
+    let g : c .before .before .before .before .before .step .result ≡ stepGiven (loaderIn (a .l)) (a .byte) w sc =
+    c .before .before .before .before .before .step .ensures .0 ∙ ap (λ (l : Loader). stepGiven l (a .byte) w sc) e in
+    let turn = c .before .turn-out .ensures ∙ ap (λ (x : Given). turnOut (x .turn)) g in
+    let loader = c .loader-back .ensures ∙ ap (λ (x : Given). loaderBack (a .l) (x .loader)) g in (
+      λ i. record { turn = turn i; loader = loader i },
+      c .before .before .before .before .before .step .ensures .1 ∙ ap (λ (l : Loader). scratchAfter l (a .byte) w sc) e,
+    )
+
+pub stepped-spec : {M : Type 1} → statement M
+stepped-spec =
+    tie.close
+    (tie.spec
+    loader-in-requires
+    step-requires
+    turn-out-requires
+    loader-back-requires
+    same-length
+    returns)

@@ -1,0 +1,70 @@
+use borrow.Author.Needs.{needs}
+use mathlib.Core.Path.{_≡_, ap, _∙_}
+use Rattle.loader_run.specs.declared.Ran.{Ran}
+use Rattle.loader_from_file.specs.Loads.{loadedOf, bytesLoaded, wantedLoaded, scratchLoaded}
+use Rattle.c_cycle.specs.Twins.{deviceIn, stateIn, pinsIn}
+use Rattle.c_records.specs.Records.{ranOut}
+use Rattle.c_functions.specs.Calls.{loadOf, arrayLoad, wantedLoad, scratchLoad}
+use Rattle.c_functions.proofs.tb_load.Statement.{statement}
+use Rattle.c_functions.proofs.tb_load.Tie as tie
+
+device-in-requires : tie.Need-device-in-requires
+device-in-requires c κs = search needs
+
+state-in-requires : tie.Need-state-in-requires
+state-in-requires c κs = search needs
+
+pins-in-requires : tie.Need-pins-in-requires
+pins-in-requires c κs = search needs
+
+load-requires : tie.Need-load-requires
+load-requires c κs = search needs
+
+ran-out-requires : tie.Need-ran-out-requires
+ran-out-requires c κs = search needs
+
+same-length : tie.Need-same-length
+same-length c = search needs
+
+same-length-2 : tie.Need-same-length-2
+same-length-2 c = search needs
+
+same-length-3 : tie.Need-same-length-3
+same-length-3 c = search needs
+
+returns : tie.Need-returns
+unfolding loadOf arrayLoad wantedLoad scratchLoad
+returns c =
+    let a = c .before .before .before .before .before .before .before .before .before .before .before .before .before .before .before .before .before .before .args in
+    let f = a .file .now in
+    let xs = a .array .now in
+    let w = a .wanted .now in
+    let sc = a .scratch .now in
+    let d : c .before .before .before .before .before .before .before .before .before .before .before .before .before .device-in .result ≡ deviceIn (a .device) = c .before .before .before .before .before .before .before .before .before .before .before .before .before .device-in .ensures in
+    let s : c .before .before .before .before .before .before .before .before .before .before .before .before .state-in .result ≡ stateIn (a .state) = c .before .before .before .before .before .before .before .before .before .before .before .before .state-in .ensures in
+    let p : c .before .before .before .before .before .before .before .before .before .before .before .pins-in .result ≡ pinsIn (a .rp) (a .vpp) = c .before .before .before .before .before .before .before .before .before .before .before .pins-in .ensures in
+    let g : c .before .before .before .before .before .before .before .load .result ≡ loadedOf (deviceIn (a .device)) (stateIn (a .state)) (pinsIn (a .rp) (a .vpp)) (a .block) xs w sc f (a .letter) =
+    c .before .before .before .before .before .before .before .load .ensures .0 ∙ (λ i. loadedOf (d i) (s i) (p i) (a .block) xs w sc f (a .letter)) in (
+      c .ran-out .ensures ∙ ap (λ (x : Ran). ranOut (a .state) x) g,
+      (
+        c .before .before .before .before .before .before .before .load .ensures .1 .0 ∙ (λ i. bytesLoaded (d i) (s i) (p i) (a .block) xs w sc f (a .letter)),
+        (
+          c .before .before .before .before .before .before .before .load .ensures .1 .1 .0 ∙ (λ i. wantedLoaded (d i) (s i) (p i) (a .block) xs w sc f (a .letter)),
+          c .before .before .before .before .before .before .before .load .ensures .1 .1 .1 ∙ (λ i. scratchLoaded (d i) (s i) (p i) (a .block) xs w sc f (a .letter)),
+        ),
+      ),
+    )
+
+pub tb-load-spec : {M : Type 1} → statement M
+tb-load-spec =
+    tie.close
+    (tie.spec
+    device-in-requires
+    state-in-requires
+    pins-in-requires
+    load-requires
+    ran-out-requires
+    same-length
+    same-length-2
+    same-length-3
+    returns)

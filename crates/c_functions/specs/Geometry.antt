@@ -1,0 +1,22 @@
+-- Where a part's blocks lie, as numbers. Assumes nothing.
+use Prim.Native.Nat.{ℕ}
+use Rattle.common.specs.Choice.{if_then_else_}
+use Rattle.device.specs.declared.Part.{Part}
+use Rattle.device.specs.Parts.{unknownPart, sizeOf, startOf, lengthOf}
+use Rattle.loader_steps.specs.Front.{noBlock}
+use Rattle.c_records.specs.declared.BlockNumbers.{BlockNumbers}
+
+-- the part of a number
+abbrev pub partBy : ℕ → Part
+partBy n = record { number = n }
+
+-- the bytes of a part's array; 0 for a number that is no part's
+unfoldable pub sizeGiven : ℕ → ℕ
+sizeGiven n = if unknownPart (partBy n) then 0 else sizeOf (partBy n)
+
+-- the first address and the bytes of a block; both 0 where there is none
+unfoldable pub blockGiven : ℕ → ℕ → BlockNumbers
+blockGiven n k =
+    if unknownPart (partBy n) then record { first = 0; length = 0 }
+    else if noBlock (partBy n) k then record { first = 0; length = 0 }
+    else record { first = startOf (partBy n) k; length = lengthOf (partBy n) k }

@@ -1,0 +1,219 @@
+// What a C program gets of the library: numbers, byte slices and structs of numbers at the border, the typed functions behind
+// it. include/torfbarke.h declares the same structs and functions.
+use c_cycle::AnswerNumbers;
+use c_cycle::BusNumbers;
+use c_cycle::DeviceNumbers;
+use c_cycle::StateNumbers;
+use c_records::BlockNumbers;
+use c_records::GivenNumbers;
+use c_records::LoaderNumbers;
+use c_records::RanNumbers;
+use c_records::SizedNumbers;
+use c_records::TurnNumbers;
+use device::Part;
+ghost use mathlib.Core.Path.{_≡_};
+ghost use lib.ListN.{take};
+ghost use Rattle.model_types.specs.States.{freshState};
+ghost use Rattle.file_check.specs.Check.{checkOf};
+ghost use Rattle.c_cycle.specs.Twins.{stateOut};
+ghost use Rattle.c_functions.specs.Geometry.{sizeGiven, blockGiven};
+ghost use Rattle.c_functions.specs.Calls.{cycled, arrayCycled, started, steppedOf, scratchStepped, runOf, arrayRun, scratchRun, loadOf, arrayLoad, wantedLoad, scratchLoad, writtenOf, fileLeft, fileRead, payloadLeft};
+
+// A fresh device.
+#[no_mangle]
+pub extern "C" fn tb_fresh() -> StateNumbers
+    ensures { λ r. ⌜ r ≡ stateOut freshState ⌝ }
+{
+    c_cycle::states::state_out(model::fresh())
+}
+
+// The bytes of a part's array; 0 for a number that is no part's.
+#[no_mangle]
+pub extern "C" fn tb_size(part: u8) -> usize
+    ensures { λ r. ⌜ r ≡ sizeGiven part ⌝ }
+{
+    let known = Part { number: part };
+    if device::unknown_part(known) {
+        return 0;
+    }
+    device::size(known)
+}
+
+// The first address and the bytes of a flash block; both 0 where there is none.
+#[no_mangle]
+pub extern "C" fn tb_block(part: u8, block: u8) -> BlockNumbers
+    ensures { λ r. ⌜ r ≡ blockGiven part block ⌝ }
+{
+    let known = Part { number: part };
+    if device::unknown_part(known) {
+        return BlockNumbers {
+            first: 0,
+            length: 0,
+        };
+    }
+    if loader_steps::front::no_block(known, block) {
+        return BlockNumbers {
+            first: 0,
+            length: 0,
+        };
+    }
+    BlockNumbers {
+        first: device::start(known, block),
+        length: device::length(known, block),
+    }
+}
+
+// One bus cycle.
+#[no_mangle]
+pub extern "C" fn tb_cycle(
+    device: DeviceNumbers,
+    state: StateNumbers,
+    bus: BusNumbers,
+    array: &mut [u8],
+    residue: &[u8],
+) -> AnswerNumbers
+    ensures { λ r. ⌜ r ≡ cycled device state bus (now (array .entry)) (now (residue .entry)) ⌝ }
+    ensures { λ _. ⌜ now (array .exit) ≡ arrayCycled device state bus (now (array .entry)) (now (residue .entry)) ⌝ }
+{
+    let d = c_cycle::states::device_in(device);
+    let s = c_cycle::states::state_in(state);
+    let c = c_cycle::states::cycle_in(bus);
+    let a = model::cycle(d, s, c, array, residue);
+    c_cycle::states::answer_out(state, a)
+}
+
+// The first cycle of a load.
+#[no_mangle]
+pub extern "C" fn tb_start(
+    part: u8,
+    rp: u8,
+    vpp: u32,
+    block: u8,
+    wanted: &[u8],
+    scratch: &[u8],
+) -> GivenNumbers
+    ensures { λ r. ⌜ r ≡ started part rp vpp block (now (wanted .entry)) (now (scratch .entry)) ⌝ }
+{
+    let known = Part { number: part };
+    let g = loader_steps::front::start(
+        known,
+        c_cycle::states::pins_in(rp, vpp),
+        block,
+        wanted,
+        scratch,
+    );
+    let turn = g.turn;
+    let record = g.loader;
+    GivenNumbers {
+        turn: c_records::records::turn_out(turn),
+        loader: c_records::records::loader_out(record),
+    }
+}
+
+// A loader's step on numbers, by value.
+pub fn stepped(l: LoaderNumbers, byte: u8, wanted: &[u8], scratch: &mut [u8]) -> GivenNumbers
+    ensures { λ r. ⌜ (r ≡ steppedOf l byte (now (wanted .entry)) (now (scratch .entry)))
+        × (now (scratch .exit) ≡ scratchStepped l byte (now (wanted .entry)) (now (scratch .entry))) ⌝ }
+{
+    let g = loader_steps::front::step(c_records::records::loader_in(l), byte, wanted, scratch);
+    let turn = g.turn;
+    let moved = g.loader;
+    GivenNumbers {
+        turn: c_records::records::turn_out(turn),
+        loader: c_records::records::loader_back(l, moved),
+    }
+}
+
+// The same where the host keeps the record: it is taken out, moved on by value, and stored back.
+#[no_mangle]
+pub extern "C" fn tb_step(
+    loader: &mut LoaderNumbers,
+    byte: u8,
+    wanted: &[u8],
+    scratch: &mut [u8],
+) -> TurnNumbers
+    ensures { λ r. ⌜ (now (loader .exit) ≡ steppedOf (now (loader .entry)) byte (now (wanted .entry)) (now (scratch .entry)) .loader)
+        × (r ≡ steppedOf (now (loader .entry)) byte (now (wanted .entry)) (now (scratch .entry)) .turn)
+        × (now (scratch .exit) ≡ scratchStepped (now (loader .entry)) byte (now (wanted .entry)) (now (scratch .entry))) ⌝ }
+{
+    let g = stepped(*loader, byte, wanted, scratch);
+    *loader = g.loader;
+    g.turn
+}
+
+// A load of one block, against the model.
+#[no_mangle]
+pub extern "C" fn tb_run(
+    device: DeviceNumbers,
+    state: StateNumbers,
+    rp: u8,
+    vpp: u32,
+    block: u8,
+    array: &mut [u8],
+    wanted: &[u8],
+    scratch: &mut [u8],
+) -> RanNumbers
+    ensures { λ r. ⌜ r ≡ runOf device state rp vpp block (now (array .entry)) (now (wanted .entry)) (now (scratch .entry)) ⌝ }
+    ensures { λ _. ⌜ now (array .exit) ≡ arrayRun device state rp vpp block (now (array .entry)) (now (wanted .entry)) (now (scratch .entry)) ⌝ }
+    ensures { λ _. ⌜ now (scratch .exit) ≡ scratchRun device state rp vpp block (now (array .entry)) (now (wanted .entry)) (now (scratch .entry)) ⌝ }
+{
+    let d = c_cycle::states::device_in(device);
+    let s = c_cycle::states::state_in(state);
+    let p = c_cycle::states::pins_in(rp, vpp);
+    let r = loader_run::run(d, s, p, block, array, wanted, scratch);
+    c_records::runs::ran_out(state, r)
+}
+
+// A load of one block from a file, against the model.
+#[no_mangle]
+pub extern "C" fn tb_load(
+    device: DeviceNumbers,
+    state: StateNumbers,
+    rp: u8,
+    vpp: u32,
+    block: u8,
+    letter: u8,
+    file: &[u8],
+    array: &mut [u8],
+    wanted: &mut [u8],
+    scratch: &mut [u8],
+) -> RanNumbers
+    ensures { λ r. ⌜ r ≡ loadOf device state rp vpp block (now (file .entry)) letter (now (array .entry)) (now (wanted .entry)) (now (scratch .entry)) ⌝ }
+    ensures { λ _. ⌜ now (array .exit) ≡ arrayLoad device state rp vpp block (now (file .entry)) letter (now (array .entry)) (now (wanted .entry)) (now (scratch .entry)) ⌝ }
+    ensures { λ _. ⌜ now (wanted .exit) ≡ wantedLoad device state rp vpp block (now (file .entry)) letter (now (array .entry)) (now (wanted .entry)) (now (scratch .entry)) ⌝ }
+    ensures { λ _. ⌜ now (scratch .exit) ≡ scratchLoad device state rp vpp block (now (file .entry)) letter (now (array .entry)) (now (wanted .entry)) (now (scratch .entry)) ⌝ }
+{
+    let d = c_cycle::states::device_in(device);
+    let s = c_cycle::states::state_in(state);
+    let p = c_cycle::states::pins_in(rp, vpp);
+    let r = loader_from_file::load(d, s, p, block, array, wanted, scratch, file, letter);
+    c_records::runs::ran_out(state, r)
+}
+
+// The writer of a load file.
+#[no_mangle]
+pub extern "C" fn tb_file_write(letter: u8, payload: &[u8], file: &mut [u8]) -> SizedNumbers
+    ensures { λ r. ⌜ r ≡ writtenOf letter (now (payload .entry)) (now (file .entry)) ⌝ }
+    ensures { λ _. ⌜ now (file .exit) ≡ fileLeft letter (now (payload .entry)) (now (file .entry)) ⌝ }
+{
+    let written = file_codec::write(letter, payload, file);
+    c_records::sizes::written_out(written)
+}
+
+// The reader of a load file, for the letter asked.
+#[no_mangle]
+pub extern "C" fn tb_file_read(letter: u8, file: &[u8], payload: &mut [u8]) -> SizedNumbers
+    ensures { λ r. ⌜ r ≡ fileRead (now (file .entry)) letter (now (payload .entry)) ⌝ }
+    ensures { λ _. ⌜ now (payload .exit) ≡ payloadLeft (now (file .entry)) letter (now (payload .entry)) ⌝ }
+{
+    let read = file_codec::read(file, letter, payload);
+    c_records::sizes::read_out(read)
+}
+
+// The check over the first 510 bytes, or over all where there are fewer.
+#[no_mangle]
+pub extern "C" fn tb_block_check(block: &[u8]) -> u16
+    ensures { λ r. ⌜ r ≡ checkOf (take 510 (now (block .entry))) ⌝ }
+{
+    file_check::check(block)
+}

@@ -1,0 +1,106 @@
+-- The claims about the load file, for any limit of blocks; `limit` is the one that the promises use. Assumes nothing.
+use mathlib.Core.Path.{_≡_, refl, sym, _∙_, ap}
+use mathlib.Core.List.{List, [], _∷_}
+use mathlib.Core.Bool.{true, not}
+use mathlib.Core.Logic.{_↔_}
+use Prim.Native.Nat.{ℕ, _+_, _*_, _%_, _≤_, _<_}
+use native.Mathlib.Omega.{arith}
+use lib.ListN.{length, getD, take, drop, set, length-set}
+use lib.Seq.{drop-append-seam, getD-set-other}
+use lib.Dec.{ltb}
+use borrow.Author.Tests.{ne-eqb}
+use Rattle.common.specs.Numbers.{row}
+use Rattle.file_check.specs.Check.{wsum, checkOf, checkWrong, storedOf}
+use Rattle.file_block.specs.Block.{isLetter}
+use Rattle.file_codec.specs.File.{limit, refused, made, fileOf, readerOf, writerOf, inRoom, leftIn, blocksIn, payloadOf, readRows, writeRows}
+use Rattle.file_codec.proofs.Outcomes.{payload-right, payload-fits, writer-lets, writer-made}
+use Rattle.common.specs.Lists.{Bytes}
+use Rattle.file_claims.proofs.Written.{written-read, written-other, written-bytes}
+use Rattle.file_claims.proofs.Reading.{read-written}
+use Rattle.file_claims.proofs.Damage.{damaged, wsum-set}
+use Rattle.file_claims.specs.Tabled.{Ordered}
+use Rattle.file_claims.specs.Roomy.{ReadsInto, WritesGivenRoom}
+use Rattle.file_claims.proofs.Given as given
+use Rattle.file_claims.proofs.Order.{writes-in-order, judges-in-order, reads-in-order}
+
+-- what the writer makes of a payload, the reader gives back for that letter
+pub comes-back : (most ℓ : ℕ) (p f : List ℕ) → writerOf most ℓ p ≡ made f → readerOf most f ℓ ≡ made p
+comes-back = written-read
+
+-- what the reader gives for a letter, the writer makes into that same file
+pub goes-back : (most ℓ : ℕ) (f p : List ℕ) → Bytes f → readerOf most f ℓ ≡ made p → writerOf most ℓ p ≡ made f
+goes-back = read-written
+
+-- the writer writes exactly the payloads of 1 byte up to 505 for each block of the limit, under one of the eight letters
+pub writes-exactly : (most ℓ : ℕ) (p f : List ℕ)
+    → writerOf most ℓ p ≡ made f ↔ ((isLetter ℓ ≡ true) × (0 < length p) × (length p ≤ 505 * most) × (f ≡ fileOf ℓ p))
+writes-exactly most ℓ p f = (
+  λ (w : writerOf most ℓ p ≡ made f). let o = writer-lets most ℓ p f w in let r = payload-right most (length p) (o .1) in (o .0, r .0, r .1, sym (o .2)),
+  λ (h : (isLetter ℓ ≡ true) × (0 < length p) × (length p ≤ 505 * most) × (f ≡ fileOf ℓ p)).
+      writer-made most ℓ p (h .0) (payload-fits most (length p) (h .1) (h .2)) ∙ ap made (sym (h .3)),
+)
+
+-- a list of bytes is read for a letter, giving p, exactly when the writer could have written it of p under that letter
+pub reads-exactly : (most ℓ : ℕ) (f p : List ℕ) → Bytes f
+    → readerOf most f ℓ ≡ made p ↔ ((isLetter ℓ ≡ true) × (0 < length p) × (length p ≤ 505 * most) × (f ≡ fileOf ℓ p))
+reads-exactly most ℓ f p bytes = (
+  λ (e : readerOf most f ℓ ≡ made p). writes-exactly most ℓ p f .0 (read-written most ℓ f p bytes e),
+  λ (h : (isLetter ℓ ≡ true) × (0 < length p) × (length p ≤ 505 * most) × (f ≡ fileOf ℓ p)). written-read most ℓ p f (writes-exactly most ℓ p f .1 h),
+)
+
+-- Given room, on the functions' own answers at the limit: bytes f are read for a letter into `out`, with p's length as the answer and
+-- p left at the front, exactly when p has room there and the writer, given room, makes f of p under that letter.
+pub given-room : (f : List ℕ) (ℓ : ℕ) (out p : List ℕ) → Bytes f → ReadsInto f ℓ out p ↔ ((length p ≤ length out) × WritesGivenRoom ℓ p f)
+given-room = given.given-room
+
+-- a file written under one letter is refused 35 for every other byte that is asked
+pub other-letter : (most ℓ : ℕ) (p f : List ℕ) → writerOf most ℓ p ≡ made f → (asked : ℕ) → (ℓ ≡ asked → ⊥) → readerOf most f asked ≡ refused 35
+other-letter = written-other
+
+-- a written file with one byte changed to any other byte is refused 31, whatever letter is asked
+pub changed-byte : (most ℓ : ℕ) (p f : List ℕ) → most < 256 → Bytes p → writerOf most ℓ p ≡ made f
+    → (k v : ℕ) → k < length f → v < 256 → (v ≡ getD f k 0 → ⊥) → (asked : ℕ) → readerOf most (set f k v) asked ≡ refused 31
+changed-byte most ℓ p f m bytes w = damaged most ℓ f p (written-bytes most ℓ p f m bytes w) (written-read most ℓ p f w)
+
+-- the same at the limit of the promises
+pub changed-byte-here : (ℓ : ℕ) (p f : List ℕ) → Bytes p → writerOf limit ℓ p ≡ made f
+    → (k v : ℕ) → k < length f → v < 256 → (v ≡ getD f k 0 → ⊥) → (asked : ℕ) → readerOf limit (set f k v) asked ≡ refused 31
+changed-byte-here ℓ p f = changed-byte limit ℓ p f (omega arith)
+
+-- but two changes can cancel out: byte 5 up by 2 and byte 11 down by 1 leave the check as it was
+pub two-cancel : (xs : List ℕ) (b : ℕ) → 11 < length xs → getD xs 11 0 ≡ b + 1 → checkOf (set (set xs 5 (getD xs 5 0 + 2)) 11 b) ≡ checkOf xs
+unfolding checkOf
+two-cancel xs b h e =
+    let ys = set xs 5 (getD xs 5 0 + 2) in
+    let l : length ys ≡ length xs = length-set xs 5 (getD xs 5 0 + 2) in
+    let o : getD ys 11 0 ≡ getD xs 11 0 = getD-set-other xs 5 11 (getD xs 5 0 + 2) 0 (λ (q : 11 ≡ 5). (omega arith)) in
+    let u = wsum-set 1 xs 5 (getD xs 5 0 + 2) (omega arith) in
+    let v = wsum-set 1 ys 11 b (omega arith) in
+    let w : wsum 1 (set ys 11 b) ≡ wsum 1 xs = omega arith in
+    ap (λ (s : ℕ). (1 + s) % 65521) w
+
+-- a check of 65,521 or more that a block carries is never right
+pub never-right : (b : List ℕ) → 65521 ≤ storedOf b → checkWrong b ≡ true
+unfolding checkWrong checkOf
+never-right b h = ap not (ne-eqb (checkOf (take 510 b)) (storedOf b) (λ (e : checkOf (take 510 b) ≡ storedOf b). (omega arith)))
+
+-- each number is given exactly when its own condition holds and no earlier one does: the writer 32, 36, 37
+pub writer-order : (most ℓ : ℕ) (p : List ℕ) (room : ℕ)
+    → Ordered (writeRows most ℓ p (row 37 (ltb room (length (fileOf ℓ p))) ∷ [])) (fileOf ℓ p) (inRoom room (writerOf most ℓ p))
+writer-order = writes-in-order
+
+-- the judgement 30, then 31 to 34 block by block, then 35
+pub judge-order : (most : ℕ) (f : List ℕ) (asked : ℕ) → Ordered (readRows most f asked []) (payloadOf (blocksIn f) f) (readerOf most f asked)
+judge-order = judges-in-order
+
+-- the reader the same, then 37
+pub reader-order : (most : ℕ) (f : List ℕ) (asked room : ℕ)
+    → Ordered (readRows most f asked (row 37 (ltb room (length (payloadOf (blocksIn f) f))) ∷ [])) (payloadOf (blocksIn f) f) (inRoom room (readerOf most f asked))
+reader-order = reads-in-order
+
+-- a refusal leaves the buffer, and bytes past the answer stay
+pub untouched : (out : List ℕ) (n : ℕ) → leftIn out (refused n) ≡ out
+untouched out n = refl
+
+pub past-stays : (out bytes : List ℕ) → drop (length bytes) (leftIn out (made bytes)) ≡ drop (length bytes) out
+past-stays out bytes = drop-append-seam bytes (drop (length bytes) out)

@@ -1,0 +1,100 @@
+-- `loadfile::write` meets its contract, by one law for each way out. Assumes nothing.
+use borrow.Author.Needs.{needs}
+use mathlib.Core.Path.{_≡_, sym, ap, _∙_}
+use mathlib.Core.List.{_++_}
+use Prim.Native.Nat.{ℕ, _*_}
+use native.Mathlib.Omega.{arith}
+use lib.ListN.{length, drop}
+use borrow.Author.Tests.{not-true, not-false}
+use Rattle.file_codec.specs.declared.Written.the-variants.{Wrote}
+use Rattle.file_codec.specs.File.{limit, refused, made, inRoom, leftIn, countOf, fileOf, writerOf, writtenAs}
+use Rattle.file_codec.proofs.Sizes.{blocks-length}
+use Rattle.file_codec.proofs.Outcomes.{payload-right, writer-32, writer-36, writer-made, room-37, room-made}
+use Rattle.file_codec.proofs.write.Statement.{statement}
+use Rattle.file_codec.proofs.write.Tie as tie
+
+is-letter-requires : tie.Need-is-letter-requires
+is-letter-requires c κs = search needs
+
+returns : tie.Need-returns
+returns c =
+    let a = c .before .before .before .before .args in
+    let out = a .out .now in
+    let q : inRoom (length out) (writerOf limit (a .letter) (a .payload .now)) ≡ refused 32 =
+    ap (inRoom (length out)) (writer-32 limit (a .letter) (a .payload .now) (sym (c .before .is-letter .ensures) ∙ not-true _ (c .if1 .taken))) in
+    (sym (ap writtenAs q), sym (ap (leftIn out) q))
+
+payload-wrong-requires : tie.Need-payload-wrong-requires
+payload-wrong-requires c κs = search needs
+
+returns-2 : tie.Need-returns-2
+returns-2 c =
+    let m = c .before .before in
+    let a = m .before .before .before .before .args in
+    let out = a .out .now in
+    let q : inRoom (length out) (writerOf limit (a .letter) (a .payload .now)) ≡ refused 36 =
+    ap (inRoom (length out))
+    (writer-36 limit (a .letter) (a .payload .now) (sym (m .before .is-letter .ensures) ∙ not-false _ (m .if1 .left)) (sym (c .before .payload-wrong .ensures) ∙ c .if2 .taken)) in
+    (sym (ap writtenAs q), sym (ap (leftIn out) q))
+
+add-n : tie.Need-add-n
+add-n c = search needs
+
+mul-whole : tie.Need-mul-whole
+mul-whole c = search needs
+
+returns-3 : tie.Need-returns-3
+returns-3 c =
+    let p = c .before .before in
+    let m = p .before in
+    let a = m .before .before .before .before .args in
+    let out = a .out .now in
+    let n = countOf (length (a .payload .now)) in
+    let l : length (fileOf (a .letter) (a .payload .now)) ≡ 512 * n = blocks-length n (a .letter) 0 n (a .payload .now) in
+    let q : inRoom (length out) (writerOf limit (a .letter) (a .payload .now)) ≡ refused 37 =
+    ap (inRoom (length out))
+    (writer-made limit (a .letter) (a .payload .now) (sym (m .before .is-letter .ensures) ∙ not-false _ (m .if1 .left)) (sym (p .payload-wrong .ensures) ∙ c .before .if2 .left))
+    ∙ room-37 (length out) (fileOf (a .letter) (a .payload .now)) (omega (arith, c .if3 .taken)) in
+    (sym (ap writtenAs q), sym (ap (leftIn out) q))
+
+pack-requires : tie.Need-pack-requires
+pack-requires c κs =
+    let p = c .before .before .before in
+    let a = p .before .before .before .before .before .args in
+    let s = length (a .payload .now) in
+    let r = payload-right limit s (sym (p .payload-wrong .ensures) ∙ c .before .before .if2 .left) in
+    (c .before .if3 .left, omega arith, omega arith, omega arith)
+
+same-length : tie.Need-same-length
+same-length c = search needs
+
+returns-4 : tie.Need-returns-4
+returns-4 c =
+    let u = c .before .before .pack in
+    let g = c .before .before .before .before in
+    let p = g .before .before in
+    let m = p .before in
+    let a = m .before .before .before .before .args in
+    let out = a .out .now in
+    let n = countOf (length (a .payload .now)) in
+    let l : length (fileOf (a .letter) (a .payload .now)) ≡ 512 * n = blocks-length n (a .letter) 0 n (a .payload .now) in
+    let q : inRoom (length out) (writerOf limit (a .letter) (a .payload .now)) ≡ made (fileOf (a .letter) (a .payload .now)) =
+    ap (inRoom (length out))
+    (writer-made limit (a .letter) (a .payload .now) (sym (m .before .is-letter .ensures) ∙ not-false _ (m .if1 .left)) (sym (p .payload-wrong .ensures) ∙ g .before .if2 .left))
+    ∙ room-made (length out) (fileOf (a .letter) (a .payload .now)) (omega (arith, g .if3 .left)) in
+    (sym (ap writtenAs q ∙ ap Wrote l), u .ensures ∙ ap (λ (k : ℕ). fileOf (a .letter) (a .payload .now) ++ drop k out) (sym l) ∙ sym (ap (leftIn out) q))
+
+pub write-spec : {M : Type 1} → statement M
+write-spec =
+    tie.close
+    (tie.spec
+    is-letter-requires
+    returns
+    payload-wrong-requires
+    returns-2
+    add-n
+    mul-whole
+    returns-3
+    pack-requires
+    same-length
+    returns-4)

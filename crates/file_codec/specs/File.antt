@@ -1,0 +1,110 @@
+-- The load file: what the writer writes, how the reader judges a file, and what each answers. Assumes nothing.
+use mathlib.Core.List.{List, [], _∷_, _++_}
+use mathlib.Core.Bool.{Bool, not, _||_}
+use Prim.Native.Nat.{ℕ, zero, suc, _+_, _*_, _/_, _%_}
+use lib.ListN.{getD, take, drop, length}
+use lib.Dec.{eqb, ltb}
+use Rattle.common.specs.Choice.{if_then_else_}
+use Rattle.common.specs.Numbers.{Row, row, given}
+use Rattle.file_block.specs.Block.{isLetter, blockRows, usedOf}
+use Rattle.file_codec.specs.Layout.{blockWritten}
+use Rattle.file_codec.specs.declared.Written.{Written}
+use Rattle.file_codec.specs.declared.Written.the-variants.{Wrote, NotWritten}
+use Rattle.file_codec.specs.declared.Judged.{Judged}
+use Rattle.file_codec.specs.declared.Judged.the-variants.{Sound, Unsound}
+use Rattle.file_codec.specs.declared.ReadBack.{ReadBack}
+use Rattle.file_codec.specs.declared.ReadBack.the-variants.{Gave, NotRead}
+
+-- the most blocks that a file has
+abbrev pub limit : ℕ
+limit = 8
+
+-- the blocks that a payload of so many bytes takes, 505 to a block
+abbrev pub countOf : ℕ → ℕ
+countOf size = (size + 504) / 505
+
+-- the blocks from number i of n on, with `left` of them to go and their payload
+abbrev pub blocksOf : ℕ → ℕ → ℕ → ℕ → List ℕ → List ℕ
+blocksOf zero ℓ i n p = []
+blocksOf (suc left) ℓ i n p = blockWritten ℓ i n (take 505 p) ++ blocksOf left ℓ (i + 1) n (drop 505 p)
+
+-- the load file of a payload under a letter
+abbrev pub fileOf : ℕ → List ℕ → List ℕ
+fileOf ℓ p = blocksOf (countOf (length p)) ℓ 0 (countOf (length p)) p
+
+-- an outcome: refused by a number, or the bytes that come of it
+pub data Outcome : Type 0 where
+  refused : ℕ → Outcome
+  made : List ℕ → Outcome
+
+-- the outcome of a table: 0 lets the bytes through
+abbrev pub outcomeBy : ℕ → List ℕ → Outcome
+outcomeBy n bytes = if eqb n 0 then made bytes else refused n
+
+-- what comes of it where there is room for so many bytes: 37 where they do not fit
+abbrev pub inRoom : ℕ → Outcome → Outcome
+inRoom room (refused n) = refused n
+inRoom room (made bytes) = if ltb room (length bytes) then refused 37 else made bytes
+
+-- what is left of a lent buffer: untouched by a refusal; else the bytes, and past them what was there
+abbrev pub leftIn : List ℕ → Outcome → List ℕ
+leftIn out (refused n) = out
+leftIn out (made bytes) = bytes ++ drop (length bytes) out
+
+-- 36: the payload is empty or takes more blocks than the limit
+unfoldable pub payloadWrong : ℕ → ℕ → Bool
+payloadWrong most size = eqb size 0 || ltb (505 * most) size
+
+-- the writer's refusals before room is asked for
+abbrev pub writeRows : ℕ → ℕ → List ℕ → List Row → List Row
+writeRows most ℓ p after = row 32 (not (isLetter ℓ)) ∷ row 36 (payloadWrong most (length p)) ∷ after
+
+-- what the writer makes of a payload under a letter, given room
+unfoldable pub writerOf : ℕ → ℕ → List ℕ → Outcome
+writerOf most ℓ p = outcomeBy (given (writeRows most ℓ p [])) (fileOf ℓ p)
+
+-- 30: the file is empty, longer than the limit of blocks, or no whole number of blocks
+unfoldable pub lengthWrong : ℕ → ℕ → Bool
+lengthWrong most size = (eqb size 0 || ltb (512 * most) size) || not (eqb (size % 512) 0)
+
+-- the refusals of the blocks from number i of n on, with `left` of them to go, block by block
+abbrev pub blocksRows : ℕ → ℕ → ℕ → ℕ → List ℕ → List Row → List Row
+blocksRows zero first i n f after = after
+blocksRows (suc left) first i n f after = blockRows first i n (take 512 f) (blocksRows left first (i + 1) n (drop 512 f) after)
+
+-- the payload of so many blocks: the used bytes of each
+abbrev pub payloadOf : ℕ → List ℕ → List ℕ
+payloadOf zero f = []
+payloadOf (suc left) f = take (usedOf (take 512 f)) (drop 5 (take 512 f)) ++ payloadOf left (drop 512 f)
+
+-- the payload places of so many blocks, used or not: bytes 5 to 509 of each
+abbrev pub placesOf : ℕ → List ℕ → List ℕ
+placesOf zero f = []
+placesOf (suc left) f = take 505 (drop 5 f) ++ placesOf left (drop 512 f)
+
+-- the blocks of a file, by its length
+abbrev pub blocksIn : List ℕ → ℕ
+blocksIn f = length f / 512
+
+-- the reader's refusals: 30, then 31 to 34 block by block, then 35, then what is asked after them
+abbrev pub readRows : ℕ → List ℕ → ℕ → List Row → List Row
+readRows most f asked after =
+    row 30 (lengthWrong most (length f))
+    ∷ blocksRows (blocksIn f) (getD f 0 0) 0 (blocksIn f) f (row 35 (not (eqb (getD f 0 0) asked)) ∷ after)
+
+-- what the reader makes of a file for the letter asked, given room
+unfoldable pub readerOf : ℕ → List ℕ → ℕ → Outcome
+readerOf most f asked = outcomeBy (given (readRows most f asked [])) (payloadOf (blocksIn f) f)
+
+-- the answers of the code for an outcome: the number of the refusal, or the bytes written, held, given back
+abbrev pub writtenAs : Outcome → Written
+writtenAs (refused n) = NotWritten n
+writtenAs (made bytes) = Wrote (length bytes)
+
+abbrev pub judgedAs : Outcome → Judged
+judgedAs (refused n) = Unsound n
+judgedAs (made bytes) = Sound (length bytes)
+
+abbrev pub readAs : Outcome → ReadBack
+readAs (refused n) = NotRead n
+readAs (made bytes) = Gave (length bytes)

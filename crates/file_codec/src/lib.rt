@@ -1,0 +1,213 @@
+// The load file: the writer, the reader and its judgement alone. Each public function takes any input.
+ghost use mathlib.Core.Path.{_≡_};
+ghost use mathlib.Core.List.{[], _++_};
+ghost use Prim.Native.Nat.{_+_, _-_, _*_, _<_, _≤_};
+ghost use lib.ListN.{length, getD, take, drop};
+ghost use Rattle.common.specs.Numbers.{given};
+ghost use Rattle.file_block.specs.Block.{usedOf};
+ghost use Rattle.file_codec.specs.Layout.{headOf, sealed, blockWritten};
+ghost use Rattle.file_codec.specs.File.{limit, countOf, blocksOf, payloadWrong, lengthWrong, blocksRows, placesOf, writerOf, readerOf, inRoom, leftIn, writtenAs, judgedAs, readAs};
+
+// The most blocks that a file has.
+const LIMIT: usize = 8;
+
+// The writer's answer: the bytes written, or the refusal.
+pub enum Written {
+    Wrote(usize),
+    NotWritten(u8),
+}
+
+// The judgement of a file: the bytes of its payload, or the refusal.
+pub enum Judged {
+    Sound(usize),
+    Unsound(u8),
+}
+
+// The reader's answer: the bytes given back, or the refusal.
+pub enum ReadBack {
+    Gave(usize),
+    NotRead(u8),
+}
+
+// The first refusal of n blocks, block by block: 31 to 34, or 0.
+fn blocks_fault(file: &[u8], n: usize) -> u8
+    requires { ⌜ length (now file) ≡ 512 * n ⌝ }
+    ensures { λ r. ⌜ r ≡ given (blocksRows n (getD (now (file .entry)) 0 0) 0 n (now (file .entry)) []) ⌝ }
+{
+    let first = common::nth(file, 0);
+    let mut i = 0;
+    while i < n {
+        let from = 512 * i;
+        let to = from + 512;
+        let found = file_block::block_fault(&file[from..to], first, i, n);
+        if found != 0 {
+            return found;
+        }
+        i += 1;
+    }
+    0
+}
+
+// 30: the file is empty, too long, or no whole number of blocks.
+fn length_wrong(size: usize) -> bool
+    ensures { λ r. ⌜ r ≡ lengthWrong limit size ⌝ }
+{
+    let none = size == 0;
+    let over = 512 * LIMIT < size;
+    let whole = size % 512 == 0;
+    none | over | !whole
+}
+
+// The payload bytes of n sound blocks: 505 of each but the last, which says its own.
+fn payload_size(file: &[u8], n: usize) -> usize
+    requires { ⌜ (0 < n) × (length (now file) ≡ 512 * n) ⌝ }
+    ensures { λ r. ⌜ r ≡ 505 * (n - 1) + usedOf (take 512 (drop (512 * (n - 1)) (now (file .entry)))) ⌝ }
+{
+    let whole = n - 1;
+    let from = 512 * whole;
+    let to = from + 512;
+    505 * whole + file_block::used(&file[from..to])
+}
+
+// The judgement of a file for the letter asked: 30, then 31 to 34 block by block, then 35, in one walk.
+pub fn judge(file: &[u8], asked: u8) -> Judged
+    ensures { λ r. ⌜ r ≡ judgedAs (readerOf limit (now (file .entry)) asked) ⌝ }
+{
+    let size = file.len();
+    if length_wrong(size) {
+        return Judged::Unsound(30);
+    }
+    let n = size / 512;
+    let fault = blocks_fault(file, n);
+    let first = common::nth(file, 0);
+    if fault != 0 {
+        return Judged::Unsound(fault);
+    }
+    if first != asked {
+        return Judged::Unsound(35);
+    }
+    Judged::Sound(payload_size(file, n))
+}
+
+// Out becomes the payload places of n blocks, one behind the other, as far as out goes.
+fn unpack(out: &mut [u8], file: &[u8], n: usize)
+    requires { ⌜ (length (now file) ≡ 512 * n) × (length (now out) ≤ 505 * n) × (505 * n < length (now out) + 505) ⌝ }
+    ensures { λ _. ⌜ now (out .exit) ≡ take (length (now (out .entry))) (placesOf n (now (file .entry))) ⌝ }
+{
+    let size = out.len();
+    let mut i = 0;
+    while i < n {
+        let to = 505 * i;
+        let end = common::least(to + 505, size);
+        let from = 512 * i + 5;
+        let stop = from + 505;
+        common::copy(&mut out[to..end], &file[from..stop]);
+        i += 1;
+    }
+}
+
+// The reader: the judgement, then 37, then the payload into the front of out.
+pub fn read(file: &[u8], asked: u8, out: &mut [u8]) -> ReadBack
+    ensures { λ r. ⌜ r ≡ readAs (inRoom (length (now (out .entry))) (readerOf limit (now (file .entry)) asked)) ⌝ }
+    ensures { λ _. ⌜ now (out .exit) ≡ leftIn (now (out .entry)) (inRoom (length (now (out .entry))) (readerOf limit (now (file .entry)) asked)) ⌝ }
+{
+    let verdict = judge(file, asked);
+    match verdict {
+        Judged::Unsound(number) => ReadBack::NotRead(number),
+        Judged::Sound(size) => {
+            if out.len() < size {
+                return ReadBack::NotRead(37);
+            }
+            let n = file.len() / 512;
+            unpack(&mut out[0..size], file, n);
+            ReadBack::Gave(size)
+        }
+    }
+}
+
+// The first five bytes of a block.
+fn put_head(out: &mut [u8], letter: u8, i: u8, n: u8, u: usize)
+    requires { ⌜ (5 ≤ length (now out)) × (u ≤ 505) ⌝ }
+    ensures { λ _. ⌜ now (out .exit) ≡ headOf letter i n u ++ drop 5 (now (out .entry)) ⌝ }
+{
+    out[0] = letter;
+    out[1] = i;
+    out[2] = n;
+    out[3] = (u / 256) as u8;
+    out[4] = (u % 256) as u8;
+}
+
+// The check over the first 510 bytes goes behind them.
+fn put_check(out: &mut [u8])
+    requires { ⌜ 512 ≤ length (now out) ⌝ }
+    ensures { λ _. ⌜ now (out .exit) ≡ sealed (take 510 (now (out .entry))) ++ drop 512 (now (out .entry)) ⌝ }
+{
+    let c = file_check::check(out);
+    out[510] = (c / 256) as u8;
+    out[511] = (c % 256) as u8;
+}
+
+// The front of out becomes block i of n with its part of the payload; what lies behind the block stays.
+fn put_block(out: &mut [u8], letter: u8, i: u8, n: u8, chunk: &[u8])
+    requires { ⌜ (512 ≤ length (now out)) × (length (now chunk) ≤ 505) ⌝ }
+    ensures { λ _. ⌜ now (out .exit) ≡ blockWritten letter i n (now (chunk .entry)) ++ drop 512 (now (out .entry)) ⌝ }
+{
+    let u = chunk.len();
+    let end = 5 + u;
+    put_head(out, letter, i, n, u);
+    common::copy(&mut out[5..end], chunk);
+    common::fill(&mut out[end..510], 255);
+    put_check(out);
+}
+
+// The front of out becomes the n blocks of a payload; what lies behind them stays.
+fn pack(out: &mut [u8], letter: u8, payload: &[u8], n: usize)
+    requires { ⌜ (512 * n ≤ length (now out)) × (length (now payload) ≤ 505 * n) × (505 * n < length (now payload) + 505) × (n < 256) ⌝ }
+    ensures { λ _. ⌜ now (out .exit) ≡ blocksOf n letter 0 n (now (payload .entry)) ++ drop (512 * n) (now (out .entry)) ⌝ }
+{
+    let mut i = 0;
+    while i < n {
+        let to = 512 * i;
+        let from = 505 * i;
+        let stop = common::least(from + 505, payload.len());
+        put_block(
+            &mut out[to..],
+            letter,
+            i as u8,
+            n as u8,
+            &payload[from..stop],
+        );
+        i += 1;
+    }
+}
+
+// 36: the payload is empty or takes too many blocks.
+fn payload_wrong(size: usize) -> bool
+    ensures { λ r. ⌜ r ≡ payloadWrong limit size ⌝ }
+{
+    let none = size == 0;
+    let over = 505 * LIMIT < size;
+    none | over
+}
+
+// The writer: 32, 36, 37, then the file into the front of out.
+pub fn write(letter: u8, payload: &[u8], out: &mut [u8]) -> Written
+    ensures { λ r. ⌜ r ≡ writtenAs (inRoom (length (now (out .entry))) (writerOf limit letter (now (payload .entry)))) ⌝ }
+    ensures { λ _. ⌜ now (out .exit) ≡ leftIn (now (out .entry)) (inRoom (length (now (out .entry))) (writerOf limit letter (now (payload .entry)))) ⌝ }
+{
+    let known = file_block::is_letter(letter);
+    if !known {
+        return Written::NotWritten(32);
+    }
+    let size = payload.len();
+    if payload_wrong(size) {
+        return Written::NotWritten(36);
+    }
+    let n = (size + 504) / 505;
+    let whole = 512 * n;
+    if out.len() < whole {
+        return Written::NotWritten(37);
+    }
+    pack(out, letter, payload, n);
+    Written::Wrote(whole)
+}

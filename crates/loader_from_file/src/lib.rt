@@ -1,0 +1,98 @@
+// A load from a file: the file is judged for the letter asked, and only then the flash block is loaded with it.
+use device::Device;
+use file_codec::Judged;
+use loader_run::Ran;
+use model_types::Pins;
+use model_types::State;
+ghost use mathlib.Core.Path.{_≡_};
+ghost use Prim.Native.Nat.{_≤_};
+ghost use lib.ListN.{length};
+ghost use Rattle.loader_from_file.specs.Loads.{fileNumber, wantedBy, loadNumber, loadedOf, bytesLoaded, wantedLoaded, scratchLoaded};
+
+// Refusals 30 to 35 of a file for the letter asked and a block of n bytes, or 0.
+fn file_number(file: &[u8], asked: u8, n: usize) -> u8
+    ensures { λ r. ⌜ r ≡ fileNumber (now (file .entry)) asked n ⌝ }
+{
+    if n < file.len() {
+        return 30;
+    }
+    let judged = file_codec::judge(file, asked);
+    match judged {
+        Judged::Sound(_) => 0,
+        Judged::Unsound(m) => m,
+    }
+}
+
+// Where the number is 0, wanted becomes the file, then FFH to its end.
+fn fill_wanted(number: u8, file: &[u8], wanted: &mut [u8])
+    requires { ⌜ (number ≡ 0 → length (now file) ≤ length (now wanted)) ⌝ }
+    ensures { λ _. ⌜ now (wanted .exit) ≡ wantedBy number (now (file .entry)) (now (wanted .entry)) ⌝ }
+{
+    if number != 0 {
+        return;
+    }
+    let n = file.len();
+    common::copy(wanted, file);
+    common::fill(&mut wanted[n..], 255)
+}
+
+// A run's number, then the file's.
+fn load_number(
+    d: Device,
+    s: State,
+    p: Pins,
+    block: u8,
+    array: usize,
+    wanted: usize,
+    scratch: usize,
+    file: &[u8],
+    asked: u8,
+) -> u8
+    ensures { λ r. ⌜ r ≡ loadNumber d s p block array wanted scratch (now (file .entry)) asked ⌝ }
+{
+    let n = loader_run::run_number(d, s, p, block, array, wanted, scratch);
+    if n == 0 {
+        return file_number(file, asked, wanted);
+    }
+    n
+}
+
+// A load of one block from a file.
+pub fn load(
+    d: Device,
+    s: State,
+    p: Pins,
+    block: u8,
+    array: &mut [u8],
+    wanted: &mut [u8],
+    scratch: &mut [u8],
+    file: &[u8],
+    asked: u8,
+) -> Ran
+    ensures { λ r. ⌜ r ≡ loadedOf d s p block (now (array .entry)) (now (wanted .entry)) (now (scratch .entry)) (now (file .entry)) asked ⌝ }
+    ensures { λ _. ⌜ now (array .exit) ≡ bytesLoaded d s p block (now (array .entry)) (now (wanted .entry)) (now (scratch .entry)) (now (file .entry)) asked ⌝ }
+    ensures { λ _. ⌜ now (wanted .exit) ≡ wantedLoaded d s p block (now (array .entry)) (now (wanted .entry)) (now (scratch .entry)) (now (file .entry)) asked ⌝ }
+    ensures { λ _. ⌜ now (scratch .exit) ≡ scratchLoaded d s p block (now (array .entry)) (now (wanted .entry)) (now (scratch .entry)) (now (file .entry)) asked ⌝ }
+{
+    let n = load_number(
+        d,
+        s,
+        p,
+        block,
+        array.len(),
+        wanted.len(),
+        scratch.len(),
+        file,
+        asked,
+    );
+    fill_wanted(n, file, wanted);
+    if n == 0 {
+        return loader_run::run(d, s, p, block, array, wanted, scratch);
+    }
+    Ran {
+        count: 0,
+        end: n,
+        address: 0,
+        state: s,
+    }
+}

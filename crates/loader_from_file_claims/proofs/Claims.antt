@@ -1,0 +1,38 @@
+-- What is claimed of a load from a file beyond its promise, in one place. Assumes nothing.
+use mathlib.Core.Path.{_≡_}
+use mathlib.Core.List.{List}
+use Prim.Native.Nat.{ℕ, _≤_, _<_}
+use lib.ListN.{length, getD, set}
+use Rattle.common.specs.Lists.{Bytes}
+use Rattle.common.specs.Numbers.{NoRow}
+use Rattle.device.specs.declared.Device.{Device}
+use Rattle.model_types.specs.declared.Pins.{Pins}
+use Rattle.model_types.specs.declared.State.{State}
+use Rattle.loader_run.specs.Runs.{runRows}
+use Rattle.file_codec.specs.File.{limit, refused, made, readerOf, writerOf}
+use Rattle.loader_from_file.specs.Loads.{loadNumber, loadRefused, loadLeft}
+use Rattle.loader_from_file_claims.specs.Through.{FileStart, FileLoaded}
+use Rattle.loader_from_file_claims.proofs.Through as through
+use Rattle.loader_from_file_claims.proofs.Kept as kept
+
+-- Demand 3 through a file: from a load that nothing refuses, with VPP in its 12 V band and RP# at unlock level for the boot block, it
+-- ends well in as many cycles as the formula says; the block, wanted and scratch then hold the file and FFH to their ends, and every
+-- byte outside the block is as before.
+pub file-loaded : (d : Device) (s : State) (p : Pins) (k : ℕ) (xs w sc f : List ℕ) (asked : ℕ) → FileStart d s p k xs w sc f asked → FileLoaded d s p k xs w sc f asked
+file-loaded = through.loaded
+
+-- A file that the reader refuses is never loaded, whatever else holds: no cycle is made, and state, array, wanted and scratch stay.
+pub refused-never : (d : Device) (s : State) (p : Pins) (k : ℕ) (xs w sc f : List ℕ) (asked : ℕ) (m : ℕ) → (m ≡ 0 → ⊥) → readerOf limit f asked ≡ refused m
+    → loadLeft d s p k xs w sc f asked ≡ loadRefused (loadNumber d s p k (length xs) (length w) (length sc) f asked) s xs w sc
+refused-never = kept.never
+
+-- A written file asked for under another letter makes no cycle and leaves all that was lent: 35, where no run's test refuses and it fits.
+pub other-letter-35 : (d : Device) (s : State) (p : Pins) (k : ℕ) (xs w sc : List ℕ) (ℓ : ℕ) (payload f : List ℕ) → writerOf limit ℓ payload ≡ made f → (asked : ℕ) → (ℓ ≡ asked → ⊥)
+    → NoRow (runRows d s p k (length xs) (length w) (length sc)) → length f ≤ length w → loadLeft d s p k xs w sc f asked ≡ loadRefused 35 s xs w sc
+other-letter-35 = kept.other-letter-35
+
+-- A written file with one byte changed to another byte, whatever letter is asked: the same, 31.
+pub changed-byte-31 : (d : Device) (s : State) (p : Pins) (k : ℕ) (xs w sc : List ℕ) (ℓ : ℕ) (payload f : List ℕ) → writerOf limit ℓ payload ≡ made f → (asked : ℕ) → Bytes payload
+    → (i v : ℕ) → i < length f → v < 256 → (v ≡ getD f i 0 → ⊥) → NoRow (runRows d s p k (length xs) (length w) (length sc)) → length f ≤ length w
+    → loadLeft d s p k xs w sc (set f i v) asked ≡ loadRefused 31 s xs w sc
+changed-byte-31 = kept.changed-byte-31

@@ -1,0 +1,80 @@
+use mathlib.Core.Path.{_≡_, ap, _∙_}
+use mathlib.Core.List.{[]}
+use Rattle.model_types.specs.declared.Cycle.{Cycle}
+use Rattle.loader_steps.specs.Outs.{firstAddress, hereOf, cycleAtStage, cycleOf}
+use Rattle.model.specs.declared.Answer.{Answer}
+use lib.ListN.{length}
+use Rattle.model_rules.specs.Cycles.{judgeOf}
+use Rattle.model.specs.Arrays.{answerOf}
+use Rattle.model.specs.Inner.{answerJudged, arrayJudged}
+use Rattle.model.proofs.Passing.{judged-answer, judged-array}
+use Rattle.loader_run.specs.Turns.{loaderBy, scratchBy, answerTo, arrayTo}
+use borrow.Author.Needs.{needs}
+use Rattle.loader_run.proofs.both.Statement.{statement}
+use Rattle.loader_run.proofs.both.Tie as tie
+
+here-requires : tie.Need-here-requires
+here-requires c κs = c .before .before .before .before .before .pre .0
+
+cycle-in-requires : tie.Need-cycle-in-requires
+cycle-in-requires c κs = search needs
+
+sub-after-judging : tie.Need-sub-after-judging
+sub-after-judging c = search needs
+
+part-after-judging-start : tie.Need-part-after-judging-start
+part-after-judging-start c = search needs
+
+part-after-judging-end : tie.Need-part-after-judging-end
+part-after-judging-end c = search needs
+
+after-judging-requires : tie.Need-after-judging-requires
+after-judging-requires c κs = search needs
+
+taken-requires : tie.Need-taken-requires
+taken-requires c κs = search needs
+
+same-length : tie.Need-same-length
+same-length c = search needs
+
+same-length-2 : tie.Need-same-length-2
+same-length-2 c = search needs
+
+returns : tie.Need-returns
+unfolding answerTo arrayTo
+returns c =
+    let a = c .before .before .before .before .before .before .before .before .before .before .before .before .before .before .before .before .before .args in
+    let l = a .h .loader in
+    let s = a .h .state in
+    let w = a .wanted .now in
+    let sc = a .scratch .now in
+    let xs = a .array .now in
+    let f : a .start ≡ firstAddress l = c .before .before .before .before .before .before .before .before .before .before .before .before .before .before .before .before .before .pre .0 in
+    let z : judgeOf (a .d) s (cycleOf l w) (length xs) 0 ≡ 0 = c .before .before .before .before .before .before .before .before .before .before .before .before .before .before .before .before .before .pre .1 in
+    let q : c .before .before .before .before .before .before .before .before .before .before .before .here .result ≡ hereOf l = c .before .before .before .before .before .before .before .before .before .before .before .here .ensures in
+    let o : c .before .before .before .before .before .before .before .before .before .before .cycle-in .result ≡ cycleOf l w = c .before .before .before .before .before .before .before .before .before .before .cycle-in .ensures ∙ (λ i. cycleAtStage (l .stage) (f i) (q i) l w) in
+    let x : c .before .before .before .before .before .before .before .after-judging .result ≡ answerOf (a .d) s (cycleOf l w) xs [] = c .before .before .before .before .before .before .before .after-judging .ensures .0 ∙ ap (λ (k : Cycle). answerJudged (a .d) s k xs []) o ∙ judged-answer (a .d) s (cycleOf l w) xs [] z in (
+      c .before .before .taken .ensures .0 ∙ ap (λ (y : Answer). loaderBy (y .seen) l w sc) x,
+      (
+        ap (λ (y : Answer). y .state) x,
+        (
+          c .before .before .taken .ensures .1 ∙ ap (λ (y : Answer). scratchBy (y .seen) l sc) x,
+          c .before .before .before .before .before .before .before .after-judging .ensures .1 ∙ ap (λ (k : Cycle). arrayJudged (a .d) s k xs []) o ∙ judged-array (a .d) s (cycleOf l w) xs [] z,
+        ),
+      ),
+    )
+
+pub both-spec : {M : Type 1} → statement M
+both-spec =
+    tie.close
+    (tie.spec
+    here-requires
+    cycle-in-requires
+    sub-after-judging
+    part-after-judging-start
+    part-after-judging-end
+    after-judging-requires
+    taken-requires
+    same-length
+    same-length-2
+    returns)

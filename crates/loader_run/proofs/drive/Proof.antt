@@ -1,0 +1,111 @@
+-- `run::drive` meets its contract: what is left of the bound leads to the same end, and the cycles to go fall. Assumes nothing.
+use mathlib.Core.Path.{_≡_, refl, sym, ap, _∙_, subst}
+use Prim.Native.Nat.{ℕ, _-_, _≤_}
+use native.Mathlib.Omega.{arith}
+use borrow.Author.Needs.{needs}
+use borrow.Author.Tests.{not-true, not-false}
+use lib.ListN.{length}
+use Rattle.loader_run.specs.Turns.{Config, answerTo}
+use Rattle.loader.specs.Stages.{isEnded, endBy}
+use Rattle.loader_run.specs.Runs.{driven, begin, ranBy}
+use Rattle.loader.specs.declared.StageEnd.{StageEnd}
+use Rattle.loader_steps.specs.Outs.{firstAddress}
+use Rattle.loader_steps.specs.Front.{endAddress}
+use Rattle.loader_run.proofs.Measure.{remains}
+use Rattle.loader.specs.declared.Loader.{Loader}
+use Rattle.loader_run.proofs.Good.{short}
+use Rattle.loader_run.proofs.Sound.{Sound, sound-start, sound-judged, sound-next}
+use Rattle.loader_run.proofs.Turning.{conf, Keeps, keeps-start, keeps-turn, keeps-less, keeps-end, first-stays}
+use Rattle.loader_run.proofs.drive.Statement.{statement}
+use Rattle.loader_run.proofs.drive.Tie as tie
+
+abbrev Inv-loop : tie.InvT-loop
+Inv-loop d wanted scratch₀ array₀ start moving₀ state₀ count₀ scratch array moving state count =
+    Keeps d wanted (driven d wanted (conf moving₀ state₀ array₀ scratch₀ 0)) (conf moving state array scratch count)
+    × (length scratch ≡ length scratch₀)
+    × (length array ≡ length array₀)
+    × (length wanted ≤ 131072)
+    × (start ≡ firstAddress moving)
+    × Sound d wanted moving state (length array)
+
+abbrev μ-loop : tie.MeasureT-loop
+μ-loop d wanted scratch₀ array₀ start moving₀ state₀ count₀ scratch array moving state count = remains moving (length wanted)
+
+first-requires : tie.Need-first-requires Inv-loop μ-loop
+first-requires c κs = search needs
+
+loop-holds : tie.Need-loop-holds Inv-loop μ-loop
+loop-holds c =
+    let a = c .before .before .before .before .args in
+    let z = c .before .before .before .before .pre .0 in (
+      keeps-start (a .d) (a .wanted .now) (a .l) (a .s) (a .array .now) (a .scratch .now),
+      refl,
+      refl,
+      short (a .d) (a .s) (a .l .pins) (a .l .block) (length (a .array .now)) (length (a .wanted .now)) (length (a .scratch .now)) z,
+      c .first .ensures,
+      subst (λ (l : Loader). Sound (a .d) (a .wanted .now) l (a .s) (length (a .array .now))) (sym (c .before .before .before .before .pre .1))
+          (sound-start (a .d) (a .s) (a .l .pins) (a .l .block) (a .array .now) (a .wanted .now) (a .scratch .now) z),
+    )
+
+going-requires : tie.Need-going-requires Inv-loop μ-loop
+going-requires c κs = search needs
+
+both-requires : tie.Need-both-requires Inv-loop μ-loop
+both-requires c κs =
+    let a = c .before .before .before .before .before .before .before .before .before .args in
+    let l = c .before .before .before .before .loop in
+    let g = not-true (isEnded (l .moving .stage)) (sym (c .before .before .before .going .ensures) ∙ c .before .before .if1 .taken) in
+    (l .inv .4, sound-judged (a .d) (a .wanted .now) (l .moving) (l .state) (length (l .array)) (l .inv .5) g)
+
+add-count : tie.Need-add-count Inv-loop μ-loop
+add-count c = record { fits = omega (arith, c .before .before .before .before .before .before .before .before .before .before .before .loop .inv .0 .enough, c .before .before .before .before .before .before .before .before .before .before .before .loop .inv .3) }
+
+loop-less : tie.Need-loop-less Inv-loop μ-loop
+loop-less c =
+    let a = c .before .before .before .before .before .before .before .before .before .before .before .before .before .before .before .before .args in
+    let l = c .before .before .before .before .before .before .before .before .before .before .before .loop in
+    keeps-less (answerTo (a .d) (a .wanted .now) (l .moving) (l .state) (l .array) .seen) (l .moving) (a .wanted .now) (l .scratch) (c .before .before .before .before .before .before .both .result .loader)
+    (not-true (isEnded (l .moving .stage)) (sym (c .before .before .before .before .before .before .before .before .before .before .going .ensures) ∙ c .before .before .before .before .before .before .before .before .before .if1 .taken)) (c .before .before .before .before .before .before .both .ensures .0)
+
+loop-again : tie.Need-loop-again Inv-loop μ-loop
+loop-again c =
+    let a = c .before .before .before .before .before .before .before .before .before .before .before .before .before .before .before .before .args in
+    let l = c .before .before .before .before .before .before .before .before .before .before .before .loop in
+    let g = not-true (isEnded (l .moving .stage)) (sym (c .before .before .before .before .before .before .before .before .before .before .going .ensures) ∙ c .before .before .before .before .before .before .before .before .before .if1 .taken) in
+    let b = c .before .before .before .before .before .before .both in (
+      keeps-turn (a .d) (a .wanted .now) _ (l .moving) (l .state) (l .array) (l .scratch) (l .count) (l .inv .0) g (b .result .loader) (b .result .state) (b .last .1 .1 .1 .1 .1 .0) (b .last .1 .1 .1 .1 .0)
+          (b .ensures .0) (b .ensures .1 .0) (b .ensures .1 .1 .0) (b .ensures .1 .1 .1),
+      b .kept .1 .1 .1 .1 .0 ∙ l .inv .1,
+      b .kept .1 .1 .1 .1 .1 .0 ∙ l .inv .2,
+      l .inv .3,
+      l .inv .4 ∙ sym (first-stays (answerTo (a .d) (a .wanted .now) (l .moving) (l .state) (l .array) .seen) (l .moving) (a .wanted .now) (l .scratch)) ∙ sym (ap firstAddress (b .ensures .0)),
+      sound-next (a .d) (a .wanted .now) (l .scratch) (l .array) (l .moving) (l .state) (l .inv .5) g (b .result .loader) (b .result .state) (b .last .1 .1 .1 .1 .1 .0)
+          (b .ensures .0) (b .ensures .1 .0) (b .ensures .1 .1 .1),
+    )
+
+stage-end-requires : tie.Need-stage-end-requires Inv-loop μ-loop
+stage-end-requires c κs = search needs
+
+end-address-requires : tie.Need-end-address-requires Inv-loop μ-loop
+end-address-requires c κs = search needs
+
+same-length : tie.Need-same-length Inv-loop μ-loop
+same-length c = c .before .before .before .before .loop .inv .1
+
+same-length-2 : tie.Need-same-length-2 Inv-loop μ-loop
+same-length-2 c = c .before .before .before .before .loop .inv .2
+
+returns : tie.Need-returns Inv-loop μ-loop
+returns c =
+    let a = c .before .before .before .before .before .before .before .before .before .args in
+    let l = c .before .before .before .before .loop in
+    let e : conf (l .moving) (l .state) (l .array) (l .scratch) (l .count) ≡ driven (a .d) (a .wanted .now) (begin (a .d) (a .s) (a .l) (a .array .now) (a .scratch .now)) =
+    keeps-end (a .d) (a .wanted .now) _ _ (l .inv .0) (not-false (isEnded (l .moving .stage)) (sym (c .before .before .before .going .ensures) ∙ c .before .before .if1 .left)) in
+    let n : c .before .stage-end .result .end ≡ endBy (l .moving .stage) = ap (λ (x : StageEnd). x .end) (c .before .stage-end .ensures) in
+    let m : c .end-address .result ≡ endAddress (l .moving) (endBy (l .moving .stage)) = c .end-address .ensures ∙ ap (λ (k : ℕ). endAddress (l .moving) k) n in
+    ((λ i. record { count = l .count; end = n i; address = m i; state = l .state }) ∙ ap ranBy e, (ap (λ (x : Config). x .scratch) e, ap (λ (x : Config). x .bytes) e))
+
+pub drive-spec : {M : Type 1} → statement M
+drive-spec =
+    tie.close
+    (tie.spec Inv-loop μ-loop first-requires loop-holds going-requires both-requires add-count loop-less loop-again stage-end-requires end-address-requires same-length same-length-2 returns)

@@ -1,0 +1,26 @@
+use mathlib.Core.Path.{ap, _∙_}
+use mathlib.Core.List.{List}
+use Prim.Native.Nat.{ℕ}
+use Rattle.loader.specs.Moves.{erasePolled}
+use borrow.Author.Needs.{needs}
+use Rattle.loader_run.proofs.taking.take_erase.Statement.{statement}
+use Rattle.loader_run.proofs.taking.take_erase.Tie as tie
+
+store-erase-requires : tie.Need-store-erase-requires
+store-erase-requires c κs = search needs
+
+erase-polled-requires : tie.Need-erase-polled-requires
+erase-polled-requires c κs = search needs
+
+same-length : tie.Need-same-length
+same-length c = search needs
+
+returns : tie.Need-returns
+returns c =
+    let a = c .before .before .before .before .before .before .before .before .before .args in
+    let e = c .before .before .before .before .store-erase .ensures in
+    (c .erase-polled .ensures ∙ ap (λ (z : List ℕ). erasePolled (a .l) (a .b) (a .wanted .now) z) e, e)
+
+pub take-erase-spec : {M : Type 1} → statement M
+take-erase-spec =
+    tie.close (tie.spec store-erase-requires erase-polled-requires same-length returns)

@@ -1,0 +1,81 @@
+-- A run: its tests, its beginning and what it returns. Assumes nothing.
+use mathlib.Core.Bool.{not}
+use mathlib.Core.List.{List, [], _∷_, _++_}
+use Prim.Native.Nat.{ℕ}
+use lib.ListN.{length}
+use lib.Dec.{eqb}
+use Rattle.common.specs.Choice.{if_then_else_}
+use Rattle.common.specs.Numbers.{Row, row, given}
+use Rattle.device.specs.declared.Device.{Device}
+use Rattle.device.specs.Parts.{unknownDevice, sizeOf}
+use Rattle.model_types.specs.declared.Pins.{Pins}
+use Rattle.model_types.specs.declared.State.{State}
+use Rattle.model_types.specs.Phases.{underWay}
+use Rattle.model_types.specs.States.{improper}
+use Rattle.loader.specs.declared.Stage.the-variants.{Clearing}
+use Rattle.loader.specs.declared.Loader.{Loader}
+use Rattle.loader.specs.Stages.{endBy}
+use Rattle.loader_steps.specs.Front.{setupRows, recordAt, endAddress}
+use Rattle.loader_run.specs.declared.Ran.{Ran}
+use Rattle.loader_run.specs.Turns.{Config, after, bound}
+
+-- the tests of a run, in their order; 12 is something awaited, running or suspended
+abbrev pub runRows : Device → State → Pins → ℕ → ℕ → ℕ → ℕ → List Row
+runRows d s p k array w sc =
+    row 1 (unknownDevice d)
+    ∷ row 2 (not (eqb array (sizeOf (d .part))))
+    ∷ row 3 (improper d s)
+    ∷ (setupRows (d .part) p k w sc ++ (row 12 (underWay (s .phase)) ∷ []))
+
+unfoldable pub runNumber : Device → State → Pins → ℕ → ℕ → ℕ → ℕ → ℕ
+runNumber d s p k array w sc = given (runRows d s p k array w sc)
+
+-- the beginning of a load
+abbrev pub begin : Device → State → Loader → List ℕ → List ℕ → Config
+begin d s l xs sc = record { loader = l; state = s; bytes = xs; scratch = sc; count = 0 }
+
+-- .. of a load of block k
+abbrev pub beginning : Device → State → Pins → ℕ → List ℕ → List ℕ → Config
+beginning d s p k xs sc = begin d s (recordAt (d .part) p k Clearing) xs sc
+
+-- what is returned of a load under way
+abbrev pub ranBy : Config → Ran
+ranBy c = record { count = c .count; end = endBy (c .loader .stage); address = endAddress (c .loader) (endBy (c .loader .stage)); state = c .state }
+
+-- the load made to its end
+unfoldable pub driven : Device → List ℕ → Config → Config
+driven d w c = after (bound (length w)) d w c
+
+-- a whole run, as it is left
+unfoldable pub leftBy : Device → State → Pins → ℕ → List ℕ → List ℕ → List ℕ → Config
+leftBy d s p k xs w sc = driven d w (beginning d s p k xs sc)
+
+-- what a run returns and leaves: its result, the array and scratch
+pub record RunLeft : Type 0 where
+  pub ran : Ran
+  pub bytes : List ℕ
+  pub scratch : List ℕ
+
+-- .. of a load that was made
+abbrev pub runMade : Config → RunLeft
+runMade c = record { ran = ranBy c; bytes = c .bytes; scratch = c .scratch }
+
+-- .. of a run that is refused: no cycle is counted and nothing is touched
+abbrev pub runRefused : ℕ → State → List ℕ → List ℕ → RunLeft
+runRefused n s xs sc = record { ran = record { count = 0; end = n; address = 0; state = s }; bytes = xs; scratch = sc }
+
+-- a run: refused by its number, or the load made to its end
+unfoldable pub runLeft : Device → State → Pins → ℕ → List ℕ → List ℕ → List ℕ → RunLeft
+runLeft d s p k xs w sc =
+    if eqb (runNumber d s p k (length xs) (length w) (length sc)) 0 then runMade (leftBy d s p k xs w sc)
+    else runRefused (runNumber d s p k (length xs) (length w) (length sc)) s xs sc
+
+-- its three parts
+abbrev pub ranOf : Device → State → Pins → ℕ → List ℕ → List ℕ → List ℕ → Ran
+ranOf d s p k xs w sc = runLeft d s p k xs w sc .ran
+
+abbrev pub bytesOf : Device → State → Pins → ℕ → List ℕ → List ℕ → List ℕ → List ℕ
+bytesOf d s p k xs w sc = runLeft d s p k xs w sc .bytes
+
+abbrev pub scratchOf : Device → State → Pins → ℕ → List ℕ → List ℕ → List ℕ → List ℕ
+scratchOf d s p k xs w sc = runLeft d s p k xs w sc .scratch

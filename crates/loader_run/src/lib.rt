@@ -1,0 +1,239 @@
+// The loader run against the model: the cycles are made one after the other until the load ends, and counted.
+mod taking;
+
+use crate::taking::take;
+use device::Device;
+use device::Part;
+use loader::Loader;
+use loader::Stage;
+use loader::moves::ended_by;
+use loader::stages::stage_end;
+use loader_steps::front::end_address;
+use loader_steps::front::record_at;
+use loader_steps::front::setup_number;
+use loader_steps::outs::cycle_in;
+use loader_steps::outs::first;
+use model::Seen;
+use model_types::Phase;
+use model_types::Pins;
+use model_types::State;
+ghost use mathlib.Core.Path.{_≡_};
+ghost use mathlib.Core.Bool.{not};
+ghost use lib.ListN.{length};
+ghost use lib.Dec.{eqb};
+ghost use Rattle.device.specs.Parts.{sizeOf};
+ghost use Rattle.model_rules.specs.Cycles.{judgeOf};
+ghost use Rattle.loader.specs.declared.Stage.the-variants.{Clearing};
+ghost use Rattle.loader.specs.Stages.{isEnded};
+ghost use Rattle.loader_steps.specs.Outs.{firstAddress, hereOf, cycleOf};
+ghost use Rattle.loader_steps.specs.Front.{recordAt};
+ghost use Rattle.loader_run.specs.Turns.{isRefused, numberIn, loaderBy, scratchBy, answerTo, arrayTo};
+ghost use Rattle.loader_run.specs.Runs.{runNumber, begin, ranBy, driven, ranOf, bytesOf, scratchOf};
+ghost use Rattle.model_types.specs.Phases.{underWay};
+
+// What a run returns: the cycles made, the number of the end (0 well), for 25 the array address, and the device's state.
+pub struct Ran {
+    pub count: u64,
+    pub end: u8,
+    pub address: u32,
+    pub state: State,
+}
+
+// The loader's record and the device's state, between two cycles.
+pub struct Held {
+    pub loader: Loader,
+    pub state: State,
+}
+
+fn is_refused(seen: Seen) -> bool
+    ensures { λ r. ⌜ r ≡ isRefused seen ⌝ }
+{
+    match seen {
+        Seen::NoData => false,
+        Seen::Byte(_) => false,
+        Seen::Refused(_) => true,
+    }
+}
+
+fn number_in(seen: Seen) -> u8
+    ensures { λ r. ⌜ r ≡ numberIn seen ⌝ }
+{
+    match seen {
+        Seen::NoData => 0,
+        Seen::Byte(b) => b,
+        Seen::Refused(n) => n,
+    }
+}
+
+// The loader takes what the model answered.
+fn taken(seen: Seen, l: Loader, wanted: &[u8], scratch: &mut [u8]) -> Loader
+    ensures { λ r. ⌜ r ≡ loaderBy seen l (now (wanted .entry)) (now (scratch .entry)) ⌝ }
+    ensures { λ _. ⌜ now (scratch .exit) ≡ scratchBy seen l (now (scratch .entry)) ⌝ }
+{
+    let n = number_in(seen);
+    if is_refused(seen) {
+        return ended_by(l, n);
+    }
+    take(l, n, wanted, scratch)
+}
+
+// The address of the byte at the record's place, by the block's first address.
+fn here(start: u32, l: Loader) -> u32
+    requires { ⌜ start ≡ firstAddress l ⌝ }
+    ensures { λ r. ⌜ r ≡ hereOf l ⌝ }
+{
+    if l.place < 16777216 {
+        return start + l.place as u32;
+    }
+    start
+}
+
+// One cycle made, by the block's first address. Refusals 1 to 6 do not apply to it.
+fn both(d: Device, start: u32, h: Held, wanted: &[u8], scratch: &mut [u8], array: &mut [u8]) -> Held
+    requires { ⌜ (start ≡ firstAddress (h .loader)) × (judgeOf d (h .state) (cycleOf (h .loader) (now wanted)) (length (now array)) 0 ≡ 0) ⌝ }
+    ensures { λ r. ⌜ r .loader
+        ≡ loaderBy (answerTo d (now (wanted .entry)) (h .loader) (h .state) (now (array .entry)) .seen) (h .loader) (now (wanted .entry)) (now (scratch .entry)) ⌝ }
+    ensures { λ r. ⌜ r .state ≡ answerTo d (now (wanted .entry)) (h .loader) (h .state) (now (array .entry)) .state ⌝ }
+    ensures { λ _. ⌜ now (scratch .exit)
+        ≡ scratchBy (answerTo d (now (wanted .entry)) (h .loader) (h .state) (now (array .entry)) .seen) (h .loader) (now (scratch .entry)) ⌝ }
+    ensures { λ _. ⌜ now (array .exit) ≡ arrayTo d (now (wanted .entry)) (h .loader) (h .state) (now (array .entry)) ⌝ }
+{
+    let l = h.loader;
+    let s = h.state;
+    let stage = l.stage;
+    let c = cycle_in(stage, start, here(start, l), l, wanted);
+    let a = model::after_judging(d, s, c, array, &wanted[0..0]);
+    let seen = a.seen;
+    let state = a.state;
+    Held {
+        loader: taken(seen, l, wanted, scratch),
+        state: state,
+    }
+}
+
+fn going(l: Loader) -> bool
+    ensures { λ r. ⌜ r ≡ not (isEnded (l .stage)) ⌝ }
+{
+    let stage = l.stage;
+    let e = stage_end(stage);
+    !e.ended
+}
+
+// The load made to its end, from a beginning that nothing refuses.
+fn drive(d: Device, s: State, l: Loader, wanted: &[u8], scratch: &mut [u8], array: &mut [u8]) -> Ran
+    requires { ⌜ (runNumber d s (l .pins) (l .block) (length (now array)) (length (now wanted)) (length (now scratch)) ≡ 0)
+        × (l ≡ recordAt (d .part) (l .pins) (l .block) Clearing) ⌝ }
+    ensures { λ r. ⌜ r ≡ ranBy (driven d (now (wanted .entry)) (begin d s l (now (array .entry)) (now (scratch .entry)))) ⌝ }
+    ensures { λ _. ⌜ now (scratch .exit) ≡ driven d (now (wanted .entry)) (begin d s l (now (array .entry)) (now (scratch .entry))) .scratch ⌝ }
+    ensures { λ _. ⌜ now (array .exit) ≡ driven d (now (wanted .entry)) (begin d s l (now (array .entry)) (now (scratch .entry))) .bytes ⌝ }
+{
+    let start = first(l);
+    let mut moving = l;
+    let mut state = s;
+    let mut count: u64 = 0;
+    while going(moving) {
+        let h = both(
+            d,
+            start,
+            Held {
+                loader: moving,
+                state: state,
+            },
+            wanted,
+            scratch,
+            array,
+        );
+        moving = h.loader;
+        state = h.state;
+        count += 1;
+    }
+    let stage = moving.stage;
+    let e = stage_end(stage);
+    let end = e.end;
+    Ran {
+        count: count,
+        end: end,
+        address: end_address(moving, end),
+        state: state,
+    }
+}
+
+fn under_way(ph: Phase) -> bool
+    ensures { λ r. ⌜ r ≡ underWay ph ⌝ }
+{
+    match ph {
+        Phase::Free => false,
+        Phase::EraseAwaited => true,
+        Phase::DataAwaited => true,
+        Phase::Programming(_) => true,
+        Phase::Erasing => true,
+        Phase::Suspended => true,
+    }
+}
+
+fn wrong_array(part: Part, array: usize) -> bool
+    ensures { λ r. ⌜ r ≡ not (eqb array (sizeOf part)) ⌝ }
+{
+    !(array == device::size(part))
+}
+
+// Refusals 1 to 4 and 10 to 12, the first in that order, or 0.
+pub fn run_number(
+    d: Device,
+    s: State,
+    p: Pins,
+    block: u8,
+    array: usize,
+    wanted: usize,
+    scratch: usize,
+) -> u8
+    ensures { λ r. ⌜ r ≡ runNumber d s p block array wanted scratch ⌝ }
+{
+    let part = d.part;
+    let ph = s.phase;
+    if device::unknown_device(d) {
+        return 1;
+    }
+    if wrong_array(part, array) {
+        return 2;
+    }
+    if model_types::states::improper(d, s) {
+        return 3;
+    }
+    let n = setup_number(part, p, block, wanted, scratch);
+    if n != 0 {
+        return n;
+    }
+    if under_way(ph) {
+        return 12;
+    }
+    0
+}
+
+// A load of one block, against the model.
+pub fn run(
+    d: Device,
+    s: State,
+    p: Pins,
+    block: u8,
+    array: &mut [u8],
+    wanted: &[u8],
+    scratch: &mut [u8],
+) -> Ran
+    ensures { λ r. ⌜ r ≡ ranOf d s p block (now (array .entry)) (now (wanted .entry)) (now (scratch .entry)) ⌝ }
+    ensures { λ _. ⌜ now (array .exit) ≡ bytesOf d s p block (now (array .entry)) (now (wanted .entry)) (now (scratch .entry)) ⌝ }
+    ensures { λ _. ⌜ now (scratch .exit) ≡ scratchOf d s p block (now (array .entry)) (now (wanted .entry)) (now (scratch .entry)) ⌝ }
+{
+    let n = run_number(d, s, p, block, array.len(), wanted.len(), scratch.len());
+    if n == 0 {
+        let part = d.part;
+        let l = record_at(part, p, block, Stage::Clearing);
+        return drive(d, s, l, wanted, scratch, array);
+    }
+    Ran {
+        count: 0,
+        end: n,
+        address: 0,
+        state: s,
+    }
+}

@@ -1,0 +1,238 @@
+-- Demand 3 and least wear in the mission's own words: what a run returns and leaves, how much it wears, and that nothing wears
+-- less. Assumes nothing.
+use mathlib.Core.Path.{_≡_, refl, sym, ap, _∙_, subst}
+use mathlib.Core.Bool.{Bool, true, false}
+use mathlib.Core.List.{List, [], _∷_}
+use Prim.Native.Nat.{ℕ, zero, suc, _+_, _-_, _*_, _≤_, _<_}
+use native.Mathlib.Nat.{zero-mul, one-mul, add-mul, zero-add}
+use native.Mathlib.Omega.{arith}
+use lib.ListN.{length, getD, take, drop}
+use lib.Seq.{take-at, drop-at, length-take-le}
+use lib.Dec.{eqb, ltb}
+use borrow.Author.Tests.{eq-eqb, le-ltb, lt-ltb, ltb-true, ltb-false}
+use Rattle.model_types.specs.Cells.{Cells}
+use Rattle.common.specs.Choice.{if_then_else_}
+use Rattle.common.specs.Lists.{overlaid}
+use Rattle.common.proofs.Bytes.{overlaid-before, overlaid-after}
+use Rattle.device.specs.declared.Part.{Part}
+use Rattle.device.specs.declared.Device.{Device}
+use Rattle.device.specs.Parts.{startOf, blockOf}
+use Rattle.device.proofs.Claims.{blocks-end-inside}
+use Rattle.model_types.specs.declared.Pins.{Pins}
+use Rattle.model_types.specs.declared.Cycle.{Cycle}
+use Rattle.model_types.specs.declared.Mode.the-variants.{Array}
+use Rattle.model_types.specs.declared.State.{State}
+use Rattle.model_types.specs.declared.Effect.{Effect}
+use Rattle.model_types.specs.declared.Effect.the-variants.{Nothing, Program, Erase}
+use Rattle.model_types.specs.States.{atRest}
+use Rattle.model_types.proofs.Bands.{not-low}
+use Rattle.loader_steps.specs.Front.{endAddress}
+use Rattle.loader.specs.Walks.{risesIn}
+use Rattle.loader_run.specs.declared.Ran.{Ran}
+use Rattle.loader_run.specs.Turns.{bound}
+use Rattle.loader_run.specs.Runs.{beginning, driven, leftBy, ranOf, bytesOf, scratchOf}
+use Rattle.loader_run_claims.specs.Wear.{begunByLoad, heldIn, heldBy, baseOf, erasesOf, programsIn, programsOf, differing, formula, operationsOf}
+use Rattle.model_history.specs.History.{Bus, World, worldOf, worldAfter, effectsIn, begunOver, uncut, totalOf, eraseOf, programIn, programOf, erasesBegun, programsBegun}
+use Rattle.loader_run.proofs.Good.{good}
+use Rattle.loader_run_claims.specs.Made.{cyclesOfLoad, smoothLoad, cyclesOf, readsThen, pollsThen, openingThen, eraseThen, programThen, programsThen, closingOf, programmingOf}
+use Rattle.loader_run_claims.specs.Mission.{Start, Brings, ownCycles, NoFewer, Demand3}
+use Rattle.loader_run_claims.proofs.Demand.{Left, goal, good-load, ran-left, bytes-left, scratch-left}
+use Rattle.loader_run_claims.proofs.Starts.{none-refuses}
+use Rattle.model_history.proofs.Wearing.{lies}
+use Rattle.loader_run_claims.proofs.Least.{least}
+use Rattle.loader_run_claims.proofs.Own.{noted-total, deviceIn}
+
+-- the programs of a load are counted, all in the block, and none of them is an erase
+programs-counted : (j i a n b : ℕ) (w s : List ℕ) → a ≤ b + i → b + i + j ≤ a + n → totalOf (programIn a n) (programsOf j b i w s) ≡ differing j i w s
+programs-counted zero i a n b w s lo hi = refl
+programs-counted (suc j) i a n b w s lo hi = go (eqb (getD s i 0) (getD w i 0)) (programs-counted j (i + 1) a n b w s (omega arith) (omega arith))
+  where
+    go : (t : Bool) → totalOf (programIn a n) (programsOf j b (i + 1) w s) ≡ differing j (i + 1) w s
+        → totalOf (programIn a n) (if t then programsOf j b (i + 1) w s else Program (b + i) (getD w i 0) ∷ programsOf j b (i + 1) w s) ≡ (if t then 0 else 1) + differing j (i + 1) w s
+    go true e = omega arith
+    go false e = rw (le-ltb (b + i) a lo, lt-ltb (b + i) (a + n) (omega arith)) (omega arith)
+
+no-erase : (j i k b : ℕ) (w s : List ℕ) → totalOf (eraseOf k) (programsOf j b i w s) ≡ 0
+no-erase zero i k b w s = refl
+no-erase (suc j) i k b w s = go (eqb (getD s i 0) (getD w i 0)) (no-erase j (i + 1) k b w s)
+  where
+    go : (t : Bool) → totalOf (eraseOf k) (programsOf j b (i + 1) w s) ≡ 0 → totalOf (eraseOf k) (if t then programsOf j b (i + 1) w s else Program (b + i) (getD w i 0) ∷ programsOf j b (i + 1) w s) ≡ 0
+    go true e = e
+    go false e = omega arith
+
+no-program : (n a k : ℕ) (es : List Effect) → totalOf (programIn a n) (Erase k ∷ es) ≡ totalOf (programIn a n) es
+no-program n a k es = omega arith
+
+operations-erase : (part : Part) (k a : ℕ) (w ys : List ℕ) → totalOf (eraseOf k) (operationsOf part k a w ys) ≡ erasesOf w ys
+operations-erase part k a w ys = go (risesIn w ys) (no-erase (length w) 0 k a w (baseOf part w ys))
+  where
+    go : (t : Bool) → totalOf (eraseOf k) (programsOf (length w) a 0 w (baseOf part w ys)) ≡ 0
+        → totalOf (eraseOf k) (if t then Erase k ∷ programsOf (length w) a 0 w (baseOf part w ys) else programsOf (length w) a 0 w (baseOf part w ys)) ≡ (if t then 1 else 0)
+    go true e = rw (eq-eqb k k refl) (omega arith)
+    go false e = e
+
+operations-program : (part : Part) (k a : ℕ) (w ys : List ℕ) → totalOf (programIn a (length w)) (operationsOf part k a w ys) ≡ programsIn part w ys
+operations-program part k a w ys = go (risesIn w ys) (programs-counted (length w) 0 a (length w) a w (baseOf part w ys) (omega arith) (omega arith))
+  where
+    go : (t : Bool) → totalOf (programIn a (length w)) (programsOf (length w) a 0 w (baseOf part w ys)) ≡ programsIn part w ys
+        → totalOf (programIn a (length w)) (if t then Erase k ∷ programsOf (length w) a 0 w (baseOf part w ys) else programsOf (length w) a 0 w (baseOf part w ys)) ≡ programsIn part w ys
+    go true e = no-program (length w) a k (programsOf (length w) a 0 w (baseOf part w ys)) ∙ e
+    go false e = e
+
+-- the length of the list of cycles is the formula
+pub reads-long : (p : Pins) (n a i : ℕ) (cs : List Cycle) → length (readsThen p n a i cs) ≡ n + length cs
+reads-long p zero a i cs = omega arith
+reads-long p (suc n) a i cs = let e = reads-long p n a (i + 1) cs in omega arith
+
+polls-long : (p : Pins) (n x : ℕ) (cs : List Cycle) → length (pollsThen p n x cs) ≡ n + length cs
+polls-long p zero x cs = omega arith
+polls-long p (suc n) x cs = let e = polls-long p n x cs in omega arith
+
+programs-long : (d : Device) (p : Pins) (k a i : ℕ) (w s : List ℕ) (cs : List Cycle) → length (programsThen d p k a i w s cs) ≡ differing k i w s * (2 + d .program) + length cs
+programs-long d p zero a i w s cs = rw (zero-mul (2 + d .program)) (omega arith)
+programs-long d p (suc k) a i w s cs = go (eqb (getD s i 0) (getD w i 0)) (programs-long d p k a (i + 1) w s cs)
+  where
+    go : (t : Bool) → length (programsThen d p k a (i + 1) w s cs) ≡ differing k (i + 1) w s * (2 + d .program) + length cs
+        → length (if t then programsThen d p k a (i + 1) w s cs else programThen d p (a + i) (getD w i 0) (programsThen d p k a (i + 1) w s cs)) ≡ ((if t then 0 else 1) + differing k (i + 1) w s) * (2 + d .program) + length cs
+    go true e = rw (zero-add (differing k (i + 1) w s)) e
+    go false e = rw (add-mul 1 (differing k (i + 1) w s) (2 + d .program), one-mul (2 + d .program)) (let f = polls-long p (d .program) (a + i) (programsThen d p k a (i + 1) w s cs) in omega arith)
+
+pub cycles-long : (d : Device) (p : Pins) (a : ℕ) (w ys : List ℕ) → length (cyclesOf d p a w ys) ≡ formula d w ys
+cycles-long d p a w ys = go (risesIn w ys) (programs-long d p (length w) a 0 w (baseOf (d .part) w ys) (closingOf p a (length w))) (reads-long p (length w) a 0 [])
+  where
+    go : (t : Bool) → length (programmingOf d p a w ys) ≡ programsIn (d .part) w ys * (2 + d .program) + length (closingOf p a (length w)) → length (readsThen p (length w) a 0 []) ≡ length w + 0
+        → length (openingThen p a (length w) (if t then eraseThen d p a (programmingOf d p a w ys) else programmingOf d p a w ys)) ≡ 2 * length w + 3 + (if t then 1 else 0) * (2 + d .erase) + programsIn (d .part) w ys * (2 + d .program)
+    go true e c = rw (one-mul (2 + d .erase)) (let r = reads-long p (length w) a 0 (eraseThen d p a (programmingOf d p a w ys)) in let f = polls-long p (d .erase) a (programmingOf d p a w ys) in omega arith)
+    go false e c = rw (zero-mul (2 + d .erase)) (let r = reads-long p (length w) a 0 (programmingOf d p a w ys) in omega arith)
+
+module _ (d : Device) (s : State) (p : Pins) (k : ℕ) (xs w sc : List ℕ) (start : Start d s p k xs w sc) where
+  abbrev a : ℕ
+  a = startOf (d .part) k
+
+  abbrev ys : List ℕ
+  ys = heldIn (startOf (d .part) k) (length w) xs
+
+  -- how the load is left
+  loaded : Left d s p k xs w sc (goal d s p k xs w sc (start .base)) (operationsOf (d .part) k a w ys) (cyclesOf d p a w ys)
+  loaded = good-load d s p k xs w sc (start .base) (not-low (d .part) p (start .high)) (start .unlock)
+
+  -- a load ends well, with the count of the formula, in mode read array with status 80H
+  pub ends-well : ranOf d s p k xs w sc ≡ record { count = formula d w ys; end = 0; address = 0; state = atRest s Array 128 }
+  unfolding endAddress
+  ends-well = ran-left d s p k xs w sc (start .base) _ _ _ loaded
+
+  -- the array is as before with the wanted bytes over the block, and scratch holds them too
+  pub array-left : bytesOf d s p k xs w sc ≡ overlaid xs a w
+  array-left = bytes-left d s p k xs w sc (start .base) _ _ _ loaded
+
+  pub scratch-wanted : scratchOf d s p k xs w sc ≡ w
+  scratch-wanted = scratch-left d s p k xs w sc (start .base) _ _ _ loaded
+
+  inside : a + length w ≤ length xs
+  inside = let g = good d s p k (length xs) (length w) (length sc) (none-refuses d s p k xs w sc (start .base)) in omega (arith, blocks-end-inside (d .part) k, g .sized, g .wanted)
+
+  -- the block holds the wanted bytes
+  pub block-holds : heldIn a (length w) (bytesOf d s p k xs w sc) ≡ w
+  block-holds =
+      ap (λ (z : List ℕ). heldIn a (length w) z) array-left
+      ∙ ap (λ (z : List ℕ). take (length w) z) (drop-at (take a xs) _ a (length-take-le a xs (let h = inside in omega arith)))
+      ∙ take-at w (drop (length w) (drop a xs)) (length w) refl
+
+  -- every other byte is as before
+  pub others-stay : (x : ℕ) → (x < a → getD (bytesOf d s p k xs w sc) x 0 ≡ getD xs x 0) × (a + length w ≤ x → getD (bytesOf d s p k xs w sc) x 0 ≡ getD xs x 0)
+  others-stay x = (
+    λ h. rw array-left (overlaid-before xs a w inside x h),
+    λ h. rw array-left (subst (λ (y : ℕ). getD (overlaid xs a w) y 0 ≡ getD xs y 0) (let q : a + (length w + (x - a - length w)) ≡ x = omega arith in q) (overlaid-after xs a w inside (x - a - length w))),
+  )
+
+  -- it erases once if some bit must rise, otherwise never; it programs each byte that then differs once and no other
+  pub begins-just : begunByLoad d s p k xs w sc ≡ operationsOf (d .part) k a w ys
+  begins-just = loaded .begun
+
+  -- the cycles that it makes, one after the other; the model refuses none of them, and none cuts an operation
+  pub cycles-are : cyclesOfLoad d s p k xs w sc ≡ cyclesOf d p a w ys
+  cycles-are = loaded .made
+
+  pub none-refused : smoothLoad d s p k xs w sc ≡ true
+  none-refused = loaded .smooth
+
+  -- no uncut cycles from the same start to the same block contents begin fewer erases of the block or fewer programs in it
+  pub nothing-less : (bs : List Bus) → Cells (d .part) xs → uncut (effectsIn d (worldOf s xs) bs) ≡ true
+      → heldIn a (length w) (worldAfter d (worldOf s xs) bs .bytes) ≡ w
+      → (totalOf (eraseOf k) (begunByLoad d s p k xs w sc) ≤ totalOf (eraseOf k) (begunOver d (worldOf s xs) bs))
+      × (totalOf (programIn a (length w)) (begunByLoad d s p k xs w sc) ≤ totalOf (programIn a (length w)) (begunOver d (worldOf s xs) bs))
+  nothing-less bs bx u h =
+      let g = good d s p k (length xs) (length w) (length sc) (none-refuses d s p k xs w sc (start .base)) in
+      let m = least d k (worldOf s xs) w bs (g .sized) (g .wanted) bx (g .free) u h in
+      let e = ap (λ (es : List Effect). totalOf (eraseOf k) es) begins-just ∙ operations-erase (d .part) k a w ys in
+      let q = ap (λ (es : List Effect). totalOf (programIn a (length w)) es) begins-just ∙ operations-program (d .part) k a w ys in
+      (omega (arith, m .0), omega (arith, m .1))
+
+  -- what the block held, by the block's own length
+  held-is : (zs : List ℕ) → heldIn a (length w) zs ≡ heldBy (d .part) k zs
+  held-is zs = ap (λ (n : ℕ). heldIn a n zs) (start .base .wanted)
+
+  pub cycles-listed : cyclesOfLoad d s p k xs w sc ≡ cyclesOf d p a w (heldBy (d .part) k xs)
+  cycles-listed = cycles-are ∙ ap (λ (zs : List ℕ). cyclesOf d p a w zs) (held-is xs)
+
+  -- an address outside the block
+  others-are : (x : ℕ) → (blockOf (d .part) x ≡ k → ⊥) → getD (bytesOf d s p k xs w sc) x 0 ≡ getD xs x 0
+  others-are x h = go (ltb x a) refl (ltb x (a + length w)) refl
+    where
+      go : (b : Bool) → ltb x a ≡ b → (c : Bool) → ltb x (a + length w) ≡ c → getD (bytesOf d s p k xs w sc) x 0 ≡ getD xs x 0
+      go true e c f = others-stay x .0 (ltb-true x a e)
+      go false e false f = others-stay x .1 (ltb-false x (a + length w) f)
+      go false e true f =
+          absurd (h (lies (d .part) k x (ltb-false x a e) (subst (λ (n : ℕ). x < a + n) (start .base .wanted) (ltb-true x (a + length w) f))))
+
+  abbrev own : List Bus
+  own = ownCycles d s p k xs w sc
+
+  -- where the load's own cycles lead
+  own-world : worldAfter d (worldOf s xs) own ≡ worldOf (ranOf d s p k xs w sc .state) (bytesOf d s p k xs w sc)
+  unfolding leftBy driven
+  own-world =
+      leads d w (bound (length w)) (beginning d s p k xs sc)
+      ∙ ap deviceIn (loaded .end)
+      ∙ sym (λ i. worldOf (ends-well i .state) (array-left i))
+
+  own-holds : Brings d (worldOf s xs) k w own
+  own-holds =
+      record {
+        whole = smooth d w (bound (length w)) (beginning d s p k xs sc) none-refused .1;
+        there = ap (λ (v : World). heldBy (d .part) k (v .bytes)) own-world ∙ sym (held-is (bytesOf d s p k xs w sc)) ∙ block-holds;
+      }
+
+  -- nothing wears less than the load's own cycles
+  least-wear : Cells (d .part) xs → (bs : List Bus) → Brings d (worldOf s xs) k w bs → NoFewer d (worldOf s xs) k own bs
+  least-wear bx bs h =
+      let m = nothing-less bs bx (h .whole) (held-is (worldAfter d (worldOf s xs) bs .bytes) ∙ h .there) in
+      record {
+        erases = subst (λ (n : ℕ). n ≤ erasesBegun d (worldOf s xs) k bs) (sym (weighs (eraseOf k) refl)) (m .0);
+        programs =
+            subst (λ (n : ℕ). n ≤ programsBegun d (worldOf s xs) k bs) (sym (weighs (programOf (d .part) k) refl))
+            (subst (λ (n : ℕ). totalOf (programIn a n) (begunByLoad d s p k xs w sc) ≤ totalOf (programIn a n) (begunOver d (worldOf s xs) bs)) (start .base .wanted) (m .1));
+      }
+    where
+      weighs : (f : Effect → ℕ) → f Nothing ≡ 0 → totalOf f (begunOver d (worldOf s xs) own) ≡ totalOf f (begunByLoad d s p k xs w sc)
+      weighs f z =
+          sym (noted-total f z (begunOver d (worldOf s xs) own))
+          ∙ ap (λ (es : List Effect). totalOf f es) (begins d w (bound (length w)) (beginning d s p k xs sc))
+
+  -- demand 3 whole
+  pub demand-3 : Demand3 d s p k xs w sc
+  demand-3 =
+      record {
+        well = ap (λ (r : Ran). r .end) ends-well;
+        block = sym (held-is (bytesOf d s p k xs w sc)) ∙ block-holds;
+        others = others-are;
+        array-left = array-left;
+        begins = begins-just ∙ ap (λ (ys : List ℕ). operationsOf (d .part) k a w ys) (held-is xs);
+        own-accepted = smooth d w (bound (length w)) (beginning d s p k xs sc) none-refused .0;
+        own-brings = own-holds;
+        own-leads = own-world;
+        own-begins = begins d w (bound (length w)) (beginning d s p k xs sc);
+        least-wear = least-wear;
+        counted = ap (λ (r : Ran). r .count) ends-well ∙ sym (ap (λ (cs : List Cycle). length cs) cycles-are ∙ cycles-long d p a w ys);
+        by-formula = ap (λ (r : Ran). r .count) ends-well ∙ ap (λ (ys : List ℕ). formula d w ys) (held-is xs);
+      }

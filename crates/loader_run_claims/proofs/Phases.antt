@@ -1,0 +1,547 @@
+-- The phases of a load against the model, from the back, each whatever follows. Assumes nothing.
+use mathlib.Core.Path.{_≡_, refl, sym, ap, _∙_, subst}
+use mathlib.Core.Bool.{Bool, true, false, not, _||_}
+use mathlib.Core.List.{List, [], _∷_}
+use Prim.Native.Nat.{ℕ, zero, suc, _+_, _-_, _*_, _/_, _%_, _≤_, _<_}
+use native.Mathlib.Nat.{not-suc-le-zero, le-of-suc-le-suc, zero-mul, one-mul, add-mul, zero-add}
+use native.Mathlib.Omega.{arith}
+use lib.ListN.{length, getD, set, replicate, length-replicate, getD-replicate}
+use lib.Dec.{eqb, ltb, leb}
+use lib.Bits.{bitAnd}
+use borrow.Author.Tests.{lt-ltb, le-ltb, eq-eqb, eqb-true, lt-leb, not-false}
+use Rattle.model_types.specs.Cells.{ones, Cells}
+use Rattle.model_types.proofs.Ones.{and-ones}
+use Rattle.common.specs.Choice.{if_then_else_}
+use Rattle.common.proofs.Choice.{if-true, if-false, and-right, or-left, or-right, unlike}
+use Rattle.model.proofs.Status.{fits, all-below}
+use Rattle.common.specs.Lists.{overlaid, laid}
+use Rattle.common.proofs.Lists.{laid-more, laid-all}
+use Rattle.common.proofs.Bytes.{overlaid-in, overlaid-length}
+use Rattle.device.specs.declared.Device.{Device}
+use Rattle.device.specs.Parts.{sizeOf, lengthOf, startOf, blockOf}
+use Rattle.device.proofs.Claims.{blocks-end-inside, blocks-apart}
+use Rattle.model_types.specs.declared.Pins.{Pins}
+use Rattle.model_types.specs.declared.Kind.{Kind}
+use Rattle.model_types.specs.declared.Kind.the-variants.{Read, Write}
+use Rattle.model_types.specs.declared.Mode.{Mode}
+use Rattle.model_types.specs.declared.Mode.the-variants.{Array, Status}
+use Rattle.model_types.specs.declared.Phase.{Phase}
+use Rattle.model_types.specs.declared.Phase.the-variants.{Free, EraseAwaited, DataAwaited, Programming, Erasing, Suspended}
+use Rattle.model_types.specs.declared.Effect.{Effect}
+use Rattle.model_types.specs.declared.Effect.the-variants.{Nothing, Program, Erase}
+use Rattle.model_types.specs.declared.Reply.{Reply}
+use Rattle.model_types.specs.declared.Reply.the-variants.{Quiet, Gives, GivesArray}
+use Rattle.model_types.specs.declared.State.{State}
+use Rattle.model_types.specs.States.{atRest, mostLeft}
+use Rattle.model_rules.specs.Cycles.{decideOf, decidedAs}
+use Rattle.model.specs.Arrays.{erased}
+use Rattle.model.proofs.Keeping.{st}
+use Rattle.loader.specs.declared.Stage.{Stage}
+use Rattle.loader.specs.declared.Stage.the-variants.{Clearing, Opening, Reading, EraseAsking, EraseConfirming, EraseWaiting, ProgramAsking, ProgramSending, ProgramWaiting, Closing, Verifying, Ended}
+use Rattle.loader.specs.declared.Loader.{Loader}
+use Rattle.loader.specs.Walks.{mustRise, rises, nextDiff, diffFrom, risesIn}
+use Rattle.loader.specs.Moves.{nextOf, onward, afterReads, afterRead, pollMore, erasePolled, past, programPolled, verifyMore, eraseFault, programFault, bothErrors}
+use Rattle.loader_steps.specs.Outs.{firstAddress, hereOf, cycleOf}
+use Rattle.loader_steps.specs.Stores.{storeOf, erasedWell}
+use Rattle.loader_steps.proofs.Small.{length-small}
+use Rattle.loader.proofs.Walking.{diff-turn, diff-over}
+use Rattle.model_types.specs.declared.Cycle.{Cycle}
+use Rattle.model.specs.Begun.{pendingIn, begunFrom}
+use Rattle.model_types.specs.Phases.{isBusy, isAwaited}
+use Rattle.loader_run.specs.Turns.{Config, turnOf}
+use Rattle.loader.specs.Stages.{isEnded}
+use Rattle.loader_run_claims.specs.Wear.{programsOf, differing, baseOf, operationsOf}
+use Rattle.loader_run.proofs.Turning.{conf}
+use Rattle.loader_run_claims.specs.Made.{isSmooth, readsThen, pollsThen, openingThen, eraseThen, programThen, programsThen, closingOf, programmingOf, cyclesOf}
+use Rattle.loader_run_claims.proofs.Reaching.{Reach, Told, Does, does-as, arrive, prepend, turned, does}
+use Rattle.loader_run_claims.proofs.Layers.{put-over, over-over, laid-length, laid-here, laid-agree}
+use Rattle.loader_run_claims.proofs.Answers as answers
+use Rattle.loader_run_claims.proofs.Answers.{Up, Ready}
+
+-- 50H leaves SR.7 alone of a ready status
+cleared : (x : ℕ) → fits 2 x ≡ true → bitAnd x 199 ≡ 128
+cleared x f =
+    let q : x / 64 ≡ 2 = eqb-true (x / 64) 2 (and-right (eqb (x % 8) 0) (eqb (x / 64) 2) f) in
+    eqb-true (bitAnd x 199) 128 (imply (fits 2 x) (eqb (bitAnd x 199) 128) (all-below (λ y. not (fits 2 y) || eqb (bitAnd y 199) 128) 256 refl x (omega arith)) f)
+  where
+    imply : (x y : Bool) → (not x || y) ≡ true → x ≡ true → y ≡ true
+    imply true y h k = h
+    imply false y h k = absurd (unlike (sym k))
+
+-- where no bit must rise, every byte held keeps the bits wanted
+no-rise : (n i : ℕ) (w s : List ℕ) → rises n i w s ≡ false → (j : ℕ) → j < n → mustRise (getD s (i + j) 0) (getD w (i + j) 0) ≡ false
+no-rise zero i w s e j h = absurd (not-suc-le-zero h)
+no-rise (suc n) i w s e zero h =
+    subst (λ (m : ℕ). mustRise (getD s m 0) (getD w m 0) ≡ false) (let q : i ≡ i + 0 = omega arith in q)
+    (or-left (mustRise (getD s i 0) (getD w i 0)) (rises n (i + 1) w s) e)
+no-rise (suc n) i w s e (suc j) h =
+    subst (λ (m : ℕ). mustRise (getD s m 0) (getD w m 0) ≡ false) (let q : i + 1 + j ≡ i + suc j = omega arith in q)
+    (no-rise n (i + 1) w s (or-right (mustRise (getD s i 0) (getD w i 0)) (rises n (i + 1) w s) e) j (le-of-suc-le-suc h))
+
+-- `was` is the state that the load began in
+module _ (d : Device) (p : Pins) (k : ℕ) (u : Up d p) (was : State) (w : List ℕ) (lw : length w ≡ lengthOf (d .part) k) (some : 0 < length w) where
+  abbrev pub a : ℕ
+  a = startOf (d .part) k
+
+  abbrev pub rec : Stage → ℕ → ℕ → Loader
+  rec stage place polls = record { part = d .part; pins = p; block = k; stage = stage; place = place; polls = polls }
+
+  pub inside : (i : ℕ) → i < length w → a + i < sizeOf (d .part)
+  inside i h = omega (arith, blocks-end-inside (d .part) k)
+
+  pub a-inside : a < sizeOf (d .part)
+  a-inside = omega (arith, blocks-end-inside (d .part) k)
+
+  a-within : (xs : List ℕ) → length xs ≡ sizeOf (d .part) → a ≤ length xs
+  a-within xs e = omega (arith, a-inside)
+
+  -- every address of the block is in the block
+  pub block-at : (i : ℕ) → i < length w → blockOf (d .part) (a + i) ≡ k
+  unfolding startOf lengthOf
+  block-at i h = blocks-apart (d .part) k (a + i) (record { from = omega arith; to = omega arith })
+
+  pub block-first : blockOf (d .part) a ≡ k
+  block-first = subst (λ (x : ℕ). blockOf (d .part) x ≡ k) (let q : a + 0 ≡ a = omega arith in q) (block-at 0 some)
+
+  pub first : (stage : Stage) (i q : ℕ) → firstAddress (rec stage i q) ≡ a
+  unfolding firstAddress
+  first stage i q = refl
+
+  pub here : (stage : Stage) (i q : ℕ) → i < length w → hereOf (rec stage i q) ≡ a + i
+  unfolding hereOf firstAddress
+  here stage i q h = if-true (ltb i 16777216) (a + i) a (lt-ltb i 16777216 (omega (arith, length-small (d .part) k)))
+
+  -- a stage whose cycle goes to an address known, and what the model decides on it
+  pub told-here : (stage : Stage) (i q : ℕ) (kind : Kind) (b : ℕ) (s : State) (reply : Reply) (s′ : State) (e : Effect) → i < length w → cycleOf (rec stage i q) w ≡ cyc p kind (hereOf (rec stage i q)) b
+      → decideOf d s (cyc p kind (a + i) b) (sizeOf (d .part)) 0 ≡ decidedAs reply s′ e → isSmooth (decidedAs reply s′ e) ≡ true → Told d w (rec stage i q) s (cyc p kind (a + i) b) reply s′ e
+  told-here stage i q kind b s reply s′ e h o x f = record { out = o ∙ ap (λ (y : ℕ). cyc p kind y b) (here stage i q h); decided = x; fine = f }
+
+  pub told-first : (stage : Stage) (i q : ℕ) (kind : Kind) (b : ℕ) (s : State) (reply : Reply) (s′ : State) (e : Effect) → cycleOf (rec stage i q) w ≡ cyc p kind (firstAddress (rec stage i q)) b
+      → decideOf d s (cyc p kind a b) (sizeOf (d .part)) 0 ≡ decidedAs reply s′ e → isSmooth (decidedAs reply s′ e) ≡ true → Told d w (rec stage i q) s (cyc p kind a b) reply s′ e
+  told-first stage i q kind b s reply s′ e o x f = record { out = o ∙ ap (λ (y : ℕ). cyc p kind y b) (first stage i q); decided = x; fine = f }
+
+  -- the verify: byte i reads as wanted, and the next or the end follows
+  verify-next : (i b : ℕ) → b ≡ getD w i 0 → i + 1 < length w → verifyMore (rec Verifying i 0) b w ≡ rec Verifying (i + 1) 0
+  unfolding verifyMore
+  verify-next i b e h =
+      if-true (eqb b (getD w i 0)) _ _ (eq-eqb b (getD w i 0) e) ∙ if-true (ltb i (length w - 1)) _ _ (lt-ltb i (length w - 1) (omega arith))
+
+  verify-last : (i b : ℕ) → b ≡ getD w i 0 → i + 1 ≡ length w → verifyMore (rec Verifying i 0) b w ≡ rec (Ended 0) i 0
+  unfolding verifyMore
+  verify-last i b e h =
+      if-true (eqb b (getD w i 0)) _ _ (eq-eqb b (getD w i 0) e) ∙ if-false (ltb i (length w - 1)) _ _ (le-ltb i (length w - 1) (omega arith))
+
+  module _ (xs : List ℕ) (lx : length xs ≡ sizeOf (d .part)) (holds : (i : ℕ) → i < length w → getD xs (a + i) 0 ≡ getD w i 0) (sc : List ℕ) (ls : length sc ≡ length w) where
+    -- one byte of the verify
+    verify-told : (i : ℕ) (h : i < length w) → Told d w (rec Verifying i 0) (atRest was Array 128) (cyc p Read (a + i) 0) (GivesArray (a + i)) (atRest was Array 128) Nothing
+    verify-told i h = told-here Verifying i 0 Read 0 (atRest was Array 128) (GivesArray (a + i)) (atRest was Array 128) Nothing h refl (answers.reads d p u was 128 (a + i) refl (inside i h)) refl
+
+    verify-turn : (i cnt : ℕ) (h : i < length w) (l′ : Loader) → verifyMore (rec Verifying i 0) (getD xs (a + i) 0) w ≡ l′
+        → turnOf d w (conf (rec Verifying i 0) (atRest was Array 128) xs (laid i w sc) cnt) ≡ conf l′ (atRest was Array 128) xs (laid (i + 1) w sc) (cnt + 1)
+    verify-turn i cnt h l′ e =
+        turned d w (rec Verifying i 0) (atRest was Array 128) xs (laid i w sc) cnt refl lx (cyc p Read (a + i) 0) (GivesArray (a + i)) (atRest was Array 128) Nothing (verify-told i h)
+        ∙ (λ j. conf (e j) (atRest was Array 128) xs ((ap (λ (v : ℕ). set (laid i w sc) i v) (holds i h) ∙ laid-more w sc i h (omega arith)) j) (cnt + 1))
+
+    verify-does : (i cnt : ℕ) (h : i < length w) → Does d w (conf (rec Verifying i 0) (atRest was Array 128) xs (laid i w sc) cnt) Nothing (cyc p Read (a + i) 0)
+    verify-does i cnt h = does d w (rec Verifying i 0) (atRest was Array 128) xs (laid i w sc) cnt refl lx (cyc p Read (a + i) 0) (GivesArray (a + i)) (atRest was Array 128) Nothing (verify-told i h)
+
+    verifying : (j i cnt c : ℕ) → i + (j + 1) ≡ length w → c ≡ cnt + (j + 1)
+        → Reach d w (conf (rec Verifying i 0) (atRest was Array 128) xs (laid i w sc) cnt) (conf (rec (Ended 0) (length w - 1) 0) (atRest was Array 128) xs w c) [] (readsThen p (suc j) a i [])
+    verifying zero i cnt c e q =
+        let h : i < length w = omega arith in
+        prepend d w _ _ _ Nothing (cyc p Read (a + i) 0) [] [] (verify-turn i cnt h (rec (Ended 0) i 0) (verify-last i (getD xs (a + i) 0) (holds i h) (omega arith))) (verify-does i cnt h)
+        (arrive d w _ _ (λ t. conf (rec (Ended 0) ((let z : i ≡ length w - 1 = omega arith in z) t) 0) (atRest was Array 128) xs (whole t) ((let z : cnt + 1 ≡ c = omega arith in z) t)))
+      where
+        whole : laid (i + 1) w sc ≡ w
+        whole = ap (λ (m : ℕ). laid m w sc) (let z : i + 1 ≡ length sc = omega arith in z) ∙ laid-all w sc (sym ls)
+    verifying (suc j) i cnt c e q =
+        let h : i < length w = omega arith in
+        prepend d w _ _ _ Nothing (cyc p Read (a + i) 0) [] (readsThen p (suc j) a (i + 1) [])
+        (verify-turn i cnt h (rec Verifying (i + 1) 0) (verify-next i (getD xs (a + i) 0) (holds i h) (omega arith))) (verify-does i cnt h)
+        (verifying j (i + 1) (cnt + 1) c (omega arith) (omega arith))
+
+  -- the end that a load comes to
+  abbrev pub final : List ℕ → ℕ → Config
+  final xs c = conf (rec (Ended 0) (length w - 1) 0) (atRest was Array 128) xs w c
+
+  -- on to the first differing byte from place i on, or to the verify
+  abbrev pub onto : ℕ → List ℕ → Loader
+  onto i sc = if ltb (diffFrom i w sc) (length w) then rec ProgramAsking (diffFrom i w sc) 0 else rec Closing 0 0
+
+  onward-onto : (stage : Stage) (i q j : ℕ) (sc : List ℕ) → onward (rec stage i q) j w sc ≡ onto j sc
+  unfolding onward
+  onward-onto stage i q j sc = refl
+
+  module _ (xs : List ℕ) (lx : length xs ≡ sizeOf (d .part)) where
+    -- the array with a block laid over it
+    in-block : (ys : List ℕ) → length ys ≡ length w → a + length ys ≤ length xs
+    in-block ys e = omega (arith, blocks-end-inside (d .part) k)
+
+    pub sized : (ys : List ℕ) → length ys ≡ length w → length (overlaid xs a ys) ≡ sizeOf (d .part)
+    sized ys e = overlaid-length xs a ys (in-block ys e) ∙ lx
+
+    byte-at : (ys : List ℕ) (i : ℕ) → length ys ≡ length w → i < length w → getD (overlaid xs a ys) (a + i) 0 ≡ getD ys i 0
+    byte-at ys i e h = overlaid-in xs a ys (in-block ys e) i (omega arith)
+
+    -- a number of bytes that is not 0, as one more
+    one-more : suc (length w - 1) ≡ length w
+    one-more = omega arith
+
+    -- the last FFH and the verify
+    pub closing : (m : Mode) (sc : List ℕ) (cnt c : ℕ) → length sc ≡ length w → c ≡ cnt + (1 + length w)
+        → Reach d w (conf (rec Closing 0 0) (atRest was m 128) (overlaid xs a w) sc cnt) (final (overlaid xs a w) c) [] (closingOf p a (length w))
+    closing m sc cnt c ls q =
+        prepend d w _ _ _ Nothing (cyc p Write a 0xFF) [] (readsThen p (length w) a 0 [])
+        (turned d w (rec Closing 0 0) (atRest was m 128) (overlaid xs a w) sc cnt refl (sized w refl) (cyc p Write a 0xFF) Quiet (atRest was Array 128) Nothing told)
+        (does d w (rec Closing 0 0) (atRest was m 128) (overlaid xs a w) sc cnt refl (sized w refl) (cyc p Write a 0xFF) Quiet (atRest was Array 128) Nothing told)
+        (subst (λ (n : ℕ). Reach d w (conf (rec Verifying 0 0) (atRest was Array 128) (overlaid xs a w) sc (cnt + 1)) (final (overlaid xs a w) c) [] (readsThen p n a 0 [])) one-more
+        (verifying (overlaid xs a w) (sized w refl) (λ i h. byte-at w i refl h) sc ls (length w - 1) 0 (cnt + 1) c (omega arith) (omega arith)))
+      where
+        told : Told d w (rec Closing 0 0) (atRest was m 128) (cyc p Write a 0xFF) Quiet (atRest was Array 128) Nothing
+        told = told-first Closing 0 0 Write 0xFF (atRest was m 128) Quiet (atRest was Array 128) Nothing refl (answers.opens d p u was m 128 a refl a-inside) refl
+
+    -- the last of some polls, put to the others
+    polls-last : (n x : ℕ) (cs : List Cycle) → pollsThen p n x (cyc p Read x 0 ∷ cs) ≡ pollsThen p (suc n) x cs
+    polls-last zero x cs = refl
+    polls-last (suc n) x cs = ap (λ (z : List Cycle). cyc p Read x 0 ∷ z) (polls-last n x cs)
+
+    -- the polls of an operation, of either kind, while cycles are left
+    module _ (r : Ready d p k) (W : Stage) (i : ℕ) (ph : Phase) (adr to : ℕ) (going : isEnded W ≡ false) (busy : isBusy ph ≡ true) (adr-in : adr < sizeOf (d .part)) (to-in : to < sizeOf (d .part))
+        (X sc : List ℕ) (lX : length X ≡ sizeOf (d .part)) (goes : (q : ℕ) → cycleOf (rec W i q) w ≡ cyc p Read to 0)
+        (polled : (q : ℕ) → nextOf (rec W i q) 0 w (storeOf (rec W i q) 0 sc) ≡ pollMore (rec W i q) W) (kept : (q : ℕ) → storeOf (rec W i q) 0 sc ≡ sc) where
+      poll-more : (q : ℕ) → q < 65534 → pollMore (rec W i q) W ≡ rec W i (q + 1)
+      unfolding pollMore
+      poll-more q h = if-false (leb 65534 q) _ _ (lt-leb 65534 q h)
+
+      waiting : (left q cnt : ℕ) (e : Config) (es : List Effect) (cs : List Cycle) → q + (left + 1) ≤ 65535 → left + 1 ≤ mostLeft d ph
+          → ((q′ cnt′ : ℕ) → cnt′ ≡ cnt + left → Reach d w (conf (rec W i q′) (st was Status 0 ph 1 adr) X sc cnt′) e es cs)
+          → Reach d w (conf (rec W i q) (st was Status 0 ph (left + 1) adr) X sc cnt) e es (pollsThen p left to cs)
+      waiting zero q cnt e es cs h m rest = rest q cnt (omega arith)
+      waiting (suc left) q cnt e es cs h m rest =
+          subst (λ (n : ℕ). Reach d w (conf (rec W i q) (st was Status 0 ph n adr) X sc cnt) e es (pollsThen p (suc left) to cs)) (let z : left + 1 + 1 ≡ suc left + 1 = omega arith in z)
+          (prepend d w _ (conf (rec W i (q + 1)) (st was Status 0 ph (left + 1) adr) X sc (cnt + 1)) e Nothing (cyc p Read to 0) es (pollsThen p left to cs)
+          (turned d w (rec W i q) (st was Status 0 ph (left + 1 + 1) adr) X sc cnt going lX (cyc p Read to 0) (Gives 0) (st was Status 0 ph (left + 1) adr) Nothing told
+          ∙ (λ t. conf ((polled q ∙ poll-more q (omega arith)) t) (st was Status 0 ph (left + 1) adr) X (kept q t) (cnt + 1)))
+          (does-as d w _ _ Nothing (cyc p Read to 0) none (does d w (rec W i q) (st was Status 0 ph (left + 1 + 1) adr) X sc cnt going lX (cyc p Read to 0) (Gives 0) (st was Status 0 ph (left + 1) adr) Nothing told))
+          (waiting left (q + 1) (cnt + 1) e es cs (omega arith) (omega arith) (λ q′ cnt′ z. rest q′ cnt′ (omega arith))))
+        where
+          told : Told d w (rec W i q) (st was Status 0 ph (left + 1 + 1) adr) (cyc p Read to 0) (Gives 0) (st was Status 0 ph (left + 1) adr) Nothing
+          told = record { out = goes q; decided = answers.waits d p u was k r ph (left + 1) adr to busy (omega arith) (omega arith) adr-in to-in; fine = refl }
+
+          none : begunFrom (d .part) (st was Status 0 ph (left + 1 + 1) adr) (st was Status 0 ph (left + 1) adr) ≡ Nothing
+          none = quiet ph busy
+            where
+              quiet : (x : Phase) → isBusy x ≡ true → (if isAwaited x then pendingIn x (d .part) adr else Nothing) ≡ Nothing
+              quiet Free b = refl
+              quiet EraseAwaited b = absurd (unlike (sym b))
+              quiet DataAwaited b = absurd (unlike (sym b))
+              quiet (Programming y) b = refl
+              quiet Erasing b = refl
+              quiet Suspended b = refl
+
+      -- all the polls of an operation that takes n cycles
+      waiting-all : (n cnt : ℕ) (e : Config) (es : List Effect) (cs : List Cycle) → 0 < n → n ≤ 65535 → n ≤ mostLeft d ph
+          → ((q cnt′ : ℕ) → cnt′ + 1 ≡ cnt + n → Reach d w (conf (rec W i q) (st was Status 0 ph 1 adr) X sc cnt′) e es (cyc p Read to 0 ∷ cs))
+          → Reach d w (conf (rec W i 0) (st was Status 0 ph n adr) X sc cnt) e es (pollsThen p n to cs)
+      waiting-all n cnt e es cs z b m rest =
+          subst (λ (x : ℕ). Reach d w (conf (rec W i 0) (st was Status 0 ph x adr) X sc cnt) e es (pollsThen p n to cs)) (let t : n - 1 + 1 ≡ n = omega arith in t)
+          (subst (λ (y : List Cycle). Reach d w (conf (rec W i 0) (st was Status 0 ph (n - 1 + 1) adr) X sc cnt) e es y)
+          (polls-last (n - 1) to cs ∙ ap (λ (x : ℕ). pollsThen p x to cs) (let t : suc (n - 1) ≡ n = omega arith in t))
+          (waiting (n - 1) 0 cnt e es (cyc p Read to 0 ∷ cs) (omega arith) (omega arith) (λ q cnt′ t. rest q cnt′ (omega arith))))
+
+    -- a program that ended well goes on to the next differing byte
+    programmed : (i q : ℕ) (sc : List ℕ) → i < length w → programPolled (rec ProgramWaiting i q) 128 w sc ≡ onto (i + 1) sc
+    unfolding programPolled programFault bothErrors past
+    programmed i q sc h = ap (λ (j : ℕ). onward (rec ProgramWaiting i q) j w sc) (if-true (ltb i (length w)) (i + 1) i (lt-ltb i (length w) h)) ∙ onward-onto ProgramWaiting i q (i + 1) sc
+
+    program-poll : (i q : ℕ) (sc : List ℕ) → nextOf (rec ProgramWaiting i q) 0 w sc ≡ pollMore (rec ProgramWaiting i q) ProgramWaiting
+    unfolding programPolled
+    program-poll i q sc = refl
+
+    -- one byte programmed: 40H, the byte, P polls
+    one-program : (r : Ready d p k) (m : Mode) (i cnt : ℕ) (ys sc : List ℕ) (e : Config) (es : List Effect) (cs : List Cycle) → i < length w → length ys ≡ length w
+        → bitAnd (getD ys i 0) (getD w i 0) ≡ getD w i 0
+        → 0 < d .program → d .program ≤ 65535
+        → ((cnt′ : ℕ) → cnt′ ≡ cnt + (2 + d .program) → Reach d w (conf (onto (i + 1) sc) (atRest was Status 128) (overlaid xs a (set ys i (getD w i 0))) sc cnt′) e es cs)
+        → Reach d w (conf (rec ProgramAsking i 0) (atRest was m 128) (overlaid xs a ys) sc cnt) e (Program (a + i) (getD w i 0) ∷ es) (programThen d p (a + i) (getD w i 0) cs)
+    one-program r m i cnt ys sc e es cs h ly falls z b rest =
+        prepend d w _ _ e Nothing (cyc p Write (a + i) 0x40) (Program (a + i) v ∷ es) _
+        (turned d w (rec ProgramAsking i 0) (atRest was m 128) X sc cnt refl lX (cyc p Write (a + i) 0x40) Quiet asked Nothing told1)
+        (does d w (rec ProgramAsking i 0) (atRest was m 128) X sc cnt refl lX (cyc p Write (a + i) 0x40) Quiet asked Nothing told1)
+        (prepend d w _ _ e (Program (a + i) v) (cyc p Write (a + i) v) es _
+        (turned d w (rec ProgramSending i 0) asked X sc (cnt + 1) refl lX (cyc p Write (a + i) v) Quiet (st was Status 0 (Programming v) (d .program) (a + i)) Nothing told2)
+        (does d w (rec ProgramSending i 0) asked X sc (cnt + 1) refl lX (cyc p Write (a + i) v) Quiet (st was Status 0 (Programming v) (d .program) (a + i)) Nothing told2)
+        (waiting-all r ProgramWaiting i (Programming v) (a + i) (a + i) refl refl (inside i h) (inside i h) X sc lX
+        (λ q. ap (λ (x : ℕ). cyc p Read x 0) (here ProgramWaiting i q h)) (λ q. program-poll i q sc) (λ q. refl)
+        (d .program) (cnt + 1 + 1) e es cs z b (omega arith)
+        (λ q cnt′ t. prepend d w _ _ e Nothing (cyc p Read (a + i) 0) es cs
+        (turned d w (rec ProgramWaiting i q) (st was Status 0 (Programming v) 1 (a + i)) X sc cnt′ refl lX (cyc p Read (a + i) 0) (Gives 128) (atRest was Status 128) (Program (a + i) v) (told3 q)
+        ∙ (λ x. conf (programmed i q sc h x) (atRest was Status 128) (stored x) sc (cnt′ + 1)))
+        (does d w (rec ProgramWaiting i q) (st was Status 0 (Programming v) 1 (a + i)) X sc cnt′ refl lX (cyc p Read (a + i) 0) (Gives 128) (atRest was Status 128) (Program (a + i) v) (told3 q))
+        (rest (cnt′ + 1) (omega arith)))))
+      where
+        v : ℕ
+        v = getD w i 0
+
+        X : List ℕ
+        X = overlaid xs a ys
+
+        lX : length X ≡ sizeOf (d .part)
+        lX = sized ys ly
+
+        asked : State
+        asked = st was Status 128 DataAwaited 0 0
+
+        told1 : Told d w (rec ProgramAsking i 0) (atRest was m 128) (cyc p Write (a + i) 0x40) Quiet asked Nothing
+        told1 = told-here ProgramAsking i 0 Write 0x40 (atRest was m 128) Quiet asked Nothing h refl (answers.asks-program d p u was m 128 (a + i) refl (inside i h)) refl
+
+        told2 : Told d w (rec ProgramSending i 0) asked (cyc p Write (a + i) v) Quiet (st was Status 0 (Programming v) (d .program) (a + i)) Nothing
+        told2 = told-here ProgramSending i 0 Write v asked Quiet (st was Status 0 (Programming v) (d .program) (a + i)) Nothing h refl (answers.sends d p u was k r (a + i) v (inside i h) (block-at i h)) refl
+
+        told3 : (q : ℕ) → Told d w (rec ProgramWaiting i q) (st was Status 0 (Programming v) 1 (a + i)) (cyc p Read (a + i) 0) (Gives 128) (atRest was Status 128) (Program (a + i) v)
+        told3 q =
+            told-here ProgramWaiting i q Read 0 (st was Status 0 (Programming v) 1 (a + i)) (Gives 128) (atRest was Status 128) (Program (a + i) v) h refl
+            (answers.ends d p u was k r (Programming v) (a + i) (a + i) refl z (inside i h) (inside i h)) refl
+
+        stored : set X (a + i) (bitAnd (getD X (a + i) 0) v) ≡ overlaid xs a (set ys i v)
+        stored =
+            ap (λ (x : ℕ). set X (a + i) (bitAnd x v)) (byte-at ys i ly h) ∙ ap (λ (x : ℕ). set X (a + i) x) falls
+            ∙ put-over xs a ys i v (a-within xs lx) (omega arith)
+
+    -- the cycles that the programs take
+    abbrev pub costs : ℕ → ℕ → List ℕ → ℕ
+    costs zero i sc = 0
+    costs (suc j) i sc = (if eqb (getD sc i 0) (getD w i 0) then 0 else 2 + d .program) + costs j (i + 1) sc
+
+    onto-past : (i : ℕ) (sc : List ℕ) → length w ≤ i → onto i sc ≡ rec Closing 0 0
+    unfolding diffFrom
+    onto-past i sc h = if-false (ltb (nextDiff (length w - i) i w sc) (length w)) _ _ (le-ltb _ (length w) (rw (diff-over (length w) i w sc h) h))
+
+    onto-differs : (i : ℕ) (sc : List ℕ) → i < length w → eqb (getD sc i 0) (getD w i 0) ≡ false → onto i sc ≡ rec ProgramAsking i 0
+    unfolding diffFrom
+    onto-differs i sc h e =
+        let q : nextDiff (length w - i) i w sc ≡ i = diff-turn (length w) i w sc h ∙ if-false (eqb (getD sc i 0) (getD w i 0)) (nextDiff (length w - (i + 1)) (i + 1) w sc) i e in
+        ap (λ (j : ℕ). (if ltb j (length w) then rec ProgramAsking j 0 else rec Closing 0 0)) q ∙ if-true (ltb i (length w)) _ _ (lt-ltb i (length w) h)
+
+    onto-agrees : (i : ℕ) (sc : List ℕ) → i < length w → eqb (getD sc i 0) (getD w i 0) ≡ true → onto i sc ≡ onto (i + 1) sc
+    unfolding diffFrom
+    onto-agrees i sc h e =
+        let q : nextDiff (length w - i) i w sc ≡ nextDiff (length w - (i + 1)) (i + 1) w sc =
+        diff-turn (length w) i w sc h ∙ if-true (eqb (getD sc i 0) (getD w i 0)) (nextDiff (length w - (i + 1)) (i + 1) w sc) i e in
+        ap (λ (j : ℕ). (if ltb j (length w) then rec ProgramAsking j 0 else rec Closing 0 0)) q
+
+    -- the programs from place i on, then the verify
+    walking : (r : Ready d p k) (sc : List ℕ) → length sc ≡ length w → ((i : ℕ) → i < length w → bitAnd (getD sc i 0) (getD w i 0) ≡ getD w i 0) → 0 < d .program → d .program ≤ 65535
+        → (j i cnt c : ℕ) (m : Mode) → i + j ≡ length w → c ≡ cnt + (costs j i sc + (1 + length w))
+        → Reach d w (conf (onto i sc) (atRest was m 128) (overlaid xs a (laid i w sc)) sc cnt) (final (overlaid xs a w) c) (programsOf j a i w sc) (programsThen d p j a i w sc (closingOf p a (length w)))
+    walking r sc ls falls z b zero i cnt c m e q =
+        subst (λ (l : Loader). Reach d w (conf l (atRest was m 128) (overlaid xs a (laid i w sc)) sc cnt) (final (overlaid xs a w) c) [] (closingOf p a (length w))) (sym (onto-past i sc (omega arith)))
+        (subst (λ (y : List ℕ). Reach d w (conf (rec Closing 0 0) (atRest was m 128) (overlaid xs a y) sc cnt) (final (overlaid xs a w) c) [] (closingOf p a (length w))) (sym whole) (closing m sc cnt c ls (omega arith)))
+      where
+        whole : laid i w sc ≡ w
+        whole = ap (λ (n : ℕ). laid n w sc) (let t : i ≡ length sc = omega arith in t) ∙ laid-all w sc (sym ls)
+    walking r sc ls falls z b (suc j) i cnt c m e q = go (eqb (getD sc i 0) (getD w i 0)) refl (walking r sc ls falls z b j (i + 1))
+      where
+        h : i < length w
+        h = omega arith
+
+        es : List Effect
+        es = programsOf j a (i + 1) w sc
+
+        cs : List Cycle
+        cs = programsThen d p j a (i + 1) w sc (closingOf p a (length w))
+
+        From : Loader → List ℕ → ℕ → Mode → List Effect → List Cycle → Type 0
+        From l y n m′ fs ds = Reach d w (conf l (atRest was m′ 128) (overlaid xs a y) sc n) (final (overlaid xs a w) c) fs ds
+
+        go : (t : Bool) → eqb (getD sc i 0) (getD w i 0) ≡ t
+            → ((cnt′ c′ : ℕ) (m′ : Mode) → i + 1 + j ≡ length w → c′ ≡ cnt′ + (costs j (i + 1) sc + (1 + length w))
+            → Reach d w (conf (onto (i + 1) sc) (atRest was m′ 128) (overlaid xs a (laid (i + 1) w sc)) sc cnt′) (final (overlaid xs a w) c′) es cs)
+            → From (onto i sc) (laid i w sc) cnt m (if eqb (getD sc i 0) (getD w i 0) then es else Program (a + i) (getD w i 0) ∷ es) (if eqb (getD sc i 0) (getD w i 0) then cs else programThen d p (a + i) (getD w i 0) cs)
+        go true t more =
+            rw t
+            (subst (λ (l : Loader). From l (laid i w sc) cnt m es cs) (sym (onto-agrees i sc h t))
+            (subst (λ (y : List ℕ). From (onto (i + 1) sc) y cnt m es cs) (sym (laid-agree w sc (sym ls) i (omega arith) (eqb-true _ _ t)))
+            (more cnt c m (omega arith) (let x = rw t at q in omega arith))))
+        go false t more =
+            rw t
+            (subst (λ (l : Loader). From l (laid i w sc) cnt m (Program (a + i) (getD w i 0) ∷ es) (programThen d p (a + i) (getD w i 0) cs)) (sym (onto-differs i sc h t))
+            (one-program r m i cnt (laid i w sc) sc (final (overlaid xs a w) c) es cs h (laid-length w sc (sym ls) i (omega arith) ∙ ls)
+            (ap (λ (x : ℕ). bitAnd x (getD w i 0)) (laid-here w sc (sym ls) i (omega arith)) ∙ falls i h) z b
+            (λ cnt′ s. subst (λ (y : List ℕ). From (onto (i + 1) sc) y cnt′ Status es cs) (sym (laid-more w sc i h (omega arith))) (more cnt′ c Status (omega arith) (let x = rw t at q in omega arith)))))
+
+    unrisen : (ys : List ℕ) → risesIn w ys ≡ false → (i : ℕ) → i < length w → bitAnd (getD ys i 0) (getD w i 0) ≡ getD w i 0
+    unfolding risesIn
+    unrisen ys e i h =
+        subst (λ (m : ℕ). bitAnd (getD ys m 0) (getD w m 0) ≡ getD w m 0) (let q : 0 + i ≡ i = omega arith in q)
+        (eqb-true (bitAnd (getD ys (0 + i) 0) (getD w (0 + i) 0)) (getD w (0 + i) 0) (not-false (eqb (bitAnd (getD ys (0 + i) 0) (getD w (0 + i) 0)) (getD w (0 + i) 0)) (no-rise (length w) 0 w ys e i h)))
+
+    -- the block all ones
+    abbrev blank : List ℕ
+    blank = replicate (length w) (ones (d .part))
+
+    erased-blank : (X : List ℕ) (j : ℕ) → j ≡ k → erased (d .part) j X ≡ overlaid X a blank
+    unfolding erased
+    erased-blank X j e = ap (λ (i : ℕ). overlaid X (startOf (d .part) i) (replicate (lengthOf (d .part) i) (ones (d .part)))) e ∙ ap (λ (n : ℕ). overlaid X a (replicate n (ones (d .part)))) (sym lw)
+
+    erase-poll : (q : ℕ) (sc : List ℕ) → nextOf (rec EraseWaiting 0 q) 0 w sc ≡ pollMore (rec EraseWaiting 0 q) EraseWaiting
+    unfolding erasePolled
+    erase-poll q sc = refl
+
+    erase-keeps : (q : ℕ) (sc : List ℕ) → storeOf (rec EraseWaiting 0 q) 0 sc ≡ sc
+    unfolding erasedWell eraseFault bothErrors
+    erase-keeps q sc = refl
+
+    erase-fills : (q : ℕ) (sc : List ℕ) → length sc ≡ length w → storeOf (rec EraseWaiting 0 q) 128 sc ≡ blank
+    unfolding erasedWell eraseFault bothErrors
+    erase-fills q sc e = ap (λ (n : ℕ). replicate n (ones (d .part))) e
+
+    erased-on : (q : ℕ) (sc : List ℕ) → nextOf (rec EraseWaiting 0 q) 128 w sc ≡ onto 0 sc
+    unfolding erasePolled eraseFault bothErrors
+    erased-on q sc = onward-onto EraseWaiting 0 q 0 sc
+
+    -- the erase: 20H, D0H, E polls
+    erasing : (r : Ready d p k) (m : Mode) (cnt : ℕ) (ys sc : List ℕ) (e : Config) (es : List Effect) (cs : List Cycle) → length ys ≡ length w → length sc ≡ length w → 0 < d .erase → d .erase ≤ 65535
+        → ((cnt′ : ℕ) → cnt′ ≡ cnt + (2 + d .erase) → Reach d w (conf (onto 0 blank) (atRest was Status 128) (overlaid xs a blank) blank cnt′) e es cs)
+        → Reach d w (conf (rec EraseAsking 0 0) (atRest was m 128) (overlaid xs a ys) sc cnt) e (Erase k ∷ es) (eraseThen d p a cs)
+    erasing r m cnt ys sc e es cs ly ls z b rest =
+        prepend d w _ _ e Nothing (cyc p Write a 0x20) (Erase k ∷ es) _
+        (turned d w (rec EraseAsking 0 0) (atRest was m 128) X sc cnt refl lX (cyc p Write a 0x20) Quiet asked Nothing told1)
+        (does d w (rec EraseAsking 0 0) (atRest was m 128) X sc cnt refl lX (cyc p Write a 0x20) Quiet asked Nothing told1)
+        (prepend d w _ _ e (Erase k) (cyc p Write a 0xD0) es _
+        (turned d w (rec EraseConfirming 0 0) asked X sc (cnt + 1) refl lX (cyc p Write a 0xD0) Quiet (st was Status 0 Erasing (d .erase) a) Nothing told2)
+        (does-as d w _ _ (Erase k) (cyc p Write a 0xD0) (ap Erase block-first)
+        (does d w (rec EraseConfirming 0 0) asked X sc (cnt + 1) refl lX (cyc p Write a 0xD0) Quiet (st was Status 0 Erasing (d .erase) a) Nothing told2))
+        (waiting-all r EraseWaiting 0 Erasing a a refl refl a-inside a-inside X sc lX
+        (λ q. ap (λ (x : ℕ). cyc p Read x 0) (first EraseWaiting 0 q)) (λ q. ap (λ (y : List ℕ). nextOf (rec EraseWaiting 0 q) 0 w y) (erase-keeps q sc) ∙ erase-poll q sc) (λ q. erase-keeps q sc)
+        (d .erase) (cnt + 1 + 1) e es cs z b (omega arith)
+        (λ q cnt′ t. prepend d w _ _ e Nothing (cyc p Read a 0) es cs
+        (turned d w (rec EraseWaiting 0 q) (st was Status 0 Erasing 1 a) X sc cnt′ refl lX (cyc p Read a 0) (Gives 128) (atRest was Status 128) (Erase (blockOf (d .part) a)) (told3 q)
+        ∙ (λ x. conf ((ap (λ (y : List ℕ). nextOf (rec EraseWaiting 0 q) 128 w y) (erase-fills q sc ls) ∙ erased-on q blank) x) (atRest was Status 128) (all-erased x) (erase-fills q sc ls x) (cnt′ + 1)))
+        (does d w (rec EraseWaiting 0 q) (st was Status 0 Erasing 1 a) X sc cnt′ refl lX (cyc p Read a 0) (Gives 128) (atRest was Status 128) (Erase (blockOf (d .part) a)) (told3 q))
+        (rest (cnt′ + 1) (omega arith)))))
+      where
+        X : List ℕ
+        X = overlaid xs a ys
+
+        lX : length X ≡ sizeOf (d .part)
+        lX = sized ys ly
+
+        asked : State
+        asked = st was Status 128 EraseAwaited 0 0
+
+        told1 : Told d w (rec EraseAsking 0 0) (atRest was m 128) (cyc p Write a 0x20) Quiet asked Nothing
+        told1 = told-first EraseAsking 0 0 Write 0x20 (atRest was m 128) Quiet asked Nothing refl (answers.asks-erase d p u was m 128 a refl a-inside) refl
+
+        told2 : Told d w (rec EraseConfirming 0 0) asked (cyc p Write a 0xD0) Quiet (st was Status 0 Erasing (d .erase) a) Nothing
+        told2 = told-first EraseConfirming 0 0 Write 0xD0 asked Quiet (st was Status 0 Erasing (d .erase) a) Nothing refl (answers.confirms d p u was k r a a-inside block-first) refl
+
+        told3 : (q : ℕ) → Told d w (rec EraseWaiting 0 q) (st was Status 0 Erasing 1 a) (cyc p Read a 0) (Gives 128) (atRest was Status 128) (Erase (blockOf (d .part) a))
+        told3 q = told-first EraseWaiting 0 q Read 0 (st was Status 0 Erasing 1 a) (Gives 128) (atRest was Status 128) (Erase (blockOf (d .part) a)) refl (answers.ends d p u was k r Erasing a a refl z a-inside a-inside) refl
+
+        all-erased : erased (d .part) (blockOf (d .part) a) X ≡ overlaid xs a blank
+        all-erased = erased-blank X (blockOf (d .part) a) block-first ∙ over-over xs a ys blank (a-within xs lx) (ly ∙ sym (length-replicate (length w) (ones (d .part))))
+
+    -- one more byte of the first reads
+    read-next : (i : ℕ) (sc : List ℕ) → i + 1 < length w → afterRead (rec Reading i 0) w sc ≡ rec Reading (i + 1) 0
+    unfolding afterRead
+    read-next i sc h = if-true (ltb i (length w - 1)) _ _ (lt-ltb i (length w - 1) (omega arith))
+
+    read-last : (i : ℕ) (sc : List ℕ) → i + 1 ≡ length w → afterRead (rec Reading i 0) w sc ≡ afterReads (rec Reading i 0) w sc
+    unfolding afterRead
+    read-last i sc h = if-false (ltb i (length w - 1)) _ _ (le-ltb i (length w - 1) (omega arith))
+
+    after-same : (i : ℕ) (sc : List ℕ) → afterReads (rec Reading i 0) w sc ≡ (if risesIn w sc then rec EraseAsking 0 0 else onto 0 sc)
+    unfolding afterReads onward
+    after-same i sc = refl
+
+    module _ (ys sc : List ℕ) (ly : length ys ≡ length w) (ls : length sc ≡ length w) where
+      read-told : (i : ℕ) (h : i < length w) → Told d w (rec Reading i 0) (atRest was Array 128) (cyc p Read (a + i) 0) (GivesArray (a + i)) (atRest was Array 128) Nothing
+      read-told i h = told-here Reading i 0 Read 0 (atRest was Array 128) (GivesArray (a + i)) (atRest was Array 128) Nothing h refl (answers.reads d p u was 128 (a + i) refl (inside i h)) refl
+
+      laid-read : (i : ℕ) (h : i < length w) → set (laid i ys sc) i (getD (overlaid xs a ys) (a + i) 0) ≡ laid (i + 1) ys sc
+      laid-read i h = ap (λ (v : ℕ). set (laid i ys sc) i v) (byte-at ys i ly h) ∙ laid-more ys sc i (omega arith) (omega arith)
+
+      reading : (j i cnt : ℕ) (e : Config) (es : List Effect) (cs : List Cycle) → i + (j + 1) ≡ length w
+          → ((cnt′ : ℕ) → cnt′ ≡ cnt + (j + 1) → Reach d w (conf (if risesIn w ys then rec EraseAsking 0 0 else onto 0 ys) (atRest was Array 128) (overlaid xs a ys) ys cnt′) e es cs)
+          → Reach d w (conf (rec Reading i 0) (atRest was Array 128) (overlaid xs a ys) (laid i ys sc) cnt) e es (readsThen p (suc j) a i cs)
+      reading zero i cnt e es cs q rest =
+          let h : i < length w = omega arith in
+          prepend d w _ _ e Nothing (cyc p Read (a + i) 0) es cs
+          (turned d w (rec Reading i 0) (atRest was Array 128) (overlaid xs a ys) (laid i ys sc) cnt refl (sized ys ly) (cyc p Read (a + i) 0) (GivesArray (a + i)) (atRest was Array 128) Nothing (read-told i h)
+          ∙ (λ t. conf ((ap (λ (y : List ℕ). afterRead (rec Reading i 0) w y) (laid-read i h ∙ whole) ∙ read-last i ys (omega arith) ∙ after-same i ys) t) (atRest was Array 128) (overlaid xs a ys) ((laid-read i h ∙ whole) t) (cnt + 1)))
+          (does d w (rec Reading i 0) (atRest was Array 128) (overlaid xs a ys) (laid i ys sc) cnt refl (sized ys ly) (cyc p Read (a + i) 0) (GivesArray (a + i)) (atRest was Array 128) Nothing (read-told i h))
+          (rest (cnt + 1) (omega arith))
+        where
+          whole : laid (i + 1) ys sc ≡ ys
+          whole = ap (λ (m : ℕ). laid m ys sc) (let z : i + 1 ≡ length sc = omega arith in z) ∙ laid-all ys sc (ly ∙ sym ls)
+      reading (suc j) i cnt e es cs q rest =
+          let h : i < length w = omega arith in
+          prepend d w _ _ e Nothing (cyc p Read (a + i) 0) es (readsThen p (suc j) a (i + 1) cs)
+          (turned d w (rec Reading i 0) (atRest was Array 128) (overlaid xs a ys) (laid i ys sc) cnt refl (sized ys ly) (cyc p Read (a + i) 0) (GivesArray (a + i)) (atRest was Array 128) Nothing (read-told i h)
+          ∙ (λ t. conf (read-next i (set (laid i ys sc) i (getD (overlaid xs a ys) (a + i) 0)) (omega arith) t) (atRest was Array 128) (overlaid xs a ys) (laid-read i h t) (cnt + 1)))
+          (does d w (rec Reading i 0) (atRest was Array 128) (overlaid xs a ys) (laid i ys sc) cnt refl (sized ys ly) (cyc p Read (a + i) 0) (GivesArray (a + i)) (atRest was Array 128) Nothing (read-told i h))
+          (reading j (i + 1) (cnt + 1) e es cs (omega arith) (λ cnt′ z. rest cnt′ (omega arith)))
+
+      -- where a load stands before it, and after the first reads
+      abbrev pub fore : Mode → ℕ → Config
+      fore m x = conf (rec Clearing 0 0) (atRest was m x) (overlaid xs a ys) sc 0
+
+      abbrev pub judged : ℕ → Config
+      judged cnt = conf (if risesIn w ys then rec EraseAsking 0 0 else onto 0 ys) (atRest was Array 128) (overlaid xs a ys) ys cnt
+
+      -- 50H, FFH and the first reads, from any mode and any error bits
+      pub opening : (m : Mode) (x : ℕ) → fits 2 x ≡ true → (e : Config) (es : List Effect) (cs : List Cycle) → Reach d w (judged (2 + length w)) e es cs
+          → Reach d w (fore m x) e es (openingThen p a (length w) cs)
+      opening m x f e es cs rest =
+          prepend d w _ _ e Nothing (cyc p Write a 0x50) es _
+          (turned d w (rec Clearing 0 0) (atRest was m x) (overlaid xs a ys) sc 0 refl (sized ys ly) (cyc p Write a 0x50) Quiet (atRest was m 128) Nothing told1)
+          (does d w (rec Clearing 0 0) (atRest was m x) (overlaid xs a ys) sc 0 refl (sized ys ly) (cyc p Write a 0x50) Quiet (atRest was m 128) Nothing told1)
+          (prepend d w _ _ e Nothing (cyc p Write a 0xFF) es _
+          (turned d w (rec Opening 0 0) (atRest was m 128) (overlaid xs a ys) sc (0 + 1) refl (sized ys ly) (cyc p Write a 0xFF) Quiet (atRest was Array 128) Nothing told2)
+          (does d w (rec Opening 0 0) (atRest was m 128) (overlaid xs a ys) sc (0 + 1) refl (sized ys ly) (cyc p Write a 0xFF) Quiet (atRest was Array 128) Nothing told2)
+          (subst (λ (n : ℕ). Reach d w (conf (rec Reading 0 0) (atRest was Array 128) (overlaid xs a ys) sc (0 + 1 + 1)) e es (readsThen p n a 0 cs)) one-more
+          (reading (length w - 1) 0 (0 + 1 + 1) e es cs (omega arith)
+          (λ cnt z. subst (λ (n : ℕ). Reach d w (judged n) e es cs) (let y : 2 + length w ≡ cnt = omega arith in y) rest))))
+        where
+          told1 : Told d w (rec Clearing 0 0) (atRest was m x) (cyc p Write a 0x50) Quiet (atRest was m 128) Nothing
+          told1 =
+              told-first Clearing 0 0 Write 0x50 (atRest was m x) Quiet (atRest was m 128) Nothing refl
+              (answers.clears d p u was m x a f a-inside ∙ ap (λ (y : ℕ). decidedAs Quiet (atRest was m y) Nothing) (cleared x f)) refl
+
+          told2 : Told d w (rec Opening 0 0) (atRest was m 128) (cyc p Write a 0xFF) Quiet (atRest was Array 128) Nothing
+          told2 = told-first Opening 0 0 Write 0xFF (atRest was m 128) Quiet (atRest was Array 128) Nothing refl (answers.opens d p u was m 128 a refl a-inside) refl
+
+      -- the whole load, whether some bit must rise or none
+      pub loading : (r : Ready d p k) (m : Mode) (x c : ℕ) → fits 2 x ≡ true → Cells (d .part) w → 0 < d .program → d .program ≤ 65535 → 0 < d .erase → d .erase ≤ 65535
+          → c ≡ 2 * length w + 3 + ((if risesIn w ys then 2 + d .erase else 0) + costs (length w) 0 (baseOf (d .part) w ys))
+          → Reach d w (fore m x) (final (overlaid xs a w) c) (operationsOf (d .part) k a w ys) (cyclesOf d p a w ys)
+      loading r m x c f bw zp bp ze be q = opening m x f (final (overlaid xs a w) c) _ _ (go (risesIn w ys) refl)
+        where
+          End : List Effect → List Cycle → Type 0
+          End es cs = Reach d w (judged (2 + length w)) (final (overlaid xs a w) c) es cs
+
+          last : List Cycle
+          last = closingOf p a (length w)
+
+          go : (t : Bool) → risesIn w ys ≡ t → End (operationsOf (d .part) k a w ys) (if risesIn w ys then eraseThen d p a (programmingOf d p a w ys) else programmingOf d p a w ys)
+          go true t =
+              rw t
+              (erasing r Array (2 + length w) ys ys (final (overlaid xs a w) c) (programsOf (length w) a 0 w blank) (programsThen d p (length w) a 0 w blank last) ly ly ze be
+              (λ cnt′ y. walking r blank (length-replicate (length w) (ones (d .part))) (λ i h. full i h) zp bp (length w) 0 cnt′ c Status (omega arith) (let z = rw t at q in omega arith)))
+            where
+              full : (i : ℕ) → i < length w → bitAnd (getD blank i 0) (getD w i 0) ≡ getD w i 0
+              full i h = ap (λ (y : ℕ). bitAnd y (getD w i 0)) (getD-replicate (length w) i (ones (d .part)) 0 h) ∙ and-ones (d .part) (getD w i 0) (bw i)
+          go false t =
+              rw t
+              (walking r ys ly (λ i h. unrisen ys t i h) zp bp (length w) 0 (2 + length w) c Array (omega arith) (let z = rw t at q in omega arith))
+
+    -- the cost of the programs is a product
+    pub costs-are : (j i : ℕ) (sc : List ℕ) → costs j i sc ≡ differing j i w sc * (2 + d .program)
+    costs-are zero i sc = sym (zero-mul (2 + d .program))
+    costs-are (suc j) i sc = go (eqb (getD sc i 0) (getD w i 0)) (costs-are j (i + 1) sc)
+      where
+        go : (t : Bool) → costs j (i + 1) sc ≡ differing j (i + 1) w sc * (2 + d .program)
+            → (if t then 0 else 2 + d .program) + costs j (i + 1) sc ≡ ((if t then 0 else 1) + differing j (i + 1) w sc) * (2 + d .program)
+        go true e = rw e (let z = zero-add (differing j (i + 1) w sc) in rw z (omega arith))
+        go false e = rw (e, add-mul 1 (differing j (i + 1) w sc) (2 + d .program), one-mul (2 + d .program)) refl

@@ -1,0 +1,319 @@
+-- Stepping by hand is the run: each step gives what the run's next turn gives. Assumes nothing.
+use mathlib.Core.Path.{_≡_, refl, sym, ap, _∙_, subst}
+use mathlib.Core.Bool.{Bool, true, false, not, _||_}
+use mathlib.Core.List.{List}
+use Prim.Native.Nat.{ℕ, zero, suc, _≤_, _<_}
+use native.Mathlib.Omega.{arith}
+use lib.ListN.{length}
+use lib.Dec.{eqb, ltb}
+use borrow.Author.Tests.{ltb-true, ltb-false, not-true}
+use Rattle.common.proofs.Choice.{if-ind, if-false, or-left, or-right, and-left, and-right, unlike}
+use Rattle.common.specs.Numbers.{NoRow, end, past}
+use Rattle.common.proofs.Numbers.{no-row-given, no-head, no-tail}
+use Rattle.device.specs.declared.Device.{Device}
+use Rattle.device.specs.Parts as parts
+use Rattle.device.specs.Parts.{unknownPart, unknownDevice}
+use Rattle.model_types.specs.declared.Pins.{Pins}
+use Rattle.model_types.specs.declared.Kind.{Kind}
+use Rattle.model_types.specs.declared.Kind.the-variants.{Read, Write, Idle}
+use Rattle.model_types.specs.declared.Mode.{Mode}
+use Rattle.model_types.specs.declared.Mode.the-variants.{Array, Status, Identifier}
+use Rattle.model_types.specs.declared.Cycle.{Cycle}
+use Rattle.model_types.specs.declared.Reply.{Reply}
+use Rattle.model_types.specs.declared.Reply.the-variants.{Quiet, Gives, GivesArray, Refuses}
+use Rattle.model_types.specs.declared.Decision.{Decision}
+use Rattle.model_types.specs.declared.Settled.{Settled}
+use Rattle.model_types.specs.declared.State.{State}
+use Rattle.model_types.specs.Levels.{rpLow, badPins}
+use Rattle.model_rules.specs.Cycles.{decideOf, respondOf, replyTo}
+use Rattle.model_types.specs.Kinds.{isRead}
+use Rattle.model_operation.specs.Settling.{settleOf}
+use Rattle.model.specs.declared.Seen.{Seen}
+use Rattle.model.specs.declared.Seen.the-variants.{Byte}
+use Rattle.model.specs.Arrays.{seenOf, answerOf, isRefusal}
+use Rattle.model.proofs.Outcome.{outcome, accept-ways}
+use Rattle.loader.specs.declared.Stage.{Stage}
+use Rattle.loader.specs.declared.Stage.the-variants.{Clearing, Opening, Reading, EraseAsking, EraseConfirming, EraseWaiting, ProgramAsking, ProgramSending, ProgramWaiting, Closing, Verifying, Ended}
+use Rattle.loader.specs.declared.Loader.{Loader}
+use Rattle.loader.specs.declared.Turn.the-variants.{Over}
+use Rattle.loader.specs.declared.Given.{Given}
+use Rattle.loader.specs.Moves.{nextIn, nextOf}
+use Rattle.loader_steps.specs.Outs.{cycleAtStage, cycleOf}
+use Rattle.loader_steps.specs.Stores.{storeIn, storeOf}
+use Rattle.loader_steps.specs.Front.{barredPins, startNumber, stepNumber, recordAt, endAddress, turnIn, turnGiven, stepGiven, scratchAfter}
+use Rattle.loader_steps.proofs.Again.{taken, start-gives, start-again, step-on, step-again}
+use Rattle.loader_run.specs.declared.Ran.{Ran}
+use Rattle.loader_run.specs.Turns as turns
+use Rattle.loader_run.specs.Turns.{Config, numberIn, answerTo, moved, turnOf, after, bound}
+use Rattle.loader.specs.Stages.{isEnded, endBy}
+use Rattle.loader_run.specs.Runs.{runRows, ranBy, begin, driven, ranOf, bytesOf, scratchOf}
+use Rattle.loader_run.proofs.Turning.{took, turn-ended, turn-going, ended-stays}
+use Rattle.loader_run.specs.Promises.{Promise}
+use Rattle.loader_run.proofs.Ending.{always-ends, run-first, run-accepted}
+use Rattle.loader_run_claims.specs.Wear.{heldIn}
+use Rattle.loader_run_claims.specs.Made.{isSmooth, smoothTurn, smoothIn}
+use Rattle.loader_run_claims.specs.Ends.{endNumber, wellRan, faultRan, ranAs, Whole}
+use Rattle.loader_run_claims.specs.Stepping.{answerAt, Handed, runAt, overAt, Stepped}
+
+-- the last of some turns
+after-last : (j : ℕ) (d : Device) (w : List ℕ) (c : Config) → after (suc j) d w c ≡ turnOf d w (after j d w c)
+after-last zero d w c = refl
+after-last (suc j) d w c = after-last j d w (turnOf d w c)
+
+-- what has ended has ended later
+ended-later : (m j : ℕ) (d : Device) (w : List ℕ) (c : Config) → m ≤ j → isEnded (after m d w c .loader .stage) ≡ true → isEnded (after j d w c .loader .stage) ≡ true
+ended-later zero j d w c h e = ap (λ (x : Config). isEnded (x .loader .stage)) (ended-stays j d w c e) ∙ e
+ended-later (suc m) zero d w c h e = absurd (omega arith)
+ended-later (suc m) (suc j) d w c h e = ended-later m j d w (turnOf d w c) (omega arith) e
+
+-- where all turns up to an end are smooth, each turn before it is
+smooth-at : (m j : ℕ) (d : Device) (w : List ℕ) (c : Config) → isEnded (after m d w c .loader .stage) ≡ true → smoothIn m d w c ≡ true
+    → isEnded (after j d w c .loader .stage) ≡ false → smoothTurn d w (after j d w c) ≡ true
+smooth-at zero j d w c e h g = absurd (unlike (sym (ended-later zero j d w c (omega arith) e) ∙ g))
+smooth-at (suc m) zero d w c e h g = and-left (smoothTurn d w c) (smoothIn m d w (turnOf d w c)) h
+smooth-at (suc m) (suc j) d w c e h g = smooth-at m j d w (turnOf d w c) e (and-right (smoothTurn d w c) (smoothIn m d w (turnOf d w c)) h) g
+
+-- a smooth turn: the model takes the cycle that is out
+smooth-taken : (d : Device) (w : List ℕ) (c : Config) → isEnded (c .loader .stage) ≡ false → smoothTurn d w c ≡ true
+    → isRefusal (decideOf d (c .state) (cycleOf (c .loader) w) (length (c .bytes)) 0 .reply) ≡ false
+unfolding smoothTurn
+smooth-taken d w c g h =
+    let x : Decision = decideOf d (c .state) (cycleOf (c .loader) w) (length (c .bytes)) 0 in
+    not-true (isRefusal (x .reply)) (and-left (not (isRefusal (x .reply))) _ (sym (if-false (isEnded (c .loader .stage)) true (isSmooth x) g) ∙ h))
+
+-- what a host sees of a reply is a refusal where the reply is one
+seen-taken : (r : Reply) (xs : List ℕ) → isRefusal r ≡ false → turns.isRefused (seenOf r xs) ≡ false
+seen-taken Quiet xs e = refl
+seen-taken (Gives b) xs e = refl
+seen-taken (GivesArray a) xs e = refl
+seen-taken (Refuses n) xs e = e
+
+-- a read that is taken with RP# up is answered by a byte
+read-answered : (d : Device) (s : State) (c : Cycle) (n r : ℕ) (xs : List ℕ) → c .kind ≡ Read → rpLow (c .pins) ≡ false → isRefusal (decideOf d s c n r .reply) ≡ false
+    → seenOf (decideOf d s c n r .reply) xs ≡ Byte (numberIn (seenOf (decideOf d s c n r .reply) xs))
+read-answered d s c n r xs kind up =
+    outcome d s c n r (λ (x : Decision). isRefusal (x .reply) ≡ false → seenOf (x .reply) xs ≡ Byte (numberIn (seenOf (x .reply) xs))) (λ m z e q. absurd (unlike q))
+    (λ z f. accept-ways d c (settleOf (d .part) s (c .pins)) (λ (x : Decision). isRefusal (x .reply) ≡ false → seenOf (x .reply) xs ≡ Byte (numberIn (seenOf (x .reply) xs)))
+    (λ e q. absurd (unlike (sym e ∙ up))) (λ e k h q. kinds (settleOf (d .part) s (c .pins)) k (sym h ∙ kind)))
+  where
+    reads : (m : Mode) (a sr : ℕ) → seenOf (replyTo m (d .part) a sr) xs ≡ Byte (numberIn (seenOf (replyTo m (d .part) a sr) xs))
+    reads Array a sr = refl
+    reads Status a sr = refl
+    reads Identifier a sr = refl
+
+    kinds : (t : Settled) (k : Kind) → k ≡ Read → seenOf (respondOf k d c t .reply) xs ≡ Byte (numberIn (seenOf (respondOf k d c t .reply) xs))
+    kinds t Read q = reads (t .state .mode) (c .address) (t .state .status)
+    kinds t Write q = absurd (unlike (sym (ap isRead q)))
+    kinds t Idle q = absurd (unlike (sym (ap isRead q)))
+
+-- the cycle that is out has the record's levels
+out-pins : (stage : Stage) (first here : ℕ) (l : Loader) (w : List ℕ) → cycleAtStage stage first here l w .pins ≡ l .pins
+out-pins Clearing first here l w = refl
+out-pins Opening first here l w = refl
+out-pins Reading first here l w = refl
+out-pins EraseAsking first here l w = refl
+out-pins EraseConfirming first here l w = refl
+out-pins EraseWaiting first here l w = refl
+out-pins ProgramAsking first here l w = refl
+out-pins ProgramSending first here l w = refl
+out-pins ProgramWaiting first here l w = refl
+out-pins Closing first here l w = refl
+out-pins Verifying first here l w = refl
+out-pins (Ended n) first here l w = refl
+
+-- two bytes move a record alike: the same byte after a read, any two after a write
+pub record Alike (stage : Stage) (l : Loader) (w sc : List ℕ) (b x : ℕ) : Type 0 where
+  pub stored : storeIn stage (l .part) (l .place) b sc ≡ storeIn stage (l .part) (l .place) x sc
+  pub next : nextIn stage l b w (storeIn stage (l .part) (l .place) b sc) ≡ nextIn stage l x w (storeIn stage (l .part) (l .place) x sc)
+
+same-byte : (stage : Stage) (l : Loader) (w sc : List ℕ) (b x : ℕ) → b ≡ x → Alike stage l w sc b x
+same-byte stage l w sc b x q =
+    record { stored = ap (λ (y : ℕ). storeIn stage (l .part) (l .place) y sc) q; next = ap (λ (y : ℕ). nextIn stage l y w (storeIn stage (l .part) (l .place) y sc)) q }
+
+alike : (stage : Stage) (first here : ℕ) (l : Loader) (w sc : List ℕ) (b x : ℕ) → (cycleAtStage stage first here l w .kind ≡ Read → b ≡ x) → Alike stage l w sc b x
+alike Clearing first here l w sc b x h = record { stored = refl; next = refl }
+alike Opening first here l w sc b x h = record { stored = refl; next = refl }
+alike Reading first here l w sc b x h = same-byte Reading l w sc b x (h refl)
+alike EraseAsking first here l w sc b x h = record { stored = refl; next = refl }
+alike EraseConfirming first here l w sc b x h = record { stored = refl; next = refl }
+alike EraseWaiting first here l w sc b x h = same-byte EraseWaiting l w sc b x (h refl)
+alike ProgramAsking first here l w sc b x h = record { stored = refl; next = refl }
+alike ProgramSending first here l w sc b x h = record { stored = refl; next = refl }
+alike ProgramWaiting first here l w sc b x h = same-byte ProgramWaiting l w sc b x (h refl)
+alike Closing first here l w sc b x h = record { stored = refl; next = refl }
+alike Verifying first here l w sc b x h = same-byte Verifying l w sc b x (h refl)
+alike (Ended n) first here l w sc b x h = record { stored = refl; next = refl }
+
+-- one turn that the model takes, from a record whose tests pass
+module _ (d : Device) (w : List ℕ) (c : Config) (going : isEnded (c .loader .stage) ≡ false)
+    (fine : isRefusal (decideOf d (c .state) (cycleOf (c .loader) w) (length (c .bytes)) 0 .reply) ≡ false)
+    (passes : stepNumber (c .loader) (length w) (length (c .scratch)) ≡ 0) where
+  abbrev seen : Seen
+  seen = answerAt d w c .seen
+
+  -- the model's answer is no refusal
+  turn-taken : turns.isRefused seen ≡ false
+  unfolding answerTo answerOf
+  turn-taken = seen-taken (decideOf d (c .state) (cycleOf (c .loader) w) (length (c .bytes)) 0 .reply) _ fine
+
+  -- and a byte where the cycle is a read
+  levels-up : (l : Loader) → barredPins (l .part) (l .pins) ≡ false → rpLow (l .pins) ≡ false
+  unfolding barredPins
+  levels-up l e = or-right (badPins (l .part) (l .pins)) (rpLow (l .pins)) e
+
+  turn-read : cycleOf (c .loader) w .kind ≡ Read → seen ≡ Byte (numberIn seen)
+  unfolding answerTo answerOf
+  turn-read kind =
+      read-answered d (c .state) (cycleOf (c .loader) w) (length (c .bytes)) 0 _ kind
+      (ap rpLow (out-pins (c .loader .stage) _ _ (c .loader) w) ∙ levels-up (c .loader) (taken (c .loader) (length w) (length (c .scratch)) passes .levels)) fine
+
+  -- the record and scratch that the turn leaves
+  turn-loader : turnOf d w c .loader ≡ nextOf (c .loader) (numberIn seen) w (storeOf (c .loader) (numberIn seen) (c .scratch))
+  turn-loader = ap (λ (x : Config). x .loader) (turn-going d w c going) ∙ took seen (c .loader) w (c .scratch) turn-taken .0
+
+  turn-scratch : turnOf d w c .scratch ≡ storeOf (c .loader) (numberIn seen) (c .scratch)
+  turn-scratch = ap (λ (x : Config). x .scratch) (turn-going d w c going) ∙ took seen (c .loader) w (c .scratch) turn-taken .1
+
+  -- its tests pass again
+  turn-passes : stepNumber (turnOf d w c .loader) (length w) (length (turnOf d w c .scratch)) ≡ 0
+  turn-passes =
+      let s = step-on (c .loader) (numberIn seen) w (c .scratch) passes in
+      let l : stepGiven (c .loader) (numberIn seen) w (c .scratch) .loader ≡ turnOf d w c .loader = ap (λ (g : Given). g .loader) (s .0) ∙ sym turn-loader in
+      let r : scratchAfter (c .loader) (numberIn seen) w (c .scratch) ≡ turnOf d w c .scratch = s .1 ∙ sym turn-scratch in
+      subst (λ (x : Loader). stepNumber x (length w) (length (turnOf d w c .scratch)) ≡ 0) l
+      (subst (λ (x : List ℕ). stepNumber (stepGiven (c .loader) (numberIn seen) w (c .scratch) .loader) (length w) (length x) ≡ 0) r
+      (step-again (c .loader) (numberIn seen) w (c .scratch) passes))
+
+  -- the step with the byte handed on gives and leaves the same
+  module _ (b : ℕ) (handed : Handed d w c b) where
+    same : Alike (c .loader .stage) (c .loader) w (c .scratch) b (numberIn seen)
+    same = alike (c .loader .stage) _ _ (c .loader) w (c .scratch) b (numberIn seen) (λ kind. handed (numberIn seen) kind (turn-read kind))
+
+    pub step-given : stepGiven (c .loader) b w (c .scratch) ≡ turnGiven (turnOf d w c .loader) w
+    step-given = step-on (c .loader) b w (c .scratch) passes .0 ∙ ap (λ (l : Loader). turnGiven l w) (same .next ∙ sym turn-loader)
+
+    pub step-stored : scratchAfter (c .loader) b w (c .scratch) ≡ turnOf d w c .scratch
+    step-stored = step-on (c .loader) b w (c .scratch) passes .1 ∙ same .stored ∙ sym turn-scratch
+
+-- what passes the tests of a run passes those of a start
+known-part : (d : Device) → unknownDevice d ≡ false → unknownPart (d .part) ≡ false
+unfolding unknownDevice
+known-part d e = or-left (unknownPart (d .part)) (eqb (d .program) 0) (or-left (unknownPart (d .part) || eqb (d .program) 0) (eqb (d .erase) 0) e)
+
+start-passes : (d : Device) (s : State) (p : Pins) (k array w sc : ℕ) → NoRow (runRows d s p k array w sc) → startNumber (d .part) p k w sc ≡ 0
+unfolding startNumber
+start-passes d s p k array w sc r =
+    let r4 = no-tail (no-tail (no-tail r)) in
+    let r5 = no-tail r4 in
+    let r6 = no-tail r5 in
+    no-row-given (past (known-part d (no-head r)) (past (no-head r4) (past (no-head r5) (past (no-head r6) end))))
+
+-- a record that has ended tells its number and address
+over-told : (stage : Stage) (l : Loader) (w : List ℕ) → isEnded stage ≡ true → turnIn stage l w ≡ Over (endBy stage) (endAddress l (endBy stage))
+over-told Clearing l w e = absurd (unlike (sym e))
+over-told Opening l w e = absurd (unlike (sym e))
+over-told Reading l w e = absurd (unlike (sym e))
+over-told EraseAsking l w e = absurd (unlike (sym e))
+over-told EraseConfirming l w e = absurd (unlike (sym e))
+over-told EraseWaiting l w e = absurd (unlike (sym e))
+over-told ProgramAsking l w e = absurd (unlike (sym e))
+over-told ProgramSending l w e = absurd (unlike (sym e))
+over-told ProgramWaiting l w e = absurd (unlike (sym e))
+over-told Closing l w e = absurd (unlike (sym e))
+over-told Verifying l w e = absurd (unlike (sym e))
+over-told (Ended n) l w e = refl
+
+-- a run whose cycles the model takes, stepped by hand
+module _ (d : Device) (s : State) (p : Pins) (k : ℕ) (xs w sc : List ℕ) (free : NoRow (runRows d s p k (length xs) (length w) (length sc)))
+    (smooth : smoothIn (bound (length w)) d w (begin d s (recordAt (d .part) p k Clearing) xs sc) ≡ true) where
+  abbrev at : ℕ → Config
+  at j = runAt d s p k xs w sc j
+
+  abbrev over : ℕ → Bool
+  over j = overAt d s p k xs w sc j
+
+  abbrev ran : Ran
+  ran = ranOf d s p k xs w sc
+
+  last : (j : ℕ) → at (suc j) ≡ turnOf d w (at j)
+  last j = after-last j d w (at 0)
+
+  promise : Promise d s p k xs w sc ran (bytesOf d s p k xs w sc) (scratchOf d s p k xs w sc)
+  promise = run-first d s p k xs w sc free
+
+  bounded : isEnded (at (bound (length w)) .loader .stage) ≡ true
+  unfolding driven
+  bounded = always-ends d w (at 0)
+
+  fine : (j : ℕ) → over j ≡ false → isRefusal (decideOf d (at j .state) (cycleOf (at j .loader) w) (length (at j .bytes)) 0 .reply) ≡ false
+  fine j e = smooth-taken d w (at j) e (smooth-at (bound (length w)) j d w (at 0) bounded smooth e)
+
+  -- the tests of every step pass
+  passes : (j : ℕ) → stepNumber (at j .loader) (length w) (length (at j .scratch)) ≡ 0
+  passes zero =
+      let q = start-passes d s p k (length xs) (length w) (length sc) free in
+      subst (λ (g : Given). stepNumber (g .loader) (length w) (length sc) ≡ 0) (start-gives (d .part) p k w sc q) (start-again (d .part) p k w sc q)
+  passes (suc j) = subst (λ (c : Config). stepNumber (c .loader) (length w) (length (c .scratch)) ≡ 0) (sym (last j)) (go (over j) refl (passes j))
+    where
+      go : (t : Bool) → over j ≡ t → stepNumber (at j .loader) (length w) (length (at j .scratch)) ≡ 0
+          → stepNumber (turnOf d w (at j) .loader) (length w) (length (turnOf d w (at j) .scratch)) ≡ 0
+      go true e h = subst (λ (c : Config). stepNumber (c .loader) (length w) (length (c .scratch)) ≡ 0) (sym (turn-ended d w (at j) e)) h
+      go false e h = turn-passes d w (at j) e (fine j e) h
+
+  -- the run is before its end for as many cycles as it counts
+  lasting : (j : ℕ) → over j ≡ false → j < ran .count
+  lasting j e = go (ltb j (ran .count)) refl
+    where
+      go : (t : Bool) → ltb j (ran .count) ≡ t → j < ran .count
+      go true q = ltb-true j (ran .count) q
+      go false q = absurd (unlike (sym (ended-later (ran .count) j d w (at 0) (ltb-false j (ran .count) q) (promise .ended)) ∙ e))
+
+  counting : (j : ℕ) → over j ≡ false → over (suc j) ≡ true → ran .count ≡ suc j
+  counting j e z = go (ltb (suc j) (ran .count)) refl (lasting j e)
+    where
+      go : (t : Bool) → ltb (suc j) (ran .count) ≡ t → j < ran .count → ran .count ≡ suc j
+      go true q h = absurd (unlike (sym z ∙ promise .first (suc j) (ltb-true (suc j) (ran .count) q)))
+      go false q h = let x = ltb-false (suc j) (ran .count) q in omega arith
+
+  -- where it has ended it is what the run returns
+  ended-as : (j : ℕ) → over j ≡ false → over (suc j) ≡ true → ranBy (at (suc j)) ≡ ran
+  ended-as j e z = sym (promise .returned ∙ ap (λ (i : ℕ). ranBy (at i)) (counting j e z))
+
+  stepping : (j b : ℕ) → over j ≡ false → Handed d w (at j) b → stepGiven (at j .loader) b w (at j .scratch) ≡ turnGiven (at (suc j) .loader) w
+  stepping j b e h = step-given d w (at j) e (fine j e) (passes j) b h ∙ ap (λ (c : Config). turnGiven (c .loader) w) (sym (last j))
+
+  ending : (j b : ℕ) → over j ≡ false → over (suc j) ≡ true → Handed d w (at j) b → stepGiven (at j .loader) b w (at j .scratch) .turn ≡ Over (ran .end) (ran .address)
+  ending j b e z h =
+      ap (λ (g : Given). g .turn) (stepping j b e h)
+      ∙ over-told (at (suc j) .loader .stage) (at (suc j) .loader) w z
+      ∙ ap (λ (r : Ran). Over (r .end) (r .address)) (ended-as j e z)
+
+  pub by-hand : Stepped d s p k xs w sc
+  by-hand =
+      record {
+        starts = start-gives (d .part) p k w sc (start-passes d s p k (length xs) (length w) (length sc) free);
+        lasts = λ j. (lasting j, promise .first j);
+        takes = λ j e. turn-taken d w (at j) e (fine j e) (passes j);
+        answers = λ j e. turn-read d w (at j) e (fine j e) (passes j);
+        makes = λ j e.
+            let m : moved d w (at j) ≡ at (suc j) = sym (turn-going d w (at j) e) ∙ sym (last j) in
+            (ap (λ (c : Config). c .state) m, ap (λ (c : Config). c .bytes) m);
+        steps = stepping;
+        stores = λ j b e h. step-stored d w (at j) e (fine j e) (passes j) b h ∙ ap (λ (c : Config). c .scratch) (sym (last j));
+        ends = ending;
+        counts = counting;
+        leaves = λ j e z.
+            let n = counting j e z in
+            (ap (λ (r : Ran). r .state) (ended-as j e z), sym (promise .array ∙ ap (λ (i : ℕ). at i .bytes) n), sym (promise .room ∙ ap (λ (i : ℕ). at i .scratch) n));
+      }
+
+-- a run that returns what specs/Ends says counts a cycle, so nothing refused it
+some-counted : (d : Device) (s : State) (p : Pins) (k : ℕ) (w ys : List ℕ) → 0 < ranAs d s p k w ys .count
+unfolding ranAs
+some-counted d s p k w ys =
+    if-ind (λ (r : Ran). 0 < r .count) (eqb (endNumber d p k w ys) 0) (wellRan d s w ys) (faultRan d s p w ys (endNumber d p k w ys)) (λ e. omega arith) (λ e. omega arith)
+
+pub stepped : (d : Device) (s : State) (p : Pins) (k : ℕ) (xs w sc : List ℕ) → Whole d s p k xs w sc → Stepped d s p k xs w sc
+stepped d s p k xs w sc h =
+    by-hand d s p k xs w sc
+    (run-accepted d s p k xs w sc .0 (subst (λ (r : Ran). 0 < r .count) (sym (h .ran)) (some-counted d s p k w (heldIn (parts.startOf (d .part) k) (length w) xs)))) (h .smooth)

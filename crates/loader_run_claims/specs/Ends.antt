@@ -1,0 +1,79 @@
+-- How a run that nothing refuses ends, for every supply and level that is let in. Assumes nothing.
+use mathlib.Core.Path.{_≡_}
+use mathlib.Core.Bool.{Bool, true, not, _&&_}
+use mathlib.Core.List.{List, [], _∷_}
+use Prim.Native.Nat.{ℕ, _+_}
+use lib.ListN.{length, getD}
+use lib.Dec.{eqb}
+use Rattle.device.specs.declared.Part.{Part}
+use Rattle.common.specs.Choice.{if_then_else_}
+use Rattle.common.specs.Lists.{overlaid}
+use Rattle.device.specs.declared.Device.{Device}
+use Rattle.device.specs.Parts.{startOf}
+use Rattle.model_types.specs.declared.Pins.{Pins}
+use Rattle.model_types.specs.declared.Kind.the-variants.{Read, Write}
+use Rattle.model_types.specs.declared.Cycle.{Cycle}
+use Rattle.model_types.specs.declared.Mode.the-variants.{Array, Status}
+use Rattle.model_types.specs.declared.State.{State}
+use Rattle.model_types.specs.Levels.{vppLow, unlocked}
+use Rattle.model_types.specs.States.{atRest}
+use Rattle.loader.specs.Walks.{risesIn, diffFrom}
+use Rattle.loader_run.specs.declared.Ran.{Ran}
+use Rattle.loader_run.specs.Runs.{ranOf, bytesOf, scratchOf}
+use Rattle.loader_run_claims.specs.Wear.{differing, heldIn, formula}
+use Rattle.loader_run_claims.specs.Made.{busCycle, openingThen, cyclesOf, cyclesOfLoad, smoothLoad}
+
+-- the block holds what is wanted: nothing to erase or program
+unfoldable pub asWanted : List ℕ → List ℕ → Bool
+asWanted w ys = eqb (differing (length w) 0 w ys) 0
+
+-- the boot block, and RP# not at unlock level
+unfoldable pub shut : Part → Pins → ℕ → Bool
+shut part p k = eqb k 0 && not (unlocked part p 0)
+
+-- the end's number: well with nothing to do; else 21 with VPP low; else 23 or 24 where the block is shut; else well
+unfoldable pub endNumber : Device → Pins → ℕ → List ℕ → List ℕ → ℕ
+endNumber d p k w ys = if asWanted w ys then 0 else if vppLow (d .part) p then 21 else if shut (d .part) p k then (if risesIn w ys then 23 else 24) else 0
+
+-- the status that the first operation leaves which cannot start: SR.7 with SR.5 or SR.4, and SR.3 where VPP is low
+unfoldable pub faultStatus : Device → Pins → List ℕ → List ℕ → ℕ
+faultStatus d p w ys = if vppLow (d .part) p then (if risesIn w ys then 0xA8 else 0x98) else if risesIn w ys then 0xA0 else 0x90
+
+-- the two writes of an operation that does not start, and one poll
+abbrev pub eraseTried : Pins → ℕ → List Cycle
+eraseTried p a = busCycle p Write a 0x20 ∷ busCycle p Write a 0xD0 ∷ busCycle p Read a 0 ∷ []
+
+abbrev pub programTried : Pins → ℕ → ℕ → List Cycle
+programTried p x b = busCycle p Write x 0x40 ∷ busCycle p Write x b ∷ busCycle p Read x 0 ∷ []
+
+-- the cycles up to such an end: the first reads, then the erase, or the program of the first byte that differs
+abbrev pub faultCycles : Pins → ℕ → List ℕ → List ℕ → List Cycle
+faultCycles p a w ys = openingThen p a (length w) (if risesIn w ys then eraseTried p a else programTried p (a + diffFrom 0 w ys) (getD w (diffFrom 0 w ys) 0))
+
+-- a run that ends well, and one that ends by a fault at cycle n + 5
+abbrev pub wellRan : Device → State → List ℕ → List ℕ → Ran
+wellRan d s w ys = record { count = formula d w ys; end = 0; address = 0; state = atRest s Array 0x80 }
+
+abbrev pub faultRan : Device → State → Pins → List ℕ → List ℕ → ℕ → Ran
+faultRan d s p w ys n = record { count = length w + 5; end = n; address = 0; state = atRest s Status (faultStatus d p w ys) }
+
+-- what such a run returns, what it leaves in array and scratch, and its cycles
+unfoldable pub ranAs : Device → State → Pins → ℕ → List ℕ → List ℕ → Ran
+ranAs d s p k w ys = if eqb (endNumber d p k w ys) 0 then wellRan d s w ys else faultRan d s p w ys (endNumber d p k w ys)
+
+unfoldable pub bytesAs : Device → Pins → ℕ → ℕ → List ℕ → List ℕ → List ℕ → List ℕ
+bytesAs d p k a w ys xs = if eqb (endNumber d p k w ys) 0 then overlaid xs a w else xs
+
+unfoldable pub scratchAs : Device → Pins → ℕ → List ℕ → List ℕ → List ℕ
+scratchAs d p k w ys = if eqb (endNumber d p k w ys) 0 then w else ys
+
+unfoldable pub cyclesAs : Device → Pins → ℕ → ℕ → List ℕ → List ℕ → List Cycle
+cyclesAs d p k a w ys = if eqb (endNumber d p k w ys) 0 then cyclesOf d p a w ys else faultCycles p a w ys
+
+-- what a run returns, what it leaves in array and scratch, the cycles that it makes, and that the model takes them all and nothing is cut
+pub record Whole (d : Device) (s : State) (p : Pins) (k : ℕ) (xs w sc : List ℕ) : Type 0 where
+  pub ran : ranOf d s p k xs w sc ≡ ranAs d s p k w (heldIn (startOf (d .part) k) (length w) xs)
+  pub bytes : bytesOf d s p k xs w sc ≡ bytesAs d p k (startOf (d .part) k) w (heldIn (startOf (d .part) k) (length w) xs) xs
+  pub scratch : scratchOf d s p k xs w sc ≡ scratchAs d p k w (heldIn (startOf (d .part) k) (length w) xs)
+  pub made : cyclesOfLoad d s p k xs w sc ≡ cyclesAs d p k (startOf (d .part) k) w (heldIn (startOf (d .part) k) (length w) xs)
+  pub smooth : smoothLoad d s p k xs w sc ≡ true

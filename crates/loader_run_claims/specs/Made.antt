@@ -1,0 +1,93 @@
+-- The cycles that a load makes, by turning the definitions, and the list of a good load's cycles. Assumes nothing.
+use mathlib.Core.Bool.{Bool, true, not, _&&_}
+use mathlib.Core.List.{List, [], _∷_}
+use Prim.Native.Nat.{ℕ, zero, suc, _+_}
+use lib.ListN.{length, getD}
+use lib.Dec.{eqb}
+use Rattle.common.specs.Choice.{if_then_else_}
+use Rattle.device.specs.declared.Device.{Device}
+use Rattle.model_types.specs.declared.Pins.{Pins}
+use Rattle.model_types.specs.declared.Kind.{Kind}
+use Rattle.model_types.specs.declared.Kind.the-variants.{Read, Write}
+use Rattle.model_types.specs.declared.Cycle.{Cycle}
+use Rattle.model_types.specs.declared.State.{State}
+use Rattle.model_types.specs.declared.Decision.{Decision}
+use Rattle.model_rules.specs.Cycles.{decideOf}
+use Rattle.model.specs.Arrays.{isRefusal}
+use Rattle.loader_steps.specs.Outs.{cycleOf}
+use Rattle.loader.specs.Walks.{risesIn}
+use Rattle.loader_run.specs.Turns.{Config, turnOf, bound}
+use Rattle.loader.specs.Stages.{isEnded}
+use Rattle.loader_run.specs.Runs.{beginning}
+use Rattle.loader_run_claims.specs.Wear.{baseOf}
+use Rattle.model_history.specs.History.{isCut}
+
+-- the cycles that k turns make, in their order
+abbrev pub madeIn : ℕ → Device → List ℕ → Config → List Cycle
+madeIn zero d w c = []
+madeIn (suc k) d w c = if isEnded (c .loader .stage) then madeIn k d w (turnOf d w c) else cycleOf (c .loader) w ∷ madeIn k d w (turnOf d w c)
+
+-- the cycles that a load of block k makes, up to its end
+abbrev pub cyclesOfLoad : Device → State → Pins → ℕ → List ℕ → List ℕ → List ℕ → List Cycle
+cyclesOfLoad d s p k xs w sc = madeIn (bound (length w)) d w (beginning d s p k xs sc)
+
+-- the model takes the cycle, and the cycle cuts nothing
+abbrev pub isSmooth : Decision → Bool
+isSmooth x = not (isRefusal (x .reply)) && not (isCut (x .effect))
+
+-- .. in one turn
+unfoldable pub smoothTurn : Device → List ℕ → Config → Bool
+smoothTurn d w c = if isEnded (c .loader .stage) then true else isSmooth (decideOf d (c .state) (cycleOf (c .loader) w) (length (c .bytes)) 0)
+
+-- .. in each of k turns
+abbrev pub smoothIn : ℕ → Device → List ℕ → Config → Bool
+smoothIn zero d w c = true
+smoothIn (suc k) d w c = smoothTurn d w c && smoothIn k d w (turnOf d w c)
+
+-- .. in a load of block k, up to its end
+abbrev pub smoothLoad : Device → State → Pins → ℕ → List ℕ → List ℕ → List ℕ → Bool
+smoothLoad d s p k xs w sc = smoothIn (bound (length w)) d w (beginning d s p k xs sc)
+
+-- a cycle of a load, OE# normal
+abbrev pub busCycle : Pins → Kind → ℕ → ℕ → Cycle
+busCycle p kind address byte = record { kind = kind; pins = p; oe = 0; address = address; byte = byte }
+
+-- the reads of n bytes from place i on of a block that starts at a, then cs
+abbrev pub readsThen : Pins → ℕ → ℕ → ℕ → List Cycle → List Cycle
+readsThen p zero a i cs = cs
+readsThen p (suc n) a i cs = busCycle p Read (a + i) 0 ∷ readsThen p n a (i + 1) cs
+
+-- n polls at x, then cs
+abbrev pub pollsThen : Pins → ℕ → ℕ → List Cycle → List Cycle
+pollsThen p zero x cs = cs
+pollsThen p (suc n) x cs = busCycle p Read x 0 ∷ pollsThen p n x cs
+
+-- 50H, FFH and the first reads, then cs
+abbrev pub openingThen : Pins → ℕ → ℕ → List Cycle → List Cycle
+openingThen p a n cs = busCycle p Write a 0x50 ∷ busCycle p Write a 0xFF ∷ readsThen p n a 0 cs
+
+-- 20H, D0H and E polls, then cs
+abbrev pub eraseThen : Device → Pins → ℕ → List Cycle → List Cycle
+eraseThen d p a cs = busCycle p Write a 0x20 ∷ busCycle p Write a 0xD0 ∷ pollsThen p (d .erase) a cs
+
+-- 40H, the byte and P polls, all at the byte's address, then cs
+abbrev pub programThen : Device → Pins → ℕ → ℕ → List Cycle → List Cycle
+programThen d p x b cs = busCycle p Write x 0x40 ∷ busCycle p Write x b ∷ pollsThen p (d .program) x cs
+
+-- a program for each of the k bytes from place i on where s differs from w, then cs
+abbrev pub programsThen : Device → Pins → ℕ → ℕ → ℕ → List ℕ → List ℕ → List Cycle → List Cycle
+programsThen d p zero a i w s cs = cs
+programsThen d p (suc k) a i w s cs =
+    if eqb (getD s i 0) (getD w i 0) then programsThen d p k a (i + 1) w s cs else programThen d p (a + i) (getD w i 0) (programsThen d p k a (i + 1) w s cs)
+
+-- the last FFH and the verify's reads
+abbrev pub closingOf : Pins → ℕ → ℕ → List Cycle
+closingOf p a n = busCycle p Write a 0xFF ∷ readsThen p n a 0 []
+
+-- the programs from what the block holds after an erase, or without one, and the verify
+abbrev pub programmingOf : Device → Pins → ℕ → List ℕ → List ℕ → List Cycle
+programmingOf d p a w ys = programsThen d p (length w) a 0 w (baseOf (d .part) w ys) (closingOf p a (length w))
+
+-- the cycles of a good load of a block at a that holds ys
+abbrev pub cyclesOf : Device → Pins → ℕ → List ℕ → List ℕ → List Cycle
+cyclesOf d p a w ys = openingThen p a (length w) (if risesIn w ys then eraseThen d p a (programmingOf d p a w ys) else programmingOf d p a w ys)

@@ -1,0 +1,387 @@
+-- Start and step: their refusals exactly, what a refusal leaves, every record taken again, and the end that repeats. Assumes nothing.
+use mathlib.Core.Path.{_≡_, refl, sym, ap, _∙_, subst}
+use mathlib.Core.Bool.{true, false, not, _&&_}
+use mathlib.Core.List.{List}
+use mathlib.Core.Logic.{_↔_}
+use Prim.Native.Nat.{ℕ, _+_, _-_, _≤_, _<_}
+use native.Mathlib.Omega.{arith}
+use lib.ListN.{length, getD, length-set, length-replicate}
+use lib.Dec.{eqb, ltb, leb}
+use borrow.Author.Tests.{ltb-true, ltb-false, leb-false, eqb-true, eqb-false, eq-eqb, ne-eqb, le-ltb, lt-leb, not-false}
+use Rattle.model_types.specs.Cells.{ones}
+use Rattle.common.specs.Choice.{if_then_else_}
+use Rattle.common.proofs.Choice.{if-ind, if-true, if-false, or-left, or-right, and-rest, unlike, and-none}
+use Rattle.common.specs.Numbers.{Foremost, NoRow, end, past, given}
+use Rattle.common.proofs.Numbers.{given-foremost, foremost-given, given-no-row, no-row-given, no-head, no-tail}
+use Rattle.device.specs.declared.Part.{Part}
+use Rattle.device.specs.Parts.{unknownPart, lengthOf}
+use Rattle.model_types.specs.declared.Pins.{Pins}
+use Rattle.loader.specs.declared.Stage.{Stage}
+use Rattle.loader.specs.declared.Stage.the-variants.{Clearing, Opening, Reading, EraseAsking, EraseConfirming, EraseWaiting, ProgramAsking, ProgramSending, ProgramWaiting, Closing, Verifying, Ended}
+use Rattle.loader.specs.declared.Loader.{Loader}
+use Rattle.loader.specs.declared.Turn.{Turn}
+use Rattle.loader.specs.declared.Turn.the-variants.{Out, Over, Barred}
+use Rattle.loader.specs.declared.Given.{Given}
+use Rattle.loader.specs.Walks.{diffFrom, risesIn}
+use Rattle.loader.specs.Moves as moves
+use Rattle.loader.specs.Moves.{movedTo, endedBy, isReady, eraseFault, programFault, onward, afterReads, afterRead, pollMore, erasePolled, programPolled, verifyMore, nextIn, nextOf}
+use Rattle.loader_steps.specs.Outs.{firstAddress}
+use Rattle.loader_steps.specs.Stores.{erasedWell, storeIn, storeOf}
+use Rattle.loader_steps.specs.Front.{barredPins, noBlock, wrongLengths, badRecord, startRows, stepRows, startNumber, stepNumber, recordAt, endAddress, turnIn, turnGiven, barredBy, isBarred, startGiven, stepGiven, scratchAfter}
+
+-- the number that an answer refuses by, 0 where it is no refusal
+abbrev pub barring : Turn → ℕ
+barring (Out c) = 0
+barring (Over n a) = 0
+barring (Barred m) = m
+
+-- a record's own answer is no refusal
+free-in : (stage : Stage) (l : Loader) (w : List ℕ) → (isBarred (turnIn stage l w) ≡ false) × (barring (turnIn stage l w) ≡ 0)
+free-in Clearing l w = (refl, refl)
+free-in Opening l w = (refl, refl)
+free-in Reading l w = (refl, refl)
+free-in EraseAsking l w = (refl, refl)
+free-in EraseConfirming l w = (refl, refl)
+free-in EraseWaiting l w = (refl, refl)
+free-in ProgramAsking l w = (refl, refl)
+free-in ProgramSending l w = (refl, refl)
+free-in ProgramWaiting l w = (refl, refl)
+free-in Closing l w = (refl, refl)
+free-in Verifying l w = (refl, refl)
+free-in (Ended n) l w = (refl, refl)
+
+-- an answer by a number: what is given where it is 0, the refusal with its record where it is not
+module _ (n : ℕ) (l : Loader) (w : List ℕ) (r : Loader) where
+  abbrev pub judged : Given
+  judged = if eqb n 0 then turnGiven l w else barredBy n r
+
+  judged-told : barring (judged .turn) ≡ n
+  judged-told = if-ind (λ (g : Given). barring (g .turn) ≡ n) (eqb n 0) _ _ (λ e. free-in (l .stage) l w .1 ∙ sym (eqb-true n 0 e)) (λ e. refl)
+
+  judged-barred : (n ≡ 0 → ⊥) → judged ≡ barredBy n r
+  judged-barred z = if-false (eqb n 0) (turnGiven l w) (barredBy n r) (ne-eqb n 0 z)
+
+  judged-given : n ≡ 0 → judged ≡ turnGiven l w
+  judged-given e = if-true (eqb n 0) (turnGiven l w) (barredBy n r) (eq-eqb n 0 e)
+
+  judged-free : isBarred (judged .turn) ≡ false → n ≡ 0
+  judged-free =
+      if-ind (λ (g : Given). isBarred (g .turn) ≡ false → n ≡ 0) (eqb n 0) _ _ (λ e q. eqb-true n 0 e) (λ e q. absurd (unlike q))
+
+  judged-left : (m : ℕ) → judged .turn ≡ Barred m → (n ≡ m) × (judged .loader ≡ r) × (eqb n 0 ≡ false)
+  judged-left m q = (sym judged-told ∙ ap barring q, both .0, both .1)
+    where
+      both : (judged .loader ≡ r) × (eqb n 0 ≡ false)
+      both =
+          if-ind (λ (g : Given). isBarred (g .turn) ≡ true → (g .loader ≡ r) × (eqb n 0 ≡ false)) (eqb n 0) _ _
+          (λ e b. absurd (unlike (sym b ∙ free-in (l .stage) l w .0))) (λ e b. (refl, e)) (ap isBarred q)
+
+module _ (part : Part) (p : Pins) (k : ℕ) (w sc : List ℕ) where
+  abbrev startN : ℕ
+  startN = startNumber part p k (length w) (length sc)
+
+  -- refused by m exactly where m's row is the first that holds
+  pub start-numbers : (m : ℕ) → (m ≡ 0 → ⊥) → (startGiven part p k w sc .turn ≡ Barred m) ↔ Foremost (startRows part p k (length w) (length sc)) m
+  unfolding startGiven startNumber
+  start-numbers m z = (
+    λ e. given-foremost (startRows part p k (length w) (length sc)) m z
+        (sym (judged-told startN (recordAt part p k Clearing) w (recordAt part p k (Ended startN))) ∙ ap barring e),
+    λ f. let q : given (startRows part p k (length w) (length sc)) ≡ m = foremost-given f in
+        ap (λ (g : Given). g .turn) (judged-barred startN (recordAt part p k Clearing) w (recordAt part p k (Ended startN)) (λ e. z (sym q ∙ e))) ∙ ap Barred q,
+  )
+
+  pub start-accepted : (isBarred (startGiven part p k w sc .turn) ≡ false) ↔ NoRow (startRows part p k (length w) (length sc))
+  unfolding startGiven startNumber
+  start-accepted = (
+    λ e. given-no-row (startRows part p k (length w) (length sc)) refl
+        (judged-free startN (recordAt part p k Clearing) w (recordAt part p k (Ended startN)) e),
+    λ f. ap (λ (g : Given). isBarred (g .turn)) (judged-given startN (recordAt part p k Clearing) w (recordAt part p k (Ended startN)) (no-row-given f)),
+  )
+
+  -- a refused start gives a record that has ended with the number
+  pub start-refused : (m : ℕ) → startGiven part p k w sc .turn ≡ Barred m → startGiven part p k w sc .loader ≡ recordAt part p k (Ended m)
+  unfolding startGiven
+  start-refused m e =
+      let h = judged-left startN (recordAt part p k Clearing) w (recordAt part p k (Ended startN)) m e in
+      h .1 ∙ ap (λ (n : ℕ). recordAt part p k (Ended n)) (h .0)
+
+module _ (l : Loader) (b : ℕ) (w sc : List ℕ) where
+  abbrev stepN : ℕ
+  stepN = stepNumber l (length w) (length sc)
+
+  abbrev onN : Loader
+  onN = nextOf l b w (storeOf l b sc)
+
+  pub step-numbers : (m : ℕ) → (m ≡ 0 → ⊥) → (stepGiven l b w sc .turn ≡ Barred m) ↔ Foremost (stepRows l (length w) (length sc)) m
+  unfolding stepGiven stepNumber
+  step-numbers m z = (
+    λ e. given-foremost (stepRows l (length w) (length sc)) m z (sym (judged-told stepN onN w l) ∙ ap barring e),
+    λ f. let q : given (stepRows l (length w) (length sc)) ≡ m = foremost-given f in
+        ap (λ (g : Given). g .turn) (judged-barred stepN onN w l (λ e. z (sym q ∙ e))) ∙ ap Barred q,
+  )
+
+  pub step-accepted : (isBarred (stepGiven l b w sc .turn) ≡ false) ↔ NoRow (stepRows l (length w) (length sc))
+  unfolding stepGiven stepNumber
+  step-accepted = (
+    λ e. given-no-row (stepRows l (length w) (length sc)) refl (judged-free stepN onN w l e),
+    λ f. ap (λ (g : Given). isBarred (g .turn)) (judged-given stepN onN w l (no-row-given f)) ∙ free-in (onN .stage) onN w .0,
+  )
+
+  -- a refused step leaves the record and scratch
+  pub step-refused : (m : ℕ) → stepGiven l b w sc .turn ≡ Barred m → (stepGiven l b w sc .loader ≡ l) × (scratchAfter l b w sc ≡ sc)
+  unfolding stepGiven scratchAfter
+  step-refused m e =
+      let h = judged-left stepN onN w l m e in
+      (h .1, if-false (eqb stepN 0) (storeOf l b sc) sc (h .2))
+
+  -- what an accepted step gives and leaves
+  pub step-on : stepN ≡ 0 → (stepGiven l b w sc ≡ turnGiven onN w) × (scratchAfter l b w sc ≡ storeOf l b sc)
+  unfolding stepGiven scratchAfter
+  step-on e = (judged-given stepN onN w l e, if-true (eqb stepN 0) (storeOf l b sc) sc (eq-eqb stepN 0 e))
+
+-- a record of the same part, block and levels; its place stays in n bytes and its polls in bounds
+pub record Kept (l : Loader) (n : ℕ) (r : Loader) : Type 0 where
+  pub same : r ≡ movedTo l (r .stage) (r .place) (r .polls)
+  pub place : l .place < n → r .place < n
+  pub polls : l .polls ≤ 65534 → r .polls ≤ 65534
+
+kept-at : (l : Loader) (n : ℕ) (stage : Stage) (p q : ℕ) → (l .place < n → p < n) → (l .polls ≤ 65534 → q ≤ 65534) → Kept l n (movedTo l stage p q)
+kept-at l n stage p q h i = record { same = refl; place = h; polls = i }
+
+module _ (l : Loader) (w : List ℕ) where
+  abbrev In : Loader → Type 0
+  In r = Kept l (length w) r
+
+  no-polls : l .polls ≤ 65534 → 0 ≤ 65534
+  no-polls q = omega arith
+
+  kept-end : (n : ℕ) → In (endedBy l n)
+  kept-end n = kept-at l (length w) (Ended n) (l .place) 0 (λ h. h) no-polls
+
+  kept-first : (stage : Stage) → In (movedTo l stage 0 0)
+  kept-first stage = kept-at l (length w) stage 0 0 (λ (h : l .place < length w). omega arith) no-polls
+
+  kept-here : (stage : Stage) → In (movedTo l stage (l .place) 0)
+  kept-here stage = kept-at l (length w) stage (l .place) 0 (λ h. h) no-polls
+
+  kept-onward : (i : ℕ) (sc : List ℕ) → In (onward l i w sc)
+  unfolding onward
+  kept-onward i sc =
+      if-ind In (ltb (diffFrom i w sc) (length w)) _ _ (λ e. kept-at l (length w) ProgramAsking (diffFrom i w sc) 0 (λ h. ltb-true _ _ e) no-polls) (λ e. kept-first Closing)
+
+  kept-read : (sc : List ℕ) → In (afterRead l w sc)
+  unfolding afterRead afterReads
+  kept-read sc =
+      if-ind In (ltb (l .place) (length w - 1)) _ _
+      (λ e. kept-at l (length w) Reading (l .place + 1) 0 (λ h. let z = ltb-true (l .place) (length w - 1) e in omega arith) no-polls)
+      (λ e. if-ind In (risesIn w sc) _ _ (λ r. kept-first EraseAsking) (λ r. kept-onward 0 sc))
+
+  kept-poll : (stage : Stage) → In (pollMore l stage)
+  unfolding pollMore
+  kept-poll stage =
+      if-ind In (leb 65534 (l .polls)) _ _ (λ e. kept-end 20)
+      (λ e. kept-at l (length w) stage (l .place) (l .polls + 1) (λ h. h) (λ q. let z = leb-false 65534 (l .polls) e in omega arith))
+
+  kept-erase : (b : ℕ) (sc : List ℕ) → In (erasePolled l b w sc)
+  unfolding erasePolled
+  kept-erase b sc =
+      if-ind In (isReady b) _ _ (λ r. if-ind In (eqb (eraseFault b) 0) _ _ (λ f. kept-onward 0 sc) (λ f. kept-end (eraseFault b))) (λ r. kept-poll EraseWaiting)
+
+  kept-program : (b : ℕ) (sc : List ℕ) → In (programPolled l b w sc)
+  unfolding programPolled
+  kept-program b sc =
+      if-ind In (isReady b) _ _
+      (λ r. if-ind In (eqb (programFault b) 0) _ _ (λ f. kept-onward (moves.past (l .place) (length w)) sc) (λ f. kept-end (programFault b)))
+      (λ r. kept-poll ProgramWaiting)
+
+  kept-verify : (b : ℕ) → In (verifyMore l b w)
+  unfolding verifyMore
+  kept-verify b =
+      if-ind In (eqb b (getD w (l .place) 0)) _ _
+      (λ e. if-ind In (ltb (l .place) (length w - 1)) _ _
+      (λ i. kept-at l (length w) Verifying (l .place + 1) 0 (λ h. let z = ltb-true (l .place) (length w - 1) i in omega arith) no-polls) (λ i. kept-end 0))
+      (λ e. kept-end 25)
+
+  -- every byte taken leaves such a record
+  pub kept-next : (stage : Stage) (b : ℕ) (sc : List ℕ) → In (nextIn stage l b w sc)
+  kept-next Clearing b sc = kept-first Opening
+  kept-next Opening b sc = kept-first Reading
+  kept-next Reading b sc = kept-read sc
+  kept-next EraseAsking b sc = kept-first EraseConfirming
+  kept-next EraseConfirming b sc = kept-first EraseWaiting
+  kept-next EraseWaiting b sc = kept-erase b sc
+  kept-next ProgramAsking b sc = kept-here ProgramSending
+  kept-next ProgramSending b sc = kept-here ProgramWaiting
+  kept-next ProgramWaiting b sc = kept-program b sc
+  kept-next Closing b sc = kept-first Verifying
+  kept-next Verifying b sc = kept-verify b
+  kept-next (Ended n) b sc = record { same = refl; place = λ h. h; polls = λ q. q }
+
+-- and begins the block at the same address
+pub first-kept : (l : Loader) (b : ℕ) (w sc : List ℕ) → firstAddress (nextOf l b w sc) ≡ firstAddress l
+unfolding firstAddress
+first-kept l b w sc = ap firstAddress (kept-next l w (l .stage) b sc .same)
+
+-- scratch keeps its length
+pub store-length : (stage : Stage) (part : Part) (place b : ℕ) (sc : List ℕ) → length (storeIn stage part place b sc) ≡ length sc
+store-length Clearing part place b sc = refl
+store-length Opening part place b sc = refl
+store-length Reading part place b sc = length-set sc place b
+store-length EraseAsking part place b sc = refl
+store-length EraseConfirming part place b sc = refl
+store-length EraseWaiting part place b sc =
+    if-ind (λ (xs : List ℕ). length xs ≡ length sc) (erasedWell b) _ _ (λ e. length-replicate (length sc) (ones part)) (λ e. refl)
+store-length ProgramAsking part place b sc = refl
+store-length ProgramSending part place b sc = refl
+store-length ProgramWaiting part place b sc = refl
+store-length Closing part place b sc = refl
+store-length Verifying part place b sc = length-set sc place b
+store-length (Ended n) part place b sc = refl
+
+-- what is known of a record that is taken
+pub record Taken (l : Loader) (w sc : ℕ) : Type 0 where
+  pub known : unknownPart (l .part) ≡ false
+  pub levels : barredPins (l .part) (l .pins) ≡ false
+  pub block : noBlock (l .part) (l .block) ≡ false
+  pub lengths : wrongLengths (l .part) (l .block) w sc ≡ false
+  pub wanted : w ≡ lengthOf (l .part) (l .block)
+  pub place : l .place < w
+  pub polls : l .polls ≤ 65534
+
+wanted-length : (part : Part) (k w sc : ℕ) → wrongLengths part k w sc ≡ false → w ≡ lengthOf part k
+unfolding wrongLengths
+wanted-length part k w sc e =
+    let a = eqb w (lengthOf part k) in
+    eqb-true w _ (not-false a (or-left (not a) (not (eqb sc (lengthOf part k))) e))
+
+-- a record that is not bad, where there is such a block
+in-bounds : (l : Loader) → noBlock (l .part) (l .block) ≡ false → badRecord l ≡ false → (l .place < lengthOf (l .part) (l .block)) × (l .polls ≤ 65534)
+unfolding badRecord
+in-bounds l n e =
+    let far = leb (lengthOf (l .part) (l .block)) (l .place) in
+    let some = not (noBlock (l .part) (l .block)) in
+    (leb-false _ _ (and-rest some far (ap not n) (or-right (ltb 65534 (l .polls)) (some && far) e)), ltb-false _ _ (or-left (ltb 65534 (l .polls)) (some && far) e))
+
+bounds-good : (l : Loader) → l .place < lengthOf (l .part) (l .block) → l .polls ≤ 65534 → badRecord l ≡ false
+unfolding badRecord
+bounds-good l h q =
+    rw (le-ltb 65534 (l .polls) q, lt-leb (lengthOf (l .part) (l .block)) (l .place) h) (and-none (not (noBlock (l .part) (l .block))))
+
+pub taken : (l : Loader) (w sc : ℕ) → stepNumber l w sc ≡ 0 → Taken l w sc
+unfolding stepNumber
+taken l w sc e =
+    let r = given-no-row (stepRows l w sc) refl e in
+    let r2 = no-tail r in
+    let r3 = no-tail r2 in
+    let r4 = no-tail r3 in
+    let r5 = no-tail r4 in
+    let n : w ≡ lengthOf (l .part) (l .block) = wanted-length (l .part) (l .block) w sc (no-head r5) in
+    let i = in-bounds l (no-head r4) (no-head r2) in
+    record {
+      known = no-head r;
+      levels = no-head r3;
+      block = no-head r4;
+      lengths = no-head r5;
+      wanted = n;
+      place = subst (λ (j : ℕ). l .place < j) (sym n) (i .0);
+      polls = i .1;
+    }
+
+pub taken-back : (l : Loader) (w sc : ℕ) → Taken l w sc → stepNumber l w sc ≡ 0
+unfolding stepNumber
+taken-back l w sc t =
+    no-row-given (past (t .known) (past (bounds-good l (subst (λ (j : ℕ). l .place < j) (t .wanted) (t .place)) (t .polls)) (past (t .levels) (past (t .block) (past (t .lengths) end)))))
+
+-- a kept record is taken, with scratch as long as before
+kept-taken : (l r : Loader) (w sc : ℕ) → Taken l w sc → Kept l w r → stepNumber r w sc ≡ 0
+kept-taken l r w sc t k =
+    subst (λ (x : Loader). stepNumber x w sc ≡ 0) (sym (k .same))
+    (taken-back (movedTo l (r .stage) (r .place) (r .polls)) w sc
+    (record { known = t .known; levels = t .levels; block = t .block; lengths = t .lengths; wanted = t .wanted; place = k .place (t .place); polls = k .polls (t .polls) }))
+
+-- every record that an accepted step gives is taken again
+pub step-again : (l : Loader) (b : ℕ) (w sc : List ℕ) → stepNumber l (length w) (length sc) ≡ 0
+    → stepNumber (stepGiven l b w sc .loader) (length w) (length (scratchAfter l b w sc)) ≡ 0
+step-again l b w sc e =
+    let t = taken l (length w) (length sc) e in
+    let s = step-on l b w sc e in
+    rw (s .0, s .1, store-length (l .stage) (l .part) (l .place) b sc)
+    (kept-taken l (nextOf l b w (storeOf l b sc)) (length w) (length sc) t (kept-next l w (l .stage) b (storeOf l b sc)))
+
+-- and so is the record of an accepted start
+pub start-gives : (part : Part) (p : Pins) (k : ℕ) (w sc : List ℕ) → startNumber part p k (length w) (length sc) ≡ 0
+    → startGiven part p k w sc ≡ turnGiven (recordAt part p k Clearing) w
+unfolding startGiven
+start-gives part p k w sc e =
+    judged-given (startNumber part p k (length w) (length sc)) (recordAt part p k Clearing) w (recordAt part p k (Ended (startNumber part p k (length w) (length sc)))) e
+
+-- a block that there is has a byte
+pub some-block : (part : Part) (k : ℕ) → noBlock part k ≡ false → 0 < lengthOf part k
+unfolding noBlock
+some-block part k e = let z : lengthOf part k ≡ 0 → ⊥ = eqb-false _ _ e in omega arith
+
+first-taken : (part : Part) (p : Pins) (k w sc : ℕ) → startNumber part p k w sc ≡ 0 → stepNumber (recordAt part p k Clearing) w sc ≡ 0
+unfolding startNumber
+first-taken part p k w sc e =
+    let r = given-no-row (startRows part p k w sc) refl e in
+    let r2 = no-tail r in
+    let r3 = no-tail r2 in
+    let r4 = no-tail r3 in
+    let n : w ≡ lengthOf part k = wanted-length part k w sc (no-head r4) in
+    let h : 0 < w = subst (λ (j : ℕ). 0 < j) (sym n) (some-block part k (no-head r3)) in
+    taken-back (recordAt part p k Clearing) w sc
+    (record { known = no-head r; levels = no-head r2; block = no-head r3; lengths = no-head r4; wanted = n; place = h; polls = omega arith })
+
+pub start-again : (part : Part) (p : Pins) (k : ℕ) (w sc : List ℕ) → startNumber part p k (length w) (length sc) ≡ 0
+    → stepNumber (startGiven part p k w sc .loader) (length w) (length sc) ≡ 0
+start-again part p k w sc e =
+    subst (λ (g : Given). stepNumber (g .loader) (length w) (length sc) ≡ 0) (sym (start-gives part p k w sc e)) (first-taken part p k (length w) (length sc) e)
+
+-- a record that has ended gives its end again, with the same record and scratch
+pub end-again : (l : Loader) (b n : ℕ) (w sc : List ℕ) → stepNumber l (length w) (length sc) ≡ 0 → l .stage ≡ Ended n
+    → (stepGiven l b w sc ≡ record { turn = Over n (endAddress l n); loader = l }) × (scratchAfter l b w sc ≡ sc)
+end-again l b n w sc e q =
+    let s = step-on l b w sc e in
+    let stored : storeOf l b sc ≡ sc = ap (λ (st : Stage). storeIn st (l .part) (l .place) b sc) q in
+    let stays : nextOf l b w (storeOf l b sc) ≡ l = ap (λ (st : Stage). nextIn st l b w (storeOf l b sc)) q in
+    let tells : turnIn (l .stage) l w ≡ Over n (endAddress l n) = ap (λ (st : Stage). turnIn st l w) q in
+    let same : turnGiven (nextOf l b w (storeOf l b sc)) w ≡ record { turn = Over n (endAddress l n); loader = l } =
+    ap (λ (r : Loader). turnGiven r w) stays ∙ ap (λ (t : Turn). given-as t l) tells in
+    (s .0 ∙ same, s .1 ∙ stored)
+  where
+    given-as : Turn → Loader → Given
+    given-as t r = record { turn = t; loader = r }
+
+-- only a record that has ended gives an end
+over-stage : (stage : Stage) (l : Loader) (w : List ℕ) (n a : ℕ) → turnIn stage l w ≡ Over n a → (stage ≡ Ended n) × (endAddress l n ≡ a)
+over-stage Clearing l w n a e = absurd (let z : _≡_ {A = ℕ} 0 1 = cc in omega arith)
+over-stage Opening l w n a e = absurd (let z : _≡_ {A = ℕ} 0 1 = cc in omega arith)
+over-stage Reading l w n a e = absurd (let z : _≡_ {A = ℕ} 0 1 = cc in omega arith)
+over-stage EraseAsking l w n a e = absurd (let z : _≡_ {A = ℕ} 0 1 = cc in omega arith)
+over-stage EraseConfirming l w n a e = absurd (let z : _≡_ {A = ℕ} 0 1 = cc in omega arith)
+over-stage EraseWaiting l w n a e = absurd (let z : _≡_ {A = ℕ} 0 1 = cc in omega arith)
+over-stage ProgramAsking l w n a e = absurd (let z : _≡_ {A = ℕ} 0 1 = cc in omega arith)
+over-stage ProgramSending l w n a e = absurd (let z : _≡_ {A = ℕ} 0 1 = cc in omega arith)
+over-stage ProgramWaiting l w n a e = absurd (let z : _≡_ {A = ℕ} 0 1 = cc in omega arith)
+over-stage Closing l w n a e = absurd (let z : _≡_ {A = ℕ} 0 1 = cc in omega arith)
+over-stage Verifying l w n a e = absurd (let z : _≡_ {A = ℕ} 0 1 = cc in omega arith)
+over-stage (Ended m) l w n a e =
+    let q : m ≡ n = cc in
+    let f : endAddress l m ≡ a = cc in
+    (ap Ended q, ap (λ (j : ℕ). endAddress l j) (sym q) ∙ f)
+
+-- a step that gave an end gives it again at the next step, whatever the byte: the same answer, record and scratch
+pub over-again : (l : Loader) (b n a : ℕ) (w sc : List ℕ) → stepNumber l (length w) (length sc) ≡ 0 → stepGiven l b w sc .turn ≡ Over n a → (b′ : ℕ)
+    → (stepGiven (stepGiven l b w sc .loader) b′ w (scratchAfter l b w sc) ≡ stepGiven l b w sc)
+    × (scratchAfter (stepGiven l b w sc .loader) b′ w (scratchAfter l b w sc) ≡ scratchAfter l b w sc)
+over-again l b n a w sc e o b′ =
+    let r = stepGiven l b w sc .loader in
+    let s = step-on l b w sc e in
+    let t : turnIn (r .stage) r w ≡ Over n a = subst (λ (g : Given). turnIn (g .loader .stage) (g .loader) w ≡ g .turn) (sym (s .0)) refl ∙ o in
+    let k = over-stage (r .stage) r w n a t in
+    let z = end-again r b′ n w (scratchAfter l b w sc) (step-again l b w sc e) (k .0) in
+    (z .0 ∙ whole (k .1) o, z .1)
+  where
+    whole : endAddress (stepGiven l b w sc .loader) n ≡ a → stepGiven l b w sc .turn ≡ Over n a
+        → record { turn = Over n (endAddress (stepGiven l b w sc .loader) n); loader = stepGiven l b w sc .loader } ≡ stepGiven l b w sc
+    whole p q = λ i. record { turn = (ap (λ (x : ℕ). Over n x) p ∙ sym q) i; loader = stepGiven l b w sc .loader }

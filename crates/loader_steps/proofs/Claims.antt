@@ -1,0 +1,59 @@
+-- What is claimed of the loader, in one place. Assumes nothing.
+use mathlib.Core.Path.{_≡_}
+use mathlib.Core.Bool.{false}
+use mathlib.Core.List.{List}
+use mathlib.Core.Logic.{_↔_}
+use Prim.Native.Nat.{ℕ}
+use lib.ListN.{length}
+use Rattle.common.specs.Numbers.{Foremost, NoRow}
+use Rattle.device.specs.declared.Part.{Part}
+use Rattle.model_types.specs.declared.Pins.{Pins}
+use Rattle.loader.specs.declared.Stage.the-variants.{Ended}
+use Rattle.loader.specs.declared.Loader.{Loader}
+use Rattle.loader.specs.declared.Turn.the-variants.{Over, Barred}
+use Rattle.loader_steps.specs.Front.{startRows, stepRows, startNumber, stepNumber, recordAt, endAddress, isBarred, startGiven, stepGiven, scratchAfter}
+use Rattle.loader_steps.proofs.Again as again
+
+-- The numbers: a start is refused by m exactly where m's own condition holds and that of no number before it does ..
+pub start-refused-exactly : (part : Part) (p : Pins) (k : ℕ) (w sc : List ℕ) (m : ℕ) → (m ≡ 0 → ⊥)
+    → (startGiven part p k w sc .turn ≡ Barred m) ↔ Foremost (startRows part p k (length w) (length sc)) m
+start-refused-exactly = again.start-numbers
+
+pub start-accepted-exactly : (part : Part) (p : Pins) (k : ℕ) (w sc : List ℕ)
+    → (isBarred (startGiven part p k w sc .turn) ≡ false) ↔ NoRow (startRows part p k (length w) (length sc))
+start-accepted-exactly = again.start-accepted
+
+-- .. and so is a step.
+pub step-refused-exactly : (l : Loader) (b : ℕ) (w sc : List ℕ) (m : ℕ) → (m ≡ 0 → ⊥)
+    → (stepGiven l b w sc .turn ≡ Barred m) ↔ Foremost (stepRows l (length w) (length sc)) m
+step-refused-exactly = again.step-numbers
+
+pub step-accepted-exactly : (l : Loader) (b : ℕ) (w sc : List ℕ) → (isBarred (stepGiven l b w sc .turn) ≡ false) ↔ NoRow (stepRows l (length w) (length sc))
+step-accepted-exactly = again.step-accepted
+
+-- A refused step leaves the record and scratch as they were; a refused start gives a record that has ended with the number.
+pub step-refused-leaves : (l : Loader) (b : ℕ) (w sc : List ℕ) (m : ℕ) → stepGiven l b w sc .turn ≡ Barred m → (stepGiven l b w sc .loader ≡ l) × (scratchAfter l b w sc ≡ sc)
+step-refused-leaves = again.step-refused
+
+pub start-refused-gives : (part : Part) (p : Pins) (k : ℕ) (w sc : List ℕ) (m : ℕ) → startGiven part p k w sc .turn ≡ Barred m
+    → startGiven part p k w sc .loader ≡ recordAt part p k (Ended m)
+start-refused-gives = again.start-refused
+
+-- Every record that an accepted start or step gives is taken again, with the scratch that is left; after an end too.
+pub start-taken-again : (part : Part) (p : Pins) (k : ℕ) (w sc : List ℕ) → startNumber part p k (length w) (length sc) ≡ 0
+    → stepNumber (startGiven part p k w sc .loader) (length w) (length sc) ≡ 0
+start-taken-again = again.start-again
+
+pub step-taken-again : (l : Loader) (b : ℕ) (w sc : List ℕ) → stepNumber l (length w) (length sc) ≡ 0
+    → stepNumber (stepGiven l b w sc .loader) (length w) (length (scratchAfter l b w sc)) ≡ 0
+step-taken-again = again.step-again
+
+-- After its end the loader repeats that end: a record that has ended gives it, and a step that gave it gives it again.
+pub end-repeats : (l : Loader) (b n : ℕ) (w sc : List ℕ) → stepNumber l (length w) (length sc) ≡ 0 → l .stage ≡ Ended n
+    → (stepGiven l b w sc ≡ record { turn = Over n (endAddress l n); loader = l }) × (scratchAfter l b w sc ≡ sc)
+end-repeats = again.end-again
+
+pub over-repeats : (l : Loader) (b n a : ℕ) (w sc : List ℕ) → stepNumber l (length w) (length sc) ≡ 0 → stepGiven l b w sc .turn ≡ Over n a → (b′ : ℕ)
+    → (stepGiven (stepGiven l b w sc .loader) b′ w (scratchAfter l b w sc) ≡ stepGiven l b w sc)
+    × (scratchAfter (stepGiven l b w sc .loader) b′ w (scratchAfter l b w sc) ≡ scratchAfter l b w sc)
+over-repeats = again.over-again

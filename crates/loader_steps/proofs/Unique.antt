@@ -1,0 +1,67 @@
+-- Two results that a promise of this crate allows are equal, and so is what it leaves in each thing lent. Assumes nothing.
+use mathlib.Core.Path.{_≡_}
+use mathlib.Core.Bool.{Bool}
+use mathlib.Core.List.{List}
+use Prim.Native.Nat.{ℕ}
+use lib.ListN.{set}
+use Rattle.common.specs.Choice.{Unique}
+use Rattle.common.proofs.Choice.{only}
+use Rattle.device.specs.declared.Part.{Part}
+use Rattle.model_types.specs.declared.Pins.{Pins}
+use Rattle.model_types.specs.declared.Cycle.{Cycle}
+use Rattle.loader.specs.declared.Stage.{Stage}
+use Rattle.loader.specs.declared.Stage.the-variants.{EraseWaiting}
+use Rattle.loader.specs.declared.Loader.{Loader}
+use Rattle.loader.specs.declared.Given.{Given}
+use Rattle.loader.specs.Moves.{nextOf}
+use Rattle.loader_steps.specs.Outs.{firstAddress, cycleAtStage, cycleOf}
+use Rattle.loader_steps.specs.Stores.{storeIn, storeOf}
+use Rattle.loader_steps.specs.Front.{barredPins, noBlock, wrongLengths, setupNumber, recordAt, endAddress, startGiven, stepGiven, scratchAfter}
+
+pub barred-pins-unique : (part : Part) (p : Pins) → Unique (λ (r : Bool). r ≡ barredPins part p)
+barred-pins-unique part p = only (barredPins part p)
+
+pub no-block-unique : (part : Part) (k : ℕ) → Unique (λ (r : Bool). r ≡ noBlock part k)
+no-block-unique part k = only (noBlock part k)
+
+pub wrong-lengths-unique : (part : Part) (k w sc : ℕ) → Unique (λ (r : Bool). r ≡ wrongLengths part k w sc)
+wrong-lengths-unique part k w sc = only (wrongLengths part k w sc)
+
+pub setup-number-unique : (part : Part) (p : Pins) (k w sc : ℕ) → Unique (λ (r : ℕ). r ≡ setupNumber part p k w sc)
+setup-number-unique part p k w sc = only (setupNumber part p k w sc)
+
+pub record-at-unique : (part : Part) (p : Pins) (k : ℕ) (stage : Stage) → Unique (λ (r : Loader). r ≡ recordAt part p k stage)
+record-at-unique part p k stage = only (recordAt part p k stage)
+
+pub end-address-unique : (l : Loader) (n : ℕ) → Unique (λ (r : ℕ). r ≡ endAddress l n)
+end-address-unique l n = only (endAddress l n)
+
+pub start-unique : (part : Part) (p : Pins) (k : ℕ) (w sc : List ℕ) → Unique (λ (r : Given). r ≡ startGiven part p k w sc)
+start-unique part p k w sc = only (startGiven part p k w sc)
+
+pub step-unique : (l : Loader) (b : ℕ) (w sc : List ℕ) → Unique (λ (r : Given). r ≡ stepGiven l b w sc)
+step-unique l b w sc = only (stepGiven l b w sc)
+
+pub step-scratch-unique : (l : Loader) (b : ℕ) (w sc : List ℕ) → Unique (λ (left : List ℕ). left ≡ scratchAfter l b w sc)
+step-scratch-unique l b w sc = only (scratchAfter l b w sc)
+
+pub advance-unique : (l : Loader) (b : ℕ) (w sc : List ℕ) → Unique (λ (r : Loader). r ≡ nextOf l b w (storeOf l b sc))
+advance-unique l b w sc = only (nextOf l b w (storeOf l b sc))
+
+pub advance-scratch-unique : (l : Loader) (b : ℕ) (sc : List ℕ) → Unique (λ (left : List ℕ). left ≡ storeOf l b sc)
+advance-scratch-unique l b sc = only (storeOf l b sc)
+
+pub put-unique : (sc : List ℕ) (place b : ℕ) → Unique (λ (left : List ℕ). left ≡ set sc place b)
+put-unique sc place b = only (set sc place b)
+
+pub store-erase-unique : (part : Part) (b : ℕ) (sc : List ℕ) → Unique (λ (left : List ℕ). left ≡ storeIn EraseWaiting part 0 b sc)
+store-erase-unique part b sc = only (storeIn EraseWaiting part 0 b sc)
+
+pub first-unique : (l : Loader) → Unique (λ (r : ℕ). r ≡ firstAddress l)
+first-unique l = only (firstAddress l)
+
+pub cycle-in-unique : (stage : Stage) (first here : ℕ) (l : Loader) (w : List ℕ) → Unique (λ (r : Cycle). r ≡ cycleAtStage stage first here l w)
+cycle-in-unique stage first here l w = only (cycleAtStage stage first here l w)
+
+pub out-unique : (l : Loader) (w : List ℕ) → Unique (λ (r : Cycle). r ≡ cycleOf l w)
+out-unique l w = only (cycleOf l w)

@@ -1,0 +1,37 @@
+use borrow.Author.Needs.{needs}
+use mathlib.Core.Path.{sym, _∙_}
+use Rattle.loader_steps.specs.Front.{stepNumber, setupNumber}
+use Rattle.loader_steps.proofs.front.step_number.Statement.{statement}
+use Rattle.loader_steps.proofs.front.step_number.Tie as tie
+
+unknown-part-requires : tie.Need-unknown-part-requires
+unknown-part-requires c κs = search needs
+
+returns : tie.Need-returns
+unfolding stepNumber setupNumber
+returns c = simp (sym (c .before .unknown-part .ensures) ∙ c .if1 .taken)
+
+bad-record-requires : tie.Need-bad-record-requires
+bad-record-requires c κs = search needs
+
+returns-2 : tie.Need-returns-2
+unfolding stepNumber setupNumber
+returns-2 c = simp (sym (c .before .bad-record .ensures) ∙ c .if2 .taken, sym (c .before .before .before .unknown-part .ensures) ∙ c .before .before .if1 .left)
+
+setup-number-requires : tie.Need-setup-number-requires
+setup-number-requires c κs = search needs
+
+returns-3 : tie.Need-returns-3
+unfolding stepNumber setupNumber
+returns-3 c = simp (c .setup-number .ensures, sym (c .before .before .bad-record .ensures) ∙ c .before .if2 .left, sym (c .before .before .before .before .unknown-part .ensures) ∙ c .before .before .before .if1 .left)
+
+pub step-number-spec : {M : Type 1} → statement M
+step-number-spec =
+    tie.close
+    (tie.spec
+    unknown-part-requires
+    returns
+    bad-record-requires
+    returns-2
+    setup-number-requires
+    returns-3)

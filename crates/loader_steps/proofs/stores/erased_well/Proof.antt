@@ -1,0 +1,20 @@
+use borrow.Author.Needs.{needs}
+use Rattle.loader_steps.specs.Stores.{erasedWell}
+use Rattle.loader_steps.proofs.stores.erased_well.Statement.{statement}
+use Rattle.loader_steps.proofs.stores.erased_well.Tie as tie
+
+-- src/stores.rt:-3:5
+is-ready-requires : tie.Need-is-ready-requires
+is-ready-requires c κs = search needs
+
+-- src/stores.rt:-3:20
+erase-fault-requires : tie.Need-erase-fault-requires
+erase-fault-requires c κs = search needs
+
+-- src/stores.rt:-6:1
+returns : tie.Need-returns
+unfolding erasedWell
+returns c = simp (c .erase-fault .ensures, c .before .is-ready .ensures)
+
+pub erased-well-spec : {M : Type 1} → statement M
+erased-well-spec = tie.close (tie.spec is-ready-requires erase-fault-requires returns)

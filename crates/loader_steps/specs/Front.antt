@@ -1,0 +1,99 @@
+-- The loader's tests, its start and its step. Assumes nothing.
+use mathlib.Core.Bool.{Bool, true, false, not, _&&_, _||_}
+use mathlib.Core.List.{List, [], _∷_}
+use Prim.Native.Nat.{ℕ}
+use lib.ListN.{length}
+use lib.Dec.{eqb, ltb, leb}
+use Rattle.common.specs.Choice.{if_then_else_}
+use Rattle.common.specs.Numbers.{Row, row, given}
+use Rattle.device.specs.declared.Part.{Part}
+use Rattle.device.specs.Parts.{unknownPart, lengthOf}
+use Rattle.model_types.specs.declared.Pins.{Pins}
+use Rattle.model_types.specs.Levels.{rpLow, badPins}
+use Rattle.loader.specs.declared.Stage.{Stage}
+use Rattle.loader.specs.declared.Stage.the-variants.{Clearing, Ended}
+use Rattle.loader.specs.declared.Loader.{Loader}
+use Rattle.loader.specs.declared.Turn.{Turn}
+use Rattle.loader.specs.declared.Turn.the-variants.{Out, Over, Barred}
+use Rattle.loader.specs.declared.Given.{Given}
+use Rattle.loader.specs.Stages.{isEnded, endBy}
+use Rattle.loader.specs.Moves.{nextOf}
+use Rattle.loader_steps.specs.Outs.{hereOf, cycleOf}
+use Rattle.loader_steps.specs.Stores.{storeOf}
+
+-- refusal 4 of a loader: a level outside what is allowed, or RP# low
+unfoldable pub barredPins : Part → Pins → Bool
+barredPins part p = badPins part p || rpLow p
+
+-- refusal 10: there is no such block
+unfoldable pub noBlock : Part → ℕ → Bool
+noBlock part k = eqb (lengthOf part k) 0
+
+-- refusal 11: wanted or scratch is not as long as the block
+unfoldable pub wrongLengths : Part → ℕ → ℕ → ℕ → Bool
+wrongLengths part k w sc = not (eqb w (lengthOf part k)) || not (eqb sc (lengthOf part k))
+
+-- refusal 3 of a loader: polls over 65,534, or a place past the block where there is one
+unfoldable pub badRecord : Loader → Bool
+badRecord l = ltb 65534 (l .polls) || (not (noBlock (l .part) (l .block)) && leb (lengthOf (l .part) (l .block)) (l .place))
+
+-- levels, block and lengths: what a start, a step and a run test alike, in their order
+abbrev pub setupRows : Part → Pins → ℕ → ℕ → ℕ → List Row
+setupRows part p k w sc = row 4 (barredPins part p) ∷ row 10 (noBlock part k) ∷ row 11 (wrongLengths part k w sc) ∷ []
+
+unfoldable pub setupNumber : Part → Pins → ℕ → ℕ → ℕ → ℕ
+setupNumber part p k w sc = given (setupRows part p k w sc)
+
+-- the tests of a start, in their order
+abbrev pub startRows : Part → Pins → ℕ → ℕ → ℕ → List Row
+startRows part p k w sc = row 1 (unknownPart part) ∷ setupRows part p k w sc
+
+unfoldable pub startNumber : Part → Pins → ℕ → ℕ → ℕ → ℕ
+startNumber part p k w sc = given (startRows part p k w sc)
+
+-- the tests of a step, in their order
+abbrev pub stepRows : Loader → ℕ → ℕ → List Row
+stepRows l w sc = row 1 (unknownPart (l .part)) ∷ row 3 (badRecord l) ∷ setupRows (l .part) (l .pins) (l .block) w sc
+
+unfoldable pub stepNumber : Loader → ℕ → ℕ → ℕ
+stepNumber l w sc = given (stepRows l w sc)
+
+-- a record at its beginning
+abbrev pub recordAt : Part → Pins → ℕ → Stage → Loader
+recordAt part p k stage = record { part = part; pins = p; block = k; stage = stage; place = 0; polls = 0 }
+
+-- the address that an end gives: the byte's for 25, else 0
+unfoldable pub endAddress : Loader → ℕ → ℕ
+endAddress l n = if eqb n 25 then hereOf l else 0
+
+-- what a record gives: the cycle that is out, or its end again
+abbrev pub turnIn : Stage → Loader → List ℕ → Turn
+turnIn stage l w = if isEnded stage then Over (endBy stage) (endAddress l (endBy stage)) else Out (cycleOf l w)
+
+abbrev pub turnGiven : Loader → List ℕ → Given
+turnGiven l w = record { turn = turnIn (l .stage) l w; loader = l }
+
+-- a refusal gives the record with it
+abbrev pub barredBy : ℕ → Loader → Given
+barredBy n l = record { turn = Barred n; loader = l }
+
+-- what is given is a refusal
+abbrev pub isBarred : Turn → Bool
+isBarred (Out c) = false
+isBarred (Over n a) = false
+isBarred (Barred m) = true
+
+-- the start: a refused one gives a record that has ended with the number
+unfoldable pub startGiven : Part → Pins → ℕ → List ℕ → List ℕ → Given
+startGiven part p k w sc =
+    if eqb (startNumber part p k (length w) (length sc)) 0 then turnGiven (recordAt part p k Clearing) w
+    else barredBy (startNumber part p k (length w) (length sc)) (recordAt part p k (Ended (startNumber part p k (length w) (length sc))))
+
+-- a step: what is given ..
+unfoldable pub stepGiven : Loader → ℕ → List ℕ → List ℕ → Given
+stepGiven l b w sc =
+    if eqb (stepNumber l (length w) (length sc)) 0 then turnGiven (nextOf l b w (storeOf l b sc)) w else barredBy (stepNumber l (length w) (length sc)) l
+
+-- .. and what is left in scratch
+unfoldable pub scratchAfter : Loader → ℕ → List ℕ → List ℕ → List ℕ
+scratchAfter l b w sc = if eqb (stepNumber l (length w) (length sc)) 0 then storeOf l b sc else sc

@@ -1,0 +1,162 @@
+// The loader's tests, its start and its step.
+use crate::outs::here;
+use crate::outs::out;
+use crate::stores::advance;
+use device::Part;
+use loader::Given;
+use loader::Loader;
+use loader::Stage;
+use loader::Turn;
+use loader::stages::stage_end;
+use model_types::Pins;
+use model_types::levels::bad_pins;
+use model_types::levels::rp_low;
+ghost use mathlib.Core.Path.{_≡_};
+ghost use lib.ListN.{length};
+ghost use Rattle.loader_steps.specs.Front.{barredPins, noBlock, wrongLengths, setupNumber, badRecord, startNumber, stepNumber, recordAt, endAddress, turnIn, turnGiven, barredBy, startGiven, stepGiven, scratchAfter};
+
+// Refusal 4 of a loader.
+pub fn barred_pins(part: Part, p: Pins) -> bool
+    ensures { λ r. ⌜ r ≡ barredPins part p ⌝ }
+{
+    bad_pins(part, p) | rp_low(p)
+}
+
+// Refusal 10.
+pub fn no_block(part: Part, block: u8) -> bool
+    ensures { λ r. ⌜ r ≡ noBlock part block ⌝ }
+{
+    device::length(part, block) == 0
+}
+
+// Refusal 11.
+pub fn wrong_lengths(part: Part, block: u8, wanted: usize, scratch: usize) -> bool
+    ensures { λ r. ⌜ r ≡ wrongLengths part block wanted scratch ⌝ }
+{
+    let n = device::length(part, block);
+    !(wanted == n) | !(scratch == n)
+}
+
+// Refusal 3 of a loader.
+fn bad_record(l: Loader) -> bool
+    ensures { λ r. ⌜ r ≡ badRecord l ⌝ }
+{
+    let part = l.part;
+    (65534 < l.polls) | (!no_block(part, l.block) & (device::length(part, l.block) <= l.place))
+}
+
+// Refusals 4, 10 and 11, the first of them that applies, or 0.
+pub fn setup_number(part: Part, p: Pins, block: u8, wanted: usize, scratch: usize) -> u8
+    ensures { λ r. ⌜ r ≡ setupNumber part p block wanted scratch ⌝ }
+{
+    if barred_pins(part, p) {
+        return 4;
+    }
+    if no_block(part, block) {
+        return 10;
+    }
+    if wrong_lengths(part, block, wanted, scratch) {
+        return 11;
+    }
+    0
+}
+
+fn start_number(part: Part, p: Pins, block: u8, wanted: usize, scratch: usize) -> u8
+    ensures { λ r. ⌜ r ≡ startNumber part p block wanted scratch ⌝ }
+{
+    if device::unknown_part(part) {
+        return 1;
+    }
+    setup_number(part, p, block, wanted, scratch)
+}
+
+fn step_number(l: Loader, wanted: usize, scratch: usize) -> u8
+    ensures { λ r. ⌜ r ≡ stepNumber l wanted scratch ⌝ }
+{
+    let part = l.part;
+    let p = l.pins;
+    if device::unknown_part(part) {
+        return 1;
+    }
+    if bad_record(l) {
+        return 3;
+    }
+    setup_number(part, p, l.block, wanted, scratch)
+}
+
+pub fn record_at(part: Part, p: Pins, block: u8, stage: Stage) -> Loader
+    ensures { λ r. ⌜ r ≡ recordAt part p block stage ⌝ }
+{
+    Loader {
+        part: part,
+        pins: p,
+        block: block,
+        stage: stage,
+        place: 0,
+        polls: 0,
+    }
+}
+
+// The address that an end gives.
+pub fn end_address(l: Loader, n: u8) -> u32
+    ensures { λ r. ⌜ r ≡ endAddress l n ⌝ }
+{
+    if n == 25 {
+        return here(l);
+    }
+    0
+}
+
+fn turn(stage: Stage, l: Loader, wanted: &[u8]) -> Turn
+    ensures { λ r. ⌜ r ≡ turnIn stage l (now (wanted .entry)) ⌝ }
+{
+    let e = stage_end(stage);
+    let ended = e.ended;
+    if ended {
+        return Turn::Over(e.end, end_address(l, e.end));
+    }
+    Turn::Out(out(l, wanted))
+}
+
+fn given_by(l: Loader, wanted: &[u8]) -> Given
+    ensures { λ r. ⌜ r ≡ turnGiven l (now (wanted .entry)) ⌝ }
+{
+    let stage = l.stage;
+    Given {
+        turn: turn(stage, l, wanted),
+        loader: l,
+    }
+}
+
+fn barred_by(n: u8, l: Loader) -> Given
+    ensures { λ r. ⌜ r ≡ barredBy n l ⌝ }
+{
+    Given {
+        turn: Turn::Barred(n),
+        loader: l,
+    }
+}
+
+// The first cycle of a load.
+pub fn start(part: Part, p: Pins, block: u8, wanted: &[u8], scratch: &[u8]) -> Given
+    ensures { λ r. ⌜ r ≡ startGiven part p block (now (wanted .entry)) (now (scratch .entry)) ⌝ }
+{
+    let n = start_number(part, p, block, wanted.len(), scratch.len());
+    if n == 0 {
+        return given_by(record_at(part, p, block, Stage::Clearing), wanted);
+    }
+    barred_by(n, record_at(part, p, block, Stage::Ended(n)))
+}
+
+// The byte read by the cycle that was out goes in, the next cycle or the end comes out.
+pub fn step(l: Loader, b: u8, wanted: &[u8], scratch: &mut [u8]) -> Given
+    ensures { λ r. ⌜ r ≡ stepGiven l b (now (wanted .entry)) (now (scratch .entry)) ⌝ }
+    ensures { λ _. ⌜ now (scratch .exit) ≡ scratchAfter l b (now (wanted .entry)) (now (scratch .entry)) ⌝ }
+{
+    let n = step_number(l, wanted.len(), scratch.len());
+    if n == 0 {
+        let moved = advance(l, b, wanted, scratch);
+        return given_by(moved, wanted);
+    }
+    barred_by(n, l)
+}

@@ -1,0 +1,109 @@
+-- What a write asks for, and what comes of it. Assumes nothing.
+use mathlib.Core.Bool.{Bool, true, false, _||_}
+use Prim.Native.Nat.{ℕ, _+_}
+use lib.Dec.{eqb}
+use Rattle.common.specs.Choice.{if_then_else_}
+use Rattle.device.specs.declared.Part.{Part}
+use Rattle.device.specs.declared.Device.{Device}
+use Rattle.model_types.specs.declared.Mode.{Mode}
+use Rattle.model_types.specs.declared.Mode.the-variants.{Array, Status, Identifier}
+use Rattle.model_types.specs.declared.Phase.{Phase}
+use Rattle.model_types.specs.declared.Phase.the-variants.{Free, EraseAwaited, DataAwaited, Programming, Erasing, Suspended}
+use Rattle.model_types.specs.declared.Action.{Action}
+use Rattle.model_types.specs.declared.Action.the-variants.{ToArray, ToIdentifier, ToStatus, Clear, AwaitErase, AwaitData, Confirm, Store, WrongSecond, Suspend, Resume, Ignore, Refuse}
+use Rattle.model_types.specs.declared.State.{State}
+use Rattle.model_types.specs.declared.Cycle.{Cycle}
+use Rattle.model_types.specs.Levels.{vppLow, locked}
+use Rattle.model_types.specs.Status.{SR7, SR6, SR5, SR4, SR3, withBits, withoutBits, isSet}
+use Rattle.model_types.specs.States.{atRest}
+
+-- the command byte of a cycle: its byte
+abbrev pub commandOf : Cycle → ℕ
+commandOf c = c .byte
+
+-- nothing awaited or running
+unfoldable pub firstWrite : ℕ → Action
+firstWrite b =
+    if eqb b 0xFF then ToArray
+    else if eqb b 0x90 then ToIdentifier
+    else if eqb b 0x70 then ToStatus
+    else if eqb b 0x50 then Clear
+    else if eqb b 0x20 then AwaitErase
+    else if eqb b 0x40 then AwaitData else Refuse
+
+-- after 20H
+unfoldable pub afterErase : ℕ → Action
+afterErase b = if eqb b 0xD0 then Confirm else WrongSecond
+
+-- while an erase is busy
+unfoldable pub whileErasing : ℕ → Action
+whileErasing b = if eqb b 0xB0 then Suspend else Ignore
+
+-- while suspended
+unfoldable pub whileSuspended : ℕ → Action
+whileSuspended b = if eqb b 0xFF then ToArray else if eqb b 0x70 then ToStatus else if eqb b 0xD0 then Resume else Ignore
+
+-- the command rules: after 40H every byte is data, and a busy program ignores every write
+abbrev pub actionOf : Part → Phase → ℕ → Action
+actionOf part Free b = firstWrite b
+actionOf part EraseAwaited b = afterErase b
+actionOf part DataAwaited b = Store
+actionOf part (Programming x) b = Ignore
+actionOf part Erasing b = whileErasing b
+actionOf part Suspended b = whileSuspended b
+
+-- the write asks for nothing that there is
+abbrev pub isRefuse : Action → Bool
+isRefuse ToArray = false
+isRefuse ToIdentifier = false
+isRefuse ToStatus = false
+isRefuse Clear = false
+isRefuse AwaitErase = false
+isRefuse AwaitData = false
+isRefuse Confirm = false
+isRefuse Store = false
+isRefuse WrongSecond = false
+isRefuse Suspend = false
+isRefuse Resume = false
+isRefuse Ignore = false
+isRefuse Refuse = true
+
+-- the state in another mode
+abbrev pub inMode : Mode → State → State
+inMode m s = record { mode = m; status = s .status; phase = s .phase; left = s .left; address = s .address }
+
+-- the state in another phase and status, mode read status; cycles to go and address stay
+abbrev pub inPhase : Phase → ℕ → State → State
+inPhase ph sr s = record { mode = Status; status = sr; phase = ph; left = s .left; address = s .address }
+
+-- the state with another status
+abbrev pub withStatus : ℕ → State → State
+withStatus sr s = record { mode = s .mode; status = sr; phase = s .phase; left = s .left; address = s .address }
+
+-- VPP is low at this cycle, or SR.3 is still set
+unfoldable pub unsupplied : Part → Cycle → State → Bool
+unsupplied part c s = vppLow part (c .pins) || isSet (s .status) SR3
+
+-- a confirm or data: unsupplied sets SR.3 and the operation's error bit, locked the error bit (where both apply, the bits are
+-- those of the first); otherwise the operation starts at this cycle's address with its busy time to go and SR.7 clear
+unfoldable pub startedOf : Part → Cycle → State → Phase → ℕ → ℕ → State
+startedOf part c s ph time bit =
+    if unsupplied part c s then atRest s (s .mode) (withBits (withBits (s .status) SR3) bit)
+    else if locked part c then atRest s (s .mode) (withBits (s .status) bit)
+    else record { mode = s .mode; status = withoutBits (s .status) SR7; phase = ph; left = time; address = c .address }
+
+-- what an action makes of the state
+abbrev pub performedOf : Action → Device → Cycle → State → State
+performedOf ToArray d c s = inMode Array s
+performedOf ToIdentifier d c s = inMode Identifier s
+performedOf ToStatus d c s = inMode Status s
+performedOf Clear d c s = withStatus (withoutBits (s .status) (SR5 + SR4 + SR3)) s
+performedOf AwaitErase d c s = inPhase EraseAwaited (s .status) s
+performedOf AwaitData d c s = inPhase DataAwaited (s .status) s
+performedOf Confirm d c s = startedOf (d .part) c s Erasing (d .erase) SR5
+performedOf Store d c s = startedOf (d .part) c s (Programming (c .byte)) (d .program) SR4
+performedOf WrongSecond d c s = atRest s (s .mode) (withBits (s .status) (SR5 + SR4))
+performedOf Suspend d c s = inPhase Suspended (withBits (s .status) (SR7 + SR6)) s
+performedOf Resume d c s = inPhase Erasing (withoutBits (s .status) (SR7 + SR6)) s
+performedOf Ignore d c s = s
+performedOf Refuse d c s = s

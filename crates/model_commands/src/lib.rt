@@ -1,0 +1,212 @@
+// What a write asks for, and what comes of it.
+use device::Device;
+use device::Part;
+use model_types::Action;
+use model_types::Cycle;
+use model_types::Mode;
+use model_types::Phase;
+use model_types::State;
+use model_types::levels::locked;
+use model_types::levels::vpp_low;
+use model_types::states::SR3;
+use model_types::states::SR4;
+use model_types::states::SR5;
+use model_types::states::SR6;
+use model_types::states::SR7;
+use model_types::states::at_rest;
+ghost use mathlib.Core.Path.{_≡_};
+ghost use Rattle.model_commands.specs.Commands.{firstWrite, afterErase, whileErasing, whileSuspended, actionOf, isRefuse, inMode, inPhase, withStatus, unsupplied, startedOf, performedOf};
+
+// What is set: by a wrong second write, and by a suspend.
+const ERRORS: u8 = SR5 + SR4;
+
+const HELD: u8 = SR7 + SR6;
+
+// What is kept: by a start, by a resume, and by 50H.
+const BUSY: u8 = 0xFF - SR7;
+
+const RESUMED: u8 = 0xFF - SR7 - SR6;
+
+const CLEARED: u8 = 0xFF - SR5 - SR4 - SR3;
+
+fn first_write(b: u8) -> Action
+    ensures { λ r. ⌜ r ≡ firstWrite b ⌝ }
+{
+    if b == 0xFF {
+        return Action::ToArray;
+    }
+    if b == 0x90 {
+        return Action::ToIdentifier;
+    }
+    if b == 0x70 {
+        return Action::ToStatus;
+    }
+    if b == 0x50 {
+        return Action::Clear;
+    }
+    if b == 0x20 {
+        return Action::AwaitErase;
+    }
+    if b == 0x40 {
+        return Action::AwaitData;
+    }
+    Action::Refuse
+}
+
+fn after_erase(b: u8) -> Action
+    ensures { λ r. ⌜ r ≡ afterErase b ⌝ }
+{
+    if b == 0xD0 {
+        return Action::Confirm;
+    }
+    Action::WrongSecond
+}
+
+fn while_erasing(b: u8) -> Action
+    ensures { λ r. ⌜ r ≡ whileErasing b ⌝ }
+{
+    if b == 0xB0 {
+        return Action::Suspend;
+    }
+    Action::Ignore
+}
+
+fn while_suspended(b: u8) -> Action
+    ensures { λ r. ⌜ r ≡ whileSuspended b ⌝ }
+{
+    if b == 0xFF {
+        return Action::ToArray;
+    }
+    if b == 0x70 {
+        return Action::ToStatus;
+    }
+    if b == 0xD0 {
+        return Action::Resume;
+    }
+    Action::Ignore
+}
+
+// The command rules, by what the device is about and the byte written.
+pub fn action(part: Part, ph: Phase, b: u8) -> Action
+    ensures { λ r. ⌜ r ≡ actionOf part ph b ⌝ }
+{
+    match ph {
+        Phase::Free => first_write(b),
+        Phase::EraseAwaited => after_erase(b),
+        Phase::DataAwaited => Action::Store,
+        Phase::Programming(_) => Action::Ignore,
+        Phase::Erasing => while_erasing(b),
+        Phase::Suspended => while_suspended(b),
+    }
+}
+
+pub fn is_refuse(a: Action) -> bool
+    ensures { λ r. ⌜ r ≡ isRefuse a ⌝ }
+{
+    match a {
+        Action::ToArray => false,
+        Action::ToIdentifier => false,
+        Action::ToStatus => false,
+        Action::Clear => false,
+        Action::AwaitErase => false,
+        Action::AwaitData => false,
+        Action::Confirm => false,
+        Action::Store => false,
+        Action::WrongSecond => false,
+        Action::Suspend => false,
+        Action::Resume => false,
+        Action::Ignore => false,
+        Action::Refuse => true,
+    }
+}
+
+fn in_mode(m: Mode, s: State) -> State
+    ensures { λ r. ⌜ r ≡ inMode m s ⌝ }
+{
+    let ph = s.phase;
+    State {
+        mode: m,
+        status: s.status,
+        phase: ph,
+        left: s.left,
+        address: s.address,
+    }
+}
+
+fn in_phase(ph: Phase, status: u8, s: State) -> State
+    ensures { λ r. ⌜ r ≡ inPhase ph status s ⌝ }
+{
+    State {
+        mode: Mode::Status,
+        status: status,
+        phase: ph,
+        left: s.left,
+        address: s.address,
+    }
+}
+
+fn with_status(status: u8, s: State) -> State
+    ensures { λ r. ⌜ r ≡ withStatus status s ⌝ }
+{
+    let m = s.mode;
+    let ph = s.phase;
+    State {
+        mode: m,
+        status: status,
+        phase: ph,
+        left: s.left,
+        address: s.address,
+    }
+}
+
+fn unsupplied(part: Part, c: Cycle, s: State) -> bool
+    ensures { λ r. ⌜ r ≡ unsupplied part c s ⌝ }
+{
+    let p = c.pins;
+    vpp_low(part, p) | !(s.status / SR3 % 2 == 0)
+}
+
+// A confirm or data: the operation starts, or the error bits say why not.
+fn begin(part: Part, c: Cycle, s: State, ph: Phase, time: u16, bit: u8) -> State
+    ensures { λ r. ⌜ r ≡ startedOf part c s ph time bit ⌝ }
+{
+    let m = s.mode;
+    if unsupplied(part, c, s) {
+        return at_rest(s, m, s.status | SR3 | bit);
+    }
+    if locked(part, c) {
+        return at_rest(s, m, s.status | bit);
+    }
+    State {
+        mode: m,
+        status: s.status & BUSY,
+        phase: ph,
+        left: time,
+        address: c.address,
+    }
+}
+
+// What an action makes of the state.
+pub fn perform(a: Action, d: Device, c: Cycle, s: State) -> State
+    ensures { λ r. ⌜ r ≡ performedOf a d c s ⌝ }
+{
+    let part = d.part;
+    match a {
+        Action::ToArray => in_mode(Mode::Array, s),
+        Action::ToIdentifier => in_mode(Mode::Identifier, s),
+        Action::ToStatus => in_mode(Mode::Status, s),
+        Action::Clear => with_status(s.status & CLEARED, s),
+        Action::AwaitErase => in_phase(Phase::EraseAwaited, s.status, s),
+        Action::AwaitData => in_phase(Phase::DataAwaited, s.status, s),
+        Action::Confirm => begin(part, c, s, Phase::Erasing, d.erase, SR5),
+        Action::Store => begin(part, c, s, Phase::Programming(c.byte), d.program, SR4),
+        Action::WrongSecond => {
+            let m = s.mode;
+            at_rest(s, m, s.status | ERRORS)
+        }
+        Action::Suspend => in_phase(Phase::Suspended, s.status | HELD, s),
+        Action::Resume => in_phase(Phase::Erasing, s.status & RESUMED, s),
+        Action::Ignore => s,
+        Action::Refuse => s,
+    }
+}

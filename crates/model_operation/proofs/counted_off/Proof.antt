@@ -1,0 +1,37 @@
+use borrow.Author.Needs.{needs}
+use mathlib.Core.Path.{_≡_}
+use mathlib.Core.Bool.{true, false}
+use Prim.Native.Nat.{ℕ, _-_, _≤_, _<_}
+use native.Mathlib.Omega.{arith}
+use lib.Dec.{eqb}
+use borrow.Author.Tests.{eq-eqb, ne-eqb}
+use Rattle.model_operation.specs.Settling.{countedOff}
+use Rattle.model_operation.proofs.counted_off.Statement.{statement}
+use Rattle.model_operation.proofs.counted_off.Tie as tie
+
+-- one cycle off the last leaves none, off any other some
+last-one : (n : ℕ) → n ≤ 1 → eqb (n - 1) 0 ≡ true
+last-one n h = eq-eqb (n - 1) 0 (omega arith)
+
+one-more : (n : ℕ) → 1 < n → eqb (n - 1) 0 ≡ false
+one-more n h = ne-eqb (n - 1) 0 (λ z. omega arith)
+
+at-rest-requires : tie.Need-at-rest-requires
+at-rest-requires c κs = search needs
+
+end-requires : tie.Need-end-requires
+end-requires c κs = search needs
+
+returns : tie.Need-returns
+unfolding countedOff
+returns c = simp (c .end .ensures, c .before .at-rest .ensures, last-one _ (c .before .before .before .if1 .taken))
+
+sub-t9 : tie.Need-sub-t9
+sub-t9 c = search needs
+
+returns-2 : tie.Need-returns-2
+unfolding countedOff
+returns-2 c = simp (one-more _ (c .before .if1 .left))
+
+pub counted-off-spec : {M : Type 1} → statement M
+counted-off-spec = tie.close (tie.spec at-rest-requires end-requires returns sub-t9 returns-2)

@@ -1,0 +1,72 @@
+use borrow.Author.Needs.{needs}
+use Rattle.model_operation.proofs.residue_for.Statement.{statement}
+use Rattle.model_operation.proofs.residue_for.Tie as tie
+
+enum-told : tie.Need-enum-told
+enum-told c = search needs
+
+enum-told-2 : tie.Need-enum-told-2
+enum-told-2 c = search needs
+
+enum-told-3 : tie.Need-enum-told-3
+enum-told-3 c = search needs
+
+enum-told-4 : tie.Need-enum-told-4
+enum-told-4 c = search needs
+
+enum-told-5 : tie.Need-enum-told-5
+enum-told-5 c = search needs
+
+block-of-requires : tie.Need-block-of-requires
+block-of-requires c κs = search needs
+
+length-requires : tie.Need-length-requires
+length-requires c κs = search needs
+
+enum-told-6 : tie.Need-enum-told-6
+enum-told-6 c = search needs
+
+block-of-requires-2 : tie.Need-block-of-requires-2
+block-of-requires-2 c κs = search needs
+
+length-requires-2 : tie.Need-length-requires-2
+length-requires-2 c κs = search needs
+
+returns : tie.Need-returns
+returns c = search needs
+
+returns-2 : tie.Need-returns-2
+returns-2 c = search needs
+
+returns-3 : tie.Need-returns-3
+returns-3 c = search needs
+
+returns-4 : tie.Need-returns-4
+returns-4 c = search needs
+
+returns-5 : tie.Need-returns-5
+returns-5 c = simp (c .length .ensures, c .before .block-of .ensures, c .before .before .enum-told5 .given .1)
+
+returns-6 : tie.Need-returns-6
+returns-6 c = simp (c .length2 .ensures, c .before .block-of2 .ensures, c .before .before .enum-told6 .given .1)
+
+pub residue-for-spec : {M : Type 1} → statement M
+residue-for-spec =
+    tie.close
+    (tie.spec
+    enum-told
+    enum-told-2
+    enum-told-3
+    enum-told-4
+    enum-told-5
+    block-of-requires
+    length-requires
+    enum-told-6
+    block-of-requires-2
+    length-requires-2
+    returns
+    returns-2
+    returns-3
+    returns-4
+    returns-5
+    returns-6)

@@ -1,0 +1,274 @@
+// One bus cycle on values alone: judge, settle, respond. No slice comes near it.
+use device::Device;
+use device::Part;
+use model_commands::action;
+use model_commands::is_refuse;
+use model_commands::perform;
+use model_operation::residue_for;
+use model_operation::settle;
+use model_types::Action;
+use model_types::Cycle;
+use model_types::Decision;
+use model_types::Effect;
+use model_types::Kind;
+use model_types::Mode;
+use model_types::Phase;
+use model_types::Pins;
+use model_types::Reply;
+use model_types::Settled;
+use model_types::State;
+use model_types::levels::bad_levels;
+use model_types::levels::rp_low;
+use model_types::levels::vpp_low;
+use model_types::states::improper;
+use model_types::states::is_array;
+ghost use mathlib.Core.Path.{_≡_};
+ghost use mathlib.Core.Bool.{not, _||_};
+ghost use Rattle.model_types.specs.Levels.{rpLow, vppLow};
+ghost use lib.Dec.{eqb};
+ghost use Rattle.device.specs.Parts.{sizeOf};
+ghost use Rattle.model_rules.specs.Cycles.{pastArray, shortResidue, judgeOf, refusedBy, identifierOf};
+ghost use Rattle.model_rules.specs.Inner.{settledBy, inSuspended, arrayArm, identifierArm, readArm, writeArm, arm, decideJudged, asksArray};
+ghost use Rattle.model_types.specs.Phases.{isSuspended, isFree};
+ghost use Rattle.model_types.specs.Kinds.{isIdle, isRead};
+
+fn is_idle(kind: Kind) -> bool
+    ensures { λ r. ⌜ r ≡ isIdle kind ⌝ }
+{
+    match kind {
+        Kind::Read => false,
+        Kind::Write => false,
+        Kind::Idle => true,
+    }
+}
+
+fn is_read(kind: Kind) -> bool
+    ensures { λ r. ⌜ r ≡ isRead kind ⌝ }
+{
+    match kind {
+        Kind::Read => true,
+        Kind::Write => false,
+        Kind::Idle => false,
+    }
+}
+
+fn is_free(ph: Phase) -> bool
+    ensures { λ r. ⌜ r ≡ isFree ph ⌝ }
+{
+    match ph {
+        Phase::Free => true,
+        Phase::EraseAwaited => false,
+        Phase::DataAwaited => false,
+        Phase::Programming(_) => false,
+        Phase::Erasing => false,
+        Phase::Suspended => false,
+    }
+}
+
+fn is_suspended(ph: Phase) -> bool
+    ensures { λ r. ⌜ r ≡ isSuspended ph ⌝ }
+{
+    match ph {
+        Phase::Free => false,
+        Phase::EraseAwaited => false,
+        Phase::DataAwaited => false,
+        Phase::Programming(_) => false,
+        Phase::Erasing => false,
+        Phase::Suspended => true,
+    }
+}
+
+// Refusal 5.
+fn past_array(part: Part, c: Cycle) -> bool
+    ensures { λ r. ⌜ r ≡ pastArray part c ⌝ }
+{
+    let p = c.pins;
+    let kind = c.kind;
+    (device::size(part) <= c.address as usize) & !rp_low(p) & !is_idle(kind)
+}
+
+// A cycle with such levels cuts what is running or suspended.
+fn cuts(part: Part, p: Pins) -> bool
+    ensures { λ r. ⌜ r ≡ (rpLow p || vppLow part p) ⌝ }
+{
+    rp_low(p) | vpp_low(part, p)
+}
+
+// Refusal 6.
+fn short_residue(part: Part, s: State, c: Cycle, residue: usize) -> bool
+    ensures { λ r. ⌜ r ≡ shortResidue part s c residue ⌝ }
+{
+    let p = c.pins;
+    let ph = s.phase;
+    if cuts(part, p) {
+        return residue < residue_for(ph, part, s.address);
+    }
+    false
+}
+
+fn wrong_length(part: Part, array: usize) -> bool
+    ensures { λ r. ⌜ r ≡ not (eqb array (sizeOf part)) ⌝ }
+{
+    !(array == device::size(part))
+}
+
+// Refusals 1 to 6, the lowest that applies, or 0.
+pub fn judge(d: Device, s: State, c: Cycle, array: usize, residue: usize) -> u8
+    ensures { λ r. ⌜ r ≡ judgeOf d s c array residue ⌝ }
+{
+    let part = d.part;
+    if device::unknown_device(d) {
+        return 1;
+    }
+    if wrong_length(part, array) {
+        return 2;
+    }
+    if improper(d, s) {
+        return 3;
+    }
+    if bad_levels(part, c) {
+        return 4;
+    }
+    if past_array(part, c) {
+        return 5;
+    }
+    if short_residue(part, s, c, residue) {
+        return 6;
+    }
+    0
+}
+
+fn refused(n: u8, s: State) -> Decision
+    ensures { λ r. ⌜ r ≡ refusedBy n s ⌝ }
+{
+    Decision {
+        reply: Reply::Refuses(n),
+        state: s,
+        effect: Effect::Nothing,
+    }
+}
+
+fn identifier(part: Part, address: u32) -> u8
+    ensures { λ r. ⌜ r ≡ identifierOf part address ⌝ }
+{
+    if address == 0 {
+        return 0x89;
+    }
+    device::code(part)
+}
+
+// The settled state and effect under a reply.
+fn given(reply: Reply, t: Settled) -> Decision
+    ensures { λ r. ⌜ r ≡ settledBy reply t ⌝ }
+{
+    let s = t.state;
+    let effect = t.effect;
+    Decision {
+        reply: reply,
+        state: s,
+        effect: effect,
+    }
+}
+
+// The address is in the suspended block.
+fn in_suspended(part: Part, s: State, address: u32) -> bool
+    ensures { λ r. ⌜ r ≡ inSuspended part s address ⌝ }
+{
+    let ph = s.phase;
+    if is_suspended(ph) {
+        return device::block_of(part, address) == device::block_of(part, s.address);
+    }
+    false
+}
+
+// An array read: 8, or the byte.
+fn read_array(part: Part, s: State, c: Cycle, t: Settled) -> Decision
+    ensures { λ r. ⌜ r ≡ arrayArm part s c t ⌝ }
+{
+    let after = t.state;
+    if in_suspended(part, after, c.address) {
+        return refused(8, s);
+    }
+    given(Reply::GivesArray(c.address), t)
+}
+
+// An identifier read: 9, or the code.
+fn read_identifier(part: Part, s: State, c: Cycle, t: Settled) -> Decision
+    ensures { λ r. ⌜ r ≡ identifierArm part s c t ⌝ }
+{
+    if 1 < c.address {
+        return refused(9, s);
+    }
+    given(Reply::Gives(identifier(part, c.address)), t)
+}
+
+fn read(m: Mode, part: Part, s: State, c: Cycle, t: Settled) -> Decision
+    ensures { λ r. ⌜ r ≡ readArm m part s c t ⌝ }
+{
+    match m {
+        Mode::Array => read_array(part, s, c, t),
+        Mode::Status => given(Reply::Gives(t.state.status), t),
+        Mode::Identifier => read_identifier(part, s, c, t),
+    }
+}
+
+// A write: 7, or what comes of it.
+fn write(a: Action, d: Device, s: State, c: Cycle, t: Settled) -> Decision
+    ensures { λ r. ⌜ r ≡ writeArm a d s c t ⌝ }
+{
+    let after = t.state;
+    let effect = t.effect;
+    if is_refuse(a) {
+        return refused(7, s);
+    }
+    Decision {
+        reply: Reply::Quiet,
+        state: perform(a, d, c, after),
+        effect: effect,
+    }
+}
+
+// Step 4: the read or write itself, or its refusal by the state that settling leaves.
+fn respond(kind: Kind, d: Device, s: State, c: Cycle, t: Settled) -> Decision
+    ensures { λ r. ⌜ r ≡ arm kind d s c t ⌝ }
+{
+    let after = t.state;
+    match kind {
+        Kind::Read => {
+            let m = after.mode;
+            let part = d.part;
+            read(m, part, s, c, t)
+        }
+        Kind::Write => {
+            let ph = after.phase;
+            let part = d.part;
+            write(action(part, ph, c.byte), d, s, c, t)
+        }
+        Kind::Idle => given(Reply::Quiet, t),
+    }
+}
+
+// Only for callers that know refusals 1 to 6 not to apply. With RP# low the cycle ends after step 1.
+pub fn decide_judged(d: Device, s: State, c: Cycle) -> Decision
+    ensures { λ r. ⌜ r ≡ decideJudged d s c ⌝ }
+{
+    let part = d.part;
+    let p = c.pins;
+    let kind = c.kind;
+    let t = settle(part, s, p);
+    if rp_low(p) {
+        return given(Reply::Quiet, t);
+    }
+    respond(kind, d, s, c, t)
+}
+
+// An array read of a device at rest with RP# up: the commonest cycle, told from all others at small cost.
+pub fn asks_array(s: State, c: Cycle) -> bool
+    ensures { λ r. ⌜ r ≡ asksArray s c ⌝ }
+{
+    let ph = s.phase;
+    let m = s.mode;
+    let kind = c.kind;
+    let p = c.pins;
+    is_read(kind) & is_free(ph) & is_array(m) & !rp_low(p)
+}

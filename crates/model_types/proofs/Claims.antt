@@ -1,0 +1,22 @@
+-- What is claimed of levels and states, and that two results that a promise allows are equal, for each public function of this crate.
+-- Assumes nothing.
+use mathlib.Core.Path.{_≡_}
+use mathlib.Core.Bool.{true, false, _||_}
+use Rattle.device.specs.declared.Part.{Part}
+use Rattle.device.specs.declared.Device.{Device}
+use Rattle.model_types.specs.declared.Pins.{Pins}
+use Rattle.model_types.specs.declared.State.{State}
+use Rattle.model_types.specs.Levels.{vppLow, vppHigh}
+use Rattle.model_types.specs.States.{improper}
+use Rattle.model_types.specs.Inner.{badMode, badStatus, badLeft, badAddress}
+use Rattle.model_types.proofs.Bands as bands
+use Rattle.model_types.proofs.Proper as parts
+
+-- VPP high is not low, whatever the part.
+pub not-low : (part : Part) (p : Pins) → vppHigh part p ≡ true → vppLow part p ≡ false
+not-low = bands.not-low
+
+-- The code's tests of a state, part by part, are together `improper`.
+pub improper-parts : (d : Device) (s : State)
+    → improper d s ≡ (((badMode (s .phase) (s .mode) || badStatus (s .phase) (s .status)) || badLeft d (s .phase) (s .left)) || badAddress d (s .phase) (s .address))
+improper-parts = parts.improper-parts

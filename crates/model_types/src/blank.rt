@@ -1,0 +1,11 @@
+// An erased cell.
+use device::Part;
+ghost use mathlib.Core.Path.{_≡_};
+ghost use Rattle.model_types.specs.Cells.{ones};
+
+// All ones of a cell of this part.
+pub fn ones(part: Part) -> u8
+    ensures { λ r. ⌜ r ≡ ones part ⌝ }
+{
+    0xFF
+}

@@ -1,0 +1,69 @@
+// Pin levels and supply bands.
+use crate::Cycle;
+use crate::Kind;
+use crate::Pins;
+use device::Part;
+ghost use mathlib.Core.Path.{_≡_};
+ghost use lib.Dec.{eqb};
+ghost use Rattle.model_types.specs.Levels.{rpLow, vppLow, vppHigh, badPins, badOe, badLevels, unlocked, locked};
+
+pub fn rp_low(p: Pins) -> bool
+    ensures { λ r. ⌜ r ≡ rpLow p ⌝ }
+{
+    p.rp == 0
+}
+
+pub fn vpp_low(part: Part, p: Pins) -> bool
+    ensures { λ r. ⌜ r ≡ vppLow part p ⌝ }
+{
+    p.vpp <= 6500
+}
+
+pub fn vpp_high(part: Part, p: Pins) -> bool
+    ensures { λ r. ⌜ r ≡ vppHigh part p ⌝ }
+{
+    (11400 <= p.vpp) & (p.vpp <= 12600)
+}
+
+pub fn bad_pins(part: Part, p: Pins) -> bool
+    ensures { λ r. ⌜ r ≡ badPins part p ⌝ }
+{
+    (2 < p.rp) | !(vpp_low(part, p) | vpp_high(part, p))
+}
+
+fn bad_oe(part: Part, kind: Kind, oe: u8) -> bool
+    ensures { λ r. ⌜ r ≡ badOe part kind oe ⌝ }
+{
+    match kind {
+        Kind::Read => 0 < oe,
+        Kind::Write => 1 < oe,
+        Kind::Idle => 0 < oe,
+    }
+}
+
+// Refusal 4.
+pub fn bad_levels(part: Part, c: Cycle) -> bool
+    ensures { λ r. ⌜ r ≡ badLevels part c ⌝ }
+{
+    let p = c.pins;
+    let kind = c.kind;
+    bad_pins(part, p) | bad_oe(part, kind, c.oe)
+}
+
+// RP# or OE# at V_HH unlocks the boot block.
+pub fn unlocked(part: Part, p: Pins, oe: u8) -> bool
+    ensures { λ r. ⌜ r ≡ unlocked part p oe ⌝ }
+{
+    (p.rp == 2) | (oe == 1)
+}
+
+// The address is in the boot block, and nothing unlocks it.
+pub fn locked(part: Part, c: Cycle) -> bool
+    ensures { λ r. ⌜ r ≡ locked part c ⌝ }
+{
+    let p = c.pins;
+    if unlocked(part, p, c.oe) {
+        return false;
+    }
+    device::block_of(part, c.address) == 0
+}

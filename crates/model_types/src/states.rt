@@ -1,0 +1,185 @@
+// Device states: the status register, and what makes a state proper.
+use crate::Mode;
+use crate::Phase;
+use crate::State;
+use device::Device;
+ghost use mathlib.Core.Path.{_≡_};
+ghost use Rattle.model_types.specs.States.{mostLeft, isArray, isStatus, isIdentifier, improper, atRest, freshState, resetOf};
+ghost use Rattle.model_types.specs.Inner.{topBits, badMode, badStatus, badLeft, badAddress};
+ghost use Rattle.model_types.specs.Phases.{isBusy, isPending};
+
+// The bits of the status register: ready, erase suspended, erase error, program error, VPP low.
+pub const SR7: u8 = 0x80;
+
+pub const SR6: u8 = 0x40;
+
+pub const SR5: u8 = 0x20;
+
+pub const SR4: u8 = 0x10;
+
+pub const SR3: u8 = 0x08;
+
+pub fn is_busy(ph: Phase) -> bool
+    ensures { λ r. ⌜ r ≡ isBusy ph ⌝ }
+{
+    match ph {
+        Phase::Free => false,
+        Phase::EraseAwaited => false,
+        Phase::DataAwaited => false,
+        Phase::Programming(_) => true,
+        Phase::Erasing => true,
+        Phase::Suspended => false,
+    }
+}
+
+pub fn is_pending(ph: Phase) -> bool
+    ensures { λ r. ⌜ r ≡ isPending ph ⌝ }
+{
+    match ph {
+        Phase::Free => false,
+        Phase::EraseAwaited => false,
+        Phase::DataAwaited => false,
+        Phase::Programming(_) => true,
+        Phase::Erasing => true,
+        Phase::Suspended => true,
+    }
+}
+
+fn top_bits(ph: Phase) -> u8
+    ensures { λ r. ⌜ r ≡ topBits ph ⌝ }
+{
+    match ph {
+        Phase::Free => 2,
+        Phase::EraseAwaited => 2,
+        Phase::DataAwaited => 2,
+        Phase::Programming(_) => 0,
+        Phase::Erasing => 0,
+        Phase::Suspended => 3,
+    }
+}
+
+fn most_left(d: Device, ph: Phase) -> u16
+    ensures { λ r. ⌜ r ≡ mostLeft d ph ⌝ }
+{
+    match ph {
+        Phase::Free => 0,
+        Phase::EraseAwaited => 0,
+        Phase::DataAwaited => 0,
+        Phase::Programming(_) => d.program,
+        Phase::Erasing => d.erase,
+        Phase::Suspended => d.erase,
+    }
+}
+
+pub fn is_array(m: Mode) -> bool
+    ensures { λ r. ⌜ r ≡ isArray m ⌝ }
+{
+    match m {
+        Mode::Array => true,
+        Mode::Status => false,
+        Mode::Identifier => false,
+    }
+}
+
+fn is_status(m: Mode) -> bool
+    ensures { λ r. ⌜ r ≡ isStatus m ⌝ }
+{
+    match m {
+        Mode::Array => false,
+        Mode::Status => true,
+        Mode::Identifier => false,
+    }
+}
+
+pub fn is_identifier(m: Mode) -> bool
+    ensures { λ r. ⌜ r ≡ isIdentifier m ⌝ }
+{
+    match m {
+        Mode::Array => false,
+        Mode::Status => false,
+        Mode::Identifier => true,
+    }
+}
+
+fn bad_mode(ph: Phase, m: Mode) -> bool
+    ensures { λ r. ⌜ r ≡ badMode ph m ⌝ }
+{
+    match ph {
+        Phase::Free => false,
+        Phase::EraseAwaited => !is_status(m),
+        Phase::DataAwaited => !is_status(m),
+        Phase::Programming(_) => !is_status(m),
+        Phase::Erasing => !is_status(m),
+        Phase::Suspended => is_identifier(m),
+    }
+}
+
+fn bad_status(ph: Phase, status: u8) -> bool
+    ensures { λ r. ⌜ r ≡ badStatus ph status ⌝ }
+{
+    !(status % SR3 == 0) | !(status / SR6 == top_bits(ph))
+}
+
+fn bad_left(d: Device, ph: Phase, left: u16) -> bool
+    ensures { λ r. ⌜ r ≡ badLeft d ph left ⌝ }
+{
+    if is_pending(ph) {
+        return (left == 0) | (most_left(d, ph) < left);
+    }
+    !(left == 0)
+}
+
+fn bad_address(d: Device, ph: Phase, address: u32) -> bool
+    ensures { λ r. ⌜ r ≡ badAddress d ph address ⌝ }
+{
+    let part = d.part;
+    if is_pending(ph) {
+        return device::size(part) <= address as usize;
+    }
+    !(address == 0)
+}
+
+// Refusal 3.
+pub fn improper(d: Device, s: State) -> bool
+    ensures { λ r. ⌜ r ≡ improper d s ⌝ }
+{
+    let ph = s.phase;
+    let m = s.mode;
+    bad_mode(ph, m)
+        | bad_status(ph, s.status)
+        | bad_left(d, ph, s.left)
+        | bad_address(d, ph, s.address)
+}
+
+// A state come to rest: nothing awaited, running or suspended.
+pub fn at_rest(s: State, m: Mode, status: u8) -> State
+    ensures { λ r. ⌜ r ≡ atRest s m status ⌝ }
+{
+    State {
+        mode: m,
+        status: status,
+        phase: Phase::Free,
+        left: 0,
+        address: 0,
+    }
+}
+
+// A fresh device: read array, 80H.
+pub fn fresh() -> State
+    ensures { λ r. ⌜ r ≡ freshState ⌝ }
+{
+    State {
+        mode: Mode::Array,
+        status: SR7,
+        phase: Phase::Free,
+        left: 0,
+        address: 0,
+    }
+}
+
+// What RP# low makes of a state.
+pub fn reset(s: State) -> State
+    ensures { λ r. ⌜ r ≡ resetOf s ⌝ }
+{
+    at_rest(s, Mode::Array, SR7)
+}

@@ -1,0 +1,47 @@
+-- `replay::answers::write_answer` meets its contract. Assumes nothing.
+use Rattle.trace_replay.specs.Answers.{answerText}
+use borrow.Author.Needs.{needs}
+use Rattle.trace_replay.proofs.answers.write_answer.Statement.{statement}
+use Rattle.trace_replay.proofs.answers.write_answer.Tie as tie
+
+letter-requires : tie.Need-letter-requires
+letter-requires c κs = search needs
+
+first-requires : tie.Need-first-requires
+first-requires c κs = search needs
+
+second-requires : tie.Need-second-requires
+second-requires c κs = search needs
+
+hex-digit-requires : tie.Need-hex-digit-requires
+hex-digit-requires c κs = search needs
+
+hex-digit-requires-2 : tie.Need-hex-digit-requires-2
+hex-digit-requires-2 c κs = search needs
+
+slice-aggregate-copy : tie.Need-slice-aggregate-copy
+slice-aggregate-copy c = search needs
+
+copy-requires : tie.Need-copy-requires
+copy-requires c κs = search needs
+
+same-length : tie.Need-same-length
+same-length c = search needs
+
+returns : tie.Need-returns
+unfolding answerText
+returns c = simp (c .before .before .copy .ensures, c .before .before .before .before .before .hex-digit2 .ensures, c .before .before .before .before .before .before .hex-digit .ensures, c .before .before .before .before .before .before .before .second .ensures, c .before .before .before .before .before .before .before .before .first .ensures, c .before .before .before .before .before .before .before .before .before .letter .ensures)
+
+pub write-answer-spec : {M : Type 1} → statement M
+write-answer-spec =
+    tie.close
+    (tie.spec
+    letter-requires
+    first-requires
+    second-requires
+    hex-digit-requires
+    hex-digit-requires-2
+    slice-aggregate-copy
+    copy-requires
+    same-length
+    returns)

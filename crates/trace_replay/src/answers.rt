@@ -1,0 +1,119 @@
+// What a trace prints: an answer of eight bytes a line, and the mark that ends a trace.
+use model::Seen;
+ghost use mathlib.Core.Path.{_≡_};
+ghost use Prim.Native.Nat.{_<_};
+ghost use lib.ListN.{length};
+ghost use Rattle.common.specs.Lists.{copied};
+ghost use Rattle.trace_lines.specs.Lines.{decimalDigit, hexDigit};
+ghost use Rattle.trace_replay.specs.Answers.{signOf, firstSign, secondSign, answerText, markOf, traceEnd};
+
+// The digit 0 as a length, and what a letter counts from.
+const ZERO: usize = b'0' as usize;
+
+const TEN: u8 = b'A' - 10;
+
+fn hex_digit(n: u8) -> u8
+    requires { ⌜ n < 16 ⌝ }
+    ensures { λ r. ⌜ r ≡ hexDigit n ⌝ }
+{
+    if n < 10 {
+        return b'0' + n;
+    }
+    TEN + n
+}
+
+fn decimal_digit(n: usize) -> u8
+    ensures { λ r. ⌜ r ≡ decimalDigit n ⌝ }
+{
+    (ZERO + n % 10) as u8
+}
+
+// A byte's decimal digit.
+fn small_digit(n: u8) -> u8
+    ensures { λ r. ⌜ r ≡ decimalDigit n ⌝ }
+{
+    b'0' + n % 10
+}
+
+fn letter(seen: Seen) -> u8
+    ensures { λ r. ⌜ r ≡ signOf seen ⌝ }
+{
+    match seen {
+        Seen::NoData => b'N',
+        Seen::Byte(_) => b'D',
+        Seen::Refused(_) => b'X',
+    }
+}
+
+fn first(seen: Seen) -> u8
+    ensures { λ r. ⌜ r ≡ firstSign seen ⌝ }
+{
+    match seen {
+        Seen::NoData => b'-',
+        Seen::Byte(b) => hex_digit(b / 16 % 16),
+        Seen::Refused(n) => small_digit(n / 10),
+    }
+}
+
+fn second(seen: Seen) -> u8
+    ensures { λ r. ⌜ r ≡ secondSign seen ⌝ }
+{
+    match seen {
+        Seen::NoData => b'-',
+        Seen::Byte(b) => hex_digit(b % 16),
+        Seen::Refused(n) => small_digit(n),
+    }
+}
+
+// An answer, over the front of out: what is seen, and a status register.
+pub fn write_answer(seen: Seen, sr: u8, out: &mut [u8])
+    ensures { λ _. ⌜ now (out .exit) ≡ copied (now (out .entry)) (answerText seen sr) ⌝ }
+{
+    let line = [
+        letter(seen),
+        b' ',
+        first(seen),
+        second(seen),
+        b' ',
+        hex_digit(sr / 16 % 16),
+        hex_digit(sr % 16),
+        b'\n',
+    ];
+    common::copy(out, &line)
+}
+
+// The mark of a line, over the front of out.
+pub fn write_mark(number: usize, out: &mut [u8])
+    ensures { λ _. ⌜ now (out .exit) ≡ copied (now (out .entry)) (markOf number) ⌝ }
+{
+    let line = [
+        b'?',
+        b' ',
+        decimal_digit(number / 1000),
+        decimal_digit(number / 100),
+        decimal_digit(number / 10),
+        decimal_digit(number),
+        b'\n',
+    ];
+    common::copy(out, &line)
+}
+
+// The end of a trace before a line, with so many bytes left over.
+pub fn write_end(number: usize, left: usize, out: &mut [u8])
+    ensures { λ _. ⌜ now (out .exit) ≡ copied (now (out .entry)) (traceEnd number left) ⌝ }
+{
+    if left == 0 {
+        return;
+    }
+    write_mark(number, out)
+}
+
+// How long that end is.
+pub fn end_length(left: usize) -> usize
+    ensures { λ r. ⌜ r ≡ length (traceEnd 0 left) ⌝ }
+{
+    if left == 0 {
+        return 0;
+    }
+    7
+}

@@ -1,0 +1,122 @@
+// The vectors of the load file: a case a line of standard input, an answer a line of standard output.
+// A case is sixteen numbers of five digits; tests/loadfile_vectors.py says what they mean.
+ghost use Prim.Native.Nat.{_<_};
+
+// Number k of a case.
+fn field(case: &[u8], k: usize) -> usize
+    requires { ⌜ k < 100 ⌝ }
+{
+    vectors_text::size_at(case, 10, 6 * k, 5)
+}
+
+// The same as a byte.
+fn byte(case: &[u8], k: usize) -> u8
+    requires { ⌜ k < 100 ⌝ }
+{
+    vectors_text::byte_at(case, 10, 6 * k, 5)
+}
+
+// Block k gets the check that fits it.
+fn seal(file: &mut [u8], k: usize) {
+    if k < 8 {
+        let from = 512 * k;
+        let to = from + 512;
+        if to <= file.len() {
+            let c = file_check::check(&file[from..to]);
+            vectors_text::put(file, from + 510, (c / 256) as u8);
+            vectors_text::put(file, from + 511, (c % 256) as u8);
+        }
+    }
+}
+
+// The number of a refusal, or a length.
+fn tell(mark: &[u8], n: u64) {
+    io::write_all(1, mark);
+    io::print_decimal(1, n);
+}
+
+// The answer of the writer, of the judgement, of the reader.
+fn tell_written(w: file_codec::Written) {
+    match w {
+        file_codec::Written::Wrote(n) => tell(b"W=", n as u64),
+        file_codec::Written::NotWritten(n) => tell(b"W!", n as u64),
+    }
+}
+
+fn tell_judged(j: file_codec::Judged) {
+    match j {
+        file_codec::Judged::Sound(n) => tell(b" J=", n as u64),
+        file_codec::Judged::Unsound(n) => tell(b" J!", n as u64),
+    }
+}
+
+fn tell_read(r: file_codec::ReadBack) {
+    match r {
+        file_codec::ReadBack::Gave(n) => tell(b" R=", n as u64),
+        file_codec::ReadBack::NotRead(n) => tell(b" R!", n as u64),
+    }
+}
+
+// The file is written.
+fn make(case: &[u8], payload: &[u8], file: &mut [u8]) {
+    let size = common::least(field(case, 1), payload.len());
+    let room = common::least(field(case, 2), file.len());
+    tell_written(file_codec::write(byte(case, 0), &payload[0..size], &mut file[0..room]));
+}
+
+// Two bytes of it are changed, as the numbers from k on say.
+fn change_two(case: &[u8], k: usize, file: &mut [u8])
+    requires { ⌜ k < 90 ⌝ }
+{
+    vectors_text::put(file, field(case, k), byte(case, k + 1));
+    vectors_text::put(file, field(case, k + 2), byte(case, k + 3));
+}
+
+// Two bytes are changed, two blocks sealed, and two bytes changed after that.
+fn spoil(case: &[u8], file: &mut [u8]) {
+    change_two(case, 3, file);
+    seal(file, field(case, 7));
+    seal(file, field(case, 8));
+    change_two(case, 9, file);
+}
+
+// The file is judged and read.
+fn take(case: &[u8], file: &[u8], back: &mut [u8]) {
+    let size = common::least(field(case, 13), file.len());
+    let asked = byte(case, 14);
+    let room = common::least(field(case, 15), back.len());
+    tell_judged(file_codec::judge(&file[0..size], asked));
+    tell_read(file_codec::read(&file[0..size], asked, &mut back[0..room]));
+}
+
+// One case.
+fn run(case: &[u8]) {
+    let mut payload = [0u8; 4200];
+    let mut file = [165u8; 5200];
+    let mut back = [90u8; 4200];
+    vectors_text::sow(&mut payload, 250, 3, 7);
+    make(case, &payload, &mut file);
+    spoil(case, &mut file);
+    take(case, &file, &mut back);
+    tell(b" F ", vectors_text::digest(&file));
+    tell(b" B ", vectors_text::digest(&back));
+    io::write_all(1, b"\n");
+}
+
+// All cases of a text.
+fn run_all(text: &[u8]) {
+    let n = text.len() / 96;
+    let mut i = 0;
+    while i < n {
+        let from = 96 * i;
+        let to = from + 96;
+        run(&text[from..to]);
+        i += 1;
+    }
+}
+
+fn main() {
+    let mut text = [0u8; 20000];
+    let n = io::read_full(0, &mut text);
+    run_all(&text[..n]);
+}

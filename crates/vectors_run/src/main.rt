@@ -1,0 +1,461 @@
+// Runs the loads that it reads, whole against the bench model or stepped by hand, and prints a line for each. The rows and the
+// lines that they must print come from tests/run_vectors.py, which has a loader of its own and says what a row holds.
+
+use device::Device;
+use device::Part;
+use loader::Given;
+use loader::Loader;
+use loader::Stage;
+use loader::Turn;
+use loader_run::Ran;
+use model_types::Cycle;
+use model_types::Kind;
+use model_types::Pins;
+use model_types::State;
+use vectors_text::Group;
+
+// What is loaded and with what: the device, the levels, the block, and how much of each slice is lent.
+struct Setup {
+    device: Device,
+    pins: Pins,
+    block: u8,
+    array: usize,
+    wanted: usize,
+    scratch: usize,
+}
+
+// What stands from row to row.
+struct Bench {
+    setup: Setup,
+    state: State,
+    loader: Loader,
+    group: Group,
+    lines: u32,
+}
+
+fn setup_of(row: &[u8], old: Setup) -> Setup {
+    let pins = old.pins;
+    let device = vectors_states::device_at(row);
+    let array = vectors_text::size_at(row, 10, 18, 6);
+    let wanted = vectors_text::size_at(row, 10, 25, 6);
+    let scratch = vectors_text::size_at(row, 10, 32, 6);
+    Setup {
+        device: device,
+        pins: pins,
+        block: old.block,
+        array: array,
+        wanted: wanted,
+        scratch: scratch,
+    }
+}
+
+fn levels_of(row: &[u8], old: Setup) -> Setup {
+    let device = old.device;
+    let rp = vectors_text::byte_at(row, 10, 2, 3);
+    let vpp = vectors_text::word_at(row, 10, 6, 10);
+    let block = vectors_text::byte_at(row, 10, 17, 3);
+    Setup {
+        device: device,
+        pins: Pins { rp: rp, vpp: vpp },
+        block: block,
+        array: old.array,
+        wanted: old.wanted,
+        scratch: old.scratch,
+    }
+}
+
+// The bench before the first row.
+fn bare() -> Bench {
+    let state = model::fresh();
+    let part = Part { number: 0 };
+    let pins = Pins { rp: 0, vpp: 0 };
+    let loader = loader_steps::front::record_at(part, pins, 0, Stage::Clearing);
+    Bench {
+        setup: Setup {
+            device: Device {
+                part: part,
+                program: 0,
+                erase: 0,
+            },
+            pins: pins,
+            block: 0,
+            array: 0,
+            wanted: 0,
+            scratch: 0,
+        },
+        state: state,
+        loader: loader,
+        group: Group {
+            a: 32,
+            b: 32,
+            c: 32,
+            d: 32,
+        },
+        lines: 0,
+    }
+}
+
+// The bench with another setup, state or group.
+fn with(b: Bench, setup: Setup, state: State, group: Group) -> Bench {
+    let loader = b.loader;
+    Bench {
+        setup: setup,
+        state: state,
+        loader: loader,
+        group: group,
+        lines: b.lines,
+    }
+}
+
+// The bench after one more line, with the state and the record that the line shows; the line begins with its label.
+fn after_line(b: Bench, state: State, loader: Loader) -> Bench {
+    let setup = b.setup;
+    let group = b.group;
+    let lines = (b.lines % 999) + 1;
+    print_label(group, lines);
+    Bench {
+        setup: setup,
+        state: state,
+        loader: loader,
+        group: group,
+        lines: lines,
+    }
+}
+
+fn print_text(text: &[u8]) {
+    io::write_all(1, text);
+}
+
+// A number in as many decimal digits as a slice has, and a space.
+fn print_decimal(text: &mut [u8], x: u64) {
+    vectors_text::decimal(text, x);
+    print_text(text);
+    print_text(b" ");
+}
+
+// A number in as many hex digits as a slice has, and what comes after it.
+fn print_hex(text: &mut [u8], x: u64, end: &[u8]) {
+    vectors_text::hex(text, x);
+    print_text(text);
+    print_text(end);
+}
+
+fn print_byte(x: u8) {
+    let mut text = [0u8; 2];
+    print_hex(&mut text, x as u64, b" ");
+}
+
+// The group's letters and the line's number.
+fn print_label(g: Group, line: u32) {
+    let letters = [g.a, g.b, g.c, g.d, b' '];
+    let mut text = [0u8; 3];
+    print_text(&letters);
+    print_decimal(&mut text, line as u64);
+}
+
+// A letter and a number in three decimal digits.
+fn print_number(letter: u8, n: u8) {
+    let mark = [letter, b' '];
+    let mut text = [0u8; 3];
+    print_text(&mark);
+    print_decimal(&mut text, n as u64);
+}
+
+// A number in ten decimal digits.
+fn print_long(x: u64) {
+    let mut text = [0u8; 10];
+    print_decimal(&mut text, x);
+}
+
+fn print_address(x: u32) {
+    let mut text = [0u8; 8];
+    print_hex(&mut text, x as u64, b" ");
+}
+
+// A digest and what comes after it.
+fn print_sum(x: u64, end: &[u8]) {
+    let mut text = [0u8; 4];
+    print_hex(&mut text, x, end);
+}
+
+// Status, mode and phase.
+fn print_state(s: State) {
+    let mode = s.mode;
+    let phase = s.phase;
+    let m = vectors_states::mode_letter(mode);
+    let p = vectors_states::phase_letter(phase);
+    let text = [m, b' ', p, b' '];
+    print_byte(s.status);
+    print_text(&text);
+}
+
+// A whole run: its end, count and address, the state, and digests of array and scratch.
+fn print_run(x: Ran, array: u64, scratch: u64) {
+    let state = x.state;
+    print_number(b'R', x.end);
+    print_long(x.count);
+    print_address(x.address);
+    print_state(state);
+    print_sum(array, b" ");
+    print_sum(scratch, b"\n");
+}
+
+fn kind_letter(kind: Kind) -> u8 {
+    match kind {
+        Kind::Read => b'R',
+        Kind::Write => b'W',
+        Kind::Idle => b'I',
+    }
+}
+
+// The cycle that is out.
+fn print_cycle(c: Cycle) {
+    let kind = c.kind;
+    let pins = c.pins;
+    print_number(kind_letter(kind), pins.rp);
+    print_long(pins.vpp as u64);
+    print_address(c.address);
+    print_byte(c.byte);
+}
+
+// What the loader gave: the cycle that is out, the end, or a refusal.
+fn print_turn(turn: Turn) {
+    match turn {
+        Turn::Out(c) => print_cycle(c),
+        Turn::Over(n, address) => {
+            print_number(b'E', n);
+            print_address(address);
+        }
+        Turn::Barred(n) => print_number(b'X', n),
+    }
+}
+
+// A whole run on what is lent.
+fn ran(setup: Setup, before: State, array: &mut [u8], wanted: &[u8], scratch: &mut [u8]) -> Ran {
+    let device = setup.device;
+    let pins = setup.pins;
+    let n = common::least(setup.array, array.len());
+    let m = common::least(setup.wanted, wanted.len());
+    let k = common::least(setup.scratch, scratch.len());
+    loader_run::run(
+        device,
+        before,
+        pins,
+        setup.block,
+        &mut array[0..n],
+        &wanted[0..m],
+        &mut scratch[0..k],
+    )
+}
+
+// A digest of what is lent of a slice.
+fn sum_of(s: &[u8], asked: usize) -> u64 {
+    let n = common::least(asked, s.len());
+    vectors_text::digest(&s[0..n])
+}
+
+// A whole run and its line.
+fn run_line(b: Bench, array: &mut [u8], wanted: &[u8], scratch: &mut [u8]) -> Bench {
+    let setup = b.setup;
+    let before = b.state;
+    let loader = b.loader;
+    let x = ran(setup, before, array, wanted, scratch);
+    let state = x.state;
+    let held = sum_of(array, setup.array);
+    let room = sum_of(scratch, setup.scratch);
+    let after = after_line(b, state, loader);
+    print_run(x, held, room);
+    after
+}
+
+// The line of a start or a step.
+fn given_line(b: Bench, g: Given, room: u64) -> Bench {
+    let state = b.state;
+    let turn = g.turn;
+    let loader = g.loader;
+    let after = after_line(b, state, loader);
+    print_turn(turn);
+    print_sum(room, b"\n");
+    after
+}
+
+// A start and its line.
+fn start_line(b: Bench, wanted: &[u8], scratch: &[u8]) -> Bench {
+    let setup = b.setup;
+    let device = setup.device;
+    let part = device.part;
+    let pins = setup.pins;
+    let m = common::least(setup.wanted, wanted.len());
+    let k = common::least(setup.scratch, scratch.len());
+    let g = loader_steps::front::start(part, pins, setup.block, &wanted[0..m], &scratch[0..k]);
+    let room = sum_of(scratch, setup.scratch);
+    given_line(b, g, room)
+}
+
+// Steps with the same byte, at least one.
+fn steps(l: Loader, byte: u8, times: u32, wanted: &[u8], scratch: &mut [u8]) -> Given {
+    let mut g = loader_steps::front::step(l, byte, wanted, scratch);
+    let mut i = 1;
+    while i < times {
+        let next = g.loader;
+        g = loader_steps::front::step(next, byte, wanted, scratch);
+        i += 1;
+    }
+    g
+}
+
+// The steps of a row, on what is lent.
+fn stepped(setup: Setup, before: Loader, row: &[u8], wanted: &[u8], scratch: &mut [u8]) -> Given {
+    let m = common::least(setup.wanted, wanted.len());
+    let k = common::least(setup.scratch, scratch.len());
+    let byte = vectors_text::byte_at(row, 16, 2, 2);
+    let times = vectors_text::word_at(row, 10, 5, 5);
+    steps(before, byte, times, &wanted[0..m], &mut scratch[0..k])
+}
+
+// Steps and the line of the last.
+fn step_line(b: Bench, row: &[u8], wanted: &[u8], scratch: &mut [u8]) -> Bench {
+    let setup = b.setup;
+    let before = b.loader;
+    let g = stepped(setup, before, row, wanted, scratch);
+    let room = sum_of(scratch, setup.scratch);
+    given_line(b, g, room)
+}
+
+// Fills the front of a slice, as a row says.
+fn sow_part(s: &mut [u8], asked: usize, row: &[u8]) {
+    let n = common::least(asked, s.len());
+    let first = vectors_text::size_at(row, 10, 2, 3);
+    let step = vectors_text::size_at(row, 10, 6, 3);
+    vectors_text::sow(&mut s[0..n], 256, first, step);
+}
+
+// One byte of a slice.
+fn put_byte(s: &mut [u8], row: &[u8]) {
+    let at = vectors_text::size_at(row, 16, 2, 8);
+    let v = vectors_text::byte_at(row, 16, 11, 2);
+    vectors_text::put(s, at, v);
+}
+
+// The record that a host hands back: the bench's part, levels and block, a place and polls, at the stage it had.
+fn handed(b: Bench, row: &[u8]) -> Bench {
+    let setup = b.setup;
+    let state = b.state;
+    let group = b.group;
+    let old = b.loader;
+    let stage = old.stage;
+    let device = setup.device;
+    let part = device.part;
+    let pins = setup.pins;
+    let place = vectors_text::size_at(row, 10, 2, 6);
+    let polls = vectors_text::word_at(row, 10, 9, 10);
+    Bench {
+        setup: setup,
+        state: state,
+        loader: Loader {
+            part: part,
+            pins: pins,
+            block: setup.block,
+            stage: stage,
+            place: place,
+            polls: polls,
+        },
+        group: group,
+        lines: b.lines,
+    }
+}
+
+// The rows that set the bench; any other leaves it.
+fn set(row: &[u8], op: u8, b: Bench) -> Bench {
+    let setup = b.setup;
+    let state = b.state;
+    let group = b.group;
+    if op == b'G' {
+        return with(b, setup, state, vectors_text::group_at(row));
+    }
+    if op == b'D' {
+        return with(b, setup_of(row, setup), state, group);
+    }
+    if op == b'S' {
+        return with(b, setup, vectors_states::state_at(row), group);
+    }
+    if op == b'F' {
+        return with(b, setup, model::fresh(), group);
+    }
+    if op == b'K' {
+        return handed(b, row);
+    }
+    if op == b'L' {
+        return with(b, levels_of(row, setup), state, group);
+    }
+    b
+}
+
+fn is_filling(op: u8) -> bool {
+    (op == b'A') | (op == b'X') | (op == b'W') | (op == b'B') | (op == b'C')
+}
+
+// The rows that fill a slice or change one byte of it.
+fn fill(row: &[u8], op: u8, setup: Setup, array: &mut [u8], wanted: &mut [u8], scratch: &mut [u8]) {
+    if op == b'A' {
+        sow_part(array, setup.array, row);
+        return;
+    }
+    if op == b'X' {
+        put_byte(array, row);
+        return;
+    }
+    if op == b'W' {
+        sow_part(wanted, setup.wanted, row);
+        return;
+    }
+    if op == b'B' {
+        put_byte(wanted, row);
+        return;
+    }
+    sow_part(scratch, setup.scratch, row)
+}
+
+// The rows that print a line.
+fn act(row: &[u8], op: u8, b: Bench, array: &mut [u8], wanted: &[u8], scratch: &mut [u8]) -> Bench {
+    if op == b'R' {
+        return run_line(b, array, wanted, scratch);
+    }
+    if op == b'Q' {
+        return start_line(b, wanted, scratch);
+    }
+    if op == b'N' {
+        return step_line(b, row, wanted, scratch);
+    }
+    b
+}
+
+// One row. A row that sets the bench prints nothing, and one that prints sets nothing.
+fn turn(row: &[u8], b: Bench, array: &mut [u8], wanted: &mut [u8], scratch: &mut [u8]) -> Bench {
+    let op = common::nth(row, 0);
+    if is_filling(op) {
+        let setup = b.setup;
+        fill(row, op, setup, array, wanted, scratch);
+        return b;
+    }
+    act(row, op, set(row, op, b), array, wanted, scratch)
+}
+
+// Every row in its order.
+fn all(text: &[u8], array: &mut [u8], wanted: &mut [u8], scratch: &mut [u8]) {
+    let mut b = bare();
+    let mut at = 0;
+    while at < text.len() {
+        b = turn(&text[at..], b, array, wanted, scratch);
+        at = vectors_text::next_row(text, at);
+    }
+}
+
+fn main() {
+    let mut text = vectors_text::blank();
+    let mut array = vectors_text::blank();
+    let mut wanted = vectors_text::blank();
+    let mut scratch = vectors_text::blank();
+    let n = io::read_full(0, &mut text);
+    all(&text[..n], &mut array, &mut wanted, &mut scratch);
+}

@@ -1,0 +1,13 @@
+-- Two results that a promise allows are equal, for each public function of this crate; and a letter that is written is read back. Assumes
+-- nothing.
+use mathlib.Core.Path.{_≡_, refl}
+use Rattle.model_types.specs.declared.Mode.{Mode}
+use Rattle.model_types.specs.declared.Mode.the-variants.{Array, Status, Identifier}
+use Rattle.vectors_states.specs.Letters.{modeBy, modeLetter}
+
+-- the letter of a mode is read back as that mode
+pub mode-back : (m : Mode) → modeBy (modeLetter m) ≡ m
+unfolding modeBy
+mode-back Array = refl
+mode-back Status = refl
+mode-back Identifier = refl

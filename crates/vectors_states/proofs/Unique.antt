@@ -1,0 +1,29 @@
+-- Two results that a promise of this crate allows are equal, and so is what it leaves in each thing lent. Assumes nothing.
+use mathlib.Core.Path.{_≡_}
+use mathlib.Core.List.{List}
+use Prim.Native.Nat.{ℕ}
+use Rattle.common.specs.Choice.{Unique}
+use Rattle.common.proofs.Choice.{only}
+use Rattle.device.specs.declared.Device.{Device}
+use Rattle.model_types.specs.declared.Mode.{Mode}
+use Rattle.model_types.specs.declared.Phase.{Phase}
+use Rattle.model_types.specs.declared.State.{State}
+use Rattle.vectors_states.specs.Letters.{modeBy, phaseBy, modeLetter, phaseLetter, stateAt, deviceAt}
+
+pub mode-by-unique : (letter : ℕ) → Unique (λ (r : Mode). r ≡ modeBy letter)
+mode-by-unique letter = only (modeBy letter)
+
+pub phase-by-unique : (letter byte : ℕ) → Unique (λ (r : Phase). r ≡ phaseBy letter byte)
+phase-by-unique letter byte = only (phaseBy letter byte)
+
+pub mode-letter-unique : (m : Mode) → Unique (λ (r : ℕ). r ≡ modeLetter m)
+mode-letter-unique m = only (modeLetter m)
+
+pub phase-letter-unique : (p : Phase) → Unique (λ (r : ℕ). r ≡ phaseLetter p)
+phase-letter-unique p = only (phaseLetter p)
+
+pub state-at-unique : (row : List ℕ) → Unique (λ (r : State). r ≡ stateAt row)
+state-at-unique row = only (stateAt row)
+
+pub device-at-unique : (row : List ℕ) → Unique (λ (r : Device). r ≡ deviceAt row)
+device-at-unique row = only (deviceAt row)

@@ -1,0 +1,59 @@
+-- Modes and phases as letters, and a row's state and device. Assumes nothing.
+use Prim.Native.Nat.{ℕ, _%_}
+use mathlib.Core.List.{List}
+use lib.Dec.{eqb}
+use lib.ListN.{getD}
+use Rattle.common.specs.Choice.{if_then_else_}
+use Rattle.device.specs.declared.Device.{Device}
+use Rattle.model_types.specs.declared.Mode.{Mode}
+use Rattle.model_types.specs.declared.Mode.the-variants.{Array, Status, Identifier}
+use Rattle.model_types.specs.declared.Phase.{Phase}
+use Rattle.model_types.specs.declared.Phase.the-variants.{Free, EraseAwaited, DataAwaited, Programming, Erasing, Suspended}
+use Rattle.model_types.specs.declared.State.{State}
+use Rattle.vectors_text.specs.Text.{numberRead, fieldOf}
+
+-- the mode of a letter: A, S, and the identifier for any other
+unfoldable pub modeBy : ℕ → Mode
+modeBy x = if eqb x 65 then Array else if eqb x 83 then Status else Identifier
+
+-- the phase of a letter: F, C, D, P with its byte, E, and suspended for any other
+unfoldable pub phaseBy : ℕ → ℕ → Phase
+phaseBy x byte =
+    if eqb x 70 then Free
+    else if eqb x 67 then EraseAwaited else if eqb x 68 then DataAwaited else if eqb x 80 then Programming byte else if eqb x 69 then Erasing else Suspended
+
+-- the letter of a mode, and of a phase
+abbrev pub modeLetter : Mode → ℕ
+modeLetter Array = 65
+modeLetter Status = 83
+modeLetter Identifier = 73
+
+abbrev pub phaseLetter : Phase → ℕ
+phaseLetter Free = 70
+phaseLetter EraseAwaited = 67
+phaseLetter DataAwaited = 68
+phaseLetter (Programming byte) = 80
+phaseLetter Erasing = 69
+phaseLetter Suspended = 83
+
+-- the number of n letters from a place of a row on
+abbrev pub numberAt : List ℕ → ℕ → ℕ → ℕ → ℕ
+numberAt row base place n = numberRead base (fieldOf row place n)
+
+-- the state that a row tells
+unfoldable pub stateAt : List ℕ → State
+stateAt row = record {
+  mode = modeBy (getD row 5 0);
+  status = numberAt row 16 2 2 % 256;
+  phase = phaseBy (getD row 7 0) (numberAt row 16 8 2 % 256);
+  left = numberAt row 10 11 5 % 65536;
+  address = numberAt row 16 17 8;
+}
+
+-- the device that a row tells
+unfoldable pub deviceAt : List ℕ → Device
+deviceAt row = record {
+  part = record { number = numberAt row 10 2 3 % 256 };
+  program = numberAt row 10 6 5 % 65536;
+  erase = numberAt row 10 12 5 % 65536;
+}

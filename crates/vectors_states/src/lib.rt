@@ -1,0 +1,100 @@
+// What the vector programs share about a device: its state and its description read off a row, modes and phases as letters.
+// Each function takes any input.
+use device::Device;
+use device::Part;
+use model_types::Mode;
+use model_types::Phase;
+use model_types::State;
+ghost use mathlib.Core.Path.{_≡_};
+ghost use Rattle.vectors_states.specs.Letters.{modeBy, phaseBy, modeLetter, phaseLetter, stateAt, deviceAt};
+
+// The mode that a letter stands for; any other letter for the identifier.
+pub fn mode_by(letter: u8) -> Mode
+    ensures { λ r. ⌜ r ≡ modeBy letter ⌝ }
+{
+    if letter == b'A' {
+        return Mode::Array;
+    }
+    if letter == b'S' {
+        return Mode::Status;
+    }
+    Mode::Identifier
+}
+
+// The phase that a letter stands for, with a program's byte; any other letter for a suspended erase.
+pub fn phase_by(letter: u8, byte: u8) -> Phase
+    ensures { λ r. ⌜ r ≡ phaseBy letter byte ⌝ }
+{
+    if letter == b'F' {
+        return Phase::Free;
+    }
+    if letter == b'C' {
+        return Phase::EraseAwaited;
+    }
+    if letter == b'D' {
+        return Phase::DataAwaited;
+    }
+    if letter == b'P' {
+        return Phase::Programming(byte);
+    }
+    if letter == b'E' {
+        return Phase::Erasing;
+    }
+    Phase::Suspended
+}
+
+pub fn mode_letter(mode: Mode) -> u8
+    ensures { λ r. ⌜ r ≡ modeLetter mode ⌝ }
+{
+    match mode {
+        Mode::Array => b'A',
+        Mode::Status => b'S',
+        Mode::Identifier => b'I',
+    }
+}
+
+pub fn phase_letter(phase: Phase) -> u8
+    ensures { λ r. ⌜ r ≡ phaseLetter phase ⌝ }
+{
+    match phase {
+        Phase::Free => b'F',
+        Phase::EraseAwaited => b'C',
+        Phase::DataAwaited => b'D',
+        Phase::Programming(_) => b'P',
+        Phase::Erasing => b'E',
+        Phase::Suspended => b'S',
+    }
+}
+
+// The state of a row: status, mode, phase with its byte, cycles left, address.
+pub fn state_at(row: &[u8]) -> State
+    ensures { λ r. ⌜ r ≡ stateAt (now (row .entry)) ⌝ }
+{
+    let status = vectors_text::byte_at(row, 16, 2, 2);
+    let mode = mode_by(common::nth(row, 5));
+    let byte = vectors_text::byte_at(row, 16, 8, 2);
+    let phase = phase_by(common::nth(row, 7), byte);
+    let left = vectors_text::half_at(row, 10, 11, 5);
+    let address = vectors_text::word_at(row, 16, 17, 8);
+    State {
+        mode: mode,
+        status: status,
+        phase: phase,
+        left: left,
+        address: address,
+    }
+}
+
+// The device of a row: its number, P and E.
+pub fn device_at(row: &[u8]) -> Device
+    ensures { λ r. ⌜ r ≡ deviceAt (now (row .entry)) ⌝ }
+{
+    let number = vectors_text::byte_at(row, 10, 2, 3);
+    let program = vectors_text::half_at(row, 10, 6, 5);
+    let erase = vectors_text::half_at(row, 10, 12, 5);
+    Device {
+        part: Part { number: number },
+        program: program,
+        erase: erase,
+    }
+}

@@ -1,0 +1,26 @@
+-- `rows::letter` meets its contract. Assumes nothing.
+use borrow.Author.Needs.{needs}
+use borrow.Author.Tests.{lt-ltb, le-ltb}
+use Rattle.vectors_text.specs.Text.{digitLetter}
+use Rattle.vectors_text.proofs.letter.Statement.{statement}
+use Rattle.vectors_text.proofs.letter.Tie as tie
+
+cast-n : tie.Need-cast-n
+cast-n c = search needs
+
+add-result : tie.Need-add-result
+add-result c = search needs
+
+returns : tie.Need-returns
+unfolding digitLetter
+returns c = simp (lt-ltb _ _ (c .if1 .taken))
+
+add-result-2 : tie.Need-add-result-2
+add-result-2 c = search needs
+
+returns-2 : tie.Need-returns-2
+unfolding digitLetter
+returns-2 c = simp (le-ltb _ _ (c .if1 .left))
+
+pub letter-spec : {M : Type 1} → statement M
+letter-spec = tie.close (tie.spec cast-n add-result returns add-result-2 returns-2)

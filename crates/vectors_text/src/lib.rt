@@ -1,0 +1,198 @@
+// What the vector programs share about text and bytes: numbers read off a row, numbers written, patterns and digests. Each
+// function takes any input.
+ghost use mathlib.Core.Path.{_≡_};
+ghost use mathlib.Core.List.{List, []};
+ghost use Prim.Native.Nat.{ℕ, _+_, _<_, _≤_, _%_, min, max};
+ghost use lib.ListN.{length, set, replicate};
+ghost use Rattle.vectors_text.specs.Text.{digitRead, numberRead, fieldOf, digitLetter, spelled, nextRow, groupAt};
+ghost use Rattle.vectors_text.specs.Patterns.{digestOf, sown};
+
+// The four letters of a group of rows.
+pub struct Group {
+    pub a: u8,
+    pub b: u8,
+    pub c: u8,
+    pub d: u8,
+}
+
+// The group that a row names.
+pub fn group_at(row: &[u8]) -> Group
+    ensures { λ r. ⌜ r ≡ groupAt (now (row .entry)) ⌝ }
+{
+    let a = common::nth(row, 2);
+    let b = common::nth(row, 3);
+    let c = common::nth(row, 4);
+    let d = common::nth(row, 5);
+    Group {
+        a: a,
+        b: b,
+        c: c,
+        d: d,
+    }
+}
+
+// Past the last digit and the last letter, and what a letter counts from.
+const PAST_9: u8 = b'9' + 1;
+
+const PAST_F: u8 = b'F' + 1;
+
+const TEN: u8 = b'A' - 10;
+
+// What a digit is worth, 0 for any other letter.
+fn digit(x: u8) -> usize
+    ensures { λ r. ⌜ (r ≡ digitRead x) × (r < 16) ⌝ }
+{
+    if x < b'0' {
+        return 0;
+    }
+    if x < PAST_9 {
+        return common::wide(x - b'0');
+    }
+    if x < b'A' {
+        return 0;
+    }
+    if x < PAST_F {
+        return common::wide(x - TEN);
+    }
+    0
+}
+
+// The number that a whole slice spells.
+fn number(s: &[u8], base: u8) -> u32
+    ensures { λ r. ⌜ r ≡ numberRead base (now (s .entry)) ⌝ }
+{
+    let b = common::wide(base);
+    let mut v = 0;
+    let mut i = 0;
+    while i < s.len() {
+        v = (b * v + digit(s[i])) % 4294967296;
+        i += 1;
+    }
+    v as u32
+}
+
+// The number that so many letters from a place on spell, modulo 2 to the 32.
+pub fn word_at(s: &[u8], base: u8, at: usize, n: usize) -> u32
+    ensures { λ r. ⌜ r ≡ numberRead base (fieldOf (now (s .entry)) at n) ⌝ }
+{
+    let from = common::least(at, s.len());
+    let count = common::least(n, s.len() - from);
+    let to = from + count;
+    number(&s[from..to], base)
+}
+
+// The same as a byte, as 16 bits, as a length.
+pub fn byte_at(s: &[u8], base: u8, at: usize, n: usize) -> u8
+    ensures { λ r. ⌜ r ≡ numberRead base (fieldOf (now (s .entry)) at n) % 256 ⌝ }
+{
+    (word_at(s, base, at, n) % 256) as u8
+}
+
+pub fn half_at(s: &[u8], base: u8, at: usize, n: usize) -> u16
+    ensures { λ r. ⌜ r ≡ numberRead base (fieldOf (now (s .entry)) at n) % 65536 ⌝ }
+{
+    (word_at(s, base, at, n) % 65536) as u16
+}
+
+pub fn size_at(s: &[u8], base: u8, at: usize, n: usize) -> usize
+    ensures { λ r. ⌜ r ≡ numberRead base (fieldOf (now (s .entry)) at n) ⌝ }
+{
+    word_at(s, base, at, n) as usize
+}
+
+// The letter of a digit below 16.
+fn letter(d: u64) -> u8
+    requires { ⌜ d < 16 ⌝ }
+    ensures { λ r. ⌜ r ≡ digitLetter d ⌝ }
+{
+    let n = d as u8;
+    if n < 10 {
+        return b'0' + n;
+    }
+    TEN + n
+}
+
+// A whole slice gets the last digits of x.
+fn spell(out: &mut [u8], base: u64, x: u64)
+    requires { ⌜ (0 < base) × (base ≤ 16) ⌝ }
+    ensures { λ _. ⌜ now (out .exit) ≡ spelled base (length (now (out .entry))) x [] ⌝ }
+{
+    let mut rest = x;
+    let mut i = out.len();
+    while 0 < i {
+        i -= 1;
+        out[i] = letter(rest % base);
+        rest = rest / base;
+    }
+}
+
+// A slice gets the last digits of x, in decimal and in hex.
+pub fn decimal(out: &mut [u8], x: u64)
+    ensures { λ _. ⌜ now (out .exit) ≡ spelled 10 (length (now (out .entry))) x [] ⌝ }
+{
+    spell(out, 10, x)
+}
+
+pub fn hex(out: &mut [u8], x: u64)
+    ensures { λ _. ⌜ now (out .exit) ≡ spelled 16 (length (now (out .entry))) x [] ⌝ }
+{
+    spell(out, 16, x)
+}
+
+// Where the next row begins: behind the newline, or at the end of the text.
+pub fn next_row(text: &[u8], at: usize) -> usize
+    ensures { λ r. ⌜ (r ≡ nextRow (now (text .entry)) at) × (min (at + 1) (length (now (text .entry))) ≤ r) × (r ≤ max at (length (now (text .entry)))) ⌝ }
+{
+    let mut i = at;
+    while i < text.len() {
+        if text[i] == b'\n' {
+            return i + 1;
+        }
+        i += 1;
+    }
+    i
+}
+
+// A number that any one changed byte changes.
+pub fn digest(s: &[u8]) -> u64
+    ensures { λ r. ⌜ r ≡ digestOf (now (s .entry)) ⌝ }
+{
+    let mut h = 0;
+    let mut i = 0;
+    while i < s.len() {
+        h = (31 * h + common::wide(s[i])) % 65521;
+        i += 1;
+    }
+    h as u64
+}
+
+// Fills with a pattern: numbers from 0 to top, each a step from the one before; a step of 0 makes all bytes alike.
+pub fn sow(s: &mut [u8], top: u16, first: usize, step: usize)
+    ensures { λ _. ⌜ now (s .exit) ≡ sown top first step (length (now (s .entry))) ⌝ }
+{
+    let m = top as usize + 1;
+    let d = step % m;
+    let mut v = first % m;
+    let mut i = 0;
+    while i < s.len() {
+        s[i] = (v % 256) as u8;
+        v = (v + d) % m;
+        i += 1;
+    }
+}
+
+// The byte at a place becomes b; nothing past the end.
+pub fn put(s: &mut [u8], at: usize, b: u8)
+    ensures { λ _. ⌜ now (s .exit) ≡ set (now (s .entry)) at b ⌝ }
+{
+    if at < s.len() {
+        s[at] = b;
+    }
+}
+
+// As many zeros as the largest array has bytes, and one more.
+pub fn blank() -> [u8; 131073]
+    ensures { λ r. ⌜ (r ≡ replicate {A = ℕ} 131073 0) × (131073 ≡ length r) ⌝ }
+{
+    [0; 131073]
+}

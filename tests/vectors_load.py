@@ -1,0 +1,266 @@
+#!/usr/bin/env python3
+"""The cases of the program `vectors_load`, a load from a file, and the lines that it must print.
+
+    python3 tests/vectors_load.py table        the cases, as in crates/vectors_load/stdin
+    python3 tests/vectors_load.py expected     the lines, as in crates/vectors_load/stdout
+    python3 tests/vectors_load.py check        whether both files are what the script prints
+
+The load here is written from document 01. It stands on the scripts' own loader and device (vectors_run.py, vectors_model.py) and
+on their own writer and reader of a load file (vectors_file.py), and shares nothing with the crates. Every case says beforehand
+how it must end and how many cycles it makes, and the load is held to that.
+
+A case is a name of 24 bytes and 41 numbers of six digits:
+    0, 1       the file's letter and its payload bytes
+    2 to 13    six changes of the file as it was written, place and byte (999999 for none)
+    14, 15     how much of it is used, and the letter asked
+    16 to 21   device, P, E, RP#, VPP, block
+    22 to 26   the state: mode (as a letter), status, phase (as a letter), cycles to go, address
+    27 to 29   how much is lent of array, wanted and scratch
+    30 to 35   what they hold: first byte and step of a pattern, for each
+    36         where the file lies in the array before the load; 999999 for nowhere
+    37 to 40   two bytes of the array, address and byte
+
+A line shows: the name; the end E, its address A and the count N; status, mode and phase S; then for array a, wanted w and scratch s
+a digest, the first byte and the last.
+"""
+import functools
+
+from vectors_file import judge, row_of, spoiled
+from vectors_model import BLOCKS, FRESH, SIZE, Device, State, called, digest, pattern
+from vectors_run import block_length, run, run_number
+
+NOWHERE = 999999
+NAME = 23
+
+
+# ---------------------------------------------------------------- the load
+
+
+def file_number(data, asked, n):
+    """The reader's 30 to 35; 30 also for a file longer than a flash block of n bytes."""
+    if len(data) > n:
+        return 30
+    return judge(data, asked)[0]
+
+
+def load(device, state, rp, vpp, block, array, wanted, scratch, data, asked):
+    """A run's tests, then the file's; only then wanted is filled, with the file and FFH, and the run made."""
+    number = run_number(device, state, rp, vpp, block, array, wanted, scratch)
+    if number == 0:
+        number = file_number(data, asked, len(wanted))
+    if number:
+        return number, 0, 0, state
+    wanted[:] = data + b"\xff" * (len(wanted) - len(data))
+    return run(device, state, rp, vpp, block, array, wanted, scratch)
+
+
+def formula(device, held, wanted):
+    """The count of a good run: 2n + 3 + e(2 + E) + p(2 + P)."""
+    rises = any(w & ~h & 0xFF for w, h in zip(wanted, held))
+    before = b"\xff" * len(wanted) if rises else held
+    programs = sum(w != h for w, h in zip(wanted, before))
+    return 2 * len(wanted) + 3 + rises * (2 + device.erase) + programs * (2 + device.program)
+
+
+# ---------------------------------------------------------------- the cases
+
+
+kept = functools.cache(pattern)
+
+
+def sown(first, step, n):
+    return kept(first, step)[:n]
+
+
+def file_of(row):
+    """The changes that a case makes in the file as it was written, and the file."""
+    payload = bytes(sown(3, 7, row[1]))
+    written = spoiled(row_of(letter=row[0], size=row[1]), payload)[2]
+    file = spoiled(row, payload)[2]
+    return [(i, b) for i, b in enumerate(file) if b != written[i]], bytes(file[: row[13]])
+
+
+def pairs(given, count):
+    """So many pairs of numbers."""
+    assert len(given) <= count
+    return [x for pair in list(given) + [(NOWHERE, 0)] * (count - len(given)) for x in pair]
+
+
+def ends(part):
+    """A digest, the first byte and the last."""
+    return f"{digest(part)} {part[0] if part else 0:02X} {part[-1] if part else 0:02X}"
+
+
+class Table:
+    def __init__(self):
+        self.rows, self.lines = [], []
+
+    def case(self, name, end, count=None, about=(), number=3, block=1, times=(2, 3), rp=None, vpp=12000, state=FRESH, lent=(None, None, None),
+             held=(255, 0), laid=False, spots=()):
+        """One load. `about` is the file; `count` is told by the case where the end is not 0, and by the formula where it is."""
+        assert len(name) <= NAME, name
+        row = row_of(**dict(about))
+        changes, data = file_of(row)
+        first, n = (BLOCKS[number][block][0], block_length(number, block)) if number in BLOCKS and block < 4 else (0, 512)
+        rp = (2 if block == 0 else 1) if rp is None else rp
+        given = [want if want is not None else fit for want, fit in zip(lent, (SIZE.get(number, 16384), n, n))]
+        marks = [held, (91, 5), (17, 2)]
+        numbers = row[:2] + pairs(changes, 6) + row[13:15] + [number, *times, rp, vpp, block]
+        numbers += [ord(state.mode), state.status, ord(state.phase), state.left, state.address]
+        numbers += given + [x for pair in marks for x in pair] + [first if laid else NOWHERE] + pairs(spots, 2)
+        assert len(numbers) == 41 and all(0 <= x <= 999999 for x in numbers)
+        self.rows.append(f"{name:{NAME + 1}}" + " ".join(f"{x:06d}" for x in numbers))
+        array, wanted, scratch = (sown(*mark, k) for mark, k in zip(marks, given))
+        if laid:
+            array[first : first + len(data)] = data
+        for at, byte in spots:
+            array[at] = byte
+        self.lines.append(self.line(name, end, count, Device(number, *times), state, rp, vpp, block, first, array, wanted, scratch, data, row[14]))
+
+    def line(self, name, end, count, device, state, rp, vpp, block, first, array, wanted, scratch, data, asked):
+        """The load, held to what the case says, and its line."""
+        before = bytes(array), bytes(wanted), bytes(scratch)
+        if end == 0:
+            count = formula(device, array[first : first + len(wanted)], data + b"\xff" * (len(wanted) - len(data)))
+        got, cycles, address, after = load(device, state, rp, vpp, block, array, wanted, scratch, data, asked)
+        assert (got, cycles) == (end, 0 if count is None else count), (name, got, cycles, count)
+        if cycles == 0:
+            assert before == (array, wanted, scratch) and after == state, name
+        else:
+            assert wanted[: len(data)] == data and set(wanted[len(data) :]) <= {255}, name
+        told = f"E {got} A {address} N {cycles} S {after.status:02X} {after.mode} {after.phase}"
+        return f"{name:{NAME + 1}}{told} a {ends(array)} w {ends(wanted)} s {ends(scratch)}"
+
+
+def file_refused(t):
+    """The file is refused before wanted is filled: array, wanted and scratch stay, no cycle counts."""
+    two = {"number": 3, "block": 0, "held": (40, 3)}
+    wide = {"number": 4, "block": 3, "held": (9, 11)}
+    for length in (0, 1, 511, 513, 1023):
+        t.case(f"30 of {length} bytes", 30, about={"size": 900, "length": length}, **two)
+    for length in (4095, 4097, 4608):
+        t.case(f"30 of {length} bytes", 30, about={"size": 4040, "length": length}, **wide)
+    t.case("30 two into 512", 30, about={"size": 506}, number=3, block=1, held=(1, 1))
+    t.case("30 two into 512 B", 30, about={"size": 506}, number=4, block=2, held=(1, 1))
+    t.case("30 three into 1024", 30, about={"size": 1011}, number=4, block=0, held=(1, 1))
+    t.case("30 too long before 31", 30, about={"size": 506, "before": [(9, 0)]}, number=3, block=2, held=(1, 1))
+    t.case("30 too long before 35", 30, about={"size": 506, "asked": "T"}, number=3, block=2, held=(1, 1))
+    for at in (0, 5, 509, 510, 511):
+        t.case(f"31 byte {at}", 31, about={"size": 505, "before": [(at, 18)]}, number=3, block=1, held=(7, 7))
+    t.case("31 in the second", 31, about={"size": 900, "before": [(700, 0)]}, **two)
+    t.case("31 in the eighth", 31, about={"size": 4040, "before": [(4095, 0), (4094, 0)]}, **wide)
+    t.case("31 before 35", 31, about={"size": 900, "before": [(1000, 0)], "asked": "T"}, **two)
+    t.case("32 no letter", 32, about={"size": 20, "before": [(0, 65)], "seal": [0], "asked": "A"}, **two)
+    t.case("32 not the first's", 32, about={"size": 900, "before": [(512, 84)], "seal": [1]}, **two)
+    t.case("32 first, then 31", 32, about={"size": 900, "before": [(0, 65), (600, 0)], "seal": [0]}, **two)
+    t.case("33 number", 33, about={"size": 900, "before": [(513, 0)], "seal": [1]}, **two)
+    t.case("33 count", 33, about={"size": 20, "before": [(2, 2)], "seal": [0]}, **two)
+    t.case("33 one block of two", 33, about={"size": 900, "length": 512}, **two)
+    t.case("33 a block too many", 33, about={"size": 505, "length": 1024}, **two)
+    t.case("34 none used", 34, about={"size": 1, "before": [(4, 0)], "seal": [0]}, **two)
+    t.case("34 506 used", 34, about={"size": 505, "before": [(3, 1), (4, 250)], "seal": [0]}, **two)
+    t.case("34 first one not full", 34, about={"size": 900, "before": [(4, 248)], "seal": [0]}, **two)
+    t.case("34 padding", 34, about={"size": 900, "before": [(1021, 254)], "seal": [1]}, **two)
+    t.case("34 before 35", 34, about={"size": 900, "before": [(1021, 254)], "seal": [1], "asked": "T"}, **two)
+    for asked in (84, 98, 0, 255):
+        t.case(f"35 asked {asked}", 35, about={"size": 900, "asked": asked}, **two)
+    t.case("35 eight blocks", 35, about={"letter": "T", "size": 4040, "asked": "S"}, **wide)
+
+
+def run_refused(t):
+    """A run's refusals come before the file's."""
+    bar = functools.partial(t.case, held=(40, 3))
+    bad = {"size": 900, "before": [(9, 0)], "asked": "T"}
+    none = {"length": 0}
+    good = {"size": 505}
+    for number in (0, 5, 255):
+        bar(f"1 device {number}", 1, about=bad, number=number)
+    bar("1 P 0", 1, about=none, times=(0, 3))
+    bar("1 E 0", 1, about=good, times=(2, 0))
+    for length, about in ((16383, bad), (16385, none), (0, good)):
+        bar(f"2 array of {length}", 2, about=about, lent=(length, None, None))
+    bar("2 another's array", 2, about=bad, number=1, block=0, lent=(16384, None, None))
+    bar("3 status 81", 3, about=bad, state=State("A", 0x81, "F", 0, 0, 0))
+    bar("3 busy and ready", 3, about=none, state=State("S", 0x80, "E", 0, 2, 0x3A00))
+    bar("3 cycles over P", 3, about=good, state=State("S", 0x00, "P", 0, 3, 16))
+    for rp, vpp, about in ((0, 12000, bad), (3, 12000, none), (1, 6501, bad), (1, 11399, good), (1, 12601, none)):
+        bar(f"4 RP {rp} VPP {vpp}", 4, about=about, rp=rp, vpp=vpp)
+    for block, about in ((4, bad), (255, none)):
+        bar(f"10 block {block}", 10, about=about, block=block)
+    for wanted, scratch, about in ((511, 512, bad), (513, 512, none), (512, 511, bad), (512, 0, good), (0, 512, none), (1024, 1024, {"size": 900})):
+        bar(f"11 lent {wanted} {scratch}", 11, about=about, lent=(None, wanted, scratch))
+    bar("12 confirm awaited", 12, about=bad, state=State("S", 0x80, "C", 0, 0, 0))
+    bar("12 data awaited", 12, about=none, state=State("S", 0xB8, "D", 0, 0, 0))
+    bar("12 programming", 12, about=good, state=State("S", 0x00, "P", 0, 2, 16))
+    bar("12 erasing", 12, about=bad, state=State("S", 0x00, "E", 0, 3, 0x3A00))
+    bar("12 suspended", 12, about=none, state=State("A", 0xC0, "S", 0, 1, 0))
+    bar("4 before 10, 11, 12, 31", 4, about=bad, rp=0, block=9, lent=(None, 1, 2), state=State("S", 0x80, "C", 0, 0, 0))
+    bar("10 before 11, 12, 30", 10, about=none, block=9, lent=(None, 1, 2), state=State("S", 0x80, "C", 0, 0, 0))
+    bar("11 before 12, 30", 11, about=none, lent=(None, 1, 2), state=State("S", 0x80, "C", 0, 0, 0))
+    bar("1 before all", 1, about=bad, number=9, times=(0, 0), rp=7, vpp=7000, block=9, lent=(1, 2, 3), state=State("I", 0x07, "S", 0, 9, 9))
+
+
+def loaded(t):
+    """Loads that end well; each count is that of the formula."""
+    for letter in "BEJKNRST":
+        t.case(f"well letter {letter}", 0, about={"letter": letter, "size": 40}, number=3, block=1)
+    t.case("well block filled", 0, about={"size": 505}, number=3, block=1, held=(5, 9))
+    t.case("well part of a block", 0, about={"size": 100}, number=3, block=0, held=(5, 9))
+    t.case("well two of two", 0, about={"size": 1010}, number=4, block=0, held=(5, 9))
+    t.case("well erased before", 0, about={"size": 300}, number=4, block=1)
+    t.case("well all zero before", 0, about={"size": 300}, number=4, block=2, held=(0, 0))
+    t.case("well eight, main", 0, about={"size": 4040}, number=3, block=3, held=(5, 9))
+    t.case("well eight, main B", 0, about={"letter": "K", "size": 3536}, number=4, block=3, held=(0, 0), times=(1, 7))
+    t.case("well eight, 8 KB boot", 0, about={"size": 4040}, number=1, block=0, held=(5, 9))
+    t.case("well eight, 8 KB boot B", 0, about={"letter": "R", "size": 4040}, number=2, block=0)
+    t.case("well eight fill 4 KB", 0, about={"letter": "N", "size": 4040}, number=2, block=1, held=(0, 0), times=(1, 1))
+    t.case("well eight, long main", 0, about={"letter": "E", "size": 4040}, number=2, block=3, held=(5, 9), times=(1, 9))
+    t.case("well one, long main", 0, about={"letter": "J", "size": 1}, number=1, block=3)
+    for number, block, size in ((3, 1, 505), (3, 0, 100), (4, 3, 4040), (1, 2, 4040)):
+        t.case(f"held already, {number} {block}", 0, about={"size": size}, number=number, block=block, laid=True)
+    first = BLOCKS[3][0][0]
+    half = {"about": {"size": 100}, "number": 3, "block": 0, "laid": True}
+    t.case("falls: first byte", 0, spots=[(first, 0xFF)], **half)
+    t.case("falls: last of the file", 0, spots=[(first + 511, 0xFF), (first + 510, 0xFF)], **half)
+    t.case("falls: a count byte", 0, spots=[(first + 4, 0xFF)], **half)
+    t.case("rises: first byte", 0, spots=[(first, 0x00)], **half)
+    t.case("rises: padding", 0, spots=[(first + 509, 0xFE)], **half)
+    t.case("rises: past the file", 0, spots=[(first + 512, 0x7F)], **half)
+    t.case("rises: last of block", 0, spots=[(first + 1023, 0x00), (first, 0xFF)], **half)
+    t.case("neighbour differs only", 0, spots=[(first - 1, 0x00)], **half)
+    t.case("other idle start", 0, about={"size": 60}, state=State("I", 0xB8, "F", 0, 0, 0), held=(5, 9))
+    t.case("SR.3 at the start", 0, about={"size": 60}, state=State("S", 0x88, "F", 0, 0, 0))
+    t.case("VPP 11400", 0, about={"size": 60}, vpp=11400, held=(5, 9))
+    t.case("VPP 12600", 0, about={"size": 60}, vpp=12600, held=(5, 9))
+    t.case("RP V_HH, no boot", 0, about={"size": 60}, rp=2)
+    t.case("P 65535", 0, about={"size": 100}, number=3, block=0, laid=True, times=(65535, 1), spots=[(first + 5, 0xFF)])
+    t.case("E 65535", 0, about={"size": 1}, times=(1, 65535), held=(0, 0))
+    t.case("P and E 1", 0, about={"size": 505}, times=(1, 1), held=(0, 0))
+
+
+def ended(t):
+    """Wanted is filled, and the run ends otherwise: 50H, FFH, n reads, two writes and a poll."""
+    file = {"about": {"size": 100}}
+    for vpp in (0, 6500):
+        t.case(f"21 program, VPP {vpp}", 21, 512 + 5, vpp=vpp, **file)
+    t.case("21 erase", 21, 512 + 5, vpp=5000, held=(0, 0), **file)
+    t.case("VPP low, nothing to do", 0, vpp=5000, laid=True, **file)
+    t.case("23 locked", 23, 1024 + 5, block=0, rp=1, held=(0, 0), **file)
+    t.case("23 locked B", 23, 8192 + 5, number=2, block=0, rp=1, held=(0, 0), **file)
+    t.case("24 locked", 24, 1024 + 5, block=0, rp=1, **file)
+    t.case("24 locked B", 24, 1024 + 5, number=4, block=0, rp=1, **file)
+    t.case("locked, nothing to do", 0, block=0, rp=1, laid=True, **file)
+    t.case("21 locked, VPP low", 21, 1024 + 5, block=0, rp=1, vpp=6500, **file)
+    t.case("21 unlocked, VPP low", 21, 1024 + 5, block=0, rp=2, vpp=6500, held=(0, 0), **file)
+
+
+def all_cases():
+    t = Table()
+    for part in (file_refused, run_refused, loaded, ended):
+        part(t)
+    assert len({row[:NAME] for row in t.rows}) == len(t.rows)
+    return t
+
+
+if __name__ == "__main__":
+    called("vectors_load", all_cases, __doc__)
