@@ -106,7 +106,7 @@ same("refusals, beside the tables of specs/", refusals, sorted(given))
 
 # parts: size and blocks, from the description of each
 parts = {}
-for number, boot, parameter, main, top in re.findall(r"(?:eqb \(p \.number\) (\d+) then|else) fourOf (\d+) (\d+) (\d+) (true|false)", text("device/specs/Parts.antt")):
+for number, boot, parameter, main, top in re.findall(r"(?:eqb \(p \.number\) (\d+) then|else) four\w+ (\d+) (\d+) (\d+) (true|false)", text("device/specs/Parts.antt")):
     number = int(number) if number else len(parts) + 1
     lengths = [int(boot), int(parameter), int(parameter), int(main)]
     at, spans = 0, []

@@ -14,7 +14,7 @@ out=$(mktemp -d) || fail 4 "cannot make a temporary folder"
 trap 'rm -rf -- "$out"' EXIT
 
 archive() {
-    library host
+    library c_functions
     lib=$built
 }
 
