@@ -32,7 +32,10 @@ pinsIn rp vpp = record { rp = rp; vpp = vpp }
 
 -- modes: 0 read array, 1 read status, 2 identifier
 unfoldable pub modeIn : ℕ → Mode
-modeIn n = if eqb n 0 then Array else if eqb n 1 then Status else Identifier
+modeIn n =
+    if eqb n 0 then Array
+    else if eqb n 1 then Status
+    else Identifier
 
 abbrev pub modeOut : Mode → ℕ
 modeOut Array = 0
@@ -46,7 +49,8 @@ phaseIn n byte =
     else if eqb n 1 then EraseAwaited
     else if eqb n 2 then DataAwaited
     else if eqb n 3 then Programming byte
-    else if eqb n 4 then Erasing else Suspended
+    else if eqb n 4 then Erasing
+    else Suspended
 
 abbrev pub phaseOut : Phase → ℕ
 phaseOut Free = 0
@@ -88,7 +92,10 @@ stateOut s =
 
 -- kinds of cycle: 0 read, 1 write, 2 idle
 unfoldable pub kindIn : ℕ → Kind
-kindIn n = if eqb n 0 then Read else if eqb n 1 then Write else Idle
+kindIn n =
+    if eqb n 0 then Read
+    else if eqb n 1 then Write
+    else Idle
 
 abbrev pub kindOut : Kind → ℕ
 kindOut Read = 0

@@ -36,7 +36,8 @@ stageIn n end =
     else if eqb n 7 then ProgramSending
     else if eqb n 8 then ProgramWaiting
     else if eqb n 9 then Closing
-    else if eqb n 10 then Verifying else Ended end
+    else if eqb n 10 then Verifying
+    else Ended end
 
 abbrev pub stageOut : Stage → ℕ
 stageOut Clearing = 0

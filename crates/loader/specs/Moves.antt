@@ -38,11 +38,19 @@ bothErrors sr = sr4 sr && sr5 sr
 
 -- a ready status of an erase: 21 with SR.3, else 22 with SR.4 and SR.5, else 23 with SR.5, else 0
 unfoldable pub eraseFault : ℕ → ℕ
-eraseFault sr = if sr3 sr then 21 else if bothErrors sr then 22 else if sr5 sr then 23 else 0
+eraseFault sr =
+    if sr3 sr then 21
+    else if bothErrors sr then 22
+    else if sr5 sr then 23
+    else 0
 
 -- a ready status of a program: the same with 24 and SR.4
 unfoldable pub programFault : ℕ → ℕ
-programFault sr = if sr3 sr then 21 else if bothErrors sr then 22 else if sr4 sr then 24 else 0
+programFault sr =
+    if sr3 sr then 21
+    else if bothErrors sr then 22
+    else if sr4 sr then 24
+    else 0
 
 -- on to the first differing byte from place i on, or to the verify
 unfoldable pub onward : Loader → ℕ → List ℕ → List ℕ → Loader

@@ -33,11 +33,18 @@ shut part p k = eqb k 0 && not (unlocked part p 0)
 
 -- the end's number: well with nothing to do; else 21 with VPP low; else 23 or 24 where the block is shut; else well
 unfoldable pub endNumber : Device → Pins → ℕ → List ℕ → List ℕ → ℕ
-endNumber d p k w ys = if asWanted w ys then 0 else if vppLow (d .part) p then 21 else if shut (d .part) p k then (if risesIn w ys then 23 else 24) else 0
+endNumber d p k w ys =
+    if asWanted w ys then 0
+    else if vppLow (d .part) p then 21
+    else if shut (d .part) p k then (if risesIn w ys then 23 else 24)
+    else 0
 
 -- the status that the first operation leaves which cannot start: SR.7 with SR.5 or SR.4, and SR.3 where VPP is low
 unfoldable pub faultStatus : Device → Pins → List ℕ → List ℕ → ℕ
-faultStatus d p w ys = if vppLow (d .part) p then (if risesIn w ys then 0xA8 else 0x98) else if risesIn w ys then 0xA0 else 0x90
+faultStatus d p w ys =
+    if vppLow (d .part) p then (if risesIn w ys then 0xA8 else 0x98)
+    else if risesIn w ys then 0xA0
+    else 0x90
 
 -- the two writes of an operation that does not start, and one poll
 abbrev pub eraseTried : Pins → ℕ → List Cycle

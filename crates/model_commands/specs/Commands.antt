@@ -29,7 +29,8 @@ firstWrite b =
     else if eqb b 0x70 then ToStatus
     else if eqb b 0x50 then Clear
     else if eqb b 0x20 then AwaitErase
-    else if eqb b 0x40 then AwaitData else Refuse
+    else if eqb b 0x40 then AwaitData
+    else Refuse
 
 -- after 20H
 unfoldable pub afterErase : ℕ → Action
@@ -41,7 +42,11 @@ whileErasing b = if eqb b 0xB0 then Suspend else Ignore
 
 -- while suspended
 unfoldable pub whileSuspended : ℕ → Action
-whileSuspended b = if eqb b 0xFF then ToArray else if eqb b 0x70 then ToStatus else if eqb b 0xD0 then Resume else Ignore
+whileSuspended b =
+    if eqb b 0xFF then ToArray
+    else if eqb b 0x70 then ToStatus
+    else if eqb b 0xD0 then Resume
+    else Ignore
 
 -- the command rules: after 40H every byte is data, and a busy program ignores every write
 abbrev pub actionOf : Part → Phase → ℕ → Action

@@ -100,7 +100,10 @@ programAt x (CutErase j) = 0
 
 abbrev pub programIn : ℕ → ℕ → Effect → ℕ
 programIn a n Nothing = 0
-programIn a n (Program at b) = if ltb at a then 0 else if ltb at (a + n) then 1 else 0
+programIn a n (Program at b) =
+    if ltb at a then 0
+    else if ltb at (a + n) then 1
+    else 0
 programIn a n (Erase j) = 0
 programIn a n (CutProgram at b) = 0
 programIn a n (CutErase j) = 0

@@ -42,7 +42,10 @@ mostLeft d Suspended = d .erase
 
 -- mode status while awaiting or busy; array or status while suspended
 abbrev pub properMode : Phase → Mode → Bool
-properMode ph m = if isAwaited ph || isBusy ph then isStatus m else if isSuspended ph then isArray m || isStatus m else true
+properMode ph m =
+    if isAwaited ph || isBusy ph then isStatus m
+    else if isSuspended ph then isArray m || isStatus m
+    else true
 
 -- SR.7, the top bit, is clear exactly when busy
 abbrev pub properReady : Phase → ℕ → Bool

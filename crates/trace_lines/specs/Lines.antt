@@ -69,7 +69,10 @@ isLine xs = fits lineForm xs
 
 -- the kind that a letter names
 unfoldable pub kindOf : ℕ → Kind
-kindOf b = if eqb b 82 then Read else if eqb b 87 then Write else Idle
+kindOf b =
+    if eqb b 82 then Read
+    else if eqb b 87 then Write
+    else Idle
 
 -- what a decimal digit counts
 abbrev pub digitOf : ℕ → ℕ

@@ -14,13 +14,20 @@ use Rattle.vectors_text.specs.Text.{numberRead, fieldOf}
 
 -- the mode of a letter: A, S, and the identifier for any other
 unfoldable pub modeBy : ℕ → Mode
-modeBy x = if eqb x 65 then Array else if eqb x 83 then Status else Identifier
+modeBy x =
+    if eqb x 65 then Array
+    else if eqb x 83 then Status
+    else Identifier
 
 -- the phase of a letter: F, C, D, P with its byte, E, and suspended for any other
 unfoldable pub phaseBy : ℕ → ℕ → Phase
 phaseBy x byte =
     if eqb x 70 then Free
-    else if eqb x 67 then EraseAwaited else if eqb x 68 then DataAwaited else if eqb x 80 then Programming byte else if eqb x 69 then Erasing else Suspended
+    else if eqb x 67 then EraseAwaited
+    else if eqb x 68 then DataAwaited
+    else if eqb x 80 then Programming byte
+    else if eqb x 69 then Erasing
+    else Suspended
 
 -- the letter of a mode, and of a phase
 abbrev pub modeLetter : Mode → ℕ

@@ -13,7 +13,12 @@ walk f v (x ∷ xs) = walk f (f v x) xs
 
 -- what a digit is worth, 0 for any other letter
 unfoldable pub digitRead : ℕ → ℕ
-digitRead x = if ltb x 48 then 0 else if ltb x 58 then x - 48 else if ltb x 65 then 0 else if ltb x 71 then x - 55 else 0
+digitRead x =
+    if ltb x 48 then 0
+    else if ltb x 58 then x - 48
+    else if ltb x 65 then 0
+    else if ltb x 71 then x - 55
+    else 0
 
 -- one digit more of a number in a base, modulo 2 to the 32
 abbrev pub digitMore : ℕ → ℕ → ℕ → ℕ
