@@ -86,7 +86,7 @@ pub cycle-back : (c : Cycle) → cycleIn (cycleOut c) ≡ c
 cycle-back c =
     let k = kind-back (c .kind) in
     let oe = oe-back (c .kind) (c .oe) in
-    λ i. record { kind = k i; pins = c .pins; oe = oe i; address = c .address; byte = c .byte }
+    λ i. record { kind = k i; pins = c .pins; oe = oe i; address = c .address; «data» = c .data }
 
 -- in and out again, for numbers in their range
 mode-number : (n : ℕ) → n ≤ 2 → modeOut (modeIn n) ≡ n

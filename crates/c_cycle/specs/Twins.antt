@@ -109,8 +109,8 @@ oeIn kind oe = if ltb 2 kind then 2 else oe
 -- numbers as a cycle
 abbrev pub cycleIn : BusNumbers → Cycle
 cycleIn n =
-    record { kind = kindIn (n .kind); pins = pinsIn (n .rp) (n .vpp); oe = oeIn (n .kind) (n .oe); address = n .address; byte = n .byte }
+    record { kind = kindIn (n .kind); pins = pinsIn (n .rp) (n .vpp); oe = oeIn (n .kind) (n .oe); address = n .address; «data» = n .byte }
 
 abbrev pub cycleOut : Cycle → BusNumbers
 cycleOut c =
-    record { kind = kindOut (c .kind); rp = c .pins .rp; oe = c .oe; byte = c .byte; vpp = c .pins .vpp; address = c .address }
+    record { kind = kindOut (c .kind); rp = c .pins .rp; oe = c .oe; byte = c .data; vpp = c .pins .vpp; address = c .address }

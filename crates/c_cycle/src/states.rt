@@ -227,7 +227,7 @@ pub fn cycle_in(n: BusNumbers) -> Cycle
         pins: pins_in(n.rp, n.vpp),
         oe: oe_in(n.kind, n.oe),
         address: n.address,
-        byte: n.byte,
+        data: n.byte,
     }
 }
 
@@ -239,7 +239,7 @@ pub fn cycle_out(c: Cycle) -> BusNumbers
         kind: kind_out(kind),
         rp: c.pins.rp,
         oe: c.oe,
-        byte: c.byte,
+        byte: c.data,
         vpp: c.pins.vpp,
         address: c.address,
     }

@@ -29,6 +29,7 @@ use Rattle.model.proofs.Keeping.{st}
 use Rattle.model_history.specs.History.{Bus, World, stepped, worldAfter}
 use Rattle.loader_run_claims.proofs.Answers.{Up, Ready, asks-program, sends, waits, ends}
 use Rattle.cards.specs.Table.{normal, write, read, fresh, seenOn, seenIn, cycles2, Card2}
+use Rattle.loader_run_claims.specs.Made.{busCycle as cyc}
 
 supplied : (d : Device) → (badPins (d .part) normal ≡ false) × (vppLow (d .part) normal ≡ false)
 unfolding vppLow vppHigh badPins

@@ -39,10 +39,10 @@ normal = pinsAt 1 12000
 
 -- a write and a status or array read, OE# normal, with the residue that is lent
 abbrev pub write : Pins → ℕ → ℕ → Bus
-write p a b = record { cycle = record { kind = Write; pins = p; oe = 0; address = a; byte = b }; residue = [] }
+write p a b = record { cycle = record { kind = Write; pins = p; oe = 0; address = a; «data» = b }; residue = [] }
 
 abbrev pub read : Pins → ℕ → Bus
-read p a = record { cycle = record { kind = Read; pins = p; oe = 0; address = a; byte = 0 }; residue = [] }
+read p a = record { cycle = record { kind = Read; pins = p; oe = 0; address = a; «data» = 0 }; residue = [] }
 
 abbrev pub lent : List ℕ → Bus → Bus
 lent rs b = record { cycle = b .cycle; residue = rs }

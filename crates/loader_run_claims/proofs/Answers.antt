@@ -34,6 +34,7 @@ use Rattle.model_rules.proofs.Facts.{Proper}
 use Rattle.model.proofs.Keeping.{st, rest-proper}
 use Rattle.model.proofs.Status.{fits}
 use Rattle.loader_run.proofs.Judging.{unasked, unasked-high, judged}
+use Rattle.loader_run_claims.specs.Made.{busCycle as cyc}
 
 -- a device that is known, and levels that a load may have
 pub record Up (d : Device) (p : Pins) : Type 0 where

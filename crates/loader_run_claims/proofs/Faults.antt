@@ -36,7 +36,7 @@ use Rattle.loader_steps.specs.Stores.{storeOf, erasedWell}
 use Rattle.loader_run.specs.Turns.{Config}
 use Rattle.loader.specs.Stages.{isEnded}
 use Rattle.loader_run.proofs.Turning.{conf}
-use Rattle.loader_run_claims.specs.Made.{closingOf}
+use Rattle.loader_run_claims.specs.Made.{closingOf, busCycle as cyc}
 use Rattle.loader_run_claims.specs.Ends.{asWanted, eraseTried, programTried}
 use Rattle.loader_run_claims.proofs.Answers as answers
 use Rattle.loader_run_claims.proofs.Answers.{Up, Stuck}

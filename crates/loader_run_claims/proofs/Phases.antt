@@ -52,7 +52,7 @@ use Rattle.loader_run.specs.Turns.{Config, turnOf}
 use Rattle.loader.specs.Stages.{isEnded}
 use Rattle.loader_run_claims.specs.Wear.{programsOf, differing, baseOf, operationsOf}
 use Rattle.loader_run.proofs.Turning.{conf}
-use Rattle.loader_run_claims.specs.Made.{isSmooth, readsThen, pollsThen, openingThen, eraseThen, programThen, programsThen, closingOf, programmingOf, cyclesOf}
+use Rattle.loader_run_claims.specs.Made.{isSmooth, readsThen, pollsThen, openingThen, eraseThen, programThen, programsThen, closingOf, programmingOf, cyclesOf, busCycle as cyc}
 use Rattle.loader_run_claims.proofs.Reaching.{Reach, Told, Does, does-as, arrive, prepend, turned, does}
 use Rattle.loader_run_claims.proofs.Layers.{put-over, over-over, laid-length, laid-here, laid-agree}
 use Rattle.loader_run_claims.proofs.Answers as answers

@@ -50,7 +50,7 @@ smoothLoad d s p k xs w sc = smoothIn (bound (length w)) d w (beginning d s p k 
 
 -- a cycle of a load, OE# normal
 abbrev pub busCycle : Pins → Kind → ℕ → ℕ → Cycle
-busCycle p kind address byte = record { kind = kind; pins = p; oe = 0; address = address; byte = byte }
+busCycle p kind address byte = record { kind = kind; pins = p; oe = 0; address = address; «data» = byte }
 
 -- the reads of n bytes from place i on of a block that starts at a, then cs
 abbrev pub readsThen : Pins → ℕ → ℕ → ℕ → List Cycle → List Cycle

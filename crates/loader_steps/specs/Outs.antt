@@ -26,7 +26,7 @@ hereOf l = if ltb (l .place) reach then firstAddress l + l .place else firstAddr
 
 -- a cycle at an address with the record's levels, OE# normal
 abbrev pub cycleAt : Loader → Kind → ℕ → ℕ → Cycle
-cycleAt l kind address byte = record { kind = kind; pins = l .pins; oe = 0; address = address; byte = byte }
+cycleAt l kind address byte = record { kind = kind; pins = l .pins; oe = 0; address = address; «data» = byte }
 
 -- the cycle that is out: commands and an erase's polls at the block's first address, all about one byte at that byte
 abbrev pub cycleAtStage : Stage → ℕ → ℕ → Loader → List ℕ → Cycle

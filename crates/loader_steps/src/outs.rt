@@ -34,7 +34,7 @@ fn cycle_at(l: Loader, kind: Kind, address: u32, byte: u8) -> Cycle
         pins: pins,
         oe: 0,
         address: address,
-        byte: byte,
+        data: byte,
     }
 }
 

@@ -129,9 +129,9 @@ act-proper d c zp ze h s m x EraseAwaited l a p =
     (λ e. rest-proper d (st s m x EraseAwaited l a) m (bitOr x 0x30) (kept (λ y. bitOr y 0x30) 2 2 (omega arith) sr.wrong-second x f))
 act-proper d c zp ze h s m x DataAwaited l a p =
     let f : fits 2 x ≡ true = status-fits DataAwaited x (p .status) in
-    started-proper d c (st s m x DataAwaited l a) (Programming (c .byte)) (d .program) 0x10 (kept (λ y. bitOr (bitOr y 0x08) 0x10) 2 2 (omega arith) sr.low-program x f)
+    started-proper d c (st s m x DataAwaited l a) (Programming (c .data)) (d .program) 0x10 (kept (λ y. bitOr (bitOr y 0x08) 0x10) 2 2 (omega arith) sr.low-program x f)
     (kept (λ y. bitOr y 0x10) 2 2 (omega arith) sr.locked-program x f)
-    (record { mode = p .mode; status = fits-status (Programming (c .byte)) (bitAnd x 0x7F) (kept (λ y. bitAnd y 0x7F) 2 0 (omega arith) sr.start x f); left = full (d .program) zp; address = h })
+    (record { mode = p .mode; status = fits-status (Programming (c .data)) (bitAnd x 0x7F) (kept (λ y. bitAnd y 0x7F) 2 0 (omega arith) sr.start x f); left = full (d .program) zp; address = h })
 act-proper d c zp ze h s m x (Programming b) l a p = p
 act-proper d c zp ze h s m x Erasing l a p =
     if-ind (λ (y : Action). Proper d (performedOf y d c (st s m x Erasing l a))) (eqb (commandOf c) 0xB0) _ _

@@ -157,7 +157,7 @@ act-starts d c s m x EraseAwaited l a e = go (eqb (commandOf c) 0xD0) refl
         ≡ (if not (unsupplied (d .part) c (st s m x EraseAwaited l a)) && not (locked (d .part) c) then (if eqb (commandOf c) 0xD0 then Erase (blockOf (d .part) (c .address)) else Nothing) else Nothing)
     go true q = rw q (started-pending (d .part) c (st s m x EraseAwaited l a) Erasing (d .erase) 32)
     go false q = rw q (sym (if-same (not (unsupplied (d .part) c (st s m x EraseAwaited l a)) && not (locked (d .part) c)) Nothing))
-act-starts d c s m x DataAwaited l a e = started-pending (d .part) c (st s m x DataAwaited l a) (Programming (c .byte)) (d .program) 16
+act-starts d c s m x DataAwaited l a e = started-pending (d .part) c (st s m x DataAwaited l a) (Programming (c .data)) (d .program) 16
 act-starts d c s m x (Programming b) l a e = absurd (unlike (sym e))
 act-starts d c s m x Erasing l a e = absurd (unlike (sym e))
 act-starts d c s m x Suspended l a e = absurd (unlike (sym e))

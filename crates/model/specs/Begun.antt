@@ -43,7 +43,7 @@ pendingOf part s = pendingIn (s .phase) part (s .address)
 abbrev pub askedBy : Phase → Part → Cycle → Effect
 askedBy Free part c = Nothing
 askedBy EraseAwaited part c = if eqb (commandOf c) 0xD0 then Erase (blockOf part (c .address)) else Nothing
-askedBy DataAwaited part c = Program (c .address) (c .byte)
+askedBy DataAwaited part c = Program (c .address) (c .data)
 askedBy (Programming x) part c = Nothing
 askedBy Erasing part c = Nothing
 askedBy Suspended part c = Nothing

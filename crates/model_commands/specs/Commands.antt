@@ -17,9 +17,9 @@ use Rattle.model_types.specs.Levels.{vppLow, locked}
 use Rattle.model_types.specs.Status.{SR7, SR6, SR5, SR4, SR3, withBits, withoutBits, isSet}
 use Rattle.model_types.specs.States.{atRest}
 
--- the command byte of a cycle: its byte
+-- the command byte of a cycle: its data
 abbrev pub commandOf : Cycle → ℕ
-commandOf c = c .byte
+commandOf c = c .data
 
 -- nothing awaited or running
 unfoldable pub firstWrite : ℕ → Action
@@ -106,7 +106,7 @@ performedOf Clear d c s = withStatus (withoutBits (s .status) (SR5 + SR4 + SR3))
 performedOf AwaitErase d c s = inPhase EraseAwaited (s .status) s
 performedOf AwaitData d c s = inPhase DataAwaited (s .status) s
 performedOf Confirm d c s = startedOf (d .part) c s Erasing (d .erase) SR5
-performedOf Store d c s = startedOf (d .part) c s (Programming (c .byte)) (d .program) SR4
+performedOf Store d c s = startedOf (d .part) c s (Programming (c .data)) (d .program) SR4
 performedOf WrongSecond d c s = atRest s (s .mode) (withBits (s .status) (SR5 + SR4))
 performedOf Suspend d c s = inPhase Suspended (withBits (s .status) (SR7 + SR6)) s
 performedOf Resume d c s = inPhase Erasing (withoutBits (s .status) (SR7 + SR6)) s

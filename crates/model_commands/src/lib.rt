@@ -199,7 +199,7 @@ pub fn perform(a: Action, d: Device, c: Cycle, s: State) -> State
         Action::AwaitErase => in_phase(Phase::EraseAwaited, s.status, s),
         Action::AwaitData => in_phase(Phase::DataAwaited, s.status, s),
         Action::Confirm => begin(part, c, s, Phase::Erasing, d.erase, SR5),
-        Action::Store => begin(part, c, s, Phase::Programming(c.byte), d.program, SR4),
+        Action::Store => begin(part, c, s, Phase::Programming(c.data), d.program, SR4),
         Action::WrongSecond => {
             let m = s.mode;
             at_rest(s, m, s.status | ERRORS)

@@ -45,7 +45,7 @@ suspendedRead part t c =
     (((isRead (c .kind) && isSuspended (t .phase)) && isArray (t .mode)) && eqb (blockOf part (c .address)) (blockOf part (t .address)))
     && not (rpLow (c .pins))
 
--- which identifier code an address asks for, 0 or 1, or none: the address itself
+-- which identifier code an address asks for, 0 or 1, any more being none: the address itself
 abbrev pub codePlace : Part → ℕ → ℕ
 codePlace part a = a
 

@@ -242,7 +242,7 @@ fn respond(kind: Kind, d: Device, s: State, c: Cycle, t: Settled) -> Decision
         Kind::Write => {
             let ph = after.phase;
             let part = d.part;
-            write(action(part, ph, c.byte), d, s, c, t)
+            write(action(part, ph, c.data), d, s, c, t)
         }
         Kind::Idle => given(Reply::Quiet, t),
     }

@@ -1,5 +1,6 @@
 -- What is claimed of levels and states, and that two results that a promise allows are equal, for each public function of this crate.
 -- Assumes nothing.
+use Rattle.model_types.specs.Phases.{underWay}
 use mathlib.Core.Path.{_≡_}
 use mathlib.Core.Bool.{true, false, _||_}
 use Rattle.device.specs.declared.Part.{Part}
@@ -7,10 +8,11 @@ use Rattle.device.specs.declared.Device.{Device}
 use Rattle.model_types.specs.declared.Pins.{Pins}
 use Rattle.model_types.specs.declared.State.{State}
 use Rattle.model_types.specs.Levels.{vppLow, vppHigh}
-use Rattle.model_types.specs.States.{improper}
+use Rattle.model_types.specs.States.{improper, atRest}
 use Rattle.model_types.specs.Inner.{badMode, badStatus, badLeft, badAddress}
 use Rattle.model_types.proofs.Bands as bands
 use Rattle.model_types.proofs.Proper as parts
+use Rattle.model_types.proofs.Rest as rest
 
 -- VPP high is not low, whatever the part.
 pub not-low : (part : Part) (p : Pins) → vppHigh part p ≡ true → vppLow part p ≡ false
@@ -20,3 +22,7 @@ not-low = bands.not-low
 pub improper-parts : (d : Device) (s : State)
     → improper d s ≡ (((badMode (s .phase) (s .mode) || badStatus (s .phase) (s .status)) || badLeft d (s .phase) (s .left)) || badAddress d (s .phase) (s .address))
 improper-parts = parts.improper-parts
+
+-- A proper state with nothing under way is at rest.
+pub proper-rests : (d : Device) (s : State) → improper d s ≡ false → underWay (s .phase) ≡ false → s ≡ atRest s (s .mode) (s .status)
+proper-rests = rest.proper-rests

@@ -1,28 +1,18 @@
--- At rest: what comes to rest stays what it is, and when a state is at rest. Assumes nothing.
-use mathlib.Core.Path.{_≡_, refl, subst}
-use mathlib.Core.Bool.{false}
+-- When a state is at rest. Assumes nothing.
+use mathlib.Core.Path.{_≡_, refl, sym, subst, _∙_}
+use mathlib.Core.Bool.{false, _||_}
 use Prim.Native.Nat.{ℕ}
 use lib.Dec.{eqb}
 use borrow.Author.Tests.{eqb-true, not-false}
-use Rattle.common.proofs.Choice.{unlike}
+use Rattle.common.proofs.Choice.{or-left, or-right, unlike}
 use Rattle.device.specs.declared.Device.{Device}
-use Rattle.model_types.specs.declared.Mode.{Mode}
-use Rattle.model_types.specs.declared.Mode.the-variants.{Array}
 use Rattle.model_types.specs.declared.Phase.{Phase}
 use Rattle.model_types.specs.declared.Phase.the-variants.{Free, EraseAwaited, DataAwaited, Programming, Erasing, Suspended}
 use Rattle.model_types.specs.declared.State.{State}
 use Rattle.model_types.specs.Phases.{underWay}
-use Rattle.model_types.specs.Status.{SR7}
-use Rattle.model_types.specs.States.{atRest, freshState}
-use Rattle.model_types.specs.Inner.{badLeft, badAddress}
-
--- a fresh device is at rest
-pub fresh-rest : freshState ≡ atRest freshState Array SR7
-fresh-rest = refl
-
--- at rest twice: what the first state carried is kept
-pub rest-again : (s : State) (m n : Mode) (x y : ℕ) → atRest (atRest s m x) n y ≡ atRest s n y
-rest-again s m n x y = refl
+use Rattle.model_types.specs.States.{improper, atRest}
+use Rattle.model_types.specs.Inner.{badMode, badStatus, badLeft, badAddress}
+use Rattle.model_types.proofs.Proper.{improper-parts}
 
 -- what is not under way is free
 pub free-phase : (ph : Phase) → underWay ph ≡ false → ph ≡ Free
@@ -49,3 +39,12 @@ resting d s u bl ba =
     let l : s .left ≡ 0 = none-left d (s .left) (subst (λ (x : Phase). badLeft d x (s .left) ≡ false) e bl) in
     let r : s .address ≡ 0 = none-at d (s .address) (subst (λ (x : Phase). badAddress d x (s .address) ≡ false) e ba) in
     λ i. record { mode = s .mode; status = s .status; phase = e i; left = l i; address = r i }
+
+-- so a proper state that is not under way is at rest
+pub proper-rests : (d : Device) (s : State) → improper d s ≡ false → underWay (s .phase) ≡ false → s ≡ atRest s (s .mode) (s .status)
+proper-rests d s h u =
+    let a = badMode (s .phase) (s .mode) || badStatus (s .phase) (s .status) in
+    let l = badLeft d (s .phase) (s .left) in
+    let m = badAddress d (s .phase) (s .address) in
+    let e : ((a || l) || m) ≡ false = sym (improper-parts d s) ∙ h in
+    resting d s u (or-right a l (or-left (a || l) m e)) (or-right (a || l) m e)

@@ -25,7 +25,7 @@ pub struct Cycle {
     pub pins: Pins,
     pub oe: u8,
     pub address: u32,
-    pub byte: u8,
+    pub data: u8,
 }
 
 // What a read gives.

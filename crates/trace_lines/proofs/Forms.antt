@@ -190,7 +190,7 @@ printed-good c f =
     (both (digit-good (c .oe) (f .1))
     (both (d (c .pins .vpp / 10000)) (both (d (c .pins .vpp / 1000)) (both (d (c .pins .vpp / 100)) (both (d (c .pins .vpp / 10)) (both (d (c .pins .vpp))
     (both (h (c .address / 4096)) (both (h (c .address / 256)) (both (h (c .address / 16)) (both (h (c .address))
-    (both (h (c .byte / 16)) (both (h (c .byte)) refl)))))))))))))
+    (both (h (c .data / 16)) (both (h (c .data)) refl)))))))))))))
 
 printed-cycle : (c : Cycle) → Fits c → cycleStated (lineOf c) ≡ c
 unfolding cycleStated
@@ -199,7 +199,7 @@ printed-cycle c f = λ i. record {
   pins = record { rp = digit-back (c .pins .rp) (f .0) i; vpp = five-back (c .pins .vpp) (f .2) i };
   oe = digit-back (c .oe) (f .1) i;
   address = four-back (c .address) (f .3) i;
-  byte = two-back (c .byte) (f .4) i;
+  «data» = two-back (c .data) (f .4) i;
 }
 
 pub read-back : (c : Cycle) → Fits c → readLine (lineOf c) ≡ Stated c

@@ -96,7 +96,7 @@ twoHex a b = hexOf a * 16 + hexOf b
 
 -- a cycle put together from its parts
 abbrev pub cycleAs : Kind → ℕ → ℕ → ℕ → ℕ → ℕ → Cycle
-cycleAs k rp oe vpp a b = record { kind = k; pins = record { rp = rp; vpp = vpp }; oe = oe; address = a; byte = b }
+cycleAs k rp oe vpp a b = record { kind = k; pins = record { rp = rp; vpp = vpp }; oe = oe; address = a; «data» = b }
 
 -- the cycle that a line states, read off its places
 unfoldable pub cycleStated : List ℕ → Cycle
@@ -131,9 +131,9 @@ lineOf c =
     ∷ (48 + c .oe) ∷ 32
     ∷ decimalDigit (c .pins .vpp / 10000) ∷ decimalDigit (c .pins .vpp / 1000) ∷ decimalDigit (c .pins .vpp / 100) ∷ decimalDigit (c .pins .vpp / 10) ∷ decimalDigit (c .pins .vpp) ∷ 32
     ∷ hexDigit (c .address / 4096 % 16) ∷ hexDigit (c .address / 256 % 16) ∷ hexDigit (c .address / 16 % 16) ∷ hexDigit (c .address % 16) ∷ 32
-    ∷ hexDigit (c .byte / 16 % 16) ∷ hexDigit (c .byte % 16) ∷ 10
+    ∷ hexDigit (c .data / 16 % 16) ∷ hexDigit (c .data % 16) ∷ 10
     ∷ []
 
 -- a cycle that fits a line: each number has as many digits as the line has room for
 abbrev pub Fits : Cycle → Type 0
-Fits c = (c .pins .rp < 10) × (c .oe < 10) × (c .pins .vpp < 100000) × (c .address < 65536) × (c .byte < 256)
+Fits c = (c .pins .rp < 10) × (c .oe < 10) × (c .pins .vpp < 100000) × (c .address < 65536) × (c .data < 256)

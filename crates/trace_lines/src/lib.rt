@@ -166,7 +166,7 @@ pub fn cycle_in(line: &[u8]) -> Cycle
         pins: pins,
         oe: oe,
         address: address,
-        byte: byte,
+        data: byte,
     }
 }
 

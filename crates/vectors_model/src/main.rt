@@ -41,7 +41,7 @@ fn cycle_of(row: &[u8], op: u8) -> Cycle {
         pins: Pins { rp: rp, vpp: vpp },
         oe: oe,
         address: address,
-        byte: byte,
+        data: byte,
     }
 }
 

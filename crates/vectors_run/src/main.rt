@@ -215,7 +215,7 @@ fn print_cycle(c: Cycle) {
     print_number(kind_letter(kind), pins.rp);
     print_long(pins.vpp as u64);
     print_address(c.address);
-    print_byte(c.byte);
+    print_byte(c.data);
 }
 
 // What the loader gave: the cycle that is out, the end, or a refusal.
