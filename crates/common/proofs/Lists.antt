@@ -9,27 +9,27 @@ use lib.Seq.{take-suc, drop-cons, set-at, append-snoc, length-take-le, drop-leng
 use mathlib.Core.Bool.{Bool, true, false}
 use lib.Dec.{leb}
 use borrow.Author.Tests.{leb-true, leb-false}
-use Rattle.common.specs.Lists.{copied, laid}
+use Rattle.common.specs.Lists.{copied, overwritten}
 
 -- one turn more of such a loop
-pub laid-more : (zs xs : List ℕ) (i : ℕ) → i < length zs → i < length xs → set (laid i zs xs) i (getD zs i 0) ≡ laid (i + 1) zs xs
-laid-more zs xs i h k =
+pub overwritten-more : (zs xs : List ℕ) (i : ℕ) → i < length zs → i < length xs → set (overwritten i zs xs) i (getD zs i 0) ≡ overwritten (i + 1) zs xs
+overwritten-more zs xs i h k =
     rw (add-one i, take-suc zs i 0 h, drop-cons xs i 0 k, set-at (take i zs) (getD xs i 0) (drop (suc i) xs) (getD zs i 0) i (length-take-le i zs (omega arith)))
     (sym (append-snoc (take i zs) (getD zs i 0) (drop (suc i) xs)))
 
 -- a loop that laid all of zs, which is as long as xs, leaves zs
-pub laid-all : (zs xs : List ℕ) → length zs ≡ length xs → laid (length xs) zs xs ≡ zs
-laid-all zs xs e = rw (drop-length xs, take-all (length xs) zs (omega arith)) (append-nil zs)
+pub overwritten-all : (zs xs : List ℕ) → length zs ≡ length xs → overwritten (length xs) zs xs ≡ zs
+overwritten-all zs xs e = rw (drop-length xs, take-all (length xs) zs (omega arith)) (append-nil zs)
 
 -- a whole copy over as many bytes is the source
 pub copied-whole : (dst src : List ℕ) → length dst ≡ length src → copied dst src ≡ src
-copied-whole dst src e = rw (← e) (laid-all src dst (sym e))
+copied-whole dst src e = rw (← e) (overwritten-all src dst (sym e))
 
 -- a loop that stops where the shorter of the two ends leaves a copy
-pub copied-least : (dst src : List ℕ) → laid (min (length dst) (length src)) src dst ≡ copied dst src
+pub copied-least : (dst src : List ℕ) → overwritten (min (length dst) (length src)) src dst ≡ copied dst src
 copied-least dst src = go (leb (length dst) (length src)) refl
   where
-    go : (b : Bool) → leb (length dst) (length src) ≡ b → laid (min (length dst) (length src)) src dst ≡ copied dst src
+    go : (b : Bool) → leb (length dst) (length src) ≡ b → overwritten (min (length dst) (length src)) src dst ≡ copied dst src
     go true e =
         let h : length dst ≤ length src = leb-true _ _ e in
         let m : min (length dst) (length src) ≡ length dst = omega arith in
@@ -40,7 +40,7 @@ copied-least dst src = go (leb (length dst) (length src)) refl
         rw (m, take-length src, take-all (length dst) src (omega arith)) refl
 
 -- one turn more of a loop that fills
-pub filled-more : (b : ℕ) (xs : List ℕ) (i : ℕ) → i < length xs → set (laid i (replicate (length xs) b) xs) i b ≡ laid (i + 1) (replicate (length xs) b) xs
+pub filled-more : (b : ℕ) (xs : List ℕ) (i : ℕ) → i < length xs → set (overwritten i (replicate (length xs) b) xs) i b ≡ overwritten (i + 1) (replicate (length xs) b) xs
 filled-more b xs i h =
-    ap (λ (v : ℕ). set (laid i (replicate (length xs) b) xs) i v) (sym (getD-replicate (length xs) i b 0 h))
-    ∙ laid-more (replicate (length xs) b) xs i (omega (arith, length-replicate (length xs) b)) h
+    ap (λ (v : ℕ). set (overwritten i (replicate (length xs) b) xs) i v) (sym (getD-replicate (length xs) i b 0 h))
+    ∙ overwritten-more (replicate (length xs) b) xs i (omega (arith, length-replicate (length xs) b)) h

@@ -6,18 +6,18 @@ use native.Mathlib.Omega.{arith}
 use lib.ListN.{length, take, drop}
 use lib.Seq.{take-at, drop-at, drop-drop, take-add, length-take-le}
 use borrow.Rule.Slice.PartMut.{putMid, midOf}
-use Rattle.common.specs.Lists.{laid}
+use Rattle.common.specs.Lists.{overwritten}
 
 -- the places a to e are laid next, where all before a are laid
-pub laid-piece : (zs xs : List ℕ) (a e : ℕ) → a ≤ e → e ≤ length zs → putMid a (e - a) (laid a zs xs) (midOf a (e - a) zs) ≡ laid e zs xs
-laid-piece zs xs a e h l =
+pub overwritten-piece : (zs xs : List ℕ) (a e : ℕ) → a ≤ e → e ≤ length zs → putMid a (e - a) (overwritten a zs xs) (midOf a (e - a) zs) ≡ overwritten e zs xs
+overwritten-piece zs xs a e h l =
     let k = e - a in
     let Y = midOf a k zs in
     let w : a + k ≡ e = omega arith in
     let t : length (take a zs) ≡ a = length-take-le a zs (omega arith) in
-    ap (λ (z : List ℕ). z ++ (Y ++ drop k (drop a (laid a zs xs)))) (take-at (take a zs) (drop a xs) a t)
+    ap (λ (z : List ℕ). z ++ (Y ++ drop k (drop a (overwritten a zs xs)))) (take-at (take a zs) (drop a xs) a t)
     ∙ ap (λ (z : List ℕ). take a zs ++ (Y ++ drop k z)) (drop-at (take a zs) (drop a xs) a t)
     ∙ sym (append-assoc (take a zs) Y (drop k (drop a xs)))
     ∙ ap (λ (z : List ℕ). z ++ drop k (drop a xs)) (sym (take-add a k zs))
     ∙ ap (λ (z : List ℕ). take (a + k) zs ++ z) (drop-drop k a xs)
-    ∙ ap (λ (n : ℕ). laid n zs xs) w
+    ∙ ap (λ (n : ℕ). overwritten n zs xs) w

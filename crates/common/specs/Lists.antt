@@ -12,8 +12,8 @@ abbrev pub overlaid : List ℕ → ℕ → List ℕ → List ℕ
 overlaid xs a ys = take a xs ++ (ys ++ drop (length ys) (drop a xs))
 
 -- the first i of zs, then what xs has from place i on: a loop that lays zs over xs, after i turns
-abbrev pub laid : ℕ → List ℕ → List ℕ → List ℕ
-laid i zs xs = take i zs ++ drop i xs
+abbrev pub overwritten : ℕ → List ℕ → List ℕ → List ℕ
+overwritten i zs xs = take i zs ++ drop i xs
 
 -- every element is below 256
 abbrev pub Bytes : List ℕ → Type 0

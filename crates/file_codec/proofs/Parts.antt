@@ -9,7 +9,7 @@ use mathlib.Core.Bool.{Bool, true, false}
 use lib.Dec.{leb}
 use borrow.Author.Tests.{leb-true, leb-false}
 use borrow.Rule.Slice.PartMut.{putMid, midOf, mid-len}
-use Rattle.common.specs.Lists.{copied, laid}
+use Rattle.common.specs.Lists.{copied, overwritten}
 use Rattle.common.proofs.Lists.{copied-whole}
 use Rattle.file_codec.specs.Layout.{headOf, frontOf, sealed, blockWritten}
 use Rattle.file_codec.specs.File.{blocksOf, placesOf}
@@ -173,12 +173,12 @@ places-at i n f h lf =
 
 -- the reader's walk: d payload bytes of block i are copied
 pub unpacked : (i n d : ℕ) (f out y : List ℕ) → i < n → length f ≡ 512 * n → 505 * i + d ≤ length out → d ≤ 505 → length out ≤ 505 * n
-    → y ≡ copied (midOf (505 * i) d (laid (505 * i) (placesOf n f) out)) (take 505 (drop (512 * i + 5) f))
-    → putMid (505 * i) d (laid (505 * i) (placesOf n f) out) y ≡ laid (505 * i + d) (placesOf n f) out
+    → y ≡ copied (midOf (505 * i) d (overwritten (505 * i) (placesOf n f) out)) (take 505 (drop (512 * i + 5) f))
+    → putMid (505 * i) d (overwritten (505 * i) (placesOf n f) out) y ≡ overwritten (505 * i + d) (placesOf n f) out
 unpacked i n d f out y h lf lo k ls e =
     let a = 505 * i in
     let P = placesOf n f in
-    let O = laid a P out in
+    let O = overwritten a P out in
     let F = drop (512 * i) f in
     let S = take 505 (drop (512 * i + 5) f) in
     let R = placesOf (n - (i + 1)) (drop 512 F) in

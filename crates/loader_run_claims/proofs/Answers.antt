@@ -29,7 +29,7 @@ use Rattle.model_commands.specs.Commands.{actionOf, firstWrite, afterErase, per
 use Rattle.model_operation.specs.Settling.{settledAs, settleOf, countedOff, finishOf}
 use Rattle.model_rules.specs.Cycles.{shortResidue, noCommand, suspendedRead, noIdentifier, lateOf, decideOf, acceptOf, respondOf, decidedAs}
 use Rattle.model_types.specs.Phases.{isBusy, isPending, isSuspended}
-use Rattle.model_rules.proofs.Ways.{accepted, number-late}
+use Rattle.model_rules.proofs.Cases.{accepted, number-late}
 use Rattle.model_rules.proofs.Facts.{Proper}
 use Rattle.model.proofs.Keeping.{st, rest-proper}
 use Rattle.model.proofs.Status.{fits}

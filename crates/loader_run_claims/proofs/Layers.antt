@@ -6,8 +6,8 @@ use native.Mathlib.Nat.{zero-add, suc-add}
 use native.Mathlib.Omega.{arith}
 use lib.ListN.{length, getD, take, drop, set, length-append, length-take, length-drop, length-set, take-append-drop}
 use lib.Seq.{take-at, drop-at, length-take-le, set-append-left, set-getD, getD-append-add, getD-drop}
-use Rattle.common.specs.Lists.{overlaid, laid}
-use Rattle.common.proofs.Lists.{laid-more}
+use Rattle.common.specs.Lists.{overlaid, overwritten}
+use Rattle.common.proofs.Lists.{overwritten-more}
 
 set-right : (p q : List ℕ) (i v : ℕ) → set (p ++ q) (length p + i) v ≡ p ++ set q i v
 set-right [] q i v = ap (λ (j : ℕ). set q j v) (zero-add i)
@@ -44,17 +44,17 @@ module _ (xs : List ℕ) (a : ℕ) where
 
 -- a walk at place i: the first i bytes are zs's, the others still xs's
 module _ (zs xs : List ℕ) (same : length zs ≡ length xs) where
-  pub laid-length : (i : ℕ) → i ≤ length xs → length (laid i zs xs) ≡ length xs
-  laid-length i h = rw (length-append (take i zs) (drop i xs), length-take i zs, length-drop i xs) (omega arith)
+  pub overwritten-length : (i : ℕ) → i ≤ length xs → length (overwritten i zs xs) ≡ length xs
+  overwritten-length i h = rw (length-append (take i zs) (drop i xs), length-take i zs, length-drop i xs) (omega arith)
 
-  pub laid-here : (i : ℕ) → i < length xs → getD (laid i zs xs) i 0 ≡ getD xs i 0
-  laid-here i h =
-      subst (λ (m : ℕ). getD (laid i zs xs) m 0 ≡ getD (drop i xs) 0 0) (let q : length (take i zs) + 0 ≡ i = (let t = length-take-le i zs (omega arith) in omega arith) in q)
+  pub overwritten-here : (i : ℕ) → i < length xs → getD (overwritten i zs xs) i 0 ≡ getD xs i 0
+  overwritten-here i h =
+      subst (λ (m : ℕ). getD (overwritten i zs xs) m 0 ≡ getD (drop i xs) 0 0) (let q : length (take i zs) + 0 ≡ i = (let t = length-take-le i zs (omega arith) in omega arith) in q)
       (getD-append-add (take i zs) (drop i xs) 0 0)
       ∙ getD-drop i xs 0 0
       ∙ ap (λ (m : ℕ). getD xs m 0) (let q : i + 0 ≡ i = omega arith in q)
 
   -- where the two agree the walk has nothing to do
-  pub laid-agree : (i : ℕ) → i < length xs → getD xs i 0 ≡ getD zs i 0 → laid i zs xs ≡ laid (i + 1) zs xs
-  laid-agree i h e =
-      sym (set-getD (laid i zs xs) i 0) ∙ ap (λ (v : ℕ). set (laid i zs xs) i v) (laid-here i h ∙ e) ∙ laid-more zs xs i (omega arith) h
+  pub overwritten-agree : (i : ℕ) → i < length xs → getD xs i 0 ≡ getD zs i 0 → overwritten i zs xs ≡ overwritten (i + 1) zs xs
+  overwritten-agree i h e =
+      sym (set-getD (overwritten i zs xs) i 0) ∙ ap (λ (v : ℕ). set (overwritten i zs xs) i v) (overwritten-here i h ∙ e) ∙ overwritten-more zs xs i (omega arith) h

@@ -14,8 +14,8 @@ use Rattle.model_types.proofs.Ones.{and-ones}
 use Rattle.common.specs.Choice.{if_then_else_}
 use Rattle.common.proofs.Choice.{if-true, if-false, and-right, or-left, or-right, unlike}
 use Rattle.model.proofs.Status.{fits, all-below}
-use Rattle.common.specs.Lists.{overlaid, laid}
-use Rattle.common.proofs.Lists.{laid-more, laid-all}
+use Rattle.common.specs.Lists.{overlaid, overwritten}
+use Rattle.common.proofs.Lists.{overwritten-more, overwritten-all}
 use Rattle.common.proofs.Bytes.{overlaid-in, overlaid-length}
 use Rattle.device.specs.declared.Device.{Device}
 use Rattle.device.specs.Parts.{sizeOf, lengthOf, startOf, blockOf}
@@ -54,7 +54,7 @@ use Rattle.loader_run_claims.specs.Wear.{programsOf, differing, baseOf, 
 use Rattle.loader_run.proofs.Turning.{conf}
 use Rattle.loader_run_claims.specs.Made.{isSmooth, readsThen, pollsThen, openingThen, eraseThen, programThen, programsThen, closingOf, programmingOf, cyclesOf, busCycle as cyc}
 use Rattle.loader_run_claims.proofs.Reaching.{Reach, Told, Does, does-as, arrive, prepend, turned, does}
-use Rattle.loader_run_claims.proofs.Layers.{put-over, over-over, laid-length, laid-here, laid-agree}
+use Rattle.loader_run_claims.proofs.Layers.{put-over, over-over, overwritten-length, overwritten-here, overwritten-agree}
 use Rattle.loader_run_claims.proofs.Answers as answers
 use Rattle.loader_run_claims.proofs.Answers.{Up, Ready}
 
@@ -137,23 +137,23 @@ module _ (d : Device) (p : Pins) (k : ℕ) (u : Up d p) (was : State) (w : List 
     verify-told i h = told-here Verifying i 0 Read 0 (atRest was Array 128) (GivesArray (a + i)) (atRest was Array 128) Nothing h refl (answers.reads d p u was 128 (a + i) refl (inside i h)) refl
 
     verify-turn : (i cnt : ℕ) (h : i < length w) (l′ : Loader) → verifyMore (rec Verifying i 0) (getD xs (a + i) 0) w ≡ l′
-        → turnOf d w (conf (rec Verifying i 0) (atRest was Array 128) xs (laid i w sc) cnt) ≡ conf l′ (atRest was Array 128) xs (laid (i + 1) w sc) (cnt + 1)
+        → turnOf d w (conf (rec Verifying i 0) (atRest was Array 128) xs (overwritten i w sc) cnt) ≡ conf l′ (atRest was Array 128) xs (overwritten (i + 1) w sc) (cnt + 1)
     verify-turn i cnt h l′ e =
-        turned d w (rec Verifying i 0) (atRest was Array 128) xs (laid i w sc) cnt refl lx (cyc p Read (a + i) 0) (GivesArray (a + i)) (atRest was Array 128) Nothing (verify-told i h)
-        ∙ (λ j. conf (e j) (atRest was Array 128) xs ((ap (λ (v : ℕ). set (laid i w sc) i v) (holds i h) ∙ laid-more w sc i h (omega arith)) j) (cnt + 1))
+        turned d w (rec Verifying i 0) (atRest was Array 128) xs (overwritten i w sc) cnt refl lx (cyc p Read (a + i) 0) (GivesArray (a + i)) (atRest was Array 128) Nothing (verify-told i h)
+        ∙ (λ j. conf (e j) (atRest was Array 128) xs ((ap (λ (v : ℕ). set (overwritten i w sc) i v) (holds i h) ∙ overwritten-more w sc i h (omega arith)) j) (cnt + 1))
 
-    verify-does : (i cnt : ℕ) (h : i < length w) → Does d w (conf (rec Verifying i 0) (atRest was Array 128) xs (laid i w sc) cnt) Nothing (cyc p Read (a + i) 0)
-    verify-does i cnt h = does d w (rec Verifying i 0) (atRest was Array 128) xs (laid i w sc) cnt refl lx (cyc p Read (a + i) 0) (GivesArray (a + i)) (atRest was Array 128) Nothing (verify-told i h)
+    verify-does : (i cnt : ℕ) (h : i < length w) → Does d w (conf (rec Verifying i 0) (atRest was Array 128) xs (overwritten i w sc) cnt) Nothing (cyc p Read (a + i) 0)
+    verify-does i cnt h = does d w (rec Verifying i 0) (atRest was Array 128) xs (overwritten i w sc) cnt refl lx (cyc p Read (a + i) 0) (GivesArray (a + i)) (atRest was Array 128) Nothing (verify-told i h)
 
     verifying : (j i cnt c : ℕ) → i + (j + 1) ≡ length w → c ≡ cnt + (j + 1)
-        → Reach d w (conf (rec Verifying i 0) (atRest was Array 128) xs (laid i w sc) cnt) (conf (rec (Ended 0) (length w - 1) 0) (atRest was Array 128) xs w c) [] (readsThen p (suc j) a i [])
+        → Reach d w (conf (rec Verifying i 0) (atRest was Array 128) xs (overwritten i w sc) cnt) (conf (rec (Ended 0) (length w - 1) 0) (atRest was Array 128) xs w c) [] (readsThen p (suc j) a i [])
     verifying zero i cnt c e q =
         let h : i < length w = omega arith in
         prepend d w _ _ _ Nothing (cyc p Read (a + i) 0) [] [] (verify-turn i cnt h (rec (Ended 0) i 0) (verify-last i (getD xs (a + i) 0) (holds i h) (omega arith))) (verify-does i cnt h)
         (arrive d w _ _ (λ t. conf (rec (Ended 0) ((let z : i ≡ length w - 1 = omega arith in z) t) 0) (atRest was Array 128) xs (whole t) ((let z : cnt + 1 ≡ c = omega arith in z) t)))
       where
-        whole : laid (i + 1) w sc ≡ w
-        whole = ap (λ (m : ℕ). laid m w sc) (let z : i + 1 ≡ length sc = omega arith in z) ∙ laid-all w sc (sym ls)
+        whole : overwritten (i + 1) w sc ≡ w
+        whole = ap (λ (m : ℕ). overwritten m w sc) (let z : i + 1 ≡ length sc = omega arith in z) ∙ overwritten-all w sc (sym ls)
     verifying (suc j) i cnt c e q =
         let h : i < length w = omega arith in
         prepend d w _ _ _ Nothing (cyc p Read (a + i) 0) [] (readsThen p (suc j) a (i + 1) [])
@@ -333,13 +333,13 @@ module _ (d : Device) (p : Pins) (k : ℕ) (u : Up d p) (was : State) (w : List 
     -- the programs from place i on, then the verify
     walking : (r : Ready d p k) (sc : List ℕ) → length sc ≡ length w → ((i : ℕ) → i < length w → bitAnd (getD sc i 0) (getD w i 0) ≡ getD w i 0) → 0 < d .program → d .program ≤ 65535
         → (j i cnt c : ℕ) (m : Mode) → i + j ≡ length w → c ≡ cnt + (costs j i sc + (1 + length w))
-        → Reach d w (conf (onto i sc) (atRest was m 128) (overlaid xs a (laid i w sc)) sc cnt) (final (overlaid xs a w) c) (programsOf j a i w sc) (programsThen d p j a i w sc (closingOf p a (length w)))
+        → Reach d w (conf (onto i sc) (atRest was m 128) (overlaid xs a (overwritten i w sc)) sc cnt) (final (overlaid xs a w) c) (programsOf j a i w sc) (programsThen d p j a i w sc (closingOf p a (length w)))
     walking r sc ls falls z b zero i cnt c m e q =
-        subst (λ (l : Loader). Reach d w (conf l (atRest was m 128) (overlaid xs a (laid i w sc)) sc cnt) (final (overlaid xs a w) c) [] (closingOf p a (length w))) (sym (onto-past i sc (omega arith)))
+        subst (λ (l : Loader). Reach d w (conf l (atRest was m 128) (overlaid xs a (overwritten i w sc)) sc cnt) (final (overlaid xs a w) c) [] (closingOf p a (length w))) (sym (onto-past i sc (omega arith)))
         (subst (λ (y : List ℕ). Reach d w (conf (rec Closing 0 0) (atRest was m 128) (overlaid xs a y) sc cnt) (final (overlaid xs a w) c) [] (closingOf p a (length w))) (sym whole) (closing m sc cnt c ls (omega arith)))
       where
-        whole : laid i w sc ≡ w
-        whole = ap (λ (n : ℕ). laid n w sc) (let t : i ≡ length sc = omega arith in t) ∙ laid-all w sc (sym ls)
+        whole : overwritten i w sc ≡ w
+        whole = ap (λ (n : ℕ). overwritten n w sc) (let t : i ≡ length sc = omega arith in t) ∙ overwritten-all w sc (sym ls)
     walking r sc ls falls z b (suc j) i cnt c m e q = go (eqb (getD sc i 0) (getD w i 0)) refl (walking r sc ls falls z b j (i + 1))
       where
         h : i < length w
@@ -356,19 +356,19 @@ module _ (d : Device) (p : Pins) (k : ℕ) (u : Up d p) (was : State) (w : List 
 
         go : (t : Bool) → eqb (getD sc i 0) (getD w i 0) ≡ t
             → ((cnt′ c′ : ℕ) (m′ : Mode) → i + 1 + j ≡ length w → c′ ≡ cnt′ + (costs j (i + 1) sc + (1 + length w))
-            → Reach d w (conf (onto (i + 1) sc) (atRest was m′ 128) (overlaid xs a (laid (i + 1) w sc)) sc cnt′) (final (overlaid xs a w) c′) es cs)
-            → From (onto i sc) (laid i w sc) cnt m (if eqb (getD sc i 0) (getD w i 0) then es else Program (a + i) (getD w i 0) ∷ es) (if eqb (getD sc i 0) (getD w i 0) then cs else programThen d p (a + i) (getD w i 0) cs)
+            → Reach d w (conf (onto (i + 1) sc) (atRest was m′ 128) (overlaid xs a (overwritten (i + 1) w sc)) sc cnt′) (final (overlaid xs a w) c′) es cs)
+            → From (onto i sc) (overwritten i w sc) cnt m (if eqb (getD sc i 0) (getD w i 0) then es else Program (a + i) (getD w i 0) ∷ es) (if eqb (getD sc i 0) (getD w i 0) then cs else programThen d p (a + i) (getD w i 0) cs)
         go true t more =
             rw t
-            (subst (λ (l : Loader). From l (laid i w sc) cnt m es cs) (sym (onto-agrees i sc h t))
-            (subst (λ (y : List ℕ). From (onto (i + 1) sc) y cnt m es cs) (sym (laid-agree w sc (sym ls) i (omega arith) (eqb-true _ _ t)))
+            (subst (λ (l : Loader). From l (overwritten i w sc) cnt m es cs) (sym (onto-agrees i sc h t))
+            (subst (λ (y : List ℕ). From (onto (i + 1) sc) y cnt m es cs) (sym (overwritten-agree w sc (sym ls) i (omega arith) (eqb-true _ _ t)))
             (more cnt c m (omega arith) (let x = rw t at q in omega arith))))
         go false t more =
             rw t
-            (subst (λ (l : Loader). From l (laid i w sc) cnt m (Program (a + i) (getD w i 0) ∷ es) (programThen d p (a + i) (getD w i 0) cs)) (sym (onto-differs i sc h t))
-            (one-program r m i cnt (laid i w sc) sc (final (overlaid xs a w) c) es cs h (laid-length w sc (sym ls) i (omega arith) ∙ ls)
-            (ap (λ (x : ℕ). bitAnd x (getD w i 0)) (laid-here w sc (sym ls) i (omega arith)) ∙ falls i h) z b
-            (λ cnt′ s. subst (λ (y : List ℕ). From (onto (i + 1) sc) y cnt′ Status es cs) (sym (laid-more w sc i h (omega arith))) (more cnt′ c Status (omega arith) (let x = rw t at q in omega arith)))))
+            (subst (λ (l : Loader). From l (overwritten i w sc) cnt m (Program (a + i) (getD w i 0) ∷ es) (programThen d p (a + i) (getD w i 0) cs)) (sym (onto-differs i sc h t))
+            (one-program r m i cnt (overwritten i w sc) sc (final (overlaid xs a w) c) es cs h (overwritten-length w sc (sym ls) i (omega arith) ∙ ls)
+            (ap (λ (x : ℕ). bitAnd x (getD w i 0)) (overwritten-here w sc (sym ls) i (omega arith)) ∙ falls i h) z b
+            (λ cnt′ s. subst (λ (y : List ℕ). From (onto (i + 1) sc) y cnt′ Status es cs) (sym (overwritten-more w sc i h (omega arith))) (more cnt′ c Status (omega arith) (let x = rw t at q in omega arith)))))
 
     unrisen : (ys : List ℕ) → risesIn w ys ≡ false → (i : ℕ) → i < length w → bitAnd (getD ys i 0) (getD w i 0) ≡ getD w i 0
     unfolding risesIn
@@ -459,28 +459,28 @@ module _ (d : Device) (p : Pins) (k : ℕ) (u : Up d p) (was : State) (w : List 
       read-told : (i : ℕ) (h : i < length w) → Told d w (rec Reading i 0) (atRest was Array 128) (cyc p Read (a + i) 0) (GivesArray (a + i)) (atRest was Array 128) Nothing
       read-told i h = told-here Reading i 0 Read 0 (atRest was Array 128) (GivesArray (a + i)) (atRest was Array 128) Nothing h refl (answers.reads d p u was 128 (a + i) refl (inside i h)) refl
 
-      laid-read : (i : ℕ) (h : i < length w) → set (laid i ys sc) i (getD (overlaid xs a ys) (a + i) 0) ≡ laid (i + 1) ys sc
-      laid-read i h = ap (λ (v : ℕ). set (laid i ys sc) i v) (byte-at ys i ly h) ∙ laid-more ys sc i (omega arith) (omega arith)
+      overwritten-read : (i : ℕ) (h : i < length w) → set (overwritten i ys sc) i (getD (overlaid xs a ys) (a + i) 0) ≡ overwritten (i + 1) ys sc
+      overwritten-read i h = ap (λ (v : ℕ). set (overwritten i ys sc) i v) (byte-at ys i ly h) ∙ overwritten-more ys sc i (omega arith) (omega arith)
 
       reading : (j i cnt : ℕ) (e : Config) (es : List Effect) (cs : List Cycle) → i + (j + 1) ≡ length w
           → ((cnt′ : ℕ) → cnt′ ≡ cnt + (j + 1) → Reach d w (conf (if risesIn w ys then rec EraseAsking 0 0 else onto 0 ys) (atRest was Array 128) (overlaid xs a ys) ys cnt′) e es cs)
-          → Reach d w (conf (rec Reading i 0) (atRest was Array 128) (overlaid xs a ys) (laid i ys sc) cnt) e es (readsThen p (suc j) a i cs)
+          → Reach d w (conf (rec Reading i 0) (atRest was Array 128) (overlaid xs a ys) (overwritten i ys sc) cnt) e es (readsThen p (suc j) a i cs)
       reading zero i cnt e es cs q rest =
           let h : i < length w = omega arith in
           prepend d w _ _ e Nothing (cyc p Read (a + i) 0) es cs
-          (turned d w (rec Reading i 0) (atRest was Array 128) (overlaid xs a ys) (laid i ys sc) cnt refl (sized ys ly) (cyc p Read (a + i) 0) (GivesArray (a + i)) (atRest was Array 128) Nothing (read-told i h)
-          ∙ (λ t. conf ((ap (λ (y : List ℕ). afterRead (rec Reading i 0) w y) (laid-read i h ∙ whole) ∙ read-last i ys (omega arith) ∙ after-same i ys) t) (atRest was Array 128) (overlaid xs a ys) ((laid-read i h ∙ whole) t) (cnt + 1)))
-          (does d w (rec Reading i 0) (atRest was Array 128) (overlaid xs a ys) (laid i ys sc) cnt refl (sized ys ly) (cyc p Read (a + i) 0) (GivesArray (a + i)) (atRest was Array 128) Nothing (read-told i h))
+          (turned d w (rec Reading i 0) (atRest was Array 128) (overlaid xs a ys) (overwritten i ys sc) cnt refl (sized ys ly) (cyc p Read (a + i) 0) (GivesArray (a + i)) (atRest was Array 128) Nothing (read-told i h)
+          ∙ (λ t. conf ((ap (λ (y : List ℕ). afterRead (rec Reading i 0) w y) (overwritten-read i h ∙ whole) ∙ read-last i ys (omega arith) ∙ after-same i ys) t) (atRest was Array 128) (overlaid xs a ys) ((overwritten-read i h ∙ whole) t) (cnt + 1)))
+          (does d w (rec Reading i 0) (atRest was Array 128) (overlaid xs a ys) (overwritten i ys sc) cnt refl (sized ys ly) (cyc p Read (a + i) 0) (GivesArray (a + i)) (atRest was Array 128) Nothing (read-told i h))
           (rest (cnt + 1) (omega arith))
         where
-          whole : laid (i + 1) ys sc ≡ ys
-          whole = ap (λ (m : ℕ). laid m ys sc) (let z : i + 1 ≡ length sc = omega arith in z) ∙ laid-all ys sc (ly ∙ sym ls)
+          whole : overwritten (i + 1) ys sc ≡ ys
+          whole = ap (λ (m : ℕ). overwritten m ys sc) (let z : i + 1 ≡ length sc = omega arith in z) ∙ overwritten-all ys sc (ly ∙ sym ls)
       reading (suc j) i cnt e es cs q rest =
           let h : i < length w = omega arith in
           prepend d w _ _ e Nothing (cyc p Read (a + i) 0) es (readsThen p (suc j) a (i + 1) cs)
-          (turned d w (rec Reading i 0) (atRest was Array 128) (overlaid xs a ys) (laid i ys sc) cnt refl (sized ys ly) (cyc p Read (a + i) 0) (GivesArray (a + i)) (atRest was Array 128) Nothing (read-told i h)
-          ∙ (λ t. conf (read-next i (set (laid i ys sc) i (getD (overlaid xs a ys) (a + i) 0)) (omega arith) t) (atRest was Array 128) (overlaid xs a ys) (laid-read i h t) (cnt + 1)))
-          (does d w (rec Reading i 0) (atRest was Array 128) (overlaid xs a ys) (laid i ys sc) cnt refl (sized ys ly) (cyc p Read (a + i) 0) (GivesArray (a + i)) (atRest was Array 128) Nothing (read-told i h))
+          (turned d w (rec Reading i 0) (atRest was Array 128) (overlaid xs a ys) (overwritten i ys sc) cnt refl (sized ys ly) (cyc p Read (a + i) 0) (GivesArray (a + i)) (atRest was Array 128) Nothing (read-told i h)
+          ∙ (λ t. conf (read-next i (set (overwritten i ys sc) i (getD (overlaid xs a ys) (a + i) 0)) (omega arith) t) (atRest was Array 128) (overlaid xs a ys) (overwritten-read i h t) (cnt + 1)))
+          (does d w (rec Reading i 0) (atRest was Array 128) (overlaid xs a ys) (overwritten i ys sc) cnt refl (sized ys ly) (cyc p Read (a + i) 0) (GivesArray (a + i)) (atRest was Array 128) Nothing (read-told i h))
           (reading j (i + 1) (cnt + 1) e es cs (omega arith) (λ cnt′ z. rest cnt′ (omega arith)))
 
       -- where a load stands before it, and after the first reads

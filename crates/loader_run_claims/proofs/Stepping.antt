@@ -31,7 +31,7 @@ use Rattle.model_operation.specs.Settling.{settleOf}
 use Rattle.model.specs.declared.Seen.{Seen}
 use Rattle.model.specs.declared.Seen.the-variants.{Byte}
 use Rattle.model.specs.Arrays.{seenOf, answerOf, isRefusal}
-use Rattle.model.proofs.Outcome.{outcome, accept-ways}
+use Rattle.model.proofs.Outcome.{outcome, accept-cases}
 use Rattle.loader.specs.declared.Stage.{Stage}
 use Rattle.loader.specs.declared.Stage.the-variants.{Clearing, Opening, Reading, EraseAsking, EraseConfirming, EraseWaiting, ProgramAsking, ProgramSending, ProgramWaiting, Closing, Verifying, Ended}
 use Rattle.loader.specs.declared.Loader.{Loader}
@@ -93,7 +93,7 @@ read-answered : (d : Device) (s : State) (c : Cycle) (n r : ℕ) (xs : List ℕ)
     → seenOf (decideOf d s c n r .reply) xs ≡ Byte (numberIn (seenOf (decideOf d s c n r .reply) xs))
 read-answered d s c n r xs kind up =
     outcome d s c n r (λ (x : Decision). isRefusal (x .reply) ≡ false → seenOf (x .reply) xs ≡ Byte (numberIn (seenOf (x .reply) xs))) (λ m z e q. absurd (unlike q))
-    (λ z f. accept-ways d c (settleOf (d .part) s (c .pins)) (λ (x : Decision). isRefusal (x .reply) ≡ false → seenOf (x .reply) xs ≡ Byte (numberIn (seenOf (x .reply) xs)))
+    (λ z f. accept-cases d c (settleOf (d .part) s (c .pins)) (λ (x : Decision). isRefusal (x .reply) ≡ false → seenOf (x .reply) xs ≡ Byte (numberIn (seenOf (x .reply) xs)))
     (λ e q. absurd (unlike (sym e ∙ up))) (λ e k h q. kinds (settleOf (d .part) s (c .pins)) k (sym h ∙ kind)))
   where
     reads : (m : Mode) (a sr : ℕ) → seenOf (replyTo m (d .part) a sr) xs ≡ Byte (numberIn (seenOf (replyTo m (d .part) a sr) xs))

@@ -28,7 +28,7 @@ use Rattle.model_commands.specs.Commands.{firstWrite, afterErase, whileErasing,
 use Rattle.model_operation.specs.Settling.{cutBits, cutBy, countedOff, settleOf}
 use Rattle.model_rules.specs.Cycles.{pastArray, decideOf, acceptOf, respondOf}
 use Rattle.model_rules.proofs.Facts.{Proper, Fine}
-use Rattle.model.proofs.Outcome.{outcome, accept-ways}
+use Rattle.model.proofs.Outcome.{outcome, accept-cases}
 use Rattle.model.proofs.Status as sr
 use Rattle.model.proofs.Status.{fits, kept, status-fits, fits-status}
 
@@ -167,7 +167,7 @@ times d e =
 
 -- step 4
 accept-proper : (d : Device) (s : State) (c : Cycle) (n r : ℕ) → Fine d s c n r → Proper d (acceptOf d c (settleOf (d .part) s (c .pins)) .state)
-accept-proper d s c n r f = accept-ways d c (settleOf (d .part) s (c .pins)) (λ (x : Decision). Proper d (x .state)) (λ e. p) (λ e k q. kinds k q e)
+accept-proper d s c n r f = accept-cases d c (settleOf (d .part) s (c .pins)) (λ (x : Decision). Proper d (x .state)) (λ e. p) (λ e k q. kinds k q e)
   where
     t : State
     t = settleOf (d .part) s (c .pins) .state

@@ -28,8 +28,8 @@ use Rattle.model_types.specs.States.{resetOf}
 use Rattle.model_commands.specs.Commands.{firstWrite, afterErase, whileErasing, whileSuspended, commandOf, actionOf, performedOf, startedOf, unsupplied}
 use Rattle.model_operation.specs.Settling.{settledAs, cutOf, finishOf, cutBy, countedOff, settleOf}
 use Rattle.model_rules.specs.Cycles.{numberOf, decideOf, acceptOf, respondOf}
-use Rattle.model_rules.proofs.Ways.{refused, accepted}
-use Rattle.model.proofs.Outcome.{outcome, accept-ways, accept-effect}
+use Rattle.model_rules.proofs.Cases.{refused, accepted}
+use Rattle.model.proofs.Outcome.{outcome, accept-cases, accept-effect}
 use Rattle.model.specs.Begun.{operationOf, pendingIn, pendingOf, askedBy, startsOf, begunBy, begunFrom}
 use Rattle.model_types.specs.Kinds.{isWrite}
 use Rattle.model_types.specs.Phases.{isPending, isBusy, isAwaited}
@@ -251,7 +251,7 @@ module _ (f : Effect → ℕ) (none : f Nothing ≡ 0) where
       → f (pendingOf (d .part) (acceptOf d c (settleOf (d .part) s (c .pins)) .state))
       ≡ f (begunFrom (d .part) s (acceptOf d c (settleOf (d .part) s (c .pins)) .state)) + f (pendingOf (d .part) (settleOf (d .part) s (c .pins) .state))
   accept-adds d s c =
-      accept-ways d c t P
+      accept-cases d c t P
       (λ h. rw (settle-low (d .part) s c h, if-same (isAwaited (s .phase)) Nothing, none) (omega arith))
       (λ h k q. go (isAwaited (s .phase)) refl h k)
     where

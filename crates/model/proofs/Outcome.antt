@@ -16,7 +16,7 @@ use Rattle.model_types.specs.declared.Reply.the-variants.{Quiet}
 use Rattle.model_types.specs.Levels.{rpLow}
 use Rattle.model_operation.specs.Settling.{settleOf}
 use Rattle.model_rules.specs.Cycles.{numberOf, decideOf, acceptOf, respondOf, refusedBy, decidedAs}
-use Rattle.model_rules.proofs.Ways.{refused, accepted}
+use Rattle.model_rules.proofs.Cases.{refused, accepted}
 use Rattle.model_rules.proofs.Facts.{Fine, fine}
 
 -- whatever holds of a refusal and of an accepted cycle holds of the cycle
@@ -31,12 +31,12 @@ outcome d s c n r P f g = go (eqb (numberOf d s c n r) 0) refl
     go false e = let z = eqb-false (numberOf d s c n r) 0 e in subst P (sym (refused d s c n r (numberOf d s c n r) refl z)) (f (numberOf d s c n r) z refl)
 
 -- an accepted cycle ends after step 1 with RP# low, and goes on to its read, write or idle with RP# up
-pub accept-ways : (d : Device) (c : Cycle) (t : Settled) (P : Decision → Type 0)
+pub accept-cases : (d : Device) (c : Cycle) (t : Settled) (P : Decision → Type 0)
     → (rpLow (c .pins) ≡ true → P (decidedAs Quiet (t .state) (t .effect)))
     → (rpLow (c .pins) ≡ false → (k : Kind) → c .kind ≡ k → P (respondOf k d c t))
     → P (acceptOf d c t)
 unfolding acceptOf
-accept-ways d c t P f g = go (rpLow (c .pins)) refl
+accept-cases d c t P f g = go (rpLow (c .pins)) refl
   where
     go : (b : Bool) → rpLow (c .pins) ≡ b → P (if rpLow (c .pins) then decidedAs Quiet (t .state) (t .effect) else respondOf (c .kind) d c t)
     go true e = rw e (f e)
@@ -44,7 +44,7 @@ accept-ways d c t P f g = go (rpLow (c .pins)) refl
 
 -- the effect of an accepted cycle is that of its first three steps
 pub accept-effect : (d : Device) (c : Cycle) (t : Settled) → acceptOf d c t .effect ≡ t .effect
-accept-effect d c t = accept-ways d c t (λ (x : Decision). x .effect ≡ t .effect) (λ e. refl) (λ e k q. kinds k)
+accept-effect d c t = accept-cases d c t (λ (x : Decision). x .effect ≡ t .effect) (λ e. refl) (λ e k q. kinds k)
   where
     kinds : (k : Kind) → respondOf k d c t .effect ≡ t .effect
     kinds Read = refl

@@ -33,9 +33,9 @@ module _ (part : Part) (k : ℕ) (xs : List ℕ) (a n : ℕ) (ea : a ≡ startOf
       let l : length ys ≡ a + n - a = ap (λ (z : List ℕ). length z) e ∙ length-replicate (length (midOf a (a + n - a) xs)) v ∙ mid-len a (a + n) xs inside in
       put xs ys a (a + n - a) l ∙ ap (λ (z : List ℕ). overlaid xs a z) f ∙ ap (λ (m : ℕ). overlaid xs m (replicate (lengthOf part k) (ones part))) ea
 
-  pub laid-over : (rs ys : List ℕ) → n ≤ length rs → ys ≡ copied (midOf a (a + n - a) xs) (midOf 0 (n - 0) rs) → putMid a (a + n - a) xs ys ≡ residual part k rs xs
+  pub overwritten-over : (rs ys : List ℕ) → n ≤ length rs → ys ≡ copied (midOf a (a + n - a) xs) (midOf 0 (n - 0) rs) → putMid a (a + n - a) xs ys ≡ residual part k rs xs
   unfolding residual
-  laid-over rs ys h e =
+  overwritten-over rs ys h e =
       let z : n - 0 ≡ n = omega arith in
       let t : length (take n rs) ≡ n = length-take-le n rs h in
       let f : ys ≡ take n rs = e ∙ ap (λ (m : ℕ). copied (midOf a (a + n - a) xs) (take m rs)) z ∙ copied-whole (midOf a (a + n - a) xs) (take n rs) (span ∙ sym t) in

@@ -27,11 +27,11 @@ use Rattle.model_operation.specs.Settling.{settleOf}
 use Rattle.model_rules.specs.Cycles.{tableOf, numberOf, decideOf, acceptOf, respondOf, replyTo, decidedAs}
 use mathlib.Core.Bool.{true, false, Bool}
 use Rattle.common.proofs.Choice.{unlike}
-use Rattle.model_rules.proofs.Ways.{refused, accepted}
+use Rattle.model_rules.proofs.Cases.{refused, accepted}
 use Rattle.model.specs.declared.Seen.the-variants.{Refused, Byte}
 use Rattle.model.specs.Arrays.{isRefusal, arrayAfter, answerOf, seenOf, Accepted}
 use Rattle.model_rules.proofs.Facts.{fine}
-use Rattle.model.proofs.Outcome.{outcome, accept-ways}
+use Rattle.model.proofs.Outcome.{outcome, accept-cases}
 use Rattle.model.proofs.Keeping.{settled-busy, settled-mode}
 use Rattle.model.proofs.Lives.{accept-up}
 
@@ -44,7 +44,7 @@ refusal (Refuses m) = m
 
 -- an accepted cycle is not refused
 accept-answers : (d : Device) (c : Cycle) (t : Settled) → isRefusal (acceptOf d c t .reply) ≡ false
-accept-answers d c t = accept-ways d c t (λ (x : Decision). isRefusal (x .reply) ≡ false) (λ e. refl) (λ e k q. kinds k)
+accept-answers d c t = accept-cases d c t (λ (x : Decision). isRefusal (x .reply) ≡ false) (λ e. refl) (λ e k q. kinds k)
   where
     reads : (m : Mode) → isRefusal (replyTo m (d .part) (c .address) (t .state .status)) ≡ false
     reads Array = refl

@@ -1,5 +1,4 @@
--- Two results that a promise allows are equal. What the rules amount to is claimed with the model, whose cycle applies them.
--- Assumes nothing.
+-- What is claimed of a judged cycle. What the rules amount to is claimed with the model, whose cycle applies them. Assumes nothing.
 use mathlib.Core.Path.{_≡_}
 use Prim.Native.Nat.{ℕ}
 use Rattle.device.specs.declared.Device.{Device}

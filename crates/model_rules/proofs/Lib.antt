@@ -1,5 +1,5 @@
-pub mod Ways
-pub mod Arms
+pub mod Cases
+pub mod ByKind
 pub mod Passing
 pub mod Facts
 pub mod Claims

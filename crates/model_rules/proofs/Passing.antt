@@ -19,11 +19,11 @@ use Rattle.model_types.specs.Levels.{rpLow, vppLow}
 use Rattle.model_types.specs.States.{isArray}
 use Rattle.model_operation.specs.Settling.{settledAs, settleOf}
 use Rattle.model_rules.specs.Cycles.{judgeOf, refusedBy, decidedAs, decideOf}
-use Rattle.model_rules.specs.Inner.{inSuspended, arrayArm, arm, decideJudged, asksArray}
+use Rattle.model_rules.specs.Inner.{inSuspended, decideArray, decideKind, decideJudged, asksArray}
 use Rattle.model_types.specs.Phases.{isFree}
 use Rattle.model_types.specs.Kinds.{isRead}
-use Rattle.model_rules.proofs.Ways.{number-early, refused}
-use Rattle.model_rules.proofs.Arms.{by-reset, by-arms}
+use Rattle.model_rules.proofs.Cases.{number-early, refused}
+use Rattle.model_rules.proofs.ByKind.{by-reset, by-kinds}
 
 -- none of refusals 1 to 6: the cycle passes
 pub passes : (d : Device) (s : State) (c : Cycle) (array residue : ℕ) → judgeOf d s c array residue ≡ 0 → decideOf d s c array residue ≡ decideJudged d s c
@@ -32,7 +32,7 @@ passes d s c array residue z = go (rpLow (c .pins)) refl
   where
     go : (b : Bool) → rpLow (c .pins) ≡ b → decideOf d s c array residue ≡ decideJudged d s c
     go true r = by-reset d s c array residue z r ∙ sym (if-true (rpLow (c .pins)) _ _ r)
-    go false r = by-arms d s c array residue z r ∙ sym (if-false (rpLow (c .pins)) _ _ r)
+    go false r = by-kinds d s c array residue z r ∙ sym (if-false (rpLow (c .pins)) _ _ r)
 
 -- one of them: it is refused by that number
 pub stops : (d : Device) (s : State) (c : Cycle) (array residue : ℕ) → (judgeOf d s c array residue ≡ 0 → ⊥)
@@ -92,8 +92,8 @@ module _ (d : Device) (s : State) (c : Cycle) (asks : asksArray s c ≡ true) wh
 
   -- its byte is the answer, and nothing else changes
   pub shows : decideJudged d s c ≡ decidedAs (GivesArray (c .address)) s Nothing
-  unfolding decideJudged arrayArm inSuspended
+  unfolding decideJudged decideArray inSuspended
   shows =
       if-false (rpLow (c .pins)) _ _ up
-      ∙ ap (λ (k : Kind). arm k d s c (settleOf (d .part) s (c .pins))) kind ∙ ap (λ (t : Settled). arm Read d s c t) settled
+      ∙ ap (λ (k : Kind). decideKind k d s c (settleOf (d .part) s (c .pins))) kind ∙ ap (λ (t : Settled). decideKind Read d s c t) settled
       ∙ simp (mode, free)

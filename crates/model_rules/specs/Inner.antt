@@ -36,33 +36,33 @@ unfoldable pub inSuspended : Part → State → ℕ → Bool
 inSuspended part u a = if isSuspended (u .phase) then eqb (blockOf part a) (blockOf part (u .address)) else false
 
 -- an array read: 8, or the byte
-unfoldable pub arrayArm : Part → State → Cycle → Settled → Decision
-arrayArm part s c t = if inSuspended part (t .state) (c .address) then refusedBy 8 s else settledBy (GivesArray (c .address)) t
+unfoldable pub decideArray : Part → State → Cycle → Settled → Decision
+decideArray part s c t = if inSuspended part (t .state) (c .address) then refusedBy 8 s else settledBy (GivesArray (c .address)) t
 
 -- an identifier read: 9, or the code
-unfoldable pub identifierArm : Part → State → Cycle → Settled → Decision
-identifierArm part s c t = if ltb 1 (codePlace part (c .address)) then refusedBy 9 s else settledBy (Gives (identifierOf part (c .address))) t
+unfoldable pub decideIdentifier : Part → State → Cycle → Settled → Decision
+decideIdentifier part s c t = if ltb 1 (codePlace part (c .address)) then refusedBy 9 s else settledBy (Gives (identifierOf part (c .address))) t
 
 -- a read, by mode
-abbrev pub readArm : Mode → Part → State → Cycle → Settled → Decision
-readArm Array part s c t = arrayArm part s c t
-readArm Status part s c t = settledBy (Gives (t .state .status)) t
-readArm Identifier part s c t = identifierArm part s c t
+abbrev pub decideRead : Mode → Part → State → Cycle → Settled → Decision
+decideRead Array part s c t = decideArray part s c t
+decideRead Status part s c t = settledBy (Gives (t .state .status)) t
+decideRead Identifier part s c t = decideIdentifier part s c t
 
 -- a write, by the action that it asks for: 7, or what comes of it
-unfoldable pub writeArm : Action → Device → State → Cycle → Settled → Decision
-writeArm a d s c t = if isRefuse a then refusedBy 7 s else decidedAs Quiet (performedOf a d c (t .state)) (t .effect)
+unfoldable pub decideWrite : Action → Device → State → Cycle → Settled → Decision
+decideWrite a d s c t = if isRefuse a then refusedBy 7 s else decidedAs Quiet (performedOf a d c (t .state)) (t .effect)
 
 -- step 4, by the kind of the cycle
-abbrev pub arm : Kind → Device → State → Cycle → Settled → Decision
-arm Read d s c t = readArm (t .state .mode) (d .part) s c t
-arm Write d s c t = writeArm (actionOf (d .part) (t .state .phase) (commandOf c)) d s c t
-arm Idle d s c t = settledBy Quiet t
+abbrev pub decideKind : Kind → Device → State → Cycle → Settled → Decision
+decideKind Read d s c t = decideRead (t .state .mode) (d .part) s c t
+decideKind Write d s c t = decideWrite (actionOf (d .part) (t .state .phase) (commandOf c)) d s c t
+decideKind Idle d s c t = settledBy Quiet t
 
 -- a cycle that refusals 1 to 6 do not stop; with RP# low it ends after step 1
 unfoldable pub decideJudged : Device → State → Cycle → Decision
 decideJudged d s c =
-    if rpLow (c .pins) then settledBy Quiet (settleOf (d .part) s (c .pins)) else arm (c .kind) d s c (settleOf (d .part) s (c .pins))
+    if rpLow (c .pins) then settledBy Quiet (settleOf (d .part) s (c .pins)) else decideKind (c .kind) d s c (settleOf (d .part) s (c .pins))
 
 -- an array read of a device with nothing awaited, running or suspended, RP# up
 unfoldable pub asksArray : State → Cycle → Bool

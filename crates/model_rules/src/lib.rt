@@ -28,7 +28,7 @@ ghost use Rattle.model_types.specs.Levels.{rpLow, vppLow};
 ghost use lib.Dec.{eqb};
 ghost use Rattle.device.specs.Parts.{sizeOf};
 ghost use Rattle.model_rules.specs.Cycles.{pastArray, shortResidue, judgeOf, refusedBy, identifierOf};
-ghost use Rattle.model_rules.specs.Inner.{settledBy, inSuspended, arrayArm, identifierArm, readArm, writeArm, arm, decideJudged, asksArray};
+ghost use Rattle.model_rules.specs.Inner.{settledBy, inSuspended, decideArray, decideIdentifier, decideRead, decideWrite, decideKind, decideJudged, asksArray};
 ghost use Rattle.model_types.specs.Phases.{isSuspended, isFree};
 ghost use Rattle.model_types.specs.Kinds.{isIdle, isRead};
 
@@ -183,7 +183,7 @@ fn in_suspended(part: Part, s: State, address: u32) -> bool
 
 // An array read: 8, or the byte.
 fn read_array(part: Part, s: State, c: Cycle, t: Settled) -> Decision
-    ensures { λ r. ⌜ r ≡ arrayArm part s c t ⌝ }
+    ensures { λ r. ⌜ r ≡ decideArray part s c t ⌝ }
 {
     let after = t.state;
     if in_suspended(part, after, c.address) {
@@ -194,7 +194,7 @@ fn read_array(part: Part, s: State, c: Cycle, t: Settled) -> Decision
 
 // An identifier read: 9, or the code.
 fn read_identifier(part: Part, s: State, c: Cycle, t: Settled) -> Decision
-    ensures { λ r. ⌜ r ≡ identifierArm part s c t ⌝ }
+    ensures { λ r. ⌜ r ≡ decideIdentifier part s c t ⌝ }
 {
     if 1 < c.address {
         return refused(9, s);
@@ -203,7 +203,7 @@ fn read_identifier(part: Part, s: State, c: Cycle, t: Settled) -> Decision
 }
 
 fn read(m: Mode, part: Part, s: State, c: Cycle, t: Settled) -> Decision
-    ensures { λ r. ⌜ r ≡ readArm m part s c t ⌝ }
+    ensures { λ r. ⌜ r ≡ decideRead m part s c t ⌝ }
 {
     match m {
         Mode::Array => read_array(part, s, c, t),
@@ -214,7 +214,7 @@ fn read(m: Mode, part: Part, s: State, c: Cycle, t: Settled) -> Decision
 
 // A write: 7, or what comes of it.
 fn write(a: Action, d: Device, s: State, c: Cycle, t: Settled) -> Decision
-    ensures { λ r. ⌜ r ≡ writeArm a d s c t ⌝ }
+    ensures { λ r. ⌜ r ≡ decideWrite a d s c t ⌝ }
 {
     let after = t.state;
     let effect = t.effect;
@@ -230,7 +230,7 @@ fn write(a: Action, d: Device, s: State, c: Cycle, t: Settled) -> Decision
 
 // Step 4: the read or write itself, or its refusal by the state that settling leaves.
 fn respond(kind: Kind, d: Device, s: State, c: Cycle, t: Settled) -> Decision
-    ensures { λ r. ⌜ r ≡ arm kind d s c t ⌝ }
+    ensures { λ r. ⌜ r ≡ decideKind kind d s c t ⌝ }
 {
     let after = t.state;
     match kind {

@@ -1,5 +1,4 @@
--- What is claimed of levels and states, and that two results that a promise allows are equal, for each public function of this crate.
--- Assumes nothing.
+-- What is claimed of levels and states, in one place. Assumes nothing.
 use Rattle.model_types.specs.Phases.{underWay}
 use mathlib.Core.Path.{_≡_}
 use mathlib.Core.Bool.{true, false, _||_}

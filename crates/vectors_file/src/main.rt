@@ -94,7 +94,7 @@ fn run(case: &[u8]) {
     let mut payload = [0u8; 4200];
     let mut file = [165u8; 5200];
     let mut back = [90u8; 4200];
-    vectors_text::sow(&mut payload, 250, 3, 7);
+    vectors_text::pattern(&mut payload, 250, 3, 7);
     make(case, &payload, &mut file);
     spoil(case, &mut file);
     take(case, &file, &mut back);

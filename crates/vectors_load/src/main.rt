@@ -46,7 +46,7 @@ fn prepare(case: &[u8], j: usize, s: &mut [u8])
 {
     let first = field(case, j);
     let step = field(case, j + 1);
-    vectors_text::sow(s, 256, first, step);
+    vectors_text::pattern(s, 256, first, step);
 }
 
 // So many bytes are changed, as the pairs of numbers from k on say.
@@ -64,7 +64,7 @@ fn change_all(case: &[u8], k: usize, n: usize, s: &mut [u8])
 // A file is written over A5H, and six bytes of it are changed.
 fn write(case: &[u8], file: &mut [u8]) {
     let mut payload = [0u8; 4200];
-    vectors_text::sow(&mut payload, 256, 3, 7);
+    vectors_text::pattern(&mut payload, 256, 3, 7);
     let size = lent(case, 1, 4200);
     common::fill(file, 165);
     file_codec::write(byte(case, 0), &payload[0..size], file);

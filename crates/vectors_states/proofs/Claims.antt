@@ -1,5 +1,4 @@
--- Two results that a promise allows are equal, for each public function of this crate; and a letter that is written is read back. Assumes
--- nothing.
+-- What is claimed of letters, in one place: a letter that is written is read back. Assumes nothing.
 use mathlib.Core.Path.{_≡_, refl}
 use Rattle.model_types.specs.declared.Mode.{Mode}
 use Rattle.model_types.specs.declared.Mode.the-variants.{Array, Status, Identifier}

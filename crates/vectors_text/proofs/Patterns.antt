@@ -5,20 +5,20 @@ use Prim.Native.Nat.{ℕ, zero, suc, _+_, _-_, _%_, _<_}
 use native.Mathlib.Omega.{arith}
 use lib.ListN.{length, getD, drop}
 use lib.Seq.{getD-drop, drop-drop}
-use Rattle.vectors_text.specs.Patterns.{sownFrom}
+use Rattle.vectors_text.specs.Patterns.{patternFrom}
 
 -- a pattern has as many bytes as it is asked for
-pub sown-length : (m d n v : ℕ) → length (sownFrom m d n v) ≡ n
-sown-length m d zero v = refl
-sown-length m d (suc n) v = ap suc (sown-length m d n ((v + d) % m))
+pub pattern-length : (m d n v : ℕ) → length (patternFrom m d n v) ≡ n
+pattern-length m d zero v = refl
+pattern-length m d (suc n) v = ap suc (pattern-length m d n ((v + d) % m))
 
 -- the byte at a place, and the place after it, in a list that goes on as a pattern from there
-module _ (m d v n i : ℕ) (zs : List ℕ) (h : i < n) (e : drop i zs ≡ sownFrom m d (n - i) v) where
-  rest : drop i zs ≡ v % 256 ∷ sownFrom m d (n - (i + 1)) ((v + d) % m)
-  rest = let p : n - i ≡ suc (n - (i + 1)) = omega arith in e ∙ ap (λ (k : ℕ). sownFrom m d k v) p
+module _ (m d v n i : ℕ) (zs : List ℕ) (h : i < n) (e : drop i zs ≡ patternFrom m d (n - i) v) where
+  rest : drop i zs ≡ v % 256 ∷ patternFrom m d (n - (i + 1)) ((v + d) % m)
+  rest = let p : n - i ≡ suc (n - (i + 1)) = omega arith in e ∙ ap (λ (k : ℕ). patternFrom m d k v) p
 
-  pub sown-byte : getD zs i 0 ≡ v % 256
-  sown-byte = let p : i ≡ i + 0 = omega arith in ap (λ (j : ℕ). getD zs j 0) p ∙ sym (getD-drop i zs 0 0) ∙ ap (λ (l : List ℕ). getD l 0 0) rest
+  pub pattern-byte : getD zs i 0 ≡ v % 256
+  pattern-byte = let p : i ≡ i + 0 = omega arith in ap (λ (j : ℕ). getD zs j 0) p ∙ sym (getD-drop i zs 0 0) ∙ ap (λ (l : List ℕ). getD l 0 0) rest
 
-  pub sown-next : drop (i + 1) zs ≡ sownFrom m d (n - (i + 1)) ((v + d) % m)
-  sown-next = sym (drop-drop 1 i zs) ∙ ap (λ (l : List ℕ). drop 1 l) rest
+  pub pattern-next : drop (i + 1) zs ≡ patternFrom m d (n - (i + 1)) ((v + d) % m)
+  pattern-next = sym (drop-drop 1 i zs) ∙ ap (λ (l : List ℕ). drop 1 l) rest

@@ -7,7 +7,7 @@ use Rattle.common.specs.Choice.{Unique}
 use Rattle.common.proofs.Choice.{only}
 use Rattle.vectors_text.specs.declared.Group.{Group}
 use Rattle.vectors_text.specs.Text.{numberRead, fieldOf, spelled, nextRow, groupAt}
-use Rattle.vectors_text.specs.Patterns.{digestOf, sown}
+use Rattle.vectors_text.specs.Patterns.{digestOf, patternOf}
 
 pub word-at-unique : (s : List ℕ) (base at n : ℕ) → Unique (λ (r : ℕ). r ≡ numberRead base (fieldOf s at n))
 word-at-unique s base at n = only (numberRead base (fieldOf s at n))
@@ -37,8 +37,8 @@ decimal-unique out x = only (spelled 10 (length out) x [])
 pub hex-unique : (out : List ℕ) (x : ℕ) → Unique (λ (left : List ℕ). left ≡ spelled 16 (length out) x [])
 hex-unique out x = only (spelled 16 (length out) x [])
 
-pub sow-unique : (s : List ℕ) (top first step : ℕ) → Unique (λ (left : List ℕ). left ≡ sown top first step (length s))
-sow-unique s top first step = only (sown top first step (length s))
+pub pattern-unique : (s : List ℕ) (top first step : ℕ) → Unique (λ (left : List ℕ). left ≡ patternOf top first step (length s))
+pattern-unique s top first step = only (patternOf top first step (length s))
 
 pub put-unique : (s : List ℕ) (at b : ℕ) → Unique (λ (left : List ℕ). left ≡ set s at b)
 put-unique s at b = only (set s at b)

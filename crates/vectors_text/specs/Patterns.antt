@@ -12,10 +12,10 @@ unfoldable pub digestOf : List ℕ → ℕ
 digestOf xs = walk digestMore 0 xs
 
 -- n bytes of a pattern that stands at v: each number is d more than the one before, modulo m
-abbrev pub sownFrom : ℕ → ℕ → ℕ → ℕ → List ℕ
-sownFrom m d zero v = []
-sownFrom m d (suc n) v = v % 256 ∷ sownFrom m d n ((v + d) % m)
+abbrev pub patternFrom : ℕ → ℕ → ℕ → ℕ → List ℕ
+patternFrom m d zero v = []
+patternFrom m d (suc n) v = v % 256 ∷ patternFrom m d n ((v + d) % m)
 
 -- a pattern of numbers from 0 to top
-unfoldable pub sown : ℕ → ℕ → ℕ → ℕ → List ℕ
-sown top first step n = sownFrom (top + 1) (step % (top + 1)) n (first % (top + 1))
+unfoldable pub patternOf : ℕ → ℕ → ℕ → ℕ → List ℕ
+patternOf top first step n = patternFrom (top + 1) (step % (top + 1)) n (first % (top + 1))

@@ -5,7 +5,7 @@ ghost use mathlib.Core.List.{List, []};
 ghost use Prim.Native.Nat.{ℕ, _+_, _<_, _≤_, _%_, min, max};
 ghost use lib.ListN.{length, set, replicate};
 ghost use Rattle.vectors_text.specs.Text.{digitRead, numberRead, fieldOf, digitLetter, spelled, nextRow, groupAt};
-ghost use Rattle.vectors_text.specs.Patterns.{digestOf, sown};
+ghost use Rattle.vectors_text.specs.Patterns.{digestOf, patternOf};
 
 // The four letters of a group of rows.
 pub struct Group {
@@ -167,8 +167,8 @@ pub fn digest(s: &[u8]) -> u64
 }
 
 // Fills with a pattern: numbers from 0 to top, each a step from the one before; a step of 0 makes all bytes alike.
-pub fn sow(s: &mut [u8], top: u16, first: usize, step: usize)
-    ensures { λ _. ⌜ now (s .exit) ≡ sown top first step (length (now (s .entry))) ⌝ }
+pub fn pattern(s: &mut [u8], top: u16, first: usize, step: usize)
+    ensures { λ _. ⌜ now (s .exit) ≡ patternOf top first step (length (now (s .entry))) ⌝ }
 {
     let m = top as usize + 1;
     let d = step % m;

@@ -20,7 +20,7 @@ fn tried(bytes: usize, place: usize, byte: u8, room: usize) -> Case {
 }
 
 // Four lines over and over: a program is asked for, given, and polled twice.
-fn sow(text: &mut [u8]) {
+fn pattern(text: &mut [u8]) {
     let four =
         b"W 1 0 12000 0010 40\nW 1 0 12000 0010 5A\nR 1 0 12000 0010 00\nR 1 0 12000 0010 00\n";
     let mut i = 0;
@@ -193,6 +193,6 @@ fn main() {
     let mut array = [255u8; 16384];
     let residue = [255u8; 16384];
     let mut out = [0u8; 80000];
-    sow(&mut text);
+    pattern(&mut text);
     all(&mut text, &mut array, &residue, &mut out);
 }

@@ -6,14 +6,14 @@ use Prim.Native.Nat.{ℕ, _+_, _≤_, _-_, min}
 use native.Mathlib.Omega.{arith}
 use lib.ListN.{length}
 use borrow.Rule.Slice.PartMut.{putMid, midOf, mid-len, same-len-mid}
-use Rattle.common.specs.Lists.{laid}
+use Rattle.common.specs.Lists.{overwritten}
 use Rattle.common.proofs.Lists.{copied-least}
-use Rattle.common.proofs.Pieces.{laid-piece}
+use Rattle.common.proofs.Pieces.{overwritten-piece}
 use Rattle.common.proofs.copy.Statement.{statement}
 use Rattle.common.proofs.copy.Tie as tie
 
 abbrev Inv-loop : tie.InvT-loop
-Inv-loop dst₀ src n i₀ dst i = (i ≤ n) × (n ≡ min (length dst₀) (length src)) × (dst ≡ laid i src dst₀) × (length dst ≡ length dst₀)
+Inv-loop dst₀ src n i₀ dst i = (i ≤ n) × (n ≡ min (length dst₀) (length src)) × (dst ≡ overwritten i src dst₀) × (length dst ≡ length dst₀)
 
 abbrev μ-loop : tie.MeasureT-loop
 μ-loop dst₀ src n i₀ dst i = n - i
@@ -71,8 +71,8 @@ returns c =
     let d = a .dst .now in
     ap (putMid (l .i) (n - l .i) (l .dst)) (p .ensures)
     ∙ ap (λ (x : List ℕ). putMid (l .i) (n - l .i) x (midOf (l .i) (n - l .i) s)) (l .inv .2)
-    ∙ laid-piece s d (l .i) n (omega arith) (omega arith)
-    ∙ ap (λ (k : ℕ). laid k s d) (l .inv .1)
+    ∙ overwritten-piece s d (l .i) n (omega arith) (omega arith)
+    ∙ ap (λ (k : ℕ). overwritten k s d) (l .inv .1)
     ∙ copied-least d s
 
 add-e : tie.Need-add-e Inv-loop μ-loop
@@ -120,7 +120,7 @@ loop-again c =
       l .inv .1,
       ap (putMid (l .i) (e - l .i) (l .dst)) (p .ensures)
           ∙ ap (λ (x : List ℕ). putMid (l .i) (e - l .i) x (midOf (l .i) (e - l .i) s)) (l .inv .2)
-          ∙ laid-piece s (a .dst .now) (l .i) e (omega arith) (omega arith),
+          ∙ overwritten-piece s (a .dst .now) (l .i) e (omega arith) (omega arith),
       same-len-mid (l .i) (e - l .i) (l .dst) (p .last .0) (p .kept .0) ∙ l .inv .3,
     )
 
@@ -132,7 +132,7 @@ returns-2 c =
     let l = c .before .loop in
     let a = c .before .before .before .before .before .args in
     let e : l .i ≡ min (length (a .dst .now)) (length (a .src .now)) = omega arith in
-    l .inv .2 ∙ ap (λ (n : ℕ). laid n (a .src .now) (a .dst .now)) e ∙ copied-least (a .dst .now) (a .src .now)
+    l .inv .2 ∙ ap (λ (n : ℕ). overwritten n (a .src .now) (a .dst .now)) e ∙ copied-least (a .dst .now) (a .src .now)
 
 pub copy-spec : {M : Type 1} → statement M
 copy-spec =

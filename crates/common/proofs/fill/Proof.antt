@@ -4,13 +4,13 @@ use mathlib.Core.List.{List}
 use Prim.Native.Nat.{ℕ, _≤_, _-_, _<_}
 use native.Mathlib.Omega.{arith}
 use lib.ListN.{length, replicate, set, length-set, length-replicate}
-use Rattle.common.specs.Lists.{laid}
-use Rattle.common.proofs.Lists.{laid-all, filled-more}
+use Rattle.common.specs.Lists.{overwritten}
+use Rattle.common.proofs.Lists.{overwritten-all, filled-more}
 use Rattle.common.proofs.fill.Statement.{statement}
 use Rattle.common.proofs.fill.Tie as tie
 
 abbrev Inv-loop : tie.InvT-loop
-Inv-loop s₀ b i₀ s i = (i ≤ length s₀) × (s ≡ laid i (replicate (length s₀) b) s₀) × (length s ≡ length s₀)
+Inv-loop s₀ b i₀ s i = (i ≤ length s₀) × (s ≡ overwritten i (replicate (length s₀) b) s₀) × (length s ≡ length s₀)
 
 abbrev μ-loop : tie.MeasureT-loop
 μ-loop s₀ b i₀ s i = length s₀ - i
@@ -44,7 +44,7 @@ returns c =
     let s = c .before .before .args .s .now in
     let b = c .before .before .args .b in
     let e : l .i ≡ length s = omega arith in
-    l .inv .1 ∙ ap (λ (n : ℕ). laid n (replicate (length s) b) s) e ∙ laid-all (replicate (length s) b) s (length-replicate (length s) b)
+    l .inv .1 ∙ ap (λ (n : ℕ). overwritten n (replicate (length s) b) s) e ∙ overwritten-all (replicate (length s) b) s (length-replicate (length s) b)
 
 pub fill-spec : {M : Type 1} → statement M
 fill-spec = tie.close (tie.spec Inv-loop μ-loop loop-holds slice-write-s add-i loop-less loop-again same-length returns)

@@ -6,7 +6,7 @@ use native.Mathlib.Omega.{arith}
 use borrow.Author.Needs.{needs}
 use lib.ListN.{length, take, drop}
 use borrow.Rule.Slice.PartMut.{same-len-mid, putMid, midOf}
-use Rattle.common.specs.Lists.{copied, laid}
+use Rattle.common.specs.Lists.{copied, overwritten}
 use lib.Seq.{drop-length}
 use Rattle.file_codec.specs.File.{placesOf}
 use Rattle.file_codec.proofs.Parts.{unpacked}
@@ -15,7 +15,7 @@ use Rattle.file_codec.proofs.unpack.Tie as tie
 
 abbrev Inv-loop : tie.InvT-loop
 Inv-loop out₀ file n size i₀ out i =
-    (i ≤ n) × (size ≡ length out₀) × (length out ≡ length out₀) × (out ≡ laid (min (505 * i) (length out₀)) (placesOf n file) out₀)
+    (i ≤ n) × (size ≡ length out₀) × (length out ≡ length out₀) × (out ≡ overwritten (min (505 * i) (length out₀)) (placesOf n file) out₀)
 
 abbrev μ-loop : tie.MeasureT-loop
 μ-loop out₀ file n size i₀ out i = n - i
@@ -24,7 +24,7 @@ loop-holds : tie.Need-loop-holds Inv-loop μ-loop
 loop-holds c =
     let a = c .before .before .args in
     let z : 0 ≡ min 0 (length (a .out .now)) = omega arith in
-    (omega arith, refl, refl, ap (λ (k : ℕ). laid k (placesOf (a .n) (a .file .now)) (a .out .now)) z)
+    (omega arith, refl, refl, ap (λ (k : ℕ). overwritten k (placesOf (a .n) (a .file .now)) (a .out .now)) z)
 
 mul-to : tie.Need-mul-to Inv-loop μ-loop
 mul-to c = omega arith
@@ -84,19 +84,19 @@ loop-again c =
     let d = m .least .result - 505 * i in
     let P = placesOf n f in
     let b : min (505 * i) (length s) ≡ 505 * i = omega arith in
-    let o : l .out ≡ laid (505 * i) P s = l .inv .3 ∙ ap (λ (k : ℕ). laid k P s) b in
+    let o : l .out ≡ overwritten (505 * i) P s = l .inv .3 ∙ ap (λ (k : ℕ). overwritten k P s) b in
     let w : 512 * i + 5 + 505 - (512 * i + 5) ≡ 505 = omega arith in
-    let y : p .last .0 ≡ copied (midOf (505 * i) d (laid (505 * i) P s)) (take 505 (drop (512 * i + 5) f)) =
+    let y : p .last .0 ≡ copied (midOf (505 * i) d (overwritten (505 * i) P s)) (take 505 (drop (512 * i + 5) f)) =
     p .ensures
     ∙ ap (λ (x : List ℕ). copied (midOf (505 * i) d x) (take (512 * i + 5 + 505 - (512 * i + 5)) (drop (512 * i + 5) f))) o
-    ∙ ap (λ (k : ℕ). copied (midOf (505 * i) d (laid (505 * i) P s)) (take k (drop (512 * i + 5) f))) w in
+    ∙ ap (λ (k : ℕ). copied (midOf (505 * i) d (overwritten (505 * i) P s)) (take k (drop (512 * i + 5) f))) w in
     let u : 505 * i + d ≡ min (505 * (i + 1)) (length s) = omega arith in (
       omega arith,
       refl,
       same-len-mid (505 * i) d (l .out) (p .last .0) (p .kept .0) ∙ l .inv .2,
       ap (λ (x : List ℕ). putMid (505 * i) d x (p .last .0)) o
           ∙ unpacked i n d f s (p .last .0) (omega arith) (omega arith) (omega arith) (omega arith) (omega arith) y
-          ∙ ap (λ (k : ℕ). laid k P s) u,
+          ∙ ap (λ (k : ℕ). overwritten k P s) u,
     )
 
 same-length : tie.Need-same-length Inv-loop μ-loop
@@ -109,7 +109,7 @@ returns c =
     let s = a .out .now in
     let P = placesOf (a .n) (a .file .now) in
     let m : min (505 * l .i) (length s) ≡ length s = omega arith in
-    l .inv .3 ∙ ap (λ (k : ℕ). laid k P s) m ∙ ap (λ (x : List ℕ). take (length s) P ++ x) (drop-length s) ∙ append-nil (take (length s) P)
+    l .inv .3 ∙ ap (λ (k : ℕ). overwritten k P s) m ∙ ap (λ (x : List ℕ). take (length s) P ++ x) (drop-length s) ∙ append-nil (take (length s) P)
 
 pub unpack-spec : {M : Type 1} → statement M
 unpack-spec =

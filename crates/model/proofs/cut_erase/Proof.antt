@@ -1,7 +1,7 @@
 use native.Mathlib.Omega.{arith}
 use Prim.Native.Nat.{_≤_}
 use lib.ListN.{length}
-use Rattle.model.proofs.Overlay.{inside, laid-over}
+use Rattle.model.proofs.Overlay.{inside, overwritten-over}
 use borrow.Author.Needs.{needs}
 use Rattle.model.proofs.cut_erase.Statement.{statement}
 use Rattle.model.proofs.cut_erase.Tie as tie
@@ -43,7 +43,7 @@ returns : tie.Need-returns
 returns c =
     let a = c .before .before .before .before .before .before .before .before .before .args in
     let h : c .before .before .before .before .before .length .result ≤ length (a .residue .now) = omega (arith, c .before .before .before .before .before .length .ensures, c .before .before .before .before .before .before .before .before .before .pre .1) in
-    laid-over (a .part) (a .k) (a .array .now) (c .before .before .before .before .before .before .start .result) (c .before .before .before .before .before .length .result) (c .before .before .before .before .before .before .start .ensures) (c .before .before .before .before .before .length .ensures) (c .before .before .before .before .before .before .before .before .before .pre .0) (a .residue .now) (c .before .before .copy .last .0) h (c .before .before .copy .ensures)
+    overwritten-over (a .part) (a .k) (a .array .now) (c .before .before .before .before .before .before .start .result) (c .before .before .before .before .before .length .result) (c .before .before .before .before .before .before .start .ensures) (c .before .before .before .before .before .length .ensures) (c .before .before .before .before .before .before .before .before .before .pre .0) (a .residue .now) (c .before .before .copy .last .0) h (c .before .before .copy .ensures)
 
 pub cut-erase-spec : {M : Type 1} → statement M
 cut-erase-spec =

@@ -4,7 +4,7 @@ use Rattle.common.proofs.Choice.{if-true, if-false}
 use Rattle.model_types.specs.declared.Settled.{Settled}
 use Rattle.model_types.specs.declared.Reply.the-variants.{Quiet}
 use Rattle.model_types.specs.Levels.{rpLow}
-use Rattle.model_rules.specs.Inner.{settledBy, arm, decideJudged}
+use Rattle.model_rules.specs.Inner.{settledBy, decideKind, decideJudged}
 use Rattle.model_rules.proofs.decide_judged.Statement.{statement}
 use Rattle.model_rules.proofs.decide_judged.Tie as tie
 
@@ -31,7 +31,7 @@ returns-2 : tie.Need-returns-2
 unfolding decideJudged
 returns-2 c =
     let a = c .before .before .before .before .before .before .args in
-    c .respond .ensures ∙ ap (λ (t : Settled). arm (a .c .kind) (a .d) (a .s) (a .c) t) (c .before .before .before .settle .ensures)
+    c .respond .ensures ∙ ap (λ (t : Settled). decideKind (a .c .kind) (a .d) (a .s) (a .c) t) (c .before .before .before .settle .ensures)
     ∙ sym (if-false (rpLow (a .c .pins)) _ _ (sym (c .before .before .rp-low .ensures) ∙ c .before .if1 .left))
 
 pub decide-judged-spec : {M : Type 1} → statement M

@@ -1,6 +1,6 @@
 use borrow.Author.Needs.{needs}
 use mathlib.Core.Path.{sym, _∙_}
-use Rattle.model_rules.specs.Inner.{arrayArm}
+use Rattle.model_rules.specs.Inner.{decideArray}
 use Rattle.model_rules.proofs.read_array.Statement.{statement}
 use Rattle.model_rules.proofs.read_array.Tie as tie
 
@@ -11,14 +11,14 @@ refused-requires : tie.Need-refused-requires
 refused-requires c κs = search needs
 
 returns : tie.Need-returns
-unfolding arrayArm
+unfolding decideArray
 returns c = simp (c .refused .ensures, sym (c .before .before .in-suspended .ensures) ∙ c .before .if1 .taken)
 
 given-requires : tie.Need-given-requires
 given-requires c κs = search needs
 
 returns-2 : tie.Need-returns-2
-unfolding arrayArm
+unfolding decideArray
 returns-2 c = simp (c .given .ensures, sym (c .before .before .in-suspended .ensures) ∙ c .before .if1 .left)
 
 pub read-array-spec : {M : Type 1} → statement M

@@ -1,6 +1,6 @@
 use borrow.Author.Needs.{needs}
 use borrow.Author.Tests.{lt-ltb, le-ltb}
-use Rattle.model_rules.specs.Inner.{identifierArm}
+use Rattle.model_rules.specs.Inner.{decideIdentifier}
 use Rattle.model_rules.proofs.read_identifier.Statement.{statement}
 use Rattle.model_rules.proofs.read_identifier.Tie as tie
 
@@ -8,7 +8,7 @@ refused-requires : tie.Need-refused-requires
 refused-requires c κs = search needs
 
 returns : tie.Need-returns
-unfolding identifierArm
+unfolding decideIdentifier
 returns c = simp (c .refused .ensures, lt-ltb _ _ (c .before .if1 .taken))
 
 identifier-requires : tie.Need-identifier-requires
@@ -18,7 +18,7 @@ given-requires : tie.Need-given-requires
 given-requires c κs = search needs
 
 returns-2 : tie.Need-returns-2
-unfolding identifierArm
+unfolding decideIdentifier
 returns-2 c = simp (c .given .ensures, c .before .identifier .ensures, le-ltb _ _ (c .before .before .if1 .left))
 
 pub read-identifier-spec : {M : Type 1} → statement M

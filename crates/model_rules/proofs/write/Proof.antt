@@ -1,6 +1,6 @@
 use borrow.Author.Needs.{needs}
 use mathlib.Core.Path.{sym, _∙_}
-use Rattle.model_rules.specs.Inner.{writeArm}
+use Rattle.model_rules.specs.Inner.{decideWrite}
 use Rattle.model_rules.proofs.write.Statement.{statement}
 use Rattle.model_rules.proofs.write.Tie as tie
 
@@ -11,14 +11,14 @@ refused-requires : tie.Need-refused-requires
 refused-requires c κs = search needs
 
 returns : tie.Need-returns
-unfolding writeArm
+unfolding decideWrite
 returns c = simp (c .refused .ensures, sym (c .before .before .is-refuse .ensures) ∙ c .before .if1 .taken)
 
 perform-requires : tie.Need-perform-requires
 perform-requires c κs = search needs
 
 returns-2 : tie.Need-returns-2
-unfolding writeArm
+unfolding decideWrite
 returns-2 c = simp (c .perform .ensures, sym (c .before .before .is-refuse .ensures) ∙ c .before .if1 .left)
 
 pub write-spec : {M : Type 1} → statement M

@@ -3,8 +3,8 @@ use Prim.Native.Nat.{_≤_, _-_}
 use mathlib.Core.Path.{_≡_}
 use borrow.Author.Needs.{needs}
 use lib.ListN.{length}
-use Rattle.vectors_trace.proofs.sow.Statement.{statement}
-use Rattle.vectors_trace.proofs.sow.Tie as tie
+use Rattle.vectors_trace.proofs.pattern.Statement.{statement}
+use Rattle.vectors_trace.proofs.pattern.Tie as tie
 
 abbrev Inv-loop : tie.InvT-loop
 Inv-loop text₀ four i₀ text i = (i ≤ length text₀) × (length text ≡ length text₀)
@@ -36,8 +36,8 @@ same-length c = search needs
 returns : tie.Need-returns Inv-loop μ-loop
 returns c = search needs
 
-pub sow-spec : {M : Type 1} → statement M
-sow-spec =
+pub pattern-spec : {M : Type 1} → statement M
+pattern-spec =
     tie.close
     (tie.spec
     Inv-loop

@@ -1,20 +1,20 @@
--- `rows::sow` meets its contract: after i turns the first i bytes are the pattern's, which goes on from v. Assumes nothing.
+-- `pattern` meets its contract: after i turns the first i bytes are the pattern's, which goes on from v. Assumes nothing.
 use mathlib.Core.Path.{_≡_, refl, sym, ap, _∙_}
 use mathlib.Core.List.{List}
 use Prim.Native.Nat.{ℕ, _+_, _-_, _%_, _≤_, _<_}
 use native.Mathlib.Omega.{arith}
 use native.Mathlib.Nat.{mod-lt}
 use lib.ListN.{length, drop, set, length-set}
-use Rattle.common.specs.Lists.{laid}
-use Rattle.common.proofs.Lists.{laid-more, laid-all}
-use Rattle.vectors_text.specs.Patterns.{sown, sownFrom}
-use Rattle.vectors_text.proofs.Patterns.{sown-length, sown-byte, sown-next}
-use Rattle.vectors_text.proofs.sow.Statement.{statement}
-use Rattle.vectors_text.proofs.sow.Tie as tie
+use Rattle.common.specs.Lists.{overwritten}
+use Rattle.common.proofs.Lists.{overwritten-more, overwritten-all}
+use Rattle.vectors_text.specs.Patterns.{patternOf, patternFrom}
+use Rattle.vectors_text.proofs.Patterns.{pattern-length, pattern-byte, pattern-next}
+use Rattle.vectors_text.proofs.pattern.Statement.{statement}
+use Rattle.vectors_text.proofs.pattern.Tie as tie
 
 abbrev Inv-loop : tie.InvT-loop
 Inv-loop s₀ top first step m d v₀ i₀ s v i =
-    (v < m) × (i ≤ length s₀) × (length s ≡ length s₀) × (s ≡ laid i (sownFrom m d (length s₀) v₀) s₀) × (drop i (sownFrom m d (length s₀) v₀) ≡ sownFrom m d (length s₀ - i) v)
+    (v < m) × (i ≤ length s₀) × (length s ≡ length s₀) × (s ≡ overwritten i (patternFrom m d (length s₀) v₀) s₀) × (drop i (patternFrom m d (length s₀) v₀) ≡ patternFrom m d (length s₀ - i) v)
 
 abbrev μ-loop : tie.MeasureT-loop
 μ-loop s₀ top first step m d v₀ i₀ s v i = length s₀ - i
@@ -33,7 +33,7 @@ loop-holds c =
     let a = c .args in
     let n = length (a .s .now) in
     let e : n ≡ n - 0 = omega arith in
-    (mod-lt _ (omega arith), omega arith, refl, refl, ap (λ (k : ℕ). sownFrom (a .top + 1) (a .step % (a .top + 1)) k (a .first % (a .top + 1))) e)
+    (mod-lt _ (omega arith), omega arith, refl, refl, ap (λ (k : ℕ). patternFrom (a .top + 1) (a .step % (a .top + 1)) k (a .first % (a .top + 1))) e)
 
 cast-s : tie.Need-cast-s Inv-loop μ-loop
 cast-s c = omega arith
@@ -61,30 +61,30 @@ loop-again c =
     let n = length s in
     let m = a .top + 1 in
     let d = a .step % m in
-    let zs = sownFrom m d n (a .first % m) in
+    let zs = patternFrom m d n (a .first % m) in
     let h : l .i < length s = omega arith in (
       mod-lt _ (omega arith),
       omega arith,
       length-set (l .s) (l .i) (l .v % 256) ∙ l .inv .2,
       ap (λ (x : List ℕ). set x (l .i) (l .v % 256)) (l .inv .3)
-          ∙ ap (λ (b : ℕ). set (laid (l .i) zs s) (l .i) b) (sym (sown-byte m d (l .v) n (l .i) zs h (l .inv .4)))
-          ∙ laid-more zs s (l .i) (rw (sown-length m d n (a .first % m)) h) h,
-      sown-next m d (l .v) n (l .i) zs h (l .inv .4),
+          ∙ ap (λ (b : ℕ). set (overwritten (l .i) zs s) (l .i) b) (sym (pattern-byte m d (l .v) n (l .i) zs h (l .inv .4)))
+          ∙ overwritten-more zs s (l .i) (rw (pattern-length m d n (a .first % m)) h) h,
+      pattern-next m d (l .v) n (l .i) zs h (l .inv .4),
     )
 
 same-length : tie.Need-same-length Inv-loop μ-loop
 same-length c = c .before .loop .inv .2
 
 returns : tie.Need-returns Inv-loop μ-loop
-unfolding sown
+unfolding patternOf
 returns c =
     let l = c .before .loop in
     let a = c .before .before .args in
     let s = a .s .now in
     let m = a .top + 1 in
-    let zs = sownFrom m (a .step % m) (length s) (a .first % m) in
+    let zs = patternFrom m (a .step % m) (length s) (a .first % m) in
     let e : l .i ≡ length s = omega arith in
-    l .inv .3 ∙ ap (λ (n : ℕ). laid n zs s) e ∙ laid-all zs s (sown-length m (a .step % m) (length s) (a .first % m))
+    l .inv .3 ∙ ap (λ (n : ℕ). overwritten n zs s) e ∙ overwritten-all zs s (pattern-length m (a .step % m) (length s) (a .first % m))
 
-pub sow-spec : {M : Type 1} → statement M
-sow-spec = tie.close (tie.spec Inv-loop μ-loop add-m rem-d rem-v loop-holds cast-s slice-write-s add-v rem-v-2 add-i loop-less loop-again same-length returns)
+pub pattern-spec : {M : Type 1} → statement M
+pattern-spec = tie.close (tie.spec Inv-loop μ-loop add-m rem-d rem-v loop-holds cast-s slice-write-s add-v rem-v-2 add-i loop-less loop-again same-length returns)

@@ -24,8 +24,8 @@ use Rattle.model_types.specs.States.{isArray, isIdentifier}
 use Rattle.model_rules.specs.Cycles.{noCommand, suspendedRead, codePlace, noIdentifier, judgeOf, lateOf, replyTo, respondOf, refusedBy, acceptOf, decideOf}
 use Rattle.model_types.specs.Phases.{isSuspended}
 use Rattle.model_types.specs.Kinds.{isRead, isWrite}
-use Rattle.model_rules.specs.Inner.{settledBy, inSuspended, arrayArm, identifierArm, readArm, writeArm, arm}
-use Rattle.model_rules.proofs.Ways.{number-late, refused, accepted}
+use Rattle.model_rules.specs.Inner.{settledBy, inSuspended, decideArray, decideIdentifier, decideRead, decideWrite, decideKind}
+use Rattle.model_rules.proofs.Cases.{number-late, refused, accepted}
 
 and-all : (x : Bool) → (x && true) ≡ x
 and-all true = refl
@@ -99,30 +99,30 @@ module _ (d : Device) (s : State) (c : Cycle) (array residue : ℕ) (z : judgeOf
 
   module _ (r : rpLow (c .pins) ≡ false) where
     -- a write
-    by-write : c .kind ≡ Write → decideOf d s c array residue ≡ arm Write d s c t
-    unfolding writeArm
+    by-write : c .kind ≡ Write → decideOf d s c array residue ≡ decideKind Write d s c t
+    unfolding decideWrite
     by-write k = by-one 7 _ (isRefuse (actionOf (d .part) (t .state .phase) (commandOf c))) late (λ q. omega arith) r (ap (λ (x : Kind). respondOf x d c t) k)
       where
         late : lateOf (d .part) (t .state) c ≡ (if isRefuse (actionOf (d .part) (t .state .phase) (commandOf c)) then 7 else 0)
         late = number-write d c (t .state) k r
 
-    by-idle : c .kind ≡ Idle → decideOf d s c array residue ≡ arm Idle d s c t
+    by-idle : c .kind ≡ Idle → decideOf d s c array residue ≡ decideKind Idle d s c t
     by-idle k = by-one 7 _ false (number-idle d c (t .state) k) (λ q. omega arith) r (ap (λ (x : Kind). respondOf x d c t) k)
 
     reads : {m : Mode} → c .kind ≡ Read → t .state .mode ≡ m → respondOf (c .kind) d c t ≡ settledBy (replyTo m (d .part) (c .address) (t .state .status)) t
     reads k e = ap (λ (x : Kind). respondOf x d c t) k ∙ ap (λ (x : Mode). settledBy (replyTo x (d .part) (c .address) (t .state .status)) t) e
 
     -- a read, by mode
-    by-read : (m : Mode) → t .state .mode ≡ m → c .kind ≡ Read → decideOf d s c array residue ≡ readArm m (d .part) s c t
-    unfolding arrayArm identifierArm
+    by-read : (m : Mode) → t .state .mode ≡ m → c .kind ≡ Read → decideOf d s c array residue ≡ decideRead m (d .part) s c t
+    unfolding decideArray decideIdentifier
     by-read Array e k = by-one 8 _ (inSuspended (d .part) (t .state) (c .address)) (number-array d c (t .state) k r e) (λ q. omega arith) r (reads k e)
     by-read Status e k = by-one 8 _ false (number-status d c (t .state) k r e) (λ q. omega arith) r (reads k e)
     by-read Identifier e k = by-one 9 _ (ltb 1 (codePlace (d .part) (c .address))) (number-identifier d c (t .state) k r e) (λ q. omega arith) r (reads k e)
 
-    pub by-arms : decideOf d s c array residue ≡ arm (c .kind) d s c t
-    by-arms = go (c .kind) refl
+    pub by-kinds : decideOf d s c array residue ≡ decideKind (c .kind) d s c t
+    by-kinds = go (c .kind) refl
       where
-        go : (k : Kind) → c .kind ≡ k → decideOf d s c array residue ≡ arm k d s c t
+        go : (k : Kind) → c .kind ≡ k → decideOf d s c array residue ≡ decideKind k d s c t
         go Read e = by-read (t .state .mode) refl e
         go Write e = by-write e
         go Idle e = by-idle e
