@@ -22,12 +22,25 @@ typedef struct {
     tb_sized (*write)(uint8_t, const uint8_t *, size_t, uint8_t *, size_t);
     tb_sized (*read)(uint8_t, const uint8_t *, size_t, uint8_t *, size_t);
     uint16_t (*check)(const uint8_t *, size_t);
+    uint16_t (*sums)(const uint8_t *, size_t);
 } maker;
 
+/* The check as the library works it out: running sums from the last byte on, nothing multiplied. */
+static uint16_t c_running_sums(const uint8_t *block, size_t n) {
+    uint32_t sum = 0, total = 1;
+    for (size_t i = n < 510 ? n : 510; i-- > 0;) {
+        sum += block[i];
+        sum -= sum >= 65521 ? 65521 : 0;
+        total += sum;
+        total -= total >= 65521 ? 65521 : 0;
+    }
+    return (uint16_t)total;
+}
+
 static const maker proved = {tb_size, tb_block, tb_fresh, tb_cycle, tb_start, tb_step, tb_run, tb_load, tb_file_write,
-                             tb_file_read, tb_block_check};
+                             tb_file_read, tb_block_check, tb_block_check};
 static const maker second = {c_size, c_block, c_fresh, c_cycle, c_start, c_step, c_run, c_load, c_file_write, c_file_read,
-                             c_block_check};
+                             c_block_check, c_running_sums};
 
 /* What the work is done on; `ready` of a row sets it, and all of it is compared after the row. It stands at the start of a page,
  * since the C library's copies go different ways for different addresses. */
@@ -199,6 +212,10 @@ static void work_read(const maker *m) {
     for (int t = 0; t < TURNS; t++)
         at.sum += (uint32_t)m->read('K', at.file, at.sized.length, at.back, sizeof at.back).length;
 }
+static void work_sums(const maker *m) {
+    for (int t = 0; t < TURNS; t++)
+        at.sum += m->sums(at.file, 510);
+}
 static void work_check(const maker *m) {
     for (int t = 0; t < TURNS; t++)
         at.sum += m->check(at.file, 510);
@@ -238,6 +255,7 @@ static const struct {
     {"reader: one block", 505, TURNS, ready_file, work_read, NULL},
     {"reader: eight blocks", 4040, TURNS, ready_file, work_read, NULL},
     {"check of 510 bytes", 505, TURNS, ready_file, work_check, NULL},
+    {"check of 510 bytes, the C by running sums too", 505, TURNS, ready_file, work_sums, NULL},
 };
 
 /* A number over everything that the work left. Structs have padding, so it goes field by field. */

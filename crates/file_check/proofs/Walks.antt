@@ -1,10 +1,10 @@
--- One turn of the check's loop, as a law about its list. Assumes nothing.
+-- Running sums and the weighted sum, over any list. Assumes nothing.
 use mathlib.Core.Path.{_≡_, sym, _∙_, ap}
-use mathlib.Core.List.{List, _∷_}
-use Prim.Native.Nat.{ℕ, _+_, _*_, _≤_, _<_}
+use mathlib.Core.List.{List, [], _∷_}
+use Prim.Native.Nat.{ℕ, suc, _+_, _*_, _<_}
 use native.Mathlib.Omega.{arith}
+use native.Mathlib.Nat.{add-mul, one-mul}
 use native.Mathlib.Numerals.{add-one}
-use native.Mathlib.Nat.{mul-le-mul}
 use lib.ListN.{length, getD, drop}
 use lib.Seq.{drop-cons}
 use Rattle.file_check.specs.Check.{wsum}
@@ -13,10 +13,26 @@ use Rattle.file_check.specs.Check.{wsum}
 pub from-here : (s : List ℕ) (i : ℕ) → i < length s → drop i s ≡ getD s i 0 ∷ drop (i + 1) s
 from-here s i h = rw (add-one i) (drop-cons s i 0 h)
 
--- a weighted sum: one byte more is counted
-pub counted : (w : ℕ) (s : List ℕ) (i : ℕ) → i < length s → wsum w (drop i s) ≡ w * getD s i 0 + wsum (w + 1) (drop (i + 1) s)
-counted w s i h = ap (wsum w) (from-here s i h) ∙ ap (λ (k : ℕ). w * getD s i 0 + wsum k (drop (i + 1) s)) (sym (add-one w))
+-- the numbers of a list added up
+abbrev pub sumOf : List ℕ → ℕ
+sumOf [] = 0
+sumOf (x ∷ xs) = x + sumOf xs
 
--- a byte times a weight up to 510
-pub weighed : (w x : ℕ) → w ≤ 510 → x < 256 → w * x ≤ 130050
-weighed w x h k = let m : w * x ≤ 510 * 255 = mul-le-mul h (let q : x ≤ 255 = omega arith in q) in m
+-- every weight one more: the plain sum more
+pub running : (k : ℕ) (xs : List ℕ) → wsum (suc k) xs ≡ wsum k xs + sumOf xs
+running k [] = omega arith
+running k (x ∷ xs) =
+    let e : suc k * x ≡ k * x + x = ap (λ (m : ℕ). m * x) (sym (add-one k)) ∙ add-mul k 1 x ∙ ap (λ (m : ℕ). k * x + m) (one-mul x) in
+    let r : wsum (suc (suc k)) xs ≡ wsum (suc k) xs + sumOf xs = running (suc k) xs in
+    let q : suc k * x + wsum (suc (suc k)) xs ≡ (k * x + wsum (suc k) xs) + (x + sumOf xs) = omega arith in q
+
+-- one number more in front: the new sum is added to the weighted one
+pub one-more : (s : List ℕ) (i : ℕ) → i < length s → wsum 1 (drop i s) ≡ wsum 1 (drop (i + 1) s) + sumOf (drop i s)
+one-more s i h =
+    ap (wsum 1) (from-here s i h)
+    ∙ (let r : wsum 2 (drop (i + 1) s) ≡ wsum 1 (drop (i + 1) s) + sumOf (drop (i + 1) s) = running 1 (drop (i + 1) s) in
+    let q : 1 * getD s i 0 + wsum 2 (drop (i + 1) s) ≡ wsum 1 (drop (i + 1) s) + (getD s i 0 + sumOf (drop (i + 1) s)) = omega arith in q)
+    ∙ ap (λ (x : List ℕ). wsum 1 (drop (i + 1) s) + sumOf x) (sym (from-here s i h))
+
+pub sum-more : (s : List ℕ) (i : ℕ) → i < length s → sumOf (drop i s) ≡ getD s i 0 + sumOf (drop (i + 1) s)
+sum-more s i h = ap sumOf (from-here s i h)

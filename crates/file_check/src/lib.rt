@@ -1,23 +1,45 @@
 // The check that seals a block, and numbers of two bytes. Each function takes any input.
 ghost use mathlib.Core.Path.{_≡_};
-ghost use Prim.Native.Nat.{_<_};
-ghost use lib.ListN.{take};
+ghost use Prim.Native.Nat.{_<_, _%_};
+ghost use lib.ListN.{length, getD, take};
 ghost use Rattle.file_check.specs.Check.{checkOf, checkFault, pair};
 
-// The check over the first 510 bytes, or over all where there are fewer.
+// A sum below twice 65,521, brought below 65,521 by one subtraction.
+fn lowered(x: u32) -> u32
+    requires { ⌜ x < 131042 ⌝ }
+    ensures { λ r. ⌜ r ≡ x % 65521 ⌝ }
+{
+    if 65521 <= x {
+        return x - 65521;
+    }
+    x
+}
+
+// A byte of the block as a number to add.
+fn byte_at(block: &[u8], place: usize) -> u32
+    requires { ⌜ place < length (now block) ⌝ }
+    ensures { λ r. ⌜ (r ≡ getD (now (block .entry)) place 0) × (r < 256) ⌝ }
+{
+    block[place] as u32
+}
+
+// The check over the first 510 bytes, or over all where there are fewer, by running sums. From the last byte to the first, `sum` is
+// the bytes met so far added up, and `total` is 1 and all these sums: so byte i counts i + 1 times, and nothing is multiplied.
 pub fn check(block: &[u8]) -> u16
     ensures { λ r. ⌜ r ≡ checkOf (take 510 (now (block .entry))) ⌝ }
 {
     let n = common::least(block.len(), 510);
-    let mut sum: u32 = 1;
-    let mut weight: u32 = 1;
-    let mut i = 0;
-    while i < n {
-        sum += weight * (block[i] as u32);
-        weight += 1;
-        i += 1;
+    let mut sum: u32 = 0;
+    let mut total: u32 = 1;
+    let mut place = n;
+    let mut met = 0;
+    while met < n {
+        place -= 1;
+        sum = lowered(sum + byte_at(block, place));
+        total = lowered(total + sum);
+        met += 1;
     }
-    (sum % 65521) as u16
+    total as u16
 }
 
 // Two bytes as one number, the high byte first.
