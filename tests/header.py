@@ -82,7 +82,7 @@ for name in sorted(header_functions.keys() & code_functions.keys()):
     same(f"function {name}", header_functions[name], code_functions[name])
 
 # numbers of the variants, as the border's definitions have them
-border = text("*/specs/Twins.antt") + text("*/specs/Answers.antt") + text("*/specs/Records.antt")
+border = text("*/specs/Values.antt") + text("*/specs/Answers.antt") + text("*/specs/Records.antt")
 for function, prefix in (("modeOut", "TB_MODE_"), ("phaseOut", "TB_"), ("kindOut", "TB_CYCLE_"), ("stageOut", "TB_"), ("seenOut", "TB_")):
     clauses = re.findall(rf"^{function} \(?([A-Z]\w*)[^=\n]*= (\d+)$", border, re.M)
     if not clauses:

@@ -18,7 +18,7 @@ use Rattle.model_types.specs.declared.Phase.the-variants.{Free, EraseAwaited, D
 use Rattle.model_types.specs.declared.State.{State}
 use Rattle.model_types.specs.States.{atRest, freshState, proper, improper}
 use Rattle.model_types.specs.Levels.{badPins, badOe, badLevels}
-use Rattle.c_cycle.specs.Twins.{modeIn, modeOut, phaseIn, phaseOut, byteOut, noState, stateIn, stateOut, kindIn, kindOut, oeIn, cycleIn, cycleOut}
+use Rattle.c_cycle.specs.Values.{modeIn, modeOut, phaseIn, phaseOut, byteOut, noState, stateIn, stateOut, kindIn, kindOut, oeIn, cycleIn, cycleOut}
 use Rattle.c_cycle.specs.Answers.{stateBack}
 use Rattle.c_cycle.specs.declared.StateNumbers.{StateNumbers}
 use Rattle.c_cycle.specs.declared.BusNumbers.{BusNumbers}

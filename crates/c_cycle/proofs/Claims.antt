@@ -9,7 +9,7 @@ use Rattle.model_types.specs.declared.Cycle.{Cycle}
 use Rattle.model_types.specs.declared.State.{State}
 use Rattle.model_types.specs.States.{improper}
 use Rattle.model_types.specs.Levels.{badLevels}
-use Rattle.c_cycle.specs.Twins.{deviceIn, deviceOut, noState, stateIn, stateOut, cycleIn, cycleOut}
+use Rattle.c_cycle.specs.Values.{deviceIn, deviceOut, noState, stateIn, stateOut, cycleIn, cycleOut}
 use Rattle.c_cycle.specs.declared.DeviceNumbers.{DeviceNumbers}
 use Rattle.c_cycle.specs.declared.StateNumbers.{StateNumbers}
 use Rattle.c_cycle.specs.declared.BusNumbers.{BusNumbers}

@@ -9,7 +9,7 @@ use Rattle.model_types.specs.declared.Cycle.{Cycle}
 use Rattle.model_types.specs.declared.Phase.{Phase}
 use Rattle.model_types.specs.declared.State.{State}
 use Rattle.model.specs.declared.Answer.{Answer}
-use Rattle.c_cycle.specs.Twins.{deviceIn, pinsIn, phaseIn, stateIn, stateOut, cycleIn, cycleOut}
+use Rattle.c_cycle.specs.Values.{deviceIn, pinsIn, phaseIn, stateIn, stateOut, cycleIn, cycleOut}
 use Rattle.c_cycle.specs.Answers.{stateBack, answerOut}
 use Rattle.c_cycle.specs.declared.DeviceNumbers.{DeviceNumbers}
 use Rattle.c_cycle.specs.declared.StateNumbers.{StateNumbers}

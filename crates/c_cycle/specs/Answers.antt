@@ -5,7 +5,7 @@ use Rattle.model_types.specs.declared.State.{State}
 use Rattle.model.specs.declared.Seen.{Seen}
 use Rattle.model.specs.declared.Seen.the-variants.{NoData, Byte, Refused}
 use Rattle.model.specs.declared.Answer.{Answer}
-use Rattle.c_cycle.specs.Twins.{stateOut, noState}
+use Rattle.c_cycle.specs.Values.{stateOut, noState}
 use Rattle.c_cycle.specs.declared.StateNumbers.{StateNumbers}
 use Rattle.c_cycle.specs.declared.AnswerNumbers.{AnswerNumbers}
 

@@ -1,2 +1,2 @@
-pub mod Twins
+pub mod Values
 pub mod Answers

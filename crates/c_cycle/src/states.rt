@@ -14,7 +14,7 @@ use model_types::Phase;
 use model_types::Pins;
 use model_types::State;
 ghost use mathlib.Core.Path.{_≡_};
-ghost use Rattle.c_cycle.specs.Twins.{deviceIn, pinsIn, modeIn, modeOut, phaseIn, phaseOut, byteOut, noState, stateIn, stateOut, kindIn, kindOut, oeIn, cycleIn, cycleOut};
+ghost use Rattle.c_cycle.specs.Values.{deviceIn, pinsIn, modeIn, modeOut, phaseIn, phaseOut, byteOut, noState, stateIn, stateOut, kindIn, kindOut, oeIn, cycleIn, cycleOut};
 ghost use Rattle.c_cycle.specs.Answers.{stateBack, seenOut, valueOut, answerOut};
 
 // Modes as numbers.

@@ -17,7 +17,7 @@ use Rattle.loader.specs.declared.Turn.the-variants.{Barred}
 use Rattle.loader_steps.specs.Front.{stepGiven, scratchAfter}
 use Rattle.loader_run.specs.Runs.{runNumber, ranOf, bytesOf, scratchOf}
 use Rattle.loader_from_file.specs.Loads.{loadNumber, loadedOf, bytesLoaded, wantedLoaded, scratchLoaded}
-use Rattle.c_cycle.specs.Twins.{deviceIn, deviceOut, pinsIn, noState, stateIn, stateOut, cycleOut}
+use Rattle.c_cycle.specs.Values.{deviceIn, deviceOut, pinsIn, noState, stateIn, stateOut, cycleOut}
 use Rattle.c_records.specs.Records.{noRecord, loaderIn, loaderOut, turnOut}
 use Rattle.c_cycle.specs.Answers.{seenOut, valueOut}
 use Rattle.c_functions.specs.Calls.{cycled, arrayCycled, steppedOf, scratchStepped, runOf, arrayRun, scratchRun, loadOf, arrayLoad, wantedLoad, scratchLoad, writtenOf, fileLeft, fileRead, payloadLeft, ranNumbers}

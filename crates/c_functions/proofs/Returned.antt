@@ -31,7 +31,7 @@ use Rattle.loader_run.proofs.Leaving.{left-refused}
 use Rattle.loader_from_file.specs.Loads.{loadRows, loadNumber, loadedOf, bytesLoaded, wantedLoaded, scratchLoaded}
 use Rattle.loader_from_file.proofs.Leaving as load-leaving
 use Rattle.file_codec.specs.File.{Outcome, refused, made, limit, inRoom, leftIn, readerOf, writerOf, readAs, writtenAs}
-use Rattle.c_cycle.specs.Twins.{deviceIn, pinsIn, noState, stateIn, stateOut, cycleIn, cycleOut, deviceOut}
+use Rattle.c_cycle.specs.Values.{deviceIn, pinsIn, noState, stateIn, stateOut, cycleIn, cycleOut, deviceOut}
 use Rattle.c_records.specs.Records.{noRecord, loaderIn, loaderOut, loaderBack, turnOut, ranOut, writtenOut, readOut}
 use Rattle.c_cycle.specs.Answers.{stateBack, seenOut, valueOut, answerOut}
 use Rattle.c_functions.specs.Calls.{cycled, arrayCycled, steppedOf, scratchStepped, runOf, arrayRun, scratchRun, loadOf, arrayLoad, wantedLoad, scratchLoad, writtenOf, fileLeft, fileRead, payloadLeft, ranNumbers}

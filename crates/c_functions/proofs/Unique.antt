@@ -7,7 +7,7 @@ use Rattle.common.specs.Choice.{Unique}
 use Rattle.common.proofs.Choice.{only}
 use Rattle.model_types.specs.States.{freshState}
 use Rattle.file_check.specs.Check.{checkOf}
-use Rattle.c_cycle.specs.Twins.{stateOut}
+use Rattle.c_cycle.specs.Values.{stateOut}
 use Rattle.c_records.specs.declared.BlockNumbers.{BlockNumbers}
 use Rattle.c_functions.specs.Geometry.{sizeGiven, blockGiven}
 use Rattle.c_functions.specs.Calls.{cycled, arrayCycled, started, steppedOf, scratchStepped, runOf, arrayRun, scratchRun, loadOf, arrayLoad, wantedLoad, scratchLoad, writtenOf, fileLeft, fileRead, payloadLeft}

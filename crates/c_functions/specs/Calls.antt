@@ -8,7 +8,7 @@ use Rattle.loader_run.specs.declared.Ran.{Ran}
 use Rattle.loader_run.specs.Runs.{ranOf, bytesOf, scratchOf}
 use Rattle.loader_from_file.specs.Loads.{loadedOf, bytesLoaded, wantedLoaded, scratchLoaded}
 use Rattle.file_codec.specs.File.{limit, inRoom, leftIn, readerOf, writerOf, readAs, writtenAs}
-use Rattle.c_cycle.specs.Twins.{stateOut, deviceIn, pinsIn, stateIn, cycleIn}
+use Rattle.c_cycle.specs.Values.{stateOut, deviceIn, pinsIn, stateIn, cycleIn}
 use Rattle.c_records.specs.Records.{loaderIn, loaderOut, loaderBack, turnOut, writtenOut, readOut, ranOut}
 use Rattle.c_cycle.specs.Answers.{answerOut}
 use Rattle.c_cycle.specs.declared.DeviceNumbers.{DeviceNumbers}

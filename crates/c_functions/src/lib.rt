@@ -15,7 +15,7 @@ ghost use mathlib.Core.Path.{_≡_};
 ghost use lib.ListN.{take};
 ghost use Rattle.model_types.specs.States.{freshState};
 ghost use Rattle.file_check.specs.Check.{checkOf};
-ghost use Rattle.c_cycle.specs.Twins.{stateOut};
+ghost use Rattle.c_cycle.specs.Values.{stateOut};
 ghost use Rattle.c_functions.specs.Geometry.{sizeGiven, blockGiven};
 ghost use Rattle.c_functions.specs.Calls.{cycled, arrayCycled, started, steppedOf, scratchStepped, runOf, arrayRun, scratchRun, loadOf, arrayLoad, wantedLoad, scratchLoad, writtenOf, fileLeft, fileRead, payloadLeft};
 

@@ -17,7 +17,7 @@ use Rattle.file_codec.specs.declared.Written.{Written}
 use Rattle.file_codec.specs.declared.Written.the-variants.{Wrote, NotWritten}
 use Rattle.file_codec.specs.declared.ReadBack.{ReadBack}
 use Rattle.file_codec.specs.declared.ReadBack.the-variants.{Gave, NotRead}
-use Rattle.c_cycle.specs.Twins.{cycleOut, pinsIn}
+use Rattle.c_cycle.specs.Values.{cycleOut, pinsIn}
 use Rattle.c_records.specs.declared.TurnNumbers.{TurnNumbers}
 use Rattle.c_records.specs.declared.RanNumbers.{RanNumbers}
 use Rattle.c_records.specs.declared.SizedNumbers.{SizedNumbers}

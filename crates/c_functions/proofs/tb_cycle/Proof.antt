@@ -2,7 +2,7 @@ use borrow.Author.Needs.{needs}
 use mathlib.Core.Path.{_≡_, ap, _∙_}
 use Rattle.model.specs.declared.Answer.{Answer}
 use Rattle.model.specs.Arrays.{answerOf, arrayAfter}
-use Rattle.c_cycle.specs.Twins.{deviceIn, stateIn, cycleIn}
+use Rattle.c_cycle.specs.Values.{deviceIn, stateIn, cycleIn}
 use Rattle.c_cycle.specs.Answers.{answerOut}
 use Rattle.c_functions.specs.Calls.{cycled, arrayCycled}
 use Rattle.c_functions.proofs.tb_cycle.Statement.{statement}

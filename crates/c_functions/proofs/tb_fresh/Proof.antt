@@ -1,7 +1,7 @@
 use borrow.Author.Needs.{needs}
 use mathlib.Core.Path.{ap, _∙_}
 use Rattle.model_types.specs.declared.State.{State}
-use Rattle.c_cycle.specs.Twins.{stateOut}
+use Rattle.c_cycle.specs.Values.{stateOut}
 use Rattle.c_functions.proofs.tb_fresh.Statement.{statement}
 use Rattle.c_functions.proofs.tb_fresh.Tie as tie
 

@@ -3,7 +3,7 @@ use mathlib.Core.Path.{_≡_, ap, _∙_}
 use Rattle.model_types.specs.declared.Pins.{Pins}
 use Rattle.loader.specs.declared.Given.{Given}
 use Rattle.loader_steps.specs.Front.{startGiven}
-use Rattle.c_cycle.specs.Twins.{pinsIn}
+use Rattle.c_cycle.specs.Values.{pinsIn}
 use Rattle.c_records.specs.Records.{loaderOut, turnOut}
 use Rattle.c_functions.specs.Calls.{started}
 use Rattle.c_functions.proofs.tb_start.Statement.{statement}

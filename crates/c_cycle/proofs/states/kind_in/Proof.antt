@@ -1,5 +1,5 @@
 use borrow.Author.Tests.{eq-eqb, ne-eqb}
-use Rattle.c_cycle.specs.Twins.{kindIn}
+use Rattle.c_cycle.specs.Values.{kindIn}
 use Rattle.c_cycle.proofs.states.kind_in.Statement.{statement}
 use Rattle.c_cycle.proofs.states.kind_in.Tie as tie
 

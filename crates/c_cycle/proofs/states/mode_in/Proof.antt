@@ -1,5 +1,5 @@
 use borrow.Author.Tests.{eq-eqb, ne-eqb}
-use Rattle.c_cycle.specs.Twins.{modeIn}
+use Rattle.c_cycle.specs.Values.{modeIn}
 use Rattle.c_cycle.proofs.states.mode_in.Statement.{statement}
 use Rattle.c_cycle.proofs.states.mode_in.Tie as tie
 

@@ -1,5 +1,5 @@
 use mathlib.Core.Path.{refl}
-use Rattle.c_cycle.specs.Twins.{noState}
+use Rattle.c_cycle.specs.Values.{noState}
 use Rattle.c_cycle.proofs.states.no_state.Statement.{statement}
 use Rattle.c_cycle.proofs.states.no_state.Tie as tie
 

@@ -1,5 +1,5 @@
 use borrow.Author.Tests.{lt-ltb, le-ltb}
-use Rattle.c_cycle.specs.Twins.{oeIn}
+use Rattle.c_cycle.specs.Values.{oeIn}
 use Rattle.c_cycle.proofs.states.oe_in.Statement.{statement}
 use Rattle.c_cycle.proofs.states.oe_in.Tie as tie
 

@@ -1,5 +1,5 @@
 use borrow.Author.Tests.{eq-eqb, ne-eqb}
-use Rattle.c_cycle.specs.Twins.{phaseIn}
+use Rattle.c_cycle.specs.Values.{phaseIn}
 use Rattle.c_cycle.proofs.states.phase_in.Statement.{statement}
 use Rattle.c_cycle.proofs.states.phase_in.Tie as tie
 

@@ -1,6 +1,6 @@
 use borrow.Author.Needs.{needs}
 use mathlib.Core.Path.{sym, _∙_}
-use Rattle.c_cycle.specs.Twins.{stateIn}
+use Rattle.c_cycle.specs.Values.{stateIn}
 use Rattle.c_cycle.proofs.states.state_in.Statement.{statement}
 use Rattle.c_cycle.proofs.states.state_in.Tie as tie
 
