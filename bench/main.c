@@ -82,7 +82,7 @@ static const tb_bus mix[] = {
 enum { MIXED = sizeof mix / sizeof mix[0] };
 
 static void part(uint8_t number, uint16_t p, uint16_t e) {
-    at.device = (tb_device){number, p, e};
+    at.device = (tb_device){number, p, e, 1};
     at.state = (tb_state){0, 0x80, 0, 0, 0, 0};
     specks(at.array, sizeof at.array);
 }
@@ -159,7 +159,7 @@ static void ready_steps(void) {
     tb_turn turn = at.given.turn;
     tb_loader loader = at.given.loader;
     for (size_t i = 0; i < STEPS; i++) {
-        tb_answer a = c_cycle((tb_device){3, 1, 1}, state, turn.cycle, at.array, 16384, NULL, 0);
+        tb_answer a = c_cycle((tb_device){3, 1, 1, 1}, state, turn.cycle, at.array, 16384, NULL, 0);
         state = a.state;
         fed[i] = a.value;
         turn = c_step(&loader, a.value, at.wanted, size, at.scratch, size);
