@@ -14,7 +14,7 @@ use Rattle.device.proofs.Claims.{blocks-end-inside}
 use Rattle.model_types.specs.declared.Pins.{Pins}
 use Rattle.model_types.specs.declared.Kind.{Kind}
 use Rattle.model_types.specs.declared.Phase.{Phase}
-use Rattle.model_types.specs.declared.Phase.the-variants.{Free, EraseAwaited, DataAwaited, Programming, Erasing, Suspended}
+use Rattle.model_types.specs.declared.Phase.the-variants.{Free, EraseAwaited, DataAwaited, Programming, Erasing, Suspending, Suspended}
 use Rattle.model_types.specs.declared.State.{State}
 use Rattle.model_types.specs.declared.Cycle.{Cycle}
 use Rattle.model_types.specs.Levels.{rpLow, vppLow, badPins}
@@ -59,6 +59,7 @@ free-calm EraseAwaited e = refl
 free-calm DataAwaited e = refl
 free-calm (Programming b) e = absurd (unlike e)
 free-calm Erasing e = absurd (unlike e)
+free-calm (Suspending n′) e = absurd (unlike e)
 free-calm Suspended e = absurd (unlike e)
 
 -- it holds at the start of a run that passed its tests

@@ -167,6 +167,7 @@ fn under_way(ph: Phase) -> bool
         Phase::DataAwaited => true,
         Phase::Programming(_) => true,
         Phase::Erasing => true,
+        Phase::Suspending(_) => true,
         Phase::Suspended => true,
     }
 }

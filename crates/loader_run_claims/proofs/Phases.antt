@@ -26,7 +26,7 @@ use Rattle.model_types.specs.declared.Kind.the-variants.{Read, Write}
 use Rattle.model_types.specs.declared.Mode.{Mode}
 use Rattle.model_types.specs.declared.Mode.the-variants.{Array, Status}
 use Rattle.model_types.specs.declared.Phase.{Phase}
-use Rattle.model_types.specs.declared.Phase.the-variants.{Free, EraseAwaited, DataAwaited, Programming, Erasing, Suspended}
+use Rattle.model_types.specs.declared.Phase.the-variants.{Free, EraseAwaited, DataAwaited, Programming, Erasing, Suspending, Suspended}
 use Rattle.model_types.specs.declared.Effect.{Effect}
 use Rattle.model_types.specs.declared.Effect.the-variants.{Nothing, Program, Erase}
 use Rattle.model_types.specs.declared.Reply.{Reply}
@@ -56,7 +56,7 @@ use Rattle.loader_run_claims.specs.Made.{isSmooth, readsThen, pollsThen,
 use Rattle.loader_run_claims.proofs.Reaching.{Reach, Answered, Does, does-as, arrive, prepend, turned, does}
 use Rattle.loader_run_claims.proofs.Layers.{put-over, over-over, overwritten-length, overwritten-here, overwritten-agree}
 use Rattle.loader_run_claims.proofs.Answers as answers
-use Rattle.loader_run_claims.proofs.Answers.{Up, Ready}
+use Rattle.loader_run_claims.proofs.Answers.{Up, Ready, Runs}
 
 -- 50H leaves SR.7 alone of a ready status
 cleared : (x : ℕ) → fits 2 x ≡ true → bitAnd x 199 ≡ 128
@@ -206,7 +206,7 @@ module _ (d : Device) (p : Pins) (k : ℕ) (u : Up d p) (was : State) (w : List 
     polls-last (suc n) x cs = ap (λ (z : List Cycle). cyc p Read x 0 ∷ z) (polls-last n x cs)
 
     -- the polls of an operation, of either kind, while cycles are left
-    module _ (r : Ready d p k) (W : Stage) (i : ℕ) (ph : Phase) (adr to : ℕ) (going : isEnded W ≡ false) (busy : isBusy ph ≡ true) (adr-in : adr < sizeOf (d .part)) (to-in : to < sizeOf (d .part))
+    module _ (r : Ready d p k) (W : Stage) (i : ℕ) (ph : Phase) (adr to : ℕ) (going : isEnded W ≡ false) (busy : Runs ph) (adr-in : adr < sizeOf (d .part)) (to-in : to < sizeOf (d .part))
         (X sc : List ℕ) (lX : length X ≡ sizeOf (d .part)) (goes : (q : ℕ) → cycleOf (rec W i q) w ≡ cyc p Read to 0)
         (polled : (q : ℕ) → nextOf (rec W i q) 0 w (storeOf (rec W i q) 0 sc) ≡ pollMore (rec W i q) W) (kept : (q : ℕ) → storeOf (rec W i q) 0 sc ≡ sc) where
       poll-more : (q : ℕ) → q < 65534 → pollMore (rec W i q) W ≡ rec W i (q + 1)
@@ -229,7 +229,7 @@ module _ (d : Device) (p : Pins) (k : ℕ) (u : Up d p) (was : State) (w : List 
           answered = record { out = goes q; decided = answers.waits d p u was k r ph (left + 1) adr to busy (omega arith) (omega arith) adr-in to-in; fine = refl }
 
           none : begunFrom (d .part) (st was Status 0 ph (left + 1 + 1) adr) (st was Status 0 ph (left + 1) adr) ≡ Nothing
-          none = quiet ph busy
+          none = quiet ph (busy .0)
             where
               quiet : (x : Phase) → isBusy x ≡ true → (if isAwaited x then pendingIn x (d .part) adr else Nothing) ≡ Nothing
               quiet Free b = refl
@@ -237,6 +237,7 @@ module _ (d : Device) (p : Pins) (k : ℕ) (u : Up d p) (was : State) (w : List 
               quiet DataAwaited b = absurd (unlike (sym b))
               quiet (Programming y) b = refl
               quiet Erasing b = refl
+              quiet (Suspending m) b = refl
               quiet Suspended b = refl
 
       -- all the polls of an operation that takes n cycles
@@ -271,7 +272,7 @@ module _ (d : Device) (p : Pins) (k : ℕ) (u : Up d p) (was : State) (w : List 
         (prepend d w _ _ e (Program (a + i) v) (cyc p Write (a + i) v) es _
         (turned d w (rec ProgramSending i 0) asked X sc (cnt + 1) refl lX (cyc p Write (a + i) v) Quiet (st was Status 0 (Programming v) (d .program) (a + i)) Nothing answered2)
         (does d w (rec ProgramSending i 0) asked X sc (cnt + 1) refl lX (cyc p Write (a + i) v) Quiet (st was Status 0 (Programming v) (d .program) (a + i)) Nothing answered2)
-        (waiting-all r ProgramWaiting i (Programming v) (a + i) (a + i) refl refl (inside i h) (inside i h) X sc lX
+        (waiting-all r ProgramWaiting i (Programming v) (a + i) (a + i) refl (refl, refl) (inside i h) (inside i h) X sc lX
         (λ q. ap (λ (x : ℕ). cyc p Read x 0) (here ProgramWaiting i q h)) (λ q. program-poll i q sc) (λ q. refl)
         (d .program) (cnt + 1 + 1) e es cs z b (omega arith)
         (λ q cnt′ t. prepend d w _ _ e Nothing (cyc p Read (a + i) 0) es cs
@@ -301,7 +302,7 @@ module _ (d : Device) (p : Pins) (k : ℕ) (u : Up d p) (was : State) (w : List 
         answered3 : (q : ℕ) → Answered d w (rec ProgramWaiting i q) (st was Status 0 (Programming v) 1 (a + i)) (cyc p Read (a + i) 0) (Gives 128) (atRest was Status 128) (Program (a + i) v)
         answered3 q =
             answered-here ProgramWaiting i q Read 0 (st was Status 0 (Programming v) 1 (a + i)) (Gives 128) (atRest was Status 128) (Program (a + i) v) h refl
-            (answers.ends d p u was k r (Programming v) (a + i) (a + i) refl z (inside i h) (inside i h)) refl
+            (answers.ends d p u was k r (Programming v) (a + i) (a + i) (refl, refl) z (inside i h) (inside i h)) refl
 
         stored : set X (a + i) (bitAnd (getD X (a + i) 0) v) ≡ overlaid xs a (set ys i v)
         stored =
@@ -412,7 +413,7 @@ module _ (d : Device) (p : Pins) (k : ℕ) (u : Up d p) (was : State) (w : List 
         (turned d w (rec EraseConfirming 0 0) asked X sc (cnt + 1) refl lX (cyc p Write a 0xD0) Quiet (st was Status 0 Erasing (d .erase) a) Nothing answered2)
         (does-as d w _ _ (Erase k) (cyc p Write a 0xD0) (ap Erase block-first)
         (does d w (rec EraseConfirming 0 0) asked X sc (cnt + 1) refl lX (cyc p Write a 0xD0) Quiet (st was Status 0 Erasing (d .erase) a) Nothing answered2))
-        (waiting-all r EraseWaiting 0 Erasing a a refl refl a-inside a-inside X sc lX
+        (waiting-all r EraseWaiting 0 Erasing a a refl (refl, refl) a-inside a-inside X sc lX
         (λ q. ap (λ (x : ℕ). cyc p Read x 0) (first EraseWaiting 0 q)) (λ q. ap (λ (y : List ℕ). nextOf (rec EraseWaiting 0 q) 0 w y) (erase-keeps q sc) ∙ erase-poll q sc) (λ q. erase-keeps q sc)
         (d .erase) (cnt + 1 + 1) e es cs z b (omega arith)
         (λ q cnt′ t. prepend d w _ _ e Nothing (cyc p Read a 0) es cs
@@ -437,7 +438,7 @@ module _ (d : Device) (p : Pins) (k : ℕ) (u : Up d p) (was : State) (w : List 
         answered2 = answered-first EraseConfirming 0 0 Write 0xD0 asked Quiet (st was Status 0 Erasing (d .erase) a) Nothing refl (answers.confirms d p u was k r a a-inside block-first) refl
 
         answered3 : (q : ℕ) → Answered d w (rec EraseWaiting 0 q) (st was Status 0 Erasing 1 a) (cyc p Read a 0) (Gives 128) (atRest was Status 128) (Erase (blockOf (d .part) a))
-        answered3 q = answered-first EraseWaiting 0 q Read 0 (st was Status 0 Erasing 1 a) (Gives 128) (atRest was Status 128) (Erase (blockOf (d .part) a)) refl (answers.ends d p u was k r Erasing a a refl z a-inside a-inside) refl
+        answered3 q = answered-first EraseWaiting 0 q Read 0 (st was Status 0 Erasing 1 a) (Gives 128) (atRest was Status 128) (Erase (blockOf (d .part) a)) refl (answers.ends d p u was k r Erasing a a (refl, refl) z a-inside a-inside) refl
 
         all-erased : erased (d .part) (blockOf (d .part) a) X ≡ overlaid xs a blank
         all-erased = erased-blank X (blockOf (d .part) a) block-first ∙ over-over xs a ys blank (a-within xs lx) (ly ∙ sym (length-replicate (length w) (ones (d .part))))

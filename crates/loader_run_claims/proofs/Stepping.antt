@@ -183,7 +183,11 @@ module _ (d : Device) (w : List ℕ) (c : Config) (going : isEnded (c .loader .s
 -- what passes the tests of a run passes those of a start
 known-part : (d : Device) → unknownDevice d ≡ false → unknownPart (d .part) ≡ false
 unfolding unknownDevice
-known-part d e = or-left (unknownPart (d .part)) (eqb (d .program) 0) (or-left (unknownPart (d .part) || eqb (d .program) 0) (eqb (d .erase) 0) e)
+known-part d e =
+    let a = unknownPart (d .part) in
+    let b = a || eqb (d .program) 0 in
+    let c = b || eqb (d .erase) 0 in
+    or-left a (eqb (d .program) 0) (or-left b (eqb (d .erase) 0) (or-left c (eqb (d .suspend) 0) (or-left (c || eqb (d .suspend) 0) (ltb 100 (d .suspend)) e)))
 
 start-passes : (d : Device) (s : State) (p : Pins) (k array w sc : ℕ) → NoRow (runRows d s p k array w sc) → startNumber (d .part) p k w sc ≡ 0
 unfolding startNumber
