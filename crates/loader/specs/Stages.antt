@@ -8,26 +8,26 @@ use Rattle.loader.specs.declared.Stage.the-variants.{Clearing, Opening, 
 use Rattle.loader.specs.declared.StageIs.{StageIs}
 
 -- before the end: a cycle of a kind is out; the load has no number yet, and 255 stands for that
-abbrev pub cycleOut : Kind → Bool → Bool → ℕ → StageIs
-cycleOut kind here wanted command = record { ended = false; end = 255; kind = kind; here = here; wanted = wanted; command = command }
+abbrev pub givesCycle : Kind → Bool → Bool → ℕ → StageIs
+givesCycle kind here wanted command = record { ended = false; end = 255; kind = kind; here = here; wanted = wanted; command = command }
 
 -- a command to the block's first address
 abbrev pub commands : ℕ → StageIs
-commands command = cycleOut Write false false command
+commands command = givesCycle Write false false command
 
 -- 40H, and then the wanted byte, to the byte at the record's place
 abbrev pub programs : StageIs
-programs = cycleOut Write true false 0x40
+programs = givesCycle Write true false 0x40
 
 abbrev pub sends : StageIs
-sends = cycleOut Write true true 0
+sends = givesCycle Write true true 0
 
 -- a read of the byte at the record's place, or of the block's first address
 abbrev pub readsHere : StageIs
-readsHere = cycleOut Read true false 0
+readsHere = givesCycle Read true false 0
 
 abbrev pub readsFirst : StageIs
-readsFirst = cycleOut Read false false 0
+readsFirst = givesCycle Read false false 0
 
 -- the end by a number: nothing is out, and idle stands for that
 abbrev pub endsBy : ℕ → StageIs
