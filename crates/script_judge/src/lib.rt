@@ -1,0 +1,132 @@
+// A script judged: its first line at fault, or that it is allowed. The reader of a list and the reader of an item call each other.
+use script_lines::Word;
+ghost use mathlib.Core.Path.{_≡_};
+ghost use mathlib.Core.Bool.{false};
+ghost use mathlib.Core.List.{[]};
+ghost use Prim.Native.Nat.{_≤_, _*_};
+ghost use lib.ListN.{length, drop};
+ghost use Rattle.script_lines.specs.Words.{wordIn, isEnds, isCloses};
+ghost use Rattle.script_judge.specs.Judges.{capped, judge, judgeOf};
+ghost use Rattle.script_judge.specs.Inner.{ItemRead, RestRead, Sound, Ahead};
+
+// The first line at fault, and no lines; or no fault (0), and how many lines are written out.
+pub struct Judged {
+    pub fault: usize,
+    pub lines: usize,
+}
+
+// Where a reader stands: place in the text, lines that may still come, this line's number, lines written out so far; or a fault.
+struct Spot {
+    fault: usize,
+    at: usize,
+    left: usize,
+    line: usize,
+    total: usize,
+}
+
+fn word_at(left: usize, text: &[u8], at: usize) -> Word
+    requires { ⌜ at ≤ length (now text) ⌝ }
+    ensures { λ r. ⌜ r ≡ wordIn left (drop at (now (text .entry))) ⌝ }
+{
+    script_lines::word_in(left, &text[at..text.len()])
+}
+
+fn ends_at(left: usize, text: &[u8], at: usize) -> bool
+    requires { ⌜ at ≤ length (now text) ⌝ }
+    ensures { λ r. ⌜ r ≡ isEnds (wordIn left (drop at (now (text .entry)))) ⌝ }
+{
+    script_lines::is_ends(word_at(left, text, at))
+}
+
+fn closes_at(left: usize, text: &[u8], at: usize) -> bool
+    requires { ⌜ at ≤ length (now text) ⌝ }
+    ensures { λ r. ⌜ r ≡ isCloses (wordIn left (drop at (now (text .entry)))) ⌝ }
+{
+    script_lines::is_closes(word_at(left, text, at))
+}
+
+// A product of counts, 9,999 at most: from there on every trace line is one too many.
+fn times(p: usize, n: usize) -> usize
+    requires { ⌜ (p ≤ 9999) × (n ≤ 999) ⌝ }
+    ensures { λ r. ⌜ r ≡ capped (p * n) ⌝ }
+{
+    if p * n <= 9999 {
+        return p * n;
+    }
+    9999
+}
+
+// An item must stand at x: a trace line, or a group, with so many levels left to open and such a product of counts around it.
+fn item(text: &[u8], x: Spot, depth: usize, p: usize) -> Spot
+    requires { ⌜ (x .at ≤ length (now text)) × Sound x × (p ≤ 9999) ⌝ }
+    ensures reads { λ r. ⌜ ItemRead (now (text .entry)) x depth p r ⌝ }
+    ensures ahead { λ r. ⌜ Ahead (now (text .entry)) x r ⌝ }
+{
+    let w = word_at(x.left, text, x.at);
+    match w {
+        Word::Ends => {
+            return Spot { fault: x.line, at: 0, left: 0, line: 0, total: 0 };
+        }
+        Word::Bad => {
+            return Spot { fault: x.line, at: 0, left: 0, line: 0, total: 0 };
+        }
+        Word::Closes => {
+            return Spot { fault: x.line, at: 0, left: 0, line: 0, total: 0 };
+        }
+        Word::Traced => {
+            if 9998 < x.total + p {
+                return Spot { fault: x.line, at: 0, left: 0, line: 0, total: 0 };
+            }
+            return Spot { fault: 0, at: x.at + 20, left: x.left - 1, line: x.line + 1, total: x.total + p };
+        }
+        Word::Opens(n) => {
+            if depth == 0 {
+                return Spot { fault: x.line, at: 0, left: 0, line: 0, total: 0 };
+            }
+            let q = times(p, n);
+            let y = item(text, Spot { fault: 0, at: x.at + 6, left: x.left - 1, line: x.line + 1, total: x.total }, depth - 1, q);
+            if y.fault != 0 {
+                return y;
+            }
+            return rest(text, y, depth - 1, q);
+        }
+    }
+}
+
+// The rest of a group's list, to its closing line.
+fn rest(text: &[u8], x: Spot, depth: usize, p: usize) -> Spot
+    requires { ⌜ (x .at ≤ length (now text)) × Sound x × (p ≤ 9999) ⌝ }
+    ensures reads { λ r. ⌜ RestRead (now (text .entry)) x depth p r ⌝ }
+    ensures ahead { λ r. ⌜ Ahead (now (text .entry)) x r ⌝ }
+{
+    if closes_at(x.left, text, x.at) {
+        return Spot { fault: 0, at: x.at + 2, left: x.left - 1, line: x.line + 1, total: x.total };
+    }
+    let y = item(text, x, depth, p);
+    if y.fault != 0 {
+        return y;
+    }
+    rest(text, y, depth, p)
+}
+
+// The script's own list, to the end of the text.
+fn top(text: &[u8], x: Spot) -> Judged
+    requires { ⌜ (x .at ≤ length (now text)) × Sound x ⌝ }
+    ensures { λ r. ⌜ r ≡ judge (x .left) (x .line) [] 1 false (x .total) (drop (x .at) (now (text .entry))) ⌝ }
+{
+    if ends_at(x.left, text, x.at) {
+        return Judged { fault: 0, lines: x.total };
+    }
+    let y = item(text, x, 8, 1);
+    if y.fault != 0 {
+        return Judged { fault: y.fault, lines: 0 };
+    }
+    top(text, y)
+}
+
+// A whole script judged: 3,000 lines at most.
+pub fn judge_script(text: &[u8]) -> Judged
+    ensures { λ r. ⌜ r ≡ judgeOf (now (text .entry)) ⌝ }
+{
+    top(text, Spot { fault: 0, at: 0, left: 3000, line: 1, total: 0 })
+}

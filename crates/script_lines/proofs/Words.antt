@@ -1,0 +1,129 @@
+-- What each word says of the text that it stands in front of. Assumes nothing.
+use mathlib.Core.Path.{_≡_, refl, sym, ap, _∙_}
+use mathlib.Core.Bool.{Bool, true, false}
+use mathlib.Core.List.{List, [], _∷_}
+use Prim.Native.Nat.{ℕ, zero, suc, _+_, _*_, _≤_, _<_, min}
+use native.Mathlib.Omega.{arith}
+use lib.Dec.{eqb}
+use lib.ListN.{length, take, length-take}
+use borrow.Author.Tests.{eqb-true, eqb-false}
+use Rattle.common.specs.Choice.{if_then_else_}
+use Rattle.common.proofs.Choice.{unlike}
+use Rattle.trace_lines.specs.Lines.{Place, fits}
+use Rattle.trace_lines.proofs.Places.{unfit}
+use Rattle.script_lines.specs.declared.Word.{Word}
+use Rattle.script_lines.specs.declared.Word.the-variants.{Ends, Bad, Traced, Opens, Closes}
+use Rattle.script_lines.specs.Words.{isTraced, isOpening, isClosing, countOf, wordIn, isCloses}
+
+-- a text shorter than a form does not begin with a line of it
+pub cut-off : (ps : List Place) (text : List ℕ) → length text < length ps → fits ps (take (length ps) text) ≡ false
+cut-off ps text h =
+    unfit ps (take (length ps) text)
+    (λ (e : length (take (length ps) text) ≡ length ps). let l : min (length ps) (length text) ≡ length ps = sym (length-take (length ps) text) ∙ e in omega arith)
+
+-- a number for each word, and the count that it holds
+abbrev pub code : Word → ℕ
+code Ends = 0
+code Bad = 1
+code Traced = 2
+code (Opens n) = 3
+code Closes = 4
+
+abbrev pub held : Word → ℕ
+held Ends = 0
+held Bad = 0
+held Traced = 0
+held (Opens n) = n
+held Closes = 0
+
+clash : {A : Type 0} (m n : ℕ) → eqb m n ≡ false → m ≡ n → A
+clash m n f e = absurd (eqb-false m n f e)
+
+pub closes-is : (w : Word) → isCloses w ≡ true → w ≡ Closes
+closes-is Ends f = absurd (unlike (sym f))
+closes-is Bad f = absurd (unlike (sym f))
+closes-is Traced f = absurd (unlike (sym f))
+closes-is (Opens n) f = absurd (unlike (sym f))
+closes-is Closes f = refl
+
+-- the choice that makes a word, over its tests
+abbrev chain : Bool → Bool → Bool → Bool → Bool → Bool → ℕ → Word
+chain a b c d e f m =
+    if a then Ends
+    else if b then Bad
+    else if c then Traced
+    else if d then Closes
+    else if e then (if f then Bad else Opens m)
+    else Bad
+
+by-ends : (a b c d e f : Bool) (m : ℕ) → chain a b c d e f m ≡ Ends → a ≡ true
+by-ends true b c d e f m h = refl
+by-ends false true c d e f m h = clash 1 0 refl (ap code h)
+by-ends false false true d e f m h = clash 2 0 refl (ap code h)
+by-ends false false false true e f m h = clash 4 0 refl (ap code h)
+by-ends false false false false true true m h = clash 1 0 refl (ap code h)
+by-ends false false false false true false m h = clash 3 0 refl (ap code h)
+by-ends false false false false false f m h = clash 1 0 refl (ap code h)
+
+by-traced : (a b c d e f : Bool) (m : ℕ) → chain a b c d e f m ≡ Traced → (b ≡ false) × (c ≡ true)
+by-traced true b c d e f m h = clash 0 2 refl (ap code h)
+by-traced false true c d e f m h = clash 1 2 refl (ap code h)
+by-traced false false true d e f m h = (refl, refl)
+by-traced false false false true e f m h = clash 4 2 refl (ap code h)
+by-traced false false false false true true m h = clash 1 2 refl (ap code h)
+by-traced false false false false true false m h = clash 3 2 refl (ap code h)
+by-traced false false false false false f m h = clash 1 2 refl (ap code h)
+
+by-closes : (a b c d e f : Bool) (m : ℕ) → chain a b c d e f m ≡ Closes → (b ≡ false) × (d ≡ true)
+by-closes true b c d e f m h = clash 0 4 refl (ap code h)
+by-closes false true c d e f m h = clash 1 4 refl (ap code h)
+by-closes false false true d e f m h = clash 2 4 refl (ap code h)
+by-closes false false false true e f m h = (refl, refl)
+by-closes false false false false true true m h = clash 1 4 refl (ap code h)
+by-closes false false false false true false m h = clash 3 4 refl (ap code h)
+by-closes false false false false false f m h = clash 1 4 refl (ap code h)
+
+by-opens : (a b c d e f : Bool) (m v : ℕ) → chain a b c d e f m ≡ Opens v → (b ≡ false) × (e ≡ true) × (m ≡ v) × (f ≡ false)
+by-opens true b c d e f m v h = clash 0 3 refl (ap code h)
+by-opens false true c d e f m v h = clash 1 3 refl (ap code h)
+by-opens false false true d e f m v h = clash 2 3 refl (ap code h)
+by-opens false false false true e f m v h = clash 4 3 refl (ap code h)
+by-opens false false false false true true m v h = clash 1 3 refl (ap code h)
+by-opens false false false false true false m v h = (refl, refl, ap held h, refl)
+by-opens false false false false false f m v h = clash 1 3 refl (ap code h)
+
+positive : (n : ℕ) → eqb n 0 ≡ false → 1 ≤ n
+positive zero h = absurd (unlike h)
+positive (suc n) h = omega arith
+
+nothing-left : (text : List ℕ) → length text ≡ 0 → text ≡ []
+nothing-left [] e = refl
+nothing-left (x ∷ xs) e = absurd (omega arith)
+
+module _ (n : ℕ) (text : List ℕ) where
+  -- nothing is left
+  pub ends-text : wordIn n text ≡ Ends → text ≡ []
+  unfolding wordIn
+  ends-text h =
+      nothing-left text (eqb-true (length text) 0 (by-ends (eqb (length text) 0) (eqb n 0) (isTraced text) (isClosing text) (isOpening text) (eqb (countOf text) 0) (countOf text) h))
+
+  -- a line may still come, and it is there
+  pub traced-says : wordIn n text ≡ Traced → (1 ≤ n) × (isTraced text ≡ true)
+  unfolding wordIn
+  traced-says h =
+      let f = by-traced (eqb (length text) 0) (eqb n 0) (isTraced text) (isClosing text) (isOpening text) (eqb (countOf text) 0) (countOf text) h in
+      (positive n (f .0), f .1)
+
+  pub closes-says : wordIn n text ≡ Closes → (1 ≤ n) × (isClosing text ≡ true)
+  unfolding wordIn
+  closes-says h =
+      let f = by-closes (eqb (length text) 0) (eqb n 0) (isTraced text) (isClosing text) (isOpening text) (eqb (countOf text) 0) (countOf text) h in
+      (positive n (f .0), f .1)
+
+  pub opens-says : (v : ℕ) → wordIn n text ≡ Opens v → (1 ≤ n) × (isOpening text ≡ true) × (countOf text ≡ v) × (1 ≤ v)
+  unfolding wordIn
+  opens-says v h =
+      let f = by-opens (eqb (length text) 0) (eqb n 0) (isTraced text) (isClosing text) (isOpening text) (eqb (countOf text) 0) (countOf text) v h in
+      let m = positive (countOf text) (f .3) in
+      let e = f .2 in
+      (positive n (f .0), f .1, e, omega arith)
