@@ -17,15 +17,11 @@ use Rattle.script_lines.specs.declared.Word.{Word}
 use Rattle.script_lines.specs.declared.Word.the-variants.{Ends, Bad, Traced, Opens, Closes}
 use Rattle.script_lines.specs.Scripts.{Script, done, line, group, openBy, closeBy, printOn, Some, Formed, linesIn, writtenIn, Allowed}
 use Rattle.script_lines.specs.Words.{wordIn}
+use Rattle.script_lines.specs.Inner.{Stop, nothing, closing}
 use Rattle.script_lines.proofs.Words.{code, ends-text}
 use Rattle.script_lines.proofs.Forms.{word-traced, word-closes, word-opens, traced-text, closes-text, opens-text, traced-word, closes-word, opens-word, empty-word, same-count, same-line, line-high}
 use Rattle.script_judge.specs.declared.Judged.{Judged}
 use Rattle.script_judge.specs.Judges.{faultAs, fineAs, capped, judge, judgeOf, endOf}
-
--- what may follow a list: nothing, or a closing line
-pub data Stop : List ℕ → Type 0 where
-  nothing : Stop []
-  closing : (r : List ℕ) → Stop (closeBy ++ r)
 
 first : {x y : List ℕ} → x ≡ y → getD x 0 0 ≡ getD y 0 0
 first e = ap (λ (l : List ℕ). getD l 0 0) e

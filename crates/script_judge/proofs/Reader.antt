@@ -11,13 +11,13 @@ use Rattle.script_lines.specs.declared.Word.{Word}
 use Rattle.script_lines.specs.declared.Word.the-variants.{Ends, Traced, Opens, Closes}
 use Rattle.script_lines.specs.Scripts.{Script, done, line, group, openBy, closeBy, printOn, Formed, linesIn, writtenIn, writtenOut, Allowed}
 use Rattle.script_lines.specs.Words.{wordIn}
+use Rattle.script_lines.specs.Inner.{Stop, nothing, closing}
 use Rattle.script_lines.proofs.Forms.{traced-word, closes-word, opens-word, empty-word, printed-line}
 use Rattle.script_lines.proofs.Written.{written-length}
 use Rattle.script_judge.specs.declared.Judged.{Judged}
 use Rattle.script_judge.specs.Judges.{fineAs, judgeOf}
 use Rattle.script_judge.specs.Reads.{Listed, noItem, lineThen, groupThen, listBy, listIn, scriptIn}
 use Rattle.script_judge.proofs.Exact.{accepted, was-printed}
-use Rattle.script_judge.proofs.Once.{Stop, nothing, closing}
 
 -- a list and the text behind it
 abbrev listed : Script → List ℕ → Listed

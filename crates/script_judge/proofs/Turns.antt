@@ -5,8 +5,7 @@ use mathlib.Core.List.{List, [], _∷_}
 use Prim.Native.Nat.{ℕ, zero, suc, _+_, _-_, _*_, _≤_, _<_}
 use native.Mathlib.Omega.{arith}
 use lib.Dec.{ltb, leb, eqb}
-use lib.ListN.{length, take, drop, length-drop}
-use lib.Seq.{take-all}
+use lib.ListN.{length, drop}
 use borrow.Author.Tests.{lt-ltb, le-ltb, le-leb, lt-leb, ne-eqb}
 use Rattle.common.specs.Choice.{if_then_else_}
 use Rattle.common.proofs.Choice.{unlike}
@@ -16,9 +15,6 @@ use Rattle.script_lines.specs.Words.{wordIn, isCloses, isEnds}
 use Rattle.script_lines.proofs.Forms.{word-traced, word-closes, word-opens}
 use Rattle.script_judge.specs.declared.Judged.{Judged}
 use Rattle.script_judge.specs.Judges.{faultAs, fineAs, follow, endOf, closeOf, capped, turnOf, judge}
-
-pub rest-all : (xs : List ℕ) (a : ℕ) → take (length xs - a) (drop a xs) ≡ drop a xs
-rest-all xs a = take-all (length xs - a) (drop a xs) (simp (length-drop) (omega arith))
 
 -- one turn, at any number of lines left
 pub turn : (n ℓ : ℕ) (K : List ℕ) (p : ℕ) (e : Bool) (t : ℕ) (text : List ℕ) (w : Word) → wordIn n text ≡ w

@@ -5,7 +5,6 @@ ghost use mathlib.Core.Bool.{false};
 ghost use mathlib.Core.List.{[]};
 ghost use Prim.Native.Nat.{_≤_, _*_};
 ghost use lib.ListN.{length, drop};
-ghost use Rattle.script_lines.specs.Words.{wordIn, isEnds, isCloses};
 ghost use Rattle.script_judge.specs.Judges.{capped, judge, judgeOf};
 ghost use Rattle.script_judge.specs.Inner.{ItemRead, RestRead, Sound, Ahead};
 
@@ -22,27 +21,6 @@ struct Spot {
     left: usize,
     line: usize,
     total: usize,
-}
-
-fn word_at(left: usize, text: &[u8], at: usize) -> Word
-    requires { ⌜ at ≤ length (now text) ⌝ }
-    ensures { λ r. ⌜ r ≡ wordIn left (drop at (now (text .entry))) ⌝ }
-{
-    script_lines::word_in(left, &text[at..text.len()])
-}
-
-fn ends_at(left: usize, text: &[u8], at: usize) -> bool
-    requires { ⌜ at ≤ length (now text) ⌝ }
-    ensures { λ r. ⌜ r ≡ isEnds (wordIn left (drop at (now (text .entry)))) ⌝ }
-{
-    script_lines::is_ends(word_at(left, text, at))
-}
-
-fn closes_at(left: usize, text: &[u8], at: usize) -> bool
-    requires { ⌜ at ≤ length (now text) ⌝ }
-    ensures { λ r. ⌜ r ≡ isCloses (wordIn left (drop at (now (text .entry)))) ⌝ }
-{
-    script_lines::is_closes(word_at(left, text, at))
 }
 
 // A product of counts, 9,999 at most: from there on every trace line is one too many.
@@ -62,7 +40,7 @@ fn item(text: &[u8], x: Spot, depth: usize, p: usize) -> Spot
     ensures reads { λ r. ⌜ ItemRead (now (text .entry)) x depth p r ⌝ }
     ensures ahead { λ r. ⌜ Ahead (now (text .entry)) x r ⌝ }
 {
-    let w = word_at(x.left, text, x.at);
+    let w = script_lines::word_at(x.left, text, x.at);
     match w {
         Word::Ends => {
             return Spot { fault: x.line, at: 0, left: 0, line: 0, total: 0 };
@@ -99,7 +77,7 @@ fn rest(text: &[u8], x: Spot, depth: usize, p: usize) -> Spot
     ensures reads { λ r. ⌜ RestRead (now (text .entry)) x depth p r ⌝ }
     ensures ahead { λ r. ⌜ Ahead (now (text .entry)) x r ⌝ }
 {
-    if closes_at(x.left, text, x.at) {
+    if script_lines::closes_at(x.left, text, x.at) {
         return Spot { fault: 0, at: x.at + 2, left: x.left - 1, line: x.line + 1, total: x.total };
     }
     let y = item(text, x, depth, p);
@@ -114,7 +92,7 @@ fn top(text: &[u8], x: Spot) -> Judged
     requires { ⌜ (x .at ≤ length (now text)) × Sound x ⌝ }
     ensures { λ r. ⌜ r ≡ judge (x .left) (x .line) [] 1 false (x .total) (drop (x .at) (now (text .entry))) ⌝ }
 {
-    if ends_at(x.left, text, x.at) {
+    if script_lines::ends_at(x.left, text, x.at) {
         return Judged { fault: 0, lines: x.total };
     }
     let y = item(text, x, 8, 1);

@@ -3,6 +3,7 @@ use mathlib.Core.Path.{_≡_}
 use mathlib.Core.Bool.{Bool}
 use mathlib.Core.List.{List}
 use Prim.Native.Nat.{ℕ}
+use lib.ListN.{drop}
 use Rattle.common.specs.Choice.{Unique}
 use Rattle.common.proofs.Choice.{only}
 use Rattle.script_lines.specs.declared.Word.{Word}
@@ -23,8 +24,11 @@ count-unique text = only (countOf text)
 pub word-in-unique : (left : ℕ) (text : List ℕ) → Unique (λ (r : Word). r ≡ wordIn left text)
 word-in-unique left text = only (wordIn left text)
 
-pub is-ends-unique : (w : Word) → Unique (λ (r : Bool). r ≡ isEnds w)
-is-ends-unique w = only (isEnds w)
+pub word-at-unique : (left : ℕ) (text : List ℕ) (at : ℕ) → Unique (λ (r : Word). r ≡ wordIn left (drop at text))
+word-at-unique left text at = only (wordIn left (drop at text))
 
-pub is-closes-unique : (w : Word) → Unique (λ (r : Bool). r ≡ isCloses w)
-is-closes-unique w = only (isCloses w)
+pub ends-at-unique : (left : ℕ) (text : List ℕ) (at : ℕ) → Unique (λ (r : Bool). r ≡ isEnds (wordIn left (drop at text)))
+ends-at-unique left text at = only (isEnds (wordIn left (drop at text)))
+
+pub closes-at-unique : (left : ℕ) (text : List ℕ) (at : ℕ) → Unique (λ (r : Bool). r ≡ isCloses (wordIn left (drop at text)))
+closes-at-unique left text at = only (isCloses (wordIn left (drop at text)))

@@ -2,11 +2,12 @@
 use mathlib.Core.Path.{_≡_, refl, sym, ap, _∙_}
 use mathlib.Core.Bool.{Bool, true, false}
 use mathlib.Core.List.{List, [], _∷_}
-use Prim.Native.Nat.{ℕ, zero, suc, _+_, _*_, _≤_, _<_, min}
+use Prim.Native.Nat.{ℕ, zero, suc, _+_, _-_, _*_, _≤_, _<_, min}
 use native.Mathlib.Omega.{arith}
 use lib.Dec.{eqb}
-use lib.ListN.{length, take, length-take}
-use borrow.Author.Tests.{eqb-true, eqb-false}
+use lib.ListN.{length, take, drop, length-take, length-drop}
+use lib.Seq.{take-all}
+use borrow.Author.Tests.{eqb-true, eqb-false, eq-eqb}
 use Rattle.common.specs.Choice.{if_then_else_}
 use Rattle.common.proofs.Choice.{unlike}
 use Rattle.trace_lines.specs.Lines.{Place, fits}
@@ -20,6 +21,15 @@ pub cut-off : (ps : List Place) (text : List ℕ) → length text < length ps �
 cut-off ps text h =
     unfit ps (take (length ps) text)
     (λ (e : length (take (length ps) text) ≡ length ps). let l : min (length ps) (length text) ≡ length ps = sym (length-take (length ps) text) ∙ e in omega arith)
+
+-- the whole of a text from a place on, as a part
+pub rest-all : (xs : List ℕ) (a : ℕ) → take (length xs - a) (drop a xs) ≡ drop a xs
+rest-all xs a = take-all (length xs - a) (drop a xs) (simp (length-drop) (omega arith))
+
+-- past the end of a text nothing is left
+pub past-end : (n : ℕ) (text : List ℕ) (a : ℕ) → length text < a → wordIn n (drop a text) ≡ Ends
+unfolding wordIn
+past-end n text a h = let e : length (drop a text) ≡ 0 = length-drop a text ∙ (let z : length text - a ≡ 0 = omega arith in z) in simp (eq-eqb (length (drop a text)) 0 e)
 
 -- a number for each word, and the count that it holds
 abbrev pub code : Word → ℕ

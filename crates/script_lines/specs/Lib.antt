@@ -1,2 +1,3 @@
 pub mod Scripts
 pub mod Words
+pub mod Inner

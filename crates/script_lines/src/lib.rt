@@ -109,8 +109,17 @@ pub fn word_in(left: usize, text: &[u8]) -> Word
     Word::Bad
 }
 
-// Whether a word is the end of the text.
-pub fn is_ends(w: Word) -> bool
+// The word at a place of a text; past its end nothing is left.
+pub fn word_at(left: usize, text: &[u8], at: usize) -> Word
+    ensures { λ r. ⌜ r ≡ wordIn left (drop at (now (text .entry))) ⌝ }
+{
+    if text.len() < at {
+        return Word::Ends;
+    }
+    word_in(left, &text[at..text.len()])
+}
+
+fn is_ends(w: Word) -> bool
     ensures { λ r. ⌜ r ≡ isEnds w ⌝ }
 {
     match w {
@@ -122,8 +131,7 @@ pub fn is_ends(w: Word) -> bool
     }
 }
 
-// Whether a word closes a group.
-pub fn is_closes(w: Word) -> bool
+fn is_closes(w: Word) -> bool
     ensures { λ r. ⌜ r ≡ isCloses w ⌝ }
 {
     match w {
@@ -133,4 +141,18 @@ pub fn is_closes(w: Word) -> bool
         Word::Opens(_n) => false,
         Word::Closes => true,
     }
+}
+
+// Whether the text ends at a place.
+pub fn ends_at(left: usize, text: &[u8], at: usize) -> bool
+    ensures { λ r. ⌜ r ≡ isEnds (wordIn left (drop at (now (text .entry)))) ⌝ }
+{
+    is_ends(word_at(left, text, at))
+}
+
+// Whether a closing line stands at a place.
+pub fn closes_at(left: usize, text: &[u8], at: usize) -> bool
+    ensures { λ r. ⌜ r ≡ isCloses (wordIn left (drop at (now (text .entry)))) ⌝ }
+{
+    is_closes(word_at(left, text, at))
 }

@@ -15,9 +15,9 @@ use Rattle.script_judge.proofs.+item+rest.Lts-item as item-lts
 use Rattle.script_judge.proofs.rest.Reads as rest
 use Rattle.script_judge.proofs.rest.Kinds as rest-kinds
 use Rattle.script_judge.proofs.+item+rest.Lts-rest as rest-lts
-use Rattle.script_judge.proofs.closes_at.Reads as closes-at-reads
+use Rattle.script_lines.proofs.closes_at.Reads as closes-at-reads
 use Rattle.script_judge.proofs.times.Reads as times-reads
-use Rattle.script_judge.proofs.word_at.Reads as word-at-reads
+use Rattle.script_lines.proofs.word_at.Reads as word-at-reads
 use Rattle.script_judge.proofs.+item+rest.{statement}
 use Rattle.script_judge.proofs.+item+rest.Tie.{close}
 

@@ -11,7 +11,7 @@ use borrow.Fn.PlainCycle.{Measures, is, falls, and}
 use Rattle.script_judge.proofs.top.Reads as top
 use Rattle.script_judge.proofs.top.Kinds as top-kinds
 use Rattle.script_judge.proofs.+top.Lts-top as top-lts
-use Rattle.script_judge.proofs.ends_at.Reads as ends-at-reads
+use Rattle.script_lines.proofs.ends_at.Reads as ends-at-reads
 use Rattle.script_judge.proofs.item.Reads as item-reads
 use Rattle.script_judge.proofs.+top.{statement}
 use Rattle.script_judge.proofs.+top.Tie.{close}

@@ -1,0 +1,5 @@
+pub mod Laid
+pub mod Answers
+pub mod Runs
+pub mod Lines
+pub mod Wholes

@@ -1,0 +1,69 @@
+-- What the functions of the run promise each other. Not part of what a buyer must believe: the run's promise is `scriptOutput` and
+-- `scriptArray`. Assumes nothing.
+use mathlib.Core.Path.{_≡_}
+use mathlib.Core.List.{List, [], _∷_, _++_}
+use Prim.Native.Nat.{ℕ, _+_, _-_, _*_, _≤_}
+use lib.ListN.{length, take, drop}
+use Rattle.common.specs.Choice.{if_then_else_}
+use Rattle.common.specs.Lists.{overlaid}
+use Rattle.model_types.specs.declared.State.{State}
+use Rattle.model_types.specs.declared.Cycle.{Cycle}
+use Rattle.trace_lines.specs.Lines.{cycleStated}
+use Rattle.script_lines.specs.Scripts.{Script, printOn, Formed, linesIn, timesOn, writtenOut}
+use Rattle.script_lines.specs.Words.{wordIn, isCloses}
+use Rattle.script_lines.specs.Inner.{Stop}
+use Rattle.trace_replay.specs.Answers.{printedOf}
+use Rattle.trace_replay.specs.Replays.{lineStep, arrayBy}
+use Rattle.script_run.specs.declared.Run.{Run}
+
+-- cycles made one after the other: the state and the array that they leave, and the answers to them
+unfoldable pub stateAfter : List Cycle → State → List ℕ → List ℕ → State
+stateAfter [] s xs rs = s
+stateAfter (c ∷ cs) s xs rs = stateAfter cs (lineStep s c xs rs .state) (arrayBy s c xs rs) rs
+
+unfoldable pub arrayAfter : List Cycle → State → List ℕ → List ℕ → List ℕ
+arrayAfter [] s xs rs = xs
+arrayAfter (c ∷ cs) s xs rs = arrayAfter cs (lineStep s c xs rs .state) (arrayBy s c xs rs) rs
+
+unfoldable pub answersTo : List Cycle → State → List ℕ → List ℕ → List ℕ
+answersTo [] s xs rs = []
+answersTo (c ∷ cs) s xs rs = printedOf (lineStep s c xs rs) ++ answersTo cs (lineStep s c xs rs .state) (arrayBy s c xs rs) rs
+
+-- a run past the trace line at x
+abbrev pub lineRun : List ℕ → Run → List ℕ → List ℕ → Run
+lineRun text x xs rs = record {
+  at = x .at + 20;
+  left = x .left - 1;
+  used = x .used + 8;
+  state = lineStep (x .state) (cycleStated (take 20 (drop (x .at) text))) xs rs .state;
+}
+
+-- a run past the closing line at x, where there is one
+abbrev pub pastClose : Run → Run
+pastClose x = record { at = x .at + 2; left = x .left - 1; used = x .used; state = x .state }
+
+unfoldable pub closeRun : List ℕ → Run → Run
+closeRun text x = if isCloses (wordIn (x .left) (drop (x .at) text)) then pastClose x else x
+
+-- from x to r the cycles cs were made: r stands before tail, k lines on; the answers are laid over the output
+pub record Ran (text : List ℕ) (x r : Run) (xs rs out xs′ out′ : List ℕ) (cs : List Cycle) (tail : List ℕ) (k : ℕ) : Type 0 where
+  pub stands : drop (r .at) text ≡ tail
+  pub lines : r .left + k ≡ x .left
+  pub used : r .used ≡ x .used + 8 * length cs
+  pub state : r .state ≡ stateAfter cs (x .state) xs rs
+  pub array : xs′ ≡ arrayAfter cs (x .state) xs rs
+  pub laid : out′ ≡ overlaid out (x .used) (answersTo cs (x .state) xs rs)
+
+-- whatever list is printed at x, with room for its answers: its lines written out were run
+unfoldable pub RunRead : List ℕ → Run → Run → List ℕ → List ℕ → List ℕ → List ℕ → List ℕ → Type 0
+RunRead text x r xs rs out xs′ out′ =
+    (c : Script) (d : ℕ) (tail : List ℕ) → Formed d c → Stop tail → drop (x .at) text ≡ printOn c tail → linesIn c ≤ x .left
+    → x .used + 8 * length (writtenOut c) ≤ length out
+    → Ran text x r xs rs out xs′ out′ (writtenOut c) tail (linesIn c)
+
+-- the same, n times over
+unfoldable pub AgainRead : List ℕ → Run → ℕ → Run → List ℕ → List ℕ → List ℕ → List ℕ → List ℕ → Type 0
+AgainRead text x n r xs rs out xs′ out′ =
+    (c : Script) (d : ℕ) (tail : List ℕ) → Formed d c → Stop tail → drop (x .at) text ≡ printOn c tail → linesIn c ≤ x .left → 1 ≤ n
+    → x .used + 8 * length (timesOn n (writtenOut c) []) ≤ length out
+    → Ran text x r xs rs out xs′ out′ (timesOn n (writtenOut c) []) tail (linesIn c)
