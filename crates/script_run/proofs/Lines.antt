@@ -62,7 +62,7 @@ unfolding replayedIn
 replayed-long room ys h = sym (if-false (ltb room (length ys)) (replayedAs 37 0) (replayedAs 0 (length ys)) (le-ltb room (length ys) h))
 
 -- ---- a mark alone
-mark-length : (n : ℕ) → length (markOf n) ≡ 7
+pub mark-length : (n : ℕ) → length (markOf n) ≡ 7
 unfolding markOf
 mark-length n = refl
 

@@ -47,7 +47,7 @@ module _ (fault : ℕ) (xs rs text out : List ℕ) (ef : fault ≡ judgeOf text 
       if-false (eqb (judgeOf text .fault) 0) (outputOf xs rs (traceIn text)) (markOf (judgeOf text .fault)) (ne-eqb (judgeOf text .fault) 0 (λ (z : judgeOf text .fault ≡ 0). h (ef ∙ z)))
       ∙ ap (λ (n : ℕ). markOf n) (sym ef)
 
-  array-kept : scriptArray xs rs text ≡ xs
+  pub array-kept : scriptArray xs rs text ≡ xs
   unfolding scriptArray
   array-kept = if-false (eqb (judgeOf text .fault) 0) (arrayLeft xs rs (traceIn text)) xs (ne-eqb (judgeOf text .fault) 0 (λ (z : judgeOf text .fault ≡ 0). h (ef ∙ z)))
 
@@ -90,7 +90,7 @@ module _ (j : Judged) (xs rs text out : List ℕ) (ej : j ≡ judgeOf text) (h :
   unfolding scriptArray
   array-is = if-true (eqb (judgeOf text .fault) 0) (arrayLeft xs rs (traceIn text)) xs (eq-eqb (judgeOf text .fault) 0 fine) ∙ replayed-left (scriptIn text) xs rs allowed
 
-  size : length (scriptOutput xs rs text) ≡ 8 * j .lines
+  pub size : length (scriptOutput xs rs text) ≡ 8 * j .lines
   size =
       ap (λ (y : List ℕ). length y) answers ∙ answers-length (writtenOut (scriptIn text)) freshState xs rs
       ∙ ap (λ (n : ℕ). 8 * n) (sym counted)
