@@ -68,23 +68,36 @@ fn run(number: usize, text: &[u8], room: usize, array: &mut [u8], residue: &[u8]
     show(number, r, array, out);
 }
 
-// Every row in its turn: a piece is put to the text, or what was put together is run.
+// What is put together so far has so many bytes; the next case has this number.
+struct Held {
+    len: usize,
+    number: usize,
+}
+
+// One row: a piece is put to the text, or what was put together is run.
+fn take_row(letter: u8, n: usize, piece: &[u8], h: Held, text: &mut [u8], array: &mut [u8], residue: &[u8], out: &mut [u8]) -> Held
+    requires { ⌜ (h .len ≤ length (now text)) × (h .number ≤ 9999) ⌝ }
+    ensures { λ r. ⌜ (r .len ≤ length (now (text .exit))) × (r .number ≤ 9999) ⌝ }
+{
+    if letter == b'*' {
+        let len = put_pieces(text, h.len, piece, n);
+        return Held { len: len, number: h.number };
+    }
+    let len = h.len;
+    run(h.number, &text[0..len], n, array, residue, out);
+    Held { len: 0, number: (h.number + 1) % 10000 }
+}
+
+// Every row in its turn.
 fn all(rows: &[u8], text: &mut [u8], array: &mut [u8], residue: &[u8], out: &mut [u8]) {
     let mut at = 0;
-    let mut number = 1;
-    let mut len = 0;
-    while rows.len() - at >= 12 {
+    let mut h = Held { len: 0, number: 1 };
+    while 12 <= rows.len() - at {
         let a = at + 12;
         let n = vectors_text::size_at(rows, 10, at + 2, 5);
-        let m = common::least(vectors_text::size_at(rows, 10, at + 8, 3), rows.len() - a);
-        let e = a + m;
-        if common::nth(rows, at) == b'*' {
-            len = put_pieces(text, len, &rows[a..e], n);
-        } else {
-            run(number, &text[0..len], n, array, residue, out);
-            number += 1;
-            len = 0;
-        }
+        let m = vectors_text::size_at(rows, 10, at + 8, 3);
+        let e = a + common::least(m, rows.len() - a);
+        h = take_row(common::nth(rows, at), n, &rows[a..e], h, text, array, residue, out);
         at = e;
     }
 }
