@@ -169,7 +169,7 @@ item-returns-4 : (t : ℕ) → item-lts.Need-returns-4 (
 item-returns-4 t c =
     let o = c .before .before .before .before .before .before in let s = o .args .text .now in let x = o .args .x in let h = o .pre .1 .1 in
     let w = sym (c .before .before .before .before .word-at .ensures) ∙ c .before .before .enum-told4 .given .1 in
-    (reading.item-over s x (o .args .depth) (o .args .p) h w (c .if1 .taken), reading.fault-ahead s x (reading.faultOf (x .line)) (reading.line-nonzero x h))
+    (reading.item-over s x (o .args .depth) (o .args .p) h w (let l = c .if1 .taken in omega arith), reading.fault-ahead s x (reading.faultOf (x .line)) (reading.line-nonzero x h))
 
 item-add-t9 : (t : ℕ) → item-lts.Need-add-t9 (
   word-at-reads.Asked,
@@ -235,7 +235,7 @@ item-returns-5 : (t : ℕ) → item-lts.Need-returns-5 (
 item-returns-5 t c =
     let o = c .before .before .before .before .before .before .before .before .before .before in let s = o .args .text .now in let x = o .args .x in let h = o .pre .1 .1 in
     let w = sym (c .before .before .before .before .before .before .before .before .word-at .ensures) ∙ c .before .before .before .before .before .before .enum-told4 .given .1 in
-    (reading.item-traced s x (o .args .depth) (o .args .p) h w (c .before .before .before .before .if1 .left), reading.traced-ahead s x h (o .args .p) w (c .before .before .before .before .if1 .left))
+    (reading.item-traced s x (o .args .depth) (o .args .p) h w (let l = c .before .before .before .before .if1 .left in omega arith), reading.traced-ahead s x h (o .args .p) w (let l = c .before .before .before .before .if1 .left in omega arith))
 
 item-enum-known-w : (t : ℕ) → item-lts.Need-enum-known-w (
   word-at-reads.Asked,

@@ -69,7 +69,7 @@ again-returns : (t : ℕ) → again-lts.Need-returns (
 ) (again-at t) again.Post
 again-returns t c =
     let a = c .before .before .before .before .before .before .before .before .before .before .before .before .args in let q = c .before .before .before .before .before .run-list in
-    (runs.again-one (a .text .now) (a .x) (q .result) (a .n) (a .array .now) (a .residue .now) (a .out .now) (q .last .1 .1 .0) (q .last .1 .1 .1 .1 .0) (q .ensures .0) (c .if1 .taken), q .ensures .1)
+    (runs.again-one (a .text .now) (a .x) (q .result) (a .n) (a .array .now) (a .residue .now) (a .out .now) (q .last .1 .1 .0) (q .last .1 .1 .1 .1 .0) (q .ensures .0) (let l = c .if1 .taken in omega arith), q .ensures .1)
 again-sub-again : (t : ℕ) → again-lts.Need-sub-again (
   run-list-below t,
   run-list.Post,
@@ -111,7 +111,7 @@ again-returns-2 t c =
     let a = c .before .before .before .before .before .before .before .before .before .before .before .before .before .before .before .before .before .before .before .before .args in
     let q = c .before .before .before .before .before .before .before .before .before .before .before .before .before .run-list in let n = q .kept .1 .1 .1 .1 .0 in
     let k = c .before .before .before .before .again in let g = k .ensures .1 in let g2 = g .2 in
-    (runs.again-more (a .text .now) (a .x) (q .result) (k .result) (a .n) (a .array .now) (a .residue .now) (a .out .now) (q .last .1 .1 .0) (q .last .1 .1 .1 .1 .0) (k .last .1 .1 .1 .0) (k .last .1 .1 .1 .1 .1 .0) (q .ensures .0) (c .before .before .before .before .before .before .before .before .if1 .left) n (k .ensures .0), (g .0, g .1, omega arith))
+    (runs.again-more (a .text .now) (a .x) (q .result) (k .result) (a .n) (a .array .now) (a .residue .now) (a .out .now) (q .last .1 .1 .0) (q .last .1 .1 .1 .1 .0) (k .last .1 .1 .1 .0) (k .last .1 .1 .1 .1 .1 .0) (q .ensures .0) (let l = c .before .before .before .before .before .before .before .before .if1 .left in omega arith) n (k .ensures .0), (g .0, g .1, omega arith))
 run-list-word-at-requires : (t : ℕ) → run-list-lts.Need-word-at-requires (
   word-at-reads.Asked,
   word-at-reads.Learnt,
