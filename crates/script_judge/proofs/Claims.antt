@@ -4,9 +4,9 @@ use mathlib.Core.List.{List, []}
 use mathlib.Core.Logic.{_↔_}
 use Prim.Native.Nat.{ℕ, _*_}
 use lib.ListN.{length}
-use Rattle.script_lines.specs.Scripts.{Script, printOn, Formed, writtenIn, writtenOut, Allowed}
+use Rattle.script_lines.specs.Scripts.{Script, printOn, Formed, writtenIn, linesWritten, Allowed}
 use Rattle.script_lines.proofs.Written as written
-use Rattle.script_judge.specs.Judges.{fineAs, judgeOf}
+use Rattle.script_judge.specs.Judges.{fineAs, scriptJudged}
 use Rattle.script_judge.specs.Reads.{scriptIn}
 use Rattle.script_judge.specs.Faults.{FaultAt}
 use Rattle.script_judge.proofs.Reader as reader
@@ -15,10 +15,10 @@ use Rattle.script_judge.proofs.Ends as ends
 
 -- Exactly the allowed scripts are read: a text has no line at fault and states s exactly where s is allowed and the text is its
 -- print. (Both halves: what is read was printed, and what is allowed is read.)
-pub read-exactly : (text : List ℕ) (s : Script) → ((judgeOf text .fault ≡ 0) × (scriptIn text ≡ s)) ↔ (Allowed s × (printOn s [] ≡ text))
+pub read-exactly : (text : List ℕ) (s : Script) → ((scriptJudged text .fault ≡ 0) × (scriptIn text ≡ s)) ↔ (Allowed s × (printOn s [] ≡ text))
 read-exactly = reader.read-exactly
 
-pub read-printed : (text : List ℕ) → judgeOf text .fault ≡ 0 → Allowed (scriptIn text) × (printOn (scriptIn text) [] ≡ text)
+pub read-printed : (text : List ℕ) → scriptJudged text .fault ≡ 0 → Allowed (scriptIn text) × (printOn (scriptIn text) [] ≡ text)
 read-printed = reader.read-printed
 
 -- Each in one way: two scripts of the form that print alike are one, whether allowed or too long.
@@ -26,23 +26,23 @@ pub print-once : (s t : Script) → Formed 8 s → Formed 8 t → printOn s [] �
 print-once = once.in-one-way
 
 -- A text with a line at fault is the print of no allowed script.
-pub not-read : (text : List ℕ) → (judgeOf text .fault ≡ 0 → ⊥) ↔ ((s : Script) → Allowed s → printOn s [] ≡ text → ⊥)
+pub not-read : (text : List ℕ) → (scriptJudged text .fault ≡ 0 → ⊥) ↔ ((s : Script) → Allowed s → printOn s [] ≡ text → ⊥)
 not-read = reader.not-read
 
 -- The line that the judge gives is the first at fault, as it is told without a reader, and there is no other.
-pub first-fault : (text : List ℕ) (i : ℕ) → (i ≡ 0 → ⊥) → (judgeOf text .fault ≡ i) ↔ FaultAt text i
+pub first-fault : (text : List ℕ) (i : ℕ) → (i ≡ 0 → ⊥) → (scriptJudged text .fault ≡ i) ↔ FaultAt text i
 first-fault = ends.first-fault
 
 pub one-fault : (text : List ℕ) (i j : ℕ) → FaultAt text i → FaultAt text j → i ≡ j
 one-fault = ends.one-fault
 
 -- An allowed script has none, and the lines counted are those written out, each group's as often as its count says.
-pub judged-fine : (s : Script) → Allowed s → judgeOf (printOn s []) ≡ fineAs (length (writtenOut s))
+pub judged-fine : (s : Script) → Allowed s → scriptJudged (printOn s []) ≡ fineAs (length (linesWritten s))
 judged-fine = reader.judged-fine
 
-pub written-length : (s : Script) (p : ℕ) → writtenIn p s ≡ p * length (writtenOut s)
+pub written-length : (s : Script) (p : ℕ) → writtenIn p s ≡ p * length (linesWritten s)
 written-length = written.written-length
 
 -- The empty text is the empty script.
-pub empty-script : judgeOf [] ≡ fineAs 0
+pub empty-script : scriptJudged [] ≡ fineAs 0
 empty-script = ends.empty-script

@@ -18,24 +18,11 @@ use Rattle.script_lines.specs.declared.Word.the-variants.{Ends, Bad, Traced, Op
 use Rattle.script_lines.specs.Scripts.{Script, done, line, group, openBy, closeBy, printOn, Some, Formed, linesIn, writtenIn, Allowed}
 use Rattle.script_lines.specs.Words.{wordIn}
 use Rattle.script_lines.proofs.Words.{code, ends-text}
+use Rattle.script_lines.proofs.Written.{at-least}
 use Rattle.script_lines.proofs.Forms.{word-traced, word-closes, word-opens, traced-text, closes-text, opens-text, traced-word, closes-word, opens-word, empty-word, same-count, same-line, line-high}
 use Rattle.script_judge.specs.declared.Judged.{Judged}
-use Rattle.script_judge.specs.Judges.{faultAs, fineAs, capped, judge, judgeOf, endOf}
+use Rattle.script_judge.specs.Judges.{faultAs, fineAs, capped, judge, scriptJudged, endOf}
 use Rattle.script_judge.proofs.Turns.{turn, j-bad, j-traced, j-traced-over, j-open, j-open-deep, j-close, j-close-true}
-
--- a list that is not empty writes out at least once the product around it
-pub at-least : (d p : ℕ) (b : Script) → Formed d b → Some b → p ≤ writtenIn p b
-unfolding Formed writtenIn
-at-least d p done f s = absurd s
-at-least d p (line k r) f s = omega arith
-at-least zero p (group n b r) f s = absurd f
-at-least (suc d) p (group n b r) f s =
-    let i = at-least d (p * n) b (f .3) (f .2) in
-    let j = grows p n (f .0) in
-    omega arith
-  where
-  grows : (p n : ℕ) → 1 ≤ n → p ≤ p * n
-  grows p n l = let k = mul-le-mul-left p l in omega arith
 
 pub capped-is : (p : ℕ) → p ≤ 9999 → capped p ≡ p
 capped-is p l = simp (le-leb p 9999 l)
@@ -92,7 +79,7 @@ feed (group x b r) (suc d) n u m K p e t w text f k a bb c =
   flat (group n b r) = refl
 
 -- every allowed script, printed, has no fault, and its lines written out are counted
-pub accepted : (s : Script) → Allowed s → judgeOf (printOn s []) ≡ fineAs (writtenIn 1 s)
+pub accepted : (s : Script) → Allowed s → scriptJudged (printOn s []) ≡ fineAs (writtenIn 1 s)
 accepted s a =
     let b = a .short in
     let m = 3000 - linesIn s in
@@ -206,7 +193,7 @@ sound (suc n) u ℓ K p e t text a l c h =
   pred n = omega arith
 
 -- what is accepted is an allowed script, printed
-pub was-printed : (text : List ℕ) → judgeOf text .fault ≡ 0 → (s : Script) × (text ≡ printOn s []) × Allowed s
+pub was-printed : (text : List ℕ) → scriptJudged text .fault ≡ 0 → (s : Script) × (text ≡ printOn s []) × Allowed s
 unfolding Tail
 was-printed text h =
     let r = sound 3000 0 1 [] 1 false 0 text refl (omega arith) (omega arith) h in

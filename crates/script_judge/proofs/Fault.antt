@@ -20,7 +20,7 @@ use Rattle.script_lines.specs.Words.{wordIn}
 use Rattle.script_lines.proofs.Words.{code, ends-text}
 use Rattle.script_lines.proofs.Forms.{word-traced, word-closes, word-opens, traced-text, closes-text, opens-text, traced-word, closes-word, opens-word, empty-word, same-count, same-line, line-high}
 use Rattle.script_judge.specs.declared.Judged.{Judged}
-use Rattle.script_judge.specs.Judges.{faultAs, fineAs, capped, judge, judgeOf, endOf}
+use Rattle.script_judge.specs.Judges.{faultAs, fineAs, capped, judge, scriptJudged, endOf}
 use Rattle.script_judge.specs.Faults.{Mark, aLine, anOpen, aClose, formOf, marksOn, bytesOn, Begins, sums, Fine, FaultAt}
 use Rattle.script_judge.proofs.Turns.{turn, j-bad, j-traced, j-traced-over, j-open, j-open-deep, j-close, j-close-true}
 use Rattle.script_judge.proofs.Exact.{capped-under}
@@ -172,7 +172,7 @@ from (suc n) u K p e t text ℓ r a c z h =
   pred : (n : ℕ) → n ≡ suc n - 1
   pred n = omega arith
 
-pub first-fault : (text : List ℕ) (i : ℕ) → judgeOf text .fault ≡ i → (i ≡ 0 → ⊥) → FaultAt text i
+pub first-fault : (text : List ℕ) (i : ℕ) → scriptJudged text .fault ≡ i → (i ≡ 0 → ⊥) → FaultAt text i
 unfolding Whole
 first-fault text i h z =
     let f = from 3000 0 [] 1 false 0 text 1 i refl (omega arith) z h in

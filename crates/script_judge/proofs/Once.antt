@@ -21,7 +21,7 @@ use Rattle.script_lines.specs.Inner.{Stop, nothing, closing}
 use Rattle.script_lines.proofs.Words.{code, ends-text}
 use Rattle.script_lines.proofs.Forms.{word-traced, word-closes, word-opens, traced-text, closes-text, opens-text, traced-word, closes-word, opens-word, empty-word, same-count, same-line, line-high}
 use Rattle.script_judge.specs.declared.Judged.{Judged}
-use Rattle.script_judge.specs.Judges.{faultAs, fineAs, capped, judge, judgeOf, endOf}
+use Rattle.script_judge.specs.Judges.{faultAs, fineAs, capped, judge, scriptJudged, endOf}
 
 first : {x y : List ℕ} → x ≡ y → getD x 0 0 ≡ getD y 0 0
 first e = ap (λ (l : List ℕ). getD l 0 0) e

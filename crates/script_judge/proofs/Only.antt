@@ -20,7 +20,7 @@ use Rattle.script_lines.specs.Words.{wordIn}
 use Rattle.script_lines.proofs.Words.{code, ends-text}
 use Rattle.script_lines.proofs.Forms.{word-traced, word-closes, word-opens, traced-text, closes-text, opens-text, traced-word, closes-word, opens-word, empty-word, same-count, same-line, line-high}
 use Rattle.script_judge.specs.declared.Judged.{Judged}
-use Rattle.script_judge.specs.Judges.{faultAs, fineAs, capped, judge, judgeOf, endOf}
+use Rattle.script_judge.specs.Judges.{faultAs, fineAs, capped, judge, scriptJudged, endOf}
 use Rattle.script_judge.specs.Faults.{Mark, aLine, anOpen, aClose, formOf, marksOn, bytesOn, Begins, sums, Fine, FaultAt}
 use Rattle.script_judge.proofs.Exact.{was-printed}
 use Rattle.script_judge.proofs.Starts.{Walks, walks-front, begins-walks, walks-begins}
@@ -167,8 +167,8 @@ no-fault-in s i a f = by (ltb (length (f .before)) (length (marksOn s []))) (ltb
       f .not-whole (o .1) s (a .formed) (o .0)
 
 -- the judge's number, both ways: 0 exactly for the printed allowed scripts, i exactly where line i is the first at fault
-pub faulted : (text : List ℕ) (i : ℕ) → FaultAt text i → judgeOf text .fault ≡ i
-faulted text i f = by (judgeOf text .fault) refl where
-  by : (r : ℕ) → judgeOf text .fault ≡ r → r ≡ i
+pub faulted : (text : List ℕ) (i : ℕ) → FaultAt text i → scriptJudged text .fault ≡ i
+faulted text i f = by (scriptJudged text .fault) refl where
+  by : (r : ℕ) → scriptJudged text .fault ≡ r → r ≡ i
   by zero e = let s = was-printed text e in absurd (no-fault-in (s .0) i (s .2) (subst (λ (x : List ℕ). FaultAt x i) (s .1) f))
   by (suc r) e = one-fault text (suc r) i (first-fault text (suc r) e (λ z. absurd (omega arith))) f

@@ -9,13 +9,13 @@ use Rattle.model_types.specs.declared.Cycle.{Cycle}
 use Rattle.trace_lines.specs.Lines.{lineOf, cycleStated}
 use Rattle.script_lines.specs.declared.Word.{Word}
 use Rattle.script_lines.specs.declared.Word.the-variants.{Ends, Traced, Opens, Closes}
-use Rattle.script_lines.specs.Scripts.{Script, done, line, group, openBy, closeBy, printOn, Formed, linesIn, writtenIn, writtenOut, Allowed}
+use Rattle.script_lines.specs.Scripts.{Script, done, line, group, openBy, closeBy, printOn, Formed, linesIn, writtenIn, linesWritten, Allowed}
 use Rattle.script_lines.specs.Words.{wordIn}
 use Rattle.script_lines.specs.Inner.{Stop, nothing, closing}
 use Rattle.script_lines.proofs.Forms.{traced-word, closes-word, opens-word, empty-word, printed-line}
 use Rattle.script_lines.proofs.Written.{written-length}
 use Rattle.script_judge.specs.declared.Judged.{Judged}
-use Rattle.script_judge.specs.Judges.{fineAs, judgeOf}
+use Rattle.script_judge.specs.Judges.{fineAs, scriptJudged}
 use Rattle.script_judge.specs.Reads.{Listed, noItem, lineThen, groupThen, listBy, listIn, scriptIn}
 use Rattle.script_judge.proofs.Exact.{accepted, was-printed}
 
@@ -62,28 +62,28 @@ unfolding scriptIn
 read-back s a = ap (λ (x : Listed). x .script) (list-back s 8 3000 [] (a .formed) nothing (a .short))
 
 -- it has no fault, and its lines written out are counted
-pub judged-fine : (s : Script) → Allowed s → judgeOf (printOn s []) ≡ fineAs (length (writtenOut s))
-judged-fine s a = accepted s a ∙ ap (λ (m : ℕ). fineAs m) (written-length s 1 ∙ (let e : 1 * length (writtenOut s) ≡ length (writtenOut s) = omega arith in e))
+pub judged-fine : (s : Script) → Allowed s → scriptJudged (printOn s []) ≡ fineAs (length (linesWritten s))
+judged-fine s a = accepted s a ∙ ap (λ (m : ℕ). fineAs m) (written-length s 1 ∙ (let e : 1 * length (linesWritten s) ≡ length (linesWritten s) = omega arith in e))
 
 -- what has no fault is the print of the script read, which is allowed
-pub read-printed : (text : List ℕ) → judgeOf text .fault ≡ 0 → Allowed (scriptIn text) × (printOn (scriptIn text) [] ≡ text)
+pub read-printed : (text : List ℕ) → scriptJudged text .fault ≡ 0 → Allowed (scriptIn text) × (printOn (scriptIn text) [] ≡ text)
 read-printed text h =
     let p = was-printed text h in
     let e : scriptIn text ≡ p .0 = ap (λ (t : List ℕ). scriptIn t) (p .1) ∙ read-back (p .0) (p .2) in
     (subst (λ (s : Script). Allowed s) (sym e) (p .2), ap (λ (s : Script). printOn s []) e ∙ sym (p .1))
 
-pub read-exactly : (text : List ℕ) (s : Script) → ((judgeOf text .fault ≡ 0) × (scriptIn text ≡ s)) ↔ (Allowed s × (printOn s [] ≡ text))
+pub read-exactly : (text : List ℕ) (s : Script) → ((scriptJudged text .fault ≡ 0) × (scriptIn text ≡ s)) ↔ (Allowed s × (printOn s [] ≡ text))
 read-exactly text s = (
-  λ (h : (judgeOf text .fault ≡ 0) × (scriptIn text ≡ s)).
+  λ (h : (scriptJudged text .fault ≡ 0) × (scriptIn text ≡ s)).
       let p = read-printed text (h .0) in
       (subst (λ (x : Script). Allowed x) (h .1) (p .0), subst (λ (x : Script). printOn x [] ≡ text) (h .1) (p .1)),
   λ (h : Allowed s × (printOn s [] ≡ text)).
-      (ap (λ (t : List ℕ). judgeOf t .fault) (sym (h .1)) ∙ ap (λ (j : Judged). j .fault) (judged-fine s (h .0)), ap (λ (t : List ℕ). scriptIn t) (sym (h .1)) ∙ read-back s (h .0)),
+      (ap (λ (t : List ℕ). scriptJudged t .fault) (sym (h .1)) ∙ ap (λ (j : Judged). j .fault) (judged-fine s (h .0)), ap (λ (t : List ℕ). scriptIn t) (sym (h .1)) ∙ read-back s (h .0)),
 )
 
 -- a text with a fault is the print of no allowed script
-pub not-read : (text : List ℕ) → (judgeOf text .fault ≡ 0 → ⊥) ↔ ((s : Script) → Allowed s → printOn s [] ≡ text → ⊥)
+pub not-read : (text : List ℕ) → (scriptJudged text .fault ≡ 0 → ⊥) ↔ ((s : Script) → Allowed s → printOn s [] ≡ text → ⊥)
 not-read text = (
-  λ (h : judgeOf text .fault ≡ 0 → ⊥) (s : Script) (a : Allowed s) (e : printOn s [] ≡ text). h (read-exactly text s .1 (a, e) .0),
-  λ (h : (s : Script) → Allowed s → printOn s [] ≡ text → ⊥) (z : judgeOf text .fault ≡ 0). h (scriptIn text) (read-printed text z .0) (read-printed text z .1),
+  λ (h : scriptJudged text .fault ≡ 0 → ⊥) (s : Script) (a : Allowed s) (e : printOn s [] ≡ text). h (read-exactly text s .1 (a, e) .0),
+  λ (h : (s : Script) → Allowed s → printOn s [] ≡ text → ⊥) (z : scriptJudged text .fault ≡ 0). h (scriptIn text) (read-printed text z .0) (read-printed text z .1),
 )

@@ -20,7 +20,7 @@ use Rattle.script_lines.specs.Words.{wordIn}
 use Rattle.script_lines.proofs.Words.{code, ends-text}
 use Rattle.script_lines.proofs.Forms.{word-traced, word-closes, word-opens, traced-text, closes-text, opens-text, traced-word, closes-word, opens-word, empty-word, same-count, same-line, line-high}
 use Rattle.script_judge.specs.declared.Judged.{Judged}
-use Rattle.script_judge.specs.Judges.{faultAs, fineAs, capped, judge, judgeOf, endOf}
+use Rattle.script_judge.specs.Judges.{faultAs, fineAs, capped, judge, scriptJudged, endOf}
 use Rattle.script_judge.specs.Faults.{Mark, aLine, anOpen, aClose, marksOn, Begins}
 use Rattle.script_judge.proofs.Exact.{must, formed-more, not-both}
 

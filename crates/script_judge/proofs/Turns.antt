@@ -14,14 +14,14 @@ use Rattle.script_lines.specs.declared.Word.the-variants.{Ends, Bad, Traced, Op
 use Rattle.script_lines.specs.Words.{wordIn, isCloses, isEnds}
 use Rattle.script_lines.proofs.Forms.{word-traced, word-closes, word-opens}
 use Rattle.script_judge.specs.declared.Judged.{Judged}
-use Rattle.script_judge.specs.Judges.{faultAs, fineAs, follow, endOf, closeOf, capped, turnOf, judge}
+use Rattle.script_judge.specs.Judges.{faultAs, fineAs, follow, endOf, closeOf, capped, lineTurn, judge}
 
 -- one turn, at any number of lines left
 pub turn : (n ℓ : ℕ) (K : List ℕ) (p : ℕ) (e : Bool) (t : ℕ) (text : List ℕ) (w : Word) → wordIn n text ≡ w
-    → judge n ℓ K p e t text ≡ follow (turnOf w ℓ K p e t) (λ K′ p′ e′ t′ u. if eqb n 0 then faultAs ℓ else judge (n - 1) (ℓ + 1) K′ p′ e′ t′ (drop u text))
+    → judge n ℓ K p e t text ≡ follow (lineTurn w ℓ K p e t) (λ K′ p′ e′ t′ u. if eqb n 0 then faultAs ℓ else judge (n - 1) (ℓ + 1) K′ p′ e′ t′ (drop u text))
 unfolding judge
-turn zero ℓ K p e t text w h = ap (λ (v : Word). follow (turnOf v ℓ K p e t) (λ K′ p′ e′ t′ u. faultAs ℓ)) h
-turn (suc n) ℓ K p e t text w h = let k : suc n - 1 ≡ n = omega arith in simp (k, ne-eqb (suc n) 0 (λ z. omega arith)) (ap (λ (v : Word). follow (turnOf v ℓ K p e t) (λ K′ p′ e′ t′ u. judge n (ℓ + 1) K′ p′ e′ t′ (drop u text))) h)
+turn zero ℓ K p e t text w h = ap (λ (v : Word). follow (lineTurn v ℓ K p e t) (λ K′ p′ e′ t′ u. faultAs ℓ)) h
+turn (suc n) ℓ K p e t text w h = let k : suc n - 1 ≡ n = omega arith in simp (k, ne-eqb (suc n) 0 (λ z. omega arith)) (ap (λ (v : Word). follow (lineTurn v ℓ K p e t) (λ K′ p′ e′ t′ u. judge n (ℓ + 1) K′ p′ e′ t′ (drop u text))) h)
 
 -- ---- the judge by the line at hand
 more : (n ℓ : ℕ) (r : Judged) → 1 ≤ n → (if eqb n 0 then faultAs ℓ else r) ≡ r

@@ -5,7 +5,7 @@ use Prim.Native.Nat.{ℕ}
 use Rattle.common.specs.Choice.{Unique}
 use Rattle.common.proofs.Choice.{only}
 use Rattle.script_judge.specs.declared.Judged.{Judged}
-use Rattle.script_judge.specs.Judges.{judgeOf}
+use Rattle.script_judge.specs.Judges.{scriptJudged}
 
-pub judge-script-unique : (text : List ℕ) → Unique (λ (r : Judged). r ≡ judgeOf text)
-judge-script-unique text = only (judgeOf text)
+pub judge-script-unique : (text : List ℕ) → Unique (λ (r : Judged). r ≡ scriptJudged text)
+judge-script-unique text = only (scriptJudged text)

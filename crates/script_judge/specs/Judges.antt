@@ -43,18 +43,18 @@ capped p = if leb p 9999 then p else 9999
 
 -- line ℓ by its word: a trace line adds the product around it, and is at fault where the total passes 9,998; an opening line is
 -- at fault where eight groups are open
-abbrev pub turnOf : Word → ℕ → List ℕ → ℕ → Bool → ℕ → Turn
-turnOf Ends ℓ K p must t = stops (endOf ℓ K must t)
-turnOf Bad ℓ K p must t = stops (faultAs ℓ)
-turnOf Traced ℓ K p must t = if ltb 9998 (t + p) then stops (faultAs ℓ) else goes K p false (t + p) 20
-turnOf (Opens n) ℓ K p must t = if leb 8 (length K) then stops (faultAs ℓ) else goes (p ∷ K) (capped (p * n)) true t 6
-turnOf Closes ℓ K p must t = closeOf K ℓ must t
+abbrev pub lineTurn : Word → ℕ → List ℕ → ℕ → Bool → ℕ → Turn
+lineTurn Ends ℓ K p must t = stops (endOf ℓ K must t)
+lineTurn Bad ℓ K p must t = stops (faultAs ℓ)
+lineTurn Traced ℓ K p must t = if ltb 9998 (t + p) then stops (faultAs ℓ) else goes K p false (t + p) 20
+lineTurn (Opens n) ℓ K p must t = if leb 8 (length K) then stops (faultAs ℓ) else goes (p ∷ K) (capped (p * n)) true t 6
+lineTurn Closes ℓ K p must t = closeOf K ℓ must t
 
 -- from line ℓ on, where so many lines may still come
 unfoldable pub judge : ℕ → ℕ → List ℕ → ℕ → Bool → ℕ → List ℕ → Judged
-judge zero ℓ K p must t text = follow (turnOf (wordIn 0 text) ℓ K p must t) (λ K′ p′ must′ t′ u. faultAs ℓ)
-judge (suc n) ℓ K p must t text = follow (turnOf (wordIn (suc n) text) ℓ K p must t) (λ K′ p′ must′ t′ u. judge n (ℓ + 1) K′ p′ must′ t′ (drop u text))
+judge zero ℓ K p must t text = follow (lineTurn (wordIn 0 text) ℓ K p must t) (λ K′ p′ must′ t′ u. faultAs ℓ)
+judge (suc n) ℓ K p must t text = follow (lineTurn (wordIn (suc n) text) ℓ K p must t) (λ K′ p′ must′ t′ u. judge n (ℓ + 1) K′ p′ must′ t′ (drop u text))
 
 -- a whole script: 3,000 lines at most, the first is line 1, no group is open
-abbrev pub judgeOf : List ℕ → Judged
-judgeOf text = judge 3000 1 [] 1 false 0 text
+abbrev pub scriptJudged : List ℕ → Judged
+scriptJudged text = judge 3000 1 [] 1 false 0 text

@@ -5,7 +5,7 @@ ghost use mathlib.Core.Bool.{false};
 ghost use mathlib.Core.List.{[]};
 ghost use Prim.Native.Nat.{_≤_, _*_};
 ghost use lib.ListN.{length, drop};
-ghost use Rattle.script_judge.specs.Judges.{capped, judge, judgeOf};
+ghost use Rattle.script_judge.specs.Judges.{capped, judge, scriptJudged};
 ghost use Rattle.script_judge.specs.Inner.{ItemRead, RestRead, Sound, Ahead};
 
 // The first line at fault, and no lines; or no fault (0), and how many lines are written out.
@@ -104,7 +104,7 @@ fn top(text: &[u8], x: Spot) -> Judged
 
 // A whole script judged: 3,000 lines at most.
 pub fn judge_script(text: &[u8]) -> Judged
-    ensures { λ r. ⌜ r ≡ judgeOf (now (text .entry)) ⌝ }
+    ensures { λ r. ⌜ r ≡ scriptJudged (now (text .entry)) ⌝ }
 {
     top(text, Spot { fault: 0, at: 0, left: 3000, line: 1, total: 0 })
 }

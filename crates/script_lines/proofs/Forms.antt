@@ -19,7 +19,7 @@ use Rattle.trace_lines.proofs.Forms.{read-good}
 use Rattle.script_lines.specs.declared.Word.{Word}
 use Rattle.script_lines.specs.declared.Word.the-variants.{Ends, Bad, Traced, Opens, Closes}
 use Rattle.script_lines.specs.Scripts.{openBy, closeBy}
-use Rattle.script_lines.specs.Words.{openForm, closeForm, isTraced, isOpening, isClosing, countOf, wordIn}
+use Rattle.script_lines.specs.Words.{openForm, closeForm, isTraced, isOpening, isClosing, countStated, wordIn}
 use Rattle.script_lines.proofs.Words.{traced-says, closes-says, opens-says}
 
 -- a text that begins with a line of a form is as long
@@ -96,7 +96,7 @@ count-back m l =
 -- two counts that print alike are one
 pub same-count : (m n : ℕ) → m ≤ 999 → n ≤ 999 → (x y : List ℕ) → openBy m ++ x ≡ openBy n ++ y → m ≡ n
 same-count m n a b x y e =
-    sym (count-back m a) ∙ ap (λ (l : List ℕ). countOf l) e ∙ count-back n b
+    sym (count-back m a) ∙ ap (λ (l : List ℕ). countStated l) e ∙ count-back n b
 
 -- ---- from the word to the text
 two : (text : List ℕ) → 2 ≤ length text → text ≡ getD text 0 0 ∷ getD text 1 0 ∷ drop 2 text
@@ -129,10 +129,10 @@ closes-text n text h = go text (closes-says n text h .1) (word-closes n text h .
       ∷ (eqb-true b 10 (form-at newline closeForm (a ∷ b ∷ []) e 1 (omega arith)) i)
       ∷ xs
 
-opening : (text : List ℕ) → isOpening text ≡ true → (6 ≤ length text) × (countOf text ≤ 999) × (text ≡ openBy (countOf text) ++ drop 6 text)
+opening : (text : List ℕ) → isOpening text ≡ true → (6 ≤ length text) × (countStated text ≤ 999) × (text ≡ openBy (countStated text) ++ drop 6 text)
 unfolding isOpening
 opening text e = go text e (long openForm text e) where
-  go : (text : List ℕ) → fits openForm (take 6 text) ≡ true → 6 ≤ length text → (6 ≤ length text) × (countOf text ≤ 999) × (text ≡ openBy (countOf text) ++ drop 6 text)
+  go : (text : List ℕ) → fits openForm (take 6 text) ≡ true → 6 ≤ length text → (6 ≤ length text) × (countStated text ≤ 999) × (text ≡ openBy (countStated text) ++ drop 6 text)
   go [] e l = absurd (omega arith)
   go (a ∷ []) e l = absurd (omega arith)
   go (a ∷ b ∷ []) e l = absurd (omega arith)

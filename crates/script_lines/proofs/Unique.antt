@@ -7,7 +7,7 @@ use lib.ListN.{drop}
 use Rattle.common.specs.Choice.{Unique}
 use Rattle.common.proofs.Choice.{only}
 use Rattle.script_lines.specs.declared.Word.{Word}
-use Rattle.script_lines.specs.Words.{isTraced, isOpening, isClosing, countOf, wordIn, isEnds, isCloses}
+use Rattle.script_lines.specs.Words.{isTraced, isOpening, isClosing, countStated, wordIn, isEnds, isCloses}
 
 pub is-traced-unique : (text : List ℕ) → Unique (λ (r : Bool). r ≡ isTraced text)
 is-traced-unique text = only (isTraced text)
@@ -18,8 +18,8 @@ is-opening-unique text = only (isOpening text)
 pub is-closing-unique : (text : List ℕ) → Unique (λ (r : Bool). r ≡ isClosing text)
 is-closing-unique text = only (isClosing text)
 
-pub count-unique : (text : List ℕ) → Unique (λ (r : ℕ). r ≡ countOf text)
-count-unique text = only (countOf text)
+pub count-unique : (text : List ℕ) → Unique (λ (r : ℕ). r ≡ countStated text)
+count-unique text = only (countStated text)
 
 pub word-in-unique : (left : ℕ) (text : List ℕ) → Unique (λ (r : Word). r ≡ wordIn left text)
 word-in-unique left text = only (wordIn left text)

@@ -14,7 +14,7 @@ use Rattle.trace_lines.specs.Lines.{Place, fits}
 use Rattle.trace_lines.proofs.Places.{unfit}
 use Rattle.script_lines.specs.declared.Word.{Word}
 use Rattle.script_lines.specs.declared.Word.the-variants.{Ends, Bad, Traced, Opens, Closes}
-use Rattle.script_lines.specs.Words.{isTraced, isOpening, isClosing, countOf, wordIn, isCloses}
+use Rattle.script_lines.specs.Words.{isTraced, isOpening, isClosing, countStated, wordIn, isCloses}
 
 -- a text shorter than a form does not begin with a line of it
 pub cut-off : (ps : List Place) (text : List ℕ) → length text < length ps → fits ps (take (length ps) text) ≡ false
@@ -115,25 +115,25 @@ module _ (n : ℕ) (text : List ℕ) where
   pub ends-text : wordIn n text ≡ Ends → text ≡ []
   unfolding wordIn
   ends-text h =
-      nothing-left text (eqb-true (length text) 0 (by-ends (eqb (length text) 0) (eqb n 0) (isTraced text) (isClosing text) (isOpening text) (eqb (countOf text) 0) (countOf text) h))
+      nothing-left text (eqb-true (length text) 0 (by-ends (eqb (length text) 0) (eqb n 0) (isTraced text) (isClosing text) (isOpening text) (eqb (countStated text) 0) (countStated text) h))
 
   -- a line may still come, and it is there
   pub traced-says : wordIn n text ≡ Traced → (1 ≤ n) × (isTraced text ≡ true)
   unfolding wordIn
   traced-says h =
-      let f = by-traced (eqb (length text) 0) (eqb n 0) (isTraced text) (isClosing text) (isOpening text) (eqb (countOf text) 0) (countOf text) h in
+      let f = by-traced (eqb (length text) 0) (eqb n 0) (isTraced text) (isClosing text) (isOpening text) (eqb (countStated text) 0) (countStated text) h in
       (positive n (f .0), f .1)
 
   pub closes-says : wordIn n text ≡ Closes → (1 ≤ n) × (isClosing text ≡ true)
   unfolding wordIn
   closes-says h =
-      let f = by-closes (eqb (length text) 0) (eqb n 0) (isTraced text) (isClosing text) (isOpening text) (eqb (countOf text) 0) (countOf text) h in
+      let f = by-closes (eqb (length text) 0) (eqb n 0) (isTraced text) (isClosing text) (isOpening text) (eqb (countStated text) 0) (countStated text) h in
       (positive n (f .0), f .1)
 
-  pub opens-says : (v : ℕ) → wordIn n text ≡ Opens v → (1 ≤ n) × (isOpening text ≡ true) × (countOf text ≡ v) × (1 ≤ v)
+  pub opens-says : (v : ℕ) → wordIn n text ≡ Opens v → (1 ≤ n) × (isOpening text ≡ true) × (countStated text ≡ v) × (1 ≤ v)
   unfolding wordIn
   opens-says v h =
-      let f = by-opens (eqb (length text) 0) (eqb n 0) (isTraced text) (isClosing text) (isOpening text) (eqb (countOf text) 0) (countOf text) v h in
-      let m = positive (countOf text) (f .3) in
+      let f = by-opens (eqb (length text) 0) (eqb n 0) (isTraced text) (isClosing text) (isOpening text) (eqb (countStated text) 0) (countStated text) v h in
+      let m = positive (countStated text) (f .3) in
       let e = f .2 in
       (positive n (f .0), f .1, e, omega arith)

@@ -62,10 +62,10 @@ timesOn zero cs ds = ds
 timesOn (suc n) cs ds = cs ++ timesOn n cs ds
 
 -- the lines written out: the cycles that they state
-unfoldable pub writtenOut : Script → List Cycle
-writtenOut done = []
-writtenOut (line c r) = c ∷ writtenOut r
-writtenOut (group n b r) = timesOn n (writtenOut b) (writtenOut r)
+unfoldable pub linesWritten : Script → List Cycle
+linesWritten done = []
+linesWritten (line c r) = c ∷ linesWritten r
+linesWritten (group n b r) = timesOn n (linesWritten b) (linesWritten r)
 
 -- cycles as a trace: their lines one behind the other
 unfoldable pub traceOf : List Cycle → List ℕ

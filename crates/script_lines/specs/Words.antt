@@ -28,8 +28,8 @@ unfoldable pub isClosing : List ℕ → Bool
 isClosing text = fits closeForm (take 2 text)
 
 -- the count that an opening line states
-abbrev pub countOf : List ℕ → ℕ
-countOf text = (digitOf (getD text 2 0) * 10 + digitOf (getD text 3 0)) * 10 + digitOf (getD text 4 0)
+abbrev pub countStated : List ℕ → ℕ
+countStated text = (digitOf (getD text 2 0) * 10 + digitOf (getD text 3 0)) * 10 + digitOf (getD text 4 0)
 
 -- the word at the front, where so many lines may still come: nothing is left; or a line too many; or one of the three lines, a
 -- count of 000 being none; or no line of a script
@@ -39,7 +39,7 @@ wordIn left text =
     else if eqb left 0 then Bad
     else if isTraced text then Traced
     else if isClosing text then Closes
-    else if isOpening text then (if eqb (countOf text) 0 then Bad else Opens (countOf text))
+    else if isOpening text then (if eqb (countStated text) 0 then Bad else Opens (countStated text))
     else Bad
 
 -- whether a word is the end of the text, whether it closes a group

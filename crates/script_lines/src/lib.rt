@@ -3,7 +3,7 @@ ghost use mathlib.Core.Path.{_≡_};
 ghost use Prim.Native.Nat.{_≤_};
 ghost use lib.ListN.{length, take, drop};
 ghost use Rattle.trace_lines.specs.Lines.{isDigit, isLine, digitOf, fits};
-ghost use Rattle.script_lines.specs.Words.{openForm, closeForm, isTraced, isOpening, isClosing, countOf, wordIn, isEnds, isCloses};
+ghost use Rattle.script_lines.specs.Words.{openForm, closeForm, isTraced, isOpening, isClosing, countStated, wordIn, isEnds, isCloses};
 
 // What stands at the front of a text: nothing, no line of a script, a trace line, an opening line with its count, a closing line.
 pub enum Word {
@@ -78,7 +78,7 @@ fn digit(b: u8) -> usize
 
 // The count that an opening line states.
 pub fn count(text: &[u8]) -> usize
-    ensures { λ r. ⌜ r ≡ countOf (now (text .entry)) ⌝ }
+    ensures { λ r. ⌜ r ≡ countStated (now (text .entry)) ⌝ }
 {
     (digit(common::nth(text, 2)) * 10 + digit(common::nth(text, 3))) * 10 + digit(common::nth(text, 4))
 }

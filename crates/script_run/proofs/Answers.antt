@@ -8,42 +8,42 @@ use lib.ListN.{length, take, drop, length-append}
 use Rattle.model_types.specs.declared.State.{State}
 use Rattle.model_types.specs.declared.Cycle.{Cycle}
 use Rattle.trace_lines.specs.Lines.{isLine, lineOf, Fits, cycleStated}
-use Rattle.script_lines.specs.Scripts.{Script, done, line, group, Formed, timesOn, writtenOut, traceOf}
+use Rattle.script_lines.specs.Scripts.{Script, done, line, group, Formed, timesOn, linesWritten, traceOf}
 use Rattle.script_lines.proofs.Forms.{printed-line}
 use Rattle.trace_replay.specs.Answers.{printedOf}
 use Rattle.trace_replay.specs.Replays.{lineStep, arrayBy, outputFrom, arrayFrom}
 use Rattle.trace_replay.proofs.Claims.{good-line, no-line, eight-bytes}
 use Rattle.trace_replay.proofs.Scans.{not-line}
-use Rattle.script_run.specs.Inner.{stateAfter, arrayAfter, answersTo}
+use Rattle.script_run.specs.Inner.{stateThrough, arrayThrough, answersThrough}
 
 -- the answers are eight bytes each
-pub answers-length : (cs : List Cycle) (s : State) (xs rs : List ℕ) → length (answersTo cs s xs rs) ≡ 8 * length cs
-unfolding answersTo
+pub answers-length : (cs : List Cycle) (s : State) (xs rs : List ℕ) → length (answersThrough cs s xs rs) ≡ 8 * length cs
+unfolding answersThrough
 answers-length [] s xs rs = refl
 answers-length (c ∷ cs) s xs rs =
     let P = printedOf (lineStep s c xs rs) in
-    let T = answersTo cs (lineStep s c xs rs .state) (arrayBy s c xs rs) rs in
+    let T = answersThrough cs (lineStep s c xs rs .state) (arrayBy s c xs rs) rs in
     length-append P T
     ∙ (let z : length P + length T ≡ 8 * suc (length cs) = omega (arith, eight-bytes (lineStep s c xs rs), answers-length cs (lineStep s c xs rs .state) (arrayBy s c xs rs) rs) in z)
 
 -- cs, and then ds
-pub state-append : (cs ds : List Cycle) (s : State) (xs rs : List ℕ) → stateAfter ds (stateAfter cs s xs rs) (arrayAfter cs s xs rs) rs ≡ stateAfter (cs ++ ds) s xs rs
-unfolding stateAfter arrayAfter
+pub state-append : (cs ds : List Cycle) (s : State) (xs rs : List ℕ) → stateThrough ds (stateThrough cs s xs rs) (arrayThrough cs s xs rs) rs ≡ stateThrough (cs ++ ds) s xs rs
+unfolding stateThrough arrayThrough
 state-append [] ds s xs rs = refl
 state-append (c ∷ cs) ds s xs rs = state-append cs ds (lineStep s c xs rs .state) (arrayBy s c xs rs) rs
 
-pub array-append : (cs ds : List Cycle) (s : State) (xs rs : List ℕ) → arrayAfter ds (stateAfter cs s xs rs) (arrayAfter cs s xs rs) rs ≡ arrayAfter (cs ++ ds) s xs rs
-unfolding stateAfter arrayAfter
+pub array-append : (cs ds : List Cycle) (s : State) (xs rs : List ℕ) → arrayThrough ds (stateThrough cs s xs rs) (arrayThrough cs s xs rs) rs ≡ arrayThrough (cs ++ ds) s xs rs
+unfolding stateThrough arrayThrough
 array-append [] ds s xs rs = refl
 array-append (c ∷ cs) ds s xs rs = array-append cs ds (lineStep s c xs rs .state) (arrayBy s c xs rs) rs
 
 pub answers-append : (cs ds : List Cycle) (s : State) (xs rs : List ℕ)
-    → answersTo cs s xs rs ++ answersTo ds (stateAfter cs s xs rs) (arrayAfter cs s xs rs) rs ≡ answersTo (cs ++ ds) s xs rs
-unfolding stateAfter arrayAfter answersTo
+    → answersThrough cs s xs rs ++ answersThrough ds (stateThrough cs s xs rs) (arrayThrough cs s xs rs) rs ≡ answersThrough (cs ++ ds) s xs rs
+unfolding stateThrough arrayThrough answersThrough
 answers-append [] ds s xs rs = refl
 answers-append (c ∷ cs) ds s xs rs =
     let s′ = lineStep s c xs rs .state in let xs′ = arrayBy s c xs rs in
-    append-assoc (printedOf (lineStep s c xs rs)) (answersTo cs s′ xs′ rs) (answersTo ds (stateAfter cs s′ xs′ rs) (arrayAfter cs s′ xs′ rs) rs)
+    append-assoc (printedOf (lineStep s c xs rs)) (answersThrough cs s′ xs′ rs) (answersThrough ds (stateThrough cs s′ xs′ rs) (arrayThrough cs s′ xs′ rs) rs)
     ∙ ap (λ (q : List ℕ). printedOf (lineStep s c xs rs) ++ q) (answers-append cs ds s′ xs′ rs)
 
 -- a list n times over, and another behind it
@@ -67,16 +67,16 @@ unfolding timesOn
 fitting-times zero cs ds f g = g
 fitting-times (suc n) cs ds f g = fitting-append cs (timesOn n cs ds) f (fitting-times n cs ds f g)
 
-pub written-fit : (s : Script) (d : ℕ) → Formed d s → Fitting (writtenOut s)
-unfolding Formed writtenOut Fitting
+pub written-fit : (s : Script) (d : ℕ) → Formed d s → Fitting (linesWritten s)
+unfolding Formed linesWritten Fitting
 written-fit done d f = tt
 written-fit (line c r) d f = (f .0, written-fit r d (f .1))
 written-fit (group n b r) zero f = absurd f
-written-fit (group n b r) (suc d) f = fitting-times n (writtenOut b) (writtenOut r) (written-fit b d (f .3)) (written-fit r (suc d) (f .4))
+written-fit (group n b r) (suc d) f = fitting-times n (linesWritten b) (linesWritten r) (written-fit b d (f .3)) (written-fit r (suc d) (f .4))
 
 -- the replay of a trace of k lines at most is the answers to its cycles, and leaves their array
-pub replay-answers : (cs : List Cycle) (k n : ℕ) (s : State) (xs rs : List ℕ) → Fitting cs → length cs ≤ k → outputFrom k n s xs rs (traceOf cs) ≡ answersTo cs s xs rs
-unfolding traceOf answersTo Fitting
+pub replay-answers : (cs : List Cycle) (k n : ℕ) (s : State) (xs rs : List ℕ) → Fitting cs → length cs ≤ k → outputFrom k n s xs rs (traceOf cs) ≡ answersThrough cs s xs rs
+unfolding traceOf answersThrough Fitting
 replay-answers [] k n s xs rs f l = no-line k n s xs rs
 replay-answers (c ∷ cs) zero n s xs rs f l = absurd (omega arith)
 replay-answers (c ∷ cs) (suc k) n s xs rs f l =
@@ -95,8 +95,8 @@ unfolding arrayFrom
 array-none zero s xs rs = refl
 array-none (suc k) s xs rs = rw (not-line [] (λ (e : _≡_ {A = ℕ} 0 20). omega arith)) refl
 
-pub replay-array : (cs : List Cycle) (k : ℕ) (s : State) (xs rs : List ℕ) → Fitting cs → length cs ≤ k → arrayFrom k s xs rs (traceOf cs) ≡ arrayAfter cs s xs rs
-unfolding traceOf arrayAfter Fitting
+pub replay-array : (cs : List Cycle) (k : ℕ) (s : State) (xs rs : List ℕ) → Fitting cs → length cs ≤ k → arrayFrom k s xs rs (traceOf cs) ≡ arrayThrough cs s xs rs
+unfolding traceOf arrayThrough Fitting
 replay-array [] k s xs rs f l = array-none k s xs rs
 replay-array (c ∷ cs) zero s xs rs f l = absurd (omega arith)
 replay-array (c ∷ cs) (suc k) s xs rs f l =

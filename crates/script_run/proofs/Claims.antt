@@ -3,7 +3,7 @@ use mathlib.Core.Path.{_≡_}
 use mathlib.Core.List.{List, []}
 use Prim.Native.Nat.{ℕ, _≤_}
 use lib.ListN.{length}
-use Rattle.script_lines.specs.Scripts.{Script, printOn, Allowed, writtenOut, traceOf}
+use Rattle.script_lines.specs.Scripts.{Script, printOn, Allowed, linesWritten, traceOf}
 use Rattle.script_judge.specs.Faults.{FaultAt}
 use Rattle.trace_replay.specs.Answers.{markOf}
 use Rattle.trace_replay.specs.Replays.{outputOf, arrayLeft}
@@ -11,10 +11,10 @@ use Rattle.script_run.specs.Runs.{scriptOutput, scriptArray}
 use Rattle.script_run.proofs.Sames as sames
 
 -- The run of every allowed script gives the same output as its lines written out, replayed as a trace, and leaves the same array.
-pub same-output : (s : Script) (xs rs : List ℕ) → Allowed s → scriptOutput xs rs (printOn s []) ≡ outputOf xs rs (traceOf (writtenOut s))
+pub same-output : (s : Script) (xs rs : List ℕ) → Allowed s → scriptOutput xs rs (printOn s []) ≡ outputOf xs rs (traceOf (linesWritten s))
 same-output = sames.same-output
 
-pub same-array : (s : Script) (xs rs : List ℕ) → Allowed s → scriptArray xs rs (printOn s []) ≡ arrayLeft xs rs (traceOf (writtenOut s))
+pub same-array : (s : Script) (xs rs : List ℕ) → Allowed s → scriptArray xs rs (printOn s []) ≡ arrayLeft xs rs (traceOf (linesWritten s))
 same-array = sames.same-array
 
 -- Any other text prints the mark of its first line at fault, alone, and nothing is run: the array is as it was.

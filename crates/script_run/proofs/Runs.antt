@@ -13,7 +13,7 @@ use Rattle.model_types.specs.declared.Cycle.{Cycle}
 use Rattle.trace_lines.specs.Lines.{lineOf, cycleStated}
 use Rattle.script_lines.specs.declared.Word.{Word}
 use Rattle.script_lines.specs.declared.Word.the-variants.{Ends, Bad, Traced, Opens, Closes}
-use Rattle.script_lines.specs.Scripts.{Script, done, line, group, openBy, closeBy, printOn, Formed, linesIn, timesOn, writtenOut}
+use Rattle.script_lines.specs.Scripts.{Script, done, line, group, openBy, closeBy, printOn, Formed, linesIn, timesOn, linesWritten}
 use Rattle.script_lines.specs.Words.{wordIn, isCloses}
 use Rattle.script_lines.specs.Inner.{Stop, nothing, closing}
 use Rattle.script_lines.proofs.Words.{code, held, closes-is}
@@ -23,7 +23,7 @@ use Rattle.trace_replay.specs.Answers.{printedOf}
 use Rattle.trace_replay.specs.Replays.{lineStep, arrayBy}
 use Rattle.trace_replay.proofs.Claims.{eight-bytes}
 use Rattle.script_run.specs.declared.Run.{Run}
-use Rattle.script_run.specs.Inner.{stateAfter, arrayAfter, answersTo, lineRun, pastClose, closeRun, Ran, RunRead, AgainRead}
+use Rattle.script_run.specs.Inner.{stateThrough, arrayThrough, answersThrough, lineRun, pastClose, closeRun, Ran, RunRead, AgainRead}
 use Rattle.script_run.proofs.Laid.{laid-none, laid-more}
 use Rattle.script_run.proofs.Answers.{answers-length, state-append, array-append, answers-append, times-append}
 
@@ -32,10 +32,10 @@ use Rattle.script_run.proofs.Answers.{answers-length, state-append, arr
 module _ (text : List ℕ) (x y z r : Run) (xs rs out ys out₁ xs′ out′ : List ℕ) (cs ds : List Cycle) (T tail : List ℕ) (k m n : ℕ)
     (i : Ran text x y xs rs out ys out₁ cs T k) (j : Ran text z r ys rs out₁ xs′ out′ ds tail m)
     (eu : z .used ≡ y .used) (es : z .state ≡ y .state) (room : x .used + 8 * length (cs ++ ds) ≤ length out) (en : r .left + n ≡ x .left) where
-  st : z .state ≡ stateAfter cs (x .state) xs rs
+  st : z .state ≡ stateThrough cs (x .state) xs rs
   st = es ∙ i .state
 
-  us : z .used ≡ x .used + length (answersTo cs (x .state) xs rs)
+  us : z .used ≡ x .used + length (answersThrough cs (x .state) xs rs)
   us = eu ∙ i .used ∙ ap (λ (q : ℕ). x .used + q) (sym (answers-length cs (x .state) xs rs))
 
   inside : z .used ≤ length out
@@ -46,21 +46,21 @@ module _ (text : List ℕ) (x y z r : Run) (xs rs out ys out₁ xs′ out′ : L
     stands = j .stands;
     lines = en;
     used = let a = j .used in let b = eu ∙ i .used in let c = length-append cs ds in omega arith;
-    state = j .state ∙ ap (λ (s : State). stateAfter ds s ys rs) st ∙ ap (λ (q : List ℕ). stateAfter ds (stateAfter cs (x .state) xs rs) q rs) (i .array)
+    state = j .state ∙ ap (λ (s : State). stateThrough ds s ys rs) st ∙ ap (λ (q : List ℕ). stateThrough ds (stateThrough cs (x .state) xs rs) q rs) (i .array)
       ∙ state-append cs ds (x .state) xs rs;
-    array = j .array ∙ ap (λ (s : State). arrayAfter ds s ys rs) st ∙ ap (λ (q : List ℕ). arrayAfter ds (stateAfter cs (x .state) xs rs) q rs) (i .array)
+    array = j .array ∙ ap (λ (s : State). arrayThrough ds s ys rs) st ∙ ap (λ (q : List ℕ). arrayThrough ds (stateThrough cs (x .state) xs rs) q rs) (i .array)
       ∙ array-append cs ds (x .state) xs rs;
     laid = j .laid
-      ∙ ap (λ (s : State). overlaid out₁ (z .used) (answersTo ds s ys rs)) st
-      ∙ ap (λ (q : List ℕ). overlaid out₁ (z .used) (answersTo ds (stateAfter cs (x .state) xs rs) q rs)) (i .array)
-      ∙ ap (λ (q : List ℕ). overlaid q (z .used) (answersTo ds (stateAfter cs (x .state) xs rs) (arrayAfter cs (x .state) xs rs) rs)) (i .laid)
-      ∙ laid-more out (answersTo cs (x .state) xs rs) (answersTo ds (stateAfter cs (x .state) xs rs) (arrayAfter cs (x .state) xs rs) rs) (x .used) (z .used) us inside
+      ∙ ap (λ (s : State). overlaid out₁ (z .used) (answersThrough ds s ys rs)) st
+      ∙ ap (λ (q : List ℕ). overlaid out₁ (z .used) (answersThrough ds (stateThrough cs (x .state) xs rs) q rs)) (i .array)
+      ∙ ap (λ (q : List ℕ). overlaid q (z .used) (answersThrough ds (stateThrough cs (x .state) xs rs) (arrayThrough cs (x .state) xs rs) rs)) (i .laid)
+      ∙ laid-more out (answersThrough cs (x .state) xs rs) (answersThrough ds (stateThrough cs (x .state) xs rs) (arrayThrough cs (x .state) xs rs) rs) (x .used) (z .used) us inside
       ∙ ap (λ (q : List ℕ). overlaid out (x .used) q) (answers-append cs ds (x .state) xs rs);
   }
 
 -- no cycle
 ran-none : (text : List ℕ) (x : Run) (xs rs out tail : List ℕ) → drop (x .at) text ≡ tail → Ran text x x xs rs out xs out [] tail 0
-unfolding stateAfter arrayAfter answersTo
+unfolding stateThrough arrayThrough answersThrough
 ran-none text x xs rs out tail e = record {
   stands = e;
   lines = omega arith;
@@ -77,7 +77,7 @@ lineOn x c xs rs = record { at = x .at + 20; left = x .left - 1; used = x .used 
 -- one cycle
 ran-line : (text : List ℕ) (x : Run) (c : Cycle) (xs rs out tail : List ℕ) → drop (x .at + 20) text ≡ tail → 1 ≤ x .left
     → Ran text x (lineOn x c xs rs) xs rs out (arrayBy (x .state) c xs rs) (overlaid out (x .used) (printedOf (lineStep (x .state) c xs rs))) (c ∷ []) tail 1
-unfolding stateAfter arrayAfter answersTo
+unfolding stateThrough arrayThrough answersThrough
 ran-line text x c xs rs out tail e l = record {
   stands = e;
   lines = omega arith;
@@ -133,7 +133,7 @@ close-false text x e = if-false (isCloses (wordIn (x .left) (drop (x .at) text))
 -- ---- where no item stands
 pub run-stop : (text : List ℕ) (x : Run) (xs rs out : List ℕ) (W : Word) → wordIn (x .left) (drop (x .at) text) ≡ W → (code W ≡ 2 → ⊥) → (code W ≡ 3 → ⊥)
     → RunRead text x x xs rs out xs out
-unfolding RunRead Formed printOn linesIn writtenOut
+unfolding RunRead Formed printOn linesIn linesWritten
 run-stop text x xs rs out W w z2 z3 done d tail f o e l m = ran-none text x xs rs out tail e
 run-stop text x xs rs out W w z2 z3 (line c r) d tail f o e l m =
     absurd (z2 (ap code (sym w ∙ ap (λ (q : List ℕ). wordIn (x .left) q) e ∙ traced-word (x .left) c (printOn r tail) (omega arith) (f .0))))
@@ -143,7 +143,7 @@ run-stop text x xs rs out W w z2 z3 (group n b r) d tail f o e l m =
 
 -- ---- where the room is too short for an answer: no list is printed there for which it is enough
 pub run-short : (text : List ℕ) (x : Run) (xs rs out : List ℕ) → wordIn (x .left) (drop (x .at) text) ≡ Traced → length out - x .used < 8 → RunRead text x x xs rs out xs out
-unfolding RunRead Formed printOn linesIn writtenOut
+unfolding RunRead Formed printOn linesIn linesWritten
 run-short text x xs rs out w h done d tail f o e l m =
     absurd (stop-code (x .left) tail Traced (word-traced (x .left) (drop (x .at) text) w .0) o (ap (λ (q : List ℕ). wordIn (x .left) q) (sym e) ∙ w) .0 refl)
 run-short text x xs rs out w h (line c r) d tail f o e l m = absurd (omega arith)
@@ -157,7 +157,7 @@ on-line : (text : List ℕ) (x r : Run) (xs rs out xs′ out′ : List ℕ) → 
     → RunRead text (lineRun text x xs rs) r (arrayBy (x .state) (cycleStated (take 20 (drop (x .at) text))) xs rs) rs
     (overlaid out (x .used) (printedOf (lineStep (x .state) (cycleStated (take 20 (drop (x .at) text))) xs rs))) xs′ out′
     → RunRead text x r xs rs out xs′ out′
-unfolding RunRead Formed printOn linesIn writtenOut
+unfolding RunRead Formed printOn linesIn linesWritten
 on-line text x r xs rs out xs′ out′ w len i done d tail f o e l m =
     absurd (stop-code (x .left) tail Traced (word-traced (x .left) (drop (x .at) text) w .0) o (ap (λ (q : List ℕ). wordIn (x .left) q) (sym e) ∙ w) .0 refl)
 on-line text x r xs rs out xs′ out′ w len i (line c b) d tail f o e l m =
@@ -167,9 +167,9 @@ on-line text x r xs rs out xs′ out′ w len i (line c b) d tail f o e l m =
     let p = word-traced (x .left) (drop (x .at) text) w .0 in
     let j = i b d tail (f .1) o at (omega arith) (omega arith) in
     let j1 = j .lines in
-    let g = both text x (lineRun text x xs rs) (lineRun text x xs rs) r xs rs out (arrayBy (x .state) C xs rs) (overlaid out (x .used) (printedOf (lineStep (x .state) C xs rs))) xs′ out′ (C ∷ []) (writtenOut b)
+    let g = both text x (lineRun text x xs rs) (lineRun text x xs rs) r xs rs out (arrayBy (x .state) C xs rs) (overlaid out (x .used) (printedOf (lineStep (x .state) C xs rs))) xs′ out′ (C ∷ []) (linesWritten b)
       (printOn b tail) tail 1 (linesIn b) (1 + linesIn b) (ran-line text x C xs rs out (printOn b tail) at p) j refl refl (omega arith) (omega arith) in
-    subst (λ (y : Cycle). Ran text x r xs rs out xs′ out′ (y ∷ writtenOut b) tail (1 + linesIn b)) same g
+    subst (λ (y : Cycle). Ran text x r xs rs out xs′ out′ (y ∷ linesWritten b) tail (1 + linesIn b)) same g
 on-line text x r xs rs out xs′ out′ w len i (group n b q) d tail f o e l m =
     let c = count d n b q f in
     let z = ap code (sym w ∙ ap (λ (q : List ℕ). wordIn (x .left) q) e ∙ opens-word (x .left) n (printOn b (closeBy ++ printOn q tail)) (omega arith) (c .0) (c .1)) in absurd (omega arith)
@@ -193,7 +193,7 @@ openedRun x = record { at = x .at + 6; left = x .left - 1; used = x .used; state
 pub run-group : (text : List ℕ) (x y z r : Run) (n : ℕ) (xs rs out ys out₁ xs′ out′ : List ℕ) → wordIn (x .left) (drop (x .at) text) ≡ Opens n
     → AgainRead text (openedRun x) n y xs rs out ys out₁ → z ≡ closeRun text y → length out₁ ≡ length out
     → RunRead text z r ys rs out₁ xs′ out′ → RunRead text x r xs rs out xs′ out′
-unfolding RunRead AgainRead Formed printOn linesIn writtenOut
+unfolding RunRead AgainRead Formed printOn linesIn linesWritten
 run-group text x y z r n xs rs out ys out₁ xs′ out′ w i ez len k done d tail f o e l m =
     absurd (stop-code (x .left) tail (Opens n) (word-opens (x .left) (drop (x .at) text) n w .0) o (ap (λ (q : List ℕ). wordIn (x .left) q) (sym e) ∙ w) .1 refl)
 run-group text x y z r n xs rs out ys out₁ xs′ out′ w i ez len k (line c b) d tail f o e l m =
@@ -203,9 +203,9 @@ run-group text x y z r n xs rs out ys out₁ xs′ out′ w i ez len k (group v 
     let g : n ≡ v = ap held (sym w ∙ ap (λ (u : List ℕ). wordIn (x .left) u) e ∙ opens-word (x .left) v (printOn b (closeBy ++ printOn q tail)) (omega arith) (c .0) (c .1)) in
     let h = parts d v b q f in
     let c0 = c .0 in
-    let B = timesOn n (writtenOut b) [] in let Q = writtenOut q in
-    let split : timesOn v (writtenOut b) Q ≡ B ++ Q = ap (λ (u : ℕ). timesOn u (writtenOut b) Q) (sym g) ∙ times-append n (writtenOut b) Q in
-    let size : length (timesOn v (writtenOut b) Q) ≡ length B + length Q = ap (λ (u : List Cycle). length u) split ∙ length-append B Q in
+    let B = timesOn n (linesWritten b) [] in let Q = linesWritten q in
+    let split : timesOn v (linesWritten b) Q ≡ B ++ Q = ap (λ (u : ℕ). timesOn u (linesWritten b) Q) (sym g) ∙ times-append n (linesWritten b) Q in
+    let size : length (timesOn v (linesWritten b) Q) ≡ length B + length Q = ap (λ (u : List Cycle). length u) split ∙ length-append B Q in
     let j = i b (h .1 .0) (closeBy ++ printOn q tail) (h .1 .1) (closing (printOn q tail)) (at-drop text (x .at) 6 (openBy v ++ printOn b (closeBy ++ printOn q tail)) e) (omega arith) (omega arith) (omega arith) in
     let j1 = j .lines in let j2 = j .used in
     let shut : isCloses (wordIn (y .left) (drop (y .at) text)) ≡ true = ap (λ (u : List ℕ). isCloses (wordIn (y .left) u)) (j .stands) ∙ ap isCloses (closes-word (y .left) (printOn q tail) (omega arith)) in
@@ -224,7 +224,7 @@ pub again-one : (text : List ℕ) (x y : Run) (n : ℕ) (xs rs out xs′ out′ 
 unfolding RunRead AgainRead timesOn
 again-one text x y n xs rs out xs′ out′ i m c d tail f o e l p room =
     let g : 1 ≡ n = omega arith in
-    let once : writtenOut c ≡ timesOn n (writtenOut c) [] = sym (append-nil (writtenOut c)) ∙ ap (λ (u : ℕ). timesOn u (writtenOut c) []) g in
+    let once : linesWritten c ≡ timesOn n (linesWritten c) [] = sym (append-nil (linesWritten c)) ∙ ap (λ (u : ℕ). timesOn u (linesWritten c) []) g in
     let size = ap (λ (u : List Cycle). length u) once in
     subst (λ (u : List Cycle). Ran text x y xs rs out xs′ out′ u tail (linesIn c)) once (i c d tail f o e l (omega arith))
 
@@ -233,7 +233,7 @@ pub again-more : (text : List ℕ) (x y r : Run) (n : ℕ) (xs rs out ys out₁ 
 unfolding RunRead AgainRead timesOn
 again-more text x y r n xs rs out ys out₁ xs′ out′ i m len k c d tail f o e l p room =
     let g : suc (n - 1) ≡ n = omega arith in
-    let W = writtenOut c in let T = timesOn (n - 1) W [] in
+    let W = linesWritten c in let T = timesOn (n - 1) W [] in
     let split : W ++ T ≡ timesOn n W [] = ap (λ (u : ℕ). timesOn u W []) g in
     let size : length W + length T ≡ length (timesOn n W []) = sym (length-append W T) ∙ ap (λ (u : List Cycle). length u) split in
     let a = i c d tail f o e l (omega arith) in

@@ -11,8 +11,8 @@ use borrow.Author.Tests.{eq-eqb, eqb-true, eqb-false, ne-eqb}
 use Rattle.common.proofs.Choice.{if-true, if-false}
 use Rattle.model_types.specs.declared.Cycle.{Cycle}
 use Rattle.trace_lines.specs.Lines.{lineOf, Fits}
-use Rattle.script_lines.specs.Scripts.{Script, done, line, printOn, Formed, Allowed, linesIn, writtenIn, writtenOut, traceOf}
-use Rattle.script_judge.specs.Judges.{judgeOf}
+use Rattle.script_lines.specs.Scripts.{Script, done, line, printOn, Formed, Allowed, linesIn, writtenIn, linesWritten, traceOf}
+use Rattle.script_judge.specs.Judges.{scriptJudged}
 use Rattle.script_judge.specs.Reads.{scriptIn}
 use Rattle.script_judge.specs.Faults.{FaultAt}
 use Rattle.script_judge.proofs.Claims.{read-exactly, first-fault}
@@ -24,23 +24,23 @@ use Rattle.script_run.proofs.Lines.{mark-length}
 use Rattle.script_run.proofs.Wholes.{mark-alone, array-kept, size, few-lines}
 
 module _ (s : Script) (xs rs : List ℕ) (a : Allowed s) where
-  fine : judgeOf (printOn s []) .fault ≡ 0
+  fine : scriptJudged (printOn s []) .fault ≡ 0
   fine = read-exactly (printOn s []) s .1 (a, refl) .0
 
   back : scriptIn (printOn s []) ≡ s
   back = read-exactly (printOn s []) s .1 (a, refl) .1
 
-  pub same-output : scriptOutput xs rs (printOn s []) ≡ outputOf xs rs (traceOf (writtenOut s))
+  pub same-output : scriptOutput xs rs (printOn s []) ≡ outputOf xs rs (traceOf (linesWritten s))
   unfolding scriptOutput
   same-output =
-      if-true (eqb (judgeOf (printOn s []) .fault) 0) (outputOf xs rs (traceIn (printOn s []))) (markOf (judgeOf (printOn s []) .fault)) (eq-eqb (judgeOf (printOn s []) .fault) 0 fine)
-      ∙ ap (λ (x : Script). outputOf xs rs (traceOf (writtenOut x))) back
+      if-true (eqb (scriptJudged (printOn s []) .fault) 0) (outputOf xs rs (traceIn (printOn s []))) (markOf (scriptJudged (printOn s []) .fault)) (eq-eqb (scriptJudged (printOn s []) .fault) 0 fine)
+      ∙ ap (λ (x : Script). outputOf xs rs (traceOf (linesWritten x))) back
 
-  pub same-array : scriptArray xs rs (printOn s []) ≡ arrayLeft xs rs (traceOf (writtenOut s))
+  pub same-array : scriptArray xs rs (printOn s []) ≡ arrayLeft xs rs (traceOf (linesWritten s))
   unfolding scriptArray
   same-array =
-      if-true (eqb (judgeOf (printOn s []) .fault) 0) (arrayLeft xs rs (traceIn (printOn s []))) xs (eq-eqb (judgeOf (printOn s []) .fault) 0 fine)
-      ∙ ap (λ (x : Script). arrayLeft xs rs (traceOf (writtenOut x))) back
+      if-true (eqb (scriptJudged (printOn s []) .fault) 0) (arrayLeft xs rs (traceIn (printOn s []))) xs (eq-eqb (scriptJudged (printOn s []) .fault) 0 fine)
+      ∙ ap (λ (x : Script). arrayLeft xs rs (traceOf (linesWritten x))) back
 
 -- a first line at fault is not line 0
 fault-some : (text : List ℕ) (i : ℕ) → FaultAt text i → i ≡ 0 → ⊥
@@ -49,19 +49,19 @@ fault-some text i f z = let n = f .number in absurd (omega arith)
 pub fault-alone : (xs rs text : List ℕ) (i : ℕ) → FaultAt text i → (scriptOutput xs rs text ≡ markOf i) × (scriptArray xs rs text ≡ xs)
 fault-alone xs rs text i f =
     let z = fault-some text i f in
-    let e : i ≡ judgeOf text .fault = sym (first-fault text i z .1 f) in
+    let e : i ≡ scriptJudged text .fault = sym (first-fault text i z .1 f) in
     (mark-alone i xs rs text [] e z, array-kept i xs rs text [] e z)
 
 -- no output is longer than 9,998 answers
 pub output-most : (xs rs text : List ℕ) → length (scriptOutput xs rs text) ≤ 79984
-output-most xs rs text = go (eqb (judgeOf text .fault) 0) refl where
-  go : (b : Bool) → eqb (judgeOf text .fault) 0 ≡ b → length (scriptOutput xs rs text) ≤ 79984
+output-most xs rs text = go (eqb (scriptJudged text .fault) 0) refl where
+  go : (b : Bool) → eqb (scriptJudged text .fault) 0 ≡ b → length (scriptOutput xs rs text) ≤ 79984
   go true e =
-      let z = eqb-true (judgeOf text .fault) 0 e in
-      let a = size (judgeOf text) xs rs text [] refl z in let b = few-lines (judgeOf text) xs rs text [] refl z in omega arith
+      let z = eqb-true (scriptJudged text .fault) 0 e in
+      let a = size (scriptJudged text) xs rs text [] refl z in let b = few-lines (scriptJudged text) xs rs text [] refl z in omega arith
   go false e =
-      let z = eqb-false (judgeOf text .fault) 0 e in
-      let a = ap (λ (y : List ℕ). length y) (mark-alone (judgeOf text .fault) xs rs text [] refl z) in let b = mark-length (judgeOf text .fault) in omega arith
+      let z = eqb-false (scriptJudged text .fault) 0 e in
+      let a = ap (λ (y : List ℕ). length y) (mark-alone (scriptJudged text .fault) xs rs text [] refl z) in let b = mark-length (scriptJudged text .fault) in omega arith
 
 -- the empty text
 empty-allowed : Allowed done
@@ -69,5 +69,5 @@ unfolding Formed linesIn writtenIn
 empty-allowed = record { formed = tt; short = omega arith; few = omega arith }
 
 pub empty-script : (xs rs : List ℕ) → scriptOutput xs rs [] ≡ []
-unfolding printOn writtenOut traceOf
+unfolding printOn linesWritten traceOf
 empty-script xs rs = same-output done xs rs empty-allowed ∙ empty-input xs rs
