@@ -1,27 +1,13 @@
 -- Each text is the print of one script at most. Assumes nothing.
-use mathlib.Core.Path.{_≡_, refl, sym, ap, subst, _∙_}
-use mathlib.Core.Bool.{Bool, true, false}
-use mathlib.Core.List.{List, [], _∷_, _++_, append-assoc, append-nil}
-use Prim.Native.Nat.{ℕ, zero, suc, _+_, _-_, _*_, _≤_, _<_}
+use mathlib.Core.Path.{_≡_, refl, sym, ap, _∙_}
+use mathlib.Core.List.{List, [], _++_}
+use Prim.Native.Nat.{ℕ, zero, suc, _≤_}
 use native.Mathlib.Omega.{arith}
-use native.Mathlib.Nat.{mul-le-mul-left}
-use lib.Dec.{ltb, leb, eqb}
-use lib.ListN.{length, take, drop, getD, length-append}
-use borrow.Author.Tests.{ltb-true, ltb-false, leb-true, leb-false, le-leb}
-use Rattle.common.specs.Choice.{if_then_else_}
-use Rattle.common.proofs.Choice.{unlike}
-use Rattle.model_types.specs.declared.Kind.the-variants.{Idle}
+use lib.ListN.{drop, getD}
 use Rattle.model_types.specs.declared.Cycle.{Cycle}
-use Rattle.trace_lines.specs.Lines.{lineOf, Fits, cycleAs, cycleStated}
-use Rattle.script_lines.specs.declared.Word.{Word}
-use Rattle.script_lines.specs.declared.Word.the-variants.{Ends, Bad, Traced, Opens, Closes}
-use Rattle.script_lines.specs.Scripts.{Script, done, line, group, openBy, closeBy, printOn, Some, Formed, linesIn, writtenIn, Allowed}
-use Rattle.script_lines.specs.Words.{wordIn}
+use Rattle.script_lines.specs.Scripts.{Script, done, line, group, closeBy, printOn, Formed}
 use Rattle.script_lines.specs.Inner.{Stop, nothing, closing}
-use Rattle.script_lines.proofs.Words.{code, ends-text}
-use Rattle.script_lines.proofs.Forms.{word-traced, word-closes, word-opens, traced-text, closes-text, opens-text, traced-word, closes-word, opens-word, empty-word, same-count, same-line, line-high}
-use Rattle.script_judge.specs.declared.Judged.{Judged}
-use Rattle.script_judge.specs.Judges.{faultAs, fineAs, capped, judge, scriptJudged, endOf}
+use Rattle.script_lines.proofs.Forms.{same-count, same-line, line-high}
 
 first : {x y : List ℕ} → x ≡ y → getD x 0 0 ≡ getD y 0 0
 first e = ap (λ (l : List ℕ). getD l 0 0) e

@@ -2,26 +2,17 @@
 use mathlib.Core.Path.{_≡_, refl, sym, ap, subst, _∙_}
 use mathlib.Core.Bool.{Bool, true, false}
 use mathlib.Core.List.{List, [], _∷_, _++_, append-assoc, append-nil}
-use Prim.Native.Nat.{ℕ, zero, suc, _+_, _-_, _*_, _≤_, _<_}
+use Prim.Native.Nat.{ℕ, zero, suc, _+_, _*_, _≤_, _<_}
 use native.Mathlib.Omega.{arith}
-use native.Mathlib.Nat.{mul-le-mul-left}
-use lib.Dec.{ltb, leb, eqb}
-use lib.ListN.{length, take, drop, getD, length-append}
-use borrow.Author.Tests.{ltb-true, ltb-false, leb-true, leb-false, le-leb}
-use Rattle.common.specs.Choice.{if_then_else_}
-use Rattle.common.proofs.Choice.{unlike}
-use Rattle.model_types.specs.declared.Kind.the-variants.{Idle}
+use lib.Dec.{ltb}
+use lib.ListN.{length, drop, getD, length-append}
+use borrow.Author.Tests.{ltb-true, ltb-false}
 use Rattle.model_types.specs.declared.Cycle.{Cycle}
-use Rattle.trace_lines.specs.Lines.{lineOf, Fits, cycleAs, cycleStated}
-use Rattle.script_lines.specs.declared.Word.{Word}
-use Rattle.script_lines.specs.declared.Word.the-variants.{Ends, Bad, Traced, Opens, Closes}
-use Rattle.script_lines.specs.Scripts.{Script, done, line, group, openBy, closeBy, printOn, Some, Formed, linesIn, writtenIn, Allowed}
-use Rattle.script_lines.specs.Words.{wordIn}
-use Rattle.script_lines.proofs.Words.{code, ends-text}
-use Rattle.script_lines.proofs.Forms.{word-traced, word-closes, word-opens, traced-text, closes-text, opens-text, traced-word, closes-word, opens-word, empty-word, same-count, same-line, line-high}
-use Rattle.script_judge.specs.declared.Judged.{Judged}
-use Rattle.script_judge.specs.Judges.{faultAs, fineAs, capped, judge, scriptJudged, endOf}
-use Rattle.script_judge.specs.Faults.{Mark, aLine, anOpen, aClose, formOf, marksOn, bytesOn, Begins, sums, Fine, FaultAt}
+use Rattle.trace_lines.specs.Lines.{lineOf, Fits}
+use Rattle.script_lines.specs.Scripts.{Script, done, line, group, openBy, closeBy, printOn, linesIn, writtenIn, Allowed}
+use Rattle.script_lines.proofs.Forms.{same-count, same-line, line-high}
+use Rattle.script_judge.specs.Judges.{scriptJudged}
+use Rattle.script_judge.specs.Faults.{Mark, aLine, anOpen, aClose, formOf, marksOn, bytesOn, sums, Fine, FaultAt}
 use Rattle.script_judge.proofs.Exact.{was-printed}
 use Rattle.script_judge.proofs.Starts.{Walks, walks-front, begins-walks, walks-begins}
 use Rattle.script_judge.proofs.Fault.{first-fault}
@@ -152,10 +143,13 @@ unfolding bytesOn
 no-fault-in s i a f = by (ltb (length (f .before)) (length (marksOn s []))) (ltb (length (marksOn s [])) (length (f .before))) refl refl where
   e : printOn s [] ≡ bytesOn (marksOn s []) []
   e = sym (bytes-marks s [] [])
+
   P : Propers (marksOn s [])
   P = propers (marksOn s []) 0 false (begins-walks (marksOn s []) (allowed-fine s a .begins))
+
   Q : Propers (f .before)
   Q = propers (f .before) 0 false (begins-walks (f .before) (f .fine .begins))
+
   by : (x y : Bool) → ltb (length (f .before)) (length (marksOn s [])) ≡ x → ltb (length (marksOn s [])) (length (f .before)) ≡ y → ⊥
   by true y b c = not-longer (printOn s []) i i f (marksOn s []) [] e (allowed-fine s a) (ltb-true (length (f .before)) (length (marksOn s [])) b)
   by false true b c =

@@ -85,9 +85,9 @@ module _ (s : List ℕ) (x : Spot) (d p : ℕ) (h : Sound x) where
       ∙ ap (λ (u : List ℕ). judge (x .left - 1) (x .line + 1) (p ∷ K) (capped (p * m)) true (x .total) u) (at-drop s (x .at) 6)
       ∙ i (p ∷ K) (omega arith)
     where
-    some : (d : ℕ) → (d ≡ 0 → ⊥) → 1 ≤ d
-    some zero f = absurd (f refl)
-    some (suc d) f = omega arith
+      some : (d : ℕ) → (d ≡ 0 → ⊥) → 1 ≤ d
+      some zero f = absurd (f refl)
+      some (suc d) f = omega arith
 
   pub item-first-fault : (m : ℕ) (y : Spot) → wordIn (x .left) (drop (x .at) s) ≡ Opens m → (d ≡ 0 → ⊥) → ItemRead s (openedOf x) (d - 1) (capped (p * m)) y → (y .fault ≡ 0 → ⊥) → ItemRead s x d p y
   unfolding ItemRead

@@ -1,26 +1,13 @@
 -- Which lines begin a script. Assumes nothing.
 use mathlib.Core.Path.{_≡_, refl, sym, ap, subst, _∙_}
 use mathlib.Core.Bool.{Bool, true, false}
-use mathlib.Core.List.{List, [], _∷_, _++_, append-assoc, append-nil}
-use Prim.Native.Nat.{ℕ, zero, suc, _+_, _-_, _*_, _≤_, _<_}
+use mathlib.Core.List.{List, [], _∷_, _++_}
+use Prim.Native.Nat.{ℕ, zero, suc, _+_, _-_, _≤_, _<_}
 use native.Mathlib.Omega.{arith}
-use native.Mathlib.Nat.{mul-le-mul-left}
-use lib.Dec.{ltb, leb, eqb}
-use lib.ListN.{length, take, drop, getD, length-append}
-use borrow.Author.Tests.{ltb-true, ltb-false, leb-true, leb-false, le-leb}
-use Rattle.common.specs.Choice.{if_then_else_}
-use Rattle.common.proofs.Choice.{unlike}
 use Rattle.model_types.specs.declared.Kind.the-variants.{Idle}
 use Rattle.model_types.specs.declared.Cycle.{Cycle}
-use Rattle.trace_lines.specs.Lines.{lineOf, Fits, cycleAs, cycleStated}
-use Rattle.script_lines.specs.declared.Word.{Word}
-use Rattle.script_lines.specs.declared.Word.the-variants.{Ends, Bad, Traced, Opens, Closes}
-use Rattle.script_lines.specs.Scripts.{Script, done, line, group, openBy, closeBy, printOn, Some, Formed, linesIn, writtenIn, Allowed}
-use Rattle.script_lines.specs.Words.{wordIn}
-use Rattle.script_lines.proofs.Words.{code, ends-text}
-use Rattle.script_lines.proofs.Forms.{word-traced, word-closes, word-opens, traced-text, closes-text, opens-text, traced-word, closes-word, opens-word, empty-word, same-count, same-line, line-high}
-use Rattle.script_judge.specs.declared.Judged.{Judged}
-use Rattle.script_judge.specs.Judges.{faultAs, fineAs, capped, judge, scriptJudged, endOf}
+use Rattle.trace_lines.specs.Lines.{Fits, cycleAs}
+use Rattle.script_lines.specs.Scripts.{Script, done, line, group, Some, Formed}
 use Rattle.script_judge.specs.Faults.{Mark, aLine, anOpen, aClose, marksOn, Begins}
 use Rattle.script_judge.proofs.Exact.{must, formed-more, not-both}
 
@@ -133,11 +120,17 @@ complete (aLine k ∷ ms) h e w =
     let i = complete ms h false (w .1) in let r = i .1 in
     (i .0, record { script = line k (r .script); tail = r .tail; lines = ap (λ (x : List Mark). aLine k ∷ x) (r .lines); formed = (w .0, r .formed); some = λ z. tt; onward = r .onward })
 complete (anOpen n ∷ ms) h e w =
-    let i = complete ms (suc h) true (w .3) in let r = i .1 in let r2 = r .onward .2 in let l = w .2 in
-    (i .0, record { script = group n (r .script) (r2 .script); tail = r2 .tail
-                  ; lines = ap (λ (x : List Mark). anOpen n ∷ x) (r .lines ∙ ap (λ (x : List Mark). marksOn (r .script) x) (r .onward .1 ∙ ap (λ (x : List Mark). aClose ∷ x) (r2 .lines)))
-                  ; formed = formed-more h (8 - suc h) n (r .script) (r2 .script) l (omega arith) (w .0) (w .1) (r .some refl) (r .formed) (r2 .formed)
-                  ; some = λ z. tt; onward = r2 .onward })
+    let i = complete ms (suc h) true (w .3) in let r = i .1 in let r2 = r .onward .2 in let l = w .2 in (
+      i .0,
+      record {
+        script = group n (r .script) (r2 .script);
+        tail = r2 .tail;
+        lines = ap (λ (x : List Mark). anOpen n ∷ x) (r .lines ∙ ap (λ (x : List Mark). marksOn (r .script) x) (r .onward .1 ∙ ap (λ (x : List Mark). aClose ∷ x) (r2 .lines)));
+        formed = formed-more h (8 - suc h) n (r .script) (r2 .script) l (omega arith) (w .0) (w .1) (r .some refl) (r .formed) (r2 .formed);
+        some = λ z. tt;
+        onward = r2 .onward;
+      },
+    )
 complete (aClose ∷ ms) zero e w = absurd w
 complete (aClose ∷ ms) (suc h) true w = absurd w
 complete (aClose ∷ ms) (suc h) false w =

@@ -43,26 +43,73 @@ fn item(text: &[u8], x: Spot, depth: usize, p: usize) -> Spot
     let w = script_lines::word_at(x.left, text, x.at);
     match w {
         Word::Ends => {
-            return Spot { fault: x.line, at: 0, left: 0, line: 0, total: 0 };
+            return Spot {
+                fault: x.line,
+                at: 0,
+                left: 0,
+                line: 0,
+                total: 0,
+            };
         }
         Word::Bad => {
-            return Spot { fault: x.line, at: 0, left: 0, line: 0, total: 0 };
+            return Spot {
+                fault: x.line,
+                at: 0,
+                left: 0,
+                line: 0,
+                total: 0,
+            };
         }
         Word::Closes => {
-            return Spot { fault: x.line, at: 0, left: 0, line: 0, total: 0 };
+            return Spot {
+                fault: x.line,
+                at: 0,
+                left: 0,
+                line: 0,
+                total: 0,
+            };
         }
         Word::Traced => {
             if 9998 < x.total + p {
-                return Spot { fault: x.line, at: 0, left: 0, line: 0, total: 0 };
+                return Spot {
+                    fault: x.line,
+                    at: 0,
+                    left: 0,
+                    line: 0,
+                    total: 0,
+                };
             }
-            return Spot { fault: 0, at: x.at + 20, left: x.left - 1, line: x.line + 1, total: x.total + p };
+            return Spot {
+                fault: 0,
+                at: x.at + 20,
+                left: x.left - 1,
+                line: x.line + 1,
+                total: x.total + p,
+            };
         }
         Word::Opens(n) => {
             if depth == 0 {
-                return Spot { fault: x.line, at: 0, left: 0, line: 0, total: 0 };
+                return Spot {
+                    fault: x.line,
+                    at: 0,
+                    left: 0,
+                    line: 0,
+                    total: 0,
+                };
             }
             let q = times(p, n);
-            let y = item(text, Spot { fault: 0, at: x.at + 6, left: x.left - 1, line: x.line + 1, total: x.total }, depth - 1, q);
+            let y = item(
+                text,
+                Spot {
+                    fault: 0,
+                    at: x.at + 6,
+                    left: x.left - 1,
+                    line: x.line + 1,
+                    total: x.total,
+                },
+                depth - 1,
+                q,
+            );
             if y.fault != 0 {
                 return y;
             }
@@ -78,7 +125,13 @@ fn rest(text: &[u8], x: Spot, depth: usize, p: usize) -> Spot
     ensures ahead { λ r. ⌜ Ahead (now (text .entry)) x r ⌝ }
 {
     if script_lines::closes_at(x.left, text, x.at) {
-        return Spot { fault: 0, at: x.at + 2, left: x.left - 1, line: x.line + 1, total: x.total };
+        return Spot {
+            fault: 0,
+            at: x.at + 2,
+            left: x.left - 1,
+            line: x.line + 1,
+            total: x.total,
+        };
     }
     let y = item(text, x, depth, p);
     if y.fault != 0 {
@@ -93,11 +146,17 @@ fn top(text: &[u8], x: Spot) -> Judged
     ensures { λ r. ⌜ r ≡ judge (x .left) (x .line) [] 1 false (x .total) (drop (x .at) (now (text .entry))) ⌝ }
 {
     if script_lines::ends_at(x.left, text, x.at) {
-        return Judged { fault: 0, lines: x.total };
+        return Judged {
+            fault: 0,
+            lines: x.total,
+        };
     }
     let y = item(text, x, 8, 1);
     if y.fault != 0 {
-        return Judged { fault: y.fault, lines: 0 };
+        return Judged {
+            fault: y.fault,
+            lines: 0,
+        };
     }
     top(text, y)
 }
@@ -106,5 +165,14 @@ fn top(text: &[u8], x: Spot) -> Judged
 pub fn judge_script(text: &[u8]) -> Judged
     ensures { λ r. ⌜ r ≡ scriptJudged (now (text .entry)) ⌝ }
 {
-    top(text, Spot { fault: 0, at: 0, left: 3000, line: 1, total: 0 })
+    top(
+        text,
+        Spot {
+            fault: 0,
+            at: 0,
+            left: 3000,
+            line: 1,
+            total: 0,
+        },
+    )
 }

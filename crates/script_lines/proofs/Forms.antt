@@ -1,23 +1,21 @@
 -- Each line's printed form and its word, both ways. Assumes nothing.
 use mathlib.Core.Path.{_≡_, refl, sym, ap, _∙_}
-use mathlib.Core.Bool.{Bool, true, false, _&&_}
+use mathlib.Core.Bool.{true, false}
 use mathlib.Core.List.{List, [], _∷_, _++_}
-use Prim.Native.Nat.{ℕ, zero, suc, _+_, _-_, _*_, _/_, _%_, _≤_, _<_, min}
+use Prim.Native.Nat.{ℕ, _+_, _*_, _/_, _%_, _≤_, _<_, min}
 use native.Mathlib.Omega.{arith}
 use lib.Dec.{eqb, ltb, leb}
 use lib.ListN.{length, take, drop, getD, length-take, take-append-drop}
 use borrow.Author.Tests.{eqb-true, leb-true, ltb-true, ne-eqb, le-leb}
-use Rattle.common.proofs.Choice.{and-left, and-right, if-true, if-false, unlike}
+use Rattle.common.proofs.Choice.{and-left, and-right}
 use Rattle.model_types.specs.declared.Kind.{Kind}
 use Rattle.model_types.specs.declared.Kind.the-variants.{Read, Write, Idle}
 use Rattle.model_types.specs.declared.Cycle.{Cycle}
-use Rattle.trace_lines.specs.declared.LineRead.the-variants.{Stated}
 use Rattle.trace_lines.specs.Lines.{Place, isAt, isDigit, isKind, fits, newline, lineForm, isLine, digitOf, decimalDigit, letterFor, lineOf, Fits, cycleStated}
 use Rattle.trace_lines.proofs.Places.{both, form-length, form-at}
-use Rattle.trace_lines.proofs.Claims.{read-exactly, read-once, line-read, line-length}
+use Rattle.trace_lines.proofs.Claims.{read-exactly, read-once, line-read}
 use Rattle.trace_lines.proofs.Forms.{read-good}
-use Rattle.script_lines.specs.declared.Word.{Word}
-use Rattle.script_lines.specs.declared.Word.the-variants.{Ends, Bad, Traced, Opens, Closes}
+use Rattle.script_lines.specs.declared.Word.the-variants.{Ends, Traced, Opens, Closes}
 use Rattle.script_lines.specs.Scripts.{openBy, closeBy}
 use Rattle.script_lines.specs.Words.{openForm, closeForm, isTraced, isOpening, isClosing, countStated, wordIn}
 use Rattle.script_lines.proofs.Words.{traced-says, closes-says, opens-says}

@@ -1,6 +1,6 @@
 -- The count of the lines written out is their number, times the product around them. Assumes nothing.
-use mathlib.Core.Path.{_≡_, refl, sym, ap, _∙_}
-use mathlib.Core.List.{List, [], _∷_, _++_}
+use mathlib.Core.Path.{_≡_, ap}
+use mathlib.Core.List.{List}
 use Prim.Native.Nat.{ℕ, zero, suc, _+_, _*_, _≤_}
 use native.Mathlib.Omega.{arith}
 use native.Mathlib.Nat.{mul-assoc, mul-add, suc-mul, mul-le-mul-left}
@@ -40,5 +40,5 @@ at-least (suc d) p (group n b r) f s =
     let j = grows p n (f .0) in
     omega arith
   where
-  grows : (p n : ℕ) → 1 ≤ n → p ≤ p * n
-  grows p n l = let k = mul-le-mul-left p l in omega arith
+    grows : (p n : ℕ) → 1 ≤ n → p ≤ p * n
+    grows p n l = let k = mul-le-mul-left p l in omega arith

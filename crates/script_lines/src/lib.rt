@@ -80,7 +80,8 @@ fn digit(b: u8) -> usize
 pub fn count(text: &[u8]) -> usize
     ensures { λ r. ⌜ r ≡ countStated (now (text .entry)) ⌝ }
 {
-    (digit(common::nth(text, 2)) * 10 + digit(common::nth(text, 3))) * 10 + digit(common::nth(text, 4))
+    (digit(common::nth(text, 2)) * 10 + digit(common::nth(text, 3))) * 10
+        + digit(common::nth(text, 4))
 }
 
 // The word at the front of a text, where so many lines may still come.

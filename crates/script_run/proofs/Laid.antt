@@ -1,10 +1,10 @@
 -- Lists laid over a list one behind the other, and a part put back. Assumes nothing.
-use mathlib.Core.Path.{_≡_, refl, sym, ap, _∙_}
+use mathlib.Core.Path.{_≡_, sym, ap, _∙_}
 use mathlib.Core.List.{List, [], _++_, append-assoc}
 use Prim.Native.Nat.{ℕ, _+_, _-_, _≤_}
 use native.Mathlib.Omega.{arith}
 use lib.ListN.{length, take, drop, length-append, take-append-drop}
-use lib.Seq.{drop-drop, take-at, drop-at, length-take-le, take-all, drop-length}
+use lib.Seq.{drop-drop, take-at, drop-at, length-take-le, take-all}
 use borrow.Rule.Slice.PartMut.{putMid, midOf, mid-len}
 use Rattle.common.specs.Lists.{copied, overlaid}
 use Rattle.common.proofs.Lists.{copied-whole}

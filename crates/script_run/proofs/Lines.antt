@@ -1,19 +1,17 @@
 -- A trace line answered in its place, a mark alone, and a whole run. Assumes nothing.
-use mathlib.Core.Path.{_≡_, refl, sym, ap, subst, _∙_}
-use mathlib.Core.Bool.{Bool, true, false}
-use mathlib.Core.List.{List, [], _++_}
-use Prim.Native.Nat.{ℕ, _+_, _-_, _*_, _≤_, _<_}
+use mathlib.Core.Path.{_≡_, refl, sym, ap, _∙_}
+use mathlib.Core.List.{List}
+use Prim.Native.Nat.{ℕ, _+_, _-_, _≤_, _<_}
 use native.Mathlib.Omega.{arith}
-use lib.Dec.{eqb, ltb}
+use lib.Dec.{ltb}
 use lib.ListN.{length, take, drop}
 use lib.Seq.{length-take-le}
-use borrow.Author.Tests.{eq-eqb, ne-eqb, lt-ltb, le-ltb}
+use borrow.Author.Tests.{lt-ltb, le-ltb}
 use borrow.Rule.Slice.PartMut.{putMid, midOf}
 use Rattle.common.specs.Lists.{copied, overlaid}
 use Rattle.common.proofs.Choice.{if-true, if-false}
 use Rattle.model_types.specs.declared.State.{State}
 use Rattle.trace_lines.specs.Lines.{cycleStated}
-use Rattle.trace_replay.specs.declared.Replayed.{Replayed}
 use Rattle.trace_replay.specs.Answers.{printedOf, markOf}
 use Rattle.trace_replay.specs.Replays.{lineStep, arrayBy, replayedAs, replayedIn, leftInRoom, Used}
 use Rattle.trace_replay.proofs.Claims.{eight-bytes}

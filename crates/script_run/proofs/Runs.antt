@@ -6,13 +6,13 @@ use Prim.Native.Nat.{ℕ, zero, suc, _+_, _-_, _*_, _≤_, _<_}
 use native.Mathlib.Omega.{arith}
 use lib.ListN.{length, take, drop, length-append, length-drop}
 use lib.Seq.{drop-drop}
-use Rattle.common.proofs.Choice.{if-true, if-false, if-ind}
+use Rattle.common.proofs.Choice.{if-true, if-false}
 use Rattle.common.specs.Lists.{overlaid}
 use Rattle.model_types.specs.declared.State.{State}
 use Rattle.model_types.specs.declared.Cycle.{Cycle}
 use Rattle.trace_lines.specs.Lines.{lineOf, cycleStated}
 use Rattle.script_lines.specs.declared.Word.{Word}
-use Rattle.script_lines.specs.declared.Word.the-variants.{Ends, Bad, Traced, Opens, Closes}
+use Rattle.script_lines.specs.declared.Word.the-variants.{Traced, Opens}
 use Rattle.script_lines.specs.Scripts.{Script, done, line, group, openBy, closeBy, printOn, Formed, linesIn, timesOn, linesWritten}
 use Rattle.script_lines.specs.Words.{wordIn, isCloses}
 use Rattle.script_lines.specs.Inner.{Stop, nothing, closing}
@@ -21,7 +21,6 @@ use Rattle.script_lines.proofs.Forms.{word-traced, word-opens, word-closes, tra
 use Rattle.script_judge.proofs.Once.{parts}
 use Rattle.trace_replay.specs.Answers.{printedOf}
 use Rattle.trace_replay.specs.Replays.{lineStep, arrayBy}
-use Rattle.trace_replay.proofs.Claims.{eight-bytes}
 use Rattle.script_run.specs.declared.Run.{Run}
 use Rattle.script_run.specs.Inner.{stateThrough, arrayThrough, answersThrough, lineRun, pastClose, closeRun, Ran, RunRead, AgainRead}
 use Rattle.script_run.proofs.Laid.{laid-none, laid-more}
@@ -47,15 +46,15 @@ module _ (text : List ℕ) (x y z r : Run) (xs rs out ys out₁ xs′ out′ : L
     lines = en;
     used = let a = j .used in let b = eu ∙ i .used in let c = length-append cs ds in omega arith;
     state = j .state ∙ ap (λ (s : State). stateThrough ds s ys rs) st ∙ ap (λ (q : List ℕ). stateThrough ds (stateThrough cs (x .state) xs rs) q rs) (i .array)
-      ∙ state-append cs ds (x .state) xs rs;
+        ∙ state-append cs ds (x .state) xs rs;
     array = j .array ∙ ap (λ (s : State). arrayThrough ds s ys rs) st ∙ ap (λ (q : List ℕ). arrayThrough ds (stateThrough cs (x .state) xs rs) q rs) (i .array)
-      ∙ array-append cs ds (x .state) xs rs;
+        ∙ array-append cs ds (x .state) xs rs;
     laid = j .laid
-      ∙ ap (λ (s : State). overlaid out₁ (z .used) (answersThrough ds s ys rs)) st
-      ∙ ap (λ (q : List ℕ). overlaid out₁ (z .used) (answersThrough ds (stateThrough cs (x .state) xs rs) q rs)) (i .array)
-      ∙ ap (λ (q : List ℕ). overlaid q (z .used) (answersThrough ds (stateThrough cs (x .state) xs rs) (arrayThrough cs (x .state) xs rs) rs)) (i .laid)
-      ∙ laid-more out (answersThrough cs (x .state) xs rs) (answersThrough ds (stateThrough cs (x .state) xs rs) (arrayThrough cs (x .state) xs rs) rs) (x .used) (z .used) us inside
-      ∙ ap (λ (q : List ℕ). overlaid out (x .used) q) (answers-append cs ds (x .state) xs rs);
+        ∙ ap (λ (s : State). overlaid out₁ (z .used) (answersThrough ds s ys rs)) st
+        ∙ ap (λ (q : List ℕ). overlaid out₁ (z .used) (answersThrough ds (stateThrough cs (x .state) xs rs) q rs)) (i .array)
+        ∙ ap (λ (q : List ℕ). overlaid q (z .used) (answersThrough ds (stateThrough cs (x .state) xs rs) (arrayThrough cs (x .state) xs rs) rs)) (i .laid)
+        ∙ laid-more out (answersThrough cs (x .state) xs rs) (answersThrough ds (stateThrough cs (x .state) xs rs) (arrayThrough cs (x .state) xs rs) rs) (x .used) (z .used) us inside
+        ∙ ap (λ (q : List ℕ). overlaid out (x .used) q) (answers-append cs ds (x .state) xs rs);
   }
 
 -- no cycle
@@ -168,7 +167,7 @@ on-line text x r xs rs out xs′ out′ w len i (line c b) d tail f o e l m =
     let j = i b d tail (f .1) o at (omega arith) (omega arith) in
     let j1 = j .lines in
     let g = both text x (lineRun text x xs rs) (lineRun text x xs rs) r xs rs out (arrayBy (x .state) C xs rs) (overlaid out (x .used) (printedOf (lineStep (x .state) C xs rs))) xs′ out′ (C ∷ []) (linesWritten b)
-      (printOn b tail) tail 1 (linesIn b) (1 + linesIn b) (ran-line text x C xs rs out (printOn b tail) at p) j refl refl (omega arith) (omega arith) in
+    (printOn b tail) tail 1 (linesIn b) (1 + linesIn b) (ran-line text x C xs rs out (printOn b tail) at p) j refl refl (omega arith) (omega arith) in
     subst (λ (y : Cycle). Ran text x r xs rs out xs′ out′ (y ∷ linesWritten b) tail (1 + linesIn b)) same g
 on-line text x r xs rs out xs′ out′ w len i (group n b q) d tail f o e l m =
     let c = count d n b q f in
@@ -216,8 +215,8 @@ run-group text x y z r n xs rs out ys out₁ xs′ out′ w i ez len k (group v 
     let s = both text (openedRun x) y (pastClose y) r xs rs out ys out₁ xs′ out′ B Q (closeBy ++ printOn q tail) tail (linesIn b) (linesIn q) (1 + linesIn b + linesIn q) j t refl refl (let a = length-append B Q in omega arith) (omega arith) in
     subst (λ (u : List Cycle). Ran text x r xs rs out xs′ out′ u tail (2 + linesIn b + linesIn q)) (sym split) (moved s (omega arith))
   where
-  moved : {cs : List Cycle} {n m : ℕ} → Ran text (openedRun x) r xs rs out xs′ out′ cs tail n → r .left + m ≡ x .left → Ran text x r xs rs out xs′ out′ cs tail m
-  moved a b = record { stands = a .stands; lines = b; used = a .used; state = a .state; array = a .array; laid = a .laid }
+    moved : {cs : List Cycle} {n m : ℕ} → Ran text (openedRun x) r xs rs out xs′ out′ cs tail n → r .left + m ≡ x .left → Ran text x r xs rs out xs′ out′ cs tail m
+    moved a b = record { stands = a .stands; lines = b; used = a .used; state = a .state; array = a .array; laid = a .laid }
 
 -- ---- a list n times over
 pub again-one : (text : List ℕ) (x y : Run) (n : ℕ) (xs rs out xs′ out′ : List ℕ) → RunRead text x y xs rs out xs′ out′ → n ≤ 1 → AgainRead text x n y xs rs out xs′ out′

@@ -1,17 +1,14 @@
 -- What the run of a script is the same as. Assumes nothing.
-use mathlib.Core.Path.{_≡_, refl, sym, ap, subst, _∙_}
+use mathlib.Core.Path.{_≡_, refl, sym, ap, _∙_}
 use mathlib.Core.Bool.{Bool, true, false}
-use mathlib.Core.List.{List, [], _∷_, _++_}
-use mathlib.Core.Logic.{_↔_}
-use Prim.Native.Nat.{ℕ, zero, suc, _+_, _*_, _≤_}
+use mathlib.Core.List.{List, []}
+use Prim.Native.Nat.{ℕ, _≤_}
 use native.Mathlib.Omega.{arith}
 use lib.Dec.{eqb}
 use lib.ListN.{length}
-use borrow.Author.Tests.{eq-eqb, eqb-true, eqb-false, ne-eqb}
-use Rattle.common.proofs.Choice.{if-true, if-false}
-use Rattle.model_types.specs.declared.Cycle.{Cycle}
-use Rattle.trace_lines.specs.Lines.{lineOf, Fits}
-use Rattle.script_lines.specs.Scripts.{Script, done, line, printOn, Formed, Allowed, linesIn, writtenIn, linesWritten, traceOf}
+use borrow.Author.Tests.{eq-eqb, eqb-true, eqb-false}
+use Rattle.common.proofs.Choice.{if-true}
+use Rattle.script_lines.specs.Scripts.{Script, done, printOn, Formed, Allowed, linesIn, writtenIn, linesWritten, traceOf}
 use Rattle.script_judge.specs.Judges.{scriptJudged}
 use Rattle.script_judge.specs.Reads.{scriptIn}
 use Rattle.script_judge.specs.Faults.{FaultAt}

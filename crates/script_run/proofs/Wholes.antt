@@ -1,11 +1,10 @@
 -- A whole script: at a fault its mark alone, else what the walk leaves is the replay of its lines written out. Assumes nothing.
-use mathlib.Core.Path.{_≡_, refl, sym, ap, subst, _∙_}
-use mathlib.Core.Bool.{Bool, true, false}
-use mathlib.Core.List.{List, [], _++_}
-use Prim.Native.Nat.{ℕ, _+_, _-_, _*_, _≤_, _<_}
+use mathlib.Core.Path.{_≡_, sym, ap, _∙_}
+use mathlib.Core.List.{List, []}
+use Prim.Native.Nat.{ℕ, _*_, _≤_, _<_}
 use native.Mathlib.Omega.{arith}
 use lib.Dec.{eqb, ltb}
-use lib.ListN.{length, drop}
+use lib.ListN.{length}
 use borrow.Author.Tests.{eq-eqb, ne-eqb}
 use Rattle.common.specs.Lists.{copied, overlaid}
 use Rattle.common.proofs.Choice.{if-true, if-false, if-same}
@@ -14,9 +13,9 @@ use Rattle.model_types.specs.States.{freshState}
 use Rattle.script_lines.specs.Scripts.{Script, printOn, Allowed, linesIn, linesWritten, traceOf}
 use Rattle.script_lines.specs.Inner.{nothing}
 use Rattle.script_judge.specs.declared.Judged.{Judged}
-use Rattle.script_judge.specs.Judges.{scriptJudged, fineAs}
+use Rattle.script_judge.specs.Judges.{scriptJudged}
 use Rattle.script_judge.specs.Reads.{scriptIn}
-use Rattle.script_judge.proofs.Claims.{read-printed, read-exactly, judged-fine, written-length}
+use Rattle.script_judge.proofs.Claims.{read-printed, judged-fine, written-length}
 use Rattle.trace_replay.specs.declared.Replayed.{Replayed}
 use Rattle.trace_replay.specs.Answers.{markOf}
 use Rattle.trace_replay.specs.Replays.{outputOf, arrayLeft, replayedAs, replayedIn, leftInRoom, Used}

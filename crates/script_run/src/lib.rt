@@ -37,7 +37,12 @@ fn answered(text: &[u8], x: Run, array: &mut [u8], residue: &[u8], out: &mut [u8
     let q = p + 8;
     let s = x.state;
     let t = trace_replay::answer_line(s, &text[a..e], array, residue, &mut out[p..q]);
-    Run { at: e, left: x.left - 1, used: q, state: t }
+    Run {
+        at: e,
+        left: x.left - 1,
+        used: q,
+        state: t,
+    }
 }
 
 // Past the closing line at x; x itself where there is none.
@@ -47,7 +52,12 @@ fn past_close(text: &[u8], x: Run) -> Run
 {
     if script_lines::closes_at(x.left, text, x.at) {
         let s = x.state;
-        return Run { at: x.at + 2, left: x.left - 1, used: x.used, state: s };
+        return Run {
+            at: x.at + 2,
+            left: x.left - 1,
+            used: x.used,
+            state: s,
+        };
     }
     x
 }
@@ -78,7 +88,19 @@ fn run_list(text: &[u8], x: Run, array: &mut [u8], residue: &[u8], out: &mut [u8
         }
         Word::Opens(n) => {
             let s = x.state;
-            let y = again(text, Run { at: x.at + 6, left: x.left - 1, used: x.used, state: s }, n, array, residue, out);
+            let y = again(
+                text,
+                Run {
+                    at: x.at + 6,
+                    left: x.left - 1,
+                    used: x.used,
+                    state: s,
+                },
+                n,
+                array,
+                residue,
+                out,
+            );
             let z = past_close(text, y);
             return run_list(text, z, array, residue, out);
         }
@@ -96,7 +118,19 @@ fn again(text: &[u8], x: Run, n: usize, array: &mut [u8], residue: &[u8], out: &
         return y;
     }
     let s = y.state;
-    again(text, Run { at: x.at, left: x.left, used: y.used, state: s }, n - 1, array, residue, out)
+    again(
+        text,
+        Run {
+            at: x.at,
+            left: x.left,
+            used: y.used,
+            state: s,
+        },
+        n - 1,
+        array,
+        residue,
+        out,
+    )
 }
 
 // The mark of a line at fault, alone.
@@ -106,10 +140,16 @@ fn marked(fault: usize, out: &mut [u8]) -> Replayed
     ensures { λ r. ⌜ Used (r .used) (now (out .exit)) ⌝ }
 {
     if out.len() < 7 {
-        return Replayed { refusal: 37, used: 0 };
+        return Replayed {
+            refusal: 37,
+            used: 0,
+        };
     }
     trace_replay::answers::write_mark(fault, out);
-    Replayed { refusal: 0, used: 7 }
+    Replayed {
+        refusal: 0,
+        used: 7,
+    }
 }
 
 // A whole script on lent slices: at a fault its mark alone, else the answers to its lines written out.
@@ -130,9 +170,26 @@ pub fn run_script(text: &[u8], array: &mut [u8], residue: &[u8], out: &mut [u8])
     }
     let n = 8 * j.lines;
     if out.len() < n {
-        return Replayed { refusal: 37, used: 0 };
+        return Replayed {
+            refusal: 37,
+            used: 0,
+        };
     }
     let s = model::fresh();
-    let y = run_list(text, Run { at: 0, left: 3000, used: 0, state: s }, array, residue, out);
-    Replayed { refusal: 0, used: y.used }
+    let y = run_list(
+        text,
+        Run {
+            at: 0,
+            left: 3000,
+            used: 0,
+            state: s,
+        },
+        array,
+        residue,
+        out,
+    );
+    Replayed {
+        refusal: 0,
+        used: y.used,
+    }
 }

@@ -75,17 +75,32 @@ struct Held {
 }
 
 // One row: a piece is put to the text, or what was put together is run.
-fn take_row(letter: u8, n: usize, piece: &[u8], h: Held, text: &mut [u8], array: &mut [u8], residue: &[u8], out: &mut [u8]) -> Held
+fn take_row(
+    letter: u8,
+    n: usize,
+    piece: &[u8],
+    h: Held,
+    text: &mut [u8],
+    array: &mut [u8],
+    residue: &[u8],
+    out: &mut [u8],
+) -> Held
     requires { ⌜ (h .len ≤ length (now text)) × (h .number ≤ 9999) ⌝ }
     ensures { λ r. ⌜ (r .len ≤ length (now (text .exit))) × (r .number ≤ 9999) ⌝ }
 {
     if letter == b'*' {
         let len = put_pieces(text, h.len, piece, n);
-        return Held { len: len, number: h.number };
+        return Held {
+            len: len,
+            number: h.number,
+        };
     }
     let len = h.len;
     run(h.number, &text[0..len], n, array, residue, out);
-    Held { len: 0, number: (h.number + 1) % 10000 }
+    Held {
+        len: 0,
+        number: (h.number + 1) % 10000,
+    }
 }
 
 // Every row in its turn.
@@ -97,7 +112,16 @@ fn all(rows: &[u8], text: &mut [u8], array: &mut [u8], residue: &[u8], out: &mut
         let n = vectors_text::size_at(rows, 10, at + 2, 5);
         let m = vectors_text::size_at(rows, 10, at + 8, 3);
         let e = a + common::least(m, rows.len() - a);
-        h = take_row(common::nth(rows, at), n, &rows[a..e], h, text, array, residue, out);
+        h = take_row(
+            common::nth(rows, at),
+            n,
+            &rows[a..e],
+            h,
+            text,
+            array,
+            residue,
+            out,
+        );
         at = e;
     }
 }

@@ -1,12 +1,10 @@
+-- `script_judge::item` and `script_judge::rest`, which call each other, meet their contracts: with each call fewer lines may come. Assumes nothing.
 use borrow.Author.Needs.{needs}
 use native.Mathlib.Omega.{arith}
-use mathlib.Core.Path.{refl, sym, ap, subst, _∙_, _≡_}
-use Prim.Native.Nat.{_*_, _+_, _-_, _≤_}
-use lib.ListN.{length, drop}
-use Rattle.script_judge.specs.Judges.{capped}
+use mathlib.Core.Path.{sym, subst, _∙_}
+use Prim.Native.Nat.{_*_, _+_, _-_, _≤_, ℕ, _<_}
 use Rattle.script_judge.specs.Inner.{ItemRead, RestRead}
 use Rattle.script_judge.proofs.Reading as reading
-use Prim.Native.Nat.{ℕ, _<_}
 use borrow.Fn.Kinds.{In}
 use borrow.Fn.PlainCycle.{Measures, is, falls, and}
 use Rattle.script_judge.proofs.item.Reads as item

@@ -1,8 +1,8 @@
+-- `script_judge::top` meets its contract: an item a call. Assumes nothing.
 use borrow.Author.Needs.{needs}
 use native.Mathlib.Omega.{arith}
-use mathlib.Core.Path.{refl, sym, ap, subst, _∙_, _≡_}
-use Prim.Native.Nat.{_*_, _+_, _-_, _≤_}
-use lib.ListN.{length, drop}
+use mathlib.Core.Path.{sym, _∙_}
+use lib.ListN.{drop}
 use Rattle.script_judge.proofs.Turns.{j-top-ends}
 use Rattle.script_judge.proofs.Reading as reading
 use Prim.Native.Nat.{ℕ, _<_}

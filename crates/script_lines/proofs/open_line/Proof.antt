@@ -1,53 +1,38 @@
+-- `script_lines::open_line` meets its contract. Assumes nothing.
 use borrow.Author.Needs.{needs}
-use native.Mathlib.Omega.{arith}
-use borrow.Author.Tests.{lt-ltb, le-ltb, le-leb, lt-leb, eq-eqb, ne-eqb}
-use mathlib.Core.Path.{refl, sym, _∙_}
+use mathlib.Core.Path.{sym}
 use Rattle.trace_lines.proofs.Runs.{form-met}
 use Rattle.script_lines.specs.Words.{openForm}
 use Rattle.script_lines.proofs.open_line.Statement.{statement}
 use Rattle.script_lines.proofs.open_line.Tie as tie
-use Rattle.script_lines.proofs.open_line.Reads as reads
-use Rattle.script_lines.proofs.open_line.Lts as lts
-use Rattle.common.proofs.nth.Reads as nth-reads
-use Rattle.script_lines.proofs.is_digit.Reads as is-digit-reads
 
--- src/lib.rt:28:12
 nth-requires : tie.Need-nth-requires
 nth-requires c κs = search needs
 
--- src/lib.rt:29:12
 nth-requires-2 : tie.Need-nth-requires-2
 nth-requires-2 c κs = search needs
 
--- src/lib.rt:30:20
 nth-requires-3 : tie.Need-nth-requires-3
 nth-requires-3 c κs = search needs
 
--- src/lib.rt:30:11
 is-digit-requires : tie.Need-is-digit-requires
 is-digit-requires c κs = search needs
 
--- src/lib.rt:31:20
 nth-requires-4 : tie.Need-nth-requires-4
 nth-requires-4 c κs = search needs
 
--- src/lib.rt:31:11
 is-digit-requires-2 : tie.Need-is-digit-requires-2
 is-digit-requires-2 c κs = search needs
 
--- src/lib.rt:32:20
 nth-requires-5 : tie.Need-nth-requires-5
 nth-requires-5 c κs = search needs
 
--- src/lib.rt:32:11
 is-digit-requires-3 : tie.Need-is-digit-requires-3
 is-digit-requires-3 c κs = search needs
 
--- src/lib.rt:33:12
 nth-requires-6 : tie.Need-nth-requires-6
 nth-requires-6 c κs = search needs
 
--- src/lib.rt:23:1
 returns : tie.Need-returns
 returns c = simp (c .nth6 .ensures, c .before .is-digit3 .ensures, c .before .before .nth5 .ensures, c .before .before .before .is-digit2 .ensures, c .before .before .before .before .nth4 .ensures, c .before .before .before .before .before .is-digit .ensures, c .before .before .before .before .before .before .nth3 .ensures, c .before .before .before .before .before .before .before .nth2 .ensures, c .before .before .before .before .before .before .before .before .nth .ensures) (sym (form-met openForm _))
 

@@ -1,64 +1,47 @@
+-- `script_lines::word_in` meets its contract. Assumes nothing.
 use borrow.Author.Needs.{needs}
-use native.Mathlib.Omega.{arith}
-use borrow.Author.Tests.{lt-ltb, le-ltb, le-leb, lt-leb, eq-eqb, ne-eqb}
-use mathlib.Core.Path.{refl, sym, _∙_}
+use borrow.Author.Tests.{eq-eqb, ne-eqb}
+use mathlib.Core.Path.{sym, _∙_}
 use Rattle.script_lines.specs.Words.{wordIn}
 use Rattle.script_lines.proofs.word_in.Statement.{statement}
 use Rattle.script_lines.proofs.word_in.Tie as tie
-use Rattle.script_lines.proofs.word_in.Reads as reads
-use Rattle.script_lines.proofs.word_in.Lts as lts
-use Rattle.script_lines.proofs.count.Reads as count-reads
-use Rattle.script_lines.proofs.is_closing.Reads as is-closing-reads
-use Rattle.script_lines.proofs.is_opening.Reads as is-opening-reads
-use Rattle.script_lines.proofs.is_traced.Reads as is-traced-reads
 
--- src/lib.rt:91:9
 returns : tie.Need-returns
 unfolding wordIn
 returns c = simp (eq-eqb _ _ (c .if1 .taken))
 
--- src/lib.rt:94:9
 returns-2 : tie.Need-returns-2
 unfolding wordIn
 returns-2 c = simp (eq-eqb _ _ (c .if2 .taken), ne-eqb _ _ (c .before .if1 .left))
 
--- src/lib.rt:96:8
 is-traced-requires : tie.Need-is-traced-requires
 is-traced-requires c κs = search needs
 
--- src/lib.rt:97:9
 returns-3 : tie.Need-returns-3
 unfolding wordIn
 returns-3 c = simp (sym (c .before .is-traced .ensures) ∙ c .if3 .taken, ne-eqb _ _ (c .before .before .if2 .left), ne-eqb _ _ (c .before .before .before .if1 .left))
 
--- src/lib.rt:99:8
 is-closing-requires : tie.Need-is-closing-requires
 is-closing-requires c κs = search needs
 
--- src/lib.rt:100:9
 returns-4 : tie.Need-returns-4
 unfolding wordIn
 returns-4 c = simp (sym (c .before .is-closing .ensures) ∙ c .if4 .taken, sym (c .before .before .before .is-traced .ensures) ∙ c .before .before .if3 .left, ne-eqb _ _ (c .before .before .before .before .if2 .left), ne-eqb _ _ (c .before .before .before .before .before .if1 .left))
 
--- src/lib.rt:102:8
 is-opening-requires : tie.Need-is-opening-requires
 is-opening-requires c κs = search needs
 
--- src/lib.rt:103:13
 count-requires : tie.Need-count-requires
 count-requires c κs = search needs
 
--- src/lib.rt:105:13
 returns-5 : tie.Need-returns-5
 unfolding wordIn
 returns-5 c = simp (eq-eqb _ _ (c .if6 .taken), ← c .before .count .ensures, sym (c .before .before .before .is-opening .ensures) ∙ c .before .before .if5 .taken, sym (c .before .before .before .before .before .is-closing .ensures) ∙ c .before .before .before .before .if4 .left, sym (c .before .before .before .before .before .before .before .is-traced .ensures) ∙ c .before .before .before .before .before .before .if3 .left, ne-eqb _ _ (c .before .before .before .before .before .before .before .before .if2 .left), ne-eqb _ _ (c .before .before .before .before .before .before .before .before .before .if1 .left))
 
--- src/lib.rt:107:9
 returns-6 : tie.Need-returns-6
 unfolding wordIn
 returns-6 c = simp (ne-eqb _ _ (c .if6 .left), ← c .before .count .ensures, sym (c .before .before .before .is-opening .ensures) ∙ c .before .before .if5 .taken, sym (c .before .before .before .before .before .is-closing .ensures) ∙ c .before .before .before .before .if4 .left, sym (c .before .before .before .before .before .before .before .is-traced .ensures) ∙ c .before .before .before .before .before .before .if3 .left, ne-eqb _ _ (c .before .before .before .before .before .before .before .before .if2 .left), ne-eqb _ _ (c .before .before .before .before .before .before .before .before .before .if1 .left))
 
--- src/lib.rt:87:1
 returns-7 : tie.Need-returns-7
 unfolding wordIn
 returns-7 c = simp (sym (c .before .is-opening .ensures) ∙ c .if5 .left, sym (c .before .before .before .is-closing .ensures) ∙ c .before .before .if4 .left, sym (c .before .before .before .before .before .is-traced .ensures) ∙ c .before .before .before .before .if3 .left, ne-eqb _ _ (c .before .before .before .before .before .before .if2 .left), ne-eqb _ _ (c .before .before .before .before .before .before .before .if1 .left))

@@ -1,13 +1,11 @@
-use mathlib.Core.Path.{_≡_, sym, ap, _∙_}
-use lib.ListN.{length}
-use Prim.Native.Nat.{_-_, _≤_}
+-- `script_run::run_list` and `script_run::again`, which call each other, meet their contracts: fewer lines may come, or fewer rounds. Assumes nothing.
+use mathlib.Core.Path.{sym, ap, _∙_}
 use Rattle.script_lines.specs.declared.Word.the-variants.{Ends, Bad, Closes}
 use Rattle.script_run.specs.declared.Run.{Run}
 use Rattle.script_run.proofs.Runs as runs
 use borrow.Author.Needs.{needs}
 use native.Mathlib.Omega.{arith}
-use Prim.Native.Nat.{_*_, _+_}
-use Prim.Native.Nat.{ℕ, _<_}
+use Prim.Native.Nat.{_*_, _+_, ℕ, _<_}
 use borrow.Fn.Kinds.{In}
 use borrow.Fn.PlainCycle.{Measures, is, falls, and}
 use Rattle.script_run.proofs.again.Reads as again
@@ -40,6 +38,7 @@ run-list-at t = and 4 run-list-kinds.ps (is 4 run-list-kinds.ps μ-run-list t) r
 abbrev run-list-below : ℕ → In 4 run-list-kinds.ps
 run-list-below t =
     and 4 run-list-kinds.ps (falls 4 run-list-kinds.ps _<_ μ-run-list t) run-list.Pre
+
 again-run-list-requires : (t : ℕ) → again-lts.Need-run-list-requires (
   run-list-below t,
   run-list.Post,
@@ -47,6 +46,7 @@ again-run-list-requires : (t : ℕ) → again-lts.Need-run-list-requires (
   again.Post,
 ) (again-at t) again.Post
 again-run-list-requires t c κs = search needs
+
 again-same-length : (t : ℕ) → again-lts.Need-same-length (
   run-list-below t,
   run-list.Post,
@@ -54,6 +54,7 @@ again-same-length : (t : ℕ) → again-lts.Need-same-length (
   again.Post,
 ) (again-at t) again.Post
 again-same-length t c = search needs
+
 again-same-length-2 : (t : ℕ) → again-lts.Need-same-length-2 (
   run-list-below t,
   run-list.Post,
@@ -61,6 +62,7 @@ again-same-length-2 : (t : ℕ) → again-lts.Need-same-length-2 (
   again.Post,
 ) (again-at t) again.Post
 again-same-length-2 t c = search needs
+
 again-returns : (t : ℕ) → again-lts.Need-returns (
   run-list-below t,
   run-list.Post,
@@ -70,6 +72,7 @@ again-returns : (t : ℕ) → again-lts.Need-returns (
 again-returns t c =
     let a = c .before .before .before .before .before .before .before .before .before .before .before .before .args in let q = c .before .before .before .before .before .run-list in
     (runs.again-one (a .text .now) (a .x) (q .result) (a .n) (a .array .now) (a .residue .now) (a .out .now) (q .last .1 .1 .0) (q .last .1 .1 .1 .1 .0) (q .ensures .0) (let l = c .if1 .taken in omega arith), q .ensures .1)
+
 again-sub-again : (t : ℕ) → again-lts.Need-sub-again (
   run-list-below t,
   run-list.Post,
@@ -77,6 +80,7 @@ again-sub-again : (t : ℕ) → again-lts.Need-sub-again (
   again.Post,
 ) (again-at t) again.Post
 again-sub-again t c = search needs
+
 again-again-requires : (t : ℕ) → again-lts.Need-again-requires (
   run-list-below t,
   run-list.Post,
@@ -87,6 +91,7 @@ again-again-requires t c κs =
     let a = c .before .before .before .before .before .before .before .before .before .before .before .before .before .before .before .args in let p0 = c .before .before .before .before .before .before .before .before .before .before .before .before .before .before .before .pre .1 .0 in let p = c .before .before .before .before .before .before .before .before .before .before .before .before .before .before .before .pre .0 in let p2 = c .before .before .before .before .before .before .before .before .before .before .before .before .before .before .before .pre .1 .2 in let l = c .before .before .before .if1 .left in
     let q = c .before .before .before .before .before .before .before .before .run-list in let g = q .ensures .1 in let g2 = g .2 in let n = q .kept .1 .1 .1 .1 .0 in
     (omega arith, (p0, omega arith, omega arith))
+
 again-same-length-3 : (t : ℕ) → again-lts.Need-same-length-3 (
   run-list-below t,
   run-list.Post,
@@ -94,6 +99,7 @@ again-same-length-3 : (t : ℕ) → again-lts.Need-same-length-3 (
   again.Post,
 ) (again-at t) again.Post
 again-same-length-3 t c = search needs
+
 again-same-length-4 : (t : ℕ) → again-lts.Need-same-length-4 (
   run-list-below t,
   run-list.Post,
@@ -101,6 +107,7 @@ again-same-length-4 : (t : ℕ) → again-lts.Need-same-length-4 (
   again.Post,
 ) (again-at t) again.Post
 again-same-length-4 t c = search needs
+
 again-returns-2 : (t : ℕ) → again-lts.Need-returns-2 (
   run-list-below t,
   run-list.Post,
@@ -112,6 +119,7 @@ again-returns-2 t c =
     let q = c .before .before .before .before .before .before .before .before .before .before .before .before .before .run-list in let n = q .kept .1 .1 .1 .1 .0 in
     let k = c .before .before .before .before .again in let g = k .ensures .1 in let g2 = g .2 in
     (runs.again-more (a .text .now) (a .x) (q .result) (k .result) (a .n) (a .array .now) (a .residue .now) (a .out .now) (q .last .1 .1 .0) (q .last .1 .1 .1 .1 .0) (k .last .1 .1 .1 .0) (k .last .1 .1 .1 .1 .1 .0) (q .ensures .0) (let l = c .before .before .before .before .before .before .before .before .if1 .left in omega arith) n (k .ensures .0), (g .0, g .1, omega arith))
+
 run-list-word-at-requires : (t : ℕ) → run-list-lts.Need-word-at-requires (
   word-at-reads.Asked,
   word-at-reads.Learnt,
@@ -125,6 +133,7 @@ run-list-word-at-requires : (t : ℕ) → run-list-lts.Need-word-at-requires (
   past-close-reads.Learnt,
 ) (run-list-at t) run-list.Post
 run-list-word-at-requires t c κs = search needs
+
 run-list-enum-told : (t : ℕ) → run-list-lts.Need-enum-told (
   word-at-reads.Asked,
   word-at-reads.Learnt,
@@ -138,6 +147,7 @@ run-list-enum-told : (t : ℕ) → run-list-lts.Need-enum-told (
   past-close-reads.Learnt,
 ) (run-list-at t) run-list.Post
 run-list-enum-told t c = search needs
+
 run-list-returns : (t : ℕ) → run-list-lts.Need-returns (
   word-at-reads.Asked,
   word-at-reads.Learnt,
@@ -154,6 +164,7 @@ run-list-returns t c =
     let a = c .before .before .before .before .before .before .before .args in let p0 = c .before .before .before .before .before .before .before .pre .1 .0 in let p1 = c .before .before .before .before .before .before .before .pre .1 .1 in
     let w = sym (c .before .before .word-at .ensures) ∙ c .enum-told .given .1 in
     (runs.run-stop (a .text .now) (a .x) (a .array .now) (a .residue .now) (a .out .now) Ends w (λ z. absurd (omega arith)) (λ z. absurd (omega arith)), (p0, omega arith, p1))
+
 run-list-enum-told-2 : (t : ℕ) → run-list-lts.Need-enum-told-2 (
   word-at-reads.Asked,
   word-at-reads.Learnt,
@@ -167,6 +178,7 @@ run-list-enum-told-2 : (t : ℕ) → run-list-lts.Need-enum-told-2 (
   past-close-reads.Learnt,
 ) (run-list-at t) run-list.Post
 run-list-enum-told-2 t c = search needs
+
 run-list-returns-2 : (t : ℕ) → run-list-lts.Need-returns-2 (
   word-at-reads.Asked,
   word-at-reads.Learnt,
@@ -183,6 +195,7 @@ run-list-returns-2 t c =
     let a = c .before .before .before .before .before .before .before .args in let p0 = c .before .before .before .before .before .before .before .pre .1 .0 in let p1 = c .before .before .before .before .before .before .before .pre .1 .1 in
     let w = sym (c .before .before .word-at .ensures) ∙ c .enum-told2 .given .1 in
     (runs.run-stop (a .text .now) (a .x) (a .array .now) (a .residue .now) (a .out .now) Bad w (λ z. absurd (omega arith)) (λ z. absurd (omega arith)), (p0, omega arith, p1))
+
 run-list-enum-told-3 : (t : ℕ) → run-list-lts.Need-enum-told-3 (
   word-at-reads.Asked,
   word-at-reads.Learnt,
@@ -196,6 +209,7 @@ run-list-enum-told-3 : (t : ℕ) → run-list-lts.Need-enum-told-3 (
   past-close-reads.Learnt,
 ) (run-list-at t) run-list.Post
 run-list-enum-told-3 t c = search needs
+
 run-list-returns-3 : (t : ℕ) → run-list-lts.Need-returns-3 (
   word-at-reads.Asked,
   word-at-reads.Learnt,
@@ -212,6 +226,7 @@ run-list-returns-3 t c =
     let a = c .before .before .before .before .before .before .before .args in let p0 = c .before .before .before .before .before .before .before .pre .1 .0 in let p1 = c .before .before .before .before .before .before .before .pre .1 .1 in
     let w = sym (c .before .before .word-at .ensures) ∙ c .enum-told3 .given .1 in
     (runs.run-stop (a .text .now) (a .x) (a .array .now) (a .residue .now) (a .out .now) Closes w (λ z. absurd (omega arith)) (λ z. absurd (omega arith)), (p0, omega arith, p1))
+
 run-list-enum-told-4 : (t : ℕ) → run-list-lts.Need-enum-told-4 (
   word-at-reads.Asked,
   word-at-reads.Learnt,
@@ -225,6 +240,7 @@ run-list-enum-told-4 : (t : ℕ) → run-list-lts.Need-enum-told-4 (
   past-close-reads.Learnt,
 ) (run-list-at t) run-list.Post
 run-list-enum-told-4 t c = search needs
+
 run-list-sub-if1 : (t : ℕ) → run-list-lts.Need-sub-if1 (
   word-at-reads.Asked,
   word-at-reads.Learnt,
@@ -238,6 +254,7 @@ run-list-sub-if1 : (t : ℕ) → run-list-lts.Need-sub-if1 (
   past-close-reads.Learnt,
 ) (run-list-at t) run-list.Post
 run-list-sub-if1 t c = search needs
+
 run-list-returns-4 : (t : ℕ) → run-list-lts.Need-returns-4 (
   word-at-reads.Asked,
   word-at-reads.Learnt,
@@ -254,6 +271,7 @@ run-list-returns-4 t c =
     let a = c .before .before .before .before .before .before .before .before .before .args in let p0 = c .before .before .before .before .before .before .before .before .before .pre .1 .0 in let p1 = c .before .before .before .before .before .before .before .before .before .pre .1 .1 in
     let w = sym (c .before .before .before .before .word-at .ensures) ∙ c .before .before .enum-told4 .given .1 in
     (runs.run-short (a .text .now) (a .x) (a .array .now) (a .residue .now) (a .out .now) w (c .if1 .taken), (p0, omega arith, p1))
+
 run-list-answered-requires : (t : ℕ) → run-list-lts.Need-answered-requires (
   word-at-reads.Asked,
   word-at-reads.Learnt,
@@ -271,6 +289,7 @@ run-list-answered-requires t c κs =
     let w = sym (c .before .before .before .before .before .before .word-at .ensures) ∙ c .before .before .before .before .enum-told4 .given .1 in
     let m = runs.traced-room (a .text .now) (a .x .left) (a .x .at) w in
     (m .1, omega arith, m .0)
+
 run-list-run-list-requires : (t : ℕ) → run-list-lts.Need-run-list-requires (
   word-at-reads.Asked,
   word-at-reads.Learnt,
@@ -291,6 +310,7 @@ run-list-run-list-requires t c κs =
     let e1 = ap (λ (r : Run). r .at) e in let e2 = ap (λ (r : Run). r .left) e in let e3 = ap (λ (r : Run). r .used) e in
     let n = k .kept .1 .1 .1 .1 .0 in
     (omega arith, (omega arith, omega arith))
+
 run-list-same-length : (t : ℕ) → run-list-lts.Need-same-length (
   word-at-reads.Asked,
   word-at-reads.Learnt,
@@ -304,6 +324,7 @@ run-list-same-length : (t : ℕ) → run-list-lts.Need-same-length (
   past-close-reads.Learnt,
 ) (run-list-at t) run-list.Post
 run-list-same-length t c = search needs
+
 run-list-same-length-2 : (t : ℕ) → run-list-lts.Need-same-length-2 (
   word-at-reads.Asked,
   word-at-reads.Learnt,
@@ -317,6 +338,7 @@ run-list-same-length-2 : (t : ℕ) → run-list-lts.Need-same-length-2 (
   past-close-reads.Learnt,
 ) (run-list-at t) run-list.Post
 run-list-same-length-2 t c = search needs
+
 run-list-returns-5 : (t : ℕ) → run-list-lts.Need-returns-5 (
   word-at-reads.Asked,
   word-at-reads.Learnt,
@@ -336,6 +358,7 @@ run-list-returns-5 t c =
     let n = k .kept .1 .1 .1 .1 .0 in
     let q = c .before .before .before .before .run-list in let g = q .ensures .1 in let g1 = g .1 in let g2 = g .2 in
     (runs.run-line (a .text .now) (a .x) y (q .result) (a .array .now) (a .residue .now) (a .out .now) (k .last .1 .1 .0) (k .last .1 .1 .1 .1 .0) (q .last .1 .1 .0) (q .last .1 .1 .1 .1 .0) w e (k .ensures .1 .0) (k .ensures .1 .1) n (q .ensures .0), (g .0, omega arith, omega arith))
+
 run-list-enum-known-w : (t : ℕ) → run-list-lts.Need-enum-known-w (
   word-at-reads.Asked,
   word-at-reads.Learnt,
@@ -349,6 +372,7 @@ run-list-enum-known-w : (t : ℕ) → run-list-lts.Need-enum-known-w (
   past-close-reads.Learnt,
 ) (run-list-at t) run-list.Post
 run-list-enum-known-w t c = search needs
+
 run-list-add-t23 : (t : ℕ) → run-list-lts.Need-add-t23 (
   word-at-reads.Asked,
   word-at-reads.Learnt,
@@ -362,6 +386,7 @@ run-list-add-t23 : (t : ℕ) → run-list-lts.Need-add-t23 (
   past-close-reads.Learnt,
 ) (run-list-at t) run-list.Post
 run-list-add-t23 t c = search needs
+
 run-list-sub-t24 : (t : ℕ) → run-list-lts.Need-sub-t24 (
   word-at-reads.Asked,
   word-at-reads.Learnt,
@@ -378,6 +403,7 @@ run-list-sub-t24 t c =
     let a = c .before .before .before .before .before .before .before .before .before .before .before .args in
     let w = sym (c .before .before .before .before .before .before .word-at .ensures) ∙ c .before .before .before .before .w .given .1 in let m = runs.opens-room (a .text .now) (a .x .left) (a .x .at) (c .before .before .before .before .w .given .0 .0) w in let m0 = m .0 in let m1 = m .1 in let m2 = m .2 in
     m0
+
 run-list-again-requires : (t : ℕ) → run-list-lts.Need-again-requires (
   word-at-reads.Asked,
   word-at-reads.Learnt,
@@ -394,6 +420,7 @@ run-list-again-requires t c κs =
     let a = c .before .before .before .before .before .before .before .before .before .before .before .before .before .args in let p1 = c .before .before .before .before .before .before .before .before .before .before .before .before .before .pre .1 .1 in let p = c .before .before .before .before .before .before .before .before .before .before .before .before .before .pre .0 in
     let w = sym (c .before .before .before .before .before .before .before .before .word-at .ensures) ∙ c .before .before .before .before .before .before .w .given .1 in let m = runs.opens-room (a .text .now) (a .x .left) (a .x .at) (c .before .before .before .before .before .before .w .given .0 .0) w in let m0 = m .0 in let m1 = m .1 in let m2 = m .2 in
     (omega arith, (m1, p1, m2))
+
 run-list-past-close-requires : (t : ℕ) → run-list-lts.Need-past-close-requires (
   word-at-reads.Asked,
   word-at-reads.Learnt,
@@ -408,6 +435,7 @@ run-list-past-close-requires : (t : ℕ) → run-list-lts.Need-past-close-requir
 ) (run-list-at t) run-list.Post
 run-list-past-close-requires t c κs =
     c .before .before .before .before .again .ensures .1 .0
+
 run-list-run-list-requires-2 : (t : ℕ) → run-list-lts.Need-run-list-requires-2 (
   word-at-reads.Asked,
   word-at-reads.Learnt,
@@ -426,6 +454,7 @@ run-list-run-list-requires-2 t c κs =
     let k = c .before .before .before .before .before .before .before .again in let y = k .result in let g = k .ensures .1 in let g1 = g .1 in let g2 = g .2 in let ez = c .before .before .past-close .ensures in let h = runs.close-ahead (a .text .now) y (g .0) in let h0 = h .0 in let h1 = h .1 in let h2 = h .2 in
     let e1 = ap (λ (r : Run). r .at) ez in let e2 = ap (λ (r : Run). r .left) ez in let e3 = ap (λ (r : Run). r .used) ez in let n = k .kept .1 .1 .1 .1 .1 .0 in
     (omega arith, (omega arith, omega arith))
+
 run-list-same-length-3 : (t : ℕ) → run-list-lts.Need-same-length-3 (
   word-at-reads.Asked,
   word-at-reads.Learnt,
@@ -439,6 +468,7 @@ run-list-same-length-3 : (t : ℕ) → run-list-lts.Need-same-length-3 (
   past-close-reads.Learnt,
 ) (run-list-at t) run-list.Post
 run-list-same-length-3 t c = search needs
+
 run-list-same-length-4 : (t : ℕ) → run-list-lts.Need-same-length-4 (
   word-at-reads.Asked,
   word-at-reads.Learnt,
@@ -452,6 +482,7 @@ run-list-same-length-4 : (t : ℕ) → run-list-lts.Need-same-length-4 (
   past-close-reads.Learnt,
 ) (run-list-at t) run-list.Post
 run-list-same-length-4 t c = search needs
+
 run-list-returns-6 : (t : ℕ) → run-list-lts.Need-returns-6 (
   word-at-reads.Asked,
   word-at-reads.Learnt,

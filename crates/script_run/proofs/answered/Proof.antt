@@ -1,38 +1,45 @@
-use mathlib.Core.Path.{_≡_, sym, ap, _∙_}
-use Prim.Native.Nat.{ℕ, _+_, _-_}
-use lib.ListN.{take, drop}
-use native.Mathlib.Omega.{arith}
+-- `script_run::answered` meets its contract. Assumes nothing.
 use Rattle.script_run.proofs.Lines.{line-state, line-array, line-laid}
 use borrow.Author.Needs.{needs}
 use Rattle.script_run.proofs.answered.Statement.{statement}
 use Rattle.script_run.proofs.answered.Tie as tie
-use Rattle.script_run.proofs.answered.Reads as reads
-use Rattle.script_run.proofs.answered.Lts as lts
-use Rattle.trace_replay.proofs.answer_line.Reads as answer-line-reads
+
 add-e : tie.Need-add-e
 add-e c = search needs
+
 add-q : tie.Need-add-q
 add-q c = search needs
+
 sub-answer-line : tie.Need-sub-answer-line
 sub-answer-line c = search needs
+
 part-answer-line-start : tie.Need-part-answer-line-start
 part-answer-line-start c = search needs
+
 part-answer-line-end : tie.Need-part-answer-line-end
 part-answer-line-end c = search needs
+
 sub-answer-line-2 : tie.Need-sub-answer-line-2
 sub-answer-line-2 c = search needs
+
 part-answer-line-start-2 : tie.Need-part-answer-line-start-2
 part-answer-line-start-2 c = search needs
+
 part-answer-line-end-2 : tie.Need-part-answer-line-end-2
 part-answer-line-end-2 c = search needs
+
 answer-line-requires : tie.Need-answer-line-requires
 answer-line-requires c κs = search needs
+
 sub-t13 : tie.Need-sub-t13
 sub-t13 c = search needs
+
 same-length : tie.Need-same-length
 same-length c = search needs
+
 same-length-2 : tie.Need-same-length-2
 same-length-2 c = search needs
+
 returns : tie.Need-returns
 returns c =
     let a = c .before .before .before .before .before .before .before .before .before .before .before .before .before .before .args in let k = c .before .before .before .before .before .answer-line in let p = c .before .before .before .before .before .before .before .before .before .before .before .before .before .before .pre .1 in

@@ -5,27 +5,31 @@ use borrow.Author.Needs.{needs}
 use lib.ListN.{length}
 use Rattle.vectors_script.proofs.put_pieces.Statement.{statement}
 use Rattle.vectors_script.proofs.put_pieces.Tie as tie
-use Rattle.vectors_script.proofs.put_pieces.Reads as reads
-use Rattle.vectors_script.proofs.put_pieces.Lts as lts
-use Rattle.vectors_script.proofs.put_piece.Reads as put-piece-reads
 
 abbrev Inv-loop : tie.InvT-loop
 Inv-loop text₀ len piece times at₀ i₀ text at i = (i ≤ times) × (at ≤ length text) × (length text ≡ length text₀)
 
 abbrev μ-loop : tie.MeasureT-loop
 μ-loop text₀ len piece times at₀ i₀ text at i = times - i
+
 loop-holds : tie.Need-loop-holds Inv-loop μ-loop
 loop-holds c = search needs
+
 put-piece-requires : tie.Need-put-piece-requires Inv-loop μ-loop
 put-piece-requires c κs = search needs
+
 add-i : tie.Need-add-i Inv-loop μ-loop
 add-i c = search needs
+
 loop-less : tie.Need-loop-less Inv-loop μ-loop
 loop-less c = search needs
+
 loop-again : tie.Need-loop-again Inv-loop μ-loop
 loop-again c = search needs
+
 same-length : tie.Need-same-length Inv-loop μ-loop
 same-length c = search needs
+
 returns : tie.Need-returns Inv-loop μ-loop
 returns c = search needs
 
