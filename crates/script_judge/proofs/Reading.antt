@@ -1,5 +1,5 @@
 -- What the two readers answer to each other, one law for each way out. Assumes nothing.
-use mathlib.Core.Path.{_≡_, refl, sym, ap, _∙_}
+use mathlib.Core.Path.{_≡_, refl, sym, ap, subst, _∙_}
 use mathlib.Core.Bool.{Bool, true, false}
 use mathlib.Core.List.{List, [], _∷_}
 use Prim.Native.Nat.{ℕ, zero, suc, _+_, _-_, _*_, _≤_, _<_}
@@ -18,20 +18,8 @@ use Rattle.script_lines.proofs.Forms.{word-traced, word-closes, word-opens}
 use Rattle.script_judge.specs.declared.Judged.{Judged}
 use Rattle.script_judge.specs.declared.Spot.{Spot}
 use Rattle.script_judge.specs.Judges.{faultAs, capped, judge}
-use Rattle.script_judge.specs.Inner.{ItemRead, RestRead, Sound, Ahead}
+use Rattle.script_judge.specs.Inner.{faultSpot, nextSpot, ItemRead, RestRead, Sound, Ahead}
 use Rattle.script_judge.proofs.Turns.{j-bad, j-ends, j-close-true, j-traced-over, j-traced, j-open-deep, j-open, j-close, j-item, j-top-item}
-
-abbrev pub faultOf : ℕ → Spot
-faultOf n = record { fault = n; at = 0; left = 0; line = 0; total = 0 }
-
-abbrev pub nextOf : Spot → ℕ → ℕ → Spot
-nextOf x u p = record { fault = 0; at = x .at + u; left = x .left - 1; line = x .line + 1; total = x .total + p }
-
-abbrev pub openedOf : Spot → Spot
-openedOf x = record { fault = 0; at = x .at + 6; left = x .left - 1; line = x .line + 1; total = x .total }
-
-abbrev pub closedOf : Spot → Spot
-closedOf x = record { fault = 0; at = x .at + 2; left = x .left - 1; line = x .line + 1; total = x .total }
 
 nonzero : (n : ℕ) → 1 ≤ n → n ≡ 0 → ⊥
 nonzero n l e = absurd (omega arith)
@@ -51,32 +39,32 @@ pub line-nonzero : (x : Spot) → Sound x → x .line ≡ 0 → ⊥
 line-nonzero x h e = nonzero (x .line) (h .line) e
 
 module _ (s : List ℕ) (x : Spot) (d p : ℕ) (h : Sound x) where
-  pub item-bad : wordIn (x .left) (drop (x .at) s) ≡ Bad → ItemRead s x d p (faultOf (x .line))
+  pub item-bad : wordIn (x .left) (drop (x .at) s) ≡ Bad → ItemRead s x d p (faultSpot (x .line))
   unfolding ItemRead
   item-bad w K k = j-bad (x .left) (x .line) K p (x .total) (drop (x .at) s) true w ∙ sym (stop (x .line) (judge 0 0 K p false 0 (drop 0 s)) (h .line))
 
-  pub item-ends : wordIn (x .left) (drop (x .at) s) ≡ Ends → ItemRead s x d p (faultOf (x .line))
+  pub item-ends : wordIn (x .left) (drop (x .at) s) ≡ Ends → ItemRead s x d p (faultSpot (x .line))
   unfolding ItemRead
   item-ends w K k = j-ends (x .left) (x .line) K p (x .total) (drop (x .at) s) w ∙ sym (stop (x .line) (judge 0 0 K p false 0 (drop 0 s)) (h .line))
 
-  pub item-close : wordIn (x .left) (drop (x .at) s) ≡ Closes → ItemRead s x d p (faultOf (x .line))
+  pub item-close : wordIn (x .left) (drop (x .at) s) ≡ Closes → ItemRead s x d p (faultSpot (x .line))
   unfolding ItemRead
   item-close w K k = j-close-true (x .left) (x .line) K p (x .total) (drop (x .at) s) w ∙ sym (stop (x .line) (judge 0 0 K p false 0 (drop 0 s)) (h .line))
 
-  pub item-over : wordIn (x .left) (drop (x .at) s) ≡ Traced → 9998 < x .total + p → ItemRead s x d p (faultOf (x .line))
+  pub item-over : wordIn (x .left) (drop (x .at) s) ≡ Traced → 9998 < x .total + p → ItemRead s x d p (faultSpot (x .line))
   unfolding ItemRead
   item-over w l K k = j-traced-over (x .left) (x .line) K p (x .total) (drop (x .at) s) true w l ∙ sym (stop (x .line) (judge 0 0 K p false 0 (drop 0 s)) (h .line))
 
-  pub item-traced : wordIn (x .left) (drop (x .at) s) ≡ Traced → x .total + p ≤ 9998 → ItemRead s x d p (nextOf x 20 p)
+  pub item-traced : wordIn (x .left) (drop (x .at) s) ≡ Traced → x .total + p ≤ 9998 → ItemRead s x d p (nextSpot x 20 (x .total + p))
   unfolding ItemRead
   item-traced w l K k = j-traced (x .left) (x .line) K p (x .total) (drop (x .at) s) true w l ∙ ap (λ (u : List ℕ). judge (x .left - 1) (x .line + 1) K p false (x .total + p) u) (at-drop s (x .at) 20)
 
-  pub item-deep : (m : ℕ) → wordIn (x .left) (drop (x .at) s) ≡ Opens m → d ≡ 0 → ItemRead s x d p (faultOf (x .line))
+  pub item-deep : (m : ℕ) → wordIn (x .left) (drop (x .at) s) ≡ Opens m → d ≡ 0 → ItemRead s x d p (faultSpot (x .line))
   unfolding ItemRead
   item-deep m w z K k = j-open-deep (x .left) (x .line) K p (x .total) (drop (x .at) s) true m w (omega arith) ∙ sym (stop (x .line) (judge 0 0 K p false 0 (drop 0 s)) (h .line))
 
   -- the first item of a group, then the rest of it
-  first : (m : ℕ) (K : List ℕ) → wordIn (x .left) (drop (x .at) s) ≡ Opens m → (d ≡ 0 → ⊥) → length K + d ≡ 8 → (y : Spot) → ItemRead s (openedOf x) (d - 1) (capped (p * m)) y
+  first : (m : ℕ) (K : List ℕ) → wordIn (x .left) (drop (x .at) s) ≡ Opens m → (d ≡ 0 → ⊥) → length K + d ≡ 8 → (y : Spot) → ItemRead s (nextSpot x 6 (x .total)) (d - 1) (capped (p * m)) y
       → judge (x .left) (x .line) K p true (x .total) (drop (x .at) s) ≡ (if eqb (y .fault) 0 then judge (y .left) (y .line) (p ∷ K) (capped (p * m)) false (y .total) (drop (y .at) s) else faultAs (y .fault))
   unfolding ItemRead
   first m K w z k y i =
@@ -89,18 +77,18 @@ module _ (s : List ℕ) (x : Spot) (d p : ℕ) (h : Sound x) where
       some zero f = absurd (f refl)
       some (suc d) f = omega arith
 
-  pub item-first-fault : (m : ℕ) (y : Spot) → wordIn (x .left) (drop (x .at) s) ≡ Opens m → (d ≡ 0 → ⊥) → ItemRead s (openedOf x) (d - 1) (capped (p * m)) y → (y .fault ≡ 0 → ⊥) → ItemRead s x d p y
+  pub item-first-fault : (m : ℕ) (y : Spot) → wordIn (x .left) (drop (x .at) s) ≡ Opens m → (d ≡ 0 → ⊥) → ItemRead s (nextSpot x 6 (x .total)) (d - 1) (capped (p * m)) y → (y .fault ≡ 0 → ⊥) → ItemRead s x d p y
   unfolding ItemRead
   item-first-fault m y w z i f K k = first m K w z k y i ∙ simp (ne-eqb (y .fault) 0 f)
 
-  pub item-group : (m : ℕ) (y r : Spot) → wordIn (x .left) (drop (x .at) s) ≡ Opens m → (d ≡ 0 → ⊥) → ItemRead s (openedOf x) (d - 1) (capped (p * m)) y → y .fault ≡ 0 → RestRead s y (d - 1) (capped (p * m)) r → ItemRead s x d p r
+  pub item-group : (m : ℕ) (y r : Spot) → wordIn (x .left) (drop (x .at) s) ≡ Opens m → (d ≡ 0 → ⊥) → ItemRead s (nextSpot x 6 (x .total)) (d - 1) (capped (p * m)) y → y .fault ≡ 0 → RestRead s y (d - 1) (capped (p * m)) r → ItemRead s x d p r
   unfolding ItemRead RestRead
   item-group m y r w z i f j K k = first m K w z k y i ∙ simp (eq-eqb (y .fault) 0 f) (j K p (fewer d z k)) where
     fewer : (d : ℕ) → (d ≡ 0 → ⊥) → length K + d ≡ 8 → length K + (d - 1) ≡ 7
     fewer zero f e = absurd (f refl)
     fewer (suc d) f e = omega arith
 
-  pub rest-close : isCloses (wordIn (x .left) (drop (x .at) s)) ≡ true → RestRead s x d p (closedOf x)
+  pub rest-close : isCloses (wordIn (x .left) (drop (x .at) s)) ≡ true → RestRead s x d p (nextSpot x 2 (x .total))
   unfolding RestRead
   rest-close c K q k = by (wordIn (x .left) (drop (x .at) s)) refl c where
     by : (w : Word) → wordIn (x .left) (drop (x .at) s) ≡ w → isCloses w ≡ true → judge (x .left) (x .line) (q ∷ K) p false (x .total) (drop (x .at) s) ≡ judge (x .left - 1) (x .line + 1) K q false (x .total) (drop (x .at + 2) s)
@@ -131,21 +119,21 @@ long : (s : List ℕ) (a u : ℕ) → u ≤ length (drop a s) → 1 ≤ u → a 
 long s a u l m = let e = length-drop a s in omega arith
 
 module _ (s : List ℕ) (x : Spot) (h : Sound x) where
-  pub traced-ahead : (p : ℕ) → wordIn (x .left) (drop (x .at) s) ≡ Traced → x .total + p ≤ 9998 → Ahead s x (nextOf x 20 p)
+  pub traced-ahead : (p : ℕ) → wordIn (x .left) (drop (x .at) s) ≡ Traced → x .total + p ≤ 9998 → Ahead s x (nextSpot x 20 (x .total + p))
   unfolding Ahead
   traced-ahead p w l z =
       let f = word-traced (x .left) (drop (x .at) s) w in
       let f0 = f .0 in let a = h .line in let b = h .sum in
       (long s (x .at) 20 (f .1) (omega arith), record { line = omega arith; sum = omega arith; total = l }, omega arith)
 
-  pub close-ahead : isCloses (wordIn (x .left) (drop (x .at) s)) ≡ true → Ahead s x (closedOf x)
+  pub close-ahead : isCloses (wordIn (x .left) (drop (x .at) s)) ≡ true → Ahead s x (nextSpot x 2 (x .total))
   unfolding Ahead
   close-ahead c z =
       let f = word-closes (x .left) (drop (x .at) s) (closes-is (wordIn (x .left) (drop (x .at) s)) c) in
       let f0 = f .0 in let a = h .line in let b = h .sum in
       (long s (x .at) 2 (f .1) (omega arith), record { line = omega arith; sum = omega arith; total = h .total }, omega arith)
 
-  pub open-ahead : (m : ℕ) → wordIn (x .left) (drop (x .at) s) ≡ Opens m → (x .at + 6 ≤ length s) × Sound (openedOf x) × (x .left - 1 < x .left)
+  pub open-ahead : (m : ℕ) → wordIn (x .left) (drop (x .at) s) ≡ Opens m → (x .at + 6 ≤ length s) × Sound (nextSpot x 6 (x .total)) × (x .left - 1 < x .left)
   open-ahead m w =
       let f = word-opens (x .left) (drop (x .at) s) m w in
       let f0 = f .0 in let a = h .line in let b = h .sum in
@@ -173,3 +161,13 @@ ahead s x y a z = a z
 pub ahead-on : (s : List ℕ) (x y r : Spot) → y .left < x .left → Ahead s y r → Ahead s x r
 unfolding Ahead
 ahead-on s x y r l a z = let b = a z in let b2 = b .2 in (b .0, b .1, omega arith)
+
+-- ---- both promises of an answer, by its equation
+pub item-by : (s : List ℕ) (x : Spot) (d p : ℕ) (r q : Spot) → r ≡ q → ItemRead s x d p q → Ahead s x q → ItemRead s x d p r × Ahead s x r
+item-by s x d p r q e i a = (subst (λ (y : Spot). ItemRead s x d p y) (sym e) i, subst (λ (y : Spot). Ahead s x y) (sym e) a)
+
+pub rest-by : (s : List ℕ) (x : Spot) (d p : ℕ) (r q : Spot) → r ≡ q → RestRead s x d p q → Ahead s x q → RestRead s x d p r × Ahead s x r
+rest-by s x d p r q e i a = (subst (λ (y : Spot). RestRead s x d p y) (sym e) i, subst (λ (y : Spot). Ahead s x y) (sym e) a)
+
+pub fault-by : (s : List ℕ) (x : Spot) (d p : ℕ) (r : Spot) → Sound x → r ≡ faultSpot (x .line) → ItemRead s x d p (faultSpot (x .line)) → ItemRead s x d p r × Ahead s x r
+fault-by s x d p r h e i = item-by s x d p r (faultSpot (x .line)) e i (fault-ahead s x (faultSpot (x .line)) (line-nonzero x h))

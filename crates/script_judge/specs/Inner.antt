@@ -3,12 +3,19 @@
 use mathlib.Core.Path.{_≡_}
 use mathlib.Core.Bool.{true, false}
 use mathlib.Core.List.{List, _∷_}
-use Prim.Native.Nat.{ℕ, _+_, _≤_, _<_}
+use Prim.Native.Nat.{ℕ, _+_, _-_, _≤_, _<_}
 use lib.Dec.{eqb}
 use lib.ListN.{length, drop}
 use Rattle.common.specs.Choice.{if_then_else_}
 use Rattle.script_judge.specs.declared.Spot.{Spot}
 use Rattle.script_judge.specs.Judges.{faultAs, judge}
+
+-- a fault at a line; past a line of u bytes at x, with t lines written out
+abbrev pub faultSpot : ℕ → Spot
+faultSpot n = record { fault = n; at = 0; left = 0; line = 0; total = 0 }
+
+abbrev pub nextSpot : Spot → ℕ → ℕ → Spot
+nextSpot x u t = record { fault = 0; at = x .at + u; left = x .left - 1; line = x .line + 1; total = t }
 
 -- an item read at x, d levels left to open: whatever groups are open, the judging from x on is the answer's fault, or goes on
 -- from the answer

@@ -6,7 +6,7 @@ ghost use mathlib.Core.List.{[]};
 ghost use Prim.Native.Nat.{_≤_, _*_};
 ghost use lib.ListN.{length, drop};
 ghost use Rattle.script_judge.specs.Judges.{capped, judge, scriptJudged};
-ghost use Rattle.script_judge.specs.Inner.{ItemRead, RestRead, Sound, Ahead};
+ghost use Rattle.script_judge.specs.Inner.{faultSpot, nextSpot, ItemRead, RestRead, Sound, Ahead};
 
 // The first line at fault, and no lines; or no fault (0), and how many lines are written out.
 pub struct Judged {
@@ -34,6 +34,33 @@ fn times(p: usize, n: usize) -> usize
     9999
 }
 
+// A fault at a line.
+fn fault_at(line: usize) -> Spot
+    ensures { λ r. ⌜ r ≡ faultSpot line ⌝ }
+{
+    Spot {
+        fault: line,
+        at: 0,
+        left: 0,
+        line: 0,
+        total: 0,
+    }
+}
+
+// Past a line of so many bytes at x, with so many lines written out.
+fn past(text: &[u8], x: Spot, bytes: usize, total: usize) -> Spot
+    requires { ⌜ (x .at ≤ length (now text)) × (bytes ≤ 20) × (1 ≤ x .left) × Sound x ⌝ }
+    ensures { λ r. ⌜ r ≡ nextSpot x bytes total ⌝ }
+{
+    Spot {
+        fault: 0,
+        at: x.at + bytes,
+        left: x.left - 1,
+        line: x.line + 1,
+        total: total,
+    }
+}
+
 // An item must stand at x: a trace line, or a group, with so many levels left to open and such a product of counts around it.
 fn item(text: &[u8], x: Spot, depth: usize, p: usize) -> Spot
     requires { ⌜ (x .at ≤ length (now text)) × Sound x × (p ≤ 9999) ⌝ }
@@ -43,73 +70,26 @@ fn item(text: &[u8], x: Spot, depth: usize, p: usize) -> Spot
     let w = script_lines::word_at(x.left, text, x.at);
     match w {
         Word::Ends => {
-            return Spot {
-                fault: x.line,
-                at: 0,
-                left: 0,
-                line: 0,
-                total: 0,
-            };
+            return fault_at(x.line);
         }
         Word::Bad => {
-            return Spot {
-                fault: x.line,
-                at: 0,
-                left: 0,
-                line: 0,
-                total: 0,
-            };
+            return fault_at(x.line);
         }
         Word::Closes => {
-            return Spot {
-                fault: x.line,
-                at: 0,
-                left: 0,
-                line: 0,
-                total: 0,
-            };
+            return fault_at(x.line);
         }
         Word::Traced => {
             if 9998 < x.total + p {
-                return Spot {
-                    fault: x.line,
-                    at: 0,
-                    left: 0,
-                    line: 0,
-                    total: 0,
-                };
+                return fault_at(x.line);
             }
-            return Spot {
-                fault: 0,
-                at: x.at + 20,
-                left: x.left - 1,
-                line: x.line + 1,
-                total: x.total + p,
-            };
+            return past(text, x, 20, x.total + p);
         }
         Word::Opens(n) => {
             if depth == 0 {
-                return Spot {
-                    fault: x.line,
-                    at: 0,
-                    left: 0,
-                    line: 0,
-                    total: 0,
-                };
+                return fault_at(x.line);
             }
             let q = times(p, n);
-            let y = item(
-                text,
-                Spot {
-                    fault: 0,
-                    at: x.at + 6,
-                    left: x.left - 1,
-                    line: x.line + 1,
-                    total: x.total,
-                },
-                depth - 1,
-                q,
-            );
+            let y = item(text, past(text, x, 6, x.total), depth - 1, q);
             if y.fault != 0 {
                 return y;
             }
@@ -125,13 +105,7 @@ fn rest(text: &[u8], x: Spot, depth: usize, p: usize) -> Spot
     ensures ahead { λ r. ⌜ Ahead (now (text .entry)) x r ⌝ }
 {
     if script_lines::closes_at(x.left, text, x.at) {
-        return Spot {
-            fault: 0,
-            at: x.at + 2,
-            left: x.left - 1,
-            line: x.line + 1,
-            total: x.total,
-        };
+        return past(text, x, 2, x.total);
     }
     let y = item(text, x, depth, p);
     if y.fault != 0 {

@@ -3,7 +3,10 @@ use borrow.Author.Needs.{needs}
 use native.Mathlib.Omega.{arith}
 use mathlib.Core.Path.{sym, subst, _∙_}
 use Prim.Native.Nat.{_*_, _+_, _-_, _≤_, ℕ, _<_}
-use Rattle.script_judge.specs.Inner.{ItemRead, RestRead}
+use lib.ListN.{length}
+use Rattle.script_judge.specs.declared.Spot.{Spot}
+use Rattle.script_judge.specs.Judges.{capped}
+use Rattle.script_judge.specs.Inner.{nextSpot, ItemRead, RestRead, Sound}
 use Rattle.script_judge.proofs.Reading as reading
 use borrow.Fn.Kinds.{In}
 use borrow.Fn.PlainCycle.{Measures, is, falls, and}
@@ -13,8 +16,10 @@ use Rattle.script_judge.proofs.+item+rest.Lts-item as item-lts
 use Rattle.script_judge.proofs.rest.Reads as rest
 use Rattle.script_judge.proofs.rest.Kinds as rest-kinds
 use Rattle.script_judge.proofs.+item+rest.Lts-rest as rest-lts
-use Rattle.script_lines.proofs.closes_at.Reads as closes-at-reads
+use Rattle.script_judge.proofs.fault_at.Reads as fault-at-reads
+use Rattle.script_judge.proofs.past.Reads as past-reads
 use Rattle.script_judge.proofs.times.Reads as times-reads
+use Rattle.script_lines.proofs.closes_at.Reads as closes-at-reads
 use Rattle.script_lines.proofs.word_at.Reads as word-at-reads
 use Rattle.script_judge.proofs.+item+rest.{statement}
 use Rattle.script_judge.proofs.+item+rest.Tie.{close}
@@ -40,6 +45,10 @@ rest-below t = and 1 rest-kinds.ps (falls 1 rest-kinds.ps _<_ μ-rest t) rest.Pr
 item-word-at-requires : (t : ℕ) → item-lts.Need-word-at-requires (
   word-at-reads.Asked,
   word-at-reads.Learnt,
+  fault-at-reads.Asked,
+  fault-at-reads.Learnt,
+  past-reads.Asked,
+  past-reads.Learnt,
   times-reads.Asked,
   times-reads.Learnt,
   item-below t,
@@ -52,6 +61,10 @@ item-word-at-requires t c κs = search needs
 item-enum-told : (t : ℕ) → item-lts.Need-enum-told (
   word-at-reads.Asked,
   word-at-reads.Learnt,
+  fault-at-reads.Asked,
+  fault-at-reads.Learnt,
+  past-reads.Asked,
+  past-reads.Learnt,
   times-reads.Asked,
   times-reads.Learnt,
   item-below t,
@@ -61,9 +74,29 @@ item-enum-told : (t : ℕ) → item-lts.Need-enum-told (
 ) (item-at t) item.Post
 item-enum-told t c = search needs
 
+item-fault-at-requires : (t : ℕ) → item-lts.Need-fault-at-requires (
+  word-at-reads.Asked,
+  word-at-reads.Learnt,
+  fault-at-reads.Asked,
+  fault-at-reads.Learnt,
+  past-reads.Asked,
+  past-reads.Learnt,
+  times-reads.Asked,
+  times-reads.Learnt,
+  item-below t,
+  item.Post,
+  rest-below t,
+  rest.Post,
+) (item-at t) item.Post
+item-fault-at-requires t c κs = search needs
+
 item-returns : (t : ℕ) → item-lts.Need-returns (
   word-at-reads.Asked,
   word-at-reads.Learnt,
+  fault-at-reads.Asked,
+  fault-at-reads.Learnt,
+  past-reads.Asked,
+  past-reads.Learnt,
   times-reads.Asked,
   times-reads.Learnt,
   item-below t,
@@ -72,13 +105,17 @@ item-returns : (t : ℕ) → item-lts.Need-returns (
   rest.Post,
 ) (item-at t) item.Post
 item-returns t c =
-    let o = c .before .before .before .before in let s = o .args .text .now in let x = o .args .x in let h = o .pre .1 .1 in
-    let w = sym (c .before .before .word-at .ensures) ∙ c .enum-told .given .1 in
-    (reading.item-ends s x (o .args .depth) (o .args .p) h w, reading.fault-ahead s x (reading.faultOf (x .line)) (reading.line-nonzero x h))
+    let a = c .before .before .before .before .before .args in let s = a .text .now in let x = a .x in let d = a .depth in let p = a .p in let h = c .before .before .before .before .before .pre .1 .1 in
+    let w = sym (c .before .before .before .word-at .ensures) ∙ c .before .enum-told .given .1 in
+    reading.fault-by s x d p (c .fault-at .result) h (c .fault-at .ensures) (reading.item-ends s x d p h w)
 
 item-enum-told-2 : (t : ℕ) → item-lts.Need-enum-told-2 (
   word-at-reads.Asked,
   word-at-reads.Learnt,
+  fault-at-reads.Asked,
+  fault-at-reads.Learnt,
+  past-reads.Asked,
+  past-reads.Learnt,
   times-reads.Asked,
   times-reads.Learnt,
   item-below t,
@@ -88,9 +125,29 @@ item-enum-told-2 : (t : ℕ) → item-lts.Need-enum-told-2 (
 ) (item-at t) item.Post
 item-enum-told-2 t c = search needs
 
+item-fault-at-requires-2 : (t : ℕ) → item-lts.Need-fault-at-requires-2 (
+  word-at-reads.Asked,
+  word-at-reads.Learnt,
+  fault-at-reads.Asked,
+  fault-at-reads.Learnt,
+  past-reads.Asked,
+  past-reads.Learnt,
+  times-reads.Asked,
+  times-reads.Learnt,
+  item-below t,
+  item.Post,
+  rest-below t,
+  rest.Post,
+) (item-at t) item.Post
+item-fault-at-requires-2 t c κs = search needs
+
 item-returns-2 : (t : ℕ) → item-lts.Need-returns-2 (
   word-at-reads.Asked,
   word-at-reads.Learnt,
+  fault-at-reads.Asked,
+  fault-at-reads.Learnt,
+  past-reads.Asked,
+  past-reads.Learnt,
   times-reads.Asked,
   times-reads.Learnt,
   item-below t,
@@ -99,13 +156,17 @@ item-returns-2 : (t : ℕ) → item-lts.Need-returns-2 (
   rest.Post,
 ) (item-at t) item.Post
 item-returns-2 t c =
-    let o = c .before .before .before .before in let s = o .args .text .now in let x = o .args .x in let h = o .pre .1 .1 in
-    let w = sym (c .before .before .word-at .ensures) ∙ c .enum-told2 .given .1 in
-    (reading.item-bad s x (o .args .depth) (o .args .p) h w, reading.fault-ahead s x (reading.faultOf (x .line)) (reading.line-nonzero x h))
+    let a = c .before .before .before .before .before .args in let s = a .text .now in let x = a .x in let d = a .depth in let p = a .p in let h = c .before .before .before .before .before .pre .1 .1 in
+    let w = sym (c .before .before .before .word-at .ensures) ∙ c .before .enum-told2 .given .1 in
+    reading.fault-by s x d p (c .fault-at2 .result) h (c .fault-at2 .ensures) (reading.item-bad s x d p h w)
 
 item-enum-told-3 : (t : ℕ) → item-lts.Need-enum-told-3 (
   word-at-reads.Asked,
   word-at-reads.Learnt,
+  fault-at-reads.Asked,
+  fault-at-reads.Learnt,
+  past-reads.Asked,
+  past-reads.Learnt,
   times-reads.Asked,
   times-reads.Learnt,
   item-below t,
@@ -115,9 +176,29 @@ item-enum-told-3 : (t : ℕ) → item-lts.Need-enum-told-3 (
 ) (item-at t) item.Post
 item-enum-told-3 t c = search needs
 
+item-fault-at-requires-3 : (t : ℕ) → item-lts.Need-fault-at-requires-3 (
+  word-at-reads.Asked,
+  word-at-reads.Learnt,
+  fault-at-reads.Asked,
+  fault-at-reads.Learnt,
+  past-reads.Asked,
+  past-reads.Learnt,
+  times-reads.Asked,
+  times-reads.Learnt,
+  item-below t,
+  item.Post,
+  rest-below t,
+  rest.Post,
+) (item-at t) item.Post
+item-fault-at-requires-3 t c κs = search needs
+
 item-returns-3 : (t : ℕ) → item-lts.Need-returns-3 (
   word-at-reads.Asked,
   word-at-reads.Learnt,
+  fault-at-reads.Asked,
+  fault-at-reads.Learnt,
+  past-reads.Asked,
+  past-reads.Learnt,
   times-reads.Asked,
   times-reads.Learnt,
   item-below t,
@@ -126,13 +207,17 @@ item-returns-3 : (t : ℕ) → item-lts.Need-returns-3 (
   rest.Post,
 ) (item-at t) item.Post
 item-returns-3 t c =
-    let o = c .before .before .before .before in let s = o .args .text .now in let x = o .args .x in let h = o .pre .1 .1 in
-    let w = sym (c .before .before .word-at .ensures) ∙ c .enum-told3 .given .1 in
-    (reading.item-close s x (o .args .depth) (o .args .p) h w, reading.fault-ahead s x (reading.faultOf (x .line)) (reading.line-nonzero x h))
+    let a = c .before .before .before .before .before .args in let s = a .text .now in let x = a .x in let d = a .depth in let p = a .p in let h = c .before .before .before .before .before .pre .1 .1 in
+    let w = sym (c .before .before .before .word-at .ensures) ∙ c .before .enum-told3 .given .1 in
+    reading.fault-by s x d p (c .fault-at3 .result) h (c .fault-at3 .ensures) (reading.item-close s x d p h w)
 
 item-enum-told-4 : (t : ℕ) → item-lts.Need-enum-told-4 (
   word-at-reads.Asked,
   word-at-reads.Learnt,
+  fault-at-reads.Asked,
+  fault-at-reads.Learnt,
+  past-reads.Asked,
+  past-reads.Learnt,
   times-reads.Asked,
   times-reads.Learnt,
   item-below t,
@@ -145,6 +230,10 @@ item-enum-told-4 t c = search needs
 item-add-if1 : (t : ℕ) → item-lts.Need-add-if1 (
   word-at-reads.Asked,
   word-at-reads.Learnt,
+  fault-at-reads.Asked,
+  fault-at-reads.Learnt,
+  past-reads.Asked,
+  past-reads.Learnt,
   times-reads.Asked,
   times-reads.Learnt,
   item-below t,
@@ -154,9 +243,29 @@ item-add-if1 : (t : ℕ) → item-lts.Need-add-if1 (
 ) (item-at t) item.Post
 item-add-if1 t c = search needs
 
+item-fault-at-requires-4 : (t : ℕ) → item-lts.Need-fault-at-requires-4 (
+  word-at-reads.Asked,
+  word-at-reads.Learnt,
+  fault-at-reads.Asked,
+  fault-at-reads.Learnt,
+  past-reads.Asked,
+  past-reads.Learnt,
+  times-reads.Asked,
+  times-reads.Learnt,
+  item-below t,
+  item.Post,
+  rest-below t,
+  rest.Post,
+) (item-at t) item.Post
+item-fault-at-requires-4 t c κs = search needs
+
 item-returns-4 : (t : ℕ) → item-lts.Need-returns-4 (
   word-at-reads.Asked,
   word-at-reads.Learnt,
+  fault-at-reads.Asked,
+  fault-at-reads.Learnt,
+  past-reads.Asked,
+  past-reads.Learnt,
   times-reads.Asked,
   times-reads.Learnt,
   item-below t,
@@ -165,13 +274,17 @@ item-returns-4 : (t : ℕ) → item-lts.Need-returns-4 (
   rest.Post,
 ) (item-at t) item.Post
 item-returns-4 t c =
-    let o = c .before .before .before .before .before .before in let s = o .args .text .now in let x = o .args .x in let h = o .pre .1 .1 in
-    let w = sym (c .before .before .before .before .word-at .ensures) ∙ c .before .before .enum-told4 .given .1 in
-    (reading.item-over s x (o .args .depth) (o .args .p) h w (let l = c .if1 .taken in omega arith), reading.fault-ahead s x (reading.faultOf (x .line)) (reading.line-nonzero x h))
+    let a = c .before .before .before .before .before .before .before .args in let s = a .text .now in let x = a .x in let d = a .depth in let p = a .p in let h = c .before .before .before .before .before .before .before .pre .1 .1 in
+    let w = sym (c .before .before .before .before .before .word-at .ensures) ∙ c .before .before .before .enum-told4 .given .1 in
+    reading.fault-by s x d p (c .fault-at4 .result) h (c .fault-at4 .ensures) (reading.item-over s x d p h w (let l = c .before .if1 .taken in omega arith))
 
-item-add-t9 : (t : ℕ) → item-lts.Need-add-t9 (
+item-add-past : (t : ℕ) → item-lts.Need-add-past (
   word-at-reads.Asked,
   word-at-reads.Learnt,
+  fault-at-reads.Asked,
+  fault-at-reads.Learnt,
+  past-reads.Asked,
+  past-reads.Learnt,
   times-reads.Asked,
   times-reads.Learnt,
   item-below t,
@@ -179,11 +292,15 @@ item-add-t9 : (t : ℕ) → item-lts.Need-add-t9 (
   rest-below t,
   rest.Post,
 ) (item-at t) item.Post
-item-add-t9 t c = search needs
+item-add-past t c = search needs
 
-item-sub-t11 : (t : ℕ) → item-lts.Need-sub-t11 (
+item-past-requires : (t : ℕ) → item-lts.Need-past-requires (
   word-at-reads.Asked,
   word-at-reads.Learnt,
+  fault-at-reads.Asked,
+  fault-at-reads.Learnt,
+  past-reads.Asked,
+  past-reads.Learnt,
   times-reads.Asked,
   times-reads.Learnt,
   item-below t,
@@ -191,38 +308,18 @@ item-sub-t11 : (t : ℕ) → item-lts.Need-sub-t11 (
   rest-below t,
   rest.Post,
 ) (item-at t) item.Post
-item-sub-t11 t c =
-    let o = c .before .before .before .before .before .before .before .before in let s = o .args .text .now in let x = o .args .x in let h = o .pre .1 .1 in
-    let w = sym (c .before .before .before .before .before .before .word-at .ensures) ∙ c .before .before .before .before .enum-told4 .given .1 in
-    reading.was-traced s x h w
-
-item-add-t12 : (t : ℕ) → item-lts.Need-add-t12 (
-  word-at-reads.Asked,
-  word-at-reads.Learnt,
-  times-reads.Asked,
-  times-reads.Learnt,
-  item-below t,
-  item.Post,
-  rest-below t,
-  rest.Post,
-) (item-at t) item.Post
-item-add-t12 t c = search needs
-
-item-add-t13 : (t : ℕ) → item-lts.Need-add-t13 (
-  word-at-reads.Asked,
-  word-at-reads.Learnt,
-  times-reads.Asked,
-  times-reads.Learnt,
-  item-below t,
-  item.Post,
-  rest-below t,
-  rest.Post,
-) (item-at t) item.Post
-item-add-t13 t c = search needs
+item-past-requires t c κs =
+    let a = c .before .before .before .before .before .before .before .args in let s = a .text .now in let x = a .x in let d = a .depth in let p = a .p in let h = c .before .before .before .before .before .before .before .pre .1 .1 in let p0 = c .before .before .before .before .before .before .before .pre .1 .0 in
+    let w = sym (c .before .before .before .before .before .word-at .ensures) ∙ c .before .before .before .enum-told4 .given .1 in
+    (p0, omega arith, reading.was-traced s x h w, h)
 
 item-returns-5 : (t : ℕ) → item-lts.Need-returns-5 (
   word-at-reads.Asked,
   word-at-reads.Learnt,
+  fault-at-reads.Asked,
+  fault-at-reads.Learnt,
+  past-reads.Asked,
+  past-reads.Learnt,
   times-reads.Asked,
   times-reads.Learnt,
   item-below t,
@@ -231,13 +328,17 @@ item-returns-5 : (t : ℕ) → item-lts.Need-returns-5 (
   rest.Post,
 ) (item-at t) item.Post
 item-returns-5 t c =
-    let o = c .before .before .before .before .before .before .before .before .before .before in let s = o .args .text .now in let x = o .args .x in let h = o .pre .1 .1 in
-    let w = sym (c .before .before .before .before .before .before .before .before .word-at .ensures) ∙ c .before .before .before .before .before .before .enum-told4 .given .1 in
-    (reading.item-traced s x (o .args .depth) (o .args .p) h w (let l = c .before .before .before .before .if1 .left in omega arith), reading.traced-ahead s x h (o .args .p) w (let l = c .before .before .before .before .if1 .left in omega arith))
+    let a = c .before .before .before .before .before .before .before .before .args in let s = a .text .now in let x = a .x in let d = a .depth in let p = a .p in let h = c .before .before .before .before .before .before .before .before .pre .1 .1 in
+    let w = sym (c .before .before .before .before .before .before .word-at .ensures) ∙ c .before .before .before .before .enum-told4 .given .1 in let l : x .total + p ≤ 9998 = (let l = c .before .before .if1 .left in omega arith) in
+    reading.item-by s x d p (c .past .result) (nextSpot x 20 (x .total + p)) (c .past .ensures) (reading.item-traced s x d p h w l) (reading.traced-ahead s x h p w l)
 
 item-enum-known-w : (t : ℕ) → item-lts.Need-enum-known-w (
   word-at-reads.Asked,
   word-at-reads.Learnt,
+  fault-at-reads.Asked,
+  fault-at-reads.Learnt,
+  past-reads.Asked,
+  past-reads.Learnt,
   times-reads.Asked,
   times-reads.Learnt,
   item-below t,
@@ -247,9 +348,29 @@ item-enum-known-w : (t : ℕ) → item-lts.Need-enum-known-w (
 ) (item-at t) item.Post
 item-enum-known-w t c = search needs
 
+item-fault-at-requires-5 : (t : ℕ) → item-lts.Need-fault-at-requires-5 (
+  word-at-reads.Asked,
+  word-at-reads.Learnt,
+  fault-at-reads.Asked,
+  fault-at-reads.Learnt,
+  past-reads.Asked,
+  past-reads.Learnt,
+  times-reads.Asked,
+  times-reads.Learnt,
+  item-below t,
+  item.Post,
+  rest-below t,
+  rest.Post,
+) (item-at t) item.Post
+item-fault-at-requires-5 t c κs = search needs
+
 item-returns-6 : (t : ℕ) → item-lts.Need-returns-6 (
   word-at-reads.Asked,
   word-at-reads.Learnt,
+  fault-at-reads.Asked,
+  fault-at-reads.Learnt,
+  past-reads.Asked,
+  past-reads.Learnt,
   times-reads.Asked,
   times-reads.Learnt,
   item-below t,
@@ -258,13 +379,17 @@ item-returns-6 : (t : ℕ) → item-lts.Need-returns-6 (
   rest.Post,
 ) (item-at t) item.Post
 item-returns-6 t c =
-    let o = c .before .before .before .before .before .before in let s = o .args .text .now in let x = o .args .x in let h = o .pre .1 .1 in
-    let w = sym (c .before .before .before .before .word-at .ensures) ∙ c .before .before .w .given .1 in
-    (reading.item-deep s x (o .args .depth) (o .args .p) h (c .before .before .w .given .0 .0) w (c .if2 .taken), reading.fault-ahead s x (reading.faultOf (x .line)) (reading.line-nonzero x h))
+    let a = c .before .before .before .before .before .before .before .args in let s = a .text .now in let x = a .x in let d = a .depth in let p = a .p in let h = c .before .before .before .before .before .before .before .pre .1 .1 in
+    let w = sym (c .before .before .before .before .before .word-at .ensures) ∙ c .before .before .before .w .given .1 in let m = c .before .before .before .w .given .0 .0 in
+    reading.fault-by s x d p (c .fault-at5 .result) h (c .fault-at5 .ensures) (reading.item-deep s x d p h m w (c .before .if2 .taken))
 
 item-times-requires : (t : ℕ) → item-lts.Need-times-requires (
   word-at-reads.Asked,
   word-at-reads.Learnt,
+  fault-at-reads.Asked,
+  fault-at-reads.Learnt,
+  past-reads.Asked,
+  past-reads.Learnt,
   times-reads.Asked,
   times-reads.Learnt,
   item-below t,
@@ -273,13 +398,17 @@ item-times-requires : (t : ℕ) → item-lts.Need-times-requires (
   rest.Post,
 ) (item-at t) item.Post
 item-times-requires t c κs =
-    let o = c .before .before .before .before .before .before in let s = o .args .text .now in let x = o .args .x in let h = o .pre .1 .1 in
-    let w = sym (c .before .before .before .before .word-at .ensures) ∙ c .before .before .w .given .1 in
-    (o .pre .1 .2, reading.was-open s x h (c .before .before .w .given .0 .0) w .1)
+    let a = c .before .before .before .before .before .before .args in let s = a .text .now in let x = a .x in let d = a .depth in let p = a .p in let h = c .before .before .before .before .before .before .pre .1 .1 in
+    let w = sym (c .before .before .before .before .word-at .ensures) ∙ c .before .before .w .given .1 in let m = c .before .before .w .given .0 .0 in
+    (c .before .before .before .before .before .before .pre .1 .2, reading.was-open s x h m w .1)
 
-item-add-t15 : (t : ℕ) → item-lts.Need-add-t15 (
+item-past-requires-2 : (t : ℕ) → item-lts.Need-past-requires-2 (
   word-at-reads.Asked,
   word-at-reads.Learnt,
+  fault-at-reads.Asked,
+  fault-at-reads.Learnt,
+  past-reads.Asked,
+  past-reads.Learnt,
   times-reads.Asked,
   times-reads.Learnt,
   item-below t,
@@ -287,38 +416,18 @@ item-add-t15 : (t : ℕ) → item-lts.Need-add-t15 (
   rest-below t,
   rest.Post,
 ) (item-at t) item.Post
-item-add-t15 t c = search needs
-
-item-sub-t16 : (t : ℕ) → item-lts.Need-sub-t16 (
-  word-at-reads.Asked,
-  word-at-reads.Learnt,
-  times-reads.Asked,
-  times-reads.Learnt,
-  item-below t,
-  item.Post,
-  rest-below t,
-  rest.Post,
-) (item-at t) item.Post
-item-sub-t16 t c =
-    let o = c .before .before .before .before .before .before .before .before .before in let s = o .args .text .now in let x = o .args .x in let h = o .pre .1 .1 in
-    let w = sym (c .before .before .before .before .before .before .before .word-at .ensures) ∙ c .before .before .before .before .before .w .given .1 in
-    reading.was-open s x h (c .before .before .before .before .before .w .given .0 .0) w .0
-
-item-add-t17 : (t : ℕ) → item-lts.Need-add-t17 (
-  word-at-reads.Asked,
-  word-at-reads.Learnt,
-  times-reads.Asked,
-  times-reads.Learnt,
-  item-below t,
-  item.Post,
-  rest-below t,
-  rest.Post,
-) (item-at t) item.Post
-item-add-t17 t c = search needs
+item-past-requires-2 t c κs =
+    let a = c .before .before .before .before .before .before .before .args in let s = a .text .now in let x = a .x in let d = a .depth in let p = a .p in let h = c .before .before .before .before .before .before .before .pre .1 .1 in
+    let w = sym (c .before .before .before .before .before .word-at .ensures) ∙ c .before .before .before .w .given .1 in let m = c .before .before .before .w .given .0 .0 in
+    (c .before .before .before .before .before .before .before .pre .1 .0, omega arith, reading.was-open s x h m w .0, h)
 
 item-sub-item : (t : ℕ) → item-lts.Need-sub-item (
   word-at-reads.Asked,
   word-at-reads.Learnt,
+  fault-at-reads.Asked,
+  fault-at-reads.Learnt,
+  past-reads.Asked,
+  past-reads.Learnt,
   times-reads.Asked,
   times-reads.Learnt,
   item-below t,
@@ -331,6 +440,10 @@ item-sub-item t c = search needs
 item-item-requires : (t : ℕ) → item-lts.Need-item-requires (
   word-at-reads.Asked,
   word-at-reads.Learnt,
+  fault-at-reads.Asked,
+  fault-at-reads.Learnt,
+  past-reads.Asked,
+  past-reads.Learnt,
   times-reads.Asked,
   times-reads.Learnt,
   item-below t,
@@ -339,14 +452,18 @@ item-item-requires : (t : ℕ) → item-lts.Need-item-requires (
   rest.Post,
 ) (item-at t) item.Post
 item-item-requires t c κs =
-    let o = c .before .before .before .before .before .before .before .before .before .before in let s = o .args .text .now in let x = o .args .x in let h = o .pre .1 .1 in
-    let w = sym (c .before .before .before .before .before .before .before .before .word-at .ensures) ∙ c .before .before .before .before .before .before .w .given .1 in
-    let a = reading.open-ahead s x h (c .before .before .before .before .before .before .w .given .0 .0) w in let l = a .2 in let e = o .pre .0 in
-    (omega arith, (a .0, a .1, subst (λ (q : ℕ). q ≤ 9999) (sym (c .before .before .before .times .ensures)) (reading.capped-low (o .args .p * c .before .before .before .before .before .before .w .given .0 .0))))
+    let a = c .before .before .before .before .before .before .before .before .args in let s = a .text .now in let x = a .x in let d = a .depth in let p = a .p in let h = c .before .before .before .before .before .before .before .before .pre .1 .1 in let e = c .before .before .before .before .before .before .before .before .pre .0 in
+    let w = sym (c .before .before .before .before .before .before .word-at .ensures) ∙ c .before .before .before .before .w .given .1 in let m = c .before .before .before .before .w .given .0 .0 in let low = subst (λ (q : ℕ). q ≤ 9999) (sym (c .before .times .ensures)) (reading.capped-low (p * m)) in
+    let z = c .past2 in let o = subst (λ (y : Spot). (y .at ≤ length s) × Sound y × (y .left < x .left)) (sym (z .ensures)) (reading.open-ahead s x h m w) in let o2 = o .2 in
+    (omega arith, (o .0, o .1, low))
 
 item-returns-7 : (t : ℕ) → item-lts.Need-returns-7 (
   word-at-reads.Asked,
   word-at-reads.Learnt,
+  fault-at-reads.Asked,
+  fault-at-reads.Learnt,
+  past-reads.Asked,
+  past-reads.Learnt,
   times-reads.Asked,
   times-reads.Learnt,
   item-below t,
@@ -355,14 +472,19 @@ item-returns-7 : (t : ℕ) → item-lts.Need-returns-7 (
   rest.Post,
 ) (item-at t) item.Post
 item-returns-7 t c =
-    let o = c .before .before .before .before .before .before .before .before .before .before .before .before .before in let s = o .args .text .now in let x = o .args .x in let h = o .pre .1 .1 in
-    let w = sym (c .before .before .before .before .before .before .before .before .before .before .before .word-at .ensures) ∙ c .before .before .before .before .before .before .before .before .before .w .given .1 in
-    let y = c .before .before .item .result in
-    (reading.item-first-fault s x (o .args .depth) (o .args .p) h (c .before .before .before .before .before .before .before .before .before .w .given .0 .0) y w (c .before .before .before .before .before .before .before .if2 .left) (subst (λ (q : ℕ). ItemRead s (reading.openedOf x) (o .args .depth - 1) q y) (c .before .before .before .before .before .before .times .ensures) (c .before .before .item .ensures .0)) (c .if3 .taken), reading.fault-ahead s x y (c .if3 .taken))
+    let a = c .before .before .before .before .before .before .before .before .before .before .before .args in let s = a .text .now in let x = a .x in let d = a .depth in let p = a .p in let h = c .before .before .before .before .before .before .before .before .before .before .before .pre .1 .1 in
+    let w = sym (c .before .before .before .before .before .before .before .before .before .word-at .ensures) ∙ c .before .before .before .before .before .before .before .w .given .1 in let m = c .before .before .before .before .before .before .before .w .given .0 .0 in
+    let z = c .before .before .before .past2 in let o = subst (λ (y : Spot). (y .at ≤ length s) × Sound y × (y .left < x .left)) (sym (z .ensures)) (reading.open-ahead s x h m w) in let o2 = o .2 in
+    let y = c .before .before .item .result in let i = subst (λ (q : ℕ). ItemRead s (z .result) (d - 1) q y) (c .before .before .before .before .times .ensures) (c .before .before .item .ensures .0) in let j = subst (λ (u : Spot). ItemRead s u (d - 1) (capped (p * m)) y) (z .ensures) i in
+    (reading.item-first-fault s x d p h m y w (c .before .before .before .before .before .if2 .left) j (c .if3 .taken), reading.fault-ahead s x y (c .if3 .taken))
 
 item-sub-rest : (t : ℕ) → item-lts.Need-sub-rest (
   word-at-reads.Asked,
   word-at-reads.Learnt,
+  fault-at-reads.Asked,
+  fault-at-reads.Learnt,
+  past-reads.Asked,
+  past-reads.Learnt,
   times-reads.Asked,
   times-reads.Learnt,
   item-below t,
@@ -375,6 +497,10 @@ item-sub-rest t c = search needs
 item-rest-requires : (t : ℕ) → item-lts.Need-rest-requires (
   word-at-reads.Asked,
   word-at-reads.Learnt,
+  fault-at-reads.Asked,
+  fault-at-reads.Learnt,
+  past-reads.Asked,
+  past-reads.Learnt,
   times-reads.Asked,
   times-reads.Learnt,
   item-below t,
@@ -383,16 +509,19 @@ item-rest-requires : (t : ℕ) → item-lts.Need-rest-requires (
   rest.Post,
 ) (item-at t) item.Post
 item-rest-requires t c κs =
-    let o = c .before .before .before .before .before .before .before .before .before .before .before .before .before in let s = o .args .text .now in let x = o .args .x in let h = o .pre .1 .1 in
-    let w = sym (c .before .before .before .before .before .before .before .before .before .before .before .word-at .ensures) ∙ c .before .before .before .before .before .before .before .before .before .w .given .1 in
-    let y = c .before .before .item .result in
-    let a = reading.open-ahead s x h (c .before .before .before .before .before .before .before .before .before .w .given .0 .0) w in let l = a .2 in
-    let g = reading.ahead s (reading.openedOf x) y (c .before .before .item .ensures .1) (c .if3 .left) in let k = g .2 in let e = o .pre .0 in
-    (omega arith, (g .0, g .1, subst (λ (q : ℕ). q ≤ 9999) (sym (c .before .before .before .before .before .before .times .ensures)) (reading.capped-low (o .args .p * c .before .before .before .before .before .before .before .before .before .w .given .0 .0))))
+    let a = c .before .before .before .before .before .before .before .before .before .before .before .args in let s = a .text .now in let x = a .x in let d = a .depth in let p = a .p in let h = c .before .before .before .before .before .before .before .before .before .before .before .pre .1 .1 in let e = c .before .before .before .before .before .before .before .before .before .before .before .pre .0 in
+    let w = sym (c .before .before .before .before .before .before .before .before .before .word-at .ensures) ∙ c .before .before .before .before .before .before .before .w .given .1 in let m = c .before .before .before .before .before .before .before .w .given .0 .0 in let low = subst (λ (q : ℕ). q ≤ 9999) (sym (c .before .before .before .before .times .ensures)) (reading.capped-low (p * m)) in
+    let z = c .before .before .before .past2 in let o = subst (λ (y : Spot). (y .at ≤ length s) × Sound y × (y .left < x .left)) (sym (z .ensures)) (reading.open-ahead s x h m w) in let o2 = o .2 in let y = c .before .before .item .result in
+    let g = reading.ahead s (z .result) y (c .before .before .item .ensures .1) (c .if3 .left) in let g2 = g .2 in
+    (omega arith, (g .0, g .1, low))
 
 item-returns-8 : (t : ℕ) → item-lts.Need-returns-8 (
   word-at-reads.Asked,
   word-at-reads.Learnt,
+  fault-at-reads.Asked,
+  fault-at-reads.Learnt,
+  past-reads.Asked,
+  past-reads.Learnt,
   times-reads.Asked,
   times-reads.Learnt,
   item-below t,
@@ -401,16 +530,19 @@ item-returns-8 : (t : ℕ) → item-lts.Need-returns-8 (
   rest.Post,
 ) (item-at t) item.Post
 item-returns-8 t c =
-    let o = c .before .before .before .before .before .before .before .before .before .before .before .before .before .before in let s = o .args .text .now in let x = o .args .x in let h = o .pre .1 .1 in
-    let w = sym (c .before .before .before .before .before .before .before .before .before .before .before .before .word-at .ensures) ∙ c .before .before .before .before .before .before .before .before .before .before .w .given .1 in
-    let y = c .before .before .before .item .result in
-    let a = reading.open-ahead s x h (c .before .before .before .before .before .before .before .before .before .before .w .given .0 .0) w in let l = a .2 in
-    let g = reading.ahead s (reading.openedOf x) y (c .before .before .before .item .ensures .1) (c .before .if3 .left) in let k = g .2 in
-    (reading.item-group s x (o .args .depth) (o .args .p) h (c .before .before .before .before .before .before .before .before .before .before .w .given .0 .0) y (c .rest .result) w (c .before .before .before .before .before .before .before .before .if2 .left) (subst (λ (q : ℕ). ItemRead s (reading.openedOf x) (o .args .depth - 1) q y) (c .before .before .before .before .before .before .before .times .ensures) (c .before .before .before .item .ensures .0)) (c .before .if3 .left) (subst (λ (q : ℕ). RestRead s y (o .args .depth - 1) q (c .rest .result)) (c .before .before .before .before .before .before .before .times .ensures) (c .rest .ensures .0)), reading.ahead-on s x y (c .rest .result) (omega arith) (c .rest .ensures .1))
+    let a = c .before .before .before .before .before .before .before .before .before .before .before .before .args in let s = a .text .now in let x = a .x in let d = a .depth in let p = a .p in let h = c .before .before .before .before .before .before .before .before .before .before .before .before .pre .1 .1 in
+    let w = sym (c .before .before .before .before .before .before .before .before .before .before .word-at .ensures) ∙ c .before .before .before .before .before .before .before .before .w .given .1 in let m = c .before .before .before .before .before .before .before .before .w .given .0 .0 in
+    let z = c .before .before .before .before .past2 in let o = subst (λ (y : Spot). (y .at ≤ length s) × Sound y × (y .left < x .left)) (sym (z .ensures)) (reading.open-ahead s x h m w) in let o2 = o .2 in
+    let y = c .before .before .before .item .result in let i = subst (λ (q : ℕ). ItemRead s (z .result) (d - 1) q y) (c .before .before .before .before .before .times .ensures) (c .before .before .before .item .ensures .0) in let j = subst (λ (u : Spot). ItemRead s u (d - 1) (capped (p * m)) y) (z .ensures) i in
+    let g = reading.ahead s (z .result) y (c .before .before .before .item .ensures .1) (c .before .if3 .left) in let g2 = g .2 in
+    let r = c .rest .result in let k = subst (λ (q : ℕ). RestRead s y (d - 1) q r) (c .before .before .before .before .before .times .ensures) (c .rest .ensures .0) in
+    (reading.item-group s x d p h m y r w (c .before .before .before .before .before .before .if2 .left) j (c .before .if3 .left) k, reading.ahead-on s x y r (omega arith) (c .rest .ensures .1))
 
 rest-closes-at-requires : (t : ℕ) → rest-lts.Need-closes-at-requires (
   closes-at-reads.Asked,
   closes-at-reads.Learnt,
+  past-reads.Asked,
+  past-reads.Learnt,
   item-below t,
   item.Post,
   rest-below t,
@@ -418,55 +550,41 @@ rest-closes-at-requires : (t : ℕ) → rest-lts.Need-closes-at-requires (
 ) (rest-at t) rest.Post
 rest-closes-at-requires t c κs = search needs
 
-rest-add-t7 : (t : ℕ) → rest-lts.Need-add-t7 (
+rest-past-requires : (t : ℕ) → rest-lts.Need-past-requires (
   closes-at-reads.Asked,
   closes-at-reads.Learnt,
+  past-reads.Asked,
+  past-reads.Learnt,
   item-below t,
   item.Post,
   rest-below t,
   rest.Post,
 ) (rest-at t) rest.Post
-rest-add-t7 t c = search needs
-
-rest-sub-t8 : (t : ℕ) → rest-lts.Need-sub-t8 (
-  closes-at-reads.Asked,
-  closes-at-reads.Learnt,
-  item-below t,
-  item.Post,
-  rest-below t,
-  rest.Post,
-) (rest-at t) rest.Post
-rest-sub-t8 t c =
-    let o = c .before .before .before .before .before in let s = o .args .text .now in let x = o .args .x in let h = o .pre .1 .1 in
-    let w = sym (c .before .before .before .closes-at .ensures) ∙ c .before .before .if1 .taken in
-    reading.was-close s x h w
-
-rest-add-t9 : (t : ℕ) → rest-lts.Need-add-t9 (
-  closes-at-reads.Asked,
-  closes-at-reads.Learnt,
-  item-below t,
-  item.Post,
-  rest-below t,
-  rest.Post,
-) (rest-at t) rest.Post
-rest-add-t9 t c = search needs
+rest-past-requires t c κs =
+    let a = c .before .before .before .args in let s = a .text .now in let x = a .x in let d = a .depth in let p = a .p in let h = c .before .before .before .pre .1 .1 in
+    let w = sym (c .before .closes-at .ensures) ∙ c .if1 .taken in
+    (c .before .before .before .pre .1 .0, omega arith, reading.was-close s x h w, h)
 
 rest-returns : (t : ℕ) → rest-lts.Need-returns (
   closes-at-reads.Asked,
   closes-at-reads.Learnt,
+  past-reads.Asked,
+  past-reads.Learnt,
   item-below t,
   item.Post,
   rest-below t,
   rest.Post,
 ) (rest-at t) rest.Post
 rest-returns t c =
-    let o = c .before .before .before .before .before .before in let s = o .args .text .now in let x = o .args .x in let h = o .pre .1 .1 in
-    let w = sym (c .before .before .before .before .closes-at .ensures) ∙ c .before .before .before .if1 .taken in
-    (reading.rest-close s x (o .args .depth) (o .args .p) h w, reading.close-ahead s x h w)
+    let a = c .before .before .before .before .args in let s = a .text .now in let x = a .x in let d = a .depth in let p = a .p in let h = c .before .before .before .before .pre .1 .1 in
+    let w = sym (c .before .before .closes-at .ensures) ∙ c .before .if1 .taken in
+    reading.rest-by s x d p (c .past .result) (nextSpot x 2 (x .total)) (c .past .ensures) (reading.rest-close s x d p h w) (reading.close-ahead s x h w)
 
 rest-item-requires : (t : ℕ) → rest-lts.Need-item-requires (
   closes-at-reads.Asked,
   closes-at-reads.Learnt,
+  past-reads.Asked,
+  past-reads.Learnt,
   item-below t,
   item.Post,
   rest-below t,
@@ -477,50 +595,57 @@ rest-item-requires t c κs = search needs
 rest-returns-2 : (t : ℕ) → rest-lts.Need-returns-2 (
   closes-at-reads.Asked,
   closes-at-reads.Learnt,
+  past-reads.Asked,
+  past-reads.Learnt,
   item-below t,
   item.Post,
   rest-below t,
   rest.Post,
 ) (rest-at t) rest.Post
 rest-returns-2 t c =
-    let o = c .before .before .before .before .before .before in let s = o .args .text .now in let x = o .args .x in let h = o .pre .1 .1 in
-    let w = sym (c .before .before .before .before .closes-at .ensures) ∙ c .before .before .before .if1 .left in
-    let y = c .before .before .item .result in
-    (reading.rest-fault s x (o .args .depth) (o .args .p) h y w (c .before .before .item .ensures .0) (c .if2 .taken), reading.fault-ahead s x y (c .if2 .taken))
+    let a = c .before .before .before .before .before .before .args in let s = a .text .now in let x = a .x in let d = a .depth in let p = a .p in let h = c .before .before .before .before .before .before .pre .1 .1 in
+    let w = sym (c .before .before .before .before .closes-at .ensures) ∙ c .before .before .before .if1 .left in let y = c .before .before .item .result in
+    (reading.rest-fault s x d p h y w (c .before .before .item .ensures .0) (c .if2 .taken), reading.fault-ahead s x y (c .if2 .taken))
 
 rest-rest-requires : (t : ℕ) → rest-lts.Need-rest-requires (
   closes-at-reads.Asked,
   closes-at-reads.Learnt,
+  past-reads.Asked,
+  past-reads.Learnt,
   item-below t,
   item.Post,
   rest-below t,
   rest.Post,
 ) (rest-at t) rest.Post
 rest-rest-requires t c κs =
-    let o = c .before .before .before .before .before .before in let s = o .args .text .now in let x = o .args .x in let h = o .pre .1 .1 in
-    let y = c .before .before .item .result in
-    let g = reading.ahead s x y (c .before .before .item .ensures .1) (c .if2 .left) in let k = g .2 in let e = o .pre .0 in
-    (omega arith, (g .0, g .1, o .pre .1 .2))
+    let a = c .before .before .before .before .before .before .args in let s = a .text .now in let x = a .x in let d = a .depth in let p = a .p in let h = c .before .before .before .before .before .before .pre .1 .1 in let e = c .before .before .before .before .before .before .pre .0 in let y = c .before .before .item .result in
+    let g = reading.ahead s x y (c .before .before .item .ensures .1) (c .if2 .left) in let k = g .2 in
+    (omega arith, (g .0, g .1, c .before .before .before .before .before .before .pre .1 .2))
 
 rest-returns-3 : (t : ℕ) → rest-lts.Need-returns-3 (
   closes-at-reads.Asked,
   closes-at-reads.Learnt,
+  past-reads.Asked,
+  past-reads.Learnt,
   item-below t,
   item.Post,
   rest-below t,
   rest.Post,
 ) (rest-at t) rest.Post
 rest-returns-3 t c =
-    let o = c .before .before .before .before .before .before .before in let s = o .args .text .now in let x = o .args .x in let h = o .pre .1 .1 in
-    let w = sym (c .before .before .before .before .before .closes-at .ensures) ∙ c .before .before .before .before .if1 .left in
-    let y = c .before .before .before .item .result in
+    let a = c .before .before .before .before .before .before .before .args in let s = a .text .now in let x = a .x in let d = a .depth in let p = a .p in let h = c .before .before .before .before .before .before .before .pre .1 .1 in
+    let w = sym (c .before .before .before .before .before .closes-at .ensures) ∙ c .before .before .before .before .if1 .left in let y = c .before .before .before .item .result in let r = c .rest .result in
     let g = reading.ahead s x y (c .before .before .before .item .ensures .1) (c .before .if2 .left) in
-    (reading.rest-more s x (o .args .depth) (o .args .p) h y (c .rest .result) w (c .before .before .before .item .ensures .0) (c .before .if2 .left) (c .rest .ensures .0), reading.ahead-on s x y (c .rest .result) (g .2) (c .rest .ensures .1))
+    (reading.rest-more s x d p h y r w (c .before .before .before .item .ensures .0) (c .before .if2 .left) (c .rest .ensures .0), reading.ahead-on s x y r (g .2) (c .rest .ensures .1))
 
 pub +item+rest-spec : {M : Type 1} → statement M
 +item+rest-spec = close μ-item μ-rest (λ t. item-lts.spec (
   word-at-reads.Asked,
   word-at-reads.Learnt,
+  fault-at-reads.Asked,
+  fault-at-reads.Learnt,
+  past-reads.Asked,
+  past-reads.Learnt,
   times-reads.Asked,
   times-reads.Learnt,
   item-below t,
@@ -532,25 +657,26 @@ pub +item+rest-spec : {M : Type 1} → statement M
     item.Post
     (item-word-at-requires t)
     (item-enum-told t)
+    (item-fault-at-requires t)
     (item-returns t)
     (item-enum-told-2 t)
+    (item-fault-at-requires-2 t)
     (item-returns-2 t)
     (item-enum-told-3 t)
+    (item-fault-at-requires-3 t)
     (item-returns-3 t)
     (item-enum-told-4 t)
     (item-add-if1 t)
+    (item-fault-at-requires-4 t)
     (item-returns-4 t)
-    (item-add-t9 t)
-    (item-sub-t11 t)
-    (item-add-t12 t)
-    (item-add-t13 t)
+    (item-add-past t)
+    (item-past-requires t)
     (item-returns-5 t)
     (item-enum-known-w t)
+    (item-fault-at-requires-5 t)
     (item-returns-6 t)
     (item-times-requires t)
-    (item-add-t15 t)
-    (item-sub-t16 t)
-    (item-add-t17 t)
+    (item-past-requires-2 t)
     (item-sub-item t)
     (item-item-requires t)
     (item-returns-7 t)
@@ -560,6 +686,8 @@ pub +item+rest-spec : {M : Type 1} → statement M
     λ t. rest-lts.spec (
       closes-at-reads.Asked,
       closes-at-reads.Learnt,
+      past-reads.Asked,
+      past-reads.Learnt,
       item-below t,
       item.Post,
       rest-below t,
@@ -568,9 +696,7 @@ pub +item+rest-spec : {M : Type 1} → statement M
     (rest-at t)
     rest.Post
     (rest-closes-at-requires t)
-    (rest-add-t7 t)
-    (rest-sub-t8 t)
-    (rest-add-t9 t)
+    (rest-past-requires t)
     (rest-returns t)
     (rest-item-requires t)
     (rest-returns-2 t)
