@@ -3,7 +3,7 @@ use mathlib.Core.Path.{_≡_}
 use mathlib.Core.List.{List, []}
 use mathlib.Core.Logic.{_↔_}
 use Prim.Native.Nat.{ℕ, _*_}
-use lib.ListN.{length}
+use lib.ListN.{length, take}
 use Rattle.script_lines.specs.Scripts.{Script, printOn, Formed, writtenIn, linesWritten, Allowed}
 use Rattle.script_lines.proofs.Written as written
 use Rattle.script_judge.specs.Judges.{fineAs, scriptJudged}
@@ -11,6 +11,7 @@ use Rattle.script_judge.specs.Reads.{scriptIn}
 use Rattle.script_judge.specs.Faults.{FaultAt}
 use Rattle.script_judge.proofs.Reader as reader
 use Rattle.script_judge.proofs.Once as once
+use Rattle.script_judge.proofs.Cuts as cuts
 use Rattle.script_judge.proofs.Ends as ends
 
 -- Exactly the allowed scripts are read: a text has no line at fault and states s exactly where s is allowed and the text is its
@@ -42,6 +43,10 @@ judged-fine = reader.judged-fine
 
 pub written-length : (s : Script) (p : ℕ) → writtenIn p s ≡ p * length (linesWritten s)
 written-length = written.written-length
+
+-- 60,001 bytes of a text are enough to judge it: 3,000 lines of 20 bytes, and one byte of the line past them.
+pub cut-judged : (text : List ℕ) → scriptJudged (take 60001 text) ≡ scriptJudged text
+cut-judged = cuts.cut-judged
 
 -- The empty text is the empty script.
 pub empty-script : scriptJudged [] ≡ fineAs 0

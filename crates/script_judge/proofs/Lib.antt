@@ -6,6 +6,7 @@ pub mod Starts
 pub mod Fault
 pub mod Only
 pub mod Reader
+pub mod Cuts
 pub mod Ends
 pub mod Claims
 pub mod Unique

@@ -2,19 +2,19 @@
 use mathlib.Core.Path.{_≡_, refl, sym, ap, _∙_}
 use mathlib.Core.Bool.{Bool, true, false}
 use mathlib.Core.List.{List, [], _∷_}
-use Prim.Native.Nat.{ℕ, zero, suc, _-_, _≤_, _<_, min}
+use Prim.Native.Nat.{ℕ, zero, suc, _+_, _-_, _*_, _≤_, _<_, min}
 use native.Mathlib.Omega.{arith}
-use lib.Dec.{eqb}
-use lib.ListN.{length, take, drop, length-take, length-drop}
-use lib.Seq.{take-all}
+use lib.Dec.{eqb, eqb·suc-zero}
+use lib.ListN.{length, take, drop, length-take, length-drop, getD}
+use lib.Seq.{take-all, take-take, getD-take}
 use borrow.Author.Tests.{eqb-true, eqb-false, eq-eqb}
 use Rattle.common.specs.Choice.{if_then_else_}
 use Rattle.common.proofs.Choice.{unlike}
-use Rattle.trace_lines.specs.Lines.{Place, fits}
+use Rattle.trace_lines.specs.Lines.{Place, fits, isLine, digitOf}
 use Rattle.trace_lines.proofs.Places.{unfit}
 use Rattle.script_lines.specs.declared.Word.{Word}
 use Rattle.script_lines.specs.declared.Word.the-variants.{Ends, Bad, Traced, Opens, Closes}
-use Rattle.script_lines.specs.Words.{isTraced, isOpening, isClosing, countStated, wordIn, isCloses}
+use Rattle.script_lines.specs.Words.{openForm, closeForm, isTraced, isOpening, isClosing, countStated, wordIn, isCloses}
 
 -- a text shorter than a form does not begin with a line of it
 pub cut-off : (ps : List Place) (text : List ℕ) → length text < length ps → fits ps (take (length ps) text) ≡ false
@@ -137,3 +137,41 @@ module _ (n : ℕ) (text : List ℕ) where
       let m = positive (countStated text) (f .3) in
       let e = f .2 in
       (positive n (f .0), f .1, e, omega arith)
+
+-- ---- the front of a text is enough: 20 bytes for each line that may come, and one more
+none-left : (m : ℕ) (text : List ℕ) → 1 ≤ m → eqb (length (take m text)) 0 ≡ eqb (length text) 0
+none-left zero text h = absurd (omega arith)
+none-left (suc m) [] h = refl
+none-left (suc m) (x ∷ xs) h = eqb·suc-zero (length (take m xs)) ∙ sym (eqb·suc-zero (length xs))
+
+module _ (m : ℕ) (text : List ℕ) (h : 20 < m) where
+  traced-cut : isTraced (take m text) ≡ isTraced text
+  unfolding isTraced
+  traced-cut = ap (λ (l : List ℕ). isLine l) (take-take 20 m text (omega arith))
+
+  opening-cut : isOpening (take m text) ≡ isOpening text
+  unfolding isOpening
+  opening-cut = ap (λ (l : List ℕ). fits openForm l) (take-take 6 m text (omega arith))
+
+  closing-cut : isClosing (take m text) ≡ isClosing text
+  unfolding isClosing
+  closing-cut = ap (λ (l : List ℕ). fits closeForm l) (take-take 2 m text (omega arith))
+
+  count-cut : countStated (take m text) ≡ countStated text
+  count-cut =
+      ap (λ (n : ℕ). (digitOf n * 10 + digitOf (getD (take m text) 3 0)) * 10 + digitOf (getD (take m text) 4 0)) (getD-take m text 2 0 (omega arith))
+      ∙ ap (λ (n : ℕ). (digitOf (getD text 2 0) * 10 + digitOf n) * 10 + digitOf (getD (take m text) 4 0)) (getD-take m text 3 0 (omega arith))
+      ∙ ap (λ (n : ℕ). (digitOf (getD text 2 0) * 10 + digitOf (getD text 3 0)) * 10 + digitOf n) (getD-take m text 4 0 (omega arith))
+
+pub word-cut : (n m : ℕ) (text : List ℕ) → 20 * n < m → wordIn n (take m text) ≡ wordIn n text
+unfolding wordIn
+word-cut zero m text h =
+    ap (λ (a : Bool). chain a true (isTraced (take m text)) (isClosing (take m text)) (isOpening (take m text)) (eqb (countStated (take m text)) 0) (countStated (take m text))) (none-left m text (omega arith))
+word-cut (suc n) m text h =
+    let l : 20 < m = omega arith in
+    let b = eqb (suc n) 0 in
+    ap (λ (a : Bool). chain a b (isTraced (take m text)) (isClosing (take m text)) (isOpening (take m text)) (eqb (countStated (take m text)) 0) (countStated (take m text))) (none-left m text (omega arith))
+    ∙ ap (λ (a : Bool). chain (eqb (length text) 0) b a (isClosing (take m text)) (isOpening (take m text)) (eqb (countStated (take m text)) 0) (countStated (take m text))) (traced-cut m text l)
+    ∙ ap (λ (a : Bool). chain (eqb (length text) 0) b (isTraced text) a (isOpening (take m text)) (eqb (countStated (take m text)) 0) (countStated (take m text))) (closing-cut m text l)
+    ∙ ap (λ (a : Bool). chain (eqb (length text) 0) b (isTraced text) (isClosing text) a (eqb (countStated (take m text)) 0) (countStated (take m text))) (opening-cut m text l)
+    ∙ ap (λ (k : ℕ). chain (eqb (length text) 0) b (isTraced text) (isClosing text) (isOpening text) (eqb k 0) k) (count-cut m text l)
