@@ -2,7 +2,7 @@
 use mathlib.Core.Path.{_≡_}
 use mathlib.Core.List.{List, []}
 use Prim.Native.Nat.{ℕ, _≤_}
-use lib.ListN.{length}
+use lib.ListN.{length, take}
 use Rattle.script_lines.specs.Scripts.{Script, printOn, Allowed, linesWritten, traceOf}
 use Rattle.script_judge.specs.Faults.{FaultAt}
 use Rattle.trace_replay.specs.Answers.{markOf}
@@ -28,3 +28,7 @@ empty-script = sames.empty-script
 -- No output is longer than 9,998 answers: room of 79,984 bytes is never too short.
 pub output-most : (xs rs text : List ℕ) → length (scriptOutput xs rs text) ≤ 79984
 output-most = sames.output-most
+
+-- 60,001 bytes of a text are enough: what lies past them changes neither the output nor the array.
+pub cut-run : (xs rs text : List ℕ) → (scriptOutput xs rs (take 60001 text) ≡ scriptOutput xs rs text) × (scriptArray xs rs (take 60001 text) ≡ scriptArray xs rs text)
+cut-run = sames.cut-run
