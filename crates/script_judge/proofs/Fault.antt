@@ -7,7 +7,7 @@ use native.Mathlib.Omega.{arith}
 use native.Mathlib.Nat.{mul-le-mul-left}
 use lib.Dec.{ltb, leb}
 use lib.ListN.{length, take, drop}
-use borrow.Author.Tests.{ltb-true, ltb-false, leb-true, leb-false, le-leb}
+use borrow.Author.Tests.{ltb-true, ltb-false, leb-true, leb-false}
 use Rattle.common.specs.Choice.{if_then_else_}
 use Rattle.trace_lines.specs.Lines.{lineOf, cycleStated}
 use Rattle.script_lines.specs.declared.Word.{Word}
@@ -31,9 +31,6 @@ caps (q ∷ K) = capped q ∷ caps K
 caps-length : (K : List ℕ) → length (caps K) ≡ length K
 caps-length [] = refl
 caps-length (q ∷ K) = ap (λ (i : ℕ). suc i) (caps-length K)
-
-cap-low : (p : ℕ) → p ≤ 9999 → capped p ≡ p
-cap-low p l = simp (le-leb p 9999 l)
 
 cap-high : (p : ℕ) → 9999 ≤ p → capped p ≡ 9999
 cap-high p l = by (leb p 9999) refl where

@@ -4,14 +4,14 @@ use mathlib.Core.Bool.{true, false}
 use mathlib.Core.List.{List, [], _∷_, _++_}
 use Prim.Native.Nat.{ℕ, _+_, _*_, _/_, _%_, _≤_, _<_, min}
 use native.Mathlib.Omega.{arith}
-use lib.Dec.{eqb, ltb, leb}
-use lib.ListN.{length, take, drop, getD, length-take, take-append-drop}
-use borrow.Author.Tests.{eqb-true, leb-true, ltb-true, ne-eqb, le-leb}
+use lib.Dec.{eqb, leb}
+use lib.ListN.{length, take, drop, length-take, take-append-drop}
+use borrow.Author.Tests.{eqb-true, leb-true, ne-eqb, le-leb}
 use Rattle.common.proofs.Choice.{and-left, and-right}
 use Rattle.model_types.specs.declared.Kind.{Kind}
 use Rattle.model_types.specs.declared.Kind.the-variants.{Read, Write, Idle}
 use Rattle.model_types.specs.declared.Cycle.{Cycle}
-use Rattle.trace_lines.specs.Lines.{Place, isAt, isDigit, isKind, fits, newline, lineForm, isLine, digitOf, decimalDigit, letterFor, lineOf, Fits, cycleStated}
+use Rattle.trace_lines.specs.Lines.{Place, isDigit, isKind, fits, newline, lineForm, isLine, digitOf, decimalDigit, letterFor, lineOf, Fits, cycleStated}
 use Rattle.trace_lines.proofs.Places.{both, form-length, form-at}
 use Rattle.trace_lines.proofs.Claims.{read-exactly, read-once, line-read}
 use Rattle.trace_lines.proofs.Forms.{read-good}
@@ -97,25 +97,6 @@ same-count m n a b x y e =
     sym (count-back m a) ∙ ap (λ (l : List ℕ). countStated l) e ∙ count-back n b
 
 -- ---- from the word to the text
-two : (text : List ℕ) → 2 ≤ length text → text ≡ getD text 0 0 ∷ getD text 1 0 ∷ drop 2 text
-two [] l = absurd (omega arith)
-two (a ∷ []) l = absurd (omega arith)
-two (a ∷ b ∷ xs) l = refl
-
-six : (text : List ℕ) → 6 ≤ length text → text ≡ getD text 0 0 ∷ getD text 1 0 ∷ getD text 2 0 ∷ getD text 3 0 ∷ getD text 4 0 ∷ getD text 5 0 ∷ drop 6 text
-six [] l = absurd (omega arith)
-six (a ∷ []) l = absurd (omega arith)
-six (a ∷ b ∷ []) l = absurd (omega arith)
-six (a ∷ b ∷ c ∷ []) l = absurd (omega arith)
-six (a ∷ b ∷ c ∷ d ∷ []) l = absurd (omega arith)
-six (a ∷ b ∷ c ∷ d ∷ e ∷ []) l = absurd (omega arith)
-six (a ∷ b ∷ c ∷ d ∷ e ∷ f ∷ xs) l = refl
-
--- a text that begins with a line of a form has at each place what the form asks for there
-front-at : (ps : List Place) (text : List ℕ) (i : ℕ) → fits ps (take (length ps) text) ≡ true → ltb i (length ps) ≡ true
-    → getD (take (length ps) text) i 0 ≡ getD text i 0 → isAt (getD ps i newline) (getD text i 0) ≡ true
-front-at ps text i e h g = ap (λ (b : ℕ). isAt (getD ps i newline) b) (sym g) ∙ form-at newline ps (take (length ps) text) e i (ltb-true i (length ps) h)
-
 pub closes-text : (n : ℕ) (text : List ℕ) → wordIn n text ≡ Closes → text ≡ closeBy ++ drop 2 text
 unfolding isClosing
 closes-text n text h = go text (closes-says n text h .1) (word-closes n text h .1) where

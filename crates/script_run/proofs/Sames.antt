@@ -96,6 +96,7 @@ cut-run xs rs text = go (eqb (scriptJudged text .fault) 0) refl where
       (ap (λ (l : List ℕ). scriptOutput xs rs l) t, ap (λ (l : List ℕ). scriptArray xs rs l) t)
   go false e =
       let z = eqb-false (scriptJudged text .fault) 0 e in
-      let c : scriptJudged text .fault ≡ scriptJudged (take 60001 text) .fault = ap (λ (j : Judged). j .fault) (sym (cut-judged text)) in
-      (mark-alone (scriptJudged text .fault) xs rs (take 60001 text) [] c z ∙ sym (mark-alone (scriptJudged text .fault) xs rs text [] refl z),
-      array-kept (scriptJudged text .fault) xs rs (take 60001 text) [] c z ∙ sym (array-kept (scriptJudged text .fault) xs rs text [] refl z))
+      let c : scriptJudged text .fault ≡ scriptJudged (take 60001 text) .fault = ap (λ (j : Judged). j .fault) (sym (cut-judged text)) in (
+        mark-alone (scriptJudged text .fault) xs rs (take 60001 text) [] c z ∙ sym (mark-alone (scriptJudged text .fault) xs rs text [] refl z),
+        array-kept (scriptJudged text .fault) xs rs (take 60001 text) [] c z ∙ sym (array-kept (scriptJudged text .fault) xs rs text [] refl z),
+      )
