@@ -1,6 +1,6 @@
 -- What the two readers answer to each other, one law for each way out. Assumes nothing.
 use mathlib.Core.Path.{_≡_, refl, sym, ap, subst, _∙_}
-use mathlib.Core.Bool.{Bool, true, false}
+use mathlib.Core.Bool.{Bool, true, false, not}
 use mathlib.Core.List.{List, [], _∷_}
 use Prim.Native.Nat.{ℕ, zero, suc, _+_, _-_, _*_, _≤_, _<_}
 use native.Mathlib.Omega.{arith}
@@ -18,7 +18,7 @@ use Rattle.script_lines.proofs.Forms.{word-traced, word-closes, word-opens}
 use Rattle.script_judge.specs.declared.Judged.{Judged}
 use Rattle.script_judge.specs.declared.Spot.{Spot}
 use Rattle.script_judge.specs.Judges.{faultAs, capped, judge}
-use Rattle.script_judge.specs.Inner.{faultSpot, nextSpot, ItemRead, RestRead, Sound, Ahead}
+use Rattle.script_judge.specs.Inner.{faultSpot, nextSpot, ItemRead, RestRead, Sound, Ahead, Onward}
 use Rattle.script_judge.proofs.Turns.{j-bad, j-ends, j-close-true, j-traced-over, j-traced, j-open-deep, j-open, j-close, j-item, j-top-item}
 
 nonzero : (n : ℕ) → 1 ≤ n → n ≡ 0 → ⊥
@@ -171,3 +171,29 @@ rest-by s x d p r q e i a = (subst (λ (y : Spot). RestRead s x d p y) (sym e) i
 
 pub fault-by : (s : List ℕ) (x : Spot) (d p : ℕ) (r : Spot) → Sound x → r ≡ faultSpot (x .line) → ItemRead s x d p (faultSpot (x .line)) → ItemRead s x d p r × Ahead s x r
 fault-by s x d p r h e i = item-by s x d p r (faultSpot (x .line)) e i (fault-ahead s x (faultSpot (x .line)) (line-nonzero x h))
+
+-- ---- the rest of a list, item by item
+-- what a test says of the test that it turns round
+pub off : (b : Bool) → not b ≡ true → b ≡ false
+off true e = absurd (unlike (sym e))
+off false e = refl
+
+pub on : (b : Bool) → not b ≡ false → b ≡ true
+on true e = refl
+on false e = absurd (unlike e)
+
+pub onward-none : (s : List ℕ) (d p : ℕ) (x : Spot) → Onward s d p x x
+unfolding Onward
+onward-none s d p x r i = i
+
+pub onward-item : (s : List ℕ) (d p : ℕ) (x y z : Spot) → Sound y → Onward s d p x y → isCloses (wordIn (y .left) (drop (y .at) s)) ≡ false → ItemRead s y d p z → z .fault ≡ 0 → Onward s d p x z
+unfolding Onward
+onward-item s d p x y z h o c i f r k = o r (rest-more s y d p h z r c i f k)
+
+pub onward-to : (s : List ℕ) (d p : ℕ) (x y r : Spot) → Onward s d p x y → RestRead s y d p r → RestRead s x d p r
+unfolding Onward
+onward-to s d p x y r o i = o r i
+
+pub ahead-from : (s : List ℕ) (x y r : Spot) → y .left ≤ x .left → Ahead s y r → Ahead s x r
+unfolding Ahead
+ahead-from s x y r l a z = let b = a z in let b2 = b .2 in (b .0, b .1, omega arith)

@@ -41,3 +41,7 @@ pub record Sound (x : Spot) : Type 0 where
 -- an answer without a fault is a place in the text, past a line at least
 unfoldable pub Ahead : List ℕ → Spot → Spot → Type 0
 Ahead text x r = r .fault ≡ 0 → (r .at ≤ length text) × Sound r × (r .left < x .left)
+
+-- from x to y items were read, none at fault: what reads the rest of the list from y on reads it from x on
+unfoldable pub Onward : List ℕ → ℕ → ℕ → Spot → Spot → Type 0
+Onward text d p x y = (r : Spot) → RestRead text y d p r → RestRead text x d p r

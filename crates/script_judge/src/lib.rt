@@ -104,49 +104,40 @@ fn rest(text: &[u8], x: Spot, depth: usize, p: usize) -> Spot
     ensures reads { λ r. ⌜ RestRead (now (text .entry)) x depth p r ⌝ }
     ensures ahead { λ r. ⌜ Ahead (now (text .entry)) x r ⌝ }
 {
-    if script_lines::closes_at(x.left, text, x.at) {
-        return past(text, x, 2, x.total);
+    let mut y = x;
+    while !script_lines::closes_at(y.left, text, y.at) {
+        let z = item(text, y, depth, p);
+        if z.fault != 0 {
+            return z;
+        }
+        y = z;
     }
-    let y = item(text, x, depth, p);
-    if y.fault != 0 {
-        return y;
-    }
-    rest(text, y, depth, p)
+    past(text, y, 2, y.total)
 }
 
-// The script's own list, to the end of the text.
-fn top(text: &[u8], x: Spot) -> Judged
-    requires { ⌜ (x .at ≤ length (now text)) × Sound x ⌝ }
-    ensures { λ r. ⌜ r ≡ judge (x .left) (x .line) [] 1 false (x .total) (drop (x .at) (now (text .entry))) ⌝ }
-{
-    if script_lines::ends_at(x.left, text, x.at) {
-        return Judged {
-            fault: 0,
-            lines: x.total,
-        };
-    }
-    let y = item(text, x, 8, 1);
-    if y.fault != 0 {
-        return Judged {
-            fault: y.fault,
-            lines: 0,
-        };
-    }
-    top(text, y)
-}
-
-// A whole script judged: 3,000 lines at most.
+// A whole script judged: 3,000 lines at most, its own list to the end of the text.
 pub fn judge_script(text: &[u8]) -> Judged
     ensures { λ r. ⌜ r ≡ scriptJudged (now (text .entry)) ⌝ }
 {
-    top(
-        text,
-        Spot {
-            fault: 0,
-            at: 0,
-            left: 3000,
-            line: 1,
-            total: 0,
-        },
-    )
+    let mut x = Spot {
+        fault: 0,
+        at: 0,
+        left: 3000,
+        line: 1,
+        total: 0,
+    };
+    while !script_lines::ends_at(x.left, text, x.at) {
+        let y = item(text, x, 8, 1);
+        if y.fault != 0 {
+            return Judged {
+                fault: y.fault,
+                lines: 0,
+            };
+        }
+        x = y;
+    }
+    Judged {
+        fault: 0,
+        lines: x.total,
+    }
 }

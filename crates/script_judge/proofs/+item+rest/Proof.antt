@@ -2,11 +2,11 @@
 use borrow.Author.Needs.{needs}
 use native.Mathlib.Omega.{arith}
 use mathlib.Core.Path.{sym, subst, _∙_}
-use Prim.Native.Nat.{_*_, _+_, _-_, _≤_, ℕ, _<_}
 use lib.ListN.{length}
+use Prim.Native.Nat.{_*_, _+_, _-_, _≤_, ℕ, _<_}
 use Rattle.script_judge.specs.declared.Spot.{Spot}
 use Rattle.script_judge.specs.Judges.{capped}
-use Rattle.script_judge.specs.Inner.{nextSpot, ItemRead, RestRead, Sound}
+use Rattle.script_judge.specs.Inner.{nextSpot, ItemRead, RestRead, Sound, Onward}
 use Rattle.script_judge.proofs.Reading as reading
 use borrow.Fn.Kinds.{In}
 use borrow.Fn.PlainCycle.{Measures, is, falls, and}
@@ -538,105 +538,118 @@ item-returns-8 t c =
     let r = c .rest .result in let k = subst (λ (q : ℕ). RestRead s y (d - 1) q r) (c .before .before .before .before .before .times .ensures) (c .rest .ensures .0) in
     (reading.item-group s x d p h m y r w (c .before .before .before .before .before .before .if2 .left) j (c .before .if3 .left) k, reading.ahead-on s x y r (omega arith) (c .rest .ensures .1))
 
+abbrev rest-Inv-loop : rest-lts.InvT-loop
+rest-Inv-loop text depth p y₀ y = (y .at ≤ length text) × Sound y × (y .left ≤ y₀ .left) × Onward text depth p y₀ y × (p ≤ 9999)
+
+abbrev rest-μ-loop : rest-lts.MeasureT-loop
+rest-μ-loop text depth p y₀ y = y .left
+
+rest-loop-holds : (t : ℕ) → rest-lts.Need-loop-holds (
+  closes-at-reads.Asked,
+  closes-at-reads.Learnt,
+  item-below t,
+  item.Post,
+  past-reads.Asked,
+  past-reads.Learnt,
+) (rest-at t) rest.Post rest-Inv-loop rest-μ-loop
+rest-loop-holds t c =
+    let a = c .before .args in let s = a .text .now in let x = a .x in let d = a .depth in let p = a .p in let h = c .before .pre .1 .1 in
+    (c .before .pre .1 .0, h, omega arith, reading.onward-none s d p x, c .before .pre .1 .2)
+
 rest-closes-at-requires : (t : ℕ) → rest-lts.Need-closes-at-requires (
   closes-at-reads.Asked,
   closes-at-reads.Learnt,
-  past-reads.Asked,
-  past-reads.Learnt,
   item-below t,
   item.Post,
-  rest-below t,
-  rest.Post,
-) (rest-at t) rest.Post
+  past-reads.Asked,
+  past-reads.Learnt,
+) (rest-at t) rest.Post rest-Inv-loop rest-μ-loop
 rest-closes-at-requires t c κs = search needs
-
-rest-past-requires : (t : ℕ) → rest-lts.Need-past-requires (
-  closes-at-reads.Asked,
-  closes-at-reads.Learnt,
-  past-reads.Asked,
-  past-reads.Learnt,
-  item-below t,
-  item.Post,
-  rest-below t,
-  rest.Post,
-) (rest-at t) rest.Post
-rest-past-requires t c κs =
-    let a = c .before .before .before .args in let s = a .text .now in let x = a .x in let d = a .depth in let p = a .p in let h = c .before .before .before .pre .1 .1 in
-    let w = sym (c .before .closes-at .ensures) ∙ c .if1 .taken in
-    (c .before .before .before .pre .1 .0, omega arith, reading.was-close s x h w, h)
-
-rest-returns : (t : ℕ) → rest-lts.Need-returns (
-  closes-at-reads.Asked,
-  closes-at-reads.Learnt,
-  past-reads.Asked,
-  past-reads.Learnt,
-  item-below t,
-  item.Post,
-  rest-below t,
-  rest.Post,
-) (rest-at t) rest.Post
-rest-returns t c =
-    let a = c .before .before .before .before .args in let s = a .text .now in let x = a .x in let d = a .depth in let p = a .p in let h = c .before .before .before .before .pre .1 .1 in
-    let w = sym (c .before .before .closes-at .ensures) ∙ c .before .if1 .taken in
-    reading.rest-by s x d p (c .past .result) (nextSpot x 2 (x .total)) (c .past .ensures) (reading.rest-close s x d p h w) (reading.close-ahead s x h w)
 
 rest-item-requires : (t : ℕ) → rest-lts.Need-item-requires (
   closes-at-reads.Asked,
   closes-at-reads.Learnt,
-  past-reads.Asked,
-  past-reads.Learnt,
   item-below t,
   item.Post,
-  rest-below t,
-  rest.Post,
-) (rest-at t) rest.Post
-rest-item-requires t c κs = search needs
+  past-reads.Asked,
+  past-reads.Learnt,
+) (rest-at t) rest.Post rest-Inv-loop rest-μ-loop
+rest-item-requires t c κs =
+    let a = c .before .before .before .before .args in let s = a .text .now in let x = a .x in let d = a .depth in let p = a .p in let h = c .before .before .before .before .pre .1 .1 in let e = c .before .before .before .before .pre .0 in
+    let l = c .before .before .loop in let y = l .y in let v = l .inv in let v2 = v .2 in
+    (omega arith, (v .0, v .1, v .4))
+
+rest-returns : (t : ℕ) → rest-lts.Need-returns (
+  closes-at-reads.Asked,
+  closes-at-reads.Learnt,
+  item-below t,
+  item.Post,
+  past-reads.Asked,
+  past-reads.Learnt,
+) (rest-at t) rest.Post rest-Inv-loop rest-μ-loop
+rest-returns t c =
+    let a = c .before .before .before .before .before .before .before .args in let s = a .text .now in let x = a .x in let d = a .depth in let p = a .p in let h = c .before .before .before .before .before .before .before .pre .1 .1 in
+    let l = c .before .before .before .before .before .loop in let y = l .y in let v = l .inv in let v2 = v .2 in
+    let w = sym (c .before .before .before .before .closes-at .ensures) ∙ reading.off (c .before .before .before .before .closes-at .result) (c .before .before .before .if1 .taken) in let z = c .before .before .item .result in
+    (reading.onward-to s d p x y z (v .3) (reading.rest-fault s y d p (v .1) z w (c .before .before .item .ensures .0) (c .if2 .taken)), reading.fault-ahead s x z (c .if2 .taken))
+
+rest-loop-less : (t : ℕ) → rest-lts.Need-loop-less (
+  closes-at-reads.Asked,
+  closes-at-reads.Learnt,
+  item-below t,
+  item.Post,
+  past-reads.Asked,
+  past-reads.Learnt,
+) (rest-at t) rest.Post rest-Inv-loop rest-μ-loop
+rest-loop-less t c =
+    let a = c .before .before .before .before .before .before .before .args in let s = a .text .now in let x = a .x in let d = a .depth in let p = a .p in let h = c .before .before .before .before .before .before .before .pre .1 .1 in
+    let l = c .before .before .before .before .before .loop in let y = l .y in let v = l .inv in let v2 = v .2 in
+    let z = c .before .before .item .result in let g = reading.ahead s y z (c .before .before .item .ensures .1) (c .if2 .left) in let g2 = g .2 in
+    g2
+
+rest-loop-again : (t : ℕ) → rest-lts.Need-loop-again (
+  closes-at-reads.Asked,
+  closes-at-reads.Learnt,
+  item-below t,
+  item.Post,
+  past-reads.Asked,
+  past-reads.Learnt,
+) (rest-at t) rest.Post rest-Inv-loop rest-μ-loop
+rest-loop-again t c =
+    let a = c .before .before .before .before .before .before .before .args in let s = a .text .now in let x = a .x in let d = a .depth in let p = a .p in let h = c .before .before .before .before .before .before .before .pre .1 .1 in
+    let l = c .before .before .before .before .before .loop in let y = l .y in let v = l .inv in let v2 = v .2 in
+    let w = sym (c .before .before .before .before .closes-at .ensures) ∙ reading.off (c .before .before .before .before .closes-at .result) (c .before .before .before .if1 .taken) in
+    let z = c .before .before .item .result in let g = reading.ahead s y z (c .before .before .item .ensures .1) (c .if2 .left) in let g2 = g .2 in
+    (g .0, g .1, omega arith, reading.onward-item s d p x y z (v .1) (v .3) w (c .before .before .item .ensures .0) (c .if2 .left), v .4)
+
+rest-past-requires : (t : ℕ) → rest-lts.Need-past-requires (
+  closes-at-reads.Asked,
+  closes-at-reads.Learnt,
+  item-below t,
+  item.Post,
+  past-reads.Asked,
+  past-reads.Learnt,
+) (rest-at t) rest.Post rest-Inv-loop rest-μ-loop
+rest-past-requires t c κs =
+    let a = c .before .before .before .before .args in let s = a .text .now in let x = a .x in let d = a .depth in let p = a .p in let h = c .before .before .before .before .pre .1 .1 in
+    let l = c .before .before .loop in let y = l .y in let v = l .inv in let v2 = v .2 in
+    let w = sym (c .before .closes-at .ensures) ∙ reading.on (c .before .closes-at .result) (c .if1 .left) in
+    (v .0, omega arith, reading.was-close s y (v .1) w, v .1)
 
 rest-returns-2 : (t : ℕ) → rest-lts.Need-returns-2 (
   closes-at-reads.Asked,
   closes-at-reads.Learnt,
-  past-reads.Asked,
-  past-reads.Learnt,
   item-below t,
   item.Post,
-  rest-below t,
-  rest.Post,
-) (rest-at t) rest.Post
+  past-reads.Asked,
+  past-reads.Learnt,
+) (rest-at t) rest.Post rest-Inv-loop rest-μ-loop
 rest-returns-2 t c =
-    let a = c .before .before .before .before .before .before .args in let s = a .text .now in let x = a .x in let d = a .depth in let p = a .p in let h = c .before .before .before .before .before .before .pre .1 .1 in
-    let w = sym (c .before .before .before .before .closes-at .ensures) ∙ c .before .before .before .if1 .left in let y = c .before .before .item .result in
-    (reading.rest-fault s x d p h y w (c .before .before .item .ensures .0) (c .if2 .taken), reading.fault-ahead s x y (c .if2 .taken))
-
-rest-rest-requires : (t : ℕ) → rest-lts.Need-rest-requires (
-  closes-at-reads.Asked,
-  closes-at-reads.Learnt,
-  past-reads.Asked,
-  past-reads.Learnt,
-  item-below t,
-  item.Post,
-  rest-below t,
-  rest.Post,
-) (rest-at t) rest.Post
-rest-rest-requires t c κs =
-    let a = c .before .before .before .before .before .before .args in let s = a .text .now in let x = a .x in let d = a .depth in let p = a .p in let h = c .before .before .before .before .before .before .pre .1 .1 in let e = c .before .before .before .before .before .before .pre .0 in let y = c .before .before .item .result in
-    let g = reading.ahead s x y (c .before .before .item .ensures .1) (c .if2 .left) in let k = g .2 in
-    (omega arith, (g .0, g .1, c .before .before .before .before .before .before .pre .1 .2))
-
-rest-returns-3 : (t : ℕ) → rest-lts.Need-returns-3 (
-  closes-at-reads.Asked,
-  closes-at-reads.Learnt,
-  past-reads.Asked,
-  past-reads.Learnt,
-  item-below t,
-  item.Post,
-  rest-below t,
-  rest.Post,
-) (rest-at t) rest.Post
-rest-returns-3 t c =
-    let a = c .before .before .before .before .before .before .before .args in let s = a .text .now in let x = a .x in let d = a .depth in let p = a .p in let h = c .before .before .before .before .before .before .before .pre .1 .1 in
-    let w = sym (c .before .before .before .before .before .closes-at .ensures) ∙ c .before .before .before .before .if1 .left in let y = c .before .before .before .item .result in let r = c .rest .result in
-    let g = reading.ahead s x y (c .before .before .before .item .ensures .1) (c .before .if2 .left) in
-    (reading.rest-more s x d p h y r w (c .before .before .before .item .ensures .0) (c .before .if2 .left) (c .rest .ensures .0), reading.ahead-on s x y r (g .2) (c .rest .ensures .1))
+    let a = c .before .before .before .before .before .args in let s = a .text .now in let x = a .x in let d = a .depth in let p = a .p in let h = c .before .before .before .before .before .pre .1 .1 in
+    let l = c .before .before .before .loop in let y = l .y in let v = l .inv in let v2 = v .2 in
+    let w = sym (c .before .before .closes-at .ensures) ∙ reading.on (c .before .before .closes-at .result) (c .before .if1 .left) in
+    let q = reading.rest-by s y d p (c .past .result) (nextSpot y 2 (y .total)) (c .past .ensures) (reading.rest-close s y d p (v .1) w) (reading.close-ahead s y (v .1) w) in
+    (reading.onward-to s d p x y (c .past .result) (v .3) (q .0), reading.ahead-from s x y (c .past .result) v2 (q .1))
 
 pub +item+rest-spec : {M : Type 1} → statement M
 +item+rest-spec = close μ-item μ-rest (λ t. item-lts.spec (
@@ -686,19 +699,20 @@ pub +item+rest-spec : {M : Type 1} → statement M
     λ t. rest-lts.spec (
       closes-at-reads.Asked,
       closes-at-reads.Learnt,
-      past-reads.Asked,
-      past-reads.Learnt,
       item-below t,
       item.Post,
-      rest-below t,
-      rest.Post,
+      past-reads.Asked,
+      past-reads.Learnt,
     )
     (rest-at t)
     rest.Post
+    rest-Inv-loop
+    rest-μ-loop
+    (rest-loop-holds t)
     (rest-closes-at-requires t)
-    (rest-past-requires t)
-    (rest-returns t)
     (rest-item-requires t)
+    (rest-returns t)
+    (rest-loop-less t)
+    (rest-loop-again t)
+    (rest-past-requires t)
     (rest-returns-2 t)
-    (rest-rest-requires t)
-    (rest-returns-3 t)
