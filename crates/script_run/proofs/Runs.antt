@@ -4,6 +4,8 @@ use mathlib.Core.Bool.{Bool, true, false}
 use mathlib.Core.List.{List, [], _∷_, _++_, append-nil}
 use Prim.Native.Nat.{ℕ, zero, suc, _+_, _-_, _*_, _≤_, _<_}
 use native.Mathlib.Omega.{arith}
+use lib.Dec.{ltb}
+use borrow.Author.Tests.{ltb-true, ltb-false}
 use lib.ListN.{length, take, drop, length-append, length-drop}
 use lib.Seq.{drop-drop}
 use Rattle.common.proofs.Choice.{if-true, if-false}
@@ -12,7 +14,7 @@ use Rattle.model_types.specs.declared.State.{State}
 use Rattle.model_types.specs.declared.Cycle.{Cycle}
 use Rattle.trace_lines.specs.Lines.{lineOf, cycleStated}
 use Rattle.script_lines.specs.declared.Word.{Word}
-use Rattle.script_lines.specs.declared.Word.the-variants.{Traced, Opens}
+use Rattle.script_lines.specs.declared.Word.the-variants.{Ends, Bad, Traced, Opens, Closes}
 use Rattle.script_lines.specs.Scripts.{Script, done, line, group, openBy, closeBy, printOn, Formed, linesIn, timesOn, linesWritten}
 use Rattle.script_lines.specs.Words.{wordIn, isCloses}
 use Rattle.script_lines.specs.Inner.{Stop, nothing, closing}
@@ -22,7 +24,7 @@ use Rattle.script_judge.proofs.Once.{parts}
 use Rattle.trace_replay.specs.Answers.{printedOf}
 use Rattle.trace_replay.specs.Replays.{lineStep, arrayBy}
 use Rattle.script_run.specs.declared.Run.{Run}
-use Rattle.script_run.specs.Inner.{stateThrough, arrayThrough, answersThrough, lineRun, pastClose, closeRun, Ran, RunRead, AgainRead}
+use Rattle.script_run.specs.Inner.{stateThrough, arrayThrough, answersThrough, lineRun, pastOpen, backTo, pastClose, closeRun, Ran, RunRead, Leads, ItemRun, AgainRead, Rounds}
 use Rattle.script_run.proofs.Laid.{laid-none, laid-more}
 use Rattle.script_run.proofs.Answers.{answers-length, state-append, array-append, answers-append, times-append}
 
@@ -186,11 +188,8 @@ run-line text x y r xs rs out ys out₁ xs′ out′ w ey ea eo len i =
     on-line text x r xs rs out xs′ out′ w (ap (λ (q : List ℕ). length q) (sym eo) ∙ len) i3
 
 -- ---- a group, and the list behind it
-abbrev pub openedRun : Run → Run
-openedRun x = record { at = x .at + 6; left = x .left - 1; used = x .used; state = x .state }
-
 pub run-group : (text : List ℕ) (x y z r : Run) (n : ℕ) (xs rs out ys out₁ xs′ out′ : List ℕ) → wordIn (x .left) (drop (x .at) text) ≡ Opens n
-    → AgainRead text (openedRun x) n y xs rs out ys out₁ → z ≡ closeRun text y → length out₁ ≡ length out
+    → AgainRead text (pastOpen x) n y xs rs out ys out₁ → z ≡ closeRun text y → length out₁ ≡ length out
     → RunRead text z r ys rs out₁ xs′ out′ → RunRead text x r xs rs out xs′ out′
 unfolding RunRead AgainRead Formed printOn linesIn linesWritten
 run-group text x y z r n xs rs out ys out₁ xs′ out′ w i ez len k done d tail f o e l m =
@@ -212,10 +211,10 @@ run-group text x y z r n xs rs out ys out₁ xs′ out′ w i ez len k (group v 
     let k′ = subst (λ (u : Run). RunRead text u r ys rs out₁ xs′ out′) ez′ k in
     let t = k′ q d tail (h .2) o (at-drop text (y .at) 2 (closeBy ++ printOn q tail) (j .stands)) (omega arith) (omega arith) in
     let t1 = t .lines in
-    let s = both text (openedRun x) y (pastClose y) r xs rs out ys out₁ xs′ out′ B Q (closeBy ++ printOn q tail) tail (linesIn b) (linesIn q) (1 + linesIn b + linesIn q) j t refl refl (let a = length-append B Q in omega arith) (omega arith) in
+    let s = both text (pastOpen x) y (pastClose y) r xs rs out ys out₁ xs′ out′ B Q (closeBy ++ printOn q tail) tail (linesIn b) (linesIn q) (1 + linesIn b + linesIn q) j t refl refl (let a = length-append B Q in omega arith) (omega arith) in
     subst (λ (u : List Cycle). Ran text x r xs rs out xs′ out′ u tail (2 + linesIn b + linesIn q)) (sym split) (moved s (omega arith))
   where
-    moved : {cs : List Cycle} {n m : ℕ} → Ran text (openedRun x) r xs rs out xs′ out′ cs tail n → r .left + m ≡ x .left → Ran text x r xs rs out xs′ out′ cs tail m
+    moved : {cs : List Cycle} {n m : ℕ} → Ran text (pastOpen x) r xs rs out xs′ out′ cs tail n → r .left + m ≡ x .left → Ran text x r xs rs out xs′ out′ cs tail m
     moved a b = record { stands = a .stands; lines = b; used = a .used; state = a .state; array = a .array; laid = a .laid }
 
 -- ---- a list n times over
@@ -228,7 +227,7 @@ again-one text x y n xs rs out xs′ out′ i m c d tail f o e l p room =
     subst (λ (u : List Cycle). Ran text x y xs rs out xs′ out′ u tail (linesIn c)) once (i c d tail f o e l (omega arith))
 
 pub again-more : (text : List ℕ) (x y r : Run) (n : ℕ) (xs rs out ys out₁ xs′ out′ : List ℕ) → RunRead text x y xs rs out ys out₁ → 1 < n → length out₁ ≡ length out
-    → AgainRead text (record { at = x .at; left = x .left; used = y .used; state = y .state }) (n - 1) r ys rs out₁ xs′ out′ → AgainRead text x n r xs rs out xs′ out′
+    → AgainRead text (backTo x y) (n - 1) r ys rs out₁ xs′ out′ → AgainRead text x n r xs rs out xs′ out′
 unfolding RunRead AgainRead timesOn
 again-more text x y r n xs rs out ys out₁ xs′ out′ i m len k c d tail f o e l p room =
     let g : suc (n - 1) ≡ n = omega arith in
@@ -239,5 +238,79 @@ again-more text x y r n xs rs out ys out₁ xs′ out′ i m len k c d tail f o 
     let a2 = a .used in
     let b = k c d tail f o e l (omega arith) (omega arith) in
     let b1 = b .lines in
-    let s = both text x y (record { at = x .at; left = x .left; used = y .used; state = y .state }) r xs rs out ys out₁ xs′ out′ W T tail tail (linesIn c) (linesIn c) (linesIn c) a b refl refl (let q = length-append W T in omega arith) b1 in
+    let s = both text x y (backTo x y) r xs rs out ys out₁ xs′ out′ W T tail tail (linesIn c) (linesIn c) (linesIn c) a b refl refl (let q = length-append W T in omega arith) b1 in
     subst (λ (u : List Cycle). Ran text x r xs rs out xs′ out′ u tail (linesIn c)) split s
+
+-- ---- where no more lines may come
+pub run-over : (text : List ℕ) (x : Run) (xs rs out : List ℕ) → x .left ≤ 0 → RunRead text x x xs rs out xs out
+run-over text x xs rs out h = by (wordIn (x .left) (drop (x .at) text)) refl where
+  by : (w : Word) → wordIn (x .left) (drop (x .at) text) ≡ w → RunRead text x x xs rs out xs out
+  by Ends e = run-stop text x xs rs out Ends e (λ z. absurd (omega arith)) (λ z. absurd (omega arith))
+  by Bad e = run-stop text x xs rs out Bad e (λ z. absurd (omega arith)) (λ z. absurd (omega arith))
+  by Traced e = let l = traced-room text (x .left) (x .at) e .0 in absurd (omega arith)
+  by (Opens m) e = let l = opens-room text (x .left) (x .at) m e .0 in absurd (omega arith)
+  by Closes e = run-stop text x xs rs out Closes e (λ z. absurd (omega arith)) (λ z. absurd (omega arith))
+
+-- ---- an item run
+pub item-none : (text : List ℕ) (x : Run) (xs rs out : List ℕ) → RunRead text x x xs rs out xs out → ItemRun text x x xs rs out xs out
+unfolding ItemRun
+item-none text x xs rs out i = (λ z. i, λ z. absurd (omega arith))
+
+pub item-line : (text : List ℕ) (x y : Run) (xs rs out ys out₁ : List ℕ) → wordIn (x .left) (drop (x .at) text) ≡ Traced
+    → y ≡ lineRun text x xs rs → ys ≡ arrayBy (x .state) (cycleStated (take 20 (drop (x .at) text))) xs rs
+    → out₁ ≡ overlaid out (x .used) (printedOf (lineStep (x .state) (cycleStated (take 20 (drop (x .at) text))) xs rs)) → length out₁ ≡ length out
+    → ItemRun text x y xs rs out ys out₁
+unfolding ItemRun Leads
+item-line text x y xs rs out ys out₁ w ey ea eo len =
+    let e = ap (λ (r : Run). r .left) ey in let l = traced-room text (x .left) (x .at) w .0 in
+    (λ z. absurd (omega arith), λ z r xs′ out′ i. run-line text x y r xs rs out ys out₁ xs′ out′ w ey ea eo len i)
+
+pub item-group : (text : List ℕ) (x y z : Run) (n : ℕ) (xs rs out ys out₁ : List ℕ) → wordIn (x .left) (drop (x .at) text) ≡ Opens n
+    → AgainRead text (pastOpen x) n y xs rs out ys out₁ → z ≡ closeRun text y → z .left < x .left → length out₁ ≡ length out → ItemRun text x z xs rs out ys out₁
+unfolding ItemRun Leads
+item-group text x y z n xs rs out ys out₁ w i ez l len =
+    (λ e. absurd (omega arith), λ e r xs′ out′ k. run-group text x y z r n xs rs out ys out₁ xs′ out′ w i ez len k)
+
+-- ---- the items of a list, one after the other
+pub leads-none : (text : List ℕ) (x : Run) (xs rs out : List ℕ) → Leads text x x xs rs out xs out
+unfolding Leads
+leads-none text x xs rs out r xs′ out′ i = i
+
+pub leads-item : (text : List ℕ) (x y z : Run) (xs rs out ys out₁ zs out₂ : List ℕ) → Leads text x y xs rs out ys out₁ → ItemRun text y z ys rs out₁ zs out₂ → z .left < y .left
+    → Leads text x z xs rs out zs out₂
+unfolding Leads ItemRun
+leads-item text x y z xs rs out ys out₁ zs out₂ o i l r xs′ out′ k = o r xs′ out′ (i .1 l r xs′ out′ k)
+
+pub leads-end : (text : List ℕ) (x y z : Run) (xs rs out ys out₁ zs out₂ : List ℕ) → Leads text x y xs rs out ys out₁ → ItemRun text y z ys rs out₁ zs out₂ → z .left ≡ y .left
+    → RunRead text x z xs rs out zs out₂
+unfolding Leads ItemRun
+leads-end text x y z xs rs out ys out₁ zs out₂ o i e = o z zs out₂ (i .0 e)
+
+pub leads-to : (text : List ℕ) (x y r : Run) (xs rs out ys out₁ xs′ out′ : List ℕ) → Leads text x y xs rs out ys out₁ → RunRead text y r ys rs out₁ xs′ out′ → RunRead text x r xs rs out xs′ out′
+unfolding Leads
+leads-to text x y r xs rs out ys out₁ xs′ out′ o i = o r xs′ out′ i
+
+-- ---- rounds of a list, one after the other
+pub rounds-none : (text : List ℕ) (x : Run) (n m : ℕ) (xs rs out : List ℕ) → m ≡ n → Rounds text x n x m xs rs out xs out
+unfolding Rounds
+rounds-none text x n m xs rs out e r xs′ out′ i = subst (λ (k : ℕ). AgainRead text x k r xs rs out xs′ out′) e i
+
+pub rounds-one : (text : List ℕ) (x y z q : Run) (n m k : ℕ) (xs rs out ys out₁ zs out₂ : List ℕ) → Rounds text x n y m xs rs out ys out₁ → RunRead text y z ys rs out₁ zs out₂
+    → q ≡ backTo y z → 1 < m → k ≡ m - 1 → length out₂ ≡ length out₁ → Rounds text x n q k xs rs out zs out₂
+unfolding Rounds
+rounds-one text x y z q n m k xs rs out ys out₁ zs out₂ o i eq l ek len r xs′ out′ a =
+    let a1 = subst (λ (u : Run). AgainRead text u k r zs rs out₂ xs′ out′) eq a in
+    let a2 = subst (λ (u : ℕ). AgainRead text (backTo y z) u r zs rs out₂ xs′ out′) ek a1 in
+    o r xs′ out′ (again-more text y z r m ys rs out₁ zs out₂ xs′ out′ i l len a2)
+
+pub rounds-end : (text : List ℕ) (x y r : Run) (n m : ℕ) (xs rs out ys out₁ xs′ out′ : List ℕ) → Rounds text x n y m xs rs out ys out₁ → m ≤ 1 → RunRead text y r ys rs out₁ xs′ out′
+    → AgainRead text x n r xs rs out xs′ out′
+unfolding Rounds
+rounds-end text x y r n m xs rs out ys out₁ xs′ out′ o l i = o r xs′ out′ (again-one text y r m ys rs out₁ xs′ out′ i l)
+
+-- at most, and not equal
+pub below : (a b : ℕ) → a ≤ b → (a ≡ b → ⊥) → a < b
+below a b l n = by (ltb a b) refl where
+  by : (t : Bool) → ltb a b ≡ t → a < b
+  by true e = ltb-true a b e
+  by false e = let k = ltb-false a b e in absurd (n (omega arith))

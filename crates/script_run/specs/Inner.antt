@@ -2,7 +2,7 @@
 -- `scriptArray`. Assumes nothing.
 use mathlib.Core.Path.{_≡_}
 use mathlib.Core.List.{List, [], _∷_, _++_}
-use Prim.Native.Nat.{ℕ, _+_, _-_, _*_, _≤_}
+use Prim.Native.Nat.{ℕ, _+_, _-_, _*_, _≤_, _<_}
 use lib.ListN.{length, take, drop}
 use Rattle.common.specs.Choice.{if_then_else_}
 use Rattle.common.specs.Lists.{overlaid}
@@ -38,6 +38,13 @@ lineRun text x xs rs = record {
   state = lineStep (x .state) (cycleStated (take 20 (drop (x .at) text))) xs rs .state;
 }
 
+-- a run past the opening line at x; at x again, with the output and the device as z has them
+abbrev pub pastOpen : Run → Run
+pastOpen x = record { at = x .at + 6; left = x .left - 1; used = x .used; state = x .state }
+
+abbrev pub backTo : Run → Run → Run
+backTo x z = record { at = x .at; left = x .left; used = z .used; state = z .state }
+
 -- a run past the closing line at x, where there is one
 abbrev pub pastClose : Run → Run
 pastClose x = record { at = x .at + 2; left = x .left - 1; used = x .used; state = x .state }
@@ -61,9 +68,21 @@ RunRead text x r xs rs out xs′ out′ =
     → x .used + 8 * length (linesWritten c) ≤ length out
     → Ran text x r xs rs out xs′ out′ (linesWritten c) tail (linesIn c)
 
+-- from x to y items were run: whatever runs the list from y on runs it from x on
+unfoldable pub Leads : List ℕ → Run → Run → List ℕ → List ℕ → List ℕ → List ℕ → List ℕ → Type 0
+Leads text x y xs rs out ys out₁ = (r : Run) (xs′ out′ : List ℕ) → RunRead text y r ys rs out₁ xs′ out′ → RunRead text x r xs rs out xs′ out′
+
+-- an item run: where no line was taken the list ends here, else it goes on
+unfoldable pub ItemRun : List ℕ → Run → Run → List ℕ → List ℕ → List ℕ → List ℕ → List ℕ → Type 0
+ItemRun text x r xs rs out xs′ out′ = (r .left ≡ x .left → RunRead text x r xs rs out xs′ out′) × (r .left < x .left → Leads text x r xs rs out xs′ out′)
+
 -- the same, n times over
 unfoldable pub AgainRead : List ℕ → Run → ℕ → Run → List ℕ → List ℕ → List ℕ → List ℕ → List ℕ → Type 0
 AgainRead text x n r xs rs out xs′ out′ =
     (c : Script) (d : ℕ) (tail : List ℕ) → Formed d c → Stop tail → drop (x .at) text ≡ printOn c tail → linesIn c ≤ x .left → 1 ≤ n
     → x .used + 8 * length (timesOn n (linesWritten c) []) ≤ length out
     → Ran text x r xs rs out xs′ out′ (timesOn n (linesWritten c) []) tail (linesIn c)
+
+-- rounds of a list that were run, from x to y: whatever runs the m that are left runs all n
+unfoldable pub Rounds : List ℕ → Run → ℕ → Run → ℕ → List ℕ → List ℕ → List ℕ → List ℕ → List ℕ → Type 0
+Rounds text x n y m xs rs out ys out₁ = (r : Run) (xs′ out′ : List ℕ) → AgainRead text y m r ys rs out₁ xs′ out′ → AgainRead text x n r xs rs out xs′ out′

@@ -12,7 +12,7 @@ ghost use Rattle.script_lines.specs.Words.{wordIn, isCloses};
 ghost use Rattle.trace_replay.specs.Answers.{printedOf, markOf};
 ghost use Rattle.trace_replay.specs.Replays.{lineStep, arrayBy, replayedIn, leftInRoom, Used};
 ghost use Rattle.script_run.specs.Runs.{scriptOutput, scriptArray};
-ghost use Rattle.script_run.specs.Inner.{lineRun, closeRun, RunRead, AgainRead};
+ghost use Rattle.script_run.specs.Inner.{lineRun, pastOpen, closeRun, backTo, RunRead, ItemRun, AgainRead};
 
 // Where a run stands: place in the text, lines that may still come, bytes of output so far, and the device's state.
 struct Run {
@@ -45,6 +45,33 @@ fn answered(text: &[u8], x: Run, array: &mut [u8], residue: &[u8], out: &mut [u8
     }
 }
 
+// Past the opening line at x.
+fn past_open(text: &[u8], x: Run) -> Run
+    requires { ⌜ (x .at ≤ length (now text)) × (1 ≤ x .left) ⌝ }
+    ensures { λ r. ⌜ r ≡ pastOpen x ⌝ }
+{
+    let s = x.state;
+    Run {
+        at: x.at + 6,
+        left: x.left - 1,
+        used: x.used,
+        state: s,
+    }
+}
+
+// At x again, with the output and the device as z has them.
+fn back(x: Run, z: Run) -> Run
+    ensures { λ r. ⌜ r ≡ backTo x z ⌝ }
+{
+    let s = z.state;
+    Run {
+        at: x.at,
+        left: x.left,
+        used: z.used,
+        state: s,
+    }
+}
+
 // Past the closing line at x; x itself where there is none.
 fn past_close(text: &[u8], x: Run) -> Run
     requires { ⌜ x .at ≤ length (now text) ⌝ }
@@ -62,10 +89,10 @@ fn past_close(text: &[u8], x: Run) -> Run
     x
 }
 
-// The list at x, run to its end.
-fn run_list(text: &[u8], x: Run, array: &mut [u8], residue: &[u8], out: &mut [u8]) -> Run
+// The item at x, run: a trace line, or a group; x itself where none stands, or no answer fits.
+fn run_item(text: &[u8], x: Run, array: &mut [u8], residue: &[u8], out: &mut [u8]) -> Run
     requires { ⌜ (x .at ≤ length (now text)) × (x .used ≤ length (now out)) ⌝ }
-    ensures reads { λ r. ⌜ RunRead (now (text .entry)) x r (now (array .entry)) (now (residue .entry)) (now (out .entry)) (now (array .exit)) (now (out .exit)) ⌝ }
+    ensures reads { λ r. ⌜ ItemRun (now (text .entry)) x r (now (array .entry)) (now (residue .entry)) (now (out .entry)) (now (array .exit)) (now (out .exit)) ⌝ }
     ensures ahead { λ r. ⌜ (r .at ≤ length (now (text .entry))) × (r .left ≤ x .left) × (r .used ≤ length (now (out .entry))) ⌝ }
 {
     let w = script_lines::word_at(x.left, text, x.at);
@@ -83,28 +110,30 @@ fn run_list(text: &[u8], x: Run, array: &mut [u8], residue: &[u8], out: &mut [u8
             if out.len() - x.used < 8 {
                 return x;
             }
-            let y = answered(text, x, array, residue, out);
-            return run_list(text, y, array, residue, out);
+            return answered(text, x, array, residue, out);
         }
         Word::Opens(n) => {
-            let s = x.state;
-            let y = again(
-                text,
-                Run {
-                    at: x.at + 6,
-                    left: x.left - 1,
-                    used: x.used,
-                    state: s,
-                },
-                n,
-                array,
-                residue,
-                out,
-            );
-            let z = past_close(text, y);
-            return run_list(text, z, array, residue, out);
+            let y = again(text, past_open(text, x), n, array, residue, out);
+            return past_close(text, y);
         }
     }
+}
+
+// The list at x, run to its end.
+fn run_list(text: &[u8], x: Run, array: &mut [u8], residue: &[u8], out: &mut [u8]) -> Run
+    requires { ⌜ (x .at ≤ length (now text)) × (x .used ≤ length (now out)) ⌝ }
+    ensures reads { λ r. ⌜ RunRead (now (text .entry)) x r (now (array .entry)) (now (residue .entry)) (now (out .entry)) (now (array .exit)) (now (out .exit)) ⌝ }
+    ensures ahead { λ r. ⌜ (r .at ≤ length (now (text .entry))) × (r .left ≤ x .left) × (r .used ≤ length (now (out .entry))) ⌝ }
+{
+    let mut y = x;
+    while 0 < y.left {
+        let z = run_item(text, y, array, residue, out);
+        if z.left == y.left {
+            return z;
+        }
+        y = z;
+    }
+    y
 }
 
 // The list at x, run n times from the same place.
@@ -113,24 +142,14 @@ fn again(text: &[u8], x: Run, n: usize, array: &mut [u8], residue: &[u8], out: &
     ensures reads { λ r. ⌜ AgainRead (now (text .entry)) x n r (now (array .entry)) (now (residue .entry)) (now (out .entry)) (now (array .exit)) (now (out .exit)) ⌝ }
     ensures ahead { λ r. ⌜ (r .at ≤ length (now (text .entry))) × (r .left ≤ x .left) × (r .used ≤ length (now (out .entry))) ⌝ }
 {
-    let y = run_list(text, x, array, residue, out);
-    if n <= 1 {
-        return y;
+    let mut y = x;
+    let mut i = 1;
+    while i < n {
+        let z = run_list(text, y, array, residue, out);
+        y = back(y, z);
+        i += 1;
     }
-    let s = y.state;
-    again(
-        text,
-        Run {
-            at: x.at,
-            left: x.left,
-            used: y.used,
-            state: s,
-        },
-        n - 1,
-        array,
-        residue,
-        out,
-    )
+    run_list(text, y, array, residue, out)
 }
 
 // The mark of a line at fault, alone.
