@@ -61,7 +61,7 @@ again-Inv-loop text n array₀ residue out₀ y₀ i₀ array out y i =
     (1 ≤ i) × (y .at ≡ y₀ .at) × (y .left ≡ y₀ .left) × (y .used ≤ length out) × Rounds text y₀ n y (n + 1 - i) array₀ residue out₀ array out × (length array ≡ length array₀) × (length out ≡ length out₀)
 
 abbrev again-μ-loop : again-lts.MeasureT-loop
-again-μ-loop text n array₀ residue out₀ y₀ i₀ array out y i = n - i
+again-μ-loop text n array₀ residue out₀ y₀ i₀ array out y i = n + 1 - i
 
 again-loop-holds : (t : ℕ) → again-lts.Need-loop-holds (
   run-list-below t,
