@@ -2,10 +2,9 @@
 use mathlib.Core.Path.{_≡_}
 use mathlib.Core.List.{List, []}
 use mathlib.Core.Logic.{_↔_}
-use Prim.Native.Nat.{ℕ, _*_}
+use Prim.Native.Nat.{ℕ}
 use lib.ListN.{length, take}
-use Rattle.script_lines.specs.Scripts.{Script, printOn, Formed, writtenIn, linesWritten, Allowed}
-use Rattle.script_lines.proofs.Written as written
+use Rattle.script_lines.specs.Scripts.{Script, printOn, Formed, linesWritten, Allowed}
 use Rattle.script_judge.specs.Judges.{fineAs, scriptJudged}
 use Rattle.script_judge.specs.Reads.{scriptIn}
 use Rattle.script_judge.specs.Faults.{FaultAt}
@@ -40,9 +39,6 @@ one-fault = ends.one-fault
 -- An allowed script has none, and the lines counted are those written out, each group's as often as its count says.
 pub judged-fine : (s : Script) → Allowed s → scriptJudged (printOn s []) ≡ fineAs (length (linesWritten s))
 judged-fine = reader.judged-fine
-
-pub written-length : (s : Script) (p : ℕ) → writtenIn p s ≡ p * length (linesWritten s)
-written-length = written.written-length
 
 -- 60,001 bytes of a text are enough to judge it: 3,000 lines of 20 bytes, and one byte of the line past them.
 pub cut-judged : (text : List ℕ) → scriptJudged (take 60001 text) ≡ scriptJudged text

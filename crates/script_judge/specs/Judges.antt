@@ -23,6 +23,7 @@ pub data Turn : Type 0 where
   stops : Judged → Turn
   goes : List ℕ → ℕ → Bool → ℕ → ℕ → Turn
 
+-- a turn, and what comes of going on
 abbrev pub follow : Turn → (List ℕ → ℕ → Bool → ℕ → ℕ → Judged) → Judged
 follow (stops r) f = r
 follow (goes K p must t u) f = f K p must t u

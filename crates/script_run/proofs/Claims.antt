@@ -1,7 +1,7 @@
 -- What is claimed of the run of a script, in one place. Assumes nothing.
 use mathlib.Core.Path.{_≡_}
 use mathlib.Core.List.{List, []}
-use Prim.Native.Nat.{ℕ, _≤_}
+use Prim.Native.Nat.{ℕ, _*_, _≤_}
 use lib.ListN.{length, take}
 use Rattle.script_lines.specs.Scripts.{Script, printOn, Allowed, linesWritten, traceOf}
 use Rattle.script_judge.specs.Faults.{FaultAt}
@@ -16,6 +16,10 @@ same-output = sames.same-output
 
 pub same-array : (s : Script) (xs rs : List ℕ) → Allowed s → scriptArray xs rs (printOn s []) ≡ arrayLeft xs rs (traceOf (linesWritten s))
 same-array = sames.same-array
+
+-- That is an answer of eight bytes for each line written out, and no mark.
+pub output-length : (s : Script) (xs rs : List ℕ) → Allowed s → length (scriptOutput xs rs (printOn s [])) ≡ 8 * length (linesWritten s)
+output-length = sames.output-length
 
 -- Any other text prints the mark of its first line at fault, alone, and nothing is run: the array is as it was.
 pub fault-alone : (xs rs text : List ℕ) (i : ℕ) → FaultAt text i → (scriptOutput xs rs text ≡ markOf i) × (scriptArray xs rs text ≡ xs)

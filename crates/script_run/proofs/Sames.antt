@@ -9,6 +9,7 @@ use lib.ListN.{length, take}
 use lib.Seq.{take-all}
 use borrow.Author.Tests.{eq-eqb, eqb-true, eqb-false}
 use Rattle.common.proofs.Choice.{if-true}
+use Rattle.model_types.specs.States.{freshState}
 use Rattle.script_lines.specs.Scripts.{Script, done, line, group, closeBy, printOn, Formed, Allowed, linesIn, writtenIn, linesWritten, traceOf}
 use Rattle.script_judge.specs.declared.Judged.{Judged}
 use Rattle.script_judge.specs.Judges.{scriptJudged}
@@ -20,7 +21,8 @@ use Rattle.trace_replay.specs.Replays.{outputOf, arrayLeft}
 use Rattle.trace_replay.proofs.Claims.{empty-input}
 use Rattle.script_run.specs.Runs.{traceIn, scriptOutput, scriptArray}
 use Rattle.script_run.proofs.Lines.{mark-length}
-use Rattle.script_run.proofs.Wholes.{mark-alone, array-kept, size, few-lines}
+use Rattle.script_run.proofs.Answers.{answers-length}
+use Rattle.script_run.proofs.Wholes.{replayed, mark-alone, array-kept, size, few-lines}
 
 module _ (s : Script) (xs rs : List ℕ) (a : Allowed s) where
   fine : scriptJudged (printOn s []) .fault ≡ 0
@@ -40,6 +42,10 @@ module _ (s : Script) (xs rs : List ℕ) (a : Allowed s) where
   same-array =
       if-true (eqb (scriptJudged (printOn s []) .fault) 0) (arrayLeft xs rs (traceIn (printOn s []))) xs (eq-eqb (scriptJudged (printOn s []) .fault) 0 fine)
       ∙ ap (λ (x : Script). arrayLeft xs rs (traceOf (linesWritten x))) back
+
+  pub output-length : length (scriptOutput xs rs (printOn s [])) ≡ 8 * length (linesWritten s)
+  output-length =
+      ap (λ (y : List ℕ). length y) (same-output ∙ replayed s xs rs a) ∙ answers-length (linesWritten s) freshState xs rs
 
 -- a first line at fault is not line 0
 fault-some : (text : List ℕ) (i : ℕ) → FaultAt text i → i ≡ 0 → ⊥

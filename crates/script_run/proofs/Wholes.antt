@@ -12,10 +12,11 @@ use Rattle.model_types.specs.declared.State.{State}
 use Rattle.model_types.specs.States.{freshState}
 use Rattle.script_lines.specs.Scripts.{Script, printOn, Allowed, linesIn, linesWritten, traceOf}
 use Rattle.script_lines.specs.Inner.{nothing}
+use Rattle.script_lines.proofs.Claims.{written-length}
 use Rattle.script_judge.specs.declared.Judged.{Judged}
 use Rattle.script_judge.specs.Judges.{scriptJudged}
 use Rattle.script_judge.specs.Reads.{scriptIn}
-use Rattle.script_judge.proofs.Claims.{read-printed, judged-fine, written-length}
+use Rattle.script_judge.proofs.Claims.{read-printed, judged-fine}
 use Rattle.trace_replay.specs.declared.Replayed.{Replayed}
 use Rattle.trace_replay.specs.Answers.{markOf}
 use Rattle.trace_replay.specs.Replays.{outputOf, arrayLeft, replayedAs, replayedIn, leftInRoom, Used}
