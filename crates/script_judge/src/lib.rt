@@ -1,11 +1,9 @@
 // A script judged: its first line at fault, or that it is allowed. The reader of a list and the reader of an item call each other.
 use script_lines::Word;
 ghost use mathlib.Core.Path.{_≡_};
-ghost use mathlib.Core.Bool.{false};
-ghost use mathlib.Core.List.{[]};
 ghost use Prim.Native.Nat.{_≤_, _*_};
-ghost use lib.ListN.{length, drop};
-ghost use Rattle.script_judge.specs.Judges.{capped, judge, scriptJudged};
+ghost use lib.ListN.{length};
+ghost use Rattle.script_judge.specs.Judges.{capped, scriptJudged};
 ghost use Rattle.script_judge.specs.Inner.{faultSpot, nextSpot, ItemRead, RestRead, Sound, Ahead};
 
 // The first line at fault, and no lines; or no fault (0), and how many lines are written out.

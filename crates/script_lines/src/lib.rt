@@ -1,8 +1,7 @@
 // The lines of a script: a trace line, a line that opens a group, `( nnn`, and one that closes it, `)`, each with its newline.
 ghost use mathlib.Core.Path.{_≡_};
-ghost use Prim.Native.Nat.{_≤_};
-ghost use lib.ListN.{length, take, drop};
-ghost use Rattle.trace_lines.specs.Lines.{isDigit, isLine, digitOf, fits};
+ghost use lib.ListN.{drop};
+ghost use Rattle.trace_lines.specs.Lines.{isDigit, digitOf, fits};
 ghost use Rattle.script_lines.specs.Words.{openForm, closeForm, isTraced, isOpening, isClosing, countStated, wordIn, isEnds, isCloses};
 
 // What stands at the front of a text: nothing, no line of a script, a trace line, an opening line with its count, a closing line.
