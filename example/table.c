@@ -33,7 +33,7 @@ int main(void) {
         return 1;
     }
     memset(array, 0, size); /* a part that was used before */
-    tb_device device = {.number = PART, .program = 2, .erase = 3};
+    tb_device device = {.number = PART, .program = 2, .erase = 3, .suspend = 1};
     tb_ran ran = tb_load(device, tb_fresh(), TB_RP_HIGH, 12000, BLOCK, LETTER, file, made.length, array, size, wanted, block.length,
                          scratch, block.length);
     printf("load: %llu cycles, end %u\n", (unsigned long long)ran.count, ran.end);

@@ -9,7 +9,7 @@ The load here is written from document 01. It stands on the scripts' own loader 
 on their own writer and reader of a load file (vectors_file.py), and shares nothing with the crates. Every case says beforehand
 how it must end and how many cycles it makes, and the load is held to that.
 
-A case is a name of 24 bytes and 41 numbers of six digits:
+A case is a name of 24 bytes and 42 numbers of six digits:
     0, 1       the file's letter and its payload bytes
     2 to 13    six changes of the file as it was written, place and byte (999999 for none)
     14, 15     how much of it is used, and the letter asked
@@ -19,6 +19,7 @@ A case is a name of 24 bytes and 41 numbers of six digits:
     30 to 35   what they hold: first byte and step of a pattern, for each
     36         where the file lies in the array before the load; 999999 for nowhere
     37 to 40   two bytes of the array, address and byte
+    41         S
 
 A line shows: the name; the end E, its address A and the count N; status, mode and phase S; then for array a, wanted w and scratch s
 a digest, the first byte and the last.
@@ -95,7 +96,7 @@ class Table:
     def __init__(self):
         self.rows, self.lines = [], []
 
-    def case(self, name, end, count=None, about=(), number=3, block=1, times=(2, 3), rp=None, vpp=12000, state=FRESH, lent=(None, None, None),
+    def case(self, name, end, count=None, about=(), number=3, block=1, times=(2, 3), suspend=1, rp=None, vpp=12000, state=FRESH, lent=(None, None, None),
              held=(255, 0), laid=False, spots=()):
         """One load. `about` is the file; `count` is told by the case where the end is not 0, and by the formula where it is."""
         assert len(name) <= NAME, name
@@ -107,15 +108,15 @@ class Table:
         marks = [held, (91, 5), (17, 2)]
         numbers = row[:2] + pairs(changes, 6) + row[13:15] + [number, *times, rp, vpp, block]
         numbers += [ord(state.mode), state.status, ord(state.phase), state.left, state.address]
-        numbers += given + [x for pair in marks for x in pair] + [first if laid else NOWHERE] + pairs(spots, 2)
-        assert len(numbers) == 41 and all(0 <= x <= 999999 for x in numbers)
+        numbers += given + [x for pair in marks for x in pair] + [first if laid else NOWHERE] + pairs(spots, 2) + [suspend]
+        assert len(numbers) == 42 and all(0 <= x <= 999999 for x in numbers)
         self.rows.append(f"{name:{NAME + 1}}" + " ".join(f"{x:06d}" for x in numbers))
         array, wanted, scratch = (sown(*mark, k) for mark, k in zip(marks, given))
         if laid:
             array[first : first + len(data)] = data
         for at, byte in spots:
             array[at] = byte
-        self.lines.append(self.line(name, end, count, Device(number, *times), state, rp, vpp, block, first, array, wanted, scratch, data, row[14]))
+        self.lines.append(self.line(name, end, count, Device(number, *times, suspend), state, rp, vpp, block, first, array, wanted, scratch, data, row[14]))
 
     def line(self, name, end, count, device, state, rp, vpp, block, first, array, wanted, scratch, data, asked):
         """The load, held to what the case says, and its line."""
@@ -177,6 +178,8 @@ def run_refused(t):
         bar(f"1 device {number}", 1, about=bad, number=number)
     bar("1 P 0", 1, about=none, times=(0, 3))
     bar("1 E 0", 1, about=good, times=(2, 0))
+    for suspend in (0, 101, 255):
+        bar(f"1 S {suspend}", 1, about=bad, suspend=suspend)
     for length, about in ((16383, bad), (16385, none), (0, good)):
         bar(f"2 array of {length}", 2, about=about, lent=(length, None, None))
     bar("2 another's array", 2, about=bad, number=1, block=0, lent=(16384, None, None))
@@ -193,6 +196,7 @@ def run_refused(t):
     bar("12 data awaited", 12, about=none, state=State("S", 0xB8, "D", 0, 0, 0))
     bar("12 programming", 12, about=good, state=State("S", 0x00, "P", 0, 2, 16))
     bar("12 erasing", 12, about=bad, state=State("S", 0x00, "E", 0, 3, 0x3A00))
+    bar("12 being suspended", 12, about=good, suspend=100, state=State("S", 0x00, "U", 1, 1, 0))
     bar("12 suspended", 12, about=none, state=State("A", 0xC0, "S", 0, 1, 0))
     bar("4 before 10, 11, 12, 31", 4, about=bad, rp=0, block=9, lent=(None, 1, 2), state=State("S", 0x80, "C", 0, 0, 0))
     bar("10 before 11, 12, 30", 10, about=none, block=9, lent=(None, 1, 2), state=State("S", 0x80, "C", 0, 0, 0))

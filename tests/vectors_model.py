@@ -5,12 +5,12 @@
     python3 tests/vectors_model.py expected     the lines, as in crates/vectors_model/stdout
     python3 tests/vectors_model.py check        whether both files are what the script prints
 
-The model in the first half is written from document 01 alone and shares nothing with the crates: it is the second opinion to
+The model in the first half is written from documents 01 and 02 alone and shares nothing with the crates: it is the second opinion to
 which the program is held. The second half is the list of cases.
 
 A line shows: group and number; the answer (D and a byte, N and two dashes, X and a refusal); the status register; the mode
 (A array, S status, I identifier); the phase (F free, C confirm awaited, D data awaited, P programming and its byte, E erasing,
-S suspended); the cycles to go; the operation's address; a digest of the array that was lent.
+U being suspended and the cycles of that to go, S suspended); the cycles to go; the operation's address; a digest of the array that was lent.
 
 What a row of the table holds is said at ROWS below; what stands from column 40 on is a note to the reader.
 """
@@ -20,8 +20,8 @@ from collections import namedtuple
 
 # ---------------------------------------------------------------- the model
 
-Device = namedtuple("Device", "number program erase")
-State = namedtuple("State", "mode status phase byte left address")
+Device = namedtuple("Device", "number program erase suspend", defaults=(1,))
+State = namedtuple("State", "mode status phase byte left address")  # byte: in phase P the byte, in phase U the cycles to go
 Cycle = namedtuple("Cycle", "kind rp oe vpp address byte")
 
 # Four devices: first and last address of blocks 0 to 3, and the size.
@@ -34,7 +34,7 @@ BLOCKS = {
 SIZE = {1: 131072, 2: 131072, 3: 16384, 4: 16384}
 
 READY, SUSPENDED, ERASE_ERROR, PROGRAM_ERROR, VPP_LOW = 0x80, 0x40, 0x20, 0x10, 0x08
-AWAITING, BUSY, IN_FLIGHT = "CD", "PE", "PES"
+AWAITING, RUNNING, BUSY, IN_FLIGHT = "CD", "PE", "PEU", "PEUS"
 FRESH = State("A", READY, "F", 0, 0, 0)
 
 
@@ -75,6 +75,8 @@ def proper(device, s):
         return False
     if s.phase not in IN_FLIGHT:
         return s.left == 0 and s.address == 0
+    if s.phase == "U" and not 1 <= s.byte <= device.suspend:
+        return False
     most = device.program if s.phase == "P" else device.erase
     return 1 <= s.left <= most and s.address < SIZE[device.number]
 
@@ -115,7 +117,11 @@ def settled(s, c):
     if cut_comes(s, c):
         status = (s.status | READY | VPP_LOW | error_bit(s)) & ~SUSPENDED
         return State("S", status, "F", 0, 0, 0)
-    if s.phase in BUSY:
+    if s.phase == "U":
+        if s.byte == 1:
+            return s._replace(phase="S", byte=0, status=s.status | READY | SUSPENDED)
+        return s._replace(byte=s.byte - 1)
+    if s.phase in RUNNING:
         if s.left == 1:
             return State("S", s.status | READY, "F", 0, 0, 0)
         return s._replace(left=s.left - 1)
@@ -123,8 +129,8 @@ def settled(s, c):
 
 
 def first_write(s, byte):
-    """Writes, nothing awaited or running. None is refusal 7."""
-    if byte == 0xFF:
+    """Writes, nothing awaited, running or suspended. None is refusal 7."""
+    if byte in (0xFF, 0xB0):
         return s._replace(mode="A")
     if byte == 0x90:
         return s._replace(mode="I")
@@ -156,10 +162,10 @@ def second_write(device, s, c):
     return State("S", s.status & ~READY, "P", c.byte, device.program, c.address)
 
 
-def busy_write(s, byte):
-    """While busy."""
+def busy_write(device, s, byte):
+    """While busy. 70H finds the mode that it asks for."""
     if s.phase == "E" and byte == 0xB0:
-        return s._replace(phase="S", status=s.status | READY | SUSPENDED, mode="S")
+        return s._replace(phase="U", byte=device.suspend)
     return s
 
 
@@ -181,7 +187,7 @@ def write(device, s, c):
     if s.phase in AWAITING:
         return second_write(device, s, c)
     if s.phase in BUSY:
-        return busy_write(s, c.byte)
+        return busy_write(device, s, c.byte)
     return suspended_write(s, c.byte)
 
 
@@ -202,7 +208,7 @@ def read(device, s, c, array):
 
 def cycle(device, s, c, array, residue):
     """One bus cycle: the answer and the state after it. The array is changed in place."""
-    if device.number not in BLOCKS or device.program == 0 or device.erase == 0:
+    if device.number not in BLOCKS or device.program == 0 or device.erase == 0 or not 1 <= device.suspend <= 100:
         return ("X", 1), s
     if len(array) != SIZE[device.number]:
         return ("X", 2), s
@@ -229,7 +235,7 @@ def cycle(device, s, c, array, residue):
             return answer, s
     if cut_comes(s, c):
         cut(device, s, array, residue)
-    elif s.phase in BUSY and s.left == 1:
+    elif s.phase in RUNNING and s.left == 1:
         finish(device, s, array)
     return answer, after
 
@@ -240,7 +246,7 @@ ROOM = 131073  # one byte more than the largest array, so that one too many can 
 
 # ROWS. The letters R, W, I run a cycle and print a line; F (fresh) and Z (reset) print a line too; the others prepare.
 #   G name                            the group's four letters
-#   D number program erase array residue     the device, and how much of array and residue is lent
+#   D number program erase suspend array residue     the device, and how much of array and residue is lent
 #   A first step, B first step        fill the array, the residue, as far as they are lent
 #   S status mode phase left address  the state, as a line shows it
 #   R rp oe vpp address byte          the cycle
@@ -261,7 +267,7 @@ def digest(part):
 
 def shown(s):
     """A state as the rows and the lines have it."""
-    phase = f"P{s.byte:02X}" if s.phase == "P" else f"{s.phase}--"
+    phase = f"{s.phase}{s.byte:02X}" if s.phase in "PU" else f"{s.phase}--"
     return f"{s.status:02X} {s.mode} {phase} {s.left:05d} {s.address:08X}"
 
 
@@ -280,12 +286,12 @@ class Bench:
         self.name = name
         self.row(f"G {name}", note)
 
-    def use(self, number, program, erase, array=None, residue=None):
+    def use(self, number, program, erase, array=None, residue=None, suspend=1):
         """Take a device, with an array and a residue of these lengths."""
-        self.device = Device(number, program, erase)
+        self.device = Device(number, program, erase, suspend)
         self.lent = SIZE.get(number, 16384) if array is None else array
         self.rest = SIZE.get(number, 16384) if residue is None else residue
-        self.row(f"D {number:03d} {program:05d} {erase:05d} {self.lent:06d} {self.rest:06d}")
+        self.row(f"D {number:03d} {program:05d} {erase:05d} {suspend:03d} {self.lent:06d} {self.rest:06d}")
 
     def fill(self, first, step):
         self.array[: self.lent] = pattern(first, step)[: self.lent]
@@ -343,9 +349,9 @@ COMMANDS = (0xFF, 0x90, 0x70, 0x50, 0x20, 0x40, 0xD0, 0xB0, 0x00)
 MOST = 4294967295
 
 
-def new_bench(b, number=3, program=2, erase=3):
+def new_bench(b, number=3, program=2, erase=3, suspend=1):
     """A device with both patterns, as most groups begin."""
-    b.use(number, program, erase)
+    b.use(number, program, erase, suspend=suspend)
     b.fill(200, 3)
     b.fill_residue(17, 5)
 
@@ -435,7 +441,7 @@ def last_cycle(b):
         b.put("S", 0x30, "E", 1, 0x3A07)
         b.write(0x3805, byte, f"erase, 1 to go: {byte:02X}H")
     b.put("S", 0x00, "E", 2, 0x3A07)
-    b.write(0x3805, 0xB0, "erase, 2 to go: B0H suspends with 1 to go")
+    b.write(0x3805, 0xB0, "erase, 2 to go: B0H, with 1 to go")
     b.write(0x3805, 0xD0, "resumed with 1 to go")
     b.read(0x3805, "and finished")
 
@@ -523,7 +529,7 @@ def times(b):
     b.read(0x0777)
     b.write(0x0777, 0x20)
     b.write(0x3A00, 0xD0)
-    b.write(0x3A00, 0xB0, "1 to go: B0H is refused, the count stays")
+    b.write(0x3A00, 0xB0, "1 to go: the erase ends, and B0H sets read array")
     b.idle()
     new_bench(b, program=65535, erase=65535)
     b.fresh("P and E 65,535")
@@ -547,6 +553,7 @@ def cuts(b):
         ("program, 1 to go", dict(mode="S", status=0x00, phase="P", left=1, address=0x0011, byte=0x0F)),
         ("erase", dict(mode="S", status=0x10, phase="E", left=3, address=0x3A11)),
         ("erase, 1 to go", dict(mode="S", status=0x00, phase="E", left=1, address=0x3A11)),
+        ("being suspended", dict(mode="S", status=0x20, phase="U", left=2, address=0x3811, byte=1)),
         ("suspended, mode array", dict(mode="A", status=0xC0, phase="S", left=2, address=0x3811)),
         ("suspended, mode status", dict(mode="S", status=0xF0, phase="S", left=3, address=0x3FFF)),
     )
@@ -680,6 +687,82 @@ def suspended(b):
     b.read(0x3A11, "finished")
 
 
+def suspending(b):
+    b.group("hold", "a suspend takes S cycles")
+    new_bench(b, suspend=1)
+    running = dict(mode="S", status=0x00, phase="E", left=3, address=0x3A11)
+    b.put(**running)
+    b.write(0x0000, 0xB0, "S 1: B0H counts off the erase")
+    b.read(0x3A00, "the next cycle reads C0H")
+    for byte in COMMANDS:
+        b.put(**running)
+        b.write(0x0000, 0xB0)
+        b.write(0x3A00, byte, f"S 1: {byte:02X}H in the next cycle is heard as suspended")
+    b.put(**running)
+    b.write(0x0000, 0xB0)
+    b.write(0x3A00, 0xD0, "resumed: this cycle does not count off")
+    b.idle("and the erase goes on, with its own count")
+    b.idle("to its end")
+    new_bench(b, suspend=2)
+    b.put(**running)
+    b.write(0x0000, 0xB0, "S 2")
+    b.write(0x3A00, 0xD0, "D0H in the next cycle is ignored")
+    b.read(0x3A00, "and the suspend still comes")
+    new_bench(b, suspend=3)
+    for byte in COMMANDS:
+        b.put("S", 0x00, "U", 2, 0x3A11, 3)
+        b.write(0x3A00, byte, f"S 3, 3 to go: {byte:02X}H")
+    b.put("S", 0x30, "U", 2, 0x3A11, 3)
+    b.read(0x3A00, "status, with old error bits")
+    b.idle("idle passes the time")
+    b.read(0x4000, "refused 5: no time passes")
+    b.idle("refused 4: no time passes", vpp=9000)
+    b.read(0x3A00, "SR.7 and SR.6 are set before this read")
+    b.put("S", 0x00, "U", 1, 0x3A11, 2)
+    b.write(0x3A00, 0xB0, "the erase with 1 to go stands still")
+    b.write(0x3A00, 0x70, "and is suspended with 1 to go")
+    b.write(0x3A00, 0xD0, "resumed")
+    b.write(0x3A00, 0xB0, "the erase ends, and B0H sets read array")
+    new_bench(b, erase=65535, suspend=100)
+    b.put("S", 0x00, "E", 65535, 0x3A11)
+    b.write(0x3A00, 0xB0, "S 100")
+    b.idle("one of them")
+    b.put("S", 0x00, "U", 65534, 0x3A11, 2)
+    b.read(0x3A11, "the last but one")
+    b.read(0x3A11, "the last")
+    new_bench(b, suspend=3)
+    for left in (3, 1):
+        for how, pins in (("RP#", dict(rp=0)), ("VPP", dict(vpp=6500)), ("both", dict(rp=0, vpp=0))):
+            b.fill(200, 3)
+            b.put("S", 0x10, "U", 2, 0x3A11, left)
+            b.read(0x3A00, f"{left} to go, cut by {how}: SR.6 is never set", **pins)
+    b.fill(200, 3)
+    b.put("S", 0x00, "U", 2, 0x3A11, 1)
+    b.write(0x3A00, 0xB0, "cut by VPP on the last cycle, and B0H: read array", vpp=0)
+    for rest in (511, 512):
+        b.use(3, 2, 3, residue=rest, suspend=3)
+        b.put("S", 0x00, "U", 2, 0x3A11, 1)
+        b.idle(f"a cut, with a residue of {rest}", vpp=0)
+
+
+def suspend_at_rest(b):
+    b.group("none", "B0H with nothing running, suspended or awaited")
+    new_bench(b)
+    for mode in "ASI":
+        b.put(mode, 0xB8, "F")
+        b.write(0x3A00, 0xB0, f"mode {mode}")
+    b.put("S", 0x80, "F")
+    b.write(0x4000, 0xB0, "past the array")
+    b.put("I", 0x80, "F")
+    b.write(0x3A00, 0xB0, "at VPP low", vpp=0)
+    b.put("S", 0x80, "C")
+    b.write(0x3A00, 0xB0, "after 20H a wrong second write")
+    b.put("S", 0x80, "D")
+    b.write(0x0777, 0xB0, "after 40H data")
+    b.put("S", 0x80, "F")
+    b.write(0x3A00, 0xD0, "D0H stays refused")
+
+
 def identifiers(b):
     b.group("iden", "identifier reads")
     for number in (1, 2, 3, 4):
@@ -764,6 +847,20 @@ def improper(b):
     state("awaiting with an address", "S", 0x80, "D", 0, 1)
     b.put("A", 0x00, "F")
     b.write(0, 0xFF, "RP# low does not mend a state", rp=0)
+    new_bench(b, suspend=3)
+    state("being suspended, proper", "S", 0x00, "U", 3, 0x11, 3)
+    state("being suspended, all error bits, proper", "S", 0x38, "U", 1, 0x3FFF, 1)
+    state("being suspended, mode array", "A", 0x00, "U", 3, 0x11, 3)
+    state("being suspended, mode identifier", "I", 0x00, "U", 3, 0x11, 3)
+    state("being suspended with SR.7", "S", 0x80, "U", 3, 0x11, 3)
+    state("being suspended with SR.6", "S", 0x40, "U", 3, 0x11, 3)
+    state("being suspended with SR.7 and SR.6", "S", 0xC0, "U", 3, 0x11, 3)
+    state("being suspended with SR.0", "S", 0x01, "U", 3, 0x11, 3)
+    state("0 cycles of suspend to go", "S", 0x00, "U", 3, 0x11, 0)
+    state("S + 1 cycles of suspend to go", "S", 0x00, "U", 3, 0x11, 4)
+    state("being suspended, 0 to go of the erase", "S", 0x00, "U", 0, 0x11, 3)
+    state("being suspended, E + 1 to go of the erase", "S", 0x00, "U", 4, 0x11, 3)
+    state("being suspended past the array", "S", 0x00, "U", 3, 0x4000, 3)
 
 
 def blocks(b):
@@ -795,6 +892,10 @@ def devices(b):
     for program, erase in ((0, 3), (2, 0), (0, 0)):
         b.use(3, program, erase)
         b.write(0, 0xFF, f"P {program}, E {erase}")
+    for suspend in (0, 1, 100, 101, 255):
+        b.use(3, 2, 3, suspend=suspend)
+        b.put("A", 0x80, "F")
+        b.write(0, 0xFF, f"S {suspend}")
     for number, array in ((3, 0), (3, 16383), (3, 16385), (3, 131072), (1, 16384), (1, 131071), (1, 131073), (2, 131071)):
         b.use(number, 2, 3, array=array)
         b.put("S", 0x00, "E", 1, 0x0011)
@@ -827,7 +928,7 @@ def all_cases():
     b = Bench()
     for part in (cards, commands, last_cycle, modes, bands, locks, barred, times, cuts, together, order, rp_low, past):
         part(b)
-    for part in (suspended, identifiers, residues, improper, blocks, devices, levels):
+    for part in (suspended, suspending, suspend_at_rest, identifiers, residues, improper, blocks, devices, levels):
         part(b)
     return b
 

@@ -87,7 +87,7 @@ def loader_number(number, rp, vpp, block, wanted, scratch):
 
 def run_number(device, state, rp, vpp, block, array, wanted, scratch):
     """The refusals of a run, 0 for none."""
-    if device.number not in BLOCKS or device.program == 0 or device.erase == 0:
+    if device.number not in BLOCKS or device.program == 0 or device.erase == 0 or not 1 <= device.suspend <= 100:
         return 1
     if len(array) != SIZE[device.number]:
         return 2
@@ -151,7 +151,7 @@ class Stepped:
 
 # ROWS. R makes a run, Q starts the stepped loader, N steps it; these print a line. The others prepare.
 #   G name                                    the group's four letters
-#   D number program erase array wanted scratch     the device, and how much of each slice is lent
+#   D number program erase suspend array wanted scratch     the device, and how much of each slice is lent
 #   L rp vpp block                            the levels and the block
 #   S status mode phase left address, F       the state; a fresh one
 #   A first step, W first step, C first step  fill the array, wanted, scratch, as far as they are lent
@@ -178,9 +178,9 @@ class Bench:
         self.name = name
         self.row(f"G {name}", note)
 
-    def use(self, number, program, erase, array, wanted, scratch):
-        self.device, self.lent = Device(number, program, erase), (array, wanted, scratch)
-        self.row(f"D {number:03d} {program:05d} {erase:05d} {array:06d} {wanted:06d} {scratch:06d}")
+    def use(self, number, program, erase, array, wanted, scratch, suspend=1):
+        self.device, self.lent = Device(number, program, erase, suspend), (array, wanted, scratch)
+        self.row(f"D {number:03d} {program:05d} {erase:05d} {suspend:03d} {array:06d} {wanted:06d} {scratch:06d}")
 
     def fit(self, number, block, program=2, erase=3, rp=None, vpp=12000):
         """A device and a block of it, with lengths that fit; RP# as the block needs it."""
@@ -357,6 +357,9 @@ def refusals(b):
     for number, program, erase in ((0, 2, 3), (5, 2, 3), (255, 2, 3), (3, 0, 3), (3, 2, 0)):
         b.use(number, program, erase, 16384, 512, 512)
         b.run("1", (1, 0))
+    for suspend in (0, 101, 255):
+        b.use(3, 2, 3, 16384, 512, 512, suspend)
+        b.run("1", (1, 0))
     for array in (16383, 16385, 0):
         b.use(3, 2, 3, array, 512, 512)
         b.run("2", (2, 0))
@@ -379,6 +382,12 @@ def refusals(b):
     for mode, status, phase, left, address in (("S", 0x80, "C", 0, 0), ("S", 0x80, "D", 0, 0), ("S", 0x00, "P", 1, 16), ("S", 0x00, "E", 3, 16), ("A", 0xC0, "S", 2, 16)):
         b.put(mode, status, phase, left, address)
         b.run("12", (12, 0))
+    b.use(3, 2, 3, 16384, 512, 512, 100)
+    b.put("S", 0x00, "U", 2, 16, 100)
+    b.run("12, being suspended", (12, 0))
+    b.put("S", 0x00, "U", 2, 16, 101)
+    b.run("3, its count wrong", (3, 0))
+    b.put("A", 0xC0, "S", 2, 16)
     b.levels(0, 12000, 4)
     b.run("4 before 10 and 12", (4, 0))
     b.use(9, 0, 3, 7, 1, 2)

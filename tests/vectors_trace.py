@@ -98,7 +98,7 @@ R 1 0 12000 3FFF 00  the last address, and the first past it
 R 1 0 12000 4000 00
 W 1 0 12000 FFFF FF
 I 1 0 12000 FFFF 00
-W 1 0 12000 0000 D0  no command: D0H and B0H with nothing awaited
+W 1 0 12000 0000 D0  with nothing awaited D0H is no command, and B0H sets read array
 W 1 0 12000 0000 B0
 W 1 0 12000 0000 90  identifier
 R 1 0 12000 0000 00

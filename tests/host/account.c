@@ -69,7 +69,7 @@ int closing(uint64_t seed, bool verbose) {
     static const uint8_t up[12] = {0, 1, 2, 3, 4, 5, 6, 7, 8, 9, 10, 11};
     for (int g = 0; g < GROUPS; g++)
         line(verbose, wanted[g].name, numbers[g], wanted[g].can, wanted[g].n);
-    line(verbose, "phase", phases, up, 6);
+    line(verbose, "phase", phases, up, 7);
     line(verbose, "stage", stages, up, 12);
     if (missing != 0)
         return 1;

@@ -6,7 +6,7 @@
 #include "cases.h"
 
 static uint8_t array[16384], residue[16384], wanted[1024], scratch[1024];
-static tb_device device = {3, 2, 3};
+static tb_device device = {3, 2, 3, 1};
 static tb_state state;
 static tb_answer last;
 
@@ -85,10 +85,18 @@ static void erases(void) {
     fresh(0x00);
     operate(0x20, 0xD0, 0x3C00, 2, 12000, 3);
     card(6, state.status == 0x80 && all(0x3C00, 0x400, 0xFF) && all(0, 0x3C00, 0x00));
-    fresh(0x00);
-    operate(0x20, 0xD0, 0x3A00, 1, 12000, 0);
-    cycle(TB_CYCLE_WRITE, 1, 12000, 0, 0xB0);
-    card(7, state.status == 0xC0);
+    for (device.suspend = 1; device.suspend <= 100; device.suspend++) {
+        fresh(0x00);
+        operate(0x20, 0xD0, 0x3A00, 1, 12000, 0);
+        cycle(TB_CYCLE_WRITE, 1, 12000, 0, 0xB0);
+        for (int i = 1; i < device.suspend; i++) {
+            cycle(TB_CYCLE_READ, 1, 12000, 0, 0);
+            card(7, last.value == 0x00 && state.status == 0x00);
+        }
+        cycle(TB_CYCLE_READ, 1, 12000, 0, 0);
+        card(7, last.value == 0xC0 && state.status == 0xC0);
+    }
+    device.suspend = 1;
     fresh(0x00);
     cycle(TB_CYCLE_WRITE, 1, 12000, 0x3A00, 0x20);
     cycle(TB_CYCLE_WRITE, 1, 12000, 0x3800, 0xD0);

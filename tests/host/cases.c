@@ -111,7 +111,13 @@ static uint16_t some_time(void) {
     return (uint16_t)ONE_OF(0, 1, 7, 300, 65534, 65535);
 }
 
-tb_device some_device(void) { return (tb_device){some_part(), some_time(), some_time()}; }
+static uint8_t some_suspend(void) {
+    if (chance(90))
+        return (uint8_t)(1 + below(4));
+    return (uint8_t)ONE_OF(0, 1, 99, 100, 100, 101, 255);
+}
+
+tb_device some_device(void) { return (tb_device){some_part(), some_time(), some_time(), some_suspend()}; }
 
 uint32_t some_vpp(uint32_t rough) {
     if (!chance(rough))
@@ -139,7 +145,7 @@ uint32_t some_address(uint8_t part) {
 
 static tb_state proper_state(tb_device d) {
     uint8_t part = real_part(d.number);
-    tb_state s = {.phase = (uint8_t)below(6), .mode = TB_MODE_STATUS, .status = (uint8_t)(below(8) << 3)};
+    tb_state s = {.phase = (uint8_t)below(7), .mode = TB_MODE_STATUS, .status = (uint8_t)(below(8) << 3)};
     if (s.phase == TB_FREE)
         s.mode = (uint8_t)below(3);
     if (s.phase == TB_SUSPENDED)
@@ -154,6 +160,7 @@ static tb_state proper_state(tb_device d) {
     s.left = (uint16_t)(most == 0 ? 1 : chance(50) ? 1 + below(most) : ONE_OF(1, most));
     s.address = some_address(part) % c_size(part);
     s.byte = s.phase == TB_PROGRAMMING ? (uint8_t)any32() : 0;
+    s.suspend = s.phase == TB_SUSPENDING ? (uint8_t)(d.suspend == 0 ? 1 : chance(50) ? 1 + below(d.suspend) : ONE_OF(1, d.suspend)) : 0;
     return s;
 }
 
@@ -162,17 +169,18 @@ tb_state some_state(tb_device d) {
     tb_state s = proper_state(d);
     if (chance(75))
         return s;
-    switch (below(9)) {
+    switch (below(10)) {
     case 0: s.mode = (uint8_t)(chance(70) ? below(4) : any32()); break;
     case 1: s.status ^= (uint8_t)(1u << below(8)); break;
-    case 2: s.phase = (uint8_t)(chance(70) ? below(7) : any32()); break;
+    case 2: s.phase = (uint8_t)(chance(70) ? below(8) : any32()); break;
     case 3: s.byte = (uint8_t)any32(); break;
     case 4: s.left = (uint16_t)ONE_OF(0, 1, d.program, d.erase, (d.program + 1) & 0xFFFF, (d.erase + 1) & 0xFFFF, 65535); break;
     case 5: s.address = some_address(d.number); break;
     case 6: s.left = 0; break;
     case 7: s.status = (uint8_t)any32(); break;
+    case 8: s.suspend = (uint8_t)ONE_OF(0, 1, d.suspend, d.suspend + 1, any32()); break;
     default:
-        s = (tb_state){(uint8_t)any32(), (uint8_t)any32(), (uint8_t)any32(), (uint8_t)any32(), (uint16_t)any32(), any32()};
+        s = (tb_state){(uint8_t)any32(), (uint8_t)any32(), (uint8_t)any32(), (uint8_t)any32(), (uint16_t)any32(), (uint8_t)any32(), any32()};
     }
     return s;
 }
@@ -181,14 +189,14 @@ tb_state some_state(tb_device d) {
 
 bool same_state(tb_state a, tb_state b) {
     return a.mode == b.mode && a.status == b.status && a.phase == b.phase && a.byte == b.byte && a.left == b.left &&
-           a.address == b.address;
+           a.suspend == b.suspend && a.address == b.address;
 }
 
-void tell_device(tb_device d) { printf("  device %u, P %u, E %u\n", d.number, d.program, d.erase); }
+void tell_device(tb_device d) { printf("  device %u, P %u, E %u, S %u\n", d.number, d.program, d.erase, d.suspend); }
 
 void tell_state(const char *name, tb_state s) {
-    printf("  %s: mode %u, status %02X, phase %u, byte %02X, left %u, address %lX\n", name, s.mode, s.status, s.phase, s.byte,
-           s.left, (unsigned long)s.address);
+    printf("  %s: mode %u, status %02X, phase %u, byte %02X, left %u, suspend %u, address %lX\n", name, s.mode, s.status, s.phase,
+           s.byte, s.left, s.suspend, (unsigned long)s.address);
 }
 
 void tell_bus(tb_bus c) {

@@ -46,9 +46,10 @@ static uint8_t next_byte(uint8_t phase, uint32_t rough) {
     case TB_ERASE_AWAITED: return chance(85) ? 0xD0 : some_byte();
     case TB_DATA_AWAITED: return (uint8_t)(chance(20) ? 0xFF : any32());
     case TB_ERASING: return chance(60) ? 0xB0 : some_byte();
+    case TB_SUSPENDING: return (uint8_t)ONE_OF(0xD0, 0xFF, 0x70, 0xB0, some_byte());
     case TB_SUSPENDED: return (uint8_t)ONE_OF(0xD0, 0xD0, 0xFF, 0x70, some_byte());
     }
-    return (uint8_t)ONE_OF(0x20, 0x20, 0x40, 0x40, 0x50, 0xFF, 0x70, 0x90);
+    return (uint8_t)ONE_OF(0x20, 0x20, 0x40, 0x40, 0x50, 0xFF, 0x70, 0x90, 0xB0);
 }
 
 static void next_bus(uint32_t rough, uint32_t home) {

@@ -76,7 +76,12 @@ slips='1:a program stores its data without AND
 9:a place at the end of the block is no refusal
 10:the padding is not judged
 11:a load is judged by SR.7 alone
-12:wanted is filled before the letter asked is judged'
+12:wanted is filled before the letter asked is judged
+13:a suspend takes S + 1 cycles
+14:an erase counts on while it is being suspended
+15:SR.6 is not yet set on the last cycle of a suspend
+16:B0H at rest is refused
+17:S over 100 is let in'
 noticed=0
 while IFS=: read -r number slip; do
     build "$out/broken" "$number"
@@ -87,4 +92,4 @@ while IFS=: read -r number slip; do
     noticed=$((noticed + 1))
     printf 'noticed: %s\n' "$slip"
 done <<<"$slips"
-printf 'tests from C: no mismatch, and %s of 12 slips noticed\n' "$noticed"
+printf 'tests from C: no mismatch, and %s of 17 slips noticed\n' "$noticed"

@@ -12,7 +12,7 @@ static inline bool residue_short(const part_rules *p, const tb_state *s, const t
 }
 
 static inline uint8_t refused(const tb_device *d, const tb_state *s, const tb_bus *b, size_t array, size_t residue) {
-    if (!known(d->number) || d->program == 0 || d->erase == 0)
+    if (!known(d->number) || d->program == 0 || d->erase == 0 || d->suspend - 1u >= (SLIP(17) ? 255 : 100))
         return TB_NO_DEVICE;
     const part_rules *p = &second_parts[d->number];
     if (array != p->size)

@@ -17,17 +17,19 @@ typedef struct {
     const uint8_t *residue;
 } second_chip;
 
-/* The phases with an operation, running or suspended, are the last three. */
+/* The phases with an operation, running, suspended or being suspended, are the last four. */
 static inline bool pending(uint8_t phase) { return phase >= TB_PROGRAMMING; }
 
 /* Whether a state is proper on a device. */
 static inline bool proper(const part_rules *p, const tb_device *d, const tb_state *s) {
     if (!pending(s->phase)) {
-        if ((s->status & (SR7 | SR6 | 7)) != SR7 || s->byte != 0 || s->left != 0 || s->address != 0)
+        if ((s->status & (SR7 | SR6 | 7)) != SR7 || s->byte != 0 || s->suspend != 0 || s->left != 0 || s->address != 0)
             return false;
         return s->phase == TB_FREE ? s->mode <= TB_MODE_IDENTIFIER : s->mode == TB_MODE_STATUS;
     }
-    if (s->phase > TB_SUSPENDED || (s->status & 7) != 0 || s->address >= p->size || s->left == 0)
+    if (s->phase > TB_SUSPENDING || (s->status & 7) != 0 || s->address >= p->size || s->left == 0)
+        return false;
+    if (s->phase == TB_SUSPENDING ? s->suspend - 1u >= d->suspend : s->suspend != 0)
         return false;
     if (s->phase == TB_SUSPENDED)
         return s->mode <= TB_MODE_STATUS && s->status >> 6 == 3 && s->byte == 0 && s->left <= d->erase;
@@ -41,6 +43,7 @@ static inline void rest(tb_state *s) {
     s->phase = TB_FREE;
     s->byte = 0;
     s->left = 0;
+    s->suspend = 0;
     s->address = 0;
 }
 
@@ -61,13 +64,28 @@ static inline void touch(const second_chip *c, effect what, const tb_state *s) {
         memset(block, 0xFF, c->part->block[k].length);
 }
 
-/* Steps 2 and 3, for an operation running or suspended. */
+/* One cycle of a suspend passes; the erase stands still. */
+static inline void hold(tb_state *s) {
+    if (SLIP(14) && s->left > 1)
+        s->left--;
+    if (s->suspend-- != (SLIP(13) ? 0 : 1))
+        return;
+    s->suspend = 0;
+    s->phase = TB_SUSPENDED;
+    s->status |= SR7 | (SLIP(15) ? 0 : SR6);
+}
+
+/* Steps 2 and 3, for an operation running, suspended or being suspended. */
 static inline effect settle(tb_state *s, uint32_t vpp) {
-    if (vpp_low(vpp) && !(SLIP(3) && s->phase != TB_SUSPENDED && s->left == 1)) {
+    if (vpp_low(vpp) && !(SLIP(3) && s->phase < TB_SUSPENDED && s->left == 1)) {
         s->status = (s->status & ~SR6) | SR7 | SR3 | (s->phase == TB_PROGRAMMING ? SR4 : SR5);
         s->mode = TB_MODE_STATUS;
         rest(s);
         return CUT;
+    }
+    if (s->phase == TB_SUSPENDING) {
+        hold(s);
+        return STAYS;
     }
     if (s->phase == TB_SUSPENDED || --s->left != 0)
         return STAYS;
@@ -92,9 +110,13 @@ static inline uint8_t respond(const second_chip *c, const tb_state *s, uint32_t 
     return TB_OK;
 }
 
-/* A write with nothing awaited or running: 0 or 7. */
+/* A write with nothing awaited, running or suspended: 0 or 7. */
 static inline uint8_t command(tb_state *s, uint8_t byte) {
     switch (byte) {
+    case 0xB0:
+        if (SLIP(16))
+            break;
+        /* fall through */
     case 0xFF: s->mode = TB_MODE_ARRAY; return TB_OK;
     case 0x90: s->mode = TB_MODE_IDENTIFIER; return TB_OK;
     case 0x70: s->mode = TB_MODE_STATUS; return TB_OK;
@@ -153,11 +175,11 @@ static inline uint8_t written(const second_chip *c, tb_state *s, const tb_bus *b
         break;
     case TB_ERASING:
         if (b->byte == 0xB0)
-            s->phase = TB_SUSPENDED, s->status |= SR7 | SR6;
+            s->phase = TB_SUSPENDING, s->suspend = c->device.suspend;
         break;
     case TB_SUSPENDED: suspended_write(s, b->byte); break;
     }
-    return TB_OK; /* a program ignores all writes */
+    return TB_OK; /* a program ignores all writes, and so does a suspend under way: 70H finds its mode set */
 }
 
 /* A cycle with RP# not low that refusals 1 to 6 let pass: 0, and a read's byte in *value; or 7 to 9, and all is as it was. */

@@ -72,7 +72,7 @@ static uint8_t drive(bench *b, uint32_t first, const uint8_t *wanted, uint8_t *s
 /* 1 to 4 and 10 to 12. */
 static uint8_t refused(tb_device d, tb_state s, uint8_t rp, uint32_t vpp, uint8_t block, size_t array, size_t wanted,
                        size_t scratch) {
-    if (!known(d.number) || d.program == 0 || d.erase == 0)
+    if (!known(d.number) || d.program == 0 || d.erase == 0 || d.suspend - 1u >= 100)
         return TB_NO_DEVICE;
     const part_rules *p = &second_parts[d.number];
     if (array != p->size)

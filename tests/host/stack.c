@@ -15,7 +15,7 @@ enum { ROOM = 65536, PAINT = 0xC7, CALLER = 96 };
 
 static _Alignas(64) uint8_t painted[ROOM];
 static uint8_t array[131072], residue[131072], wanted[512], scratch[512], payload[4040], file[4096];
-static const tb_device device = {TB_BENCH_T, 2, 3}, large = {TB_28F001BX_T, 1, 1};
+static const tb_device device = {TB_BENCH_T, 2, 3, 1}, large = {TB_28F001BX_T, 1, 1, 1};
 static tb_state state;
 static tb_loader loader;
 static tb_bus bus;
@@ -64,7 +64,7 @@ static void measure(void (*call)(void)) {
 static void cycles_of_an_erase(void) {
     for (unsigned k = 0; k < 18; k++) {
         bus = (tb_bus){(uint8_t)(k % 3), (uint8_t)(k / 3 % 3), 0, 0xB0, k < 9 ? 0 : 12000, 0x10};
-        state = (tb_state){TB_MODE_STATUS, 0, TB_ERASING, 0, 1, 0x10};
+        state = (tb_state){TB_MODE_STATUS, 0, TB_ERASING, 0, 1, 0, 0x10};
         measure(cycle);
     }
 }

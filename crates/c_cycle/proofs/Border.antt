@@ -14,11 +14,12 @@ use Rattle.model_types.specs.declared.Cycle.{Cycle}
 use Rattle.model_types.specs.declared.Mode.{Mode}
 use Rattle.model_types.specs.declared.Mode.the-variants.{Array, Status, Identifier}
 use Rattle.model_types.specs.declared.Phase.{Phase}
-use Rattle.model_types.specs.declared.Phase.the-variants.{Free, EraseAwaited, DataAwaited, Programming, Erasing, Suspended}
+use Rattle.model_types.specs.declared.Phase.the-variants.{Free, EraseAwaited, DataAwaited, Programming, Erasing, Suspending, Suspended}
 use Rattle.model_types.specs.declared.State.{State}
 use Rattle.model_types.specs.States.{atRest, freshState, proper, improper}
+use Rattle.model_types.specs.Phases.{suspendLeft}
 use Rattle.model_types.specs.Levels.{badPins, badOe, badLevels}
-use Rattle.c_cycle.specs.Values.{modeIn, modeOut, phaseIn, phaseOut, byteOut, noState, stateIn, stateOut, kindIn, kindOut, oeIn, cycleIn, cycleOut}
+use Rattle.c_cycle.specs.Values.{modeIn, modeOut, phaseIn, phaseOut, byteOut, strayByte, straySuspend, noState, stateIn, stateOut, kindIn, kindOut, oeIn, cycleIn, cycleOut}
 use Rattle.c_cycle.specs.Answers.{stateBack}
 use Rattle.c_cycle.specs.declared.StateNumbers.{StateNumbers}
 use Rattle.c_cycle.specs.declared.BusNumbers.{BusNumbers}
@@ -35,13 +36,14 @@ mode-back Array = refl
 mode-back Status = refl
 mode-back Identifier = refl
 
-phase-back : (p : Phase) → phaseIn (phaseOut p) (byteOut p) ≡ p
+phase-back : (p : Phase) → phaseIn (phaseOut p) (byteOut p) (suspendLeft p) ≡ p
 unfolding phaseIn
 phase-back Free = refl
 phase-back EraseAwaited = refl
 phase-back DataAwaited = refl
 phase-back (Programming b) = refl
 phase-back Erasing = refl
+phase-back (Suspending n) = refl
 phase-back Suspended = refl
 
 kind-back : (k : Kind) → kindIn (kindOut k) ≡ k
@@ -58,7 +60,7 @@ oe-back Idle oe = refl
 
 -- the numbers of a state stand for one, those of a record for one
 pub out-state : (s : State) → noState (stateOut s) ≡ false
-unfolding noState
+unfolding noState strayByte straySuspend
 out-state s = by-phase (s .phase) (ltb 2 (modeOut (s .mode))) (mode-low (s .mode))
   where
     mode-low : (m : Mode) → ltb 2 (modeOut m) ≡ false
@@ -66,12 +68,14 @@ out-state s = by-phase (s .phase) (ltb 2 (modeOut (s .mode))) (mode-low (s .mode
     mode-low Status = refl
     mode-low Identifier = refl
 
-    by-phase : (p : Phase) (t : Bool) → t ≡ false → ((t || ltb 5 (phaseOut p)) || (not (eqb (byteOut p) 0) && not (eqb (phaseOut p) 3))) ≡ false
+    by-phase : (p : Phase) (t : Bool) → t ≡ false
+        → (((t || ltb 6 (phaseOut p)) || (not (eqb (byteOut p) 0) && not (eqb (phaseOut p) 3))) || (not (eqb (suspendLeft p) 0) && not (eqb (phaseOut p) 6))) ≡ false
     by-phase Free t e = rw e refl
     by-phase EraseAwaited t e = rw e refl
     by-phase DataAwaited t e = rw e refl
-    by-phase (Programming b) t e = rw e (and-none (not (eqb b 0)))
+    by-phase (Programming b) t e = rw e (ap (λ (x : Bool). x || false) (and-none (not (eqb b 0))))
     by-phase Erasing t e = rw e refl
+    by-phase (Suspending n) t e = rw e (and-none (not (eqb n 0)))
     by-phase Suspended t e = rw e refl
 
 -- out and in again: state, cycle, record
@@ -96,15 +100,16 @@ mode-number (suc zero) h = refl
 mode-number (suc (suc zero)) h = refl
 mode-number (suc (suc (suc k))) h = absurd (omega arith)
 
-phase-number : (n b : ℕ) → n ≤ 5 → phaseOut (phaseIn n b) ≡ n
+phase-number : (n b u : ℕ) → n ≤ 6 → phaseOut (phaseIn n b u) ≡ n
 unfolding phaseIn
-phase-number zero b h = refl
-phase-number (suc zero) b h = refl
-phase-number (suc (suc zero)) b h = refl
-phase-number (suc (suc (suc zero))) b h = refl
-phase-number (suc (suc (suc (suc zero)))) b h = refl
-phase-number (suc (suc (suc (suc (suc zero))))) b h = refl
-phase-number (suc (suc (suc (suc (suc (suc k)))))) b h = absurd (omega arith)
+phase-number zero b u h = refl
+phase-number (suc zero) b u h = refl
+phase-number (suc (suc zero)) b u h = refl
+phase-number (suc (suc (suc zero))) b u h = refl
+phase-number (suc (suc (suc (suc zero)))) b u h = refl
+phase-number (suc (suc (suc (suc (suc zero))))) b u h = refl
+phase-number (suc (suc (suc (suc (suc (suc zero)))))) b u h = refl
+phase-number (suc (suc (suc (suc (suc (suc (suc k))))))) b u h = absurd (omega arith)
 
 -- no byte, where none may be
 pub plain-byte : (b : ℕ) → (not (eqb b 0) && true) ≡ false → b ≡ 0
@@ -114,15 +119,27 @@ plain-byte b e = go (eqb b 0) refl e
     go true q e = eqb-true b 0 q
     go false q e = absurd (let z : _≡_ {A = ℕ} 0 1 = cc in omega arith)
 
-byte-number : (n b : ℕ) → n ≤ 5 → (not (eqb b 0) && not (eqb n 3)) ≡ false → byteOut (phaseIn n b) ≡ b
+byte-number : (n b u : ℕ) → n ≤ 6 → (not (eqb b 0) && not (eqb n 3)) ≡ false → byteOut (phaseIn n b u) ≡ b
 unfolding phaseIn
-byte-number zero b h e = sym (plain-byte b e)
-byte-number (suc zero) b h e = sym (plain-byte b e)
-byte-number (suc (suc zero)) b h e = sym (plain-byte b e)
-byte-number (suc (suc (suc zero))) b h e = refl
-byte-number (suc (suc (suc (suc zero)))) b h e = sym (plain-byte b e)
-byte-number (suc (suc (suc (suc (suc zero))))) b h e = sym (plain-byte b e)
-byte-number (suc (suc (suc (suc (suc (suc k)))))) b h e = absurd (omega arith)
+byte-number zero b u h e = sym (plain-byte b e)
+byte-number (suc zero) b u h e = sym (plain-byte b e)
+byte-number (suc (suc zero)) b u h e = sym (plain-byte b e)
+byte-number (suc (suc (suc zero))) b u h e = refl
+byte-number (suc (suc (suc (suc zero)))) b u h e = sym (plain-byte b e)
+byte-number (suc (suc (suc (suc (suc zero))))) b u h e = sym (plain-byte b e)
+byte-number (suc (suc (suc (suc (suc (suc zero)))))) b u h e = sym (plain-byte b e)
+byte-number (suc (suc (suc (suc (suc (suc (suc k))))))) b u h e = absurd (omega arith)
+
+suspend-number : (n b u : ℕ) → n ≤ 6 → (not (eqb u 0) && not (eqb n 6)) ≡ false → suspendLeft (phaseIn n b u) ≡ u
+unfolding phaseIn
+suspend-number zero b u h e = sym (plain-byte u e)
+suspend-number (suc zero) b u h e = sym (plain-byte u e)
+suspend-number (suc (suc zero)) b u h e = sym (plain-byte u e)
+suspend-number (suc (suc (suc zero))) b u h e = sym (plain-byte u e)
+suspend-number (suc (suc (suc (suc zero)))) b u h e = sym (plain-byte u e)
+suspend-number (suc (suc (suc (suc (suc zero))))) b u h e = sym (plain-byte u e)
+suspend-number (suc (suc (suc (suc (suc (suc zero)))))) b u h e = refl
+suspend-number (suc (suc (suc (suc (suc (suc (suc k))))))) b u h e = absurd (omega arith)
 
 kind-number : (n : ℕ) → n ≤ 2 → kindOut (kindIn n) ≡ n
 unfolding kindIn
@@ -133,15 +150,19 @@ kind-number (suc (suc (suc k))) h = absurd (omega arith)
 
 -- in and out again: state, cycle, record
 pub state-numbers : (n : StateNumbers) → noState n ≡ false → stateOut (stateIn n) ≡ n
-unfolding stateIn noState
+unfolding stateIn noState strayByte straySuspend
 state-numbers n e =
-    let both = or-left (ltb 2 (n .mode) || ltb 5 (n .phase)) _ e in
-    let low : n .mode ≤ 2 = ltb-false 2 (n .mode) (or-left (ltb 2 (n .mode)) _ both) in
-    let least : n .phase ≤ 5 = ltb-false 5 (n .phase) (or-right (ltb 2 (n .mode)) (ltb 5 (n .phase)) both) in
+    let both = ltb 2 (n .mode) || ltb 6 (n .phase) in
+    let bare = strayByte n in
+    let rest : (both || bare) ≡ false = or-left (both || bare) (straySuspend n) e in
+    let low : n .mode ≤ 2 = ltb-false 2 (n .mode) (or-left (ltb 2 (n .mode)) (ltb 6 (n .phase)) (or-left both bare rest)) in
+    let least : n .phase ≤ 6 = ltb-false 6 (n .phase) (or-right (ltb 2 (n .mode)) (ltb 6 (n .phase)) (or-left both bare rest)) in
     let m = mode-number (n .mode) low in
-    let p = phase-number (n .phase) (n .byte) least in
-    let b = byte-number (n .phase) (n .byte) least (or-right (ltb 2 (n .mode) || ltb 5 (n .phase)) _ e) in
-    ap (λ (s : State). stateOut s) (if-false (noState n) _ _ e) ∙ (λ i. record { mode = m i; status = n .status; phase = p i; byte = b i; left = n .left; address = n .address })
+    let p = phase-number (n .phase) (n .byte) (n .suspend) least in
+    let b = byte-number (n .phase) (n .byte) (n .suspend) least (or-right both bare rest) in
+    let u = suspend-number (n .phase) (n .byte) (n .suspend) least (or-right (both || bare) (straySuspend n) e) in
+    ap (λ (s : State). stateOut s) (if-false (noState n) _ _ e)
+    ∙ (λ i. record { mode = m i; status = n .status; phase = p i; byte = b i; left = n .left; suspend = u i; address = n .address })
 
 pub cycle-numbers : (n : BusNumbers) → ltb 2 (n .kind) ≡ false → cycleOut (cycleIn n) ≡ n
 unfolding oeIn

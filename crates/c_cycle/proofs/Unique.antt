@@ -22,8 +22,8 @@ device-in-unique n = only (deviceIn n)
 pub pins-in-unique : (rp : ℕ) (vpp : ℕ) → Unique (λ (r : Pins). r ≡ pinsIn rp vpp)
 pins-in-unique rp vpp = only (pinsIn rp vpp)
 
-pub phase-in-unique : (n byte : ℕ) → Unique (λ (r : Phase). r ≡ phaseIn n byte)
-phase-in-unique n byte = only (phaseIn n byte)
+pub phase-in-unique : (n byte suspend : ℕ) → Unique (λ (r : Phase). r ≡ phaseIn n byte suspend)
+phase-in-unique n byte suspend = only (phaseIn n byte suspend)
 
 pub state-in-unique : (n : StateNumbers) → Unique (λ (r : State). r ≡ stateIn n)
 state-in-unique n = only (stateIn n)

@@ -11,20 +11,21 @@ use Rattle.model_types.specs.declared.Cycle.{Cycle}
 use Rattle.model_types.specs.declared.Mode.{Mode}
 use Rattle.model_types.specs.declared.Mode.the-variants.{Array, Status, Identifier}
 use Rattle.model_types.specs.declared.Phase.{Phase}
-use Rattle.model_types.specs.declared.Phase.the-variants.{Free, EraseAwaited, DataAwaited, Programming, Erasing, Suspended}
+use Rattle.model_types.specs.declared.Phase.the-variants.{Free, EraseAwaited, DataAwaited, Programming, Erasing, Suspending, Suspended}
 use Rattle.model_types.specs.declared.State.{State}
+use Rattle.model_types.specs.Phases.{suspendLeft}
 use Rattle.model_types.specs.States.{atRest, freshState}
 use Rattle.c_cycle.specs.declared.DeviceNumbers.{DeviceNumbers}
 use Rattle.c_cycle.specs.declared.StateNumbers.{StateNumbers}
 use Rattle.c_cycle.specs.declared.BusNumbers.{BusNumbers}
 
--- the device that three numbers name
+-- the device that four numbers name
 abbrev pub deviceIn : DeviceNumbers → Device
-deviceIn n = record { part = record { number = n .number }; program = n .program; erase = n .erase }
+deviceIn n = record { part = record { number = n .number }; program = n .program; erase = n .erase; suspend = n .suspend }
 
 -- a device's numbers
 abbrev pub deviceOut : Device → DeviceNumbers
-deviceOut d = record { number = d .part .number; program = d .program; erase = d .erase }
+deviceOut d = record { number = d .part .number; program = d .program; erase = d .erase; suspend = d .suspend }
 
 -- the levels that a run keeps fixed
 abbrev pub pinsIn : ℕ → ℕ → Pins
@@ -42,15 +43,16 @@ modeOut Array = 0
 modeOut Status = 1
 modeOut Identifier = 2
 
--- phases: 0 free, 1 confirm awaited, 2 data awaited, 3 programming a byte, 4 erasing, 5 suspended
-unfoldable pub phaseIn : ℕ → ℕ → Phase
-phaseIn n byte =
+-- phases: 0 free, 1 confirm awaited, 2 data awaited, 3 programming a byte, 4 erasing, 5 suspended, 6 being suspended
+unfoldable pub phaseIn : ℕ → ℕ → ℕ → Phase
+phaseIn n byte suspend =
     if eqb n 0 then Free
     else if eqb n 1 then EraseAwaited
     else if eqb n 2 then DataAwaited
     else if eqb n 3 then Programming byte
     else if eqb n 4 then Erasing
-    else Suspended
+    else if eqb n 5 then Suspended
+    else Suspending suspend
 
 abbrev pub phaseOut : Phase → ℕ
 phaseOut Free = 0
@@ -58,6 +60,7 @@ phaseOut EraseAwaited = 1
 phaseOut DataAwaited = 2
 phaseOut (Programming byte) = 3
 phaseOut Erasing = 4
+phaseOut (Suspending suspend) = 6
 phaseOut Suspended = 5
 
 -- the byte that is being programmed, 0 in every other phase
@@ -67,17 +70,26 @@ byteOut EraseAwaited = 0
 byteOut DataAwaited = 0
 byteOut (Programming byte) = byte
 byteOut Erasing = 0
+byteOut (Suspending suspend) = 0
 byteOut Suspended = 0
 
--- the numbers stand for no state: no such mode, no such phase, or a byte where none is being programmed
+-- a byte where none is being programmed
+unfoldable pub strayByte : StateNumbers → Bool
+strayByte n = not (eqb (n .byte) 0) && not (eqb (n .phase) 3)
+
+-- cycles of a suspend where none is under way
+unfoldable pub straySuspend : StateNumbers → Bool
+straySuspend n = not (eqb (n .suspend) 0) && not (eqb (n .phase) 6)
+
+-- the numbers stand for no state: no such mode, no such phase, or something where none may be
 unfoldable pub noState : StateNumbers → Bool
-noState n = (ltb 2 (n .mode) || ltb 5 (n .phase)) || (not (eqb (n .byte) 0) && not (eqb (n .phase) 3))
+noState n = ((ltb 2 (n .mode) || ltb 6 (n .phase)) || strayByte n) || straySuspend n
 
 -- numbers as a state; those that stand for none become one that is improper on every device: at rest with SR.7 clear
 unfoldable pub stateIn : StateNumbers → State
 stateIn n =
     if noState n then atRest freshState Array 0
-    else record { mode = modeIn (n .mode); status = n .status; phase = phaseIn (n .phase) (n .byte); left = n .left; address = n .address }
+    else record { mode = modeIn (n .mode); status = n .status; phase = phaseIn (n .phase) (n .byte) (n .suspend); left = n .left; address = n .address }
 
 abbrev pub stateOut : State → StateNumbers
 stateOut s =
@@ -87,6 +99,7 @@ stateOut s =
       phase = phaseOut (s .phase);
       byte = byteOut (s .phase);
       left = s .left;
+      suspend = suspendLeft (s .phase);
       address = s .address;
     }
 

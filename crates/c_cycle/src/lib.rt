@@ -2,12 +2,13 @@
 // numbers that stand for nothing become something that is refused in its place.
 pub mod states;
 
-// A device: its number, and the cycles that a program and an erase take.
+// A device: its number, and the cycles that a program, an erase and a suspend take.
 #[repr(C)]
 pub struct DeviceNumbers {
     pub number: u8,
     pub program: u16,
     pub erase: u16,
+    pub suspend: u8,
 }
 
 // A device's state.
@@ -18,6 +19,7 @@ pub struct StateNumbers {
     pub phase: u8,
     pub byte: u8,
     pub left: u16,
+    pub suspend: u8,
     pub address: u32,
 }
 

@@ -13,8 +13,9 @@ use model_types::Mode;
 use model_types::Phase;
 use model_types::Pins;
 use model_types::State;
+use model_types::states::suspend_left;
 ghost use mathlib.Core.Path.{_≡_};
-ghost use Rattle.c_cycle.specs.Values.{deviceIn, pinsIn, modeIn, modeOut, phaseIn, phaseOut, byteOut, noState, stateIn, stateOut, kindIn, kindOut, oeIn, cycleIn, cycleOut};
+ghost use Rattle.c_cycle.specs.Values.{deviceIn, pinsIn, modeIn, modeOut, phaseIn, phaseOut, byteOut, strayByte, straySuspend, noState, stateIn, stateOut, kindIn, kindOut, oeIn, cycleIn, cycleOut};
 ghost use Rattle.c_cycle.specs.Answers.{stateBack, seenOut, valueOut, answerOut};
 
 // Modes as numbers.
@@ -24,7 +25,7 @@ pub const STATUS: u8 = 1;
 
 pub const IDENTIFIER: u8 = 2;
 
-// Phases as numbers. From PROGRAMMING on an operation is running or suspended.
+// Phases as numbers. From PROGRAMMING on an operation is running, suspended or being suspended.
 pub const FREE: u8 = 0;
 
 pub const ERASE_AWAITED: u8 = 1;
@@ -36,6 +37,8 @@ pub const PROGRAMMING: u8 = 3;
 pub const ERASING: u8 = 4;
 
 pub const SUSPENDED: u8 = 5;
+
+pub const SUSPENDING: u8 = 6;
 
 // Kinds of cycle as numbers.
 pub const READ: u8 = 0;
@@ -58,6 +61,7 @@ pub fn device_in(n: DeviceNumbers) -> Device
         part: Part { number: n.number },
         program: n.program,
         erase: n.erase,
+        suspend: n.suspend,
     }
 }
 
@@ -89,8 +93,8 @@ fn mode_out(m: Mode) -> u8
     }
 }
 
-pub fn phase_in(n: u8, byte: u8) -> Phase
-    ensures { λ r. ⌜ r ≡ phaseIn n byte ⌝ }
+pub fn phase_in(n: u8, byte: u8, suspend: u8) -> Phase
+    ensures { λ r. ⌜ r ≡ phaseIn n byte suspend ⌝ }
 {
     if n == FREE {
         return Phase::Free;
@@ -107,7 +111,10 @@ pub fn phase_in(n: u8, byte: u8) -> Phase
     if n == ERASING {
         return Phase::Erasing;
     }
-    Phase::Suspended
+    if n == SUSPENDED {
+        return Phase::Suspended;
+    }
+    Phase::Suspending(suspend)
 }
 
 fn phase_out(ph: Phase) -> u8
@@ -119,6 +126,7 @@ fn phase_out(ph: Phase) -> u8
         Phase::DataAwaited => DATA_AWAITED,
         Phase::Programming(_) => PROGRAMMING,
         Phase::Erasing => ERASING,
+        Phase::Suspending(_) => SUSPENDING,
         Phase::Suspended => SUSPENDED,
     }
 }
@@ -132,14 +140,29 @@ fn byte_out(ph: Phase) -> u8
         Phase::DataAwaited => 0,
         Phase::Programming(b) => b,
         Phase::Erasing => 0,
+        Phase::Suspending(_) => 0,
         Phase::Suspended => 0,
     }
+}
+
+// A byte only where one is being programmed.
+fn stray_byte(n: StateNumbers) -> bool
+    ensures { λ r. ⌜ r ≡ strayByte n ⌝ }
+{
+    !(n.byte == 0) & !(n.phase == PROGRAMMING)
+}
+
+// A suspend's cycles only where one is under way.
+fn stray_suspend(n: StateNumbers) -> bool
+    ensures { λ r. ⌜ r ≡ straySuspend n ⌝ }
+{
+    !(n.suspend == 0) & !(n.phase == SUSPENDING)
 }
 
 fn no_state(n: StateNumbers) -> bool
     ensures { λ r. ⌜ r ≡ noState n ⌝ }
 {
-    (IDENTIFIER < n.mode) | (SUSPENDED < n.phase) | (!(n.byte == 0) & !(n.phase == PROGRAMMING))
+    (IDENTIFIER < n.mode) | (SUSPENDING < n.phase) | stray_byte(n) | stray_suspend(n)
 }
 
 pub fn state_in(n: StateNumbers) -> State
@@ -157,7 +180,7 @@ pub fn state_in(n: StateNumbers) -> State
     State {
         mode: mode_in(n.mode),
         status: n.status,
-        phase: phase_in(n.phase, n.byte),
+        phase: phase_in(n.phase, n.byte, n.suspend),
         left: n.left,
         address: n.address,
     }
@@ -174,6 +197,7 @@ pub fn state_out(s: State) -> StateNumbers
         phase: phase_out(ph),
         byte: byte_out(ph),
         left: s.left,
+        suspend: suspend_left(ph),
         address: s.address,
     }
 }

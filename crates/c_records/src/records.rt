@@ -8,7 +8,7 @@ use device::Part;
 use loader::Loader;
 use loader::Stage;
 use loader::Turn;
-use loader::stages::stage_end;
+use loader::stages::stage_is;
 ghost use mathlib.Core.Path.{_≡_};
 ghost use Rattle.c_records.specs.Records.{stageIn, stageOut, endOut, noRecord, pollsIn, loaderIn, loaderOut, loaderBack, noCycle, turnAt, turnOut};
 
@@ -53,7 +53,7 @@ fn stage_out(stage: Stage) -> u8
 fn end_out(stage: Stage) -> u8
     ensures { λ r. ⌜ r ≡ endOut stage ⌝ }
 {
-    let e = stage_end(stage);
+    let e = stage_is(stage);
     let ended = e.ended;
     if ended {
         return e.end;

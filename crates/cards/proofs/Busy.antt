@@ -18,53 +18,33 @@ use Rattle.model_types.specs.declared.Reply.{Reply}
 use Rattle.model_types.specs.declared.Reply.the-variants.{Quiet, Gives}
 use Rattle.model_types.specs.declared.State.{State}
 use Rattle.model_types.specs.declared.Cycle.{Cycle}
-use Rattle.model_types.specs.declared.Decision.{Decision}
-use Rattle.model_types.specs.Levels.{vppLow, vppHigh, badPins}
 use Rattle.model_types.specs.States.{atRest, freshState}
 use Rattle.model_rules.specs.Cycles.{decideOf, decidedAs}
 use Rattle.model.specs.declared.Seen.{Seen}
 use Rattle.model.specs.declared.Seen.the-variants.{NoData, Byte}
-use Rattle.model.specs.Arrays.{arrayOf, seenOf, arrayAfter, answerOf}
+use Rattle.model.specs.Arrays.{arrayOf, seenOf}
 use Rattle.model.proofs.Keeping.{st}
-use Rattle.model_history.specs.History.{Bus, World, stepped, worldAfter}
+use Rattle.model_history.specs.History.{Bus, World, stepped, seenOn}
 use Rattle.loader_run_claims.proofs.Answers.{Up, Ready, asks-program, sends, waits, ends}
-use Rattle.cards.specs.Table.{normal, write, read, fresh, seenOn, seenIn, cycles2, Card2}
+use Rattle.cards.specs.Table.{normal, write, read, fresh, cycles2, Card2}
+use Rattle.cards.proofs.Leading as leading
+use Rattle.cards.proofs.Leading.{Leads, before}
 use Rattle.loader_run_claims.specs.Made.{busCycle as cyc}
-
-supplied : (d : Device) → (badPins (d .part) normal ≡ false) × (vppLow (d .part) normal ≡ false)
-unfolding vppLow vppHigh badPins
-supplied d = (refl, refl)
-
--- what the host sees of some cycles, and where they lead
-abbrev Leads : Device → World → List Bus → List Seen → World → Type 0
-Leads d v bs os u = (seenIn d v bs ≡ os) × (worldAfter d v bs ≡ u)
-
-before : (d : Device) (v n u : World) (b : Bus) (bs : List Bus) (o : Seen) (os : List Seen) → (stepped d v b ≡ n) × (seenOn d v b ≡ o) → Leads d n bs os u → Leads d v (b ∷ bs) (o ∷ os) u
-before d v n u b bs o os h l = (
-  ap (λ (x : Seen). x ∷ seenIn d (stepped d v b) bs) (h .1) ∙ ap (λ (y : World). o ∷ seenIn d y bs) (h .0) ∙ ap (λ (ys : List Seen). o ∷ ys) (l .0),
-  ap (λ (y : World). worldAfter d y bs) (h .0) ∙ l .1,
-)
 
 module _ (d : Device) (a : ℕ) (xs : List ℕ) (known : unknownDevice d ≡ false) (inside : a < sizeOf (d .part)) (free : blockOf (d .part) a ≡ 0 → ⊥)
     (sized : length xs ≡ sizeOf (d .part)) (held : getD xs a 0 ≡ 60) where
   abbrev world : State → World
-  world s = record { state = s; bytes = xs }
+  world s = leading.world d a xs known free sized s
 
   up : Up d normal
-  up = record { known = known; levels = supplied d .0; up = refl }
+  up = leading.up d a xs known free sized
 
   ready : Ready d normal (blockOf (d .part) a)
-  ready = record { base = up; high = supplied d .1; unlock = λ e. absurd (free e) }
+  ready = leading.ready d a xs known free sized
 
-  -- one cycle, from what the device decides
   step : (s t : State) (c : Cycle) (r : Reply) (e : Effect) → decideOf d s c (sizeOf (d .part)) 0 ≡ decidedAs r t e → arrayOf e (d .part) [] xs ≡ xs
       → (stepped d (world s) (record { cycle = c; residue = [] }) ≡ world t) × (seenOn d (world s) (record { cycle = c; residue = [] }) ≡ seenOf r xs)
-  unfolding answerOf arrayAfter
-  step s t c r e q z =
-      let h : decideOf d s c (length xs) 0 ≡ decidedAs r t e = ap (λ (n : ℕ). decideOf d s c n 0) sized ∙ q in (
-        ap (λ (x : Decision). record { state = x .state; bytes = arrayOf (x .effect) (d .part) [] xs }) h ∙ ap (λ (ys : List ℕ). record { state = t; bytes = ys }) z,
-        ap (λ (x : Decision). seenOf (x .reply) (arrayOf (x .effect) (d .part) [] xs)) h ∙ ap (λ (ys : List ℕ). seenOf r ys) z,
-      )
+  step = leading.step d a xs known free sized
 
   -- FFH over 3CH is 3CH
   keeps : set xs a (bitAnd (getD xs a 0) 255) ≡ xs
@@ -77,7 +57,7 @@ module _ (d : Device) (a : ℕ) (xs : List ℕ) (known : unknownDevice d ≡ fal
   polls zero h =
       before d (world (st freshState Status 0 (Programming 255) 1 a)) (world (atRest freshState Status 128)) (world (atRest freshState Status 128)) (read normal a) [] (Byte 128) []
       (step (st freshState Status 0 (Programming 255) 1 a) (atRest freshState Status 128) (cyc normal (read normal a .cycle .kind) a 0) (Gives 128) (Program a 255)
-      (ends d normal up freshState (blockOf (d .part) a) ready (Programming 255) a a refl h inside inside) keeps)
+      (ends d normal up freshState (blockOf (d .part) a) ready (Programming 255) a a (refl, refl) h inside inside) keeps)
       (refl, refl)
   polls (suc m) h =
       before d (world (st freshState Status 0 (Programming 255) (suc (suc m)) a)) (world (st freshState Status 0 (Programming 255) (suc m) a)) (world (atRest freshState Status 128)) (read normal a)
@@ -85,7 +65,7 @@ module _ (d : Device) (a : ℕ) (xs : List ℕ) (known : unknownDevice d ≡ fal
       (step (st freshState Status 0 (Programming 255) (suc (suc m)) a) (st freshState Status 0 (Programming 255) (suc m) a) (cyc normal (read normal a .cycle .kind) a 0) (Gives 0) Nothing
       (subst (λ (j : ℕ). decideOf d (st freshState Status 0 (Programming 255) j a) (cyc normal (read normal a .cycle .kind) a 0) (sizeOf (d .part)) 0
       ≡ decidedAs (Gives 0) (st freshState Status 0 (Programming 255) (suc m) a) Nothing) (add-one (suc m))
-      (waits d normal up freshState (blockOf (d .part) a) ready (Programming 255) (suc m) a a refl (omega arith) (omega (arith, h)) inside inside)) refl)
+      (waits d normal up freshState (blockOf (d .part) a) ready (Programming 255) (suc m) a a (refl, refl) (omega arith) (omega (arith, h)) inside inside)) refl)
       (polls m (omega (arith, h)))
 
   whole : (m : ℕ) → d .program ≡ suc m → Leads d (fresh xs) (cycles2 m a) (NoData ∷ NoData ∷ (replicate {A = Seen} m (Byte 0) ++ (Byte 128 ∷ []))) (world (atRest freshState Status 128))

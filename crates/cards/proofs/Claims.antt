@@ -5,45 +5,42 @@ use Rattle.device.specs.Parts.{shapeOf, sizeIn, lengthIn, offsetIn, holderIn, t
 use Rattle.model_types.specs.Levels.{vppLow, vppHigh, badPins, badLevels, unlocked, locked}
 use Rattle.model_types.specs.Cells.{ones}
 use Rattle.model_types.specs.States.{proper, improper}
-use Rattle.model_commands.specs.Commands.{firstWrite, afterErase, whileErasing, whileSuspended, unsupplied, startedOf}
-use Rattle.model_operation.specs.Settling.{cutBy, countedOff, settleOf}
+use Rattle.model_commands.specs.Commands.{firstWrite, afterErase, whileErasing, whileSuspending, whileSuspended, unsupplied, startedOf}
+use Rattle.model_operation.specs.Settling.{cutBy, countedOff, suspendPassed, passedOf, settleOf}
 use Rattle.model_rules.specs.Cycles.{pastArray, shortResidue, noCommand, suspendedRead, noIdentifier, numberOf, acceptOf, decideOf}
 use Rattle.model.specs.Arrays.{erased, residual, arrayAfter, answerOf}
 use Rattle.file_check.specs.Check.{checkOf}
-use Rattle.cards.specs.Table.{card1, card3, card4, card5, card6, card7, card8, card9, card12, Cards}
+use Rattle.cards.specs.Table.{card1, card3, card4, card5, card6, card8, card9, card12, Cards}
 use Rattle.cards.proofs.Busy.{two}
+use Rattle.cards.proofs.Suspended.{seven}
 use Rattle.cards.proofs.Counts.{ten, eleven}
 
 holds-1 : card1 ≡ true
-unfolding shapeOf sizeIn lengthIn offsetIn holderIn turned startIn blockIn unknownPart unknownDevice sizeOf lengthOf startOf blockOf vppLow vppHigh badPins badLevels unlocked ones locked proper improper firstWrite afterErase whileErasing whileSuspended unsupplied startedOf cutBy countedOff settleOf pastArray shortResidue noCommand suspendedRead noIdentifier numberOf acceptOf decideOf erased residual arrayAfter answerOf
+unfolding shapeOf sizeIn lengthIn offsetIn holderIn turned startIn blockIn unknownPart unknownDevice sizeOf lengthOf startOf blockOf vppLow vppHigh badPins badLevels unlocked ones locked proper improper firstWrite afterErase whileErasing whileSuspending whileSuspended unsupplied startedOf cutBy countedOff suspendPassed passedOf settleOf pastArray shortResidue noCommand suspendedRead noIdentifier numberOf acceptOf decideOf erased residual arrayAfter answerOf
 holds-1 = refl
 
 holds-3 : card3 ≡ true
-unfolding shapeOf sizeIn lengthIn offsetIn holderIn turned startIn blockIn unknownPart unknownDevice sizeOf lengthOf startOf blockOf vppLow vppHigh badPins badLevels unlocked ones locked proper improper firstWrite afterErase whileErasing whileSuspended unsupplied startedOf cutBy countedOff settleOf pastArray shortResidue noCommand suspendedRead noIdentifier numberOf acceptOf decideOf erased residual arrayAfter answerOf
+unfolding shapeOf sizeIn lengthIn offsetIn holderIn turned startIn blockIn unknownPart unknownDevice sizeOf lengthOf startOf blockOf vppLow vppHigh badPins badLevels unlocked ones locked proper improper firstWrite afterErase whileErasing whileSuspending whileSuspended unsupplied startedOf cutBy countedOff suspendPassed passedOf settleOf pastArray shortResidue noCommand suspendedRead noIdentifier numberOf acceptOf decideOf erased residual arrayAfter answerOf
 holds-3 = refl
 
 holds-4 : card4 ≡ true
-unfolding shapeOf sizeIn lengthIn offsetIn holderIn turned startIn blockIn unknownPart unknownDevice sizeOf lengthOf startOf blockOf vppLow vppHigh badPins badLevels unlocked ones locked proper improper firstWrite afterErase whileErasing whileSuspended unsupplied startedOf cutBy countedOff settleOf pastArray shortResidue noCommand suspendedRead noIdentifier numberOf acceptOf decideOf erased residual arrayAfter answerOf
+unfolding shapeOf sizeIn lengthIn offsetIn holderIn turned startIn blockIn unknownPart unknownDevice sizeOf lengthOf startOf blockOf vppLow vppHigh badPins badLevels unlocked ones locked proper improper firstWrite afterErase whileErasing whileSuspending whileSuspended unsupplied startedOf cutBy countedOff suspendPassed passedOf settleOf pastArray shortResidue noCommand suspendedRead noIdentifier numberOf acceptOf decideOf erased residual arrayAfter answerOf
 holds-4 = refl
 
 holds-5 : card5 ≡ true
-unfolding shapeOf sizeIn lengthIn offsetIn holderIn turned startIn blockIn unknownPart unknownDevice sizeOf lengthOf startOf blockOf vppLow vppHigh badPins badLevels unlocked ones locked proper improper firstWrite afterErase whileErasing whileSuspended unsupplied startedOf cutBy countedOff settleOf pastArray shortResidue noCommand suspendedRead noIdentifier numberOf acceptOf decideOf erased residual arrayAfter answerOf
+unfolding shapeOf sizeIn lengthIn offsetIn holderIn turned startIn blockIn unknownPart unknownDevice sizeOf lengthOf startOf blockOf vppLow vppHigh badPins badLevels unlocked ones locked proper improper firstWrite afterErase whileErasing whileSuspending whileSuspended unsupplied startedOf cutBy countedOff suspendPassed passedOf settleOf pastArray shortResidue noCommand suspendedRead noIdentifier numberOf acceptOf decideOf erased residual arrayAfter answerOf
 holds-5 = refl
 
 holds-6 : card6 ≡ true
-unfolding shapeOf sizeIn lengthIn offsetIn holderIn turned startIn blockIn unknownPart unknownDevice sizeOf lengthOf startOf blockOf vppLow vppHigh badPins badLevels unlocked ones locked proper improper firstWrite afterErase whileErasing whileSuspended unsupplied startedOf cutBy countedOff settleOf pastArray shortResidue noCommand suspendedRead noIdentifier numberOf acceptOf decideOf erased residual arrayAfter answerOf
+unfolding shapeOf sizeIn lengthIn offsetIn holderIn turned startIn blockIn unknownPart unknownDevice sizeOf lengthOf startOf blockOf vppLow vppHigh badPins badLevels unlocked ones locked proper improper firstWrite afterErase whileErasing whileSuspending whileSuspended unsupplied startedOf cutBy countedOff suspendPassed passedOf settleOf pastArray shortResidue noCommand suspendedRead noIdentifier numberOf acceptOf decideOf erased residual arrayAfter answerOf
 holds-6 = refl
 
-holds-7 : card7 ≡ true
-unfolding shapeOf sizeIn lengthIn offsetIn holderIn turned startIn blockIn unknownPart unknownDevice sizeOf lengthOf startOf blockOf vppLow vppHigh badPins badLevels unlocked ones locked proper improper firstWrite afterErase whileErasing whileSuspended unsupplied startedOf cutBy countedOff settleOf pastArray shortResidue noCommand suspendedRead noIdentifier numberOf acceptOf decideOf erased residual arrayAfter answerOf
-holds-7 = refl
-
 holds-8 : card8 ≡ true
-unfolding shapeOf sizeIn lengthIn offsetIn holderIn turned startIn blockIn unknownPart unknownDevice sizeOf lengthOf startOf blockOf vppLow vppHigh badPins badLevels unlocked ones locked proper improper firstWrite afterErase whileErasing whileSuspended unsupplied startedOf cutBy countedOff settleOf pastArray shortResidue noCommand suspendedRead noIdentifier numberOf acceptOf decideOf erased residual arrayAfter answerOf
+unfolding shapeOf sizeIn lengthIn offsetIn holderIn turned startIn blockIn unknownPart unknownDevice sizeOf lengthOf startOf blockOf vppLow vppHigh badPins badLevels unlocked ones locked proper improper firstWrite afterErase whileErasing whileSuspending whileSuspended unsupplied startedOf cutBy countedOff suspendPassed passedOf settleOf pastArray shortResidue noCommand suspendedRead noIdentifier numberOf acceptOf decideOf erased residual arrayAfter answerOf
 holds-8 = refl
 
 holds-9 : card9 ≡ true
-unfolding shapeOf sizeIn lengthIn offsetIn holderIn turned startIn blockIn unknownPart unknownDevice sizeOf lengthOf startOf blockOf vppLow vppHigh badPins badLevels unlocked ones locked proper improper firstWrite afterErase whileErasing whileSuspended unsupplied startedOf cutBy countedOff settleOf pastArray shortResidue noCommand suspendedRead noIdentifier numberOf acceptOf decideOf erased residual arrayAfter answerOf
+unfolding shapeOf sizeIn lengthIn offsetIn holderIn turned startIn blockIn unknownPart unknownDevice sizeOf lengthOf startOf blockOf vppLow vppHigh badPins badLevels unlocked ones locked proper improper firstWrite afterErase whileErasing whileSuspending whileSuspended unsupplied startedOf cutBy countedOff suspendPassed passedOf settleOf pastArray shortResidue noCommand suspendedRead noIdentifier numberOf acceptOf decideOf erased residual arrayAfter answerOf
 holds-9 = refl
 
 holds-12 : card12 ≡ true
@@ -59,7 +56,7 @@ all-twelve = record {
   four = holds-4;
   five = holds-5;
   six = holds-6;
-  seven = holds-7;
+  seven = seven;
   eight = holds-8;
   nine = holds-9;
   ten = ten;

@@ -1,4 +1,4 @@
--- The bench cards, on bench T (device 3) and bench B (device 4) with P 2 and E 3 where nothing else is said. Assumes nothing.
+-- The bench cards, on bench T (device 3) and bench B (device 4) with P 2, E 3 and S 1 where nothing else is said. Assumes nothing.
 use mathlib.Core.Path.{_≡_}
 use mathlib.Core.Bool.{Bool, true, false, _&&_}
 use mathlib.Core.List.{List, [], _∷_, _++_}
@@ -11,18 +11,18 @@ use Rattle.common.specs.Lists.{Bytes}
 use Rattle.model_types.specs.declared.Kind.the-variants.{Read, Write}
 use Rattle.model_types.specs.declared.Pins.{Pins}
 use Rattle.model_types.specs.declared.Mode.the-variants.{Array, Status}
+use Rattle.model_types.specs.declared.Phase.the-variants.{Suspended}
 use Rattle.model_types.specs.States.{freshState, atRest}
 use Rattle.model.specs.declared.Seen.{Seen}
 use Rattle.model.specs.declared.Seen.the-variants.{NoData, Byte, Refused}
-use Rattle.model.specs.Arrays.{answerOf}
 use Rattle.file_check.specs.Check.{checkOf}
-use Rattle.model_history.specs.History.{Bus, World, stepped, worldAfter}
+use Rattle.model_history.specs.History.{Bus, World, worldAfter, seenOn, seenIn}
 use Rattle.loader_run.specs.Runs.{ranOf}
 use Rattle.loader_run_claims.specs.Wear.{heldIn}
 
--- a part with its busy times
+-- a part with P and E; S is 1
 abbrev pub device : ℕ → ℕ → ℕ → Device
-device number program erase = record { part = record { number = number }; program = program; erase = erase }
+device number program erase = record { part = record { number = number }; program = program; erase = erase; suspend = 1 }
 
 abbrev pub deviceT : Device
 deviceT = device 3 2 3
@@ -76,14 +76,6 @@ refuses n NoData = false
 refuses n (Byte x) = false
 refuses n (Refused m) = eqb n m
 
--- what the host sees of a cycle
-abbrev pub seenOn : Device → World → Bus → Seen
-seenOn d v b = answerOf d (v .state) (b .cycle) (v .bytes) (b .residue) .seen
-
-abbrev pub seenIn : Device → World → List Bus → List Seen
-seenIn d v [] = []
-seenIn d v (b ∷ bs) = seenOn d v b ∷ seenIn d (stepped d v b) bs
-
 -- a bench array of one value, and one with another byte at 10H
 abbrev pub plain : ℕ → List ℕ
 plain b = same 16384 b
@@ -132,11 +124,16 @@ card6 =
     shows (worldAfter deviceB (fresh (plain 0)) (write normal 0 0x20 ∷ write normal 0 0xD0 ∷ read normal 0 ∷ read normal 0 ∷ read normal 0 ∷ [])) 0xA0 (plain 0)
     && shows (worldAfter deviceB (fresh (plain 0)) (write normal 0 0x20 ∷ write (pinsAt 2 12000) 0 0xD0 ∷ read normal 0 ∷ read normal 0 ∷ read normal 0 ∷ [])) 0x80 (same 1024 255 ++ same 15360 0)
 
--- 7: a suspended erase shows C0H
-abbrev pub card7 : Bool
-card7 =
-    gives 0xC0 (seenOn deviceB (worldAfter deviceB (fresh (plain 0)) (write normal 1024 0x20 ∷ write normal 1024 0xD0 ∷ write normal 1024 0xB0 ∷ [])) (read normal 1024))
-    && shows (worldAfter deviceB (fresh (plain 0)) (write normal 1024 0x20 ∷ write normal 1024 0xD0 ∷ write normal 1024 0xB0 ∷ read normal 1024 ∷ [])) 0xC0 (plain 0)
+-- 7: an erase suspended, on every device with E = e + 2 and S = m + 1, at every address outside the boot block: after B0H m reads
+-- give 00H, the S-th gives C0H, the erase has one cycle less to go and every byte is what it was
+abbrev pub cycles7 : ℕ → ℕ → List Bus
+cycles7 m a = write normal a 0x20 ∷ write normal a 0xD0 ∷ write normal a 0xB0 ∷ replicate {A = Bus} (suc m) (read normal a)
+
+abbrev pub Card7 : Type 0
+Card7 = (d : Device) (e m a : ℕ) (xs : List ℕ) → unknownDevice d ≡ false → d .erase ≡ e + 2 → d .suspend ≡ suc m → a < sizeOf (d .part)
+    → (blockOf (d .part) a ≡ 0 → ⊥) → length xs ≡ sizeOf (d .part)
+    → (seenIn d (fresh xs) (cycles7 m a) ≡ NoData ∷ NoData ∷ NoData ∷ (replicate {A = Seen} m (Byte 0) ++ (Byte 0xC0 ∷ [])))
+    × (worldAfter d (fresh xs) (cycles7 m a) ≡ record { state = record { mode = Status; status = 0xC0; phase = Suspended; left = e + 1; address = a }; bytes = xs })
 
 -- 8: 20H in block 1 and D0H in block 2 erase block 2, and no other
 abbrev pub card8 : Bool
@@ -173,7 +170,7 @@ pub record Cards : Type 0 where
   pub four : card4 ≡ true
   pub five : card5 ≡ true
   pub six : card6 ≡ true
-  pub seven : card7 ≡ true
+  pub seven : Card7
   pub eight : card8 ≡ true
   pub nine : card9 ≡ true
   pub ten : Card10

@@ -63,9 +63,9 @@ pub record Holds (s : Shape) (k a : ℕ) : Type 0 where
 unfoldable pub unknownPart : Part → Bool
 unknownPart p = eqb (p .number) 0 || ltb 4 (p .number)
 
--- refusal 1 of a device: the part is not known, or a busy time is zero
+-- refusal 1 of a device: the part is not known, P or E is zero, or S is not 1 to 100
 unfoldable pub unknownDevice : Device → Bool
-unknownDevice d = (unknownPart (d .part) || eqb (d .program) 0) || eqb (d .erase) 0
+unknownDevice d = (((unknownPart (d .part) || eqb (d .program) 0) || eqb (d .erase) 0) || eqb (d .suspend) 0) || ltb 100 (d .suspend)
 
 -- the same of a part: the bytes of its array
 unfoldable pub sizeOf : Part → ℕ

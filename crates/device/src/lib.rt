@@ -8,11 +8,12 @@ pub struct Part {
     pub number: u8,
 }
 
-// A part with its busy times: the cycles that a program and an erase take.
+// A part with its busy times: the cycles that a program and an erase take (P and E), and those that a suspend takes (S).
 pub struct Device {
     pub part: Part,
     pub program: u16,
     pub erase: u16,
+    pub suspend: u8,
 }
 
 // A part's description: block lengths outward from the boot block (0 where there is none), whether the boot block is at
@@ -231,7 +232,7 @@ pub fn unknown_part(p: Part) -> bool
 pub fn unknown_device(d: Device) -> bool
     ensures { λ r. ⌜ r ≡ unknownDevice d ⌝ }
 {
-    unknown_part(d.part) | (d.program == 0) | (d.erase == 0)
+    unknown_part(d.part) | (d.program == 0) | (d.erase == 0) | (d.suspend == 0) | (100 < d.suspend)
 }
 
 // The bytes of the array.

@@ -1,33 +1,57 @@
--- What a stage is: whether a load has ended there, and how. Assumes nothing.
+-- What a stage is: the end of a load, or a cycle that is out. Assumes nothing.
 use mathlib.Core.Bool.{Bool, true, false}
 use Prim.Native.Nat.{ℕ}
+use Rattle.model_types.specs.declared.Kind.{Kind}
+use Rattle.model_types.specs.declared.Kind.the-variants.{Read, Write, Idle}
 use Rattle.loader.specs.declared.Stage.{Stage}
 use Rattle.loader.specs.declared.Stage.the-variants.{Clearing, Opening, Reading, EraseAsking, EraseConfirming, EraseWaiting, ProgramAsking, ProgramSending, ProgramWaiting, Closing, Verifying, Ended}
-use Rattle.loader.specs.declared.StageEnd.{StageEnd}
+use Rattle.loader.specs.declared.StageIs.{StageIs}
 
--- before the end; a load that has not ended has no number, and 255 stands for that
-abbrev pub goingOn : StageEnd
-goingOn = record { ended = false; end = 255 }
+-- before the end: a cycle of a kind is out; the load has no number yet, and 255 stands for that
+abbrev pub givesCycle : Kind → Bool → Bool → ℕ → StageIs
+givesCycle kind here wanted command = record { ended = false; end = 255; kind = kind; here = here; wanted = wanted; command = command }
 
--- the one place that tells the end from the other stages
-abbrev pub stageEnd : Stage → StageEnd
-stageEnd Clearing = goingOn
-stageEnd Opening = goingOn
-stageEnd Reading = goingOn
-stageEnd EraseAsking = goingOn
-stageEnd EraseConfirming = goingOn
-stageEnd EraseWaiting = goingOn
-stageEnd ProgramAsking = goingOn
-stageEnd ProgramSending = goingOn
-stageEnd ProgramWaiting = goingOn
-stageEnd Closing = goingOn
-stageEnd Verifying = goingOn
-stageEnd (Ended n) = record { ended = true; end = n }
+-- a command to the block's first address
+abbrev pub commands : ℕ → StageIs
+commands command = givesCycle Write false false command
+
+-- 40H, and then the wanted byte, to the byte at the record's place
+abbrev pub programs : StageIs
+programs = givesCycle Write true false 0x40
+
+abbrev pub sends : StageIs
+sends = givesCycle Write true true 0
+
+-- a read of the byte at the record's place, or of the block's first address
+abbrev pub readsHere : StageIs
+readsHere = givesCycle Read true false 0
+
+abbrev pub readsFirst : StageIs
+readsFirst = givesCycle Read false false 0
+
+-- the end by a number: nothing is out, and idle stands for that
+abbrev pub endsBy : ℕ → StageIs
+endsBy n = record { ended = true; end = n; kind = Idle; here = false; wanted = false; command = 0 }
+
+-- the one place that says what each stage is: commands and an erase's polls go to the block's first address, all about one byte to that byte
+abbrev pub stageIs : Stage → StageIs
+stageIs Clearing = commands 0x50
+stageIs Opening = commands 0xFF
+stageIs Reading = readsHere
+stageIs EraseAsking = commands 0x20
+stageIs EraseConfirming = commands 0xD0
+stageIs EraseWaiting = readsFirst
+stageIs ProgramAsking = programs
+stageIs ProgramSending = sends
+stageIs ProgramWaiting = readsHere
+stageIs Closing = commands 0xFF
+stageIs Verifying = readsHere
+stageIs (Ended n) = endsBy n
 
 -- the load has ended
 abbrev pub isEnded : Stage → Bool
-isEnded stage = stageEnd stage .ended
+isEnded stage = stageIs stage .ended
 
 -- the number of its end
 abbrev pub endBy : Stage → ℕ
-endBy stage = stageEnd stage .end
+endBy stage = stageIs stage .end

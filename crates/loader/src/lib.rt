@@ -1,10 +1,11 @@
-// The loader's record, and where a byte read takes it. A cycle is out at each stage; `stepper` gives it and takes the byte.
+// The loader's record, and where a byte read takes it. A cycle is out at each stage; `loader_steps` gives it and takes the byte.
 pub mod moves;
 pub mod stages;
 pub mod walk;
 
 use device::Part;
 use model_types::Cycle;
+use model_types::Kind;
 use model_types::Pins;
 
 // Which cycle is out. `Ended` holds the number of the end: 0 for well.
@@ -23,10 +24,16 @@ pub enum Stage {
     Ended(u8),
 }
 
-// Whether a stage is the end of a load, and by which number. Before the end there is none, and 255 stands for that.
-pub struct StageEnd {
+// What a stage is. Whether it is the end of a load, and by which number (before the end there is none, and 255 stands for that). The
+// cycle that is out: its kind; whether it goes to the byte at the record's place or to the block's first address; and whether it
+// carries that place's wanted byte or `command`.
+pub struct StageIs {
     pub ended: bool,
     pub end: u8,
+    pub kind: Kind,
+    pub here: bool,
+    pub wanted: bool,
+    pub command: u8,
 }
 
 // The loader's record: the part, the block and the levels it works with, the cycle that is out, the place in the block, and

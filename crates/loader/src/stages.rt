@@ -1,37 +1,47 @@
-// What a stage is: whether a load has ended there, and how.
+// What a stage is: the end of a load, or a cycle that is out.
 use crate::Stage;
-use crate::StageEnd;
+use crate::StageIs;
+use model_types::Kind;
 ghost use mathlib.Core.Path.{_≡_};
-ghost use Rattle.loader.specs.Stages.{goingOn, stageEnd};
+ghost use Rattle.loader.specs.Stages.{givesCycle, stageIs};
 
-fn going_on() -> StageEnd
-    ensures { λ r. ⌜ r ≡ goingOn ⌝ }
+// A stage before the end, by its cycle.
+fn gives_cycle(kind: Kind, here: bool, wanted: bool, command: u8) -> StageIs
+    ensures { λ r. ⌜ r ≡ givesCycle kind here wanted command ⌝ }
 {
-    StageEnd {
+    StageIs {
         ended: false,
         end: 255,
+        kind: kind,
+        here: here,
+        wanted: wanted,
+        command: command,
     }
 }
 
-// Whether a stage is the end of a load, and by which number.
-pub fn stage_end(stage: Stage) -> StageEnd
-    ensures { λ r. ⌜ r ≡ stageEnd stage ⌝ }
+// The one place that says what each stage is.
+pub fn stage_is(stage: Stage) -> StageIs
+    ensures { λ r. ⌜ r ≡ stageIs stage ⌝ }
 {
     match stage {
-        Stage::Clearing => going_on(),
-        Stage::Opening => going_on(),
-        Stage::Reading => going_on(),
-        Stage::EraseAsking => going_on(),
-        Stage::EraseConfirming => going_on(),
-        Stage::EraseWaiting => going_on(),
-        Stage::ProgramAsking => going_on(),
-        Stage::ProgramSending => going_on(),
-        Stage::ProgramWaiting => going_on(),
-        Stage::Closing => going_on(),
-        Stage::Verifying => going_on(),
-        Stage::Ended(n) => StageEnd {
+        Stage::Clearing => gives_cycle(Kind::Write, false, false, 0x50),
+        Stage::Opening => gives_cycle(Kind::Write, false, false, 0xFF),
+        Stage::Reading => gives_cycle(Kind::Read, true, false, 0),
+        Stage::EraseAsking => gives_cycle(Kind::Write, false, false, 0x20),
+        Stage::EraseConfirming => gives_cycle(Kind::Write, false, false, 0xD0),
+        Stage::EraseWaiting => gives_cycle(Kind::Read, false, false, 0),
+        Stage::ProgramAsking => gives_cycle(Kind::Write, true, false, 0x40),
+        Stage::ProgramSending => gives_cycle(Kind::Write, true, true, 0),
+        Stage::ProgramWaiting => gives_cycle(Kind::Read, true, false, 0),
+        Stage::Closing => gives_cycle(Kind::Write, false, false, 0xFF),
+        Stage::Verifying => gives_cycle(Kind::Read, true, false, 0),
+        Stage::Ended(n) => StageIs {
             ended: true,
             end: n,
+            kind: Kind::Idle,
+            here: false,
+            wanted: false,
+            command: 0,
         },
     }
 }

@@ -15,7 +15,7 @@ use Rattle.device.specs.Parts.{unknownDevice, sizeOf}
 use Rattle.model_types.specs.declared.Kind.{Kind}
 use Rattle.model_types.specs.declared.Kind.the-variants.{Read, Write, Idle}
 use Rattle.model_types.specs.declared.Phase.{Phase}
-use Rattle.model_types.specs.declared.Phase.the-variants.{Free, EraseAwaited, DataAwaited, Programming, Erasing, Suspended}
+use Rattle.model_types.specs.declared.Phase.the-variants.{Free, EraseAwaited, DataAwaited, Programming, Erasing, Suspending, Suspended}
 use Rattle.model_types.specs.declared.Effect.{Effect}
 use Rattle.model_types.specs.declared.Effect.the-variants.{Nothing, Program, Erase, CutProgram, CutErase}
 use Rattle.model_types.specs.declared.State.{State}
@@ -41,6 +41,7 @@ unasked part s c e = go (s .phase) e
     go DataAwaited q = and-none (rpLow (c .pins) || vppLow part (c .pins))
     go (Programming x) q = absurd (unlike q)
     go Erasing q = absurd (unlike q)
+    go (Suspending n′) q = absurd (unlike q)
     go Suspended q = absurd (unlike q)
 
 -- .. nor with RP# up and VPP high
@@ -82,6 +83,7 @@ none-pending EraseAwaited part a e = refl
 none-pending DataAwaited part a e = refl
 none-pending (Programming b) part a e = absurd (unlike e)
 none-pending Erasing part a e = absurd (unlike e)
+none-pending (Suspending n′) part a e = absurd (unlike e)
 none-pending Suspended part a e = absurd (unlike e)
 
 pending-none : (ph : Phase) (part : Part) (a : ℕ) → operations (pendingIn ph part a) ≡ 0 → isPending ph ≡ false
@@ -90,6 +92,7 @@ pending-none EraseAwaited part a e = refl
 pending-none DataAwaited part a e = refl
 pending-none (Programming b) part a e = absurd (let z : _≡_ {A = ℕ} 1 0 = e in omega arith)
 pending-none Erasing part a e = absurd (let z : _≡_ {A = ℕ} 1 0 = e in omega arith)
+pending-none (Suspending n′) part a e = absurd (let z : _≡_ {A = ℕ} 1 0 = e in omega arith)
 pending-none Suspended part a e = absurd (let z : _≡_ {A = ℕ} 1 0 = e in omega arith)
 
 -- with VPP low no write starts an operation ..

@@ -13,9 +13,8 @@ use Rattle.device.specs.Parts.{unknownDevice, sizeOf, startOf, lengthOf}
 use Rattle.device.proofs.Claims.{blocks-end-inside}
 use Rattle.model_types.specs.declared.Pins.{Pins}
 use Rattle.model_types.specs.declared.Kind.{Kind}
-use Rattle.model_types.specs.declared.Kind.the-variants.{Read, Write, Idle}
 use Rattle.model_types.specs.declared.Phase.{Phase}
-use Rattle.model_types.specs.declared.Phase.the-variants.{Free, EraseAwaited, DataAwaited, Programming, Erasing, Suspended}
+use Rattle.model_types.specs.declared.Phase.the-variants.{Free, EraseAwaited, DataAwaited, Programming, Erasing, Suspending, Suspended}
 use Rattle.model_types.specs.declared.State.{State}
 use Rattle.model_types.specs.declared.Cycle.{Cycle}
 use Rattle.model_types.specs.Levels.{rpLow, vppLow, badPins}
@@ -27,14 +26,14 @@ use Rattle.model.specs.Arrays.{answerOf}
 use Rattle.model.proofs.Keeping.{cycle-proper}
 use Rattle.model.proofs.Contents.{cycle-length}
 use Rattle.loader.specs.declared.Stage.{Stage}
-use Rattle.loader.specs.declared.Stage.the-variants.{Clearing, Opening, Reading, EraseAsking, EraseConfirming, EraseWaiting, ProgramAsking, ProgramSending, ProgramWaiting, Closing, Verifying, Ended}
+use Rattle.loader.specs.declared.Stage.the-variants.{Clearing}
 use Rattle.loader.specs.declared.Loader.{Loader}
-use Rattle.loader_steps.specs.Outs.{firstAddress, reach, hereOf, cycleAt, cycleAtStage, cycleOf}
+use Rattle.loader_steps.specs.Outs.{firstAddress, reach, hereOf, addressIn, carriedIn, cycleAt, cycleAtStage, cycleOf}
 use Rattle.loader_steps.specs.Stores.{storeOf}
 use Rattle.loader_steps.specs.Front.{barredPins, noBlock, recordAt}
 use Rattle.loader_steps.proofs.Again.{some-block, Kept, kept-next}
 use Rattle.loader_run.specs.Turns.{Config, loaderBy, answerTo, arrayTo, moved, turnOf, after}
-use Rattle.loader.specs.Stages.{isEnded}
+use Rattle.loader.specs.Stages.{isEnded, stageIs}
 use Rattle.loader_run.specs.Runs.{runNumber, begin}
 use Rattle.model_types.specs.Phases.{isPending, underWay}
 use Rattle.loader_run.proofs.Good.{Good, good}
@@ -60,6 +59,7 @@ free-calm EraseAwaited e = refl
 free-calm DataAwaited e = refl
 free-calm (Programming b) e = absurd (unlike e)
 free-calm Erasing e = absurd (unlike e)
+free-calm (Suspending n′) e = absurd (unlike e)
 free-calm Suspended e = absurd (unlike e)
 
 -- it holds at the start of a run that passed its tests
@@ -87,18 +87,9 @@ sound-start d s p k xs w sc e = sound-good d s p k (length xs) (length sc) w (go
 -- the cycle that is out has the record's levels and OE# normal, at the block's first address or at the byte's
 out-ways : (P : Cycle → Type 0) (l : Loader) (w : List ℕ) (first here n : ℕ) → first < n → here < n → ((kind : Kind) (a b : ℕ) → a < n → P (cycleAt l kind a b))
     → (stage : Stage) → P (cycleAtStage stage first here l w)
-out-ways P l w first here n f h g Clearing = g Write first 0x50 f
-out-ways P l w first here n f h g Opening = g Write first 0xFF f
-out-ways P l w first here n f h g Reading = g Read here 0 h
-out-ways P l w first here n f h g EraseAsking = g Write first 0x20 f
-out-ways P l w first here n f h g EraseConfirming = g Write first 0xD0 f
-out-ways P l w first here n f h g EraseWaiting = g Read first 0 f
-out-ways P l w first here n f h g ProgramAsking = g Write here 0x40 h
-out-ways P l w first here n f h g ProgramSending = g Write here _ h
-out-ways P l w first here n f h g ProgramWaiting = g Read here 0 h
-out-ways P l w first here n f h g Closing = g Write first 0xFF f
-out-ways P l w first here n f h g Verifying = g Read here 0 h
-out-ways P l w first here n f h g (Ended m) = g Idle first 0 f
+out-ways P l w first here n f h g stage =
+    let k = stageIs stage in
+    g (k .kind) (addressIn (k .here) first here) (carriedIn (k .wanted) (k .command) (l .place) w) (if-ind (λ (a : ℕ). a < n) (k .here) here first (λ e. h) (λ e. f))
 
 module _ (d : Device) (w : List ℕ) (l : Loader) (s : State) (n : ℕ) (z : Sound d w l s n) where
   -- the block's bytes are in the array

@@ -7,7 +7,7 @@ use device::Part;
 use loader::Loader;
 use loader::Stage;
 use loader::moves::ended_by;
-use loader::stages::stage_end;
+use loader::stages::stage_is;
 use loader_steps::front::end_address;
 use loader_steps::front::record_at;
 use loader_steps::front::setup_number;
@@ -115,7 +115,7 @@ fn going(l: Loader) -> bool
     ensures { λ r. ⌜ r ≡ not (isEnded (l .stage)) ⌝ }
 {
     let stage = l.stage;
-    let e = stage_end(stage);
+    let e = stage_is(stage);
     !e.ended
 }
 
@@ -148,7 +148,7 @@ fn drive(d: Device, s: State, l: Loader, wanted: &[u8], scratch: &mut [u8], arra
         count += 1;
     }
     let stage = moving.stage;
-    let e = stage_end(stage);
+    let e = stage_is(stage);
     let end = e.end;
     Ran {
         count: count,
@@ -167,6 +167,7 @@ fn under_way(ph: Phase) -> bool
         Phase::DataAwaited => true,
         Phase::Programming(_) => true,
         Phase::Erasing => true,
+        Phase::Suspending(_) => true,
         Phase::Suspended => true,
     }
 }

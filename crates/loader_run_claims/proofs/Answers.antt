@@ -16,7 +16,7 @@ use Rattle.model_types.specs.declared.Kind.the-variants.{Read, Write}
 use Rattle.model_types.specs.declared.Mode.{Mode}
 use Rattle.model_types.specs.declared.Mode.the-variants.{Array, Status}
 use Rattle.model_types.specs.declared.Phase.{Phase}
-use Rattle.model_types.specs.declared.Phase.the-variants.{Free, EraseAwaited, DataAwaited, Programming, Erasing, Suspended}
+use Rattle.model_types.specs.declared.Phase.the-variants.{Free, EraseAwaited, DataAwaited, Programming, Erasing, Suspending, Suspended}
 use Rattle.model_types.specs.declared.Effect.{Effect}
 use Rattle.model_types.specs.declared.Effect.the-variants.{Nothing}
 use Rattle.model_types.specs.declared.Reply.the-variants.{Quiet, Gives, GivesArray}
@@ -25,10 +25,10 @@ use Rattle.model_types.specs.declared.Settled.{Settled}
 use Rattle.model_types.specs.Levels.{rpLow, vppLow, badPins, locked, unlocked}
 use Rattle.model_types.specs.States.{atRest, mostLeft}
 use Rattle.model_types.specs.Inner.{badMode, badStatus, badLeft, badAddress}
-use Rattle.model_commands.specs.Commands.{actionOf, firstWrite, afterErase, performedOf, startedOf, unsupplied}
-use Rattle.model_operation.specs.Settling.{settledAs, settleOf, countedOff, finishOf}
+use Rattle.model_commands.specs.Commands.{actionOf, firstWrite, afterErase, whileErasing, performedOf, startedOf, unsupplied}
+use Rattle.model_operation.specs.Settling.{settledAs, settleOf, countedOff, suspendPassed, passedOf, finishOf}
 use Rattle.model_rules.specs.Cycles.{shortResidue, noCommand, suspendedRead, noIdentifier, lateOf, decideOf, acceptOf, respondOf, decidedAs}
-use Rattle.model_types.specs.Phases.{isBusy, isPending, isSuspended}
+use Rattle.model_types.specs.Phases.{isBusy, isSuspending, isPending, isSuspended}
 use Rattle.model_rules.proofs.Cases.{accepted, number-late}
 use Rattle.model_rules.proofs.Facts.{Proper}
 use Rattle.model.proofs.Keeping.{st, rest-proper}
@@ -63,6 +63,10 @@ pub locked-stuck : (d : Device) (p : Pins) (k : ℕ) → vppLow (d .part) p ≡ 
 unfolding startedOf unsupplied locked
 locked-stuck d p k e z f = record { stays = λ s ph a b time bit q h. simp (e, q, h, z, f) }
 
+-- an operation is running, and no suspend of it is under way
+abbrev pub Runs : Phase → Type 0
+Runs ph = (isBusy ph ≡ true) × (isSuspending ph ≡ false)
+
 -- `was` is the state that the states of these cycles come from
 module _ (d : Device) (p : Pins) (u : Up d p) (was : State) where
   -- with nothing pending, steps 1 to 3 leave the state
@@ -76,6 +80,7 @@ module _ (d : Device) (p : Pins) (u : Up d p) (was : State) where
       calm DataAwaited q = refl
       calm (Programming x) q = absurd (unlike q)
       calm Erasing q = absurd (unlike q)
+      calm (Suspending n′) q = absurd (unlike q)
       calm Suspended q = refl
 
   -- a cycle that no late number refuses goes on to its read or write
@@ -193,25 +198,29 @@ module _ (d : Device) (p : Pins) (u : Up d p) (was : State) where
     sends a b h e = data-does a b h ∙ ap (λ (x : State). decidedAs Quiet x Nothing) (starts (st was Status 128 DataAwaited 0 0) (Programming b) a b (d .program) 16 refl refl e)
 
     -- a running operation is proper
-    in-range : (most left : ℕ) → 0 < left → left ≤ most → (eqb left 0 || ltb most left) ≡ false
-    in-range most left h m = or-both (eqb left 0) (ltb most left) (ne-eqb left 0 (λ q. omega arith)) (le-ltb most left m)
+    within : (most left : ℕ) → 0 < left → left ≤ most → (eqb left 0 || ltb most left) ≡ false
+    within most left h m = or-both (eqb left 0) (ltb most left) (ne-eqb left 0 (λ q. omega arith)) (le-ltb most left m)
 
-    busy-proper : (ph : Phase) (left a : ℕ) → isBusy ph ≡ true → 0 < left → left ≤ mostLeft d ph → a < sizeOf (d .part) → Proper d (st was Status 0 ph left a)
+    in-range : (most left : ℕ) → 0 < left → left ≤ most → ((eqb left 0 || ltb most left) || false) ≡ false
+    in-range most left h m = or-both (eqb left 0 || ltb most left) false (within most left h m) refl
+
+    busy-proper : (ph : Phase) (left a : ℕ) → Runs ph → 0 < left → left ≤ mostLeft d ph → a < sizeOf (d .part) → Proper d (st was Status 0 ph left a)
     unfolding badStatus badLeft badAddress
-    busy-proper Free left a b z m h = absurd (unlike (sym b))
-    busy-proper EraseAwaited left a b z m h = absurd (unlike (sym b))
-    busy-proper DataAwaited left a b z m h = absurd (unlike (sym b))
+    busy-proper Free left a b z m h = absurd (unlike (sym (b .0)))
+    busy-proper EraseAwaited left a b z m h = absurd (unlike (sym (b .0)))
+    busy-proper DataAwaited left a b z m h = absurd (unlike (sym (b .0)))
     busy-proper (Programming x) left a b z m h = record { mode = refl; status = refl; left = in-range (d .program) left z m; address = lt-leb (sizeOf (d .part)) a h }
     busy-proper Erasing left a b z m h = record { mode = refl; status = refl; left = in-range (d .erase) left z m; address = lt-leb (sizeOf (d .part)) a h }
-    busy-proper Suspended left a b z m h = absurd (unlike (sym b))
+    busy-proper (Suspending n) left a b z m h = absurd (unlike (b .1))
+    busy-proper Suspended left a b z m h = absurd (unlike (sym (b .0)))
 
     -- with VPP high a running operation only counts off
-    counts : (s : State) → isBusy (s .phase) ≡ true → settleOf (d .part) s p ≡ countedOff (d .part) s
-    unfolding settleOf
-    counts s e = simp (u .up, r .high, e)
+    counts : (s : State) → Runs (s .phase) → settleOf (d .part) s p ≡ countedOff (d .part) s
+    unfolding settleOf passedOf
+    counts s e = simp (u .up, r .high, e .0, e .1)
 
     -- a poll while cycles are left, and the last one
-    pub waits : (ph : Phase) (left a b : ℕ) → isBusy ph ≡ true → 0 < left → left + 1 ≤ mostLeft d ph → a < sizeOf (d .part) → b < sizeOf (d .part)
+    pub waits : (ph : Phase) (left a b : ℕ) → Runs ph → 0 < left → left + 1 ≤ mostLeft d ph → a < sizeOf (d .part) → b < sizeOf (d .part)
         → decideOf d (st was Status 0 ph (left + 1) a) (cyc p Read b 0) (sizeOf (d .part)) 0 ≡ decidedAs (Gives 0) (st was Status 0 ph left a) Nothing
     unfolding countedOff
     waits ph left a b e z m h g =
@@ -220,9 +229,49 @@ module _ (d : Device) (p : Pins) (u : Up d p) (was : State) where
         (counts s e ∙ if-false (eqb (left + 1 - 1) 0) _ _ (ne-eqb (left + 1 - 1) 0 (λ q. omega arith)) ∙ ap (λ (j : ℕ). settledAs (st was Status 0 ph j a) Nothing) (let q : left + 1 - 1 ≡ left = omega arith in q))
         (late-status (st was Status 0 ph left a) b refl)
 
-    pub ends : (ph : Phase) (a b : ℕ) → isBusy ph ≡ true → 1 ≤ mostLeft d ph → a < sizeOf (d .part) → b < sizeOf (d .part)
+    pub ends : (ph : Phase) (a b : ℕ) → Runs ph → 1 ≤ mostLeft d ph → a < sizeOf (d .part) → b < sizeOf (d .part)
         → decideOf d (st was Status 0 ph 1 a) (cyc p Read b 0) (sizeOf (d .part)) 0 ≡ decidedAs (Gives 128) (atRest was Status 128) (finishOf ph (d .part) a)
     unfolding countedOff
     ends ph a b e m h g =
         let s : State = st was Status 0 ph 1 a in
         decides s (atRest was Status 128) (finishOf ph (d .part) a) Read b 0 (busy-proper ph 1 a e (omega arith) m h) g (unasked-high (d .part) s (cyc p Read b 0) (u .up) (r .high)) (counts s e) (late-status (atRest was Status 128) b refl)
+
+    -- a running erase that is told to suspend, and the polls of the suspend: while cycles of it are left, and the last one
+    held-proper : (n left a : ℕ) → 0 < n → n ≤ d .suspend → 0 < left → left ≤ d .erase → a < sizeOf (d .part) → Proper d (st was Status 0 (Suspending n) left a)
+    unfolding badStatus badLeft badAddress
+    held-proper n left a y x z m h = record {
+      mode = refl;
+      status = refl;
+      left = or-both (eqb left 0 || ltb (d .erase) left) (eqb n 0 || ltb (d .suspend) n) (within (d .erase) left z m) (within (d .suspend) n y x);
+      address = lt-leb (sizeOf (d .part)) a h;
+    }
+
+    pub suspends : (left a b : ℕ) → 0 < left → left + 1 ≤ d .erase → a < sizeOf (d .part) → b < sizeOf (d .part)
+        → decideOf d (st was Status 0 Erasing (left + 1) a) (cyc p Write b 0xB0) (sizeOf (d .part)) 0 ≡ decidedAs Quiet (st was Status 0 (Suspending (d .suspend)) left a) Nothing
+    unfolding countedOff whileErasing lateOf noCommand suspendedRead noIdentifier
+    suspends left a b z m h g =
+        let s : State = st was Status 0 Erasing (left + 1) a in
+        decides s (st was Status 0 Erasing left a) Nothing Write b 0xB0 (busy-proper Erasing (left + 1) a (refl, refl) (omega arith) m h) g (unasked-high (d .part) s (cyc p Write b 0xB0) (u .up) (r .high))
+        (counts s (refl, refl) ∙ if-false (eqb (left + 1 - 1) 0) _ _ (ne-eqb (left + 1 - 1) 0 (λ q. omega arith)) ∙ ap (λ (j : ℕ). settledAs (st was Status 0 Erasing j a) Nothing) (let q : left + 1 - 1 ≡ left = omega arith in q))
+        refl
+
+    passes : (n left a : ℕ) → settleOf (d .part) (st was Status 0 (Suspending n) left a) p ≡ suspendPassed (st was Status 0 (Suspending n) left a)
+    unfolding settleOf passedOf
+    passes n left a = simp (u .up, r .high)
+
+    pub holds-on : (n left a b : ℕ) → 0 < n → n + 1 ≤ d .suspend → 0 < left → left ≤ d .erase → a < sizeOf (d .part) → b < sizeOf (d .part)
+        → decideOf d (st was Status 0 (Suspending (n + 1)) left a) (cyc p Read b 0) (sizeOf (d .part)) 0 ≡ decidedAs (Gives 0) (st was Status 0 (Suspending n) left a) Nothing
+    unfolding suspendPassed
+    holds-on n left a b y x z m h g =
+        let s : State = st was Status 0 (Suspending (n + 1)) left a in
+        decides s (st was Status 0 (Suspending n) left a) Nothing Read b 0 (held-proper (n + 1) left a (omega arith) x z m h) g (unasked-high (d .part) s (cyc p Read b 0) (u .up) (r .high))
+        (passes (n + 1) left a ∙ if-false (eqb (n + 1 - 1) 0) _ _ (ne-eqb (n + 1 - 1) 0 (λ q. omega arith)) ∙ ap (λ (j : ℕ). settledAs (st was Status 0 (Suspending j) left a) Nothing) (let q : n + 1 - 1 ≡ n = omega arith in q))
+        (late-status (st was Status 0 (Suspending n) left a) b refl)
+
+    pub held : (left a b : ℕ) → 1 ≤ d .suspend → 0 < left → left ≤ d .erase → a < sizeOf (d .part) → b < sizeOf (d .part)
+        → decideOf d (st was Status 0 (Suspending 1) left a) (cyc p Read b 0) (sizeOf (d .part)) 0 ≡ decidedAs (Gives 0xC0) (st was Status 0xC0 Suspended left a) Nothing
+    unfolding suspendPassed
+    held left a b x z m h g =
+        let s : State = st was Status 0 (Suspending 1) left a in
+        decides s (st was Status 0xC0 Suspended left a) Nothing Read b 0 (held-proper 1 left a (omega arith) x z m h) g (unasked-high (d .part) s (cyc p Read b 0) (u .up) (r .high))
+        (passes 1 left a) (late-status (st was Status 0xC0 Suspended left a) b refl)

@@ -40,7 +40,7 @@ use Rattle.loader_run_claims.specs.Made.{closingOf, busCycle as cyc}
 use Rattle.loader_run_claims.specs.Ends.{asWanted, eraseTried, programTried}
 use Rattle.loader_run_claims.proofs.Answers as answers
 use Rattle.loader_run_claims.proofs.Answers.{Up, Stuck}
-use Rattle.loader_run_claims.proofs.Reaching.{Reach, Told, does-as, arrive, prepend, turned, does}
+use Rattle.loader_run_claims.proofs.Reaching.{Reach, Answered, does-as, arrive, prepend, turned, does}
 use Rattle.loader_run_claims.proofs.Same.{same-list, none-risen, none-ahead, some-ahead}
 use Rattle.loader_run_claims.proofs.Phases as phases
 
@@ -54,8 +54,8 @@ module _ (d : Device) (p : Pins) (k : ℕ) (u : Up d p) (was : State) (w : List 
 
   -- two writes and a poll that finds a fault: the end by its number, with nothing begun
   module _ (A B C : Stage) (goA : isEnded A ≡ false) (goB : isEnded B ≡ false) (goC : isEnded C ≡ false) (i x n : ℕ) (asked : State) (c1 c2 c3 : Cycle)
-      (t1 : Told d w (rec A i 0) (atRest was Array 128) c1 Quiet asked Nothing) (t2 : Told d w (rec B i 0) asked c2 Quiet (atRest was Status x) Nothing)
-      (t3 : Told d w (rec C i 0) (atRest was Status x) c3 (Gives x) (atRest was Status x) Nothing) (b2 : begunFrom (d .part) asked (atRest was Status x) ≡ Nothing)
+      (t1 : Answered d w (rec A i 0) (atRest was Array 128) c1 Quiet asked Nothing) (t2 : Answered d w (rec B i 0) asked c2 Quiet (atRest was Status x) Nothing)
+      (t3 : Answered d w (rec C i 0) (atRest was Status x) c3 (Gives x) (atRest was Status x) Nothing) (b2 : begunFrom (d .part) asked (atRest was Status x) ≡ Nothing)
       (X sc : List ℕ) (lX : length X ≡ sizeOf (d .part))
       (n1 : nextOf (rec A i 0) 0 w (storeOf (rec A i 0) 0 sc) ≡ rec B i 0) (k1 : storeOf (rec A i 0) 0 sc ≡ sc)
       (n2 : nextOf (rec B i 0) 0 w (storeOf (rec B i 0) 0 sc) ≡ rec C i 0) (k2 : storeOf (rec B i 0) 0 sc ≡ sc)
@@ -107,10 +107,10 @@ module _ (d : Device) (p : Pins) (k : ℕ) (u : Up d p) (was : State) (w : List 
         subst (λ (l : Loader). Reach d w (conf l (atRest was Array 128) X ys cnt) (conf (rec (Ended n) 0 0) (atRest was Status x) X ys (cnt + 3)) [] (eraseTried p a))
         (sym (if-true (risesIn w ys) _ _ t))
         (failing EraseAsking EraseConfirming EraseWaiting refl refl refl 0 x n (st was Status 128 EraseAwaited 0 0) (cyc p Write a 0x20) (cyc p Write a 0xD0) (cyc p Read a 0)
-        (phases.told-first d p k u was w lw some EraseAsking 0 0 Write 0x20 (atRest was Array 128) Quiet (st was Status 128 EraseAwaited 0 0) Nothing refl (answers.asks-erase d p u was Array 128 a refl a-inside) refl)
-        (phases.told-first d p k u was w lw some EraseConfirming 0 0 Write 0xD0 (st was Status 128 EraseAwaited 0 0) Quiet (atRest was Status x) Nothing refl
+        (phases.answered-first d p k u was w lw some EraseAsking 0 0 Write 0x20 (atRest was Array 128) Quiet (st was Status 128 EraseAwaited 0 0) Nothing refl (answers.asks-erase d p u was Array 128 a refl a-inside) refl)
+        (phases.answered-first d p k u was w lw some EraseConfirming 0 0 Write 0xD0 (st was Status 128 EraseAwaited 0 0) Quiet (atRest was Status x) Nothing refl
         (answers.confirm-fails d p u was k low a stuck a-inside (phases.block-first d p k u was w lw some) ∙ ap (λ (y : ℕ). decidedAs Quiet (atRest was Status y) Nothing) q) refl)
-        (phases.told-first d p k u was w lw some EraseWaiting 0 0 Read 0 (atRest was Status x) (Gives x) (atRest was Status x) Nothing refl (answers.reads-status d p u was x a f a-inside) refl)
+        (phases.answered-first d p k u was w lw some EraseWaiting 0 0 Read 0 (atRest was Status x) (Gives x) (atRest was Status x) Nothing refl (answers.reads-status d p u was x a f a-inside) refl)
         refl X ys lX refl refl refl refl (ap (λ (v : List ℕ). nextOf (rec EraseWaiting 0 0) x w v) (erase-keeps x n ys e z) ∙ erase-ends x n ys ready e z) (erase-keeps x n ys e z) cnt)
       where
         a-inside : a < sizeOf (d .part)
@@ -125,10 +125,10 @@ module _ (d : Device) (p : Pins) (k : ℕ) (u : Up d p) (was : State) (w : List 
         subst (λ (l : Loader). Reach d w (conf l (atRest was Array 128) X ys cnt) (conf (rec (Ended n) i 0) (atRest was Status x) X ys (cnt + 3)) [] (programTried p (a + i) v))
         (sym (if-false (risesIn w ys) _ _ t ∙ if-true (ltb i (length w)) _ _ (lt-ltb i (length w) h)))
         (failing ProgramAsking ProgramSending ProgramWaiting refl refl refl i x n (st was Status 128 DataAwaited 0 0) (cyc p Write (a + i) 0x40) (cyc p Write (a + i) v) (cyc p Read (a + i) 0)
-        (phases.told-here d p k u was w lw some ProgramAsking i 0 Write 0x40 (atRest was Array 128) Quiet (st was Status 128 DataAwaited 0 0) Nothing h refl (answers.asks-program d p u was Array 128 (a + i) refl inside) refl)
-        (phases.told-here d p k u was w lw some ProgramSending i 0 Write v (st was Status 128 DataAwaited 0 0) Quiet (atRest was Status x) Nothing h refl
+        (phases.answered-here d p k u was w lw some ProgramAsking i 0 Write 0x40 (atRest was Array 128) Quiet (st was Status 128 DataAwaited 0 0) Nothing h refl (answers.asks-program d p u was Array 128 (a + i) refl inside) refl)
+        (phases.answered-here d p k u was w lw some ProgramSending i 0 Write v (st was Status 128 DataAwaited 0 0) Quiet (atRest was Status x) Nothing h refl
         (answers.data-fails d p u was k low (a + i) v stuck inside (phases.block-at d p k u was w lw some i h) ∙ ap (λ (y : ℕ). decidedAs Quiet (atRest was Status y) Nothing) q) refl)
-        (phases.told-here d p k u was w lw some ProgramWaiting i 0 Read 0 (atRest was Status x) (Gives x) (atRest was Status x) Nothing h refl (answers.reads-status d p u was x (a + i) f inside) refl)
+        (phases.answered-here d p k u was w lw some ProgramWaiting i 0 Read 0 (atRest was Status x) (Gives x) (atRest was Status x) Nothing h refl (answers.reads-status d p u was x (a + i) f inside) refl)
         refl X ys lX refl refl refl refl (program-ends i x n ys ready e z) refl cnt)
       where
         i : ℕ

@@ -18,7 +18,7 @@ use Rattle.device.specs.declared.Device.{Device}
 use Rattle.device.specs.Parts.{sizeOf, startOf, lengthOf, blockOf}
 use Rattle.device.proofs.Claims.{blocks-end-inside}
 use Rattle.model_types.specs.declared.Phase.{Phase}
-use Rattle.model_types.specs.declared.Phase.the-variants.{Free, EraseAwaited, DataAwaited, Programming, Erasing, Suspended}
+use Rattle.model_types.specs.declared.Phase.the-variants.{Free, EraseAwaited, DataAwaited, Programming, Erasing, Suspending, Suspended}
 use Rattle.model_types.specs.declared.Effect.{Effect}
 use Rattle.model_types.specs.declared.Effect.the-variants.{Nothing}
 use Rattle.model.specs.Begun.{pendingIn, pendingOf}
@@ -73,6 +73,7 @@ nothing-pending f z d v u = ap f (free (v .state .phase) u) ∙ z
     free DataAwaited e = refl
     free (Programming b) e = absurd (unlike e)
     free Erasing e = absurd (unlike e)
+    free (Suspending n′) e = absurd (unlike e)
     free Suspended e = absurd (unlike e)
 
 module _ (d : Device) (k : ℕ) (v : World) (w : List ℕ) (bs : List Bus) (lx : length (v .bytes) ≡ sizeOf (d .part)) (lw : length w ≡ lengthOf (d .part) k) (bx : Cells (d .part) (v .bytes))

@@ -26,7 +26,7 @@ use Rattle.model_types.specs.declared.Kind.the-variants.{Read, Write}
 use Rattle.model_types.specs.declared.Mode.{Mode}
 use Rattle.model_types.specs.declared.Mode.the-variants.{Array, Status}
 use Rattle.model_types.specs.declared.Phase.{Phase}
-use Rattle.model_types.specs.declared.Phase.the-variants.{Free, EraseAwaited, DataAwaited, Programming, Erasing, Suspended}
+use Rattle.model_types.specs.declared.Phase.the-variants.{Free, EraseAwaited, DataAwaited, Programming, Erasing, Suspending, Suspended}
 use Rattle.model_types.specs.declared.Effect.{Effect}
 use Rattle.model_types.specs.declared.Effect.the-variants.{Nothing, Program, Erase}
 use Rattle.model_types.specs.declared.Reply.{Reply}
@@ -53,10 +53,10 @@ use Rattle.loader.specs.Stages.{isEnded}
 use Rattle.loader_run_claims.specs.Wear.{programsOf, differing, baseOf, operationsOf}
 use Rattle.loader_run.proofs.Turning.{conf}
 use Rattle.loader_run_claims.specs.Made.{isSmooth, readsThen, pollsThen, openingThen, eraseThen, programThen, programsThen, closingOf, programmingOf, cyclesOf, busCycle as cyc}
-use Rattle.loader_run_claims.proofs.Reaching.{Reach, Told, Does, does-as, arrive, prepend, turned, does}
+use Rattle.loader_run_claims.proofs.Reaching.{Reach, Answered, Does, does-as, arrive, prepend, turned, does}
 use Rattle.loader_run_claims.proofs.Layers.{put-over, over-over, overwritten-length, overwritten-here, overwritten-agree}
 use Rattle.loader_run_claims.proofs.Answers as answers
-use Rattle.loader_run_claims.proofs.Answers.{Up, Ready}
+use Rattle.loader_run_claims.proofs.Answers.{Up, Ready, Runs}
 
 -- 50H leaves SR.7 alone of a ready status
 cleared : (x : ℕ) → fits 2 x ≡ true → bitAnd x 199 ≡ 128
@@ -112,13 +112,13 @@ module _ (d : Device) (p : Pins) (k : ℕ) (u : Up d p) (was : State) (w : List 
   here stage i q h = if-true (ltb i 16777216) (a + i) a (lt-ltb i 16777216 (omega (arith, length-small (d .part) k)))
 
   -- a stage whose cycle goes to an address known, and what the model decides on it
-  pub told-here : (stage : Stage) (i q : ℕ) (kind : Kind) (b : ℕ) (s : State) (reply : Reply) (s′ : State) (e : Effect) → i < length w → cycleOf (rec stage i q) w ≡ cyc p kind (hereOf (rec stage i q)) b
-      → decideOf d s (cyc p kind (a + i) b) (sizeOf (d .part)) 0 ≡ decidedAs reply s′ e → isSmooth (decidedAs reply s′ e) ≡ true → Told d w (rec stage i q) s (cyc p kind (a + i) b) reply s′ e
-  told-here stage i q kind b s reply s′ e h o x f = record { out = o ∙ ap (λ (y : ℕ). cyc p kind y b) (here stage i q h); decided = x; fine = f }
+  pub answered-here : (stage : Stage) (i q : ℕ) (kind : Kind) (b : ℕ) (s : State) (reply : Reply) (s′ : State) (e : Effect) → i < length w → cycleOf (rec stage i q) w ≡ cyc p kind (hereOf (rec stage i q)) b
+      → decideOf d s (cyc p kind (a + i) b) (sizeOf (d .part)) 0 ≡ decidedAs reply s′ e → isSmooth (decidedAs reply s′ e) ≡ true → Answered d w (rec stage i q) s (cyc p kind (a + i) b) reply s′ e
+  answered-here stage i q kind b s reply s′ e h o x f = record { out = o ∙ ap (λ (y : ℕ). cyc p kind y b) (here stage i q h); decided = x; fine = f }
 
-  pub told-first : (stage : Stage) (i q : ℕ) (kind : Kind) (b : ℕ) (s : State) (reply : Reply) (s′ : State) (e : Effect) → cycleOf (rec stage i q) w ≡ cyc p kind (firstAddress (rec stage i q)) b
-      → decideOf d s (cyc p kind a b) (sizeOf (d .part)) 0 ≡ decidedAs reply s′ e → isSmooth (decidedAs reply s′ e) ≡ true → Told d w (rec stage i q) s (cyc p kind a b) reply s′ e
-  told-first stage i q kind b s reply s′ e o x f = record { out = o ∙ ap (λ (y : ℕ). cyc p kind y b) (first stage i q); decided = x; fine = f }
+  pub answered-first : (stage : Stage) (i q : ℕ) (kind : Kind) (b : ℕ) (s : State) (reply : Reply) (s′ : State) (e : Effect) → cycleOf (rec stage i q) w ≡ cyc p kind (firstAddress (rec stage i q)) b
+      → decideOf d s (cyc p kind a b) (sizeOf (d .part)) 0 ≡ decidedAs reply s′ e → isSmooth (decidedAs reply s′ e) ≡ true → Answered d w (rec stage i q) s (cyc p kind a b) reply s′ e
+  answered-first stage i q kind b s reply s′ e o x f = record { out = o ∙ ap (λ (y : ℕ). cyc p kind y b) (first stage i q); decided = x; fine = f }
 
   -- the verify: byte i reads as wanted, and the next or the end follows
   verify-next : (i b : ℕ) → b ≡ getD w i 0 → i + 1 < length w → verifyMore (rec Verifying i 0) b w ≡ rec Verifying (i + 1) 0
@@ -133,17 +133,17 @@ module _ (d : Device) (p : Pins) (k : ℕ) (u : Up d p) (was : State) (w : List 
 
   module _ (xs : List ℕ) (lx : length xs ≡ sizeOf (d .part)) (holds : (i : ℕ) → i < length w → getD xs (a + i) 0 ≡ getD w i 0) (sc : List ℕ) (ls : length sc ≡ length w) where
     -- one byte of the verify
-    verify-told : (i : ℕ) (h : i < length w) → Told d w (rec Verifying i 0) (atRest was Array 128) (cyc p Read (a + i) 0) (GivesArray (a + i)) (atRest was Array 128) Nothing
-    verify-told i h = told-here Verifying i 0 Read 0 (atRest was Array 128) (GivesArray (a + i)) (atRest was Array 128) Nothing h refl (answers.reads d p u was 128 (a + i) refl (inside i h)) refl
+    verify-answered : (i : ℕ) (h : i < length w) → Answered d w (rec Verifying i 0) (atRest was Array 128) (cyc p Read (a + i) 0) (GivesArray (a + i)) (atRest was Array 128) Nothing
+    verify-answered i h = answered-here Verifying i 0 Read 0 (atRest was Array 128) (GivesArray (a + i)) (atRest was Array 128) Nothing h refl (answers.reads d p u was 128 (a + i) refl (inside i h)) refl
 
     verify-turn : (i cnt : ℕ) (h : i < length w) (l′ : Loader) → verifyMore (rec Verifying i 0) (getD xs (a + i) 0) w ≡ l′
         → turnOf d w (conf (rec Verifying i 0) (atRest was Array 128) xs (overwritten i w sc) cnt) ≡ conf l′ (atRest was Array 128) xs (overwritten (i + 1) w sc) (cnt + 1)
     verify-turn i cnt h l′ e =
-        turned d w (rec Verifying i 0) (atRest was Array 128) xs (overwritten i w sc) cnt refl lx (cyc p Read (a + i) 0) (GivesArray (a + i)) (atRest was Array 128) Nothing (verify-told i h)
+        turned d w (rec Verifying i 0) (atRest was Array 128) xs (overwritten i w sc) cnt refl lx (cyc p Read (a + i) 0) (GivesArray (a + i)) (atRest was Array 128) Nothing (verify-answered i h)
         ∙ (λ j. conf (e j) (atRest was Array 128) xs ((ap (λ (v : ℕ). set (overwritten i w sc) i v) (holds i h) ∙ overwritten-more w sc i h (omega arith)) j) (cnt + 1))
 
     verify-does : (i cnt : ℕ) (h : i < length w) → Does d w (conf (rec Verifying i 0) (atRest was Array 128) xs (overwritten i w sc) cnt) Nothing (cyc p Read (a + i) 0)
-    verify-does i cnt h = does d w (rec Verifying i 0) (atRest was Array 128) xs (overwritten i w sc) cnt refl lx (cyc p Read (a + i) 0) (GivesArray (a + i)) (atRest was Array 128) Nothing (verify-told i h)
+    verify-does i cnt h = does d w (rec Verifying i 0) (atRest was Array 128) xs (overwritten i w sc) cnt refl lx (cyc p Read (a + i) 0) (GivesArray (a + i)) (atRest was Array 128) Nothing (verify-answered i h)
 
     verifying : (j i cnt c : ℕ) → i + (j + 1) ≡ length w → c ≡ cnt + (j + 1)
         → Reach d w (conf (rec Verifying i 0) (atRest was Array 128) xs (overwritten i w sc) cnt) (conf (rec (Ended 0) (length w - 1) 0) (atRest was Array 128) xs w c) [] (readsThen p (suc j) a i [])
@@ -192,13 +192,13 @@ module _ (d : Device) (p : Pins) (k : ℕ) (u : Up d p) (was : State) (w : List 
         → Reach d w (conf (rec Closing 0 0) (atRest was m 128) (overlaid xs a w) sc cnt) (final (overlaid xs a w) c) [] (closingOf p a (length w))
     closing m sc cnt c ls q =
         prepend d w _ _ _ Nothing (cyc p Write a 0xFF) [] (readsThen p (length w) a 0 [])
-        (turned d w (rec Closing 0 0) (atRest was m 128) (overlaid xs a w) sc cnt refl (sized w refl) (cyc p Write a 0xFF) Quiet (atRest was Array 128) Nothing told)
-        (does d w (rec Closing 0 0) (atRest was m 128) (overlaid xs a w) sc cnt refl (sized w refl) (cyc p Write a 0xFF) Quiet (atRest was Array 128) Nothing told)
+        (turned d w (rec Closing 0 0) (atRest was m 128) (overlaid xs a w) sc cnt refl (sized w refl) (cyc p Write a 0xFF) Quiet (atRest was Array 128) Nothing answered)
+        (does d w (rec Closing 0 0) (atRest was m 128) (overlaid xs a w) sc cnt refl (sized w refl) (cyc p Write a 0xFF) Quiet (atRest was Array 128) Nothing answered)
         (subst (λ (n : ℕ). Reach d w (conf (rec Verifying 0 0) (atRest was Array 128) (overlaid xs a w) sc (cnt + 1)) (final (overlaid xs a w) c) [] (readsThen p n a 0 [])) one-more
         (verifying (overlaid xs a w) (sized w refl) (λ i h. byte-at w i refl h) sc ls (length w - 1) 0 (cnt + 1) c (omega arith) (omega arith)))
       where
-        told : Told d w (rec Closing 0 0) (atRest was m 128) (cyc p Write a 0xFF) Quiet (atRest was Array 128) Nothing
-        told = told-first Closing 0 0 Write 0xFF (atRest was m 128) Quiet (atRest was Array 128) Nothing refl (answers.opens d p u was m 128 a refl a-inside) refl
+        answered : Answered d w (rec Closing 0 0) (atRest was m 128) (cyc p Write a 0xFF) Quiet (atRest was Array 128) Nothing
+        answered = answered-first Closing 0 0 Write 0xFF (atRest was m 128) Quiet (atRest was Array 128) Nothing refl (answers.opens d p u was m 128 a refl a-inside) refl
 
     -- the last of some polls, put to the others
     polls-last : (n x : ℕ) (cs : List Cycle) → pollsThen p n x (cyc p Read x 0 ∷ cs) ≡ pollsThen p (suc n) x cs
@@ -206,7 +206,7 @@ module _ (d : Device) (p : Pins) (k : ℕ) (u : Up d p) (was : State) (w : List 
     polls-last (suc n) x cs = ap (λ (z : List Cycle). cyc p Read x 0 ∷ z) (polls-last n x cs)
 
     -- the polls of an operation, of either kind, while cycles are left
-    module _ (r : Ready d p k) (W : Stage) (i : ℕ) (ph : Phase) (adr to : ℕ) (going : isEnded W ≡ false) (busy : isBusy ph ≡ true) (adr-in : adr < sizeOf (d .part)) (to-in : to < sizeOf (d .part))
+    module _ (r : Ready d p k) (W : Stage) (i : ℕ) (ph : Phase) (adr to : ℕ) (going : isEnded W ≡ false) (busy : Runs ph) (adr-in : adr < sizeOf (d .part)) (to-in : to < sizeOf (d .part))
         (X sc : List ℕ) (lX : length X ≡ sizeOf (d .part)) (goes : (q : ℕ) → cycleOf (rec W i q) w ≡ cyc p Read to 0)
         (polled : (q : ℕ) → nextOf (rec W i q) 0 w (storeOf (rec W i q) 0 sc) ≡ pollMore (rec W i q) W) (kept : (q : ℕ) → storeOf (rec W i q) 0 sc ≡ sc) where
       poll-more : (q : ℕ) → q < 65534 → pollMore (rec W i q) W ≡ rec W i (q + 1)
@@ -220,16 +220,16 @@ module _ (d : Device) (p : Pins) (k : ℕ) (u : Up d p) (was : State) (w : List 
       waiting (suc left) q cnt e es cs h m rest =
           subst (λ (n : ℕ). Reach d w (conf (rec W i q) (st was Status 0 ph n adr) X sc cnt) e es (pollsThen p (suc left) to cs)) (let z : left + 1 + 1 ≡ suc left + 1 = omega arith in z)
           (prepend d w _ (conf (rec W i (q + 1)) (st was Status 0 ph (left + 1) adr) X sc (cnt + 1)) e Nothing (cyc p Read to 0) es (pollsThen p left to cs)
-          (turned d w (rec W i q) (st was Status 0 ph (left + 1 + 1) adr) X sc cnt going lX (cyc p Read to 0) (Gives 0) (st was Status 0 ph (left + 1) adr) Nothing told
+          (turned d w (rec W i q) (st was Status 0 ph (left + 1 + 1) adr) X sc cnt going lX (cyc p Read to 0) (Gives 0) (st was Status 0 ph (left + 1) adr) Nothing answered
           ∙ (λ t. conf ((polled q ∙ poll-more q (omega arith)) t) (st was Status 0 ph (left + 1) adr) X (kept q t) (cnt + 1)))
-          (does-as d w _ _ Nothing (cyc p Read to 0) none (does d w (rec W i q) (st was Status 0 ph (left + 1 + 1) adr) X sc cnt going lX (cyc p Read to 0) (Gives 0) (st was Status 0 ph (left + 1) adr) Nothing told))
+          (does-as d w _ _ Nothing (cyc p Read to 0) none (does d w (rec W i q) (st was Status 0 ph (left + 1 + 1) adr) X sc cnt going lX (cyc p Read to 0) (Gives 0) (st was Status 0 ph (left + 1) adr) Nothing answered))
           (waiting left (q + 1) (cnt + 1) e es cs (omega arith) (omega arith) (λ q′ cnt′ z. rest q′ cnt′ (omega arith))))
         where
-          told : Told d w (rec W i q) (st was Status 0 ph (left + 1 + 1) adr) (cyc p Read to 0) (Gives 0) (st was Status 0 ph (left + 1) adr) Nothing
-          told = record { out = goes q; decided = answers.waits d p u was k r ph (left + 1) adr to busy (omega arith) (omega arith) adr-in to-in; fine = refl }
+          answered : Answered d w (rec W i q) (st was Status 0 ph (left + 1 + 1) adr) (cyc p Read to 0) (Gives 0) (st was Status 0 ph (left + 1) adr) Nothing
+          answered = record { out = goes q; decided = answers.waits d p u was k r ph (left + 1) adr to busy (omega arith) (omega arith) adr-in to-in; fine = refl }
 
           none : begunFrom (d .part) (st was Status 0 ph (left + 1 + 1) adr) (st was Status 0 ph (left + 1) adr) ≡ Nothing
-          none = quiet ph busy
+          none = quiet ph (busy .0)
             where
               quiet : (x : Phase) → isBusy x ≡ true → (if isAwaited x then pendingIn x (d .part) adr else Nothing) ≡ Nothing
               quiet Free b = refl
@@ -237,6 +237,7 @@ module _ (d : Device) (p : Pins) (k : ℕ) (u : Up d p) (was : State) (w : List 
               quiet DataAwaited b = absurd (unlike (sym b))
               quiet (Programming y) b = refl
               quiet Erasing b = refl
+              quiet (Suspending m) b = refl
               quiet Suspended b = refl
 
       -- all the polls of an operation that takes n cycles
@@ -266,18 +267,18 @@ module _ (d : Device) (p : Pins) (k : ℕ) (u : Up d p) (was : State) (w : List 
         → Reach d w (conf (rec ProgramAsking i 0) (atRest was m 128) (overlaid xs a ys) sc cnt) e (Program (a + i) (getD w i 0) ∷ es) (programThen d p (a + i) (getD w i 0) cs)
     one-program r m i cnt ys sc e es cs h ly falls z b rest =
         prepend d w _ _ e Nothing (cyc p Write (a + i) 0x40) (Program (a + i) v ∷ es) _
-        (turned d w (rec ProgramAsking i 0) (atRest was m 128) X sc cnt refl lX (cyc p Write (a + i) 0x40) Quiet asked Nothing told1)
-        (does d w (rec ProgramAsking i 0) (atRest was m 128) X sc cnt refl lX (cyc p Write (a + i) 0x40) Quiet asked Nothing told1)
+        (turned d w (rec ProgramAsking i 0) (atRest was m 128) X sc cnt refl lX (cyc p Write (a + i) 0x40) Quiet asked Nothing answered1)
+        (does d w (rec ProgramAsking i 0) (atRest was m 128) X sc cnt refl lX (cyc p Write (a + i) 0x40) Quiet asked Nothing answered1)
         (prepend d w _ _ e (Program (a + i) v) (cyc p Write (a + i) v) es _
-        (turned d w (rec ProgramSending i 0) asked X sc (cnt + 1) refl lX (cyc p Write (a + i) v) Quiet (st was Status 0 (Programming v) (d .program) (a + i)) Nothing told2)
-        (does d w (rec ProgramSending i 0) asked X sc (cnt + 1) refl lX (cyc p Write (a + i) v) Quiet (st was Status 0 (Programming v) (d .program) (a + i)) Nothing told2)
-        (waiting-all r ProgramWaiting i (Programming v) (a + i) (a + i) refl refl (inside i h) (inside i h) X sc lX
+        (turned d w (rec ProgramSending i 0) asked X sc (cnt + 1) refl lX (cyc p Write (a + i) v) Quiet (st was Status 0 (Programming v) (d .program) (a + i)) Nothing answered2)
+        (does d w (rec ProgramSending i 0) asked X sc (cnt + 1) refl lX (cyc p Write (a + i) v) Quiet (st was Status 0 (Programming v) (d .program) (a + i)) Nothing answered2)
+        (waiting-all r ProgramWaiting i (Programming v) (a + i) (a + i) refl (refl, refl) (inside i h) (inside i h) X sc lX
         (λ q. ap (λ (x : ℕ). cyc p Read x 0) (here ProgramWaiting i q h)) (λ q. program-poll i q sc) (λ q. refl)
         (d .program) (cnt + 1 + 1) e es cs z b (omega arith)
         (λ q cnt′ t. prepend d w _ _ e Nothing (cyc p Read (a + i) 0) es cs
-        (turned d w (rec ProgramWaiting i q) (st was Status 0 (Programming v) 1 (a + i)) X sc cnt′ refl lX (cyc p Read (a + i) 0) (Gives 128) (atRest was Status 128) (Program (a + i) v) (told3 q)
+        (turned d w (rec ProgramWaiting i q) (st was Status 0 (Programming v) 1 (a + i)) X sc cnt′ refl lX (cyc p Read (a + i) 0) (Gives 128) (atRest was Status 128) (Program (a + i) v) (answered3 q)
         ∙ (λ x. conf (programmed i q sc h x) (atRest was Status 128) (stored x) sc (cnt′ + 1)))
-        (does d w (rec ProgramWaiting i q) (st was Status 0 (Programming v) 1 (a + i)) X sc cnt′ refl lX (cyc p Read (a + i) 0) (Gives 128) (atRest was Status 128) (Program (a + i) v) (told3 q))
+        (does d w (rec ProgramWaiting i q) (st was Status 0 (Programming v) 1 (a + i)) X sc cnt′ refl lX (cyc p Read (a + i) 0) (Gives 128) (atRest was Status 128) (Program (a + i) v) (answered3 q))
         (rest (cnt′ + 1) (omega arith)))))
       where
         v : ℕ
@@ -292,16 +293,16 @@ module _ (d : Device) (p : Pins) (k : ℕ) (u : Up d p) (was : State) (w : List 
         asked : State
         asked = st was Status 128 DataAwaited 0 0
 
-        told1 : Told d w (rec ProgramAsking i 0) (atRest was m 128) (cyc p Write (a + i) 0x40) Quiet asked Nothing
-        told1 = told-here ProgramAsking i 0 Write 0x40 (atRest was m 128) Quiet asked Nothing h refl (answers.asks-program d p u was m 128 (a + i) refl (inside i h)) refl
+        answered1 : Answered d w (rec ProgramAsking i 0) (atRest was m 128) (cyc p Write (a + i) 0x40) Quiet asked Nothing
+        answered1 = answered-here ProgramAsking i 0 Write 0x40 (atRest was m 128) Quiet asked Nothing h refl (answers.asks-program d p u was m 128 (a + i) refl (inside i h)) refl
 
-        told2 : Told d w (rec ProgramSending i 0) asked (cyc p Write (a + i) v) Quiet (st was Status 0 (Programming v) (d .program) (a + i)) Nothing
-        told2 = told-here ProgramSending i 0 Write v asked Quiet (st was Status 0 (Programming v) (d .program) (a + i)) Nothing h refl (answers.sends d p u was k r (a + i) v (inside i h) (block-at i h)) refl
+        answered2 : Answered d w (rec ProgramSending i 0) asked (cyc p Write (a + i) v) Quiet (st was Status 0 (Programming v) (d .program) (a + i)) Nothing
+        answered2 = answered-here ProgramSending i 0 Write v asked Quiet (st was Status 0 (Programming v) (d .program) (a + i)) Nothing h refl (answers.sends d p u was k r (a + i) v (inside i h) (block-at i h)) refl
 
-        told3 : (q : ℕ) → Told d w (rec ProgramWaiting i q) (st was Status 0 (Programming v) 1 (a + i)) (cyc p Read (a + i) 0) (Gives 128) (atRest was Status 128) (Program (a + i) v)
-        told3 q =
-            told-here ProgramWaiting i q Read 0 (st was Status 0 (Programming v) 1 (a + i)) (Gives 128) (atRest was Status 128) (Program (a + i) v) h refl
-            (answers.ends d p u was k r (Programming v) (a + i) (a + i) refl z (inside i h) (inside i h)) refl
+        answered3 : (q : ℕ) → Answered d w (rec ProgramWaiting i q) (st was Status 0 (Programming v) 1 (a + i)) (cyc p Read (a + i) 0) (Gives 128) (atRest was Status 128) (Program (a + i) v)
+        answered3 q =
+            answered-here ProgramWaiting i q Read 0 (st was Status 0 (Programming v) 1 (a + i)) (Gives 128) (atRest was Status 128) (Program (a + i) v) h refl
+            (answers.ends d p u was k r (Programming v) (a + i) (a + i) (refl, refl) z (inside i h) (inside i h)) refl
 
         stored : set X (a + i) (bitAnd (getD X (a + i) 0) v) ≡ overlaid xs a (set ys i v)
         stored =
@@ -406,19 +407,19 @@ module _ (d : Device) (p : Pins) (k : ℕ) (u : Up d p) (was : State) (w : List 
         → Reach d w (conf (rec EraseAsking 0 0) (atRest was m 128) (overlaid xs a ys) sc cnt) e (Erase k ∷ es) (eraseThen d p a cs)
     erasing r m cnt ys sc e es cs ly ls z b rest =
         prepend d w _ _ e Nothing (cyc p Write a 0x20) (Erase k ∷ es) _
-        (turned d w (rec EraseAsking 0 0) (atRest was m 128) X sc cnt refl lX (cyc p Write a 0x20) Quiet asked Nothing told1)
-        (does d w (rec EraseAsking 0 0) (atRest was m 128) X sc cnt refl lX (cyc p Write a 0x20) Quiet asked Nothing told1)
+        (turned d w (rec EraseAsking 0 0) (atRest was m 128) X sc cnt refl lX (cyc p Write a 0x20) Quiet asked Nothing answered1)
+        (does d w (rec EraseAsking 0 0) (atRest was m 128) X sc cnt refl lX (cyc p Write a 0x20) Quiet asked Nothing answered1)
         (prepend d w _ _ e (Erase k) (cyc p Write a 0xD0) es _
-        (turned d w (rec EraseConfirming 0 0) asked X sc (cnt + 1) refl lX (cyc p Write a 0xD0) Quiet (st was Status 0 Erasing (d .erase) a) Nothing told2)
+        (turned d w (rec EraseConfirming 0 0) asked X sc (cnt + 1) refl lX (cyc p Write a 0xD0) Quiet (st was Status 0 Erasing (d .erase) a) Nothing answered2)
         (does-as d w _ _ (Erase k) (cyc p Write a 0xD0) (ap Erase block-first)
-        (does d w (rec EraseConfirming 0 0) asked X sc (cnt + 1) refl lX (cyc p Write a 0xD0) Quiet (st was Status 0 Erasing (d .erase) a) Nothing told2))
-        (waiting-all r EraseWaiting 0 Erasing a a refl refl a-inside a-inside X sc lX
+        (does d w (rec EraseConfirming 0 0) asked X sc (cnt + 1) refl lX (cyc p Write a 0xD0) Quiet (st was Status 0 Erasing (d .erase) a) Nothing answered2))
+        (waiting-all r EraseWaiting 0 Erasing a a refl (refl, refl) a-inside a-inside X sc lX
         (λ q. ap (λ (x : ℕ). cyc p Read x 0) (first EraseWaiting 0 q)) (λ q. ap (λ (y : List ℕ). nextOf (rec EraseWaiting 0 q) 0 w y) (erase-keeps q sc) ∙ erase-poll q sc) (λ q. erase-keeps q sc)
         (d .erase) (cnt + 1 + 1) e es cs z b (omega arith)
         (λ q cnt′ t. prepend d w _ _ e Nothing (cyc p Read a 0) es cs
-        (turned d w (rec EraseWaiting 0 q) (st was Status 0 Erasing 1 a) X sc cnt′ refl lX (cyc p Read a 0) (Gives 128) (atRest was Status 128) (Erase (blockOf (d .part) a)) (told3 q)
+        (turned d w (rec EraseWaiting 0 q) (st was Status 0 Erasing 1 a) X sc cnt′ refl lX (cyc p Read a 0) (Gives 128) (atRest was Status 128) (Erase (blockOf (d .part) a)) (answered3 q)
         ∙ (λ x. conf ((ap (λ (y : List ℕ). nextOf (rec EraseWaiting 0 q) 128 w y) (erase-fills q sc ls) ∙ erased-on q blank) x) (atRest was Status 128) (all-erased x) (erase-fills q sc ls x) (cnt′ + 1)))
-        (does d w (rec EraseWaiting 0 q) (st was Status 0 Erasing 1 a) X sc cnt′ refl lX (cyc p Read a 0) (Gives 128) (atRest was Status 128) (Erase (blockOf (d .part) a)) (told3 q))
+        (does d w (rec EraseWaiting 0 q) (st was Status 0 Erasing 1 a) X sc cnt′ refl lX (cyc p Read a 0) (Gives 128) (atRest was Status 128) (Erase (blockOf (d .part) a)) (answered3 q))
         (rest (cnt′ + 1) (omega arith)))))
       where
         X : List ℕ
@@ -430,14 +431,14 @@ module _ (d : Device) (p : Pins) (k : ℕ) (u : Up d p) (was : State) (w : List 
         asked : State
         asked = st was Status 128 EraseAwaited 0 0
 
-        told1 : Told d w (rec EraseAsking 0 0) (atRest was m 128) (cyc p Write a 0x20) Quiet asked Nothing
-        told1 = told-first EraseAsking 0 0 Write 0x20 (atRest was m 128) Quiet asked Nothing refl (answers.asks-erase d p u was m 128 a refl a-inside) refl
+        answered1 : Answered d w (rec EraseAsking 0 0) (atRest was m 128) (cyc p Write a 0x20) Quiet asked Nothing
+        answered1 = answered-first EraseAsking 0 0 Write 0x20 (atRest was m 128) Quiet asked Nothing refl (answers.asks-erase d p u was m 128 a refl a-inside) refl
 
-        told2 : Told d w (rec EraseConfirming 0 0) asked (cyc p Write a 0xD0) Quiet (st was Status 0 Erasing (d .erase) a) Nothing
-        told2 = told-first EraseConfirming 0 0 Write 0xD0 asked Quiet (st was Status 0 Erasing (d .erase) a) Nothing refl (answers.confirms d p u was k r a a-inside block-first) refl
+        answered2 : Answered d w (rec EraseConfirming 0 0) asked (cyc p Write a 0xD0) Quiet (st was Status 0 Erasing (d .erase) a) Nothing
+        answered2 = answered-first EraseConfirming 0 0 Write 0xD0 asked Quiet (st was Status 0 Erasing (d .erase) a) Nothing refl (answers.confirms d p u was k r a a-inside block-first) refl
 
-        told3 : (q : ℕ) → Told d w (rec EraseWaiting 0 q) (st was Status 0 Erasing 1 a) (cyc p Read a 0) (Gives 128) (atRest was Status 128) (Erase (blockOf (d .part) a))
-        told3 q = told-first EraseWaiting 0 q Read 0 (st was Status 0 Erasing 1 a) (Gives 128) (atRest was Status 128) (Erase (blockOf (d .part) a)) refl (answers.ends d p u was k r Erasing a a refl z a-inside a-inside) refl
+        answered3 : (q : ℕ) → Answered d w (rec EraseWaiting 0 q) (st was Status 0 Erasing 1 a) (cyc p Read a 0) (Gives 128) (atRest was Status 128) (Erase (blockOf (d .part) a))
+        answered3 q = answered-first EraseWaiting 0 q Read 0 (st was Status 0 Erasing 1 a) (Gives 128) (atRest was Status 128) (Erase (blockOf (d .part) a)) refl (answers.ends d p u was k r Erasing a a (refl, refl) z a-inside a-inside) refl
 
         all-erased : erased (d .part) (blockOf (d .part) a) X ≡ overlaid xs a blank
         all-erased = erased-blank X (blockOf (d .part) a) block-first ∙ over-over xs a ys blank (a-within xs lx) (ly ∙ sym (length-replicate (length w) (ones (d .part))))
@@ -456,8 +457,8 @@ module _ (d : Device) (p : Pins) (k : ℕ) (u : Up d p) (was : State) (w : List 
     after-same i sc = refl
 
     module _ (ys sc : List ℕ) (ly : length ys ≡ length w) (ls : length sc ≡ length w) where
-      read-told : (i : ℕ) (h : i < length w) → Told d w (rec Reading i 0) (atRest was Array 128) (cyc p Read (a + i) 0) (GivesArray (a + i)) (atRest was Array 128) Nothing
-      read-told i h = told-here Reading i 0 Read 0 (atRest was Array 128) (GivesArray (a + i)) (atRest was Array 128) Nothing h refl (answers.reads d p u was 128 (a + i) refl (inside i h)) refl
+      read-answered : (i : ℕ) (h : i < length w) → Answered d w (rec Reading i 0) (atRest was Array 128) (cyc p Read (a + i) 0) (GivesArray (a + i)) (atRest was Array 128) Nothing
+      read-answered i h = answered-here Reading i 0 Read 0 (atRest was Array 128) (GivesArray (a + i)) (atRest was Array 128) Nothing h refl (answers.reads d p u was 128 (a + i) refl (inside i h)) refl
 
       overwritten-read : (i : ℕ) (h : i < length w) → set (overwritten i ys sc) i (getD (overlaid xs a ys) (a + i) 0) ≡ overwritten (i + 1) ys sc
       overwritten-read i h = ap (λ (v : ℕ). set (overwritten i ys sc) i v) (byte-at ys i ly h) ∙ overwritten-more ys sc i (omega arith) (omega arith)
@@ -468,9 +469,9 @@ module _ (d : Device) (p : Pins) (k : ℕ) (u : Up d p) (was : State) (w : List 
       reading zero i cnt e es cs q rest =
           let h : i < length w = omega arith in
           prepend d w _ _ e Nothing (cyc p Read (a + i) 0) es cs
-          (turned d w (rec Reading i 0) (atRest was Array 128) (overlaid xs a ys) (overwritten i ys sc) cnt refl (sized ys ly) (cyc p Read (a + i) 0) (GivesArray (a + i)) (atRest was Array 128) Nothing (read-told i h)
+          (turned d w (rec Reading i 0) (atRest was Array 128) (overlaid xs a ys) (overwritten i ys sc) cnt refl (sized ys ly) (cyc p Read (a + i) 0) (GivesArray (a + i)) (atRest was Array 128) Nothing (read-answered i h)
           ∙ (λ t. conf ((ap (λ (y : List ℕ). afterRead (rec Reading i 0) w y) (overwritten-read i h ∙ whole) ∙ read-last i ys (omega arith) ∙ after-same i ys) t) (atRest was Array 128) (overlaid xs a ys) ((overwritten-read i h ∙ whole) t) (cnt + 1)))
-          (does d w (rec Reading i 0) (atRest was Array 128) (overlaid xs a ys) (overwritten i ys sc) cnt refl (sized ys ly) (cyc p Read (a + i) 0) (GivesArray (a + i)) (atRest was Array 128) Nothing (read-told i h))
+          (does d w (rec Reading i 0) (atRest was Array 128) (overlaid xs a ys) (overwritten i ys sc) cnt refl (sized ys ly) (cyc p Read (a + i) 0) (GivesArray (a + i)) (atRest was Array 128) Nothing (read-answered i h))
           (rest (cnt + 1) (omega arith))
         where
           whole : overwritten (i + 1) ys sc ≡ ys
@@ -478,9 +479,9 @@ module _ (d : Device) (p : Pins) (k : ℕ) (u : Up d p) (was : State) (w : List 
       reading (suc j) i cnt e es cs q rest =
           let h : i < length w = omega arith in
           prepend d w _ _ e Nothing (cyc p Read (a + i) 0) es (readsThen p (suc j) a (i + 1) cs)
-          (turned d w (rec Reading i 0) (atRest was Array 128) (overlaid xs a ys) (overwritten i ys sc) cnt refl (sized ys ly) (cyc p Read (a + i) 0) (GivesArray (a + i)) (atRest was Array 128) Nothing (read-told i h)
+          (turned d w (rec Reading i 0) (atRest was Array 128) (overlaid xs a ys) (overwritten i ys sc) cnt refl (sized ys ly) (cyc p Read (a + i) 0) (GivesArray (a + i)) (atRest was Array 128) Nothing (read-answered i h)
           ∙ (λ t. conf (read-next i (set (overwritten i ys sc) i (getD (overlaid xs a ys) (a + i) 0)) (omega arith) t) (atRest was Array 128) (overlaid xs a ys) (overwritten-read i h t) (cnt + 1)))
-          (does d w (rec Reading i 0) (atRest was Array 128) (overlaid xs a ys) (overwritten i ys sc) cnt refl (sized ys ly) (cyc p Read (a + i) 0) (GivesArray (a + i)) (atRest was Array 128) Nothing (read-told i h))
+          (does d w (rec Reading i 0) (atRest was Array 128) (overlaid xs a ys) (overwritten i ys sc) cnt refl (sized ys ly) (cyc p Read (a + i) 0) (GivesArray (a + i)) (atRest was Array 128) Nothing (read-answered i h))
           (reading j (i + 1) (cnt + 1) e es cs (omega arith) (λ cnt′ z. rest cnt′ (omega arith)))
 
       -- where a load stands before it, and after the first reads
@@ -495,22 +496,22 @@ module _ (d : Device) (p : Pins) (k : ℕ) (u : Up d p) (was : State) (w : List 
           → Reach d w (fore m x) e es (openingThen p a (length w) cs)
       opening m x f e es cs rest =
           prepend d w _ _ e Nothing (cyc p Write a 0x50) es _
-          (turned d w (rec Clearing 0 0) (atRest was m x) (overlaid xs a ys) sc 0 refl (sized ys ly) (cyc p Write a 0x50) Quiet (atRest was m 128) Nothing told1)
-          (does d w (rec Clearing 0 0) (atRest was m x) (overlaid xs a ys) sc 0 refl (sized ys ly) (cyc p Write a 0x50) Quiet (atRest was m 128) Nothing told1)
+          (turned d w (rec Clearing 0 0) (atRest was m x) (overlaid xs a ys) sc 0 refl (sized ys ly) (cyc p Write a 0x50) Quiet (atRest was m 128) Nothing answered1)
+          (does d w (rec Clearing 0 0) (atRest was m x) (overlaid xs a ys) sc 0 refl (sized ys ly) (cyc p Write a 0x50) Quiet (atRest was m 128) Nothing answered1)
           (prepend d w _ _ e Nothing (cyc p Write a 0xFF) es _
-          (turned d w (rec Opening 0 0) (atRest was m 128) (overlaid xs a ys) sc (0 + 1) refl (sized ys ly) (cyc p Write a 0xFF) Quiet (atRest was Array 128) Nothing told2)
-          (does d w (rec Opening 0 0) (atRest was m 128) (overlaid xs a ys) sc (0 + 1) refl (sized ys ly) (cyc p Write a 0xFF) Quiet (atRest was Array 128) Nothing told2)
+          (turned d w (rec Opening 0 0) (atRest was m 128) (overlaid xs a ys) sc (0 + 1) refl (sized ys ly) (cyc p Write a 0xFF) Quiet (atRest was Array 128) Nothing answered2)
+          (does d w (rec Opening 0 0) (atRest was m 128) (overlaid xs a ys) sc (0 + 1) refl (sized ys ly) (cyc p Write a 0xFF) Quiet (atRest was Array 128) Nothing answered2)
           (subst (λ (n : ℕ). Reach d w (conf (rec Reading 0 0) (atRest was Array 128) (overlaid xs a ys) sc (0 + 1 + 1)) e es (readsThen p n a 0 cs)) one-more
           (reading (length w - 1) 0 (0 + 1 + 1) e es cs (omega arith)
           (λ cnt z. subst (λ (n : ℕ). Reach d w (judged n) e es cs) (let y : 2 + length w ≡ cnt = omega arith in y) rest))))
         where
-          told1 : Told d w (rec Clearing 0 0) (atRest was m x) (cyc p Write a 0x50) Quiet (atRest was m 128) Nothing
-          told1 =
-              told-first Clearing 0 0 Write 0x50 (atRest was m x) Quiet (atRest was m 128) Nothing refl
+          answered1 : Answered d w (rec Clearing 0 0) (atRest was m x) (cyc p Write a 0x50) Quiet (atRest was m 128) Nothing
+          answered1 =
+              answered-first Clearing 0 0 Write 0x50 (atRest was m x) Quiet (atRest was m 128) Nothing refl
               (answers.clears d p u was m x a f a-inside ∙ ap (λ (y : ℕ). decidedAs Quiet (atRest was m y) Nothing) (cleared x f)) refl
 
-          told2 : Told d w (rec Opening 0 0) (atRest was m 128) (cyc p Write a 0xFF) Quiet (atRest was Array 128) Nothing
-          told2 = told-first Opening 0 0 Write 0xFF (atRest was m 128) Quiet (atRest was Array 128) Nothing refl (answers.opens d p u was m 128 a refl a-inside) refl
+          answered2 : Answered d w (rec Opening 0 0) (atRest was m 128) (cyc p Write a 0xFF) Quiet (atRest was Array 128) Nothing
+          answered2 = answered-first Opening 0 0 Write 0xFF (atRest was m 128) Quiet (atRest was Array 128) Nothing refl (answers.opens d p u was m 128 a refl a-inside) refl
 
       -- the whole load, whether some bit must rise or none
       pub loading : (r : Ready d p k) (m : Mode) (x c : ℕ) → fits 2 x ≡ true → Cells (d .part) w → 0 < d .program → d .program ≤ 65535 → 0 < d .erase → d .erase ≤ 65535

@@ -67,15 +67,15 @@ prepend d w c c′ e op cy es cs t x r =
     }
 
 -- the cycle that a record has out, and what the model decides on it; the model takes it and nothing is cut
-pub record Told (d : Device) (w : List ℕ) (l : Loader) (s : State) (cy : Cycle) (reply : Reply) (s′ : State) (e : Effect) : Type 0 where
+pub record Answered (d : Device) (w : List ℕ) (l : Loader) (s : State) (cy : Cycle) (reply : Reply) (s′ : State) (e : Effect) : Type 0 where
   pub out : cycleOf l w ≡ cy
   pub decided : decideOf d s cy (sizeOf (d .part)) 0 ≡ decidedAs reply s′ e
   pub fine : isSmooth (decidedAs reply s′ e) ≡ true
 
 module _ (d : Device) (w : List ℕ) (l : Loader) (s : State) (xs sc : List ℕ) (cnt : ℕ) (going : isEnded (l .stage) ≡ false) (sized : length xs ≡ sizeOf (d .part))
-    (cy : Cycle) (reply : Reply) (s′ : State) (e : Effect) (told : Told d w l s cy reply s′ e) where
+    (cy : Cycle) (reply : Reply) (s′ : State) (e : Effect) (answered : Answered d w l s cy reply s′ e) where
   here : decideOf d s (cycleOf l w) (length xs) 0 ≡ decidedAs reply s′ e
-  here = (λ i. decideOf d s (told .out i) (sized i) 0) ∙ told .decided
+  here = (λ i. decideOf d s (answered .out i) (sized i) 0) ∙ answered .decided
 
   array : arrayTo d w l s xs ≡ arrayOf e (d .part) [] xs
   unfolding arrayTo arrayAfter
@@ -101,6 +101,6 @@ module _ (d : Device) (w : List ℕ) (l : Loader) (s : State) (xs sc : List ℕ)
             if-false (isEnded (l .stage)) Nothing (begunBy d s (cycleOf l w) (length xs) 0) going
             ∙ begun-from d s (cycleOf l w) (length xs) 0
             ∙ ap (λ (x : Decision). begunFrom (d .part) s (x .state)) here;
-        makes = told .out;
-        smooth = if-false (isEnded (l .stage)) true (isSmooth (decideOf d s (cycleOf l w) (length xs) 0)) going ∙ ap isSmooth here ∙ told .fine;
+        makes = answered .out;
+        smooth = if-false (isEnded (l .stage)) true (isSmooth (decideOf d s (cycleOf l w) (length xs) 0)) going ∙ ap isSmooth here ∙ answered .fine;
       }

@@ -7,7 +7,7 @@ use native.Mathlib.Omega.{arith}
 use lib.ListN.{length}
 use lib.Dec.{eqb, ltb}
 use borrow.Author.Tests.{ltb-true, ltb-false, not-true}
-use Rattle.common.proofs.Choice.{if-ind, if-false, or-left, or-right, and-left, and-right, unlike}
+use Rattle.common.proofs.Choice.{if-ind, if-true, if-false, or-left, or-right, and-left, and-right, unlike}
 use Rattle.common.specs.Numbers.{NoRow, end, past}
 use Rattle.common.proofs.Numbers.{no-row-given, no-head, no-tail}
 use Rattle.device.specs.declared.Device.{Device}
@@ -35,17 +35,17 @@ use Rattle.model.proofs.Outcome.{outcome, accept-cases}
 use Rattle.loader.specs.declared.Stage.{Stage}
 use Rattle.loader.specs.declared.Stage.the-variants.{Clearing, Opening, Reading, EraseAsking, EraseConfirming, EraseWaiting, ProgramAsking, ProgramSending, ProgramWaiting, Closing, Verifying, Ended}
 use Rattle.loader.specs.declared.Loader.{Loader}
-use Rattle.loader.specs.declared.Turn.the-variants.{Over}
+use Rattle.loader.specs.declared.Turn.the-variants.{Out, Over}
 use Rattle.loader.specs.declared.Given.{Given}
 use Rattle.loader.specs.Moves.{nextIn, nextOf}
-use Rattle.loader_steps.specs.Outs.{cycleAtStage, cycleOf}
+use Rattle.loader_steps.specs.Outs.{cycleOf}
 use Rattle.loader_steps.specs.Stores.{storeIn, storeOf}
 use Rattle.loader_steps.specs.Front.{barredPins, startNumber, stepNumber, recordAt, endAddress, turnIn, turnGiven, stepGiven, scratchAfter}
 use Rattle.loader_steps.proofs.Again.{taken, start-gives, start-again, step-on, step-again}
 use Rattle.loader_run.specs.declared.Ran.{Ran}
 use Rattle.loader_run.specs.Turns as turns
 use Rattle.loader_run.specs.Turns.{Config, numberIn, answerTo, moved, turnOf, after, bound}
-use Rattle.loader.specs.Stages.{isEnded, endBy}
+use Rattle.loader.specs.Stages.{stageIs, isEnded, endBy}
 use Rattle.loader_run.specs.Runs.{runRows, ranBy, begin, driven, ranOf, bytesOf, scratchOf}
 use Rattle.loader_run.proofs.Turning.{took, turn-ended, turn-going, ended-stays}
 use Rattle.loader_run.specs.Promises.{Promise}
@@ -106,21 +106,6 @@ read-answered d s c n r xs kind up =
     kinds t Write q = absurd (unlike (sym (ap isRead q)))
     kinds t Idle q = absurd (unlike (sym (ap isRead q)))
 
--- the cycle that is out has the record's levels
-out-pins : (stage : Stage) (first here : ℕ) (l : Loader) (w : List ℕ) → cycleAtStage stage first here l w .pins ≡ l .pins
-out-pins Clearing first here l w = refl
-out-pins Opening first here l w = refl
-out-pins Reading first here l w = refl
-out-pins EraseAsking first here l w = refl
-out-pins EraseConfirming first here l w = refl
-out-pins EraseWaiting first here l w = refl
-out-pins ProgramAsking first here l w = refl
-out-pins ProgramSending first here l w = refl
-out-pins ProgramWaiting first here l w = refl
-out-pins Closing first here l w = refl
-out-pins Verifying first here l w = refl
-out-pins (Ended n) first here l w = refl
-
 -- two bytes move a record alike: the same byte after a read, any two after a write
 pub record Alike (stage : Stage) (l : Loader) (w sc : List ℕ) (b x : ℕ) : Type 0 where
   pub stored : storeIn stage (l .part) (l .place) b sc ≡ storeIn stage (l .part) (l .place) x sc
@@ -130,19 +115,19 @@ same-byte : (stage : Stage) (l : Loader) (w sc : List ℕ) (b x : ℕ) → b ≡
 same-byte stage l w sc b x q =
     record { stored = ap (λ (y : ℕ). storeIn stage (l .part) (l .place) y sc) q; next = ap (λ (y : ℕ). nextIn stage l y w (storeIn stage (l .part) (l .place) y sc)) q }
 
-alike : (stage : Stage) (first here : ℕ) (l : Loader) (w sc : List ℕ) (b x : ℕ) → (cycleAtStage stage first here l w .kind ≡ Read → b ≡ x) → Alike stage l w sc b x
-alike Clearing first here l w sc b x h = record { stored = refl; next = refl }
-alike Opening first here l w sc b x h = record { stored = refl; next = refl }
-alike Reading first here l w sc b x h = same-byte Reading l w sc b x (h refl)
-alike EraseAsking first here l w sc b x h = record { stored = refl; next = refl }
-alike EraseConfirming first here l w sc b x h = record { stored = refl; next = refl }
-alike EraseWaiting first here l w sc b x h = same-byte EraseWaiting l w sc b x (h refl)
-alike ProgramAsking first here l w sc b x h = record { stored = refl; next = refl }
-alike ProgramSending first here l w sc b x h = record { stored = refl; next = refl }
-alike ProgramWaiting first here l w sc b x h = same-byte ProgramWaiting l w sc b x (h refl)
-alike Closing first here l w sc b x h = record { stored = refl; next = refl }
-alike Verifying first here l w sc b x h = same-byte Verifying l w sc b x (h refl)
-alike (Ended n) first here l w sc b x h = record { stored = refl; next = refl }
+alike : (stage : Stage) (l : Loader) (w sc : List ℕ) (b x : ℕ) → (stageIs stage .kind ≡ Read → b ≡ x) → Alike stage l w sc b x
+alike Clearing l w sc b x h = record { stored = refl; next = refl }
+alike Opening l w sc b x h = record { stored = refl; next = refl }
+alike Reading l w sc b x h = same-byte Reading l w sc b x (h refl)
+alike EraseAsking l w sc b x h = record { stored = refl; next = refl }
+alike EraseConfirming l w sc b x h = record { stored = refl; next = refl }
+alike EraseWaiting l w sc b x h = same-byte EraseWaiting l w sc b x (h refl)
+alike ProgramAsking l w sc b x h = record { stored = refl; next = refl }
+alike ProgramSending l w sc b x h = record { stored = refl; next = refl }
+alike ProgramWaiting l w sc b x h = same-byte ProgramWaiting l w sc b x (h refl)
+alike Closing l w sc b x h = record { stored = refl; next = refl }
+alike Verifying l w sc b x h = same-byte Verifying l w sc b x (h refl)
+alike (Ended n) l w sc b x h = record { stored = refl; next = refl }
 
 -- one turn that the model takes, from a record whose tests pass
 module _ (d : Device) (w : List ℕ) (c : Config) (going : isEnded (c .loader .stage) ≡ false)
@@ -165,7 +150,7 @@ module _ (d : Device) (w : List ℕ) (c : Config) (going : isEnded (c .loader .s
   unfolding answerTo answerOf
   turn-read kind =
       read-answered d (c .state) (cycleOf (c .loader) w) (length (c .bytes)) 0 _ kind
-      (ap rpLow (out-pins (c .loader .stage) _ _ (c .loader) w) ∙ levels-up (c .loader) (taken (c .loader) (length w) (length (c .scratch)) passes .levels)) fine
+      (levels-up (c .loader) (taken (c .loader) (length w) (length (c .scratch)) passes .levels)) fine
 
   -- the record and scratch that the turn leaves
   turn-loader : turnOf d w c .loader ≡ nextOf (c .loader) (numberIn seen) w (storeOf (c .loader) (numberIn seen) (c .scratch))
@@ -187,7 +172,7 @@ module _ (d : Device) (w : List ℕ) (c : Config) (going : isEnded (c .loader .s
   -- the step with the byte handed on gives and leaves the same
   module _ (b : ℕ) (handed : Handed d w c b) where
     same : Alike (c .loader .stage) (c .loader) w (c .scratch) b (numberIn seen)
-    same = alike (c .loader .stage) _ _ (c .loader) w (c .scratch) b (numberIn seen) (λ kind. handed (numberIn seen) kind (turn-read kind))
+    same = alike (c .loader .stage) (c .loader) w (c .scratch) b (numberIn seen) (λ kind. handed (numberIn seen) kind (turn-read kind))
 
     pub step-given : stepGiven (c .loader) b w (c .scratch) ≡ turnGiven (turnOf d w c .loader) w
     step-given = step-on (c .loader) b w (c .scratch) passes .0 ∙ ap (λ (l : Loader). turnGiven l w) (same .next ∙ sym turn-loader)
@@ -198,7 +183,11 @@ module _ (d : Device) (w : List ℕ) (c : Config) (going : isEnded (c .loader .s
 -- what passes the tests of a run passes those of a start
 known-part : (d : Device) → unknownDevice d ≡ false → unknownPart (d .part) ≡ false
 unfolding unknownDevice
-known-part d e = or-left (unknownPart (d .part)) (eqb (d .program) 0) (or-left (unknownPart (d .part) || eqb (d .program) 0) (eqb (d .erase) 0) e)
+known-part d e =
+    let a = unknownPart (d .part) in
+    let b = a || eqb (d .program) 0 in
+    let c = b || eqb (d .erase) 0 in
+    or-left a (eqb (d .program) 0) (or-left b (eqb (d .erase) 0) (or-left c (eqb (d .suspend) 0) (or-left (c || eqb (d .suspend) 0) (ltb 100 (d .suspend)) e)))
 
 start-passes : (d : Device) (s : State) (p : Pins) (k array w sc : ℕ) → NoRow (runRows d s p k array w sc) → startNumber (d .part) p k w sc ≡ 0
 unfolding startNumber
@@ -209,19 +198,8 @@ start-passes d s p k array w sc r =
     no-row-given (past (known-part d (no-head r)) (past (no-head r4) (past (no-head r5) (past (no-head r6) end))))
 
 -- a record that has ended tells its number and address
-over-told : (stage : Stage) (l : Loader) (w : List ℕ) → isEnded stage ≡ true → turnIn stage l w ≡ Over (endBy stage) (endAddress l (endBy stage))
-over-told Clearing l w e = absurd (unlike (sym e))
-over-told Opening l w e = absurd (unlike (sym e))
-over-told Reading l w e = absurd (unlike (sym e))
-over-told EraseAsking l w e = absurd (unlike (sym e))
-over-told EraseConfirming l w e = absurd (unlike (sym e))
-over-told EraseWaiting l w e = absurd (unlike (sym e))
-over-told ProgramAsking l w e = absurd (unlike (sym e))
-over-told ProgramSending l w e = absurd (unlike (sym e))
-over-told ProgramWaiting l w e = absurd (unlike (sym e))
-over-told Closing l w e = absurd (unlike (sym e))
-over-told Verifying l w e = absurd (unlike (sym e))
-over-told (Ended n) l w e = refl
+over-given : (stage : Stage) (l : Loader) (w : List ℕ) → isEnded stage ≡ true → turnIn stage l w ≡ Over (endBy stage) (endAddress l (endBy stage))
+over-given stage l w e = if-true (isEnded stage) (Over (endBy stage) (endAddress l (endBy stage))) (Out (cycleOf l w)) e
 
 -- a run whose cycles the model takes, stepped by hand
 module _ (d : Device) (s : State) (p : Pins) (k : ℕ) (xs w sc : List ℕ) (free : NoRow (runRows d s p k (length xs) (length w) (length sc)))
@@ -285,7 +263,7 @@ module _ (d : Device) (s : State) (p : Pins) (k : ℕ) (xs w sc : List ℕ) (fre
   ending : (j b : ℕ) → over j ≡ false → over (suc j) ≡ true → Handed d w (at j) b → stepGiven (at j .loader) b w (at j .scratch) .turn ≡ Over (ran .end) (ran .address)
   ending j b e z h =
       ap (λ (g : Given). g .turn) (stepping j b e h)
-      ∙ over-told (at (suc j) .loader .stage) (at (suc j) .loader) w z
+      ∙ over-given (at (suc j) .loader .stage) (at (suc j) .loader) w z
       ∙ ap (λ (r : Ran). Over (r .end) (r .address)) (ended-as j e z)
 
   pub by-hand : Stepped d s p k xs w sc

@@ -7,7 +7,7 @@ use loader::Given;
 use loader::Loader;
 use loader::Stage;
 use loader::Turn;
-use loader::stages::stage_end;
+use loader::stages::stage_is;
 use model_types::Pins;
 use model_types::levels::bad_pins;
 use model_types::levels::rp_low;
@@ -110,7 +110,7 @@ pub fn end_address(l: Loader, n: u8) -> u32
 fn turn(stage: Stage, l: Loader, wanted: &[u8]) -> Turn
     ensures { λ r. ⌜ r ≡ turnIn stage l (now (wanted .entry)) ⌝ }
 {
-    let e = stage_end(stage);
+    let e = stage_is(stage);
     let ended = e.ended;
     if ended {
         return Turn::Over(e.end, end_address(l, e.end));

@@ -1,10 +1,11 @@
 // The cycle that is out.
 use loader::Loader;
 use loader::Stage;
+use loader::stages::stage_is;
 use model_types::Cycle;
 use model_types::Kind;
 ghost use mathlib.Core.Path.{_≡_};
-ghost use Rattle.loader_steps.specs.Outs.{firstAddress, hereOf, cycleAt, cycleAtStage, cycleOf};
+ghost use Rattle.loader_steps.specs.Outs.{firstAddress, hereOf, addressIn, carriedIn, cycleAt, cycleAtStage, cycleOf};
 
 // The block's first address.
 pub fn first(l: Loader) -> u32
@@ -38,24 +39,41 @@ fn cycle_at(l: Loader, kind: Kind, address: u32, byte: u8) -> Cycle
     }
 }
 
+// Where the cycle goes.
+fn address_in(here: bool, first: u32, at: u32) -> u32
+    ensures { λ r. ⌜ r ≡ addressIn here first at ⌝ }
+{
+    if here {
+        return at;
+    }
+    first
+}
+
+// What it carries.
+fn carried_in(own: bool, command: u8, place: usize, wanted: &[u8]) -> u8
+    ensures { λ r. ⌜ r ≡ carriedIn own command place (now (wanted .entry)) ⌝ }
+{
+    if own {
+        return common::nth(wanted, place);
+    }
+    command
+}
+
 // The cycle that is out, by the block's first address and that of the byte at the record's place.
 pub fn cycle_in(stage: Stage, first: u32, here: u32, l: Loader, wanted: &[u8]) -> Cycle
     ensures { λ r. ⌜ r ≡ cycleAtStage stage first here l (now (wanted .entry)) ⌝ }
 {
-    match stage {
-        Stage::Clearing => cycle_at(l, Kind::Write, first, 0x50),
-        Stage::Opening => cycle_at(l, Kind::Write, first, 0xFF),
-        Stage::Reading => cycle_at(l, Kind::Read, here, 0),
-        Stage::EraseAsking => cycle_at(l, Kind::Write, first, 0x20),
-        Stage::EraseConfirming => cycle_at(l, Kind::Write, first, 0xD0),
-        Stage::EraseWaiting => cycle_at(l, Kind::Read, first, 0),
-        Stage::ProgramAsking => cycle_at(l, Kind::Write, here, 0x40),
-        Stage::ProgramSending => cycle_at(l, Kind::Write, here, common::nth(wanted, l.place)),
-        Stage::ProgramWaiting => cycle_at(l, Kind::Read, here, 0),
-        Stage::Closing => cycle_at(l, Kind::Write, first, 0xFF),
-        Stage::Verifying => cycle_at(l, Kind::Read, here, 0),
-        Stage::Ended(_) => cycle_at(l, Kind::Idle, first, 0),
-    }
+    let e = stage_is(stage);
+    let kind = e.kind;
+    let at_byte = e.here;
+    let own = e.wanted;
+    let address = address_in(at_byte, first, here);
+    cycle_at(
+        l,
+        kind,
+        address,
+        carried_in(own, e.command, l.place, wanted),
+    )
 }
 
 // The cycle that is out.

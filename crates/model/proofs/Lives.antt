@@ -20,19 +20,19 @@ use Rattle.model_types.specs.declared.Kind.{Kind}
 use Rattle.model_types.specs.declared.Kind.the-variants.{Read, Write, Idle}
 use Rattle.model_types.specs.declared.Mode.{Mode}
 use Rattle.model_types.specs.declared.Phase.{Phase}
-use Rattle.model_types.specs.declared.Phase.the-variants.{Free, EraseAwaited, DataAwaited, Programming, Erasing, Suspended}
+use Rattle.model_types.specs.declared.Phase.the-variants.{Free, EraseAwaited, DataAwaited, Programming, Erasing, Suspending, Suspended}
 use Rattle.model_types.specs.declared.Effect.{Effect}
 use Rattle.model_types.specs.declared.Effect.the-variants.{Nothing, Erase}
 use Rattle.model_types.specs.Levels.{rpLow, vppLow, locked}
 use Rattle.model_types.specs.States.{resetOf}
-use Rattle.model_commands.specs.Commands.{firstWrite, afterErase, whileErasing, whileSuspended, commandOf, actionOf, performedOf, startedOf, unsupplied}
-use Rattle.model_operation.specs.Settling.{settledAs, cutOf, finishOf, cutBy, countedOff, settleOf}
+use Rattle.model_commands.specs.Commands.{firstWrite, afterErase, whileErasing, whileSuspending, whileSuspended, commandOf, actionOf, performedOf, startedOf, unsupplied}
+use Rattle.model_operation.specs.Settling.{settledAs, cutOf, finishOf, cutBy, countedOff, suspendPassed, passedOf, settleOf}
 use Rattle.model_rules.specs.Cycles.{numberOf, decideOf, acceptOf, respondOf}
 use Rattle.model_rules.proofs.Cases.{refused, accepted}
 use Rattle.model.proofs.Outcome.{outcome, accept-cases, accept-effect}
 use Rattle.model.specs.Begun.{operationOf, pendingIn, pendingOf, askedBy, startsOf, begunBy, begunFrom}
 use Rattle.model_types.specs.Kinds.{isWrite}
-use Rattle.model_types.specs.Phases.{isPending, isBusy, isAwaited}
+use Rattle.model_types.specs.Phases.{isPending, isBusy, isSuspending, suspendLeft, isAwaited}
 use Rattle.model.proofs.Keeping.{st}
 
 cut-same : (ph : Phase) (part : Part) (a : ℕ) → operationOf (cutOf ph part a) ≡ pendingIn ph part a
@@ -41,15 +41,27 @@ cut-same EraseAwaited part a = refl
 cut-same DataAwaited part a = refl
 cut-same (Programming b) part a = refl
 cut-same Erasing part a = refl
+cut-same (Suspending n) part a = refl
 cut-same Suspended part a = refl
 
-end-same : (ph : Phase) (part : Part) (a : ℕ) → isBusy ph ≡ true → operationOf (finishOf ph part a) ≡ pendingIn ph part a
-end-same Free part a b = refl
-end-same EraseAwaited part a b = refl
-end-same DataAwaited part a b = refl
-end-same (Programming x) part a b = refl
-end-same Erasing part a b = refl
-end-same Suspended part a b = absurd (unlike (sym b))
+end-same : (ph : Phase) (part : Part) (a : ℕ) → isBusy ph ≡ true → isSuspending ph ≡ false → operationOf (finishOf ph part a) ≡ pendingIn ph part a
+end-same Free part a b u = refl
+end-same EraseAwaited part a b u = refl
+end-same DataAwaited part a b u = refl
+end-same (Programming x) part a b u = refl
+end-same Erasing part a b u = refl
+end-same (Suspending n) part a b u = absurd (unlike u)
+end-same Suspended part a b u = absurd (unlike (sym b))
+
+-- a suspend under way leaves its erase pending
+suspend-same : (ph : Phase) (part : Part) (a n : ℕ) → isSuspending ph ≡ true → (pendingIn Suspended part a ≡ pendingIn ph part a) × (pendingIn (Suspending n) part a ≡ pendingIn ph part a)
+suspend-same Free part a n u = absurd (unlike (sym u))
+suspend-same EraseAwaited part a n u = absurd (unlike (sym u))
+suspend-same DataAwaited part a n u = absurd (unlike (sym u))
+suspend-same (Programming x) part a n u = absurd (unlike (sym u))
+suspend-same Erasing part a n u = absurd (unlike (sym u))
+suspend-same (Suspending m) part a n u = (refl, refl)
+suspend-same Suspended part a n u = absurd (unlike (sym u))
 
 -- nothing is pending where a second write is awaited, and settling leaves such a state alone
 awaited-free : (ph : Phase) (part : Part) (a : ℕ) → isAwaited ph ≡ true → pendingIn ph part a ≡ Nothing
@@ -58,6 +70,7 @@ awaited-free EraseAwaited part a e = refl
 awaited-free DataAwaited part a e = refl
 awaited-free (Programming b) part a e = absurd (unlike (sym e))
 awaited-free Erasing part a e = absurd (unlike (sym e))
+awaited-free (Suspending n) part a e = absurd (unlike (sym e))
 awaited-free Suspended part a e = absurd (unlike (sym e))
 
 still : (ph : Phase) → isAwaited ph ≡ true → (isPending ph ≡ false) × (isBusy ph ≡ false)
@@ -66,6 +79,7 @@ still EraseAwaited e = (refl, refl)
 still DataAwaited e = (refl, refl)
 still (Programming b) e = absurd (unlike (sym e))
 still Erasing e = absurd (unlike (sym e))
+still (Suspending n) e = absurd (unlike (sym e))
 still Suspended e = absurd (unlike (sym e))
 
 pub settle-awaited : (part : Part) (s : State) (c : Cycle) → isAwaited (s .phase) ≡ true → rpLow (c .pins) ≡ false → settleOf part s (c .pins) ≡ settledAs s Nothing
@@ -78,11 +92,14 @@ settle-awaited part s c e h = simp (h, still (s .phase) e .0, still (s .phase) e
 
 -- settling awaits nothing new
 settle-unawaited : (part : Part) (s : State) (c : Cycle) → isAwaited (s .phase) ≡ false → isAwaited (settleOf part s (c .pins) .state .phase) ≡ false
-unfolding settleOf cutBy countedOff
+unfolding settleOf cutBy passedOf suspendPassed countedOff
 settle-unawaited part s c e =
     if-ind In (rpLow (c .pins)) _ _ (λ x. refl)
     (λ x. if-ind In (vppLow part (c .pins) && isPending (s .phase)) _ _ (λ v. refl)
-    (λ v. if-ind In (isBusy (s .phase)) _ _ (λ b. if-ind In (eqb (s .left - 1) 0) _ _ (λ l. refl) (λ l. e)) (λ b. e)))
+    (λ v. if-ind In (isBusy (s .phase)) _ _
+    (λ b. if-ind In (isSuspending (s .phase)) _ _ (λ u. if-ind In (eqb (suspendLeft (s .phase) - 1) 0) _ _ (λ l. refl) (λ l. refl))
+    (λ u. if-ind In (eqb (s .left - 1) 0) _ _ (λ l. refl) (λ l. e)))
+    (λ b. e)))
   where
     In : Settled → Type 0
     In t = isAwaited (t .state .phase) ≡ false
@@ -91,12 +108,15 @@ module _ (f : Effect → ℕ) (zero : f Nothing ≡ 0) where
   -- steps 1 to 3 end or cut what was pending, or leave it
   settle-conserves : (part : Part) (s : State) (c : Cycle)
       → f (operationOf (settleOf part s (c .pins) .effect)) + f (pendingOf part (settleOf part s (c .pins) .state)) ≡ f (pendingOf part s)
-  unfolding settleOf cutBy countedOff
+  unfolding settleOf cutBy passedOf suspendPassed countedOff
   settle-conserves part s c =
       if-ind In (rpLow (c .pins)) _ _ (λ x. over)
       (λ x. if-ind In (vppLow part (c .pins) && isPending (s .phase)) _ _ (λ v. over)
       (λ v. if-ind In (isBusy (s .phase)) _ _
-      (λ b. if-ind In (eqb (s .left - 1) 0) _ _ (λ l. rw (end-same (s .phase) part (s .address) b, zero) (omega arith)) (λ l. same)) (λ b. same)))
+      (λ b. if-ind In (isSuspending (s .phase)) _ _
+      (λ u. if-ind In (eqb (suspendLeft (s .phase) - 1) 0) _ _ (λ l. held u .0) (λ l. held u .1))
+      (λ u. if-ind In (eqb (s .left - 1) 0) _ _ (λ l. rw (end-same (s .phase) part (s .address) b u, zero) (omega arith)) (λ l. same)))
+      (λ b. same)))
     where
       In : Settled → Type 0
       In t = f (operationOf (t .effect)) + f (pendingOf part (t .state)) ≡ f (pendingOf part s)
@@ -106,6 +126,13 @@ module _ (f : Effect → ℕ) (zero : f Nothing ≡ 0) where
 
       same : f Nothing + f (pendingOf part s) ≡ f (pendingOf part s)
       same = rw zero (omega arith)
+
+      held : isSuspending (s .phase) ≡ true
+          → (f Nothing + f (pendingIn Suspended part (s .address)) ≡ f (pendingOf part s))
+          × (f Nothing + f (pendingIn (Suspending (suspendLeft (s .phase) - 1)) part (s .address)) ≡ f (pendingOf part s))
+      held u =
+          let e = suspend-same (s .phase) part (s .address) (suspendLeft (s .phase) - 1) u in
+          (ap (λ (x : Effect). f Nothing + f x) (e .0) ∙ same, ap (λ (x : Effect). f Nothing + f x) (e .1) ∙ same)
 
 -- a second write starts what it asks for, unless it is unsupplied or locked
 started-pending : (part : Part) (c : Cycle) (s : State) (ph : Phase) (time bit : ℕ)
@@ -122,14 +149,15 @@ started-pending part c s ph time bit = go (unsupplied part c s) (locked part c) 
 -- an action starts nothing where no second write is awaited ..
 act-pending : (d : Device) (c : Cycle) (s : State) (m : Mode) (x : ℕ) (ph : Phase) (l a : ℕ) → isAwaited ph ≡ false
     → pendingOf (d .part) (performedOf (actionOf (d .part) ph (commandOf c)) d c (st s m x ph l a)) ≡ pendingIn ph (d .part) a
-unfolding firstWrite whileErasing whileSuspended
+unfolding firstWrite whileErasing whileSuspending whileSuspended
 act-pending d c s m x Free l a e =
     if-ind P (eqb (commandOf c) 0xFF) _ _ (λ b. refl)
+    (λ b. if-ind P (eqb (commandOf c) 0xB0) _ _ (λ b. refl)
     (λ b. if-ind P (eqb (commandOf c) 0x90) _ _ (λ b. refl)
     (λ b. if-ind P (eqb (commandOf c) 0x70) _ _ (λ b. refl)
     (λ b. if-ind P (eqb (commandOf c) 0x50) _ _ (λ b. refl)
     (λ b. if-ind P (eqb (commandOf c) 0x20) _ _ (λ b. refl)
-    (λ b. if-ind P (eqb (commandOf c) 0x40) _ _ (λ b. refl) (λ b. refl))))))
+    (λ b. if-ind P (eqb (commandOf c) 0x40) _ _ (λ b. refl) (λ b. refl)))))))
   where
     P : Action → Type 0
     P y = pendingOf (d .part) (performedOf y d c (st s m x Free l a)) ≡ Nothing
@@ -138,6 +166,8 @@ act-pending d c s m x DataAwaited l a e = absurd (unlike e)
 act-pending d c s m x (Programming b) l a e = refl
 act-pending d c s m x Erasing l a e =
     if-ind (λ (y : Action). pendingOf (d .part) (performedOf y d c (st s m x Erasing l a)) ≡ pendingIn Erasing (d .part) a) (eqb (commandOf c) 0xB0) _ _ (λ b. refl) (λ b. refl)
+act-pending d c s m x (Suspending n) l a e =
+    if-ind (λ (y : Action). pendingOf (d .part) (performedOf y d c (st s m x (Suspending n) l a)) ≡ pendingIn (Suspending n) (d .part) a) (eqb (commandOf c) 0x70) _ _ (λ b. refl) (λ b. refl)
 act-pending d c s m x Suspended l a e =
     if-ind P (eqb (commandOf c) 0xFF) _ _ (λ b. refl) (λ b. if-ind P (eqb (commandOf c) 0x70) _ _ (λ b. refl) (λ b. if-ind P (eqb (commandOf c) 0xD0) _ _ (λ b. refl) (λ b. refl)))
   where
@@ -160,6 +190,7 @@ act-starts d c s m x EraseAwaited l a e = go (eqb (commandOf c) 0xD0) refl
 act-starts d c s m x DataAwaited l a e = started-pending (d .part) c (st s m x DataAwaited l a) (Programming (c .data)) (d .program) 16
 act-starts d c s m x (Programming b) l a e = absurd (unlike (sym e))
 act-starts d c s m x Erasing l a e = absurd (unlike (sym e))
+act-starts d c s m x (Suspending n) l a e = absurd (unlike (sym e))
 act-starts d c s m x Suspended l a e = absurd (unlike (sym e))
 
 -- nothing is asked for where no second write is awaited
@@ -169,6 +200,7 @@ unasked EraseAwaited part c e = absurd (unlike e)
 unasked DataAwaited part c e = absurd (unlike e)
 unasked (Programming x) part c e = refl
 unasked Erasing part c e = refl
+unasked (Suspending n) part c e = refl
 unasked Suspended part c e = refl
 
 -- an accepted cycle with RP# low leaves a reset device, and with RP# up goes on to its read or write

@@ -9,7 +9,7 @@ use lib.Dec.{eqb}
 use borrow.Author.Tests.{eqb-true, eqb-false, not-false}
 use Rattle.common.proofs.Choice.{and-left, and-right, or-left, or-right, unlike}
 use Rattle.model_types.specs.declared.Phase.{Phase}
-use Rattle.model_types.specs.declared.Phase.the-variants.{Free, EraseAwaited, DataAwaited, Programming, Erasing, Suspended}
+use Rattle.model_types.specs.declared.Phase.the-variants.{Free, EraseAwaited, DataAwaited, Programming, Erasing, Suspending, Suspended}
 use Rattle.model_types.specs.Inner.{badStatus, topBits}
 
 -- the test holds of every number below n
@@ -80,6 +80,7 @@ status-byte ph sr e =
     top DataAwaited = omega arith
     top (Programming b) = omega arith
     top Erasing = omega arith
+    top (Suspending n) = omega arith
     top Suspended = omega arith
 
 -- what each mask of the rules does to SR.7-6

@@ -7,7 +7,7 @@ use Rattle.device.specs.declared.Part.{Part}
 use Rattle.device.specs.declared.Device.{Device}
 use Rattle.device.specs.Parts.{blockOf}
 use Rattle.model_types.specs.declared.Phase.{Phase}
-use Rattle.model_types.specs.declared.Phase.the-variants.{Free, EraseAwaited, DataAwaited, Programming, Erasing, Suspended}
+use Rattle.model_types.specs.declared.Phase.the-variants.{Free, EraseAwaited, DataAwaited, Programming, Erasing, Suspending, Suspended}
 use Rattle.model_types.specs.declared.Effect.{Effect}
 use Rattle.model_types.specs.declared.Effect.the-variants.{Nothing, Program, Erase, CutProgram, CutErase}
 use Rattle.model_types.specs.declared.State.{State}
@@ -26,13 +26,14 @@ operationOf (Erase k) = Erase k
 operationOf (CutProgram a b) = Program a b
 operationOf (CutErase k) = Erase k
 
--- the operation that is running or suspended
+-- the operation that is running, being suspended or suspended
 abbrev pub pendingIn : Phase → Part → ℕ → Effect
 pendingIn Free part a = Nothing
 pendingIn EraseAwaited part a = Nothing
 pendingIn DataAwaited part a = Nothing
 pendingIn (Programming b) part a = Program a b
 pendingIn Erasing part a = Erase (blockOf part a)
+pendingIn (Suspending n) part a = Erase (blockOf part a)
 pendingIn Suspended part a = Erase (blockOf part a)
 
 -- the same of a state
@@ -46,6 +47,7 @@ askedBy EraseAwaited part c = if eqb (commandOf c) 0xD0 then Erase (blockOf part
 askedBy DataAwaited part c = Program (c .address) (c .data)
 askedBy (Programming x) part c = Nothing
 askedBy Erasing part c = Nothing
+askedBy (Suspending n) part c = Nothing
 askedBy Suspended part c = Nothing
 
 -- a write with RP# up that is neither unsupplied nor locked starts what it asks for

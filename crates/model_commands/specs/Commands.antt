@@ -8,23 +8,24 @@ use Rattle.device.specs.declared.Device.{Device}
 use Rattle.model_types.specs.declared.Mode.{Mode}
 use Rattle.model_types.specs.declared.Mode.the-variants.{Array, Status, Identifier}
 use Rattle.model_types.specs.declared.Phase.{Phase}
-use Rattle.model_types.specs.declared.Phase.the-variants.{Free, EraseAwaited, DataAwaited, Programming, Erasing, Suspended}
+use Rattle.model_types.specs.declared.Phase.the-variants.{Free, EraseAwaited, DataAwaited, Programming, Erasing, Suspending, Suspended}
 use Rattle.model_types.specs.declared.Action.{Action}
 use Rattle.model_types.specs.declared.Action.the-variants.{ToArray, ToIdentifier, ToStatus, Clear, AwaitErase, AwaitData, Confirm, Store, WrongSecond, Suspend, Resume, Ignore, Refuse}
 use Rattle.model_types.specs.declared.State.{State}
 use Rattle.model_types.specs.declared.Cycle.{Cycle}
 use Rattle.model_types.specs.Levels.{vppLow, locked}
 use Rattle.model_types.specs.Status.{SR7, SR6, SR5, SR4, SR3, withBits, withoutBits, isSet}
-use Rattle.model_types.specs.States.{atRest}
+use Rattle.model_types.specs.States.{atRest, inPhase}
 
 -- the command byte of a cycle: its data
 abbrev pub commandOf : Cycle → ℕ
 commandOf c = c .data
 
--- nothing awaited or running
+-- nothing awaited, running or suspended: B0H too sets read array
 unfoldable pub firstWrite : ℕ → Action
 firstWrite b =
     if eqb b 0xFF then ToArray
+    else if eqb b 0xB0 then ToArray
     else if eqb b 0x90 then ToIdentifier
     else if eqb b 0x70 then ToStatus
     else if eqb b 0x50 then Clear
@@ -39,6 +40,10 @@ afterErase b = if eqb b 0xD0 then Confirm else WrongSecond
 -- while an erase is busy
 unfoldable pub whileErasing : ℕ → Action
 whileErasing b = if eqb b 0xB0 then Suspend else Ignore
+
+-- while a suspend is under way; a second B0H begins nothing anew
+unfoldable pub whileSuspending : ℕ → Action
+whileSuspending b = if eqb b 0x70 then ToStatus else Ignore
 
 -- while suspended
 unfoldable pub whileSuspended : ℕ → Action
@@ -55,6 +60,7 @@ actionOf part EraseAwaited b = afterErase b
 actionOf part DataAwaited b = Store
 actionOf part (Programming x) b = Ignore
 actionOf part Erasing b = whileErasing b
+actionOf part (Suspending n) b = whileSuspending b
 actionOf part Suspended b = whileSuspended b
 
 -- the write asks for nothing that there is
@@ -77,10 +83,6 @@ isRefuse Refuse = true
 abbrev pub inMode : Mode → State → State
 inMode m s = record { mode = m; status = s .status; phase = s .phase; left = s .left; address = s .address }
 
--- the state in another phase and status, mode read status; cycles to go and address stay
-abbrev pub inPhase : Phase → ℕ → State → State
-inPhase ph sr s = record { mode = Status; status = sr; phase = ph; left = s .left; address = s .address }
-
 -- the state with another status
 abbrev pub withStatus : ℕ → State → State
 withStatus sr s = record { mode = s .mode; status = sr; phase = s .phase; left = s .left; address = s .address }
@@ -97,7 +99,7 @@ startedOf part c s ph time bit =
     else if locked part c then atRest s (s .mode) (withBits (s .status) bit)
     else record { mode = s .mode; status = withoutBits (s .status) SR7; phase = ph; left = time; address = c .address }
 
--- what an action makes of the state
+-- what an action makes of the state; a suspend takes S cycles, of which this is none
 abbrev pub performedOf : Action → Device → Cycle → State → State
 performedOf ToArray d c s = inMode Array s
 performedOf ToIdentifier d c s = inMode Identifier s
@@ -108,7 +110,7 @@ performedOf AwaitData d c s = inPhase DataAwaited (s .status) s
 performedOf Confirm d c s = startedOf (d .part) c s Erasing (d .erase) SR5
 performedOf Store d c s = startedOf (d .part) c s (Programming (c .data)) (d .program) SR4
 performedOf WrongSecond d c s = atRest s (s .mode) (withBits (s .status) (SR5 + SR4))
-performedOf Suspend d c s = inPhase Suspended (withBits (s .status) (SR7 + SR6)) s
+performedOf Suspend d c s = inPhase (Suspending (d .suspend)) (s .status) s
 performedOf Resume d c s = inPhase Erasing (withoutBits (s .status) (SR7 + SR6)) s
 performedOf Ignore d c s = s
 performedOf Refuse d c s = s

@@ -14,13 +14,12 @@ use model_types::states::SR5;
 use model_types::states::SR6;
 use model_types::states::SR7;
 use model_types::states::at_rest;
+use model_types::states::in_phase;
 ghost use mathlib.Core.Path.{_≡_};
-ghost use Rattle.model_commands.specs.Commands.{firstWrite, afterErase, whileErasing, whileSuspended, actionOf, isRefuse, inMode, inPhase, withStatus, unsupplied, startedOf, performedOf};
+ghost use Rattle.model_commands.specs.Commands.{firstWrite, afterErase, whileErasing, whileSuspending, whileSuspended, actionOf, isRefuse, inMode, withStatus, unsupplied, startedOf, performedOf};
 
-// What is set: by a wrong second write, and by a suspend.
+// What is set by a wrong second write.
 const ERRORS: u8 = SR5 + SR4;
-
-const HELD: u8 = SR7 + SR6;
 
 // What is kept: by a start, by a resume, and by 50H.
 const BUSY: u8 = 0xFF - SR7;
@@ -33,6 +32,9 @@ fn first_write(b: u8) -> Action
     ensures { λ r. ⌜ r ≡ firstWrite b ⌝ }
 {
     if b == 0xFF {
+        return Action::ToArray;
+    }
+    if b == 0xB0 {
         return Action::ToArray;
     }
     if b == 0x90 {
@@ -71,6 +73,15 @@ fn while_erasing(b: u8) -> Action
     Action::Ignore
 }
 
+fn while_suspending(b: u8) -> Action
+    ensures { λ r. ⌜ r ≡ whileSuspending b ⌝ }
+{
+    if b == 0x70 {
+        return Action::ToStatus;
+    }
+    Action::Ignore
+}
+
 fn while_suspended(b: u8) -> Action
     ensures { λ r. ⌜ r ≡ whileSuspended b ⌝ }
 {
@@ -96,6 +107,7 @@ pub fn action(part: Part, ph: Phase, b: u8) -> Action
         Phase::DataAwaited => Action::Store,
         Phase::Programming(_) => Action::Ignore,
         Phase::Erasing => while_erasing(b),
+        Phase::Suspending(_) => while_suspending(b),
         Phase::Suspended => while_suspended(b),
     }
 }
@@ -127,18 +139,6 @@ fn in_mode(m: Mode, s: State) -> State
     State {
         mode: m,
         status: s.status,
-        phase: ph,
-        left: s.left,
-        address: s.address,
-    }
-}
-
-fn in_phase(ph: Phase, status: u8, s: State) -> State
-    ensures { λ r. ⌜ r ≡ inPhase ph status s ⌝ }
-{
-    State {
-        mode: Mode::Status,
-        status: status,
         phase: ph,
         left: s.left,
         address: s.address,
@@ -204,7 +204,7 @@ pub fn perform(a: Action, d: Device, c: Cycle, s: State) -> State
             let m = s.mode;
             at_rest(s, m, s.status | ERRORS)
         }
-        Action::Suspend => in_phase(Phase::Suspended, s.status | HELD, s),
+        Action::Suspend => in_phase(Phase::Suspending(d.suspend), s.status, s),
         Action::Resume => in_phase(Phase::Erasing, s.status & RESUMED, s),
         Action::Ignore => s,
         Action::Refuse => s,

@@ -1,4 +1,4 @@
--- Any cycles on a device, one after the other: where they lead, what they do to the array and what they begin. Assumes nothing.
+-- Any cycles on a device, one after the other: where they lead, what the host sees, what they do to the array and what they begin. Assumes nothing.
 use mathlib.Core.Bool.{Bool, true, false, not, _&&_}
 use mathlib.Core.List.{List, [], _∷_}
 use Prim.Native.Nat.{ℕ, _+_}
@@ -13,6 +13,7 @@ use Rattle.model_types.specs.declared.Cycle.{Cycle}
 use Rattle.model_types.specs.declared.Effect.{Effect}
 use Rattle.model_types.specs.declared.Effect.the-variants.{Nothing, Program, Erase, CutProgram, CutErase}
 use Rattle.model_rules.specs.Cycles.{decideOf}
+use Rattle.model.specs.declared.Seen.{Seen}
 use Rattle.model.specs.Arrays.{isRefusal, answerOf, arrayAfter}
 use Rattle.model.specs.Begun.{begunBy}
 
@@ -44,6 +45,14 @@ stepped d v b =
 abbrev pub worldAfter : Device → World → List Bus → World
 worldAfter d v [] = v
 worldAfter d v (b ∷ bs) = worldAfter d (stepped d v b) bs
+
+-- what the host sees of one cycle, and of the cycles
+abbrev pub seenOn : Device → World → Bus → Seen
+seenOn d v b = answerOf d (v .state) (b .cycle) (v .bytes) (b .residue) .seen
+
+abbrev pub seenIn : Device → World → List Bus → List Seen
+seenIn d v [] = []
+seenIn d v (b ∷ bs) = seenOn d v b ∷ seenIn d (stepped d v b) bs
 
 -- what one cycle does to the array
 abbrev pub effectBy : Device → World → Bus → Effect

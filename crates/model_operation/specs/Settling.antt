@@ -7,28 +7,29 @@ use Rattle.device.specs.Parts.{blockOf, lengthOf}
 use Rattle.device.specs.declared.Part.{Part}
 use Rattle.model_types.specs.declared.Mode.the-variants.{Status}
 use Rattle.model_types.specs.declared.Phase.{Phase}
-use Rattle.model_types.specs.declared.Phase.the-variants.{Free, EraseAwaited, DataAwaited, Programming, Erasing, Suspended}
+use Rattle.model_types.specs.declared.Phase.the-variants.{Free, EraseAwaited, DataAwaited, Programming, Erasing, Suspending, Suspended}
 use Rattle.model_types.specs.declared.Effect.{Effect}
 use Rattle.model_types.specs.declared.Effect.the-variants.{Nothing, Program, Erase, CutProgram, CutErase}
 use Rattle.model_types.specs.declared.State.{State}
 use Rattle.model_types.specs.declared.Pins.{Pins}
 use Rattle.model_types.specs.declared.Settled.{Settled}
 use Rattle.model_types.specs.Levels.{rpLow, vppLow}
-use Rattle.model_types.specs.Phases.{isBusy, isPending}
+use Rattle.model_types.specs.Phases.{isBusy, isSuspending, suspendLeft, isPending}
 use Rattle.model_types.specs.Status.{SR7, SR6, SR5, SR4, SR3, withBits, withoutBits}
-use Rattle.model_types.specs.States.{atRest, resetOf}
+use Rattle.model_types.specs.States.{atRest, inPhase, resetOf}
 
 -- a settled state by its parts
 abbrev pub settledAs : State → Effect → Settled
 settledAs s e = record { state = s; effect = e }
 
--- the cut of the operation that is running or suspended at an address
+-- the cut of the operation that is running, being suspended or suspended at an address
 abbrev pub cutOf : Phase → Part → ℕ → Effect
 cutOf Free part a = Nothing
 cutOf EraseAwaited part a = Nothing
 cutOf DataAwaited part a = Nothing
 cutOf (Programming b) part a = CutProgram a b
 cutOf Erasing part a = CutErase (blockOf part a)
+cutOf (Suspending n) part a = CutErase (blockOf part a)
 cutOf Suspended part a = CutErase (blockOf part a)
 
 -- the end of the operation that is running
@@ -38,6 +39,7 @@ finishOf EraseAwaited part a = Nothing
 finishOf DataAwaited part a = Nothing
 finishOf (Programming b) part a = Program a b
 finishOf Erasing part a = Erase (blockOf part a)
+finishOf (Suspending n) part a = Nothing
 finishOf Suspended part a = Nothing
 
 -- what a cut by VPP sets: SR.7 and SR.3, with SR.4 for a program or SR.5 for an erase
@@ -47,6 +49,7 @@ cutBits EraseAwaited = 0
 cutBits DataAwaited = 0
 cutBits (Programming b) = SR7 + SR4 + SR3
 cutBits Erasing = SR7 + SR5 + SR3
+cutBits (Suspending n) = SR7 + SR5 + SR3
 cutBits Suspended = SR7 + SR5 + SR3
 
 -- the residue bytes that a cut needs: one for a program, the block's for an erase
@@ -56,13 +59,14 @@ residueFor EraseAwaited part a = 0
 residueFor DataAwaited part a = 0
 residueFor (Programming b) part a = 1
 residueFor Erasing part a = lengthOf part (blockOf part a)
+residueFor (Suspending n) part a = lengthOf part (blockOf part a)
 residueFor Suspended part a = lengthOf part (blockOf part a)
 
 -- step 1: RP# low
 abbrev pub resetBy : Part → State → Settled
 resetBy part s = settledAs (resetOf s) (cutOf (s .phase) part (s .address))
 
--- step 2: VPP low with an operation running or suspended; SR.6 is cleared
+-- step 2: VPP low with an operation running, being suspended or suspended; SR.6 is cleared
 unfoldable pub cutBy : Part → State → Settled
 cutBy part s = settledAs (atRest s Status (withBits (withoutBits (s .status) SR6) (cutBits (s .phase)))) (cutOf (s .phase) part (s .address))
 
@@ -72,10 +76,20 @@ countedOff part s =
     if eqb (s .left - 1) 0 then settledAs (atRest s (s .mode) (withBits (s .status) SR7)) (finishOf (s .phase) part (s .address))
     else settledAs (record { mode = s .mode; status = s .status; phase = s .phase; left = s .left - 1; address = s .address }) Nothing
 
+-- step 3 while a suspend is under way: the erase stands still and one cycle of the suspend passes; on the last SR.7 and SR.6 are set
+unfoldable pub suspendPassed : State → Settled
+suspendPassed s =
+    if eqb (suspendLeft (s .phase) - 1) 0 then settledAs (inPhase Suspended (withBits (s .status) (SR7 + SR6)) s) Nothing
+    else settledAs (inPhase (Suspending (suspendLeft (s .phase) - 1)) (s .status) s) Nothing
+
+-- step 3 of a busy device
+unfoldable pub passedOf : Part → State → Settled
+passedOf part s = if isSuspending (s .phase) then suspendPassed s else countedOff part s
+
 -- the three steps in their order
 unfoldable pub settleOf : Part → State → Pins → Settled
 settleOf part s p =
     if rpLow p then resetBy part s
     else if vppLow part p && isPending (s .phase) then cutBy part s
-    else if isBusy (s .phase) then countedOff part s
+    else if isBusy (s .phase) then passedOf part s
     else settledAs s Nothing

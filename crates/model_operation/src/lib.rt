@@ -14,14 +14,17 @@ use model_types::states::SR5;
 use model_types::states::SR6;
 use model_types::states::SR7;
 use model_types::states::at_rest;
+use model_types::states::in_phase;
 use model_types::states::is_busy;
 use model_types::states::is_pending;
+use model_types::states::is_suspending;
 use model_types::states::reset;
+use model_types::states::suspend_left;
 ghost use mathlib.Core.Path.{_≡_};
 ghost use mathlib.Core.Bool.{_&&_};
-ghost use Rattle.model_operation.specs.Settling.{cutOf, finishOf, cutBits, residueFor, resetBy, cutBy, countedOff, settleOf};
+ghost use Rattle.model_operation.specs.Settling.{cutOf, finishOf, cutBits, residueFor, resetBy, cutBy, countedOff, suspendPassed, passedOf, settleOf};
 
-// The cut of the operation that is running or suspended.
+// The cut of the operation that is running, being suspended or suspended.
 fn cut(ph: Phase, part: Part, address: u32) -> Effect
     ensures { λ r. ⌜ r ≡ cutOf ph part address ⌝ }
 {
@@ -31,6 +34,7 @@ fn cut(ph: Phase, part: Part, address: u32) -> Effect
         Phase::DataAwaited => Effect::Nothing,
         Phase::Programming(b) => Effect::CutProgram(address, b),
         Phase::Erasing => Effect::CutErase(device::block_of(part, address)),
+        Phase::Suspending(_) => Effect::CutErase(device::block_of(part, address)),
         Phase::Suspended => Effect::CutErase(device::block_of(part, address)),
     }
 }
@@ -45,6 +49,7 @@ fn end(ph: Phase, part: Part, address: u32) -> Effect
         Phase::DataAwaited => Effect::Nothing,
         Phase::Programming(b) => Effect::Program(address, b),
         Phase::Erasing => Effect::Erase(device::block_of(part, address)),
+        Phase::Suspending(_) => Effect::Nothing,
         Phase::Suspended => Effect::Nothing,
     }
 }
@@ -65,6 +70,7 @@ fn cut_bits(ph: Phase) -> u8
         Phase::DataAwaited => 0,
         Phase::Programming(_) => CUT_PROGRAM,
         Phase::Erasing => CUT_ERASE,
+        Phase::Suspending(_) => CUT_ERASE,
         Phase::Suspended => CUT_ERASE,
     }
 }
@@ -79,6 +85,7 @@ pub fn residue_for(ph: Phase, part: Part, address: u32) -> usize
         Phase::DataAwaited => 0,
         Phase::Programming(_) => 1,
         Phase::Erasing => device::length(part, device::block_of(part, address)),
+        Phase::Suspending(_) => device::length(part, device::block_of(part, address)),
         Phase::Suspended => device::length(part, device::block_of(part, address)),
     }
 }
@@ -126,6 +133,38 @@ fn counted_off(part: Part, s: State) -> Settled
     }
 }
 
+// What is set as a suspend is done.
+const HELD: u8 = SR7 + SR6;
+
+// One cycle of a suspend under way passes.
+fn suspend_passed(s: State) -> Settled
+    ensures { λ r. ⌜ r ≡ suspendPassed s ⌝ }
+{
+    let ph = s.phase;
+    let n = suspend_left(ph);
+    if n <= 1 {
+        return Settled {
+            state: in_phase(Phase::Suspended, s.status | HELD, s),
+            effect: Effect::Nothing,
+        };
+    }
+    Settled {
+        state: in_phase(Phase::Suspending(n - 1), s.status, s),
+        effect: Effect::Nothing,
+    }
+}
+
+// One cycle of a busy device passes.
+fn passed(part: Part, s: State) -> Settled
+    ensures { λ r. ⌜ r ≡ passedOf part s ⌝ }
+{
+    let ph = s.phase;
+    if is_suspending(ph) {
+        return suspend_passed(s);
+    }
+    counted_off(part, s)
+}
+
 fn both(a: bool, b: bool) -> bool
     ensures { λ r. ⌜ r ≡ a && b ⌝ }
 {
@@ -144,7 +183,7 @@ pub fn settle(part: Part, s: State, p: Pins) -> Settled
         return cut_by(part, s);
     }
     if is_busy(ph) {
-        return counted_off(part, s);
+        return passed(part, s);
     }
     Settled {
         state: s,

@@ -9,7 +9,7 @@ use Rattle.model_types.specs.declared.Kind.the-variants.{Read, Write, Idle}
 use Rattle.model_types.specs.declared.Mode.{Mode}
 use Rattle.model_types.specs.declared.Mode.the-variants.{Array, Status, Identifier}
 use Rattle.model_types.specs.declared.Phase.{Phase}
-use Rattle.model_types.specs.declared.Phase.the-variants.{Free, EraseAwaited, DataAwaited, Programming, Erasing, Suspended}
+use Rattle.model_types.specs.declared.Phase.the-variants.{Free, EraseAwaited, DataAwaited, Programming, Erasing, Suspending, Suspended}
 use Rattle.model_types.specs.declared.State.{State}
 use Rattle.model_types.specs.declared.Cycle.{Cycle}
 use Rattle.model_types.specs.declared.Effect.the-variants.{Nothing}
@@ -51,6 +51,7 @@ is-free EraseAwaited e = absurd (unlike (sym e))
 is-free DataAwaited e = absurd (unlike (sym e))
 is-free (Programming b) e = absurd (unlike (sym e))
 is-free Erasing e = absurd (unlike (sym e))
+is-free (Suspending n) e = absurd (unlike (sym e))
 is-free Suspended e = absurd (unlike (sym e))
 
 is-array : (m : Mode) → isArray m ≡ true → m ≡ Array

@@ -61,6 +61,7 @@ fn is_free(ph: Phase) -> bool
         Phase::DataAwaited => false,
         Phase::Programming(_) => false,
         Phase::Erasing => false,
+        Phase::Suspending(_) => false,
         Phase::Suspended => false,
     }
 }
@@ -74,6 +75,7 @@ fn is_suspended(ph: Phase) -> bool
         Phase::DataAwaited => false,
         Phase::Programming(_) => false,
         Phase::Erasing => false,
+        Phase::Suspending(_) => false,
         Phase::Suspended => true,
     }
 }

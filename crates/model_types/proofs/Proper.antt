@@ -10,9 +10,9 @@ use Rattle.device.specs.declared.Device.{Device}
 use Rattle.model_types.specs.declared.Mode.{Mode}
 use Rattle.model_types.specs.declared.Mode.the-variants.{Array, Status, Identifier}
 use Rattle.model_types.specs.declared.Phase.{Phase}
-use Rattle.model_types.specs.declared.Phase.the-variants.{Free, EraseAwaited, DataAwaited, Programming, Erasing, Suspended}
+use Rattle.model_types.specs.declared.Phase.the-variants.{Free, EraseAwaited, DataAwaited, Programming, Erasing, Suspending, Suspended}
 use Rattle.model_types.specs.declared.State.{State}
-use Rattle.model_types.specs.States.{isStatus, properMode, properReady, properHeld, properLow, properLeft, properAddress, proper, improper}
+use Rattle.model_types.specs.States.{isStatus, properMode, properReady, properHeld, properLow, properLeft, properSuspend, properAddress, proper, improper}
 use Rattle.model_types.specs.Inner.{topBits, badMode, badStatus, badLeft, badAddress}
 
 -- the mode
@@ -27,6 +27,7 @@ mode-same EraseAwaited m = status-mode m
 mode-same DataAwaited m = status-mode m
 mode-same (Programming b) m = status-mode m
 mode-same Erasing m = status-mode m
+mode-same (Suspending n) m = status-mode m
 mode-same Suspended Array = refl
 mode-same Suspended Status = refl
 mode-same Suspended Identifier = refl
@@ -52,6 +53,7 @@ bits-same EraseAwaited sr = top-same sr 1 0 (omega arith)
 bits-same DataAwaited sr = top-same sr 1 0 (omega arith)
 bits-same (Programming b) sr = top-same sr 0 0 (omega arith)
 bits-same Erasing sr = top-same sr 0 0 (omega arith)
+bits-same (Suspending n) sr = top-same sr 0 0 (omega arith)
 bits-same Suspended sr = top-same sr 1 1 (omega arith)
 
 -- cycles to go, and the address
@@ -87,14 +89,27 @@ twice-not false = refl
 range-same : (n m : ℕ) → (leb 1 n && leb n m) ≡ not (eqb n 0 || ltb m n)
 range-same n m = (λ i. some-not n i && most-not n m i) ∙ both-not (eqb n 0) (ltb m n)
 
-left-same : (d : Device) (ph : Phase) (n : ℕ) → properLeft d ph n ≡ not (badLeft d ph n)
+or-none : (a : Bool) → (a || false) ≡ a
+or-none true = refl
+or-none false = refl
+
+-- the operation's cycles and the suspend's, together
+and-yes : (a b : Bool) → a ≡ not b → (a && true) ≡ not (b || false)
+and-yes true true e = e
+and-yes true false e = refl
+and-yes false true e = refl
+and-yes false false e = e
+
+left-same : (d : Device) (ph : Phase) (n : ℕ) → (properLeft d ph n && properSuspend d ph) ≡ not (badLeft d ph n)
 unfolding badLeft
-left-same d Free n = twice-not (eqb n 0)
-left-same d EraseAwaited n = twice-not (eqb n 0)
-left-same d DataAwaited n = twice-not (eqb n 0)
-left-same d (Programming b) n = range-same n (d .program)
-left-same d Erasing n = range-same n (d .erase)
-left-same d Suspended n = range-same n (d .erase)
+left-same d Free n = and-yes (eqb n 0) (not (eqb n 0)) (twice-not (eqb n 0)) ∙ ap not (or-none (not (eqb n 0)))
+left-same d EraseAwaited n = and-yes (eqb n 0) (not (eqb n 0)) (twice-not (eqb n 0)) ∙ ap not (or-none (not (eqb n 0)))
+left-same d DataAwaited n = and-yes (eqb n 0) (not (eqb n 0)) (twice-not (eqb n 0)) ∙ ap not (or-none (not (eqb n 0)))
+left-same d (Programming b) n = and-yes (leb 1 n && leb n (d .program)) (eqb n 0 || ltb (d .program) n) (range-same n (d .program))
+left-same d Erasing n = and-yes (leb 1 n && leb n (d .erase)) (eqb n 0 || ltb (d .erase) n) (range-same n (d .erase))
+left-same d (Suspending m) n =
+    (λ i. range-same n (d .erase) i && range-same m (d .suspend) i) ∙ both-not (eqb n 0 || ltb (d .erase) n) (eqb m 0 || ltb (d .suspend) m)
+left-same d Suspended n = and-yes (leb 1 n && leb n (d .erase)) (eqb n 0 || ltb (d .erase) n) (range-same n (d .erase))
 
 address-same : (d : Device) (ph : Phase) (a : ℕ) → properAddress d ph a ≡ not (badAddress d ph a)
 unfolding badAddress
@@ -103,7 +118,12 @@ address-same d EraseAwaited a = twice-not (eqb a 0)
 address-same d DataAwaited a = twice-not (eqb a 0)
 address-same d (Programming b) a = below-not a (sizeOf (d .part))
 address-same d Erasing a = below-not a (sizeOf (d .part))
+address-same d (Suspending n) a = below-not a (sizeOf (d .part))
 address-same d Suspended a = below-not a (sizeOf (d .part))
+
+and-apart : (a b c : Bool) → ((a && b) && c) ≡ (a && (b && c))
+and-apart true b c = refl
+and-apart false b c = refl
 
 -- six tests, all of which hold
 high-bits : (z l a : Bool) → true ≡ (((not z || true) || l) || a)
@@ -127,7 +147,9 @@ pub improper-parts : (d : Device) (s : State)
     → improper d s ≡ (((badMode (s .phase) (s .mode) || badStatus (s .phase) (s .status)) || badLeft d (s .phase) (s .left)) || badAddress d (s .phase) (s .address))
 unfolding improper proper badStatus
 improper-parts d s =
-    (λ i. not (mode-same (s .phase) (s .mode) i && properReady (s .phase) (s .status) && properHeld (s .phase) (s .status) && properLow (s .status)
-    && left-same d (s .phase) (s .left) i && address-same d (s .phase) (s .address) i))
+    (λ i. not (and-apart (mode-same (s .phase) (s .mode) i && properReady (s .phase) (s .status) && properHeld (s .phase) (s .status) && properLow (s .status))
+    (properLeft d (s .phase) (s .left)) (properSuspend d (s .phase)) i && address-same d (s .phase) (s .address) i))
+    ∙ (λ i. not (not (badMode (s .phase) (s .mode)) && properReady (s .phase) (s .status) && properHeld (s .phase) (s .status) && properLow (s .status)
+    && left-same d (s .phase) (s .left) i && not (badAddress d (s .phase) (s .address))))
     ∙ six (badMode (s .phase) (s .mode)) (properReady (s .phase) (s .status)) (properHeld (s .phase) (s .status)) (properLow (s .status)) (badLeft d (s .phase) (s .left))
     (badAddress d (s .phase) (s .address)) (eqb (s .status / 0x40) (topBits (s .phase))) (bits-same (s .phase) (s .status))

@@ -7,7 +7,7 @@ use borrow.Author.Tests.{eqb-true, not-false}
 use Rattle.common.proofs.Choice.{or-left, or-right, unlike}
 use Rattle.device.specs.declared.Device.{Device}
 use Rattle.model_types.specs.declared.Phase.{Phase}
-use Rattle.model_types.specs.declared.Phase.the-variants.{Free, EraseAwaited, DataAwaited, Programming, Erasing, Suspended}
+use Rattle.model_types.specs.declared.Phase.the-variants.{Free, EraseAwaited, DataAwaited, Programming, Erasing, Suspending, Suspended}
 use Rattle.model_types.specs.declared.State.{State}
 use Rattle.model_types.specs.Phases.{underWay}
 use Rattle.model_types.specs.States.{improper, atRest}
@@ -21,6 +21,7 @@ free-phase EraseAwaited e = absurd (unlike e)
 free-phase DataAwaited e = absurd (unlike e)
 free-phase (Programming b) e = absurd (unlike e)
 free-phase Erasing e = absurd (unlike e)
+free-phase (Suspending n) e = absurd (unlike e)
 free-phase Suspended e = absurd (unlike e)
 
 none-left : (d : Device) (n : ℕ) → badLeft d Free n ≡ false → n ≡ 0

@@ -13,8 +13,8 @@ use Rattle.model_types.specs.declared.Mode.{Mode}
 use Rattle.model_types.specs.declared.Phase.{Phase}
 use Rattle.model_types.specs.Cells.{ones}
 use Rattle.model_types.specs.Levels.{rpLow, vppLow, vppHigh, badPins, badLevels, unlocked, locked}
-use Rattle.model_types.specs.States.{isArray, isIdentifier, improper, atRest, freshState, resetOf}
-use Rattle.model_types.specs.Phases.{isBusy, isPending}
+use Rattle.model_types.specs.States.{isArray, isIdentifier, improper, atRest, inPhase, freshState, resetOf}
+use Rattle.model_types.specs.Phases.{isBusy, isSuspending, suspendLeft, isPending}
 
 pub ones-unique : (part : Part) → Unique (λ (r : ℕ). r ≡ ones part)
 ones-unique part = only (ones part)
@@ -43,6 +43,12 @@ locked-unique part c = only (locked part c)
 pub is-busy-unique : (ph : Phase) → Unique (λ (r : Bool). r ≡ isBusy ph)
 is-busy-unique ph = only (isBusy ph)
 
+pub is-suspending-unique : (ph : Phase) → Unique (λ (r : Bool). r ≡ isSuspending ph)
+is-suspending-unique ph = only (isSuspending ph)
+
+pub suspend-left-unique : (ph : Phase) → Unique (λ (r : ℕ). r ≡ suspendLeft ph)
+suspend-left-unique ph = only (suspendLeft ph)
+
 pub is-pending-unique : (ph : Phase) → Unique (λ (r : Bool). r ≡ isPending ph)
 is-pending-unique ph = only (isPending ph)
 
@@ -57,6 +63,9 @@ improper-unique d s = only (improper d s)
 
 pub at-rest-unique : (s : State) (m : Mode) (sr : ℕ) → Unique (λ (r : State). r ≡ atRest s m sr)
 at-rest-unique s m sr = only (atRest s m sr)
+
+pub in-phase-unique : (ph : Phase) (sr : ℕ) (s : State) → Unique (λ (r : State). r ≡ inPhase ph sr s)
+in-phase-unique ph sr s = only (inPhase ph sr s)
 
 pub fresh-unique : Unique (λ (r : State). r ≡ freshState)
 fresh-unique = only freshState

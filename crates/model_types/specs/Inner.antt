@@ -8,7 +8,7 @@ use Rattle.device.specs.Parts.{sizeOf}
 use Rattle.device.specs.declared.Device.{Device}
 use Rattle.model_types.specs.declared.Mode.{Mode}
 use Rattle.model_types.specs.declared.Phase.{Phase}
-use Rattle.model_types.specs.declared.Phase.the-variants.{Free, EraseAwaited, DataAwaited, Programming, Erasing, Suspended}
+use Rattle.model_types.specs.declared.Phase.the-variants.{Free, EraseAwaited, DataAwaited, Programming, Erasing, Suspending, Suspended}
 use Rattle.model_types.specs.Phases.{isPending}
 use Rattle.model_types.specs.Status.{SR6, SR3}
 use Rattle.model_types.specs.States.{isStatus, isIdentifier, mostLeft}
@@ -20,6 +20,7 @@ topBits EraseAwaited = 2
 topBits DataAwaited = 2
 topBits (Programming b) = 0
 topBits Erasing = 0
+topBits (Suspending n) = 0
 topBits Suspended = 3
 
 -- the mode is not status while awaiting or busy, or is identifier while suspended
@@ -29,15 +30,26 @@ badMode EraseAwaited m = not (isStatus m)
 badMode DataAwaited m = not (isStatus m)
 badMode (Programming b) m = not (isStatus m)
 badMode Erasing m = not (isStatus m)
+badMode (Suspending n) m = not (isStatus m)
 badMode Suspended m = isIdentifier m
 
 -- SR.2-0 are not zero, or SR.7 and SR.6 do not fit the phase
 unfoldable pub badStatus : Phase → ℕ → Bool
 badStatus ph sr = not (eqb (sr % SR3) 0) || not (eqb (sr / SR6) (topBits ph))
 
--- cycles to go: not from 1 to P or E with an operation, not zero without one
+-- cycles of a suspend to go: not from 1 to S while it is under way
+abbrev pub badSuspend : Device → Phase → Bool
+badSuspend d Free = false
+badSuspend d EraseAwaited = false
+badSuspend d DataAwaited = false
+badSuspend d (Programming b) = false
+badSuspend d Erasing = false
+badSuspend d (Suspending n) = eqb n 0 || ltb (d .suspend) n
+badSuspend d Suspended = false
+
+-- cycles to go: not from 1 to P or E with an operation, not zero without one, or those of a suspend are bad
 unfoldable pub badLeft : Device → Phase → ℕ → Bool
-badLeft d ph left = if isPending ph then eqb left 0 || ltb (mostLeft d ph) left else not (eqb left 0)
+badLeft d ph left = if isPending ph then (eqb left 0 || ltb (mostLeft d ph) left) || badSuspend d ph else not (eqb left 0)
 
 -- the operation's address: not inside the array, or not zero without one
 unfoldable pub badAddress : Device → Phase → ℕ → Bool

@@ -8,9 +8,9 @@ use Rattle.device.specs.declared.Device.{Device}
 use Rattle.model_types.specs.declared.Mode.{Mode}
 use Rattle.model_types.specs.declared.Mode.the-variants.{Array, Status, Identifier}
 use Rattle.model_types.specs.declared.Phase.{Phase}
-use Rattle.model_types.specs.declared.Phase.the-variants.{Free, EraseAwaited, DataAwaited, Programming, Erasing, Suspended}
+use Rattle.model_types.specs.declared.Phase.the-variants.{Free, EraseAwaited, DataAwaited, Programming, Erasing, Suspending, Suspended}
 use Rattle.model_types.specs.declared.State.{State}
-use Rattle.model_types.specs.Phases.{isAwaited, isBusy, isSuspended, isPending}
+use Rattle.model_types.specs.Phases.{isAwaited, isBusy, isSuspending, suspendLeft, isSuspended, isPending}
 use Rattle.model_types.specs.Status.{SR7, SR6, SR3}
 
 -- a read gives the array's byte
@@ -38,6 +38,7 @@ mostLeft d EraseAwaited = 0
 mostLeft d DataAwaited = 0
 mostLeft d (Programming b) = d .program
 mostLeft d Erasing = d .erase
+mostLeft d (Suspending n) = d .erase
 mostLeft d Suspended = d .erase
 
 -- mode status while awaiting or busy; array or status while suspended
@@ -63,6 +64,10 @@ properLow sr = eqb (sr % SR3) 0
 abbrev pub properLeft : Device → Phase → ℕ → Bool
 properLeft d ph left = if isPending ph then leb 1 left && leb left (mostLeft d ph) else eqb left 0
 
+-- cycles of a suspend to go: from 1 to S while it is under way, none in every other phase
+abbrev pub properSuspend : Device → Phase → Bool
+properSuspend d ph = if isSuspending ph then leb 1 (suspendLeft ph) && leb (suspendLeft ph) (d .suspend) else true
+
 -- the operation's address: inside the array, zero without one
 abbrev pub properAddress : Device → Phase → ℕ → Bool
 properAddress d ph a = if isPending ph then ltb a (sizeOf (d .part)) else eqb a 0
@@ -75,6 +80,7 @@ proper d s =
     && properHeld (s .phase) (s .status)
     && properLow (s .status)
     && properLeft d (s .phase) (s .left)
+    && properSuspend d (s .phase)
     && properAddress d (s .phase) (s .address)
 
 -- refusal 3: the state is not proper
@@ -84,6 +90,10 @@ improper d s = not (proper d s)
 -- a state come to rest: nothing awaited, running or suspended, with a mode and a status
 abbrev pub atRest : State → Mode → ℕ → State
 atRest s m sr = record { mode = m; status = sr; phase = Free; left = 0; address = 0 }
+
+-- a state in another phase and status, mode read status; cycles to go and address stay
+abbrev pub inPhase : Phase → ℕ → State → State
+inPhase ph sr s = record { mode = Status; status = sr; phase = ph; left = s .left; address = s .address }
 
 -- a fresh device: read array, 80H, nothing carried
 abbrev pub freshState : State

@@ -35,13 +35,14 @@ pub enum Mode {
     Identifier,
 }
 
-// What the device is about. A program's data byte stands in its phase.
+// What the device is about. A program's data byte stands in its phase, and so do the cycles that a suspend under way has to go.
 pub enum Phase {
     Free,
     EraseAwaited,
     DataAwaited,
     Programming(u8),
     Erasing,
+    Suspending(u8),
     Suspended,
 }
 

@@ -4,9 +4,9 @@ use crate::Phase;
 use crate::State;
 use device::Device;
 ghost use mathlib.Core.Path.{_≡_};
-ghost use Rattle.model_types.specs.States.{mostLeft, isArray, isStatus, isIdentifier, improper, atRest, freshState, resetOf};
-ghost use Rattle.model_types.specs.Inner.{topBits, badMode, badStatus, badLeft, badAddress};
-ghost use Rattle.model_types.specs.Phases.{isBusy, isPending};
+ghost use Rattle.model_types.specs.States.{mostLeft, isArray, isStatus, isIdentifier, improper, atRest, inPhase, freshState, resetOf};
+ghost use Rattle.model_types.specs.Inner.{topBits, badMode, badStatus, badSuspend, badLeft, badAddress};
+ghost use Rattle.model_types.specs.Phases.{isBusy, isSuspending, suspendLeft, isPending};
 
 // The bits of the status register: ready, erase suspended, erase error, program error, VPP low.
 pub const SR7: u8 = 0x80;
@@ -28,7 +28,37 @@ pub fn is_busy(ph: Phase) -> bool
         Phase::DataAwaited => false,
         Phase::Programming(_) => true,
         Phase::Erasing => true,
+        Phase::Suspending(_) => true,
         Phase::Suspended => false,
+    }
+}
+
+pub fn is_suspending(ph: Phase) -> bool
+    ensures { λ r. ⌜ r ≡ isSuspending ph ⌝ }
+{
+    match ph {
+        Phase::Free => false,
+        Phase::EraseAwaited => false,
+        Phase::DataAwaited => false,
+        Phase::Programming(_) => false,
+        Phase::Erasing => false,
+        Phase::Suspending(_left) => true,
+        Phase::Suspended => false,
+    }
+}
+
+// The cycles that a suspend under way has to go.
+pub fn suspend_left(ph: Phase) -> u8
+    ensures { λ r. ⌜ r ≡ suspendLeft ph ⌝ }
+{
+    match ph {
+        Phase::Free => 0,
+        Phase::EraseAwaited => 0,
+        Phase::DataAwaited => 0,
+        Phase::Programming(_) => 0,
+        Phase::Erasing => 0,
+        Phase::Suspending(n) => n,
+        Phase::Suspended => 0,
     }
 }
 
@@ -41,6 +71,7 @@ pub fn is_pending(ph: Phase) -> bool
         Phase::DataAwaited => false,
         Phase::Programming(_) => true,
         Phase::Erasing => true,
+        Phase::Suspending(_held) => true,
         Phase::Suspended => true,
     }
 }
@@ -54,6 +85,7 @@ fn top_bits(ph: Phase) -> u8
         Phase::DataAwaited => 2,
         Phase::Programming(_) => 0,
         Phase::Erasing => 0,
+        Phase::Suspending(_) => 0,
         Phase::Suspended => 3,
     }
 }
@@ -67,6 +99,7 @@ fn most_left(d: Device, ph: Phase) -> u16
         Phase::DataAwaited => 0,
         Phase::Programming(_) => d.program,
         Phase::Erasing => d.erase,
+        Phase::Suspending(_) => d.erase,
         Phase::Suspended => d.erase,
     }
 }
@@ -110,6 +143,7 @@ fn bad_mode(ph: Phase, m: Mode) -> bool
         Phase::DataAwaited => !is_status(m),
         Phase::Programming(_) => !is_status(m),
         Phase::Erasing => !is_status(m),
+        Phase::Suspending(_) => !is_status(m),
         Phase::Suspended => is_identifier(m),
     }
 }
@@ -120,11 +154,25 @@ fn bad_status(ph: Phase, status: u8) -> bool
     !(status % SR3 == 0) | !(status / SR6 == top_bits(ph))
 }
 
+fn bad_suspend(d: Device, ph: Phase) -> bool
+    ensures { λ r. ⌜ r ≡ badSuspend d ph ⌝ }
+{
+    match ph {
+        Phase::Free => false,
+        Phase::EraseAwaited => false,
+        Phase::DataAwaited => false,
+        Phase::Programming(_) => false,
+        Phase::Erasing => false,
+        Phase::Suspending(n) => (n == 0) | (d.suspend < n),
+        Phase::Suspended => false,
+    }
+}
+
 fn bad_left(d: Device, ph: Phase, left: u16) -> bool
     ensures { λ r. ⌜ r ≡ badLeft d ph left ⌝ }
 {
     if is_pending(ph) {
-        return (left == 0) | (most_left(d, ph) < left);
+        return (left == 0) | (most_left(d, ph) < left) | bad_suspend(d, ph);
     }
     !(left == 0)
 }
@@ -161,6 +209,19 @@ pub fn at_rest(s: State, m: Mode, status: u8) -> State
         phase: Phase::Free,
         left: 0,
         address: 0,
+    }
+}
+
+// A state in another phase and status, mode read status.
+pub fn in_phase(ph: Phase, status: u8, s: State) -> State
+    ensures { λ r. ⌜ r ≡ inPhase ph status s ⌝ }
+{
+    State {
+        mode: Mode::Status,
+        status: status,
+        phase: ph,
+        left: s.left,
+        address: s.address,
     }
 }
 

@@ -12,7 +12,7 @@ use Rattle.common.specs.Numbers.{row, given}
 use Rattle.device.specs.Parts.{unknownDevice, unknownPart, sizeOf, sizeIn, shapeOf, lengthOf, blockOf}
 use Rattle.device.proofs.Claims.{blocks-end-inside}
 use Rattle.model_types.specs.declared.Phase.{Phase}
-use Rattle.model_types.specs.declared.Phase.the-variants.{Free, EraseAwaited, DataAwaited, Programming, Erasing, Suspended}
+use Rattle.model_types.specs.declared.Phase.the-variants.{Free, EraseAwaited, DataAwaited, Programming, Erasing, Suspending, Suspended}
 use Rattle.model_types.specs.declared.State.{State}
 use Rattle.model_types.specs.declared.Cycle.{Cycle}
 use Rattle.model_types.specs.Levels.{rpLow, vppLow, badLevels}
@@ -39,6 +39,7 @@ residue-most EraseAwaited a = omega arith
 residue-most DataAwaited a = omega arith
 residue-most (Programming b) a = omega arith
 residue-most Erasing a = block-most (blockOf (benchT .part) a)
+residue-most (Suspending n′) a = block-most (blockOf (benchT .part) a)
 residue-most Suspended a = block-most (blockOf (benchT .part) a)
 
 long : (s : State) (c : Cycle) (r : ℕ) → 16384 ≤ r → shortResidue (benchT .part) s c r ≡ false

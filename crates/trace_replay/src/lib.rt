@@ -22,7 +22,7 @@ pub struct Replayed {
     pub used: usize,
 }
 
-// Bench T with P 2 and E 3.
+// Bench T with P 2, E 3 and S 1.
 pub fn bench() -> Device
     ensures { λ r. ⌜ r ≡ benchT ⌝ }
 {
@@ -31,6 +31,7 @@ pub fn bench() -> Device
         part: part,
         program: 2,
         erase: 3,
+        suspend: 1,
     }
 }
 

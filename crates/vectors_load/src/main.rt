@@ -1,5 +1,5 @@
 // Loads from a file: a case a line of standard input, an answer a line of standard output. A case is a name of 24 bytes and
-// 41 numbers of six digits; tests/load_vectors.py says what they mean and works out the answers.
+// 42 numbers of six digits; tests/vectors_load.py says what they mean and works out the answers.
 use device::Device;
 use device::Part;
 use loader_run::Ran;
@@ -90,10 +90,12 @@ fn device_of(case: &[u8]) -> Device {
     let number = byte(case, 16);
     let program = half(case, 17);
     let erase = half(case, 18);
+    let suspend = byte(case, 41);
     Device {
         part: Part { number: number },
         program: program,
         erase: erase,
+        suspend: suspend,
     }
 }
 
@@ -106,7 +108,7 @@ fn pins_of(case: &[u8]) -> Pins {
 fn state_of(case: &[u8]) -> State {
     let mode = vectors_states::mode_by(byte(case, 22));
     let status = byte(case, 23);
-    let phase = vectors_states::phase_by(byte(case, 24), 0);
+    let phase = vectors_states::phase_by(byte(case, 24), 1);
     let left = half(case, 25);
     let address = word(case, 26);
     State {
@@ -247,11 +249,11 @@ fn one(case: &[u8]) {
 
 // All cases of a text.
 fn run_all(text: &[u8]) {
-    let n = text.len() / 311;
+    let n = text.len() / 318;
     let mut i = 0;
     while i < n {
-        let from = 311 * i;
-        let to = from + 311;
+        let from = 318 * i;
+        let to = from + 318;
         one(&text[from..to]);
         i += 1;
     }

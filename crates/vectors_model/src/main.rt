@@ -53,6 +53,7 @@ fn bare() -> Bench {
             part: Part { number: 0 },
             program: 0,
             erase: 0,
+            suspend: 0,
         },
         state: state,
         array: 0,
@@ -127,7 +128,7 @@ fn print_seen(seen: Seen) {
     }
 }
 
-// Status, mode and phase, and the byte of the phase, where it has one.
+// Status, mode and phase, and the byte or the count of the phase, where it has one.
 fn print_state(s: State) {
     let mode = s.mode;
     let phase = s.phase;
@@ -138,6 +139,10 @@ fn print_state(s: State) {
     io::write_all(1, &text);
     if let Phase::Programming(b) = phase {
         print_byte(b);
+        return;
+    }
+    if let Phase::Suspending(n) = phase {
+        print_byte(n);
         return;
     }
     io::write_all(1, b"-- ");
@@ -205,8 +210,8 @@ fn set(row: &[u8], op: u8, b: Bench) -> Bench {
     }
     if op == b'D' {
         device = vectors_states::device_at(row);
-        array = vectors_text::size_at(row, 10, 18, 6);
-        residue = vectors_text::size_at(row, 10, 25, 6);
+        array = vectors_text::size_at(row, 10, 22, 6);
+        residue = vectors_text::size_at(row, 10, 29, 6);
     }
     if op == b'S' {
         state = vectors_states::state_at(row);

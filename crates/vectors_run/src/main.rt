@@ -36,9 +36,9 @@ struct Bench {
 fn setup_of(row: &[u8], old: Setup) -> Setup {
     let pins = old.pins;
     let device = vectors_states::device_at(row);
-    let array = vectors_text::size_at(row, 10, 18, 6);
-    let wanted = vectors_text::size_at(row, 10, 25, 6);
-    let scratch = vectors_text::size_at(row, 10, 32, 6);
+    let array = vectors_text::size_at(row, 10, 22, 6);
+    let wanted = vectors_text::size_at(row, 10, 29, 6);
+    let scratch = vectors_text::size_at(row, 10, 36, 6);
     Setup {
         device: device,
         pins: pins,
@@ -76,6 +76,7 @@ fn bare() -> Bench {
                 part: part,
                 program: 0,
                 erase: 0,
+                suspend: 0,
             },
             pins: pins,
             block: 0,

@@ -8,7 +8,7 @@ use Rattle.device.specs.declared.Device.{Device}
 use Rattle.model_types.specs.declared.Mode.{Mode}
 use Rattle.model_types.specs.declared.Mode.the-variants.{Array, Status, Identifier}
 use Rattle.model_types.specs.declared.Phase.{Phase}
-use Rattle.model_types.specs.declared.Phase.the-variants.{Free, EraseAwaited, DataAwaited, Programming, Erasing, Suspended}
+use Rattle.model_types.specs.declared.Phase.the-variants.{Free, EraseAwaited, DataAwaited, Programming, Erasing, Suspending, Suspended}
 use Rattle.model_types.specs.declared.State.{State}
 use Rattle.vectors_text.specs.Text.{numberRead, fieldOf}
 
@@ -19,7 +19,7 @@ modeBy x =
     else if eqb x 83 then Status
     else Identifier
 
--- the phase of a letter: F, C, D, P with its byte, E, and suspended for any other
+-- the phase of a letter: F, C, D, P with its byte, E, U with its cycles to go, and suspended for any other
 unfoldable pub phaseBy : ℕ → ℕ → Phase
 phaseBy x byte =
     if eqb x 70 then Free
@@ -27,6 +27,7 @@ phaseBy x byte =
     else if eqb x 68 then DataAwaited
     else if eqb x 80 then Programming byte
     else if eqb x 69 then Erasing
+    else if eqb x 85 then Suspending byte
     else Suspended
 
 -- the letter of a mode, and of a phase
@@ -41,6 +42,7 @@ phaseLetter EraseAwaited = 67
 phaseLetter DataAwaited = 68
 phaseLetter (Programming byte) = 80
 phaseLetter Erasing = 69
+phaseLetter (Suspending n) = 85
 phaseLetter Suspended = 83
 
 -- the number of n letters from a place of a row on
@@ -63,4 +65,5 @@ deviceAt row = record {
   part = record { number = numberAt row 10 2 3 % 256 };
   program = numberAt row 10 6 5 % 65536;
   erase = numberAt row 10 12 5 % 65536;
+  suspend = numberAt row 10 18 3 % 256;
 }

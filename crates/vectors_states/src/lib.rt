@@ -21,7 +21,8 @@ pub fn mode_by(letter: u8) -> Mode
     Mode::Identifier
 }
 
-// The phase that a letter stands for, with a program's byte; any other letter for a suspended erase.
+// The phase that a letter stands for, with a program's byte or the cycles that a suspend has to go; any other letter for a suspended
+// erase.
 pub fn phase_by(letter: u8, byte: u8) -> Phase
     ensures { λ r. ⌜ r ≡ phaseBy letter byte ⌝ }
 {
@@ -39,6 +40,9 @@ pub fn phase_by(letter: u8, byte: u8) -> Phase
     }
     if letter == b'E' {
         return Phase::Erasing;
+    }
+    if letter == b'U' {
+        return Phase::Suspending(byte);
     }
     Phase::Suspended
 }
@@ -62,6 +66,7 @@ pub fn phase_letter(phase: Phase) -> u8
         Phase::DataAwaited => b'D',
         Phase::Programming(_) => b'P',
         Phase::Erasing => b'E',
+        Phase::Suspending(_) => b'U',
         Phase::Suspended => b'S',
     }
 }
@@ -85,16 +90,18 @@ pub fn state_at(row: &[u8]) -> State
     }
 }
 
-// The device of a row: its number, P and E.
+// The device of a row: its number, P, E and S.
 pub fn device_at(row: &[u8]) -> Device
     ensures { λ r. ⌜ r ≡ deviceAt (now (row .entry)) ⌝ }
 {
     let number = vectors_text::byte_at(row, 10, 2, 3);
     let program = vectors_text::half_at(row, 10, 6, 5);
     let erase = vectors_text::half_at(row, 10, 12, 5);
+    let suspend = vectors_text::byte_at(row, 10, 18, 3);
     Device {
         part: Part { number: number },
         program: program,
         erase: erase,
+        suspend: suspend,
     }
 }

@@ -13,7 +13,7 @@ static void stopped(int number) {
 
 int main(void) {
     static uint8_t array[16384], both[512];
-    tb_device device = {TB_BENCH_T, 2, 3};
+    tb_device device = {TB_BENCH_T, 2, 3, 1};
     memset(both, 0x5A, sizeof both);
     signal(SIGABRT, stopped);
     tb_ran ran = tb_run(device, tb_fresh(), TB_RP_HIGH, 12000, 1, array, sizeof array, both, sizeof both, both, sizeof both);

@@ -8,7 +8,7 @@ unknown-part-requires c κs = search needs
 
 returns : tie.Need-returns
 unfolding unknownDevice
-returns c = simp (c .before .before .unknown-part .ensures)
+returns c = simp (c .before .before .before .before .unknown-part .ensures)
 
 pub unknown-device-spec : {M : Type 1} → statement M
 unknown-device-spec = tie.close (tie.spec unknown-part-requires returns)

@@ -8,7 +8,7 @@ use lib.ListN.{length}
 use Rattle.loader_run.specs.Turns.{Config, answerTo}
 use Rattle.loader.specs.Stages.{isEnded, endBy}
 use Rattle.loader_run.specs.Runs.{driven, begin, ranBy}
-use Rattle.loader.specs.declared.StageEnd.{StageEnd}
+use Rattle.loader.specs.declared.StageIs.{StageIs}
 use Rattle.loader_steps.specs.Outs.{firstAddress}
 use Rattle.loader_steps.specs.Front.{endAddress}
 use Rattle.loader_run.proofs.Measure.{remains}
@@ -83,8 +83,8 @@ loop-again c =
           (b .ensures .0) (b .ensures .1 .0) (b .ensures .1 .1 .1),
     )
 
-stage-end-requires : tie.Need-stage-end-requires Inv-loop μ-loop
-stage-end-requires c κs = search needs
+stage-is-requires : tie.Need-stage-is-requires Inv-loop μ-loop
+stage-is-requires c κs = search needs
 
 end-address-requires : tie.Need-end-address-requires Inv-loop μ-loop
 end-address-requires c κs = search needs
@@ -101,11 +101,11 @@ returns c =
     let l = c .before .before .before .before .loop in
     let e : conf (l .moving) (l .state) (l .array) (l .scratch) (l .count) ≡ driven (a .d) (a .wanted .now) (begin (a .d) (a .s) (a .l) (a .array .now) (a .scratch .now)) =
     keeps-end (a .d) (a .wanted .now) _ _ (l .inv .0) (not-false (isEnded (l .moving .stage)) (sym (c .before .before .before .going .ensures) ∙ c .before .before .if1 .left)) in
-    let n : c .before .stage-end .result .end ≡ endBy (l .moving .stage) = ap (λ (x : StageEnd). x .end) (c .before .stage-end .ensures) in
+    let n : c .before .stage-is .result .end ≡ endBy (l .moving .stage) = ap (λ (x : StageIs). x .end) (c .before .stage-is .ensures) in
     let m : c .end-address .result ≡ endAddress (l .moving) (endBy (l .moving .stage)) = c .end-address .ensures ∙ ap (λ (k : ℕ). endAddress (l .moving) k) n in
     ((λ i. record { count = l .count; end = n i; address = m i; state = l .state }) ∙ ap ranBy e, (ap (λ (x : Config). x .scratch) e, ap (λ (x : Config). x .bytes) e))
 
 pub drive-spec : {M : Type 1} → statement M
 drive-spec =
     tie.close
-    (tie.spec Inv-loop μ-loop first-requires loop-holds going-requires both-requires add-count loop-less loop-again stage-end-requires end-address-requires same-length same-length-2 returns)
+    (tie.spec Inv-loop μ-loop first-requires loop-holds going-requires both-requires add-count loop-less loop-again stage-is-requires end-address-requires same-length same-length-2 returns)

@@ -29,6 +29,12 @@ while-erasing-requires c κs = search needs
 enum-told-6 : tie.Need-enum-told-6
 enum-told-6 c = search needs
 
+while-suspending-requires : tie.Need-while-suspending-requires
+while-suspending-requires c κs = search needs
+
+enum-told-7 : tie.Need-enum-told-7
+enum-told-7 c = search needs
+
 while-suspended-requires : tie.Need-while-suspended-requires
 while-suspended-requires c κs = search needs
 
@@ -48,7 +54,10 @@ returns-5 : tie.Need-returns-5
 returns-5 c = simp (c .while-erasing .ensures, c .before .enum-told5 .given .1)
 
 returns-6 : tie.Need-returns-6
-returns-6 c = simp (c .while-suspended .ensures, c .before .enum-told6 .given .1)
+returns-6 c = simp (c .while-suspending .ensures, c .before .enum-told6 .given .1)
+
+returns-7 : tie.Need-returns-7
+returns-7 c = simp (c .while-suspended .ensures, c .before .enum-told7 .given .1)
 
 pub action-spec : {M : Type 1} → statement M
 action-spec =
@@ -63,10 +72,13 @@ action-spec =
     enum-told-5
     while-erasing-requires
     enum-told-6
+    while-suspending-requires
+    enum-told-7
     while-suspended-requires
     returns
     returns-2
     returns-3
     returns-4
     returns-5
-    returns-6)
+    returns-6
+    returns-7)

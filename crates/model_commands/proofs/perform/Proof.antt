@@ -102,7 +102,7 @@ returns-9 : tie.Need-returns-9
 returns-9 c = simp (c .at-rest .ensures, c .before .before .enum-told9 .given .1)
 
 returns-10 : tie.Need-returns-10
-returns-10 c = simp (c .in-phase3 .ensures, c .before .before .enum-told10 .given .1)
+returns-10 c = simp (c .in-phase3 .ensures, c .before .enum-told10 .given .1)
 
 returns-11 : tie.Need-returns-11
 returns-11 c = simp (c .in-phase4 .ensures, c .before .before .enum-told11 .given .1)

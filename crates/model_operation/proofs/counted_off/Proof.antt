@@ -1,20 +1,9 @@
 use borrow.Author.Needs.{needs}
-use mathlib.Core.Path.{_≡_}
-use mathlib.Core.Bool.{true, false}
-use Prim.Native.Nat.{ℕ, _-_, _≤_, _<_}
-use native.Mathlib.Omega.{arith}
-use lib.Dec.{eqb}
-use borrow.Author.Tests.{eq-eqb, ne-eqb}
+use Prim.Native.Nat.{_-_}
 use Rattle.model_operation.specs.Settling.{countedOff}
+use Rattle.model_operation.proofs.Small.{last-one, one-more}
 use Rattle.model_operation.proofs.counted_off.Statement.{statement}
 use Rattle.model_operation.proofs.counted_off.Tie as tie
-
--- one cycle off the last leaves none, off any other some
-last-one : (n : ℕ) → n ≤ 1 → eqb (n - 1) 0 ≡ true
-last-one n h = eq-eqb (n - 1) 0 (omega arith)
-
-one-more : (n : ℕ) → 1 < n → eqb (n - 1) 0 ≡ false
-one-more n h = ne-eqb (n - 1) 0 (λ z. omega arith)
 
 at-rest-requires : tie.Need-at-rest-requires
 at-rest-requires c κs = search needs

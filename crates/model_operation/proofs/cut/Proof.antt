@@ -26,6 +26,12 @@ enum-told-5 c = search needs
 block-of-requires-2 : tie.Need-block-of-requires-2
 block-of-requires-2 c κs = search needs
 
+enum-told-6 : tie.Need-enum-told-6
+enum-told-6 c = search needs
+
+block-of-requires-3 : tie.Need-block-of-requires-3
+block-of-requires-3 c κs = search needs
+
 returns : tie.Need-returns
 returns c = search needs
 
@@ -44,6 +50,9 @@ returns-5 c = simp (c .block-of .ensures, c .before .enum-told4 .given .1)
 returns-6 : tie.Need-returns-6
 returns-6 c = simp (c .block-of2 .ensures, c .before .enum-told5 .given .1)
 
+returns-7 : tie.Need-returns-7
+returns-7 c = simp (c .block-of3 .ensures, c .before .enum-told6 .given .1)
+
 pub cut-spec : {M : Type 1} → statement M
 cut-spec =
     tie.close
@@ -56,9 +65,12 @@ cut-spec =
     block-of-requires
     enum-told-5
     block-of-requires-2
+    enum-told-6
+    block-of-requires-3
     returns
     returns-2
     returns-3
     returns-4
     returns-5
-    returns-6)
+    returns-6
+    returns-7)

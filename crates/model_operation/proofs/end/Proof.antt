@@ -23,6 +23,9 @@ block-of-requires c κs = search needs
 enum-told-5 : tie.Need-enum-told-5
 enum-told-5 c = search needs
 
+enum-told-6 : tie.Need-enum-told-6
+enum-told-6 c = search needs
+
 returns : tie.Need-returns
 returns c = search needs
 
@@ -41,6 +44,9 @@ returns-5 c = simp (c .block-of .ensures, c .before .enum-told4 .given .1)
 returns-6 : tie.Need-returns-6
 returns-6 c = search needs
 
+returns-7 : tie.Need-returns-7
+returns-7 c = search needs
+
 pub end-spec : {M : Type 1} → statement M
 end-spec =
     tie.close
@@ -52,9 +58,11 @@ end-spec =
     enum-told-4
     block-of-requires
     enum-told-5
+    enum-told-6
     returns
     returns-2
     returns-3
     returns-4
     returns-5
-    returns-6)
+    returns-6
+    returns-7)

@@ -32,6 +32,15 @@ block-of-requires-2 c κs = search needs
 length-requires-2 : tie.Need-length-requires-2
 length-requires-2 c κs = search needs
 
+enum-told-7 : tie.Need-enum-told-7
+enum-told-7 c = search needs
+
+block-of-requires-3 : tie.Need-block-of-requires-3
+block-of-requires-3 c κs = search needs
+
+length-requires-3 : tie.Need-length-requires-3
+length-requires-3 c κs = search needs
+
 returns : tie.Need-returns
 returns c = search needs
 
@@ -50,6 +59,9 @@ returns-5 c = simp (c .length .ensures, c .before .block-of .ensures, c .before 
 returns-6 : tie.Need-returns-6
 returns-6 c = simp (c .length2 .ensures, c .before .block-of2 .ensures, c .before .before .enum-told6 .given .1)
 
+returns-7 : tie.Need-returns-7
+returns-7 c = simp (c .length3 .ensures, c .before .block-of3 .ensures, c .before .before .enum-told7 .given .1)
+
 pub residue-for-spec : {M : Type 1} → statement M
 residue-for-spec =
     tie.close
@@ -64,9 +76,13 @@ residue-for-spec =
     enum-told-6
     block-of-requires-2
     length-requires-2
+    enum-told-7
+    block-of-requires-3
+    length-requires-3
     returns
     returns-2
     returns-3
     returns-4
     returns-5
-    returns-6)
+    returns-6
+    returns-7)

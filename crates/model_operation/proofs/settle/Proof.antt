@@ -33,12 +33,12 @@ returns-2 c = simp (c .cut-by .ensures, sym (c .before .before .both .ensures) �
 is-busy-requires : tie.Need-is-busy-requires
 is-busy-requires c κs = search needs
 
-counted-off-requires : tie.Need-counted-off-requires
-counted-off-requires c κs = search needs
+passed-requires : tie.Need-passed-requires
+passed-requires c κs = search needs
 
 returns-3 : tie.Need-returns-3
 unfolding settleOf
-returns-3 c = simp (c .counted-off .ensures, sym (c .before .before .is-busy .ensures) ∙ c .before .if3 .taken, sym (c .before .before .before .before .both .ensures) ∙ c .before .before .before .if2 .left, ← c .before .before .before .before .before .is-pending .ensures, ← c .before .before .before .before .before .before .vpp-low .ensures, sym (c .before .before .before .before .before .before .before .before .rp-low .ensures) ∙ c .before .before .before .before .before .before .before .if1 .left)
+returns-3 c = simp (c .passed .ensures, sym (c .before .before .is-busy .ensures) ∙ c .before .if3 .taken, sym (c .before .before .before .before .both .ensures) ∙ c .before .before .before .if2 .left, ← c .before .before .before .before .before .is-pending .ensures, ← c .before .before .before .before .before .before .vpp-low .ensures, sym (c .before .before .before .before .before .before .before .before .rp-low .ensures) ∙ c .before .before .before .before .before .before .before .if1 .left)
 
 returns-4 : tie.Need-returns-4
 unfolding settleOf
@@ -57,6 +57,6 @@ settle-spec =
     cut-by-requires
     returns-2
     is-busy-requires
-    counted-off-requires
+    passed-requires
     returns-3
     returns-4)

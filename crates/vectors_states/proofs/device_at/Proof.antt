@@ -1,4 +1,3 @@
--- `letters::device_at` meets its contract. Assumes nothing.
 use borrow.Author.Needs.{needs}
 use Rattle.vectors_states.specs.Letters.{deviceAt}
 use Rattle.vectors_states.proofs.device_at.Statement.{statement}
@@ -13,9 +12,14 @@ half-at-requires c κs = search needs
 half-at-requires-2 : tie.Need-half-at-requires-2
 half-at-requires-2 c κs = search needs
 
+byte-at-requires-2 : tie.Need-byte-at-requires-2
+byte-at-requires-2 c κs = search needs
+
 returns : tie.Need-returns
 unfolding deviceAt
-returns c = simp (c .half-at2 .ensures, c .before .half-at .ensures, c .before .before .byte-at .ensures)
+returns c = simp (c .byte-at2 .ensures, c .before .half-at2 .ensures, c .before .before .half-at .ensures, c .before .before .before .byte-at .ensures)
 
 pub device-at-spec : {M : Type 1} → statement M
-device-at-spec = tie.close (tie.spec byte-at-requires half-at-requires half-at-requires-2 returns)
+device-at-spec =
+    tie.close
+    (tie.spec byte-at-requires half-at-requires half-at-requires-2 byte-at-requires-2 returns)

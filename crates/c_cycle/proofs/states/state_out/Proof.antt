@@ -11,9 +11,13 @@ phase-out-requires c κs = search needs
 byte-out-requires : tie.Need-byte-out-requires
 byte-out-requires c κs = search needs
 
+suspend-left-requires : tie.Need-suspend-left-requires
+suspend-left-requires c κs = search needs
+
 returns : tie.Need-returns
-returns c = simp (c .byte-out .ensures, c .before .phase-out .ensures, c .before .before .mode-out .ensures)
+returns c = simp (c .suspend-left .ensures, c .before .byte-out .ensures, c .before .before .phase-out .ensures, c .before .before .before .mode-out .ensures)
 
 pub state-out-spec : {M : Type 1} → statement M
 state-out-spec =
-    tie.close (tie.spec mode-out-requires phase-out-requires byte-out-requires returns)
+    tie.close
+    (tie.spec mode-out-requires phase-out-requires byte-out-requires suspend-left-requires returns)

@@ -5,15 +5,12 @@ use Rattle.loader_steps.specs.Outs.{firstAddress}
 use Rattle.loader_steps.proofs.outs.first.Statement.{statement}
 use Rattle.loader_steps.proofs.outs.first.Tie as tie
 
--- src/outs.rt:-15:5
 start-requires : tie.Need-start-requires
 start-requires c κs = search needs
 
--- src/outs.rt:-15:5
 cast-result : tie.Need-cast-result
 cast-result c = record { fits = omega (arith, c .start .ensures, start-small (c .before .before .args .l .part) (c .before .before .args .l .block)) }
 
--- src/outs.rt:-19:1
 returns : tie.Need-returns
 unfolding firstAddress
 returns c = simp (c .start .ensures)

@@ -6,25 +6,20 @@ use Rattle.loader_steps.specs.Outs.{hereOf, firstAddress}
 use Rattle.loader_steps.proofs.outs.here.Statement.{statement}
 use Rattle.loader_steps.proofs.outs.here.Tie as tie
 
--- src/outs.rt:-8:9
 first-requires : tie.Need-first-requires
 first-requires c κs = search needs
 
--- src/outs.rt:-6:20
 cast-result : tie.Need-cast-result
 cast-result c = search needs
 
--- src/outs.rt:-6:16
 add-result : tie.Need-add-result
 unfolding firstAddress
 add-result c = record { fits = omega (arith, c .before .before .before .first .ensures, start-small (c .before .before .before .before .args .l .part) (c .before .before .before .before .args .l .block)) }
 
--- src/outs.rt:-6:9
 returns : tie.Need-returns
 unfolding hereOf
 returns c = simp (lt-ltb _ _ (c .before .if1 .taken), c .before .before .before .first .ensures)
 
--- src/outs.rt:-11:1
 returns-2 : tie.Need-returns-2
 unfolding hereOf
 returns-2 c = simp (le-ltb _ _ (c .if1 .left), c .before .before .first .ensures)

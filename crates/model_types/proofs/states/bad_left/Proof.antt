@@ -10,13 +10,18 @@ is-pending-requires c κs = search needs
 most-left-requires : tie.Need-most-left-requires
 most-left-requires c κs = search needs
 
+bad-suspend-requires : tie.Need-bad-suspend-requires
+bad-suspend-requires c κs = search needs
+
 returns : tie.Need-returns
 unfolding badLeft
-returns c = simp (c .most-left .ensures, sym (c .before .before .is-pending .ensures) ∙ c .before .if1 .taken)
+returns c = simp (c .bad-suspend .ensures, c .before .most-left .ensures, sym (c .before .before .before .is-pending .ensures) ∙ c .before .before .if1 .taken)
 
 returns-2 : tie.Need-returns-2
 unfolding badLeft
 returns-2 c = simp (sym (c .before .is-pending .ensures) ∙ c .if1 .left)
 
 pub bad-left-spec : {M : Type 1} → statement M
-bad-left-spec = tie.close (tie.spec is-pending-requires most-left-requires returns returns-2)
+bad-left-spec =
+    tie.close
+    (tie.spec is-pending-requires most-left-requires bad-suspend-requires returns returns-2)

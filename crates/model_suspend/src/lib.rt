@@ -1,0 +1,1 @@
+// How long a suspend takes and what it leaves: definitions and laws, nothing that runs.
