@@ -1,0 +1,123 @@
+-- A reading inside its pair of knots, over whole microvolts and whole tenths.
+use mathlib.Core.Path.{_≡_, refl, sym, ap, ap₂, _∙_, subst}
+use mathlib.Core.Bool.{Bool, true, false, not, cond, _&&_}
+use mathlib.Core.Logic.{⊎-elim}
+use Prim.Native.Nat.{ℕ, zero, suc, _+_, _-_, _*_, _≤_, _<_, _^_}
+use native.Mathlib.Nat.{le-trans, le-of-eq, mul-le-mul}
+use native.Mathlib.Omega.{arith}
+use lib.Dec.{T, ltb, leb, lit≤, leb→le, ltb→lt, le→leb}
+use lib.IntN.{ℤ, pos, negsuc, natAbs}
+use lib.Signed.{leZ, ltZ}
+use lib.Ieee.{Float, binary64, prec, le, ofInt}
+use lib.Ieee.Scale.{finite}
+use Rattle.reading_pair.specs.declared.Pair.{Pair}
+use Rattle.reading_pair.specs.Pairs.{interpolated}
+use Rattle.reading_pair.proofs.Whole.{yes-lt, no-lt, below?, plus, gap}
+use Rattle.reading_pair.proofs.Knots.{sign, has, plain, gap-le}
+use Rattle.reading_pair.specs.Order.{Lies}
+use Rattle.reading_pair.proofs.Between.{up-from, down-from}
+
+-- z - a for a ≤ z
+abbrev dist : ℤ → ℤ → ℕ
+dist (pos a) (pos z) = z - a
+dist (pos a) (negsuc z) = 0
+dist (negsuc a) (pos z) = z + suc a
+dist (negsuc a) (negsuc z) = suc a - suc z
+
+-- the difference of z and a, as its sign and its size
+abbrev apart : ℤ → ℤ → Bool × ℕ
+apart z a = plus (sign z) (natAbs z) (not (sign a)) (natAbs a)
+
+apart-up : (a z : ℤ) → T (leZ a z) → apart z a ≡ (false, dist a z)
+apart-up (pos a) (pos z) h = simp (no-lt z a (leb→le a z h))
+apart-up (pos a) (negsuc z) h = absurd h
+apart-up (negsuc a) (pos z) h = refl
+apart-up (negsuc a) (negsuc z) h =
+    let l : z ≤ a = leb→le z a h in
+    ⊎-elim
+    (λ (m : suc z < suc a). simp (yes-lt (suc z) (suc a) m))
+    (λ (m : suc a ≤ suc z). simp (no-lt (suc z) (suc a) m, no-lt (suc a) (suc z) (omega (arith, l))) (ap (λ (n : ℕ). (false, n)) (omega (arith, l, m)))) (below? (suc z) (suc a))
+
+apart-down : (a z : ℤ) → T (ltZ z a) → apart z a .0 ≡ true
+apart-down (pos a) (pos z) h = simp (yes-lt z a (ltb→lt z a h))
+apart-down (negsuc a) (pos z) h = absurd h
+apart-down (pos a) (negsuc z) h = refl
+apart-down (negsuc a) (negsuc z) h =
+    let l : a < z = ltb→lt a z h in
+    simp (no-lt (suc z) (suc a) (omega (arith, l)), yes-lt (suc a) (suc z) (omega (arith, l)))
+
+dist-mono : (a z w : ℤ) → T (leZ a z) → T (leZ z w) → dist a z ≤ dist a w
+dist-mono (pos a) (pos z) (pos w) h k = let l = leb→le z w k in omega (arith, l)
+dist-mono (pos a) (pos z) (negsuc w) h k = absurd k
+dist-mono (pos a) (negsuc z) w h k = absurd h
+dist-mono (negsuc a) (pos z) (pos w) h k = let l = leb→le z w k in omega (arith, l)
+dist-mono (negsuc a) (pos z) (negsuc w) h k = absurd k
+dist-mono (negsuc a) (negsuc z) (pos w) h k = omega arith
+dist-mono (negsuc a) (negsuc z) (negsuc w) h k = let l = leb→le w z k in omega (arith, l)
+
+dist-pos : (a z : ℤ) → T (ltZ a z) → 0 < dist a z
+dist-pos (pos a) (pos z) h = let l = ltb→lt a z h in omega (arith, l)
+dist-pos (pos a) (negsuc z) h = absurd h
+dist-pos (negsuc a) (pos z) h = omega arith
+dist-pos (negsuc a) (negsuc z) h = let l = ltb→lt z a h in omega (arith, l)
+
+weak : (a z : ℤ) → T (ltZ a z) → T (leZ a z)
+weak (pos a) (pos z) h = let l = ltb→lt a z h in le→leb a z (omega (arith, l))
+weak (pos a) (negsuc z) h = h
+weak (negsuc a) (pos z) h = h
+weak (negsuc a) (negsuc z) h = let l = ltb→lt z a h in le→leb z a (omega (arith, l))
+
+pub wide-gap : (x0 x1 : ℤ) → T (ltZ x0 x1) → 0 < gap (sign x1) (natAbs x1) (sign x0) (natAbs x0)
+wide-gap x0 x1 h = subst (λ (z : Bool × ℕ). 0 < z .1) (sym (apart-up x0 x1 (weak x0 x1 h))) (dist-pos x0 x1 h)
+
+-- ---- between the knots
+module _ (p : Pair) (x0 t0 x1 t1 x : ℤ) (e0 : p .x0 ≡ ofInt binary64 x0) (f0 : p .t0 ≡ ofInt binary64 t0) (e1 : p .x1 ≡ ofInt binary64 x1) (f1 : p .t1 ≡ ofInt binary64 t1)
+    (r0 : natAbs x0 ≤ 80000) (r1 : natAbs x1 ≤ 80000) (r : natAbs x ≤ 80000) (u0 : natAbs t0 ≤ 32768) (u1 : natAbs t1 ≤ 32768)
+    (rises : T (ltZ x0 x1)) (after : T (leZ x0 x)) (before : T (leZ x x1)) where
+  abbrev G : ℕ
+  G = gap (sign t1) (natAbs t1) (sign t0) (natAbs t0)
+
+  abbrev X : ℕ
+  X = gap (sign x1) (natAbs x1) (sign x0) (natAbs x0)
+
+  g-le : G ≤ 65536
+  g-le = omega (arith, gap-le (sign t1) (natAbs t1) (sign t0) (natAbs t0), u0, u1)
+
+  x-le : X ≤ 160000
+  x-le = omega (arith, gap-le (sign x1) (natAbs x1) (sign x0) (natAbs x0), r0, r1)
+
+  few : G * X ≤ 2 ^ prec binary64
+  few = le-trans (mul-le-mul g-le x-le) (lit≤ tt)
+
+  wide-is : apart x1 x0 ≡ (false, dist x0 x1)
+  wide-is = apart-up x0 x1 (weak x0 x1 rises)
+
+  some-is : apart x x0 ≡ (false, dist x0 x)
+  some-is = apart-up x0 x after
+
+  wide : 0 < X
+  wide = subst (λ (z : Bool × ℕ). 0 < z .1) (sym wide-is) (dist-pos x0 x1 rises)
+
+  less : apart x x0 .1 ≤ X
+  less = subst (λ (z : Bool × ℕ). z .1 ≤ X) (sym some-is) (subst (λ (z : Bool × ℕ). dist x0 x ≤ z .1) (sym wide-is) (dist-mono x0 x x1 after before))
+
+  sizes : natAbs t0 + natAbs t1 ≤ 2 ^ prec binary64
+  sizes = le-trans (omega (arith, u0, u1)) (lit≤ {m = 65536} tt)
+
+  abbrev plainly : Pair
+  plainly = record { x0 = ofInt binary64 x0; t0 = ofInt binary64 t0; x1 = ofInt binary64 x1; t1 = ofInt binary64 t1 }
+
+  same : (x : Float) → interpolated p x ≡ interpolated plainly x
+  same x = λ i. interpolated (record { x0 = e0 i; t0 = f0 i; x1 = e1 i; t1 = f1 i }) x
+
+  pub inside-up : T (leZ t0 t1) → Lies t0 (interpolated p (ofInt binary64 x)) t1
+  inside-up h = subst (λ (z : Float). Lies t0 z t1) (sym (same (ofInt binary64 x)))
+      (up-from binary64 (ofInt binary64 t0) (ofInt binary64 t1) (ofInt binary64 x0) (ofInt binary64 x1) (ofInt binary64 x) (sign t0) (sign t1) (sign x0) (sign x1) (sign x) (natAbs t0) (natAbs t1) (natAbs x0) (natAbs x1) (natAbs x)
+      (has t0 (omega (arith, u0))) (has t1 (omega (arith, u1))) (has x0 r0) (has x1 r1) (has x r) (plain t0) (plain t1) wide (ap (λ (z : Bool × ℕ). z .0) wide-is) (ap (λ (z : Bool × ℕ). z .0) some-is) less
+      few (le-trans g-le (lit≤ tt)) (le-trans x-le (lit≤ tt)) sizes (ap (λ (z : Bool × ℕ). z .0) (apart-up t0 t1 h)))
+
+  pub inside-down : T (ltZ t1 t0) → Lies t1 (interpolated p (ofInt binary64 x)) t0
+  inside-down h = subst (λ (z : Float). Lies t1 z t0) (sym (same (ofInt binary64 x)))
+      (down-from binary64 (ofInt binary64 t0) (ofInt binary64 t1) (ofInt binary64 x0) (ofInt binary64 x1) (ofInt binary64 x) (sign t0) (sign t1) (sign x0) (sign x1) (sign x) (natAbs t0) (natAbs t1) (natAbs x0) (natAbs x1) (natAbs x)
+      (has t0 (omega (arith, u0))) (has t1 (omega (arith, u1))) (has x0 r0) (has x1 r1) (has x r) (plain t0) (plain t1) wide (ap (λ (z : Bool × ℕ). z .0) wide-is) (ap (λ (z : Bool × ℕ). z .0) some-is) less
+      few (le-trans g-le (lit≤ tt)) (le-trans x-le (lit≤ tt)) sizes (apart-down t0 t1 h))

@@ -1,0 +1,67 @@
+use mathlib.Core.Path.{_≡_, refl, sym, ap, ap₂, _∙_, subst}
+use mathlib.Core.Bool.{Bool, true, false, not, cond, _&&_, Bool·beq}
+use Prim.Native.Nat.{ℕ, zero, suc, _+_, _-_, _*_, _≤_, _<_, _^_}
+use native.Mathlib.Nat.{le-trans, mul-le-mul}
+use native.Mathlib.Omega.{arith}
+use lib.Dec.{T, ltb, lit≤}
+use lib.IntN.{ℤ, pos, negsuc, natAbs}
+use lib.Ieee.{Float, Format, binary64, prec, round, ofInt}
+use lib.Ieee.Exact.{HasValue}
+use lib.Ieee.Back.{round-whole}
+use Rattle.reading_pair.specs.declared.Pair.{Pair}
+use Rattle.reading_pair.specs.Pairs.{interpolated}
+use Rattle.reading_pair.proofs.Whole.{plus, gap, first-knot, second-knot}
+
+abbrev pub sign : ℤ → Bool
+sign (pos n) = false
+sign (negsuc n) = true
+
+pub of-round : (z : ℤ) → ofInt binary64 z ≡ round binary64 (sign z) (natAbs z) 1
+unfolding ofInt
+of-round (pos n) = refl
+of-round (negsuc n) = refl
+
+pub has : (z : ℤ) → natAbs z ≤ 80000 → HasValue (ofInt binary64 z) (sign z) (natAbs z) 1
+has z h = subst (λ (x : Float). HasValue x (sign z) (natAbs z) 1) (sym (of-round z)) (round-whole binary64 (sign z) (natAbs z) (le-trans h (lit≤ tt)))
+
+pub plain : (z : ℤ) → natAbs z ≡ 0 → sign z ≡ false
+plain (pos n) e = refl
+plain (negsuc n) e = let z : ⊥ = omega (arith, e) in absurd z
+
+-- a difference is at most the two sizes together
+pub gap-le : (t : Bool) (b : ℕ) (s : Bool) (a : ℕ) → gap t b s a ≤ b + a
+gap-le t b s a = go (Bool·beq t (not s)) (ltb b a)
+  where
+    go : (y z : Bool) → cond {A = Bool × ℕ} y (t, b + a) (cond {A = Bool × ℕ} z (not s, a - b) (t && ltb a b, b - a)) .1 ≤ b + a
+    go true z = omega arith
+    go false true = omega arith
+    go false false = omega arith
+
+-- ---- whole numbers within the card's ranges: exact at both knots
+module _ (p : Pair) (x0 t0 x1 t1 : ℤ) (e0 : p .x0 ≡ ofInt binary64 x0) (f0 : p .t0 ≡ ofInt binary64 t0) (e1 : p .x1 ≡ ofInt binary64 x1) (f1 : p .t1 ≡ ofInt binary64 t1)
+    (r0 : natAbs x0 ≤ 80000) (r1 : natAbs x1 ≤ 80000) (u0 : natAbs t0 ≤ 32768) (u1 : natAbs t1 ≤ 32768) (apart : 0 < gap (sign x1) (natAbs x1) (sign x0) (natAbs x0)) where
+  abbrev G : ℕ
+  G = gap (sign t1) (natAbs t1) (sign t0) (natAbs t0)
+
+  abbrev X : ℕ
+  X = gap (sign x1) (natAbs x1) (sign x0) (natAbs x0)
+
+  g-le : G ≤ 65536
+  g-le = omega (arith, gap-le (sign t1) (natAbs t1) (sign t0) (natAbs t0), u0, u1)
+
+  x-le : X ≤ 160000
+  x-le = omega (arith, gap-le (sign x1) (natAbs x1) (sign x0) (natAbs x0), r0, r1)
+
+  few : G * X ≤ 2 ^ prec binary64
+  few = le-trans (mul-le-mul g-le x-le) (lit≤ tt)
+
+  same : (x : Float) → interpolated p x ≡ interpolated (record { x0 = ofInt binary64 x0; t0 = ofInt binary64 t0; x1 = ofInt binary64 x1; t1 = ofInt binary64 t1 }) x
+  same x = λ i. interpolated (record { x0 = e0 i; t0 = f0 i; x1 = e1 i; t1 = f1 i }) x
+
+  pub at-second : interpolated p (ofInt binary64 x1) ≡ ofInt binary64 t1
+  at-second = same (ofInt binary64 x1) ∙ second-knot binary64 (ofInt binary64 t0) (ofInt binary64 t1) (ofInt binary64 x0) (ofInt binary64 x1) (sign t0) (sign t1) (sign x0) (sign x1) (natAbs t0) (natAbs t1) (natAbs x0) (natAbs x1)
+      (has t0 (omega (arith, u0))) (has t1 (omega (arith, u1))) (has x0 r0) (has x1 r1) (plain t0) (plain t1) apart few (le-trans g-le (lit≤ tt)) (le-trans x-le (lit≤ tt)) ∙ sym (of-round t1)
+
+  pub at-first : interpolated p (ofInt binary64 x0) ≡ ofInt binary64 t0
+  at-first = same (ofInt binary64 x0) ∙ first-knot binary64 (ofInt binary64 t0) (ofInt binary64 t1) (ofInt binary64 x0) (ofInt binary64 x1) (sign t0) (sign t1) (sign x0) (sign x1) (natAbs t0) (natAbs t1) (natAbs x0) (natAbs x1)
+      (has t0 (omega (arith, u0))) (has t1 (omega (arith, u1))) (has x0 r0) (has x1 r1) (plain t0) (plain t1) apart few (le-trans g-le (lit≤ tt)) (le-trans x-le (lit≤ tt)) ∙ sym (of-round t0)
