@@ -1,23 +1,18 @@
 -- Between two knots the reading lies between their temperatures, in f64's own order, and is finite.
 use mathlib.Core.Path.{_≡_, refl, sym, ap, ap₂, _∙_, subst}
-use mathlib.Core.Bool.{Bool, true, false, not, cond, _&&_, _||_, Bool·beq}
-use mathlib.Core.Logic.{⊎-elim, _⊎_, inl, inr}
+use mathlib.Core.Bool.{Bool, true, false, not, cond, _&&_, Bool·beq}
+use mathlib.Core.Logic.{⊎-elim}
 use Prim.Native.Nat.{ℕ, zero, suc, _+_, _-_, _*_, _≤_, _<_, _^_}
-use native.Mathlib.Nat.{le-trans, le-of-eq, lt-of-le-of-lt, mul-one, mul-pos, mul-comm, mul-assoc, add-mul, mul-le-mul, mul-le-mul-right, mul-le-mul-left}
+use native.Mathlib.Nat.{le-trans, le-of-eq, mul-pos, add-mul, mul-le-mul-left}
 use native.Mathlib.Omega.{arith}
-use lib.Dec.{T, ltb, leb, lit≤, leb→le, ltb→lt, le→leb, lt→ltb}
+use lib.Dec.{T, ltb}
 use lib.Pow.{pow-pos}
-use lib.IntN.{ℤ, pos, negsuc, natAbs}
-use lib.Signed.{leZ, ltZ}
-use lib.Ieee.{Float, nan, inf, fin, Format, binary64, prec, low, unlike, round, sum, add, sub, mul, div, le, ofInt}
+use lib.Ieee.{Float, nan, inf, fin, Format, prec, low, unlike, round, add, sub, mul, div, le}
 use lib.Ieee.Exact.{HasValue}
 use lib.Ieee.Back.{round-whole}
 use lib.Ieee.Scale.{finite, grid, overflow}
-use Rattle.reading_pair.specs.declared.Pair.{Pair}
-use Rattle.reading_pair.specs.Pairs.{interpolated}
 use Rattle.reading_pair.specs.Order.{notMinusZero}
 use Rattle.reading_pair.proofs.Whole.{yes-lt, no-lt, lt-scale, below?, sub-mul, above, plus, gap, sub-whole, mul-whole}
-use Rattle.reading_pair.proofs.Knots.{sign, of-round, has, plain, gap-le}
 use Rattle.reading_pair.proofs.Rounded.{SLe, grid-le, round-value, under-whole, over-whole, round-minus, plus-minus, div-frac, add-frac, sum-plus-at}
 
 -- ---- t0 + k for k at most t1 - t0 lies between t0 and t1

@@ -1,15 +1,14 @@
 -- A reading inside its pair of knots, over whole microvolts and whole tenths.
-use mathlib.Core.Path.{_≡_, refl, sym, ap, ap₂, _∙_, subst}
-use mathlib.Core.Bool.{Bool, true, false, not, cond, _&&_}
+use mathlib.Core.Path.{_≡_, refl, sym, ap, subst}
+use mathlib.Core.Bool.{Bool, true, false, not}
 use mathlib.Core.Logic.{⊎-elim}
-use Prim.Native.Nat.{ℕ, zero, suc, _+_, _-_, _*_, _≤_, _<_, _^_}
-use native.Mathlib.Nat.{le-trans, le-of-eq, mul-le-mul}
+use Prim.Native.Nat.{ℕ, suc, _+_, _-_, _*_, _≤_, _<_, _^_}
+use native.Mathlib.Nat.{le-trans, mul-le-mul}
 use native.Mathlib.Omega.{arith}
-use lib.Dec.{T, ltb, leb, lit≤, leb→le, ltb→lt, le→leb}
+use lib.Dec.{T, lit≤, leb→le, ltb→lt, le→leb}
 use lib.IntN.{ℤ, pos, negsuc, natAbs}
 use lib.Signed.{leZ, ltZ}
-use lib.Ieee.{Float, binary64, prec, le, ofInt}
-use lib.Ieee.Scale.{finite}
+use lib.Ieee.{Float, binary64, prec, ofInt}
 use Rattle.reading_pair.specs.declared.Pair.{Pair}
 use Rattle.reading_pair.specs.Pairs.{interpolated}
 use Rattle.reading_pair.proofs.Whole.{yes-lt, no-lt, below?, plus, gap}

@@ -1,16 +1,16 @@
-use mathlib.Core.Path.{_≡_, refl, sym, ap, ap₂, _∙_, subst}
+use mathlib.Core.Path.{_≡_, refl, sym, _∙_, subst}
 use mathlib.Core.Bool.{Bool, true, false, not, cond, _&&_, Bool·beq}
-use Prim.Native.Nat.{ℕ, zero, suc, _+_, _-_, _*_, _≤_, _<_, _^_}
+use Prim.Native.Nat.{ℕ, _+_, _-_, _*_, _≤_, _<_, _^_}
 use native.Mathlib.Nat.{le-trans, mul-le-mul}
 use native.Mathlib.Omega.{arith}
-use lib.Dec.{T, ltb, lit≤}
+use lib.Dec.{ltb, lit≤}
 use lib.IntN.{ℤ, pos, negsuc, natAbs}
-use lib.Ieee.{Float, Format, binary64, prec, round, ofInt}
+use lib.Ieee.{Float, binary64, prec, round, ofInt}
 use lib.Ieee.Exact.{HasValue}
 use lib.Ieee.Back.{round-whole}
 use Rattle.reading_pair.specs.declared.Pair.{Pair}
 use Rattle.reading_pair.specs.Pairs.{interpolated}
-use Rattle.reading_pair.proofs.Whole.{plus, gap, first-knot, second-knot}
+use Rattle.reading_pair.proofs.Whole.{gap, first-knot, second-knot}
 
 abbrev pub sign : ℤ → Bool
 sign (pos n) = false

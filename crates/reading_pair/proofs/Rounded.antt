@@ -1,19 +1,18 @@
 -- Rounding keeps the order, in the form a reading needs: over signs, with whole numbers as the bounds.
 use mathlib.Core.Path.{_≡_, refl, sym, ap, ap₂, _∙_, subst}
-use mathlib.Core.Bool.{Bool, true, false, not, cond, _&&_, _||_, Bool·beq, true≢false}
+use mathlib.Core.Bool.{Bool, true, false, cond, _&&_, _||_, Bool·beq, true≢false}
 use mathlib.Core.Logic.{⊎-elim, _⊎_, inl, inr}
 use Prim.Native.Nat.{ℕ, zero, suc, _+_, _-_, _*_, _≤_, _<_, _^_}
-use native.Mathlib.Nat.{le-trans, le-of-eq, lt-of-le-of-lt, mul-one, mul-pos, mul-comm, mul-assoc, mul-right-comm, mul-left-comm, add-mul, mul-le-mul-right, le-of-mul-le-mul-right, eq-of-mul-eq-mul-right, lt-irrefl, zero-mul}
+use native.Mathlib.Nat.{le-trans, le-of-eq, mul-one, mul-pos, mul-comm, mul-assoc, mul-right-comm, mul-left-comm, add-mul, mul-le-mul-right, le-of-mul-le-mul-right, eq-of-mul-eq-mul-right, lt-irrefl, zero-mul}
 use native.Mathlib.Omega.{arith}
-use lib.Dec.{T, ltb, eqb, leb, eqb→eq, eqb-refl, eqb·suc-zero, lt→ltb, ltb→lt, lit<}
+use lib.Dec.{T, ltb, eqb, eqb→eq, eqb-refl, eqb·suc-zero, lt→ltb, ltb→lt, lit<}
 use lib.Pow.{pow-pos}
-use lib.IntN.{ℤ}
 use lib.Ieee.{Float, nan, inf, fin, Format, binary32, binary64, prec, emax, low, up, down, unlike, odd, units, round, sum, add, div, le}
 use lib.Ieee.Exact.{HasValue, units-val, round-exact}
 use lib.Ieee.Back.{round-whole}
 use lib.Ieee.Scale.{round-same, finite, grid, overflow, round-val, round-under}
 use lib.Ieee.Order.{transfer, le-of-values, round-mono, drop, kept}
-use lib.Ieee.Fits.{up-pos, down-pos, round-is}
+use lib.Ieee.Fits.{down-pos, round-is}
 use lib.Ieee.Positive.{num, den, den-pos, value→cross, first-pos}
 use Rattle.reading_pair.specs.Order.{notMinusZero}
 use Rattle.reading_pair.proofs.Whole.{yes-lt, no-lt, lt-scale, below?, sub-mul, plus, above}

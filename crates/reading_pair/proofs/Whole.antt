@@ -5,11 +5,11 @@ use native.Mathlib.Nat.{mul-one, mul-pos, mul-comm, mul-assoc, mul-right-comm, a
 use native.Mathlib.Omega.{arith}
 use mathlib.Core.Logic.{⊎-elim, _⊎_, inl, inr}
 use lib.Dec.{T, ltb, eqb, eqb·suc-zero, lt→ltb, ltb→lt, nltb→le}
-use lib.Ieee.{Float, nan, inf, fin, Format, binary64, prec, up, down, unlike, round, sum, add, sub, mul, div, neg}
+use lib.Ieee.{Float, nan, inf, fin, Format, prec, up, down, unlike, round, sum, add, sub, mul, div, neg}
 use lib.Ieee.Exact.{HasValue}
 use lib.Ieee.Back.{round-whole}
 use lib.Ieee.Scale.{round-same}
-use lib.Ieee.Fits.{up-pos, down-pos}
+use lib.Ieee.Fits.{down-pos}
 
 -- ---- the tests
 pub yes-lt : (a b : ℕ) → a < b → ltb a b ≡ true

@@ -1,0 +1,5 @@
+pub mod Places
+pub mod Signs
+pub mod Steps
+pub mod Laws
+pub mod Unique
