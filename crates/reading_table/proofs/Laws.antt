@@ -6,7 +6,7 @@ use mathlib.Core.List.{List}
 use Prim.Native.Nat.{ℕ, zero, suc, _+_, _-_, _*_, _≤_, _<_, zero-le}
 use native.Mathlib.Nat.{eq-or-lt-of-le}
 use native.Mathlib.Omega.{arith}
-use lib.Dec.{T, ltb, eqb, leb→le, ltb→lt, le→leb, lt→ltb, nleb→lt, nltb→le}
+use lib.Dec.{T, ltb, eqb, leb→le, ltb→lt, nltb→le}
 use lib.IntN.{ℤ, pos, negsuc, natAbs}
 use lib.ListN.{getD}
 use lib.Signed.{leZ, ltZ}
@@ -15,6 +15,7 @@ use borrow.Author.Tests.{ne-eqb}
 use Rattle.common.specs.Choice.{if_then_else_}
 use Rattle.reading_table.specs.Table.{signed16, word16, voltsOf, tenthsOf, inRange, goodAt, risingFrom, risingOf, knots}
 use Rattle.reading_table.specs.Search.{halving, seekOf}
+use Rattle.reading_table.proofs.Order.{not-le, lt-le}
 use Rattle.reading_table.proofs.Steps.{mid, halved-stop, turn}
 
 -- ---- tests
@@ -31,19 +32,6 @@ both false b e = absurd (clash e)
   where
     clash : false ≡ true → ⊥
     clash e = let z : _≡_ {A = ℕ} 0 1 = cc in omega (arith, z)
-
--- not at most: above
-not-le : (a b : ℤ) → leZ a b ≡ false → T (ltZ b a)
-not-le (pos a) (pos b) e = lt→ltb b a (nleb→lt a b (subst (λ (t : Bool). T (not t)) (sym e) tt))
-not-le (pos a) (negsuc b) e = tt
-not-le (negsuc a) (pos b) e = let z : _≡_ {A = ℕ} 0 1 = cc in omega (arith, z)
-not-le (negsuc a) (negsuc b) e = lt→ltb a b (nleb→lt b a (subst (λ (t : Bool). T (not t)) (sym e) tt))
-
-pub lt-le : (a b : ℤ) → T (ltZ a b) → T (leZ a b)
-lt-le (pos a) (pos z) h = let l = ltb→lt a z h in le→leb a z (omega (arith, l))
-lt-le (pos a) (negsuc z) h = h
-lt-le (negsuc a) (pos z) h = h
-lt-le (negsuc a) (negsuc z) h = let l = ltb→lt z a h in le→leb z a (omega (arith, l))
 
 -- ---- the search brackets x, whatever lies between
 Brackets : List ℕ → ℤ → ℕ → ℕ → Type 0
