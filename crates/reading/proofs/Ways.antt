@@ -16,7 +16,7 @@ use Rattle.reading_pair.specs.Pairs.{interpolated}
 use Rattle.reading_table.specs.Table.{voltsOf, knots}
 use Rattle.reading_table.specs.Search.{seekOf}
 use Rattle.reading_table.proofs.Order.{not-lt}
-use Rattle.reading_table.proofs.Laws.{seek-brackets}
+use Rattle.reading_table.proofs.Seeking.{seek-brackets}
 use Rattle.reading.specs.declared.Reading.the-variants.{Temperature, Below, Above}
 use Rattle.reading.specs.declared.ReadingAnswer.the-variants.{Refused}
 use Rattle.reading.specs.Readings.{heatOf, pairAt, readingOf, tableAnswer, answerAs}
@@ -41,7 +41,7 @@ module _ (p : List ℕ) (x : ℤ) where
 
   -- where it is between two knots, the search finds one that has a next
   pub next-knot : ltZ x (voltsOf p 0) ≡ false → ltZ (voltsOf p (knots p - 1)) x ≡ false → 2 ≤ knots p → seekOf p x + 1 < knots p
-  next-knot h k l = seek-brackets p x l (not-lt x (voltsOf p 0) h) (not-lt (voltsOf p (knots p - 1)) x k) .0
+  next-knot h k l = seek-brackets p x l (not-lt x (voltsOf p 0) h) (not-lt (voltsOf p (knots p - 1)) x k) .within
 
 -- a file that the reader refuses
 pub refused-answer : (o : Outcome) (n : ℕ) (x : ℤ) → readAs o ≡ NotRead n → Refused n ≡ answerAs x o

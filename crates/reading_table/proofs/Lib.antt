@@ -2,5 +2,6 @@ pub mod Places
 pub mod Signs
 pub mod Order
 pub mod Steps
-pub mod Laws
+pub mod Seeking
+pub mod Knots
 pub mod Unique

@@ -1,7 +1,7 @@
--- What the table's tests and the search mean.
+-- What the tests of a table say of each knot. Assumes nothing.
 use mathlib.Core.Path.{_≡_, refl, sym, ap₂, subst}
 use mathlib.Core.Bool.{Bool, true, false, not, _&&_}
-use mathlib.Core.Logic.{⊎-elim, _⊎_, inl, inr}
+use mathlib.Core.Logic.{⊎-elim}
 use mathlib.Core.List.{List}
 use Prim.Native.Nat.{ℕ, zero, suc, _+_, _-_, _*_, _≤_, _<_, zero-le}
 use native.Mathlib.Nat.{eq-or-lt-of-le}
@@ -14,9 +14,6 @@ use Rattle.common.proofs.Choice.{if-ind}
 use borrow.Author.Tests.{ne-eqb}
 use Rattle.common.specs.Choice.{if_then_else_}
 use Rattle.reading_table.specs.Table.{signed16, word16, voltsOf, tenthsOf, inRange, goodAt, risingFrom, risingOf, knots}
-use Rattle.reading_table.specs.Search.{halving, seekOf}
-use Rattle.reading_table.proofs.Order.{not-le, lt-le}
-use Rattle.reading_table.proofs.Steps.{mid, halved-stop, turn}
 
 -- ---- tests
 yes : {b : Bool} → b ≡ true → T b
@@ -32,43 +29,6 @@ both false b e = absurd (clash e)
   where
     clash : false ≡ true → ⊥
     clash e = let z : _≡_ {A = ℕ} 0 1 = cc in omega (arith, z)
-
--- ---- the search brackets x, whatever lies between
-Brackets : List ℕ → ℤ → ℕ → ℕ → Type 0
-Brackets p x n r = (r + 1 < n) × T (leZ (voltsOf p r) x) × T (leZ x (voltsOf p (r + 1)))
-
-met : (p : List ℕ) (x : ℤ) (n lo hi : ℕ) → lo < hi → hi ≤ lo + 1 → hi < n → T (leZ (voltsOf p lo) x) → T (leZ x (voltsOf p hi)) → Brackets p x n lo
-unfolding Brackets
-met p x n lo hi l m w a b = let e : hi ≡ lo + 1 = omega (arith, l, m) in (subst (λ (z : ℕ). z < n) e w, a, subst (λ (z : ℕ). T (leZ x (voltsOf p z))) e b)
-
-found : (k : ℕ) (p : List ℕ) (x : ℤ) (n lo hi : ℕ) → lo < hi → hi - lo ≤ suc k → hi < n → T (leZ (voltsOf p lo) x) → T (leZ x (voltsOf p hi)) → Brackets p x n (halving k p x lo hi)
-unfolding halving Brackets
-found zero p x n lo hi l f w a b = met p x n lo hi l (omega (arith, l, f)) w a b
-found (suc k) p x n lo hi l f w a b = at (below? (lo + 1) hi) (λ lo hi. found k p x n lo hi)
-  where
-    below? : (i n : ℕ) → (i < n) ⊎ (n ≤ i)
-    below? i n = go (ltb i n) refl
-      where
-        go : (t : Bool) → ltb i n ≡ t → (i < n) ⊎ (n ≤ i)
-        go true e = inl (ltb→lt i n (yes e))
-        go false e = inr (le-of e)
-          where
-            le-of : ltb i n ≡ false → n ≤ i
-            le-of e = nltb→le i n (subst (λ (t : Bool). T (not t)) (sym e) tt)
-
-    step : lo + 1 < hi → ((lo hi : ℕ) → lo < hi → hi - lo ≤ suc k → hi < n → T (leZ (voltsOf p lo) x) → T (leZ x (voltsOf p hi)) → Brackets p x n (halving k p x lo hi))
-        → (t : Bool) → leZ (voltsOf p (mid lo hi)) x ≡ t → Brackets p x n (halving (suc k) p x lo hi)
-    step h ih true e = subst (Brackets p x n) (sym (turn k p x lo hi true h e)) (ih (mid lo hi) hi (omega (arith, h)) (omega (arith, h, f)) w (yes e) b)
-    step h ih false e = subst (Brackets p x n) (sym (turn k p x lo hi false h e)) (ih lo (mid lo hi) (omega (arith, h)) (omega (arith, h, f)) (omega (arith, h, w)) a (lt-le x (voltsOf p (mid lo hi)) (not-le (voltsOf p (mid lo hi)) x e)))
-
-    at : (lo + 1 < hi) ⊎ (hi ≤ lo + 1) → ((lo hi : ℕ) → lo < hi → hi - lo ≤ suc k → hi < n → T (leZ (voltsOf p lo) x) → T (leZ x (voltsOf p hi)) → Brackets p x n (halving k p x lo hi)) → Brackets p x n (halving (suc k) p x lo hi)
-    at (inl h) ih = step h ih (leZ (voltsOf p (mid lo hi)) x) refl
-    at (inr h) ih = subst (Brackets p x n) (sym (halved-stop (suc k) p x lo hi h)) (met p x n lo hi l h w a b)
-
-pub seek-brackets : (p : List ℕ) (x : ℤ) → 2 ≤ knots p → T (leZ (voltsOf p 0) x) → T (leZ x (voltsOf p (knots p - 1)))
-    → (seekOf p x + 1 < knots p) × T (leZ (voltsOf p (seekOf p x)) x) × T (leZ x (voltsOf p (seekOf p x + 1)))
-unfolding seekOf Brackets
-seek-brackets p x h a b = found (knots p) p x (knots p) 0 (knots p - 1) (omega (arith, h)) (omega arith) (omega (arith, h)) a b
 
 -- ---- what `rising` says of each knot
 good-from : (k i : ℕ) (p : List ℕ) → risingFrom k i p ≡ true → (j : ℕ) → i ≤ j → j < i + k → goodAt p j ≡ true
