@@ -1,2 +1,6 @@
 pub mod Judged
 pub mod Held
+pub mod Exact
+pub mod Sides
+pub mod Bounds
+pub mod Files
