@@ -4,3 +4,4 @@ pub mod Exact
 pub mod Sides
 pub mod Bounds
 pub mod Files
+pub mod Claims
