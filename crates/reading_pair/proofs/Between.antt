@@ -144,10 +144,11 @@ module _ (f : Format) (t₀ t₁ x₀ x₁ x : Float) (s t u v w : Bool) (a b c 
   quotient : div f (mul f (sub f t₁ t₀) (sub f x x₀)) (sub f x₁ x₀) ≡ round f sd (G * Y) X
   quotient = div-frac f (mul f (sub f t₁ t₀) (sub f x x₀)) (sub f x₁ x₀) (unlike sd false) false (G * Y) X wide M E ∙ ap (λ (z : Bool). round f z (G * Y) X) (same-unlike sd)
 
-  bound : (K ≤ G * L) × (K < overflow f)
+  pub bound : (K ≤ G * L) × (K < overflow f)
   bound = grid-le f (G * Y) X G wide gy small
 
-  is : R ≡ round f (plus s (a * L) sd K .0) (plus s (a * L) sd K .1) L
+  -- the reading is a sum of signed fractions of the smallest value, rounded once
+  pub is : R ≡ round f (plus s (a * L) sd K .0) (plus s (a * L) sd K .1) L
   is = ap (add f t₀) quotient ∙ add-frac f t₀ (round f sd (G * Y) X) s sd a K L (pow-pos (low f)) h₀ (round-value f sd (G * Y) X (bound .1)) ∙ sum-plus-at f s (a * L) sd K L
 
   scaled : plus t (b * L) (not s) (a * L) ≡ (sd, G * L)
@@ -177,11 +178,23 @@ module _ (f : Format) (t₀ t₁ x₀ x₁ x : Float) (s t u v w : Bool) (a b c 
   b-le : b ≤ 2 ^ prec f
   b-le = le-trans (omega arith) sizes
 
+  pub up-fits : sd ≡ false → grid f (plus s (a * L) sd K .1) L < overflow f
+  up-fits e =
+      let r = plus s (a * L) sd K in
+      let i : Within s (a * L) r t (b * L) = subst (λ (z : Bool). Within s (a * L) (plus s (a * L) z K) t (b * L)) (sym e) (up-core s t (a * L) (b * L) K y₀ y₁ (ap (λ (p : Bool × ℕ). p .0) scaled ∙ e) inside) in
+      few-sum r (size-up s t (r .0) (a * L) (b * L) (r .1) (i .0) (i .1))
+
+  pub down-fits : sd ≡ true → grid f (plus s (a * L) sd K .1) L < overflow f
+  down-fits e =
+      let r = plus s (a * L) sd K in
+      let i : Within t (b * L) r s (a * L) = subst (λ (z : Bool). Within t (b * L) (plus s (a * L) z K) s (a * L)) (sym e) (down-core s t (a * L) (b * L) K y₀ y₁ (ap (λ (p : Bool × ℕ). p .0) scaled ∙ e) inside) in
+      few-sum r (le-trans (size-up t s (r .0) (b * L) (a * L) (r .1) (i .0) (i .1)) (omega arith))
+
   pub up-from : sd ≡ false → Up R
   up-from e =
       let r = plus s (a * L) sd K in
       let i : Within s (a * L) r t (b * L) = subst (λ (z : Bool). Within s (a * L) (plus s (a * L) z K) t (b * L)) (sym e) (up-core s t (a * L) (b * L) K y₀ y₁ (ap (λ (p : Bool × ℕ). p .0) scaled ∙ e) inside) in
-      let o : grid f (r .1) L < overflow f = few-sum r (size-up s t (r .0) (a * L) (b * L) (r .1) (i .0) (i .1)) in
+      let o : grid f (r .1) L < overflow f = up-fits e in
       subst Up (sym is) (
         over-whole f (r .0) (r .1) L s a t₀ (pow-pos (low f)) a-le o h₀ (i .0),
         under-whole f (r .0) (r .1) L t b t₁ (pow-pos (low f)) b-le o h₁ (i .1),
@@ -193,7 +206,7 @@ module _ (f : Format) (t₀ t₁ x₀ x₁ x : Float) (s t u v w : Bool) (a b c 
   down-from e =
       let r = plus s (a * L) sd K in
       let i : Within t (b * L) r s (a * L) = subst (λ (z : Bool). Within t (b * L) (plus s (a * L) z K) s (a * L)) (sym e) (down-core s t (a * L) (b * L) K y₀ y₁ (ap (λ (p : Bool × ℕ). p .0) scaled ∙ e) inside) in
-      let o : grid f (r .1) L < overflow f = few-sum r (le-trans (size-up t s (r .0) (b * L) (a * L) (r .1) (i .0) (i .1)) (omega arith)) in
+      let o : grid f (r .1) L < overflow f = down-fits e in
       subst Down (sym is) (
         over-whole f (r .0) (r .1) L t b t₁ (pow-pos (low f)) b-le o h₁ (i .0),
         under-whole f (r .0) (r .1) L s a t₀ (pow-pos (low f)) a-le o h₀ (i .1),

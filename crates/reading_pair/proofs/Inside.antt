@@ -17,17 +17,17 @@ use Rattle.reading_pair.specs.Order.{Lies}
 use Rattle.reading_pair.proofs.Between.{up-from, down-from}
 
 -- z - a for a ≤ z
-abbrev dist : ℤ → ℤ → ℕ
+abbrev pub dist : ℤ → ℤ → ℕ
 dist (pos a) (pos z) = z - a
 dist (pos a) (negsuc z) = 0
 dist (negsuc a) (pos z) = z + suc a
 dist (negsuc a) (negsuc z) = suc a - suc z
 
 -- the difference of z and a, as its sign and its size
-abbrev apart : ℤ → ℤ → Bool × ℕ
+abbrev pub apart : ℤ → ℤ → Bool × ℕ
 apart z a = plus (sign z) (natAbs z) (not (sign a)) (natAbs a)
 
-apart-up : (a z : ℤ) → T (leZ a z) → apart z a ≡ (false, dist a z)
+pub apart-up : (a z : ℤ) → T (leZ a z) → apart z a ≡ (false, dist a z)
 apart-up (pos a) (pos z) h = simp (no-lt z a (leb→le a z h))
 apart-up (pos a) (negsuc z) h = absurd h
 apart-up (negsuc a) (pos z) h = refl
@@ -37,7 +37,7 @@ apart-up (negsuc a) (negsuc z) h =
     (λ (m : suc z < suc a). simp (yes-lt (suc z) (suc a) m))
     (λ (m : suc a ≤ suc z). simp (no-lt (suc z) (suc a) m, no-lt (suc a) (suc z) (omega (arith, l))) (ap (λ (n : ℕ). (false, n)) (omega (arith, l, m)))) (below? (suc z) (suc a))
 
-apart-down : (a z : ℤ) → T (ltZ z a) → apart z a .0 ≡ true
+pub apart-down : (a z : ℤ) → T (ltZ z a) → apart z a .0 ≡ true
 apart-down (pos a) (pos z) h = simp (yes-lt z a (ltb→lt z a h))
 apart-down (negsuc a) (pos z) h = absurd h
 apart-down (pos a) (negsuc z) h = refl
@@ -45,7 +45,7 @@ apart-down (negsuc a) (negsuc z) h =
     let l : a < z = ltb→lt a z h in
     simp (no-lt (suc z) (suc a) (omega (arith, l)), yes-lt (suc a) (suc z) (omega (arith, l)))
 
-dist-mono : (a z w : ℤ) → T (leZ a z) → T (leZ z w) → dist a z ≤ dist a w
+pub dist-mono : (a z w : ℤ) → T (leZ a z) → T (leZ z w) → dist a z ≤ dist a w
 dist-mono (pos a) (pos z) (pos w) h k = let l = leb→le z w k in omega (arith, l)
 dist-mono (pos a) (pos z) (negsuc w) h k = absurd k
 dist-mono (pos a) (negsuc z) w h k = absurd h
@@ -54,13 +54,13 @@ dist-mono (negsuc a) (pos z) (negsuc w) h k = absurd k
 dist-mono (negsuc a) (negsuc z) (pos w) h k = omega arith
 dist-mono (negsuc a) (negsuc z) (negsuc w) h k = let l = leb→le w z k in omega (arith, l)
 
-dist-pos : (a z : ℤ) → T (ltZ a z) → 0 < dist a z
+pub dist-pos : (a z : ℤ) → T (ltZ a z) → 0 < dist a z
 dist-pos (pos a) (pos z) h = let l = ltb→lt a z h in omega (arith, l)
 dist-pos (pos a) (negsuc z) h = absurd h
 dist-pos (negsuc a) (pos z) h = omega arith
 dist-pos (negsuc a) (negsuc z) h = let l = ltb→lt z a h in omega (arith, l)
 
-weak : (a z : ℤ) → T (ltZ a z) → T (leZ a z)
+pub weak : (a z : ℤ) → T (ltZ a z) → T (leZ a z)
 weak (pos a) (pos z) h = let l = ltb→lt a z h in le→leb a z (omega (arith, l))
 weak (pos a) (negsuc z) h = h
 weak (negsuc a) (pos z) h = h

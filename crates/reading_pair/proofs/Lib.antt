@@ -3,4 +3,7 @@ pub mod Rounded
 pub mod Knots
 pub mod Between
 pub mod Inside
+pub mod Chain
+pub mod Monotone
+pub mod Rises
 pub mod Unique
