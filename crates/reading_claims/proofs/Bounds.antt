@@ -2,7 +2,7 @@
 use mathlib.Core.Path.{_≡_, refl, sym, subst}
 use mathlib.Core.Bool.{Bool, true, false}
 use mathlib.Core.List.{List}
-use Prim.Native.Nat.{ℕ, _+_, _-_, _≤_, _<_}
+use Prim.Native.Nat.{ℕ, zero, suc, _+_, _-_, _≤_, _<_}
 use native.Mathlib.Omega.{arith}
 use lib.Dec.{T}
 use lib.IntN.{ℤ, pos, negsuc, natAbs}
@@ -44,7 +44,7 @@ module _ (p : List ℕ) (t : Table p) (i : ℕ) (h : i + 1 < knots p) (x : ℤ) 
       (size p t i (omega (arith, h))) (size p t (i + 1) h) small (tenths-size p i) (tenths-size p (i + 1)) (t .rises i h) a b
 
 -- neither a NaN nor an infinity, nor the zero with a minus sign
-abbrev Plain : Float → Type 0
+abbrev pub Plain : Float → Type 0
 Plain r = T (finite r) × T (notMinusZero r)
 
 -- .. whichever way the temperatures go
@@ -61,6 +61,10 @@ plain-lower p t i h = subst Plain (lower-exact p t i h) (plain-inside p t i h (v
 
 plain-upper : (p : List ℕ) (t : Table p) (i : ℕ) → i + 1 < knots p → Plain (heatOf p (i + 1))
 plain-upper p t i h = subst Plain (upper-exact p t i h) (plain-inside p t i h (voltsOf p (i + 1)) (lt-le (voltsOf p i) (voltsOf p (i + 1)) (t .rises i h)) (≤ℤ-refl (voltsOf p (i + 1)) .le))
+
+pub plain-knot : (p : List ℕ) (t : Table p) (i : ℕ) → i < knots p → Plain (heatOf p i)
+plain-knot p t zero h = plain-lower p t 0 (t .two)
+plain-knot p t (suc i) h = let e : i + 1 ≡ suc i = omega arith in subst (λ (j : ℕ). Plain (heatOf p j)) e (plain-upper p t i (omega (arith, h)))
 
 -- so every reading of a table is plain
 pub plain-reading : (p : List ℕ) (x : ℤ) (t : Table p) → Plain (degrees (readingOf p x))

@@ -8,7 +8,7 @@ use lib.Dec.{T, lit≤}
 use lib.IntN.{ℤ}
 use lib.ListN.{length, getD, drop}
 use lib.Signed.{leZ, ltZ}
-use lib.Ieee.{Float, binary64, ofInt}
+use lib.Ieee.{Float, binary64, ofInt, le}
 use lib.Ieee.Scale.{finite}
 use Rattle.common.specs.Numbers.{Foremost, NoRow}
 use Rattle.file_codec.specs.File.{limit, made, readerOf, writerOf}
@@ -21,13 +21,14 @@ use Rattle.reading.specs.declared.Reading.{Reading}
 use Rattle.reading.specs.declared.Reading.the-variants.{Temperature, Below, Above}
 use Rattle.reading.specs.declared.ReadingAnswer.the-variants.{Read, Refused}
 use Rattle.reading.specs.Readings.{heatOf, pairAt, readingOf, tableAnswer}
-use Rattle.reading_claims.specs.Tables.{Table, Holds, Inside}
+use Rattle.reading_claims.specs.Tables.{Table, Holds, Inside, Warming}
 use Rattle.reading_claims.specs.Answers.{degrees, payloadIn, answerOf, roomLeft, fileRows, answerRows}
 use Rattle.reading_claims.proofs.Judged as judged
 use Rattle.reading_claims.proofs.Held as held
 use Rattle.reading_claims.proofs.Exact as exact
 use Rattle.reading_claims.proofs.Sides as sides
 use Rattle.reading_claims.proofs.Bounds as bounds
+use Rattle.reading_claims.proofs.Warm as warm
 use Rattle.reading_claims.proofs.Files as files
 
 -- A payload is let through exactly where it is a table: whole knots, two or more, in range and strictly rising.
@@ -71,6 +72,19 @@ lies-between = bounds.lies-inside
 -- Every reading of a table is finite and never the zero with a minus sign, below and above too.
 pub plain-reading : (p : List ℕ) (x : ℤ) → Table p → T (finite (degrees (readingOf p x))) × T (notMinusZero (degrees (readingOf p x)))
 plain-reading = bounds.plain-reading
+
+-- Inside a pair a reading rises with the voltage where the temperatures do, and falls where they fall.
+pub pair-rises : (p : List ℕ) → Table p → (i : ℕ) → i + 1 < knots p → (x y : ℤ) → T (leZ (voltsOf p i) x) → T (leZ x y) → T (leZ y (voltsOf p (i + 1)))
+    → T (leZ (tenthsOf p i) (tenthsOf p (i + 1))) → T (le (interpolated (pairAt p i) (ofInt binary64 x)) (interpolated (pairAt p i) (ofInt binary64 y)))
+pair-rises = warm.pair-rises
+
+pub pair-falls : (p : List ℕ) → Table p → (i : ℕ) → i + 1 < knots p → (x y : ℤ) → T (leZ (voltsOf p i) x) → T (leZ x y) → T (leZ y (voltsOf p (i + 1)))
+    → T (ltZ (tenthsOf p (i + 1)) (tenthsOf p i)) → T (le (interpolated (pairAt p i) (ofInt binary64 y)) (interpolated (pairAt p i) (ofInt binary64 x)))
+pair-falls = warm.pair-falls
+
+-- A table whose temperatures never fall from knot to knot never reads lower for more voltage, below and above it too.
+pub table-rises : (p : List ℕ) → Table p → Warming p → (x y : ℤ) → T (leZ x y) → T (le (degrees (readingOf p x)) (degrees (readingOf p y)))
+table-rises = warm.table-rises
 
 -- The search takes at most k halvings in a table of at most 2 to the k knots: ten in a file's.
 pub few-halvings : (p : List ℕ) (x : ℤ) (k : ℕ) → knots p ≤ 2 ^ k → seekOf p x ≡ halving k p x 0 (knots p - 1)
