@@ -34,13 +34,13 @@ module _ (p : List ℕ) (t : Table p) (i : ℕ) (h : i + 1 < knots p) (x : ℤ) 
   pub lies-up : T (leZ (tenthsOf p i) (tenthsOf p (i + 1))) → Lies (tenthsOf p i) (interpolated (pairAt p i) (ofInt binary64 x)) (tenthsOf p (i + 1))
   unfolding pairAt
   lies-up =
-      inside-up (pairAt p i) (voltsOf p i) (tenthsOf p i) (voltsOf p (i + 1)) (tenthsOf p (i + 1)) x refl refl refl refl
+      inside-up (voltsOf p i) (tenthsOf p i) (voltsOf p (i + 1)) (tenthsOf p (i + 1)) x
       (size p t i (omega (arith, h))) (size p t (i + 1) h) small (tenths-size p i) (tenths-size p (i + 1)) (t .rises i h) a b
 
   pub lies-down : T (ltZ (tenthsOf p (i + 1)) (tenthsOf p i)) → Lies (tenthsOf p (i + 1)) (interpolated (pairAt p i) (ofInt binary64 x)) (tenthsOf p i)
   unfolding pairAt
   lies-down =
-      inside-down (pairAt p i) (voltsOf p i) (tenthsOf p i) (voltsOf p (i + 1)) (tenthsOf p (i + 1)) x refl refl refl refl
+      inside-down (voltsOf p i) (tenthsOf p i) (voltsOf p (i + 1)) (tenthsOf p (i + 1)) x
       (size p t i (omega (arith, h))) (size p t (i + 1) h) small (tenths-size p i) (tenths-size p (i + 1)) (t .rises i h) a b
 
 -- neither a NaN nor an infinity, nor the zero with a minus sign

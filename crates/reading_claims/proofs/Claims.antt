@@ -22,7 +22,7 @@ use Rattle.reading.specs.declared.Reading.the-variants.{Temperature, Below, Abo
 use Rattle.reading.specs.declared.ReadingAnswer.the-variants.{Read, Refused}
 use Rattle.reading.specs.Readings.{heatOf, pairAt, readingOf, tableAnswer}
 use Rattle.reading_claims.specs.Tables.{Table, Holds, Inside, Warming}
-use Rattle.reading_claims.specs.Answers.{degrees, payloadIn, answerOf, roomLeft, fileRows, answerRows}
+use Rattle.reading_claims.specs.Answers.{degrees, payloadIn, answerFrom, roomLeft, readerRows, answerRows}
 use Rattle.reading_claims.proofs.Judged as judged
 use Rattle.reading_claims.proofs.Held as held
 use Rattle.reading_claims.proofs.Exact as exact
@@ -98,30 +98,30 @@ ten-halvings f letter p x e = seek-few p x 10 (le-trans (files.few-knots f lette
 
 -- The numbers of a reading from a file: n is given exactly where its row is the first that holds (the reader's 30, 31 to 34 block
 -- by block, 35, 37, then 40, 41), a reading exactly where no row holds.
-pub refused-exactly : (f : List ℕ) (letter : ℕ) (room : List ℕ) (x : ℤ) (n : ℕ) → (n ≡ 0 → ⊥) → answerOf f letter room x ≡ Refused n ↔ Foremost (answerRows f letter (length room)) n
+pub refused-exactly : (f : List ℕ) (letter : ℕ) (room : List ℕ) (x : ℤ) (n : ℕ) → (n ≡ 0 → ⊥) → answerFrom f letter room x ≡ Refused n ↔ Foremost (answerRows f letter (length room)) n
 refused-exactly = files.refused-exactly
 
 pub read-exactly : (f : List ℕ) (letter : ℕ) (room : List ℕ) (x : ℤ) (r : Reading)
-    → answerOf f letter room x ≡ Read r ↔ (NoRow (answerRows f letter (length room)) × (r ≡ readingOf (payloadIn f) x))
+    → answerFrom f letter room x ≡ Read r ↔ (NoRow (answerRows f letter (length room)) × (r ≡ readingOf (payloadIn f) x))
 read-exactly = files.read-exactly
 
 -- A file of another letter never gives a reading; one that was written under a letter is refused 35 for every other.
-pub letter-is : (f : List ℕ) (letter : ℕ) (room : List ℕ) (x : ℤ) (r : Reading) → answerOf f letter room x ≡ Read r → getD f 0 0 ≡ letter
+pub letter-is : (f : List ℕ) (letter : ℕ) (room : List ℕ) (x : ℤ) (r : Reading) → answerFrom f letter room x ≡ Read r → getD f 0 0 ≡ letter
 letter-is = files.letter-is
 
 pub other-letter : (letter : ℕ) (p f room : List ℕ) (x : ℤ) → writerOf limit letter p ≡ made f → (asked : ℕ) → (letter ≡ asked → ⊥)
-    → (answerOf f asked room x ≡ Refused 35) × (roomLeft f asked room ≡ room)
+    → (answerFrom f asked room x ≡ Refused 35) × (roomLeft f asked room ≡ room)
 other-letter = files.written-other
 
 -- Under its own letter what was written is read as the payload itself is.
-pub own-letter : (letter : ℕ) (p f room : List ℕ) (x : ℤ) → writerOf limit letter p ≡ made f → length p ≤ length room → answerOf f letter room x ≡ tableAnswer p x
+pub own-letter : (letter : ℕ) (p f room : List ℕ) (x : ℤ) → writerOf limit letter p ≡ made f → length p ≤ length room → answerFrom f letter room x ≡ tableAnswer p x
 own-letter = files.written-reads
 
 -- A refusal of the reader leaves the room as it was; where it refuses nothing, the payload is in front and what was behind it stays.
-pub reader-leaves : (f : List ℕ) (letter : ℕ) (room : List ℕ) (n : ℕ) → Foremost (fileRows f letter (length room) []) n → (x : ℤ)
-    → (answerOf f letter room x ≡ Refused n) × (roomLeft f letter room ≡ room)
+pub reader-leaves : (f : List ℕ) (letter : ℕ) (room : List ℕ) (n : ℕ) → Foremost (readerRows f letter (length room) []) n → (x : ℤ)
+    → (answerFrom f letter room x ≡ Refused n) × (roomLeft f letter room ≡ room)
 reader-leaves = files.reader-leaves
 
-pub table-leaves : (f : List ℕ) (letter : ℕ) (room : List ℕ) → NoRow (fileRows f letter (length room) []) → (x : ℤ)
-    → (answerOf f letter room x ≡ tableAnswer (payloadIn f) x) × (roomLeft f letter room ≡ payloadIn f ++ drop (length (payloadIn f)) room)
+pub table-leaves : (f : List ℕ) (letter : ℕ) (room : List ℕ) → NoRow (readerRows f letter (length room) []) → (x : ℤ)
+    → (answerFrom f letter room x ≡ tableAnswer (payloadIn f) x) × (roomLeft f letter room ≡ payloadIn f ++ drop (length (payloadIn f)) room)
 table-leaves = files.table-leaves

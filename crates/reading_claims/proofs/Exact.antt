@@ -1,5 +1,5 @@
 -- Both knots of every pair are read as they stand, and so is every knot of a table. Assumes nothing.
-use mathlib.Core.Path.{_≡_, refl, sym, ap, _∙_}
+use mathlib.Core.Path.{_≡_, sym, ap, _∙_}
 use mathlib.Core.Logic.{⊎-elim, _⊎_, inl, inr}
 use mathlib.Core.List.{List}
 use Prim.Native.Nat.{ℕ, _+_, _-_, _≤_, _<_, zero-le}
@@ -34,13 +34,13 @@ module _ (p : List ℕ) (t : Table p) (i : ℕ) (h : i + 1 < knots p) where
   pub lower-exact : interpolated (pairAt p i) (ofInt binary64 (voltsOf p i)) ≡ heatOf p i
   unfolding pairAt
   lower-exact =
-      at-first (pairAt p i) (voltsOf p i) (tenthsOf p i) (voltsOf p (i + 1)) (tenthsOf p (i + 1)) refl refl refl refl
+      at-first (voltsOf p i) (tenthsOf p i) (voltsOf p (i + 1)) (tenthsOf p (i + 1))
       (size p t i (omega (arith, h))) (size p t (i + 1) h) (tenths-size p i) (tenths-size p (i + 1)) (wide-gap (voltsOf p i) (voltsOf p (i + 1)) apart)
 
   pub upper-exact : interpolated (pairAt p i) (ofInt binary64 (voltsOf p (i + 1))) ≡ heatOf p (i + 1)
   unfolding pairAt
   upper-exact =
-      at-second (pairAt p i) (voltsOf p i) (tenthsOf p i) (voltsOf p (i + 1)) (tenthsOf p (i + 1)) refl refl refl refl
+      at-second (voltsOf p i) (tenthsOf p i) (voltsOf p (i + 1)) (tenthsOf p (i + 1))
       (size p t i (omega (arith, h))) (size p t (i + 1) h) (tenths-size p i) (tenths-size p (i + 1)) (wide-gap (voltsOf p i) (voltsOf p (i + 1)) apart)
 
 -- every knot is inside the table

@@ -24,7 +24,7 @@ use Rattle.reading.specs.declared.Reading.{Reading}
 use Rattle.reading.specs.declared.ReadingAnswer.{ReadingAnswer}
 use Rattle.reading.specs.declared.ReadingAnswer.the-variants.{Read, Refused}
 use Rattle.reading.specs.Readings.{readingOf, tableAnswer, answerAs}
-use Rattle.reading_claims.specs.Answers.{payloadIn, answerOf, roomLeft, fileRows, answerRows}
+use Rattle.reading_claims.specs.Answers.{payloadIn, answerFrom, roomLeft, readerRows, answerRows}
 
 -- an answer by a number: 0 lets the reading through
 abbrev answerBy : ℕ → Reading → ReadingAnswer
@@ -55,17 +55,17 @@ module _ (f : List ℕ) (letter : ℕ) (room : List ℕ) where
   outcome = inRoom (length room) (readerOf limit f letter)
 
   abbrev before : List Row
-  before = fileRows f letter (length room) []
+  before = readerRows f letter (length room) []
 
   order : Ordered before (payloadIn f) outcome
   order = file-claims.reader-order limit f letter (length room)
 
   -- no row has the number 0
-  rows-numbered : (rest : List Row) → numbered rest ≡ true → numbered (fileRows f letter (length room) rest) ≡ true
+  rows-numbered : (rest : List Row) → numbered rest ≡ true → numbered (readerRows f letter (length room) rest) ≡ true
   rows-numbered rest m = blocks-numbered (blocksIn f) (getD f 0 0) 0 (blocksIn f) f (row 35 (not (eqb (getD f 0 0) letter)) ∷ row 37 (ltb (length room) (length (payloadIn f))) ∷ rest) ∙ m
 
   -- the table's rows stand below the reader's
-  below-reader : (rest : List Row) → fileRows f letter (length room) rest ≡ before ++ rest
+  below-reader : (rest : List Row) → readerRows f letter (length room) rest ≡ before ++ rest
   below-reader rest =
       ap (λ (rs : List Row). row 30 (lengthWrong limit (length f)) ∷ rs)
       (blocks-append (blocksIn f) (getD f 0 0) 0 (blocksIn f) f (A ∷ B ∷ rest)
@@ -91,7 +91,7 @@ module _ (f : List ℕ) (letter : ℕ) (room : List ℕ) where
           order .refuses (given before) .1 (given-foremost before (given before) z refl) ∙ sym (outcome-refused (given before) (payloadIn f) z)
 
   -- the answer by all rows
-  answer-is : (x : ℤ) → answerOf f letter room x ≡ answerBy (given (answerRows f letter (length room))) (readingOf (payloadIn f) x)
+  answer-is : (x : ℤ) → answerFrom f letter room x ≡ answerBy (given (answerRows f letter (length room))) (readingOf (payloadIn f) x)
   unfolding tableAnswer tableNumber
   answer-is x =
       ap (answerAs x) outcome-is ∙ plain (given before) (eqb (given before) 0) refl
@@ -102,15 +102,15 @@ module _ (f : List ℕ) (letter : ℕ) (room : List ℕ) where
       plain G false q = simp q
 
   -- refused by a number exactly where its row is the first that holds, read exactly where none holds
-  pub refused-exactly : (x : ℤ) (n : ℕ) → (n ≡ 0 → ⊥) → answerOf f letter room x ≡ Refused n ↔ Foremost (answerRows f letter (length room)) n
+  pub refused-exactly : (x : ℤ) (n : ℕ) → (n ≡ 0 → ⊥) → answerFrom f letter room x ≡ Refused n ↔ Foremost (answerRows f letter (length room)) n
   refused-exactly x n z = (
-    λ (e : answerOf f letter room x ≡ Refused n). given-foremost (answerRows f letter (length room)) n z (by-refused (given (answerRows f letter (length room))) n (readingOf (payloadIn f) x) (sym (answer-is x) ∙ e)),
+    λ (e : answerFrom f letter room x ≡ Refused n). given-foremost (answerRows f letter (length room)) n z (by-refused (given (answerRows f letter (length room))) n (readingOf (payloadIn f) x) (sym (answer-is x) ∙ e)),
     λ (h : Foremost (answerRows f letter (length room)) n). answer-is x ∙ ap (λ (m : ℕ). answerBy m (readingOf (payloadIn f) x)) (foremost-given h) ∙ refuses-by n (readingOf (payloadIn f) x) z,
   )
 
-  pub read-exactly : (x : ℤ) (r : Reading) → answerOf f letter room x ≡ Read r ↔ (NoRow (answerRows f letter (length room)) × (r ≡ readingOf (payloadIn f) x))
+  pub read-exactly : (x : ℤ) (r : Reading) → answerFrom f letter room x ≡ Read r ↔ (NoRow (answerRows f letter (length room)) × (r ≡ readingOf (payloadIn f) x))
   read-exactly x r = (
-    λ (e : answerOf f letter room x ≡ Read r).
+    λ (e : answerFrom f letter room x ≡ Read r).
         let b = by-read (given (answerRows f letter (length room))) (readingOf (payloadIn f) x) r (sym (answer-is x) ∙ e) in
         (given-no-row (answerRows f letter (length room)) (rows-numbered (tableRows (payloadIn f)) refl) (b .0), b .1),
     λ (h : NoRow (answerRows f letter (length room)) × (r ≡ readingOf (payloadIn f) x)).
@@ -118,10 +118,10 @@ module _ (f : List ℕ) (letter : ℕ) (room : List ℕ) where
   )
 
   -- what is left: nothing is touched where the reader refuses; where it does not, the payload is in the front of the room
-  pub reader-leaves : (n : ℕ) → Foremost before n → (x : ℤ) → (answerOf f letter room x ≡ Refused n) × (roomLeft f letter room ≡ room)
+  pub reader-leaves : (n : ℕ) → Foremost before n → (x : ℤ) → (answerFrom f letter room x ≡ Refused n) × (roomLeft f letter room ≡ room)
   reader-leaves n h x = let e = order .refuses n .1 h in (ap (answerAs x) e, ap (leftIn room) e)
 
-  pub table-leaves : NoRow before → (x : ℤ) → (answerOf f letter room x ≡ tableAnswer (payloadIn f) x) × (roomLeft f letter room ≡ payloadIn f ++ drop (length (payloadIn f)) room)
+  pub table-leaves : NoRow before → (x : ℤ) → (answerFrom f letter room x ≡ tableAnswer (payloadIn f) x) × (roomLeft f letter room ≡ payloadIn f ++ drop (length (payloadIn f)) room)
   table-leaves h x = let e = order .lets .1 h in (ap (answerAs x) e, ap (leftIn room) e)
 
   -- an answer that is a reading comes of bytes that the reader made
@@ -138,7 +138,7 @@ module _ (f : List ℕ) (letter : ℕ) (room : List ℕ) where
       go false w = sym (if-false (ltb (length room) (length q)) (refused 37) (made q) w) ∙ e
 
   -- a file that gives a reading has the letter asked for
-  pub letter-is : (x : ℤ) (r : Reading) → answerOf f letter room x ≡ Read r → getD f 0 0 ≡ letter
+  pub letter-is : (x : ℤ) (r : Reading) → answerFrom f letter room x ≡ Read r → getD f 0 0 ≡ letter
   letter-is x r e =
       let m = made-of x r outcome e in
       reader-lets limit f letter (m .0) (through (readerOf limit f letter) (m .0) (m .1)) .2
@@ -153,10 +153,10 @@ few-knots f letter p e =
     omega (arith, s .most, n .2, q)
 
 -- a table written under a letter is read under it, and refused 35 under every other
-pub written-reads : (letter : ℕ) (p f room : List ℕ) (x : ℤ) → writerOf limit letter p ≡ made f → length p ≤ length room → answerOf f letter room x ≡ tableAnswer p x
+pub written-reads : (letter : ℕ) (p f room : List ℕ) (x : ℤ) → writerOf limit letter p ≡ made f → length p ≤ length room → answerFrom f letter room x ≡ tableAnswer p x
 written-reads letter p f room x w h = ap (λ (o : Outcome). answerAs x (inRoom (length room) o)) (file-claims.comes-back limit letter p f w) ∙ ap (answerAs x) (room-made (length room) p h)
 
-pub written-other : (letter : ℕ) (p f room : List ℕ) (x : ℤ) → writerOf limit letter p ≡ made f → (asked : ℕ) → (letter ≡ asked → ⊥) → (answerOf f asked room x ≡ Refused 35) × (roomLeft f asked room ≡ room)
+pub written-other : (letter : ℕ) (p f room : List ℕ) (x : ℤ) → writerOf limit letter p ≡ made f → (asked : ℕ) → (letter ≡ asked → ⊥) → (answerFrom f asked room x ≡ Refused 35) × (roomLeft f asked room ≡ room)
 written-other letter p f room x w asked z =
     let e = file-claims.other-letter limit letter p f w asked z in
     (ap (λ (o : Outcome). answerAs x (inRoom (length room) o)) e, ap (λ (o : Outcome). leftIn room (inRoom (length room) o)) e)

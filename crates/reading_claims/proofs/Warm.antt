@@ -40,13 +40,13 @@ module _ (p : List ℕ) (t : Table p) (i : ℕ) (h : i + 1 < knots p) (x y : ℤ
   pub pair-rises : T (leZ (tenthsOf p i) (tenthsOf p (i + 1))) → T (le (interpolated (pairAt p i) (ofInt binary64 x)) (interpolated (pairAt p i) (ofInt binary64 y)))
   unfolding pairAt
   pair-rises =
-      inside-rises (pairAt p i) (voltsOf p i) (tenthsOf p i) (voltsOf p (i + 1)) (tenthsOf p (i + 1)) x y refl refl refl refl
+      inside-rises (voltsOf p i) (tenthsOf p i) (voltsOf p (i + 1)) (tenthsOf p (i + 1)) x y
       (size p t i (omega (arith, h))) (size p t (i + 1) h) (small p t i h x a before) (small p t i h y after b) (tenths-size p i) (tenths-size p (i + 1)) (t .rises i h) a after before b o
 
   pub pair-falls : T (ltZ (tenthsOf p (i + 1)) (tenthsOf p i)) → T (le (interpolated (pairAt p i) (ofInt binary64 y)) (interpolated (pairAt p i) (ofInt binary64 x)))
   unfolding pairAt
   pair-falls =
-      inside-falls (pairAt p i) (voltsOf p i) (tenthsOf p i) (voltsOf p (i + 1)) (tenthsOf p (i + 1)) x y refl refl refl refl
+      inside-falls (voltsOf p i) (tenthsOf p i) (voltsOf p (i + 1)) (tenthsOf p (i + 1)) x y
       (size p t i (omega (arith, h))) (size p t (i + 1) h) (small p t i h x a before) (small p t i h y after b) (tenths-size p i) (tenths-size p (i + 1)) (t .rises i h) a after before b o
 
 -- from one over a second to a third

@@ -24,16 +24,16 @@ abbrev pub payloadIn : List ℕ → List ℕ
 payloadIn f = payloadOf (blocksIn f) f
 
 -- the answer from a file for a letter and so much room, and what is left in the room
-abbrev pub answerOf : List ℕ → ℕ → List ℕ → ℤ → ReadingAnswer
-answerOf f letter room x = answerAs x (inRoom (length room) (readerOf limit f letter))
+abbrev pub answerFrom : List ℕ → ℕ → List ℕ → ℤ → ReadingAnswer
+answerFrom f letter room x = answerAs x (inRoom (length room) (readerOf limit f letter))
 
 abbrev pub roomLeft : List ℕ → ℕ → List ℕ → List ℕ
 roomLeft f letter room = leftIn room (inRoom (length room) (readerOf limit f letter))
 
 -- the reader's refusals: 30, then 31 to 34 block by block, then 35, then 37; and after them what is asked of the table
-abbrev pub fileRows : List ℕ → ℕ → ℕ → List Row → List Row
-fileRows f letter room after = readRows limit f letter (row 37 (ltb room (length (payloadIn f))) ∷ after)
+abbrev pub readerRows : List ℕ → ℕ → ℕ → List Row → List Row
+readerRows f letter room after = readRows limit f letter (row 37 (ltb room (length (payloadIn f))) ∷ after)
 
 -- all refusals of a reading from a file: the reader's, then 40, then 41
 abbrev pub answerRows : List ℕ → ℕ → ℕ → List Row
-answerRows f letter room = fileRows f letter room (tableRows (payloadIn f))
+answerRows f letter room = readerRows f letter room (tableRows (payloadIn f))

@@ -2,17 +2,15 @@
 use mathlib.Core.Path.{_≡_, refl, sym, ap, subst}
 use mathlib.Core.Bool.{Bool, true, false, not}
 use mathlib.Core.Logic.{⊎-elim}
-use Prim.Native.Nat.{ℕ, suc, _+_, _-_, _*_, _≤_, _<_, _^_}
-use native.Mathlib.Nat.{le-trans, mul-le-mul}
+use Prim.Native.Nat.{ℕ, suc, _+_, _-_, _≤_, _<_}
 use native.Mathlib.Omega.{arith}
-use lib.Dec.{T, lit≤, leb→le, ltb→lt, le→leb}
+use lib.Dec.{T, leb→le, ltb→lt, le→leb}
 use lib.IntN.{ℤ, pos, negsuc, natAbs}
 use lib.Signed.{leZ, ltZ}
-use lib.Ieee.{Float, binary64, prec, ofInt}
-use Rattle.reading_pair.specs.declared.Pair.{Pair}
-use Rattle.reading_pair.specs.Pairs.{interpolated}
+use lib.Ieee.{binary64, ofInt}
+use Rattle.reading_pair.specs.Pairs.{pairOf, interpolated}
 use Rattle.reading_pair.proofs.Whole.{yes-lt, no-lt, below?, plus, gap}
-use Rattle.reading_pair.proofs.Knots.{sign, has, plain, gap-le}
+use Rattle.reading_pair.proofs.Knots.{sign, has, plain, few, small, near, sizes}
 use Rattle.reading_pair.specs.Order.{Lies}
 use Rattle.reading_pair.proofs.Between.{up-from, down-from}
 
@@ -69,54 +67,27 @@ weak (negsuc a) (negsuc z) h = let l = ltb→lt z a h in le→leb z a (omega (ar
 pub wide-gap : (x0 x1 : ℤ) → T (ltZ x0 x1) → 0 < gap (sign x1) (natAbs x1) (sign x0) (natAbs x0)
 wide-gap x0 x1 h = subst (λ (z : Bool × ℕ). 0 < z .1) (sym (apart-up x0 x1 (weak x0 x1 h))) (dist-pos x0 x1 h)
 
+-- a difference that is not negative, and one that is no more than another
+pub up-gap : (a z : ℤ) → T (leZ a z) → apart z a .0 ≡ false
+up-gap a z h = ap (λ (y : Bool × ℕ). y .0) (apart-up a z h)
+
+pub less-gap : (a z w : ℤ) → T (leZ a z) → T (leZ a w) → T (leZ z w) → apart z a .1 ≤ apart w a .1
+less-gap a z w h k l = subst (λ (y : Bool × ℕ). y .1 ≤ apart w a .1) (sym (apart-up a z h)) (subst (λ (y : Bool × ℕ). dist a z ≤ y .1) (sym (apart-up a w k)) (dist-mono a z w h l))
+
 -- ---- between the knots
-module _ (p : Pair) (x0 t0 x1 t1 x : ℤ) (e0 : p .x0 ≡ ofInt binary64 x0) (f0 : p .t0 ≡ ofInt binary64 t0) (e1 : p .x1 ≡ ofInt binary64 x1) (f1 : p .t1 ≡ ofInt binary64 t1)
-    (r0 : natAbs x0 ≤ 80000) (r1 : natAbs x1 ≤ 80000) (r : natAbs x ≤ 80000) (u0 : natAbs t0 ≤ 32768) (u1 : natAbs t1 ≤ 32768)
+module _ (x0 t0 x1 t1 x : ℤ) (r0 : natAbs x0 ≤ 80000) (r1 : natAbs x1 ≤ 80000) (r : natAbs x ≤ 80000) (u0 : natAbs t0 ≤ 32768) (u1 : natAbs t1 ≤ 32768)
     (rises : T (ltZ x0 x1)) (after : T (leZ x0 x)) (before : T (leZ x x1)) where
-  abbrev G : ℕ
-  G = gap (sign t1) (natAbs t1) (sign t0) (natAbs t0)
+  up : T (leZ x0 x1)
+  up = weak x0 x1 rises
 
-  abbrev X : ℕ
-  X = gap (sign x1) (natAbs x1) (sign x0) (natAbs x0)
+  pub inside-up : T (leZ t0 t1) → Lies t0 (interpolated (pairOf x0 t0 x1 t1) (ofInt binary64 x)) t1
+  inside-up h =
+      up-from binary64 (ofInt binary64 t0) (ofInt binary64 t1) (ofInt binary64 x0) (ofInt binary64 x1) (ofInt binary64 x) (sign t0) (sign t1) (sign x0) (sign x1) (sign x) (natAbs t0) (natAbs t1) (natAbs x0) (natAbs x1) (natAbs x)
+      (has t0 (omega (arith, u0))) (has t1 (omega (arith, u1))) (has x0 r0) (has x1 r1) (has x r) (plain t0) (plain t1) (wide-gap x0 x1 rises) (up-gap x0 x1 up) (up-gap x0 x after) (less-gap x0 x x1 after up before)
+      (few x0 t0 x1 t1 r0 r1 u0 u1) (small x0 t0 x1 t1 r0 r1 u0 u1) (near x0 t0 x1 t1 r0 r1 u0 u1) (sizes x0 t0 x1 t1 r0 r1 u0 u1) (up-gap t0 t1 h)
 
-  g-le : G ≤ 65536
-  g-le = omega (arith, gap-le (sign t1) (natAbs t1) (sign t0) (natAbs t0), u0, u1)
-
-  x-le : X ≤ 160000
-  x-le = omega (arith, gap-le (sign x1) (natAbs x1) (sign x0) (natAbs x0), r0, r1)
-
-  few : G * X ≤ 2 ^ prec binary64
-  few = le-trans (mul-le-mul g-le x-le) (lit≤ tt)
-
-  wide-is : apart x1 x0 ≡ (false, dist x0 x1)
-  wide-is = apart-up x0 x1 (weak x0 x1 rises)
-
-  some-is : apart x x0 ≡ (false, dist x0 x)
-  some-is = apart-up x0 x after
-
-  wide : 0 < X
-  wide = subst (λ (z : Bool × ℕ). 0 < z .1) (sym wide-is) (dist-pos x0 x1 rises)
-
-  less : apart x x0 .1 ≤ X
-  less = subst (λ (z : Bool × ℕ). z .1 ≤ X) (sym some-is) (subst (λ (z : Bool × ℕ). dist x0 x ≤ z .1) (sym wide-is) (dist-mono x0 x x1 after before))
-
-  sizes : natAbs t0 + natAbs t1 ≤ 2 ^ prec binary64
-  sizes = le-trans (omega (arith, u0, u1)) (lit≤ {m = 65536} tt)
-
-  abbrev plainly : Pair
-  plainly = record { x0 = ofInt binary64 x0; t0 = ofInt binary64 t0; x1 = ofInt binary64 x1; t1 = ofInt binary64 t1 }
-
-  same : (x : Float) → interpolated p x ≡ interpolated plainly x
-  same x = λ i. interpolated (record { x0 = e0 i; t0 = f0 i; x1 = e1 i; t1 = f1 i }) x
-
-  pub inside-up : T (leZ t0 t1) → Lies t0 (interpolated p (ofInt binary64 x)) t1
-  inside-up h = subst (λ (z : Float). Lies t0 z t1) (sym (same (ofInt binary64 x)))
-      (up-from binary64 (ofInt binary64 t0) (ofInt binary64 t1) (ofInt binary64 x0) (ofInt binary64 x1) (ofInt binary64 x) (sign t0) (sign t1) (sign x0) (sign x1) (sign x) (natAbs t0) (natAbs t1) (natAbs x0) (natAbs x1) (natAbs x)
-      (has t0 (omega (arith, u0))) (has t1 (omega (arith, u1))) (has x0 r0) (has x1 r1) (has x r) (plain t0) (plain t1) wide (ap (λ (z : Bool × ℕ). z .0) wide-is) (ap (λ (z : Bool × ℕ). z .0) some-is) less
-      few (le-trans g-le (lit≤ tt)) (le-trans x-le (lit≤ tt)) sizes (ap (λ (z : Bool × ℕ). z .0) (apart-up t0 t1 h)))
-
-  pub inside-down : T (ltZ t1 t0) → Lies t1 (interpolated p (ofInt binary64 x)) t0
-  inside-down h = subst (λ (z : Float). Lies t1 z t0) (sym (same (ofInt binary64 x)))
-      (down-from binary64 (ofInt binary64 t0) (ofInt binary64 t1) (ofInt binary64 x0) (ofInt binary64 x1) (ofInt binary64 x) (sign t0) (sign t1) (sign x0) (sign x1) (sign x) (natAbs t0) (natAbs t1) (natAbs x0) (natAbs x1) (natAbs x)
-      (has t0 (omega (arith, u0))) (has t1 (omega (arith, u1))) (has x0 r0) (has x1 r1) (has x r) (plain t0) (plain t1) wide (ap (λ (z : Bool × ℕ). z .0) wide-is) (ap (λ (z : Bool × ℕ). z .0) some-is) less
-      few (le-trans g-le (lit≤ tt)) (le-trans x-le (lit≤ tt)) sizes (apart-down t0 t1 h))
+  pub inside-down : T (ltZ t1 t0) → Lies t1 (interpolated (pairOf x0 t0 x1 t1) (ofInt binary64 x)) t0
+  inside-down h =
+      down-from binary64 (ofInt binary64 t0) (ofInt binary64 t1) (ofInt binary64 x0) (ofInt binary64 x1) (ofInt binary64 x) (sign t0) (sign t1) (sign x0) (sign x1) (sign x) (natAbs t0) (natAbs t1) (natAbs x0) (natAbs x1) (natAbs x)
+      (has t0 (omega (arith, u0))) (has t1 (omega (arith, u1))) (has x0 r0) (has x1 r1) (has x r) (plain t0) (plain t1) (wide-gap x0 x1 rises) (up-gap x0 x1 up) (up-gap x0 x after) (less-gap x0 x x1 after up before)
+      (few x0 t0 x1 t1 r0 r1 u0 u1) (small x0 t0 x1 t1 r0 r1 u0 u1) (near x0 t0 x1 t1 r0 r1 u0 u1) (sizes x0 t0 x1 t1 r0 r1 u0 u1) (apart-down t0 t1 h)

@@ -8,8 +8,7 @@ use lib.IntN.{ℤ, pos, negsuc, natAbs}
 use lib.Ieee.{Float, binary64, prec, round, ofInt}
 use lib.Ieee.Exact.{HasValue}
 use lib.Ieee.Back.{round-whole}
-use Rattle.reading_pair.specs.declared.Pair.{Pair}
-use Rattle.reading_pair.specs.Pairs.{interpolated}
+use Rattle.reading_pair.specs.Pairs.{pairOf, interpolated}
 use Rattle.reading_pair.proofs.Whole.{gap, first-knot, second-knot}
 
 abbrev pub sign : ℤ → Bool
@@ -37,9 +36,8 @@ gap-le t b s a = go (Bool·beq t (not s)) (ltb b a)
     go false true = omega arith
     go false false = omega arith
 
--- ---- whole numbers within the card's ranges: exact at both knots
-module _ (p : Pair) (x0 t0 x1 t1 : ℤ) (e0 : p .x0 ≡ ofInt binary64 x0) (f0 : p .t0 ≡ ofInt binary64 t0) (e1 : p .x1 ≡ ofInt binary64 x1) (f1 : p .t1 ≡ ofInt binary64 t1)
-    (r0 : natAbs x0 ≤ 80000) (r1 : natAbs x1 ≤ 80000) (u0 : natAbs t0 ≤ 32768) (u1 : natAbs t1 ≤ 32768) (apart : 0 < gap (sign x1) (natAbs x1) (sign x0) (natAbs x0)) where
+-- ---- whole numbers within the card's ranges
+module _ (x0 t0 x1 t1 : ℤ) (r0 : natAbs x0 ≤ 80000) (r1 : natAbs x1 ≤ 80000) (u0 : natAbs t0 ≤ 32768) (u1 : natAbs t1 ≤ 32768) where
   abbrev G : ℕ
   G = gap (sign t1) (natAbs t1) (sign t0) (natAbs t0)
 
@@ -52,16 +50,27 @@ module _ (p : Pair) (x0 t0 x1 t1 : ℤ) (e0 : p .x0 ≡ ofInt binary64 x0) (f0 :
   x-le : X ≤ 160000
   x-le = omega (arith, gap-le (sign x1) (natAbs x1) (sign x0) (natAbs x0), r0, r1)
 
-  few : G * X ≤ 2 ^ prec binary64
+  -- their differences and the product of these are whole numbers that f64 counts without a gap
+  pub few : G * X ≤ 2 ^ prec binary64
   few = le-trans (mul-le-mul g-le x-le) (lit≤ tt)
 
-  same : (x : Float) → interpolated p x ≡ interpolated (record { x0 = ofInt binary64 x0; t0 = ofInt binary64 t0; x1 = ofInt binary64 x1; t1 = ofInt binary64 t1 }) x
-  same x = λ i. interpolated (record { x0 = e0 i; t0 = f0 i; x1 = e1 i; t1 = f1 i }) x
+  pub small : G ≤ 2 ^ prec binary64
+  small = le-trans g-le (lit≤ tt)
 
-  pub at-second : interpolated p (ofInt binary64 x1) ≡ ofInt binary64 t1
-  at-second = same (ofInt binary64 x1) ∙ second-knot binary64 (ofInt binary64 t0) (ofInt binary64 t1) (ofInt binary64 x0) (ofInt binary64 x1) (sign t0) (sign t1) (sign x0) (sign x1) (natAbs t0) (natAbs t1) (natAbs x0) (natAbs x1)
-      (has t0 (omega (arith, u0))) (has t1 (omega (arith, u1))) (has x0 r0) (has x1 r1) (plain t0) (plain t1) apart few (le-trans g-le (lit≤ tt)) (le-trans x-le (lit≤ tt)) ∙ sym (of-round t1)
+  pub near : X ≤ 2 ^ prec binary64
+  near = le-trans x-le (lit≤ tt)
 
-  pub at-first : interpolated p (ofInt binary64 x0) ≡ ofInt binary64 t0
-  at-first = same (ofInt binary64 x0) ∙ first-knot binary64 (ofInt binary64 t0) (ofInt binary64 t1) (ofInt binary64 x0) (ofInt binary64 x1) (sign t0) (sign t1) (sign x0) (sign x1) (natAbs t0) (natAbs t1) (natAbs x0) (natAbs x1)
-      (has t0 (omega (arith, u0))) (has t1 (omega (arith, u1))) (has x0 r0) (has x1 r1) (plain t0) (plain t1) apart few (le-trans g-le (lit≤ tt)) (le-trans x-le (lit≤ tt)) ∙ sym (of-round t0)
+  pub sizes : natAbs t0 + natAbs t1 ≤ 2 ^ prec binary64
+  sizes = le-trans (omega (arith, u0, u1)) (lit≤ {m = 65536} tt)
+
+  -- exact at both knots
+  module _ (apart : 0 < gap (sign x1) (natAbs x1) (sign x0) (natAbs x0)) where
+    pub at-second : interpolated (pairOf x0 t0 x1 t1) (ofInt binary64 x1) ≡ ofInt binary64 t1
+    at-second =
+        second-knot binary64 (ofInt binary64 t0) (ofInt binary64 t1) (ofInt binary64 x0) (ofInt binary64 x1) (sign t0) (sign t1) (sign x0) (sign x1) (natAbs t0) (natAbs t1) (natAbs x0) (natAbs x1)
+        (has t0 (omega (arith, u0))) (has t1 (omega (arith, u1))) (has x0 r0) (has x1 r1) (plain t0) (plain t1) apart few small near ∙ sym (of-round t1)
+
+    pub at-first : interpolated (pairOf x0 t0 x1 t1) (ofInt binary64 x0) ≡ ofInt binary64 t0
+    at-first =
+        first-knot binary64 (ofInt binary64 t0) (ofInt binary64 t1) (ofInt binary64 x0) (ofInt binary64 x1) (sign t0) (sign t1) (sign x0) (sign x1) (natAbs t0) (natAbs t1) (natAbs x0) (natAbs x1)
+        (has t0 (omega (arith, u0))) (has t1 (omega (arith, u1))) (has x0 r0) (has x1 r1) (plain t0) (plain t1) apart few small near ∙ sym (of-round t0)

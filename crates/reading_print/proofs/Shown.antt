@@ -8,7 +8,7 @@ use lib.Ieee.{Float, fin, binary64, add, lt, toUnsigned}
 use borrow.Author.Tests.{lt-ltb, le-ltb}
 use Rattle.common.specs.Choice.{if_then_else_}
 use Rattle.common.proofs.Choice.{if-true, if-false}
-use Rattle.reading_print.specs.Texts.{sizeOf, wholeOf, tenthsShown}
+use Rattle.reading_print.specs.Texts.{sizeShown, wholeOf, tenthsShown}
 
 module _ (d : Float) where
   abbrev low : Bool
@@ -29,8 +29,8 @@ module _ (d : Float) where
   unfolding wholeOf
   whole-low e = if-false low (if high then toUnsigned 64 d else 0) 0 e
 
-module _ (t a : Float) (u : ℕ) (e : a ≡ sizeOf t) (f : u ≡ wholeOf (add binary64 a a)) where
-  same : u ≡ wholeOf (add binary64 (sizeOf t) (sizeOf t))
+module _ (t a : Float) (u : ℕ) (e : a ≡ sizeShown t) (f : u ≡ wholeOf (add binary64 a a)) where
+  same : u ≡ wholeOf (add binary64 (sizeShown t) (sizeShown t))
   same = f ∙ ap (λ (z : Float). wholeOf (add binary64 z z)) e
 
   pub shown-in : u < 4294967296 → (u + 1) / 2 ≡ tenthsShown t

@@ -56,8 +56,8 @@ abbrev pub isUnder : Float → Bool
 isUnder t = le t (fin true 1 (negsuc 0))
 
 -- its size: a number between -0.5 and 0 is left as it is, and shown as 0
-unfoldable pub sizeOf : Float → Float
-sizeOf t = if isUnder t then neg t else t
+unfoldable pub sizeShown : Float → Float
+sizeShown t = if isUnder t then neg t else t
 
 -- the whole part of a number above -1 and below 2 to the 64, of any other 0
 unfoldable pub wholeOf : Float → ℕ
@@ -65,7 +65,7 @@ wholeOf d = if lt (fin true 1 (pos 0)) d then (if lt d (fin false 1 (pos 64)) th
 
 -- the whole tenths nearest to a temperature, by the whole part of its double; a half goes up. Past 2 to the 31 it is 0: no table's is
 unfoldable pub tenthsShown : Float → ℕ
-tenthsShown t = let u = wholeOf (add binary64 (sizeOf t) (sizeOf t)) in if ltb u 4294967296 then (u + 1) / 2 else 0
+tenthsShown t = let u = wholeOf (add binary64 (sizeShown t) (sizeShown t)) in if ltb u 4294967296 then (u + 1) / 2 else 0
 
 -- in degrees, with one decimal
 abbrev pub temperatureText : Float → List ℕ

@@ -7,7 +7,7 @@ ghost use lib.IntN.{natAbs, pos};
 ghost use lib.Signed.{ltZ};
 ghost use Rattle.common.specs.Lists.{overlaid};
 ghost use Rattle.io.specs.Counts.{Counts};
-ghost use Rattle.reading_print.specs.Texts.{laidIn, countIn, widthOf, decimalOf, signedText, knotText, isUnder, sizeOf, wholeOf, tenthsShown, temperatureText};
+ghost use Rattle.reading_print.specs.Texts.{laidIn, countIn, widthOf, decimalOf, signedText, knotText, isUnder, sizeShown, wholeOf, tenthsShown, temperatureText};
 
 // The digits of a number.
 fn width(n: u32) -> usize
@@ -119,8 +119,8 @@ fn is_under(t: f64) -> bool
 }
 
 // Its size.
-fn size_of(t: f64) -> f64
-    ensures { λ r. ⌜ r ≡ sizeOf t ⌝ }
+fn size_shown(t: f64) -> f64
+    ensures { λ r. ⌜ r ≡ sizeShown t ⌝ }
 {
     if is_under(t) {
         return -t;
@@ -145,7 +145,7 @@ fn whole(d: f64) -> u64
 fn tenths_shown(t: f64) -> u32
     ensures { λ r. ⌜ r ≡ tenthsShown t ⌝ }
 {
-    let a = size_of(t);
+    let a = size_shown(t);
     let u = whole(a + a);
     if u < 4294967296 {
         return ((u + 1) / 2) as u32;

@@ -6,11 +6,11 @@ use Rattle.common.specs.Choice.{Unique}
 use Rattle.common.proofs.Choice.{only}
 use Rattle.reading_text.specs.declared.NumberRead.{NumberRead}
 use Rattle.reading_text.specs.declared.TableRead.{TableRead}
-use Rattle.reading_text.specs.Numbers.{numberRead}
+use Rattle.reading_text.specs.Numbers.{numberTold}
 use Rattle.reading_text.specs.Tables.{tableRead, tableScanned}
 
-pub read-number-unique : (text : List ℕ) → Unique (λ (r : NumberRead). r ≡ numberRead text)
-read-number-unique text = only (numberRead text)
+pub read-number-unique : (text : List ℕ) → Unique (λ (r : NumberRead). r ≡ numberTold text)
+read-number-unique text = only (numberTold text)
 
 pub read-table-unique : (text out : List ℕ) → Unique (λ (r : TableRead). r ≡ tableRead (tableScanned text out .scan))
 read-table-unique text out = only (tableRead (tableScanned text out .scan))

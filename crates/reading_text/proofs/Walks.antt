@@ -17,8 +17,8 @@ use Rattle.common.proofs.Choice.{if-ind, if-true, if-false, or-right, and-right
 use Rattle.reading_text.specs.declared.Number.{Number}
 use Rattle.reading_text.specs.declared.NumberRead.the-variants.{Whole, NoNumber}
 use Rattle.reading_text.specs.declared.Scan.{Scan}
-use Rattle.reading_text.specs.Numbers.{isDigit, fedDigit, fedMinus, fedOther, fed, fedAll, numberStart, numberOf, isNumber, isNegative, valueOf, numberRead}
-use Rattle.reading_text.specs.Tables.{Scanned, lineWrong, fitsTenths, gapWrong, stoppedScan, nextNumber, nextLine, nextLetter, atGap, withinLine, endLine, withKnot, stepped, steppedAll, sixOf}
+use Rattle.reading_text.specs.Numbers.{isDecimal, fedDigit, fedMinus, fedOther, fed, fedAll, numberStart, numberFed, isNumber, isNegative, valueOf, numberTold}
+use Rattle.reading_text.specs.Tables.{Scanned, lineWrong, fitsTenths, gapWrong, stoppedScan, nextNumber, nextLine, nextLetter, atGap, withinLine, endLine, withKnot, scanMore, scanAll, sixOf}
 
 -- ---- numbers
 pub fed-next : (n : Number) (bs : List ℕ) (i : ℕ) → i < length bs → fedAll n (drop i bs) ≡ fedAll (fed n (getD bs i 0)) (drop (i + 1) bs)
@@ -40,21 +40,21 @@ digit-small n b =
 
 fed-small : (n : Number) (b : ℕ) → Small n → Small (fed n b)
 unfolding fed
-fed-small n b h = if-ind Small (isDigit b) (fedDigit n b) (if eqb b 45 then fedMinus n else fedOther n) (λ e. digit-small n b) (λ e. if-ind Small (eqb b 45) (fedMinus n) (fedOther n) (λ q. h) (λ q. h))
+fed-small n b h = if-ind Small (isDecimal b) (fedDigit n b) (if eqb b 45 then fedMinus n else fedOther n) (λ e. digit-small n b) (λ e. if-ind Small (eqb b 45) (fedMinus n) (fedOther n) (λ q. h) (λ q. h))
 
 all-small : (n : Number) (bs : List ℕ) → Small n → Small (fedAll n bs)
 all-small n [] h = h
 all-small n (b ∷ bs) h = all-small (fed n b) bs (fed-small n b h)
 
-pub number-small : (bs : List ℕ) → numberOf bs .size < 2147483648
-unfolding numberOf
+pub number-small : (bs : List ℕ) → numberFed bs .size < 2147483648
+unfolding numberFed
 number-small bs = all-small numberStart bs (omega arith)
 
 -- ---- tables
-pub step-next : (q : Scanned) (bs : List ℕ) (i : ℕ) → i < length bs → steppedAll (drop i bs) q ≡ steppedAll (drop (i + 1) bs) (stepped (q .scan) (getD bs i 0) (q .payload))
+pub step-next : (q : Scanned) (bs : List ℕ) (i : ℕ) → i < length bs → scanAll (drop i bs) q ≡ scanAll (drop (i + 1) bs) (scanMore (q .scan) (getD bs i 0) (q .payload))
 step-next q bs i h = rw (add-one i, drop-cons bs i 0 h) refl
 
-pub step-end : (q : Scanned) (bs : List ℕ) (i : ℕ) → length bs ≤ i → steppedAll (drop i bs) q ≡ q
+pub step-end : (q : Scanned) (bs : List ℕ) (i : ℕ) → length bs ≤ i → scanAll (drop i bs) q ≡ q
 step-end q bs i h = rw (drop-of-length-le bs {i = i} h) refl
 
 -- a line that is not wrong has room for its knot
@@ -78,8 +78,8 @@ module _ (s : Scan) (out : List ℕ) (h : s .knots ≤ length out / 6) where
       (record { scan = nextLine s; payload = withKnot out (s .knots) (s .volts) (s .number) }) (λ e. h)
       (λ e. let l = line-room s (length out) e in omega (arith, l))
 
-  pub step-few : (b : ℕ) → Few (stepped s b out .scan)
-  unfolding stepped
+  pub step-few : (b : ℕ) → Few (scanMore s b out .scan)
+  unfolding scanMore
   step-few b =
       if-ind (λ (q : Scanned). Few (q .scan)) (s .wrong) (record { scan = s; payload = out }) (if eqb b 10 then endLine s out else record { scan = withinLine s b; payload = out })
       (λ e. h) (λ e. if-ind (λ (q : Scanned). Few (q .scan)) (eqb b 10) (endLine s out) (record { scan = withinLine s b; payload = out }) (λ q. end-few) (λ q. within-few b))
@@ -93,18 +93,18 @@ pub end-right : (s : Scan) (out : List ℕ) → lineWrong s (length out) ≡ fal
 unfolding endLine
 end-right s out e = if-false (lineWrong s (length out)) (record { scan = stoppedScan s; payload = out }) (record { scan = nextLine s; payload = withKnot out (s .knots) (s .volts) (s .number) }) e
 
-pub step-wrong : (s : Scan) (b : ℕ) (out : List ℕ) → s .wrong ≡ true → stepped s b out ≡ record { scan = s; payload = out }
-unfolding stepped
+pub step-wrong : (s : Scan) (b : ℕ) (out : List ℕ) → s .wrong ≡ true → scanMore s b out ≡ record { scan = s; payload = out }
+unfolding scanMore
 step-wrong s b out e = if-true (s .wrong) (record { scan = s; payload = out }) (if eqb b 10 then endLine s out else record { scan = withinLine s b; payload = out }) e
 
-pub step-line : (s : Scan) (b : ℕ) (out : List ℕ) → s .wrong ≡ false → eqb b 10 ≡ true → stepped s b out ≡ endLine s out
-unfolding stepped
+pub step-line : (s : Scan) (b : ℕ) (out : List ℕ) → s .wrong ≡ false → eqb b 10 ≡ true → scanMore s b out ≡ endLine s out
+unfolding scanMore
 step-line s b out e f =
     if-false (s .wrong) (record { scan = s; payload = out }) (if eqb b 10 then endLine s out else record { scan = withinLine s b; payload = out }) e
     ∙ if-true (eqb b 10) (endLine s out) (record { scan = withinLine s b; payload = out }) f
 
-pub step-within : (s : Scan) (b : ℕ) (out : List ℕ) → s .wrong ≡ false → eqb b 10 ≡ false → stepped s b out ≡ record { scan = withinLine s b; payload = out }
-unfolding stepped
+pub step-within : (s : Scan) (b : ℕ) (out : List ℕ) → s .wrong ≡ false → eqb b 10 ≡ false → scanMore s b out ≡ record { scan = withinLine s b; payload = out }
+unfolding scanMore
 step-within s b out e f =
     if-false (s .wrong) (record { scan = s; payload = out }) (if eqb b 10 then endLine s out else record { scan = withinLine s b; payload = out }) e
     ∙ if-false (eqb b 10) (endLine s out) (record { scan = withinLine s b; payload = out }) f
@@ -135,10 +135,10 @@ unfolding valueOf
 value-plain n e = if-false (isNegative n) (negsuc (n .size - 1)) (pos (n .size)) e
 
 -- ---- a number of a text
-pub read-whole : (bs : List ℕ) → isNumber (numberOf bs) ≡ true → numberRead bs ≡ Whole (valueOf (numberOf bs))
-unfolding numberRead
-read-whole bs e = if-true (isNumber (numberOf bs)) (Whole (valueOf (numberOf bs))) NoNumber e
+pub read-whole : (bs : List ℕ) → isNumber (numberFed bs) ≡ true → numberTold bs ≡ Whole (valueOf (numberFed bs))
+unfolding numberTold
+read-whole bs e = if-true (isNumber (numberFed bs)) (Whole (valueOf (numberFed bs))) NoNumber e
 
-pub read-none : (bs : List ℕ) → isNumber (numberOf bs) ≡ false → numberRead bs ≡ NoNumber
-unfolding numberRead
-read-none bs e = if-false (isNumber (numberOf bs)) (Whole (valueOf (numberOf bs))) NoNumber e
+pub read-none : (bs : List ℕ) → isNumber (numberFed bs) ≡ false → numberTold bs ≡ NoNumber
+unfolding numberTold
+read-none bs e = if-false (isNumber (numberFed bs)) (Whole (valueOf (numberFed bs))) NoNumber e

@@ -14,8 +14,8 @@ abbrev pub numberStart : Number
 numberStart = record { minus = false; some = false; none = false; size = 0 }
 
 -- `0` to `9`
-unfoldable pub isDigit : ℕ → Bool
-isDigit b = leb 48 b && leb b 57
+unfoldable pub isDecimal : ℕ → Bool
+isDecimal b = leb 48 b && leb b 57
 
 -- one digit more; a number that would pass nine digits is none
 unfoldable pub fedDigit : Number → ℕ → Number
@@ -33,15 +33,15 @@ fedOther n = record { minus = n .minus; some = n .some; none = true; size = n .s
 
 -- one letter more
 unfoldable pub fed : Number → ℕ → Number
-fed n b = if isDigit b then fedDigit n b else if eqb b 45 then fedMinus n else fedOther n
+fed n b = if isDecimal b then fedDigit n b else if eqb b 45 then fedMinus n else fedOther n
 
 -- all letters of a text, one after the other
 abbrev pub fedAll : Number → List ℕ → Number
 fedAll n [] = n
 fedAll n (b ∷ bs) = fedAll (fed n b) bs
 
-unfoldable pub numberOf : List ℕ → Number
-numberOf bs = fedAll numberStart bs
+unfoldable pub numberFed : List ℕ → Number
+numberFed bs = fedAll numberStart bs
 
 -- a digit at least, and nothing wrong
 abbrev pub isNumber : Number → Bool
@@ -56,5 +56,5 @@ unfoldable pub valueOf : Number → ℤ
 valueOf n = if isNegative n then negsuc (n .size - 1) else pos (n .size)
 
 -- what a text says of a number
-unfoldable pub numberRead : List ℕ → NumberRead
-numberRead bs = if isNumber (numberOf bs) then Whole (valueOf (numberOf bs)) else NoNumber
+unfoldable pub numberTold : List ℕ → NumberRead
+numberTold bs = if isNumber (numberFed bs) then Whole (valueOf (numberFed bs)) else NoNumber

@@ -71,20 +71,20 @@ endLine s out =
     else record { scan = nextLine s; payload = withKnot out (s .knots) (s .volts) (s .number) }
 
 -- one letter more; nothing more after a wrong line
-unfoldable pub stepped : Scan → ℕ → List ℕ → Scanned
-stepped s b out =
+unfoldable pub scanMore : Scan → ℕ → List ℕ → Scanned
+scanMore s b out =
     if s .wrong then record { scan = s; payload = out }
     else if eqb b 10 then endLine s out
     else record { scan = withinLine s b; payload = out }
 
 -- all letters of a text, one after the other
-abbrev pub steppedAll : List ℕ → Scanned → Scanned
-steppedAll [] q = q
-steppedAll (b ∷ bs) q = steppedAll bs (stepped (q .scan) b (q .payload))
+abbrev pub scanAll : List ℕ → Scanned → Scanned
+scanAll [] q = q
+scanAll (b ∷ bs) q = scanAll bs (scanMore (q .scan) b (q .payload))
 
 -- a whole text into the front of a payload
 unfoldable pub tableScanned : List ℕ → List ℕ → Scanned
-tableScanned text out = steppedAll text (record { scan = scanStart; payload = out })
+tableScanned text out = scanAll text (record { scan = scanStart; payload = out })
 
 -- a line that was begun and not ended
 unfoldable pub isBegun : Scan → Bool

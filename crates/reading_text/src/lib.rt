@@ -3,8 +3,8 @@ ghost use mathlib.Core.Path.{_≡_};
 ghost use mathlib.Core.Bool.{not};
 ghost use Prim.Native.Nat.{ℕ, _+_, _*_, _/_, _≤_, _<_};
 ghost use lib.ListN.{length};
-ghost use Rattle.reading_text.specs.Numbers.{isDigit, numberStart, fedDigit, fedMinus, fedOther, fed, numberOf, isNumber, isNegative, valueOf, numberRead};
-ghost use Rattle.reading_text.specs.Tables.{bitsOf, sixOf, withKnot, fitsTenths, lineWrong, gapWrong, scanStart, stoppedScan, nextNumber, nextLine, nextLetter, atGap, withinLine, endLine, stepped, isBegun, tableRead, tableScanned};
+ghost use Rattle.reading_text.specs.Numbers.{isDecimal, numberStart, fedDigit, fedMinus, fedOther, fed, numberFed, isNumber, isNegative, valueOf, numberTold};
+ghost use Rattle.reading_text.specs.Tables.{bitsOf, sixOf, withKnot, fitsTenths, lineWrong, gapWrong, scanStart, stoppedScan, nextNumber, nextLine, nextLetter, atGap, withinLine, endLine, scanMore, isBegun, tableRead, tableScanned};
 
 // A number as far as it is read: whether it has a minus and a digit, whether it is none, and its size.
 pub struct Number {
@@ -21,8 +21,8 @@ pub enum NumberRead {
 }
 
 // A digit's letter.
-fn is_digit(b: u8) -> bool
-    ensures { λ r. ⌜ r ≡ isDigit b ⌝ }
+fn is_decimal(b: u8) -> bool
+    ensures { λ r. ⌜ r ≡ isDecimal b ⌝ }
 {
     let low = b'0' <= b;
     let high = b <= b'9';
@@ -85,7 +85,7 @@ fn feed_other(n: Number) -> Number
 fn feed(n: Number, b: u8) -> Number
     ensures { λ r. ⌜ r ≡ fed n b ⌝ }
 {
-    if is_digit(b) {
+    if is_decimal(b) {
         return feed_digit(n, b);
     }
     if b == b'-' {
@@ -116,8 +116,8 @@ fn number_start() -> Number
 }
 
 // All letters of a text.
-fn number_of(text: &[u8]) -> Number
-    ensures { λ r. ⌜ r ≡ numberOf (now (text .entry)) ⌝ }
+fn number_fed(text: &[u8]) -> Number
+    ensures { λ r. ⌜ r ≡ numberFed (now (text .entry)) ⌝ }
 {
     let mut n = number_start();
     let mut i = 0;
@@ -151,9 +151,9 @@ fn value(n: Number) -> i32
 
 // A whole text as a number: a minus or none, then digits, the nine last of which may be other than 0.
 pub fn read_number(text: &[u8]) -> NumberRead
-    ensures { λ r. ⌜ r ≡ numberRead (now (text .entry)) ⌝ }
+    ensures { λ r. ⌜ r ≡ numberTold (now (text .entry)) ⌝ }
 {
-    let n = number_of(text);
+    let n = number_fed(text);
     if is_number(n) {
         return NumberRead::Whole(value(n));
     }
@@ -359,8 +359,8 @@ fn end_line(s: Scan, out: &mut [u8]) -> Scan
 
 // One letter more of a table; nothing more after a wrong line.
 fn step(s: Scan, b: u8, out: &mut [u8]) -> Scan
-    ensures { λ r. ⌜ r ≡ stepped s b (now (out .entry)) .scan ⌝ }
-    ensures { λ _. ⌜ now (out .exit) ≡ stepped s b (now (out .entry)) .payload ⌝ }
+    ensures { λ r. ⌜ r ≡ scanMore s b (now (out .entry)) .scan ⌝ }
+    ensures { λ _. ⌜ now (out .exit) ≡ scanMore s b (now (out .entry)) .payload ⌝ }
 {
     let wrong = s.wrong;
     if wrong {

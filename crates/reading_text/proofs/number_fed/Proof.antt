@@ -2,14 +2,14 @@ use mathlib.Core.Path.{_≡_, sym, ap, _∙_}
 use Prim.Native.Nat.{_+_, _-_}
 use lib.ListN.{length, drop}
 use denote.Ref.{now}
-use Rattle.reading_text.specs.Numbers.{numberOf, fedAll}
+use Rattle.reading_text.specs.Numbers.{numberFed, fedAll}
 use Rattle.reading_text.proofs.Walks.{fed-next, fed-end}
 use borrow.Author.Needs.{needs}
-use Rattle.reading_text.proofs.number_of.Statement.{statement}
-use Rattle.reading_text.proofs.number_of.Tie as tie
+use Rattle.reading_text.proofs.number_fed.Statement.{statement}
+use Rattle.reading_text.proofs.number_fed.Tie as tie
 
 abbrev Inv-loop : tie.InvT-loop
-Inv-loop text n₀ i₀ n i = fedAll n (drop i text) ≡ numberOf text
+Inv-loop text n₀ i₀ n i = fedAll n (drop i text) ≡ numberFed text
 
 abbrev μ-loop : tie.MeasureT-loop
 μ-loop text n₀ i₀ n i = length text - i
@@ -18,7 +18,7 @@ number-start-requires : tie.Need-number-start-requires Inv-loop μ-loop
 number-start-requires c κs = search needs
 
 loop-holds : tie.Need-loop-holds Inv-loop μ-loop
-unfolding numberOf
+unfolding numberFed
 loop-holds c = ap (λ n. fedAll n (now (c .before .before .args .text))) (c .number-start .ensures)
 
 shared-slice-read-feed : tie.Need-shared-slice-read-feed Inv-loop μ-loop
@@ -39,8 +39,8 @@ loop-again c = let l = c .before .before .before .loop in ap (λ n. fedAll n (dr
 returns : tie.Need-returns Inv-loop μ-loop
 returns c = let l = c .before .loop in sym (fed-end (l .n) (now (c .before .before .before .before .args .text)) (l .i) (c .loop-test .left)) ∙ l .inv
 
-pub number-of-spec : {M : Type 1} → statement M
-number-of-spec =
+pub number-fed-spec : {M : Type 1} → statement M
+number-fed-spec =
     tie.close
     (tie.spec
     Inv-loop
