@@ -46,7 +46,7 @@ table-judged p t =
 pub judged-exactly : (p : List ℕ) → tableNumber p ≡ 0 ↔ Table p
 judged-exactly p = (judged-table p, table-judged p)
 
--- ---- the knots of a table
+-- the knots of a table
 module _ (p : List ℕ) (t : Table p) where
   pub size : (i : ℕ) → i < knots p → natAbs (voltsOf p i) ≤ 80000
   size i h = in-range-size (voltsOf p i) (t .range i h)

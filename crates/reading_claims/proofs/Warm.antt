@@ -29,7 +29,7 @@ use Rattle.reading_claims.proofs.Exact.{lower-exact}
 use Rattle.reading_claims.proofs.Sides.{Side, under, over, within, side}
 use Rattle.reading_claims.proofs.Bounds.{small, lies-up, Plain, plain-inside, plain-knot}
 
--- ---- inside a pair
+-- inside a pair
 module _ (p : List ℕ) (t : Table p) (i : ℕ) (h : i + 1 < knots p) (x y : ℤ) (a : T (leZ (voltsOf p i) x)) (o : T (leZ x y)) (b : T (leZ y (voltsOf p (i + 1)))) where
   after : T (leZ (voltsOf p i) y)
   after = le-trans (voltsOf p i) x y a o
@@ -60,7 +60,7 @@ clash x y z l m n =
     let b : y ≤ℤ x = record { le = le-trans y z x m n } in
     clashℤ a b
 
--- ---- over the whole table
+-- over the whole table
 module _ (p : List ℕ) (t : Table p) (w : Warming p) where
   -- the temperatures of the knots
   next : (i : ℕ) → i + 1 < knots p → T (le (heatOf p i) (heatOf p (i + 1)))

@@ -1,4 +1,4 @@
--- Between two knots the reading lies between their temperatures, in f64's own order, and is finite.
+-- Between two knots the reading lies between their temperatures, in f64's own order, and is finite. Assumes nothing.
 use mathlib.Core.Path.{_≡_, refl, sym, ap, ap₂, _∙_, subst}
 use mathlib.Core.Bool.{Bool, true, false, not, cond, _&&_, Bool·beq}
 use mathlib.Core.Logic.{⊎-elim}
@@ -15,7 +15,7 @@ use Rattle.reading_pair.specs.Order.{notMinusZero}
 use Rattle.reading_pair.proofs.Whole.{yes-lt, no-lt, lt-scale, below?, sub-mul, above, plus, gap, sub-whole, mul-whole}
 use Rattle.reading_pair.proofs.Rounded.{SLe, grid-le, round-value, under-whole, over-whole, round-minus, plus-minus, div-frac, add-frac, sum-plus-at}
 
--- ---- t0 + k for k at most t1 - t0 lies between t0 and t1
+-- t0 + k for k at most t1 - t0 lies between t0 and t1
 no-way {ℓ} : {A : Type ℓ} → true ≡ false → A
 no-way e = let z : _≡_ {A = ℕ} 0 1 = cc in absurd (clash z)
   where
@@ -60,7 +60,7 @@ down-core true true a b k ha hb e h = ⊎-elim
     (λ (m : b < a). ap (λ (z : Bool). cond {A = Bool × ℕ} z (false, a - b) (ltb a b, b - a) .0) (yes-lt b a m))
     (λ (m : a ≤ b). ap₂ (λ (y z : Bool). cond {A = Bool × ℕ} y (false, a - b) (z, b - a) .0) (no-lt b a m) (no-lt a b l)) (below? b a))) (below? a b)
 
--- ---- the sum of multiples is the multiple of the sum
+-- the sum of multiples is the multiple of the sum
 plus-scale : (s : Bool) (a : ℕ) (t : Bool) (b c : ℕ) → 0 < c → plus s (a * c) t (b * c) ≡ (plus s a t b .0, plus s a t b .1 * c)
 plus-scale s a t b c h =
     ap₂ (λ (x y : Bool × ℕ). cond (Bool·beq s t) x y) (ap (λ (n : ℕ). (s, n)) (sym (add-mul a b c)))
@@ -99,7 +99,7 @@ finite-has nan s a c h = absurd h
 finite-has (inf u) s a c h = absurd h
 finite-has (fin u m e) s a c h = tt
 
--- ---- the reading, from values
+-- the reading, from values
 module _ (f : Format) (t₀ t₁ x₀ x₁ x : Float) (s t u v w : Bool) (a b c d n : ℕ)
     (h₀ : HasValue t₀ s a 1) (h₁ : HasValue t₁ t b 1) (k₀ : HasValue x₀ u c 1) (k₁ : HasValue x₁ v d 1) (k : HasValue x w n 1)
     (z₀ : a ≡ 0 → s ≡ false) (z₁ : b ≡ 0 → t ≡ false)

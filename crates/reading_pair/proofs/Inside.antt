@@ -1,4 +1,4 @@
--- A reading inside its pair of knots, over whole microvolts and whole tenths.
+-- A reading inside its pair of knots, over whole microvolts and whole tenths. Assumes nothing.
 use mathlib.Core.Path.{_≡_, refl, sym, ap, subst}
 use mathlib.Core.Bool.{Bool, true, false, not}
 use mathlib.Core.Logic.{⊎-elim}
@@ -74,7 +74,7 @@ up-gap a z h = ap (λ (y : Bool × ℕ). y .0) (apart-up a z h)
 pub less-gap : (a z w : ℤ) → T (leZ a z) → T (leZ a w) → T (leZ z w) → apart z a .1 ≤ apart w a .1
 less-gap a z w h k l = subst (λ (y : Bool × ℕ). y .1 ≤ apart w a .1) (sym (apart-up a z h)) (subst (λ (y : Bool × ℕ). dist a z ≤ y .1) (sym (apart-up a w k)) (dist-mono a z w h l))
 
--- ---- between the knots
+-- between the knots
 module _ (x0 t0 x1 t1 x : ℤ) (r0 : natAbs x0 ≤ 80000) (r1 : natAbs x1 ≤ 80000) (r : natAbs x ≤ 80000) (u0 : natAbs t0 ≤ 32768) (u1 : natAbs t1 ≤ 32768)
     (rises : T (ltZ x0 x1)) (after : T (leZ x0 x)) (before : T (leZ x x1)) where
   up : T (leZ x0 x1)

@@ -1,3 +1,4 @@
+-- Whole numbers of the card as f64, and a reading that is exact at both knots. Assumes nothing.
 use mathlib.Core.Path.{_≡_, refl, sym, _∙_, subst}
 use mathlib.Core.Bool.{Bool, true, false, not, cond, _&&_, Bool·beq}
 use Prim.Native.Nat.{ℕ, _+_, _-_, _*_, _≤_, _<_, _^_}
@@ -36,7 +37,7 @@ gap-le t b s a = go (Bool·beq t (not s)) (ltb b a)
     go false true = omega arith
     go false false = omega arith
 
--- ---- whole numbers within the card's ranges
+-- whole numbers within the card's ranges
 module _ (x0 t0 x1 t1 : ℤ) (r0 : natAbs x0 ≤ 80000) (r1 : natAbs x1 ≤ 80000) (u0 : natAbs t0 ≤ 32768) (u1 : natAbs t1 ≤ 32768) where
   abbrev G : ℕ
   G = gap (sign t1) (natAbs t1) (sign t0) (natAbs t0)

@@ -67,7 +67,7 @@ plus-less false a k j h = ⊎-elim
     (λ (l : j ≤ a). subst (λ (z : Bool). Order (cond z (true, j - a) (false, a - j)) (plus false a true k)) (sym (no-lt a j l))
     (subst (λ (z : Bool). Order (false, a - j) (cond z (true, k - a) (false, a - k))) (sym (no-lt a k (omega (arith, l, h)))) (omega (arith, h)))) (below? a j)
 
--- ---- two readings of one pair, from values
+-- two readings of one pair, from values
 module _ (f : Format) (t₀ t₁ x₀ x₁ x y : Float) (s t u v w w' : Bool) (a b c d n n' : ℕ)
     (h₀ : HasValue t₀ s a 1) (h₁ : HasValue t₁ t b 1) (k₀ : HasValue x₀ u c 1) (k₁ : HasValue x₁ v d 1) (k : HasValue x w n 1) (k' : HasValue y w' n' 1)
     (z₀ : a ≡ 0 → s ≡ false) (z₁ : b ≡ 0 → t ≡ false)

@@ -1,4 +1,4 @@
--- Rounding keeps the order, in the form a reading needs: over signs, with whole numbers as the bounds.
+-- Rounding keeps the order, in the form a reading needs: over signs, with whole numbers as the bounds. Assumes nothing.
 use mathlib.Core.Path.{_≡_, refl, sym, ap, ap₂, _∙_, subst}
 use mathlib.Core.Bool.{Bool, true, false, cond, _&&_, _||_, Bool·beq, true≢false}
 use mathlib.Core.Logic.{⊎-elim, _⊎_, inl, inr}
@@ -17,7 +17,7 @@ use lib.Ieee.Positive.{num, den, den-pos, value→cross, first-pos}
 use Rattle.reading_pair.specs.Order.{notMinusZero}
 use Rattle.reading_pair.proofs.Whole.{yes-lt, no-lt, lt-scale, below?, sub-mul, plus, above}
 
--- ---- finite, or the infinity
+-- finite, or the infinity
 odd-finite : (d q k l : ℕ) → T (finite (odd d false q k l))
 unfolding odd
 odd-finite d zero k l = tt
@@ -49,7 +49,7 @@ no-inf (fin s m e) h l = l
 down-finite : (f : Format) (a c : ℕ) (y : Float) → T (finite y) → T (le (round f false a c) y) → T (finite (round f false a c))
 down-finite f a c y h l = ⊎-elim (λ (t : T (finite (round f false a c))). t) (λ (e : round f false a c ≡ inf false). absurd (no-inf y h (subst (λ (x : Float). T (le x y)) e l))) (round-either f a c)
 
--- ---- the order of two values that are not negative, as one of fractions
+-- the order of two values that are not negative, as one of fractions
 split : (a b : ℕ) → T (ltb a b || (eqb a b && true)) → a ≤ b
 split a b t = go (ltb a b) (eqb a b) (ltb→lt a b) (eqb→eq a b) t
   where
@@ -71,7 +71,7 @@ cross (fin false m e) (fin false n g) a c b d h k l = split (m * up e * down g) 
 values : (x y : Float) (a c b d : ℕ) → HasValue x false a c → HasValue y false b d → T (le x y) → a * d ≤ b * c
 values x y a c b d h k l = transfer a b c d (num x) (num y) (den x) (den y) (den-pos x) (den-pos y) (sym (value→cross x a c h)) (sym (value→cross y b d k)) (cross x y a c b d h k l)
 
--- ---- `grid`: a / c rounded, in units of the smallest value
+-- `grid`: a / c rounded, in units of the smallest value
 pub grid-whole : (f : Format) (g : ℕ) → g ≤ 2 ^ prec f → (grid f g 1 ≡ g * 2 ^ low f) × (grid f g 1 < overflow f)
 grid-whole f g h =
     let x = round f false g 1 in
@@ -105,7 +105,7 @@ grid-ge f a c g C h G o =
 pub round-value : (f : Format) (s : Bool) (a c : ℕ) → grid f a c < overflow f → HasValue (round f s a c) s (grid f a c) (2 ^ low f)
 round-value f s a c h = subst (λ (z : Float). HasValue z s (grid f a c) (2 ^ low f)) (sym (round-is f s a c)) (units-val f s (kept (prec f) (a * 2 ^ low f) c) (drop (prec f) (a * 2 ^ low f) c) h)
 
--- ---- the order over signs: ±a ≤ ±b
+-- the order over signs: ±a ≤ ±b
 abbrev pub SLe : Bool → ℕ → Bool → ℕ → Type 0
 SLe false a false b = a ≤ b
 SLe false a true b = ⊥
@@ -143,7 +143,7 @@ le-signed (fin u m e) (fin v n g) s t a c b d C D h k l = subst (λ (z : Bool). 
     go true false l = below-zero (m * up e * down g) (n * up g * down e)
     go true true l = of-le (m * up e * down g) (n * up g * down e) (transfer (n * up g) (m * up e) (down g) (down e) b a d c D C (k .1) (h .1) l)
 
--- ---- a rounded fraction against whole numbers
+-- a rounded fraction against whole numbers
 pub under-whole : (f : Format) (s : Bool) (a c : ℕ) (t : Bool) (b : ℕ) (y : Float) → 0 < c → b ≤ 2 ^ prec f → grid f a c < overflow f → HasValue y t b 1 → SLe s a t (b * c) → T (le (round f s a c) y)
 under-whole f s a c t b y C B o hy l = le-signed (round f s a c) y s t (grid f a c) (2 ^ low f) b 1 (pow-pos (low f)) (omega arith) (round-value f s a c o) hy (go s t l)
   where
@@ -162,7 +162,7 @@ over-whole f s a c t b y C B o hy l = le-signed y (round f s a c) t s b 1 (grid 
     go false true l = tt
     go true true l = le-trans (le-of-eq (mul-one (grid f a c))) (grid-le f a c b C l B .0)
 
--- ---- a quotient of whole numbers, and a whole number plus a fraction
+-- a quotient of whole numbers, and a whole number plus a fraction
 pub div-frac : (f : Format) (x y : Float) (s t : Bool) (a b : ℕ) → 0 < b → HasValue x s a 1 → HasValue y t b 1 → div f x y ≡ round f (unlike s t) a b
 unfolding div
 div-frac f nan y s t a b h hx hy = absurd hx
@@ -216,7 +216,7 @@ sum-plus-at f s a t b c =
     ap (λ (y : Float). cond (Bool·beq s t) (round f s (a + b) c) y) (cond-ap (λ p. round f (p .0) (p .1) c) (ltb a b) (t, b - a) (s && ltb b a, a - b))
     ∙ cond-ap (λ p. round f (p .0) (p .1) c) (Bool·beq s t) (s, a + b) (cond (ltb a b) (t, b - a) (s && ltb b a, a - b))
 
--- ---- what is not nothing does not round to nothing, in units of the smallest value
+-- what is not nothing does not round to nothing, in units of the smallest value
 grid-one : (f : Format) (n : ℕ) → 0 < n → grid f n (2 ^ low f) < overflow f → 0 < grid f n (2 ^ low f)
 grid-one f n h o =
     let l = 2 ^ low f in

@@ -1,3 +1,4 @@
+-- The operations of f64 on whole numbers, and the two knots of a reading. Assumes nothing.
 use mathlib.Core.Path.{_≡_, refl, sym, ap, ap₂, _∙_, subst}
 use mathlib.Core.Bool.{Bool, true, false, not, cond, _&&_, Bool·beq}
 use Prim.Native.Nat.{ℕ, zero, suc, _+_, _-_, _*_, _≤_, _<_, _^_, zero-le}
@@ -11,7 +12,7 @@ use lib.Ieee.Back.{round-whole}
 use lib.Ieee.Scale.{round-same}
 use lib.Ieee.Fits.{down-pos}
 
--- ---- the tests
+-- the tests
 pub yes-lt : (a b : ℕ) → a < b → ltb a b ≡ true
 yes-lt a b h = go (ltb a b) (lt→ltb a b h)
   where
@@ -46,7 +47,7 @@ below? i n = at (ltb i n) refl
 pub sub-mul : (a b c : ℕ) → (a - b) * c ≡ a * c - b * c
 sub-mul a b c = mul-comm (a - b) c ∙ mul-sub c a b ∙ ap₂ (λ (x y : ℕ). x - y) (mul-comm c a) (mul-comm c b)
 
--- ---- operations on whole numbers
+-- operations on whole numbers
 scaled : (f : Format) (s : Bool) (a c : ℕ) → 0 < c → round f s (a * c) c ≡ round f s a 1
 scaled f s a c h = round-same f s (a * c) c a 1 h (lt-one) (mul-one (a * c))
   where
@@ -113,7 +114,7 @@ pub above : (a : ℕ) → (a ≡ 0 → true ≡ false) → 0 < a
 above zero h = let e = h refl in let z : _≡_ {A = ℕ} 0 1 = cc in omega arith
 above (suc a) h = omega arith
 
--- ---- the sum of two signed whole numbers, as a sign and a size
+-- the sum of two signed whole numbers, as a sign and a size
 abbrev pub plus : Bool → ℕ → Bool → ℕ → Bool × ℕ
 plus s a t b = cond (Bool·beq s t) (s, a + b) (cond (ltb a b) (t, b - a) (s && ltb b a, a - b))
 
@@ -163,7 +164,7 @@ twice false true = refl
 twice true false = refl
 twice true true = refl
 
--- ---- the difference of two whole numbers
+-- the difference of two whole numbers
 abbrev pub gap : Bool → ℕ → Bool → ℕ → ℕ
 gap t b s a = plus t b (not s) a .1
 

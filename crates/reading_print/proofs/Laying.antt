@@ -14,7 +14,7 @@ use Rattle.common.proofs.Choice.{if-ind, if-true, if-false}
 use Rattle.vectors_text.specs.Text.{spelled, digitLetter}
 use Rattle.reading_print.specs.Texts.{laid, laidIn, countIn, widthOf, decimalOf, signedText}
 
--- ---- lengths
+-- lengths
 pub width-some : (n : ℕ) → (1 ≤ widthOf n) × (widthOf n ≤ 10)
 unfolding widthOf
 width-some n =
@@ -51,7 +51,7 @@ pub signed-most : (b : Bool) (n : ℕ) → length (signedText b n) ≤ 11
 signed-most true n = let e : length (signedText true n) ≡ suc (length (decimalOf n)) = ap length (signed-true n) in let l = decimal-length n in let w = width-some n .1 in omega (arith, e, l, w)
 signed-most false n = let e : length (signedText false n) ≡ length (decimalOf n) = ap length (signed-false n) in let l = decimal-length n in let w = width-some n .1 in omega (arith, e, l, w)
 
--- ---- one text behind another
+-- one text behind another
 pub set-over : (xs : List ℕ) (a b : ℕ) → a < length xs → set xs a b ≡ overlaid xs a (b ∷ [])
 set-over xs a b h = sets-eq (b ∷ []) xs a (omega (arith, h)) ∙ append-assoc (take a xs) (b ∷ []) (drop (a + 1) xs) ∙ ap (λ (z : List ℕ). take a xs ++ ((b ∷ []) ++ z)) (sym (drop-drop 1 a xs))
 
@@ -81,7 +81,7 @@ front-more out A B now next at to f e g =
       behind = g ∙ ap (λ (n : ℕ). n + length B) (f .behind) ∙ sym (length-append A B);
     }
 
--- ---- a number from a place on
+-- a number from a place on
 pub plain-over : (out y : List ℕ) (at w n : ℕ) → w ≡ widthOf n → at + w ≤ length out → y ≡ spelled 10 (length (midOf at (at + w - at) out)) n []
     → putMid at (at + w - at) out y ≡ overlaid out at (decimalOf n)
 unfolding decimalOf
@@ -92,7 +92,7 @@ plain-over out y at w n e h f =
     let l : at + w - at ≡ length y = k ∙ sym (ap length g ∙ spelled-length 10 w n [] ∙ (let q : w + 0 ≡ w = omega arith in q)) in
     ap (λ (z : ℕ). take at out ++ (y ++ drop z (drop at out))) l ∙ ap (overlaid out at) (g ∙ ap (λ (z : ℕ). spelled 10 z n []) e)
 
--- ---- with room and without
+-- with room and without
 pub no-room : (out text : List ℕ) → length out < 24 → (0 ≡ countIn out text) × (out ≡ laidIn out text)
 unfolding countIn laidIn
 no-room out text h = (sym (if-true (ltb (length out) 24) 0 (length text) (lt-ltb _ _ h)), sym (if-true (ltb (length out) 24) out (laid out text) (lt-ltb _ _ h)))
@@ -101,7 +101,7 @@ pub in-room : (out text now : List ℕ) (at : ℕ) → 24 ≤ length out → Fro
 unfolding countIn laidIn
 in-room out text now at h f = (f .behind ∙ sym (if-false (ltb (length out) 24) 0 (length text) (le-ltb _ _ h)), f .bytes ∙ sym (if-false (ltb (length out) 24) out (laid out text) (le-ltb _ _ h)))
 
--- ---- what the functions leave
+-- what the functions leave
 pub minus-over : (out o₁ o₂ : List ℕ) (at next r n : ℕ) (b : Bool) → b ≡ true → next ≡ at + 1 → o₁ ≡ overlaid out at (45 ∷ []) → r ≡ next + length (decimalOf n) → o₂ ≡ overlaid o₁ next (decimalOf n) → at ≤ length out
     → (r ≡ at + length (signedText b n)) × (o₂ ≡ overlaid out at (signedText b n))
 minus-over out o₁ o₂ at next r n b h e f g k l =
@@ -127,7 +127,7 @@ front-letter out A now next b at to f e g = front-more out A (b ∷ []) now next
 pub counts : (r : ℕ) (xs : List ℕ) → r ≤ length xs → (r ≤ length xs) × (r ≡ length (take r xs))
 counts r xs h = (h, sym (length-take-le r xs h))
 
--- ---- lengths of whole texts
+-- lengths of whole texts
 pub two-most : (A B : List ℕ) (a b : ℕ) → length A ≤ 11 → length B ≤ 11 → length (((A ++ (a ∷ [])) ++ B) ++ (b ∷ [])) ≤ 24
 two-most A B a b h k =
     let p = length-append A (a ∷ []) in

@@ -15,7 +15,7 @@ use borrow.Author.Tests.{ne-eqb}
 use Rattle.common.specs.Choice.{if_then_else_}
 use Rattle.reading_table.specs.Table.{signed16, word16, voltsOf, tenthsOf, inRange, goodAt, risingFrom, risingOf, knots}
 
--- ---- tests
+-- tests
 yes : {b : Bool} → b ≡ true → T b
 yes e = subst T (sym e) tt
 
@@ -30,7 +30,7 @@ both false b e = absurd (clash e)
     clash : false ≡ true → ⊥
     clash e = let z : _≡_ {A = ℕ} 0 1 = cc in omega (arith, z)
 
--- ---- what `rising` says of each knot
+-- what `rising` says of each knot
 good-from : (k i : ℕ) (p : List ℕ) → risingFrom k i p ≡ true → (j : ℕ) → i ≤ j → j < i + k → goodAt p j ≡ true
 unfolding risingFrom
 good-from zero i p e j l m = let z : _≡_ {A = ℕ} 0 1 = omega (arith, l, m) in absurd (clash z)
@@ -88,7 +88,7 @@ pub rising-if : (p : List ℕ) → Rising p → risingOf p ≡ true
 unfolding risingOf
 rising-if p r = from-good (knots p) 0 p (λ j l m. good-at p r j (omega (arith, m)))
 
--- ---- sizes
+-- sizes
 pub range-size : (v : ℤ) → T (leZ (negsuc 9999) v) → T (leZ v (pos 80000)) → natAbs v ≤ 80000
 range-size (pos n) a b = leb→le n 80000 b
 range-size (negsuc n) a b = let l = leb→le n 9999 a in omega (arith, l)

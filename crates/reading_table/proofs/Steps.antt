@@ -11,7 +11,7 @@ use Rattle.common.specs.Choice.{if_then_else_}
 use Rattle.reading_table.specs.Table.{voltsOf, goodAt, risingFrom, risingOf, knots}
 use Rattle.reading_table.specs.Search.{halving, seekOf}
 
--- ---- rising
+-- rising
 module _ (p : List ℕ) (n i : ℕ) where
   one-more : i < n → risingFrom (n - i) i p ≡ (goodAt p i && risingFrom (n - (i + 1)) (i + 1) p)
   unfolding risingFrom
@@ -31,7 +31,7 @@ pub rise-start : (p : List ℕ) → risingFrom (knots p - 0) 0 p ≡ risingOf p
 unfolding risingOf
 rise-start p = let e : knots p - 0 ≡ knots p = omega arith in ap (λ (k : ℕ). risingFrom k 0 p) e
 
--- ---- seek
+-- seek
 abbrev pub mid : ℕ → ℕ → ℕ
 mid lo hi = lo + (hi - lo) / 2
 

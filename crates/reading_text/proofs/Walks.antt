@@ -20,7 +20,7 @@ use Rattle.reading_text.specs.declared.Scan.{Scan}
 use Rattle.reading_text.specs.Numbers.{isDecimal, fedDigit, fedMinus, fedOther, fed, fedAll, numberStart, numberFed, isNumber, isNegative, valueOf, numberTold}
 use Rattle.reading_text.specs.Tables.{Scanned, lineWrong, fitsTenths, gapWrong, stoppedScan, nextNumber, nextLine, nextLetter, atGap, withinLine, endLine, withKnot, scanMore, scanAll, sixOf}
 
--- ---- numbers
+-- numbers
 pub fed-next : (n : Number) (bs : List ℕ) (i : ℕ) → i < length bs → fedAll n (drop i bs) ≡ fedAll (fed n (getD bs i 0)) (drop (i + 1) bs)
 fed-next n bs i h = rw (add-one i, drop-cons bs i 0 h) refl
 
@@ -50,7 +50,7 @@ pub number-small : (bs : List ℕ) → numberFed bs .size < 2147483648
 unfolding numberFed
 number-small bs = all-small numberStart bs (omega arith)
 
--- ---- tables
+-- tables
 pub step-next : (q : Scanned) (bs : List ℕ) (i : ℕ) → i < length bs → scanAll (drop i bs) q ≡ scanAll (drop (i + 1) bs) (scanMore (q .scan) (getD bs i 0) (q .payload))
 step-next q bs i h = rw (add-one i, drop-cons bs i 0 h) refl
 
@@ -84,7 +84,7 @@ module _ (s : Scan) (out : List ℕ) (h : s .knots ≤ length out / 6) where
       if-ind (λ (q : Scanned). Few (q .scan)) (s .wrong) (record { scan = s; payload = out }) (if eqb b 10 then endLine s out else record { scan = withinLine s b; payload = out })
       (λ e. h) (λ e. if-ind (λ (q : Scanned). Few (q .scan)) (eqb b 10) (endLine s out) (record { scan = withinLine s b; payload = out }) (λ q. end-few) (λ q. within-few b))
 
--- ---- each way out of a line and of a step
+-- each way out of a line and of a step
 pub end-wrong : (s : Scan) (out : List ℕ) → lineWrong s (length out) ≡ true → endLine s out ≡ record { scan = stoppedScan s; payload = out }
 unfolding endLine
 end-wrong s out e = if-true (lineWrong s (length out)) (record { scan = stoppedScan s; payload = out }) (record { scan = nextLine s; payload = withKnot out (s .knots) (s .volts) (s .number) }) e
@@ -109,7 +109,7 @@ step-within s b out e f =
     if-false (s .wrong) (record { scan = s; payload = out }) (if eqb b 10 then endLine s out else record { scan = withinLine s b; payload = out }) e
     ∙ if-false (eqb b 10) (endLine s out) (record { scan = withinLine s b; payload = out }) f
 
--- ---- a part put back
+-- a part put back
 pub put-over : (xs ys : List ℕ) (a k : ℕ) → length ys ≡ k → putMid a k xs ys ≡ overlaid xs a ys
 put-over xs ys a k h = ap (λ (n : ℕ). take a xs ++ (ys ++ drop n (drop a xs))) (sym h)
 
@@ -122,7 +122,7 @@ put-knot-over xs ys k v t v' t' e a b =
     let l : length ys ≡ 6 * k + 6 - 6 * k = ap length e ∙ (let q : 6 ≡ 6 * k + 6 - 6 * k = omega arith in q) in
     put-over xs ys (6 * k) (6 * k + 6 - 6 * k) l ∙ ap (overlaid xs (6 * k)) (e ∙ ap₂ sixOf a b)
 
--- ---- the value of a number
+-- the value of a number
 pub negative-some : (n : Number) → isNegative n ≡ true → 0 < n .size
 negative-some n e = ltb-true 0 (n .size) (and-right (n .minus) (ltb 0 (n .size)) e)
 
@@ -134,7 +134,7 @@ pub value-plain : (n : Number) → isNegative n ≡ false → valueOf n ≡ pos 
 unfolding valueOf
 value-plain n e = if-false (isNegative n) (negsuc (n .size - 1)) (pos (n .size)) e
 
--- ---- a number of a text
+-- a number of a text
 pub read-whole : (bs : List ℕ) → isNumber (numberFed bs) ≡ true → numberTold bs ≡ Whole (valueOf (numberFed bs))
 unfolding numberTold
 read-whole bs e = if-true (isNumber (numberFed bs)) (Whole (valueOf (numberFed bs))) NoNumber e
