@@ -257,9 +257,9 @@ fn run_all(text: &[u8], payload: &mut [u8], file: &mut [u8], room: &mut [u8]) {
 
 fn main() {
     let mut text = io::large_buffer();
-    let mut payload = [0u8; 4206];
-    let mut file = [0u8; 4608];
-    let mut room = [0u8; 4200];
+    let mut payload = io::large_buffer();
+    let mut file = io::large_buffer();
+    let mut room = io::large_buffer();
     let n = io::read_full(0, &mut text);
     run_all(&text[..n], &mut payload, &mut file, &mut room);
 }
