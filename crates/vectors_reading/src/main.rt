@@ -109,7 +109,7 @@ fn write_file(letter: u8, payload: &[u8], file: &mut [u8]) -> usize {
     }
 }
 
-// The front of a slice, as far as there is one.
+// A row that changes the payload: a knot or a byte more, or nothing left of it.
 fn payload_row(row: &[u8], kind: u8, s: Sizes, payload: &mut [u8]) -> Sizes {
     let at = common::least(s.payload, 4200);
     if kind == b'K' {
