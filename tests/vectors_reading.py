@@ -194,11 +194,13 @@ def around(table, step=1):
     """Voltages at, before and behind knots, and between them."""
     xs = set()
     for (a, _), (b, _) in list(zip(table, table[1:]))[::step]:
-        xs |= {a, a + 1, (a + b) // 2, b - 1, b}
+        xs |= {a, a + 1, b - 1, b} | {a + k * (b - a) // 7 for k in range(1, 7)}
     return sorted(xs | {table[0][0] - 1, table[-1][0], table[-1][0] + 1})
 
 
 FAR = (-2147483648, -80001, -10001, -10000, -1, 0, 1, 80000, 80001, 2147483647)
+# where a quotient taken before the product shows in the last bit
+UNEVEN = [(0, -32768), (49, 32767), (147, -3), (588, 10000), (1117, 9999), (3041, -20011), (9973, 31013), (49999, -1), (79999, 7)]
 EDGES = [(-10000, -32768), (-1, 0), (0, -1), (1, 32767), (7, 32766), (80000, -32768)]
 THIRDS = [(0, 0), (3, 1), (7, -1), (10, 9), (21, 0), (1000, 7), (1001, 7)]
 
@@ -206,7 +208,7 @@ THIRDS = [(0, 0), (3, 1), (7, -1), (10, 9), (21, 0), (1000, 7), (1001, 7)]
 def all_rows():
     r = Rows()
     # small tables: thirds and sevenths of a tenth, falling temperatures, the ends of the ranges
-    for table in (THIRDS, EDGES, [(0, 0), (1, 0)], [(-10000, 5), (80000, -5)]):
+    for table in (THIRDS, UNEVEN, EDGES, [(0, 0), (1, 0)], [(-10000, 5), (80000, -5)]):
         r.table(table)
         r.judge()
         r.seek(*[x for x in around(table) if table[0][0] <= x <= table[-1][0]])
