@@ -29,6 +29,7 @@ awk '
         if (a / b > 1.2) over++
     }
     $1 == "mark" { count[$2] = $3; next }
+    $1 == "end" { next }
     { k = 4 * $2; name = $0; sub(/^[a-z]+ [0-9]+ [0-9]+ /, "", name) }
     $1 == "row" { line(name, count[k + 1] / $3, count[k + 3] / $3) }
     $1 == "more" { line(name, (count[k + 1] - count[k - 3]) / $3, (count[k + 3] - count[k - 1]) / $3) }

@@ -1,5 +1,5 @@
 #!/usr/bin/env bash
-# command.sh: drives ./torfbarke the way a person would: every way to hand over a trace, every fault of a line, wrong calls, a full
+# command.sh: drives ./torfbarke the way a person would: every way to hand over a trace or a script, every fault of a line, wrong calls, a full
 # disk, a first call that builds, calls at the same time. Where TORFBARKE_PROGRAMS names a folder with the programs they are taken
 # from there; otherwise the first call proves and builds them. Expected answers are those of the page's own example.
 set -eu
@@ -128,6 +128,50 @@ call "$tb" replay "$work/most.txt"; try '9,998 lines' 0 '*' ''
 yes 'I 1 0 12000 0000 00' | head -n 20000 >"$work/more.txt"
 call "$tb" replay "$work/more.txt"; try 'too many lines' 1 '*' 'at most 9,998'
 [ "$(tail -n 1 "$work/out")" = '? 9999' ] || wrong 'too many lines: no mark'
+
+# scripts: the ways to hand one over, the answers of the lines written out, and what is wrong with a line, in words
+printf '( 002\n%s( 003\nI 1 0 12000 0000 00\n)\n)\n' "$page" >"$work/script.txt"
+again=$answers'N -- 80
+N -- 80
+N -- 80
+'
+# the second round finds 5AH held: its program leaves it
+call "$tb" script "$work/script.txt"; try 'a script' 0 "$again$again" ''
+call "$tb" script <"$work/script.txt"; try 'a script from standard input' 0 "$again$again" ''
+call "$tb" script "$work/page.txt"; try 'a trace as a script' 0 "$answers" ''
+call "$tb" script "$work/empty"; try 'an empty script' 0 '' ''
+call "$tb" script --sample; try 'the sample script' 0 '*' ''
+call "$tb" script --words "$work/script.txt"; try 'a script in words' 0 '*' ''
+[ "$(wc -l <"$work/out")" = 22 ] || wrong 'a script in words: not a line for each'
+grep -q '^  17  R 1 0 12000 0010 00  D 5A 80 .*gave 5A; ready' "$work/out" || wrong 'a script in words: the second round is not told'
+call "$tb" script --help; try 'script --help' 0 '*' ''
+call "$tb" script "$work/nowhere"; try 'no such script' 2 '' 'there is no file'
+call "$tb" script "$work/page.txt" "$work/page.txt"; try 'two scripts' 2 '' 'one script'
+call "$tb" script --sample "$work/page.txt"; try 'a script and the sample' 2 '' 'not both'
+call "$tb" script "$root/samples/open-group.txt"; try 'the sample of an open group' 1 '? 0004
+' 'the group that line 2 opens is not closed'
+fault() { # fault NAME LINE WORDS BYTES
+    printf '%b' "$4" >"$work/bad.txt"
+    call "$tb" script "$work/bad.txt"; try "$1" 1 "? $2
+" "$3"
+}
+idle='I 1 0 12000 0000 00\n'
+fault 'a bad line in a group' 0002 "column 14 has 'a', a small letter" '( 002\nR 1 0 12000 0a10 00\n)\n'
+fault 'an empty group' 0003 'the group that line 2 opens is empty' "$idle( 002\n)\n"
+fault 'a closing line too many' 0002 'none is open' "$idle)\n"
+fault 'a count of 000' 0001 'not 000' "( 000\n$idle)\n"
+fault 'a count of two digits' 0001 'three digits' "( 12\n$idle)\n"
+fault 'more behind a closing line' 0003 'alone on its line' "( 002\n$idle) 2\n"
+fault 'a closing line without its newline' 0003 'no newline' "( 002\n$idle)"
+fault 'an opening line without its newline' 0001 'no newline' '( 002'
+fault 'a carriage return behind a count' 0001 'carriage return' "( 002\r\n$idle)\n"
+fault 'a ninth level' 0009 'ninth level' '( 001\n( 001\n( 001\n( 001\n( 001\n( 001\n( 001\n( 001\n( 001\n'
+fault 'too many written out' 0003 'more than 9,998 lines' "( 999\n( 999\n$idle)\n)\n"
+head -n 3000 "$work/most.txt" >"$work/long.txt"
+call "$tb" script "$work/long.txt"; try 'a script of 3,000 lines' 0 '*' ''
+head -n 3500 "$work/most.txt" >"$work/long.txt"
+call "$tb" script "$work/long.txt"; try 'a script of 3,500 lines' 1 '? 3001
+' 'at most 3,000 lines'
 
 # readings and tables: the table of three knots that the help shows, and that of type K
 three='0 0

@@ -1,0 +1,12 @@
+pub mod Turns
+pub mod Reading
+pub mod Exact
+pub mod Once
+pub mod Starts
+pub mod Fault
+pub mod Only
+pub mod Reader
+pub mod Cuts
+pub mod Ends
+pub mod Claims
+pub mod Unique

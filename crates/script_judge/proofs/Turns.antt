@@ -1,0 +1,87 @@
+-- What each line does to the judge. Assumes nothing.
+use mathlib.Core.Path.{_≡_, refl, sym, ap, _∙_}
+use mathlib.Core.Bool.{Bool, true, false}
+use mathlib.Core.List.{List, [], _∷_}
+use Prim.Native.Nat.{ℕ, zero, suc, _+_, _-_, _*_, _≤_, _<_}
+use native.Mathlib.Omega.{arith}
+use lib.Dec.{eqb}
+use lib.ListN.{length, drop}
+use borrow.Author.Tests.{lt-ltb, le-ltb, le-leb, lt-leb, ne-eqb}
+use Rattle.common.specs.Choice.{if_then_else_}
+use Rattle.common.proofs.Choice.{unlike}
+use Rattle.script_lines.specs.declared.Word.{Word}
+use Rattle.script_lines.specs.declared.Word.the-variants.{Ends, Bad, Traced, Opens, Closes}
+use Rattle.script_lines.specs.Words.{wordIn, isCloses, isEnds}
+use Rattle.script_lines.proofs.Forms.{word-traced, word-closes, word-opens}
+use Rattle.script_judge.specs.declared.Judged.{Judged}
+use Rattle.script_judge.specs.Judges.{faultAs, fineAs, follow, endOf, closeOf, capped, lineTurn, judge}
+
+-- one turn, at any number of lines left
+pub turn : (n ℓ : ℕ) (K : List ℕ) (p : ℕ) (e : Bool) (t : ℕ) (text : List ℕ) (w : Word) → wordIn n text ≡ w
+    → judge n ℓ K p e t text ≡ follow (lineTurn w ℓ K p e t) (λ K′ p′ e′ t′ u. if eqb n 0 then faultAs ℓ else judge (n - 1) (ℓ + 1) K′ p′ e′ t′ (drop u text))
+unfolding judge
+turn zero ℓ K p e t text w h = ap (λ (v : Word). follow (lineTurn v ℓ K p e t) (λ K′ p′ e′ t′ u. faultAs ℓ)) h
+turn (suc n) ℓ K p e t text w h = let k : suc n - 1 ≡ n = omega arith in simp (k, ne-eqb (suc n) 0 (λ z. omega arith)) (ap (λ (v : Word). follow (lineTurn v ℓ K p e t) (λ K′ p′ e′ t′ u. judge n (ℓ + 1) K′ p′ e′ t′ (drop u text))) h)
+
+-- ---- the judge by the line at hand
+more : (n ℓ : ℕ) (r : Judged) → 1 ≤ n → (if eqb n 0 then faultAs ℓ else r) ≡ r
+more zero ℓ r h = absurd (omega arith)
+more (suc n) ℓ r h = simp (ne-eqb (suc n) 0 (λ z. omega arith))
+
+module _ (n ℓ : ℕ) (K : List ℕ) (p : ℕ) (t : ℕ) (text : List ℕ) where
+  pub j-bad : (e : Bool) → wordIn n text ≡ Bad → judge n ℓ K p e t text ≡ faultAs ℓ
+  j-bad e h = turn n ℓ K p e t text Bad h
+
+  pub j-ends : wordIn n text ≡ Ends → judge n ℓ K p true t text ≡ faultAs ℓ
+  j-ends h = turn n ℓ K p true t text Ends h ∙ by K where
+    by : (K : List ℕ) → endOf ℓ K true t ≡ faultAs ℓ
+    by [] = refl
+    by (q ∷ K) = refl
+
+  pub j-close-true : wordIn n text ≡ Closes → judge n ℓ K p true t text ≡ faultAs ℓ
+  j-close-true h = turn n ℓ K p true t text Closes h ∙ by K (λ K′ p′ e′ t′ u. if eqb n 0 then faultAs ℓ else judge (n - 1) (ℓ + 1) K′ p′ e′ t′ (drop u text)) where
+    by : (K : List ℕ) (f : List ℕ → ℕ → Bool → ℕ → ℕ → Judged) → follow (closeOf K ℓ true t) f ≡ faultAs ℓ
+    by [] f = refl
+    by (q ∷ K) f = refl
+
+  pub j-traced-over : (e : Bool) → wordIn n text ≡ Traced → 9998 < t + p → judge n ℓ K p e t text ≡ faultAs ℓ
+  j-traced-over e h l = turn n ℓ K p e t text Traced h ∙ simp (lt-ltb 9998 (t + p) l)
+
+  pub j-traced : (e : Bool) → wordIn n text ≡ Traced → t + p ≤ 9998 → judge n ℓ K p e t text ≡ judge (n - 1) (ℓ + 1) K p false (t + p) (drop 20 text)
+  j-traced e h l = turn n ℓ K p e t text Traced h ∙ simp (le-ltb 9998 (t + p) l) (more n ℓ (judge (n - 1) (ℓ + 1) K p false (t + p) (drop 20 text)) (word-traced n text h .0))
+
+  pub j-open-deep : (e : Bool) (m : ℕ) → wordIn n text ≡ Opens m → 8 ≤ length K → judge n ℓ K p e t text ≡ faultAs ℓ
+  j-open-deep e m h l = turn n ℓ K p e t text (Opens m) h ∙ simp (le-leb 8 (length K) l)
+
+  pub j-open : (e : Bool) (m : ℕ) → wordIn n text ≡ Opens m → length K < 8 → judge n ℓ K p e t text ≡ judge (n - 1) (ℓ + 1) (p ∷ K) (capped (p * m)) true t (drop 6 text)
+  j-open e m h l = turn n ℓ K p e t text (Opens m) h ∙ simp (lt-leb 8 (length K) l) (more n ℓ (judge (n - 1) (ℓ + 1) (p ∷ K) (capped (p * m)) true t (drop 6 text)) (word-opens n text m h .0))
+
+  pub j-close : (q : ℕ) → wordIn n text ≡ Closes → judge n ℓ (q ∷ K) p false t text ≡ judge (n - 1) (ℓ + 1) K q false t (drop 2 text)
+  j-close q h = turn n ℓ (q ∷ K) p false t text Closes h ∙ more n ℓ (judge (n - 1) (ℓ + 1) K q false t (drop 2 text)) (word-closes n text h .0)
+
+  pub j-item : (q : ℕ) → isCloses (wordIn n text) ≡ false → judge n ℓ (q ∷ K) p false t text ≡ judge n ℓ (q ∷ K) p true t text
+  j-item q h = by (wordIn n text) refl h where
+    by : (w : Word) → wordIn n text ≡ w → isCloses w ≡ false → judge n ℓ (q ∷ K) p false t text ≡ judge n ℓ (q ∷ K) p true t text
+    by Ends e f = turn n ℓ (q ∷ K) p false t text Ends e ∙ sym (turn n ℓ (q ∷ K) p true t text Ends e)
+    by Bad e f = turn n ℓ (q ∷ K) p false t text Bad e ∙ sym (turn n ℓ (q ∷ K) p true t text Bad e)
+    by Traced e f = turn n ℓ (q ∷ K) p false t text Traced e ∙ sym (turn n ℓ (q ∷ K) p true t text Traced e)
+    by (Opens m) e f = turn n ℓ (q ∷ K) p false t text (Opens m) e ∙ sym (turn n ℓ (q ∷ K) p true t text (Opens m) e)
+    by Closes e f = absurd (unlike f)
+
+pub j-top-ends : (n ℓ p t : ℕ) (text : List ℕ) → isEnds (wordIn n text) ≡ true → judge n ℓ [] p false t text ≡ fineAs t
+j-top-ends n ℓ p t text h = by (wordIn n text) refl h where
+  by : (w : Word) → wordIn n text ≡ w → isEnds w ≡ true → judge n ℓ [] p false t text ≡ fineAs t
+  by Ends e f = turn n ℓ [] p false t text Ends e
+  by Bad e f = absurd (unlike (sym f))
+  by Traced e f = absurd (unlike (sym f))
+  by (Opens m) e f = absurd (unlike (sym f))
+  by Closes e f = absurd (unlike (sym f))
+
+pub j-top-item : (n ℓ p t : ℕ) (text : List ℕ) → isEnds (wordIn n text) ≡ false → judge n ℓ [] p false t text ≡ judge n ℓ [] p true t text
+j-top-item n ℓ p t text h = by (wordIn n text) refl h where
+  by : (w : Word) → wordIn n text ≡ w → isEnds w ≡ false → judge n ℓ [] p false t text ≡ judge n ℓ [] p true t text
+  by Ends e f = absurd (unlike f)
+  by Bad e f = turn n ℓ [] p false t text Bad e ∙ sym (turn n ℓ [] p true t text Bad e)
+  by Traced e f = turn n ℓ [] p false t text Traced e ∙ sym (turn n ℓ [] p true t text Traced e)
+  by (Opens m) e f = turn n ℓ [] p false t text (Opens m) e ∙ sym (turn n ℓ [] p true t text (Opens m) e)
+  by Closes e f = turn n ℓ [] p false t text Closes e ∙ sym (turn n ℓ [] p true t text Closes e)

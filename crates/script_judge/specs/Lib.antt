@@ -1,0 +1,4 @@
+pub mod Judges
+pub mod Reads
+pub mod Faults
+pub mod Inner

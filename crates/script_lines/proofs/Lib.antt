@@ -1,0 +1,5 @@
+pub mod Words
+pub mod Forms
+pub mod Written
+pub mod Claims
+pub mod Unique
