@@ -23,6 +23,8 @@ typedef struct {
     tb_sized (*read)(uint8_t, const uint8_t *, size_t, uint8_t *, size_t);
     uint16_t (*check)(const uint8_t *, size_t);
     uint16_t (*sums)(const uint8_t *, size_t);
+    uint8_t (*judge)(const uint8_t *, size_t);
+    tb_reading (*reading)(const uint8_t *, size_t, int32_t);
 } maker;
 
 /* The check as the library works it out: running sums from the last byte on, nothing multiplied. */
@@ -38,9 +40,9 @@ static uint16_t c_running_sums(const uint8_t *block, size_t n) {
 }
 
 static const maker proved = {tb_size, tb_block, tb_fresh, tb_cycle, tb_start, tb_step, tb_run, tb_load, tb_file_write,
-                             tb_file_read, tb_block_check, tb_block_check};
+                             tb_file_read, tb_block_check, tb_block_check, tb_table_judge, tb_table_reading};
 static const maker second = {c_size, c_block, c_fresh, c_cycle, c_start, c_step, c_run, c_load, c_file_write, c_file_read,
-                             c_block_check, c_running_sums};
+                             c_block_check, c_running_sums, c_table_judge, c_table_reading};
 
 /* What the work is done on; `ready` of a row sets it, and all of it is compared after the row. It stands at the start of a page,
  * since the C library's copies go different ways for different addresses. */
@@ -54,6 +56,7 @@ static _Alignas(4096) struct {
     tb_sized sized;
     tb_span span;
     uint32_t sum;
+    double heat;
 } at;
 
 enum { TURNS = 100 };
@@ -217,6 +220,25 @@ static void work_sums(const maker *m) {
     for (int t = 0; t < TURNS; t++)
         at.sum += m->sums(at.file, 510);
 }
+/* A table of as many knots as `size` says, some 120 microvolts apart. */
+static void ready_table(void) {
+    for (size_t i = 0; i < size; i++) {
+        uint32_t volts = (uint32_t)(-9000 + (int32_t)(i * 118 + i * 7 % 50)), tenths = (uint32_t)(i * 13 % 9000);
+        const uint8_t six[] = {(uint8_t)(volts >> 24), (uint8_t)(volts >> 16), (uint8_t)(volts >> 8), (uint8_t)volts, (uint8_t)(tenths >> 8), (uint8_t)tenths};
+        memcpy(at.payload + 6 * i, six, 6);
+    }
+}
+static void work_judge(const maker *m) {
+    for (int t = 0; t < TURNS; t++)
+        at.sum += m->judge(at.payload, 6 * size);
+}
+static void work_reading(const maker *m) {
+    for (int t = 0; t < TURNS; t++) {
+        tb_reading r = m->reading(at.payload, 6 * size, -8900 + 780 * t);
+        at.heat += r.tenths;
+        at.sum += r.answer;
+    }
+}
 static void work_check(const maker *m) {
     for (int t = 0; t < TURNS; t++)
         at.sum += m->check(at.file, 510);
@@ -258,6 +280,8 @@ static const struct {
     {"reader: eight blocks", 4040, TURNS, ready_file, work_read, NULL},
     {"check of 510 bytes", 505, TURNS, ready_file, work_check, NULL},
     {"check of 510 bytes, the C by running sums too", 505, TURNS, ready_file, work_sums, NULL},
+    {"reading: a table of 673 knots judged", 673, TURNS, ready_table, work_judge, NULL},
+    {"reading: one by a table of 673 knots", 673, TURNS, ready_table, work_reading, NULL},
 };
 
 /* A number over everything that the work left. Structs have padding, so it goes field by field. */
@@ -274,10 +298,15 @@ static uint64_t with_given(uint64_t h, tb_given g) {
         h = more(h, all[i]);
     return h;
 }
+static uint64_t heat_bits(void) {
+    uint64_t bits;
+    memcpy(&bits, &at.heat, sizeof bits);
+    return bits;
+}
 static uint64_t left(void) {
     const uint8_t *bytes = at.array;
     const uint64_t all[] = {at.answer.seen, at.answer.value, at.ran.count, at.ran.end, at.ran.address, at.sized.number,
-                            at.sized.length, at.span.first, at.span.length, at.sum};
+                            at.sized.length, at.span.first, at.span.length, at.sum, heat_bits()};
     uint64_t h = 14695981039346656037u;
     h = with_given(with_state(with_state(with_state(h, at.state), at.answer.state), at.ran.state), at.given);
     for (size_t i = 0; i < sizeof all / sizeof all[0]; i++)

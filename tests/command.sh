@@ -173,6 +173,45 @@ head -n 3500 "$work/most.txt" >"$work/long.txt"
 call "$tb" script "$work/long.txt"; try 'a script of 3,500 lines' 1 '? 3001
 ' 'at most 3,000 lines'
 
+# readings and tables: the table of three knots that the help shows, and that of type K
+three='0 0
+4096 1000
+8138 2000
+'
+printf '%s' "$three" >"$work/three.txt"
+written() { "$tb" table write "$1" <"$2"; }
+call written K "$work/three.txt"; try 'a table written' 0 '*' ''
+cp "$work/out" "$work/three.load"
+call "$tb" table print "$work/three.load" K; try 'a table printed' 0 "$three" ''
+call "$tb" read "$work/three.load" K 6138; try 'a reading' 0 '150.5
+' ''
+call "$tb" read "$work/three.load" K 8138; try 'the last knot' 0 '200.0
+' ''
+call "$tb" read "$work/three.load" K -1; try 'below' 1 'below the table, which begins at 0.0
+' ''
+call "$tb" read "$work/three.load" K 8139; try 'above' 1 'above the table, which ends at 200.0
+' ''
+call "$tb" read "$work/three.load" S 6138; try 'another letter' 1 "refused 35: the file's letter is not the one asked for
+" ''
+head -c 511 "$work/three.load" >"$work/cut.load"
+call "$tb" read "$work/cut.load" K 6138; try 'a file cut short' 1 "refused 30: the file's length is wrong
+" ''
+call "$tb" table print "$work/three.load" S; try 'a table of another letter' 1 '' 'refused 35'
+printf '0 0\n0 1\n' >"$work/flat.txt"
+call written K "$work/flat.txt"; try 'a table that does not rise' 1 '' 'refused 41'
+printf '0 0\n1 1' >"$work/open.txt"
+call written K "$work/open.txt"; try 'a last line without its end' 1 '' 'line 2'
+call written X "$work/three.txt"; try 'a letter that is none' 1 '' 'refused 32'
+python3 "$root/tests/vectors_reading.py" text K >"$work/k.txt"
+call written K "$work/k.txt"; try 'the table of type K' 0 '*' ''
+cmp -s "$work/out" "$root/crates/reading_program/data/k.load" || wrong 'the table of type K: another file'
+call "$tb" table print "$root/crates/reading_program/data/k.load" K; try 'the table of type K printed' 0 "$(cat "$work/k.txt")
+" ''
+call "$tb" read "$work/nothing" K 1; try 'no file to read' 2 '' 'there is no file'
+call "$tb" read "$work/three.load" K 1.5; try 'microvolts that are no whole number' 2 '' 'whole number'
+call "$tb" read "$work/three.load" KK 1; try 'two letters' 2 '' 'the letter'
+call "$tb" table erase; try 'no such part of a table' 2 '' 'table write or table print'
+
 # a first call, with a kit that builds at once: calls at the same time wait for one build, a failed build is told, no kit is told
 mkdir "$work/kit"
 cat >"$work/kit/rt" <<'KIT'

@@ -7,7 +7,7 @@
 void (*tell_case)(void);
 
 static uint64_t numbers[GROUPS][256], phases[256], stages[256];
-static uint64_t all_blocks, all_cycles, all_loads, all_files, all_steps;
+static uint64_t all_blocks, all_cycles, all_loads, all_files, all_steps, all_readings;
 
 void met(int group, uint8_t number) { numbers[group][number]++; }
 void met_phase(uint8_t phase) { phases[phase]++; }
@@ -17,11 +17,12 @@ void count_cycle(void) { all_cycles++; }
 void count_load(void) { all_loads++; }
 void count_file(void) { all_files++; }
 void count_step(void) { all_steps++; }
+void count_reading(void) { all_readings++; }
 
 static void counts(void) {
-    printf("%llu blocks of parts, %llu cycles, %llu loads, %llu files, %llu steps", (unsigned long long)all_blocks,
+    printf("%llu blocks of parts, %llu cycles, %llu loads, %llu files, %llu steps, %llu readings", (unsigned long long)all_blocks,
            (unsigned long long)all_cycles, (unsigned long long)all_loads, (unsigned long long)all_files,
-           (unsigned long long)all_steps);
+           (unsigned long long)all_steps, (unsigned long long)all_readings);
 }
 
 void mismatch(const char *what) {
@@ -46,6 +47,8 @@ static const struct {
     [IN_LOAD] = {"load", {0, 1, 2, 3, 4, 10, 11, 12, 21, 23, 24, 30, 31, 32, 33, 34, 35}, 17},
     [IN_WRITE] = {"write", {0, 32, 36, 37}, 4},
     [IN_READ] = {"read", {0, 30, 31, 32, 33, 34, 35, 37}, 8},
+    [IN_TABLE] = {"table", {0, 40, 41}, 3},
+    [IN_READING] = {"reading", {0, 31, 35, 37, 40, 41}, 6},
 };
 
 static int missing;

@@ -27,7 +27,7 @@ uint8_t *lib_of(twin *); /* what is handed over: sometimes null where the length
 uint8_t *ref_of(twin *);
 
 /* The account. A call is compared by its answer and by every byte that it was lent. */
-enum { IN_CYCLE, IN_START, IN_STEP, IN_RUN, IN_LOAD, IN_WRITE, IN_READ, GROUPS };
+enum { IN_CYCLE, IN_START, IN_STEP, IN_RUN, IN_LOAD, IN_WRITE, IN_READ, IN_TABLE, IN_READING, GROUPS };
 void met(int group, uint8_t number);
 void met_phase(uint8_t phase);
 void met_stage(uint8_t stage);
@@ -36,6 +36,7 @@ void count_cycle(void);
 void count_load(void);
 void count_file(void);
 void count_step(void);
+void count_reading(void);
 void untouched(bool refused, const char *what, twin **, size_t); /* between the two calls: a refusal changed nothing */
 void alike(bool answers, const char *what, twin **, size_t);     /* after both calls */
 _Noreturn void mismatch(const char *what);
@@ -55,6 +56,7 @@ void stack(bool verbose);
 void cycles(uint32_t walks, uint32_t scattered);
 void loads(uint32_t n);
 void files(uint32_t n);
+void readings(uint32_t n);
 void steps(uint32_t fed, uint32_t forged);
 void endless(void); /* polls that never get ready */
 

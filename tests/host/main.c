@@ -25,6 +25,7 @@ int main(int argc, char **argv) {
         cycles(125, 2000);
         steps(20, 3000);
         loads(100);
+        readings(500);
     }
     endless();
     return closing(seed, verbose);

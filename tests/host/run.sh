@@ -1,6 +1,6 @@
 #!/usr/bin/env bash
 # run.sh [-v] [SEED]: compiles the header as each language that it is for; holds the library against a second implementation in C
-# on random cases; then breaks that second implementation in twelve ways, one at a time, and looks whether each is noticed.
+# on random cases; then breaks that second implementation in twenty-one ways, one at a time, and looks whether each is noticed.
 # -v prints what was met, and how often.
 set -eu
 here=$(dirname -- "$(readlink -f -- "$0")")
@@ -81,7 +81,11 @@ slips='1:a program stores its data without AND
 14:an erase counts on while it is being suspended
 15:SR.6 is not yet set on the last cycle of a suspend
 16:B0H at rest is refused
-17:S over 100 is let in'
+17:S over 100 is let in
+18:tenths of a degree are taken as unsigned
+19:microvolts may stay from knot to knot
+20:the last knot is above the table
+21:a reading divides before it multiplies'
 noticed=0
 while IFS=: read -r number slip; do
     build "$out/broken" "$number"
@@ -92,4 +96,4 @@ while IFS=: read -r number slip; do
     noticed=$((noticed + 1))
     printf 'noticed: %s\n' "$slip"
 done <<<"$slips"
-printf 'tests from C: no mismatch, and %s of 17 slips noticed\n' "$noticed"
+printf 'tests from C: no mismatch, and %s of 21 slips noticed\n' "$noticed"

@@ -29,5 +29,8 @@ tb_ran c_load(tb_device, tb_state, uint8_t rp, uint32_t vpp, uint8_t block, uint
 tb_sized c_file_write(uint8_t letter, const uint8_t *payload, size_t, uint8_t *file, size_t);
 tb_sized c_file_read(uint8_t letter, const uint8_t *file, size_t, uint8_t *payload, size_t);
 uint16_t c_block_check(const uint8_t *block, size_t);
+uint8_t c_table_judge(const uint8_t *payload, size_t);
+tb_reading c_table_reading(const uint8_t *payload, size_t, int32_t microvolts);
+tb_reading c_file_reading(uint8_t letter, const uint8_t *file, size_t, uint8_t *room, size_t, int32_t microvolts);
 
 #endif

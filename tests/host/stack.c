@@ -50,6 +50,10 @@ static void write(void) { byte = tb_file_write('K', payload, sizeof payload, fil
 static void write_short(void) { byte = tb_file_write('K', payload, 100, file, sizeof file).number; }
 static void read(void) { byte = tb_file_read('K', file, sizeof file, payload, sizeof payload).number; }
 static void check(void) { byte = (uint8_t)tb_block_check(file, sizeof file); }
+static void reading(void) {
+    byte = (uint8_t)(tb_table_judge(payload, 600) + tb_table_reading(payload, 600, 5).answer);
+    byte = (uint8_t)(byte + tb_file_reading('K', file, sizeof file, payload, sizeof payload, 5).answer);
+}
 static void part(void) { byte = (uint8_t)(tb_size(3) + tb_block(3, 1).first + tb_fresh().status); }
 
 static size_t most;
@@ -80,7 +84,7 @@ static void steps_of_a_load(void) {
 }
 
 void stack(bool verbose) {
-    void (*const calls[])(void) = {part, write, read, check, write_short, run, load};
+    void (*const calls[])(void) = {part, write, read, check, reading, write_short, run, load};
     size_t none = used_by(nothing);
     cycles_of_an_erase();
     steps_of_a_load();

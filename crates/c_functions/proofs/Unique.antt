@@ -10,7 +10,10 @@ use Rattle.file_check.specs.Check.{checkOf}
 use Rattle.c_cycle.specs.Values.{stateOut}
 use Rattle.c_records.specs.declared.BlockNumbers.{BlockNumbers}
 use Rattle.c_functions.specs.Geometry.{sizeGiven, blockGiven}
-use Rattle.c_functions.specs.Calls.{cycled, arrayCycled, started, steppedOf, scratchStepped, runOf, arrayRun, scratchRun, loadOf, arrayLoad, wantedLoad, scratchLoad, writtenOf, fileLeft, fileRead, payloadLeft}
+use Rattle.c_functions.specs.Calls.{cycled, arrayCycled, started, steppedOf, scratchStepped, runOf, arrayRun, scratchRun, loadOf, arrayLoad, wantedLoad, scratchLoad, writtenOf, fileLeft, fileRead, payloadLeft, readingGiven, readingRead}
+use Rattle.c_readings.specs.declared.ReadingNumbers.{ReadingNumbers}
+use Rattle.reading_table.specs.Table.{tableNumber}
+use lib.IntN.{ℤ}
 use Rattle.c_cycle.specs.declared.DeviceNumbers.{DeviceNumbers}
 use Rattle.c_cycle.specs.declared.StateNumbers.{StateNumbers}
 use Rattle.c_cycle.specs.declared.BusNumbers.{BusNumbers}
@@ -90,3 +93,12 @@ read-payload-unique f asked out = only (payloadLeft f asked out)
 
 pub check-unique : (block : List ℕ) → Unique (λ (r : ℕ). r ≡ checkOf (take 510 block))
 check-unique block = only (checkOf (take 510 block))
+
+pub table-judge-unique : (p : List ℕ) → Unique (λ (r : ℕ). r ≡ tableNumber p)
+table-judge-unique p = only (tableNumber p)
+
+pub reading-unique : (p : List ℕ) (x : ℤ) → Unique (λ (r : ReadingNumbers). r ≡ readingGiven p x)
+reading-unique p x = only (readingGiven p x)
+
+pub reading-file-unique : (f : List ℕ) (asked : ℕ) (room : List ℕ) (x : ℤ) → Unique (λ (r : ReadingNumbers). r ≡ readingRead f asked room x)
+reading-file-unique f asked room x = only (readingRead f asked room x)

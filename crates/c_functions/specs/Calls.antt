@@ -2,6 +2,7 @@
 use mathlib.Core.List.{List}
 use Prim.Native.Nat.{ℕ}
 use lib.ListN.{length}
+use lib.IntN.{ℤ}
 use Rattle.model.specs.Arrays.{answerOf, arrayAfter}
 use Rattle.loader_steps.specs.Front.{startGiven, stepGiven, scratchAfter}
 use Rattle.loader_run.specs.declared.Ran.{Ran}
@@ -19,6 +20,9 @@ use Rattle.c_records.specs.declared.LoaderNumbers.{LoaderNumbers}
 use Rattle.c_records.specs.declared.GivenNumbers.{GivenNumbers}
 use Rattle.c_records.specs.declared.RanNumbers.{RanNumbers}
 use Rattle.c_records.specs.declared.SizedNumbers.{SizedNumbers}
+use Rattle.c_readings.specs.declared.ReadingNumbers.{ReadingNumbers}
+use Rattle.c_readings.specs.Readings.{readingOut, answerNumbers}
+use Rattle.reading.specs.Readings.{readingOf, answerAs}
 
 -- a bus cycle: the answer, and the array
 unfoldable pub cycled : DeviceNumbers → StateNumbers → BusNumbers → List ℕ → List ℕ → AnswerNumbers
@@ -82,3 +86,10 @@ fileRead f asked out = readOut (readAs (inRoom (length out) (readerOf limit f as
 
 unfoldable pub payloadLeft : List ℕ → ℕ → List ℕ → List ℕ
 payloadLeft f asked out = leftIn out (inRoom (length out) (readerOf limit f asked))
+
+-- a reading: by a payload, and straight from a file
+unfoldable pub readingGiven : List ℕ → ℤ → ReadingNumbers
+readingGiven p x = readingOut (readingOf p x)
+
+unfoldable pub readingRead : List ℕ → ℕ → List ℕ → ℤ → ReadingNumbers
+readingRead f asked room x = answerNumbers (answerAs x (inRoom (length room) (readerOf limit f asked)))

@@ -4,6 +4,7 @@ use c_cycle::AnswerNumbers;
 use c_cycle::BusNumbers;
 use c_cycle::DeviceNumbers;
 use c_cycle::StateNumbers;
+use c_readings::ReadingNumbers;
 use c_records::BlockNumbers;
 use c_records::GivenNumbers;
 use c_records::LoaderNumbers;
@@ -16,8 +17,9 @@ ghost use lib.ListN.{take};
 ghost use Rattle.model_types.specs.States.{freshState};
 ghost use Rattle.file_check.specs.Check.{checkOf};
 ghost use Rattle.c_cycle.specs.Values.{stateOut};
+ghost use Rattle.reading_table.specs.Table.{tableNumber};
 ghost use Rattle.c_functions.specs.Geometry.{sizeGiven, blockGiven};
-ghost use Rattle.c_functions.specs.Calls.{cycled, arrayCycled, started, steppedOf, scratchStepped, runOf, arrayRun, scratchRun, loadOf, arrayLoad, wantedLoad, scratchLoad, writtenOf, fileLeft, fileRead, payloadLeft};
+ghost use Rattle.c_functions.specs.Calls.{cycled, arrayCycled, started, steppedOf, scratchStepped, runOf, arrayRun, scratchRun, loadOf, arrayLoad, wantedLoad, scratchLoad, writtenOf, fileLeft, fileRead, payloadLeft, readingGiven, readingRead};
 
 // A fresh device.
 #[no_mangle]
@@ -216,4 +218,36 @@ pub extern "C" fn tb_block_check(block: &[u8]) -> u16
     ensures { λ r. ⌜ r ≡ checkOf (take 510 (now (block .entry))) ⌝ }
 {
     file_check::check(block)
+}
+
+// A payload judged as a table of knots: 0, 40 or 41.
+#[no_mangle]
+pub extern "C" fn tb_table_judge(payload: &[u8]) -> u8
+    ensures { λ r. ⌜ r ≡ tableNumber (now (payload .entry)) ⌝ }
+{
+    reading_table::judge_table(payload)
+}
+
+// The reading at a voltage by a payload that was judged.
+#[no_mangle]
+pub extern "C" fn tb_table_reading(payload: &[u8], microvolts: i32) -> ReadingNumbers
+    ensures { λ r. ⌜ r ≡ readingGiven (now (payload .entry)) microvolts ⌝ }
+{
+    let given = reading::reading_at(payload, microvolts);
+    c_readings::reading_out(given)
+}
+
+// The reading at a voltage straight from a file, for the letter asked; the payload goes into the front of room.
+#[no_mangle]
+pub extern "C" fn tb_file_reading(
+    letter: u8,
+    file: &[u8],
+    room: &mut [u8],
+    microvolts: i32,
+) -> ReadingNumbers
+    ensures { λ r. ⌜ r ≡ readingRead (now (file .entry)) letter (now (room .entry)) microvolts ⌝ }
+    ensures { λ _. ⌜ now (room .exit) ≡ payloadLeft (now (file .entry)) letter (now (room .entry)) ⌝ }
+{
+    let answer = reading::reading_from_file(file, letter, room, microvolts);
+    c_readings::answer_numbers(answer)
 }

@@ -1,0 +1,29 @@
+use mathlib.Core.Path.{ap, _∙_}
+use lib.IntN.{ℤ}
+use denote.Ref.{now}
+use mir.Syntax.{w32}
+use mir.ValLaws.{toZ-ofZ}
+use Rattle.reading.specs.declared.Reading.{Reading}
+use Rattle.reading.specs.Readings.{readingOf}
+use Rattle.c_readings.specs.Readings.{readingOut}
+use borrow.Author.Needs.{needs}
+use Rattle.c_functions.specs.Calls.{readingGiven}
+use Rattle.c_functions.proofs.tb_table_reading.Statement.{statement}
+use Rattle.c_functions.proofs.tb_table_reading.Tie as tie
+
+reading-at-requires : tie.Need-reading-at-requires
+reading-at-requires c κs = search needs
+
+reading-out-requires : tie.Need-reading-out-requires
+reading-out-requires c κs = search needs
+
+returns : tie.Need-returns
+unfolding readingGiven
+returns c =
+    let s = c .before .before .before in
+    let a = s .args in
+    c .reading-out .ensures ∙ ap (λ (x : Reading). readingOut x) (c .before .reading-at .ensures)
+    ∙ ap (λ (z : ℤ). readingOut (readingOf (now (a .payload)) z)) (toZ-ofZ w32 (a .microvolts) (s .fits .microvolts))
+
+pub tb-table-reading-spec : {M : Type 1} → statement M
+tb-table-reading-spec = tie.close (tie.spec reading-at-requires reading-out-requires returns)

@@ -1,0 +1,21 @@
+-- Two results that a promise of this crate allows are equal, and so is what it leaves in the room lent. Assumes nothing.
+use mathlib.Core.Path.{_≡_}
+use mathlib.Core.List.{List}
+use Prim.Native.Nat.{ℕ}
+use lib.IntN.{ℤ}
+use lib.ListN.{length}
+use Rattle.common.specs.Choice.{Unique}
+use Rattle.common.proofs.Choice.{only}
+use Rattle.file_codec.specs.File.{limit, readerOf, inRoom, leftIn}
+use Rattle.reading.specs.declared.Reading.{Reading}
+use Rattle.reading.specs.declared.ReadingAnswer.{ReadingAnswer}
+use Rattle.reading.specs.Readings.{readingOf, answerAs}
+
+pub reading-at-unique : (p : List ℕ) (x : ℤ) → Unique (λ (r : Reading). r ≡ readingOf p x)
+reading-at-unique p x = only (readingOf p x)
+
+pub reading-from-file-unique : (f : List ℕ) (letter : ℕ) (room : List ℕ) (x : ℤ) → Unique (λ (r : ReadingAnswer). r ≡ answerAs x (inRoom (length room) (readerOf limit f letter)))
+reading-from-file-unique f letter room x = only (answerAs x (inRoom (length room) (readerOf limit f letter)))
+
+pub reading-from-file-left-unique : (f : List ℕ) (letter : ℕ) (room : List ℕ) → Unique (λ (left : List ℕ). left ≡ leftIn room (inRoom (length room) (readerOf limit f letter)))
+reading-from-file-left-unique f letter room = only (leftIn room (inRoom (length room) (readerOf limit f letter)))

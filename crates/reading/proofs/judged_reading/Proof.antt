@@ -1,0 +1,28 @@
+use mathlib.Core.Path.{ap, _∙_}
+use denote.Ref.{now}
+use mir.Syntax.{w32}
+use mir.ValLaws.{toZ-ofZ}
+use borrow.Author.Tests.{eq-eqb, ne-eqb}
+use Rattle.reading.specs.declared.ReadingAnswer.the-variants.{Read}
+use Rattle.reading.specs.Readings.{readingOf, tableAnswer}
+use borrow.Author.Needs.{needs}
+use Rattle.reading.proofs.judged_reading.Statement.{statement}
+use Rattle.reading.proofs.judged_reading.Tie as tie
+
+judge-table-requires : tie.Need-judge-table-requires
+judge-table-requires c κs = search needs
+
+returns : tie.Need-returns
+unfolding tableAnswer
+returns c = simp (← c .before .judge-table .ensures, ne-eqb _ _ (c .if1 .taken))
+
+reading-at-requires : tie.Need-reading-at-requires
+reading-at-requires c κs = search needs
+
+returns-2 : tie.Need-returns-2
+unfolding tableAnswer
+returns-2 c = let a = c .before .before .before .before in simp (← c .before .before .judge-table .ensures, eq-eqb _ _ (c .before .if1 .left)) (ap Read (c .reading-at .ensures ∙ ap (readingOf (now (a .args .payload))) (toZ-ofZ w32 (a .args .x) (a .fits .x))))
+
+pub judged-reading-spec : {M : Type 1} → statement M
+judged-reading-spec =
+    tie.close (tie.spec judge-table-requires returns reading-at-requires returns-2)

@@ -1,0 +1,119 @@
+// A probe's voltage becomes a temperature: by a payload, and straight from a file. Each public function takes any input.
+use file_codec::ReadBack;
+use reading_pair::Pair;
+ghost use mathlib.Core.Path.{_≡_};
+ghost use Prim.Native.Nat.{_+_, _-_, _/_, _<_};
+ghost use lib.ListN.{length};
+ghost use lib.Signed.{ltZ};
+ghost use lib.Ieee.{ofInt, binary64};
+ghost use Rattle.file_codec.specs.File.{limit, readerOf, inRoom, leftIn};
+ghost use Rattle.reading_table.specs.Table.{voltsOf};
+ghost use Rattle.reading.specs.Readings.{heatOf, pairAt, readingOf, tableAnswer, answerAs};
+
+// A temperature in tenths of a degree; or the voltage is below or above the table, with the end knot's temperature.
+pub enum Reading {
+    Temperature(f64),
+    Below(f64),
+    Above(f64),
+}
+
+// A reading, or the refusal.
+pub enum ReadingAnswer {
+    Read(Reading),
+    Refused(u8),
+}
+
+// The voltage as f64.
+fn wide(x: i32) -> f64
+    ensures { λ r. ⌜ r ≡ ofInt binary64 x ⌝ }
+{
+    x as f64
+}
+
+// Knot i's temperature.
+fn heat(s: &[u8], i: usize) -> f64
+    ensures { λ r. ⌜ r ≡ heatOf (now (s .entry)) i ⌝ }
+{
+    let t = reading_table::tenths(s, i);
+    t as f64
+}
+
+// x is less than knot i's microvolts, and more.
+fn under(s: &[u8], i: usize, x: i32) -> bool
+    ensures { λ r. ⌜ r ≡ ltZ x (voltsOf (now (s .entry)) i) ⌝ }
+{
+    let v = reading_table::volts(s, i);
+    x < v
+}
+
+fn over(s: &[u8], i: usize, x: i32) -> bool
+    ensures { λ r. ⌜ r ≡ ltZ (voltsOf (now (s .entry)) i) x ⌝ }
+{
+    let v = reading_table::volts(s, i);
+    v < x
+}
+
+// Knots i and i + 1.
+fn pair_at(s: &[u8], i: usize) -> Pair
+    requires { ⌜ i + 1 < length (now s) / 6 ⌝ }
+    ensures { λ r. ⌜ r ≡ pairAt (now (s .entry)) i ⌝ }
+{
+    let x0 = reading_table::volts(s, i);
+    let t0 = reading_table::tenths(s, i);
+    let x1 = reading_table::volts(s, i + 1);
+    let t1 = reading_table::tenths(s, i + 1);
+    reading_pair::pair_of(x0, t0, x1, t1)
+}
+
+// The last knot, the first where there is none.
+fn last_of(n: usize) -> usize
+    ensures { λ r. ⌜ r ≡ n - 1 ⌝ }
+{
+    if n < 1 {
+        return 0;
+    }
+    n - 1
+}
+
+// The reading at x by a payload that was judged. It takes any other too; fewer than two knots are read as a knot alone.
+pub fn reading_at(payload: &[u8], x: i32) -> Reading
+    ensures { λ r. ⌜ r ≡ readingOf (now (payload .entry)) x ⌝ }
+{
+    let n = payload.len() / 6;
+    let last = last_of(n);
+    if under(payload, 0, x) {
+        return Reading::Below(heat(payload, 0));
+    }
+    if over(payload, last, x) {
+        return Reading::Above(heat(payload, last));
+    }
+    if n < 2 {
+        return Reading::Temperature(heat(payload, 0));
+    }
+    let i = reading_table::seek(payload, x);
+    let p = pair_at(payload, i);
+    Reading::Temperature(reading_pair::interpolate(p, wide(x)))
+}
+
+// A payload is judged, then read.
+fn judged_reading(payload: &[u8], x: i32) -> ReadingAnswer
+    ensures { λ r. ⌜ r ≡ tableAnswer (now (payload .entry)) x ⌝ }
+{
+    let n = reading_table::judge_table(payload);
+    if n != 0 {
+        return ReadingAnswer::Refused(n);
+    }
+    ReadingAnswer::Read(reading_at(payload, x))
+}
+
+// The reading at x straight from a file: the reader for the letter asked, into the front of room, then the table.
+pub fn reading_from_file(file: &[u8], letter: u8, room: &mut [u8], x: i32) -> ReadingAnswer
+    ensures { λ r. ⌜ r ≡ answerAs x (inRoom (length (now (room .entry))) (readerOf limit (now (file .entry)) letter)) ⌝ }
+    ensures { λ _. ⌜ now (room .exit) ≡ leftIn (now (room .entry)) (inRoom (length (now (room .entry))) (readerOf limit (now (file .entry)) letter)) ⌝ }
+{
+    let got = file_codec::read(file, letter, room);
+    match got {
+        ReadBack::NotRead(n) => ReadingAnswer::Refused(n),
+        ReadBack::Gave(size) => judged_reading(&room[0..size], x),
+    }
+}

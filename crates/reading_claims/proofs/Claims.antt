@@ -1,0 +1,127 @@
+-- What is claimed of readings, in one place. Assumes nothing.
+use mathlib.Core.Path.{_≡_}
+use mathlib.Core.List.{List, [], _++_}
+use mathlib.Core.Logic.{_↔_}
+use Prim.Native.Nat.{ℕ, _+_, _-_, _≤_, _<_, _^_}
+use native.Mathlib.Nat.{le-trans}
+use lib.Dec.{T, lit≤}
+use lib.IntN.{ℤ}
+use lib.ListN.{length, getD, drop}
+use lib.Signed.{leZ, ltZ}
+use lib.Ieee.{Float, binary64, ofInt, le}
+use lib.Ieee.Scale.{finite}
+use Rattle.common.specs.Numbers.{Foremost, NoRow}
+use Rattle.file_codec.specs.File.{limit, made, readerOf, writerOf}
+use Rattle.reading_pair.specs.Pairs.{interpolated}
+use Rattle.reading_pair.specs.Order.{Lies, notMinusZero}
+use Rattle.reading_table.specs.Table.{knots, mostKnots, voltsOf, tenthsOf, tableNumber}
+use Rattle.reading_table.specs.Search.{halving, seekOf}
+use Rattle.reading_table.proofs.Seeking.{seek-few}
+use Rattle.reading.specs.declared.Reading.{Reading}
+use Rattle.reading.specs.declared.Reading.the-variants.{Temperature, Below, Above}
+use Rattle.reading.specs.declared.ReadingAnswer.the-variants.{Read, Refused}
+use Rattle.reading.specs.Readings.{heatOf, pairAt, readingOf, tableAnswer}
+use Rattle.reading_claims.specs.Tables.{Table, Holds, Inside, Warming}
+use Rattle.reading_claims.specs.Answers.{degrees, payloadIn, answerFrom, roomLeft, readerRows, answerRows}
+use Rattle.reading_claims.proofs.Judged as judged
+use Rattle.reading_claims.proofs.Held as held
+use Rattle.reading_claims.proofs.Exact as exact
+use Rattle.reading_claims.proofs.Sides as sides
+use Rattle.reading_claims.proofs.Bounds as bounds
+use Rattle.reading_claims.proofs.Warm as warm
+use Rattle.reading_claims.proofs.Files as files
+
+-- A payload is let through exactly where it is a table: whole knots, two or more, in range and strictly rising.
+pub judged-exactly : (p : List ℕ) → tableNumber p ≡ 0 ↔ Table p
+judged-exactly = judged.judged-exactly
+
+-- Between the first and the last knot the pair that is used holds the voltage, and no other pair does.
+pub pair-holds : (p : List ℕ) (x : ℤ) → Table p → Inside p x → Holds p (seekOf p x) x
+pair-holds = held.found-holds
+
+pub one-pair : (p : List ℕ) (x : ℤ) (i j : ℕ) → Table p → Holds p i x → Holds p j x → i ≡ j
+one-pair = held.one-holds
+
+-- A reading is below exactly where the voltage is under the first knot, above exactly where it is over the last, each with that
+-- knot's temperature; else it is the temperature by the pair.
+pub below-exactly : (p : List ℕ) (x : ℤ) → Table p → (r : Float) → readingOf p x ≡ Below r ↔ (T (ltZ x (voltsOf p 0)) × (r ≡ heatOf p 0))
+below-exactly = sides.below-exactly
+
+pub above-exactly : (p : List ℕ) (x : ℤ) → Table p → (r : Float) → readingOf p x ≡ Above r ↔ (T (ltZ (voltsOf p (knots p - 1)) x) × (r ≡ heatOf p (knots p - 1)))
+above-exactly = sides.above-exactly
+
+pub temperature-exactly : (p : List ℕ) (x : ℤ) → Table p → (r : Float)
+    → readingOf p x ≡ Temperature r ↔ (Inside p x × (r ≡ interpolated (pairAt p (seekOf p x)) (ofInt binary64 x)))
+temperature-exactly = sides.temperature-exactly
+
+-- Every pair is exact at both its knots, and every knot is read as its own temperature: the f64 of its whole tenths.
+pub lower-exact : (p : List ℕ) → Table p → (i : ℕ) → i + 1 < knots p → interpolated (pairAt p i) (ofInt binary64 (voltsOf p i)) ≡ heatOf p i
+lower-exact = exact.lower-exact
+
+pub upper-exact : (p : List ℕ) → Table p → (i : ℕ) → i + 1 < knots p → interpolated (pairAt p i) (ofInt binary64 (voltsOf p (i + 1))) ≡ heatOf p (i + 1)
+upper-exact = exact.upper-exact
+
+pub knot-exact : (p : List ℕ) → Table p → (j : ℕ) → j < knots p → readingOf p (voltsOf p j) ≡ Temperature (heatOf p j)
+knot-exact = exact.knot-exact
+
+-- A reading lies between the temperatures of its pair, whichever way they go, in f64's own order.
+pub lies-between : (p : List ℕ) (x : ℤ) → Table p → Inside p x → let i = seekOf p x in let r = interpolated (pairAt p i) (ofInt binary64 x) in
+    (T (leZ (tenthsOf p i) (tenthsOf p (i + 1))) → Lies (tenthsOf p i) r (tenthsOf p (i + 1))) × (T (ltZ (tenthsOf p (i + 1)) (tenthsOf p i)) → Lies (tenthsOf p (i + 1)) r (tenthsOf p i))
+lies-between = bounds.lies-inside
+
+-- Every reading of a table is finite and never the zero with a minus sign, below and above too.
+pub plain-reading : (p : List ℕ) (x : ℤ) → Table p → T (finite (degrees (readingOf p x))) × T (notMinusZero (degrees (readingOf p x)))
+plain-reading = bounds.plain-reading
+
+-- Inside a pair a reading rises with the voltage where the temperatures do, and falls where they fall.
+pub pair-rises : (p : List ℕ) → Table p → (i : ℕ) → i + 1 < knots p → (x y : ℤ) → T (leZ (voltsOf p i) x) → T (leZ x y) → T (leZ y (voltsOf p (i + 1)))
+    → T (leZ (tenthsOf p i) (tenthsOf p (i + 1))) → T (le (interpolated (pairAt p i) (ofInt binary64 x)) (interpolated (pairAt p i) (ofInt binary64 y)))
+pair-rises = warm.pair-rises
+
+pub pair-falls : (p : List ℕ) → Table p → (i : ℕ) → i + 1 < knots p → (x y : ℤ) → T (leZ (voltsOf p i) x) → T (leZ x y) → T (leZ y (voltsOf p (i + 1)))
+    → T (ltZ (tenthsOf p (i + 1)) (tenthsOf p i)) → T (le (interpolated (pairAt p i) (ofInt binary64 y)) (interpolated (pairAt p i) (ofInt binary64 x)))
+pair-falls = warm.pair-falls
+
+-- A table whose temperatures never fall from knot to knot never reads lower for more voltage, below and above it too.
+pub table-rises : (p : List ℕ) → Table p → Warming p → (x y : ℤ) → T (leZ x y) → T (le (degrees (readingOf p x)) (degrees (readingOf p y)))
+table-rises = warm.table-rises
+
+-- The search takes at most k halvings in a table of at most 2 to the k knots: ten in a file's.
+pub few-halvings : (p : List ℕ) (x : ℤ) (k : ℕ) → knots p ≤ 2 ^ k → seekOf p x ≡ halving k p x 0 (knots p - 1)
+few-halvings = seek-few
+
+pub few-knots : (f : List ℕ) (letter : ℕ) (p : List ℕ) → readerOf limit f letter ≡ made p → knots p ≤ mostKnots
+few-knots = files.few-knots
+
+pub ten-halvings : (f : List ℕ) (letter : ℕ) (p : List ℕ) (x : ℤ) → readerOf limit f letter ≡ made p → seekOf p x ≡ halving 10 p x 0 (knots p - 1)
+ten-halvings f letter p x e = seek-few p x 10 (le-trans (files.few-knots f letter p e) (lit≤ tt))
+
+-- The numbers of a reading from a file: n is given exactly where its row is the first that holds (the reader's 30, 31 to 34 block
+-- by block, 35, 37, then 40, 41), a reading exactly where no row holds.
+pub refused-exactly : (f : List ℕ) (letter : ℕ) (room : List ℕ) (x : ℤ) (n : ℕ) → (n ≡ 0 → ⊥) → answerFrom f letter room x ≡ Refused n ↔ Foremost (answerRows f letter (length room)) n
+refused-exactly = files.refused-exactly
+
+pub read-exactly : (f : List ℕ) (letter : ℕ) (room : List ℕ) (x : ℤ) (r : Reading)
+    → answerFrom f letter room x ≡ Read r ↔ (NoRow (answerRows f letter (length room)) × (r ≡ readingOf (payloadIn f) x))
+read-exactly = files.read-exactly
+
+-- A file of another letter never gives a reading; one that was written under a letter is refused 35 for every other.
+pub letter-is : (f : List ℕ) (letter : ℕ) (room : List ℕ) (x : ℤ) (r : Reading) → answerFrom f letter room x ≡ Read r → getD f 0 0 ≡ letter
+letter-is = files.letter-is
+
+pub other-letter : (letter : ℕ) (p f room : List ℕ) (x : ℤ) → writerOf limit letter p ≡ made f → (asked : ℕ) → (letter ≡ asked → ⊥)
+    → (answerFrom f asked room x ≡ Refused 35) × (roomLeft f asked room ≡ room)
+other-letter = files.written-other
+
+-- Under its own letter what was written is read as the payload itself is.
+pub own-letter : (letter : ℕ) (p f room : List ℕ) (x : ℤ) → writerOf limit letter p ≡ made f → length p ≤ length room → answerFrom f letter room x ≡ tableAnswer p x
+own-letter = files.written-reads
+
+-- A refusal of the reader leaves the room as it was; where it refuses nothing, the payload is in front and what was behind it stays.
+pub reader-leaves : (f : List ℕ) (letter : ℕ) (room : List ℕ) (n : ℕ) → Foremost (readerRows f letter (length room) []) n → (x : ℤ)
+    → (answerFrom f letter room x ≡ Refused n) × (roomLeft f letter room ≡ room)
+reader-leaves = files.reader-leaves
+
+pub table-leaves : (f : List ℕ) (letter : ℕ) (room : List ℕ) → NoRow (readerRows f letter (length room) []) → (x : ℤ)
+    → (answerFrom f letter room x ≡ tableAnswer (payloadIn f) x) × (roomLeft f letter room ≡ payloadIn f ++ drop (length (payloadIn f)) room)
+table-leaves = files.table-leaves

@@ -1,0 +1,162 @@
+-- A reading from a file: its refusals in their order, what they leave, and the letter. Assumes nothing.
+use mathlib.Core.Path.{_≡_, refl, sym, ap, _∙_}
+use mathlib.Core.Bool.{Bool, true, false, not}
+use mathlib.Core.Logic.{_↔_}
+use mathlib.Core.List.{List, [], _∷_, _++_, append-assoc}
+use Prim.Native.Nat.{ℕ, _≤_}
+use native.Mathlib.Omega.{arith}
+use lib.Dec.{eqb, ltb}
+use lib.IntN.{ℤ}
+use lib.ListN.{length, getD, drop}
+use borrow.Author.Tests.{eq-eqb, ne-eqb, eqb-true, eqb-false}
+use Rattle.common.specs.Choice.{if_then_else_}
+use Rattle.common.proofs.Choice.{if-true, if-false}
+use Rattle.common.specs.Numbers.{Row, row, given, Foremost, NoRow, numbered}
+use Rattle.common.proofs.Numbers.{given-append, given-foremost, foremost-given, given-no-row, no-row-given}
+use Rattle.file_codec.specs.File.{Outcome, refused, made, limit, lengthWrong, readerOf, writerOf, inRoom, leftIn, blocksRows, blocksIn, outcomeBy}
+use Rattle.file_codec.proofs.Tables.{blocks-append, blocks-numbered}
+use Rattle.file_codec.proofs.Outcomes.{outcome-refused, outcome-made, reader-lets, length-right, room-made}
+use Rattle.file_codec.proofs.Sizes.{sized}
+use Rattle.file_claims.specs.Tabled.{Ordered}
+use Rattle.file_claims.proofs.Claims as file-claims
+use Rattle.reading_table.specs.Table.{knots, mostKnots, tableRows, tableNumber}
+use Rattle.reading.specs.declared.Reading.{Reading}
+use Rattle.reading.specs.declared.ReadingAnswer.{ReadingAnswer}
+use Rattle.reading.specs.declared.ReadingAnswer.the-variants.{Read, Refused}
+use Rattle.reading.specs.Readings.{readingOf, tableAnswer, answerAs}
+use Rattle.reading_claims.specs.Answers.{payloadIn, answerFrom, roomLeft, readerRows, answerRows}
+
+-- an answer by a number: 0 lets the reading through
+abbrev answerBy : ℕ → Reading → ReadingAnswer
+answerBy n r = if eqb n 0 then Read r else Refused n
+
+by-refused : (n m : ℕ) (r : Reading) → answerBy n r ≡ Refused m → n ≡ m
+by-refused n m r e = go (eqb n 0) refl
+  where
+    go : (t : Bool) → eqb n 0 ≡ t → n ≡ m
+    go true q = absurd (let w : Read r ≡ Refused m = sym (if-true (eqb n 0) (Read r) (Refused n) q) ∙ e in let z : _≡_ {A = ℕ} 0 1 = cc in omega arith)
+    go false q = let w : Refused n ≡ Refused m = sym (if-false (eqb n 0) (Read r) (Refused n) q) ∙ e in cc
+
+by-read : (n : ℕ) (r s : Reading) → answerBy n r ≡ Read s → (n ≡ 0) × (s ≡ r)
+by-read n r s e = go (eqb n 0) refl
+  where
+    go : (t : Bool) → eqb n 0 ≡ t → (n ≡ 0) × (s ≡ r)
+    go true q = (eqb-true n 0 q, let w : Read r ≡ Read s = sym (if-true (eqb n 0) (Read r) (Refused n) q) ∙ e in cc)
+    go false q = absurd (let w : Refused n ≡ Read s = sym (if-false (eqb n 0) (Read r) (Refused n) q) ∙ e in let z : _≡_ {A = ℕ} 0 1 = cc in omega arith)
+
+refuses-by : (n : ℕ) (r : Reading) → (n ≡ 0 → ⊥) → answerBy n r ≡ Refused n
+refuses-by n r z = if-false (eqb n 0) (Read r) (Refused n) (ne-eqb n 0 z)
+
+reads-by : (n : ℕ) (r : Reading) → n ≡ 0 → answerBy n r ≡ Read r
+reads-by n r z = if-true (eqb n 0) (Read r) (Refused n) (eq-eqb n 0 z)
+
+module _ (f : List ℕ) (letter : ℕ) (room : List ℕ) where
+  abbrev outcome : Outcome
+  outcome = inRoom (length room) (readerOf limit f letter)
+
+  abbrev before : List Row
+  before = readerRows f letter (length room) []
+
+  order : Ordered before (payloadIn f) outcome
+  order = file-claims.reader-order limit f letter (length room)
+
+  -- no row has the number 0
+  rows-numbered : (rest : List Row) → numbered rest ≡ true → numbered (readerRows f letter (length room) rest) ≡ true
+  rows-numbered rest m = blocks-numbered (blocksIn f) (getD f 0 0) 0 (blocksIn f) f (row 35 (not (eqb (getD f 0 0) letter)) ∷ row 37 (ltb (length room) (length (payloadIn f))) ∷ rest) ∙ m
+
+  -- the table's rows stand below the reader's
+  below-reader : (rest : List Row) → readerRows f letter (length room) rest ≡ before ++ rest
+  below-reader rest =
+      ap (λ (rs : List Row). row 30 (lengthWrong limit (length f)) ∷ rs)
+      (blocks-append (blocksIn f) (getD f 0 0) 0 (blocksIn f) f (A ∷ B ∷ rest)
+      ∙ sym (append-assoc (blocksRows (blocksIn f) (getD f 0 0) 0 (blocksIn f) f []) (A ∷ B ∷ []) rest)
+      ∙ ap (λ (rs : List Row). rs ++ rest) (sym (blocks-append (blocksIn f) (getD f 0 0) 0 (blocksIn f) f (A ∷ B ∷ []))))
+    where
+      A : Row
+      A = row 35 (not (eqb (getD f 0 0) letter))
+
+      B : Row
+      B = row 37 (ltb (length room) (length (payloadIn f)))
+
+  -- the reader's outcome by its rows
+  outcome-is : outcome ≡ outcomeBy (given before) (payloadIn f)
+  outcome-is = go (eqb (given before) 0) refl
+    where
+      go : (t : Bool) → eqb (given before) 0 ≡ t → outcome ≡ outcomeBy (given before) (payloadIn f)
+      go true q =
+          let z : given before ≡ 0 = eqb-true (given before) 0 q in
+          order .lets .1 (given-no-row before (rows-numbered [] refl) z) ∙ sym (outcome-made (given before) (payloadIn f) z)
+      go false q =
+          let z : given before ≡ 0 → ⊥ = eqb-false (given before) 0 q in
+          order .refuses (given before) .1 (given-foremost before (given before) z refl) ∙ sym (outcome-refused (given before) (payloadIn f) z)
+
+  -- the answer by all rows
+  answer-is : (x : ℤ) → answerFrom f letter room x ≡ answerBy (given (answerRows f letter (length room))) (readingOf (payloadIn f) x)
+  unfolding tableAnswer tableNumber
+  answer-is x =
+      ap (answerAs x) outcome-is ∙ plain (given before) (eqb (given before) 0) refl
+      ∙ ap (λ (n : ℕ). answerBy n (readingOf (payloadIn f) x)) (sym (ap given (below-reader (tableRows (payloadIn f))) ∙ given-append before (tableRows (payloadIn f)) (rows-numbered [] refl)))
+    where
+      plain : (G : ℕ) (t : Bool) → eqb G 0 ≡ t → answerAs x (outcomeBy G (payloadIn f)) ≡ answerBy (if eqb G 0 then given (tableRows (payloadIn f)) else G) (readingOf (payloadIn f) x)
+      plain G true q = simp q
+      plain G false q = simp q
+
+  -- refused by a number exactly where its row is the first that holds, read exactly where none holds
+  pub refused-exactly : (x : ℤ) (n : ℕ) → (n ≡ 0 → ⊥) → answerFrom f letter room x ≡ Refused n ↔ Foremost (answerRows f letter (length room)) n
+  refused-exactly x n z = (
+    λ (e : answerFrom f letter room x ≡ Refused n). given-foremost (answerRows f letter (length room)) n z (by-refused (given (answerRows f letter (length room))) n (readingOf (payloadIn f) x) (sym (answer-is x) ∙ e)),
+    λ (h : Foremost (answerRows f letter (length room)) n). answer-is x ∙ ap (λ (m : ℕ). answerBy m (readingOf (payloadIn f) x)) (foremost-given h) ∙ refuses-by n (readingOf (payloadIn f) x) z,
+  )
+
+  pub read-exactly : (x : ℤ) (r : Reading) → answerFrom f letter room x ≡ Read r ↔ (NoRow (answerRows f letter (length room)) × (r ≡ readingOf (payloadIn f) x))
+  read-exactly x r = (
+    λ (e : answerFrom f letter room x ≡ Read r).
+        let b = by-read (given (answerRows f letter (length room))) (readingOf (payloadIn f) x) r (sym (answer-is x) ∙ e) in
+        (given-no-row (answerRows f letter (length room)) (rows-numbered (tableRows (payloadIn f)) refl) (b .0), b .1),
+    λ (h : NoRow (answerRows f letter (length room)) × (r ≡ readingOf (payloadIn f) x)).
+        answer-is x ∙ reads-by (given (answerRows f letter (length room))) (readingOf (payloadIn f) x) (no-row-given (h .0)) ∙ ap Read (sym (h .1)),
+  )
+
+  -- what is left: nothing is touched where the reader refuses; where it does not, the payload is in the front of the room
+  pub reader-leaves : (n : ℕ) → Foremost before n → (x : ℤ) → (answerFrom f letter room x ≡ Refused n) × (roomLeft f letter room ≡ room)
+  reader-leaves n h x = let e = order .refuses n .1 h in (ap (answerAs x) e, ap (leftIn room) e)
+
+  pub table-leaves : NoRow before → (x : ℤ) → (answerFrom f letter room x ≡ tableAnswer (payloadIn f) x) × (roomLeft f letter room ≡ payloadIn f ++ drop (length (payloadIn f)) room)
+  table-leaves h x = let e = order .lets .1 h in (ap (answerAs x) e, ap (leftIn room) e)
+
+  -- an answer that is a reading comes of bytes that the reader made
+  made-of : (x : ℤ) (r : Reading) (o : Outcome) → answerAs x o ≡ Read r → (p : List ℕ) × (o ≡ made p)
+  made-of x r (refused n) e = absurd (let z : _≡_ {A = ℕ} 0 1 = cc in omega arith)
+  made-of x r (made p) e = (p, refl)
+
+  through : (o : Outcome) (p : List ℕ) → inRoom (length room) o ≡ made p → o ≡ made p
+  through (refused n) p e = e
+  through (made q) p e = go (ltb (length room) (length q)) refl
+    where
+      go : (t : Bool) → ltb (length room) (length q) ≡ t → made q ≡ made p
+      go true w = absurd (let y : refused 37 ≡ made p = sym (if-true (ltb (length room) (length q)) (refused 37) (made q) w) ∙ e in let z : _≡_ {A = ℕ} 0 1 = cc in omega arith)
+      go false w = sym (if-false (ltb (length room) (length q)) (refused 37) (made q) w) ∙ e
+
+  -- a file that gives a reading has the letter asked for
+  pub letter-is : (x : ℤ) (r : Reading) → answerFrom f letter room x ≡ Read r → getD f 0 0 ≡ letter
+  letter-is x r e =
+      let m = made-of x r outcome e in
+      reader-lets limit f letter (m .0) (through (readerOf limit f letter) (m .0) (m .1)) .2
+
+-- a payload that the reader gives has at most the knots of the limit
+pub few-knots : (f : List ℕ) (letter : ℕ) (p : List ℕ) → readerOf limit f letter ≡ made p → knots p ≤ mostKnots
+few-knots f letter p e =
+    let l = reader-lets limit f letter p e in
+    let n = length-right limit (length f) (l .0) in
+    let s = sized (blocksIn f) (getD f 0 0) 0 (blocksIn f) f (n .1) (omega arith) (n .0) (l .1) in
+    let q : length p ≡ length (payloadIn f) = ap length (sym (l .3)) in
+    omega (arith, s .most, n .2, q)
+
+-- a table written under a letter is read under it, and refused 35 under every other
+pub written-reads : (letter : ℕ) (p f room : List ℕ) (x : ℤ) → writerOf limit letter p ≡ made f → length p ≤ length room → answerFrom f letter room x ≡ tableAnswer p x
+written-reads letter p f room x w h = ap (λ (o : Outcome). answerAs x (inRoom (length room) o)) (file-claims.comes-back limit letter p f w) ∙ ap (answerAs x) (room-made (length room) p h)
+
+pub written-other : (letter : ℕ) (p f room : List ℕ) (x : ℤ) → writerOf limit letter p ≡ made f → (asked : ℕ) → (letter ≡ asked → ⊥) → (answerFrom f asked room x ≡ Refused 35) × (roomLeft f asked room ≡ room)
+written-other letter p f room x w asked z =
+    let e = file-claims.other-letter limit letter p f w asked z in
+    (ap (λ (o : Outcome). answerAs x (inRoom (length room) o)) e, ap (λ (o : Outcome). leftIn room (inRoom (length room) o)) e)

@@ -1,0 +1,31 @@
+-- A payload that is a table, and the pair of its knots that holds a voltage. Assumes nothing.
+use mathlib.Core.Path.{_≡_}
+use mathlib.Core.List.{List}
+use Prim.Native.Nat.{ℕ, _+_, _-_, _%_, _≤_, _<_}
+use lib.Dec.{T, eqb}
+use lib.IntN.{ℤ}
+use lib.Signed.{leZ, ltZ}
+use lib.ListN.{length}
+use Rattle.common.specs.Choice.{if_then_else_}
+use Rattle.reading_table.specs.Table.{knots, voltsOf, tenthsOf, inRange}
+
+-- whole knots, two or more; microvolts in range and strictly rising
+pub record Table (p : List ℕ) : Type 0 where
+  pub whole : length p % 6 ≡ 0
+  pub two : 2 ≤ knots p
+  pub range : (i : ℕ) → i < knots p → T (inRange (voltsOf p i))
+  pub rises : (i : ℕ) → i + 1 < knots p → T (ltZ (voltsOf p i) (voltsOf p (i + 1)))
+
+-- knots i and i + 1 hold x: from the lower up to the upper, which belongs to the next pair but for the last pair
+pub record Holds (p : List ℕ) (i : ℕ) (x : ℤ) : Type 0 where
+  pub pair : i + 1 < knots p
+  pub from : T (leZ (voltsOf p i) x)
+  pub to : T (if eqb (i + 2) (knots p) then leZ x (voltsOf p (i + 1)) else ltZ x (voltsOf p (i + 1)))
+
+-- x is neither under the first knot nor over the last
+abbrev pub Inside : List ℕ → ℤ → Type 0
+Inside p x = T (leZ (voltsOf p 0) x) × T (leZ x (voltsOf p (knots p - 1)))
+
+-- no temperature of the table is less than that of the knot before
+abbrev pub Warming : List ℕ → Type 0
+Warming p = (i : ℕ) → i + 1 < knots p → T (leZ (tenthsOf p i) (tenthsOf p (i + 1)))

@@ -1,0 +1,1 @@
+// The claims about readings. Nothing runs here: the laws are in proofs/.

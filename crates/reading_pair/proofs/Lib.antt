@@ -1,0 +1,9 @@
+pub mod Whole
+pub mod Rounded
+pub mod Knots
+pub mod Between
+pub mod Inside
+pub mod Chain
+pub mod Monotone
+pub mod Rises
+pub mod Unique

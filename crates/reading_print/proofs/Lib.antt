@@ -1,0 +1,4 @@
+pub mod Laying
+pub mod Signed
+pub mod Shown
+pub mod Unique

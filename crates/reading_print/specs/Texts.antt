@@ -1,0 +1,72 @@
+-- A knot and a temperature as text. Assumes nothing.
+use mathlib.Core.Bool.{Bool, true, false}
+use mathlib.Core.List.{List, [], _∷_, _++_}
+use Prim.Native.Nat.{ℕ, _+_, _/_, _%_}
+use lib.Dec.{ltb}
+use lib.IntN.{ℤ, pos, negsuc, natAbs}
+use lib.Signed.{ltZ}
+use lib.ListN.{length, drop}
+use lib.Ieee.{Float, fin, binary64, add, neg, lt, le, toUnsigned}
+use Rattle.common.specs.Choice.{if_then_else_}
+use Rattle.vectors_text.specs.Text.{spelled}
+
+-- a text in front of what was there
+abbrev pub laid : List ℕ → List ℕ → List ℕ
+laid out text = text ++ drop (length text) out
+
+-- what is left, and how many bytes are the text's: nothing is written where there is no room for 24 bytes, which is more than any takes
+unfoldable pub laidIn : List ℕ → List ℕ → List ℕ
+laidIn out text = if ltb (length out) 24 then out else laid out text
+
+unfoldable pub countIn : List ℕ → List ℕ → ℕ
+countIn out text = if ltb (length out) 24 then 0 else length text
+
+-- the digits of a number below 2 to the 32
+unfoldable pub widthOf : ℕ → ℕ
+widthOf n =
+    if ltb n 10 then 1
+    else if ltb n 100 then 2
+    else if ltb n 1000 then 3
+    else if ltb n 10000 then 4
+    else if ltb n 100000 then 5
+    else if ltb n 1000000 then 6
+    else if ltb n 10000000 then 7
+    else if ltb n 100000000 then 8
+    else if ltb n 1000000000 then 9
+    else 10
+
+-- a number in decimal, without zeros in front
+unfoldable pub decimalOf : ℕ → List ℕ
+decimalOf n = spelled 10 (widthOf n) n []
+
+-- with a minus before it where it is negative
+unfoldable pub signedText : Bool → ℕ → List ℕ
+signedText negative n = if negative then 45 ∷ decimalOf n else decimalOf n
+
+-- a signed number
+abbrev pub numberText : ℤ → List ℕ
+numberText z = signedText (ltZ z (pos 0)) (natAbs z)
+
+-- a knot's line: microvolts, a space, tenths of a degree, a newline
+abbrev pub knotText : ℤ → ℤ → List ℕ
+knotText volts tenths = ((numberText volts ++ (32 ∷ [])) ++ numberText tenths) ++ (10 ∷ [])
+
+-- a temperature in tenths that is shown with a minus: -0.5 or less
+abbrev pub isUnder : Float → Bool
+isUnder t = le t (fin true 1 (negsuc 0))
+
+-- its size: a number between -0.5 and 0 is left as it is, and shown as 0
+unfoldable pub sizeShown : Float → Float
+sizeShown t = if isUnder t then neg t else t
+
+-- the whole part of a number above -1 and below 2 to the 64, of any other 0
+unfoldable pub wholeOf : Float → ℕ
+wholeOf d = if lt (fin true 1 (pos 0)) d then (if lt d (fin false 1 (pos 64)) then toUnsigned 64 d else 0) else 0
+
+-- the whole tenths nearest to a temperature, by the whole part of its double; a half goes up. Past 2 to the 31 it is 0: no table's is
+unfoldable pub tenthsShown : Float → ℕ
+tenthsShown t = let u = wholeOf (add binary64 (sizeShown t) (sizeShown t)) in if ltb u 4294967296 then (u + 1) / 2 else 0
+
+-- in degrees, with one decimal
+abbrev pub temperatureText : Float → List ℕ
+temperatureText t = (signedText (isUnder t) (tenthsShown t / 10) ++ (46 ∷ [])) ++ ((48 + tenthsShown t % 10) ∷ [])

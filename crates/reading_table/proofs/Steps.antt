@@ -1,0 +1,90 @@
+-- One turn of each loop, on plain lists and numbers. Assumes nothing.
+use mathlib.Core.Path.{_≡_, refl, sym, ap, _∙_}
+use mathlib.Core.Bool.{Bool, true, false, _&&_}
+use mathlib.Core.List.{List}
+use Prim.Native.Nat.{ℕ, zero, suc, _+_, _-_, _/_, _≤_, _<_}
+use native.Mathlib.Omega.{arith}
+use borrow.Author.Tests.{lt-ltb, le-ltb}
+use lib.IntN.{ℤ}
+use lib.Signed.{leZ}
+use Rattle.common.specs.Choice.{if_then_else_}
+use Rattle.reading_table.specs.Table.{voltsOf, goodAt, risingFrom, risingOf, knots}
+use Rattle.reading_table.specs.Search.{halving, seekOf}
+
+-- rising
+module _ (p : List ℕ) (n i : ℕ) where
+  one-more : i < n → risingFrom (n - i) i p ≡ (goodAt p i && risingFrom (n - (i + 1)) (i + 1) p)
+  unfolding risingFrom
+  one-more h = let e : n - i ≡ suc (n - (i + 1)) = omega (arith, h) in ap (λ (k : ℕ). risingFrom k i p) e
+
+  pub rise-on : i < n → goodAt p i ≡ true → risingFrom (n - i) i p ≡ risingOf p → risingFrom (n - (i + 1)) (i + 1) p ≡ risingOf p
+  rise-on h g e = sym (one-more h ∙ ap (λ (b : Bool). b && risingFrom (n - (i + 1)) (i + 1) p) g) ∙ e
+
+  pub rise-stop : i < n → goodAt p i ≡ false → risingFrom (n - i) i p ≡ risingOf p → false ≡ risingOf p
+  rise-stop h g e = sym (one-more h ∙ ap (λ (b : Bool). b && risingFrom (n - (i + 1)) (i + 1) p) g) ∙ e
+
+  pub rise-end : n ≤ i → risingFrom (n - i) i p ≡ risingOf p → true ≡ risingOf p
+  unfolding risingFrom
+  rise-end h e = let z : n - i ≡ 0 = omega (arith, h) in sym (ap (λ (k : ℕ). risingFrom k i p) z) ∙ e
+
+pub rise-start : (p : List ℕ) → risingFrom (knots p - 0) 0 p ≡ risingOf p
+unfolding risingOf
+rise-start p = let e : knots p - 0 ≡ knots p = omega arith in ap (λ (k : ℕ). risingFrom k 0 p) e
+
+-- seek
+abbrev pub mid : ℕ → ℕ → ℕ
+mid lo hi = lo + (hi - lo) / 2
+
+-- a state of the loop, with at most k halvings to come
+pub record Halved (p : List ℕ) (x : ℤ) (n lo hi : ℕ) : Type 0 where
+  pub left : ℕ
+  pub same : halving left p x lo hi ≡ seekOf p x
+  pub enough : hi - lo ≤ suc left
+  pub order : lo ≤ hi
+  pub within : hi < n
+
+pub halved-stop : (k : ℕ) (p : List ℕ) (x : ℤ) (lo hi : ℕ) → hi ≤ lo + 1 → halving k p x lo hi ≡ lo
+unfolding halving
+halved-stop zero p x lo hi h = refl
+halved-stop (suc k) p x lo hi h = simp (le-ltb _ _ h)
+
+pub turn : (k : ℕ) (p : List ℕ) (x : ℤ) (lo hi : ℕ) (b : Bool) → lo + 1 < hi → leZ (voltsOf p (mid lo hi)) x ≡ b → halving (suc k) p x lo hi ≡ halving k p x (if b then mid lo hi else lo) (if b then hi else mid lo hi)
+unfolding halving
+turn k p x lo hi b h e = simp (lt-ltb _ _ h, e)
+
+pub halved-start : (p : List ℕ) (x : ℤ) → 2 ≤ knots p → Halved p x (knots p) 0 (knots p - 1)
+unfolding seekOf
+halved-start p x h = record { left = knots p; same = refl; enough = omega arith; order = omega arith; within = omega (arith, h) }
+
+pub halved-few : (p : List ℕ) (x : ℤ) → knots p < 2 → 0 ≡ seekOf p x
+unfolding seekOf
+halved-few p x h = sym (halved-stop (knots p) p x 0 (knots p - 1) (omega (arith, h)))
+
+module _ {p : List ℕ} {x : ℤ} {n lo hi : ℕ} (s : Halved p x n lo hi) (h : lo + 1 < hi) where
+  pub halved-turn : (b : Bool) → leZ (voltsOf p (mid lo hi)) x ≡ b → Halved p x n (if b then mid lo hi else lo) (if b then hi else mid lo hi)
+  halved-turn b e = go (s .left) (s .same) (s .enough)
+    where
+      go : (k : ℕ) → halving k p x lo hi ≡ seekOf p x → hi - lo ≤ suc k → Halved p x n (if b then mid lo hi else lo) (if b then hi else mid lo hi)
+      go zero q r = let z : _≡_ {A = ℕ} 0 1 = omega (arith, r, h) in absurd (clash z)
+        where
+          clash : _≡_ {A = ℕ} 0 1 → ⊥
+          clash z = omega (arith, z)
+      go (suc k) q r = record { left = k; same = sym (turn k p x lo hi b h e) ∙ q; enough = smaller b; order = ordered b; within = inside b }
+        where
+          w : hi < n
+          w = s .within
+
+          smaller : (b : Bool) → (if b then hi else mid lo hi) - (if b then mid lo hi else lo) ≤ suc k
+          smaller true = omega (arith, r, h)
+          smaller false = omega (arith, r, h)
+
+          ordered : (b : Bool) → (if b then mid lo hi else lo) ≤ (if b then hi else mid lo hi)
+          ordered true = omega (arith, h)
+          ordered false = omega (arith, h)
+
+          inside : (b : Bool) → (if b then hi else mid lo hi) < n
+          inside true = w
+          inside false = omega (arith, h, w)
+
+pub halved-end : {p : List ℕ} {x : ℤ} {n lo hi : ℕ} → Halved p x n lo hi → hi ≤ lo + 1 → lo ≡ seekOf p x
+halved-end {p} {x} {n} {lo} {hi} s h = sym (halved-stop (s .left) p x lo hi h) ∙ s .same

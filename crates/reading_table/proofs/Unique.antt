@@ -1,0 +1,21 @@
+-- Two results that a promise of this crate allows are equal. Assumes nothing.
+use mathlib.Core.Path.{_≡_}
+use mathlib.Core.List.{List}
+use Prim.Native.Nat.{ℕ}
+use lib.IntN.{ℤ}
+use Rattle.common.specs.Choice.{Unique}
+use Rattle.common.proofs.Choice.{only}
+use Rattle.reading_table.specs.Table.{voltsOf, tenthsOf, tableNumber}
+use Rattle.reading_table.specs.Search.{seekOf}
+
+pub volts-unique : (p : List ℕ) (i : ℕ) → Unique (λ (r : ℤ). r ≡ voltsOf p i)
+volts-unique p i = only (voltsOf p i)
+
+pub tenths-unique : (p : List ℕ) (i : ℕ) → Unique (λ (r : ℤ). r ≡ tenthsOf p i)
+tenths-unique p i = only (tenthsOf p i)
+
+pub judge-table-unique : (p : List ℕ) → Unique (λ (r : ℕ). r ≡ tableNumber p)
+judge-table-unique p = only (tableNumber p)
+
+pub seek-unique : (p : List ℕ) (x : ℤ) → Unique (λ (r : ℕ). r ≡ seekOf p x)
+seek-unique p x = only (seekOf p x)

@@ -1,0 +1,19 @@
+-- Two results that a promise of this crate allows are equal, and so is what it leaves in each thing lent. Assumes nothing.
+use mathlib.Core.Path.{_≡_}
+use mathlib.Core.List.{List}
+use Prim.Native.Nat.{ℕ}
+use Rattle.common.specs.Choice.{Unique}
+use Rattle.common.proofs.Choice.{only}
+use Rattle.reading_text.specs.declared.NumberRead.{NumberRead}
+use Rattle.reading_text.specs.declared.TableRead.{TableRead}
+use Rattle.reading_text.specs.Numbers.{numberTold}
+use Rattle.reading_text.specs.Tables.{tableRead, tableScanned}
+
+pub read-number-unique : (text : List ℕ) → Unique (λ (r : NumberRead). r ≡ numberTold text)
+read-number-unique text = only (numberTold text)
+
+pub read-table-unique : (text out : List ℕ) → Unique (λ (r : TableRead). r ≡ tableRead (tableScanned text out .scan))
+read-table-unique text out = only (tableRead (tableScanned text out .scan))
+
+pub read-table-left-unique : (text out : List ℕ) → Unique (λ (left : List ℕ). left ≡ tableScanned text out .payload)
+read-table-left-unique text out = only (tableScanned text out .payload)

@@ -1,0 +1,1 @@
+// The claim about tables as text. Nothing runs here: the laws are in proofs/.

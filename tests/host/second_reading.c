@@ -1,0 +1,55 @@
+/* The second implementation: a payload as a table of knots, and the reading at a voltage. */
+#include <string.h>
+
+#include "second.h"
+
+static inline int32_t volts(const uint8_t *knot) {
+    return (int32_t)((uint32_t)knot[0] << 24 | (uint32_t)knot[1] << 16 | (uint32_t)knot[2] << 8 | knot[3]);
+}
+
+static inline double heat(const uint8_t *knot) {
+    uint16_t tenths = (uint16_t)(knot[4] << 8 | knot[5]);
+    return SLIP(18) ? tenths : (int16_t)tenths;
+}
+
+uint8_t c_table_judge(const uint8_t *payload, size_t n) {
+    if (n % 6 != 0 || n / 6 < 2)
+        return TB_TABLE_SHAPE;
+    for (size_t i = 0; i < n; i += 6) {
+        int32_t here = volts(payload + i);
+        if (here < -10000 || here > 80000 || (i > 0 && (SLIP(19) ? here < volts(payload + i - 6) : here <= volts(payload + i - 6))))
+            return TB_TABLE_VOLTS;
+    }
+    return TB_OK;
+}
+
+/* Fewer than two knots are read as a knot alone, and none as one of 0 microvolts and 0 tenths. */
+tb_reading c_table_reading(const uint8_t *payload, size_t n, int32_t x) {
+    static const uint8_t none[6];
+    size_t knots = n / 6;
+    const uint8_t *first = knots == 0 ? none : payload, *last = knots == 0 ? none : payload + 6 * (knots - 1);
+    if (x < volts(first))
+        return (tb_reading){TB_BELOW, 0, heat(first)};
+    if (SLIP(20) ? x >= volts(last) : x > volts(last))
+        return (tb_reading){TB_ABOVE, 0, heat(last)};
+    if (knots < 2)
+        return (tb_reading){TB_TEMPERATURE, 0, heat(first)};
+    size_t low = 0, high = knots - 1;
+    while (high - low > 1) {
+        size_t middle = low + (high - low) / 2;
+        if (volts(payload + 6 * middle) <= x)
+            low = middle;
+        else
+            high = middle;
+    }
+    const uint8_t *a = payload + 6 * low, *b = a + 6;
+    double x0 = volts(a), t0 = heat(a), x1 = volts(b), t1 = heat(b);
+    double t = SLIP(21) ? t0 + (t1 - t0) / (x1 - x0) * (x - x0) : t0 + (t1 - t0) * (x - x0) / (x1 - x0);
+    return (tb_reading){TB_TEMPERATURE, 0, t};
+}
+
+tb_reading c_file_reading(uint8_t letter, const uint8_t *file, size_t n, uint8_t *room, size_t m, int32_t x) {
+    tb_sized got = c_file_read(letter, file, n, room, m);
+    uint8_t number = got.number != TB_OK ? got.number : c_table_judge(room, got.length);
+    return number != TB_OK ? (tb_reading){TB_NO_READING, number, 0} : c_table_reading(room, got.length, x);
+}

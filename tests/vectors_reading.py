@@ -1,0 +1,321 @@
+#!/usr/bin/env python3
+"""The vectors of the readings, worked out from document 02 (i) and document 01 alone.
+
+    python3 tests/vectors_reading.py table      the rows: what crates/vectors_reading reads (its file stdin)
+    python3 tests/vectors_reading.py expected   what it must print (its file stdout)
+    python3 tests/vectors_reading.py check      whether both files, and those of the three programs, are what the script makes
+    python3 tests/vectors_reading.py store      writes them
+    python3 tests/vectors_reading.py text K     a table as text, for table_write: K or S
+
+A row is a letter, eight hex digits (x) and four (y). It changes what is held: a payload, a file, and how much of the file and of
+the room counts.
+
+    N   the payload is emptied             K   a knot is added: x microvolts, y tenths
+    B   the byte x is added                W   the payload is written as a file under the letter x; told: W and its length, or ! and 36
+    C   byte x of the file becomes y, and its block gets the check that fits
+    L   x bytes of the file count          M   x bytes of the room count
+    J   told: J and the judgement of the payload as a table
+    S   told: S and the lower knot of the pair for x
+    R   told: the reading of x by the payload: T, B or A and the bits of its temperature in tenths, in hex
+    F   told: the same straight from the file under the letter y, or ! and the refusal; then D and a digest of the room
+
+The tables are those of types K and S, from the reference functions of ITS-90 (NIST Monograph 175): knots at whole degrees,
+microvolts rounded to whole ones. Temperatures are worked out in Python's floats, which are IEEE 754 doubles, each operation rounded once.
+"""
+import math
+import pathlib
+import struct
+import sys
+
+from vectors_file import check as check_of, digest, judge, write
+from vectors_model import files_differ
+
+ROOM = 4040
+
+# millivolts at t degrees, by powers of t
+K_BELOW = [0.0, 0.394501280250e-01, 0.236223735980e-04, -0.328589067840e-06, -0.499048287770e-08, -0.675090591730e-10,
+           -0.574103274280e-12, -0.310888728940e-14, -0.104516093650e-16, -0.198892668780e-19, -0.163226974860e-22]
+K_ABOVE = [-0.176004136860e-01, 0.389212049750e-01, 0.185587700320e-04, -0.994575928740e-07, 0.318409457190e-09,
+           -0.560728448890e-12, 0.560750590590e-15, -0.320207200030e-18, 0.971511471520e-22, -0.121047212750e-25]
+K_BUMP = (0.118597600000e+00, -0.118343200000e-03, 0.126968600000e+03)
+S_LOW = [0.0, 0.540313308631e-02, 0.125934289740e-04, -0.232477968689e-07, 0.322028823036e-10, -0.331465196389e-13,
+         0.255744251786e-16, -0.125068871393e-19, 0.271443176145e-23]
+S_MIDDLE = [0.132900444085e+01, 0.334509311344e-02, 0.654805192818e-05, -0.164856259209e-08, 0.129989605174e-13]
+S_HIGH = [0.146628232636e+03, -0.258430516752e+00, 0.163693574641e-03, -0.330439046987e-07, -0.943223690612e-14]
+
+
+def powers(coefficients, t):
+    return math.fsum(c * t ** i for i, c in enumerate(coefficients))
+
+
+def type_k(t):
+    if t < 0:
+        return powers(K_BELOW, t)
+    a, b, c = K_BUMP
+    return powers(K_ABOVE, t) + a * math.exp(b * (t - c) ** 2)
+
+
+def type_s(t):
+    return powers(S_LOW if t < 1064.18 else S_MIDDLE if t < 1664.5 else S_HIGH, t)
+
+
+def knots(function, degrees):
+    """Knots of whole microvolts and tenths of a degree."""
+    return [(round(1000 * function(t)), 10 * t) for t in degrees]
+
+
+TABLE_K = knots(type_k, list(range(-270, 1372, 4)) + [1372])
+TABLE_S = knots(type_s, range(-50, 1769, 3))
+FULL_K = knots(type_k, range(-270, 1076, 2))
+
+
+def payload_of(table):
+    return b"".join(struct.pack(">ih", x, t) for x, t in table)
+
+
+def table_of(payload):
+    return [struct.unpack(">ih", payload[i:i + 6]) for i in range(0, len(payload) - 5, 6)]
+
+
+def judged(payload):
+    table = table_of(payload)
+    if len(payload) % 6 or len(table) < 2:
+        return 40
+    if any(not -10000 <= x <= 80000 for x, _ in table):
+        return 41
+    if any(a >= b for (a, _), (b, _) in zip(table, table[1:])):
+        return 41
+    return 0
+
+
+def pair_of(table, x):
+    """The lower knot of the pair that holds x, in a table; -1 below it and above it."""
+    if not table[0][0] <= x <= table[-1][0]:
+        return -1
+    return next(i for i in range(len(table) - 1) if x < table[i + 1][0] or i + 2 == len(table))
+
+
+def reading(table, x):
+    """The case and the temperature in tenths, as a float."""
+    if x < table[0][0]:
+        return "B", float(table[0][1])
+    if x > table[-1][0]:
+        return "A", float(table[-1][1])
+    if len(table) == 1:
+        return "T", float(table[0][1])
+    i = pair_of(table, x)
+    x0, t0, x1, t1 = map(float, table[i] + table[i + 1])
+    return "T", t0 + (t1 - t0) * (float(x) - x0) / (x1 - x0)
+
+
+def told(answer):
+    return f"{answer[0]} {struct.pack('>d', answer[1]).hex()}"
+
+
+def degrees(tenths):
+    """In degrees with one decimal: the nearest whole tenth, a half away from zero."""
+    n = math.floor(2 * abs(tenths))
+    n = (n + 1) // 2
+    return f"{'-' if tenths <= -0.5 else ''}{n // 10}.{n % 10}"
+
+
+class Rows:
+    """Rows, and what the program must tell of them."""
+
+    def __init__(self):
+        self.rows, self.lines = [], []
+        self.payload, self.file, self.length, self.room = b"", bytearray(4608), 0, ROOM
+
+    def row(self, letter, x=0, y=0):
+        self.rows.append(f"{letter} {x & 0xFFFFFFFF:08X} {y & 0xFFFF:04X}")
+
+    def table(self, table, more=b""):
+        self.row("N")
+        self.payload = payload_of(table) + more
+        for x, t in table:
+            self.row("K", x, t)
+        for b in more:
+            self.row("B", b)
+
+    def judge(self):
+        self.row("J")
+        self.lines.append(f"J {judged(self.payload)}")
+
+    def read(self, *xs):
+        for x in xs:
+            self.row("R", x)
+            self.lines.append(told(reading(table_of(self.payload) or [(0, 0)], x)))
+
+    def seek(self, *xs):
+        for x in xs:
+            self.row("S", x)
+            self.lines.append(f"S {pair_of(table_of(self.payload), x)}")
+
+    def write(self, letter):
+        self.row("W", ord(letter))
+        number, made = write(ord(letter), self.payload)
+        if number:
+            self.length = 0
+            self.lines.append(f"! {number}")
+        else:
+            self.length = len(made)
+            self.file[:len(made)] = made
+            self.lines.append(f"W {len(made)}")
+
+    def forge(self, at, b):
+        self.row("C", at, b)
+        self.file[at] = b
+        k = at // 512
+        self.file[512 * k + 510:512 * k + 512] = check_of(self.file[512 * k:512 * k + 510]).to_bytes(2, "big")
+
+    def cut(self, length):
+        self.row("L", length)
+        self.length = length
+
+    def lend(self, room):
+        self.row("M", room)
+        self.room = room
+
+    def ask(self, letter, *xs):
+        for x in xs:
+            self.row("F", x, ord(letter))
+            room = bytearray(b"\x5a" * self.room)
+            number, payload = judge(bytes(self.file[:self.length]), ord(letter))
+            if not number and len(payload) > self.room:
+                number = 37
+            if not number:
+                room[:len(payload)] = payload
+                number = judged(payload)
+            self.lines.append(f"! {number}" if number else told(reading(table_of(payload), x)))
+            self.lines.append(f"D {digest(room)}")
+
+
+def around(table, step=1):
+    """Voltages at, before and behind knots, and between them."""
+    xs = set()
+    for (a, _), (b, _) in list(zip(table, table[1:]))[::step]:
+        xs |= {a, a + 1, b - 1, b} | {a + k * (b - a) // 7 for k in range(1, 7)}
+    return sorted(xs | {table[0][0] - 1, table[-1][0], table[-1][0] + 1})
+
+
+FAR = (-2147483648, -80001, -10001, -10000, -1, 0, 1, 80000, 80001, 2147483647)
+# where a quotient taken before the product shows in the last bit
+UNEVEN = [(0, -32768), (49, 32767), (147, -3), (588, 10000), (1117, 9999), (3041, -20011), (9973, 31013), (49999, -1), (79999, 7)]
+EDGES = [(-10000, -32768), (-1, 0), (0, -1), (1, 32767), (7, 32766), (80000, -32768)]
+THIRDS = [(0, 0), (3, 1), (7, -1), (10, 9), (21, 0), (1000, 7), (1001, 7)]
+
+
+def all_rows():
+    r = Rows()
+    # small tables: thirds and sevenths of a tenth, falling temperatures, the ends of the ranges
+    for table in (THIRDS, UNEVEN, EDGES, [(0, 0), (1, 0)], [(-10000, 5), (80000, -5)]):
+        r.table(table)
+        r.judge()
+        r.seek(*[x for x in around(table) if table[0][0] <= x <= table[-1][0]])
+        r.read(*around(table), *FAR)
+    # fewer than two knots, which no judgement lets through: one alone, and none, as if there were one of 0 and 0
+    for table, more in ([(5, -7)], b""), ([(5, -7)], b"\0\0\0"), ([], b""), ([], b"\xff" * 5):
+        r.table(table, more)
+        r.read(4, 5, 6, -1, 0, 1, *FAR)
+    # 40 and 41
+    for table, more in (([], b""), ([(0, 0)], b""), (THIRDS, b"\0"), (THIRDS, b"\0" * 5), ([(5, 0), (5, 1)], b""), ([(5, 0), (4, 1)], b""),
+                        ([(-10001, 0), (4, 1)], b""), ([(0, 0), (80001, 1)], b""), ([(0, 0), (4, 1), (4, 2)], b""), ([(5, 0), (4, 1)], b"\0"),
+                        ([(2147483647, 0), (-2147483648, 1)], b""), ([(0, 0), (1, 1), (2, 2), (1, 3)], b"")):
+        r.table(table, more)
+        r.judge()
+        if table or more:
+            r.write("T")
+            r.ask("T", 3)
+    # type K: the whole table, from the payload and from the file
+    r.table(TABLE_K)
+    r.judge()
+    r.read(*around(TABLE_K, 23), *FAR)
+    r.write("K")
+    r.ask("K", *around(TABLE_K, 71), 4096, 41276)
+    # the mishap: the file of S under the letter K; and a table of K whose letter was forged to S, read with an S probe's voltage
+    s_probe = round(1000 * type_s(1000))
+    for k in range((6 * len(TABLE_K) + 504) // 505):
+        r.forge(512 * k, ord("S"))
+    r.ask("K", s_probe)
+    r.ask("S", s_probe)
+    r.table(TABLE_S)
+    r.judge()
+    r.read(*around(TABLE_S, 37))
+    r.write("S")
+    r.ask("K", s_probe)
+    r.ask("S", s_probe, *around(TABLE_S, 101))
+    # room: exactly enough, one short, none; a file cut short, a wrong check, another letter before a wrong table
+    for room in (6 * len(TABLE_S), 6 * len(TABLE_S) - 1, 0, ROOM):
+        r.lend(room)
+        r.ask("S", s_probe)
+    r.cut(512)
+    r.ask("S", s_probe)
+    r.cut(511)
+    r.ask("S", s_probe)
+    # the longest table
+    r.table(FULL_K)
+    r.judge()
+    r.write("K")
+    r.ask("K", *around(FULL_K, 97))
+    r.table(FULL_K + [(80000, 0)])
+    r.judge()
+    r.write("K")
+    return r
+
+
+def stored():
+    """The files beside the programs: their arguments, what they read and what they must print."""
+    text = lambda table: "".join(f"{x} {t}\n" for x, t in table).encode()
+    file_k, file_s = write(ord("K"), payload_of(TABLE_K))[1], write(ord("S"), payload_of(TABLE_S))[1]
+    x = 20218
+    answer = reading(TABLE_K, x)
+    return {
+        "reading_program/args": f"k.load\nK\n{x}\n".encode(),
+        "reading_program/data/k.load": file_k,
+        "reading_program/stdout": f"{degrees(answer[1])}\n".encode(),
+        "table_write/args": b"S\n",
+        "table_write/stdin": text(TABLE_S),
+        "table_write/stdout": file_s,
+        "table_print/args": b"k.load\nK\n",
+        "table_print/data/k.load": file_k,
+        "table_print/stdout": text(TABLE_K),
+    }
+
+
+def differ():
+    """The stored files that are not what this script makes."""
+    crates = pathlib.Path(__file__).resolve().parent.parent / "crates"
+    wrong = [f"vectors_reading/{name}" for name in files_differ("vectors_reading", all_rows())]
+    return wrong + [name for name, data in stored().items() if (crates / name).read_bytes() != data]
+
+
+def store():
+    crates = pathlib.Path(__file__).resolve().parent.parent / "crates"
+    rows = all_rows()
+    (crates / "vectors_reading" / "stdin").write_text("\n".join(rows.rows) + "\n")
+    (crates / "vectors_reading" / "stdout").write_text("\n".join(rows.lines) + "\n")
+    for name, data in stored().items():
+        (crates / name).parent.mkdir(parents=True, exist_ok=True)
+        (crates / name).write_bytes(data)
+
+
+def main(asked):
+    if asked == ["table"]:
+        print("\n".join(all_rows().rows))
+    elif asked == ["expected"]:
+        print("\n".join(all_rows().lines))
+    elif asked == ["check"]:
+        wrong = differ()
+        if wrong:
+            sys.exit("not what the script makes: " + ", ".join(wrong))
+        print("vectors_reading: stdin and stdout, and the files of the reading programs, are what the script makes")
+    elif asked == ["store"]:
+        store()
+    elif asked[:1] == ["text"] and asked[1:] in (["K"], ["S"]):
+        print("\n".join(f"{x} {t}" for x, t in (TABLE_K if asked[1] == "K" else TABLE_S)))
+    else:
+        sys.exit(__doc__)
+
+
+if __name__ == "__main__":
+    main(sys.argv[1:])
