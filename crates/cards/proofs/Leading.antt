@@ -52,4 +52,3 @@ module _ (d : Device) (a : ℕ) (xs : List ℕ) (known : unknownDevice d ≡ fal
         ap (λ (x : Decision). record { state = x .state; bytes = arrayOf (x .effect) (d .part) [] xs }) h ∙ ap (λ (ys : List ℕ). record { state = t; bytes = ys }) z,
         ap (λ (x : Decision). seenOf (x .reply) (arrayOf (x .effect) (d .part) [] xs)) h ∙ ap (λ (ys : List ℕ). seenOf r ys) z,
       )
-
