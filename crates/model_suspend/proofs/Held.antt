@@ -112,7 +112,7 @@ begins d c n r sr l a m b more fine whole =
     let s : State = record { mode = m; status = sr; phase = Erasing; left = l; address = a } in
     let k : eqb (commandOf c) 0xB0 ≡ true = and-right (isWrite (c .kind)) (eqb (commandOf c) 0xB0) b in
     let e : passedOf (d .part) s ≡ settledAs (record { mode = m; status = sr; phase = Erasing; left = l - 1; address = a }) Nothing =
-    if-false (eqb (l - 1) 0) _ _ (ne-eqb (l - 1) 0 (λ z. omega arith)) in
+        if-false (eqb (l - 1) 0) _ _ (ne-eqb (l - 1) 0 (λ z. omega arith)) in
     passes d s c n r refl fine whole refl ∙ ap (λ (t : Settled). respondOf (c .kind) d c t) e ∙ go (c .kind) (and-left (isWrite (c .kind)) (eqb (commandOf c) 0xB0) b) k
   where
     go : (kind : Kind) → isWrite kind ≡ true → eqb (commandOf c) 0xB0 ≡ true
@@ -139,7 +139,7 @@ module _ (d : Device) (c : Cycle) (n r sr l a : ℕ) where
   goes-on k fine whole =
       let q : suc (suc k) - 1 ≡ suc k = omega arith in
       let e : passedOf (d .part) (at sr (Suspending (suc (suc k))) l a) ≡ settledAs (at sr (Suspending (suc k)) l a) Nothing =
-      if-false (eqb (suc (suc k) - 1) 0) _ _ (ne-eqb (suc (suc k) - 1) 0 (λ z. omega arith)) ∙ ap (λ (j : ℕ). settledAs (at sr (Suspending j) l a) Nothing) q in
+          if-false (eqb (suc (suc k) - 1) 0) _ _ (ne-eqb (suc (suc k) - 1) 0 (λ z. omega arith)) ∙ ap (λ (j : ℕ). settledAs (at sr (Suspending j) l a) Nothing) q in
       passes d (at sr (Suspending (suc (suc k))) l a) c n r refl fine whole refl ∙ ap (λ (t : Settled). respondOf (c .kind) d c t) e ∙ stays-under-way (suc k) (c .kind)
 
   -- ---- the last cycle: SR.7 and SR.6 are set before its read or write
@@ -216,10 +216,9 @@ module _ (d : Device) (v : World) (b : Bus) (bs : List Bus) (smooth : Smooth d v
   head-whole = not-yes (isCut (first .effect)) (and-left (not (isCut (first .effect))) (uncut (effectsIn d (stepped d v b) bs)) (smooth .1))
 
   tail-smooth : Smooth d (stepped d v b) bs
-  tail-smooth = (
-    and-right (not (isRefusal (first .reply))) (acceptsAll d (stepped d v b) bs) (smooth .0),
-    and-right (not (isCut (first .effect))) (uncut (effectsIn d (stepped d v b) bs)) (smooth .1),
-  )
+  tail-smooth =
+      (and-right (not (isRefusal (first .reply))) (acceptsAll d (stepped d v b) bs) (smooth .0),
+       and-right (not (isCut (first .effect))) (uncut (effectsIn d (stepped d v b) bs)) (smooth .1))
 
 -- ---- all the cycles of a suspend under way, the last apart
 record Over (d : Device) (sr l a : ℕ) (xs : List ℕ) (bs : List Bus) (b : Bus) (v : World) : Type 0 where
@@ -297,18 +296,17 @@ module _ (d : Device) (m : Mode) (sr l a : ℕ) (xs : List ℕ) (b : Bus) (bs : 
       let e = begins d (b .cycle) (length xs) (length (b .residue)) sr l a m asks more fine (head-whole d from b (bs ++ (last ∷ [])) smooth) in
       let u : World = worldOf (at sr (Suspending (suc (length bs))) (l - 1) a) xs in
       let q : stepped d from b ≡ u =
-      stepped-as d (from .state) (at sr (Suspending (d .suspend)) (l - 1) a) xs b Quiet e ∙ ap (λ (k : ℕ). worldOf (at sr (Suspending k) (l - 1) a) xs) (sym long) in
+          stepped-as d (from .state) (at sr (Suspending (d .suspend)) (l - 1) a) xs b Quiet e ∙ ap (λ (k : ℕ). worldOf (at sr (Suspending k) (l - 1) a) xs) (sym long) in
       let o = all-of d sr (l - 1) a small xs bs last (subst (λ (v : World). Smooth d v (bs ++ (last ∷ []))) q (tail-smooth d from b (bs ++ (last ∷ [])) smooth)) in
-      let p = subst (λ (v : World). Over d sr (l - 1) a xs bs last v) (sym q) o in (
-        record {
-          phase = p .left .phase;
-          left = ap (λ (k : ℕ). k + 1) (p .left .left) ∙ (let z : l - 1 + 1 ≡ l = omega arith in z);
-          address = p .left .address;
-          status = p .left .status;
-          bytes = p .bytes;
-        },
-        λ i. quiet-seen d (from .state) (at sr (Suspending (d .suspend)) (l - 1) a) xs b e i ∷ p .seen i,
-      )
+      let p = subst (λ (v : World). Over d sr (l - 1) a xs bs last v) (sym q) o in
+      (record {
+        phase = p .left .phase;
+        left = ap (λ (k : ℕ). k + 1) (p .left .left) ∙ (let z : l - 1 + 1 ≡ l = omega arith in z);
+        address = p .left .address;
+        status = p .left .status;
+        bytes = p .bytes;
+      },
+      λ i. quiet-seen d (from .state) (at sr (Suspending (d .suspend)) (l - 1) a) xs b e i ∷ p .seen i)
 
 -- the same of any state whose phase it is
 pub suspends : (d : Device) (v : World) (b : Bus) (bs : List Bus) (last : Bus) → Unfinished (v .state) → isSuspend (b .cycle) ≡ true → suc (length bs) ≡ d .suspend
@@ -321,7 +319,7 @@ suspends d v b bs last erase asks long smooth =
     let q : f ≡ v = λ i. worldOf (record { mode = s .mode; status = s .status; phase = sym (erase .0) i; left = s .left; address = s .address }) (v .bytes) in
     let o = over d (s .mode) (s .status) (s .left) (s .address) (v .bytes) b bs last asks (erase .1) long (subst (λ (w : World). Smooth d w (b ∷ (bs ++ (last ∷ [])))) (sym q) smooth) in
     subst (λ (w : World). Suspends w (worldAfter d w (b ∷ (bs ++ (last ∷ [])))) (isResume (last .cycle))
-    × (seenIn d w (b ∷ (bs ++ (last ∷ []))) ≡ NoData ∷ (shownAll (w .state .status) bs ++ (shownAs (heldStatus (w .state .status)) last ∷ [])))) q o
+      × (seenIn d w (b ∷ (bs ++ (last ∷ []))) ≡ NoData ∷ (shownAll (w .state .status) bs ++ (shownAs (heldStatus (w .state .status)) last ∷ [])))) q o
 
 -- the status that such a device shows: neither bit before, both at the end
 pub bits : (sr : ℕ) → sr < 64 → (isSet sr SR7 ≡ false) × (isSet sr SR6 ≡ false) × (isSet (heldStatus sr) SR7 ≡ true) × (isSet (heldStatus sr) SR6 ≡ true)
