@@ -1,8 +1,8 @@
 pub mod Answers
 pub mod Reaching
 pub mod Layers
-pub mod Phases
 pub mod Same
+pub mod Phases
 pub mod Faults
 pub mod Starts
 pub mod Demand
