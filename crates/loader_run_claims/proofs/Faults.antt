@@ -30,7 +30,7 @@ use Rattle.model.proofs.Status.{fits}
 use Rattle.model.proofs.Keeping.{st}
 use Rattle.model.specs.Begun.{begunFrom}
 use Rattle.loader.specs.declared.Stage.{Stage}
-use Rattle.loader.specs.declared.Stage.the-variants.{EraseAsking, EraseConfirming, EraseWaiting, ProgramAsking, ProgramSending, ProgramWaiting, Closing, Ended}
+use Rattle.loader.specs.declared.Stage.the-variants.{EraseAsking, EraseConfirming, EraseWaiting, ProgramAsking, ProgramSending, ProgramWaiting, Ended}
 use Rattle.loader.specs.declared.Loader.{Loader}
 use Rattle.loader.specs.Walks.{risesIn, diffFrom}
 use Rattle.loader.specs.Moves.{nextOf, loadedStage, isReady, eraseFault, programFault, erasePolled, programPolled}

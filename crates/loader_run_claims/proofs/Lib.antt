@@ -5,6 +5,7 @@ pub mod Same
 pub mod Phases
 pub mod Faults
 pub mod Starts
+pub mod Grounds
 pub mod Demand
 pub mod Least
 pub mod Own

@@ -37,7 +37,8 @@ use Rattle.loader_run.proofs.Good.{good}
 use Rattle.loader_run_claims.specs.Made.{cyclesAt, smoothAt, cyclesBy, readsThen, pollsThen, openingThen, eraseThen, programThen, programsThen, closingBy, programmingThen, loadThen}
 use Rattle.loader_run_claims.specs.Ends.{modeBy}
 use Rattle.loader_run_claims.specs.Mission.{Start, Brings, ownCycles, NoFewer, Demand3}
-use Rattle.loader_run_claims.proofs.Demand.{Left, goal, good-load, ran-left, bytes-left, scratch-left}
+use Rattle.loader_run_claims.proofs.Grounds.{Left}
+use Rattle.loader_run_claims.proofs.Demand.{goal, good-load, ran-left, bytes-left, scratch-left}
 use Rattle.loader_run_claims.proofs.Starts.{none-refuses}
 use Rattle.model_history.proofs.Wearing.{lies}
 use Rattle.loader_run_claims.proofs.Least.{least}
@@ -134,7 +135,7 @@ module _ (verify : Bool) (d : Device) (s : State) (p : Pins) (k : ℕ) (xs w sc 
   ys = heldIn (startOf (d .part) k) (length w) xs
 
   -- how the load is left
-  loaded : Left verify d s p k xs w sc (goal verify d s p k xs w sc (start .base)) (operationsOf (d .part) k a w ys) (cyclesBy verify d p a w ys)
+  loaded : Left Clearing verify d s p k xs w sc (goal verify d s p k xs w sc (start .base)) (operationsOf (d .part) k a w ys) (cyclesBy verify d p a w ys)
   loaded = good-load verify d s p k xs w sc (start .base) (not-low (d .part) p (start .high)) (start .unlock)
 
   -- a load ends well, with the count of the formula, in mode read array with status 80H

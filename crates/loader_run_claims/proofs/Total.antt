@@ -2,7 +2,7 @@
 use mathlib.Core.Path.{_≡_, refl, sym, ap, _∙_, subst}
 use mathlib.Core.Bool.{Bool, true, false}
 use mathlib.Core.List.{List, []}
-use Prim.Native.Nat.{ℕ, _-_}
+use Prim.Native.Nat.{ℕ}
 use lib.ListN.{length}
 use lib.Dec.{eqb}
 use borrow.Author.Tests.{eq-eqb, eqb-true}
@@ -25,7 +25,8 @@ use Rattle.loader_run_claims.specs.Made.{cyclesBy}
 use Rattle.loader_run_claims.specs.Ends.{asWanted, shut, endNumber, faultStatus, faultCycles, wellRan, faultRan, ranAs, bytesAs, scratchAs, cyclesAs, Whole}
 use Rattle.loader_run_claims.proofs.Answers.{unsupplied-stuck, locked-stuck}
 use Rattle.loader_run_claims.specs.Mission.{Taken}
-use Rattle.loader_run_claims.proofs.Demand.{Left, goal, broken, ran-left, bytes-left, scratch-left, good-load, same-load, erase-load, program-load}
+use Rattle.loader_run_claims.proofs.Grounds.{Left}
+use Rattle.loader_run_claims.proofs.Demand.{goal, broken, ran-left, bytes-left, scratch-left, good-load, same-load, erase-load, program-load}
 
 module _ (verify : Bool) (d : Device) (s : State) (p : Pins) (k : ℕ) (xs w sc : List ℕ) (t : Taken d s p k xs w sc) where
   abbrev a : ℕ
@@ -35,7 +36,7 @@ module _ (verify : Bool) (d : Device) (s : State) (p : Pins) (k : ℕ) (xs w sc 
   ys = heldIn (startOf (d .part) k) (length w) xs
 
   -- a run that ends well
-  well : (es : List Effect) → endNumber d p k w ys ≡ 0 → Left verify d s p k xs w sc (goal verify d s p k xs w sc t) es (cyclesBy verify d p a w ys) → Whole verify d s p k xs w sc
+  well : (es : List Effect) → endNumber d p k w ys ≡ 0 → Left Clearing verify d s p k xs w sc (goal verify d s p k xs w sc t) es (cyclesBy verify d p a w ys) → Whole verify d s p k xs w sc
   unfolding ranAs bytesAs scratchAs cyclesAs endAddress
   well es n left =
       record {
@@ -47,7 +48,7 @@ module _ (verify : Bool) (d : Device) (s : State) (p : Pins) (k : ℕ) (xs w sc 
       }
 
   -- a run that a fault ends
-  fault : (n x i : ℕ) → endNumber d p k w ys ≡ n → eqb n 0 ≡ false → eqb n 25 ≡ false → faultStatus d p w ys ≡ x → Left verify d s p k xs w sc (broken verify d s p k xs w sc t n x i) [] (faultCycles p a w ys)
+  fault : (n x i : ℕ) → endNumber d p k w ys ≡ n → eqb n 0 ≡ false → eqb n 25 ≡ false → faultStatus d p w ys ≡ x → Left Clearing verify d s p k xs w sc (broken verify d s p k xs w sc t n x i) [] (faultCycles p a w ys)
       → Whole verify d s p k xs w sc
   unfolding ranAs bytesAs scratchAs cyclesAs endAddress
   fault n x i e z y q left =
