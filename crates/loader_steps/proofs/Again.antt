@@ -354,7 +354,7 @@ end-again l b n w sc e q =
     given-as t r = record { turn = t; loader = r }
 
 -- only a record that has ended gives an end
-over-stage : (stage : Stage) (l : Loader) (w : List ℕ) (n a : ℕ) → turnIn stage l w ≡ Over n a → (stage ≡ Ended n) × (endAddress l n ≡ a)
+pub over-stage : (stage : Stage) (l : Loader) (w : List ℕ) (n a : ℕ) → turnIn stage l w ≡ Over n a → (stage ≡ Ended n) × (endAddress l n ≡ a)
 over-stage Clearing l w n a e = absurd (let z : _≡_ {A = ℕ} 0 1 = cc in omega arith)
 over-stage Opening l w n a e = absurd (let z : _≡_ {A = ℕ} 0 1 = cc in omega arith)
 over-stage Reading l w n a e = absurd (let z : _≡_ {A = ℕ} 0 1 = cc in omega arith)

@@ -1,6 +1,6 @@
 -- What is claimed of the loader, in one place. Assumes nothing.
 use mathlib.Core.Path.{_≡_}
-use mathlib.Core.Bool.{Bool, false}
+use mathlib.Core.Bool.{Bool, true, false}
 use mathlib.Core.List.{List}
 use mathlib.Core.Logic.{_↔_}
 use Prim.Native.Nat.{ℕ}
@@ -13,7 +13,9 @@ use Rattle.loader.specs.declared.Stage.the-variants.{Ended}
 use Rattle.loader.specs.declared.Loader.{Loader}
 use Rattle.loader.specs.declared.Turn.the-variants.{Over, Barred}
 use Rattle.loader_steps.specs.Front.{startRows, stepRows, startNumber, stepNumber, recordAt, endAddress, isBarred, startAt, stepGiven, scratchAfter}
+use Rattle.loader_steps.specs.Ends.{endsLoad, endsVerify, ofLoad, ofVerify}
 use Rattle.loader_steps.proofs.Again as again
+use Rattle.loader_steps.proofs.Ends as ends
 
 -- The numbers, for the three starts alike (a load with the verify after it, a load alone, a verify alone), and for one at any other
 -- stage: it is refused by m exactly where m's own condition holds and that of no number before it does ..
@@ -59,3 +61,19 @@ pub over-repeats : (l : Loader) (b n a : ℕ) (w sc : List ℕ) → stepNumber l
     → (stepGiven (stepGiven l b w sc .loader) b′ w (scratchAfter l b w sc) ≡ stepGiven l b w sc)
     × (scratchAfter (stepGiven l b w sc .loader) b′ w (scratchAfter l b w sc) ≡ scratchAfter l b w sc)
 over-repeats = again.over-again
+
+-- 25 comes from a verify only, 20 to 24 from a load only, whatever bytes are handed on. A load alone keeps to its own stages and has no
+-- verify after it; it ends well or by 20 to 24.
+pub load-steps : (l : Loader) (b : ℕ) (w sc : List ℕ) → l .verify ≡ false → ofLoad (l .stage) ≡ true
+    → (stepGiven l b w sc .loader .verify ≡ false) × (ofLoad (stepGiven l b w sc .loader .stage) ≡ true)
+load-steps = ends.load-steps
+
+pub load-over : (l : Loader) (b : ℕ) (w sc : List ℕ) (n a : ℕ) → l .verify ≡ false → ofLoad (l .stage) ≡ true → stepGiven l b w sc .turn ≡ Over n a → endsLoad n ≡ true
+load-over = ends.load-over
+
+-- A verify keeps to its own stages and ends well or by 25.
+pub verify-steps : (l : Loader) (b : ℕ) (w sc : List ℕ) → ofVerify (l .stage) ≡ true → ofVerify (stepGiven l b w sc .loader .stage) ≡ true
+verify-steps = ends.verify-steps
+
+pub verify-over : (l : Loader) (b : ℕ) (w sc : List ℕ) (n a : ℕ) → ofVerify (l .stage) ≡ true → stepGiven l b w sc .turn ≡ Over n a → endsVerify n ≡ true
+verify-over = ends.verify-over
