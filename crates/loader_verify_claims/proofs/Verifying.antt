@@ -171,8 +171,12 @@ module _ (d : Device) (s : State) (p : Pins) (k : ℕ) (xs w sc : List ℕ) (fre
             differs = next-met (length w - 0) 0 w ys (omega arith);
             same-before = λ j b. next-before (length w - 0) 0 w ys j (omega arith) b;
             ran = verified .ran
-                ∙ (λ i. record { count = (ap (λ (n : ℕ). 1 + n) (if-false (asWanted w ys) (length w) (met + 1) e) ∙ (let y : 1 + (met + 1) ≡ met + 2 = omega arith in y)) i;
-                end = if-false (asWanted w ys) 0 25 e i; address = if-false (asWanted w ys) 0 (a + met) e i; state = atRest s Array (s .status) });
+                ∙ (λ i. record {
+                  count = (ap (λ (n : ℕ). 1 + n) (if-false (asWanted w ys) (length w) (met + 1) e) ∙ (let y : 1 + (met + 1) ≡ met + 2 = omega arith in y)) i;
+                  end = if-false (asWanted w ys) 0 25 e i;
+                  address = if-false (asWanted w ys) 0 (a + met) e i;
+                  state = atRest s Array (s .status);
+                });
             scratch = verified .scratch ∙ ap (λ (n : ℕ). overwritten n ys sc) (if-false (asWanted w ys) (length w) (met + 1) e);
           }
 
