@@ -83,7 +83,7 @@ enum { MIXED = sizeof mix / sizeof mix[0] };
 
 static void part(uint8_t number, uint16_t p, uint16_t e) {
     at.device = (tb_device){number, p, e, 1};
-    at.state = (tb_state){0, 0x80, 0, 0, 0, 0};
+    at.state = (tb_state){0, 0x80, 0, 0, 0, 0, 0};
     specks(at.array, sizeof at.array);
 }
 
@@ -102,7 +102,7 @@ static void work_reads(const maker *m) {
 /* An erase with one cycle to go, in the block of `size` bytes: it ends, or RP# falls. */
 static void ready_erase(void) {
     part(1, 1, 1);
-    at.state = (tb_state){1, 0x00, 4, 0, 1, size == 4096 ? 0x1D000 : 0x1E000};
+    at.state = (tb_state){1, 0x00, 4, 0, 1, 0, size == 4096 ? 0x1D000 : 0x1E000};
     specks(at.residue, sizeof at.residue);
 }
 static void work_end(const maker *m) {
@@ -122,12 +122,13 @@ static void ready_same_cycle(tb_state state, tb_bus cycle) {
     same = cycle;
     specks(at.residue, sizeof at.residue);
 }
-static void ready_idle(void) { ready_same_cycle((tb_state){0, 0x80, 0, 0, 0, 0}, (tb_bus){2, 1, 0, 0, 12000, 0}); }
-static void ready_command(void) { ready_same_cycle((tb_state){0, 0x80, 0, 0, 0, 0}, (tb_bus)W(0, 0x70)); }
-static void ready_suspend(void) { ready_same_cycle((tb_state){1, 0x00, 4, 0, 3, 0x3A00}, (tb_bus)W(0, 0xB0)); }
-static void ready_resume(void) { ready_same_cycle((tb_state){1, 0xC0, 5, 0, 3, 0x3A00}, (tb_bus)W(0, 0xD0)); }
-static void ready_fall(void) { ready_same_cycle((tb_state){1, 0x00, 3, 0x5A, 2, 0x10}, (tb_bus){0, 1, 0, 0, 0, 0x10}); }
-static void ready_reset(void) { ready_same_cycle((tb_state){1, 0xB0, 0, 0, 0, 0}, (tb_bus){0, 0, 0, 0, 12000, 0}); }
+static void ready_idle(void) { ready_same_cycle((tb_state){0, 0x80, 0, 0, 0, 0, 0}, (tb_bus){2, 1, 0, 0, 12000, 0}); }
+static void ready_command(void) { ready_same_cycle((tb_state){0, 0x80, 0, 0, 0, 0, 0}, (tb_bus)W(0, 0x70)); }
+static void ready_suspend(void) { ready_same_cycle((tb_state){1, 0x00, 4, 0, 3, 0, 0x3A00}, (tb_bus)W(0, 0xB0)); }
+static void ready_held(void) { ready_same_cycle((tb_state){1, 0x00, 6, 0, 3, 1, 0x3A00}, (tb_bus){0, 1, 0, 0, 12000, 0x3A00}); }
+static void ready_resume(void) { ready_same_cycle((tb_state){1, 0xC0, 5, 0, 3, 0, 0x3A00}, (tb_bus)W(0, 0xD0)); }
+static void ready_fall(void) { ready_same_cycle((tb_state){1, 0x00, 3, 0x5A, 2, 0, 0x10}, (tb_bus){0, 1, 0, 0, 0, 0x10}); }
+static void ready_reset(void) { ready_same_cycle((tb_state){1, 0xB0, 0, 0, 0, 0, 0}, (tb_bus){0, 0, 0, 0, 12000, 0}); }
 static void work_same_cycle(const maker *m) {
     for (int t = 0; t < TURNS; t++)
         at.answer = m->cycle(at.device, at.state, same, at.array, 16384, at.residue, 8192);
@@ -237,6 +238,7 @@ static const struct {
     {"model: an idle cycle", 0, TURNS, ready_idle, work_same_cycle, NULL},
     {"model: a write, 70H", 0, TURNS, ready_command, work_same_cycle, NULL},
     {"model: B0H while an erase is busy", 0, TURNS, ready_suspend, work_same_cycle, NULL},
+    {"model: the last cycle of a suspend, a read", 0, TURNS, ready_held, work_same_cycle, NULL},
     {"model: D0H while suspended", 0, TURNS, ready_resume, work_same_cycle, NULL},
     {"model: a program cut by VPP", 0, TURNS, ready_fall, work_same_cycle, NULL},
     {"model: a reset by RP# low", 0, TURNS, ready_reset, work_same_cycle, NULL},
@@ -261,7 +263,7 @@ static const struct {
 /* A number over everything that the work left. Structs have padding, so it goes field by field. */
 static uint64_t more(uint64_t h, uint64_t x) { return (h ^ x) * 0x100000001B3u + (x >> 32); }
 static uint64_t with_state(uint64_t h, tb_state s) {
-    return more(more(more(more(more(more(h, s.mode), s.status), s.phase), s.byte), s.left), s.address);
+    return more(more(more(more(more(more(more(h, s.mode), s.status), s.phase), s.byte), s.left), s.suspend), s.address);
 }
 static uint64_t with_given(uint64_t h, tb_given g) {
     tb_bus c = g.turn.cycle;

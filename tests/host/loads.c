@@ -125,7 +125,7 @@ static void spoil(void) {
 }
 
 static void load(void) {
-    device = (tb_device){(uint8_t)(chance(85) ? 3 + below(2) : 1 + below(2)), (uint16_t)(1 + below(4)), (uint16_t)(1 + below(4))};
+    device = (tb_device){(uint8_t)(chance(85) ? 3 + below(2) : 1 + below(2)), (uint16_t)(1 + below(4)), (uint16_t)(1 + below(4)), (uint8_t)(1 + below(100))};
     if (chance(3))
         device.erase = (uint16_t)ONE_OF(300, 65534, 65535);
     block = (uint8_t)(chance(4) ? 3 : ONE_OF(0, 1, 2));

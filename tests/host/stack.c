@@ -64,7 +64,7 @@ static void measure(void (*call)(void)) {
 static void cycles_of_an_erase(void) {
     for (unsigned k = 0; k < 18; k++) {
         bus = (tb_bus){(uint8_t)(k % 3), (uint8_t)(k / 3 % 3), 0, 0xB0, k < 9 ? 0 : 12000, 0x10};
-        state = (tb_state){TB_MODE_STATUS, 0, TB_ERASING, 0, 1, 0x10};
+        state = (tb_state){TB_MODE_STATUS, 0, TB_ERASING, 0, 1, 0, 0x10};
         measure(cycle);
     }
 }

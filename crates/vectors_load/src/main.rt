@@ -249,11 +249,11 @@ fn one(case: &[u8]) {
 
 // All cases of a text.
 fn run_all(text: &[u8]) {
-    let n = text.len() / 311;
+    let n = text.len() / 318;
     let mut i = 0;
     while i < n {
-        let from = 311 * i;
-        let to = from + 311;
+        let from = 318 * i;
+        let to = from + 318;
         one(&text[from..to]);
         i += 1;
     }
