@@ -1,6 +1,6 @@
 #!/usr/bin/env bash
 # run.sh [-v] [SEED]: compiles the header as each language that it is for; holds the library against a second implementation in C
-# on random cases; then breaks that second implementation in twelve ways, one at a time, and looks whether each is noticed.
+# on random cases; then breaks that second implementation in twenty-two ways, one at a time, and looks whether each is noticed.
 # -v prints what was met, and how often.
 set -eu
 here=$(dirname -- "$(readlink -f -- "$0")")
@@ -81,7 +81,12 @@ slips='1:a program stores its data without AND
 14:an erase counts on while it is being suspended
 15:SR.6 is not yet set on the last cycle of a suspend
 16:B0H at rest is refused
-17:S over 100 is let in'
+17:S over 100 is let in
+18:scratch takes a byte when its data is sent
+19:the verify is begun after a bad end
+20:the verify stops before its last byte
+21:a load alone reads back
+22:the address of 25 counts from the start of the block'
 noticed=0
 while IFS=: read -r number slip; do
     build "$out/broken" "$number"
@@ -92,4 +97,4 @@ while IFS=: read -r number slip; do
     noticed=$((noticed + 1))
     printf 'noticed: %s\n' "$slip"
 done <<<"$slips"
-printf 'tests from C: no mismatch, and %s of 17 slips noticed\n' "$noticed"
+printf 'tests from C: no mismatch, and %s of 22 slips noticed\n' "$noticed"
