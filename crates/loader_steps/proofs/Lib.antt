@@ -1,4 +1,5 @@
 pub mod Small
 pub mod Again
+pub mod Ends
 pub mod Claims
 pub mod Unique
