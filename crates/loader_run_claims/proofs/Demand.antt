@@ -32,7 +32,7 @@ use Rattle.loader_run.specs.Turns.{Config}
 use Rattle.loader_run.specs.Runs.{runNumber, beginningAt, ranBy, runLeftAt}
 use Rattle.loader_run_claims.specs.Wear.{heldIn, baseOf, programsIn, formulaBy, operationsOf}
 use Rattle.loader_run_claims.specs.Made.{openingThen, closingBy, cyclesBy}
-use Rattle.loader_run_claims.specs.Ends.{asWanted, loadedMode, modeBy, eraseTried, programTried, faultCycles}
+use Rattle.loader_run_claims.specs.Ends.{asWanted, loadedMode, endMode, eraseTried, programTried, faultCycles}
 use Rattle.loader_run.proofs.Turning.{conf}
 use Rattle.loader_run.proofs.Good.{Good, good}
 use Rattle.loader_run_claims.specs.Mission.{Taken}
@@ -84,7 +84,7 @@ module _ (verify : Bool) (d : Device) (s : State) (p : Pins) (k : ℕ) (xs w sc 
 
   -- where a good load comes to, and one that a fault ends
   abbrev pub goal : Config
-  goal = conf (rec (Ended 0) (if verify then length w - 1 else 0)) (atRest s (modeBy verify w ys) 128) (overlaid xs a w) w (formulaBy verify d w ys)
+  goal = conf (rec (Ended 0) (if verify then length w - 1 else 0)) (atRest s (endMode verify w ys) 128) (overlaid xs a w) w (formulaBy verify d w ys)
 
   abbrev pub broken : ℕ → ℕ → ℕ → Config
   broken n x i = conf (rec (Ended n) i) (atRest s Status x) xs ys (length w + 5)
@@ -101,7 +101,7 @@ module _ (verify : Bool) (d : Device) (s : State) (p : Pins) (k : ℕ) (xs w sc 
       → Reach d w (phases.loaded verify d p k u s w (g .wanted) some xs (g .sized) (loadedMode w ys) cnt) goal [] (closingBy verify p a (length w))
   finished cnt q =
       subst (λ (c : ℕ). Reach d w (phases.loaded verify d p k u s w (g .wanted) some xs (g .sized) (loadedMode w ys) cnt)
-      (conf (rec (Ended 0) (if verify then length w - 1 else 0)) (atRest s (modeBy verify w ys) 128) (overlaid xs a w) w c) [] (closingBy verify p a (length w)))
+      (conf (rec (Ended 0) (if verify then length w - 1 else 0)) (atRest s (endMode verify w ys) 128) (overlaid xs a w) w c) [] (closingBy verify p a (length w)))
       (summed verify (risesIn w ys) (length w) (d .erase) (programsIn (d .part) w ys * (2 + d .program)) cnt q)
       (faults.finishing verify d p k u s w (g .wanted) some xs (g .sized) (loadedMode w ys) cnt)
 

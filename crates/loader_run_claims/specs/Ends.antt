@@ -65,12 +65,12 @@ abbrev pub loadedMode : List ℕ → List ℕ → Mode
 loadedMode w ys = if asWanted w ys then Array else Status
 
 -- .. and read array after the verify
-abbrev pub modeBy : Bool → List ℕ → List ℕ → Mode
-modeBy verify w ys = if verify then Array else loadedMode w ys
+abbrev pub endMode : Bool → List ℕ → List ℕ → Mode
+endMode verify w ys = if verify then Array else loadedMode w ys
 
 -- a run that ends well, and one that ends by a fault at cycle n + 5
 abbrev pub wellRan : Bool → Device → State → List ℕ → List ℕ → Ran
-wellRan verify d s w ys = record { count = formulaBy verify d w ys; end = 0; address = 0; state = atRest s (modeBy verify w ys) 0x80 }
+wellRan verify d s w ys = record { count = formulaBy verify d w ys; end = 0; address = 0; state = atRest s (endMode verify w ys) 0x80 }
 
 abbrev pub faultRan : Device → State → Pins → List ℕ → List ℕ → ℕ → Ran
 faultRan d s p w ys n = record { count = length w + 5; end = n; address = 0; state = atRest s Status (faultStatus d p w ys) }

@@ -11,11 +11,13 @@ use Rattle.model_types.specs.declared.Pins.{Pins}
 use Rattle.loader.specs.declared.Stage.{Stage}
 use Rattle.loader.specs.declared.Stage.the-variants.{Ended}
 use Rattle.loader.specs.declared.Loader.{Loader}
+use Rattle.loader.specs.Stages.{isEnded}
 use Rattle.loader.specs.declared.Turn.the-variants.{Over, Barred}
 use Rattle.loader_steps.specs.Front.{startRows, stepRows, startNumber, stepNumber, recordAt, endAddress, isBarred, startAt, stepGiven, scratchAfter}
-use Rattle.loader_steps.specs.Ends.{endsLoad, endsVerify, ofLoad, ofVerify}
+use Rattle.loader_steps.specs.Ends.{endsLoad, endsVerify, ofLoad, ofVerify, withVerify, carriedOn}
 use Rattle.loader_steps.proofs.Again as again
 use Rattle.loader_steps.proofs.Ends as ends
+use Rattle.loader_steps.proofs.Follows as follows
 
 -- The numbers, for the three starts alike (a load with the verify after it, a load alone, a verify alone), and for one at any other
 -- stage: it is refused by m exactly where m's own condition holds and that of no number before it does ..
@@ -77,3 +79,10 @@ verify-steps = ends.verify-steps
 
 pub verify-over : (l : Loader) (b : ℕ) (w sc : List ℕ) (n a : ℕ) → ofVerify (l .stage) ≡ true → stepGiven l b w sc .turn ≡ Over n a → endsVerify n ≡ true
 verify-over = ends.verify-over
+
+-- A run is its load and then the verify, whatever bytes a host hands on: as long as the load goes on, a step gives the record and leaves
+-- the scratch that the load alone would, and where the load alone ends well it gives the record that the verify alone starts from.
+pub load-follows : (l : Loader) (b : ℕ) (w sc : List ℕ) → stepNumber l (length w) (length sc) ≡ 0 → ofLoad (l .stage) ≡ true → isEnded (l .stage) ≡ false
+    → (stepGiven (withVerify true l) b w sc .loader ≡ carriedOn (stepGiven (withVerify false l) b w sc .loader))
+    × (scratchAfter (withVerify true l) b w sc ≡ scratchAfter (withVerify false l) b w sc)
+load-follows = follows.load-follows

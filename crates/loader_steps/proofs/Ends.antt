@@ -1,5 +1,5 @@
 -- A load alone keeps to its stages and ends, and so does a verify, whatever bytes are handed to the steps. Assumes nothing.
-use mathlib.Core.Path.{_≡_, refl, sym, ap, _∙_, subst}
+use mathlib.Core.Path.{_≡_, refl, sym, ap, _∙_}
 use mathlib.Core.Bool.{true, false}
 use mathlib.Core.List.{List}
 use Prim.Native.Nat.{ℕ, _-_}
@@ -10,7 +10,7 @@ use Rattle.common.proofs.Choice.{if-ind, unlike}
 use Rattle.loader.specs.declared.Stage.{Stage}
 use Rattle.loader.specs.declared.Stage.the-variants.{Clearing, Opening, Reading, EraseAsking, EraseConfirming, EraseWaiting, ProgramAsking, ProgramSending, ProgramWaiting, Closing, Verifying, Ended}
 use Rattle.loader.specs.declared.Loader.{Loader}
-use Rattle.loader.specs.declared.Turn.the-variants.{Over, Barred}
+use Rattle.loader.specs.declared.Turn.the-variants.{Over}
 use Rattle.loader.specs.declared.Given.{Given}
 use Rattle.loader.specs.Walks.{diffFrom, risesIn}
 use Rattle.loader.specs.Moves.{isReady, sr3, sr4, sr5, bothErrors, eraseFault, programFault, loadedStage, onward, afterReads, afterRead, pollMore, erasePolled, past, programPolled, verifyMore, nextIn, nextOf}

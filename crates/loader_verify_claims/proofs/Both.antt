@@ -7,7 +7,7 @@ use native.Mathlib.Omega.{arith}
 use lib.ListN.{length, getD, take, drop}
 use lib.Seq.{take-at, drop-at, length-take-le}
 use lib.Dec.{eqb}
-use borrow.Author.Tests.{eqb-true, eqb-false, ne-eqb}
+use borrow.Author.Tests.{eqb-true, eqb-false}
 use Rattle.common.specs.Choice.{if_then_else_}
 use Rattle.common.proofs.Choice.{if-true, if-false}
 use Rattle.common.specs.Lists.{overlaid, overwritten}
@@ -32,8 +32,8 @@ use Rattle.loader_run.specs.declared.Ran.{Ran}
 use Rattle.loader_run.specs.Runs.{runRows, runNumber, RunLeft, runRefused, runLeft, loadAlone, verifyAlone}
 use Rattle.loader_run.proofs.Leaving.{left-refused}
 use Rattle.loader_run_claims.specs.Wear.{heldIn, baseOf, formula, loadFormula}
-use Rattle.loader_run_claims.specs.Made.{busCycle, readsThen, pollsThen, openingThen, eraseThen, programThen, programsThen, programmingThen, loadThen, closingOf, cyclesBy, cyclesAt, cyclesOfLoad}
-use Rattle.loader_run_claims.specs.Ends.{asWanted, loadedMode, endNumber, faultCycles, wellRan, faultRan, ranAs, bytesAs, scratchAs, cyclesAs, Whole}
+use Rattle.loader_run_claims.specs.Made.{busCycle, readsThen, pollsThen, openingThen, eraseThen, programThen, programsThen, programmingThen, loadThen, closingOf, cyclesAt, cyclesOfLoad}
+use Rattle.loader_run_claims.specs.Ends.{loadedMode, endNumber, wellRan, faultRan, ranAs, bytesAs, scratchAs, cyclesAs}
 use Rattle.loader_run_claims.specs.Mission.{Taken}
 use Rattle.loader_run_claims.proofs.Starts.{none-refuses, taken-if}
 use Rattle.loader_run_claims.proofs.Grounds as grounds

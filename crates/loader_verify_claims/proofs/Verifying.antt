@@ -7,9 +7,9 @@ use Prim.Native.Nat.{ℕ, zero, suc, _+_, _-_, _≤_, _<_}
 use native.Mathlib.Omega.{arith}
 use lib.ListN.{length, getD}
 use lib.Dec.{eqb, ltb}
-use borrow.Author.Tests.{lt-ltb, le-ltb, eq-eqb, eqb-true, eqb-false, ltb-true, ltb-false}
+use borrow.Author.Tests.{lt-ltb, le-ltb, eq-eqb, eqb-true, eqb-false}
 use Rattle.common.specs.Choice.{if_then_else_}
-use Rattle.common.proofs.Choice.{if-true, if-false, unlike}
+use Rattle.common.proofs.Choice.{if-true, if-false}
 use Rattle.common.specs.Lists.{overwritten}
 use Rattle.common.specs.Numbers.{NoRow}
 use Rattle.common.proofs.Numbers.{no-row-given}
@@ -33,7 +33,7 @@ use Rattle.loader_run_claims.proofs.Grounds as grounds
 use Rattle.loader_run_claims.proofs.Grounds.{Left}
 use Rattle.loader_run_claims.proofs.Phases as phases
 use Rattle.loader_run_claims.proofs.Same.{same-list, none-ahead, some-ahead, none-differing}
-use Rattle.loader_verify_claims.specs.Verified.{bytesRead, verifyEnd, verifyAddress, verifyRan, Verified, Met}
+use Rattle.loader_verify_claims.specs.Verified.{bytesRead, verifyEnd, verifyAddress, Verified, Met}
 
 -- bytes that are what is wanted are found so
 pub as-wanted : (w : List ℕ) → asWanted w w ≡ true
