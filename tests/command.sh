@@ -212,6 +212,27 @@ call "$tb" read "$work/three.load" K 1.5; try 'microvolts that are no whole numb
 call "$tb" read "$work/three.load" KK 1; try 'two letters' 2 '' 'the letter'
 call "$tb" table erase; try 'no such part of a table' 2 '' 'table write or table print'
 
+# a part's dump against a load file
+{ head -c 14848 /dev/zero | tr '\0' '\377' && cat "$work/three.load" && head -c 1024 /dev/zero | tr '\0' '\377'; } >"$work/image"
+call "$tb" verify "$work/image" 3 1 "$work/three.load" K; try 'a part that holds its file' 0 'the block holds the file
+' ''
+call "$tb" verify "$work/image" 3 2 "$work/three.load" K; try 'a blank block' 1 'differs at 03800
+' ''
+{ head -c 14848 "$work/image" && printf 'K\001' && tail -c 1534 "$work/image"; } >"$work/other"
+call "$tb" verify "$work/other" 3 1 "$work/three.load" K; try 'a byte that differs' 1 'differs at 03A01
+' ''
+call "$tb" verify "$work/image" 3 1 "$work/three.load" S; try 'verify: another letter' 1 "refused 35: the file's letter is not the one asked for
+" ''
+call "$tb" verify "$work/image" 4 4 "$work/three.load" K; try 'verify: no such block' 1 'refused 10: there is no such block
+' ''
+call "$tb" verify "$work/image" 1 1 "$work/three.load" K; try 'verify: the image of another part' 1 'refused 2: the image is not as long as the part
+' ''
+call "$tb" verify "$work/image" 9 1 "$work/three.load" K; try 'verify: no such device' 1 'refused 1: there is no such device
+' ''
+call "$tb" verify "$work/image" 3 1 "$work/three.load"; try 'verify: four words' 2 '' 'an image, a device'
+call "$tb" verify "$work/image" x 1 "$work/three.load" K; try 'verify: no number' 2 '' 'whole numbers'
+call "$tb" verify --help; try 'verify --help' 0 '*' ''
+
 # a first call, with a kit that builds at once: calls at the same time wait for one build, a failed build is told, no kit is told
 mkdir "$work/kit"
 cat >"$work/kit/rt" <<'KIT'

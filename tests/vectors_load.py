@@ -1,5 +1,5 @@
 #!/usr/bin/env python3
-"""The cases of the program `vectors_load`, a load from a file, and the lines that it must print.
+"""The cases of the program `vectors_load`, a load or a verify from a file, and the lines that it must print.
 
     python3 tests/vectors_load.py table        the cases, as in crates/vectors_load/stdin
     python3 tests/vectors_load.py expected     the lines, as in crates/vectors_load/stdout
@@ -9,7 +9,7 @@ The load here is written from document 01. It stands on the scripts' own loader 
 on their own writer and reader of a load file (vectors_file.py), and shares nothing with the crates. Every case says beforehand
 how it must end and how many cycles it makes, and the load is held to that.
 
-A case is a name of 24 bytes and 42 numbers of six digits:
+A case is a name of 24 bytes and 43 numbers of six digits:
     0, 1       the file's letter and its payload bytes
     2 to 13    six changes of the file as it was written, place and byte (999999 for none)
     14, 15     how much of it is used, and the letter asked
@@ -20,6 +20,7 @@ A case is a name of 24 bytes and 42 numbers of six digits:
     36         where the file lies in the array before the load; 999999 for nowhere
     37 to 40   two bytes of the array, address and byte
     41         S
+    42         1 for a verify, 0 for a load
 
 A line shows: the name; the end E, its address A and the count N; status, mode and phase S; then for array a, wanted w and scratch s
 a digest, the first byte and the last.
@@ -44,7 +45,7 @@ def file_number(data, asked, n):
     return judge(data, asked)[0]
 
 
-def load(device, state, rp, vpp, block, array, wanted, scratch, data, asked):
+def load(device, state, rp, vpp, block, array, wanted, scratch, data, asked, op="R"):
     """A run's tests, then the file's; only then wanted is filled, with the file and FFH, and the run made."""
     number = run_number(device, state, rp, vpp, block, array, wanted, scratch)
     if number == 0:
@@ -52,7 +53,7 @@ def load(device, state, rp, vpp, block, array, wanted, scratch, data, asked):
     if number:
         return number, 0, 0, state
     wanted[:] = data + b"\xff" * (len(wanted) - len(data))
-    return run(device, state, rp, vpp, block, array, wanted, scratch)
+    return run(device, state, rp, vpp, block, array, wanted, scratch, op)
 
 
 def formula(device, held, wanted):
@@ -97,7 +98,7 @@ class Table:
         self.rows, self.lines = [], []
 
     def case(self, name, end, count=None, about=(), number=3, block=1, times=(2, 3), suspend=1, rp=None, vpp=12000, state=FRESH, lent=(None, None, None),
-             held=(255, 0), laid=False, spots=()):
+             held=(255, 0), laid=False, spots=(), op="R"):
         """One load. `about` is the file; `count` is told by the case where the end is not 0, and by the formula where it is."""
         assert len(name) <= NAME, name
         row = row_of(**dict(about))
@@ -108,22 +109,24 @@ class Table:
         marks = [held, (91, 5), (17, 2)]
         numbers = row[:2] + pairs(changes, 6) + row[13:15] + [number, *times, rp, vpp, block]
         numbers += [ord(state.mode), state.status, ord(state.phase), state.left, state.address]
-        numbers += given + [x for pair in marks for x in pair] + [first if laid else NOWHERE] + pairs(spots, 2) + [suspend]
-        assert len(numbers) == 42 and all(0 <= x <= 999999 for x in numbers)
+        numbers += given + [x for pair in marks for x in pair] + [first if laid else NOWHERE] + pairs(spots, 2) + [suspend, int(op == "V")]
+        assert len(numbers) == 43 and all(0 <= x <= 999999 for x in numbers)
         self.rows.append(f"{name:{NAME + 1}}" + " ".join(f"{x:06d}" for x in numbers))
         array, wanted, scratch = (sown(*mark, k) for mark, k in zip(marks, given))
         if laid:
             array[first : first + len(data)] = data
         for at, byte in spots:
             array[at] = byte
-        self.lines.append(self.line(name, end, count, Device(number, *times, suspend), state, rp, vpp, block, first, array, wanted, scratch, data, row[14]))
+        self.lines.append(self.line(name, end, count, Device(number, *times, suspend), state, rp, vpp, block, first, array, wanted, scratch, data, row[14], op))
 
-    def line(self, name, end, count, device, state, rp, vpp, block, first, array, wanted, scratch, data, asked):
-        """The load, held to what the case says, and its line."""
+    def line(self, name, end, count, device, state, rp, vpp, block, first, array, wanted, scratch, data, asked, op):
+        """The load or verify, held to what the case says, and its line."""
         before = bytes(array), bytes(wanted), bytes(scratch)
-        if end == 0:
+        if end == 0 and op == "V":
+            count = len(wanted) + 1
+        elif end == 0:
             count = formula(device, array[first : first + len(wanted)], data + b"\xff" * (len(wanted) - len(data)))
-        got, cycles, address, after = load(device, state, rp, vpp, block, array, wanted, scratch, data, asked)
+        got, cycles, address, after = load(device, state, rp, vpp, block, array, wanted, scratch, data, asked, op)
         assert (got, cycles) == (end, 0 if count is None else count), (name, got, cycles, count)
         if cycles == 0:
             assert before == (array, wanted, scratch) and after == state, name
@@ -258,9 +261,38 @@ def ended(t):
     t.case("21 unlocked, VPP low", 21, 1024 + 5, block=0, rp=2, vpp=6500, held=(0, 0), **file)
 
 
+def verified(t):
+    """Verifies against a file: wanted is filled, the array stays. At a difference the count is its place and 2."""
+    check = functools.partial(t.case, op="V")
+    half = {"about": {"size": 100}, "number": 3, "block": 0, "laid": True}
+    first = BLOCKS[3][0][0]
+    for number, block, size in ((3, 1, 505), (3, 0, 100), (4, 3, 4040), (1, 2, 4040), (2, 3, 1)):
+        check(f"verify well, {number} {block}", 0, about={"size": size}, number=number, block=block, laid=True)
+    check("verify locked, VPP low", 0, rp=1, vpp=0, **half)
+    check("verify VPP 6500", 0, rp=1, vpp=6500, **half)
+    check("verify other idle start", 0, state=State("I", 0xB8, "F", 0, 0, 0), **half)
+    check("verify 25 first byte", 25, 2, spots=[(first, 0x00)], **half)
+    check("verify 25 in the file", 25, 511 + 2, spots=[(first + 511, 0xFF), (first + 1023, 0x00)], **half)
+    check("verify 25 past the file", 25, 512 + 2, spots=[(first + 512, 0x7F)], **half)
+    check("verify 25 last byte", 25, 1023 + 2, spots=[(first + 1023, 0x00)], **half)
+    check("verify neighbour", 0, spots=[(first - 1, 0x00)], **half)
+    check("verify 25 erased block", 25, 2, about={"size": 100}, number=4, block=2)
+    check("verify 30", 30, about={"size": 506}, number=3, block=1, held=(1, 1))
+    check("verify 31", 31, about={"size": 505, "before": [(5, 18)]}, number=3, block=1, held=(7, 7))
+    check("verify 35", 35, about={"size": 100, "asked": "T"}, number=3, block=0, laid=True)
+    bad = {"size": 900, "before": [(9, 0)], "asked": "T"}
+    check("verify 1", 1, about=bad, number=5)
+    check("verify 2", 2, about=bad, lent=(16383, None, None))
+    check("verify 3", 3, about=bad, state=State("A", 0x81, "F", 0, 0, 0))
+    check("verify 4", 4, about=bad, rp=0)
+    check("verify 10", 10, about=bad, block=4)
+    check("verify 11", 11, about=bad, lent=(None, 511, 512))
+    check("verify 12", 12, about=bad, state=State("S", 0x80, "C", 0, 0, 0))
+
+
 def all_cases():
     t = Table()
-    for part in (file_refused, run_refused, loaded, ended):
+    for part in (file_refused, run_refused, loaded, ended, verified):
         part(t)
     assert len({row[:NAME] for row in t.rows}) == len(t.rows)
     return t

@@ -8,7 +8,7 @@
 The loader in the first half is written from document 01 alone, as one pass over the block that hands out its cycles; the device
 is the model of vectors_model.py. Both share nothing with the crates. The second half is the list of cases.
 
-A line of a run (R) shows: group and number; the end; the cycles made; the end's address; the status register, mode and phase that
+A line of a run (R), of a load alone (O) or of a verify alone (V) shows: group and number; the end; the cycles made; the end's address; the status register, mode and phase that
 are left; digests of what was lent of the array and of scratch. A line of a step shows what the loader gave: a cycle (its kind,
 RP#, VPP, address, byte), an end (E, its number and address) or a refusal (X); and a digest of scratch.
 """
@@ -41,7 +41,7 @@ def poll(address, erase):
 
 
 def load(first, wanted, scratch):
-    """Loading a block of n bytes. Hands out cycles, takes the bytes read, returns the end and its address."""
+    """Loading a block of n bytes, without the verify. Hands out cycles, takes the bytes read, returns the end and its address."""
     n = len(wanted)
     yield ("W", first, 0x50)
     yield ("W", first, 0xFF)
@@ -61,12 +61,29 @@ def load(first, wanted, scratch):
             bad = yield from poll(first + i, False)
             if bad:
                 return bad, 0
+            scratch[i] = wanted[i]
+    return 0, 0
+
+
+def verify(first, wanted, scratch):
+    """Verifying a block of n bytes: FFH, and the reads up to a difference."""
     yield ("W", first, 0xFF)
-    for i in range(n):
+    for i in range(len(wanted)):
         scratch[i] = yield ("R", first + i, 0)
         if scratch[i] != wanted[i]:
             return 25, first + i
     return 0, 0
+
+
+def both(first, wanted, scratch):
+    """A load and, where it ended well, the verify after it."""
+    over = yield from load(first, wanted, scratch)
+    if over[0]:
+        return over
+    return (yield from verify(first, wanted, scratch))
+
+
+WORK = {"R": both, "O": load, "V": verify}
 
 
 def block_length(number, block):
@@ -99,12 +116,12 @@ def run_number(device, state, rp, vpp, block, array, wanted, scratch):
     return number
 
 
-def run(device, state, rp, vpp, block, array, wanted, scratch):
-    """A run: the end, the count, the address and the state. Array and scratch are changed in place."""
+def run(device, state, rp, vpp, block, array, wanted, scratch, op="R"):
+    """A run, a load alone or a verify alone: the end, the count, the address and the state. Array and scratch are changed in place."""
     number = run_number(device, state, rp, vpp, block, array, wanted, scratch)
     if number:
         return number, 0, 0, state
-    work, count, byte = load(BLOCKS[device.number][block][0], wanted, scratch), 0, None
+    work, count, byte = WORK[op](BLOCKS[device.number][block][0], wanted, scratch), 0, None
     try:
         while True:
             kind, address, data = work.send(byte)
@@ -122,12 +139,12 @@ class Stepped:
         self.number, self.rp, self.vpp, self.block = number, rp, vpp, block
         self.place, self.polls, self.work, self.given = 0, 0, None, None
 
-    def start(self, wanted, scratch):
+    def start(self, wanted, scratch, op):
         bad = 1 if self.number not in BLOCKS else loader_number(self.number, self.rp, self.vpp, self.block, len(wanted), len(scratch))
         if bad:
             self.given = ("E", bad, 0)
             return ("X", bad)
-        self.work = load(BLOCKS[self.number][self.block][0], wanted, scratch)
+        self.work = WORK[op](BLOCKS[self.number][self.block][0], wanted, scratch)
         self.given = next(self.work)
         return self.given
 
@@ -149,7 +166,8 @@ class Stepped:
 
 # ---------------------------------------------------------------- the bench on which the cases are run
 
-# ROWS. R makes a run, Q starts the stepped loader, N steps it; these print a line. The others prepare.
+# ROWS. R makes a run, O a load alone, V a verify alone; Q, P and U start the stepped loader for each of the three, N steps it; these
+# print a line. The others prepare.
 #   G name                                    the group's four letters
 #   D number program erase suspend array wanted scratch     the device, and how much of each slice is lent
 #   L rp vpp block                            the levels and the block
@@ -213,16 +231,16 @@ class Bench:
         self.array[address] = byte
         self.row(f"X {address:08X} {byte:02X}", note)
 
-    def run(self, note, expected=None):
-        """One run. Where document 01 tells the end and the count, they are given, and the run is held to them."""
+    def run(self, note, expected=None, op="R"):
+        """One run, load alone or verify alone. Where document 01 tells the end and the count, they are given, and the run is held to them."""
         a, w, k = self.lent
         array, scratch = self.array[:a], self.scratch[:k]
-        end, count, address, self.state = run(self.device, self.state, self.rp, self.vpp, self.block, array, self.wanted[:w], scratch)
+        end, count, address, self.state = run(self.device, self.state, self.rp, self.vpp, self.block, array, self.wanted[:w], scratch, op)
         assert expected is None or (end, count) == expected, (note, end, count)
         self.array[:a], self.scratch[:k] = array, scratch
         s = self.state
-        self.row("R", note)
-        self.say(f"R {end:03d} {count:010d} {address:08X} {s.status:02X} {s.mode} {s.phase} {digest(array):04X} {digest(scratch):04X}")
+        self.row(op, note)
+        self.say(f"{op} {end:03d} {count:010d} {address:08X} {s.status:02X} {s.mode} {s.phase} {digest(array):04X} {digest(scratch):04X}")
 
     def tell(self, given, scratch):
         if given[0] == "X":
@@ -233,12 +251,18 @@ class Bench:
             told = f"{given[0]} {self.stepped.rp:03d} {self.stepped.vpp:010d} {given[1]:08X} {given[2]:02X}"
         self.say(f"{told} {digest(scratch):04X}")
 
-    def start(self, note):
+    def load(self, note, expected=None):
+        self.run(note, expected, "O")
+
+    def verify(self, note, expected=None):
+        self.run(note, expected, "V")
+
+    def start(self, note, op="R"):
         self.stepped = Stepped(self.device.number, self.rp, self.vpp, self.block)
         w, k = self.lent[1:]
         self.hand = self.scratch[:k]
-        given = self.stepped.start(bytes(self.wanted[:w]), self.hand)
-        self.row("Q", note)
+        given = self.stepped.start(bytes(self.wanted[:w]), self.hand, op)
+        self.row({"R": "Q", "O": "P", "V": "U"}[op], note)
         self.tell(given, self.hand)
 
     def step(self, byte, times, note, expected=None):
@@ -557,9 +581,183 @@ def over(b):
     b.step(0xFF, 2, "with the block's length: the end that the start left", ("E", 11))
 
 
+def apart(b):
+    b.group("load", "loads alone: the counts of cards 10 and 11 without the verify, and every other end")
+    b.fresh()
+    b.fit(3, 1)
+    b.fill("A", 255, 0)
+    b.fill("W", 255, 0)
+    b.fill("C", 17, 2)
+    b.want(0, 0x5A)
+    b.load("held FFH, wanted 5AH then FFH", (0, 518))
+    b.verify("and verified", (0, 513))
+    b.load("held as wanted", (0, 514))
+    b.fill("A", 0, 0)
+    b.fill("W", 255, 0)
+    b.load("held 00H, wanted FFH", (0, 519))
+    b.verify("and verified", (0, 513))
+    b.fill("A", 5, 9)
+    b.fill("W", 91, 5)
+    b.load("an erase, and nearly every byte programmed")
+    b.verify("and verified", (0, 513))
+    b.levels(1, 5000, 1)
+    b.load("VPP low, nothing to do: well", (0, 514))
+    b.want(7, 0x00)
+    b.load("VPP low, a program: 21", (21, 517))
+    b.verify("what the program left: 25", (25, 9))
+    b.fit(3, 0, rp=1)
+    b.fill("A", 255, 0)
+    b.fill("W", 255, 0)
+    b.want(1023, 0x01)
+    b.load("locked, a program: 24", (24, 1029))
+    b.hold(0x3C00, 0x00)
+    b.load("locked, an erase: 23", (23, 1029))
+    for number in (1, 2, 4):
+        b.fit(number, 0, 1, 1)
+        b.fill("A", number, 3)
+        b.fill("W", 91, 5)
+        b.load("the boot block unlocked")
+        b.verify("and verified", (0, block_length(number, 0) + 1))
+
+
+def verified(b):
+    b.group("veri", "verifies alone: low supply, lock, old error bits, and differences")
+    b.fresh()
+    b.fit(3, 2, vpp=5000)
+    b.fill("A", 5, 9)
+    b.fill("W", 5, 9)
+    b.fill("C", 17, 2)
+    b.verify("another block's bytes: 25 where they differ")
+    b.fill("A", 44, 0)
+    b.fill("W", 44, 0)
+    b.verify("VPP low: well", (0, 513))
+    b.put("I", 0xB8, "F")
+    b.verify("identifier mode and all error bits: well, and they stay", (0, 513))
+    b.put("S", 0x88, "F")
+    b.verify("status mode and SR.3: well", (0, 513))
+    b.fill("C", 17, 2)
+    b.hold(0x3800, 0x45, "the first byte")
+    b.verify("25 at the first byte; scratch behind it stays", (25, 2))
+    b.hold(0x3800, 0x44)
+    b.verify("25 at the first byte again, other bits", (25, 2))
+    b.hold(0x3800, 44)
+    b.hold(0x39FF, 0x00, "the last byte")
+    b.fill("C", 17, 2)
+    b.verify("25 at the last byte", (25, 513))
+    b.hold(0x3900, 0x00, "the middle")
+    b.fill("C", 17, 2)
+    b.verify("25 at the middle byte", (25, 258))
+    b.hold(0x37FF, 0x00, "the byte before the block, and the one after it")
+    b.hold(0x3A00, 0x00)
+    b.hold(0x3900, 44)
+    b.hold(0x39FF, 44)
+    b.verify("other blocks do not matter", (0, 513))
+    for number in (1, 2, 3, 4):
+        b.fit(number, 0, rp=1, vpp=6500)
+        b.fill("A", number, 3)
+        b.fill("W", 0, 0)
+        b.verify("the boot block locked and VPP low: 25")
+    b.fit(2, 3, vpp=0)
+    b.fill("A", 255, 0)
+    b.fill("W", 255, 0)
+    b.verify("the main block", (0, 114689))
+    b.want(114687, 0xFE)
+    b.verify("its last byte", (25, 114689))
+    b.fit(3, 1)
+    b.fresh()
+    b.fill("C", 17, 2)
+    for number, program, erase in ((0, 2, 3), (5, 2, 3), (3, 0, 3), (3, 2, 0)):
+        b.use(number, program, erase, 16384, 512, 512)
+        b.verify("1", (1, 0))
+        b.load("1", (1, 0))
+    b.use(3, 2, 3, 16383, 512, 512)
+    b.verify("2", (2, 0))
+    b.load("2", (2, 0))
+    b.fit(3, 1)
+    b.put("A", 0x81, "F")
+    b.verify("3", (3, 0))
+    b.load("3", (3, 0))
+    b.fresh()
+    for rp, vpp in ((0, 12000), (3, 12000), (1, 6501)):
+        b.levels(rp, vpp, 1)
+        b.verify("4", (4, 0))
+        b.load("4", (4, 0))
+    b.levels(1, 12000, 4)
+    b.verify("10", (10, 0))
+    b.load("10", (10, 0))
+    b.levels(1, 12000, 1)
+    for wanted, scratch in ((511, 512), (512, 513)):
+        b.use(3, 2, 3, 16384, wanted, scratch)
+        b.verify("11", (11, 0))
+        b.load("11", (11, 0))
+    b.fit(3, 1)
+    for mode, status, phase, left, address in (("S", 0x80, "C", 0, 0), ("S", 0x00, "E", 3, 16), ("A", 0xC0, "S", 2, 16)):
+        b.put(mode, status, phase, left, address)
+        b.verify("12", (12, 0))
+        b.load("12", (12, 0))
+
+
+def apart_by_hand(b):
+    b.group("step", "a load alone and a verify alone, stepped by hand")
+    b.fresh()
+    b.fit(3, 1)
+    b.fill("W", 255, 0)
+    b.want(0, 0x5A)
+    b.want(511, 0xA5)
+    b.fill("C", 3, 1)
+    b.start("a load alone: write 50H", "O")
+    b.step(0xFF, 514, "40H at the first byte")
+    b.step(0x00, 1, "its data")
+    b.step(0x00, 1, "a poll: scratch has not taken the byte")
+    b.step(0x00, 9, "another")
+    b.step(0x80, 1, "40H at the last byte: scratch has taken the first")
+    b.step(0x80, 2, "a poll")
+    b.step(0x80, 1, "well, and scratch is as wanted", ("E", 0))
+    b.step(0xFF, 2, "repeated", ("E", 0))
+    b.start("a load alone with nothing to do", "O")
+    b.step(0x5A, 3, "the second read")
+    b.step(0xFF, 510, "the last")
+    b.step(0xA5, 1, "well", ("E", 0))
+    for status, end in ((0xB8, 21), (0xB0, 22), (0x90, 24)):
+        b.start("a load alone", "O")
+        b.step(0xFF, 516, "a poll")
+        b.step(status, 1, "ready with an error: scratch keeps what was read", ("E", end))
+    b.start("a load alone, erased", "O")
+    b.step(0x00, 517, "a poll")
+    b.step(0x80, 1, "40H at the first byte: scratch is ones")
+    b.step(0x80, 6, "well", ("E", 0))
+    b.start("a verify alone: write FFH", "V")
+    b.step(0x00, 1, "the first read")
+    b.step(0x5A, 1, "the second")
+    b.step(0xFF, 510, "the last")
+    b.step(0xA5, 1, "well", ("E", 0))
+    b.step(0x00, 2, "repeated", ("E", 0))
+    b.start("a verify alone", "V")
+    b.step(0x00, 1, "the first read")
+    b.step(0x5B, 1, "25 at the first byte", ("E", 25))
+    b.start("a verify alone", "V")
+    b.step(0x5A, 2, "the second read")
+    b.step(0xFF, 510, "the last")
+    b.step(0xA4, 1, "25 at the last byte", ("E", 25))
+    b.use(9, 2, 3, 0, 512, 512)
+    b.start("1", "V")
+    b.start("1", "O")
+    b.use(3, 2, 3, 0, 512, 512)
+    b.levels(0, 12000, 1)
+    b.start("4", "V")
+    b.start("4", "O")
+    b.levels(1, 12000, 4)
+    b.start("10", "V")
+    b.start("10", "O")
+    b.levels(1, 12000, 1)
+    b.use(3, 2, 3, 0, 512, 511)
+    b.start("11", "V")
+    b.start("11", "O")
+
+
 def all_cases():
     b = Bench()
-    for part in (cards, blocks, ways, other_ends, refusals, by_hand, barred, over):
+    for part in (cards, blocks, ways, other_ends, refusals, by_hand, barred, over, apart, verified, apart_by_hand):
         part(b)
     return b
 

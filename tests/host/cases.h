@@ -27,7 +27,7 @@ uint8_t *lib_of(twin *); /* what is handed over: sometimes null where the length
 uint8_t *ref_of(twin *);
 
 /* The account. A call is compared by its answer and by every byte that it was lent. */
-enum { IN_CYCLE, IN_START, IN_STEP, IN_RUN, IN_LOAD, IN_WRITE, IN_READ, IN_TABLE, IN_READING, GROUPS };
+enum { IN_CYCLE, IN_START, IN_STEP, IN_RUN, IN_LOAD_RUN, IN_VERIFY_RUN, IN_LOAD, IN_VERIFY_FILE, IN_WRITE, IN_READ, IN_TABLE, IN_READING, GROUPS };
 void met(int group, uint8_t number);
 void met_phase(uint8_t phase);
 void met_stage(uint8_t stage);

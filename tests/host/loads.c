@@ -32,26 +32,32 @@ static bool same_ran(void) {
     return lib.count == ref.count && lib.end == ref.end && lib.address == ref.address && same_state(lib.state, ref.state);
 }
 
-static void compare_run(void) {
+typedef tb_ran run_call(tb_device, tb_state, uint8_t, uint32_t, uint8_t, uint8_t *, size_t, const uint8_t *, size_t, uint8_t *, size_t);
+typedef tb_ran file_call(tb_device, tb_state, uint8_t, uint32_t, uint8_t, uint8_t, const uint8_t *, size_t, uint8_t *, size_t,
+                         uint8_t *, size_t, uint8_t *, size_t);
+
+/* A run, a load alone or a verify alone. */
+static void compare_run(const char *name, int group, run_call *library, run_call *second) {
     twin *lent[] = {&array, &wanted, &scratch};
-    lib = tb_run(device, state, rp, vpp, block, lib_of(&array), array.length, lib_of(&wanted), wanted.length, lib_of(&scratch),
+    lib = library(device, state, rp, vpp, block, lib_of(&array), array.length, lib_of(&wanted), wanted.length, lib_of(&scratch),
+                  scratch.length);
+    untouched(lib.count == 0, name, lent, 3);
+    ref = second(device, state, rp, vpp, block, ref_of(&array), array.length, ref_of(&wanted), wanted.length, ref_of(&scratch),
                  scratch.length);
-    untouched(lib.count == 0, "run", lent, 3);
-    ref = c_run(device, state, rp, vpp, block, ref_of(&array), array.length, ref_of(&wanted), wanted.length,
-                  ref_of(&scratch), scratch.length);
-    alike(same_ran(), "run", lent, 3);
-    met(IN_RUN, ref.end);
+    alike(same_ran(), name, lent, 3);
+    met(group, ref.end);
 }
 
-static void compare_load(void) {
+/* A run or a verify alone, from a file. */
+static void compare_file(const char *name, int group, file_call *library, file_call *second) {
     twin *lent[] = {&array, &wanted, &scratch, &file};
-    lib = tb_load(device, state, rp, vpp, block, letter, lib_of(&file), file.length, lib_of(&array), array.length,
-                  lib_of(&wanted), wanted.length, lib_of(&scratch), scratch.length);
-    untouched(lib.count == 0, "load", lent, 4);
-    ref = c_load(device, state, rp, vpp, block, letter, ref_of(&file), file.length, ref_of(&array), array.length,
-                   ref_of(&wanted), wanted.length, ref_of(&scratch), scratch.length);
-    alike(same_ran(), "load", lent, 4);
-    met(IN_LOAD, ref.end);
+    lib = library(device, state, rp, vpp, block, letter, lib_of(&file), file.length, lib_of(&array), array.length, lib_of(&wanted),
+                  wanted.length, lib_of(&scratch), scratch.length);
+    untouched(lib.count == 0, name, lent, 4);
+    ref = second(device, state, rp, vpp, block, letter, ref_of(&file), file.length, ref_of(&array), array.length, ref_of(&wanted),
+                 wanted.length, ref_of(&scratch), scratch.length);
+    alike(same_ran(), name, lent, 4);
+    met(group, ref.end);
 }
 
 /* The block's bytes: noise, all ones, all zero or as they are. */
@@ -111,6 +117,28 @@ static void some_file(tb_span b) {
         file.length = ONE_OF(0, 1, 511, 513, 512);
 }
 
+/* The block holds the file and ones, but for a byte sometimes. */
+static void lay_file(tb_span b) {
+    if (file.length > b.length)
+        return;
+    twin_fill(&array, b.first, b.length, 0xFF);
+    twin_copy(&array, b.first, file.ref, file.length);
+    if (chance(30))
+        twin_set(&array, b.first + (chance(80) ? below(b.length) : ONE_OF(0, b.length - 1)), (uint8_t)any32());
+}
+
+static void compare(void) {
+    uint32_t what = below(5);
+    from_file = what > 2;
+    switch (what) {
+    case 0: compare_run("run", IN_RUN, tb_run, c_run); break;
+    case 1: compare_run("load alone", IN_LOAD_RUN, tb_load_run, c_load_run); break;
+    case 2: compare_run("verify", IN_VERIFY_RUN, tb_verify_run, c_verify_run); break;
+    case 3: compare_file("load", IN_LOAD, tb_load, c_load); break;
+    default: compare_file("verify a file", IN_VERIFY_FILE, tb_verify_file, c_verify_file);
+    }
+}
+
 /* One of the things that a run is handed is bad. */
 static void spoil(void) {
     switch (below(7)) {
@@ -143,13 +171,11 @@ static void load(void) {
     fill_wanted(b);
     twin_noise(&scratch, 0, 64);
     some_file(b);
+    if (chance(25))
+        lay_file(b);
     if (chance(20))
         spoil();
-    from_file = chance(50);
-    if (from_file)
-        compare_load();
-    else
-        compare_run();
+    compare();
     count_load();
 }
 

@@ -24,7 +24,7 @@ int main(int argc, char **argv) {
         files(1000);
         cycles(125, 2000);
         steps(20, 3000);
-        loads(100);
+        loads(250);
         readings(500);
     }
     endless();

@@ -1,6 +1,6 @@
 #!/usr/bin/env bash
 # run.sh [-v] [SEED]: compiles the header as each language that it is for; holds the library against a second implementation in C
-# on random cases; then breaks that second implementation in twenty-one ways, one at a time, and looks whether each is noticed.
+# on random cases; then breaks that second implementation in twenty-six ways, one at a time, and looks whether each is noticed.
 # -v prints what was met, and how often.
 set -eu
 here=$(dirname -- "$(readlink -f -- "$0")")
@@ -85,7 +85,12 @@ slips='1:a program stores its data without AND
 18:tenths of a degree are taken as unsigned
 19:microvolts may stay from knot to knot
 20:the last knot is above the table
-21:a reading divides before it multiplies'
+21:a reading divides before it multiplies
+22:scratch takes a byte when its data is sent
+23:the verify is begun after a bad end
+24:the verify stops before its last byte
+25:a load alone reads back
+26:the address of 25 counts from the start of the block'
 noticed=0
 while IFS=: read -r number slip; do
     build "$out/broken" "$number"
@@ -96,4 +101,4 @@ while IFS=: read -r number slip; do
     noticed=$((noticed + 1))
     printf 'noticed: %s\n' "$slip"
 done <<<"$slips"
-printf 'tests from C: no mismatch, and %s of 21 slips noticed\n' "$noticed"
+printf 'tests from C: no mismatch, and %s of 26 slips noticed\n' "$noticed"

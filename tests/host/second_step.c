@@ -31,7 +31,7 @@ static inline tb_turn out(const tb_loader *l, const uint8_t *wanted) {
     case TB_READING:
     case TB_PROGRAM_WAITING:
     case TB_VERIFYING: c.kind = TB_CYCLE_READ, c.address = here; break;
-    default: return (tb_turn){.turn = TB_OVER, .number = l->end, .address = l->end == TB_VERIFY_FAILED ? here : 0};
+    default: return (tb_turn){.turn = TB_OVER, .number = l->end, .address = l->end == TB_VERIFY_FAILED ? here - (SLIP(26) ? first : 0) : 0};
     }
     return (tb_turn){.turn = TB_CYCLE_OUT, .cycle = c};
 }
@@ -40,8 +40,12 @@ static inline void next_program(tb_loader *l, size_t from, const uint8_t *wanted
     size_t at = differs_from(from, wanted, scratch, n);
     if (at < n)
         to(l, TB_PROGRAM_ASKING, at);
-    else
+    else if (l->verify || SLIP(25))
         to(l, TB_CLOSING, 0);
+    else {
+        l->place = 0;
+        end(l, TB_OK);
+    }
 }
 
 static inline void read_byte(tb_loader *l, uint8_t byte, const uint8_t *wanted, uint8_t *scratch, size_t n) {
@@ -68,6 +72,8 @@ static inline void polled(tb_loader *l, uint8_t status, const uint8_t *wanted, u
     }
     if (erase)
         memset(scratch, 0xFF, n);
+    else
+        scratch[l->place] = wanted[l->place];
     next_program(l, erase ? 0 : l->place + 1, wanted, scratch, n);
 }
 
@@ -75,7 +81,7 @@ static inline void verified(tb_loader *l, uint8_t byte, const uint8_t *wanted, u
     scratch[l->place] = byte;
     if (byte != wanted[l->place])
         end(l, TB_VERIFY_FAILED);
-    else if (l->place + 1 < n)
+    else if (l->place + 1 < n - (SLIP(24) ? 1 : 0))
         to(l, TB_VERIFYING, l->place + 1);
     else
         end(l, TB_OK);
@@ -89,7 +95,11 @@ static inline void moved(tb_loader *l, uint8_t byte, const uint8_t *wanted, uint
     case TB_ERASE_ASKING: to(l, TB_ERASE_CONFIRMING, 0); break;
     case TB_ERASE_CONFIRMING: to(l, TB_ERASE_WAITING, 0); break;
     case TB_PROGRAM_ASKING: to(l, TB_PROGRAM_SENDING, l->place); break;
-    case TB_PROGRAM_SENDING: to(l, TB_PROGRAM_WAITING, l->place); break;
+    case TB_PROGRAM_SENDING:
+        if (SLIP(22))
+            scratch[l->place] = wanted[l->place];
+        to(l, TB_PROGRAM_WAITING, l->place);
+        break;
     case TB_ERASE_WAITING:
     case TB_PROGRAM_WAITING: polled(l, byte, wanted, scratch, n); break;
     case TB_CLOSING: to(l, TB_VERIFYING, 0); break;
@@ -98,7 +108,7 @@ static inline void moved(tb_loader *l, uint8_t byte, const uint8_t *wanted, uint
 }
 
 static inline bool record_bad(const tb_loader *l) {
-    if (l->stage > TB_ENDED || (l->end != 0 && l->stage != TB_ENDED) || l->polls >= POLLS_MOST)
+    if (l->stage > TB_ENDED || (l->end != 0 && l->stage != TB_ENDED) || l->verify > 1 || l->polls >= POLLS_MOST)
         return true;
     return l->block <= 3 && l->place >= second_parts[l->part].block[l->block].length + (SLIP(9) ? 1 : 0);
 }
@@ -112,11 +122,9 @@ static inline uint8_t refused(uint8_t part, const tb_loader *l, uint8_t rp, uint
     return levels_bad(rp, vpp) ? TB_BAD_LEVEL : lengths_bad(&second_parts[part], block, wanted, scratch);
 }
 
-tb_given c_start(uint8_t part, uint8_t rp, uint32_t vpp, uint8_t block, const uint8_t *wanted, size_t n, const uint8_t *scratch,
-                 size_t m) {
-    tb_given g = {.loader = {.part = part, .rp = rp, .block = block, .stage = TB_CLEARING, .vpp_mv = vpp}};
-    uint8_t number = refused(part, NULL, rp, vpp, block, n, m);
-    (void)scratch;
+static tb_given started(tb_loader l, const uint8_t *wanted, size_t n, size_t m) {
+    tb_given g = {.loader = l};
+    uint8_t number = refused(l.part, NULL, l.rp, l.vpp_mv, l.block, n, m);
     if (number == TB_OK) {
         g.turn = out(&g.loader, wanted);
         return g;
@@ -124,6 +132,24 @@ tb_given c_start(uint8_t part, uint8_t rp, uint32_t vpp, uint8_t block, const ui
     g.turn = (tb_turn){.turn = TB_BARRED, .number = number};
     end(&g.loader, number);
     return g;
+}
+
+tb_given c_start(uint8_t part, uint8_t rp, uint32_t vpp, uint8_t block, const uint8_t *wanted, size_t n, const uint8_t *scratch,
+                 size_t m) {
+    (void)scratch;
+    return started((tb_loader){.part = part, .rp = rp, .block = block, .stage = TB_CLEARING, .verify = 1, .vpp_mv = vpp}, wanted, n, m);
+}
+
+tb_given c_load_start(uint8_t part, uint8_t rp, uint32_t vpp, uint8_t block, const uint8_t *wanted, size_t n,
+                      const uint8_t *scratch, size_t m) {
+    (void)scratch;
+    return started((tb_loader){.part = part, .rp = rp, .block = block, .stage = TB_CLEARING, .vpp_mv = vpp}, wanted, n, m);
+}
+
+tb_given c_verify_start(uint8_t part, uint8_t rp, uint32_t vpp, uint8_t block, const uint8_t *wanted, size_t n,
+                        const uint8_t *scratch, size_t m) {
+    (void)scratch;
+    return started((tb_loader){.part = part, .rp = rp, .block = block, .stage = TB_CLOSING, .verify = 1, .vpp_mv = vpp}, wanted, n, m);
 }
 
 tb_turn c_step(tb_loader *l, uint8_t byte, const uint8_t *wanted, size_t n, uint8_t *scratch, size_t m) {

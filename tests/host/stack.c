@@ -43,6 +43,11 @@ static void cycle(void) { state = tb_cycle(large, state, bus, array, 131072, res
 static void start(void) { loader = tb_start(TB_BENCH_T, 1, 12000, 1, wanted, 512, scratch, 512).loader; }
 static void step(void) { bus = tb_step(&loader, byte, wanted, 512, scratch, 512).cycle; }
 static void run(void) { state = tb_run(device, tb_fresh(), 1, 12000, 1, array, 16384, wanted, 512, scratch, 512).state; }
+static void load_run(void) { state = tb_load_run(device, tb_fresh(), 1, 12000, 1, array, 16384, wanted, 512, scratch, 512).state; }
+static void verify_run(void) { state = tb_verify_run(device, tb_fresh(), 1, 12000, 1, array, 16384, wanted, 512, scratch, 512).state; }
+static void verify_file(void) {
+    state = tb_verify_file(device, tb_fresh(), 1, 12000, 1, 'K', file, 512, array, 16384, wanted, 512, scratch, 512).state;
+}
 static void load(void) {
     state = tb_load(device, tb_fresh(), 1, 12000, 1, 'K', file, 512, array, 16384, wanted, 512, scratch, 512).state;
 }
@@ -84,7 +89,7 @@ static void steps_of_a_load(void) {
 }
 
 void stack(bool verbose) {
-    void (*const calls[])(void) = {part, write, read, check, reading, write_short, run, load};
+    void (*const calls[])(void) = {part, write, read, check, reading, write_short, run, load, load_run, verify_run, verify_file};
     size_t none = used_by(nothing);
     cycles_of_an_erase();
     steps_of_a_load();

@@ -9,8 +9,8 @@ static tb_turn lib, ref;
 static uint8_t byte;
 
 static void tell_loader(const char *who, tb_loader l) {
-    printf("  %s: part %u, RP# %u, VPP %lu, block %u, stage %u, end %u, polls %lu, place %zu\n", who, l.part, l.rp,
-           (unsigned long)l.vpp_mv, l.block, l.stage, l.end, (unsigned long)l.polls, l.place);
+    printf("  %s: part %u, RP# %u, VPP %lu, block %u, stage %u, end %u, verify %u, polls %lu, place %zu\n", who, l.part, l.rp,
+           (unsigned long)l.vpp_mv, l.block, l.stage, l.end, l.verify, (unsigned long)l.polls, l.place);
 }
 
 static void tell_turn(const char *who, tb_turn t) {
@@ -34,15 +34,20 @@ static bool same_turn(void) {
 }
 
 static bool same_record(tb_loader a, tb_loader b) {
-    return a.part == b.part && a.rp == b.rp && a.block == b.block && a.stage == b.stage && a.end == b.end && a.vpp_mv == b.vpp_mv &&
-           a.polls == b.polls && a.place == b.place;
+    return a.part == b.part && a.rp == b.rp && a.block == b.block && a.stage == b.stage && a.end == b.end && a.verify == b.verify &&
+           a.vpp_mv == b.vpp_mv && a.polls == b.polls && a.place == b.place;
 }
 
-static void compare_start(uint8_t part, uint8_t rp, uint32_t vpp, uint8_t block) {
+typedef tb_given start_call(uint8_t, uint8_t, uint32_t, uint8_t, const uint8_t *, size_t, const uint8_t *, size_t);
+static start_call *const lib_starts[] = {tb_start, tb_load_start, tb_verify_start};
+static start_call *const ref_starts[] = {c_start, c_load_start, c_verify_start};
+
+/* The start of a run, of a load alone or of a verify alone. */
+static void compare_start(uint32_t what, uint8_t part, uint8_t rp, uint32_t vpp, uint8_t block) {
     twin *lent[] = {&wanted, &scratch};
     before = (tb_loader){.part = part, .rp = rp, .block = block, .vpp_mv = vpp};
-    tb_given a = tb_start(part, rp, vpp, block, lib_of(&wanted), wanted.length, lib_of(&scratch), scratch.length);
-    tb_given b = c_start(part, rp, vpp, block, ref_of(&wanted), wanted.length, ref_of(&scratch), scratch.length);
+    tb_given a = lib_starts[what](part, rp, vpp, block, lib_of(&wanted), wanted.length, lib_of(&scratch), scratch.length);
+    tb_given b = ref_starts[what](part, rp, vpp, block, ref_of(&wanted), wanted.length, ref_of(&scratch), scratch.length);
     lib = a.turn, lib_record = a.loader;
     ref = b.turn, ref_record = b.loader;
     alike(same_turn() && same_record(lib_record, ref_record), "start", lent, 2);
@@ -95,7 +100,7 @@ static void feed(void) {
     uint8_t part = (uint8_t)(3 + below(2)), block = (uint8_t)ONE_OF(0, 1, 1, 2, 2);
     int how = (int)below(3);
     some_bytes(c_block(part, block));
-    compare_start(part, (uint8_t)(1 + below(2)), some_vpp(0), block);
+    compare_start(below(3), part, (uint8_t)(1 + below(2)), some_vpp(0), block);
     while (ref.turn == 0) {
         byte = fed(how);
         compare_step();
@@ -111,7 +116,7 @@ static void poll_on(bool erase) {
     uint64_t polls = 0;
     some_bytes(c_block(3, 1));
     twin_fill(&wanted, 0, 512, erase ? 0xFF : 0x00);
-    compare_start(3, 1, 12000, 1);
+    compare_start(below(2), 3, 1, 12000, 1);
     while (ref.turn == 0) {
         bool wait = ref_record.stage == 5 || ref_record.stage == 8;
         polls += wait;
@@ -128,7 +133,7 @@ static void bad_start(void) {
     tb_span b = c_block(real_part(part), block & 3);
     wanted.length = chance(90) ? b.length : ONE_OF(0, b.length - 1, b.length + 1);
     scratch.length = chance(90) ? b.length : ONE_OF(0, b.length - 1, b.length + 1);
-    compare_start(part, (uint8_t)(chance(80) ? 1 + below(2) : ONE_OF(0, 3, 255)), some_vpp(20), block);
+    compare_start(below(3), part, (uint8_t)(chance(80) ? 1 + below(2) : ONE_OF(0, 3, 255)), some_vpp(20), block);
     byte = (uint8_t)any32();
     compare_step();
 }
@@ -140,6 +145,7 @@ static void forge(void) {
     tb_loader l = {.part = part, .rp = (uint8_t)(chance(95) ? 1 + below(2) : any32()), .block = block, .vpp_mv = some_vpp(6)};
     l.stage = (uint8_t)(chance(95) ? below(12) : any32());
     l.end = (uint8_t)(l.stage == 11 ? (chance(70) ? ONE_OF(0, 20, 21, 25, 25, 11) : any32()) : chance(96) ? 0 : any32());
+    l.verify = (uint8_t)(chance(96) ? below(2) : any32());
     l.polls = chance(50) ? 0 : chance(90) ? 65530 + below(6) : any32();
     l.place = chance(60) ? below(b.length) : ONE_OF(0, b.length - 1, b.length - 1, b.length - 2, b.length - 2, b.length, b.length + 1);
     if (chance(3))

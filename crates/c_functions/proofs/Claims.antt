@@ -1,6 +1,7 @@
--- What is claimed of the C functions, in one place. Assumes nothing.
+-- What is claimed of the C functions, in one place. What is said of a stage and a verify holds of a run, a load alone and a verify
+-- alone, and of a load and a verify from a file. Assumes nothing.
 use mathlib.Core.Path.{_≡_}
-use mathlib.Core.Bool.{true, false}
+use mathlib.Core.Bool.{Bool, true, false}
 use mathlib.Core.List.{List}
 use Prim.Native.Nat.{ℕ}
 use lib.ListN.{length}
@@ -12,15 +13,17 @@ use Rattle.model_types.specs.declared.Cycle.{Cycle}
 use Rattle.model_types.specs.declared.State.{State}
 use Rattle.model_types.specs.States.{improper}
 use Rattle.model.specs.Arrays.{answerOf, arrayAfter}
+use Rattle.loader.specs.declared.Stage.{Stage}
+use Rattle.loader.specs.Stages.{isEnded}
 use Rattle.loader.specs.declared.Loader.{Loader}
 use Rattle.loader.specs.declared.Turn.the-variants.{Barred}
 use Rattle.loader_steps.specs.Front.{stepGiven, scratchAfter}
-use Rattle.loader_run.specs.Runs.{runNumber, ranOf, bytesOf, scratchOf}
-use Rattle.loader_from_file.specs.Loads.{loadNumber, loadedOf, bytesLoaded, wantedLoaded, scratchLoaded}
+use Rattle.loader_run.specs.Runs.{runNumber, runLeftAt}
+use Rattle.loader_from_file.specs.Loads.{loadNumber, fileLeftAt}
 use Rattle.c_cycle.specs.Values.{deviceIn, deviceOut, pinsIn, noState, stateIn, stateOut, cycleOut}
 use Rattle.c_records.specs.Records.{noRecord, loaderIn, loaderOut, turnOut}
 use Rattle.c_cycle.specs.Answers.{seenOut, valueOut}
-use Rattle.c_functions.specs.Calls.{cycled, arrayCycled, steppedOf, scratchStepped, runOf, arrayRun, scratchRun, loadOf, arrayLoad, wantedLoad, scratchLoad, writtenOf, fileLeft, fileRead, payloadLeft, ranNumbers}
+use Rattle.c_functions.specs.Calls.{cycled, arrayCycled, steppedOf, scratchStepped, runAtOf, arrayRunAt, scratchRunAt, fileAtOf, arrayFileAt, wantedFileAt, scratchFileAt, writtenOf, fileLeft, fileRead, payloadLeft, ranNumbers}
 use Rattle.c_cycle.specs.declared.DeviceNumbers.{DeviceNumbers}
 use Rattle.c_cycle.specs.declared.StateNumbers.{StateNumbers}
 use Rattle.c_cycle.specs.declared.BusNumbers.{BusNumbers}
@@ -40,12 +43,12 @@ pub step-no-record : (l : LoaderNumbers) (b : ℕ) (w sc : List ℕ) → unknown
     → (steppedOf l b w sc .turn ≡ turnOut (Barred 3)) × (steppedOf l b w sc .loader ≡ l)
 step-no-record = returned.step-no-record
 
-pub run-no-state : (d : DeviceNumbers) (s : StateNumbers) (rp vpp k : ℕ) (xs w sc : List ℕ) → unknownDevice (deviceIn d) ≡ false → length xs ≡ sizeOf (deviceIn d .part)
-    → noState s ≡ true → runOf d s rp vpp k xs w sc ≡ record { count = 0; end = 3; address = 0; state = s }
+pub run-no-state : (stage : Stage) (verify : Bool) (d : DeviceNumbers) (s : StateNumbers) (rp vpp k : ℕ) (xs w sc : List ℕ) → unknownDevice (deviceIn d) ≡ false → length xs ≡ sizeOf (deviceIn d .part)
+    → noState s ≡ true → runAtOf stage verify d s rp vpp k xs w sc ≡ record { count = 0; end = 3; address = 0; state = s }
 run-no-state = returned.run-no-state
 
-pub load-no-state : (d : DeviceNumbers) (s : StateNumbers) (rp vpp k : ℕ) (xs w sc f : List ℕ) (asked : ℕ) → unknownDevice (deviceIn d) ≡ false
-    → length xs ≡ sizeOf (deviceIn d .part) → noState s ≡ true → loadOf d s rp vpp k f asked xs w sc ≡ record { count = 0; end = 3; address = 0; state = s }
+pub load-no-state : (stage : Stage) (verify : Bool) (d : DeviceNumbers) (s : StateNumbers) (rp vpp k : ℕ) (xs w sc : List ℕ) → isEnded stage ≡ false → (f : List ℕ) (asked : ℕ) → unknownDevice (deviceIn d) ≡ false
+    → length xs ≡ sizeOf (deviceIn d .part) → noState s ≡ true → fileAtOf stage verify d s rp vpp k f asked xs w sc ≡ record { count = 0; end = 3; address = 0; state = s }
 load-no-state = returned.load-no-state
 
 -- A refusal gives back the very numbers that came in, whatever they stand for, and leaves all that was lent.
@@ -57,15 +60,15 @@ pub step-refused : (l : LoaderNumbers) (b : ℕ) (w sc : List ℕ) → steppedOf
     → (steppedOf l b w sc .loader ≡ l) × (scratchStepped l b w sc ≡ sc)
 step-refused = returned.step-refused
 
-pub run-refused : (d : DeviceNumbers) (s : StateNumbers) (rp vpp k : ℕ) (xs w sc : List ℕ) (m : ℕ) → (m ≡ 0 → ⊥)
+pub run-refused : (stage : Stage) (verify : Bool) (d : DeviceNumbers) (s : StateNumbers) (rp vpp k : ℕ) (xs w sc : List ℕ) (m : ℕ) → (m ≡ 0 → ⊥)
     → runNumber (deviceIn d) (stateIn s) (pinsIn rp vpp) k (length xs) (length w) (length sc) ≡ m
-    → (runOf d s rp vpp k xs w sc ≡ record { count = 0; end = m; address = 0; state = s }) × (arrayRun d s rp vpp k xs w sc ≡ xs) × (scratchRun d s rp vpp k xs w sc ≡ sc)
+    → (runAtOf stage verify d s rp vpp k xs w sc ≡ record { count = 0; end = m; address = 0; state = s }) × (arrayRunAt stage verify d s rp vpp k xs w sc ≡ xs) × (scratchRunAt stage verify d s rp vpp k xs w sc ≡ sc)
 run-refused = returned.run-refused
 
-pub load-refused : (d : DeviceNumbers) (s : StateNumbers) (rp vpp k : ℕ) (xs w sc f : List ℕ) (asked m : ℕ) → (m ≡ 0 → ⊥)
+pub load-refused : (stage : Stage) (verify : Bool) (d : DeviceNumbers) (s : StateNumbers) (rp vpp k : ℕ) (xs w sc : List ℕ) → isEnded stage ≡ false → (f : List ℕ) (asked m : ℕ) → (m ≡ 0 → ⊥)
     → loadNumber (deviceIn d) (stateIn s) (pinsIn rp vpp) k (length xs) (length w) (length sc) f asked ≡ m
-    → (loadOf d s rp vpp k f asked xs w sc ≡ record { count = 0; end = m; address = 0; state = s }) × (arrayLoad d s rp vpp k f asked xs w sc ≡ xs)
-    × (wantedLoad d s rp vpp k f asked xs w sc ≡ w) × (scratchLoad d s rp vpp k f asked xs w sc ≡ sc)
+    → (fileAtOf stage verify d s rp vpp k f asked xs w sc ≡ record { count = 0; end = m; address = 0; state = s }) × (arrayFileAt stage verify d s rp vpp k f asked xs w sc ≡ xs)
+    × (wantedFileAt stage verify d s rp vpp k f asked xs w sc ≡ w) × (scratchFileAt stage verify d s rp vpp k f asked xs w sc ≡ sc)
 load-refused = returned.load-refused
 
 pub write-refused : (letter : ℕ) (p out : List ℕ) → (writtenOf letter p out .number ≡ 0 → ⊥) → (writtenOf letter p out .length ≡ 0) × (fileLeft letter p out ≡ out)
@@ -86,15 +89,15 @@ pub step-typed : (l : Loader) (b : ℕ) (w sc : List ℕ)
     × (scratchStepped (loaderOut l) b w sc ≡ scratchAfter l b w sc)
 step-typed = returned.step-typed
 
-pub run-typed : (d : Device) (s : State) (p : Pins) (k : ℕ) (xs w sc : List ℕ)
-    → (runOf (deviceOut d) (stateOut s) (p .rp) (p .vpp) k xs w sc ≡ ranNumbers (ranOf d s p k xs w sc))
-    × (arrayRun (deviceOut d) (stateOut s) (p .rp) (p .vpp) k xs w sc ≡ bytesOf d s p k xs w sc)
-    × (scratchRun (deviceOut d) (stateOut s) (p .rp) (p .vpp) k xs w sc ≡ scratchOf d s p k xs w sc)
+pub run-typed : (stage : Stage) (verify : Bool) (d : Device) (s : State) (p : Pins) (k : ℕ) (xs w sc : List ℕ)
+    → (runAtOf stage verify (deviceOut d) (stateOut s) (p .rp) (p .vpp) k xs w sc ≡ ranNumbers (runLeftAt stage verify d s p k xs w sc .ran))
+    × (arrayRunAt stage verify (deviceOut d) (stateOut s) (p .rp) (p .vpp) k xs w sc ≡ runLeftAt stage verify d s p k xs w sc .bytes)
+    × (scratchRunAt stage verify (deviceOut d) (stateOut s) (p .rp) (p .vpp) k xs w sc ≡ runLeftAt stage verify d s p k xs w sc .scratch)
 run-typed = returned.run-typed
 
-pub load-typed : (d : Device) (s : State) (p : Pins) (k : ℕ) (f : List ℕ) (asked : ℕ) (xs w sc : List ℕ)
-    → (loadOf (deviceOut d) (stateOut s) (p .rp) (p .vpp) k f asked xs w sc ≡ ranNumbers (loadedOf d s p k xs w sc f asked))
-    × (arrayLoad (deviceOut d) (stateOut s) (p .rp) (p .vpp) k f asked xs w sc ≡ bytesLoaded d s p k xs w sc f asked)
-    × (wantedLoad (deviceOut d) (stateOut s) (p .rp) (p .vpp) k f asked xs w sc ≡ wantedLoaded d s p k xs w sc f asked)
-    × (scratchLoad (deviceOut d) (stateOut s) (p .rp) (p .vpp) k f asked xs w sc ≡ scratchLoaded d s p k xs w sc f asked)
+pub load-typed : (stage : Stage) (verify : Bool) (d : Device) (s : State) (p : Pins) (k : ℕ) (f : List ℕ) (asked : ℕ) (xs w sc : List ℕ)
+    → (fileAtOf stage verify (deviceOut d) (stateOut s) (p .rp) (p .vpp) k f asked xs w sc ≡ ranNumbers (fileLeftAt stage verify d s p k xs w sc f asked .ran))
+    × (arrayFileAt stage verify (deviceOut d) (stateOut s) (p .rp) (p .vpp) k f asked xs w sc ≡ fileLeftAt stage verify d s p k xs w sc f asked .bytes)
+    × (wantedFileAt stage verify (deviceOut d) (stateOut s) (p .rp) (p .vpp) k f asked xs w sc ≡ fileLeftAt stage verify d s p k xs w sc f asked .wanted)
+    × (scratchFileAt stage verify (deviceOut d) (stateOut s) (p .rp) (p .vpp) k f asked xs w sc ≡ fileLeftAt stage verify d s p k xs w sc f asked .scratch)
 load-typed = returned.load-typed

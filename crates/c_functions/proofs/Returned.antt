@@ -1,6 +1,6 @@
 -- What the C functions give back: what came in where they refuse, and else the typed functions' answers. Assumes nothing.
 use mathlib.Core.Path.{_≡_, refl, sym, _∙_, ap}
-use mathlib.Core.Bool.{true, false, not}
+use mathlib.Core.Bool.{Bool, true, false, not}
 use mathlib.Core.List.{List}
 use Prim.Native.Nat.{ℕ}
 use native.Mathlib.Omega.{arith}
@@ -20,21 +20,23 @@ use Rattle.model.specs.declared.Seen.{Seen}
 use Rattle.model.specs.declared.Seen.the-variants.{NoData, Byte, Refused}
 use Rattle.model.specs.Arrays.{answerOf, arrayAfter}
 use Rattle.model.proofs.Claims as model-claims
+use Rattle.loader.specs.declared.Stage.{Stage}
+use Rattle.loader.specs.Stages.{isEnded}
 use Rattle.loader.specs.declared.Loader.{Loader}
 use Rattle.loader.specs.declared.Turn.{Turn}
 use Rattle.loader.specs.declared.Turn.the-variants.{Out, Over, Barred}
 use Rattle.loader_steps.specs.Front.{stepGiven, scratchAfter}
 use Rattle.loader_steps.proofs.Claims as loader-claims
 use Rattle.loader_run.specs.declared.Ran.{Ran}
-use Rattle.loader_run.specs.Runs.{runRows, runNumber, ranOf, bytesOf, scratchOf, RunLeft}
+use Rattle.loader_run.specs.Runs.{runRows, runNumber, runLeftAt, RunLeft}
 use Rattle.loader_run.proofs.Leaving.{left-refused}
-use Rattle.loader_from_file.specs.Loads.{loadRows, loadNumber, loadedOf, bytesLoaded, wantedLoaded, scratchLoaded}
+use Rattle.loader_from_file.specs.Loads.{loadRows, loadNumber, fileLeftAt}
 use Rattle.loader_from_file.proofs.Leaving as load-leaving
 use Rattle.file_codec.specs.File.{Outcome, refused, made, limit, inRoom, leftIn, readerOf, writerOf, readAs, writtenAs}
 use Rattle.c_cycle.specs.Values.{deviceIn, pinsIn, noState, stateIn, stateOut, cycleIn, cycleOut, deviceOut}
 use Rattle.c_records.specs.Records.{noRecord, loaderIn, loaderOut, loaderBack, turnOut, ranOut, writtenOut, readOut}
 use Rattle.c_cycle.specs.Answers.{stateBack, seenOut, valueOut, answerOut}
-use Rattle.c_functions.specs.Calls.{cycled, arrayCycled, steppedOf, scratchStepped, runOf, arrayRun, scratchRun, loadOf, arrayLoad, wantedLoad, scratchLoad, writtenOf, fileLeft, fileRead, payloadLeft, ranNumbers}
+use Rattle.c_functions.specs.Calls.{cycled, arrayCycled, steppedOf, scratchStepped, runAtOf, arrayRunAt, scratchRunAt, fileAtOf, arrayFileAt, wantedFileAt, scratchFileAt, writtenOf, fileLeft, fileRead, payloadLeft, ranNumbers}
 use Rattle.c_cycle.specs.declared.DeviceNumbers.{DeviceNumbers}
 use Rattle.c_cycle.specs.declared.StateNumbers.{StateNumbers}
 use Rattle.c_cycle.specs.declared.BusNumbers.{BusNumbers}
@@ -109,15 +111,15 @@ module _ (l : LoaderNumbers) (b : ℕ) (w sc : List ℕ) where
       let k = loader-claims.step-refused-leaves (loaderIn l) b w sc 3 turn in
       (ap (λ (t : Turn). turnOut t) turn, ap (λ (m : Loader). loaderBack l m) (k .0) ∙ record-same l)
 
-module _ (d : DeviceNumbers) (s : StateNumbers) (rp vpp k : ℕ) (xs w sc : List ℕ) where
+module _ (stage : Stage) (verify : Bool) (d : DeviceNumbers) (s : StateNumbers) (rp vpp k : ℕ) (xs w sc : List ℕ) where
   abbrev numberOfRun : ℕ
   numberOfRun = runNumber (deviceIn d) (stateIn s) (pinsIn rp vpp) k (length xs) (length w) (length sc)
 
   pub run-refused : (m : ℕ) → (m ≡ 0 → ⊥) → numberOfRun ≡ m
-      → (runOf d s rp vpp k xs w sc ≡ record { count = 0; end = m; address = 0; state = s }) × (arrayRun d s rp vpp k xs w sc ≡ xs) × (scratchRun d s rp vpp k xs w sc ≡ sc)
-  unfolding runOf arrayRun scratchRun
+      → (runAtOf stage verify d s rp vpp k xs w sc ≡ record { count = 0; end = m; address = 0; state = s }) × (arrayRunAt stage verify d s rp vpp k xs w sc ≡ xs) × (scratchRunAt stage verify d s rp vpp k xs w sc ≡ sc)
+  unfolding runAtOf arrayRunAt scratchRunAt
   run-refused m z e =
-      let q = left-refused (deviceIn d) (stateIn s) (pinsIn rp vpp) k xs w sc (λ (h : numberOfRun ≡ 0). z (sym e ∙ h)) in
+      let q = left-refused stage verify (deviceIn d) (stateIn s) (pinsIn rp vpp) k xs w sc (λ (h : numberOfRun ≡ 0). z (sym e ∙ h)) in
       let t = state-same s in (
         ap (λ (r : RunLeft). ranOut s (r .ran)) q ∙ (λ i. record { count = 0; end = e i; address = 0; state = t i }),
         ap (λ (r : RunLeft). r .bytes) q,
@@ -133,25 +135,25 @@ module _ (d : DeviceNumbers) (s : StateNumbers) (rp vpp k : ℕ) (xs w sc : List
       foremost-given f
 
   pub run-no-state : unknownDevice (deviceIn d) ≡ false → length xs ≡ sizeOf (deviceIn d .part) → noState s ≡ true
-      → runOf d s rp vpp k xs w sc ≡ record { count = 0; end = 3; address = 0; state = s }
+      → runAtOf stage verify d s rp vpp k xs w sc ≡ record { count = 0; end = 3; address = 0; state = s }
   run-no-state known whole e = run-refused 3 (λ (z : 3 ≡ 0). (omega arith)) (third known whole e) .0
 
-  pub load-refused : (f : List ℕ) (asked m : ℕ) → (m ≡ 0 → ⊥) → loadNumber (deviceIn d) (stateIn s) (pinsIn rp vpp) k (length xs) (length w) (length sc) f asked ≡ m
-      → (loadOf d s rp vpp k f asked xs w sc ≡ record { count = 0; end = m; address = 0; state = s }) × (arrayLoad d s rp vpp k f asked xs w sc ≡ xs)
-      × (wantedLoad d s rp vpp k f asked xs w sc ≡ w) × (scratchLoad d s rp vpp k f asked xs w sc ≡ sc)
-  unfolding loadOf arrayLoad wantedLoad scratchLoad
-  load-refused f asked m z e =
-      let n = load-leaving.refused-touches-nothing (deviceIn d) (stateIn s) (pinsIn rp vpp) k xs w sc f asked m z e in
+  pub load-refused : isEnded stage ≡ false → (f : List ℕ) (asked m : ℕ) → (m ≡ 0 → ⊥) → loadNumber (deviceIn d) (stateIn s) (pinsIn rp vpp) k (length xs) (length w) (length sc) f asked ≡ m
+      → (fileAtOf stage verify d s rp vpp k f asked xs w sc ≡ record { count = 0; end = m; address = 0; state = s }) × (arrayFileAt stage verify d s rp vpp k f asked xs w sc ≡ xs)
+      × (wantedFileAt stage verify d s rp vpp k f asked xs w sc ≡ w) × (scratchFileAt stage verify d s rp vpp k f asked xs w sc ≡ sc)
+  unfolding fileAtOf arrayFileAt wantedFileAt scratchFileAt
+  load-refused going f asked m z e =
+      let n = load-leaving.refused-touches-nothing stage verify going (deviceIn d) (stateIn s) (pinsIn rp vpp) k xs w sc f asked m z e in
       let t = state-same s in
       (ap (λ (r : Ran). ranOut s r) (n .0) ∙ (λ i. record { count = 0; end = m; address = 0; state = t i }), n .1, n .2, n .3)
 
-  pub load-no-state : (f : List ℕ) (asked : ℕ) → unknownDevice (deviceIn d) ≡ false → length xs ≡ sizeOf (deviceIn d .part) → noState s ≡ true
-      → loadOf d s rp vpp k f asked xs w sc ≡ record { count = 0; end = 3; address = 0; state = s }
+  pub load-no-state : isEnded stage ≡ false → (f : List ℕ) (asked : ℕ) → unknownDevice (deviceIn d) ≡ false → length xs ≡ sizeOf (deviceIn d .part) → noState s ≡ true
+      → fileAtOf stage verify d s rp vpp k f asked xs w sc ≡ record { count = 0; end = 3; address = 0; state = s }
   unfolding loadNumber
-  load-no-state f asked known whole e =
+  load-no-state going f asked known whole e =
       let h : Foremost (loadRows (deviceIn d) (stateIn s) (pinsIn rp vpp) k (length xs) (length w) (length sc) f asked) 3 =
       below known (below (ap not (eq-eqb (length xs) (sizeOf (deviceIn d .part)) whole)) (here (no-state-improper s e (deviceIn d)))) in
-      load-refused f asked 3 (λ (z : 3 ≡ 0). (omega arith)) (foremost-given h) .0
+      load-refused going f asked 3 (λ (z : 3 ≡ 0). (omega arith)) (foremost-given h) .0
 
 -- the writer's and the reader's refusals
 write-left : (o : Outcome) (out : List ℕ) → (writtenOut (writtenAs o) .number ≡ 0 → ⊥) → (writtenOut (writtenAs o) .length ≡ 0) × (leftIn out o ≡ out)
@@ -197,32 +199,32 @@ step-typed l b w sc =
       λ i. scratchAfter (m i) b w sc,
     )
 
-pub run-typed : (d : Device) (s : State) (p : Pins) (k : ℕ) (xs w sc : List ℕ)
-    → (runOf (deviceOut d) (stateOut s) (p .rp) (p .vpp) k xs w sc ≡ ranNumbers (ranOf d s p k xs w sc))
-    × (arrayRun (deviceOut d) (stateOut s) (p .rp) (p .vpp) k xs w sc ≡ bytesOf d s p k xs w sc)
-    × (scratchRun (deviceOut d) (stateOut s) (p .rp) (p .vpp) k xs w sc ≡ scratchOf d s p k xs w sc)
-unfolding runOf arrayRun scratchRun
-run-typed d s p k xs w sc =
+pub run-typed : (stage : Stage) (verify : Bool) (d : Device) (s : State) (p : Pins) (k : ℕ) (xs w sc : List ℕ)
+    → (runAtOf stage verify (deviceOut d) (stateOut s) (p .rp) (p .vpp) k xs w sc ≡ ranNumbers (runLeftAt stage verify d s p k xs w sc .ran))
+    × (arrayRunAt stage verify (deviceOut d) (stateOut s) (p .rp) (p .vpp) k xs w sc ≡ runLeftAt stage verify d s p k xs w sc .bytes)
+    × (scratchRunAt stage verify (deviceOut d) (stateOut s) (p .rp) (p .vpp) k xs w sc ≡ runLeftAt stage verify d s p k xs w sc .scratch)
+unfolding runAtOf arrayRunAt scratchRunAt
+run-typed stage verify d s p k xs w sc =
     let t = state-back s in
-    let r : Ran = ranOf d s p k xs w sc in
+    let r : Ran = runLeftAt stage verify d s p k xs w sc .ran in
     let back = state-given s (r .state) in (
-      (λ i. ranOut (stateOut s) (ranOf d (t i) p k xs w sc)) ∙ (λ i. record { count = r .count; end = r .end; address = r .address; state = back i }),
-      λ i. bytesOf d (t i) p k xs w sc,
-      λ i. scratchOf d (t i) p k xs w sc,
+      (λ i. ranOut (stateOut s) (runLeftAt stage verify d (t i) p k xs w sc .ran)) ∙ (λ i. record { count = r .count; end = r .end; address = r .address; state = back i }),
+      λ i. runLeftAt stage verify d (t i) p k xs w sc .bytes,
+      λ i. runLeftAt stage verify d (t i) p k xs w sc .scratch,
     )
 
-pub load-typed : (d : Device) (s : State) (p : Pins) (k : ℕ) (f : List ℕ) (asked : ℕ) (xs w sc : List ℕ)
-    → (loadOf (deviceOut d) (stateOut s) (p .rp) (p .vpp) k f asked xs w sc ≡ ranNumbers (loadedOf d s p k xs w sc f asked))
-    × (arrayLoad (deviceOut d) (stateOut s) (p .rp) (p .vpp) k f asked xs w sc ≡ bytesLoaded d s p k xs w sc f asked)
-    × (wantedLoad (deviceOut d) (stateOut s) (p .rp) (p .vpp) k f asked xs w sc ≡ wantedLoaded d s p k xs w sc f asked)
-    × (scratchLoad (deviceOut d) (stateOut s) (p .rp) (p .vpp) k f asked xs w sc ≡ scratchLoaded d s p k xs w sc f asked)
-unfolding loadOf arrayLoad wantedLoad scratchLoad
-load-typed d s p k f asked xs w sc =
+pub load-typed : (stage : Stage) (verify : Bool) (d : Device) (s : State) (p : Pins) (k : ℕ) (f : List ℕ) (asked : ℕ) (xs w sc : List ℕ)
+    → (fileAtOf stage verify (deviceOut d) (stateOut s) (p .rp) (p .vpp) k f asked xs w sc ≡ ranNumbers (fileLeftAt stage verify d s p k xs w sc f asked .ran))
+    × (arrayFileAt stage verify (deviceOut d) (stateOut s) (p .rp) (p .vpp) k f asked xs w sc ≡ fileLeftAt stage verify d s p k xs w sc f asked .bytes)
+    × (wantedFileAt stage verify (deviceOut d) (stateOut s) (p .rp) (p .vpp) k f asked xs w sc ≡ fileLeftAt stage verify d s p k xs w sc f asked .wanted)
+    × (scratchFileAt stage verify (deviceOut d) (stateOut s) (p .rp) (p .vpp) k f asked xs w sc ≡ fileLeftAt stage verify d s p k xs w sc f asked .scratch)
+unfolding fileAtOf arrayFileAt wantedFileAt scratchFileAt
+load-typed stage verify d s p k f asked xs w sc =
     let t = state-back s in
-    let r : Ran = loadedOf d s p k xs w sc f asked in
+    let r : Ran = fileLeftAt stage verify d s p k xs w sc f asked .ran in
     let back = state-given s (r .state) in (
-      (λ i. ranOut (stateOut s) (loadedOf d (t i) p k xs w sc f asked)) ∙ (λ i. record { count = r .count; end = r .end; address = r .address; state = back i }),
-      λ i. bytesLoaded d (t i) p k xs w sc f asked,
-      λ i. wantedLoaded d (t i) p k xs w sc f asked,
-      λ i. scratchLoaded d (t i) p k xs w sc f asked,
+      (λ i. ranOut (stateOut s) (fileLeftAt stage verify d (t i) p k xs w sc f asked .ran)) ∙ (λ i. record { count = r .count; end = r .end; address = r .address; state = back i }),
+      λ i. fileLeftAt stage verify d (t i) p k xs w sc f asked .bytes,
+      λ i. fileLeftAt stage verify d (t i) p k xs w sc f asked .wanted,
+      λ i. fileLeftAt stage verify d (t i) p k xs w sc f asked .scratch,
     )

@@ -10,7 +10,7 @@ use Rattle.file_check.specs.Check.{checkOf}
 use Rattle.c_cycle.specs.Values.{stateOut}
 use Rattle.c_records.specs.declared.BlockNumbers.{BlockNumbers}
 use Rattle.c_functions.specs.Geometry.{sizeGiven, blockGiven}
-use Rattle.c_functions.specs.Calls.{cycled, arrayCycled, started, steppedOf, scratchStepped, runOf, arrayRun, scratchRun, loadOf, arrayLoad, wantedLoad, scratchLoad, writtenOf, fileLeft, fileRead, payloadLeft, readingGiven, readingRead}
+use Rattle.c_functions.specs.Calls.{cycled, arrayCycled, started, steppedOf, scratchStepped, runOf, arrayRun, scratchRun, loadOf, arrayLoad, wantedLoad, scratchLoad, loadStarted, verifyStarted, loadRunOf, arrayLoadRun, scratchLoadRun, verifyRunOf, arrayVerifyRun, scratchVerifyRun, verifyFileOf, arrayVerifyFile, wantedVerifyFile, scratchVerifyFile, writtenOf, fileLeft, fileRead, payloadLeft, readingGiven, readingRead}
 use Rattle.c_readings.specs.declared.ReadingNumbers.{ReadingNumbers}
 use Rattle.reading_table.specs.Table.{tableNumber}
 use lib.IntN.{ℤ}
@@ -78,6 +78,42 @@ load-wanted-unique d s rp vpp k f asked xs w sc = only (wantedLoad d s rp vpp k 
 pub load-scratch-unique : (d : DeviceNumbers) (s : StateNumbers) (rp vpp k : ℕ) (f : List ℕ) (asked : ℕ) (xs w sc : List ℕ)
     → Unique (λ (left : List ℕ). left ≡ scratchLoad d s rp vpp k f asked xs w sc)
 load-scratch-unique d s rp vpp k f asked xs w sc = only (scratchLoad d s rp vpp k f asked xs w sc)
+
+pub load-start-unique : (part rp vpp k : ℕ) (w sc : List ℕ) → Unique (λ (r : GivenNumbers). r ≡ loadStarted part rp vpp k w sc)
+load-start-unique part rp vpp k w sc = only (loadStarted part rp vpp k w sc)
+
+pub verify-start-unique : (part rp vpp k : ℕ) (w sc : List ℕ) → Unique (λ (r : GivenNumbers). r ≡ verifyStarted part rp vpp k w sc)
+verify-start-unique part rp vpp k w sc = only (verifyStarted part rp vpp k w sc)
+
+pub load-run-unique : (d : DeviceNumbers) (s : StateNumbers) (rp vpp k : ℕ) (xs w sc : List ℕ) → Unique (λ (r : RanNumbers). r ≡ loadRunOf d s rp vpp k xs w sc)
+load-run-unique d s rp vpp k xs w sc = only (loadRunOf d s rp vpp k xs w sc)
+
+pub load-run-array-unique : (d : DeviceNumbers) (s : StateNumbers) (rp vpp k : ℕ) (xs w sc : List ℕ) → Unique (λ (left : List ℕ). left ≡ arrayLoadRun d s rp vpp k xs w sc)
+load-run-array-unique d s rp vpp k xs w sc = only (arrayLoadRun d s rp vpp k xs w sc)
+
+pub load-run-scratch-unique : (d : DeviceNumbers) (s : StateNumbers) (rp vpp k : ℕ) (xs w sc : List ℕ) → Unique (λ (left : List ℕ). left ≡ scratchLoadRun d s rp vpp k xs w sc)
+load-run-scratch-unique d s rp vpp k xs w sc = only (scratchLoadRun d s rp vpp k xs w sc)
+
+pub verify-run-unique : (d : DeviceNumbers) (s : StateNumbers) (rp vpp k : ℕ) (xs w sc : List ℕ) → Unique (λ (r : RanNumbers). r ≡ verifyRunOf d s rp vpp k xs w sc)
+verify-run-unique d s rp vpp k xs w sc = only (verifyRunOf d s rp vpp k xs w sc)
+
+pub verify-run-array-unique : (d : DeviceNumbers) (s : StateNumbers) (rp vpp k : ℕ) (xs w sc : List ℕ) → Unique (λ (left : List ℕ). left ≡ arrayVerifyRun d s rp vpp k xs w sc)
+verify-run-array-unique d s rp vpp k xs w sc = only (arrayVerifyRun d s rp vpp k xs w sc)
+
+pub verify-run-scratch-unique : (d : DeviceNumbers) (s : StateNumbers) (rp vpp k : ℕ) (xs w sc : List ℕ) → Unique (λ (left : List ℕ). left ≡ scratchVerifyRun d s rp vpp k xs w sc)
+verify-run-scratch-unique d s rp vpp k xs w sc = only (scratchVerifyRun d s rp vpp k xs w sc)
+
+pub verify-file-unique : (d : DeviceNumbers) (s : StateNumbers) (rp vpp k : ℕ) (f : List ℕ) (asked : ℕ) (xs w sc : List ℕ) → Unique (λ (r : RanNumbers). r ≡ verifyFileOf d s rp vpp k f asked xs w sc)
+verify-file-unique d s rp vpp k f asked xs w sc = only (verifyFileOf d s rp vpp k f asked xs w sc)
+
+pub verify-file-array-unique : (d : DeviceNumbers) (s : StateNumbers) (rp vpp k : ℕ) (f : List ℕ) (asked : ℕ) (xs w sc : List ℕ) → Unique (λ (left : List ℕ). left ≡ arrayVerifyFile d s rp vpp k f asked xs w sc)
+verify-file-array-unique d s rp vpp k f asked xs w sc = only (arrayVerifyFile d s rp vpp k f asked xs w sc)
+
+pub verify-file-wanted-unique : (d : DeviceNumbers) (s : StateNumbers) (rp vpp k : ℕ) (f : List ℕ) (asked : ℕ) (xs w sc : List ℕ) → Unique (λ (left : List ℕ). left ≡ wantedVerifyFile d s rp vpp k f asked xs w sc)
+verify-file-wanted-unique d s rp vpp k f asked xs w sc = only (wantedVerifyFile d s rp vpp k f asked xs w sc)
+
+pub verify-file-scratch-unique : (d : DeviceNumbers) (s : StateNumbers) (rp vpp k : ℕ) (f : List ℕ) (asked : ℕ) (xs w sc : List ℕ) → Unique (λ (left : List ℕ). left ≡ scratchVerifyFile d s rp vpp k f asked xs w sc)
+verify-file-scratch-unique d s rp vpp k f asked xs w sc = only (scratchVerifyFile d s rp vpp k f asked xs w sc)
 
 pub write-unique : (letter : ℕ) (p out : List ℕ) → Unique (λ (r : SizedNumbers). r ≡ writtenOf letter p out)
 write-unique letter p out = only (writtenOf letter p out)

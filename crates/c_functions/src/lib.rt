@@ -12,6 +12,7 @@ use c_records::RanNumbers;
 use c_records::SizedNumbers;
 use c_records::TurnNumbers;
 use device::Part;
+use loader::Given;
 ghost use mathlib.Core.Path.{_≡_};
 ghost use lib.ListN.{take};
 ghost use Rattle.model_types.specs.States.{freshState};
@@ -19,7 +20,7 @@ ghost use Rattle.file_check.specs.Check.{checkOf};
 ghost use Rattle.c_cycle.specs.Values.{stateOut};
 ghost use Rattle.reading_table.specs.Table.{tableNumber};
 ghost use Rattle.c_functions.specs.Geometry.{sizeGiven, blockGiven};
-ghost use Rattle.c_functions.specs.Calls.{cycled, arrayCycled, started, steppedOf, scratchStepped, runOf, arrayRun, scratchRun, loadOf, arrayLoad, wantedLoad, scratchLoad, writtenOf, fileLeft, fileRead, payloadLeft, readingGiven, readingRead};
+ghost use Rattle.c_functions.specs.Calls.{cycled, arrayCycled, givenOut, started, loadStarted, verifyStarted, steppedOf, scratchStepped, runOf, arrayRun, scratchRun, loadRunOf, arrayLoadRun, scratchLoadRun, verifyRunOf, arrayVerifyRun, scratchVerifyRun, loadOf, arrayLoad, wantedLoad, scratchLoad, verifyFileOf, arrayVerifyFile, wantedVerifyFile, scratchVerifyFile, writtenOf, fileLeft, fileRead, payloadLeft, readingGiven, readingRead};
 
 // A fresh device.
 #[no_mangle]
@@ -84,7 +85,19 @@ pub extern "C" fn tb_cycle(
     c_cycle::states::answer_out(state, a)
 }
 
-// The first cycle of a load.
+// What a start says, and the record.
+fn given_out(g: Given) -> GivenNumbers
+    ensures { λ r. ⌜ r ≡ givenOut g ⌝ }
+{
+    let turn = g.turn;
+    let record = g.loader;
+    GivenNumbers {
+        turn: c_records::records::turn_out(turn),
+        loader: c_records::records::loader_out(record),
+    }
+}
+
+// The first cycle of a load with the verify after it.
 #[no_mangle]
 pub extern "C" fn tb_start(
     part: u8,
@@ -97,19 +110,42 @@ pub extern "C" fn tb_start(
     ensures { λ r. ⌜ r ≡ started part rp vpp block (now (wanted .entry)) (now (scratch .entry)) ⌝ }
 {
     let known = Part { number: part };
-    let g = loader_steps::front::start(
-        known,
-        c_cycle::states::pins_in(rp, vpp),
-        block,
-        wanted,
-        scratch,
-    );
-    let turn = g.turn;
-    let record = g.loader;
-    GivenNumbers {
-        turn: c_records::records::turn_out(turn),
-        loader: c_records::records::loader_out(record),
-    }
+    let p = c_cycle::states::pins_in(rp, vpp);
+    given_out(loader_steps::front::start(known, p, block, wanted, scratch))
+}
+
+// The first cycle of a load alone.
+#[no_mangle]
+pub extern "C" fn tb_load_start(
+    part: u8,
+    rp: u8,
+    vpp: u32,
+    block: u8,
+    wanted: &[u8],
+    scratch: &[u8],
+) -> GivenNumbers
+    ensures { λ r. ⌜ r ≡ loadStarted part rp vpp block (now (wanted .entry)) (now (scratch .entry)) ⌝ }
+{
+    let known = Part { number: part };
+    let p = c_cycle::states::pins_in(rp, vpp);
+    given_out(loader_steps::front::start_load(known, p, block, wanted, scratch))
+}
+
+// The first cycle of a verify alone.
+#[no_mangle]
+pub extern "C" fn tb_verify_start(
+    part: u8,
+    rp: u8,
+    vpp: u32,
+    block: u8,
+    wanted: &[u8],
+    scratch: &[u8],
+) -> GivenNumbers
+    ensures { λ r. ⌜ r ≡ verifyStarted part rp vpp block (now (wanted .entry)) (now (scratch .entry)) ⌝ }
+{
+    let known = Part { number: part };
+    let p = c_cycle::states::pins_in(rp, vpp);
+    given_out(loader_steps::front::start_verify(known, p, block, wanted, scratch))
 }
 
 // A loader's step on numbers, by value.
@@ -143,7 +179,7 @@ pub extern "C" fn tb_step(
     g.turn
 }
 
-// A load of one block, against the model.
+// A load of one block and the verify after it, against the model.
 #[no_mangle]
 pub extern "C" fn tb_run(
     device: DeviceNumbers,
@@ -166,7 +202,53 @@ pub extern "C" fn tb_run(
     c_records::runs::ran_out(state, r)
 }
 
-// A load of one block from a file, against the model.
+// A load of one block alone, against the model.
+#[no_mangle]
+pub extern "C" fn tb_load_run(
+    device: DeviceNumbers,
+    state: StateNumbers,
+    rp: u8,
+    vpp: u32,
+    block: u8,
+    array: &mut [u8],
+    wanted: &[u8],
+    scratch: &mut [u8],
+) -> RanNumbers
+    ensures { λ r. ⌜ r ≡ loadRunOf device state rp vpp block (now (array .entry)) (now (wanted .entry)) (now (scratch .entry)) ⌝ }
+    ensures { λ _. ⌜ now (array .exit) ≡ arrayLoadRun device state rp vpp block (now (array .entry)) (now (wanted .entry)) (now (scratch .entry)) ⌝ }
+    ensures { λ _. ⌜ now (scratch .exit) ≡ scratchLoadRun device state rp vpp block (now (array .entry)) (now (wanted .entry)) (now (scratch .entry)) ⌝ }
+{
+    let d = c_cycle::states::device_in(device);
+    let s = c_cycle::states::state_in(state);
+    let p = c_cycle::states::pins_in(rp, vpp);
+    let r = loader_run::run_load(d, s, p, block, array, wanted, scratch);
+    c_records::runs::ran_out(state, r)
+}
+
+// A verify of one block alone, against the model.
+#[no_mangle]
+pub extern "C" fn tb_verify_run(
+    device: DeviceNumbers,
+    state: StateNumbers,
+    rp: u8,
+    vpp: u32,
+    block: u8,
+    array: &mut [u8],
+    wanted: &[u8],
+    scratch: &mut [u8],
+) -> RanNumbers
+    ensures { λ r. ⌜ r ≡ verifyRunOf device state rp vpp block (now (array .entry)) (now (wanted .entry)) (now (scratch .entry)) ⌝ }
+    ensures { λ _. ⌜ now (array .exit) ≡ arrayVerifyRun device state rp vpp block (now (array .entry)) (now (wanted .entry)) (now (scratch .entry)) ⌝ }
+    ensures { λ _. ⌜ now (scratch .exit) ≡ scratchVerifyRun device state rp vpp block (now (array .entry)) (now (wanted .entry)) (now (scratch .entry)) ⌝ }
+{
+    let d = c_cycle::states::device_in(device);
+    let s = c_cycle::states::state_in(state);
+    let p = c_cycle::states::pins_in(rp, vpp);
+    let r = loader_run::run_verify(d, s, p, block, array, wanted, scratch);
+    c_records::runs::ran_out(state, r)
+}
+
+// A load of one block from a file and the verify after it, against the model.
 #[no_mangle]
 pub extern "C" fn tb_load(
     device: DeviceNumbers,
@@ -189,6 +271,42 @@ pub extern "C" fn tb_load(
     let s = c_cycle::states::state_in(state);
     let p = c_cycle::states::pins_in(rp, vpp);
     let r = loader_from_file::load(d, s, p, block, array, wanted, scratch, file, letter);
+    c_records::runs::ran_out(state, r)
+}
+
+// A verify of one block against a file, against the model.
+#[no_mangle]
+pub extern "C" fn tb_verify_file(
+    device: DeviceNumbers,
+    state: StateNumbers,
+    rp: u8,
+    vpp: u32,
+    block: u8,
+    letter: u8,
+    file: &[u8],
+    array: &mut [u8],
+    wanted: &mut [u8],
+    scratch: &mut [u8],
+) -> RanNumbers
+    ensures { λ r. ⌜ r ≡ verifyFileOf device state rp vpp block (now (file .entry)) letter (now (array .entry)) (now (wanted .entry)) (now (scratch .entry)) ⌝ }
+    ensures { λ _. ⌜ now (array .exit) ≡ arrayVerifyFile device state rp vpp block (now (file .entry)) letter (now (array .entry)) (now (wanted .entry)) (now (scratch .entry)) ⌝ }
+    ensures { λ _. ⌜ now (wanted .exit) ≡ wantedVerifyFile device state rp vpp block (now (file .entry)) letter (now (array .entry)) (now (wanted .entry)) (now (scratch .entry)) ⌝ }
+    ensures { λ _. ⌜ now (scratch .exit) ≡ scratchVerifyFile device state rp vpp block (now (file .entry)) letter (now (array .entry)) (now (wanted .entry)) (now (scratch .entry)) ⌝ }
+{
+    let d = c_cycle::states::device_in(device);
+    let s = c_cycle::states::state_in(state);
+    let p = c_cycle::states::pins_in(rp, vpp);
+    let r = loader_from_file::verify_from_file(
+        d,
+        s,
+        p,
+        block,
+        array,
+        wanted,
+        scratch,
+        file,
+        letter,
+    );
     c_records::runs::ran_out(state, r)
 }
 

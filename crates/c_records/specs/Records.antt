@@ -57,9 +57,13 @@ stageOut (Ended end) = 11
 abbrev pub endOut : Stage → ℕ
 endOut stage = if isEnded stage then endBy stage else 0
 
--- the numbers stand for no record: no such stage, or an end's number in a load that goes on
+-- the numbers stand for no record: no such stage, an end's number in a load that goes on, or a verify that is neither 0 nor 1
 unfoldable pub noRecord : LoaderNumbers → Bool
-noRecord n = ltb 11 (n .stage) || (not (eqb (n .end) 0) && not (eqb (n .stage) 11))
+noRecord n = (ltb 11 (n .stage) || (not (eqb (n .end) 0) && not (eqb (n .stage) 11))) || ltb 1 (n .verify)
+
+-- whether the verify follows the load: 1 or 0
+abbrev pub verifyOut : Bool → ℕ
+verifyOut verify = if verify then 1 else 0
 
 -- polls of a record; where the numbers stand for none, a count that every step refuses
 unfoldable pub pollsIn : LoaderNumbers → ℕ
@@ -75,6 +79,7 @@ loaderIn n =
       stage = stageIn (n .stage) (n .end);
       place = n .place;
       polls = pollsIn n;
+      verify = eqb (n .verify) 1;
     }
 
 abbrev pub loaderOut : Loader → LoaderNumbers
@@ -85,6 +90,7 @@ loaderOut l =
       block = l .block;
       stage = stageOut (l .stage);
       end = endOut (l .stage);
+      verify = verifyOut (l .verify);
       vpp = l .pins .vpp;
       polls = l .polls;
       place = l .place;

@@ -15,6 +15,7 @@ pub struct LoaderNumbers {
     pub block: u8,
     pub stage: u8,
     pub end: u8,
+    pub verify: u8,
     pub vpp: u32,
     pub polls: u32,
     pub place: usize,

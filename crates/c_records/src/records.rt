@@ -10,7 +10,7 @@ use loader::Stage;
 use loader::Turn;
 use loader::stages::stage_is;
 ghost use mathlib.Core.Path.{_≡_};
-ghost use Rattle.c_records.specs.Records.{stageIn, stageOut, endOut, noRecord, pollsIn, loaderIn, loaderOut, loaderBack, noCycle, turnAt, turnOut};
+ghost use Rattle.c_records.specs.Records.{stageIn, stageOut, endOut, noRecord, pollsIn, verifyOut, loaderIn, loaderOut, loaderBack, noCycle, turnAt, turnOut};
 
 fn stage_in(n: u8, end: u8) -> Stage
     ensures { λ r. ⌜ r ≡ stageIn n end ⌝ }
@@ -64,7 +64,7 @@ fn end_out(stage: Stage) -> u8
 fn no_record(n: LoaderNumbers) -> bool
     ensures { λ r. ⌜ r ≡ noRecord n ⌝ }
 {
-    (11 < n.stage) | (!(n.end == 0) & !(n.stage == 11))
+    (11 < n.stage) | (!(n.end == 0) & !(n.stage == 11)) | (1 < n.verify)
 }
 
 fn polls_in(n: LoaderNumbers) -> u32
@@ -86,19 +86,31 @@ pub fn loader_in(n: LoaderNumbers) -> Loader
         stage: stage_in(n.stage, n.end),
         place: n.place,
         polls: polls_in(n),
+        verify: n.verify == 1,
     }
+}
+
+fn verify_out(verify: bool) -> u8
+    ensures { λ r. ⌜ r ≡ verifyOut verify ⌝ }
+{
+    if verify {
+        return 1;
+    }
+    0
 }
 
 pub fn loader_out(l: Loader) -> LoaderNumbers
     ensures { λ r. ⌜ r ≡ loaderOut l ⌝ }
 {
     let stage = l.stage;
+    let verify = l.verify;
     LoaderNumbers {
         part: l.part.number,
         rp: l.pins.rp,
         block: l.block,
         stage: stage_out(stage),
         end: end_out(stage),
+        verify: verify_out(verify),
         vpp: l.pins.vpp,
         polls: l.polls,
         place: l.place,

@@ -13,7 +13,7 @@ use Rattle.file_check.specs.Check.{checkOf}
 use Rattle.cards.specs.Table.{card1, card3, card4, card5, card6, card8, card9, card12, Cards}
 use Rattle.cards.proofs.Busy.{two}
 use Rattle.cards.proofs.Suspended.{seven}
-use Rattle.cards.proofs.Counts.{ten, eleven}
+use Rattle.cards.proofs.Counts.{ten, eleven, loads}
 
 holds-1 : card1 ≡ true
 unfolding shapeOf sizeIn lengthIn offsetIn holderIn turned startIn blockIn unknownPart unknownDevice sizeOf lengthOf startOf blockOf vppLow vppHigh badPins badLevels unlocked ones locked proper improper firstWrite afterErase whileErasing whileSuspending whileSuspended unsupplied startedOf cutBy countedOff suspendPassed passedOf settleOf pastArray shortResidue noCommand suspendedRead noIdentifier numberOf acceptOf decideOf erased residual arrayAfter answerOf
@@ -47,7 +47,7 @@ holds-12 : card12 ≡ true
 unfolding checkOf
 holds-12 = refl
 
--- the one theorem: all twelve hold
+-- the one theorem: all twelve hold, and so do the loads alone of 10 and 11
 pub all-twelve : Cards
 all-twelve = record {
   one = holds-1;
@@ -62,4 +62,5 @@ all-twelve = record {
   ten = ten;
   eleven = eleven;
   twelve = holds-12;
+  loads = loads;
 }

@@ -1,4 +1,4 @@
--- Cards 10 and 11: instances of the count of a good run. Assumes nothing.
+-- Cards 10 and 11: instances of the count of a good run, and of a good load alone. Assumes nothing.
 use mathlib.Core.Path.{_≡_, refl, ap, _∙_}
 use mathlib.Core.Bool.{Bool, true, false}
 use mathlib.Core.List.{List, _∷_}
@@ -18,12 +18,12 @@ use Rattle.loader_steps.specs.Front.{barredPins, noBlock, wrongLengths}
 use Rattle.loader.specs.Walks.{risesIn}
 use Rattle.loader_run.specs.declared.Ran.{Ran}
 use Rattle.loader_run.specs.Runs.{runNumber}
-use Rattle.loader_run_claims.specs.Wear.{differing, heldIn, formula}
+use Rattle.loader_run_claims.specs.Wear.{differing, heldIn, formula, loadFormula}
 use Rattle.loader_run_claims.specs.Mission.{Start}
 use Rattle.loader_run_claims.proofs.Starts.{taken-if}
 use Rattle.loader_run_claims.proofs.Same.{none-risen, none-differing}
-use Rattle.loader_run_claims.proofs.Claims.{ends-well}
-use Rattle.cards.specs.Table.{deviceT, normal, same, Counts, Card10, Card11}
+use Rattle.loader_run_claims.proofs.Mission as mission
+use Rattle.cards.specs.Table.{deviceT, normal, same, Counts, Card10, Card11, LoadCounts, Loads}
 
 -- nothing refuses such a run
 accepted : runNumber deviceT freshState normal 1 16384 512 512 ≡ 0
@@ -38,22 +38,33 @@ first : startOf (deviceT .part) 1 ≡ 0x3A00
 unfolding shapeOf sizeIn lengthIn offsetIn startIn startOf
 first = refl
 
-counts : (n : ℕ) (held w : List ℕ) → length w ≡ 512 → Bytes w → formula deviceT w held ≡ n → Counts n held w
+starts : (xs w sc : List ℕ) → length xs ≡ 16384 → length w ≡ 512 → length sc ≡ 512 → Bytes w → Start deviceT freshState normal 1 xs w sc
 unfolding ones
+starts xs w sc lx lw ls bytes = record {
+  base = taken-if deviceT freshState normal 1 xs w sc (rw (lx, lw, ls) accepted) (omega arith) (omega arith) (λ (i : ℕ). omega (arith, bytes i));
+  high = supply;
+  unlock = λ (e : _≡_ {A = ℕ} 1 0). absurd (omega arith);
+}
+
+-- what the block is found to hold
+held-there : (xs w held : List ℕ) → length w ≡ 512 → heldIn 0x3A00 512 xs ≡ held → heldIn (startOf (deviceT .part) 1) (length w) xs ≡ held
+held-there xs w held lw h = ap (λ (a : ℕ). heldIn a (length w) xs) first ∙ ap (λ (k : ℕ). heldIn 0x3A00 k xs) lw ∙ h
+
+counts : (n : ℕ) (held w : List ℕ) → length w ≡ 512 → Bytes w → formula deviceT w held ≡ n → Counts n held w
 counts n held w lw bytes f xs sc lx ls h =
-    ends-well deviceT freshState normal 1 xs w sc start
-    ∙ ap (λ (ys : List ℕ). result (formula deviceT w ys)) (ap (λ (a : ℕ). heldIn a (length w) xs) first ∙ ap (λ (k : ℕ). heldIn 0x3A00 k xs) lw ∙ h)
-    ∙ ap result f
+    mission.ends-well true deviceT freshState normal 1 xs w sc (starts xs w sc lx lw ls bytes) ∙ ap (λ (ys : List ℕ). result (formula deviceT w ys)) (held-there xs w held lw h) ∙ ap result f
   where
     result : ℕ → Ran
     result k = record { count = k; end = 0; address = 0; state = atRest freshState Array 128 }
 
-    start : Start deviceT freshState normal 1 xs w sc
-    start = record {
-      base = taken-if deviceT freshState normal 1 xs w sc (rw (lx, lw, ls) accepted) (omega arith) (omega arith) (λ (i : ℕ). omega (arith, bytes i));
-      high = supply;
-      unlock = λ (e : _≡_ {A = ℕ} 1 0). absurd (omega arith);
-    }
+load-counts : (n : ℕ) (held w : List ℕ) → length w ≡ 512 → Bytes w → loadFormula deviceT w held ≡ n → LoadCounts n held w
+load-counts n held w lw bytes f xs sc lx ls h =
+    let start = starts xs w sc lx lw ls bytes in
+    let e = mission.ends-well false deviceT freshState normal 1 xs w sc start in (
+      ap (λ (r : Ran). r .count) e ∙ ap (λ (ys : List ℕ). loadFormula deviceT w ys) (held-there xs w held lw h) ∙ f,
+      ap (λ (r : Ran). r .end) e,
+      mission.scratch-wanted false deviceT freshState normal 1 xs w sc start,
+    )
 
 -- a block that holds what is wanted
 level : (w : List ℕ) → length w ≡ 512 → formula deviceT w w ≡ 1027
@@ -62,6 +73,9 @@ level w e = go (risesIn w w) (none-risen w)
     go : (t : Bool) → t ≡ false → 2 * length w + 3 + (if t then 1 else 0) * (2 + 3) + differing (length w) 0 w (if t then replicate (length w) (ones (deviceT .part)) else w) * (2 + 2) ≡ 1027
     go true q = absurd (unlike q)
     go false q = rw (none-differing (length w) 0 w, e) refl
+
+load-level : (w : List ℕ) → length w ≡ 512 → loadFormula deviceT w w ≡ 514
+load-level w e = let q = level w e in let b = mission.formula-both deviceT w w in omega arith
 
 bytes-10 : Bytes (0x5A ∷ same 511 255)
 bytes-10 zero = omega arith
@@ -77,4 +91,12 @@ unfolding risesIn ones
 eleven = (
   counts _ (same 512 0) (same 512 255) refl (bytes-replicate 512 255 (omega arith)) refl,
   λ (w : List ℕ) (e : length w ≡ 512) (b : Bytes w). counts _ w w e b (level w e),
+)
+
+pub loads : Loads
+unfolding risesIn ones
+loads = (
+  load-counts _ (same 512 255) (0x5A ∷ same 511 255) refl bytes-10 refl,
+  load-counts _ (same 512 0) (same 512 255) refl (bytes-replicate 512 255 (omega arith)) refl,
+  λ (w : List ℕ) (e : length w ≡ 512) (b : Bytes w). load-counts _ w w e b (load-level w e),
 )

@@ -17,7 +17,7 @@ use Rattle.model.specs.declared.Seen.{Seen}
 use Rattle.model.specs.declared.Seen.the-variants.{NoData, Byte, Refused}
 use Rattle.file_check.specs.Check.{checkOf}
 use Rattle.model_history.specs.History.{Bus, World, worldAfter, seenOn, seenIn}
-use Rattle.loader_run.specs.Runs.{ranOf}
+use Rattle.loader_run.specs.Runs.{loadAlone, ranOf}
 use Rattle.loader_run_claims.specs.Wear.{heldIn}
 
 -- a part with P and E; S is 1
@@ -158,11 +158,23 @@ Card10 = Counts 1031 (same 512 255) (0x5A ∷ same 511 255)
 abbrev pub Card11 : Type 0
 Card11 = Counts 1032 (same 512 0) (same 512 255) × ((w : List ℕ) → length w ≡ 512 → Bytes w → Counts 1027 w w)
 
+-- a good load alone there makes n cycles, and its scratch ends as wanted
+abbrev pub LoadCounts : ℕ → List ℕ → List ℕ → Type 0
+LoadCounts n held wanted = (xs sc : List ℕ) → length xs ≡ 16384 → length sc ≡ 512 → heldIn 0x3A00 512 xs ≡ held
+    → (loadAlone deviceT freshState normal 1 xs wanted sc .ran .count ≡ n) × (loadAlone deviceT freshState normal 1 xs wanted sc .ran .end ≡ 0)
+    × (loadAlone deviceT freshState normal 1 xs wanted sc .scratch ≡ wanted)
+
+-- 10 and 11 without the verify: 518; 519 and 514
+abbrev pub Loads : Type 0
+Loads =
+    LoadCounts 518 (same 512 255) (0x5A ∷ same 511 255) × LoadCounts 519 (same 512 0) (same 512 255)
+    × ((w : List ℕ) → length w ≡ 512 → Bytes w → LoadCounts 514 w w)
+
 -- 12: the check over 510 bytes FFH is 8,629
 abbrev pub card12 : Bool
 card12 = eqb (checkOf (same 510 255)) 8629
 
--- the table of all twelve
+-- the table of all twelve, and the loads alone of 10 and 11
 pub record Cards : Type 0 where
   pub one : card1 ≡ true
   pub two : Card2
@@ -176,3 +188,4 @@ pub record Cards : Type 0 where
   pub ten : Card10
   pub eleven : Card11
   pub twelve : card12 ≡ true
+  pub loads : Loads

@@ -7,7 +7,7 @@ use Rattle.common.specs.Choice.{Unique}
 use Rattle.common.proofs.Choice.{only}
 use Rattle.loader.specs.declared.Stage.{Stage}
 use Rattle.loader.specs.declared.Loader.{Loader}
-use Rattle.loader.specs.Moves.{movedTo, endedBy, isReady, eraseFault, afterRead, erasePolled, programPolled, verifyMore, nextIn}
+use Rattle.loader.specs.Moves.{movedTo, endedBy, isReady, eraseFault, programFault, afterRead, erasePolled, programPolled, verifyMore, nextIn}
 
 pub moved-unique : (l : Loader) (stage : Stage) (place polls : ℕ) → Unique (λ (r : Loader). r ≡ movedTo l stage place polls)
 moved-unique l stage place polls = only (movedTo l stage place polls)
@@ -20,6 +20,9 @@ is-ready-unique b = only (isReady b)
 
 pub erase-fault-unique : (b : ℕ) → Unique (λ (r : ℕ). r ≡ eraseFault b)
 erase-fault-unique b = only (eraseFault b)
+
+pub program-fault-unique : (b : ℕ) → Unique (λ (r : ℕ). r ≡ programFault b)
+program-fault-unique b = only (programFault b)
 
 pub read-more-unique : (l : Loader) (w sc : List ℕ) → Unique (λ (r : Loader). r ≡ afterRead l w sc)
 read-more-unique l w sc = only (afterRead l w sc)

@@ -12,7 +12,7 @@ use Rattle.loader.specs.Walks.{risesIn, diffFrom}
 
 -- the record at another stage, place and count of polls
 abbrev pub movedTo : Loader → Stage → ℕ → ℕ → Loader
-movedTo l stage place polls = record { part = l .part; pins = l .pins; block = l .block; stage = stage; place = place; polls = polls }
+movedTo l stage place polls = record { part = l .part; pins = l .pins; block = l .block; stage = stage; place = place; polls = polls; verify = l .verify }
 
 -- the end by a number, at the record's place
 abbrev pub endedBy : Loader → ℕ → Loader
@@ -52,9 +52,13 @@ programFault sr =
     else if sr4 sr then 24
     else 0
 
--- on to the first differing byte from place i on, or to the verify
+-- what follows the last program: the verify where it is asked for, else a load's good end
+abbrev pub loadedStage : Bool → Stage
+loadedStage verify = if verify then Closing else Ended 0
+
+-- on to the first differing byte from place i on, or to what follows the last program
 unfoldable pub onward : Loader → ℕ → List ℕ → List ℕ → Loader
-onward l i w sc = if ltb (diffFrom i w sc) (length w) then movedTo l ProgramAsking (diffFrom i w sc) 0 else movedTo l Closing 0 0
+onward l i w sc = if ltb (diffFrom i w sc) (length w) then movedTo l ProgramAsking (diffFrom i w sc) 0 else movedTo l (loadedStage (l .verify)) 0 0
 
 -- after the first reads: an erase if some bit must rise
 unfoldable pub afterReads : Loader → List ℕ → List ℕ → Loader

@@ -36,8 +36,8 @@ pub struct StageIs {
     pub command: u8,
 }
 
-// The loader's record: the part, the block and the levels it works with, the cycle that is out, the place in the block, and
-// the polls of the operation that is waited for.
+// The loader's record: the part, the block and the levels it works with, the cycle that is out, the place in the block, the
+// polls of the operation that is waited for, and whether the verify follows the load.
 pub struct Loader {
     pub part: Part,
     pub pins: Pins,
@@ -45,6 +45,7 @@ pub struct Loader {
     pub stage: Stage,
     pub place: usize,
     pub polls: u32,
+    pub verify: bool,
 }
 
 // What a step answers: the next cycle, the end with its number and, for 25, its array address, or a refusal.

@@ -9,7 +9,7 @@ use model_types::states::SR5;
 use model_types::states::SR7;
 ghost use mathlib.Core.Path.{_≡_};
 ghost use Prim.Native.Nat.{_-_};
-ghost use Rattle.loader.specs.Moves.{movedTo, endedBy, isReady, sr3, sr4, sr5, bothErrors, eraseFault, programFault, onward, afterReads, afterRead, pollMore, erasePolled, past, programPolled, verifyMore, nextIn};
+ghost use Rattle.loader.specs.Moves.{movedTo, endedBy, isReady, sr3, sr4, sr5, bothErrors, eraseFault, programFault, loadedStage, onward, afterReads, afterRead, pollMore, erasePolled, past, programPolled, verifyMore, nextIn};
 
 // The record at another stage, place and count of polls.
 pub fn moved(l: Loader, stage: Stage, place: usize, polls: u32) -> Loader
@@ -17,6 +17,7 @@ pub fn moved(l: Loader, stage: Stage, place: usize, polls: u32) -> Loader
 {
     let part = l.part;
     let pins = l.pins;
+    let verify = l.verify;
     Loader {
         part: part,
         pins: pins,
@@ -24,6 +25,7 @@ pub fn moved(l: Loader, stage: Stage, place: usize, polls: u32) -> Loader
         stage: stage,
         place: place,
         polls: polls,
+        verify: verify,
     }
 }
 
@@ -78,7 +80,7 @@ pub fn erase_fault(b: u8) -> u8
     0
 }
 
-fn program_fault(b: u8) -> u8
+pub fn program_fault(b: u8) -> u8
     ensures { λ r. ⌜ r ≡ programFault b ⌝ }
 {
     if supply_fault(b) {
@@ -93,7 +95,17 @@ fn program_fault(b: u8) -> u8
     0
 }
 
-// On to the first differing byte from `from` on, or to the verify.
+// What follows the last program: the verify, or the end of a load alone.
+fn loaded_stage(verify: bool) -> Stage
+    ensures { λ r. ⌜ r ≡ loadedStage verify ⌝ }
+{
+    if verify {
+        return Stage::Closing;
+    }
+    Stage::Ended(0)
+}
+
+// On to the first differing byte from `from` on, or to what follows the last program.
 fn onward(l: Loader, from: usize, wanted: &[u8], scratch: &[u8]) -> Loader
     ensures { λ r. ⌜ r ≡ onward l from (now (wanted .entry)) (now (scratch .entry)) ⌝ }
 {
@@ -101,7 +113,9 @@ fn onward(l: Loader, from: usize, wanted: &[u8], scratch: &[u8]) -> Loader
     if i < wanted.len() {
         return moved(l, Stage::ProgramAsking, i, 0);
     }
-    moved(l, Stage::Closing, 0, 0)
+    let verify = l.verify;
+    let stage = loaded_stage(verify);
+    moved(l, stage, 0, 0)
 }
 
 fn after_reads(l: Loader, wanted: &[u8], scratch: &[u8]) -> Loader

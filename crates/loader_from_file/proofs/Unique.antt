@@ -8,7 +8,7 @@ use Rattle.device.specs.declared.Device.{Device}
 use Rattle.model_types.specs.declared.Pins.{Pins}
 use Rattle.model_types.specs.declared.State.{State}
 use Rattle.loader_run.specs.declared.Ran.{Ran}
-use Rattle.loader_from_file.specs.Loads.{loadedOf, bytesLoaded, wantedLoaded, scratchLoaded}
+use Rattle.loader_from_file.specs.Loads.{loadedOf, bytesLoaded, wantedLoaded, scratchLoaded, verifyLeft}
 
 pub load-unique : (d : Device) (s : State) (p : Pins) (k : ℕ) (xs w sc f : List ℕ) (asked : ℕ) → Unique (λ (r : Ran). r ≡ loadedOf d s p k xs w sc f asked)
 load-unique d s p k xs w sc f asked = only (loadedOf d s p k xs w sc f asked)
@@ -21,3 +21,15 @@ load-wanted-unique d s p k xs w sc f asked = only (wantedLoaded d s p k xs w sc 
 
 pub load-scratch-unique : (d : Device) (s : State) (p : Pins) (k : ℕ) (xs w sc f : List ℕ) (asked : ℕ) → Unique (λ (left : List ℕ). left ≡ scratchLoaded d s p k xs w sc f asked)
 load-scratch-unique d s p k xs w sc f asked = only (scratchLoaded d s p k xs w sc f asked)
+
+pub verify-from-file-unique : (d : Device) (s : State) (p : Pins) (k : ℕ) (xs w sc f : List ℕ) (asked : ℕ) → Unique (λ (r : Ran). r ≡ verifyLeft d s p k xs w sc f asked .ran)
+verify-from-file-unique d s p k xs w sc f asked = only (verifyLeft d s p k xs w sc f asked .ran)
+
+pub verify-from-file-array-unique : (d : Device) (s : State) (p : Pins) (k : ℕ) (xs w sc f : List ℕ) (asked : ℕ) → Unique (λ (left : List ℕ). left ≡ verifyLeft d s p k xs w sc f asked .bytes)
+verify-from-file-array-unique d s p k xs w sc f asked = only (verifyLeft d s p k xs w sc f asked .bytes)
+
+pub verify-from-file-wanted-unique : (d : Device) (s : State) (p : Pins) (k : ℕ) (xs w sc f : List ℕ) (asked : ℕ) → Unique (λ (left : List ℕ). left ≡ verifyLeft d s p k xs w sc f asked .wanted)
+verify-from-file-wanted-unique d s p k xs w sc f asked = only (verifyLeft d s p k xs w sc f asked .wanted)
+
+pub verify-from-file-scratch-unique : (d : Device) (s : State) (p : Pins) (k : ℕ) (xs w sc f : List ℕ) (asked : ℕ) → Unique (λ (left : List ℕ). left ≡ verifyLeft d s p k xs w sc f asked .scratch)
+verify-from-file-scratch-unique d s p k xs w sc f asked = only (verifyLeft d s p k xs w sc f asked .scratch)

@@ -1,5 +1,6 @@
--- A load from a file: after a run's own tests the file is judged, and only then wanted is filled and the run made. Assumes nothing.
-use mathlib.Core.Bool.{not, _||_}
+-- A load and a verify from a file: after a run's own tests the file is judged, and only then wanted is filled and the run made.
+-- Assumes nothing.
+use mathlib.Core.Bool.{Bool, true, not, _||_}
 use mathlib.Core.List.{List, [], _∷_, _++_}
 use Prim.Native.Nat.{ℕ, _-_}
 use lib.ListN.{length, getD, replicate}
@@ -10,8 +11,10 @@ use Rattle.device.specs.declared.Device.{Device}
 use Rattle.model_types.specs.declared.Pins.{Pins}
 use Rattle.model_types.specs.declared.State.{State}
 use Rattle.file_codec.specs.File.{limit, lengthWrong, blocksIn, blocksRows}
+use Rattle.loader.specs.declared.Stage.{Stage}
+use Rattle.loader.specs.declared.Stage.the-variants.{Clearing, Closing}
 use Rattle.loader_run.specs.declared.Ran.{Ran}
-use Rattle.loader_run.specs.Runs.{runRows, RunLeft, runLeft}
+use Rattle.loader_run.specs.Runs.{runRows, RunLeft, runLeftAt}
 
 -- the tests of a file for a block of n bytes: 30 also where it is longer than the block, then 31 to 34 block by block, then 35
 abbrev pub fileRows : List ℕ → ℕ → ℕ → List Row
@@ -54,13 +57,20 @@ loadMade r w = record { ran = r .ran; bytes = r .bytes; wanted = w; scratch = r 
 abbrev pub loadRefused : ℕ → State → List ℕ → List ℕ → List ℕ → LoadLeft
 loadRefused n s xs w sc = record { ran = record { count = 0; end = n; address = 0; state = s }; bytes = xs; wanted = w; scratch = sc }
 
--- a load: refused by its number, or wanted filled and the run made
-unfoldable pub loadLeft : Device → State → Pins → ℕ → List ℕ → List ℕ → List ℕ → List ℕ → ℕ → LoadLeft
-loadLeft d s p k xs w sc f asked =
-    if eqb (loadNumber d s p k (length xs) (length w) (length sc) f asked) 0 then loadMade (runLeft d s p k xs (wantedOf f (length w)) sc) (wantedOf f (length w))
+-- from a stage on: refused by the load's number, or wanted filled and the run made
+unfoldable pub fileLeftAt : Stage → Bool → Device → State → Pins → ℕ → List ℕ → List ℕ → List ℕ → List ℕ → ℕ → LoadLeft
+fileLeftAt stage verify d s p k xs w sc f asked =
+    if eqb (loadNumber d s p k (length xs) (length w) (length sc) f asked) 0 then loadMade (runLeftAt stage verify d s p k xs (wantedOf f (length w)) sc) (wantedOf f (length w))
     else loadRefused (loadNumber d s p k (length xs) (length w) (length sc) f asked) s xs w sc
 
--- its four parts
+-- a load with the verify after it, and a verify alone
+abbrev pub loadLeft : Device → State → Pins → ℕ → List ℕ → List ℕ → List ℕ → List ℕ → ℕ → LoadLeft
+loadLeft d s p k xs w sc f asked = fileLeftAt Clearing true d s p k xs w sc f asked
+
+abbrev pub verifyLeft : Device → State → Pins → ℕ → List ℕ → List ℕ → List ℕ → List ℕ → ℕ → LoadLeft
+verifyLeft d s p k xs w sc f asked = fileLeftAt Closing true d s p k xs w sc f asked
+
+-- a load's four parts
 abbrev pub loadedOf : Device → State → Pins → ℕ → List ℕ → List ℕ → List ℕ → List ℕ → ℕ → Ran
 loadedOf d s p k xs w sc f asked = loadLeft d s p k xs w sc f asked .ran
 

@@ -1,4 +1,5 @@
-// A load from a file: the file is judged for the letter asked, and only then the flash block is loaded with it.
+// A load and a verify from a file: the file is judged for the letter asked, and only then the flash block is loaded with it, or
+// verified against it.
 use device::Device;
 use file_codec::Judged;
 use loader_run::Ran;
@@ -7,7 +8,7 @@ use model_types::State;
 ghost use mathlib.Core.Path.{_≡_};
 ghost use Prim.Native.Nat.{_≤_};
 ghost use lib.ListN.{length};
-ghost use Rattle.loader_from_file.specs.Loads.{fileNumber, wantedBy, loadNumber, loadedOf, bytesLoaded, wantedLoaded, scratchLoaded};
+ghost use Rattle.loader_from_file.specs.Loads.{fileNumber, wantedBy, loadNumber, loadedOf, bytesLoaded, wantedLoaded, scratchLoaded, verifyLeft};
 
 // Refusals 30 to 35 of a file for the letter asked and a block of n bytes, or 0.
 fn file_number(file: &[u8], asked: u8, n: usize) -> u8
@@ -57,7 +58,28 @@ fn load_number(
     n
 }
 
-// A load of one block from a file.
+// The number of a load from a file; where it is 0, wanted becomes the file, then FFH to its end.
+fn prepared(
+    d: Device,
+    s: State,
+    p: Pins,
+    block: u8,
+    array: usize,
+    wanted: &mut [u8],
+    scratch: usize,
+    file: &[u8],
+    asked: u8,
+) -> u8
+    ensures { λ r. ⌜ r ≡ loadNumber d s p block array (length (now (wanted .entry))) scratch (now (file .entry)) asked ⌝ }
+    ensures { λ _. ⌜ now (wanted .exit)
+        ≡ wantedBy (loadNumber d s p block array (length (now (wanted .entry))) scratch (now (file .entry)) asked) (now (file .entry)) (now (wanted .entry)) ⌝ }
+{
+    let n = load_number(d, s, p, block, array, wanted.len(), scratch, file, asked);
+    fill_wanted(n, file, wanted);
+    n
+}
+
+// A load of one block from a file, and the verify after it.
 pub fn load(
     d: Device,
     s: State,
@@ -74,20 +96,58 @@ pub fn load(
     ensures { λ _. ⌜ now (wanted .exit) ≡ wantedLoaded d s p block (now (array .entry)) (now (wanted .entry)) (now (scratch .entry)) (now (file .entry)) asked ⌝ }
     ensures { λ _. ⌜ now (scratch .exit) ≡ scratchLoaded d s p block (now (array .entry)) (now (wanted .entry)) (now (scratch .entry)) (now (file .entry)) asked ⌝ }
 {
-    let n = load_number(
+    let n = prepared(
         d,
         s,
         p,
         block,
         array.len(),
-        wanted.len(),
+        wanted,
         scratch.len(),
         file,
         asked,
     );
-    fill_wanted(n, file, wanted);
     if n == 0 {
         return loader_run::run(d, s, p, block, array, wanted, scratch);
+    }
+    Ran {
+        count: 0,
+        end: n,
+        address: 0,
+        state: s,
+    }
+}
+
+// A verify of one block against a file.
+pub fn verify_from_file(
+    d: Device,
+    s: State,
+    p: Pins,
+    block: u8,
+    array: &mut [u8],
+    wanted: &mut [u8],
+    scratch: &mut [u8],
+    file: &[u8],
+    asked: u8,
+) -> Ran
+    ensures { λ r. ⌜ r ≡ verifyLeft d s p block (now (array .entry)) (now (wanted .entry)) (now (scratch .entry)) (now (file .entry)) asked .ran ⌝ }
+    ensures { λ _. ⌜ now (array .exit) ≡ verifyLeft d s p block (now (array .entry)) (now (wanted .entry)) (now (scratch .entry)) (now (file .entry)) asked .bytes ⌝ }
+    ensures { λ _. ⌜ now (wanted .exit) ≡ verifyLeft d s p block (now (array .entry)) (now (wanted .entry)) (now (scratch .entry)) (now (file .entry)) asked .wanted ⌝ }
+    ensures { λ _. ⌜ now (scratch .exit) ≡ verifyLeft d s p block (now (array .entry)) (now (wanted .entry)) (now (scratch .entry)) (now (file .entry)) asked .scratch ⌝ }
+{
+    let n = prepared(
+        d,
+        s,
+        p,
+        block,
+        array.len(),
+        wanted,
+        scratch.len(),
+        file,
+        asked,
+    );
+    if n == 0 {
+        return loader_run::run_verify(d, s, p, block, array, wanted, scratch);
     }
     Ran {
         count: 0,

@@ -1,6 +1,8 @@
--- What is claimed of a load from a file beyond its promise, in one place. Assumes nothing.
+-- What is claimed of a load from a file and of a verify from a file beyond their promises, in one place. Assumes nothing.
 use mathlib.Core.Path.{_≡_}
+use mathlib.Core.Bool.{Bool, false}
 use mathlib.Core.List.{List}
+use mathlib.Core.Logic.{_↔_}
 use Prim.Native.Nat.{ℕ, _≤_, _<_}
 use lib.ListN.{length, getD, set}
 use Rattle.common.specs.Lists.{Bytes}
@@ -8,9 +10,12 @@ use Rattle.common.specs.Numbers.{NoRow}
 use Rattle.device.specs.declared.Device.{Device}
 use Rattle.model_types.specs.declared.Pins.{Pins}
 use Rattle.model_types.specs.declared.State.{State}
-use Rattle.loader_run.specs.Runs.{runRows}
+use Rattle.loader.specs.declared.Stage.{Stage}
+use Rattle.loader.specs.Stages.{isEnded}
+use Rattle.loader_run.specs.Runs.{runRows, verifyAlone}
+use Rattle.loader_run_claims.specs.Wear.{heldBy}
 use Rattle.file_codec.specs.File.{limit, refused, made, readerOf, writerOf}
-use Rattle.loader_from_file.specs.Loads.{loadNumber, loadRefused, loadLeft}
+use Rattle.loader_from_file.specs.Loads.{loadNumber, wantedOf, loadRows, loadMade, loadRefused, fileLeftAt, verifyLeft}
 use Rattle.loader_from_file_claims.specs.Through.{FileStart, FileLoaded}
 use Rattle.loader_from_file_claims.proofs.Through as through
 use Rattle.loader_from_file_claims.proofs.Kept as kept
@@ -21,18 +26,28 @@ use Rattle.loader_from_file_claims.proofs.Kept as kept
 pub file-loaded : (d : Device) (s : State) (p : Pins) (k : ℕ) (xs w sc f : List ℕ) (asked : ℕ) → FileStart d s p k xs w sc f asked → FileLoaded d s p k xs w sc f asked
 file-loaded = through.loaded
 
--- A file that the reader refuses is never loaded, whatever else holds: no cycle is made, and state, array, wanted and scratch stay.
-pub refused-never : (d : Device) (s : State) (p : Pins) (k : ℕ) (xs w sc f : List ℕ) (asked : ℕ) (m : ℕ) → (m ≡ 0 → ⊥) → readerOf limit f asked ≡ refused m
-    → loadLeft d s p k xs w sc f asked ≡ loadRefused (loadNumber d s p k (length xs) (length w) (length sc) f asked) s xs w sc
+-- A verify from a file that nothing refuses, whatever VPP and the lock: it returns and leaves what the verify alone does with the
+-- file and FFH as what is wanted, and wanted is left so; it ends well exactly where the block holds the file and FFH to its end.
+pub file-verified : (d : Device) (s : State) (p : Pins) (k : ℕ) (xs w sc f : List ℕ) (asked : ℕ) → NoRow (loadRows d s p k (length xs) (length w) (length sc) f asked)
+    → verifyLeft d s p k xs w sc f asked ≡ loadMade (verifyAlone d s p k xs (wantedOf f (length w)) sc) (wantedOf f (length w))
+file-verified = through.verified
+
+pub file-verified-exactly : (d : Device) (s : State) (p : Pins) (k : ℕ) (xs w sc f : List ℕ) (asked : ℕ) → NoRow (loadRows d s p k (length xs) (length w) (length sc) f asked)
+    → (verifyLeft d s p k xs w sc f asked .ran .end ≡ 0) ↔ (heldBy (d .part) k xs ≡ wantedOf f (length w))
+file-verified-exactly = through.verified-exactly
+
+-- A file that the reader refuses is never loaded nor verified against (both begin at a stage that is no end), whatever else holds: no cycle is made, and state, array, wanted and scratch stay.
+pub refused-never : (stage : Stage) (verify : Bool) → isEnded stage ≡ false → (d : Device) (s : State) (p : Pins) (k : ℕ) (xs w sc f : List ℕ) (asked : ℕ) (m : ℕ) → (m ≡ 0 → ⊥) → readerOf limit f asked ≡ refused m
+    → fileLeftAt stage verify d s p k xs w sc f asked ≡ loadRefused (loadNumber d s p k (length xs) (length w) (length sc) f asked) s xs w sc
 refused-never = kept.never
 
 -- A written file asked for under another letter makes no cycle and leaves all that was lent: 35, where no run's test refuses and it fits.
-pub other-letter-35 : (d : Device) (s : State) (p : Pins) (k : ℕ) (xs w sc : List ℕ) (ℓ : ℕ) (payload f : List ℕ) → writerOf limit ℓ payload ≡ made f → (asked : ℕ) → (ℓ ≡ asked → ⊥)
-    → NoRow (runRows d s p k (length xs) (length w) (length sc)) → length f ≤ length w → loadLeft d s p k xs w sc f asked ≡ loadRefused 35 s xs w sc
+pub other-letter-35 : (stage : Stage) (verify : Bool) → isEnded stage ≡ false → (d : Device) (s : State) (p : Pins) (k : ℕ) (xs w sc : List ℕ) (ℓ : ℕ) (payload f : List ℕ) → writerOf limit ℓ payload ≡ made f → (asked : ℕ) → (ℓ ≡ asked → ⊥)
+    → NoRow (runRows d s p k (length xs) (length w) (length sc)) → length f ≤ length w → fileLeftAt stage verify d s p k xs w sc f asked ≡ loadRefused 35 s xs w sc
 other-letter-35 = kept.other-letter-35
 
 -- A written file with one byte changed to another byte, whatever letter is asked: the same, 31.
-pub changed-byte-31 : (d : Device) (s : State) (p : Pins) (k : ℕ) (xs w sc : List ℕ) (ℓ : ℕ) (payload f : List ℕ) → writerOf limit ℓ payload ≡ made f → (asked : ℕ) → Bytes payload
+pub changed-byte-31 : (stage : Stage) (verify : Bool) → isEnded stage ≡ false → (d : Device) (s : State) (p : Pins) (k : ℕ) (xs w sc : List ℕ) (ℓ : ℕ) (payload f : List ℕ) → writerOf limit ℓ payload ≡ made f → (asked : ℕ) → Bytes payload
     → (i v : ℕ) → i < length f → v < 256 → (v ≡ getD f i 0 → ⊥) → NoRow (runRows d s p k (length xs) (length w) (length sc)) → length f ≤ length w
-    → loadLeft d s p k xs w sc (set f i v) asked ≡ loadRefused 31 s xs w sc
+    → fileLeftAt stage verify d s p k xs w sc (set f i v) asked ≡ loadRefused 31 s xs w sc
 changed-byte-31 = kept.changed-byte-31

@@ -1,5 +1,6 @@
--- Files that are never loaded: a written file under another letter, or with a byte changed. Assumes nothing.
+-- Files that are neither loaded nor verified against: a written file under another letter, or with a byte changed. Assumes nothing.
 use mathlib.Core.Path.{_≡_, sym, ap, _∙_}
+use mathlib.Core.Bool.{Bool, false}
 use mathlib.Core.List.{List}
 use Prim.Native.Nat.{ℕ, _≤_, _<_}
 use native.Mathlib.Omega.{arith}
@@ -13,10 +14,12 @@ use Rattle.common.proofs.Choice.{if-true}
 use Rattle.device.specs.declared.Device.{Device}
 use Rattle.model_types.specs.declared.Pins.{Pins}
 use Rattle.model_types.specs.declared.State.{State}
+use Rattle.loader.specs.declared.Stage.{Stage}
+use Rattle.loader.specs.Stages.{isEnded}
 use Rattle.loader_run.specs.Runs.{runRows, runNumber}
 use Rattle.file_codec.specs.File.{limit, refused, made, readerOf, writerOf, judgedAs}
 use Rattle.file_claims.proofs.Claims.{other-letter, changed-byte-here}
-use Rattle.loader_from_file.specs.Loads.{fileNumber, loadNumber, loadRefused, loadLeft}
+use Rattle.loader_from_file.specs.Loads.{fileNumber, loadNumber, loadRefused, fileLeftAt}
 use Rattle.loader_from_file.proofs.Judging.{file-after, none-refuses, no-longer, unsound-m}
 use Rattle.loader_from_file.proofs.Leaving.{refused-left}
 
@@ -25,10 +28,10 @@ run-none : (d : Device) (s : State) (p : Pins) (k array w sc : ℕ) → NoRow (r
 unfolding runNumber
 run-none d s p k array w sc r = no-row-given r
 
-module _ (d : Device) (s : State) (p : Pins) (k : ℕ) (xs w sc f : List ℕ) (asked : ℕ) (m : ℕ) (z : m ≡ 0 → ⊥) (e : readerOf limit f asked ≡ refused m) where
-  -- a file that the reader refuses is not loaded, whatever else holds
-  pub never : loadLeft d s p k xs w sc f asked ≡ loadRefused (loadNumber d s p k (length xs) (length w) (length sc) f asked) s xs w sc
-  never = refused-left d s p k xs w sc f asked some
+module _ (stage : Stage) (verify : Bool) (going : isEnded stage ≡ false) (d : Device) (s : State) (p : Pins) (k : ℕ) (xs w sc f : List ℕ) (asked : ℕ) (m : ℕ) (z : m ≡ 0 → ⊥) (e : readerOf limit f asked ≡ refused m) where
+  -- a file that the reader refuses is neither loaded nor verified against, whatever else holds
+  pub never : fileLeftAt stage verify d s p k xs w sc f asked ≡ loadRefused (loadNumber d s p k (length xs) (length w) (length sc) f asked) s xs w sc
+  never = refused-left stage verify going d s p k xs w sc f asked some
     where
       some : loadNumber d s p k (length xs) (length w) (length sc) f asked ≡ 0 → ⊥
       some q =
@@ -36,7 +39,7 @@ module _ (d : Device) (s : State) (p : Pins) (k : ℕ) (xs w sc f : List ℕ) (a
           z (sym (unsound-m f asked (length w) m (no-longer f asked (length w) n) (ap judgedAs e)) ∙ n)
 
   -- it is the reader's number where a run's tests give none and the file fits the block
-  pub by-reader : NoRow (runRows d s p k (length xs) (length w) (length sc)) → length f ≤ length w → loadLeft d s p k xs w sc f asked ≡ loadRefused m s xs w sc
+  pub by-reader : NoRow (runRows d s p k (length xs) (length w) (length sc)) → length f ≤ length w → fileLeftAt stage verify d s p k xs w sc f asked ≡ loadRefused m s xs w sc
   by-reader r h =
       let n : runNumber d s p k (length xs) (length w) (length sc) ≡ 0 = run-none d s p k (length xs) (length w) (length sc) r in
       let q : loadNumber d s p k (length xs) (length w) (length sc) f asked ≡ m =
@@ -45,14 +48,14 @@ module _ (d : Device) (s : State) (p : Pins) (k : ℕ) (xs w sc f : List ℕ) (a
       ∙ unsound-m f asked (length w) m h (ap judgedAs e) in
       never ∙ ap (λ (j : ℕ). loadRefused j s xs w sc) q
 
-module _ (d : Device) (s : State) (p : Pins) (k : ℕ) (xs w sc : List ℕ) (ℓ : ℕ) (payload f : List ℕ) (made-of : writerOf limit ℓ payload ≡ made f) (asked : ℕ) where
+module _ (stage : Stage) (verify : Bool) (going : isEnded stage ≡ false) (d : Device) (s : State) (p : Pins) (k : ℕ) (xs w sc : List ℕ) (ℓ : ℕ) (payload f : List ℕ) (made-of : writerOf limit ℓ payload ≡ made f) (asked : ℕ) where
   -- a written file under another letter
   pub other-letter-35 : (ℓ ≡ asked → ⊥) → NoRow (runRows d s p k (length xs) (length w) (length sc)) → length f ≤ length w
-      → loadLeft d s p k xs w sc f asked ≡ loadRefused 35 s xs w sc
-  other-letter-35 z r h = by-reader d s p k xs w sc f asked 35 (λ (q : 35 ≡ 0). (omega arith)) (other-letter limit ℓ payload f made-of asked z) r h
+      → fileLeftAt stage verify d s p k xs w sc f asked ≡ loadRefused 35 s xs w sc
+  other-letter-35 z r h = by-reader stage verify going d s p k xs w sc f asked 35 (λ (q : 35 ≡ 0). (omega arith)) (other-letter limit ℓ payload f made-of asked z) r h
 
   -- a written file with a byte changed
   pub changed-byte-31 : Bytes payload → (i v : ℕ) → i < length f → v < 256 → (v ≡ getD f i 0 → ⊥) → NoRow (runRows d s p k (length xs) (length w) (length sc)) → length f ≤ length w
-      → loadLeft d s p k xs w sc (set f i v) asked ≡ loadRefused 31 s xs w sc
+      → fileLeftAt stage verify d s p k xs w sc (set f i v) asked ≡ loadRefused 31 s xs w sc
   changed-byte-31 b i v h u c r l =
-      by-reader d s p k xs w sc (set f i v) asked 31 (λ (q : 31 ≡ 0). (omega arith)) (changed-byte-here ℓ payload f b made-of i v h u c asked) r (let n = length-set f i v in omega arith)
+      by-reader stage verify going d s p k xs w sc (set f i v) asked 31 (λ (q : 31 ≡ 0). (omega arith)) (changed-byte-here ℓ payload f b made-of i v h u c asked) r (let n = length-set f i v in omega arith)

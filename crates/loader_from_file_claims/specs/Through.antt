@@ -36,5 +36,5 @@ pub record FileLoaded (d : Device) (s : State) (p : Pins) (k : ℕ) (xs w sc f :
   pub behind : (x : ℕ) → startOf (d .part) k + length w ≤ x → getD (bytesLoaded d s p k xs w sc f asked) x 0 ≡ getD xs x 0
   pub wanted : wantedLoaded d s p k xs w sc f asked ≡ wantedOf f (length w)
   pub scratch : scratchLoaded d s p k xs w sc f asked ≡ wantedOf f (length w)
-  pub demand : Demand3 d s p k xs (wantedOf f (length w)) sc
+  pub demand : Demand3 true d s p k xs (wantedOf f (length w)) sc
   pub left : loadLeft d s p k xs w sc f asked ≡ loadMade (runLeft d s p k xs (wantedOf f (length w)) sc) (wantedOf f (length w))

@@ -1,6 +1,7 @@
--- What is claimed of a run, in one place. Assumes nothing.
+-- What is claimed of a run, of a load alone and of a verify alone, in one place: of all three as of whatever begins at a stage that is
+-- no end, with or without the verify after a load. Assumes nothing.
 use mathlib.Core.Path.{_≡_}
-use mathlib.Core.Bool.{true, false}
+use mathlib.Core.Bool.{Bool, true, false}
 use mathlib.Core.List.{List}
 use mathlib.Core.Logic.{_↔_}
 use Prim.Native.Nat.{ℕ, _-_, _<_}
@@ -11,8 +12,9 @@ use Rattle.model_types.specs.declared.Pins.{Pins}
 use Rattle.model_types.specs.declared.State.{State}
 use Rattle.loader_run.specs.declared.Ran.{Ran}
 use Rattle.loader_run.specs.Turns.{Config, after}
+use Rattle.loader.specs.declared.Stage.{Stage}
 use Rattle.loader.specs.Stages.{isEnded}
-use Rattle.loader_run.specs.Runs.{runRows, runNumber, driven, ranOf, bytesOf, scratchOf, beginning}
+use Rattle.loader_run.specs.Runs.{runRows, runNumber, driven, runLeftAt, beginningAt}
 use Rattle.loader_steps.specs.Outs.{cycleOf}
 use Rattle.loader_run.specs.Promises.{FirstEnd, Promise}
 use Rattle.model_rules.specs.Cycles.{judgeOf}
@@ -20,19 +22,19 @@ use Rattle.loader_run.proofs.Ending as ending
 use Rattle.loader_run.proofs.Sound as sound
 
 -- The numbers: a run makes no cycle and ends with m exactly where m's own condition holds and that of no number before it does.
-pub refused-exactly : (d : Device) (s : State) (p : Pins) (k : ℕ) (xs w sc : List ℕ) (m : ℕ) → (m ≡ 0 → ⊥)
-    → ((ranOf d s p k xs w sc .count ≡ 0) × (ranOf d s p k xs w sc .end ≡ m)) ↔ Foremost (runRows d s p k (length xs) (length w) (length sc)) m
+pub refused-exactly : (stage : Stage) (verify : Bool) → isEnded stage ≡ false → (d : Device) (s : State) (p : Pins) (k : ℕ) (xs w sc : List ℕ) (m : ℕ) → (m ≡ 0 → ⊥)
+    → ((runLeftAt stage verify d s p k xs w sc .ran .count ≡ 0) × (runLeftAt stage verify d s p k xs w sc .ran .end ≡ m)) ↔ Foremost (runRows d s p k (length xs) (length w) (length sc)) m
 refused-exactly = ending.run-numbers
 
 -- It makes cycles exactly where none of the seven conditions holds.
-pub accepted-exactly : (d : Device) (s : State) (p : Pins) (k : ℕ) (xs w sc : List ℕ)
-    → (0 < ranOf d s p k xs w sc .count) ↔ NoRow (runRows d s p k (length xs) (length w) (length sc))
+pub accepted-exactly : (stage : Stage) (verify : Bool) → isEnded stage ≡ false → (d : Device) (s : State) (p : Pins) (k : ℕ) (xs w sc : List ℕ)
+    → (0 < runLeftAt stage verify d s p k xs w sc .ran .count) ↔ NoRow (runRows d s p k (length xs) (length w) (length sc))
 accepted-exactly = ending.run-accepted
 
 -- A refused run has count 0 and the number, and leaves state, array and scratch as they were.
-pub refused-leaves : (d : Device) (s : State) (p : Pins) (k : ℕ) (xs w sc : List ℕ) (m : ℕ) → (m ≡ 0 → ⊥)
+pub refused-leaves : (stage : Stage) (verify : Bool) → isEnded stage ≡ false → (d : Device) (s : State) (p : Pins) (k : ℕ) (xs w sc : List ℕ) (m : ℕ) → (m ≡ 0 → ⊥)
     → Foremost (runRows d s p k (length xs) (length w) (length sc)) m
-    → (ranOf d s p k xs w sc ≡ record { count = 0; end = m; address = 0; state = s }) × (bytesOf d s p k xs w sc ≡ xs) × (scratchOf d s p k xs w sc ≡ sc)
+    → (runLeftAt stage verify d s p k xs w sc .ran ≡ record { count = 0; end = m; address = 0; state = s }) × (runLeftAt stage verify d s p k xs w sc .bytes ≡ xs) × (runLeftAt stage verify d s p k xs w sc .scratch ≡ sc)
 refused-leaves = ending.run-refused
 
 -- What any number of turns leaves is what as many cycles leave as were counted; and every load ends. From any input whatever.
@@ -44,8 +46,8 @@ always-ends = ending.always-ends
 
 -- The promise of a run that nothing refuses: the count is the first number of cycles after which the load has ended, and the
 -- end, the address, the state, the array and scratch are what those cycles leave.
-pub first-end : (d : Device) (s : State) (p : Pins) (k : ℕ) (xs w sc : List ℕ) → NoRow (runRows d s p k (length xs) (length w) (length sc))
-    → Promise d s p k xs w sc (ranOf d s p k xs w sc) (bytesOf d s p k xs w sc) (scratchOf d s p k xs w sc)
+pub first-end : (stage : Stage) (verify : Bool) → isEnded stage ≡ false → (d : Device) (s : State) (p : Pins) (k : ℕ) (xs w sc : List ℕ) → NoRow (runRows d s p k (length xs) (length w) (length sc))
+    → Promise stage verify d s p k xs w sc (runLeftAt stage verify d s p k xs w sc .ran) (runLeftAt stage verify d s p k xs w sc .bytes) (runLeftAt stage verify d s p k xs w sc .scratch)
 first-end = ending.run-first
 
 -- There is one such number: an early stop or an invented count does not meet it.
@@ -53,15 +55,15 @@ pub first-only : (d : Device) (w : List ℕ) (c e : Config) → FirstEnd d w c e
     → ((j : ℕ) → j < k → isEnded (after j d w c .loader .stage) ≡ false) → k ≡ e .count
 first-only = ending.first-only
 
-pub promise-once : (d : Device) (s : State) (p : Pins) (k : ℕ) (xs w sc : List ℕ) (r t : Ran) (x y u v : List ℕ)
-    → Promise d s p k xs w sc r x u → Promise d s p k xs w sc t y v → (r ≡ t) × (x ≡ y) × (u ≡ v)
+pub promise-once : (stage : Stage) (verify : Bool) (d : Device) (s : State) (p : Pins) (k : ℕ) (xs w sc : List ℕ) (r t : Ran) (x y u v : List ℕ)
+    → Promise stage verify d s p k xs w sc r x u → Promise stage verify d s p k xs w sc t y v → (r ≡ t) × (x ≡ y) × (u ≡ v)
 promise-once = ending.promise-once
 
 -- None of refusals 1 to 6 ever applies to the cycle that is out: the loop need not test them again.
-pub passes-ever : (d : Device) (s : State) (p : Pins) (k : ℕ) (xs w sc : List ℕ) → runNumber d s p k (length xs) (length w) (length sc) ≡ 0 → (j : ℕ)
-    → isEnded (after j d w (beginning d s p k xs sc) .loader .stage) ≡ false
-    → judgeOf d (after j d w (beginning d s p k xs sc) .state)
-    (cycleOf (after j d w (beginning d s p k xs sc) .loader) w)
-    (length (after j d w (beginning d s p k xs sc) .bytes)) 0
+pub passes-ever : (stage : Stage) (verify : Bool) (d : Device) (s : State) (p : Pins) (k : ℕ) (xs w sc : List ℕ) → runNumber d s p k (length xs) (length w) (length sc) ≡ 0 → (j : ℕ)
+    → isEnded (after j d w (beginningAt stage verify d s p k xs sc) .loader .stage) ≡ false
+    → judgeOf d (after j d w (beginningAt stage verify d s p k xs sc) .state)
+    (cycleOf (after j d w (beginningAt stage verify d s p k xs sc) .loader) w)
+    (length (after j d w (beginningAt stage verify d s p k xs sc) .bytes)) 0
     ≡ 0
 passes-ever = sound.passes-ever

@@ -16,8 +16,9 @@ use Rattle.model_types.specs.declared.Pins.{Pins}
 use Rattle.model_types.specs.declared.State.{State}
 use Rattle.loader_run.specs.declared.Ran.{Ran}
 use Rattle.loader_run.specs.Turns.{Config, answerTo, moved, after, bound}
+use Rattle.loader.specs.declared.Stage.{Stage}
 use Rattle.loader.specs.Stages.{isEnded}
-use Rattle.loader_run.specs.Runs.{runRows, runNumber, beginning, ranBy, driven, leftBy, ranOf, bytesOf, scratchOf, RunLeft}
+use Rattle.loader_run.specs.Runs.{runRows, runNumber, beginningAt, ranBy, driven, leftAt, RunLeft, runLeftAt}
 use Rattle.loader_run.specs.Promises.{FirstEnd, Promise}
 use Rattle.loader_run.proofs.Leaving.{left-made, left-refused}
 use Rattle.loader_run.proofs.Measure.{remains, remains-bound, remains-some, falls}
@@ -118,34 +119,34 @@ first-only d w c e f k h g = go (ltb k (e .count)) refl (ltb (e .count) k) refl
         absurd (unlike (sym (subst (λ (x : Config). isEnded (x .loader .stage) ≡ true) (f .reached) (f .ended)) ∙ g (e .count) (ltb-true _ _ q)))
     go false p false q = let x = ltb-false k (e .count) p in let y = ltb-false (e .count) k q in omega arith
 
-module _ (d : Device) (s : State) (p : Pins) (k : ℕ) (xs w sc : List ℕ) where
+module _ (stage : Stage) (verify : Bool) (going : isEnded stage ≡ false) (d : Device) (s : State) (p : Pins) (k : ℕ) (xs w sc : List ℕ) where
   abbrev pub number : ℕ
   number = runNumber d s p k (length xs) (length w) (length sc)
 
   -- where this run begins
   abbrev start : Config
-  start = beginning d s p k xs sc
+  start = beginningAt stage verify d s p k xs sc
 
   -- what a refusal returns
   abbrev pub refusalBy : ℕ → Ran
   refusalBy m = record { count = 0; end = m; address = 0; state = s }
 
-  refused-ran : (number ≡ 0 → ⊥) → (ranOf d s p k xs w sc ≡ refusalBy number) × (bytesOf d s p k xs w sc ≡ xs) × (scratchOf d s p k xs w sc ≡ sc)
+  refused-ran : (number ≡ 0 → ⊥) → (runLeftAt stage verify d s p k xs w sc .ran ≡ refusalBy number) × (runLeftAt stage verify d s p k xs w sc .bytes ≡ xs) × (runLeftAt stage verify d s p k xs w sc .scratch ≡ sc)
   refused-ran z =
-      let e = left-refused d s p k xs w sc z in (ap (λ (r : RunLeft). r .ran) e, ap (λ (r : RunLeft). r .bytes) e, ap (λ (r : RunLeft). r .scratch) e)
+      let e = left-refused stage verify d s p k xs w sc z in (ap (λ (r : RunLeft). r .ran) e, ap (λ (r : RunLeft). r .bytes) e, ap (λ (r : RunLeft). r .scratch) e)
 
   accepted-ran : number ≡ 0
-      → (ranOf d s p k xs w sc ≡ ranBy (driven d w start)) × (bytesOf d s p k xs w sc ≡ driven d w start .bytes) × (scratchOf d s p k xs w sc ≡ driven d w start .scratch)
-  unfolding leftBy
+      → (runLeftAt stage verify d s p k xs w sc .ran ≡ ranBy (driven d w start)) × (runLeftAt stage verify d s p k xs w sc .bytes ≡ driven d w start .bytes) × (runLeftAt stage verify d s p k xs w sc .scratch ≡ driven d w start .scratch)
+  unfolding leftAt
   accepted-ran z =
-      let e = left-made d s p k xs w sc z in (ap (λ (r : RunLeft). r .ran) e, ap (λ (r : RunLeft). r .bytes) e, ap (λ (r : RunLeft). r .scratch) e)
+      let e = left-made stage verify d s p k xs w sc z in (ap (λ (r : RunLeft). r .ran) e, ap (λ (r : RunLeft). r .bytes) e, ap (λ (r : RunLeft). r .scratch) e)
 
   -- a run that nothing refuses makes a cycle
   some-cycle : 0 < driven d w start .count
   unfolding driven
   some-cycle =
       subst (λ (m : ℕ). 0 < after m d w start .count) (let q : suc (length w * 65539 + 196621) ≡ bound (length w) = omega arith in q)
-      (subst (λ (x : Config). 0 < x .count) (sym (after-going d w (length w * 65539 + 196621) start refl)) grown)
+      (subst (λ (x : Config). 0 < x .count) (sym (after-going d w (length w * 65539 + 196621) start going)) grown)
     where
       grown : 0 < after (length w * 65539 + 196621) d w (moved d w start) .count
       grown = omega (arith, count-grows d w (length w * 65539 + 196621) (moved d w start))
@@ -168,49 +169,49 @@ module _ (d : Device) (s : State) (p : Pins) (k : ℕ) (xs w sc : List ℕ) wher
 
   -- the refusal by what is returned: no cycle was made exactly where the run was refused, and then the end is the number
   pub run-numbers : (m : ℕ) → (m ≡ 0 → ⊥)
-      → ((ranOf d s p k xs w sc .count ≡ 0) × (ranOf d s p k xs w sc .end ≡ m)) ↔ Foremost (runRows d s p k (length xs) (length w) (length sc)) m
+      → ((runLeftAt stage verify d s p k xs w sc .ran .count ≡ 0) × (runLeftAt stage verify d s p k xs w sc .ran .end ≡ m)) ↔ Foremost (runRows d s p k (length xs) (length w) (length sc)) m
   run-numbers m z = (λ h. forth h (eqb number 0) refl, back)
     where
-      forth : (ranOf d s p k xs w sc .count ≡ 0) × (ranOf d s p k xs w sc .end ≡ m) → (b : Bool) → eqb number 0 ≡ b → Foremost (runRows d s p k (length xs) (length w) (length sc)) m
+      forth : (runLeftAt stage verify d s p k xs w sc .ran .count ≡ 0) × (runLeftAt stage verify d s p k xs w sc .ran .end ≡ m) → (b : Bool) → eqb number 0 ≡ b → Foremost (runRows d s p k (length xs) (length w) (length sc)) m
       forth h true e =
           absurd (let y : driven d w start .count ≡ 0 = sym (ap (λ (r : Ran). r .count) (accepted-ran (eqb-true _ _ e) .0)) ∙ h .0 in omega (arith, some-cycle))
       forth h false e = row-of m z (sym (ap (λ (r : Ran). r .end) (refused-ran (eqb-false _ _ e) .0)) ∙ h .1)
 
-      back : Foremost (runRows d s p k (length xs) (length w) (length sc)) m → (ranOf d s p k xs w sc .count ≡ 0) × (ranOf d s p k xs w sc .end ≡ m)
+      back : Foremost (runRows d s p k (length xs) (length w) (length sc)) m → (runLeftAt stage verify d s p k xs w sc .ran .count ≡ 0) × (runLeftAt stage verify d s p k xs w sc .ran .end ≡ m)
       back f =
           let q : number ≡ m = of-row m f in
           let r = refused-ran (λ e. z (sym q ∙ e)) .0 in
           (ap (λ (x : Ran). x .count) r, ap (λ (x : Ran). x .end) r ∙ q)
 
   -- and it was made exactly where no row holds
-  pub run-accepted : (0 < ranOf d s p k xs w sc .count) ↔ NoRow (runRows d s p k (length xs) (length w) (length sc))
+  pub run-accepted : (0 < runLeftAt stage verify d s p k xs w sc .ran .count) ↔ NoRow (runRows d s p k (length xs) (length w) (length sc))
   run-accepted = (λ h. forth h (eqb number 0) refl, back)
     where
-      forth : 0 < ranOf d s p k xs w sc .count → (b : Bool) → eqb number 0 ≡ b → NoRow (runRows d s p k (length xs) (length w) (length sc))
+      forth : 0 < runLeftAt stage verify d s p k xs w sc .ran .count → (b : Bool) → eqb number 0 ≡ b → NoRow (runRows d s p k (length xs) (length w) (length sc))
       forth h true e = no-rows (eqb-true _ _ e)
-      forth h false e = absurd (let y : ranOf d s p k xs w sc .count ≡ 0 = ap (λ (r : Ran). r .count) (refused-ran (eqb-false _ _ e) .0) in omega arith)
+      forth h false e = absurd (let y : runLeftAt stage verify d s p k xs w sc .ran .count ≡ 0 = ap (λ (r : Ran). r .count) (refused-ran (eqb-false _ _ e) .0) in omega arith)
 
-      back : NoRow (runRows d s p k (length xs) (length w) (length sc)) → 0 < ranOf d s p k xs w sc .count
+      back : NoRow (runRows d s p k (length xs) (length w) (length sc)) → 0 < runLeftAt stage verify d s p k xs w sc .ran .count
       back f = subst (λ (r : Ran). 0 < r .count) (sym (accepted-ran (rows-none f) .0)) some-cycle
 
   -- a refused run returns the number with no cycle made, and leaves state, array and scratch
   pub run-refused : (m : ℕ) → (m ≡ 0 → ⊥) → Foremost (runRows d s p k (length xs) (length w) (length sc)) m
-      → (ranOf d s p k xs w sc ≡ refusalBy m) × (bytesOf d s p k xs w sc ≡ xs) × (scratchOf d s p k xs w sc ≡ sc)
+      → (runLeftAt stage verify d s p k xs w sc .ran ≡ refusalBy m) × (runLeftAt stage verify d s p k xs w sc .bytes ≡ xs) × (runLeftAt stage verify d s p k xs w sc .scratch ≡ sc)
   run-refused m z f =
       let q : number ≡ m = of-row m f in
       let r = refused-ran (λ e. z (sym q ∙ e)) in
       (r .0 ∙ ap refusalBy q, r .1, r .2)
 
 -- a run that nothing refuses returns the first number of cycles after which the load has ended, and what those leave
-pub run-first : (d : Device) (s : State) (p : Pins) (k : ℕ) (xs w sc : List ℕ) → NoRow (runRows d s p k (length xs) (length w) (length sc))
-    → Promise d s p k xs w sc (ranOf d s p k xs w sc) (bytesOf d s p k xs w sc) (scratchOf d s p k xs w sc)
-run-first d s p k xs w sc f =
-    let c = beginning d s p k xs sc in
+pub run-first : (stage : Stage) (verify : Bool) → isEnded stage ≡ false → (d : Device) (s : State) (p : Pins) (k : ℕ) (xs w sc : List ℕ) → NoRow (runRows d s p k (length xs) (length w) (length sc))
+    → Promise stage verify d s p k xs w sc (runLeftAt stage verify d s p k xs w sc .ran) (runLeftAt stage verify d s p k xs w sc .bytes) (runLeftAt stage verify d s p k xs w sc .scratch)
+run-first stage verify going d s p k xs w sc f =
+    let c = beginningAt stage verify d s p k xs sc in
     let e = driven d w c in
-    let a = accepted-ran d s p k xs w sc (rows-none d s p k xs w sc f) in
+    let a = accepted-ran stage verify going d s p k xs w sc (rows-none stage verify going d s p k xs w sc f) in
     let h : FirstEnd d w c e = first-end d w c refl in
-    let n : ranOf d s p k xs w sc .count ≡ e .count = ap (λ (r : Ran). r .count) (a .0) in
-    let g : e ≡ after (ranOf d s p k xs w sc .count) d w c = h .reached ∙ ap (λ (j : ℕ). after j d w c) (sym n) in
+    let n : runLeftAt stage verify d s p k xs w sc .ran .count ≡ e .count = ap (λ (r : Ran). r .count) (a .0) in
+    let g : e ≡ after (runLeftAt stage verify d s p k xs w sc .ran .count) d w c = h .reached ∙ ap (λ (j : ℕ). after j d w c) (sym n) in
     record {
       returned = a .0 ∙ ap ranBy g;
       array = a .1 ∙ ap (λ (x : Config). x .bytes) g;
@@ -220,10 +221,10 @@ run-first d s p k xs w sc f =
     }
 
 -- two returns that the promise allows are equal, with what they leave
-pub promise-once : (d : Device) (s : State) (p : Pins) (k : ℕ) (xs w sc : List ℕ) (r t : Ran) (x y u v : List ℕ)
-    → Promise d s p k xs w sc r x u → Promise d s p k xs w sc t y v → (r ≡ t) × (x ≡ y) × (u ≡ v)
-promise-once d s p k xs w sc r t x y u v f g =
-    let c = beginning d s p k xs sc in
+pub promise-once : (stage : Stage) (verify : Bool) (d : Device) (s : State) (p : Pins) (k : ℕ) (xs w sc : List ℕ) (r t : Ran) (x y u v : List ℕ)
+    → Promise stage verify d s p k xs w sc r x u → Promise stage verify d s p k xs w sc t y v → (r ≡ t) × (x ≡ y) × (u ≡ v)
+promise-once stage verify d s p k xs w sc r t x y u v f g =
+    let c = beginningAt stage verify d s p k xs sc in
     let n : r .count ≡ t .count = go (ltb (r .count) (t .count)) refl (ltb (t .count) (r .count)) refl in (
       f .returned ∙ ap (λ (j : ℕ). ranBy (after j d w c)) n ∙ sym (g .returned),
       f .array ∙ ap (λ (j : ℕ). after j d w c .bytes) n ∙ sym (g .array),

@@ -13,7 +13,7 @@ use Rattle.loader.specs.declared.Stage.{Stage}
 use Rattle.loader.specs.declared.Stage.the-variants.{Clearing, Opening, Reading, EraseAsking, EraseConfirming, EraseWaiting, ProgramAsking, ProgramSending, ProgramWaiting, Closing, Verifying, Ended}
 use Rattle.loader.specs.declared.Loader.{Loader}
 use Rattle.loader.specs.Walks.{nextDiff, diffFrom, risesIn}
-use Rattle.loader.specs.Moves.{isReady, eraseFault, programFault, onward, afterReads, afterRead, pollMore, erasePolled, past, programPolled, verifyMore, nextIn}
+use Rattle.loader.specs.Moves.{isReady, eraseFault, programFault, loadedStage, onward, afterReads, afterRead, pollMore, erasePolled, past, programPolled, verifyMore, nextIn}
 use Rattle.loader_steps.specs.Stores.{storeOf}
 use Rattle.model.specs.declared.Seen.{Seen}
 use Rattle.model.specs.declared.Seen.the-variants.{NoData, Byte, Refused}
@@ -82,13 +82,18 @@ diff-ahead : (i : ℕ) (w s : List ℕ) → i ≤ diffFrom i w s
 unfolding diffFrom
 diff-ahead i w s = next-ahead (length w - i) i w s
 
+-- what follows the last program is a verify at most
+closes : (verify : Bool) (n : ℕ) → remainsIn (loadedStage verify) n 0 0 ≤ n + 2
+closes true n = omega arith
+closes false n = omega arith
+
 module _ (l : Loader) (w sc : List ℕ) where
   -- from the first byte on
   onward-first : remains (onward l 0 w sc) (length w) ≤ programs (length w)
   unfolding onward
   onward-first =
       if-ind (λ (r : Loader). remains r (length w) ≤ programs (length w)) (ltb (diffFrom 0 w sc) (length w)) _ _
-      (λ e. least (diffFrom 0 w sc) (length w)) (λ e. omega arith)
+      (λ e. least (diffFrom 0 w sc) (length w)) (λ e. omega (arith, closes (l .verify) (length w)))
     where
       least : (j n : ℕ) → (n - 1 - j) * 65537 + (n + 65540) ≤ programs n
       least j n = omega arith
@@ -111,11 +116,11 @@ module _ (l : Loader) (w sc : List ℕ) where
       go true e =
           rw e
           (if-ind In (ltb (diffFrom (p + 1) w sc) (length w)) _ _
-          (λ h. closer (length w) (diffFrom (p + 1) w sc) (ltb-true _ _ h) (diff-ahead (p + 1) w sc)) (λ h. omega arith))
+          (λ h. closer (length w) (diffFrom (p + 1) w sc) (ltb-true _ _ h) (diff-ahead (p + 1) w sc)) (λ h. omega (arith, closes (l .verify) (length w))))
       go false e =
           rw e
           (if-ind In (ltb (diffFrom p w sc) (length w)) _ _
-          (λ h. far (diffFrom p w sc) (ltb-false _ _ e) (diff-ahead p w sc) h) (λ h. omega arith))
+          (λ h. far (diffFrom p w sc) (ltb-false _ _ e) (diff-ahead p w sc) h) (λ h. omega (arith, closes (l .verify) (length w))))
 
   -- one more byte read
   read-falls : remains (afterRead l w sc) (length w) < remainsIn Reading (length w) (l .place) (l .polls)
@@ -193,6 +198,6 @@ falls-in (Ended m) l b w sc e = absurd (unlike e)
 
 -- whatever the model answers
 pub falls : (seen : Seen) (l : Loader) (w sc : List ℕ) → isEnded (l .stage) ≡ false → remains (loaderBy seen l w sc) (length w) < remains l (length w)
-falls NoData l w sc e = falls-in (l .stage) l 0 w (storeOf l 0 sc) e
-falls (Byte b) l w sc e = falls-in (l .stage) l b w (storeOf l b sc) e
+falls NoData l w sc e = falls-in (l .stage) l 0 w (storeOf l 0 w sc) e
+falls (Byte b) l w sc e = falls-in (l .stage) l b w (storeOf l b w sc) e
 falls (Refused m) l w sc e = remains-some (l .stage) (length w) (l .place) (l .polls) e

@@ -26,7 +26,6 @@ use Rattle.model.specs.Arrays.{answerOf}
 use Rattle.model.proofs.Keeping.{cycle-proper}
 use Rattle.model.proofs.Contents.{cycle-length}
 use Rattle.loader.specs.declared.Stage.{Stage}
-use Rattle.loader.specs.declared.Stage.the-variants.{Clearing}
 use Rattle.loader.specs.declared.Loader.{Loader}
 use Rattle.loader_steps.specs.Outs.{firstAddress, reach, hereOf, addressIn, carriedIn, cycleAt, cycleAtStage, cycleOf}
 use Rattle.loader_steps.specs.Stores.{storeOf}
@@ -63,10 +62,10 @@ free-calm (Suspending n′) e = absurd (unlike e)
 free-calm Suspended e = absurd (unlike e)
 
 -- it holds at the start of a run that passed its tests
-pub sound-good : (d : Device) (s : State) (p : Pins) (k array sc : ℕ) (w : List ℕ) → Good d s p k array (length w) sc
-    → Sound d w (recordAt (d .part) p k Clearing) s array
+pub sound-good : (stage : Stage) (verify : Bool) (d : Device) (s : State) (p : Pins) (k array sc : ℕ) (w : List ℕ) → Good d s p k array (length w) sc
+    → Sound d w (recordAt (d .part) p k stage verify) s array
 unfolding barredPins
-sound-good d s p k array sc w g =
+sound-good stage verify d s p k array sc w g =
     record {
       known = g .known;
       sized = g .sized;
@@ -80,9 +79,9 @@ sound-good d s p k array sc w g =
       place = omega (arith, some-block (d .part) k (g .block), g .wanted);
     }
 
-pub sound-start : (d : Device) (s : State) (p : Pins) (k : ℕ) (xs w sc : List ℕ) → runNumber d s p k (length xs) (length w) (length sc) ≡ 0
-    → Sound d w (recordAt (d .part) p k Clearing) s (length xs)
-sound-start d s p k xs w sc e = sound-good d s p k (length xs) (length sc) w (good d s p k (length xs) (length w) (length sc) e)
+pub sound-start : (stage : Stage) (verify : Bool) (d : Device) (s : State) (p : Pins) (k : ℕ) (xs w sc : List ℕ) → runNumber d s p k (length xs) (length w) (length sc) ≡ 0
+    → Sound d w (recordAt (d .part) p k stage verify) s (length xs)
+sound-start stage verify d s p k xs w sc e = sound-good stage verify d s p k (length xs) (length sc) w (good d s p k (length xs) (length w) (length sc) e)
 
 -- the cycle that is out has the record's levels and OE# normal, at the block's first address or at the byte's
 out-ways : (P : Cycle → Type 0) (l : Loader) (w : List ℕ) (first here n : ℕ) → first < n → here < n → ((kind : Kind) (a b : ℕ) → a < n → P (cycleAt l kind a b))
@@ -138,8 +137,8 @@ sound-judged d w l s n z e = out-judged d w l s n z
 
 -- an answer taken leaves a record of the same part, block and levels, its place in the block
 kept-by : (seen : Seen) (l : Loader) (w sc : List ℕ) → Kept l (length w) (loaderBy seen l w sc)
-kept-by NoData l w sc = kept-next l w (l .stage) 0 (storeOf l 0 sc)
-kept-by (Byte b) l w sc = kept-next l w (l .stage) b (storeOf l b sc)
+kept-by NoData l w sc = kept-next l w (l .stage) 0 (storeOf l 0 w sc)
+kept-by (Byte b) l w sc = kept-next l w (l .stage) b (storeOf l b w sc)
 kept-by (Refused m) l w sc = record { same = refl; place = λ h. h; polls = λ (q : l .polls ≤ 65534). omega arith }
 
 -- a kept record, a proper state that is calm with VPP low, and an array as long as before are sound again
@@ -193,12 +192,12 @@ sound-after (suc j) d w c h =
     (λ e. sound-turn d w (c .scratch) (c .bytes) (c .loader) (c .state) h e))
 
 -- so a run meets none of refusals 1 to 6
-pub passes-ever : (d : Device) (s : State) (p : Pins) (k : ℕ) (xs w sc : List ℕ) → runNumber d s p k (length xs) (length w) (length sc) ≡ 0 → (j : ℕ)
-    → isEnded (after j d w (begin d s (recordAt (d .part) p k Clearing) xs sc) .loader .stage) ≡ false
-    → judgeOf d (after j d w (begin d s (recordAt (d .part) p k Clearing) xs sc) .state)
-    (cycleOf (after j d w (begin d s (recordAt (d .part) p k Clearing) xs sc) .loader) w)
-    (length (after j d w (begin d s (recordAt (d .part) p k Clearing) xs sc) .bytes)) 0
+pub passes-ever : (stage : Stage) (verify : Bool) (d : Device) (s : State) (p : Pins) (k : ℕ) (xs w sc : List ℕ) → runNumber d s p k (length xs) (length w) (length sc) ≡ 0 → (j : ℕ)
+    → isEnded (after j d w (begin d s (recordAt (d .part) p k stage verify) xs sc) .loader .stage) ≡ false
+    → judgeOf d (after j d w (begin d s (recordAt (d .part) p k stage verify) xs sc) .state)
+    (cycleOf (after j d w (begin d s (recordAt (d .part) p k stage verify) xs sc) .loader) w)
+    (length (after j d w (begin d s (recordAt (d .part) p k stage verify) xs sc) .bytes)) 0
     ≡ 0
-passes-ever d s p k xs w sc z j e =
-    let c : Config = begin d s (recordAt (d .part) p k Clearing) xs sc in
-    sound-judged d w (after j d w c .loader) (after j d w c .state) (length (after j d w c .bytes)) (sound-after j d w c (sound-start d s p k xs w sc z)) e
+passes-ever stage verify d s p k xs w sc z j e =
+    let c : Config = begin d s (recordAt (d .part) p k stage verify) xs sc in
+    sound-judged d w (after j d w c .loader) (after j d w c .state) (length (after j d w c .bytes)) (sound-after j d w c (sound-start stage verify d s p k xs w sc z)) e

@@ -22,12 +22,12 @@ use Rattle.loader_run.proofs.Measure.{remains, remains-bound, falls}
 
 -- an answer taken, refused or not
 pub took : (seen : Seen) (l : Loader) (w sc : List ℕ) → isRefused seen ≡ false
-    → (loaderBy seen l w sc ≡ nextOf l (numberIn seen) w (storeOf l (numberIn seen) sc)) × (scratchBy seen l sc ≡ storeOf l (numberIn seen) sc)
+    → (loaderBy seen l w sc ≡ nextOf l (numberIn seen) w (storeOf l (numberIn seen) w sc)) × (scratchBy seen l w sc ≡ storeOf l (numberIn seen) w sc)
 took NoData l w sc e = (refl, refl)
 took (Byte b) l w sc e = (refl, refl)
 took (Refused n) l w sc e = absurd (unlike e)
 
-pub took-none : (seen : Seen) (l : Loader) (w sc : List ℕ) → isRefused seen ≡ true → (loaderBy seen l w sc ≡ endedBy l (numberIn seen)) × (scratchBy seen l sc ≡ sc)
+pub took-none : (seen : Seen) (l : Loader) (w sc : List ℕ) → isRefused seen ≡ true → (loaderBy seen l w sc ≡ endedBy l (numberIn seen)) × (scratchBy seen l w sc ≡ sc)
 took-none NoData l w sc e = absurd (unlike (sym e))
 took-none (Byte b) l w sc e = absurd (unlike (sym e))
 took-none (Refused n) l w sc e = (refl, refl)
@@ -35,8 +35,8 @@ took-none (Refused n) l w sc e = (refl, refl)
 -- the block begins where it began
 pub first-stays : (seen : Seen) (l : Loader) (w sc : List ℕ) → firstAddress (loaderBy seen l w sc) ≡ firstAddress l
 unfolding firstAddress
-first-stays NoData l w sc = first-kept l 0 w (storeOf l 0 sc)
-first-stays (Byte b) l w sc = first-kept l b w (storeOf l b sc)
+first-stays NoData l w sc = first-kept l 0 w (storeOf l 0 w sc)
+first-stays (Byte b) l w sc = first-kept l b w (storeOf l b w sc)
 first-stays (Refused n) l w sc = refl
 
 pub turn-ended : (d : Device) (w : List ℕ) (c : Config) → isEnded (c .loader .stage) ≡ true → turnOf d w c ≡ c
@@ -77,7 +77,7 @@ keeps-start d w l s xs sc =
 
 pub keeps-turn : (d : Device) (w : List ℕ) (end : Config) (l : Loader) (s : State) (xs sc : List ℕ) (k : ℕ) → Keeps d w end (conf l s xs sc k) → isEnded (l .stage) ≡ false
     → (l′ : Loader) (s′ : State) (xs′ sc′ : List ℕ)
-    → l′ ≡ loaderBy (answerTo d w l s xs .seen) l w sc → s′ ≡ answerTo d w l s xs .state → sc′ ≡ scratchBy (answerTo d w l s xs .seen) l sc → xs′ ≡ arrayTo d w l s xs
+    → l′ ≡ loaderBy (answerTo d w l s xs .seen) l w sc → s′ ≡ answerTo d w l s xs .state → sc′ ≡ scratchBy (answerTo d w l s xs .seen) l w sc → xs′ ≡ arrayTo d w l s xs
     → Keeps d w end (conf l′ s′ xs′ sc′ (k + 1))
 keeps-turn d w end l s xs sc k h e l′ s′ xs′ sc′ el es ec ex =
     let f : remains (loaderBy (answerTo d w l s xs .seen) l w sc) (length w) < remains l (length w) = falls (answerTo d w l s xs .seen) l w sc e in

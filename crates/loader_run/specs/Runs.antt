@@ -1,5 +1,5 @@
 -- A run: its tests, its beginning and what it returns. Assumes nothing.
-use mathlib.Core.Bool.{not}
+use mathlib.Core.Bool.{Bool, true, false, not}
 use mathlib.Core.List.{List, [], _∷_, _++_}
 use Prim.Native.Nat.{ℕ}
 use lib.ListN.{length}
@@ -12,7 +12,8 @@ use Rattle.model_types.specs.declared.Pins.{Pins}
 use Rattle.model_types.specs.declared.State.{State}
 use Rattle.model_types.specs.Phases.{underWay}
 use Rattle.model_types.specs.States.{improper}
-use Rattle.loader.specs.declared.Stage.the-variants.{Clearing}
+use Rattle.loader.specs.declared.Stage.{Stage}
+use Rattle.loader.specs.declared.Stage.the-variants.{Clearing, Closing}
 use Rattle.loader.specs.declared.Loader.{Loader}
 use Rattle.loader.specs.Stages.{endBy}
 use Rattle.loader_steps.specs.Front.{setupRows, recordAt, endAddress}
@@ -34,9 +35,19 @@ runNumber d s p k array w sc = given (runRows d s p k array w sc)
 abbrev pub begin : Device → State → Loader → List ℕ → List ℕ → Config
 begin d s l xs sc = record { loader = l; state = s; bytes = xs; scratch = sc; count = 0 }
 
--- .. of a load of block k
+-- .. of block k at a stage, with or without the verify after a load
+abbrev pub beginningAt : Stage → Bool → Device → State → Pins → ℕ → List ℕ → List ℕ → Config
+beginningAt stage verify d s p k xs sc = begin d s (recordAt (d .part) p k stage verify) xs sc
+
+-- a run begins with 50H and has the verify after the load, a load alone has none, and a verify alone begins with the last FFH
 abbrev pub beginning : Device → State → Pins → ℕ → List ℕ → List ℕ → Config
-beginning d s p k xs sc = begin d s (recordAt (d .part) p k Clearing) xs sc
+beginning d s p k xs sc = beginningAt Clearing true d s p k xs sc
+
+abbrev pub loadBeginning : Device → State → Pins → ℕ → List ℕ → List ℕ → Config
+loadBeginning d s p k xs sc = beginningAt Clearing false d s p k xs sc
+
+abbrev pub verifyBeginning : Device → State → Pins → ℕ → List ℕ → List ℕ → Config
+verifyBeginning d s p k xs sc = beginningAt Closing true d s p k xs sc
 
 -- what is returned of a load under way
 abbrev pub ranBy : Config → Ran
@@ -46,9 +57,13 @@ ranBy c = record { count = c .count; end = endBy (c .loader .stage); address = e
 unfoldable pub driven : Device → List ℕ → Config → Config
 driven d w c = after (bound (length w)) d w c
 
--- a whole run, as it is left
-unfoldable pub leftBy : Device → State → Pins → ℕ → List ℕ → List ℕ → List ℕ → Config
-leftBy d s p k xs w sc = driven d w (beginning d s p k xs sc)
+-- such a beginning made to its end, as it is left
+unfoldable pub leftAt : Stage → Bool → Device → State → Pins → ℕ → List ℕ → List ℕ → List ℕ → Config
+leftAt stage verify d s p k xs w sc = driven d w (beginningAt stage verify d s p k xs sc)
+
+-- a whole run
+abbrev pub leftBy : Device → State → Pins → ℕ → List ℕ → List ℕ → List ℕ → Config
+leftBy d s p k xs w sc = leftAt Clearing true d s p k xs w sc
 
 -- what a run returns and leaves: its result, the array and scratch
 pub record RunLeft : Type 0 where
@@ -64,13 +79,23 @@ runMade c = record { ran = ranBy c; bytes = c .bytes; scratch = c .scratch }
 abbrev pub runRefused : ℕ → State → List ℕ → List ℕ → RunLeft
 runRefused n s xs sc = record { ran = record { count = 0; end = n; address = 0; state = s }; bytes = xs; scratch = sc }
 
--- a run: refused by its number, or the load made to its end
-unfoldable pub runLeft : Device → State → Pins → ℕ → List ℕ → List ℕ → List ℕ → RunLeft
-runLeft d s p k xs w sc =
-    if eqb (runNumber d s p k (length xs) (length w) (length sc)) 0 then runMade (leftBy d s p k xs w sc)
+-- from such a beginning: refused by the run's number, or made to the end
+unfoldable pub runLeftAt : Stage → Bool → Device → State → Pins → ℕ → List ℕ → List ℕ → List ℕ → RunLeft
+runLeftAt stage verify d s p k xs w sc =
+    if eqb (runNumber d s p k (length xs) (length w) (length sc)) 0 then runMade (leftAt stage verify d s p k xs w sc)
     else runRefused (runNumber d s p k (length xs) (length w) (length sc)) s xs sc
 
--- its three parts
+-- a run of load and verify, a load alone, and a verify alone
+abbrev pub runLeft : Device → State → Pins → ℕ → List ℕ → List ℕ → List ℕ → RunLeft
+runLeft d s p k xs w sc = runLeftAt Clearing true d s p k xs w sc
+
+abbrev pub loadAlone : Device → State → Pins → ℕ → List ℕ → List ℕ → List ℕ → RunLeft
+loadAlone d s p k xs w sc = runLeftAt Clearing false d s p k xs w sc
+
+abbrev pub verifyAlone : Device → State → Pins → ℕ → List ℕ → List ℕ → List ℕ → RunLeft
+verifyAlone d s p k xs w sc = runLeftAt Closing true d s p k xs w sc
+
+-- a run's three parts
 abbrev pub ranOf : Device → State → Pins → ℕ → List ℕ → List ℕ → List ℕ → Ran
 ranOf d s p k xs w sc = runLeft d s p k xs w sc .ran
 

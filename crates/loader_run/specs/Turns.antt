@@ -36,14 +36,14 @@ numberIn (Refused n) = n
 
 -- what the loader makes of the model's answer: it takes the byte, 0 where none is given; a refusal would end the load
 abbrev pub loaderBy : Seen → Loader → List ℕ → List ℕ → Loader
-loaderBy NoData l w sc = nextOf l 0 w (storeOf l 0 sc)
-loaderBy (Byte b) l w sc = nextOf l b w (storeOf l b sc)
+loaderBy NoData l w sc = nextOf l 0 w (storeOf l 0 w sc)
+loaderBy (Byte b) l w sc = nextOf l b w (storeOf l b w sc)
 loaderBy (Refused n) l w sc = endedBy l n
 
-abbrev pub scratchBy : Seen → Loader → List ℕ → List ℕ
-scratchBy NoData l sc = storeOf l 0 sc
-scratchBy (Byte b) l sc = storeOf l b sc
-scratchBy (Refused n) l sc = sc
+abbrev pub scratchBy : Seen → Loader → List ℕ → List ℕ → List ℕ
+scratchBy NoData l w sc = storeOf l 0 w sc
+scratchBy (Byte b) l w sc = storeOf l b w sc
+scratchBy (Refused n) l w sc = sc
 
 -- the model's answer to the cycle that is out; a run has no residue
 unfoldable pub answerTo : Device → List ℕ → Loader → State → List ℕ → Answer
@@ -60,7 +60,7 @@ moved d w c =
       loader = loaderBy (answerTo d w (c .loader) (c .state) (c .bytes) .seen) (c .loader) w (c .scratch);
       state = answerTo d w (c .loader) (c .state) (c .bytes) .state;
       bytes = arrayTo d w (c .loader) (c .state) (c .bytes);
-      scratch = scratchBy (answerTo d w (c .loader) (c .state) (c .bytes) .seen) (c .loader) (c .scratch);
+      scratch = scratchBy (answerTo d w (c .loader) (c .state) (c .bytes) .seen) (c .loader) w (c .scratch);
       count = c .count + 1;
     }
 

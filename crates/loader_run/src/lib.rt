@@ -23,12 +23,11 @@ ghost use lib.ListN.{length};
 ghost use lib.Dec.{eqb};
 ghost use Rattle.device.specs.Parts.{sizeOf};
 ghost use Rattle.model_rules.specs.Cycles.{judgeOf};
-ghost use Rattle.loader.specs.declared.Stage.the-variants.{Clearing};
 ghost use Rattle.loader.specs.Stages.{isEnded};
 ghost use Rattle.loader_steps.specs.Outs.{firstAddress, hereOf, cycleOf};
 ghost use Rattle.loader_steps.specs.Front.{recordAt};
 ghost use Rattle.loader_run.specs.Turns.{isRefused, numberIn, loaderBy, scratchBy, answerTo, arrayTo};
-ghost use Rattle.loader_run.specs.Runs.{runNumber, begin, ranBy, driven, ranOf, bytesOf, scratchOf};
+ghost use Rattle.loader_run.specs.Runs.{runNumber, begin, ranBy, driven, runLeftAt, loadAlone, verifyAlone, ranOf, bytesOf, scratchOf};
 ghost use Rattle.model_types.specs.Phases.{underWay};
 
 // What a run returns: the cycles made, the number of the end (0 well), for 25 the array address, and the device's state.
@@ -68,7 +67,7 @@ fn number_in(seen: Seen) -> u8
 // The loader takes what the model answered.
 fn taken(seen: Seen, l: Loader, wanted: &[u8], scratch: &mut [u8]) -> Loader
     ensures { λ r. ⌜ r ≡ loaderBy seen l (now (wanted .entry)) (now (scratch .entry)) ⌝ }
-    ensures { λ _. ⌜ now (scratch .exit) ≡ scratchBy seen l (now (scratch .entry)) ⌝ }
+    ensures { λ _. ⌜ now (scratch .exit) ≡ scratchBy seen l (now (wanted .entry)) (now (scratch .entry)) ⌝ }
 {
     let n = number_in(seen);
     if is_refused(seen) {
@@ -95,7 +94,7 @@ fn both(d: Device, start: u32, h: Held, wanted: &[u8], scratch: &mut [u8], array
         ≡ loaderBy (answerTo d (now (wanted .entry)) (h .loader) (h .state) (now (array .entry)) .seen) (h .loader) (now (wanted .entry)) (now (scratch .entry)) ⌝ }
     ensures { λ r. ⌜ r .state ≡ answerTo d (now (wanted .entry)) (h .loader) (h .state) (now (array .entry)) .state ⌝ }
     ensures { λ _. ⌜ now (scratch .exit)
-        ≡ scratchBy (answerTo d (now (wanted .entry)) (h .loader) (h .state) (now (array .entry)) .seen) (h .loader) (now (scratch .entry)) ⌝ }
+        ≡ scratchBy (answerTo d (now (wanted .entry)) (h .loader) (h .state) (now (array .entry)) .seen) (h .loader) (now (wanted .entry)) (now (scratch .entry)) ⌝ }
     ensures { λ _. ⌜ now (array .exit) ≡ arrayTo d (now (wanted .entry)) (h .loader) (h .state) (now (array .entry)) ⌝ }
 {
     let l = h.loader;
@@ -122,7 +121,7 @@ fn going(l: Loader) -> bool
 // The load made to its end, from a beginning that nothing refuses.
 fn drive(d: Device, s: State, l: Loader, wanted: &[u8], scratch: &mut [u8], array: &mut [u8]) -> Ran
     requires { ⌜ (runNumber d s (l .pins) (l .block) (length (now array)) (length (now wanted)) (length (now scratch)) ≡ 0)
-        × (l ≡ recordAt (d .part) (l .pins) (l .block) Clearing) ⌝ }
+        × (l ≡ recordAt (d .part) (l .pins) (l .block) (l .stage) (l .verify)) ⌝ }
     ensures { λ r. ⌜ r ≡ ranBy (driven d (now (wanted .entry)) (begin d s l (now (array .entry)) (now (scratch .entry)))) ⌝ }
     ensures { λ _. ⌜ now (scratch .exit) ≡ driven d (now (wanted .entry)) (begin d s l (now (array .entry)) (now (scratch .entry))) .scratch ⌝ }
     ensures { λ _. ⌜ now (array .exit) ≡ driven d (now (wanted .entry)) (begin d s l (now (array .entry)) (now (scratch .entry))) .bytes ⌝ }
@@ -211,7 +210,37 @@ pub fn run_number(
     0
 }
 
-// A load of one block, against the model.
+// A beginning at a stage made to its end, against the model.
+fn run_at(
+    stage: Stage,
+    verify: bool,
+    d: Device,
+    s: State,
+    p: Pins,
+    block: u8,
+    array: &mut [u8],
+    wanted: &[u8],
+    scratch: &mut [u8],
+) -> Ran
+    ensures { λ r. ⌜ r ≡ runLeftAt stage verify d s p block (now (array .entry)) (now (wanted .entry)) (now (scratch .entry)) .ran ⌝ }
+    ensures { λ _. ⌜ now (array .exit) ≡ runLeftAt stage verify d s p block (now (array .entry)) (now (wanted .entry)) (now (scratch .entry)) .bytes ⌝ }
+    ensures { λ _. ⌜ now (scratch .exit) ≡ runLeftAt stage verify d s p block (now (array .entry)) (now (wanted .entry)) (now (scratch .entry)) .scratch ⌝ }
+{
+    let n = run_number(d, s, p, block, array.len(), wanted.len(), scratch.len());
+    if n == 0 {
+        let part = d.part;
+        let l = record_at(part, p, block, stage, verify);
+        return drive(d, s, l, wanted, scratch, array);
+    }
+    Ran {
+        count: 0,
+        end: n,
+        address: 0,
+        state: s,
+    }
+}
+
+// A load of one block and the verify after it, against the model.
 pub fn run(
     d: Device,
     s: State,
@@ -225,16 +254,59 @@ pub fn run(
     ensures { λ _. ⌜ now (array .exit) ≡ bytesOf d s p block (now (array .entry)) (now (wanted .entry)) (now (scratch .entry)) ⌝ }
     ensures { λ _. ⌜ now (scratch .exit) ≡ scratchOf d s p block (now (array .entry)) (now (wanted .entry)) (now (scratch .entry)) ⌝ }
 {
-    let n = run_number(d, s, p, block, array.len(), wanted.len(), scratch.len());
-    if n == 0 {
-        let part = d.part;
-        let l = record_at(part, p, block, Stage::Clearing);
-        return drive(d, s, l, wanted, scratch, array);
-    }
-    Ran {
-        count: 0,
-        end: n,
-        address: 0,
-        state: s,
-    }
+    run_at(
+        Stage::Clearing,
+        true,
+        d,
+        s,
+        p,
+        block,
+        array,
+        wanted,
+        scratch,
+    )
+}
+
+// A load of one block alone, against the model.
+pub fn run_load(
+    d: Device,
+    s: State,
+    p: Pins,
+    block: u8,
+    array: &mut [u8],
+    wanted: &[u8],
+    scratch: &mut [u8],
+) -> Ran
+    ensures { λ r. ⌜ r ≡ loadAlone d s p block (now (array .entry)) (now (wanted .entry)) (now (scratch .entry)) .ran ⌝ }
+    ensures { λ _. ⌜ now (array .exit) ≡ loadAlone d s p block (now (array .entry)) (now (wanted .entry)) (now (scratch .entry)) .bytes ⌝ }
+    ensures { λ _. ⌜ now (scratch .exit) ≡ loadAlone d s p block (now (array .entry)) (now (wanted .entry)) (now (scratch .entry)) .scratch ⌝ }
+{
+    run_at(
+        Stage::Clearing,
+        false,
+        d,
+        s,
+        p,
+        block,
+        array,
+        wanted,
+        scratch,
+    )
+}
+
+// A verify of one block alone, against the model.
+pub fn run_verify(
+    d: Device,
+    s: State,
+    p: Pins,
+    block: u8,
+    array: &mut [u8],
+    wanted: &[u8],
+    scratch: &mut [u8],
+) -> Ran
+    ensures { λ r. ⌜ r ≡ verifyAlone d s p block (now (array .entry)) (now (wanted .entry)) (now (scratch .entry)) .ran ⌝ }
+    ensures { λ _. ⌜ now (array .exit) ≡ verifyAlone d s p block (now (array .entry)) (now (wanted .entry)) (now (scratch .entry)) .bytes ⌝ }
+    ensures { λ _. ⌜ now (scratch .exit) ≡ verifyAlone d s p block (now (array .entry)) (now (wanted .entry)) (now (scratch .entry)) .scratch ⌝ }
+{
+    run_at(Stage::Closing, true, d, s, p, block, array, wanted, scratch)
 }

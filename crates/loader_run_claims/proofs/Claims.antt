@@ -13,6 +13,7 @@ use Rattle.model_types.specs.declared.Pins.{Pins}
 use Rattle.model_types.specs.declared.Mode.the-variants.{Array}
 use Rattle.model_types.specs.declared.State.{State}
 use Rattle.model_types.specs.States.{atRest}
+use Rattle.loader.specs.declared.Stage.the-variants.{Clearing}
 use Rattle.loader_run.specs.Turns.{Config, after}
 use Rattle.loader_run.specs.Runs.{runRows, begin, ranOf, bytesOf, scratchOf, runNumber}
 use Rattle.loader_run_claims.specs.Wear.{begunIn, heldIn, formula, operationsOf, notedAll, begunByLoad, heldBy}
@@ -31,8 +32,8 @@ use Rattle.loader_run_claims.proofs.Mission as mission
 
 -- Demand 3, every clause in the mission's order (specs/Mission), from its start: a proper state with nothing under way, VPP in its
 -- 12 V band, RP# high, at unlock level for the boot block.
-pub demand-3 : (d : Device) (s : State) (p : Pins) (k : ℕ) (xs w sc : List ℕ) → Start d s p k xs w sc → Demand3 d s p k xs w sc
-demand-3 = mission.demand-3
+pub demand-3 : (d : Device) (s : State) (p : Pins) (k : ℕ) (xs w sc : List ℕ) → Start d s p k xs w sc → Demand3 true d s p k xs w sc
+demand-3 = mission.demand-3 true
 
 -- A proper idle start (`Taken`) is just what no number of a run refuses, with busy times up to 65,535 and wanted bytes.
 pub taken-exactly : (d : Device) (s : State) (p : Pins) (k : ℕ) (xs w sc : List ℕ) → d .program ≤ 65535 → d .erase ≤ 65535 → Cells (d .part) w
@@ -42,41 +43,41 @@ taken-exactly = starts.taken-exactly
 -- The clauses one by one. All that the run returns: the load ends well, and the count is 2n + 3 + e(2 + E) + p(2 + P).
 pub ends-well : (d : Device) (s : State) (p : Pins) (k : ℕ) (xs w sc : List ℕ) → Start d s p k xs w sc
     → ranOf d s p k xs w sc ≡ record { count = formula d w (heldIn (startOf (d .part) k) (length w) xs); end = 0; address = 0; state = atRest s Array 0x80 }
-ends-well = mission.ends-well
+ends-well = mission.ends-well true
 
 -- The block holds the wanted bytes, every other byte is as before, and scratch holds the wanted bytes.
 pub block-holds : (d : Device) (s : State) (p : Pins) (k : ℕ) (xs w sc : List ℕ) → Start d s p k xs w sc
     → heldIn (startOf (d .part) k) (length w) (bytesOf d s p k xs w sc) ≡ w
-block-holds = mission.block-holds
+block-holds = mission.block-holds true
 
 pub others-stay : (d : Device) (s : State) (p : Pins) (k : ℕ) (xs w sc : List ℕ) → Start d s p k xs w sc → (x : ℕ)
     → (x < startOf (d .part) k → getD (bytesOf d s p k xs w sc) x 0 ≡ getD xs x 0)
     × (startOf (d .part) k + length w ≤ x → getD (bytesOf d s p k xs w sc) x 0 ≡ getD xs x 0)
-others-stay = mission.others-stay
+others-stay = mission.others-stay true
 
 pub scratch-left : (d : Device) (s : State) (p : Pins) (k : ℕ) (xs w sc : List ℕ) → Start d s p k xs w sc → scratchOf d s p k xs w sc ≡ w
-scratch-left = mission.scratch-wanted
+scratch-left = mission.scratch-wanted true
 
 -- It erases once if some bit must rise, otherwise never; it programs each byte that then differs once, and no other: the list of
 -- the operations begun, in their order.
 pub begins-just : (d : Device) (s : State) (p : Pins) (k : ℕ) (xs w sc : List ℕ) → Start d s p k xs w sc
     → begunByLoad d s p k xs w sc ≡ operationsOf (d .part) k (startOf (d .part) k) w (heldBy (d .part) k xs)
-begins-just d s p k xs w sc start = mission.demand-3 d s p k xs w sc start .begins
+begins-just d s p k xs w sc start = mission.demand-3 true d s p k xs w sc start .begins
 
 -- The cycles of a good load, one after the other: 50H, FFH, n reads; 20H, D0H, E polls if some bit must rise; 40H, the byte, P
 -- polls for each byte that then differs; FFH, n reads. There are as many as the formula says.
 pub cycles-are : (d : Device) (s : State) (p : Pins) (k : ℕ) (xs w sc : List ℕ) → Start d s p k xs w sc
     → cyclesOfLoad d s p k xs w sc ≡ cyclesOf d p (startOf (d .part) k) w (heldBy (d .part) k xs)
-cycles-are = mission.cycles-listed
+cycles-are = mission.cycles-listed true
 
 pub cycles-counted : (d : Device) (p : Pins) (a : ℕ) (w ys : List ℕ) → length (cyclesOf d p a w ys) ≡ formula d w ys
-cycles-counted = mission.cycles-long
+cycles-counted = mission.cycles-long true
 
 -- Least wear: cycles of any kind from the same start, refused ones among them, that cut no operation and leave the block as
 -- wanted, begin at least as many erases of that block and at least as many programs in it as the load's own cycles.
 pub nothing-less : (d : Device) (s : State) (p : Pins) (k : ℕ) (xs w sc : List ℕ) → Start d s p k xs w sc → Cells (d .part) xs
-    → (bs : List Bus) → Brings d (worldOf s xs) k w bs → NoFewer d (worldOf s xs) k (ownCycles d s p k xs w sc) bs
-nothing-less d s p k xs w sc start = mission.demand-3 d s p k xs w sc start .least-wear
+    → (bs : List Bus) → Brings d (worldOf s xs) k w bs → NoFewer d (worldOf s xs) k (ownCycles true d s p k xs w sc) bs
+nothing-less d s p k xs w sc start = mission.demand-3 true d s p k xs w sc start .least-wear
 
 -- A load's cycles, put to a device alone, lead it to where the load is and begin what the load begins. From any input whatever.
 pub own-leads : (d : Device) (w : List ℕ) (j : ℕ) (c : Config)
@@ -90,14 +91,14 @@ own-begins = own.own-begins
 -- cycles listed there: with nothing to erase or program it ends well in 2n + 3 cycles; otherwise with VPP low it ends 21, and with
 -- the boot block shut 23 if some bit must rise, else 24, at cycle n + 5 with the array as before and scratch as the block held;
 -- otherwise well. The model refuses none of its cycles, and none cuts an operation.
-pub every-end : (d : Device) (s : State) (p : Pins) (k : ℕ) (xs w sc : List ℕ) → Taken d s p k xs w sc → Whole d s p k xs w sc
-every-end = total-ends.every-end
+pub every-end : (d : Device) (s : State) (p : Pins) (k : ℕ) (xs w sc : List ℕ) → Taken d s p k xs w sc → Whole true d s p k xs w sc
+every-end = total-ends.every-end true
 
 -- Stepping by hand is the run (`Stepped` of specs/Stepping, a sentence a field). From a start that nothing refuses, a host that gives
 -- the device the cycle that is out, and hands the byte read to the step (after a write any byte), gets the run's next record and cycle
 -- at every turn; at the last the run's end and address, with the run's state, array, scratch and count.
-pub stepped-by-hand : (d : Device) (s : State) (p : Pins) (k : ℕ) (xs w sc : List ℕ) → Taken d s p k xs w sc → Stepped d s p k xs w sc
-stepped-by-hand d s p k xs w sc t = stepping.stepped d s p k xs w sc (every-end d s p k xs w sc t)
+pub stepped-by-hand : (d : Device) (s : State) (p : Pins) (k : ℕ) (xs w sc : List ℕ) → Taken d s p k xs w sc → Stepped Clearing true d s p k xs w sc
+stepped-by-hand d s p k xs w sc t = stepping.stepped true d s p k xs w sc (every-end d s p k xs w sc t)
 
 -- The count is the number of cycles made: any number of turns from anywhere adds to it the length of the list of their cycles.
 pub counts-made : (k : ℕ) (d : Device) (w : List ℕ) (c : Config) → after k d w c .count ≡ c .count + length (madeIn k d w c)
@@ -106,11 +107,11 @@ counts-made = counting.counts-made
 -- So a run that nothing refuses returns the number of its cycles, whatever its end; P, E and the wanted bytes are free here.
 pub run-counts : (d : Device) (s : State) (p : Pins) (k : ℕ) (xs w sc : List ℕ) → NoRow (runRows d s p k (length xs) (length w) (length sc))
     → ranOf d s p k xs w sc .count ≡ length (cyclesOfLoad d s p k xs w sc)
-run-counts = counting.run-counts
+run-counts = counting.run-counts Clearing true
 
 -- The cycles that specs/Ends lists are as many as the count that it lists: the formula for a good end, n + 5 for 21, 23 and 24.
-pub ends-counted : (d : Device) (s : State) (p : Pins) (k a : ℕ) (w ys : List ℕ) → length (cyclesAs d p k a w ys) ≡ ranAs d s p k w ys .count
-ends-counted = counting.ends-counted
+pub ends-counted : (d : Device) (s : State) (p : Pins) (k a : ℕ) (w ys : List ℕ) → length (cyclesAs true d p k a w ys) ≡ ranAs true d s p k w ys .count
+ends-counted = counting.ends-counted true
 
 -- With nothing to erase or program the count is 2n + 3.
 pub nothing-to-do : (d : Device) (w ys : List ℕ) → length ys ≡ length w → asWanted w ys ≡ true → formula d w ys ≡ 2 * length w + 3
@@ -119,4 +120,4 @@ nothing-to-do = same.same-formula
 -- 20, 22 and 25 never come from the model.
 pub never : (d : Device) (s : State) (p : Pins) (k : ℕ) (xs w sc : List ℕ) → Taken d s p k xs w sc
     → (ranOf d s p k xs w sc .end ≡ 20 → ⊥) × (ranOf d s p k xs w sc .end ≡ 22 → ⊥) × (ranOf d s p k xs w sc .end ≡ 25 → ⊥)
-never = total-ends.never
+never = total-ends.never true

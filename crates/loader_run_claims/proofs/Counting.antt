@@ -12,16 +12,16 @@ use Rattle.common.proofs.Numbers.{no-row-given}
 use Rattle.device.specs.declared.Device.{Device}
 use Rattle.model_types.specs.declared.Pins.{Pins}
 use Rattle.model_types.specs.declared.State.{State}
-use Rattle.loader.specs.declared.Stage.the-variants.{Clearing}
+use Rattle.loader.specs.declared.Stage.{Stage}
 use Rattle.loader.specs.Walks.{risesIn, diffFrom}
 use Rattle.loader_steps.specs.Outs.{cycleOf}
 use Rattle.loader_steps.specs.Front.{recordAt}
 use Rattle.loader_run.specs.Turns.{Config, turnOf, after, bound}
 use Rattle.loader.specs.Stages.{isEnded}
-use Rattle.loader_run.specs.Runs.{runRows, runNumber, begin, driven, leftBy, RunLeft, ranOf}
+use Rattle.loader_run.specs.Runs.{runRows, runNumber, begin, driven, leftAt, RunLeft, runLeftAt}
 use Rattle.loader_run.proofs.Leaving.{left-made}
 use Rattle.loader_run.proofs.Turning.{turn-ended, turn-going}
-use Rattle.loader_run_claims.specs.Made.{madeIn, cyclesOfLoad, openingThen, cyclesOf}
+use Rattle.loader_run_claims.specs.Made.{madeIn, cyclesAt, openingThen, cyclesBy}
 use Rattle.loader_run_claims.specs.Ends.{endNumber, eraseTried, programTried, faultCycles, wellRan, faultRan, ranAs, cyclesAs}
 use Rattle.loader_run_claims.proofs.Mission.{reads-long, cycles-long}
 
@@ -36,12 +36,12 @@ counts-made (suc k) d w c = go (isEnded (c .loader .stage)) refl (counts-made k 
     go false e h = rw e (let q : turnOf d w c .count ≡ c .count + 1 = ap (λ (x : Config). x .count) (turn-going d w c e) in omega arith)
 
 -- so the count that a run returns is the number of its cycles
-pub run-counts : (d : Device) (s : State) (p : Pins) (k : ℕ) (xs w sc : List ℕ) → NoRow (runRows d s p k (length xs) (length w) (length sc))
-    → ranOf d s p k xs w sc .count ≡ length (cyclesOfLoad d s p k xs w sc)
-unfolding runNumber leftBy driven
-run-counts d s p k xs w sc f =
-    let c : Config = begin d s (recordAt (d .part) p k Clearing) xs sc in
-    let e : ranOf d s p k xs w sc .count ≡ after (bound (length w)) d w c .count = ap (λ (r : RunLeft). r .ran .count) (left-made d s p k xs w sc (no-row-given f)) in
+pub run-counts : (stage : Stage) (verify : Bool) (d : Device) (s : State) (p : Pins) (k : ℕ) (xs w sc : List ℕ) → NoRow (runRows d s p k (length xs) (length w) (length sc))
+    → runLeftAt stage verify d s p k xs w sc .ran .count ≡ length (cyclesAt stage verify d s p k xs w sc)
+unfolding runNumber leftAt driven
+run-counts stage verify d s p k xs w sc f =
+    let c : Config = begin d s (recordAt (d .part) p k stage verify) xs sc in
+    let e : runLeftAt stage verify d s p k xs w sc .ran .count ≡ after (bound (length w)) d w c .count = ap (λ (r : RunLeft). r .ran .count) (left-made stage verify d s p k xs w sc (no-row-given f)) in
     let q = counts-made (bound (length w)) d w c in
     omega arith
 
@@ -54,10 +54,10 @@ fault-long p a w ys = go (a + diffFrom 0 w ys) (getD w (diffFrom 0 w ys) 0) (ris
     go x b false = let r = reads-long p (length w) a 0 (programTried p x b) in omega arith
 
 -- the listed cycles are as many as the listed count, whatever the end
-pub ends-counted : (d : Device) (s : State) (p : Pins) (k a : ℕ) (w ys : List ℕ) → length (cyclesAs d p k a w ys) ≡ ranAs d s p k w ys .count
+pub ends-counted : (verify : Bool) (d : Device) (s : State) (p : Pins) (k a : ℕ) (w ys : List ℕ) → length (cyclesAs verify d p k a w ys) ≡ ranAs verify d s p k w ys .count
 unfolding cyclesAs ranAs
-ends-counted d s p k a w ys = go (eqb (endNumber d p k w ys) 0)
+ends-counted verify d s p k a w ys = go (eqb (endNumber d p k w ys) 0)
   where
-    go : (t : Bool) → length (if t then cyclesOf d p a w ys else faultCycles p a w ys) ≡ (if t then wellRan d s w ys else faultRan d s p w ys (endNumber d p k w ys)) .count
-    go true = cycles-long d p a w ys
+    go : (t : Bool) → length (if t then cyclesBy verify d p a w ys else faultCycles p a w ys) ≡ (if t then wellRan verify d s w ys else faultRan d s p w ys (endNumber d p k w ys)) .count
+    go true = cycles-long verify d p a w ys
     go false = fault-long p a w ys

@@ -1,10 +1,11 @@
 pub mod Answers
 pub mod Reaching
 pub mod Layers
-pub mod Phases
 pub mod Same
+pub mod Phases
 pub mod Faults
 pub mod Starts
+pub mod Grounds
 pub mod Demand
 pub mod Least
 pub mod Own

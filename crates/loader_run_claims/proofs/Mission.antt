@@ -20,23 +20,25 @@ use Rattle.device.specs.Parts.{startOf, blockOf}
 use Rattle.device.proofs.Claims.{blocks-end-inside}
 use Rattle.model_types.specs.declared.Pins.{Pins}
 use Rattle.model_types.specs.declared.Cycle.{Cycle}
-use Rattle.model_types.specs.declared.Mode.the-variants.{Array}
 use Rattle.model_types.specs.declared.State.{State}
 use Rattle.model_types.specs.declared.Effect.{Effect}
 use Rattle.model_types.specs.declared.Effect.the-variants.{Nothing, Program, Erase}
 use Rattle.model_types.specs.States.{atRest}
 use Rattle.model_types.proofs.Bands.{not-low}
+use Rattle.loader.specs.declared.Stage.the-variants.{Clearing}
 use Rattle.loader_steps.specs.Front.{endAddress}
 use Rattle.loader.specs.Walks.{risesIn}
 use Rattle.loader_run.specs.declared.Ran.{Ran}
 use Rattle.loader_run.specs.Turns.{bound}
-use Rattle.loader_run.specs.Runs.{beginning, driven, leftBy, ranOf, bytesOf, scratchOf}
-use Rattle.loader_run_claims.specs.Wear.{begunByLoad, heldIn, heldBy, baseOf, erasesOf, programsIn, programsOf, differing, formula, operationsOf}
+use Rattle.loader_run.specs.Runs.{beginningAt, driven, leftAt, runLeftAt}
+use Rattle.loader_run_claims.specs.Wear.{begunAt, heldIn, heldBy, baseOf, erasesOf, programsIn, programsOf, differing, formula, loadFormula, formulaBy, operationsOf}
 use Rattle.model_history.specs.History.{Bus, World, worldOf, worldAfter, effectsIn, begunOver, uncut, totalOf, eraseOf, programIn, programOf, erasesBegun, programsBegun}
 use Rattle.loader_run.proofs.Good.{good}
-use Rattle.loader_run_claims.specs.Made.{cyclesOfLoad, smoothLoad, cyclesOf, readsThen, pollsThen, openingThen, eraseThen, programThen, programsThen, closingOf, programmingOf}
+use Rattle.loader_run_claims.specs.Made.{cyclesAt, smoothAt, cyclesBy, readsThen, pollsThen, openingThen, eraseThen, programThen, programsThen, closingBy, programmingThen, loadThen}
+use Rattle.loader_run_claims.specs.Ends.{endMode}
 use Rattle.loader_run_claims.specs.Mission.{Start, Brings, ownCycles, NoFewer, Demand3}
-use Rattle.loader_run_claims.proofs.Demand.{Left, goal, good-load, ran-left, bytes-left, scratch-left}
+use Rattle.loader_run_claims.proofs.Grounds.{Left}
+use Rattle.loader_run_claims.proofs.Demand.{goal, good-load, ran-left, bytes-left, scratch-left}
 use Rattle.loader_run_claims.proofs.Starts.{none-refuses}
 use Rattle.model_history.proofs.Wearing.{lies}
 use Rattle.loader_run_claims.proofs.Least.{least}
@@ -97,15 +99,35 @@ programs-long d p (suc k) a i w s cs = go (eqb (getD s i 0) (getD w i 0)) (progr
     go true e = rw (zero-add (differing k (i + 1) w s)) e
     go false e = rw (add-mul 1 (differing k (i + 1) w s) (2 + d .program), one-mul (2 + d .program)) (let f = polls-long p (d .program) (a + i) (programsThen d p k a (i + 1) w s cs) in omega arith)
 
-pub cycles-long : (d : Device) (p : Pins) (a : ℕ) (w ys : List ℕ) → length (cyclesOf d p a w ys) ≡ formula d w ys
-cycles-long d p a w ys = go (risesIn w ys) (programs-long d p (length w) a 0 w (baseOf (d .part) w ys) (closingOf p a (length w))) (reads-long p (length w) a 0 [])
-  where
-    go : (t : Bool) → length (programmingOf d p a w ys) ≡ programsIn (d .part) w ys * (2 + d .program) + length (closingOf p a (length w)) → length (readsThen p (length w) a 0 []) ≡ length w + 0
-        → length (openingThen p a (length w) (if t then eraseThen d p a (programmingOf d p a w ys) else programmingOf d p a w ys)) ≡ 2 * length w + 3 + (if t then 1 else 0) * (2 + d .erase) + programsIn (d .part) w ys * (2 + d .program)
-    go true e c = rw (one-mul (2 + d .erase)) (let r = reads-long p (length w) a 0 (eraseThen d p a (programmingOf d p a w ys)) in let f = polls-long p (d .erase) a (programmingOf d p a w ys) in omega arith)
-    go false e c = rw (zero-mul (2 + d .erase)) (let r = reads-long p (length w) a 0 (programmingOf d p a w ys) in omega arith)
+-- what follows a load, by its own length
+closing-long : (verify : Bool) (p : Pins) (a n : ℕ) → length (closingBy verify p a n) ≡ (if verify then n + 1 else 0)
+closing-long true p a n = let r = reads-long p n a 0 [] in omega arith
+closing-long false p a n = refl
 
-module _ (d : Device) (s : State) (p : Pins) (k : ℕ) (xs w sc : List ℕ) (start : Start d s p k xs w sc) where
+load-long : (d : Device) (p : Pins) (a : ℕ) (w ys : List ℕ) (cs : List Cycle) → length (loadThen d p a w ys cs) ≡ loadFormula d w ys + length cs
+load-long d p a w ys cs = go (risesIn w ys) (programs-long d p (length w) a 0 w (baseOf (d .part) w ys) cs)
+  where
+    go : (t : Bool) → length (programmingThen d p a w ys cs) ≡ programsIn (d .part) w ys * (2 + d .program) + length cs
+        → length (openingThen p a (length w) (if t then eraseThen d p a (programmingThen d p a w ys cs) else programmingThen d p a w ys cs))
+        ≡ length w + 2 + (if t then 1 else 0) * (2 + d .erase) + programsIn (d .part) w ys * (2 + d .program) + length cs
+    go true e =
+        rw (one-mul (2 + d .erase))
+        (let r = reads-long p (length w) a 0 (eraseThen d p a (programmingThen d p a w ys cs)) in let f = polls-long p (d .erase) a (programmingThen d p a w ys cs) in omega arith)
+    go false e = rw (zero-mul (2 + d .erase)) (let r = reads-long p (length w) a 0 (programmingThen d p a w ys cs) in omega arith)
+
+-- the count of a run is that of its load, and n + 1 for the verify
+pub formula-both : (d : Device) (w ys : List ℕ) → formula d w ys ≡ loadFormula d w ys + (length w + 1)
+formula-both d w ys = go (length w) (erasesOf w ys * (2 + d .erase)) (programsIn (d .part) w ys * (2 + d .program))
+  where
+    go : (n e q : ℕ) → 2 * n + 3 + e + q ≡ n + 2 + e + q + (n + 1)
+    go n e q = omega arith
+
+pub cycles-long : (verify : Bool) (d : Device) (p : Pins) (a : ℕ) (w ys : List ℕ) → length (cyclesBy verify d p a w ys) ≡ formulaBy verify d w ys
+cycles-long true d p a w ys =
+    load-long d p a w ys (closingBy true p a (length w)) ∙ ap (λ (n : ℕ). loadFormula d w ys + n) (closing-long true p a (length w)) ∙ sym (formula-both d w ys)
+cycles-long false d p a w ys = load-long d p a w ys [] ∙ (let z : loadFormula d w ys + 0 ≡ loadFormula d w ys = omega arith in z)
+
+module _ (verify : Bool) (d : Device) (s : State) (p : Pins) (k : ℕ) (xs w sc : List ℕ) (start : Start d s p k xs w sc) where
   abbrev a : ℕ
   a = startOf (d .part) k
 
@@ -113,54 +135,54 @@ module _ (d : Device) (s : State) (p : Pins) (k : ℕ) (xs w sc : List ℕ) (sta
   ys = heldIn (startOf (d .part) k) (length w) xs
 
   -- how the load is left
-  loaded : Left d s p k xs w sc (goal d s p k xs w sc (start .base)) (operationsOf (d .part) k a w ys) (cyclesOf d p a w ys)
-  loaded = good-load d s p k xs w sc (start .base) (not-low (d .part) p (start .high)) (start .unlock)
+  loaded : Left Clearing verify d s p k xs w sc (goal verify d s p k xs w sc (start .base)) (operationsOf (d .part) k a w ys) (cyclesBy verify d p a w ys)
+  loaded = good-load verify d s p k xs w sc (start .base) (not-low (d .part) p (start .high)) (start .unlock)
 
   -- a load ends well, with the count of the formula, in mode read array with status 80H
-  pub ends-well : ranOf d s p k xs w sc ≡ record { count = formula d w ys; end = 0; address = 0; state = atRest s Array 128 }
+  pub ends-well : runLeftAt Clearing verify d s p k xs w sc .ran ≡ record { count = formulaBy verify d w ys; end = 0; address = 0; state = atRest s (endMode verify w ys) 128 }
   unfolding endAddress
-  ends-well = ran-left d s p k xs w sc (start .base) _ _ _ loaded
+  ends-well = ran-left verify d s p k xs w sc (start .base) _ _ _ loaded
 
   -- the array is as before with the wanted bytes over the block, and scratch holds them too
-  pub array-left : bytesOf d s p k xs w sc ≡ overlaid xs a w
-  array-left = bytes-left d s p k xs w sc (start .base) _ _ _ loaded
+  pub array-left : runLeftAt Clearing verify d s p k xs w sc .bytes ≡ overlaid xs a w
+  array-left = bytes-left verify d s p k xs w sc (start .base) _ _ _ loaded
 
-  pub scratch-wanted : scratchOf d s p k xs w sc ≡ w
-  scratch-wanted = scratch-left d s p k xs w sc (start .base) _ _ _ loaded
+  pub scratch-wanted : runLeftAt Clearing verify d s p k xs w sc .scratch ≡ w
+  scratch-wanted = scratch-left verify d s p k xs w sc (start .base) _ _ _ loaded
 
   inside : a + length w ≤ length xs
   inside = let g = good d s p k (length xs) (length w) (length sc) (none-refuses d s p k xs w sc (start .base)) in omega (arith, blocks-end-inside (d .part) k, g .sized, g .wanted)
 
   -- the block holds the wanted bytes
-  pub block-holds : heldIn a (length w) (bytesOf d s p k xs w sc) ≡ w
+  pub block-holds : heldIn a (length w) (runLeftAt Clearing verify d s p k xs w sc .bytes) ≡ w
   block-holds =
       ap (λ (z : List ℕ). heldIn a (length w) z) array-left
       ∙ ap (λ (z : List ℕ). take (length w) z) (drop-at (take a xs) _ a (length-take-le a xs (let h = inside in omega arith)))
       ∙ take-at w (drop (length w) (drop a xs)) (length w) refl
 
   -- every other byte is as before
-  pub others-stay : (x : ℕ) → (x < a → getD (bytesOf d s p k xs w sc) x 0 ≡ getD xs x 0) × (a + length w ≤ x → getD (bytesOf d s p k xs w sc) x 0 ≡ getD xs x 0)
+  pub others-stay : (x : ℕ) → (x < a → getD (runLeftAt Clearing verify d s p k xs w sc .bytes) x 0 ≡ getD xs x 0) × (a + length w ≤ x → getD (runLeftAt Clearing verify d s p k xs w sc .bytes) x 0 ≡ getD xs x 0)
   others-stay x = (
     λ h. rw array-left (overlaid-before xs a w inside x h),
     λ h. rw array-left (subst (λ (y : ℕ). getD (overlaid xs a w) y 0 ≡ getD xs y 0) (let q : a + (length w + (x - a - length w)) ≡ x = omega arith in q) (overlaid-after xs a w inside (x - a - length w))),
   )
 
   -- it erases once if some bit must rise, otherwise never; it programs each byte that then differs once and no other
-  pub begins-just : begunByLoad d s p k xs w sc ≡ operationsOf (d .part) k a w ys
+  pub begins-just : begunAt Clearing verify d s p k xs w sc ≡ operationsOf (d .part) k a w ys
   begins-just = loaded .begun
 
   -- the cycles that it makes, one after the other; the model refuses none of them, and none cuts an operation
-  pub cycles-are : cyclesOfLoad d s p k xs w sc ≡ cyclesOf d p a w ys
+  pub cycles-are : cyclesAt Clearing verify d s p k xs w sc ≡ cyclesBy verify d p a w ys
   cycles-are = loaded .made
 
-  pub none-refused : smoothLoad d s p k xs w sc ≡ true
+  pub none-refused : smoothAt Clearing verify d s p k xs w sc ≡ true
   none-refused = loaded .smooth
 
   -- no uncut cycles from the same start to the same block contents begin fewer erases of the block or fewer programs in it
   pub nothing-less : (bs : List Bus) → Cells (d .part) xs → uncut (effectsIn d (worldOf s xs) bs) ≡ true
       → heldIn a (length w) (worldAfter d (worldOf s xs) bs .bytes) ≡ w
-      → (totalOf (eraseOf k) (begunByLoad d s p k xs w sc) ≤ totalOf (eraseOf k) (begunOver d (worldOf s xs) bs))
-      × (totalOf (programIn a (length w)) (begunByLoad d s p k xs w sc) ≤ totalOf (programIn a (length w)) (begunOver d (worldOf s xs) bs))
+      → (totalOf (eraseOf k) (begunAt Clearing verify d s p k xs w sc) ≤ totalOf (eraseOf k) (begunOver d (worldOf s xs) bs))
+      × (totalOf (programIn a (length w)) (begunAt Clearing verify d s p k xs w sc) ≤ totalOf (programIn a (length w)) (begunOver d (worldOf s xs) bs))
   nothing-less bs bx u h =
       let g = good d s p k (length xs) (length w) (length sc) (none-refuses d s p k xs w sc (start .base)) in
       let m = least d k (worldOf s xs) w bs (g .sized) (g .wanted) bx (g .free) u h in
@@ -172,35 +194,35 @@ module _ (d : Device) (s : State) (p : Pins) (k : ℕ) (xs w sc : List ℕ) (sta
   held-is : (zs : List ℕ) → heldIn a (length w) zs ≡ heldBy (d .part) k zs
   held-is zs = ap (λ (n : ℕ). heldIn a n zs) (start .base .wanted)
 
-  pub cycles-listed : cyclesOfLoad d s p k xs w sc ≡ cyclesOf d p a w (heldBy (d .part) k xs)
-  cycles-listed = cycles-are ∙ ap (λ (zs : List ℕ). cyclesOf d p a w zs) (held-is xs)
+  pub cycles-listed : cyclesAt Clearing verify d s p k xs w sc ≡ cyclesBy verify d p a w (heldBy (d .part) k xs)
+  cycles-listed = cycles-are ∙ ap (λ (zs : List ℕ). cyclesBy verify d p a w zs) (held-is xs)
 
   -- an address outside the block
-  others-are : (x : ℕ) → (blockOf (d .part) x ≡ k → ⊥) → getD (bytesOf d s p k xs w sc) x 0 ≡ getD xs x 0
+  others-are : (x : ℕ) → (blockOf (d .part) x ≡ k → ⊥) → getD (runLeftAt Clearing verify d s p k xs w sc .bytes) x 0 ≡ getD xs x 0
   others-are x h = go (ltb x a) refl (ltb x (a + length w)) refl
     where
-      go : (b : Bool) → ltb x a ≡ b → (c : Bool) → ltb x (a + length w) ≡ c → getD (bytesOf d s p k xs w sc) x 0 ≡ getD xs x 0
+      go : (b : Bool) → ltb x a ≡ b → (c : Bool) → ltb x (a + length w) ≡ c → getD (runLeftAt Clearing verify d s p k xs w sc .bytes) x 0 ≡ getD xs x 0
       go true e c f = others-stay x .0 (ltb-true x a e)
       go false e false f = others-stay x .1 (ltb-false x (a + length w) f)
       go false e true f =
           absurd (h (lies (d .part) k x (ltb-false x a e) (subst (λ (n : ℕ). x < a + n) (start .base .wanted) (ltb-true x (a + length w) f))))
 
   abbrev own : List Bus
-  own = ownCycles d s p k xs w sc
+  own = ownCycles verify d s p k xs w sc
 
   -- where the load's own cycles lead
-  own-world : worldAfter d (worldOf s xs) own ≡ worldOf (ranOf d s p k xs w sc .state) (bytesOf d s p k xs w sc)
-  unfolding leftBy driven
+  own-world : worldAfter d (worldOf s xs) own ≡ worldOf (runLeftAt Clearing verify d s p k xs w sc .ran .state) (runLeftAt Clearing verify d s p k xs w sc .bytes)
+  unfolding leftAt driven
   own-world =
-      leads d w (bound (length w)) (beginning d s p k xs sc)
+      leads d w (bound (length w)) (beginningAt Clearing verify d s p k xs sc)
       ∙ ap deviceIn (loaded .end)
       ∙ sym (λ i. worldOf (ends-well i .state) (array-left i))
 
   own-holds : Brings d (worldOf s xs) k w own
   own-holds =
       record {
-        whole = smooth d w (bound (length w)) (beginning d s p k xs sc) none-refused .1;
-        there = ap (λ (v : World). heldBy (d .part) k (v .bytes)) own-world ∙ sym (held-is (bytesOf d s p k xs w sc)) ∙ block-holds;
+        whole = smooth d w (bound (length w)) (beginningAt Clearing verify d s p k xs sc) none-refused .1;
+        there = ap (λ (v : World). heldBy (d .part) k (v .bytes)) own-world ∙ sym (held-is (runLeftAt Clearing verify d s p k xs w sc .bytes)) ∙ block-holds;
       }
 
   -- nothing wears less than the load's own cycles
@@ -211,28 +233,29 @@ module _ (d : Device) (s : State) (p : Pins) (k : ℕ) (xs w sc : List ℕ) (sta
         erases = subst (λ (n : ℕ). n ≤ erasesBegun d (worldOf s xs) k bs) (sym (weighs (eraseOf k) refl)) (m .0);
         programs =
             subst (λ (n : ℕ). n ≤ programsBegun d (worldOf s xs) k bs) (sym (weighs (programOf (d .part) k) refl))
-            (subst (λ (n : ℕ). totalOf (programIn a n) (begunByLoad d s p k xs w sc) ≤ totalOf (programIn a n) (begunOver d (worldOf s xs) bs)) (start .base .wanted) (m .1));
+            (subst (λ (n : ℕ). totalOf (programIn a n) (begunAt Clearing verify d s p k xs w sc) ≤ totalOf (programIn a n) (begunOver d (worldOf s xs) bs)) (start .base .wanted) (m .1));
       }
     where
-      weighs : (f : Effect → ℕ) → f Nothing ≡ 0 → totalOf f (begunOver d (worldOf s xs) own) ≡ totalOf f (begunByLoad d s p k xs w sc)
+      weighs : (f : Effect → ℕ) → f Nothing ≡ 0 → totalOf f (begunOver d (worldOf s xs) own) ≡ totalOf f (begunAt Clearing verify d s p k xs w sc)
       weighs f z =
           sym (noted-total f z (begunOver d (worldOf s xs) own))
-          ∙ ap (λ (es : List Effect). totalOf f es) (begins d w (bound (length w)) (beginning d s p k xs sc))
+          ∙ ap (λ (es : List Effect). totalOf f es) (begins d w (bound (length w)) (beginningAt Clearing verify d s p k xs sc))
 
   -- demand 3 whole
-  pub demand-3 : Demand3 d s p k xs w sc
+  pub demand-3 : Demand3 verify d s p k xs w sc
   demand-3 =
       record {
         well = ap (λ (r : Ran). r .end) ends-well;
-        block = sym (held-is (bytesOf d s p k xs w sc)) ∙ block-holds;
+        block = sym (held-is (runLeftAt Clearing verify d s p k xs w sc .bytes)) ∙ block-holds;
         others = others-are;
         array-left = array-left;
         begins = begins-just ∙ ap (λ (ys : List ℕ). operationsOf (d .part) k a w ys) (held-is xs);
-        own-accepted = smooth d w (bound (length w)) (beginning d s p k xs sc) none-refused .0;
+        own-accepted = smooth d w (bound (length w)) (beginningAt Clearing verify d s p k xs sc) none-refused .0;
         own-brings = own-holds;
         own-leads = own-world;
-        own-begins = begins d w (bound (length w)) (beginning d s p k xs sc);
+        own-begins = begins d w (bound (length w)) (beginningAt Clearing verify d s p k xs sc);
         least-wear = least-wear;
-        counted = ap (λ (r : Ran). r .count) ends-well ∙ sym (ap (λ (cs : List Cycle). length cs) cycles-are ∙ cycles-long d p a w ys);
-        by-formula = ap (λ (r : Ran). r .count) ends-well ∙ ap (λ (ys : List ℕ). formula d w ys) (held-is xs);
+        counted = ap (λ (r : Ran). r .count) ends-well ∙ sym (ap (λ (cs : List Cycle). length cs) cycles-are ∙ cycles-long verify d p a w ys);
+        by-formula = ap (λ (r : Ran). r .count) ends-well ∙ ap (λ (ys : List ℕ). formulaBy verify d w ys) (held-is xs);
+        scratch-left = scratch-wanted;
       }

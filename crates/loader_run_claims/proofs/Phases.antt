@@ -8,11 +8,11 @@ use native.Mathlib.Omega.{arith}
 use lib.ListN.{length, getD, set, replicate, length-replicate, getD-replicate}
 use lib.Dec.{eqb, ltb, leb}
 use lib.Bits.{bitAnd}
-use borrow.Author.Tests.{lt-ltb, le-ltb, eq-eqb, eqb-true, lt-leb, not-false}
+use borrow.Author.Tests.{lt-ltb, le-ltb, eq-eqb, ne-eqb, eqb-true, lt-leb, not-false}
 use Rattle.model_types.specs.Cells.{ones, Cells}
 use Rattle.model_types.proofs.Ones.{and-ones}
 use Rattle.common.specs.Choice.{if_then_else_}
-use Rattle.common.proofs.Choice.{if-true, if-false, and-right, or-left, or-right, unlike}
+use Rattle.common.proofs.Choice.{if-ind, if-true, if-false, and-right, or-left, or-right, unlike}
 use Rattle.model.proofs.Status.{fits, all-below}
 use Rattle.common.specs.Lists.{overlaid, overwritten}
 use Rattle.common.proofs.Lists.{overwritten-more, overwritten-all}
@@ -40,9 +40,9 @@ use Rattle.loader.specs.declared.Stage.{Stage}
 use Rattle.loader.specs.declared.Stage.the-variants.{Clearing, Opening, Reading, EraseAsking, EraseConfirming, EraseWaiting, ProgramAsking, ProgramSending, ProgramWaiting, Closing, Verifying, Ended}
 use Rattle.loader.specs.declared.Loader.{Loader}
 use Rattle.loader.specs.Walks.{mustRise, rises, nextDiff, diffFrom, risesIn}
-use Rattle.loader.specs.Moves.{nextOf, onward, afterReads, afterRead, pollMore, erasePolled, past, programPolled, verifyMore, eraseFault, programFault, bothErrors}
+use Rattle.loader.specs.Moves.{nextOf, loadedStage, onward, afterReads, afterRead, pollMore, erasePolled, past, programPolled, verifyMore, eraseFault, programFault, bothErrors}
 use Rattle.loader_steps.specs.Outs.{firstAddress, hereOf, cycleOf}
-use Rattle.loader_steps.specs.Stores.{storeOf, erasedWell}
+use Rattle.loader_steps.specs.Stores.{storeOf, erasedWell, programmedWell}
 use Rattle.loader_steps.proofs.Small.{length-small}
 use Rattle.loader.proofs.Walking.{diff-turn, diff-over}
 use Rattle.model_types.specs.declared.Cycle.{Cycle}
@@ -52,9 +52,11 @@ use Rattle.loader_run.specs.Turns.{Config, turnOf}
 use Rattle.loader.specs.Stages.{isEnded}
 use Rattle.loader_run_claims.specs.Wear.{programsOf, differing, baseOf, operationsOf}
 use Rattle.loader_run.proofs.Turning.{conf}
-use Rattle.loader_run_claims.specs.Made.{isSmooth, readsThen, pollsThen, openingThen, eraseThen, programThen, programsThen, closingOf, programmingOf, cyclesOf, busCycle as cyc}
+use Rattle.loader_run_claims.specs.Made.{isSmooth, readsThen, pollsThen, openingThen, eraseThen, programThen, programsThen, closingOf, programmingThen, loadThen, busCycle as cyc}
 use Rattle.loader_run_claims.proofs.Reaching.{Reach, Answered, Does, does-as, arrive, prepend, turned, does}
 use Rattle.loader_run_claims.proofs.Layers.{put-over, over-over, overwritten-length, overwritten-here, overwritten-agree}
+use Rattle.loader_run_claims.specs.Ends.{asWanted, loadedMode}
+use Rattle.loader_run_claims.proofs.Same.{risen-differs}
 use Rattle.loader_run_claims.proofs.Answers as answers
 use Rattle.loader_run_claims.proofs.Answers.{Up, Ready, Runs}
 
@@ -78,13 +80,13 @@ no-rise (suc n) i w s e (suc j) h =
     subst (λ (m : ℕ). mustRise (getD s m 0) (getD w m 0) ≡ false) (let q : i + 1 + j ≡ i + suc j = omega arith in q)
     (no-rise n (i + 1) w s (or-right (mustRise (getD s i 0) (getD w i 0)) (rises n (i + 1) w s) e) j (le-of-suc-le-suc h))
 
--- `was` is the state that the load began in
-module _ (d : Device) (p : Pins) (k : ℕ) (u : Up d p) (was : State) (w : List ℕ) (lw : length w ≡ lengthOf (d .part) k) (some : 0 < length w) where
+-- `was` is the state that the load began in; `verify` is whether the verify follows it
+module _ (verify : Bool) (d : Device) (p : Pins) (k : ℕ) (u : Up d p) (was : State) (w : List ℕ) (lw : length w ≡ lengthOf (d .part) k) (some : 0 < length w) where
   abbrev pub a : ℕ
   a = startOf (d .part) k
 
   abbrev pub rec : Stage → ℕ → ℕ → Loader
-  rec stage place polls = record { part = d .part; pins = p; block = k; stage = stage; place = place; polls = polls }
+  rec stage place polls = record { part = d .part; pins = p; block = k; stage = stage; place = place; polls = polls; verify = verify }
 
   pub inside : (i : ℕ) → i < length w → a + i < sizeOf (d .part)
   inside i h = omega (arith, blocks-end-inside (d .part) k)
@@ -131,42 +133,27 @@ module _ (d : Device) (p : Pins) (k : ℕ) (u : Up d p) (was : State) (w : List 
   verify-last i b e h =
       if-true (eqb b (getD w i 0)) _ _ (eq-eqb b (getD w i 0) e) ∙ if-false (ltb i (length w - 1)) _ _ (le-ltb i (length w - 1) (omega arith))
 
-  module _ (xs : List ℕ) (lx : length xs ≡ sizeOf (d .part)) (holds : (i : ℕ) → i < length w → getD xs (a + i) 0 ≡ getD w i 0) (sc : List ℕ) (ls : length sc ≡ length w) where
-    -- one byte of the verify
-    verify-answered : (i : ℕ) (h : i < length w) → Answered d w (rec Verifying i 0) (atRest was Array 128) (cyc p Read (a + i) 0) (GivesArray (a + i)) (atRest was Array 128) Nothing
-    verify-answered i h = answered-here Verifying i 0 Read 0 (atRest was Array 128) (GivesArray (a + i)) (atRest was Array 128) Nothing h refl (answers.reads d p u was 128 (a + i) refl (inside i h)) refl
+  verify-differs : (i b : ℕ) → eqb b (getD w i 0) ≡ false → verifyMore (rec Verifying i 0) b w ≡ rec (Ended 25) i 0
+  unfolding verifyMore
+  verify-differs i b e = if-false (eqb b (getD w i 0)) _ _ e
 
-    verify-turn : (i cnt : ℕ) (h : i < length w) (l′ : Loader) → verifyMore (rec Verifying i 0) (getD xs (a + i) 0) w ≡ l′
-        → turnOf d w (conf (rec Verifying i 0) (atRest was Array 128) xs (overwritten i w sc) cnt) ≡ conf l′ (atRest was Array 128) xs (overwritten (i + 1) w sc) (cnt + 1)
-    verify-turn i cnt h l′ e =
-        turned d w (rec Verifying i 0) (atRest was Array 128) xs (overwritten i w sc) cnt refl lx (cyc p Read (a + i) 0) (GivesArray (a + i)) (atRest was Array 128) Nothing (verify-answered i h)
-        ∙ (λ j. conf (e j) (atRest was Array 128) xs ((ap (λ (v : ℕ). set (overwritten i w sc) i v) (holds i h) ∙ overwritten-more w sc i h (omega arith)) j) (cnt + 1))
+  -- what a verify reads whose first difference is at place j, and its end
+  abbrev pub readsTo : ℕ → ℕ
+  readsTo j = if ltb j (length w) then j + 1 else length w
 
-    verify-does : (i cnt : ℕ) (h : i < length w) → Does d w (conf (rec Verifying i 0) (atRest was Array 128) xs (overwritten i w sc) cnt) Nothing (cyc p Read (a + i) 0)
-    verify-does i cnt h = does d w (rec Verifying i 0) (atRest was Array 128) xs (overwritten i w sc) cnt refl lx (cyc p Read (a + i) 0) (GivesArray (a + i)) (atRest was Array 128) Nothing (verify-answered i h)
+  abbrev pub endAt : ℕ → ℕ
+  endAt j = if ltb j (length w) then 25 else 0
 
-    verifying : (j i cnt c : ℕ) → i + (j + 1) ≡ length w → c ≡ cnt + (j + 1)
-        → Reach d w (conf (rec Verifying i 0) (atRest was Array 128) xs (overwritten i w sc) cnt) (conf (rec (Ended 0) (length w - 1) 0) (atRest was Array 128) xs w c) [] (readsThen p (suc j) a i [])
-    verifying zero i cnt c e q =
-        let h : i < length w = omega arith in
-        prepend d w _ _ _ Nothing (cyc p Read (a + i) 0) [] [] (verify-turn i cnt h (rec (Ended 0) i 0) (verify-last i (getD xs (a + i) 0) (holds i h) (omega arith))) (verify-does i cnt h)
-        (arrive d w _ _ (λ t. conf (rec (Ended 0) ((let z : i ≡ length w - 1 = omega arith in z) t) 0) (atRest was Array 128) xs (whole t) ((let z : cnt + 1 ≡ c = omega arith in z) t)))
-      where
-        whole : overwritten (i + 1) w sc ≡ w
-        whole = ap (λ (m : ℕ). overwritten m w sc) (let z : i + 1 ≡ length sc = omega arith in z) ∙ overwritten-all w sc (sym ls)
-    verifying (suc j) i cnt c e q =
-        let h : i < length w = omega arith in
-        prepend d w _ _ _ Nothing (cyc p Read (a + i) 0) [] (readsThen p (suc j) a (i + 1) [])
-        (verify-turn i cnt h (rec Verifying (i + 1) 0) (verify-next i (getD xs (a + i) 0) (holds i h) (omega arith))) (verify-does i cnt h)
-        (verifying j (i + 1) (cnt + 1) c (omega arith) (omega arith))
+  reads-past : (i j : ℕ) → i < length w → i ≤ j → i < readsTo j
+  reads-past i j h g = if-ind (λ (n : ℕ). i < n) (ltb j (length w)) (j + 1) (length w) (λ e. omega arith) (λ e. h)
 
-  -- the end that a load comes to
-  abbrev pub final : List ℕ → ℕ → Config
-  final xs c = conf (rec (Ended 0) (length w - 1) 0) (atRest was Array 128) xs w c
+  ahead : (n i : ℕ) (ys : List ℕ) → i ≤ nextDiff n i w ys
+  ahead zero i ys = omega arith
+  ahead (suc n) i ys = if-ind (λ (j : ℕ). i ≤ j) (eqb (getD ys i 0) (getD w i 0)) (nextDiff n (i + 1) w ys) i (λ e. omega (arith, ahead n (i + 1) ys)) (λ e. omega arith)
 
-  -- on to the first differing byte from place i on, or to the verify
+  -- on to the first differing byte from place i on, or to what follows the last program
   abbrev pub onto : ℕ → List ℕ → Loader
-  onto i sc = if ltb (diffFrom i w sc) (length w) then rec ProgramAsking (diffFrom i w sc) 0 else rec Closing 0 0
+  onto i sc = if ltb (diffFrom i w sc) (length w) then rec ProgramAsking (diffFrom i w sc) 0 else rec (loadedStage verify) 0 0
 
   onward-onto : (stage : Stage) (i q j : ℕ) (sc : List ℕ) → onward (rec stage i q) j w sc ≡ onto j sc
   unfolding onward
@@ -187,18 +174,104 @@ module _ (d : Device) (p : Pins) (k : ℕ) (u : Up d p) (was : State) (w : List 
     one-more : suc (length w - 1) ≡ length w
     one-more = omega arith
 
-    -- the last FFH and the verify
-    pub closing : (m : Mode) (sc : List ℕ) (cnt c : ℕ) → length sc ≡ length w → c ≡ cnt + (1 + length w)
-        → Reach d w (conf (rec Closing 0 0) (atRest was m 128) (overlaid xs a w) sc cnt) (final (overlaid xs a w) c) [] (closingOf p a (length w))
-    closing m sc cnt c ls q =
-        prepend d w _ _ _ Nothing (cyc p Write a 0xFF) [] (readsThen p (length w) a 0 [])
-        (turned d w (rec Closing 0 0) (atRest was m 128) (overlaid xs a w) sc cnt refl (sized w refl) (cyc p Write a 0xFF) Quiet (atRest was Array 128) Nothing answered)
-        (does d w (rec Closing 0 0) (atRest was m 128) (overlaid xs a w) sc cnt refl (sized w refl) (cyc p Write a 0xFF) Quiet (atRest was Array 128) Nothing answered)
-        (subst (λ (n : ℕ). Reach d w (conf (rec Verifying 0 0) (atRest was Array 128) (overlaid xs a w) sc (cnt + 1)) (final (overlaid xs a w) c) [] (readsThen p n a 0 [])) one-more
-        (verifying (overlaid xs a w) (sized w refl) (λ i h. byte-at w i refl h) sc ls (length w - 1) 0 (cnt + 1) c (omega arith) (omega arith)))
-      where
-        answered : Answered d w (rec Closing 0 0) (atRest was m 128) (cyc p Write a 0xFF) Quiet (atRest was Array 128) Nothing
-        answered = answered-first Closing 0 0 Write 0xFF (atRest was m 128) Quiet (atRest was Array 128) Nothing refl (answers.opens d p u was m 128 a refl a-inside) refl
+    -- the verify of a block that holds ys, from a device at rest with status x
+    module _ (ys sc : List ℕ) (ly : length ys ≡ length w) (ls : length sc ≡ length w) (x : ℕ) (f : fits 2 x ≡ true) where
+      abbrev X : List ℕ
+      X = overlaid xs a ys
+
+      -- the end by a number after n bytes
+      abbrev pub verifiedBy : ℕ → ℕ → ℕ → Config
+      verifiedBy number n c = conf (rec (Ended number) (n - 1) 0) (atRest was Array x) X (overwritten n ys sc) c
+
+      -- .. whose first difference is at place j
+      abbrev pub verified : ℕ → ℕ → Config
+      verified j c = verifiedBy (endAt j) (readsTo j) c
+
+      -- one byte of the verify
+      verify-answered : (i : ℕ) (h : i < length w) → Answered d w (rec Verifying i 0) (atRest was Array x) (cyc p Read (a + i) 0) (GivesArray (a + i)) (atRest was Array x) Nothing
+      verify-answered i h = answered-here Verifying i 0 Read 0 (atRest was Array x) (GivesArray (a + i)) (atRest was Array x) Nothing h refl (answers.reads d p u was x (a + i) f (inside i h)) refl
+
+      verify-turn : (i cnt : ℕ) (h : i < length w) (l′ : Loader) → verifyMore (rec Verifying i 0) (getD ys i 0) w ≡ l′
+          → turnOf d w (conf (rec Verifying i 0) (atRest was Array x) X (overwritten i ys sc) cnt) ≡ conf l′ (atRest was Array x) X (overwritten (i + 1) ys sc) (cnt + 1)
+      verify-turn i cnt h l′ e =
+          turned d w (rec Verifying i 0) (atRest was Array x) X (overwritten i ys sc) cnt refl (sized ys ly) (cyc p Read (a + i) 0) (GivesArray (a + i)) (atRest was Array x) Nothing (verify-answered i h)
+          ∙ (λ t. conf ((ap (λ (b : ℕ). verifyMore (rec Verifying i 0) b w) (byte-at ys i ly h) ∙ e) t) (atRest was Array x) X
+          ((ap (λ (b : ℕ). set (overwritten i ys sc) i b) (byte-at ys i ly h) ∙ overwritten-more ys sc i (omega arith) (omega arith)) t) (cnt + 1))
+
+      verify-does : (i cnt : ℕ) (h : i < length w) → Does d w (conf (rec Verifying i 0) (atRest was Array x) X (overwritten i ys sc) cnt) Nothing (cyc p Read (a + i) 0)
+      verify-does i cnt h = does d w (rec Verifying i 0) (atRest was Array x) X (overwritten i ys sc) cnt refl (sized ys ly) (cyc p Read (a + i) 0) (GivesArray (a + i)) (atRest was Array x) Nothing (verify-answered i h)
+
+      -- the byte that ends it
+      ending : (i cnt number : ℕ) (h : i < length w) → verifyMore (rec Verifying i 0) (getD ys i 0) w ≡ rec (Ended number) i 0
+          → Reach d w (conf (rec Verifying i 0) (atRest was Array x) X (overwritten i ys sc) cnt) (verifiedBy number (i + 1) (cnt + 1)) [] (readsThen p 1 a i [])
+      ending i cnt number h e =
+          prepend d w _ _ _ Nothing (cyc p Read (a + i) 0) [] [] (verify-turn i cnt h (rec (Ended number) i 0) e) (verify-does i cnt h)
+          (arrive d w _ _ (λ t. conf (rec (Ended number) ((let z : i ≡ i + 1 - 1 = omega arith in z) t) 0) (atRest was Array x) X (overwritten (i + 1) ys sc) (cnt + 1)))
+
+      -- from place i on, by the place of the first difference
+      abbrev From : ℕ → ℕ → ℕ → Type 0
+      From i cnt j = Reach d w (conf (rec Verifying i 0) (atRest was Array x) X (overwritten i ys sc) cnt) (verified j (cnt + (readsTo j - i))) [] (readsThen p (readsTo j - i) a i [])
+
+      -- .. where the byte at i ends it
+      ends-as : (i cnt j number : ℕ) → i < length w → readsTo j ≡ i + 1 → endAt j ≡ number → verifyMore (rec Verifying i 0) (getD ys i 0) w ≡ rec (Ended number) i 0 → From i cnt j
+      ends-as i cnt j number h r n e =
+          rw (r, n) (subst (λ (m : ℕ). Reach d w (conf (rec Verifying i 0) (atRest was Array x) X (overwritten i ys sc) cnt) (verifiedBy number (i + 1) (cnt + m)) [] (readsThen p m a i []))
+          (let z : 1 ≡ i + 1 - i = omega arith in z) (ending i cnt number h e))
+
+      differs-at : (i cnt : ℕ) → i < length w → eqb (getD ys i 0) (getD w i 0) ≡ false → From i cnt i
+      differs-at i cnt h e =
+          ends-as i cnt i 25 h (if-true (ltb i (length w)) (i + 1) (length w) (lt-ltb i (length w) h)) (if-true (ltb i (length w)) 25 0 (lt-ltb i (length w) h)) (verify-differs i (getD ys i 0) e)
+
+      verifying : (n i cnt : ℕ) → i + (n + 1) ≡ length w → From i cnt (nextDiff (suc n) i w ys)
+      verifying zero i cnt e = go (eqb (getD ys i 0) (getD w i 0)) refl
+        where
+          go : (t : Bool) → eqb (getD ys i 0) (getD w i 0) ≡ t → From i cnt (if t then i + 1 else i)
+          go true q =
+              ends-as i cnt (i + 1) 0 (omega arith) (if-false (ltb (i + 1) (length w)) (i + 1 + 1) (length w) (le-ltb (i + 1) (length w) (omega arith)) ∙ (let z : length w ≡ i + 1 = omega arith in z))
+              (if-false (ltb (i + 1) (length w)) 25 0 (le-ltb (i + 1) (length w) (omega arith))) (verify-last i (getD ys i 0) (eqb-true _ _ q) (omega arith))
+          go false q = differs-at i cnt (omega arith) q
+      verifying (suc n) i cnt e = go (eqb (getD ys i 0) (getD w i 0)) refl (verifying n (i + 1) (cnt + 1) (omega arith)) (ahead (suc n) (i + 1) ys)
+        where
+          h : i < length w
+          h = omega arith
+
+          next : (j : ℕ) → i + 1 ≤ j → eqb (getD ys i 0) (getD w i 0) ≡ true → From (i + 1) (cnt + 1) j → From i cnt j
+          next j g q r =
+              let past : i < readsTo j = reads-past i j h (omega arith) in
+              subst (λ (m : ℕ). Reach d w (conf (rec Verifying i 0) (atRest was Array x) X (overwritten i ys sc) cnt) (verified j (cnt + m)) [] (readsThen p m a i []))
+              (let z : suc (readsTo j - (i + 1)) ≡ readsTo j - i = omega arith in z)
+              (prepend d w _ _ _ Nothing (cyc p Read (a + i) 0) [] (readsThen p (readsTo j - (i + 1)) a (i + 1) [])
+              (verify-turn i cnt h (rec Verifying (i + 1) 0) (verify-next i (getD ys i 0) (eqb-true _ _ q) (omega arith))) (verify-does i cnt h)
+              (subst (λ (c : ℕ). Reach d w (conf (rec Verifying (i + 1) 0) (atRest was Array x) X (overwritten (i + 1) ys sc) (cnt + 1)) (verified j c) [] (readsThen p (readsTo j - (i + 1)) a (i + 1) []))
+              (let z : cnt + 1 + (readsTo j - (i + 1)) ≡ cnt + suc (readsTo j - (i + 1)) = omega arith in z) r))
+
+          go : (t : Bool) → eqb (getD ys i 0) (getD w i 0) ≡ t → From (i + 1) (cnt + 1) (nextDiff (suc n) (i + 1) w ys) → i + 1 ≤ nextDiff (suc n) (i + 1) w ys
+              → From i cnt (if t then nextDiff (suc n) (i + 1) w ys else i)
+          go true q r g = next (nextDiff (suc n) (i + 1) w ys) g q r
+          go false q r g = differs-at i cnt h q
+
+      -- the whole verify: FFH, and the reads up to the first difference
+      pub closing : (m : Mode) (cnt : ℕ)
+          → Reach d w (conf (rec Closing 0 0) (atRest was m x) X sc cnt) (verified (diffFrom 0 w ys) (cnt + (1 + readsTo (diffFrom 0 w ys)))) [] (closingOf p a (readsTo (diffFrom 0 w ys)))
+      unfolding diffFrom
+      closing m cnt =
+          prepend d w _ _ _ Nothing (cyc p Write a 0xFF) [] _
+          (turned d w (rec Closing 0 0) (atRest was m x) X sc cnt refl (sized ys ly) (cyc p Write a 0xFF) Quiet (atRest was Array x) Nothing answered)
+          (does d w (rec Closing 0 0) (atRest was m x) X sc cnt refl (sized ys ly) (cyc p Write a 0xFF) Quiet (atRest was Array x) Nothing answered)
+          (all (nextDiff (length w - 0) 0 w ys) (subst (λ (n : ℕ). From 0 (cnt + 1) (nextDiff n 0 w ys)) (let z : suc (length w - 1) ≡ length w - 0 = omega arith in z) (verifying (length w - 1) 0 (cnt + 1) (omega arith))))
+        where
+          answered : Answered d w (rec Closing 0 0) (atRest was m x) (cyc p Write a 0xFF) Quiet (atRest was Array x) Nothing
+          answered = answered-first Closing 0 0 Write 0xFF (atRest was m x) Quiet (atRest was Array x) Nothing refl (answers.opens d p u was m x a f a-inside) refl
+
+          all : (j : ℕ) → From 0 (cnt + 1) j
+              → Reach d w (conf (rec Verifying 0 0) (atRest was Array x) X sc (cnt + 1)) (verified j (cnt + (1 + readsTo j))) [] (readsThen p (readsTo j) a 0 [])
+          all j r =
+              subst (λ (c : ℕ). Reach d w (conf (rec Verifying 0 0) (atRest was Array x) X sc (cnt + 1)) (verified j c) [] (readsThen p (readsTo j) a 0 [])) (let z : cnt + 1 + readsTo j ≡ cnt + (1 + readsTo j) = omega arith in z)
+              (subst (λ (m : ℕ). Reach d w (conf (rec Verifying 0 0) (atRest was Array x) X sc (cnt + 1)) (verified j (cnt + 1 + m)) [] (readsThen p m a 0 [])) (let z : readsTo j - 0 ≡ readsTo j = omega arith in z) r)
+
+    -- where a load stands after its last program
+    abbrev pub loaded : Mode → ℕ → Config
+    loaded m cnt = conf (rec (loadedStage verify) 0 0) (atRest was m 128) (overlaid xs a w) w cnt
 
     -- the last of some polls, put to the others
     polls-last : (n x : ℕ) (cs : List Cycle) → pollsThen p n x (cyc p Read x 0 ∷ cs) ≡ pollsThen p (suc n) x cs
@@ -208,7 +281,7 @@ module _ (d : Device) (p : Pins) (k : ℕ) (u : Up d p) (was : State) (w : List 
     -- the polls of an operation, of either kind, while cycles are left
     module _ (r : Ready d p k) (W : Stage) (i : ℕ) (ph : Phase) (adr to : ℕ) (going : isEnded W ≡ false) (busy : Runs ph) (adr-in : adr < sizeOf (d .part)) (to-in : to < sizeOf (d .part))
         (X sc : List ℕ) (lX : length X ≡ sizeOf (d .part)) (goes : (q : ℕ) → cycleOf (rec W i q) w ≡ cyc p Read to 0)
-        (polled : (q : ℕ) → nextOf (rec W i q) 0 w (storeOf (rec W i q) 0 sc) ≡ pollMore (rec W i q) W) (kept : (q : ℕ) → storeOf (rec W i q) 0 sc ≡ sc) where
+        (polled : (q : ℕ) → nextOf (rec W i q) 0 w (storeOf (rec W i q) 0 w sc) ≡ pollMore (rec W i q) W) (kept : (q : ℕ) → storeOf (rec W i q) 0 w sc ≡ sc) where
       poll-more : (q : ℕ) → q < 65534 → pollMore (rec W i q) W ≡ rec W i (q + 1)
       unfolding pollMore
       poll-more q h = if-false (leb 65534 q) _ _ (lt-leb 65534 q h)
@@ -259,11 +332,20 @@ module _ (d : Device) (p : Pins) (k : ℕ) (u : Up d p) (was : State) (w : List 
     unfolding programPolled
     program-poll i q sc = refl
 
+    -- scratch takes the byte as its program ends well, and not before
+    program-keeps : (i q : ℕ) (sc : List ℕ) → storeOf (rec ProgramWaiting i q) 0 w sc ≡ sc
+    unfolding programmedWell
+    program-keeps i q sc = refl
+
+    program-stores : (i q : ℕ) (sc : List ℕ) → storeOf (rec ProgramWaiting i q) 128 w sc ≡ set sc i (getD w i 0)
+    unfolding programmedWell programFault bothErrors
+    program-stores i q sc = refl
+
     -- one byte programmed: 40H, the byte, P polls
     one-program : (r : Ready d p k) (m : Mode) (i cnt : ℕ) (ys sc : List ℕ) (e : Config) (es : List Effect) (cs : List Cycle) → i < length w → length ys ≡ length w
         → bitAnd (getD ys i 0) (getD w i 0) ≡ getD w i 0
         → 0 < d .program → d .program ≤ 65535
-        → ((cnt′ : ℕ) → cnt′ ≡ cnt + (2 + d .program) → Reach d w (conf (onto (i + 1) sc) (atRest was Status 128) (overlaid xs a (set ys i (getD w i 0))) sc cnt′) e es cs)
+        → ((cnt′ : ℕ) → cnt′ ≡ cnt + (2 + d .program) → Reach d w (conf (onto (i + 1) (set sc i (getD w i 0))) (atRest was Status 128) (overlaid xs a (set ys i (getD w i 0))) (set sc i (getD w i 0)) cnt′) e es cs)
         → Reach d w (conf (rec ProgramAsking i 0) (atRest was m 128) (overlaid xs a ys) sc cnt) e (Program (a + i) (getD w i 0) ∷ es) (programThen d p (a + i) (getD w i 0) cs)
     one-program r m i cnt ys sc e es cs h ly falls z b rest =
         prepend d w _ _ e Nothing (cyc p Write (a + i) 0x40) (Program (a + i) v ∷ es) _
@@ -273,11 +355,11 @@ module _ (d : Device) (p : Pins) (k : ℕ) (u : Up d p) (was : State) (w : List 
         (turned d w (rec ProgramSending i 0) asked X sc (cnt + 1) refl lX (cyc p Write (a + i) v) Quiet (st was Status 0 (Programming v) (d .program) (a + i)) Nothing answered2)
         (does d w (rec ProgramSending i 0) asked X sc (cnt + 1) refl lX (cyc p Write (a + i) v) Quiet (st was Status 0 (Programming v) (d .program) (a + i)) Nothing answered2)
         (waiting-all r ProgramWaiting i (Programming v) (a + i) (a + i) refl (refl, refl) (inside i h) (inside i h) X sc lX
-        (λ q. ap (λ (x : ℕ). cyc p Read x 0) (here ProgramWaiting i q h)) (λ q. program-poll i q sc) (λ q. refl)
+        (λ q. ap (λ (x : ℕ). cyc p Read x 0) (here ProgramWaiting i q h)) (λ q. ap (λ (y : List ℕ). nextOf (rec ProgramWaiting i q) 0 w y) (program-keeps i q sc) ∙ program-poll i q sc) (λ q. program-keeps i q sc)
         (d .program) (cnt + 1 + 1) e es cs z b (omega arith)
         (λ q cnt′ t. prepend d w _ _ e Nothing (cyc p Read (a + i) 0) es cs
         (turned d w (rec ProgramWaiting i q) (st was Status 0 (Programming v) 1 (a + i)) X sc cnt′ refl lX (cyc p Read (a + i) 0) (Gives 128) (atRest was Status 128) (Program (a + i) v) (answered3 q)
-        ∙ (λ x. conf (programmed i q sc h x) (atRest was Status 128) (stored x) sc (cnt′ + 1)))
+        ∙ (λ x. conf ((ap (λ (y : List ℕ). nextOf (rec ProgramWaiting i q) 128 w y) (program-stores i q sc) ∙ programmed i q (set sc i v) h) x) (atRest was Status 128) (stored x) (program-stores i q sc x) (cnt′ + 1)))
         (does d w (rec ProgramWaiting i q) (st was Status 0 (Programming v) 1 (a + i)) X sc cnt′ refl lX (cyc p Read (a + i) 0) (Gives 128) (atRest was Status 128) (Program (a + i) v) (answered3 q))
         (rest (cnt′ + 1) (omega arith)))))
       where
@@ -314,7 +396,7 @@ module _ (d : Device) (p : Pins) (k : ℕ) (u : Up d p) (was : State) (w : List 
     costs zero i sc = 0
     costs (suc j) i sc = (if eqb (getD sc i 0) (getD w i 0) then 0 else 2 + d .program) + costs j (i + 1) sc
 
-    onto-past : (i : ℕ) (sc : List ℕ) → length w ≤ i → onto i sc ≡ rec Closing 0 0
+    onto-past : (i : ℕ) (sc : List ℕ) → length w ≤ i → onto i sc ≡ rec (loadedStage verify) 0 0
     unfolding diffFrom
     onto-past i sc h = if-false (ltb (nextDiff (length w - i) i w sc) (length w)) _ _ (le-ltb _ (length w) (rw (diff-over (length w) i w sc h) h))
 
@@ -322,54 +404,70 @@ module _ (d : Device) (p : Pins) (k : ℕ) (u : Up d p) (was : State) (w : List 
     unfolding diffFrom
     onto-differs i sc h e =
         let q : nextDiff (length w - i) i w sc ≡ i = diff-turn (length w) i w sc h ∙ if-false (eqb (getD sc i 0) (getD w i 0)) (nextDiff (length w - (i + 1)) (i + 1) w sc) i e in
-        ap (λ (j : ℕ). (if ltb j (length w) then rec ProgramAsking j 0 else rec Closing 0 0)) q ∙ if-true (ltb i (length w)) _ _ (lt-ltb i (length w) h)
+        ap (λ (j : ℕ). (if ltb j (length w) then rec ProgramAsking j 0 else rec (loadedStage verify) 0 0)) q ∙ if-true (ltb i (length w)) _ _ (lt-ltb i (length w) h)
 
     onto-agrees : (i : ℕ) (sc : List ℕ) → i < length w → eqb (getD sc i 0) (getD w i 0) ≡ true → onto i sc ≡ onto (i + 1) sc
     unfolding diffFrom
     onto-agrees i sc h e =
         let q : nextDiff (length w - i) i w sc ≡ nextDiff (length w - (i + 1)) (i + 1) w sc =
         diff-turn (length w) i w sc h ∙ if-true (eqb (getD sc i 0) (getD w i 0)) (nextDiff (length w - (i + 1)) (i + 1) w sc) i e in
-        ap (λ (j : ℕ). (if ltb j (length w) then rec ProgramAsking j 0 else rec Closing 0 0)) q
+        ap (λ (j : ℕ). (if ltb j (length w) then rec ProgramAsking j 0 else rec (loadedStage verify) 0 0)) q
 
-    -- the programs from place i on, then the verify
+    -- the mode that n programs leave: read status after the first
+    abbrev pub modeAfter : Mode → ℕ → Mode
+    modeAfter m n = if eqb n 0 then m else Status
+
+    status-stays : (m : Mode) (n : ℕ) → modeAfter Status n ≡ modeAfter m (1 + n)
+    status-stays m n = if-ind (λ (x : Mode). x ≡ modeAfter m (1 + n)) (eqb n 0) Status Status (λ e. later) (λ e. later)
+      where
+        later : Status ≡ modeAfter m (1 + n)
+        later = sym (if-false (eqb (1 + n) 0) m Status (ne-eqb (1 + n) 0 (λ q. omega arith)))
+
+    -- the programs from place i on, whatever follows; scratch is the block so far
     walking : (r : Ready d p k) (sc : List ℕ) → length sc ≡ length w → ((i : ℕ) → i < length w → bitAnd (getD sc i 0) (getD w i 0) ≡ getD w i 0) → 0 < d .program → d .program ≤ 65535
-        → (j i cnt c : ℕ) (m : Mode) → i + j ≡ length w → c ≡ cnt + (costs j i sc + (1 + length w))
-        → Reach d w (conf (onto i sc) (atRest was m 128) (overlaid xs a (overwritten i w sc)) sc cnt) (final (overlaid xs a w) c) (programsOf j a i w sc) (programsThen d p j a i w sc (closingOf p a (length w)))
-    walking r sc ls falls z b zero i cnt c m e q =
-        subst (λ (l : Loader). Reach d w (conf l (atRest was m 128) (overlaid xs a (overwritten i w sc)) sc cnt) (final (overlaid xs a w) c) [] (closingOf p a (length w))) (sym (onto-past i sc (omega arith)))
-        (subst (λ (y : List ℕ). Reach d w (conf (rec Closing 0 0) (atRest was m 128) (overlaid xs a y) sc cnt) (final (overlaid xs a w) c) [] (closingOf p a (length w))) (sym whole) (closing m sc cnt c ls (omega arith)))
+        → (e : Config) (cs : List Cycle) (j i cnt : ℕ) (m : Mode) → i + j ≡ length w
+        → ((cnt′ : ℕ) (m′ : Mode) → cnt′ ≡ cnt + costs j i sc → m′ ≡ modeAfter m (differing j i w sc) → Reach d w (loaded m′ cnt′) e [] cs)
+        → Reach d w (conf (onto i (overwritten i w sc)) (atRest was m 128) (overlaid xs a (overwritten i w sc)) (overwritten i w sc) cnt) e (programsOf j a i w sc) (programsThen d p j a i w sc cs)
+    walking r sc ls falls z b e cs zero i cnt m q rest =
+        subst (λ (l : Loader). Reach d w (conf l (atRest was m 128) (overlaid xs a (overwritten i w sc)) (overwritten i w sc) cnt) e [] cs) (sym (onto-past i (overwritten i w sc) (omega arith)))
+        (subst (λ (y : List ℕ). Reach d w (conf (rec (loadedStage verify) 0 0) (atRest was m 128) (overlaid xs a y) y cnt) e [] cs) (sym whole) (rest cnt m (omega arith) refl))
       where
         whole : overwritten i w sc ≡ w
         whole = ap (λ (n : ℕ). overwritten n w sc) (let t : i ≡ length sc = omega arith in t) ∙ overwritten-all w sc (sym ls)
-    walking r sc ls falls z b (suc j) i cnt c m e q = go (eqb (getD sc i 0) (getD w i 0)) refl (walking r sc ls falls z b j (i + 1))
+    walking r sc ls falls z b e cs (suc j) i cnt m q rest = go (eqb (getD sc i 0) (getD w i 0)) refl (walking r sc ls falls z b e cs j (i + 1)) rest
       where
         h : i < length w
         h = omega arith
 
-        es : List Effect
-        es = programsOf j a (i + 1) w sc
+        here-is : getD (overwritten i w sc) i 0 ≡ getD sc i 0
+        here-is = overwritten-here w sc (sym ls) i (omega arith)
 
-        cs : List Cycle
-        cs = programsThen d p j a (i + 1) w sc (closingOf p a (length w))
+        fs : List Effect
+        fs = programsOf j a (i + 1) w sc
+
+        ds : List Cycle
+        ds = programsThen d p j a (i + 1) w sc cs
 
         From : Loader → List ℕ → ℕ → Mode → List Effect → List Cycle → Type 0
-        From l y n m′ fs ds = Reach d w (conf l (atRest was m′ 128) (overlaid xs a y) sc n) (final (overlaid xs a w) c) fs ds
+        From l y n m′ es ds′ = Reach d w (conf l (atRest was m′ 128) (overlaid xs a y) y n) e es ds′
 
         go : (t : Bool) → eqb (getD sc i 0) (getD w i 0) ≡ t
-            → ((cnt′ c′ : ℕ) (m′ : Mode) → i + 1 + j ≡ length w → c′ ≡ cnt′ + (costs j (i + 1) sc + (1 + length w))
-            → Reach d w (conf (onto (i + 1) sc) (atRest was m′ 128) (overlaid xs a (overwritten (i + 1) w sc)) sc cnt′) (final (overlaid xs a w) c′) es cs)
-            → From (onto i sc) (overwritten i w sc) cnt m (if eqb (getD sc i 0) (getD w i 0) then es else Program (a + i) (getD w i 0) ∷ es) (if eqb (getD sc i 0) (getD w i 0) then cs else programThen d p (a + i) (getD w i 0) cs)
-        go true t more =
-            rw t
-            (subst (λ (l : Loader). From l (overwritten i w sc) cnt m es cs) (sym (onto-agrees i sc h t))
-            (subst (λ (y : List ℕ). From (onto (i + 1) sc) y cnt m es cs) (sym (overwritten-agree w sc (sym ls) i (omega arith) (eqb-true _ _ t)))
-            (more cnt c m (omega arith) (let x = rw t at q in omega arith))))
-        go false t more =
-            rw t
-            (subst (λ (l : Loader). From l (overwritten i w sc) cnt m (Program (a + i) (getD w i 0) ∷ es) (programThen d p (a + i) (getD w i 0) cs)) (sym (onto-differs i sc h t))
-            (one-program r m i cnt (overwritten i w sc) sc (final (overlaid xs a w) c) es cs h (overwritten-length w sc (sym ls) i (omega arith) ∙ ls)
-            (ap (λ (x : ℕ). bitAnd x (getD w i 0)) (overwritten-here w sc (sym ls) i (omega arith)) ∙ falls i h) z b
-            (λ cnt′ s. subst (λ (y : List ℕ). From (onto (i + 1) sc) y cnt′ Status es cs) (sym (overwritten-more w sc i h (omega arith))) (more cnt′ c Status (omega arith) (let x = rw t at q in omega arith)))))
+            → ((cnt′ : ℕ) (m′ : Mode) → i + 1 + j ≡ length w
+            → ((c : ℕ) (o : Mode) → c ≡ cnt′ + costs j (i + 1) sc → o ≡ modeAfter m′ (differing j (i + 1) w sc) → Reach d w (loaded o c) e [] cs)
+            → From (onto (i + 1) (overwritten (i + 1) w sc)) (overwritten (i + 1) w sc) cnt′ m′ fs ds)
+            → ((c : ℕ) (o : Mode) → c ≡ cnt + ((if t then 0 else 2 + d .program) + costs j (i + 1) sc) → o ≡ modeAfter m ((if t then 0 else 1) + differing j (i + 1) w sc) → Reach d w (loaded o c) e [] cs)
+            → From (onto i (overwritten i w sc)) (overwritten i w sc) cnt m (if t then fs else Program (a + i) (getD w i 0) ∷ fs) (if t then ds else programThen d p (a + i) (getD w i 0) ds)
+        go true t more over =
+            subst (λ (l : Loader). From l (overwritten i w sc) cnt m fs ds) (sym (onto-agrees i (overwritten i w sc) h (ap (λ (x : ℕ). eqb x (getD w i 0)) here-is ∙ t)))
+            (subst (λ (y : List ℕ). From (onto (i + 1) y) y cnt m fs ds) (sym (overwritten-agree w sc (sym ls) i (omega arith) (eqb-true _ _ t)))
+            (more cnt m (omega arith) (λ c o x y. over c o (omega arith) (y ∙ ap (λ (n : ℕ). modeAfter m n) (let v : differing j (i + 1) w sc ≡ 0 + differing j (i + 1) w sc = omega arith in v)))))
+        go false t more over =
+            subst (λ (l : Loader). From l (overwritten i w sc) cnt m (Program (a + i) (getD w i 0) ∷ fs) (programThen d p (a + i) (getD w i 0) ds))
+            (sym (onto-differs i (overwritten i w sc) h (ap (λ (x : ℕ). eqb x (getD w i 0)) here-is ∙ t)))
+            (one-program r m i cnt (overwritten i w sc) (overwritten i w sc) e fs ds h (overwritten-length w sc (sym ls) i (omega arith) ∙ ls)
+            (ap (λ (x : ℕ). bitAnd x (getD w i 0)) here-is ∙ falls i h) z b
+            (λ cnt′ s. subst (λ (y : List ℕ). From (onto (i + 1) y) y cnt′ Status fs ds) (sym (overwritten-more w sc i h (omega arith)))
+            (more cnt′ Status (omega arith) (λ c o x y. over c o (omega arith) (y ∙ status-stays m (differing j (i + 1) w sc))))))
 
     unrisen : (ys : List ℕ) → risesIn w ys ≡ false → (i : ℕ) → i < length w → bitAnd (getD ys i 0) (getD w i 0) ≡ getD w i 0
     unfolding risesIn
@@ -389,11 +487,11 @@ module _ (d : Device) (p : Pins) (k : ℕ) (u : Up d p) (was : State) (w : List 
     unfolding erasePolled
     erase-poll q sc = refl
 
-    erase-keeps : (q : ℕ) (sc : List ℕ) → storeOf (rec EraseWaiting 0 q) 0 sc ≡ sc
+    erase-keeps : (q : ℕ) (sc : List ℕ) → storeOf (rec EraseWaiting 0 q) 0 w sc ≡ sc
     unfolding erasedWell eraseFault bothErrors
     erase-keeps q sc = refl
 
-    erase-fills : (q : ℕ) (sc : List ℕ) → length sc ≡ length w → storeOf (rec EraseWaiting 0 q) 128 sc ≡ blank
+    erase-fills : (q : ℕ) (sc : List ℕ) → length sc ≡ length w → storeOf (rec EraseWaiting 0 q) 128 w sc ≡ blank
     unfolding erasedWell eraseFault bothErrors
     erase-fills q sc e = ap (λ (n : ℕ). replicate n (ones (d .part))) e
 
@@ -513,29 +611,40 @@ module _ (d : Device) (p : Pins) (k : ℕ) (u : Up d p) (was : State) (w : List 
           answered2 : Answered d w (rec Opening 0 0) (atRest was m 128) (cyc p Write a 0xFF) Quiet (atRest was Array 128) Nothing
           answered2 = answered-first Opening 0 0 Write 0xFF (atRest was m 128) Quiet (atRest was Array 128) Nothing refl (answers.opens d p u was m 128 a refl a-inside) refl
 
-      -- the whole load, whether some bit must rise or none
-      pub loading : (r : Ready d p k) (m : Mode) (x c : ℕ) → fits 2 x ≡ true → Cells (d .part) w → 0 < d .program → d .program ≤ 65535 → 0 < d .erase → d .erase ≤ 65535
-          → c ≡ 2 * length w + 3 + ((if risesIn w ys then 2 + d .erase else 0) + costs (length w) 0 (baseOf (d .part) w ys))
-          → Reach d w (fore m x) (final (overlaid xs a w) c) (operationsOf (d .part) k a w ys) (cyclesOf d p a w ys)
-      loading r m x c f bw zp bp ze be q = opening m x f (final (overlaid xs a w) c) _ _ (go (risesIn w ys) refl)
+      -- the whole load, whether some bit must rise or none, whatever follows
+      pub loading : (r : Ready d p k) (m : Mode) (x : ℕ) → fits 2 x ≡ true → Cells (d .part) w → 0 < d .program → d .program ≤ 65535 → 0 < d .erase → d .erase ≤ 65535
+          → (e : Config) (cs : List Cycle)
+          → ((cnt′ : ℕ) → cnt′ ≡ 2 + length w + ((if risesIn w ys then 2 + d .erase else 0) + costs (length w) 0 (baseOf (d .part) w ys)) → Reach d w (loaded (loadedMode w ys) cnt′) e [] cs)
+          → Reach d w (fore m x) e (operationsOf (d .part) k a w ys) (loadThen d p a w ys cs)
+      unfolding asWanted
+      loading r m x f bw zp bp ze be e cs rest = opening m x f e _ _ (go (risesIn w ys) refl rest)
         where
-          End : List Effect → List Cycle → Type 0
-          End es cs = Reach d w (judged (2 + length w)) (final (overlaid xs a w) c) es cs
+          After : List Effect → List Cycle → Type 0
+          After es ds = Reach d w (judged (2 + length w)) e es ds
 
-          last : List Cycle
-          last = closingOf p a (length w)
+          modes : (m′ : Mode) (n : ℕ) → m′ ≡ loadedMode w ys → Reach d w (loaded (loadedMode w ys) n) e [] cs → Reach d w (loaded m′ n) e [] cs
+          modes m′ n q v = subst (λ (o : Mode). Reach d w (loaded o n) e [] cs) (sym q) v
 
-          go : (t : Bool) → risesIn w ys ≡ t → End (operationsOf (d .part) k a w ys) (if risesIn w ys then eraseThen d p a (programmingOf d p a w ys) else programmingOf d p a w ys)
-          go true t =
+          go : (t : Bool) → risesIn w ys ≡ t
+              → ((cnt′ : ℕ) → cnt′ ≡ 2 + length w + ((if risesIn w ys then 2 + d .erase else 0) + costs (length w) 0 (baseOf (d .part) w ys)) → Reach d w (loaded (loadedMode w ys) cnt′) e [] cs)
+              → After (operationsOf (d .part) k a w ys) (if risesIn w ys then eraseThen d p a (programmingThen d p a w ys cs) else programmingThen d p a w ys cs)
+          go true t over =
               rw t
-              (erasing r Array (2 + length w) ys ys (final (overlaid xs a w) c) (programsOf (length w) a 0 w blank) (programsThen d p (length w) a 0 w blank last) ly ly ze be
-              (λ cnt′ y. walking r blank (length-replicate (length w) (ones (d .part))) (λ i h. full i h) zp bp (length w) 0 cnt′ c Status (omega arith) (let z = rw t at q in omega arith)))
+              (erasing r Array (2 + length w) ys ys e (programsOf (length w) a 0 w blank) (programsThen d p (length w) a 0 w blank cs) ly ly ze be
+              (λ cnt′ y. walking r blank (length-replicate (length w) (ones (d .part))) (λ i h. full i h) zp bp e cs (length w) 0 cnt′ Status (omega arith)
+              (λ c o q v. modes o c (v ∙ risen) (over c (rw t (omega arith))))))
             where
               full : (i : ℕ) → i < length w → bitAnd (getD blank i 0) (getD w i 0) ≡ getD w i 0
               full i h = ap (λ (y : ℕ). bitAnd y (getD w i 0)) (getD-replicate (length w) i (ones (d .part)) 0 h) ∙ and-ones (d .part) (getD w i 0) (bw i)
-          go false t =
+
+              risen : modeAfter Status (differing (length w) 0 w blank) ≡ loadedMode w ys
+              risen = if-ind (λ (o : Mode). o ≡ loadedMode w ys) (eqb (differing (length w) 0 w blank) 0) Status Status (λ q. differs) (λ q. differs)
+                where
+                  differs : Status ≡ loadedMode w ys
+                  differs = sym (if-false (asWanted w ys) Array Status (risen-differs w ys ly t))
+          go false t over =
               rw t
-              (walking r ys ly (λ i h. unrisen ys t i h) zp bp (length w) 0 (2 + length w) c Array (omega arith) (let z = rw t at q in omega arith))
+              (walking r ys ly (λ i h. unrisen ys t i h) zp bp e cs (length w) 0 (2 + length w) Array (omega arith) (λ c o q v. modes o c v (over c (rw t (omega arith)))))
 
     -- the cost of the programs is a product
     pub costs-are : (j i : ℕ) (sc : List ℕ) → costs j i sc ≡ differing j i w sc * (2 + d .program)

@@ -2,7 +2,7 @@
 use mathlib.Core.Path.{_≡_, refl, ap, _∙_}
 use mathlib.Core.Bool.{Bool, true, false, _&&_}
 use mathlib.Core.List.{List, [], _∷_}
-use Prim.Native.Nat.{ℕ, suc, _+_, _-_}
+use Prim.Native.Nat.{ℕ, suc, _+_}
 use lib.ListN.{length}
 use Rattle.common.proofs.Choice.{if-false}
 use Rattle.device.specs.declared.Device.{Device}
@@ -87,10 +87,10 @@ module _ (d : Device) (w : List ℕ) (l : Loader) (s : State) (xs sc : List ℕ)
 
   -- the turn that a decided cycle makes, and what it does
   pub turned : turnOf d w (conf l s xs sc cnt)
-      ≡ conf (loaderBy (seenOf reply (arrayOf e (d .part) [] xs)) l w sc) s′ (arrayOf e (d .part) [] xs) (scratchBy (seenOf reply (arrayOf e (d .part) [] xs)) l sc) (cnt + 1)
+      ≡ conf (loaderBy (seenOf reply (arrayOf e (d .part) [] xs)) l w sc) s′ (arrayOf e (d .part) [] xs) (scratchBy (seenOf reply (arrayOf e (d .part) [] xs)) l w sc) (cnt + 1)
   turned =
       turn-going d w (conf l s xs sc cnt) going
-      ∙ (λ i. conf (loaderBy (answer i .seen) l w sc) (answer i .state) (array i) (scratchBy (answer i .seen) l sc) (cnt + 1))
+      ∙ (λ i. conf (loaderBy (answer i .seen) l w sc) (answer i .state) (array i) (scratchBy (answer i .seen) l w sc) (cnt + 1))
 
   pub does : Does d w (conf l s xs sc cnt) (begunFrom (d .part) s s′) cy
   unfolding begunTurn smoothTurn

@@ -1,5 +1,5 @@
 -- A block that holds what is wanted, and one that does not: what the walks over it find. Assumes nothing.
-use mathlib.Core.Path.{_≡_, refl, _∙_, subst, ap}
+use mathlib.Core.Path.{_≡_, refl, sym, ap, _∙_, subst}
 use mathlib.Core.Bool.{Bool, true, false}
 use mathlib.Core.List.{List}
 use Prim.Native.Nat.{ℕ, zero, suc, _+_, _-_, _*_, _<_}
@@ -11,6 +11,7 @@ use lib.Dec.{eqb}
 use lib.Bits.{and-self}
 use borrow.Author.Tests.{eq-eqb, eqb-true, eqb-false}
 use Rattle.common.specs.Choice.{if_then_else_}
+use Rattle.common.proofs.Choice.{unlike}
 use Rattle.device.specs.declared.Device.{Device}
 use Rattle.model_types.specs.declared.Pins.{Pins}
 use Rattle.model_types.specs.declared.Cycle.{Cycle}
@@ -47,6 +48,14 @@ none-rise (suc k) i w = rw (and-self (getD w i 0), eq-eqb (getD w i 0) (getD w i
 pub none-risen : (w : List ℕ) → risesIn w w ≡ false
 unfolding risesIn
 none-risen w = none-rise (length w) 0 w
+
+-- where some bit must rise, some byte differs
+pub risen-differs : (w s : List ℕ) → length s ≡ length w → risesIn w s ≡ true → asWanted w s ≡ false
+risen-differs w s l e = go (asWanted w s) refl
+  where
+    go : (t : Bool) → asWanted w s ≡ t → asWanted w s ≡ false
+    go true q = absurd (unlike (sym (sym (ap (λ (z : List ℕ). risesIn w z) (same-list w s l q) ∙ none-risen w) ∙ e)))
+    go false q = q
 
 pub none-differing : (k i : ℕ) (w : List ℕ) → differing k i w w ≡ 0
 none-differing zero i w = refl

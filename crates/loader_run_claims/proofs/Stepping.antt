@@ -46,11 +46,11 @@ use Rattle.loader_run.specs.declared.Ran.{Ran}
 use Rattle.loader_run.specs.Turns as turns
 use Rattle.loader_run.specs.Turns.{Config, numberIn, answerTo, moved, turnOf, after, bound}
 use Rattle.loader.specs.Stages.{stageIs, isEnded, endBy}
-use Rattle.loader_run.specs.Runs.{runRows, ranBy, begin, driven, ranOf, bytesOf, scratchOf}
+use Rattle.loader_run.specs.Runs.{runRows, ranBy, begin, driven, runLeftAt}
 use Rattle.loader_run.proofs.Turning.{took, turn-ended, turn-going, ended-stays}
 use Rattle.loader_run.specs.Promises.{Promise}
 use Rattle.loader_run.proofs.Ending.{always-ends, run-first, run-accepted}
-use Rattle.loader_run_claims.specs.Wear.{heldIn}
+use Rattle.loader_run_claims.specs.Wear.{heldIn, formulaBy}
 use Rattle.loader_run_claims.specs.Made.{isSmooth, smoothTurn, smoothIn}
 use Rattle.loader_run_claims.specs.Ends.{endNumber, wellRan, faultRan, ranAs, Whole}
 use Rattle.loader_run_claims.specs.Stepping.{answerAt, Handed, runAt, overAt, Stepped}
@@ -108,12 +108,12 @@ read-answered d s c n r xs kind up =
 
 -- two bytes move a record alike: the same byte after a read, any two after a write
 pub record Alike (stage : Stage) (l : Loader) (w sc : List ℕ) (b x : ℕ) : Type 0 where
-  pub stored : storeIn stage (l .part) (l .place) b sc ≡ storeIn stage (l .part) (l .place) x sc
-  pub next : nextIn stage l b w (storeIn stage (l .part) (l .place) b sc) ≡ nextIn stage l x w (storeIn stage (l .part) (l .place) x sc)
+  pub stored : storeIn stage (l .part) (l .place) b w sc ≡ storeIn stage (l .part) (l .place) x w sc
+  pub next : nextIn stage l b w (storeIn stage (l .part) (l .place) b w sc) ≡ nextIn stage l x w (storeIn stage (l .part) (l .place) x w sc)
 
 same-byte : (stage : Stage) (l : Loader) (w sc : List ℕ) (b x : ℕ) → b ≡ x → Alike stage l w sc b x
 same-byte stage l w sc b x q =
-    record { stored = ap (λ (y : ℕ). storeIn stage (l .part) (l .place) y sc) q; next = ap (λ (y : ℕ). nextIn stage l y w (storeIn stage (l .part) (l .place) y sc)) q }
+    record { stored = ap (λ (y : ℕ). storeIn stage (l .part) (l .place) y w sc) q; next = ap (λ (y : ℕ). nextIn stage l y w (storeIn stage (l .part) (l .place) y w sc)) q }
 
 alike : (stage : Stage) (l : Loader) (w sc : List ℕ) (b x : ℕ) → (stageIs stage .kind ≡ Read → b ≡ x) → Alike stage l w sc b x
 alike Clearing l w sc b x h = record { stored = refl; next = refl }
@@ -153,10 +153,10 @@ module _ (d : Device) (w : List ℕ) (c : Config) (going : isEnded (c .loader .s
       (levels-up (c .loader) (taken (c .loader) (length w) (length (c .scratch)) passes .levels)) fine
 
   -- the record and scratch that the turn leaves
-  turn-loader : turnOf d w c .loader ≡ nextOf (c .loader) (numberIn seen) w (storeOf (c .loader) (numberIn seen) (c .scratch))
+  turn-loader : turnOf d w c .loader ≡ nextOf (c .loader) (numberIn seen) w (storeOf (c .loader) (numberIn seen) w (c .scratch))
   turn-loader = ap (λ (x : Config). x .loader) (turn-going d w c going) ∙ took seen (c .loader) w (c .scratch) turn-taken .0
 
-  turn-scratch : turnOf d w c .scratch ≡ storeOf (c .loader) (numberIn seen) (c .scratch)
+  turn-scratch : turnOf d w c .scratch ≡ storeOf (c .loader) (numberIn seen) w (c .scratch)
   turn-scratch = ap (λ (x : Config). x .scratch) (turn-going d w c going) ∙ took seen (c .loader) w (c .scratch) turn-taken .1
 
   -- its tests pass again
@@ -202,22 +202,22 @@ over-given : (stage : Stage) (l : Loader) (w : List ℕ) → isEnded stage ≡ t
 over-given stage l w e = if-true (isEnded stage) (Over (endBy stage) (endAddress l (endBy stage))) (Out (cycleOf l w)) e
 
 -- a run whose cycles the model takes, stepped by hand
-module _ (d : Device) (s : State) (p : Pins) (k : ℕ) (xs w sc : List ℕ) (free : NoRow (runRows d s p k (length xs) (length w) (length sc)))
-    (smooth : smoothIn (bound (length w)) d w (begin d s (recordAt (d .part) p k Clearing) xs sc) ≡ true) where
+module _ (stage : Stage) (verify : Bool) (going : isEnded stage ≡ false) (d : Device) (s : State) (p : Pins) (k : ℕ) (xs w sc : List ℕ) (free : NoRow (runRows d s p k (length xs) (length w) (length sc)))
+    (smooth : smoothIn (bound (length w)) d w (begin d s (recordAt (d .part) p k stage verify) xs sc) ≡ true) where
   abbrev at : ℕ → Config
-  at j = runAt d s p k xs w sc j
+  at j = runAt stage verify d s p k xs w sc j
 
   abbrev over : ℕ → Bool
-  over j = overAt d s p k xs w sc j
+  over j = overAt stage verify d s p k xs w sc j
 
   abbrev ran : Ran
-  ran = ranOf d s p k xs w sc
+  ran = runLeftAt stage verify d s p k xs w sc .ran
 
   last : (j : ℕ) → at (suc j) ≡ turnOf d w (at j)
   last j = after-last j d w (at 0)
 
-  promise : Promise d s p k xs w sc ran (bytesOf d s p k xs w sc) (scratchOf d s p k xs w sc)
-  promise = run-first d s p k xs w sc free
+  promise : Promise stage verify d s p k xs w sc ran (runLeftAt stage verify d s p k xs w sc .bytes) (runLeftAt stage verify d s p k xs w sc .scratch)
+  promise = run-first stage verify going d s p k xs w sc free
 
   bounded : isEnded (at (bound (length w)) .loader .stage) ≡ true
   unfolding driven
@@ -230,7 +230,7 @@ module _ (d : Device) (s : State) (p : Pins) (k : ℕ) (xs w sc : List ℕ) (fre
   passes : (j : ℕ) → stepNumber (at j .loader) (length w) (length (at j .scratch)) ≡ 0
   passes zero =
       let q = start-passes d s p k (length xs) (length w) (length sc) free in
-      subst (λ (g : Given). stepNumber (g .loader) (length w) (length sc) ≡ 0) (start-gives (d .part) p k w sc q) (start-again (d .part) p k w sc q)
+      subst (λ (g : Given). stepNumber (g .loader) (length w) (length sc) ≡ 0) (start-gives stage verify (d .part) p k w sc q) (start-again stage verify (d .part) p k w sc q)
   passes (suc j) = subst (λ (c : Config). stepNumber (c .loader) (length w) (length (c .scratch)) ≡ 0) (sym (last j)) (go (over j) refl (passes j))
     where
       go : (t : Bool) → over j ≡ t → stepNumber (at j .loader) (length w) (length (at j .scratch)) ≡ 0
@@ -266,10 +266,10 @@ module _ (d : Device) (s : State) (p : Pins) (k : ℕ) (xs w sc : List ℕ) (fre
       ∙ over-given (at (suc j) .loader .stage) (at (suc j) .loader) w z
       ∙ ap (λ (r : Ran). Over (r .end) (r .address)) (ended-as j e z)
 
-  pub by-hand : Stepped d s p k xs w sc
+  pub by-hand : Stepped stage verify d s p k xs w sc
   by-hand =
       record {
-        starts = start-gives (d .part) p k w sc (start-passes d s p k (length xs) (length w) (length sc) free);
+        starts = start-gives stage verify (d .part) p k w sc (start-passes d s p k (length xs) (length w) (length sc) free);
         lasts = λ j. (lasting j, promise .first j);
         takes = λ j e. turn-taken d w (at j) e (fine j e) (passes j);
         answers = λ j e. turn-read d w (at j) e (fine j e) (passes j);
@@ -286,12 +286,16 @@ module _ (d : Device) (s : State) (p : Pins) (k : ℕ) (xs w sc : List ℕ) (fre
       }
 
 -- a run that returns what specs/Ends says counts a cycle, so nothing refused it
-some-counted : (d : Device) (s : State) (p : Pins) (k : ℕ) (w ys : List ℕ) → 0 < ranAs d s p k w ys .count
+some-counted : (verify : Bool) (d : Device) (s : State) (p : Pins) (k : ℕ) (w ys : List ℕ) → 0 < ranAs verify d s p k w ys .count
 unfolding ranAs
-some-counted d s p k w ys =
-    if-ind (λ (r : Ran). 0 < r .count) (eqb (endNumber d p k w ys) 0) (wellRan d s w ys) (faultRan d s p w ys (endNumber d p k w ys)) (λ e. omega arith) (λ e. omega arith)
+some-counted verify d s p k w ys =
+    if-ind (λ (r : Ran). 0 < r .count) (eqb (endNumber d p k w ys) 0) (wellRan verify d s w ys) (faultRan d s p w ys (endNumber d p k w ys)) (λ e. some verify) (λ e. omega arith)
+  where
+    some : (v : Bool) → 0 < formulaBy v d w ys
+    some true = omega arith
+    some false = omega arith
 
-pub stepped : (d : Device) (s : State) (p : Pins) (k : ℕ) (xs w sc : List ℕ) → Whole d s p k xs w sc → Stepped d s p k xs w sc
-stepped d s p k xs w sc h =
-    by-hand d s p k xs w sc
-    (run-accepted d s p k xs w sc .0 (subst (λ (r : Ran). 0 < r .count) (sym (h .ran)) (some-counted d s p k w (heldIn (parts.startOf (d .part) k) (length w) xs)))) (h .smooth)
+pub stepped : (verify : Bool) (d : Device) (s : State) (p : Pins) (k : ℕ) (xs w sc : List ℕ) → Whole verify d s p k xs w sc → Stepped Clearing verify d s p k xs w sc
+stepped verify d s p k xs w sc h =
+    by-hand Clearing verify refl d s p k xs w sc
+    (run-accepted Clearing verify refl d s p k xs w sc .0 (subst (λ (r : Ran). 0 < r .count) (sym (h .ran)) (some-counted verify d s p k w (heldIn (parts.startOf (d .part) k) (length w) xs)))) (h .smooth)

@@ -1,4 +1,5 @@
--- How a run that nothing refuses ends, for every supply and level that is let in. Assumes nothing.
+-- How a run that nothing refuses ends, with or without the verify after the load, for every supply and level that is let in.
+-- Assumes nothing.
 use mathlib.Core.Path.{_≡_}
 use mathlib.Core.Bool.{Bool, true, not, _&&_}
 use mathlib.Core.List.{List, [], _∷_}
@@ -13,15 +14,17 @@ use Rattle.device.specs.Parts.{startOf}
 use Rattle.model_types.specs.declared.Pins.{Pins}
 use Rattle.model_types.specs.declared.Kind.the-variants.{Read, Write}
 use Rattle.model_types.specs.declared.Cycle.{Cycle}
+use Rattle.model_types.specs.declared.Mode.{Mode}
 use Rattle.model_types.specs.declared.Mode.the-variants.{Array, Status}
 use Rattle.model_types.specs.declared.State.{State}
 use Rattle.model_types.specs.Levels.{vppLow, unlocked}
 use Rattle.model_types.specs.States.{atRest}
+use Rattle.loader.specs.declared.Stage.the-variants.{Clearing}
 use Rattle.loader.specs.Walks.{risesIn, diffFrom}
 use Rattle.loader_run.specs.declared.Ran.{Ran}
-use Rattle.loader_run.specs.Runs.{ranOf, bytesOf, scratchOf}
-use Rattle.loader_run_claims.specs.Wear.{differing, heldIn, formula}
-use Rattle.loader_run_claims.specs.Made.{busCycle, openingThen, cyclesOf, cyclesOfLoad, smoothLoad}
+use Rattle.loader_run.specs.Runs.{runLeftAt}
+use Rattle.loader_run_claims.specs.Wear.{differing, heldIn, formulaBy}
+use Rattle.loader_run_claims.specs.Made.{busCycle, openingThen, cyclesBy, cyclesAt, smoothAt}
 
 -- the block holds what is wanted: nothing to erase or program
 unfoldable pub asWanted : List ℕ → List ℕ → Bool
@@ -57,16 +60,24 @@ programTried p x b = busCycle p Write x 0x40 ∷ busCycle p Write x b ∷ busCyc
 abbrev pub faultCycles : Pins → ℕ → List ℕ → List ℕ → List Cycle
 faultCycles p a w ys = openingThen p a (length w) (if risesIn w ys then eraseTried p a else programTried p (a + diffFrom 0 w ys) (getD w (diffFrom 0 w ys) 0))
 
+-- the mode that a good load leaves: read array after the first reads, read status after an operation
+abbrev pub loadedMode : List ℕ → List ℕ → Mode
+loadedMode w ys = if asWanted w ys then Array else Status
+
+-- .. and read array after the verify
+abbrev pub endMode : Bool → List ℕ → List ℕ → Mode
+endMode verify w ys = if verify then Array else loadedMode w ys
+
 -- a run that ends well, and one that ends by a fault at cycle n + 5
-abbrev pub wellRan : Device → State → List ℕ → List ℕ → Ran
-wellRan d s w ys = record { count = formula d w ys; end = 0; address = 0; state = atRest s Array 0x80 }
+abbrev pub wellRan : Bool → Device → State → List ℕ → List ℕ → Ran
+wellRan verify d s w ys = record { count = formulaBy verify d w ys; end = 0; address = 0; state = atRest s (endMode verify w ys) 0x80 }
 
 abbrev pub faultRan : Device → State → Pins → List ℕ → List ℕ → ℕ → Ran
 faultRan d s p w ys n = record { count = length w + 5; end = n; address = 0; state = atRest s Status (faultStatus d p w ys) }
 
 -- what such a run returns, what it leaves in array and scratch, and its cycles
-unfoldable pub ranAs : Device → State → Pins → ℕ → List ℕ → List ℕ → Ran
-ranAs d s p k w ys = if eqb (endNumber d p k w ys) 0 then wellRan d s w ys else faultRan d s p w ys (endNumber d p k w ys)
+unfoldable pub ranAs : Bool → Device → State → Pins → ℕ → List ℕ → List ℕ → Ran
+ranAs verify d s p k w ys = if eqb (endNumber d p k w ys) 0 then wellRan verify d s w ys else faultRan d s p w ys (endNumber d p k w ys)
 
 unfoldable pub bytesAs : Device → Pins → ℕ → ℕ → List ℕ → List ℕ → List ℕ → List ℕ
 bytesAs d p k a w ys xs = if eqb (endNumber d p k w ys) 0 then overlaid xs a w else xs
@@ -74,13 +85,13 @@ bytesAs d p k a w ys xs = if eqb (endNumber d p k w ys) 0 then overlaid xs a w e
 unfoldable pub scratchAs : Device → Pins → ℕ → List ℕ → List ℕ → List ℕ
 scratchAs d p k w ys = if eqb (endNumber d p k w ys) 0 then w else ys
 
-unfoldable pub cyclesAs : Device → Pins → ℕ → ℕ → List ℕ → List ℕ → List Cycle
-cyclesAs d p k a w ys = if eqb (endNumber d p k w ys) 0 then cyclesOf d p a w ys else faultCycles p a w ys
+unfoldable pub cyclesAs : Bool → Device → Pins → ℕ → ℕ → List ℕ → List ℕ → List Cycle
+cyclesAs verify d p k a w ys = if eqb (endNumber d p k w ys) 0 then cyclesBy verify d p a w ys else faultCycles p a w ys
 
 -- what a run returns, what it leaves in array and scratch, the cycles that it makes, and that the model takes them all and nothing is cut
-pub record Whole (d : Device) (s : State) (p : Pins) (k : ℕ) (xs w sc : List ℕ) : Type 0 where
-  pub ran : ranOf d s p k xs w sc ≡ ranAs d s p k w (heldIn (startOf (d .part) k) (length w) xs)
-  pub bytes : bytesOf d s p k xs w sc ≡ bytesAs d p k (startOf (d .part) k) w (heldIn (startOf (d .part) k) (length w) xs) xs
-  pub scratch : scratchOf d s p k xs w sc ≡ scratchAs d p k w (heldIn (startOf (d .part) k) (length w) xs)
-  pub made : cyclesOfLoad d s p k xs w sc ≡ cyclesAs d p k (startOf (d .part) k) w (heldIn (startOf (d .part) k) (length w) xs)
-  pub smooth : smoothLoad d s p k xs w sc ≡ true
+pub record Whole (verify : Bool) (d : Device) (s : State) (p : Pins) (k : ℕ) (xs w sc : List ℕ) : Type 0 where
+  pub ran : runLeftAt Clearing verify d s p k xs w sc .ran ≡ ranAs verify d s p k w (heldIn (startOf (d .part) k) (length w) xs)
+  pub bytes : runLeftAt Clearing verify d s p k xs w sc .bytes ≡ bytesAs d p k (startOf (d .part) k) w (heldIn (startOf (d .part) k) (length w) xs) xs
+  pub scratch : runLeftAt Clearing verify d s p k xs w sc .scratch ≡ scratchAs d p k w (heldIn (startOf (d .part) k) (length w) xs)
+  pub made : cyclesAt Clearing verify d s p k xs w sc ≡ cyclesAs verify d p k (startOf (d .part) k) w (heldIn (startOf (d .part) k) (length w) xs)
+  pub smooth : smoothAt Clearing verify d s p k xs w sc ≡ true

@@ -14,11 +14,13 @@ use Rattle.model_types.specs.declared.State.{State}
 use Rattle.model_types.specs.declared.Decision.{Decision}
 use Rattle.model_rules.specs.Cycles.{decideOf}
 use Rattle.model.specs.Arrays.{isRefusal}
+use Rattle.loader.specs.declared.Stage.{Stage}
+use Rattle.loader.specs.declared.Stage.the-variants.{Clearing}
 use Rattle.loader_steps.specs.Outs.{cycleOf}
 use Rattle.loader.specs.Walks.{risesIn}
 use Rattle.loader_run.specs.Turns.{Config, turnOf, bound}
 use Rattle.loader.specs.Stages.{isEnded}
-use Rattle.loader_run.specs.Runs.{beginning}
+use Rattle.loader_run.specs.Runs.{beginningAt}
 use Rattle.loader_run_claims.specs.Wear.{baseOf}
 use Rattle.model_history.specs.History.{isCut}
 
@@ -27,9 +29,13 @@ abbrev pub madeIn : ℕ → Device → List ℕ → Config → List Cycle
 madeIn zero d w c = []
 madeIn (suc k) d w c = if isEnded (c .loader .stage) then madeIn k d w (turnOf d w c) else cycleOf (c .loader) w ∷ madeIn k d w (turnOf d w c)
 
--- the cycles that a load of block k makes, up to its end
+-- the cycles made of block k from a stage on up to the end, with or without the verify after a load
+abbrev pub cyclesAt : Stage → Bool → Device → State → Pins → ℕ → List ℕ → List ℕ → List ℕ → List Cycle
+cyclesAt stage verify d s p k xs w sc = madeIn (bound (length w)) d w (beginningAt stage verify d s p k xs sc)
+
+-- .. by a run
 abbrev pub cyclesOfLoad : Device → State → Pins → ℕ → List ℕ → List ℕ → List ℕ → List Cycle
-cyclesOfLoad d s p k xs w sc = madeIn (bound (length w)) d w (beginning d s p k xs sc)
+cyclesOfLoad d s p k xs w sc = cyclesAt Clearing true d s p k xs w sc
 
 -- the model takes the cycle, and the cycle cuts nothing
 abbrev pub isSmooth : Decision → Bool
@@ -44,9 +50,9 @@ abbrev pub smoothIn : ℕ → Device → List ℕ → Config → Bool
 smoothIn zero d w c = true
 smoothIn (suc k) d w c = smoothTurn d w c && smoothIn k d w (turnOf d w c)
 
--- .. in a load of block k, up to its end
-abbrev pub smoothLoad : Device → State → Pins → ℕ → List ℕ → List ℕ → List ℕ → Bool
-smoothLoad d s p k xs w sc = smoothIn (bound (length w)) d w (beginning d s p k xs sc)
+-- .. from a stage on up to the end
+abbrev pub smoothAt : Stage → Bool → Device → State → Pins → ℕ → List ℕ → List ℕ → List ℕ → Bool
+smoothAt stage verify d s p k xs w sc = smoothIn (bound (length w)) d w (beginningAt stage verify d s p k xs sc)
 
 -- a cycle of a load, OE# normal
 abbrev pub busCycle : Pins → Kind → ℕ → ℕ → Cycle
@@ -84,10 +90,22 @@ programsThen d p (suc k) a i w s cs =
 abbrev pub closingOf : Pins → ℕ → ℕ → List Cycle
 closingOf p a n = busCycle p Write a 0xFF ∷ readsThen p n a 0 []
 
--- the programs from what the block holds after an erase, or without one, and the verify
-abbrev pub programmingOf : Device → Pins → ℕ → List ℕ → List ℕ → List Cycle
-programmingOf d p a w ys = programsThen d p (length w) a 0 w (baseOf (d .part) w ys) (closingOf p a (length w))
+-- .. where the verify follows the load, and nothing where it does not
+abbrev pub closingBy : Bool → Pins → ℕ → ℕ → List Cycle
+closingBy verify p a n = if verify then closingOf p a n else []
 
--- the cycles of a good load of a block at a that holds ys
+-- the programs from what the block holds after an erase, or without one, then cs
+abbrev pub programmingThen : Device → Pins → ℕ → List ℕ → List ℕ → List Cycle → List Cycle
+programmingThen d p a w ys cs = programsThen d p (length w) a 0 w (baseOf (d .part) w ys) cs
+
+-- the cycles of a good load of a block at a that holds ys, then cs
+abbrev pub loadThen : Device → Pins → ℕ → List ℕ → List ℕ → List Cycle → List Cycle
+loadThen d p a w ys cs = openingThen p a (length w) (if risesIn w ys then eraseThen d p a (programmingThen d p a w ys cs) else programmingThen d p a w ys cs)
+
+-- .. with or without the verify after it
+abbrev pub cyclesBy : Bool → Device → Pins → ℕ → List ℕ → List ℕ → List Cycle
+cyclesBy verify d p a w ys = loadThen d p a w ys (closingBy verify p a (length w))
+
+-- .. with it
 abbrev pub cyclesOf : Device → Pins → ℕ → List ℕ → List ℕ → List Cycle
-cyclesOf d p a w ys = openingThen p a (length w) (if risesIn w ys then eraseThen d p a (programmingOf d p a w ys) else programmingOf d p a w ys)
+cyclesOf d p a w ys = cyclesBy true d p a w ys

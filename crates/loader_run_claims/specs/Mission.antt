@@ -1,6 +1,6 @@
 -- The start that the mission speaks of, and what it demands of a load from there. Assumes nothing.
 use mathlib.Core.Path.{_≡_}
-use mathlib.Core.Bool.{true, false}
+use mathlib.Core.Bool.{Bool, true, false}
 use mathlib.Core.List.{List}
 use Prim.Native.Nat.{ℕ, _≤_}
 use lib.ListN.{length, getD}
@@ -12,12 +12,13 @@ use Rattle.model_types.specs.declared.State.{State}
 use Rattle.model_types.specs.Cells.{Cells}
 use Rattle.model_types.specs.Levels.{rpLow, vppHigh, badPins, unlocked}
 use Rattle.model_types.specs.States.{improper}
+use Rattle.loader.specs.declared.Stage.the-variants.{Clearing}
 use Rattle.loader_steps.specs.Front.{noBlock}
-use Rattle.loader_run.specs.Runs.{ranOf, bytesOf}
+use Rattle.loader_run.specs.Runs.{runLeftAt}
 use Rattle.model_types.specs.Phases.{underWay}
-use Rattle.loader_run_claims.specs.Wear.{begunByLoad, heldBy, notedAll, operationsOf, formula}
+use Rattle.loader_run_claims.specs.Wear.{begunAt, heldBy, notedAll, operationsOf, formulaBy}
 use Rattle.model_history.specs.History.{Bus, World, worldOf, busesOf, worldAfter, effectsIn, begunOver, acceptsAll, uncut, erasesBegun, programsBegun}
-use Rattle.loader_run_claims.specs.Made.{cyclesOfLoad}
+use Rattle.loader_run_claims.specs.Made.{cyclesAt}
 
 -- a proper idle start at any supply that is let in: a known device with its array, a proper state with nothing under way, a block
 -- that exists, wanted and scratch of its length, RP# not low and no bad level; busy times up to 65,535, and wanted bytes
@@ -46,36 +47,38 @@ pub record Brings (d : Device) (v : World) (k : ℕ) (w : List ℕ) (bs : List B
   pub whole : uncut (effectsIn d v bs) ≡ true
   pub there : heldBy (d .part) k (worldAfter d v bs .bytes) ≡ w
 
--- a load's own cycles, none with a residue
-abbrev pub ownCycles : Device → State → Pins → ℕ → List ℕ → List ℕ → List ℕ → List Bus
-ownCycles d s p k xs w sc = busesOf (cyclesOfLoad d s p k xs w sc)
+-- a load's own cycles, with or without the verify after it, none with a residue
+abbrev pub ownCycles : Bool → Device → State → Pins → ℕ → List ℕ → List ℕ → List ℕ → List Bus
+ownCycles verify d s p k xs w sc = busesOf (cyclesAt Clearing verify d s p k xs w sc)
 
 -- bs begin at least as many erases of block k as cs, and at least as many programs in it
 pub record NoFewer (d : Device) (v : World) (k : ℕ) (cs bs : List Bus) : Type 0 where
   pub erases : erasesBegun d v k cs ≤ erasesBegun d v k bs
   pub programs : programsBegun d v k cs ≤ programsBegun d v k bs
 
--- demand 3, clause by clause in the mission's order
-pub record Demand3 (d : Device) (s : State) (p : Pins) (k : ℕ) (xs w sc : List ℕ) : Type 0 where
+-- demand 3, clause by clause in the mission's order: of a run, which has the verify after the load, and of a load alone
+pub record Demand3 (verify : Bool) (d : Device) (s : State) (p : Pins) (k : ℕ) (xs w sc : List ℕ) : Type 0 where
   -- a load ends well
-  pub well : ranOf d s p k xs w sc .end ≡ 0
+  pub well : runLeftAt Clearing verify d s p k xs w sc .ran .end ≡ 0
   -- the block holds the wanted bytes
-  pub block : heldBy (d .part) k (bytesOf d s p k xs w sc) ≡ w
+  pub block : heldBy (d .part) k (runLeftAt Clearing verify d s p k xs w sc .bytes) ≡ w
   -- every other byte is as before
-  pub others : (x : ℕ) → (blockOf (d .part) x ≡ k → ⊥) → getD (bytesOf d s p k xs w sc) x 0 ≡ getD xs x 0
+  pub others : (x : ℕ) → (blockOf (d .part) x ≡ k → ⊥) → getD (runLeftAt Clearing verify d s p k xs w sc .bytes) x 0 ≡ getD xs x 0
   -- .. so the array is the old one with the wanted bytes laid over the block
-  pub array-left : bytesOf d s p k xs w sc ≡ overlaid xs (startOf (d .part) k) w
+  pub array-left : runLeftAt Clearing verify d s p k xs w sc .bytes ≡ overlaid xs (startOf (d .part) k) w
   -- it erases once if some bit must rise, otherwise never; it programs each byte that then differs once and no other
-  pub begins : begunByLoad d s p k xs w sc ≡ operationsOf (d .part) k (startOf (d .part) k) w (heldBy (d .part) k xs)
+  pub begins : begunAt Clearing verify d s p k xs w sc ≡ operationsOf (d .part) k (startOf (d .part) k) w (heldBy (d .part) k xs)
   -- its own cycles are accepted, cut nothing and bring the block to what is wanted; they lead to what the run leaves, and begin that list
-  pub own-accepted : acceptsAll d (worldOf s xs) (ownCycles d s p k xs w sc) ≡ true
-  pub own-brings : Brings d (worldOf s xs) k w (ownCycles d s p k xs w sc)
-  pub own-leads : worldAfter d (worldOf s xs) (ownCycles d s p k xs w sc) ≡ worldOf (ranOf d s p k xs w sc .state) (bytesOf d s p k xs w sc)
-  pub own-begins : notedAll (begunOver d (worldOf s xs) (ownCycles d s p k xs w sc)) ≡ begunByLoad d s p k xs w sc
+  pub own-accepted : acceptsAll d (worldOf s xs) (ownCycles verify d s p k xs w sc) ≡ true
+  pub own-brings : Brings d (worldOf s xs) k w (ownCycles verify d s p k xs w sc)
+  pub own-leads : worldAfter d (worldOf s xs) (ownCycles verify d s p k xs w sc) ≡ worldOf (runLeftAt Clearing verify d s p k xs w sc .ran .state) (runLeftAt Clearing verify d s p k xs w sc .bytes)
+  pub own-begins : notedAll (begunOver d (worldOf s xs) (ownCycles verify d s p k xs w sc)) ≡ begunAt Clearing verify d s p k xs w sc
   -- no uncut cycles from the same start to the same block contents, refused ones among them or not, begin fewer erases of that block
   -- or fewer programs in it
-  pub least-wear : Cells (d .part) xs → (bs : List Bus) → Brings d (worldOf s xs) k w bs → NoFewer d (worldOf s xs) k (ownCycles d s p k xs w sc) bs
+  pub least-wear : Cells (d .part) xs → (bs : List Bus) → Brings d (worldOf s xs) k w bs → NoFewer d (worldOf s xs) k (ownCycles verify d s p k xs w sc) bs
   -- the reported count is the number of cycles made ..
-  pub counted : ranOf d s p k xs w sc .count ≡ length (cyclesOfLoad d s p k xs w sc)
+  pub counted : runLeftAt Clearing verify d s p k xs w sc .ran .count ≡ length (cyclesAt Clearing verify d s p k xs w sc)
   -- .. by the formula
-  pub by-formula : ranOf d s p k xs w sc .count ≡ formula d w (heldBy (d .part) k xs)
+  pub by-formula : runLeftAt Clearing verify d s p k xs w sc .ran .count ≡ formulaBy verify d w (heldBy (d .part) k xs)
+  -- and scratch ends as wanted
+  pub scratch-left : runLeftAt Clearing verify d s p k xs w sc .scratch ≡ w

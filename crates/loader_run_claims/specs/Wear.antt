@@ -1,4 +1,5 @@
 -- The operations that a load begins, by the model's own definition, and what is wanted of it. Assumes nothing.
+use mathlib.Core.Bool.{Bool, true}
 use mathlib.Core.List.{List, [], _∷_}
 use Prim.Native.Nat.{ℕ, zero, suc, _+_, _*_}
 use lib.ListN.{length, getD, take, drop, replicate}
@@ -13,11 +14,13 @@ use Rattle.model_types.specs.declared.State.{State}
 use Rattle.model_types.specs.declared.Effect.{Effect}
 use Rattle.model_types.specs.declared.Effect.the-variants.{Nothing, Program, Erase, CutProgram, CutErase}
 use Rattle.model.specs.Begun.{begunBy}
+use Rattle.loader.specs.declared.Stage.{Stage}
+use Rattle.loader.specs.declared.Stage.the-variants.{Clearing}
 use Rattle.loader_steps.specs.Outs.{cycleOf}
 use Rattle.loader.specs.Walks.{risesIn}
 use Rattle.loader_run.specs.Turns.{Config, turnOf, bound}
 use Rattle.loader.specs.Stages.{isEnded}
-use Rattle.loader_run.specs.Runs.{beginning}
+use Rattle.loader_run.specs.Runs.{beginningAt}
 
 -- an operation noted before those that follow
 abbrev pub noted : Effect → List Effect → List Effect
@@ -41,9 +44,13 @@ abbrev pub begunIn : ℕ → Device → List ℕ → Config → List Effect
 begunIn zero d w c = []
 begunIn (suc k) d w c = noted (begunTurn d w c) (begunIn k d w (turnOf d w c))
 
--- what a load of block k begins, up to its end
+-- what is begun of block k from a stage on up to the end, with or without the verify after a load
+abbrev pub begunAt : Stage → Bool → Device → State → Pins → ℕ → List ℕ → List ℕ → List ℕ → List Effect
+begunAt stage verify d s p k xs w sc = begunIn (bound (length w)) d w (beginningAt stage verify d s p k xs sc)
+
+-- .. by a run
 abbrev pub begunByLoad : Device → State → Pins → ℕ → List ℕ → List ℕ → List ℕ → List Effect
-begunByLoad d s p k xs w sc = begunIn (bound (length w)) d w (beginning d s p k xs sc)
+begunByLoad d s p k xs w sc = begunAt Clearing true d s p k xs w sc
 
 -- the programs that bring the bytes from place i on, k of them, from s to w, in a block that starts at a
 abbrev pub programsOf : ℕ → ℕ → ℕ → List ℕ → List ℕ → List Effect
@@ -77,6 +84,14 @@ programsIn part w ys = differing (length w) 0 w (baseOf part w ys)
 -- the count of a good run: 2n + 3 + e(2 + E) + p(2 + P)
 abbrev pub formula : Device → List ℕ → List ℕ → ℕ
 formula d w ys = 2 * length w + 3 + erasesOf w ys * (2 + d .erase) + programsIn (d .part) w ys * (2 + d .program)
+
+-- the count of a good load alone: n + 2 + e(2 + E) + p(2 + P)
+abbrev pub loadFormula : Device → List ℕ → List ℕ → ℕ
+loadFormula d w ys = length w + 2 + erasesOf w ys * (2 + d .erase) + programsIn (d .part) w ys * (2 + d .program)
+
+-- .. with or without the verify after it
+abbrev pub formulaBy : Bool → Device → List ℕ → List ℕ → ℕ
+formulaBy verify d w ys = if verify then formula d w ys else loadFormula d w ys
 
 -- the operations that a load of a block k at a begins, in their order
 abbrev pub operationsOf : Part → ℕ → ℕ → List ℕ → List ℕ → List Effect

@@ -1,6 +1,6 @@
 -- Start and step: their refusals exactly, what a refusal leaves, every record taken again, and the end that repeats. Assumes nothing.
 use mathlib.Core.Path.{_≡_, refl, sym, ap, _∙_, subst}
-use mathlib.Core.Bool.{true, false, not, _&&_}
+use mathlib.Core.Bool.{Bool, true, false, not, _&&_}
 use mathlib.Core.List.{List}
 use mathlib.Core.Logic.{_↔_}
 use Prim.Native.Nat.{ℕ, _+_, _-_, _≤_, _<_}
@@ -26,8 +26,8 @@ use Rattle.loader.specs.Walks.{diffFrom, risesIn}
 use Rattle.loader.specs.Moves as moves
 use Rattle.loader.specs.Moves.{movedTo, endedBy, isReady, eraseFault, programFault, onward, afterReads, afterRead, pollMore, erasePolled, programPolled, verifyMore, nextIn, nextOf}
 use Rattle.loader_steps.specs.Outs.{firstAddress}
-use Rattle.loader_steps.specs.Stores.{erasedWell, storeIn, storeOf}
-use Rattle.loader_steps.specs.Front.{barredPins, noBlock, wrongLengths, badRecord, startRows, stepRows, startNumber, stepNumber, recordAt, endAddress, turnIn, turnGiven, barredBy, isBarred, startGiven, stepGiven, scratchAfter}
+use Rattle.loader_steps.specs.Stores.{erasedWell, programmedWell, storeIn, storeOf}
+use Rattle.loader_steps.specs.Front.{barredPins, noBlock, wrongLengths, badRecord, startRows, stepRows, startNumber, stepNumber, recordAt, endAddress, turnIn, turnGiven, barredBy, isBarred, startAt, stepGiven, scratchAfter}
 
 -- the number that an answer refuses by, 0 where it is no refusal
 abbrev pub barring : Turn → ℕ
@@ -76,41 +76,41 @@ module _ (n : ℕ) (l : Loader) (w : List ℕ) (r : Loader) where
           if-ind (λ (g : Given). isBarred (g .turn) ≡ true → (g .loader ≡ r) × (eqb n 0 ≡ false)) (eqb n 0) _ _
           (λ e b. absurd (unlike (sym b ∙ free-in (l .stage) l w .0))) (λ e b. (refl, e)) (ap isBarred q)
 
-module _ (part : Part) (p : Pins) (k : ℕ) (w sc : List ℕ) where
+module _ (stage : Stage) (verify : Bool) (part : Part) (p : Pins) (k : ℕ) (w sc : List ℕ) where
   abbrev startN : ℕ
   startN = startNumber part p k (length w) (length sc)
 
   -- refused by m exactly where m's row is the first that holds
-  pub start-numbers : (m : ℕ) → (m ≡ 0 → ⊥) → (startGiven part p k w sc .turn ≡ Barred m) ↔ Foremost (startRows part p k (length w) (length sc)) m
-  unfolding startGiven startNumber
+  pub start-numbers : (m : ℕ) → (m ≡ 0 → ⊥) → (startAt stage verify part p k w sc .turn ≡ Barred m) ↔ Foremost (startRows part p k (length w) (length sc)) m
+  unfolding startAt startNumber
   start-numbers m z = (
     λ e. given-foremost (startRows part p k (length w) (length sc)) m z
-        (sym (judged-told startN (recordAt part p k Clearing) w (recordAt part p k (Ended startN))) ∙ ap barring e),
+        (sym (judged-told startN (recordAt part p k stage verify) w (recordAt part p k (Ended startN) verify)) ∙ ap barring e),
     λ f. let q : given (startRows part p k (length w) (length sc)) ≡ m = foremost-given f in
-        ap (λ (g : Given). g .turn) (judged-barred startN (recordAt part p k Clearing) w (recordAt part p k (Ended startN)) (λ e. z (sym q ∙ e))) ∙ ap Barred q,
+        ap (λ (g : Given). g .turn) (judged-barred startN (recordAt part p k stage verify) w (recordAt part p k (Ended startN) verify) (λ e. z (sym q ∙ e))) ∙ ap Barred q,
   )
 
-  pub start-accepted : (isBarred (startGiven part p k w sc .turn) ≡ false) ↔ NoRow (startRows part p k (length w) (length sc))
-  unfolding startGiven startNumber
+  pub start-accepted : (isBarred (startAt stage verify part p k w sc .turn) ≡ false) ↔ NoRow (startRows part p k (length w) (length sc))
+  unfolding startAt startNumber
   start-accepted = (
     λ e. given-no-row (startRows part p k (length w) (length sc)) refl
-        (judged-free startN (recordAt part p k Clearing) w (recordAt part p k (Ended startN)) e),
-    λ f. ap (λ (g : Given). isBarred (g .turn)) (judged-given startN (recordAt part p k Clearing) w (recordAt part p k (Ended startN)) (no-row-given f)),
+        (judged-free startN (recordAt part p k stage verify) w (recordAt part p k (Ended startN) verify) e),
+    λ f. ap (λ (g : Given). isBarred (g .turn)) (judged-given startN (recordAt part p k stage verify) w (recordAt part p k (Ended startN) verify) (no-row-given f)) ∙ free-in stage (recordAt part p k stage verify) w .0,
   )
 
   -- a refused start gives a record that has ended with the number
-  pub start-refused : (m : ℕ) → startGiven part p k w sc .turn ≡ Barred m → startGiven part p k w sc .loader ≡ recordAt part p k (Ended m)
-  unfolding startGiven
+  pub start-refused : (m : ℕ) → startAt stage verify part p k w sc .turn ≡ Barred m → startAt stage verify part p k w sc .loader ≡ recordAt part p k (Ended m) verify
+  unfolding startAt
   start-refused m e =
-      let h = judged-left startN (recordAt part p k Clearing) w (recordAt part p k (Ended startN)) m e in
-      h .1 ∙ ap (λ (n : ℕ). recordAt part p k (Ended n)) (h .0)
+      let h = judged-left startN (recordAt part p k stage verify) w (recordAt part p k (Ended startN) verify) m e in
+      h .1 ∙ ap (λ (n : ℕ). recordAt part p k (Ended n) verify) (h .0)
 
 module _ (l : Loader) (b : ℕ) (w sc : List ℕ) where
   abbrev stepN : ℕ
   stepN = stepNumber l (length w) (length sc)
 
   abbrev onN : Loader
-  onN = nextOf l b w (storeOf l b sc)
+  onN = nextOf l b w (storeOf l b w sc)
 
   pub step-numbers : (m : ℕ) → (m ≡ 0 → ⊥) → (stepGiven l b w sc .turn ≡ Barred m) ↔ Foremost (stepRows l (length w) (length sc)) m
   unfolding stepGiven stepNumber
@@ -132,12 +132,12 @@ module _ (l : Loader) (b : ℕ) (w sc : List ℕ) where
   unfolding stepGiven scratchAfter
   step-refused m e =
       let h = judged-left stepN onN w l m e in
-      (h .1, if-false (eqb stepN 0) (storeOf l b sc) sc (h .2))
+      (h .1, if-false (eqb stepN 0) (storeOf l b w sc) sc (h .2))
 
   -- what an accepted step gives and leaves
-  pub step-on : stepN ≡ 0 → (stepGiven l b w sc ≡ turnGiven onN w) × (scratchAfter l b w sc ≡ storeOf l b sc)
+  pub step-on : stepN ≡ 0 → (stepGiven l b w sc ≡ turnGiven onN w) × (scratchAfter l b w sc ≡ storeOf l b w sc)
   unfolding stepGiven scratchAfter
-  step-on e = (judged-given stepN onN w l e, if-true (eqb stepN 0) (storeOf l b sc) sc (eq-eqb stepN 0 e))
+  step-on e = (judged-given stepN onN w l e, if-true (eqb stepN 0) (storeOf l b w sc) sc (eq-eqb stepN 0 e))
 
 -- a record of the same part, block and levels; its place stays in n bytes and its polls in bounds
 pub record Kept (l : Loader) (n : ℕ) (r : Loader) : Type 0 where
@@ -167,7 +167,7 @@ module _ (l : Loader) (w : List ℕ) where
   kept-onward : (i : ℕ) (sc : List ℕ) → In (onward l i w sc)
   unfolding onward
   kept-onward i sc =
-      if-ind In (ltb (diffFrom i w sc) (length w)) _ _ (λ e. kept-at l (length w) ProgramAsking (diffFrom i w sc) 0 (λ h. ltb-true _ _ e) no-polls) (λ e. kept-first Closing)
+      if-ind In (ltb (diffFrom i w sc) (length w)) _ _ (λ e. kept-at l (length w) ProgramAsking (diffFrom i w sc) 0 (λ h. ltb-true _ _ e) no-polls) (λ e. kept-first (moves.loadedStage (l .verify)))
 
   kept-read : (sc : List ℕ) → In (afterRead l w sc)
   unfolding afterRead afterReads
@@ -223,20 +223,21 @@ unfolding firstAddress
 first-kept l b w sc = ap firstAddress (kept-next l w (l .stage) b sc .same)
 
 -- scratch keeps its length
-pub store-length : (stage : Stage) (part : Part) (place b : ℕ) (sc : List ℕ) → length (storeIn stage part place b sc) ≡ length sc
-store-length Clearing part place b sc = refl
-store-length Opening part place b sc = refl
-store-length Reading part place b sc = length-set sc place b
-store-length EraseAsking part place b sc = refl
-store-length EraseConfirming part place b sc = refl
-store-length EraseWaiting part place b sc =
+pub store-length : (stage : Stage) (part : Part) (place b : ℕ) (w sc : List ℕ) → length (storeIn stage part place b w sc) ≡ length sc
+store-length Clearing part place b w sc = refl
+store-length Opening part place b w sc = refl
+store-length Reading part place b w sc = length-set sc place b
+store-length EraseAsking part place b w sc = refl
+store-length EraseConfirming part place b w sc = refl
+store-length EraseWaiting part place b w sc =
     if-ind (λ (xs : List ℕ). length xs ≡ length sc) (erasedWell b) _ _ (λ e. length-replicate (length sc) (ones part)) (λ e. refl)
-store-length ProgramAsking part place b sc = refl
-store-length ProgramSending part place b sc = refl
-store-length ProgramWaiting part place b sc = refl
-store-length Closing part place b sc = refl
-store-length Verifying part place b sc = length-set sc place b
-store-length (Ended n) part place b sc = refl
+store-length ProgramAsking part place b w sc = refl
+store-length ProgramSending part place b w sc = refl
+store-length ProgramWaiting part place b w sc =
+    if-ind (λ (xs : List ℕ). length xs ≡ length sc) (programmedWell b) _ _ (λ e. length-set sc place (getD w place 0)) (λ e. refl)
+store-length Closing part place b w sc = refl
+store-length Verifying part place b w sc = length-set sc place b
+store-length (Ended n) part place b w sc = refl
 
 -- what is known of a record that is taken
 pub record Taken (l : Loader) (w sc : ℕ) : Type 0 where
@@ -305,47 +306,47 @@ pub step-again : (l : Loader) (b : ℕ) (w sc : List ℕ) → stepNumber l (leng
 step-again l b w sc e =
     let t = taken l (length w) (length sc) e in
     let s = step-on l b w sc e in
-    rw (s .0, s .1, store-length (l .stage) (l .part) (l .place) b sc)
-    (kept-taken l (nextOf l b w (storeOf l b sc)) (length w) (length sc) t (kept-next l w (l .stage) b (storeOf l b sc)))
+    rw (s .0, s .1, store-length (l .stage) (l .part) (l .place) b w sc)
+    (kept-taken l (nextOf l b w (storeOf l b w sc)) (length w) (length sc) t (kept-next l w (l .stage) b (storeOf l b w sc)))
 
 -- and so is the record of an accepted start
-pub start-gives : (part : Part) (p : Pins) (k : ℕ) (w sc : List ℕ) → startNumber part p k (length w) (length sc) ≡ 0
-    → startGiven part p k w sc ≡ turnGiven (recordAt part p k Clearing) w
-unfolding startGiven
-start-gives part p k w sc e =
-    judged-given (startNumber part p k (length w) (length sc)) (recordAt part p k Clearing) w (recordAt part p k (Ended (startNumber part p k (length w) (length sc)))) e
+pub start-gives : (stage : Stage) (verify : Bool) (part : Part) (p : Pins) (k : ℕ) (w sc : List ℕ) → startNumber part p k (length w) (length sc) ≡ 0
+    → startAt stage verify part p k w sc ≡ turnGiven (recordAt part p k stage verify) w
+unfolding startAt
+start-gives stage verify part p k w sc e =
+    judged-given (startNumber part p k (length w) (length sc)) (recordAt part p k stage verify) w (recordAt part p k (Ended (startNumber part p k (length w) (length sc))) verify) e
 
 -- a block that there is has a byte
 pub some-block : (part : Part) (k : ℕ) → noBlock part k ≡ false → 0 < lengthOf part k
 unfolding noBlock
 some-block part k e = let z : lengthOf part k ≡ 0 → ⊥ = eqb-false _ _ e in omega arith
 
-first-taken : (part : Part) (p : Pins) (k w sc : ℕ) → startNumber part p k w sc ≡ 0 → stepNumber (recordAt part p k Clearing) w sc ≡ 0
+first-taken : (stage : Stage) (verify : Bool) (part : Part) (p : Pins) (k w sc : ℕ) → startNumber part p k w sc ≡ 0 → stepNumber (recordAt part p k stage verify) w sc ≡ 0
 unfolding startNumber
-first-taken part p k w sc e =
+first-taken stage verify part p k w sc e =
     let r = given-no-row (startRows part p k w sc) refl e in
     let r2 = no-tail r in
     let r3 = no-tail r2 in
     let r4 = no-tail r3 in
     let n : w ≡ lengthOf part k = wanted-length part k w sc (no-head r4) in
     let h : 0 < w = subst (λ (j : ℕ). 0 < j) (sym n) (some-block part k (no-head r3)) in
-    taken-back (recordAt part p k Clearing) w sc
+    taken-back (recordAt part p k stage verify) w sc
     (record { known = no-head r; levels = no-head r2; block = no-head r3; lengths = no-head r4; wanted = n; place = h; polls = omega arith })
 
-pub start-again : (part : Part) (p : Pins) (k : ℕ) (w sc : List ℕ) → startNumber part p k (length w) (length sc) ≡ 0
-    → stepNumber (startGiven part p k w sc .loader) (length w) (length sc) ≡ 0
-start-again part p k w sc e =
-    subst (λ (g : Given). stepNumber (g .loader) (length w) (length sc) ≡ 0) (sym (start-gives part p k w sc e)) (first-taken part p k (length w) (length sc) e)
+pub start-again : (stage : Stage) (verify : Bool) (part : Part) (p : Pins) (k : ℕ) (w sc : List ℕ) → startNumber part p k (length w) (length sc) ≡ 0
+    → stepNumber (startAt stage verify part p k w sc .loader) (length w) (length sc) ≡ 0
+start-again stage verify part p k w sc e =
+    subst (λ (g : Given). stepNumber (g .loader) (length w) (length sc) ≡ 0) (sym (start-gives stage verify part p k w sc e)) (first-taken stage verify part p k (length w) (length sc) e)
 
 -- a record that has ended gives its end again, with the same record and scratch
 pub end-again : (l : Loader) (b n : ℕ) (w sc : List ℕ) → stepNumber l (length w) (length sc) ≡ 0 → l .stage ≡ Ended n
     → (stepGiven l b w sc ≡ record { turn = Over n (endAddress l n); loader = l }) × (scratchAfter l b w sc ≡ sc)
 end-again l b n w sc e q =
     let s = step-on l b w sc e in
-    let stored : storeOf l b sc ≡ sc = ap (λ (st : Stage). storeIn st (l .part) (l .place) b sc) q in
-    let stays : nextOf l b w (storeOf l b sc) ≡ l = ap (λ (st : Stage). nextIn st l b w (storeOf l b sc)) q in
+    let stored : storeOf l b w sc ≡ sc = ap (λ (st : Stage). storeIn st (l .part) (l .place) b w sc) q in
+    let stays : nextOf l b w (storeOf l b w sc) ≡ l = ap (λ (st : Stage). nextIn st l b w (storeOf l b w sc)) q in
     let tells : turnIn (l .stage) l w ≡ Over n (endAddress l n) = ap (λ (st : Stage). turnIn st l w) q in
-    let same : turnGiven (nextOf l b w (storeOf l b sc)) w ≡ record { turn = Over n (endAddress l n); loader = l } =
+    let same : turnGiven (nextOf l b w (storeOf l b w sc)) w ≡ record { turn = Over n (endAddress l n); loader = l } =
     ap (λ (r : Loader). turnGiven r w) stays ∙ ap (λ (t : Turn). given-as t l) tells in
     (s .0 ∙ same, s .1 ∙ stored)
   where
@@ -353,7 +354,7 @@ end-again l b n w sc e q =
     given-as t r = record { turn = t; loader = r }
 
 -- only a record that has ended gives an end
-over-stage : (stage : Stage) (l : Loader) (w : List ℕ) (n a : ℕ) → turnIn stage l w ≡ Over n a → (stage ≡ Ended n) × (endAddress l n ≡ a)
+pub over-stage : (stage : Stage) (l : Loader) (w : List ℕ) (n a : ℕ) → turnIn stage l w ≡ Over n a → (stage ≡ Ended n) × (endAddress l n ≡ a)
 over-stage Clearing l w n a e = absurd (let z : _≡_ {A = ℕ} 0 1 = cc in omega arith)
 over-stage Opening l w n a e = absurd (let z : _≡_ {A = ℕ} 0 1 = cc in omega arith)
 over-stage Reading l w n a e = absurd (let z : _≡_ {A = ℕ} 0 1 = cc in omega arith)

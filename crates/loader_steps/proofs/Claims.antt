@@ -1,6 +1,6 @@
 -- What is claimed of the loader, in one place. Assumes nothing.
 use mathlib.Core.Path.{_≡_}
-use mathlib.Core.Bool.{false}
+use mathlib.Core.Bool.{Bool, true, false}
 use mathlib.Core.List.{List}
 use mathlib.Core.Logic.{_↔_}
 use Prim.Native.Nat.{ℕ}
@@ -8,19 +8,25 @@ use lib.ListN.{length}
 use Rattle.common.specs.Numbers.{Foremost, NoRow}
 use Rattle.device.specs.declared.Part.{Part}
 use Rattle.model_types.specs.declared.Pins.{Pins}
+use Rattle.loader.specs.declared.Stage.{Stage}
 use Rattle.loader.specs.declared.Stage.the-variants.{Ended}
 use Rattle.loader.specs.declared.Loader.{Loader}
+use Rattle.loader.specs.Stages.{isEnded}
 use Rattle.loader.specs.declared.Turn.the-variants.{Over, Barred}
-use Rattle.loader_steps.specs.Front.{startRows, stepRows, startNumber, stepNumber, recordAt, endAddress, isBarred, startGiven, stepGiven, scratchAfter}
+use Rattle.loader_steps.specs.Front.{startRows, stepRows, startNumber, stepNumber, recordAt, endAddress, isBarred, startAt, stepGiven, scratchAfter}
+use Rattle.loader_steps.specs.Ends.{endsLoad, endsVerify, ofLoad, ofVerify, withVerify, carriedOn}
 use Rattle.loader_steps.proofs.Again as again
+use Rattle.loader_steps.proofs.Ends as ends
+use Rattle.loader_steps.proofs.Follows as follows
 
--- The numbers: a start is refused by m exactly where m's own condition holds and that of no number before it does ..
-pub start-refused-exactly : (part : Part) (p : Pins) (k : ℕ) (w sc : List ℕ) (m : ℕ) → (m ≡ 0 → ⊥)
-    → (startGiven part p k w sc .turn ≡ Barred m) ↔ Foremost (startRows part p k (length w) (length sc)) m
+-- The numbers, for the three starts alike (a load with the verify after it, a load alone, a verify alone), and for one at any other
+-- stage: it is refused by m exactly where m's own condition holds and that of no number before it does ..
+pub start-refused-exactly : (stage : Stage) (verify : Bool) (part : Part) (p : Pins) (k : ℕ) (w sc : List ℕ) (m : ℕ) → (m ≡ 0 → ⊥)
+    → (startAt stage verify part p k w sc .turn ≡ Barred m) ↔ Foremost (startRows part p k (length w) (length sc)) m
 start-refused-exactly = again.start-numbers
 
-pub start-accepted-exactly : (part : Part) (p : Pins) (k : ℕ) (w sc : List ℕ)
-    → (isBarred (startGiven part p k w sc .turn) ≡ false) ↔ NoRow (startRows part p k (length w) (length sc))
+pub start-accepted-exactly : (stage : Stage) (verify : Bool) (part : Part) (p : Pins) (k : ℕ) (w sc : List ℕ)
+    → (isBarred (startAt stage verify part p k w sc .turn) ≡ false) ↔ NoRow (startRows part p k (length w) (length sc))
 start-accepted-exactly = again.start-accepted
 
 -- .. and so is a step.
@@ -35,13 +41,13 @@ step-accepted-exactly = again.step-accepted
 pub step-refused-leaves : (l : Loader) (b : ℕ) (w sc : List ℕ) (m : ℕ) → stepGiven l b w sc .turn ≡ Barred m → (stepGiven l b w sc .loader ≡ l) × (scratchAfter l b w sc ≡ sc)
 step-refused-leaves = again.step-refused
 
-pub start-refused-gives : (part : Part) (p : Pins) (k : ℕ) (w sc : List ℕ) (m : ℕ) → startGiven part p k w sc .turn ≡ Barred m
-    → startGiven part p k w sc .loader ≡ recordAt part p k (Ended m)
+pub start-refused-gives : (stage : Stage) (verify : Bool) (part : Part) (p : Pins) (k : ℕ) (w sc : List ℕ) (m : ℕ) → startAt stage verify part p k w sc .turn ≡ Barred m
+    → startAt stage verify part p k w sc .loader ≡ recordAt part p k (Ended m) verify
 start-refused-gives = again.start-refused
 
 -- Every record that an accepted start or step gives is taken again, with the scratch that is left; after an end too.
-pub start-taken-again : (part : Part) (p : Pins) (k : ℕ) (w sc : List ℕ) → startNumber part p k (length w) (length sc) ≡ 0
-    → stepNumber (startGiven part p k w sc .loader) (length w) (length sc) ≡ 0
+pub start-taken-again : (stage : Stage) (verify : Bool) (part : Part) (p : Pins) (k : ℕ) (w sc : List ℕ) → startNumber part p k (length w) (length sc) ≡ 0
+    → stepNumber (startAt stage verify part p k w sc .loader) (length w) (length sc) ≡ 0
 start-taken-again = again.start-again
 
 pub step-taken-again : (l : Loader) (b : ℕ) (w sc : List ℕ) → stepNumber l (length w) (length sc) ≡ 0
@@ -57,3 +63,26 @@ pub over-repeats : (l : Loader) (b n a : ℕ) (w sc : List ℕ) → stepNumber l
     → (stepGiven (stepGiven l b w sc .loader) b′ w (scratchAfter l b w sc) ≡ stepGiven l b w sc)
     × (scratchAfter (stepGiven l b w sc .loader) b′ w (scratchAfter l b w sc) ≡ scratchAfter l b w sc)
 over-repeats = again.over-again
+
+-- 25 comes from a verify only, 20 to 24 from a load only, whatever bytes are handed on. A load alone keeps to its own stages and has no
+-- verify after it; it ends well or by 20 to 24.
+pub load-steps : (l : Loader) (b : ℕ) (w sc : List ℕ) → l .verify ≡ false → ofLoad (l .stage) ≡ true
+    → (stepGiven l b w sc .loader .verify ≡ false) × (ofLoad (stepGiven l b w sc .loader .stage) ≡ true)
+load-steps = ends.load-steps
+
+pub load-over : (l : Loader) (b : ℕ) (w sc : List ℕ) (n a : ℕ) → l .verify ≡ false → ofLoad (l .stage) ≡ true → stepGiven l b w sc .turn ≡ Over n a → endsLoad n ≡ true
+load-over = ends.load-over
+
+-- A verify keeps to its own stages and ends well or by 25.
+pub verify-steps : (l : Loader) (b : ℕ) (w sc : List ℕ) → ofVerify (l .stage) ≡ true → ofVerify (stepGiven l b w sc .loader .stage) ≡ true
+verify-steps = ends.verify-steps
+
+pub verify-over : (l : Loader) (b : ℕ) (w sc : List ℕ) (n a : ℕ) → ofVerify (l .stage) ≡ true → stepGiven l b w sc .turn ≡ Over n a → endsVerify n ≡ true
+verify-over = ends.verify-over
+
+-- A run is its load and then the verify, whatever bytes a host hands on: as long as the load goes on, a step gives the record and leaves
+-- the scratch that the load alone would, and where the load alone ends well it gives the record that the verify alone starts from.
+pub load-follows : (l : Loader) (b : ℕ) (w sc : List ℕ) → stepNumber l (length w) (length sc) ≡ 0 → ofLoad (l .stage) ≡ true → isEnded (l .stage) ≡ false
+    → (stepGiven (withVerify true l) b w sc .loader ≡ carriedOn (stepGiven (withVerify false l) b w sc .loader))
+    × (scratchAfter (withVerify true l) b w sc ≡ scratchAfter (withVerify false l) b w sc)
+load-follows = follows.load-follows

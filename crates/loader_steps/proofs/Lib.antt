@@ -1,4 +1,6 @@
 pub mod Small
 pub mod Again
+pub mod Ends
+pub mod Follows
 pub mod Claims
 pub mod Unique

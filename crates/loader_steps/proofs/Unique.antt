@@ -10,13 +10,12 @@ use Rattle.device.specs.declared.Part.{Part}
 use Rattle.model_types.specs.declared.Pins.{Pins}
 use Rattle.model_types.specs.declared.Cycle.{Cycle}
 use Rattle.loader.specs.declared.Stage.{Stage}
-use Rattle.loader.specs.declared.Stage.the-variants.{EraseWaiting}
 use Rattle.loader.specs.declared.Loader.{Loader}
 use Rattle.loader.specs.declared.Given.{Given}
 use Rattle.loader.specs.Moves.{nextOf}
 use Rattle.loader_steps.specs.Outs.{firstAddress, cycleAtStage, cycleOf}
-use Rattle.loader_steps.specs.Stores.{storeIn, storeOf}
-use Rattle.loader_steps.specs.Front.{barredPins, noBlock, wrongLengths, setupNumber, recordAt, endAddress, startGiven, stepGiven, scratchAfter}
+use Rattle.loader_steps.specs.Stores.{eraseStored, programStored, storeOf}
+use Rattle.loader_steps.specs.Front.{barredPins, noBlock, wrongLengths, setupNumber, recordAt, endAddress, startGiven, loadStartGiven, verifyStartGiven, stepGiven, scratchAfter}
 
 pub barred-pins-unique : (part : Part) (p : Pins) → Unique (λ (r : Bool). r ≡ barredPins part p)
 barred-pins-unique part p = only (barredPins part p)
@@ -30,8 +29,8 @@ wrong-lengths-unique part k w sc = only (wrongLengths part k w sc)
 pub setup-number-unique : (part : Part) (p : Pins) (k w sc : ℕ) → Unique (λ (r : ℕ). r ≡ setupNumber part p k w sc)
 setup-number-unique part p k w sc = only (setupNumber part p k w sc)
 
-pub record-at-unique : (part : Part) (p : Pins) (k : ℕ) (stage : Stage) → Unique (λ (r : Loader). r ≡ recordAt part p k stage)
-record-at-unique part p k stage = only (recordAt part p k stage)
+pub record-at-unique : (part : Part) (p : Pins) (k : ℕ) (stage : Stage) (verify : Bool) → Unique (λ (r : Loader). r ≡ recordAt part p k stage verify)
+record-at-unique part p k stage verify = only (recordAt part p k stage verify)
 
 pub end-address-unique : (l : Loader) (n : ℕ) → Unique (λ (r : ℕ). r ≡ endAddress l n)
 end-address-unique l n = only (endAddress l n)
@@ -39,23 +38,32 @@ end-address-unique l n = only (endAddress l n)
 pub start-unique : (part : Part) (p : Pins) (k : ℕ) (w sc : List ℕ) → Unique (λ (r : Given). r ≡ startGiven part p k w sc)
 start-unique part p k w sc = only (startGiven part p k w sc)
 
+pub start-load-unique : (part : Part) (p : Pins) (k : ℕ) (w sc : List ℕ) → Unique (λ (r : Given). r ≡ loadStartGiven part p k w sc)
+start-load-unique part p k w sc = only (loadStartGiven part p k w sc)
+
+pub start-verify-unique : (part : Part) (p : Pins) (k : ℕ) (w sc : List ℕ) → Unique (λ (r : Given). r ≡ verifyStartGiven part p k w sc)
+start-verify-unique part p k w sc = only (verifyStartGiven part p k w sc)
+
 pub step-unique : (l : Loader) (b : ℕ) (w sc : List ℕ) → Unique (λ (r : Given). r ≡ stepGiven l b w sc)
 step-unique l b w sc = only (stepGiven l b w sc)
 
 pub step-scratch-unique : (l : Loader) (b : ℕ) (w sc : List ℕ) → Unique (λ (left : List ℕ). left ≡ scratchAfter l b w sc)
 step-scratch-unique l b w sc = only (scratchAfter l b w sc)
 
-pub advance-unique : (l : Loader) (b : ℕ) (w sc : List ℕ) → Unique (λ (r : Loader). r ≡ nextOf l b w (storeOf l b sc))
-advance-unique l b w sc = only (nextOf l b w (storeOf l b sc))
+pub advance-unique : (l : Loader) (b : ℕ) (w sc : List ℕ) → Unique (λ (r : Loader). r ≡ nextOf l b w (storeOf l b w sc))
+advance-unique l b w sc = only (nextOf l b w (storeOf l b w sc))
 
-pub advance-scratch-unique : (l : Loader) (b : ℕ) (sc : List ℕ) → Unique (λ (left : List ℕ). left ≡ storeOf l b sc)
-advance-scratch-unique l b sc = only (storeOf l b sc)
+pub advance-scratch-unique : (l : Loader) (b : ℕ) (w sc : List ℕ) → Unique (λ (left : List ℕ). left ≡ storeOf l b w sc)
+advance-scratch-unique l b w sc = only (storeOf l b w sc)
 
 pub put-unique : (sc : List ℕ) (place b : ℕ) → Unique (λ (left : List ℕ). left ≡ set sc place b)
 put-unique sc place b = only (set sc place b)
 
-pub store-erase-unique : (part : Part) (b : ℕ) (sc : List ℕ) → Unique (λ (left : List ℕ). left ≡ storeIn EraseWaiting part 0 b sc)
-store-erase-unique part b sc = only (storeIn EraseWaiting part 0 b sc)
+pub store-erase-unique : (part : Part) (b : ℕ) (sc : List ℕ) → Unique (λ (left : List ℕ). left ≡ eraseStored part b sc)
+store-erase-unique part b sc = only (eraseStored part b sc)
+
+pub store-program-unique : (place b : ℕ) (w sc : List ℕ) → Unique (λ (left : List ℕ). left ≡ programStored place b w sc)
+store-program-unique place b w sc = only (programStored place b w sc)
 
 pub first-unique : (l : Loader) → Unique (λ (r : ℕ). r ≡ firstAddress l)
 first-unique l = only (firstAddress l)

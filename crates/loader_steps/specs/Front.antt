@@ -11,7 +11,7 @@ use Rattle.device.specs.Parts.{unknownPart, lengthOf}
 use Rattle.model_types.specs.declared.Pins.{Pins}
 use Rattle.model_types.specs.Levels.{rpLow, badPins}
 use Rattle.loader.specs.declared.Stage.{Stage}
-use Rattle.loader.specs.declared.Stage.the-variants.{Clearing, Ended}
+use Rattle.loader.specs.declared.Stage.the-variants.{Clearing, Closing, Ended}
 use Rattle.loader.specs.declared.Loader.{Loader}
 use Rattle.loader.specs.declared.Turn.{Turn}
 use Rattle.loader.specs.declared.Turn.the-variants.{Out, Over, Barred}
@@ -58,9 +58,9 @@ stepRows l w sc = row 1 (unknownPart (l .part)) ∷ row 3 (badRecord l) ∷ setu
 unfoldable pub stepNumber : Loader → ℕ → ℕ → ℕ
 stepNumber l w sc = given (stepRows l w sc)
 
--- a record at its beginning
-abbrev pub recordAt : Part → Pins → ℕ → Stage → Loader
-recordAt part p k stage = record { part = part; pins = p; block = k; stage = stage; place = 0; polls = 0 }
+-- a record at its beginning, with its first stage and whether the verify follows the load
+abbrev pub recordAt : Part → Pins → ℕ → Stage → Bool → Loader
+recordAt part p k stage verify = record { part = part; pins = p; block = k; stage = stage; place = 0; polls = 0; verify = verify }
 
 -- the address that an end gives: the byte's for 25, else 0
 unfoldable pub endAddress : Loader → ℕ → ℕ
@@ -83,17 +83,27 @@ isBarred (Out c) = false
 isBarred (Over n a) = false
 isBarred (Barred m) = true
 
--- the start: a refused one gives a record that has ended with the number
-unfoldable pub startGiven : Part → Pins → ℕ → List ℕ → List ℕ → Given
-startGiven part p k w sc =
-    if eqb (startNumber part p k (length w) (length sc)) 0 then turnGiven (recordAt part p k Clearing) w
-    else barredBy (startNumber part p k (length w) (length sc)) (recordAt part p k (Ended (startNumber part p k (length w) (length sc))))
+-- a start at a stage: a refused one gives a record that has ended with the number
+unfoldable pub startAt : Stage → Bool → Part → Pins → ℕ → List ℕ → List ℕ → Given
+startAt stage verify part p k w sc =
+    if eqb (startNumber part p k (length w) (length sc)) 0 then turnGiven (recordAt part p k stage verify) w
+    else barredBy (startNumber part p k (length w) (length sc)) (recordAt part p k (Ended (startNumber part p k (length w) (length sc))) verify)
+
+-- the three starts: of a load with the verify after it, of a load alone, of a verify alone
+abbrev pub startGiven : Part → Pins → ℕ → List ℕ → List ℕ → Given
+startGiven part p k w sc = startAt Clearing true part p k w sc
+
+abbrev pub loadStartGiven : Part → Pins → ℕ → List ℕ → List ℕ → Given
+loadStartGiven part p k w sc = startAt Clearing false part p k w sc
+
+abbrev pub verifyStartGiven : Part → Pins → ℕ → List ℕ → List ℕ → Given
+verifyStartGiven part p k w sc = startAt Closing true part p k w sc
 
 -- a step: what is given ..
 unfoldable pub stepGiven : Loader → ℕ → List ℕ → List ℕ → Given
 stepGiven l b w sc =
-    if eqb (stepNumber l (length w) (length sc)) 0 then turnGiven (nextOf l b w (storeOf l b sc)) w else barredBy (stepNumber l (length w) (length sc)) l
+    if eqb (stepNumber l (length w) (length sc)) 0 then turnGiven (nextOf l b w (storeOf l b w sc)) w else barredBy (stepNumber l (length w) (length sc)) l
 
 -- .. and what is left in scratch
 unfoldable pub scratchAfter : Loader → ℕ → List ℕ → List ℕ → List ℕ
-scratchAfter l b w sc = if eqb (stepNumber l (length w) (length sc)) 0 then storeOf l b sc else sc
+scratchAfter l b w sc = if eqb (stepNumber l (length w) (length sc)) 0 then storeOf l b w sc else sc

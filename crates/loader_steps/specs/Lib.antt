@@ -1,3 +1,4 @@
 pub mod Outs
 pub mod Stores
 pub mod Front
+pub mod Ends

@@ -13,7 +13,7 @@ use model_types::levels::bad_pins;
 use model_types::levels::rp_low;
 ghost use mathlib.Core.Path.{_≡_};
 ghost use lib.ListN.{length};
-ghost use Rattle.loader_steps.specs.Front.{barredPins, noBlock, wrongLengths, setupNumber, badRecord, startNumber, stepNumber, recordAt, endAddress, turnIn, turnGiven, barredBy, startGiven, stepGiven, scratchAfter};
+ghost use Rattle.loader_steps.specs.Front.{barredPins, noBlock, wrongLengths, setupNumber, badRecord, startNumber, stepNumber, recordAt, endAddress, turnIn, turnGiven, barredBy, startAt, startGiven, loadStartGiven, verifyStartGiven, stepGiven, scratchAfter};
 
 // Refusal 4 of a loader.
 pub fn barred_pins(part: Part, p: Pins) -> bool
@@ -84,8 +84,8 @@ fn step_number(l: Loader, wanted: usize, scratch: usize) -> u8
     setup_number(part, p, l.block, wanted, scratch)
 }
 
-pub fn record_at(part: Part, p: Pins, block: u8, stage: Stage) -> Loader
-    ensures { λ r. ⌜ r ≡ recordAt part p block stage ⌝ }
+pub fn record_at(part: Part, p: Pins, block: u8, stage: Stage, verify: bool) -> Loader
+    ensures { λ r. ⌜ r ≡ recordAt part p block stage verify ⌝ }
 {
     Loader {
         part: part,
@@ -94,6 +94,7 @@ pub fn record_at(part: Part, p: Pins, block: u8, stage: Stage) -> Loader
         stage: stage,
         place: 0,
         polls: 0,
+        verify: verify,
     }
 }
 
@@ -137,15 +138,44 @@ fn barred_by(n: u8, l: Loader) -> Given
     }
 }
 
-// The first cycle of a load.
-pub fn start(part: Part, p: Pins, block: u8, wanted: &[u8], scratch: &[u8]) -> Given
-    ensures { λ r. ⌜ r ≡ startGiven part p block (now (wanted .entry)) (now (scratch .entry)) ⌝ }
+// The first cycle from a stage on.
+fn start_at(
+    stage: Stage,
+    verify: bool,
+    part: Part,
+    p: Pins,
+    block: u8,
+    wanted: &[u8],
+    scratch: &[u8],
+) -> Given
+    ensures { λ r. ⌜ r ≡ startAt stage verify part p block (now (wanted .entry)) (now (scratch .entry)) ⌝ }
 {
     let n = start_number(part, p, block, wanted.len(), scratch.len());
     if n == 0 {
-        return given_by(record_at(part, p, block, Stage::Clearing), wanted);
+        return given_by(record_at(part, p, block, stage, verify), wanted);
     }
-    barred_by(n, record_at(part, p, block, Stage::Ended(n)))
+    barred_by(n, record_at(part, p, block, Stage::Ended(n), verify))
+}
+
+// The first cycle of a load with the verify after it.
+pub fn start(part: Part, p: Pins, block: u8, wanted: &[u8], scratch: &[u8]) -> Given
+    ensures { λ r. ⌜ r ≡ startGiven part p block (now (wanted .entry)) (now (scratch .entry)) ⌝ }
+{
+    start_at(Stage::Clearing, true, part, p, block, wanted, scratch)
+}
+
+// The first cycle of a load alone.
+pub fn start_load(part: Part, p: Pins, block: u8, wanted: &[u8], scratch: &[u8]) -> Given
+    ensures { λ r. ⌜ r ≡ loadStartGiven part p block (now (wanted .entry)) (now (scratch .entry)) ⌝ }
+{
+    start_at(Stage::Clearing, false, part, p, block, wanted, scratch)
+}
+
+// The first cycle of a verify alone.
+pub fn start_verify(part: Part, p: Pins, block: u8, wanted: &[u8], scratch: &[u8]) -> Given
+    ensures { λ r. ⌜ r ≡ verifyStartGiven part p block (now (wanted .entry)) (now (scratch .entry)) ⌝ }
+{
+    start_at(Stage::Closing, true, part, p, block, wanted, scratch)
 }
 
 // The byte read by the cycle that was out goes in, the next cycle or the end comes out.

@@ -5,12 +5,12 @@ use loader::Stage;
 use loader::moves::erase_fault;
 use loader::moves::is_ready;
 use loader::moves::next;
+use loader::moves::program_fault;
 use model_types::blank::ones;
 ghost use mathlib.Core.Path.{_≡_};
 ghost use lib.ListN.{set};
-ghost use Rattle.loader.specs.declared.Stage.the-variants.{EraseWaiting};
 ghost use Rattle.loader.specs.Moves.{nextOf};
-ghost use Rattle.loader_steps.specs.Stores.{erasedWell, storeIn, storeOf};
+ghost use Rattle.loader_steps.specs.Stores.{erasedWell, eraseStored, programmedWell, programStored, storeIn, storeOf};
 
 // The byte at a place becomes b; nothing past the end.
 pub fn put(s: &mut [u8], at: usize, b: u8)
@@ -29,7 +29,7 @@ fn erased_well(b: u8) -> bool
 
 // An erase that ended well fills scratch with ones.
 pub fn store_erase(part: Part, b: u8, scratch: &mut [u8])
-    ensures { λ _. ⌜ now (scratch .exit) ≡ storeIn EraseWaiting part 0 b (now (scratch .entry)) ⌝ }
+    ensures { λ _. ⌜ now (scratch .exit) ≡ eraseStored part b (now (scratch .entry)) ⌝ }
 {
     if erased_well(b) {
         let blank = ones(part);
@@ -37,9 +37,25 @@ pub fn store_erase(part: Part, b: u8, scratch: &mut [u8])
     }
 }
 
+fn programmed_well(b: u8) -> bool
+    ensures { λ r. ⌜ r ≡ programmedWell b ⌝ }
+{
+    is_ready(b) & (program_fault(b) == 0)
+}
+
+// A program that ended well puts its byte into scratch.
+pub fn store_program(place: usize, b: u8, wanted: &[u8], scratch: &mut [u8])
+    ensures { λ _. ⌜ now (scratch .exit) ≡ programStored place b (now (wanted .entry)) (now (scratch .entry)) ⌝ }
+{
+    if programmed_well(b) {
+        let byte = common::nth(wanted, place);
+        put(scratch, place, byte)
+    }
+}
+
 // What the byte does to scratch.
-fn store(stage: Stage, part: Part, place: usize, b: u8, scratch: &mut [u8])
-    ensures { λ _. ⌜ now (scratch .exit) ≡ storeIn stage part place b (now (scratch .entry)) ⌝ }
+fn store(stage: Stage, part: Part, place: usize, b: u8, wanted: &[u8], scratch: &mut [u8])
+    ensures { λ _. ⌜ now (scratch .exit) ≡ storeIn stage part place b (now (wanted .entry)) (now (scratch .entry)) ⌝ }
 {
     match stage {
         Stage::Clearing => {}
@@ -50,7 +66,7 @@ fn store(stage: Stage, part: Part, place: usize, b: u8, scratch: &mut [u8])
         Stage::EraseWaiting => store_erase(part, b, scratch),
         Stage::ProgramAsking => {}
         Stage::ProgramSending => {}
-        Stage::ProgramWaiting => {}
+        Stage::ProgramWaiting => store_program(place, b, wanted, scratch),
         Stage::Closing => {}
         Stage::Verifying => put(scratch, place, b),
         Stage::Ended(_) => {}
@@ -59,11 +75,11 @@ fn store(stage: Stage, part: Part, place: usize, b: u8, scratch: &mut [u8])
 
 // A byte taken: scratch first, then the record, which reads the new scratch.
 pub fn advance(l: Loader, b: u8, wanted: &[u8], scratch: &mut [u8]) -> Loader
-    ensures { λ r. ⌜ r ≡ nextOf l b (now (wanted .entry)) (storeOf l b (now (scratch .entry))) ⌝ }
-    ensures { λ _. ⌜ now (scratch .exit) ≡ storeOf l b (now (scratch .entry)) ⌝ }
+    ensures { λ r. ⌜ r ≡ nextOf l b (now (wanted .entry)) (storeOf l b (now (wanted .entry)) (now (scratch .entry))) ⌝ }
+    ensures { λ _. ⌜ now (scratch .exit) ≡ storeOf l b (now (wanted .entry)) (now (scratch .entry)) ⌝ }
 {
     let stage = l.stage;
     let part = l.part;
-    store(stage, part, l.place, b, scratch);
+    store(stage, part, l.place, b, wanted, scratch);
     next(stage, l, b, wanted, scratch)
 }

@@ -1,5 +1,5 @@
-// Loads from a file: a case a line of standard input, an answer a line of standard output. A case is a name of 24 bytes and
-// 42 numbers of six digits; tests/vectors_load.py says what they mean and works out the answers.
+// Loads and verifies from a file: a case a line of standard input, an answer a line of standard output. A case is a name of 24 bytes and
+// 43 numbers of six digits; tests/vectors_load.py says what they mean and works out the answers.
 use device::Device;
 use device::Part;
 use loader_run::Ran;
@@ -120,7 +120,7 @@ fn state_of(case: &[u8]) -> State {
     }
 }
 
-// The load.
+// The load, or the verify where the case says so.
 fn loaded(
     case: &[u8],
     array: &mut [u8],
@@ -133,6 +133,19 @@ fn loaded(
     let pins = pins_of(case);
     let block = byte(case, 21);
     let asked = byte(case, 15);
+    if byte(case, 42) == 1 {
+        return loader_from_file::verify_from_file(
+            device,
+            state,
+            pins,
+            block,
+            array,
+            wanted,
+            scratch,
+            file,
+            asked,
+        );
+    }
     loader_from_file::load(
         device,
         state,
@@ -249,11 +262,11 @@ fn one(case: &[u8]) {
 
 // All cases of a text.
 fn run_all(text: &[u8]) {
-    let n = text.len() / 318;
+    let n = text.len() / 325;
     let mut i = 0;
     while i < n {
-        let from = 318 * i;
-        let to = from + 318;
+        let from = 325 * i;
+        let to = from + 325;
         one(&text[from..to]);
         i += 1;
     }

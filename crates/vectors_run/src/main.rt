@@ -1,5 +1,5 @@
 // Runs the loads that it reads, whole against the bench model or stepped by hand, and prints a line for each. The rows and the
-// lines that they must print come from tests/run_vectors.py, which has a loader of its own and says what a row holds.
+// lines that they must print come from tests/vectors_run.py, which has a loader of its own and says what a row holds.
 
 use device::Device;
 use device::Part;
@@ -69,7 +69,7 @@ fn bare() -> Bench {
     let state = model::fresh();
     let part = Part { number: 0 };
     let pins = Pins { rp: 0, vpp: 0 };
-    let loader = loader_steps::front::record_at(part, pins, 0, Stage::Clearing);
+    let loader = loader_steps::front::record_at(part, pins, 0, Stage::Clearing, true);
     Bench {
         setup: Setup {
             device: Device {
@@ -190,10 +190,10 @@ fn print_state(s: State) {
     print_text(&text);
 }
 
-// A whole run: its end, count and address, the state, and digests of array and scratch.
-fn print_run(x: Ran, array: u64, scratch: u64) {
+// A whole run, or a load or a verify alone: its end, count and address, the state, and digests of array and scratch.
+fn print_run(op: u8, x: Ran, array: u64, scratch: u64) {
     let state = x.state;
-    print_number(b'R', x.end);
+    print_number(op, x.end);
     print_long(x.count);
     print_address(x.address);
     print_state(state);
@@ -231,14 +231,42 @@ fn print_turn(turn: Turn) {
     }
 }
 
-// A whole run on what is lent.
-fn ran(setup: Setup, before: State, array: &mut [u8], wanted: &[u8], scratch: &mut [u8]) -> Ran {
+// A whole run, a load alone or a verify alone.
+fn ran_by(
+    op: u8,
+    device: Device,
+    before: State,
+    pins: Pins,
+    block: u8,
+    array: &mut [u8],
+    wanted: &[u8],
+    scratch: &mut [u8],
+) -> Ran {
+    if op == b'O' {
+        return loader_run::run_load(device, before, pins, block, array, wanted, scratch);
+    }
+    if op == b'V' {
+        return loader_run::run_verify(device, before, pins, block, array, wanted, scratch);
+    }
+    loader_run::run(device, before, pins, block, array, wanted, scratch)
+}
+
+// The same on what is lent.
+fn ran(
+    op: u8,
+    setup: Setup,
+    before: State,
+    array: &mut [u8],
+    wanted: &[u8],
+    scratch: &mut [u8],
+) -> Ran {
     let device = setup.device;
     let pins = setup.pins;
     let n = common::least(setup.array, array.len());
     let m = common::least(setup.wanted, wanted.len());
     let k = common::least(setup.scratch, scratch.len());
-    loader_run::run(
+    ran_by(
+        op,
         device,
         before,
         pins,
@@ -255,17 +283,17 @@ fn sum_of(s: &[u8], asked: usize) -> u64 {
     vectors_text::digest(&s[0..n])
 }
 
-// A whole run and its line.
-fn run_line(b: Bench, array: &mut [u8], wanted: &[u8], scratch: &mut [u8]) -> Bench {
+// A whole run, or a part of it alone, and its line.
+fn run_line(op: u8, b: Bench, array: &mut [u8], wanted: &[u8], scratch: &mut [u8]) -> Bench {
     let setup = b.setup;
     let before = b.state;
     let loader = b.loader;
-    let x = ran(setup, before, array, wanted, scratch);
+    let x = ran(op, setup, before, array, wanted, scratch);
     let state = x.state;
     let held = sum_of(array, setup.array);
     let room = sum_of(scratch, setup.scratch);
     let after = after_line(b, state, loader);
-    print_run(x, held, room);
+    print_run(op, x, held, room);
     after
 }
 
@@ -280,15 +308,26 @@ fn given_line(b: Bench, g: Given, room: u64) -> Bench {
     after
 }
 
+// A start of a run, of a load alone or of a verify alone.
+fn started(op: u8, part: Part, pins: Pins, block: u8, wanted: &[u8], scratch: &[u8]) -> Given {
+    if op == b'P' {
+        return loader_steps::front::start_load(part, pins, block, wanted, scratch);
+    }
+    if op == b'U' {
+        return loader_steps::front::start_verify(part, pins, block, wanted, scratch);
+    }
+    loader_steps::front::start(part, pins, block, wanted, scratch)
+}
+
 // A start and its line.
-fn start_line(b: Bench, wanted: &[u8], scratch: &[u8]) -> Bench {
+fn start_line(op: u8, b: Bench, wanted: &[u8], scratch: &[u8]) -> Bench {
     let setup = b.setup;
     let device = setup.device;
     let part = device.part;
     let pins = setup.pins;
     let m = common::least(setup.wanted, wanted.len());
     let k = common::least(setup.scratch, scratch.len());
-    let g = loader_steps::front::start(part, pins, setup.block, &wanted[0..m], &scratch[0..k]);
+    let g = started(op, part, pins, setup.block, &wanted[0..m], &scratch[0..k]);
     let room = sum_of(scratch, setup.scratch);
     given_line(b, g, room)
 }
@@ -345,6 +384,7 @@ fn handed(b: Bench, row: &[u8]) -> Bench {
     let group = b.group;
     let old = b.loader;
     let stage = old.stage;
+    let verify = old.verify;
     let device = setup.device;
     let part = device.part;
     let pins = setup.pins;
@@ -360,6 +400,7 @@ fn handed(b: Bench, row: &[u8]) -> Bench {
             stage: stage,
             place: place,
             polls: polls,
+            verify: verify,
         },
         group: group,
         lines: b.lines,
@@ -417,13 +458,21 @@ fn fill(row: &[u8], op: u8, setup: Setup, array: &mut [u8], wanted: &mut [u8], s
     sow_part(scratch, setup.scratch, row)
 }
 
+fn is_run(op: u8) -> bool {
+    (op == b'R') | (op == b'O') | (op == b'V')
+}
+
+fn is_start(op: u8) -> bool {
+    (op == b'Q') | (op == b'P') | (op == b'U')
+}
+
 // The rows that print a line.
 fn act(row: &[u8], op: u8, b: Bench, array: &mut [u8], wanted: &[u8], scratch: &mut [u8]) -> Bench {
-    if op == b'R' {
-        return run_line(b, array, wanted, scratch);
+    if is_run(op) {
+        return run_line(op, b, array, wanted, scratch);
     }
-    if op == b'Q' {
-        return start_line(b, wanted, scratch);
+    if is_start(op) {
+        return start_line(op, b, wanted, scratch);
     }
     if op == b'N' {
         return step_line(b, row, wanted, scratch);

@@ -1,10 +1,12 @@
 use borrow.Author.Needs.{needs}
+use mathlib.Core.Bool.{true}
 use mathlib.Core.Path.{_≡_, ap, _∙_}
+use Rattle.loader.specs.declared.Stage.the-variants.{Clearing}
 use Rattle.loader_run.specs.declared.Ran.{Ran}
-use Rattle.loader_from_file.specs.Loads.{loadedOf, bytesLoaded, wantedLoaded, scratchLoaded}
+use Rattle.loader_from_file.specs.Loads.{fileLeftAt}
 use Rattle.c_cycle.specs.Values.{deviceIn, stateIn, pinsIn}
 use Rattle.c_records.specs.Records.{ranOut}
-use Rattle.c_functions.specs.Calls.{loadOf, arrayLoad, wantedLoad, scratchLoad}
+use Rattle.c_functions.specs.Calls.{fileAtOf, arrayFileAt, wantedFileAt, scratchFileAt}
 use Rattle.c_functions.proofs.tb_load.Statement.{statement}
 use Rattle.c_functions.proofs.tb_load.Tie as tie
 
@@ -33,7 +35,7 @@ same-length-3 : tie.Need-same-length-3
 same-length-3 c = search needs
 
 returns : tie.Need-returns
-unfolding loadOf arrayLoad wantedLoad scratchLoad
+unfolding fileAtOf arrayFileAt wantedFileAt scratchFileAt
 returns c =
     let a = c .before .before .before .before .before .before .before .before .before .before .before .before .before .before .before .before .before .before .args in
     let f = a .file .now in
@@ -43,14 +45,14 @@ returns c =
     let d : c .before .before .before .before .before .before .before .before .before .before .before .before .before .device-in .result ≡ deviceIn (a .device) = c .before .before .before .before .before .before .before .before .before .before .before .before .before .device-in .ensures in
     let s : c .before .before .before .before .before .before .before .before .before .before .before .before .state-in .result ≡ stateIn (a .state) = c .before .before .before .before .before .before .before .before .before .before .before .before .state-in .ensures in
     let p : c .before .before .before .before .before .before .before .before .before .before .before .pins-in .result ≡ pinsIn (a .rp) (a .vpp) = c .before .before .before .before .before .before .before .before .before .before .before .pins-in .ensures in
-    let g : c .before .before .before .before .before .before .before .load .result ≡ loadedOf (deviceIn (a .device)) (stateIn (a .state)) (pinsIn (a .rp) (a .vpp)) (a .block) xs w sc f (a .letter) =
-    c .before .before .before .before .before .before .before .load .ensures .0 ∙ (λ i. loadedOf (d i) (s i) (p i) (a .block) xs w sc f (a .letter)) in (
+    let g : c .before .before .before .before .before .before .before .load .result ≡ fileLeftAt Clearing true (deviceIn (a .device)) (stateIn (a .state)) (pinsIn (a .rp) (a .vpp)) (a .block) xs w sc f (a .letter) .ran =
+    c .before .before .before .before .before .before .before .load .ensures .0 ∙ (λ i. fileLeftAt Clearing true (d i) (s i) (p i) (a .block) xs w sc f (a .letter) .ran) in (
       c .ran-out .ensures ∙ ap (λ (x : Ran). ranOut (a .state) x) g,
       (
-        c .before .before .before .before .before .before .before .load .ensures .1 .0 ∙ (λ i. bytesLoaded (d i) (s i) (p i) (a .block) xs w sc f (a .letter)),
+        c .before .before .before .before .before .before .before .load .ensures .1 .0 ∙ (λ i. fileLeftAt Clearing true (d i) (s i) (p i) (a .block) xs w sc f (a .letter) .bytes),
         (
-          c .before .before .before .before .before .before .before .load .ensures .1 .1 .0 ∙ (λ i. wantedLoaded (d i) (s i) (p i) (a .block) xs w sc f (a .letter)),
-          c .before .before .before .before .before .before .before .load .ensures .1 .1 .1 ∙ (λ i. scratchLoaded (d i) (s i) (p i) (a .block) xs w sc f (a .letter)),
+          c .before .before .before .before .before .before .before .load .ensures .1 .1 .0 ∙ (λ i. fileLeftAt Clearing true (d i) (s i) (p i) (a .block) xs w sc f (a .letter) .wanted),
+          c .before .before .before .before .before .before .before .load .ensures .1 .1 .1 ∙ (λ i. fileLeftAt Clearing true (d i) (s i) (p i) (a .block) xs w sc f (a .letter) .scratch),
         ),
       ),
     )

@@ -1,10 +1,12 @@
 use borrow.Author.Needs.{needs}
+use mathlib.Core.Bool.{true}
 use mathlib.Core.Path.{_≡_, ap, _∙_}
+use Rattle.loader.specs.declared.Stage.the-variants.{Clearing}
 use Rattle.loader_run.specs.declared.Ran.{Ran}
-use Rattle.loader_run.specs.Runs.{ranOf, bytesOf, scratchOf}
+use Rattle.loader_run.specs.Runs.{runLeftAt}
 use Rattle.c_cycle.specs.Values.{deviceIn, stateIn, pinsIn}
 use Rattle.c_records.specs.Records.{ranOut}
-use Rattle.c_functions.specs.Calls.{runOf, arrayRun, scratchRun}
+use Rattle.c_functions.specs.Calls.{runAtOf, arrayRunAt, scratchRunAt}
 use Rattle.c_functions.proofs.tb_run.Statement.{statement}
 use Rattle.c_functions.proofs.tb_run.Tie as tie
 
@@ -30,7 +32,7 @@ same-length-2 : tie.Need-same-length-2
 same-length-2 c = search needs
 
 returns : tie.Need-returns
-unfolding runOf arrayRun scratchRun
+unfolding runAtOf arrayRunAt scratchRunAt
 returns c =
     let a = c .before .before .before .before .before .before .before .before .before .before .before .before .before .before .args in
     let xs = a .array .now in
@@ -39,12 +41,12 @@ returns c =
     let d : c .before .before .before .before .before .before .before .before .before .before .device-in .result ≡ deviceIn (a .device) = c .before .before .before .before .before .before .before .before .before .before .device-in .ensures in
     let s : c .before .before .before .before .before .before .before .before .before .state-in .result ≡ stateIn (a .state) = c .before .before .before .before .before .before .before .before .before .state-in .ensures in
     let p : c .before .before .before .before .before .before .before .before .pins-in .result ≡ pinsIn (a .rp) (a .vpp) = c .before .before .before .before .before .before .before .before .pins-in .ensures in
-    let g : c .before .before .before .before .before .run .result ≡ ranOf (deviceIn (a .device)) (stateIn (a .state)) (pinsIn (a .rp) (a .vpp)) (a .block) xs w sc =
-    c .before .before .before .before .before .run .ensures .0 ∙ (λ i. ranOf (d i) (s i) (p i) (a .block) xs w sc) in (
+    let g : c .before .before .before .before .before .run .result ≡ runLeftAt Clearing true (deviceIn (a .device)) (stateIn (a .state)) (pinsIn (a .rp) (a .vpp)) (a .block) xs w sc .ran =
+    c .before .before .before .before .before .run .ensures .0 ∙ (λ i. runLeftAt Clearing true (d i) (s i) (p i) (a .block) xs w sc .ran) in (
       c .ran-out .ensures ∙ ap (λ (x : Ran). ranOut (a .state) x) g,
       (
-        c .before .before .before .before .before .run .ensures .1 .0 ∙ (λ i. bytesOf (d i) (s i) (p i) (a .block) xs w sc),
-        c .before .before .before .before .before .run .ensures .1 .1 ∙ (λ i. scratchOf (d i) (s i) (p i) (a .block) xs w sc),
+        c .before .before .before .before .before .run .ensures .1 .0 ∙ (λ i. runLeftAt Clearing true (d i) (s i) (p i) (a .block) xs w sc .bytes),
+        c .before .before .before .before .before .run .ensures .1 .1 ∙ (λ i. runLeftAt Clearing true (d i) (s i) (p i) (a .block) xs w sc .scratch),
       ),
     )
 

@@ -58,7 +58,7 @@ returns c =
       (
         ap (λ (y : Answer). y .state) x,
         (
-          c .before .before .taken .ensures .1 ∙ ap (λ (y : Answer). scratchBy (y .seen) l sc) x,
+          c .before .before .taken .ensures .1 ∙ ap (λ (y : Answer). scratchBy (y .seen) l w sc) x,
           c .before .before .before .before .before .before .before .after-judging .ensures .1 ∙ ap (λ (k : Cycle). arrayJudged (a .d) s k xs []) o ∙ judged-array (a .d) s (cycleOf l w) xs [] z,
         ),
       ),

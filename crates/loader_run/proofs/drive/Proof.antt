@@ -44,7 +44,7 @@ loop-holds c =
       short (a .d) (a .s) (a .l .pins) (a .l .block) (length (a .array .now)) (length (a .wanted .now)) (length (a .scratch .now)) z,
       c .first .ensures,
       subst (λ (l : Loader). Sound (a .d) (a .wanted .now) l (a .s) (length (a .array .now))) (sym (c .before .before .before .before .pre .1))
-          (sound-start (a .d) (a .s) (a .l .pins) (a .l .block) (a .array .now) (a .wanted .now) (a .scratch .now) z),
+          (sound-start (a .l .stage) (a .l .verify) (a .d) (a .s) (a .l .pins) (a .l .block) (a .array .now) (a .wanted .now) (a .scratch .now) z),
     )
 
 going-requires : tie.Need-going-requires Inv-loop μ-loop

@@ -12,7 +12,7 @@ polls-in-requires : tie.Need-polls-in-requires
 polls-in-requires c κs = search needs
 
 returns : tie.Need-returns
-returns c = simp (c .polls-in .ensures, c .before .stage-in .ensures, c .before .before .pins-in .ensures)
+returns c = simp (c .before .polls-in .ensures, c .before .before .stage-in .ensures, c .before .before .before .pins-in .ensures)
 
 pub loader-in-spec : {M : Type 1} → statement M
 loader-in-spec = tie.close (tie.spec pins-in-requires stage-in-requires polls-in-requires returns)

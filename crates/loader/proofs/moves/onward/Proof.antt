@@ -14,13 +14,16 @@ returns : tie.Need-returns
 unfolding onward
 returns c = simp (c .moved .ensures, lt-ltb _ _ (c .before .if1 .taken), ← c .before .before .diff-from .ensures)
 
+loaded-stage-requires : tie.Need-loaded-stage-requires
+loaded-stage-requires c κs = search needs
+
 moved-requires-2 : tie.Need-moved-requires-2
 moved-requires-2 c κs = search needs
 
 returns-2 : tie.Need-returns-2
 unfolding onward
-returns-2 c = simp (c .moved2 .ensures, le-ltb _ _ (c .before .if1 .left), ← c .before .before .diff-from .ensures)
+returns-2 c = simp (c .moved2 .ensures, c .before .loaded-stage .ensures, le-ltb _ _ (c .before .before .if1 .left), ← c .before .before .before .diff-from .ensures)
 
 pub onward-spec : {M : Type 1} → statement M
 onward-spec =
-    tie.close (tie.spec diff-from-requires moved-requires returns moved-requires-2 returns-2)
+    tie.close (tie.spec diff-from-requires moved-requires returns loaded-stage-requires moved-requires-2 returns-2)

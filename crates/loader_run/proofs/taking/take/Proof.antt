@@ -12,9 +12,9 @@ use Rattle.loader_run.proofs.taking.take.Tie as tie
 
 -- what a stage makes of a byte
 by : (l : Loader) (b : ℕ) (w sc : List ℕ) (s : Stage) → l .stage ≡ s
-    → (nextIn s l b w (storeIn s (l .part) (l .place) b sc) ≡ nextOf l b w (storeOf l b sc)) × (storeIn s (l .part) (l .place) b sc ≡ storeOf l b sc)
+    → (nextIn s l b w (storeIn s (l .part) (l .place) b w sc) ≡ nextOf l b w (storeOf l b w sc)) × (storeIn s (l .part) (l .place) b w sc ≡ storeOf l b w sc)
 by l b w sc s e =
-    (ap (λ (x : Stage). nextIn x l b w (storeIn x (l .part) (l .place) b sc)) (sym e), ap (λ (x : Stage). storeIn x (l .part) (l .place) b sc) (sym e))
+    (ap (λ (x : Stage). nextIn x l b w (storeIn x (l .part) (l .place) b w sc)) (sym e), ap (λ (x : Stage). storeIn x (l .part) (l .place) b w sc) (sym e))
 
 enum-told : tie.Need-enum-told
 enum-told c = search needs
@@ -67,8 +67,8 @@ moved-requires-6 c κs = search needs
 enum-told-9 : tie.Need-enum-told-9
 enum-told-9 c = search needs
 
-program-polled-requires : tie.Need-program-polled-requires
-program-polled-requires c κs = search needs
+take-program-requires : tie.Need-take-program-requires
+take-program-requires c κs = search needs
 
 enum-told-10 : tie.Need-enum-told-10
 enum-told-10 c = search needs
@@ -147,9 +147,9 @@ same-length-3 c = search needs
 
 returns-9 : tie.Need-returns-9
 returns-9 c =
-    let a = c .before .before .before .before .before .before .args in
-    let k = by (a .l) (a .b) (a .wanted .now) (a .scratch .now) ProgramWaiting (c .before .before .enum-told9 .given .1) in
-    (c .program-polled .ensures ∙ k .0, k .1)
+    let a = c .before .before .before .before .before .before .before .before .args in
+    let k = by (a .l) (a .b) (a .wanted .now) (a .scratch .now) ProgramWaiting (c .before .before .before .before .enum-told9 .given .1) in
+    (c .before .before .take-program .ensures .0 ∙ k .0, c .before .before .take-program .ensures .1 ∙ k .1)
 
 returns-10 : tie.Need-returns-10
 returns-10 c =
@@ -194,7 +194,7 @@ take-spec =
     enum-told-8
     moved-requires-6
     enum-told-9
-    program-polled-requires
+    take-program-requires
     enum-told-10
     moved-requires-7
     enum-told-11

@@ -35,6 +35,9 @@ enum-told-8 c = search needs
 enum-told-9 : tie.Need-enum-told-9
 enum-told-9 c = search needs
 
+store-program-requires : tie.Need-store-program-requires
+store-program-requires c κs = search needs
+
 enum-told-10 : tie.Need-enum-told-10
 enum-told-10 c = search needs
 
@@ -77,14 +80,17 @@ returns-7 c = search needs
 returns-8 : tie.Need-returns-8
 returns-8 c = search needs
 
+same-length-3 : tie.Need-same-length-3
+same-length-3 c = search needs
+
 returns-9 : tie.Need-returns-9
-returns-9 c = search needs
+returns-9 c = simp (c .before .before .store-program .ensures, c .before .before .before .before .enum-told9 .given .1)
 
 returns-10 : tie.Need-returns-10
 returns-10 c = search needs
 
-same-length-3 : tie.Need-same-length-3
-same-length-3 c = search needs
+same-length-4 : tie.Need-same-length-4
+same-length-4 c = search needs
 
 returns-11 : tie.Need-returns-11
 returns-11 c = simp (c .before .before .put2 .ensures, c .before .before .before .before .enum-told11 .given .1)
@@ -107,6 +113,7 @@ store-spec =
     enum-told-7
     enum-told-8
     enum-told-9
+    store-program-requires
     enum-told-10
     enum-told-11
     put-requires-2
@@ -121,8 +128,9 @@ store-spec =
     returns-6
     returns-7
     returns-8
+    same-length-3
     returns-9
     returns-10
-    same-length-3
+    same-length-4
     returns-11
     returns-12)

@@ -1,0 +1,41 @@
+# about: verifies a dump of a part against a load file
+# shellcheck shell=bash
+# Sourced by torfbarke, after commands/lib/common. Standard output is the verify program's own; everything else goes to standard error.
+root=${root:?}
+
+verify_help() {
+    cat <<'TXT'
+usage: torfbarke verify IMAGE DEVICE BLOCK FILE LETTER
+
+IMAGE is a dump of a part, all its bytes from address 0 on: 131,072 of devices 1 and 2, 16,384 of devices 3 and 4. BLOCK is the flash block, 0
+(boot) to 3 (main). FILE is the load file that the block must hold, FFH behind it, and LETTER the one of the menu. One line comes: 'the block
+holds the file'; or 'differs at' and the first address that differs, in hexadecimal; or 'refused', the number and what it means.
+
+Exit status: 0 the block holds the file, 1 it differs or is refused, 2 a wrong call, 3 the program could not be built.
+TXT
+}
+
+case ${1-} in
+--help | -h)
+    verify_help
+    exit 0
+    ;;
+esac
+[ $# = 5 ] || fail 2 "an image, a device, a block, a load file and a letter; 'torfbarke verify --help' says more"
+for held in "$1" "$4"; do
+    [ -f "$held" ] || fail 2 "there is no file $held"
+    [ -r "$held" ] || fail 2 "cannot read the file $held"
+done
+case $2$3 in
+*[!0-9]*) fail 2 "device and block are whole numbers: $2 $3" ;;
+esac
+if [ -z "$2" ] || [ -z "$3" ] || [ ${#2} -gt 3 ] || [ ${#3} -gt 3 ]; then fail 2 "device and block are small numbers: $2 $3"; fi
+[ ${#5} = 1 ] || fail 2 "the letter is one of B E J K N R S T"
+
+program verify_program
+line=$(start "$@") || fail 3 "the verify program did not end well"
+[ -n "$line" ] || fail 2 "image or file could not be read"
+printf '%s\n' "$line"
+case $line in
+differs* | refused*) exit 1 ;;
+esac

@@ -1,0 +1,21 @@
+use Rattle.c_functions.specs.Calls.{startedAt}
+use borrow.Author.Needs.{needs}
+use Rattle.c_functions.proofs.tb_load_start.Statement.{statement}
+use Rattle.c_functions.proofs.tb_load_start.Tie as tie
+
+pins-in-requires : tie.Need-pins-in-requires
+pins-in-requires c κs = search needs
+
+start-load-requires : tie.Need-start-load-requires
+start-load-requires c κs = search needs
+
+given-out-requires : tie.Need-given-out-requires
+given-out-requires c κs = search needs
+
+returns : tie.Need-returns
+unfolding startedAt
+returns c = simp (c .given-out .ensures, c .before .start-load .ensures, c .before .before .pins-in .ensures)
+
+pub tb-load-start-spec : {M : Type 1} → statement M
+tb-load-start-spec =
+    tie.close (tie.spec pins-in-requires start-load-requires given-out-requires returns)

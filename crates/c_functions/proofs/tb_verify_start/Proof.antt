@@ -1,0 +1,21 @@
+use Rattle.c_functions.specs.Calls.{startedAt}
+use borrow.Author.Needs.{needs}
+use Rattle.c_functions.proofs.tb_verify_start.Statement.{statement}
+use Rattle.c_functions.proofs.tb_verify_start.Tie as tie
+
+pins-in-requires : tie.Need-pins-in-requires
+pins-in-requires c κs = search needs
+
+start-verify-requires : tie.Need-start-verify-requires
+start-verify-requires c κs = search needs
+
+given-out-requires : tie.Need-given-out-requires
+given-out-requires c κs = search needs
+
+returns : tie.Need-returns
+unfolding startedAt
+returns c = simp (c .given-out .ensures, c .before .start-verify .ensures, c .before .before .pins-in .ensures)
+
+pub tb-verify-start-spec : {M : Type 1} → statement M
+tb-verify-start-spec =
+    tie.close (tie.spec pins-in-requires start-verify-requires given-out-requires returns)

@@ -1,0 +1,52 @@
+use borrow.Author.Needs.{needs}
+use mathlib.Core.Bool.{true}
+use mathlib.Core.Path.{refl, sym, _∙_}
+use Rattle.loader.specs.declared.Stage.the-variants.{Closing}
+use Rattle.loader_from_file.proofs.Leaving.{told-made, told-refused}
+use Rattle.loader_from_file.proofs.verify_from_file.Statement.{statement}
+use Rattle.loader_from_file.proofs.verify_from_file.Tie as tie
+
+prepared-requires : tie.Need-prepared-requires
+prepared-requires c κs = search needs
+
+run-verify-requires : tie.Need-run-verify-requires
+run-verify-requires c κs = search needs
+
+same-length : tie.Need-same-length
+same-length c = search needs
+
+same-length-2 : tie.Need-same-length-2
+same-length-2 c = search needs
+
+same-length-3 : tie.Need-same-length-3
+same-length-3 c = search needs
+
+returns : tie.Need-returns
+returns c =
+    let a = c .before .before .before .before .before .before .before .before .before .before .before .before .before .before .before .before .before .args in
+    let s = c .before .before .before .before .before .before .before .before .before .before .before .prepared in
+    let r = c .before .before .before .before .run-verify .ensures in
+    told-made Closing true refl (a .d) (a .s) (a .p) (a .block) (a .array .now) (a .wanted .now) (a .scratch .now) (a .file .now) (a .asked) (sym (s .ensures .0) ∙ c .before .before .before .before .before .before .before .before .if1 .taken) _ (s .ensures .1) _ _ _ (r .0)
+    (r .1 .0) (r .1 .1)
+
+same-length-4 : tie.Need-same-length-4
+same-length-4 c = search needs
+
+returns-2 : tie.Need-returns-2
+returns-2 c =
+    let a = c .before .before .before .before .before .before .before .before .before .args in
+    let s = c .before .before .before .prepared in
+    told-refused Closing true refl (a .d) (a .s) (a .p) (a .block) (a .array .now) (a .wanted .now) (a .scratch .now) (a .file .now) (a .asked) (s .result) (s .ensures .0) (c .if1 .left) _ (s .ensures .1)
+
+pub verify-from-file-spec : {M : Type 1} → statement M
+verify-from-file-spec =
+    tie.close
+    (tie.spec
+    prepared-requires
+    run-verify-requires
+    same-length
+    same-length-2
+    same-length-3
+    returns
+    same-length-4
+    returns-2)

@@ -1,0 +1,26 @@
+use mathlib.Core.Path.{ap, _∙_}
+use mathlib.Core.List.{List}
+use Prim.Native.Nat.{ℕ}
+use Rattle.loader.specs.Moves.{programPolled}
+use borrow.Author.Needs.{needs}
+use Rattle.loader_run.proofs.taking.take_program.Statement.{statement}
+use Rattle.loader_run.proofs.taking.take_program.Tie as tie
+
+store-program-requires : tie.Need-store-program-requires
+store-program-requires c κs = search needs
+
+program-polled-requires : tie.Need-program-polled-requires
+program-polled-requires c κs = search needs
+
+same-length : tie.Need-same-length
+same-length c = search needs
+
+returns : tie.Need-returns
+returns c =
+    let a = c .before .before .before .before .before .before .before .before .args in
+    let e = c .before .before .before .before .store-program .ensures in
+    (c .program-polled .ensures ∙ ap (λ (z : List ℕ). programPolled (a .l) (a .b) (a .wanted .now) z) e, e)
+
+pub take-program-spec : {M : Type 1} → statement M
+take-program-spec =
+    tie.close (tie.spec store-program-requires program-polled-requires same-length returns)

@@ -1,0 +1,233 @@
+-- A run is its load and the verify after it. Assumes nothing.
+use mathlib.Core.Path.{_≡_, refl, sym, ap, _∙_}
+use mathlib.Core.Bool.{Bool, true, false}
+use mathlib.Core.List.{List, [], _∷_, _++_, append-nil}
+use Prim.Native.Nat.{ℕ, zero, suc, _+_, _≤_}
+use native.Mathlib.Omega.{arith}
+use lib.ListN.{length, getD, take, drop}
+use lib.Seq.{take-at, drop-at, length-take-le}
+use lib.Dec.{eqb}
+use borrow.Author.Tests.{eqb-true, eqb-false}
+use Rattle.common.specs.Choice.{if_then_else_}
+use Rattle.common.proofs.Choice.{if-true, if-false}
+use Rattle.common.specs.Lists.{overlaid, overwritten}
+use Rattle.common.proofs.Lists.{overwritten-all}
+use Rattle.common.proofs.Bytes.{overlaid-length}
+use Rattle.common.proofs.Numbers.{given-no-row}
+use Rattle.common.specs.Numbers.{NoRow}
+use Rattle.device.specs.declared.Device.{Device}
+use Rattle.device.specs.Parts.{startOf}
+use Rattle.model_types.specs.declared.Pins.{Pins}
+use Rattle.model_types.specs.declared.Kind.the-variants.{Read, Write}
+use Rattle.model_types.specs.declared.Cycle.{Cycle}
+use Rattle.model_types.specs.declared.Mode.the-variants.{Array}
+use Rattle.model_types.specs.declared.State.{State}
+use Rattle.model_types.specs.Cells.{Cells}
+use Rattle.model_types.specs.States.{atRest}
+use Rattle.model_rules.proofs.Facts.{parts-proper}
+use Rattle.model.proofs.Keeping.{rest-proper}
+use Rattle.loader.specs.declared.Stage.the-variants.{Clearing, Closing}
+use Rattle.loader.specs.Walks.{risesIn}
+use Rattle.loader_run.specs.declared.Ran.{Ran}
+use Rattle.loader_run.specs.Runs.{runRows, runNumber, RunLeft, runRefused, runLeft, loadAlone, verifyAlone}
+use Rattle.loader_run.proofs.Leaving.{left-refused}
+use Rattle.loader_run_claims.specs.Wear.{heldIn, baseOf, formula, loadFormula}
+use Rattle.loader_run_claims.specs.Made.{busCycle, readsThen, pollsThen, openingThen, eraseThen, programThen, programsThen, programmingThen, loadThen, closingOf, cyclesAt, cyclesOfLoad}
+use Rattle.loader_run_claims.specs.Ends.{loadedMode, endNumber, wellRan, faultRan, ranAs, bytesAs, scratchAs, cyclesAs}
+use Rattle.loader_run_claims.specs.Mission.{Taken}
+use Rattle.loader_run_claims.proofs.Starts.{none-refuses, taken-if}
+use Rattle.loader_run_claims.proofs.Grounds as grounds
+use Rattle.loader_run_claims.proofs.Total.{every-end}
+use Rattle.loader_run_claims.proofs.Mission.{formula-both}
+use Rattle.loader_verify_claims.specs.Verified.{bytesRead, verifyEnd, verifyAddress, verifyRan, Verified}
+use Rattle.loader_verify_claims.specs.Both.{countedOn, verifyAfter, thenVerify, bothLeft, cyclesAfter, bothCycles}
+use Rattle.loader_verify_claims.proofs.Verifying.{as-wanted, verified}
+
+-- what was laid over an array is held there
+held-over : (xs w : List ℕ) (a : ℕ) → a + length w ≤ length xs → heldIn a (length w) (overlaid xs a w) ≡ w
+held-over xs w a h =
+    ap (λ (z : List ℕ). take (length w) z) (drop-at (take a xs) _ a (length-take-le a xs (omega arith))) ∙ take-at w (drop (length w) (drop a xs)) (length w) refl
+
+-- what is left is its three parts
+parts : (x y : RunLeft) → x .ran ≡ y .ran → x .bytes ≡ y .bytes → x .scratch ≡ y .scratch → x ≡ y
+parts x y a b c = λ i. record { ran = a i; bytes = b i; scratch = c i }
+
+-- cycles that come last, put behind
+reads-then : (p : Pins) (n a i : ℕ) (xs cs : List Cycle) → readsThen p n a i (xs ++ cs) ≡ readsThen p n a i xs ++ cs
+reads-then p zero a i xs cs = refl
+reads-then p (suc n) a i xs cs = ap (λ (z : List Cycle). busCycle p Read (a + i) 0 ∷ z) (reads-then p n a (i + 1) xs cs)
+
+polls-then : (p : Pins) (n x : ℕ) (xs cs : List Cycle) → pollsThen p n x (xs ++ cs) ≡ pollsThen p n x xs ++ cs
+polls-then p zero x xs cs = refl
+polls-then p (suc n) x xs cs = ap (λ (z : List Cycle). busCycle p Read x 0 ∷ z) (polls-then p n x xs cs)
+
+programs-then : (d : Device) (p : Pins) (k a i : ℕ) (w s : List ℕ) (xs cs : List Cycle) → programsThen d p k a i w s (xs ++ cs) ≡ programsThen d p k a i w s xs ++ cs
+programs-then d p zero a i w s xs cs = refl
+programs-then d p (suc k) a i w s xs cs = go (eqb (getD s i 0) (getD w i 0)) (programs-then d p k a (i + 1) w s xs cs)
+  where
+    go : (t : Bool) → programsThen d p k a (i + 1) w s (xs ++ cs) ≡ programsThen d p k a (i + 1) w s xs ++ cs
+        → (if t then programsThen d p k a (i + 1) w s (xs ++ cs) else programThen d p (a + i) (getD w i 0) (programsThen d p k a (i + 1) w s (xs ++ cs)))
+        ≡ (if t then programsThen d p k a (i + 1) w s xs else programThen d p (a + i) (getD w i 0) (programsThen d p k a (i + 1) w s xs)) ++ cs
+    go true e = e
+    go false e =
+        ap (λ (z : List Cycle). programThen d p (a + i) (getD w i 0) z) e
+        ∙ ap (λ (z : List Cycle). busCycle p Write (a + i) 0x40 ∷ busCycle p Write (a + i) (getD w i 0) ∷ z) (polls-then p (d .program) (a + i) (programsThen d p k a (i + 1) w s xs) cs)
+
+-- the cycles of a load with others after it are the load's own, then the others
+pub load-then : (d : Device) (p : Pins) (a : ℕ) (w ys : List ℕ) (cs : List Cycle) → loadThen d p a w ys cs ≡ loadThen d p a w ys [] ++ cs
+load-then d p a w ys cs = go (risesIn w ys) (programs-then d p (length w) a 0 w (baseOf (d .part) w ys) [] cs)
+  where
+    go : (t : Bool) → programmingThen d p a w ys cs ≡ programmingThen d p a w ys [] ++ cs
+        → openingThen p a (length w) (if t then eraseThen d p a (programmingThen d p a w ys cs) else programmingThen d p a w ys cs)
+        ≡ openingThen p a (length w) (if t then eraseThen d p a (programmingThen d p a w ys []) else programmingThen d p a w ys []) ++ cs
+    go true e =
+        ap (λ (z : List Cycle). openingThen p a (length w) (eraseThen d p a z)) e
+        ∙ ap (λ (z : List Cycle). openingThen p a (length w) (busCycle p Write a 0x20 ∷ busCycle p Write a 0xD0 ∷ z)) (polls-then p (d .erase) a (programmingThen d p a w ys []) cs)
+        ∙ ap (λ (z : List Cycle). busCycle p Write a 0x50 ∷ busCycle p Write a 0xFF ∷ z) (reads-then p (length w) a 0 (eraseThen d p a (programmingThen d p a w ys [])) cs)
+    go false e =
+        ap (λ (z : List Cycle). openingThen p a (length w) z) e ∙ ap (λ (z : List Cycle). busCycle p Write a 0x50 ∷ busCycle p Write a 0xFF ∷ z) (reads-then p (length w) a 0 (programmingThen d p a w ys []) cs)
+
+-- a proper idle start
+module _ (d : Device) (s : State) (p : Pins) (k : ℕ) (xs w sc : List ℕ) (t : Taken d s p k xs w sc) where
+  abbrev a : ℕ
+  a = startOf (d .part) k
+
+  abbrev ys : List ℕ
+  ys = heldIn (startOf (d .part) k) (length w) xs
+
+  abbrev load : RunLeft
+  load = loadAlone d s p k xs w sc
+
+  fits : a + length w ≤ length xs
+  fits = grounds.fitting d s p k xs w sc (none-refuses d s p k xs w sc t)
+
+  -- the state and the array that a good load leaves
+  abbrev after : State
+  after = atRest s (loadedMode w ys) 0x80
+
+  abbrev laid : List ℕ
+  laid = overlaid xs a w
+
+  -- .. are a proper idle start again
+  again : Taken d after p k laid w w
+  again =
+      record {
+        known = t .known;
+        sized = overlaid-length xs a w fits ∙ t .sized;
+        proper = parts-proper d after (rest-proper d s (loadedMode w ys) 0x80 refl);
+        idle = refl;
+        block = t .block;
+        wanted = t .wanted;
+        scratch = t .wanted;
+        up = t .up;
+        levels = t .levels;
+        programs = t .programs;
+        erases = t .erases;
+        bytes = t .bytes;
+      }
+
+  rows : NoRow (runRows d after p k (length laid) (length w) (length w))
+  unfolding runNumber
+  rows = given-no-row (runRows d after p k (length laid) (length w) (length w)) refl (none-refuses d after p k laid w w again)
+
+  -- the verify from there ends well
+  verify-well : Verified d after p k laid w w
+  verify-well = verified d after p k laid w w rows
+
+  held : heldIn a (length w) laid ≡ w
+  held = held-over xs w a fits
+
+  verify-ran : verifyAlone d after p k laid w w .ran ≡ record { count = 1 + length w; end = 0; address = 0; state = atRest s Array 0x80 }
+  unfolding bytesRead verifyEnd verifyAddress
+  verify-ran = verify-well .ran ∙ ap (λ (z : List ℕ). verifyRan after a w z) held ∙ rw (as-wanted w) refl
+
+  verify-scratch : verifyAlone d after p k laid w w .scratch ≡ w
+  unfolding bytesRead
+  verify-scratch = verify-well .scratch ∙ ap (λ (z : List ℕ). overwritten (bytesRead w z) z w) held ∙ rw (as-wanted w) (overwritten-all w w refl)
+
+  verify-made : cyclesAt Closing true d after p k laid w w ≡ closingOf p a (length w)
+  unfolding bytesRead
+  verify-made = verify-well .made ∙ ap (λ (z : List ℕ). closingOf p a (bytesRead w z)) held ∙ rw (as-wanted w) refl
+
+  -- a load that ended well, and the run
+  module _ (e : eqb (endNumber d p k w ys) 0 ≡ true) where
+    loaded : load ≡ record { ran = wellRan false d s w ys; bytes = laid; scratch = w }
+    unfolding ranAs bytesAs scratchAs
+    loaded =
+        parts load (record { ran = wellRan false d s w ys; bytes = laid; scratch = w })
+        (every-end false d s p k xs w sc t .ran ∙ if-true (eqb (endNumber d p k w ys) 0) _ _ e)
+        (every-end false d s p k xs w sc t .bytes ∙ if-true (eqb (endNumber d p k w ys) 0) _ _ e)
+        (every-end false d s p k xs w sc t .scratch ∙ if-true (eqb (endNumber d p k w ys) 0) _ _ e)
+
+    run-well : runLeft d s p k xs w sc ≡ record { ran = wellRan true d s w ys; bytes = laid; scratch = w }
+    unfolding ranAs bytesAs scratchAs
+    run-well =
+        parts (runLeft d s p k xs w sc) (record { ran = wellRan true d s w ys; bytes = laid; scratch = w })
+        (every-end true d s p k xs w sc t .ran ∙ if-true (eqb (endNumber d p k w ys) 0) _ _ e)
+        (every-end true d s p k xs w sc t .bytes ∙ if-true (eqb (endNumber d p k w ys) 0) _ _ e)
+        (every-end true d s p k xs w sc t .scratch ∙ if-true (eqb (endNumber d p k w ys) 0) _ _ e)
+
+    well-both : runLeft d s p k xs w sc ≡ bothLeft d s p k xs w sc
+    well-both =
+        run-well
+        ∙ parts (record { ran = wellRan true d s w ys; bytes = laid; scratch = w }) (verifyAfter d p k w (record { ran = wellRan false d s w ys; bytes = laid; scratch = w }))
+        ((λ i. record { count = sums i; end = 0; address = 0; state = atRest s Array 0x80 }) ∙ ap (λ (r : Ran). countedOn (loadFormula d w ys) r) (sym verify-ran))
+        (sym (verify-well .bytes)) (sym verify-scratch)
+        ∙ ap (λ (l : RunLeft). thenVerify d p k w l) (sym loaded)
+      where
+        sums : formula d w ys ≡ loadFormula d w ys + (1 + length w)
+        sums = formula-both d w ys ∙ (let z : loadFormula d w ys + (length w + 1) ≡ loadFormula d w ys + (1 + length w) = omega arith in z)
+
+    well-cycles : cyclesOfLoad d s p k xs w sc ≡ bothCycles d s p k xs w sc
+    unfolding cyclesAs
+    well-cycles =
+        every-end true d s p k xs w sc t .made ∙ if-true (eqb (endNumber d p k w ys) 0) _ _ e
+        ∙ load-then d p a w ys (closingOf p a (length w))
+        ∙ ap (λ (z : List Cycle). loadThen d p a w ys [] ++ z) (sym verify-made ∙ ap (λ (l : RunLeft). cyclesAfter d p k w l) (sym loaded))
+        ∙ ap (λ (z : List Cycle). z ++ cyclesAfter d p k w load) (sym (every-end false d s p k xs w sc t .made ∙ if-true (eqb (endNumber d p k w ys) 0) _ _ e))
+
+  -- a load that did not end well is the run
+  module _ (e : eqb (endNumber d p k w ys) 0 ≡ false) where
+    stopped : load .ran ≡ faultRan d s p w ys (endNumber d p k w ys)
+    unfolding ranAs
+    stopped = every-end false d s p k xs w sc t .ran ∙ if-false (eqb (endNumber d p k w ys) 0) _ _ e
+
+    not-well : eqb (load .ran .end) 0 ≡ false
+    not-well = ap (λ (r : Ran). eqb (r .end) 0) stopped ∙ e
+
+    fault-both : runLeft d s p k xs w sc ≡ bothLeft d s p k xs w sc
+    unfolding ranAs
+    fault-both =
+        parts (runLeft d s p k xs w sc) load
+        (every-end true d s p k xs w sc t .ran ∙ if-false (eqb (endNumber d p k w ys) 0) _ _ e ∙ sym stopped)
+        (every-end true d s p k xs w sc t .bytes ∙ sym (every-end false d s p k xs w sc t .bytes))
+        (every-end true d s p k xs w sc t .scratch ∙ sym (every-end false d s p k xs w sc t .scratch))
+        ∙ sym (if-false (eqb (load .ran .end) 0) (verifyAfter d p k w load) load not-well)
+
+    fault-cycles : cyclesOfLoad d s p k xs w sc ≡ bothCycles d s p k xs w sc
+    unfolding cyclesAs
+    fault-cycles =
+        every-end true d s p k xs w sc t .made ∙ if-false (eqb (endNumber d p k w ys) 0) _ _ e
+        ∙ sym (every-end false d s p k xs w sc t .made ∙ if-false (eqb (endNumber d p k w ys) 0) _ _ e)
+        ∙ sym (append-nil (cyclesAt Clearing false d s p k xs w sc))
+        ∙ ap (λ (z : List Cycle). cyclesAt Clearing false d s p k xs w sc ++ z)
+        (sym (if-false (eqb (load .ran .end) 0) (cyclesAt Closing true d (load .ran .state) p k (load .bytes) w (load .scratch)) [] not-well))
+
+  pub taken-both : (runLeft d s p k xs w sc ≡ bothLeft d s p k xs w sc) × (cyclesOfLoad d s p k xs w sc ≡ bothCycles d s p k xs w sc)
+  taken-both = go (eqb (endNumber d p k w ys) 0) refl
+    where
+      go : (z : Bool) → eqb (endNumber d p k w ys) 0 ≡ z → (runLeft d s p k xs w sc ≡ bothLeft d s p k xs w sc) × (cyclesOfLoad d s p k xs w sc ≡ bothCycles d s p k xs w sc)
+      go true e = (well-both e, well-cycles e)
+      go false e = (fault-both e, fault-cycles e)
+
+-- whatever is lent: a refusal is the same for the run and the load
+pub run-both : (d : Device) (s : State) (p : Pins) (k : ℕ) (xs w sc : List ℕ) → d .program ≤ 65535 → d .erase ≤ 65535 → Cells (d .part) w
+    → runLeft d s p k xs w sc ≡ bothLeft d s p k xs w sc
+run-both d s p k xs w sc programs erases bytes = go (eqb (runNumber d s p k (length xs) (length w) (length sc)) 0) refl
+  where
+    go : (t : Bool) → eqb (runNumber d s p k (length xs) (length w) (length sc)) 0 ≡ t → runLeft d s p k xs w sc ≡ bothLeft d s p k xs w sc
+    go true e = taken-both d s p k xs w sc (taken-if d s p k xs w sc (eqb-true _ _ e) programs erases bytes) .0
+    go false e =
+        left-refused Clearing true d s p k xs w sc (eqb-false _ _ e)
+        ∙ sym (if-false (eqb (runNumber d s p k (length xs) (length w) (length sc)) 0) (verifyAfter d p k w (runRefused (runNumber d s p k (length xs) (length w) (length sc)) s xs sc)) (runRefused (runNumber d s p k (length xs) (length w) (length sc)) s xs sc) e)
+        ∙ ap (λ (l : RunLeft). thenVerify d p k w l) (sym (left-refused Clearing false d s p k xs w sc (eqb-false _ _ e)))

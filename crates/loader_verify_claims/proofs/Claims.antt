@@ -1,0 +1,98 @@
+-- What is claimed of a verify alone, of a load alone, and of a run as the two of them, in one place. Assumes nothing.
+use mathlib.Core.Path.{_≡_, refl}
+use mathlib.Core.Bool.{true, false}
+use mathlib.Core.List.{List, [], _++_}
+use mathlib.Core.Logic.{_↔_}
+use Prim.Native.Nat.{ℕ, _+_, _≤_}
+use lib.ListN.{length}
+use Rattle.common.specs.Numbers.{NoRow}
+use Rattle.device.specs.declared.Device.{Device}
+use Rattle.device.specs.Parts.{startOf}
+use Rattle.model_types.specs.declared.Pins.{Pins}
+use Rattle.model_types.specs.declared.Cycle.{Cycle}
+use Rattle.model_types.specs.declared.State.{State}
+use Rattle.model_types.specs.Cells.{Cells}
+use Rattle.loader.specs.declared.Stage.the-variants.{Clearing, Closing}
+use Rattle.loader.specs.Walks.{diffFrom}
+use Rattle.loader_run.specs.Runs.{runRows, runLeft, loadAlone, verifyAlone}
+use Rattle.loader_run_claims.specs.Wear.{heldIn, heldBy, formula, loadFormula}
+use Rattle.loader_run_claims.specs.Made.{cyclesAt, cyclesOfLoad, loadThen}
+use Rattle.loader_run_claims.specs.Ends.{Whole}
+use Rattle.loader_run_claims.specs.Mission.{Taken, Start, Demand3}
+use Rattle.loader_run_claims.specs.Stepping.{Stepped}
+use Rattle.loader_run_claims.proofs.Mission as mission
+use Rattle.loader_run_claims.proofs.Total as total-ends
+use Rattle.loader_run_claims.proofs.Counting as counting
+use Rattle.loader_run_claims.proofs.Stepping as stepping
+use Rattle.loader_verify_claims.specs.Verified.{Verified, Met}
+use Rattle.loader_verify_claims.specs.Both.{bothLeft, bothCycles}
+use Rattle.loader_verify_claims.proofs.Verifying as verifying
+use Rattle.loader_verify_claims.proofs.Both as both
+
+-- A verify that nothing refuses, whatever VPP and the lock, from any proper state with nothing under way (`Verified`, a sentence a
+-- field): what it returns, that the array is as before and no operation begun, what scratch holds, its cycles, and the status as before.
+pub verified : (d : Device) (s : State) (p : Pins) (k : ℕ) (xs w sc : List ℕ) → NoRow (runRows d s p k (length xs) (length w) (length sc)) → Verified d s p k xs w sc
+verified = verifying.verified
+
+-- It ends well exactly where the block holds the wanted bytes; else it ends 25 at the first place that differs, with that array
+-- address and place + 2 cycles (`Met`).
+pub well-exactly : (d : Device) (s : State) (p : Pins) (k : ℕ) (xs w sc : List ℕ) → NoRow (runRows d s p k (length xs) (length w) (length sc))
+    → (verifyAlone d s p k xs w sc .ran .end ≡ 0) ↔ (heldBy (d .part) k xs ≡ w)
+well-exactly = verifying.well-exactly
+
+pub first-difference : (d : Device) (s : State) (p : Pins) (k : ℕ) (xs w sc : List ℕ) → NoRow (runRows d s p k (length xs) (length w) (length sc))
+    → (heldBy (d .part) k xs ≡ w → ⊥) → Met d s p k xs w sc (diffFrom 0 w (heldIn (startOf (d .part) k) (length w) xs))
+first-difference = verifying.first-difference
+
+-- Demand 3 of a load alone, every clause; the count is n + 2 + e(2 + E) + p(2 + P), and scratch ends as wanted.
+pub load-demand-3 : (d : Device) (s : State) (p : Pins) (k : ℕ) (xs w sc : List ℕ) → Start d s p k xs w sc → Demand3 false d s p k xs w sc
+load-demand-3 = mission.demand-3 false
+
+-- Its cycles are the run's without FFH and the reads at their end; it costs n + 1 less.
+pub load-cycles : (d : Device) (s : State) (p : Pins) (k : ℕ) (xs w sc : List ℕ) → Start d s p k xs w sc
+    → cyclesAt Clearing false d s p k xs w sc ≡ loadThen d p (startOf (d .part) k) w (heldBy (d .part) k xs) []
+load-cycles = mission.cycles-listed false
+
+pub cycles-split : (d : Device) (p : Pins) (a : ℕ) (w ys : List ℕ) (cs : List Cycle) → loadThen d p a w ys cs ≡ loadThen d p a w ys [] ++ cs
+cycles-split = both.load-then
+
+pub count-split : (d : Device) (w ys : List ℕ) → formula d w ys ≡ loadFormula d w ys + (length w + 1)
+count-split = mission.formula-both
+
+-- Every end of a load alone, whatever VPP and RP#: as a run's, without the verify.
+pub load-every-end : (d : Device) (s : State) (p : Pins) (k : ℕ) (xs w sc : List ℕ) → Taken d s p k xs w sc → Whole false d s p k xs w sc
+load-every-end = total-ends.every-end false
+
+-- A run is the two of them: what it returns and leaves is what the load leaves and, only where that ended well, what the verify from
+-- there returns and leaves, with the counts added; refused or not, for devices and bytes of the widths that the code has.
+pub run-is-both : (d : Device) (s : State) (p : Pins) (k : ℕ) (xs w sc : List ℕ) → d .program ≤ 65535 → d .erase ≤ 65535 → Cells (d .part) w
+    → runLeft d s p k xs w sc ≡ bothLeft d s p k xs w sc
+run-is-both = both.run-both
+
+-- So are its cycles: where the load did not end well, the verify is not begun.
+pub cycles-are-both : (d : Device) (s : State) (p : Pins) (k : ℕ) (xs w sc : List ℕ) → Taken d s p k xs w sc → cyclesOfLoad d s p k xs w sc ≡ bothCycles d s p k xs w sc
+cycles-are-both d s p k xs w sc t = both.taken-both d s p k xs w sc t .1
+
+-- 25 comes from a verify only, 20 to 24 from a load only: a load alone never ends 25, and a verify ends well or 25.
+pub load-never-25 : (d : Device) (s : State) (p : Pins) (k : ℕ) (xs w sc : List ℕ) → Taken d s p k xs w sc → loadAlone d s p k xs w sc .ran .end ≡ 25 → ⊥
+load-never-25 d s p k xs w sc t = total-ends.never false d s p k xs w sc t .2
+
+pub verify-only-25 : (d : Device) (s : State) (p : Pins) (k : ℕ) (xs w sc : List ℕ) → NoRow (runRows d s p k (length xs) (length w) (length sc))
+    → (verifyAlone d s p k xs w sc .ran .end ≡ 25 → ⊥) → verifyAlone d s p k xs w sc .ran .end ≡ 0
+verify-only-25 = verifying.only-25
+
+-- Stepping by hand is the load alone, and the verify alone, as it is the run.
+pub load-by-hand : (d : Device) (s : State) (p : Pins) (k : ℕ) (xs w sc : List ℕ) → Taken d s p k xs w sc → Stepped Clearing false d s p k xs w sc
+load-by-hand d s p k xs w sc t = stepping.stepped false d s p k xs w sc (load-every-end d s p k xs w sc t)
+
+pub verify-by-hand : (d : Device) (s : State) (p : Pins) (k : ℕ) (xs w sc : List ℕ) → NoRow (runRows d s p k (length xs) (length w) (length sc)) → Stepped Closing true d s p k xs w sc
+verify-by-hand d s p k xs w sc f = stepping.by-hand Closing true refl d s p k xs w sc f (verified d s p k xs w sc f .smooth)
+
+-- The count is the number of cycles made, of either.
+pub load-counts : (d : Device) (s : State) (p : Pins) (k : ℕ) (xs w sc : List ℕ) → NoRow (runRows d s p k (length xs) (length w) (length sc))
+    → loadAlone d s p k xs w sc .ran .count ≡ length (cyclesAt Clearing false d s p k xs w sc)
+load-counts = counting.run-counts Clearing false
+
+pub verify-counts : (d : Device) (s : State) (p : Pins) (k : ℕ) (xs w sc : List ℕ) → NoRow (runRows d s p k (length xs) (length w) (length sc))
+    → verifyAlone d s p k xs w sc .ran .count ≡ length (cyclesAt Closing true d s p k xs w sc)
+verify-counts = counting.run-counts Closing true

@@ -1,0 +1,3 @@
+pub mod Verifying
+pub mod Both
+pub mod Claims

@@ -1,0 +1,2 @@
+pub mod Verified
+pub mod Both

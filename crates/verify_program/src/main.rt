@@ -1,0 +1,145 @@
+// The verify program. Arguments: an image of a part (a dump of its bytes), the device's number, the flash block, a load file, the menu letter.
+// Standard output: one line, that the block holds the file, at which address it differs, or the refusal with its number and words.
+use device::Device;
+use device::Part;
+use loader_run::Ran;
+use model_types::Pins;
+use reading_text::NumberRead;
+
+// Text on standard output.
+fn say(text: &[u8]) {
+    io::write_all(1, text);
+}
+
+// What a refusal of the file means.
+fn say_file_words(n: u8) {
+    match n {
+        30 => say(b"the file's length is wrong, or it is longer than the block\n"),
+        31 => say(b"a block's check is wrong\n"),
+        32 => say(b"a block's letter is none, or not the first block's\n"),
+        33 => say(b"a block's number or count is wrong\n"),
+        34 => say(b"a block's used count or padding is wrong\n"),
+        35 => say(b"the file's letter is not the one asked for\n"),
+        _ => say(b"as the list of numbers says\n"),
+    }
+}
+
+// What a refusal means.
+fn say_words(n: u8) {
+    match n {
+        1 => say(b"there is no such device\n"),
+        2 => say(b"the image is not as long as the part\n"),
+        10 => say(b"there is no such block\n"),
+        _ => say_file_words(n),
+    }
+}
+
+// The address that differs, in five hexadecimal digits.
+fn say_address(address: u32) {
+    let mut text = [0u8; 5];
+    vectors_text::hex(&mut text, address as u64);
+    say(b"differs at ");
+    say(&text);
+    say(b"\n");
+}
+
+fn say_ran(x: Ran) {
+    let end = x.end;
+    match end {
+        0 => say(b"the block holds the file\n"),
+        25 => say_address(x.address),
+        _ => {
+            say(b"refused ");
+            io::print_decimal(1, end as u64);
+            say(b": ");
+            say_words(end);
+        }
+    }
+}
+
+// The verify on a fresh part with RP# high and no 12 V.
+fn verified(image: &mut [u8], number: u8, block: u8, file: &[u8], letter: u8) -> Ran {
+    let part = Part { number: number };
+    let d = Device {
+        part: part,
+        program: 1,
+        erase: 1,
+        suspend: 1,
+    };
+    let pins = Pins { rp: 1, vpp: 0 };
+    let mut wanted = [0u8; 114688];
+    let mut scratch = [0u8; 114688];
+    let n = common::least(device::length(part, block), 114688);
+    let state = model::fresh();
+    loader_from_file::verify_from_file(
+        d,
+        state,
+        pins,
+        block,
+        image,
+        &mut wanted[0..n],
+        &mut scratch[0..n],
+        file,
+        letter,
+    )
+}
+
+// How to call it.
+fn usage() {
+    io::write_all(2, b"usage: verify_program IMAGE DEVICE BLOCK FILE LETTER\n");
+}
+
+// As much as there is of the file that an argument names, and whether it could be opened.
+fn fetched(k: usize, into: &mut [u8]) -> usize {
+    let mut name = io::buffer();
+    let n = os::arg(k, &mut name);
+    let fd = os::open_read(&name[..n]);
+    if fd < 0 {
+        os::fail(&name[..n]);
+        return 0;
+    }
+    let m = io::read_full(fd, into);
+    libc::close(fd);
+    m
+}
+
+// Image and file are fetched; one byte more than the longest is enough to see that something is too long.
+fn with_numbers(number: u8, block: u8, letter: u8) {
+    let mut image = [0u8; 131073];
+    let mut file = [0u8; 4608];
+    let n = fetched(1, &mut image);
+    let m = fetched(4, &mut file);
+    let a = common::least(n, 131073);
+    let b = common::least(m, 4608);
+    say_ran(verified(&mut image[0..a], number, block, &file[0..b], letter));
+}
+
+// A small number of an argument; 255 where it is none.
+fn small(k: usize) -> u8 {
+    let mut text = [0u8; 4];
+    let n = os::arg(k, &mut text);
+    match reading_text::read_number(&text[..n]) {
+        NumberRead::Whole(x) => {
+            if (0 <= x) & (x < 255) {
+                return x as u8;
+            }
+            255
+        }
+        NumberRead::NoNumber => 255,
+    }
+}
+
+fn main() {
+    let mut text = [0u8; 2];
+    let n = os::arg(5, &mut text);
+    let count = os::arg_count();
+    if n != 1 {
+        usage();
+        return;
+    }
+    if count != 6 {
+        usage();
+        return;
+    }
+    with_numbers(small(2), small(3), common::nth(&text, 0));
+}
