@@ -4,7 +4,6 @@ use device::Device;
 use device::Part;
 use loader_run::Ran;
 use model_types::Pins;
-use reading_text::NumberRead;
 
 // Text on standard output.
 fn say(text: &[u8]) {
@@ -114,19 +113,21 @@ fn with_numbers(number: u8, block: u8, letter: u8) {
     say_ran(verified(&mut image[0..a], number, block, &file[0..b], letter));
 }
 
-// A small number of an argument; 255 where it is none.
-fn small(k: usize) -> u8 {
-    let mut text = [0u8; 4];
+// The digit that an argument is; 255 where it is none.
+fn digit(k: usize) -> u8 {
+    let mut text = [0u8; 2];
     let n = os::arg(k, &mut text);
-    match reading_text::read_number(&text[..n]) {
-        NumberRead::Whole(x) => {
-            if (0 <= x) & (x < 255) {
-                return x as u8;
-            }
-            255
-        }
-        NumberRead::NoNumber => 255,
+    let c = common::nth(&text, 0);
+    if n != 1 {
+        return 255;
     }
+    if b'9' < c {
+        return 255;
+    }
+    if c < b'0' {
+        return 255;
+    }
+    c - b'0'
 }
 
 fn main() {
@@ -141,5 +142,5 @@ fn main() {
         usage();
         return;
     }
-    with_numbers(small(2), small(3), common::nth(&text, 0));
+    with_numbers(digit(2), digit(3), common::nth(&text, 0));
 }
