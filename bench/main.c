@@ -17,6 +17,8 @@ typedef struct {
     tb_given (*start)(uint8_t, uint8_t, uint32_t, uint8_t, const uint8_t *, size_t, const uint8_t *, size_t);
     tb_turn (*step)(tb_loader *, uint8_t, const uint8_t *, size_t, uint8_t *, size_t);
     tb_ran (*run)(tb_device, tb_state, uint8_t, uint32_t, uint8_t, uint8_t *, size_t, const uint8_t *, size_t, uint8_t *, size_t);
+    tb_ran (*verify)(tb_device, tb_state, uint8_t, uint32_t, uint8_t, uint8_t *, size_t, const uint8_t *, size_t, uint8_t *,
+                     size_t);
     tb_ran (*load)(tb_device, tb_state, uint8_t, uint32_t, uint8_t, uint8_t, const uint8_t *, size_t, uint8_t *, size_t,
                    uint8_t *, size_t, uint8_t *, size_t);
     tb_sized (*write)(uint8_t, const uint8_t *, size_t, uint8_t *, size_t);
@@ -39,10 +41,10 @@ static uint16_t c_running_sums(const uint8_t *block, size_t n) {
     return (uint16_t)total;
 }
 
-static const maker proved = {tb_size, tb_block, tb_fresh, tb_cycle, tb_start, tb_step, tb_run, tb_load, tb_file_write,
-                             tb_file_read, tb_block_check, tb_block_check, tb_table_judge, tb_table_reading};
-static const maker second = {c_size, c_block, c_fresh, c_cycle, c_start, c_step, c_run, c_load, c_file_write, c_file_read,
-                             c_block_check, c_running_sums, c_table_judge, c_table_reading};
+static const maker proved = {tb_size, tb_block, tb_fresh, tb_cycle, tb_start, tb_step, tb_run, tb_verify_run, tb_load,
+                             tb_file_write, tb_file_read, tb_block_check, tb_block_check, tb_table_judge, tb_table_reading};
+static const maker second = {c_size, c_block, c_fresh, c_cycle, c_start, c_step, c_run, c_verify_run, c_load, c_file_write,
+                             c_file_read, c_block_check, c_running_sums, c_table_judge, c_table_reading};
 
 /* What the work is done on; `ready` of a row sets it, and all of it is compared after the row. It stands at the start of a page,
  * since the C library's copies go different ways for different addresses. */
@@ -151,6 +153,11 @@ static void ready_same(void) {
 }
 static void work_run(const maker *m) {
     at.ran = m->run(at.device, at.state, 2, 12000, size == 512 ? 1 : 0, at.array, 16384, at.wanted, size, at.scratch, size);
+}
+
+/* The verify alone, of block 1 without 12 V. */
+static void work_verify(const maker *m) {
+    at.ran = m->verify(at.device, at.state, 1, 0, 1, at.array, 16384, at.wanted, size, at.scratch, size);
 }
 
 /* The same load by hand: what a part would answer to each of its cycles is worked out before. */
@@ -273,6 +280,7 @@ static const struct {
     {"run: 1,024 bytes, one erase, all programmed", 1024, 1, ready_full, work_run, NULL},
     {"run: 512 bytes held as wanted", 512, 1, ready_same, work_run, NULL},
     {"run: 1,024 bytes held as wanted", 1024, 1, ready_same, work_run, NULL},
+    {"verify: 512 bytes held as wanted", 512, 1, ready_same, work_verify, NULL},
     {"load from a file of one block", 505, 1, ready_load, work_load, NULL},
     {"writer: one block", 505, TURNS, ready_file, work_write, NULL},
     {"writer: eight blocks", 4040, TURNS, ready_file, work_write, NULL},
