@@ -36,6 +36,12 @@ print)
 esac
 held=$(mktemp -d) || fail 4 "cannot make a temporary folder"
 trap 'rm -rf -- "$held"' EXIT
+# the program reads no more than 65,536 bytes of a text
+if [ "$1" = write ]; then
+    head -c 65536 >"$held/text" || fail 4 "the text could not be kept"
+    [ "$(wc -c <"$held/text")" -lt 65536 ] || fail 1 "the text is longer than 65535 bytes"
+    exec <"$held/text"
+fi
 shift
 start "$@" >"$held/out" 2>"$held/err" || fail 4 "the program did not end well"
 if [ -s "$held/err" ]; then fail 1 "$(cat "$held/err")"; fi

@@ -207,6 +207,8 @@ call written K "$work/k.txt"; try 'the table of type K' 0 '*' ''
 cmp -s "$work/out" "$root/crates/reading_program/data/k.load" || wrong 'the table of type K: another file'
 call "$tb" table print "$root/crates/reading_program/data/k.load" K; try 'the table of type K printed' 0 "$(cat "$work/k.txt")
 " ''
+python3 -c "for i in range(673): print(f'{i:0100} {i}')" >"$work/zeros.txt"
+call written K "$work/zeros.txt"; try 'a text that is too long' 1 '' 'longer than 65535 bytes'
 call "$tb" read "$work/nothing" K 1; try 'no file to read' 2 '' 'there is no file'
 call "$tb" read "$work/three.load" K 1.5; try 'microvolts that are no whole number' 2 '' 'whole number'
 call "$tb" read "$work/three.load" KK 1; try 'two letters' 2 '' 'the letter'
