@@ -65,14 +65,18 @@ fn pair_at(s: &[u8], i: usize) -> Pair
     reading_pair::pair_of(x0, t0, x1, t1)
 }
 
-// The last knot, the first where there is none.
-fn last_of(n: usize) -> usize
-    ensures { λ r. ⌜ r ≡ n - 1 ⌝ }
+// Where there are fewer than two knots: by knot 0 alone.
+fn alone(payload: &[u8], x: i32) -> Reading
+    requires { ⌜ length (now payload) / 6 < 2 ⌝ }
+    ensures { λ r. ⌜ r ≡ readingOf (now (payload .entry)) x ⌝ }
 {
-    if n < 1 {
-        return 0;
+    if under(payload, 0, x) {
+        return Reading::Below(heat(payload, 0));
     }
-    n - 1
+    if over(payload, 0, x) {
+        return Reading::Above(heat(payload, 0));
+    }
+    Reading::Temperature(heat(payload, 0))
 }
 
 // The reading at x by a payload that was judged. It takes any other too; fewer than two knots are read as a knot alone.
@@ -80,15 +84,15 @@ pub fn reading_at(payload: &[u8], x: i32) -> Reading
     ensures { λ r. ⌜ r ≡ readingOf (now (payload .entry)) x ⌝ }
 {
     let n = payload.len() / 6;
-    let last = last_of(n);
+    if n < 2 {
+        return alone(payload, x);
+    }
+    let last = n - 1;
     if under(payload, 0, x) {
         return Reading::Below(heat(payload, 0));
     }
     if over(payload, last, x) {
         return Reading::Above(heat(payload, last));
-    }
-    if n < 2 {
-        return Reading::Temperature(heat(payload, 0));
     }
     let i = reading_table::seek(payload, x);
     let p = pair_at(payload, i);
