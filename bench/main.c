@@ -49,7 +49,7 @@ static const maker second = {c_size, c_block, c_fresh, c_cycle, c_start, c_step,
 /* What the work is done on; `ready` of a row sets it, and all of it is compared after the row. It stands at the start of a page,
  * since the C library's copies go different ways for different addresses. */
 static _Alignas(4096) struct {
-    uint8_t array[131072], residue[8192], wanted[8192], scratch[8192], file[4096], payload[4040], back[4040];
+    uint8_t array[131072], residue[8192], wanted[8192], scratch[8192], file[TB_FILE_MOST], payload[TB_PAYLOAD_MOST], back[TB_PAYLOAD_MOST];
     tb_device device;
     tb_state state;
     tb_answer answer;
@@ -230,7 +230,7 @@ static void work_sums(const maker *m) {
 /* A table of as many knots as `size` says, some 120 microvolts apart. */
 static void ready_table(void) {
     for (size_t i = 0; i < size; i++) {
-        uint32_t volts = (uint32_t)(-9000 + (int32_t)(i * 118 + i * 7 % 50)), tenths = (uint32_t)(i * 13 % 9000);
+        uint32_t volts = (uint32_t)(-9000 + (int32_t)(size > 673 ? i * 4 : i * 118 + i * 7 % 50)), tenths = (uint32_t)(i * 13 % 9000);
         const uint8_t six[] = {(uint8_t)(volts >> 24), (uint8_t)(volts >> 16), (uint8_t)(volts >> 8), (uint8_t)volts, (uint8_t)(tenths >> 8), (uint8_t)tenths};
         memcpy(at.payload + 6 * i, six, 6);
     }
@@ -286,10 +286,13 @@ static const struct {
     {"writer: eight blocks", 4040, TURNS, ready_file, work_write, NULL},
     {"reader: one block", 505, TURNS, ready_file, work_read, NULL},
     {"reader: eight blocks", 4040, TURNS, ready_file, work_read, NULL},
+    {"writer: 224 blocks", TB_PAYLOAD_MOST, TURNS, ready_file, work_write, NULL},
+    {"reader: 224 blocks", TB_PAYLOAD_MOST, TURNS, ready_file, work_read, NULL},
     {"check of 510 bytes", 505, TURNS, ready_file, work_check, NULL},
     {"check of 510 bytes, the C by running sums too", 505, TURNS, ready_file, work_sums, NULL},
     {"reading: a table of 673 knots judged", 673, TURNS, ready_table, work_judge, NULL},
     {"reading: one by a table of 673 knots", 673, TURNS, ready_table, work_reading, NULL},
+    {"reading: one by a table of 18,853 knots", 18853, TURNS, ready_table, work_reading, NULL},
 };
 
 /* A number over everything that the work left. Structs have padding, so it goes field by field. */

@@ -9,7 +9,7 @@ usage: torfbarke table write LETTER <TEXT >FILE   a load file of a table
        torfbarke table print FILE LETTER          the table of a load file
 
 A table in text has a line for each knot: its microvolts, a space, its tenths of a degree. Microvolts are from -10000 to 80000 and rise
-from line to line; there are 2 to 673 lines.
+from line to line; there are 2 to 18,853 lines.
 
 Exit status: 0 done, 1 refused or a wrong line (standard error says which), 2 a wrong call, 3 a program could not be built, 4 a write failed.
 TXT
@@ -36,12 +36,6 @@ print)
 esac
 held=$(mktemp -d) || fail 4 "cannot make a temporary folder"
 trap 'rm -rf -- "$held"' EXIT
-# the program reads no more than 65,536 bytes of a text
-if [ "$1" = write ]; then
-    head -c 65536 >"$held/text" || fail 4 "the text could not be kept"
-    [ "$(wc -c <"$held/text")" -lt 65536 ] || fail 1 "the text is longer than 65535 bytes"
-    exec <"$held/text"
-fi
 shift
 start "$@" >"$held/out" 2>"$held/err" || fail 4 "the program did not end well"
 if [ -s "$held/err" ]; then fail 1 "$(cat "$held/err")"; fi

@@ -207,8 +207,18 @@ call written K "$work/k.txt"; try 'the table of type K' 0 '*' ''
 cmp -s "$work/out" "$root/crates/reading_program/data/k.load" || wrong 'the table of type K: another file'
 call "$tb" table print "$root/crates/reading_program/data/k.load" K; try 'the table of type K printed' 0 "$(cat "$work/k.txt")
 " ''
-python3 -c "for i in range(673): print(f'{i:0100} {i}')" >"$work/zeros.txt"
-call written K "$work/zeros.txt"; try 'a text that is too long' 1 '' 'longer than 65535 bytes'
+python3 -c "for i in range(18853): print(4 * i - 10000, i % 3000)" >"$work/long.txt"
+call written K "$work/long.txt"; try 'the longest table' 0 '*' ''
+cp "$work/out" "$work/long.load"
+[ "$(wc -c <"$work/long.load")" = 114688 ] || wrong 'the longest table: not 224 blocks'
+call "$tb" table print "$work/long.load" K; try 'the longest table printed' 0 "$(cat "$work/long.txt")
+" ''
+call "$tb" read "$work/long.load" K 65408; try 'its last knot' 0 '85.2
+' ''
+echo '65412 0' >>"$work/long.txt"
+call written K "$work/long.txt"; try 'a knot too many' 1 '' 'line 18854'
+head -c 327680 /dev/zero | tr '\0' 0 >"$work/zeros.txt"
+call written K "$work/zeros.txt"; try 'a text that is too long' 1 '' 'longer than 327679 bytes'
 call "$tb" read "$work/nothing" K 1; try 'no file to read' 2 '' 'there is no file'
 call "$tb" read "$work/three.load" K 1.5; try 'microvolts that are no whole number' 2 '' 'whole number'
 call "$tb" read "$work/three.load" KK 1; try 'two letters' 2 '' 'the letter'

@@ -1,5 +1,5 @@
 #!/usr/bin/env python3
-"""The vectors of the load file, worked out from document 01 alone.
+"""The vectors of the load file, worked out from documents 01 and 02 alone.
 
     python3 tests/vectors_file.py table      the cases, one a line: what crates/vectors_file reads (its file stdin)
     python3 tests/vectors_file.py expected   what it must print (its file stdout)
@@ -15,8 +15,8 @@ import sys
 from vectors_model import called
 
 LETTERS = b"BEJKNRST"
-MOST = 8
-FILE, BACK, NONE = 5200, 4200, 99999
+MOST = 224
+FILE, BACK, NONE = (5200, 115300), (4200, 113600), 999999  # of a short file, and of a long one
 
 
 def check(first):
@@ -75,15 +75,17 @@ def digest(data):
 CASES = []
 
 
-def row_of(letter="B", size=1, room=FILE, before=(), seal=(), after=(), length=None, asked=None, back=BACK):
-    """The sixteen numbers of a case."""
+def row_of(letter="B", size=1, room=None, before=(), seal=(), after=(), length=None, asked=None, back=None):
+    """The seventeen numbers of a case; the last says whether its buffers are those of a long file."""
     letter = letter if isinstance(letter, int) else ord(letter)
     asked = letter if asked is None else asked if isinstance(asked, int) else ord(asked)
     if length is None:
         length = max(512, 512 * ((min(size, 505 * MOST) + 504) // 505))
+    long = int(max(size, length) > 4200)
+    room, back = FILE[long] if room is None else room, BACK[long] if back is None else back
     two = lambda pairs: [x for pair in (list(pairs) + [(NONE, 0)] * 2)[:2] for x in pair]
     seals = (list(seal) + [NONE] * 2)[:2]
-    return [letter, size, room] + two(before) + seals + two(after) + [length, asked, back]
+    return [letter, size, room] + two(before) + seals + two(after) + [length, asked, back, long]
 
 
 def case(told, *about, **more):
@@ -93,27 +95,28 @@ def case(told, *about, **more):
 def spoiled(row, payload):
     """The writer's refusal and length, and the buffer once the case's changes are made in it."""
     letter, _, room, p1, v1, p2, v2, s1, s2, q1, w1, q2, w2 = row[:13]
-    file = bytearray(b"\xa5" * FILE)
+    whole = FILE[row[16]]
+    file = bytearray(b"\xa5" * whole)
     number, made = write(letter, payload)
     if not number and len(made) > room:
         number = 37
     if not number:
         file[:len(made)] = made
     for p, v in (p1, v1), (p2, v2):
-        if p < FILE:
+        if p < whole:
             file[p] = v
     for s in s1, s2:
-        if s < MOST:
+        if s < MOST and 512 * s + 512 <= whole:
             file[512 * s + 510:512 * s + 512] = check(file[512 * s:512 * s + 510]).to_bytes(2, "big")
     for p, v in (q1, w1), (q2, w2):
-        if p < FILE:
+        if p < whole:
             file[p] = v
     return number, 0 if number else len(made), file
 
 
 def run(row):
-    length, asked, back = row[13:]
-    out = bytearray(b"\x5a" * BACK)
+    length, asked, back, long = row[13:]
+    out = bytearray(b"\x5a" * BACK[long])
     number, made, file = spoiled(row, pattern(row[1]))
     said = f"W!{number}" if number else f"W={made}"
     data = bytes(file[:length])
@@ -131,11 +134,11 @@ def run(row):
 
 def fill():
     blocks = lambda size: 512 * ((size + 504) // 505)
-    for size in (0, 1, 504, 505, 506, 1010, 1011, 4039, 4040, 4041):
+    for size in (0, 1, 504, 505, 506, 1010, 1011, 4039, 4040, 4041, 4545, 4546, 113119, 113120, 113121):
         case(f"payload of {size}", size=size)
     for letter in "BEJKNRST":
         case(f"letter {letter}", letter, 20)
-    for size in (1, 505, 506, 1011, 4040):
+    for size in (1, 505, 506, 1011, 4040, 4041, 113120):
         case(f"{size}: writer's room exact", size=size, room=blocks(size))
         case(f"{size}: writer's room one short", size=size, room=blocks(size) - 1)
         case(f"{size}: reader's room exact", size=size, back=size)
@@ -145,11 +148,23 @@ def fill():
         case(f"letter {letter}: 32", letter, 20)
     case("32 before 36 and 37", 65, 0, 0)
     case("36 before 37, none", "B", 0, 0)
-    case("36 before 37, too many", "B", 4041, 0)
+    case("36 before 37, too many", "B", 113121, 0)
     for length in (0, 1, 511, 513):
         case(f"one block read at length {length}: 30", length=length)
-    for length in (4095, 4097, 4608, 5120):
+    for length in (4095, 4097, 4609):
         case(f"eight blocks read at length {length}: 30", size=4040, length=length)
+    for length in (4608, 5120):
+        case(f"eight blocks read at length {length}: 33", size=4040, length=length)
+    for length in (114687, 114689, 115200):
+        case(f"224 blocks read at length {length}: 30", size=113120, length=length)
+    case("nine blocks, of which eight are read: 33", size=4041, length=4096)
+    case("31: block 223 of 224 damaged", size=113120, before=[(114176 + 300, 9)], asked="T")
+    case("31: block 223 of 224, its check", size=113120, before=[(114687, 1), (114686, 1)])
+    case("33: block 223 of 224 says 222", size=113120, before=[(114177, 222)], seal=[223])
+    case("33: block 223 of 224 counts 223", size=113120, before=[(114178, 223)], seal=[223])
+    case("34: block 222 of 224 uses 504", size=113120, before=[(113664 + 4, 248)], seal=[222])
+    case("35: 224 blocks", size=113120, asked="T")
+    case("37: 224 blocks, no room", size=113120, back=0)
     case("30 before 31", before=[(0, 1)], length=1023)
     case("one block of two: 33", size=506, length=512)
     case("a block too many: 33", size=505, length=1024)
@@ -223,7 +238,7 @@ class All:
 
     def __init__(self):
         fill()
-        self.rows = [" ".join(f"{n:05}" for n in row) for told, row in CASES]
+        self.rows = [" ".join(f"{n:06}" for n in row) for told, row in CASES]
         self.lines = [run(row) for told, row in CASES]
 
 

@@ -77,7 +77,7 @@ def sown(first, step, n):
 def file_of(row):
     """The changes that a case makes in the file as it was written, and the file."""
     payload = bytes(sown(3, 7, row[1]))
-    written = spoiled(row_of(letter=row[0], size=row[1]), payload)[2]
+    written = spoiled(row_of(letter=row[0], size=row[1], length=row[13]), payload)[2]
     file = spoiled(row, payload)[2]
     return [(i, b) for i, b in enumerate(file) if b != written[i]], bytes(file[: row[13]])
 
@@ -142,8 +142,10 @@ def file_refused(t):
     wide = {"number": 4, "block": 3, "held": (9, 11)}
     for length in (0, 1, 511, 513, 1023):
         t.case(f"30 of {length} bytes", 30, about={"size": 900, "length": length}, **two)
-    for length in (4095, 4097, 4608):
+    for length in (4095, 4097):
         t.case(f"30 of {length} bytes", 30, about={"size": 4040, "length": length}, **wide)
+    t.case("33 nine, one is none", 33, about={"size": 4040, "length": 4608}, **wide)
+    t.case("30 nine into 4 KB", 30, about={"size": 4041}, number=1, block=1, held=(1, 1))
     t.case("30 two into 512", 30, about={"size": 506}, number=3, block=1, held=(1, 1))
     t.case("30 two into 512 B", 30, about={"size": 506}, number=4, block=2, held=(1, 1))
     t.case("30 three into 1024", 30, about={"size": 1011}, number=4, block=0, held=(1, 1))
@@ -222,6 +224,8 @@ def loaded(t):
     t.case("well eight, 8 KB boot B", 0, about={"letter": "R", "size": 4040}, number=2, block=0)
     t.case("well eight fill 4 KB", 0, about={"letter": "N", "size": 4040}, number=2, block=1, held=(0, 0), times=(1, 1))
     t.case("well eight, long main", 0, about={"letter": "E", "size": 4040}, number=2, block=3, held=(5, 9), times=(1, 9))
+    t.case("well nine, main", 0, about={"letter": "S", "size": 4041}, number=3, block=3, held=(5, 9))
+    t.case("well nine, 8 KB boot", 0, about={"size": 4041}, number=2, block=0, held=(0, 0), times=(1, 1))
     t.case("well one, long main", 0, about={"letter": "J", "size": 1}, number=1, block=3)
     for number, block, size in ((3, 1, 505), (3, 0, 100), (4, 3, 4040), (1, 2, 4040)):
         t.case(f"held already, {number} {block}", 0, about={"size": size}, number=number, block=block, laid=True)

@@ -252,14 +252,18 @@ def all_rows():
     r.ask("S", s_probe)
     r.cut(511)
     r.ask("S", s_probe)
-    # the longest table
+    # the longest table of eight blocks, and one knot more: nine
     r.table(FULL_K)
     r.judge()
     r.write("K")
     r.ask("K", *around(FULL_K, 97))
-    r.table(FULL_K + [(80000, 0)])
+    longer = FULL_K + [(80000, 0)]
+    r.table(longer)
     r.judge()
     r.write("K")
+    r.ask("K", 0)
+    r.lend(6 * len(longer))
+    r.ask("K", *around(longer, 336))
     return r
 
 

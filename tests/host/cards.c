@@ -120,7 +120,7 @@ static uint64_t count_of(uint8_t held, bool as_wanted, uint8_t first) {
 }
 
 static void loads_and_files(void) {
-    static uint8_t payload[4041], file[4608], ones[510];
+    static uint8_t payload[113121], file[115200], ones[510];
     card(10, count_of(0xFF, false, 0x5A) == 1031);
     card(11, count_of(0x00, false, 0xFF) == 1032 && count_of(0x00, true, 0xFF) == 1027);
     memset(ones, 0xFF, sizeof ones);
@@ -128,7 +128,9 @@ static void loads_and_files(void) {
     card(13, tb_file_write('K', payload, 505, file, sizeof file).length == 512);
     card(13, tb_file_write('K', payload, 506, file, sizeof file).length == 1024);
     card(13, tb_file_write('K', payload, 4040, file, sizeof file).length == 4096);
-    card(13, tb_file_write('K', payload, 4041, file, sizeof file).number == 36);
+    card(13, tb_file_write('K', payload, 4041, file, sizeof file).length == 4608);
+    card(13, tb_file_write('K', payload, 113120, file, sizeof file).length == 114688);
+    card(13, tb_file_write('K', payload, 113121, file, sizeof file).number == 36);
 }
 
 void cards(void) {

@@ -56,6 +56,8 @@ static uint8_t some_letter(void) {
 static void written(void) {
     letter = some_letter();
     payload.length = chance(60) ? 1 + below(4040) : ONE_OF(0, 1, 504, 505, 506, 1010, 1011, 4039, 4040, 4041, 4096);
+    if (chance(1))
+        payload.length = ONE_OF(1 + below(TB_PAYLOAD_MOST), TB_PAYLOAD_MOST, TB_PAYLOAD_MOST + 1);
     uint32_t need = (uint32_t)((payload.length + 504) / 505 * 512);
     file.length = chance(85) ? need + ONE_OF(0, 1, 511, 512) : below(need + 2);
     twin_noise(&payload, 0, 32);
@@ -98,17 +100,17 @@ static void damaged(void) {
     }
     if (chance(5))
         file.length = ONE_OF(file.length - 1, file.length - 512, 0);
-    back.length = chance(90) ? 4040 : below(4040);
+    back.length = chance(90) ? back.room : below(4040);
     compare_read();
 }
 
 /* Blocks put together from random fields around the right ones; or noise of any length. */
 static void made_up(void) {
-    uint32_t blocks = 1 + below(8);
+    uint32_t blocks = 1 + below(10);
     uint8_t first = some_letter();
     letter = chance(90) ? first : some_letter();
     file.length = blocks * 512;
-    back.length = chance(80) ? 4040 : below(4050);
+    back.length = chance(80) ? 5050 : below(5060);
     for (uint32_t i = 0; i < blocks; i++) {
         size_t at = i * 512, used = chance(96) ? (i + 1 < blocks ? 505 : 1 + below(505)) : ONE_OF(0, 504, 506, 65535);
         twin_noise(&file, at, 16);
@@ -125,15 +127,17 @@ static void made_up(void) {
     if (chance(10))
         twin_noise(&file, 0, file.length);
     if (chance(20))
-        file.length = chance(50) ? below(4097) : ONE_OF(0, 511, 513, 4095, 4608);
+        file.length = chance(50) ? below(5121) : ONE_OF(0, 511, 513, 4095, 4608);
+    if (chance(1))
+        file.length = ONE_OF(114687, 114689, 115200);
     compare_read();
 }
 
 void files(uint32_t n) {
     tell_case = tell;
-    twin_new(&payload, "payload", 4096);
-    twin_new(&file, "file", 4608 + 512);
-    twin_new(&back, "payload read", 4100);
+    twin_new(&payload, "payload", TB_PAYLOAD_MOST + 1);
+    twin_new(&file, "file", TB_FILE_MOST + 1024);
+    twin_new(&back, "payload read", TB_PAYLOAD_MOST + 60);
     for (uint32_t i = 0; i < n; i++) {
         switch (below(3)) {
         case 0: written(); break;

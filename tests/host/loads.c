@@ -95,9 +95,9 @@ static void check_again(void) {
 }
 
 static void some_file(tb_span b) {
-    static uint8_t payload[4040], bytes[4096];
-    uint32_t room = b.length < 4096 ? b.length / 512 * 505 : 4040;
-    uint32_t n = chance(5) ? 4040 : chance(40) ? ONE_OF(1, 504, 505, room - 1, room) : 1 + below(room);
+    static uint8_t payload[TB_PAYLOAD_MOST], bytes[TB_FILE_MOST];
+    uint32_t room = b.length / 512 * 505;
+    uint32_t n = chance(5) ? ONE_OF(4040, 4041) : chance(40) ? ONE_OF(1, 504, 505, room - 1, room) : 1 + below(room);
     letter = (uint8_t)"BEJKNRST"[below(8)];
     for (uint32_t i = 0; i < n; i++)
         payload[i] = (uint8_t)any32();
@@ -184,7 +184,7 @@ void loads(uint32_t n) {
     twin_new(&array, "array", 131073);
     twin_new(&wanted, "wanted", 131073);
     twin_new(&scratch, "scratch", 131073);
-    twin_new(&file, "file", 4096);
+    twin_new(&file, "file", TB_FILE_MOST);
     for (uint32_t i = 0; i < n; i++)
         load();
 }

@@ -14,7 +14,7 @@
 enum { ROOM = 65536, PAINT = 0xC7, CALLER = 96 };
 
 static _Alignas(64) uint8_t painted[ROOM];
-static uint8_t array[131072], residue[131072], wanted[512], scratch[512], payload[4040], file[4096];
+static uint8_t array[131072], residue[131072], wanted[512], scratch[512], payload[TB_PAYLOAD_MOST], file[TB_FILE_MOST];
 static const tb_device device = {TB_BENCH_T, 2, 3, 1}, large = {TB_28F001BX_T, 1, 1, 1};
 static tb_state state;
 static tb_loader loader;

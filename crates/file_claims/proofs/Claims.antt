@@ -21,6 +21,7 @@ use Rattle.file_claims.proofs.Damage.{damaged, wsum-set}
 use Rattle.file_claims.specs.Tabled.{Ordered}
 use Rattle.file_claims.specs.Roomy.{ReadsInto, WritesGivenRoom}
 use Rattle.file_claims.proofs.Given as given
+use Rattle.file_claims.proofs.Raised as raised
 use Rattle.file_claims.proofs.Order.{writes-in-order, judges-in-order, reads-in-order}
 
 -- what the writer makes of a payload, the reader gives back for that letter
@@ -66,6 +67,24 @@ changed-byte most ℓ p f m bytes w = damaged most ℓ f p (written-bytes most �
 pub changed-byte-here : (ℓ : ℕ) (p f : List ℕ) → Bytes p → writerOf limit ℓ p ≡ made f
     → (k v : ℕ) → k < length f → v < 256 → (v ≡ getD f k 0 → ⊥) → (asked : ℕ) → readerOf limit (set f k v) asked ≡ refused 31
 changed-byte-here ℓ p f = changed-byte limit ℓ p f (omega arith)
+
+-- A limit that is raised leaves what there was: a reader with a lower limit m and one with a higher limit n say the same of every file of at
+-- most 512 bytes for each block of m, refusals included; a longer file the lower one refuses 30 ..
+pub raised-reads : (m n asked : ℕ) (f : List ℕ) → m ≤ n
+    → (length f ≤ 512 * m → readerOf m f asked ≡ readerOf n f asked) × (512 * m < length f → readerOf m f asked ≡ refused 30)
+raised-reads m n asked f l = (raised.reads-alike m n asked f l, raised.longer-30 m asked f)
+
+-- .. and the files of payloads of at most 505 bytes for each block of m are the same.
+pub raised-writes : (m n ℓ : ℕ) (p : List ℕ) → m ≤ n → length p ≤ 505 * m → writerOf m ℓ p ≡ writerOf n ℓ p
+raised-writes = raised.writes-alike
+
+-- So with eight blocks as before and the limit as it is: files of up to 4,096 bytes keep their reading, longer ones were refused 30, and
+-- payloads of up to 4,040 bytes give the files that they gave.
+pub stored-files : (asked : ℕ) (f : List ℕ) → (length f ≤ 4096 → readerOf 8 f asked ≡ readerOf limit f asked) × (4096 < length f → readerOf 8 f asked ≡ refused 30)
+stored-files asked f = raised-reads 8 limit asked f (omega arith)
+
+pub written-files : (ℓ : ℕ) (p : List ℕ) → length p ≤ 4040 → writerOf 8 ℓ p ≡ writerOf limit ℓ p
+written-files ℓ p = raised-writes 8 limit ℓ p (omega arith)
 
 -- but two changes can cancel out: byte 5 up by 2 and byte 11 down by 1 leave the check as it was
 pub two-cancel : (xs : List ℕ) (b : ℕ) → 11 < length xs → getD xs 11 0 ≡ b + 1 → checkOf (set (set xs 5 (getD xs 5 0 + 2)) 11 b) ≡ checkOf xs

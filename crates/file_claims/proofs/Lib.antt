@@ -4,5 +4,6 @@ pub mod Reading
 pub mod Damage
 pub mod Given
 pub mod Order
+pub mod Raised
 pub mod Claims
 pub mod Unique

@@ -17,7 +17,7 @@ use Rattle.file_codec.specs.declared.ReadBack.the-variants.{Gave, NotRea
 
 -- the most blocks that a file has
 abbrev pub limit : ℕ
-limit = 8
+limit = 224
 
 -- the blocks that a payload of so many bytes takes, 505 to a block
 abbrev pub countOf : ℕ → ℕ

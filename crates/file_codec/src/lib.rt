@@ -9,7 +9,7 @@ ghost use Rattle.file_codec.specs.Layout.{headOf, sealed, blockWritten};
 ghost use Rattle.file_codec.specs.File.{limit, countOf, blocksOf, payloadWrong, lengthWrong, blocksRows, placesOf, writerOf, readerOf, inRoom, leftIn, writtenAs, judgedAs, readAs};
 
 // The most blocks that a file has.
-const LIMIT: usize = 8;
+const LIMIT: usize = 224;
 
 // The writer's answer: the bytes written, or the refusal.
 pub enum Written {

@@ -86,15 +86,15 @@ pair-falls = warm.pair-falls
 pub table-rises : (p : List ℕ) → Table p → Warming p → (x y : ℤ) → T (leZ x y) → T (le (degrees (readingOf p x)) (degrees (readingOf p y)))
 table-rises = warm.table-rises
 
--- The search takes at most k halvings in a table of at most 2 to the k knots: ten in a file's.
+-- The search takes at most k halvings in a table of at most 2 to the k knots: fifteen in a file's.
 pub few-halvings : (p : List ℕ) (x : ℤ) (k : ℕ) → knots p ≤ 2 ^ k → seekOf p x ≡ halving k p x 0 (knots p - 1)
 few-halvings = seek-few
 
 pub few-knots : (f : List ℕ) (letter : ℕ) (p : List ℕ) → readerOf limit f letter ≡ made p → knots p ≤ mostKnots
 few-knots = files.few-knots
 
-pub ten-halvings : (f : List ℕ) (letter : ℕ) (p : List ℕ) (x : ℤ) → readerOf limit f letter ≡ made p → seekOf p x ≡ halving 10 p x 0 (knots p - 1)
-ten-halvings f letter p x e = seek-few p x 10 (le-trans (files.few-knots f letter p e) (lit≤ tt))
+pub fifteen-halvings : (f : List ℕ) (letter : ℕ) (p : List ℕ) (x : ℤ) → readerOf limit f letter ≡ made p → seekOf p x ≡ halving 15 p x 0 (knots p - 1)
+fifteen-halvings f letter p x e = seek-few p x 15 (le-trans (files.few-knots f letter p e) (lit≤ tt))
 
 -- The numbers of a reading from a file: n is given exactly where its row is the first that holds (the reader's 30, 31 to 34 block
 -- by block, 35, 37, then 40, 41), a reading exactly where no row holds.

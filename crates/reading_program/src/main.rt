@@ -67,8 +67,8 @@ fn usage() {
 
 // The reading from an open file. A file that is longer than a block past the limit is cut there, and refused all the same.
 fn read_open(fd: i32, letter: u8, x: i32) {
-    let mut file = [0u8; 4608];
-    let mut room = [0u8; 4040];
+    let mut file = [0u8; 115200];
+    let mut room = [0u8; 113120];
     let n = io::read_full(fd, &mut file);
     say_answer(reading::reading_from_file(&file[..n], letter, &mut room, x));
 }

@@ -41,11 +41,11 @@ fn print_judged(payload: &[u8]) {
 }
 
 fn print_file(file: &[u8], letter: u8) {
-    let mut room = [0u8; 4040];
+    let mut room = [0u8; 113120];
     match file_codec::read(file, letter, &mut room) {
         ReadBack::NotRead(n) => refuse(n),
         ReadBack::Gave(n) => {
-            let size = common::least(n, 4040);
+            let size = common::least(n, 113120);
             print_judged(&room[0..size]);
         }
     }
@@ -53,7 +53,7 @@ fn print_file(file: &[u8], letter: u8) {
 
 // A file that is longer than a block past the limit is cut there, and refused all the same.
 fn print_open(fd: i32, letter: u8) {
-    let mut file = [0u8; 4608];
+    let mut file = [0u8; 115200];
     let n = io::read_full(fd, &mut file);
     print_file(&file[..n], letter);
 }

@@ -12,10 +12,10 @@ fn complain(words: &[u8], n: u64) {
 
 // The file of a payload.
 fn write_file(letter: u8, payload: &[u8]) {
-    let mut file = [0u8; 4096];
+    let mut file = [0u8; 114688];
     match file_codec::write(letter, payload, &mut file) {
         Written::Wrote(n) => {
-            let size = common::least(n, 4096);
+            let size = common::least(n, 114688);
             io::write_all(1, &file[0..size]);
         }
         Written::NotWritten(n) => complain(b"refused ", n as u64),
@@ -34,10 +34,10 @@ fn write_judged(letter: u8, payload: &[u8]) {
 
 // The text becomes a payload.
 fn write_text(letter: u8, text: &[u8]) {
-    let mut payload = [0u8; 4040];
+    let mut payload = [0u8; 113120];
     match reading_text::read_table(text, &mut payload) {
         TableRead::Knots(n) => {
-            let size = 6 * common::least(n, 673);
+            let size = 6 * common::least(n, 18853);
             write_judged(letter, &payload[0..size]);
         }
         TableRead::WrongLine(n) => complain(b"no knot, or one too many, in line ", n as u64),
@@ -45,7 +45,7 @@ fn write_text(letter: u8, text: &[u8]) {
 }
 
 fn main() {
-    let mut text = io::large_buffer();
+    let mut text = [0u8; 327680];
     let mut word = [0u8; 2];
     let k = os::arg(1, &mut word);
     if k != 1 {
@@ -53,5 +53,9 @@ fn main() {
         return;
     }
     let n = io::read_full(0, &mut text);
+    if n == 327680 {
+        io::write_all(2, b"the text is longer than 327679 bytes\n");
+        return;
+    }
     write_text(common::nth(&word, 0), &text[..n]);
 }

@@ -1,24 +1,24 @@
 // The vectors of the load file: a case a line of standard input, an answer a line of standard output.
-// A case is sixteen numbers of five digits; tests/loadfile_vectors.py says what they mean.
+// A case is seventeen numbers of six digits; tests/vectors_file.py says what they mean.
 ghost use Prim.Native.Nat.{_<_};
 
 // Number k of a case.
 fn field(case: &[u8], k: usize) -> usize
     requires { ⌜ k < 100 ⌝ }
 {
-    vectors_text::size_at(case, 10, 6 * k, 5)
+    vectors_text::size_at(case, 10, 7 * k, 6)
 }
 
 // The same as a byte.
 fn byte(case: &[u8], k: usize) -> u8
     requires { ⌜ k < 100 ⌝ }
 {
-    vectors_text::byte_at(case, 10, 6 * k, 5)
+    vectors_text::byte_at(case, 10, 7 * k, 6)
 }
 
 // Block k gets the check that fits it.
 fn seal(file: &mut [u8], k: usize) {
-    if k < 8 {
+    if k < 224 {
         let from = 512 * k;
         let to = from + 512;
         if to <= file.len() {
@@ -89,34 +89,48 @@ fn take(case: &[u8], file: &[u8], back: &mut [u8]) {
     tell_read(file_codec::read(&file[0..size], asked, &mut back[0..room]));
 }
 
-// One case.
-fn run(case: &[u8]) {
-    let mut payload = [0u8; 4200];
-    let mut file = [165u8; 5200];
-    let mut back = [90u8; 4200];
-    vectors_text::pattern(&mut payload, 250, 3, 7);
-    make(case, &payload, &mut file);
-    spoil(case, &mut file);
-    take(case, &file, &mut back);
-    tell(b" F ", vectors_text::digest(&file));
-    tell(b" B ", vectors_text::digest(&back));
+// One case on buffers of A5H and 5AH.
+fn on(case: &[u8], payload: &[u8], file: &mut [u8], back: &mut [u8]) {
+    common::fill(file, 165);
+    common::fill(back, 90);
+    make(case, payload, file);
+    spoil(case, file);
+    take(case, file, back);
+    tell(b" F ", vectors_text::digest(file));
+    tell(b" B ", vectors_text::digest(back));
     io::write_all(1, b"\n");
 }
 
+// One case, as much of each buffer being used as it says: that of a short file or that of a long one.
+fn run(case: &[u8], payload: &[u8], file: &mut [u8], back: &mut [u8]) {
+    if field(case, 16) == 0 {
+        let n = common::least(5200, file.len());
+        let m = common::least(4200, back.len());
+        return on(case, payload, &mut file[0..n], &mut back[0..m]);
+    }
+    let n = common::least(115300, file.len());
+    let m = common::least(113600, back.len());
+    on(case, payload, &mut file[0..n], &mut back[0..m])
+}
+
 // All cases of a text.
-fn run_all(text: &[u8]) {
-    let n = text.len() / 96;
+fn run_all(text: &[u8], payload: &[u8], file: &mut [u8], back: &mut [u8]) {
+    let n = text.len() / 119;
     let mut i = 0;
     while i < n {
-        let from = 96 * i;
-        let to = from + 96;
-        run(&text[from..to]);
+        let from = 119 * i;
+        let to = from + 119;
+        run(&text[from..to], payload, file, back);
         i += 1;
     }
 }
 
 fn main() {
-    let mut text = [0u8; 20000];
+    let mut text = vectors_text::blank();
+    let mut payload = vectors_text::blank();
+    let mut file = vectors_text::blank();
+    let mut back = vectors_text::blank();
+    vectors_text::pattern(&mut payload, 250, 3, 7);
     let n = io::read_full(0, &mut text);
-    run_all(&text[..n]);
+    run_all(&text[..n], &payload, &mut file, &mut back);
 }

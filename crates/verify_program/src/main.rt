@@ -105,11 +105,11 @@ fn fetched(k: usize, into: &mut [u8]) -> usize {
 // Image and file are fetched; one byte more than the longest is enough to see that something is too long.
 fn with_numbers(number: u8, block: u8, letter: u8) {
     let mut image = [0u8; 131073];
-    let mut file = [0u8; 4608];
+    let mut file = [0u8; 115200];
     let n = fetched(1, &mut image);
     let m = fetched(4, &mut file);
     let a = common::least(n, 131073);
-    let b = common::least(m, 4608);
+    let b = common::least(m, 115200);
     say_ran(verified(&mut image[0..a], number, block, &file[0..b], letter));
 }
 

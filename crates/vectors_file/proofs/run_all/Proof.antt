@@ -1,4 +1,5 @@
--- `loadfile_vectors::run_all` is safe and ends. Assumes nothing.
+-- `vectors_file::run_all` is safe and ends. Assumes nothing.
+use mathlib.Core.Path.{_≡_, refl, _∙_}
 use Prim.Native.Nat.{_≤_, _-_, _*_}
 use native.Mathlib.Omega.{arith}
 use borrow.Author.Needs.{needs}
@@ -7,13 +8,13 @@ use Rattle.vectors_file.proofs.run_all.Statement.{statement}
 use Rattle.vectors_file.proofs.run_all.Tie as tie
 
 abbrev Inv-loop : tie.InvT-loop
-Inv-loop text n i₀ i = (i ≤ n) × (96 * n ≤ length text)
+Inv-loop text payload file₀ back₀ n i₀ file back i = (i ≤ n) × (119 * n ≤ length text) × (length file ≡ length file₀) × (length back ≡ length back₀)
 
 abbrev μ-loop : tie.MeasureT-loop
-μ-loop text n i₀ i = n - i
+μ-loop text payload file₀ back₀ n i₀ file back i = n - i
 
 loop-holds : tie.Need-loop-holds Inv-loop μ-loop
-loop-holds c = omega arith
+loop-holds c = (omega arith, omega arith, refl, refl)
 
 mul-from : tie.Need-mul-from Inv-loop μ-loop
 mul-from c = omega arith
@@ -40,7 +41,13 @@ loop-less : tie.Need-loop-less Inv-loop μ-loop
 loop-less c = omega arith
 
 loop-again : tie.Need-loop-again Inv-loop μ-loop
-loop-again c = omega arith
+loop-again c = let l = c .before .before .before .before .before .before .before .before .before .loop in let r = c .before .before .before .before .run in (omega arith, omega arith, r .kept .1 .1 .0 ∙ l .inv .2, r .kept .1 .1 .1 .0 ∙ l .inv .3)
+
+same-length : tie.Need-same-length Inv-loop μ-loop
+same-length c = c .before .loop .inv .2
+
+same-length-2 : tie.Need-same-length-2 Inv-loop μ-loop
+same-length-2 c = c .before .loop .inv .3
 
 returns : tie.Need-returns Inv-loop μ-loop
 returns c = search needs
@@ -61,4 +68,6 @@ run-all-spec =
     add-i
     loop-less
     loop-again
+    same-length
+    same-length-2
     returns)
