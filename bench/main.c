@@ -227,7 +227,7 @@ static void work_sums(const maker *m) {
     for (int t = 0; t < TURNS; t++)
         at.sum += m->sums(at.file, 510);
 }
-/* A table of as many knots as `size` says, some 120 microvolts apart. */
+/* A table of as many knots as `size` says, some 120 microvolts apart, or 4 in a longer one. */
 static void ready_table(void) {
     for (size_t i = 0; i < size; i++) {
         uint32_t volts = (uint32_t)(-9000 + (int32_t)(size > 673 ? i * 4 : i * 118 + i * 7 % 50)), tenths = (uint32_t)(i * 13 % 9000);

@@ -233,6 +233,9 @@ call "$tb" verify "$work/image" 3 2 "$work/three.load" K; try 'a blank block' 1 
 { head -c 14848 "$work/image" && printf 'K\001' && tail -c 1534 "$work/image"; } >"$work/other"
 call "$tb" verify "$work/other" 3 1 "$work/three.load" K; try 'a byte that differs' 1 'differs at 03A01
 ' ''
+{ cat "$work/long.load" && head -c 16384 /dev/zero | tr '\0' '\377'; } >"$work/whole"
+call "$tb" verify "$work/whole" 1 3 "$work/long.load" K; try 'a main block that holds its file' 0 'the block holds the file
+' ''
 call "$tb" verify "$work/image" 3 1 "$work/three.load" S; try 'verify: another letter' 1 "refused 35: the file's letter is not the one asked for
 " ''
 call "$tb" verify "$work/image" 4 4 "$work/three.load" K; try 'verify: no such block' 1 'refused 10: there is no such block

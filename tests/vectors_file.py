@@ -15,7 +15,7 @@ import sys
 from vectors_model import called
 
 LETTERS = b"BEJKNRST"
-MOST = 224
+MOST, OLD = 224, 8  # blocks, now and before
 FILE, BACK, NONE = (5200, 115300), (4200, 113600), 999999  # of a short file, and of a long one
 
 
@@ -37,8 +37,8 @@ def write(letter, payload):
     return 0, out
 
 
-def judge(data, asked):
-    if len(data) == 0 or len(data) > 512 * MOST or len(data) % 512:
+def judge(data, asked, most=MOST):
+    if len(data) == 0 or len(data) > 512 * most or len(data) % 512:
         return 30, None
     count = len(data) // 512
     payload = b""
@@ -121,6 +121,8 @@ def run(row):
     said = f"W!{number}" if number else f"W={made}"
     data = bytes(file[:length])
     number, payload = judge(data, asked)
+    # under the limit from before: the same up to eight blocks, and 30 for more
+    assert judge(data, asked, OLD) == ((number, payload) if length <= 512 * OLD else (30, None))
     said += f" J!{number}" if number else f" J={len(payload)}"
     if not number and len(payload) > back:
         number = 37
@@ -157,6 +159,7 @@ def fill():
         case(f"eight blocks read at length {length}: 33", size=4040, length=length)
     for length in (114687, 114689, 115200):
         case(f"224 blocks read at length {length}: 30", size=113120, length=length)
+    case("nine blocks: 30 under the old limit, read now", "K", 4041)
     case("nine blocks, of which eight are read: 33", size=4041, length=4096)
     case("31: block 223 of 224 damaged", size=113120, before=[(114176 + 300, 9)], asked="T")
     case("31: block 223 of 224, its check", size=113120, before=[(114687, 1), (114686, 1)])

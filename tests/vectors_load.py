@@ -145,6 +145,7 @@ def file_refused(t):
     for length in (4095, 4097):
         t.case(f"30 of {length} bytes", 30, about={"size": 4040, "length": length}, **wide)
     t.case("33 nine, one is none", 33, about={"size": 4040, "length": 4608}, **wide)
+    t.case("30 of 225 blocks", 30, about={"size": 113120, "length": 115200}, number=2, block=3, held=(1, 1))
     t.case("30 nine into 4 KB", 30, about={"size": 4041}, number=1, block=1, held=(1, 1))
     t.case("30 two into 512", 30, about={"size": 506}, number=3, block=1, held=(1, 1))
     t.case("30 two into 512 B", 30, about={"size": 506}, number=4, block=2, held=(1, 1))
@@ -227,7 +228,7 @@ def loaded(t):
     t.case("well nine, main", 0, about={"letter": "S", "size": 4041}, number=3, block=3, held=(5, 9))
     t.case("well nine, 8 KB boot", 0, about={"size": 4041}, number=2, block=0, held=(0, 0), times=(1, 1))
     t.case("well one, long main", 0, about={"letter": "J", "size": 1}, number=1, block=3)
-    for number, block, size in ((3, 1, 505), (3, 0, 100), (4, 3, 4040), (1, 2, 4040)):
+    for number, block, size in ((3, 1, 505), (3, 0, 100), (4, 3, 4040), (1, 2, 4040), (1, 3, 113120)):
         t.case(f"held already, {number} {block}", 0, about={"size": size}, number=number, block=block, laid=True)
     first = BLOCKS[3][0][0]
     half = {"about": {"size": 100}, "number": 3, "block": 0, "laid": True}
@@ -270,7 +271,7 @@ def verified(t):
     check = functools.partial(t.case, op="V")
     half = {"about": {"size": 100}, "number": 3, "block": 0, "laid": True}
     first = BLOCKS[3][0][0]
-    for number, block, size in ((3, 1, 505), (3, 0, 100), (4, 3, 4040), (1, 2, 4040), (2, 3, 1)):
+    for number, block, size in ((3, 1, 505), (3, 0, 100), (4, 3, 4040), (1, 2, 4040), (2, 3, 1), (1, 3, 113120)):
         check(f"verify well, {number} {block}", 0, about={"size": size}, number=number, block=block, laid=True)
     check("verify locked, VPP low", 0, rp=1, vpp=0, **half)
     check("verify VPP 6500", 0, rp=1, vpp=6500, **half)

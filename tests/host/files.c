@@ -84,7 +84,7 @@ static void check_at(size_t at) {
 /* A good file with a few bytes changed, mostly with the check put right again. */
 static void damaged(void) {
     letter = some_letter();
-    payload.length = 1 + below(chance(50) ? 505 : 4040);
+    payload.length = 1 + below(chance(50) ? 505 : chance(98) ? 4040 : TB_PAYLOAD_MOST);
     file.length = file.room;
     compare_write();
     if (ref.number != 0)
@@ -100,7 +100,7 @@ static void damaged(void) {
     }
     if (chance(5))
         file.length = ONE_OF(file.length - 1, file.length - 512, 0);
-    back.length = chance(90) ? back.room : below(4040);
+    back.length = chance(90) ? back.room : below((uint32_t)payload.length);
     compare_read();
 }
 

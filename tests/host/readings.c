@@ -53,7 +53,7 @@ static void put_knot(size_t i, int32_t microvolts, int32_t tenths) {
 
 /* A table of rising microvolts, sometimes with a step of 0 or one out of range. */
 static void some_table(void) {
-    uint32_t knots = chance(80) ? 2 + below(40) : 2 + below(671);
+    uint32_t knots = chance(80) ? 2 + below(40) : chance(98) ? 2 + below(671) : 2 + below(18852);
     int32_t at = -10000 + (int32_t)below(5000), step = (int32_t)(85000 / knots);
     for (uint32_t i = 0; i < knots; i++) {
         put_knot(i, at, (int32_t)below(65536) - 32768);

@@ -86,6 +86,10 @@ stored-files asked f = raised-reads 8 limit asked f (omega arith)
 pub written-files : (ℓ : ℕ) (p : List ℕ) → length p ≤ 4040 → writerOf 8 ℓ p ≡ writerOf limit ℓ p
 written-files ℓ p = raised-writes 8 limit ℓ p (omega arith)
 
+-- the limit in bytes: of a payload and of a file
+pub limits-are : (505 * limit ≡ 113120) × (512 * limit ≡ 114688)
+limits-are = (refl, refl)
+
 -- but two changes can cancel out: byte 5 up by 2 and byte 11 down by 1 leave the check as it was
 pub two-cancel : (xs : List ℕ) (b : ℕ) → 11 < length xs → getD xs 11 0 ≡ b + 1 → checkOf (set (set xs 5 (getD xs 5 0 + 2)) 11 b) ≡ checkOf xs
 unfolding checkOf

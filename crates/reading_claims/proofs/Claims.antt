@@ -1,5 +1,5 @@
 -- What is claimed of readings, in one place. Assumes nothing.
-use mathlib.Core.Path.{_≡_}
+use mathlib.Core.Path.{_≡_, refl}
 use mathlib.Core.List.{List, [], _++_}
 use mathlib.Core.Logic.{_↔_}
 use Prim.Native.Nat.{ℕ, _+_, _-_, _≤_, _<_, _^_}
@@ -92,6 +92,9 @@ few-halvings = seek-few
 
 pub few-knots : (f : List ℕ) (letter : ℕ) (p : List ℕ) → readerOf limit f letter ≡ made p → knots p ≤ mostKnots
 few-knots = files.few-knots
+
+pub most-knots : mostKnots ≡ 18853
+most-knots = refl
 
 pub fifteen-halvings : (f : List ℕ) (letter : ℕ) (p : List ℕ) (x : ℤ) → readerOf limit f letter ≡ made p → seekOf p x ≡ halving 15 p x 0 (knots p - 1)
 fifteen-halvings f letter p x e = seek-few p x 15 (le-trans (files.few-knots f letter p e) (lit≤ tt))

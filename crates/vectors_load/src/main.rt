@@ -63,9 +63,9 @@ fn change_all(case: &[u8], k: usize, n: usize, s: &mut [u8])
 
 // A file is written over A5H, and six bytes of it are changed.
 fn write(case: &[u8], file: &mut [u8]) {
-    let mut payload = [0u8; 4200];
+    let mut payload = [0u8; 113200];
     vectors_text::pattern(&mut payload, 256, 3, 7);
-    let size = lent(case, 1, 4200);
+    let size = lent(case, 1, 113200);
     common::fill(file, 165);
     file_codec::write(byte(case, 0), &payload[0..size], file);
     change_all(case, 2, 6, file);
@@ -254,9 +254,9 @@ fn with_slices(case: &[u8], file: &[u8]) {
 
 // One case: the file is made, and as much of it is used as the case says.
 fn one(case: &[u8]) {
-    let mut file = [0u8; 5200];
+    let mut file = [0u8; 115300];
     write(case, &mut file);
-    let n = lent(case, 14, 5200);
+    let n = lent(case, 14, 115300);
     with_slices(case, &file[0..n]);
 }
 
