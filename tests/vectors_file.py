@@ -6,9 +6,10 @@
     python3 tests/vectors_file.py check      whether both files are what the script prints
     python3 tests/vectors_file.py told       the cases and lines, with what each case is about
 
-A case: a payload is written under a letter into the front of a buffer of A5H, some bytes of the buffer are changed
-(up to two), up to two blocks get the check that fits them, some bytes are changed after that (up to two), and the
-front of the buffer is judged and read for a letter into the front of a buffer of 5AH.
+A case: a payload is written under a letter into the front of a buffer of one byte (A5H; FFH where blank blocks are
+wanted), some bytes of the buffer are changed (up to two), up to two blocks get the check that fits them, some bytes
+are changed after that (up to two), and the front of the buffer is judged and read for a letter into the front of a
+buffer of 5AH.
 """
 import sys
 
@@ -44,6 +45,8 @@ def judge(data, asked, most=MOST):
     payload = b""
     for i in range(count):
         b = data[512 * i:512 * i + 512]
+        if b == b"\xff" * 512:
+            return 38, None
         if check(b) != b[510] * 256 + b[511]:
             return 31, None
         if b[0] not in LETTERS or b[0] != data[0]:
@@ -75,8 +78,8 @@ def digest(data):
 CASES = []
 
 
-def row_of(letter="B", size=1, room=None, before=(), seal=(), after=(), length=None, asked=None, back=None):
-    """The seventeen numbers of a case; the last says whether its buffers are those of a long file."""
+def row_of(letter="B", size=1, room=None, before=(), seal=(), after=(), length=None, asked=None, back=None, fill=0xA5):
+    """The eighteen numbers of a case; the last two: whether its buffers are those of a long file, what they hold before."""
     letter = letter if isinstance(letter, int) else ord(letter)
     asked = letter if asked is None else asked if isinstance(asked, int) else ord(asked)
     if length is None:
@@ -85,7 +88,7 @@ def row_of(letter="B", size=1, room=None, before=(), seal=(), after=(), length=N
     room, back = FILE[long] if room is None else room, BACK[long] if back is None else back
     two = lambda pairs: [x for pair in (list(pairs) + [(NONE, 0)] * 2)[:2] for x in pair]
     seals = (list(seal) + [NONE] * 2)[:2]
-    return [letter, size, room] + two(before) + seals + two(after) + [length, asked, back, long]
+    return [letter, size, room] + two(before) + seals + two(after) + [length, asked, back, long, fill]
 
 
 def case(told, *about, **more):
@@ -96,7 +99,7 @@ def spoiled(row, payload):
     """The writer's refusal and length, and the buffer once the case's changes are made in it."""
     letter, _, room, p1, v1, p2, v2, s1, s2, q1, w1, q2, w2 = row[:13]
     whole = FILE[row[16]]
-    file = bytearray(b"\xa5" * whole)
+    file = bytearray([row[17]] * whole)
     number, made = write(letter, payload)
     if not number and len(made) > room:
         number = 37
@@ -115,7 +118,7 @@ def spoiled(row, payload):
 
 
 def run(row):
-    length, asked, back, long = row[13:]
+    length, asked, back, long = row[13:17]
     out = bytearray(b"\x5a" * BACK[long])
     number, made, file = spoiled(row, pattern(row[1]))
     said = f"W!{number}" if number else f"W={made}"
@@ -234,6 +237,32 @@ def fill():
     case("34 in the last block before 35", size=4040, before=[(3588, 0)], seal=[7], asked="T")
     case("31 in the last block before 35 and 37", size=4040, before=[(4095, 0), (4094, 0)], asked="T", back=0)
     case("37 after all", size=4040, back=0)
+    blank_blocks()
+
+
+def blank_blocks():
+    """Blocks of FFH. Under the letter A nothing is written, so that the buffer stays blank."""
+    blank = {"letter": "A", "size": 20, "fill": 255}
+    for count in (1, 2, 8, 9, 223, 224):
+        case(f"38: blank, {count} blocks", length=512 * count, asked="K", **blank)
+    for length in (0, 511, 513, 1023, 114687, 115200):
+        case(f"30: blank, length {length}", length=length, **blank)
+    case("38 before 35 and 37", length=512, asked=255, back=0, **blank)
+    for p in (0, 1, 4, 255, 509, 510, 511):
+        case(f"31: 511 bytes FFH, byte {p} is FEH", length=512, before=[(p, 254)], **blank)
+    case("31: 511 bytes FFH, byte 0 is a letter", length=512, before=[(0, ord("B"))], asked="B", **blank)
+    case("32: 510 bytes FFH and the check that fits", length=512, seal=[0], **blank)
+    case("31: 510 bytes FFH and another check", length=512, before=[(510, 0), (511, 0)], **blank)
+    two = {"size": 505, "before": [(2, 2)], "length": 1024, "fill": 255}
+    case("38: good, then blank", seal=[0], **two)
+    case("38: good, then blank, before 35", seal=[0], asked="T", **two)
+    case("31: wrong, then blank", **two)
+    case("31: good, then 511 bytes FFH and another", seal=[0], after=[(1023, 0)], **two)
+    case("38: two good, then blank", size=1010, before=[(2, 3), (514, 3)], seal=[0, 1], length=1536, fill=255)
+    case("38: blank, then wrong", length=1024, before=[(700, 0)], **blank)
+    case("33: one block, a blank one behind it", size=1, length=1024, fill=255)
+    case("33: 505 bytes, a blank one behind it", size=505, length=1024, fill=255)
+    case("one block, blank behind it, not read", size=1, length=512, fill=255)
 
 
 class All:

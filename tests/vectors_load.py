@@ -9,7 +9,7 @@ The load here is written from document 01. It stands on the scripts' own loader 
 on their own writer and reader of a load file (vectors_file.py), and shares nothing with the crates. Every case says beforehand
 how it must end and how many cycles it makes, and the load is held to that.
 
-A case is a name of 24 bytes and 43 numbers of six digits:
+A case is a name of 24 bytes and 44 numbers of six digits:
     0, 1       the file's letter and its payload bytes
     2 to 13    six changes of the file as it was written, place and byte (999999 for none)
     14, 15     how much of it is used, and the letter asked
@@ -21,6 +21,7 @@ A case is a name of 24 bytes and 43 numbers of six digits:
     37 to 40   two bytes of the array, address and byte
     41         S
     42         1 for a verify, 0 for a load
+    43         what the file's buffer holds before
 
 A line shows: the name; the end E, its address A and the count N; status, mode and phase S; then for array a, wanted w and scratch s
 a digest, the first byte and the last.
@@ -77,7 +78,7 @@ def sown(first, step, n):
 def file_of(row):
     """The changes that a case makes in the file as it was written, and the file."""
     payload = bytes(sown(3, 7, row[1]))
-    written = spoiled(row_of(letter=row[0], size=row[1], length=row[13]), payload)[2]
+    written = spoiled(row_of(letter=row[0], size=row[1], length=row[13], fill=row[17]), payload)[2]
     file = spoiled(row, payload)[2]
     return [(i, b) for i, b in enumerate(file) if b != written[i]], bytes(file[: row[13]])
 
@@ -109,8 +110,8 @@ class Table:
         marks = [held, (91, 5), (17, 2)]
         numbers = row[:2] + pairs(changes, 6) + row[13:15] + [number, *times, rp, vpp, block]
         numbers += [ord(state.mode), state.status, ord(state.phase), state.left, state.address]
-        numbers += given + [x for pair in marks for x in pair] + [first if laid else NOWHERE] + pairs(spots, 2) + [suspend, int(op == "V")]
-        assert len(numbers) == 43 and all(0 <= x <= 999999 for x in numbers)
+        numbers += given + [x for pair in marks for x in pair] + [first if laid else NOWHERE] + pairs(spots, 2) + [suspend, int(op == "V"), row[17]]
+        assert len(numbers) == 44 and all(0 <= x <= 999999 for x in numbers)
         self.rows.append(f"{name:{NAME + 1}}" + " ".join(f"{x:06d}" for x in numbers))
         array, wanted, scratch = (sown(*mark, k) for mark, k in zip(marks, given))
         if laid:
@@ -171,6 +172,17 @@ def file_refused(t):
     t.case("34 before 35", 34, about={"size": 900, "before": [(1021, 254)], "seal": [1], "asked": "T"}, **two)
     for asked in (84, 98, 0, 255):
         t.case(f"35 asked {asked}", 35, about={"size": 900, "asked": asked}, **two)
+    blank = {"letter": "A", "size": 20, "length": 512, "fill": 255}
+    good = {"size": 505, "before": [(2, 2)], "length": 1024, "fill": 255}
+    t.case("38 blank", 38, about=blank, **two)
+    t.case("38 blank, eight", 38, about={**blank, "length": 4096}, **wide)
+    t.case("38 blank, boot unlocked", 38, about=blank, number=1, block=0, held=(255, 0))
+    t.case("38 good, then blank", 38, about={**good, "seal": [0]}, **two)
+    t.case("31 wrong, then blank", 31, about=good, **two)
+    t.case("31 last byte not FFH", 31, about={**blank, "before": [(511, 254)]}, **two)
+    t.case("31 first byte not FFH", 31, about={**blank, "before": [(0, 66)], "asked": "B"}, **two)
+    t.case("33 blank behind", 33, about={"size": 505, "length": 1024, "fill": 255}, **two)
+    t.case("30 before 38", 30, about={**blank, "length": 1024}, number=3, block=1, held=(1, 1))
     t.case("35 eight blocks", 35, about={"letter": "T", "size": 4040, "asked": "S"}, **wide)
 
 
@@ -284,6 +296,7 @@ def verified(t):
     check("verify 25 erased block", 25, 2, about={"size": 100}, number=4, block=2)
     check("verify 30", 30, about={"size": 506}, number=3, block=1, held=(1, 1))
     check("verify 31", 31, about={"size": 505, "before": [(5, 18)]}, number=3, block=1, held=(7, 7))
+    check("verify 38", 38, about={"letter": "A", "size": 20, "length": 512, "fill": 255}, number=3, block=1, held=(255, 0))
     check("verify 35", 35, about={"size": 100, "asked": "T"}, number=3, block=0, laid=True)
     bad = {"size": 900, "before": [(9, 0)], "asked": "T"}
     check("verify 1", 1, about=bad, number=5)

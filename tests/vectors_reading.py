@@ -13,6 +13,7 @@ the room counts.
     N   the payload is emptied             K   a knot is added: x microvolts, y tenths
     B   the byte x is added                W   the payload is written as a file under the letter x; told: W and its length, or ! and 36
     C   byte x of the file becomes y, and its block gets the check that fits
+    E   the file's buffer becomes FFH
     L   x bytes of the file count          M   x bytes of the room count
     J   told: J and the judgement of the payload as a table
     S   told: S and the lower knot of the pair for x
@@ -168,6 +169,10 @@ class Rows:
         k = at // 512
         self.file[512 * k + 510:512 * k + 512] = check_of(self.file[512 * k:512 * k + 510]).to_bytes(2, "big")
 
+    def erase(self):
+        self.row("E")
+        self.file[:] = b"\xff" * len(self.file)
+
     def cut(self, length):
         self.row("L", length)
         self.length = length
@@ -251,6 +256,18 @@ def all_rows():
     r.cut(512)
     r.ask("S", s_probe)
     r.cut(511)
+    r.ask("S", s_probe)
+    # blank: one block, eight, a file with one behind it, and one whose check was put right
+    r.erase()
+    for length in (512, 4096):
+        r.cut(length)
+        r.ask("S", s_probe)
+    r.write("S")
+    r.cut(r.length + 512)
+    r.ask("S", s_probe)
+    r.erase()
+    r.cut(512)
+    r.forge(5, 255)
     r.ask("S", s_probe)
     # the longest table of eight blocks, and one knot more: nine
     r.table(FULL_K)

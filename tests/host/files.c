@@ -1,4 +1,4 @@
-/* Random load files: written, damaged and random ones. */
+/* Random load files: written, damaged, blank and random ones. */
 #include <stdio.h>
 #include <string.h>
 
@@ -133,15 +133,35 @@ static void made_up(void) {
     compare_read();
 }
 
+/* A good file that is blank from some block on, sometimes but for a byte or two, or with a blank block behind its end. */
+static void erased(void) {
+    uint32_t blocks = 1 + below(5), from = below(blocks + 1);
+    letter = (uint8_t)"BEJKNRST"[below(8)];
+    payload.length = blocks * 505 - below(505);
+    file.length = file.room;
+    compare_write();
+    file.length = (from == blocks ? blocks + 1 : blocks) * 512;
+    twin_fill(&file, from * 512, file.length - from * 512, 0xFF);
+    if (chance(40))
+        twin_set(&file, from * 512 + (chance(50) ? ONE_OF(0, 1, 509, 510, 511) : below(512)), (uint8_t)any32());
+    if (chance(10))
+        twin_set(&file, from * 512 + 511, (uint8_t)any32());
+    if (chance(5))
+        check_at(from * 512);
+    back.length = back.room;
+    compare_read();
+}
+
 void files(uint32_t n) {
     tell_case = tell;
     twin_new(&payload, "payload", TB_PAYLOAD_MOST + 1);
     twin_new(&file, "file", TB_FILE_MOST + 1024);
     twin_new(&back, "payload read", TB_PAYLOAD_MOST + 60);
     for (uint32_t i = 0; i < n; i++) {
-        switch (below(3)) {
+        switch (below(4)) {
         case 0: written(); break;
         case 1: damaged(); break;
+        case 2: erased(); break;
         default: made_up();
         }
         compare_check();

@@ -114,6 +114,8 @@ static void some_file(tb_span b) {
     if (chance(75))
         check_again();
     if (chance(10))
+        twin_fill(&file, chance(50) ? 0 : file.length - 512, 512, 0xFF);
+    if (chance(10))
         file.length = ONE_OF(0, 1, 511, 513, 512);
 }
 

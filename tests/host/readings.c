@@ -92,6 +92,8 @@ static void from_file(void) {
         letter = (uint8_t)"BEJKNRST"[below(8)];
     if (chance(10))
         twin_set(&file, below((uint32_t)file.length), (uint8_t)any32());
+    if (chance(5))
+        twin_fill(&file, file.length - 512, 512, 0xFF);
     room.length = chance(90) ? room.room : below((uint32_t)payload.length + 1);
     compare_file();
 }

@@ -90,7 +90,10 @@ slips='1:a program stores its data without AND
 23:the verify is begun after a bad end
 24:the verify stops before its last byte
 25:a load alone reads back
-26:the address of 25 counts from the start of the block'
+26:the address of 25 counts from the start of the block
+27:a block is blank by its first byte
+28:a block is blank without its check
+29:only the first block can be blank'
 noticed=0
 while IFS=: read -r number slip; do
     build "$out/broken" "$number"
@@ -101,4 +104,4 @@ while IFS=: read -r number slip; do
     noticed=$((noticed + 1))
     printf 'noticed: %s\n' "$slip"
 done <<<"$slips"
-printf 'tests from C: no mismatch, and %s of 26 slips noticed\n' "$noticed"
+printf 'tests from C: no mismatch, and %s of 29 slips noticed\n' "$noticed"

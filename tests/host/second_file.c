@@ -64,6 +64,15 @@ static bool used_wrong(const uint8_t *block, bool last) {
     return false;
 }
 
+/* Every byte is FFH, those of the check too. */
+static bool blank(const uint8_t *block, size_t number) {
+    size_t n = SLIP(27) ? 1 : SLIP(28) ? CHECKED : BLOCK;
+    for (size_t i = 0; i < n; i++)
+        if (block[i] != 0xFF)
+            return false;
+    return !SLIP(29) || number == 0;
+}
+
 uint8_t second_judge(uint8_t letter, const uint8_t *file, size_t n) {
     size_t blocks = n / BLOCK;
     if (n == 0 || n > TB_FILE_MOST || n % BLOCK != 0)
@@ -71,7 +80,7 @@ uint8_t second_judge(uint8_t letter, const uint8_t *file, size_t n) {
     for (size_t i = 0; i < blocks; i++) {
         const uint8_t *block = file + i * BLOCK;
         if (c_block_check(block, CHECKED) != pair(block + CHECKED))
-            return TB_FILE_CHECK;
+            return blank(block, i) ? TB_FILE_BLANK : TB_FILE_CHECK;
         if (block[0] != file[0] || !is_letter(block[0]))
             return TB_FILE_LETTER;
         if (block[1] != i || block[2] != blocks)

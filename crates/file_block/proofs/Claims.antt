@@ -11,6 +11,6 @@ use Rattle.file_block.proofs.Tables as tables
 pub fault-exactly : (first i n : ℕ) (b : List ℕ) (m : ℕ) → (m ≡ 0 → ⊥) → (faultOf first i n b ≡ m) ↔ Foremost (faultRows first i n b) m
 fault-exactly = tables.fault-exactly
 
--- Nothing is refused exactly where none of the five conditions holds.
+-- Nothing is refused exactly where none of the six conditions holds.
 pub sound-exactly : (first i n : ℕ) (b : List ℕ) → (faultOf first i n b ≡ 0) ↔ NoRow (faultRows first i n b)
 sound-exactly = tables.sound-exactly

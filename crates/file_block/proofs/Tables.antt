@@ -12,7 +12,8 @@ use Rattle.common.specs.Choice.{if_then_else_}
 use Rattle.common.proofs.Choice.{if-true, if-false}
 use Rattle.common.specs.Numbers.{Row, given, Foremost, NoRow}
 use Rattle.common.proofs.Numbers.{given-append, given-foremost, foremost-given, given-no-row, no-row-given}
-use Rattle.file_check.specs.Check.{checkWrong}
+use Rattle.file_check.specs.Check.{checkWrong, isBlank, isDamaged}
+use Rattle.file_check.proofs.Verdicts.{sound-check, check-sound}
 use Rattle.file_block.specs.Block.{blockRows, usedOf, letterWrong, placeWrong, usedWrong, paddingWrong, faultRows, faultOf}
 
 -- what is asked after a block counts only where the block is right
@@ -40,16 +41,17 @@ not-given false k x e = (refl, e)
 
 pub right : (first i n : ℕ) (b : List ℕ) (rest : List Row) → given (blockRows first i n b rest) ≡ 0 → Right first i n b × (given rest ≡ 0)
 right first i n b rest e =
-    let c = not-given (checkWrong b) 30 _ e in
+    let k = not-given (isBlank b) 37 _ e in
+    let c = not-given (isDamaged b) 30 _ (k .1) in
     let l = not-given (letterWrong first b) 31 _ (c .1) in
     let p = not-given (placeWrong i n b) 32 _ (l .1) in
     let u = not-given (usedWrong i n b || paddingWrong b) 33 _ (p .1) in
     let w = none-of-two (usedWrong i n b) (paddingWrong b) (u .0) in
-    (record { check = c .0; letter = l .0; place = p .0; used = w .0; padding = w .1 }, u .1)
+    (record { check = check-sound b (k .0) (c .0); letter = l .0; place = p .0; used = w .0; padding = w .1 }, u .1)
 
 -- and the other way round
 pub right-given : (first i n : ℕ) (b : List ℕ) (rest : List Row) → Right first i n b → given (blockRows first i n b rest) ≡ given rest
-right-given first i n b rest r = simp (r .check, r .letter, r .place, r .used, r .padding)
+right-given first i n b rest r = let s = sound-check b (r .check) in simp (s .0, s .1, r .letter, r .place, r .used, r .padding)
 
 -- the used count of a right block: 1 to 505 in the last, 505 in every other
 pub used-last : (i n : ℕ) (b : List ℕ) → i + 1 ≡ n → usedWrong i n b ≡ false → (0 < usedOf b) × (usedOf b ≤ 505)

@@ -7,8 +7,8 @@ use native.Mathlib.Omega.{arith}
 use lib.ListN.{take, drop}
 use Rattle.common.proofs.Choice.{if-true, if-false}
 use Rattle.common.specs.Numbers.{given}
-use Rattle.file_check.specs.Check.{checkWrong, checkFault}
-use Rattle.file_block.specs.Block.{allAre, usedOf, paddingWrong, blockRows}
+use Rattle.file_check.specs.Check.{allAre, isBlank, isDamaged, checkFault}
+use Rattle.file_block.specs.Block.{usedOf, paddingWrong, blockRows}
 
 -- no padding is left where more than 505 bytes are said to be used
 pub no-padding : (b : List ℕ) → 505 < usedOf b → paddingWrong b ≡ false
@@ -23,15 +23,22 @@ padding-is b u e = ap (λ (k : ℕ). not (allAre 255 (take (510 - (5 + k)) (drop
 
 -- the check comes first: its refusal is the block's, and without one it is passed
 pub check-first : (first i n : ℕ) (b : List ℕ) (r : ℕ) → r ≡ checkFault b → (r ≡ 0 → ⊥) → r ≡ given (blockRows first i n b [])
-check-first first i n b r e z = go (checkWrong b) refl
+unfolding checkFault
+check-first first i n b r e z = go (isBlank b) refl (isDamaged b) refl
   where
-    go : (t : Bool) → checkWrong b ≡ t → r ≡ given (blockRows first i n b [])
-    go true q = e ∙ if-true (checkWrong b) 31 0 q ∙ sym (if-true (checkWrong b) 31 _ q)
-    go false q = absurd (z (e ∙ if-false (checkWrong b) 31 0 q))
+    go : (t : Bool) → isBlank b ≡ t → (u : Bool) → isDamaged b ≡ u → r ≡ given (blockRows first i n b [])
+    go true q u d = e ∙ simp q
+    go false q true d = e ∙ simp (q, d)
+    go false q false d = absurd (z (e ∙ simp (q, d)))
 
-pub check-passed : (b : List ℕ) (r : ℕ) → r ≡ checkFault b → r ≡ 0 → checkWrong b ≡ false
-check-passed b r e z = go (checkWrong b) refl
+pub check-passed : (b : List ℕ) (r : ℕ) → r ≡ checkFault b → r ≡ 0 → (isBlank b ≡ false) × (isDamaged b ≡ false)
+unfolding checkFault
+check-passed b r e z = go (isBlank b) refl (isDamaged b) refl
   where
-    go : (t : Bool) → checkWrong b ≡ t → checkWrong b ≡ false
-    go true q = absurd (let w : _≡_ {A = ℕ} 31 0 = sym (if-true (checkWrong b) 31 0 q) ∙ sym e ∙ z in omega arith)
-    go false q = q
+    f : checkFault b ≡ 0
+    f = sym e ∙ z
+
+    go : (t : Bool) → isBlank b ≡ t → (u : Bool) → isDamaged b ≡ u → (isBlank b ≡ false) × (isDamaged b ≡ false)
+    go true q u d = absurd (let w : _≡_ {A = ℕ} 38 0 = sym (if-true (isBlank b) 38 _ q) ∙ f in omega arith)
+    go false q true d = absurd (let w : _≡_ {A = ℕ} 31 0 = sym (if-true (isDamaged b) 31 0 d) ∙ sym (if-false (isBlank b) 38 _ q) ∙ f in omega arith)
+    go false q false d = (q, d)

@@ -8,7 +8,7 @@ use lib.Dec.{eqb}
 use borrow.Author.Tests.{eq-eqb, ne-eqb}
 use Rattle.common.proofs.Choice.{if-true, if-false}
 use Rattle.file_check.proofs.Walks.{from-here}
-use Rattle.file_block.specs.Block.{within, allAre}
+use Rattle.file_block.specs.Block.{within}
 
 -- a search for x: found at place i, or looked for behind it
 pub found : (x : ℕ) (s : List ℕ) (i : ℕ) → i < length s → x ≡ getD s i 0 → within x (drop i s) ≡ true
@@ -16,10 +16,3 @@ found x s i h e = ap (within x) (from-here s i h) ∙ if-true (eqb x (getD s i 0
 
 pub passed : (x : ℕ) (s : List ℕ) (i : ℕ) → i < length s → (x ≡ getD s i 0 → ⊥) → within x (drop i s) ≡ within x (drop (i + 1) s)
 passed x s i h e = ap (within x) (from-here s i h) ∙ if-false (eqb x (getD s i 0)) true (within x (drop (i + 1) s)) (ne-eqb _ _ e)
-
--- a test of every byte: broken at place i, or kept up
-pub broken : (b : ℕ) (s : List ℕ) (i : ℕ) → i < length s → (getD s i 0 ≡ b → ⊥) → allAre b (drop i s) ≡ false
-broken b s i h e = ap (allAre b) (from-here s i h) ∙ if-false (eqb (getD s i 0) b) (allAre b (drop (i + 1) s)) false (ne-eqb _ _ e)
-
-pub kept : (b : ℕ) (s : List ℕ) (i : ℕ) → i < length s → getD s i 0 ≡ b → allAre b (drop i s) ≡ allAre b (drop (i + 1) s)
-kept b s i h e = ap (allAre b) (from-here s i h) ∙ if-true (eqb (getD s i 0) b) (allAre b (drop (i + 1) s)) false (eq-eqb _ _ e)

@@ -6,7 +6,7 @@ use lib.ListN.{getD, take, drop, length}
 use lib.Dec.{eqb, ltb}
 use Rattle.common.specs.Choice.{if_then_else_}
 use Rattle.common.specs.Numbers.{Row, row, given}
-use Rattle.file_check.specs.Check.{checkWrong, pair}
+use Rattle.file_check.specs.Check.{isBlank, isDamaged, allAre, pair}
 
 -- the eight letters, B E J K N R S T
 abbrev pub letters : List ℕ
@@ -20,11 +20,6 @@ within x (y ∷ ys) = if eqb x y then true else within x ys
 -- x is one of the eight letters
 unfoldable pub isLetter : ℕ → Bool
 isLetter x = within x letters
-
--- every number of the list is b
-abbrev pub allAre : ℕ → List ℕ → Bool
-allAre b [] = true
-allAre b (x ∷ xs) = if eqb x b then allAre b xs else false
 
 -- the bytes used, as a block tells them in bytes 3 and 4
 abbrev pub usedOf : List ℕ → ℕ
@@ -53,7 +48,8 @@ paddingWrong b = not (allAre 255 (part (5 + usedOf b) 510 b))
 -- the refusals of one block as block i of n, in their order, and those that are asked after it
 abbrev pub blockRows : ℕ → ℕ → ℕ → List ℕ → List Row → List Row
 blockRows first i n b after =
-    row 31 (checkWrong b)
+    row 38 (isBlank b)
+    ∷ row 31 (isDamaged b)
     ∷ row 32 (letterWrong first b)
     ∷ row 33 (placeWrong i n b)
     ∷ row 34 (usedWrong i n b || paddingWrong b)

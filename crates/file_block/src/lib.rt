@@ -2,7 +2,7 @@
 ghost use mathlib.Core.Path.{_≡_};
 ghost use Prim.Native.Nat.{_<_};
 ghost use lib.ListN.{length};
-ghost use Rattle.file_block.specs.Block.{within, allAre, isLetter, usedOf, letterWrong, placeWrong, usedWrong, paddingWrong, faultOf};
+ghost use Rattle.file_block.specs.Block.{within, isLetter, usedOf, letterWrong, placeWrong, usedWrong, paddingWrong, faultOf};
 
 // Whether x stands in s.
 fn one_of(x: u8, s: &[u8]) -> bool
@@ -23,20 +23,6 @@ pub fn is_letter(x: u8) -> bool
     ensures { λ r. ⌜ r ≡ isLetter x ⌝ }
 {
     one_of(x, b"BEJKNRST")
-}
-
-// Whether every byte is FFH.
-fn all_ff(s: &[u8]) -> bool
-    ensures { λ r. ⌜ r ≡ allAre 255 (now (s .entry)) ⌝ }
-{
-    let mut i = 0;
-    while i < s.len() {
-        if s[i] != 255 {
-            return false;
-        }
-        i += 1;
-    }
-    true
 }
 
 // The payload bytes that a block says it uses.
@@ -90,11 +76,11 @@ fn padding_wrong(block: &[u8]) -> bool
         return false;
     }
     let from = 5 + u;
-    let clean = all_ff(&block[from..510]);
+    let clean = file_check::all_ff(&block[from..510]);
     !clean
 }
 
-// The first refusal of a slice as block i of n: 30 where it is not 512 bytes long, then 31 to 34, or 0.
+// The first refusal of a slice as block i of n: 30 where it is not 512 bytes long, then 38 or 31, then 32 to 34, or 0.
 pub fn block_fault(block: &[u8], first: u8, i: usize, n: usize) -> u8
     ensures { λ r. ⌜ r ≡ faultOf first i n (now (block .entry)) ⌝ }
 {

@@ -1,13 +1,17 @@
--- Running sums and the weighted sum, over any list. Assumes nothing.
+-- Running sums and the weighted sum, and a test of every byte, over any list. Assumes nothing.
 use mathlib.Core.Path.{_≡_, sym, _∙_, ap}
 use mathlib.Core.List.{List, [], _∷_}
+use mathlib.Core.Bool.{false}
 use Prim.Native.Nat.{ℕ, suc, _+_, _*_, _<_}
 use native.Mathlib.Omega.{arith}
 use native.Mathlib.Nat.{add-mul, one-mul}
 use native.Mathlib.Numerals.{add-one}
 use lib.ListN.{length, getD, drop}
 use lib.Seq.{drop-cons}
-use Rattle.file_check.specs.Check.{wsum}
+use lib.Dec.{eqb}
+use borrow.Author.Tests.{eq-eqb, ne-eqb}
+use Rattle.common.proofs.Choice.{if-true, if-false}
+use Rattle.file_check.specs.Check.{wsum, allAre}
 
 -- what drop leaves at a place within the list
 pub from-here : (s : List ℕ) (i : ℕ) → i < length s → drop i s ≡ getD s i 0 ∷ drop (i + 1) s
@@ -36,3 +40,10 @@ one-more s i h =
 
 pub sum-more : (s : List ℕ) (i : ℕ) → i < length s → sumOf (drop i s) ≡ getD s i 0 + sumOf (drop (i + 1) s)
 sum-more s i h = ap sumOf (from-here s i h)
+
+-- a test of every byte: broken at place i, or kept up
+pub broken : (b : ℕ) (s : List ℕ) (i : ℕ) → i < length s → (getD s i 0 ≡ b → ⊥) → allAre b (drop i s) ≡ false
+broken b s i h e = ap (allAre b) (from-here s i h) ∙ if-false (eqb (getD s i 0) b) (allAre b (drop (i + 1) s)) false (ne-eqb _ _ e)
+
+pub kept : (b : ℕ) (s : List ℕ) (i : ℕ) → i < length s → getD s i 0 ≡ b → allAre b (drop i s) ≡ allAre b (drop (i + 1) s)
+kept b s i h e = ap (allAre b) (from-here s i h) ∙ if-true (eqb (getD s i 0) b) (allAre b (drop (i + 1) s)) false (eq-eqb _ _ e)

@@ -1,10 +1,11 @@
--- The check of a block, and numbers of two bytes. Assumes nothing.
+-- The check of a block, a blank block, and numbers of two bytes. Assumes nothing.
 use mathlib.Core.List.{List, [], _∷_}
-use mathlib.Core.Bool.{Bool, not}
+use mathlib.Core.Bool.{Bool, true, false, not}
 use Prim.Native.Nat.{ℕ, suc, _+_, _*_, _%_}
-use lib.ListN.{getD, take}
+use lib.ListN.{length, getD, take}
 use lib.Dec.{eqb}
 use Rattle.common.specs.Choice.{if_then_else_}
+use Rattle.common.specs.Numbers.{row, given}
 
 -- k times the first byte, k + 1 times the next, and so on, added up
 abbrev pub wsum : ℕ → List ℕ → ℕ
@@ -27,6 +28,19 @@ storedOf b = pair (getD b 510 0) (getD b 511 0)
 unfoldable pub checkWrong : List ℕ → Bool
 checkWrong b = not (eqb (checkOf (take 510 b)) (storedOf b))
 
+-- every number of the list is b
+abbrev pub allAre : ℕ → List ℕ → Bool
+allAre b [] = true
+allAre b (x ∷ xs) = if eqb x b then allAre b xs else false
+
+-- 38: the block is blank, as an erase leaves it: 512 bytes, each of them FFH, those of the check too
+unfoldable pub isBlank : List ℕ → Bool
+isBlank b = if eqb (length b) 512 then allAre 255 b else false
+
+-- 31: the check is wrong and the block is not blank
+unfoldable pub isDamaged : List ℕ → Bool
+isDamaged b = if isBlank b then false else checkWrong b
+
 -- what the check alone says of a block: its refusal, or 0
-abbrev pub checkFault : List ℕ → ℕ
-checkFault b = if checkWrong b then 31 else 0
+unfoldable pub checkFault : List ℕ → ℕ
+checkFault b = given (row 38 (isBlank b) ∷ row 31 (isDamaged b) ∷ [])

@@ -1,8 +1,8 @@
-// The check that seals a block, and numbers of two bytes. Each function takes any input.
+// The check that seals a block, a block that is blank, and numbers of two bytes. Each function takes any input.
 ghost use mathlib.Core.Path.{_≡_};
 ghost use Prim.Native.Nat.{_<_, _%_};
 ghost use lib.ListN.{length, getD, take};
-ghost use Rattle.file_check.specs.Check.{checkOf, checkFault, pair};
+ghost use Rattle.file_check.specs.Check.{checkOf, allAre, isBlank, checkFault, pair};
 
 // A sum below twice 65,521, brought below 65,521 by one subtraction.
 fn lowered(x: u32) -> u32
@@ -49,7 +49,31 @@ pub fn joined(high: u8, low: u8) -> usize
     common::wide(high) * 256 + common::wide(low)
 }
 
-// What the check alone says of a block: 31, or 0.
+// Whether every byte is FFH.
+pub fn all_ff(s: &[u8]) -> bool
+    ensures { λ r. ⌜ r ≡ allAre 255 (now (s .entry)) ⌝ }
+{
+    let mut i = 0;
+    while i < s.len() {
+        if s[i] != 255 {
+            return false;
+        }
+        i += 1;
+    }
+    true
+}
+
+// Whether a block is blank, as an erase leaves it.
+fn is_blank(block: &[u8]) -> bool
+    ensures { λ r. ⌜ r ≡ isBlank (now (block .entry)) ⌝ }
+{
+    if block.len() != 512 {
+        return false;
+    }
+    all_ff(&block[0..512])
+}
+
+// What the check alone says of a block: 38 where it is blank, else 31, or 0. A blank block's check is wrong, so it is looked for there alone.
 pub fn check_fault(block: &[u8]) -> u8
     ensures { λ r. ⌜ r ≡ checkFault (now (block .entry)) ⌝ }
 {
@@ -57,6 +81,9 @@ pub fn check_fault(block: &[u8]) -> u8
     let right = check(block) as usize;
     if right == stored {
         return 0;
+    }
+    if is_blank(block) {
+        return 38;
     }
     31
 }

@@ -10,7 +10,7 @@ use lib.Dec.{eqb}
 use borrow.Author.Tests.{eq-eqb, eqb-true}
 use Rattle.common.specs.Lists.{Bytes}
 use Rattle.common.proofs.Choice.{if-true, if-false}
-use Rattle.file_block.specs.Block.{allAre}
+use Rattle.file_check.specs.Check.{allAre}
 
 -- every element of what is left behind a place is a byte
 pub bytes-drop : (n : ℕ) (f : List ℕ) → Bytes f → Bytes (drop n f)

@@ -1,16 +1,16 @@
 -- The claims about the load file, for any limit of blocks; `limit` is the one that the promises use. Assumes nothing.
 use mathlib.Core.Path.{_≡_, refl, sym, _∙_, ap}
 use mathlib.Core.List.{List, [], _∷_}
-use mathlib.Core.Bool.{true, not}
+use mathlib.Core.Bool.{true}
 use mathlib.Core.Logic.{_↔_}
 use Prim.Native.Nat.{ℕ, _+_, _*_, _%_, _≤_, _<_}
 use native.Mathlib.Omega.{arith}
-use lib.ListN.{length, getD, take, drop, set, length-set}
+use lib.ListN.{length, getD, drop, set, replicate, length-set}
 use lib.Seq.{drop-append-seam, getD-set-other}
 use lib.Dec.{ltb}
-use borrow.Author.Tests.{ne-eqb}
 use Rattle.common.specs.Numbers.{row}
-use Rattle.file_check.specs.Check.{wsum, checkOf, checkWrong, storedOf}
+use Rattle.file_check.specs.Check.{wsum, checkOf, checkWrong, storedOf, isBlank}
+use Rattle.file_check.proofs.Verdicts as verdicts
 use Rattle.file_block.specs.Block.{isLetter}
 use Rattle.file_codec.specs.File.{limit, refused, made, fileOf, readerOf, writerOf, inRoom, leftIn, blocksIn, payloadOf, readRows, writeRows}
 use Rattle.file_codec.proofs.Outcomes.{payload-right, payload-fits, writer-lets, writer-made}
@@ -19,9 +19,11 @@ use Rattle.file_claims.proofs.Written.{written-read, written-other, wri
 use Rattle.file_claims.proofs.Reading.{read-written}
 use Rattle.file_claims.proofs.Damage.{damaged, wsum-set}
 use Rattle.file_claims.specs.Tabled.{Ordered}
+use Rattle.file_claims.specs.Before.{readerBefore, toldBefore}
 use Rattle.file_claims.specs.Roomy.{ReadsInto, WritesGivenRoom}
 use Rattle.file_claims.proofs.Given as given
 use Rattle.file_claims.proofs.Raised as raised
+use Rattle.file_claims.proofs.Blank as blank
 use Rattle.file_claims.proofs.Order.{writes-in-order, judges-in-order, reads-in-order}
 
 -- what the writer makes of a payload, the reader gives back for that letter
@@ -104,15 +106,35 @@ two-cancel xs b h e =
 
 -- a check of 65,521 or more that a block carries is never right
 pub never-right : (b : List ℕ) → 65521 ≤ storedOf b → checkWrong b ≡ true
-unfolding checkWrong checkOf
-never-right b h = ap not (ne-eqb (checkOf (take 510 b)) (storedOf b) (λ (e : checkOf (take 510 b) ≡ storedOf b). (omega arith)))
+never-right = verdicts.never-right
+
+-- A blank block's check is wrong. So 38 stands only where 31 stood, what was accepted is accepted still and every other number is the same:
+-- with 38 told as 31 the reader is, on every file and letter, the one that had no number for a blank block.
+pub blank-wrong : (b : List ℕ) → isBlank b ≡ true → checkWrong b ≡ true
+blank-wrong = verdicts.blank-wrong
+
+pub named-apart : (most : ℕ) (f : List ℕ) (asked : ℕ) → toldBefore (readerOf most f asked) ≡ readerBefore most f asked
+named-apart = blank.named-apart
+
+pub stood-31 : (most : ℕ) (f : List ℕ) (asked : ℕ) → readerOf most f asked ≡ refused 38 → readerBefore most f asked ≡ refused 31
+stood-31 = blank.stood-31
+
+pub accepted-still : (most : ℕ) (f : List ℕ) (asked : ℕ) (p : List ℕ) → readerOf most f asked ≡ made p ↔ (readerBefore most f asked ≡ made p)
+accepted-still = blank.accepted-still
+
+pub others-stay : (most : ℕ) (f : List ℕ) (asked n : ℕ) → (n ≡ 31 → ⊥) → readerBefore most f asked ≡ refused n → readerOf most f asked ≡ refused n
+others-stay = blank.others-stay
+
+-- a blank file of n blocks is refused 38, for every n up to the limit and every letter asked
+pub blank-file : (most n asked : ℕ) → 0 < n → n ≤ most → readerOf most (replicate (512 * n) 255) asked ≡ refused 38
+blank-file = blank.blank-file
 
 -- each number is given exactly when its own condition holds and no earlier one does: the writer 32, 36, 37
 pub writer-order : (most ℓ : ℕ) (p : List ℕ) (room : ℕ)
     → Ordered (writeRows most ℓ p (row 37 (ltb room (length (fileOf ℓ p))) ∷ [])) (fileOf ℓ p) (inRoom room (writerOf most ℓ p))
 writer-order = writes-in-order
 
--- the judgement 30, then 31 to 34 block by block, then 35
+-- the judgement 30, then 38 or 31, 32, 33, 34 block by block, then 35
 pub judge-order : (most : ℕ) (f : List ℕ) (asked : ℕ) → Ordered (readRows most f asked []) (payloadOf (blocksIn f) f) (readerOf most f asked)
 judge-order = judges-in-order
 

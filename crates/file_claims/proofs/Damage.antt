@@ -10,11 +10,12 @@ use lib.Seq.{length-take-le, take-set-lt, take-set-le, drop-set-add, getD-set-sa
 use lib.Dec.{eqb, ltb}
 use borrow.Author.Tests.{ne-eqb, eqb-true, eqb-false, ltb-true, ltb-false, not-false}
 use Rattle.common.specs.Choice.{if_then_else_}
-use Rattle.common.proofs.Choice.{if-true, if-false}
+use Rattle.common.proofs.Choice.{if-true, if-false, unlike}
 use Rattle.common.specs.Numbers.{given}
-use Rattle.file_check.specs.Check.{wsum, checkOf, checkWrong, storedOf, pair}
-use Rattle.file_block.specs.Block.{blockRows}
-use Rattle.file_block.proofs.Tables.{right, right-given}
+use Rattle.file_check.specs.Check.{wsum, checkOf, checkWrong, storedOf, isBlank, isDamaged, pair}
+use Rattle.file_check.proofs.Verdicts.{other-byte, not-blank}
+use Rattle.file_block.specs.Block.{isLetter, letterWrong, blockRows}
+use Rattle.file_block.proofs.Tables.{Right, right, right-given, none-of-two, used-last, used-other}
 use Rattle.file_codec.specs.File.{blocksRows, blocksIn, payloadOf, refused, made, lengthWrong, readerOf}
 use Rattle.file_codec.proofs.Outcomes.{length-right, reader-lets, reader-block}
 use Rattle.common.specs.Lists.{Bytes}
@@ -139,6 +140,35 @@ module _ (b : List ℕ) (j v : ℕ) (long : length b ≡ 512) (h : j < 512) (byt
       go true q e = in-front (ltb-true j 510 q) e
       go false q e = in-check (ltb-false j 510 q) e
 
+-- a right block's letter is not FFH, nor is the high byte of its used count
+not-ff : (first i n : ℕ) (b : List ℕ) → Right first i n b → (getD b 0 0 ≡ 255 → ⊥) × (getD b 3 0 ≡ 255 → ⊥)
+unfolding letterWrong isLetter
+not-ff first i n b r = (letter, used (eqb (i + 1) n) refl)
+  where
+    letter : getD b 0 0 ≡ 255 → ⊥
+    letter e =
+        let l = none-of-two (not (isLetter (getD b 0 0))) (not (eqb (getD b 0 0) first)) (r .letter) in
+        unlike (sym (not-false (isLetter (getD b 0 0)) (l .0)) ∙ ap isLetter e)
+
+    used : (t : Bool) → eqb (i + 1) n ≡ t → getD b 3 0 ≡ 255 → ⊥
+    used true q e = let u = used-last i n b (eqb-true _ _ q) (r .used) .1 in omega arith
+    used false q e = let u = used-other i n b (eqb-false _ _ q) (r .used) in omega arith
+
+-- so with one byte changed it is still not blank
+still-not-blank : (first i n : ℕ) (b : List ℕ) → Right first i n b → (k v : ℕ) → isBlank (set b k v) ≡ false
+still-not-blank first i n b r k v = go (eqb k 0) refl
+  where
+    o : (getD b 0 0 ≡ 255 → ⊥) × (getD b 3 0 ≡ 255 → ⊥)
+    o = not-ff first i n b r
+
+    go : (t : Bool) → eqb k 0 ≡ t → isBlank (set b k v) ≡ false
+    go true q =
+        let z : k ≡ 0 = eqb-true k 0 q in
+        other-byte (set b k v) 3 (omega arith) (λ (e : getD (set b k v) 3 0 ≡ 255). o .1 (sym (getD-set-other b k 3 v 0 (λ (y : 3 ≡ k). (omega arith))) ∙ e))
+    go false q =
+        let z : k ≡ 0 → ⊥ = eqb-false k 0 q in
+        other-byte (set b k v) 0 (omega arith) (λ (e : getD (set b k v) 0 0 ≡ 255). o .0 (sym (getD-set-other b k 0 v 0 (λ (y : 0 ≡ k). z (sym y))) ∙ e))
+
 -- in a walk over right blocks: a byte of the first one, whatever the first block's letter is then
 at-first : (left first other i n : ℕ) (f : List ℕ) (k v : ℕ) → 512 ≤ length f → k < 512 → Bytes f → given (blocksRows (suc left) first i n f []) ≡ 0 → v < 256
     → (v ≡ getD f k 0 → ⊥) → given (blocksRows (suc left) other i n (set f k v) []) ≡ 31
@@ -150,7 +180,8 @@ at-first left first other i n f k v l h bytes g byte z =
     let w : checkWrong (take 512 (set f k v)) ≡ true =
     ap checkWrong t
     ∙ found-out B k v (length-take-le 512 f l) h (λ (m : ℕ) (q : m < 512). subst (λ (y : ℕ). y < 256) (sym (getD-take 512 f m 0 q)) (bytes m)) (r .check) byte (λ (q : v ≡ getD B k 0). z (q ∙ o)) in
-    if-true (checkWrong (take 512 (set f k v))) 31 _ w
+    let u : isBlank (take 512 (set f k v)) ≡ false = ap isBlank t ∙ still-not-blank first i n B r k v in
+    if-false (isBlank (take 512 (set f k v))) 38 _ u ∙ if-true (isDamaged (take 512 (set f k v))) 31 _ (not-blank (take 512 (set f k v)) u w)
 
 -- or of any later one: those before it stay right
 in-walk : (left first i n : ℕ) (f : List ℕ) (k v : ℕ) → length f ≡ 512 * left → k < 512 * left → Bytes f → given (blocksRows left first i n f []) ≡ 0 → v < 256

@@ -5,5 +5,6 @@ pub mod Damage
 pub mod Given
 pub mod Order
 pub mod Raised
+pub mod Blank
 pub mod Claims
 pub mod Unique

@@ -10,8 +10,8 @@ use lib.Dec.{eqb, ltb}
 use borrow.Author.Tests.{eq-eqb, ne-eqb, eqb-true, le-ltb}
 use Rattle.common.proofs.Choice.{if-true, if-false}
 use Rattle.common.specs.Numbers.{given}
-use Rattle.file_check.specs.Check.{checkOf, checkWrong, storedOf, pair}
-use Rattle.file_block.specs.Block.{isLetter, letters, within, allAre, usedOf, part, letterWrong, placeWrong, usedWrong, paddingWrong, blockRows}
+use Rattle.file_check.specs.Check.{checkOf, checkWrong, storedOf, allAre, pair}
+use Rattle.file_block.specs.Block.{isLetter, letters, within, usedOf, part, letterWrong, placeWrong, usedWrong, paddingWrong, blockRows}
 use Rattle.file_block.proofs.Tables.{Right, right-given}
 use Rattle.file_codec.specs.Layout.{headOf, frontOf, blockWritten}
 use Rattle.file_codec.specs.File.{countOf, blocksOf, fileOf, blocksRows, payloadOf, blocksIn, refused, made, lengthWrong, readerOf, writerOf}

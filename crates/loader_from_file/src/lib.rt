@@ -10,7 +10,7 @@ ghost use Prim.Native.Nat.{_≤_};
 ghost use lib.ListN.{length};
 ghost use Rattle.loader_from_file.specs.Loads.{fileNumber, wantedBy, loadNumber, loadedOf, bytesLoaded, wantedLoaded, scratchLoaded, verifyLeft};
 
-// Refusals 30 to 35 of a file for the letter asked and a block of n bytes, or 0.
+// Refusals 30 to 35 and 38 of a file for the letter asked and a block of n bytes, or 0.
 fn file_number(file: &[u8], asked: u8, n: usize) -> u8
     ensures { λ r. ⌜ r ≡ fileNumber (now (file .entry)) asked n ⌝ }
 {

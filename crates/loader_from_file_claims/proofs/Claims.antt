@@ -3,8 +3,8 @@ use mathlib.Core.Path.{_≡_}
 use mathlib.Core.Bool.{Bool, false}
 use mathlib.Core.List.{List}
 use mathlib.Core.Logic.{_↔_}
-use Prim.Native.Nat.{ℕ, _≤_, _<_}
-use lib.ListN.{length, getD, set}
+use Prim.Native.Nat.{ℕ, _*_, _≤_, _<_}
+use lib.ListN.{length, getD, set, replicate}
 use Rattle.common.specs.Lists.{Bytes}
 use Rattle.common.specs.Numbers.{NoRow}
 use Rattle.device.specs.declared.Device.{Device}
@@ -51,3 +51,8 @@ pub changed-byte-31 : (stage : Stage) (verify : Bool) → isEnded stage ≡ fals
     → (i v : ℕ) → i < length f → v < 256 → (v ≡ getD f i 0 → ⊥) → NoRow (runRows d s p k (length xs) (length w) (length sc)) → length f ≤ length w
     → fileLeftAt stage verify d s p k xs w sc (set f i v) asked ≡ loadRefused 31 s xs w sc
 changed-byte-31 = kept.changed-byte-31
+
+-- A blank file of n blocks, whatever letter is asked: the same, 38.
+pub blank-38 : (stage : Stage) (verify : Bool) → isEnded stage ≡ false → (d : Device) (s : State) (p : Pins) (k : ℕ) (xs w sc : List ℕ) (n asked : ℕ) → 0 < n → n ≤ limit
+    → NoRow (runRows d s p k (length xs) (length w) (length sc)) → 512 * n ≤ length w → fileLeftAt stage verify d s p k xs w sc (replicate (512 * n) 255) asked ≡ loadRefused 38 s xs w sc
+blank-38 = kept.blank-38

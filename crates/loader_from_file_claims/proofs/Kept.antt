@@ -1,10 +1,10 @@
--- Files that are neither loaded nor verified against: a written file under another letter, or with a byte changed. Assumes nothing.
-use mathlib.Core.Path.{_≡_, sym, ap, _∙_}
+-- Files that are neither loaded nor verified against: a written file under another letter, or with a byte changed; a blank file. Assumes nothing.
+use mathlib.Core.Path.{_≡_, sym, ap, _∙_, subst}
 use mathlib.Core.Bool.{Bool, false}
 use mathlib.Core.List.{List}
-use Prim.Native.Nat.{ℕ, _≤_, _<_}
+use Prim.Native.Nat.{ℕ, _*_, _≤_, _<_}
 use native.Mathlib.Omega.{arith}
-use lib.ListN.{length, getD, set, length-set}
+use lib.ListN.{length, getD, set, replicate, length-set, length-replicate}
 use lib.Dec.{eqb}
 use borrow.Author.Tests.{eq-eqb}
 use Rattle.common.specs.Lists.{Bytes}
@@ -18,7 +18,7 @@ use Rattle.loader.specs.declared.Stage.{Stage}
 use Rattle.loader.specs.Stages.{isEnded}
 use Rattle.loader_run.specs.Runs.{runRows, runNumber}
 use Rattle.file_codec.specs.File.{limit, refused, made, readerOf, writerOf, judgedAs}
-use Rattle.file_claims.proofs.Claims.{other-letter, changed-byte-here}
+use Rattle.file_claims.proofs.Claims.{other-letter, changed-byte-here, blank-file}
 use Rattle.loader_from_file.specs.Loads.{fileNumber, loadNumber, loadRefused, fileLeftAt}
 use Rattle.loader_from_file.proofs.Judging.{file-after, none-refuses, no-longer, unsound-m}
 use Rattle.loader_from_file.proofs.Leaving.{refused-left}
@@ -59,3 +59,10 @@ module _ (stage : Stage) (verify : Bool) (going : isEnded stage ≡ false) (d : 
       → fileLeftAt stage verify d s p k xs w sc (set f i v) asked ≡ loadRefused 31 s xs w sc
   changed-byte-31 b i v h u c r l =
       by-reader stage verify going d s p k xs w sc (set f i v) asked 31 (λ (q : 31 ≡ 0). (omega arith)) (changed-byte-here ℓ payload f b made-of i v h u c asked) r (let n = length-set f i v in omega arith)
+
+-- a blank file of n blocks
+pub blank-38 : (stage : Stage) (verify : Bool) → isEnded stage ≡ false → (d : Device) (s : State) (p : Pins) (k : ℕ) (xs w sc : List ℕ) (n asked : ℕ) → 0 < n → n ≤ limit
+    → NoRow (runRows d s p k (length xs) (length w) (length sc)) → 512 * n ≤ length w → fileLeftAt stage verify d s p k xs w sc (replicate (512 * n) 255) asked ≡ loadRefused 38 s xs w sc
+blank-38 stage verify going d s p k xs w sc n asked some fits r l =
+    by-reader stage verify going d s p k xs w sc (replicate (512 * n) 255) asked 38 (λ (q : 38 ≡ 0). (omega arith)) (blank-file limit n asked some fits) r
+    (subst (λ (j : ℕ). j ≤ length w) (sym (length-replicate (512 * n) 255)) l)

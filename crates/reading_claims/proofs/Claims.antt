@@ -2,11 +2,11 @@
 use mathlib.Core.Path.{_≡_, refl}
 use mathlib.Core.List.{List, [], _++_}
 use mathlib.Core.Logic.{_↔_}
-use Prim.Native.Nat.{ℕ, _+_, _-_, _≤_, _<_, _^_}
+use Prim.Native.Nat.{ℕ, _+_, _*_, _-_, _≤_, _<_, _^_}
 use native.Mathlib.Nat.{le-trans}
 use lib.Dec.{T, lit≤}
 use lib.IntN.{ℤ}
-use lib.ListN.{length, getD, drop}
+use lib.ListN.{length, getD, drop, replicate}
 use lib.Signed.{leZ, ltZ}
 use lib.Ieee.{Float, binary64, ofInt, le}
 use lib.Ieee.Scale.{finite}
@@ -99,8 +99,8 @@ most-knots = refl
 pub fifteen-halvings : (f : List ℕ) (letter : ℕ) (p : List ℕ) (x : ℤ) → readerOf limit f letter ≡ made p → seekOf p x ≡ halving 15 p x 0 (knots p - 1)
 fifteen-halvings f letter p x e = seek-few p x 15 (le-trans (files.few-knots f letter p e) (lit≤ tt))
 
--- The numbers of a reading from a file: n is given exactly where its row is the first that holds (the reader's 30, 31 to 34 block
--- by block, 35, 37, then 40, 41), a reading exactly where no row holds.
+-- The numbers of a reading from a file: n is given exactly where its row is the first that holds (the reader's 30, 38 or
+-- 31, 32, 33, 34 block by block, 35, 37, then 40, 41), a reading exactly where no row holds.
 pub refused-exactly : (f : List ℕ) (letter : ℕ) (room : List ℕ) (x : ℤ) (n : ℕ) → (n ≡ 0 → ⊥) → answerFrom f letter room x ≡ Refused n ↔ Foremost (answerRows f letter (length room)) n
 refused-exactly = files.refused-exactly
 
@@ -115,6 +115,11 @@ letter-is = files.letter-is
 pub other-letter : (letter : ℕ) (p f room : List ℕ) (x : ℤ) → writerOf limit letter p ≡ made f → (asked : ℕ) → (letter ≡ asked → ⊥)
     → (answerFrom f asked room x ≡ Refused 35) × (roomLeft f asked room ≡ room)
 other-letter = files.written-other
+
+-- A blank file gives no reading, whatever letter is asked: 38, and the room is left.
+pub blank-file : (n asked : ℕ) (room : List ℕ) (x : ℤ) → 0 < n → n ≤ limit
+    → (answerFrom (replicate (512 * n) 255) asked room x ≡ Refused 38) × (roomLeft (replicate (512 * n) 255) asked room ≡ room)
+blank-file = files.blank-read
 
 -- Under its own letter what was written is read as the payload itself is.
 pub own-letter : (letter : ℕ) (p f room : List ℕ) (x : ℤ) → writerOf limit letter p ≡ made f → length p ≤ length room → answerFrom f letter room x ≡ tableAnswer p x

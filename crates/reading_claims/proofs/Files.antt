@@ -3,11 +3,11 @@ use mathlib.Core.Path.{_≡_, refl, sym, ap, _∙_}
 use mathlib.Core.Bool.{Bool, true, false, not}
 use mathlib.Core.Logic.{_↔_}
 use mathlib.Core.List.{List, [], _∷_, _++_, append-assoc}
-use Prim.Native.Nat.{ℕ, _≤_}
+use Prim.Native.Nat.{ℕ, _*_, _≤_, _<_}
 use native.Mathlib.Omega.{arith}
 use lib.Dec.{eqb, ltb}
 use lib.IntN.{ℤ}
-use lib.ListN.{length, getD, drop}
+use lib.ListN.{length, getD, drop, replicate}
 use borrow.Author.Tests.{eq-eqb, ne-eqb, eqb-true, eqb-false}
 use Rattle.common.specs.Choice.{if_then_else_}
 use Rattle.common.proofs.Choice.{if-true, if-false}
@@ -156,7 +156,13 @@ few-knots f letter p e =
 pub written-reads : (letter : ℕ) (p f room : List ℕ) (x : ℤ) → writerOf limit letter p ≡ made f → length p ≤ length room → answerFrom f letter room x ≡ tableAnswer p x
 written-reads letter p f room x w h = ap (λ (o : Outcome). answerAs x (inRoom (length room) o)) (file-claims.comes-back limit letter p f w) ∙ ap (answerAs x) (room-made (length room) p h)
 
+-- a file that the reader refuses gives no reading, and leaves the room
+refuses : (f : List ℕ) (asked : ℕ) (room : List ℕ) (x : ℤ) (n : ℕ) → readerOf limit f asked ≡ refused n → (answerFrom f asked room x ≡ Refused n) × (roomLeft f asked room ≡ room)
+refuses f asked room x n e = (ap (λ (o : Outcome). answerAs x (inRoom (length room) o)) e, ap (λ (o : Outcome). leftIn room (inRoom (length room) o)) e)
+
 pub written-other : (letter : ℕ) (p f room : List ℕ) (x : ℤ) → writerOf limit letter p ≡ made f → (asked : ℕ) → (letter ≡ asked → ⊥) → (answerFrom f asked room x ≡ Refused 35) × (roomLeft f asked room ≡ room)
-written-other letter p f room x w asked z =
-    let e = file-claims.other-letter limit letter p f w asked z in
-    (ap (λ (o : Outcome). answerAs x (inRoom (length room) o)) e, ap (λ (o : Outcome). leftIn room (inRoom (length room) o)) e)
+written-other letter p f room x w asked z = refuses f asked room x 35 (file-claims.other-letter limit letter p f w asked z)
+
+pub blank-read : (n asked : ℕ) (room : List ℕ) (x : ℤ) → 0 < n → n ≤ limit
+    → (answerFrom (replicate (512 * n) 255) asked room x ≡ Refused 38) × (roomLeft (replicate (512 * n) 255) asked room ≡ room)
+blank-read n asked room x z l = refuses (replicate (512 * n) 255) asked room x 38 (file-claims.blank-file limit n asked z l)

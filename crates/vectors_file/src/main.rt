@@ -1,5 +1,5 @@
 // The vectors of the load file: a case a line of standard input, an answer a line of standard output.
-// A case is seventeen numbers of six digits; tests/vectors_file.py says what they mean.
+// A case is eighteen numbers of six digits; tests/vectors_file.py says what they mean.
 ghost use Prim.Native.Nat.{_<_};
 
 // Number k of a case.
@@ -89,9 +89,9 @@ fn take(case: &[u8], file: &[u8], back: &mut [u8]) {
     tell_read(file_codec::read(&file[0..size], asked, &mut back[0..room]));
 }
 
-// One case on buffers of A5H and 5AH.
+// One case: the file in a buffer of the byte that it says, the payload read back in one of 5AH.
 fn on(case: &[u8], payload: &[u8], file: &mut [u8], back: &mut [u8]) {
-    common::fill(file, 165);
+    common::fill(file, byte(case, 17));
     common::fill(back, 90);
     make(case, payload, file);
     spoil(case, file);
@@ -115,11 +115,11 @@ fn run(case: &[u8], payload: &[u8], file: &mut [u8], back: &mut [u8]) {
 
 // All cases of a text.
 fn run_all(text: &[u8], payload: &[u8], file: &mut [u8], back: &mut [u8]) {
-    let n = text.len() / 119;
+    let n = text.len() / 126;
     let mut i = 0;
     while i < n {
-        let from = 119 * i;
-        let to = from + 119;
+        let from = 126 * i;
+        let to = from + 126;
         run(&text[from..to], payload, file, back);
         i += 1;
     }

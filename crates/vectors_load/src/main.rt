@@ -1,5 +1,5 @@
 // Loads and verifies from a file: a case a line of standard input, an answer a line of standard output. A case is a name of 24 bytes and
-// 43 numbers of six digits; tests/vectors_load.py says what they mean and works out the answers.
+// 44 numbers of six digits; tests/vectors_load.py says what they mean and works out the answers.
 use device::Device;
 use device::Part;
 use loader_run::Ran;
@@ -61,12 +61,12 @@ fn change_all(case: &[u8], k: usize, n: usize, s: &mut [u8])
     }
 }
 
-// A file is written over A5H, and six bytes of it are changed.
+// A file is written over the byte that the case says, and six bytes of it are changed.
 fn write(case: &[u8], file: &mut [u8]) {
     let mut payload = [0u8; 113200];
     vectors_text::pattern(&mut payload, 256, 3, 7);
     let size = lent(case, 1, 113200);
-    common::fill(file, 165);
+    common::fill(file, byte(case, 43));
     file_codec::write(byte(case, 0), &payload[0..size], file);
     change_all(case, 2, 6, file);
 }
@@ -262,11 +262,11 @@ fn one(case: &[u8]) {
 
 // All cases of a text.
 fn run_all(text: &[u8]) {
-    let n = text.len() / 325;
+    let n = text.len() / 332;
     let mut i = 0;
     while i < n {
-        let from = 325 * i;
-        let to = from + 325;
+        let from = 332 * i;
+        let to = from + 332;
         one(&text[from..to]);
         i += 1;
     }

@@ -210,6 +210,10 @@ fn change_row(row: &[u8], kind: u8, s: Sizes, payload: &mut [u8], file: &mut [u8
         forge(file, first(row) as usize, (second(row) % 256) as u8);
         return s;
     }
+    if kind == b'E' {
+        common::fill(file, 255);
+        return s;
+    }
     if kind == b'L' {
         return length_row(row, kind, s);
     }

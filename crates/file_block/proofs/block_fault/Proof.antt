@@ -26,14 +26,14 @@ letter-wrong-requires c κs = search needs
 
 returns-3 : tie.Need-returns-3
 unfolding faultOf
-returns-3 c = let s = c .before .before .before in simp (sym (c .before .letter-wrong .ensures) ∙ c .if3 .taken, check-passed (s .before .before .before .args .block .now) (s .check-fault .result) (s .check-fault .ensures) (c .before .before .if2 .left), eq-eqb _ _ (s .before .if1 .left))
+returns-3 c = let s = c .before .before .before in let k = check-passed (s .before .before .before .args .block .now) (s .check-fault .result) (s .check-fault .ensures) (c .before .before .if2 .left) in simp (sym (c .before .letter-wrong .ensures) ∙ c .if3 .taken, k .0, k .1, eq-eqb _ _ (s .before .if1 .left))
 
 place-wrong-requires : tie.Need-place-wrong-requires
 place-wrong-requires c κs = search needs
 
 returns-4 : tie.Need-returns-4
 unfolding faultOf
-returns-4 c = let s = c .before .before .before .before .before in simp (sym (c .before .place-wrong .ensures) ∙ c .if4 .taken, sym (c .before .before .before .letter-wrong .ensures) ∙ c .before .before .if3 .left, check-passed (s .before .before .before .args .block .now) (s .check-fault .result) (s .check-fault .ensures) (c .before .before .before .before .if2 .left), eq-eqb _ _ (s .before .if1 .left))
+returns-4 c = let s = c .before .before .before .before .before in let k = check-passed (s .before .before .before .args .block .now) (s .check-fault .result) (s .check-fault .ensures) (c .before .before .before .before .if2 .left) in simp (sym (c .before .place-wrong .ensures) ∙ c .if4 .taken, sym (c .before .before .before .letter-wrong .ensures) ∙ c .before .before .if3 .left, k .0, k .1, eq-eqb _ _ (s .before .if1 .left))
 
 used-wrong-requires : tie.Need-used-wrong-requires
 used-wrong-requires c κs =
@@ -42,18 +42,18 @@ used-wrong-requires c κs =
 
 returns-5 : tie.Need-returns-5
 unfolding faultOf
-returns-5 c = let s = c .before .before .before .before .before .before .before in simp (sym (c .before .used-wrong .ensures) ∙ c .if5 .taken, sym (c .before .before .before .place-wrong .ensures) ∙ c .before .before .if4 .left, sym (c .before .before .before .before .before .letter-wrong .ensures) ∙ c .before .before .before .before .if3 .left, check-passed (s .before .before .before .args .block .now) (s .check-fault .result) (s .check-fault .ensures) (c .before .before .before .before .before .before .if2 .left), eq-eqb _ _ (s .before .if1 .left))
+returns-5 c = let s = c .before .before .before .before .before .before .before in let k = check-passed (s .before .before .before .args .block .now) (s .check-fault .result) (s .check-fault .ensures) (c .before .before .before .before .before .before .if2 .left) in simp (sym (c .before .used-wrong .ensures) ∙ c .if5 .taken, sym (c .before .before .before .place-wrong .ensures) ∙ c .before .before .if4 .left, sym (c .before .before .before .before .before .letter-wrong .ensures) ∙ c .before .before .before .before .if3 .left, k .0, k .1, eq-eqb _ _ (s .before .if1 .left))
 
 padding-wrong-requires : tie.Need-padding-wrong-requires
 padding-wrong-requires c κs = search needs
 
 returns-6 : tie.Need-returns-6
 unfolding faultOf
-returns-6 c = let s = c .before .before .before .before .before .before .before .before .before in simp (sym (c .before .padding-wrong .ensures) ∙ c .if6 .taken, sym (c .before .before .before .used-wrong .ensures) ∙ c .before .before .if5 .left, sym (c .before .before .before .before .before .place-wrong .ensures) ∙ c .before .before .before .before .if4 .left, sym (c .before .before .before .before .before .before .before .letter-wrong .ensures) ∙ c .before .before .before .before .before .before .if3 .left, check-passed (s .before .before .before .args .block .now) (s .check-fault .result) (s .check-fault .ensures) (c .before .before .before .before .before .before .before .before .if2 .left), eq-eqb _ _ (s .before .if1 .left))
+returns-6 c = let s = c .before .before .before .before .before .before .before .before .before in let k = check-passed (s .before .before .before .args .block .now) (s .check-fault .result) (s .check-fault .ensures) (c .before .before .before .before .before .before .before .before .if2 .left) in simp (sym (c .before .padding-wrong .ensures) ∙ c .if6 .taken, sym (c .before .before .before .used-wrong .ensures) ∙ c .before .before .if5 .left, sym (c .before .before .before .before .before .place-wrong .ensures) ∙ c .before .before .before .before .if4 .left, sym (c .before .before .before .before .before .before .before .letter-wrong .ensures) ∙ c .before .before .before .before .before .before .if3 .left, k .0, k .1, eq-eqb _ _ (s .before .if1 .left))
 
 returns-7 : tie.Need-returns-7
 unfolding faultOf
-returns-7 c = let s = c .before .before .before .before .before .before .before .before .before in simp (sym (c .before .padding-wrong .ensures) ∙ c .if6 .left, sym (c .before .before .before .used-wrong .ensures) ∙ c .before .before .if5 .left, sym (c .before .before .before .before .before .place-wrong .ensures) ∙ c .before .before .before .before .if4 .left, sym (c .before .before .before .before .before .before .before .letter-wrong .ensures) ∙ c .before .before .before .before .before .before .if3 .left, check-passed (s .before .before .before .args .block .now) (s .check-fault .result) (s .check-fault .ensures) (c .before .before .before .before .before .before .before .before .if2 .left), eq-eqb _ _ (s .before .if1 .left))
+returns-7 c = let s = c .before .before .before .before .before .before .before .before .before in let k = check-passed (s .before .before .before .args .block .now) (s .check-fault .result) (s .check-fault .ensures) (c .before .before .before .before .before .before .before .before .if2 .left) in simp (sym (c .before .padding-wrong .ensures) ∙ c .if6 .left, sym (c .before .before .before .used-wrong .ensures) ∙ c .before .before .if5 .left, sym (c .before .before .before .before .before .place-wrong .ensures) ∙ c .before .before .before .before .if4 .left, sym (c .before .before .before .before .before .before .before .letter-wrong .ensures) ∙ c .before .before .before .before .before .before .if3 .left, k .0, k .1, eq-eqb _ _ (s .before .if1 .left))
 
 pub block-fault-spec : {M : Type 1} → statement M
 block-fault-spec =

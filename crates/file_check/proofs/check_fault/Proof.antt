@@ -1,11 +1,15 @@
--- `seal::check_fault` meets its contract. Assumes nothing.
+-- `file_check::check_fault` meets its contract. Assumes nothing.
 use borrow.Author.Needs.{needs}
 use mathlib.Core.Path.{_≡_, sym, _∙_}
 use lib.ListN.{take}
 use Rattle.file_check.specs.Check.{checkOf, storedOf, pair}
-use Rattle.file_check.proofs.Verdicts.{check-right, check-not-right}
+use Rattle.file_check.proofs.Verdicts.{check-right, check-blank, check-not-right}
 use Rattle.file_check.proofs.check_fault.Statement.{statement}
 use Rattle.file_check.proofs.check_fault.Tie as tie
+
+-- what the two reads and their joining gave is the check that the block carries
+carried : (c : tie.After-joined) → c .joined .result ≡ storedOf (c .before .before .before .before .args .block .now)
+carried c = c .joined .ensures .0 ∙ (λ i. pair (c .before .before .nth .ensures i) (c .before .nth2 .ensures i))
 
 nth-requires : tie.Need-nth-requires
 nth-requires c κs = search needs
@@ -23,20 +27,21 @@ cast-right : tie.Need-cast-right
 cast-right c = search needs
 
 returns : tie.Need-returns
-returns c =
-    let m = c .before .before .before .before in
-    let b = m .before .before .args .block .now in
-    let stored : c .before .before .joined .result ≡ storedOf b =
-    c .before .before .joined .ensures .0 ∙ (λ i. pair (m .nth .ensures i) (c .before .before .before .nth2 .ensures i)) in
-    sym (check-right b (sym (c .before .check .ensures) ∙ c .if1 .taken ∙ stored))
+returns c = sym (check-right _ (sym (c .before .check .ensures) ∙ c .if1 .taken ∙ carried (c .before .before)))
+
+is-blank-requires : tie.Need-is-blank-requires
+is-blank-requires c κs = search needs
 
 returns-2 : tie.Need-returns-2
-returns-2 c =
-    let m = c .before .before .before .before in
-    let b = m .before .before .args .block .now in
-    let stored : c .before .before .joined .result ≡ storedOf b =
-    c .before .before .joined .ensures .0 ∙ (λ i. pair (m .nth .ensures i) (c .before .before .before .nth2 .ensures i)) in
-    sym (check-not-right b (λ (e : checkOf (take 510 b) ≡ storedOf b). c .if1 .left (c .before .check .ensures ∙ e ∙ sym stored)))
+returns-2 c = sym (check-blank _ (sym (c .before .is-blank .ensures) ∙ c .if2 .taken))
+
+returns-3 : tie.Need-returns-3
+returns-3 c =
+    let k = c .before .before .before in
+    let b = k .before .before .before .before .before .args .block .now in
+    sym
+    (check-not-right b (λ (e : checkOf (take 510 b) ≡ storedOf b). c .before .before .if1 .left (k .check .ensures ∙ e ∙ sym (carried (k .before))))
+    (sym (c .before .is-blank .ensures) ∙ c .if2 .left))
 
 pub check-fault-spec : {M : Type 1} → statement M
 check-fault-spec =
@@ -48,4 +53,6 @@ check-fault-spec =
     check-requires
     cast-right
     returns
-    returns-2)
+    is-blank-requires
+    returns-2
+    returns-3)

@@ -8,7 +8,7 @@ use Rattle.vectors_file.proofs.run_all.Statement.{statement}
 use Rattle.vectors_file.proofs.run_all.Tie as tie
 
 abbrev Inv-loop : tie.InvT-loop
-Inv-loop text payload file₀ back₀ n i₀ file back i = (i ≤ n) × (119 * n ≤ length text) × (length file ≡ length file₀) × (length back ≡ length back₀)
+Inv-loop text payload file₀ back₀ n i₀ file back i = (i ≤ n) × (126 * n ≤ length text) × (length file ≡ length file₀) × (length back ≡ length back₀)
 
 abbrev μ-loop : tie.MeasureT-loop
 μ-loop text payload file₀ back₀ n i₀ file back i = n - i

@@ -1,12 +1,12 @@
--- `blocks::all_ff` meets its contract: what was passed is FFH, so the rest decides. Assumes nothing.
+-- `file_check::all_ff` meets its contract: what was passed is FFH, so the rest decides. Assumes nothing.
 use mathlib.Core.Path.{_≡_, refl, sym, ap, _∙_}
 use Prim.Native.Nat.{_≤_, _-_}
 use native.Mathlib.Omega.{arith}
 use lib.ListN.{length, drop, drop-of-length-le}
-use Rattle.file_block.specs.Block.{allAre}
-use Rattle.file_block.proofs.Walks.{broken, kept}
-use Rattle.file_block.proofs.all_ff.Statement.{statement}
-use Rattle.file_block.proofs.all_ff.Tie as tie
+use Rattle.file_check.specs.Check.{allAre}
+use Rattle.file_check.proofs.Walks.{broken, kept}
+use Rattle.file_check.proofs.all_ff.Statement.{statement}
+use Rattle.file_check.proofs.all_ff.Tie as tie
 
 abbrev Inv-loop : tie.InvT-loop
 Inv-loop s i₀ i = (i ≤ length s) × (allAre 255 (drop i s) ≡ allAre 255 s)
