@@ -197,7 +197,7 @@ head -c 511 "$work/three.load" >"$work/cut.load"
 call "$tb" read "$work/cut.load" K 6138; try 'a file cut short' 1 "refused 30: the file's length is wrong
 " ''
 head -c 1024 /dev/zero | tr '\0' '\377' >"$work/blank.load"
-call "$tb" read "$work/blank.load" K 6138; try 'a blank file' 1 'refused 38: a block is blank, not damaged: it was never loaded
+call "$tb" read "$work/blank.load" K 6138; try 'a blank file' 1 'refused 38: a block of the file is blank, not damaged: it was never loaded
 ' ''
 call "$tb" table print "$work/blank.load" K; try 'a table of a blank file' 1 '' 'refused 38'
 { head -c 511 "$work/blank.load" && printf K; } >"$work/other.load"
@@ -245,7 +245,7 @@ call "$tb" verify "$work/whole" 1 3 "$work/long.load" K; try 'a main block that 
 ' ''
 call "$tb" verify "$work/image" 3 1 "$work/three.load" S; try 'verify: another letter' 1 "refused 35: the file's letter is not the one asked for
 " ''
-call "$tb" verify "$work/image" 3 0 "$work/blank.load" K; try 'verify: a blank file' 1 'refused 38: a block is blank, not damaged: it was never loaded
+call "$tb" verify "$work/image" 3 0 "$work/blank.load" K; try 'verify: a blank file' 1 'refused 38: a block of the file is blank, not damaged: it was never loaded
 ' ''
 call "$tb" verify "$work/image" 4 4 "$work/three.load" K; try 'verify: no such block' 1 'refused 10: there is no such block
 ' ''

@@ -5,7 +5,7 @@
     python3 tests/vectors_load.py expected     the lines, as in crates/vectors_load/stdout
     python3 tests/vectors_load.py check        whether both files are what the script prints
 
-The load here is written from document 01. It stands on the scripts' own loader and device (vectors_run.py, vectors_model.py) and
+The load here is written from documents 01 and 02. It stands on the scripts' own loader and device (vectors_run.py, vectors_model.py) and
 on their own writer and reader of a load file (vectors_file.py), and shares nothing with the crates. Every case says beforehand
 how it must end and how many cycles it makes, and the load is held to that.
 
@@ -40,7 +40,7 @@ NAME = 23
 
 
 def file_number(data, asked, n):
-    """The reader's 30 to 35; 30 also for a file longer than a flash block of n bytes."""
+    """The reader's 30 to 35 and 38; 30 also for a file longer than a flash block of n bytes."""
     if len(data) > n:
         return 30
     return judge(data, asked)[0]
@@ -176,6 +176,7 @@ def file_refused(t):
     good = {"size": 505, "before": [(2, 2)], "length": 1024, "fill": 255}
     t.case("38 blank", 38, about=blank, **two)
     t.case("38 blank, eight", 38, about={**blank, "length": 4096}, **wide)
+    t.case("38 blank, main block", 38, about={**blank, "length": 114688}, number=1, block=3, held=(255, 0))
     t.case("38 blank, boot unlocked", 38, about=blank, number=1, block=0, held=(255, 0))
     t.case("38 good, then blank", 38, about={**good, "seal": [0]}, **two)
     t.case("31 wrong, then blank", 31, about=good, **two)

@@ -1,5 +1,5 @@
 #!/usr/bin/env python3
-"""The vectors of the readings, worked out from document 02 (i) and document 01 alone.
+"""The vectors of the readings, worked out from document 02 (i), (vi), (viii) and document 01 alone.
 
     python3 tests/vectors_reading.py table      the rows: what crates/vectors_reading reads (its file stdin)
     python3 tests/vectors_reading.py expected   what it must print (its file stdout)

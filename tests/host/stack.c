@@ -59,6 +59,10 @@ static void reading(void) {
     byte = (uint8_t)(tb_table_judge(payload, 600) + tb_table_reading(payload, 600, 5).answer);
     byte = (uint8_t)(byte + tb_file_reading('K', file, sizeof file, payload, sizeof payload, 5).answer);
 }
+static void blank(void) {
+    memset(file, 0xFF, sizeof file);
+    byte = tb_file_read('K', file, sizeof file, payload, sizeof payload).number;
+}
 static void part(void) { byte = (uint8_t)(tb_size(3) + tb_block(3, 1).first + tb_fresh().status); }
 
 static size_t most;
@@ -89,7 +93,7 @@ static void steps_of_a_load(void) {
 }
 
 void stack(bool verbose) {
-    void (*const calls[])(void) = {part, write, read, check, reading, write_short, run, load, load_run, verify_run, verify_file};
+    void (*const calls[])(void) = {part, write, read, check, reading, write_short, run, load, load_run, verify_run, verify_file, blank};
     size_t none = used_by(nothing);
     cycles_of_an_erase();
     steps_of_a_load();

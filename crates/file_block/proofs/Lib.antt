@@ -1,5 +1,5 @@
-pub mod Tables
 pub mod Walks
 pub mod Verdicts
+pub mod Tables
 pub mod Claims
 pub mod Unique

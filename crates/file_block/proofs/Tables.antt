@@ -1,6 +1,6 @@
 -- Laws of the table of one block: what is asked after it, and what a right block is. Assumes nothing.
 use mathlib.Core.Path.{_≡_, refl, sym, _∙_}
-use mathlib.Core.List.{List, []}
+use mathlib.Core.List.{List, [], _∷_}
 use mathlib.Core.Logic.{_↔_}
 use mathlib.Core.Bool.{Bool, true, false, not, _||_}
 use Prim.Native.Nat.{ℕ, suc, _+_, _≤_, _<_}
@@ -10,11 +10,12 @@ use lib.Dec.{eqb, ltb}
 use borrow.Author.Tests.{eq-eqb, ne-eqb, eqb-true, eqb-false, ltb-false, not-false}
 use Rattle.common.specs.Choice.{if_then_else_}
 use Rattle.common.proofs.Choice.{if-true, if-false}
-use Rattle.common.specs.Numbers.{Row, given, Foremost, NoRow}
+use Rattle.common.specs.Numbers.{Row, row, given, Foremost, NoRow}
 use Rattle.common.proofs.Numbers.{given-append, given-foremost, foremost-given, given-no-row, no-row-given}
-use Rattle.file_check.specs.Check.{checkWrong, isBlank, isDamaged}
+use Rattle.file_check.specs.Check.{checkWrong, checkFault}
 use Rattle.file_check.proofs.Verdicts.{sound-check, check-sound}
 use Rattle.file_block.specs.Block.{blockRows, usedOf, letterWrong, placeWrong, usedWrong, paddingWrong, faultRows, faultOf}
+use Rattle.file_block.proofs.Verdicts.{check-passed, after-check}
 
 -- what is asked after a block counts only where the block is right
 pub after-block : (first i n : ℕ) (b : List ℕ) (rest : List Row)
@@ -40,14 +41,20 @@ not-given true k x e = absurd (omega arith)
 not-given false k x e = (refl, e)
 
 pub right : (first i n : ℕ) (b : List ℕ) (rest : List Row) → given (blockRows first i n b rest) ≡ 0 → Right first i n b × (given rest ≡ 0)
-right first i n b rest e =
-    let k = not-given (isBlank b) 37 _ e in
-    let c = not-given (isDamaged b) 30 _ (k .1) in
-    let l = not-given (letterWrong first b) 31 _ (c .1) in
-    let p = not-given (placeWrong i n b) 32 _ (l .1) in
-    let u = not-given (usedWrong i n b || paddingWrong b) 33 _ (p .1) in
-    let w = none-of-two (usedWrong i n b) (paddingWrong b) (u .0) in
-    (record { check = check-sound b (k .0) (c .0); letter = l .0; place = p .0; used = w .0; padding = w .1 }, u .1)
+right first i n b rest e = go (eqb (checkFault b) 0) refl (sym (after-check first i n b rest) ∙ e)
+  where
+    R : List Row
+    R = row 32 (letterWrong first b) ∷ row 33 (placeWrong i n b) ∷ row 34 (usedWrong i n b || paddingWrong b) ∷ rest
+
+    go : (t : Bool) → eqb (checkFault b) 0 ≡ t → (if eqb (checkFault b) 0 then given R else checkFault b) ≡ 0 → Right first i n b × (given rest ≡ 0)
+    go true q g =
+        let k = check-passed b (checkFault b) refl (eqb-true _ _ q) in
+        let l = not-given (letterWrong first b) 31 _ (sym (if-true (eqb (checkFault b) 0) (given R) (checkFault b) q) ∙ g) in
+        let p = not-given (placeWrong i n b) 32 _ (l .1) in
+        let u = not-given (usedWrong i n b || paddingWrong b) 33 _ (p .1) in
+        let w = none-of-two (usedWrong i n b) (paddingWrong b) (u .0) in
+        (record { check = check-sound b (k .0) (k .1); letter = l .0; place = p .0; used = w .0; padding = w .1 }, u .1)
+    go false q g = absurd (eqb-false (checkFault b) 0 q (sym (if-false (eqb (checkFault b) 0) (given R) (checkFault b) q) ∙ g))
 
 -- and the other way round
 pub right-given : (first i n : ℕ) (b : List ℕ) (rest : List Row) → Right first i n b → given (blockRows first i n b rest) ≡ given rest

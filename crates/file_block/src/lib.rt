@@ -80,7 +80,7 @@ fn padding_wrong(block: &[u8]) -> bool
     !clean
 }
 
-// The first refusal of a slice as block i of n: 30 where it is not 512 bytes long, then 38 or 31, then 32 to 34, or 0.
+// The first refusal of a slice as block i of n: 30 where it is not 512 bytes long, then 38 or else 31, then 32, 33, 34; or 0.
 pub fn block_fault(block: &[u8], first: u8, i: usize, n: usize) -> u8
     ensures { λ r. ⌜ r ≡ faultOf first i n (now (block .entry)) ⌝ }
 {

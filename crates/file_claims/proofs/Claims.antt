@@ -80,8 +80,8 @@ raised-reads m n asked f l = (raised.reads-alike m n asked f l, raised.longer-30
 pub raised-writes : (m n ℓ : ℕ) (p : List ℕ) → m ≤ n → length p ≤ 505 * m → writerOf m ℓ p ≡ writerOf n ℓ p
 raised-writes = raised.writes-alike
 
--- So with eight blocks as before and the limit as it is: files of up to 4,096 bytes keep their reading, longer ones were refused 30, and
--- payloads of up to 4,040 bytes give the files that they gave.
+-- So the rules at eight blocks and at the limit say the same of files of up to 4,096 bytes, refuse a longer one 30 at eight, and make the same files of
+-- payloads of up to 4,040 bytes. The reader as it stood, which did not tell a blank block apart: `stored-before`.
 pub stored-files : (asked : ℕ) (f : List ℕ) → (length f ≤ 4096 → readerOf 8 f asked ≡ readerOf limit f asked) × (4096 < length f → readerOf 8 f asked ≡ refused 30)
 stored-files asked f = raised-reads 8 limit asked f (omega arith)
 
@@ -125,6 +125,15 @@ accepted-still = blank.accepted-still
 pub others-stay : (most : ℕ) (f : List ℕ) (asked n : ℕ) → (n ≡ 31 → ⊥) → readerBefore most f asked ≡ refused n → readerOf most f asked ≡ refused n
 others-stay = blank.others-stay
 
+-- And so with the limit from before, 8 blocks: the reader as it stood then says of every file of at most 4,096 bytes what the reader says now, with
+-- 38 told as 31, and refuses a longer one 30.
+pub stored-before : (asked : ℕ) (f : List ℕ)
+    → (length f ≤ 4096 → toldBefore (readerOf limit f asked) ≡ readerBefore 8 f asked) × (4096 < length f → readerBefore 8 f asked ≡ refused 30)
+stored-before asked f = (
+  λ (h : length f ≤ 4096). ap toldBefore (sym (stored-files asked f .0 h)) ∙ named-apart 8 f asked,
+  λ (h : 4096 < length f). sym (named-apart 8 f asked) ∙ ap toldBefore (stored-files asked f .1 h),
+)
+
 -- a blank file of n blocks is refused 38, for every n up to the limit and every letter asked
 pub blank-file : (most n asked : ℕ) → 0 < n → n ≤ most → readerOf most (replicate (512 * n) 255) asked ≡ refused 38
 blank-file = blank.blank-file
@@ -134,7 +143,7 @@ pub writer-order : (most ℓ : ℕ) (p : List ℕ) (room : ℕ)
     → Ordered (writeRows most ℓ p (row 37 (ltb room (length (fileOf ℓ p))) ∷ [])) (fileOf ℓ p) (inRoom room (writerOf most ℓ p))
 writer-order = writes-in-order
 
--- the judgement 30, then 38 or 31, 32, 33, 34 block by block, then 35
+-- the judgement: 30, then block by block 38 or else 31, then 32, 33, 34; then 35
 pub judge-order : (most : ℕ) (f : List ℕ) (asked : ℕ) → Ordered (readRows most f asked []) (payloadOf (blocksIn f) f) (readerOf most f asked)
 judge-order = judges-in-order
 

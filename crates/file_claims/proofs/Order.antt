@@ -75,7 +75,7 @@ writes-in-order most ℓ p room =
 read-numbered : (most : ℕ) (f : List ℕ) (asked : ℕ) (rest : List Row) → numbered rest ≡ true → numbered (readRows most f asked rest) ≡ true
 read-numbered most f asked rest m = blocks-numbered (blocksIn f) (getD f 0 0) 0 (blocksIn f) f (row 35 (not (eqb (getD f 0 0) asked)) ∷ rest) ∙ m
 
--- the judgement: 30, then 38 or 31, 32, 33, 34 block by block, then 35
+-- the judgement: 30, then block by block 38 or else 31, then 32, 33, 34; then 35
 pub judges-in-order : (most : ℕ) (f : List ℕ) (asked : ℕ) → Ordered (readRows most f asked []) (payloadOf (blocksIn f) f) (readerOf most f asked)
 unfolding readerOf
 judges-in-order most f asked = ordered (readRows most f asked []) (payloadOf (blocksIn f) f) (read-numbered most f asked [] refl)

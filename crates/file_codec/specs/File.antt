@@ -86,7 +86,7 @@ placesOf (suc left) f = take 505 (drop 5 f) ++ placesOf left (drop 512 f)
 abbrev pub blocksIn : List ℕ → ℕ
 blocksIn f = length f / 512
 
--- the reader's refusals: 30, then 38 or 31, 32, 33, 34 block by block, then 35, then what is asked after them
+-- the reader's refusals: 30, then block by block 38 or else 31, then 32, 33, 34; then 35, then what is asked after them
 abbrev pub readRows : ℕ → List ℕ → ℕ → List Row → List Row
 readRows most f asked after =
     row 30 (lengthWrong most (length f))

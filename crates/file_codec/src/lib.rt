@@ -29,7 +29,7 @@ pub enum ReadBack {
     NotRead(u8),
 }
 
-// The first refusal of n blocks, block by block: 38 or 31, 32, 33, 34, or 0.
+// The first refusal of n blocks, block by block: 38 or else 31, then 32, 33, 34; or 0.
 fn blocks_fault(file: &[u8], n: usize) -> u8
     requires { ⌜ length (now file) ≡ 512 * n ⌝ }
     ensures { λ r. ⌜ r ≡ given (blocksRows n (getD (now (file .entry)) 0 0) 0 n (now (file .entry)) []) ⌝ }
@@ -69,7 +69,7 @@ fn payload_size(file: &[u8], n: usize) -> usize
     505 * whole + file_block::used(&file[from..to])
 }
 
-// The judgement of a file for the letter asked: 30, then 38 or 31, 32, 33, 34 block by block, then 35, in one walk.
+// The judgement of a file for the letter asked: 30, then block by block 38 or else 31, then 32, 33, 34; then 35, in one walk.
 pub fn judge(file: &[u8], asked: u8) -> Judged
     ensures { λ r. ⌜ r ≡ judgedAs (readerOf limit (now (file .entry)) asked) ⌝ }
 {

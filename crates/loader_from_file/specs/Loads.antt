@@ -16,7 +16,7 @@ use Rattle.loader.specs.declared.Stage.the-variants.{Clearing, Closing}
 use Rattle.loader_run.specs.declared.Ran.{Ran}
 use Rattle.loader_run.specs.Runs.{runRows, RunLeft, runLeftAt}
 
--- the tests of a file for a block of n bytes: 30 also where it is longer than the block, then 38 or 31, 32, 33, 34 block by block, then 35
+-- the tests of a file for a block of n bytes: 30 also where it is longer than the block, then block by block 38 or else 31, then 32, 33, 34; then 35
 abbrev pub fileRows : List ℕ → ℕ → ℕ → List Row
 fileRows f asked n =
     row 30 (lengthWrong limit (length f) || ltb n (length f))

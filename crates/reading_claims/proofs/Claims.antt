@@ -99,8 +99,8 @@ most-knots = refl
 pub fifteen-halvings : (f : List ℕ) (letter : ℕ) (p : List ℕ) (x : ℤ) → readerOf limit f letter ≡ made p → seekOf p x ≡ halving 15 p x 0 (knots p - 1)
 fifteen-halvings f letter p x e = seek-few p x 15 (le-trans (files.few-knots f letter p e) (lit≤ tt))
 
--- The numbers of a reading from a file: n is given exactly where its row is the first that holds (the reader's 30, 38 or
--- 31, 32, 33, 34 block by block, 35, 37, then 40, 41), a reading exactly where no row holds.
+-- The numbers of a reading from a file: n is given exactly where its row is the first that holds (the reader's 30,
+-- block by block 38 or else 31, then 32, 33, 34; 35, 37, then 40, 41), a reading exactly where no row holds.
 pub refused-exactly : (f : List ℕ) (letter : ℕ) (room : List ℕ) (x : ℤ) (n : ℕ) → (n ≡ 0 → ⊥) → answerFrom f letter room x ≡ Refused n ↔ Foremost (answerRows f letter (length room)) n
 refused-exactly = files.refused-exactly
 

@@ -35,7 +35,7 @@ fn say_file_words(n: u8) {
         33 => say(b"a block's number or count is wrong\n"),
         34 => say(b"a block's used count or padding is wrong\n"),
         35 => say(b"the file's letter is not the one asked for\n"),
-        38 => say(b"a block is blank, not damaged: it was never loaded\n"),
+        38 => say(b"a block of the file is blank, not damaged: it was never loaded\n"),
         _ => say(b"there is no room for the payload\n"),
     }
 }

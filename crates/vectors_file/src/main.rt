@@ -89,7 +89,7 @@ fn take(case: &[u8], file: &[u8], back: &mut [u8]) {
     tell_read(file_codec::read(&file[0..size], asked, &mut back[0..room]));
 }
 
-// One case: the file in a buffer of the byte that it says, the payload read back in one of 5AH.
+// One case. The file's buffer holds the byte of number 17 before, the payload's 5AH.
 fn on(case: &[u8], payload: &[u8], file: &mut [u8], back: &mut [u8]) {
     common::fill(file, byte(case, 17));
     common::fill(back, 90);
@@ -101,7 +101,7 @@ fn on(case: &[u8], payload: &[u8], file: &mut [u8], back: &mut [u8]) {
     io::write_all(1, b"\n");
 }
 
-// One case, as much of each buffer being used as it says: that of a short file or that of a long one.
+// One case. Number 16 says whether the buffers are those of a short file, 5,200 and 4,200 bytes, or of a long one, 115,300 and 113,600.
 fn run(case: &[u8], payload: &[u8], file: &mut [u8], back: &mut [u8]) {
     if field(case, 16) == 0 {
         let n = common::least(5200, file.len());

@@ -19,7 +19,7 @@ fn say_file_words(n: u8) {
         33 => say(b"a block's number or count is wrong\n"),
         34 => say(b"a block's used count or padding is wrong\n"),
         35 => say(b"the file's letter is not the one asked for\n"),
-        38 => say(b"a block is blank, not damaged: it was never loaded\n"),
+        38 => say(b"a block of the file is blank, not damaged: it was never loaded\n"),
         _ => say(b"as the list of numbers says\n"),
     }
 }
@@ -103,7 +103,7 @@ fn fetched(k: usize, into: &mut [u8]) -> usize {
     m
 }
 
-// Image and file are fetched; one byte more than the longest is enough to see that something is too long.
+// Image and file are fetched, with a byte more than the longest image and a block more than the longest file: so what is too long is seen.
 fn with_numbers(number: u8, block: u8, letter: u8) {
     let mut image = [0u8; 131073];
     let mut file = [0u8; 115200];
