@@ -1,4 +1,4 @@
--- `loadfile::put_head` meets its contract. Assumes nothing.
+-- `file_codec::put_head` meets its contract. Assumes nothing.
 use borrow.Author.Needs.{needs}
 use mathlib.Core.List.{[], _∷_}
 use Prim.Native.Nat.{_<_, _/_, _%_}

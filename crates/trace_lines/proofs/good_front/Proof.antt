@@ -1,4 +1,4 @@
--- `lines::good_front` meets its contract. Assumes nothing.
+-- `trace_lines::good_front` meets its contract. Assumes nothing.
 use borrow.Author.Needs.{needs}
 use Rattle.trace_lines.proofs.good_front.Statement.{statement}
 use Rattle.trace_lines.proofs.good_front.Tie as tie

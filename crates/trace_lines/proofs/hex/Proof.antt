@@ -1,4 +1,4 @@
--- `lines::hex` meets its contract. Assumes nothing.
+-- `trace_lines::hex` meets its contract. Assumes nothing.
 use mathlib.Core.Path.{refl}
 use native.Mathlib.Omega.{arith}
 use borrow.Author.Needs.{needs}

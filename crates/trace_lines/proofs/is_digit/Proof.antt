@@ -1,4 +1,4 @@
--- `lines::is_digit` meets its contract. Assumes nothing.
+-- `trace_lines::is_digit` meets its contract. Assumes nothing.
 use mathlib.Core.Path.{refl}
 use Rattle.trace_lines.specs.Lines.{isDigit}
 use Rattle.trace_lines.proofs.is_digit.Statement.{statement}

@@ -1,4 +1,4 @@
--- `lines::is_hex` meets its contract. Assumes nothing.
+-- `trace_lines::is_hex` meets its contract. Assumes nothing.
 use borrow.Author.Needs.{needs}
 use Rattle.trace_lines.specs.Lines.{isHex}
 use Rattle.trace_lines.proofs.is_hex.Statement.{statement}

@@ -1,4 +1,4 @@
--- `replay::answer_line` meets its contract. Assumes nothing.
+-- `trace_replay::answer_line` meets its contract. Assumes nothing.
 use mathlib.Core.Path.{_≡_, ap, _∙_}
 use Rattle.common.specs.Lists.{copied}
 use Rattle.model_types.specs.declared.Cycle.{Cycle}

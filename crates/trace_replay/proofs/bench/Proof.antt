@@ -1,4 +1,4 @@
--- `replay::bench` meets its contract. Assumes nothing.
+-- `trace_replay::bench` meets its contract. Assumes nothing.
 use mathlib.Core.Path.{refl}
 use Rattle.trace_replay.proofs.bench.Statement.{statement}
 use Rattle.trace_replay.proofs.bench.Tie as tie

@@ -1,4 +1,4 @@
--- `replay::step` meets its contract. Assumes nothing.
+-- `trace_replay::step` meets its contract. Assumes nothing.
 use mathlib.Core.Path.{ap, _∙_}
 use Rattle.device.specs.declared.Device.{Device}
 use Rattle.model.specs.Arrays.{answerOf, arrayAfter}

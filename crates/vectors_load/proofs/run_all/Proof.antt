@@ -1,4 +1,4 @@
--- `load_vectors::run_all` is safe and ends. Assumes nothing.
+-- `vectors_load::run_all` is safe and ends. Assumes nothing.
 use Prim.Native.Nat.{_≤_, _-_, _*_}
 use native.Mathlib.Omega.{arith}
 use borrow.Author.Needs.{needs}

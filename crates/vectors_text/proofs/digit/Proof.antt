@@ -1,4 +1,4 @@
--- `rows::digit` meets its contract. Assumes nothing.
+-- `vectors_text::digit` meets its contract. Assumes nothing.
 use native.Mathlib.Omega.{arith}
 use borrow.Author.Needs.{needs}
 use borrow.Author.Tests.{lt-ltb, le-ltb}

@@ -1,4 +1,4 @@
--- `rows::letter` meets its contract. Assumes nothing.
+-- `vectors_text::letter` meets its contract. Assumes nothing.
 use borrow.Author.Needs.{needs}
 use borrow.Author.Tests.{lt-ltb, le-ltb}
 use Rattle.vectors_text.specs.Text.{digitLetter}

@@ -1,4 +1,4 @@
--- `rows::number` meets its contract: what is left to read gives what was to be read. Assumes nothing.
+-- `vectors_text::number` meets its contract: what is left to read gives what was to be read. Assumes nothing.
 use mathlib.Core.Path.{_≡_, refl, sym, ap, _∙_}
 use Prim.Native.Nat.{ℕ, _+_, _*_, _-_, _%_, _≤_, _<_}
 use native.Mathlib.Omega.{arith}

@@ -1,4 +1,4 @@
--- `rows::put` meets its contract. Assumes nothing.
+-- `vectors_text::put` meets its contract. Assumes nothing.
 use mathlib.Core.Path.{sym}
 use borrow.Author.Needs.{needs}
 use lib.Seq.{set-out}

@@ -1,4 +1,4 @@
--- `replay::answers::hex_digit` meets its contract. Assumes nothing.
+-- `trace_replay::answers::hex_digit` meets its contract. Assumes nothing.
 use Rattle.trace_lines.specs.Lines.{hexDigit}
 use borrow.Author.Needs.{needs}
 use borrow.Author.Tests.{lt-ltb, le-ltb}
