@@ -1,4 +1,4 @@
-// The bench model: one bus cycle at a time on a lent array. The rules are in `bus`; here they are applied to the bytes.
+// The bench model: one bus cycle at a time on a lent array. The rules are in `model_rules`; here they are applied to the bytes.
 use device::Device;
 use device::Part;
 use model_types::Cycle;

@@ -1,5 +1,5 @@
 // Runs the cases that it reads on the bench model and prints a line for each. The cases and the lines that they must print come
-// from tests/model_vectors.py, which has a model of its own and says what a row holds.
+// from tests/vectors_model.py, which has a model of its own and says what a row holds.
 
 use device::Device;
 use device::Part;
