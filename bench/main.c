@@ -292,6 +292,7 @@ static const struct {
     {"check of 510 bytes, the C by running sums too", 505, TURNS, ready_file, work_sums, NULL},
     {"reading: a table of 673 knots judged", 673, TURNS, ready_table, work_judge, NULL},
     {"reading: one by a table of 673 knots", 673, TURNS, ready_table, work_reading, NULL},
+    {"reading: a table of 18,853 knots judged", 18853, TURNS, ready_table, work_judge, NULL},
     {"reading: one by a table of 18,853 knots", 18853, TURNS, ready_table, work_reading, NULL},
 };
 
