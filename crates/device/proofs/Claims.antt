@@ -1,22 +1,23 @@
 -- What is claimed of the parts, in one place. Assumes nothing.
 use mathlib.Core.Path.{_≡_, refl, sym}
+use mathlib.Core.Bool.{true, false}
 use mathlib.Core.List.{List, [], _∷_}
 use Prim.Native.Nat.{ℕ, _+_, _≤_, _<_}
 use Rattle.common.proofs.Choice.{only}
-use Rattle.device.specs.Blocks.{bytesOfAll, lengthAt, offsetAt, holder, Lies}
-use Rattle.device.specs.Parts.{shapeOf, sizeIn, lengthIn, offsetIn, startIn, Holds, sizeOf, lengthOf, startOf, blockOf, codeOf, tableRow}
+use Rattle.device.specs.Blocks.{unitsOfAll, lengthAt, offsetAt, holder, Lies}
+use Rattle.device.specs.Parts.{rowOf, inWords, shapeOf, sizeIn, lengthIn, offsetIn, startIn, Holds, sizeOf, lengthOf, startOf, blockOf, codeOf, tableRow, wideRow}
 use Rattle.device.specs.declared.Part.{Part}
 use Rattle.device.proofs.Cover.{covered, alone, ends-inside}
 use Rattle.device.proofs.Place.{named, sole, fits}
 
 -- For any list of lengths: every place is in the block named for it, in no other, and every block ends inside.
-pub lists-cover : (ls : List ℕ) (p : ℕ) → p < bytesOfAll ls → Lies ls (holder ls p) p
+pub lists-cover : (ls : List ℕ) (p : ℕ) → p < unitsOfAll ls → Lies ls (holder ls p) p
 lists-cover = covered
 
 pub lists-apart : (ls : List ℕ) (j k p : ℕ) → Lies ls j p → Lies ls k p → j ≡ k
 lists-apart ls j k p x y = only (holder ls p) j k (sym (alone ls j p x)) (sym (alone ls k p y))
 
-pub lists-end-inside : (ls : List ℕ) (k : ℕ) → offsetAt ls k + lengthAt ls k ≤ bytesOfAll ls
+pub lists-end-inside : (ls : List ℕ) (k : ℕ) → offsetAt ls k + lengthAt ls k ≤ unitsOfAll ls
 lists-end-inside = ends-inside
 
 -- The same of every part's addresses, whichever end the boot block is at.
@@ -39,5 +40,18 @@ pub four-devices :
     × (tableRow 2 ≡ 0x00000 ∷ 0x01FFF ∷ 0x02000 ∷ 0x02FFF ∷ 0x03000 ∷ 0x03FFF ∷ 0x04000 ∷ 0x1FFFF ∷ 131072 ∷ 0x95 ∷ [])
     × (tableRow 3 ≡ 0x3C00 ∷ 0x3FFF ∷ 0x3A00 ∷ 0x3BFF ∷ 0x3800 ∷ 0x39FF ∷ 0x0000 ∷ 0x37FF ∷ 16384 ∷ 0x94 ∷ [])
     × (tableRow 4 ≡ 0x0000 ∷ 0x03FF ∷ 0x0400 ∷ 0x05FF ∷ 0x0600 ∷ 0x07FF ∷ 0x0800 ∷ 0x3FFF ∷ 16384 ∷ 0x95 ∷ [])
-unfolding shapeOf sizeOf lengthOf startOf codeOf sizeIn lengthIn offsetIn startIn
+unfolding rowOf shapeOf sizeOf lengthOf startOf codeOf sizeIn lengthIn offsetIn startIn
 four-devices = (refl, refl, refl, refl)
+
+-- Devices 5 to 8, lengths and addresses in bytes in byte mode and in words in word mode.
+pub wide-devices :
+    (wideRow 5 false ≡ 0x3C000 ∷ 16384 ∷ 0x3A000 ∷ 8192 ∷ 0x38000 ∷ 8192 ∷ 0x20000 ∷ 98304 ∷ 0x00000 ∷ 131072 ∷ 0 ∷ 0 ∷ 262144 ∷ 0x74 ∷ [])
+    × (wideRow 6 false ≡ 0x00000 ∷ 16384 ∷ 0x04000 ∷ 8192 ∷ 0x06000 ∷ 8192 ∷ 0x08000 ∷ 98304 ∷ 0x20000 ∷ 131072 ∷ 0 ∷ 0 ∷ 262144 ∷ 0x75 ∷ [])
+    × (wideRow 7 false ≡ 0x7C000 ∷ 16384 ∷ 0x7A000 ∷ 8192 ∷ 0x78000 ∷ 8192 ∷ 0x60000 ∷ 98304 ∷ 0x40000 ∷ 131072 ∷ 131072 ∷ 131072 ∷ 524288 ∷ 0x70 ∷ [])
+    × (wideRow 8 false ≡ 0x00000 ∷ 16384 ∷ 0x04000 ∷ 8192 ∷ 0x06000 ∷ 8192 ∷ 0x08000 ∷ 98304 ∷ 0x20000 ∷ 131072 ∷ 131072 ∷ 131072 ∷ 524288 ∷ 0x71 ∷ [])
+    × (wideRow 5 true ≡ 0x1E000 ∷ 8192 ∷ 0x1D000 ∷ 4096 ∷ 0x1C000 ∷ 4096 ∷ 0x10000 ∷ 49152 ∷ 0x00000 ∷ 65536 ∷ 0 ∷ 0 ∷ 131072 ∷ 0x2274 ∷ [])
+    × (wideRow 6 true ≡ 0x00000 ∷ 8192 ∷ 0x02000 ∷ 4096 ∷ 0x03000 ∷ 4096 ∷ 0x04000 ∷ 49152 ∷ 0x10000 ∷ 65536 ∷ 0 ∷ 0 ∷ 131072 ∷ 0x2275 ∷ [])
+    × (wideRow 7 true ≡ 0x3E000 ∷ 8192 ∷ 0x3D000 ∷ 4096 ∷ 0x3C000 ∷ 4096 ∷ 0x30000 ∷ 49152 ∷ 0x20000 ∷ 65536 ∷ 65536 ∷ 65536 ∷ 262144 ∷ 0x4470 ∷ [])
+    × (wideRow 8 true ≡ 0x00000 ∷ 8192 ∷ 0x02000 ∷ 4096 ∷ 0x03000 ∷ 4096 ∷ 0x04000 ∷ 49152 ∷ 0x10000 ∷ 65536 ∷ 65536 ∷ 65536 ∷ 262144 ∷ 0x4471 ∷ [])
+unfolding rowOf inWords shapeOf sizeOf lengthOf startOf codeOf sizeIn lengthIn offsetIn startIn
+wide-devices = (refl, refl, refl, refl, refl, refl, refl, refl)

@@ -8,26 +8,26 @@ use native.Mathlib.Omega.{arith}
 use lib.ListN.{length}
 use lib.Dec.{ltb}
 use borrow.Author.Tests.{ltb-true, ltb-false, lt-ltb, le-ltb}
-use Rattle.device.specs.Blocks.{bytesOfAll, lengthAt, offsetAt, holder, Lies}
+use Rattle.device.specs.Blocks.{unitsOfAll, lengthAt, offsetAt, holder, Lies}
 
 -- past the last block lies the whole array
-pub offset-past : (ls : List ℕ) (k : ℕ) → length ls ≤ k → offsetAt ls k ≡ bytesOfAll ls
+pub offset-past : (ls : List ℕ) (k : ℕ) → length ls ≤ k → offsetAt ls k ≡ unitsOfAll ls
 offset-past [] k h = refl
 offset-past (l ∷ ls) zero h = absurd (not-suc-le-zero h)
 offset-past (l ∷ ls) (suc k) h = ap (λ (x : ℕ). l + x) (offset-past ls k (le-of-suc-le-suc h))
 
 -- every block ends inside the array
-pub ends-inside : (ls : List ℕ) (k : ℕ) → offsetAt ls k + lengthAt ls k ≤ bytesOfAll ls
+pub ends-inside : (ls : List ℕ) (k : ℕ) → offsetAt ls k + lengthAt ls k ≤ unitsOfAll ls
 ends-inside [] k = omega arith
 ends-inside (l ∷ ls) zero = omega arith
 ends-inside (l ∷ ls) (suc k) = omega (arith, ends-inside ls k)
 
 -- the blocks cover the array: the block named for a place holds it
-pub covered : (ls : List ℕ) (p : ℕ) → p < bytesOfAll ls → Lies ls (holder ls p) p
+pub covered : (ls : List ℕ) (p : ℕ) → p < unitsOfAll ls → Lies ls (holder ls p) p
 covered [] p h = absurd (not-suc-le-zero h)
 covered (l ∷ ls) p h = go (ltb p l) refl (covered ls (p - l))
   where
-    go : (b : Bool) → ltb p l ≡ b → (p - l < bytesOfAll ls → Lies ls (holder ls (p - l)) (p - l)) → Lies (l ∷ ls) (holder (l ∷ ls) p) p
+    go : (b : Bool) → ltb p l ≡ b → (p - l < unitsOfAll ls → Lies ls (holder ls (p - l)) (p - l)) → Lies (l ∷ ls) (holder (l ∷ ls) p) p
     go true e rest = rw e (record { from = omega arith; to = omega (arith, ltb-true p l e) })
     go false e rest =
         let f : l ≤ p = ltb-false p l e in

@@ -4,12 +4,15 @@ use mathlib.Core.Bool.{Bool}
 use Prim.Native.Nat.{ℕ}
 use Rattle.common.specs.Choice.{Unique}
 use Rattle.common.proofs.Choice.{only}
-use Rattle.device.specs.Parts.{unknownPart, unknownDevice, sizeOf, lengthOf, startOf, blockOf, codeOf}
+use Rattle.device.specs.Parts.{isLarge, unknownPart, unknownDevice, sizeOf, lengthOf, startOf, blockOf, codeOf}
 use Rattle.device.specs.declared.Part.{Part}
 use Rattle.device.specs.declared.Device.{Device}
 
 pub unknown-part-unique : (p : Part) → Unique (λ (r : Bool). r ≡ unknownPart p)
 unknown-part-unique p = only (unknownPart p)
+
+pub is-large-unique : (p : Part) → Unique (λ (r : Bool). r ≡ isLarge p)
+is-large-unique p = only (isLarge p)
 
 pub unknown-device-unique : (d : Device) → Unique (λ (r : Bool). r ≡ unknownDevice d)
 unknown-device-unique d = only (unknownDevice d)

@@ -1,10 +1,10 @@
 -- The parts we load, each by a short description, and all that follows from it. Assumes nothing.
-use mathlib.Core.Bool.{Bool, true, false, _||_}
+use mathlib.Core.Bool.{Bool, true, false, not, _&&_, _||_}
 use mathlib.Core.List.{List, [], _∷_}
-use Prim.Native.Nat.{ℕ, _+_, _-_, _≤_, _<_}
-use lib.Dec.{eqb, ltb}
+use Prim.Native.Nat.{ℕ, _+_, _-_, _/_, _%_, _≤_, _<_}
+use lib.Dec.{eqb, ltb, leb}
 use Rattle.common.specs.Choice.{if_then_else_}
-use Rattle.device.specs.Blocks.{bytesOfAll, lengthAt, offsetAt, holder}
+use Rattle.device.specs.Blocks.{unitsOfAll, lengthAt, offsetAt, holder}
 use Rattle.device.specs.declared.Part.{Part}
 use Rattle.device.specs.declared.Device.{Device}
 use Rattle.device.specs.declared.Shape.{Shape}
@@ -14,27 +14,46 @@ abbrev pub fourBlocks : ℕ → ℕ → ℕ → Bool → ℕ → Shape
 fourBlocks boot parameter main top code =
     record { l0 = boot; l1 = parameter; l2 = parameter; l3 = main; l4 = 0; l5 = 0; l6 = 0; top = top; code = code }
 
--- the table of parts: 28F001BX-T, 28F001BX-B, bench T, bench B
+-- seven blocks outward from the boot block: boot, two parameter blocks, a main block of 98,304 bytes and one of 131,072, and two
+-- further ones
+abbrev pub moreBlocks : ℕ → Bool → ℕ → Shape
+moreBlocks further top code =
+    record { l0 = 16384; l1 = 8192; l2 = 8192; l3 = 98304; l4 = 131072; l5 = further; l6 = further; top = top; code = code }
+
+-- the table of parts, lengths in bytes: 28F001BX-T and -B, bench T and B, 28F200BR-T and -B, 28F400BR-T and -B
+unfoldable pub rowOf : ℕ → Shape
+rowOf n =
+    if eqb n 1 then fourBlocks 8192 4096 114688 true 0x94
+    else if eqb n 2 then fourBlocks 8192 4096 114688 false 0x95
+    else if eqb n 3 then fourBlocks 1024 512 14336 true 0x94
+    else if eqb n 4 then fourBlocks 1024 512 14336 false 0x95
+    else if eqb n 5 then moreBlocks 0 true 0x2274
+    else if eqb n 6 then moreBlocks 0 false 0x2275
+    else if eqb n 7 then moreBlocks 131072 true 0x4470
+    else moreBlocks 131072 false 0x4471
+
+-- the same description in words: each length halved
+unfoldable pub inWords : Shape → Shape
+inWords s =
+    record { l0 = s .l0 / 2; l1 = s .l1 / 2; l2 = s .l2 / 2; l3 = s .l3 / 2; l4 = s .l4 / 2; l5 = s .l5 / 2; l6 = s .l6 / 2; top = s .top; code = s .code }
+
+-- a part in its units: what one cycle carries, a byte, or in word mode a word
 unfoldable pub shapeOf : Part → Shape
-shapeOf p =
-    if eqb (p .number) 1 then fourBlocks 8192 4096 114688 true 0x94
-    else if eqb (p .number) 2 then fourBlocks 8192 4096 114688 false 0x95
-    else if eqb (p .number) 3 then fourBlocks 1024 512 14336 true 0x94
-    else fourBlocks 1024 512 14336 false 0x95
+shapeOf p = if p .word then inWords (rowOf (p .number)) else rowOf (p .number)
 
 -- the block lengths of a description, outward from the boot block
 abbrev pub lengthsOf : Shape → List ℕ
 lengthsOf s = s .l0 ∷ s .l1 ∷ s .l2 ∷ s .l3 ∷ s .l4 ∷ s .l5 ∷ s .l6 ∷ []
 
--- the bytes of all blocks of a description
+-- the units of all blocks of a description
 unfoldable pub sizeIn : Shape → ℕ
-sizeIn s = bytesOfAll (lengthsOf s)
+sizeIn s = unitsOfAll (lengthsOf s)
 
--- the bytes of its block k
+-- the units of its block k
 unfoldable pub lengthIn : Shape → ℕ → ℕ
 lengthIn s k = lengthAt (lengthsOf s) k
 
--- the bytes between the boot end and its block k
+-- the units between the boot end and its block k
 unfoldable pub offsetIn : Shape → ℕ → ℕ
 offsetIn s k = offsetAt (lengthsOf s) k
 
@@ -59,19 +78,23 @@ pub record Holds (s : Shape) (k a : ℕ) : Type 0 where
   pub from : startIn s k ≤ a
   pub to : a < startIn s k + lengthIn s k
 
--- refusal 1 of a part: its number is not 1 to 4
+-- devices 5 to 8: they have WP#, two bands of high VPP, 10H and a word mode
+unfoldable pub isLarge : Part → Bool
+isLarge p = leb 5 (p .number)
+
+-- refusal 1 of a part: its number is not 1 to 8, or it is one of 1 to 4 in word mode
 unfoldable pub unknownPart : Part → Bool
-unknownPart p = eqb (p .number) 0 || ltb 4 (p .number)
+unknownPart p = (eqb (p .number) 0 || ltb 8 (p .number)) || (p .word && not (isLarge p))
 
 -- refusal 1 of a device: the part is not known, P or E is zero, or S is not 1 to 100
 unfoldable pub unknownDevice : Device → Bool
 unknownDevice d = (((unknownPart (d .part) || eqb (d .program) 0) || eqb (d .erase) 0) || eqb (d .suspend) 0) || ltb 100 (d .suspend)
 
--- the same of a part: the bytes of its array
+-- the same of a part: the units of its array
 unfoldable pub sizeOf : Part → ℕ
 sizeOf p = sizeIn (shapeOf p)
 
--- the bytes of block k
+-- the units of block k
 unfoldable pub lengthOf : Part → ℕ → ℕ
 lengthOf p k = lengthIn (shapeOf p) k
 
@@ -83,17 +106,25 @@ startOf p k = startIn (shapeOf p) k
 unfoldable pub blockOf : Part → ℕ → ℕ
 blockOf p a = blockIn (shapeOf p) a
 
--- the part's own identifier code
+-- the part's own identifier code: in byte mode its low byte
 unfoldable pub codeOf : Part → ℕ
-codeOf p = shapeOf p .code
+codeOf p = if p .word then shapeOf p .code else shapeOf p .code % 256
 
 -- the last address of block k
 abbrev pub lastOf : Part → ℕ → ℕ
 lastOf p k = startOf p k + lengthOf p k - 1
 
--- a device's row in the table of the four: each block's first and last address, outward from the boot block, then the size and the
--- identifier code
+-- a device's row in the table of the first four: each block's first and last address, outward from the boot block, then the size and
+-- the identifier code
 abbrev pub tableRow : ℕ → List ℕ
 tableRow n =
-    let p : Part = record { number = n } in
+    let p : Part = record { number = n; word = false } in
     startOf p 0 ∷ lastOf p 0 ∷ startOf p 1 ∷ lastOf p 1 ∷ startOf p 2 ∷ lastOf p 2 ∷ startOf p 3 ∷ lastOf p 3 ∷ sizeOf p ∷ codeOf p ∷ []
+
+-- a row in the table of devices 5 to 8, in byte mode or in word mode: each block's first address and length, outward from the boot
+-- block (where there is none its length is 0), then the size and the identifier code
+abbrev pub wideRow : ℕ → Bool → List ℕ
+wideRow n w =
+    let p : Part = record { number = n; word = w } in
+    startOf p 0 ∷ lengthOf p 0 ∷ startOf p 1 ∷ lengthOf p 1 ∷ startOf p 2 ∷ lengthOf p 2 ∷ startOf p 3 ∷ lengthOf p 3 ∷ startOf p 4 ∷ lengthOf p 4
+    ∷ lengthOf p 5 ∷ lengthOf p 6 ∷ sizeOf p ∷ codeOf p ∷ []

@@ -1,11 +1,13 @@
 // The parts we load: size, blocks and identifier, each derived from one short description of a part.
 ghost use mathlib.Core.Path.{_≡_};
 ghost use Prim.Native.Nat.{_-_};
-ghost use Rattle.device.specs.Parts.{fourBlocks, shapeOf, sizeIn, lengthIn, offsetIn, holderIn, turned, startIn, blockIn, unknownPart, unknownDevice, sizeOf, lengthOf, startOf, blockOf, codeOf};
+ghost use Rattle.device.specs.Parts.{fourBlocks, moreBlocks, rowOf, inWords, shapeOf, isLarge, sizeIn, lengthIn, offsetIn, holderIn, turned, startIn, blockIn, unknownPart, unknownDevice, sizeOf, lengthOf, startOf, blockOf, codeOf};
 
-// What a loader knows of the flash: its number, 1 to 4.
+// What a loader knows of the flash: its number, 1 to 8, and whether it is in word mode. A unit is what one cycle carries: a byte,
+// or in word mode a word. Addresses and lengths of a part are in units.
 pub struct Part {
     pub number: u8,
+    pub word: bool,
 }
 
 // A part with its busy times: the cycles that a program and an erase take (P and E), and those that a suspend takes (S).
@@ -27,7 +29,7 @@ pub struct Shape {
     pub l5: u32,
     pub l6: u32,
     pub top: bool,
-    pub code: u8,
+    pub code: u16,
 }
 
 // A length as an index.
@@ -47,7 +49,7 @@ fn less(a: usize, b: usize) -> usize
     a - b
 }
 
-fn four(boot: u32, parameter: u32, main: u32, top: bool, code: u8) -> Shape
+fn four(boot: u32, parameter: u32, main: u32, top: bool, code: u16) -> Shape
     ensures { λ r. ⌜ r ≡ fourBlocks boot parameter main top code ⌝ }
 {
     Shape {
@@ -63,11 +65,27 @@ fn four(boot: u32, parameter: u32, main: u32, top: bool, code: u8) -> Shape
     }
 }
 
-// The table of parts.
-fn describe(p: Part) -> Shape
-    ensures { λ r. ⌜ r ≡ shapeOf p ⌝ }
+// Boot, two parameter blocks, a main block of 98,304 bytes and one of 131,072, and two further ones.
+fn more(further: u32, top: bool, code: u16) -> Shape
+    ensures { λ r. ⌜ r ≡ moreBlocks further top code ⌝ }
 {
-    let n = p.number;
+    Shape {
+        l0: 16384,
+        l1: 8192,
+        l2: 8192,
+        l3: 98304,
+        l4: 131072,
+        l5: further,
+        l6: further,
+        top: top,
+        code: code,
+    }
+}
+
+// The table of parts, lengths in bytes.
+fn row(n: u8) -> Shape
+    ensures { λ r. ⌜ r ≡ rowOf n ⌝ }
+{
     if n == 1 {
         return four(8192, 4096, 114688, true, 0x94);
     }
@@ -77,7 +95,48 @@ fn describe(p: Part) -> Shape
     if n == 3 {
         return four(1024, 512, 14336, true, 0x94);
     }
-    four(1024, 512, 14336, false, 0x95)
+    if n == 4 {
+        return four(1024, 512, 14336, false, 0x95);
+    }
+    if n == 5 {
+        return more(0, true, 0x2274);
+    }
+    if n == 6 {
+        return more(0, false, 0x2275);
+    }
+    if n == 7 {
+        return more(131072, true, 0x4470);
+    }
+    more(131072, false, 0x4471)
+}
+
+// The same in words.
+fn in_words(s: Shape) -> Shape
+    ensures { λ r. ⌜ r ≡ inWords s ⌝ }
+{
+    let top = s.top;
+    Shape {
+        l0: s.l0 / 2,
+        l1: s.l1 / 2,
+        l2: s.l2 / 2,
+        l3: s.l3 / 2,
+        l4: s.l4 / 2,
+        l5: s.l5 / 2,
+        l6: s.l6 / 2,
+        top: top,
+        code: s.code,
+    }
+}
+
+// A part in its units.
+fn describe(p: Part) -> Shape
+    ensures { λ r. ⌜ r ≡ shapeOf p ⌝ }
+{
+    let word = p.word;
+    if word {
+        return in_words(row(p.number));
+    }
+    row(p.number)
 }
 
 fn sum(s: Shape) -> usize
@@ -114,7 +173,7 @@ fn length_at(s: Shape, k: u8) -> usize
     0
 }
 
-// The bytes before block k, counted from the boot end.
+// What lies before block k, counted from the boot end.
 fn offset_at(s: Shape, k: u8) -> usize
     ensures { λ r. ⌜ r ≡ offsetIn s k ⌝ }
 {
@@ -221,11 +280,19 @@ fn block_at(s: Shape, address: u32) -> u8
     holder_at(s, turn(top, sum(s), wide(address)))
 }
 
+// Devices 5 to 8.
+pub fn is_large(p: Part) -> bool
+    ensures { λ r. ⌜ r ≡ isLarge p ⌝ }
+{
+    5 <= p.number
+}
+
 // Refusal 1 of a part alone.
 pub fn unknown_part(p: Part) -> bool
     ensures { λ r. ⌜ r ≡ unknownPart p ⌝ }
 {
-    (p.number == 0) | (4 < p.number)
+    let word = p.word;
+    (p.number == 0) | (8 < p.number) | (word & !is_large(p))
 }
 
 // Refusal 1 of a device.
@@ -235,14 +302,14 @@ pub fn unknown_device(d: Device) -> bool
     unknown_part(d.part) | (d.program == 0) | (d.erase == 0) | (d.suspend == 0) | (100 < d.suspend)
 }
 
-// The bytes of the array.
+// The units of the array.
 pub fn size(p: Part) -> usize
     ensures { λ r. ⌜ r ≡ sizeOf p ⌝ }
 {
     sum(describe(p))
 }
 
-// The bytes of block k, 0 where there is none.
+// The units of block k, 0 where there is none.
 pub fn length(p: Part, k: u8) -> usize
     ensures { λ r. ⌜ r ≡ lengthOf p k ⌝ }
 {
@@ -263,10 +330,14 @@ pub fn block_of(p: Part, address: u32) -> u8
     block_at(describe(p), address)
 }
 
-// The part's own identifier code.
-pub fn code(p: Part) -> u8
+// The part's own identifier code: in byte mode its low byte.
+pub fn code(p: Part) -> u16
     ensures { λ r. ⌜ r ≡ codeOf p ⌝ }
 {
     let s = describe(p);
-    s.code
+    let word = p.word;
+    if word {
+        return s.code;
+    }
+    s.code % 256
 }
