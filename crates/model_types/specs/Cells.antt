@@ -2,11 +2,12 @@
 use mathlib.Core.List.{List}
 use Prim.Native.Nat.{ℕ, _≤_}
 use lib.ListN.{getD}
+use Rattle.units.specs.Units.{top}
 use Rattle.device.specs.declared.Part.{Part}
 
--- an erased cell of a part: all ones, of a byte today
+-- an erased cell of a part: all ones of a byte, or in word mode of a word
 unfoldable pub ones : Part → ℕ
-ones part = 255
+ones part = top (part .word)
 
 -- every cell is at most all ones
 abbrev pub Cells : Part → List ℕ → Type 0

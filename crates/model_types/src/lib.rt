@@ -7,10 +7,11 @@ pub mod states;
 use device::Device;
 use device::Part;
 
-// The levels that a run keeps fixed: RP# (0 low, 1 high, 2 V_HH) and VPP in millivolts.
+// The levels that a run keeps fixed: RP# (0 low, 1 high, 2 V_HH), VPP in millivolts and WP# (0 low, 1 high).
 pub struct Pins {
     pub rp: u8,
     pub vpp: u32,
+    pub wp: u8,
 }
 
 pub enum Kind {
@@ -19,13 +20,14 @@ pub enum Kind {
     Idle,
 }
 
-// One bus cycle: its kind, the levels, OE# (0 normal, 1 V_HH), address and data.
+// One bus cycle: its kind, the levels, OE# (0 normal, 1 V_HH), the address of a unit (a byte, or in word mode a word) and 16 bits
+// of data.
 pub struct Cycle {
     pub kind: Kind,
     pub pins: Pins,
     pub oe: u8,
     pub address: u32,
-    pub data: u8,
+    pub data: u16,
 }
 
 // What a read gives.
@@ -35,12 +37,12 @@ pub enum Mode {
     Identifier,
 }
 
-// What the device is about. A program's data byte stands in its phase, and so do the cycles that a suspend under way has to go.
+// What the device is about. A program's data stands in its phase, and so do the cycles that a suspend under way has to go.
 pub enum Phase {
     Free,
     EraseAwaited,
     DataAwaited,
-    Programming(u8),
+    Programming(u16),
     Erasing,
     Suspending(u8),
     Suspended,
@@ -58,16 +60,16 @@ pub struct State {
 // What a cycle does to the array: a program or an erase ends, or is cut.
 pub enum Effect {
     Nothing,
-    Program(u32, u8),
+    Program(u32, u16),
     Erase(u8),
-    CutProgram(u32, u8),
+    CutProgram(u32, u16),
     CutErase(u8),
 }
 
-// What a cycle answers: no data, a byte, the array's byte at an address, or a refusal.
+// What a cycle answers: no data, data, the array's unit at an address, or a refusal.
 pub enum Reply {
     Quiet,
-    Gives(u8),
+    Gives(u16),
     GivesArray(u32),
     Refuses(u8),
 }
