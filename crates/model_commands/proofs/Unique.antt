@@ -10,7 +10,7 @@ use Rattle.model_types.specs.declared.Cycle.{Cycle}
 use Rattle.model_types.specs.declared.State.{State}
 use Rattle.model_types.specs.declared.Phase.{Phase}
 use Rattle.model_types.specs.declared.Action.{Action}
-use Rattle.model_commands.specs.Commands.{actionOf, isRefuse, performedOf}
+use Rattle.model_commands.specs.Commands.{commandOf, actionOf, isRefuse, performedOf}
 
 pub action-unique : (part : Part) (ph : Phase) (b : ℕ) → Unique (λ (r : Action). r ≡ actionOf part ph b)
 action-unique part ph b = only (actionOf part ph b)
@@ -20,3 +20,6 @@ is-refuse-unique a = only (isRefuse a)
 
 pub perform-unique : (a : Action) (d : Device) (c : Cycle) (s : State) → Unique (λ (r : State). r ≡ performedOf a d c s)
 perform-unique a d c s = only (performedOf a d c s)
+
+pub command-of-unique : (c : Cycle) → Unique (λ (r : ℕ). r ≡ commandOf c)
+command-of-unique c = only (commandOf c)

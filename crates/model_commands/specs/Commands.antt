@@ -1,8 +1,10 @@
 -- What a write asks for, and what comes of it. Assumes nothing.
-use mathlib.Core.Bool.{Bool, true, false, _||_}
-use Prim.Native.Nat.{ℕ, _+_}
+use mathlib.Core.Bool.{Bool, true, false, _&&_, _||_}
+use Prim.Native.Nat.{ℕ, _+_, _%_}
 use lib.Dec.{eqb}
 use Rattle.common.specs.Choice.{if_then_else_}
+use Rattle.units.specs.Units.{carried}
+use Rattle.device.specs.Parts.{isLarge}
 use Rattle.device.specs.declared.Part.{Part}
 use Rattle.device.specs.declared.Device.{Device}
 use Rattle.model_types.specs.declared.Mode.{Mode}
@@ -17,20 +19,28 @@ use Rattle.model_types.specs.Levels.{vppLow, locked}
 use Rattle.model_types.specs.Status.{SR7, SR6, SR5, SR4, SR3, withBits, withoutBits, isSet}
 use Rattle.model_types.specs.States.{atRest, inPhase}
 
--- the command byte of a cycle: its data
-abbrev pub commandOf : Cycle → ℕ
-commandOf c = c .data
+-- the command of a cycle: the low 8 bits of its data
+unfoldable pub commandOf : Cycle → ℕ
+commandOf c = c .data % 256
+
+-- the data of a cycle: all 16 bits in word mode, in byte mode the low 8
+unfoldable pub dataOf : Part → Cycle → ℕ
+dataOf part c = carried (part .word) (c .data)
+
+-- 40H asks for a program, and on devices 5 to 8 10H does too
+unfoldable pub asksProgram : Part → ℕ → Bool
+asksProgram part b = eqb b 0x40 || (isLarge part && eqb b 0x10)
 
 -- nothing awaited, running or suspended: B0H too sets read array
-unfoldable pub firstWrite : ℕ → Action
-firstWrite b =
+unfoldable pub firstWrite : Part → ℕ → Action
+firstWrite part b =
     if eqb b 0xFF then ToArray
     else if eqb b 0xB0 then ToArray
     else if eqb b 0x90 then ToIdentifier
     else if eqb b 0x70 then ToStatus
     else if eqb b 0x50 then Clear
     else if eqb b 0x20 then AwaitErase
-    else if eqb b 0x40 then AwaitData
+    else if asksProgram part b then AwaitData
     else Refuse
 
 -- after 20H
@@ -53,9 +63,9 @@ whileSuspended b =
     else if eqb b 0xD0 then Resume
     else Ignore
 
--- the command rules: after 40H every byte is data, and a busy program ignores every write
+-- the command rules: after 40H all is data, and a busy program ignores every write
 abbrev pub actionOf : Part → Phase → ℕ → Action
-actionOf part Free b = firstWrite b
+actionOf part Free b = firstWrite part b
 actionOf part EraseAwaited b = afterErase b
 actionOf part DataAwaited b = Store
 actionOf part (Programming x) b = Ignore
@@ -108,7 +118,7 @@ performedOf Clear d c s = withStatus (withoutBits (s .status) (SR5 + SR4 + SR3))
 performedOf AwaitErase d c s = inPhase EraseAwaited (s .status) s
 performedOf AwaitData d c s = inPhase DataAwaited (s .status) s
 performedOf Confirm d c s = startedOf (d .part) c s Erasing (d .erase) SR5
-performedOf Store d c s = startedOf (d .part) c s (Programming (c .data)) (d .program) SR4
+performedOf Store d c s = startedOf (d .part) c s (Programming (dataOf (d .part) c)) (d .program) SR4
 performedOf WrongSecond d c s = atRest s (s .mode) (withBits (s .status) (SR5 + SR4))
 performedOf Suspend d c s = inPhase (Suspending (d .suspend)) (s .status) s
 performedOf Resume d c s = inPhase Erasing (withoutBits (s .status) (SR7 + SR6)) s

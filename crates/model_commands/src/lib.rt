@@ -16,7 +16,9 @@ use model_types::states::SR7;
 use model_types::states::at_rest;
 use model_types::states::in_phase;
 ghost use mathlib.Core.Path.{_≡_};
-ghost use Rattle.model_commands.specs.Commands.{firstWrite, afterErase, whileErasing, whileSuspending, whileSuspended, actionOf, isRefuse, inMode, withStatus, unsupplied, startedOf, performedOf};
+ghost use Rattle.model_types.specs.Status.{SR4};
+ghost use Rattle.model_types.specs.declared.Phase.the-variants.{Programming};
+ghost use Rattle.model_commands.specs.Commands.{commandOf, dataOf, asksProgram, firstWrite, afterErase, whileErasing, whileSuspending, whileSuspended, actionOf, isRefuse, inMode, withStatus, unsupplied, startedOf, performedOf};
 
 // What is set by a wrong second write.
 const ERRORS: u8 = SR5 + SR4;
@@ -28,8 +30,30 @@ const RESUMED: u8 = 0xFF - SR7 - SR6;
 
 const CLEARED: u8 = 0xFF - SR5 - SR4 - SR3;
 
-fn first_write(b: u8) -> Action
-    ensures { λ r. ⌜ r ≡ firstWrite b ⌝ }
+// The command of a cycle: the low 8 bits.
+pub fn command_of(c: Cycle) -> u8
+    ensures { λ r. ⌜ r ≡ commandOf c ⌝ }
+{
+    units::low(c.data)
+}
+
+// The data of a cycle: in byte mode the high byte is not looked at.
+fn data_of(part: Part, c: Cycle) -> u16
+    ensures { λ r. ⌜ r ≡ dataOf part c ⌝ }
+{
+    let word = part.word;
+    units::carry(word, c.data)
+}
+
+// 40H, and 10H on the parts that know it.
+fn asks_program(part: Part, b: u8) -> bool
+    ensures { λ r. ⌜ r ≡ asksProgram part b ⌝ }
+{
+    (b == 0x40) | (device::is_large(part) & (b == 0x10))
+}
+
+fn first_write(part: Part, b: u8) -> Action
+    ensures { λ r. ⌜ r ≡ firstWrite part b ⌝ }
 {
     if b == 0xFF {
         return Action::ToArray;
@@ -49,7 +73,7 @@ fn first_write(b: u8) -> Action
     if b == 0x20 {
         return Action::AwaitErase;
     }
-    if b == 0x40 {
+    if asks_program(part, b) {
         return Action::AwaitData;
     }
     Action::Refuse
@@ -102,7 +126,7 @@ pub fn action(part: Part, ph: Phase, b: u8) -> Action
     ensures { λ r. ⌜ r ≡ actionOf part ph b ⌝ }
 {
     match ph {
-        Phase::Free => first_write(b),
+        Phase::Free => first_write(part, b),
         Phase::EraseAwaited => after_erase(b),
         Phase::DataAwaited => Action::Store,
         Phase::Programming(_) => Action::Ignore,
@@ -186,6 +210,14 @@ fn begin(part: Part, c: Cycle, s: State, ph: Phase, time: u16, bit: u8) -> State
     }
 }
 
+// Data: a program starts, or the error bits say why not.
+fn send(part: Part, c: Cycle, s: State, time: u16) -> State
+    ensures { λ r. ⌜ r ≡ startedOf part c s (Programming (dataOf part c)) time SR4 ⌝ }
+{
+    let v = data_of(part, c);
+    begin(part, c, s, Phase::Programming(v), time, SR4)
+}
+
 // What an action makes of the state.
 pub fn perform(a: Action, d: Device, c: Cycle, s: State) -> State
     ensures { λ r. ⌜ r ≡ performedOf a d c s ⌝ }
@@ -199,7 +231,7 @@ pub fn perform(a: Action, d: Device, c: Cycle, s: State) -> State
         Action::AwaitErase => in_phase(Phase::EraseAwaited, s.status, s),
         Action::AwaitData => in_phase(Phase::DataAwaited, s.status, s),
         Action::Confirm => begin(part, c, s, Phase::Erasing, d.erase, SR5),
-        Action::Store => begin(part, c, s, Phase::Programming(c.data), d.program, SR4),
+        Action::Store => send(part, c, s, d.program),
         Action::WrongSecond => {
             let m = s.mode;
             at_rest(s, m, s.status | ERRORS)

@@ -47,8 +47,8 @@ begin-requires c κs = search needs
 enum-told-8 : tie.Need-enum-told-8
 enum-told-8 c = search needs
 
-begin-requires-2 : tie.Need-begin-requires-2
-begin-requires-2 c κs = search needs
+send-requires : tie.Need-send-requires
+send-requires c κs = search needs
 
 enum-told-9 : tie.Need-enum-told-9
 enum-told-9 c = search needs
@@ -96,7 +96,7 @@ returns-7 : tie.Need-returns-7
 returns-7 c = simp (c .begin .ensures, c .before .enum-told7 .given .1)
 
 returns-8 : tie.Need-returns-8
-returns-8 c = simp (c .begin2 .ensures, c .before .enum-told8 .given .1)
+returns-8 c = simp (c .send .ensures, c .before .enum-told8 .given .1)
 
 returns-9 : tie.Need-returns-9
 returns-9 c = simp (c .at-rest .ensures, c .before .before .enum-told9 .given .1)
@@ -132,7 +132,7 @@ perform-spec =
     enum-told-7
     begin-requires
     enum-told-8
-    begin-requires-2
+    send-requires
     enum-told-9
     at-rest-requires
     enum-told-10
