@@ -52,7 +52,7 @@ cutBits Erasing = SR7 + SR5 + SR3
 cutBits (Suspending n) = SR7 + SR5 + SR3
 cutBits Suspended = SR7 + SR5 + SR3
 
--- the residue bytes that a cut needs: one for a program, the block's for an erase
+-- the residue that a cut needs, in units: one for a program, the block's for an erase
 abbrev pub residueFor : Phase → Part → ℕ → ℕ
 residueFor Free part a = 0
 residueFor EraseAwaited part a = 0

@@ -75,7 +75,7 @@ fn cut_bits(ph: Phase) -> u8
     }
 }
 
-// The residue bytes that a cut needs.
+// The residue that a cut needs, in units.
 pub fn residue_for(ph: Phase, part: Part, address: u32) -> usize
     ensures { λ r. ⌜ r ≡ residueFor ph part address ⌝ }
 {
