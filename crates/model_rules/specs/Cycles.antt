@@ -1,11 +1,12 @@
--- A whole cycle: the table of refusals, and the answer, state and effect where none applies. Assumes nothing.
+-- A whole cycle: the table of refusals, and the answer, state and effect where none applies. Addresses are those of units, and the
+-- lengths of the array and the residue are counted in units. Assumes nothing.
 use mathlib.Core.Bool.{Bool, not, _&&_, _||_}
 use mathlib.Core.List.{List, [], _∷_, _++_}
-use Prim.Native.Nat.{ℕ}
+use Prim.Native.Nat.{ℕ, _/_}
 use lib.Dec.{eqb, ltb, leb}
 use Rattle.common.specs.Choice.{if_then_else_}
 use Rattle.common.specs.Numbers.{Row, row, given}
-use Rattle.device.specs.Parts.{unknownDevice, sizeOf, blockOf, codeOf}
+use Rattle.device.specs.Parts.{unknownDevice, isLarge, sizeOf, blockOf, codeOf}
 use Rattle.device.specs.declared.Part.{Part}
 use Rattle.device.specs.declared.Device.{Device}
 use Rattle.model_types.specs.declared.Mode.{Mode}
@@ -45,11 +46,15 @@ suspendedRead part t c =
     (((isRead (c .kind) && isSuspended (t .phase)) && isArray (t .mode)) && eqb (blockOf part (c .address)) (blockOf part (t .address)))
     && not (rpLow (c .pins))
 
--- which identifier code an address asks for, 0 or 1, any more being none: the address itself
-abbrev pub codePlace : Part → ℕ → ℕ
-codePlace part a = a
+-- devices 5 to 8 in byte mode: A-1 does not matter to an identifier read
+unfoldable pub skipsLast : Part → Bool
+skipsLast part = isLarge part && not (part .word)
 
--- refusal 9: an identifier read elsewhere than at 0 and 1
+-- which identifier code an address asks for, 0 or 1, any more being none
+unfoldable pub codePlace : Part → ℕ → ℕ
+codePlace part a = if skipsLast part then a / 2 else a
+
+-- refusal 9: an identifier read where there is no code
 unfoldable pub noIdentifier : Part → State → Cycle → Bool
 noIdentifier part t c = ((isRead (c .kind) && isIdentifier (t .mode)) && ltb 1 (codePlace part (c .address))) && not (rpLow (c .pins))
 
@@ -92,7 +97,7 @@ decidedAs r s e = record { reply = r; state = s; effect = e }
 abbrev pub refusedBy : ℕ → State → Decision
 refusedBy n s = decidedAs (Refuses n) s Nothing
 
--- 89H at address 0, the part's code at 1
+-- 89H at place 0, the part's code at 1
 unfoldable pub identifierOf : Part → ℕ → ℕ
 identifierOf part a = if eqb (codePlace part a) 0 then 0x89 else codeOf part
 

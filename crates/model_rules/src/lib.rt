@@ -2,6 +2,7 @@
 use device::Device;
 use device::Part;
 use model_commands::action;
+use model_commands::command_of;
 use model_commands::is_refuse;
 use model_commands::perform;
 use model_operation::residue_for;
@@ -27,7 +28,7 @@ ghost use mathlib.Core.Bool.{not, _||_};
 ghost use Rattle.model_types.specs.Levels.{rpLow, vppLow};
 ghost use lib.Dec.{eqb};
 ghost use Rattle.device.specs.Parts.{sizeOf};
-ghost use Rattle.model_rules.specs.Cycles.{pastArray, shortResidue, judgeOf, refusedBy, identifierOf};
+ghost use Rattle.model_rules.specs.Cycles.{pastArray, shortResidue, judgeOf, refusedBy, skipsLast, codePlace, identifierOf};
 ghost use Rattle.model_rules.specs.Inner.{settledBy, inSuspended, decideArray, decideIdentifier, decideRead, decideWrite, decideKind, decideJudged, asksArray};
 ghost use Rattle.model_types.specs.Phases.{isSuspended, isFree};
 ghost use Rattle.model_types.specs.Kinds.{isIdle, isRead};
@@ -114,7 +115,7 @@ fn wrong_length(part: Part, array: usize) -> bool
     !(array == device::size(part))
 }
 
-// Refusals 1 to 6, the lowest that applies, or 0.
+// Refusals 1 to 6, the lowest that applies, or 0. The lengths are in units.
 pub fn judge(d: Device, s: State, c: Cycle, array: usize, residue: usize) -> u8
     ensures { λ r. ⌜ r ≡ judgeOf d s c array residue ⌝ }
 {
@@ -150,10 +151,27 @@ fn refused(n: u8, s: State) -> Decision
     }
 }
 
-fn identifier(part: Part, address: u32) -> u8
+fn skips_last(part: Part) -> bool
+    ensures { λ r. ⌜ r ≡ skipsLast part ⌝ }
+{
+    let word = part.word;
+    device::is_large(part) & !word
+}
+
+// Which code an address asks for.
+fn code_place(part: Part, address: u32) -> u32
+    ensures { λ r. ⌜ r ≡ codePlace part address ⌝ }
+{
+    if skips_last(part) {
+        return address / 2;
+    }
+    address
+}
+
+fn identifier(part: Part, address: u32) -> u16
     ensures { λ r. ⌜ r ≡ identifierOf part address ⌝ }
 {
-    if address == 0 {
+    if code_place(part, address) == 0 {
         return 0x89;
     }
     device::code(part)
@@ -198,10 +216,17 @@ fn read_array(part: Part, s: State, c: Cycle, t: Settled) -> Decision
 fn read_identifier(part: Part, s: State, c: Cycle, t: Settled) -> Decision
     ensures { λ r. ⌜ r ≡ decideIdentifier part s c t ⌝ }
 {
-    if 1 < c.address {
+    if 1 < code_place(part, c.address) {
         return refused(9, s);
     }
     given(Reply::Gives(identifier(part, c.address)), t)
+}
+
+// The status as a read gives it: its high byte is 0.
+fn sixteen(x: u8) -> u16
+    ensures { λ r. ⌜ r ≡ x ⌝ }
+{
+    x as u16
 }
 
 fn read(m: Mode, part: Part, s: State, c: Cycle, t: Settled) -> Decision
@@ -209,7 +234,7 @@ fn read(m: Mode, part: Part, s: State, c: Cycle, t: Settled) -> Decision
 {
     match m {
         Mode::Array => read_array(part, s, c, t),
-        Mode::Status => given(Reply::Gives(t.state.status), t),
+        Mode::Status => given(Reply::Gives(sixteen(t.state.status)), t),
         Mode::Identifier => read_identifier(part, s, c, t),
     }
 }
@@ -244,7 +269,7 @@ fn respond(kind: Kind, d: Device, s: State, c: Cycle, t: Settled) -> Decision
         Kind::Write => {
             let ph = after.phase;
             let part = d.part;
-            write(action(part, ph, c.data), d, s, c, t)
+            write(action(part, ph, command_of(c)), d, s, c, t)
         }
         Kind::Idle => given(Reply::Quiet, t),
     }
