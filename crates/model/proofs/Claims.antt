@@ -5,9 +5,11 @@ use mathlib.Core.List.{List}
 use mathlib.Core.Logic.{_↔_}
 use Prim.Native.Nat.{ℕ, _+_}
 use lib.ListN.{length}
-use Rattle.common.specs.Lists.{Bytes}
+use Rattle.units.specs.Units.{units, lent, bytesIn}
 use Rattle.common.specs.Numbers.{Foremost, NoRow}
 use Rattle.device.specs.declared.Device.{Device}
+use Rattle.device.specs.Parts.{sizeOf}
+use Rattle.model_types.specs.Cells.{Cells}
 use Rattle.model_types.specs.declared.State.{State}
 use Rattle.model_types.specs.declared.Cycle.{Cycle}
 use Rattle.model_types.specs.declared.Kind.the-variants.{Read}
@@ -18,8 +20,8 @@ use Rattle.model_types.specs.States.{improper, freshState}
 use Rattle.model_operation.specs.Settling.{settleOf}
 use Rattle.model_rules.specs.Cycles.{tableOf, numberOf, judgeOf, decideOf}
 use Rattle.model_rules.proofs.Facts.{proper-parts, parts-proper}
-use Rattle.model.specs.declared.Seen.the-variants.{Byte, Refused}
-use Rattle.model.specs.Arrays.{Accepted, answerOf, arrayAfter}
+use Rattle.model.specs.declared.Seen.the-variants.{Data, Refused}
+use Rattle.model.specs.Arrays.{Accepted, answerOf, arrayAfter, bytesAfter}
 use Rattle.model.specs.Inner.{answerJudged, arrayJudged}
 use Rattle.model.specs.Begun.{operationOf, pendingOf, startsOf, begunBy, begunFrom}
 use Rattle.model_types.specs.Phases.{isBusy, isAwaited}
@@ -28,6 +30,7 @@ use Rattle.model.proofs.Lives as lives
 use Rattle.model.proofs.Contents as contents
 use Rattle.model.proofs.Table as table
 use Rattle.model.proofs.Passing as passing
+use Rattle.model.proofs.Borders as borders
 
 -- The numbers: a cycle is refused by m exactly where m's own condition holds and that of no lower number does.
 pub refused-exactly : (d : Device) (s : State) (c : Cycle) (xs rs : List ℕ) (m : ℕ) → (m ≡ 0 → ⊥)
@@ -56,22 +59,40 @@ stays-proper d s c xs rs p =
 -- Every accepted read with RP# up shows the status register while an operation is busy: still busy after steps 1 to 3 ..
 pub busy-read : (d : Device) (s : State) (c : Cycle) (xs rs : List ℕ) → Accepted (answerOf d s c xs rs) → c .kind ≡ Read → rpLow (c .pins) ≡ false
     → isBusy (settleOf (d .part) s (c .pins) .state .phase) ≡ true
-    → answerOf d s c xs rs .seen ≡ Byte (answerOf d s c xs rs .state .status)
+    → answerOf d s c xs rs .seen ≡ Data (answerOf d s c xs rs .state .status)
 busy-read = table.busy-read
 
 -- .. or busy in the state that was handed in, on the cycle too where the operation ends or VPP falls.
 pub busy-read-ending : (d : Device) (s : State) (c : Cycle) (xs rs : List ℕ) → Accepted (answerOf d s c xs rs) → c .kind ≡ Read → rpLow (c .pins) ≡ false
     → isBusy (s .phase) ≡ true
-    → answerOf d s c xs rs .seen ≡ Byte (answerOf d s c xs rs .state .status)
+    → answerOf d s c xs rs .seen ≡ Data (answerOf d s c xs rs .state .status)
 busy-read-ending = table.busy-read-ending
 
 -- The array keeps its length ..
 pub keeps-length : (d : Device) (s : State) (c : Cycle) (xs rs : List ℕ) → length (arrayAfter d s c xs rs) ≡ length xs
 keeps-length = contents.cycle-length
 
--- .. and its bytes stay bytes.
-pub stays-bytes : (d : Device) (s : State) (c : Cycle) (xs rs : List ℕ) → Bytes rs → Bytes xs → Bytes (arrayAfter d s c xs rs)
-stays-bytes = contents.cycle-bytes
+-- .. and its cells stay cells: no unit passes all ones.
+pub stays-cells : (d : Device) (s : State) (c : Cycle) (xs rs : List ℕ) → Cells (d .part) rs → Cells (d .part) xs → Cells (d .part) (arrayAfter d s c xs rs)
+stays-cells = contents.cycle-cells
+
+-- The lent bytes keep their length, whichever the width ..
+pub keeps-bytes : (d : Device) (s : State) (c : Cycle) (array residue : List ℕ) → length (bytesAfter d s c array residue) ≡ length array
+keeps-bytes = borders.bytes-length
+
+-- .. a refused cycle leaves them as they were ..
+pub refused-bytes : (d : Device) (s : State) (c : Cycle) (array residue : List ℕ) (m : ℕ)
+    → answerOf d s c (lent (d .part .word) array) (units (d .part .word) residue) .seen ≡ Refused m → bytesAfter d s c array residue ≡ array
+refused-bytes = borders.refused-bytes
+
+-- .. and the units of what is left are the array after the cycle.
+pub left-units : (d : Device) (s : State) (c : Cycle) (array residue : List ℕ)
+    → lent (d .part .word) (bytesAfter d s c array residue) ≡ arrayAfter d s c (lent (d .part .word) array) (units (d .part .word) residue)
+left-units = borders.left-units
+
+-- Refusal 2 counts bytes: the lent array has as many units as the device exactly where its bytes are those of that many units.
+pub two-counts-bytes : (d : Device) (array : List ℕ) → (length (lent (d .part .word) array) ≡ sizeOf (d .part)) ↔ (length array ≡ bytesIn (d .part .word) (sizeOf (d .part)))
+two-counts-bytes = borders.two-counts-bytes
 
 -- Begun: an accepted cycle begins what it starts ..
 pub begun-accepted : (d : Device) (s : State) (c : Cycle) (n r : ℕ) → numberOf d s c n r ≡ 0 → begunBy d s c n r ≡ startsOf (d .part) s c

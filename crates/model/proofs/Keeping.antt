@@ -24,7 +24,7 @@ use Rattle.model_types.specs.Levels.{rpLow, vppLow, locked}
 use Rattle.model_types.specs.States.{atRest, freshState}
 use Rattle.model_types.specs.Inner.{badMode, badStatus, badLeft, badAddress, topBits}
 use Rattle.model_types.specs.Phases.{isPending, isBusy, isSuspending, suspendLeft}
-use Rattle.model_commands.specs.Commands.{firstWrite, afterErase, whileErasing, whileSuspending, whileSuspended, commandOf, actionOf, performedOf, startedOf, unsupplied}
+use Rattle.model_commands.specs.Commands.{asksProgram, firstWrite, afterErase, whileErasing, whileSuspending, whileSuspended, commandOf, dataOf, actionOf, performedOf, startedOf, unsupplied}
 use Rattle.model_operation.specs.Settling.{cutBits, cutBy, countedOff, suspendPassed, passedOf, settleOf}
 use Rattle.model_rules.specs.Cycles.{pastArray, decideOf, acceptOf, respondOf}
 use Rattle.model_rules.proofs.Facts.{Proper, Fine}
@@ -187,7 +187,7 @@ act-proper d c zp ze zs h s m x Free l a p =
     (λ e. if-ind P (eqb (commandOf c) 0x50) _ _
     (λ e. record { mode = refl; status = fits-status Free (bitAnd x 0xC7) (kept (λ y. bitAnd y 0xC7) 2 2 (omega arith) sr.clear x (status-fits Free x (p .status))); left = p .left; address = p .address })
     (λ e. if-ind P (eqb (commandOf c) 0x20) _ _ (λ e. record { mode = refl; status = p .status; left = p .left; address = p .address })
-    (λ e. if-ind P (eqb (commandOf c) 0x40) _ _ (λ e. record { mode = refl; status = p .status; left = p .left; address = p .address })
+    (λ e. if-ind P (asksProgram (d .part) (commandOf c)) _ _ (λ e. record { mode = refl; status = p .status; left = p .left; address = p .address })
     (λ e. p)))))))
   where
     P : Action → Type 0
@@ -201,9 +201,9 @@ act-proper d c zp ze zs h s m x EraseAwaited l a p =
     (λ e. rest-proper d (st s m x EraseAwaited l a) m (bitOr x 0x30) (kept (λ y. bitOr y 0x30) 2 2 (omega arith) sr.wrong-second x f))
 act-proper d c zp ze zs h s m x DataAwaited l a p =
     let f : fits 2 x ≡ true = status-fits DataAwaited x (p .status) in
-    started-proper d c (st s m x DataAwaited l a) (Programming (c .data)) (d .program) 0x10 (kept (λ y. bitOr (bitOr y 0x08) 0x10) 2 2 (omega arith) sr.low-program x f)
+    started-proper d c (st s m x DataAwaited l a) (Programming (dataOf (d .part) c)) (d .program) 0x10 (kept (λ y. bitOr (bitOr y 0x08) 0x10) 2 2 (omega arith) sr.low-program x f)
     (kept (λ y. bitOr y 0x10) 2 2 (omega arith) sr.locked-program x f)
-    (record { mode = p .mode; status = fits-status (Programming (c .data)) (bitAnd x 0x7F) (kept (λ y. bitAnd y 0x7F) 2 0 (omega arith) sr.start x f); left = full-alone (d .program) zp; address = h })
+    (record { mode = p .mode; status = fits-status (Programming (dataOf (d .part) c)) (bitAnd x 0x7F) (kept (λ y. bitAnd y 0x7F) 2 0 (omega arith) sr.start x f); left = full-alone (d .program) zp; address = h })
 act-proper d c zp ze zs h s m x (Programming b) l a p = p
 act-proper d c zp ze zs h s m x Erasing l a p =
     if-ind (λ (y : Action). Proper d (performedOf y d c (st s m x Erasing l a))) (eqb (commandOf c) 0xB0) _ _

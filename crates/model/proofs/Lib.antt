@@ -7,5 +7,6 @@ pub mod Keeping
 pub mod Lives
 pub mod Contents
 pub mod Table
+pub mod Borders
 pub mod Claims
 pub mod Unique

@@ -25,7 +25,7 @@ use Rattle.model_types.specs.declared.Effect.{Effect}
 use Rattle.model_types.specs.declared.Effect.the-variants.{Nothing, Erase}
 use Rattle.model_types.specs.Levels.{rpLow, vppLow, locked}
 use Rattle.model_types.specs.States.{resetOf}
-use Rattle.model_commands.specs.Commands.{firstWrite, afterErase, whileErasing, whileSuspending, whileSuspended, commandOf, actionOf, performedOf, startedOf, unsupplied}
+use Rattle.model_commands.specs.Commands.{asksProgram, firstWrite, afterErase, whileErasing, whileSuspending, whileSuspended, commandOf, dataOf, actionOf, performedOf, startedOf, unsupplied}
 use Rattle.model_operation.specs.Settling.{settledAs, cutOf, finishOf, cutBy, countedOff, suspendPassed, passedOf, settleOf}
 use Rattle.model_rules.specs.Cycles.{numberOf, decideOf, acceptOf, respondOf}
 use Rattle.model_rules.proofs.Cases.{refused, accepted}
@@ -157,7 +157,7 @@ act-pending d c s m x Free l a e =
     (λ b. if-ind P (eqb (commandOf c) 0x70) _ _ (λ b. refl)
     (λ b. if-ind P (eqb (commandOf c) 0x50) _ _ (λ b. refl)
     (λ b. if-ind P (eqb (commandOf c) 0x20) _ _ (λ b. refl)
-    (λ b. if-ind P (eqb (commandOf c) 0x40) _ _ (λ b. refl) (λ b. refl)))))))
+    (λ b. if-ind P (asksProgram (d .part) (commandOf c)) _ _ (λ b. refl) (λ b. refl)))))))
   where
     P : Action → Type 0
     P y = pendingOf (d .part) (performedOf y d c (st s m x Free l a)) ≡ Nothing
@@ -187,7 +187,7 @@ act-starts d c s m x EraseAwaited l a e = go (eqb (commandOf c) 0xD0) refl
         ≡ (if not (unsupplied (d .part) c (st s m x EraseAwaited l a)) && not (locked (d .part) c) then (if eqb (commandOf c) 0xD0 then Erase (blockOf (d .part) (c .address)) else Nothing) else Nothing)
     go true q = rw q (started-pending (d .part) c (st s m x EraseAwaited l a) Erasing (d .erase) 32)
     go false q = rw q (sym (if-same (not (unsupplied (d .part) c (st s m x EraseAwaited l a)) && not (locked (d .part) c)) Nothing))
-act-starts d c s m x DataAwaited l a e = started-pending (d .part) c (st s m x DataAwaited l a) (Programming (c .data)) (d .program) 16
+act-starts d c s m x DataAwaited l a e = started-pending (d .part) c (st s m x DataAwaited l a) (Programming (dataOf (d .part) c)) (d .program) 16
 act-starts d c s m x (Programming b) l a e = absurd (unlike (sym e))
 act-starts d c s m x Erasing l a e = absurd (unlike (sym e))
 act-starts d c s m x (Suspending n) l a e = absurd (unlike (sym e))

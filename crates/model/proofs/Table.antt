@@ -28,7 +28,7 @@ use Rattle.model_rules.specs.Cycles.{tableOf, numberOf, decideOf, acceptOf, res
 use mathlib.Core.Bool.{true, false, Bool}
 use Rattle.common.proofs.Choice.{unlike}
 use Rattle.model_rules.proofs.Cases.{refused, accepted}
-use Rattle.model.specs.declared.Seen.the-variants.{Refused, Byte}
+use Rattle.model.specs.declared.Seen.the-variants.{Refused, Data}
 use Rattle.model.specs.Arrays.{isRefusal, arrayAfter, answerOf, seenOf, Accepted}
 use Rattle.model_rules.proofs.Facts.{fine}
 use Rattle.model.proofs.Outcome.{outcome, accept-cases}
@@ -84,7 +84,7 @@ module _ (d : Device) (s : State) (c : Cycle) (n r : ℕ) where
       (λ z f q. absurd (unlike (sym q ∙ accept-answers d c (settleOf (d .part) s (c .pins)))))
 
 -- the same as the host sees it: a refusal by m comes of a reply that refuses by m
-seen-refused : (x : Reply) (xs : List ℕ) (m : ℕ) → seenOf x xs ≡ Refused m → x ≡ Refuses m
+pub seen-refused : (x : Reply) (xs : List ℕ) (m : ℕ) → seenOf x xs ≡ Refused m → x ≡ Refuses m
 seen-refused Quiet xs m e = absurd (let z : _≡_ {A = ℕ} 0 1 = cc in omega arith)
 seen-refused (Gives b) xs m e = absurd (let z : _≡_ {A = ℕ} 0 1 = cc in omega arith)
 seen-refused (GivesArray a) xs m e = absurd (let z : _≡_ {A = ℕ} 0 1 = cc in omega arith)
@@ -133,19 +133,19 @@ module _ (d : Device) (s : State) (c : Cycle) (xs rs : List ℕ) where
 
   -- an accepted read in mode status shows the status of the state that it leaves
   status-shown : Accepted (answerOf d s c xs rs) → c .kind ≡ Read → rpLow (c .pins) ≡ false → settleOf (d .part) s (c .pins) .state .mode ≡ Status
-      → answerOf d s c xs rs .seen ≡ Byte (answerOf d s c xs rs .state .status)
+      → answerOf d s c xs rs .seen ≡ Data (answerOf d s c xs rs .state .status)
   unfolding answerOf
   status-shown a k up m =
       let t : Settled = settleOf (d .part) s (c .pins) in
       let e : decideOf d s c (length xs) (length rs) ≡ decidedAs (Gives (t .state .status)) (t .state) (t .effect) =
       accepted d s c (length xs) (length rs) (host-zero a) ∙ accept-up d c t up ∙ ap (λ (x : Kind). respondOf x d c t) k
       ∙ ap (λ (x : Mode). decidedAs (replyTo x (d .part) (c .address) (t .state .status)) (t .state) (t .effect)) m in
-      ap (λ (x : Decision). seenOf (x .reply) (arrayAfter d s c xs rs)) e ∙ sym (ap (λ (x : Decision). Byte (x .state .status)) e)
+      ap (λ (x : Decision). seenOf (x .reply) (arrayAfter d s c xs rs)) e ∙ sym (ap (λ (x : Decision). Data (x .state .status)) e)
 
   pub busy-read : Accepted (answerOf d s c xs rs) → c .kind ≡ Read → rpLow (c .pins) ≡ false → isBusy (settleOf (d .part) s (c .pins) .state .phase) ≡ true
-      → answerOf d s c xs rs .seen ≡ Byte (answerOf d s c xs rs .state .status)
+      → answerOf d s c xs rs .seen ≡ Data (answerOf d s c xs rs .state .status)
   busy-read a k up b = status-shown a k up (settled-busy d s c (fine d s c (length xs) (length rs) (host-zero a) .proper) b)
 
   pub busy-read-ending : Accepted (answerOf d s c xs rs) → c .kind ≡ Read → rpLow (c .pins) ≡ false → isBusy (s .phase) ≡ true
-      → answerOf d s c xs rs .seen ≡ Byte (answerOf d s c xs rs .state .status)
+      → answerOf d s c xs rs .seen ≡ Data (answerOf d s c xs rs .state .status)
   busy-read-ending a k up b = status-shown a k up (settled-mode d s c (fine d s c (length xs) (length rs) (host-zero a) .proper) up b)

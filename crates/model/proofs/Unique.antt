@@ -4,19 +4,22 @@ use mathlib.Core.List.{List}
 use Prim.Native.Nat.{ℕ}
 use Rattle.common.specs.Choice.{Unique}
 use Rattle.common.proofs.Choice.{only}
+use Rattle.common.specs.Lists.{Bytes}
+use Rattle.units.specs.Units.{units, spare}
+use Rattle.units.proofs.Unique.{left-unique}
 use Rattle.device.specs.declared.Device.{Device}
 use Rattle.model_types.specs.declared.State.{State}
 use Rattle.model_types.specs.declared.Cycle.{Cycle}
 use Rattle.model_types.specs.States.{freshState, resetOf}
 use Rattle.model.specs.declared.Answer.{Answer}
-use Rattle.model.specs.Arrays.{answerOf, arrayAfter}
+use Rattle.model.specs.Arrays.{answerOf, bytesAfter}
 use Rattle.model.specs.Inner.{answerJudged, arrayJudged}
 
-pub cycle-unique : (d : Device) (s : State) (c : Cycle) (xs rs : List ℕ) → Unique (λ (r : Answer). r ≡ answerOf d s c xs rs)
-cycle-unique d s c xs rs = only (answerOf d s c xs rs)
+pub cycle-unique : (d : Device) (s : State) (c : Cycle) (us rs : List ℕ) → Unique (λ (r : Answer). r ≡ answerOf d s c us rs)
+cycle-unique d s c us rs = only (answerOf d s c us rs)
 
-pub cycle-array-unique : (d : Device) (s : State) (c : Cycle) (xs rs : List ℕ) → Unique (λ (left : List ℕ). left ≡ arrayAfter d s c xs rs)
-cycle-array-unique d s c xs rs = only (arrayAfter d s c xs rs)
+pub cycle-array-unique : (d : Device) (s : State) (c : Cycle) (array residue : List ℕ) → Unique (λ (left : List ℕ). left ≡ bytesAfter d s c array residue)
+cycle-array-unique d s c array residue = only (bytesAfter d s c array residue)
 
 pub fresh-unique : Unique (λ (r : State). r ≡ freshState)
 fresh-unique = only freshState
@@ -27,5 +30,9 @@ reset-unique s = only (resetOf s)
 pub after-judging-unique : (d : Device) (s : State) (c : Cycle) (xs rs : List ℕ) → Unique (λ (r : Answer). r ≡ answerJudged d s c xs rs)
 after-judging-unique d s c xs rs = only (answerJudged d s c xs rs)
 
-pub after-judging-array-unique : (d : Device) (s : State) (c : Cycle) (xs rs : List ℕ) → Unique (λ (left : List ℕ). left ≡ arrayJudged d s c xs rs)
-after-judging-array-unique d s c xs rs = only (arrayJudged d s c xs rs)
+-- what is left is told by its units and the byte that is in none; that a slice's elements are below 256 is a fact of slices
+pub after-judging-array-unique : (d : Device) (s : State) (c : Cycle) (us rs rest xs ys : List ℕ) → Bytes xs → Bytes ys
+    → (units (d .part .word) xs ≡ arrayJudged d s c us rs) × (spare (d .part .word) xs ≡ rest)
+    → (units (d .part .word) ys ≡ arrayJudged d s c us rs) × (spare (d .part .word) ys ≡ rest)
+    → xs ≡ ys
+after-judging-array-unique d s c us rs rest xs ys = left-unique (d .part .word) (arrayJudged d s c us rs) rest xs ys

@@ -1,10 +1,11 @@
--- What a cycle does to the array, and what the host sees. Assumes nothing.
+-- What a cycle does to the array, and what the host sees: on lists of units, and at the end on the lent bytes. Assumes nothing.
 use mathlib.Core.Path.{_≡_}
 use mathlib.Core.Bool.{Bool, true, false}
 use mathlib.Core.List.{List}
 use Prim.Native.Nat.{ℕ}
 use lib.ListN.{length, getD, set, take, replicate}
 use lib.Bits.{bitAnd, bitOr}
+use Rattle.common.specs.Choice.{if_then_else_}
 use Rattle.model_types.specs.Cells.{ones}
 use Rattle.common.specs.Lists.{overlaid}
 use Rattle.device.specs.Parts.{startOf, lengthOf}
@@ -16,20 +17,21 @@ use Rattle.model_types.specs.declared.Reply.{Reply}
 use Rattle.model_types.specs.declared.Reply.the-variants.{Quiet, Gives, GivesArray, Refuses}
 use Rattle.model_types.specs.declared.State.{State}
 use Rattle.model_types.specs.declared.Cycle.{Cycle}
+use Rattle.units.specs.Units.{units, lent, back}
 use Rattle.model_rules.specs.Cycles.{decideOf}
 use Rattle.model.specs.declared.Seen.{Seen}
-use Rattle.model.specs.declared.Seen.the-variants.{NoData, Byte, Refused}
+use Rattle.model.specs.declared.Seen.the-variants.{NoData, Data, Refused}
 use Rattle.model.specs.declared.Answer.{Answer}
 
 -- an erase that ends leaves ones in its whole block
 unfoldable pub erased : Part → ℕ → List ℕ → List ℕ
 erased part k xs = overlaid xs (startOf part k) (replicate (lengthOf part k) (ones part))
 
--- an erase that is cut leaves residue byte i at byte i of the block
+-- an erase that is cut leaves residue unit i at unit i of the block
 unfoldable pub residual : Part → ℕ → List ℕ → List ℕ → List ℕ
 residual part k rs xs = overlaid xs (startOf part k) (take (lengthOf part k) rs)
 
--- the array after an effect: a program leaves old AND data; cut, it leaves old AND (data OR r)
+-- the array after an effect: a program leaves old AND data; cut, it leaves old AND (data OR r), r the residue's first unit
 abbrev pub arrayOf : Effect → Part → List ℕ → List ℕ → List ℕ
 arrayOf Nothing part rs xs = xs
 arrayOf (Program at b) part rs xs = set xs at (bitAnd (getD xs at 0) b)
@@ -47,8 +49,8 @@ isRefusal (Refuses m) = true
 -- what the host sees of a reply
 abbrev pub seenOf : Reply → List ℕ → Seen
 seenOf Quiet xs = NoData
-seenOf (Gives b) xs = Byte b
-seenOf (GivesArray a) xs = Byte (getD xs a 0)
+seenOf (Gives v) xs = Data v
+seenOf (GivesArray a) xs = Data (getD xs a 0)
 seenOf (Refuses n) xs = Refused n
 
 -- a cycle is accepted: what the host sees is no refusal
@@ -63,3 +65,10 @@ arrayAfter d s c xs rs = arrayOf (decideOf d s c (length xs) (length rs) .effect
 unfoldable pub answerOf : Device → State → Cycle → List ℕ → List ℕ → Answer
 answerOf d s c xs rs =
     record { seen = seenOf (decideOf d s c (length xs) (length rs) .reply) (arrayAfter d s c xs rs); state = decideOf d s c (length xs) (length rs) .state }
+
+-- the lent bytes after a cycle: a refused cycle leaves them as they are, an accepted one the bytes of the array's units
+unfoldable pub bytesAfter : Device → State → Cycle → List ℕ → List ℕ → List ℕ
+bytesAfter d s c array residue =
+    let us : List ℕ = lent (d .part .word) array in
+    let rs : List ℕ = units (d .part .word) residue in
+    if isRefusal (decideOf d s c (length us) (length rs) .reply) then array else back (d .part .word) (arrayAfter d s c us rs)

@@ -15,7 +15,7 @@ use Rattle.model_types.specs.declared.Cycle.{Cycle}
 use Rattle.model_types.specs.Kinds.{isWrite}
 use Rattle.model_types.specs.Levels.{rpLow, locked}
 use Rattle.model_types.specs.Phases.{isAwaited}
-use Rattle.model_commands.specs.Commands.{unsupplied, commandOf}
+use Rattle.model_commands.specs.Commands.{unsupplied, commandOf, dataOf}
 use Rattle.model_rules.specs.Cycles.{numberOf}
 
 -- the operation that an effect ends or cuts; an uncut effect is its own operation
@@ -40,11 +40,11 @@ pendingIn Suspended part a = Erase (blockOf part a)
 abbrev pub pendingOf : Part → State → Effect
 pendingOf part s = pendingIn (s .phase) part (s .address)
 
--- what a second write asks for at its own address: after 20H an erase by D0H, after 40H a program of whatever byte
+-- what a second write asks for at its own address: after 20H an erase by D0H, after 40H or 10H a program of whatever data
 abbrev pub askedBy : Phase → Part → Cycle → Effect
 askedBy Free part c = Nothing
 askedBy EraseAwaited part c = if eqb (commandOf c) 0xD0 then Erase (blockOf part (c .address)) else Nothing
-askedBy DataAwaited part c = Program (c .address) (c .data)
+askedBy DataAwaited part c = Program (c .address) (dataOf part c)
 askedBy (Programming x) part c = Nothing
 askedBy Erasing part c = Nothing
 askedBy (Suspending n) part c = Nothing

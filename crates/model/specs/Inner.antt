@@ -1,6 +1,6 @@
 -- A cycle after it was judged, on any array and residue. Not part of what a buyer must believe, and meant only for callers that know
 -- refusals 1 to 6 not to apply: that it then is the cycle's answer is proved (`judged-answer`). Where one of them would apply, it
--- answers what the rules forbid: a byte, a new state or a changed array instead of the refusal. Assumes nothing.
+-- answers what the rules forbid: data, a new state or a changed array instead of the refusal. Assumes nothing.
 use mathlib.Core.Path.{_≡_}
 use mathlib.Core.Bool.{Bool, true, _&&_}
 use mathlib.Core.List.{List}
@@ -19,7 +19,7 @@ use Rattle.model_rules.specs.Inner.{decideJudged}
 use Rattle.model.specs.declared.Answer.{Answer}
 use Rattle.model.specs.Arrays.{arrayOf, seenOf}
 
--- an effect finds its bytes in an array and a residue of these lengths
+-- an effect finds its units in an array and a residue of these lengths
 abbrev pub Within : Effect → Part → ℕ → ℕ → Type 0
 Within Nothing part n r = n ≡ n
 Within (Program at b) part n r = at < n
@@ -35,7 +35,7 @@ findsIn (Erase k) part n r = eqb n (sizeOf part)
 findsIn (CutProgram at b) part n r = ltb at n && ltb 0 r
 findsIn (CutErase k) part n r = eqb n (sizeOf part) && leb (lengthOf part k) r
 
--- an effect done where it finds its bytes, and left undone elsewhere
+-- an effect done where it finds its units, and left undone elsewhere
 abbrev pub doneOf : Effect → Part → List ℕ → List ℕ → List ℕ
 doneOf e part rs xs = if findsIn e part (length xs) (length rs) then arrayOf e part rs xs else xs
 

@@ -1,4 +1,5 @@
-// The bench model: one bus cycle at a time on a lent array. The rules are in `model_rules`; here they are applied to the bytes.
+// The bench model: one bus cycle at a time on a lent array. The rules are in `model_rules`; here they are applied to the array's
+// units, which `units` finds in the lent bytes.
 use device::Device;
 use device::Part;
 use model_types::Cycle;
@@ -10,16 +11,17 @@ ghost use mathlib.Core.Path.{_≡_};
 ghost use Prim.Native.Nat.{_<_, _≤_};
 ghost use lib.ListN.{length, getD, set};
 ghost use lib.Bits.{bitAnd, bitOr};
+ghost use Rattle.units.specs.Units.{units, spare, lent};
 ghost use Rattle.model_types.specs.States.{freshState, resetOf};
 ghost use Rattle.device.specs.Parts.{sizeOf, lengthOf};
-ghost use Rattle.model.specs.declared.Seen.the-variants.{Byte, Refused};
-ghost use Rattle.model.specs.Arrays.{erased, residual, arrayOf, seenOf, answerOf, arrayAfter};
+ghost use Rattle.model.specs.declared.Seen.the-variants.{Data, Refused};
+ghost use Rattle.model.specs.Arrays.{erased, residual, arrayOf, seenOf, answerOf, bytesAfter};
 ghost use Rattle.model.specs.Inner.{findsIn, doneOf, answerJudged, arrayJudged, Within};
 
-// What the host sees of a cycle: no data, a byte, or a refusal by its number.
+// What the host sees of a cycle: no data, a byte or a word, or a refusal by its number.
 pub enum Seen {
     NoData,
-    Byte(u8),
+    Data(u16),
     Refused(u8),
 }
 
@@ -36,62 +38,63 @@ fn index(a: u32) -> usize
     a as usize
 }
 
-// A program: the byte keeps only the ones that mask has too.
-fn program(array: &mut [u8], address: u32, mask: u8)
-    requires { ⌜ address < length (now array) ⌝ }
-    ensures { λ _. ⌜ now (array .exit) ≡ set (now (array .entry)) address (bitAnd (getD (now (array .entry)) address 0) mask) ⌝ }
+// A cut program: the residue's first unit says which of the bits to clear may stay.
+fn cut_program(word: bool, array: &mut [u8], at: usize, v: u16, residue: &[u8])
+    requires { ⌜ at < length (units word (now array)) ⌝ }
+    ensures { λ _. ⌜ units word (now (array .exit))
+        ≡ set (units word (now (array .entry))) at
+        (bitAnd (getD (units word (now (array .entry))) at 0) (bitOr v (getD (units word (now (residue .entry))) 0 0))) ⌝ }
+    ensures { λ _. ⌜ spare word (now (array .exit)) ≡ spare word (now (array .entry)) ⌝ }
 {
-    let at = index(address);
-    array[at] = array[at] & mask;
-}
-
-// A cut program: the first residue byte says which of the bits to clear may stay.
-fn cut_program(array: &mut [u8], address: u32, byte: u8, residue: &[u8])
-    requires { ⌜ (address < length (now array)) × (0 < length (now residue)) ⌝ }
-    ensures { λ _. ⌜ now (array .exit)
-        ≡ set (now (array .entry)) address (bitAnd (getD (now (array .entry)) address 0) (bitOr byte (getD (now (residue .entry)) 0 0))) ⌝ }
-{
-    let r = residue[0];
-    program(array, address, byte | r)
+    let r = units::get_unit(word, residue, 0);
+    units::program_unit(word, array, at, v | r)
 }
 
 // An erase: the whole block is ones.
 fn erase(part: Part, k: u8, array: &mut [u8])
-    requires { ⌜ length (now array) ≡ sizeOf part ⌝ }
-    ensures { λ _. ⌜ now (array .exit) ≡ erased part k (now (array .entry)) ⌝ }
+    requires { ⌜ length (units (part .word) (now array)) ≡ sizeOf part ⌝ }
+    ensures { λ _. ⌜ units (part .word) (now (array .exit)) ≡ erased part k (units (part .word) (now (array .entry))) ⌝ }
+    ensures { λ _. ⌜ spare (part .word) (now (array .exit)) ≡ spare (part .word) (now (array .entry)) ⌝ }
 {
-    let a = device::start(part, k);
-    let e = a + device::length(part, k);
-    let blank = ones(part);
-    common::fill(&mut array[a..e], blank)
+    let word = part.word;
+    units::erase_units(word, array, device::start(part, k), device::length(part, k))
 }
 
-// A cut erase: the block is the residue's first bytes.
+// A cut erase: the block is the residue's first units.
 fn cut_erase(part: Part, k: u8, array: &mut [u8], residue: &[u8])
-    requires { ⌜ (length (now array) ≡ sizeOf part) × (lengthOf part k ≤ length (now residue)) ⌝ }
-    ensures { λ _. ⌜ now (array .exit) ≡ residual part k (now (residue .entry)) (now (array .entry)) ⌝ }
+    requires { ⌜ (length (units (part .word) (now array)) ≡ sizeOf part) × (lengthOf part k ≤ length (units (part .word) (now residue))) ⌝ }
+    ensures { λ _. ⌜ units (part .word) (now (array .exit))
+        ≡ residual part k (units (part .word) (now (residue .entry))) (units (part .word) (now (array .entry))) ⌝ }
+    ensures { λ _. ⌜ spare (part .word) (now (array .exit)) ≡ spare (part .word) (now (array .entry)) ⌝ }
 {
-    let a = device::start(part, k);
-    let n = device::length(part, k);
-    let e = a + n;
-    common::copy(&mut array[a..e], &residue[0..n])
+    let word = part.word;
+    units::leave_units(
+        word,
+        array,
+        device::start(part, k),
+        device::length(part, k),
+        residue,
+    )
 }
 
 // The one place where the array is written.
 fn apply(effect: Effect, part: Part, array: &mut [u8], residue: &[u8])
-    requires { ⌜ Within effect part (length (now array)) (length (now residue)) ⌝ }
-    ensures { λ _. ⌜ now (array .exit) ≡ arrayOf effect part (now (residue .entry)) (now (array .entry)) ⌝ }
+    requires { ⌜ Within effect part (length (units (part .word) (now array))) (length (units (part .word) (now residue))) ⌝ }
+    ensures { λ _. ⌜ units (part .word) (now (array .exit))
+        ≡ arrayOf effect part (units (part .word) (now (residue .entry))) (units (part .word) (now (array .entry))) ⌝ }
+    ensures { λ _. ⌜ spare (part .word) (now (array .exit)) ≡ spare (part .word) (now (array .entry)) ⌝ }
 {
+    let word = part.word;
     match effect {
         Effect::Nothing => {}
-        Effect::Program(at, b) => program(array, at, b),
+        Effect::Program(at, v) => units::program_unit(word, array, index(at), v),
         Effect::Erase(k) => erase(part, k, array),
-        Effect::CutProgram(at, b) => cut_program(array, at, b, residue),
+        Effect::CutProgram(at, v) => cut_program(word, array, index(at), v, residue),
         Effect::CutErase(k) => cut_erase(part, k, array, residue),
     }
 }
 
-// The effect finds its bytes in an array and a residue of these lengths.
+// The effect finds its units in an array and a residue of so many.
 fn finds(effect: Effect, part: Part, array: usize, residue: usize) -> bool
     ensures { λ r. ⌜ r ≡ findsIn effect part array residue ⌝ }
 {
@@ -104,23 +107,31 @@ fn finds(effect: Effect, part: Part, array: usize, residue: usize) -> bool
     }
 }
 
-// The effect done where it finds its bytes, and left undone elsewhere.
+// The effect done where it finds its units, and left undone elsewhere.
 fn put(effect: Effect, part: Part, array: &mut [u8], residue: &[u8])
-    ensures { λ _. ⌜ now (array .exit) ≡ doneOf effect part (now (residue .entry)) (now (array .entry)) ⌝ }
+    ensures { λ _. ⌜ units (part .word) (now (array .exit))
+        ≡ doneOf effect part (units (part .word) (now (residue .entry))) (units (part .word) (now (array .entry))) ⌝ }
+    ensures { λ _. ⌜ spare (part .word) (now (array .exit)) ≡ spare (part .word) (now (array .entry)) ⌝ }
 {
-    if finds(effect, part, array.len(), residue.len()) {
+    let word = part.word;
+    if finds(
+        effect,
+        part,
+        units::units_in(word, array.len()),
+        units::units_in(word, residue.len()),
+    ) {
         return apply(effect, part, array, residue);
     }
 }
 
 // What the host sees of a reply.
-fn see(reply: Reply, array: &[u8]) -> Seen
-    ensures { λ r. ⌜ r ≡ seenOf reply (now (array .entry)) ⌝ }
+fn see(reply: Reply, word: bool, array: &[u8]) -> Seen
+    ensures { λ r. ⌜ r ≡ seenOf reply (units word (now (array .entry))) ⌝ }
 {
     match reply {
         Reply::Quiet => Seen::NoData,
-        Reply::Gives(b) => Seen::Byte(b),
-        Reply::GivesArray(a) => Seen::Byte(common::nth(array, index(a))),
+        Reply::Gives(v) => Seen::Data(v),
+        Reply::GivesArray(a) => Seen::Data(units::get_unit(word, array, index(a))),
         Reply::Refuses(n) => Seen::Refused(n),
     }
 }
@@ -139,33 +150,36 @@ pub fn reset(s: State) -> State
     model_types::states::reset(s)
 }
 
-// A byte of the array, and the state as it was.
-fn show(s: State, address: u32, array: &[u8]) -> Answer
-    ensures { λ r. ⌜ r ≡ record { seen = Byte (getD (now (array .entry)) address 0); state = s } ⌝ }
+// A unit of the array, and the state as it was.
+fn show(s: State, address: u32, word: bool, array: &[u8]) -> Answer
+    ensures { λ r. ⌜ r ≡ record { seen = Data (getD (units word (now (array .entry))) address 0); state = s } ⌝ }
 {
-    let b = common::nth(array, index(address));
+    let v = units::get_unit(word, array, index(address));
     Answer {
-        seen: Seen::Byte(b),
+        seen: Seen::Data(v),
         state: s,
     }
 }
 
 // Only for callers that know refusals 1 to 6 not to apply: they are not tested again, and what they would refuse is answered
-// as the rules forbid. An effect that does not find its bytes is left undone.
+// as the rules forbid. An effect that does not find its units is left undone.
 pub fn after_judging(d: Device, s: State, c: Cycle, array: &mut [u8], residue: &[u8]) -> Answer
-    ensures { λ r. ⌜ r ≡ answerJudged d s c (now (array .entry)) (now (residue .entry)) ⌝ }
-    ensures { λ _. ⌜ now (array .exit) ≡ arrayJudged d s c (now (array .entry)) (now (residue .entry)) ⌝ }
+    ensures { λ r. ⌜ r ≡ answerJudged d s c (units (d .part .word) (now (array .entry))) (units (d .part .word) (now (residue .entry))) ⌝ }
+    ensures { λ _. ⌜ units (d .part .word) (now (array .exit))
+        ≡ arrayJudged d s c (units (d .part .word) (now (array .entry))) (units (d .part .word) (now (residue .entry))) ⌝ }
+    ensures { λ _. ⌜ spare (d .part .word) (now (array .exit)) ≡ spare (d .part .word) (now (array .entry)) ⌝ }
 {
-    if model_rules::asks_array(s, c) {
-        return show(s, c.address, array);
-    }
     let part = d.part;
+    let word = part.word;
+    if model_rules::asks_array(s, c) {
+        return show(s, c.address, word, array);
+    }
     let x = model_rules::decide_judged(d, s, c);
     let effect = x.effect;
     let reply = x.reply;
     let state = x.state;
     put(effect, part, array, residue);
-    let seen = see(reply, array);
+    let seen = see(reply, word, array);
     Answer {
         seen: seen,
         state: state,
@@ -183,10 +197,18 @@ fn refused(n: u8, s: State) -> Answer
 
 // One bus cycle.
 pub fn cycle(d: Device, s: State, c: Cycle, array: &mut [u8], residue: &[u8]) -> Answer
-    ensures { λ r. ⌜ r ≡ answerOf d s c (now (array .entry)) (now (residue .entry)) ⌝ }
-    ensures { λ _. ⌜ now (array .exit) ≡ arrayAfter d s c (now (array .entry)) (now (residue .entry)) ⌝ }
+    ensures { λ r. ⌜ r ≡ answerOf d s c (lent (d .part .word) (now (array .entry))) (units (d .part .word) (now (residue .entry))) ⌝ }
+    ensures { λ _. ⌜ now (array .exit) ≡ bytesAfter d s c (now (array .entry)) (now (residue .entry)) ⌝ }
 {
-    let n = model_rules::judge(d, s, c, array.len(), residue.len());
+    let part = d.part;
+    let word = part.word;
+    let n = model_rules::judge(
+        d,
+        s,
+        c,
+        units::lent_in(word, array.len()),
+        units::units_in(word, residue.len()),
+    );
     if n != 0 {
         return refused(n, s);
     }

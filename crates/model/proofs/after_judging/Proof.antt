@@ -1,5 +1,6 @@
-use borrow.Author.Needs.{needs}
-use mathlib.Core.Path.{_≡_, sym, ap, _∙_}
+use Rattle.units.specs.Units.{units}
+use denote.Ref.{now}
+use mathlib.Core.Path.{_≡_, ap}
 use mathlib.Core.List.{List}
 use Prim.Native.Nat.{ℕ}
 use Rattle.model_types.specs.declared.Decision.{Decision}
@@ -9,54 +10,79 @@ use Rattle.model_rules.specs.Cycles.{decidedAs}
 use Rattle.model_rules.specs.Inner.{decideJudged}
 use Rattle.model_rules.proofs.Passing.{shows}
 use Rattle.model.specs.Arrays.{seenOf}
-use Rattle.model.specs.Inner.{doneOf, answerJudged, arrayJudged}
+use Rattle.model.specs.Inner.{doneOf, arrayJudged}
+use borrow.Author.Needs.{needs}
+use native.Mathlib.Omega.{arith}
+use borrow.Author.Tests.{lt-ltb, le-ltb, le-leb, lt-leb, eq-eqb, ne-eqb}
+use mathlib.Core.Path.{refl, sym, _∙_}
+use Rattle.model.specs.Inner.{answerJudged}
 use Rattle.model.proofs.after_judging.Statement.{statement}
 use Rattle.model.proofs.after_judging.Tie as tie
+use Rattle.model.proofs.after_judging.Reads as reads
+use Rattle.model.proofs.after_judging.Lts as lts
+use Rattle.model.proofs.put.Reads as put-reads
+use Rattle.model.proofs.see.Reads as see-reads
+use Rattle.model.proofs.show.Reads as show-reads
+use Rattle.model_rules.proofs.asks_array.Reads as asks-array-reads
+use Rattle.model_rules.proofs.decide_judged.Reads as decide-judged-reads
 
+-- src/lib.rt:174:8
 asks-array-requires : tie.Need-asks-array-requires
 asks-array-requires c κs = search needs
 
+-- src/lib.rt:175:9
 show-requires : tie.Need-show-requires
 show-requires c κs = search needs
 
+-- src/lib.rt:175:9
 same-length : tie.Need-same-length
 same-length c = search needs
 
+-- src/lib.rt:175:9
 returns : tie.Need-returns
 unfolding answerJudged arrayJudged
 returns c =
-    let a = c .before .before .before .before .before .before .args in
-    let xs = a .array .now in
-    let rs = a .residue .now in
+    let a = c .before .before .before .before .before .before .before .args in
+    let xs = units (a .d .part .word) (now (a .array)) in
+    let rs = units (a .d .part .word) (now (a .residue)) in
     let e : decideJudged (a .d) (a .s) (a .c) ≡ decidedAs (GivesArray (a .c .address)) (a .s) Nothing =
-    shows (a .d) (a .s) (a .c) (sym (c .before .before .before .asks-array .ensures) ∙ c .before .before .if1 .taken) in
-    (c .show .ensures ∙ sym (ap (λ (x : Decision). record { seen = seenOf (x .reply) (doneOf (x .effect) (a .d .part) rs xs); state = x .state }) e), sym (ap (λ (x : Decision). doneOf (x .effect) (a .d .part) rs xs) e))
+    shows (a .d) (a .s) (a .c) (sym (c .before .before .before .asks-array .ensures) ∙ c .before .before .if1 .taken) in (
+      c .show .ensures ∙ sym (ap (λ (x : Decision). record { seen = seenOf (x .reply) (doneOf (x .effect) (a .d .part) rs xs); state = x .state }) e),
+      (sym (ap (λ (x : Decision). doneOf (x .effect) (a .d .part) rs xs) e), refl),
+    )
 
+-- src/lib.rt:177:9
 decide-judged-requires : tie.Need-decide-judged-requires
 decide-judged-requires c κs = search needs
 
+-- src/lib.rt:181:5
 put-requires : tie.Need-put-requires
 put-requires c κs = search needs
 
+-- src/lib.rt:182:9
 see-requires : tie.Need-see-requires
 see-requires c κs = search needs
 
+-- src/lib.rt:166:1
 same-length-2 : tie.Need-same-length-2
 same-length-2 c = search needs
 
+-- src/lib.rt:166:1
 returns-2 : tie.Need-returns-2
 unfolding answerJudged arrayJudged
 returns-2 c =
     let a = c .before .before .before .before .before .before .before .before .before .before .before .before .before .args in
-    let xs = a .array .now in
-    let rs = a .residue .now in
+    let xs = units (a .d .part .word) (now (a .array)) in
+    let rs = units (a .d .part .word) (now (a .residue)) in
+    let put = c .before .before .before .before .put in
+    let decided = c .before .before .before .before .before .before .before .decide-judged in
     let x : Decision = decideJudged (a .d) (a .s) (a .c) in
-    let e : c .before .before .before .before .before .before .before .decide-judged .result ≡ x = c .before .before .before .before .before .before .before .decide-judged .ensures in
-    let left : c .before .before .before .before .put .last .1 .1 .0 ≡ doneOf (x .effect) (a .d .part) rs xs = c .before .before .before .before .put .ensures ∙ ap (λ (y : Decision). doneOf (y .effect) (a .d .part) rs xs) e in
+    let e : decided .result ≡ x = decided .ensures in
+    let left : units (a .d .part .word) (put .last .1 .1 .0) ≡ doneOf (x .effect) (a .d .part) rs xs = put .ensures .0 ∙ ap (λ (y : Decision). doneOf (y .effect) (a .d .part) rs xs) e in
     let p : c .see .result ≡ seenOf (x .reply) (doneOf (x .effect) (a .d .part) rs xs) =
-    c .see .ensures ∙ ap (λ (y : Decision). seenOf (y .reply) (c .before .before .before .before .put .last .1 .1 .0)) e ∙ ap (λ (ys : List ℕ). seenOf (x .reply) ys) left in
-    let q : c .before .before .before .before .before .before .before .decide-judged .result .state ≡ x .state = ap (λ (y : Decision). y .state) e in
-    (λ i. record { seen = p i; state = q i }, left)
+    c .see .ensures ∙ ap (λ (y : Decision). seenOf (y .reply) (units (a .d .part .word) (put .last .1 .1 .0))) e ∙ ap (λ (ys : List ℕ). seenOf (x .reply) ys) left in
+    let q : decided .result .state ≡ x .state = ap (λ (y : Decision). y .state) e in
+    (λ i. record { seen = p i; state = q i }, (left, put .ensures .1))
 
 pub after-judging-spec : {M : Type 1} → statement M
 after-judging-spec =

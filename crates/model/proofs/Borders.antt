@@ -1,0 +1,218 @@
+-- Between lent bytes and units: what a cycle on units says of the bytes. Assumes nothing.
+use mathlib.Core.Path.{_≡_, refl, sym, ap, ap₂, subst, _∙_}
+use mathlib.Core.Bool.{Bool, true, false, not}
+use mathlib.Core.List.{List, [], _∷_}
+use mathlib.Core.Logic.{_↔_}
+use Prim.Native.Nat.{ℕ, _*_, _%_, _≤_, _<_}
+use native.Mathlib.Omega.{arith}
+use lib.ListN.{length}
+use lib.Dec.{eqb, lit≤}
+use borrow.Author.Tests.{eqb-true, ne-eqb, not-false}
+use Rattle.common.specs.Choice.{if_then_else_}
+use Rattle.common.specs.Lists.{Bytes}
+use Rattle.common.proofs.Choice.{if-ind, if-true, if-false, unlike}
+use Rattle.common.proofs.Numbers.{given-no-row, no-head, no-tail}
+use Rattle.units.specs.Units.{halves, units, spare, back, unitsIn, bytesIn, torn, lent, lentIn}
+use Rattle.units.proofs.Widths.{units-length, lent-length, lent-even, lent-whole, whole, units-back, back-units, same-bytes}
+use Rattle.device.specs.declared.Part.{Part}
+use Rattle.device.specs.declared.Device.{Device}
+use Rattle.device.specs.declared.Shape.{Shape}
+use Rattle.device.specs.Parts.{fourBlocks, moreBlocks, rowOf, inWords, shapeOf, sizeIn, sizeOf}
+use Rattle.model_types.specs.declared.State.{State}
+use Rattle.model_types.specs.declared.Cycle.{Cycle}
+use Rattle.model_types.specs.declared.Decision.{Decision}
+use Rattle.model_types.specs.declared.Effect.{Effect}
+use Rattle.model_rules.specs.Cycles.{early, judgeOf, refusedBy, decideOf}
+use Rattle.model_rules.proofs.Facts.{Fine}
+use Rattle.model_rules.proofs.Passing.{stops}
+use Rattle.model.specs.declared.Seen.the-variants.{Refused}
+use Rattle.model.specs.declared.Answer.{Answer}
+use Rattle.model.specs.Arrays.{arrayOf, isRefusal, seenOf, answerOf, arrayAfter, bytesAfter}
+use Rattle.model.specs.Inner.{findsIn, doneOf, Within, answerJudged, arrayJudged}
+use Rattle.model.proofs.Passing.{found, judged-answer, judged-array}
+use Rattle.model.proofs.Contents.{cycle-length}
+use Rattle.model.proofs.Outcome.{outcome}
+use Rattle.model.proofs.Table.{refused-nothing, seen-refused}
+
+-- every part has some units: its boot block has at least 1,024 bytes
+first-some : (n : ℕ) → 1024 ≤ rowOf n .l0
+unfolding rowOf
+first-some n =
+    let P : Shape → Type 0 = λ s. 1024 ≤ s .l0 in
+    let H : Shape = moreBlocks 131072 false 0x4471 in
+    let G : Shape = if eqb n 7 then moreBlocks 131072 true 0x4470 else H in
+    let F : Shape = if eqb n 6 then moreBlocks 0 false 0x2275 else G in
+    let E : Shape = if eqb n 5 then moreBlocks 0 true 0x2274 else F in
+    let D : Shape = if eqb n 4 then fourBlocks 1024 512 14336 false 0x95 else E in
+    let C : Shape = if eqb n 3 then fourBlocks 1024 512 14336 true 0x94 else D in
+    let B : Shape = if eqb n 2 then fourBlocks 8192 4096 114688 false 0x95 else C in
+    if-ind P (eqb n 1) (fourBlocks 8192 4096 114688 true 0x94) B (λ e. lit≤ tt) (λ e.
+    if-ind P (eqb n 2) (fourBlocks 8192 4096 114688 false 0x95) C (λ e. lit≤ tt) (λ e.
+    if-ind P (eqb n 3) (fourBlocks 1024 512 14336 true 0x94) D (λ e. lit≤ tt) (λ e.
+    if-ind P (eqb n 4) (fourBlocks 1024 512 14336 false 0x95) E (λ e. lit≤ tt) (λ e.
+    if-ind P (eqb n 5) (moreBlocks 0 true 0x2274) F (λ e. lit≤ tt) (λ e.
+    if-ind P (eqb n 6) (moreBlocks 0 false 0x2275) G (λ e. lit≤ tt) (λ e.
+    if-ind P (eqb n 7) (moreBlocks 131072 true 0x4470) H (λ e. lit≤ tt) (λ e. lit≤ tt)))))))
+
+size-in : (s : Shape) → 1024 ≤ s .l0 → 0 < sizeIn s
+unfolding sizeIn
+size-in s h = omega arith
+
+size-words : (s : Shape) → 1024 ≤ s .l0 → 0 < sizeIn (inWords s)
+unfolding sizeIn inWords
+size-words s h = omega arith
+
+pub size-some : (p : Part) → 0 < sizeOf p
+unfolding sizeOf shapeOf
+size-some p =
+    if-ind (λ (s : Shape). 0 < sizeIn s) (p .word) (inWords (rowOf (p .number))) (rowOf (p .number))
+    (λ e. size-words (rowOf (p .number)) (first-some (p .number))) (λ e. size-in (rowOf (p .number)) (first-some (p .number)))
+
+-- units as bytes
+twice : (us : List ℕ) → length (halves us) ≡ 2 * length us
+twice [] = refl
+twice (u ∷ us) = let h = twice us in omega arith
+
+back-length : (w : Bool) (us : List ℕ) → length (back w us) ≡ bytesIn w (length us)
+back-length false us = refl
+back-length true us = twice us
+
+untorn : (w : Bool) (n : ℕ) → torn w (bytesIn w n) ≡ false
+untorn false n = refl
+untorn true n = ne-eqb (2 * n % 2) 1 (λ e. let z : _≡_ {A = ℕ} 0 1 = omega arith in omega arith)
+
+lent-back : (w : Bool) (us : List ℕ) → lent w (back w us) ≡ us
+lent-back w us = lent-even w (back w us) (subst (λ (n : ℕ). torn w n ≡ false) (sym (back-length w us)) (untorn w (length us))) ∙ units-back w us
+
+lent-in-bytes : (w : Bool) (n : ℕ) → lentIn w (bytesIn w n) ≡ n
+unfolding lentIn
+lent-in-bytes w n = if-false (torn w (bytesIn w n)) 0 (unitsIn w (bytesIn w n)) (untorn w n) ∙ there w
+  where
+    there : (w : Bool) → unitsIn w (bytesIn w n) ≡ n
+    there false = refl
+    there true = omega arith
+
+-- an array that has as many units as the device is a whole number of them
+module _ (d : Device) (xs : List ℕ) where
+  abbrev w : Bool
+  w = d .part .word
+
+  sized-whole : length (lent w xs) ≡ sizeOf (d .part) → torn w (length xs) ≡ false
+  sized-whole e = lent-whole w xs (let z = size-some (d .part) in omega arith)
+
+  pub two-counts-bytes : (length (lent w xs) ≡ sizeOf (d .part)) ↔ (length xs ≡ bytesIn w (sizeOf (d .part)))
+  two-counts-bytes = (
+    λ e. let t = sized-whole e in whole w xs t ∙ ap (λ (us : List ℕ). bytesIn w (length us)) (sym (lent-even w xs t)) ∙ ap (bytesIn w) e,
+    λ e. lent-length w xs ∙ ap (lentIn w) e ∙ lent-in-bytes w (sizeOf (d .part)),
+  )
+
+-- an effect that finds its units among so many bytes
+module _ (e : Effect) (part : Part) (xs rs : List ℕ) (n r : ℕ) (en : n ≡ unitsIn (part .word) (length xs)) (er : r ≡ unitsIn (part .word) (length rs)) where
+  counted : findsIn e part (length (units (part .word) xs)) (length (units (part .word) rs)) ≡ findsIn e part n r
+  counted = ap₂ (λ (a b : ℕ). findsIn e part a b) (units-length (part .word) xs ∙ sym en) (units-length (part .word) rs ∙ sym er)
+
+  pub found-in : findsIn e part n r ≡ true → Within e part (length (units (part .word) xs)) (length (units (part .word) rs))
+  found-in h = found e part (length (units (part .word) xs)) (length (units (part .word) rs)) (counted ∙ h)
+
+  pub done-in : findsIn e part n r ≡ true → arrayOf e part (units (part .word) rs) (units (part .word) xs) ≡ doneOf e part (units (part .word) rs) (units (part .word) xs)
+  done-in h = sym (if-true (findsIn e part (length (units (part .word) xs)) (length (units (part .word) rs))) _ _ (counted ∙ h))
+
+  pub undone-in : findsIn e part n r ≡ false → units (part .word) xs ≡ doneOf e part (units (part .word) rs) (units (part .word) xs)
+  undone-in h = sym (if-false (findsIn e part (length (units (part .word) xs)) (length (units (part .word) rs))) _ _ (counted ∙ h))
+
+-- what refusals 1 to 6 let pass, and what is not refused, has an array of the device's size
+judge-sized : (d : Device) (s : State) (c : Cycle) (n r : ℕ) → judgeOf d s c n r ≡ 0 → n ≡ sizeOf (d .part)
+unfolding judgeOf
+judge-sized d s c n r e =
+    eqb-true n (sizeOf (d .part)) (not-false (eqb n (sizeOf (d .part))) (no-head (no-tail (given-no-row (early d s c n r) refl e))))
+
+done-sized : (d : Device) (s : State) (c : Cycle) (n r : ℕ) → isRefusal (decideOf d s c n r .reply) ≡ false → n ≡ sizeOf (d .part)
+done-sized d s c n r =
+    outcome d s c n r (λ (x : Decision). isRefusal (x .reply) ≡ false → n ≡ sizeOf (d .part)) (λ m z e q. absurd (unlike q)) (λ z f q. f .sized)
+
+-- a cycle on lent bytes
+module _ (d : Device) (s : State) (c : Cycle) (xs rs : List ℕ) where
+  abbrev wide : Bool
+  wide = d .part .word
+
+  abbrev us : List ℕ
+  us = lent wide xs
+
+  abbrev ts : List ℕ
+  ts = units wide rs
+
+  abbrev refuses : Bool
+  refuses = isRefusal (decideOf d s c (length us) (length ts) .reply)
+
+  unchanged : refuses ≡ true → arrayAfter d s c us ts ≡ us
+  unfolding arrayAfter
+  unchanged e = ap (λ (x : Effect). arrayOf x (d .part) ts us) (refused-nothing d s c (length us) (length ts) e .1)
+
+  kept : refuses ≡ true → bytesAfter d s c xs rs ≡ xs
+  unfolding bytesAfter
+  kept e = if-true refuses xs (back wide (arrayAfter d s c us ts)) e
+
+  done : refuses ≡ false → bytesAfter d s c xs rs ≡ back wide (arrayAfter d s c us ts)
+  unfolding bytesAfter
+  done e = if-false refuses xs (back wide (arrayAfter d s c us ts)) e
+
+  pub bytes-length : length (bytesAfter d s c xs rs) ≡ length xs
+  bytes-length = go refuses refl
+    where
+      go : (b : Bool) → refuses ≡ b → length (bytesAfter d s c xs rs) ≡ length xs
+      go true e = ap (λ (zs : List ℕ). length zs) (kept e)
+      go false e =
+          let t : torn wide (length xs) ≡ false = sized-whole d xs (done-sized d s c (length us) (length ts) e) in
+          ap (λ (zs : List ℕ). length zs) (done e) ∙ back-length wide (arrayAfter d s c us ts) ∙ ap (bytesIn wide) (cycle-length d s c us ts)
+          ∙ ap (λ (zs : List ℕ). bytesIn wide (length zs)) (lent-even wide xs t) ∙ sym (whole wide xs t)
+
+  pub refused-bytes : (m : ℕ) → answerOf d s c us ts .seen ≡ Refused m → bytesAfter d s c xs rs ≡ xs
+  unfolding answerOf
+  refused-bytes m e = kept (ap isRefusal (seen-refused (decideOf d s c (length us) (length ts) .reply) (arrayAfter d s c us ts) m e))
+
+  pub left-units : lent wide (bytesAfter d s c xs rs) ≡ arrayAfter d s c us ts
+  left-units = go refuses refl
+    where
+      go : (b : Bool) → refuses ≡ b → lent wide (bytesAfter d s c xs rs) ≡ arrayAfter d s c us ts
+      go true e = ap (lent wide) (kept e) ∙ sym (unchanged e)
+      go false e = ap (lent wide) (done e) ∙ lent-back wide (arrayAfter d s c us ts)
+
+  -- for `cycle`: refused by 1 to 6 ..
+  module _ (n : ℕ) (j : n ≡ judgeOf d s c (lentIn wide (length xs)) (unitsIn wide (length rs))) where
+    same : judgeOf d s c (lentIn wide (length xs)) (unitsIn wide (length rs)) ≡ judgeOf d s c (length us) (length ts)
+    same = ap₂ (λ (a b : ℕ). judgeOf d s c a b) (sym (lent-length wide xs)) (sym (units-length wide rs))
+
+    stop : (n ≡ 0 → ⊥) → decideOf d s c (length us) (length ts) ≡ refusedBy n s
+    stop z = stops d s c (length us) (length ts) (λ e. z (j ∙ same ∙ e)) ∙ ap (λ (m : ℕ). refusedBy m s) (sym (j ∙ same))
+
+    pub stopped-answer : (n ≡ 0 → ⊥) → (r : Answer) → r ≡ record { seen = Refused n; state = s } → r ≡ answerOf d s c us ts
+    unfolding answerOf arrayAfter
+    stopped-answer z r e = e ∙ sym (ap (λ (x : Decision). record { seen = seenOf (x .reply) (arrayOf (x .effect) (d .part) ts us); state = x .state }) (stop z))
+
+    pub stopped-bytes : (n ≡ 0 → ⊥) → xs ≡ bytesAfter d s c xs rs
+    stopped-bytes z = sym (kept (ap (λ (x : Decision). isRefusal (x .reply)) (stop z)))
+
+    -- .. or not
+    module _ (z : n ≡ 0) where
+      zero : judgeOf d s c (length us) (length ts) ≡ 0
+      zero = sym (j ∙ same) ∙ z
+
+      even : torn wide (length xs) ≡ false
+      even = sized-whole d xs (judge-sized d s c (length us) (length ts) zero)
+
+      is : us ≡ units wide xs
+      is = lent-even wide xs even
+
+      pub passed-answer : (r : Answer) → r ≡ answerJudged d s c (units wide xs) ts → r ≡ answerOf d s c us ts
+      passed-answer r e = e ∙ ap (λ (vs : List ℕ). answerJudged d s c vs ts) (sym is) ∙ judged-answer d s c us ts zero
+
+      pub passed-bytes : (ys : List ℕ) → Bytes xs → Bytes ys → units wide ys ≡ arrayJudged d s c (units wide xs) ts → spare wide ys ≡ spare wide xs → length ys ≡ length xs
+          → ys ≡ bytesAfter d s c xs rs
+      passed-bytes ys b q e o l = go refuses refl
+        where
+          after : units wide ys ≡ arrayAfter d s c us ts
+          after = e ∙ ap (λ (vs : List ℕ). arrayJudged d s c vs ts) (sym is) ∙ judged-array d s c us ts zero
+
+          go : (t : Bool) → refuses ≡ t → ys ≡ bytesAfter d s c xs rs
+          go true f = same-bytes wide ys xs q b (after ∙ unchanged f ∙ is) o ∙ sym (kept f)
+          go false f = sym (back-units wide ys (subst (λ (m : ℕ). torn wide m ≡ false) (sym l) even) q) ∙ ap (back wide) after ∙ sym (done f)
