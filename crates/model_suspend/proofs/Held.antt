@@ -38,7 +38,7 @@ use Rattle.model_rules.specs.Cycles.{numberOf, decideOf, acceptOf, respondOf, d
 use Rattle.model_rules.proofs.Cases.{refused, accepted}
 use Rattle.model_rules.proofs.Facts as facts
 use Rattle.model.specs.declared.Seen.{Seen}
-use Rattle.model.specs.declared.Seen.the-variants.{NoData, Byte}
+use Rattle.model.specs.declared.Seen.the-variants.{NoData, Data}
 use Rattle.model.specs.Arrays.{isRefusal, seenOf, arrayOf, answerOf, arrayAfter}
 use Rattle.model.proofs.Outcome.{accept-effect}
 use Rattle.model.proofs.Lives.{accept-up}
@@ -190,7 +190,7 @@ stepped-as d s t xs b reply e = λ i. worldOf (e i .state) (arrayOf (e i .effect
 shown-as : (sr : ℕ) (b : Bus) (xs : List ℕ) → seenOf (replyAs sr (b .cycle .kind)) xs ≡ shownAs sr b
 shown-as sr b xs = go (b .cycle .kind)
   where
-    go : (k : Kind) → seenOf (replyAs sr k) xs ≡ (if isRead k then Byte sr else NoData)
+    go : (k : Kind) → seenOf (replyAs sr k) xs ≡ (if isRead k then Data sr else NoData)
     go Read = refl
     go Write = refl
     go Idle = refl

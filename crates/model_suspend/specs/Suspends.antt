@@ -13,7 +13,7 @@ use Rattle.model_types.specs.Kinds.{isRead, isWrite}
 use Rattle.model_types.specs.Status.{SR7, SR6, withBits}
 use Rattle.model_commands.specs.Commands.{commandOf}
 use Rattle.model.specs.declared.Seen.{Seen}
-use Rattle.model.specs.declared.Seen.the-variants.{NoData, Byte}
+use Rattle.model.specs.declared.Seen.the-variants.{NoData, Data}
 use Rattle.model_history.specs.History.{Bus, World, acceptsAll, effectsIn, uncut}
 
 -- a write of B0H, and one of D0H
@@ -37,7 +37,7 @@ heldStatus sr = withBits sr (SR7 + SR6)
 
 -- a cycle that shows a status: a read gives it, any other gives no data
 abbrev pub shownAs : ℕ → Bus → Seen
-shownAs sr b = if isRead (b .cycle .kind) then Byte sr else NoData
+shownAs sr b = if isRead (b .cycle .kind) then Data sr else NoData
 
 abbrev pub shownAll : ℕ → List Bus → List Seen
 shownAll sr [] = []
