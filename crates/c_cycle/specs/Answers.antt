@@ -3,7 +3,7 @@ use Prim.Native.Nat.{ℕ}
 use Rattle.common.specs.Choice.{if_then_else_}
 use Rattle.model_types.specs.declared.State.{State}
 use Rattle.model.specs.declared.Seen.{Seen}
-use Rattle.model.specs.declared.Seen.the-variants.{NoData, Byte, Refused}
+use Rattle.model.specs.declared.Seen.the-variants.{NoData, Data, Refused}
 use Rattle.model.specs.declared.Answer.{Answer}
 use Rattle.c_cycle.specs.Values.{stateOut, noState}
 use Rattle.c_cycle.specs.declared.StateNumbers.{StateNumbers}
@@ -16,13 +16,13 @@ stateBack n s = if noState n then n else stateOut s
 -- what is seen of a cycle: 0 no data, 1 a byte, 2 a refusal
 abbrev pub seenOut : Seen → ℕ
 seenOut NoData = 0
-seenOut (Byte b) = 1
+seenOut (Data b) = 1
 seenOut (Refused n) = 2
 
 -- the byte or the refusal's number, 0 without either
 abbrev pub valueOut : Seen → ℕ
 valueOut NoData = 0
-valueOut (Byte b) = b
+valueOut (Data b) = b
 valueOut (Refused n) = n
 
 abbrev pub answerOut : StateNumbers → Answer → AnswerNumbers

@@ -274,7 +274,7 @@ fn seen_out(seen: Seen) -> u8
 {
     match seen {
         Seen::NoData => NO_DATA,
-        Seen::Byte(_) => BYTE,
+        Seen::Data(_) => BYTE,
         Seen::Refused(_) => REFUSED,
     }
 }
@@ -284,7 +284,7 @@ fn value_out(seen: Seen) -> u8
 {
     match seen {
         Seen::NoData => 0,
-        Seen::Byte(b) => b,
+        Seen::Data(b) => b,
         Seen::Refused(n) => n,
     }
 }

@@ -17,7 +17,7 @@ use Rattle.model_types.specs.declared.Cycle.{Cycle}
 use Rattle.model_types.specs.declared.State.{State}
 use Rattle.model_types.specs.States.{improper}
 use Rattle.model.specs.declared.Seen.{Seen}
-use Rattle.model.specs.declared.Seen.the-variants.{NoData, Byte, Refused}
+use Rattle.model.specs.declared.Seen.the-variants.{NoData, Data, Refused}
 use Rattle.model.specs.Arrays.{answerOf, arrayAfter}
 use Rattle.model.proofs.Claims as model-claims
 use Rattle.loader.specs.declared.Stage.{Stage}
@@ -56,7 +56,7 @@ record-given l m = if-false (noRecord (loaderOut l)) (loaderOut l) (loaderOut m)
 -- a refusal by its number
 seen-two : (x : Seen) → seenOut x ≡ 2 → x ≡ Refused (valueOut x)
 seen-two NoData e = absurd (omega arith)
-seen-two (Byte b) e = absurd (omega arith)
+seen-two (Data b) e = absurd (omega arith)
 seen-two (Refused n) e = refl
 
 turn-two : (t : Turn) → turnOut t .turn ≡ 2 → t ≡ Barred (turnOut t .number)

@@ -21,7 +21,7 @@ use Rattle.model_types.specs.declared.Cycle.{Cycle}
 use Rattle.model_types.specs.States.{atRest, freshState}
 use Rattle.model_rules.specs.Cycles.{decideOf, decidedAs}
 use Rattle.model.specs.declared.Seen.{Seen}
-use Rattle.model.specs.declared.Seen.the-variants.{NoData, Byte}
+use Rattle.model.specs.declared.Seen.the-variants.{NoData, Data}
 use Rattle.model.specs.Arrays.{arrayOf, seenOf}
 use Rattle.model.proofs.Keeping.{st}
 use Rattle.model_history.specs.History.{Bus, World, stepped, seenOn}
@@ -53,28 +53,28 @@ module _ (d : Device) (a : ℕ) (xs : List ℕ) (known : unknownDevice d ≡ fal
       ap (λ (x : ℕ). set xs a x) e ∙ set-getD xs a 0
 
   polls : (m : ℕ) → suc m ≤ d .program
-      → Leads d (world (st freshState Status 0 (Programming 255) (suc m) a)) (replicate {A = Bus} (suc m) (read normal a)) (replicate {A = Seen} m (Byte 0) ++ (Byte 128 ∷ [])) (world (atRest freshState Status 128))
+      → Leads d (world (st freshState Status 0 (Programming 255) (suc m) a)) (replicate {A = Bus} (suc m) (read normal a)) (replicate {A = Seen} m (Data 0) ++ (Data 128 ∷ [])) (world (atRest freshState Status 128))
   polls zero h =
-      before d (world (st freshState Status 0 (Programming 255) 1 a)) (world (atRest freshState Status 128)) (world (atRest freshState Status 128)) (read normal a) [] (Byte 128) []
+      before d (world (st freshState Status 0 (Programming 255) 1 a)) (world (atRest freshState Status 128)) (world (atRest freshState Status 128)) (read normal a) [] (Data 128) []
       (step (st freshState Status 0 (Programming 255) 1 a) (atRest freshState Status 128) (cyc normal (read normal a .cycle .kind) a 0) (Gives 128) (Program a 255)
       (ends d normal up freshState (blockOf (d .part) a) ready (Programming 255) a a (refl, refl) h inside inside) keeps)
       (refl, refl)
   polls (suc m) h =
       before d (world (st freshState Status 0 (Programming 255) (suc (suc m)) a)) (world (st freshState Status 0 (Programming 255) (suc m) a)) (world (atRest freshState Status 128)) (read normal a)
-      (replicate {A = Bus} (suc m) (read normal a)) (Byte 0) (replicate {A = Seen} m (Byte 0) ++ (Byte 128 ∷ []))
+      (replicate {A = Bus} (suc m) (read normal a)) (Data 0) (replicate {A = Seen} m (Data 0) ++ (Data 128 ∷ []))
       (step (st freshState Status 0 (Programming 255) (suc (suc m)) a) (st freshState Status 0 (Programming 255) (suc m) a) (cyc normal (read normal a .cycle .kind) a 0) (Gives 0) Nothing
       (subst (λ (j : ℕ). decideOf d (st freshState Status 0 (Programming 255) j a) (cyc normal (read normal a .cycle .kind) a 0) (sizeOf (d .part)) 0
       ≡ decidedAs (Gives 0) (st freshState Status 0 (Programming 255) (suc m) a) Nothing) (add-one (suc m))
       (waits d normal up freshState (blockOf (d .part) a) ready (Programming 255) (suc m) a a (refl, refl) (omega arith) (omega (arith, h)) inside inside)) refl)
       (polls m (omega (arith, h)))
 
-  whole : (m : ℕ) → d .program ≡ suc m → Leads d (fresh xs) (cycles2 m a) (NoData ∷ NoData ∷ (replicate {A = Seen} m (Byte 0) ++ (Byte 128 ∷ []))) (world (atRest freshState Status 128))
+  whole : (m : ℕ) → d .program ≡ suc m → Leads d (fresh xs) (cycles2 m a) (NoData ∷ NoData ∷ (replicate {A = Seen} m (Data 0) ++ (Data 128 ∷ []))) (world (atRest freshState Status 128))
   whole m e =
       before d (fresh xs) (world (st freshState Status 128 DataAwaited 0 0)) (world (atRest freshState Status 128)) (write normal a 0x40) (write normal a 0xFF ∷ replicate {A = Bus} (suc m) (read normal a))
-      NoData (NoData ∷ (replicate {A = Seen} m (Byte 0) ++ (Byte 128 ∷ [])))
+      NoData (NoData ∷ (replicate {A = Seen} m (Data 0) ++ (Data 128 ∷ [])))
       (step freshState (st freshState Status 128 DataAwaited 0 0) (write normal a 0x40 .cycle) Quiet Nothing (asks-program d normal up freshState Array 128 a refl inside) refl)
       (before d (world (st freshState Status 128 DataAwaited 0 0)) (world (st freshState Status 0 (Programming 255) (suc m) a)) (world (atRest freshState Status 128)) (write normal a 0xFF)
-      (replicate {A = Bus} (suc m) (read normal a)) NoData (replicate {A = Seen} m (Byte 0) ++ (Byte 128 ∷ []))
+      (replicate {A = Bus} (suc m) (read normal a)) NoData (replicate {A = Seen} m (Data 0) ++ (Data 128 ∷ []))
       (step (st freshState Status 128 DataAwaited 0 0) (st freshState Status 0 (Programming 255) (suc m) a) (write normal a 0xFF .cycle) Quiet Nothing
       (sends d normal up freshState (blockOf (d .part) a) ready a 255 inside refl ∙ ap (λ (j : ℕ). decidedAs Quiet (st freshState Status 0 (Programming 255) j a) Nothing) e) refl)
       (polls m (omega (arith, e))))

@@ -17,7 +17,7 @@ use Rattle.model_types.specs.declared.State.{State}
 use Rattle.model_types.specs.States.{freshState}
 use Rattle.model_rules.specs.Cycles.{decideOf, decidedAs}
 use Rattle.model.specs.declared.Seen.{Seen}
-use Rattle.model.specs.declared.Seen.the-variants.{NoData, Byte}
+use Rattle.model.specs.declared.Seen.the-variants.{NoData, Data}
 use Rattle.model.specs.Arrays.{seenOf}
 use Rattle.model.proofs.Keeping.{st}
 use Rattle.model_history.specs.History.{Bus, World, stepped, seenOn}
@@ -50,27 +50,27 @@ module _ (d : Device) (a : ℕ) (xs : List ℕ) (known : unknownDevice d ≡ fal
   done l = world (st freshState Status 0xC0 Suspended l a)
 
   polls : (m l : ℕ) → suc m ≤ d .suspend → 0 < l → l ≤ d .erase
-      → Leads d (world (holding (suc m) l)) (replicate {A = Bus} (suc m) (read normal a)) (replicate {A = Seen} m (Byte 0) ++ (Byte 0xC0 ∷ [])) (done l)
+      → Leads d (world (holding (suc m) l)) (replicate {A = Bus} (suc m) (read normal a)) (replicate {A = Seen} m (Data 0) ++ (Data 0xC0 ∷ [])) (done l)
   polls zero l h z t =
-      before d (world (holding 1 l)) (done l) (done l) (read normal a) [] (Byte 0xC0) []
+      before d (world (holding 1 l)) (done l) (done l) (read normal a) [] (Data 0xC0) []
       (step (holding 1 l) (st freshState Status 0xC0 Suspended l a) (read normal a) (Gives 0xC0) refl
       (held d normal up freshState (blockOf (d .part) a) ready l a a (omega (arith, h)) z t inside inside))
       (refl, refl)
   polls (suc m) l h z t =
       before d (world (holding (suc (suc m)) l)) (world (holding (suc m) l)) (done l) (read normal a)
-      (replicate {A = Bus} (suc m) (read normal a)) (Byte 0) (replicate {A = Seen} m (Byte 0) ++ (Byte 0xC0 ∷ []))
+      (replicate {A = Bus} (suc m) (read normal a)) (Data 0) (replicate {A = Seen} m (Data 0) ++ (Data 0xC0 ∷ []))
       (step (holding (suc (suc m)) l) (holding (suc m) l) (read normal a) (Gives 0) refl
       (subst (λ (j : ℕ). decideOf d (holding j l) (read normal a .cycle) (sizeOf (d .part)) 0 ≡ decidedAs (Gives 0) (holding (suc m) l) Nothing) (add-one (suc m))
       (holds-on d normal up freshState (blockOf (d .part) a) ready (suc m) l a a (omega arith) (omega (arith, h)) z t inside inside)))
       (polls m l (omega (arith, h)) z t)
 
   whole : (e m : ℕ) → d .erase ≡ e + 2 → d .suspend ≡ suc m
-      → Leads d (fresh xs) (cycles7 m a) (NoData ∷ NoData ∷ NoData ∷ (replicate {A = Seen} m (Byte 0) ++ (Byte 0xC0 ∷ []))) (done (e + 1))
+      → Leads d (fresh xs) (cycles7 m a) (NoData ∷ NoData ∷ NoData ∷ (replicate {A = Seen} m (Data 0) ++ (Data 0xC0 ∷ []))) (done (e + 1))
   whole e m p q =
       let asked : State = st freshState Status 128 EraseAwaited 0 0 in
       let running : State = st freshState Status 0 Erasing (e + 1 + 1) a in
       let rest = replicate {A = Bus} (suc m) (read normal a) in
-      let shown = replicate {A = Seen} m (Byte 0) ++ (Byte 0xC0 ∷ []) in
+      let shown = replicate {A = Seen} m (Data 0) ++ (Data 0xC0 ∷ []) in
       before d (fresh xs) (world asked) (done (e + 1)) (write normal a 0x20) (write normal a 0xD0 ∷ write normal a 0xB0 ∷ rest) NoData (NoData ∷ NoData ∷ shown)
       (step freshState asked (write normal a 0x20) Quiet refl (asks-erase d normal up freshState Array 128 a refl inside))
       (before d (world asked) (world running) (done (e + 1)) (write normal a 0xD0) (write normal a 0xB0 ∷ rest) NoData (NoData ∷ shown)

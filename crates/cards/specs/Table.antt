@@ -14,7 +14,7 @@ use Rattle.model_types.specs.declared.Mode.the-variants.{Array, Status}
 use Rattle.model_types.specs.declared.Phase.the-variants.{Suspended}
 use Rattle.model_types.specs.States.{freshState, atRest}
 use Rattle.model.specs.declared.Seen.{Seen}
-use Rattle.model.specs.declared.Seen.the-variants.{NoData, Byte, Refused}
+use Rattle.model.specs.declared.Seen.the-variants.{NoData, Data, Refused}
 use Rattle.file_check.specs.Check.{checkOf}
 use Rattle.model_history.specs.History.{Bus, World, worldAfter, seenOn, seenIn}
 use Rattle.loader_run.specs.Runs.{loadAlone, ranOf}
@@ -68,12 +68,12 @@ shows v sr xs = eqb (v .state .status) sr && alike (v .bytes) xs
 
 abbrev pub gives : ℕ → Seen → Bool
 gives b NoData = false
-gives b (Byte x) = eqb b x
+gives b (Data x) = eqb b x
 gives b (Refused n) = false
 
 abbrev pub refuses : ℕ → Seen → Bool
 refuses n NoData = false
-refuses n (Byte x) = false
+refuses n (Data x) = false
 refuses n (Refused m) = eqb n m
 
 -- a bench array of one value, and one with another byte at 10H
@@ -95,7 +95,7 @@ cycles2 m a = write normal a 0x40 ∷ write normal a 0xFF ∷ replicate {A = Bus
 abbrev pub Card2 : Type 0
 Card2 = (d : Device) (m a : ℕ) (xs : List ℕ) → unknownDevice d ≡ false → d .program ≡ suc m → a < sizeOf (d .part) → (blockOf (d .part) a ≡ 0 → ⊥)
     → length xs ≡ sizeOf (d .part) → getD xs a 0 ≡ 0x3C
-    → (seenIn d (fresh xs) (cycles2 m a) ≡ NoData ∷ NoData ∷ (replicate {A = Seen} m (Byte 0) ++ (Byte 0x80 ∷ [])))
+    → (seenIn d (fresh xs) (cycles2 m a) ≡ NoData ∷ NoData ∷ (replicate {A = Seen} m (Data 0) ++ (Data 0x80 ∷ [])))
     × (worldAfter d (fresh xs) (cycles2 m a) ≡ record { state = atRest freshState Status 0x80; bytes = xs })
     × (getD (worldAfter d (fresh xs) (cycles2 m a) .bytes) a 0 ≡ 0x3C)
 
@@ -132,7 +132,7 @@ cycles7 m a = write normal a 0x20 ∷ write normal a 0xD0 ∷ write normal a 0xB
 abbrev pub Card7 : Type 0
 Card7 = (d : Device) (e m a : ℕ) (xs : List ℕ) → unknownDevice d ≡ false → d .erase ≡ e + 2 → d .suspend ≡ suc m → a < sizeOf (d .part)
     → (blockOf (d .part) a ≡ 0 → ⊥) → length xs ≡ sizeOf (d .part)
-    → (seenIn d (fresh xs) (cycles7 m a) ≡ NoData ∷ NoData ∷ NoData ∷ (replicate {A = Seen} m (Byte 0) ++ (Byte 0xC0 ∷ [])))
+    → (seenIn d (fresh xs) (cycles7 m a) ≡ NoData ∷ NoData ∷ NoData ∷ (replicate {A = Seen} m (Data 0) ++ (Data 0xC0 ∷ [])))
     × (worldAfter d (fresh xs) (cycles7 m a) ≡ record { state = record { mode = Status; status = 0xC0; phase = Suspended; left = e + 1; address = a }; bytes = xs })
 
 -- 8: 20H in block 1 and D0H in block 2 erase block 2, and no other

@@ -16,7 +16,7 @@ use Rattle.loader.specs.Walks.{nextDiff, diffFrom, risesIn}
 use Rattle.loader.specs.Moves.{isReady, eraseFault, programFault, loadedStage, onward, afterReads, afterRead, pollMore, erasePolled, past, programPolled, verifyMore, nextIn}
 use Rattle.loader_steps.specs.Stores.{storeOf}
 use Rattle.model.specs.declared.Seen.{Seen}
-use Rattle.model.specs.declared.Seen.the-variants.{NoData, Byte, Refused}
+use Rattle.model.specs.declared.Seen.the-variants.{NoData, Data, Refused}
 use Rattle.loader_run.specs.Turns.{loaderBy, bound}
 use Rattle.loader.specs.Stages.{isEnded}
 
@@ -199,5 +199,5 @@ falls-in (Ended m) l b w sc e = absurd (unlike e)
 -- whatever the model answers
 pub falls : (seen : Seen) (l : Loader) (w sc : List ℕ) → isEnded (l .stage) ≡ false → remains (loaderBy seen l w sc) (length w) < remains l (length w)
 falls NoData l w sc e = falls-in (l .stage) l 0 w (storeOf l 0 w sc) e
-falls (Byte b) l w sc e = falls-in (l .stage) l b w (storeOf l b w sc) e
+falls (Data b) l w sc e = falls-in (l .stage) l b w (storeOf l b w sc) e
 falls (Refused m) l w sc e = remains-some (l .stage) (length w) (l .place) (l .polls) e

@@ -21,7 +21,7 @@ use Rattle.model_types.specs.Levels.{rpLow, vppLow, badPins}
 use Rattle.model_rules.specs.Cycles.{shortResidue, judgeOf, decideOf}
 use Rattle.model_rules.proofs.Facts.{Proper}
 use Rattle.model.specs.declared.Seen.{Seen}
-use Rattle.model.specs.declared.Seen.the-variants.{NoData, Byte, Refused}
+use Rattle.model.specs.declared.Seen.the-variants.{NoData, Data, Refused}
 use Rattle.model.specs.Arrays.{answerOf}
 use Rattle.model.proofs.Keeping.{cycle-proper}
 use Rattle.model.proofs.Contents.{cycle-length}
@@ -138,7 +138,7 @@ sound-judged d w l s n z e = out-judged d w l s n z
 -- an answer taken leaves a record of the same part, block and levels, its place in the block
 kept-by : (seen : Seen) (l : Loader) (w sc : List ℕ) → Kept l (length w) (loaderBy seen l w sc)
 kept-by NoData l w sc = kept-next l w (l .stage) 0 (storeOf l 0 w sc)
-kept-by (Byte b) l w sc = kept-next l w (l .stage) b (storeOf l b w sc)
+kept-by (Data b) l w sc = kept-next l w (l .stage) b (storeOf l b w sc)
 kept-by (Refused m) l w sc = record { same = refl; place = λ h. h; polls = λ (q : l .polls ≤ 65534). omega arith }
 
 -- a kept record, a proper state that is calm with VPP low, and an array as long as before are sound again

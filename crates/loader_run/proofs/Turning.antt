@@ -14,7 +14,7 @@ use Rattle.loader_steps.specs.Outs.{firstAddress}
 use Rattle.loader_steps.specs.Stores.{storeOf}
 use Rattle.loader_steps.proofs.Again.{first-kept}
 use Rattle.model.specs.declared.Seen.{Seen}
-use Rattle.model.specs.declared.Seen.the-variants.{NoData, Byte, Refused}
+use Rattle.model.specs.declared.Seen.the-variants.{NoData, Data, Refused}
 use Rattle.loader_run.specs.Turns.{Config, isRefused, numberIn, loaderBy, scratchBy, answerTo, arrayTo, moved, turnOf, after, bound}
 use Rattle.loader.specs.Stages.{isEnded}
 use Rattle.loader_run.specs.Runs.{driven}
@@ -24,19 +24,19 @@ use Rattle.loader_run.proofs.Measure.{remains, remains-bound, falls}
 pub took : (seen : Seen) (l : Loader) (w sc : List ℕ) → isRefused seen ≡ false
     → (loaderBy seen l w sc ≡ nextOf l (numberIn seen) w (storeOf l (numberIn seen) w sc)) × (scratchBy seen l w sc ≡ storeOf l (numberIn seen) w sc)
 took NoData l w sc e = (refl, refl)
-took (Byte b) l w sc e = (refl, refl)
+took (Data b) l w sc e = (refl, refl)
 took (Refused n) l w sc e = absurd (unlike e)
 
 pub took-none : (seen : Seen) (l : Loader) (w sc : List ℕ) → isRefused seen ≡ true → (loaderBy seen l w sc ≡ endedBy l (numberIn seen)) × (scratchBy seen l w sc ≡ sc)
 took-none NoData l w sc e = absurd (unlike (sym e))
-took-none (Byte b) l w sc e = absurd (unlike (sym e))
+took-none (Data b) l w sc e = absurd (unlike (sym e))
 took-none (Refused n) l w sc e = (refl, refl)
 
 -- the block begins where it began
 pub first-stays : (seen : Seen) (l : Loader) (w sc : List ℕ) → firstAddress (loaderBy seen l w sc) ≡ firstAddress l
 unfolding firstAddress
 first-stays NoData l w sc = first-kept l 0 w (storeOf l 0 w sc)
-first-stays (Byte b) l w sc = first-kept l b w (storeOf l b w sc)
+first-stays (Data b) l w sc = first-kept l b w (storeOf l b w sc)
 first-stays (Refused n) l w sc = refl
 
 pub turn-ended : (d : Device) (w : List ℕ) (c : Config) → isEnded (c .loader .stage) ≡ true → turnOf d w c ≡ c

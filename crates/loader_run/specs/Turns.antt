@@ -6,7 +6,7 @@ use Rattle.common.specs.Choice.{if_then_else_}
 use Rattle.device.specs.declared.Device.{Device}
 use Rattle.model_types.specs.declared.State.{State}
 use Rattle.model.specs.declared.Seen.{Seen}
-use Rattle.model.specs.declared.Seen.the-variants.{NoData, Byte, Refused}
+use Rattle.model.specs.declared.Seen.the-variants.{NoData, Data, Refused}
 use Rattle.model.specs.declared.Answer.{Answer}
 use Rattle.model.specs.Arrays.{answerOf, arrayAfter}
 use Rattle.loader.specs.declared.Loader.{Loader}
@@ -25,24 +25,24 @@ pub record Config : Type 0 where
 
 abbrev pub isRefused : Seen → Bool
 isRefused NoData = false
-isRefused (Byte b) = false
+isRefused (Data b) = false
 isRefused (Refused n) = true
 
 -- the number that an answer holds: the byte, 0 where none is given, or that of the refusal
 abbrev pub numberIn : Seen → ℕ
 numberIn NoData = 0
-numberIn (Byte b) = b
+numberIn (Data b) = b
 numberIn (Refused n) = n
 
 -- what the loader makes of the model's answer: it takes the byte, 0 where none is given; a refusal would end the load
 abbrev pub loaderBy : Seen → Loader → List ℕ → List ℕ → Loader
 loaderBy NoData l w sc = nextOf l 0 w (storeOf l 0 w sc)
-loaderBy (Byte b) l w sc = nextOf l b w (storeOf l b w sc)
+loaderBy (Data b) l w sc = nextOf l b w (storeOf l b w sc)
 loaderBy (Refused n) l w sc = endedBy l n
 
 abbrev pub scratchBy : Seen → Loader → List ℕ → List ℕ → List ℕ
 scratchBy NoData l w sc = storeOf l 0 w sc
-scratchBy (Byte b) l w sc = storeOf l b w sc
+scratchBy (Data b) l w sc = storeOf l b w sc
 scratchBy (Refused n) l w sc = sc
 
 -- the model's answer to the cycle that is out; a run has no residue

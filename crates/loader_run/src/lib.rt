@@ -49,7 +49,7 @@ fn is_refused(seen: Seen) -> bool
 {
     match seen {
         Seen::NoData => false,
-        Seen::Byte(_) => false,
+        Seen::Data(_) => false,
         Seen::Refused(_) => true,
     }
 }
@@ -59,7 +59,7 @@ fn number_in(seen: Seen) -> u8
 {
     match seen {
         Seen::NoData => 0,
-        Seen::Byte(b) => b,
+        Seen::Data(b) => b,
         Seen::Refused(n) => n,
     }
 }

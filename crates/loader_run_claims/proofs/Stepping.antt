@@ -29,7 +29,7 @@ use Rattle.model_rules.specs.Cycles.{decideOf, respondOf, replyTo}
 use Rattle.model_types.specs.Kinds.{isRead}
 use Rattle.model_operation.specs.Settling.{settleOf}
 use Rattle.model.specs.declared.Seen.{Seen}
-use Rattle.model.specs.declared.Seen.the-variants.{Byte}
+use Rattle.model.specs.declared.Seen.the-variants.{Data}
 use Rattle.model.specs.Arrays.{seenOf, answerOf, isRefusal}
 use Rattle.model.proofs.Outcome.{outcome, accept-cases}
 use Rattle.loader.specs.declared.Stage.{Stage}
@@ -90,18 +90,18 @@ seen-taken (Refuses n) xs e = e
 
 -- a read that is taken with RP# up is answered by a byte
 read-answered : (d : Device) (s : State) (c : Cycle) (n r : ℕ) (xs : List ℕ) → c .kind ≡ Read → rpLow (c .pins) ≡ false → isRefusal (decideOf d s c n r .reply) ≡ false
-    → seenOf (decideOf d s c n r .reply) xs ≡ Byte (numberIn (seenOf (decideOf d s c n r .reply) xs))
+    → seenOf (decideOf d s c n r .reply) xs ≡ Data (numberIn (seenOf (decideOf d s c n r .reply) xs))
 read-answered d s c n r xs kind up =
-    outcome d s c n r (λ (x : Decision). isRefusal (x .reply) ≡ false → seenOf (x .reply) xs ≡ Byte (numberIn (seenOf (x .reply) xs))) (λ m z e q. absurd (unlike q))
-    (λ z f. accept-cases d c (settleOf (d .part) s (c .pins)) (λ (x : Decision). isRefusal (x .reply) ≡ false → seenOf (x .reply) xs ≡ Byte (numberIn (seenOf (x .reply) xs)))
+    outcome d s c n r (λ (x : Decision). isRefusal (x .reply) ≡ false → seenOf (x .reply) xs ≡ Data (numberIn (seenOf (x .reply) xs))) (λ m z e q. absurd (unlike q))
+    (λ z f. accept-cases d c (settleOf (d .part) s (c .pins)) (λ (x : Decision). isRefusal (x .reply) ≡ false → seenOf (x .reply) xs ≡ Data (numberIn (seenOf (x .reply) xs)))
     (λ e q. absurd (unlike (sym e ∙ up))) (λ e k h q. kinds (settleOf (d .part) s (c .pins)) k (sym h ∙ kind)))
   where
-    reads : (m : Mode) (a sr : ℕ) → seenOf (replyTo m (d .part) a sr) xs ≡ Byte (numberIn (seenOf (replyTo m (d .part) a sr) xs))
+    reads : (m : Mode) (a sr : ℕ) → seenOf (replyTo m (d .part) a sr) xs ≡ Data (numberIn (seenOf (replyTo m (d .part) a sr) xs))
     reads Array a sr = refl
     reads Status a sr = refl
     reads Identifier a sr = refl
 
-    kinds : (t : Settled) (k : Kind) → k ≡ Read → seenOf (respondOf k d c t .reply) xs ≡ Byte (numberIn (seenOf (respondOf k d c t .reply) xs))
+    kinds : (t : Settled) (k : Kind) → k ≡ Read → seenOf (respondOf k d c t .reply) xs ≡ Data (numberIn (seenOf (respondOf k d c t .reply) xs))
     kinds t Read q = reads (t .state .mode) (c .address) (t .state .status)
     kinds t Write q = absurd (unlike (sym (ap isRead q)))
     kinds t Idle q = absurd (unlike (sym (ap isRead q)))
@@ -146,7 +146,7 @@ module _ (d : Device) (w : List ℕ) (c : Config) (going : isEnded (c .loader .s
   unfolding barredPins
   levels-up l e = or-right (badPins (l .part) (l .pins)) (rpLow (l .pins)) e
 
-  turn-read : cycleOf (c .loader) w .kind ≡ Read → seen ≡ Byte (numberIn seen)
+  turn-read : cycleOf (c .loader) w .kind ≡ Read → seen ≡ Data (numberIn seen)
   unfolding answerTo answerOf
   turn-read kind =
       read-answered d (c .state) (cycleOf (c .loader) w) (length (c .bytes)) 0 _ kind

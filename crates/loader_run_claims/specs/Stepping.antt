@@ -8,7 +8,7 @@ use Rattle.device.specs.declared.Device.{Device}
 use Rattle.model_types.specs.declared.Pins.{Pins}
 use Rattle.model_types.specs.declared.Kind.the-variants.{Read}
 use Rattle.model_types.specs.declared.State.{State}
-use Rattle.model.specs.declared.Seen.the-variants.{Byte}
+use Rattle.model.specs.declared.Seen.the-variants.{Data}
 use Rattle.model.specs.declared.Answer.{Answer}
 use Rattle.loader.specs.declared.Stage.{Stage}
 use Rattle.loader.specs.declared.Turn.the-variants.{Over}
@@ -24,7 +24,7 @@ answerAt d w c = answerTo d w (c .loader) (c .state) (c .bytes)
 
 -- b may be handed to the step at c: the byte that the model answers to a read; any byte after a write or where none is answered
 abbrev pub Handed : Device → List ℕ → Config → ℕ → Type 0
-Handed d w c b = (x : ℕ) → cycleOf (c .loader) w .kind ≡ Read → answerAt d w c .seen ≡ Byte x → b ≡ x
+Handed d w c b = (x : ℕ) → cycleOf (c .loader) w .kind ≡ Read → answerAt d w c .seen ≡ Data x → b ≡ x
 
 -- from a stage on, with or without the verify after a load
 module _ (stage : Stage) (verify : Bool) (d : Device) (s : State) (p : Pins) (k : ℕ) (xs w sc : List ℕ) where
@@ -45,7 +45,7 @@ module _ (stage : Stage) (verify : Bool) (d : Device) (s : State) (p : Pins) (k 
     -- before its end the model takes the cycle that is out, answers a read by a byte, and leaves the run's next state and array
     pub takes : (j : ℕ) → overAt j ≡ false → isRefused (answerAt d w (runAt j) .seen) ≡ false
     pub answers : (j : ℕ) → overAt j ≡ false → cycleOf (runAt j .loader) w .kind ≡ Read
-        → answerAt d w (runAt j) .seen ≡ Byte (numberIn (answerAt d w (runAt j) .seen))
+        → answerAt d w (runAt j) .seen ≡ Data (numberIn (answerAt d w (runAt j) .seen))
     pub makes : (j : ℕ) → overAt j ≡ false
         → (answerAt d w (runAt j) .state ≡ runAt (suc j) .state) × (arrayTo d w (runAt j .loader) (runAt j .state) (runAt j .bytes) ≡ runAt (suc j) .bytes)
     -- with that byte handed on, the step gives the run's next record and the cycle that is out there, or the end

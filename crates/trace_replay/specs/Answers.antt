@@ -4,25 +4,25 @@ use Prim.Native.Nat.{ℕ, _/_, _%_}
 use lib.Dec.{eqb}
 use Rattle.common.specs.Choice.{if_then_else_}
 use Rattle.model.specs.declared.Seen.{Seen}
-use Rattle.model.specs.declared.Seen.the-variants.{NoData, Byte, Refused}
+use Rattle.model.specs.declared.Seen.the-variants.{NoData, Data, Refused}
 use Rattle.model.specs.declared.Answer.{Answer}
 use Rattle.trace_lines.specs.Lines.{decimalDigit, hexDigit}
 
 -- D for a byte, N for no data, X for a refusal
 abbrev pub signOf : Seen → ℕ
 signOf NoData = 78
-signOf (Byte b) = 68
+signOf (Data b) = 68
 signOf (Refused n) = 88
 
 -- the byte in two hexadecimal digits, two dashes, or the refusal in two decimal digits
 abbrev pub firstSign : Seen → ℕ
 firstSign NoData = 45
-firstSign (Byte b) = hexDigit (b / 16 % 16)
+firstSign (Data b) = hexDigit (b / 16 % 16)
 firstSign (Refused n) = decimalDigit (n / 10)
 
 abbrev pub secondSign : Seen → ℕ
 secondSign NoData = 45
-secondSign (Byte b) = hexDigit (b % 16)
+secondSign (Data b) = hexDigit (b % 16)
 secondSign (Refused n) = decimalDigit n
 
 -- an answer printed: what is seen, then a status register

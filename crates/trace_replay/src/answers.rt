@@ -40,7 +40,7 @@ fn letter(seen: Seen) -> u8
 {
     match seen {
         Seen::NoData => b'N',
-        Seen::Byte(_) => b'D',
+        Seen::Data(_) => b'D',
         Seen::Refused(_) => b'X',
     }
 }
@@ -50,7 +50,7 @@ fn first(seen: Seen) -> u8
 {
     match seen {
         Seen::NoData => b'-',
-        Seen::Byte(b) => hex_digit(b / 16 % 16),
+        Seen::Data(b) => hex_digit(b / 16 % 16),
         Seen::Refused(n) => small_digit(n / 10),
     }
 }
@@ -60,7 +60,7 @@ fn second(seen: Seen) -> u8
 {
     match seen {
         Seen::NoData => b'-',
-        Seen::Byte(b) => hex_digit(b % 16),
+        Seen::Data(b) => hex_digit(b % 16),
         Seen::Refused(n) => small_digit(n),
     }
 }

@@ -116,7 +116,7 @@ fn print_seen(seen: Seen) {
         Seen::NoData => {
             io::write_all(1, b"N -- ");
         }
-        Seen::Byte(b) => {
+        Seen::Data(b) => {
             io::write_all(1, b"D ");
             print_byte(b);
         }
