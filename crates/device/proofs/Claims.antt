@@ -2,13 +2,14 @@
 use mathlib.Core.Path.{_≡_, refl, sym}
 use mathlib.Core.Bool.{true, false}
 use mathlib.Core.List.{List, [], _∷_}
-use Prim.Native.Nat.{ℕ, _+_, _≤_, _<_}
+use Prim.Native.Nat.{ℕ, _+_, _*_, _≤_, _<_}
 use Rattle.common.proofs.Choice.{only}
 use Rattle.device.specs.Blocks.{unitsOfAll, lengthAt, offsetAt, holder, Lies}
 use Rattle.device.specs.Parts.{rowOf, inWords, shapeOf, sizeIn, lengthIn, offsetIn, startIn, Holds, sizeOf, lengthOf, startOf, blockOf, codeOf, tableRow, wideRow}
 use Rattle.device.specs.declared.Part.{Part}
 use Rattle.device.proofs.Cover.{covered, alone, ends-inside}
-use Rattle.device.proofs.Place.{named, sole, fits}
+use Rattle.device.proofs.Place.{named, sole, fits, size-some}
+use Rattle.device.proofs.Twice.{inBytes, wordWide, size-twice, block-length-twice, start-twice, both-bytes}
 
 -- For any list of lengths: every place is in the block named for it, in no other, and every block ends inside.
 pub lists-cover : (ls : List ℕ) (p : ℕ) → p < unitsOfAll ls → Lies ls (holder ls p) p
@@ -55,3 +56,21 @@ pub wide-devices :
     × (wideRow 8 true ≡ 0x00000 ∷ 8192 ∷ 0x02000 ∷ 4096 ∷ 0x03000 ∷ 4096 ∷ 0x04000 ∷ 49152 ∷ 0x10000 ∷ 65536 ∷ 65536 ∷ 65536 ∷ 262144 ∷ 0x4471 ∷ [])
 unfolding rowOf inWords shapeOf sizeOf lengthOf startOf codeOf sizeIn lengthIn offsetIn startIn
 wide-devices = (refl, refl, refl, refl, refl, refl, refl, refl)
+
+-- The same part in words: every length and every first address is half of that in bytes ..
+pub sizes-halved : (n : ℕ) → sizeOf (inBytes n) ≡ 2 * sizeOf (wordWide n)
+sizes-halved = size-twice
+
+pub lengths-halved : (n k : ℕ) → lengthOf (inBytes n) k ≡ 2 * lengthOf (wordWide n) k
+lengths-halved = block-length-twice
+
+pub starts-halved : (n k : ℕ) → startOf (inBytes n) k ≡ 2 * startOf (wordWide n) k
+starts-halved = start-twice
+
+-- .. and both bytes of a word lie in the word's block.
+pub words-in-blocks : (n a b : ℕ) → a < sizeOf (wordWide n) → b < 2 → blockOf (inBytes n) (2 * a + b) ≡ blockOf (wordWide n) a
+words-in-blocks = both-bytes
+
+-- Every part has some units.
+pub sizes-some : (p : Part) → 0 < sizeOf p
+sizes-some = size-some

@@ -1,4 +1,5 @@
 pub mod Cover
 pub mod Place
+pub mod Twice
 pub mod Claims
 pub mod Unique

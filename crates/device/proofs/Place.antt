@@ -90,3 +90,37 @@ pub size-small : (p : Part) → sizeOf p ≤ 524288
 unfolding sizeOf shapeOf sizeIn
 size-small p =
     if-ind Small (p .word) (inWords (rowOf (p .number))) (rowOf (p .number)) (λ e. words-small (rowOf (p .number)) (row-small (p .number))) (λ e. row-small (p .number))
+
+-- every part has some units: its boot block has at least 1,024 bytes
+first-some : (n : ℕ) → 1024 ≤ rowOf n .l0
+unfolding rowOf
+first-some n =
+    let P : Shape → Type 0 = λ s. 1024 ≤ s .l0 in
+    let H : Shape = moreBlocks 131072 false 0x4471 in
+    let G : Shape = if eqb n 7 then moreBlocks 131072 true 0x4470 else H in
+    let F : Shape = if eqb n 6 then moreBlocks 0 false 0x2275 else G in
+    let E : Shape = if eqb n 5 then moreBlocks 0 true 0x2274 else F in
+    let D : Shape = if eqb n 4 then fourBlocks 1024 512 14336 false 0x95 else E in
+    let C : Shape = if eqb n 3 then fourBlocks 1024 512 14336 true 0x94 else D in
+    let B : Shape = if eqb n 2 then fourBlocks 8192 4096 114688 false 0x95 else C in
+    if-ind P (eqb n 1) (fourBlocks 8192 4096 114688 true 0x94) B (λ e. lit≤ tt) (λ e.
+    if-ind P (eqb n 2) (fourBlocks 8192 4096 114688 false 0x95) C (λ e. lit≤ tt) (λ e.
+    if-ind P (eqb n 3) (fourBlocks 1024 512 14336 true 0x94) D (λ e. lit≤ tt) (λ e.
+    if-ind P (eqb n 4) (fourBlocks 1024 512 14336 false 0x95) E (λ e. lit≤ tt) (λ e.
+    if-ind P (eqb n 5) (moreBlocks 0 true 0x2274) F (λ e. lit≤ tt) (λ e.
+    if-ind P (eqb n 6) (moreBlocks 0 false 0x2275) G (λ e. lit≤ tt) (λ e.
+    if-ind P (eqb n 7) (moreBlocks 131072 true 0x4470) H (λ e. lit≤ tt) (λ e. lit≤ tt)))))))
+
+size-in : (s : Shape) → 1024 ≤ s .l0 → 0 < sizeIn s
+unfolding sizeIn
+size-in s h = omega arith
+
+size-words : (s : Shape) → 1024 ≤ s .l0 → 0 < sizeIn (inWords s)
+unfolding sizeIn inWords
+size-words s h = omega arith
+
+pub size-some : (p : Part) → 0 < sizeOf p
+unfolding sizeOf shapeOf
+size-some p =
+    if-ind (λ (s : Shape). 0 < sizeIn s) (p .word) (inWords (rowOf (p .number))) (rowOf (p .number))
+    (λ e. size-words (rowOf (p .number)) (first-some (p .number))) (λ e. size-in (rowOf (p .number)) (first-some (p .number)))

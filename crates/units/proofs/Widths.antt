@@ -9,7 +9,7 @@ use lib.ListN.{length, getD, take, drop, set, replicate, length-replicate}
 use lib.Seq.{length-take-le}
 use lib.Bits.{bitAnd, and-block, and-lt}
 use lib.Dec.{eqb}
-use borrow.Author.Tests.{eqb-true, eqb-false}
+use borrow.Author.Tests.{eqb-true, eqb-false, ne-eqb}
 use Rattle.common.specs.Lists.{overlaid, Bytes}
 use Rattle.common.specs.Choice.{if_then_else_}
 use Rattle.units.specs.Units.{wordOf, pairs, halves, unpaired, units, spare, back, unitsIn, bytesIn, torn, lent, lentIn, carried, top}
@@ -60,6 +60,10 @@ even n e = let h = eqb-false (n % 2) 1 e in omega arith
 pub whole : (w : Bool) (xs : List ℕ) → torn w (length xs) ≡ false → length xs ≡ bytesIn w (length (units w xs))
 whole false xs e = refl
 whole true xs e = let h = half xs in let z = even (length xs) e in omega arith
+
+pub untorn : (w : Bool) (n : ℕ) → torn w (bytesIn w n) ≡ false
+untorn false n = refl
+untorn true n = ne-eqb (2 * n % 2) 1 (λ e. let z : _≡_ {A = ℕ} 0 1 = omega arith in omega arith)
 
 -- units come back from their bytes, whatever they are
 pub units-back : (w : Bool) (us : List ℕ) → units w (back w us) ≡ us
