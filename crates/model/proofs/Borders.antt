@@ -3,21 +3,21 @@ use mathlib.Core.Path.{_≡_, refl, sym, ap, ap₂, subst, _∙_}
 use mathlib.Core.Bool.{Bool, true, false, not}
 use mathlib.Core.List.{List, [], _∷_}
 use mathlib.Core.Logic.{_↔_}
-use Prim.Native.Nat.{ℕ, _*_, _%_, _≤_, _<_}
+use Prim.Native.Nat.{ℕ, _*_, _≤_, _<_}
 use native.Mathlib.Omega.{arith}
 use lib.ListN.{length}
-use lib.Dec.{eqb, lit≤}
-use borrow.Author.Tests.{eqb-true, ne-eqb, not-false}
+use lib.Dec.{eqb}
+use borrow.Author.Tests.{eqb-true, not-false}
 use Rattle.common.specs.Choice.{if_then_else_}
 use Rattle.common.specs.Lists.{Bytes}
-use Rattle.common.proofs.Choice.{if-ind, if-true, if-false, unlike}
+use Rattle.common.proofs.Choice.{if-true, if-false, unlike}
 use Rattle.common.proofs.Numbers.{given-no-row, no-head, no-tail}
 use Rattle.units.specs.Units.{halves, units, spare, back, unitsIn, bytesIn, torn, lent, lentIn}
-use Rattle.units.proofs.Widths.{units-length, lent-length, lent-even, lent-whole, whole, units-back, back-units, same-bytes}
+use Rattle.units.proofs.Widths.{units-length, lent-length, lent-even, lent-whole, whole, units-back, back-units, same-bytes, untorn}
 use Rattle.device.specs.declared.Part.{Part}
 use Rattle.device.specs.declared.Device.{Device}
-use Rattle.device.specs.declared.Shape.{Shape}
-use Rattle.device.specs.Parts.{fourBlocks, moreBlocks, rowOf, inWords, shapeOf, sizeIn, sizeOf}
+use Rattle.device.specs.Parts.{sizeOf}
+use Rattle.device.proofs.Place.{size-some}
 use Rattle.model_types.specs.declared.State.{State}
 use Rattle.model_types.specs.declared.Cycle.{Cycle}
 use Rattle.model_types.specs.declared.Decision.{Decision}
@@ -34,40 +34,6 @@ use Rattle.model.proofs.Contents.{cycle-length}
 use Rattle.model.proofs.Outcome.{outcome}
 use Rattle.model.proofs.Table.{refused-nothing, seen-refused}
 
--- every part has some units: its boot block has at least 1,024 bytes
-first-some : (n : ℕ) → 1024 ≤ rowOf n .l0
-unfolding rowOf
-first-some n =
-    let P : Shape → Type 0 = λ s. 1024 ≤ s .l0 in
-    let H : Shape = moreBlocks 131072 false 0x4471 in
-    let G : Shape = if eqb n 7 then moreBlocks 131072 true 0x4470 else H in
-    let F : Shape = if eqb n 6 then moreBlocks 0 false 0x2275 else G in
-    let E : Shape = if eqb n 5 then moreBlocks 0 true 0x2274 else F in
-    let D : Shape = if eqb n 4 then fourBlocks 1024 512 14336 false 0x95 else E in
-    let C : Shape = if eqb n 3 then fourBlocks 1024 512 14336 true 0x94 else D in
-    let B : Shape = if eqb n 2 then fourBlocks 8192 4096 114688 false 0x95 else C in
-    if-ind P (eqb n 1) (fourBlocks 8192 4096 114688 true 0x94) B (λ e. lit≤ tt) (λ e.
-    if-ind P (eqb n 2) (fourBlocks 8192 4096 114688 false 0x95) C (λ e. lit≤ tt) (λ e.
-    if-ind P (eqb n 3) (fourBlocks 1024 512 14336 true 0x94) D (λ e. lit≤ tt) (λ e.
-    if-ind P (eqb n 4) (fourBlocks 1024 512 14336 false 0x95) E (λ e. lit≤ tt) (λ e.
-    if-ind P (eqb n 5) (moreBlocks 0 true 0x2274) F (λ e. lit≤ tt) (λ e.
-    if-ind P (eqb n 6) (moreBlocks 0 false 0x2275) G (λ e. lit≤ tt) (λ e.
-    if-ind P (eqb n 7) (moreBlocks 131072 true 0x4470) H (λ e. lit≤ tt) (λ e. lit≤ tt)))))))
-
-size-in : (s : Shape) → 1024 ≤ s .l0 → 0 < sizeIn s
-unfolding sizeIn
-size-in s h = omega arith
-
-size-words : (s : Shape) → 1024 ≤ s .l0 → 0 < sizeIn (inWords s)
-unfolding sizeIn inWords
-size-words s h = omega arith
-
-pub size-some : (p : Part) → 0 < sizeOf p
-unfolding sizeOf shapeOf
-size-some p =
-    if-ind (λ (s : Shape). 0 < sizeIn s) (p .word) (inWords (rowOf (p .number))) (rowOf (p .number))
-    (λ e. size-words (rowOf (p .number)) (first-some (p .number))) (λ e. size-in (rowOf (p .number)) (first-some (p .number)))
-
 -- units as bytes
 twice : (us : List ℕ) → length (halves us) ≡ 2 * length us
 twice [] = refl
@@ -76,10 +42,6 @@ twice (u ∷ us) = let h = twice us in omega arith
 back-length : (w : Bool) (us : List ℕ) → length (back w us) ≡ bytesIn w (length us)
 back-length false us = refl
 back-length true us = twice us
-
-untorn : (w : Bool) (n : ℕ) → torn w (bytesIn w n) ≡ false
-untorn false n = refl
-untorn true n = ne-eqb (2 * n % 2) 1 (λ e. let z : _≡_ {A = ℕ} 0 1 = omega arith in omega arith)
 
 lent-back : (w : Bool) (us : List ℕ) → lent w (back w us) ≡ us
 lent-back w us = lent-even w (back w us) (subst (λ (n : ℕ). torn w n ≡ false) (sym (back-length w us)) (untorn w (length us))) ∙ units-back w us
@@ -216,3 +178,18 @@ module _ (d : Device) (s : State) (c : Cycle) (xs rs : List ℕ) where
           go : (t : Bool) → refuses ≡ t → ys ≡ bytesAfter d s c xs rs
           go true f = same-bytes wide ys xs q b (after ∙ unchanged f ∙ is) o ∙ sym (kept f)
           go false f = sym (back-units wide ys (subst (λ (m : ℕ). torn wide m ≡ false) (sym l) even) q) ∙ ap (back wide) after ∙ sym (done f)
+
+-- in byte mode the lent bytes are the units
+pub byte-lent : (w : Bool) (xs : List ℕ) → w ≡ false → lent w xs ≡ xs
+unfolding lent
+byte-lent false xs e = refl
+byte-lent true xs e = absurd (unlike e)
+
+pub byte-units : (w : Bool) (xs : List ℕ) → w ≡ false → units w xs ≡ xs
+byte-units false xs e = refl
+byte-units true xs e = absurd (unlike e)
+
+pub byte-mode-bytes : (d : Device) (s : State) (c : Cycle) (xs rs : List ℕ) → d .part .word ≡ false → bytesAfter d s c xs rs ≡ arrayAfter d s c xs rs
+byte-mode-bytes d s c xs rs e =
+    let w : Bool = d .part .word in
+    sym (byte-lent w (bytesAfter d s c xs rs) e) ∙ left-units d s c xs rs ∙ ap₂ (λ (us ts : List ℕ). arrayAfter d s c us ts) (byte-lent w xs e) (byte-units w rs e)

@@ -1,28 +1,32 @@
 -- What is claimed of the bench model, in one place. Assumes nothing.
 use mathlib.Core.Path.{_≡_}
 use mathlib.Core.Bool.{true, false}
-use mathlib.Core.List.{List}
+use mathlib.Core.List.{List, _∷_}
 use mathlib.Core.Logic.{_↔_}
-use Prim.Native.Nat.{ℕ, _+_}
-use lib.ListN.{length}
-use Rattle.units.specs.Units.{units, lent, bytesIn}
+use Prim.Native.Nat.{ℕ, _+_, _/_, _%_, _≤_, _<_}
+use lib.ListN.{length, take, replicate}
+use lib.Bits.{bitOr}
+use Rattle.common.specs.Lists.{overlaid, Bytes}
+use Rattle.units.specs.Units.{pairs, units, back, torn, lent, bytesIn}
 use Rattle.common.specs.Numbers.{Foremost, NoRow}
 use Rattle.device.specs.declared.Device.{Device}
-use Rattle.device.specs.Parts.{sizeOf}
+use Rattle.device.specs.declared.Part.{Part}
+use Rattle.device.specs.Parts.{sizeOf, startOf, lengthOf}
 use Rattle.model_types.specs.Cells.{Cells}
 use Rattle.model_types.specs.declared.State.{State}
 use Rattle.model_types.specs.declared.Cycle.{Cycle}
 use Rattle.model_types.specs.declared.Kind.the-variants.{Read}
 use Rattle.model_types.specs.declared.Effect.{Effect}
-use Rattle.model_types.specs.declared.Effect.the-variants.{Nothing}
+use Rattle.model_types.specs.declared.Effect.the-variants.{Nothing, Program, CutProgram}
 use Rattle.model_types.specs.Levels.{rpLow}
 use Rattle.model_types.specs.States.{improper, freshState}
 use Rattle.model_operation.specs.Settling.{settleOf}
 use Rattle.model_rules.specs.Cycles.{tableOf, numberOf, judgeOf, decideOf}
 use Rattle.model_rules.proofs.Facts.{proper-parts, parts-proper}
 use Rattle.model.specs.declared.Seen.the-variants.{Data, Refused}
-use Rattle.model.specs.Arrays.{Accepted, answerOf, arrayAfter, bytesAfter}
+use Rattle.model.specs.Arrays.{erased, residual, arrayOf, Accepted, answerOf, arrayAfter, bytesAfter}
 use Rattle.model.specs.Inner.{answerJudged, arrayJudged}
+use Rattle.model.specs.Words.{bothProgrammed, narrow}
 use Rattle.model.specs.Begun.{operationOf, pendingOf, startsOf, begunBy, begunFrom}
 use Rattle.model_types.specs.Phases.{isBusy, isAwaited}
 use Rattle.model.proofs.Keeping as keeping
@@ -31,6 +35,9 @@ use Rattle.model.proofs.Contents as contents
 use Rattle.model.proofs.Table as table
 use Rattle.model.proofs.Passing as passing
 use Rattle.model.proofs.Borders as borders
+use Rattle.model.proofs.Bytewise as bytewise
+use Rattle.model.proofs.Narrow as unread
+use Rattle.model.proofs.Status.{status-byte}
 
 -- The numbers: a cycle is refused by m exactly where m's own condition holds and that of no lower number does.
 pub refused-exactly : (d : Device) (s : State) (c : Cycle) (xs rs : List ℕ) (m : ℕ) → (m ≡ 0 → ⊥)
@@ -89,6 +96,45 @@ refused-bytes = borders.refused-bytes
 pub left-units : (d : Device) (s : State) (c : Cycle) (array residue : List ℕ)
     → lent (d .part .word) (bytesAfter d s c array residue) ≡ arrayAfter d s c (lent (d .part .word) array) (units (d .part .word) residue)
 left-units = borders.left-units
+
+-- In byte mode they are the array after the cycle themselves.
+pub byte-mode-bytes : (d : Device) (s : State) (c : Cycle) (array residue : List ℕ) → d .part .word ≡ false → bytesAfter d s c array residue ≡ arrayAfter d s c array residue
+byte-mode-bytes = borders.byte-mode-bytes
+
+-- In word mode, and in byte mode alike, an erase that ends leaves FFH in the bytes of its block ..
+pub erased-bytes : (xs : List ℕ) → Bytes xs → (part : Part) (k : ℕ) → length xs ≡ bytesIn (part .word) (sizeOf part) → length (units (part .word) xs) ≡ sizeOf part
+    → back (part .word) (erased part k (units (part .word) xs)) ≡ overlaid xs (bytesIn (part .word) (startOf part k)) (replicate (bytesIn (part .word) (lengthOf part k)) 0xFF)
+erased-bytes = bytewise.erased-bytes
+
+-- .. one that is cut leaves residue byte i at byte i of the block ..
+pub residual-bytes : (xs : List ℕ) → Bytes xs → (part : Part) (k : ℕ) → length xs ≡ bytesIn (part .word) (sizeOf part) → length (units (part .word) xs) ≡ sizeOf part
+    → (rs : List ℕ) → Bytes rs → lengthOf part k ≤ length (units (part .word) rs)
+    → back (part .word) (residual part k (units (part .word) rs) (units (part .word) xs))
+    ≡ overlaid xs (bytesIn (part .word) (startOf part k)) (take (bytesIn (part .word) (lengthOf part k)) rs)
+residual-bytes = bytewise.residual-bytes
+
+-- .. a program of a word leaves old AND data in both of its bytes, the low byte first ..
+pub program-bytes : (xs : List ℕ) → Bytes xs → (part : Part) (i : ℕ) → i < length (pairs xs) → torn true (length xs) ≡ false → (v : ℕ) (rs : List ℕ)
+    → back true (arrayOf (Program i v) part rs (pairs xs)) ≡ bothProgrammed xs i (v % 256) (v / 256)
+program-bytes = bytewise.program-bytes
+
+-- .. and cut, old AND (data OR r), r being residue byte 0 for the low byte and residue byte 1 for the high one.
+pub cut-bytes : (xs : List ℕ) → Bytes xs → (part : Part) (i : ℕ) → i < length (pairs xs) → torn true (length xs) ≡ false
+    → (v r q : ℕ) (rs : List ℕ) → v < 65536 → r < 256 → q < 256
+    → back true (arrayOf (CutProgram i v) part (pairs (r ∷ q ∷ rs)) (pairs xs)) ≡ bothProgrammed xs i (bitOr (v % 256) r) (bitOr (v / 256) q)
+cut-bytes = bytewise.cut-bytes
+
+-- In byte mode the high byte of a cycle's data is not looked at: the answer is the same without it ..
+pub high-byte-unread : (d : Device) → d .part .word ≡ false → (c : Cycle) (s : State) (xs rs : List ℕ) → answerOf d s (narrow c) xs rs ≡ answerOf d s c xs rs
+high-byte-unread = unread.narrow-answer
+
+-- .. and so is the array.
+pub high-byte-unstored : (d : Device) → d .part .word ≡ false → (c : Cycle) (s : State) (xs rs : List ℕ) → arrayAfter d s (narrow c) xs rs ≡ arrayAfter d s c xs rs
+high-byte-unstored = unread.narrow-array
+
+-- The status of a proper state is a byte, so that the high byte of a status read is 0.
+pub status-is-byte : (d : Device) (s : State) → improper d s ≡ false → s .status < 256
+status-is-byte d s p = status-byte (s .phase) (s .status) (proper-parts d s p .status)
 
 -- Refusal 2 counts bytes: the lent array has as many units as the device exactly where its bytes are those of that many units.
 pub two-counts-bytes : (d : Device) (array : List ℕ) → (length (lent (d .part .word) array) ≡ sizeOf (d .part)) ↔ (length array ≡ bytesIn (d .part .word) (sizeOf (d .part)))

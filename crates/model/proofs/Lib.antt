@@ -8,5 +8,7 @@ pub mod Lives
 pub mod Contents
 pub mod Table
 pub mod Borders
+pub mod Bytewise
+pub mod Narrow
 pub mod Claims
 pub mod Unique

@@ -1,3 +1,4 @@
 pub mod Arrays
 pub mod Begun
 pub mod Inner
+pub mod Words

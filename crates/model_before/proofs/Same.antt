@@ -38,11 +38,8 @@ use Rattle.model_operation.specs.Settling.{cutOf, finishOf, residueFor, resetBy
 use Rattle.model_rules.specs.Cycles.{pastArray, shortResidue, noCommand, suspendedRead, skipsLast, codePlace, noIdentifier, tableOf, numberOf, identifierOf, replyTo, respondOf, acceptOf, decideOf}
 use Rattle.model.specs.Arrays.{erased, residual, arrayOf, seenOf, arrayAfter, answerOf}
 use Rattle.model.specs.declared.Answer.{Answer}
+use Rattle.model.specs.Words.{narrow}
 use Rattle.model_before.specs.Before as before
-
--- a cycle as it was: eight bits of data
-abbrev pub narrow : Cycle → Cycle
-narrow c = record { kind = c .kind; pins = c .pins; oe = c .oe; address = c .address; «data» = c .data % 256 }
 
 or-none : (b : Bool) → (b || false) ≡ b
 or-none true = refl
