@@ -110,7 +110,7 @@ anyCycle = cycleAs Idle 1 0 0 0 0
 
 any-fits : Fits anyCycle
 unfolding anyCycle
-any-fits = (omega arith, omega arith, omega arith, omega arith, omega arith)
+any-fits = (omega arith, omega arith, omega arith, omega arith, omega arith, refl)
 
 pub complete : (ms : List Mark) (h : ℕ) (e : Bool) → Walks h e ms → (more : List Mark) × Left (After h) (8 - h) e (ms ++ more)
 unfolding Walks marksOn Formed After

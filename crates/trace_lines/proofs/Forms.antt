@@ -196,7 +196,7 @@ printed-cycle : (c : Cycle) → Fits c → cycleStated (lineOf c) ≡ c
 unfolding cycleStated
 printed-cycle c f = λ i. record {
   kind = kind-back (c .kind) i;
-  pins = record { rp = digit-back (c .pins .rp) (f .0) i; vpp = five-back (c .pins .vpp) (f .2) i };
+  pins = record { rp = digit-back (c .pins .rp) (f .0) i; vpp = five-back (c .pins .vpp) (f .2) i; wp = sym (f .5) i };
   oe = digit-back (c .oe) (f .1) i;
   address = four-back (c .address) (f .3) i;
   «data» = two-back (c .data) (f .4) i;
@@ -225,6 +225,7 @@ line-fits xs e = (
   five-small (getD xs 6 0) (getD xs 7 0) (getD xs 8 0) (getD xs 9 0) (getD xs 10 0) (placed xs e 6 refl) (placed xs e 7 refl) (placed xs e 8 refl) (placed xs e 9 refl) (placed xs e 10 refl),
   four-small (getD xs 12 0) (getD xs 13 0) (getD xs 14 0) (getD xs 15 0),
   two-small (getD xs 17 0) (getD xs 18 0),
+  refl,
 )
 
 -- the digits of five digits

@@ -1,4 +1,5 @@
 -- The lines of a trace: their form, the cycle that one states, and how a cycle is printed. Assumes nothing.
+use mathlib.Core.Path.{_≡_}
 use mathlib.Core.Bool.{Bool, true, false, _&&_, _||_}
 use mathlib.Core.List.{List, [], _∷_}
 use Prim.Native.Nat.{ℕ, _+_, _*_, _/_, _%_, _<_}
@@ -94,9 +95,9 @@ fourHex a b c d = ((hexOf a * 16 + hexOf b) * 16 + hexOf c) * 16 + hexOf d
 abbrev pub twoHex : ℕ → ℕ → ℕ
 twoHex a b = hexOf a * 16 + hexOf b
 
--- a cycle put together from its parts
+-- a cycle put together from its parts; bench T has no WP#, and a line does not state it
 abbrev pub cycleAs : Kind → ℕ → ℕ → ℕ → ℕ → ℕ → Cycle
-cycleAs k rp oe vpp a b = record { kind = k; pins = record { rp = rp; vpp = vpp }; oe = oe; address = a; «data» = b }
+cycleAs k rp oe vpp a b = record { kind = k; pins = record { rp = rp; vpp = vpp; wp = 0 }; oe = oe; address = a; «data» = b }
 
 -- the cycle that a line states, read off its places
 unfoldable pub cycleStated : List ℕ → Cycle
@@ -134,6 +135,6 @@ lineOf c =
     ∷ hexDigit (c .data / 16 % 16) ∷ hexDigit (c .data % 16) ∷ 10
     ∷ []
 
--- a cycle that fits a line: each number has as many digits as the line has room for
+-- a cycle that fits a line: each number has as many digits as the line has room for, and WP# is 0
 abbrev pub Fits : Cycle → Type 0
-Fits c = (c .pins .rp < 10) × (c .oe < 10) × (c .pins .vpp < 100000) × (c .address < 65536) × (c .data < 256)
+Fits c = (c .pins .rp < 10) × (c .oe < 10) × (c .pins .vpp < 100000) × (c .address < 65536) × (c .data < 256) × (c .pins .wp ≡ 0)

@@ -133,10 +133,10 @@ fn four(a: u8, b: u8, c: u8, d: u8) -> u32
     ((hex(a) * 16 + hex(b)) * 16 + hex(c)) * 16 + hex(d)
 }
 
-fn two(a: u8, b: u8) -> u8
+fn two(a: u8, b: u8) -> u16
     ensures { λ r. ⌜ r ≡ twoHex a b ⌝ }
 {
-    (hex(a) * 16 + hex(b)) as u8
+    (hex(a) * 16 + hex(b)) as u16
 }
 
 // The cycle that a line states, read off its places.
@@ -160,7 +160,11 @@ pub fn cycle_in(line: &[u8]) -> Cycle
         common::nth(line, 15),
     );
     let byte = two(common::nth(line, 17), common::nth(line, 18));
-    let pins = Pins { rp: rp, vpp: vpp };
+    let pins = Pins {
+        rp: rp,
+        vpp: vpp,
+        wp: 0,
+    };
     Cycle {
         kind: kind,
         pins: pins,

@@ -9,7 +9,7 @@ use lib.ListN.{length}
 use borrow.Author.Tests.{eq-eqb, le-ltb}
 use Rattle.common.proofs.Choice.{and-none}
 use Rattle.common.specs.Numbers.{row, given}
-use Rattle.device.specs.Parts.{unknownDevice, unknownPart, sizeOf, sizeIn, shapeOf, lengthOf, blockOf}
+use Rattle.device.specs.Parts.{rowOf, isLarge, unknownDevice, unknownPart, sizeOf, sizeIn, shapeOf, lengthOf, blockOf}
 use Rattle.device.proofs.Claims.{blocks-end-inside}
 use Rattle.model_types.specs.declared.Phase.{Phase}
 use Rattle.model_types.specs.declared.Phase.the-variants.{Free, EraseAwaited, DataAwaited, Programming, Erasing, Suspending, Suspended}
@@ -23,11 +23,11 @@ use Rattle.model.proofs.Claims as model
 use Rattle.trace_replay.specs.Replays.{benchT, BenchSound, lineStep, arrayBy}
 
 size-is : sizeOf (benchT .part) ≡ 16384
-unfolding sizeOf sizeIn shapeOf
+unfolding sizeOf sizeIn shapeOf rowOf
 size-is = refl
 
 known : unknownDevice benchT ≡ false
-unfolding unknownDevice unknownPart
+unfolding unknownDevice unknownPart isLarge
 known = refl
 
 block-most : (k : ℕ) → lengthOf (benchT .part) k ≤ 16384

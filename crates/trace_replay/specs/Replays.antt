@@ -18,7 +18,7 @@ use Rattle.trace_replay.specs.declared.Replayed.{Replayed}
 
 -- bench T: device 3, a program busy for 2 cycles, an erase for 3, a suspend for 1
 abbrev pub benchT : Device
-benchT = record { part = record { number = 3 }; program = 2; erase = 3; suspend = 1 }
+benchT = record { part = record { number = 3; word = false }; program = 2; erase = 3; suspend = 1 }
 
 -- the bench is sound: its state is proper, its array has the part's length
 pub record BenchSound (s : State) (xs : List ℕ) : Type 0 where

@@ -1,5 +1,6 @@
 // What a trace prints: an answer of eight bytes a line, and the mark that ends a trace.
 use model::Seen;
+ghost use Prim.Native.Nat.{_%_};
 ghost use mathlib.Core.Path.{_≡_};
 ghost use Prim.Native.Nat.{_<_};
 ghost use lib.ListN.{length};
@@ -35,6 +36,13 @@ fn small_digit(n: u8) -> u8
     b'0' + n % 10
 }
 
+// The low four bits.
+fn nibble(v: u16) -> u8
+    ensures { λ r. ⌜ r ≡ v % 16 ⌝ }
+{
+    (v % 16) as u8
+}
+
 fn letter(seen: Seen) -> u8
     ensures { λ r. ⌜ r ≡ signOf seen ⌝ }
 {
@@ -50,7 +58,7 @@ fn first(seen: Seen) -> u8
 {
     match seen {
         Seen::NoData => b'-',
-        Seen::Data(b) => hex_digit(b / 16 % 16),
+        Seen::Data(b) => hex_digit(nibble(b / 16)),
         Seen::Refused(n) => small_digit(n / 10),
     }
 }
@@ -60,7 +68,7 @@ fn second(seen: Seen) -> u8
 {
     match seen {
         Seen::NoData => b'-',
-        Seen::Data(b) => hex_digit(b % 16),
+        Seen::Data(b) => hex_digit(nibble(b)),
         Seen::Refused(n) => small_digit(n),
     }
 }

@@ -26,7 +26,10 @@ pub struct Replayed {
 pub fn bench() -> Device
     ensures { λ r. ⌜ r ≡ benchT ⌝ }
 {
-    let part = Part { number: 3 };
+    let part = Part {
+        number: 3,
+        word: false,
+    };
     Device {
         part: part,
         program: 2,

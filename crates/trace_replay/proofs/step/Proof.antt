@@ -1,8 +1,10 @@
 -- `trace_replay::step` meets its contract. Assumes nothing.
-use mathlib.Core.Path.{ap, _∙_}
+use mathlib.Core.Path.{refl, ap, _∙_}
 use Rattle.device.specs.declared.Device.{Device}
-use Rattle.model.specs.Arrays.{answerOf, arrayAfter}
-use Rattle.trace_replay.specs.Replays.{arrayBy, lineStep}
+use Rattle.model.specs.Arrays.{answerOf, bytesAfter}
+use Rattle.model.proofs.Claims.{byte-mode-bytes}
+use Rattle.units.specs.Units.{units, lent}
+use Rattle.trace_replay.specs.Replays.{benchT, arrayBy, lineStep}
 use borrow.Author.Needs.{needs}
 use Rattle.trace_replay.proofs.step.Statement.{statement}
 use Rattle.trace_replay.proofs.step.Tie as tie
@@ -17,12 +19,13 @@ same-length : tie.Need-same-length
 same-length c = search needs
 
 returns : tie.Need-returns
-unfolding lineStep arrayBy
+unfolding lineStep arrayBy lent
 returns c =
     let a = c .before .before .before .before .before .before .before .args in
     let e = c .before .before .before .before .bench .ensures in (
-      c .before .before .cycle .ensures .0 ∙ ap (λ (d : Device). answerOf d (a .s) (a .c) (a .array .now) (a .residue .now)) e,
-      c .before .before .cycle .ensures .1 ∙ ap (λ (d : Device). arrayAfter d (a .s) (a .c) (a .array .now) (a .residue .now)) e,
+      c .before .before .cycle .ensures .0 ∙ ap (λ (d : Device). answerOf d (a .s) (a .c) (lent (d .part .word) (a .array .now)) (units (d .part .word) (a .residue .now))) e,
+      c .before .before .cycle .ensures .1 ∙ ap (λ (d : Device). bytesAfter d (a .s) (a .c) (a .array .now) (a .residue .now)) e
+          ∙ byte-mode-bytes benchT (a .s) (a .c) (a .array .now) (a .residue .now) refl,
     )
 
 pub step-spec : {M : Type 1} → statement M
