@@ -25,7 +25,6 @@ use Rattle.loader_run_claims.proofs.Answers.{Up, Ready, asks-erase, confirms, s
 use Rattle.cards.specs.Table.{normal, write, read, fresh, cycles7, Card7}
 use Rattle.cards.proofs.Leading as leading
 use Rattle.cards.proofs.Leading.{Leads, before}
-use Rattle.loader_run_claims.specs.Made.{busCycle as cyc}
 
 module _ (d : Device) (a : ℕ) (xs : List ℕ) (known : unknownDevice d ≡ false) (inside : a < sizeOf (d .part)) (free : blockOf (d .part) a ≡ 0 → ⊥)
     (sized : length xs ≡ sizeOf (d .part)) where

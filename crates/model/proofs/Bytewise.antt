@@ -1,10 +1,10 @@
 -- What the effects on units do to the lent bytes, byte by byte. Assumes nothing.
 use mathlib.Core.Path.{_≡_, refl, sym, ap, ap₂, subst, _∙_}
 use mathlib.Core.Bool.{Bool, true, false}
-use mathlib.Core.List.{List, [], _∷_}
+use mathlib.Core.List.{List, _∷_}
 use Prim.Native.Nat.{ℕ, _+_, _*_, _/_, _%_, _≤_, _<_}
 use native.Mathlib.Omega.{arith}
-use lib.ListN.{length, getD, set, take, replicate, length-set, length-replicate}
+use lib.ListN.{length, getD, take, replicate, length-set, length-replicate}
 use lib.Seq.{length-take-le}
 use lib.Bits.{bitAnd, bitOr, and-le-l, or-lt}
 use Rattle.common.specs.Lists.{overlaid, Bytes}
@@ -12,7 +12,7 @@ use Rattle.common.proofs.Bytes.{bytes-set, bytes-overlaid, bytes-replicate, byt
 use Rattle.units.specs.Units.{wordOf, pairs, units, back, bytesIn, torn}
 use Rattle.units.proofs.Pairs.{or-word}
 use Rattle.units.proofs.Words.{programmed, program-law}
-use Rattle.units.proofs.Widths.{units-length, fit-by, in-law, one-law, erase-law, leave-law, back-units, both-in, untorn}
+use Rattle.units.proofs.Widths.{fit-by, in-law, erase-law, leave-law, back-units, both-in, untorn}
 use Rattle.device.specs.declared.Part.{Part}
 use Rattle.device.specs.Parts.{sizeOf, startOf, lengthOf}
 use Rattle.device.proofs.Claims.{blocks-end-inside}

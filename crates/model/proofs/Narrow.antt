@@ -1,12 +1,10 @@
 -- In byte mode the high byte of a cycle's data is not looked at. Assumes nothing.
-use mathlib.Core.Path.{_≡_, refl, sym, ap, ap₂, _∙_}
+use mathlib.Core.Path.{_≡_, refl, ap, ap₂}
 use mathlib.Core.Bool.{Bool, true, false}
 use mathlib.Core.List.{List}
-use Prim.Native.Nat.{ℕ, _%_, _<_}
+use Prim.Native.Nat.{ℕ, _%_}
 use native.Mathlib.Omega.{arith}
 use lib.ListN.{length}
-use lib.Dec.{eqb}
-use Rattle.common.specs.Choice.{if_then_else_}
 use Rattle.common.proofs.Choice.{unlike}
 use Rattle.common.specs.Numbers.{given}
 use Rattle.units.specs.Units.{carried}

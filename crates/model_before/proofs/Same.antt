@@ -2,15 +2,13 @@
 use mathlib.Core.Path.{_≡_, refl, sym, ap, ap₂, _∙_}
 use mathlib.Core.Bool.{Bool, true, false, not, _&&_, _||_}
 use mathlib.Core.List.{List}
-use Prim.Native.Nat.{ℕ, zero, suc, _%_, _≤_, _<_}
+use Prim.Native.Nat.{ℕ, zero, suc, _%_, _≤_}
 use native.Mathlib.Omega.{arith}
-use native.Mathlib.Nat.{mod-eq-of-lt}
 use lib.ListN.{length}
-use lib.Dec.{eqb, ltb, leb}
-use borrow.Author.Tests.{lt-leb, ltb-false, eqb-false}
-use Rattle.common.specs.Choice.{if_then_else_}
-use Rattle.common.proofs.Choice.{or-left, or-right, if-ind}
-use Rattle.common.specs.Numbers.{Row, given}
+use lib.Dec.{eqb, ltb}
+use borrow.Author.Tests.{ltb-false, eqb-false}
+use Rattle.common.proofs.Choice.{or-left, or-right}
+use Rattle.common.specs.Numbers.{given}
 use Rattle.device.specs.declared.Part.{Part}
 use Rattle.device.specs.declared.Device.{Device}
 use Rattle.device.specs.declared.Shape.{Shape}
@@ -37,7 +35,6 @@ use Rattle.model_commands.specs.Commands.{commandOf, dataOf, asksProgram, first
 use Rattle.model_operation.specs.Settling.{cutOf, finishOf, residueFor, resetBy, cutBy, countedOff, passedOf, settleOf}
 use Rattle.model_rules.specs.Cycles.{pastArray, shortResidue, noCommand, suspendedRead, skipsLast, codePlace, noIdentifier, tableOf, numberOf, identifierOf, replyTo, respondOf, acceptOf, decideOf}
 use Rattle.model.specs.Arrays.{erased, residual, arrayOf, seenOf, arrayAfter, answerOf}
-use Rattle.model.specs.declared.Answer.{Answer}
 use Rattle.model.specs.Words.{narrow}
 use Rattle.model_before.specs.Before as before
 

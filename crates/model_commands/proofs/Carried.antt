@@ -1,6 +1,6 @@
 -- What a cycle's data and command are where the data is a cell's. Assumes nothing.
 use mathlib.Core.Path.{_≡_}
-use Prim.Native.Nat.{ℕ, _≤_, _<_}
+use Prim.Native.Nat.{_≤_, _<_}
 use native.Mathlib.Nat.{mod-eq-of-lt}
 use Rattle.units.proofs.Widths.{carried-cell}
 use Rattle.device.specs.declared.Part.{Part}

@@ -7,9 +7,9 @@ use native.Mathlib.Omega.{arith}
 use lib.Bits.{bitAnd, bitOr}
 use lib.Dec.{eqb}
 use lib.ListN.{length}
-use borrow.Author.Tests.{eqb-true, eqb-false, ne-eqb, eq-eqb}
+use borrow.Author.Tests.{eqb-true, eqb-false, ne-eqb}
 use Rattle.common.specs.Choice.{if_then_else_}
-use Rattle.common.proofs.Choice.{if-true, if-false, if-ind, and-left, and-right, unlike}
+use Rattle.common.proofs.Choice.{if-false, if-ind, and-left, and-right, unlike}
 use Rattle.device.specs.declared.Part.{Part}
 use Rattle.device.specs.declared.Device.{Device}
 use Rattle.model_types.specs.declared.Kind.{Kind}
@@ -32,7 +32,7 @@ use Rattle.model_types.specs.Levels.{rpLow, vppLow}
 use Rattle.model_types.specs.Inner.{topBits}
 use Rattle.model_types.specs.Phases.{isPending, isBusy}
 use Rattle.model_types.specs.Status.{SR7, SR6, isSet}
-use Rattle.model_commands.specs.Commands.{whileErasing, whileSuspending, whileSuspended, commandOf, actionOf, performedOf}
+use Rattle.model_commands.specs.Commands.{whileErasing, whileSuspending, whileSuspended, commandOf, performedOf}
 use Rattle.model_operation.specs.Settling.{settledAs, cutOf, cutBy, countedOff, suspendPassed, passedOf, settleOf}
 use Rattle.model_rules.specs.Cycles.{numberOf, decideOf, acceptOf, respondOf, decidedAs}
 use Rattle.model_rules.proofs.Cases.{refused, accepted}

@@ -6,7 +6,7 @@ use native.Mathlib.Omega.{arith}
 use lib.Dec.{leb}
 use borrow.Author.Tests.{lt-leb, leb-true}
 use Rattle.common.specs.Choice.{if_then_else_}
-use Rattle.common.proofs.Choice.{and-left, if-ind}
+use Rattle.common.proofs.Choice.{and-left}
 use Rattle.device.specs.Parts.{isLarge}
 use Rattle.device.specs.declared.Part.{Part}
 use Rattle.model_types.specs.declared.Pins.{Pins}

@@ -1,11 +1,11 @@
 -- What is claimed of units, in one place. Assumes nothing.
 use Prim.Native.Nat.{ℕ, _≤_, _<_}
 use mathlib.Core.Path.{_≡_}
-use mathlib.Core.Bool.{Bool, false}
+use mathlib.Core.Bool.{Bool}
 use mathlib.Core.List.{List, _++_}
 use lib.ListN.{length, getD}
 use Rattle.common.specs.Lists.{Bytes}
-use Rattle.units.specs.Units.{units, spare, back, bytesIn, torn, lent, top}
+use Rattle.units.specs.Units.{units, spare, back, bytesIn, lent, top}
 use Rattle.units.proofs.Widths as widths
 
 -- Units come back from their bytes, and lent bytes from their units and the byte that is in none.

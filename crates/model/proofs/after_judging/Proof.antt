@@ -1,6 +1,6 @@
 use Rattle.units.specs.Units.{units}
 use denote.Ref.{now}
-use mathlib.Core.Path.{_≡_, ap}
+use mathlib.Core.Path.{_≡_, ap, refl, sym, _∙_}
 use mathlib.Core.List.{List}
 use Prim.Native.Nat.{ℕ}
 use Rattle.model_types.specs.declared.Decision.{Decision}
@@ -10,35 +10,20 @@ use Rattle.model_rules.specs.Cycles.{decidedAs}
 use Rattle.model_rules.specs.Inner.{decideJudged}
 use Rattle.model_rules.proofs.Passing.{shows}
 use Rattle.model.specs.Arrays.{seenOf}
-use Rattle.model.specs.Inner.{doneOf, arrayJudged}
+use Rattle.model.specs.Inner.{doneOf, arrayJudged, answerJudged}
 use borrow.Author.Needs.{needs}
-use native.Mathlib.Omega.{arith}
-use borrow.Author.Tests.{lt-ltb, le-ltb, le-leb, lt-leb, eq-eqb, ne-eqb}
-use mathlib.Core.Path.{refl, sym, _∙_}
-use Rattle.model.specs.Inner.{answerJudged}
 use Rattle.model.proofs.after_judging.Statement.{statement}
 use Rattle.model.proofs.after_judging.Tie as tie
-use Rattle.model.proofs.after_judging.Reads as reads
-use Rattle.model.proofs.after_judging.Lts as lts
-use Rattle.model.proofs.put.Reads as put-reads
-use Rattle.model.proofs.see.Reads as see-reads
-use Rattle.model.proofs.show.Reads as show-reads
-use Rattle.model_rules.proofs.asks_array.Reads as asks-array-reads
-use Rattle.model_rules.proofs.decide_judged.Reads as decide-judged-reads
 
--- src/lib.rt:174:8
 asks-array-requires : tie.Need-asks-array-requires
 asks-array-requires c κs = search needs
 
--- src/lib.rt:175:9
 show-requires : tie.Need-show-requires
 show-requires c κs = search needs
 
--- src/lib.rt:175:9
 same-length : tie.Need-same-length
 same-length c = search needs
 
--- src/lib.rt:175:9
 returns : tie.Need-returns
 unfolding answerJudged arrayJudged
 returns c =
@@ -51,23 +36,18 @@ returns c =
       (sym (ap (λ (x : Decision). doneOf (x .effect) (a .d .part) rs xs) e), refl),
     )
 
--- src/lib.rt:177:9
 decide-judged-requires : tie.Need-decide-judged-requires
 decide-judged-requires c κs = search needs
 
--- src/lib.rt:181:5
 put-requires : tie.Need-put-requires
 put-requires c κs = search needs
 
--- src/lib.rt:182:9
 see-requires : tie.Need-see-requires
 see-requires c κs = search needs
 
--- src/lib.rt:166:1
 same-length-2 : tie.Need-same-length-2
 same-length-2 c = search needs
 
--- src/lib.rt:166:1
 returns-2 : tie.Need-returns-2
 unfolding answerJudged arrayJudged
 returns-2 c =

@@ -1,112 +1,83 @@
 use Rattle.units.specs.Units.{units}
 use denote.Ref.{now}
 use Prim.Native.Nat.{ℕ, _<_}
-use mathlib.Core.Path.{subst}
+use mathlib.Core.Path.{subst, refl, sym, _∙_}
 use lib.ListN.{length}
 use Rattle.model_types.specs.declared.Effect.{Effect}
 use Rattle.model.specs.Inner.{Within}
 use borrow.Author.Needs.{needs}
-use native.Mathlib.Omega.{arith}
-use borrow.Author.Tests.{lt-ltb, le-ltb, le-leb, lt-leb, eq-eqb, ne-eqb}
-use mathlib.Core.Path.{refl, sym, _∙_}
 use Rattle.model.proofs.apply.Statement.{statement}
 use Rattle.model.proofs.apply.Tie as tie
-use Rattle.model.proofs.apply.Reads as reads
-use Rattle.model.proofs.apply.Lts as lts
-use Rattle.model.proofs.cut_erase.Reads as cut-erase-reads
-use Rattle.model.proofs.cut_program.Reads as cut-program-reads
-use Rattle.model.proofs.erase.Reads as erase-reads
-use Rattle.model.proofs.index.Reads as index-reads
-use Rattle.units.proofs.program_unit.Reads as program-unit-reads
 
 enum-told : tie.Need-enum-told
 enum-told c = search needs
 
--- src/lib.rt:90:25
 enum-known-effect : tie.Need-enum-known-effect
 enum-known-effect c = search needs
 
--- src/lib.rt:90:68
 index-requires : tie.Need-index-requires
 index-requires c κs = search needs
 
--- src/lib.rt:90:35
 program-unit-requires : tie.Need-program-unit-requires
 program-unit-requires c κs =
     let s = c .before .before .before .before .before .before .before in
     let a = s .args in
     subst (λ (m : ℕ). m < length (units (a .part .word) (now (a .array)))) (sym (c .index .ensures)) (subst (λ (e : Effect). Within e (a .part) (length (units (a .part .word) (now (a .array)))) (length (units (a .part .word) (now (a .residue))))) (c .before .before .before .effect .given .1) (s .pre))
 
--- src/lib.rt:91:23
 enum-known-effect-2 : tie.Need-enum-known-effect-2
 enum-known-effect-2 c = search needs
 
--- src/lib.rt:91:29
 erase-requires : tie.Need-erase-requires
 erase-requires c κs =
     let s = c .before .before .before .before .before .before in
     let a = s .args in
     subst (λ (e : Effect). Within e (a .part) (length (units (a .part .word) (now (a .array)))) (length (units (a .part .word) (now (a .residue))))) (c .before .before .effect2 .given .1) (s .pre)
 
--- src/lib.rt:92:28
 enum-known-effect-3 : tie.Need-enum-known-effect-3
 enum-known-effect-3 c = search needs
 
--- src/lib.rt:92:63
 index-requires-2 : tie.Need-index-requires-2
 index-requires-2 c κs = search needs
 
--- src/lib.rt:92:38
 cut-program-requires : tie.Need-cut-program-requires
 cut-program-requires c κs =
     let s = c .before .before .before .before .before .before .before in
     let a = s .args in
     subst (λ (m : ℕ). m < length (units (a .part .word) (now (a .array)))) (sym (c .index2 .ensures)) (subst (λ (e : Effect). Within e (a .part) (length (units (a .part .word) (now (a .array)))) (length (units (a .part .word) (now (a .residue))))) (c .before .before .before .effect3 .given .1) (s .pre) .0)
 
--- src/lib.rt:93:26
 enum-known-effect-4 : tie.Need-enum-known-effect-4
 enum-known-effect-4 c = search needs
 
--- src/lib.rt:93:32
 cut-erase-requires : tie.Need-cut-erase-requires
 cut-erase-requires c κs =
     let s = c .before .before .before .before .before .before in
     let a = s .args in
     subst (λ (e : Effect). Within e (a .part) (length (units (a .part .word) (now (a .array)))) (length (units (a .part .word) (now (a .residue))))) (c .before .before .effect4 .given .1) (s .pre)
 
--- src/lib.rt:81:1
 returns : tie.Need-returns
 returns c = (simp (c .enum-told .given .1), refl)
 
--- src/lib.rt:81:1
 same-length : tie.Need-same-length
 same-length c = search needs
 
--- src/lib.rt:81:1
 returns-2 : tie.Need-returns-2
 returns-2 c = (c .before .before .program-unit .ensures .0 ∙ simp (c .before .before .before .index .ensures, c .before .before .before .before .before .before .effect .given .1), c .before .before .program-unit .ensures .1)
 
--- src/lib.rt:81:1
 same-length-2 : tie.Need-same-length-2
 same-length-2 c = search needs
 
--- src/lib.rt:81:1
 returns-3 : tie.Need-returns-3
 returns-3 c = (c .before .before .erase .ensures .0 ∙ simp (c .before .before .before .before .before .effect2 .given .1), c .before .before .erase .ensures .1)
 
--- src/lib.rt:81:1
 same-length-3 : tie.Need-same-length-3
 same-length-3 c = search needs
 
--- src/lib.rt:81:1
 returns-4 : tie.Need-returns-4
 returns-4 c = (c .before .before .cut-program .ensures .0 ∙ simp (c .before .before .before .index2 .ensures, c .before .before .before .before .before .before .effect3 .given .1), c .before .before .cut-program .ensures .1)
 
--- src/lib.rt:81:1
 same-length-4 : tie.Need-same-length-4
 same-length-4 c = search needs
 
--- src/lib.rt:81:1
 returns-5 : tie.Need-returns-5
 returns-5 c = (c .before .before .cut-erase .ensures .0 ∙ simp (c .before .before .before .before .before .effect4 .given .1), c .before .before .cut-erase .ensures .1)
 

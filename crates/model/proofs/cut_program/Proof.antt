@@ -1,33 +1,22 @@
 use Rattle.units.specs.Units.{units}
 use denote.Ref.{now}
 use Prim.Native.Nat.{ℕ}
-use mathlib.Core.Path.{ap}
+use mathlib.Core.Path.{ap, _∙_}
 use lib.ListN.{getD, set}
 use lib.Bits.{bitAnd, bitOr}
 use borrow.Author.Needs.{needs}
-use native.Mathlib.Omega.{arith}
-use borrow.Author.Tests.{lt-ltb, le-ltb, le-leb, lt-leb, eq-eqb, ne-eqb}
-use mathlib.Core.Path.{refl, sym, _∙_}
 use Rattle.model.proofs.cut_program.Statement.{statement}
 use Rattle.model.proofs.cut_program.Tie as tie
-use Rattle.model.proofs.cut_program.Reads as reads
-use Rattle.model.proofs.cut_program.Lts as lts
-use Rattle.units.proofs.get_unit.Reads as get-unit-reads
-use Rattle.units.proofs.program_unit.Reads as program-unit-reads
 
--- src/lib.rt:49:9
 get-unit-requires : tie.Need-get-unit-requires
 get-unit-requires c κs = search needs
 
--- src/lib.rt:50:5
 program-unit-requires : tie.Need-program-unit-requires
 program-unit-requires c κs = search needs
 
--- src/lib.rt:42:1
 same-length : tie.Need-same-length
 same-length c = search needs
 
--- src/lib.rt:42:1
 returns : tie.Need-returns
 returns c =
     let a = c .before .before .before .before .before .before .before .args in

@@ -1,44 +1,26 @@
-use Rattle.units.specs.Units.{units}
 use denote.Ref.{now}
-use mathlib.Core.Path.{_≡_, ap}
+use mathlib.Core.Path.{_≡_, ap₂, _∙_}
 use Rattle.units.specs.Units.{unitsIn, lentIn}
 use Rattle.model_rules.specs.Cycles.{judgeOf}
 use Prim.Native.Nat.{ℕ}
 use lib.ListN.{length}
-use mathlib.Core.Path.{ap₂}
 use Rattle.model.proofs.Borders.{stopped-answer, stopped-bytes, passed-answer, passed-bytes}
 use borrow.Author.Needs.{needs}
-use native.Mathlib.Omega.{arith}
-use borrow.Author.Tests.{lt-ltb, le-ltb, le-leb, lt-leb, eq-eqb, ne-eqb}
-use mathlib.Core.Path.{refl, sym, _∙_}
-use Rattle.model.specs.Arrays.{answerOf}
 use Rattle.model.proofs.cycle.Statement.{statement}
 use Rattle.model.proofs.cycle.Tie as tie
-use Rattle.model.proofs.cycle.Reads as reads
-use Rattle.model.proofs.cycle.Lts as lts
-use Rattle.model.proofs.after_judging.Reads as after-judging-reads
-use Rattle.model.proofs.refused.Reads as refused-reads
-use Rattle.model_rules.proofs.judge.Reads as judge-reads
-use Rattle.units.proofs.lent_in.Reads as lent-in-reads
-use Rattle.units.proofs.units_in.Reads as units-in-reads
 
--- src/lib.rt:209:9
 lent-in-requires : tie.Need-lent-in-requires
 lent-in-requires c κs = search needs
 
--- src/lib.rt:210:9
 units-in-requires : tie.Need-units-in-requires
 units-in-requires c κs = search needs
 
--- src/lib.rt:205:9
 judge-requires : tie.Need-judge-requires
 judge-requires c κs = search needs
 
--- src/lib.rt:213:9
 refused-requires : tie.Need-refused-requires
 refused-requires c κs = search needs
 
--- src/lib.rt:213:9
 returns : tie.Need-returns
 returns c =
     let a = c .before .before .before .before .before .before .before .before .args in
@@ -49,15 +31,12 @@ returns c =
     judge .ensures ∙ ap₂ (λ (m n : ℕ). judgeOf (a .d) (a .s) (a .c) m n) (c .before .before .before .before .lent-in .ensures) (c .before .before .before .units-in .ensures) in
     (stopped-answer (a .d) (a .s) (a .c) xs rs (judge .result) j (c .before .if1 .taken) _ (c .refused .ensures), stopped-bytes (a .d) (a .s) (a .c) xs rs (judge .result) j (c .before .if1 .taken))
 
--- src/lib.rt:215:5
 after-judging-requires : tie.Need-after-judging-requires
 after-judging-requires c κs = search needs
 
--- src/lib.rt:199:1
 same-length : tie.Need-same-length
 same-length c = search needs
 
--- src/lib.rt:199:1
 returns-2 : tie.Need-returns-2
 returns-2 c =
     let a = c .before .before .before .before .before .before .before .before .before .before .before .args in

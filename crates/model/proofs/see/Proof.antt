@@ -1,51 +1,34 @@
 use borrow.Author.Needs.{needs}
-use native.Mathlib.Omega.{arith}
-use borrow.Author.Tests.{lt-ltb, le-ltb, le-leb, lt-leb, eq-eqb, ne-eqb}
-use mathlib.Core.Path.{refl, sym, _∙_}
 use Rattle.model.proofs.see.Statement.{statement}
 use Rattle.model.proofs.see.Tie as tie
-use Rattle.model.proofs.see.Reads as reads
-use Rattle.model.proofs.see.Lts as lts
-use Rattle.model.proofs.index.Reads as index-reads
-use Rattle.units.proofs.get_unit.Reads as get-unit-reads
 
--- src/lib.rt:132:25
 enum-told : tie.Need-enum-told
 enum-told c = search needs
 
--- src/lib.rt:133:22
 enum-known-reply : tie.Need-enum-known-reply
 enum-known-reply c = search needs
 
--- src/lib.rt:134:27
 enum-known-reply-2 : tie.Need-enum-known-reply-2
 enum-known-reply-2 c = search needs
 
--- src/lib.rt:134:73
 index-requires : tie.Need-index-requires
 index-requires c κs = search needs
 
--- src/lib.rt:134:44
 get-unit-requires : tie.Need-get-unit-requires
 get-unit-requires c κs = search needs
 
--- src/lib.rt:135:24
 enum-known-reply-3 : tie.Need-enum-known-reply-3
 enum-known-reply-3 c = search needs
 
--- src/lib.rt:128:1
 returns : tie.Need-returns
 returns c = search needs
 
--- src/lib.rt:128:1
 returns-2 : tie.Need-returns-2
 returns-2 c = simp (c .before .reply .given .1)
 
--- src/lib.rt:128:1
 returns-3 : tie.Need-returns-3
 returns-3 c = simp (c .get-unit .ensures .0, c .before .index .ensures, c .before .before .before .reply2 .given .1)
 
--- src/lib.rt:128:1
 returns-4 : tie.Need-returns-4
 returns-4 c = simp (c .before .reply3 .given .1)
 

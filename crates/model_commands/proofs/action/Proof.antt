@@ -1,90 +1,61 @@
 use borrow.Author.Needs.{needs}
-use native.Mathlib.Omega.{arith}
-use borrow.Author.Tests.{lt-ltb, le-ltb, le-leb, lt-leb, eq-eqb, ne-eqb}
-use mathlib.Core.Path.{refl, sym, _∙_}
 use Rattle.model_commands.proofs.action.Statement.{statement}
 use Rattle.model_commands.proofs.action.Tie as tie
-use Rattle.model_commands.proofs.action.Reads as reads
-use Rattle.model_commands.proofs.action.Lts as lts
-use Rattle.model_commands.proofs.after_erase.Reads as after-erase-reads
-use Rattle.model_commands.proofs.first_write.Reads as first-write-reads
-use Rattle.model_commands.proofs.while_erasing.Reads as while-erasing-reads
-use Rattle.model_commands.proofs.while_suspended.Reads as while-suspended-reads
-use Rattle.model_commands.proofs.while_suspending.Reads as while-suspending-reads
 
--- src/lib.rt:129:24
 enum-told : tie.Need-enum-told
 enum-told c = search needs
 
--- src/lib.rt:129:24
 first-write-requires : tie.Need-first-write-requires
 first-write-requires c κs = search needs
 
--- src/lib.rt:130:32
 enum-told-2 : tie.Need-enum-told-2
 enum-told-2 c = search needs
 
--- src/lib.rt:130:32
 after-erase-requires : tie.Need-after-erase-requires
 after-erase-requires c κs = search needs
 
--- src/lib.rt:131:31
 enum-told-3 : tie.Need-enum-told-3
 enum-told-3 c = search needs
 
--- src/lib.rt:132:34
 enum-told-4 : tie.Need-enum-told-4
 enum-told-4 c = search needs
 
--- src/lib.rt:133:27
 enum-told-5 : tie.Need-enum-told-5
 enum-told-5 c = search needs
 
--- src/lib.rt:133:27
 while-erasing-requires : tie.Need-while-erasing-requires
 while-erasing-requires c κs = search needs
 
--- src/lib.rt:134:33
 enum-told-6 : tie.Need-enum-told-6
 enum-told-6 c = search needs
 
--- src/lib.rt:134:33
 while-suspending-requires : tie.Need-while-suspending-requires
 while-suspending-requires c κs = search needs
 
--- src/lib.rt:135:29
 enum-told-7 : tie.Need-enum-told-7
 enum-told-7 c = search needs
 
--- src/lib.rt:135:29
 while-suspended-requires : tie.Need-while-suspended-requires
 while-suspended-requires c κs = search needs
 
--- src/lib.rt:125:1
 returns : tie.Need-returns
 returns c = simp (c .first-write .ensures, c .before .enum-told .given .1)
 
--- src/lib.rt:125:1
 returns-2 : tie.Need-returns-2
 returns-2 c = simp (c .after-erase .ensures, c .before .enum-told2 .given .1)
 
--- src/lib.rt:125:1
 returns-3 : tie.Need-returns-3
 returns-3 c = search needs
 
--- src/lib.rt:125:1
 returns-4 : tie.Need-returns-4
 returns-4 c = search needs
 
--- src/lib.rt:125:1
 returns-5 : tie.Need-returns-5
 returns-5 c = simp (c .while-erasing .ensures, c .before .enum-told5 .given .1)
 
--- src/lib.rt:125:1
 returns-6 : tie.Need-returns-6
 returns-6 c = simp (c .while-suspending .ensures, c .before .enum-told6 .given .1)
 
--- src/lib.rt:125:1
 returns-7 : tie.Need-returns-7
 returns-7 c = simp (c .while-suspended .ensures, c .before .enum-told7 .given .1)
 

@@ -1,53 +1,34 @@
 use borrow.Author.Needs.{needs}
-use native.Mathlib.Omega.{arith}
-use borrow.Author.Tests.{lt-ltb, le-ltb, le-leb, lt-leb, eq-eqb, ne-eqb}
-use mathlib.Core.Path.{refl, sym, _∙_}
 use Rattle.model_rules.proofs.read.Statement.{statement}
 use Rattle.model_rules.proofs.read.Tie as tie
-use Rattle.model_rules.proofs.read.Reads as reads
-use Rattle.model_rules.proofs.read.Lts as lts
-use Rattle.model_rules.proofs.given.Reads as given-reads
-use Rattle.model_rules.proofs.read_array.Reads as read-array-reads
-use Rattle.model_rules.proofs.read_identifier.Reads as read-identifier-reads
-use Rattle.model_rules.proofs.sixteen.Reads as sixteen-reads
 
--- src/lib.rt:236:24
 enum-told : tie.Need-enum-told
 enum-told c = search needs
 
--- src/lib.rt:236:24
 read-array-requires : tie.Need-read-array-requires
 read-array-requires c κs = search needs
 
--- src/lib.rt:237:44
 enum-told-2 : tie.Need-enum-told-2
 enum-told-2 c = search needs
 
--- src/lib.rt:237:44
 sixteen-requires : tie.Need-sixteen-requires
 sixteen-requires c κs = search needs
 
--- src/lib.rt:237:25
 given-requires : tie.Need-given-requires
 given-requires c κs = search needs
 
--- src/lib.rt:238:29
 enum-told-3 : tie.Need-enum-told-3
 enum-told-3 c = search needs
 
--- src/lib.rt:238:29
 read-identifier-requires : tie.Need-read-identifier-requires
 read-identifier-requires c κs = search needs
 
--- src/lib.rt:232:1
 returns : tie.Need-returns
 returns c = simp (c .read-array .ensures, c .before .enum-told .given .1)
 
--- src/lib.rt:232:1
 returns-2 : tie.Need-returns-2
 returns-2 c = simp (c .given .ensures, c .before .sixteen .ensures, c .before .before .enum-told2 .given .1)
 
--- src/lib.rt:232:1
 returns-3 : tie.Need-returns-3
 returns-3 c = simp (c .read-identifier .ensures, c .before .enum-told3 .given .1)
 

@@ -2,48 +2,34 @@ use denote.Ref.{now}
 use Rattle.units.proofs.Words.{get-law, get-past}
 use borrow.Author.Needs.{needs}
 use native.Mathlib.Omega.{arith}
-use borrow.Author.Tests.{lt-ltb, le-ltb, le-leb, lt-leb, eq-eqb, ne-eqb}
-use mathlib.Core.Path.{refl, sym, _∙_}
+use mathlib.Core.Path.{sym}
 use Rattle.units.proofs.get_word.Statement.{statement}
 use Rattle.units.proofs.get_word.Tie as tie
-use Rattle.units.proofs.get_word.Reads as reads
-use Rattle.units.proofs.get_word.Lts as lts
-use Rattle.units.proofs.first_byte.Reads as first-byte-reads
-use Rattle.units.proofs.wide.Reads as wide-reads
 
--- src/lib.rt:101:13
 first-byte-requires : tie.Need-first-byte-requires
 first-byte-requires c κs = search needs
 
--- src/lib.rt:103:23
 add-wide : tie.Need-add-wide
 add-wide c = search needs
 
--- src/lib.rt:103:21
 shared-slice-read-wide : tie.Need-shared-slice-read-wide
 shared-slice-read-wide c = search needs
 
--- src/lib.rt:103:16
 wide-requires : tie.Need-wide-requires
 wide-requires c κs = search needs
 
--- src/lib.rt:103:16
 mul-result : tie.Need-mul-result
 mul-result c = search needs
 
--- src/lib.rt:103:44
 shared-slice-read-wide-2 : tie.Need-shared-slice-read-wide-2
 shared-slice-read-wide-2 c = search needs
 
--- src/lib.rt:103:39
 wide-requires-2 : tie.Need-wide-requires-2
 wide-requires-2 c κs = search needs
 
--- src/lib.rt:103:16
 add-result : tie.Need-add-result
 add-result c = search needs
 
--- src/lib.rt:103:9
 returns : tie.Need-returns
 returns c =
     let b = c .before .before .before .before in
@@ -51,7 +37,6 @@ returns c =
     let h = b .before .if1 .taken in
     get-law (now (b .before .before .before .before .args .s)) (b .before .before .before .before .args .w .word) _ _ _ f (omega arith) (c .wide2 .ensures .0) (c .before .before .wide .ensures .0)
 
--- src/lib.rt:97:1
 returns-2 : tie.Need-returns-2
 returns-2 c = sym (get-past (now (c .before .before .before .args .s)) (c .before .before .before .args .w .word) (c .if1 .left))
 

@@ -1,51 +1,35 @@
 use Rattle.units.proofs.Spread.{laid-over}
 use borrow.Author.Needs.{needs}
-use native.Mathlib.Omega.{arith}
-use borrow.Author.Tests.{lt-ltb, le-ltb, le-leb, lt-leb, eq-eqb, ne-eqb}
-use mathlib.Core.Path.{refl, sym, _∙_}
 use Rattle.units.proofs.leave_part.Statement.{statement}
 use Rattle.units.proofs.leave_part.Tie as tie
-use Rattle.units.proofs.leave_part.Reads as reads
-use Rattle.units.proofs.leave_part.Lts as lts
-use Rattle.common.proofs.copy.Reads as copy-reads
 
--- src/lib.rt:214:13
 add-e : tie.Need-add-e
 add-e c = search needs
 
--- src/lib.rt:215:18
 sub-copy : tie.Need-sub-copy
 sub-copy c = search needs
 
--- src/lib.rt:215:18
 part-copy-start : tie.Need-part-copy-start
 part-copy-start c = search needs
 
--- src/lib.rt:215:18
 part-copy-end : tie.Need-part-copy-end
 part-copy-end c = search needs
 
--- src/lib.rt:215:32
 sub-copy-2 : tie.Need-sub-copy-2
 sub-copy-2 c = search needs
 
--- src/lib.rt:215:32
 part-copy-start-2 : tie.Need-part-copy-start-2
 part-copy-start-2 c = search needs
 
--- src/lib.rt:215:32
 part-copy-end-2 : tie.Need-part-copy-end-2
 part-copy-end-2 c = search needs
 
--- src/lib.rt:215:5
 copy-requires : tie.Need-copy-requires
 copy-requires c κs = search needs
 
--- src/lib.rt:210:1
 same-length : tie.Need-same-length
 same-length c = search needs
 
--- src/lib.rt:210:1
 returns : tie.Need-returns
 returns c =
     let b = c .before .before .before .before .before .before .before in

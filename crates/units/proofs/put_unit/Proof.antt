@@ -1,44 +1,29 @@
 use denote.Ref.{now}
 use Prim.Native.Nat.{ℕ}
-use mathlib.Core.Path.{ap}
+use mathlib.Core.Path.{ap, refl, _∙_}
 use lib.ListN.{set}
 use borrow.Author.Needs.{needs}
-use native.Mathlib.Omega.{arith}
-use borrow.Author.Tests.{lt-ltb, le-ltb, le-leb, lt-leb, eq-eqb, ne-eqb}
-use mathlib.Core.Path.{refl, sym, _∙_}
 use Rattle.units.proofs.put_unit.Statement.{statement}
 use Rattle.units.proofs.put_unit.Tie as tie
-use Rattle.units.proofs.put_unit.Reads as reads
-use Rattle.units.proofs.put_unit.Lts as lts
-use Rattle.units.proofs.low.Reads as low-reads
-use Rattle.units.proofs.put_byte.Reads as put-byte-reads
-use Rattle.units.proofs.put_word.Reads as put-word-reads
 
--- src/lib.rt:149:9
 put-word-requires : tie.Need-put-word-requires
 put-word-requires c κs = search needs
 
--- src/lib.rt:149:9
 same-length : tie.Need-same-length
 same-length c = search needs
 
--- src/lib.rt:149:9
 returns : tie.Need-returns
 returns c = simp (c .before .before .before .before .if1 .taken) (c .before .before .put-word .ensures)
 
--- src/lib.rt:151:21
 low-requires : tie.Need-low-requires
 low-requires c κs = search needs
 
--- src/lib.rt:151:5
 put-byte-requires : tie.Need-put-byte-requires
 put-byte-requires c κs = search needs
 
--- src/lib.rt:144:1
 same-length-2 : tie.Need-same-length-2
 same-length-2 c = search needs
 
--- src/lib.rt:144:1
 returns-2 : tie.Need-returns-2
 returns-2 c =
     let b = c .before .before .before .before .before in

@@ -1,14 +1,8 @@
-use borrow.Author.Needs.{needs}
-use native.Mathlib.Omega.{arith}
-use borrow.Author.Tests.{lt-ltb, le-ltb, le-leb, lt-leb, eq-eqb, ne-eqb}
-use mathlib.Core.Path.{refl, sym, _∙_}
+use mathlib.Core.Path.{refl}
 use Rattle.model_types.specs.Levels.{atFive}
 use Rattle.model_types.proofs.levels.at_five.Statement.{statement}
 use Rattle.model_types.proofs.levels.at_five.Tie as tie
-use Rattle.model_types.proofs.levels.at_five.Reads as reads
-use Rattle.model_types.proofs.levels.at_five.Lts as lts
 
--- src/levels.rt:31:1
 returns : tie.Need-returns
 unfolding atFive
 returns c = refl

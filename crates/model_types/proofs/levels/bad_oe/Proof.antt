@@ -1,38 +1,25 @@
 use borrow.Author.Needs.{needs}
-use native.Mathlib.Omega.{arith}
-use borrow.Author.Tests.{lt-ltb, le-ltb, le-leb, lt-leb, eq-eqb, ne-eqb}
-use mathlib.Core.Path.{refl, sym, _∙_}
 use Rattle.model_types.proofs.levels.bad_oe.Statement.{statement}
 use Rattle.model_types.proofs.levels.bad_oe.Tie as tie
-use Rattle.model_types.proofs.levels.bad_oe.Reads as reads
-use Rattle.model_types.proofs.levels.bad_oe.Lts as lts
-use Rattle.model_types.proofs.levels.most_oe.Reads as most-oe-reads
 
--- src/levels.rt:76:23
 enum-told : tie.Need-enum-told
 enum-told c = search needs
 
--- src/levels.rt:77:24
 enum-told-2 : tie.Need-enum-told-2
 enum-told-2 c = search needs
 
--- src/levels.rt:77:24
 most-oe-requires : tie.Need-most-oe-requires
 most-oe-requires c κs = search needs
 
--- src/levels.rt:78:23
 enum-told-3 : tie.Need-enum-told-3
 enum-told-3 c = search needs
 
--- src/levels.rt:72:1
 returns : tie.Need-returns
 returns c = simp (c .enum-told .given .1)
 
--- src/levels.rt:72:1
 returns-2 : tie.Need-returns-2
 returns-2 c = simp (c .most-oe .ensures, c .before .enum-told2 .given .1)
 
--- src/levels.rt:72:1
 returns-3 : tie.Need-returns-3
 returns-3 c = simp (c .enum-told3 .given .1)
 
