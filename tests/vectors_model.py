@@ -606,7 +606,7 @@ def order(b):
     b.write(0x4000, 0x00, "RP# low: 6, the address is not tested", rp=0)
     b.idle("idle: 6", vpp=0, address=0x4000)
     b.write(0x0000, 0x00, "no cut: no residue is needed")
-    b.use(5, 2, 3, array=0, residue=0)
+    b.use(9, 2, 3, array=0, residue=0)
     b.put("A", 0x00, "F")
     b.read(MOST, "1 before 2, 3, 4 and 5", rp=9)
     b.use(3, 2, 3, array=0, residue=0)
@@ -885,7 +885,7 @@ def devices(b):
     b.group("devs", "devices, busy times and lengths")
     new_bench(b)
     b.put("A", 0x80, "F")
-    for number in (0, 5, 255):
+    for number in (0, 9, 255):
         b.use(number, 2, 3)
         b.write(0, 0xFF, f"device {number}")
         b.idle("with RP# low", rp=0)

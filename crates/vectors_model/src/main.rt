@@ -38,10 +38,14 @@ fn cycle_of(row: &[u8], op: u8) -> Cycle {
     let byte = vectors_text::byte_at(row, 16, 30, 2);
     Cycle {
         kind: kind,
-        pins: Pins { rp: rp, vpp: vpp },
+        pins: Pins {
+            rp: rp,
+            vpp: vpp,
+            wp: 0,
+        },
         oe: oe,
         address: address,
-        data: byte,
+        data: byte as u16,
     }
 }
 
@@ -50,7 +54,10 @@ fn bare() -> Bench {
     let state = model::fresh();
     Bench {
         device: Device {
-            part: Part { number: 0 },
+            part: Part {
+                number: 0,
+                word: false,
+            },
             program: 0,
             erase: 0,
             suspend: 0,
@@ -118,7 +125,7 @@ fn print_seen(seen: Seen) {
         }
         Seen::Data(b) => {
             io::write_all(1, b"D ");
-            print_byte(b);
+            print_byte(units::low(b));
         }
         Seen::Refused(n) => {
             let mut text = [0u8; 2];
@@ -138,7 +145,7 @@ fn print_state(s: State) {
     print_byte(s.status);
     io::write_all(1, &text);
     if let Phase::Programming(b) = phase {
-        print_byte(b);
+        print_byte(units::low(b));
         return;
     }
     if let Phase::Suspending(n) = phase {

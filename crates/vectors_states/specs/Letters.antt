@@ -1,5 +1,6 @@
 -- Modes and phases as letters, and a row's state and device. Assumes nothing.
 use Prim.Native.Nat.{ℕ, _%_}
+use mathlib.Core.Bool.{false}
 use mathlib.Core.List.{List}
 use lib.Dec.{eqb}
 use lib.ListN.{getD}
@@ -62,7 +63,7 @@ stateAt row = record {
 -- the device that a row tells
 unfoldable pub deviceAt : List ℕ → Device
 deviceAt row = record {
-  part = record { number = numberAt row 10 2 3 % 256 };
+  part = record { number = numberAt row 10 2 3 % 256; word = false };
   program = numberAt row 10 6 5 % 65536;
   erase = numberAt row 10 12 5 % 65536;
   suspend = numberAt row 10 18 3 % 256;

@@ -21,6 +21,13 @@ pub fn mode_by(letter: u8) -> Mode
     Mode::Identifier
 }
 
+// A byte as 16 bits.
+fn sixteen(x: u8) -> u16
+    ensures { λ r. ⌜ r ≡ x ⌝ }
+{
+    x as u16
+}
+
 // The phase that a letter stands for, with a program's byte or the cycles that a suspend has to go; any other letter for a suspended
 // erase.
 pub fn phase_by(letter: u8, byte: u8) -> Phase
@@ -36,7 +43,7 @@ pub fn phase_by(letter: u8, byte: u8) -> Phase
         return Phase::DataAwaited;
     }
     if letter == b'P' {
-        return Phase::Programming(byte);
+        return Phase::Programming(sixteen(byte));
     }
     if letter == b'E' {
         return Phase::Erasing;
@@ -99,7 +106,10 @@ pub fn device_at(row: &[u8]) -> Device
     let erase = vectors_text::half_at(row, 10, 12, 5);
     let suspend = vectors_text::byte_at(row, 10, 18, 3);
     Device {
-        part: Part { number: number },
+        part: Part {
+            number: number,
+            word: false,
+        },
         program: program,
         erase: erase,
         suspend: suspend,
