@@ -1,13 +1,13 @@
 -- Between lent bytes and units: what a cycle on units says of the bytes. Assumes nothing.
 use mathlib.Core.Path.{_≡_, refl, sym, ap, ap₂, subst, _∙_}
-use mathlib.Core.Bool.{Bool, true, false, not}
+use mathlib.Core.Bool.{Bool, true, false, _&&_, _||_, not}
 use mathlib.Core.List.{List, [], _∷_}
 use mathlib.Core.Logic.{_↔_}
-use Prim.Native.Nat.{ℕ, _*_}
+use Prim.Native.Nat.{ℕ, _*_, _/_}
 use native.Mathlib.Omega.{arith}
 use lib.ListN.{length}
-use lib.Dec.{eqb}
-use borrow.Author.Tests.{eqb-true, not-false}
+use lib.Dec.{eqb, ltb}
+use borrow.Author.Tests.{eqb-true, not-false, lt-ltb, le-ltb, ltb-true, ltb-false}
 use Rattle.common.specs.Lists.{Bytes}
 use Rattle.common.proofs.Choice.{if-true, if-false, unlike}
 use Rattle.common.proofs.Numbers.{given-no-row, no-head, no-tail}
@@ -17,11 +17,13 @@ use Rattle.device.specs.declared.Part.{Part}
 use Rattle.device.specs.declared.Device.{Device}
 use Rattle.device.specs.Parts.{sizeOf}
 use Rattle.device.proofs.Place.{size-some}
+use Rattle.model_types.specs.Levels.{rpLow, vppLow}
+use Rattle.model_operation.specs.Settling.{residueFor}
 use Rattle.model_types.specs.declared.State.{State}
 use Rattle.model_types.specs.declared.Cycle.{Cycle}
 use Rattle.model_types.specs.declared.Decision.{Decision}
 use Rattle.model_types.specs.declared.Effect.{Effect}
-use Rattle.model_rules.specs.Cycles.{early, judgeOf, refusedBy, decideOf}
+use Rattle.model_rules.specs.Cycles.{shortResidue, early, judgeOf, refusedBy, decideOf}
 use Rattle.model_rules.proofs.Passing.{stops}
 use Rattle.model.specs.declared.Seen.the-variants.{Refused}
 use Rattle.model.specs.declared.Answer.{Answer}
@@ -65,6 +67,21 @@ module _ (d : Device) (xs : List ℕ) where
     λ e. let t = sized-whole e in whole w xs t ∙ ap (λ (us : List ℕ). bytesIn w (length us)) (sym (lent-even w xs t)) ∙ ap (bytesIn w) e,
     λ e. lent-length w xs ∙ ap (lentIn w) e ∙ lent-in-bytes w (sizeOf (d .part)),
   )
+
+-- a residue too short in units is too short in bytes
+short-bytes : (w : Bool) (n k : ℕ) → ltb (unitsIn w n) k ≡ ltb n (bytesIn w k)
+short-bytes false n k = refl
+short-bytes true n k = go (ltb (n / 2) k) refl
+  where
+    go : (t : Bool) → ltb (n / 2) k ≡ t → ltb (n / 2) k ≡ ltb n (2 * k)
+    go true e = e ∙ sym (lt-ltb n (2 * k) (omega (arith, ltb-true (n / 2) k e)))
+    go false e = e ∙ sym (le-ltb n (2 * k) (omega (arith, ltb-false (n / 2) k e)))
+
+pub six-counts-bytes : (part : Part) (s : State) (c : Cycle) (n : ℕ)
+    → shortResidue part s c (unitsIn (part .word) n) ≡ ((rpLow (c .pins) || vppLow part (c .pins)) && ltb n (bytesIn (part .word) (residueFor (s .phase) part (s .address))))
+unfolding shortResidue
+six-counts-bytes part s c n =
+    ap (λ (t : Bool). (rpLow (c .pins) || vppLow part (c .pins)) && t) (short-bytes (part .word) n (residueFor (s .phase) part (s .address)))
 
 -- an effect that finds its units among so many bytes
 module _ (e : Effect) (part : Part) (xs rs : List ℕ) (n r : ℕ) (en : n ≡ unitsIn (part .word) (length xs)) (er : r ≡ unitsIn (part .word) (length rs)) where

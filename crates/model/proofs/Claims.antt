@@ -1,13 +1,14 @@
 -- What is claimed of the bench model, in one place. Assumes nothing.
 use mathlib.Core.Path.{_≡_}
-use mathlib.Core.Bool.{true, false}
+use mathlib.Core.Bool.{true, false, _&&_, _||_}
 use mathlib.Core.List.{List, _∷_}
 use mathlib.Core.Logic.{_↔_}
 use Prim.Native.Nat.{ℕ, _+_, _/_, _%_, _≤_, _<_}
 use lib.ListN.{length, take, replicate}
 use lib.Bits.{bitOr}
+use lib.Dec.{ltb}
 use Rattle.common.specs.Lists.{overlaid, Bytes}
-use Rattle.units.specs.Units.{pairs, units, back, torn, lent, bytesIn}
+use Rattle.units.specs.Units.{pairs, units, back, unitsIn, bytesIn, torn, lent}
 use Rattle.common.specs.Numbers.{Foremost, NoRow}
 use Rattle.device.specs.declared.Device.{Device}
 use Rattle.device.specs.declared.Part.{Part}
@@ -18,10 +19,10 @@ use Rattle.model_types.specs.declared.Cycle.{Cycle}
 use Rattle.model_types.specs.declared.Kind.the-variants.{Read}
 use Rattle.model_types.specs.declared.Effect.{Effect}
 use Rattle.model_types.specs.declared.Effect.the-variants.{Nothing, Program, CutProgram}
-use Rattle.model_types.specs.Levels.{rpLow}
+use Rattle.model_types.specs.Levels.{rpLow, vppLow}
 use Rattle.model_types.specs.States.{improper, freshState}
-use Rattle.model_operation.specs.Settling.{settleOf}
-use Rattle.model_rules.specs.Cycles.{tableOf, numberOf, judgeOf, decideOf}
+use Rattle.model_operation.specs.Settling.{residueFor, settleOf}
+use Rattle.model_rules.specs.Cycles.{shortResidue, tableOf, numberOf, judgeOf, decideOf}
 use Rattle.model_rules.proofs.Facts.{proper-parts, parts-proper}
 use Rattle.model.specs.declared.Seen.the-variants.{Data, Refused}
 use Rattle.model.specs.Arrays.{erased, residual, arrayOf, Accepted, answerOf, arrayAfter, bytesAfter}
@@ -139,6 +140,12 @@ status-is-byte d s p = status-byte (s .phase) (s .status) (proper-parts d s p .s
 -- Refusal 2 counts bytes: the lent array has as many units as the device exactly where its bytes are those of that many units.
 pub two-counts-bytes : (d : Device) (array : List ℕ) → (length (lent (d .part .word) array) ≡ sizeOf (d .part)) ↔ (length array ≡ bytesIn (d .part .word) (sizeOf (d .part)))
 two-counts-bytes = borders.two-counts-bytes
+
+-- So does refusal 6: a cut needs the bytes of a unit for a program, two for a word, and those of the block for an erase.
+pub six-counts-bytes : (part : Part) (s : State) (c : Cycle) (residue : ℕ)
+    → shortResidue part s c (unitsIn (part .word) residue)
+    ≡ ((rpLow (c .pins) || vppLow part (c .pins)) && ltb residue (bytesIn (part .word) (residueFor (s .phase) part (s .address))))
+six-counts-bytes = borders.six-counts-bytes
 
 -- Begun: an accepted cycle begins what it starts ..
 pub begun-accepted : (d : Device) (s : State) (c : Cycle) (n r : ℕ) → numberOf d s c n r ≡ 0 → begunBy d s c n r ≡ startsOf (d .part) s c
