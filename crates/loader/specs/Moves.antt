@@ -1,10 +1,11 @@
--- The loader's moves: the record after a byte. Assumes nothing.
-use mathlib.Core.Bool.{Bool, _&&_}
+-- The loader's moves: the record after a read's data. What is wanted and scratch are lists of units. Assumes nothing.
+use mathlib.Core.Bool.{Bool, false, _&&_}
 use mathlib.Core.List.{List}
 use Prim.Native.Nat.{ℕ, _+_, _-_, _/_, _%_}
 use lib.ListN.{length, getD}
 use lib.Dec.{eqb, ltb, leb}
 use Rattle.common.specs.Choice.{if_then_else_}
+use Rattle.units.specs.Units.{carried}
 use Rattle.loader.specs.declared.Stage.{Stage}
 use Rattle.loader.specs.declared.Stage.the-variants.{Clearing, Opening, Reading, EraseAsking, EraseConfirming, EraseWaiting, ProgramAsking, ProgramSending, ProgramWaiting, Closing, Verifying, Ended}
 use Rattle.loader.specs.declared.Loader.{Loader}
@@ -12,11 +13,20 @@ use Rattle.loader.specs.Walks.{risesIn, diffFrom}
 
 -- the record at another stage, place and count of polls
 abbrev pub movedTo : Loader → Stage → ℕ → ℕ → Loader
-movedTo l stage place polls = record { part = l .part; pins = l .pins; block = l .block; stage = stage; place = place; polls = polls; verify = l .verify }
+movedTo l stage place polls = record { part = l .part; pins = l .pins; block = l .block; stage = stage; place = place; polls = polls; verify = l .verify; high = false }
 
 -- the end by a number, at the record's place
 abbrev pub endedBy : Loader → ℕ → Loader
 endedBy l n = movedTo l (Ended n) (l .place) 0
+
+-- the end by 25: of a word, the byte that differs is the high one where the low bytes are the same
+abbrev pub endedApart : Loader → ℕ → ℕ → Loader
+endedApart l v wanted =
+    record { part = l .part; pins = l .pins; block = l .block; stage = Ended 25; place = l .place; polls = 0; verify = l .verify; high = l .part .word && eqb (v % 256) (wanted % 256) }
+
+-- a status is in the low 8 bits of what is read
+abbrev pub statusIn : ℕ → ℕ
+statusIn v = v % 256
 
 -- SR.7 of a status
 abbrev pub isReady : ℕ → Bool
@@ -56,7 +66,7 @@ programFault sr =
 abbrev pub loadedStage : Bool → Stage
 loadedStage verify = if verify then Closing else Ended 0
 
--- on to the first differing byte from place i on, or to what follows the last program
+-- on to the first differing unit from place i on, or to what follows the last program
 unfoldable pub onward : Loader → ℕ → List ℕ → List ℕ → Loader
 onward l i w sc = if ltb (diffFrom i w sc) (length w) then movedTo l ProgramAsking (diffFrom i w sc) 0 else movedTo l (loadedStage (l .verify)) 0 0
 
@@ -64,7 +74,7 @@ onward l i w sc = if ltb (diffFrom i w sc) (length w) then movedTo l ProgramAski
 unfoldable pub afterReads : Loader → List ℕ → List ℕ → Loader
 afterReads l w sc = if risesIn w sc then movedTo l EraseAsking 0 0 else onward l 0 w sc
 
--- one byte of the first reads is in: the next, or what follows them
+-- one unit of the first reads is in: the next, or what follows them
 unfoldable pub afterRead : Loader → List ℕ → List ℕ → Loader
 afterRead l w sc = if ltb (l .place) (length w - 1) then movedTo l Reading (l .place + 1) 0 else afterReads l w sc
 
@@ -85,25 +95,27 @@ unfoldable pub programPolled : Loader → ℕ → List ℕ → List ℕ → Load
 programPolled l b w sc =
     if isReady b then (if eqb (programFault b) 0 then onward l (past (l .place) (length w)) w sc else endedBy l (programFault b)) else pollMore l ProgramWaiting
 
--- one byte of the verify is in: 25 where it differs, else the next, or the end
+-- one unit of the verify is in: 25 where it differs, else the next, or the end
 unfoldable pub verifyMore : Loader → ℕ → List ℕ → Loader
-verifyMore l b w =
-    if eqb b (getD w (l .place) 0) then (if ltb (l .place) (length w - 1) then movedTo l Verifying (l .place + 1) 0 else endedBy l 0) else endedBy l 25
+verifyMore l v w =
+    if eqb (carried (l .part .word) v) (getD w (l .place) 0)
+    then (if ltb (l .place) (length w - 1) then movedTo l Verifying (l .place + 1) 0 else endedBy l 0)
+    else endedApart l v (getD w (l .place) 0)
 
--- the record after a byte, by what is wanted and the scratch that the byte leaves
+-- the record after a read's data, by what is wanted and the scratch that they leave
 abbrev pub nextIn : Stage → Loader → ℕ → List ℕ → List ℕ → Loader
-nextIn Clearing l b w sc = movedTo l Opening 0 0
-nextIn Opening l b w sc = movedTo l Reading 0 0
-nextIn Reading l b w sc = afterRead l w sc
-nextIn EraseAsking l b w sc = movedTo l EraseConfirming 0 0
-nextIn EraseConfirming l b w sc = movedTo l EraseWaiting 0 0
-nextIn EraseWaiting l b w sc = erasePolled l b w sc
-nextIn ProgramAsking l b w sc = movedTo l ProgramSending (l .place) 0
-nextIn ProgramSending l b w sc = movedTo l ProgramWaiting (l .place) 0
-nextIn ProgramWaiting l b w sc = programPolled l b w sc
-nextIn Closing l b w sc = movedTo l Verifying 0 0
-nextIn Verifying l b w sc = verifyMore l b w
-nextIn (Ended n) l b w sc = l
+nextIn Clearing l v w sc = movedTo l Opening 0 0
+nextIn Opening l v w sc = movedTo l Reading 0 0
+nextIn Reading l v w sc = afterRead l w sc
+nextIn EraseAsking l v w sc = movedTo l EraseConfirming 0 0
+nextIn EraseConfirming l v w sc = movedTo l EraseWaiting 0 0
+nextIn EraseWaiting l v w sc = erasePolled l (statusIn v) w sc
+nextIn ProgramAsking l v w sc = movedTo l ProgramSending (l .place) 0
+nextIn ProgramSending l v w sc = movedTo l ProgramWaiting (l .place) 0
+nextIn ProgramWaiting l v w sc = programPolled l (statusIn v) w sc
+nextIn Closing l v w sc = movedTo l Verifying 0 0
+nextIn Verifying l v w sc = verifyMore l v w
+nextIn (Ended n) l v w sc = l
 
 abbrev pub nextOf : Loader → ℕ → List ℕ → List ℕ → Loader
-nextOf l b w sc = nextIn (l .stage) l b w sc
+nextOf l v w sc = nextIn (l .stage) l v w sc

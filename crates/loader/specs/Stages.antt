@@ -15,14 +15,14 @@ givesCycle kind here wanted command = record { ended = false; end = 255; kind = 
 abbrev pub commands : ℕ → StageIs
 commands command = givesCycle Write false false command
 
--- 40H, and then the wanted byte, to the byte at the record's place
+-- 40H, and then the wanted unit, to the unit at the record's place
 abbrev pub programs : StageIs
 programs = givesCycle Write true false 0x40
 
 abbrev pub sends : StageIs
 sends = givesCycle Write true true 0
 
--- a read of the byte at the record's place, or of the block's first address
+-- a read of the unit at the record's place, or of the block's first address
 abbrev pub readsHere : StageIs
 readsHere = givesCycle Read true false 0
 
@@ -33,7 +33,7 @@ readsFirst = givesCycle Read false false 0
 abbrev pub endsBy : ℕ → StageIs
 endsBy n = record { ended = true; end = n; kind = Idle; here = false; wanted = false; command = 0 }
 
--- the one place that says what each stage is: commands and an erase's polls go to the block's first address, all about one byte to that byte
+-- the one place that says what each stage is: commands and an erase's polls go to the block's first address, all about one unit to that unit
 abbrev pub stageIs : Stage → StageIs
 stageIs Clearing = commands 0x50
 stageIs Opening = commands 0xFF

@@ -25,8 +25,8 @@ pub enum Stage {
 }
 
 // What a stage is. Whether it is the end of a load, and by which number (before the end there is none, and 255 stands for that). The
-// cycle that is out: its kind; whether it goes to the byte at the record's place or to the block's first address; and whether it
-// carries that place's wanted byte or `command`.
+// cycle that is out: its kind; whether it goes to the unit at the record's place or to the block's first address; and whether it
+// carries that place's wanted unit or `command`.
 pub struct StageIs {
     pub ended: bool,
     pub end: u8,
@@ -36,8 +36,9 @@ pub struct StageIs {
     pub command: u8,
 }
 
-// The loader's record: the part, the block and the levels it works with, the cycle that is out, the place in the block, the
-// polls of the operation that is waited for, and whether the verify follows the load.
+// The loader's record: the part, the block and the levels it works with, the cycle that is out, the place in the block, counted in
+// units, the polls of the operation that is waited for, whether the verify follows the load, and, where it ended by 25, whether the
+// byte that differs is the high one of its word.
 pub struct Loader {
     pub part: Part,
     pub pins: Pins,
@@ -46,9 +47,10 @@ pub struct Loader {
     pub place: usize,
     pub polls: u32,
     pub verify: bool,
+    pub high: bool,
 }
 
-// What a step answers: the next cycle, the end with its number and, for 25, its array address, or a refusal.
+// What a step answers: the next cycle, the end with its number and, for 25, the array address of the byte that differs, or a refusal.
 pub enum Turn {
     Out(Cycle),
     Over(u8, u32),

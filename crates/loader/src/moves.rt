@@ -1,15 +1,17 @@
-// The loader's moves: the record after a byte.
+// The loader's moves: the record after a read's data.
 use crate::Loader;
 use crate::Stage;
 use crate::walk::diff_from;
 use crate::walk::rises_in;
+use crate::walk::units_of;
 use model_types::states::SR3;
 use model_types::states::SR4;
 use model_types::states::SR5;
 use model_types::states::SR7;
 ghost use mathlib.Core.Path.{_≡_};
 ghost use Prim.Native.Nat.{_-_};
-ghost use Rattle.loader.specs.Moves.{movedTo, endedBy, isReady, sr3, sr4, sr5, bothErrors, eraseFault, programFault, loadedStage, onward, afterReads, afterRead, pollMore, erasePolled, past, programPolled, verifyMore, nextIn};
+ghost use Rattle.units.specs.Units.{units};
+ghost use Rattle.loader.specs.Moves.{movedTo, endedBy, endedApart, isReady, sr3, sr4, sr5, bothErrors, eraseFault, programFault, loadedStage, onward, afterReads, afterRead, pollMore, erasePolled, past, programPolled, verifyMore, nextIn};
 
 // The record at another stage, place and count of polls.
 pub fn moved(l: Loader, stage: Stage, place: usize, polls: u32) -> Loader
@@ -26,6 +28,7 @@ pub fn moved(l: Loader, stage: Stage, place: usize, polls: u32) -> Loader
         place: place,
         polls: polls,
         verify: verify,
+        high: false,
     }
 }
 
@@ -105,12 +108,14 @@ fn loaded_stage(verify: bool) -> Stage
     Stage::Ended(0)
 }
 
-// On to the first differing byte from `from` on, or to what follows the last program.
+// On to the first differing unit from `from` on, or to what follows the last program.
 fn onward(l: Loader, from: usize, wanted: &[u8], scratch: &[u8]) -> Loader
-    ensures { λ r. ⌜ r ≡ onward l from (now (wanted .entry)) (now (scratch .entry)) ⌝ }
+    ensures { λ r. ⌜ r ≡ onward l from (units (l .part .word) (now (wanted .entry))) (units (l .part .word) (now (scratch .entry))) ⌝ }
 {
-    let i = diff_from(from, wanted, scratch);
-    if i < wanted.len() {
+    let part = l.part;
+    let word = part.word;
+    let i = diff_from(word, from, wanted, scratch);
+    if i < units_of(word, wanted) {
         return moved(l, Stage::ProgramAsking, i, 0);
     }
     let verify = l.verify;
@@ -119,15 +124,17 @@ fn onward(l: Loader, from: usize, wanted: &[u8], scratch: &[u8]) -> Loader
 }
 
 fn after_reads(l: Loader, wanted: &[u8], scratch: &[u8]) -> Loader
-    ensures { λ r. ⌜ r ≡ afterReads l (now (wanted .entry)) (now (scratch .entry)) ⌝ }
+    ensures { λ r. ⌜ r ≡ afterReads l (units (l .part .word) (now (wanted .entry))) (units (l .part .word) (now (scratch .entry))) ⌝ }
 {
-    if rises_in(wanted, scratch) {
+    let part = l.part;
+    let word = part.word;
+    if rises_in(word, wanted, scratch) {
         return moved(l, Stage::EraseAsking, 0, 0);
     }
     onward(l, 0, wanted, scratch)
 }
 
-// The last place of n bytes.
+// The last place of n units.
 fn last(n: usize) -> usize
     ensures { λ r. ⌜ r ≡ n - 1 ⌝ }
 {
@@ -137,11 +144,13 @@ fn last(n: usize) -> usize
     n - 1
 }
 
-// A byte of the first reads is in.
+// A unit of the first reads is in.
 pub fn read_more(l: Loader, wanted: &[u8], scratch: &[u8]) -> Loader
-    ensures { λ r. ⌜ r ≡ afterRead l (now (wanted .entry)) (now (scratch .entry)) ⌝ }
+    ensures { λ r. ⌜ r ≡ afterRead l (units (l .part .word) (now (wanted .entry))) (units (l .part .word) (now (scratch .entry))) ⌝ }
 {
-    let end = last(wanted.len());
+    let part = l.part;
+    let word = part.word;
+    let end = last(units_of(word, wanted));
     if l.place < end {
         return moved(l, Stage::Reading, l.place + 1, 0);
     }
@@ -159,7 +168,7 @@ fn poll_more(l: Loader, stage: Stage) -> Loader
 
 // A poll of the erase is in.
 pub fn erase_polled(l: Loader, b: u8, wanted: &[u8], scratch: &[u8]) -> Loader
-    ensures { λ r. ⌜ r ≡ erasePolled l b (now (wanted .entry)) (now (scratch .entry)) ⌝ }
+    ensures { λ r. ⌜ r ≡ erasePolled l b (units (l .part .word) (now (wanted .entry))) (units (l .part .word) (now (scratch .entry))) ⌝ }
 {
     if is_ready(b) {
         let n = erase_fault(b);
@@ -182,35 +191,60 @@ fn past(p: usize, n: usize) -> usize
 
 // A poll of a program is in.
 pub fn program_polled(l: Loader, b: u8, wanted: &[u8], scratch: &[u8]) -> Loader
-    ensures { λ r. ⌜ r ≡ programPolled l b (now (wanted .entry)) (now (scratch .entry)) ⌝ }
+    ensures { λ r. ⌜ r ≡ programPolled l b (units (l .part .word) (now (wanted .entry))) (units (l .part .word) (now (scratch .entry))) ⌝ }
 {
+    let part = l.part;
+    let word = part.word;
     if is_ready(b) {
         let n = program_fault(b);
         if n == 0 {
-            return onward(l, past(l.place, wanted.len()), wanted, scratch);
+            return onward(l, past(l.place, units_of(word, wanted)), wanted, scratch);
         }
         return ended_by(l, n);
     }
     poll_more(l, Stage::ProgramWaiting)
 }
 
-// A byte of the verify is in.
-pub fn verify_more(l: Loader, b: u8, wanted: &[u8]) -> Loader
-    ensures { λ r. ⌜ r ≡ verifyMore l b (now (wanted .entry)) ⌝ }
+// The end by 25. Where only the high bytes of a word differ, the record says so.
+fn ended_apart(l: Loader, v: u16, wanted: u16) -> Loader
+    ensures { λ r. ⌜ r ≡ endedApart l v wanted ⌝ }
 {
-    let end = last(wanted.len());
-    if b == common::nth(wanted, l.place) {
+    let part = l.part;
+    let pins = l.pins;
+    let verify = l.verify;
+    let word = part.word;
+    Loader {
+        part: part,
+        pins: pins,
+        block: l.block,
+        stage: Stage::Ended(25),
+        place: l.place,
+        polls: 0,
+        verify: verify,
+        high: word & (v % 256 == wanted % 256),
+    }
+}
+
+// A unit of the verify is in.
+pub fn verify_more(l: Loader, v: u16, wanted: &[u8]) -> Loader
+    ensures { λ r. ⌜ r ≡ verifyMore l v (units (l .part .word) (now (wanted .entry))) ⌝ }
+{
+    let part = l.part;
+    let word = part.word;
+    let end = last(units_of(word, wanted));
+    let want = units::get_unit(word, wanted, l.place);
+    if units::carry(word, v) == want {
         if l.place < end {
             return moved(l, Stage::Verifying, l.place + 1, 0);
         }
         return ended_by(l, 0);
     }
-    ended_by(l, 25)
+    ended_apart(l, v, want)
 }
 
-// The record after a byte.
-pub fn next(stage: Stage, l: Loader, b: u8, wanted: &[u8], scratch: &[u8]) -> Loader
-    ensures { λ r. ⌜ r ≡ nextIn stage l b (now (wanted .entry)) (now (scratch .entry)) ⌝ }
+// The record after a read's data. A status is in their low 8 bits.
+pub fn next(stage: Stage, l: Loader, v: u16, wanted: &[u8], scratch: &[u8]) -> Loader
+    ensures { λ r. ⌜ r ≡ nextIn stage l v (units (l .part .word) (now (wanted .entry))) (units (l .part .word) (now (scratch .entry))) ⌝ }
 {
     match stage {
         Stage::Clearing => moved(l, Stage::Opening, 0, 0),
@@ -218,12 +252,12 @@ pub fn next(stage: Stage, l: Loader, b: u8, wanted: &[u8], scratch: &[u8]) -> Lo
         Stage::Reading => read_more(l, wanted, scratch),
         Stage::EraseAsking => moved(l, Stage::EraseConfirming, 0, 0),
         Stage::EraseConfirming => moved(l, Stage::EraseWaiting, 0, 0),
-        Stage::EraseWaiting => erase_polled(l, b, wanted, scratch),
+        Stage::EraseWaiting => erase_polled(l, units::low(v), wanted, scratch),
         Stage::ProgramAsking => moved(l, Stage::ProgramSending, l.place, 0),
         Stage::ProgramSending => moved(l, Stage::ProgramWaiting, l.place, 0),
-        Stage::ProgramWaiting => program_polled(l, b, wanted, scratch),
+        Stage::ProgramWaiting => program_polled(l, units::low(v), wanted, scratch),
         Stage::Closing => moved(l, Stage::Verifying, 0, 0),
-        Stage::Verifying => verify_more(l, b, wanted),
+        Stage::Verifying => verify_more(l, v, wanted),
         Stage::Ended(_) => l,
     }
 }

@@ -1,21 +1,34 @@
-// Walks over what is wanted and what the block held.
+// Walks over what is wanted and what the block held, unit by unit.
 ghost use mathlib.Core.Path.{_≡_};
+ghost use lib.ListN.{length};
+ghost use Rattle.units.specs.Units.{units};
 ghost use Rattle.loader.specs.Walks.{mustRise, risesIn, diffFrom};
 
-// Some bit is 1 in the wanted byte where the held byte has a 0.
-fn must_rise(held: u8, wanted: u8) -> bool
+// How many units lent bytes have.
+pub(crate) fn units_of(word: bool, s: &[u8]) -> usize
+    ensures { λ r. ⌜ r ≡ length (units word (now (s .entry))) ⌝ }
+{
+    units::units_in(word, s.len())
+}
+
+// Some bit is 1 in the wanted unit where the held one has a 0.
+fn must_rise(held: u16, wanted: u16) -> bool
     ensures { λ r. ⌜ r ≡ mustRise held wanted ⌝ }
 {
     !(held & wanted == wanted)
 }
 
 // Some bit of the block must rise.
-pub(crate) fn rises_in(wanted: &[u8], scratch: &[u8]) -> bool
-    ensures { λ r. ⌜ r ≡ risesIn (now (wanted .entry)) (now (scratch .entry)) ⌝ }
+pub(crate) fn rises_in(word: bool, wanted: &[u8], scratch: &[u8]) -> bool
+    ensures { λ r. ⌜ r ≡ risesIn (units word (now (wanted .entry))) (units word (now (scratch .entry))) ⌝ }
 {
+    let n = units_of(word, wanted);
     let mut i = 0;
-    while i < wanted.len() {
-        if must_rise(common::nth(scratch, i), wanted[i]) {
+    while i < n {
+        if must_rise(
+            units::get_unit(word, scratch, i),
+            units::get_unit(word, wanted, i),
+        ) {
             return true;
         }
         i += 1;
@@ -24,12 +37,13 @@ pub(crate) fn rises_in(wanted: &[u8], scratch: &[u8]) -> bool
 }
 
 // The first place from `from` on where the block differs from what is wanted, or its length.
-pub(crate) fn diff_from(from: usize, wanted: &[u8], scratch: &[u8]) -> usize
-    ensures { λ r. ⌜ r ≡ diffFrom from (now (wanted .entry)) (now (scratch .entry)) ⌝ }
+pub(crate) fn diff_from(word: bool, from: usize, wanted: &[u8], scratch: &[u8]) -> usize
+    ensures { λ r. ⌜ r ≡ diffFrom from (units word (now (wanted .entry))) (units word (now (scratch .entry))) ⌝ }
 {
+    let n = units_of(word, wanted);
     let mut i = from;
-    while i < wanted.len() {
-        if common::nth(scratch, i) != wanted[i] {
+    while i < n {
+        if units::get_unit(word, scratch, i) != units::get_unit(word, wanted, i) {
             return i;
         }
         i += 1;

@@ -35,6 +35,9 @@ moved-requires-4 c κs = search needs
 enum-told-6 : tie.Need-enum-told-6
 enum-told-6 c = search needs
 
+low-requires : tie.Need-low-requires
+low-requires c κs = search needs
+
 erase-polled-requires : tie.Need-erase-polled-requires
 erase-polled-requires c κs = search needs
 
@@ -52,6 +55,9 @@ moved-requires-6 c κs = search needs
 
 enum-told-9 : tie.Need-enum-told-9
 enum-told-9 c = search needs
+
+low-requires-2 : tie.Need-low-requires-2
+low-requires-2 c κs = search needs
 
 program-polled-requires : tie.Need-program-polled-requires
 program-polled-requires c κs = search needs
@@ -87,7 +93,7 @@ returns-5 : tie.Need-returns-5
 returns-5 c = simp (c .moved4 .ensures, c .before .enum-told5 .given .1)
 
 returns-6 : tie.Need-returns-6
-returns-6 c = simp (c .erase-polled .ensures, c .before .enum-told6 .given .1)
+returns-6 c = simp (c .erase-polled .ensures, c .before .low .ensures, c .before .before .enum-told6 .given .1)
 
 returns-7 : tie.Need-returns-7
 returns-7 c = simp (c .moved5 .ensures, c .before .enum-told7 .given .1)
@@ -96,7 +102,7 @@ returns-8 : tie.Need-returns-8
 returns-8 c = simp (c .moved6 .ensures, c .before .enum-told8 .given .1)
 
 returns-9 : tie.Need-returns-9
-returns-9 c = simp (c .program-polled .ensures, c .before .enum-told9 .given .1)
+returns-9 c = simp (c .program-polled .ensures, c .before .low2 .ensures, c .before .before .enum-told9 .given .1)
 
 returns-10 : tie.Need-returns-10
 returns-10 c = simp (c .moved7 .ensures, c .before .enum-told10 .given .1)
@@ -122,12 +128,14 @@ next-spec =
     enum-told-5
     moved-requires-4
     enum-told-6
+    low-requires
     erase-polled-requires
     enum-told-7
     moved-requires-5
     enum-told-8
     moved-requires-6
     enum-told-9
+    low-requires-2
     program-polled-requires
     enum-told-10
     moved-requires-7

@@ -11,6 +11,9 @@ is-ready-requires c κs = search needs
 program-fault-requires : tie.Need-program-fault-requires
 program-fault-requires c κs = search needs
 
+units-of-requires : tie.Need-units-of-requires
+units-of-requires c κs = search needs
+
 past-requires : tie.Need-past-requires
 past-requires c κs = search needs
 
@@ -19,7 +22,7 @@ onward-requires c κs = search needs
 
 returns : tie.Need-returns
 unfolding programPolled
-returns c = simp (c .onward .ensures, c .before .past .ensures, eq-eqb _ _ (c .before .before .if2 .taken), ← c .before .before .before .program-fault .ensures, sym (c .before .before .before .before .before .is-ready .ensures) ∙ c .before .before .before .before .if1 .taken)
+returns c = simp (c .onward .ensures, c .before .past .ensures, c .before .before .units-of .ensures, eq-eqb _ _ (c .before .before .before .if2 .taken), ← c .before .before .before .before .program-fault .ensures, sym (c .before .before .before .before .before .before .is-ready .ensures) ∙ c .before .before .before .before .before .if1 .taken)
 
 ended-by-requires : tie.Need-ended-by-requires
 ended-by-requires c κs = search needs
@@ -41,6 +44,7 @@ program-polled-spec =
     (tie.spec
     is-ready-requires
     program-fault-requires
+    units-of-requires
     past-requires
     onward-requires
     returns
