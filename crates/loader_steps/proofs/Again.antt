@@ -24,7 +24,8 @@ use Rattle.loader.specs.declared.Turn.the-variants.{Out, Over, Barred}
 use Rattle.loader.specs.declared.Given.{Given}
 use Rattle.loader.specs.Walks.{diffFrom, risesIn}
 use Rattle.loader.specs.Moves as moves
-use Rattle.loader.specs.Moves.{movedTo, endedBy, isReady, eraseFault, programFault, onward, afterReads, afterRead, pollMore, erasePolled, programPolled, verifyMore, nextIn, nextOf}
+use Rattle.units.specs.Units.{carried}
+use Rattle.loader.specs.Moves.{movedTo, endedBy, statusIn, isReady, eraseFault, programFault, onward, afterReads, afterRead, pollMore, erasePolled, programPolled, verifyMore, nextIn, nextOf}
 use Rattle.loader_steps.specs.Outs.{firstAddress}
 use Rattle.loader_steps.specs.Stores.{erasedWell, programmedWell, storeIn, storeOf}
 use Rattle.loader_steps.specs.Front.{barredPins, noBlock, wrongLengths, badRecord, startRows, stepRows, startNumber, stepNumber, recordAt, endAddress, turnIn, turnGiven, barredBy, isBarred, startAt, stepGiven, scratchAfter}
@@ -139,9 +140,13 @@ module _ (l : Loader) (b : ℕ) (w sc : List ℕ) where
   unfolding stepGiven scratchAfter
   step-on e = (judged-given stepN onN w l e, if-true (eqb stepN 0) (storeOf l b w sc) sc (eq-eqb stepN 0 e))
 
--- a record of the same part, block and levels; its place stays in n bytes and its polls in bounds
+-- the record elsewhere, with what 25 says of the byte that differs
+abbrev pub heldAt : Loader → Stage → ℕ → ℕ → Bool → Loader
+heldAt l stage place polls high = record { part = l .part; pins = l .pins; block = l .block; stage = stage; place = place; polls = polls; verify = l .verify; high = high }
+
+-- a record of the same part, block and levels; its place stays in n units and its polls in bounds
 pub record Kept (l : Loader) (n : ℕ) (r : Loader) : Type 0 where
-  pub same : r ≡ movedTo l (r .stage) (r .place) (r .polls)
+  pub same : r ≡ heldAt l (r .stage) (r .place) (r .polls) (r .high)
   pub place : l .place < n → r .place < n
   pub polls : l .polls ≤ 65534 → r .polls ≤ 65534
 
@@ -197,22 +202,22 @@ module _ (l : Loader) (w : List ℕ) where
   kept-verify : (b : ℕ) → In (verifyMore l b w)
   unfolding verifyMore
   kept-verify b =
-      if-ind In (eqb b (getD w (l .place) 0)) _ _
+      if-ind In (eqb (carried (l .part .word) b) (getD w (l .place) 0)) _ _
       (λ e. if-ind In (ltb (l .place) (length w - 1)) _ _
       (λ i. kept-at l (length w) Verifying (l .place + 1) 0 (λ h. let z = ltb-true (l .place) (length w - 1) i in omega arith) no-polls) (λ i. kept-end 0))
-      (λ e. kept-end 25)
+      (λ e. record { same = refl; place = λ h. h; polls = no-polls })
 
-  -- every byte taken leaves such a record
+  -- whatever data are taken leave such a record
   pub kept-next : (stage : Stage) (b : ℕ) (sc : List ℕ) → In (nextIn stage l b w sc)
   kept-next Clearing b sc = kept-first Opening
   kept-next Opening b sc = kept-first Reading
   kept-next Reading b sc = kept-read sc
   kept-next EraseAsking b sc = kept-first EraseConfirming
   kept-next EraseConfirming b sc = kept-first EraseWaiting
-  kept-next EraseWaiting b sc = kept-erase b sc
+  kept-next EraseWaiting b sc = kept-erase (statusIn b) sc
   kept-next ProgramAsking b sc = kept-here ProgramSending
   kept-next ProgramSending b sc = kept-here ProgramWaiting
-  kept-next ProgramWaiting b sc = kept-program b sc
+  kept-next ProgramWaiting b sc = kept-program (statusIn b) sc
   kept-next Closing b sc = kept-first Verifying
   kept-next Verifying b sc = kept-verify b
   kept-next (Ended n) b sc = record { same = refl; place = λ h. h; polls = λ q. q }
@@ -226,17 +231,17 @@ first-kept l b w sc = ap firstAddress (kept-next l w (l .stage) b sc .same)
 pub store-length : (stage : Stage) (part : Part) (place b : ℕ) (w sc : List ℕ) → length (storeIn stage part place b w sc) ≡ length sc
 store-length Clearing part place b w sc = refl
 store-length Opening part place b w sc = refl
-store-length Reading part place b w sc = length-set sc place b
+store-length Reading part place b w sc = length-set sc place (carried (part .word) b)
 store-length EraseAsking part place b w sc = refl
 store-length EraseConfirming part place b w sc = refl
 store-length EraseWaiting part place b w sc =
-    if-ind (λ (xs : List ℕ). length xs ≡ length sc) (erasedWell b) _ _ (λ e. length-replicate (length sc) (ones part)) (λ e. refl)
+    if-ind (λ (xs : List ℕ). length xs ≡ length sc) (erasedWell (statusIn b)) _ _ (λ e. length-replicate (length sc) (ones part)) (λ e. refl)
 store-length ProgramAsking part place b w sc = refl
 store-length ProgramSending part place b w sc = refl
 store-length ProgramWaiting part place b w sc =
-    if-ind (λ (xs : List ℕ). length xs ≡ length sc) (programmedWell b) _ _ (λ e. length-set sc place (getD w place 0)) (λ e. refl)
+    if-ind (λ (xs : List ℕ). length xs ≡ length sc) (programmedWell (statusIn b)) _ _ (λ e. length-set sc place (getD w place 0)) (λ e. refl)
 store-length Closing part place b w sc = refl
-store-length Verifying part place b w sc = length-set sc place b
+store-length Verifying part place b w sc = length-set sc place (carried (part .word) b)
 store-length (Ended n) part place b w sc = refl
 
 -- what is known of a record that is taken
@@ -297,7 +302,7 @@ taken-back l w sc t =
 kept-taken : (l r : Loader) (w sc : ℕ) → Taken l w sc → Kept l w r → stepNumber r w sc ≡ 0
 kept-taken l r w sc t k =
     subst (λ (x : Loader). stepNumber x w sc ≡ 0) (sym (k .same))
-    (taken-back (movedTo l (r .stage) (r .place) (r .polls)) w sc
+    (taken-back (heldAt l (r .stage) (r .place) (r .polls) (r .high)) w sc
     (record { known = t .known; levels = t .levels; block = t .block; lengths = t .lengths; wanted = t .wanted; place = k .place (t .place); polls = k .polls (t .polls) }))
 
 -- every record that an accepted step gives is taken again
@@ -316,12 +321,12 @@ unfolding startAt
 start-gives stage verify part p k w sc e =
     judged-given (startNumber part p k (length w) (length sc)) (recordAt part p k stage verify) w (recordAt part p k (Ended (startNumber part p k (length w) (length sc))) verify) e
 
--- a block that there is has a byte
+-- a block that there is has a unit
 pub some-block : (part : Part) (k : ℕ) → noBlock part k ≡ false → 0 < lengthOf part k
 unfolding noBlock
 some-block part k e = let z : lengthOf part k ≡ 0 → ⊥ = eqb-false _ _ e in omega arith
 
-first-taken : (stage : Stage) (verify : Bool) (part : Part) (p : Pins) (k w sc : ℕ) → startNumber part p k w sc ≡ 0 → stepNumber (recordAt part p k stage verify) w sc ≡ 0
+pub first-taken : (stage : Stage) (verify : Bool) (part : Part) (p : Pins) (k w sc : ℕ) → startNumber part p k w sc ≡ 0 → stepNumber (recordAt part p k stage verify) w sc ≡ 0
 unfolding startNumber
 first-taken stage verify part p k w sc e =
     let r = given-no-row (startRows part p k w sc) refl e in

@@ -17,7 +17,9 @@ use Rattle.loader_steps.specs.Front.{startRows, stepRows, startNumber, s
 use Rattle.loader_steps.specs.Ends.{endsLoad, endsVerify, ofLoad, ofVerify, withVerify, carriedOn}
 use Rattle.loader_steps.proofs.Again as again
 use Rattle.loader_steps.proofs.Ends as ends
+use Rattle.units.specs.Units.{carried}
 use Rattle.loader_steps.proofs.Follows as follows
+use Rattle.loader_steps.proofs.Unread as unread
 
 -- The numbers, for the three starts alike (a load with the verify after it, a load alone, a verify alone), and for one at any other
 -- stage: it is refused by m exactly where m's own condition holds and that of no number before it does ..
@@ -86,3 +88,9 @@ pub load-follows : (l : Loader) (b : ℕ) (w sc : List ℕ) → stepNumber l (le
     → (stepGiven (withVerify true l) b w sc .loader ≡ carriedOn (stepGiven (withVerify false l) b w sc .loader))
     × (scratchAfter (withVerify true l) b w sc ≡ scratchAfter (withVerify false l) b w sc)
 load-follows = follows.load-follows
+
+-- What a step does not look at: in byte mode the high byte of what was read changes nothing (in word mode all 16 bits are carried, and of a
+-- status the low 8).
+pub step-unread : (l : Loader) (v : ℕ) (w sc : List ℕ)
+    → (stepGiven l (carried (l .part .word) v) w sc ≡ stepGiven l v w sc) × (scratchAfter l (carried (l .part .word) v) w sc ≡ scratchAfter l v w sc)
+step-unread = unread.step-unread

@@ -1,4 +1,4 @@
--- A load alone keeps to its stages and ends, and so does a verify, whatever bytes are handed to the steps. Assumes nothing.
+-- A load alone keeps to its stages and ends, and so does a verify, whatever data are handed to the steps. Assumes nothing.
 use mathlib.Core.Path.{_≡_, refl, sym, ap, _∙_}
 use mathlib.Core.Bool.{true, false}
 use mathlib.Core.List.{List}
@@ -13,7 +13,8 @@ use Rattle.loader.specs.declared.Loader.{Loader}
 use Rattle.loader.specs.declared.Turn.the-variants.{Over}
 use Rattle.loader.specs.declared.Given.{Given}
 use Rattle.loader.specs.Walks.{diffFrom, risesIn}
-use Rattle.loader.specs.Moves.{isReady, sr3, sr4, sr5, bothErrors, eraseFault, programFault, loadedStage, onward, afterReads, afterRead, pollMore, erasePolled, past, programPolled, verifyMore, nextIn, nextOf}
+use Rattle.units.specs.Units.{carried}
+use Rattle.loader.specs.Moves.{statusIn, isReady, sr3, sr4, sr5, bothErrors, eraseFault, programFault, loadedStage, onward, afterReads, afterRead, pollMore, erasePolled, past, programPolled, verifyMore, nextIn, nextOf}
 use Rattle.loader_steps.specs.Stores.{storeOf}
 use Rattle.loader_steps.specs.Front.{stepNumber, turnGiven, barredBy, stepGiven}
 use Rattle.loader_steps.specs.Ends.{endsLoad, endsVerify, ofLoad, ofVerify}
@@ -63,10 +64,10 @@ module _ (l : Loader) (w : List ℕ) (alone : l .verify ≡ false) where
   load-next Reading b sc q e = on-read sc
   load-next EraseAsking b sc q e = refl
   load-next EraseConfirming b sc q e = refl
-  load-next EraseWaiting b sc q e = on-erase b sc
+  load-next EraseWaiting b sc q e = on-erase (statusIn b) sc
   load-next ProgramAsking b sc q e = refl
   load-next ProgramSending b sc q e = refl
-  load-next ProgramWaiting b sc q e = on-program b sc
+  load-next ProgramWaiting b sc q e = on-program (statusIn b) sc
   load-next Closing b sc q e = absurd (unlike (sym e))
   load-next Verifying b sc q e = absurd (unlike (sym e))
   load-next (Ended n) b sc q e = ap ofLoad (sym q) ∙ e
@@ -76,7 +77,7 @@ module _ (l : Loader) (w : List ℕ) where
   on-verify : (b : ℕ) → ofVerify (verifyMore l b w .stage) ≡ true
   unfolding verifyMore
   on-verify b =
-      if-ind (λ (r : Loader). ofVerify (r .stage) ≡ true) (eqb b (getD w (l .place) 0)) _ _
+      if-ind (λ (r : Loader). ofVerify (r .stage) ≡ true) (eqb (carried (l .part .word) b) (getD w (l .place) 0)) _ _
       (λ e. if-ind (λ (r : Loader). ofVerify (r .stage) ≡ true) (ltb (l .place) (length w - 1)) _ _ (λ i. refl) (λ i. refl)) (λ e. refl)
 
   verify-next : (stage : Stage) (b : ℕ) (sc : List ℕ) → stage ≡ l .stage → ofVerify stage ≡ true → ofVerify (nextIn stage l b w sc .stage) ≡ true

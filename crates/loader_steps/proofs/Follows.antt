@@ -1,4 +1,4 @@
--- A run's step is its load's, and the verify's start where the load ended well, whatever byte is handed on. Assumes nothing.
+-- A run's step is its load's, and the verify's start where the load ended well, whatever data are handed on. Assumes nothing.
 use mathlib.Core.Path.{_≡_, refl, sym, ap, _∙_}
 use mathlib.Core.Bool.{Bool, true, false, not}
 use mathlib.Core.List.{List}
@@ -13,7 +13,7 @@ use Rattle.loader.specs.declared.Loader.{Loader}
 use Rattle.loader.specs.declared.Given.{Given}
 use Rattle.loader.specs.Stages.{isEnded}
 use Rattle.loader.specs.Walks.{diffFrom, risesIn}
-use Rattle.loader.specs.Moves.{movedTo, endedBy, isReady, eraseFault, programFault, onward, afterReads, afterRead, pollMore, erasePolled, past, programPolled, nextIn, nextOf}
+use Rattle.loader.specs.Moves.{movedTo, endedBy, statusIn, isReady, eraseFault, programFault, onward, afterReads, afterRead, pollMore, erasePolled, past, programPolled, nextIn, nextOf}
 use Rattle.loader_steps.specs.Stores.{storeOf}
 use Rattle.loader_steps.specs.Front.{badRecord, stepNumber, stepGiven, scratchAfter}
 use Rattle.loader_steps.specs.Ends.{ofLoad, withVerify, carriedOn}
@@ -99,10 +99,10 @@ module _ (l : Loader) (w : List ℕ) where
   follows Reading b sc e g = on-read sc
   follows EraseAsking b sc e g = refl
   follows EraseConfirming b sc e g = refl
-  follows EraseWaiting b sc e g = on-erase b sc
+  follows EraseWaiting b sc e g = on-erase (statusIn b) sc
   follows ProgramAsking b sc e g = refl
   follows ProgramSending b sc e g = refl
-  follows ProgramWaiting b sc e g = on-program b sc
+  follows ProgramWaiting b sc e g = on-program (statusIn b) sc
   follows Closing b sc e g = absurd (unlike (sym e))
   follows Verifying b sc e g = absurd (unlike (sym e))
   follows (Ended n) b sc e g = absurd (unlike g)

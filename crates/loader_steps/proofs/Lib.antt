@@ -1,6 +1,9 @@
 pub mod Small
+pub mod Storing
 pub mod Again
+pub mod Lending
 pub mod Ends
 pub mod Follows
+pub mod Unread
 pub mod Claims
 pub mod Unique

@@ -1,9 +1,11 @@
 -- Two results that a promise of this crate allows are equal, and so is what it leaves in each thing lent. Assumes nothing.
-use mathlib.Core.Path.{_≡_}
+use mathlib.Core.Path.{_≡_, sym, _∙_}
 use mathlib.Core.Bool.{Bool}
 use mathlib.Core.List.{List}
 use Prim.Native.Nat.{ℕ}
-use lib.ListN.{set}
+use Rattle.common.specs.Lists.{Bytes}
+use Rattle.units.specs.Units.{units, spare}
+use Rattle.units.proofs.Widths.{same-bytes}
 use Rattle.common.specs.Choice.{Unique}
 use Rattle.common.proofs.Choice.{only}
 use Rattle.device.specs.declared.Part.{Part}
@@ -14,8 +16,8 @@ use Rattle.loader.specs.declared.Loader.{Loader}
 use Rattle.loader.specs.declared.Given.{Given}
 use Rattle.loader.specs.Moves.{nextOf}
 use Rattle.loader_steps.specs.Outs.{firstAddress, cycleAtStage, cycleOf}
-use Rattle.loader_steps.specs.Stores.{eraseStored, programStored, storeOf}
-use Rattle.loader_steps.specs.Front.{barredPins, noBlock, wrongLengths, setupNumber, recordAt, endAddress, startGiven, loadStartGiven, verifyStartGiven, stepGiven, scratchAfter}
+use Rattle.loader_steps.specs.Stores.{storeOf}
+use Rattle.loader_steps.specs.Front.{barredPins, noBlock, wrongLengths, setupNumber, recordAt, endAddress, startGiven, loadStartGiven, verifyStartGiven, stepGiven, scratchLeft}
 
 pub barred-pins-unique : (part : Part) (p : Pins) → Unique (λ (r : Bool). r ≡ barredPins part p)
 barred-pins-unique part p = only (barredPins part p)
@@ -47,23 +49,15 @@ start-verify-unique part p k w sc = only (verifyStartGiven part p k w sc)
 pub step-unique : (l : Loader) (b : ℕ) (w sc : List ℕ) → Unique (λ (r : Given). r ≡ stepGiven l b w sc)
 step-unique l b w sc = only (stepGiven l b w sc)
 
-pub step-scratch-unique : (l : Loader) (b : ℕ) (w sc : List ℕ) → Unique (λ (left : List ℕ). left ≡ scratchAfter l b w sc)
-step-scratch-unique l b w sc = only (scratchAfter l b w sc)
+pub step-scratch-unique : (l : Loader) (b : ℕ) (w sc : List ℕ) → Unique (λ (left : List ℕ). left ≡ scratchLeft l b w sc)
+step-scratch-unique l b w sc = only (scratchLeft l b w sc)
 
 pub advance-unique : (l : Loader) (b : ℕ) (w sc : List ℕ) → Unique (λ (r : Loader). r ≡ nextOf l b w (storeOf l b w sc))
 advance-unique l b w sc = only (nextOf l b w (storeOf l b w sc))
 
-pub advance-scratch-unique : (l : Loader) (b : ℕ) (w sc : List ℕ) → Unique (λ (left : List ℕ). left ≡ storeOf l b w sc)
-advance-scratch-unique l b w sc = only (storeOf l b w sc)
-
-pub put-unique : (sc : List ℕ) (place b : ℕ) → Unique (λ (left : List ℕ). left ≡ set sc place b)
-put-unique sc place b = only (set sc place b)
-
-pub store-erase-unique : (part : Part) (b : ℕ) (sc : List ℕ) → Unique (λ (left : List ℕ). left ≡ eraseStored part b sc)
-store-erase-unique part b sc = only (eraseStored part b sc)
-
-pub store-program-unique : (place b : ℕ) (w sc : List ℕ) → Unique (λ (left : List ℕ). left ≡ programStored place b w sc)
-store-program-unique place b w sc = only (programStored place b w sc)
+-- what store_erase, store_program and advance leave in scratch: bytes are known by their units and by the byte that is in none
+pub units-unique : (w : Bool) (us odd x y : List ℕ) → Bytes x → Bytes y → (units w x ≡ us) × (spare w x ≡ odd) → (units w y ≡ us) × (spare w y ≡ odd) → x ≡ y
+units-unique w us odd x y a b p q = same-bytes w x y a b (p .0 ∙ sym (q .0)) (p .1 ∙ sym (q .1))
 
 pub first-unique : (l : Loader) → Unique (λ (r : ℕ). r ≡ firstAddress l)
 first-unique l = only (firstAddress l)

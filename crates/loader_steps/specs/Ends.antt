@@ -49,7 +49,7 @@ ofVerify (Ended n) = endsVerify n
 
 -- a record with or without the verify after the load
 abbrev pub withVerify : Bool → Loader → Loader
-withVerify verify l = record { part = l .part; pins = l .pins; block = l .block; stage = l .stage; place = l .place; polls = l .polls; verify = verify }
+withVerify verify l = record { part = l .part; pins = l .pins; block = l .block; stage = l .stage; place = l .place; polls = l .polls; verify = verify; high = l .high }
 
 -- a load's good end
 abbrev pub endedWell : Stage → Bool

@@ -1,4 +1,5 @@
--- The loader's tests, its start and its step. Assumes nothing.
+-- The loader's tests, its start and its step. Lengths are counted in units, and what is wanted and scratch are lists of units: those of
+-- the lent bytes, of which an odd number makes none in word mode. Assumes nothing.
 use mathlib.Core.Bool.{Bool, true, false, not, _&&_, _||_}
 use mathlib.Core.List.{List, [], _∷_}
 use Prim.Native.Nat.{ℕ}
@@ -18,7 +19,8 @@ use Rattle.loader.specs.declared.Turn.the-variants.{Out, Over, Barred}
 use Rattle.loader.specs.declared.Given.{Given}
 use Rattle.loader.specs.Stages.{isEnded, endBy}
 use Rattle.loader.specs.Moves.{nextOf}
-use Rattle.loader_steps.specs.Outs.{hereOf, cycleOf}
+use Rattle.units.specs.Units.{lent, back}
+use Rattle.loader_steps.specs.Outs.{byteHere, cycleOf}
 use Rattle.loader_steps.specs.Stores.{storeOf}
 
 -- refusal 4 of a loader: a level outside what is allowed, or RP# low
@@ -60,11 +62,11 @@ stepNumber l w sc = given (stepRows l w sc)
 
 -- a record at its beginning, with its first stage and whether the verify follows the load
 abbrev pub recordAt : Part → Pins → ℕ → Stage → Bool → Loader
-recordAt part p k stage verify = record { part = part; pins = p; block = k; stage = stage; place = 0; polls = 0; verify = verify }
+recordAt part p k stage verify = record { part = part; pins = p; block = k; stage = stage; place = 0; polls = 0; verify = verify; high = false }
 
--- the address that an end gives: the byte's for 25, else 0
+-- the address that an end gives: for 25 the byte address of the byte that differs, else 0
 unfoldable pub endAddress : Loader → ℕ → ℕ
-endAddress l n = if eqb n 25 then hereOf l else 0
+endAddress l n = if eqb n 25 then byteHere l else 0
 
 -- what a record gives: the cycle that is out, or its end again
 abbrev pub turnIn : Stage → Loader → List ℕ → Turn
@@ -101,9 +103,16 @@ verifyStartGiven part p k w sc = startAt Closing true part p k w sc
 
 -- a step: what is given ..
 unfoldable pub stepGiven : Loader → ℕ → List ℕ → List ℕ → Given
-stepGiven l b w sc =
-    if eqb (stepNumber l (length w) (length sc)) 0 then turnGiven (nextOf l b w (storeOf l b w sc)) w else barredBy (stepNumber l (length w) (length sc)) l
+stepGiven l v w sc =
+    if eqb (stepNumber l (length w) (length sc)) 0 then turnGiven (nextOf l v w (storeOf l v w sc)) w else barredBy (stepNumber l (length w) (length sc)) l
 
 -- .. and what is left in scratch
 unfoldable pub scratchAfter : Loader → ℕ → List ℕ → List ℕ → List ℕ
-scratchAfter l b w sc = if eqb (stepNumber l (length w) (length sc)) 0 then storeOf l b w sc else sc
+scratchAfter l v w sc = if eqb (stepNumber l (length w) (length sc)) 0 then storeOf l v w sc else sc
+
+-- .. as lent bytes: the units as bytes again, or the bytes as they were where the step is refused
+unfoldable pub scratchLeft : Loader → ℕ → List ℕ → List ℕ → List ℕ
+scratchLeft l v wanted scratch =
+    if eqb (stepNumber l (length (lent (l .part .word) wanted)) (length (lent (l .part .word) scratch))) 0
+    then back (l .part .word) (scratchAfter l v (lent (l .part .word) wanted) (lent (l .part .word) scratch))
+    else scratch

@@ -1,4 +1,4 @@
--- The cycle that is out. Assumes nothing.
+-- The cycle that is out. Addresses are those of units, and what is wanted is a list of units. Assumes nothing.
 use mathlib.Core.Bool.{Bool}
 use mathlib.Core.List.{List}
 use Prim.Native.Nat.{ℕ, _+_}
@@ -6,6 +6,7 @@ use lib.ListN.{getD}
 use lib.Dec.{ltb}
 use Rattle.common.specs.Choice.{if_then_else_}
 use Rattle.device.specs.Parts.{startOf}
+use Rattle.units.specs.Address.{firstByte}
 use Rattle.model_types.specs.declared.Kind.{Kind}
 use Rattle.model_types.specs.declared.Cycle.{Cycle}
 use Rattle.loader.specs.declared.Stage.{Stage}
@@ -20,19 +21,23 @@ firstAddress l = startOf (l .part) (l .block)
 abbrev pub reach : ℕ
 reach = 16777216
 
--- the address of the byte at the record's place
+-- the address of the unit at the record's place
 unfoldable pub hereOf : Loader → ℕ
 hereOf l = if ltb (l .place) reach then firstAddress l + l .place else firstAddress l
 
+-- the byte address of the byte that differs there: in word mode that of the word's low byte, or of the high one, which is the next
+unfoldable pub byteHere : Loader → ℕ
+byteHere l = if l .part .word then firstByte (record { word = hereOf l }) .byte + (if l .high then 1 else 0) else hereOf l
+
 -- a cycle at an address with the record's levels, OE# normal
 abbrev pub cycleAt : Loader → Kind → ℕ → ℕ → Cycle
-cycleAt l kind address byte = record { kind = kind; pins = l .pins; oe = 0; address = address; «data» = byte }
+cycleAt l kind address carried = record { kind = kind; pins = l .pins; oe = 0; address = address; «data» = carried }
 
--- where it goes: to the byte at the record's place, or to the block's first address
+-- where it goes: to the unit at the record's place, or to the block's first address
 abbrev pub addressIn : Bool → ℕ → ℕ → ℕ
 addressIn isHere first here = if isHere then here else first
 
--- what it carries: the wanted byte of the record's place, or a command
+-- what it carries: the wanted unit of the record's place, or a command
 abbrev pub carriedIn : Bool → ℕ → ℕ → List ℕ → ℕ
 carriedIn isWanted command place w = if isWanted then getD w place 0 else command
 

@@ -1,5 +1,5 @@
 // The loader's tests, its start and its step.
-use crate::outs::here;
+use crate::outs::byte_here;
 use crate::outs::out;
 use crate::stores::advance;
 use device::Part;
@@ -13,7 +13,8 @@ use model_types::levels::bad_pins;
 use model_types::levels::rp_low;
 ghost use mathlib.Core.Path.{_≡_};
 ghost use lib.ListN.{length};
-ghost use Rattle.loader_steps.specs.Front.{barredPins, noBlock, wrongLengths, setupNumber, badRecord, startNumber, stepNumber, recordAt, endAddress, turnIn, turnGiven, barredBy, startAt, startGiven, loadStartGiven, verifyStartGiven, stepGiven, scratchAfter};
+ghost use Rattle.loader_steps.specs.Front.{barredPins, noBlock, wrongLengths, setupNumber, badRecord, startNumber, stepNumber, recordAt, endAddress, turnIn, turnGiven, barredBy, startAt, startGiven, loadStartGiven, verifyStartGiven, stepGiven, scratchLeft};
+ghost use Rattle.units.specs.Units.{units, lent};
 
 // Refusal 4 of a loader.
 pub fn barred_pins(part: Part, p: Pins) -> bool
@@ -29,7 +30,7 @@ pub fn no_block(part: Part, block: u8) -> bool
     device::length(part, block) == 0
 }
 
-// Refusal 11.
+// Refusal 11. The lengths are in units.
 pub fn wrong_lengths(part: Part, block: u8, wanted: usize, scratch: usize) -> bool
     ensures { λ r. ⌜ r ≡ wrongLengths part block wanted scratch ⌝ }
 {
@@ -45,7 +46,7 @@ fn bad_record(l: Loader) -> bool
     (65534 < l.polls) | (!no_block(part, l.block) & (device::length(part, l.block) <= l.place))
 }
 
-// Refusals 4, 10 and 11, the first of them that applies, or 0.
+// Refusals 4, 10 and 11, the first of them that applies, or 0. The lengths are in units.
 pub fn setup_number(part: Part, p: Pins, block: u8, wanted: usize, scratch: usize) -> u8
     ensures { λ r. ⌜ r ≡ setupNumber part p block wanted scratch ⌝ }
 {
@@ -95,6 +96,7 @@ pub fn record_at(part: Part, p: Pins, block: u8, stage: Stage, verify: bool) -> 
         place: 0,
         polls: 0,
         verify: verify,
+        high: false,
     }
 }
 
@@ -103,13 +105,13 @@ pub fn end_address(l: Loader, n: u8) -> u32
     ensures { λ r. ⌜ r ≡ endAddress l n ⌝ }
 {
     if n == 25 {
-        return here(l);
+        return byte_here(l);
     }
     0
 }
 
 fn turn(stage: Stage, l: Loader, wanted: &[u8]) -> Turn
-    ensures { λ r. ⌜ r ≡ turnIn stage l (now (wanted .entry)) ⌝ }
+    ensures { λ r. ⌜ r ≡ turnIn stage l (units (l .part .word) (now (wanted .entry))) ⌝ }
 {
     let e = stage_is(stage);
     let ended = e.ended;
@@ -120,7 +122,7 @@ fn turn(stage: Stage, l: Loader, wanted: &[u8]) -> Turn
 }
 
 fn given_by(l: Loader, wanted: &[u8]) -> Given
-    ensures { λ r. ⌜ r ≡ turnGiven l (now (wanted .entry)) ⌝ }
+    ensures { λ r. ⌜ r ≡ turnGiven l (units (l .part .word) (now (wanted .entry))) ⌝ }
 {
     let stage = l.stage;
     Given {
@@ -148,9 +150,16 @@ fn start_at(
     wanted: &[u8],
     scratch: &[u8],
 ) -> Given
-    ensures { λ r. ⌜ r ≡ startAt stage verify part p block (now (wanted .entry)) (now (scratch .entry)) ⌝ }
+    ensures { λ r. ⌜ r ≡ startAt stage verify part p block (lent (part .word) (now (wanted .entry))) (lent (part .word) (now (scratch .entry))) ⌝ }
 {
-    let n = start_number(part, p, block, wanted.len(), scratch.len());
+    let word = part.word;
+    let n = start_number(
+        part,
+        p,
+        block,
+        units::lent_in(word, wanted.len()),
+        units::lent_in(word, scratch.len()),
+    );
     if n == 0 {
         return given_by(record_at(part, p, block, stage, verify), wanted);
     }
@@ -159,33 +168,39 @@ fn start_at(
 
 // The first cycle of a load with the verify after it.
 pub fn start(part: Part, p: Pins, block: u8, wanted: &[u8], scratch: &[u8]) -> Given
-    ensures { λ r. ⌜ r ≡ startGiven part p block (now (wanted .entry)) (now (scratch .entry)) ⌝ }
+    ensures { λ r. ⌜ r ≡ startGiven part p block (lent (part .word) (now (wanted .entry))) (lent (part .word) (now (scratch .entry))) ⌝ }
 {
     start_at(Stage::Clearing, true, part, p, block, wanted, scratch)
 }
 
 // The first cycle of a load alone.
 pub fn start_load(part: Part, p: Pins, block: u8, wanted: &[u8], scratch: &[u8]) -> Given
-    ensures { λ r. ⌜ r ≡ loadStartGiven part p block (now (wanted .entry)) (now (scratch .entry)) ⌝ }
+    ensures { λ r. ⌜ r ≡ loadStartGiven part p block (lent (part .word) (now (wanted .entry))) (lent (part .word) (now (scratch .entry))) ⌝ }
 {
     start_at(Stage::Clearing, false, part, p, block, wanted, scratch)
 }
 
 // The first cycle of a verify alone.
 pub fn start_verify(part: Part, p: Pins, block: u8, wanted: &[u8], scratch: &[u8]) -> Given
-    ensures { λ r. ⌜ r ≡ verifyStartGiven part p block (now (wanted .entry)) (now (scratch .entry)) ⌝ }
+    ensures { λ r. ⌜ r ≡ verifyStartGiven part p block (lent (part .word) (now (wanted .entry))) (lent (part .word) (now (scratch .entry))) ⌝ }
 {
     start_at(Stage::Closing, true, part, p, block, wanted, scratch)
 }
 
-// The byte read by the cycle that was out goes in, the next cycle or the end comes out.
-pub fn step(l: Loader, b: u8, wanted: &[u8], scratch: &mut [u8]) -> Given
-    ensures { λ r. ⌜ r ≡ stepGiven l b (now (wanted .entry)) (now (scratch .entry)) ⌝ }
-    ensures { λ _. ⌜ now (scratch .exit) ≡ scratchAfter l b (now (wanted .entry)) (now (scratch .entry)) ⌝ }
+// The data read by the cycle that was out go in, the next cycle or the end comes out.
+pub fn step(l: Loader, v: u16, wanted: &[u8], scratch: &mut [u8]) -> Given
+    ensures { λ r. ⌜ r ≡ stepGiven l v (lent (l .part .word) (now (wanted .entry))) (lent (l .part .word) (now (scratch .entry))) ⌝ }
+    ensures { λ _. ⌜ now (scratch .exit) ≡ scratchLeft l v (now (wanted .entry)) (now (scratch .entry)) ⌝ }
 {
-    let n = step_number(l, wanted.len(), scratch.len());
+    let part = l.part;
+    let word = part.word;
+    let n = step_number(
+        l,
+        units::lent_in(word, wanted.len()),
+        units::lent_in(word, scratch.len()),
+    );
     if n == 0 {
-        let moved = advance(l, b, wanted, scratch);
+        let moved = advance(l, v, wanted, scratch);
         return given_by(moved, wanted);
     }
     barred_by(n, l)

@@ -4,8 +4,12 @@ use loader::Stage;
 use loader::stages::stage_is;
 use model_types::Cycle;
 use model_types::Kind;
+use units::WordAddress;
 ghost use mathlib.Core.Path.{_≡_};
-ghost use Rattle.loader_steps.specs.Outs.{firstAddress, hereOf, addressIn, carriedIn, cycleAt, cycleAtStage, cycleOf};
+ghost use Prim.Native.Nat.{_+_, _≤_, _<_};
+ghost use Rattle.common.specs.Choice.{if_then_else_};
+ghost use Rattle.units.specs.Units.{units};
+ghost use Rattle.loader_steps.specs.Outs.{firstAddress, hereOf, byteHere, addressIn, carriedIn, cycleAt, cycleAtStage, cycleOf};
 
 // The block's first address.
 pub fn first(l: Loader) -> u32
@@ -15,7 +19,7 @@ pub fn first(l: Loader) -> u32
     device::start(part, l.block) as u32
 }
 
-// The address of the byte at the record's place.
+// The address of the unit at the record's place.
 pub(crate) fn here(l: Loader) -> u32
     ensures { λ r. ⌜ r ≡ hereOf l ⌝ }
 {
@@ -26,8 +30,34 @@ pub(crate) fn here(l: Loader) -> u32
     a
 }
 
-fn cycle_at(l: Loader, kind: Kind, address: u32, byte: u8) -> Cycle
-    ensures { λ r. ⌜ r ≡ cycleAt l kind address byte ⌝ }
+// One more where the byte that differs is the high one.
+fn next_byte(byte: usize, high: bool) -> usize
+    requires { ⌜ byte < 4294967295 ⌝ }
+    ensures { λ r. ⌜ (r ≡ byte + (if high then 1 else 0)) × (r ≤ byte + 1) ⌝ }
+{
+    if high {
+        return byte + 1;
+    }
+    byte
+}
+
+// The byte address of the byte that differs there.
+pub(crate) fn byte_here(l: Loader) -> u32
+    ensures { λ r. ⌜ r ≡ byteHere l ⌝ }
+{
+    let part = l.part;
+    let word = part.word;
+    let high = l.high;
+    let at = here(l);
+    if word {
+        let a = units::first_byte(WordAddress { word: at as usize });
+        return next_byte(a.byte, high) as u32;
+    }
+    at
+}
+
+fn cycle_at(l: Loader, kind: Kind, address: u32, v: u16) -> Cycle
+    ensures { λ r. ⌜ r ≡ cycleAt l kind address v ⌝ }
 {
     let pins = l.pins;
     Cycle {
@@ -35,7 +65,7 @@ fn cycle_at(l: Loader, kind: Kind, address: u32, byte: u8) -> Cycle
         pins: pins,
         oe: 0,
         address: address,
-        data: byte,
+        data: v,
     }
 }
 
@@ -50,35 +80,37 @@ fn address_in(here: bool, first: u32, at: u32) -> u32
 }
 
 // What it carries.
-fn carried_in(own: bool, command: u8, place: usize, wanted: &[u8]) -> u8
-    ensures { λ r. ⌜ r ≡ carriedIn own command place (now (wanted .entry)) ⌝ }
+fn carried_in(own: bool, command: u8, place: usize, word: bool, wanted: &[u8]) -> u16
+    ensures { λ r. ⌜ r ≡ carriedIn own command place (units word (now (wanted .entry))) ⌝ }
 {
     if own {
-        return common::nth(wanted, place);
+        return units::get_unit(word, wanted, place);
     }
-    command
+    units::wide(command)
 }
 
-// The cycle that is out, by the block's first address and that of the byte at the record's place.
+// The cycle that is out, by the block's first address and that of the unit at the record's place.
 pub fn cycle_in(stage: Stage, first: u32, here: u32, l: Loader, wanted: &[u8]) -> Cycle
-    ensures { λ r. ⌜ r ≡ cycleAtStage stage first here l (now (wanted .entry)) ⌝ }
+    ensures { λ r. ⌜ r ≡ cycleAtStage stage first here l (units (l .part .word) (now (wanted .entry))) ⌝ }
 {
+    let part = l.part;
+    let word = part.word;
     let e = stage_is(stage);
     let kind = e.kind;
-    let at_byte = e.here;
+    let at_unit = e.here;
     let own = e.wanted;
-    let address = address_in(at_byte, first, here);
+    let address = address_in(at_unit, first, here);
     cycle_at(
         l,
         kind,
         address,
-        carried_in(own, e.command, l.place, wanted),
+        carried_in(own, e.command, l.place, word, wanted),
     )
 }
 
 // The cycle that is out.
 pub fn out(l: Loader, wanted: &[u8]) -> Cycle
-    ensures { λ r. ⌜ r ≡ cycleOf l (now (wanted .entry)) ⌝ }
+    ensures { λ r. ⌜ r ≡ cycleOf l (units (l .part .word) (now (wanted .entry))) ⌝ }
 {
     let stage = l.stage;
     let a = first(l);

@@ -1,4 +1,4 @@
-// A byte taken: what it does to scratch, and then the record after it.
+// A read's data taken: what they do to scratch, and then the record after them.
 use device::Part;
 use loader::Loader;
 use loader::Stage;
@@ -6,20 +6,10 @@ use loader::moves::erase_fault;
 use loader::moves::is_ready;
 use loader::moves::next;
 use loader::moves::program_fault;
-use model_types::blank::ones;
 ghost use mathlib.Core.Path.{_≡_};
-ghost use lib.ListN.{set};
+ghost use Rattle.units.specs.Units.{units, spare};
 ghost use Rattle.loader.specs.Moves.{nextOf};
 ghost use Rattle.loader_steps.specs.Stores.{erasedWell, eraseStored, programmedWell, programStored, storeIn, storeOf};
-
-// The byte at a place becomes b; nothing past the end.
-pub fn put(s: &mut [u8], at: usize, b: u8)
-    ensures { λ _. ⌜ now (s .exit) ≡ set (now (s .entry)) at b ⌝ }
-{
-    if at < s.len() {
-        s[at] = b;
-    }
-}
 
 fn erased_well(b: u8) -> bool
     ensures { λ r. ⌜ r ≡ erasedWell b ⌝ }
@@ -29,11 +19,13 @@ fn erased_well(b: u8) -> bool
 
 // An erase that ended well fills scratch with ones.
 pub fn store_erase(part: Part, b: u8, scratch: &mut [u8])
-    ensures { λ _. ⌜ now (scratch .exit) ≡ eraseStored part b (now (scratch .entry)) ⌝ }
+    ensures { λ _. ⌜ units (part .word) (now (scratch .exit)) ≡ eraseStored part b (units (part .word) (now (scratch .entry))) ⌝ }
+    ensures { λ _. ⌜ spare (part .word) (now (scratch .exit)) ≡ spare (part .word) (now (scratch .entry)) ⌝ }
 {
+    let word = part.word;
     if erased_well(b) {
-        let blank = ones(part);
-        common::fill(scratch, blank)
+        let n = units::units_in(word, scratch.len());
+        units::erase_units(word, scratch, 0, n)
     }
 }
 
@@ -43,43 +35,50 @@ fn programmed_well(b: u8) -> bool
     is_ready(b) & (program_fault(b) == 0)
 }
 
-// A program that ended well puts its byte into scratch.
-pub fn store_program(place: usize, b: u8, wanted: &[u8], scratch: &mut [u8])
-    ensures { λ _. ⌜ now (scratch .exit) ≡ programStored place b (now (wanted .entry)) (now (scratch .entry)) ⌝ }
+// A program that ended well puts its unit into scratch.
+pub fn store_program(word: bool, place: usize, b: u8, wanted: &[u8], scratch: &mut [u8])
+    ensures { λ _. ⌜ units word (now (scratch .exit)) ≡ programStored place b (units word (now (wanted .entry))) (units word (now (scratch .entry))) ⌝ }
+    ensures { λ _. ⌜ spare word (now (scratch .exit)) ≡ spare word (now (scratch .entry)) ⌝ }
 {
     if programmed_well(b) {
-        let byte = common::nth(wanted, place);
-        put(scratch, place, byte)
+        let v = units::get_unit(word, wanted, place);
+        units::put_unit(word, scratch, place, v)
     }
 }
 
-// What the byte does to scratch.
-fn store(stage: Stage, part: Part, place: usize, b: u8, wanted: &[u8], scratch: &mut [u8])
-    ensures { λ _. ⌜ now (scratch .exit) ≡ storeIn stage part place b (now (wanted .entry)) (now (scratch .entry)) ⌝ }
+// What the data do to scratch.
+fn store(stage: Stage, part: Part, place: usize, v: u16, wanted: &[u8], scratch: &mut [u8])
+    ensures { λ _. ⌜ units (part .word) (now (scratch .exit))
+        ≡ storeIn stage part place v (units (part .word) (now (wanted .entry))) (units (part .word) (now (scratch .entry))) ⌝ }
+    ensures { λ _. ⌜ spare (part .word) (now (scratch .exit)) ≡ spare (part .word) (now (scratch .entry)) ⌝ }
 {
+    let word = part.word;
     match stage {
         Stage::Clearing => {}
         Stage::Opening => {}
-        Stage::Reading => put(scratch, place, b),
+        Stage::Reading => units::put_unit(word, scratch, place, v),
         Stage::EraseAsking => {}
         Stage::EraseConfirming => {}
-        Stage::EraseWaiting => store_erase(part, b, scratch),
+        Stage::EraseWaiting => store_erase(part, units::low(v), scratch),
         Stage::ProgramAsking => {}
         Stage::ProgramSending => {}
-        Stage::ProgramWaiting => store_program(place, b, wanted, scratch),
+        Stage::ProgramWaiting => store_program(word, place, units::low(v), wanted, scratch),
         Stage::Closing => {}
-        Stage::Verifying => put(scratch, place, b),
+        Stage::Verifying => units::put_unit(word, scratch, place, v),
         Stage::Ended(_) => {}
     }
 }
 
-// A byte taken: scratch first, then the record, which reads the new scratch.
-pub fn advance(l: Loader, b: u8, wanted: &[u8], scratch: &mut [u8]) -> Loader
-    ensures { λ r. ⌜ r ≡ nextOf l b (now (wanted .entry)) (storeOf l b (now (wanted .entry)) (now (scratch .entry))) ⌝ }
-    ensures { λ _. ⌜ now (scratch .exit) ≡ storeOf l b (now (wanted .entry)) (now (scratch .entry)) ⌝ }
+// A read's data taken: scratch first, then the record, which reads the new scratch.
+pub fn advance(l: Loader, v: u16, wanted: &[u8], scratch: &mut [u8]) -> Loader
+    ensures { λ r. ⌜ r
+        ≡ nextOf l v (units (l .part .word) (now (wanted .entry))) (storeOf l v (units (l .part .word) (now (wanted .entry))) (units (l .part .word) (now (scratch .entry)))) ⌝ }
+    ensures { λ _. ⌜ units (l .part .word) (now (scratch .exit))
+        ≡ storeOf l v (units (l .part .word) (now (wanted .entry))) (units (l .part .word) (now (scratch .entry))) ⌝ }
+    ensures { λ _. ⌜ spare (l .part .word) (now (scratch .exit)) ≡ spare (l .part .word) (now (scratch .entry)) ⌝ }
 {
     let stage = l.stage;
     let part = l.part;
-    store(stage, part, l.place, b, wanted, scratch);
-    next(stage, l, b, wanted, scratch)
+    store(stage, part, l.place, v, wanted, scratch);
+    next(stage, l, v, wanted, scratch)
 }

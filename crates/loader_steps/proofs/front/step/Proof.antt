@@ -1,15 +1,16 @@
-use mathlib.Core.Path.{_≡_, ap}
-use Prim.Native.Nat.{ℕ}
-use lib.ListN.{length}
-use lib.Dec.{eqb}
-use Rattle.common.proofs.Choice.{if-true, if-false}
-use Rattle.loader.specs.declared.Loader.{Loader}
+-- `loader_steps::front::step` meets its contract, by the laws of lent bytes. Assumes nothing.
 use borrow.Author.Needs.{needs}
-use borrow.Author.Tests.{eq-eqb, ne-eqb}
 use mathlib.Core.Path.{sym, _∙_}
-use Rattle.loader_steps.specs.Front.{stepGiven, scratchAfter, stepNumber, turnGiven, barredBy}
+use Rattle.units.specs.Units.{lent}
+use Rattle.loader_steps.proofs.Lending.{step-lent, step-gives, step-leaves, step-bars, step-keeps}
 use Rattle.loader_steps.proofs.front.step.Statement.{statement}
 use Rattle.loader_steps.proofs.front.step.Tie as tie
+
+lent-in-requires : tie.Need-lent-in-requires
+lent-in-requires c κs = search needs
+
+lent-in-requires-2 : tie.Need-lent-in-requires-2
+lent-in-requires-2 c κs = search needs
 
 step-number-requires : tie.Need-step-number-requires
 step-number-requires c κs = search needs
@@ -24,33 +25,32 @@ same-length : tie.Need-same-length
 same-length c = search needs
 
 returns : tie.Need-returns
-unfolding stepGiven scratchAfter
 returns c =
-    let a = c .before .before .before .before .before .before .before .before .before .args in
-    let w = a .wanted .now in
-    let n = stepNumber (a .l) (length w) (length (a .scratch .now)) in
-    let z = eq-eqb n 0 (sym (c .before .before .before .before .before .before .step-number .ensures) ∙ c .before .before .before .before .before .if1 .taken) in (
-      c .given-by .ensures ∙ ap (λ (l : Loader). turnGiven l w) (c .before .before .before .advance .ensures .0) ∙ sym (if-true (eqb n 0) _ _ z),
-      c .before .before .before .advance .ensures .1 ∙ sym (if-true (eqb n 0) _ _ z),
+    let m = c .before .before .before .advance in
+    let t = c .before .before .before .before .before .before in
+    let a = t .before .before .before .before .before .before .args in
+    let n = step-lent (a .l) (a .wanted .now) (a .scratch .now) _ _ _ (t .step-number .ensures) (t .before .before .lent-in .ensures) (t .before .lent-in2 .ensures) in
+    let z = sym n ∙ c .before .before .before .before .before .if1 .taken in (
+      step-gives (a .l) (a .wanted .now) (a .scratch .now) (a .v) _ _ z (m .ensures .0) (c .given-by .ensures),
+      step-leaves (a .l) (a .wanted .now) (a .scratch .now) (a .v) (m .last .1 .1 .1 .0) z (m .kept .1 .1 .1 .0) (λ i. c .before .slice-known2 .given i .fits) (m .ensures .1 .0),
     )
 
 barred-by-requires : tie.Need-barred-by-requires
 barred-by-requires c κs = search needs
 
 returns-2 : tie.Need-returns-2
-unfolding stepGiven scratchAfter
 returns-2 c =
-    let a = c .before .before .before .before .before .args in
-    let w = a .wanted .now in
-    let n = stepNumber (a .l) (length w) (length (a .scratch .now)) in
-    let e : c .before .before .step-number .result ≡ n = c .before .before .step-number .ensures in
-    let z = ne-eqb n 0 (λ q. c .before .if1 .left (e ∙ q)) in
-    (c .barred-by .ensures ∙ ap (λ (m : ℕ). barredBy m (a .l)) e ∙ sym (if-false (eqb n 0) _ _ z), sym (if-false (eqb n 0) _ _ z))
+    let t = c .before .before in
+    let a = t .before .before .before .before .before .before .args in
+    let n = step-lent (a .l) (a .wanted .now) (a .scratch .now) _ _ _ (t .step-number .ensures) (t .before .before .lent-in .ensures) (t .before .lent-in2 .ensures) in
+    (step-bars (a .l) (a .wanted .now) (a .scratch .now) (a .v) _ _ n (c .before .if1 .left) (c .barred-by .ensures), step-keeps (a .l) (a .wanted .now) (a .scratch .now) (a .v) _ n (c .before .if1 .left))
 
 pub step-spec : {M : Type 1} → statement M
 step-spec =
     tie.close
     (tie.spec
+    lent-in-requires
+    lent-in-requires-2
     step-number-requires
     advance-requires
     given-by-requires

@@ -1,3 +1,4 @@
+use Rattle.units.specs.Units.{units}
 use borrow.Author.Needs.{needs}
 use mathlib.Core.Path.{_≡_, sym, ap, _∙_}
 use mathlib.Core.Bool.{true, false}
@@ -37,7 +38,7 @@ end-address-requires c κs = search needs
 returns : tie.Need-returns
 returns c =
     let a = c .before .before .before .before .args in
-    over (a .stage) (a .l) (a .wanted .now) (c .before .before .stage-is .result) (c .before .before .stage-is .ensures) _ (c .before .if1 .taken) (c .end-address .ensures)
+    over (a .stage) (a .l) (units (a .l .part .word) (a .wanted .now)) (c .before .before .stage-is .result) (c .before .before .stage-is .ensures) _ (c .before .if1 .taken) (c .end-address .ensures)
 
 out-requires : tie.Need-out-requires
 out-requires c κs = search needs
@@ -45,7 +46,7 @@ out-requires c κs = search needs
 returns-2 : tie.Need-returns-2
 returns-2 c =
     let a = c .before .before .before .before .args in
-    out (a .stage) (a .l) (a .wanted .now) (c .before .before .stage-is .result) (c .before .before .stage-is .ensures) _ (c .before .if1 .left) (c .out .ensures)
+    out (a .stage) (a .l) (units (a .l .part .word) (a .wanted .now)) (c .before .before .stage-is .result) (c .before .before .stage-is .ensures) _ (c .before .if1 .left) (c .out .ensures)
 
 pub turn-spec : {M : Type 1} → statement M
 turn-spec = tie.close (tie.spec stage-is-requires end-address-requires returns out-requires returns-2)

@@ -1,26 +1,44 @@
+use Rattle.units.proofs.Widths.{units-length}
+use Rattle.loader_steps.proofs.Storing.{erased-so, erased-not}
 use borrow.Author.Needs.{needs}
-use mathlib.Core.Path.{sym, _∙_}
+use native.Mathlib.Omega.{arith}
+use mathlib.Core.Path.{refl, sym, _∙_}
 use Rattle.loader_steps.proofs.stores.store_erase.Statement.{statement}
 use Rattle.loader_steps.proofs.stores.store_erase.Tie as tie
 
 erased-well-requires : tie.Need-erased-well-requires
 erased-well-requires c κs = search needs
 
-ones-requires : tie.Need-ones-requires
-ones-requires c κs = search needs
+units-in-requires : tie.Need-units-in-requires
+units-in-requires c κs = search needs
 
-fill-requires : tie.Need-fill-requires
-fill-requires c κs = search needs
+erase-units-requires : tie.Need-erase-units-requires
+erase-units-requires c κs =
+    let a = c .before .before .before .before .before .args in
+    omega (arith, c .before .units-in .ensures, units-length (a .part .word) (a .scratch .now))
 
 same-length : tie.Need-same-length
 same-length c = search needs
 
 returns : tie.Need-returns
-returns c = simp (c .before .before .fill .ensures, c .before .before .before .before .ones .ensures, sym (c .before .before .before .before .before .before .erased-well .ensures) ∙ c .before .before .before .before .before .if1 .taken)
+returns c =
+    let a = c .before .before .before .before .before .before .before .before .args in
+    let e = c .before .before .erase-units in
+    let t = sym (c .before .before .before .before .before .before .erased-well .ensures) ∙ c .before .before .before .before .before .if1 .taken in
+    (erased-so (a .part) (a .b) _ (a .scratch .now) (e .last .1 .0) t (c .before .before .before .before .units-in .ensures) (e .ensures .0), e .ensures .1)
 
 returns-2 : tie.Need-returns-2
-returns-2 c = simp (sym (c .before .erased-well .ensures) ∙ c .if1 .left)
+returns-2 c =
+    let a = c .before .before .before .args in
+    (erased-not (a .part) (a .b) (a .scratch .now) (sym (c .before .erased-well .ensures) ∙ c .if1 .left), refl)
 
 pub store-erase-spec : {M : Type 1} → statement M
 store-erase-spec =
-    tie.close (tie.spec erased-well-requires ones-requires fill-requires same-length returns returns-2)
+    tie.close
+    (tie.spec
+    erased-well-requires
+    units-in-requires
+    erase-units-requires
+    same-length
+    returns
+    returns-2)
