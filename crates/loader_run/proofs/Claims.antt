@@ -14,12 +14,16 @@ use Rattle.loader_run.specs.declared.Ran.{Ran}
 use Rattle.loader_run.specs.Turns.{Config, after}
 use Rattle.loader.specs.declared.Stage.{Stage}
 use Rattle.loader.specs.Stages.{isEnded}
-use Rattle.loader_run.specs.Runs.{runRows, runNumber, driven, runLeftAt, beginningAt}
+use Rattle.loader_run.specs.Runs.{runRows, runNumber, driven, runLeftAt, beginningAt, lentRows, lentLeftAt}
 use Rattle.loader_steps.specs.Outs.{cycleOf}
 use Rattle.loader_run.specs.Promises.{FirstEnd, Promise}
 use Rattle.model_rules.specs.Cycles.{judgeOf}
 use Rattle.loader_run.proofs.Ending as ending
 use Rattle.loader_run.proofs.Sound as sound
+use Rattle.device.specs.Parts.{sizeOf, lengthOf}
+use Rattle.units.specs.Units.{bytesIn, lent, lentIn}
+use Rattle.loader_steps.specs.Front.{noBlock, wrongLengths}
+use Rattle.loader_run.proofs.Borders as borders
 
 -- The numbers: a run makes no cycle and ends with m exactly where m's own condition holds and that of no number before it does.
 pub refused-exactly : (stage : Stage) (verify : Bool) → isEnded stage ≡ false → (d : Device) (s : State) (p : Pins) (k : ℕ) (xs w sc : List ℕ) (m : ℕ) → (m ≡ 0 → ⊥)
@@ -67,3 +71,38 @@ pub passes-ever : (stage : Stage) (verify : Bool) (d : Device) (s : State) (p : 
     (length (after j d w (beginningAt stage verify d s p k xs sc) .bytes)) 0
     ≡ 0
 passes-ever = sound.passes-ever
+
+-- A run on lent bytes returns what the run on their units does ..
+pub lent-ran : (stage : Stage) (verify : Bool) (d : Device) (s : State) (p : Pins) (k : ℕ) (array wanted scratch : List ℕ)
+    → lentLeftAt stage verify d s p k array wanted scratch .ran ≡ runLeftAt stage verify d s p k (lent (d .part .word) array) (lent (d .part .word) wanted) (lent (d .part .word) scratch) .ran
+lent-ran = borders.lent-ran
+
+-- .. its numbers are those of as many lent bytes ..
+pub lent-refused-exactly : (stage : Stage) (verify : Bool) (d : Device) (s : State) (p : Pins) (k : ℕ) (array wanted scratch : List ℕ) → isEnded stage ≡ false → (m : ℕ) → (m ≡ 0 → ⊥)
+    → ((lentLeftAt stage verify d s p k array wanted scratch .ran .count ≡ 0) × (lentLeftAt stage verify d s p k array wanted scratch .ran .end ≡ m)) ↔ Foremost (lentRows d s p k (length array) (length wanted) (length scratch)) m
+lent-refused-exactly = borders.lent-numbers
+
+pub lent-accepted-exactly : (stage : Stage) (verify : Bool) (d : Device) (s : State) (p : Pins) (k : ℕ) (array wanted scratch : List ℕ) → isEnded stage ≡ false
+    → (0 < lentLeftAt stage verify d s p k array wanted scratch .ran .count) ↔ NoRow (lentRows d s p k (length array) (length wanted) (length scratch))
+lent-accepted-exactly = borders.lent-accepted
+
+-- .. and a refusal leaves the bytes as they were.
+pub lent-refused-leaves : (stage : Stage) (verify : Bool) (d : Device) (s : State) (p : Pins) (k : ℕ) (array wanted scratch : List ℕ) (m : ℕ) → (m ≡ 0 → ⊥)
+    → Foremost (lentRows d s p k (length array) (length wanted) (length scratch)) m
+    → (lentLeftAt stage verify d s p k array wanted scratch .ran ≡ record { count = 0; end = m; address = 0; state = s })
+    × (lentLeftAt stage verify d s p k array wanted scratch .bytes ≡ array) × (lentLeftAt stage verify d s p k array wanted scratch .scratch ≡ scratch)
+lent-refused-leaves = borders.lent-leaves
+
+-- Numbers 2 and 11 count bytes: lent bytes make the array's units exactly where they are as many bytes as those have, and so do wanted and
+-- scratch where 10 and 11 let them pass.
+pub two-counts-bytes : (d : Device) (n : ℕ) → (lentIn (d .part .word) n ≡ sizeOf (d .part)) ↔ (n ≡ bytesIn (d .part .word) (sizeOf (d .part)))
+two-counts-bytes = borders.two-in-bytes
+
+pub eleven-counts-bytes : (d : Device) (k n m : ℕ) → noBlock (d .part) k ≡ false → wrongLengths (d .part) k (lentIn (d .part .word) n) (lentIn (d .part .word) m) ≡ false
+    → (n ≡ bytesIn (d .part .word) (lengthOf (d .part) k)) × (m ≡ bytesIn (d .part .word) (lengthOf (d .part) k))
+eleven-counts-bytes = borders.eleven-in-bytes
+
+-- In byte mode, and so on devices 1 to 4, a run on lent bytes is the run of the bytes themselves.
+pub in-byte-mode : (stage : Stage) (verify : Bool) (d : Device) (s : State) (p : Pins) (k : ℕ) (array wanted scratch : List ℕ) → d .part .word ≡ false
+    → lentLeftAt stage verify d s p k array wanted scratch ≡ runLeftAt stage verify d s p k array wanted scratch
+in-byte-mode = borders.in-byte-mode

@@ -55,5 +55,5 @@ good d s p k array w sc e =
       free = no-head r7;
     }
 
-pub short : (d : Device) (s : State) (p : Pins) (k array w sc : ℕ) → runNumber d s p k array w sc ≡ 0 → w ≤ 131072
+pub short : (d : Device) (s : State) (p : Pins) (k array w sc : ℕ) → runNumber d s p k array w sc ≡ 0 → w ≤ 524288
 short d s p k array w sc e = omega (arith, good d s p k array w sc e .wanted, length-small (d .part) k)

@@ -4,7 +4,7 @@ use mathlib.Core.Bool.{Bool, true, false, not, _&&_, _||_}
 use Prim.Native.Nat.{ℕ, _<_}
 use native.Mathlib.Omega.{arith}
 use lib.Dec.{eqb, ltb}
-use borrow.Author.Tests.{lt-leb, eq-eqb, eqb-true, eqb-false}
+use borrow.Author.Tests.{le-ltb, lt-leb, eq-eqb, eqb-true, eqb-false}
 use Rattle.common.specs.Choice.{if_then_else_}
 use Rattle.common.proofs.Choice.{or-both, unlike, and-none}
 use Rattle.common.specs.Numbers.{past, end}
@@ -20,7 +20,7 @@ use Rattle.model_types.specs.declared.Effect.{Effect}
 use Rattle.model_types.specs.declared.Effect.the-variants.{Nothing, Program, Erase, CutProgram, CutErase}
 use Rattle.model_types.specs.declared.State.{State}
 use Rattle.model_types.specs.declared.Cycle.{Cycle}
-use Rattle.model_types.specs.Levels.{rpLow, vppLow, badPins, badOe, badLevels, locked}
+use Rattle.model_types.specs.Levels.{rpLow, vppLow, badPins, mostOe, badOe, badLevels, locked}
 use Rattle.model_commands.specs.Commands.{unsupplied}
 use Rattle.model_operation.specs.Settling.{residueFor}
 use Rattle.model_rules.specs.Cycles.{pastArray, shortResidue, numberOf, judgeOf, decideOf}
@@ -65,7 +65,7 @@ judged d s c n k e p v o h z =
   where
     normal : (kind : Kind) → badOe (d .part) kind 0 ≡ false
     normal Read = refl
-    normal Write = refl
+    normal Write = le-ltb (mostOe (d .part)) 0 (omega arith)
     normal Idle = refl
 
 -- one for an operation, 0 for none

@@ -5,5 +5,7 @@ pub mod Good
 pub mod Judging
 pub mod Sound
 pub mod Ending
+pub mod Lending
+pub mod Borders
 pub mod Claims
 pub mod Unique

@@ -12,8 +12,9 @@ use Rattle.common.proofs.Choice.{if-ind, unlike}
 use Rattle.loader.specs.declared.Stage.{Stage}
 use Rattle.loader.specs.declared.Stage.the-variants.{Clearing, Opening, Reading, EraseAsking, EraseConfirming, EraseWaiting, ProgramAsking, ProgramSending, ProgramWaiting, Closing, Verifying, Ended}
 use Rattle.loader.specs.declared.Loader.{Loader}
+use Rattle.units.specs.Units.{carried}
 use Rattle.loader.specs.Walks.{nextDiff, diffFrom, risesIn}
-use Rattle.loader.specs.Moves.{isReady, eraseFault, programFault, loadedStage, onward, afterReads, afterRead, pollMore, erasePolled, past, programPolled, verifyMore, nextIn}
+use Rattle.loader.specs.Moves.{statusIn, isReady, eraseFault, programFault, loadedStage, onward, afterReads, afterRead, pollMore, erasePolled, past, programPolled, verifyMore, nextIn}
 use Rattle.loader_steps.specs.Stores.{storeOf}
 use Rattle.model.specs.declared.Seen.{Seen}
 use Rattle.model.specs.declared.Seen.the-variants.{NoData, Data, Refused}
@@ -172,7 +173,7 @@ module _ (l : Loader) (w sc : List ℕ) where
   verify-falls : (b : ℕ) → remains (verifyMore l b w) (length w) < remainsIn Verifying (length w) (l .place) (l .polls)
   unfolding verifyMore
   verify-falls b =
-      if-ind In (eqb b (getD w (l .place) 0)) _ _
+      if-ind In (eqb (carried (l .part .word) b) (getD w (l .place) 0)) _ _
       (λ e. if-ind In (ltb (l .place) (length w - 1)) _ _ (λ h. nearer (length w) (l .place) (ltb-true _ _ h)) (λ h. omega arith)) (λ e. omega arith)
     where
       In : Loader → Type 0
@@ -188,10 +189,10 @@ falls-in Opening l b w sc e = omega arith
 falls-in Reading l b w sc e = read-falls l w sc
 falls-in EraseAsking l b w sc e = omega arith
 falls-in EraseConfirming l b w sc e = omega arith
-falls-in EraseWaiting l b w sc e = erase-falls l w sc b
+falls-in EraseWaiting l b w sc e = erase-falls l w sc (statusIn b)
 falls-in ProgramAsking l b w sc e = omega arith
 falls-in ProgramSending l b w sc e = omega arith
-falls-in ProgramWaiting l b w sc e = program-falls l w sc b
+falls-in ProgramWaiting l b w sc e = program-falls l w sc (statusIn b)
 falls-in Closing l b w sc e = omega arith
 falls-in Verifying l b w sc e = verify-falls l w sc b
 falls-in (Ended m) l b w sc e = absurd (unlike e)

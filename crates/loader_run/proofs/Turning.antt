@@ -15,7 +15,7 @@ use Rattle.loader_steps.specs.Stores.{storeOf}
 use Rattle.loader_steps.proofs.Again.{first-kept}
 use Rattle.model.specs.declared.Seen.{Seen}
 use Rattle.model.specs.declared.Seen.the-variants.{NoData, Data, Refused}
-use Rattle.loader_run.specs.Turns.{Config, isRefused, numberIn, loaderBy, scratchBy, answerTo, arrayTo, moved, turnOf, after, bound}
+use Rattle.loader_run.specs.Turns.{Config, isRefused, numberIn, refusalIn, loaderBy, scratchBy, answerTo, arrayTo, moved, turnOf, after, bound}
 use Rattle.loader.specs.Stages.{isEnded}
 use Rattle.loader_run.specs.Runs.{driven}
 use Rattle.loader_run.proofs.Measure.{remains, remains-bound, falls}
@@ -27,7 +27,7 @@ took NoData l w sc e = (refl, refl)
 took (Data b) l w sc e = (refl, refl)
 took (Refused n) l w sc e = absurd (unlike e)
 
-pub took-none : (seen : Seen) (l : Loader) (w sc : List ℕ) → isRefused seen ≡ true → (loaderBy seen l w sc ≡ endedBy l (numberIn seen)) × (scratchBy seen l w sc ≡ sc)
+pub took-none : (seen : Seen) (l : Loader) (w sc : List ℕ) → isRefused seen ≡ true → (loaderBy seen l w sc ≡ endedBy l (refusalIn seen)) × (scratchBy seen l w sc ≡ sc)
 took-none NoData l w sc e = absurd (unlike (sym e))
 took-none (Data b) l w sc e = absurd (unlike (sym e))
 took-none (Refused n) l w sc e = (refl, refl)

@@ -8,43 +8,34 @@ use Rattle.device.specs.declared.Device.{Device}
 use Rattle.model_types.specs.declared.Pins.{Pins}
 use Rattle.model_types.specs.declared.State.{State}
 use Rattle.loader_run.specs.declared.Ran.{Ran}
-use Rattle.loader_run.specs.Runs.{runNumber, loadAlone, verifyAlone, ranOf, bytesOf, scratchOf}
-use Rattle.loader.specs.declared.Loader.{Loader}
-use Rattle.loader.specs.Moves.{nextOf}
-use Rattle.loader_steps.specs.Stores.{storeOf}
+use Rattle.loader_run.specs.Runs.{runNumber, lentRun, lentLoad, lentVerify}
 
-pub run-unique : (d : Device) (s : State) (p : Pins) (k : ℕ) (xs w sc : List ℕ) → Unique (λ (r : Ran). r ≡ ranOf d s p k xs w sc)
-run-unique d s p k xs w sc = only (ranOf d s p k xs w sc)
+pub run-unique : (d : Device) (s : State) (p : Pins) (k : ℕ) (xs w sc : List ℕ) → Unique (λ (r : Ran). r ≡ lentRun d s p k xs w sc .ran)
+run-unique d s p k xs w sc = only (lentRun d s p k xs w sc .ran)
 
-pub run-array-unique : (d : Device) (s : State) (p : Pins) (k : ℕ) (xs w sc : List ℕ) → Unique (λ (left : List ℕ). left ≡ bytesOf d s p k xs w sc)
-run-array-unique d s p k xs w sc = only (bytesOf d s p k xs w sc)
+pub run-array-unique : (d : Device) (s : State) (p : Pins) (k : ℕ) (xs w sc : List ℕ) → Unique (λ (left : List ℕ). left ≡ lentRun d s p k xs w sc .bytes)
+run-array-unique d s p k xs w sc = only (lentRun d s p k xs w sc .bytes)
 
-pub run-scratch-unique : (d : Device) (s : State) (p : Pins) (k : ℕ) (xs w sc : List ℕ) → Unique (λ (left : List ℕ). left ≡ scratchOf d s p k xs w sc)
-run-scratch-unique d s p k xs w sc = only (scratchOf d s p k xs w sc)
+pub run-scratch-unique : (d : Device) (s : State) (p : Pins) (k : ℕ) (xs w sc : List ℕ) → Unique (λ (left : List ℕ). left ≡ lentRun d s p k xs w sc .scratch)
+run-scratch-unique d s p k xs w sc = only (lentRun d s p k xs w sc .scratch)
 
-pub run-load-unique : (d : Device) (s : State) (p : Pins) (k : ℕ) (xs w sc : List ℕ) → Unique (λ (r : Ran). r ≡ loadAlone d s p k xs w sc .ran)
-run-load-unique d s p k xs w sc = only (loadAlone d s p k xs w sc .ran)
+pub run-load-unique : (d : Device) (s : State) (p : Pins) (k : ℕ) (xs w sc : List ℕ) → Unique (λ (r : Ran). r ≡ lentLoad d s p k xs w sc .ran)
+run-load-unique d s p k xs w sc = only (lentLoad d s p k xs w sc .ran)
 
-pub run-load-array-unique : (d : Device) (s : State) (p : Pins) (k : ℕ) (xs w sc : List ℕ) → Unique (λ (left : List ℕ). left ≡ loadAlone d s p k xs w sc .bytes)
-run-load-array-unique d s p k xs w sc = only (loadAlone d s p k xs w sc .bytes)
+pub run-load-array-unique : (d : Device) (s : State) (p : Pins) (k : ℕ) (xs w sc : List ℕ) → Unique (λ (left : List ℕ). left ≡ lentLoad d s p k xs w sc .bytes)
+run-load-array-unique d s p k xs w sc = only (lentLoad d s p k xs w sc .bytes)
 
-pub run-load-scratch-unique : (d : Device) (s : State) (p : Pins) (k : ℕ) (xs w sc : List ℕ) → Unique (λ (left : List ℕ). left ≡ loadAlone d s p k xs w sc .scratch)
-run-load-scratch-unique d s p k xs w sc = only (loadAlone d s p k xs w sc .scratch)
+pub run-load-scratch-unique : (d : Device) (s : State) (p : Pins) (k : ℕ) (xs w sc : List ℕ) → Unique (λ (left : List ℕ). left ≡ lentLoad d s p k xs w sc .scratch)
+run-load-scratch-unique d s p k xs w sc = only (lentLoad d s p k xs w sc .scratch)
 
-pub run-verify-unique : (d : Device) (s : State) (p : Pins) (k : ℕ) (xs w sc : List ℕ) → Unique (λ (r : Ran). r ≡ verifyAlone d s p k xs w sc .ran)
-run-verify-unique d s p k xs w sc = only (verifyAlone d s p k xs w sc .ran)
+pub run-verify-unique : (d : Device) (s : State) (p : Pins) (k : ℕ) (xs w sc : List ℕ) → Unique (λ (r : Ran). r ≡ lentVerify d s p k xs w sc .ran)
+run-verify-unique d s p k xs w sc = only (lentVerify d s p k xs w sc .ran)
 
-pub run-verify-array-unique : (d : Device) (s : State) (p : Pins) (k : ℕ) (xs w sc : List ℕ) → Unique (λ (left : List ℕ). left ≡ verifyAlone d s p k xs w sc .bytes)
-run-verify-array-unique d s p k xs w sc = only (verifyAlone d s p k xs w sc .bytes)
+pub run-verify-array-unique : (d : Device) (s : State) (p : Pins) (k : ℕ) (xs w sc : List ℕ) → Unique (λ (left : List ℕ). left ≡ lentVerify d s p k xs w sc .bytes)
+run-verify-array-unique d s p k xs w sc = only (lentVerify d s p k xs w sc .bytes)
 
-pub run-verify-scratch-unique : (d : Device) (s : State) (p : Pins) (k : ℕ) (xs w sc : List ℕ) → Unique (λ (left : List ℕ). left ≡ verifyAlone d s p k xs w sc .scratch)
-run-verify-scratch-unique d s p k xs w sc = only (verifyAlone d s p k xs w sc .scratch)
+pub run-verify-scratch-unique : (d : Device) (s : State) (p : Pins) (k : ℕ) (xs w sc : List ℕ) → Unique (λ (left : List ℕ). left ≡ lentVerify d s p k xs w sc .scratch)
+run-verify-scratch-unique d s p k xs w sc = only (lentVerify d s p k xs w sc .scratch)
 
 pub run-number-unique : (d : Device) (s : State) (p : Pins) (k array w sc : ℕ) → Unique (λ (r : ℕ). r ≡ runNumber d s p k array w sc)
 run-number-unique d s p k array w sc = only (runNumber d s p k array w sc)
-
-pub take-unique : (l : Loader) (b : ℕ) (w sc : List ℕ) → Unique (λ (r : Loader). r ≡ nextOf l b w (storeOf l b w sc))
-take-unique l b w sc = only (nextOf l b w (storeOf l b w sc))
-
-pub take-scratch-unique : (l : Loader) (b : ℕ) (w sc : List ℕ) → Unique (λ (left : List ℕ). left ≡ storeOf l b w sc)
-take-scratch-unique l b w sc = only (storeOf l b w sc)

@@ -1,3 +1,4 @@
 pub mod Turns
+pub mod Inner
 pub mod Runs
 pub mod Promises

@@ -1,4 +1,4 @@
--- A run: its tests, its beginning and what it returns. Assumes nothing.
+-- A run: its tests, its beginning and what it returns, told of lists of units; and then of lent bytes. Assumes nothing.
 use mathlib.Core.Bool.{Bool, true, false, not}
 use mathlib.Core.List.{List, [], _∷_, _++_}
 use Prim.Native.Nat.{ℕ}
@@ -6,6 +6,7 @@ use lib.ListN.{length}
 use lib.Dec.{eqb}
 use Rattle.common.specs.Choice.{if_then_else_}
 use Rattle.common.specs.Numbers.{Row, row, given}
+use Rattle.units.specs.Units.{back, lent, lentIn}
 use Rattle.device.specs.declared.Device.{Device}
 use Rattle.device.specs.Parts.{unknownDevice, sizeOf}
 use Rattle.model_types.specs.declared.Pins.{Pins}
@@ -20,7 +21,7 @@ use Rattle.loader_steps.specs.Front.{setupRows, recordAt, endAddress}
 use Rattle.loader_run.specs.declared.Ran.{Ran}
 use Rattle.loader_run.specs.Turns.{Config, after, bound}
 
--- the tests of a run, in their order; 12 is something awaited, running or suspended
+-- the tests of a run, in their order, the lengths in units; 12 is something awaited, running or suspended
 abbrev pub runRows : Device → State → Pins → ℕ → ℕ → ℕ → ℕ → List Row
 runRows d s p k array w sc =
     row 1 (unknownDevice d)
@@ -104,3 +105,31 @@ bytesOf d s p k xs w sc = runLeft d s p k xs w sc .bytes
 
 abbrev pub scratchOf : Device → State → Pins → ℕ → List ℕ → List ℕ → List ℕ → List ℕ
 scratchOf d s p k xs w sc = runLeft d s p k xs w sc .scratch
+
+-- the same of so many lent bytes: the lengths are those of their units, and an odd number of bytes makes none in word mode
+abbrev pub lentRows : Device → State → Pins → ℕ → ℕ → ℕ → ℕ → List Row
+lentRows d s p k array wanted scratch = runRows d s p k (lentIn (d .part .word) array) (lentIn (d .part .word) wanted) (lentIn (d .part .word) scratch)
+
+abbrev pub lentNumber : Device → State → Pins → ℕ → ℕ → ℕ → ℕ → ℕ
+lentNumber d s p k array wanted scratch = runNumber d s p k (lentIn (d .part .word) array) (lentIn (d .part .word) wanted) (lentIn (d .part .word) scratch)
+
+-- what is left in units, as bytes again
+abbrev pub asBytes : Bool → RunLeft → RunLeft
+asBytes word r = record { ran = r .ran; bytes = back word (r .bytes); scratch = back word (r .scratch) }
+
+-- from such a beginning on lent bytes: what it returns and leaves by their units, or the refusal with the bytes as they were
+unfoldable pub lentLeftAt : Stage → Bool → Device → State → Pins → ℕ → List ℕ → List ℕ → List ℕ → RunLeft
+lentLeftAt stage verify d s p k array wanted scratch =
+    if eqb (lentNumber d s p k (length array) (length wanted) (length scratch)) 0
+    then asBytes (d .part .word) (runLeftAt stage verify d s p k (lent (d .part .word) array) (lent (d .part .word) wanted) (lent (d .part .word) scratch))
+    else runRefused (lentNumber d s p k (length array) (length wanted) (length scratch)) s array scratch
+
+-- a run of load and verify, a load alone, and a verify alone, on lent bytes
+abbrev pub lentRun : Device → State → Pins → ℕ → List ℕ → List ℕ → List ℕ → RunLeft
+lentRun d s p k array wanted scratch = lentLeftAt Clearing true d s p k array wanted scratch
+
+abbrev pub lentLoad : Device → State → Pins → ℕ → List ℕ → List ℕ → List ℕ → RunLeft
+lentLoad d s p k array wanted scratch = lentLeftAt Clearing false d s p k array wanted scratch
+
+abbrev pub lentVerify : Device → State → Pins → ℕ → List ℕ → List ℕ → List ℕ → RunLeft
+lentVerify d s p k array wanted scratch = lentLeftAt Closing true d s p k array wanted scratch

@@ -1,4 +1,4 @@
--- Loader and model stepped against each other. Assumes nothing.
+-- Loader and model stepped against each other. The array, scratch and what is wanted are lists of units. Assumes nothing.
 use mathlib.Core.Bool.{Bool, true, false}
 use mathlib.Core.List.{List, []}
 use Prim.Native.Nat.{ℕ, zero, suc, _+_, _*_}
@@ -28,13 +28,19 @@ isRefused NoData = false
 isRefused (Data b) = false
 isRefused (Refused n) = true
 
--- the number that an answer holds: the byte, 0 where none is given, or that of the refusal
+-- the number that an answer holds: the data, 0 where none are given, or that of the refusal
 abbrev pub numberIn : Seen → ℕ
 numberIn NoData = 0
 numberIn (Data b) = b
 numberIn (Refused n) = n
 
--- what the loader makes of the model's answer: it takes the byte, 0 where none is given; a refusal would end the load
+-- the number of a refusal, 0 where the answer is none
+abbrev pub refusalIn : Seen → ℕ
+refusalIn NoData = 0
+refusalIn (Data v) = 0
+refusalIn (Refused n) = n
+
+-- what the loader makes of the model's answer: it takes the data, 0 where none are given; a refusal would end the load
 abbrev pub loaderBy : Seen → Loader → List ℕ → List ℕ → Loader
 loaderBy NoData l w sc = nextOf l 0 w (storeOf l 0 w sc)
 loaderBy (Data b) l w sc = nextOf l b w (storeOf l b w sc)
@@ -73,6 +79,6 @@ abbrev pub after : ℕ → Device → List ℕ → Config → Config
 after zero d w c = c
 after (suc k) d w c = after k d w (turnOf d w c)
 
--- no load of n bytes makes more cycles
+-- no load of n units makes more cycles
 abbrev pub bound : ℕ → ℕ
 bound n = n * 65539 + 196622

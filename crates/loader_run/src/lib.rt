@@ -26,11 +26,12 @@ ghost use Rattle.model_rules.specs.Cycles.{judgeOf};
 ghost use Rattle.loader.specs.Stages.{isEnded};
 ghost use Rattle.loader_steps.specs.Outs.{firstAddress, hereOf, cycleOf};
 ghost use Rattle.loader_steps.specs.Front.{recordAt};
-ghost use Rattle.loader_run.specs.Turns.{isRefused, numberIn, loaderBy, scratchBy, answerTo, arrayTo};
-ghost use Rattle.loader_run.specs.Runs.{runNumber, begin, ranBy, driven, runLeftAt, loadAlone, verifyAlone, ranOf, bytesOf, scratchOf};
+ghost use Rattle.loader_run.specs.Turns.{isRefused, numberIn, refusalIn, loaderBy, scratchBy, answerTo, arrayTo};
+ghost use Rattle.units.specs.Units.{units};
+ghost use Rattle.loader_run.specs.Runs.{runNumber, begin, ranBy, driven, lentLeftAt, lentRun, lentLoad, lentVerify};
 ghost use Rattle.model_types.specs.Phases.{underWay};
 
-// What a run returns: the cycles made, the number of the end (0 well), for 25 the array address, and the device's state.
+// What a run returns: the cycles made, the number of the end (0 well), for 25 the array address of the byte that differs, and the device's state.
 pub struct Ran {
     pub count: u64,
     pub end: u8,
@@ -54,29 +55,39 @@ fn is_refused(seen: Seen) -> bool
     }
 }
 
-fn number_in(seen: Seen) -> u8
+fn number_in(seen: Seen) -> u16
     ensures { λ r. ⌜ r ≡ numberIn seen ⌝ }
 {
     match seen {
         Seen::NoData => 0,
-        Seen::Data(b) => b,
+        Seen::Data(v) => v,
+        Seen::Refused(n) => units::wide(n),
+    }
+}
+
+fn refusal_in(seen: Seen) -> u8
+    ensures { λ r. ⌜ r ≡ refusalIn seen ⌝ }
+{
+    match seen {
+        Seen::NoData => 0,
+        Seen::Data(_) => 0,
         Seen::Refused(n) => n,
     }
 }
 
 // The loader takes what the model answered.
 fn taken(seen: Seen, l: Loader, wanted: &[u8], scratch: &mut [u8]) -> Loader
-    ensures { λ r. ⌜ r ≡ loaderBy seen l (now (wanted .entry)) (now (scratch .entry)) ⌝ }
-    ensures { λ _. ⌜ now (scratch .exit) ≡ scratchBy seen l (now (wanted .entry)) (now (scratch .entry)) ⌝ }
+    ensures { λ r. ⌜ r ≡ loaderBy seen l (units (l .part .word) (now (wanted .entry))) (units (l .part .word) (now (scratch .entry))) ⌝ }
+    ensures { λ _. ⌜ units (l .part .word) (now (scratch .exit)) ≡ scratchBy seen l (units (l .part .word) (now (wanted .entry))) (units (l .part .word) (now (scratch .entry))) ⌝ }
 {
-    let n = number_in(seen);
     if is_refused(seen) {
-        return ended_by(l, n);
+        return ended_by(l, refusal_in(seen));
     }
-    take(l, n, wanted, scratch)
+    let v = number_in(seen);
+    take(l, v, wanted, scratch)
 }
 
-// The address of the byte at the record's place, by the block's first address.
+// The address of the unit at the record's place, by the block's first address.
 fn here(start: u32, l: Loader) -> u32
     requires { ⌜ start ≡ firstAddress l ⌝ }
     ensures { λ r. ⌜ r ≡ hereOf l ⌝ }
@@ -89,13 +100,13 @@ fn here(start: u32, l: Loader) -> u32
 
 // One cycle made, by the block's first address. Refusals 1 to 6 do not apply to it.
 fn both(d: Device, start: u32, h: Held, wanted: &[u8], scratch: &mut [u8], array: &mut [u8]) -> Held
-    requires { ⌜ (start ≡ firstAddress (h .loader)) × (judgeOf d (h .state) (cycleOf (h .loader) (now wanted)) (length (now array)) 0 ≡ 0) ⌝ }
+    requires { ⌜ (h .loader .part ≡ d .part) × (start ≡ firstAddress (h .loader)) × (judgeOf d (h .state) (cycleOf (h .loader) (units (d .part .word) (now wanted))) (length (units (d .part .word) (now array))) 0 ≡ 0) ⌝ }
     ensures { λ r. ⌜ r .loader
-        ≡ loaderBy (answerTo d (now (wanted .entry)) (h .loader) (h .state) (now (array .entry)) .seen) (h .loader) (now (wanted .entry)) (now (scratch .entry)) ⌝ }
-    ensures { λ r. ⌜ r .state ≡ answerTo d (now (wanted .entry)) (h .loader) (h .state) (now (array .entry)) .state ⌝ }
-    ensures { λ _. ⌜ now (scratch .exit)
-        ≡ scratchBy (answerTo d (now (wanted .entry)) (h .loader) (h .state) (now (array .entry)) .seen) (h .loader) (now (wanted .entry)) (now (scratch .entry)) ⌝ }
-    ensures { λ _. ⌜ now (array .exit) ≡ arrayTo d (now (wanted .entry)) (h .loader) (h .state) (now (array .entry)) ⌝ }
+        ≡ loaderBy (answerTo d (units (d .part .word) (now (wanted .entry))) (h .loader) (h .state) (units (d .part .word) (now (array .entry))) .seen) (h .loader) (units (d .part .word) (now (wanted .entry))) (units (d .part .word) (now (scratch .entry))) ⌝ }
+    ensures { λ r. ⌜ r .state ≡ answerTo d (units (d .part .word) (now (wanted .entry))) (h .loader) (h .state) (units (d .part .word) (now (array .entry))) .state ⌝ }
+    ensures { λ _. ⌜ units (d .part .word) (now (scratch .exit))
+        ≡ scratchBy (answerTo d (units (d .part .word) (now (wanted .entry))) (h .loader) (h .state) (units (d .part .word) (now (array .entry))) .seen) (h .loader) (units (d .part .word) (now (wanted .entry))) (units (d .part .word) (now (scratch .entry))) ⌝ }
+    ensures { λ _. ⌜ units (d .part .word) (now (array .exit)) ≡ arrayTo d (units (d .part .word) (now (wanted .entry))) (h .loader) (h .state) (units (d .part .word) (now (array .entry))) ⌝ }
 {
     let l = h.loader;
     let s = h.state;
@@ -120,11 +131,11 @@ fn going(l: Loader) -> bool
 
 // The load made to its end, from a beginning that nothing refuses.
 fn drive(d: Device, s: State, l: Loader, wanted: &[u8], scratch: &mut [u8], array: &mut [u8]) -> Ran
-    requires { ⌜ (runNumber d s (l .pins) (l .block) (length (now array)) (length (now wanted)) (length (now scratch)) ≡ 0)
+    requires { ⌜ (runNumber d s (l .pins) (l .block) (length (units (d .part .word) (now array))) (length (units (d .part .word) (now wanted))) (length (units (d .part .word) (now scratch))) ≡ 0)
         × (l ≡ recordAt (d .part) (l .pins) (l .block) (l .stage) (l .verify)) ⌝ }
-    ensures { λ r. ⌜ r ≡ ranBy (driven d (now (wanted .entry)) (begin d s l (now (array .entry)) (now (scratch .entry)))) ⌝ }
-    ensures { λ _. ⌜ now (scratch .exit) ≡ driven d (now (wanted .entry)) (begin d s l (now (array .entry)) (now (scratch .entry))) .scratch ⌝ }
-    ensures { λ _. ⌜ now (array .exit) ≡ driven d (now (wanted .entry)) (begin d s l (now (array .entry)) (now (scratch .entry))) .bytes ⌝ }
+    ensures { λ r. ⌜ r ≡ ranBy (driven d (units (d .part .word) (now (wanted .entry))) (begin d s l (units (d .part .word) (now (array .entry))) (units (d .part .word) (now (scratch .entry))))) ⌝ }
+    ensures { λ _. ⌜ units (d .part .word) (now (scratch .exit)) ≡ driven d (units (d .part .word) (now (wanted .entry))) (begin d s l (units (d .part .word) (now (array .entry))) (units (d .part .word) (now (scratch .entry)))) .scratch ⌝ }
+    ensures { λ _. ⌜ units (d .part .word) (now (array .exit)) ≡ driven d (units (d .part .word) (now (wanted .entry))) (begin d s l (units (d .part .word) (now (array .entry))) (units (d .part .word) (now (scratch .entry)))) .bytes ⌝ }
 {
     let start = first(l);
     let mut moving = l;
@@ -177,7 +188,7 @@ fn wrong_array(part: Part, array: usize) -> bool
     !(array == device::size(part))
 }
 
-// Refusals 1 to 4 and 10 to 12, the first in that order, or 0.
+// Refusals 1 to 4 and 10 to 12, the first in that order, or 0. The lengths are in units.
 pub fn run_number(
     d: Device,
     s: State,
@@ -222,13 +233,22 @@ fn run_at(
     wanted: &[u8],
     scratch: &mut [u8],
 ) -> Ran
-    ensures { λ r. ⌜ r ≡ runLeftAt stage verify d s p block (now (array .entry)) (now (wanted .entry)) (now (scratch .entry)) .ran ⌝ }
-    ensures { λ _. ⌜ now (array .exit) ≡ runLeftAt stage verify d s p block (now (array .entry)) (now (wanted .entry)) (now (scratch .entry)) .bytes ⌝ }
-    ensures { λ _. ⌜ now (scratch .exit) ≡ runLeftAt stage verify d s p block (now (array .entry)) (now (wanted .entry)) (now (scratch .entry)) .scratch ⌝ }
+    ensures { λ r. ⌜ r ≡ lentLeftAt stage verify d s p block (now (array .entry)) (now (wanted .entry)) (now (scratch .entry)) .ran ⌝ }
+    ensures { λ _. ⌜ now (array .exit) ≡ lentLeftAt stage verify d s p block (now (array .entry)) (now (wanted .entry)) (now (scratch .entry)) .bytes ⌝ }
+    ensures { λ _. ⌜ now (scratch .exit) ≡ lentLeftAt stage verify d s p block (now (array .entry)) (now (wanted .entry)) (now (scratch .entry)) .scratch ⌝ }
 {
-    let n = run_number(d, s, p, block, array.len(), wanted.len(), scratch.len());
+    let part = d.part;
+    let word = part.word;
+    let n = run_number(
+        d,
+        s,
+        p,
+        block,
+        units::lent_in(word, array.len()),
+        units::lent_in(word, wanted.len()),
+        units::lent_in(word, scratch.len()),
+    );
     if n == 0 {
-        let part = d.part;
         let l = record_at(part, p, block, stage, verify);
         return drive(d, s, l, wanted, scratch, array);
     }
@@ -250,9 +270,9 @@ pub fn run(
     wanted: &[u8],
     scratch: &mut [u8],
 ) -> Ran
-    ensures { λ r. ⌜ r ≡ ranOf d s p block (now (array .entry)) (now (wanted .entry)) (now (scratch .entry)) ⌝ }
-    ensures { λ _. ⌜ now (array .exit) ≡ bytesOf d s p block (now (array .entry)) (now (wanted .entry)) (now (scratch .entry)) ⌝ }
-    ensures { λ _. ⌜ now (scratch .exit) ≡ scratchOf d s p block (now (array .entry)) (now (wanted .entry)) (now (scratch .entry)) ⌝ }
+    ensures { λ r. ⌜ r ≡ lentRun d s p block (now (array .entry)) (now (wanted .entry)) (now (scratch .entry)) .ran ⌝ }
+    ensures { λ _. ⌜ now (array .exit) ≡ lentRun d s p block (now (array .entry)) (now (wanted .entry)) (now (scratch .entry)) .bytes ⌝ }
+    ensures { λ _. ⌜ now (scratch .exit) ≡ lentRun d s p block (now (array .entry)) (now (wanted .entry)) (now (scratch .entry)) .scratch ⌝ }
 {
     run_at(
         Stage::Clearing,
@@ -277,9 +297,9 @@ pub fn run_load(
     wanted: &[u8],
     scratch: &mut [u8],
 ) -> Ran
-    ensures { λ r. ⌜ r ≡ loadAlone d s p block (now (array .entry)) (now (wanted .entry)) (now (scratch .entry)) .ran ⌝ }
-    ensures { λ _. ⌜ now (array .exit) ≡ loadAlone d s p block (now (array .entry)) (now (wanted .entry)) (now (scratch .entry)) .bytes ⌝ }
-    ensures { λ _. ⌜ now (scratch .exit) ≡ loadAlone d s p block (now (array .entry)) (now (wanted .entry)) (now (scratch .entry)) .scratch ⌝ }
+    ensures { λ r. ⌜ r ≡ lentLoad d s p block (now (array .entry)) (now (wanted .entry)) (now (scratch .entry)) .ran ⌝ }
+    ensures { λ _. ⌜ now (array .exit) ≡ lentLoad d s p block (now (array .entry)) (now (wanted .entry)) (now (scratch .entry)) .bytes ⌝ }
+    ensures { λ _. ⌜ now (scratch .exit) ≡ lentLoad d s p block (now (array .entry)) (now (wanted .entry)) (now (scratch .entry)) .scratch ⌝ }
 {
     run_at(
         Stage::Clearing,
@@ -304,9 +324,9 @@ pub fn run_verify(
     wanted: &[u8],
     scratch: &mut [u8],
 ) -> Ran
-    ensures { λ r. ⌜ r ≡ verifyAlone d s p block (now (array .entry)) (now (wanted .entry)) (now (scratch .entry)) .ran ⌝ }
-    ensures { λ _. ⌜ now (array .exit) ≡ verifyAlone d s p block (now (array .entry)) (now (wanted .entry)) (now (scratch .entry)) .bytes ⌝ }
-    ensures { λ _. ⌜ now (scratch .exit) ≡ verifyAlone d s p block (now (array .entry)) (now (wanted .entry)) (now (scratch .entry)) .scratch ⌝ }
+    ensures { λ r. ⌜ r ≡ lentVerify d s p block (now (array .entry)) (now (wanted .entry)) (now (scratch .entry)) .ran ⌝ }
+    ensures { λ _. ⌜ now (array .exit) ≡ lentVerify d s p block (now (array .entry)) (now (wanted .entry)) (now (scratch .entry)) .bytes ⌝ }
+    ensures { λ _. ⌜ now (scratch .exit) ≡ lentVerify d s p block (now (array .entry)) (now (wanted .entry)) (now (scratch .entry)) .scratch ⌝ }
 {
     run_at(Stage::Closing, true, d, s, p, block, array, wanted, scratch)
 }

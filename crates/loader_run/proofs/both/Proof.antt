@@ -1,5 +1,9 @@
-use mathlib.Core.Path.{_≡_, ap, _∙_}
-use mathlib.Core.List.{[]}
+use mathlib.Core.Path.{_≡_, ap, subst, _∙_}
+use mathlib.Core.List.{List, []}
+use Prim.Native.Nat.{ℕ}
+use Rattle.device.specs.declared.Part.{Part}
+use Rattle.units.specs.Units.{units}
+use Rattle.loader_run.proofs.Lending.{none}
 use Rattle.model_types.specs.declared.Cycle.{Cycle}
 use Rattle.loader_steps.specs.Outs.{firstAddress, hereOf, cycleAtStage, cycleOf}
 use Rattle.model.specs.declared.Answer.{Answer}
@@ -14,7 +18,7 @@ use Rattle.loader_run.proofs.both.Statement.{statement}
 use Rattle.loader_run.proofs.both.Tie as tie
 
 here-requires : tie.Need-here-requires
-here-requires c κs = c .before .before .before .before .before .pre .0
+here-requires c κs = c .before .before .before .before .before .pre .1
 
 cycle-in-requires : tie.Need-cycle-in-requires
 cycle-in-requires c κs = search needs
@@ -46,20 +50,25 @@ returns c =
     let a = c .before .before .before .before .before .before .before .before .before .before .before .before .before .before .before .before .before .args in
     let l = a .h .loader in
     let s = a .h .state in
-    let w = a .wanted .now in
-    let sc = a .scratch .now in
-    let xs = a .array .now in
-    let f : a .start ≡ firstAddress l = c .before .before .before .before .before .before .before .before .before .before .before .before .before .before .before .before .before .pre .0 in
-    let z : judgeOf (a .d) s (cycleOf l w) (length xs) 0 ≡ 0 = c .before .before .before .before .before .before .before .before .before .before .before .before .before .before .before .before .before .pre .1 in
+    let u : Part → List ℕ → List ℕ = λ part xs. units (part .word) xs in
+    let w = u (a .d .part) (a .wanted .now) in
+    let sc = u (a .d .part) (a .scratch .now) in
+    let xs = u (a .d .part) (a .array .now) in
+    let p : l .part ≡ a .d .part = c .before .before .before .before .before .before .before .before .before .before .before .before .before .before .before .before .before .pre .0 in
+    let f : a .start ≡ firstAddress l = c .before .before .before .before .before .before .before .before .before .before .before .before .before .before .before .before .before .pre .1 in
+    let z : judgeOf (a .d) s (cycleOf l w) (length xs) 0 ≡ 0 = c .before .before .before .before .before .before .before .before .before .before .before .before .before .before .before .before .before .pre .2 in
     let q : c .before .before .before .before .before .before .before .before .before .before .before .here .result ≡ hereOf l = c .before .before .before .before .before .before .before .before .before .before .before .here .ensures in
-    let o : c .before .before .before .before .before .before .before .before .before .before .cycle-in .result ≡ cycleOf l w = c .before .before .before .before .before .before .before .before .before .before .cycle-in .ensures ∙ (λ i. cycleAtStage (l .stage) (f i) (q i) l w) in
-    let x : c .before .before .before .before .before .before .before .after-judging .result ≡ answerOf (a .d) s (cycleOf l w) xs [] = c .before .before .before .before .before .before .before .after-judging .ensures .0 ∙ ap (λ (k : Cycle). answerJudged (a .d) s k xs []) o ∙ judged-answer (a .d) s (cycleOf l w) xs [] z in (
-      c .before .before .taken .ensures .0 ∙ ap (λ (y : Answer). loaderBy (y .seen) l w sc) x,
+    let o : c .before .before .before .before .before .before .before .before .before .before .cycle-in .result ≡ cycleOf l w = c .before .before .before .before .before .before .before .before .before .before .cycle-in .ensures ∙ (λ i. cycleAtStage (l .stage) (f i) (q i) l (u (p i) (a .wanted .now))) in
+    let m = c .before .before .before .before .before .before .before .after-judging in
+    let y = c .before .before .taken in
+    let x : m .result ≡ answerOf (a .d) s (cycleOf l w) xs [] =
+    m .ensures .0 ∙ ap (λ (rs : List ℕ). answerJudged (a .d) s (c .before .before .before .before .before .before .before .before .before .before .cycle-in .result) xs rs) (none (a .d .part .word)) ∙ ap (λ (k : Cycle). answerJudged (a .d) s k xs []) o ∙ judged-answer (a .d) s (cycleOf l w) xs [] z in (
+      y .ensures .0 ∙ ap (λ (part : Part). loaderBy (m .result .seen) l (u part (a .wanted .now)) (u part (a .scratch .now))) p ∙ ap (λ (v : Answer). loaderBy (v .seen) l w sc) x,
       (
-        ap (λ (y : Answer). y .state) x,
+        ap (λ (v : Answer). v .state) x,
         (
-          c .before .before .taken .ensures .1 ∙ ap (λ (y : Answer). scratchBy (y .seen) l w sc) x,
-          c .before .before .before .before .before .before .before .after-judging .ensures .1 ∙ ap (λ (k : Cycle). arrayJudged (a .d) s k xs []) o ∙ judged-array (a .d) s (cycleOf l w) xs [] z,
+          subst (λ (part : Part). u part (y .last .1 .1 .1 .0) ≡ scratchBy (m .result .seen) l (u part (a .wanted .now)) (u part (a .scratch .now))) p (y .ensures .1) ∙ ap (λ (v : Answer). scratchBy (v .seen) l w sc) x,
+          m .ensures .1 .0 ∙ ap (λ (rs : List ℕ). arrayJudged (a .d) s (c .before .before .before .before .before .before .before .before .before .before .cycle-in .result) xs rs) (none (a .d .part .word)) ∙ ap (λ (k : Cycle). arrayJudged (a .d) s k xs []) o ∙ judged-array (a .d) s (cycleOf l w) xs [] z,
         ),
       ),
     )

@@ -13,6 +13,7 @@ use Rattle.loader_steps.specs.Outs.{firstAddress}
 use Rattle.loader_steps.specs.Front.{endAddress}
 use Rattle.loader_run.proofs.Measure.{remains}
 use Rattle.loader.specs.declared.Loader.{Loader}
+use Rattle.units.specs.Units.{units}
 use Rattle.loader_run.proofs.Good.{short}
 use Rattle.loader_run.proofs.Sound.{Sound, sound-start, sound-judged, sound-next}
 use Rattle.loader_run.proofs.Turning.{conf, Keeps, keeps-start, keeps-turn, keeps-less, keeps-end, first-stays}
@@ -21,15 +22,16 @@ use Rattle.loader_run.proofs.drive.Tie as tie
 
 abbrev Inv-loop : tie.InvT-loop
 Inv-loop d wanted scratch₀ array₀ start moving₀ state₀ count₀ scratch array moving state count =
-    Keeps d wanted (driven d wanted (conf moving₀ state₀ array₀ scratch₀ 0)) (conf moving state array scratch count)
+    Keeps d (units (d .part .word) wanted) (driven d (units (d .part .word) wanted) (conf moving₀ state₀ (units (d .part .word) array₀) (units (d .part .word) scratch₀) 0))
+    (conf moving state (units (d .part .word) array) (units (d .part .word) scratch) count)
     × (length scratch ≡ length scratch₀)
     × (length array ≡ length array₀)
-    × (length wanted ≤ 131072)
+    × (length (units (d .part .word) wanted) ≤ 524288)
     × (start ≡ firstAddress moving)
-    × Sound d wanted moving state (length array)
+    × Sound d (units (d .part .word) wanted) moving state (length (units (d .part .word) array))
 
 abbrev μ-loop : tie.MeasureT-loop
-μ-loop d wanted scratch₀ array₀ start moving₀ state₀ count₀ scratch array moving state count = remains moving (length wanted)
+μ-loop d wanted scratch₀ array₀ start moving₀ state₀ count₀ scratch array moving state count = remains moving (length (units (d .part .word) wanted))
 
 first-requires : tie.Need-first-requires Inv-loop μ-loop
 first-requires c κs = search needs
@@ -38,13 +40,13 @@ loop-holds : tie.Need-loop-holds Inv-loop μ-loop
 loop-holds c =
     let a = c .before .before .before .before .args in
     let z = c .before .before .before .before .pre .0 in (
-      keeps-start (a .d) (a .wanted .now) (a .l) (a .s) (a .array .now) (a .scratch .now),
+      keeps-start (a .d) (units (a .d .part .word) (a .wanted .now)) (a .l) (a .s) (units (a .d .part .word) (a .array .now)) (units (a .d .part .word) (a .scratch .now)),
       refl,
       refl,
-      short (a .d) (a .s) (a .l .pins) (a .l .block) (length (a .array .now)) (length (a .wanted .now)) (length (a .scratch .now)) z,
+      short (a .d) (a .s) (a .l .pins) (a .l .block) (length (units (a .d .part .word) (a .array .now))) (length (units (a .d .part .word) (a .wanted .now))) (length (units (a .d .part .word) (a .scratch .now))) z,
       c .first .ensures,
-      subst (λ (l : Loader). Sound (a .d) (a .wanted .now) l (a .s) (length (a .array .now))) (sym (c .before .before .before .before .pre .1))
-          (sound-start (a .l .stage) (a .l .verify) (a .d) (a .s) (a .l .pins) (a .l .block) (a .array .now) (a .wanted .now) (a .scratch .now) z),
+      subst (λ (l : Loader). Sound (a .d) (units (a .d .part .word) (a .wanted .now)) l (a .s) (length (units (a .d .part .word) (a .array .now)))) (sym (c .before .before .before .before .pre .1))
+          (sound-start (a .l .stage) (a .l .verify) (a .d) (a .s) (a .l .pins) (a .l .block) (units (a .d .part .word) (a .array .now)) (units (a .d .part .word) (a .wanted .now)) (units (a .d .part .word) (a .scratch .now)) z),
     )
 
 going-requires : tie.Need-going-requires Inv-loop μ-loop
@@ -55,7 +57,7 @@ both-requires c κs =
     let a = c .before .before .before .before .before .before .before .before .before .args in
     let l = c .before .before .before .before .loop in
     let g = not-true (isEnded (l .moving .stage)) (sym (c .before .before .before .going .ensures) ∙ c .before .before .if1 .taken) in
-    (l .inv .4, sound-judged (a .d) (a .wanted .now) (l .moving) (l .state) (length (l .array)) (l .inv .5) g)
+    (l .inv .5 .same, l .inv .4, sound-judged (a .d) (units (a .d .part .word) (a .wanted .now)) (l .moving) (l .state) (length (units (a .d .part .word) (l .array))) (l .inv .5) g)
 
 add-count : tie.Need-add-count Inv-loop μ-loop
 add-count c = record { fits = omega (arith, c .before .before .before .before .before .before .before .before .before .before .before .loop .inv .0 .enough, c .before .before .before .before .before .before .before .before .before .before .before .loop .inv .3) }
@@ -64,7 +66,7 @@ loop-less : tie.Need-loop-less Inv-loop μ-loop
 loop-less c =
     let a = c .before .before .before .before .before .before .before .before .before .before .before .before .before .before .before .before .args in
     let l = c .before .before .before .before .before .before .before .before .before .before .before .loop in
-    keeps-less (answerTo (a .d) (a .wanted .now) (l .moving) (l .state) (l .array) .seen) (l .moving) (a .wanted .now) (l .scratch) (c .before .before .before .before .before .before .both .result .loader)
+    keeps-less (answerTo (a .d) (units (a .d .part .word) (a .wanted .now)) (l .moving) (l .state) (units (a .d .part .word) (l .array)) .seen) (l .moving) (units (a .d .part .word) (a .wanted .now)) (units (a .d .part .word) (l .scratch)) (c .before .before .before .before .before .before .both .result .loader)
     (not-true (isEnded (l .moving .stage)) (sym (c .before .before .before .before .before .before .before .before .before .before .going .ensures) ∙ c .before .before .before .before .before .before .before .before .before .if1 .taken)) (c .before .before .before .before .before .before .both .ensures .0)
 
 loop-again : tie.Need-loop-again Inv-loop μ-loop
@@ -73,13 +75,13 @@ loop-again c =
     let l = c .before .before .before .before .before .before .before .before .before .before .before .loop in
     let g = not-true (isEnded (l .moving .stage)) (sym (c .before .before .before .before .before .before .before .before .before .before .going .ensures) ∙ c .before .before .before .before .before .before .before .before .before .if1 .taken) in
     let b = c .before .before .before .before .before .before .both in (
-      keeps-turn (a .d) (a .wanted .now) _ (l .moving) (l .state) (l .array) (l .scratch) (l .count) (l .inv .0) g (b .result .loader) (b .result .state) (b .last .1 .1 .1 .1 .1 .0) (b .last .1 .1 .1 .1 .0)
+      keeps-turn (a .d) (units (a .d .part .word) (a .wanted .now)) _ (l .moving) (l .state) (units (a .d .part .word) (l .array)) (units (a .d .part .word) (l .scratch)) (l .count) (l .inv .0) g (b .result .loader) (b .result .state) (units (a .d .part .word) (b .last .1 .1 .1 .1 .1 .0)) (units (a .d .part .word) (b .last .1 .1 .1 .1 .0))
           (b .ensures .0) (b .ensures .1 .0) (b .ensures .1 .1 .0) (b .ensures .1 .1 .1),
       b .kept .1 .1 .1 .1 .0 ∙ l .inv .1,
       b .kept .1 .1 .1 .1 .1 .0 ∙ l .inv .2,
       l .inv .3,
-      l .inv .4 ∙ sym (first-stays (answerTo (a .d) (a .wanted .now) (l .moving) (l .state) (l .array) .seen) (l .moving) (a .wanted .now) (l .scratch)) ∙ sym (ap firstAddress (b .ensures .0)),
-      sound-next (a .d) (a .wanted .now) (l .scratch) (l .array) (l .moving) (l .state) (l .inv .5) g (b .result .loader) (b .result .state) (b .last .1 .1 .1 .1 .1 .0)
+      l .inv .4 ∙ sym (first-stays (answerTo (a .d) (units (a .d .part .word) (a .wanted .now)) (l .moving) (l .state) (units (a .d .part .word) (l .array)) .seen) (l .moving) (units (a .d .part .word) (a .wanted .now)) (units (a .d .part .word) (l .scratch))) ∙ sym (ap firstAddress (b .ensures .0)),
+      sound-next (a .d) (units (a .d .part .word) (a .wanted .now)) (units (a .d .part .word) (l .scratch)) (units (a .d .part .word) (l .array)) (l .moving) (l .state) (l .inv .5) g (b .result .loader) (b .result .state) (units (a .d .part .word) (b .last .1 .1 .1 .1 .1 .0))
           (b .ensures .0) (b .ensures .1 .0) (b .ensures .1 .1 .1),
     )
 
@@ -99,8 +101,8 @@ returns : tie.Need-returns Inv-loop μ-loop
 returns c =
     let a = c .before .before .before .before .before .before .before .before .before .args in
     let l = c .before .before .before .before .loop in
-    let e : conf (l .moving) (l .state) (l .array) (l .scratch) (l .count) ≡ driven (a .d) (a .wanted .now) (begin (a .d) (a .s) (a .l) (a .array .now) (a .scratch .now)) =
-    keeps-end (a .d) (a .wanted .now) _ _ (l .inv .0) (not-false (isEnded (l .moving .stage)) (sym (c .before .before .before .going .ensures) ∙ c .before .before .if1 .left)) in
+    let e : conf (l .moving) (l .state) (units (a .d .part .word) (l .array)) (units (a .d .part .word) (l .scratch)) (l .count) ≡ driven (a .d) (units (a .d .part .word) (a .wanted .now)) (begin (a .d) (a .s) (a .l) (units (a .d .part .word) (a .array .now)) (units (a .d .part .word) (a .scratch .now))) =
+    keeps-end (a .d) (units (a .d .part .word) (a .wanted .now)) _ _ (l .inv .0) (not-false (isEnded (l .moving .stage)) (sym (c .before .before .before .going .ensures) ∙ c .before .before .if1 .left)) in
     let n : c .before .stage-is .result .end ≡ endBy (l .moving .stage) = ap (λ (x : StageIs). x .end) (c .before .stage-is .ensures) in
     let m : c .end-address .result ≡ endAddress (l .moving) (endBy (l .moving .stage)) = c .end-address .ensures ∙ ap (λ (k : ℕ). endAddress (l .moving) k) n in
     ((λ i. record { count = l .count; end = n i; address = m i; state = l .state }) ∙ ap ranBy e, (ap (λ (x : Config). x .scratch) e, ap (λ (x : Config). x .bytes) e))

@@ -2,17 +2,18 @@ use mathlib.Core.Path.{_≡_, ap, sym, _∙_}
 use Prim.Native.Nat.{ℕ}
 use Rattle.loader.specs.Moves.{endedBy, nextOf}
 use Rattle.loader_steps.specs.Stores.{storeOf}
-use Rattle.loader_run.specs.Turns.{numberIn}
+use Rattle.loader_run.specs.Turns.{numberIn, refusalIn}
+use Rattle.units.specs.Units.{units}
 use Rattle.loader_run.proofs.Turning.{took, took-none}
 use borrow.Author.Needs.{needs}
 use Rattle.loader_run.proofs.taken.Statement.{statement}
 use Rattle.loader_run.proofs.taken.Tie as tie
 
-number-in-requires : tie.Need-number-in-requires
-number-in-requires c κs = search needs
-
 is-refused-requires : tie.Need-is-refused-requires
 is-refused-requires c κs = search needs
+
+refusal-in-requires : tie.Need-refusal-in-requires
+refusal-in-requires c κs = search needs
 
 ended-by-requires : tie.Need-ended-by-requires
 ended-by-requires c κs = search needs
@@ -20,10 +21,13 @@ ended-by-requires c κs = search needs
 returns : tie.Need-returns
 returns c =
     let a = c .before .before .before .before .before .before .args in
-    let e = sym (c .before .before .is-refused .ensures) ∙ c .before .if1 .taken in
-    let n : c .before .before .before .number-in .result ≡ numberIn (a .seen) = c .before .before .before .number-in .ensures in
-    let t = took-none (a .seen) (a .l) (a .wanted .now) (a .scratch .now) e in
+    let e = sym (c .before .before .before .is-refused .ensures) ∙ c .before .before .if1 .taken in
+    let n : c .before .refusal-in .result ≡ refusalIn (a .seen) = c .before .refusal-in .ensures in
+    let t = took-none (a .seen) (a .l) (units (a .l .part .word) (a .wanted .now)) (units (a .l .part .word) (a .scratch .now)) e in
     (c .ended-by .ensures ∙ ap (λ (m : ℕ). endedBy (a .l) m) n ∙ sym (t .0), sym (t .1))
+
+number-in-requires : tie.Need-number-in-requires
+number-in-requires c κs = search needs
 
 take-requires : tie.Need-take-requires
 take-requires c κs = search needs
@@ -34,10 +38,10 @@ same-length c = search needs
 returns-2 : tie.Need-returns-2
 returns-2 c =
     let a = c .before .before .before .before .before .before .before .before .before .args in
-    let w = a .wanted .now in
-    let sc = a .scratch .now in
-    let e = sym (c .before .before .before .before .before .is-refused .ensures) ∙ c .before .before .before .before .if1 .left in
-    let n : c .before .before .before .before .before .before .number-in .result ≡ numberIn (a .seen) = c .before .before .before .before .before .before .number-in .ensures in
+    let w = units (a .l .part .word) (a .wanted .now) in
+    let sc = units (a .l .part .word) (a .scratch .now) in
+    let e = sym (c .before .before .before .before .before .before .is-refused .ensures) ∙ c .before .before .before .before .before .if1 .left in
+    let n : c .before .before .before .before .number-in .result ≡ numberIn (a .seen) = c .before .before .before .before .number-in .ensures in
     let t = took (a .seen) (a .l) w sc e in
     (c .before .before .take .ensures .0 ∙ ap (λ (m : ℕ). nextOf (a .l) m w (storeOf (a .l) m w sc)) n ∙ sym (t .0), c .before .before .take .ensures .1 ∙ ap (λ (m : ℕ). storeOf (a .l) m w sc) n ∙ sym (t .1))
 
@@ -45,10 +49,11 @@ pub taken-spec : {M : Type 1} → statement M
 taken-spec =
     tie.close
     (tie.spec
-    number-in-requires
     is-refused-requires
+    refusal-in-requires
     ended-by-requires
     returns
+    number-in-requires
     take-requires
     same-length
     returns-2)

@@ -4,13 +4,15 @@ use Prim.Native.Nat.{ℕ}
 use Rattle.loader.specs.declared.Stage.{Stage}
 use Rattle.loader.specs.declared.Stage.the-variants.{Clearing, Opening, Reading, EraseAsking, EraseConfirming, EraseWaiting, ProgramAsking, ProgramSending, ProgramWaiting, Closing, Verifying}
 use Rattle.loader.specs.declared.Loader.{Loader}
-use Rattle.loader.specs.Moves.{movedTo, nextIn, nextOf}
-use Rattle.loader_steps.specs.Stores.{storeIn, storeOf}
+use Rattle.units.specs.Units.{units}
+use Rattle.loader.specs.Moves.{erasePolled, programPolled, nextIn, nextOf}
+use Rattle.loader_run.specs.Inner.{stayed}
+use Rattle.loader_steps.specs.Stores.{eraseStored, programStored, storeIn, storeOf}
 use borrow.Author.Needs.{needs}
 use Rattle.loader_run.proofs.taking.take.Statement.{statement}
 use Rattle.loader_run.proofs.taking.take.Tie as tie
 
--- what a stage makes of a byte
+-- what a stage makes of a read's data
 by : (l : Loader) (b : ℕ) (w sc : List ℕ) (s : Stage) → l .stage ≡ s
     → (nextIn s l b w (storeIn s (l .part) (l .place) b w sc) ≡ nextOf l b w (storeOf l b w sc)) × (storeIn s (l .part) (l .place) b w sc ≡ storeOf l b w sc)
 by l b w sc s e =
@@ -49,6 +51,9 @@ moved-requires-4 c κs = search needs
 enum-told-6 : tie.Need-enum-told-6
 enum-told-6 c = search needs
 
+low-requires : tie.Need-low-requires
+low-requires c κs = search needs
+
 take-erase-requires : tie.Need-take-erase-requires
 take-erase-requires c κs = search needs
 
@@ -66,6 +71,9 @@ moved-requires-6 c κs = search needs
 
 enum-told-9 : tie.Need-enum-told-9
 enum-told-9 c = search needs
+
+low-requires-2 : tie.Need-low-requires-2
+low-requires-2 c κs = search needs
 
 take-program-requires : tie.Need-take-program-requires
 take-program-requires c κs = search needs
@@ -85,19 +93,19 @@ take-verify-requires c κs = search needs
 enum-known-stage : tie.Need-enum-known-stage
 enum-known-stage c = search needs
 
-moved-requires-8 : tie.Need-moved-requires-8
-moved-requires-8 c κs = search needs
+stays-requires : tie.Need-stays-requires
+stays-requires c κs = search needs
 
 returns : tie.Need-returns
 returns c =
     let a = c .before .before .before .before .before .args in
-    let k = by (a .l) (a .b) (a .wanted .now) (a .scratch .now) Clearing (c .before .enum-told .given .1) in
+    let k = by (a .l) (a .v) (units (a .l .part .word) (a .wanted .now)) (units (a .l .part .word) (a .scratch .now)) Clearing (c .before .enum-told .given .1) in
     (c .moved .ensures ∙ k .0, k .1)
 
 returns-2 : tie.Need-returns-2
 returns-2 c =
     let a = c .before .before .before .before .before .args in
-    let k = by (a .l) (a .b) (a .wanted .now) (a .scratch .now) Opening (c .before .enum-told2 .given .1) in
+    let k = by (a .l) (a .v) (units (a .l .part .word) (a .wanted .now)) (units (a .l .part .word) (a .scratch .now)) Opening (c .before .enum-told2 .given .1) in
     (c .moved2 .ensures ∙ k .0, k .1)
 
 same-length : tie.Need-same-length
@@ -106,19 +114,19 @@ same-length c = search needs
 returns-3 : tie.Need-returns-3
 returns-3 c =
     let a = c .before .before .before .before .before .before .before .before .args in
-    let k = by (a .l) (a .b) (a .wanted .now) (a .scratch .now) Reading (c .before .before .before .before .enum-told3 .given .1) in
+    let k = by (a .l) (a .v) (units (a .l .part .word) (a .wanted .now)) (units (a .l .part .word) (a .scratch .now)) Reading (c .before .before .before .before .enum-told3 .given .1) in
     (c .before .before .take-read .ensures .0 ∙ k .0, c .before .before .take-read .ensures .1 ∙ k .1)
 
 returns-4 : tie.Need-returns-4
 returns-4 c =
     let a = c .before .before .before .before .before .args in
-    let k = by (a .l) (a .b) (a .wanted .now) (a .scratch .now) EraseAsking (c .before .enum-told4 .given .1) in
+    let k = by (a .l) (a .v) (units (a .l .part .word) (a .wanted .now)) (units (a .l .part .word) (a .scratch .now)) EraseAsking (c .before .enum-told4 .given .1) in
     (c .moved3 .ensures ∙ k .0, k .1)
 
 returns-5 : tie.Need-returns-5
 returns-5 c =
     let a = c .before .before .before .before .before .args in
-    let k = by (a .l) (a .b) (a .wanted .now) (a .scratch .now) EraseConfirming (c .before .enum-told5 .given .1) in
+    let k = by (a .l) (a .v) (units (a .l .part .word) (a .wanted .now)) (units (a .l .part .word) (a .scratch .now)) EraseConfirming (c .before .enum-told5 .given .1) in
     (c .moved4 .ensures ∙ k .0, k .1)
 
 same-length-2 : tie.Need-same-length-2
@@ -126,20 +134,23 @@ same-length-2 c = search needs
 
 returns-6 : tie.Need-returns-6
 returns-6 c =
-    let a = c .before .before .before .before .before .before .before .before .args in
-    let k = by (a .l) (a .b) (a .wanted .now) (a .scratch .now) EraseWaiting (c .before .before .before .before .enum-told6 .given .1) in
-    (c .before .before .take-erase .ensures .0 ∙ k .0, c .before .before .take-erase .ensures .1 ∙ k .1)
+    let a = c .before .before .before .before .before .before .before .before .before .args in
+    let w = units (a .l .part .word) (a .wanted .now) in
+    let sc = units (a .l .part .word) (a .scratch .now) in
+    let o = c .before .before .before .before .low .ensures in
+    let k = by (a .l) (a .v) w sc EraseWaiting (c .before .before .before .before .before .enum-told6 .given .1) in
+    (c .before .before .take-erase .ensures .0 ∙ ap (λ (b : ℕ). erasePolled (a .l) b w (eraseStored (a .l .part) b sc)) o ∙ k .0, c .before .before .take-erase .ensures .1 ∙ ap (λ (b : ℕ). eraseStored (a .l .part) b sc) o ∙ k .1)
 
 returns-7 : tie.Need-returns-7
 returns-7 c =
     let a = c .before .before .before .before .before .args in
-    let k = by (a .l) (a .b) (a .wanted .now) (a .scratch .now) ProgramAsking (c .before .enum-told7 .given .1) in
+    let k = by (a .l) (a .v) (units (a .l .part .word) (a .wanted .now)) (units (a .l .part .word) (a .scratch .now)) ProgramAsking (c .before .enum-told7 .given .1) in
     (c .moved5 .ensures ∙ k .0, k .1)
 
 returns-8 : tie.Need-returns-8
 returns-8 c =
     let a = c .before .before .before .before .before .args in
-    let k = by (a .l) (a .b) (a .wanted .now) (a .scratch .now) ProgramSending (c .before .enum-told8 .given .1) in
+    let k = by (a .l) (a .v) (units (a .l .part .word) (a .wanted .now)) (units (a .l .part .word) (a .scratch .now)) ProgramSending (c .before .enum-told8 .given .1) in
     (c .moved6 .ensures ∙ k .0, k .1)
 
 same-length-3 : tie.Need-same-length-3
@@ -147,14 +158,17 @@ same-length-3 c = search needs
 
 returns-9 : tie.Need-returns-9
 returns-9 c =
-    let a = c .before .before .before .before .before .before .before .before .args in
-    let k = by (a .l) (a .b) (a .wanted .now) (a .scratch .now) ProgramWaiting (c .before .before .before .before .enum-told9 .given .1) in
-    (c .before .before .take-program .ensures .0 ∙ k .0, c .before .before .take-program .ensures .1 ∙ k .1)
+    let a = c .before .before .before .before .before .before .before .before .before .args in
+    let w = units (a .l .part .word) (a .wanted .now) in
+    let sc = units (a .l .part .word) (a .scratch .now) in
+    let o = c .before .before .before .before .low2 .ensures in
+    let k = by (a .l) (a .v) w sc ProgramWaiting (c .before .before .before .before .before .enum-told9 .given .1) in
+    (c .before .before .take-program .ensures .0 ∙ ap (λ (b : ℕ). programPolled (a .l) b w (programStored (a .l .place) b w sc)) o ∙ k .0, c .before .before .take-program .ensures .1 ∙ ap (λ (b : ℕ). programStored (a .l .place) b w sc) o ∙ k .1)
 
 returns-10 : tie.Need-returns-10
 returns-10 c =
     let a = c .before .before .before .before .before .args in
-    let k = by (a .l) (a .b) (a .wanted .now) (a .scratch .now) Closing (c .before .enum-told10 .given .1) in
+    let k = by (a .l) (a .v) (units (a .l .part .word) (a .wanted .now)) (units (a .l .part .word) (a .scratch .now)) Closing (c .before .enum-told10 .given .1) in
     (c .moved7 .ensures ∙ k .0, k .1)
 
 same-length-4 : tie.Need-same-length-4
@@ -163,15 +177,15 @@ same-length-4 c = search needs
 returns-11 : tie.Need-returns-11
 returns-11 c =
     let a = c .before .before .before .before .before .before .before .before .args in
-    let k = by (a .l) (a .b) (a .wanted .now) (a .scratch .now) Verifying (c .before .before .before .before .enum-told11 .given .1) in
+    let k = by (a .l) (a .v) (units (a .l .part .word) (a .wanted .now)) (units (a .l .part .word) (a .scratch .now)) Verifying (c .before .before .before .before .enum-told11 .given .1) in
     (c .before .before .take-verify .ensures .0 ∙ k .0, c .before .before .take-verify .ensures .1 ∙ k .1)
 
 returns-12 : tie.Need-returns-12
 returns-12 c =
     let a = c .before .before .before .before .before .before .args in
     let e = c .before .before .stage .given .1 in
-    let k = by (a .l) (a .b) (a .wanted .now) (a .scratch .now) _ e in
-    (c .moved8 .ensures ∙ ap (λ (s : Stage). movedTo (a .l) s (a .l .place) (a .l .polls)) (sym e) ∙ k .0, k .1)
+    let k = by (a .l) (a .v) (units (a .l .part .word) (a .wanted .now)) (units (a .l .part .word) (a .scratch .now)) _ e in
+    (c .stays .ensures ∙ ap (λ (s : Stage). stayed (a .l) s) (sym e) ∙ k .0, k .1)
 
 pub take-spec : {M : Type 1} → statement M
 take-spec =
@@ -188,19 +202,21 @@ take-spec =
     enum-told-5
     moved-requires-4
     enum-told-6
+    low-requires
     take-erase-requires
     enum-told-7
     moved-requires-5
     enum-told-8
     moved-requires-6
     enum-told-9
+    low-requires-2
     take-program-requires
     enum-told-10
     moved-requires-7
     enum-told-11
     take-verify-requires
     enum-known-stage
-    moved-requires-8
+    stays-requires
     returns
     returns-2
     same-length

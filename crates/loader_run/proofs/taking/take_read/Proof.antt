@@ -2,12 +2,13 @@ use mathlib.Core.Path.{ap, _∙_}
 use mathlib.Core.List.{List}
 use Prim.Native.Nat.{ℕ}
 use Rattle.loader.specs.Moves.{afterRead}
+use Rattle.units.specs.Units.{units}
 use borrow.Author.Needs.{needs}
 use Rattle.loader_run.proofs.taking.take_read.Statement.{statement}
 use Rattle.loader_run.proofs.taking.take_read.Tie as tie
 
-put-requires : tie.Need-put-requires
-put-requires c κs = search needs
+put-unit-requires : tie.Need-put-unit-requires
+put-unit-requires c κs = search needs
 
 read-more-requires : tie.Need-read-more-requires
 read-more-requires c κs = search needs
@@ -17,9 +18,9 @@ same-length c = search needs
 
 returns : tie.Need-returns
 returns c =
-    let a = c .before .before .before .before .before .before .before .before .args in
-    let e = c .before .before .before .before .put .ensures in
-    (c .read-more .ensures ∙ ap (λ (z : List ℕ). afterRead (a .l) (a .wanted .now) z) e, e)
+    let a = c .before .before .before .before .before .before .before .before .before .args in
+    let e = c .before .before .before .before .put-unit .ensures .0 in
+    (c .read-more .ensures ∙ ap (λ (z : List ℕ). afterRead (a .l) (units (a .l .part .word) (a .wanted .now)) z) e, e)
 
 pub take-read-spec : {M : Type 1} → statement M
-take-read-spec = tie.close (tie.spec put-requires read-more-requires same-length returns)
+take-read-spec = tie.close (tie.spec put-unit-requires read-more-requires same-length returns)

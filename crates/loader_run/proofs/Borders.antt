@@ -1,0 +1,166 @@
+-- A run on lent bytes is the run on their units: its numbers, what it returns, and what a refusal leaves. 2 and 11 count bytes.
+-- Assumes nothing.
+use mathlib.Core.Path.{_≡_, refl, sym, ap, _∙_, subst}
+use mathlib.Core.Bool.{Bool, true, false}
+use mathlib.Core.List.{List}
+use mathlib.Core.Logic.{_↔_}
+use Prim.Native.Nat.{ℕ, _*_, _/_, _%_, _<_}
+use native.Mathlib.Omega.{arith}
+use Rattle.common.specs.Choice.{if_then_else_}
+use Rattle.common.proofs.Choice.{if-true, if-false, unlike}
+use Rattle.device.specs.Parts.{sizeOf, lengthOf}
+use Rattle.device.proofs.Claims.{sizes-some}
+use Rattle.loader_steps.specs.Front.{noBlock, wrongLengths}
+use Rattle.loader_steps.proofs.Again.{some-block}
+use Rattle.loader_steps.proofs.Lending.{both-lengths}
+use lib.ListN.{length}
+use lib.Dec.{eqb}
+use borrow.Author.Tests.{eqb-true, eqb-false, ne-eqb}
+use Rattle.common.specs.Numbers.{Foremost, NoRow}
+use Rattle.common.proofs.Numbers.{foremost-given}
+use Rattle.device.specs.declared.Device.{Device}
+use Rattle.units.specs.Units.{back, bytesIn, lent, lentIn}
+use Rattle.units.proofs.Widths.{lent-length}
+use Rattle.model_types.specs.declared.Pins.{Pins}
+use Rattle.model_types.specs.declared.State.{State}
+use Rattle.loader.specs.declared.Stage.{Stage}
+use Rattle.loader.specs.Stages.{isEnded}
+use Rattle.loader_run.specs.declared.Ran.{Ran}
+use Rattle.loader_run.specs.Runs.{runRows, runNumber, RunLeft, runRefused, runLeftAt, lentRows, lentNumber, asBytes, lentLeftAt}
+use Rattle.loader_run.proofs.Leaving.{left-refused}
+use Rattle.loader_run.proofs.Ending.{run-numbers, run-accepted}
+use Rattle.loader_run.proofs.Lending.{lent-made, lent-refused}
+
+-- so many bytes are k units, some, exactly where they are as many bytes as k units have
+pub counts-bytes : (w : Bool) (n k : ℕ) → 0 < k → (lentIn w n ≡ k) ↔ (n ≡ bytesIn w k)
+unfolding lentIn
+counts-bytes false n k h = (λ e. e, λ e. e)
+counts-bytes true n k h = (λ e. forth e (eqb (n % 2) 1) refl, back)
+  where
+    forth : (if eqb (n % 2) 1 then 0 else n / 2) ≡ k → (b : Bool) → eqb (n % 2) 1 ≡ b → n ≡ 2 * k
+    forth e true q = absurd (let z : 0 ≡ k = sym (if-true (eqb (n % 2) 1) 0 (n / 2) q) ∙ e in omega arith)
+    forth e false q =
+        let z : n / 2 ≡ k = sym (if-false (eqb (n % 2) 1) 0 (n / 2) q) ∙ e in
+        let y : n % 2 ≡ 1 → ⊥ = eqb-false (n % 2) 1 q in
+        omega arith
+
+    back : n ≡ 2 * k → (if eqb (n % 2) 1 then 0 else n / 2) ≡ k
+    back e = if-false (eqb (n % 2) 1) 0 (n / 2) (ne-eqb (n % 2) 1 (λ q. omega arith)) ∙ (let z : n / 2 ≡ k = omega arith in z)
+
+-- 2 counts bytes, and 11 does
+pub two-in-bytes : (d : Device) (n : ℕ) → (lentIn (d .part .word) n ≡ sizeOf (d .part)) ↔ (n ≡ bytesIn (d .part .word) (sizeOf (d .part)))
+two-in-bytes d n = counts-bytes (d .part .word) n (sizeOf (d .part)) (sizes-some (d .part))
+
+pub eleven-in-bytes : (d : Device) (k n m : ℕ) → noBlock (d .part) k ≡ false → wrongLengths (d .part) k (lentIn (d .part .word) n) (lentIn (d .part .word) m) ≡ false
+    → (n ≡ bytesIn (d .part .word) (lengthOf (d .part) k)) × (m ≡ bytesIn (d .part .word) (lengthOf (d .part) k))
+eleven-in-bytes d k n m b e =
+    let h = some-block (d .part) k b in
+    let l = both-lengths (d .part) k (lentIn (d .part .word) n) (lentIn (d .part .word) m) e in
+    (counts-bytes (d .part .word) n (lengthOf (d .part) k) h .0 (l .0), counts-bytes (d .part .word) m (lengthOf (d .part) k) h .0 (l .1))
+
+module _ (stage : Stage) (verify : Bool) (d : Device) (s : State) (p : Pins) (k : ℕ) (array wanted scratch : List ℕ) where
+  abbrev w : Bool
+  w = d .part .word
+
+  -- the run of the units
+  abbrev inner : RunLeft
+  inner = runLeftAt stage verify d s p k (lent w array) (lent w wanted) (lent w scratch)
+
+  abbrev number : ℕ
+  number = lentNumber d s p k (length array) (length wanted) (length scratch)
+
+  number-is : runNumber d s p k (length (lent w array)) (length (lent w wanted)) (length (lent w scratch)) ≡ number
+  number-is = λ i. runNumber d s p k (lent-length w array i) (lent-length w wanted i) (lent-length w scratch i)
+
+  -- what is returned
+  pub lent-ran : lentLeftAt stage verify d s p k array wanted scratch .ran ≡ inner .ran
+  lent-ran = go (eqb number 0) refl
+    where
+      go : (b : Bool) → eqb number 0 ≡ b → lentLeftAt stage verify d s p k array wanted scratch .ran ≡ inner .ran
+      go true e = ap (λ (r : RunLeft). r .ran) (lent-made stage verify d s p k array wanted scratch (eqb-true number 0 e))
+      go false e =
+          let z : number ≡ 0 → ⊥ = eqb-false number 0 e in
+          ap (λ (r : RunLeft). r .ran) (lent-refused stage verify d s p k array wanted scratch z)
+          ∙ ap (λ (n : ℕ). runRefused n s (lent w array) (lent w scratch) .ran) (sym number-is)
+          ∙ sym (ap (λ (r : RunLeft). r .ran) (left-refused stage verify d s p k (lent w array) (lent w wanted) (lent w scratch) (λ q. z (sym number-is ∙ q))))
+
+  rows-are : (P : ℕ → ℕ → ℕ → Type 0) → P (length (lent w array)) (length (lent w wanted)) (length (lent w scratch)) ↔ P (lentIn w (length array)) (lentIn w (length wanted)) (lentIn w (length scratch))
+  rows-are P = (
+    λ h. subst (λ (z : ℕ). P (lentIn w (length array)) (lentIn w (length wanted)) z) (lent-length w scratch)
+        (subst (λ (y : ℕ). P (lentIn w (length array)) y (length (lent w scratch))) (lent-length w wanted)
+        (subst (λ (x : ℕ). P x (length (lent w wanted)) (length (lent w scratch))) (lent-length w array) h)),
+    λ h. subst (λ (z : ℕ). P (length (lent w array)) (length (lent w wanted)) z) (sym (lent-length w scratch))
+        (subst (λ (y : ℕ). P (length (lent w array)) y (lentIn w (length scratch))) (sym (lent-length w wanted))
+        (subst (λ (x : ℕ). P x (lentIn w (length wanted)) (lentIn w (length scratch))) (sym (lent-length w array)) h)),
+  )
+
+  module _ (going : isEnded stage ≡ false) where
+    pub lent-numbers : (m : ℕ) → (m ≡ 0 → ⊥)
+        → ((lentLeftAt stage verify d s p k array wanted scratch .ran .count ≡ 0) × (lentLeftAt stage verify d s p k array wanted scratch .ran .end ≡ m)) ↔ Foremost (lentRows d s p k (length array) (length wanted) (length scratch)) m
+    lent-numbers m z =
+        let inside = run-numbers stage verify going d s p k (lent w array) (lent w wanted) (lent w scratch) m z in
+        let rows = rows-are (λ (x y v : ℕ). Foremost (runRows d s p k x y v) m) in (
+          λ h. rows .0 (inside .0 (sym (ap (λ (r : Ran). r .count) lent-ran) ∙ h .0, sym (ap (λ (r : Ran). r .end) lent-ran) ∙ h .1)),
+          λ f. let h = inside .1 (rows .1 f) in (ap (λ (r : Ran). r .count) lent-ran ∙ h .0, ap (λ (r : Ran). r .end) lent-ran ∙ h .1),
+        )
+
+    pub lent-accepted : (0 < lentLeftAt stage verify d s p k array wanted scratch .ran .count) ↔ NoRow (lentRows d s p k (length array) (length wanted) (length scratch))
+    lent-accepted =
+        let inside = run-accepted stage verify going d s p k (lent w array) (lent w wanted) (lent w scratch) in
+        let rows = rows-are (λ (x y v : ℕ). NoRow (runRows d s p k x y v)) in (
+          λ h. rows .0 (inside .0 (subst (λ (r : Ran). 0 < r .count) lent-ran h)),
+          λ f. subst (λ (r : Ran). 0 < r .count) (sym lent-ran) (inside .1 (rows .1 f)),
+        )
+
+  -- a refusal leaves the lent bytes as they were
+  number-of : (m : ℕ) → Foremost (lentRows d s p k (length array) (length wanted) (length scratch)) m → number ≡ m
+  unfolding runNumber
+  number-of m f = foremost-given f
+
+  pub lent-leaves : (m : ℕ) → (m ≡ 0 → ⊥) → Foremost (lentRows d s p k (length array) (length wanted) (length scratch)) m
+      → (lentLeftAt stage verify d s p k array wanted scratch .ran ≡ record { count = 0; end = m; address = 0; state = s })
+      × (lentLeftAt stage verify d s p k array wanted scratch .bytes ≡ array) × (lentLeftAt stage verify d s p k array wanted scratch .scratch ≡ scratch)
+  lent-leaves m z f =
+      let q : number ≡ m = number-of m f in
+      let e = lent-refused stage verify d s p k array wanted scratch (λ o. z (sym q ∙ o)) in
+      (ap (λ (r : RunLeft). r .ran) e ∙ ap (λ (n : ℕ). runRefused n s array scratch .ran) q, ap (λ (r : RunLeft). r .bytes) e, ap (λ (r : RunLeft). r .scratch) e)
+
+-- in byte mode the units are the bytes
+lent-bytes : (w : Bool) (xs : List ℕ) → w ≡ false → lent w xs ≡ xs
+unfolding lent
+lent-bytes false xs e = refl
+lent-bytes true xs e = absurd (unlike e)
+
+lent-in-bytes : (w : Bool) (n : ℕ) → w ≡ false → lentIn w n ≡ n
+unfolding lentIn
+lent-in-bytes false n e = refl
+lent-in-bytes true n e = absurd (unlike e)
+
+back-bytes : (w : Bool) (us : List ℕ) → w ≡ false → back w us ≡ us
+back-bytes false us e = refl
+back-bytes true us e = absurd (unlike e)
+
+-- so a run on lent bytes in byte mode is the run of the bytes themselves
+pub in-byte-mode : (stage : Stage) (verify : Bool) (d : Device) (s : State) (p : Pins) (k : ℕ) (array wanted scratch : List ℕ) → d .part .word ≡ false
+    → lentLeftAt stage verify d s p k array wanted scratch ≡ runLeftAt stage verify d s p k array wanted scratch
+in-byte-mode stage verify d s p k array wanted scratch z = go (eqb number 0) refl
+  where
+    number : ℕ
+    number = lentNumber d s p k (length array) (length wanted) (length scratch)
+
+    same : number ≡ runNumber d s p k (length array) (length wanted) (length scratch)
+    same = λ i. runNumber d s p k (lent-in-bytes (d .part .word) (length array) z i) (lent-in-bytes (d .part .word) (length wanted) z i) (lent-in-bytes (d .part .word) (length scratch) z i)
+
+    go : (b : Bool) → eqb number 0 ≡ b → lentLeftAt stage verify d s p k array wanted scratch ≡ runLeftAt stage verify d s p k array wanted scratch
+    go true e =
+        lent-made stage verify d s p k array wanted scratch (eqb-true number 0 e)
+        ∙ (λ i. asBytes (d .part .word) (runLeftAt stage verify d s p k (lent-bytes (d .part .word) array z i) (lent-bytes (d .part .word) wanted z i) (lent-bytes (d .part .word) scratch z i)))
+        ∙ (λ i. record {
+          ran = runLeftAt stage verify d s p k array wanted scratch .ran;
+          bytes = back-bytes (d .part .word) (runLeftAt stage verify d s p k array wanted scratch .bytes) z i;
+          scratch = back-bytes (d .part .word) (runLeftAt stage verify d s p k array wanted scratch .scratch) z i;
+        })
+    go false e =
+        let n : number ≡ 0 → ⊥ = eqb-false number 0 e in
+        lent-refused stage verify d s p k array wanted scratch n ∙ ap (λ (m : ℕ). runRefused m s array scratch) same
+        ∙ sym (left-refused stage verify d s p k array wanted scratch (λ q. n (same ∙ q)))
