@@ -25,7 +25,9 @@ use Rattle.model_types.specs.declared.Settled.{Settled}
 use Rattle.model_types.specs.Levels.{rpLow, vppLow, badPins, locked, unlocked}
 use Rattle.model_types.specs.States.{atRest, mostLeft}
 use Rattle.model_types.specs.Inner.{badMode, badStatus, badLeft, badAddress}
-use Rattle.model_commands.specs.Commands.{actionOf, firstWrite, afterErase, whileErasing, performedOf, startedOf, unsupplied}
+use Rattle.model_types.specs.Cells.{ones}
+use Rattle.model_commands.proofs.Carried.{data-cell}
+use Rattle.model_commands.specs.Commands.{commandOf, dataOf, asksProgram, actionOf, firstWrite, afterErase, whileErasing, performedOf, startedOf, unsupplied}
 use Rattle.model_operation.specs.Settling.{settledAs, settleOf, countedOff, suspendPassed, passedOf, finishOf}
 use Rattle.model_rules.specs.Cycles.{shortResidue, noCommand, suspendedRead, noIdentifier, lateOf, decideOf, acceptOf, respondOf, decidedAs}
 use Rattle.model_types.specs.Phases.{isBusy, isSuspending, isPending, isSuspended}
@@ -101,27 +103,27 @@ module _ (d : Device) (p : Pins) (u : Up d p) (was : State) where
 
   -- a write to a device at rest
   rest-write : (m : Mode) (x a b : ℕ) → fits 2 x ≡ true → a < sizeOf (d .part) → lateOf (d .part) (atRest was m x) (cyc p Write a b) ≡ 0
-      → decideOf d (atRest was m x) (cyc p Write a b) (sizeOf (d .part)) 0 ≡ decidedAs Quiet (performedOf (actionOf (d .part) Free b) d (cyc p Write a b) (atRest was m x)) Nothing
+      → decideOf d (atRest was m x) (cyc p Write a b) (sizeOf (d .part)) 0 ≡ decidedAs Quiet (performedOf (actionOf (d .part) Free (commandOf (cyc p Write a b))) d (cyc p Write a b) (atRest was m x)) Nothing
   rest-write m x a b f h l = calm-decides (atRest was m x) Write a b (rest-proper d was m x f) h refl l
 
   pub clears : (m : Mode) (x a : ℕ) → fits 2 x ≡ true → a < sizeOf (d .part)
       → decideOf d (atRest was m x) (cyc p Write a 0x50) (sizeOf (d .part)) 0 ≡ decidedAs Quiet (atRest was m (bitAnd x 199)) Nothing
-  unfolding firstWrite lateOf noCommand suspendedRead noIdentifier
+  unfolding firstWrite asksProgram commandOf lateOf noCommand suspendedRead noIdentifier
   clears m x a f h = rest-write m x a 0x50 f h refl
 
   pub opens : (m : Mode) (x a : ℕ) → fits 2 x ≡ true → a < sizeOf (d .part)
       → decideOf d (atRest was m x) (cyc p Write a 0xFF) (sizeOf (d .part)) 0 ≡ decidedAs Quiet (atRest was Array x) Nothing
-  unfolding firstWrite lateOf noCommand suspendedRead noIdentifier
+  unfolding firstWrite asksProgram commandOf lateOf noCommand suspendedRead noIdentifier
   opens m x a f h = rest-write m x a 0xFF f h refl
 
   pub asks-erase : (m : Mode) (x a : ℕ) → fits 2 x ≡ true → a < sizeOf (d .part)
       → decideOf d (atRest was m x) (cyc p Write a 0x20) (sizeOf (d .part)) 0 ≡ decidedAs Quiet (st was Status x EraseAwaited 0 0) Nothing
-  unfolding firstWrite lateOf noCommand suspendedRead noIdentifier
+  unfolding firstWrite asksProgram commandOf lateOf noCommand suspendedRead noIdentifier
   asks-erase m x a f h = rest-write m x a 0x20 f h refl
 
   pub asks-program : (m : Mode) (x a : ℕ) → fits 2 x ≡ true → a < sizeOf (d .part)
       → decideOf d (atRest was m x) (cyc p Write a 0x40) (sizeOf (d .part)) 0 ≡ decidedAs Quiet (st was Status x DataAwaited 0 0) Nothing
-  unfolding firstWrite lateOf noCommand suspendedRead noIdentifier
+  unfolding firstWrite asksProgram commandOf lateOf noCommand suspendedRead noIdentifier
   asks-program m x a f h = rest-write m x a 0x40 f h refl
 
   -- an array read
@@ -147,16 +149,16 @@ module _ (d : Device) (p : Pins) (u : Up d p) (was : State) where
   asked-proper : (ph : Phase) → badMode ph Status ≡ false → badStatus ph 128 ≡ false → badLeft d ph 0 ≡ false → badAddress d ph 0 ≡ false → Proper d (st was Status 128 ph 0 0)
   asked-proper ph a b c e = record { mode = a; status = b; left = c; address = e }
 
-  -- a confirm, and a byte of data, do what comes of an operation that is to start
+  -- a confirm, and data, do what comes of an operation that is to start
   confirm-does : (a : ℕ) → a < sizeOf (d .part)
       → decideOf d (st was Status 128 EraseAwaited 0 0) (cyc p Write a 0xD0) (sizeOf (d .part)) 0
       ≡ decidedAs Quiet (startedOf (d .part) (cyc p Write a 0xD0) (st was Status 128 EraseAwaited 0 0) Erasing (d .erase) 32) Nothing
-  unfolding afterErase lateOf noCommand suspendedRead noIdentifier badStatus badLeft badAddress
+  unfolding afterErase commandOf lateOf noCommand suspendedRead noIdentifier badStatus badLeft badAddress
   confirm-does a h = calm-decides (st was Status 128 EraseAwaited 0 0) Write a 0xD0 (asked-proper EraseAwaited refl refl refl refl) h refl refl
 
   data-does : (a b : ℕ) → a < sizeOf (d .part)
       → decideOf d (st was Status 128 DataAwaited 0 0) (cyc p Write a b) (sizeOf (d .part)) 0
-      ≡ decidedAs Quiet (startedOf (d .part) (cyc p Write a b) (st was Status 128 DataAwaited 0 0) (Programming b) (d .program) 16) Nothing
+      ≡ decidedAs Quiet (startedOf (d .part) (cyc p Write a b) (st was Status 128 DataAwaited 0 0) (Programming (dataOf (d .part) (cyc p Write a b))) (d .program) 16) Nothing
   unfolding lateOf noCommand suspendedRead noIdentifier badStatus badLeft badAddress
   data-does a b h = calm-decides (st was Status 128 DataAwaited 0 0) Write a b (asked-proper DataAwaited refl refl refl refl) h refl refl
 
@@ -167,7 +169,7 @@ module _ (d : Device) (p : Pins) (u : Up d p) (was : State) where
 
   pub data-fails : (k low a b : ℕ) → Stuck d p k low → a < sizeOf (d .part) → blockOf (d .part) a ≡ k
       → decideOf d (st was Status 128 DataAwaited 0 0) (cyc p Write a b) (sizeOf (d .part)) 0 ≡ decidedAs Quiet (atRest was Status (bitOr (bitOr 128 low) 16)) Nothing
-  data-fails k low a b z h e = data-does a b h ∙ ap (λ (x : State). decidedAs Quiet x Nothing) (z .stays (st was Status 128 DataAwaited 0 0) (Programming b) a b (d .program) 16 refl e)
+  data-fails k low a b z h e = data-does a b h ∙ ap (λ (x : State). decidedAs Quiet x Nothing) (z .stays (st was Status 128 DataAwaited 0 0) (Programming (dataOf (d .part) (cyc p Write a b))) a b (d .program) 16 refl e)
 
   module _ (k : ℕ) (r : Ready d p k) where
     -- a block that a load may write is not locked
@@ -183,7 +185,7 @@ module _ (d : Device) (p : Pins) (u : Up d p) (was : State) where
     unfolding unsupplied
     supplied s a b e = simp (r .high, e)
 
-    -- a confirm and a byte of data start their operation
+    -- a confirm and data start their operation
     starts : (s : State) (ph : Phase) (a b time bit : ℕ) → s .status ≡ 128 → s .mode ≡ Status → blockOf (d .part) a ≡ k
         → startedOf (d .part) (cyc p Write a b) s ph time bit ≡ st s Status 0 ph time a
     unfolding startedOf
@@ -193,9 +195,11 @@ module _ (d : Device) (p : Pins) (u : Up d p) (was : State) where
         → decideOf d (st was Status 128 EraseAwaited 0 0) (cyc p Write a 0xD0) (sizeOf (d .part)) 0 ≡ decidedAs Quiet (st was Status 0 Erasing (d .erase) a) Nothing
     confirms a h e = confirm-does a h ∙ ap (λ (x : State). decidedAs Quiet x Nothing) (starts (st was Status 128 EraseAwaited 0 0) Erasing a 0xD0 (d .erase) 32 refl refl e)
 
-    pub sends : (a b : ℕ) → a < sizeOf (d .part) → blockOf (d .part) a ≡ k
+    pub sends : (a b : ℕ) → a < sizeOf (d .part) → blockOf (d .part) a ≡ k → b ≤ ones (d .part)
         → decideOf d (st was Status 128 DataAwaited 0 0) (cyc p Write a b) (sizeOf (d .part)) 0 ≡ decidedAs Quiet (st was Status 0 (Programming b) (d .program) a) Nothing
-    sends a b h e = data-does a b h ∙ ap (λ (x : State). decidedAs Quiet x Nothing) (starts (st was Status 128 DataAwaited 0 0) (Programming b) a b (d .program) 16 refl refl e)
+    sends a b h e c =
+        data-does a b h ∙ ap (λ (x : State). decidedAs Quiet x Nothing) (starts (st was Status 128 DataAwaited 0 0) (Programming (dataOf (d .part) (cyc p Write a b))) a b (d .program) 16 refl refl e
+        ∙ ap (λ (v : ℕ). st was Status 0 (Programming v) (d .program) a) (data-cell (d .part) (cyc p Write a b) c))
 
     -- a running operation is proper
     within : (most left : ℕ) → 0 < left → left ≤ most → (eqb left 0 || ltb most left) ≡ false
@@ -248,7 +252,7 @@ module _ (d : Device) (p : Pins) (u : Up d p) (was : State) where
 
     pub suspends : (left a b : ℕ) → 0 < left → left + 1 ≤ d .erase → a < sizeOf (d .part) → b < sizeOf (d .part)
         → decideOf d (st was Status 0 Erasing (left + 1) a) (cyc p Write b 0xB0) (sizeOf (d .part)) 0 ≡ decidedAs Quiet (st was Status 0 (Suspending (d .suspend)) left a) Nothing
-    unfolding countedOff whileErasing lateOf noCommand suspendedRead noIdentifier
+    unfolding countedOff whileErasing commandOf lateOf noCommand suspendedRead noIdentifier
     suspends left a b z m h g =
         let s : State = st was Status 0 Erasing (left + 1) a in
         decides s (st was Status 0 Erasing left a) Nothing Write b 0xB0 (busy-proper Erasing (left + 1) a (refl, refl) (omega arith) m h) g (unasked-high (d .part) s (cyc p Write b 0xB0) (u .up) (r .high))

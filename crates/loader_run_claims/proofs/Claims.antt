@@ -29,14 +29,30 @@ use Rattle.loader_run_claims.proofs.Counting as counting
 use Rattle.loader_run_claims.specs.Stepping.{Stepped}
 use Rattle.loader_run_claims.proofs.Stepping as stepping
 use Rattle.loader_run_claims.proofs.Mission as mission
+use Rattle.loader_run_claims.specs.Lent.{LentStart, LentDemand3}
+use Rattle.loader_run_claims.specs.Anchors.{allStart}
+use Rattle.loader_run_claims.proofs.Lent as lending
+use Rattle.loader_run_claims.proofs.Anchors as anchors
 
--- Demand 3, every clause in the mission's order (specs/Mission), from its start: a proper state with nothing under way, VPP in its
--- 12 V band, RP# high, at unlock level for the boot block.
+-- Demand 3, every clause in the mission's order (specs/Mission), from its start: a proper state with nothing under way, VPP high, in
+-- either band where there are two, RP# not low, the boot block unlocked if it is the one (RP# at unlock level; on devices 5 to 8 also WP#
+-- high). All lists are of units, bytes or words.
 pub demand-3 : (d : Device) (s : State) (p : Pins) (k : ℕ) (xs w sc : List ℕ) → Start d s p k xs w sc → Demand3 true d s p k xs w sc
 demand-3 = mission.demand-3 true
 
--- A proper idle start (`Taken`) is just what no number of a run refuses, with busy times up to 65,535 and wanted bytes.
-pub taken-exactly : (d : Device) (s : State) (p : Pins) (k : ℕ) (xs w sc : List ℕ) → d .program ≤ 65535 → d .erase ≤ 65535 → Cells (d .part) w
+-- The same of lent bytes, in byte mode and in word mode (specs/Lent): the run ends well, the block holds the wanted bytes, every other byte
+-- is as before, scratch ends as wanted, the count is the formula's, n and the programs counted in units, and all of demand 3 holds of the
+-- units that were lent.
+pub lent-demand-3 : (d : Device) (s : State) (p : Pins) (k : ℕ) (array wanted scratch : List ℕ) → LentStart d s p k array wanted scratch → LentDemand3 true d s p k array wanted scratch
+lent-demand-3 = lending.lent-demand-3 true
+
+-- Such starts there are of every block of the eight devices, in byte mode and in word mode, in either band of VPP, with RP# at V_HH and with
+-- WP# high: one computed test.
+pub starts-exist : allStart ≡ true
+starts-exist = anchors.all-start
+
+-- A proper idle start (`Taken`) is just what no number of a run refuses, with busy times up to 65,535 and units of the part's width.
+pub taken-exactly : (d : Device) (s : State) (p : Pins) (k : ℕ) (xs w sc : List ℕ) → d .program ≤ 65535 → d .erase ≤ 65535 → Cells (d .part) w → Cells (d .part) xs
     → Taken d s p k xs w sc ↔ (runNumber d s p k (length xs) (length w) (length sc) ≡ 0)
 taken-exactly = starts.taken-exactly
 
@@ -45,7 +61,7 @@ pub ends-well : (d : Device) (s : State) (p : Pins) (k : ℕ) (xs w sc : List �
     → ranOf d s p k xs w sc ≡ record { count = formula d w (heldIn (startOf (d .part) k) (length w) xs); end = 0; address = 0; state = atRest s Array 0x80 }
 ends-well = mission.ends-well true
 
--- The block holds the wanted bytes, every other byte is as before, and scratch holds the wanted bytes.
+-- The block holds the wanted units, every other unit is as before, and scratch holds the wanted ones.
 pub block-holds : (d : Device) (s : State) (p : Pins) (k : ℕ) (xs w sc : List ℕ) → Start d s p k xs w sc
     → heldIn (startOf (d .part) k) (length w) (bytesOf d s p k xs w sc) ≡ w
 block-holds = mission.block-holds true
@@ -58,14 +74,14 @@ others-stay = mission.others-stay true
 pub scratch-left : (d : Device) (s : State) (p : Pins) (k : ℕ) (xs w sc : List ℕ) → Start d s p k xs w sc → scratchOf d s p k xs w sc ≡ w
 scratch-left = mission.scratch-wanted true
 
--- It erases once if some bit must rise, otherwise never; it programs each byte that then differs once, and no other: the list of
+-- It erases once if some bit must rise, otherwise never; it programs each unit that then differs once, and no other: the list of
 -- the operations begun, in their order.
 pub begins-just : (d : Device) (s : State) (p : Pins) (k : ℕ) (xs w sc : List ℕ) → Start d s p k xs w sc
     → begunByLoad d s p k xs w sc ≡ operationsOf (d .part) k (startOf (d .part) k) w (heldBy (d .part) k xs)
 begins-just d s p k xs w sc start = mission.demand-3 true d s p k xs w sc start .begins
 
--- The cycles of a good load, one after the other: 50H, FFH, n reads; 20H, D0H, E polls if some bit must rise; 40H, the byte, P
--- polls for each byte that then differs; FFH, n reads. There are as many as the formula says.
+-- The cycles of a good load, one after the other: 50H, FFH, n reads; 20H, D0H, E polls if some bit must rise; 40H, the unit, P
+-- polls for each unit that then differs; FFH, n reads. There are as many as the formula says.
 pub cycles-are : (d : Device) (s : State) (p : Pins) (k : ℕ) (xs w sc : List ℕ) → Start d s p k xs w sc
     → cyclesOfLoad d s p k xs w sc ≡ cyclesOf d p (startOf (d .part) k) w (heldBy (d .part) k xs)
 cycles-are = mission.cycles-listed true

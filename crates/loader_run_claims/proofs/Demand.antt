@@ -39,7 +39,8 @@ use Rattle.loader_run_claims.specs.Mission.{Taken}
 use Rattle.loader_run_claims.proofs.Starts.{none-refuses}
 use Rattle.loader_run_claims.proofs.Answers.{Up, Ready, Stuck}
 use Rattle.loader_run_claims.proofs.Reaching.{Reach}
-use Rattle.loader_run_claims.proofs.Layers.{over-self}
+use Rattle.model_types.specs.Cells.{Cells}
+use Rattle.loader_run_claims.proofs.Layers.{over-self, cells-held}
 use Rattle.loader_run_claims.proofs.Grounds as grounds
 use Rattle.loader_run_claims.proofs.Grounds.{Left}
 use Rattle.loader_run_claims.proofs.Phases as phases
@@ -76,8 +77,11 @@ module _ (verify : Bool) (d : Device) (s : State) (p : Pins) (k : ℕ) (xs w sc 
   abbrev pub ys : List ℕ
   ys = heldIn (startOf (d .part) k) (length w) xs
 
+  cy : Cells (d .part) ys
+  cy = cells-held (d .part) a (length w) xs (t .held)
+
   abbrev rec : Stage → ℕ → Loader
-  rec stage place = record { part = d .part; pins = p; block = k; stage = stage; place = place; polls = 0; verify = verify }
+  rec stage place = record { part = d .part; pins = p; block = k; stage = stage; place = place; polls = 0; verify = verify; high = false }
 
   abbrev started : Config
   started = beginningAt Clearing verify d s p k xs sc
@@ -94,7 +98,7 @@ module _ (verify : Bool) (d : Device) (s : State) (p : Pins) (k : ℕ) (xs w sc 
       → Reach d w started e es (openingThen p a (length w) cs)
   opened e es cs r =
       grounds.from-rest d s p k xs w sc n0 Clearing verify e es (openingThen p a (length w) cs)
-      (phases.opening verify d p k u s w (g .wanted) some xs (g .sized) ys sc ly (g .scratch ∙ sym (g .wanted)) (s .mode) (s .status) (grounds.ready-status d s (g .proper) (g .free)) e es cs r)
+      (phases.opening verify d p k u s w (g .wanted) some xs (g .sized) ys sc ly cy (g .scratch ∙ sym (g .wanted)) (s .mode) (s .status) (grounds.ready-status d s (g .proper) (g .free)) e es cs r)
 
   -- what follows the last program, up to the end
   finished : (cnt : ℕ) → cnt ≡ 2 + length w + ((if risesIn w ys then 2 + d .erase else 0) + programsIn (d .part) w ys * (2 + d .program))
@@ -103,7 +107,7 @@ module _ (verify : Bool) (d : Device) (s : State) (p : Pins) (k : ℕ) (xs w sc 
       subst (λ (c : ℕ). Reach d w (phases.loaded verify d p k u s w (g .wanted) some xs (g .sized) (loadedMode w ys) cnt)
       (conf (rec (Ended 0) (if verify then length w - 1 else 0)) (atRest s (endMode verify w ys) 128) (overlaid xs a w) w c) [] (closingBy verify p a (length w)))
       (summed verify (risesIn w ys) (length w) (d .erase) (programsIn (d .part) w ys * (2 + d .program)) cnt q)
-      (faults.finishing verify d p k u s w (g .wanted) some xs (g .sized) (loadedMode w ys) cnt)
+      (faults.finishing verify d p k u s w (g .wanted) some (t .bytes) xs (g .sized) (loadedMode w ys) cnt)
 
   -- the load where its operations can start
   module _ (high : vppLow (d .part) p ≡ false) (unlock : k ≡ 0 → unlocked (d .part) p 0 ≡ true) where
@@ -114,7 +118,7 @@ module _ (verify : Bool) (d : Device) (s : State) (p : Pins) (k : ℕ) (xs w sc 
     good-load =
         grounds.comes d s p k xs w sc n0 Clearing verify goal (operationsOf (d .part) k a w ys) (cyclesBy verify d p a w ys) refl
         (grounds.from-rest d s p k xs w sc n0 Clearing verify goal (operationsOf (d .part) k a w ys) (cyclesBy verify d p a w ys)
-        (phases.loading verify d p k u s w (g .wanted) some xs (g .sized) ys sc ly (g .scratch ∙ sym (g .wanted)) ready (s .mode) (s .status) (grounds.ready-status d s (g .proper) (g .free)) (t .bytes)
+        (phases.loading verify d p k u s w (g .wanted) some xs (g .sized) ys sc ly cy (g .scratch ∙ sym (g .wanted)) ready (s .mode) (s .status) (grounds.ready-status d s (g .proper) (g .free)) (t .bytes)
         (grounds.over (d .program) (times d (g .known) .0)) (t .programs) (grounds.over (d .erase) (times d (g .known) .1)) (t .erases) goal (closingBy verify p a (length w))
         (λ cnt q. finished cnt (q ∙ ap (λ (n : ℕ). 2 + length w + ((if risesIn w ys then 2 + d .erase else 0) + n)) (phases.costs-are verify d p k u s w (g .wanted) some xs (g .sized) (length w) 0 (baseOf (d .part) w ys))))))
 

@@ -2,15 +2,15 @@
 use mathlib.Core.Path.{_≡_, refl, sym, ap, _∙_, subst}
 use mathlib.Core.Bool.{Bool, true, false, _&&_}
 use mathlib.Core.List.{List, [], _∷_}
-use Prim.Native.Nat.{ℕ, _+_, _-_, _<_}
+use Prim.Native.Nat.{ℕ, _+_, _-_, _/_, _%_, _<_}
 use native.Mathlib.Omega.{arith}
 use lib.ListN.{length, getD, set, replicate}
 use lib.Dec.{eqb, ltb}
 use lib.Bits.{bitOr}
-use borrow.Author.Tests.{lt-ltb, le-ltb}
-use Rattle.model_types.specs.Cells.{ones}
+use borrow.Author.Tests.{lt-ltb, le-ltb, eqb-true}
+use Rattle.model_types.specs.Cells.{ones, Cells}
 use Rattle.common.specs.Choice.{if_then_else_}
-use Rattle.common.proofs.Choice.{if-true, if-false}
+use Rattle.common.proofs.Choice.{if-true, if-false, and-right}
 use Rattle.common.specs.Lists.{overlaid}
 use Rattle.common.proofs.Lists.{overwritten-all}
 use Rattle.device.specs.declared.Device.{Device}
@@ -46,15 +46,20 @@ use Rattle.loader_run_claims.proofs.Reaching.{Reach, Answered, does-as,
 use Rattle.loader_run_claims.proofs.Same.{same-list, none-risen, none-ahead, some-ahead}
 use Rattle.loader_run_claims.proofs.Phases as phases
 
+-- a ready status is in the low 8 bits
+low-eight : (x : ℕ) → fits 2 x ≡ true → x % 256 ≡ x
+low-eight x f = let q : x / 64 ≡ 2 = eqb-true (x / 64) 2 (and-right (eqb (x % 8) 0) (eqb (x / 64) 2) f) in omega arith
+
 -- what follows a load: the verify of a block as wanted, or its end
 pub finishing : (verify : Bool) (d : Device) (p : Pins) (k : ℕ) (u : Up d p) (was : State) (w : List ℕ) (lw : length w ≡ lengthOf (d .part) k) (some : 0 < length w)
-    (xs : List ℕ) (lx : length xs ≡ sizeOf (d .part)) (m : Mode) (cnt : ℕ)
+    (cw : Cells (d .part) w) (xs : List ℕ) (lx : length xs ≡ sizeOf (d .part)) (m : Mode) (cnt : ℕ)
     → Reach d w (phases.loaded verify d p k u was w lw some xs lx m cnt)
     (conf (phases.rec verify d p k u was w lw some (Ended 0) (if verify then length w - 1 else 0) 0) (atRest was (if verify then Array else m) 128) (overlaid xs (startOf (d .part) k) w) w
     (cnt + (if verify then 1 + length w else 0))) [] (closingBy verify p (startOf (d .part) k) (length w))
-finishing true d p k u was w lw some xs lx m cnt =
-    met (phases.readsTo true d p k u was w lw some j) (phases.endAt true d p k u was w lw some j) (if-false (ltb j (length w)) (j + 1) (length w) z) (if-false (ltb j (length w)) 25 0 z)
-    (phases.closing true d p k u was w lw some xs lx w w refl refl 128 refl m cnt)
+finishing true d p k u was w lw some cw xs lx m cnt =
+    met (phases.readsTo true d p k u was w lw some j) (phases.endAt true d p k u was w lw some j) (phases.highAt true d p k u was w lw some xs lx w w refl cw refl 128 refl j)
+    (if-false (ltb j (length w)) (j + 1) (length w) z) (if-false (ltb j (length w)) 25 0 z) (if-false (ltb j (length w)) (phases.onlyHigh true d p k u was w lw some (getD w j 0) (getD w j 0)) false z)
+    (phases.closing true d p k u was w lw some xs lx w w refl cw refl 128 refl m cnt)
   where
     j : ℕ
     j = diffFrom 0 w w
@@ -62,21 +67,23 @@ finishing true d p k u was w lw some xs lx m cnt =
     z : ltb j (length w) ≡ false
     z = le-ltb j (length w) (let y = none-ahead w in omega arith)
 
-    met : (n e : ℕ) → n ≡ length w → e ≡ 0
-        → Reach d w (phases.loaded true d p k u was w lw some xs lx m cnt) (phases.verifiedBy true d p k u was w lw some xs lx w w refl refl 128 refl e n (cnt + (1 + n))) []
+    met : (n e : ℕ) (hi : Bool) → n ≡ length w → e ≡ 0 → hi ≡ false
+        → Reach d w (phases.loaded true d p k u was w lw some xs lx m cnt) (phases.verifiedBy true d p k u was w lw some xs lx w w refl cw refl 128 refl e hi n (cnt + (1 + n))) []
         (closingOf p (startOf (d .part) k) n)
         → Reach d w (phases.loaded true d p k u was w lw some xs lx m cnt)
         (conf (phases.rec true d p k u was w lw some (Ended 0) (length w - 1) 0) (atRest was Array 128) (overlaid xs (startOf (d .part) k) w) w (cnt + (1 + length w))) []
         (closingOf p (startOf (d .part) k) (length w))
-    met n e q y r =
+    met n e hi q y v r =
         subst (λ (v : List ℕ). Reach d w (phases.loaded true d p k u was w lw some xs lx m cnt)
         (conf (phases.rec true d p k u was w lw some (Ended 0) (length w - 1) 0) (atRest was Array 128) (overlaid xs (startOf (d .part) k) w) v (cnt + (1 + length w))) []
         (closingOf p (startOf (d .part) k) (length w))) (overwritten-all w w refl)
-        (subst (λ (v : ℕ). Reach d w (phases.loaded true d p k u was w lw some xs lx m cnt) (phases.verifiedBy true d p k u was w lw some xs lx w w refl refl 128 refl v (length w) (cnt + (1 + length w))) []
+        (subst (λ (b : Bool). Reach d w (phases.loaded true d p k u was w lw some xs lx m cnt) (phases.verifiedBy true d p k u was w lw some xs lx w w refl cw refl 128 refl 0 b (length w) (cnt + (1 + length w))) []
+        (closingOf p (startOf (d .part) k) (length w))) v
+        (subst (λ (v : ℕ). Reach d w (phases.loaded true d p k u was w lw some xs lx m cnt) (phases.verifiedBy true d p k u was w lw some xs lx w w refl cw refl 128 refl v hi (length w) (cnt + (1 + length w))) []
         (closingOf p (startOf (d .part) k) (length w))) y
-        (subst (λ (v : ℕ). Reach d w (phases.loaded true d p k u was w lw some xs lx m cnt) (phases.verifiedBy true d p k u was w lw some xs lx w w refl refl 128 refl e v (cnt + (1 + v))) []
-        (closingOf p (startOf (d .part) k) v)) q r))
-finishing false d p k u was w lw some xs lx m cnt =
+        (subst (λ (v : ℕ). Reach d w (phases.loaded true d p k u was w lw some xs lx m cnt) (phases.verifiedBy true d p k u was w lw some xs lx w w refl cw refl 128 refl e hi v (cnt + (1 + v))) []
+        (closingOf p (startOf (d .part) k) v)) q r)))
+finishing false d p k u was w lw some cw xs lx m cnt =
     arrive d w _ _ (λ t. phases.loaded false d p k u was w lw some xs lx m ((let z : cnt ≡ cnt + 0 = omega arith in z) t))
 
 -- `was` is the state that the load began in; `verify` is whether the verify follows it
@@ -85,7 +92,7 @@ module _ (verify : Bool) (d : Device) (p : Pins) (k : ℕ) (u : Up d p) (was : S
   a = startOf (d .part) k
 
   abbrev pub rec : Stage → ℕ → ℕ → Loader
-  rec stage place polls = record { part = d .part; pins = p; block = k; stage = stage; place = place; polls = polls; verify = verify }
+  rec stage place polls = record { part = d .part; pins = p; block = k; stage = stage; place = place; polls = polls; verify = verify; high = false }
 
   -- two writes and a poll that finds a fault: the end by its number, with nothing begun
   module _ (A B C : Stage) (goA : isEnded A ≡ false) (goB : isEnded B ≡ false) (goC : isEnded C ≡ false) (i x n : ℕ) (asked : State) (c1 c2 c3 : Cycle)
@@ -109,25 +116,25 @@ module _ (verify : Bool) (d : Device) (p : Pins) (k : ℕ) (u : Up d p) (was : S
         (arrive d w _ _ (ap (λ (m : ℕ). conf (rec (Ended n) i 0) (atRest was Status x) X sc m) (let z : cnt + 1 + 1 + 1 ≡ cnt + 3 = omega arith in z)))))
 
   -- a ready status with a fault ends the load, and scratch stays
-  erase-ends : (x n : ℕ) (sc : List ℕ) → isReady x ≡ true → eraseFault x ≡ n → eqb n 0 ≡ false → nextOf (rec EraseWaiting 0 0) x w sc ≡ rec (Ended n) 0 0
+  erase-ends : (x n : ℕ) (sc : List ℕ) → x % 256 ≡ x → isReady x ≡ true → eraseFault x ≡ n → eqb n 0 ≡ false → nextOf (rec EraseWaiting 0 0) x w sc ≡ rec (Ended n) 0 0
   unfolding erasePolled
-  erase-ends x n sc ready e z = simp (ready, e, z)
+  erase-ends x n sc y ready e z = simp (y, ready, e, z)
 
-  erase-keeps : (x n : ℕ) (sc : List ℕ) → eraseFault x ≡ n → eqb n 0 ≡ false → storeOf (rec EraseWaiting 0 0) x w sc ≡ sc
+  erase-keeps : (x n : ℕ) (sc : List ℕ) → x % 256 ≡ x → eraseFault x ≡ n → eqb n 0 ≡ false → storeOf (rec EraseWaiting 0 0) x w sc ≡ sc
   unfolding erasedWell
-  erase-keeps x n sc e z = rw (e, z) (go (isReady x))
+  erase-keeps x n sc y e z = rw (y, e, z) (go (isReady x))
     where
       go : (t : Bool) → (if t && false then replicate (length sc) (ones (d .part)) else sc) ≡ sc
       go true = refl
       go false = refl
 
-  program-ends : (i x n : ℕ) (sc : List ℕ) → isReady x ≡ true → programFault x ≡ n → eqb n 0 ≡ false → nextOf (rec ProgramWaiting i 0) x w sc ≡ rec (Ended n) i 0
+  program-ends : (i x n : ℕ) (sc : List ℕ) → x % 256 ≡ x → isReady x ≡ true → programFault x ≡ n → eqb n 0 ≡ false → nextOf (rec ProgramWaiting i 0) x w sc ≡ rec (Ended n) i 0
   unfolding programPolled
-  program-ends i x n sc ready e z = simp (ready, e, z)
+  program-ends i x n sc y ready e z = simp (y, ready, e, z)
 
-  program-keeps : (i x n : ℕ) (sc : List ℕ) → programFault x ≡ n → eqb n 0 ≡ false → storeOf (rec ProgramWaiting i 0) x w sc ≡ sc
+  program-keeps : (i x n : ℕ) (sc : List ℕ) → x % 256 ≡ x → programFault x ≡ n → eqb n 0 ≡ false → storeOf (rec ProgramWaiting i 0) x w sc ≡ sc
   unfolding programmedWell
-  program-keeps i x n sc e z = rw (e, z) (go (isReady x))
+  program-keeps i x n sc y e z = rw (y, e, z) (go (isReady x))
     where
       go : (t : Bool) → (if t && false then set sc i (getD w i 0) else sc) ≡ sc
       go true = refl
@@ -154,7 +161,7 @@ module _ (verify : Bool) (d : Device) (p : Pins) (k : ℕ) (u : Up d p) (was : S
         (phases.answered-first verify d p k u was w lw some EraseConfirming 0 0 Write 0xD0 (st was Status 128 EraseAwaited 0 0) Quiet (atRest was Status x) Nothing refl
         (answers.confirm-fails d p u was k low a stuck a-inside (phases.block-first verify d p k u was w lw some) ∙ ap (λ (y : ℕ). decidedAs Quiet (atRest was Status y) Nothing) q) refl)
         (phases.answered-first verify d p k u was w lw some EraseWaiting 0 0 Read 0 (atRest was Status x) (Gives x) (atRest was Status x) Nothing refl (answers.reads-status d p u was x a f a-inside) refl)
-        refl X ys lX refl refl refl refl (ap (λ (v : List ℕ). nextOf (rec EraseWaiting 0 0) x w v) (erase-keeps x n ys e z) ∙ erase-ends x n ys ready e z) (erase-keeps x n ys e z) cnt)
+        refl X ys lX refl refl refl refl (ap (λ (v : List ℕ). nextOf (rec EraseWaiting 0 0) x w v) (erase-keeps x n ys (low-eight x f) e z) ∙ erase-ends x n ys (low-eight x f) ready e z) (erase-keeps x n ys (low-eight x f) e z) cnt)
       where
         a-inside : a < sizeOf (d .part)
         a-inside = phases.a-inside verify d p k u was w lw some
@@ -172,7 +179,7 @@ module _ (verify : Bool) (d : Device) (p : Pins) (k : ℕ) (u : Up d p) (was : S
         (phases.answered-here verify d p k u was w lw some ProgramSending i 0 Write v (st was Status 128 DataAwaited 0 0) Quiet (atRest was Status x) Nothing h refl
         (answers.data-fails d p u was k low (a + i) v stuck inside (phases.block-at verify d p k u was w lw some i h) ∙ ap (λ (y : ℕ). decidedAs Quiet (atRest was Status y) Nothing) q) refl)
         (phases.answered-here verify d p k u was w lw some ProgramWaiting i 0 Read 0 (atRest was Status x) (Gives x) (atRest was Status x) Nothing h refl (answers.reads-status d p u was x (a + i) f inside) refl)
-        refl X ys lX refl refl refl refl (ap (λ (y : List ℕ). nextOf (rec ProgramWaiting i 0) x w y) (program-keeps i x n ys e z) ∙ program-ends i x n ys ready e z) (program-keeps i x n ys e z) cnt)
+        refl X ys lX refl refl refl refl (ap (λ (y : List ℕ). nextOf (rec ProgramWaiting i 0) x w y) (program-keeps i x n ys (low-eight x f) e z) ∙ program-ends i x n ys (low-eight x f) ready e z) (program-keeps i x n ys (low-eight x f) e z) cnt)
       where
         i : ℕ
         i = diffFrom 0 w ys

@@ -1,13 +1,19 @@
 -- Lists as a load sees them: a block inside the array, and a walk that has come to place i. Assumes nothing.
-use mathlib.Core.Path.{_≡_, sym, ap, _∙_, subst}
+use mathlib.Core.Path.{_≡_, sym, ap, _∙_, subst, refl}
 use mathlib.Core.List.{List, [], _∷_, _++_}
-use Prim.Native.Nat.{ℕ, _+_, _≤_, _<_}
+use Prim.Native.Nat.{ℕ, _+_, _≤_, _<_, _-_}
 use native.Mathlib.Nat.{zero-add, suc-add}
 use native.Mathlib.Omega.{arith}
-use lib.ListN.{length, getD, take, drop, set, length-append, length-take, length-drop, length-set, take-append-drop}
-use lib.Seq.{take-at, drop-at, length-take-le, set-append-left, set-getD, getD-append-add, getD-drop}
+use lib.ListN.{length, getD, take, drop, set, length-append, length-take, length-drop, length-set, take-append-drop, List·getD-eq-default}
+use lib.Seq.{take-at, drop-at, length-take-le, set-append-left, set-getD, getD-append-add, getD-drop, getD-take}
 use Rattle.common.specs.Lists.{overlaid, overwritten}
 use Rattle.common.proofs.Lists.{overwritten-more}
+use mathlib.Core.Bool.{Bool, true, false}
+use Rattle.common.proofs.Bytes.{overlaid-before, overlaid-in, overlaid-after}
+use lib.Dec.{ltb}
+use borrow.Author.Tests.{ltb-true, ltb-false}
+use Rattle.device.specs.declared.Part.{Part}
+use Rattle.model_types.specs.Cells.{ones, Cells}
 
 set-right : (p q : List ℕ) (i v : ℕ) → set (p ++ q) (length p + i) v ≡ p ++ set q i v
 set-right [] q i v = ap (λ (j : ℕ). set q j v) (zero-add i)
@@ -58,3 +64,28 @@ module _ (zs xs : List ℕ) (same : length zs ≡ length xs) where
   pub overwritten-agree : (i : ℕ) → i < length xs → getD xs i 0 ≡ getD zs i 0 → overwritten i zs xs ≡ overwritten (i + 1) zs xs
   overwritten-agree i h e =
       sym (set-getD (overwritten i zs xs) i 0) ∙ ap (λ (v : ℕ). set (overwritten i zs xs) i v) (overwritten-here i h ∙ e) ∙ overwritten-more zs xs i (omega arith) h
+
+-- what a block holds of an array of cells are cells
+pub cells-held : (part : Part) (a n : ℕ) (xs : List ℕ) → Cells part xs → Cells part (take n (drop a xs))
+cells-held part a n xs c i = go (ltb i n) refl
+  where
+    go : (b : Bool) → ltb i n ≡ b → getD (take n (drop a xs)) i 0 ≤ ones part
+    go true e = rw (getD-take n (drop a xs) i 0 (ltb-true i n e), getD-drop a xs i 0) (c (a + i))
+    go false e =
+        let h : n ≤ i = ltb-false i n e in
+        rw (List·getD-eq-default (take n (drop a xs)) 0 {n = i} (rw (length-take n (drop a xs)) (omega arith))) (omega arith)
+
+-- cells laid over cells are cells
+pub cells-laid : (part : Part) (xs : List ℕ) (a : ℕ) (ys : List ℕ) → a + length ys ≤ length xs → Cells part xs → Cells part ys → Cells part (overlaid xs a ys)
+cells-laid part xs a ys h cx cy i = go (ltb i a) refl (ltb i (a + length ys)) refl
+  where
+    go : (b : Bool) → ltb i a ≡ b → (c : Bool) → ltb i (a + length ys) ≡ c → getD (overlaid xs a ys) i 0 ≤ ones part
+    go true e c f = rw (overlaid-before xs a ys h i (ltb-true i a e)) (cx i)
+    go false e true f =
+        let m : a ≤ i = ltb-false i a e in
+        let n : i < a + length ys = ltb-true i (a + length ys) f in
+        subst (λ (j : ℕ). getD (overlaid xs a ys) j 0 ≤ ones part) (let q : a + (i - a) ≡ i = omega arith in q) (rw (overlaid-in xs a ys h (i - a) (omega arith)) (cy (i - a)))
+    go false e false f =
+        let n : a + length ys ≤ i = ltb-false i (a + length ys) f in
+        subst (λ (j : ℕ). getD (overlaid xs a ys) j 0 ≤ ones part) (let q : a + (length ys + (i - a - length ys)) ≡ i = omega arith in q)
+        (rw (overlaid-after xs a ys h (i - a - length ys)) (cx (a + (length ys + (i - a - length ys)))))

@@ -13,4 +13,6 @@ pub mod Mission
 pub mod Total
 pub mod Counting
 pub mod Stepping
+pub mod Lent
+pub mod Anchors
 pub mod Claims

@@ -1,6 +1,6 @@
 -- The phases of a load against the model, from the back, each whatever follows. Assumes nothing.
 use mathlib.Core.Path.{_≡_, refl, sym, ap, _∙_, subst}
-use mathlib.Core.Bool.{Bool, true, false, not, _||_}
+use mathlib.Core.Bool.{Bool, true, false, not, _&&_, _||_}
 use mathlib.Core.List.{List, [], _∷_}
 use Prim.Native.Nat.{ℕ, zero, suc, _+_, _-_, _*_, _/_, _%_, _≤_, _<_}
 use native.Mathlib.Nat.{not-suc-le-zero, le-of-suc-le-suc, zero-mul, one-mul, add-mul, zero-add}
@@ -57,6 +57,8 @@ use Rattle.loader_run_claims.proofs.Reaching.{Reach, Answered, Does, do
 use Rattle.loader_run_claims.proofs.Layers.{put-over, over-over, overwritten-length, overwritten-here, overwritten-agree}
 use Rattle.loader_run_claims.specs.Ends.{asWanted, loadedMode}
 use Rattle.loader_run_claims.proofs.Same.{risen-differs}
+use Rattle.units.specs.Units.{carried}
+use Rattle.units.proofs.Widths.{carried-cell}
 use Rattle.loader_run_claims.proofs.Answers as answers
 use Rattle.loader_run_claims.proofs.Answers.{Up, Ready, Runs}
 
@@ -70,7 +72,7 @@ cleared x f =
     imply true y h k = h
     imply false y h k = absurd (unlike (sym k))
 
--- where no bit must rise, every byte held keeps the bits wanted
+-- where no bit must rise, every unit held keeps the bits wanted
 no-rise : (n i : ℕ) (w s : List ℕ) → rises n i w s ≡ false → (j : ℕ) → j < n → mustRise (getD s (i + j) 0) (getD w (i + j) 0) ≡ false
 no-rise zero i w s e j h = absurd (not-suc-le-zero h)
 no-rise (suc n) i w s e zero h =
@@ -85,8 +87,11 @@ module _ (verify : Bool) (d : Device) (p : Pins) (k : ℕ) (u : Up d p) (was : S
   abbrev pub a : ℕ
   a = startOf (d .part) k
 
+  abbrev pub recAs : Stage → ℕ → ℕ → Bool → Loader
+  recAs stage place polls high = record { part = d .part; pins = p; block = k; stage = stage; place = place; polls = polls; verify = verify; high = high }
+
   abbrev pub rec : Stage → ℕ → ℕ → Loader
-  rec stage place polls = record { part = d .part; pins = p; block = k; stage = stage; place = place; polls = polls; verify = verify }
+  rec stage place polls = recAs stage place polls false
 
   pub inside : (i : ℕ) → i < length w → a + i < sizeOf (d .part)
   inside i h = omega (arith, blocks-end-inside (d .part) k)
@@ -122,20 +127,29 @@ module _ (verify : Bool) (d : Device) (p : Pins) (k : ℕ) (u : Up d p) (was : S
       → decideOf d s (cyc p kind a b) (sizeOf (d .part)) 0 ≡ decidedAs reply s′ e → isSmooth (decidedAs reply s′ e) ≡ true → Answered d w (rec stage i q) s (cyc p kind a b) reply s′ e
   answered-first stage i q kind b s reply s′ e o x f = record { out = o ∙ ap (λ (y : ℕ). cyc p kind y b) (first stage i q); decided = x; fine = f }
 
-  -- the verify: byte i reads as wanted, and the next or the end follows
-  verify-next : (i b : ℕ) → b ≡ getD w i 0 → i + 1 < length w → verifyMore (rec Verifying i 0) b w ≡ rec Verifying (i + 1) 0
-  unfolding verifyMore
-  verify-next i b e h =
-      if-true (eqb b (getD w i 0)) _ _ (eq-eqb b (getD w i 0) e) ∙ if-true (ltb i (length w - 1)) _ _ (lt-ltb i (length w - 1) (omega arith))
+  -- a cell is carried whole
+  pub cell : (v : ℕ) → v ≤ ones (d .part) → carried (d .part .word) v ≡ v
+  unfolding ones
+  cell v h = carried-cell (d .part .word) v h
 
-  verify-last : (i b : ℕ) → b ≡ getD w i 0 → i + 1 ≡ length w → verifyMore (rec Verifying i 0) b w ≡ rec (Ended 0) i 0
-  unfolding verifyMore
-  verify-last i b e h =
-      if-true (eqb b (getD w i 0)) _ _ (eq-eqb b (getD w i 0) e) ∙ if-false (ltb i (length w - 1)) _ _ (le-ltb i (length w - 1) (omega arith))
+  -- the verify: unit i reads as wanted, and the next or the end follows
+  -- of two words that differ, only the high bytes do
+  abbrev pub onlyHigh : ℕ → ℕ → Bool
+  onlyHigh v wanted = d .part .word && eqb (v % 256) (wanted % 256)
 
-  verify-differs : (i b : ℕ) → eqb b (getD w i 0) ≡ false → verifyMore (rec Verifying i 0) b w ≡ rec (Ended 25) i 0
+  verify-next : (i b : ℕ) → b ≤ ones (d .part) → b ≡ getD w i 0 → i + 1 < length w → verifyMore (rec Verifying i 0) b w ≡ rec Verifying (i + 1) 0
   unfolding verifyMore
-  verify-differs i b e = if-false (eqb b (getD w i 0)) _ _ e
+  verify-next i b c e h =
+      if-true (eqb (carried (d .part .word) b) (getD w i 0)) _ _ (eq-eqb (carried (d .part .word) b) (getD w i 0) (cell b c ∙ e)) ∙ if-true (ltb i (length w - 1)) _ _ (lt-ltb i (length w - 1) (omega arith))
+
+  verify-last : (i b : ℕ) → b ≤ ones (d .part) → b ≡ getD w i 0 → i + 1 ≡ length w → verifyMore (rec Verifying i 0) b w ≡ rec (Ended 0) i 0
+  unfolding verifyMore
+  verify-last i b c e h =
+      if-true (eqb (carried (d .part .word) b) (getD w i 0)) _ _ (eq-eqb (carried (d .part .word) b) (getD w i 0) (cell b c ∙ e)) ∙ if-false (ltb i (length w - 1)) _ _ (le-ltb i (length w - 1) (omega arith))
+
+  verify-differs : (i b : ℕ) → b ≤ ones (d .part) → eqb b (getD w i 0) ≡ false → verifyMore (rec Verifying i 0) b w ≡ recAs (Ended 25) i 0 (onlyHigh b (getD w i 0))
+  unfolding verifyMore
+  verify-differs i b c e = if-false (eqb (carried (d .part .word) b) (getD w i 0)) _ _ (ap (λ (v : ℕ). eqb v (getD w i 0)) (cell b c) ∙ e)
 
   -- what a verify reads whose first difference is at place j, and its end
   abbrev pub readsTo : ℕ → ℕ
@@ -175,17 +189,20 @@ module _ (verify : Bool) (d : Device) (p : Pins) (k : ℕ) (u : Up d p) (was : S
     one-more = omega arith
 
     -- the verify of a block that holds ys, from a device at rest with status x
-    module _ (ys sc : List ℕ) (ly : length ys ≡ length w) (ls : length sc ≡ length w) (x : ℕ) (f : fits 2 x ≡ true) where
+    module _ (ys sc : List ℕ) (ly : length ys ≡ length w) (cy : Cells (d .part) ys) (ls : length sc ≡ length w) (x : ℕ) (f : fits 2 x ≡ true) where
       abbrev X : List ℕ
       X = overlaid xs a ys
 
-      -- the end by a number after n bytes
-      abbrev pub verifiedBy : ℕ → ℕ → ℕ → Config
-      verifiedBy number n c = conf (rec (Ended number) (n - 1) 0) (atRest was Array x) X (overwritten n ys sc) c
+      -- the end by a number after n units; of the word at a difference only the high bytes may differ
+      abbrev pub verifiedBy : ℕ → Bool → ℕ → ℕ → Config
+      verifiedBy number high n c = conf (recAs (Ended number) (n - 1) 0 high) (atRest was Array x) X (overwritten n ys sc) c
+
+      abbrev pub highAt : ℕ → Bool
+      highAt j = if ltb j (length w) then onlyHigh (getD ys j 0) (getD w j 0) else false
 
       -- .. whose first difference is at place j
       abbrev pub verified : ℕ → ℕ → Config
-      verified j c = verifiedBy (endAt j) (readsTo j) c
+      verified j c = verifiedBy (endAt j) (highAt j) (readsTo j) c
 
       -- one byte of the verify
       verify-answered : (i : ℕ) (h : i < length w) → Answered d w (rec Verifying i 0) (atRest was Array x) (cyc p Read (a + i) 0) (GivesArray (a + i)) (atRest was Array x) Nothing
@@ -196,39 +213,41 @@ module _ (verify : Bool) (d : Device) (p : Pins) (k : ℕ) (u : Up d p) (was : S
       verify-turn i cnt h l′ e =
           turned d w (rec Verifying i 0) (atRest was Array x) X (overwritten i ys sc) cnt refl (sized ys ly) (cyc p Read (a + i) 0) (GivesArray (a + i)) (atRest was Array x) Nothing (verify-answered i h)
           ∙ (λ t. conf ((ap (λ (b : ℕ). verifyMore (rec Verifying i 0) b w) (byte-at ys i ly h) ∙ e) t) (atRest was Array x) X
-          ((ap (λ (b : ℕ). set (overwritten i ys sc) i b) (byte-at ys i ly h) ∙ overwritten-more ys sc i (omega arith) (omega arith)) t) (cnt + 1))
+          ((ap (λ (b : ℕ). set (overwritten i ys sc) i b) (ap (carried (d .part .word)) (byte-at ys i ly h) ∙ cell (getD ys i 0) (cy i)) ∙ overwritten-more ys sc i (omega arith) (omega arith)) t) (cnt + 1))
 
       verify-does : (i cnt : ℕ) (h : i < length w) → Does d w (conf (rec Verifying i 0) (atRest was Array x) X (overwritten i ys sc) cnt) Nothing (cyc p Read (a + i) 0)
       verify-does i cnt h = does d w (rec Verifying i 0) (atRest was Array x) X (overwritten i ys sc) cnt refl (sized ys ly) (cyc p Read (a + i) 0) (GivesArray (a + i)) (atRest was Array x) Nothing (verify-answered i h)
 
       -- the byte that ends it
-      ending : (i cnt number : ℕ) (h : i < length w) → verifyMore (rec Verifying i 0) (getD ys i 0) w ≡ rec (Ended number) i 0
-          → Reach d w (conf (rec Verifying i 0) (atRest was Array x) X (overwritten i ys sc) cnt) (verifiedBy number (i + 1) (cnt + 1)) [] (readsThen p 1 a i [])
-      ending i cnt number h e =
-          prepend d w _ _ _ Nothing (cyc p Read (a + i) 0) [] [] (verify-turn i cnt h (rec (Ended number) i 0) e) (verify-does i cnt h)
-          (arrive d w _ _ (λ t. conf (rec (Ended number) ((let z : i ≡ i + 1 - 1 = omega arith in z) t) 0) (atRest was Array x) X (overwritten (i + 1) ys sc) (cnt + 1)))
+      ending : (i cnt number : ℕ) (high : Bool) (h : i < length w) → verifyMore (rec Verifying i 0) (getD ys i 0) w ≡ recAs (Ended number) i 0 high
+          → Reach d w (conf (rec Verifying i 0) (atRest was Array x) X (overwritten i ys sc) cnt) (verifiedBy number high (i + 1) (cnt + 1)) [] (readsThen p 1 a i [])
+      ending i cnt number high h e =
+          prepend d w _ _ _ Nothing (cyc p Read (a + i) 0) [] [] (verify-turn i cnt h (recAs (Ended number) i 0 high) e) (verify-does i cnt h)
+          (arrive d w _ _ (λ t. conf (recAs (Ended number) ((let z : i ≡ i + 1 - 1 = omega arith in z) t) 0 high) (atRest was Array x) X (overwritten (i + 1) ys sc) (cnt + 1)))
 
       -- from place i on, by the place of the first difference
       abbrev From : ℕ → ℕ → ℕ → Type 0
       From i cnt j = Reach d w (conf (rec Verifying i 0) (atRest was Array x) X (overwritten i ys sc) cnt) (verified j (cnt + (readsTo j - i))) [] (readsThen p (readsTo j - i) a i [])
 
       -- .. where the byte at i ends it
-      ends-as : (i cnt j number : ℕ) → i < length w → readsTo j ≡ i + 1 → endAt j ≡ number → verifyMore (rec Verifying i 0) (getD ys i 0) w ≡ rec (Ended number) i 0 → From i cnt j
-      ends-as i cnt j number h r n e =
-          rw (r, n) (subst (λ (m : ℕ). Reach d w (conf (rec Verifying i 0) (atRest was Array x) X (overwritten i ys sc) cnt) (verifiedBy number (i + 1) (cnt + m)) [] (readsThen p m a i []))
-          (let z : 1 ≡ i + 1 - i = omega arith in z) (ending i cnt number h e))
+      ends-as : (i cnt j number : ℕ) (high : Bool) → i < length w → readsTo j ≡ i + 1 → endAt j ≡ number → highAt j ≡ high → verifyMore (rec Verifying i 0) (getD ys i 0) w ≡ recAs (Ended number) i 0 high → From i cnt j
+      ends-as i cnt j number high h r n v e =
+          rw (r, n, v) (subst (λ (m : ℕ). Reach d w (conf (rec Verifying i 0) (atRest was Array x) X (overwritten i ys sc) cnt) (verifiedBy number high (i + 1) (cnt + m)) [] (readsThen p m a i []))
+          (let z : 1 ≡ i + 1 - i = omega arith in z) (ending i cnt number high h e))
 
       differs-at : (i cnt : ℕ) → i < length w → eqb (getD ys i 0) (getD w i 0) ≡ false → From i cnt i
       differs-at i cnt h e =
-          ends-as i cnt i 25 h (if-true (ltb i (length w)) (i + 1) (length w) (lt-ltb i (length w) h)) (if-true (ltb i (length w)) 25 0 (lt-ltb i (length w) h)) (verify-differs i (getD ys i 0) e)
+          ends-as i cnt i 25 (onlyHigh (getD ys i 0) (getD w i 0)) h (if-true (ltb i (length w)) (i + 1) (length w) (lt-ltb i (length w) h)) (if-true (ltb i (length w)) 25 0 (lt-ltb i (length w) h))
+          (if-true (ltb i (length w)) (onlyHigh (getD ys i 0) (getD w i 0)) false (lt-ltb i (length w) h)) (verify-differs i (getD ys i 0) (cy i) e)
 
       verifying : (n i cnt : ℕ) → i + (n + 1) ≡ length w → From i cnt (nextDiff (suc n) i w ys)
       verifying zero i cnt e = go (eqb (getD ys i 0) (getD w i 0)) refl
         where
           go : (t : Bool) → eqb (getD ys i 0) (getD w i 0) ≡ t → From i cnt (if t then i + 1 else i)
           go true q =
-              ends-as i cnt (i + 1) 0 (omega arith) (if-false (ltb (i + 1) (length w)) (i + 1 + 1) (length w) (le-ltb (i + 1) (length w) (omega arith)) ∙ (let z : length w ≡ i + 1 = omega arith in z))
-              (if-false (ltb (i + 1) (length w)) 25 0 (le-ltb (i + 1) (length w) (omega arith))) (verify-last i (getD ys i 0) (eqb-true _ _ q) (omega arith))
+              ends-as i cnt (i + 1) 0 false (omega arith) (if-false (ltb (i + 1) (length w)) (i + 1 + 1) (length w) (le-ltb (i + 1) (length w) (omega arith)) ∙ (let z : length w ≡ i + 1 = omega arith in z))
+              (if-false (ltb (i + 1) (length w)) 25 0 (le-ltb (i + 1) (length w) (omega arith)))
+              (if-false (ltb (i + 1) (length w)) (onlyHigh (getD ys (i + 1) 0) (getD w (i + 1) 0)) false (le-ltb (i + 1) (length w) (omega arith))) (verify-last i (getD ys i 0) (cy i) (eqb-true _ _ q) (omega arith))
           go false q = differs-at i cnt (omega arith) q
       verifying (suc n) i cnt e = go (eqb (getD ys i 0) (getD w i 0)) refl (verifying n (i + 1) (cnt + 1) (omega arith)) (ahead (suc n) (i + 1) ys)
         where
@@ -241,7 +260,7 @@ module _ (verify : Bool) (d : Device) (p : Pins) (k : ℕ) (u : Up d p) (was : S
               subst (λ (m : ℕ). Reach d w (conf (rec Verifying i 0) (atRest was Array x) X (overwritten i ys sc) cnt) (verified j (cnt + m)) [] (readsThen p m a i []))
               (let z : suc (readsTo j - (i + 1)) ≡ readsTo j - i = omega arith in z)
               (prepend d w _ _ _ Nothing (cyc p Read (a + i) 0) [] (readsThen p (readsTo j - (i + 1)) a (i + 1) [])
-              (verify-turn i cnt h (rec Verifying (i + 1) 0) (verify-next i (getD ys i 0) (eqb-true _ _ q) (omega arith))) (verify-does i cnt h)
+              (verify-turn i cnt h (rec Verifying (i + 1) 0) (verify-next i (getD ys i 0) (cy i) (eqb-true _ _ q) (omega arith))) (verify-does i cnt h)
               (subst (λ (c : ℕ). Reach d w (conf (rec Verifying (i + 1) 0) (atRest was Array x) X (overwritten (i + 1) ys sc) (cnt + 1)) (verified j c) [] (readsThen p (readsTo j - (i + 1)) a (i + 1) []))
               (let z : cnt + 1 + (readsTo j - (i + 1)) ≡ cnt + suc (readsTo j - (i + 1)) = omega arith in z) r))
 
@@ -342,12 +361,12 @@ module _ (verify : Bool) (d : Device) (p : Pins) (k : ℕ) (u : Up d p) (was : S
     program-stores i q sc = refl
 
     -- one byte programmed: 40H, the byte, P polls
-    one-program : (r : Ready d p k) (m : Mode) (i cnt : ℕ) (ys sc : List ℕ) (e : Config) (es : List Effect) (cs : List Cycle) → i < length w → length ys ≡ length w
+    one-program : (r : Ready d p k) (m : Mode) (i cnt : ℕ) (ys sc : List ℕ) (e : Config) (es : List Effect) (cs : List Cycle) → i < length w → length ys ≡ length w → getD w i 0 ≤ ones (d .part)
         → bitAnd (getD ys i 0) (getD w i 0) ≡ getD w i 0
         → 0 < d .program → d .program ≤ 65535
         → ((cnt′ : ℕ) → cnt′ ≡ cnt + (2 + d .program) → Reach d w (conf (onto (i + 1) (set sc i (getD w i 0))) (atRest was Status 128) (overlaid xs a (set ys i (getD w i 0))) (set sc i (getD w i 0)) cnt′) e es cs)
         → Reach d w (conf (rec ProgramAsking i 0) (atRest was m 128) (overlaid xs a ys) sc cnt) e (Program (a + i) (getD w i 0) ∷ es) (programThen d p (a + i) (getD w i 0) cs)
-    one-program r m i cnt ys sc e es cs h ly falls z b rest =
+    one-program r m i cnt ys sc e es cs h ly cell-w falls z b rest =
         prepend d w _ _ e Nothing (cyc p Write (a + i) 0x40) (Program (a + i) v ∷ es) _
         (turned d w (rec ProgramAsking i 0) (atRest was m 128) X sc cnt refl lX (cyc p Write (a + i) 0x40) Quiet asked Nothing answered1)
         (does d w (rec ProgramAsking i 0) (atRest was m 128) X sc cnt refl lX (cyc p Write (a + i) 0x40) Quiet asked Nothing answered1)
@@ -379,7 +398,7 @@ module _ (verify : Bool) (d : Device) (p : Pins) (k : ℕ) (u : Up d p) (was : S
         answered1 = answered-here ProgramAsking i 0 Write 0x40 (atRest was m 128) Quiet asked Nothing h refl (answers.asks-program d p u was m 128 (a + i) refl (inside i h)) refl
 
         answered2 : Answered d w (rec ProgramSending i 0) asked (cyc p Write (a + i) v) Quiet (st was Status 0 (Programming v) (d .program) (a + i)) Nothing
-        answered2 = answered-here ProgramSending i 0 Write v asked Quiet (st was Status 0 (Programming v) (d .program) (a + i)) Nothing h refl (answers.sends d p u was k r (a + i) v (inside i h) (block-at i h)) refl
+        answered2 = answered-here ProgramSending i 0 Write v asked Quiet (st was Status 0 (Programming v) (d .program) (a + i)) Nothing h refl (answers.sends d p u was k r (a + i) v (inside i h) (block-at i h) cell-w) refl
 
         answered3 : (q : ℕ) → Answered d w (rec ProgramWaiting i q) (st was Status 0 (Programming v) 1 (a + i)) (cyc p Read (a + i) 0) (Gives 128) (atRest was Status 128) (Program (a + i) v)
         answered3 q =
@@ -424,17 +443,17 @@ module _ (verify : Bool) (d : Device) (p : Pins) (k : ℕ) (u : Up d p) (was : S
         later = sym (if-false (eqb (1 + n) 0) m Status (ne-eqb (1 + n) 0 (λ q. omega arith)))
 
     -- the programs from place i on, whatever follows; scratch is the block so far
-    walking : (r : Ready d p k) (sc : List ℕ) → length sc ≡ length w → ((i : ℕ) → i < length w → bitAnd (getD sc i 0) (getD w i 0) ≡ getD w i 0) → 0 < d .program → d .program ≤ 65535
+    walking : (r : Ready d p k) → Cells (d .part) w → (sc : List ℕ) → length sc ≡ length w → ((i : ℕ) → i < length w → bitAnd (getD sc i 0) (getD w i 0) ≡ getD w i 0) → 0 < d .program → d .program ≤ 65535
         → (e : Config) (cs : List Cycle) (j i cnt : ℕ) (m : Mode) → i + j ≡ length w
         → ((cnt′ : ℕ) (m′ : Mode) → cnt′ ≡ cnt + costs j i sc → m′ ≡ modeAfter m (differing j i w sc) → Reach d w (loaded m′ cnt′) e [] cs)
         → Reach d w (conf (onto i (overwritten i w sc)) (atRest was m 128) (overlaid xs a (overwritten i w sc)) (overwritten i w sc) cnt) e (programsOf j a i w sc) (programsThen d p j a i w sc cs)
-    walking r sc ls falls z b e cs zero i cnt m q rest =
+    walking r cw sc ls falls z b e cs zero i cnt m q rest =
         subst (λ (l : Loader). Reach d w (conf l (atRest was m 128) (overlaid xs a (overwritten i w sc)) (overwritten i w sc) cnt) e [] cs) (sym (onto-past i (overwritten i w sc) (omega arith)))
         (subst (λ (y : List ℕ). Reach d w (conf (rec (loadedStage verify) 0 0) (atRest was m 128) (overlaid xs a y) y cnt) e [] cs) (sym whole) (rest cnt m (omega arith) refl))
       where
         whole : overwritten i w sc ≡ w
         whole = ap (λ (n : ℕ). overwritten n w sc) (let t : i ≡ length sc = omega arith in t) ∙ overwritten-all w sc (sym ls)
-    walking r sc ls falls z b e cs (suc j) i cnt m q rest = go (eqb (getD sc i 0) (getD w i 0)) refl (walking r sc ls falls z b e cs j (i + 1)) rest
+    walking r cw sc ls falls z b e cs (suc j) i cnt m q rest = go (eqb (getD sc i 0) (getD w i 0)) refl (walking r cw sc ls falls z b e cs j (i + 1)) rest
       where
         h : i < length w
         h = omega arith
@@ -464,7 +483,7 @@ module _ (verify : Bool) (d : Device) (p : Pins) (k : ℕ) (u : Up d p) (was : S
         go false t more over =
             subst (λ (l : Loader). From l (overwritten i w sc) cnt m (Program (a + i) (getD w i 0) ∷ fs) (programThen d p (a + i) (getD w i 0) ds))
             (sym (onto-differs i (overwritten i w sc) h (ap (λ (x : ℕ). eqb x (getD w i 0)) here-is ∙ t)))
-            (one-program r m i cnt (overwritten i w sc) (overwritten i w sc) e fs ds h (overwritten-length w sc (sym ls) i (omega arith) ∙ ls)
+            (one-program r m i cnt (overwritten i w sc) (overwritten i w sc) e fs ds h (overwritten-length w sc (sym ls) i (omega arith) ∙ ls) (cw i)
             (ap (λ (x : ℕ). bitAnd x (getD w i 0)) here-is ∙ falls i h) z b
             (λ cnt′ s. subst (λ (y : List ℕ). From (onto (i + 1) y) y cnt′ Status fs ds) (sym (overwritten-more w sc i h (omega arith)))
             (more cnt′ Status (omega arith) (λ c o x y. over c o (omega arith) (y ∙ status-stays m (differing j (i + 1) w sc))))))
@@ -554,12 +573,12 @@ module _ (verify : Bool) (d : Device) (p : Pins) (k : ℕ) (u : Up d p) (was : S
     unfolding afterReads onward
     after-same i sc = refl
 
-    module _ (ys sc : List ℕ) (ly : length ys ≡ length w) (ls : length sc ≡ length w) where
+    module _ (ys sc : List ℕ) (ly : length ys ≡ length w) (cy : Cells (d .part) ys) (ls : length sc ≡ length w) where
       read-answered : (i : ℕ) (h : i < length w) → Answered d w (rec Reading i 0) (atRest was Array 128) (cyc p Read (a + i) 0) (GivesArray (a + i)) (atRest was Array 128) Nothing
       read-answered i h = answered-here Reading i 0 Read 0 (atRest was Array 128) (GivesArray (a + i)) (atRest was Array 128) Nothing h refl (answers.reads d p u was 128 (a + i) refl (inside i h)) refl
 
-      overwritten-read : (i : ℕ) (h : i < length w) → set (overwritten i ys sc) i (getD (overlaid xs a ys) (a + i) 0) ≡ overwritten (i + 1) ys sc
-      overwritten-read i h = ap (λ (v : ℕ). set (overwritten i ys sc) i v) (byte-at ys i ly h) ∙ overwritten-more ys sc i (omega arith) (omega arith)
+      overwritten-read : (i : ℕ) (h : i < length w) → set (overwritten i ys sc) i (carried (d .part .word) (getD (overlaid xs a ys) (a + i) 0)) ≡ overwritten (i + 1) ys sc
+      overwritten-read i h = ap (λ (v : ℕ). set (overwritten i ys sc) i v) (ap (carried (d .part .word)) (byte-at ys i ly h) ∙ cell (getD ys i 0) (cy i)) ∙ overwritten-more ys sc i (omega arith) (omega arith)
 
       reading : (j i cnt : ℕ) (e : Config) (es : List Effect) (cs : List Cycle) → i + (j + 1) ≡ length w
           → ((cnt′ : ℕ) → cnt′ ≡ cnt + (j + 1) → Reach d w (conf (if risesIn w ys then rec EraseAsking 0 0 else onto 0 ys) (atRest was Array 128) (overlaid xs a ys) ys cnt′) e es cs)
@@ -578,7 +597,7 @@ module _ (verify : Bool) (d : Device) (p : Pins) (k : ℕ) (u : Up d p) (was : S
           let h : i < length w = omega arith in
           prepend d w _ _ e Nothing (cyc p Read (a + i) 0) es (readsThen p (suc j) a (i + 1) cs)
           (turned d w (rec Reading i 0) (atRest was Array 128) (overlaid xs a ys) (overwritten i ys sc) cnt refl (sized ys ly) (cyc p Read (a + i) 0) (GivesArray (a + i)) (atRest was Array 128) Nothing (read-answered i h)
-          ∙ (λ t. conf (read-next i (set (overwritten i ys sc) i (getD (overlaid xs a ys) (a + i) 0)) (omega arith) t) (atRest was Array 128) (overlaid xs a ys) (overwritten-read i h t) (cnt + 1)))
+          ∙ (λ t. conf (read-next i (set (overwritten i ys sc) i (carried (d .part .word) (getD (overlaid xs a ys) (a + i) 0))) (omega arith) t) (atRest was Array 128) (overlaid xs a ys) (overwritten-read i h t) (cnt + 1)))
           (does d w (rec Reading i 0) (atRest was Array 128) (overlaid xs a ys) (overwritten i ys sc) cnt refl (sized ys ly) (cyc p Read (a + i) 0) (GivesArray (a + i)) (atRest was Array 128) Nothing (read-answered i h))
           (reading j (i + 1) (cnt + 1) e es cs (omega arith) (λ cnt′ z. rest cnt′ (omega arith)))
 
@@ -631,7 +650,7 @@ module _ (verify : Bool) (d : Device) (p : Pins) (k : ℕ) (u : Up d p) (was : S
           go true t over =
               rw t
               (erasing r Array (2 + length w) ys ys e (programsOf (length w) a 0 w blank) (programsThen d p (length w) a 0 w blank cs) ly ly ze be
-              (λ cnt′ y. walking r blank (length-replicate (length w) (ones (d .part))) (λ i h. full i h) zp bp e cs (length w) 0 cnt′ Status (omega arith)
+              (λ cnt′ y. walking r bw blank (length-replicate (length w) (ones (d .part))) (λ i h. full i h) zp bp e cs (length w) 0 cnt′ Status (omega arith)
               (λ c o q v. modes o c (v ∙ risen) (over c (rw t (omega arith))))))
             where
               full : (i : ℕ) → i < length w → bitAnd (getD blank i 0) (getD w i 0) ≡ getD w i 0
@@ -644,7 +663,7 @@ module _ (verify : Bool) (d : Device) (p : Pins) (k : ℕ) (u : Up d p) (was : S
                   differs = sym (if-false (asWanted w ys) Array Status (risen-differs w ys ly t))
           go false t over =
               rw t
-              (walking r ys ly (λ i h. unrisen ys t i h) zp bp e cs (length w) 0 (2 + length w) Array (omega arith) (λ c o q v. modes o c v (over c (rw t (omega arith)))))
+              (walking r bw ys ly (λ i h. unrisen ys t i h) zp bp e cs (length w) 0 (2 + length w) Array (omega arith) (λ c o q v. modes o c v (over c (rw t (omega arith)))))
 
     -- the cost of the programs is a product
     pub costs-are : (j i : ℕ) (sc : List ℕ) → costs j i sc ≡ differing j i w sc * (2 + d .program)

@@ -51,9 +51,9 @@ module _ (d : Device) (s : State) (p : Pins) (k : ℕ) (xs w sc : List ℕ) wher
           past (t .known) (past (right (length xs) (sizeOf (d .part)) (t .sized)) (past (t .proper) (past (levels-both d p (t .levels) (t .up))
           (past (t .block) (past (lengths-right d k (length w) (length sc) (t .wanted) (t .scratch)) (past (t .idle) end))))))
 
-  -- and a run that no number refuses starts so, with busy times up to 65,535 and wanted bytes
-  pub taken-if : runNumber d s p k (length xs) (length w) (length sc) ≡ 0 → d .program ≤ 65535 → d .erase ≤ 65535 → Cells (d .part) w → Taken d s p k xs w sc
-  taken-if n programs erases bytes =
+  -- and a run that no number refuses starts so, with busy times up to 65,535 and units of the part's width
+  pub taken-if : runNumber d s p k (length xs) (length w) (length sc) ≡ 0 → d .program ≤ 65535 → d .erase ≤ 65535 → Cells (d .part) w → Cells (d .part) xs → Taken d s p k xs w sc
+  taken-if n programs erases bytes held =
       let g = good d s p k (length xs) (length w) (length sc) n in
       record {
         known = g .known;
@@ -68,8 +68,9 @@ module _ (d : Device) (s : State) (p : Pins) (k : ℕ) (xs w sc : List ℕ) wher
         programs = programs;
         erases = erases;
         bytes = bytes;
+        held = held;
       }
 
   -- both at once
-  pub taken-exactly : d .program ≤ 65535 → d .erase ≤ 65535 → Cells (d .part) w → Taken d s p k xs w sc ↔ (runNumber d s p k (length xs) (length w) (length sc) ≡ 0)
-  taken-exactly programs erases bytes = (none-refuses, λ n. taken-if n programs erases bytes)
+  pub taken-exactly : d .program ≤ 65535 → d .erase ≤ 65535 → Cells (d .part) w → Cells (d .part) xs → Taken d s p k xs w sc ↔ (runNumber d s p k (length xs) (length w) (length sc) ≡ 0)
+  taken-exactly programs erases bytes held = (none-refuses, λ n. taken-if n programs erases bytes held)

@@ -3,3 +3,5 @@ pub mod Made
 pub mod Ends
 pub mod Stepping
 pub mod Mission
+pub mod Lent
+pub mod Anchors

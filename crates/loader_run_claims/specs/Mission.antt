@@ -21,7 +21,8 @@ use Rattle.model_history.specs.History.{Bus, World, worldOf, busesOf, worldAfte
 use Rattle.loader_run_claims.specs.Made.{cyclesAt}
 
 -- a proper idle start at any supply that is let in: a known device with its array, a proper state with nothing under way, a block
--- that exists, wanted and scratch of its length, RP# not low and no bad level; busy times up to 65,535, and wanted bytes
+-- that exists, wanted and scratch of its length, RP# not low and no bad level; busy times up to 65,535; and units of the part's width,
+-- bytes or words, in the array and wanted. All lists are of units, as lent bytes make them
 pub record Taken (d : Device) (s : State) (p : Pins) (k : ℕ) (xs w sc : List ℕ) : Type 0 where
   pub known : unknownDevice d ≡ false
   pub sized : length xs ≡ sizeOf (d .part)
@@ -35,8 +36,10 @@ pub record Taken (d : Device) (s : State) (p : Pins) (k : ℕ) (xs w sc : List �
   pub programs : d .program ≤ 65535
   pub erases : d .erase ≤ 65535
   pub bytes : Cells (d .part) w
+  pub held : Cells (d .part) xs
 
--- the mission's start: such a start with VPP in its 12 V band, and RP# at unlock level for the boot block
+-- the mission's start: such a start with VPP high, in either band where there are two, and the boot block unlocked if it is the one: RP#
+-- at unlock level, or WP# high on devices 5 to 8
 pub record Start (d : Device) (s : State) (p : Pins) (k : ℕ) (xs w sc : List ℕ) : Type 0 where
   pub base : Taken d s p k xs w sc
   pub high : vppHigh (d .part) p ≡ true
@@ -60,13 +63,14 @@ pub record NoFewer (d : Device) (v : World) (k : ℕ) (cs bs : List Bus) : Type 
 pub record Demand3 (verify : Bool) (d : Device) (s : State) (p : Pins) (k : ℕ) (xs w sc : List ℕ) : Type 0 where
   -- a load ends well
   pub well : runLeftAt Clearing verify d s p k xs w sc .ran .end ≡ 0
-  -- the block holds the wanted bytes
+  -- the block holds the wanted units
   pub block : heldBy (d .part) k (runLeftAt Clearing verify d s p k xs w sc .bytes) ≡ w
-  -- every other byte is as before
+  -- every other unit is as before
   pub others : (x : ℕ) → (blockOf (d .part) x ≡ k → ⊥) → getD (runLeftAt Clearing verify d s p k xs w sc .bytes) x 0 ≡ getD xs x 0
-  -- .. so the array is the old one with the wanted bytes laid over the block
+  -- .. so the array is the old one with the wanted units laid over the block
   pub array-left : runLeftAt Clearing verify d s p k xs w sc .bytes ≡ overlaid xs (startOf (d .part) k) w
-  -- it erases once if some bit must rise, otherwise never; it programs each byte that then differs once and no other
+  -- it erases once if some bit must rise, otherwise never; it programs each unit that then differs once and no other: on a
+  -- device in word mode words are counted
   pub begins : begunAt Clearing verify d s p k xs w sc ≡ operationsOf (d .part) k (startOf (d .part) k) w (heldBy (d .part) k xs)
   -- its own cycles are accepted, cut nothing and bring the block to what is wanted; they lead to what the run leaves, and begin that list
   pub own-accepted : acceptsAll d (worldOf s xs) (ownCycles verify d s p k xs w sc) ≡ true
