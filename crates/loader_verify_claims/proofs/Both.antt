@@ -36,10 +36,11 @@ use Rattle.loader_run_claims.specs.Made.{busCycle, readsThen, pollsThen, openin
 use Rattle.loader_run_claims.specs.Ends.{loadedMode, endNumber, wellRan, faultRan, ranAs, bytesAs, scratchAs, cyclesAs}
 use Rattle.loader_run_claims.specs.Mission.{Taken}
 use Rattle.loader_run_claims.proofs.Starts.{none-refuses, taken-if}
+use Rattle.loader_run_claims.proofs.Layers.{cells-laid}
 use Rattle.loader_run_claims.proofs.Grounds as grounds
 use Rattle.loader_run_claims.proofs.Total.{every-end}
 use Rattle.loader_run_claims.proofs.Mission.{formula-both}
-use Rattle.loader_verify_claims.specs.Verified.{bytesRead, verifyEnd, verifyAddress, verifyRan, Verified}
+use Rattle.loader_verify_claims.specs.Verified.{unitsRead, verifyEnd, verifyAddress, verifyRan, Verified}
 use Rattle.loader_verify_claims.specs.Both.{countedOn, verifyAfter, thenVerify, bothLeft, cyclesAfter, bothCycles}
 use Rattle.loader_verify_claims.proofs.Verifying.{as-wanted, verified}
 
@@ -124,6 +125,7 @@ module _ (d : Device) (s : State) (p : Pins) (k : ℕ) (xs w sc : List ℕ) (t :
         programs = t .programs;
         erases = t .erases;
         bytes = t .bytes;
+        held = cells-laid (d .part) xs a w fits (t .held) (t .bytes);
       }
 
   rows : NoRow (runRows d after p k (length laid) (length w) (length w))
@@ -132,22 +134,22 @@ module _ (d : Device) (s : State) (p : Pins) (k : ℕ) (xs w sc : List ℕ) (t :
 
   -- the verify from there ends well
   verify-well : Verified d after p k laid w w
-  verify-well = verified d after p k laid w w rows
+  verify-well = verified d after p k laid w w (again .held) rows
 
   held : heldIn a (length w) laid ≡ w
   held = held-over xs w a fits
 
   verify-ran : verifyAlone d after p k laid w w .ran ≡ record { count = 1 + length w; end = 0; address = 0; state = atRest s Array 0x80 }
-  unfolding bytesRead verifyEnd verifyAddress
-  verify-ran = verify-well .ran ∙ ap (λ (z : List ℕ). verifyRan after a w z) held ∙ rw (as-wanted w) refl
+  unfolding unitsRead verifyEnd verifyAddress
+  verify-ran = verify-well .ran ∙ ap (λ (z : List ℕ). verifyRan (d .part) after a w z) held ∙ rw (as-wanted w) refl
 
   verify-scratch : verifyAlone d after p k laid w w .scratch ≡ w
-  unfolding bytesRead
-  verify-scratch = verify-well .scratch ∙ ap (λ (z : List ℕ). overwritten (bytesRead w z) z w) held ∙ rw (as-wanted w) (overwritten-all w w refl)
+  unfolding unitsRead
+  verify-scratch = verify-well .scratch ∙ ap (λ (z : List ℕ). overwritten (unitsRead w z) z w) held ∙ rw (as-wanted w) (overwritten-all w w refl)
 
   verify-made : cyclesAt Closing true d after p k laid w w ≡ closingOf p a (length w)
-  unfolding bytesRead
-  verify-made = verify-well .made ∙ ap (λ (z : List ℕ). closingOf p a (bytesRead w z)) held ∙ rw (as-wanted w) refl
+  unfolding unitsRead
+  verify-made = verify-well .made ∙ ap (λ (z : List ℕ). closingOf p a (unitsRead w z)) held ∙ rw (as-wanted w) refl
 
   -- a load that ended well, and the run
   module _ (e : eqb (endNumber d p k w ys) 0 ≡ true) where
@@ -221,12 +223,12 @@ module _ (d : Device) (s : State) (p : Pins) (k : ℕ) (xs w sc : List ℕ) (t :
       go false e = (fault-both e, fault-cycles e)
 
 -- whatever is lent: a refusal is the same for the run and the load
-pub run-both : (d : Device) (s : State) (p : Pins) (k : ℕ) (xs w sc : List ℕ) → d .program ≤ 65535 → d .erase ≤ 65535 → Cells (d .part) w
+pub run-both : (d : Device) (s : State) (p : Pins) (k : ℕ) (xs w sc : List ℕ) → d .program ≤ 65535 → d .erase ≤ 65535 → Cells (d .part) w → Cells (d .part) xs
     → runLeft d s p k xs w sc ≡ bothLeft d s p k xs w sc
-run-both d s p k xs w sc programs erases bytes = go (eqb (runNumber d s p k (length xs) (length w) (length sc)) 0) refl
+run-both d s p k xs w sc programs erases bytes cells = go (eqb (runNumber d s p k (length xs) (length w) (length sc)) 0) refl
   where
     go : (t : Bool) → eqb (runNumber d s p k (length xs) (length w) (length sc)) 0 ≡ t → runLeft d s p k xs w sc ≡ bothLeft d s p k xs w sc
-    go true e = taken-both d s p k xs w sc (taken-if d s p k xs w sc (eqb-true _ _ e) programs erases bytes) .0
+    go true e = taken-both d s p k xs w sc (taken-if d s p k xs w sc (eqb-true _ _ e) programs erases bytes cells) .0
     go false e =
         left-refused Clearing true d s p k xs w sc (eqb-false _ _ e)
         ∙ sym (if-false (eqb (runNumber d s p k (length xs) (length w) (length sc)) 0) (verifyAfter d p k w (runRefused (runNumber d s p k (length xs) (length w) (length sc)) s xs sc)) (runRefused (runNumber d s p k (length xs) (length w) (length sc)) s xs sc) e)

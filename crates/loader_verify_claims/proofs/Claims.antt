@@ -14,7 +14,7 @@ use Rattle.model_types.specs.declared.State.{State}
 use Rattle.model_types.specs.Cells.{Cells}
 use Rattle.loader.specs.declared.Stage.the-variants.{Clearing, Closing}
 use Rattle.loader.specs.Walks.{diffFrom}
-use Rattle.loader_run.specs.Runs.{runRows, runLeft, loadAlone, verifyAlone}
+use Rattle.loader_run.specs.Runs.{runRows, runLeft, loadAlone, verifyAlone, lentRows, lentVerify}
 use Rattle.loader_run_claims.specs.Wear.{heldIn, heldBy, formula, loadFormula}
 use Rattle.loader_run_claims.specs.Made.{cyclesAt, cyclesOfLoad, loadThen}
 use Rattle.loader_run_claims.specs.Ends.{Whole}
@@ -28,19 +28,23 @@ use Rattle.loader_verify_claims.specs.Verified.{Verified, Met}
 use Rattle.loader_verify_claims.specs.Both.{bothLeft, bothCycles}
 use Rattle.loader_verify_claims.proofs.Verifying as verifying
 use Rattle.loader_verify_claims.proofs.Both as both
+use Rattle.loader_verify_claims.proofs.Lent as lending
+use Rattle.loader_verify_claims.specs.Lent.{LentMet}
+use Rattle.common.specs.Lists.{Bytes}
+use Rattle.units.specs.Units.{bytesIn}
 
 -- A verify that nothing refuses, whatever VPP and the lock, from any proper state with nothing under way (`Verified`, a sentence a
 -- field): what it returns, that the array is as before and no operation begun, what scratch holds, its cycles, and the status as before.
-pub verified : (d : Device) (s : State) (p : Pins) (k : ℕ) (xs w sc : List ℕ) → NoRow (runRows d s p k (length xs) (length w) (length sc)) → Verified d s p k xs w sc
+pub verified : (d : Device) (s : State) (p : Pins) (k : ℕ) (xs w sc : List ℕ) → Cells (d .part) xs → NoRow (runRows d s p k (length xs) (length w) (length sc)) → Verified d s p k xs w sc
 verified = verifying.verified
 
--- It ends well exactly where the block holds the wanted bytes; else it ends 25 at the first place that differs, with that array
--- address and place + 2 cycles (`Met`).
-pub well-exactly : (d : Device) (s : State) (p : Pins) (k : ℕ) (xs w sc : List ℕ) → NoRow (runRows d s p k (length xs) (length w) (length sc))
+-- It ends well exactly where the block holds the wanted units; else it ends 25 at the first place that differs, with the byte address of
+-- the first byte that differs and place + 2 cycles (`Met`).
+pub well-exactly : (d : Device) (s : State) (p : Pins) (k : ℕ) (xs w sc : List ℕ) → Cells (d .part) xs → NoRow (runRows d s p k (length xs) (length w) (length sc))
     → (verifyAlone d s p k xs w sc .ran .end ≡ 0) ↔ (heldBy (d .part) k xs ≡ w)
 well-exactly = verifying.well-exactly
 
-pub first-difference : (d : Device) (s : State) (p : Pins) (k : ℕ) (xs w sc : List ℕ) → NoRow (runRows d s p k (length xs) (length w) (length sc))
+pub first-difference : (d : Device) (s : State) (p : Pins) (k : ℕ) (xs w sc : List ℕ) → Cells (d .part) xs → NoRow (runRows d s p k (length xs) (length w) (length sc))
     → (heldBy (d .part) k xs ≡ w → ⊥) → Met d s p k xs w sc (diffFrom 0 w (heldIn (startOf (d .part) k) (length w) xs))
 first-difference = verifying.first-difference
 
@@ -65,7 +69,7 @@ load-every-end = total-ends.every-end false
 
 -- A run is the two of them: what it returns and leaves is what the load leaves and, only where that ended well, what the verify from
 -- there returns and leaves, with the counts added; refused or not, for devices and bytes of the widths that the code has.
-pub run-is-both : (d : Device) (s : State) (p : Pins) (k : ℕ) (xs w sc : List ℕ) → d .program ≤ 65535 → d .erase ≤ 65535 → Cells (d .part) w
+pub run-is-both : (d : Device) (s : State) (p : Pins) (k : ℕ) (xs w sc : List ℕ) → d .program ≤ 65535 → d .erase ≤ 65535 → Cells (d .part) w → Cells (d .part) xs
     → runLeft d s p k xs w sc ≡ bothLeft d s p k xs w sc
 run-is-both = both.run-both
 
@@ -77,7 +81,7 @@ cycles-are-both d s p k xs w sc t = both.taken-both d s p k xs w sc t .1
 pub load-never-25 : (d : Device) (s : State) (p : Pins) (k : ℕ) (xs w sc : List ℕ) → Taken d s p k xs w sc → loadAlone d s p k xs w sc .ran .end ≡ 25 → ⊥
 load-never-25 d s p k xs w sc t = total-ends.never false d s p k xs w sc t .2
 
-pub verify-only-25 : (d : Device) (s : State) (p : Pins) (k : ℕ) (xs w sc : List ℕ) → NoRow (runRows d s p k (length xs) (length w) (length sc))
+pub verify-only-25 : (d : Device) (s : State) (p : Pins) (k : ℕ) (xs w sc : List ℕ) → Cells (d .part) xs → NoRow (runRows d s p k (length xs) (length w) (length sc))
     → (verifyAlone d s p k xs w sc .ran .end ≡ 25 → ⊥) → verifyAlone d s p k xs w sc .ran .end ≡ 0
 verify-only-25 = verifying.only-25
 
@@ -85,8 +89,8 @@ verify-only-25 = verifying.only-25
 pub load-by-hand : (d : Device) (s : State) (p : Pins) (k : ℕ) (xs w sc : List ℕ) → Taken d s p k xs w sc → Stepped Clearing false d s p k xs w sc
 load-by-hand d s p k xs w sc t = stepping.stepped false d s p k xs w sc (load-every-end d s p k xs w sc t)
 
-pub verify-by-hand : (d : Device) (s : State) (p : Pins) (k : ℕ) (xs w sc : List ℕ) → NoRow (runRows d s p k (length xs) (length w) (length sc)) → Stepped Closing true d s p k xs w sc
-verify-by-hand d s p k xs w sc f = stepping.by-hand Closing true refl d s p k xs w sc f (verified d s p k xs w sc f .smooth)
+pub verify-by-hand : (d : Device) (s : State) (p : Pins) (k : ℕ) (xs w sc : List ℕ) → Cells (d .part) xs → NoRow (runRows d s p k (length xs) (length w) (length sc)) → Stepped Closing true d s p k xs w sc
+verify-by-hand d s p k xs w sc c f = stepping.by-hand Closing true refl d s p k xs w sc f (verified d s p k xs w sc c f .smooth)
 
 -- The count is the number of cycles made, of either.
 pub load-counts : (d : Device) (s : State) (p : Pins) (k : ℕ) (xs w sc : List ℕ) → NoRow (runRows d s p k (length xs) (length w) (length sc))
@@ -96,3 +100,14 @@ load-counts = counting.run-counts Clearing false
 pub verify-counts : (d : Device) (s : State) (p : Pins) (k : ℕ) (xs w sc : List ℕ) → NoRow (runRows d s p k (length xs) (length w) (length sc))
     → verifyAlone d s p k xs w sc .ran .count ≡ length (cyclesAt Closing true d s p k xs w sc)
 verify-counts = counting.run-counts Closing true
+
+-- A verify on lent bytes, in byte mode and in word mode, ends well exactly where the block holds the wanted bytes.
+pub lent-well-exactly : (d : Device) (s : State) (p : Pins) (k : ℕ) (array wanted scratch : List ℕ) → Bytes array → Bytes wanted → NoRow (lentRows d s p k (length array) (length wanted) (length scratch))
+    → (lentVerify d s p k array wanted scratch .ran .end ≡ 0) ↔ (heldIn (bytesIn (d .part .word) (startOf (d .part) k)) (length wanted) array ≡ wanted)
+lent-well-exactly = lending.lent-well-exactly
+
+-- Else it ends 25 with the byte address of the first byte of the block that differs from what is wanted (`LentMet`).
+pub lent-first-difference : (d : Device) (s : State) (p : Pins) (k : ℕ) (array wanted scratch : List ℕ) (bx : Bytes array) (bw : Bytes wanted)
+    (free : NoRow (lentRows d s p k (length array) (length wanted) (length scratch))) → (heldIn (bytesIn (d .part .word) (startOf (d .part) k)) (length wanted) array ≡ wanted → ⊥)
+    → LentMet d s p k array wanted scratch (lending.place d s p k array wanted scratch bx bw free)
+lent-first-difference = lending.lent-first-difference

@@ -1,9 +1,9 @@
 -- A verify alone against the model: its end, and that it ends well exactly where the block holds what is wanted. Assumes nothing.
 use mathlib.Core.Path.{_≡_, refl, sym, ap, _∙_, subst}
-use mathlib.Core.Bool.{Bool, true, false}
+use mathlib.Core.Bool.{Bool, true, false, _&&_}
 use mathlib.Core.List.{List, []}
 use mathlib.Core.Logic.{_↔_}
-use Prim.Native.Nat.{ℕ, zero, suc, _+_, _-_, _≤_, _<_}
+use Prim.Native.Nat.{ℕ, zero, suc, _+_, _-_, _*_, _%_, _≤_, _<_}
 use native.Mathlib.Omega.{arith}
 use lib.ListN.{length, getD}
 use lib.Dec.{eqb, ltb}
@@ -28,12 +28,14 @@ use Rattle.loader_run.specs.Runs.{runRows, runNumber, verifyAlone}
 use Rattle.loader_run_claims.specs.Wear.{differing, heldIn, heldBy}
 use Rattle.loader_run_claims.specs.Made.{closingOf}
 use Rattle.loader_run_claims.specs.Ends.{asWanted}
-use Rattle.loader_run_claims.proofs.Layers.{over-self}
+use Rattle.model_types.specs.Cells.{Cells}
+use Rattle.loader_steps.specs.Outs.{firstAddress, hereOf, byteHere}
+use Rattle.loader_run_claims.proofs.Layers.{over-self, cells-held}
 use Rattle.loader_run_claims.proofs.Grounds as grounds
 use Rattle.loader_run_claims.proofs.Grounds.{Left}
 use Rattle.loader_run_claims.proofs.Phases as phases
 use Rattle.loader_run_claims.proofs.Same.{same-list, none-ahead, some-ahead, none-differing}
-use Rattle.loader_verify_claims.specs.Verified.{bytesRead, verifyEnd, verifyAddress, Verified, Met}
+use Rattle.loader_verify_claims.specs.Verified.{unitsRead, byteApart, verifyEnd, verifyAddress, Verified, Met}
 
 -- bytes that are what is wanted are found so
 pub as-wanted : (w : List ℕ) → asWanted w w ≡ true
@@ -62,7 +64,13 @@ next-before (suc n) i w s j a b = go (eqb (getD s i 0) (getD w i 0)) refl (next-
     go true e more g false q = more (let z : i ≡ j → ⊥ = eqb-false i j q in omega arith) g
     go false e more g u q = absurd (omega arith)
 
-module _ (d : Device) (s : State) (p : Pins) (k : ℕ) (xs w sc : List ℕ) (free : NoRow (runRows d s p k (length xs) (length w) (length sc))) where
+-- the byte that differs at a place, as the record has it
+apart-at : (word : Bool) (x y v u : ℕ) → x ≡ y
+    → (if word then 2 * x + (if (word && eqb (v % 256) (u % 256)) then 1 else 0) else x) ≡ (if word then 2 * y + (if eqb (v % 256) (u % 256) then 1 else 0) else y)
+apart-at true x y v u e = ap (λ (z : ℕ). 2 * z + (if eqb (v % 256) (u % 256) then 1 else 0)) e
+apart-at false x y v u e = e
+
+module _ (d : Device) (s : State) (p : Pins) (k : ℕ) (xs w sc : List ℕ) (cx : Cells (d .part) xs) (free : NoRow (runRows d s p k (length xs) (length w) (length sc))) where
   none : runNumber d s p k (length xs) (length w) (length sc) ≡ 0
   unfolding runNumber
   none = no-row-given free
@@ -80,12 +88,15 @@ module _ (d : Device) (s : State) (p : Pins) (k : ℕ) (xs w sc : List ℕ) (fre
   ly : length ys ≡ length w
   ly = grounds.ly d s p k xs w sc none
 
-  -- where it ends by a number after n bytes
-  abbrev ended : ℕ → ℕ → Config
-  ended number n =
-      phases.verifiedBy true d p k (grounds.u d s p k xs w sc none) s w (grounds.g d s p k xs w sc none .wanted) (grounds.some d s p k xs w sc none) xs (grounds.g d s p k xs w sc none .sized) ys sc ly
+  cy : Cells (d .part) ys
+  cy = cells-held (d .part) a (length w) xs cx
+
+  -- where it ends by a number after n units
+  abbrev ended : ℕ → Bool → ℕ → Config
+  ended number high n =
+      phases.verifiedBy true d p k (grounds.u d s p k xs w sc none) s w (grounds.g d s p k xs w sc none .wanted) (grounds.some d s p k xs w sc none) xs (grounds.g d s p k xs w sc none .sized) ys sc ly cy
       (grounds.g d s p k xs w sc none .scratch ∙ sym (grounds.g d s p k xs w sc none .wanted)) (s .status)
-      (grounds.ready-status d s (grounds.g d s p k xs w sc none .proper) (grounds.g d s p k xs w sc none .free)) number n (0 + (1 + n))
+      (grounds.ready-status d s (grounds.g d s p k xs w sc none .proper) (grounds.g d s p k xs w sc none .free)) number high n (0 + (1 + n))
 
   abbrev reads : ℕ
   reads = if ltb met (length w) then met + 1 else length w
@@ -93,25 +104,33 @@ module _ (d : Device) (s : State) (p : Pins) (k : ℕ) (xs w sc : List ℕ) (fre
   abbrev number : ℕ
   number = if ltb met (length w) then 25 else 0
 
-  left : Left Closing true d s p k xs w sc (ended number reads) [] (closingOf p a reads)
+  -- of the word that differs only the high bytes do
+  abbrev apart : Bool
+  apart = d .part .word && eqb (getD ys met 0 % 256) (getD w met 0 % 256)
+
+  abbrev high : Bool
+  high = if ltb met (length w) then apart else false
+
+  left : Left Closing true d s p k xs w sc (ended number high reads) [] (closingOf p a reads)
   left =
-      grounds.comes d s p k xs w sc none Closing true (ended number reads) [] (closingOf p a reads) refl
-      (grounds.from-rest d s p k xs w sc none Closing true (ended number reads) [] (closingOf p a reads)
-      (phases.closing true d p k (grounds.u d s p k xs w sc none) s w (grounds.g d s p k xs w sc none .wanted) (grounds.some d s p k xs w sc none) xs (grounds.g d s p k xs w sc none .sized) ys sc ly
+      grounds.comes d s p k xs w sc none Closing true (ended number high reads) [] (closingOf p a reads) refl
+      (grounds.from-rest d s p k xs w sc none Closing true (ended number high reads) [] (closingOf p a reads)
+      (phases.closing true d p k (grounds.u d s p k xs w sc none) s w (grounds.g d s p k xs w sc none .wanted) (grounds.some d s p k xs w sc none) xs (grounds.g d s p k xs w sc none .sized) ys sc ly cy
       (grounds.g d s p k xs w sc none .scratch ∙ sym (grounds.g d s p k xs w sc none .wanted)) (s .status)
       (grounds.ready-status d s (grounds.g d s p k xs w sc none .proper) (grounds.g d s p k xs w sc none .free)) (s .mode) 0))
 
-  -- by the number and the bytes read
-  told : (m n : ℕ) → number ≡ m → reads ≡ n → verifyEnd w ys ≡ m → bytesRead w ys ≡ n → endAddress (ended m n .loader) m ≡ verifyAddress a w ys → Verified d s p k xs w sc
-  told m n q r e b adr =
-      let l : Left Closing true d s p k xs w sc (ended m n) [] (closingOf p a n) =
-      subst (λ (x : ℕ). Left Closing true d s p k xs w sc (ended x n) [] (closingOf p a n)) q (subst (λ (x : ℕ). Left Closing true d s p k xs w sc (ended number x) [] (closingOf p a x)) r left) in
-      let c : 0 + (1 + n) ≡ 1 + bytesRead w ys = omega (arith, b) in
+  -- by the number and the units read
+  told : (m n : ℕ) (h : Bool) → number ≡ m → reads ≡ n → high ≡ h → verifyEnd w ys ≡ m → unitsRead w ys ≡ n → endAddress (ended m h n .loader) m ≡ verifyAddress (d .part) a w ys → Verified d s p k xs w sc
+  told m n h q r v e b adr =
+      let l : Left Closing true d s p k xs w sc (ended m h n) [] (closingOf p a n) =
+      subst (λ (x : Bool). Left Closing true d s p k xs w sc (ended m x n) [] (closingOf p a n)) v
+      (subst (λ (x : ℕ). Left Closing true d s p k xs w sc (ended x high n) [] (closingOf p a n)) q (subst (λ (x : ℕ). Left Closing true d s p k xs w sc (ended number high x) [] (closingOf p a x)) r left)) in
+      let c : 0 + (1 + n) ≡ 1 + unitsRead w ys = omega (arith, b) in
       record {
-        ran = grounds.ran-left d s p k xs w sc none Closing true (ended m n) [] (closingOf p a n) l
+        ran = grounds.ran-left d s p k xs w sc none Closing true (ended m h n) [] (closingOf p a n) l
             ∙ (λ i. record { count = c i; end = sym e i; address = adr i; state = atRest s Array (s .status) });
-        bytes = grounds.bytes-left d s p k xs w sc none Closing true (ended m n) [] (closingOf p a n) l ∙ over-self xs a (length w) (grounds.fitting d s p k xs w sc none);
-        scratch = grounds.scratch-left d s p k xs w sc none Closing true (ended m n) [] (closingOf p a n) l ∙ ap (λ (x : ℕ). overwritten x ys sc) (sym b);
+        bytes = grounds.bytes-left d s p k xs w sc none Closing true (ended m h n) [] (closingOf p a n) l ∙ over-self xs a (length w) (grounds.fitting d s p k xs w sc none);
+        scratch = grounds.scratch-left d s p k xs w sc none Closing true (ended m h n) [] (closingOf p a n) l ∙ ap (λ (x : ℕ). overwritten x ys sc) (sym b);
         begins = l .begun;
         made = l .made ∙ ap (λ (x : ℕ). closingOf p a x) (sym b);
         smooth = l .smooth;
@@ -122,21 +141,22 @@ module _ (d : Device) (s : State) (p : Pins) (k : ℕ) (xs w sc : List ℕ) (fre
   none-met e = ap (λ (z : List ℕ). diffFrom 0 w z) (same-list w ys ly e) ∙ none-ahead w
 
   pub verified : Verified d s p k xs w sc
-  unfolding bytesRead verifyEnd verifyAddress endAddress
+  unfolding unitsRead verifyEnd verifyAddress endAddress byteHere hereOf firstAddress
   verified = go (asWanted w ys) refl
     where
       go : (t : Bool) → asWanted w ys ≡ t → Verified d s p k xs w sc
       go true e =
           let z : ltb met (length w) ≡ false = le-ltb met (length w) (let y = none-met e in omega arith) in
-          told 0 (length w) (if-false (ltb met (length w)) 25 0 z) (if-false (ltb met (length w)) (met + 1) (length w) z) (if-true (asWanted w ys) 0 25 e)
-          (if-true (asWanted w ys) (length w) (met + 1) e) (sym (if-true (asWanted w ys) 0 (a + met) e))
+          told 0 (length w) false (if-false (ltb met (length w)) 25 0 z) (if-false (ltb met (length w)) (met + 1) (length w) z) (if-false (ltb met (length w)) apart false z) (if-true (asWanted w ys) 0 25 e)
+          (if-true (asWanted w ys) (length w) (met + 1) e) (sym (if-true (asWanted w ys) 0 (byteApart (d .part) (a + met) (getD ys met 0) (getD w met 0)) e))
       go false e =
           let h : met < length w = some-ahead w ys e in
           let z : ltb met (length w) ≡ true = lt-ltb met (length w) h in
-          told 25 (met + 1) (if-true (ltb met (length w)) 25 0 z) (if-true (ltb met (length w)) (met + 1) (length w) z) (if-false (asWanted w ys) 0 25 e)
+          told 25 (met + 1) apart (if-true (ltb met (length w)) 25 0 z) (if-true (ltb met (length w)) (met + 1) (length w) z) (if-true (ltb met (length w)) apart false z) (if-false (asWanted w ys) 0 25 e)
           (if-false (asWanted w ys) (length w) (met + 1) e)
+          (apart-at (d .part .word) _ (a + met) (getD ys met 0) (getD w met 0)
           (phases.here true d p k (grounds.u d s p k xs w sc none) s w (grounds.g d s p k xs w sc none .wanted) (grounds.some d s p k xs w sc none) (Ended 25) (met + 1 - 1) 0 (omega arith)
-          ∙ (let y : a + (met + 1 - 1) ≡ a + met = omega arith in y) ∙ sym (if-false (asWanted w ys) 0 (a + met) e))
+          ∙ (let y : a + (met + 1 - 1) ≡ a + met = omega arith in y)) ∙ sym (if-false (asWanted w ys) 0 (byteApart (d .part) (a + met) (getD ys met 0) (getD w met 0)) e))
 
   -- what the block holds, by its own length
   held-is : ys ≡ heldBy (d .part) k xs
@@ -159,7 +179,7 @@ module _ (d : Device) (s : State) (p : Pins) (k : ℕ) (xs w sc : List ℕ) (fre
 
   -- and where it does not, 25 at the first place that differs
   pub first-difference : (heldBy (d .part) k xs ≡ w → ⊥) → Met d s p k xs w sc met
-  unfolding bytesRead verifyEnd verifyAddress diffFrom
+  unfolding unitsRead verifyEnd verifyAddress diffFrom
   first-difference z = go (asWanted w ys) refl
     where
       go : (t : Bool) → asWanted w ys ≡ t → Met d s p k xs w sc met
@@ -174,7 +194,7 @@ module _ (d : Device) (s : State) (p : Pins) (k : ℕ) (xs w sc : List ℕ) (fre
                 ∙ (λ i. record {
                   count = (ap (λ (n : ℕ). 1 + n) (if-false (asWanted w ys) (length w) (met + 1) e) ∙ (let y : 1 + (met + 1) ≡ met + 2 = omega arith in y)) i;
                   end = if-false (asWanted w ys) 0 25 e i;
-                  address = if-false (asWanted w ys) 0 (a + met) e i;
+                  address = if-false (asWanted w ys) 0 (byteApart (d .part) (a + met) (getD ys met 0) (getD w met 0)) e i;
                   state = atRest s Array (s .status);
                 });
             scratch = verified .scratch ∙ ap (λ (n : ℕ). overwritten n ys sc) (if-false (asWanted w ys) (length w) (met + 1) e);

@@ -1,8 +1,11 @@
--- How a verify alone that nothing refuses ends. Assumes nothing.
+-- How a verify alone that nothing refuses ends. All lists are of units. Assumes nothing.
 use mathlib.Core.Path.{_≡_}
 use mathlib.Core.Bool.{true}
 use mathlib.Core.List.{List, []}
-use Prim.Native.Nat.{ℕ, _+_, _<_}
+use Prim.Native.Nat.{ℕ, _+_, _%_, _<_}
+use lib.Dec.{eqb}
+use Rattle.units.specs.Address.{firstByte}
+use Rattle.device.specs.declared.Part.{Part}
 use lib.ListN.{length, getD}
 use Rattle.common.specs.Choice.{if_then_else_}
 use Rattle.common.specs.Lists.{overwritten}
@@ -20,35 +23,40 @@ use Rattle.loader_run_claims.specs.Wear.{begunAt, heldIn}
 use Rattle.loader_run_claims.specs.Made.{cyclesAt, smoothAt, closingOf}
 use Rattle.loader_run_claims.specs.Ends.{asWanted}
 
--- the bytes that it reads: all where the block holds what is wanted, else up to and with the first that differs
-unfoldable pub bytesRead : List ℕ → List ℕ → ℕ
-bytesRead w ys = if asWanted w ys then length w else diffFrom 0 w ys + 1
+-- the units that it reads: all where the block holds what is wanted, else up to and with the first that differs
+unfoldable pub unitsRead : List ℕ → List ℕ → ℕ
+unitsRead w ys = if asWanted w ys then length w else diffFrom 0 w ys + 1
 
 -- its end: well, or 25 ..
 unfoldable pub verifyEnd : List ℕ → List ℕ → ℕ
 verifyEnd w ys = if asWanted w ys then 0 else 25
 
--- .. with the array address of the first byte that differs, in a block at a
-unfoldable pub verifyAddress : ℕ → List ℕ → List ℕ → ℕ
-verifyAddress a w ys = if asWanted w ys then 0 else a + diffFrom 0 w ys
+-- the byte address of the first byte that differs between what is held and wanted at an address: in word mode the low byte's, or the
+-- next where the low bytes are the same
+abbrev pub byteApart : Part → ℕ → ℕ → ℕ → ℕ
+byteApart part x held wanted = if part .word then firstByte (record { word = x }) .byte + (if eqb (held % 256) (wanted % 256) then 1 else 0) else x
+
+-- .. with the byte address of the first byte that differs, in a block at a
+unfoldable pub verifyAddress : Part → ℕ → List ℕ → List ℕ → ℕ
+verifyAddress part a w ys = if asWanted w ys then 0 else byteApart part (a + diffFrom 0 w ys) (getD ys (diffFrom 0 w ys) 0) (getD w (diffFrom 0 w ys) 0)
 
 -- what it returns: FFH and the reads counted, mode read array, the status as before with its old error bits
-abbrev pub verifyRan : State → ℕ → List ℕ → List ℕ → Ran
-verifyRan s a w ys = record { count = 1 + bytesRead w ys; end = verifyEnd w ys; address = verifyAddress a w ys; state = atRest s Array (s .status) }
+abbrev pub verifyRan : Part → State → ℕ → List ℕ → List ℕ → Ran
+verifyRan part s a w ys = record { count = 1 + unitsRead w ys; end = verifyEnd w ys; address = verifyAddress part a w ys; state = atRest s Array (s .status) }
 
 -- a verify alone of block k, sentence by sentence
 pub record Verified (d : Device) (s : State) (p : Pins) (k : ℕ) (xs w sc : List ℕ) : Type 0 where
   -- what it returns
-  pub ran : verifyAlone d s p k xs w sc .ran ≡ verifyRan s (startOf (d .part) k) w (heldIn (startOf (d .part) k) (length w) xs)
+  pub ran : verifyAlone d s p k xs w sc .ran ≡ verifyRan (d .part) s (startOf (d .part) k) w (heldIn (startOf (d .part) k) (length w) xs)
   -- the array is as before
   pub bytes : verifyAlone d s p k xs w sc .bytes ≡ xs
   -- scratch holds what was read of the block, and stays behind it
   pub scratch : verifyAlone d s p k xs w sc .scratch
-      ≡ overwritten (bytesRead w (heldIn (startOf (d .part) k) (length w) xs)) (heldIn (startOf (d .part) k) (length w) xs) sc
+      ≡ overwritten (unitsRead w (heldIn (startOf (d .part) k) (length w) xs)) (heldIn (startOf (d .part) k) (length w) xs) sc
   -- it begins no operation
   pub begins : begunAt Closing true d s p k xs w sc ≡ []
   -- its cycles are FFH and the reads; the model takes them all and nothing is cut
-  pub made : cyclesAt Closing true d s p k xs w sc ≡ closingOf p (startOf (d .part) k) (bytesRead w (heldIn (startOf (d .part) k) (length w) xs))
+  pub made : cyclesAt Closing true d s p k xs w sc ≡ closingOf p (startOf (d .part) k) (unitsRead w (heldIn (startOf (d .part) k) (length w) xs))
   pub smooth : smoothAt Closing true d s p k xs w sc ≡ true
 
 -- a verify that ends 25: i is the first place where the block differs from what is wanted
@@ -56,7 +64,7 @@ pub record Met (d : Device) (s : State) (p : Pins) (k : ℕ) (xs w sc : List ℕ
   pub inside : i < length w
   pub differs : getD (heldIn (startOf (d .part) k) (length w) xs) i 0 ≡ getD w i 0 → ⊥
   pub same-before : (j : ℕ) → j < i → getD (heldIn (startOf (d .part) k) (length w) xs) j 0 ≡ getD w j 0
-  -- its array address is given, and the cycles are FFH and i + 1 reads
-  pub ran : verifyAlone d s p k xs w sc .ran ≡ record { count = i + 2; end = 25; address = startOf (d .part) k + i; state = atRest s Array (s .status) }
-  -- scratch is the block up to and with that byte, and as before behind it
+  -- the address of the byte that differs is given, and the cycles are FFH and i + 1 reads
+  pub ran : verifyAlone d s p k xs w sc .ran ≡ record { count = i + 2; end = 25; address = byteApart (d .part) (startOf (d .part) k + i) (getD (heldIn (startOf (d .part) k) (length w) xs) i 0) (getD w i 0); state = atRest s Array (s .status) }
+  -- scratch is the block up to and with that unit, and as before behind it
   pub scratch : verifyAlone d s p k xs w sc .scratch ≡ overwritten (i + 1) (heldIn (startOf (d .part) k) (length w) xs) sc
