@@ -14,7 +14,7 @@ use Rattle.common.proofs.Numbers.{given-append, given-no-row, no-head}
 use Rattle.device.specs.declared.Device.{Device}
 use Rattle.model_types.specs.declared.Pins.{Pins}
 use Rattle.model_types.specs.declared.State.{State}
-use Rattle.loader_run.specs.Runs.{runRows, runNumber}
+use Rattle.loader_run.specs.Runs.{runNumber, lentRows, lentNumber}
 use Rattle.file_codec.specs.File.{refused, made, outcomeBy, limit, lengthWrong, blocksIn, blocksRows, payloadOf, readRows, readerOf, judgedAs}
 use Rattle.file_codec.specs.declared.Judged.the-variants.{Sound, Unsound}
 use Rattle.file_codec.proofs.Tables.{blocks-numbered}
@@ -29,9 +29,9 @@ load-numbered d s p k array w sc f asked = file-numbered f asked w
 
 -- the file is asked where the run's tests give nothing
 pub file-after : (d : Device) (s : State) (p : Pins) (k array w sc : ℕ) (f : List ℕ) (asked : ℕ)
-    → loadNumber d s p k array w sc f asked ≡ (if eqb (runNumber d s p k array w sc) 0 then fileNumber f asked w else runNumber d s p k array w sc)
+    → loadNumber d s p k array w sc f asked ≡ (if eqb (lentNumber d s p k array w sc) 0 then fileNumber f asked w else lentNumber d s p k array w sc)
 unfolding loadNumber fileNumber runNumber
-file-after d s p k array w sc f asked = given-append (runRows d s p k array w sc) (fileRows f asked w) refl
+file-after d s p k array w sc f asked = given-append (lentRows d s p k array w sc) (fileRows f asked w) refl
 
 -- what two tables one below the other give is 0 only where both do
 both-none : (a b : ℕ) → (if eqb a 0 then b else a) ≡ 0 → (a ≡ 0) × (b ≡ 0)
@@ -45,9 +45,9 @@ both-none a b e = go (eqb a 0) refl
 
 -- a load that nothing refuses: neither its run nor its file is refused
 pub none-refuses : (d : Device) (s : State) (p : Pins) (k array w sc : ℕ) (f : List ℕ) (asked : ℕ) → loadNumber d s p k array w sc f asked ≡ 0
-    → (runNumber d s p k array w sc ≡ 0) × (fileNumber f asked w ≡ 0)
+    → (lentNumber d s p k array w sc ≡ 0) × (fileNumber f asked w ≡ 0)
 none-refuses d s p k array w sc f asked e =
-    both-none (runNumber d s p k array w sc) (fileNumber f asked w) (sym (file-after d s p k array w sc f asked) ∙ e)
+    both-none (lentNumber d s p k array w sc) (fileNumber f asked w) (sym (file-after d s p k array w sc f asked) ∙ e)
 
 -- a file that is not refused is no longer than the block
 pub no-longer : (f : List ℕ) (asked n : ℕ) → fileNumber f asked n ≡ 0 → length f ≤ n

@@ -17,16 +17,16 @@ use Rattle.model_types.specs.declared.State.{State}
 use Rattle.loader.specs.declared.Stage.{Stage}
 use Rattle.loader.specs.Stages.{isEnded}
 use Rattle.loader_run.specs.declared.Ran.{Ran}
-use Rattle.loader_run.specs.Runs.{runRows, runNumber, runLeftAt}
-use Rattle.loader_run.proofs.Claims as run-claims
+use Rattle.loader_run.specs.Runs.{runNumber, lentRows, lentNumber, lentLeftAt}
+use Rattle.loader_run.proofs.Borders.{lent-accepted}
 use Rattle.loader_from_file.specs.Loads.{loadRows, loadNumber, wantedOf, LoadLeft, loadMade, loadRefused, wantedBy, fileLeftAt}
 use Rattle.loader_from_file.proofs.Filling.{wanted-length, wanted-filled, wanted-stays}
 use Rattle.loader_from_file.proofs.Judging.{load-numbered, none-refuses, short-file}
 
 -- a run's number 0 says that none of its rows holds
-run-rows-none : (d : Device) (s : State) (p : Pins) (k array w sc : ℕ) → runNumber d s p k array w sc ≡ 0 → NoRow (runRows d s p k array w sc)
+run-rows-none : (d : Device) (s : State) (p : Pins) (k array w sc : ℕ) → lentNumber d s p k array w sc ≡ 0 → NoRow (lentRows d s p k array w sc)
 unfolding runNumber
-run-rows-none d s p k array w sc e = given-no-row (runRows d s p k array w sc) refl e
+run-rows-none d s p k array w sc e = given-no-row (lentRows d s p k array w sc) refl e
 
 module _ (stage : Stage) (verify : Bool) (going : isEnded stage ≡ false) (d : Device) (s : State) (p : Pins) (k : ℕ) (xs w sc f : List ℕ) (asked : ℕ) where
   abbrev number : ℕ
@@ -37,14 +37,14 @@ module _ (stage : Stage) (verify : Bool) (going : isEnded stage ≡ false) (d : 
   wish = wantedOf f (length w)
 
   -- nothing refused: what the run leaves, and wanted filled
-  pub made-left : number ≡ 0 → fileLeftAt stage verify d s p k xs w sc f asked ≡ loadMade (runLeftAt stage verify d s p k xs wish sc) wish
+  pub made-left : number ≡ 0 → fileLeftAt stage verify d s p k xs w sc f asked ≡ loadMade (lentLeftAt stage verify d s p k xs wish sc) wish
   unfolding fileLeftAt
-  made-left z = if-true (eqb number 0) (loadMade (runLeftAt stage verify d s p k xs wish sc) wish) (loadRefused number s xs w sc) (eq-eqb number 0 z)
+  made-left z = if-true (eqb number 0) (loadMade (lentLeftAt stage verify d s p k xs wish sc) wish) (loadRefused number s xs w sc) (eq-eqb number 0 z)
 
   -- refused: what was lent
   pub refused-left : (number ≡ 0 → ⊥) → fileLeftAt stage verify d s p k xs w sc f asked ≡ loadRefused number s xs w sc
   unfolding fileLeftAt
-  refused-left z = if-false (eqb number 0) (loadMade (runLeftAt stage verify d s p k xs wish sc) wish) (loadRefused number s xs w sc) (ne-eqb number 0 z)
+  refused-left z = if-false (eqb number 0) (loadMade (lentLeftAt stage verify d s p k xs wish sc) wish) (loadRefused number s xs w sc) (ne-eqb number 0 z)
 
   -- what is returned and left of a run with wanted filled, and of a refusal
   abbrev Told : Ran → List ℕ → List ℕ → List ℕ → Type 0
@@ -53,15 +53,15 @@ module _ (stage : Stage) (verify : Bool) (going : isEnded stage ≡ false) (d : 
       × ((x ≡ fileLeftAt stage verify d s p k xs w sc f asked .bytes)
       × ((v ≡ fileLeftAt stage verify d s p k xs w sc f asked .wanted) × (u ≡ fileLeftAt stage verify d s p k xs w sc f asked .scratch)))
 
-  pub told-made : number ≡ 0 → (v : List ℕ) → v ≡ wantedBy number f w → (r : Ran) (x u : List ℕ) → r ≡ runLeftAt stage verify d s p k xs v sc .ran
-      → x ≡ runLeftAt stage verify d s p k xs v sc .bytes → u ≡ runLeftAt stage verify d s p k xs v sc .scratch → Told r x v u
+  pub told-made : number ≡ 0 → (v : List ℕ) → v ≡ wantedBy number f w → (r : Ran) (x u : List ℕ) → r ≡ lentLeftAt stage verify d s p k xs v sc .ran
+      → x ≡ lentLeftAt stage verify d s p k xs v sc .bytes → u ≡ lentLeftAt stage verify d s p k xs v sc .scratch → Told r x v u
   told-made z v e r x u a b c =
       let q : v ≡ wish = e ∙ wanted-filled number f w z in
       let m = made-left z in (
-        a ∙ ap (λ (y : List ℕ). runLeftAt stage verify d s p k xs y sc .ran) q ∙ sym (ap (λ (y : LoadLeft). y .ran) m),
+        a ∙ ap (λ (y : List ℕ). lentLeftAt stage verify d s p k xs y sc .ran) q ∙ sym (ap (λ (y : LoadLeft). y .ran) m),
         (
-          b ∙ ap (λ (y : List ℕ). runLeftAt stage verify d s p k xs y sc .bytes) q ∙ sym (ap (λ (y : LoadLeft). y .bytes) m),
-          (q ∙ sym (ap (λ (y : LoadLeft). y .wanted) m), c ∙ ap (λ (y : List ℕ). runLeftAt stage verify d s p k xs y sc .scratch) q ∙ sym (ap (λ (y : LoadLeft). y .scratch) m)),
+          b ∙ ap (λ (y : List ℕ). lentLeftAt stage verify d s p k xs y sc .bytes) q ∙ sym (ap (λ (y : LoadLeft). y .bytes) m),
+          (q ∙ sym (ap (λ (y : LoadLeft). y .wanted) m), c ∙ ap (λ (y : List ℕ). lentLeftAt stage verify d s p k xs y sc .scratch) q ∙ sym (ap (λ (y : LoadLeft). y .scratch) m)),
         ),
       )
 
@@ -88,8 +88,8 @@ module _ (stage : Stage) (verify : Bool) (going : isEnded stage ≡ false) (d : 
   some-cycle z =
       let n = none-refuses d s p k (length xs) (length w) (length sc) f asked z in
       let l : length w ≡ length wish = sym (wanted-length f (length w) (short-file d s p k (length xs) (length w) (length sc) f asked z)) in
-      let r : NoRow (runRows d s p k (length xs) (length wish) (length sc)) = subst (λ (j : ℕ). NoRow (runRows d s p k (length xs) j (length sc))) l (run-rows-none d s p k (length xs) (length w) (length sc) (n .0)) in
-      subst (λ (x : LoadLeft). 0 < x .ran .count) (sym (made-left z)) (run-claims.accepted-exactly stage verify going d s p k xs wish sc .1 r)
+      let r : NoRow (lentRows d s p k (length xs) (length wish) (length sc)) = subst (λ (j : ℕ). NoRow (lentRows d s p k (length xs) j (length sc))) l (run-rows-none d s p k (length xs) (length w) (length sc) (n .0)) in
+      subst (λ (x : LoadLeft). 0 < x .ran .count) (sym (made-left z)) (lent-accepted stage verify d s p k xs wish sc going .1 r)
 
   row-of : (m : ℕ) → (m ≡ 0 → ⊥) → number ≡ m → Foremost (loadRows d s p k (length xs) (length w) (length sc) f asked) m
   unfolding loadNumber

@@ -1,4 +1,4 @@
--- A load and a verify from a file: after a run's own tests the file is judged, and only then wanted is filled and the run made.
+-- A load and a verify from a file, on lent bytes: after a run's own tests the file is judged, and only then wanted is filled and the run made.
 -- Assumes nothing.
 use mathlib.Core.Bool.{Bool, true, not, _||_}
 use mathlib.Core.List.{List, [], _∷_, _++_}
@@ -14,7 +14,7 @@ use Rattle.file_codec.specs.File.{limit, lengthWrong, blocksIn, blocksRows}
 use Rattle.loader.specs.declared.Stage.{Stage}
 use Rattle.loader.specs.declared.Stage.the-variants.{Clearing, Closing}
 use Rattle.loader_run.specs.declared.Ran.{Ran}
-use Rattle.loader_run.specs.Runs.{runRows, RunLeft, runLeftAt}
+use Rattle.loader_run.specs.Runs.{RunLeft, lentRows, lentLeftAt}
 
 -- the tests of a file for a block of n bytes: 30 also where it is longer than the block, then block by block 38 or else 31, then 32, 33, 34; then 35
 abbrev pub fileRows : List ℕ → ℕ → ℕ → List Row
@@ -26,9 +26,9 @@ fileRows f asked n =
 unfoldable pub fileNumber : List ℕ → ℕ → ℕ → ℕ
 fileNumber f asked n = given (fileRows f asked n)
 
--- the tests of a load from a file, in their order: a run's, then the file's
+-- the tests of a load from a file of so many lent bytes, in their order: a run's, then the file's
 abbrev pub loadRows : Device → State → Pins → ℕ → ℕ → ℕ → ℕ → List ℕ → ℕ → List Row
-loadRows d s p k array w sc f asked = runRows d s p k array w sc ++ fileRows f asked w
+loadRows d s p k array w sc f asked = lentRows d s p k array w sc ++ fileRows f asked w
 
 -- the number of a load from a file
 unfoldable pub loadNumber : Device → State → Pins → ℕ → ℕ → ℕ → ℕ → List ℕ → ℕ → ℕ
@@ -60,7 +60,7 @@ loadRefused n s xs w sc = record { ran = record { count = 0; end = n; address = 
 -- from a stage on: refused by the load's number, or wanted filled and the run made
 unfoldable pub fileLeftAt : Stage → Bool → Device → State → Pins → ℕ → List ℕ → List ℕ → List ℕ → List ℕ → ℕ → LoadLeft
 fileLeftAt stage verify d s p k xs w sc f asked =
-    if eqb (loadNumber d s p k (length xs) (length w) (length sc) f asked) 0 then loadMade (runLeftAt stage verify d s p k xs (wantedOf f (length w)) sc) (wantedOf f (length w))
+    if eqb (loadNumber d s p k (length xs) (length w) (length sc) f asked) 0 then loadMade (lentLeftAt stage verify d s p k xs (wantedOf f (length w)) sc) (wantedOf f (length w))
     else loadRefused (loadNumber d s p k (length xs) (length w) (length sc) f asked) s xs w sc
 
 -- a load with the verify after it, and a verify alone

@@ -37,7 +37,7 @@ fn fill_wanted(number: u8, file: &[u8], wanted: &mut [u8])
     common::fill(&mut wanted[n..], 255)
 }
 
-// A run's number, then the file's.
+// A run's number, then the file's. The lengths are in bytes.
 fn load_number(
     d: Device,
     s: State,
@@ -51,7 +51,17 @@ fn load_number(
 ) -> u8
     ensures { λ r. ⌜ r ≡ loadNumber d s p block array wanted scratch (now (file .entry)) asked ⌝ }
 {
-    let n = loader_run::run_number(d, s, p, block, array, wanted, scratch);
+    let part = d.part;
+    let word = part.word;
+    let n = loader_run::run_number(
+        d,
+        s,
+        p,
+        block,
+        units::lent_in(word, array),
+        units::lent_in(word, wanted),
+        units::lent_in(word, scratch),
+    );
     if n == 0 {
         return file_number(file, asked, wanted);
     }
