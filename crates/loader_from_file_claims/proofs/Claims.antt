@@ -12,15 +12,15 @@ use Rattle.model_types.specs.declared.Pins.{Pins}
 use Rattle.model_types.specs.declared.State.{State}
 use Rattle.loader.specs.declared.Stage.{Stage}
 use Rattle.loader.specs.Stages.{isEnded}
-use Rattle.loader_run.specs.Runs.{runRows, verifyAlone}
-use Rattle.loader_run_claims.specs.Wear.{heldBy}
+use Rattle.loader_run.specs.Runs.{lentRows, lentVerify}
+use Rattle.loader_run_claims.specs.Wear.{heldIn}
 use Rattle.file_codec.specs.File.{limit, refused, made, readerOf, writerOf}
 use Rattle.loader_from_file.specs.Loads.{loadNumber, wantedOf, loadRows, loadMade, loadRefused, fileLeftAt, verifyLeft}
-use Rattle.loader_from_file_claims.specs.Through.{FileStart, FileLoaded}
+use Rattle.loader_from_file_claims.specs.Through.{firstOf, FileStart, FileLoaded}
 use Rattle.loader_from_file_claims.proofs.Through as through
 use Rattle.loader_from_file_claims.proofs.Kept as kept
 
--- Demand 3 through a file: from a load that nothing refuses, with VPP in its 12 V band and RP# at unlock level for the boot block, it
+-- Demand 3 through a file: from a load that nothing refuses, with VPP high and the boot block unlocked if it is the one, it
 -- ends well in as many cycles as the formula says; the block, wanted and scratch then hold the file and FFH to their ends, and every
 -- byte outside the block is as before.
 pub file-loaded : (d : Device) (s : State) (p : Pins) (k : ℕ) (xs w sc f : List ℕ) (asked : ℕ) → FileStart d s p k xs w sc f asked → FileLoaded d s p k xs w sc f asked
@@ -29,11 +29,11 @@ file-loaded = through.loaded
 -- A verify from a file that nothing refuses, whatever VPP and the lock: it returns and leaves what the verify alone does with the
 -- file and FFH as what is wanted, and wanted is left so; it ends well exactly where the block holds the file and FFH to its end.
 pub file-verified : (d : Device) (s : State) (p : Pins) (k : ℕ) (xs w sc f : List ℕ) (asked : ℕ) → NoRow (loadRows d s p k (length xs) (length w) (length sc) f asked)
-    → verifyLeft d s p k xs w sc f asked ≡ loadMade (verifyAlone d s p k xs (wantedOf f (length w)) sc) (wantedOf f (length w))
+    → verifyLeft d s p k xs w sc f asked ≡ loadMade (lentVerify d s p k xs (wantedOf f (length w)) sc) (wantedOf f (length w))
 file-verified = through.verified
 
-pub file-verified-exactly : (d : Device) (s : State) (p : Pins) (k : ℕ) (xs w sc f : List ℕ) (asked : ℕ) → NoRow (loadRows d s p k (length xs) (length w) (length sc) f asked)
-    → (verifyLeft d s p k xs w sc f asked .ran .end ≡ 0) ↔ (heldBy (d .part) k xs ≡ wantedOf f (length w))
+pub file-verified-exactly : (d : Device) (s : State) (p : Pins) (k : ℕ) (xs w sc f : List ℕ) (asked : ℕ) → NoRow (loadRows d s p k (length xs) (length w) (length sc) f asked) → Bytes f → Bytes xs
+    → (verifyLeft d s p k xs w sc f asked .ran .end ≡ 0) ↔ (heldIn (firstOf d k) (length w) xs ≡ wantedOf f (length w))
 file-verified-exactly = through.verified-exactly
 
 -- A file that the reader refuses is never loaded nor verified against (both begin at a stage that is no end), whatever else holds: no cycle is made, and state, array, wanted and scratch stay.
@@ -43,16 +43,16 @@ refused-never = kept.never
 
 -- A written file asked for under another letter makes no cycle and leaves all that was lent: 35, where no run's test refuses and it fits.
 pub other-letter-35 : (stage : Stage) (verify : Bool) → isEnded stage ≡ false → (d : Device) (s : State) (p : Pins) (k : ℕ) (xs w sc : List ℕ) (ℓ : ℕ) (payload f : List ℕ) → writerOf limit ℓ payload ≡ made f → (asked : ℕ) → (ℓ ≡ asked → ⊥)
-    → NoRow (runRows d s p k (length xs) (length w) (length sc)) → length f ≤ length w → fileLeftAt stage verify d s p k xs w sc f asked ≡ loadRefused 35 s xs w sc
+    → NoRow (lentRows d s p k (length xs) (length w) (length sc)) → length f ≤ length w → fileLeftAt stage verify d s p k xs w sc f asked ≡ loadRefused 35 s xs w sc
 other-letter-35 = kept.other-letter-35
 
 -- A written file with one byte changed to another byte, whatever letter is asked: the same, 31.
 pub changed-byte-31 : (stage : Stage) (verify : Bool) → isEnded stage ≡ false → (d : Device) (s : State) (p : Pins) (k : ℕ) (xs w sc : List ℕ) (ℓ : ℕ) (payload f : List ℕ) → writerOf limit ℓ payload ≡ made f → (asked : ℕ) → Bytes payload
-    → (i v : ℕ) → i < length f → v < 256 → (v ≡ getD f i 0 → ⊥) → NoRow (runRows d s p k (length xs) (length w) (length sc)) → length f ≤ length w
+    → (i v : ℕ) → i < length f → v < 256 → (v ≡ getD f i 0 → ⊥) → NoRow (lentRows d s p k (length xs) (length w) (length sc)) → length f ≤ length w
     → fileLeftAt stage verify d s p k xs w sc (set f i v) asked ≡ loadRefused 31 s xs w sc
 changed-byte-31 = kept.changed-byte-31
 
 -- A blank file of n blocks, whatever letter is asked: the same, 38.
 pub blank-38 : (stage : Stage) (verify : Bool) → isEnded stage ≡ false → (d : Device) (s : State) (p : Pins) (k : ℕ) (xs w sc : List ℕ) (n asked : ℕ) → 0 < n → n ≤ limit
-    → NoRow (runRows d s p k (length xs) (length w) (length sc)) → 512 * n ≤ length w → fileLeftAt stage verify d s p k xs w sc (replicate (512 * n) 255) asked ≡ loadRefused 38 s xs w sc
+    → NoRow (lentRows d s p k (length xs) (length w) (length sc)) → 512 * n ≤ length w → fileLeftAt stage verify d s p k xs w sc (replicate (512 * n) 255) asked ≡ loadRefused 38 s xs w sc
 blank-38 = kept.blank-38

@@ -7,34 +7,46 @@ use lib.ListN.{length, getD}
 use Rattle.common.specs.Lists.{Bytes}
 use Rattle.common.specs.Numbers.{NoRow}
 use Rattle.device.specs.declared.Device.{Device}
-use Rattle.device.specs.Parts.{startOf}
+use Rattle.device.specs.Parts.{lengthOf, startOf}
 use Rattle.model_types.specs.declared.Pins.{Pins}
 use Rattle.model_types.specs.declared.Mode.the-variants.{Array}
 use Rattle.model_types.specs.declared.State.{State}
 use Rattle.model_types.specs.Levels.{vppHigh, unlocked}
 use Rattle.model_types.specs.States.{atRest}
-use Rattle.loader_run.specs.Runs.{runLeft}
+use Rattle.units.specs.Units.{units, bytesIn}
+use Rattle.loader_run.specs.Runs.{lentRun}
 use Rattle.loader_run_claims.specs.Wear.{heldIn, formula}
-use Rattle.loader_run_claims.specs.Mission.{Demand3}
+use Rattle.loader_run_claims.specs.Lent.{LentDemand3}
 use Rattle.loader_from_file.specs.Loads.{loadRows, wantedOf, loadMade, loadLeft, loadedOf, bytesLoaded, wantedLoaded, scratchLoaded}
 
--- a load that nothing refuses, of bytes, with busy times of 16 bits, VPP in its 12 V band, and RP# at unlock level for the boot block
+-- a load that nothing refuses, on bytes, with busy times of 16 bits, VPP high, and the boot block unlocked if it is the one
 pub record FileStart (d : Device) (s : State) (p : Pins) (k : ℕ) (xs w sc f : List ℕ) (asked : ℕ) : Type 0 where
   pub accepted : NoRow (loadRows d s p k (length xs) (length w) (length sc) f asked)
   pub bytes : Bytes f
+  pub array : Bytes xs
   pub programs : d .program ≤ 65535
   pub erases : d .erase ≤ 65535
   pub high : vppHigh (d .part) p ≡ true
   pub unlock : k ≡ 0 → unlocked (d .part) p 0 ≡ true
 
--- all of demand 3 holds of the run with the file and FFH as what is wanted, and the load leaves what that run leaves: ended well in the formula's cycles: block, wanted and scratch hold the file and FFH to the end, every byte outside is as before
+-- the block's first byte
+abbrev pub firstOf : Device → ℕ → ℕ
+firstOf d k = bytesIn (d .part .word) (startOf (d .part) k)
+
+-- all of demand 3 holds of the run with the file and FFH as what is wanted, and the load leaves what that run leaves: ended well in the
+-- formula's cycles, counted in units; block, wanted and scratch hold the file and FFH to the end, every byte outside is as before
 pub record FileLoaded (d : Device) (s : State) (p : Pins) (k : ℕ) (xs w sc f : List ℕ) (asked : ℕ) : Type 0 where
   pub ran : loadedOf d s p k xs w sc f asked
-      ≡ record { count = formula d (wantedOf f (length w)) (heldIn (startOf (d .part) k) (length w) xs); end = 0; address = 0; state = atRest s Array 0x80 }
-  pub holds : heldIn (startOf (d .part) k) (length w) (bytesLoaded d s p k xs w sc f asked) ≡ wantedOf f (length w)
-  pub before : (x : ℕ) → x < startOf (d .part) k → getD (bytesLoaded d s p k xs w sc f asked) x 0 ≡ getD xs x 0
-  pub behind : (x : ℕ) → startOf (d .part) k + length w ≤ x → getD (bytesLoaded d s p k xs w sc f asked) x 0 ≡ getD xs x 0
+      ≡ record {
+        count = formula d (units (d .part .word) (wantedOf f (length w))) (heldIn (startOf (d .part) k) (lengthOf (d .part) k) (units (d .part .word) xs));
+        end = 0;
+        address = 0;
+        state = atRest s Array 0x80;
+      }
+  pub holds : heldIn (firstOf d k) (length w) (bytesLoaded d s p k xs w sc f asked) ≡ wantedOf f (length w)
+  pub before : (x : ℕ) → x < firstOf d k → getD (bytesLoaded d s p k xs w sc f asked) x 0 ≡ getD xs x 0
+  pub behind : (x : ℕ) → firstOf d k + length w ≤ x → getD (bytesLoaded d s p k xs w sc f asked) x 0 ≡ getD xs x 0
   pub wanted : wantedLoaded d s p k xs w sc f asked ≡ wantedOf f (length w)
   pub scratch : scratchLoaded d s p k xs w sc f asked ≡ wantedOf f (length w)
-  pub demand : Demand3 true d s p k xs (wantedOf f (length w)) sc
-  pub left : loadLeft d s p k xs w sc f asked ≡ loadMade (runLeft d s p k xs (wantedOf f (length w)) sc) (wantedOf f (length w))
+  pub demand : LentDemand3 true d s p k xs (wantedOf f (length w)) sc
+  pub left : loadLeft d s p k xs w sc f asked ≡ loadMade (lentRun d s p k xs (wantedOf f (length w)) sc) (wantedOf f (length w))
