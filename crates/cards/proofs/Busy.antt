@@ -1,6 +1,6 @@
 -- Card 2, for every P: busy until the P-th read. Assumes nothing.
 use mathlib.Core.Path.{_≡_, refl, sym, ap, _∙_, subst}
-use mathlib.Core.Bool.{false}
+use mathlib.Core.Bool.{Bool, true, false}
 use mathlib.Core.List.{List, [], _∷_, _++_}
 use Prim.Native.Nat.{ℕ, zero, suc, _+_, _≤_, _<_}
 use native.Mathlib.Omega.{arith}
@@ -27,9 +27,21 @@ use Rattle.model.proofs.Keeping.{st}
 use Rattle.model_history.specs.History.{Bus, World, stepped, seenOn}
 use Rattle.loader_run_claims.proofs.Answers.{Up, Ready, asks-program, sends, waits, ends}
 use Rattle.cards.specs.Table.{normal, write, read, fresh, cycles2, Card2}
+use Rattle.device.specs.declared.Part.{Part}
+use Rattle.units.specs.Units.{top}
+use Rattle.model_types.specs.Cells.{ones}
 use Rattle.cards.proofs.Leading as leading
 use Rattle.cards.proofs.Leading.{Leads, before}
 use Rattle.loader_run_claims.specs.Made.{busCycle as cyc}
+
+-- FFH is a cell of either width
+byte-cell : (part : Part) → 255 ≤ ones part
+unfolding ones
+byte-cell part = go (part .word)
+  where
+    go : (w : Bool) → 255 ≤ top w
+    go true = omega arith
+    go false = omega arith
 
 module _ (d : Device) (a : ℕ) (xs : List ℕ) (known : unknownDevice d ≡ false) (inside : a < sizeOf (d .part)) (free : blockOf (d .part) a ≡ 0 → ⊥)
     (sized : length xs ≡ sizeOf (d .part)) (held : getD xs a 0 ≡ 60) where
@@ -76,7 +88,7 @@ module _ (d : Device) (a : ℕ) (xs : List ℕ) (known : unknownDevice d ≡ fal
       (before d (world (st freshState Status 128 DataAwaited 0 0)) (world (st freshState Status 0 (Programming 255) (suc m) a)) (world (atRest freshState Status 128)) (write normal a 0xFF)
       (replicate {A = Bus} (suc m) (read normal a)) NoData (replicate {A = Seen} m (Data 0) ++ (Data 128 ∷ []))
       (step (st freshState Status 128 DataAwaited 0 0) (st freshState Status 0 (Programming 255) (suc m) a) (write normal a 0xFF .cycle) Quiet Nothing
-      (sends d normal up freshState (blockOf (d .part) a) ready a 255 inside refl ∙ ap (λ (j : ℕ). decidedAs Quiet (st freshState Status 0 (Programming 255) j a) Nothing) e) refl)
+      (sends d normal up freshState (blockOf (d .part) a) ready a 255 inside refl (byte-cell (d .part)) ∙ ap (λ (j : ℕ). decidedAs Quiet (st freshState Status 0 (Programming 255) j a) Nothing) e) refl)
       (polls m (omega (arith, e))))
 
 pub two : Card2

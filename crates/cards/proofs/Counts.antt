@@ -9,9 +9,9 @@ use Rattle.common.specs.Choice.{if_then_else_}
 use Rattle.common.proofs.Choice.{unlike}
 use Rattle.common.specs.Lists.{Bytes}
 use Rattle.common.proofs.Bytes.{bytes-replicate}
-use Rattle.device.specs.Parts.{shapeOf, sizeIn, lengthIn, offsetIn, startIn, unknownPart, unknownDevice, sizeOf, lengthOf, startOf}
+use Rattle.device.specs.Parts.{rowOf, isLarge, shapeOf, sizeIn, lengthIn, offsetIn, startIn, unknownPart, unknownDevice, sizeOf, lengthOf, startOf}
 use Rattle.model_types.specs.Cells.{ones}
-use Rattle.model_types.specs.Levels.{vppLow, vppHigh, badPins}
+use Rattle.model_types.specs.Levels.{atTwelve, badWp, vppLow, vppHigh, badPins}
 use Rattle.model_types.specs.States.{proper, improper, freshState, atRest}
 use Rattle.model_types.specs.declared.Mode.the-variants.{Array}
 use Rattle.loader_steps.specs.Front.{barredPins, noBlock, wrongLengths}
@@ -27,21 +27,21 @@ use Rattle.cards.specs.Table.{deviceT, normal, same, Counts, Card10, Car
 
 -- nothing refuses such a run
 accepted : runNumber deviceT freshState normal 1 16384 512 512 ≡ 0
-unfolding runNumber shapeOf sizeIn lengthIn unknownPart unknownDevice sizeOf lengthOf vppLow vppHigh badPins proper improper barredPins noBlock wrongLengths
+unfolding runNumber rowOf shapeOf sizeIn lengthIn isLarge unknownPart unknownDevice sizeOf lengthOf vppLow atTwelve vppHigh badWp badPins proper improper barredPins noBlock wrongLengths
 accepted = refl
 
 supply : vppHigh (deviceT .part) normal ≡ true
-unfolding vppHigh
+unfolding isLarge atTwelve vppHigh
 supply = refl
 
 first : startOf (deviceT .part) 1 ≡ 0x3A00
-unfolding shapeOf sizeIn lengthIn offsetIn startIn startOf
+unfolding rowOf shapeOf sizeIn lengthIn offsetIn startIn startOf
 first = refl
 
-starts : (xs w sc : List ℕ) → length xs ≡ 16384 → length w ≡ 512 → length sc ≡ 512 → Bytes w → Start deviceT freshState normal 1 xs w sc
+starts : (xs w sc : List ℕ) → Bytes xs → length xs ≡ 16384 → length w ≡ 512 → length sc ≡ 512 → Bytes w → Start deviceT freshState normal 1 xs w sc
 unfolding ones
-starts xs w sc lx lw ls bytes = record {
-  base = taken-if deviceT freshState normal 1 xs w sc (rw (lx, lw, ls) accepted) (omega arith) (omega arith) (λ (i : ℕ). omega (arith, bytes i));
+starts xs w sc bx lx lw ls bytes = record {
+  base = taken-if deviceT freshState normal 1 xs w sc (rw (lx, lw, ls) accepted) (omega arith) (omega arith) (λ (i : ℕ). omega (arith, bytes i)) (λ (i : ℕ). omega (arith, bx i));
   high = supply;
   unlock = λ (e : _≡_ {A = ℕ} 1 0). absurd (omega arith);
 }
@@ -51,15 +51,15 @@ held-there : (xs w held : List ℕ) → length w ≡ 512 → heldIn 0x3A00 512 x
 held-there xs w held lw h = ap (λ (a : ℕ). heldIn a (length w) xs) first ∙ ap (λ (k : ℕ). heldIn 0x3A00 k xs) lw ∙ h
 
 counts : (n : ℕ) (held w : List ℕ) → length w ≡ 512 → Bytes w → formula deviceT w held ≡ n → Counts n held w
-counts n held w lw bytes f xs sc lx ls h =
-    mission.ends-well true deviceT freshState normal 1 xs w sc (starts xs w sc lx lw ls bytes) ∙ ap (λ (ys : List ℕ). result (formula deviceT w ys)) (held-there xs w held lw h) ∙ ap result f
+counts n held w lw bytes f xs sc bx lx ls h =
+    mission.ends-well true deviceT freshState normal 1 xs w sc (starts xs w sc bx lx lw ls bytes) ∙ ap (λ (ys : List ℕ). result (formula deviceT w ys)) (held-there xs w held lw h) ∙ ap result f
   where
     result : ℕ → Ran
     result k = record { count = k; end = 0; address = 0; state = atRest freshState Array 128 }
 
 load-counts : (n : ℕ) (held w : List ℕ) → length w ≡ 512 → Bytes w → loadFormula deviceT w held ≡ n → LoadCounts n held w
-load-counts n held w lw bytes f xs sc lx ls h =
-    let start = starts xs w sc lx lw ls bytes in
+load-counts n held w lw bytes f xs sc bx lx ls h =
+    let start = starts xs w sc bx lx lw ls bytes in
     let e = mission.ends-well false deviceT freshState normal 1 xs w sc start in (
       ap (λ (r : Ran). r .count) e ∙ ap (λ (ys : List ℕ). loadFormula deviceT w ys) (held-there xs w held lw h) ∙ f,
       ap (λ (r : Ran). r .end) e,

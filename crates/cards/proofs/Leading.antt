@@ -1,17 +1,17 @@
 -- Cycles of a card, one before the other: what the host sees of them, and where they lead. Assumes nothing.
 use mathlib.Core.Path.{_≡_, refl, ap, _∙_}
-use mathlib.Core.Bool.{false}
+use mathlib.Core.Bool.{Bool, true, false}
 use mathlib.Core.List.{List, [], _∷_}
-use Prim.Native.Nat.{ℕ, _<_}
+use Prim.Native.Nat.{ℕ}
 use lib.ListN.{length}
 use Rattle.device.specs.declared.Device.{Device}
-use Rattle.device.specs.Parts.{unknownDevice, sizeOf, blockOf}
+use Rattle.device.specs.Parts.{isLarge, unknownDevice, sizeOf, blockOf}
 use Rattle.model_types.specs.declared.Effect.{Effect}
 use Rattle.model_types.specs.declared.Reply.{Reply}
 use Rattle.model_types.specs.declared.State.{State}
 use Rattle.model_types.specs.declared.Cycle.{Cycle}
 use Rattle.model_types.specs.declared.Decision.{Decision}
-use Rattle.model_types.specs.Levels.{vppLow, vppHigh, badPins}
+use Rattle.model_types.specs.Levels.{atTwelve, atFive, badWp, vppLow, vppHigh, badPins}
 use Rattle.model_rules.specs.Cycles.{decideOf, decidedAs}
 use Rattle.model.specs.declared.Seen.{Seen}
 use Rattle.model.specs.Arrays.{arrayOf, seenOf, arrayAfter, answerOf}
@@ -20,8 +20,12 @@ use Rattle.loader_run_claims.proofs.Answers.{Up, Ready}
 use Rattle.cards.specs.Table.{normal}
 
 supplied : (d : Device) → (badPins (d .part) normal ≡ false) × (vppLow (d .part) normal ≡ false)
-unfolding vppLow vppHigh badPins
-supplied d = (refl, refl)
+unfolding vppLow atTwelve atFive vppHigh badWp badPins
+supplied d = go (isLarge (d .part)) refl
+  where
+    go : (t : Bool) → isLarge (d .part) ≡ t → (badPins (d .part) normal ≡ false) × (vppLow (d .part) normal ≡ false)
+    go true e = (simp e, simp e)
+    go false e = (simp e, simp e)
 
 -- what the host sees of some cycles, and where they lead
 abbrev pub Leads : Device → World → List Bus → List Seen → World → Type 0

@@ -22,7 +22,7 @@ use Rattle.loader_run_claims.specs.Wear.{heldIn}
 
 -- a part with P and E; S is 1
 abbrev pub device : ℕ → ℕ → ℕ → Device
-device number program erase = record { part = record { number = number }; program = program; erase = erase; suspend = 1 }
+device number program erase = record { part = record { number = number; word = false }; program = program; erase = erase; suspend = 1 }
 
 abbrev pub deviceT : Device
 deviceT = device 3 2 3
@@ -32,7 +32,7 @@ deviceB = device 4 2 3
 
 -- RP# high or at V_HH, with VPP in millivolts
 abbrev pub pinsAt : ℕ → ℕ → Pins
-pinsAt rp vpp = record { rp = rp; vpp = vpp }
+pinsAt rp vpp = record { rp = rp; vpp = vpp; wp = 0 }
 
 abbrev pub normal : Pins
 normal = pinsAt 1 12000
@@ -147,7 +147,7 @@ card9 = shows (worldAfter deviceT (fresh (spot 255 0xF0)) (write normal 16 0x40 
 
 -- a good run on block 1 of bench T, fresh, makes n cycles, whatever the other blocks and scratch hold
 abbrev pub Counts : ℕ → List ℕ → List ℕ → Type 0
-Counts n held wanted = (xs sc : List ℕ) → length xs ≡ 16384 → length sc ≡ 512 → heldIn 0x3A00 512 xs ≡ held
+Counts n held wanted = (xs sc : List ℕ) → Bytes xs → length xs ≡ 16384 → length sc ≡ 512 → heldIn 0x3A00 512 xs ≡ held
     → ranOf deviceT freshState normal 1 xs wanted sc ≡ record { count = n; end = 0; address = 0; state = atRest freshState Array 0x80 }
 
 -- 10: the block held FFH, wanted is 5AH and then FFH: 1,031 cycles
@@ -160,7 +160,7 @@ Card11 = Counts 1032 (same 512 0) (same 512 255) × ((w : List ℕ) → length w
 
 -- a good load alone there makes n cycles, and its scratch ends as wanted
 abbrev pub LoadCounts : ℕ → List ℕ → List ℕ → Type 0
-LoadCounts n held wanted = (xs sc : List ℕ) → length xs ≡ 16384 → length sc ≡ 512 → heldIn 0x3A00 512 xs ≡ held
+LoadCounts n held wanted = (xs sc : List ℕ) → Bytes xs → length xs ≡ 16384 → length sc ≡ 512 → heldIn 0x3A00 512 xs ≡ held
     → (loadAlone deviceT freshState normal 1 xs wanted sc .ran .count ≡ n) × (loadAlone deviceT freshState normal 1 xs wanted sc .ran .end ≡ 0)
     × (loadAlone deviceT freshState normal 1 xs wanted sc .scratch ≡ wanted)
 
