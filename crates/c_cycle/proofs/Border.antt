@@ -5,9 +5,11 @@ use Prim.Native.Nat.{ℕ, zero, suc, _≤_}
 use native.Mathlib.Omega.{arith}
 use lib.Dec.{eqb, ltb}
 use borrow.Author.Tests.{ltb-false, eqb-true}
+use Rattle.common.specs.Choice.{if_then_else_}
 use Rattle.common.proofs.Choice.{if-true, if-false, if-ind, or-left, or-right, and-none}
 use Rattle.device.specs.declared.Part.{Part}
 use Rattle.device.specs.declared.Device.{Device}
+use Rattle.device.specs.Parts.{isLarge, unknownPart, unknownDevice}
 use Rattle.model_types.specs.declared.Kind.{Kind}
 use Rattle.model_types.specs.declared.Kind.the-variants.{Read, Write, Idle}
 use Rattle.model_types.specs.declared.Cycle.{Cycle}
@@ -18,9 +20,10 @@ use Rattle.model_types.specs.declared.Phase.the-variants.{Free, EraseAwaited, D
 use Rattle.model_types.specs.declared.State.{State}
 use Rattle.model_types.specs.States.{atRest, freshState, proper, improper}
 use Rattle.model_types.specs.Phases.{suspendLeft}
-use Rattle.model_types.specs.Levels.{badPins, badOe, badLevels}
-use Rattle.c_cycle.specs.Values.{modeIn, modeOut, phaseIn, phaseOut, byteOut, strayByte, straySuspend, noState, stateIn, stateOut, kindIn, kindOut, oeIn, cycleIn, cycleOut}
+use Rattle.model_types.specs.Levels.{badPins, mostOe, badOe, badLevels}
+use Rattle.c_cycle.specs.Values.{numberIn, partIn, flagOut, deviceIn, deviceOut, modeIn, modeOut, phaseIn, phaseOut, dataOut, strayData, straySuspend, noState, stateIn, stateOut, kindIn, kindOut, oeIn, cycleIn, cycleOut}
 use Rattle.c_cycle.specs.Answers.{stateBack}
+use Rattle.c_cycle.specs.declared.DeviceNumbers.{DeviceNumbers}
 use Rattle.c_cycle.specs.declared.StateNumbers.{StateNumbers}
 use Rattle.c_cycle.specs.declared.BusNumbers.{BusNumbers}
 
@@ -29,6 +32,53 @@ or-yes : (a : Bool) → (a || true) ≡ true
 or-yes true = refl
 or-yes false = refl
 
+-- a flag: out and in again, and in and out again
+pub flag-back : (f : Bool) → eqb (flagOut f) 1 ≡ f
+flag-back true = refl
+flag-back false = refl
+
+pub flag-low : (f : Bool) → ltb 1 (flagOut f) ≡ false
+flag-low true = refl
+flag-low false = refl
+
+pub flag-number : (n : ℕ) → ltb 1 n ≡ false → flagOut (eqb n 1) ≡ n
+flag-number zero e = refl
+flag-number (suc zero) e = refl
+flag-number (suc (suc n)) e = absurd (let z = ltb-false 1 (suc (suc n)) e in omega arith)
+
+-- a part's number where the mode is one, and where it is none
+pub number-in : (n w : ℕ) → ltb 1 w ≡ false → numberIn n w ≡ n
+unfolding numberIn
+number-in n w e = if-false (ltb 1 w) 0 n e
+
+number-none : (n w : ℕ) → ltb 1 w ≡ true → numberIn n w ≡ 0
+unfolding numberIn
+number-none n w e = if-true (ltb 1 w) 0 n e
+
+pub part-back : (p : Part) → partIn (p .number) (flagOut (p .word)) ≡ p
+part-back p =
+    let n = number-in (p .number) (flagOut (p .word)) (flag-low (p .word)) in
+    let w = flag-back (p .word) in
+    λ i. record { number = n i; word = w i }
+
+pub device-back : (d : Device) → deviceIn (deviceOut d) ≡ d
+device-back d = let p = part-back (d .part) in λ i. record { part = p i; program = d .program; erase = d .erase; suspend = d .suspend }
+
+pub device-numbers : (n : DeviceNumbers) → ltb 1 (n .word) ≡ false → deviceOut (deviceIn n) ≡ n
+device-numbers n e =
+    let a = number-in (n .number) (n .word) e in
+    let w = flag-number (n .word) e in
+    λ i. record { number = a i; word = w i; program = n .program; erase = n .erase; suspend = n .suspend }
+
+-- a mode that is none makes no part, and no device
+pub no-mode-unknown : (n w : ℕ) → ltb 1 w ≡ true → unknownPart (partIn n w) ≡ true
+unfolding unknownPart
+no-mode-unknown n w e = rw (number-none n w e) refl
+
+pub no-mode-refused : (n : DeviceNumbers) → ltb 1 (n .word) ≡ true → unknownDevice (deviceIn n) ≡ true
+unfolding unknownDevice
+no-mode-refused n e = rw (no-mode-unknown (n .number) (n .word) e) refl
+
 -- out and in again: modes, phases, kinds, stages
 mode-back : (m : Mode) → modeIn (modeOut m) ≡ m
 unfolding modeIn
@@ -36,7 +86,7 @@ mode-back Array = refl
 mode-back Status = refl
 mode-back Identifier = refl
 
-phase-back : (p : Phase) → phaseIn (phaseOut p) (byteOut p) (suspendLeft p) ≡ p
+phase-back : (p : Phase) → phaseIn (phaseOut p) (dataOut p) (suspendLeft p) ≡ p
 unfolding phaseIn
 phase-back Free = refl
 phase-back EraseAwaited = refl
@@ -60,7 +110,7 @@ oe-back Idle oe = refl
 
 -- the numbers of a state stand for one, those of a record for one
 pub out-state : (s : State) → noState (stateOut s) ≡ false
-unfolding noState strayByte straySuspend
+unfolding noState strayData straySuspend
 out-state s = by-phase (s .phase) (ltb 2 (modeOut (s .mode))) (mode-low (s .mode))
   where
     mode-low : (m : Mode) → ltb 2 (modeOut m) ≡ false
@@ -69,7 +119,7 @@ out-state s = by-phase (s .phase) (ltb 2 (modeOut (s .mode))) (mode-low (s .mode
     mode-low Identifier = refl
 
     by-phase : (p : Phase) (t : Bool) → t ≡ false
-        → (((t || ltb 6 (phaseOut p)) || (not (eqb (byteOut p) 0) && not (eqb (phaseOut p) 3))) || (not (eqb (suspendLeft p) 0) && not (eqb (phaseOut p) 6))) ≡ false
+        → (((t || ltb 6 (phaseOut p)) || (not (eqb (dataOut p) 0) && not (eqb (phaseOut p) 3))) || (not (eqb (suspendLeft p) 0) && not (eqb (phaseOut p) 6))) ≡ false
     by-phase Free t e = rw e refl
     by-phase EraseAwaited t e = rw e refl
     by-phase DataAwaited t e = rw e refl
@@ -111,33 +161,33 @@ phase-number (suc (suc (suc (suc (suc zero))))) b u h = refl
 phase-number (suc (suc (suc (suc (suc (suc zero)))))) b u h = refl
 phase-number (suc (suc (suc (suc (suc (suc (suc k))))))) b u h = absurd (omega arith)
 
--- no byte, where none may be
-pub plain-byte : (b : ℕ) → (not (eqb b 0) && true) ≡ false → b ≡ 0
-plain-byte b e = go (eqb b 0) refl e
+-- no number, where none may be
+pub plain-number : (b : ℕ) → (not (eqb b 0) && true) ≡ false → b ≡ 0
+plain-number b e = go (eqb b 0) refl e
   where
     go : (t : Bool) → eqb b 0 ≡ t → (not t && true) ≡ false → b ≡ 0
     go true q e = eqb-true b 0 q
     go false q e = absurd (let z : _≡_ {A = ℕ} 0 1 = cc in omega arith)
 
-byte-number : (n b u : ℕ) → n ≤ 6 → (not (eqb b 0) && not (eqb n 3)) ≡ false → byteOut (phaseIn n b u) ≡ b
+data-number : (n b u : ℕ) → n ≤ 6 → (not (eqb b 0) && not (eqb n 3)) ≡ false → dataOut (phaseIn n b u) ≡ b
 unfolding phaseIn
-byte-number zero b u h e = sym (plain-byte b e)
-byte-number (suc zero) b u h e = sym (plain-byte b e)
-byte-number (suc (suc zero)) b u h e = sym (plain-byte b e)
-byte-number (suc (suc (suc zero))) b u h e = refl
-byte-number (suc (suc (suc (suc zero)))) b u h e = sym (plain-byte b e)
-byte-number (suc (suc (suc (suc (suc zero))))) b u h e = sym (plain-byte b e)
-byte-number (suc (suc (suc (suc (suc (suc zero)))))) b u h e = sym (plain-byte b e)
-byte-number (suc (suc (suc (suc (suc (suc (suc k))))))) b u h e = absurd (omega arith)
+data-number zero b u h e = sym (plain-number b e)
+data-number (suc zero) b u h e = sym (plain-number b e)
+data-number (suc (suc zero)) b u h e = sym (plain-number b e)
+data-number (suc (suc (suc zero))) b u h e = refl
+data-number (suc (suc (suc (suc zero)))) b u h e = sym (plain-number b e)
+data-number (suc (suc (suc (suc (suc zero))))) b u h e = sym (plain-number b e)
+data-number (suc (suc (suc (suc (suc (suc zero)))))) b u h e = sym (plain-number b e)
+data-number (suc (suc (suc (suc (suc (suc (suc k))))))) b u h e = absurd (omega arith)
 
 suspend-number : (n b u : ℕ) → n ≤ 6 → (not (eqb u 0) && not (eqb n 6)) ≡ false → suspendLeft (phaseIn n b u) ≡ u
 unfolding phaseIn
-suspend-number zero b u h e = sym (plain-byte u e)
-suspend-number (suc zero) b u h e = sym (plain-byte u e)
-suspend-number (suc (suc zero)) b u h e = sym (plain-byte u e)
-suspend-number (suc (suc (suc zero))) b u h e = sym (plain-byte u e)
-suspend-number (suc (suc (suc (suc zero)))) b u h e = sym (plain-byte u e)
-suspend-number (suc (suc (suc (suc (suc zero))))) b u h e = sym (plain-byte u e)
+suspend-number zero b u h e = sym (plain-number u e)
+suspend-number (suc zero) b u h e = sym (plain-number u e)
+suspend-number (suc (suc zero)) b u h e = sym (plain-number u e)
+suspend-number (suc (suc (suc zero))) b u h e = sym (plain-number u e)
+suspend-number (suc (suc (suc (suc zero)))) b u h e = sym (plain-number u e)
+suspend-number (suc (suc (suc (suc (suc zero))))) b u h e = sym (plain-number u e)
 suspend-number (suc (suc (suc (suc (suc (suc zero)))))) b u h e = refl
 suspend-number (suc (suc (suc (suc (suc (suc (suc k))))))) b u h e = absurd (omega arith)
 
@@ -150,26 +200,26 @@ kind-number (suc (suc (suc k))) h = absurd (omega arith)
 
 -- in and out again: state, cycle, record
 pub state-numbers : (n : StateNumbers) → noState n ≡ false → stateOut (stateIn n) ≡ n
-unfolding stateIn noState strayByte straySuspend
+unfolding stateIn noState strayData straySuspend
 state-numbers n e =
     let both = ltb 2 (n .mode) || ltb 6 (n .phase) in
-    let bare = strayByte n in
+    let bare = strayData n in
     let rest : (both || bare) ≡ false = or-left (both || bare) (straySuspend n) e in
     let low : n .mode ≤ 2 = ltb-false 2 (n .mode) (or-left (ltb 2 (n .mode)) (ltb 6 (n .phase)) (or-left both bare rest)) in
     let least : n .phase ≤ 6 = ltb-false 6 (n .phase) (or-right (ltb 2 (n .mode)) (ltb 6 (n .phase)) (or-left both bare rest)) in
     let m = mode-number (n .mode) low in
-    let p = phase-number (n .phase) (n .byte) (n .suspend) least in
-    let b = byte-number (n .phase) (n .byte) (n .suspend) least (or-right both bare rest) in
-    let u = suspend-number (n .phase) (n .byte) (n .suspend) least (or-right (both || bare) (straySuspend n) e) in
+    let p = phase-number (n .phase) (n .data) (n .suspend) least in
+    let b = data-number (n .phase) (n .data) (n .suspend) least (or-right both bare rest) in
+    let u = suspend-number (n .phase) (n .data) (n .suspend) least (or-right (both || bare) (straySuspend n) e) in
     ap (λ (s : State). stateOut s) (if-false (noState n) _ _ e)
-    ∙ (λ i. record { mode = m i; status = n .status; phase = p i; byte = b i; left = n .left; suspend = u i; address = n .address })
+    ∙ (λ i. record { mode = m i; status = n .status; phase = p i; suspend = u i; left = n .left; «data» = b i; address = n .address })
 
 pub cycle-numbers : (n : BusNumbers) → ltb 2 (n .kind) ≡ false → cycleOut (cycleIn n) ≡ n
 unfolding oeIn
 cycle-numbers n e =
     let k = kind-number (n .kind) (ltb-false 2 (n .kind) e) in
     let oe : oeIn (n .kind) (n .oe) ≡ n .oe = if-false (ltb 2 (n .kind)) 2 (n .oe) e in
-    λ i. record { kind = k i; rp = n .rp; oe = oe i; byte = n .byte; vpp = n .vpp; address = n .address }
+    λ i. record { kind = k i; rp = n .rp; oe = oe i; wp = n .wp; «data» = n .data; vpp = n .vpp; address = n .address }
 
 -- at rest with SR.7 clear is improper on every device
 rest-improper : (d : Device) → improper d (atRest freshState Array 0) ≡ true
@@ -181,6 +231,15 @@ pub no-state-improper : (n : StateNumbers) → noState n ≡ true → (d : Devic
 unfolding stateIn
 no-state-improper n e d = ap (λ (s : State). improper d s) (if-true (noState n) _ _ e) ∙ rest-improper d
 
+-- no part takes an OE# of 2
+two-over : (part : Part) → ltb (mostOe part) 2 ≡ true
+unfolding mostOe
+two-over part = go (isLarge part)
+  where
+    go : (t : Bool) → ltb (if t then 0 else 1) 2 ≡ true
+    go true = refl
+    go false = refl
+
 -- a kind that is none is refused as a level, whatever the part
 pub no-kind-refused : (n : BusNumbers) → ltb 2 (n .kind) ≡ true → (part : Part) → badLevels part (cycleIn n) ≡ true
 unfolding badLevels oeIn
@@ -190,7 +249,7 @@ no-kind-refused n e part =
   where
     two-bad : (k : Kind) → badOe part k 2 ≡ true
     two-bad Read = refl
-    two-bad Write = refl
+    two-bad Write = two-over part
     two-bad Idle = refl
 
 -- a state or a record that is left as it was goes back as the numbers that came, whatever they are

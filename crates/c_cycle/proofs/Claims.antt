@@ -1,10 +1,11 @@
 -- What is claimed of numbers and what they stand for, in one place. Assumes nothing.
-use mathlib.Core.Path.{_≡_, refl}
+use mathlib.Core.Path.{_≡_}
 use mathlib.Core.Bool.{true, false}
 use lib.Dec.{ltb}
 use Rattle.common.proofs.Choice.{only}
 use Rattle.device.specs.declared.Part.{Part}
 use Rattle.device.specs.declared.Device.{Device}
+use Rattle.device.specs.Parts.{unknownDevice}
 use Rattle.model_types.specs.declared.Cycle.{Cycle}
 use Rattle.model_types.specs.declared.State.{State}
 use Rattle.model_types.specs.States.{improper}
@@ -17,7 +18,7 @@ use Rattle.c_cycle.proofs.Border as border
 
 -- There and back: every device, state, cycle and record has numbers, and these numbers stand for it.
 pub device-back : (d : Device) → deviceIn (deviceOut d) ≡ d
-device-back d = refl
+device-back = border.device-back
 
 pub state-back : (s : State) → stateIn (stateOut s) ≡ s
 state-back = border.state-back
@@ -26,8 +27,8 @@ pub cycle-back : (c : Cycle) → cycleIn (cycleOut c) ≡ c
 cycle-back = border.cycle-back
 
 -- Back and there: numbers that stand for something are the only numbers of it.
-pub device-numbers : (n : DeviceNumbers) → deviceOut (deviceIn n) ≡ n
-device-numbers n = refl
+pub device-numbers : (n : DeviceNumbers) → ltb 1 (n .word) ≡ false → deviceOut (deviceIn n) ≡ n
+device-numbers = border.device-numbers
 
 pub state-numbers : (n : StateNumbers) → noState n ≡ false → stateOut (stateIn n) ≡ n
 state-numbers = border.state-numbers
@@ -35,7 +36,11 @@ state-numbers = border.state-numbers
 pub cycle-numbers : (n : BusNumbers) → ltb 2 (n .kind) ≡ false → cycleOut (cycleIn n) ≡ n
 cycle-numbers = border.cycle-numbers
 
--- Numbers that stand for nothing meet the condition of their refusal: 3 for a state on every device, 4 for a kind, 3 for a record.
+-- Numbers that stand for nothing meet the condition of their refusal: 1 for a mode that is neither 0 nor 1, 3 for a state on every device,
+-- 4 for a kind, 3 for a record.
+pub no-mode-refused : (n : DeviceNumbers) → ltb 1 (n .word) ≡ true → unknownDevice (deviceIn n) ≡ true
+no-mode-refused = border.no-mode-refused
+
 pub no-state-improper : (n : StateNumbers) → noState n ≡ true → (d : Device) → improper d (stateIn n) ≡ true
 no-state-improper = border.no-state-improper
 

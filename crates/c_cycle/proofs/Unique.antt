@@ -1,15 +1,17 @@
 -- Two results that a promise of this crate allows are equal, and so is what it leaves in each thing lent. Assumes nothing.
 use mathlib.Core.Path.{_≡_}
+use mathlib.Core.Bool.{Bool}
 use Prim.Native.Nat.{ℕ}
 use Rattle.common.specs.Choice.{Unique}
 use Rattle.common.proofs.Choice.{only}
+use Rattle.device.specs.declared.Part.{Part}
 use Rattle.device.specs.declared.Device.{Device}
 use Rattle.model_types.specs.declared.Pins.{Pins}
 use Rattle.model_types.specs.declared.Cycle.{Cycle}
 use Rattle.model_types.specs.declared.Phase.{Phase}
 use Rattle.model_types.specs.declared.State.{State}
 use Rattle.model.specs.declared.Answer.{Answer}
-use Rattle.c_cycle.specs.Values.{deviceIn, pinsIn, phaseIn, stateIn, stateOut, cycleIn, cycleOut}
+use Rattle.c_cycle.specs.Values.{partIn, flagOut, deviceIn, pinsIn, phaseIn, stateIn, stateOut, cycleIn, cycleOut}
 use Rattle.c_cycle.specs.Answers.{stateBack, answerOut}
 use Rattle.c_cycle.specs.declared.DeviceNumbers.{DeviceNumbers}
 use Rattle.c_cycle.specs.declared.StateNumbers.{StateNumbers}
@@ -19,11 +21,17 @@ use Rattle.c_cycle.specs.declared.AnswerNumbers.{AnswerNumbers}
 pub device-in-unique : (n : DeviceNumbers) → Unique (λ (r : Device). r ≡ deviceIn n)
 device-in-unique n = only (deviceIn n)
 
-pub pins-in-unique : (rp : ℕ) (vpp : ℕ) → Unique (λ (r : Pins). r ≡ pinsIn rp vpp)
-pins-in-unique rp vpp = only (pinsIn rp vpp)
+pub part-in-unique : (number word : ℕ) → Unique (λ (r : Part). r ≡ partIn number word)
+part-in-unique number word = only (partIn number word)
 
-pub phase-in-unique : (n byte suspend : ℕ) → Unique (λ (r : Phase). r ≡ phaseIn n byte suspend)
-phase-in-unique n byte suspend = only (phaseIn n byte suspend)
+pub flag-out-unique : (flag : Bool) → Unique (λ (r : ℕ). r ≡ flagOut flag)
+flag-out-unique flag = only (flagOut flag)
+
+pub pins-in-unique : (rp wp vpp : ℕ) → Unique (λ (r : Pins). r ≡ pinsIn rp wp vpp)
+pins-in-unique rp wp vpp = only (pinsIn rp wp vpp)
+
+pub phase-in-unique : (n unit suspend : ℕ) → Unique (λ (r : Phase). r ≡ phaseIn n unit suspend)
+phase-in-unique n unit suspend = only (phaseIn n unit suspend)
 
 pub state-in-unique : (n : StateNumbers) → Unique (λ (r : State). r ≡ stateIn n)
 state-in-unique n = only (stateIn n)

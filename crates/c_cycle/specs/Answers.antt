@@ -13,16 +13,16 @@ use Rattle.c_cycle.specs.declared.AnswerNumbers.{AnswerNumbers}
 unfoldable pub stateBack : StateNumbers → State → StateNumbers
 stateBack n s = if noState n then n else stateOut s
 
--- what is seen of a cycle: 0 no data, 1 a byte, 2 a refusal
+-- what is seen of a cycle: 0 no data, 1 data, 2 a refusal
 abbrev pub seenOut : Seen → ℕ
 seenOut NoData = 0
-seenOut (Data b) = 1
+seenOut (Data v) = 1
 seenOut (Refused n) = 2
 
--- the byte or the refusal's number, 0 without either
+-- the data or the refusal's number, 0 without either
 abbrev pub valueOut : Seen → ℕ
 valueOut NoData = 0
-valueOut (Data b) = b
+valueOut (Data v) = v
 valueOut (Refused n) = n
 
 abbrev pub answerOut : StateNumbers → Answer → AnswerNumbers

@@ -2,10 +2,11 @@
 // numbers that stand for nothing become something that is refused in its place.
 pub mod states;
 
-// A device: its number, and the cycles that a program, an erase and a suspend take.
+// A device: its number, whether it is in word mode (1, else 0), and the cycles that a program, an erase and a suspend take.
 #[repr(C)]
 pub struct DeviceNumbers {
     pub number: u8,
+    pub word: u8,
     pub program: u16,
     pub erase: u16,
     pub suspend: u8,
@@ -17,9 +18,9 @@ pub struct StateNumbers {
     pub mode: u8,
     pub status: u8,
     pub phase: u8,
-    pub byte: u8,
-    pub left: u16,
     pub suspend: u8,
+    pub left: u16,
+    pub data: u16,
     pub address: u32,
 }
 
@@ -29,7 +30,8 @@ pub struct BusNumbers {
     pub kind: u8,
     pub rp: u8,
     pub oe: u8,
-    pub byte: u8,
+    pub wp: u8,
+    pub data: u16,
     pub vpp: u32,
     pub address: u32,
 }
@@ -38,6 +40,6 @@ pub struct BusNumbers {
 #[repr(C)]
 pub struct AnswerNumbers {
     pub seen: u8,
-    pub value: u8,
+    pub value: u16,
     pub state: StateNumbers,
 }

@@ -15,7 +15,7 @@ use model_types::Pins;
 use model_types::State;
 use model_types::states::suspend_left;
 ghost use mathlib.Core.Path.{_≡_};
-ghost use Rattle.c_cycle.specs.Values.{deviceIn, pinsIn, modeIn, modeOut, phaseIn, phaseOut, byteOut, strayByte, straySuspend, noState, stateIn, stateOut, kindIn, kindOut, oeIn, cycleIn, cycleOut};
+ghost use Rattle.c_cycle.specs.Values.{numberIn, partIn, flagOut, deviceIn, pinsIn, modeIn, modeOut, phaseIn, phaseOut, dataOut, strayData, straySuspend, noState, stateIn, stateOut, kindIn, kindOut, oeIn, cycleIn, cycleOut};
 ghost use Rattle.c_cycle.specs.Answers.{stateBack, seenOut, valueOut, answerOut};
 
 // Modes as numbers.
@@ -50,25 +50,58 @@ pub const IDLE: u8 = 2;
 // What a cycle answers, as a number.
 pub const NO_DATA: u8 = 0;
 
-pub const BYTE: u8 = 1;
+pub const DATA: u8 = 1;
 
 pub const REFUSED: u8 = 2;
+
+// The number of a part; where the mode is none, a number that is no part's.
+fn number_in(number: u8, word: u8) -> u8
+    ensures { λ r. ⌜ r ≡ numberIn number word ⌝ }
+{
+    if 1 < word {
+        return 0;
+    }
+    number
+}
+
+pub fn part_in(number: u8, word: u8) -> Part
+    ensures { λ r. ⌜ r ≡ partIn number word ⌝ }
+{
+    Part {
+        number: number_in(number, word),
+        word: word == 1,
+    }
+}
+
+// A flag as a number.
+pub fn flag_out(flag: bool) -> u8
+    ensures { λ r. ⌜ r ≡ flagOut flag ⌝ }
+{
+    if flag {
+        return 1;
+    }
+    0
+}
 
 pub fn device_in(n: DeviceNumbers) -> Device
     ensures { λ r. ⌜ r ≡ deviceIn n ⌝ }
 {
     Device {
-        part: Part { number: n.number },
+        part: part_in(n.number, n.word),
         program: n.program,
         erase: n.erase,
         suspend: n.suspend,
     }
 }
 
-pub fn pins_in(rp: u8, vpp: u32) -> Pins
-    ensures { λ r. ⌜ r ≡ pinsIn rp vpp ⌝ }
+pub fn pins_in(rp: u8, wp: u8, vpp: u32) -> Pins
+    ensures { λ r. ⌜ r ≡ pinsIn rp wp vpp ⌝ }
 {
-    Pins { rp: rp, vpp: vpp }
+    Pins {
+        rp: rp,
+        vpp: vpp,
+        wp: wp,
+    }
 }
 
 fn mode_in(n: u8) -> Mode
@@ -93,8 +126,8 @@ fn mode_out(m: Mode) -> u8
     }
 }
 
-pub fn phase_in(n: u8, byte: u8, suspend: u8) -> Phase
-    ensures { λ r. ⌜ r ≡ phaseIn n byte suspend ⌝ }
+pub fn phase_in(n: u8, unit: u16, suspend: u8) -> Phase
+    ensures { λ r. ⌜ r ≡ phaseIn n unit suspend ⌝ }
 {
     if n == FREE {
         return Phase::Free;
@@ -106,7 +139,7 @@ pub fn phase_in(n: u8, byte: u8, suspend: u8) -> Phase
         return Phase::DataAwaited;
     }
     if n == PROGRAMMING {
-        return Phase::Programming(byte);
+        return Phase::Programming(unit);
     }
     if n == ERASING {
         return Phase::Erasing;
@@ -131,25 +164,25 @@ fn phase_out(ph: Phase) -> u8
     }
 }
 
-fn byte_out(ph: Phase) -> u8
-    ensures { λ r. ⌜ r ≡ byteOut ph ⌝ }
+fn data_out(ph: Phase) -> u16
+    ensures { λ r. ⌜ r ≡ dataOut ph ⌝ }
 {
     match ph {
         Phase::Free => 0,
         Phase::EraseAwaited => 0,
         Phase::DataAwaited => 0,
-        Phase::Programming(b) => b,
+        Phase::Programming(unit) => unit,
         Phase::Erasing => 0,
         Phase::Suspending(_) => 0,
         Phase::Suspended => 0,
     }
 }
 
-// A byte only where one is being programmed.
-fn stray_byte(n: StateNumbers) -> bool
-    ensures { λ r. ⌜ r ≡ strayByte n ⌝ }
+// Data only where they are being programmed.
+fn stray_data(n: StateNumbers) -> bool
+    ensures { λ r. ⌜ r ≡ strayData n ⌝ }
 {
-    !(n.byte == 0) & !(n.phase == PROGRAMMING)
+    !(n.data == 0) & !(n.phase == PROGRAMMING)
 }
 
 // A suspend's cycles only where one is under way.
@@ -162,7 +195,7 @@ fn stray_suspend(n: StateNumbers) -> bool
 fn no_state(n: StateNumbers) -> bool
     ensures { λ r. ⌜ r ≡ noState n ⌝ }
 {
-    (IDENTIFIER < n.mode) | (SUSPENDING < n.phase) | stray_byte(n) | stray_suspend(n)
+    (IDENTIFIER < n.mode) | (SUSPENDING < n.phase) | stray_data(n) | stray_suspend(n)
 }
 
 pub fn state_in(n: StateNumbers) -> State
@@ -180,7 +213,7 @@ pub fn state_in(n: StateNumbers) -> State
     State {
         mode: mode_in(n.mode),
         status: n.status,
-        phase: phase_in(n.phase, n.byte, n.suspend),
+        phase: phase_in(n.phase, n.data, n.suspend),
         left: n.left,
         address: n.address,
     }
@@ -195,9 +228,9 @@ pub fn state_out(s: State) -> StateNumbers
         mode: mode_out(m),
         status: s.status,
         phase: phase_out(ph),
-        byte: byte_out(ph),
-        left: s.left,
         suspend: suspend_left(ph),
+        left: s.left,
+        data: data_out(ph),
         address: s.address,
     }
 }
@@ -248,10 +281,10 @@ pub fn cycle_in(n: BusNumbers) -> Cycle
 {
     Cycle {
         kind: kind_in(n.kind),
-        pins: pins_in(n.rp, n.vpp),
+        pins: pins_in(n.rp, n.wp, n.vpp),
         oe: oe_in(n.kind, n.oe),
         address: n.address,
-        data: n.byte,
+        data: n.data,
     }
 }
 
@@ -263,7 +296,8 @@ pub fn cycle_out(c: Cycle) -> BusNumbers
         kind: kind_out(kind),
         rp: c.pins.rp,
         oe: c.oe,
-        byte: c.data,
+        wp: c.pins.wp,
+        data: c.data,
         vpp: c.pins.vpp,
         address: c.address,
     }
@@ -274,18 +308,18 @@ fn seen_out(seen: Seen) -> u8
 {
     match seen {
         Seen::NoData => NO_DATA,
-        Seen::Data(_) => BYTE,
+        Seen::Data(_) => DATA,
         Seen::Refused(_) => REFUSED,
     }
 }
 
-fn value_out(seen: Seen) -> u8
+fn value_out(seen: Seen) -> u16
     ensures { λ r. ⌜ r ≡ valueOut seen ⌝ }
 {
     match seen {
         Seen::NoData => 0,
-        Seen::Data(b) => b,
-        Seen::Refused(n) => n,
+        Seen::Data(v) => v,
+        Seen::Refused(n) => units::wide(n),
     }
 }
 

@@ -8,16 +8,16 @@ mode-out-requires c κs = search needs
 phase-out-requires : tie.Need-phase-out-requires
 phase-out-requires c κs = search needs
 
-byte-out-requires : tie.Need-byte-out-requires
-byte-out-requires c κs = search needs
-
 suspend-left-requires : tie.Need-suspend-left-requires
 suspend-left-requires c κs = search needs
 
+data-out-requires : tie.Need-data-out-requires
+data-out-requires c κs = search needs
+
 returns : tie.Need-returns
-returns c = simp (c .suspend-left .ensures, c .before .byte-out .ensures, c .before .before .phase-out .ensures, c .before .before .before .mode-out .ensures)
+returns c = simp (c .data-out .ensures, c .before .suspend-left .ensures, c .before .before .phase-out .ensures, c .before .before .before .mode-out .ensures)
 
 pub state-out-spec : {M : Type 1} → statement M
 state-out-spec =
     tie.close
-    (tie.spec mode-out-requires phase-out-requires byte-out-requires suspend-left-requires returns)
+    (tie.spec mode-out-requires phase-out-requires suspend-left-requires data-out-requires returns)
