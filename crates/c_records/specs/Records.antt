@@ -17,7 +17,7 @@ use Rattle.file_codec.specs.declared.Written.{Written}
 use Rattle.file_codec.specs.declared.Written.the-variants.{Wrote, NotWritten}
 use Rattle.file_codec.specs.declared.ReadBack.{ReadBack}
 use Rattle.file_codec.specs.declared.ReadBack.the-variants.{Gave, NotRead}
-use Rattle.c_cycle.specs.Values.{cycleOut, pinsIn}
+use Rattle.c_cycle.specs.Values.{cycleOut, partIn, pinsIn, flagOut}
 use Rattle.c_records.specs.declared.TurnNumbers.{TurnNumbers}
 use Rattle.c_records.specs.declared.RanNumbers.{RanNumbers}
 use Rattle.c_records.specs.declared.SizedNumbers.{SizedNumbers}
@@ -57,13 +57,11 @@ stageOut (Ended end) = 11
 abbrev pub endOut : Stage → ℕ
 endOut stage = if isEnded stage then endBy stage else 0
 
--- the numbers stand for no record: no such stage, an end's number in a load that goes on, or a verify that is neither 0 nor 1
+-- the numbers stand for no record: no such stage, an end's number in a load that goes on, or a verify, a mode or a high byte that is
+-- neither 0 nor 1
 unfoldable pub noRecord : LoaderNumbers → Bool
-noRecord n = (ltb 11 (n .stage) || (not (eqb (n .end) 0) && not (eqb (n .stage) 11))) || ltb 1 (n .verify)
-
--- whether the verify follows the load: 1 or 0
-abbrev pub verifyOut : Bool → ℕ
-verifyOut verify = if verify then 1 else 0
+noRecord n =
+    (((ltb 11 (n .stage) || (not (eqb (n .end) 0) && not (eqb (n .stage) 11))) || ltb 1 (n .verify)) || ltb 1 (n .word)) || ltb 1 (n .high)
 
 -- polls of a record; where the numbers stand for none, a count that every step refuses
 unfoldable pub pollsIn : LoaderNumbers → ℕ
@@ -73,24 +71,28 @@ pollsIn n = if noRecord n then 65535 else n .polls
 abbrev pub loaderIn : LoaderNumbers → Loader
 loaderIn n =
     record {
-      part = record { number = n .part };
-      pins = pinsIn (n .rp) (n .vpp);
+      part = partIn (n .part) (n .word);
+      pins = pinsIn (n .rp) (n .wp) (n .vpp);
       block = n .block;
       stage = stageIn (n .stage) (n .end);
       place = n .place;
       polls = pollsIn n;
       verify = eqb (n .verify) 1;
+      high = eqb (n .high) 1;
     }
 
 abbrev pub loaderOut : Loader → LoaderNumbers
 loaderOut l =
     record {
       part = l .part .number;
+      word = flagOut (l .part .word);
       rp = l .pins .rp;
+      wp = l .pins .wp;
       block = l .block;
       stage = stageOut (l .stage);
       end = endOut (l .stage);
-      verify = verifyOut (l .verify);
+      verify = flagOut (l .verify);
+      high = flagOut (l .high);
       vpp = l .pins .vpp;
       polls = l .polls;
       place = l .place;
@@ -102,7 +104,7 @@ loaderBack n l = if noRecord n then n else loaderOut l
 
 -- no cycle: all numbers zero
 abbrev pub noCycle : BusNumbers
-noCycle = record { kind = 0; rp = 0; oe = 0; byte = 0; vpp = 0; address = 0 }
+noCycle = record { kind = 0; rp = 0; oe = 0; wp = 0; «data» = 0; vpp = 0; address = 0 }
 
 abbrev pub turnAt : ℕ → ℕ → ℕ → BusNumbers → TurnNumbers
 turnAt turn number address cycle = record { turn = turn; number = number; address = address; cycle = cycle }

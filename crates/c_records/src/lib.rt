@@ -11,11 +11,14 @@ use c_cycle::StateNumbers;
 #[repr(C)]
 pub struct LoaderNumbers {
     pub part: u8,
+    pub word: u8,
     pub rp: u8,
+    pub wp: u8,
     pub block: u8,
     pub stage: u8,
     pub end: u8,
     pub verify: u8,
+    pub high: u8,
     pub vpp: u32,
     pub polls: u32,
     pub place: usize,

@@ -3,14 +3,15 @@ use crate::LoaderNumbers;
 use crate::TurnNumbers;
 use c_cycle::BusNumbers;
 use c_cycle::states::cycle_out;
+use c_cycle::states::flag_out;
+use c_cycle::states::part_in;
 use c_cycle::states::pins_in;
-use device::Part;
 use loader::Loader;
 use loader::Stage;
 use loader::Turn;
 use loader::stages::stage_is;
 ghost use mathlib.Core.Path.{_≡_};
-ghost use Rattle.c_records.specs.Records.{stageIn, stageOut, endOut, noRecord, pollsIn, verifyOut, loaderIn, loaderOut, loaderBack, noCycle, turnAt, turnOut};
+ghost use Rattle.c_records.specs.Records.{stageIn, stageOut, endOut, noRecord, pollsIn, loaderIn, loaderOut, loaderBack, noCycle, turnAt, turnOut};
 
 fn stage_in(n: u8, end: u8) -> Stage
     ensures { λ r. ⌜ r ≡ stageIn n end ⌝ }
@@ -64,7 +65,7 @@ fn end_out(stage: Stage) -> u8
 fn no_record(n: LoaderNumbers) -> bool
     ensures { λ r. ⌜ r ≡ noRecord n ⌝ }
 {
-    (11 < n.stage) | (!(n.end == 0) & !(n.stage == 11)) | (1 < n.verify)
+    (11 < n.stage) | (!(n.end == 0) & !(n.stage == 11)) | (1 < n.verify) | (1 < n.word) | (1 < n.high)
 }
 
 fn polls_in(n: LoaderNumbers) -> u32
@@ -80,37 +81,34 @@ pub fn loader_in(n: LoaderNumbers) -> Loader
     ensures { λ r. ⌜ r ≡ loaderIn n ⌝ }
 {
     Loader {
-        part: Part { number: n.part },
-        pins: pins_in(n.rp, n.vpp),
+        part: part_in(n.part, n.word),
+        pins: pins_in(n.rp, n.wp, n.vpp),
         block: n.block,
         stage: stage_in(n.stage, n.end),
         place: n.place,
         polls: polls_in(n),
         verify: n.verify == 1,
+        high: n.high == 1,
     }
-}
-
-fn verify_out(verify: bool) -> u8
-    ensures { λ r. ⌜ r ≡ verifyOut verify ⌝ }
-{
-    if verify {
-        return 1;
-    }
-    0
 }
 
 pub fn loader_out(l: Loader) -> LoaderNumbers
     ensures { λ r. ⌜ r ≡ loaderOut l ⌝ }
 {
     let stage = l.stage;
+    let word = l.part.word;
     let verify = l.verify;
+    let high = l.high;
     LoaderNumbers {
         part: l.part.number,
+        word: flag_out(word),
         rp: l.pins.rp,
+        wp: l.pins.wp,
         block: l.block,
         stage: stage_out(stage),
         end: end_out(stage),
-        verify: verify_out(verify),
+        verify: flag_out(verify),
+        high: flag_out(high),
         vpp: l.pins.vpp,
         polls: l.polls,
         place: l.place,
@@ -134,7 +132,8 @@ fn no_cycle() -> BusNumbers
         kind: 0,
         rp: 0,
         oe: 0,
-        byte: 0,
+        wp: 0,
+        data: 0,
         vpp: 0,
         address: 0,
     }
