@@ -34,7 +34,7 @@ int main(void) {
     }
     memset(array, 0, size); /* a part that was used before */
     tb_device device = {.number = PART, .program = 2, .erase = 3, .suspend = 1};
-    tb_ran ran = tb_load(device, tb_fresh(), TB_RP_HIGH, 12000, BLOCK, LETTER, file, made.length, array, size, wanted, block.length,
+    tb_ran ran = tb_load(device, tb_fresh(), TB_RP_HIGH, TB_WP_LOW, 12000, BLOCK, LETTER, file, made.length, array, size, wanted, block.length,
                          scratch, block.length);
     printf("load: %llu cycles, end %u\n", (unsigned long long)ran.count, ran.end);
     printf("part: mode %u, status %02X, phase %u\n", ran.state.mode, ran.state.status, ran.state.phase);

@@ -100,15 +100,21 @@ operators = sorted(int(n) for n in re.findall(r"^\| (\d+) \|", (ROOT / "docs/OPE
 same("refusals, beside docs/OPERATORS.md", refusals, operators)
 given = {int(n) for n in re.findall(r"\brow (\d+) \(", text("*/specs/*.antt"))}
 given |= {int(n) for n in re.findall(r"\b(?:then|else) (2[0-4])\b", text("loader/specs/*.antt"))}
-given |= {int(n) for n in re.findall(r"endedBy l (2\d)\b", text("loader/specs/*.antt"))}
+given |= {int(n) for n in re.findall(r"(?:endedBy l|stage = Ended) (2\d)\b", text("loader/specs/*.antt"))}
 given |= {int(n) for n in re.findall(r"refused (3\d)\b", text("*/specs/*.antt"))}
 same("refusals, beside the tables of specs/", refusals, sorted(given))
 
-# parts: size and blocks, from the description of each
+# parts: size and blocks, in bytes, from the description of each
+table = text("device/specs/Parts.antt")
+more = re.search(r"l0 = (\d+); l1 = (\d+); l2 = (\d+); l3 = (\d+); l4 = (\d+); l5 = further; l6 = further", table).groups()
 parts = {}
-for number, boot, parameter, main, top in re.findall(r"(?:eqb \(p \.number\) (\d+) then|else) four\w+ (\d+) (\d+) (\d+) (true|false)", text("device/specs/Parts.antt")):
+for number, kind, lengths, top in re.findall(r"(?:eqb n (\d+) then|else) (four|more)Blocks ([\d ]+) (true|false)", table):
     number = int(number) if number else len(parts) + 1
-    lengths = [int(boot), int(parameter), int(parameter), int(main)]
+    lengths = [int(n) for n in lengths.split()]
+    if kind == "four":
+        lengths = [lengths[0], lengths[1], lengths[1], lengths[2]]
+    else:
+        lengths = [int(n) for n in more] + [n for n in lengths * 2 if n]
     at, spans = 0, []
     for length in lengths:
         spans.append((sum(lengths) - at - length if top == "true" else at, length))
@@ -124,8 +130,9 @@ same("TB_BLOCK_MOST", constants["TB_BLOCK_MOST"], max(length for _, spans in par
 
 # supply bands, load file, letters
 levels = text("*/specs/Levels.antt")
-bands = [int(n) for n in re.findall(r"leb \(p \.vpp\) (\d+)", levels) + re.findall(r"leb (\d+) \(p \.vpp\)", levels)]
-same("supply bands", [constants["TB_VPP_LOW_MOST_MV"], constants["TB_VPP_HIGH_MOST_MV"], constants["TB_VPP_HIGH_LEAST_MV"]], bands)
+lows = [int(n) for n in re.search(r"^vppLow part p = if isLarge part then leb \(p \.vpp\) (\d+) else leb \(p \.vpp\) (\d+)$", levels, re.M).groups()]
+highs = [int(n) for band in ("atFive", "atTwelve") for n in re.search(rf"^{band} p = leb (\d+) \(p \.vpp\) && leb \(p \.vpp\) (\d+)$", levels, re.M).groups()]
+same("supply bands", [constants["TB_VPP_" + n + "_MV"] for n in ("BR_LOW_MOST", "LOW_MOST", "BR_5V_LEAST", "BR_5V_MOST", "HIGH_LEAST", "HIGH_MOST")], lows + highs)
 limit = int(re.search(r"^limit = (\d+)", text("*/specs/File.antt"), re.M).group(1))
 same("limits of a load file", [constants[n] for n in ("TB_FILE_BLOCKS_MOST", "TB_FILE_MOST", "TB_PAYLOAD_MOST")], [limit, 512 * limit, 505 * limit])
 letters = re.search(r"^letters = (.*)$", text("*/specs/Block.antt"), re.M).group(1)

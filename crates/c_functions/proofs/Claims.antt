@@ -7,23 +7,25 @@ use Prim.Native.Nat.{ℕ}
 use lib.ListN.{length}
 use lib.Dec.{ltb}
 use Rattle.device.specs.declared.Device.{Device}
-use Rattle.device.specs.Parts.{unknownPart, unknownDevice, sizeOf}
+use Rattle.device.specs.Parts.{unknownPart, unknownDevice, sizeOf, lengthOf, startOf}
 use Rattle.model_types.specs.declared.Pins.{Pins}
 use Rattle.model_types.specs.declared.Cycle.{Cycle}
 use Rattle.model_types.specs.declared.State.{State}
 use Rattle.model_types.specs.States.{improper}
-use Rattle.model.specs.Arrays.{answerOf, arrayAfter}
+use Rattle.units.specs.Units.{units, lent, bytesIn}
+use Rattle.model.specs.Arrays.{answerOf, bytesAfter}
 use Rattle.loader.specs.declared.Stage.{Stage}
 use Rattle.loader.specs.Stages.{isEnded}
 use Rattle.loader.specs.declared.Loader.{Loader}
 use Rattle.loader.specs.declared.Turn.the-variants.{Barred}
-use Rattle.loader_steps.specs.Front.{stepGiven, scratchAfter}
-use Rattle.loader_run.specs.Runs.{runNumber, runLeftAt}
+use Rattle.loader_steps.specs.Front.{noBlock, stepGiven, scratchLeft}
+use Rattle.loader_run.specs.Runs.{lentNumber, lentLeftAt}
 use Rattle.loader_from_file.specs.Loads.{loadNumber, fileLeftAt}
 use Rattle.c_cycle.specs.Values.{deviceIn, deviceOut, pinsIn, noState, stateIn, stateOut, cycleOut}
 use Rattle.c_records.specs.Records.{noRecord, loaderIn, loaderOut, turnOut}
 use Rattle.c_cycle.specs.Answers.{seenOut, valueOut}
-use Rattle.c_functions.specs.Calls.{cycled, arrayCycled, steppedOf, scratchStepped, runAtOf, arrayRunAt, scratchRunAt, fileAtOf, arrayFileAt, wantedFileAt, scratchFileAt, writtenOf, fileLeft, fileRead, payloadLeft, ranNumbers}
+use Rattle.c_functions.specs.Calls.{startedAt, cycled, arrayCycled, steppedOf, scratchStepped, runAtOf, arrayRunAt, scratchRunAt, fileAtOf, arrayFileAt, wantedFileAt, scratchFileAt, writtenOf, fileLeft, fileRead, payloadLeft, ranNumbers}
+use Rattle.c_functions.specs.Geometry.{sizeGiven, blockGiven}
 use Rattle.c_cycle.specs.declared.DeviceNumbers.{DeviceNumbers}
 use Rattle.c_cycle.specs.declared.StateNumbers.{StateNumbers}
 use Rattle.c_cycle.specs.declared.BusNumbers.{BusNumbers}
@@ -31,11 +33,11 @@ use Rattle.c_records.specs.declared.LoaderNumbers.{LoaderNumbers}
 use Rattle.c_functions.proofs.Returned as returned
 
 -- Numbers that stand for no state, no kind or no record are refused in their place: 3 after 1 and 2, 4 after 1 to 3, 3 after 1.
-pub cycle-no-state : (d : DeviceNumbers) (s : StateNumbers) (c : BusNumbers) (xs rs : List ℕ) → unknownDevice (deviceIn d) ≡ false → length xs ≡ sizeOf (deviceIn d .part)
+pub cycle-no-state : (d : DeviceNumbers) (s : StateNumbers) (c : BusNumbers) (xs rs : List ℕ) → unknownDevice (deviceIn d) ≡ false → length xs ≡ bytesIn (deviceIn d .part .word) (sizeOf (deviceIn d .part))
     → noState s ≡ true → cycled d s c xs rs ≡ record { seen = 2; value = 3; state = s }
 cycle-no-state = returned.cycle-no-state
 
-pub cycle-no-kind : (d : DeviceNumbers) (s : StateNumbers) (c : BusNumbers) (xs rs : List ℕ) → unknownDevice (deviceIn d) ≡ false → length xs ≡ sizeOf (deviceIn d .part)
+pub cycle-no-kind : (d : DeviceNumbers) (s : StateNumbers) (c : BusNumbers) (xs rs : List ℕ) → unknownDevice (deviceIn d) ≡ false → length xs ≡ bytesIn (deviceIn d .part .word) (sizeOf (deviceIn d .part))
     → improper (deviceIn d) (stateIn s) ≡ false → ltb 2 (c .kind) ≡ true → cycled d s c xs rs ≡ record { seen = 2; value = 4; state = s }
 cycle-no-kind = returned.cycle-no-kind
 
@@ -43,12 +45,38 @@ pub step-no-record : (l : LoaderNumbers) (b : ℕ) (w sc : List ℕ) → unknown
     → (steppedOf l b w sc .turn ≡ turnOut (Barred 3)) × (steppedOf l b w sc .loader ≡ l)
 step-no-record = returned.step-no-record
 
-pub run-no-state : (stage : Stage) (verify : Bool) (d : DeviceNumbers) (s : StateNumbers) (rp vpp k : ℕ) (xs w sc : List ℕ) → unknownDevice (deviceIn d) ≡ false → length xs ≡ sizeOf (deviceIn d .part)
-    → noState s ≡ true → runAtOf stage verify d s rp vpp k xs w sc ≡ record { count = 0; end = 3; address = 0; state = s }
+-- A mode that is neither 0 nor 1 is no device: refused 1, before all else.
+pub cycle-no-mode : (d : DeviceNumbers) (s : StateNumbers) (c : BusNumbers) (xs rs : List ℕ) → ltb 1 (d .word) ≡ true → cycled d s c xs rs ≡ record { seen = 2; value = 1; state = s }
+cycle-no-mode = returned.cycle-no-mode
+
+pub start-no-mode : (stage : Stage) (verify : Bool) (part word rp wp vpp k : ℕ) (w sc : List ℕ) → ltb 1 word ≡ true → startedAt stage verify part word rp wp vpp k w sc .turn ≡ turnOut (Barred 1)
+start-no-mode = returned.start-no-mode
+
+pub step-no-mode : (l : LoaderNumbers) (b : ℕ) (w sc : List ℕ) → ltb 1 (l .word) ≡ true → (steppedOf l b w sc .turn ≡ turnOut (Barred 1)) × (steppedOf l b w sc .loader ≡ l)
+step-no-mode = returned.step-no-mode
+
+pub run-no-mode : (stage : Stage) (verify : Bool) (d : DeviceNumbers) (s : StateNumbers) (rp wp vpp k : ℕ) (xs w sc : List ℕ) → ltb 1 (d .word) ≡ true
+    → runAtOf stage verify d s rp wp vpp k xs w sc ≡ record { count = 0; end = 1; address = 0; state = s }
+run-no-mode = returned.run-no-mode
+
+pub load-no-mode : (stage : Stage) (verify : Bool) (d : DeviceNumbers) (s : StateNumbers) (rp wp vpp k : ℕ) (xs w sc : List ℕ) → isEnded stage ≡ false → (f : List ℕ) (asked : ℕ) → ltb 1 (d .word) ≡ true
+    → fileAtOf stage verify d s rp wp vpp k f asked xs w sc ≡ record { count = 0; end = 1; address = 0; state = s }
+load-no-mode = returned.load-no-mode
+
+-- The bytes and byte addresses that tb_size and tb_block give are those of the part in either mode.
+pub size-either : (n : ℕ) (w : Bool) → unknownPart (record { number = n; word = w }) ≡ false → sizeGiven n ≡ bytesIn w (sizeOf (record { number = n; word = w }))
+size-either = returned.size-either
+
+pub block-either : (n k : ℕ) (w : Bool) → unknownPart (record { number = n; word = w }) ≡ false → noBlock (record { number = n; word = w }) k ≡ false
+    → blockGiven n k ≡ record { first = bytesIn w (startOf (record { number = n; word = w }) k); length = bytesIn w (lengthOf (record { number = n; word = w }) k) }
+block-either = returned.block-either
+
+pub run-no-state : (stage : Stage) (verify : Bool) (d : DeviceNumbers) (s : StateNumbers) (rp wp vpp k : ℕ) (xs w sc : List ℕ) → unknownDevice (deviceIn d) ≡ false → length xs ≡ bytesIn (deviceIn d .part .word) (sizeOf (deviceIn d .part))
+    → noState s ≡ true → runAtOf stage verify d s rp wp vpp k xs w sc ≡ record { count = 0; end = 3; address = 0; state = s }
 run-no-state = returned.run-no-state
 
-pub load-no-state : (stage : Stage) (verify : Bool) (d : DeviceNumbers) (s : StateNumbers) (rp vpp k : ℕ) (xs w sc : List ℕ) → isEnded stage ≡ false → (f : List ℕ) (asked : ℕ) → unknownDevice (deviceIn d) ≡ false
-    → length xs ≡ sizeOf (deviceIn d .part) → noState s ≡ true → fileAtOf stage verify d s rp vpp k f asked xs w sc ≡ record { count = 0; end = 3; address = 0; state = s }
+pub load-no-state : (stage : Stage) (verify : Bool) (d : DeviceNumbers) (s : StateNumbers) (rp wp vpp k : ℕ) (xs w sc : List ℕ) → isEnded stage ≡ false → (f : List ℕ) (asked : ℕ) → unknownDevice (deviceIn d) ≡ false
+    → length xs ≡ bytesIn (deviceIn d .part .word) (sizeOf (deviceIn d .part)) → noState s ≡ true → fileAtOf stage verify d s rp wp vpp k f asked xs w sc ≡ record { count = 0; end = 3; address = 0; state = s }
 load-no-state = returned.load-no-state
 
 -- A refusal gives back the very numbers that came in, whatever they stand for, and leaves all that was lent.
@@ -60,15 +88,15 @@ pub step-refused : (l : LoaderNumbers) (b : ℕ) (w sc : List ℕ) → steppedOf
     → (steppedOf l b w sc .loader ≡ l) × (scratchStepped l b w sc ≡ sc)
 step-refused = returned.step-refused
 
-pub run-refused : (stage : Stage) (verify : Bool) (d : DeviceNumbers) (s : StateNumbers) (rp vpp k : ℕ) (xs w sc : List ℕ) (m : ℕ) → (m ≡ 0 → ⊥)
-    → runNumber (deviceIn d) (stateIn s) (pinsIn rp vpp) k (length xs) (length w) (length sc) ≡ m
-    → (runAtOf stage verify d s rp vpp k xs w sc ≡ record { count = 0; end = m; address = 0; state = s }) × (arrayRunAt stage verify d s rp vpp k xs w sc ≡ xs) × (scratchRunAt stage verify d s rp vpp k xs w sc ≡ sc)
+pub run-refused : (stage : Stage) (verify : Bool) (d : DeviceNumbers) (s : StateNumbers) (rp wp vpp k : ℕ) (xs w sc : List ℕ) (m : ℕ) → (m ≡ 0 → ⊥)
+    → lentNumber (deviceIn d) (stateIn s) (pinsIn rp wp vpp) k (length xs) (length w) (length sc) ≡ m
+    → (runAtOf stage verify d s rp wp vpp k xs w sc ≡ record { count = 0; end = m; address = 0; state = s }) × (arrayRunAt stage verify d s rp wp vpp k xs w sc ≡ xs) × (scratchRunAt stage verify d s rp wp vpp k xs w sc ≡ sc)
 run-refused = returned.run-refused
 
-pub load-refused : (stage : Stage) (verify : Bool) (d : DeviceNumbers) (s : StateNumbers) (rp vpp k : ℕ) (xs w sc : List ℕ) → isEnded stage ≡ false → (f : List ℕ) (asked m : ℕ) → (m ≡ 0 → ⊥)
-    → loadNumber (deviceIn d) (stateIn s) (pinsIn rp vpp) k (length xs) (length w) (length sc) f asked ≡ m
-    → (fileAtOf stage verify d s rp vpp k f asked xs w sc ≡ record { count = 0; end = m; address = 0; state = s }) × (arrayFileAt stage verify d s rp vpp k f asked xs w sc ≡ xs)
-    × (wantedFileAt stage verify d s rp vpp k f asked xs w sc ≡ w) × (scratchFileAt stage verify d s rp vpp k f asked xs w sc ≡ sc)
+pub load-refused : (stage : Stage) (verify : Bool) (d : DeviceNumbers) (s : StateNumbers) (rp wp vpp k : ℕ) (xs w sc : List ℕ) → isEnded stage ≡ false → (f : List ℕ) (asked m : ℕ) → (m ≡ 0 → ⊥)
+    → loadNumber (deviceIn d) (stateIn s) (pinsIn rp wp vpp) k (length xs) (length w) (length sc) f asked ≡ m
+    → (fileAtOf stage verify d s rp wp vpp k f asked xs w sc ≡ record { count = 0; end = m; address = 0; state = s }) × (arrayFileAt stage verify d s rp wp vpp k f asked xs w sc ≡ xs)
+    × (wantedFileAt stage verify d s rp wp vpp k f asked xs w sc ≡ w) × (scratchFileAt stage verify d s rp wp vpp k f asked xs w sc ≡ sc)
 load-refused = returned.load-refused
 
 pub write-refused : (letter : ℕ) (p out : List ℕ) → (writtenOf letter p out .number ≡ 0 → ⊥) → (writtenOf letter p out .length ≡ 0) × (fileLeft letter p out ≡ out)
@@ -77,27 +105,33 @@ write-refused = returned.write-refused
 pub read-refused : (f : List ℕ) (asked : ℕ) (out : List ℕ) → (fileRead f asked out .number ≡ 0 → ⊥) → (fileRead f asked out .length ≡ 0) × (payloadLeft f asked out ≡ out)
 read-refused = returned.read-refused
 
--- On the numbers of typed values each C function is the typed function: its answer as numbers, and what it leaves in the slices.
+-- On the numbers of typed values each C function is the typed function: its answer as numbers, by the units of what was lent, and what it
+-- leaves in the slices.
 pub cycle-typed : (d : Device) (s : State) (c : Cycle) (xs rs : List ℕ)
     → (cycled (deviceOut d) (stateOut s) (cycleOut c) xs rs
-    ≡ record { seen = seenOut (answerOf d s c xs rs .seen); value = valueOut (answerOf d s c xs rs .seen); state = stateOut (answerOf d s c xs rs .state) })
-    × (arrayCycled (deviceOut d) (stateOut s) (cycleOut c) xs rs ≡ arrayAfter d s c xs rs)
+    ≡ record {
+      seen = seenOut (answerOf d s c (lent (d .part .word) xs) (units (d .part .word) rs) .seen);
+      value = valueOut (answerOf d s c (lent (d .part .word) xs) (units (d .part .word) rs) .seen);
+      state = stateOut (answerOf d s c (lent (d .part .word) xs) (units (d .part .word) rs) .state);
+    })
+    × (arrayCycled (deviceOut d) (stateOut s) (cycleOut c) xs rs ≡ bytesAfter d s c xs rs)
 cycle-typed = returned.cycle-typed
 
 pub step-typed : (l : Loader) (b : ℕ) (w sc : List ℕ)
-    → (steppedOf (loaderOut l) b w sc ≡ record { turn = turnOut (stepGiven l b w sc .turn); loader = loaderOut (stepGiven l b w sc .loader) })
-    × (scratchStepped (loaderOut l) b w sc ≡ scratchAfter l b w sc)
+    → (steppedOf (loaderOut l) b w sc
+    ≡ record { turn = turnOut (stepGiven l b (lent (l .part .word) w) (lent (l .part .word) sc) .turn); loader = loaderOut (stepGiven l b (lent (l .part .word) w) (lent (l .part .word) sc) .loader) })
+    × (scratchStepped (loaderOut l) b w sc ≡ scratchLeft l b w sc)
 step-typed = returned.step-typed
 
 pub run-typed : (stage : Stage) (verify : Bool) (d : Device) (s : State) (p : Pins) (k : ℕ) (xs w sc : List ℕ)
-    → (runAtOf stage verify (deviceOut d) (stateOut s) (p .rp) (p .vpp) k xs w sc ≡ ranNumbers (runLeftAt stage verify d s p k xs w sc .ran))
-    × (arrayRunAt stage verify (deviceOut d) (stateOut s) (p .rp) (p .vpp) k xs w sc ≡ runLeftAt stage verify d s p k xs w sc .bytes)
-    × (scratchRunAt stage verify (deviceOut d) (stateOut s) (p .rp) (p .vpp) k xs w sc ≡ runLeftAt stage verify d s p k xs w sc .scratch)
+    → (runAtOf stage verify (deviceOut d) (stateOut s) (p .rp) (p .wp) (p .vpp) k xs w sc ≡ ranNumbers (lentLeftAt stage verify d s p k xs w sc .ran))
+    × (arrayRunAt stage verify (deviceOut d) (stateOut s) (p .rp) (p .wp) (p .vpp) k xs w sc ≡ lentLeftAt stage verify d s p k xs w sc .bytes)
+    × (scratchRunAt stage verify (deviceOut d) (stateOut s) (p .rp) (p .wp) (p .vpp) k xs w sc ≡ lentLeftAt stage verify d s p k xs w sc .scratch)
 run-typed = returned.run-typed
 
 pub load-typed : (stage : Stage) (verify : Bool) (d : Device) (s : State) (p : Pins) (k : ℕ) (f : List ℕ) (asked : ℕ) (xs w sc : List ℕ)
-    → (fileAtOf stage verify (deviceOut d) (stateOut s) (p .rp) (p .vpp) k f asked xs w sc ≡ ranNumbers (fileLeftAt stage verify d s p k xs w sc f asked .ran))
-    × (arrayFileAt stage verify (deviceOut d) (stateOut s) (p .rp) (p .vpp) k f asked xs w sc ≡ fileLeftAt stage verify d s p k xs w sc f asked .bytes)
-    × (wantedFileAt stage verify (deviceOut d) (stateOut s) (p .rp) (p .vpp) k f asked xs w sc ≡ fileLeftAt stage verify d s p k xs w sc f asked .wanted)
-    × (scratchFileAt stage verify (deviceOut d) (stateOut s) (p .rp) (p .vpp) k f asked xs w sc ≡ fileLeftAt stage verify d s p k xs w sc f asked .scratch)
+    → (fileAtOf stage verify (deviceOut d) (stateOut s) (p .rp) (p .wp) (p .vpp) k f asked xs w sc ≡ ranNumbers (fileLeftAt stage verify d s p k xs w sc f asked .ran))
+    × (arrayFileAt stage verify (deviceOut d) (stateOut s) (p .rp) (p .wp) (p .vpp) k f asked xs w sc ≡ fileLeftAt stage verify d s p k xs w sc f asked .bytes)
+    × (wantedFileAt stage verify (deviceOut d) (stateOut s) (p .rp) (p .wp) (p .vpp) k f asked xs w sc ≡ fileLeftAt stage verify d s p k xs w sc f asked .wanted)
+    × (scratchFileAt stage verify (deviceOut d) (stateOut s) (p .rp) (p .wp) (p .vpp) k f asked xs w sc ≡ fileLeftAt stage verify d s p k xs w sc f asked .scratch)
 load-typed = returned.load-typed

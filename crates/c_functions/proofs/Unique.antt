@@ -39,8 +39,8 @@ cycle-unique d s c xs rs = only (cycled d s c xs rs)
 pub cycle-array-unique : (d : DeviceNumbers) (s : StateNumbers) (c : BusNumbers) (xs rs : List ℕ) → Unique (λ (left : List ℕ). left ≡ arrayCycled d s c xs rs)
 cycle-array-unique d s c xs rs = only (arrayCycled d s c xs rs)
 
-pub start-unique : (part rp vpp k : ℕ) (w sc : List ℕ) → Unique (λ (r : GivenNumbers). r ≡ started part rp vpp k w sc)
-start-unique part rp vpp k w sc = only (started part rp vpp k w sc)
+pub start-unique : (part word rp wp vpp k : ℕ) (w sc : List ℕ) → Unique (λ (r : GivenNumbers). r ≡ started part word rp wp vpp k w sc)
+start-unique part word rp wp vpp k w sc = only (started part word rp wp vpp k w sc)
 
 -- the step by value, and the step on a record that is lent: what it says, the record, scratch
 pub stepped-unique : (l : LoaderNumbers) (b : ℕ) (w sc : List ℕ) → Unique (λ (r : GivenNumbers). r ≡ steppedOf l b w sc)
@@ -55,65 +55,65 @@ step-record-unique l b w sc = only (steppedOf l b w sc .loader)
 pub step-scratch-unique : (l : LoaderNumbers) (b : ℕ) (w sc : List ℕ) → Unique (λ (left : List ℕ). left ≡ scratchStepped l b w sc)
 step-scratch-unique l b w sc = only (scratchStepped l b w sc)
 
-pub run-unique : (d : DeviceNumbers) (s : StateNumbers) (rp vpp k : ℕ) (xs w sc : List ℕ) → Unique (λ (r : RanNumbers). r ≡ runOf d s rp vpp k xs w sc)
-run-unique d s rp vpp k xs w sc = only (runOf d s rp vpp k xs w sc)
+pub run-unique : (d : DeviceNumbers) (s : StateNumbers) (rp wp vpp k : ℕ) (xs w sc : List ℕ) → Unique (λ (r : RanNumbers). r ≡ runOf d s rp wp vpp k xs w sc)
+run-unique d s rp wp vpp k xs w sc = only (runOf d s rp wp vpp k xs w sc)
 
-pub run-array-unique : (d : DeviceNumbers) (s : StateNumbers) (rp vpp k : ℕ) (xs w sc : List ℕ) → Unique (λ (left : List ℕ). left ≡ arrayRun d s rp vpp k xs w sc)
-run-array-unique d s rp vpp k xs w sc = only (arrayRun d s rp vpp k xs w sc)
+pub run-array-unique : (d : DeviceNumbers) (s : StateNumbers) (rp wp vpp k : ℕ) (xs w sc : List ℕ) → Unique (λ (left : List ℕ). left ≡ arrayRun d s rp wp vpp k xs w sc)
+run-array-unique d s rp wp vpp k xs w sc = only (arrayRun d s rp wp vpp k xs w sc)
 
-pub run-scratch-unique : (d : DeviceNumbers) (s : StateNumbers) (rp vpp k : ℕ) (xs w sc : List ℕ) → Unique (λ (left : List ℕ). left ≡ scratchRun d s rp vpp k xs w sc)
-run-scratch-unique d s rp vpp k xs w sc = only (scratchRun d s rp vpp k xs w sc)
+pub run-scratch-unique : (d : DeviceNumbers) (s : StateNumbers) (rp wp vpp k : ℕ) (xs w sc : List ℕ) → Unique (λ (left : List ℕ). left ≡ scratchRun d s rp wp vpp k xs w sc)
+run-scratch-unique d s rp wp vpp k xs w sc = only (scratchRun d s rp wp vpp k xs w sc)
 
-pub load-unique : (d : DeviceNumbers) (s : StateNumbers) (rp vpp k : ℕ) (f : List ℕ) (asked : ℕ) (xs w sc : List ℕ) → Unique (λ (r : RanNumbers). r ≡ loadOf d s rp vpp k f asked xs w sc)
-load-unique d s rp vpp k f asked xs w sc = only (loadOf d s rp vpp k f asked xs w sc)
+pub load-unique : (d : DeviceNumbers) (s : StateNumbers) (rp wp vpp k : ℕ) (f : List ℕ) (asked : ℕ) (xs w sc : List ℕ) → Unique (λ (r : RanNumbers). r ≡ loadOf d s rp wp vpp k f asked xs w sc)
+load-unique d s rp wp vpp k f asked xs w sc = only (loadOf d s rp wp vpp k f asked xs w sc)
 
-pub load-array-unique : (d : DeviceNumbers) (s : StateNumbers) (rp vpp k : ℕ) (f : List ℕ) (asked : ℕ) (xs w sc : List ℕ)
-    → Unique (λ (left : List ℕ). left ≡ arrayLoad d s rp vpp k f asked xs w sc)
-load-array-unique d s rp vpp k f asked xs w sc = only (arrayLoad d s rp vpp k f asked xs w sc)
+pub load-array-unique : (d : DeviceNumbers) (s : StateNumbers) (rp wp vpp k : ℕ) (f : List ℕ) (asked : ℕ) (xs w sc : List ℕ)
+    → Unique (λ (left : List ℕ). left ≡ arrayLoad d s rp wp vpp k f asked xs w sc)
+load-array-unique d s rp wp vpp k f asked xs w sc = only (arrayLoad d s rp wp vpp k f asked xs w sc)
 
-pub load-wanted-unique : (d : DeviceNumbers) (s : StateNumbers) (rp vpp k : ℕ) (f : List ℕ) (asked : ℕ) (xs w sc : List ℕ)
-    → Unique (λ (left : List ℕ). left ≡ wantedLoad d s rp vpp k f asked xs w sc)
-load-wanted-unique d s rp vpp k f asked xs w sc = only (wantedLoad d s rp vpp k f asked xs w sc)
+pub load-wanted-unique : (d : DeviceNumbers) (s : StateNumbers) (rp wp vpp k : ℕ) (f : List ℕ) (asked : ℕ) (xs w sc : List ℕ)
+    → Unique (λ (left : List ℕ). left ≡ wantedLoad d s rp wp vpp k f asked xs w sc)
+load-wanted-unique d s rp wp vpp k f asked xs w sc = only (wantedLoad d s rp wp vpp k f asked xs w sc)
 
-pub load-scratch-unique : (d : DeviceNumbers) (s : StateNumbers) (rp vpp k : ℕ) (f : List ℕ) (asked : ℕ) (xs w sc : List ℕ)
-    → Unique (λ (left : List ℕ). left ≡ scratchLoad d s rp vpp k f asked xs w sc)
-load-scratch-unique d s rp vpp k f asked xs w sc = only (scratchLoad d s rp vpp k f asked xs w sc)
+pub load-scratch-unique : (d : DeviceNumbers) (s : StateNumbers) (rp wp vpp k : ℕ) (f : List ℕ) (asked : ℕ) (xs w sc : List ℕ)
+    → Unique (λ (left : List ℕ). left ≡ scratchLoad d s rp wp vpp k f asked xs w sc)
+load-scratch-unique d s rp wp vpp k f asked xs w sc = only (scratchLoad d s rp wp vpp k f asked xs w sc)
 
-pub load-start-unique : (part rp vpp k : ℕ) (w sc : List ℕ) → Unique (λ (r : GivenNumbers). r ≡ loadStarted part rp vpp k w sc)
-load-start-unique part rp vpp k w sc = only (loadStarted part rp vpp k w sc)
+pub load-start-unique : (part word rp wp vpp k : ℕ) (w sc : List ℕ) → Unique (λ (r : GivenNumbers). r ≡ loadStarted part word rp wp vpp k w sc)
+load-start-unique part word rp wp vpp k w sc = only (loadStarted part word rp wp vpp k w sc)
 
-pub verify-start-unique : (part rp vpp k : ℕ) (w sc : List ℕ) → Unique (λ (r : GivenNumbers). r ≡ verifyStarted part rp vpp k w sc)
-verify-start-unique part rp vpp k w sc = only (verifyStarted part rp vpp k w sc)
+pub verify-start-unique : (part word rp wp vpp k : ℕ) (w sc : List ℕ) → Unique (λ (r : GivenNumbers). r ≡ verifyStarted part word rp wp vpp k w sc)
+verify-start-unique part word rp wp vpp k w sc = only (verifyStarted part word rp wp vpp k w sc)
 
-pub load-run-unique : (d : DeviceNumbers) (s : StateNumbers) (rp vpp k : ℕ) (xs w sc : List ℕ) → Unique (λ (r : RanNumbers). r ≡ loadRunOf d s rp vpp k xs w sc)
-load-run-unique d s rp vpp k xs w sc = only (loadRunOf d s rp vpp k xs w sc)
+pub load-run-unique : (d : DeviceNumbers) (s : StateNumbers) (rp wp vpp k : ℕ) (xs w sc : List ℕ) → Unique (λ (r : RanNumbers). r ≡ loadRunOf d s rp wp vpp k xs w sc)
+load-run-unique d s rp wp vpp k xs w sc = only (loadRunOf d s rp wp vpp k xs w sc)
 
-pub load-run-array-unique : (d : DeviceNumbers) (s : StateNumbers) (rp vpp k : ℕ) (xs w sc : List ℕ) → Unique (λ (left : List ℕ). left ≡ arrayLoadRun d s rp vpp k xs w sc)
-load-run-array-unique d s rp vpp k xs w sc = only (arrayLoadRun d s rp vpp k xs w sc)
+pub load-run-array-unique : (d : DeviceNumbers) (s : StateNumbers) (rp wp vpp k : ℕ) (xs w sc : List ℕ) → Unique (λ (left : List ℕ). left ≡ arrayLoadRun d s rp wp vpp k xs w sc)
+load-run-array-unique d s rp wp vpp k xs w sc = only (arrayLoadRun d s rp wp vpp k xs w sc)
 
-pub load-run-scratch-unique : (d : DeviceNumbers) (s : StateNumbers) (rp vpp k : ℕ) (xs w sc : List ℕ) → Unique (λ (left : List ℕ). left ≡ scratchLoadRun d s rp vpp k xs w sc)
-load-run-scratch-unique d s rp vpp k xs w sc = only (scratchLoadRun d s rp vpp k xs w sc)
+pub load-run-scratch-unique : (d : DeviceNumbers) (s : StateNumbers) (rp wp vpp k : ℕ) (xs w sc : List ℕ) → Unique (λ (left : List ℕ). left ≡ scratchLoadRun d s rp wp vpp k xs w sc)
+load-run-scratch-unique d s rp wp vpp k xs w sc = only (scratchLoadRun d s rp wp vpp k xs w sc)
 
-pub verify-run-unique : (d : DeviceNumbers) (s : StateNumbers) (rp vpp k : ℕ) (xs w sc : List ℕ) → Unique (λ (r : RanNumbers). r ≡ verifyRunOf d s rp vpp k xs w sc)
-verify-run-unique d s rp vpp k xs w sc = only (verifyRunOf d s rp vpp k xs w sc)
+pub verify-run-unique : (d : DeviceNumbers) (s : StateNumbers) (rp wp vpp k : ℕ) (xs w sc : List ℕ) → Unique (λ (r : RanNumbers). r ≡ verifyRunOf d s rp wp vpp k xs w sc)
+verify-run-unique d s rp wp vpp k xs w sc = only (verifyRunOf d s rp wp vpp k xs w sc)
 
-pub verify-run-array-unique : (d : DeviceNumbers) (s : StateNumbers) (rp vpp k : ℕ) (xs w sc : List ℕ) → Unique (λ (left : List ℕ). left ≡ arrayVerifyRun d s rp vpp k xs w sc)
-verify-run-array-unique d s rp vpp k xs w sc = only (arrayVerifyRun d s rp vpp k xs w sc)
+pub verify-run-array-unique : (d : DeviceNumbers) (s : StateNumbers) (rp wp vpp k : ℕ) (xs w sc : List ℕ) → Unique (λ (left : List ℕ). left ≡ arrayVerifyRun d s rp wp vpp k xs w sc)
+verify-run-array-unique d s rp wp vpp k xs w sc = only (arrayVerifyRun d s rp wp vpp k xs w sc)
 
-pub verify-run-scratch-unique : (d : DeviceNumbers) (s : StateNumbers) (rp vpp k : ℕ) (xs w sc : List ℕ) → Unique (λ (left : List ℕ). left ≡ scratchVerifyRun d s rp vpp k xs w sc)
-verify-run-scratch-unique d s rp vpp k xs w sc = only (scratchVerifyRun d s rp vpp k xs w sc)
+pub verify-run-scratch-unique : (d : DeviceNumbers) (s : StateNumbers) (rp wp vpp k : ℕ) (xs w sc : List ℕ) → Unique (λ (left : List ℕ). left ≡ scratchVerifyRun d s rp wp vpp k xs w sc)
+verify-run-scratch-unique d s rp wp vpp k xs w sc = only (scratchVerifyRun d s rp wp vpp k xs w sc)
 
-pub verify-file-unique : (d : DeviceNumbers) (s : StateNumbers) (rp vpp k : ℕ) (f : List ℕ) (asked : ℕ) (xs w sc : List ℕ) → Unique (λ (r : RanNumbers). r ≡ verifyFileOf d s rp vpp k f asked xs w sc)
-verify-file-unique d s rp vpp k f asked xs w sc = only (verifyFileOf d s rp vpp k f asked xs w sc)
+pub verify-file-unique : (d : DeviceNumbers) (s : StateNumbers) (rp wp vpp k : ℕ) (f : List ℕ) (asked : ℕ) (xs w sc : List ℕ) → Unique (λ (r : RanNumbers). r ≡ verifyFileOf d s rp wp vpp k f asked xs w sc)
+verify-file-unique d s rp wp vpp k f asked xs w sc = only (verifyFileOf d s rp wp vpp k f asked xs w sc)
 
-pub verify-file-array-unique : (d : DeviceNumbers) (s : StateNumbers) (rp vpp k : ℕ) (f : List ℕ) (asked : ℕ) (xs w sc : List ℕ) → Unique (λ (left : List ℕ). left ≡ arrayVerifyFile d s rp vpp k f asked xs w sc)
-verify-file-array-unique d s rp vpp k f asked xs w sc = only (arrayVerifyFile d s rp vpp k f asked xs w sc)
+pub verify-file-array-unique : (d : DeviceNumbers) (s : StateNumbers) (rp wp vpp k : ℕ) (f : List ℕ) (asked : ℕ) (xs w sc : List ℕ) → Unique (λ (left : List ℕ). left ≡ arrayVerifyFile d s rp wp vpp k f asked xs w sc)
+verify-file-array-unique d s rp wp vpp k f asked xs w sc = only (arrayVerifyFile d s rp wp vpp k f asked xs w sc)
 
-pub verify-file-wanted-unique : (d : DeviceNumbers) (s : StateNumbers) (rp vpp k : ℕ) (f : List ℕ) (asked : ℕ) (xs w sc : List ℕ) → Unique (λ (left : List ℕ). left ≡ wantedVerifyFile d s rp vpp k f asked xs w sc)
-verify-file-wanted-unique d s rp vpp k f asked xs w sc = only (wantedVerifyFile d s rp vpp k f asked xs w sc)
+pub verify-file-wanted-unique : (d : DeviceNumbers) (s : StateNumbers) (rp wp vpp k : ℕ) (f : List ℕ) (asked : ℕ) (xs w sc : List ℕ) → Unique (λ (left : List ℕ). left ≡ wantedVerifyFile d s rp wp vpp k f asked xs w sc)
+verify-file-wanted-unique d s rp wp vpp k f asked xs w sc = only (wantedVerifyFile d s rp wp vpp k f asked xs w sc)
 
-pub verify-file-scratch-unique : (d : DeviceNumbers) (s : StateNumbers) (rp vpp k : ℕ) (f : List ℕ) (asked : ℕ) (xs w sc : List ℕ) → Unique (λ (left : List ℕ). left ≡ scratchVerifyFile d s rp vpp k f asked xs w sc)
-verify-file-scratch-unique d s rp vpp k f asked xs w sc = only (scratchVerifyFile d s rp vpp k f asked xs w sc)
+pub verify-file-scratch-unique : (d : DeviceNumbers) (s : StateNumbers) (rp wp vpp k : ℕ) (f : List ℕ) (asked : ℕ) (xs w sc : List ℕ) → Unique (λ (left : List ℕ). left ≡ scratchVerifyFile d s rp wp vpp k f asked xs w sc)
+verify-file-scratch-unique d s rp wp vpp k f asked xs w sc = only (scratchVerifyFile d s rp wp vpp k f asked xs w sc)
 
 pub write-unique : (letter : ℕ) (p out : List ℕ) → Unique (λ (r : SizedNumbers). r ≡ writtenOf letter p out)
 write-unique letter p out = only (writtenOf letter p out)

@@ -4,16 +4,17 @@ use mathlib.Core.List.{List}
 use Prim.Native.Nat.{ℕ}
 use lib.ListN.{length}
 use lib.IntN.{ℤ}
-use Rattle.model.specs.Arrays.{answerOf, arrayAfter}
+use Rattle.units.specs.Units.{units, lent}
+use Rattle.model.specs.Arrays.{answerOf, bytesAfter}
 use Rattle.loader.specs.declared.Stage.{Stage}
 use Rattle.loader.specs.declared.Stage.the-variants.{Clearing, Closing}
 use Rattle.loader.specs.declared.Given.{Given}
-use Rattle.loader_steps.specs.Front.{startAt, stepGiven, scratchAfter}
+use Rattle.loader_steps.specs.Front.{startAt, stepGiven, scratchLeft}
 use Rattle.loader_run.specs.declared.Ran.{Ran}
-use Rattle.loader_run.specs.Runs.{runLeftAt}
+use Rattle.loader_run.specs.Runs.{lentLeftAt}
 use Rattle.loader_from_file.specs.Loads.{fileLeftAt}
 use Rattle.file_codec.specs.File.{limit, inRoom, leftIn, readerOf, writerOf, readAs, writtenAs}
-use Rattle.c_cycle.specs.Values.{stateOut, deviceIn, pinsIn, stateIn, cycleIn}
+use Rattle.c_cycle.specs.Values.{stateOut, partIn, deviceIn, pinsIn, stateIn, cycleIn}
 use Rattle.c_records.specs.Records.{loaderIn, loaderOut, loaderBack, turnOut, writtenOut, readOut, ranOut}
 use Rattle.c_cycle.specs.Answers.{answerOut}
 use Rattle.c_cycle.specs.declared.DeviceNumbers.{DeviceNumbers}
@@ -28,121 +29,130 @@ use Rattle.c_readings.specs.declared.ReadingNumbers.{ReadingNumbers}
 use Rattle.c_readings.specs.Readings.{readingOut, answerNumbers}
 use Rattle.reading.specs.Readings.{readingOf, answerAs}
 
--- a bus cycle: the answer, and the array
+-- whether the device that such numbers name is in word mode, and the part of a record's numbers
+abbrev pub wide : DeviceNumbers → Bool
+wide d = deviceIn d .part .word
+
+abbrev pub wideIn : LoaderNumbers → Bool
+wideIn l = loaderIn l .part .word
+
+-- a bus cycle: the answer, by the units of the lent bytes, and the lent bytes of the array
 unfoldable pub cycled : DeviceNumbers → StateNumbers → BusNumbers → List ℕ → List ℕ → AnswerNumbers
-cycled d s c xs rs = answerOut s (answerOf (deviceIn d) (stateIn s) (cycleIn c) xs rs)
+cycled d s c xs rs = answerOut s (answerOf (deviceIn d) (stateIn s) (cycleIn c) (lent (wide d) xs) (units (wide d) rs))
 
 unfoldable pub arrayCycled : DeviceNumbers → StateNumbers → BusNumbers → List ℕ → List ℕ → List ℕ
-arrayCycled d s c xs rs = arrayAfter (deviceIn d) (stateIn s) (cycleIn c) xs rs
+arrayCycled d s c xs rs = bytesAfter (deviceIn d) (stateIn s) (cycleIn c) xs rs
 
 -- what a start says, and the record
 abbrev pub givenOut : Given → GivenNumbers
 givenOut g = record { turn = turnOut (g .turn); loader = loaderOut (g .loader) }
 
 -- a loader's start at a stage, with or without the verify after a load
-unfoldable pub startedAt : Stage → Bool → ℕ → ℕ → ℕ → ℕ → List ℕ → List ℕ → GivenNumbers
-startedAt stage verify part rp vpp k w sc = givenOut (startAt stage verify (record { number = part }) (pinsIn rp vpp) k w sc)
+unfoldable pub startedAt : Stage → Bool → ℕ → ℕ → ℕ → ℕ → ℕ → ℕ → List ℕ → List ℕ → GivenNumbers
+startedAt stage verify part word rp wp vpp k w sc =
+    givenOut (startAt stage verify (partIn part word) (pinsIn rp wp vpp) k (lent (partIn part word .word) w) (lent (partIn part word .word) sc))
 
 -- of a load with the verify after it, of a load alone, of a verify alone
-abbrev pub started : ℕ → ℕ → ℕ → ℕ → List ℕ → List ℕ → GivenNumbers
-started part rp vpp k w sc = startedAt Clearing true part rp vpp k w sc
+abbrev pub started : ℕ → ℕ → ℕ → ℕ → ℕ → ℕ → List ℕ → List ℕ → GivenNumbers
+started part word rp wp vpp k w sc = startedAt Clearing true part word rp wp vpp k w sc
 
-abbrev pub loadStarted : ℕ → ℕ → ℕ → ℕ → List ℕ → List ℕ → GivenNumbers
-loadStarted part rp vpp k w sc = startedAt Clearing false part rp vpp k w sc
+abbrev pub loadStarted : ℕ → ℕ → ℕ → ℕ → ℕ → ℕ → List ℕ → List ℕ → GivenNumbers
+loadStarted part word rp wp vpp k w sc = startedAt Clearing false part word rp wp vpp k w sc
 
-abbrev pub verifyStarted : ℕ → ℕ → ℕ → ℕ → List ℕ → List ℕ → GivenNumbers
-verifyStarted part rp vpp k w sc = startedAt Closing true part rp vpp k w sc
+abbrev pub verifyStarted : ℕ → ℕ → ℕ → ℕ → ℕ → ℕ → List ℕ → List ℕ → GivenNumbers
+verifyStarted part word rp wp vpp k w sc = startedAt Closing true part word rp wp vpp k w sc
 
 -- a loader's step: what it says and the record, and scratch
 unfoldable pub steppedOf : LoaderNumbers → ℕ → List ℕ → List ℕ → GivenNumbers
-steppedOf l b w sc =
-    record { turn = turnOut (stepGiven (loaderIn l) b w sc .turn); loader = loaderBack l (stepGiven (loaderIn l) b w sc .loader) }
+steppedOf l v w sc =
+    let g : Given = stepGiven (loaderIn l) v (lent (wideIn l) w) (lent (wideIn l) sc) in
+    record { turn = turnOut (g .turn); loader = loaderBack l (g .loader) }
 
 unfoldable pub scratchStepped : LoaderNumbers → ℕ → List ℕ → List ℕ → List ℕ
-scratchStepped l b w sc = scratchAfter (loaderIn l) b w sc
+scratchStepped l v w sc = scratchLeft (loaderIn l) v w sc
 
 -- what a run or a load returns, as numbers
 abbrev pub ranNumbers : Ran → RanNumbers
 ranNumbers r = record { count = r .count; end = r .end; address = r .address; state = stateOut (r .state) }
 
 -- from a stage on, with or without the verify after a load: what is returned, the array, and scratch
-unfoldable pub runAtOf : Stage → Bool → DeviceNumbers → StateNumbers → ℕ → ℕ → ℕ → List ℕ → List ℕ → List ℕ → RanNumbers
-runAtOf stage verify d s rp vpp k xs w sc = ranOut s (runLeftAt stage verify (deviceIn d) (stateIn s) (pinsIn rp vpp) k xs w sc .ran)
+unfoldable pub runAtOf : Stage → Bool → DeviceNumbers → StateNumbers → ℕ → ℕ → ℕ → ℕ → List ℕ → List ℕ → List ℕ → RanNumbers
+runAtOf stage verify d s rp wp vpp k xs w sc = ranOut s (lentLeftAt stage verify (deviceIn d) (stateIn s) (pinsIn rp wp vpp) k xs w sc .ran)
 
-unfoldable pub arrayRunAt : Stage → Bool → DeviceNumbers → StateNumbers → ℕ → ℕ → ℕ → List ℕ → List ℕ → List ℕ → List ℕ
-arrayRunAt stage verify d s rp vpp k xs w sc = runLeftAt stage verify (deviceIn d) (stateIn s) (pinsIn rp vpp) k xs w sc .bytes
+unfoldable pub arrayRunAt : Stage → Bool → DeviceNumbers → StateNumbers → ℕ → ℕ → ℕ → ℕ → List ℕ → List ℕ → List ℕ → List ℕ
+arrayRunAt stage verify d s rp wp vpp k xs w sc = lentLeftAt stage verify (deviceIn d) (stateIn s) (pinsIn rp wp vpp) k xs w sc .bytes
 
-unfoldable pub scratchRunAt : Stage → Bool → DeviceNumbers → StateNumbers → ℕ → ℕ → ℕ → List ℕ → List ℕ → List ℕ → List ℕ
-scratchRunAt stage verify d s rp vpp k xs w sc = runLeftAt stage verify (deviceIn d) (stateIn s) (pinsIn rp vpp) k xs w sc .scratch
+unfoldable pub scratchRunAt : Stage → Bool → DeviceNumbers → StateNumbers → ℕ → ℕ → ℕ → ℕ → List ℕ → List ℕ → List ℕ → List ℕ
+scratchRunAt stage verify d s rp wp vpp k xs w sc = lentLeftAt stage verify (deviceIn d) (stateIn s) (pinsIn rp wp vpp) k xs w sc .scratch
 
 -- .. of a run
-abbrev pub runOf : DeviceNumbers → StateNumbers → ℕ → ℕ → ℕ → List ℕ → List ℕ → List ℕ → RanNumbers
-runOf d s rp vpp k xs w sc = runAtOf Clearing true d s rp vpp k xs w sc
+abbrev pub runOf : DeviceNumbers → StateNumbers → ℕ → ℕ → ℕ → ℕ → List ℕ → List ℕ → List ℕ → RanNumbers
+runOf d s rp wp vpp k xs w sc = runAtOf Clearing true d s rp wp vpp k xs w sc
 
-abbrev pub arrayRun : DeviceNumbers → StateNumbers → ℕ → ℕ → ℕ → List ℕ → List ℕ → List ℕ → List ℕ
-arrayRun d s rp vpp k xs w sc = arrayRunAt Clearing true d s rp vpp k xs w sc
+abbrev pub arrayRun : DeviceNumbers → StateNumbers → ℕ → ℕ → ℕ → ℕ → List ℕ → List ℕ → List ℕ → List ℕ
+arrayRun d s rp wp vpp k xs w sc = arrayRunAt Clearing true d s rp wp vpp k xs w sc
 
-abbrev pub scratchRun : DeviceNumbers → StateNumbers → ℕ → ℕ → ℕ → List ℕ → List ℕ → List ℕ → List ℕ
-scratchRun d s rp vpp k xs w sc = scratchRunAt Clearing true d s rp vpp k xs w sc
+abbrev pub scratchRun : DeviceNumbers → StateNumbers → ℕ → ℕ → ℕ → ℕ → List ℕ → List ℕ → List ℕ → List ℕ
+scratchRun d s rp wp vpp k xs w sc = scratchRunAt Clearing true d s rp wp vpp k xs w sc
 
 -- .. of a load alone
-abbrev pub loadRunOf : DeviceNumbers → StateNumbers → ℕ → ℕ → ℕ → List ℕ → List ℕ → List ℕ → RanNumbers
-loadRunOf d s rp vpp k xs w sc = runAtOf Clearing false d s rp vpp k xs w sc
+abbrev pub loadRunOf : DeviceNumbers → StateNumbers → ℕ → ℕ → ℕ → ℕ → List ℕ → List ℕ → List ℕ → RanNumbers
+loadRunOf d s rp wp vpp k xs w sc = runAtOf Clearing false d s rp wp vpp k xs w sc
 
-abbrev pub arrayLoadRun : DeviceNumbers → StateNumbers → ℕ → ℕ → ℕ → List ℕ → List ℕ → List ℕ → List ℕ
-arrayLoadRun d s rp vpp k xs w sc = arrayRunAt Clearing false d s rp vpp k xs w sc
+abbrev pub arrayLoadRun : DeviceNumbers → StateNumbers → ℕ → ℕ → ℕ → ℕ → List ℕ → List ℕ → List ℕ → List ℕ
+arrayLoadRun d s rp wp vpp k xs w sc = arrayRunAt Clearing false d s rp wp vpp k xs w sc
 
-abbrev pub scratchLoadRun : DeviceNumbers → StateNumbers → ℕ → ℕ → ℕ → List ℕ → List ℕ → List ℕ → List ℕ
-scratchLoadRun d s rp vpp k xs w sc = scratchRunAt Clearing false d s rp vpp k xs w sc
+abbrev pub scratchLoadRun : DeviceNumbers → StateNumbers → ℕ → ℕ → ℕ → ℕ → List ℕ → List ℕ → List ℕ → List ℕ
+scratchLoadRun d s rp wp vpp k xs w sc = scratchRunAt Clearing false d s rp wp vpp k xs w sc
 
 -- .. of a verify alone
-abbrev pub verifyRunOf : DeviceNumbers → StateNumbers → ℕ → ℕ → ℕ → List ℕ → List ℕ → List ℕ → RanNumbers
-verifyRunOf d s rp vpp k xs w sc = runAtOf Closing true d s rp vpp k xs w sc
+abbrev pub verifyRunOf : DeviceNumbers → StateNumbers → ℕ → ℕ → ℕ → ℕ → List ℕ → List ℕ → List ℕ → RanNumbers
+verifyRunOf d s rp wp vpp k xs w sc = runAtOf Closing true d s rp wp vpp k xs w sc
 
-abbrev pub arrayVerifyRun : DeviceNumbers → StateNumbers → ℕ → ℕ → ℕ → List ℕ → List ℕ → List ℕ → List ℕ
-arrayVerifyRun d s rp vpp k xs w sc = arrayRunAt Closing true d s rp vpp k xs w sc
+abbrev pub arrayVerifyRun : DeviceNumbers → StateNumbers → ℕ → ℕ → ℕ → ℕ → List ℕ → List ℕ → List ℕ → List ℕ
+arrayVerifyRun d s rp wp vpp k xs w sc = arrayRunAt Closing true d s rp wp vpp k xs w sc
 
-abbrev pub scratchVerifyRun : DeviceNumbers → StateNumbers → ℕ → ℕ → ℕ → List ℕ → List ℕ → List ℕ → List ℕ
-scratchVerifyRun d s rp vpp k xs w sc = scratchRunAt Closing true d s rp vpp k xs w sc
+abbrev pub scratchVerifyRun : DeviceNumbers → StateNumbers → ℕ → ℕ → ℕ → ℕ → List ℕ → List ℕ → List ℕ → List ℕ
+scratchVerifyRun d s rp wp vpp k xs w sc = scratchRunAt Closing true d s rp wp vpp k xs w sc
 
 -- with a file: what is returned, the array, wanted, and scratch
-unfoldable pub fileAtOf : Stage → Bool → DeviceNumbers → StateNumbers → ℕ → ℕ → ℕ → List ℕ → ℕ → List ℕ → List ℕ → List ℕ → RanNumbers
-fileAtOf stage verify d s rp vpp k f asked xs w sc = ranOut s (fileLeftAt stage verify (deviceIn d) (stateIn s) (pinsIn rp vpp) k xs w sc f asked .ran)
+unfoldable pub fileAtOf : Stage → Bool → DeviceNumbers → StateNumbers → ℕ → ℕ → ℕ → ℕ → List ℕ → ℕ → List ℕ → List ℕ → List ℕ → RanNumbers
+fileAtOf stage verify d s rp wp vpp k f asked xs w sc = ranOut s (fileLeftAt stage verify (deviceIn d) (stateIn s) (pinsIn rp wp vpp) k xs w sc f asked .ran)
 
-unfoldable pub arrayFileAt : Stage → Bool → DeviceNumbers → StateNumbers → ℕ → ℕ → ℕ → List ℕ → ℕ → List ℕ → List ℕ → List ℕ → List ℕ
-arrayFileAt stage verify d s rp vpp k f asked xs w sc = fileLeftAt stage verify (deviceIn d) (stateIn s) (pinsIn rp vpp) k xs w sc f asked .bytes
+unfoldable pub arrayFileAt : Stage → Bool → DeviceNumbers → StateNumbers → ℕ → ℕ → ℕ → ℕ → List ℕ → ℕ → List ℕ → List ℕ → List ℕ → List ℕ
+arrayFileAt stage verify d s rp wp vpp k f asked xs w sc = fileLeftAt stage verify (deviceIn d) (stateIn s) (pinsIn rp wp vpp) k xs w sc f asked .bytes
 
-unfoldable pub wantedFileAt : Stage → Bool → DeviceNumbers → StateNumbers → ℕ → ℕ → ℕ → List ℕ → ℕ → List ℕ → List ℕ → List ℕ → List ℕ
-wantedFileAt stage verify d s rp vpp k f asked xs w sc = fileLeftAt stage verify (deviceIn d) (stateIn s) (pinsIn rp vpp) k xs w sc f asked .wanted
+unfoldable pub wantedFileAt : Stage → Bool → DeviceNumbers → StateNumbers → ℕ → ℕ → ℕ → ℕ → List ℕ → ℕ → List ℕ → List ℕ → List ℕ → List ℕ
+wantedFileAt stage verify d s rp wp vpp k f asked xs w sc = fileLeftAt stage verify (deviceIn d) (stateIn s) (pinsIn rp wp vpp) k xs w sc f asked .wanted
 
-unfoldable pub scratchFileAt : Stage → Bool → DeviceNumbers → StateNumbers → ℕ → ℕ → ℕ → List ℕ → ℕ → List ℕ → List ℕ → List ℕ → List ℕ
-scratchFileAt stage verify d s rp vpp k f asked xs w sc = fileLeftAt stage verify (deviceIn d) (stateIn s) (pinsIn rp vpp) k xs w sc f asked .scratch
+unfoldable pub scratchFileAt : Stage → Bool → DeviceNumbers → StateNumbers → ℕ → ℕ → ℕ → ℕ → List ℕ → ℕ → List ℕ → List ℕ → List ℕ → List ℕ
+scratchFileAt stage verify d s rp wp vpp k f asked xs w sc = fileLeftAt stage verify (deviceIn d) (stateIn s) (pinsIn rp wp vpp) k xs w sc f asked .scratch
 
 -- .. of a load from a file, with the verify after it
-abbrev pub loadOf : DeviceNumbers → StateNumbers → ℕ → ℕ → ℕ → List ℕ → ℕ → List ℕ → List ℕ → List ℕ → RanNumbers
-loadOf d s rp vpp k f asked xs w sc = fileAtOf Clearing true d s rp vpp k f asked xs w sc
+abbrev pub loadOf : DeviceNumbers → StateNumbers → ℕ → ℕ → ℕ → ℕ → List ℕ → ℕ → List ℕ → List ℕ → List ℕ → RanNumbers
+loadOf d s rp wp vpp k f asked xs w sc = fileAtOf Clearing true d s rp wp vpp k f asked xs w sc
 
-abbrev pub arrayLoad : DeviceNumbers → StateNumbers → ℕ → ℕ → ℕ → List ℕ → ℕ → List ℕ → List ℕ → List ℕ → List ℕ
-arrayLoad d s rp vpp k f asked xs w sc = arrayFileAt Clearing true d s rp vpp k f asked xs w sc
+abbrev pub arrayLoad : DeviceNumbers → StateNumbers → ℕ → ℕ → ℕ → ℕ → List ℕ → ℕ → List ℕ → List ℕ → List ℕ → List ℕ
+arrayLoad d s rp wp vpp k f asked xs w sc = arrayFileAt Clearing true d s rp wp vpp k f asked xs w sc
 
-abbrev pub wantedLoad : DeviceNumbers → StateNumbers → ℕ → ℕ → ℕ → List ℕ → ℕ → List ℕ → List ℕ → List ℕ → List ℕ
-wantedLoad d s rp vpp k f asked xs w sc = wantedFileAt Clearing true d s rp vpp k f asked xs w sc
+abbrev pub wantedLoad : DeviceNumbers → StateNumbers → ℕ → ℕ → ℕ → ℕ → List ℕ → ℕ → List ℕ → List ℕ → List ℕ → List ℕ
+wantedLoad d s rp wp vpp k f asked xs w sc = wantedFileAt Clearing true d s rp wp vpp k f asked xs w sc
 
-abbrev pub scratchLoad : DeviceNumbers → StateNumbers → ℕ → ℕ → ℕ → List ℕ → ℕ → List ℕ → List ℕ → List ℕ → List ℕ
-scratchLoad d s rp vpp k f asked xs w sc = scratchFileAt Clearing true d s rp vpp k f asked xs w sc
+abbrev pub scratchLoad : DeviceNumbers → StateNumbers → ℕ → ℕ → ℕ → ℕ → List ℕ → ℕ → List ℕ → List ℕ → List ℕ → List ℕ
+scratchLoad d s rp wp vpp k f asked xs w sc = scratchFileAt Clearing true d s rp wp vpp k f asked xs w sc
 
 -- .. of a verify from a file
-abbrev pub verifyFileOf : DeviceNumbers → StateNumbers → ℕ → ℕ → ℕ → List ℕ → ℕ → List ℕ → List ℕ → List ℕ → RanNumbers
-verifyFileOf d s rp vpp k f asked xs w sc = fileAtOf Closing true d s rp vpp k f asked xs w sc
+abbrev pub verifyFileOf : DeviceNumbers → StateNumbers → ℕ → ℕ → ℕ → ℕ → List ℕ → ℕ → List ℕ → List ℕ → List ℕ → RanNumbers
+verifyFileOf d s rp wp vpp k f asked xs w sc = fileAtOf Closing true d s rp wp vpp k f asked xs w sc
 
-abbrev pub arrayVerifyFile : DeviceNumbers → StateNumbers → ℕ → ℕ → ℕ → List ℕ → ℕ → List ℕ → List ℕ → List ℕ → List ℕ
-arrayVerifyFile d s rp vpp k f asked xs w sc = arrayFileAt Closing true d s rp vpp k f asked xs w sc
+abbrev pub arrayVerifyFile : DeviceNumbers → StateNumbers → ℕ → ℕ → ℕ → ℕ → List ℕ → ℕ → List ℕ → List ℕ → List ℕ → List ℕ
+arrayVerifyFile d s rp wp vpp k f asked xs w sc = arrayFileAt Closing true d s rp wp vpp k f asked xs w sc
 
-abbrev pub wantedVerifyFile : DeviceNumbers → StateNumbers → ℕ → ℕ → ℕ → List ℕ → ℕ → List ℕ → List ℕ → List ℕ → List ℕ
-wantedVerifyFile d s rp vpp k f asked xs w sc = wantedFileAt Closing true d s rp vpp k f asked xs w sc
+abbrev pub wantedVerifyFile : DeviceNumbers → StateNumbers → ℕ → ℕ → ℕ → ℕ → List ℕ → ℕ → List ℕ → List ℕ → List ℕ → List ℕ
+wantedVerifyFile d s rp wp vpp k f asked xs w sc = wantedFileAt Closing true d s rp wp vpp k f asked xs w sc
 
-abbrev pub scratchVerifyFile : DeviceNumbers → StateNumbers → ℕ → ℕ → ℕ → List ℕ → ℕ → List ℕ → List ℕ → List ℕ → List ℕ
-scratchVerifyFile d s rp vpp k f asked xs w sc = scratchFileAt Closing true d s rp vpp k f asked xs w sc
+abbrev pub scratchVerifyFile : DeviceNumbers → StateNumbers → ℕ → ℕ → ℕ → ℕ → List ℕ → ℕ → List ℕ → List ℕ → List ℕ → List ℕ
+scratchVerifyFile d s rp wp vpp k f asked xs w sc = scratchFileAt Closing true d s rp wp vpp k f asked xs w sc
 
 -- the writer and the reader: a number and a length, and the buffer that was lent
 unfoldable pub writtenOf : ℕ → List ℕ → List ℕ → SizedNumbers

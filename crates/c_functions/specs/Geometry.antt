@@ -1,4 +1,5 @@
 -- Where a part's blocks lie, as numbers. Assumes nothing.
+use mathlib.Core.Bool.{false}
 use Prim.Native.Nat.{ℕ}
 use Rattle.common.specs.Choice.{if_then_else_}
 use Rattle.device.specs.declared.Part.{Part}
@@ -6,15 +7,15 @@ use Rattle.device.specs.Parts.{unknownPart, sizeOf, startOf, lengthOf}
 use Rattle.loader_steps.specs.Front.{noBlock}
 use Rattle.c_records.specs.declared.BlockNumbers.{BlockNumbers}
 
--- the part of a number
+-- the part of a number, in byte mode: lengths and addresses in bytes are the same in either mode
 abbrev pub partBy : ℕ → Part
-partBy n = record { number = n }
+partBy n = record { number = n; word = false }
 
 -- the bytes of a part's array; 0 for a number that is no part's
 unfoldable pub sizeGiven : ℕ → ℕ
 sizeGiven n = if unknownPart (partBy n) then 0 else sizeOf (partBy n)
 
--- the first address and the bytes of a block; both 0 where there is none
+-- the first byte address and the bytes of a block; both 0 where there is none
 unfoldable pub blockGiven : ℕ → ℕ → BlockNumbers
 blockGiven n k =
     if unknownPart (partBy n) then record { first = 0; length = 0 }

@@ -30,24 +30,30 @@ pub extern "C" fn tb_fresh() -> StateNumbers
     c_cycle::states::state_out(model::fresh())
 }
 
-// The bytes of a part's array; 0 for a number that is no part's.
+// The bytes of a part's array, the same in either mode; 0 for a number that is no part's.
 #[no_mangle]
 pub extern "C" fn tb_size(part: u8) -> usize
     ensures { λ r. ⌜ r ≡ sizeGiven part ⌝ }
 {
-    let known = Part { number: part };
+    let known = Part {
+        number: part,
+        word: false,
+    };
     if device::unknown_part(known) {
         return 0;
     }
     device::size(known)
 }
 
-// The first address and the bytes of a flash block; both 0 where there is none.
+// The first byte address and the bytes of a flash block, the same in either mode; both 0 where there is none.
 #[no_mangle]
 pub extern "C" fn tb_block(part: u8, block: u8) -> BlockNumbers
     ensures { λ r. ⌜ r ≡ blockGiven part block ⌝ }
 {
-    let known = Part { number: part };
+    let known = Part {
+        number: part,
+        word: false,
+    };
     if device::unknown_part(known) {
         return BlockNumbers {
             first: 0,
@@ -101,16 +107,18 @@ fn given_out(g: Given) -> GivenNumbers
 #[no_mangle]
 pub extern "C" fn tb_start(
     part: u8,
+    word: u8,
     rp: u8,
+    wp: u8,
     vpp: u32,
     block: u8,
     wanted: &[u8],
     scratch: &[u8],
 ) -> GivenNumbers
-    ensures { λ r. ⌜ r ≡ started part rp vpp block (now (wanted .entry)) (now (scratch .entry)) ⌝ }
+    ensures { λ r. ⌜ r ≡ started part word rp wp vpp block (now (wanted .entry)) (now (scratch .entry)) ⌝ }
 {
-    let known = Part { number: part };
-    let p = c_cycle::states::pins_in(rp, vpp);
+    let known = c_cycle::states::part_in(part, word);
+    let p = c_cycle::states::pins_in(rp, wp, vpp);
     given_out(loader_steps::front::start(known, p, block, wanted, scratch))
 }
 
@@ -118,16 +126,18 @@ pub extern "C" fn tb_start(
 #[no_mangle]
 pub extern "C" fn tb_load_start(
     part: u8,
+    word: u8,
     rp: u8,
+    wp: u8,
     vpp: u32,
     block: u8,
     wanted: &[u8],
     scratch: &[u8],
 ) -> GivenNumbers
-    ensures { λ r. ⌜ r ≡ loadStarted part rp vpp block (now (wanted .entry)) (now (scratch .entry)) ⌝ }
+    ensures { λ r. ⌜ r ≡ loadStarted part word rp wp vpp block (now (wanted .entry)) (now (scratch .entry)) ⌝ }
 {
-    let known = Part { number: part };
-    let p = c_cycle::states::pins_in(rp, vpp);
+    let known = c_cycle::states::part_in(part, word);
+    let p = c_cycle::states::pins_in(rp, wp, vpp);
     given_out(loader_steps::front::start_load(known, p, block, wanted, scratch))
 }
 
@@ -135,25 +145,27 @@ pub extern "C" fn tb_load_start(
 #[no_mangle]
 pub extern "C" fn tb_verify_start(
     part: u8,
+    word: u8,
     rp: u8,
+    wp: u8,
     vpp: u32,
     block: u8,
     wanted: &[u8],
     scratch: &[u8],
 ) -> GivenNumbers
-    ensures { λ r. ⌜ r ≡ verifyStarted part rp vpp block (now (wanted .entry)) (now (scratch .entry)) ⌝ }
+    ensures { λ r. ⌜ r ≡ verifyStarted part word rp wp vpp block (now (wanted .entry)) (now (scratch .entry)) ⌝ }
 {
-    let known = Part { number: part };
-    let p = c_cycle::states::pins_in(rp, vpp);
+    let known = c_cycle::states::part_in(part, word);
+    let p = c_cycle::states::pins_in(rp, wp, vpp);
     given_out(loader_steps::front::start_verify(known, p, block, wanted, scratch))
 }
 
 // A loader's step on numbers, by value.
-pub fn stepped(l: LoaderNumbers, byte: u8, wanted: &[u8], scratch: &mut [u8]) -> GivenNumbers
-    ensures { λ r. ⌜ (r ≡ steppedOf l byte (now (wanted .entry)) (now (scratch .entry)))
-        × (now (scratch .exit) ≡ scratchStepped l byte (now (wanted .entry)) (now (scratch .entry))) ⌝ }
+pub fn stepped(l: LoaderNumbers, value: u16, wanted: &[u8], scratch: &mut [u8]) -> GivenNumbers
+    ensures { λ r. ⌜ (r ≡ steppedOf l value (now (wanted .entry)) (now (scratch .entry)))
+        × (now (scratch .exit) ≡ scratchStepped l value (now (wanted .entry)) (now (scratch .entry))) ⌝ }
 {
-    let g = loader_steps::front::step(c_records::records::loader_in(l), byte, wanted, scratch);
+    let g = loader_steps::front::step(c_records::records::loader_in(l), value, wanted, scratch);
     let turn = g.turn;
     let moved = g.loader;
     GivenNumbers {
@@ -166,15 +178,15 @@ pub fn stepped(l: LoaderNumbers, byte: u8, wanted: &[u8], scratch: &mut [u8]) ->
 #[no_mangle]
 pub extern "C" fn tb_step(
     loader: &mut LoaderNumbers,
-    byte: u8,
+    value: u16,
     wanted: &[u8],
     scratch: &mut [u8],
 ) -> TurnNumbers
-    ensures { λ r. ⌜ (now (loader .exit) ≡ steppedOf (now (loader .entry)) byte (now (wanted .entry)) (now (scratch .entry)) .loader)
-        × (r ≡ steppedOf (now (loader .entry)) byte (now (wanted .entry)) (now (scratch .entry)) .turn)
-        × (now (scratch .exit) ≡ scratchStepped (now (loader .entry)) byte (now (wanted .entry)) (now (scratch .entry))) ⌝ }
+    ensures { λ r. ⌜ (now (loader .exit) ≡ steppedOf (now (loader .entry)) value (now (wanted .entry)) (now (scratch .entry)) .loader)
+        × (r ≡ steppedOf (now (loader .entry)) value (now (wanted .entry)) (now (scratch .entry)) .turn)
+        × (now (scratch .exit) ≡ scratchStepped (now (loader .entry)) value (now (wanted .entry)) (now (scratch .entry))) ⌝ }
 {
-    let g = stepped(*loader, byte, wanted, scratch);
+    let g = stepped(*loader, value, wanted, scratch);
     *loader = g.loader;
     g.turn
 }
@@ -185,19 +197,20 @@ pub extern "C" fn tb_run(
     device: DeviceNumbers,
     state: StateNumbers,
     rp: u8,
+    wp: u8,
     vpp: u32,
     block: u8,
     array: &mut [u8],
     wanted: &[u8],
     scratch: &mut [u8],
 ) -> RanNumbers
-    ensures { λ r. ⌜ r ≡ runOf device state rp vpp block (now (array .entry)) (now (wanted .entry)) (now (scratch .entry)) ⌝ }
-    ensures { λ _. ⌜ now (array .exit) ≡ arrayRun device state rp vpp block (now (array .entry)) (now (wanted .entry)) (now (scratch .entry)) ⌝ }
-    ensures { λ _. ⌜ now (scratch .exit) ≡ scratchRun device state rp vpp block (now (array .entry)) (now (wanted .entry)) (now (scratch .entry)) ⌝ }
+    ensures { λ r. ⌜ r ≡ runOf device state rp wp vpp block (now (array .entry)) (now (wanted .entry)) (now (scratch .entry)) ⌝ }
+    ensures { λ _. ⌜ now (array .exit) ≡ arrayRun device state rp wp vpp block (now (array .entry)) (now (wanted .entry)) (now (scratch .entry)) ⌝ }
+    ensures { λ _. ⌜ now (scratch .exit) ≡ scratchRun device state rp wp vpp block (now (array .entry)) (now (wanted .entry)) (now (scratch .entry)) ⌝ }
 {
     let d = c_cycle::states::device_in(device);
     let s = c_cycle::states::state_in(state);
-    let p = c_cycle::states::pins_in(rp, vpp);
+    let p = c_cycle::states::pins_in(rp, wp, vpp);
     let r = loader_run::run(d, s, p, block, array, wanted, scratch);
     c_records::runs::ran_out(state, r)
 }
@@ -208,19 +221,20 @@ pub extern "C" fn tb_load_run(
     device: DeviceNumbers,
     state: StateNumbers,
     rp: u8,
+    wp: u8,
     vpp: u32,
     block: u8,
     array: &mut [u8],
     wanted: &[u8],
     scratch: &mut [u8],
 ) -> RanNumbers
-    ensures { λ r. ⌜ r ≡ loadRunOf device state rp vpp block (now (array .entry)) (now (wanted .entry)) (now (scratch .entry)) ⌝ }
-    ensures { λ _. ⌜ now (array .exit) ≡ arrayLoadRun device state rp vpp block (now (array .entry)) (now (wanted .entry)) (now (scratch .entry)) ⌝ }
-    ensures { λ _. ⌜ now (scratch .exit) ≡ scratchLoadRun device state rp vpp block (now (array .entry)) (now (wanted .entry)) (now (scratch .entry)) ⌝ }
+    ensures { λ r. ⌜ r ≡ loadRunOf device state rp wp vpp block (now (array .entry)) (now (wanted .entry)) (now (scratch .entry)) ⌝ }
+    ensures { λ _. ⌜ now (array .exit) ≡ arrayLoadRun device state rp wp vpp block (now (array .entry)) (now (wanted .entry)) (now (scratch .entry)) ⌝ }
+    ensures { λ _. ⌜ now (scratch .exit) ≡ scratchLoadRun device state rp wp vpp block (now (array .entry)) (now (wanted .entry)) (now (scratch .entry)) ⌝ }
 {
     let d = c_cycle::states::device_in(device);
     let s = c_cycle::states::state_in(state);
-    let p = c_cycle::states::pins_in(rp, vpp);
+    let p = c_cycle::states::pins_in(rp, wp, vpp);
     let r = loader_run::run_load(d, s, p, block, array, wanted, scratch);
     c_records::runs::ran_out(state, r)
 }
@@ -231,19 +245,20 @@ pub extern "C" fn tb_verify_run(
     device: DeviceNumbers,
     state: StateNumbers,
     rp: u8,
+    wp: u8,
     vpp: u32,
     block: u8,
     array: &mut [u8],
     wanted: &[u8],
     scratch: &mut [u8],
 ) -> RanNumbers
-    ensures { λ r. ⌜ r ≡ verifyRunOf device state rp vpp block (now (array .entry)) (now (wanted .entry)) (now (scratch .entry)) ⌝ }
-    ensures { λ _. ⌜ now (array .exit) ≡ arrayVerifyRun device state rp vpp block (now (array .entry)) (now (wanted .entry)) (now (scratch .entry)) ⌝ }
-    ensures { λ _. ⌜ now (scratch .exit) ≡ scratchVerifyRun device state rp vpp block (now (array .entry)) (now (wanted .entry)) (now (scratch .entry)) ⌝ }
+    ensures { λ r. ⌜ r ≡ verifyRunOf device state rp wp vpp block (now (array .entry)) (now (wanted .entry)) (now (scratch .entry)) ⌝ }
+    ensures { λ _. ⌜ now (array .exit) ≡ arrayVerifyRun device state rp wp vpp block (now (array .entry)) (now (wanted .entry)) (now (scratch .entry)) ⌝ }
+    ensures { λ _. ⌜ now (scratch .exit) ≡ scratchVerifyRun device state rp wp vpp block (now (array .entry)) (now (wanted .entry)) (now (scratch .entry)) ⌝ }
 {
     let d = c_cycle::states::device_in(device);
     let s = c_cycle::states::state_in(state);
-    let p = c_cycle::states::pins_in(rp, vpp);
+    let p = c_cycle::states::pins_in(rp, wp, vpp);
     let r = loader_run::run_verify(d, s, p, block, array, wanted, scratch);
     c_records::runs::ran_out(state, r)
 }
@@ -254,6 +269,7 @@ pub extern "C" fn tb_load(
     device: DeviceNumbers,
     state: StateNumbers,
     rp: u8,
+    wp: u8,
     vpp: u32,
     block: u8,
     letter: u8,
@@ -262,14 +278,14 @@ pub extern "C" fn tb_load(
     wanted: &mut [u8],
     scratch: &mut [u8],
 ) -> RanNumbers
-    ensures { λ r. ⌜ r ≡ loadOf device state rp vpp block (now (file .entry)) letter (now (array .entry)) (now (wanted .entry)) (now (scratch .entry)) ⌝ }
-    ensures { λ _. ⌜ now (array .exit) ≡ arrayLoad device state rp vpp block (now (file .entry)) letter (now (array .entry)) (now (wanted .entry)) (now (scratch .entry)) ⌝ }
-    ensures { λ _. ⌜ now (wanted .exit) ≡ wantedLoad device state rp vpp block (now (file .entry)) letter (now (array .entry)) (now (wanted .entry)) (now (scratch .entry)) ⌝ }
-    ensures { λ _. ⌜ now (scratch .exit) ≡ scratchLoad device state rp vpp block (now (file .entry)) letter (now (array .entry)) (now (wanted .entry)) (now (scratch .entry)) ⌝ }
+    ensures { λ r. ⌜ r ≡ loadOf device state rp wp vpp block (now (file .entry)) letter (now (array .entry)) (now (wanted .entry)) (now (scratch .entry)) ⌝ }
+    ensures { λ _. ⌜ now (array .exit) ≡ arrayLoad device state rp wp vpp block (now (file .entry)) letter (now (array .entry)) (now (wanted .entry)) (now (scratch .entry)) ⌝ }
+    ensures { λ _. ⌜ now (wanted .exit) ≡ wantedLoad device state rp wp vpp block (now (file .entry)) letter (now (array .entry)) (now (wanted .entry)) (now (scratch .entry)) ⌝ }
+    ensures { λ _. ⌜ now (scratch .exit) ≡ scratchLoad device state rp wp vpp block (now (file .entry)) letter (now (array .entry)) (now (wanted .entry)) (now (scratch .entry)) ⌝ }
 {
     let d = c_cycle::states::device_in(device);
     let s = c_cycle::states::state_in(state);
-    let p = c_cycle::states::pins_in(rp, vpp);
+    let p = c_cycle::states::pins_in(rp, wp, vpp);
     let r = loader_from_file::load(d, s, p, block, array, wanted, scratch, file, letter);
     c_records::runs::ran_out(state, r)
 }
@@ -280,6 +296,7 @@ pub extern "C" fn tb_verify_file(
     device: DeviceNumbers,
     state: StateNumbers,
     rp: u8,
+    wp: u8,
     vpp: u32,
     block: u8,
     letter: u8,
@@ -288,14 +305,14 @@ pub extern "C" fn tb_verify_file(
     wanted: &mut [u8],
     scratch: &mut [u8],
 ) -> RanNumbers
-    ensures { λ r. ⌜ r ≡ verifyFileOf device state rp vpp block (now (file .entry)) letter (now (array .entry)) (now (wanted .entry)) (now (scratch .entry)) ⌝ }
-    ensures { λ _. ⌜ now (array .exit) ≡ arrayVerifyFile device state rp vpp block (now (file .entry)) letter (now (array .entry)) (now (wanted .entry)) (now (scratch .entry)) ⌝ }
-    ensures { λ _. ⌜ now (wanted .exit) ≡ wantedVerifyFile device state rp vpp block (now (file .entry)) letter (now (array .entry)) (now (wanted .entry)) (now (scratch .entry)) ⌝ }
-    ensures { λ _. ⌜ now (scratch .exit) ≡ scratchVerifyFile device state rp vpp block (now (file .entry)) letter (now (array .entry)) (now (wanted .entry)) (now (scratch .entry)) ⌝ }
+    ensures { λ r. ⌜ r ≡ verifyFileOf device state rp wp vpp block (now (file .entry)) letter (now (array .entry)) (now (wanted .entry)) (now (scratch .entry)) ⌝ }
+    ensures { λ _. ⌜ now (array .exit) ≡ arrayVerifyFile device state rp wp vpp block (now (file .entry)) letter (now (array .entry)) (now (wanted .entry)) (now (scratch .entry)) ⌝ }
+    ensures { λ _. ⌜ now (wanted .exit) ≡ wantedVerifyFile device state rp wp vpp block (now (file .entry)) letter (now (array .entry)) (now (wanted .entry)) (now (scratch .entry)) ⌝ }
+    ensures { λ _. ⌜ now (scratch .exit) ≡ scratchVerifyFile device state rp wp vpp block (now (file .entry)) letter (now (array .entry)) (now (wanted .entry)) (now (scratch .entry)) ⌝ }
 {
     let d = c_cycle::states::device_in(device);
     let s = c_cycle::states::state_in(state);
-    let p = c_cycle::states::pins_in(rp, vpp);
+    let p = c_cycle::states::pins_in(rp, wp, vpp);
     let r = loader_from_file::verify_from_file(
         d,
         s,

@@ -65,7 +65,11 @@ fn end_out(stage: Stage) -> u8
 fn no_record(n: LoaderNumbers) -> bool
     ensures { λ r. ⌜ r ≡ noRecord n ⌝ }
 {
-    (11 < n.stage) | (!(n.end == 0) & !(n.stage == 11)) | (1 < n.verify) | (1 < n.word) | (1 < n.high)
+    (11 < n.stage)
+        | (!(n.end == 0) & !(n.stage == 11))
+        | (1 < n.verify)
+        | (1 < n.word)
+        | (1 < n.high)
 }
 
 fn polls_in(n: LoaderNumbers) -> u32

@@ -13,9 +13,9 @@ static void stopped(int number) {
 
 int main(void) {
     static uint8_t array[16384], both[512];
-    tb_device device = {TB_BENCH_T, 2, 3, 1};
+    tb_device device = {.number = TB_BENCH_T, .program = 2, .erase = 3, .suspend = 1};
     memset(both, 0x5A, sizeof both);
     signal(SIGABRT, stopped);
-    tb_ran ran = tb_run(device, tb_fresh(), TB_RP_HIGH, 12000, 1, array, sizeof array, both, sizeof both, both, sizeof both);
+    tb_ran ran = tb_run(device, tb_fresh(), TB_RP_HIGH, TB_WP_LOW, 12000, 1, array, sizeof array, both, sizeof both, both, sizeof both);
     return ran.end == TB_OK && ran.count == 2 * sizeof both + 3 && array[tb_block(TB_BENCH_T, 1).first] == 0 ? 0 : 1;
 }

@@ -1,8 +1,9 @@
 use borrow.Author.Needs.{needs}
 use mathlib.Core.Path.{_≡_, ap, _∙_}
+use Rattle.units.specs.Units.{lent}
 use Rattle.loader.specs.declared.Loader.{Loader}
 use Rattle.loader.specs.declared.Given.{Given}
-use Rattle.loader_steps.specs.Front.{stepGiven, scratchAfter}
+use Rattle.loader_steps.specs.Front.{stepGiven, scratchLeft}
 use Rattle.c_records.specs.Records.{loaderIn, turnOut, loaderBack}
 use Rattle.c_functions.specs.Calls.{steppedOf, scratchStepped}
 use Rattle.c_functions.proofs.stepped.Statement.{statement}
@@ -30,12 +31,12 @@ returns c =
     let w = a .wanted .now in
     let sc = a .scratch .now in
     let e : c .before .before .before .before .before .before .before .loader-in .result ≡ loaderIn (a .l) = c .before .before .before .before .before .before .before .loader-in .ensures in
-    let g : c .before .before .before .before .before .step .result ≡ stepGiven (loaderIn (a .l)) (a .byte) w sc =
-    c .before .before .before .before .before .step .ensures .0 ∙ ap (λ (l : Loader). stepGiven l (a .byte) w sc) e in
+    let g : c .before .before .before .before .before .step .result ≡ stepGiven (loaderIn (a .l)) (a .value) (lent (loaderIn (a .l) .part .word) w) (lent (loaderIn (a .l) .part .word) sc) =
+    c .before .before .before .before .before .step .ensures .0 ∙ ap (λ (l : Loader). stepGiven l (a .value) (lent (l .part .word) w) (lent (l .part .word) sc)) e in
     let turn = c .before .turn-out .ensures ∙ ap (λ (x : Given). turnOut (x .turn)) g in
     let loader = c .loader-back .ensures ∙ ap (λ (x : Given). loaderBack (a .l) (x .loader)) g in (
       λ i. record { turn = turn i; loader = loader i },
-      c .before .before .before .before .before .step .ensures .1 ∙ ap (λ (l : Loader). scratchAfter l (a .byte) w sc) e,
+      c .before .before .before .before .before .step .ensures .1 ∙ ap (λ (l : Loader). scratchLeft l (a .value) w sc) e,
     )
 
 pub stepped-spec : {M : Type 1} → statement M
