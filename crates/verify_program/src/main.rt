@@ -57,19 +57,26 @@ fn say_ran(x: Ran) {
     }
 }
 
-// The verify on a fresh part with RP# high and no 12 V.
+// The verify on a fresh part with RP# high and VPP low, in byte mode: what the bytes of a block are does not depend on the mode.
 fn verified(image: &mut [u8], number: u8, block: u8, file: &[u8], letter: u8) -> Ran {
-    let part = Part { number: number };
+    let part = Part {
+        number: number,
+        word: false,
+    };
     let d = Device {
         part: part,
         program: 1,
         erase: 1,
         suspend: 1,
     };
-    let pins = Pins { rp: 1, vpp: 0 };
-    let mut wanted = [0u8; 114688];
-    let mut scratch = [0u8; 114688];
-    let n = common::least(device::length(part, block), 114688);
+    let pins = Pins {
+        rp: 1,
+        vpp: 0,
+        wp: 0,
+    };
+    let mut wanted = [0u8; 131072];
+    let mut scratch = [0u8; 131072];
+    let n = common::least(device::length(part, block), 131072);
     let state = model::fresh();
     loader_from_file::verify_from_file(
         d,
@@ -103,15 +110,20 @@ fn fetched(k: usize, into: &mut [u8]) -> usize {
     m
 }
 
-// Image and file are fetched, with a byte more than the longest image and a block more than the longest file: so what is too long is seen.
-fn with_numbers(number: u8, block: u8, letter: u8) {
-    let mut image = [0u8; 131073];
+// The file is fetched, with a block more than the longest: so what is too long is seen. Of the image the first n bytes are held against it.
+fn against(image: &mut [u8], n: usize, number: u8, block: u8, letter: u8) {
     let mut file = [0u8; 115200];
-    let n = fetched(1, &mut image);
     let m = fetched(4, &mut file);
-    let a = common::least(n, 131073);
+    let a = common::least(n, image.len());
     let b = common::least(m, 115200);
     say_ran(verified(&mut image[0..a], number, block, &file[0..b], letter));
+}
+
+// The image is fetched, with a byte more than the longest.
+fn with_numbers(number: u8, block: u8, letter: u8) {
+    let mut image = [0u8; 524289];
+    let n = fetched(1, &mut image);
+    against(&mut image, n, number, block, letter);
 }
 
 // The digit that an argument is; 255 where it is none.
