@@ -7,8 +7,9 @@ verify_help() {
     cat <<'TXT'
 usage: torfbarke verify IMAGE DEVICE BLOCK FILE LETTER
 
-IMAGE is a dump of a part, all its bytes from address 0 on: 131,072 of devices 1 and 2, 16,384 of devices 3 and 4. BLOCK is the flash block, 0
-(boot) to 3 (main). FILE is the load file that the block must hold, FFH behind it, and LETTER the one of the menu. One line comes: 'the block
+IMAGE is a dump of a part, all its bytes from address 0 on: 131,072 of devices 1 and 2, 16,384 of 3 and 4, 262,144 of 5 and 6,
+524,288 of 7 and 8. BLOCK is the flash block, 0
+(boot) to 3 (main), to 4 on 5 and 6, to 6 on 7 and 8. FILE is the load file that the block must hold, FFH behind it, and LETTER the one of the menu. One line comes: 'the block
 holds the file'; or 'differs at' and the first address that differs, in hexadecimal; or 'refused', the number and what it means.
 
 Exit status: 0 the block holds the file, 1 it differs or is refused, 2 a wrong call, 3 the program could not be built.
