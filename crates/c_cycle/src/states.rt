@@ -99,8 +99,8 @@ pub fn pins_in(rp: u8, wp: u8, vpp: u32) -> Pins
 {
     Pins {
         rp: rp,
-        vpp: vpp,
         wp: wp,
+        vpp: vpp,
     }
 }
 

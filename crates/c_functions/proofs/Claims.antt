@@ -13,6 +13,7 @@ use Rattle.model_types.specs.declared.Cycle.{Cycle}
 use Rattle.model_types.specs.declared.State.{State}
 use Rattle.model_types.specs.States.{improper}
 use Rattle.units.specs.Units.{units, lent, bytesIn}
+use Rattle.units.specs.Address.{byteOf}
 use Rattle.model.specs.Arrays.{answerOf, bytesAfter}
 use Rattle.loader.specs.declared.Stage.{Stage}
 use Rattle.loader.specs.Stages.{isEnded}
@@ -68,7 +69,7 @@ pub size-either : (n : ℕ) (w : Bool) → unknownPart (record { number = n; wor
 size-either = returned.size-either
 
 pub block-either : (n k : ℕ) (w : Bool) → unknownPart (record { number = n; word = w }) ≡ false → noBlock (record { number = n; word = w }) k ≡ false
-    → blockGiven n k ≡ record { first = bytesIn w (startOf (record { number = n; word = w }) k); length = bytesIn w (lengthOf (record { number = n; word = w }) k) }
+    → blockGiven n k ≡ record { first = byteOf w (startOf (record { number = n; word = w }) k); length = bytesIn w (lengthOf (record { number = n; word = w }) k) }
 block-either = returned.block-either
 
 pub run-no-state : (stage : Stage) (verify : Bool) (d : DeviceNumbers) (s : StateNumbers) (rp wp vpp k : ℕ) (xs w sc : List ℕ) → unknownDevice (deviceIn d) ≡ false → length xs ≡ bytesIn (deviceIn d .part .word) (sizeOf (deviceIn d .part))

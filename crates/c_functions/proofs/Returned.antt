@@ -14,6 +14,7 @@ use Rattle.common.proofs.Numbers.{foremost-given}
 use Rattle.device.specs.declared.Device.{Device}
 use Rattle.device.specs.Parts.{unknownPart, unknownDevice, sizeOf, lengthOf, startOf}
 use Rattle.device.proofs.Claims as device-claims
+use Rattle.model_types.proofs.Claims as types-claims
 use Rattle.model_types.specs.declared.Pins.{Pins}
 use Rattle.model_types.specs.declared.Cycle.{Cycle}
 use Rattle.model_types.specs.declared.State.{State}
@@ -22,6 +23,7 @@ use Rattle.model.specs.declared.Answer.{Answer}
 use Rattle.model.specs.declared.Seen.{Seen}
 use Rattle.model.specs.declared.Seen.the-variants.{NoData, Data, Refused}
 use Rattle.units.specs.Units.{units, lent, lentIn, bytesIn}
+use Rattle.units.specs.Address.{byteOf}
 use Rattle.units.proofs.Widths.{lent-length}
 use Rattle.model.specs.Arrays.{answerOf, bytesAfter}
 use Rattle.model.proofs.Claims as model-claims
@@ -342,11 +344,11 @@ size-either n false e = if-false (unknownPart (partBy n)) 0 (sizeOf (partBy n)) 
 size-either n true e = if-false (unknownPart (partBy n)) 0 (sizeOf (partBy n)) (still-known n e) ∙ device-claims.sizes-halved n
 
 pub block-either : (n k : ℕ) (w : Bool) → unknownPart (record { number = n; word = w }) ≡ false → noBlock (record { number = n; word = w }) k ≡ false
-    → blockGiven n k ≡ record { first = bytesIn w (startOf (record { number = n; word = w }) k); length = bytesIn w (lengthOf (record { number = n; word = w }) k) }
+    → blockGiven n k ≡ record { first = byteOf w (startOf (record { number = n; word = w }) k); length = bytesIn w (lengthOf (record { number = n; word = w }) k) }
 unfolding blockGiven
 block-either n k false e h =
     if-false (unknownPart (partBy n)) _ _ e ∙ if-false (noBlock (partBy n) k) _ _ h
 block-either n k true e h =
-    let a = device-claims.starts-halved n k in
+    let a = types-claims.starts-at-words n k in
     let b = device-claims.lengths-halved n k in
     if-false (unknownPart (partBy n)) _ _ (still-known n e) ∙ if-false (noBlock (partBy n) k) _ _ (still-there n k h) ∙ (λ i. record { first = a i; length = b i })

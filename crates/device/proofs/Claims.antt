@@ -9,7 +9,7 @@ use Rattle.device.specs.Parts.{rowOf, inWords, shapeOf, sizeIn, lengthIn
 use Rattle.device.specs.declared.Part.{Part}
 use Rattle.device.proofs.Cover.{covered, alone, ends-inside}
 use Rattle.device.proofs.Place.{named, sole, fits, size-some}
-use Rattle.device.proofs.Twice.{inBytes, wordWide, size-twice, block-length-twice, start-twice, both-bytes}
+use Rattle.device.proofs.Twice.{inBytes, wordWide, size-twice, block-length-twice}
 
 -- For any list of lengths: every place is in the block named for it, in no other, and every block ends inside.
 pub lists-cover : (ls : List ℕ) (p : ℕ) → p < unitsOfAll ls → Lies ls (holder ls p) p
@@ -46,30 +46,31 @@ four-devices = (refl, refl, refl, refl)
 
 -- Devices 5 to 8, lengths and addresses in bytes in byte mode and in words in word mode.
 pub wide-devices :
-    (wideRow 5 false ≡ 0x3C000 ∷ 16384 ∷ 0x3A000 ∷ 8192 ∷ 0x38000 ∷ 8192 ∷ 0x20000 ∷ 98304 ∷ 0x00000 ∷ 131072 ∷ 0 ∷ 0 ∷ 262144 ∷ 0x74 ∷ [])
-    × (wideRow 6 false ≡ 0x00000 ∷ 16384 ∷ 0x04000 ∷ 8192 ∷ 0x06000 ∷ 8192 ∷ 0x08000 ∷ 98304 ∷ 0x20000 ∷ 131072 ∷ 0 ∷ 0 ∷ 262144 ∷ 0x75 ∷ [])
-    × (wideRow 7 false ≡ 0x7C000 ∷ 16384 ∷ 0x7A000 ∷ 8192 ∷ 0x78000 ∷ 8192 ∷ 0x60000 ∷ 98304 ∷ 0x40000 ∷ 131072 ∷ 131072 ∷ 131072 ∷ 524288 ∷ 0x70 ∷ [])
-    × (wideRow 8 false ≡ 0x00000 ∷ 16384 ∷ 0x04000 ∷ 8192 ∷ 0x06000 ∷ 8192 ∷ 0x08000 ∷ 98304 ∷ 0x20000 ∷ 131072 ∷ 131072 ∷ 131072 ∷ 524288 ∷ 0x71 ∷ [])
-    × (wideRow 5 true ≡ 0x1E000 ∷ 8192 ∷ 0x1D000 ∷ 4096 ∷ 0x1C000 ∷ 4096 ∷ 0x10000 ∷ 49152 ∷ 0x00000 ∷ 65536 ∷ 0 ∷ 0 ∷ 131072 ∷ 0x2274 ∷ [])
-    × (wideRow 6 true ≡ 0x00000 ∷ 8192 ∷ 0x02000 ∷ 4096 ∷ 0x03000 ∷ 4096 ∷ 0x04000 ∷ 49152 ∷ 0x10000 ∷ 65536 ∷ 0 ∷ 0 ∷ 131072 ∷ 0x2275 ∷ [])
-    × (wideRow 7 true ≡ 0x3E000 ∷ 8192 ∷ 0x3D000 ∷ 4096 ∷ 0x3C000 ∷ 4096 ∷ 0x30000 ∷ 49152 ∷ 0x20000 ∷ 65536 ∷ 65536 ∷ 65536 ∷ 262144 ∷ 0x4470 ∷ [])
-    × (wideRow 8 true ≡ 0x00000 ∷ 8192 ∷ 0x02000 ∷ 4096 ∷ 0x03000 ∷ 4096 ∷ 0x04000 ∷ 49152 ∷ 0x10000 ∷ 65536 ∷ 65536 ∷ 65536 ∷ 262144 ∷ 0x4471 ∷ [])
+    (wideRow 5 false
+    ≡ 0x3C000 ∷ 16384 ∷ 0x3A000 ∷ 8192 ∷ 0x38000 ∷ 8192 ∷ 0x20000 ∷ 98304 ∷ 0x00000 ∷ 131072 ∷ 0 ∷ 0 ∷ 0 ∷ 0 ∷ 262144 ∷ 0x74 ∷ [])
+    × (wideRow 6 false
+    ≡ 0x00000 ∷ 16384 ∷ 0x04000 ∷ 8192 ∷ 0x06000 ∷ 8192 ∷ 0x08000 ∷ 98304 ∷ 0x20000 ∷ 131072 ∷ 0 ∷ 0 ∷ 0 ∷ 0 ∷ 262144 ∷ 0x75 ∷ [])
+    × (wideRow 7 false
+    ≡ 0x7C000 ∷ 16384 ∷ 0x7A000 ∷ 8192 ∷ 0x78000 ∷ 8192 ∷ 0x60000 ∷ 98304 ∷ 0x40000 ∷ 131072 ∷ 0x20000 ∷ 131072 ∷ 0x00000 ∷ 131072 ∷ 524288 ∷ 0x70 ∷ [])
+    × (wideRow 8 false
+    ≡ 0x00000 ∷ 16384 ∷ 0x04000 ∷ 8192 ∷ 0x06000 ∷ 8192 ∷ 0x08000 ∷ 98304 ∷ 0x20000 ∷ 131072 ∷ 0x40000 ∷ 131072 ∷ 0x60000 ∷ 131072 ∷ 524288 ∷ 0x71 ∷ [])
+    × (wideRow 5 true
+    ≡ 0x1E000 ∷ 8192 ∷ 0x1D000 ∷ 4096 ∷ 0x1C000 ∷ 4096 ∷ 0x10000 ∷ 49152 ∷ 0x00000 ∷ 65536 ∷ 0 ∷ 0 ∷ 0 ∷ 0 ∷ 131072 ∷ 0x2274 ∷ [])
+    × (wideRow 6 true
+    ≡ 0x00000 ∷ 8192 ∷ 0x02000 ∷ 4096 ∷ 0x03000 ∷ 4096 ∷ 0x04000 ∷ 49152 ∷ 0x10000 ∷ 65536 ∷ 0 ∷ 0 ∷ 0 ∷ 0 ∷ 131072 ∷ 0x2275 ∷ [])
+    × (wideRow 7 true
+    ≡ 0x3E000 ∷ 8192 ∷ 0x3D000 ∷ 4096 ∷ 0x3C000 ∷ 4096 ∷ 0x30000 ∷ 49152 ∷ 0x20000 ∷ 65536 ∷ 0x10000 ∷ 65536 ∷ 0x00000 ∷ 65536 ∷ 262144 ∷ 0x4470 ∷ [])
+    × (wideRow 8 true
+    ≡ 0x00000 ∷ 8192 ∷ 0x02000 ∷ 4096 ∷ 0x03000 ∷ 4096 ∷ 0x04000 ∷ 49152 ∷ 0x10000 ∷ 65536 ∷ 0x20000 ∷ 65536 ∷ 0x30000 ∷ 65536 ∷ 262144 ∷ 0x4471 ∷ [])
 unfolding rowOf inWords shapeOf sizeOf lengthOf startOf codeOf sizeIn lengthIn offsetIn startIn
 wide-devices = (refl, refl, refl, refl, refl, refl, refl, refl)
 
--- The same part in words: every length and every first address is half of that in bytes ..
+-- The same part in words: every length is half of that in bytes. Of addresses model_types speaks, by the one way between the two kinds.
 pub sizes-halved : (n : ℕ) → sizeOf (inBytes n) ≡ 2 * sizeOf (wordWide n)
 sizes-halved = size-twice
 
 pub lengths-halved : (n k : ℕ) → lengthOf (inBytes n) k ≡ 2 * lengthOf (wordWide n) k
 lengths-halved = block-length-twice
-
-pub starts-halved : (n k : ℕ) → startOf (inBytes n) k ≡ 2 * startOf (wordWide n) k
-starts-halved = start-twice
-
--- .. and both bytes of a word lie in the word's block.
-pub words-in-blocks : (n a b : ℕ) → a < sizeOf (wordWide n) → b < 2 → blockOf (inBytes n) (2 * a + b) ≡ blockOf (wordWide n) a
-words-in-blocks = both-bytes
 
 -- Every part has some units.
 pub sizes-some : (p : Part) → 0 < sizeOf p

@@ -121,10 +121,13 @@ tableRow n =
     let p : Part = record { number = n; word = false } in
     startOf p 0 ∷ lastOf p 0 ∷ startOf p 1 ∷ lastOf p 1 ∷ startOf p 2 ∷ lastOf p 2 ∷ startOf p 3 ∷ lastOf p 3 ∷ sizeOf p ∷ codeOf p ∷ []
 
--- a row in the table of devices 5 to 8, in byte mode or in word mode: each block's first address and length, outward from the boot
--- block (where there is none its length is 0), then the size and the identifier code
+-- where block k lies: its first address and its length; 0 and 0 where there is none
+abbrev pub liesAt : Part → ℕ → List ℕ → List ℕ
+liesAt p k rest = (if eqb (lengthOf p k) 0 then 0 else startOf p k) ∷ lengthOf p k ∷ rest
+
+-- a row in the table of devices 5 to 8, in byte mode or in word mode: where each of seven blocks lies, outward from the boot block,
+-- then the size and the identifier code
 abbrev pub wideRow : ℕ → Bool → List ℕ
 wideRow n w =
     let p : Part = record { number = n; word = w } in
-    startOf p 0 ∷ lengthOf p 0 ∷ startOf p 1 ∷ lengthOf p 1 ∷ startOf p 2 ∷ lengthOf p 2 ∷ startOf p 3 ∷ lengthOf p 3 ∷ startOf p 4 ∷ lengthOf p 4
-    ∷ lengthOf p 5 ∷ lengthOf p 6 ∷ sizeOf p ∷ codeOf p ∷ []
+    liesAt p 0 (liesAt p 1 (liesAt p 2 (liesAt p 3 (liesAt p 4 (liesAt p 5 (liesAt p 6 (sizeOf p ∷ codeOf p ∷ [])))))))

@@ -13,7 +13,8 @@ use Rattle.model_types.specs.declared.Mode.the-variants.{Array}
 use Rattle.model_types.specs.declared.State.{State}
 use Rattle.model_types.specs.Levels.{vppHigh, unlocked}
 use Rattle.model_types.specs.States.{atRest}
-use Rattle.units.specs.Units.{units, bytesIn}
+use Rattle.units.specs.Units.{units}
+use Rattle.units.specs.Address.{byteOf}
 use Rattle.loader_run.specs.Runs.{lentRun}
 use Rattle.loader_run_claims.specs.Wear.{heldIn, formula}
 use Rattle.loader_run_claims.specs.Lent.{LentDemand3}
@@ -29,9 +30,9 @@ pub record FileStart (d : Device) (s : State) (p : Pins) (k : ℕ) (xs w sc f : 
   pub high : vppHigh (d .part) p ≡ true
   pub unlock : k ≡ 0 → unlocked (d .part) p 0 ≡ true
 
--- the block's first byte
+-- the byte address of the block's first byte
 abbrev pub firstOf : Device → ℕ → ℕ
-firstOf d k = bytesIn (d .part .word) (startOf (d .part) k)
+firstOf d k = byteOf (d .part .word) (startOf (d .part) k)
 
 -- all of demand 3 holds of the run with the file and FFH as what is wanted, and the load leaves what that run leaves: ended well in the
 -- formula's cycles, counted in units; block, wanted and scratch hold the file and FFH to the end, every byte outside is as before

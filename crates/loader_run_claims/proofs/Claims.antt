@@ -4,7 +4,7 @@ use mathlib.Core.Bool.{true}
 use mathlib.Core.List.{List}
 use mathlib.Core.Logic.{_↔_}
 use Prim.Native.Nat.{ℕ, _+_, _*_, _≤_, _<_}
-use lib.ListN.{length, getD}
+use lib.ListN.{length, getD, replicate}
 use Rattle.model_types.specs.Cells.{ones, Cells}
 use Rattle.common.specs.Numbers.{NoRow}
 use Rattle.device.specs.declared.Device.{Device}
@@ -50,6 +50,10 @@ lent-demand-3 = lending.lent-demand-3 true
 -- WP# high: one computed test.
 pub starts-exist : allStart ≡ true
 starts-exist = anchors.all-start
+
+-- Counts pass 32 bits: a block of 65,536 units or more that holds ones, to be zeros, each programmed in 65,535 cycles.
+pub passes-32-bits : (d : Device) (n : ℕ) → d .program ≡ 65535 → 65536 ≤ n → 4294967296 < formula d (replicate n 0) (replicate n (ones (d .part)))
+passes-32-bits = anchors.passes-32-bits
 
 -- A proper idle start (`Taken`) is just what no number of a run refuses, with busy times up to 65,535 and units of the part's width.
 pub taken-exactly : (d : Device) (s : State) (p : Pins) (k : ℕ) (xs w sc : List ℕ) → d .program ≤ 65535 → d .erase ≤ 65535 → Cells (d .part) w → Cells (d .part) xs

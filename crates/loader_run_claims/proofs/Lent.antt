@@ -14,6 +14,7 @@ use Rattle.device.specs.declared.Device.{Device}
 use Rattle.device.specs.Parts.{lengthOf, startOf}
 use Rattle.device.proofs.Claims.{blocks-end-inside}
 use Rattle.units.specs.Units.{units, back, bytesIn, torn, lent, pairs}
+use Rattle.units.specs.Address.{byteOf}
 use Rattle.units.proofs.Widths.{lent-is, lent-whole, back-units, whole, cells, in-law, leave-law}
 use Rattle.model_types.specs.declared.Pins.{Pins}
 use Rattle.model_types.specs.declared.State.{State}
@@ -37,7 +38,7 @@ unfolding ones
 units-cells part xs b = cells (part .word) xs b
 
 -- what a block holds, in units and in bytes
-pub held-units : (w : Bool) (xs : List ℕ) (a n : ℕ) → units w (heldIn (bytesIn w a) (bytesIn w n) xs) ≡ heldIn a n (units w xs)
+pub held-units : (w : Bool) (xs : List ℕ) (a n : ℕ) → units w (heldIn (byteOf w a) (bytesIn w n) xs) ≡ heldIn a n (units w xs)
 held-units false xs a n = refl
 held-units true xs a n =
     ap₂ (λ (i j : ℕ). pairs (take j (drop i xs))) (sym (dbl-is a)) (sym (dbl-is n)) ∙ taken (drop (dbl a) xs) n ∙ ap (λ (z : List ℕ). take n z) (dropped xs a)
@@ -56,7 +57,7 @@ module _ (verify : Bool) (d : Device) (s : State) (p : Pins) (k : ℕ) (array wa
   a = startOf (d .part) k
 
   abbrev from : ℕ
-  from = bytesIn w a
+  from = byteOf w a
 
   none : lentNumber d s p k (length array) (length wanted) (length scratch) ≡ 0
   unfolding runNumber

@@ -10,6 +10,7 @@ use Rattle.common.specs.Numbers.{NoRow}
 use Rattle.device.specs.declared.Device.{Device}
 use Rattle.device.specs.Parts.{lengthOf, startOf}
 use Rattle.units.specs.Units.{units, bytesIn}
+use Rattle.units.specs.Address.{byteOf}
 use Rattle.model_types.specs.declared.Pins.{Pins}
 use Rattle.model_types.specs.declared.State.{State}
 use Rattle.model_types.specs.Levels.{vppHigh, unlocked}
@@ -34,7 +35,7 @@ pub record LentStart (d : Device) (s : State) (p : Pins) (k : ℕ) (array wanted
 -- what the run on lent bytes returns and leaves: block k begins at byte `from`
 module _ (verify : Bool) (d : Device) (s : State) (p : Pins) (k : ℕ) (array wanted scratch : List ℕ) where
   abbrev pub from : ℕ
-  from = bytesIn (d .part .word) (startOf (d .part) k)
+  from = byteOf (d .part .word) (startOf (d .part) k)
 
   pub record LentDemand3 : Type 0 where
     -- it ends well

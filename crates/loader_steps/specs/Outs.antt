@@ -6,7 +6,7 @@ use lib.ListN.{getD}
 use lib.Dec.{ltb}
 use Rattle.common.specs.Choice.{if_then_else_}
 use Rattle.device.specs.Parts.{startOf}
-use Rattle.units.specs.Address.{firstByte}
+use Rattle.units.specs.Address.{byteAt}
 use Rattle.model_types.specs.declared.Kind.{Kind}
 use Rattle.model_types.specs.declared.Cycle.{Cycle}
 use Rattle.loader.specs.declared.Stage.{Stage}
@@ -25,9 +25,9 @@ reach = 16777216
 unfoldable pub hereOf : Loader → ℕ
 hereOf l = if ltb (l .place) reach then firstAddress l + l .place else firstAddress l
 
--- the byte address of the byte that differs there: in word mode that of the word's low byte, or of the high one, which is the next
+-- the byte address of the byte that differs there: in word mode the low one of its word, or the high one
 unfoldable pub byteHere : Loader → ℕ
-byteHere l = if l .part .word then firstByte (record { word = hereOf l }) .byte + (if l .high then 1 else 0) else hereOf l
+byteHere l = byteAt (l .part .word) (hereOf l) (l .high)
 
 -- a cycle at an address with the record's levels, OE# normal
 abbrev pub cycleAt : Loader → Kind → ℕ → ℕ → Cycle

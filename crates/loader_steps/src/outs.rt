@@ -4,10 +4,7 @@ use loader::Stage;
 use loader::stages::stage_is;
 use model_types::Cycle;
 use model_types::Kind;
-use units::WordAddress;
 ghost use mathlib.Core.Path.{_≡_};
-ghost use Prim.Native.Nat.{_+_, _≤_, _<_};
-ghost use Rattle.common.specs.Choice.{if_then_else_};
 ghost use Rattle.units.specs.Units.{units};
 ghost use Rattle.loader_steps.specs.Outs.{firstAddress, hereOf, byteHere, addressIn, carriedIn, cycleAt, cycleAtStage, cycleOf};
 
@@ -30,17 +27,6 @@ pub(crate) fn here(l: Loader) -> u32
     a
 }
 
-// One more where the byte that differs is the high one.
-fn next_byte(byte: usize, high: bool) -> usize
-    requires { ⌜ byte < 4294967295 ⌝ }
-    ensures { λ r. ⌜ (r ≡ byte + (if high then 1 else 0)) × (r ≤ byte + 1) ⌝ }
-{
-    if high {
-        return byte + 1;
-    }
-    byte
-}
-
 // The byte address of the byte that differs there.
 pub(crate) fn byte_here(l: Loader) -> u32
     ensures { λ r. ⌜ r ≡ byteHere l ⌝ }
@@ -48,12 +34,7 @@ pub(crate) fn byte_here(l: Loader) -> u32
     let part = l.part;
     let word = part.word;
     let high = l.high;
-    let at = here(l);
-    if word {
-        let a = units::first_byte(WordAddress { word: at as usize });
-        return next_byte(a.byte, high) as u32;
-    }
-    at
+    units::byte_at(word, here(l), high) as u32
 }
 
 fn cycle_at(l: Loader, kind: Kind, address: u32, v: u16) -> Cycle

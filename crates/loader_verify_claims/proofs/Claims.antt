@@ -31,7 +31,7 @@ use Rattle.loader_verify_claims.proofs.Both as both
 use Rattle.loader_verify_claims.proofs.Lent as lending
 use Rattle.loader_verify_claims.specs.Lent.{LentMet}
 use Rattle.common.specs.Lists.{Bytes}
-use Rattle.units.specs.Units.{bytesIn}
+use Rattle.units.specs.Address.{byteOf}
 
 -- A verify that nothing refuses, whatever VPP and the lock, from any proper state with nothing under way (`Verified`, a sentence a
 -- field): what it returns, that the array is as before and no operation begun, what scratch holds, its cycles, and the status as before.
@@ -103,11 +103,11 @@ verify-counts = counting.run-counts Closing true
 
 -- A verify on lent bytes, in byte mode and in word mode, ends well exactly where the block holds the wanted bytes.
 pub lent-well-exactly : (d : Device) (s : State) (p : Pins) (k : ℕ) (array wanted scratch : List ℕ) → Bytes array → Bytes wanted → NoRow (lentRows d s p k (length array) (length wanted) (length scratch))
-    → (lentVerify d s p k array wanted scratch .ran .end ≡ 0) ↔ (heldIn (bytesIn (d .part .word) (startOf (d .part) k)) (length wanted) array ≡ wanted)
+    → (lentVerify d s p k array wanted scratch .ran .end ≡ 0) ↔ (heldIn (byteOf (d .part .word) (startOf (d .part) k)) (length wanted) array ≡ wanted)
 lent-well-exactly = lending.lent-well-exactly
 
 -- Else it ends 25 with the byte address of the first byte of the block that differs from what is wanted (`LentMet`).
 pub lent-first-difference : (d : Device) (s : State) (p : Pins) (k : ℕ) (array wanted scratch : List ℕ) (bx : Bytes array) (bw : Bytes wanted)
-    (free : NoRow (lentRows d s p k (length array) (length wanted) (length scratch))) → (heldIn (bytesIn (d .part .word) (startOf (d .part) k)) (length wanted) array ≡ wanted → ⊥)
+    (free : NoRow (lentRows d s p k (length array) (length wanted) (length scratch))) → (heldIn (byteOf (d .part .word) (startOf (d .part) k)) (length wanted) array ≡ wanted → ⊥)
     → LentMet d s p k array wanted scratch (lending.place d s p k array wanted scratch bx bw free)
 lent-first-difference = lending.lent-first-difference

@@ -12,6 +12,7 @@ use Rattle.common.specs.Choice.{if_then_else_}
 use Rattle.common.proofs.Choice.{unlike}
 use Rattle.common.specs.Lists.{Bytes}
 use Rattle.units.specs.Units.{wordOf, pairs, units, bytesIn}
+use Rattle.units.specs.Address.{byteOf}
 use Rattle.units.proofs.Words.{get-law}
 use Rattle.loader_run_claims.specs.Wear.{heldIn}
 use Rattle.loader_verify_claims.specs.Lent.{FirstByte}
@@ -91,9 +92,9 @@ module _ (xs ws : List ℕ) (bx : Bytes xs) (bw : Bytes ws) (a n : ℕ) (lx : 2 
           rest _ _ _ _ _ _ (bx (2 * a + 2 * u)) (bw (2 * u)) (held u h) (want u h) f
 
 -- at either width: the first unit that differs gives the first byte
-pub first-byte : (w : Bool) (xs ws : List ℕ) → Bytes xs → Bytes ws → (a n : ℕ) → bytesIn w a + bytesIn w n ≤ length xs → length ws ≡ bytesIn w n → (u : ℕ) → u < n
+pub first-byte : (w : Bool) (xs ws : List ℕ) → Bytes xs → Bytes ws → (a n : ℕ) → byteOf w a + bytesIn w n ≤ length xs → length ws ≡ bytesIn w n → (u : ℕ) → u < n
     → (getD (heldIn a n (units w xs)) u 0 ≡ getD (units w ws) u 0 → ⊥) → ((j : ℕ) → j < u → getD (heldIn a n (units w xs)) j 0 ≡ getD (units w ws) j 0)
-    → FirstByte xs ws (bytesIn w a) (bytesIn w u + (if w && eqb (getD (heldIn a n (units w xs)) u 0 % 256) (getD (units w ws) u 0 % 256) then 1 else 0))
+    → FirstByte xs ws (byteOf w a) (bytesIn w u + (if w && eqb (getD (heldIn a n (units w xs)) u 0 % 256) (getD (units w ws) u 0 % 256) then 1 else 0))
 first-byte false xs ws bx bw a n lx lw u h differs before =
     record {
       inside = omega arith;

@@ -14,6 +14,7 @@ use Rattle.device.specs.declared.Device.{Device}
 use Rattle.device.specs.Parts.{lengthOf, startOf}
 use Rattle.device.proofs.Claims.{blocks-end-inside}
 use Rattle.units.specs.Units.{units, bytesIn, torn, lent}
+use Rattle.units.specs.Address.{byteOf, byteAt}
 use Rattle.units.proofs.Widths.{lent-is, lent-whole, whole, no-spare, same-bytes, in-law}
 use Rattle.model_types.specs.declared.Pins.{Pins}
 use Rattle.model_types.specs.declared.State.{State}
@@ -41,7 +42,7 @@ module _ (d : Device) (s : State) (p : Pins) (k : ℕ) (array wanted scratch : L
   a = startOf (d .part) k
 
   abbrev from : ℕ
-  from = bytesIn w a
+  from = byteOf w a
 
   none : lentNumber d s p k (length array) (length wanted) (length scratch) ≡ 0
   unfolding runNumber
@@ -106,7 +107,7 @@ module _ (d : Device) (s : State) (p : Pins) (k : ℕ) (array wanted scratch : L
   abbrev pub place : ℕ
   place = bytesIn w met + (if w && eqb (getD H met 0 % 256) (getD (units w wanted) met 0 % 256) then 1 else 0)
 
-  apart : (t : Bool) (x y : ℕ) (same : Bool) → (if t then 2 * (x + y) + (if same then 1 else 0) else x + y) ≡ bytesIn t x + (bytesIn t y + (if t && same then 1 else 0))
+  apart : (t : Bool) (x y : ℕ) (same : Bool) → byteAt t (x + y) same ≡ byteOf t x + (bytesIn t y + (if t && same then 1 else 0))
   apart true x y true = omega arith
   apart true x y false = omega arith
   apart false x y same = omega arith

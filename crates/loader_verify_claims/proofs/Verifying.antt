@@ -35,6 +35,7 @@ use Rattle.loader_run_claims.proofs.Grounds as grounds
 use Rattle.loader_run_claims.proofs.Grounds.{Left}
 use Rattle.loader_run_claims.proofs.Phases as phases
 use Rattle.loader_run_claims.proofs.Same.{same-list, none-ahead, some-ahead, none-differing}
+use Rattle.units.specs.Address.{byteAt}
 use Rattle.loader_verify_claims.specs.Verified.{unitsRead, byteApart, verifyEnd, verifyAddress, Verified, Met}
 
 -- bytes that are what is wanted are found so
@@ -66,8 +67,8 @@ next-before (suc n) i w s j a b = go (eqb (getD s i 0) (getD w i 0)) refl (next-
 
 -- the byte that differs at a place, as the record has it
 apart-at : (word : Bool) (x y v u : ℕ) → x ≡ y
-    → (if word then 2 * x + (if (word && eqb (v % 256) (u % 256)) then 1 else 0) else x) ≡ (if word then 2 * y + (if eqb (v % 256) (u % 256) then 1 else 0) else y)
-apart-at true x y v u e = ap (λ (z : ℕ). 2 * z + (if eqb (v % 256) (u % 256) then 1 else 0)) e
+    → byteAt word x (word && eqb (v % 256) (u % 256)) ≡ byteAt word y (eqb (v % 256) (u % 256))
+apart-at true x y v u e = ap (λ (z : ℕ). byteAt true z (eqb (v % 256) (u % 256))) e
 apart-at false x y v u e = e
 
 module _ (d : Device) (s : State) (p : Pins) (k : ℕ) (xs w sc : List ℕ) (cx : Cells (d .part) xs) (free : NoRow (runRows d s p k (length xs) (length w) (length sc))) where

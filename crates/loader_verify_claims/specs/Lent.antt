@@ -5,7 +5,7 @@ use Prim.Native.Nat.{ℕ, _+_, _<_}
 use lib.ListN.{length, getD}
 use Rattle.device.specs.declared.Device.{Device}
 use Rattle.device.specs.Parts.{startOf}
-use Rattle.units.specs.Units.{bytesIn}
+use Rattle.units.specs.Address.{byteOf}
 use Rattle.model_types.specs.declared.Pins.{Pins}
 use Rattle.model_types.specs.declared.State.{State}
 use Rattle.loader_run.specs.Runs.{lentVerify}
@@ -18,6 +18,6 @@ pub record FirstByte (xs ws : List ℕ) (from i : ℕ) : Type 0 where
 
 -- a verify that ends 25 gives the byte address of the first byte of the block that differs
 pub record LentMet (d : Device) (s : State) (p : Pins) (k : ℕ) (array wanted scratch : List ℕ) (i : ℕ) : Type 0 where
-  pub first : FirstByte array wanted (bytesIn (d .part .word) (startOf (d .part) k)) i
+  pub first : FirstByte array wanted (byteOf (d .part .word) (startOf (d .part) k)) i
   pub ended : lentVerify d s p k array wanted scratch .ran .end ≡ 25
-  pub address : lentVerify d s p k array wanted scratch .ran .address ≡ bytesIn (d .part .word) (startOf (d .part) k) + i
+  pub address : lentVerify d s p k array wanted scratch .ran .address ≡ byteOf (d .part .word) (startOf (d .part) k) + i

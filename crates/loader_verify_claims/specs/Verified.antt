@@ -4,7 +4,7 @@ use mathlib.Core.Bool.{true}
 use mathlib.Core.List.{List, []}
 use Prim.Native.Nat.{ℕ, _+_, _%_, _<_}
 use lib.Dec.{eqb}
-use Rattle.units.specs.Address.{firstByte}
+use Rattle.units.specs.Address.{byteAt}
 use Rattle.device.specs.declared.Part.{Part}
 use lib.ListN.{length, getD}
 use Rattle.common.specs.Choice.{if_then_else_}
@@ -34,7 +34,7 @@ verifyEnd w ys = if asWanted w ys then 0 else 25
 -- the byte address of the first byte that differs between what is held and wanted at an address: in word mode the low byte's, or the
 -- next where the low bytes are the same
 abbrev pub byteApart : Part → ℕ → ℕ → ℕ → ℕ
-byteApart part x held wanted = if part .word then firstByte (record { word = x }) .byte + (if eqb (held % 256) (wanted % 256) then 1 else 0) else x
+byteApart part x held wanted = byteAt (part .word) x (eqb (held % 256) (wanted % 256))
 
 -- .. with the byte address of the first byte that differs, in a block at a
 unfoldable pub verifyAddress : Part → ℕ → List ℕ → List ℕ → ℕ

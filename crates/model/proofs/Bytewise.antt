@@ -10,6 +10,7 @@ use lib.Bits.{bitAnd, bitOr, and-le-l, or-lt}
 use Rattle.common.specs.Lists.{overlaid, Bytes}
 use Rattle.common.proofs.Bytes.{bytes-set, bytes-overlaid, bytes-replicate, bytes-take, overlaid-length}
 use Rattle.units.specs.Units.{wordOf, pairs, units, back, bytesIn, torn}
+use Rattle.units.specs.Address.{byteOf}
 use Rattle.units.proofs.Pairs.{or-word}
 use Rattle.units.proofs.Words.{programmed, program-law}
 use Rattle.units.proofs.Widths.{fit-by, in-law, erase-law, leave-law, back-units, both-in, untorn}
@@ -40,26 +41,26 @@ module _ (xs : List ℕ) (bx : Bytes xs) where
     inside : a + n ≤ length (units w xs)
     inside = rw long (blocks-end-inside part k)
 
-    laid : (ys : List ℕ) → length ys ≡ bytesIn w n → length (overlaid xs (bytesIn w a) ys) ≡ length xs
-    laid ys e = overlaid-length xs (bytesIn w a) ys (let z = in-law w xs a n (bytesIn w a) (bytesIn w n) refl refl inside in omega arith)
+    laid : (ys : List ℕ) → length ys ≡ bytesIn w n → length (overlaid xs (byteOf w a) ys) ≡ length xs
+    laid ys e = overlaid-length xs (byteOf w a) ys (let z = in-law w xs a n (byteOf w a) (bytesIn w n) refl refl inside in omega arith)
 
     even : (m : ℕ) → m ≡ length xs → torn w m ≡ false
     even m e = subst (λ (j : ℕ). torn w j ≡ false) (sym (e ∙ whole)) (untorn w (sizeOf part))
 
-    pub erased-bytes : back w (erased part k (units w xs)) ≡ overlaid xs (bytesIn w a) (replicate (bytesIn w n) 0xFF)
+    pub erased-bytes : back w (erased part k (units w xs)) ≡ overlaid xs (byteOf w a) (replicate (bytesIn w n) 0xFF)
     unfolding erased ones
     erased-bytes =
         let ys : List ℕ = replicate (bytesIn w n) 0xFF in
-        from-units w (overlaid (units w xs) a (replicate n (ones part))) (overlaid xs (bytesIn w a) ys) (erase-law w xs a n (bytesIn w a) (bytesIn w n) refl refl inside)
-        (even (length (overlaid xs (bytesIn w a) ys)) (laid ys (length-replicate (bytesIn w n) 255))) (bytes-overlaid xs (bytesIn w a) ys bx (bytes-replicate (bytesIn w n) 255 (omega arith)))
+        from-units w (overlaid (units w xs) a (replicate n (ones part))) (overlaid xs (byteOf w a) ys) (erase-law w xs a n (byteOf w a) (bytesIn w n) refl refl inside)
+        (even (length (overlaid xs (byteOf w a) ys)) (laid ys (length-replicate (bytesIn w n) 255))) (bytes-overlaid xs (byteOf w a) ys bx (bytes-replicate (bytesIn w n) 255 (omega arith)))
 
     pub residual-bytes : (rs : List ℕ) → Bytes rs → n ≤ length (units w rs)
-        → back w (residual part k (units w rs) (units w xs)) ≡ overlaid xs (bytesIn w a) (take (bytesIn w n) rs)
+        → back w (residual part k (units w rs) (units w xs)) ≡ overlaid xs (byteOf w a) (take (bytesIn w n) rs)
     unfolding residual
     residual-bytes rs br h =
         let ys : List ℕ = take (bytesIn w n) rs in
-        from-units w (overlaid (units w xs) a (take n (units w rs))) (overlaid xs (bytesIn w a) ys) (leave-law w xs rs a n (bytesIn w a) (bytesIn w n) refl refl inside h)
-        (even (length (overlaid xs (bytesIn w a) ys)) (laid ys (length-take-le (bytesIn w n) rs (fit-by w rs n h)))) (bytes-overlaid xs (bytesIn w a) ys bx (bytes-take (bytesIn w n) rs br))
+        from-units w (overlaid (units w xs) a (take n (units w rs))) (overlaid xs (byteOf w a) ys) (leave-law w xs rs a n (byteOf w a) (bytesIn w n) refl refl inside h)
+        (even (length (overlaid xs (byteOf w a) ys)) (laid ys (length-take-le (bytesIn w n) rs (fit-by w rs n h)))) (bytes-overlaid xs (byteOf w a) ys bx (bytes-take (bytesIn w n) rs br))
 
   -- a word
   module _ (part : Part) (i : ℕ) (h : i < length (pairs xs)) (t : torn true (length xs) ≡ false) where

@@ -9,6 +9,7 @@ use lib.Bits.{bitOr}
 use lib.Dec.{ltb}
 use Rattle.common.specs.Lists.{overlaid, Bytes}
 use Rattle.units.specs.Units.{pairs, units, back, unitsIn, bytesIn, torn, lent}
+use Rattle.units.specs.Address.{byteOf}
 use Rattle.common.specs.Numbers.{Foremost, NoRow}
 use Rattle.device.specs.declared.Device.{Device}
 use Rattle.device.specs.declared.Part.{Part}
@@ -104,14 +105,14 @@ byte-mode-bytes = borders.byte-mode-bytes
 
 -- In word mode, and in byte mode alike, an erase that ends leaves FFH in the bytes of its block ..
 pub erased-bytes : (xs : List ℕ) → Bytes xs → (part : Part) (k : ℕ) → length xs ≡ bytesIn (part .word) (sizeOf part) → length (units (part .word) xs) ≡ sizeOf part
-    → back (part .word) (erased part k (units (part .word) xs)) ≡ overlaid xs (bytesIn (part .word) (startOf part k)) (replicate (bytesIn (part .word) (lengthOf part k)) 0xFF)
+    → back (part .word) (erased part k (units (part .word) xs)) ≡ overlaid xs (byteOf (part .word) (startOf part k)) (replicate (bytesIn (part .word) (lengthOf part k)) 0xFF)
 erased-bytes = bytewise.erased-bytes
 
 -- .. one that is cut leaves residue byte i at byte i of the block ..
 pub residual-bytes : (xs : List ℕ) → Bytes xs → (part : Part) (k : ℕ) → length xs ≡ bytesIn (part .word) (sizeOf part) → length (units (part .word) xs) ≡ sizeOf part
     → (rs : List ℕ) → Bytes rs → lengthOf part k ≤ length (units (part .word) rs)
     → back (part .word) (residual part k (units (part .word) rs) (units (part .word) xs))
-    ≡ overlaid xs (bytesIn (part .word) (startOf part k)) (take (bytesIn (part .word) (lengthOf part k)) rs)
+    ≡ overlaid xs (byteOf (part .word) (startOf part k)) (take (bytesIn (part .word) (lengthOf part k)) rs)
 residual-bytes = bytewise.residual-bytes
 
 -- .. a program of a word leaves old AND data in both of its bytes, the low byte first ..

@@ -1,8 +1,9 @@
 -- What is said of a word by its two bytes, and of a cycle without its high byte. Assumes nothing.
 use mathlib.Core.List.{List}
-use Prim.Native.Nat.{ℕ, _+_, _*_, _%_}
+use Prim.Native.Nat.{ℕ, _+_, _%_}
 use lib.ListN.{getD, set}
 use lib.Bits.{bitAnd}
+use Rattle.units.specs.Address.{firstByte}
 use Rattle.model_types.specs.declared.Cycle.{Cycle}
 
 -- old AND data at a place
@@ -11,7 +12,9 @@ programmedAt xs at v = set xs at (bitAnd (getD xs at 0) v)
 
 -- the two bytes of word i programmed, each with its own data, the low byte first
 abbrev pub bothProgrammed : List ℕ → ℕ → ℕ → ℕ → List ℕ
-bothProgrammed xs i low high = programmedAt (programmedAt xs (2 * i) low) (2 * i + 1) high
+bothProgrammed xs i low high =
+    let at : ℕ = firstByte (record { word = i }) .byte in
+    programmedAt (programmedAt xs at low) (at + 1) high
 
 -- a cycle whose data has no high byte
 abbrev pub narrow : Cycle → Cycle

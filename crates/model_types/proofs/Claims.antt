@@ -1,7 +1,12 @@
 -- What is claimed of levels and states, in one place. Assumes nothing.
 use Rattle.model_types.specs.Phases.{underWay}
 use mathlib.Core.Path.{_≡_}
-use mathlib.Core.Bool.{true, false, _||_}
+use mathlib.Core.Bool.{Bool, true, false, _||_}
+use Prim.Native.Nat.{ℕ, _<_}
+use native.Mathlib.Omega.{arith}
+use Rattle.units.specs.Address.{byteOf, byteAt}
+use Rattle.device.specs.Parts.{sizeOf, startOf, blockOf}
+use Rattle.device.proofs.Twice.{inBytes, wordWide, start-twice, both-bytes}
 use Rattle.device.specs.declared.Part.{Part}
 use Rattle.device.specs.declared.Device.{Device}
 use Rattle.model_types.specs.declared.Pins.{Pins}
@@ -25,3 +30,12 @@ improper-parts = parts.improper-parts
 -- A proper state with nothing under way is at rest.
 pub proper-rests : (d : Device) (s : State) → improper d s ≡ false → underWay (s .phase) ≡ false → s ≡ atRest s (s .mode) (s .status)
 proper-rests = rest.proper-rests
+
+-- A block begins at the byte of A-1 zero of its first word.
+pub starts-at-words : (n k : ℕ) → startOf (inBytes n) k ≡ byteOf true (startOf (wordWide n) k)
+starts-at-words = start-twice
+
+-- Both bytes of a word, by the one way from word addresses to byte addresses, lie in the word's block.
+pub words-in-blocks : (n a : ℕ) (high : Bool) → a < sizeOf (wordWide n) → blockOf (inBytes n) (byteAt true a high) ≡ blockOf (wordWide n) a
+words-in-blocks n a true h = both-bytes n a 1 h (omega arith)
+words-in-blocks n a false h = both-bytes n a 0 h (omega arith)

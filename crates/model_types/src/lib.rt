@@ -7,11 +7,11 @@ pub mod states;
 use device::Device;
 use device::Part;
 
-// The levels that a run keeps fixed: RP# (0 low, 1 high, 2 V_HH), VPP in millivolts and WP# (0 low, 1 high).
+// The levels that a run keeps fixed: RP# (0 low, 1 high, 2 V_HH), WP# (0 low, 1 high) and VPP in millivolts.
 pub struct Pins {
     pub rp: u8,
-    pub vpp: u32,
     pub wp: u8,
+    pub vpp: u32,
 }
 
 pub enum Kind {

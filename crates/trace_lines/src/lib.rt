@@ -162,8 +162,8 @@ pub fn cycle_in(line: &[u8]) -> Cycle
     let byte = two(common::nth(line, 17), common::nth(line, 18));
     let pins = Pins {
         rp: rp,
-        vpp: vpp,
         wp: 0,
+        vpp: vpp,
     };
     Cycle {
         kind: kind,

@@ -2,16 +2,17 @@
 use mathlib.Core.Path.{_≡_, sym, _∙_}
 use mathlib.Core.Bool.{Bool}
 use mathlib.Core.List.{List}
-use Prim.Native.Nat.{ℕ, _*_, _/_, _%_, _≤_, _<_}
+use Prim.Native.Nat.{ℕ, _/_, _%_, _≤_, _<_}
 use lib.ListN.{length, getD, replicate}
 use Rattle.common.specs.Choice.{Unique}
 use Rattle.common.specs.Lists.{Bytes}
 use Rattle.common.proofs.Choice.{only}
-use Rattle.units.specs.Units.{pairs, units, spare, unitsIn, bytesIn, lentIn, carried, top}
+use Rattle.units.specs.Units.{pairs, units, spare, unitsIn, lentIn, carried, top}
+use Rattle.units.specs.Address.{byteAt}
 use Rattle.units.proofs.Widths.{same-bytes}
 
-pub first-byte-unique : (n : ℕ) → Unique (λ (r : ℕ). r ≡ 2 * n)
-first-byte-unique n = only (2 * n)
+pub byte-at-unique : (w : Bool) (a : ℕ) (high : Bool) → Unique (λ (r : ℕ). r ≡ byteAt w a high)
+byte-at-unique w a high = only (byteAt w a high)
 
 pub wide-unique : (x : ℕ) → Unique (λ (r : ℕ). (r ≡ x) × (x < 256))
 wide-unique x r q p s = only x r q (p .0) (s .0)
@@ -30,9 +31,6 @@ units-in-unique w n = only (unitsIn w n)
 
 pub lent-in-unique : (w : Bool) (n : ℕ) → Unique (λ (r : ℕ). r ≡ lentIn w n)
 lent-in-unique w n = only (lentIn w n)
-
-pub bytes-in-unique : (w : Bool) (n : ℕ) → Unique (λ (r : ℕ). r ≡ bytesIn w n)
-bytes-in-unique w n = only (bytesIn w n)
 
 pub get-word-unique : (s : List ℕ) (at : ℕ) → Unique (λ (r : ℕ). r ≡ getD (pairs s) at 0)
 get-word-unique s at = only (getD (pairs s) at 0)

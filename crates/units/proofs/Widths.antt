@@ -1,18 +1,20 @@
 -- What both widths share, once over the width. Assumes nothing.
 use Prim.Native.Nat.{ℕ, zero, suc, _+_, _-_, _*_, _/_, _%_, _≤_, _<_}
 use mathlib.Core.Path.{_≡_, refl, sym, ap, ap₂, _∙_}
-use mathlib.Core.Bool.{Bool, true, false}
+use mathlib.Core.Bool.{Bool, true, false, _&&_}
 use mathlib.Core.List.{List, [], _∷_, _++_, append-nil}
 use native.Mathlib.Omega.{arith}
 use native.Mathlib.Nat.{not-suc-le-zero, le-of-suc-le-suc}
 use lib.ListN.{length, getD, take, set, replicate, length-replicate}
 use lib.Seq.{length-take-le}
 use lib.Bits.{bitAnd, and-block}
-use lib.Dec.{eqb}
-use borrow.Author.Tests.{eqb-true, eqb-false, ne-eqb}
+use lib.Dec.{eqb, leb}
+use borrow.Author.Tests.{eqb-true, eqb-false, ne-eqb, le-leb, lt-leb, leb-true, leb-false}
 use Rattle.common.specs.Lists.{overlaid, Bytes}
 use Rattle.common.specs.Choice.{if_then_else_}
-use Rattle.units.specs.Units.{wordOf, pairs, halves, unpaired, units, spare, back, unitsIn, bytesIn, torn, lent, lentIn, carried, top}
+use Rattle.common.proofs.Choice.{if-true, if-false, and-left, and-right}
+use Rattle.units.specs.Units.{wordOf, pairs, halves, unpaired, units, spare, back, unitsIn, bytesIn, torn, lent, lentIn, carried, top, erasedIn, leftIn}
+use Rattle.units.specs.Address.{byteOf, byteAt}
 use Rattle.units.proofs.Pairs.{dbl, dbl-is, taken, blank, blank-odd}
 use Rattle.units.proofs.Words.{laid-words, spare-laid, programmed}
 
@@ -141,11 +143,11 @@ pub fit-by : (w : Bool) (xs : List ℕ) (n : ℕ) → n ≤ length (units w xs) 
 fit-by false xs n h = h
 fit-by true xs n h = let z = dbl-is n in let y = halved xs n h in omega arith
 
-bytes-add : (w : Bool) (a n : ℕ) → bytesIn w a + bytesIn w n ≡ bytesIn w (a + n)
+bytes-add : (w : Bool) (a n : ℕ) → byteOf w a + bytesIn w n ≡ bytesIn w (a + n)
 bytes-add false a n = refl
 bytes-add true a n = omega arith
 
-laid-by : (w : Bool) (xs ys : List ℕ) (a m : ℕ) → a ≤ length (units w xs) → length ys ≡ bytesIn w m → units w (overlaid xs (bytesIn w a) ys) ≡ overlaid (units w xs) a (units w ys)
+laid-by : (w : Bool) (xs ys : List ℕ) (a m : ℕ) → a ≤ length (units w xs) → length ys ≡ bytesIn w m → units w (overlaid xs (byteOf w a) ys) ≡ overlaid (units w xs) a (units w ys)
 laid-by false xs ys a m h e = refl
 laid-by true xs ys a m h e =
     ap (λ (k : ℕ). pairs (overlaid xs k ys)) (sym (dbl-is a)) ∙ laid-words xs ys a m (halved xs a h) (e ∙ sym (dbl-is m))
@@ -179,7 +181,7 @@ fill-law false xs ys e = e
 fill-law true xs ys e = ap pairs e ∙ ones-in (length xs) ∙ ap (λ (n : ℕ). replicate n 65535) (sym (half xs))
 
 -- for code: n units from unit a on, by their bytes x and y
-pub in-law : (w : Bool) (xs : List ℕ) (a n x y : ℕ) → x ≡ bytesIn w a → y ≡ bytesIn w n → a + n ≤ length (units w xs) → x + y ≤ length xs
+pub in-law : (w : Bool) (xs : List ℕ) (a n x y : ℕ) → x ≡ byteOf w a → y ≡ bytesIn w n → a + n ≤ length (units w xs) → x + y ≤ length xs
 in-law w xs a n x y p q h = let z = fit-by w xs (a + n) h in let e = bytes-add w a n in omega arith
 
 pub one-law : (w : Bool) (xs : List ℕ) (n y : ℕ) → y ≡ bytesIn w n → n ≤ length (units w xs) → y ≤ length xs
@@ -189,19 +191,19 @@ pub few-law : (w : Bool) (xs : List ℕ) (n : ℕ) → n ≤ length (units w xs)
 few-law false xs n h = h
 few-law true xs n h = let z = half xs in omega arith
 
-pub erase-law : (w : Bool) (xs : List ℕ) (a n x y : ℕ) → x ≡ bytesIn w a → y ≡ bytesIn w n → a + n ≤ length (units w xs)
+pub erase-law : (w : Bool) (xs : List ℕ) (a n x y : ℕ) → x ≡ byteOf w a → y ≡ bytesIn w n → a + n ≤ length (units w xs)
     → units w (overlaid xs x (replicate y 255)) ≡ overlaid (units w xs) a (replicate n (top w))
 erase-law w xs a n x y p q h =
     ap₂ (λ (i j : ℕ). units w (overlaid xs i (replicate j 255))) p q
     ∙ laid-by w xs (replicate (bytesIn w n) 255) a n (omega arith) (length-replicate (bytesIn w n) 255) ∙ ap (λ (t : List ℕ). overlaid (units w xs) a t) (blank-by w n)
 
-pub leave-law : (w : Bool) (xs rs : List ℕ) (a n x y : ℕ) → x ≡ bytesIn w a → y ≡ bytesIn w n → a + n ≤ length (units w xs) → n ≤ length (units w rs)
+pub leave-law : (w : Bool) (xs rs : List ℕ) (a n x y : ℕ) → x ≡ byteOf w a → y ≡ bytesIn w n → a + n ≤ length (units w xs) → n ≤ length (units w rs)
     → units w (overlaid xs x (take y rs)) ≡ overlaid (units w xs) a (take n (units w rs))
 leave-law w xs rs a n x y p q h l =
     ap₂ (λ (i j : ℕ). units w (overlaid xs i (take j rs))) p q
     ∙ laid-by w xs (take (bytesIn w n) rs) a n (omega arith) (length-take-le (bytesIn w n) rs (fit-by w rs n l)) ∙ ap (λ (t : List ℕ). overlaid (units w xs) a t) (taken-by w rs n)
 
-spare-by : (w : Bool) (xs ys : List ℕ) (a m : ℕ) → a + m ≤ length (units w xs) → length ys ≡ bytesIn w m → spare w (overlaid xs (bytesIn w a) ys) ≡ spare w xs
+spare-by : (w : Bool) (xs ys : List ℕ) (a m : ℕ) → a + m ≤ length (units w xs) → length ys ≡ bytesIn w m → spare w (overlaid xs (byteOf w a) ys) ≡ spare w xs
 spare-by false xs ys a m h e = refl
 spare-by true xs ys a m h e =
     let p = dbl-is a in
@@ -209,12 +211,12 @@ spare-by true xs ys a m h e =
     let z = half xs in
     ap (λ (k : ℕ). unpaired (overlaid xs k ys)) (sym (dbl-is a)) ∙ spare-laid xs ys a m (omega arith) (e ∙ sym (dbl-is m))
 
-pub erase-spare : (w : Bool) (xs : List ℕ) (a n x y : ℕ) → x ≡ bytesIn w a → y ≡ bytesIn w n → a + n ≤ length (units w xs)
+pub erase-spare : (w : Bool) (xs : List ℕ) (a n x y : ℕ) → x ≡ byteOf w a → y ≡ bytesIn w n → a + n ≤ length (units w xs)
     → spare w (overlaid xs x (replicate y 255)) ≡ spare w xs
 erase-spare w xs a n x y p q h =
     ap₂ (λ (i j : ℕ). spare w (overlaid xs i (replicate j 255))) p q ∙ spare-by w xs (replicate (bytesIn w n) 255) a n h (length-replicate (bytesIn w n) 255)
 
-pub leave-spare : (w : Bool) (xs rs : List ℕ) (a n x y : ℕ) → x ≡ bytesIn w a → y ≡ bytesIn w n → a + n ≤ length (units w xs) → n ≤ length (units w rs)
+pub leave-spare : (w : Bool) (xs rs : List ℕ) (a n x y : ℕ) → x ≡ byteOf w a → y ≡ bytesIn w n → a + n ≤ length (units w xs) → n ≤ length (units w rs)
     → spare w (overlaid xs x (take y rs)) ≡ spare w xs
 leave-spare w xs rs a n x y p q h l =
     ap₂ (λ (i j : ℕ). spare w (overlaid xs i (take j rs))) p q ∙ spare-by w xs (take (bytesIn w n) rs) a n h (length-take-le (bytesIn w n) rs (fit-by w rs n l))
@@ -245,3 +247,52 @@ and-low x v h =
 
 pub program-low : (xs zs : List ℕ) (i v l : ℕ) → l ≡ v % 256 → getD xs i 0 < 256 → zs ≡ programmed xs i l → zs ≡ programmed xs i v
 program-low xs zs i v l p h f = f ∙ ap (λ (x : ℕ). set xs i (bitAnd (getD xs i 0) x)) p ∙ ap (λ (x : ℕ). set xs i x) (and-low (getD xs i 0) v h)
+
+-- a unit begins behind the bytes of the units before it
+pub byte-of : (w : Bool) (a : ℕ) → byteOf w a ≡ bytesIn w a
+byte-of false a = refl
+byte-of true a = refl
+
+pub byte-at-most : (w : Bool) (a : ℕ) (high : Bool) → byteAt w a high ≤ 2 * a + 1
+byte-at-most false a high = omega arith
+byte-at-most true a true = omega arith
+byte-at-most true a false = omega arith
+
+-- n units that are there become all ones, and the first n of a residue
+pub erased-there : (w : Bool) (a n : ℕ) (us : List ℕ) → a + n ≤ length us → erasedIn w a n us ≡ overlaid us a (replicate n (top w))
+unfolding erasedIn
+erased-there w a n us h = if-true (leb (a + n) (length us)) (overlaid us a (replicate n (top w))) us (le-leb (a + n) (length us) h)
+
+pub left-there : (a n : ℕ) (rs us : List ℕ) → a + n ≤ length us → n ≤ length rs → leftIn a n rs us ≡ overlaid us a (take n rs)
+unfolding leftIn
+left-there a n rs us h l = rw (le-leb (a + n) (length us) h, le-leb n (length rs) l) refl
+
+-- for code: the test t that they are there, on the number k of units
+pub there-if : (w : Bool) (xs : List ℕ) (a n k : ℕ) (t : Bool) → k ≡ unitsIn w (length xs) → t ≡ leb (a + n) k → t ≡ leb (a + n) (length (units w xs))
+there-if w xs a n k t p q = q ∙ ap (λ (m : ℕ). leb (a + n) m) (p ∙ sym (units-length w xs))
+
+pub residue-if : (w : Bool) (xs rs : List ℕ) (a n k m : ℕ) (t : Bool) → k ≡ unitsIn w (length xs) → t ≡ leb (a + n) k → m ≡ unitsIn w (length rs)
+    → (t && leb n m) ≡ (leb (a + n) (length (units w xs)) && leb n (length (units w rs)))
+residue-if w xs rs a n k m t p q r = ap₂ (λ (x y : Bool). x && y) (there-if w xs a n k t p q) (ap (λ (z : ℕ). leb n z) (r ∙ sym (units-length w rs)))
+
+pub lies-by : (a n k : ℕ) → a ≤ k → leb n (k - a) ≡ leb (a + n) k
+lies-by a n k h = go (leb n (k - a)) refl
+  where
+    go : (t : Bool) → leb n (k - a) ≡ t → t ≡ leb (a + n) k
+    go true e = let z = leb-true n (k - a) e in sym (le-leb (a + n) k (omega arith))
+    go false e = let z = leb-false n (k - a) e in sym (lt-leb (a + n) k (omega arith))
+
+pub erased-past : (w : Bool) (a n : ℕ) (us : List ℕ) → leb (a + n) (length us) ≡ false → us ≡ erasedIn w a n us
+unfolding erasedIn
+erased-past w a n us e = sym (if-false (leb (a + n) (length us)) (overlaid us a (replicate n (top w))) us e)
+
+pub left-past : (a n : ℕ) (rs us : List ℕ) → (leb (a + n) (length us) && leb n (length rs)) ≡ false → us ≡ leftIn a n rs us
+unfolding leftIn
+left-past a n rs us e = sym (if-false (leb (a + n) (length us) && leb n (length rs)) (overlaid us a (take n rs)) us e)
+
+pub there : (a n : ℕ) (us : List ℕ) → leb (a + n) (length us) ≡ true → a + n ≤ length us
+there a n us e = leb-true (a + n) (length us) e
+
+pub both-there : (a n : ℕ) (rs us : List ℕ) → (leb (a + n) (length us) && leb n (length rs)) ≡ true → (a + n ≤ length us) × (n ≤ length rs)
+both-there a n rs us e =
+    (leb-true (a + n) (length us) (and-left (leb (a + n) (length us)) (leb n (length rs)) e), leb-true n (length rs) (and-right (leb (a + n) (length us)) (leb n (length rs)) e))

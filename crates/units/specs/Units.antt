@@ -3,9 +3,10 @@
 use mathlib.Core.Bool.{Bool, true, false, _&&_}
 use mathlib.Core.List.{List, [], _∷_}
 use Prim.Native.Nat.{ℕ, _+_, _*_, _/_, _%_}
-use lib.ListN.{length}
-use lib.Dec.{eqb}
+use lib.ListN.{length, take, replicate}
+use lib.Dec.{eqb, leb}
 use Rattle.common.specs.Choice.{if_then_else_}
+use Rattle.common.specs.Lists.{overlaid}
 
 -- a word by its two bytes
 abbrev pub wordOf : ℕ → ℕ → ℕ
@@ -72,3 +73,11 @@ carried true v = v
 abbrev pub top : Bool → ℕ
 top false = 0xFF
 top true = 0xFFFF
+
+-- n units from unit a on become all ones, where they are there; else nothing does
+unfoldable pub erasedIn : Bool → ℕ → ℕ → List ℕ → List ℕ
+erasedIn w a n us = if leb (a + n) (length us) then overlaid us a (replicate n (top w)) else us
+
+-- n units from unit a on become the first n of rs, where both are there; else nothing does
+unfoldable pub leftIn : ℕ → ℕ → List ℕ → List ℕ → List ℕ
+leftIn a n rs us = if leb (a + n) (length us) && leb n (length rs) then overlaid us a (take n rs) else us

@@ -4,9 +4,11 @@ ghost use mathlib.Core.Path.{_≡_};
 ghost use Prim.Native.Nat.{ℕ, _+_, _*_, _/_, _%_, _≤_, _<_};
 ghost use lib.ListN.{length, getD, take, replicate, set};
 ghost use lib.Bits.{bitAnd, bitOr};
+ghost use lib.Dec.{leb};
 ghost use Rattle.common.specs.Lists.{overlaid};
-ghost use Rattle.units.specs.Units.{pairs, unpaired, units, spare, unitsIn, bytesIn, torn, lentIn, carried, top};
-ghost use Rattle.units.specs.Address.{firstByte};
+ghost use Rattle.common.specs.Choice.{if_then_else_};
+ghost use Rattle.units.specs.Units.{pairs, unpaired, units, spare, unitsIn, bytesIn, torn, lentIn, carried, top, erasedIn, leftIn};
+ghost use Rattle.units.specs.Address.{firstByte, byteOf, byteAt};
 
 // Two kinds of address: neither stands for the other.
 pub struct WordAddress {
@@ -18,11 +20,45 @@ pub struct ByteAddress {
 }
 
 // The byte at A-1 zero of a word: the one conversion.
-pub fn first_byte(w: WordAddress) -> ByteAddress
+fn first_byte(w: WordAddress) -> ByteAddress
     requires { ⌜ 2 * w .word < 18446744073709551616 ⌝ }
     ensures { λ r. ⌜ r .byte ≡ firstByte w .byte ⌝ }
 {
     ByteAddress { byte: 2 * w.word }
+}
+
+// The byte address at which a unit begins: in byte mode the unit's own.
+fn byte_of(word: bool, at: usize) -> usize
+    requires { ⌜ bytesIn word at < 18446744073709551616 ⌝ }
+    ensures { λ r. ⌜ r ≡ byteOf word at ⌝ }
+{
+    if word {
+        let a = first_byte(WordAddress { word: at });
+        return a.byte;
+    }
+    at
+}
+
+// One more for the high byte of a word.
+fn next_byte(byte: usize, high: bool) -> usize
+    requires { ⌜ byte < 18446744073709551615 ⌝ }
+    ensures { λ r. ⌜ r ≡ byte + (if high then 1 else 0) ⌝ }
+{
+    if high {
+        return byte + 1;
+    }
+    byte
+}
+
+// The byte address of a unit of a part: in word mode that of the low byte, or of the high one.
+pub fn byte_at(word: bool, at: u32, high: bool) -> usize
+    ensures { λ r. ⌜ r ≡ byteAt word at high ⌝ }
+{
+    if word {
+        let a = first_byte(WordAddress { word: at as usize });
+        return next_byte(a.byte, high);
+    }
+    at as usize
 }
 
 // A byte as 16 bits.
@@ -83,7 +119,7 @@ pub fn lent_in(word: bool, n: usize) -> usize
 }
 
 // The bytes of so many units.
-pub fn bytes_in(word: bool, n: usize) -> usize
+fn bytes_in(word: bool, n: usize) -> usize
     requires { ⌜ bytesIn word n < 18446744073709551616 ⌝ }
     ensures { λ r. ⌜ r ≡ bytesIn word n ⌝ }
 {
@@ -100,7 +136,9 @@ pub fn get_word(s: &[u8], w: WordAddress) -> u16
     if w.word < s.len() / 2 {
         let a = first_byte(w);
         let i = a.byte;
-        return wide(s[i + 1]) * 256 + wide(s[i]);
+        let lo = wide(s[i]);
+        let hi = wide(s[i + 1]);
+        return hi * 256 + lo;
     }
     0
 }
@@ -170,8 +208,7 @@ fn program_word(s: &mut [u8], w: WordAddress, v: u16)
     program_byte(s, i + 1, high(v));
 }
 
-// Old AND data on a unit.
-pub fn program_unit(word: bool, s: &mut [u8], at: usize, v: u16)
+fn program_there(word: bool, s: &mut [u8], at: usize, v: u16)
     requires { ⌜ at < length (units word (now s)) ⌝ }
     ensures { λ _. ⌜ units word (now (s .exit)) ≡ set (units word (now (s .entry))) at (bitAnd (getD (units word (now (s .entry))) at 0) v) ⌝ }
     ensures { λ _. ⌜ spare word (now (s .exit)) ≡ spare word (now (s .entry)) ⌝ }
@@ -182,6 +219,26 @@ pub fn program_unit(word: bool, s: &mut [u8], at: usize, v: u16)
     program_byte(s, at, low(v));
 }
 
+// Old AND data on a unit; nothing past the end.
+pub fn program_unit(word: bool, s: &mut [u8], at: usize, v: u16)
+    ensures { λ _. ⌜ units word (now (s .exit)) ≡ set (units word (now (s .entry))) at (bitAnd (getD (units word (now (s .entry))) at 0) v) ⌝ }
+    ensures { λ _. ⌜ spare word (now (s .exit)) ≡ spare word (now (s .entry)) ⌝ }
+{
+    if at < units_in(word, s.len()) {
+        return program_there(word, s, at, v);
+    }
+}
+
+// n units from unit a on lie among k.
+fn lies_in(a: usize, n: usize, k: usize) -> bool
+    ensures { λ r. ⌜ r ≡ leb (a + n) k ⌝ }
+{
+    if k < a {
+        return false;
+    }
+    n <= k - a
+}
+
 fn erase_part(s: &mut [u8], a: usize, n: usize)
     requires { ⌜ a + n ≤ length (now s) ⌝ }
     ensures { λ _. ⌜ now (s .exit) ≡ overlaid (now (s .entry)) a (replicate n 255) ⌝ }
@@ -190,13 +247,22 @@ fn erase_part(s: &mut [u8], a: usize, n: usize)
     common::fill(&mut s[a..e], 0xFF)
 }
 
-// All ones in n units from unit a on.
-pub fn erase_units(word: bool, s: &mut [u8], a: usize, n: usize)
+fn erase_there(word: bool, s: &mut [u8], a: usize, n: usize)
     requires { ⌜ a + n ≤ length (units word (now s)) ⌝ }
     ensures { λ _. ⌜ units word (now (s .exit)) ≡ overlaid (units word (now (s .entry))) a (replicate n (top word)) ⌝ }
     ensures { λ _. ⌜ spare word (now (s .exit)) ≡ spare word (now (s .entry)) ⌝ }
 {
-    erase_part(s, bytes_in(word, a), bytes_in(word, n));
+    erase_part(s, byte_of(word, a), bytes_in(word, n));
+}
+
+// All ones in n units from unit a on, where they are there.
+pub fn erase_units(word: bool, s: &mut [u8], a: usize, n: usize)
+    ensures { λ _. ⌜ units word (now (s .exit)) ≡ erasedIn word a n (units word (now (s .entry))) ⌝ }
+    ensures { λ _. ⌜ spare word (now (s .exit)) ≡ spare word (now (s .entry)) ⌝ }
+{
+    if lies_in(a, n, units_in(word, s.len())) {
+        return erase_there(word, s, a, n);
+    }
 }
 
 // All ones in every unit.
@@ -215,11 +281,20 @@ fn leave_part(s: &mut [u8], a: usize, n: usize, residue: &[u8])
     common::copy(&mut s[a..e], &residue[0..n])
 }
 
-// The residue's first units in n units from unit a on.
-pub fn leave_units(word: bool, s: &mut [u8], a: usize, n: usize, residue: &[u8])
+fn leave_there(word: bool, s: &mut [u8], a: usize, n: usize, residue: &[u8])
     requires { ⌜ (a + n ≤ length (units word (now s))) × (n ≤ length (units word (now residue))) ⌝ }
     ensures { λ _. ⌜ units word (now (s .exit)) ≡ overlaid (units word (now (s .entry))) a (take n (units word (now (residue .entry)))) ⌝ }
     ensures { λ _. ⌜ spare word (now (s .exit)) ≡ spare word (now (s .entry)) ⌝ }
 {
-    leave_part(s, bytes_in(word, a), bytes_in(word, n), residue);
+    leave_part(s, byte_of(word, a), bytes_in(word, n), residue);
+}
+
+// The residue's first n units in the n units from unit a on, where both are there.
+pub fn leave_units(word: bool, s: &mut [u8], a: usize, n: usize, residue: &[u8])
+    ensures { λ _. ⌜ units word (now (s .exit)) ≡ leftIn a n (units word (now (residue .entry))) (units word (now (s .entry))) ⌝ }
+    ensures { λ _. ⌜ spare word (now (s .exit)) ≡ spare word (now (s .entry)) ⌝ }
+{
+    if lies_in(a, n, units_in(word, s.len())) & (n <= units_in(word, residue.len())) {
+        return leave_there(word, s, a, n, residue);
+    }
 }

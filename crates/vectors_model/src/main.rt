@@ -40,8 +40,8 @@ fn cycle_of(row: &[u8], op: u8) -> Cycle {
         kind: kind,
         pins: Pins {
             rp: rp,
-            vpp: vpp,
             wp: 0,
+            vpp: vpp,
         },
         oe: oe,
         address: address,

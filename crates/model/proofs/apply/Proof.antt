@@ -19,10 +19,7 @@ index-requires : tie.Need-index-requires
 index-requires c κs = search needs
 
 program-unit-requires : tie.Need-program-unit-requires
-program-unit-requires c κs =
-    let s = c .before .before .before .before .before .before .before in
-    let a = s .args in
-    subst (λ (m : ℕ). m < length (units (a .part .word) (now (a .array)))) (sym (c .index .ensures)) (subst (λ (e : Effect). Within e (a .part) (length (units (a .part .word) (now (a .array)))) (length (units (a .part .word) (now (a .residue))))) (c .before .before .before .effect .given .1) (s .pre))
+program-unit-requires c κs = search needs
 
 enum-known-effect-2 : tie.Need-enum-known-effect-2
 enum-known-effect-2 c = search needs

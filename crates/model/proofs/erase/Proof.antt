@@ -1,5 +1,7 @@
 use Rattle.units.specs.Units.{units}
 use denote.Ref.{now}
+use mathlib.Core.Path.{_∙_}
+use Rattle.units.proofs.Widths.{erased-there}
 use Rattle.model.proofs.Overlay.{inside, filled}
 use borrow.Author.Needs.{needs}
 use Rattle.model.proofs.erase.Statement.{statement}
@@ -12,20 +14,20 @@ length-requires : tie.Need-length-requires
 length-requires c κs = search needs
 
 erase-units-requires : tie.Need-erase-units-requires
-erase-units-requires c κs =
-    let s = c .before .before .before .before in
-    let a = s .args in
-    inside (a .part) (a .k) (units (a .part .word) (now (a .array))) (c .before .start .result) (c .length .result) (c .before .start .ensures) (c .length .ensures) (s .pre)
+erase-units-requires c κs = search needs
 
 same-length : tie.Need-same-length
 same-length c = search needs
 
 returns : tie.Need-returns
 returns c =
-    let a = c .before .before .before .before .before .before .before .args in
+    let s = c .before .before .before .before .before .before .before in
+    let a = s .args in
     let start = c .before .before .before .before .start in
     let long = c .before .before .before .length in
-    (filled (a .part) (a .k) (units (a .part .word) (now (a .array))) (start .result) (long .result) (start .ensures) (long .ensures) _ (c .before .before .erase-units .ensures .0), c .before .before .erase-units .ensures .1)
+    let us = units (a .part .word) (now (a .array)) in
+    let h = inside (a .part) (a .k) us (start .result) (long .result) (start .ensures) (long .ensures) (s .pre) in
+    (filled (a .part) (a .k) us (start .result) (long .result) (start .ensures) (long .ensures) _ (c .before .before .erase-units .ensures .0 ∙ erased-there (a .part .word) (start .result) (long .result) us h), c .before .before .erase-units .ensures .1)
 
 pub erase-spec : {M : Type 1} → statement M
 erase-spec =

@@ -1,48 +1,48 @@
-use Prim.Native.Nat.{ℕ}
 use denote.Ref.{now}
-use mathlib.Core.List.{List}
-use mathlib.Core.Path.{ap, _∙_}
-use Rattle.units.specs.Units.{units, spare}
-use Rattle.units.proofs.Widths.{fit-by, in-law, erase-law, erase-spare}
+use mathlib.Core.Path.{refl, sym, _∙_}
+use Rattle.units.specs.Units.{units}
+use Rattle.units.proofs.Widths.{there, there-if, erased-there, erased-past}
 use borrow.Author.Needs.{needs}
-use native.Mathlib.Omega.{arith}
 use Rattle.units.proofs.erase_units.Statement.{statement}
 use Rattle.units.proofs.erase_units.Tie as tie
 
-bytes-in-requires : tie.Need-bytes-in-requires
-bytes-in-requires c κs =
-    let s = c .before .before in
-    let h = s .pre in
-    let l = fit-by (s .args .word) (now (s .args .s)) (s .args .a) (omega arith) in
-    omega arith
+units-in-requires : tie.Need-units-in-requires
+units-in-requires c κs = search needs
 
-bytes-in-requires-2 : tie.Need-bytes-in-requires-2
-bytes-in-requires-2 c κs =
-    let s = c .before .before .before in
-    let h = s .pre in
-    let l = fit-by (s .args .word) (now (s .args .s)) (s .args .n) (omega arith) in
-    omega arith
+lies-in-requires : tie.Need-lies-in-requires
+lies-in-requires c κs = search needs
 
-erase-part-requires : tie.Need-erase-part-requires
-erase-part-requires c κs =
-    let s = c .before .before .before .before in
-    in-law (s .args .word) (now (s .args .s)) (s .args .a) (s .args .n) _ _ (c .before .bytes-in .ensures) (c .bytes-in2 .ensures) (s .pre)
+erase-there-requires : tie.Need-erase-there-requires
+erase-there-requires c κs =
+    let s = c .before .before .before .before .before .args in
+    let t = c .before .before .lies-in in
+    there (s .a) (s .n) (units (s .word) (now (s .s))) (sym (there-if (s .word) (now (s .s)) (s .a) (s .n) _ (t .result) (c .before .before .before .units-in .ensures) (t .ensures)) ∙ c .before .if1 .taken)
 
 same-length : tie.Need-same-length
 same-length c = search needs
 
 returns : tie.Need-returns
 returns c =
-    let s = c .before .before .before .before .before .before .before in
-    let p = c .before .before .before .before .bytes-in .ensures in
-    let q = c .before .before .before .bytes-in2 .ensures in (
-      ap (λ (t : List ℕ). units (s .args .word) t) (c .before .before .erase-part .ensures)
-          ∙ erase-law (s .args .word) (now (s .args .s)) (s .args .a) (s .args .n) _ _ p q (s .pre),
-      ap (λ (t : List ℕ). spare (s .args .word) t) (c .before .before .erase-part .ensures)
-          ∙ erase-spare (s .args .word) (now (s .args .s)) (s .args .a) (s .args .n) _ _ p q (s .pre),
-    )
+    let s = c .before .before .before .before .before .before .before .before .args in
+    let t = c .before .before .before .before .before .lies-in in
+    let us = units (s .word) (now (s .s)) in
+    let h = there (s .a) (s .n) us (sym (there-if (s .word) (now (s .s)) (s .a) (s .n) _ (t .result) (c .before .before .before .before .before .before .units-in .ensures) (t .ensures)) ∙ c .before .before .before .before .if1 .taken) in
+    (c .before .before .erase-there .ensures .0 ∙ sym (erased-there (s .word) (s .a) (s .n) us h), c .before .before .erase-there .ensures .1)
+
+returns-2 : tie.Need-returns-2
+returns-2 c =
+    let s = c .before .before .before .before .args in
+    let t = c .before .lies-in in
+    let us = units (s .word) (now (s .s)) in
+    (erased-past (s .word) (s .a) (s .n) us (sym (there-if (s .word) (now (s .s)) (s .a) (s .n) _ (t .result) (c .before .before .units-in .ensures) (t .ensures)) ∙ c .if1 .left), refl)
 
 pub erase-units-spec : {M : Type 1} → statement M
 erase-units-spec =
     tie.close
-    (tie.spec bytes-in-requires bytes-in-requires-2 erase-part-requires same-length returns)
+    (tie.spec
+    units-in-requires
+    lies-in-requires
+    erase-there-requires
+    same-length
+    returns
+    returns-2)

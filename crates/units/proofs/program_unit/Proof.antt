@@ -1,43 +1,41 @@
 use denote.Ref.{now}
-use Rattle.units.proofs.Widths.{word-in, byte-in, program-low}
+use lib.ListN.{getD}
+use lib.Bits.{bitAnd}
+use lib.Seq.{set-out}
+use mathlib.Core.Path.{refl, sym}
+use Rattle.units.specs.Units.{units}
+use Rattle.units.proofs.Widths.{units-length}
 use borrow.Author.Needs.{needs}
-use mathlib.Core.Path.{refl}
+use native.Mathlib.Omega.{arith}
 use Rattle.units.proofs.program_unit.Statement.{statement}
 use Rattle.units.proofs.program_unit.Tie as tie
 
-program-word-requires : tie.Need-program-word-requires
-program-word-requires c κs = let b = c .before .before .before in word-in (b .args .word) (now (b .args .s)) (b .args .at) (c .before .if1 .taken) (b .pre)
+units-in-requires : tie.Need-units-in-requires
+units-in-requires c κs = search needs
+
+program-there-requires : tie.Need-program-there-requires
+program-there-requires c κs =
+    let s = c .before .before .before .before .args in
+    let l = units-length (s .word) (now (s .s)) in
+    let e = c .before .before .units-in .ensures in
+    let h = c .before .if1 .taken in
+    omega arith
 
 same-length : tie.Need-same-length
 same-length c = search needs
 
 returns : tie.Need-returns
-returns c = simp (c .before .before .before .before .if1 .taken) (c .before .before .program-word .ensures)
-
-low-requires : tie.Need-low-requires
-low-requires c κs = search needs
-
-program-byte-requires : tie.Need-program-byte-requires
-program-byte-requires c κs = let b = c .before .before .before .before in byte-in (b .args .word) (now (b .args .s)) (b .args .at) (c .before .before .if1 .left) (b .pre)
-
-same-length-2 : tie.Need-same-length-2
-same-length-2 c = search needs
+returns c = search needs
 
 returns-2 : tie.Need-returns-2
 returns-2 c =
-    let b = c .before .before .before .before .before in
-    let s = b .before .before in
-    simp (b .if1 .left)
-    (program-low (now (s .args .s)) _ (s .args .at) (s .args .v) _ (c .before .before .before .low .ensures) (b .before .slice-known .given (s .args .at) .fits) (c .before .before .program-byte .ensures), refl)
+    let s = c .before .before .before .args in
+    let us = units (s .word) (now (s .s)) in
+    let l = units-length (s .word) (now (s .s)) in
+    let e = c .before .units-in .ensures in
+    let h = c .if1 .left in
+    (sym (set-out us (s .at) (bitAnd (getD us (s .at) 0) (s .v)) (omega arith)), refl)
 
 pub program-unit-spec : {M : Type 1} → statement M
 program-unit-spec =
-    tie.close
-    (tie.spec
-    program-word-requires
-    same-length
-    returns
-    low-requires
-    program-byte-requires
-    same-length-2
-    returns-2)
+    tie.close (tie.spec units-in-requires program-there-requires same-length returns returns-2)

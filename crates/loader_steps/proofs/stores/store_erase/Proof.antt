@@ -1,4 +1,5 @@
-use Rattle.units.proofs.Widths.{units-length}
+use Rattle.units.specs.Units.{units}
+use Rattle.units.proofs.Widths.{units-length, erased-there}
 use Rattle.loader_steps.proofs.Storing.{erased-so, erased-not}
 use borrow.Author.Needs.{needs}
 use native.Mathlib.Omega.{arith}
@@ -13,9 +14,7 @@ units-in-requires : tie.Need-units-in-requires
 units-in-requires c κs = search needs
 
 erase-units-requires : tie.Need-erase-units-requires
-erase-units-requires c κs =
-    let a = c .before .before .before .before .before .args in
-    omega (arith, c .before .units-in .ensures, units-length (a .part .word) (a .scratch .now))
+erase-units-requires c κs = search needs
 
 same-length : tie.Need-same-length
 same-length c = search needs
@@ -25,7 +24,10 @@ returns c =
     let a = c .before .before .before .before .before .before .before .before .args in
     let e = c .before .before .erase-units in
     let t = sym (c .before .before .before .before .before .before .erased-well .ensures) ∙ c .before .before .before .before .before .if1 .taken in
-    (erased-so (a .part) (a .b) _ (a .scratch .now) (e .last .1 .0) t (c .before .before .before .before .units-in .ensures) (e .ensures .0), e .ensures .1)
+    let n = c .before .before .before .before .units-in in
+    let us = units (a .part .word) (a .scratch .now) in
+    let h = erased-there (a .part .word) 0 (n .result) us (omega (arith, n .ensures, units-length (a .part .word) (a .scratch .now))) in
+    (erased-so (a .part) (a .b) (n .result) (a .scratch .now) (e .last .1 .0) t (n .ensures) (e .ensures .0 ∙ h), e .ensures .1)
 
 returns-2 : tie.Need-returns-2
 returns-2 c =
