@@ -5,12 +5,15 @@ root=${root:?}
 
 verify_help() {
     cat <<'TXT'
-usage: torfbarke verify IMAGE DEVICE BLOCK FILE LETTER
+usage: torfbarke verify IMAGE DEVICE BLOCK FILE LETTER [byte|word]
 
 IMAGE is a dump of a part, all its bytes from address 0 on: 131,072 of devices 1 and 2, 16,384 of 3 and 4, 262,144 of 5 and 6,
-524,288 of 7 and 8. BLOCK is the flash block, 0
-(boot) to 3 (main), to 4 on 5 and 6, to 6 on 7 and 8. FILE is the load file that the block must hold, FFH behind it, and LETTER the one of the menu. One line comes: 'the block
-holds the file'; or 'differs at' and the first address that differs, in hexadecimal; or 'refused', the number and what it means.
+524,288 of 7 and 8. BLOCK is the flash block, 0 (boot) to 3, to 4 on 5 and 6, to 6 on 7 and 8. FILE is the load file that the block
+must hold, FFH behind it, and LETTER the one of the menu. The last word is the mode that the part is read in, byte if there is none;
+devices 1 to 4 have no word mode. An image is bytes in either mode, the low byte of a word first.
+
+One line comes: 'the block holds the file'; or 'differs at' and the byte address of the first byte that differs, in hexadecimal; or
+'refused', the number and what it means.
 
 Exit status: 0 the block holds the file, 1 it differs or is refused, 2 a wrong call, 3 the program could not be built.
 TXT
@@ -22,7 +25,7 @@ case ${1-} in
     exit 0
     ;;
 esac
-[ $# = 5 ] || fail 2 "an image, a device, a block, a load file and a letter; 'torfbarke verify --help' says more"
+[ $# = 5 ] || [ $# = 6 ] || fail 2 "an image, a device, a block, a load file, a letter and perhaps a mode; 'torfbarke verify --help' says more"
 for held in "$1" "$4"; do
     [ -f "$held" ] || fail 2 "there is no file $held"
     [ -r "$held" ] || fail 2 "cannot read the file $held"
@@ -33,8 +36,14 @@ esac
 if [ -z "$2" ] || [ -z "$3" ] || [ ${#2} -gt 3 ] || [ ${#3} -gt 3 ]; then fail 2 "device and block are small numbers: $2 $3"; fi
 [ ${#5} = 1 ] || fail 2 "the letter is one of B E J K N R S T"
 
+case ${6-byte} in
+byte) mode=0 ;;
+word) mode=1 ;;
+*) fail 2 "the mode is byte or word: $6" ;;
+esac
+
 program verify_program
-line=$(start "$@") || fail 3 "the verify program did not end well"
+line=$(start "$1" "$2" "$3" "$4" "$5" "$mode") || fail 3 "the verify program did not end well"
 [ -n "$line" ] || fail 2 "image or file could not be read"
 printf '%s\n' "$line"
 case $line in

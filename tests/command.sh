@@ -251,8 +251,32 @@ call "$tb" verify "$work/image" 4 4 "$work/three.load" K; try 'verify: no such b
 ' ''
 call "$tb" verify "$work/image" 1 1 "$work/three.load" K; try 'verify: the image of another part' 1 'refused 2: the image is not as long as the part
 ' ''
-call "$tb" verify "$work/image" 9 1 "$work/three.load" K; try 'verify: no such device' 1 'refused 1: there is no such device
+call "$tb" verify "$work/image" 9 1 "$work/three.load" K; try 'verify: no such device' 1 'refused 1: there is no such device, or it has no word mode
 ' ''
+call "$tb" verify "$work/image" 3 1 "$work/three.load" K word; try 'verify: no word mode' 1 'refused 1: there is no such device, or it has no word mode
+' ''
+# block 1 of device 5 begins at byte 3A000, block 6 of device 8 at 60000
+blank() { head -c "$1" /dev/zero | tr '\0' '\377'; }
+{ blank 237568 && cat "$work/three.load" && blank 24064; } >"$work/image5"
+{ blank 237568 && printf 'K\001' && tail -c 24574 "$work/image5"; } >"$work/other5"
+{ blank 393216 && cat "$work/long.load" && blank 16384; } >"$work/image8"
+for mode in byte word; do
+    call "$tb" verify "$work/image5" 5 1 "$work/three.load" K "$mode"; try "device 5 in $mode mode holds its file" 0 'the block holds the file
+' ''
+    call "$tb" verify "$work/other5" 5 1 "$work/three.load" K "$mode"; try "device 5 in $mode mode, a high byte differs" 1 'differs at 3A001
+' ''
+    call "$tb" verify "$work/image5" 5 2 "$work/three.load" K "$mode"; try "device 5 in $mode mode, a blank block" 1 'differs at 38000
+' ''
+    call "$tb" verify "$work/image5" 5 5 "$work/three.load" K "$mode"; try "device 5 in $mode mode has no block 5" 1 'refused 10: there is no such block
+' ''
+    call "$tb" verify "$work/image8" 8 6 "$work/long.load" K "$mode"; try "device 8 in $mode mode holds its file" 0 'the block holds the file
+' ''
+    call "$tb" verify "$work/image5" 7 6 "$work/long.load" K "$mode"; try "device 7 in $mode mode, another part's image" 1 'refused 2: the image is not as long as the part
+' ''
+done
+call "$tb" verify "$work/image5" 5 1 "$work/three.load" K; try 'device 5, no mode named' 0 'the block holds the file
+' ''
+call "$tb" verify "$work/image5" 5 1 "$work/three.load" K wide; try 'verify: no such mode' 2 '' 'the mode is byte or word: wide'
 call "$tb" verify "$work/image" 3 1 "$work/three.load"; try 'verify: four words' 2 '' 'an image, a device'
 call "$tb" verify "$work/image" x 1 "$work/three.load" K; try 'verify: no number' 2 '' 'whole numbers'
 call "$tb" verify --help; try 'verify --help' 0 '*' ''

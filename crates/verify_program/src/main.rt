@@ -1,4 +1,5 @@
-// The verify program. Arguments: an image of a part (a dump of its bytes), the device's number, the flash block, a load file, the menu letter.
+// The verify program. Arguments: an image of a part (a dump of its bytes), the device's number, the flash block, a load file, the menu
+// letter, and the mode: 0 byte, 1 word.
 // Standard output: one line, that the block holds the file, at which address it differs, or the refusal with its number and words.
 use device::Device;
 use device::Part;
@@ -27,7 +28,7 @@ fn say_file_words(n: u8) {
 // What a refusal means.
 fn say_words(n: u8) {
     match n {
-        1 => say(b"there is no such device\n"),
+        1 => say(b"there is no such device, or it has no word mode\n"),
         2 => say(b"the image is not as long as the part\n"),
         10 => say(b"there is no such block\n"),
         _ => say_file_words(n),
@@ -57,12 +58,17 @@ fn say_ran(x: Ran) {
     }
 }
 
-// The verify on a fresh part with RP# high and VPP low, in byte mode: what the bytes of a block are does not depend on the mode.
-fn verified(image: &mut [u8], number: u8, block: u8, file: &[u8], letter: u8) -> Ran {
+// The bytes of a block, which are the same in either mode.
+fn block_bytes(number: u8, block: u8) -> usize {
     let part = Part {
         number: number,
         word: false,
     };
+    device::length(part, block)
+}
+
+// The verify on a fresh part with RP# high, WP# low and VPP low.
+fn verified(image: &mut [u8], part: Part, block: u8, file: &[u8], letter: u8) -> Ran {
     let d = Device {
         part: part,
         program: 1,
@@ -71,12 +77,12 @@ fn verified(image: &mut [u8], number: u8, block: u8, file: &[u8], letter: u8) ->
     };
     let pins = Pins {
         rp: 1,
-        vpp: 0,
         wp: 0,
+        vpp: 0,
     };
     let mut wanted = [0u8; 131072];
     let mut scratch = [0u8; 131072];
-    let n = common::least(device::length(part, block), 131072);
+    let n = common::least(block_bytes(part.number, block), 131072);
     let state = model::fresh();
     loader_from_file::verify_from_file(
         d,
@@ -93,7 +99,10 @@ fn verified(image: &mut [u8], number: u8, block: u8, file: &[u8], letter: u8) ->
 
 // How to call it.
 fn usage() {
-    io::write_all(2, b"usage: verify_program IMAGE DEVICE BLOCK FILE LETTER\n");
+    io::write_all(
+        2,
+        b"usage: verify_program IMAGE DEVICE BLOCK FILE LETTER MODE\n",
+    );
 }
 
 // As much as there is of the file that an argument names, and whether it could be opened.
@@ -111,19 +120,19 @@ fn fetched(k: usize, into: &mut [u8]) -> usize {
 }
 
 // The file is fetched, with a block more than the longest: so what is too long is seen. Of the image the first n bytes are held against it.
-fn against(image: &mut [u8], n: usize, number: u8, block: u8, letter: u8) {
+fn against(image: &mut [u8], n: usize, part: Part, block: u8, letter: u8) {
     let mut file = [0u8; 115200];
     let m = fetched(4, &mut file);
     let a = common::least(n, image.len());
     let b = common::least(m, 115200);
-    say_ran(verified(&mut image[0..a], number, block, &file[0..b], letter));
+    say_ran(verified(&mut image[0..a], part, block, &file[0..b], letter));
 }
 
 // The image is fetched, with a byte more than the longest.
-fn with_numbers(number: u8, block: u8, letter: u8) {
+fn with_numbers(part: Part, block: u8, letter: u8) {
     let mut image = [0u8; 524289];
     let n = fetched(1, &mut image);
-    against(&mut image, n, number, block, letter);
+    against(&mut image, n, part, block, letter);
 }
 
 // The digit that an argument is; 255 where it is none.
@@ -146,14 +155,22 @@ fn digit(k: usize) -> u8 {
 fn main() {
     let mut text = [0u8; 2];
     let n = os::arg(5, &mut text);
-    let count = os::arg_count();
+    let mode = digit(6);
     if n != 1 {
         usage();
         return;
     }
-    if count != 6 {
+    if os::arg_count() != 7 {
         usage();
         return;
     }
-    with_numbers(digit(2), digit(3), common::nth(&text, 0));
+    if 1 < mode {
+        usage();
+        return;
+    }
+    let part = Part {
+        number: digit(2),
+        word: mode == 1,
+    };
+    with_numbers(part, digit(3), common::nth(&text, 0));
 }
