@@ -1,20 +1,22 @@
 -- Two results that a promise of this crate allows are equal, and so is what it leaves in each thing lent. Assumes nothing.
 use mathlib.Core.Path.{_≡_}
 use mathlib.Core.List.{List}
+use mathlib.Core.Bool.{Bool}
 use Prim.Native.Nat.{ℕ}
+use lib.ListN.{length, replicate}
 use Rattle.common.specs.Choice.{Unique}
 use Rattle.common.proofs.Choice.{only}
 use Rattle.device.specs.declared.Device.{Device}
 use Rattle.model_types.specs.declared.Mode.{Mode}
 use Rattle.model_types.specs.declared.Phase.{Phase}
 use Rattle.model_types.specs.declared.State.{State}
-use Rattle.vectors_states.specs.Letters.{modeBy, phaseBy, modeLetter, phaseLetter, stateAt, deviceAt}
+use Rattle.vectors_states.specs.Letters.{modeBy, phaseBy, modeLetter, phaseLetter, stateAt, wordBy, deviceAt}
 
 pub mode-by-unique : (letter : ℕ) → Unique (λ (r : Mode). r ≡ modeBy letter)
 mode-by-unique letter = only (modeBy letter)
 
-pub phase-by-unique : (letter byte : ℕ) → Unique (λ (r : Phase). r ≡ phaseBy letter byte)
-phase-by-unique letter byte = only (phaseBy letter byte)
+pub phase-by-unique : (letter value : ℕ) → Unique (λ (r : Phase). r ≡ phaseBy letter value)
+phase-by-unique letter value = only (phaseBy letter value)
 
 pub mode-letter-unique : (m : Mode) → Unique (λ (r : ℕ). r ≡ modeLetter m)
 mode-letter-unique m = only (modeLetter m)
@@ -27,3 +29,10 @@ state-at-unique row = only (stateAt row)
 
 pub device-at-unique : (row : List ℕ) → Unique (λ (r : Device). r ≡ deviceAt row)
 device-at-unique row = only (deviceAt row)
+
+pub word-by-unique : (digit : ℕ) → Unique (λ (r : Bool). r ≡ wordBy digit)
+word-by-unique digit = only (wordBy digit)
+
+-- the array made
+pub vast-unique : Unique (λ (r : List ℕ). (r ≡ replicate {A = ℕ} 524289 0) × (524289 ≡ length r))
+vast-unique r q p t = only (replicate {A = ℕ} 524289 0) r q (p .0) (t .0)

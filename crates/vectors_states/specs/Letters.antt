@@ -1,6 +1,6 @@
 -- Modes and phases as letters, and a row's state and device. Assumes nothing.
 use Prim.Native.Nat.{ℕ, _%_}
-use mathlib.Core.Bool.{false}
+use mathlib.Core.Bool.{Bool}
 use mathlib.Core.List.{List}
 use lib.Dec.{eqb}
 use lib.ListN.{getD}
@@ -20,15 +20,15 @@ modeBy x =
     else if eqb x 83 then Status
     else Identifier
 
--- the phase of a letter: F, C, D, P with its byte, E, U with its cycles to go, and suspended for any other
+-- the phase of a letter: F, C, D, P with what it programs, E, U with its cycles to go, and suspended for any other
 unfoldable pub phaseBy : ℕ → ℕ → Phase
-phaseBy x byte =
+phaseBy x value =
     if eqb x 70 then Free
     else if eqb x 67 then EraseAwaited
     else if eqb x 68 then DataAwaited
-    else if eqb x 80 then Programming byte
+    else if eqb x 80 then Programming value
     else if eqb x 69 then Erasing
-    else if eqb x 85 then Suspending byte
+    else if eqb x 85 then Suspending (value % 256)
     else Suspended
 
 -- the letter of a mode, and of a phase
@@ -41,7 +41,7 @@ abbrev pub phaseLetter : Phase → ℕ
 phaseLetter Free = 70
 phaseLetter EraseAwaited = 67
 phaseLetter DataAwaited = 68
-phaseLetter (Programming byte) = 80
+phaseLetter (Programming value) = 80
 phaseLetter Erasing = 69
 phaseLetter (Suspending n) = 85
 phaseLetter Suspended = 83
@@ -55,16 +55,20 @@ unfoldable pub stateAt : List ℕ → State
 stateAt row = record {
   mode = modeBy (getD row 5 0);
   status = numberAt row 16 2 2 % 256;
-  phase = phaseBy (getD row 7 0) (numberAt row 16 8 2 % 256);
-  left = numberAt row 10 11 5 % 65536;
-  address = numberAt row 16 17 8;
+  phase = phaseBy (getD row 7 0) (numberAt row 16 8 4 % 65536);
+  left = numberAt row 10 13 5 % 65536;
+  address = numberAt row 16 19 8;
 }
+
+-- word mode by its digit: 1 for words, any other for bytes
+abbrev pub wordBy : ℕ → Bool
+wordBy x = eqb x 49
 
 -- the device that a row tells
 unfoldable pub deviceAt : List ℕ → Device
 deviceAt row = record {
-  part = record { number = numberAt row 10 2 3 % 256; word = false };
-  program = numberAt row 10 6 5 % 65536;
-  erase = numberAt row 10 12 5 % 65536;
-  suspend = numberAt row 10 18 3 % 256;
+  part = record { number = numberAt row 10 2 3 % 256; word = wordBy (getD row 6 0) };
+  program = numberAt row 10 8 5 % 65536;
+  erase = numberAt row 10 14 5 % 65536;
+  suspend = numberAt row 10 20 3 % 256;
 }

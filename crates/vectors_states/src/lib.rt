@@ -6,7 +6,9 @@ use model_types::Mode;
 use model_types::Phase;
 use model_types::State;
 ghost use mathlib.Core.Path.{_≡_};
-ghost use Rattle.vectors_states.specs.Letters.{modeBy, phaseBy, modeLetter, phaseLetter, stateAt, deviceAt};
+ghost use Prim.Native.Nat.{ℕ};
+ghost use lib.ListN.{length, replicate};
+ghost use Rattle.vectors_states.specs.Letters.{modeBy, phaseBy, modeLetter, phaseLetter, stateAt, wordBy, deviceAt};
 
 // The mode that a letter stands for; any other letter for the identifier.
 pub fn mode_by(letter: u8) -> Mode
@@ -21,17 +23,10 @@ pub fn mode_by(letter: u8) -> Mode
     Mode::Identifier
 }
 
-// A byte as 16 bits.
-fn sixteen(x: u8) -> u16
-    ensures { λ r. ⌜ r ≡ x ⌝ }
-{
-    x as u16
-}
-
-// The phase that a letter stands for, with a program's byte or the cycles that a suspend has to go; any other letter for a suspended
-// erase.
-pub fn phase_by(letter: u8, byte: u8) -> Phase
-    ensures { λ r. ⌜ r ≡ phaseBy letter byte ⌝ }
+// The phase that a letter stands for, with what a program programs or, in the low eight bits, the cycles that a suspend has to go;
+// any other letter for a suspended erase.
+pub fn phase_by(letter: u8, value: u16) -> Phase
+    ensures { λ r. ⌜ r ≡ phaseBy letter value ⌝ }
 {
     if letter == b'F' {
         return Phase::Free;
@@ -43,13 +38,13 @@ pub fn phase_by(letter: u8, byte: u8) -> Phase
         return Phase::DataAwaited;
     }
     if letter == b'P' {
-        return Phase::Programming(sixteen(byte));
+        return Phase::Programming(value);
     }
     if letter == b'E' {
         return Phase::Erasing;
     }
     if letter == b'U' {
-        return Phase::Suspending(byte);
+        return Phase::Suspending(units::low(value));
     }
     Phase::Suspended
 }
@@ -78,16 +73,16 @@ pub fn phase_letter(phase: Phase) -> u8
     }
 }
 
-// The state of a row: status, mode, phase with its byte, cycles left, address.
+// The state of a row: status, mode, phase with its data, cycles left, address.
 pub fn state_at(row: &[u8]) -> State
     ensures { λ r. ⌜ r ≡ stateAt (now (row .entry)) ⌝ }
 {
     let status = vectors_text::byte_at(row, 16, 2, 2);
     let mode = mode_by(common::nth(row, 5));
-    let byte = vectors_text::byte_at(row, 16, 8, 2);
-    let phase = phase_by(common::nth(row, 7), byte);
-    let left = vectors_text::half_at(row, 10, 11, 5);
-    let address = vectors_text::word_at(row, 16, 17, 8);
+    let value = vectors_text::half_at(row, 16, 8, 4);
+    let phase = phase_by(common::nth(row, 7), value);
+    let left = vectors_text::half_at(row, 10, 13, 5);
+    let address = vectors_text::word_at(row, 16, 19, 8);
     State {
         mode: mode,
         status: status,
@@ -97,21 +92,36 @@ pub fn state_at(row: &[u8]) -> State
     }
 }
 
-// The device of a row: its number, P, E and S.
+// Word mode by its digit: 1 for words, any other for bytes.
+pub fn word_by(digit: u8) -> bool
+    ensures { λ r. ⌜ r ≡ wordBy digit ⌝ }
+{
+    digit == b'1'
+}
+
+// The device of a row: its number, whether it is in word mode, P, E and S.
 pub fn device_at(row: &[u8]) -> Device
     ensures { λ r. ⌜ r ≡ deviceAt (now (row .entry)) ⌝ }
 {
     let number = vectors_text::byte_at(row, 10, 2, 3);
-    let program = vectors_text::half_at(row, 10, 6, 5);
-    let erase = vectors_text::half_at(row, 10, 12, 5);
-    let suspend = vectors_text::byte_at(row, 10, 18, 3);
+    let word = word_by(common::nth(row, 6));
+    let program = vectors_text::half_at(row, 10, 8, 5);
+    let erase = vectors_text::half_at(row, 10, 14, 5);
+    let suspend = vectors_text::byte_at(row, 10, 20, 3);
     Device {
         part: Part {
             number: number,
-            word: false,
+            word: word,
         },
         program: program,
         erase: erase,
         suspend: suspend,
     }
+}
+
+// As many zeros as the largest part has bytes, and one more.
+pub fn vast() -> [u8; 524289]
+    ensures { λ r. ⌜ (r ≡ replicate {A = ℕ} 524289 0) × (524289 ≡ length r) ⌝ }
+{
+    [0; 524289]
 }

@@ -190,7 +190,7 @@ pub fn put(s: &mut [u8], at: usize, b: u8)
     }
 }
 
-// As many zeros as the largest array has bytes, and one more.
+// As many zeros as the largest block has bytes, and one more.
 pub fn blank() -> [u8; 131073]
     ensures { λ r. ⌜ (r ≡ replicate {A = ℕ} 131073 0) × (131073 ≡ length r) ⌝ }
 {

@@ -13,8 +13,8 @@ nth-requires c κs = search needs
 mode-by-requires : tie.Need-mode-by-requires
 mode-by-requires c κs = search needs
 
-byte-at-requires-2 : tie.Need-byte-at-requires-2
-byte-at-requires-2 c κs = search needs
+half-at-requires : tie.Need-half-at-requires
+half-at-requires c κs = search needs
 
 nth-requires-2 : tie.Need-nth-requires-2
 nth-requires-2 c κs = search needs
@@ -22,15 +22,15 @@ nth-requires-2 c κs = search needs
 phase-by-requires : tie.Need-phase-by-requires
 phase-by-requires c κs = search needs
 
-half-at-requires : tie.Need-half-at-requires
-half-at-requires c κs = search needs
+half-at-requires-2 : tie.Need-half-at-requires-2
+half-at-requires-2 c κs = search needs
 
 word-at-requires : tie.Need-word-at-requires
 word-at-requires c κs = search needs
 
 returns : tie.Need-returns
 unfolding stateAt
-returns c = simp (c .word-at .ensures, c .before .half-at .ensures, c .before .before .phase-by .ensures, c .before .before .before .nth2 .ensures, c .before .before .before .before .byte-at2 .ensures, c .before .before .before .before .before .mode-by .ensures, c .before .before .before .before .before .before .nth .ensures, c .before .before .before .before .before .before .before .byte-at .ensures)
+returns c = simp (c .word-at .ensures, c .before .half-at2 .ensures, c .before .before .phase-by .ensures, c .before .before .before .nth2 .ensures, c .before .before .before .before .half-at .ensures, c .before .before .before .before .before .mode-by .ensures, c .before .before .before .before .before .before .nth .ensures, c .before .before .before .before .before .before .before .byte-at .ensures)
 
 pub state-at-spec : {M : Type 1} → statement M
 state-at-spec =
@@ -39,9 +39,9 @@ state-at-spec =
     byte-at-requires
     nth-requires
     mode-by-requires
-    byte-at-requires-2
+    half-at-requires
     nth-requires-2
     phase-by-requires
-    half-at-requires
+    half-at-requires-2
     word-at-requires
     returns)
