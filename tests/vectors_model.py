@@ -5,42 +5,93 @@
     python3 tests/vectors_model.py expected     the lines, as in crates/vectors_model/stdout
     python3 tests/vectors_model.py check        whether both files are what the script prints
 
-The model in the first half is written from documents 01 and 02 alone and shares nothing with the crates: it is the second opinion to
-which the program is held. The second half is the list of cases.
+The model in the first half is written from documents 01 and 02 and the data sheets alone and shares nothing with the crates: it is the
+second opinion to which the program is held. The second half is the list of cases.
 
-A line shows: group and number; the answer (D and a byte, N and two dashes, X and a refusal); the status register; the mode
-(A array, S status, I identifier); the phase (F free, C confirm awaited, D data awaited, P programming and its byte, E erasing,
+A line shows: group and number; the answer (D and what was read, N and dashes, X and a refusal); the status register; the mode
+(A array, S status, I identifier); the phase (F free, C confirm awaited, D data awaited, P programming and its data, E erasing,
 U being suspended and the cycles of that to go, S suspended); the cycles to go; the operation's address; a digest of the array that was lent.
 
-What a row of the table holds is said at ROWS below; what stands from column 40 on is a note to the reader.
+Addresses of cycles and states count units: bytes, or in word mode words. What a row of the table holds is said at ROWS below; what
+stands from column 40 on is a note to the reader.
 """
+import functools
 import pathlib
 import sys
 from collections import namedtuple
 
 # ---------------------------------------------------------------- the model
 
-Device = namedtuple("Device", "number program erase suspend", defaults=(1,))
-State = namedtuple("State", "mode status phase byte left address")  # byte: in phase P the byte, in phase U the cycles to go
-Cycle = namedtuple("Cycle", "kind rp oe vpp address byte")
+Device = namedtuple("Device", "number program erase suspend word", defaults=(1, 0))
+State = namedtuple("State", "mode status phase data left address")  # data: in phase P what is programmed, in phase U the cycles to go
+Cycle = namedtuple("Cycle", "kind rp oe vpp address data wp", defaults=(0,))
 
-# Four devices: first and last address of blocks 0 to 3, and the size.
+# Eight devices: first and last byte address of each block, outward from the boot block, and the size in bytes.
 BLOCKS = {
     1: ((0x1E000, 0x1FFFF), (0x1D000, 0x1DFFF), (0x1C000, 0x1CFFF), (0x00000, 0x1BFFF)),
     2: ((0x00000, 0x01FFF), (0x02000, 0x02FFF), (0x03000, 0x03FFF), (0x04000, 0x1FFFF)),
     3: ((0x3C00, 0x3FFF), (0x3A00, 0x3BFF), (0x3800, 0x39FF), (0x0000, 0x37FF)),
     4: ((0x0000, 0x03FF), (0x0400, 0x05FF), (0x0600, 0x07FF), (0x0800, 0x3FFF)),
+    5: ((0x3C000, 0x3FFFF), (0x3A000, 0x3BFFF), (0x38000, 0x39FFF), (0x20000, 0x37FFF), (0x00000, 0x1FFFF)),
+    6: ((0x00000, 0x03FFF), (0x04000, 0x05FFF), (0x06000, 0x07FFF), (0x08000, 0x1FFFF), (0x20000, 0x3FFFF)),
+    7: (
+        (0x7C000, 0x7FFFF), (0x7A000, 0x7BFFF), (0x78000, 0x79FFF), (0x60000, 0x77FFF),
+        (0x40000, 0x5FFFF), (0x20000, 0x3FFFF), (0x00000, 0x1FFFF),
+    ),
+    8: (
+        (0x00000, 0x03FFF), (0x04000, 0x05FFF), (0x06000, 0x07FFF), (0x08000, 0x1FFFF),
+        (0x20000, 0x3FFFF), (0x40000, 0x5FFFF), (0x60000, 0x7FFFF),
+    ),
 }
-SIZE = {1: 131072, 2: 131072, 3: 16384, 4: 16384}
+SIZE = {1: 131072, 2: 131072, 3: 16384, 4: 16384, 5: 262144, 6: 262144, 7: 524288, 8: 524288}
+MAKER = 0x0089
+CODE = {1: 0x94, 2: 0x95, 3: 0x94, 4: 0x95, 5: 0x2274, 6: 0x2275, 7: 0x4470, 8: 0x4471}
 
 READY, SUSPENDED, ERASE_ERROR, PROGRAM_ERROR, VPP_LOW = 0x80, 0x40, 0x20, 0x10, 0x08
 AWAITING, RUNNING, BUSY, IN_FLIGHT = "CD", "PE", "PEU", "PEUS"
 FRESH = State("A", READY, "F", 0, 0, 0)
 
 
+def is_part(device):
+    """The part is one: a number there is, and word mode on the 28F200BR and 28F400BR only."""
+    return device.number in BLOCKS and device.word in ((0, 1) if device.number > 4 else (0,))
+
+
+def is_device(device):
+    return is_part(device) and device.program > 0 and device.erase > 0 and 1 <= device.suspend <= 100
+
+
+def width(device):
+    """The bytes of a unit."""
+    return 2 if device.word else 1
+
+
+def unit_at(device, part, address):
+    """A unit of lent bytes, low byte first."""
+    w = width(device)
+    return int.from_bytes(part[address * w : address * w + w], "little")
+
+
+def put_unit(device, part, address, value):
+    w = width(device)
+    part[address * w : address * w + w] = value.to_bytes(w, "little")
+
+
+def carried(device, data):
+    """What a cycle carries of 16 bits."""
+    return data if device.word else data & 0xFF
+
+
 def block_of(device, address):
-    """The number of the block that holds an address."""
-    return next(k for k, (first, last) in enumerate(BLOCKS[device.number]) if first <= address <= last)
+    """The number of the block that holds a unit."""
+    byte = address * width(device)
+    return next(k for k, (first, last) in enumerate(BLOCKS[device.number]) if first <= byte <= last)
+
+
+def block_bytes(device, address):
+    """First byte address, and the one past the last, of the block that holds a unit."""
+    first, last = BLOCKS[device.number][block_of(device, address)]
+    return first, last + 1
 
 
 def error_bit(state):
@@ -48,17 +99,28 @@ def error_bit(state):
     return PROGRAM_ERROR if state.phase in "DP" else ERASE_ERROR
 
 
-def low(vpp):
-    return vpp <= 6500
+def low(device, vpp):
+    return vpp <= (1500 if device.number > 4 else 6500)
 
 
-def bad_levels(c):
-    """One bus cycle: levels outside those that the page knows."""
-    if c.rp > 2 or c.oe > 1:
+def high(device, vpp):
+    return 11400 <= vpp <= 12600 or device.number > 4 and 4500 <= vpp <= 5500
+
+
+def bad_levels(device, c):
+    """One bus cycle: levels outside those that the documents know."""
+    if c.rp > 2 or not (low(device, c.vpp) or high(device, c.vpp)):
         return True
-    if c.oe == 1 and c.kind != "W":
-        return True
-    return not (low(c.vpp) or 11400 <= c.vpp <= 12600)
+    if device.number > 4:
+        return c.oe != 0 or c.wp > 1
+    return c.oe > (1 if c.kind == "W" else 0)
+
+
+def unlocked(device, c):
+    """What unlocks the boot block."""
+    if device.number > 4:
+        return c.wp == 1 or c.rp == 2
+    return c.rp == 2 or c.oe == 1
 
 
 def proper(device, s):
@@ -75,52 +137,53 @@ def proper(device, s):
         return False
     if s.phase not in IN_FLIGHT:
         return s.left == 0 and s.address == 0
-    if s.phase == "U" and not 1 <= s.byte <= device.suspend:
+    if s.phase == "U" and not 1 <= s.data <= device.suspend:
         return False
     most = device.program if s.phase == "P" else device.erase
-    return 1 <= s.left <= most and s.address < SIZE[device.number]
+    return 1 <= s.left <= most and s.address * width(device) < SIZE[device.number]
 
 
-def cut_comes(s, c):
+def cut_comes(device, s, c):
     """Steps 1 and 2: RP# low or VPP low meets an operation running or suspended."""
-    return s.phase in IN_FLIGHT and (c.rp == 0 or low(c.vpp))
+    return s.phase in IN_FLIGHT and (c.rp == 0 or low(device, c.vpp))
 
 
 def residue_needed(device, s):
-    """How long a residue the cut of this operation needs."""
+    """How many bytes of residue the cut of this operation needs."""
     if s.phase == "P":
-        return 1
-    first, last = BLOCKS[device.number][block_of(device, s.address)]
-    return last - first + 1
+        return width(device)
+    first, past = block_bytes(device, s.address)
+    return past - first
 
 
 def cut(device, s, array, residue):
     """What a cut leaves in the array."""
     if s.phase == "P":
-        array[s.address] &= s.byte | residue[0]
+        r = unit_at(device, residue, 0)
+        put_unit(device, array, s.address, unit_at(device, array, s.address) & (s.data | r))
     else:
-        first, last = BLOCKS[device.number][block_of(device, s.address)]
-        array[first : last + 1] = residue[: last - first + 1]
+        first, past = block_bytes(device, s.address)
+        array[first:past] = residue[: past - first]
 
 
 def finish(device, s, array):
     """Step 3: what an operation leaves in the array when it is finished."""
     if s.phase == "P":
-        array[s.address] &= s.byte
+        put_unit(device, array, s.address, unit_at(device, array, s.address) & s.data)
     else:
-        first, last = BLOCKS[device.number][block_of(device, s.address)]
-        array[first : last + 1] = b"\xff" * (last - first + 1)
+        first, past = block_bytes(device, s.address)
+        array[first:past] = b"\xff" * (past - first)
 
 
-def settled(s, c):
+def settled(device, s, c):
     """The state that steps 2 and 3 leave."""
-    if cut_comes(s, c):
+    if cut_comes(device, s, c):
         status = (s.status | READY | VPP_LOW | error_bit(s)) & ~SUSPENDED
         return State("S", status, "F", 0, 0, 0)
     if s.phase == "U":
-        if s.byte == 1:
-            return s._replace(phase="S", byte=0, status=s.status | READY | SUSPENDED)
-        return s._replace(byte=s.byte - 1)
+        if s.data == 1:
+            return s._replace(phase="S", data=0, status=s.status | READY | SUSPENDED)
+        return s._replace(data=s.data - 1)
     if s.phase in RUNNING:
         if s.left == 1:
             return State("S", s.status | READY, "F", 0, 0, 0)
@@ -128,19 +191,19 @@ def settled(s, c):
     return s
 
 
-def first_write(s, byte):
+def first_write(device, s, command):
     """Writes, nothing awaited, running or suspended. None is refusal 7."""
-    if byte in (0xFF, 0xB0):
+    if command in (0xFF, 0xB0):
         return s._replace(mode="A")
-    if byte == 0x90:
+    if command == 0x90:
         return s._replace(mode="I")
-    if byte == 0x70:
+    if command == 0x70:
         return s._replace(mode="S")
-    if byte == 0x50:
+    if command == 0x50:
         return s._replace(status=s.status & ~(ERASE_ERROR | PROGRAM_ERROR | VPP_LOW))
-    if byte == 0x20:
+    if command == 0x20:
         return s._replace(mode="S", phase="C")
-    if byte == 0x40:
+    if command == 0x40 or command == 0x10 and device.number > 4:
         return s._replace(mode="S", phase="D")
     return None
 
@@ -148,83 +211,96 @@ def first_write(s, byte):
 def second_write(device, s, c):
     """Second writes."""
     over = s._replace(phase="F")
-    if s.phase == "C" and c.byte != 0xD0:
+    if s.phase == "C" and c.data & 0xFF != 0xD0:
         return over._replace(status=s.status | ERASE_ERROR | PROGRAM_ERROR)
     errors = 0
-    if low(c.vpp) or s.status & VPP_LOW:
+    if low(device, c.vpp) or s.status & VPP_LOW:
         errors |= VPP_LOW | error_bit(s)
-    if block_of(device, c.address) == 0 and c.rp != 2 and c.oe != 1:
+    if block_of(device, c.address) == 0 and not unlocked(device, c):
         errors |= error_bit(s)
     if errors:
         return over._replace(status=s.status | errors)
     if s.phase == "C":
         return State("S", s.status & ~READY, "E", 0, device.erase, c.address)
-    return State("S", s.status & ~READY, "P", c.byte, device.program, c.address)
+    return State("S", s.status & ~READY, "P", carried(device, c.data), device.program, c.address)
 
 
-def busy_write(device, s, byte):
+def busy_write(device, s, command):
     """While busy. 70H finds the mode that it asks for."""
-    if s.phase == "E" and byte == 0xB0:
-        return s._replace(phase="U", byte=device.suspend)
+    if s.phase == "E" and command == 0xB0:
+        return s._replace(phase="U", data=device.suspend)
     return s
 
 
-def suspended_write(s, byte):
+def suspended_write(s, command):
     """While suspended."""
-    if byte == 0xFF:
+    if command == 0xFF:
         return s._replace(mode="A")
-    if byte == 0x70:
+    if command == 0x70:
         return s._replace(mode="S")
-    if byte == 0xD0:
+    if command == 0xD0:
         return s._replace(phase="E", status=s.status & ~(READY | SUSPENDED), mode="S")
     return s
 
 
 def write(device, s, c):
-    """Step 4 for a write: the state after it, or None where it is refused 7."""
+    """Step 4 for a write: the state after it, or None where it is refused 7. A command is the low eight bits."""
+    command = c.data & 0xFF
     if s.phase == "F":
-        return first_write(s, c.byte)
+        return first_write(device, s, command)
     if s.phase in AWAITING:
         return second_write(device, s, c)
     if s.phase in BUSY:
-        return busy_write(device, s, c.byte)
-    return suspended_write(s, c.byte)
+        return busy_write(device, s, command)
+    return suspended_write(s, command)
+
+
+def identifier(device, address):
+    """The maker's code and the device's. A-1 is not looked at in the byte mode of devices 5 to 8, and the low byte is read."""
+    place = address // 2 if device.number > 4 and not device.word else address
+    if place > 1:
+        return ("X", 9)
+    return ("D", carried(device, CODE[device.number] if place else MAKER))
 
 
 def read(device, s, c, array):
     """Reads: what step 4 answers to a read."""
     if s.phase in BUSY or s.mode == "S":
         return ("D", s.status)
-    if s.mode == "A":
-        if s.phase == "S" and block_of(device, s.address) == block_of(device, c.address):
-            return ("X", 8)
-        return ("D", array[c.address])
-    if c.address == 0:
-        return ("D", 0x89)
-    if c.address == 1:
-        return ("D", 0x94 if device.number in (1, 3) else 0x95)
-    return ("X", 9)
+    if s.mode == "I":
+        return identifier(device, c.address)
+    if s.phase == "S" and block_of(device, s.address) == block_of(device, c.address):
+        return ("X", 8)
+    return ("D", unit_at(device, array, c.address))
+
+
+def judged(device, s, c, array, residue):
+    """Refusals 1 to 6 of a cycle, 0 for none."""
+    if not is_device(device):
+        return 1
+    if array != SIZE[device.number]:
+        return 2
+    if not proper(device, s):
+        return 3
+    if bad_levels(device, c):
+        return 4
+    if c.rp != 0 and c.kind != "I" and c.address * width(device) >= array:
+        return 5
+    if cut_comes(device, s, c) and residue < residue_needed(device, s):
+        return 6
+    return 0
 
 
 def cycle(device, s, c, array, residue):
     """One bus cycle: the answer and the state after it. The array is changed in place."""
-    if device.number not in BLOCKS or device.program == 0 or device.erase == 0 or not 1 <= device.suspend <= 100:
-        return ("X", 1), s
-    if len(array) != SIZE[device.number]:
-        return ("X", 2), s
-    if not proper(device, s):
-        return ("X", 3), s
-    if bad_levels(c):
-        return ("X", 4), s
-    if c.rp != 0 and c.kind != "I" and c.address >= len(array):
-        return ("X", 5), s
-    if cut_comes(s, c) and len(residue) < residue_needed(device, s):
-        return ("X", 6), s
+    number = judged(device, s, c, len(array), len(residue))
+    if number:
+        return ("X", number), s
     if c.rp == 0:
-        if cut_comes(s, c):
+        if cut_comes(device, s, c):
             cut(device, s, array, residue)
         return ("N", 0), FRESH
-    answer, after = ("N", 0), settled(s, c)
+    answer, after = ("N", 0), settled(device, s, c)
     if c.kind == "W":
         after = write(device, after, c)
         if after is None:
@@ -233,7 +309,7 @@ def cycle(device, s, c, array, residue):
         answer = read(device, after, c, array)
         if answer[0] == "X":
             return answer, s
-    if cut_comes(s, c):
+    if cut_comes(device, s, c):
         cut(device, s, array, residue)
     elif s.phase in RUNNING and s.left == 1:
         finish(device, s, array)
@@ -242,32 +318,48 @@ def cycle(device, s, c, array, residue):
 
 # ---------------------------------------------------------------- the bench on which the cases are run
 
-ROOM = 131073  # one byte more than the largest array, so that one too many can be lent
+ARRAY_ROOM = 524289  # one byte more than the largest array, so that one too many can be lent
+ROOM = 131073  # one byte more than the largest block, for a residue, wanted or scratch
 
 # ROWS. The letters R, W, I run a cycle and print a line; F (fresh) and Z (reset) print a line too; the others prepare.
 #   G name                            the group's four letters
-#   D number program erase suspend array residue     the device, and how much of array and residue is lent
+#   D number word program erase suspend array residue     the device, and how many bytes of array and residue are lent
 #   A first step, B first step        fill the array, the residue, as far as they are lent
 #   S status mode phase left address  the state, as a line shows it
-#   R rp oe vpp address byte          the cycle
+#   R rp oe wp vpp address data       the cycle
 
 
-def pattern(first, step):
+@functools.cache
+def sown(first, step, room):
     """Bytes of period 257, which divides no block's length; a step of 0 makes them all alike."""
-    return bytearray((first + step * i) % 257 % 256 for i in range(ROOM))
+    period = bytes((first + step * i) % 257 % 256 for i in range(257))
+    return (period * (room // 257 + 1))[:room]
+
+
+def pattern(first, step, room=ROOM):
+    return bytearray(sown(first, step, room))
+
+
+@functools.cache
+def piece_digest(piece):
+    h = 0
+    for b in piece:
+        h = (31 * h + b) % 65521
+    return h
 
 
 def digest(part):
-    """A number that any one changed byte changes."""
-    h = 0
-    for b in part:
-        h = (31 * h + b) % 65521
+    """A number that any one changed byte changes: h = 31 h + byte modulo 65,521. It is put together from pieces that are worked out once."""
+    h, data = 0, bytes(part)
+    for at in range(0, len(data), 2048):
+        piece = data[at : at + 2048]
+        h = (pow(31, len(piece), 65521) * h + piece_digest(piece)) % 65521
     return h
 
 
 def shown(s):
     """A state as the rows and the lines have it."""
-    phase = f"{s.phase}{s.byte:02X}" if s.phase in "PU" else f"{s.phase}--"
+    phase = f"{s.phase}{s.data:04X}" if s.phase in "PU" else f"{s.phase}----"
     return f"{s.status:02X} {s.mode} {phase} {s.left:05d} {s.address:08X}"
 
 
@@ -276,7 +368,7 @@ class Bench:
 
     def __init__(self):
         self.device, self.state, self.lent, self.rest = Device(0, 0, 0), FRESH, 0, 0
-        self.array, self.residue, self.name, self.number = bytearray(ROOM), bytearray(ROOM), "    ", 0
+        self.array, self.residue, self.name, self.number = bytearray(ARRAY_ROOM), bytearray(ROOM), "    ", 0
         self.rows, self.lines, self.known = [], [], (None, 0)
 
     def row(self, text, note=""):
@@ -286,24 +378,24 @@ class Bench:
         self.name = name
         self.row(f"G {name}", note)
 
-    def use(self, number, program, erase, array=None, residue=None, suspend=1):
+    def use(self, number, program, erase, array=None, residue=None, suspend=1, word=0):
         """Take a device, with an array and a residue of these lengths."""
-        self.device = Device(number, program, erase, suspend)
+        self.device = Device(number, program, erase, suspend, word)
         self.lent = SIZE.get(number, 16384) if array is None else array
-        self.rest = SIZE.get(number, 16384) if residue is None else residue
-        self.row(f"D {number:03d} {program:05d} {erase:05d} {suspend:03d} {self.lent:06d} {self.rest:06d}")
+        self.rest = min(SIZE.get(number, 16384), 131072) if residue is None else residue
+        self.row(f"D {number:03d} {word} {program:05d} {erase:05d} {suspend:03d} {self.lent:06d} {self.rest:06d}")
 
     def fill(self, first, step):
-        self.array[: self.lent] = pattern(first, step)[: self.lent]
+        self.array[: self.lent] = pattern(first, step, self.lent)
         self.row(f"A {first:03d} {step:03d}")
 
     def fill_residue(self, first, step):
-        self.residue[: self.rest] = pattern(first, step)[: self.rest]
+        self.residue[: self.rest] = pattern(first, step, self.rest)
         self.row(f"B {first:03d} {step:03d}")
 
-    def put(self, mode, status, phase, left=0, address=0, byte=0):
+    def put(self, mode, status, phase, left=0, address=0, data=0):
         """Put the device into a state."""
-        self.state = State(mode, status, phase, byte, left, address)
+        self.state = State(mode, status, phase, data, left, address)
         self.row(f"S {shown(self.state)}")
 
     def say(self, answer):
@@ -311,9 +403,9 @@ class Bench:
         part, (kind, value) = bytes(self.array[: self.lent]), answer
         if self.known[0] != part:
             self.known = (part, digest(part))
-        told = {"D": f"D {value:02X}", "N": "N --", "X": f"X {value:02d}"}[kind]
+        told = {"D": f"D {value:04X}", "N": "N ----", "X": f"X {value:02d}"}[kind]
         self.number += 1
-        self.lines.append(f"{self.name} {self.number:03d} {told} {shown(self.state)} {self.known[1]:04X}")
+        self.lines.append(f"{self.name} {self.number:04d} {told} {shown(self.state)} {self.known[1]:04X}")
 
     def fresh(self, note):
         self.state = FRESH
@@ -325,22 +417,22 @@ class Bench:
         self.row("Z", note)
         self.say(("N", 0))
 
-    def run(self, kind, address, byte, note, rp=1, oe=0, vpp=12000):
-        c = Cycle(kind, rp, oe, vpp, address, byte)
+    def run(self, kind, address, data, note, rp=1, oe=0, vpp=12000, wp=0):
+        c = Cycle(kind, rp, oe, vpp, address, data, wp)
         part = self.array[: self.lent]
         answer, self.state = cycle(self.device, self.state, c, part, self.residue[: self.rest])
         self.array[: self.lent] = part
-        self.row(f"{kind} {rp:03d} {oe:03d} {vpp:010d} {address:08X} {byte:02X}", note)
+        self.row(f"{kind} {rp:03d} {oe:03d} {wp:03d} {vpp:010d} {address:08X} {data:04X}", note)
         self.say(answer)
 
     def read(self, address, note="", **pins):
         self.run("R", address, 0, note, **pins)
 
-    def write(self, address, byte, note="", **pins):
-        self.run("W", address, byte, note, **pins)
+    def write(self, address, data, note="", **pins):
+        self.run("W", address, data, note, **pins)
 
-    def idle(self, note="", address=0, byte=0, **pins):
-        self.run("I", address, byte, note, **pins)
+    def idle(self, note="", address=0, data=0, **pins):
+        self.run("I", address, data, note, **pins)
 
 
 # ---------------------------------------------------------------- the cases
@@ -413,7 +505,7 @@ def commands(b):
         ("free, all error bits set", dict(mode="I", status=0xB8, phase="F")),
         ("confirm awaited", dict(mode="S", status=0x80, phase="C")),
         ("data awaited", dict(mode="S", status=0x80, phase="D")),
-        ("programming", dict(mode="S", status=0x20, phase="P", left=2, address=0x3A07, byte=0x5A)),
+        ("programming", dict(mode="S", status=0x20, phase="P", left=2, address=0x3A07, data=0x5A)),
         ("erasing", dict(mode="S", status=0x10, phase="E", left=3, address=0x3A07)),
         ("suspended", dict(mode="A", status=0xC0, phase="S", left=2, address=0x3A07)),
     )
@@ -549,11 +641,11 @@ def cuts(b):
     b.group("cuts", "both cuts, in both operations and while suspended")
     new_bench(b)
     running = (
-        ("program", dict(mode="S", status=0x20, phase="P", left=2, address=0x3C01, byte=0x02)),
-        ("program, 1 to go", dict(mode="S", status=0x00, phase="P", left=1, address=0x0011, byte=0x0F)),
+        ("program", dict(mode="S", status=0x20, phase="P", left=2, address=0x3C01, data=0x02)),
+        ("program, 1 to go", dict(mode="S", status=0x00, phase="P", left=1, address=0x0011, data=0x0F)),
         ("erase", dict(mode="S", status=0x10, phase="E", left=3, address=0x3A11)),
         ("erase, 1 to go", dict(mode="S", status=0x00, phase="E", left=1, address=0x3A11)),
-        ("being suspended", dict(mode="S", status=0x20, phase="U", left=2, address=0x3811, byte=1)),
+        ("being suspended", dict(mode="S", status=0x20, phase="U", left=2, address=0x3811, data=1)),
         ("suspended, mode array", dict(mode="A", status=0xC0, phase="S", left=2, address=0x3811)),
         ("suspended, mode status", dict(mode="S", status=0xF0, phase="S", left=3, address=0x3FFF)),
     )
@@ -579,7 +671,7 @@ def together(b):
     b.group("both", "a cut and a write in one cycle")
     new_bench(b)
     busy = (
-        ("program", dict(mode="S", status=0x00, phase="P", left=2, address=0x0011, byte=0x0F)),
+        ("program", dict(mode="S", status=0x00, phase="P", left=2, address=0x0011, data=0x0F)),
         ("erase", dict(mode="S", status=0x00, phase="E", left=3, address=0x3A11)),
         ("suspended", dict(mode="A", status=0xC0, phase="S", left=3, address=0x3A11)),
     )
@@ -598,7 +690,7 @@ def order(b):
     b.group("ordr", "the lowest number that applies")
     new_bench(b)
     b.use(3, 2, 3, residue=0)
-    program = dict(mode="S", status=0x00, phase="P", left=2, address=0x0011, byte=0x0F)
+    program = dict(mode="S", status=0x00, phase="P", left=2, address=0x0011, data=0x0F)
     b.put(**program)
     b.write(0x4000, 0x00, "5 before 6 and 7", vpp=0)
     b.write(0x0000, 0x00, "6 before 7", vpp=0)
@@ -658,7 +750,7 @@ def past(b):
     b.read(MOST, "far past")
     b.write(0x4000, 0xFF, "a command")
     b.idle("idle", address=0x4000)
-    b.idle("idle", address=MOST, byte=0xFF)
+    b.idle("idle", address=MOST, data=0xFF)
     b.put("S", 0x80, "F")
     b.read(0x4000, "a status read")
     b.put("S", 0x80, "D")
@@ -924,11 +1016,549 @@ def levels(b):
     b.idle("RP# 2: the erase ends", rp=2)
 
 
+# ---------------------------------------------------------------- the cases of devices 5 to 8
+
+NEW = (5, 6, 7, 8)
+BOTH = tuple((number, word) for number in NEW for word in (0, 1))
+BANDS = (0, 1500, 1501, 4499, 4500, 5500, 5501, 6500, 6501, 11399, 11400, 12600, 12601)
+WIDE_COMMANDS = COMMANDS + (0x10,)
+
+
+def named(number, word):
+    return f"device {number} in {'words' if word else 'bytes'}"
+
+
+def wide_bench(b, number=5, word=1, program=2, erase=3, suspend=1):
+    """One of devices 5 to 8 with both patterns."""
+    b.use(number, program, erase, suspend=suspend, word=word)
+    b.fill(200, 3)
+    b.fill_residue(17, 5)
+
+
+def at(b, byte):
+    """The unit that holds a byte."""
+    return byte // width(b.device)
+
+
+def edges(b, k):
+    """The first and the last unit of a block."""
+    return tuple(at(b, byte) for byte in BLOCKS[b.device.number][k])
+
+
+def wide_cards(b):
+    b.group("wide", "the first nine bench cards on device 5, in both widths")
+    for word, ones in ((1, 0x0101), (0, 0x01)):
+        wide_bench(b, 5, word)
+        main, boot, one, two = 0x10, *(edges(b, k)[0] for k in (0, 1, 2))
+        b.fill(0xA5, 0)
+        b.fresh(f"a fresh {named(5, word)}")
+        for data, note in ((0x40, "5A.. over A5.."), (0x5A * ones, ""), (None, "busy"), (None, "the status, high byte 0"), (0xFF, "")):
+            b.read(main, note) if data is None else b.write(main, data, note)
+        b.read(main, "what is left, and its neighbours")
+        b.read(main - 1)
+        b.read(main + 1)
+        b.write(main, 0x40, "FF.. over it leaves it")
+        b.write(main, 0xFF * ones)
+        b.idle()
+        b.idle()
+        b.write(0, 0x20, "20H then FFH")
+        b.write(0, 0xFF)
+        b.fresh("confirmed at 1,500 mV: 98H")
+        b.write(main, 0x40)
+        b.write(main, 0x00, vpp=1500)
+        b.fresh("and the erase: A8H")
+        b.write(main, 0x20)
+        b.write(main, 0xD0, vpp=1500)
+        b.fresh("boot erase, locked: A0H")
+        b.write(boot, 0x20)
+        b.write(boot, 0xD0)
+        b.write(boot, 0x50, "with RP# at V_HH it erases")
+        b.write(boot, 0x20, rp=2)
+        b.write(boot, 0xD0, rp=2)
+        b.write(boot, 0xB0, "suspended: C0H")
+        b.read(boot)
+        b.write(boot, 0xD0, "resumed, to its end")
+        b.read(0)
+        b.read(0)
+        b.write(one, 0x20, "20H in block 1, D0H in block 2")
+        b.write(two, 0xD0, vpp=5000)
+        b.idle(vpp=5000)
+        b.idle(vpp=5000)
+        b.idle(vpp=5000)
+        b.fill(0xF0, 0)
+        b.fill_residue(0x33, 0)
+        b.write(main, 0x40, "0F.. over F0.. cut by VPP, r 33..: 30.., 98H")
+        b.write(main, 0x0F * ones)
+        b.read(main, vpp=0)
+        b.write(0, 0xFF)
+        b.read(main)
+
+
+def wide_commands(b):
+    b.group("cmdw", "every command in every phase, in words and in bytes")
+    for number, word in ((5, 1), (6, 0)):
+        wide_bench(b, number, word)
+        there, other = (edges(b, k)[0] + 7 for k in (1, 2))
+        phases = (
+            ("free, all error bits set", dict(mode="I", status=0xB8, phase="F")),
+            ("confirm awaited", dict(mode="S", status=0x80, phase="C")),
+            ("data awaited", dict(mode="S", status=0x80, phase="D")),
+            ("programming", dict(mode="S", status=0x20, phase="P", left=2, address=there, data=0x5A)),
+            ("erasing", dict(mode="S", status=0x10, phase="E", left=3, address=there)),
+            ("being suspended", dict(mode="S", status=0x10, phase="U", left=3, address=there, data=1)),
+            ("suspended", dict(mode="A", status=0xC0, phase="S", left=2, address=there)),
+        )
+        for name, state in phases:
+            for data in WIDE_COMMANDS:
+                b.put(**state)
+                b.write(other, data, f"{name}: {data:02X}H")
+
+
+def ten(b):
+    b.group("ten ", "10H awaits data on devices 5 to 8, and is no command on devices 1 to 4")
+    for number, word in tuple((n, 0) for n in (1, 2, 3, 4)) + BOTH:
+        b.use(number, 2, 3, word=word)
+        b.fill(200, 3)
+        b.put("A", 0xB0, "F")
+        b.write(0x9000 // width(b.device) if number not in (3, 4) else 0x1000, 0x10, named(number, word))
+        if number > 4:
+            b.write(at(b, BLOCKS[number][3][0]), 0x1010, "and 10H is data then")
+            b.idle()
+            b.idle("at its end")
+    b.use(3, 2, 3)
+    b.fill(200, 3)
+    b.put("A", 0x80, "F")
+    b.write(0x0011, 0x40, "device 3: 40H and 10H as data")
+    b.write(0x0011, 0x10)
+
+
+def high_bytes(b):
+    b.group("high", "the high byte of a command is not looked at; of data in word mode alone")
+    for number, word in ((5, 1), (6, 0), (3, 0)):
+        b.use(number, 2, 3, word=word)
+        b.fill(200, 3)
+        there = 0x3A07 if number == 3 else edges(b, 1)[0] + 7
+        other = 0x3805 if number == 3 else edges(b, 2)[0] + 5
+        for data in (0xFFFF, 0x12FF, 0xFF90, 0x0170, 0xFF50, 0x8020, 0x5540, 0xA5B0, 0x40D0, 0xFF00, 0x4000, 0xFF10):
+            b.put("I", 0xB8, "F")
+            b.write(other, data, f"{named(number, word)}: {data:04X}H at rest")
+        for data in (0x00D0, 0x01D0, 0xFFD0, 0xD000, 0xD0D1):
+            b.put("S", 0x80, "C")
+            b.write(there, data, f"confirm awaited: {data:04X}H")
+        for data in (0x00FF, 0x1234, 0xFF00, 0xABCD):
+            b.put("S", 0x80, "D")
+            b.write(there, data, f"data awaited: {data:04X}H")
+            b.idle()
+            b.idle("at its end")
+        for data in (0x77B0, 0xB000):
+            b.put("S", 0x00, "E", 3, there)
+            b.write(other, data, f"erasing: {data:04X}H")
+        for data in (0x12FF, 0x3470, 0x56D0, 0xD0FE):
+            b.put("A", 0xC0, "S", 3, there)
+            b.write(other, data, f"suspended: {data:04X}H")
+        b.put("S", 0x80, "F")
+        b.idle("idle carries anything", address=MOST, data=0xFFFF)
+
+
+def status_reads(b):
+    b.group("sr16", "a status read has a high byte of 0; an array read has the unit's")
+    for word in (1, 0):
+        wide_bench(b, 5, word)
+        there = edges(b, 1)[0] + 7
+        phases = (
+            ("free, all error bits", dict(mode="S", status=0xB8, phase="F")),
+            ("confirm awaited", dict(mode="S", status=0x80, phase="C")),
+            ("data awaited", dict(mode="S", status=0xA0, phase="D")),
+            ("programming", dict(mode="S", status=0x38, phase="P", left=2, address=there, data=0xFFFF if word else 0xFF)),
+            ("erasing", dict(mode="S", status=0x10, phase="E", left=3, address=there)),
+            ("being suspended", dict(mode="S", status=0x10, phase="U", left=3, address=there, data=1)),
+            ("suspended", dict(mode="S", status=0xC0, phase="S", left=2, address=there)),
+        )
+        for name, state in phases:
+            b.put(**state)
+            b.read(there, name)
+        b.put("A", 0x80, "F")
+        for byte in (0, 2, 3, 0x1FFFE, 0x20000, 0x3FFFE, 0x3FFFF):
+            b.read(at(b, byte), f"the array's unit of byte {byte:05X}H")
+
+
+def wide_bands(b):
+    b.group("volt", "the supply's bands on devices 5 to 8")
+    for number, word in ((5, 1), (6, 0)):
+        wide_bench(b, number, word)
+        there = edges(b, 1)[0] + 7
+        for vpp in BANDS:
+            b.put("A", 0x80, "F")
+            b.read(0x0123, f"{named(number, word)}: an array read at {vpp} mV", vpp=vpp)
+            b.put("S", 0x80, "D")
+            b.write(0x0123, 0x0F, f"data at {vpp} mV", vpp=vpp)
+            b.put("S", 0x80, "C")
+            b.write(there, 0xD0, f"a confirm at {vpp} mV", vpp=vpp)
+            b.put("S", 0x00, "P", 2, 0x0123, 0x0F)
+            b.idle(f"programming at {vpp} mV", vpp=vpp)
+            b.put("S", 0x00, "E", 3, there)
+            b.read(there, f"erasing at {vpp} mV", vpp=vpp)
+            b.put("S", 0x00, "U", 2, there, 1)
+            b.idle(f"being suspended at {vpp} mV", vpp=vpp)
+            b.put("A", 0xC0, "S", 3, there)
+            b.read(0x0123, f"suspended at {vpp} mV", vpp=vpp)
+        b.put("A", 0x80, "F")
+        b.read(0x0123, "far above", vpp=MOST)
+        b.read(0x0123, "RP# low, between the bands", vpp=9000, rp=0)
+        b.idle("idle, between the bands", vpp=3000)
+    for number, word in ((5, 0), (6, 1), (7, 0), (7, 1), (8, 0), (8, 1)):
+        b.use(number, 2, 3, word=word)
+        for vpp in BANDS:
+            b.put("S", 0x80, "D")
+            b.write(at(b, 0x9000), 0x0F, f"{named(number, word)}: data at {vpp} mV", vpp=vpp)
+
+
+def band_changes(b):
+    b.group("swap", "a change from one high band to the other is no cut")
+    for word in (1, 0):
+        wide_bench(b, 5, word, 3, 4)
+        there = edges(b, 1)[0] + 7
+        for first, then in ((5000, 12000), (12000, 4500), (5500, 11400)):
+            b.fill(200, 3)
+            b.put("S", 0x80, "D")
+            b.write(0x0123, 0x0F, f"data at {first} mV", vpp=first)
+            b.idle(f"programming at {then} mV", vpp=then)
+            b.idle(f"at {first} mV again", vpp=first)
+            b.read(0x0123, "to its end", vpp=then)
+            b.put("S", 0x80, "C")
+            b.write(there, 0xD0, f"a confirm at {first} mV", vpp=first)
+            b.write(there, 0xB0, f"suspended at {then} mV", vpp=then)
+            b.read(there, "the status", vpp=first)
+            b.write(there, 0xD0, f"resumed at {then} mV", vpp=then)
+            b.idle(f"at {first} mV", vpp=first)
+            b.idle(f"at {then} mV", vpp=then)
+            b.read(there, "to its end", vpp=first)
+
+
+def wide_identifiers(b):
+    b.group("code", "identifier reads of devices 5 to 8")
+    for number, word in BOTH:
+        b.use(number, 2, 3, word=word)
+        b.put("I", 0x80, "F")
+        for address in (0, 1, 2, 3, 4, SIZE[number] // width(b.device) - 1):
+            b.read(address, f"{named(number, word)}, address {address}")
+    wide_bench(b, 5, 1)
+    b.put("I", 0xB8, "F")
+    b.read(1, "at 0 mV, with all error bits", vpp=0)
+    b.read(1, "RP# at V_HH", rp=2)
+    b.read(1, "RP# low: no data, and the device is reset", rp=0)
+
+
+def write_protect(b):
+    b.group("wpin", "levels of WP#: 0 and 1 on devices 5 to 8, any on devices 1 to 4")
+    for number, word in ((5, 1), (5, 0), (6, 1), (7, 0), (8, 1)) + tuple((n, 0) for n in (1, 2, 3, 4)):
+        b.use(number, 2, 3, word=word)
+        for wp in (0, 1, 2, 255):
+            b.put("S", 0x80, "F")
+            b.read(5, f"{named(number, word)}: a read with WP# {wp}", wp=wp)
+            b.write(5, 0x90, "a write", wp=wp)
+            b.idle("idle", wp=wp)
+            b.idle("RP# low", wp=wp, rp=0)
+    wide_bench(b, 5, 1)
+    b.put("S", 0x00, "E", 1, 0x11)
+    b.read(0, "erasing, 1 to go: refused 4, the count stays", wp=2)
+    b.idle("refused 4, RP# low too", wp=3, rp=0)
+    b.idle("WP# may change: the erase ends", wp=1)
+
+
+def output_enable(b):
+    b.group("oepi", "OE# other than 0 is no level on devices 5 to 8")
+    for number, word in ((5, 1), (5, 0), (6, 0), (7, 1), (8, 0)):
+        b.use(number, 2, 3, word=word)
+        for oe in (0, 1, 2, 255):
+            b.put("S", 0x80, "F")
+            b.read(5, f"{named(number, word)}: a read with OE# {oe}", oe=oe)
+            b.write(5, 0x90, "a write", oe=oe)
+            b.idle("idle", oe=oe)
+            b.write(5, 0x90, "a write, RP# low", oe=oe, rp=0)
+    wide_bench(b, 5, 1)
+    b.put("S", 0x80, "C")
+    b.write(edges(b, 0)[0], 0xD0, "OE# unlocks nothing: refused 4", oe=1)
+    b.write(edges(b, 0)[0], 0xD0, "still awaited: locked")
+    for rp in (0, 1, 2, 3, 255):
+        b.put("A", 0x80, "F")
+        b.read(5, f"a read with RP# {rp}", rp=rp)
+
+
+def wide_locks(b):
+    b.group("lckw", "the boot block of devices 5 to 8: WP# high or RP# at V_HH unlocks it")
+    for number, word in BOTH:
+        b.use(number, 2, 3, word=word)
+        first, last = edges(b, 0)
+        for phase, data, address, name in (("C", 0xD0, first, "erase"), ("D", 0x00, last, "program")):
+            for rp, wp in ((1, 0), (2, 0), (1, 1), (2, 1)):
+                b.put("S", 0x80, phase)
+                b.write(address, data, f"{named(number, word)}: boot {name}, RP# {rp}, WP# {wp}", rp=rp, wp=wp)
+    for number in (1, 2, 3, 4):
+        b.use(number, 2, 3)
+        b.put("S", 0x80, "C")
+        b.write(edges(b, 0)[0], 0xD0, f"device {number}: WP# high unlocks nothing", wp=1)
+    wide_bench(b, 5, 1)
+    first, last = edges(b, 0)
+    for phase, data, name in (("C", 0xD0, "erase"), ("D", 0x00, "program")):
+        for wp in (0, 1):
+            b.put("S", 0x80, phase)
+            b.write(first, data, f"boot {name}, WP# {wp}, VPP low", vpp=1500, wp=wp)
+            b.put("S", 0x88, phase)
+            b.write(first, data, f"boot {name}, WP# {wp}, SR.3 set", wp=wp)
+            b.put("S", 0x80, phase)
+            b.write(first, data, f"boot {name}, WP# {wp}, VPP 5 V", vpp=5000, wp=wp)
+    b.put("S", 0x80, "C")
+    b.write(first, 0xFF, "a wrong confirm in the boot block, VPP low", vpp=0)
+    b.put("S", 0x80, "F")
+    b.write(first, 0x20, "WP# high at 20H only: locked", wp=1)
+    b.write(first, 0xD0)
+    b.put("S", 0x80, "F")
+    b.write(first, 0x40, "WP# high at the data only: not locked")
+    b.write(first, 0x0B0B, wp=1)
+    b.idle("and while it is busy the lock is not tested")
+    b.idle()
+    b.put("S", 0x80, "F")
+    b.write(first, 0x20, "20H in the boot block, D0H in a main block")
+    b.write(at(b, 0x1FFFE), 0xD0)
+
+
+def word_cuts(b):
+    b.group("cutw", "cuts of programs in both widths, with residues of 0, 1, 2 and 3 bytes")
+    cuts = (("RP#", dict(rp=0)), ("VPP", dict(vpp=1500)), ("both", dict(rp=0, vpp=0)))
+    for word in (1, 0):
+        for how, pins in cuts:
+            for rest in (0, 1, 2, 3):
+                b.use(5, 2, 3, residue=rest, word=word)
+                b.fill(0xF0, 0)
+                b.fill_residue(0x31, 0x44)
+                b.put("S", 0x20, "P", 2, 0x0123, 0x0F0F if word else 0x0F)
+                b.idle(f"{named(5, word)}: cut by {how}, residue of {rest}", **pins)
+    b.use(5, 2, 3, residue=2, word=1)
+    for first, step, note in ((0x00, 0, "r 0000H"), (0xFF, 0, "r FFFFH"), (0x0F, 0xE1, "r F00FH"), (0xF0, 0x1F, "r 0EF0H")):
+        b.fill(0x5A, 0)
+        b.fill_residue(first, step)
+        b.put("S", 0x00, "P", 1, 0x0123, 0x00FF)
+        b.read(0x0123, f"{note}, on the last cycle", vpp=0)
+        b.write(0, 0xFF)
+        b.read(0x0123)
+    b.put("S", 0x00, "P", 1, 0x1FFFF, 0x1234)
+    b.write(0, 0xFF, "the last word", vpp=0)
+    b.read(0x1FFFF)
+    b.read(0x1FFFE)
+
+
+def erase_cuts(b):
+    b.group("cute", "cut erases: the residue's bytes of the block in both widths, one short, one more")
+    for word in (1, 0):
+        wide_bench(b, 5, word)
+        for k, mark, how, pins in ((1, "E", "RP#", dict(rp=0)), (2, "U", "VPP", dict(vpp=1500)), (0, "S", "both", dict(rp=0, vpp=0))):
+            length = BLOCKS[5][k][1] - BLOCKS[5][k][0] + 1
+            status = {"E": 0x10, "U": 0x00, "S": 0xE0}[mark]
+            for rest in (length // 2, length - 2, length - 1, length, length + 1):
+                b.use(5, 2, 3, residue=rest, word=word)
+                b.put("S", status, mark, 2, edges(b, k)[1], 1 if mark == "U" else 0)
+                b.idle(f"block {k}, {mark}, cut by {how}, residue of {rest}", **pins)
+    wide_bench(b, 6, 1)
+    b.put("A", 0xC0, "S", 2, edges(b, 4)[0])
+    b.read(edges(b, 4)[1], "suspended, read in the block as VPP falls: status", vpp=0)
+    b.put("S", 0x00, "E", 3, edges(b, 3)[0])
+    b.read(edges(b, 3)[1], "erasing, a read as RP# falls: no data", rp=0)
+
+
+def wide_together(b):
+    b.group("togw", "a cut, or the last busy cycle, and a write in one cycle, in word mode")
+    wide_bench(b, 5, 1)
+    there = edges(b, 1)[0] + 7
+    busy = (
+        ("program", dict(mode="S", status=0x00, phase="P", left=1, address=0x0011, data=0x0FF0)),
+        ("erase", dict(mode="S", status=0x00, phase="E", left=1, address=there)),
+    )
+    for how, pins in (("cut by VPP", dict(vpp=0)), ("ends", dict(vpp=5000))):
+        for name, state in busy:
+            for data in WIDE_COMMANDS:
+                b.put(**state)
+                b.write(0x0200, data, f"{name} {how} and {data:02X}H", **pins)
+
+
+def block_edges(b):
+    b.group("edge", "the first and the last unit of each block: an erase that ends, one that is cut, a program at each")
+    for number, word in BOTH:
+        wide_bench(b, number, word)
+        for k in range(len(BLOCKS[number])):
+            first, last = edges(b, k)
+            b.put("S", 0x00, "E", 1, first)
+            b.idle(f"{named(number, word)}, block {k}, erase at {first:05X}H")
+            b.put("S", 0x00, "E", 1, last)
+            b.idle(f"cut at {last:05X}H", rp=0)
+            for address in (first, last):
+                b.put("S", 0x00, "P", 1, address, 0xA55A if word else 0x5A)
+                b.idle(f"program at {address:05X}H")
+    b.group("side", "the lock at both ends of the boot block and beside it, devices 5 to 8")
+    for number, word in BOTH:
+        b.use(number, 1, 1, word=word)
+        first, last = edges(b, 0)
+        for address in (first - 1 if first else last + 1, first, last):
+            b.put("S", 0x80, "D")
+            b.write(address, 0x00, f"{named(number, word)}, {address:05X}H")
+
+
+def wide_devices(b):
+    b.group("devw", "devices 5 to 8 and word mode: busy times and lengths in bytes")
+    for number in (0, 1, 2, 3, 4, 9, 255):
+        b.use(number, 2, 3, word=1)
+        b.put("A", 0x80, "F")
+        b.write(0, 0xFF, f"{named(number, 1)}: no device")
+        b.idle("with RP# low", rp=0)
+    for number, word in ((5, 0), (8, 1)):
+        for program, erase, suspend in ((0, 3, 1), (2, 0, 1), (2, 3, 0), (2, 3, 101), (1, 1, 100), (65535, 65535, 1)):
+            b.use(number, program, erase, suspend=suspend, word=word)
+            b.put("A", 0x80, "F")
+            b.write(0, 0xFF, f"{named(number, word)}: P {program}, E {erase}, S {suspend}")
+    for number, word in BOTH:
+        size = SIZE[number]
+        for array in (0, size // 2, size - 2, size - 1, size, size + 1 if size < 524288 else 524289, 131072, 786432 - size):
+            b.use(number, 2, 3, array=array, word=word)
+            b.put("A", 0x80, "F")
+            b.idle(f"{named(number, word)}, array of {array}")
+
+
+def wide_past(b):
+    b.group("pstw", "addresses past the array, in units")
+    for number, word in BOTH:
+        b.use(number, 2, 3, word=word)
+        past = SIZE[number] // width(b.device)
+        b.put("A", 0x80, "F")
+        b.read(past - 1, f"{named(number, word)}: the last unit")
+        b.read(past, "one past")
+        b.write(past, 0xFF, "a command there")
+        b.read(2 * past - 1, "as a byte address it would be the last of twice as many")
+        b.idle("idle", address=past, data=0xFFFF)
+    wide_bench(b, 5, 1)
+    b.put("S", 0x80, "F")
+    b.read(0x20000, "a status read")
+    b.put("S", 0x80, "D")
+    b.write(0x20000, 0x00, "data: still awaited")
+    b.put("S", 0x00, "E", 1, 0x11)
+    b.read(0x20000, "the last busy cycle: the count stays")
+    b.read(0x20000, "RP# low: not tested", rp=0)
+
+
+def wide_states(b):
+    b.group("stwd", "states of devices 5 to 8, proper and not: addresses in units")
+    for number, word in BOTH:
+        b.use(number, 2, 3, word=word, residue=0)
+        past = SIZE[number] // width(b.device)
+        for address in (past - 1, past, 2 * past - 1):
+            b.put("S", 0x00, "E", 2, address)
+            b.idle(f"{named(number, word)}: an erase at {address:05X}H")
+            b.put("S", 0x00, "P", 2, address, 0xFF)
+            b.idle("a program")
+    b.use(5, 2, 3, word=1)
+    states = (
+        ("free with SR.7 clear", ("A", 0x00, "F")), ("free with SR.6", ("A", 0xC0, "F")), ("free with SR.0", ("A", 0x81, "F")),
+        ("free with an address", ("A", 0x80, "F", 0, 1)), ("free with cycles to go", ("A", 0x80, "F", 1, 0)),
+        ("confirm awaited, mode array", ("A", 0x80, "C")), ("data awaited, mode identifier", ("I", 0x80, "D")),
+        ("program with 0 to go", ("S", 0x00, "P", 0, 0x11, 0xFFFF)), ("program with P + 1 to go", ("S", 0x00, "P", 3, 0x11, 0xFFFF)),
+        ("erase with E + 1 to go", ("S", 0x00, "E", 4, 0x11)), ("erase with SR.7", ("S", 0x80, "E", 3, 0x11)),
+        ("being suspended, 0 to go", ("S", 0x00, "U", 3, 0x11, 0)), ("being suspended, S + 1 to go", ("S", 0x00, "U", 3, 0x11, 2)),
+        ("suspended, mode identifier", ("I", 0xC0, "S", 3, 0x11)), ("suspended, proper", ("A", 0xC0, "S", 3, 0x11)),
+        ("a program of FFFFH, proper", ("S", 0x38, "P", 2, 0x11, 0xFFFF)),
+    )
+    for note, state in states:
+        b.put(*state)
+        b.idle(note)
+
+
+def wide_order(b):
+    b.group("ordw", "the lowest number that applies, in word mode")
+    b.use(5, 2, 3, residue=1, word=1)
+    program = dict(mode="S", status=0x00, phase="P", left=2, address=0x0011, data=0x0F0F)
+    b.put(**program)
+    b.write(0x20000, 0x00, "5 before 6 and 7", vpp=0)
+    b.write(0x0000, 0x00, "6 before 7: one byte is too short", vpp=0)
+    b.write(0x20000, 0x00, "4 before 5", vpp=1501)
+    b.write(0x20000, 0x00, "4 by WP#", wp=2)
+    b.write(0x20000, 0x00, "4 by OE#", oe=1)
+    b.write(0x20000, 0x00, "RP# low: 6, the address is not tested", rp=0)
+    b.idle("idle: 6", vpp=0, address=0x20000)
+    b.write(0x0000, 0x00, "no cut: no residue is needed")
+    b.use(4, 2, 3, array=0, residue=0, word=1)
+    b.put("A", 0x00, "F")
+    b.read(MOST, "1 before 2, 3, 4 and 5: word mode on device 4", rp=9)
+    b.use(5, 2, 3, array=262143, residue=0, word=1)
+    b.read(MOST, "2 before 3, 4 and 5", rp=9)
+    b.use(5, 2, 3, residue=0, word=1)
+    b.read(MOST, "3 before 4 and 5", wp=2)
+    b.put("I", 0x80, "F")
+    b.read(MOST, "4 before 5 and 9", wp=2)
+    b.read(MOST, "5 before 9")
+    b.read(2, "9")
+    b.put("S", 0x80, "F")
+    b.write(0, 0x0110, "10H is a command, whatever is above it")
+    b.put("S", 0x80, "F")
+    b.write(0, 0x1001, "7")
+    b.put("A", 0xC0, "S", 3, 0x1D011)
+    b.read(0x20000, "suspended: 5")
+    b.read(0x1D011, "6 before 8", vpp=0)
+    b.read(0x1D011, "8")
+
+
+def wide_suspended(b):
+    b.group("susw", "reads while suspended: the block in units, and S cycles")
+    for word in (1, 0):
+        wide_bench(b, 5, word, suspend=2)
+        first, last = edges(b, 1)
+        b.put("S", 0x00, "E", 3, first + 0x11)
+        b.write(0, 0xB0, "B0H counts off the erase")
+        b.write(0, 0xD0, "D0H meanwhile is ignored")
+        b.read(first, "status: C0H")
+        b.write(0, 0xFF, "array")
+        for address in (first - 1, first, first + 0x11, last, last + 1, 0):
+            b.read(address, f"at {address:05X}H")
+        b.write(0, 0xD0, "resumed", vpp=5000)
+        b.read(first, vpp=12000)
+        b.read(last, "finished", vpp=5000)
+
+
+def wide_times(b):
+    b.group("busy", "busy times of 1 and of 65,535 in word mode")
+    wide_bench(b, 5, 1, 1, 1)
+    b.fresh("P 1 and E 1")
+    b.write(0x0777, 0x10)
+    b.write(0x0777, 0x8118)
+    b.read(0x0777)
+    b.write(0x0777, 0x20)
+    b.write(edges(b, 1)[1], 0xD0)
+    b.write(0, 0xB0, "1 to go: the erase ends, and B0H sets read array")
+    b.read(edges(b, 1)[1])
+    b.read(0x0777)
+    wide_bench(b, 6, 1, 65535, 65535, 100)
+    b.fresh("P and E 65,535, S 100")
+    b.write(0x7777, 0x40)
+    b.write(0x7777, 0x8118)
+    b.read(0x7777)
+    b.put("S", 0x00, "P", 1, 0x7777, 0x8118)
+    b.read(0x7777)
+    b.write(0x7777, 0x20)
+    b.write(0x7777, 0xD0)
+    b.write(0x7777, 0xB0)
+    b.idle("one of the 100")
+
+
+OLD_PARTS = (
+    cards, commands, last_cycle, modes, bands, locks, barred, times, cuts, together, order, rp_low, past,
+    suspended, suspending, suspend_at_rest, identifiers, residues, improper, blocks, devices, levels,
+)
+NEW_PARTS = (
+    wide_cards, wide_commands, ten, high_bytes, status_reads, wide_bands, band_changes, wide_identifiers, write_protect, output_enable,
+    wide_locks, word_cuts, erase_cuts, wide_together, block_edges, wide_devices, wide_past, wide_states, wide_order, wide_suspended, wide_times,
+)
+
+
 def all_cases():
     b = Bench()
-    for part in (cards, commands, last_cycle, modes, bands, locks, barred, times, cuts, together, order, rp_low, past):
-        part(b)
-    for part in (suspended, suspending, suspend_at_rest, identifiers, residues, improper, blocks, devices, levels):
+    for part in OLD_PARTS + NEW_PARTS:
         part(b)
     return b
 

@@ -33,19 +33,20 @@ fn cycle_of(row: &[u8], op: u8) -> Cycle {
     }
     let rp = vectors_text::byte_at(row, 10, 2, 3);
     let oe = vectors_text::byte_at(row, 10, 6, 3);
-    let vpp = vectors_text::word_at(row, 10, 10, 10);
-    let address = vectors_text::word_at(row, 16, 21, 8);
-    let byte = vectors_text::byte_at(row, 16, 30, 2);
+    let wp = vectors_text::byte_at(row, 10, 10, 3);
+    let vpp = vectors_text::word_at(row, 10, 14, 10);
+    let address = vectors_text::word_at(row, 16, 25, 8);
+    let value = vectors_text::half_at(row, 16, 34, 4);
     Cycle {
         kind: kind,
         pins: Pins {
             rp: rp,
-            wp: 0,
+            wp: wp,
             vpp: vpp,
         },
         oe: oe,
         address: address,
-        data: byte as u16,
+        data: value,
     }
 }
 
@@ -79,7 +80,7 @@ fn bare() -> Bench {
 fn after_line(b: Bench, state: State) -> Bench {
     let device = b.device;
     let group = b.group;
-    let lines = (b.lines % 999) + 1;
+    let lines = (b.lines % 9999) + 1;
     Bench {
         device: device,
         state: state,
@@ -109,10 +110,16 @@ fn print_byte(x: u8) {
     print_hex(&mut text, x as u64, b" ");
 }
 
+// A byte or a word, in four digits.
+fn print_unit(x: u16) {
+    let mut text = [0u8; 4];
+    print_hex(&mut text, x as u64, b" ");
+}
+
 // The group's letters and the line's number.
 fn print_label(g: Group, line: u32) {
     let letters = [g.a, g.b, g.c, g.d, b' '];
-    let mut text = [0u8; 3];
+    let mut text = [0u8; 4];
     io::write_all(1, &letters);
     print_decimal(&mut text, line as u64);
 }
@@ -121,11 +128,11 @@ fn print_label(g: Group, line: u32) {
 fn print_seen(seen: Seen) {
     match seen {
         Seen::NoData => {
-            io::write_all(1, b"N -- ");
+            io::write_all(1, b"N ---- ");
         }
-        Seen::Data(b) => {
+        Seen::Data(v) => {
             io::write_all(1, b"D ");
-            print_byte(units::low(b));
+            print_unit(v);
         }
         Seen::Refused(n) => {
             let mut text = [0u8; 2];
@@ -135,7 +142,7 @@ fn print_seen(seen: Seen) {
     }
 }
 
-// Status, mode and phase, and the byte or the count of the phase, where it has one.
+// Status, mode and phase, and the data or the count of the phase, where it has one.
 fn print_state(s: State) {
     let mode = s.mode;
     let phase = s.phase;
@@ -144,15 +151,15 @@ fn print_state(s: State) {
     let text = [m, b' ', p];
     print_byte(s.status);
     io::write_all(1, &text);
-    if let Phase::Programming(b) = phase {
-        print_byte(units::low(b));
+    if let Phase::Programming(v) = phase {
+        print_unit(v);
         return;
     }
     if let Phase::Suspending(n) = phase {
-        print_byte(n);
+        print_unit(n as u16);
         return;
     }
-    io::write_all(1, b"-- ");
+    io::write_all(1, b"---- ");
 }
 
 // Cycles left, address and digest.
@@ -217,8 +224,8 @@ fn set(row: &[u8], op: u8, b: Bench) -> Bench {
     }
     if op == b'D' {
         device = vectors_states::device_at(row);
-        array = vectors_text::size_at(row, 10, 22, 6);
-        residue = vectors_text::size_at(row, 10, 29, 6);
+        array = vectors_text::size_at(row, 10, 24, 6);
+        residue = vectors_text::size_at(row, 10, 31, 6);
     }
     if op == b'S' {
         state = vectors_states::state_at(row);
@@ -276,8 +283,8 @@ fn all(text: &[u8], array: &mut [u8], residue: &mut [u8]) {
 }
 
 fn main() {
-    let mut text = vectors_text::blank();
-    let mut array = vectors_text::blank();
+    let mut text = vectors_states::vast();
+    let mut array = vectors_states::vast();
     let mut residue = vectors_text::blank();
     let n = io::read_full(0, &mut text);
     all(&text[..n], &mut array, &mut residue);
