@@ -68,13 +68,16 @@ def width(device):
 
 def unit_at(device, part, address):
     """A unit of lent bytes, low byte first."""
-    w = width(device)
-    return int.from_bytes(part[address * w : address * w + w], "little")
+    if device.word:
+        return part[2 * address + 1] << 8 | part[2 * address]
+    return part[address]
 
 
 def put_unit(device, part, address, value):
-    w = width(device)
-    part[address * w : address * w + w] = value.to_bytes(w, "little")
+    if device.word:
+        part[2 * address], part[2 * address + 1] = value & 0xFF, value >> 8
+    else:
+        part[address] = value
 
 
 def carried(device, data):
@@ -175,9 +178,9 @@ def finish(device, s, array):
         array[first:past] = b"\xff" * (past - first)
 
 
-def settled(device, s, c):
-    """The state that steps 2 and 3 leave."""
-    if cut_comes(device, s, c):
+def settled(s, is_cut):
+    """The state that steps 2 and 3 leave, where the operation is cut and where it is not."""
+    if is_cut:
         status = (s.status | READY | VPP_LOW | error_bit(s)) & ~SUSPENDED
         return State("S", status, "F", 0, 0, 0)
     if s.phase == "U":
@@ -291,16 +294,16 @@ def judged(device, s, c, array, residue):
     return 0
 
 
-def cycle(device, s, c, array, residue):
-    """One bus cycle: the answer and the state after it. The array is changed in place."""
-    number = judged(device, s, c, len(array), len(residue))
-    if number:
-        return ("X", number), s
+def made(device, s, c, array, residue):
+    """A cycle that 1 to 6 let pass: the answer and the state after it. The array is changed in place."""
+    if c.kind == "R" and s.phase == "F" and c.rp != 0:  # nothing to cut or to count off
+        return read(device, s, c, array), s
+    is_cut = cut_comes(device, s, c)
     if c.rp == 0:
-        if cut_comes(device, s, c):
+        if is_cut:
             cut(device, s, array, residue)
         return ("N", 0), FRESH
-    answer, after = ("N", 0), settled(device, s, c)
+    answer, after = ("N", 0), settled(s, is_cut)
     if c.kind == "W":
         after = write(device, after, c)
         if after is None:
@@ -309,11 +312,19 @@ def cycle(device, s, c, array, residue):
         answer = read(device, after, c, array)
         if answer[0] == "X":
             return answer, s
-    if cut_comes(device, s, c):
+    if is_cut:
         cut(device, s, array, residue)
     elif s.phase in RUNNING and s.left == 1:
         finish(device, s, array)
     return answer, after
+
+
+def cycle(device, s, c, array, residue):
+    """One bus cycle: the answer and the state after it. The array is changed in place."""
+    number = judged(device, s, c, len(array), len(residue))
+    if number:
+        return ("X", number), s
+    return made(device, s, c, array, residue)
 
 
 # ---------------------------------------------------------------- the bench on which the cases are run

@@ -5,17 +5,24 @@
     python3 tests/vectors_run.py expected     the lines, as in crates/vectors_run/stdout
     python3 tests/vectors_run.py check        whether both files are what the script prints
 
-The loader in the first half is written from document 01 alone, as one pass over the block that hands out its cycles; the device
+The loader in the first half is written from documents 01 and 02 alone, as one pass over the block that hands out its cycles; the device
 is the model of vectors_model.py. Both share nothing with the crates. The second half is the list of cases.
 
-A line of a run (R), of a load alone (O) or of a verify alone (V) shows: group and number; the end; the cycles made; the end's address; the status register, mode and phase that
-are left; digests of what was lent of the array and of scratch. A line of a step shows what the loader gave: a cycle (its kind,
-RP#, VPP, address, byte), an end (E, its number and address) or a refusal (X); and a digest of scratch.
+A line of a run (R), of a load alone (O) or of a verify alone (V) shows: group and number; the end; the cycles made; the end's address;
+the status register, mode and phase that are left; digests of what was lent of the array and of scratch. A line of a step shows what the
+loader gave: a cycle (its kind, RP#, WP#, VPP, address, data), an end (E, its number and address) or a refusal (X); and a digest of
+scratch. Addresses of cycles count units; the address of an end is that of a byte.
 """
+from collections import namedtuple
 
-from vectors_model import BLOCKS, FRESH, ROOM, SIZE, Cycle, Device, State, bad_levels, called, cycle, digest, pattern, proper, shown
+from vectors_model import (
+    ARRAY_ROOM, BLOCKS, FRESH, ROOM, SIZE, Cycle, Device, State,
+    bad_levels, called, carried, digest, is_device, is_part, judged, made, pattern, proper, put_unit, shown, unit_at, width,
+)
 
 # ---------------------------------------------------------------- the loader
+
+Pins = namedtuple("Pins", "rp vpp wp", defaults=(0,))  # the levels that a run keeps fixed
 
 
 def fault(status, erase):
@@ -32,133 +39,165 @@ def fault(status, erase):
 
 
 def poll(address, erase):
-    """Status reads until SR.7, 65,535 at most."""
+    """Status reads until SR.7, 65,535 at most. The status is in the low eight bits."""
     for _ in range(65535):
-        status = yield ("R", address, 0)
+        status = (yield ("R", address, 0)) & 0xFF
         if status & 0x80:
             return fault(status, erase)
     return 20
 
 
-def load(first, wanted, scratch):
-    """Loading a block of n bytes, without the verify. Hands out cycles, takes the bytes read, returns the end and its address."""
-    n = len(wanted)
+def load(device, first, wanted, scratch):
+    """Loading a block of n units, without the verify. Hands out cycles, takes what is read, returns the end and its address."""
+    n = len(wanted) // width(device)
+    wants = [unit_at(device, wanted, i) for i in range(n)]
     yield ("W", first, 0x50)
     yield ("W", first, 0xFF)
+    holds = []
     for i in range(n):
-        scratch[i] = yield ("R", first + i, 0)
-    if any(w & ~s for w, s in zip(wanted, scratch)):
+        holds.append(carried(device, (yield ("R", first + i, 0))))
+        put_unit(device, scratch, i, holds[i])
+    if any(w & ~h for w, h in zip(wants, holds)):
         yield ("W", first, 0x20)
         yield ("W", first, 0xD0)
         bad = yield from poll(first, True)
         if bad:
             return bad, 0
-        scratch[:n] = b"\xff" * n
+        scratch[:] = b"\xff" * len(scratch)
+        holds = [carried(device, 0xFFFF)] * n
     for i in range(n):
-        if scratch[i] != wanted[i]:
+        if holds[i] != wants[i]:
             yield ("W", first + i, 0x40)
-            yield ("W", first + i, wanted[i])
+            yield ("W", first + i, wants[i])
             bad = yield from poll(first + i, False)
             if bad:
                 return bad, 0
-            scratch[i] = wanted[i]
+            put_unit(device, scratch, i, wants[i])
     return 0, 0
 
 
-def verify(first, wanted, scratch):
-    """Verifying a block of n bytes: FFH, and the reads up to a difference."""
+def verify(device, first, wanted, scratch):
+    """Verifying a block of n units: FFH, and the reads up to a difference. The address told is that of the first byte that differs."""
+    w = width(device)
     yield ("W", first, 0xFF)
-    for i in range(len(wanted)):
-        scratch[i] = yield ("R", first + i, 0)
-        if scratch[i] != wanted[i]:
-            return 25, first + i
+    for i in range(len(wanted) // w):
+        put_unit(device, scratch, i, carried(device, (yield ("R", first + i, 0))))
+        for k in range(w * i, w * i + w):
+            if scratch[k] != wanted[k]:
+                return 25, w * first + k
     return 0, 0
 
 
-def both(first, wanted, scratch):
+def both(device, first, wanted, scratch):
     """A load and, where it ended well, the verify after it."""
-    over = yield from load(first, wanted, scratch)
+    over = yield from load(device, first, wanted, scratch)
     if over[0]:
         return over
-    return (yield from verify(first, wanted, scratch))
+    return (yield from verify(device, first, wanted, scratch))
 
 
 WORK = {"R": both, "O": load, "V": verify}
 
 
+def begun(op, device, block, wanted, scratch):
+    """A run, a load alone or a verify alone of a block, from its first unit on."""
+    return WORK[op](device, BLOCKS[device.number][block][0] // width(device), wanted, scratch)
+
+
 def block_length(number, block):
+    """A block's bytes."""
     first, last = BLOCKS[number][block]
     return last - first + 1
 
 
-def loader_number(number, rp, vpp, block, wanted, scratch):
-    """The tests that start, step and run share."""
-    if bad_levels(Cycle("R", rp, 0, vpp, 0, 0)) or rp == 0:
+def loader_number(device, pins, block, wanted, scratch):
+    """The tests that start, step and run share; lengths in bytes."""
+    if bad_levels(device, Cycle("R", pins.rp, 0, pins.vpp, 0, 0, pins.wp)) or pins.rp == 0:
         return 4
-    if block > 3:
+    if block >= len(BLOCKS[device.number]):
         return 10
-    if not wanted == scratch == block_length(number, block):
+    if not wanted == scratch == block_length(device.number, block):
         return 11
     return 0
 
 
-def run_number(device, state, rp, vpp, block, array, wanted, scratch):
+def run_number(device, state, pins, block, array, wanted, scratch):
     """The refusals of a run, 0 for none."""
-    if device.number not in BLOCKS or device.program == 0 or device.erase == 0 or not 1 <= device.suspend <= 100:
+    if not is_device(device):
         return 1
     if len(array) != SIZE[device.number]:
         return 2
     if not proper(device, state):
         return 3
-    number = loader_number(device.number, rp, vpp, block, len(wanted), len(scratch))
+    number = loader_number(device, pins, block, len(wanted), len(scratch))
     if number == 0 and state.phase != "F":
         return 12
     return number
 
 
-def run(device, state, rp, vpp, block, array, wanted, scratch, op="R"):
+def run(device, state, pins, block, array, wanted, scratch, op="R"):
     """A run, a load alone or a verify alone: the end, the count, the address and the state. Array and scratch are changed in place."""
-    number = run_number(device, state, rp, vpp, block, array, wanted, scratch)
+    number = run_number(device, state, pins, block, array, wanted, scratch)
     if number:
         return number, 0, 0, state
-    work, count, byte = WORK[op](BLOCKS[device.number][block][0], wanted, scratch), 0, None
+    work, count, value, known = begun(op, device, block, wanted, scratch), 0, None, None
     try:
         while True:
-            kind, address, data = work.send(byte)
-            answer, state = cycle(device, state, Cycle(kind, rp, 0, vpp, address, data), array, b"")
+            kind, address, data = work.send(value)
+            c = Cycle(kind, pins.rp, 0, pins.vpp, address, data, pins.wp)
+            if known != (kind, state):  # reads one after the other differ in their address alone, which is in the block
+                assert judged(device, state, c, len(array), 0) == 0
+                known = (kind, state)
+            answer, state = made(device, state, c, array, b"")
             assert answer[0] != "X"
-            byte, count = answer[1], count + 1
+            value, count = answer[1], count + 1
     except StopIteration as over:
         return over.value[0], count, over.value[1], state
+
+
+def formula(device, held, wanted, op="R"):
+    """The count of a good run, 2n + 3 + e(2 + E) + p(2 + P); of a load alone, n + 2 and the same; of a verify alone, n + 1. All in units."""
+    n = len(wanted) // width(device)
+    if op == "V":
+        return n + 1
+    pairs = [(unit_at(device, wanted, i), unit_at(device, held, i)) for i in range(n)]
+    rises = any(w & ~h for w, h in pairs)
+    programs = sum(w != (carried(device, 0xFFFF) if rises else h) for w, h in pairs)
+    return n + 2 + (n + 1 if op == "R" else 0) + rises * (2 + device.erase) + programs * (2 + device.program)
 
 
 class Stepped:
     """A loader stepped by hand. `place` and `polls` are kept only where a row hands them back."""
 
-    def __init__(self, number, rp, vpp, block):
-        self.number, self.rp, self.vpp, self.block = number, rp, vpp, block
+    def __init__(self, device, pins, block):
+        self.device, self.pins, self.block = device, pins, block
         self.place, self.polls, self.work, self.given = 0, 0, None, None
 
     def start(self, wanted, scratch, op):
-        bad = 1 if self.number not in BLOCKS else loader_number(self.number, self.rp, self.vpp, self.block, len(wanted), len(scratch))
+        bad = loader_number(self.device, self.pins, self.block, len(wanted), len(scratch)) if is_part(self.device) else 1
         if bad:
             self.given = ("E", bad, 0)
             return ("X", bad)
-        self.work = WORK[op](BLOCKS[self.number][self.block][0], wanted, scratch)
+        self.work = begun(op, self.device, self.block, wanted, scratch)
         self.given = next(self.work)
         return self.given
 
-    def step(self, byte, wanted, scratch):
-        if self.number not in BLOCKS:
+    def past(self):
+        """The place is past the block."""
+        number = self.device.number
+        return self.block < len(BLOCKS[number]) and self.place * width(self.device) >= block_length(number, self.block)
+
+    def step(self, value, wanted, scratch):
+        if not is_part(self.device):
             return ("X", 1)
-        if self.polls > 65534 or self.block < 4 and self.place >= block_length(self.number, self.block):
+        if self.polls > 65534 or self.past():
             return ("X", 3)
-        bad = loader_number(self.number, self.rp, self.vpp, self.block, len(wanted), len(scratch))
+        bad = loader_number(self.device, self.pins, self.block, len(wanted), len(scratch))
         if bad:
             return ("X", bad)
         if self.given[0] != "E":
             try:
-                self.given = self.work.send(byte)
+                self.given = self.work.send(value)
             except StopIteration as over:
                 self.given = ("E",) + over.value
         return self.given
@@ -169,20 +208,20 @@ class Stepped:
 # ROWS. R makes a run, O a load alone, V a verify alone; Q, P and U start the stepped loader for each of the three, N steps it; these
 # print a line. The others prepare.
 #   G name                                    the group's four letters
-#   D number program erase suspend array wanted scratch     the device, and how much of each slice is lent
-#   L rp vpp block                            the levels and the block
+#   D number word program erase suspend array wanted scratch     the device, and how many bytes of each slice are lent
+#   L rp wp vpp block                         the levels and the block
 #   S status mode phase left address, F       the state; a fresh one
 #   A first step, W first step, C first step  fill the array, wanted, scratch, as far as they are lent
 #   B place byte, X address byte              one byte of wanted, of the array
 #   K place polls                             the record as a host may hand it back, with the bench's part, levels and block
-#   N byte times                              steps with that byte
+#   N data times                              steps with these 16 bits
 
 
 class Bench:
     def __init__(self):
         self.device, self.state, self.lent = Device(0, 0, 0), FRESH, (0, 0, 0)
-        self.rp, self.vpp, self.block, self.stepped = 0, 0, 0, None
-        self.array, self.wanted, self.scratch = bytearray(ROOM), bytearray(ROOM), bytearray(ROOM)
+        self.pins, self.block, self.stepped = Pins(0, 0), 0, None
+        self.array, self.wanted, self.scratch = bytearray(ARRAY_ROOM), bytearray(ROOM), bytearray(ROOM)
         self.name, self.number, self.rows, self.lines = "    ", 0, [], []
 
     def row(self, text, note=""):
@@ -190,28 +229,28 @@ class Bench:
 
     def say(self, text):
         self.number += 1
-        self.lines.append(f"{self.name} {self.number:03d} {text}")
+        self.lines.append(f"{self.name} {self.number:04d} {text}")
 
     def group(self, name, note):
         self.name = name
         self.row(f"G {name}", note)
 
-    def use(self, number, program, erase, array, wanted, scratch, suspend=1):
-        self.device, self.lent = Device(number, program, erase, suspend), (array, wanted, scratch)
-        self.row(f"D {number:03d} {program:05d} {erase:05d} {suspend:03d} {array:06d} {wanted:06d} {scratch:06d}")
+    def use(self, number, program, erase, array, wanted, scratch, suspend=1, word=0):
+        self.device, self.lent = Device(number, program, erase, suspend, word), (array, wanted, scratch)
+        self.row(f"D {number:03d} {word} {program:05d} {erase:05d} {suspend:03d} {array:06d} {wanted:06d} {scratch:06d}")
 
-    def fit(self, number, block, program=2, erase=3, rp=None, vpp=12000):
+    def fit(self, number, block, program=2, erase=3, rp=None, vpp=12000, wp=0, word=0):
         """A device and a block of it, with lengths that fit; RP# as the block needs it."""
         n = block_length(number, block)
-        self.use(number, program, erase, SIZE[number], n, n)
-        self.levels((2 if block == 0 else 1) if rp is None else rp, vpp, block)
+        self.use(number, program, erase, SIZE[number], n, n, word=word)
+        self.levels((2 if block == 0 else 1) if rp is None else rp, vpp, block, wp)
 
-    def levels(self, rp, vpp, block):
-        self.rp, self.vpp, self.block = rp, vpp, block
-        self.row(f"L {rp:03d} {vpp:010d} {block:03d}")
+    def levels(self, rp, vpp, block, wp=0):
+        self.pins, self.block = Pins(rp, vpp, wp), block
+        self.row(f"L {rp:03d} {wp:03d} {vpp:010d} {block:03d}")
 
-    def put(self, mode, status, phase, left=0, address=0, byte=0):
-        self.state = State(mode, status, phase, byte, left, address)
+    def put(self, mode, status, phase, left=0, address=0, data=0):
+        self.state = State(mode, status, phase, data, left, address)
         self.row(f"S {shown(self.state)}")
 
     def fresh(self):
@@ -220,7 +259,7 @@ class Bench:
 
     def fill(self, letter, first, step):
         slice_, n = {"A": (self.array, self.lent[0]), "W": (self.wanted, self.lent[1]), "C": (self.scratch, self.lent[2])}[letter]
-        slice_[:n] = pattern(first, step)[:n]
+        slice_[:n] = pattern(first, step, n)
         self.row(f"{letter} {first:03d} {step:03d}")
 
     def want(self, place, byte, note=""):
@@ -232,11 +271,11 @@ class Bench:
         self.row(f"X {address:08X} {byte:02X}", note)
 
     def run(self, note, expected=None, op="R"):
-        """One run, load alone or verify alone. Where document 01 tells the end and the count, they are given, and the run is held to them."""
+        """One run, load alone or verify alone. Where the documents tell end and count (and the address), they are given, and it is held to them."""
         a, w, k = self.lent
         array, scratch = self.array[:a], self.scratch[:k]
-        end, count, address, self.state = run(self.device, self.state, self.rp, self.vpp, self.block, array, self.wanted[:w], scratch, op)
-        assert expected is None or (end, count) == expected, (note, end, count)
+        end, count, address, self.state = run(self.device, self.state, self.pins, self.block, array, self.wanted[:w], scratch, op)
+        assert expected is None or (end, count, address)[: len(expected)] == expected, (note, end, count, address)
         self.array[:a], self.scratch[:k] = array, scratch
         s = self.state
         self.row(op, note)
@@ -248,7 +287,8 @@ class Bench:
         elif given[0] == "E":
             told = f"E {given[1]:03d} {given[2]:08X}"
         else:
-            told = f"{given[0]} {self.stepped.rp:03d} {self.stepped.vpp:010d} {given[1]:08X} {given[2]:02X}"
+            pins = self.stepped.pins
+            told = f"{given[0]} {pins.rp:03d} {pins.wp:03d} {pins.vpp:010d} {given[1]:08X} {given[2]:04X}"
         self.say(f"{told} {digest(scratch):04X}")
 
     def load(self, note, expected=None):
@@ -258,27 +298,27 @@ class Bench:
         self.run(note, expected, "V")
 
     def start(self, note, op="R"):
-        self.stepped = Stepped(self.device.number, self.rp, self.vpp, self.block)
+        self.stepped = Stepped(self.device, self.pins, self.block)
         w, k = self.lent[1:]
         self.hand = self.scratch[:k]
         given = self.stepped.start(bytes(self.wanted[:w]), self.hand, op)
         self.row({"R": "Q", "O": "P", "V": "U"}[op], note)
         self.tell(given, self.hand)
 
-    def step(self, byte, times, note, expected=None):
+    def step(self, value, times, note, expected=None):
         w, k = self.lent[1:]
         short = k != len(self.hand)
         for _ in range(times):
-            given = self.stepped.step(byte, bytes(self.wanted[:w]), self.scratch[:k] if short else self.hand)
-        assert expected is None or given[:2] == expected, (note, given)
+            given = self.stepped.step(value, bytes(self.wanted[:w]), self.scratch[:k] if short else self.hand)
+        assert expected is None or given[: len(expected)] == expected, (note, given)
         if not short:
             self.scratch[:k] = self.hand
-        self.row(f"N {byte:02X} {times:05d}", note)
+        self.row(f"N {value:04X} {times:05d}", note)
         self.tell(given, self.scratch[:k])
 
     def handed(self, place, polls, note=""):
         s = self.stepped
-        s.number, s.rp, s.vpp, s.block, s.place, s.polls = self.device.number, self.rp, self.vpp, self.block, place, polls
+        s.device, s.pins, s.block, s.place, s.polls = self.device, self.pins, self.block, place, polls
         self.row(f"K {place:06d} {polls:010d}", note)
 
 
@@ -378,7 +418,7 @@ def refusals(b):
     b.fill("A", 5, 3)
     b.fill("W", 9, 1)
     b.fill("C", 17, 2)
-    for number, program, erase in ((0, 2, 3), (5, 2, 3), (255, 2, 3), (3, 0, 3), (3, 2, 0)):
+    for number, program, erase in ((0, 2, 3), (9, 2, 3), (255, 2, 3), (3, 0, 3), (3, 2, 0)):
         b.use(number, program, erase, 16384, 512, 512)
         b.run("1", (1, 0))
     for suspend in (0, 101, 255):
@@ -482,7 +522,7 @@ def barred(b):
     b.fit(3, 1)
     b.fill("W", 255, 0)
     b.fill("C", 4, 1)
-    b.use(5, 0, 0, 0, 512, 512)
+    b.use(9, 0, 0, 0, 512, 512)
     b.start("1")
     b.use(3, 0, 0, 0, 512, 512)
     b.start("no busy times and no array are tested: write 50H")
@@ -510,7 +550,7 @@ def barred(b):
     b.levels(1, 12000, 9)
     b.handed(999999, 0)
     b.step(0xFF, 1, "no such block, and then no place is past it: 10", ("X", 10))
-    b.use(6, 2, 3, 0, 512, 512)
+    b.use(10, 2, 3, 0, 512, 512)
     b.handed(999999, 99999)
     b.step(0xFF, 1, "1 before 3", ("X", 1))
     b.use(3, 2, 3, 0, 512, 512)
@@ -666,7 +706,7 @@ def verified(b):
     b.fit(3, 1)
     b.fresh()
     b.fill("C", 17, 2)
-    for number, program, erase in ((0, 2, 3), (5, 2, 3), (3, 0, 3), (3, 2, 0)):
+    for number, program, erase in ((0, 2, 3), (9, 2, 3), (3, 0, 3), (3, 2, 0)):
         b.use(number, program, erase, 16384, 512, 512)
         b.verify("1", (1, 0))
         b.load("1", (1, 0))
@@ -755,9 +795,308 @@ def apart_by_hand(b):
     b.start("11", "O")
 
 
+# ---------------------------------------------------------------- the cases of devices 5 to 8
+
+NEW = tuple((number, word) for number in (5, 6, 7, 8) for word in (0, 1))
+N1 = 8192  # a parameter block's bytes
+N0 = 16384  # the boot block's
+
+
+def named(number, word):
+    return f"device {number} in {'words' if word else 'bytes'}"
+
+
+def units_of(byte_count, word):
+    return byte_count // 2 if word else byte_count
+
+
+def plain(b, number, block, word, **more):
+    """A block of ones, and ones wanted."""
+    b.fit(number, block, word=word, **more)
+    b.fill("A", 255, 0)
+    b.fill("W", 255, 0)
+    b.fill("C", 17, 2)
+
+
+def some_bytes(b):
+    """Eight bytes that fall: the first, the last, both bytes of a word, two that are neighbours in two words, a low one and a high one."""
+    for place, byte in ((0, 0xFE), (8191, 0x7F), (10, 0x0F), (11, 0xF0), (21, 0x55), (22, 0xAA), (4096, 0x00), (5001, 0x01)):
+        b.want(place, byte)
+    return 7 if b.device.word else 8
+
+
+def wide_runs(b):
+    b.group("wrun", "parameter blocks of devices 5 to 8 in both widths, VPP in both bands: n, p and reads in units")
+    b.fresh()
+    for number, word in NEW:
+        n = units_of(N1, word)
+        plain(b, number, 1, word, vpp=5000 if number in (5, 8) else 12000)
+        b.run(f"{named(number, word)}: held as wanted", (0, 2 * n + 3))
+        p = some_bytes(b)
+        b.run("a program for each unit that differs, none for two", (0, 2 * n + 3 + 4 * p))
+        b.verify("and verified", (0, n + 1))
+        b.load("a load alone, held as wanted", (0, n + 2))
+        b.want(0, 0xFF)
+        b.want(1, 0xFE)
+        b.levels(1, 12000 if number in (5, 8) else 4500, 1)
+        b.run("a bit rises: one erase, and all of them again", (0, 2 * n + 3 + 5 + 4 * p))
+    b.group("wtwo", "the second parameter block: nearly every unit programmed")
+    for number, word, vpp in ((5, 1, 4500), (6, 0, 5500), (7, 1, 11400), (8, 0, 12600)):
+        n = units_of(N1, word)
+        b.fit(number, 2, 1, 1, vpp=vpp, word=word)
+        b.fill("A", 10 * number, 7)
+        b.fill("W", 91, 5)
+        first = BLOCKS[number][2][0]
+        count = formula(b.device, b.array[first : first + N1], b.wanted[:N1], "O")
+        b.load(f"{named(number, word)}, VPP {vpp}: an erase, and the programs", (0, count))
+        b.verify("and verified", (0, n + 1))
+        b.fill("W", 91, 0)
+        count = formula(b.device, b.array[first : first + N1], b.wanted[:N1])
+        b.run("another pattern", (0, count))
+
+
+def wide_mains(b):
+    b.group("wmai", "main blocks: 98,304 bytes and 131,072")
+    for number, block, word, length, op in ((5, 3, 1, 98304, "R"), (8, 3, 0, 98304, "O"), (6, 4, 1, 131072, "O"), (8, 6, 1, 131072, "O")):
+        n = units_of(length, word)
+        plain(b, number, block, word, vpp=5000)
+        b.want(length - 1, 0xFE)
+        b.want(0, 0x7F)
+        count = n + 2 + 8 + (n + 1 if op == "R" else 0)
+        b.run(f"{named(number, word)}, block {block}: first and last byte", (0, count), op)
+    plain(b, 7, 6, 0, vpp=0)
+    b.hold(131071, 0x00, "the last byte of block 6")
+    b.verify("25 at the last of 131,072 bytes, VPP low", (25, 131073, 131071))
+    plain(b, 7, 5, 1, vpp=0)
+    b.hold(0x3FFFF, 0x00, "the last byte of block 5")
+    b.verify("25 at the last of 65,536 words, its high byte", (25, 65537, 0x3FFFF))
+
+
+def wide_boot(b):
+    b.group("wboo", "the boot block of devices 5 to 8: by RP# at V_HH, by WP# high, locked")
+    for number, word in NEW:
+        n = units_of(N0, word)
+        first = BLOCKS[number][0][0]
+        plain(b, number, 0, word, rp=1)
+        b.load(f"{named(number, word)}: locked, nothing to do: well", (0, n + 2))
+        b.want(N0 - 1, 0x01)
+        b.load("locked, a program: 24", (24, n + 5, 0))
+        b.verify("nothing was programmed: 25", (25, n + 1, first + N0 - 1))
+        b.hold(first, 0x00)
+        b.load("locked, an erase: 23", (23, n + 5, 0))
+        b.levels(1, 5000, 0, wp=1)
+        b.load("WP# high, VPP 5 V: an erase and a program", (0, n + 2 + 5 + 4))
+        b.want(0, 0xF0)
+        b.levels(2, 12000, 0, wp=0)
+        b.load("RP# at V_HH: a program", (0, n + 2 + 4))
+        b.want(1, 0x0F)
+        b.levels(2, 5000, 0, wp=1)
+        b.run("both", (0, 2 * n + 3 + 4))
+    plain(b, 6, 0, 1, rp=1)
+    b.want(4, 0x00)
+    b.levels(1, 1500, 0)
+    b.run("locked and VPP low, a program: 21", (21, 8192 + 5, 0))
+    b.levels(1, 0, 0, wp=1)
+    b.run("WP# high and VPP low: 21", (21, 8192 + 5, 0))
+    b.hold(0, 0x00)
+    b.levels(2, 1500, 0)
+    b.load("RP# at V_HH and VPP low, an erase: 21", (21, 8192 + 5, 0))
+    plain(b, 3, 0, 0, rp=1, wp=1)
+    b.want(1023, 0x01)
+    b.run("device 3: WP# high unlocks nothing: 24", (24, 1029, 0))
+    b.levels(2, 12000, 0, wp=255)
+    b.run("device 3: WP# is not looked at: well", (0, 2051 + 4))
+
+
+def wide_verifies(b):
+    b.group("w25 ", "25 gives a byte address: at a low byte, at a high byte, at both")
+    b.fresh()
+    for number, word in NEW:
+        first = BLOCKS[number][2][0]
+        plain(b, number, 2, word, vpp=0)
+        for place in (0, 1, 10, 11, 4095, 4096, 8190, 8191):
+            b.hold(first + place, 0xFE)
+            b.verify(f"{named(number, word)}: byte {place}", (25, units_of(place, word) + 2, first + place))
+            b.hold(first + place, 0xFF)
+        b.hold(first + 100, 0xFE, "both bytes of a word, and one behind them")
+        b.hold(first + 101, 0x00)
+        b.hold(first + 300, 0x00)
+        b.fill("C", 17, 2)
+        b.verify("the lower one", (25, units_of(100, word) + 2, first + 100))
+        b.want(100, 0xFE)
+        b.verify("the higher one; wanted is as held in the lower", (25, units_of(101, word) + 2, first + 101))
+        b.want(101, 0x00)
+        b.want(300, 0x00)
+        b.hold(first - 1, 0x00, "the bytes around the block")
+        b.hold(first + N1, 0x00)
+        b.verify("other blocks do not matter", (0, units_of(N1, word) + 1))
+
+
+def wide_bars(b):
+    b.group("wbar", "refusals on devices 5 to 8 in both widths; nothing is touched and no cycle counted")
+    b.fresh()
+
+    def all_three(note, number):
+        for op in "ROV":
+            b.run(note, (number, 0, 0), op)
+
+    b.fit(3, 1)
+    b.fill("A", 5, 3)
+    b.fill("W", 9, 1)
+    b.fill("C", 17, 2)
+    for number in (0, 1, 2, 3, 4, 9, 255):
+        b.use(number, 2, 3, SIZE.get(number, 16384), 512, 512, word=1)
+        all_three(f"1: {named(number, 1)}", 1)
+    for number, word in NEW:
+        for program, erase, suspend in ((0, 3, 1), (2, 0, 1), (2, 3, 0), (2, 3, 101)):
+            b.use(number, program, erase, SIZE[number], N1, N1, suspend, word)
+            b.run(f"1: {named(number, word)}, P {program}, E {erase}, S {suspend}", (1, 0, 0))
+        size = SIZE[number]
+        for array in (0, size // 2, size - 2, size - 1, size + 1, 786432 - size):
+            b.use(number, 2, 3, array, N1, N1, word=word)
+            b.run(f"2: {named(number, word)}, array of {array}", (2, 0, 0))
+        b.fit(number, 1, word=word)
+        for mode, status, phase, left, address in (("A", 0x81, "F", 0, 0), ("S", 0x00, "E", 2, units_of(size, word)), ("A", 0x80, "F", 0, 1)):
+            b.put(mode, status, phase, left, address)
+            b.run("3", (3, 0, 0))
+        b.fresh()
+        for rp, vpp, wp in ((0, 5000, 0), (3, 12000, 0), (1, 1501, 0), (1, 4499, 1), (1, 5501, 0), (1, 6500, 0), (1, 11399, 1), (2, 12601, 0), (1, 5000, 2), (2, 12000, 255)):
+            b.levels(rp, vpp, 1, wp)
+            b.run(f"4: RP# {rp}, VPP {vpp}, WP# {wp}", (4, 0, 0))
+        blocks_there = len(BLOCKS[number])
+        for block in (blocks_there, blocks_there + 1, 255):
+            b.levels(1, 5000, block)
+            b.run(f"10: block {block}", (10, 0, 0))
+        b.levels(1, 5000, 1)
+        for wanted, scratch in ((N1 - 1, N1), (N1, N1 - 1), (N1 + 1, N1 + 1), (N1 // 2, N1 // 2), (N1 - 2, N1), (N1, N1 + 2), (2, 2), (11, 11), (0, 0)):
+            b.use(number, 2, 3, size, wanted, scratch, word=word)
+            b.run(f"11: wanted {wanted}, scratch {scratch}", (11, 0, 0))
+        b.fit(number, 1, word=word)
+        for mode, status, phase, left, address in (("S", 0x80, "C", 0, 0), ("S", 0x80, "D", 0, 0), ("S", 0x00, "P", 1, 16), ("S", 0x00, "E", 3, units_of(size, word) - 1), ("A", 0xC0, "S", 2, 16)):
+            b.put(mode, status, phase, left, address)
+            b.run("12", (12, 0, 0))
+        b.fresh()
+    b.fit(5, 1, word=1)
+    b.levels(1, 12000, 5, wp=2)
+    all_three("4 before 10", 4)
+    b.levels(1, 12000, 5)
+    b.use(5, 2, 3, 262144, 11, 2, word=1)
+    all_three("10 before 11", 10)
+    b.put("S", 0x80, "C")
+    b.levels(1, 12000, 4)
+    all_three("11 before 12", 11)
+    b.use(5, 2, 3, 262143, 131072, 131072, word=1)
+    all_three("2 before 12: an odd array in word mode", 2)
+    b.use(5, 2, 3, 262144, 131072, 131072, word=1)
+    all_three("12", 12)
+
+
+def words_by_hand(b):
+    b.group("whan", "the loader stepped by hand in word mode: addresses and places in words")
+    b.fresh()
+    b.fit(5, 1, word=1, vpp=5000, wp=1)
+    b.fill("W", 255, 0)
+    for place, byte in ((0, 0x5A), (1, 0x3C), (8191, 0x00)):
+        b.want(place, byte)
+    b.fill("C", 3, 1)
+    b.start("write 50H", "R")
+    b.step(0x0000, 1, "write FFH")
+    b.step(0x0000, 1, "the first read")
+    b.step(0xFFFF, 4095, "the last read")
+    b.step(0xFFFF, 1, "40H at the first word")
+    b.step(0x0000, 1, "its data, 16 bits")
+    b.step(0x0000, 1, "a poll")
+    b.step(0x007F, 3, "another")
+    b.step(0x0080, 1, "40H at the last word: scratch has taken the first")
+    b.step(0x0080, 2, "a poll")
+    b.step(0x0080, 1, "write FFH")
+    b.step(0x0000, 1, "the first read of the verify")
+    b.step(0x3C5A, 1, "the second")
+    b.step(0xFFFF, 4094, "the last")
+    b.step(0x00FF, 1, "well", ("E", 0, 0))
+    b.step(0xFFFF, 2, "repeated", ("E", 0, 0))
+    for value, address, note in ((0x3C5B, 0x3A000, "the low byte"), (0x3D5A, 0x3A001, "the high byte"), (0x0000, 0x3A000, "both")):
+        b.start("a verify alone", "V")
+        b.step(0x0000, 1, "the first read")
+        b.step(value, 1, f"25 at {note}", ("E", 25, address))
+        b.step(0xFFFF, 2, "repeated", ("E", 25, address))
+    for value, address, note in ((0x00FE, 0x3BFFE, "low"), (0x01FF, 0x3BFFF, "high")):
+        b.start("a verify alone", "V")
+        b.step(0x3C5A, 2, "the second read")
+        b.step(0xFFFF, 4094, "the last")
+        b.step(value, 1, f"25 at the last word's {note} byte", ("E", 25, address))
+    b.start("an erase", "O")
+    b.step(0xFFFF, 4096, "the last but one read")
+    b.step(0xFFFF, 1, "the last read")
+    b.step(0x00FE, 1, "20H: one bit of a low byte rises")
+    b.step(0x0000, 1, "D0H")
+    b.step(0x0000, 1, "a poll at the block's first word")
+    b.step(0x0080, 1, "40H at the first word: scratch is ones")
+    b.step(0x0080, 5, "a poll at the last word")
+    b.step(0x0080, 1, "well", ("E", 0, 0))
+    for status, end in ((0x00B8, 21), (0x00B0, 22), (0x0090, 24)):
+        b.start("a load alone", "O")
+        b.step(0xFFFF, 4100, "a poll")
+        b.step(status, 1, "ready with an error", ("E", end, 0))
+    for status, end in ((0x0088, 21), (0x00B0, 22), (0x00A0, 23)):
+        b.start("an erase", "O")
+        b.step(0x0000, 4100, "a poll")
+        b.step(status, 1, "ready with an error", ("E", end, 0))
+
+
+def hands_back(b):
+    b.group("whel", "refusals of start and step on devices 5 to 8, and records handed back: places in units")
+    for word, last in ((1, 4095), (0, 8191)):
+        b.fit(5, 1, word=word)
+        b.fill("W", 255, 0)
+        b.fill("C", 4, 1)
+        b.start(f"a good start of {named(5, word)}")
+        b.handed(last + 1, 0)
+        b.step(0xFFFF, 1, "a place past the block: 3", ("X", 3))
+        b.handed(last, 65535)
+        b.step(0xFFFF, 1, "65,535 polls: 3", ("X", 3))
+        for rp, vpp, wp in ((1, 5000, 2), (1, 6500, 0), (0, 12000, 1)):
+            b.levels(rp, vpp, 1, wp)
+            b.handed(last, 65534)
+            b.step(0xFFFF, 1, "4", ("X", 4))
+            b.start("4")
+        for block in (5, 255):
+            b.levels(1, 5000, block)
+            b.handed(999999, 0)
+            b.step(0xFFFF, 1, "10", ("X", 10))
+            b.start("10")
+        b.levels(1, 5000, 1)
+        for wanted, scratch in ((N1, N1 - 1), (N1 + 1, N1), (4096, 4096), (2, 11)):
+            b.use(5, 2, 3, 0, wanted, scratch, word=word)
+            b.start("11")
+            b.handed(0, 0)
+            b.step(0xFFFF, 1, "11 again", ("X", 11))
+        b.use(5, 0, 0, 0, N1, N1, word=word)
+        b.start("no busy times and no array are tested: write 50H")
+        b.handed(0, 0)
+        b.step(0xFFFF, 1, "write FFH")
+    for number in (1, 2, 3, 4):
+        b.use(number, 2, 3, 0, 512, 512, word=1)
+        b.start(f"1: {named(number, 1)}")
+        b.handed(999999, 99999)
+        b.step(0xFFFF, 1, "1 before 3", ("X", 1))
+    b.fit(6, 1, word=0, vpp=5000)
+    b.fill("W", 0x5A, 0)
+    b.fill("C", 4, 1)
+    b.start("bytes: the high byte of what is read is not looked at", "V")
+    b.step(0x0000, 1, "the first read")
+    b.step(0xFF5A, 1, "the second")
+    b.step(0x015A, 8190, "the last")
+    b.step(0x005B, 1, "25 at the last byte", ("E", 25, 0x5FFF))
+
+
+OLD_PARTS = (cards, blocks, ways, other_ends, refusals, by_hand, barred, over, apart, verified, apart_by_hand)
+NEW_PARTS = (wide_runs, wide_mains, wide_boot, wide_verifies, wide_bars, words_by_hand, hands_back)
+
+
 def all_cases():
     b = Bench()
-    for part in (cards, blocks, ways, other_ends, refusals, by_hand, barred, over, apart, verified, apart_by_hand):
+    for part in OLD_PARTS + NEW_PARTS:
         part(b)
     return b
 

@@ -36,9 +36,9 @@ struct Bench {
 fn setup_of(row: &[u8], old: Setup) -> Setup {
     let pins = old.pins;
     let device = vectors_states::device_at(row);
-    let array = vectors_text::size_at(row, 10, 22, 6);
-    let wanted = vectors_text::size_at(row, 10, 29, 6);
-    let scratch = vectors_text::size_at(row, 10, 36, 6);
+    let array = vectors_text::size_at(row, 10, 24, 6);
+    let wanted = vectors_text::size_at(row, 10, 31, 6);
+    let scratch = vectors_text::size_at(row, 10, 38, 6);
     Setup {
         device: device,
         pins: pins,
@@ -52,11 +52,16 @@ fn setup_of(row: &[u8], old: Setup) -> Setup {
 fn levels_of(row: &[u8], old: Setup) -> Setup {
     let device = old.device;
     let rp = vectors_text::byte_at(row, 10, 2, 3);
-    let vpp = vectors_text::word_at(row, 10, 6, 10);
-    let block = vectors_text::byte_at(row, 10, 17, 3);
+    let wp = vectors_text::byte_at(row, 10, 6, 3);
+    let vpp = vectors_text::word_at(row, 10, 10, 10);
+    let block = vectors_text::byte_at(row, 10, 21, 3);
     Setup {
         device: device,
-        pins: Pins { rp: rp, vpp: vpp },
+        pins: Pins {
+            rp: rp,
+            vpp: vpp,
+            wp: wp,
+        },
         block: block,
         array: old.array,
         wanted: old.wanted,
@@ -67,8 +72,15 @@ fn levels_of(row: &[u8], old: Setup) -> Setup {
 // The bench before the first row.
 fn bare() -> Bench {
     let state = model::fresh();
-    let part = Part { number: 0 };
-    let pins = Pins { rp: 0, vpp: 0 };
+    let part = Part {
+        number: 0,
+        word: false,
+    };
+    let pins = Pins {
+        rp: 0,
+        vpp: 0,
+        wp: 0,
+    };
     let loader = loader_steps::front::record_at(part, pins, 0, Stage::Clearing, true);
     Bench {
         setup: Setup {
@@ -112,7 +124,7 @@ fn with(b: Bench, setup: Setup, state: State, group: Group) -> Bench {
 fn after_line(b: Bench, state: State, loader: Loader) -> Bench {
     let setup = b.setup;
     let group = b.group;
-    let lines = (b.lines % 999) + 1;
+    let lines = (b.lines % 9999) + 1;
     print_label(group, lines);
     Bench {
         setup: setup,
@@ -146,10 +158,22 @@ fn print_byte(x: u8) {
     print_hex(&mut text, x as u64, b" ");
 }
 
+// A byte or a word, in four digits.
+fn print_unit(x: u16) {
+    let mut text = [0u8; 4];
+    print_hex(&mut text, x as u64, b" ");
+}
+
+// A level in three decimal digits.
+fn print_level(x: u8) {
+    let mut text = [0u8; 3];
+    print_decimal(&mut text, x as u64);
+}
+
 // The group's letters and the line's number.
 fn print_label(g: Group, line: u32) {
     let letters = [g.a, g.b, g.c, g.d, b' '];
-    let mut text = [0u8; 3];
+    let mut text = [0u8; 4];
     print_text(&letters);
     print_decimal(&mut text, line as u64);
 }
@@ -157,9 +181,8 @@ fn print_label(g: Group, line: u32) {
 // A letter and a number in three decimal digits.
 fn print_number(letter: u8, n: u8) {
     let mark = [letter, b' '];
-    let mut text = [0u8; 3];
     print_text(&mark);
-    print_decimal(&mut text, n as u64);
+    print_level(n);
 }
 
 // A number in ten decimal digits.
@@ -214,9 +237,10 @@ fn print_cycle(c: Cycle) {
     let kind = c.kind;
     let pins = c.pins;
     print_number(kind_letter(kind), pins.rp);
+    print_level(pins.wp);
     print_long(pins.vpp as u64);
     print_address(c.address);
-    print_byte(c.data);
+    print_unit(c.data);
 }
 
 // What the loader gave: the cycle that is out, the end, or a refusal.
@@ -332,13 +356,13 @@ fn start_line(op: u8, b: Bench, wanted: &[u8], scratch: &[u8]) -> Bench {
     given_line(b, g, room)
 }
 
-// Steps with the same byte, at least one.
-fn steps(l: Loader, byte: u8, times: u32, wanted: &[u8], scratch: &mut [u8]) -> Given {
-    let mut g = loader_steps::front::step(l, byte, wanted, scratch);
+// Steps with the same data, at least one.
+fn steps(l: Loader, value: u16, times: u32, wanted: &[u8], scratch: &mut [u8]) -> Given {
+    let mut g = loader_steps::front::step(l, value, wanted, scratch);
     let mut i = 1;
     while i < times {
         let next = g.loader;
-        g = loader_steps::front::step(next, byte, wanted, scratch);
+        g = loader_steps::front::step(next, value, wanted, scratch);
         i += 1;
     }
     g
@@ -348,9 +372,9 @@ fn steps(l: Loader, byte: u8, times: u32, wanted: &[u8], scratch: &mut [u8]) -> 
 fn stepped(setup: Setup, before: Loader, row: &[u8], wanted: &[u8], scratch: &mut [u8]) -> Given {
     let m = common::least(setup.wanted, wanted.len());
     let k = common::least(setup.scratch, scratch.len());
-    let byte = vectors_text::byte_at(row, 16, 2, 2);
-    let times = vectors_text::word_at(row, 10, 5, 5);
-    steps(before, byte, times, &wanted[0..m], &mut scratch[0..k])
+    let value = vectors_text::half_at(row, 16, 2, 4);
+    let times = vectors_text::word_at(row, 10, 7, 5);
+    steps(before, value, times, &wanted[0..m], &mut scratch[0..k])
 }
 
 // Steps and the line of the last.
@@ -377,7 +401,7 @@ fn put_byte(s: &mut [u8], row: &[u8]) {
     vectors_text::put(s, at, v);
 }
 
-// The record that a host hands back: the bench's part, levels and block, a place and polls, at the stage it had.
+// The record that a host hands back: the bench's part, levels and block, a place and polls, at the stage that it had.
 fn handed(b: Bench, row: &[u8]) -> Bench {
     let setup = b.setup;
     let state = b.state;
@@ -385,6 +409,7 @@ fn handed(b: Bench, row: &[u8]) -> Bench {
     let old = b.loader;
     let stage = old.stage;
     let verify = old.verify;
+    let high = old.high;
     let device = setup.device;
     let part = device.part;
     let pins = setup.pins;
@@ -401,6 +426,7 @@ fn handed(b: Bench, row: &[u8]) -> Bench {
             place: place,
             polls: polls,
             verify: verify,
+            high: high,
         },
         group: group,
         lines: b.lines,
@@ -503,7 +529,7 @@ fn all(text: &[u8], array: &mut [u8], wanted: &mut [u8], scratch: &mut [u8]) {
 
 fn main() {
     let mut text = vectors_text::blank();
-    let mut array = vectors_text::blank();
+    let mut array = vectors_states::vast();
     let mut wanted = vectors_text::blank();
     let mut scratch = vectors_text::blank();
     let n = io::read_full(0, &mut text);

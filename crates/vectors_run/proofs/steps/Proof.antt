@@ -7,10 +7,10 @@ use Rattle.vectors_run.proofs.steps.Statement.{statement}
 use Rattle.vectors_run.proofs.steps.Tie as tie
 
 abbrev Inv-loop : tie.InvT-loop
-Inv-loop byte times wanted scratch₀ g₀ i₀ scratch g i = length scratch ≡ length scratch₀
+Inv-loop value times wanted scratch₀ g₀ i₀ scratch g i = length scratch ≡ length scratch₀
 
 abbrev μ-loop : tie.MeasureT-loop
-μ-loop byte times wanted scratch₀ g₀ i₀ scratch g i = times - i
+μ-loop value times wanted scratch₀ g₀ i₀ scratch g i = times - i
 
 step-requires : tie.Need-step-requires Inv-loop μ-loop
 step-requires c κs = search needs
