@@ -9,19 +9,20 @@ The load here is written from documents 01 and 02. It stands on the scripts' own
 on their own writer and reader of a load file (vectors_file.py), and shares nothing with the crates. Every case says beforehand
 how it must end and how many cycles it makes, and the load is held to that.
 
-A case is a name of 24 bytes and 44 numbers of six digits:
+A case is a name of 24 bytes and 46 numbers of six digits:
     0, 1       the file's letter and its payload bytes
     2 to 13    six changes of the file as it was written, place and byte (999999 for none)
     14, 15     how much of it is used, and the letter asked
     16 to 21   device, P, E, RP#, VPP, block
     22 to 26   the state: mode (as a letter), status, phase (as a letter), cycles to go, address
-    27 to 29   how much is lent of array, wanted and scratch
+    27 to 29   how many bytes are lent of array, wanted and scratch
     30 to 35   what they hold: first byte and step of a pattern, for each
     36         where the file lies in the array before the load; 999999 for nowhere
-    37 to 40   two bytes of the array, address and byte
+    37 to 40   two bytes of the array, byte address and byte
     41         S
     42         1 for a verify, 0 for a load
     43         what the file's buffer holds before
+    44, 45     1 for word mode, 0 for byte mode; WP#
 
 A line shows: the name; the end E, its address A and the count N; status, mode and phase S; then for array a, wanted w and scratch s
 a digest, the first byte and the last.
@@ -30,7 +31,7 @@ import functools
 
 from vectors_file import judge, row_of, spoiled
 from vectors_model import BLOCKS, FRESH, SIZE, Device, State, called, digest, pattern
-from vectors_run import block_length, run, run_number
+from vectors_run import Pins, block_length, formula, run, run_number
 
 NOWHERE = 999999
 NAME = 23
@@ -46,38 +47,23 @@ def file_number(data, asked, n):
     return judge(data, asked)[0]
 
 
-def load(device, state, rp, vpp, block, array, wanted, scratch, data, asked, op="R"):
+def load(device, state, pins, block, array, wanted, scratch, data, asked, op="R"):
     """A run's tests, then the file's; only then wanted is filled, with the file and FFH, and the run made."""
-    number = run_number(device, state, rp, vpp, block, array, wanted, scratch)
+    number = run_number(device, state, pins, block, array, wanted, scratch)
     if number == 0:
         number = file_number(data, asked, len(wanted))
     if number:
         return number, 0, 0, state
     wanted[:] = data + b"\xff" * (len(wanted) - len(data))
-    return run(device, state, rp, vpp, block, array, wanted, scratch, op)
-
-
-def formula(device, held, wanted):
-    """The count of a good run: 2n + 3 + e(2 + E) + p(2 + P)."""
-    rises = any(w & ~h & 0xFF for w, h in zip(wanted, held))
-    before = b"\xff" * len(wanted) if rises else held
-    programs = sum(w != h for w, h in zip(wanted, before))
-    return 2 * len(wanted) + 3 + rises * (2 + device.erase) + programs * (2 + device.program)
+    return run(device, state, pins, block, array, wanted, scratch, op)
 
 
 # ---------------------------------------------------------------- the cases
 
 
-kept = functools.cache(pattern)
-
-
-def sown(first, step, n):
-    return kept(first, step)[:n]
-
-
 def file_of(row):
     """The changes that a case makes in the file as it was written, and the file."""
-    payload = bytes(sown(3, 7, row[1]))
+    payload = bytes(pattern(3, 7, row[1]))
     written = spoiled(row_of(letter=row[0], size=row[1], length=row[13], fill=row[17]), payload)[2]
     file = spoiled(row, payload)[2]
     return [(i, b) for i, b in enumerate(file) if b != written[i]], bytes(file[: row[13]])
@@ -98,37 +84,39 @@ class Table:
     def __init__(self):
         self.rows, self.lines = [], []
 
-    def case(self, name, end, count=None, about=(), number=3, block=1, times=(2, 3), suspend=1, rp=None, vpp=12000, state=FRESH, lent=(None, None, None),
-             held=(255, 0), laid=False, spots=(), op="R"):
+    def case(self, name, end, count=None, address=0, about=(), number=3, block=1, times=(2, 3), suspend=1, rp=None, vpp=12000, state=FRESH,
+             lent=(None, None, None), held=(255, 0), laid=False, spots=(), op="R", word=0, wp=0):
         """One load. `about` is the file; `count` is told by the case where the end is not 0, and by the formula where it is."""
         assert len(name) <= NAME, name
         row = row_of(**dict(about))
         changes, data = file_of(row)
-        first, n = (BLOCKS[number][block][0], block_length(number, block)) if number in BLOCKS and block < 4 else (0, 512)
+        there = number in BLOCKS and block < len(BLOCKS[number])
+        first, n = (BLOCKS[number][block][0], block_length(number, block)) if there else (0, 512)
         rp = (2 if block == 0 else 1) if rp is None else rp
         given = [want if want is not None else fit for want, fit in zip(lent, (SIZE.get(number, 16384), n, n))]
         marks = [held, (91, 5), (17, 2)]
         numbers = row[:2] + pairs(changes, 6) + row[13:15] + [number, *times, rp, vpp, block]
         numbers += [ord(state.mode), state.status, ord(state.phase), state.left, state.address]
-        numbers += given + [x for pair in marks for x in pair] + [first if laid else NOWHERE] + pairs(spots, 2) + [suspend, int(op == "V"), row[17]]
-        assert len(numbers) == 44 and all(0 <= x <= 999999 for x in numbers)
+        numbers += given + [x for pair in marks for x in pair] + [first if laid else NOWHERE] + pairs(spots, 2)
+        numbers += [suspend, int(op == "V"), row[17], word, wp]
+        assert len(numbers) == 46 and all(0 <= x <= 999999 for x in numbers)
         self.rows.append(f"{name:{NAME + 1}}" + " ".join(f"{x:06d}" for x in numbers))
-        array, wanted, scratch = (sown(*mark, k) for mark, k in zip(marks, given))
+        array, wanted, scratch = (pattern(*mark, k) for mark, k in zip(marks, given))
         if laid:
             array[first : first + len(data)] = data
         for at, byte in spots:
             array[at] = byte
-        self.lines.append(self.line(name, end, count, Device(number, *times, suspend), state, rp, vpp, block, first, array, wanted, scratch, data, row[14], op))
+        told, device = (end, count, address), Device(number, *times, suspend, word)
+        self.lines.append(self.line(name, told, device, state, Pins(rp, vpp, wp), block, first, array, wanted, scratch, data, row[14], op))
 
-    def line(self, name, end, count, device, state, rp, vpp, block, first, array, wanted, scratch, data, asked, op):
+    def line(self, name, told, device, state, pins, block, first, array, wanted, scratch, data, asked, op):
         """The load or verify, held to what the case says, and its line."""
         before = bytes(array), bytes(wanted), bytes(scratch)
-        if end == 0 and op == "V":
-            count = len(wanted) + 1
-        elif end == 0:
-            count = formula(device, array[first : first + len(wanted)], data + b"\xff" * (len(wanted) - len(data)))
-        got, cycles, address, after = load(device, state, rp, vpp, block, array, wanted, scratch, data, asked, op)
-        assert (got, cycles) == (end, 0 if count is None else count), (name, got, cycles, count)
+        end, count, place = told
+        if end == 0:
+            count = formula(device, array[first : first + len(wanted)], data + b"\xff" * (len(wanted) - len(data)), op)
+        got, cycles, address, after = load(device, state, pins, block, array, wanted, scratch, data, asked, op)
+        assert (got, cycles, address) == (end, 0 if count is None else count, place), (name, got, cycles, count, address)
         if cycles == 0:
             assert before == (array, wanted, scratch) and after == state, name
         else:
@@ -193,7 +181,7 @@ def run_refused(t):
     bad = {"size": 900, "before": [(9, 0)], "asked": "T"}
     none = {"length": 0}
     good = {"size": 505}
-    for number in (0, 5, 255):
+    for number in (0, 9, 255):
         bar(f"1 device {number}", 1, about=bad, number=number)
     bar("1 P 0", 1, about=none, times=(0, 3))
     bar("1 E 0", 1, about=good, times=(2, 0))
@@ -289,18 +277,18 @@ def verified(t):
     check("verify locked, VPP low", 0, rp=1, vpp=0, **half)
     check("verify VPP 6500", 0, rp=1, vpp=6500, **half)
     check("verify other idle start", 0, state=State("I", 0xB8, "F", 0, 0, 0), **half)
-    check("verify 25 first byte", 25, 2, spots=[(first, 0x00)], **half)
-    check("verify 25 in the file", 25, 511 + 2, spots=[(first + 511, 0xFF), (first + 1023, 0x00)], **half)
-    check("verify 25 past the file", 25, 512 + 2, spots=[(first + 512, 0x7F)], **half)
-    check("verify 25 last byte", 25, 1023 + 2, spots=[(first + 1023, 0x00)], **half)
+    check("verify 25 first byte", 25, 2, first, spots=[(first, 0x00)], **half)
+    check("verify 25 in the file", 25, 511 + 2, first + 511, spots=[(first + 511, 0xFF), (first + 1023, 0x00)], **half)
+    check("verify 25 past the file", 25, 512 + 2, first + 512, spots=[(first + 512, 0x7F)], **half)
+    check("verify 25 last byte", 25, 1023 + 2, first + 1023, spots=[(first + 1023, 0x00)], **half)
     check("verify neighbour", 0, spots=[(first - 1, 0x00)], **half)
-    check("verify 25 erased block", 25, 2, about={"size": 100}, number=4, block=2)
+    check("verify 25 erased block", 25, 2, BLOCKS[4][2][0], about={"size": 100}, number=4, block=2)
     check("verify 30", 30, about={"size": 506}, number=3, block=1, held=(1, 1))
     check("verify 31", 31, about={"size": 505, "before": [(5, 18)]}, number=3, block=1, held=(7, 7))
     check("verify 38", 38, about={"letter": "A", "size": 20, "length": 512, "fill": 255}, number=3, block=1, held=(255, 0))
     check("verify 35", 35, about={"size": 100, "asked": "T"}, number=3, block=0, laid=True)
     bad = {"size": 900, "before": [(9, 0)], "asked": "T"}
-    check("verify 1", 1, about=bad, number=5)
+    check("verify 1", 1, about=bad, number=9)
     check("verify 2", 2, about=bad, lent=(16383, None, None))
     check("verify 3", 3, about=bad, state=State("A", 0x81, "F", 0, 0, 0))
     check("verify 4", 4, about=bad, rp=0)
@@ -309,9 +297,99 @@ def verified(t):
     check("verify 12", 12, about=bad, state=State("S", 0x80, "C", 0, 0, 0))
 
 
+# ---------------------------------------------------------------- the cases of devices 5 to 8
+
+NEW = tuple((number, word) for number in (5, 6, 7, 8) for word in (0, 1))
+
+
+def tag(number, word):
+    return f"{number}{'w' if word else 'b'}"
+
+
+def wide_refused(t):
+    """A run's refusals on devices 5 to 8, and then the file's, in both widths."""
+    bad = {"size": 900, "before": [(9, 0)], "asked": "T"}
+    for number in (0, 1, 2, 3, 4, 9, 255):
+        t.case(f"1 words on {number}", 1, about=bad, number=number, word=1, held=(40, 3))
+    for number, word in NEW:
+        bar = functools.partial(t.case, number=number, word=word, held=(40, 3))
+        me, size, count = tag(number, word), SIZE[number], len(BLOCKS[number])
+        bar(f"1 {me} P 0", 1, about=bad, times=(0, 3))
+        for length in (size - 1, size + 1, size // 2):
+            bar(f"2 {me} array {length}", 2, about=bad, lent=(length, None, None))
+        bar(f"3 {me}", 3, about=bad, state=State("S", 0x00, "E", 0, 2, size // (1 + word)))
+        for vpp in (1501, 4499, 5501, 6500, 11399, 12601):
+            bar(f"4 {me} VPP {vpp}", 4, about=bad, vpp=vpp)
+        bar(f"4 {me} WP 2", 4, about=bad, wp=2)
+        bar(f"4 {me} RP 0", 4, about=bad, rp=0)
+        bar(f"10 {me} block {count}", 10, about=bad, block=count)
+        for wanted, scratch in ((8191, 8192), (8193, 8193), (4096, 4096), (2, 11)):
+            bar(f"11 {me} {wanted} {scratch}", 11, about=bad, lent=(None, wanted, scratch))
+        bar(f"12 {me}", 12, about=bad, state=State("S", 0x00, "E", 0, 3, size // (1 + word) - 1))
+        bar(f"30 {me} 17 blocks", 30, about={"size": 8081})
+        bar(f"31 {me}", 31, about={"size": 8080, "before": [(8191, 0), (8190, 0)]})
+        bar(f"35 {me}", 35, about={"size": 8080, "asked": "T"})
+        bar(f"38 {me}", 38, about={"letter": "A", "size": 20, "length": 512, "fill": 255})
+
+
+def wide_loaded(t):
+    """Loads that end well on devices 5 to 8 in both widths; each count is that of the formula, in units."""
+    for number, word in NEW:
+        me, ends_at = tag(number, word), BLOCKS[number][1][1]
+        well = functools.partial(t.case, number=number, word=word)
+        well(f"well {me} VPP 5 V", 0, about={"size": 100}, vpp=5000)
+        well(f"well {me} erased first", 0, about={"letter": "K", "size": 506}, block=2, held=(0, 0), vpp=4500 + 1000 * word)
+        well(f"well {me} last byte rises", 0, about={"size": 900}, laid=True, spots=[(ends_at, 0xFE)])
+        well(f"well {me} fills 8 KB", 0, about={"size": 8080}, laid=True, spots=[(ends_at, 0xFF), (ends_at - 8191, 0xFF)], vpp=11400)
+        if word == number % 2:
+            well(f"well {me} boot by WP", 0, about={"size": 40}, block=0, rp=1, wp=1, vpp=5500, times=(1, 1))
+            well(f"well {me} error bits", 0, about={"size": 1}, state=State("I", 0xB8, "F", 0, 0, 0), vpp=5000)
+        else:
+            well(f"well {me} boot by RP", 0, about={"size": 40}, block=0, rp=2, vpp=12600)
+    t.case("well 6w all of 8 KB", 0, about={"size": 8080}, number=6, word=1, block=2, held=(5, 9), times=(1, 9), vpp=5000)
+    t.case("well 7b 4 KB of 8", 0, about={"size": 4040}, number=7, word=0, block=2, held=(5, 9), times=(1, 9), vpp=5000)
+    t.case("well 5w fills 96 KB", 0, about={"letter": "S", "size": 96960}, number=5, word=1, block=3, laid=True, spots=[(0x20001, 0xFF)])
+    t.case("well 8w longest file", 0, about={"letter": "E", "size": 113120}, number=8, word=1, block=6, laid=True, spots=[(0x60000, 0xFF)], vpp=5000)
+
+
+def wide_ended(t):
+    """Wanted is filled, and the run ends otherwise: 50H, FFH, n reads, two writes and a poll."""
+    file = {"about": {"size": 100}}
+    for number, word in NEW:
+        me, n, boot = tag(number, word), 8192 // (1 + word), 16384 // (1 + word)
+        end = functools.partial(t.case, number=number, word=word, **file)
+        end(f"21 {me} program", 21, n + 5, vpp=1500)
+        end(f"21 {me} erase", 21, n + 5, vpp=0, held=(0, 0))
+        end(f"{me} VPP low, well", 0, vpp=1500, laid=True)
+        end(f"23 {me} locked", 23, boot + 5, block=0, rp=1, held=(0, 0), vpp=5000)
+        end(f"24 {me} locked", 24, boot + 5, block=0, rp=1, vpp=5000)
+    t.case("5w locked, well", 0, number=5, word=1, block=0, rp=1, laid=True, **file)
+
+
+def wide_verified(t):
+    """Verifies against a file on devices 5 to 8: 25 gives the byte address, of a low byte or of a high one."""
+    for number, word in NEW:
+        me, first, unit = tag(number, word), BLOCKS[number][2][0], 1 + word
+        check = functools.partial(t.case, op="V", number=number, word=word, block=2, laid=True, about={"size": 900})
+        check(f"verify {me} well", 0, vpp=0)
+        for at in (0, 1, 10, 11, 1023, 1024, 1025, 8190, 8191):
+            check(f"verify {me} 25 at {at}", 25, at // unit + 2, first + at, spots=[(first + at, 0x7E)], vpp=5000)
+        check(f"verify {me} 25 both", 25, 100 // unit + 2, first + 100, spots=[(first + 100, 0x00), (first + 101, 0x00)])
+        check(f"verify {me} neighbour", 0, spots=[(first - 1, 0x00), (first + 8192, 0x00)])
+        check(f"verify {me} 35", 35, about={"size": 900, "asked": "T"})
+    t.case("verify 8w boot locked", 0, op="V", about={"size": 40}, number=8, word=1, block=0, rp=1, vpp=0, laid=True)
+    t.case("verify 4 words", 1, op="V", about={"size": 40}, number=4, word=1)
+    t.case("verify 5w block 5", 10, op="V", about={"size": 40}, number=5, word=1, block=5)
+    t.case("verify 7w 131,072", 0, op="V", about={"size": 113120}, number=7, word=1, block=6, vpp=0, laid=True)
+
+
+OLD_PARTS = (file_refused, run_refused, loaded, ended, verified)
+NEW_PARTS = (wide_refused, wide_loaded, wide_ended, wide_verified)
+
+
 def all_cases():
     t = Table()
-    for part in (file_refused, run_refused, loaded, ended, verified):
+    for part in OLD_PARTS + NEW_PARTS:
         part(t)
     assert len({row[:NAME] for row in t.rows}) == len(t.rows)
     return t

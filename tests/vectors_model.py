@@ -268,7 +268,7 @@ def identifier(device, address):
 
 def read(device, s, c, array):
     """Reads: what step 4 answers to a read."""
-    if s.phase in BUSY or s.mode == "S":
+    if s.mode == "S" or s.phase in BUSY:
         return ("D", s.status)
     if s.mode == "I":
         return identifier(device, c.address)

@@ -17,7 +17,7 @@ from collections import namedtuple
 
 from vectors_model import (
     ARRAY_ROOM, BLOCKS, FRESH, ROOM, SIZE, Cycle, Device, State,
-    bad_levels, called, carried, digest, is_device, is_part, judged, made, pattern, proper, put_unit, shown, unit_at, width,
+    bad_levels, called, carried, digest, is_device, is_part, judged, made, pattern, proper, put_unit, shown, width,
 )
 
 # ---------------------------------------------------------------- the loader
@@ -47,13 +47,17 @@ def poll(address, erase):
     return 20
 
 
+def all_units(device, part):
+    """The units of lent bytes, low byte first."""
+    return [h << 8 | l for l, h in zip(part[::2], part[1::2])] if device.word else list(part)
+
+
 def load(device, first, wanted, scratch):
     """Loading a block of n units, without the verify. Hands out cycles, takes what is read, returns the end and its address."""
-    n = len(wanted) // width(device)
-    wants = [unit_at(device, wanted, i) for i in range(n)]
+    wants, holds = all_units(device, wanted), []
+    n = len(wants)
     yield ("W", first, 0x50)
     yield ("W", first, 0xFF)
-    holds = []
     for i in range(n):
         holds.append(carried(device, (yield ("R", first + i, 0))))
         put_unit(device, scratch, i, holds[i])
@@ -141,28 +145,31 @@ def run(device, state, pins, block, array, wanted, scratch, op="R"):
     if number:
         return number, 0, 0, state
     work, count, value, known = begun(op, device, block, wanted, scratch), 0, None, None
+    rp, vpp, wp = pins
     try:
         while True:
             kind, address, data = work.send(value)
-            c = Cycle(kind, pins.rp, 0, pins.vpp, address, data, pins.wp)
-            if known != (kind, state):  # reads one after the other differ in their address alone, which is in the block
+            c = Cycle(kind, rp, 0, vpp, address, data, wp)
+            if kind != "R" or state is not known:  # reads one after the other differ in their address alone, which is in the block
                 assert judged(device, state, c, len(array), 0) == 0
-                known = (kind, state)
-            answer, state = made(device, state, c, array, b"")
-            assert answer[0] != "X"
-            value, count = answer[1], count + 1
+                known = state if kind == "R" else None
+            (letter, value), state = made(device, state, c, array, b"")
+            assert letter != "X"
+            count += 1
     except StopIteration as over:
         return over.value[0], count, over.value[1], state
 
 
 def formula(device, held, wanted, op="R"):
     """The count of a good run, 2n + 3 + e(2 + E) + p(2 + P); of a load alone, n + 2 and the same; of a verify alone, n + 1. All in units."""
-    n = len(wanted) // width(device)
+    wants, holds = all_units(device, wanted), all_units(device, held)
+    n = len(wants)
     if op == "V":
         return n + 1
-    pairs = [(unit_at(device, wanted, i), unit_at(device, held, i)) for i in range(n)]
-    rises = any(w & ~h for w, h in pairs)
-    programs = sum(w != (carried(device, 0xFFFF) if rises else h) for w, h in pairs)
+    rises = any(w & ~h for w, h in zip(wants, holds))
+    if rises:
+        holds = [carried(device, 0xFFFF)] * n
+    programs = sum(w != h for w, h in zip(wants, holds))
     return n + 2 + (n + 1 if op == "R" else 0) + rises * (2 + device.erase) + programs * (2 + device.program)
 
 

@@ -1,5 +1,5 @@
 // Loads and verifies from a file: a case a line of standard input, an answer a line of standard output. A case is a name of 24 bytes and
-// 44 numbers of six digits; tests/vectors_load.py says what they mean and works out the answers.
+// 46 numbers of six digits; tests/vectors_load.py says what they mean and works out the answers.
 use device::Device;
 use device::Part;
 use loader_run::Ran;
@@ -26,7 +26,7 @@ fn half(case: &[u8], k: usize) -> u16
     vectors_text::half_at(case, 10, 7 * k + 24, 6)
 }
 
-fn word(case: &[u8], k: usize) -> u32
+fn long(case: &[u8], k: usize) -> u32
     requires { ⌜ k < 100 ⌝ }
 {
     vectors_text::word_at(case, 10, 7 * k + 24, 6)
@@ -91,8 +91,12 @@ fn device_of(case: &[u8]) -> Device {
     let program = half(case, 17);
     let erase = half(case, 18);
     let suspend = byte(case, 41);
+    let word = byte(case, 44) == 1;
     Device {
-        part: Part { number: number },
+        part: Part {
+            number: number,
+            word: word,
+        },
         program: program,
         erase: erase,
         suspend: suspend,
@@ -101,8 +105,13 @@ fn device_of(case: &[u8]) -> Device {
 
 fn pins_of(case: &[u8]) -> Pins {
     let rp = byte(case, 19);
-    let vpp = word(case, 20);
-    Pins { rp: rp, vpp: vpp }
+    let vpp = long(case, 20);
+    let wp = byte(case, 45);
+    Pins {
+        rp: rp,
+        vpp: vpp,
+        wp: wp,
+    }
 }
 
 fn state_of(case: &[u8]) -> State {
@@ -110,7 +119,7 @@ fn state_of(case: &[u8]) -> State {
     let status = byte(case, 23);
     let phase = vectors_states::phase_by(byte(case, 24), 1);
     let left = half(case, 25);
-    let address = word(case, 26);
+    let address = long(case, 26);
     State {
         mode: mode,
         status: status,
@@ -237,10 +246,10 @@ fn run_case(case: &[u8], array: &mut [u8], wanted: &mut [u8], scratch: &mut [u8]
 
 // As much of each slice is lent as the case says.
 fn with_slices(case: &[u8], file: &[u8]) {
-    let mut array = vectors_text::blank();
+    let mut array = vectors_states::vast();
     let mut wanted = vectors_text::blank();
     let mut scratch = vectors_text::blank();
-    let n = lent(case, 27, 131073);
+    let n = lent(case, 27, 524289);
     let m = lent(case, 28, 131073);
     let k = lent(case, 29, 131073);
     run_case(
@@ -262,18 +271,18 @@ fn one(case: &[u8]) {
 
 // All cases of a text.
 fn run_all(text: &[u8]) {
-    let n = text.len() / 332;
+    let n = text.len() / 346;
     let mut i = 0;
     while i < n {
-        let from = 332 * i;
-        let to = from + 332;
+        let from = 346 * i;
+        let to = from + 346;
         one(&text[from..to]);
         i += 1;
     }
 }
 
 fn main() {
-    let mut text = [0u8; 65536];
+    let mut text = vectors_states::vast();
     let n = io::read_full(0, &mut text);
     run_all(&text[..n]);
 }
