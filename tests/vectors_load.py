@@ -349,7 +349,8 @@ def wide_loaded(t):
     t.case("well 6w all of 8 KB", 0, about={"size": 8080}, number=6, word=1, block=2, held=(5, 9), times=(1, 9), vpp=5000)
     t.case("well 7b 4 KB of 8", 0, about={"size": 4040}, number=7, word=0, block=2, held=(5, 9), times=(1, 9), vpp=5000)
     t.case("well 5w fills 96 KB", 0, about={"letter": "S", "size": 96960}, number=5, word=1, block=3, laid=True, spots=[(0x20001, 0xFF)])
-    t.case("well 8w longest file", 0, about={"letter": "E", "size": 113120}, number=8, word=1, block=6, laid=True, spots=[(0x60000, 0xFF)], vpp=5000)
+    longest = {"letter": "E", "size": 113120}
+    t.case("well 8w longest file", 0, about=longest, number=8, word=1, block=6, laid=True, spots=[(0x60000, 0xFF)], vpp=5000)
 
 
 def wide_ended(t):

@@ -10,7 +10,8 @@ second opinion to which the program is held. The second half is the list of case
 
 A line shows: group and number; the answer (D and what was read, N and dashes, X and a refusal); the status register; the mode
 (A array, S status, I identifier); the phase (F free, C confirm awaited, D data awaited, P programming and its data, E erasing,
-U being suspended and the cycles of that to go, S suspended); the cycles to go; the operation's address; a digest of the array that was lent.
+U being suspended and the cycles of that to go, S suspended); the cycles to go; the operation's address; a digest of the array that was
+lent.
 
 Addresses of cycles and states count units: bytes, or in word mode words. What a row of the table holds is said at ROWS below; what
 stands from column 40 on is a note to the reader.
@@ -266,15 +267,15 @@ def identifier(device, address):
     return ("D", carried(device, CODE[device.number] if place else MAKER))
 
 
-def read(device, s, c, array):
+def read(device, s, address, array):
     """Reads: what step 4 answers to a read."""
     if s.mode == "S" or s.phase in BUSY:
         return ("D", s.status)
     if s.mode == "I":
-        return identifier(device, c.address)
-    if s.phase == "S" and block_of(device, s.address) == block_of(device, c.address):
+        return identifier(device, address)
+    if s.phase == "S" and block_of(device, s.address) == block_of(device, address):
         return ("X", 8)
-    return ("D", unit_at(device, array, c.address))
+    return ("D", unit_at(device, array, address))
 
 
 def judged(device, s, c, array, residue):
@@ -296,8 +297,6 @@ def judged(device, s, c, array, residue):
 
 def made(device, s, c, array, residue):
     """A cycle that 1 to 6 let pass: the answer and the state after it. The array is changed in place."""
-    if c.kind == "R" and s.phase == "F" and c.rp != 0:  # nothing to cut or to count off
-        return read(device, s, c, array), s
     is_cut = cut_comes(device, s, c)
     if c.rp == 0:
         if is_cut:
@@ -309,7 +308,7 @@ def made(device, s, c, array, residue):
         if after is None:
             return ("X", 7), s
     if c.kind == "R":
-        answer = read(device, after, c, array)
+        answer = read(device, after, c.address, array)
         if answer[0] == "X":
             return answer, s
     if is_cut:
@@ -360,7 +359,7 @@ def piece_digest(piece):
 
 
 def digest(part):
-    """A number that any one changed byte changes: h = 31 h + byte modulo 65,521. It is put together from pieces that are worked out once."""
+    """A number that any one changed byte changes: h = 31 h + byte modulo 65,521. Pieces that come again are worked out once."""
     h, data = 0, bytes(part)
     for at in range(0, len(data), 2048):
         piece = data[at : at + 2048]
@@ -1056,53 +1055,61 @@ def edges(b, k):
     return tuple(at(b, byte) for byte in BLOCKS[b.device.number][k])
 
 
+def wide_program_cards(b, ones):
+    main = 0x10
+    b.fill(0xA5, 0)
+    b.fresh(f"a fresh {named(5, b.device.word)}")
+    b.write(main, 0x40, "5A.. over A5..")
+    b.write(main, 0x5A * ones)
+    b.read(main, "busy")
+    b.read(main, "the status, high byte 0")
+    b.write(main, 0xFF)
+    for address in (main, main - 1, main + 1):
+        b.read(address, "what is left, and its neighbours")
+    b.write(main, 0x40, "FF.. over it leaves it")
+    b.write(main, 0xFF * ones)
+    b.idle()
+    b.idle()
+    b.write(0, 0x20, "20H then FFH")
+    b.write(0, 0xFF)
+    for first, data, note in ((0x40, 0x00, "program confirmed at 1,500 mV: 98H"), (0x20, 0xD0, "and the erase: A8H")):
+        b.fresh(note)
+        b.write(main, first)
+        b.write(main, data, vpp=1500)
+
+
+def wide_erase_cards(b, ones):
+    main, boot, one, two = 0x10, *(edges(b, k)[0] for k in (0, 1, 2))
+    b.fresh("boot erase, locked: A0H")
+    b.write(boot, 0x20)
+    b.write(boot, 0xD0)
+    b.write(boot, 0x50, "with RP# at V_HH it erases")
+    b.write(boot, 0x20, rp=2)
+    b.write(boot, 0xD0, rp=2)
+    b.write(boot, 0xB0, "suspended: C0H")
+    b.read(boot)
+    b.write(boot, 0xD0, "resumed, to its end")
+    b.read(0)
+    b.read(0)
+    b.write(one, 0x20, "20H in block 1, D0H in block 2")
+    b.write(two, 0xD0, vpp=5000)
+    for _ in range(3):
+        b.idle(vpp=5000)
+    b.fill(0xF0, 0)
+    b.fill_residue(0x33, 0)
+    b.write(main, 0x40, "0F.. over F0.. cut by VPP, r 33..: 30.., 98H")
+    b.write(main, 0x0F * ones)
+    b.read(main, vpp=0)
+    b.write(0, 0xFF)
+    b.read(main)
+
+
 def wide_cards(b):
     b.group("wide", "the first nine bench cards on device 5, in both widths")
     for word, ones in ((1, 0x0101), (0, 0x01)):
         wide_bench(b, 5, word)
-        main, boot, one, two = 0x10, *(edges(b, k)[0] for k in (0, 1, 2))
-        b.fill(0xA5, 0)
-        b.fresh(f"a fresh {named(5, word)}")
-        for data, note in ((0x40, "5A.. over A5.."), (0x5A * ones, ""), (None, "busy"), (None, "the status, high byte 0"), (0xFF, "")):
-            b.read(main, note) if data is None else b.write(main, data, note)
-        b.read(main, "what is left, and its neighbours")
-        b.read(main - 1)
-        b.read(main + 1)
-        b.write(main, 0x40, "FF.. over it leaves it")
-        b.write(main, 0xFF * ones)
-        b.idle()
-        b.idle()
-        b.write(0, 0x20, "20H then FFH")
-        b.write(0, 0xFF)
-        b.fresh("confirmed at 1,500 mV: 98H")
-        b.write(main, 0x40)
-        b.write(main, 0x00, vpp=1500)
-        b.fresh("and the erase: A8H")
-        b.write(main, 0x20)
-        b.write(main, 0xD0, vpp=1500)
-        b.fresh("boot erase, locked: A0H")
-        b.write(boot, 0x20)
-        b.write(boot, 0xD0)
-        b.write(boot, 0x50, "with RP# at V_HH it erases")
-        b.write(boot, 0x20, rp=2)
-        b.write(boot, 0xD0, rp=2)
-        b.write(boot, 0xB0, "suspended: C0H")
-        b.read(boot)
-        b.write(boot, 0xD0, "resumed, to its end")
-        b.read(0)
-        b.read(0)
-        b.write(one, 0x20, "20H in block 1, D0H in block 2")
-        b.write(two, 0xD0, vpp=5000)
-        b.idle(vpp=5000)
-        b.idle(vpp=5000)
-        b.idle(vpp=5000)
-        b.fill(0xF0, 0)
-        b.fill_residue(0x33, 0)
-        b.write(main, 0x40, "0F.. over F0.. cut by VPP, r 33..: 30.., 98H")
-        b.write(main, 0x0F * ones)
-        b.read(main, vpp=0)
-        b.write(0, 0xFF)
-        b.read(main)
+        wide_program_cards(b, ones)
+        wide_erase_cards(b, ones)
 
 
 def wide_commands(b):
@@ -1220,8 +1227,12 @@ def wide_bands(b):
     for number, word in ((5, 0), (6, 1), (7, 0), (7, 1), (8, 0), (8, 1)):
         b.use(number, 2, 3, word=word)
         for vpp in BANDS:
-            b.put("S", 0x80, "D")
-            b.write(at(b, 0x9000), 0x0F, f"{named(number, word)}: data at {vpp} mV", vpp=vpp)
+            b.put("A", 0x80, "F")
+            b.read(at(b, 0x9000), f"{named(number, word)}: an array read at {vpp} mV", vpp=vpp)
+            b.put("S", 0x80, "C")
+            b.write(at(b, 0x9000), 0xD0, f"a confirm at {vpp} mV", vpp=vpp)
+            b.put("S", 0x00, "P", 2, at(b, 0x9000), 0x0F)
+            b.idle(f"programming at {vpp} mV", vpp=vpp)
 
 
 def band_changes(b):
@@ -1262,7 +1273,7 @@ def wide_identifiers(b):
 
 def write_protect(b):
     b.group("wpin", "levels of WP#: 0 and 1 on devices 5 to 8, any on devices 1 to 4")
-    for number, word in ((5, 1), (5, 0), (6, 1), (7, 0), (8, 1)) + tuple((n, 0) for n in (1, 2, 3, 4)):
+    for number, word in BOTH + tuple((n, 0) for n in (1, 2, 3, 4)):
         b.use(number, 2, 3, word=word)
         for wp in (0, 1, 2, 255):
             b.put("S", 0x80, "F")
@@ -1279,7 +1290,7 @@ def write_protect(b):
 
 def output_enable(b):
     b.group("oepi", "OE# other than 0 is no level on devices 5 to 8")
-    for number, word in ((5, 1), (5, 0), (6, 0), (7, 1), (8, 0)):
+    for number, word in BOTH:
         b.use(number, 2, 3, word=word)
         for oe in (0, 1, 2, 255):
             b.put("S", 0x80, "F")
@@ -1515,6 +1526,39 @@ def wide_order(b):
     b.read(0x1D011, "8")
 
 
+def each_refusal(b):
+    b.group("each", "refusals 1 to 9, each on each of devices 5 to 8 in both widths")
+    for number, word in BOTH:
+        size, name = SIZE[number], named(number, word)
+        for program, erase, suspend in ((0, 3, 1), (2, 0, 1), (2, 3, 0), (2, 3, 101)):
+            b.use(number, program, erase, suspend=suspend, word=word)
+            b.put("A", 0x80, "F")
+            b.idle(f"{name}: 1 by P {program}, E {erase}, S {suspend}")
+        b.use(number, 2, 3, array=size - 1, word=word)
+        b.idle("2 by one byte")
+        b.use(number, 2, 3, word=word)
+        first, last = edges(b, 1)
+        b.put("S", 0x80, "E", 1, first)
+        b.idle("3 by SR.7")
+        b.put("A", 0x80, "F")
+        for how, pins in (("VPP", dict(vpp=9000)), ("OE#", dict(oe=1)), ("WP#", dict(wp=2)), ("RP#", dict(rp=3))):
+            b.write(first, 0x70, f"4 by {how}", **pins)
+        b.write(size // width(b.device), 0x70, "5 by one unit")
+        for data in (0x00, 0xD0, 0x60):
+            b.write(first, data, f"7 by {data:02X}H")
+        b.put("A", 0xC0, "S", 1, first)
+        b.read(last, "8 at the block's last unit")
+        b.read(last + 1, "and none beside it")
+        b.put("I", 0x80, "F")
+        b.read(4, "9 at 4")
+        b.use(number, 2, 3, residue=width(b.device) - 1, word=word)
+        b.put("S", 0x00, "P", 1, first, 0x5A)
+        b.idle("6 of a program by one byte", rp=0)
+        b.use(number, 2, 3, residue=8191, word=word)
+        b.put("S", 0x00, "E", 1, first)
+        b.idle("6 of an erase by one byte", vpp=1500)
+
+
 def wide_suspended(b):
     b.group("susw", "reads while suspended: the block in units, and S cycles")
     for word in (1, 0):
@@ -1563,7 +1607,8 @@ OLD_PARTS = (
 )
 NEW_PARTS = (
     wide_cards, wide_commands, ten, high_bytes, status_reads, wide_bands, band_changes, wide_identifiers, write_protect, output_enable,
-    wide_locks, word_cuts, erase_cuts, wide_together, block_edges, wide_devices, wide_past, wide_states, wide_order, wide_suspended, wide_times,
+    wide_locks, word_cuts, erase_cuts, wide_together, block_edges, wide_devices, wide_past, wide_states, wide_order, each_refusal,
+    wide_suspended, wide_times,
 )
 
 

@@ -17,7 +17,7 @@ from collections import namedtuple
 
 from vectors_model import (
     ARRAY_ROOM, BLOCKS, FRESH, ROOM, SIZE, Cycle, Device, State,
-    bad_levels, called, carried, digest, is_device, is_part, judged, made, pattern, proper, put_unit, shown, width,
+    bad_levels, called, carried, cycle, digest, is_device, is_part, pattern, proper, put_unit, read, shown, width,
 )
 
 # ---------------------------------------------------------------- the loader
@@ -144,16 +144,16 @@ def run(device, state, pins, block, array, wanted, scratch, op="R"):
     number = run_number(device, state, pins, block, array, wanted, scratch)
     if number:
         return number, 0, 0, state
-    work, count, value, known = begun(op, device, block, wanted, scratch), 0, None, None
-    rp, vpp, wp = pins
+    work, count, value, at_rest = begun(op, device, block, wanted, scratch), 0, None, None
     try:
         while True:
             kind, address, data = work.send(value)
-            c = Cycle(kind, rp, 0, vpp, address, data, wp)
-            if kind != "R" or state is not known:  # reads one after the other differ in their address alone, which is in the block
-                assert judged(device, state, c, len(array), 0) == 0
-                known = state if kind == "R" else None
-            (letter, value), state = made(device, state, c, array, b"")
+            if kind == "R" and state is at_rest:  # as the read before, at another address of the block
+                letter, value = read(device, state, address, array)
+            else:
+                c, before = Cycle(kind, pins.rp, 0, pins.vpp, address, data, pins.wp), state
+                (letter, value), state = cycle(device, state, c, array, b"")
+                at_rest = state if kind == "R" and state == before else None
             assert letter != "X"
             count += 1
     except StopIteration as over:
@@ -161,7 +161,7 @@ def run(device, state, pins, block, array, wanted, scratch, op="R"):
 
 
 def formula(device, held, wanted, op="R"):
-    """The count of a good run, 2n + 3 + e(2 + E) + p(2 + P); of a load alone, n + 2 and the same; of a verify alone, n + 1. All in units."""
+    """The count of a good run, 2n + 3 + e(2 + E) + p(2 + P); of a load alone, n + 2 and the same; of a verify alone, n + 1. In units."""
     wants, holds = all_units(device, wanted), all_units(device, held)
     n = len(wants)
     if op == "V":
@@ -278,7 +278,7 @@ class Bench:
         self.row(f"X {address:08X} {byte:02X}", note)
 
     def run(self, note, expected=None, op="R"):
-        """One run, load alone or verify alone. Where the documents tell end and count (and the address), they are given, and it is held to them."""
+        """One run, load alone or verify alone. Where the documents tell end, count and address, they are given, and it is held to them."""
         a, w, k = self.lent
         array, scratch = self.array[:a], self.scratch[:k]
         end, count, address, self.state = run(self.device, self.state, self.pins, self.block, array, self.wanted[:w], scratch, op)
@@ -939,6 +939,41 @@ def wide_verifies(b):
         b.verify("other blocks do not matter", (0, units_of(N1, word) + 1))
 
 
+def bars_of(b, number, word):
+    """Refusals of a run on one part, in the order of the table."""
+    size, count = SIZE[number], len(BLOCKS[number])
+    for program, erase, suspend in ((0, 3, 1), (2, 0, 1), (2, 3, 0), (2, 3, 101)):
+        b.use(number, program, erase, size, N1, N1, suspend, word)
+        b.run(f"1: {named(number, word)}, P {program}, E {erase}, S {suspend}", (1, 0, 0))
+    for array in (0, size // 2, size - 2, size - 1, size + 1, 786432 - size):
+        b.use(number, 2, 3, array, N1, N1, word=word)
+        b.run(f"2: {named(number, word)}, array of {array}", (2, 0, 0))
+    b.fit(number, 1, word=word)
+    for mode, status, phase, left, address in (("A", 0x81, "F", 0, 0), ("S", 0x00, "E", 2, units_of(size, word)), ("A", 0x80, "F", 0, 1)):
+        b.put(mode, status, phase, left, address)
+        b.run("3", (3, 0, 0))
+    b.fresh()
+    for vpp in (1501, 4499, 5501, 6500, 11399, 12601):
+        b.levels(1, vpp, 1)
+        b.run(f"4: VPP {vpp}", (4, 0, 0))
+    for rp, wp in ((0, 0), (3, 1), (1, 2), (2, 255)):
+        b.levels(rp, 5000, 1, wp)
+        b.run(f"4: RP# {rp}, WP# {wp}", (4, 0, 0))
+    for block in (count, count + 1, 255):
+        b.levels(1, 5000, block)
+        b.run(f"10: block {block}", (10, 0, 0))
+    b.levels(1, 5000, 1)
+    for wanted, scratch in ((8191, 8192), (8192, 8191), (8193, 8193), (4096, 4096), (8190, 8192), (8192, 8194), (2, 2), (11, 11), (0, 0)):
+        b.use(number, 2, 3, size, wanted, scratch, word=word)
+        b.run(f"11: wanted {wanted}, scratch {scratch}", (11, 0, 0))
+    b.fit(number, 1, word=word)
+    last = units_of(size, word) - 1
+    for state in (("S", 0x80, "C"), ("S", 0x80, "D"), ("S", 0x00, "P", 1, 16), ("S", 0x00, "E", 3, last), ("A", 0xC0, "S", 2, 16)):
+        b.put(*state)
+        b.run("12", (12, 0, 0))
+    b.fresh()
+
+
 def wide_bars(b):
     b.group("wbar", "refusals on devices 5 to 8 in both widths; nothing is touched and no cycle counted")
     b.fresh()
@@ -955,34 +990,7 @@ def wide_bars(b):
         b.use(number, 2, 3, SIZE.get(number, 16384), 512, 512, word=1)
         all_three(f"1: {named(number, 1)}", 1)
     for number, word in NEW:
-        for program, erase, suspend in ((0, 3, 1), (2, 0, 1), (2, 3, 0), (2, 3, 101)):
-            b.use(number, program, erase, SIZE[number], N1, N1, suspend, word)
-            b.run(f"1: {named(number, word)}, P {program}, E {erase}, S {suspend}", (1, 0, 0))
-        size = SIZE[number]
-        for array in (0, size // 2, size - 2, size - 1, size + 1, 786432 - size):
-            b.use(number, 2, 3, array, N1, N1, word=word)
-            b.run(f"2: {named(number, word)}, array of {array}", (2, 0, 0))
-        b.fit(number, 1, word=word)
-        for mode, status, phase, left, address in (("A", 0x81, "F", 0, 0), ("S", 0x00, "E", 2, units_of(size, word)), ("A", 0x80, "F", 0, 1)):
-            b.put(mode, status, phase, left, address)
-            b.run("3", (3, 0, 0))
-        b.fresh()
-        for rp, vpp, wp in ((0, 5000, 0), (3, 12000, 0), (1, 1501, 0), (1, 4499, 1), (1, 5501, 0), (1, 6500, 0), (1, 11399, 1), (2, 12601, 0), (1, 5000, 2), (2, 12000, 255)):
-            b.levels(rp, vpp, 1, wp)
-            b.run(f"4: RP# {rp}, VPP {vpp}, WP# {wp}", (4, 0, 0))
-        blocks_there = len(BLOCKS[number])
-        for block in (blocks_there, blocks_there + 1, 255):
-            b.levels(1, 5000, block)
-            b.run(f"10: block {block}", (10, 0, 0))
-        b.levels(1, 5000, 1)
-        for wanted, scratch in ((N1 - 1, N1), (N1, N1 - 1), (N1 + 1, N1 + 1), (N1 // 2, N1 // 2), (N1 - 2, N1), (N1, N1 + 2), (2, 2), (11, 11), (0, 0)):
-            b.use(number, 2, 3, size, wanted, scratch, word=word)
-            b.run(f"11: wanted {wanted}, scratch {scratch}", (11, 0, 0))
-        b.fit(number, 1, word=word)
-        for mode, status, phase, left, address in (("S", 0x80, "C", 0, 0), ("S", 0x80, "D", 0, 0), ("S", 0x00, "P", 1, 16), ("S", 0x00, "E", 3, units_of(size, word) - 1), ("A", 0xC0, "S", 2, 16)):
-            b.put(mode, status, phase, left, address)
-            b.run("12", (12, 0, 0))
-        b.fresh()
+        bars_of(b, number, word)
     b.fit(5, 1, word=1)
     b.levels(1, 12000, 5, wp=2)
     all_three("4 before 10", 4)
@@ -998,14 +1006,19 @@ def wide_bars(b):
     all_three("12", 12)
 
 
-def words_by_hand(b):
-    b.group("whan", "the loader stepped by hand in word mode: addresses and places in words")
+def words_wanted(b):
+    """Block 1 of device 5 in word mode: ones are wanted, but for the first word and the high byte of the last."""
     b.fresh()
     b.fit(5, 1, word=1, vpp=5000, wp=1)
     b.fill("W", 255, 0)
     for place, byte in ((0, 0x5A), (1, 0x3C), (8191, 0x00)):
         b.want(place, byte)
     b.fill("C", 3, 1)
+
+
+def words_by_hand(b):
+    b.group("whan", "the loader stepped by hand in word mode: addresses and places in words")
+    words_wanted(b)
     b.start("write 50H", "R")
     b.step(0x0000, 1, "write FFH")
     b.step(0x0000, 1, "the first read")
@@ -1022,6 +1035,20 @@ def words_by_hand(b):
     b.step(0xFFFF, 4094, "the last")
     b.step(0x00FF, 1, "well", ("E", 0, 0))
     b.step(0xFFFF, 2, "repeated", ("E", 0, 0))
+    b.start("an erase", "O")
+    b.step(0xFFFF, 4096, "the last but one read")
+    b.step(0xFFFF, 1, "the last read")
+    b.step(0x00FE, 1, "20H: one bit of a low byte rises")
+    b.step(0x0000, 1, "D0H")
+    b.step(0x0000, 1, "a poll at the block's first word")
+    b.step(0x0080, 1, "40H at the first word: scratch is ones")
+    b.step(0x0080, 5, "a poll at the last word")
+    b.step(0x0080, 1, "well", ("E", 0, 0))
+
+
+def word_ends_by_hand(b):
+    b.group("wend", "ends by hand in word mode: 20 to 25")
+    words_wanted(b)
     for value, address, note in ((0x3C5B, 0x3A000, "the low byte"), (0x3D5A, 0x3A001, "the high byte"), (0x0000, 0x3A000, "both")):
         b.start("a verify alone", "V")
         b.step(0x0000, 1, "the first read")
@@ -1032,15 +1059,6 @@ def words_by_hand(b):
         b.step(0x3C5A, 2, "the second read")
         b.step(0xFFFF, 4094, "the last")
         b.step(value, 1, f"25 at the last word's {note} byte", ("E", 25, address))
-    b.start("an erase", "O")
-    b.step(0xFFFF, 4096, "the last but one read")
-    b.step(0xFFFF, 1, "the last read")
-    b.step(0x00FE, 1, "20H: one bit of a low byte rises")
-    b.step(0x0000, 1, "D0H")
-    b.step(0x0000, 1, "a poll at the block's first word")
-    b.step(0x0080, 1, "40H at the first word: scratch is ones")
-    b.step(0x0080, 5, "a poll at the last word")
-    b.step(0x0080, 1, "well", ("E", 0, 0))
     for status, end in ((0x00B8, 21), (0x00B0, 22), (0x0090, 24)):
         b.start("a load alone", "O")
         b.step(0xFFFF, 4100, "a poll")
@@ -1049,39 +1067,48 @@ def words_by_hand(b):
         b.start("an erase", "O")
         b.step(0x0000, 4100, "a poll")
         b.step(status, 1, "ready with an error", ("E", end, 0))
+    b.start("a program that never is ready", "O")
+    b.step(0xFFFF, 4100, "a poll")
+    b.step(0x007F, 65534, "the last poll")
+    b.step(0x007F, 1, "20", ("E", 20, 0))
+
+
+def handed_back(b, word, last):
+    """Refusals of start and step, and records handed back, on device 5; `last` is the last place of block 1."""
+    b.fit(5, 1, word=word)
+    b.fill("W", 255, 0)
+    b.fill("C", 4, 1)
+    b.start(f"a good start of {named(5, word)}")
+    b.handed(last + 1, 0)
+    b.step(0xFFFF, 1, "a place past the block: 3", ("X", 3))
+    b.handed(last, 65535)
+    b.step(0xFFFF, 1, "65,535 polls: 3", ("X", 3))
+    for rp, vpp, wp in ((1, 5000, 2), (1, 6500, 0), (0, 12000, 1)):
+        b.levels(rp, vpp, 1, wp)
+        b.handed(last, 65534)
+        b.step(0xFFFF, 1, "4", ("X", 4))
+        b.start("4")
+    for block in (5, 255):
+        b.levels(1, 5000, block)
+        b.handed(999999, 0)
+        b.step(0xFFFF, 1, "10", ("X", 10))
+        b.start("10")
+    b.levels(1, 5000, 1)
+    for wanted, scratch in ((N1, N1 - 1), (N1 + 1, N1), (4096, 4096), (2, 11)):
+        b.use(5, 2, 3, 0, wanted, scratch, word=word)
+        b.start("11")
+        b.handed(0, 0)
+        b.step(0xFFFF, 1, "11 again", ("X", 11))
+    b.use(5, 0, 0, 0, N1, N1, word=word)
+    b.start("no busy times and no array are tested: write 50H")
+    b.handed(0, 0)
+    b.step(0xFFFF, 1, "write FFH")
 
 
 def hands_back(b):
     b.group("whel", "refusals of start and step on devices 5 to 8, and records handed back: places in units")
-    for word, last in ((1, 4095), (0, 8191)):
-        b.fit(5, 1, word=word)
-        b.fill("W", 255, 0)
-        b.fill("C", 4, 1)
-        b.start(f"a good start of {named(5, word)}")
-        b.handed(last + 1, 0)
-        b.step(0xFFFF, 1, "a place past the block: 3", ("X", 3))
-        b.handed(last, 65535)
-        b.step(0xFFFF, 1, "65,535 polls: 3", ("X", 3))
-        for rp, vpp, wp in ((1, 5000, 2), (1, 6500, 0), (0, 12000, 1)):
-            b.levels(rp, vpp, 1, wp)
-            b.handed(last, 65534)
-            b.step(0xFFFF, 1, "4", ("X", 4))
-            b.start("4")
-        for block in (5, 255):
-            b.levels(1, 5000, block)
-            b.handed(999999, 0)
-            b.step(0xFFFF, 1, "10", ("X", 10))
-            b.start("10")
-        b.levels(1, 5000, 1)
-        for wanted, scratch in ((N1, N1 - 1), (N1 + 1, N1), (4096, 4096), (2, 11)):
-            b.use(5, 2, 3, 0, wanted, scratch, word=word)
-            b.start("11")
-            b.handed(0, 0)
-            b.step(0xFFFF, 1, "11 again", ("X", 11))
-        b.use(5, 0, 0, 0, N1, N1, word=word)
-        b.start("no busy times and no array are tested: write 50H")
-        b.handed(0, 0)
-        b.step(0xFFFF, 1, "write FFH")
+    handed_back(b, 1, 4095)
+    handed_back(b, 0, 8191)
     for number in (1, 2, 3, 4):
         b.use(number, 2, 3, 0, 512, 512, word=1)
         b.start(f"1: {named(number, 1)}")
@@ -1098,7 +1125,7 @@ def hands_back(b):
 
 
 OLD_PARTS = (cards, blocks, ways, other_ends, refusals, by_hand, barred, over, apart, verified, apart_by_hand)
-NEW_PARTS = (wide_runs, wide_mains, wide_boot, wide_verifies, wide_bars, words_by_hand, hands_back)
+NEW_PARTS = (wide_runs, wide_mains, wide_boot, wide_verifies, wide_bars, words_by_hand, word_ends_by_hand, hands_back)
 
 
 def all_cases():
