@@ -109,8 +109,8 @@ fn pins_of(case: &[u8]) -> Pins {
     let wp = byte(case, 45);
     Pins {
         rp: rp,
-        vpp: vpp,
         wp: wp,
+        vpp: vpp,
     }
 }
 

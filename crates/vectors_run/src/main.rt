@@ -59,8 +59,8 @@ fn levels_of(row: &[u8], old: Setup) -> Setup {
         device: device,
         pins: Pins {
             rp: rp,
-            vpp: vpp,
             wp: wp,
+            vpp: vpp,
         },
         block: block,
         array: old.array,
@@ -78,8 +78,8 @@ fn bare() -> Bench {
     };
     let pins = Pins {
         rp: 0,
-        vpp: 0,
         wp: 0,
+        vpp: 0,
     };
     let loader = loader_steps::front::record_at(part, pins, 0, Stage::Clearing, true);
     Bench {
