@@ -6,12 +6,26 @@
 
 void (*tell_case)(void);
 
-static uint64_t numbers[GROUPS][256], phases[256], stages[256];
+enum { PARTS = 8, WIDTHS = 2 };
+static uint64_t numbers[GROUPS][256], worded[ON_DEVICES][256], devices[ON_DEVICES][PARTS + 1][WIDTHS];
+static uint64_t phases[WIDTHS][256], stages[WIDTHS][256], edges[EDGES], marks[MARKS];
 static uint64_t all_blocks, all_cycles, all_loads, all_files, all_steps, all_readings;
 
 void met(int group, uint8_t number) { numbers[group][number]++; }
-void met_phase(uint8_t phase) { phases[phase]++; }
-void met_stage(uint8_t stage) { stages[stage]++; }
+void met_on(int group, uint8_t part, uint8_t word, uint8_t number, bool refused) {
+    met(group, number);
+    if (real_mode(part, word))
+        worded[group][number]++;
+    if (!refused)
+        devices[group][part][word]++;
+}
+void met_phase(uint8_t phase, bool word) { phases[word][phase]++; }
+void met_stage(uint8_t stage, bool word) { stages[word][stage]++; }
+void met_vpp(uint32_t vpp) {
+    for (int i = 0; i < EDGES; i++)
+        edges[i] += vpp == vpp_edges[i];
+}
+void mark(int which) { marks[which]++; }
 void count_block(void) { all_blocks++; }
 void count_cycle(void) { all_cycles++; }
 void count_load(void) { all_loads++; }
@@ -54,19 +68,60 @@ static const struct {
     [IN_READING] = {"reading", {0, 31, 35, 37, 38, 40, 41}, 7},
 };
 
+static const char *const mark_names[MARKS] = {
+    [CUT_WORD] = "a word's program cut", [CUT_ERASE] = "an erase cut, word mode", [BAND_CHANGE] = "a change of high band",
+    [TEN] = "10H", [HIGH_COMMAND] = "a command with a high byte", [HIGH_DATA] = "a word of data", [ODD_RESIDUE] = "an odd residue",
+    [LOW_DIFFERS] = "25 at a low byte", [HIGH_DIFFERS] = "25 at a high byte", [CODE_BY_WORD] = "a code, word mode",
+    [CODE_BY_BYTE] = "a code, byte mode", [BYTE_HIGH_DATA] = "a high byte in byte mode",
+    [UNLOCKED_BY_WP] = "boot unlocked by WP#", [LOCKED_BY_WP] = "boot locked by WP#",
+};
+
 static int missing;
 
-static void line(bool verbose, const char *name, uint64_t *count, const uint8_t *can, size_t n) {
+static void one(bool verbose, const char *name, const char *with, uint32_t what, uint64_t count) {
     if (verbose)
-        printf("%-6s", name);
-    for (size_t i = 0; i < n; i++) {
-        if (verbose)
-            printf("  %u: %llu", can[i], (unsigned long long)count[can[i]]);
-        if (count[can[i]] == 0) {
-            printf("%s%s %u was never met\n", verbose ? "\n" : "", name, can[i]);
-            missing++;
-        }
+        printf("  %u: %llu", what, (unsigned long long)count);
+    if (count == 0) {
+        printf("%s%s%s %u was never met\n", verbose ? "\n" : "", name, with, what);
+        missing++;
     }
+}
+
+static void line(bool verbose, const char *name, const char *with, const uint64_t *count, const uint8_t *can, size_t n) {
+    if (verbose)
+        printf("%-6s%s", name, with);
+    for (size_t i = 0; i < n; i++)
+        one(verbose, name, with, can[i], count[can[i]]);
+    if (verbose)
+        printf("\n");
+}
+
+/* Every device in every mode that it has, in calls that were not refused. */
+static void line_of_devices(bool verbose, int g) {
+    for (uint32_t word = 0; word < WIDTHS; word++) {
+        const char *with = word ? ", words of device" : ", bytes of device";
+        if (verbose)
+            printf("%-6s%s", wanted[g].name, with);
+        for (uint32_t part = word ? TB_28F200BR_T : 1; part <= PARTS; part++)
+            one(verbose, wanted[g].name, with, part, devices[g][part][word]);
+        if (verbose)
+            printf("\n");
+    }
+}
+
+static void lines_of_marks(bool verbose) {
+    for (int i = 0; i < MARKS; i++) {
+        if (verbose)
+            printf("%s: %llu\n", mark_names[i], (unsigned long long)marks[i]);
+        if (marks[i] != 0)
+            continue;
+        printf("%s was never met\n", mark_names[i]);
+        missing++;
+    }
+    if (verbose)
+        printf("VPP");
+    for (int i = 0; i < EDGES; i++)
+        one(verbose, "VPP", "", vpp_edges[i], edges[i]);
     if (verbose)
         printf("\n");
 }
@@ -74,9 +129,16 @@ static void line(bool verbose, const char *name, uint64_t *count, const uint8_t 
 int closing(uint64_t seed, bool verbose) {
     static const uint8_t up[12] = {0, 1, 2, 3, 4, 5, 6, 7, 8, 9, 10, 11};
     for (int g = 0; g < GROUPS; g++)
-        line(verbose, wanted[g].name, numbers[g], wanted[g].can, wanted[g].n);
-    line(verbose, "phase", phases, up, 7);
-    line(verbose, "stage", stages, up, 12);
+        line(verbose, wanted[g].name, "", numbers[g], wanted[g].can, wanted[g].n);
+    for (int g = 0; g < ON_DEVICES; g++) {
+        line(verbose, wanted[g].name, ", word mode", worded[g], wanted[g].can, wanted[g].n);
+        line_of_devices(verbose, g);
+    }
+    for (int word = 0; word < WIDTHS; word++) {
+        line(verbose, "phase", word ? ", word mode" : "", phases[word], up, 7);
+        line(verbose, "stage", word ? ", word mode" : "", stages[word], up, 12);
+    }
+    lines_of_marks(verbose);
     if (missing != 0)
         return 1;
     counts();

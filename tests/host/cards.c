@@ -1,4 +1,4 @@
-/* The bench cards, run on the library alone: what they ask stands in the rules as numbers. */
+/* The bench cards, and cards of devices 5 to 8, run on the library alone: what they ask stands in the rules as numbers. */
 #include <stdio.h>
 #include <stdlib.h>
 #include <string.h>
@@ -6,7 +6,7 @@
 #include "cases.h"
 
 static uint8_t array[16384], residue[16384], wanted[1024], scratch[1024];
-static tb_device device = {3, 2, 3, 1};
+static tb_device device = {.number = 3, .program = 2, .erase = 3, .suspend = 1};
 static tb_state state;
 static tb_answer last;
 
@@ -23,7 +23,7 @@ static void fresh(uint8_t byte) {
 }
 
 static void cycle(uint8_t kind, uint8_t rp, uint32_t vpp, uint32_t address, uint8_t byte) {
-    tb_bus bus = {.kind = kind, .rp = rp, .byte = byte, .vpp_mv = vpp, .address = address};
+    tb_bus bus = {.kind = kind, .rp = rp, .data = byte, .vpp_mv = vpp, .address = address};
     last = tb_cycle(device, state, bus, array, sizeof array, residue, sizeof residue);
     state = last.state;
 }
@@ -116,7 +116,7 @@ static uint64_t count_of(uint8_t held, bool as_wanted, uint8_t first) {
     wanted[0] = first;
     if (as_wanted)
         memcpy(array + 0x3A00, wanted, 512);
-    return tb_run(device, state, 1, 12000, 1, array, sizeof array, wanted, 512, scratch, 512).count;
+    return tb_run(device, state, 1, 0, 12000, 1, array, sizeof array, wanted, 512, scratch, 512).count;
 }
 
 static void loads_and_files(void) {
@@ -133,9 +133,127 @@ static void loads_and_files(void) {
     card(13, tb_file_write('K', payload, 113121, file, sizeof file).number == 36);
 }
 
+/* Devices 5 to 8, which have an array and levels of their own. Numbers from 101 on, since the cards end at 13. */
+static uint8_t wide[TB_SIZE_MOST], left_by_cut[16384], wide_wanted[8192], wide_scratch[8192];
+static tb_device br;
+static uint8_t wp;
+
+static void wide_fresh(uint8_t number, uint8_t word, uint8_t byte) {
+    br = (tb_device){.number = number, .word = word, .program = 2, .erase = 3, .suspend = 1};
+    memset(wide, byte, sizeof wide);
+    state = tb_fresh();
+    wp = TB_WP_LOW;
+}
+
+static void wide_cycle(uint8_t kind, uint8_t rp, uint32_t vpp, uint32_t address, uint16_t data) {
+    tb_bus bus = {.kind = kind, .rp = rp, .wp = wp, .data = data, .vpp_mv = vpp, .address = address};
+    last = tb_cycle(br, state, bus, wide, tb_size(br.number), left_by_cut, sizeof left_by_cut);
+    state = last.state;
+}
+
+static void wide_operate(uint16_t first, uint16_t second, uint32_t address, uint8_t rp, uint32_t vpp, int polls) {
+    wide_cycle(TB_CYCLE_WRITE, rp, vpp, address, first);
+    wide_cycle(TB_CYCLE_WRITE, rp, vpp, address, second);
+    while (polls-- > 0)
+        wide_cycle(TB_CYCLE_READ, rp, vpp, address, 0);
+}
+
+static bool wide_all(size_t first, size_t n, uint8_t byte) {
+    for (size_t i = first; i < first + n; i++)
+        if (wide[i] != byte)
+            return false;
+    return true;
+}
+
+/* Identifiers of the sheet's table 5: by word, and by byte with A-1 ignored. */
+static void identifiers(void) {
+    static const uint16_t code[] = {0x2274, 0x2275, 0x4470, 0x4471};
+    for (uint8_t k = 0; k < 4; k++) {
+        wide_fresh((uint8_t)(5 + k), 1, 0x00);
+        wide_cycle(TB_CYCLE_WRITE, 1, 5000, 0, 0xA590);
+        for (uint32_t a = 0; a < 3; a++) {
+            wide_cycle(TB_CYCLE_READ, 1, 5000, a, 0);
+            card(101, a < 2 ? last.seen == TB_DATA && last.value == (a ? code[k] : 0x0089) : last.seen == TB_REFUSED && last.value == 9);
+        }
+        wide_fresh((uint8_t)(5 + k), 0, 0x00);
+        wide_cycle(TB_CYCLE_WRITE, 1, 5000, 0, 0x90);
+        for (uint32_t a = 0; a < 5; a++) {
+            wide_cycle(TB_CYCLE_READ, 1, 5000, a, 0);
+            card(102, a < 4 ? last.seen == TB_DATA && last.value == (a < 2 ? 0x89 : code[k] % 256) : last.seen == TB_REFUSED && last.value == 9);
+        }
+    }
+}
+
+/* VPP and WP#: what is refused, what starts, and what the status says of what does not. */
+static void wide_levels(void) {
+    static const struct {
+        uint32_t vpp;
+        uint16_t status; /* after a program at it; 0 starts, 4 is the refusal */
+    } list[] = {{0, 0x98},  {1500, 0x98}, {1501, 4},  {4499, 4},  {4500, 0},  {5500, 0},  {5501, 4},
+                {6500, 4},  {6501, 4},    {11399, 4}, {11400, 0}, {12600, 0}, {12601, 4}};
+    for (size_t i = 0; i < sizeof list / sizeof list[0]; i++) {
+        wide_fresh(7, 1, 0xFF);
+        wide_operate(0x40, 0x1234, 0x10, 1, list[i].vpp, 0);
+        card(103, list[i].status == 4 ? last.seen == TB_REFUSED && last.value == 4 : state.status == list[i].status);
+    }
+    for (uint8_t level = 0; level < 2; level++)
+        for (uint8_t rp = 1; rp < 3; rp++) {
+            wide_fresh(6, 1, 0x00);
+            wp = level;
+            wide_operate(0x20, 0xD0, 0x1FFF, rp, 5000, 3);
+            bool open = level == 1 || rp == 2;
+            card(104, state.status == (open ? 0x80 : 0xA0) && wide_all(0, 16384, open ? 0xFF : 0x00) && wide_all(16384, 245760, 0x00));
+        }
+    wide_fresh(6, 1, 0x00);
+    wp = 2;
+    wide_cycle(TB_CYCLE_IDLE, 0, 5000, 0, 0);
+    card(105, last.seen == TB_REFUSED && last.value == 4);
+}
+
+/* A word is one operation; cut, the residue's first two bytes are r, low byte first. The bands may change meanwhile. */
+static void words(void) {
+    wide_fresh(5, 1, 0xFF);
+    wide_operate(0xFF10, 0x5AC3, 0x1D001, 1, 5000, 1);
+    wide_cycle(TB_CYCLE_READ, 1, 12000, 0x1D001, 0);
+    card(106, last.value == 0x0080 && wide[0x3A002] == 0xC3 && wide[0x3A003] == 0x5A && wide_all(0, 0x3A002, 0xFF) && wide_all(0x3A004, 0x5FFC, 0xFF));
+    wide_cycle(TB_CYCLE_WRITE, 1, 0, 0, 0x77FF);
+    wide_cycle(TB_CYCLE_READ, 1, 0, 0x1D001, 0);
+    card(106, last.value == 0x5AC3);
+    wide_fresh(5, 1, 0xF0);
+    left_by_cut[0] = 0x33;
+    left_by_cut[1] = 0xCC;
+    wide_operate(0x40, 0x0F00, 0, 1, 12000, 0);
+    wide_cycle(TB_CYCLE_READ, 1, 1500, 0, 0);
+    card(107, last.value == 0x0098 && wide[0] == (0xF0 & (0x00 | 0x33)) && wide[1] == (0xF0 & (0x0F | 0xCC)));
+    wide_fresh(8, 1, 0x00);
+    wide_operate(0x20, 0xD0, 0x3FFFF, 1, 5000, 3);
+    card(108, state.status == 0x80 && wide_all(0x60000, 0x20000, 0xFF) && wide_all(0, 0x60000, 0x00));
+    wide_cycle(TB_CYCLE_READ, 1, 5000, 0x40000, 0);
+    card(109, last.seen == TB_REFUSED && last.value == 5);
+}
+
+/* A load of 4,096 words, of which one is programmed: 2n + 3 + (2 + P); and what a verify says of a byte that differs. */
+static void word_loads(void) {
+    for (uint8_t high = 0; high < 2; high++) {
+        wide_fresh(5, 1, 0xFF);
+        memset(wide_wanted, 0xFF, sizeof wide_wanted);
+        wide_wanted[100] = 0x12;
+        wide_wanted[101] = 0x34;
+        tb_ran r = tb_run(br, state, 1, 0, 5000, 1, wide, 262144, wide_wanted, 8192, wide_scratch, 8192);
+        card(110, r.end == 0 && r.count == 2 * 4096 + 3 + 2 + 2 && memcmp(wide + 0x3A000, wide_wanted, 8192) == 0);
+        wide[0x3A000 + 100 + high] ^= 0x40;
+        r = tb_verify_run(br, r.state, 1, 0, 0, 1, wide, 262144, wide_wanted, 8192, wide_scratch, 8192);
+        card(111, r.end == 25 && r.address == 0x3A000 + 100u + high && r.count == 1 + 51);
+    }
+}
+
 void cards(void) {
     operations();
     levels();
     erases();
     loads_and_files();
+    identifiers();
+    wide_levels();
+    words();
+    word_loads();
 }

@@ -101,7 +101,20 @@ void alike(bool answers, const char *what, twin **twins, size_t n) {
 
 /* Parts of cases. */
 
-uint8_t some_part(void) { return chance(97) ? (uint8_t)(1 + below(4)) : (uint8_t)ONE_OF(0, 5, 6, 255); }
+const uint32_t vpp_edges[EDGES] = {1500, 1501, 4499, 4500, 5500, 5501, 6500, 6501, 11399, 11400, 12600, 12601};
+
+uint8_t some_part(void) { return chance(97) ? (uint8_t)(1 + below(8)) : (uint8_t)ONE_OF(0, 9, 10, 255); }
+
+bool two_widths(uint8_t part) { return part >= TB_28F200BR_T && part <= TB_28F400BR_B; }
+
+bool real_mode(uint8_t part, uint8_t word) { return two_widths(part) && word == TB_WORD_MODE; }
+
+/* A mode that the part has, but for a few. */
+uint8_t some_mode(uint8_t part) {
+    if (chance(2))
+        return (uint8_t)ONE_OF(1, 2, 255);
+    return two_widths(part) && chance(60);
+}
 
 uint8_t real_part(uint8_t part) { return c_size(part) == 0 ? TB_BENCH_T : part; }
 
@@ -117,30 +130,50 @@ static uint8_t some_suspend(void) {
     return (uint8_t)ONE_OF(0, 1, 99, 100, 100, 101, 255);
 }
 
-tb_device some_device(void) { return (tb_device){some_part(), some_time(), some_time(), some_suspend()}; }
-
-uint32_t some_vpp(uint32_t rough) {
-    if (!chance(rough))
-        return ONE_OF(11400, 12000, 12000, 12600);
-    if (chance(70))
-        return ONE_OF(0, 3000, 6500);
-    return chance(80) ? ONE_OF(6501, 9000, 11399, 12601, 65536 + 12000, 4294967295u) : any32();
+tb_device some_device(void) {
+    uint8_t part = some_part();
+    return (tb_device){part, some_mode(part), some_time(), some_time(), some_suspend()};
 }
 
-/* An address of interest: a block's edge, the array's, or any. */
-uint32_t some_address(uint8_t part) {
-    uint8_t p = real_part(part);
-    tb_span b = c_block(p, (uint8_t)below(4));
+/* High, or now and then low, at an edge of a band, or any. */
+uint32_t some_vpp(uint8_t part, uint32_t rough) {
+    bool br = two_widths(part);
+    if (!chance(rough))
+        return br ? ONE_OF(4500, 5000, 5500, 11400, 12000, 12600) : ONE_OF(11400, 12000, 12000, 12600);
+    if (chance(60))
+        return br ? ONE_OF(0, 1000, 1500) : ONE_OF(0, 3000, 6500);
+    return chance(80) ? one_of(vpp_edges, EDGES) : chance(60) ? ONE_OF(3000, 9000, 65536 + 12000, 4294967295u) : any32();
+}
+
+/* Devices 1 to 4 do not look at it. */
+uint8_t some_wp(uint8_t part, uint32_t rough) {
+    if (chance(rough) || !two_widths(part))
+        return (uint8_t)ONE_OF(0, 1, 2, 3, 255);
+    return (uint8_t)below(2);
+}
+
+uint8_t some_block(uint8_t part) {
+    uint8_t blocks = 1;
+    while (c_block(part, blocks).length != 0)
+        blocks++;
+    return (uint8_t)below(blocks);
+}
+
+/* An address of interest, in units: a block's edge, the array's, or any. */
+uint32_t some_address(uint8_t part, uint8_t word) {
+    uint8_t p = real_part(part), shift = real_mode(p, word);
+    tb_span b = c_block(p, some_block(p));
+    uint32_t first = (uint32_t)b.first >> shift, length = (uint32_t)b.length >> shift, size = (uint32_t)c_size(p) >> shift;
     switch (below(8)) {
-    case 0: return b.first;
-    case 1: return b.first + b.length - 1;
-    case 2: return b.first + b.length;
-    case 3: return b.first == 0 ? 0 : b.first - 1;
-    case 4: return ONE_OF(0, 1, 2, 3);
-    case 5: return chance(80) ? b.first + below(b.length) : c_size(p) + below(3);
-    case 6: return chance(90) ? below(c_size(p)) : any32();
+    case 0: return first;
+    case 1: return first + length - 1;
+    case 2: return first + length;
+    case 3: return first == 0 ? 0 : first - 1;
+    case 4: return ONE_OF(0, 1, 2, 3, 4);
+    case 5: return chance(80) ? first + below(length) : chance(80) ? size + below(3) : size * 2 - 1;
+    case 6: return chance(90) ? below(size) : any32();
     }
-    return b.first + below(b.length);
+    return first + below(length);
 }
 
 static tb_state proper_state(tb_device d) {
@@ -158,8 +191,8 @@ static tb_state proper_state(tb_device d) {
         return s;
     uint16_t most = s.phase == TB_PROGRAMMING ? d.program : d.erase;
     s.left = (uint16_t)(most == 0 ? 1 : chance(50) ? 1 + below(most) : ONE_OF(1, most));
-    s.address = some_address(part) % c_size(part);
-    s.byte = s.phase == TB_PROGRAMMING ? (uint8_t)any32() : 0;
+    s.address = some_address(part, d.word) % (uint32_t)(c_size(part) >> real_mode(part, d.word));
+    s.data = s.phase == TB_PROGRAMMING ? (uint16_t)(chance(50) || real_mode(part, d.word) ? any32() : any32() & 0xFF) : 0;
     s.suspend = s.phase == TB_SUSPENDING ? (uint8_t)(d.suspend == 0 ? 1 : chance(50) ? 1 + below(d.suspend) : ONE_OF(1, d.suspend)) : 0;
     return s;
 }
@@ -173,14 +206,14 @@ tb_state some_state(tb_device d) {
     case 0: s.mode = (uint8_t)(chance(70) ? below(4) : any32()); break;
     case 1: s.status ^= (uint8_t)(1u << below(8)); break;
     case 2: s.phase = (uint8_t)(chance(70) ? below(8) : any32()); break;
-    case 3: s.byte = (uint8_t)any32(); break;
+    case 3: s.data = (uint16_t)(chance(50) ? any32() : any32() << 8); break;
     case 4: s.left = (uint16_t)ONE_OF(0, 1, d.program, d.erase, (d.program + 1) & 0xFFFF, (d.erase + 1) & 0xFFFF, 65535); break;
-    case 5: s.address = some_address(d.number); break;
+    case 5: s.address = some_address(d.number, d.word); break;
     case 6: s.left = 0; break;
     case 7: s.status = (uint8_t)any32(); break;
     case 8: s.suspend = (uint8_t)ONE_OF(0, 1, d.suspend, d.suspend + 1, any32()); break;
     default:
-        s = (tb_state){(uint8_t)any32(), (uint8_t)any32(), (uint8_t)any32(), (uint8_t)any32(), (uint16_t)any32(), (uint8_t)any32(), any32()};
+        s = (tb_state){(uint8_t)any32(), (uint8_t)any32(), (uint8_t)any32(), (uint8_t)any32(), (uint16_t)any32(), (uint16_t)any32(), any32()};
     }
     return s;
 }
@@ -188,18 +221,25 @@ tb_state some_state(tb_device d) {
 /* Telling. */
 
 bool same_state(tb_state a, tb_state b) {
-    return a.mode == b.mode && a.status == b.status && a.phase == b.phase && a.byte == b.byte && a.left == b.left &&
+    return a.mode == b.mode && a.status == b.status && a.phase == b.phase && a.data == b.data && a.left == b.left &&
            a.suspend == b.suspend && a.address == b.address;
 }
 
-void tell_device(tb_device d) { printf("  device %u, P %u, E %u, S %u\n", d.number, d.program, d.erase, d.suspend); }
+bool same_bus(tb_bus a, tb_bus b) {
+    return a.kind == b.kind && a.rp == b.rp && a.oe == b.oe && a.wp == b.wp && a.data == b.data && a.vpp_mv == b.vpp_mv &&
+           a.address == b.address;
+}
+
+void tell_device(tb_device d) {
+    printf("  device %u, word mode %u, P %u, E %u, S %u\n", d.number, d.word, d.program, d.erase, d.suspend);
+}
 
 void tell_state(const char *name, tb_state s) {
-    printf("  %s: mode %u, status %02X, phase %u, byte %02X, left %u, suspend %u, address %lX\n", name, s.mode, s.status, s.phase,
-           s.byte, s.left, s.suspend, (unsigned long)s.address);
+    printf("  %s: mode %u, status %02X, phase %u, data %04X, left %u, suspend %u, address %lX\n", name, s.mode, s.status, s.phase,
+           s.data, s.left, s.suspend, (unsigned long)s.address);
 }
 
 void tell_bus(tb_bus c) {
-    printf("  cycle: kind %u, RP# %u, OE# %u, VPP %lu, address %lX, byte %02X\n", c.kind, c.rp, c.oe, (unsigned long)c.vpp_mv,
-           (unsigned long)c.address, c.byte);
+    printf("  cycle: kind %u, RP# %u, OE# %u, WP# %u, VPP %lu, address %lX, data %04X\n", c.kind, c.rp, c.oe, c.wp,
+           (unsigned long)c.vpp_mv, (unsigned long)c.address, c.data);
 }

@@ -28,9 +28,20 @@ uint8_t *ref_of(twin *);
 
 /* The account. A call is compared by its answer and by every byte that it was lent. */
 enum { IN_CYCLE, IN_START, IN_STEP, IN_RUN, IN_LOAD_RUN, IN_VERIFY_RUN, IN_LOAD, IN_VERIFY_FILE, IN_WRITE, IN_READ, IN_TABLE, IN_READING, GROUPS };
+enum { ON_DEVICES = IN_VERIFY_FILE + 1 }; /* the groups before this are about a device */
 void met(int group, uint8_t number);
-void met_phase(uint8_t phase);
-void met_stage(uint8_t stage);
+void met_on(int group, uint8_t part, uint8_t word, uint8_t number, bool refused); /* of a call about a device */
+void met_phase(uint8_t phase, bool word);
+void met_stage(uint8_t stage, bool word);
+void met_vpp(uint32_t vpp); /* on devices 5 to 8 */
+
+/* What else must be met, all in word mode but for the last four. */
+enum {
+    CUT_WORD, CUT_ERASE, BAND_CHANGE, TEN, HIGH_COMMAND, HIGH_DATA, ODD_RESIDUE, LOW_DIFFERS, HIGH_DIFFERS, CODE_BY_WORD,
+    CODE_BY_BYTE, BYTE_HIGH_DATA, UNLOCKED_BY_WP, LOCKED_BY_WP, MARKS
+};
+void mark(int which);
+
 void count_block(void); /* of a part */
 void count_cycle(void);
 void count_load(void);
@@ -44,11 +55,18 @@ extern void (*tell_case)(void); /* prints the case at hand */
 int closing(uint64_t seed, bool verbose);
 
 /* Cases. */
+enum { EDGES = 12 };
+extern const uint32_t vpp_edges[EDGES]; /* of devices 5 to 8, and of 1 to 4 */
 tb_device some_device(void);
 uint8_t some_part(void);
-uint8_t real_part(uint8_t part); /* the part, or bench T where there is none of that number */
-uint32_t some_vpp(uint32_t rough);
-uint32_t some_address(uint8_t part);
+uint8_t some_mode(uint8_t part);
+uint8_t real_part(uint8_t part);                  /* the part, or bench T where there is none of that number */
+bool real_mode(uint8_t part, uint8_t word);       /* whether that is a device in word mode */
+bool two_widths(uint8_t part);                    /* 5 to 8 */
+uint32_t some_vpp(uint8_t part, uint32_t rough);
+uint8_t some_wp(uint8_t part, uint32_t rough);
+uint8_t some_block(uint8_t part);                 /* one that the part has */
+uint32_t some_address(uint8_t part, uint8_t word); /* in units */
 tb_state some_state(tb_device);
 void cards(void);
 void parts(void);
@@ -57,7 +75,7 @@ void cycles(uint32_t walks, uint32_t scattered);
 void loads(uint32_t n);
 void files(uint32_t n);
 void readings(uint32_t n);
-void steps(uint32_t fed, uint32_t forged);
+void steps(uint32_t fed, uint32_t fed_long, uint32_t forged);
 void endless(void); /* polls that never get ready */
 
 /* For telling. */
@@ -65,5 +83,6 @@ void tell_device(tb_device);
 void tell_state(const char *, tb_state);
 void tell_bus(tb_bus);
 bool same_state(tb_state, tb_state);
+bool same_bus(tb_bus, tb_bus);
 
 #endif

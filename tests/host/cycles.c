@@ -8,6 +8,7 @@ static tb_device device;
 static tb_state before;
 static tb_bus bus;
 static tb_answer lib, ref;
+static uint32_t walked_at; /* VPP of the last cycle of a walk that was let pass; 0 before it */
 
 static void tell(void) {
     tell_device(device);
@@ -20,22 +21,70 @@ static void tell(void) {
     tell_state("after", ref.state);
 }
 
+static bool running(uint8_t phase) { return phase >= TB_PROGRAMMING; }
+
+/* What a cycle that was let pass showed of devices 5 to 8. */
+static void mark_cycle(void) {
+    bool word = device.word == TB_WORD_MODE, write = bus.kind == TB_CYCLE_WRITE && bus.rp != TB_RP_LOW;
+    bool awaited = before.phase == TB_ERASE_AWAITED || before.phase == TB_DATA_AWAITED;
+    if (write && before.phase == TB_FREE) {
+        if ((bus.data & 0xFF) == 0x10)
+            mark(TEN);
+        if (bus.data > 0xFF && word)
+            mark(HIGH_COMMAND);
+    }
+    if (running(ref.state.phase) && before.phase == TB_DATA_AWAITED && bus.data > 0xFF)
+        mark(word ? HIGH_DATA : BYTE_HIGH_DATA);
+    if (write && awaited && bus.rp == TB_RP_HIGH && bus.vpp_mv > 4000 && (before.status & TB_SR_VPP_LOW) == 0) {
+        tb_span boot = c_block(device.number, 0);
+        if (((size_t)bus.address << word) - boot.first < boot.length && (before.phase == TB_DATA_AWAITED || (bus.data & 0xFF) == 0xD0))
+            mark(bus.wp ? UNLOCKED_BY_WP : LOCKED_BY_WP);
+    }
+    if (bus.kind == TB_CYCLE_READ && before.mode == TB_MODE_IDENTIFIER && ref.seen == TB_DATA && bus.address > 0)
+        mark(word ? CODE_BY_WORD : CODE_BY_BYTE);
+}
+
+/* What it showed of an operation: cut, by RP# or by VPP, or carried over from one high band to the other. */
+static void mark_operation(void) {
+    bool cut = bus.rp == TB_RP_LOW || bus.vpp_mv <= TB_VPP_BR_LOW_MOST_MV;
+    if (!running(before.phase))
+        return;
+    if (cut && residue.length % 2 == 1)
+        mark(ODD_RESIDUE);
+    if (cut)
+        mark(before.phase == TB_PROGRAMMING ? CUT_WORD : CUT_ERASE);
+    else if (walked_at > TB_VPP_BR_LOW_MOST_MV && (walked_at > 6000) != (bus.vpp_mv > 6000))
+        mark(BAND_CHANGE);
+}
+
+static void account(void) {
+    bool refused = ref.seen == TB_REFUSED;
+    met_on(IN_CYCLE, device.number, device.word, (uint8_t)(refused ? ref.value : 0), refused);
+    if (two_widths(device.number))
+        met_vpp(bus.vpp_mv);
+    if (refused)
+        return;
+    met_phase(before.phase, device.word);
+    if (two_widths(device.number))
+        mark_cycle();
+    if (device.word == TB_WORD_MODE)
+        mark_operation();
+}
+
 static void compare(void) {
     twin *lent[] = {&array, &residue};
     lib = tb_cycle(device, before, bus, lib_of(&array), array.length, lib_of(&residue), residue.length);
-    untouched(lib.seen == 2, "cycle", lent, 2);
+    untouched(lib.seen == TB_REFUSED, "cycle", lent, 2);
     ref = c_cycle(device, before, bus, ref_of(&array), array.length, ref_of(&residue), residue.length);
     alike(lib.seen == ref.seen && lib.value == ref.value && same_state(lib.state, ref.state), "cycle", lent, 2);
     count_cycle();
-    met(IN_CYCLE, ref.seen == 2 ? ref.value : 0);
-    if (ref.seen != 2)
-        met_phase(before.phase);
+    account();
 }
 
 static uint8_t some_byte(void) {
     if (chance(20))
         return (uint8_t)any32();
-    return (uint8_t)ONE_OF(0xFF, 0x90, 0x70, 0x50, 0x20, 0x40, 0xD0, 0xB0, 0x00, 0xFF);
+    return (uint8_t)ONE_OF(0xFF, 0x90, 0x70, 0x50, 0x20, 0x40, 0x10, 0xD0, 0xB0, 0x00, 0xFF);
 }
 
 /* What a plausible host would write next: mostly it goes on with what it began. */
@@ -49,30 +98,37 @@ static uint8_t next_byte(uint8_t phase, uint32_t rough) {
     case TB_SUSPENDING: return (uint8_t)ONE_OF(0xD0, 0xFF, 0x70, 0xB0, some_byte());
     case TB_SUSPENDED: return (uint8_t)ONE_OF(0xD0, 0xD0, 0xFF, 0x70, some_byte());
     }
+    if (chance(10) && (rough > 0 || two_widths(device.number)))
+        return 0x10;
     return (uint8_t)ONE_OF(0x20, 0x20, 0x40, 0x40, 0x50, 0xFF, 0x70, 0x90, 0xB0);
 }
+
+/* The high byte is data after 40H, and elsewhere nothing; it is there in half of the cycles. */
+static uint16_t with_high(uint8_t low) { return (uint16_t)(chance(50) ? low : low | any32() << 8); }
 
 static void next_bus(uint32_t rough, uint32_t home) {
     static const uint32_t kinds[8] = {TB_CYCLE_READ,  TB_CYCLE_READ,  TB_CYCLE_READ,  TB_CYCLE_WRITE,
                                       TB_CYCLE_WRITE, TB_CYCLE_WRITE, TB_CYCLE_WRITE, TB_CYCLE_IDLE};
     bus.kind = (uint8_t)(chance(rough / 8) ? any32() : one_of(kinds, 8));
     bus.rp = (uint8_t)(chance(rough / 2) ? ONE_OF(0, 0, 2, 3, 255) : ONE_OF(1, 1, 1, 2));
-    bus.oe = (uint8_t)(chance(rough / 4) ? ONE_OF(1, 2, 255) : bus.kind == TB_CYCLE_WRITE && chance(15));
-    bus.vpp_mv = some_vpp(rough);
-    bus.address = chance(60) ? home : some_address(device.number);
-    bus.byte = next_byte(before.phase, rough);
+    bus.oe = (uint8_t)(chance(rough / 4) ? ONE_OF(1, 2, 255) : bus.kind == TB_CYCLE_WRITE && chance(two_widths(device.number) ? 1 : 15));
+    bus.wp = some_wp(device.number, rough / 4);
+    bus.vpp_mv = some_vpp(device.number, rough);
+    bus.address = chance(60) ? home : some_address(device.number, device.word);
+    bus.data = with_high(next_byte(before.phase, rough));
 }
 
 static size_t some_residue(void) {
     if (chance(60))
         return residue.room;
-    tb_span b = c_block(real_part(device.number), (uint8_t)below(4));
-    return ONE_OF(0, 0, 1, b.length - 1, b.length, b.length + 1);
+    uint8_t p = real_part(device.number);
+    uint32_t n = (uint32_t)c_block(p, some_block(p)).length;
+    return ONE_OF(0, 0, 1, 1, 2, 3, n - 1, n, n + 1);
 }
 
 static void lend(uint32_t bad_length) {
-    size_t size = c_size(real_part(device.number));
-    array.length = chance(bad_length) ? ONE_OF(0, 1, size - 1, size + 1, 16384, 131072) : size;
+    uint32_t size = (uint32_t)c_size(real_part(device.number));
+    array.length = chance(bad_length) ? ONE_OF(0, 1, size - 2, size - 1, size + 1, size / 2, 16384, 131072, 262144, 524288) : size;
     residue.length = some_residue();
 }
 
@@ -81,40 +137,44 @@ static void walk(void) {
     device = some_device();
     if (c_size(device.number) == 0)
         device.number = 4;
-    uint32_t home = some_address(device.number);
+    uint32_t home = some_address(device.number, device.word);
     before = tb_fresh();
     if (!same_state(before, c_fresh()))
         mismatch("fresh");
     if (chance(10))
-        twin_noise(&array, some_address(device.number) % c_size(device.number), 1);
+        twin_noise(&array, below((uint32_t)c_size(device.number)), 1);
+    walked_at = 0;
     for (uint32_t i = 0; i < 32; i++) {
         next_bus(rough, home);
         lend(0);
         compare();
         before = ref.state;
+        if (ref.seen != TB_REFUSED)
+            walked_at = bus.vpp_mv;
         if (chance(5))
-            home = some_address(device.number);
+            home = some_address(device.number, device.word);
     }
 }
 
 static void scatter(void) {
     device = some_device();
     before = some_state(device);
-    next_bus(ONE_OF(0, 10, 30), some_address(device.number));
+    next_bus(ONE_OF(0, 10, 30), some_address(device.number, device.word));
     if (chance(30))
-        bus.byte = some_byte();
+        bus.data = with_high(some_byte());
     if (chance(15))
-        bus.vpp_mv = ONE_OF(0, 6500);
+        bus.vpp_mv = two_widths(device.number) ? ONE_OF(0, 1500) : ONE_OF(0, 6500);
     if (chance(3))
-        bus = (tb_bus){(uint8_t)any32(), (uint8_t)any32(), (uint8_t)any32(), (uint8_t)any32(), any32(), any32()};
+        bus = (tb_bus){(uint8_t)any32(), (uint8_t)any32(), (uint8_t)any32(), (uint8_t)any32(), (uint16_t)any32(), any32(), any32()};
+    walked_at = 0;
     lend(4);
     compare();
 }
 
 void cycles(uint32_t walks, uint32_t scattered) {
     tell_case = tell;
-    twin_new(&array, "array", 131073);
-    twin_new(&residue, "residue", 131073);
+    twin_new(&array, "array", TB_SIZE_MOST + 1);
+    twin_new(&residue, "residue", TB_BLOCK_MOST + 1);
     for (uint32_t i = 0; i < walks; i++)
         walk();
     for (uint32_t i = 0; i < scattered; i++)

@@ -7,7 +7,7 @@
 static twin array, wanted, scratch, file;
 static tb_device device;
 static tb_state state;
-static uint8_t rp, block, letter;
+static uint8_t rp, wp, block, letter;
 static uint32_t vpp;
 static tb_ran lib, ref;
 static bool from_file;
@@ -20,7 +20,7 @@ static void tell_ran(const char *who, tb_ran r) {
 static void tell(void) {
     tell_device(device);
     tell_state("before", state);
-    printf("  RP# %u, VPP %lu, block %u, array %zu, wanted %zu, scratch %zu bytes\n", rp, (unsigned long)vpp, block,
+    printf("  RP# %u, WP# %u, VPP %lu, block %u, array %zu, wanted %zu, scratch %zu bytes\n", rp, wp, (unsigned long)vpp, block,
            array.length, wanted.length, scratch.length);
     if (from_file)
         printf("  file of %zu bytes, letter asked %02X\n", file.length, letter);
@@ -32,32 +32,39 @@ static bool same_ran(void) {
     return lib.count == ref.count && lib.end == ref.end && lib.address == ref.address && same_state(lib.state, ref.state);
 }
 
-typedef tb_ran run_call(tb_device, tb_state, uint8_t, uint32_t, uint8_t, uint8_t *, size_t, const uint8_t *, size_t, uint8_t *, size_t);
-typedef tb_ran file_call(tb_device, tb_state, uint8_t, uint32_t, uint8_t, uint8_t, const uint8_t *, size_t, uint8_t *, size_t,
+typedef tb_ran run_call(tb_device, tb_state, uint8_t, uint8_t, uint32_t, uint8_t, uint8_t *, size_t, const uint8_t *, size_t, uint8_t *,
+                        size_t);
+typedef tb_ran file_call(tb_device, tb_state, uint8_t, uint8_t, uint32_t, uint8_t, uint8_t, const uint8_t *, size_t, uint8_t *, size_t,
                          uint8_t *, size_t, uint8_t *, size_t);
+
+static void account(int group) {
+    met_on(group, device.number, device.word, ref.end, ref.count == 0);
+    if (real_mode(device.number, device.word) && ref.end == TB_VERIFY_FAILED)
+        mark(ref.address % 2 ? HIGH_DIFFERS : LOW_DIFFERS);
+}
 
 /* A run, a load alone or a verify alone. */
 static void compare_run(const char *name, int group, run_call *library, run_call *second) {
     twin *lent[] = {&array, &wanted, &scratch};
-    lib = library(device, state, rp, vpp, block, lib_of(&array), array.length, lib_of(&wanted), wanted.length, lib_of(&scratch),
+    lib = library(device, state, rp, wp, vpp, block, lib_of(&array), array.length, lib_of(&wanted), wanted.length, lib_of(&scratch),
                   scratch.length);
     untouched(lib.count == 0, name, lent, 3);
-    ref = second(device, state, rp, vpp, block, ref_of(&array), array.length, ref_of(&wanted), wanted.length, ref_of(&scratch),
+    ref = second(device, state, rp, wp, vpp, block, ref_of(&array), array.length, ref_of(&wanted), wanted.length, ref_of(&scratch),
                  scratch.length);
     alike(same_ran(), name, lent, 3);
-    met(group, ref.end);
+    account(group);
 }
 
 /* A run or a verify alone, from a file. */
 static void compare_file(const char *name, int group, file_call *library, file_call *second) {
     twin *lent[] = {&array, &wanted, &scratch, &file};
-    lib = library(device, state, rp, vpp, block, letter, lib_of(&file), file.length, lib_of(&array), array.length, lib_of(&wanted),
+    lib = library(device, state, rp, wp, vpp, block, letter, lib_of(&file), file.length, lib_of(&array), array.length, lib_of(&wanted),
                   wanted.length, lib_of(&scratch), scratch.length);
     untouched(lib.count == 0, name, lent, 4);
-    ref = second(device, state, rp, vpp, block, letter, ref_of(&file), file.length, ref_of(&array), array.length, ref_of(&wanted),
+    ref = second(device, state, rp, wp, vpp, block, letter, ref_of(&file), file.length, ref_of(&array), array.length, ref_of(&wanted),
                  wanted.length, ref_of(&scratch), scratch.length);
     alike(same_ran(), name, lent, 4);
-    met(group, ref.end);
+    account(group);
 }
 
 /* The block's bytes: noise, all ones, all zero or as they are. */
@@ -96,7 +103,9 @@ static void check_again(void) {
 
 static void some_file(tb_span b) {
     static uint8_t payload[TB_PAYLOAD_MOST], bytes[TB_FILE_MOST];
-    uint32_t room = b.length / 512 * 505;
+    uint32_t room = (uint32_t)b.length / 512 * 505;
+    if (room > TB_PAYLOAD_MOST)
+        room = TB_PAYLOAD_MOST;
     uint32_t n = chance(5) ? ONE_OF(4040, 4041) : chance(40) ? ONE_OF(1, 504, 505, room - 1, room) : 1 + below(room);
     letter = (uint8_t)"BEJKNRST"[below(8)];
     for (uint32_t i = 0; i < n; i++)
@@ -143,29 +152,42 @@ static void compare(void) {
 
 /* One of the things that a run is handed is bad. */
 static void spoil(void) {
-    switch (below(7)) {
-    case 0: device.number = (uint8_t)ONE_OF(0, 5, 255); break;
+    switch (below(8)) {
+    case 0: device.number = (uint8_t)ONE_OF(0, 9, 255); break;
     case 1: device.program = 0; break;
-    case 2: array.length = ONE_OF(0, array.length - 1, array.length + 1); break;
-    case 3: block = (uint8_t)ONE_OF(4, 5, 255); break;
-    case 4: wanted.length = ONE_OF(0, wanted.length - 1, wanted.length + 1); break;
-    case 5: scratch.length = ONE_OF(0, scratch.length - 1, scratch.length + 1); break;
+    case 2: array.length = ONE_OF(0, array.length / 2, array.length - 1, array.length + 1); break;
+    case 3: block = (uint8_t)ONE_OF(4, 5, 6, 7, 8, 255); break;
+    case 4: wanted.length = ONE_OF(0, wanted.length / 2, wanted.length - 1, wanted.length + 1); break;
+    case 5: scratch.length = ONE_OF(0, scratch.length / 2, scratch.length - 1, scratch.length + 1); break;
+    case 6: device.word = (uint8_t)ONE_OF(1, 2, 255); break;
     default: state = some_state(device);
     }
 }
 
-static void load(void) {
-    device = (tb_device){(uint8_t)(chance(85) ? 3 + below(2) : 1 + below(2)), (uint16_t)(1 + below(4)), (uint16_t)(1 + below(4)), (uint8_t)(1 + below(100))};
+/* Mostly the bench parts, whose blocks are short. */
+static uint8_t loaded_part(void) {
+    return (uint8_t)(chance(58) ? ONE_OF(TB_BENCH_T, TB_BENCH_B) : chance(20) ? 1 + below(2) : TB_28F200BR_T + below(4));
+}
+
+/* A device and levels at which a load can go on, or now and then not. */
+static void some_order(void) {
+    uint8_t part = loaded_part();
+    device = (tb_device){part, some_mode(part), (uint16_t)(1 + below(4)), (uint16_t)(1 + below(4)), (uint8_t)(1 + below(100))};
     if (chance(3))
         device.erase = (uint16_t)ONE_OF(300, 65534, 65535);
-    block = (uint8_t)(chance(4) ? 3 : ONE_OF(0, 1, 2));
+    block = (uint8_t)(chance(2) ? some_block(part) : chance(80) || !two_widths(part) ? ONE_OF(0, 1, 2) : ONE_OF(1, 2));
     rp = (uint8_t)(chance(5) ? ONE_OF(0, 3, 255) : block == 0 ? ONE_OF(1, 2, 2) : ONE_OF(1, 2));
-    vpp = some_vpp(8);
+    wp = some_wp(part, 3);
+    vpp = some_vpp(part, 8);
     state = tb_fresh();
     if (chance(30))
         state = (tb_state){.mode = (uint8_t)below(3), .status = (uint8_t)(0x80 | below(8) << 3)};
     if (chance(8))
         state = some_state(device);
+}
+
+static void load(void) {
+    some_order();
     tb_span b = c_block(device.number, block);
     array.length = c_size(device.number);
     wanted.length = scratch.length = b.length;
@@ -183,9 +205,9 @@ static void load(void) {
 
 void loads(uint32_t n) {
     tell_case = tell;
-    twin_new(&array, "array", 131073);
-    twin_new(&wanted, "wanted", 131073);
-    twin_new(&scratch, "scratch", 131073);
+    twin_new(&array, "array", TB_SIZE_MOST + 1);
+    twin_new(&wanted, "wanted", TB_BLOCK_MOST + 1);
+    twin_new(&scratch, "scratch", TB_BLOCK_MOST + 1);
     twin_new(&file, "file", TB_FILE_MOST);
     for (uint32_t i = 0; i < n; i++)
         load();

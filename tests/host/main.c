@@ -23,7 +23,7 @@ int main(int argc, char **argv) {
     for (int round = 0; round < 20; round++) {
         files(1000);
         cycles(125, 2000);
-        steps(20, 3000);
+        steps(20, 3, 3000);
         loads(250);
         readings(500);
     }

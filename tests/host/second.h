@@ -19,23 +19,23 @@ size_t c_size(uint8_t part);
 tb_span c_block(uint8_t part, uint8_t block);
 tb_state c_fresh(void);
 tb_answer c_cycle(tb_device, tb_state, tb_bus, uint8_t *array, size_t, const uint8_t *residue, size_t);
-tb_given c_start(uint8_t part, uint8_t rp, uint32_t vpp, uint8_t block, const uint8_t *wanted, size_t, const uint8_t *scratch,
-                 size_t);
-tb_given c_load_start(uint8_t part, uint8_t rp, uint32_t vpp, uint8_t block, const uint8_t *wanted, size_t, const uint8_t *scratch,
-                      size_t);
-tb_given c_verify_start(uint8_t part, uint8_t rp, uint32_t vpp, uint8_t block, const uint8_t *wanted, size_t,
+tb_given c_start(uint8_t part, uint8_t word, uint8_t rp, uint8_t wp, uint32_t vpp, uint8_t block, const uint8_t *wanted, size_t,
+                 const uint8_t *scratch, size_t);
+tb_given c_load_start(uint8_t part, uint8_t word, uint8_t rp, uint8_t wp, uint32_t vpp, uint8_t block, const uint8_t *wanted, size_t,
+                      const uint8_t *scratch, size_t);
+tb_given c_verify_start(uint8_t part, uint8_t word, uint8_t rp, uint8_t wp, uint32_t vpp, uint8_t block, const uint8_t *wanted, size_t,
                         const uint8_t *scratch, size_t);
-tb_turn c_step(tb_loader *, uint8_t byte, const uint8_t *wanted, size_t, uint8_t *scratch, size_t);
-tb_ran c_run(tb_device, tb_state, uint8_t rp, uint32_t vpp, uint8_t block, uint8_t *array, size_t, const uint8_t *wanted, size_t,
-             uint8_t *scratch, size_t);
-tb_ran c_load_run(tb_device, tb_state, uint8_t rp, uint32_t vpp, uint8_t block, uint8_t *array, size_t, const uint8_t *wanted,
-                  size_t, uint8_t *scratch, size_t);
-tb_ran c_verify_run(tb_device, tb_state, uint8_t rp, uint32_t vpp, uint8_t block, uint8_t *array, size_t, const uint8_t *wanted,
-                    size_t, uint8_t *scratch, size_t);
-tb_ran c_load(tb_device, tb_state, uint8_t rp, uint32_t vpp, uint8_t block, uint8_t letter, const uint8_t *file, size_t,
+tb_turn c_step(tb_loader *, uint16_t value, const uint8_t *wanted, size_t, uint8_t *scratch, size_t);
+tb_ran c_run(tb_device, tb_state, uint8_t rp, uint8_t wp, uint32_t vpp, uint8_t block, uint8_t *array, size_t, const uint8_t *wanted,
+             size_t, uint8_t *scratch, size_t);
+tb_ran c_load_run(tb_device, tb_state, uint8_t rp, uint8_t wp, uint32_t vpp, uint8_t block, uint8_t *array, size_t,
+                  const uint8_t *wanted, size_t, uint8_t *scratch, size_t);
+tb_ran c_verify_run(tb_device, tb_state, uint8_t rp, uint8_t wp, uint32_t vpp, uint8_t block, uint8_t *array, size_t,
+                    const uint8_t *wanted, size_t, uint8_t *scratch, size_t);
+tb_ran c_load(tb_device, tb_state, uint8_t rp, uint8_t wp, uint32_t vpp, uint8_t block, uint8_t letter, const uint8_t *file, size_t,
               uint8_t *array, size_t, uint8_t *wanted, size_t, uint8_t *scratch, size_t);
-tb_ran c_verify_file(tb_device, tb_state, uint8_t rp, uint32_t vpp, uint8_t block, uint8_t letter, const uint8_t *file, size_t,
-                     uint8_t *array, size_t, uint8_t *wanted, size_t, uint8_t *scratch, size_t);
+tb_ran c_verify_file(tb_device, tb_state, uint8_t rp, uint8_t wp, uint32_t vpp, uint8_t block, uint8_t letter, const uint8_t *file,
+                     size_t, uint8_t *array, size_t, uint8_t *wanted, size_t, uint8_t *scratch, size_t);
 tb_sized c_file_write(uint8_t letter, const uint8_t *payload, size_t, uint8_t *file, size_t);
 tb_sized c_file_read(uint8_t letter, const uint8_t *file, size_t, uint8_t *payload, size_t);
 uint16_t c_block_check(const uint8_t *block, size_t);

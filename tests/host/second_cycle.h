@@ -1,5 +1,6 @@
 /* The second implementation: proper states, and a bus cycle that refusals 1 to 6 let pass. A run calls it for each of its cycles,
- * so it stands here, where the compiler can lay it into its callers. */
+ * so it stands here, where the compiler can lay it into its callers. `word` is handed beside the device, so that a caller who
+ * tests it once has a cycle of bytes and a cycle of words. Addresses of cycles and states count units. */
 #ifndef SECOND_CYCLE_H
 #define SECOND_CYCLE_H
 
@@ -23,25 +24,25 @@ static inline bool pending(uint8_t phase) { return phase >= TB_PROGRAMMING; }
 /* Whether a state is proper on a device. */
 static inline bool proper(const part_rules *p, const tb_device *d, const tb_state *s) {
     if (!pending(s->phase)) {
-        if ((s->status & (SR7 | SR6 | 7)) != SR7 || s->byte != 0 || s->suspend != 0 || s->left != 0 || s->address != 0)
+        if ((s->status & (SR7 | SR6 | 7)) != SR7 || s->data != 0 || s->suspend != 0 || s->left != 0 || s->address != 0)
             return false;
         return s->phase == TB_FREE ? s->mode <= TB_MODE_IDENTIFIER : s->mode == TB_MODE_STATUS;
     }
-    if (s->phase > TB_SUSPENDING || (s->status & 7) != 0 || s->address >= p->size || s->left == 0)
+    if (s->phase > TB_SUSPENDING || (s->status & 7) != 0 || s->address >= p->size >> d->word || s->left == 0)
         return false;
     if (s->phase == TB_SUSPENDING ? s->suspend - 1u >= d->suspend : s->suspend != 0)
         return false;
     if (s->phase == TB_SUSPENDED)
-        return s->mode <= TB_MODE_STATUS && s->status >> 6 == 3 && s->byte == 0 && s->left <= d->erase;
+        return s->mode <= TB_MODE_STATUS && s->status >> 6 == 3 && s->data == 0 && s->left <= d->erase;
     if (s->mode != TB_MODE_STATUS || s->status >> 6 != 0)
         return false;
-    return s->phase == TB_PROGRAMMING ? s->left <= d->program : s->left <= d->erase && s->byte == 0;
+    return s->phase == TB_PROGRAMMING ? s->left <= d->program : s->left <= d->erase && s->data == 0;
 }
 
 /* The operation is over; what it leaves of the status is its own affair. */
 static inline void rest(tb_state *s) {
     s->phase = TB_FREE;
-    s->byte = 0;
+    s->data = 0;
     s->left = 0;
     s->suspend = 0;
     s->address = 0;
@@ -50,13 +51,21 @@ static inline void rest(tb_state *s) {
 /* What becomes of the array: nothing, or an operation that ended or was cut does its work. */
 typedef enum { STAYS, FINISHED, CUT } effect;
 
-static inline void touch(const second_chip *c, effect what, const tb_state *s) {
+/* A program of `unit` over the cell at that place. */
+static inline void store(const second_chip *c, bool word, effect what, uint32_t unit, uint16_t data) {
+    uint16_t r = what == CUT ? unit_of(c->residue, 0, word) : 0, old = unit_of(c->array, unit, word);
+    if (SLIP(33) && word)
+        r = (uint16_t)(r << 8 | r >> 8);
+    uint16_t left = SLIP(1) && what == FINISHED ? data : old & (data | r);
+    put_unit(c->array, unit, SLIP(31) && word ? (left & 0xFF) | (old & 0xFF00) : left, word);
+}
+
+static inline void touch(const second_chip *c, bool word, effect what, const tb_state *s) {
     if (s->phase == TB_PROGRAMMING) {
-        uint8_t *byte = c->array + s->address, with = what == CUT ? s->byte | c->residue[0] : s->byte;
-        *byte = SLIP(1) && what == FINISHED ? with : *byte & with;
+        store(c, word, what, s->address, s->data);
         return;
     }
-    unsigned k = block_at(c->part, s->address);
+    unsigned k = block_at(c->part, looked_up(s->address, word));
     uint8_t *block = c->array + c->part->block[k].first;
     if (what == CUT)
         memcpy(block, c->residue, c->part->block[k].length);
@@ -75,9 +84,13 @@ static inline void hold(tb_state *s) {
     s->status |= SR7 | (SLIP(15) ? 0 : SR6);
 }
 
+/* Only for slip 45: the supply under which an operation began, and whether this is the other high band. */
+static uint32_t begun_at;
+static inline bool other_band(uint32_t vpp) { return SLIP(45) && (vpp > TB_VPP_BR_5V_MOST_MV) != (begun_at > TB_VPP_BR_5V_MOST_MV); }
+
 /* Steps 2 and 3, for an operation running, suspended or being suspended. */
-static inline effect settle(tb_state *s, uint32_t vpp) {
-    if (vpp_low(vpp) && !(SLIP(3) && s->phase < TB_SUSPENDED && s->left == 1)) {
+static inline effect settle(const part_rules *p, tb_state *s, uint32_t vpp) {
+    if ((vpp_low(p, vpp) || other_band(vpp)) && !(SLIP(3) && s->phase < TB_SUSPENDED && s->left == 1)) {
         s->status = (s->status & ~SR6) | SR7 | SR3 | (s->phase == TB_PROGRAMMING ? SR4 : SR5);
         s->mode = TB_MODE_STATUS;
         rest(s);
@@ -94,25 +107,33 @@ static inline effect settle(tb_state *s, uint32_t vpp) {
     return FINISHED;
 }
 
-/* A read: 0 and the byte, or 8 or 9. The array is read only where nothing was running, so no effect can be due. */
-static inline uint8_t respond(const second_chip *c, const tb_state *s, uint32_t address, uint8_t *value) {
+/* An identifier: 0 and the code, or 9. A part of two widths has A-1 before its first address line in byte mode, and it is ignored. */
+static inline uint8_t identified(const part_rules *p, bool word, uint32_t address, uint16_t *value) {
+    uint32_t place = p->br && !word && !SLIP(44) ? address >> 1 : address;
+    if (place > 1)
+        return TB_NO_IDENTIFIER;
+    uint32_t code = place == 0 ? 0x89 : p->code;
+    *value = (uint16_t)(word ? code : code & 0xFF);
+    return TB_OK;
+}
+
+/* A read: 0 and the unit, or 8 or 9. The array is read only where nothing was running, so no effect can be due. */
+static inline uint8_t respond(const second_chip *c, bool word, const tb_state *s, uint32_t address, uint16_t *value) {
     if (s->mode == TB_MODE_STATUS) {
-        *value = s->status;
-    } else if (s->mode == TB_MODE_ARRAY) {
-        if (s->phase == TB_SUSPENDED && holds(c->part, block_at(c->part, s->address), address))
-            return TB_SUSPENDED_READ;
-        *value = c->array[address];
-    } else {
-        if (address > 1)
-            return TB_NO_IDENTIFIER;
-        *value = address == 0 ? 0x89 : (uint8_t)c->part->code;
+        *value = SLIP(41) && word ? s->status << 8 | s->status : s->status;
+        return TB_OK;
     }
+    if (s->mode == TB_MODE_IDENTIFIER)
+        return identified(c->part, word, address, value);
+    if (s->phase == TB_SUSPENDED && holds(c->part, block_at(c->part, looked_up(s->address, word)), looked_up(address, word)))
+        return TB_SUSPENDED_READ;
+    *value = unit_of(c->array, address, word);
     return TB_OK;
 }
 
 /* A write with nothing awaited, running or suspended: 0 or 7. */
-static inline uint8_t command(tb_state *s, uint8_t byte) {
-    switch (byte) {
+static inline uint8_t command(const part_rules *p, tb_state *s, uint16_t given) {
+    switch (given) {
     case 0xB0:
         if (SLIP(16))
             break;
@@ -122,6 +143,10 @@ static inline uint8_t command(tb_state *s, uint8_t byte) {
     case 0x70: s->mode = TB_MODE_STATUS; return TB_OK;
     case 0x50: s->status &= ~(SR5 | SR4 | SR3); return TB_OK;
     case 0x20: s->mode = TB_MODE_STATUS, s->phase = TB_ERASE_AWAITED; return TB_OK;
+    case 0x10:
+        if (SLIP(39) || (!p->br && !SLIP(40)))
+            break;
+        /* fall through */
     case 0x40: s->mode = TB_MODE_STATUS, s->phase = TB_DATA_AWAITED; return TB_OK;
     }
     return TB_NO_COMMAND;
@@ -130,11 +155,16 @@ static inline uint8_t command(tb_state *s, uint8_t byte) {
 /* Only for slip 8: where 20H was last written. */
 static uint32_t asked_at;
 
+/* What unlocks the boot block: RP# at V_HH, or OE# at V_HH; where there is WP#, that high in place of OE#. */
+static inline bool unlocked(const part_rules *p, const tb_bus *b) {
+    return b->rp == TB_RP_VHH || (p->br ? b->wp == (SLIP(37) ? TB_WP_LOW : TB_WP_HIGH) : b->oe == TB_OE_VHH);
+}
+
 /* A confirm or data: the operation starts, or error bits say why not. */
-static inline void begin(const second_chip *c, tb_state *s, const tb_bus *b) {
-    bool erase = s->phase == TB_ERASE_AWAITED, low = vpp_low(b->vpp_mv) || (s->status & SR3) != 0;
-    uint32_t address = SLIP(8) && erase && asked_at < c->part->size ? asked_at : b->address;
-    if (low || (b->rp != TB_RP_VHH && b->oe != TB_OE_VHH && holds(c->part, 0, address))) {
+static inline void begin(const second_chip *c, bool word, tb_state *s, const tb_bus *b) {
+    bool erase = s->phase == TB_ERASE_AWAITED, low = vpp_low(c->part, b->vpp_mv) || (s->status & SR3) != 0;
+    uint32_t address = SLIP(8) && erase && asked_at < c->part->size >> word ? asked_at : b->address;
+    if (low || (!unlocked(c->part, b) && holds(c->part, 0, looked_up(address, word)))) {
         s->status |= (erase ? SR5 : SR4) | (low ? SR3 : 0);
         s->phase = TB_FREE;
         return;
@@ -142,59 +172,62 @@ static inline void begin(const second_chip *c, tb_state *s, const tb_bus *b) {
     s->status &= ~SR7;
     s->phase = erase ? TB_ERASING : TB_PROGRAMMING;
     s->left = erase ? c->device.erase : c->device.program;
-    s->byte = erase ? 0 : b->byte;
+    s->data = erase ? 0 : word || SLIP(48) ? b->data : b->data & 0xFF;
     s->address = address;
+    if (SLIP(45))
+        begun_at = b->vpp_mv;
 }
 
-static inline void suspended_write(tb_state *s, uint8_t byte) {
-    if (byte == 0xFF) {
+static inline void suspended_write(tb_state *s, uint16_t given) {
+    if (given == 0xFF) {
         s->mode = TB_MODE_ARRAY;
-    } else if (byte == 0x70) {
+    } else if (given == 0x70) {
         s->mode = TB_MODE_STATUS;
-    } else if (byte == 0xD0) {
+    } else if (given == 0xD0) {
         s->mode = TB_MODE_STATUS;
         s->phase = TB_ERASING;
         s->status &= ~(SR7 | SR6);
     }
 }
 
-/* A write: 0 or 7. */
-static inline uint8_t written(const second_chip *c, tb_state *s, const tb_bus *b) {
-    if (SLIP(8) && b->byte == 0x20 && s->phase == TB_FREE)
+/* A write: 0 or 7. A command is the low 8 bits. */
+static inline uint8_t written(const second_chip *c, bool word, tb_state *s, const tb_bus *b) {
+    uint16_t given = SLIP(32) && word ? b->data : b->data & 0xFF;
+    if (SLIP(8) && given == 0x20 && s->phase == TB_FREE)
         asked_at = b->address;
-    if (SLIP(2) && s->phase == TB_DATA_AWAITED && b->byte == 0xFF)
+    if (SLIP(2) && s->phase == TB_DATA_AWAITED && given == 0xFF)
         s->phase = TB_FREE;
     switch (s->phase) {
-    case TB_FREE: return command(s, b->byte);
-    case TB_DATA_AWAITED: begin(c, s, b); break;
+    case TB_FREE: return command(c->part, s, given);
+    case TB_DATA_AWAITED: begin(c, word, s, b); break;
     case TB_ERASE_AWAITED:
-        if (b->byte == 0xD0)
-            begin(c, s, b);
+        if (given == 0xD0)
+            begin(c, word, s, b);
         else
             s->phase = TB_FREE, s->status |= SR5 | SR4;
         break;
     case TB_ERASING:
-        if (b->byte == 0xB0)
+        if (given == 0xB0)
             s->phase = TB_SUSPENDING, s->suspend = c->device.suspend;
         break;
-    case TB_SUSPENDED: suspended_write(s, b->byte); break;
+    case TB_SUSPENDED: suspended_write(s, given); break;
     }
     return TB_OK; /* a program ignores all writes, and so does a suspend under way: 70H finds its mode set */
 }
 
-/* A cycle with RP# not low that refusals 1 to 6 let pass: 0, and a read's byte in *value; or 7 to 9, and all is as it was. */
-static inline uint8_t passed(const second_chip *c, tb_state *s, const tb_bus *b, uint8_t *value) {
+/* A cycle with RP# not low that refusals 1 to 6 let pass: 0, and a read's unit in *value; or 7 to 9, and all is as it was. */
+static inline uint8_t passed(const second_chip *c, bool word, tb_state *s, const tb_bus *b, uint16_t *value) {
     tb_state before = *s;
-    effect what = pending(s->phase) ? settle(s, b->vpp_mv) : STAYS;
+    effect what = pending(s->phase) ? settle(c->part, s, b->vpp_mv) : STAYS;
     uint8_t number = TB_OK;
     if (b->kind == TB_CYCLE_READ)
-        number = respond(c, s, b->address, value);
+        number = respond(c, word, s, b->address, value);
     else if (b->kind == TB_CYCLE_WRITE)
-        number = written(c, s, b);
+        number = written(c, word, s, b);
     if (number != TB_OK)
         *s = before;
     else if (what != STAYS)
-        touch(c, what, &before);
+        touch(c, word, what, &before);
     return number;
 }
 

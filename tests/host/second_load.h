@@ -8,11 +8,13 @@
 
 enum { POLLS_MOST = 65535 };
 
-static inline bool levels_bad(uint8_t rp, uint32_t vpp) { return (rp != TB_RP_HIGH && rp != TB_RP_VHH) || !vpp_good(vpp); }
+static inline bool pins_bad(const part_rules *p, uint8_t rp, uint8_t wp, uint32_t vpp) {
+    return (rp != TB_RP_HIGH && rp != TB_RP_VHH) || !vpp_good(p, vpp) || !wp_good(p, wp);
+}
 
-/* 10 and 11, or 0. */
+/* 10 and 11, or 0; lengths are in bytes. */
 static inline uint8_t lengths_bad(const part_rules *p, uint8_t block, size_t wanted, size_t scratch) {
-    if (block > 3)
+    if (block >= p->blocks)
         return TB_NO_BLOCK;
     return wanted != p->block[block].length || scratch != wanted ? TB_WRONG_LENGTH : TB_OK;
 }
@@ -32,7 +34,7 @@ static inline bool must_erase(const uint8_t *wanted, const uint8_t *scratch, siz
     return false;
 }
 
-/* The first place from `from` on where scratch differs from wanted; n where there is none. */
+/* The first byte from `from` on where scratch differs from wanted; n where there is none. */
 static inline size_t differs_from(size_t from, const uint8_t *wanted, const uint8_t *scratch, size_t n) {
     while (from + 8 <= n && eight(wanted + from) == eight(scratch + from))
         from += 8;
@@ -40,6 +42,18 @@ static inline size_t differs_from(size_t from, const uint8_t *wanted, const uint
         from++;
     return from;
 }
+
+/* The same in units, of n bytes that are whole units. */
+static inline size_t unit_differs(size_t from, bool word, const uint8_t *wanted, const uint8_t *scratch, size_t n) {
+    return differs_from(from << word, wanted, scratch, n) >> word;
+}
+
+/* The verify read `read` where `want` is wanted: whether that is another unit, and whether only the high bytes differ. */
+static inline bool unlike(uint16_t read, uint16_t want) { return SLIP(49) ? (uint8_t)read != (uint8_t)want : read != want; }
+static inline bool high_differs(uint16_t read, uint16_t want) { return (uint8_t)read == (uint8_t)want; }
+
+/* The address that 25 gives for the unit there: that of the byte. */
+static inline uint32_t told(uint32_t unit, bool word, bool high) { return SLIP(42) ? unit : byte_of(unit, word) + (word && high); }
 
 /* The number that a ready status ends an operation with; 0 where it went well. */
 static inline uint8_t status_judged(uint8_t status, bool erase) {

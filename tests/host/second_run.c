@@ -7,70 +7,91 @@
 typedef struct {
     second_chip chip;
     tb_state state;
-    uint8_t rp;
+    uint8_t rp, wp;
     uint32_t vpp;
     uint64_t count;
 } bench;
 
-static inline void give(bench *b, uint32_t address, uint8_t byte) {
-    tb_bus bus = {TB_CYCLE_WRITE, b->rp, TB_OE_NORMAL, byte, b->vpp, address};
-    uint8_t none;
-    passed(&b->chip, &b->state, &bus, &none);
+/* A block on the bench: its first address, in units; wanted and scratch; and its bytes. */
+typedef struct {
+    uint32_t first;
+    const uint8_t *wanted;
+    uint8_t *scratch;
+    size_t bytes;
+} job;
+
+static inline void give(bench *b, bool word, uint32_t address, uint16_t data) {
+    tb_bus bus = {TB_CYCLE_WRITE, b->rp, TB_OE_NORMAL, b->wp, data, b->vpp, address};
+    uint16_t none;
+    passed(&b->chip, word, &b->state, &bus, &none);
     b->count++;
 }
 
-static inline uint8_t take(bench *b, uint32_t address) {
-    tb_bus bus = {TB_CYCLE_READ, b->rp, TB_OE_NORMAL, 0, b->vpp, address};
-    uint8_t byte = 0;
-    passed(&b->chip, &b->state, &bus, &byte);
+static inline uint16_t take(bench *b, bool word, uint32_t address) {
+    tb_bus bus = {TB_CYCLE_READ, b->rp, TB_OE_NORMAL, b->wp, 0, b->vpp, address};
+    uint16_t unit = 0;
+    passed(&b->chip, word, &b->state, &bus, &unit);
     b->count++;
-    return byte;
+    return unit;
 }
 
 /* Polls until the chip is ready: 0 or the number that ends the load. */
-static inline uint8_t waited(bench *b, uint32_t address, bool erase) {
+static inline uint8_t waited(bench *b, bool word, uint32_t address, bool erase) {
     for (int i = 0; i < POLLS_MOST; i++) {
-        uint8_t status = take(b, address);
+        uint8_t status = (uint8_t)take(b, word, address);
         if (status & TB_SR_READY)
             return status_judged(status, erase);
     }
     return TB_NEVER_READY;
 }
 
-/* The load: its end. */
-static uint8_t load(bench *b, uint32_t first, const uint8_t *wanted, uint8_t *scratch, size_t n) {
-    uint8_t end;
-    give(b, first, 0x50);
-    give(b, first, 0xFF);
-    for (size_t i = 0; i < n; i++)
-        scratch[i] = take(b, first + (uint32_t)i);
-    if (must_erase(wanted, scratch, n)) {
-        give(b, first, 0x20);
-        give(b, first, 0xD0);
-        if ((end = waited(b, first, true)) != TB_OK)
-            return end;
-        memset(scratch, 0xFF, n);
-    }
-    for (size_t i = differs_from(0, wanted, scratch, n); i < n; i = differs_from(i + 1, wanted, scratch, n)) {
-        uint32_t here = first + (uint32_t)i;
-        give(b, here, 0x40);
-        give(b, here, wanted[i]);
+/* Programs the units that differ: 0 or the number that ends the load. */
+static inline uint8_t program(bench *b, bool word, const job *j) {
+    size_t n = j->bytes >> word;
+    for (size_t i = 0; (i = unit_differs(i, word, j->wanted, j->scratch, j->bytes)) < n; i++) {
+        uint32_t here = j->first + (uint32_t)i;
+        uint16_t unit = unit_of(j->wanted, i, word);
+        give(b, word, here, 0x40);
+        give(b, word, here, unit);
         if (SLIP(22))
-            scratch[i] = wanted[i];
-        if ((end = waited(b, here, false)) != TB_OK)
+            put_unit(j->scratch, i, unit, word);
+        uint8_t end = waited(b, word, here, false);
+        if (end != TB_OK)
             return end;
-        scratch[i] = wanted[i];
+        put_unit(j->scratch, i, unit, word);
     }
     return TB_OK;
 }
 
-/* The verify: its end, and for 25 the address. */
-static uint8_t verify(bench *b, uint32_t first, const uint8_t *wanted, uint8_t *scratch, size_t n, uint32_t *address) {
-    give(b, first, 0xFF);
-    for (size_t i = 0; i < n - (SLIP(24) ? 1 : 0); i++) {
-        scratch[i] = take(b, first + (uint32_t)i);
-        if (scratch[i] != wanted[i]) {
-            *address = (SLIP(26) ? 0 : first) + (uint32_t)i;
+/* The load: its end. */
+static inline uint8_t load(bench *b, bool word, const job *j) {
+    size_t n = j->bytes >> word;
+    give(b, word, j->first, 0x50);
+    give(b, word, j->first, 0xFF);
+    for (size_t i = 0; i < n; i++)
+        put_unit(j->scratch, i, take(b, word, j->first + (uint32_t)i), word);
+    if (SLIP(35))
+        b->count += j->bytes - n;
+    if (must_erase(j->wanted, j->scratch, j->bytes)) {
+        give(b, word, j->first, 0x20);
+        give(b, word, j->first, 0xD0);
+        uint8_t end = waited(b, word, j->first, true);
+        if (end != TB_OK)
+            return end;
+        memset(j->scratch, 0xFF, j->bytes);
+    }
+    return program(b, word, j);
+}
+
+/* The verify: its end, and for 25 the byte address. */
+static inline uint8_t verify(bench *b, bool word, const job *j, uint32_t *address) {
+    size_t n = (j->bytes >> word) - (SLIP(24) ? 1 : 0);
+    give(b, word, j->first, 0xFF);
+    for (size_t i = 0; i < n; i++) {
+        uint16_t unit = take(b, word, j->first + (uint32_t)i), want = unit_of(j->wanted, i, word);
+        put_unit(j->scratch, i, unit, word);
+        if (unlike(unit, want)) {
+            *address = told((SLIP(26) ? 0 : j->first) + (uint32_t)i, word, high_differs(unit, want));
             return TB_VERIFY_FAILED;
         }
     }
@@ -80,81 +101,92 @@ static uint8_t verify(bench *b, uint32_t first, const uint8_t *wanted, uint8_t *
 /* What is run: the load and, where it ended well, the verify; or one of the two. */
 typedef enum { BOTH, LOAD, VERIFY } work;
 
-static uint8_t drive(bench *b, work what, uint32_t first, const uint8_t *wanted, uint8_t *scratch, size_t n, uint32_t *address) {
-    uint8_t end = what == VERIFY ? TB_OK : load(b, first, wanted, scratch, n);
+static inline uint8_t drive(bench *b, bool word, work what, const job *j, uint32_t *address) {
+    uint8_t end = what == VERIFY ? TB_OK : load(b, word, j);
     if ((end != TB_OK && !SLIP(23)) || (what == LOAD && !SLIP(25)))
         return end;
-    return verify(b, first, wanted, scratch, n, address);
+    return verify(b, word, j, address);
 }
+
+/* A run of bytes and a run of words, each with its own loops. */
+static uint8_t drive_bytes(bench *b, work what, const job *j, uint32_t *address) { return drive(b, false, what, j, address); }
+static uint8_t drive_words(bench *b, work what, const job *j, uint32_t *address) { return drive(b, true, what, j, address); }
+
+/* What a run is handed beside the lent memory. */
+typedef struct {
+    tb_device device;
+    tb_state state;
+    uint8_t rp, wp, block;
+    uint32_t vpp;
+} order;
 
 /* 1 to 4 and 10 to 12. */
-static uint8_t refused(tb_device d, tb_state s, uint8_t rp, uint32_t vpp, uint8_t block, size_t array, size_t wanted,
-                       size_t scratch) {
-    if (!known(d.number) || d.program == 0 || d.erase == 0 || d.suspend - 1u >= 100)
+static uint8_t refused(const order *o, size_t array, size_t wanted, size_t scratch) {
+    const tb_device *d = &o->device;
+    if (!known(d->number, d->word) || d->program == 0 || d->erase == 0 || d->suspend - 1u >= 100)
         return TB_NO_DEVICE;
-    const part_rules *p = &second_parts[d.number];
+    const part_rules *p = &second_parts[d->number];
     if (array != p->size)
         return TB_WRONG_ARRAY;
-    if (!proper(p, &d, &s))
+    if (!proper(p, d, &o->state))
         return TB_IMPROPER;
-    if (levels_bad(rp, vpp))
+    if (pins_bad(p, o->rp, o->wp, o->vpp))
         return TB_BAD_LEVEL;
-    uint8_t number = lengths_bad(p, block, wanted, scratch);
-    return number != TB_OK ? number : s.phase != TB_FREE ? TB_UNDER_WAY : TB_OK;
+    uint8_t number = lengths_bad(p, o->block, wanted, scratch);
+    return number != TB_OK ? number : o->state.phase != TB_FREE ? TB_UNDER_WAY : TB_OK;
 }
 
-static tb_ran ran(work what, tb_device d, tb_state s, uint8_t rp, uint32_t vpp, uint8_t block, uint8_t *array,
-                  const uint8_t *wanted, uint8_t *scratch, size_t n) {
-    bench b = {{&second_parts[d.number], d, array, NULL}, s, rp, vpp, 0};
+static tb_ran ran(work what, const order *o, uint8_t *array, const uint8_t *wanted, uint8_t *scratch, size_t n) {
+    const part_rules *p = &second_parts[o->device.number];
+    bench b = {{p, o->device, array, NULL}, o->state, o->rp, o->wp, o->vpp, 0};
+    job j = {p->block[o->block].first >> o->device.word, wanted, scratch, n};
     uint32_t address = 0;
-    uint8_t end = drive(&b, what, b.chip.part->block[block].first, wanted, scratch, n, &address);
+    uint8_t end = (o->device.word ? drive_words : drive_bytes)(&b, what, &j, &address);
     return (tb_ran){b.count, end, address, b.state};
 }
 
-static inline tb_ran tested(work what, tb_device d, tb_state s, uint8_t rp, uint32_t vpp, uint8_t block, uint8_t *array,
-                            size_t size, const uint8_t *wanted, size_t n, uint8_t *scratch, size_t m) {
-    uint8_t number = refused(d, s, rp, vpp, block, size, n, m);
+static inline tb_ran tested(work what, order o, uint8_t *array, size_t size, const uint8_t *wanted, size_t n, uint8_t *scratch, size_t m) {
+    uint8_t number = refused(&o, size, n, m);
     if (number != TB_OK)
-        return (tb_ran){0, number, 0, s};
-    return ran(what, d, s, rp, vpp, block, array, wanted, scratch, n);
+        return (tb_ran){0, number, 0, o.state};
+    return ran(what, &o, array, wanted, scratch, n);
 }
 
-tb_ran c_run(tb_device d, tb_state s, uint8_t rp, uint32_t vpp, uint8_t block, uint8_t *array, size_t size, const uint8_t *wanted,
-             size_t n, uint8_t *scratch, size_t m) {
-    return tested(BOTH, d, s, rp, vpp, block, array, size, wanted, n, scratch, m);
+tb_ran c_run(tb_device d, tb_state s, uint8_t rp, uint8_t wp, uint32_t vpp, uint8_t block, uint8_t *array, size_t size,
+             const uint8_t *wanted, size_t n, uint8_t *scratch, size_t m) {
+    return tested(BOTH, (order){d, s, rp, wp, block, vpp}, array, size, wanted, n, scratch, m);
 }
 
-tb_ran c_load_run(tb_device d, tb_state s, uint8_t rp, uint32_t vpp, uint8_t block, uint8_t *array, size_t size,
+tb_ran c_load_run(tb_device d, tb_state s, uint8_t rp, uint8_t wp, uint32_t vpp, uint8_t block, uint8_t *array, size_t size,
                   const uint8_t *wanted, size_t n, uint8_t *scratch, size_t m) {
-    return tested(LOAD, d, s, rp, vpp, block, array, size, wanted, n, scratch, m);
+    return tested(LOAD, (order){d, s, rp, wp, block, vpp}, array, size, wanted, n, scratch, m);
 }
 
-tb_ran c_verify_run(tb_device d, tb_state s, uint8_t rp, uint32_t vpp, uint8_t block, uint8_t *array, size_t size,
+tb_ran c_verify_run(tb_device d, tb_state s, uint8_t rp, uint8_t wp, uint32_t vpp, uint8_t block, uint8_t *array, size_t size,
                     const uint8_t *wanted, size_t n, uint8_t *scratch, size_t m) {
-    return tested(VERIFY, d, s, rp, vpp, block, array, size, wanted, n, scratch, m);
+    return tested(VERIFY, (order){d, s, rp, wp, block, vpp}, array, size, wanted, n, scratch, m);
 }
 
-static inline tb_ran with_file(work what, tb_device d, tb_state s, uint8_t rp, uint32_t vpp, uint8_t block, uint8_t letter,
-                               const uint8_t *file, size_t k, uint8_t *array, size_t size, uint8_t *wanted, size_t n,
-                               uint8_t *scratch, size_t m) {
-    uint8_t number = refused(d, s, rp, vpp, block, size, n, m);
+static inline tb_ran with_file(work what, order o, uint8_t letter, const uint8_t *file, size_t k, uint8_t *array, size_t size,
+                               uint8_t *wanted, size_t n, uint8_t *scratch, size_t m) {
+    uint8_t number = refused(&o, size, n, m);
     if (number == TB_OK)
         number = k > n ? TB_FILE_SIZE : second_judge(letter, file, k);
     if (number != TB_OK && !(SLIP(12) && number == TB_OTHER_LETTER))
-        return (tb_ran){0, number, 0, s};
+        return (tb_ran){0, number, 0, o.state};
     memcpy(wanted, file, k);
     memset(wanted + k, 0xFF, n - k);
     if (number != TB_OK)
-        return (tb_ran){0, number, 0, s};
-    return ran(what, d, s, rp, vpp, block, array, wanted, scratch, n);
+        return (tb_ran){0, number, 0, o.state};
+    return ran(what, &o, array, wanted, scratch, n);
 }
 
-tb_ran c_load(tb_device d, tb_state s, uint8_t rp, uint32_t vpp, uint8_t block, uint8_t letter, const uint8_t *file, size_t k,
+tb_ran c_load(tb_device d, tb_state s, uint8_t rp, uint8_t wp, uint32_t vpp, uint8_t block, uint8_t letter, const uint8_t *file, size_t k,
               uint8_t *array, size_t size, uint8_t *wanted, size_t n, uint8_t *scratch, size_t m) {
-    return with_file(BOTH, d, s, rp, vpp, block, letter, file, k, array, size, wanted, n, scratch, m);
+    return with_file(BOTH, (order){d, s, rp, wp, block, vpp}, letter, file, k, array, size, wanted, n, scratch, m);
 }
 
-tb_ran c_verify_file(tb_device d, tb_state s, uint8_t rp, uint32_t vpp, uint8_t block, uint8_t letter, const uint8_t *file,
+tb_ran c_verify_file(tb_device d, tb_state s, uint8_t rp, uint8_t wp, uint32_t vpp, uint8_t block, uint8_t letter, const uint8_t *file,
                      size_t k, uint8_t *array, size_t size, uint8_t *wanted, size_t n, uint8_t *scratch, size_t m) {
-    return with_file(VERIFY, d, s, rp, vpp, block, letter, file, k, array, size, wanted, n, scratch, m);
+    return with_file(VERIFY, (order){d, s, rp, wp, block, vpp}, letter, file, k, array, size, wanted, n, scratch, m);
 }

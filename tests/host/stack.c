@@ -14,12 +14,15 @@
 enum { ROOM = 65536, PAINT = 0xC7, CALLER = 96 };
 
 static _Alignas(64) uint8_t painted[ROOM];
-static uint8_t array[131072], residue[131072], wanted[512], scratch[512], payload[TB_PAYLOAD_MOST], file[TB_FILE_MOST];
-static const tb_device device = {TB_BENCH_T, 2, 3, 1}, large = {TB_28F001BX_T, 1, 1, 1};
+static uint8_t array[TB_SIZE_MOST], residue[TB_BLOCK_MOST], wanted[8192], scratch[8192], payload[TB_PAYLOAD_MOST], file[TB_FILE_MOST];
+static const tb_device kinds[] = {{TB_BENCH_T, 0, 2, 3, 1}, {TB_28F200BR_T, 0, 2, 3, 1}, {TB_28F200BR_T, 1, 2, 3, 1}};
+static tb_device device;
+static size_t size, block; /* bytes of the device at hand, and of its block 1 */
 static tb_state state;
 static tb_loader loader;
 static tb_bus bus;
 static uint8_t byte;
+static uint16_t value;
 
 static size_t used_by(void (*call)(void)) {
     ucontext_t back, there;
@@ -39,17 +42,17 @@ static size_t used_by(void (*call)(void)) {
 }
 
 static void nothing(void) {}
-static void cycle(void) { state = tb_cycle(large, state, bus, array, 131072, residue, sizeof residue).state; }
-static void start(void) { loader = tb_start(TB_BENCH_T, 1, 12000, 1, wanted, 512, scratch, 512).loader; }
-static void step(void) { bus = tb_step(&loader, byte, wanted, 512, scratch, 512).cycle; }
-static void run(void) { state = tb_run(device, tb_fresh(), 1, 12000, 1, array, 16384, wanted, 512, scratch, 512).state; }
-static void load_run(void) { state = tb_load_run(device, tb_fresh(), 1, 12000, 1, array, 16384, wanted, 512, scratch, 512).state; }
-static void verify_run(void) { state = tb_verify_run(device, tb_fresh(), 1, 12000, 1, array, 16384, wanted, 512, scratch, 512).state; }
+static void cycle(void) { state = tb_cycle(device, state, bus, array, size, residue, sizeof residue).state; }
+static void start(void) { loader = tb_start(device.number, device.word, 1, 0, 12000, 1, wanted, block, scratch, block).loader; }
+static void step(void) { bus = tb_step(&loader, value, wanted, block, scratch, block).cycle; }
+static void run(void) { state = tb_run(device, tb_fresh(), 1, 0, 12000, 1, array, size, wanted, block, scratch, block).state; }
+static void load_run(void) { state = tb_load_run(device, tb_fresh(), 1, 0, 12000, 1, array, size, wanted, block, scratch, block).state; }
+static void verify_run(void) { state = tb_verify_run(device, tb_fresh(), 1, 0, 12000, 1, array, size, wanted, block, scratch, block).state; }
 static void verify_file(void) {
-    state = tb_verify_file(device, tb_fresh(), 1, 12000, 1, 'K', file, 512, array, 16384, wanted, 512, scratch, 512).state;
+    state = tb_verify_file(device, tb_fresh(), 1, 0, 12000, 1, 'K', file, 512, array, size, wanted, block, scratch, block).state;
 }
 static void load(void) {
-    state = tb_load(device, tb_fresh(), 1, 12000, 1, 'K', file, 512, array, 16384, wanted, 512, scratch, 512).state;
+    state = tb_load(device, tb_fresh(), 1, 0, 12000, 1, 'K', file, 512, array, size, wanted, block, scratch, block).state;
 }
 static void write(void) { byte = tb_file_write('K', payload, sizeof payload, file, sizeof file).number; }
 static void write_short(void) { byte = tb_file_write('K', payload, 100, file, sizeof file).number; }
@@ -73,11 +76,20 @@ static void measure(void (*call)(void)) {
         most = used;
 }
 
-/* Cycles of each kind on an erase with one cycle to go, at each RP# and at VPP low and high: it ends, is cut or is suspended. */
-static void cycles_of_an_erase(void) {
+/* Cycles of each kind on an operation with one cycle to go, at each RP# and at VPP low and high: it ends, is cut or is suspended. */
+static void cycles_of(uint8_t phase) {
     for (unsigned k = 0; k < 18; k++) {
-        bus = (tb_bus){(uint8_t)(k % 3), (uint8_t)(k / 3 % 3), 0, 0xB0, k < 9 ? 0 : 12000, 0x10};
-        state = (tb_state){TB_MODE_STATUS, 0, TB_ERASING, 0, 1, 0, 0x10};
+        bus = (tb_bus){(uint8_t)(k % 3), (uint8_t)(k / 3 % 3), 0, 0, 0xB0, k < 9 ? 0 : 12000, 0x10};
+        state = (tb_state){TB_MODE_STATUS, 0, phase, 0, 1, 0, 0x10};
+        measure(cycle);
+    }
+}
+
+/* Cycles at rest: each kind, in each mode. */
+static void cycles_at_rest(void) {
+    for (unsigned k = 0; k < 9; k++) {
+        bus = (tb_bus){(uint8_t)(k % 3), 1, 0, 0, 0x40, 12000, 1};
+        state = (tb_state){.mode = (uint8_t)(k / 3), .status = TB_SR_READY};
         measure(cycle);
     }
 }
@@ -87,20 +99,40 @@ static void steps_of_a_load(void) {
     memset(wanted, 0x5A, sizeof wanted);
     measure(start);
     while (loader.stage != TB_ENDED) {
-        byte = loader.stage == TB_READING ? 0x00 : loader.stage == TB_VERIFYING ? 0x5A : 0x80;
+        value = loader.stage == TB_READING ? 0x0000 : loader.stage == TB_VERIFYING ? 0x5A5A : 0x0080;
         measure(step);
+        if (loader.stage == TB_READING && loader.place == 3 && block > 512) /* a long block's middle is like its ends */
+            loader.place = (block >> device.word) - 3;
+        if (loader.stage == TB_PROGRAM_ASKING && loader.place == 3)
+            memcpy(scratch + 8, wanted + 8, block - 16);
+        if (loader.stage == TB_VERIFYING && loader.place == 3)
+            loader.place = (block >> device.word) - 3;
+    }
+}
+
+static void on_device(tb_device d) {
+    void (*const calls[])(void) = {run, load, load_run, verify_run, verify_file};
+    device = d;
+    size = tb_size(d.number);
+    block = tb_block(d.number, 1).length;
+    cycles_of(TB_PROGRAMMING);
+    cycles_of(TB_ERASING);
+    cycles_at_rest();
+    steps_of_a_load();
+    for (size_t i = 0; i < sizeof calls / sizeof calls[0]; i++) {
+        memset(array, 0, size);
+        measure(calls[i]);
     }
 }
 
 void stack(bool verbose) {
-    void (*const calls[])(void) = {part, write, read, check, reading, write_short, run, load, load_run, verify_run, verify_file, blank};
+    void (*const calls[])(void) = {part, write, read, check, reading, write_short};
     size_t none = used_by(nothing);
-    cycles_of_an_erase();
-    steps_of_a_load();
-    for (size_t i = 0; i < sizeof calls / sizeof calls[0]; i++) {
-        memset(array, 0, 16384);
+    for (size_t i = 0; i < sizeof calls / sizeof calls[0]; i++)
         measure(calls[i]);
-    }
+    for (size_t i = 0; i < sizeof kinds / sizeof kinds[0]; i++)
+        on_device(kinds[i]);
+    measure(blank);
     if (verbose)
         printf("stack  %zu bytes at most\n", most - none);
     if (most - none <= STACK + CALLER)
