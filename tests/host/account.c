@@ -96,6 +96,16 @@ static void line(bool verbose, const char *name, const char *with, const uint64_
         printf("\n");
 }
 
+/* On a device in word mode the same numbers come, but for 1 in a start and a step: they know of no times. */
+static void line_of_words(bool verbose, int g) {
+    uint8_t can[sizeof wanted[g].can];
+    size_t n = 0;
+    for (size_t i = 0; i < wanted[g].n; i++)
+        if (wanted[g].can[i] != TB_NO_DEVICE || (g != IN_START && g != IN_STEP))
+            can[n++] = wanted[g].can[i];
+    line(verbose, wanted[g].name, ", word mode", worded[g], can, n);
+}
+
 /* Every device in every mode that it has, in calls that were not refused. */
 static void line_of_devices(bool verbose, int g) {
     for (uint32_t word = 0; word < WIDTHS; word++) {
@@ -131,7 +141,7 @@ int closing(uint64_t seed, bool verbose) {
     for (int g = 0; g < GROUPS; g++)
         line(verbose, wanted[g].name, "", numbers[g], wanted[g].can, wanted[g].n);
     for (int g = 0; g < ON_DEVICES; g++) {
-        line(verbose, wanted[g].name, ", word mode", worded[g], wanted[g].can, wanted[g].n);
+        line_of_words(verbose, g);
         line_of_devices(verbose, g);
     }
     for (int word = 0; word < WIDTHS; word++) {

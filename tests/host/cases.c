@@ -113,7 +113,7 @@ bool real_mode(uint8_t part, uint8_t word) { return two_widths(part) && word == 
 uint8_t some_mode(uint8_t part) {
     if (chance(2))
         return (uint8_t)ONE_OF(1, 2, 255);
-    return two_widths(part) && chance(60);
+    return two_widths(part) && chance(65);
 }
 
 uint8_t real_part(uint8_t part) { return c_size(part) == 0 ? TB_BENCH_T : part; }

@@ -107,6 +107,8 @@ static void some_file(tb_span b) {
     if (room > TB_PAYLOAD_MOST)
         room = TB_PAYLOAD_MOST;
     uint32_t n = chance(5) ? ONE_OF(4040, 4041) : chance(40) ? ONE_OF(1, 504, 505, room - 1, room) : 1 + below(room);
+    if (chance(3) && room < TB_PAYLOAD_MOST) /* longer than the block */
+        n = room + 1;
     letter = (uint8_t)"BEJKNRST"[below(8)];
     for (uint32_t i = 0; i < n; i++)
         payload[i] = (uint8_t)any32();
@@ -166,7 +168,7 @@ static void spoil(void) {
 
 /* Mostly the bench parts, whose blocks are short. */
 static uint8_t loaded_part(void) {
-    return (uint8_t)(chance(58) ? ONE_OF(TB_BENCH_T, TB_BENCH_B) : chance(20) ? 1 + below(2) : TB_28F200BR_T + below(4));
+    return (uint8_t)(chance(50) ? ONE_OF(TB_BENCH_T, TB_BENCH_B) : chance(20) ? 1 + below(2) : TB_28F200BR_T + below(4));
 }
 
 /* A device and levels at which a load can go on, or now and then not. */
@@ -176,7 +178,7 @@ static void some_order(void) {
     if (chance(3))
         device.erase = (uint16_t)ONE_OF(300, 65534, 65535);
     block = (uint8_t)(chance(2) ? some_block(part) : chance(80) || !two_widths(part) ? ONE_OF(0, 1, 2) : ONE_OF(1, 2));
-    rp = (uint8_t)(chance(5) ? ONE_OF(0, 3, 255) : block == 0 ? ONE_OF(1, 2, 2) : ONE_OF(1, 2));
+    rp = (uint8_t)(chance(5) ? ONE_OF(0, 3, 255) : block == 0 && !two_widths(part) ? ONE_OF(1, 2, 2) : ONE_OF(1, 1, 2));
     wp = some_wp(part, 3);
     vpp = some_vpp(part, 8);
     state = tb_fresh();

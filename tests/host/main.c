@@ -22,9 +22,9 @@ int main(int argc, char **argv) {
     stack(verbose);
     for (int round = 0; round < 20; round++) {
         files(1000);
-        cycles(125, 2000);
-        steps(20, 3, 3000);
-        loads(250);
+        cycles(250, 4000);
+        steps(20, 10, 3000);
+        loads(1000);
         readings(500);
     }
     endless();

@@ -1,6 +1,6 @@
 #!/usr/bin/env bash
 # run.sh [-v] [SEED]: compiles the header as each language that it is for; holds the library against a second implementation in C
-# on random cases; then breaks that second implementation in twenty-nine ways, one at a time, and looks whether each is noticed.
+# on random cases; then breaks that second implementation in forty-nine ways, one at a time, and looks whether each is noticed.
 # -v prints what was met, and how often.
 set -eu
 here=$(dirname -- "$(readlink -f -- "$0")")
@@ -93,7 +93,27 @@ slips='1:a program stores its data without AND
 26:the address of 25 counts from the start of the block
 27:a block is blank by its first byte
 28:a block is blank without its check
-29:only the first block can be blank'
+29:only the first block can be blank
+30:a word address is taken for a byte address where its block is looked up
+31:a program of a word stores its low byte alone
+32:a command is compared in all 16 bits
+33:the residue of a word is taken high byte first
+34:6,500 mV is low on devices 5 to 8
+35:the reads of a run are counted in bytes
+36:WP# is looked at on devices 1 to 4
+37:WP# low unlocks the boot block
+38:OE# at V_HH is let in on devices 5 to 8
+39:10H is refused on devices 5 to 8
+40:10H is taken on devices 1 to 4
+41:a status has a high byte
+42:25 gives a word address
+43:one byte of residue is enough for a word
+44:identifiers of devices 5 to 8 in byte mode go by the plain address
+45:a change of high band cuts
+46:word mode is let in on devices 1 to 4
+47:WP# is not looked at with RP# low
+48:byte mode keeps the high byte of its data
+49:a verify compares the low bytes of words alone'
 noticed=0
 while IFS=: read -r number slip; do
     build "$out/broken" "$number"
@@ -104,4 +124,4 @@ while IFS=: read -r number slip; do
     noticed=$((noticed + 1))
     printf 'noticed: %s\n' "$slip"
 done <<<"$slips"
-printf 'tests from C: no mismatch, and %s of 29 slips noticed\n' "$noticed"
+printf 'tests from C: no mismatch, and %s of 49 slips noticed\n' "$noticed"
