@@ -14,12 +14,12 @@ typedef struct {
     tb_span (*block)(uint8_t, uint8_t);
     tb_state (*fresh)(void);
     tb_answer (*cycle)(tb_device, tb_state, tb_bus, uint8_t *, size_t, const uint8_t *, size_t);
-    tb_given (*start)(uint8_t, uint8_t, uint32_t, uint8_t, const uint8_t *, size_t, const uint8_t *, size_t);
-    tb_turn (*step)(tb_loader *, uint8_t, const uint8_t *, size_t, uint8_t *, size_t);
-    tb_ran (*run)(tb_device, tb_state, uint8_t, uint32_t, uint8_t, uint8_t *, size_t, const uint8_t *, size_t, uint8_t *, size_t);
-    tb_ran (*verify)(tb_device, tb_state, uint8_t, uint32_t, uint8_t, uint8_t *, size_t, const uint8_t *, size_t, uint8_t *,
+    tb_given (*start)(uint8_t, uint8_t, uint8_t, uint8_t, uint32_t, uint8_t, const uint8_t *, size_t, const uint8_t *, size_t);
+    tb_turn (*step)(tb_loader *, uint16_t, const uint8_t *, size_t, uint8_t *, size_t);
+    tb_ran (*run)(tb_device, tb_state, uint8_t, uint8_t, uint32_t, uint8_t, uint8_t *, size_t, const uint8_t *, size_t, uint8_t *, size_t);
+    tb_ran (*verify)(tb_device, tb_state, uint8_t, uint8_t, uint32_t, uint8_t, uint8_t *, size_t, const uint8_t *, size_t, uint8_t *,
                      size_t);
-    tb_ran (*load)(tb_device, tb_state, uint8_t, uint32_t, uint8_t, uint8_t, const uint8_t *, size_t, uint8_t *, size_t,
+    tb_ran (*load)(tb_device, tb_state, uint8_t, uint8_t, uint32_t, uint8_t, uint8_t, const uint8_t *, size_t, uint8_t *, size_t,
                    uint8_t *, size_t, uint8_t *, size_t);
     tb_sized (*write)(uint8_t, const uint8_t *, size_t, uint8_t *, size_t);
     tb_sized (*read)(uint8_t, const uint8_t *, size_t, uint8_t *, size_t);
@@ -49,7 +49,7 @@ static const maker second = {c_size, c_block, c_fresh, c_cycle, c_start, c_step,
 /* What the work is done on; `ready` of a row sets it, and all of it is compared after the row. It stands at the start of a page,
  * since the C library's copies go different ways for different addresses. */
 static _Alignas(4096) struct {
-    uint8_t array[131072], residue[8192], wanted[8192], scratch[8192], file[TB_FILE_MOST], payload[TB_PAYLOAD_MOST], back[TB_PAYLOAD_MOST];
+    uint8_t array[262144], residue[8192], wanted[8192], scratch[8192], file[TB_FILE_MOST], payload[TB_PAYLOAD_MOST], back[TB_PAYLOAD_MOST];
     tb_device device;
     tb_state state;
     tb_answer answer;
@@ -73,26 +73,35 @@ static void specks(uint8_t *to, size_t n) {
 }
 
 /* A mix of cycles on bench T: identifier, array reads, four programs, an erase with a suspend, and some that are refused. */
-#define R(a) {0, 1, 0, 0, 12000, a}
-#define W(a, b) {1, 1, 0, b, 12000, a}
+#define R(a) {.kind = 0, .rp = 1, .vpp_mv = 12000, .address = a}
+#define W(a, b) {.kind = 1, .rp = 1, .data = b, .vpp_mv = 12000, .address = a}
+#define IDLE(vpp) {.kind = 2, .rp = 1, .vpp_mv = vpp}
+#define DOWN(k) {.kind = k, .rp = 0, .vpp_mv = 12000}
 #define PROGRAM(a, b) W(a, 0x40), W(a, b), R(a), R(a)
 static const tb_bus mix[] = {
     W(0, 0x90), R(0), R(1), R(2), W(0, 0xFF), R(0x10), R(0x11), R(0x12), R(0x13), R(0x14), R(0x15), R(0x16), R(0x17),
     PROGRAM(0x3A00, 0x5A), PROGRAM(0x3A01, 0xFF), PROGRAM(0x3A02, 0x00), PROGRAM(0x1234, 0xC3), W(0, 0xFF), R(0x3A00),
     R(0x3A01), R(0x3A02), R(0x1234), W(0x3A00, 0x20), W(0x3A00, 0xD0), R(0x3A00), W(0x3A00, 0xB0), R(0x3A00), W(0, 0xFF), R(0x20),
     R(0x21), R(0x22), R(0x23), R(0x3A01), W(0, 0xD0), R(0x3A00), R(0x3A00), R(0x3A00), W(0, 0x70), R(0), W(0, 0x00), R(0x4000),
-    {2, 1, 0, 0, 0, 0}, {2, 1, 0, 0, 12000, 0}, W(0x3C00, 0x40), W(0x3C00, 0x12), R(0x3C00), W(0, 0x50), W(0, 0xFF),
-    R(0x3A00), {0, 1, 0, 0, 9000, 0}, {0, 0, 0, 0, 12000, 0},
+    IDLE(0), IDLE(12000), W(0x3C00, 0x40), W(0x3C00, 0x12), R(0x3C00), W(0, 0x50), W(0, 0xFF),
+    R(0x3A00), {.kind = 0, .rp = 1, .vpp_mv = 9000}, DOWN(0),
 };
 enum { MIXED = sizeof mix / sizeof mix[0] };
 
-static void part(uint8_t number, uint16_t p, uint16_t e) {
-    at.device = (tb_device){number, p, e, 1};
-    at.state = (tb_state){0, 0x80, 0, 0, 0, 0, 0};
+static const tb_state resting = {.mode = TB_MODE_ARRAY, .status = 0x80};
+
+static void part(uint8_t number, uint8_t word, uint16_t p, uint16_t e) {
+    at.device = (tb_device){number, word, p, e, 1};
+    at.state = resting;
     specks(at.array, sizeof at.array);
 }
 
-static void ready_mix(void) { part(3, 2, 3); }
+/* An operation under way, with cycles to go. */
+static tb_state busy(uint8_t phase, uint16_t left, uint32_t address) {
+    return (tb_state){.mode = TB_MODE_STATUS, .phase = phase, .left = left, .address = address};
+}
+
+static void ready_mix(void) { part(3, 0, 2, 3); }
 static void work_mix(const maker *m) {
     for (int t = 0; t < TURNS; t++)
         for (int i = 0; i < MIXED; i++)
@@ -106,8 +115,8 @@ static void work_reads(const maker *m) {
 
 /* An erase with one cycle to go, in the block of `size` bytes: it ends, or RP# falls. */
 static void ready_erase(void) {
-    part(1, 1, 1);
-    at.state = (tb_state){1, 0x00, 4, 0, 1, 0, size == 4096 ? 0x1D000 : 0x1E000};
+    part(1, 0, 1, 1);
+    at.state = busy(TB_ERASING, 1, size == 4096 ? 0x1D000 : 0x1E000);
     specks(at.residue, sizeof at.residue);
 }
 static void work_end(const maker *m) {
@@ -116,75 +125,136 @@ static void work_end(const maker *m) {
 }
 static void work_cut(const maker *m) {
     for (int t = 0; t < TURNS; t++)
-        at.sum += m->cycle(at.device, at.state, (tb_bus){2, 0, 0, 0, 12000, 0}, at.array, 131072, at.residue, 8192).state.status;
+        at.sum += m->cycle(at.device, at.state, (tb_bus)DOWN(2), at.array, 131072, at.residue, 8192).state.status;
 }
 
 /* One cycle over and over from one state of bench T. */
 static tb_bus same;
 static void ready_same_cycle(tb_state state, tb_bus cycle) {
-    part(3, 2, 3);
+    part(3, 0, 2, 3);
     at.state = state;
     same = cycle;
     specks(at.residue, sizeof at.residue);
 }
-static void ready_idle(void) { ready_same_cycle((tb_state){0, 0x80, 0, 0, 0, 0, 0}, (tb_bus){2, 1, 0, 0, 12000, 0}); }
-static void ready_command(void) { ready_same_cycle((tb_state){0, 0x80, 0, 0, 0, 0, 0}, (tb_bus)W(0, 0x70)); }
-static void ready_suspend(void) { ready_same_cycle((tb_state){1, 0x00, 4, 0, 3, 0, 0x3A00}, (tb_bus)W(0, 0xB0)); }
-static void ready_held(void) { ready_same_cycle((tb_state){1, 0x00, 6, 0, 3, 1, 0x3A00}, (tb_bus){0, 1, 0, 0, 12000, 0x3A00}); }
-static void ready_resume(void) { ready_same_cycle((tb_state){1, 0xC0, 5, 0, 3, 0, 0x3A00}, (tb_bus)W(0, 0xD0)); }
-static void ready_fall(void) { ready_same_cycle((tb_state){1, 0x00, 3, 0x5A, 2, 0, 0x10}, (tb_bus){0, 1, 0, 0, 0, 0x10}); }
-static void ready_reset(void) { ready_same_cycle((tb_state){1, 0xB0, 0, 0, 0, 0, 0}, (tb_bus){0, 0, 0, 0, 12000, 0}); }
+static void ready_idle(void) { ready_same_cycle(resting, (tb_bus)IDLE(12000)); }
+static void ready_command(void) { ready_same_cycle(resting, (tb_bus)W(0, 0x70)); }
+static void ready_suspend(void) { ready_same_cycle(busy(TB_ERASING, 3, 0x3A00), (tb_bus)W(0, 0xB0)); }
+static void ready_held(void) {
+    tb_state s = busy(TB_SUSPENDING, 3, 0x3A00);
+    s.suspend = 1;
+    ready_same_cycle(s, (tb_bus)R(0x3A00));
+}
+static void ready_resume(void) {
+    tb_state s = busy(TB_SUSPENDED, 3, 0x3A00);
+    s.status = 0xC0;
+    ready_same_cycle(s, (tb_bus)W(0, 0xD0));
+}
+static void ready_fall(void) {
+    tb_state s = busy(TB_PROGRAMMING, 2, 0x10);
+    s.data = 0x5A;
+    ready_same_cycle(s, (tb_bus){.kind = 0, .rp = 1, .address = 0x10});
+}
+static void ready_reset(void) {
+    ready_same_cycle((tb_state){.mode = TB_MODE_STATUS, .status = 0xB0}, (tb_bus)DOWN(0));
+}
 static void work_same_cycle(const maker *m) {
     for (int t = 0; t < TURNS; t++)
         at.answer = m->cycle(at.device, at.state, same, at.array, 16384, at.residue, 8192);
 }
 
-/* A load of block 1 or 0 of bench T: 512 or 1,024 bytes. */
-static uint32_t first_of(void) { return size == 512 ? 0x3A00 : 0x3C00; }
-static void ready_full(void) {
-    part(3, 2, 3);
+/* The same on a 28F200BR-T in word mode, at 5 V. */
+#define AT_5V(k, a, b) {.kind = k, .rp = 1, .data = b, .vpp_mv = 5000, .address = a}
+static void ready_words(tb_state state, tb_bus cycle) {
+    part(TB_28F200BR_T, 1, 2, 3);
+    at.state = state;
+    same = cycle;
+}
+static void ready_word_read(void) { ready_words(resting, (tb_bus)AT_5V(0, 0x1234, 0)); }
+static void ready_word_command(void) { ready_words(resting, (tb_bus)AT_5V(1, 0, 0x70)); }
+static void ready_word_end(void) {
+    tb_state s = busy(TB_PROGRAMMING, 1, 0x1D000);
+    s.data = 0x5AC3;
+    ready_words(s, (tb_bus)AT_5V(0, 0x1D000, 0));
+}
+static void ready_word_erase(void) { ready_words(busy(TB_ERASING, 1, 0x1D000), (tb_bus)AT_5V(0, 0, 0)); }
+static void work_words(const maker *m) {
+    for (int t = 0; t < TURNS; t++)
+        at.answer = m->cycle(at.device, at.state, same, at.array, 262144, NULL, 0);
+}
+
+/* A load of block 1 or 0 of bench T: 512 or 1,024 bytes; or of block 1 of a 28F200BR-T in words, 8,192 bytes. */
+static uint32_t first_of(void) { return size == 512 ? 0x3A00 : size == 1024 ? 0x3C00 : 0x3A000; }
+static void fill_full(void) {
     memset(at.array + first_of(), 0, size);
     for (size_t i = 0; i < size; i++)
         at.wanted[i] = speck(i) & 0x7F;
+}
+static void ready_full(void) {
+    part(3, 0, 2, 3);
+    fill_full();
+}
+static void ready_full_words(void) {
+    part(TB_28F200BR_T, 1, 2, 3);
+    fill_full();
 }
 static void ready_same(void) {
     ready_full();
     memcpy(at.array + first_of(), at.wanted, size);
 }
+static void ready_same_words(void) {
+    ready_full_words();
+    memcpy(at.array + first_of(), at.wanted, size);
+}
 static void work_run(const maker *m) {
-    at.ran = m->run(at.device, at.state, 2, 12000, size == 512 ? 1 : 0, at.array, 16384, at.wanted, size, at.scratch, size);
+    at.ran = m->run(at.device, at.state, 2, 0, 12000, size == 512 ? 1 : 0, at.array, 16384, at.wanted, size, at.scratch, size);
+}
+static void work_run_words(const maker *m) {
+    at.ran = m->run(at.device, at.state, 1, 0, 5000, 1, at.array, 262144, at.wanted, size, at.scratch, size);
 }
 
 /* The verify alone, of block 1 without 12 V. */
 static void work_verify(const maker *m) {
-    at.ran = m->verify(at.device, at.state, 1, 0, 1, at.array, 16384, at.wanted, size, at.scratch, size);
+    at.ran = m->verify(at.device, at.state, 1, 0, 0, 1, at.array, 16384, at.wanted, size, at.scratch, size);
+}
+static void work_verify_words(const maker *m) {
+    at.ran = m->verify(at.device, at.state, 1, 0, 0, 1, at.array, 262144, at.wanted, size, at.scratch, size);
 }
 
 /* The same load by hand: what a part would answer to each of its cycles is worked out before. */
-enum { STEPS = 2 + 512 + 3 + 3 * 512 + 1 + 512 };
-static uint8_t fed[STEPS];
-static void ready_steps(void) {
-    ready_full();
-    at.given = c_start(3, 1, 12000, 1, at.wanted, size, at.scratch, size);
+#define STEPS_OF(n) (2 + (n) + 3 + 3 * (n) + 1 + (n))
+enum { STEPS = STEPS_OF(512), WORD_STEPS = STEPS_OF(4096) };
+static uint16_t fed[WORD_STEPS];
+static void feed(tb_device device, size_t bytes, size_t steps) {
+    at.given = c_start(device.number, device.word, 1, 0, 12000, 1, at.wanted, size, at.scratch, size);
     tb_state state = at.state;
     tb_turn turn = at.given.turn;
     tb_loader loader = at.given.loader;
-    for (size_t i = 0; i < STEPS; i++) {
-        tb_answer a = c_cycle((tb_device){3, 1, 1, 1}, state, turn.cycle, at.array, 16384, NULL, 0);
+    for (size_t i = 0; i < steps; i++) {
+        tb_answer a = c_cycle(device, state, turn.cycle, at.array, bytes, NULL, 0);
         state = a.state;
         fed[i] = a.value;
         turn = c_step(&loader, a.value, at.wanted, size, at.scratch, size);
     }
     memset(at.scratch, 0, sizeof at.scratch);
 }
+static void ready_steps(void) {
+    ready_full();
+    feed((tb_device){TB_BENCH_T, 0, 1, 1, 1}, 16384, STEPS);
+}
+static void ready_word_steps(void) {
+    ready_full_words();
+    feed((tb_device){TB_28F200BR_T, 1, 1, 1, 1}, 262144, WORD_STEPS);
+}
 static void work_start(const maker *m) {
     for (int t = 0; t < TURNS; t++)
-        at.given = m->start(3, 1, 12000, 1, at.wanted, size, at.scratch, size);
+        at.given = m->start(3, 0, 1, 0, 12000, 1, at.wanted, size, at.scratch, size);
 }
-static void work_steps(const maker *m) {
-    for (size_t i = 0; i < STEPS; i++)
+static void steps(const maker *m, size_t n) {
+    for (size_t i = 0; i < n; i++)
         at.given.turn = m->step(&at.given.loader, fed[i], at.wanted, size, at.scratch, size);
 }
+static void work_steps(const maker *m) { steps(m, STEPS); }
+static void work_word_steps(const maker *m) { steps(m, WORD_STEPS); }
 
 static void ready_nothing(void) {}
 static void work_fresh(const maker *m) {
@@ -213,7 +283,7 @@ static void ready_load(void) {
     ready_file();
 }
 static void work_load(const maker *m) {
-    at.ran = m->load(at.device, at.state, 1, 12000, 1, 'K', at.file, 512, at.array, 16384, at.wanted, 512, at.scratch, 512);
+    at.ran = m->load(at.device, at.state, 1, 0, 12000, 1, 'K', at.file, 512, at.array, 16384, at.wanted, 512, at.scratch, 512);
 }
 static void work_write(const maker *m) {
     for (int t = 0; t < TURNS; t++)
@@ -271,16 +341,24 @@ static const struct {
     {"model: D0H while suspended", 0, TURNS, ready_resume, work_same_cycle, NULL},
     {"model: a program cut by VPP", 0, TURNS, ready_fall, work_same_cycle, NULL},
     {"model: a reset by RP# low", 0, TURNS, ready_reset, work_same_cycle, NULL},
+    {"words: an array read", 0, TURNS, ready_word_read, work_words, NULL},
+    {"words: a write, 70H", 0, TURNS, ready_word_command, work_words, NULL},
+    {"words: a program's end", 0, TURNS, ready_word_end, work_words, NULL},
+    {"words: an erase's end, 8,192 bytes", 0, TURNS, ready_word_erase, work_words, NULL},
     {"fresh", 0, TURNS, ready_nothing, work_fresh, NULL},
     {"size of a part", 0, TURNS, ready_nothing, work_size, NULL},
     {"block of a part", 0, TURNS, ready_nothing, work_block, NULL},
     {"loader: a start", 512, TURNS, ready_full, work_start, NULL},
     {"loader: a load of 512 bytes, per step", 512, STEPS, ready_steps, work_steps, NULL},
+    {"words: a load of 4,096, per step", 8192, WORD_STEPS, ready_word_steps, work_word_steps, NULL},
     {"run: 512 bytes, one erase, all programmed", 512, 1, ready_full, work_run, NULL},
     {"run: 1,024 bytes, one erase, all programmed", 1024, 1, ready_full, work_run, NULL},
     {"run: 512 bytes held as wanted", 512, 1, ready_same, work_run, NULL},
     {"run: 1,024 bytes held as wanted", 1024, 1, ready_same, work_run, NULL},
     {"verify: 512 bytes held as wanted", 512, 1, ready_same, work_verify, NULL},
+    {"words: a run of 4,096, one erase, all programmed", 8192, 1, ready_full_words, work_run_words, NULL},
+    {"words: a run of 4,096 held as wanted", 8192, 1, ready_same_words, work_run_words, NULL},
+    {"words: a verify of 4,096 held as wanted", 8192, 1, ready_same_words, work_verify_words, NULL},
     {"load from a file of one block", 505, 1, ready_load, work_load, NULL},
     {"writer: one block", 505, TURNS, ready_file, work_write, NULL},
     {"writer: eight blocks", 4040, TURNS, ready_file, work_write, NULL},
@@ -299,13 +377,13 @@ static const struct {
 /* A number over everything that the work left. Structs have padding, so it goes field by field. */
 static uint64_t more(uint64_t h, uint64_t x) { return (h ^ x) * 0x100000001B3u + (x >> 32); }
 static uint64_t with_state(uint64_t h, tb_state s) {
-    return more(more(more(more(more(more(more(h, s.mode), s.status), s.phase), s.byte), s.left), s.suspend), s.address);
+    return more(more(more(more(more(more(more(h, s.mode), s.status), s.phase), s.data), s.left), s.suspend), s.address);
 }
 static uint64_t with_given(uint64_t h, tb_given g) {
     tb_bus c = g.turn.cycle;
     tb_loader l = g.loader;
-    const uint64_t all[] = {g.turn.turn, g.turn.number, g.turn.address, c.kind, c.rp, c.oe, c.byte, c.vpp_mv, c.address,
-                            l.part, l.rp, l.block, l.stage, l.end, l.vpp_mv, l.polls, l.place};
+    const uint64_t all[] = {g.turn.turn, g.turn.number, g.turn.address, c.kind, c.rp, c.oe, c.wp, c.data, c.vpp_mv,
+                            c.address, l.part, l.word, l.rp, l.wp, l.block, l.stage, l.end, l.verify, l.high, l.vpp_mv, l.polls, l.place};
     for (size_t i = 0; i < sizeof all / sizeof all[0]; i++)
         h = more(h, all[i]);
     return h;

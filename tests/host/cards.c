@@ -165,6 +165,11 @@ static bool wide_all(size_t first, size_t n, uint8_t byte) {
     return true;
 }
 
+/* A read gives this data, or is refused 9. */
+static bool gives(bool code, uint16_t data) {
+    return code ? last.seen == TB_DATA && last.value == data : last.seen == TB_REFUSED && last.value == 9;
+}
+
 /* Identifiers of the sheet's table 5: by word, and by byte with A-1 ignored. */
 static void identifiers(void) {
     static const uint16_t code[] = {0x2274, 0x2275, 0x4470, 0x4471};
@@ -173,13 +178,13 @@ static void identifiers(void) {
         wide_cycle(TB_CYCLE_WRITE, 1, 5000, 0, 0xA590);
         for (uint32_t a = 0; a < 3; a++) {
             wide_cycle(TB_CYCLE_READ, 1, 5000, a, 0);
-            card(101, a < 2 ? last.seen == TB_DATA && last.value == (a ? code[k] : 0x0089) : last.seen == TB_REFUSED && last.value == 9);
+            card(101, gives(a < 2, a == 0 ? 0x0089 : code[k]));
         }
         wide_fresh((uint8_t)(5 + k), 0, 0x00);
         wide_cycle(TB_CYCLE_WRITE, 1, 5000, 0, 0x90);
         for (uint32_t a = 0; a < 5; a++) {
             wide_cycle(TB_CYCLE_READ, 1, 5000, a, 0);
-            card(102, a < 4 ? last.seen == TB_DATA && last.value == (a < 2 ? 0x89 : code[k] % 256) : last.seen == TB_REFUSED && last.value == 9);
+            card(102, gives(a < 4, a < 2 ? 0x89 : code[k] % 256));
         }
     }
 }
@@ -215,7 +220,8 @@ static void words(void) {
     wide_fresh(5, 1, 0xFF);
     wide_operate(0xFF10, 0x5AC3, 0x1D001, 1, 5000, 1);
     wide_cycle(TB_CYCLE_READ, 1, 12000, 0x1D001, 0);
-    card(106, last.value == 0x0080 && wide[0x3A002] == 0xC3 && wide[0x3A003] == 0x5A && wide_all(0, 0x3A002, 0xFF) && wide_all(0x3A004, 0x5FFC, 0xFF));
+    card(106, last.value == 0x0080 && wide[0x3A002] == 0xC3 && wide[0x3A003] == 0x5A);
+    card(106, wide_all(0, 0x3A002, 0xFF) && wide_all(0x3A004, 0x5FFC, 0xFF));
     wide_cycle(TB_CYCLE_WRITE, 1, 0, 0, 0x77FF);
     wide_cycle(TB_CYCLE_READ, 1, 0, 0x1D001, 0);
     card(106, last.value == 0x5AC3);

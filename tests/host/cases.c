@@ -213,7 +213,8 @@ tb_state some_state(tb_device d) {
     case 7: s.status = (uint8_t)any32(); break;
     case 8: s.suspend = (uint8_t)ONE_OF(0, 1, d.suspend, d.suspend + 1, any32()); break;
     default:
-        s = (tb_state){(uint8_t)any32(), (uint8_t)any32(), (uint8_t)any32(), (uint8_t)any32(), (uint16_t)any32(), (uint16_t)any32(), any32()};
+        s = (tb_state){(uint8_t)any32(),  (uint8_t)any32(),  (uint8_t)any32(), (uint8_t)any32(),
+                       (uint16_t)any32(), (uint16_t)any32(), any32()};
     }
     return s;
 }

@@ -27,7 +27,9 @@ uint8_t *lib_of(twin *); /* what is handed over: sometimes null where the length
 uint8_t *ref_of(twin *);
 
 /* The account. A call is compared by its answer and by every byte that it was lent. */
-enum { IN_CYCLE, IN_START, IN_STEP, IN_RUN, IN_LOAD_RUN, IN_VERIFY_RUN, IN_LOAD, IN_VERIFY_FILE, IN_WRITE, IN_READ, IN_TABLE, IN_READING, GROUPS };
+enum {
+    IN_CYCLE, IN_START, IN_STEP, IN_RUN, IN_LOAD_RUN, IN_VERIFY_RUN, IN_LOAD, IN_VERIFY_FILE, IN_WRITE, IN_READ, IN_TABLE, IN_READING, GROUPS
+};
 enum { ON_DEVICES = IN_VERIFY_FILE + 1 }; /* the groups before this are about a device */
 void met(int group, uint8_t number);
 void met_on(int group, uint8_t part, uint8_t word, uint8_t number, bool refused); /* of a call about a device */

@@ -51,7 +51,7 @@ tb_answer c_cycle(tb_device d, tb_state s, tb_bus b, uint8_t *array, size_t n, c
             touch(&c, d.word, CUT, &s);
         return (tb_answer){TB_NO_DATA, 0, fresh};
     }
-    number = passed(&c, d.word, &s, &b, &value);
+    number = d.word ? passed(&c, true, &s, &b, &value) : passed(&c, false, &s, &b, &value);
     if (number != TB_OK)
         return (tb_answer){TB_REFUSED, number, s};
     return (tb_answer){b.kind == TB_CYCLE_READ ? TB_DATA : TB_NO_DATA, value, s};

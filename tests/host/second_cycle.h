@@ -121,13 +121,13 @@ static inline uint8_t identified(const part_rules *p, bool word, uint32_t addres
 static inline uint8_t respond(const second_chip *c, bool word, const tb_state *s, uint32_t address, uint16_t *value) {
     if (s->mode == TB_MODE_STATUS) {
         *value = SLIP(41) && word ? s->status << 8 | s->status : s->status;
-        return TB_OK;
-    }
-    if (s->mode == TB_MODE_IDENTIFIER)
+    } else if (s->mode == TB_MODE_ARRAY) {
+        if (s->phase == TB_SUSPENDED && holds(c->part, block_at(c->part, looked_up(s->address, word)), looked_up(address, word)))
+            return TB_SUSPENDED_READ;
+        *value = unit_of(c->array, address, word);
+    } else {
         return identified(c->part, word, address, value);
-    if (s->phase == TB_SUSPENDED && holds(c->part, block_at(c->part, looked_up(s->address, word)), looked_up(address, word)))
-        return TB_SUSPENDED_READ;
-    *value = unit_of(c->array, address, word);
+    }
     return TB_OK;
 }
 
@@ -217,6 +217,8 @@ static inline uint8_t written(const second_chip *c, bool word, tb_state *s, cons
 
 /* A cycle with RP# not low that refusals 1 to 6 let pass: 0, and a read's unit in *value; or 7 to 9, and all is as it was. */
 static inline uint8_t passed(const second_chip *c, bool word, tb_state *s, const tb_bus *b, uint16_t *value) {
+    if (!pending(s->phase) && b->kind == TB_CYCLE_READ)
+        return respond(c, word, s, b->address, value); /* it changes nothing */
     tb_state before = *s;
     effect what = pending(s->phase) ? settle(c->part, s, b->vpp_mv) : STAYS;
     uint8_t number = TB_OK;

@@ -12,23 +12,18 @@ typedef struct {
     uint64_t count;
 } bench;
 
-/* A block on the bench: its first address, in units; wanted and scratch; and its bytes. */
-typedef struct {
-    uint32_t first;
-    const uint8_t *wanted;
-    uint8_t *scratch;
-    size_t bytes;
-} job;
+/* The compiler is told to lay these two into the loops: of itself it calls them. */
+#define LAID_IN __attribute__((always_inline)) static inline
 
-static inline void give(bench *b, bool word, uint32_t address, uint16_t data) {
-    tb_bus bus = {TB_CYCLE_WRITE, b->rp, TB_OE_NORMAL, b->wp, data, b->vpp, address};
+LAID_IN void give(bench *b, bool word, uint32_t address, uint16_t data) {
+    tb_bus bus = {TB_CYCLE_WRITE, b->rp, TB_OE_NORMAL, SLIP(50) ? 0 : b->wp, data, b->vpp, address};
     uint16_t none;
     passed(&b->chip, word, &b->state, &bus, &none);
     b->count++;
 }
 
-static inline uint16_t take(bench *b, bool word, uint32_t address) {
-    tb_bus bus = {TB_CYCLE_READ, b->rp, TB_OE_NORMAL, b->wp, 0, b->vpp, address};
+LAID_IN uint16_t take(bench *b, bool word, uint32_t address) {
+    tb_bus bus = {TB_CYCLE_READ, b->rp, TB_OE_NORMAL, SLIP(50) ? 0 : b->wp, 0, b->vpp, address};
     uint16_t unit = 0;
     passed(&b->chip, word, &b->state, &bus, &unit);
     b->count++;
@@ -45,53 +40,50 @@ static inline uint8_t waited(bench *b, bool word, uint32_t address, bool erase) 
     return TB_NEVER_READY;
 }
 
-/* Programs the units that differ: 0 or the number that ends the load. */
-static inline uint8_t program(bench *b, bool word, const job *j) {
-    size_t n = j->bytes >> word;
-    for (size_t i = 0; (i = unit_differs(i, word, j->wanted, j->scratch, j->bytes)) < n; i++) {
-        uint32_t here = j->first + (uint32_t)i;
-        uint16_t unit = unit_of(j->wanted, i, word);
+/* Programs the units that differ: 0 or the number that ends the load. `first` and places count units, n bytes; so below. */
+static inline uint8_t program(bench *b, bool word, uint32_t first, const uint8_t *wanted, uint8_t *scratch, size_t n) {
+    for (size_t i = 0; (i = unit_differs(i, word, wanted, scratch, n)) < n >> word; i++) {
+        uint32_t here = first + (uint32_t)i;
+        uint16_t unit = unit_of(wanted, i, word);
         give(b, word, here, 0x40);
         give(b, word, here, unit);
         if (SLIP(22))
-            put_unit(j->scratch, i, unit, word);
+            put_unit(scratch, i, unit, word);
         uint8_t end = waited(b, word, here, false);
         if (end != TB_OK)
             return end;
-        put_unit(j->scratch, i, unit, word);
+        put_unit(scratch, i, unit, word);
     }
     return TB_OK;
 }
 
 /* The load: its end. */
-static inline uint8_t load(bench *b, bool word, const job *j) {
-    size_t n = j->bytes >> word;
-    give(b, word, j->first, 0x50);
-    give(b, word, j->first, 0xFF);
-    for (size_t i = 0; i < n; i++)
-        put_unit(j->scratch, i, take(b, word, j->first + (uint32_t)i), word);
-    if (SLIP(35))
-        b->count += j->bytes - n;
-    if (must_erase(j->wanted, j->scratch, j->bytes)) {
-        give(b, word, j->first, 0x20);
-        give(b, word, j->first, 0xD0);
-        uint8_t end = waited(b, word, j->first, true);
+static inline uint8_t load(bench *b, bool word, uint32_t first, const uint8_t *wanted, uint8_t *scratch, size_t n) {
+    give(b, word, first, 0x50);
+    give(b, word, first, 0xFF);
+    for (size_t i = 0; i < n >> word; i++)
+        put_unit(scratch, i, take(b, word, first + (uint32_t)i), word);
+    if (SLIP(35) && word)
+        b->count += n / 2;
+    if (must_erase(wanted, scratch, n)) {
+        give(b, word, first, 0x20);
+        give(b, word, first, 0xD0);
+        uint8_t end = waited(b, word, first, true);
         if (end != TB_OK)
             return end;
-        memset(j->scratch, 0xFF, j->bytes);
+        memset(scratch, 0xFF, n);
     }
-    return program(b, word, j);
+    return program(b, word, first, wanted, scratch, n);
 }
 
 /* The verify: its end, and for 25 the byte address. */
-static inline uint8_t verify(bench *b, bool word, const job *j, uint32_t *address) {
-    size_t n = (j->bytes >> word) - (SLIP(24) ? 1 : 0);
-    give(b, word, j->first, 0xFF);
-    for (size_t i = 0; i < n; i++) {
-        uint16_t unit = take(b, word, j->first + (uint32_t)i), want = unit_of(j->wanted, i, word);
-        put_unit(j->scratch, i, unit, word);
+static inline uint8_t verify(bench *b, bool word, uint32_t first, const uint8_t *wanted, uint8_t *scratch, size_t n, uint32_t *address) {
+    give(b, word, first, 0xFF);
+    for (size_t i = 0; i < (n >> word) - (SLIP(24) ? 1 : 0); i++) {
+        uint16_t unit = take(b, word, first + (uint32_t)i), want = unit_of(wanted, i, word);
+        put_unit(scratch, i, unit, word);
         if (unlike(unit, want)) {
-            *address = told((SLIP(26) ? 0 : j->first) + (uint32_t)i, word, high_differs(unit, want));
+            *address = told((SLIP(26) ? 0 : first) + (uint32_t)i, word, high_differs(unit, want));
             return TB_VERIFY_FAILED;
         }
     }
@@ -101,16 +93,13 @@ static inline uint8_t verify(bench *b, bool word, const job *j, uint32_t *addres
 /* What is run: the load and, where it ended well, the verify; or one of the two. */
 typedef enum { BOTH, LOAD, VERIFY } work;
 
-static inline uint8_t drive(bench *b, bool word, work what, const job *j, uint32_t *address) {
-    uint8_t end = what == VERIFY ? TB_OK : load(b, word, j);
+static inline uint8_t drive(bench *b, bool word, work what, uint32_t first, const uint8_t *wanted, uint8_t *scratch, size_t n,
+                            uint32_t *address) {
+    uint8_t end = what == VERIFY ? TB_OK : load(b, word, first, wanted, scratch, n);
     if ((end != TB_OK && !SLIP(23)) || (what == LOAD && !SLIP(25)))
         return end;
-    return verify(b, word, j, address);
+    return verify(b, word, first, wanted, scratch, n, address);
 }
-
-/* A run of bytes and a run of words, each with its own loops. */
-static uint8_t drive_bytes(bench *b, work what, const job *j, uint32_t *address) { return drive(b, false, what, j, address); }
-static uint8_t drive_words(bench *b, work what, const job *j, uint32_t *address) { return drive(b, true, what, j, address); }
 
 /* What a run is handed beside the lent memory. */
 typedef struct {
@@ -136,12 +125,13 @@ static uint8_t refused(const order *o, size_t array, size_t wanted, size_t scrat
     return number != TB_OK ? number : o->state.phase != TB_FREE ? TB_UNDER_WAY : TB_OK;
 }
 
+/* A loop of words and a loop of bytes behind one test. */
 static tb_ran ran(work what, const order *o, uint8_t *array, const uint8_t *wanted, uint8_t *scratch, size_t n) {
     const part_rules *p = &second_parts[o->device.number];
     bench b = {{p, o->device, array, NULL}, o->state, o->rp, o->wp, o->vpp, 0};
-    job j = {p->block[o->block].first >> o->device.word, wanted, scratch, n};
-    uint32_t address = 0;
-    uint8_t end = (o->device.word ? drive_words : drive_bytes)(&b, what, &j, &address);
+    uint32_t address = 0, first = p->block[o->block].first;
+    uint8_t end = o->device.word ? drive(&b, true, what, first >> 1, wanted, scratch, n, &address)
+                                 : drive(&b, false, what, first, wanted, scratch, n, &address);
     return (tb_ran){b.count, end, address, b.state};
 }
 

@@ -47,7 +47,9 @@ static void start(void) { loader = tb_start(device.number, device.word, 1, 0, 12
 static void step(void) { bus = tb_step(&loader, value, wanted, block, scratch, block).cycle; }
 static void run(void) { state = tb_run(device, tb_fresh(), 1, 0, 12000, 1, array, size, wanted, block, scratch, block).state; }
 static void load_run(void) { state = tb_load_run(device, tb_fresh(), 1, 0, 12000, 1, array, size, wanted, block, scratch, block).state; }
-static void verify_run(void) { state = tb_verify_run(device, tb_fresh(), 1, 0, 12000, 1, array, size, wanted, block, scratch, block).state; }
+static void verify_run(void) {
+    state = tb_verify_run(device, tb_fresh(), 1, 0, 12000, 1, array, size, wanted, block, scratch, block).state;
+}
 static void verify_file(void) {
     state = tb_verify_file(device, tb_fresh(), 1, 0, 12000, 1, 'K', file, 512, array, size, wanted, block, scratch, block).state;
 }

@@ -10,8 +10,8 @@ static uint16_t value; /* what was read */
 static uint32_t blank; /* how many of a hundred units of a fed block are blank */
 
 static void tell_loader(const char *who, tb_loader l) {
-    printf("  %s: part %u, word mode %u, RP# %u, WP# %u, VPP %lu, block %u, stage %u, end %u, verify %u, high %u, polls %lu, place %zu\n", who,
-           l.part, l.word, l.rp, l.wp, (unsigned long)l.vpp_mv, l.block, l.stage, l.end, l.verify, l.high, (unsigned long)l.polls, l.place);
+    printf("  %s: part %u, word mode %u, RP# %u, WP# %u, VPP %lu, block %u", who, l.part, l.word, l.rp, l.wp, (unsigned long)l.vpp_mv, l.block);
+    printf(", stage %u, end %u, verify %u, high %u, polls %lu, place %zu\n", l.stage, l.end, l.verify, l.high, (unsigned long)l.polls, l.place);
 }
 
 static void tell_turn(const char *who, tb_turn t) {
@@ -46,8 +46,10 @@ static start_call *const ref_starts[] = {c_start, c_load_start, c_verify_start};
 static void compare_start(uint32_t what) {
     twin *lent[] = {&wanted, &scratch};
     tb_loader l = before;
-    tb_given a = lib_starts[what](l.part, l.word, l.rp, l.wp, l.vpp_mv, l.block, lib_of(&wanted), wanted.length, lib_of(&scratch), scratch.length);
-    tb_given b = ref_starts[what](l.part, l.word, l.rp, l.wp, l.vpp_mv, l.block, ref_of(&wanted), wanted.length, ref_of(&scratch), scratch.length);
+    tb_given a = lib_starts[what](l.part, l.word, l.rp, l.wp, l.vpp_mv, l.block, lib_of(&wanted), wanted.length, lib_of(&scratch),
+                                  scratch.length);
+    tb_given b = ref_starts[what](l.part, l.word, l.rp, l.wp, l.vpp_mv, l.block, ref_of(&wanted), wanted.length, ref_of(&scratch),
+                                  scratch.length);
     lib = a.turn, lib_record = a.loader;
     ref = b.turn, ref_record = b.loader;
     alike(same_turn() && same_record(lib_record, ref_record), "start", lent, 2);
