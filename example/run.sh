@@ -1,11 +1,13 @@
 #!/usr/bin/env bash
-# Builds and runs the example: a table goes into a load file and from there into a simulated part.
+# Builds and runs the examples: a table goes into a load file and from there into a simulated part, in bytes and in words.
 set -eu
 here=$(dirname -- "$(readlink -f -- "$0")")
 # shellcheck source=tests/host/tools.sh
 . "$here/../tests/host/tools.sh"
 archive
 compiler
-$CC -std=c11 -O2 -Wall -Wextra -Werror -static -I "$inc" "$here/table.c" "$lib" -o "$out/table" ||
-    fail 3 "the example could not be built"
-$RUN "$out/table"
+for name in table word; do
+    $CC -std=c11 -O2 -Wall -Wextra -Werror -static -I "$inc" "$here/$name.c" "$lib" -o "$out/$name" ||
+        fail 3 "the example $name could not be built"
+    $RUN "$out/$name" || fail 1 "the example $name ended with a wrong answer"
+done
