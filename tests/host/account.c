@@ -18,6 +18,8 @@ void met_on(int group, uint8_t part, uint8_t word, uint8_t number, bool refused)
         worded[group][number]++;
     if (!refused)
         devices[group][part][word]++;
+    mark_if(number == TB_NO_DEVICE && word > TB_WORD_MODE, NO_MODE);
+    mark_if(number == TB_NO_DEVICE && word == TB_WORD_MODE && part >= 1 && part <= 4, NO_WORDS);
 }
 void met_phase(uint8_t phase, bool word) { phases[word][phase]++; }
 void met_stage(uint8_t stage, bool word) { stages[word][stage]++; }
@@ -25,7 +27,7 @@ void met_vpp(uint32_t vpp) {
     for (int i = 0; i < EDGES; i++)
         edges[i] += vpp == vpp_edges[i];
 }
-void mark(int which) { marks[which]++; }
+void mark_if(bool seen, int which) { marks[which] += seen; }
 void count_block(void) { all_blocks++; }
 void count_cycle(void) { all_cycles++; }
 void count_load(void) { all_loads++; }
@@ -69,11 +71,30 @@ static const struct {
 };
 
 static const char *const mark_names[MARKS] = {
-    [CUT_WORD] = "a word's program cut", [CUT_ERASE] = "an erase cut, word mode", [BAND_CHANGE] = "a change of high band",
-    [TEN] = "10H", [HIGH_COMMAND] = "a command with a high byte", [HIGH_DATA] = "a word of data", [ODD_RESIDUE] = "an odd residue",
-    [LOW_DIFFERS] = "25 at a low byte", [HIGH_DIFFERS] = "25 at a high byte", [CODE_BY_WORD] = "a code, word mode",
-    [CODE_BY_BYTE] = "a code, byte mode", [BYTE_HIGH_DATA] = "a high byte in byte mode",
-    [UNLOCKED_BY_WP] = "boot unlocked by WP#", [LOCKED_BY_WP] = "boot locked by WP#",
+    [CUT_WORD] = "a word's program cut",
+    [CUT_ERASE] = "an erase cut in word mode",
+    [BAND_CHANGE] = "a change of high band in word mode",
+    [TEN] = "10H",
+    [HIGH_COMMAND] = "a command with a high byte in word mode",
+    [HIGH_DATA] = "a word of data",
+    [BYTE_HIGH_DATA] = "a high byte of data in byte mode",
+    [CODE_BY_WORD] = "a code in word mode",
+    [CODE_BY_BYTE] = "a code in byte mode on 5 to 8",
+    [UNLOCKED_BY_WP] = "the boot block unlocked by WP#",
+    [LOCKED_BY_WP] = "the boot block locked by WP#",
+    [WP_REFUSED] = "a wrong WP# on 5 to 8",
+    [WP_IGNORED] = "a wrong WP# on 1 to 4",
+    [NO_MODE] = "a mode that is none",
+    [NO_WORDS] = "word mode on 1 to 4",
+    [ODD_ARRAY] = "an odd array in word mode",
+    [ODD_RESIDUE] = "an odd residue in word mode",
+    [ODD_WANTED] = "an odd wanted in word mode",
+    [ODD_SCRATCH] = "an odd scratch in word mode",
+    [LOADED_AT_5V] = "a load at 5 V in word mode",
+    [LOADED_AT_12V] = "a load at 12 V in word mode",
+    [BOOT_LOADED_BY_WP] = "a boot block loaded by WP#",
+    [LOW_DIFFERS] = "25 at a low byte",
+    [HIGH_DIFFERS] = "25 at a high byte",
 };
 
 static int missing;

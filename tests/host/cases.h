@@ -28,7 +28,8 @@ uint8_t *ref_of(twin *);
 
 /* The account. A call is compared by its answer and by every byte that it was lent. */
 enum {
-    IN_CYCLE, IN_START, IN_STEP, IN_RUN, IN_LOAD_RUN, IN_VERIFY_RUN, IN_LOAD, IN_VERIFY_FILE, IN_WRITE, IN_READ, IN_TABLE, IN_READING, GROUPS
+    IN_CYCLE, IN_START, IN_STEP, IN_RUN, IN_LOAD_RUN, IN_VERIFY_RUN, IN_LOAD, IN_VERIFY_FILE,
+    IN_WRITE, IN_READ, IN_TABLE, IN_READING, GROUPS
 };
 enum { ON_DEVICES = IN_VERIFY_FILE + 1 }; /* the groups before this are about a device */
 void met(int group, uint8_t number);
@@ -37,12 +38,13 @@ void met_phase(uint8_t phase, bool word);
 void met_stage(uint8_t stage, bool word);
 void met_vpp(uint32_t vpp); /* on devices 5 to 8 */
 
-/* What else must be met, all in word mode but for the last four. */
+/* What else must be met; account.c has their names. */
 enum {
-    CUT_WORD, CUT_ERASE, BAND_CHANGE, TEN, HIGH_COMMAND, HIGH_DATA, ODD_RESIDUE, LOW_DIFFERS, HIGH_DIFFERS, CODE_BY_WORD,
-    CODE_BY_BYTE, BYTE_HIGH_DATA, UNLOCKED_BY_WP, LOCKED_BY_WP, MARKS
+    CUT_WORD, CUT_ERASE, BAND_CHANGE, TEN, HIGH_COMMAND, HIGH_DATA, BYTE_HIGH_DATA, CODE_BY_WORD, CODE_BY_BYTE,
+    UNLOCKED_BY_WP, LOCKED_BY_WP, WP_REFUSED, WP_IGNORED, NO_MODE, NO_WORDS, ODD_ARRAY, ODD_RESIDUE, ODD_WANTED, ODD_SCRATCH,
+    LOADED_AT_5V, LOADED_AT_12V, BOOT_LOADED_BY_WP, LOW_DIFFERS, HIGH_DIFFERS, MARKS
 };
-void mark(int which);
+void mark_if(bool seen, int which);
 
 void count_block(void); /* of a part */
 void count_cycle(void);

@@ -26,48 +26,43 @@ static bool running(uint8_t phase) { return phase >= TB_PROGRAMMING; }
 /* What a cycle that was let pass showed of devices 5 to 8. */
 static void mark_cycle(void) {
     bool word = device.word == TB_WORD_MODE, write = bus.kind == TB_CYCLE_WRITE && bus.rp != TB_RP_LOW;
-    bool awaited = before.phase == TB_ERASE_AWAITED || before.phase == TB_DATA_AWAITED;
-    if (write && before.phase == TB_FREE) {
-        if ((bus.data & 0xFF) == 0x10)
-            mark(TEN);
-        if (bus.data > 0xFF && word)
-            mark(HIGH_COMMAND);
-    }
-    if (running(ref.state.phase) && before.phase == TB_DATA_AWAITED && bus.data > 0xFF)
-        mark(word ? HIGH_DATA : BYTE_HIGH_DATA);
-    if (write && awaited && bus.rp == TB_RP_HIGH && bus.vpp_mv > 4000 && (before.status & TB_SR_VPP_LOW) == 0) {
-        tb_span boot = c_block(device.number, 0);
-        if (((size_t)bus.address << word) - boot.first < boot.length && (before.phase == TB_DATA_AWAITED || (bus.data & 0xFF) == 0xD0))
-            mark(bus.wp ? UNLOCKED_BY_WP : LOCKED_BY_WP);
-    }
-    if (bus.kind == TB_CYCLE_READ && before.mode == TB_MODE_IDENTIFIER && ref.seen == TB_DATA && bus.address > 0)
-        mark(word ? CODE_BY_WORD : CODE_BY_BYTE);
+    bool data = before.phase == TB_DATA_AWAITED, second = data || (before.phase == TB_ERASE_AWAITED && (bus.data & 0xFF) == 0xD0);
+    tb_span boot = c_block(device.number, 0);
+    bool in_boot = ((size_t)bus.address << word) - boot.first < boot.length;
+    bool lock = write && second && in_boot && bus.rp == TB_RP_HIGH && bus.vpp_mv > 4000 && (before.status & TB_SR_VPP_LOW) == 0;
+    bool code = bus.kind == TB_CYCLE_READ && before.mode == TB_MODE_IDENTIFIER && ref.seen == TB_DATA && bus.address > 0;
+    mark_if(write && before.phase == TB_FREE && (bus.data & 0xFF) == 0x10, TEN);
+    mark_if(write && before.phase == TB_FREE && bus.data > 0xFF && word, HIGH_COMMAND);
+    mark_if(running(ref.state.phase) && data && bus.data > 0xFF, word ? HIGH_DATA : BYTE_HIGH_DATA);
+    mark_if(lock, bus.wp ? UNLOCKED_BY_WP : LOCKED_BY_WP);
+    mark_if(code, word ? CODE_BY_WORD : CODE_BY_BYTE);
 }
 
-/* What it showed of an operation: cut, by RP# or by VPP, or carried over from one high band to the other. */
+/* What it showed of an operation in word mode: cut, by RP# or by VPP, or carried over from one high band to the other. */
 static void mark_operation(void) {
     bool cut = bus.rp == TB_RP_LOW || bus.vpp_mv <= TB_VPP_BR_LOW_MOST_MV;
+    bool other_band = walked_at > TB_VPP_BR_LOW_MOST_MV && (walked_at > TB_VPP_BR_5V_MOST_MV) != (bus.vpp_mv > TB_VPP_BR_5V_MOST_MV);
     if (!running(before.phase))
         return;
-    if (cut && residue.length % 2 == 1)
-        mark(ODD_RESIDUE);
-    if (cut)
-        mark(before.phase == TB_PROGRAMMING ? CUT_WORD : CUT_ERASE);
-    else if (walked_at > TB_VPP_BR_LOW_MOST_MV && (walked_at > 6000) != (bus.vpp_mv > 6000))
-        mark(BAND_CHANGE);
+    mark_if(cut && residue.length % 2 == 1, ODD_RESIDUE);
+    mark_if(cut, before.phase == TB_PROGRAMMING ? CUT_WORD : CUT_ERASE);
+    mark_if(!cut && other_band, BAND_CHANGE);
 }
 
 static void account(void) {
-    bool refused = ref.seen == TB_REFUSED;
+    bool refused = ref.seen == TB_REFUSED, br = two_widths(device.number), word = real_mode(device.number, device.word);
     met_on(IN_CYCLE, device.number, device.word, (uint8_t)(refused ? ref.value : 0), refused);
-    if (two_widths(device.number))
+    mark_if(refused && ref.value == TB_WRONG_ARRAY && word && array.length % 2 == 1, ODD_ARRAY);
+    mark_if(refused && ref.value == TB_BAD_LEVEL && br && bus.wp > TB_WP_HIGH, WP_REFUSED);
+    mark_if(!refused && !br && bus.wp > TB_WP_HIGH, WP_IGNORED);
+    if (br)
         met_vpp(bus.vpp_mv);
     if (refused)
         return;
-    met_phase(before.phase, device.word);
-    if (two_widths(device.number))
+    met_phase(before.phase, word);
+    if (br)
         mark_cycle();
-    if (device.word == TB_WORD_MODE)
+    if (word)
         mark_operation();
 }
 

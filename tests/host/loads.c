@@ -38,9 +38,16 @@ typedef tb_ran file_call(tb_device, tb_state, uint8_t, uint8_t, uint32_t, uint8_
                          uint8_t *, size_t, uint8_t *, size_t);
 
 static void account(int group) {
+    bool word = real_mode(device.number, device.word);
+    bool well = ref.end == TB_OK && ref.count > wanted.length + 3; /* more than the words read twice: something was erased or programmed */
     met_on(group, device.number, device.word, ref.end, ref.count == 0);
-    if (real_mode(device.number, device.word) && ref.end == TB_VERIFY_FAILED)
-        mark(ref.address % 2 ? HIGH_DIFFERS : LOW_DIFFERS);
+    if (!word)
+        return;
+    mark_if(ref.end == TB_WRONG_LENGTH && wanted.length % 2 == 1, ODD_WANTED);
+    mark_if(ref.end == TB_WRONG_LENGTH && scratch.length % 2 == 1, ODD_SCRATCH);
+    mark_if(well, vpp > TB_VPP_BR_5V_MOST_MV ? LOADED_AT_12V : LOADED_AT_5V);
+    mark_if(well && block == 0 && rp == TB_RP_HIGH && wp == TB_WP_HIGH, BOOT_LOADED_BY_WP);
+    mark_if(ref.end == TB_VERIFY_FAILED, ref.address % 2 ? HIGH_DIFFERS : LOW_DIFFERS);
 }
 
 /* A run, a load alone or a verify alone. */

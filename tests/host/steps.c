@@ -10,8 +10,10 @@ static uint16_t value; /* what was read */
 static uint32_t blank; /* how many of a hundred units of a fed block are blank */
 
 static void tell_loader(const char *who, tb_loader l) {
-    printf("  %s: part %u, word mode %u, RP# %u, WP# %u, VPP %lu, block %u", who, l.part, l.word, l.rp, l.wp, (unsigned long)l.vpp_mv, l.block);
-    printf(", stage %u, end %u, verify %u, high %u, polls %lu, place %zu\n", l.stage, l.end, l.verify, l.high, (unsigned long)l.polls, l.place);
+    printf("  %s: part %u, word mode %u, RP# %u, WP# %u, VPP %lu, block %u", who, l.part, l.word, l.rp, l.wp, (unsigned long)l.vpp_mv,
+           l.block);
+    printf(", stage %u, end %u, verify %u, high %u, polls %lu, place %zu\n", l.stage, l.end, l.verify, l.high,
+           (unsigned long)l.polls, l.place);
 }
 
 static void tell_turn(const char *who, tb_turn t) {
@@ -63,8 +65,8 @@ static void account(void) {
         met_on(IN_STEP, before.part, before.word, ref.number, ref.turn == TB_BARRED);
     if (ref.turn != TB_BARRED)
         met_stage(before.stage, word);
-    if (word && before.stage == TB_VERIFYING && ref.turn == TB_OVER && ref.number == TB_VERIFY_FAILED)
-        mark(ref.address % 2 ? HIGH_DIFFERS : LOW_DIFFERS);
+    mark_if(word && before.stage == TB_VERIFYING && ref.turn == TB_OVER && ref.number == TB_VERIFY_FAILED,
+            ref.address % 2 ? HIGH_DIFFERS : LOW_DIFFERS);
 }
 
 static void compare_step(void) {
