@@ -37,6 +37,9 @@ static inline uint8_t refused(const tb_device *d, const tb_state *s, const tb_bu
     return residue_short(p, d, s, b, residue) ? TB_SHORT_RESIDUE : TB_OK;
 }
 
+APART uint8_t passed_bytes(const second_chip *c, tb_state *s, const tb_bus *b, uint16_t *value) { return passed(c, false, s, b, value); }
+APART uint8_t passed_words(const second_chip *c, tb_state *s, const tb_bus *b, uint16_t *value) { return passed(c, true, s, b, value); }
+
 tb_answer c_cycle(tb_device d, tb_state s, tb_bus b, uint8_t *array, size_t n, const uint8_t *residue, size_t m) {
     uint16_t value = 0;
     uint8_t number = refused(&d, &s, &b, n, m);
@@ -51,7 +54,7 @@ tb_answer c_cycle(tb_device d, tb_state s, tb_bus b, uint8_t *array, size_t n, c
             touch(&c, d.word, CUT, &s);
         return (tb_answer){TB_NO_DATA, 0, fresh};
     }
-    number = d.word ? passed(&c, true, &s, &b, &value) : passed(&c, false, &s, &b, &value);
+    number = d.word ? passed_words(&c, &s, &b, &value) : passed_bytes(&c, &s, &b, &value);
     if (number != TB_OK)
         return (tb_answer){TB_REFUSED, number, s};
     return (tb_answer){b.kind == TB_CYCLE_READ ? TB_DATA : TB_NO_DATA, value, s};

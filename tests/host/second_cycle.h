@@ -8,6 +8,10 @@
 
 #include "second_parts.h"
 
+/* The compiler is told to lay these into a run's loops, and not to lay a whole cycle into c_cycle twice: of itself it does neither well. */
+#define LAID_IN __attribute__((always_inline)) static inline
+#define APART __attribute__((noinline)) static
+
 enum { SR7 = TB_SR_READY, SR6 = TB_SR_SUSPENDED, SR5 = TB_SR_ERASE_ERROR, SR4 = TB_SR_PROGRAM_ERROR, SR3 = TB_SR_VPP_LOW };
 
 /* The device's numbers, its part and the memory that a cycle works on. */
@@ -215,17 +219,20 @@ static inline uint8_t written(const second_chip *c, bool word, tb_state *s, cons
     return TB_OK; /* a program ignores all writes, and so does a suspend under way: 70H finds its mode set */
 }
 
-/* A cycle with RP# not low that refusals 1 to 6 let pass: 0, and a read's unit in *value; or 7 to 9, and all is as it was. */
-static inline uint8_t passed(const second_chip *c, bool word, tb_state *s, const tb_bus *b, uint16_t *value) {
-    if (!pending(s->phase) && b->kind == TB_CYCLE_READ)
-        return respond(c, word, s, b->address, value); /* it changes nothing */
-    tb_state before = *s;
-    effect what = pending(s->phase) ? settle(c->part, s, b->vpp_mv) : STAYS;
-    uint8_t number = TB_OK;
+/* Step 4: 0, and a read's unit in *value; or 7 to 9, and *s is as it was. */
+LAID_IN uint8_t asked(const second_chip *c, bool word, tb_state *s, const tb_bus *b, uint16_t *value) {
     if (b->kind == TB_CYCLE_READ)
-        number = respond(c, word, s, b->address, value);
-    else if (b->kind == TB_CYCLE_WRITE)
-        number = written(c, word, s, b);
+        return respond(c, word, s, b->address, value);
+    return b->kind == TB_CYCLE_WRITE ? written(c, word, s, b) : TB_OK;
+}
+
+/* A cycle with RP# not low that refusals 1 to 6 let pass: 0, and a read's unit in *value; or 7 to 9, and all is as it was. */
+LAID_IN uint8_t passed(const second_chip *c, bool word, tb_state *s, const tb_bus *b, uint16_t *value) {
+    if (!pending(s->phase))
+        return asked(c, word, s, b, value);
+    tb_state before = *s;
+    effect what = settle(c->part, s, b->vpp_mv);
+    uint8_t number = asked(c, word, s, b, value);
     if (number != TB_OK)
         *s = before;
     else if (what != STAYS)

@@ -12,9 +12,6 @@ typedef struct {
     uint64_t count;
 } bench;
 
-/* The compiler is told to lay these two into the loops: of itself it calls them. */
-#define LAID_IN __attribute__((always_inline)) static inline
-
 LAID_IN void give(bench *b, bool word, uint32_t address, uint16_t data) {
     tb_bus bus = {TB_CYCLE_WRITE, b->rp, TB_OE_NORMAL, SLIP(50) ? 0 : b->wp, data, b->vpp, address};
     uint16_t none;
