@@ -55,7 +55,7 @@ static inline void rest(tb_state *s) {
 /* What becomes of the array: nothing, or an operation that ended or was cut does its work. */
 typedef enum { STAYS, FINISHED, CUT } effect;
 
-/* A program of `unit` over the cell at that place. */
+/* A program ends, or is cut, over the unit at that address. */
 static inline void store(const second_chip *c, bool word, effect what, uint32_t unit, uint16_t data) {
     uint16_t r = what == CUT ? unit_of(c->residue, 0, word) : 0, old = unit_of(c->array, unit, word);
     if (SLIP(33) && word)
