@@ -39,7 +39,7 @@ resting d s u bl ba =
     let e : s .phase ≡ Free = free-phase (s .phase) u in
     let l : s .left ≡ 0 = none-left d (s .left) (subst (λ (x : Phase). badLeft d x (s .left) ≡ false) e bl) in
     let r : s .address ≡ 0 = none-at d (s .address) (subst (λ (x : Phase). badAddress d x (s .address) ≡ false) e ba) in
-    λ i. record { mode = s .mode; status = s .status; phase = e i; left = l i; address = r i }
+    λ i. record { mode = s .mode; status = s .status; phase = e i; left = l i; address = r i; wear = s .wear }
 
 -- so a proper state that is not under way is at rest
 pub proper-rests : (d : Device) (s : State) → improper d s ≡ false → underWay (s .phase) ≡ false → s ≡ atRest s (s .mode) (s .status)

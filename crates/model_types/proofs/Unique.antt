@@ -9,9 +9,11 @@ use Rattle.device.specs.declared.Device.{Device}
 use Rattle.model_types.specs.declared.Pins.{Pins}
 use Rattle.model_types.specs.declared.Cycle.{Cycle}
 use Rattle.model_types.specs.declared.State.{State}
+use Rattle.model_types.specs.declared.Wear.{Wear}
 use Rattle.model_types.specs.declared.Mode.{Mode}
 use Rattle.model_types.specs.declared.Phase.{Phase}
 use Rattle.model_types.specs.Cells.{ones}
+use Rattle.model_types.specs.Counts.{unworn, worn}
 use Rattle.model_types.specs.Levels.{rpLow, vppLow, vppHigh, badPins, badLevels, unlocked, locked}
 use Rattle.model_types.specs.States.{isArray, isIdentifier, improper, atRest, inPhase, freshState, resetOf}
 use Rattle.model_types.specs.Phases.{isBusy, isSuspending, suspendLeft, isPending}
@@ -72,3 +74,9 @@ fresh-unique = only freshState
 
 pub reset-unique : (s : State) → Unique (λ (r : State). r ≡ resetOf s)
 reset-unique s = only (resetOf s)
+
+pub unworn-unique : Unique (λ (r : Wear). r ≡ unworn)
+unworn-unique = only unworn
+
+pub wear-out-unique : (w : Wear) (k : ℕ) → Unique (λ (r : Wear). r ≡ worn w k)
+wear-out-unique w k = only (worn w k)

@@ -12,6 +12,7 @@ use Rattle.model_types.specs.declared.Phase.the-variants.{Free, EraseAwa
 use Rattle.model_types.specs.declared.State.{State}
 use Rattle.model_types.specs.Phases.{isAwaited, isBusy, isSuspending, suspendLeft, isSuspended, isPending}
 use Rattle.model_types.specs.Status.{SR7, SR6, SR3}
+use Rattle.model_types.specs.Counts.{unworn}
 
 -- a read gives the array's byte
 abbrev pub isArray : Mode → Bool
@@ -87,17 +88,17 @@ proper d s =
 unfoldable pub improper : Device → State → Bool
 improper d s = not (proper d s)
 
--- a state come to rest: nothing awaited, running or suspended, with a mode and a status
+-- a state come to rest: nothing awaited, running or suspended, with a mode and a status; the counts of erases stay
 abbrev pub atRest : State → Mode → ℕ → State
-atRest s m sr = record { mode = m; status = sr; phase = Free; left = 0; address = 0 }
+atRest s m sr = record { mode = m; status = sr; phase = Free; left = 0; address = 0; wear = s .wear }
 
--- a state in another phase and status, mode read status; cycles to go and address stay
+-- a state in another phase and status, mode read status; cycles to go, address and counts of erases stay
 abbrev pub inPhase : Phase → ℕ → State → State
-inPhase ph sr s = record { mode = Status; status = sr; phase = ph; left = s .left; address = s .address }
+inPhase ph sr s = record { mode = Status; status = sr; phase = ph; left = s .left; address = s .address; wear = s .wear }
 
--- a fresh device: read array, 80H, nothing carried
+-- a fresh device: read array, 80H, nothing carried, no erase begun
 abbrev pub freshState : State
-freshState = record { mode = Array; status = SR7; phase = Free; left = 0; address = 0 }
+freshState = record { mode = Array; status = SR7; phase = Free; left = 0; address = 0; wear = unworn }
 
 -- what RP# low makes of a state
 abbrev pub resetOf : State → State

@@ -1,6 +1,7 @@
 // The values that the rules of a bus cycle are about: cycles, levels, states, effects and replies; when levels are bad and
 // when a state is proper.
 pub mod blank;
+pub mod counts;
 pub mod levels;
 pub mod states;
 
@@ -48,13 +49,25 @@ pub enum Phase {
     Suspended,
 }
 
-// The device's state: `left` cycles to go and the operation's `address`, both zero without an operation.
+// For each block, the erases begun; a count stops at 4,294,967,295.
+pub struct Wear {
+    pub block0: u32,
+    pub block1: u32,
+    pub block2: u32,
+    pub block3: u32,
+    pub block4: u32,
+    pub block5: u32,
+    pub block6: u32,
+}
+
+// The device's state: `left` cycles to go and the operation's `address`, both zero without an operation; the counts of erases.
 pub struct State {
     pub mode: Mode,
     pub status: u8,
     pub phase: Phase,
     pub left: u16,
     pub address: u32,
+    pub wear: Wear,
 }
 
 // What a cycle does to the array: a program or an erase ends, or is cut.

@@ -2,6 +2,7 @@
 use crate::Mode;
 use crate::Phase;
 use crate::State;
+use crate::counts::unworn;
 use device::Device;
 ghost use mathlib.Core.Path.{_≡_};
 ghost use Rattle.model_types.specs.States.{mostLeft, isArray, isStatus, isIdentifier, improper, atRest, inPhase, freshState, resetOf};
@@ -199,16 +200,18 @@ pub fn improper(d: Device, s: State) -> bool
         | bad_address(d, ph, s.address)
 }
 
-// A state come to rest: nothing awaited, running or suspended.
+// A state come to rest: nothing awaited, running or suspended; the counts of erases stay.
 pub fn at_rest(s: State, m: Mode, status: u8) -> State
     ensures { λ r. ⌜ r ≡ atRest s m status ⌝ }
 {
+    let w = s.wear;
     State {
         mode: m,
         status: status,
         phase: Phase::Free,
         left: 0,
         address: 0,
+        wear: w,
     }
 }
 
@@ -216,12 +219,14 @@ pub fn at_rest(s: State, m: Mode, status: u8) -> State
 pub fn in_phase(ph: Phase, status: u8, s: State) -> State
     ensures { λ r. ⌜ r ≡ inPhase ph status s ⌝ }
 {
+    let w = s.wear;
     State {
         mode: Mode::Status,
         status: status,
         phase: ph,
         left: s.left,
         address: s.address,
+        wear: w,
     }
 }
 
@@ -235,6 +240,7 @@ pub fn fresh() -> State
         phase: Phase::Free,
         left: 0,
         address: 0,
+        wear: unworn(),
     }
 }
 
