@@ -4,7 +4,7 @@ use Prim.Native.Nat.{ℕ, _+_, _%_}
 use lib.Dec.{eqb}
 use Rattle.common.specs.Choice.{if_then_else_}
 use Rattle.units.specs.Units.{carried}
-use Rattle.device.specs.Parts.{isLarge}
+use Rattle.device.specs.Parts.{isLarge, blockOf}
 use Rattle.device.specs.declared.Part.{Part}
 use Rattle.device.specs.declared.Device.{Device}
 use Rattle.model_types.specs.declared.Mode.{Mode}
@@ -14,7 +14,9 @@ use Rattle.model_types.specs.declared.Phase.the-variants.{Free, EraseAwaited, D
 use Rattle.model_types.specs.declared.Action.{Action}
 use Rattle.model_types.specs.declared.Action.the-variants.{ToArray, ToIdentifier, ToStatus, Clear, AwaitErase, AwaitData, Confirm, Store, WrongSecond, Suspend, Resume, Ignore, Refuse}
 use Rattle.model_types.specs.declared.State.{State}
+use Rattle.model_types.specs.declared.Wear.{Wear}
 use Rattle.model_types.specs.declared.Cycle.{Cycle}
+use Rattle.model_types.specs.Counts.{worn}
 use Rattle.model_types.specs.Levels.{vppLow, locked}
 use Rattle.model_types.specs.Status.{SR7, SR6, SR5, SR4, SR3, withBits, withoutBits, isSet}
 use Rattle.model_types.specs.States.{atRest, inPhase}
@@ -91,23 +93,34 @@ isRefuse Refuse = true
 
 -- the state in another mode
 abbrev pub inMode : Mode → State → State
-inMode m s = record { mode = m; status = s .status; phase = s .phase; left = s .left; address = s .address }
+inMode m s = record { mode = m; status = s .status; phase = s .phase; left = s .left; address = s .address; wear = s .wear }
 
 -- the state with another status
 abbrev pub withStatus : ℕ → State → State
-withStatus sr s = record { mode = s .mode; status = sr; phase = s .phase; left = s .left; address = s .address }
+withStatus sr s = record { mode = s .mode; status = sr; phase = s .phase; left = s .left; address = s .address; wear = s .wear }
 
 -- VPP is low at this cycle, or SR.3 is still set
 unfoldable pub unsupplied : Part → Cycle → State → Bool
 unsupplied part c s = vppLow part (c .pins) || isSet (s .status) SR3
 
+-- the counts after an operation starts at this cycle's address: an erase counts at its block, a program does not count
+abbrev pub wearBy : Phase → Part → Cycle → Wear → Wear
+wearBy Free part c w = w
+wearBy EraseAwaited part c w = w
+wearBy DataAwaited part c w = w
+wearBy (Programming b) part c w = w
+wearBy Erasing part c w = worn w (blockOf part (c .address))
+wearBy (Suspending n) part c w = w
+wearBy Suspended part c w = w
+
 -- a confirm or data: unsupplied sets SR.3 and the operation's error bit, locked the error bit (where both apply, the bits are
--- those of the first); otherwise the operation starts at this cycle's address with its busy time to go and SR.7 clear
+-- those of the first); otherwise the operation starts at this cycle's address with its busy time to go and SR.7 clear,
+-- and an erase is counted
 unfoldable pub startedOf : Part → Cycle → State → Phase → ℕ → ℕ → State
 startedOf part c s ph time bit =
     if unsupplied part c s then atRest s (s .mode) (withBits (withBits (s .status) SR3) bit)
     else if locked part c then atRest s (s .mode) (withBits (s .status) bit)
-    else record { mode = s .mode; status = withoutBits (s .status) SR7; phase = ph; left = time; address = c .address }
+    else record { mode = s .mode; status = withoutBits (s .status) SR7; phase = ph; left = time; address = c .address; wear = wearBy ph part c (s .wear) }
 
 -- what an action makes of the state; a suspend takes S cycles, of which this is none
 abbrev pub performedOf : Action → Device → Cycle → State → State

@@ -6,6 +6,8 @@ use model_types::Cycle;
 use model_types::Mode;
 use model_types::Phase;
 use model_types::State;
+use model_types::Wear;
+use model_types::counts::wear_out;
 use model_types::levels::locked;
 use model_types::levels::vpp_low;
 use model_types::states::SR3;
@@ -18,7 +20,7 @@ use model_types::states::in_phase;
 ghost use mathlib.Core.Path.{_≡_};
 ghost use Rattle.model_types.specs.Status.{SR4};
 ghost use Rattle.model_types.specs.declared.Phase.the-variants.{Programming};
-ghost use Rattle.model_commands.specs.Commands.{commandOf, dataOf, asksProgram, firstWrite, afterErase, whileErasing, whileSuspending, whileSuspended, actionOf, isRefuse, inMode, withStatus, unsupplied, startedOf, performedOf};
+ghost use Rattle.model_commands.specs.Commands.{commandOf, dataOf, asksProgram, firstWrite, afterErase, whileErasing, whileSuspending, whileSuspended, actionOf, isRefuse, inMode, withStatus, unsupplied, wearBy, startedOf, performedOf};
 
 // What is set by a wrong second write.
 const ERRORS: u8 = SR5 + SR4;
@@ -160,12 +162,14 @@ fn in_mode(m: Mode, s: State) -> State
     ensures { λ r. ⌜ r ≡ inMode m s ⌝ }
 {
     let ph = s.phase;
+    let w = s.wear;
     State {
         mode: m,
         status: s.status,
         phase: ph,
         left: s.left,
         address: s.address,
+        wear: w,
     }
 }
 
@@ -174,12 +178,14 @@ fn with_status(status: u8, s: State) -> State
 {
     let m = s.mode;
     let ph = s.phase;
+    let w = s.wear;
     State {
         mode: m,
         status: status,
         phase: ph,
         left: s.left,
         address: s.address,
+        wear: w,
     }
 }
 
@@ -188,6 +194,21 @@ fn unsupplied(part: Part, c: Cycle, s: State) -> bool
 {
     let p = c.pins;
     vpp_low(part, p) | !(s.status / SR3 % 2 == 0)
+}
+
+// The counts after an operation starts at this cycle's address: an erase counts at its block.
+fn wear_of(ph: Phase, part: Part, c: Cycle, w: Wear) -> Wear
+    ensures { λ r. ⌜ r ≡ wearBy ph part c w ⌝ }
+{
+    match ph {
+        Phase::Free => w,
+        Phase::EraseAwaited => w,
+        Phase::DataAwaited => w,
+        Phase::Programming(_) => w,
+        Phase::Erasing => wear_out(w, device::block_of(part, c.address)),
+        Phase::Suspending(_) => w,
+        Phase::Suspended => w,
+    }
 }
 
 // A confirm or data: the operation starts, or the error bits say why not.
@@ -201,12 +222,14 @@ fn begin(part: Part, c: Cycle, s: State, ph: Phase, time: u16, bit: u8) -> State
     if locked(part, c) {
         return at_rest(s, m, s.status | bit);
     }
+    let w = s.wear;
     State {
         mode: m,
         status: s.status & BUSY,
         phase: ph,
         left: time,
         address: c.address,
+        wear: wear_of(ph, part, c, w),
     }
 }
 
