@@ -74,7 +74,7 @@ cutBy part s = settledAs (atRest s Status (withBits (withoutBits (s .status) SR6
 unfoldable pub countedOff : Part → State → Settled
 countedOff part s =
     if eqb (s .left - 1) 0 then settledAs (atRest s (s .mode) (withBits (s .status) SR7)) (finishOf (s .phase) part (s .address))
-    else settledAs (record { mode = s .mode; status = s .status; phase = s .phase; left = s .left - 1; address = s .address }) Nothing
+    else settledAs (record { mode = s .mode; status = s .status; phase = s .phase; left = s .left - 1; address = s .address; wear = s .wear }) Nothing
 
 -- step 3 while a suspend is under way: the erase stands still and one cycle of the suspend passes; on the last SR.7 and SR.6 are set
 unfoldable pub suspendPassed : State → Settled

@@ -121,6 +121,7 @@ fn counted_off(part: Part, s: State) -> Settled
             effect: end(ph, part, s.address),
         };
     }
+    let w = s.wear;
     Settled {
         state: State {
             mode: m,
@@ -128,6 +129,7 @@ fn counted_off(part: Part, s: State) -> Settled
             phase: ph,
             left: s.left - 1,
             address: s.address,
+            wear: w,
         },
         effect: Effect::Nothing,
     }

@@ -15,12 +15,12 @@ returns : tie.Need-returns
 unfolding countedOff
 returns c = simp (c .end .ensures, c .before .at-rest .ensures, last-one _ (c .before .before .before .if1 .taken))
 
-sub-t9 : tie.Need-sub-t9
-sub-t9 c = search needs
+sub-t10 : tie.Need-sub-t10
+sub-t10 c = search needs
 
 returns-2 : tie.Need-returns-2
 unfolding countedOff
-returns-2 c = simp (one-more _ (c .before .if1 .left))
+returns-2 c = simp (one-more _ (c .before .before .if1 .left))
 
 pub counted-off-spec : {M : Type 1} → statement M
-counted-off-spec = tie.close (tie.spec at-rest-requires end-requires returns sub-t9 returns-2)
+counted-off-spec = tie.close (tie.spec at-rest-requires end-requires returns sub-t10 returns-2)
