@@ -29,10 +29,11 @@ use Rattle.model.specs.declared.Seen.the-variants.{Data, Refused}
 use Rattle.model.specs.Arrays.{erased, residual, arrayOf, Accepted, answerOf, arrayAfter, bytesAfter}
 use Rattle.model.specs.Inner.{answerJudged, arrayJudged}
 use Rattle.model.specs.Words.{bothProgrammed, narrow}
-use Rattle.model.specs.Begun.{operationOf, pendingOf, startsOf, begunBy, begunFrom}
+use Rattle.model.specs.Begun.{operationOf, pendingOf, startsOf, begunBy, begunFrom, wearAfter}
 use Rattle.model_types.specs.Phases.{isBusy, isAwaited}
 use Rattle.model.proofs.Keeping as keeping
 use Rattle.model.proofs.Lives as lives
+use Rattle.model.proofs.Worn as worn
 use Rattle.model.proofs.Contents as contents
 use Rattle.model.proofs.Table as table
 use Rattle.model.proofs.Passing as passing
@@ -169,6 +170,11 @@ begun-from = lives.begun-from
 pub conserved : (f : Effect → ℕ) → f Nothing ≡ 0 → (d : Device) (s : State) (c : Cycle) (n r : ℕ)
     → f (operationOf (decideOf d s c n r .effect)) + f (pendingOf (d .part) (decideOf d s c n r .state)) ≡ f (begunBy d s c n r) + f (pendingOf (d .part) s)
 conserved = lives.conserved
+
+-- Wear: the counts after a cycle are those before it with one more where it begins an erase; nothing else moves them, no reset, no
+-- cut, no resume, no refusal.
+pub wear-after : (d : Device) (s : State) (c : Cycle) (n r : ℕ) → decideOf d s c n r .state .wear ≡ wearAfter d s c n r
+wear-after = worn.wear-after
 
 -- Where refusals 1 to 6 do not apply, `after_judging` gives the cycle's answer ..
 pub judged-answer : (d : Device) (s : State) (c : Cycle) (xs rs : List ℕ) → judgeOf d s c (length xs) (length rs) ≡ 0 → answerJudged d s c xs rs ≡ answerOf d s c xs rs

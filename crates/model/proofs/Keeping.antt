@@ -34,7 +34,7 @@ use Rattle.model.proofs.Status.{fits, kept, status-fits, fits-status}
 
 -- a state written out, from one whose other parts it keeps
 abbrev pub st : State → Mode → ℕ → Phase → ℕ → ℕ → State
-st s m x ph l a = record { mode = m; status = x; phase = ph; left = l; address = a }
+st s m x ph l a = record { mode = m; status = x; phase = ph; left = l; address = a; wear = s .wear }
 
 -- at rest with a ready status is proper, whatever the mode
 pub rest-proper : (d : Device) (s : State) (m : Mode) (x : ℕ) → fits 2 x ≡ true → Proper d (atRest s m x)
@@ -167,7 +167,8 @@ started-proper : (d : Device) (c : Cycle) (s : State) (ph : Phase) (time bit : �
 unfolding startedOf
 started-proper d c s ph time bit low lock run =
     if-ind (λ (u : State). Proper d u) (unsupplied (d .part) c s) _ _ (λ e. rest-proper d s (s .mode) (bitOr (bitOr (s .status) 0x08) bit) low)
-    (λ e. if-ind (λ (u : State). Proper d u) (locked (d .part) c) _ _ (λ l. rest-proper d s (s .mode) (bitOr (s .status) bit) lock) (λ l. run))
+    (λ e. if-ind (λ (u : State). Proper d u) (locked (d .part) c) _ _ (λ l. rest-proper d s (s .mode) (bitOr (s .status) bit) lock)
+    (λ l. record { mode = run .mode; status = run .status; left = run .left; address = run .address }))
 
 full : (most : ℕ) → (most ≡ 0 → ⊥) → (eqb most 0 || ltb most most) ≡ false
 full most z = or-both (eqb most 0) (ltb most most) (ne-eqb most 0 z) (le-ltb most most (omega arith))

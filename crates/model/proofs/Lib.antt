@@ -5,6 +5,7 @@ pub mod Passing
 pub mod Status
 pub mod Keeping
 pub mod Lives
+pub mod Worn
 pub mod Contents
 pub mod Table
 pub mod Borders

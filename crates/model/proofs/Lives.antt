@@ -91,7 +91,7 @@ settle-awaited part s c e h = simp (h, still (s .phase) e .0, still (s .phase) e
     go false = refl
 
 -- settling awaits nothing new
-settle-unawaited : (part : Part) (s : State) (c : Cycle) → isAwaited (s .phase) ≡ false → isAwaited (settleOf part s (c .pins) .state .phase) ≡ false
+pub settle-unawaited : (part : Part) (s : State) (c : Cycle) → isAwaited (s .phase) ≡ false → isAwaited (settleOf part s (c .pins) .state .phase) ≡ false
 unfolding settleOf cutBy passedOf suspendPassed countedOff
 settle-unawaited part s c e =
     if-ind In (rpLow (c .pins)) _ _ (λ x. refl)
@@ -255,7 +255,7 @@ starts-from d s c = go (isAwaited (s .phase)) refl (rpLow (c .pins)) refl
     go true e false h = rw (accept-up d c (settleOf part s (c .pins)) h, settle-awaited part s c e h) (kinds (c .kind) refl e h)
 
 -- nothing begins from a state to itself
-begun-still : (part : Part) (s : State) → begunFrom part s s ≡ Nothing
+pub begun-still : (part : Part) (s : State) → begunFrom part s s ≡ Nothing
 begun-still part s = go (isAwaited (s .phase)) refl
   where
     go : (b : Bool) → isAwaited (s .phase) ≡ b → begunFrom part s s ≡ Nothing
@@ -273,7 +273,7 @@ begun-from d s c n r = go (eqb (numberOf d s c n r) 0) refl
     go false e = rw (e, refused d s c n r (numberOf d s c n r) refl (eqb-false _ _ e)) (sym (begun-still (d .part) s))
 
 -- settling with RP# low resets
-settle-low : (part : Part) (s : State) (c : Cycle) → rpLow (c .pins) ≡ true → settleOf part s (c .pins) .state ≡ resetOf s
+pub settle-low : (part : Part) (s : State) (c : Cycle) → rpLow (c .pins) ≡ true → settleOf part s (c .pins) .state ≡ resetOf s
 unfolding settleOf
 settle-low part s c h = simp h
 

@@ -11,7 +11,9 @@ use Rattle.model_types.specs.declared.Phase.the-variants.{Free, EraseAwaited, D
 use Rattle.model_types.specs.declared.Effect.{Effect}
 use Rattle.model_types.specs.declared.Effect.the-variants.{Nothing, Program, Erase, CutProgram, CutErase}
 use Rattle.model_types.specs.declared.State.{State}
+use Rattle.model_types.specs.declared.Wear.{Wear}
 use Rattle.model_types.specs.declared.Cycle.{Cycle}
+use Rattle.model_types.specs.Counts.{wornBy}
 use Rattle.model_types.specs.Kinds.{isWrite}
 use Rattle.model_types.specs.Levels.{rpLow, locked}
 use Rattle.model_types.specs.Phases.{isAwaited}
@@ -64,3 +66,7 @@ begunBy d s c array residue = if eqb (numberOf d s c array residue) 0 then start
 -- the same told by the states before and after: a second write was awaited, and this is pending now
 abbrev pub begunFrom : Part → State → State → Effect
 begunFrom part s t = if isAwaited (s .phase) then pendingOf part t else Nothing
+
+-- the counts of erases after a cycle: one more at the block of an erase that the cycle begins
+abbrev pub wearAfter : Device → State → Cycle → ℕ → ℕ → Wear
+wearAfter d s c array residue = wornBy (begunBy d s c array residue) (s .wear)
