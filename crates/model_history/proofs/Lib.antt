@@ -1,1 +1,3 @@
 pub mod Wearing
+pub mod Counting
+pub mod Claims
