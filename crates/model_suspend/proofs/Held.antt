@@ -16,6 +16,7 @@ use Rattle.model_types.specs.declared.Kind.{Kind}
 use Rattle.model_types.specs.declared.Kind.the-variants.{Read, Write, Idle}
 use Rattle.model_types.specs.declared.Cycle.{Cycle}
 use Rattle.model_types.specs.declared.State.{State}
+use Rattle.model_types.specs.declared.Wear.{Wear}
 use Rattle.model_types.specs.declared.Mode.{Mode}
 use Rattle.model_types.specs.declared.Mode.the-variants.{Status}
 use Rattle.model_types.specs.declared.Phase.{Phase}
@@ -47,8 +48,8 @@ use Rattle.model_history.specs.History.{Bus, World, worldOf, stepped, worldAfte
 use Rattle.model_suspend.specs.Suspends.{isSuspend, isResume, Unfinished, Smooth, heldStatus, shownAs, shownAll, Suspends}
 
 -- an erase in mode status
-abbrev pub at : ℕ → Phase → ℕ → ℕ → State
-at sr ph l a = record { mode = Status; status = sr; phase = ph; left = l; address = a }
+abbrev pub at : Wear → ℕ → Phase → ℕ → ℕ → State
+at wr sr ph l a = record { mode = Status; status = sr; phase = ph; left = l; address = a; wear = wr }
 
 -- the cut of what is pending is a cut
 cut-cuts : (ph : Phase) (part : Part) (a : ℕ) → isPending ph ≡ true → isCut (cutOf ph part a) ≡ true
@@ -103,80 +104,81 @@ replyAs sr Write = Quiet
 replyAs sr Idle = Quiet
 
 -- ---- the cycle of B0H counts off the erase, and the suspend begins
-begins : (d : Device) (c : Cycle) (n r sr l a : ℕ) (m : Mode) → isSuspend c ≡ true → 1 < l
-    → let s : State = record { mode = m; status = sr; phase = Erasing; left = l; address = a } in
+begins : (wr : Wear) (d : Device) (c : Cycle) (n r sr l a : ℕ) (m : Mode) → isSuspend c ≡ true → 1 < l
+    → let s : State = record { mode = m; status = sr; phase = Erasing; left = l; address = a; wear = wr } in
     isRefusal (decideOf d s c n r .reply) ≡ false → isCut (decideOf d s c n r .effect) ≡ false
-    → decideOf d s c n r ≡ decidedAs Quiet (at sr (Suspending (d .suspend)) (l - 1) a) Nothing
+    → decideOf d s c n r ≡ decidedAs Quiet (at wr sr (Suspending (d .suspend)) (l - 1) a) Nothing
 unfolding passedOf countedOff whileErasing
-begins d c n r sr l a m b more fine whole =
-    let s : State = record { mode = m; status = sr; phase = Erasing; left = l; address = a } in
+begins wr d c n r sr l a m b more fine whole =
+    let s : State = record { mode = m; status = sr; phase = Erasing; left = l; address = a; wear = wr } in
     let k : eqb (commandOf c) 0xB0 ≡ true = and-right (isWrite (c .kind)) (eqb (commandOf c) 0xB0) b in
-    let e : passedOf (d .part) s ≡ settledAs (record { mode = m; status = sr; phase = Erasing; left = l - 1; address = a }) Nothing =
+    let e : passedOf (d .part) s ≡ settledAs (record { mode = m; status = sr; phase = Erasing; left = l - 1; address = a; wear = wr }) Nothing =
     if-false (eqb (l - 1) 0) _ _ (ne-eqb (l - 1) 0 (λ z. omega arith)) in
     passes d s c n r refl fine whole refl ∙ ap (λ (t : Settled). respondOf (c .kind) d c t) e ∙ go (c .kind) (and-left (isWrite (c .kind)) (eqb (commandOf c) 0xB0) b) k
   where
     go : (kind : Kind) → isWrite kind ≡ true → eqb (commandOf c) 0xB0 ≡ true
-        → respondOf kind d c (settledAs (record { mode = m; status = sr; phase = Erasing; left = l - 1; address = a }) Nothing)
-        ≡ decidedAs Quiet (at sr (Suspending (d .suspend)) (l - 1) a) Nothing
+        → respondOf kind d c (settledAs (record { mode = m; status = sr; phase = Erasing; left = l - 1; address = a; wear = wr }) Nothing)
+        ≡ decidedAs Quiet (at wr sr (Suspending (d .suspend)) (l - 1) a) Nothing
     go Read w k = absurd (unlike (sym w))
     go Write w k = simp k
     go Idle w k = absurd (unlike (sym w))
 
 -- ---- a cycle before the last: the suspend counts one off, and a read shows the status as it was
-module _ (d : Device) (c : Cycle) (n r sr l a : ℕ) where
-  stays-under-way : (k : ℕ) (kind : Kind) → respondOf kind d c (settledAs (at sr (Suspending k) l a) Nothing) ≡ decidedAs (replyAs sr kind) (at sr (Suspending k) l a) Nothing
+module _ (wr : Wear) (d : Device) (c : Cycle) (n r sr l a : ℕ) where
+  stays-under-way : (k : ℕ) (kind : Kind) → respondOf kind d c (settledAs (at wr sr (Suspending k) l a) Nothing) ≡ decidedAs (replyAs sr kind) (at wr sr (Suspending k) l a) Nothing
   unfolding whileSuspending
   stays-under-way k Read = refl
   stays-under-way k Write =
-      if-ind (λ (x : Action). decidedAs Quiet (performedOf x d c (at sr (Suspending k) l a)) Nothing ≡ decidedAs Quiet (at sr (Suspending k) l a) Nothing)
+      if-ind (λ (x : Action). decidedAs Quiet (performedOf x d c (at wr sr (Suspending k) l a)) Nothing ≡ decidedAs Quiet (at wr sr (Suspending k) l a) Nothing)
       (eqb (commandOf c) 0x70) _ _ (λ e. refl) (λ e. refl)
   stays-under-way k Idle = refl
 
-  goes-on : (k : ℕ) → isRefusal (decideOf d (at sr (Suspending (suc (suc k))) l a) c n r .reply) ≡ false
-      → isCut (decideOf d (at sr (Suspending (suc (suc k))) l a) c n r .effect) ≡ false
-      → decideOf d (at sr (Suspending (suc (suc k))) l a) c n r ≡ decidedAs (replyAs sr (c .kind)) (at sr (Suspending (suc k)) l a) Nothing
+  goes-on : (k : ℕ) → isRefusal (decideOf d (at wr sr (Suspending (suc (suc k))) l a) c n r .reply) ≡ false
+      → isCut (decideOf d (at wr sr (Suspending (suc (suc k))) l a) c n r .effect) ≡ false
+      → decideOf d (at wr sr (Suspending (suc (suc k))) l a) c n r ≡ decidedAs (replyAs sr (c .kind)) (at wr sr (Suspending (suc k)) l a) Nothing
   unfolding passedOf suspendPassed
   goes-on k fine whole =
       let q : suc (suc k) - 1 ≡ suc k = omega arith in
-      let e : passedOf (d .part) (at sr (Suspending (suc (suc k))) l a) ≡ settledAs (at sr (Suspending (suc k)) l a) Nothing =
-      if-false (eqb (suc (suc k) - 1) 0) _ _ (ne-eqb (suc (suc k) - 1) 0 (λ z. omega arith)) ∙ ap (λ (j : ℕ). settledAs (at sr (Suspending j) l a) Nothing) q in
-      passes d (at sr (Suspending (suc (suc k))) l a) c n r refl fine whole refl ∙ ap (λ (t : Settled). respondOf (c .kind) d c t) e ∙ stays-under-way (suc k) (c .kind)
+      let e : passedOf (d .part) (at wr sr (Suspending (suc (suc k))) l a) ≡ settledAs (at wr sr (Suspending (suc k)) l a) Nothing =
+      if-false (eqb (suc (suc k) - 1) 0) _ _ (ne-eqb (suc (suc k) - 1) 0 (λ z. omega arith)) ∙ ap (λ (j : ℕ). settledAs (at wr sr (Suspending j) l a) Nothing) q in
+      passes d (at wr sr (Suspending (suc (suc k))) l a) c n r refl fine whole refl ∙ ap (λ (t : Settled). respondOf (c .kind) d c t) e ∙ stays-under-way (suc k) (c .kind)
 
   -- ---- the last cycle: SR.7 and SR.6 are set before its read or write
-  last-settles : isRefusal (decideOf d (at sr (Suspending 1) l a) c n r .reply) ≡ false → isCut (decideOf d (at sr (Suspending 1) l a) c n r .effect) ≡ false
-      → decideOf d (at sr (Suspending 1) l a) c n r ≡ respondOf (c .kind) d c (settledAs (at (heldStatus sr) Suspended l a) Nothing)
+  last-settles : isRefusal (decideOf d (at wr sr (Suspending 1) l a) c n r .reply) ≡ false → isCut (decideOf d (at wr sr (Suspending 1) l a) c n r .effect) ≡ false
+      → decideOf d (at wr sr (Suspending 1) l a) c n r ≡ respondOf (c .kind) d c (settledAs (at wr (heldStatus sr) Suspended l a) Nothing)
   unfolding passedOf suspendPassed
-  last-settles fine whole = passes d (at sr (Suspending 1) l a) c n r refl fine whole refl
+  last-settles fine whole = passes d (at wr sr (Suspending 1) l a) c n r refl fine whole refl
 
 -- SR.7 and SR.6 set and cleared again leave a status that had neither
 back : (sr : ℕ) → sr < 64 → bitAnd (bitOr sr 0xC0) 0x3F ≡ sr
 back sr h = eqb-true (bitAnd (bitOr sr 0xC0) 0x3F) sr (all-below (λ x. eqb (bitAnd (bitOr x 0xC0) 0x3F) x) 64 refl sr h)
 
 -- what the last cycle leaves
-record Left (x : Decision) (sr l a : ℕ) (resumed : Bool) : Type 0 where
+record Left (wr : Wear) (x : Decision) (sr l a : ℕ) (resumed : Bool) : Type 0 where
   effect : x .effect ≡ Nothing
   phase : x .state .phase ≡ (if resumed then Erasing else Suspended)
   left : x .state .left ≡ l
   address : x .state .address ≡ a
   status : x .state .status ≡ (if resumed then sr else heldStatus sr)
+  wear : x .state .wear ≡ wr
 
-module _ (d : Device) (c : Cycle) (sr l a : ℕ) (small : sr < 64) where
+module _ (wr : Wear) (d : Device) (c : Cycle) (sr l a : ℕ) (small : sr < 64) where
   held-write : (f t u : Bool) → eqb (commandOf c) 0xFF ≡ f → eqb (commandOf c) 0x70 ≡ t → eqb (commandOf c) 0xD0 ≡ u
-      → Left (respondOf Write d c (settledAs (at (heldStatus sr) Suspended l a) Nothing)) sr l a u
+      → Left wr (respondOf Write d c (settledAs (at wr (heldStatus sr) Suspended l a) Nothing)) sr l a u
   unfolding whileSuspended
   held-write true t true e f g = absurd (let p = eqb-true (commandOf c) 0xFF e in let q = eqb-true (commandOf c) 0xD0 g in omega arith)
-  held-write true t false e f g = rw e (record { effect = refl; phase = refl; left = refl; address = refl; status = refl })
+  held-write true t false e f g = rw e (record { effect = refl; phase = refl; left = refl; address = refl; status = refl; wear = refl })
   held-write false true true e f g = absurd (let p = eqb-true (commandOf c) 0x70 f in let q = eqb-true (commandOf c) 0xD0 g in omega arith)
-  held-write false true false e f g = rw (e, f) (record { effect = refl; phase = refl; left = refl; address = refl; status = refl })
-  held-write false false true e f g = rw (e, f, g) (record { effect = refl; phase = refl; left = refl; address = refl; status = back sr small })
-  held-write false false false e f g = rw (e, f, g) (record { effect = refl; phase = refl; left = refl; address = refl; status = refl })
+  held-write false true false e f g = rw (e, f) (record { effect = refl; phase = refl; left = refl; address = refl; status = refl; wear = refl })
+  held-write false false true e f g = rw (e, f, g) (record { effect = refl; phase = refl; left = refl; address = refl; status = back sr small; wear = refl })
+  held-write false false false e f g = rw (e, f, g) (record { effect = refl; phase = refl; left = refl; address = refl; status = refl; wear = refl })
 
-  held : (kind : Kind) → Left (respondOf kind d c (settledAs (at (heldStatus sr) Suspended l a) Nothing)) sr l a (isWrite kind && eqb (commandOf c) 0xD0)
-  held Read = record { effect = refl; phase = refl; left = refl; address = refl; status = refl }
+  held : (kind : Kind) → Left wr (respondOf kind d c (settledAs (at wr (heldStatus sr) Suspended l a) Nothing)) sr l a (isWrite kind && eqb (commandOf c) 0xD0)
+  held Read = record { effect = refl; phase = refl; left = refl; address = refl; status = refl; wear = refl }
   held Write = held-write (eqb (commandOf c) 0xFF) (eqb (commandOf c) 0x70) (eqb (commandOf c) 0xD0) refl refl refl
-  held Idle = record { effect = refl; phase = refl; left = refl; address = refl; status = refl }
+  held Idle = record { effect = refl; phase = refl; left = refl; address = refl; status = refl; wear = refl }
 
-  held-reply : (kind : Kind) → respondOf kind d c (settledAs (at (heldStatus sr) Suspended l a) Nothing) .reply ≡ replyAs (heldStatus sr) kind
+  held-reply : (kind : Kind) → respondOf kind d c (settledAs (at wr (heldStatus sr) Suspended l a) Nothing) .reply ≡ replyAs (heldStatus sr) kind
   held-reply Read = refl
   held-reply Write = refl
   held-reply Idle = refl
@@ -222,20 +224,20 @@ module _ (d : Device) (v : World) (b : Bus) (bs : List Bus) (smooth : Smooth d v
   )
 
 -- ---- all the cycles of a suspend under way, the last apart
-record Over (d : Device) (sr l a : ℕ) (xs : List ℕ) (bs : List Bus) (b : Bus) (v : World) : Type 0 where
-  left : Left (decidedAs Quiet (worldAfter d v (bs ++ (b ∷ [])) .state) Nothing) sr l a (isResume (b .cycle))
+record Over (wr : Wear) (d : Device) (sr l a : ℕ) (xs : List ℕ) (bs : List Bus) (b : Bus) (v : World) : Type 0 where
+  left : Left wr (decidedAs Quiet (worldAfter d v (bs ++ (b ∷ [])) .state) Nothing) sr l a (isResume (b .cycle))
   bytes : worldAfter d v (bs ++ (b ∷ [])) .bytes ≡ xs
   seen : seenIn d v (bs ++ (b ∷ [])) ≡ shownAll sr bs ++ (shownAs (heldStatus sr) b ∷ [])
 
-module _ (d : Device) (sr l a : ℕ) (small : sr < 64) (xs : List ℕ) where
+module _ (wr : Wear) (d : Device) (sr l a : ℕ) (small : sr < 64) (xs : List ℕ) where
   abbrev under-way : ℕ → World
-  under-way k = worldOf (at sr (Suspending (suc k)) l a) xs
+  under-way k = worldOf (at wr sr (Suspending (suc k)) l a) xs
 
-  last-one : (b : Bus) → Smooth d (under-way 0) (b ∷ []) → Over d sr l a xs [] b (under-way 0)
+  last-one : (b : Bus) → Smooth d (under-way 0) (b ∷ []) → Over wr d sr l a xs [] b (under-way 0)
   unfolding answerOf arrayAfter
   last-one b smooth =
-      let e = last-settles d (b .cycle) (length xs) (length (b .residue)) sr l a (head-fine d (under-way 0) b [] smooth) (head-whole d (under-way 0) b [] smooth) in
-      let h = held d (b .cycle) sr l a small (b .cycle .kind) in
+      let e = last-settles wr d (b .cycle) (length xs) (length (b .residue)) sr l a (head-fine d (under-way 0) b [] smooth) (head-whole d (under-way 0) b [] smooth) in
+      let h = held wr d (b .cycle) sr l a small (b .cycle .kind) in
       record {
         left = record {
           effect = refl;
@@ -243,26 +245,27 @@ module _ (d : Device) (sr l a : ℕ) (small : sr < 64) (xs : List ℕ) where
           left = ap (λ (x : Decision). x .state .left) e ∙ h .left;
           address = ap (λ (x : Decision). x .state .address) e ∙ h .address;
           status = ap (λ (x : Decision). x .state .status) e ∙ h .status;
+          wear = ap (λ (x : Decision). x .state .wear) e ∙ h .wear;
         };
         bytes = ap (λ (x : Decision). arrayOf (x .effect) (d .part) (b .residue) xs) e ∙ ap (λ (x : Effect). arrayOf x (d .part) (b .residue) xs) (h .effect);
         seen = ap (λ (x : Seen). x ∷ [])
             ((λ i. seenOf (e i .reply) (arrayOf (e i .effect) (d .part) (b .residue) xs))
-            ∙ (λ i. seenOf (held-reply d (b .cycle) sr l a small (b .cycle .kind) i) (arrayOf (h .effect i) (d .part) (b .residue) xs))
+            ∙ (λ i. seenOf (held-reply wr d (b .cycle) sr l a small (b .cycle .kind) i) (arrayOf (h .effect i) (d .part) (b .residue) xs))
             ∙ shown-as (heldStatus sr) b xs);
       }
 
-  all-of : (bs : List Bus) (b : Bus) → Smooth d (under-way (length bs)) (bs ++ (b ∷ [])) → Over d sr l a xs bs b (under-way (length bs))
+  all-of : (bs : List Bus) (b : Bus) → Smooth d (under-way (length bs)) (bs ++ (b ∷ [])) → Over wr d sr l a xs bs b (under-way (length bs))
   all-of [] b smooth = last-one b smooth
   all-of (x ∷ bs) b smooth =
       let v = under-way (suc (length bs)) in
-      let e = goes-on d (x .cycle) (length xs) (length (x .residue)) sr l a (length bs) (head-fine d v x (bs ++ (b ∷ [])) smooth) (head-whole d v x (bs ++ (b ∷ [])) smooth) in
-      let q : stepped d v x ≡ under-way (length bs) = stepped-as d (v .state) (at sr (Suspending (suc (length bs))) l a) xs x (replyAs sr (x .cycle .kind)) e in
+      let e = goes-on wr d (x .cycle) (length xs) (length (x .residue)) sr l a (length bs) (head-fine d v x (bs ++ (b ∷ [])) smooth) (head-whole d v x (bs ++ (b ∷ [])) smooth) in
+      let q : stepped d v x ≡ under-way (length bs) = stepped-as d (v .state) (at wr sr (Suspending (suc (length bs))) l a) xs x (replyAs sr (x .cycle .kind)) e in
       let o = all-of bs b (subst (λ (u : World). Smooth d u (bs ++ (b ∷ []))) q (tail-smooth d v x (bs ++ (b ∷ [])) smooth)) in
-      let p = subst (λ (u : World). Over d sr l a xs bs b u) (sym q) o in
+      let p = subst (λ (u : World). Over wr d sr l a xs bs b u) (sym q) o in
       record {
         left = p .left;
         bytes = p .bytes;
-        seen = λ i. seen-as d (v .state) (at sr (Suspending (suc (length bs))) l a) xs x sr e i ∷ p .seen i;
+        seen = λ i. seen-as d (v .state) (at wr sr (Suspending (suc (length bs))) l a) xs x sr e i ∷ p .seen i;
       }
 
 quiet-seen : (d : Device) (s t : State) (xs : List ℕ) (b : Bus) → decideOf d s (b .cycle) (length xs) (length (b .residue)) ≡ decidedAs Quiet t Nothing → seenOn d (worldOf s xs) b ≡ NoData
@@ -284,30 +287,31 @@ erase-small d s c n r p fine = go (eqb (numberOf d s c n r) 0) refl
         absurd (unlike (sym (ap (λ (x : Decision). isRefusal (x .reply)) q) ∙ fine))
 
 -- ---- B0H, and S cycles after it
-module _ (d : Device) (m : Mode) (sr l a : ℕ) (xs : List ℕ) (b : Bus) (bs : List Bus) (last : Bus)
+module _ (wr : Wear) (d : Device) (m : Mode) (sr l a : ℕ) (xs : List ℕ) (b : Bus) (bs : List Bus) (last : Bus)
     (asks : isSuspend (b .cycle) ≡ true) (more : 1 < l) (long : suc (length bs) ≡ d .suspend) where
   abbrev from : World
-  from = worldOf (record { mode = m; status = sr; phase = Erasing; left = l; address = a }) xs
+  from = worldOf (record { mode = m; status = sr; phase = Erasing; left = l; address = a; wear = wr }) xs
 
   over : Smooth d from (b ∷ (bs ++ (last ∷ []))) → Suspends from (worldAfter d from (b ∷ (bs ++ (last ∷ [])))) (isResume (last .cycle))
       × (seenIn d from (b ∷ (bs ++ (last ∷ []))) ≡ NoData ∷ (shownAll sr bs ++ (shownAs (heldStatus sr) last ∷ [])))
   over smooth =
       let fine = head-fine d from b (bs ++ (last ∷ [])) smooth in
       let small = erase-small d (from .state) (b .cycle) (length xs) (length (b .residue)) refl fine in
-      let e = begins d (b .cycle) (length xs) (length (b .residue)) sr l a m asks more fine (head-whole d from b (bs ++ (last ∷ [])) smooth) in
-      let u : World = worldOf (at sr (Suspending (suc (length bs))) (l - 1) a) xs in
+      let e = begins wr d (b .cycle) (length xs) (length (b .residue)) sr l a m asks more fine (head-whole d from b (bs ++ (last ∷ [])) smooth) in
+      let u : World = worldOf (at wr sr (Suspending (suc (length bs))) (l - 1) a) xs in
       let q : stepped d from b ≡ u =
-      stepped-as d (from .state) (at sr (Suspending (d .suspend)) (l - 1) a) xs b Quiet e ∙ ap (λ (k : ℕ). worldOf (at sr (Suspending k) (l - 1) a) xs) (sym long) in
-      let o = all-of d sr (l - 1) a small xs bs last (subst (λ (v : World). Smooth d v (bs ++ (last ∷ []))) q (tail-smooth d from b (bs ++ (last ∷ [])) smooth)) in
-      let p = subst (λ (v : World). Over d sr (l - 1) a xs bs last v) (sym q) o in (
+      stepped-as d (from .state) (at wr sr (Suspending (d .suspend)) (l - 1) a) xs b Quiet e ∙ ap (λ (k : ℕ). worldOf (at wr sr (Suspending k) (l - 1) a) xs) (sym long) in
+      let o = all-of wr d sr (l - 1) a small xs bs last (subst (λ (v : World). Smooth d v (bs ++ (last ∷ []))) q (tail-smooth d from b (bs ++ (last ∷ [])) smooth)) in
+      let p = subst (λ (v : World). Over wr d sr (l - 1) a xs bs last v) (sym q) o in (
         record {
           phase = p .left .phase;
           left = ap (λ (k : ℕ). k + 1) (p .left .left) ∙ (let z : l - 1 + 1 ≡ l = omega arith in z);
           address = p .left .address;
           status = p .left .status;
+          wear = p .left .wear;
           bytes = p .bytes;
         },
-        λ i. quiet-seen d (from .state) (at sr (Suspending (d .suspend)) (l - 1) a) xs b e i ∷ p .seen i,
+        λ i. quiet-seen d (from .state) (at wr sr (Suspending (d .suspend)) (l - 1) a) xs b e i ∷ p .seen i,
       )
 
 -- the same of any state whose phase it is
@@ -317,9 +321,9 @@ pub suspends : (d : Device) (v : World) (b : Bus) (bs : List Bus) (last : Bus) �
     × (seenIn d v (b ∷ (bs ++ (last ∷ []))) ≡ NoData ∷ (shownAll (v .state .status) bs ++ (shownAs (heldStatus (v .state .status)) last ∷ [])))
 suspends d v b bs last erase asks long smooth =
     let s = v .state in
-    let f : World = worldOf (record { mode = s .mode; status = s .status; phase = Erasing; left = s .left; address = s .address }) (v .bytes) in
-    let q : f ≡ v = λ i. worldOf (record { mode = s .mode; status = s .status; phase = sym (erase .0) i; left = s .left; address = s .address }) (v .bytes) in
-    let o = over d (s .mode) (s .status) (s .left) (s .address) (v .bytes) b bs last asks (erase .1) long (subst (λ (w : World). Smooth d w (b ∷ (bs ++ (last ∷ [])))) (sym q) smooth) in
+    let f : World = worldOf (record { mode = s .mode; status = s .status; phase = Erasing; left = s .left; address = s .address; wear = s .wear }) (v .bytes) in
+    let q : f ≡ v = λ i. worldOf (record { mode = s .mode; status = s .status; phase = sym (erase .0) i; left = s .left; address = s .address; wear = s .wear }) (v .bytes) in
+    let o = over (s .wear) d (s .mode) (s .status) (s .left) (s .address) (v .bytes) b bs last asks (erase .1) long (subst (λ (w : World). Smooth d w (b ∷ (bs ++ (last ∷ [])))) (sym q) smooth) in
     subst (λ (w : World). Suspends w (worldAfter d w (b ∷ (bs ++ (last ∷ [])))) (isResume (last .cycle))
     × (seenIn d w (b ∷ (bs ++ (last ∷ []))) ≡ NoData ∷ (shownAll (w .state .status) bs ++ (shownAs (heldStatus (w .state .status)) last ∷ [])))) q o
 

@@ -49,4 +49,5 @@ pub record Suspends (v u : World) (resumed : Bool) : Type 0 where
   pub left : u .state .left + 1 ≡ v .state .left
   pub address : u .state .address ≡ v .state .address
   pub status : u .state .status ≡ (if resumed then v .state .status else heldStatus (v .state .status))
+  pub wear : u .state .wear ≡ v .state .wear
   pub bytes : u .bytes ≡ v .bytes
