@@ -22,12 +22,13 @@ use Rattle.model_types.specs.declared.Effect.the-variants.{Nothing}
 use Rattle.model_types.specs.declared.Reply.the-variants.{Quiet, Gives, GivesArray}
 use Rattle.model_types.specs.declared.State.{State}
 use Rattle.model_types.specs.declared.Settled.{Settled}
+use Rattle.model_types.specs.declared.Cycle.{Cycle}
 use Rattle.model_types.specs.Levels.{rpLow, vppLow, badPins, locked, unlocked}
 use Rattle.model_types.specs.States.{atRest, mostLeft}
 use Rattle.model_types.specs.Inner.{badMode, badStatus, badLeft, badAddress}
 use Rattle.model_types.specs.Cells.{ones}
 use Rattle.model_commands.proofs.Carried.{data-cell}
-use Rattle.model_commands.specs.Commands.{commandOf, dataOf, asksProgram, actionOf, firstWrite, afterErase, whileErasing, performedOf, startedOf, unsupplied}
+use Rattle.model_commands.specs.Commands.{commandOf, dataOf, asksProgram, actionOf, firstWrite, afterErase, whileErasing, performedOf, wearBy, startedOf, unsupplied}
 use Rattle.model_operation.specs.Settling.{settledAs, settleOf, countedOff, suspendPassed, passedOf, finishOf}
 use Rattle.model_rules.specs.Cycles.{shortResidue, noCommand, suspendedRead, noIdentifier, lateOf, decideOf, acceptOf, respondOf, decidedAs}
 use Rattle.model_types.specs.Phases.{isBusy, isSuspending, isPending, isSuspended}
@@ -37,6 +38,7 @@ use Rattle.model.proofs.Keeping.{st, rest-proper}
 use Rattle.model.proofs.Status.{fits}
 use Rattle.loader_run.proofs.Judging.{unasked, unasked-high, judged}
 use Rattle.loader_run_claims.specs.Made.{busCycle as cyc}
+use Rattle.loader_run_claims.specs.Ends.{erasedFrom}
 
 -- a device that is known, and levels that a load may have
 pub record Up (d : Device) (p : Pins) : Type 0 where
@@ -185,15 +187,21 @@ module _ (d : Device) (p : Pins) (u : Up d p) (was : State) where
     unfolding unsupplied
     supplied s a b e = simp (r .high, e)
 
+    -- a state in which an operation was started by a cycle, and counted
+    abbrev begunAs : State → Phase → Cycle → ℕ → State
+    begunAs s ph c time = record { mode = Status; status = 0; phase = ph; left = time; address = c .address; wear = wearBy ph (d .part) c (s .wear) }
+
     -- a confirm and data start their operation
     starts : (s : State) (ph : Phase) (a b time bit : ℕ) → s .status ≡ 128 → s .mode ≡ Status → blockOf (d .part) a ≡ k
-        → startedOf (d .part) (cyc p Write a b) s ph time bit ≡ st s Status 0 ph time a
+        → startedOf (d .part) (cyc p Write a b) s ph time bit ≡ begunAs s ph (cyc p Write a b) time
     unfolding startedOf
     starts s ph a b time bit e m h = simp (supplied s a b e, open-at a b h, e, m)
 
     pub confirms : (a : ℕ) → a < sizeOf (d .part) → blockOf (d .part) a ≡ k
-        → decideOf d (st was Status 128 EraseAwaited 0 0) (cyc p Write a 0xD0) (sizeOf (d .part)) 0 ≡ decidedAs Quiet (st was Status 0 Erasing (d .erase) a) Nothing
-    confirms a h e = confirm-does a h ∙ ap (λ (x : State). decidedAs Quiet x Nothing) (starts (st was Status 128 EraseAwaited 0 0) Erasing a 0xD0 (d .erase) 32 refl refl e)
+        → decideOf d (st was Status 128 EraseAwaited 0 0) (cyc p Write a 0xD0) (sizeOf (d .part)) 0 ≡ decidedAs Quiet (st (erasedFrom true k was) Status 0 Erasing (d .erase) a) Nothing
+    confirms a h e =
+        confirm-does a h ∙ ap (λ (x : State). decidedAs Quiet x Nothing) (starts (st was Status 128 EraseAwaited 0 0) Erasing a 0xD0 (d .erase) 32 refl refl e
+        ∙ ap (λ (j : ℕ). st (erasedFrom true j was) Status 0 Erasing (d .erase) a) e)
 
     pub sends : (a b : ℕ) → a < sizeOf (d .part) → blockOf (d .part) a ≡ k → b ≤ ones (d .part)
         → decideOf d (st was Status 128 DataAwaited 0 0) (cyc p Write a b) (sizeOf (d .part)) 0 ≡ decidedAs Quiet (st was Status 0 (Programming b) (d .program) a) Nothing

@@ -14,12 +14,13 @@ use Rattle.model_types.specs.declared.Mode.the-variants.{Array}
 use Rattle.model_types.specs.declared.State.{State}
 use Rattle.model_types.specs.States.{atRest}
 use Rattle.loader.specs.declared.Stage.the-variants.{Clearing}
+use Rattle.loader.specs.Walks.{risesIn}
 use Rattle.loader_run.specs.Turns.{Config, after}
 use Rattle.loader_run.specs.Runs.{runRows, begin, ranOf, bytesOf, scratchOf, runNumber}
 use Rattle.loader_run_claims.specs.Wear.{begunIn, heldIn, formula, operationsOf, notedAll, begunByLoad, heldBy}
 use Rattle.model_history.specs.History.{Bus, worldAfter, begunOver, worldOf, busesOf}
 use Rattle.loader_run_claims.specs.Made.{madeIn, cyclesOf, cyclesOfLoad}
-use Rattle.loader_run_claims.specs.Ends.{asWanted, ranAs, cyclesAs, Whole}
+use Rattle.loader_run_claims.specs.Ends.{asWanted, erasedFrom, ranAs, cyclesAs, Whole}
 use Rattle.loader_run_claims.specs.Mission.{Taken, Start, Brings, ownCycles, NoFewer, Demand3}
 use Rattle.loader_run_claims.proofs.Same as same
 use Rattle.loader_run_claims.proofs.Starts as starts
@@ -62,7 +63,7 @@ taken-exactly = starts.taken-exactly
 
 -- The clauses one by one. All that the run returns: the load ends well, and the count is 2n + 3 + e(2 + E) + p(2 + P).
 pub ends-well : (d : Device) (s : State) (p : Pins) (k : ℕ) (xs w sc : List ℕ) → Start d s p k xs w sc
-    → ranOf d s p k xs w sc ≡ record { count = formula d w (heldIn (startOf (d .part) k) (length w) xs); end = 0; address = 0; state = atRest s Array 0x80 }
+    → ranOf d s p k xs w sc ≡ record { count = formula d w (heldIn (startOf (d .part) k) (length w) xs); end = 0; address = 0; state = atRest (erasedFrom (risesIn w (heldIn (startOf (d .part) k) (length w) xs)) k s) Array 0x80 }
 ends-well = mission.ends-well true
 
 -- The block holds the wanted units, every other unit is as before, and scratch holds the wanted ones.

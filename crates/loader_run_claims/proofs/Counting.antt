@@ -58,6 +58,6 @@ pub ends-counted : (verify : Bool) (d : Device) (s : State) (p : Pins) (k a : �
 unfolding cyclesAs ranAs
 ends-counted verify d s p k a w ys = go (eqb (endNumber d p k w ys) 0)
   where
-    go : (t : Bool) → length (if t then cyclesBy verify d p a w ys else faultCycles p a w ys) ≡ (if t then wellRan verify d s w ys else faultRan d s p w ys (endNumber d p k w ys)) .count
+    go : (t : Bool) → length (if t then cyclesBy verify d p a w ys else faultCycles p a w ys) ≡ (if t then wellRan verify d s k w ys else faultRan d s p w ys (endNumber d p k w ys)) .count
     go true = cycles-long verify d p a w ys
     go false = fault-long p a w ys

@@ -32,7 +32,7 @@ use Rattle.loader_run.specs.Turns.{Config}
 use Rattle.loader_run.specs.Runs.{runNumber, beginningAt, ranBy, runLeftAt}
 use Rattle.loader_run_claims.specs.Wear.{heldIn, baseOf, programsIn, formulaBy, operationsOf}
 use Rattle.loader_run_claims.specs.Made.{openingThen, closingBy, cyclesBy}
-use Rattle.loader_run_claims.specs.Ends.{asWanted, loadedMode, endMode, eraseTried, programTried, faultCycles}
+use Rattle.loader_run_claims.specs.Ends.{asWanted, loadedMode, endMode, erasedFrom, eraseTried, programTried, faultCycles}
 use Rattle.loader_run.proofs.Turning.{conf}
 use Rattle.loader_run.proofs.Good.{Good, good}
 use Rattle.loader_run_claims.specs.Mission.{Taken}
@@ -86,9 +86,13 @@ module _ (verify : Bool) (d : Device) (s : State) (p : Pins) (k : ℕ) (xs w sc 
   abbrev started : Config
   started = beginningAt Clearing verify d s p k xs sc
 
+  -- the state with the counts that the load leaves
+  abbrev pub after : State
+  after = erasedFrom (risesIn w ys) k s
+
   -- where a good load comes to, and one that a fault ends
   abbrev pub goal : Config
-  goal = conf (rec (Ended 0) (if verify then length w - 1 else 0)) (atRest s (endMode verify w ys) 128) (overlaid xs a w) w (formulaBy verify d w ys)
+  goal = conf (rec (Ended 0) (if verify then length w - 1 else 0)) (atRest after (endMode verify w ys) 128) (overlaid xs a w) w (formulaBy verify d w ys)
 
   abbrev pub broken : ℕ → ℕ → ℕ → Config
   broken n x i = conf (rec (Ended n) i) (atRest s Status x) xs ys (length w + 5)
@@ -102,12 +106,12 @@ module _ (verify : Bool) (d : Device) (s : State) (p : Pins) (k : ℕ) (xs w sc 
 
   -- what follows the last program, up to the end
   finished : (cnt : ℕ) → cnt ≡ 2 + length w + ((if risesIn w ys then 2 + d .erase else 0) + programsIn (d .part) w ys * (2 + d .program))
-      → Reach d w (phases.loaded verify d p k u s w (g .wanted) some xs (g .sized) (loadedMode w ys) cnt) goal [] (closingBy verify p a (length w))
+      → Reach d w (phases.loaded verify d p k u after w (g .wanted) some xs (g .sized) (loadedMode w ys) cnt) goal [] (closingBy verify p a (length w))
   finished cnt q =
-      subst (λ (c : ℕ). Reach d w (phases.loaded verify d p k u s w (g .wanted) some xs (g .sized) (loadedMode w ys) cnt)
-      (conf (rec (Ended 0) (if verify then length w - 1 else 0)) (atRest s (endMode verify w ys) 128) (overlaid xs a w) w c) [] (closingBy verify p a (length w)))
+      subst (λ (c : ℕ). Reach d w (phases.loaded verify d p k u after w (g .wanted) some xs (g .sized) (loadedMode w ys) cnt)
+      (conf (rec (Ended 0) (if verify then length w - 1 else 0)) (atRest after (endMode verify w ys) 128) (overlaid xs a w) w c) [] (closingBy verify p a (length w)))
       (summed verify (risesIn w ys) (length w) (d .erase) (programsIn (d .part) w ys * (2 + d .program)) cnt q)
-      (faults.finishing verify d p k u s w (g .wanted) some (t .bytes) xs (g .sized) (loadedMode w ys) cnt)
+      (faults.finishing verify d p k u after w (g .wanted) some (t .bytes) xs (g .sized) (loadedMode w ys) cnt)
 
   -- the load where its operations can start
   module _ (high : vppLow (d .part) p ≡ false) (unlock : k ≡ 0 → unlocked (d .part) p 0 ≡ true) where
@@ -128,7 +132,8 @@ module _ (verify : Bool) (d : Device) (s : State) (p : Pins) (k : ℕ) (xs w sc 
       grounds.comes d s p k xs w sc n0 Clearing verify goal [] (cyclesBy verify d p a w ys) refl
       (subst (λ (cs : List Cycle). Reach d w started goal [] cs) (sym listed)
       (opened goal [] (closingBy verify p a (length w)) (faults.nothing-done verify d p k u s w (g .wanted) some xs (g .sized) ys ly (2 + length w) goal (closingBy verify p a (length w)) e
-      (subst (λ (m : Mode). Reach d w (phases.loaded verify d p k u s w (g .wanted) some xs (g .sized) m (2 + length w)) goal [] (closingBy verify p a (length w))) (if-true (asWanted w ys) Array Status e)
+      (subst (λ (c : Config). Reach d w c goal [] (closingBy verify p a (length w)))
+      (λ i. phases.loaded verify d p k u (erasedFrom (rises-not i) k s) w (g .wanted) some xs (g .sized) (if-true (asWanted w ys) Array Status e i) (2 + length w))
       (finished (2 + length w) (rw (rises-not, held, none-differing (length w) 0 w) (omega arith)))))))
     where
       held : ys ≡ w

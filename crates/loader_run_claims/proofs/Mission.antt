@@ -35,7 +35,7 @@ use Rattle.loader_run_claims.specs.Wear.{begunAt, heldIn, heldBy, baseOf
 use Rattle.model_history.specs.History.{Bus, World, worldOf, worldAfter, effectsIn, begunOver, uncut, totalOf, eraseOf, programIn, programOf, erasesBegun, programsBegun}
 use Rattle.loader_run.proofs.Good.{good}
 use Rattle.loader_run_claims.specs.Made.{cyclesAt, smoothAt, cyclesBy, readsThen, pollsThen, openingThen, eraseThen, programThen, programsThen, closingBy, programmingThen, loadThen}
-use Rattle.loader_run_claims.specs.Ends.{endMode}
+use Rattle.loader_run_claims.specs.Ends.{endMode, erasedFrom}
 use Rattle.loader_run_claims.specs.Mission.{Start, Brings, ownCycles, NoFewer, Demand3}
 use Rattle.loader_run_claims.proofs.Grounds.{Left}
 use Rattle.loader_run_claims.proofs.Demand.{goal, good-load, ran-left, bytes-left, scratch-left}
@@ -139,7 +139,7 @@ module _ (verify : Bool) (d : Device) (s : State) (p : Pins) (k : ℕ) (xs w sc 
   loaded = good-load verify d s p k xs w sc (start .base) (not-low (d .part) p (start .high)) (start .unlock)
 
   -- a load ends well, with the count of the formula, in mode read array with status 80H
-  pub ends-well : runLeftAt Clearing verify d s p k xs w sc .ran ≡ record { count = formulaBy verify d w ys; end = 0; address = 0; state = atRest s (endMode verify w ys) 128 }
+  pub ends-well : runLeftAt Clearing verify d s p k xs w sc .ran ≡ record { count = formulaBy verify d w ys; end = 0; address = 0; state = atRest (erasedFrom (risesIn w ys) k s) (endMode verify w ys) 128 }
   unfolding endAddress
   ends-well = ran-left verify d s p k xs w sc (start .base) _ _ _ loaded
 

@@ -55,7 +55,7 @@ use Rattle.loader_run.proofs.Turning.{conf}
 use Rattle.loader_run_claims.specs.Made.{isSmooth, readsThen, pollsThen, openingThen, eraseThen, programThen, programsThen, closingOf, programmingThen, loadThen, busCycle as cyc}
 use Rattle.loader_run_claims.proofs.Reaching.{Reach, Answered, Does, does-as, arrive, prepend, turned, does}
 use Rattle.loader_run_claims.proofs.Layers.{put-over, over-over, overwritten-length, overwritten-here, overwritten-agree}
-use Rattle.loader_run_claims.specs.Ends.{asWanted, loadedMode}
+use Rattle.loader_run_claims.specs.Ends.{erasedFrom, asWanted, loadedMode}
 use Rattle.loader_run_claims.proofs.Same.{risen-differs}
 use Rattle.units.specs.Units.{carried}
 use Rattle.units.proofs.Widths.{carried-cell}
@@ -292,13 +292,17 @@ module _ (verify : Bool) (d : Device) (p : Pins) (k : ℕ) (u : Up d p) (was : S
     abbrev pub loaded : Mode → ℕ → Config
     loaded m cnt = conf (rec (loadedStage verify) 0 0) (atRest was m 128) (overlaid xs a w) w cnt
 
+    -- .. with the counts of another state
+    abbrev pub loadedAs : State → Mode → ℕ → Config
+    loadedAs sx m cnt = conf (rec (loadedStage verify) 0 0) (atRest sx m 128) (overlaid xs a w) w cnt
+
     -- the last of some polls, put to the others
     polls-last : (n x : ℕ) (cs : List Cycle) → pollsThen p n x (cyc p Read x 0 ∷ cs) ≡ pollsThen p (suc n) x cs
     polls-last zero x cs = refl
     polls-last (suc n) x cs = ap (λ (z : List Cycle). cyc p Read x 0 ∷ z) (polls-last n x cs)
 
     -- the polls of an operation, of either kind, while cycles are left
-    module _ (r : Ready d p k) (W : Stage) (i : ℕ) (ph : Phase) (adr to : ℕ) (going : isEnded W ≡ false) (busy : Runs ph) (adr-in : adr < sizeOf (d .part)) (to-in : to < sizeOf (d .part))
+    module _ (sx : State) (r : Ready d p k) (W : Stage) (i : ℕ) (ph : Phase) (adr to : ℕ) (going : isEnded W ≡ false) (busy : Runs ph) (adr-in : adr < sizeOf (d .part)) (to-in : to < sizeOf (d .part))
         (X sc : List ℕ) (lX : length X ≡ sizeOf (d .part)) (goes : (q : ℕ) → cycleOf (rec W i q) w ≡ cyc p Read to 0)
         (polled : (q : ℕ) → nextOf (rec W i q) 0 w (storeOf (rec W i q) 0 w sc) ≡ pollMore (rec W i q) W) (kept : (q : ℕ) → storeOf (rec W i q) 0 w sc ≡ sc) where
       poll-more : (q : ℕ) → q < 65534 → pollMore (rec W i q) W ≡ rec W i (q + 1)
@@ -306,21 +310,21 @@ module _ (verify : Bool) (d : Device) (p : Pins) (k : ℕ) (u : Up d p) (was : S
       poll-more q h = if-false (leb 65534 q) _ _ (lt-leb 65534 q h)
 
       waiting : (left q cnt : ℕ) (e : Config) (es : List Effect) (cs : List Cycle) → q + (left + 1) ≤ 65535 → left + 1 ≤ mostLeft d ph
-          → ((q′ cnt′ : ℕ) → cnt′ ≡ cnt + left → Reach d w (conf (rec W i q′) (st was Status 0 ph 1 adr) X sc cnt′) e es cs)
-          → Reach d w (conf (rec W i q) (st was Status 0 ph (left + 1) adr) X sc cnt) e es (pollsThen p left to cs)
+          → ((q′ cnt′ : ℕ) → cnt′ ≡ cnt + left → Reach d w (conf (rec W i q′) (st sx Status 0 ph 1 adr) X sc cnt′) e es cs)
+          → Reach d w (conf (rec W i q) (st sx Status 0 ph (left + 1) adr) X sc cnt) e es (pollsThen p left to cs)
       waiting zero q cnt e es cs h m rest = rest q cnt (omega arith)
       waiting (suc left) q cnt e es cs h m rest =
-          subst (λ (n : ℕ). Reach d w (conf (rec W i q) (st was Status 0 ph n adr) X sc cnt) e es (pollsThen p (suc left) to cs)) (let z : left + 1 + 1 ≡ suc left + 1 = omega arith in z)
-          (prepend d w _ (conf (rec W i (q + 1)) (st was Status 0 ph (left + 1) adr) X sc (cnt + 1)) e Nothing (cyc p Read to 0) es (pollsThen p left to cs)
-          (turned d w (rec W i q) (st was Status 0 ph (left + 1 + 1) adr) X sc cnt going lX (cyc p Read to 0) (Gives 0) (st was Status 0 ph (left + 1) adr) Nothing answered
-          ∙ (λ t. conf ((polled q ∙ poll-more q (omega arith)) t) (st was Status 0 ph (left + 1) adr) X (kept q t) (cnt + 1)))
-          (does-as d w _ _ Nothing (cyc p Read to 0) none (does d w (rec W i q) (st was Status 0 ph (left + 1 + 1) adr) X sc cnt going lX (cyc p Read to 0) (Gives 0) (st was Status 0 ph (left + 1) adr) Nothing answered))
+          subst (λ (n : ℕ). Reach d w (conf (rec W i q) (st sx Status 0 ph n adr) X sc cnt) e es (pollsThen p (suc left) to cs)) (let z : left + 1 + 1 ≡ suc left + 1 = omega arith in z)
+          (prepend d w _ (conf (rec W i (q + 1)) (st sx Status 0 ph (left + 1) adr) X sc (cnt + 1)) e Nothing (cyc p Read to 0) es (pollsThen p left to cs)
+          (turned d w (rec W i q) (st sx Status 0 ph (left + 1 + 1) adr) X sc cnt going lX (cyc p Read to 0) (Gives 0) (st sx Status 0 ph (left + 1) adr) Nothing answered
+          ∙ (λ t. conf ((polled q ∙ poll-more q (omega arith)) t) (st sx Status 0 ph (left + 1) adr) X (kept q t) (cnt + 1)))
+          (does-as d w _ _ Nothing (cyc p Read to 0) none (does d w (rec W i q) (st sx Status 0 ph (left + 1 + 1) adr) X sc cnt going lX (cyc p Read to 0) (Gives 0) (st sx Status 0 ph (left + 1) adr) Nothing answered))
           (waiting left (q + 1) (cnt + 1) e es cs (omega arith) (omega arith) (λ q′ cnt′ z. rest q′ cnt′ (omega arith))))
         where
-          answered : Answered d w (rec W i q) (st was Status 0 ph (left + 1 + 1) adr) (cyc p Read to 0) (Gives 0) (st was Status 0 ph (left + 1) adr) Nothing
-          answered = record { out = goes q; decided = answers.waits d p u was k r ph (left + 1) adr to busy (omega arith) (omega arith) adr-in to-in; fine = refl }
+          answered : Answered d w (rec W i q) (st sx Status 0 ph (left + 1 + 1) adr) (cyc p Read to 0) (Gives 0) (st sx Status 0 ph (left + 1) adr) Nothing
+          answered = record { out = goes q; decided = answers.waits d p u sx k r ph (left + 1) adr to busy (omega arith) (omega arith) adr-in to-in; fine = refl }
 
-          none : begunFrom (d .part) (st was Status 0 ph (left + 1 + 1) adr) (st was Status 0 ph (left + 1) adr) ≡ Nothing
+          none : begunFrom (d .part) (st sx Status 0 ph (left + 1 + 1) adr) (st sx Status 0 ph (left + 1) adr) ≡ Nothing
           none = quiet ph (busy .0)
             where
               quiet : (x : Phase) → isBusy x ≡ true → (if isAwaited x then pendingIn x (d .part) adr else Nothing) ≡ Nothing
@@ -334,11 +338,11 @@ module _ (verify : Bool) (d : Device) (p : Pins) (k : ℕ) (u : Up d p) (was : S
 
       -- all the polls of an operation that takes n cycles
       waiting-all : (n cnt : ℕ) (e : Config) (es : List Effect) (cs : List Cycle) → 0 < n → n ≤ 65535 → n ≤ mostLeft d ph
-          → ((q cnt′ : ℕ) → cnt′ + 1 ≡ cnt + n → Reach d w (conf (rec W i q) (st was Status 0 ph 1 adr) X sc cnt′) e es (cyc p Read to 0 ∷ cs))
-          → Reach d w (conf (rec W i 0) (st was Status 0 ph n adr) X sc cnt) e es (pollsThen p n to cs)
+          → ((q cnt′ : ℕ) → cnt′ + 1 ≡ cnt + n → Reach d w (conf (rec W i q) (st sx Status 0 ph 1 adr) X sc cnt′) e es (cyc p Read to 0 ∷ cs))
+          → Reach d w (conf (rec W i 0) (st sx Status 0 ph n adr) X sc cnt) e es (pollsThen p n to cs)
       waiting-all n cnt e es cs z b m rest =
-          subst (λ (x : ℕ). Reach d w (conf (rec W i 0) (st was Status 0 ph x adr) X sc cnt) e es (pollsThen p n to cs)) (let t : n - 1 + 1 ≡ n = omega arith in t)
-          (subst (λ (y : List Cycle). Reach d w (conf (rec W i 0) (st was Status 0 ph (n - 1 + 1) adr) X sc cnt) e es y)
+          subst (λ (x : ℕ). Reach d w (conf (rec W i 0) (st sx Status 0 ph x adr) X sc cnt) e es (pollsThen p n to cs)) (let t : n - 1 + 1 ≡ n = omega arith in t)
+          (subst (λ (y : List Cycle). Reach d w (conf (rec W i 0) (st sx Status 0 ph (n - 1 + 1) adr) X sc cnt) e es y)
           (polls-last (n - 1) to cs ∙ ap (λ (x : ℕ). pollsThen p x to cs) (let t : suc (n - 1) ≡ n = omega arith in t))
           (waiting (n - 1) 0 cnt e es (cyc p Read to 0 ∷ cs) (omega arith) (omega arith) (λ q cnt′ t. rest q cnt′ (omega arith))))
 
@@ -361,25 +365,25 @@ module _ (verify : Bool) (d : Device) (p : Pins) (k : ℕ) (u : Up d p) (was : S
     program-stores i q sc = refl
 
     -- one byte programmed: 40H, the byte, P polls
-    one-program : (r : Ready d p k) (m : Mode) (i cnt : ℕ) (ys sc : List ℕ) (e : Config) (es : List Effect) (cs : List Cycle) → i < length w → length ys ≡ length w → getD w i 0 ≤ ones (d .part)
+    one-program : (sx : State) (r : Ready d p k) (m : Mode) (i cnt : ℕ) (ys sc : List ℕ) (e : Config) (es : List Effect) (cs : List Cycle) → i < length w → length ys ≡ length w → getD w i 0 ≤ ones (d .part)
         → bitAnd (getD ys i 0) (getD w i 0) ≡ getD w i 0
         → 0 < d .program → d .program ≤ 65535
-        → ((cnt′ : ℕ) → cnt′ ≡ cnt + (2 + d .program) → Reach d w (conf (onto (i + 1) (set sc i (getD w i 0))) (atRest was Status 128) (overlaid xs a (set ys i (getD w i 0))) (set sc i (getD w i 0)) cnt′) e es cs)
-        → Reach d w (conf (rec ProgramAsking i 0) (atRest was m 128) (overlaid xs a ys) sc cnt) e (Program (a + i) (getD w i 0) ∷ es) (programThen d p (a + i) (getD w i 0) cs)
-    one-program r m i cnt ys sc e es cs h ly cell-w falls z b rest =
+        → ((cnt′ : ℕ) → cnt′ ≡ cnt + (2 + d .program) → Reach d w (conf (onto (i + 1) (set sc i (getD w i 0))) (atRest sx Status 128) (overlaid xs a (set ys i (getD w i 0))) (set sc i (getD w i 0)) cnt′) e es cs)
+        → Reach d w (conf (rec ProgramAsking i 0) (atRest sx m 128) (overlaid xs a ys) sc cnt) e (Program (a + i) (getD w i 0) ∷ es) (programThen d p (a + i) (getD w i 0) cs)
+    one-program sx r m i cnt ys sc e es cs h ly cell-w falls z b rest =
         prepend d w _ _ e Nothing (cyc p Write (a + i) 0x40) (Program (a + i) v ∷ es) _
-        (turned d w (rec ProgramAsking i 0) (atRest was m 128) X sc cnt refl lX (cyc p Write (a + i) 0x40) Quiet asked Nothing answered1)
-        (does d w (rec ProgramAsking i 0) (atRest was m 128) X sc cnt refl lX (cyc p Write (a + i) 0x40) Quiet asked Nothing answered1)
+        (turned d w (rec ProgramAsking i 0) (atRest sx m 128) X sc cnt refl lX (cyc p Write (a + i) 0x40) Quiet asked Nothing answered1)
+        (does d w (rec ProgramAsking i 0) (atRest sx m 128) X sc cnt refl lX (cyc p Write (a + i) 0x40) Quiet asked Nothing answered1)
         (prepend d w _ _ e (Program (a + i) v) (cyc p Write (a + i) v) es _
-        (turned d w (rec ProgramSending i 0) asked X sc (cnt + 1) refl lX (cyc p Write (a + i) v) Quiet (st was Status 0 (Programming v) (d .program) (a + i)) Nothing answered2)
-        (does d w (rec ProgramSending i 0) asked X sc (cnt + 1) refl lX (cyc p Write (a + i) v) Quiet (st was Status 0 (Programming v) (d .program) (a + i)) Nothing answered2)
-        (waiting-all r ProgramWaiting i (Programming v) (a + i) (a + i) refl (refl, refl) (inside i h) (inside i h) X sc lX
+        (turned d w (rec ProgramSending i 0) asked X sc (cnt + 1) refl lX (cyc p Write (a + i) v) Quiet (st sx Status 0 (Programming v) (d .program) (a + i)) Nothing answered2)
+        (does d w (rec ProgramSending i 0) asked X sc (cnt + 1) refl lX (cyc p Write (a + i) v) Quiet (st sx Status 0 (Programming v) (d .program) (a + i)) Nothing answered2)
+        (waiting-all sx r ProgramWaiting i (Programming v) (a + i) (a + i) refl (refl, refl) (inside i h) (inside i h) X sc lX
         (λ q. ap (λ (x : ℕ). cyc p Read x 0) (here ProgramWaiting i q h)) (λ q. ap (λ (y : List ℕ). nextOf (rec ProgramWaiting i q) 0 w y) (program-keeps i q sc) ∙ program-poll i q sc) (λ q. program-keeps i q sc)
         (d .program) (cnt + 1 + 1) e es cs z b (omega arith)
         (λ q cnt′ t. prepend d w _ _ e Nothing (cyc p Read (a + i) 0) es cs
-        (turned d w (rec ProgramWaiting i q) (st was Status 0 (Programming v) 1 (a + i)) X sc cnt′ refl lX (cyc p Read (a + i) 0) (Gives 128) (atRest was Status 128) (Program (a + i) v) (answered3 q)
-        ∙ (λ x. conf ((ap (λ (y : List ℕ). nextOf (rec ProgramWaiting i q) 128 w y) (program-stores i q sc) ∙ programmed i q (set sc i v) h) x) (atRest was Status 128) (stored x) (program-stores i q sc x) (cnt′ + 1)))
-        (does d w (rec ProgramWaiting i q) (st was Status 0 (Programming v) 1 (a + i)) X sc cnt′ refl lX (cyc p Read (a + i) 0) (Gives 128) (atRest was Status 128) (Program (a + i) v) (answered3 q))
+        (turned d w (rec ProgramWaiting i q) (st sx Status 0 (Programming v) 1 (a + i)) X sc cnt′ refl lX (cyc p Read (a + i) 0) (Gives 128) (atRest sx Status 128) (Program (a + i) v) (answered3 q)
+        ∙ (λ x. conf ((ap (λ (y : List ℕ). nextOf (rec ProgramWaiting i q) 128 w y) (program-stores i q sc) ∙ programmed i q (set sc i v) h) x) (atRest sx Status 128) (stored x) (program-stores i q sc x) (cnt′ + 1)))
+        (does d w (rec ProgramWaiting i q) (st sx Status 0 (Programming v) 1 (a + i)) X sc cnt′ refl lX (cyc p Read (a + i) 0) (Gives 128) (atRest sx Status 128) (Program (a + i) v) (answered3 q))
         (rest (cnt′ + 1) (omega arith)))))
       where
         v : ℕ
@@ -392,18 +396,18 @@ module _ (verify : Bool) (d : Device) (p : Pins) (k : ℕ) (u : Up d p) (was : S
         lX = sized ys ly
 
         asked : State
-        asked = st was Status 128 DataAwaited 0 0
+        asked = st sx Status 128 DataAwaited 0 0
 
-        answered1 : Answered d w (rec ProgramAsking i 0) (atRest was m 128) (cyc p Write (a + i) 0x40) Quiet asked Nothing
-        answered1 = answered-here ProgramAsking i 0 Write 0x40 (atRest was m 128) Quiet asked Nothing h refl (answers.asks-program d p u was m 128 (a + i) refl (inside i h)) refl
+        answered1 : Answered d w (rec ProgramAsking i 0) (atRest sx m 128) (cyc p Write (a + i) 0x40) Quiet asked Nothing
+        answered1 = answered-here ProgramAsking i 0 Write 0x40 (atRest sx m 128) Quiet asked Nothing h refl (answers.asks-program d p u sx m 128 (a + i) refl (inside i h)) refl
 
-        answered2 : Answered d w (rec ProgramSending i 0) asked (cyc p Write (a + i) v) Quiet (st was Status 0 (Programming v) (d .program) (a + i)) Nothing
-        answered2 = answered-here ProgramSending i 0 Write v asked Quiet (st was Status 0 (Programming v) (d .program) (a + i)) Nothing h refl (answers.sends d p u was k r (a + i) v (inside i h) (block-at i h) cell-w) refl
+        answered2 : Answered d w (rec ProgramSending i 0) asked (cyc p Write (a + i) v) Quiet (st sx Status 0 (Programming v) (d .program) (a + i)) Nothing
+        answered2 = answered-here ProgramSending i 0 Write v asked Quiet (st sx Status 0 (Programming v) (d .program) (a + i)) Nothing h refl (answers.sends d p u sx k r (a + i) v (inside i h) (block-at i h) cell-w) refl
 
-        answered3 : (q : ℕ) → Answered d w (rec ProgramWaiting i q) (st was Status 0 (Programming v) 1 (a + i)) (cyc p Read (a + i) 0) (Gives 128) (atRest was Status 128) (Program (a + i) v)
+        answered3 : (q : ℕ) → Answered d w (rec ProgramWaiting i q) (st sx Status 0 (Programming v) 1 (a + i)) (cyc p Read (a + i) 0) (Gives 128) (atRest sx Status 128) (Program (a + i) v)
         answered3 q =
-            answered-here ProgramWaiting i q Read 0 (st was Status 0 (Programming v) 1 (a + i)) (Gives 128) (atRest was Status 128) (Program (a + i) v) h refl
-            (answers.ends d p u was k r (Programming v) (a + i) (a + i) (refl, refl) z (inside i h) (inside i h)) refl
+            answered-here ProgramWaiting i q Read 0 (st sx Status 0 (Programming v) 1 (a + i)) (Gives 128) (atRest sx Status 128) (Program (a + i) v) h refl
+            (answers.ends d p u sx k r (Programming v) (a + i) (a + i) (refl, refl) z (inside i h) (inside i h)) refl
 
         stored : set X (a + i) (bitAnd (getD X (a + i) 0) v) ≡ overlaid xs a (set ys i v)
         stored =
@@ -443,17 +447,17 @@ module _ (verify : Bool) (d : Device) (p : Pins) (k : ℕ) (u : Up d p) (was : S
         later = sym (if-false (eqb (1 + n) 0) m Status (ne-eqb (1 + n) 0 (λ q. omega arith)))
 
     -- the programs from place i on, whatever follows; scratch is the block so far
-    walking : (r : Ready d p k) → Cells (d .part) w → (sc : List ℕ) → length sc ≡ length w → ((i : ℕ) → i < length w → bitAnd (getD sc i 0) (getD w i 0) ≡ getD w i 0) → 0 < d .program → d .program ≤ 65535
+    walking : (sx : State) (r : Ready d p k) → Cells (d .part) w → (sc : List ℕ) → length sc ≡ length w → ((i : ℕ) → i < length w → bitAnd (getD sc i 0) (getD w i 0) ≡ getD w i 0) → 0 < d .program → d .program ≤ 65535
         → (e : Config) (cs : List Cycle) (j i cnt : ℕ) (m : Mode) → i + j ≡ length w
-        → ((cnt′ : ℕ) (m′ : Mode) → cnt′ ≡ cnt + costs j i sc → m′ ≡ modeAfter m (differing j i w sc) → Reach d w (loaded m′ cnt′) e [] cs)
-        → Reach d w (conf (onto i (overwritten i w sc)) (atRest was m 128) (overlaid xs a (overwritten i w sc)) (overwritten i w sc) cnt) e (programsOf j a i w sc) (programsThen d p j a i w sc cs)
-    walking r cw sc ls falls z b e cs zero i cnt m q rest =
-        subst (λ (l : Loader). Reach d w (conf l (atRest was m 128) (overlaid xs a (overwritten i w sc)) (overwritten i w sc) cnt) e [] cs) (sym (onto-past i (overwritten i w sc) (omega arith)))
-        (subst (λ (y : List ℕ). Reach d w (conf (rec (loadedStage verify) 0 0) (atRest was m 128) (overlaid xs a y) y cnt) e [] cs) (sym whole) (rest cnt m (omega arith) refl))
+        → ((cnt′ : ℕ) (m′ : Mode) → cnt′ ≡ cnt + costs j i sc → m′ ≡ modeAfter m (differing j i w sc) → Reach d w (loadedAs sx m′ cnt′) e [] cs)
+        → Reach d w (conf (onto i (overwritten i w sc)) (atRest sx m 128) (overlaid xs a (overwritten i w sc)) (overwritten i w sc) cnt) e (programsOf j a i w sc) (programsThen d p j a i w sc cs)
+    walking sx r cw sc ls falls z b e cs zero i cnt m q rest =
+        subst (λ (l : Loader). Reach d w (conf l (atRest sx m 128) (overlaid xs a (overwritten i w sc)) (overwritten i w sc) cnt) e [] cs) (sym (onto-past i (overwritten i w sc) (omega arith)))
+        (subst (λ (y : List ℕ). Reach d w (conf (rec (loadedStage verify) 0 0) (atRest sx m 128) (overlaid xs a y) y cnt) e [] cs) (sym whole) (rest cnt m (omega arith) refl))
       where
         whole : overwritten i w sc ≡ w
         whole = ap (λ (n : ℕ). overwritten n w sc) (let t : i ≡ length sc = omega arith in t) ∙ overwritten-all w sc (sym ls)
-    walking r cw sc ls falls z b e cs (suc j) i cnt m q rest = go (eqb (getD sc i 0) (getD w i 0)) refl (walking r cw sc ls falls z b e cs j (i + 1)) rest
+    walking sx r cw sc ls falls z b e cs (suc j) i cnt m q rest = go (eqb (getD sc i 0) (getD w i 0)) refl (walking sx r cw sc ls falls z b e cs j (i + 1)) rest
       where
         h : i < length w
         h = omega arith
@@ -468,13 +472,13 @@ module _ (verify : Bool) (d : Device) (p : Pins) (k : ℕ) (u : Up d p) (was : S
         ds = programsThen d p j a (i + 1) w sc cs
 
         From : Loader → List ℕ → ℕ → Mode → List Effect → List Cycle → Type 0
-        From l y n m′ es ds′ = Reach d w (conf l (atRest was m′ 128) (overlaid xs a y) y n) e es ds′
+        From l y n m′ es ds′ = Reach d w (conf l (atRest sx m′ 128) (overlaid xs a y) y n) e es ds′
 
         go : (t : Bool) → eqb (getD sc i 0) (getD w i 0) ≡ t
             → ((cnt′ : ℕ) (m′ : Mode) → i + 1 + j ≡ length w
-            → ((c : ℕ) (o : Mode) → c ≡ cnt′ + costs j (i + 1) sc → o ≡ modeAfter m′ (differing j (i + 1) w sc) → Reach d w (loaded o c) e [] cs)
+            → ((c : ℕ) (o : Mode) → c ≡ cnt′ + costs j (i + 1) sc → o ≡ modeAfter m′ (differing j (i + 1) w sc) → Reach d w (loadedAs sx o c) e [] cs)
             → From (onto (i + 1) (overwritten (i + 1) w sc)) (overwritten (i + 1) w sc) cnt′ m′ fs ds)
-            → ((c : ℕ) (o : Mode) → c ≡ cnt + ((if t then 0 else 2 + d .program) + costs j (i + 1) sc) → o ≡ modeAfter m ((if t then 0 else 1) + differing j (i + 1) w sc) → Reach d w (loaded o c) e [] cs)
+            → ((c : ℕ) (o : Mode) → c ≡ cnt + ((if t then 0 else 2 + d .program) + costs j (i + 1) sc) → o ≡ modeAfter m ((if t then 0 else 1) + differing j (i + 1) w sc) → Reach d w (loadedAs sx o c) e [] cs)
             → From (onto i (overwritten i w sc)) (overwritten i w sc) cnt m (if t then fs else Program (a + i) (getD w i 0) ∷ fs) (if t then ds else programThen d p (a + i) (getD w i 0) ds)
         go true t more over =
             subst (λ (l : Loader). From l (overwritten i w sc) cnt m fs ds) (sym (onto-agrees i (overwritten i w sc) h (ap (λ (x : ℕ). eqb x (getD w i 0)) here-is ∙ t)))
@@ -483,7 +487,7 @@ module _ (verify : Bool) (d : Device) (p : Pins) (k : ℕ) (u : Up d p) (was : S
         go false t more over =
             subst (λ (l : Loader). From l (overwritten i w sc) cnt m (Program (a + i) (getD w i 0) ∷ fs) (programThen d p (a + i) (getD w i 0) ds))
             (sym (onto-differs i (overwritten i w sc) h (ap (λ (x : ℕ). eqb x (getD w i 0)) here-is ∙ t)))
-            (one-program r m i cnt (overwritten i w sc) (overwritten i w sc) e fs ds h (overwritten-length w sc (sym ls) i (omega arith) ∙ ls) (cw i)
+            (one-program sx r m i cnt (overwritten i w sc) (overwritten i w sc) e fs ds h (overwritten-length w sc (sym ls) i (omega arith) ∙ ls) (cw i)
             (ap (λ (x : ℕ). bitAnd x (getD w i 0)) here-is ∙ falls i h) z b
             (λ cnt′ s. subst (λ (y : List ℕ). From (onto (i + 1) y) y cnt′ Status fs ds) (sym (overwritten-more w sc i h (omega arith)))
             (more cnt′ Status (omega arith) (λ c o x y. over c o (omega arith) (y ∙ status-stays m (differing j (i + 1) w sc))))))
@@ -520,23 +524,23 @@ module _ (verify : Bool) (d : Device) (p : Pins) (k : ℕ) (u : Up d p) (was : S
 
     -- the erase: 20H, D0H, E polls
     erasing : (r : Ready d p k) (m : Mode) (cnt : ℕ) (ys sc : List ℕ) (e : Config) (es : List Effect) (cs : List Cycle) → length ys ≡ length w → length sc ≡ length w → 0 < d .erase → d .erase ≤ 65535
-        → ((cnt′ : ℕ) → cnt′ ≡ cnt + (2 + d .erase) → Reach d w (conf (onto 0 blank) (atRest was Status 128) (overlaid xs a blank) blank cnt′) e es cs)
+        → ((cnt′ : ℕ) → cnt′ ≡ cnt + (2 + d .erase) → Reach d w (conf (onto 0 blank) (atRest (erasedFrom true k was) Status 128) (overlaid xs a blank) blank cnt′) e es cs)
         → Reach d w (conf (rec EraseAsking 0 0) (atRest was m 128) (overlaid xs a ys) sc cnt) e (Erase k ∷ es) (eraseThen d p a cs)
     erasing r m cnt ys sc e es cs ly ls z b rest =
         prepend d w _ _ e Nothing (cyc p Write a 0x20) (Erase k ∷ es) _
         (turned d w (rec EraseAsking 0 0) (atRest was m 128) X sc cnt refl lX (cyc p Write a 0x20) Quiet asked Nothing answered1)
         (does d w (rec EraseAsking 0 0) (atRest was m 128) X sc cnt refl lX (cyc p Write a 0x20) Quiet asked Nothing answered1)
         (prepend d w _ _ e (Erase k) (cyc p Write a 0xD0) es _
-        (turned d w (rec EraseConfirming 0 0) asked X sc (cnt + 1) refl lX (cyc p Write a 0xD0) Quiet (st was Status 0 Erasing (d .erase) a) Nothing answered2)
+        (turned d w (rec EraseConfirming 0 0) asked X sc (cnt + 1) refl lX (cyc p Write a 0xD0) Quiet (st counted Status 0 Erasing (d .erase) a) Nothing answered2)
         (does-as d w _ _ (Erase k) (cyc p Write a 0xD0) (ap Erase block-first)
-        (does d w (rec EraseConfirming 0 0) asked X sc (cnt + 1) refl lX (cyc p Write a 0xD0) Quiet (st was Status 0 Erasing (d .erase) a) Nothing answered2))
-        (waiting-all r EraseWaiting 0 Erasing a a refl (refl, refl) a-inside a-inside X sc lX
+        (does d w (rec EraseConfirming 0 0) asked X sc (cnt + 1) refl lX (cyc p Write a 0xD0) Quiet (st counted Status 0 Erasing (d .erase) a) Nothing answered2))
+        (waiting-all counted r EraseWaiting 0 Erasing a a refl (refl, refl) a-inside a-inside X sc lX
         (λ q. ap (λ (x : ℕ). cyc p Read x 0) (first EraseWaiting 0 q)) (λ q. ap (λ (y : List ℕ). nextOf (rec EraseWaiting 0 q) 0 w y) (erase-keeps q sc) ∙ erase-poll q sc) (λ q. erase-keeps q sc)
         (d .erase) (cnt + 1 + 1) e es cs z b (omega arith)
         (λ q cnt′ t. prepend d w _ _ e Nothing (cyc p Read a 0) es cs
-        (turned d w (rec EraseWaiting 0 q) (st was Status 0 Erasing 1 a) X sc cnt′ refl lX (cyc p Read a 0) (Gives 128) (atRest was Status 128) (Erase (blockOf (d .part) a)) (answered3 q)
-        ∙ (λ x. conf ((ap (λ (y : List ℕ). nextOf (rec EraseWaiting 0 q) 128 w y) (erase-fills q sc ls) ∙ erased-on q blank) x) (atRest was Status 128) (all-erased x) (erase-fills q sc ls x) (cnt′ + 1)))
-        (does d w (rec EraseWaiting 0 q) (st was Status 0 Erasing 1 a) X sc cnt′ refl lX (cyc p Read a 0) (Gives 128) (atRest was Status 128) (Erase (blockOf (d .part) a)) (answered3 q))
+        (turned d w (rec EraseWaiting 0 q) (st counted Status 0 Erasing 1 a) X sc cnt′ refl lX (cyc p Read a 0) (Gives 128) (atRest counted Status 128) (Erase (blockOf (d .part) a)) (answered3 q)
+        ∙ (λ x. conf ((ap (λ (y : List ℕ). nextOf (rec EraseWaiting 0 q) 128 w y) (erase-fills q sc ls) ∙ erased-on q blank) x) (atRest counted Status 128) (all-erased x) (erase-fills q sc ls x) (cnt′ + 1)))
+        (does d w (rec EraseWaiting 0 q) (st counted Status 0 Erasing 1 a) X sc cnt′ refl lX (cyc p Read a 0) (Gives 128) (atRest counted Status 128) (Erase (blockOf (d .part) a)) (answered3 q))
         (rest (cnt′ + 1) (omega arith)))))
       where
         X : List ℕ
@@ -545,17 +549,20 @@ module _ (verify : Bool) (d : Device) (p : Pins) (k : ℕ) (u : Up d p) (was : S
         lX : length X ≡ sizeOf (d .part)
         lX = sized ys ly
 
+        counted : State
+        counted = erasedFrom true k was
+
         asked : State
         asked = st was Status 128 EraseAwaited 0 0
 
         answered1 : Answered d w (rec EraseAsking 0 0) (atRest was m 128) (cyc p Write a 0x20) Quiet asked Nothing
         answered1 = answered-first EraseAsking 0 0 Write 0x20 (atRest was m 128) Quiet asked Nothing refl (answers.asks-erase d p u was m 128 a refl a-inside) refl
 
-        answered2 : Answered d w (rec EraseConfirming 0 0) asked (cyc p Write a 0xD0) Quiet (st was Status 0 Erasing (d .erase) a) Nothing
-        answered2 = answered-first EraseConfirming 0 0 Write 0xD0 asked Quiet (st was Status 0 Erasing (d .erase) a) Nothing refl (answers.confirms d p u was k r a a-inside block-first) refl
+        answered2 : Answered d w (rec EraseConfirming 0 0) asked (cyc p Write a 0xD0) Quiet (st counted Status 0 Erasing (d .erase) a) Nothing
+        answered2 = answered-first EraseConfirming 0 0 Write 0xD0 asked Quiet (st counted Status 0 Erasing (d .erase) a) Nothing refl (answers.confirms d p u was k r a a-inside block-first) refl
 
-        answered3 : (q : ℕ) → Answered d w (rec EraseWaiting 0 q) (st was Status 0 Erasing 1 a) (cyc p Read a 0) (Gives 128) (atRest was Status 128) (Erase (blockOf (d .part) a))
-        answered3 q = answered-first EraseWaiting 0 q Read 0 (st was Status 0 Erasing 1 a) (Gives 128) (atRest was Status 128) (Erase (blockOf (d .part) a)) refl (answers.ends d p u was k r Erasing a a (refl, refl) z a-inside a-inside) refl
+        answered3 : (q : ℕ) → Answered d w (rec EraseWaiting 0 q) (st counted Status 0 Erasing 1 a) (cyc p Read a 0) (Gives 128) (atRest counted Status 128) (Erase (blockOf (d .part) a))
+        answered3 q = answered-first EraseWaiting 0 q Read 0 (st counted Status 0 Erasing 1 a) (Gives 128) (atRest counted Status 128) (Erase (blockOf (d .part) a)) refl (answers.ends d p u counted k r Erasing a a (refl, refl) z a-inside a-inside) refl
 
         all-erased : erased (d .part) (blockOf (d .part) a) X ≡ overlaid xs a blank
         all-erased = erased-blank X (blockOf (d .part) a) block-first ∙ over-over xs a ys blank (a-within xs lx) (ly ∙ sym (length-replicate (length w) (ones (d .part))))
@@ -633,7 +640,7 @@ module _ (verify : Bool) (d : Device) (p : Pins) (k : ℕ) (u : Up d p) (was : S
       -- the whole load, whether some bit must rise or none, whatever follows
       pub loading : (r : Ready d p k) (m : Mode) (x : ℕ) → fits 2 x ≡ true → Cells (d .part) w → 0 < d .program → d .program ≤ 65535 → 0 < d .erase → d .erase ≤ 65535
           → (e : Config) (cs : List Cycle)
-          → ((cnt′ : ℕ) → cnt′ ≡ 2 + length w + ((if risesIn w ys then 2 + d .erase else 0) + costs (length w) 0 (baseOf (d .part) w ys)) → Reach d w (loaded (loadedMode w ys) cnt′) e [] cs)
+          → ((cnt′ : ℕ) → cnt′ ≡ 2 + length w + ((if risesIn w ys then 2 + d .erase else 0) + costs (length w) 0 (baseOf (d .part) w ys)) → Reach d w (loadedAs (erasedFrom (risesIn w ys) k was) (loadedMode w ys) cnt′) e [] cs)
           → Reach d w (fore m x) e (operationsOf (d .part) k a w ys) (loadThen d p a w ys cs)
       unfolding asWanted
       loading r m x f bw zp bp ze be e cs rest = opening m x f e _ _ (go (risesIn w ys) refl rest)
@@ -641,17 +648,18 @@ module _ (verify : Bool) (d : Device) (p : Pins) (k : ℕ) (u : Up d p) (was : S
           After : List Effect → List Cycle → Type 0
           After es ds = Reach d w (judged (2 + length w)) e es ds
 
-          modes : (m′ : Mode) (n : ℕ) → m′ ≡ loadedMode w ys → Reach d w (loaded (loadedMode w ys) n) e [] cs → Reach d w (loaded m′ n) e [] cs
-          modes m′ n q v = subst (λ (o : Mode). Reach d w (loaded o n) e [] cs) (sym q) v
+          modes : (t : Bool) → risesIn w ys ≡ t → (m′ : Mode) (n : ℕ) → m′ ≡ loadedMode w ys
+              → Reach d w (loadedAs (erasedFrom (risesIn w ys) k was) (loadedMode w ys) n) e [] cs → Reach d w (loadedAs (erasedFrom t k was) m′ n) e [] cs
+          modes t z m′ n q v = subst (λ (c : Config). Reach d w c e [] cs) (λ i. loadedAs (erasedFrom (z i) k was) (sym q i) n) v
 
           go : (t : Bool) → risesIn w ys ≡ t
-              → ((cnt′ : ℕ) → cnt′ ≡ 2 + length w + ((if risesIn w ys then 2 + d .erase else 0) + costs (length w) 0 (baseOf (d .part) w ys)) → Reach d w (loaded (loadedMode w ys) cnt′) e [] cs)
+              → ((cnt′ : ℕ) → cnt′ ≡ 2 + length w + ((if risesIn w ys then 2 + d .erase else 0) + costs (length w) 0 (baseOf (d .part) w ys)) → Reach d w (loadedAs (erasedFrom (risesIn w ys) k was) (loadedMode w ys) cnt′) e [] cs)
               → After (operationsOf (d .part) k a w ys) (if risesIn w ys then eraseThen d p a (programmingThen d p a w ys cs) else programmingThen d p a w ys cs)
           go true t over =
               rw t
               (erasing r Array (2 + length w) ys ys e (programsOf (length w) a 0 w blank) (programsThen d p (length w) a 0 w blank cs) ly ly ze be
-              (λ cnt′ y. walking r bw blank (length-replicate (length w) (ones (d .part))) (λ i h. full i h) zp bp e cs (length w) 0 cnt′ Status (omega arith)
-              (λ c o q v. modes o c (v ∙ risen) (over c (rw t (omega arith))))))
+              (λ cnt′ y. walking (erasedFrom true k was) r bw blank (length-replicate (length w) (ones (d .part))) (λ i h. full i h) zp bp e cs (length w) 0 cnt′ Status (omega arith)
+              (λ c o q v. modes true t o c (v ∙ risen) (over c (rw t (omega arith))))))
             where
               full : (i : ℕ) → i < length w → bitAnd (getD blank i 0) (getD w i 0) ≡ getD w i 0
               full i h = ap (λ (y : ℕ). bitAnd y (getD w i 0)) (getD-replicate (length w) i (ones (d .part)) 0 h) ∙ and-ones (d .part) (getD w i 0) (bw i)
@@ -663,7 +671,7 @@ module _ (verify : Bool) (d : Device) (p : Pins) (k : ℕ) (u : Up d p) (was : S
                   differs = sym (if-false (asWanted w ys) Array Status (risen-differs w ys ly t))
           go false t over =
               rw t
-              (walking r bw ys ly (λ i h. unrisen ys t i h) zp bp e cs (length w) 0 (2 + length w) Array (omega arith) (λ c o q v. modes o c v (over c (rw t (omega arith)))))
+              (walking was r bw ys ly (λ i h. unrisen ys t i h) zp bp e cs (length w) 0 (2 + length w) Array (omega arith) (λ c o q v. modes false t o c v (over c (rw t (omega arith)))))
 
     -- the cost of the programs is a product
     pub costs-are : (j i : ℕ) (sc : List ℕ) → costs j i sc ≡ differing j i w sc * (2 + d .program)

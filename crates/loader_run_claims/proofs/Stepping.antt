@@ -289,7 +289,7 @@ module _ (stage : Stage) (verify : Bool) (going : isEnded stage ≡ false) (d : 
 some-counted : (verify : Bool) (d : Device) (s : State) (p : Pins) (k : ℕ) (w ys : List ℕ) → 0 < ranAs verify d s p k w ys .count
 unfolding ranAs
 some-counted verify d s p k w ys =
-    if-ind (λ (r : Ran). 0 < r .count) (eqb (endNumber d p k w ys) 0) (wellRan verify d s w ys) (faultRan d s p w ys (endNumber d p k w ys)) (λ e. some verify) (λ e. omega arith)
+    if-ind (λ (r : Ran). 0 < r .count) (eqb (endNumber d p k w ys) 0) (wellRan verify d s k w ys) (faultRan d s p w ys (endNumber d p k w ys)) (λ e. some verify) (λ e. omega arith)
   where
     some : (v : Bool) → 0 < formulaBy v d w ys
     some true = omega arith

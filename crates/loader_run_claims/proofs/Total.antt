@@ -114,7 +114,7 @@ module _ (verify : Bool) (d : Device) (s : State) (p : Pins) (k : ℕ) (xs w sc 
   unfolding ranAs
   end-is = ap (λ (r : Ran). r .end) (every-end verify d s p k xs w sc t .ran) ∙ go (endNumber d p k w (heldIn (startOf (d .part) k) (length w) xs)) (eqb (endNumber d p k w (heldIn (startOf (d .part) k) (length w) xs)) 0) refl
     where
-      go : (n : ℕ) (z : Bool) → eqb n 0 ≡ z → (if z then wellRan verify d s w (heldIn (startOf (d .part) k) (length w) xs) else faultRan d s p w (heldIn (startOf (d .part) k) (length w) xs) n) .end ≡ n
+      go : (n : ℕ) (z : Bool) → eqb n 0 ≡ z → (if z then wellRan verify d s k w (heldIn (startOf (d .part) k) (length w) xs) else faultRan d s p w (heldIn (startOf (d .part) k) (length w) xs) n) .end ≡ n
       go n true e = sym (eqb-true n 0 e)
       go n false e = refl
 

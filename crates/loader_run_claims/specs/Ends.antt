@@ -19,6 +19,7 @@ use Rattle.model_types.specs.declared.Mode.the-variants.{Array, Status}
 use Rattle.model_types.specs.declared.State.{State}
 use Rattle.model_types.specs.Levels.{vppLow, unlocked}
 use Rattle.model_types.specs.States.{atRest}
+use Rattle.model_types.specs.Counts.{worn}
 use Rattle.loader.specs.declared.Stage.the-variants.{Clearing}
 use Rattle.loader.specs.Walks.{risesIn, diffFrom}
 use Rattle.loader_run.specs.declared.Ran.{Ran}
@@ -68,16 +69,20 @@ loadedMode w ys = if asWanted w ys then Array else Status
 abbrev pub endMode : Bool → List ℕ → List ℕ → Mode
 endMode verify w ys = if verify then Array else loadedMode w ys
 
--- a run that ends well, and one that ends by a fault at cycle n + 5
-abbrev pub wellRan : Bool → Device → State → List ℕ → List ℕ → Ran
-wellRan verify d s w ys = record { count = formulaBy verify d w ys; end = 0; address = 0; state = atRest s (endMode verify w ys) 0x80 }
+-- a state with the counts that a load leaves: one more erase of block k where it erases
+abbrev pub erasedFrom : Bool → ℕ → State → State
+erasedFrom erases k s = record { mode = s .mode; status = s .status; phase = s .phase; left = s .left; address = s .address; wear = if erases then worn (s .wear) k else s .wear }
+
+-- a run that ends well, and one that ends by a fault at cycle n + 5; it erases where some bit must rise
+abbrev pub wellRan : Bool → Device → State → ℕ → List ℕ → List ℕ → Ran
+wellRan verify d s k w ys = record { count = formulaBy verify d w ys; end = 0; address = 0; state = atRest (erasedFrom (risesIn w ys) k s) (endMode verify w ys) 0x80 }
 
 abbrev pub faultRan : Device → State → Pins → List ℕ → List ℕ → ℕ → Ran
 faultRan d s p w ys n = record { count = length w + 5; end = n; address = 0; state = atRest s Status (faultStatus d p w ys) }
 
 -- what such a run returns, what it leaves in array and scratch, and its cycles
 unfoldable pub ranAs : Bool → Device → State → Pins → ℕ → List ℕ → List ℕ → Ran
-ranAs verify d s p k w ys = if eqb (endNumber d p k w ys) 0 then wellRan verify d s w ys else faultRan d s p w ys (endNumber d p k w ys)
+ranAs verify d s p k w ys = if eqb (endNumber d p k w ys) 0 then wellRan verify d s k w ys else faultRan d s p w ys (endNumber d p k w ys)
 
 unfoldable pub bytesAs : Device → Pins → ℕ → ℕ → List ℕ → List ℕ → List ℕ → List ℕ
 bytesAs d p k a w ys xs = if eqb (endNumber d p k w ys) 0 then overlaid xs a w else xs
