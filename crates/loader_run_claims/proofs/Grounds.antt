@@ -83,7 +83,7 @@ same-smooth (suc i) (suc j) d w c a b = ap (λ (x : Bool). smoothTurn d w c && x
 pub ready-status : (d : Device) (s : State) → Proper d s → underWay (s .phase) ≡ false → fits 2 (s .status) ≡ true
 ready-status d s q u = status-fits Free (s .status) (subst (λ (x : Phase). badStatus x (s .status) ≡ false) (free-phase (s .phase) u) (q .status))
 
-some-bytes : (d : Device) (k : ℕ) → noBlock (d .part) k ≡ false → lengthOf (d .part) k ≡ 0 → ⊥
+pub some-bytes : (d : Device) (k : ℕ) → noBlock (d .part) k ≡ false → lengthOf (d .part) k ≡ 0 → ⊥
 unfolding noBlock
 some-bytes d k e = eqb-false (lengthOf (d .part) k) 0 e
 

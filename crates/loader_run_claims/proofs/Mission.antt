@@ -3,20 +3,21 @@
 use mathlib.Core.Path.{_≡_, refl, sym, ap, _∙_, subst}
 use mathlib.Core.Bool.{Bool, true, false}
 use mathlib.Core.List.{List, [], _∷_}
-use Prim.Native.Nat.{ℕ, zero, suc, _+_, _-_, _*_, _≤_, _<_}
+use Prim.Native.Nat.{ℕ, zero, suc, _+_, _-_, _*_, _≤_, _<_, min}
 use native.Mathlib.Nat.{zero-mul, one-mul, add-mul, zero-add}
 use native.Mathlib.Omega.{arith}
 use lib.ListN.{length, getD, take, drop}
 use lib.Seq.{take-at, drop-at, length-take-le}
 use lib.Dec.{eqb, ltb}
-use borrow.Author.Tests.{eq-eqb, le-ltb, lt-ltb, ltb-true, ltb-false}
+use borrow.Author.Tests.{eq-eqb, ne-eqb, le-ltb, lt-ltb, ltb-true, ltb-false}
 use Rattle.model_types.specs.Cells.{Cells}
 use Rattle.common.specs.Choice.{if_then_else_}
+use Rattle.common.proofs.Choice.{if-false}
 use Rattle.common.specs.Lists.{overlaid}
 use Rattle.common.proofs.Bytes.{overlaid-before, overlaid-after}
 use Rattle.device.specs.declared.Part.{Part}
 use Rattle.device.specs.declared.Device.{Device}
-use Rattle.device.specs.Parts.{startOf, blockOf}
+use Rattle.device.specs.Parts.{startOf, blockOf, lengthOf, lengthIn}
 use Rattle.device.proofs.Claims.{blocks-end-inside}
 use Rattle.model_types.specs.declared.Pins.{Pins}
 use Rattle.model_types.specs.declared.Cycle.{Cycle}
@@ -24,6 +25,10 @@ use Rattle.model_types.specs.declared.State.{State}
 use Rattle.model_types.specs.declared.Effect.{Effect}
 use Rattle.model_types.specs.declared.Effect.the-variants.{Nothing, Program, Erase}
 use Rattle.model_types.specs.States.{atRest}
+use Rattle.model_types.specs.declared.Wear.{Wear}
+use Rattle.model_types.specs.Counts.{stop, countOf, raised, raisedAt, worn}
+use Rattle.model_types.proofs.Wears.{count-worn}
+use Rattle.model_history.proofs.Counting.{count-begun}
 use Rattle.model_types.proofs.Bands.{not-low}
 use Rattle.loader.specs.declared.Stage.the-variants.{Clearing}
 use Rattle.loader_steps.specs.Front.{endAddress}
@@ -37,7 +42,7 @@ use Rattle.loader_run.proofs.Good.{good}
 use Rattle.loader_run_claims.specs.Made.{cyclesAt, smoothAt, cyclesBy, readsThen, pollsThen, openingThen, eraseThen, programThen, programsThen, closingBy, programmingThen, loadThen}
 use Rattle.loader_run_claims.specs.Ends.{endMode, erasedFrom}
 use Rattle.loader_run_claims.specs.Mission.{Start, Brings, ownCycles, NoFewer, Demand3}
-use Rattle.loader_run_claims.proofs.Grounds.{Left}
+use Rattle.loader_run_claims.proofs.Grounds.{Left, some-bytes}
 use Rattle.loader_run_claims.proofs.Demand.{goal, good-load, ran-left, bytes-left, scratch-left}
 use Rattle.loader_run_claims.proofs.Starts.{none-refuses}
 use Rattle.model_history.proofs.Wearing.{lies}
@@ -126,6 +131,28 @@ pub cycles-long : (verify : Bool) (d : Device) (p : Pins) (a : ℕ) (w ys : List
 cycles-long true d p a w ys =
     load-long d p a w ys (closingBy true p a (length w)) ∙ ap (λ (n : ℕ). loadFormula d w ys + n) (closing-long true p a (length w)) ∙ sym (formula-both d w ys)
 cycles-long false d p a w ys = load-long d p a w ys [] ∙ (let z : loadFormula d w ys + 0 ≡ loadFormula d w ys = omega arith in z)
+
+-- a block that is there is one of seven
+seven : (part : Part) (k : ℕ) → (lengthOf part k ≡ 0 → ⊥) → k < 7
+unfolding lengthOf lengthIn
+seven part zero h = omega arith
+seven part (suc zero) h = omega arith
+seven part (suc (suc zero)) h = omega arith
+seven part (suc (suc (suc zero))) h = omega arith
+seven part (suc (suc (suc (suc zero)))) h = omega arith
+seven part (suc (suc (suc (suc (suc zero))))) h = omega arith
+seven part (suc (suc (suc (suc (suc (suc zero)))))) h = omega arith
+seven part (suc (suc (suc (suc (suc (suc (suc k))))))) h = absurd (h refl)
+
+-- one more erase, or none, of block k, as the counts have it
+own-count : (t : Bool) (v : Wear) (k : ℕ) → k < 7 → countOf v k ≤ stop → countOf (if t then worn v k else v) k ≡ min (countOf v k + (if t then 1 else 0)) stop
+own-count true v k h c = count-begun (Erase k) v k h c ∙ rw (eq-eqb k k refl) refl
+own-count false v k h c = omega arith
+
+other-count : (t : Bool) (v : Wear) (k j : ℕ) → j < 7 → (j ≡ k → ⊥) → countOf (if t then worn v k else v) j ≡ countOf v j
+unfolding raisedAt
+other-count true v k j h z = count-worn v k j h ∙ if-false (eqb k j) (raised (countOf v j)) (countOf v j) (ne-eqb k j (λ e. z (sym e)))
+other-count false v k j h z = refl
 
 module _ (verify : Bool) (d : Device) (s : State) (p : Pins) (k : ℕ) (xs w sc : List ℕ) (start : Start d s p k xs w sc) where
   abbrev a : ℕ
@@ -225,6 +252,20 @@ module _ (verify : Bool) (d : Device) (s : State) (p : Pins) (k : ℕ) (xs w sc 
         there = ap (λ (v : World). heldBy (d .part) k (v .bytes)) own-world ∙ sym (held-is (runLeftAt Clearing verify d s p k xs w sc .bytes)) ∙ block-holds;
       }
 
+  -- the counts of erases
+  wear-left : runLeftAt Clearing verify d s p k xs w sc .ran .state .wear ≡ (if risesIn w ys then worn (s .wear) k else s .wear)
+  wear-left = ap (λ (r : Ran). r .state .wear) ends-well
+
+  worn-block : countOf (s .wear) k ≤ stop
+      → countOf (runLeftAt Clearing verify d s p k xs w sc .ran .state .wear) k ≡ min (countOf (s .wear) k + totalOf (eraseOf k) (begunAt Clearing verify d s p k xs w sc)) stop
+  worn-block c =
+      ap (λ (v : Wear). countOf v k) wear-left
+      ∙ own-count (risesIn w ys) (s .wear) k (seven (d .part) k (some-bytes d k (start .base .block))) c
+      ∙ ap (λ (n : ℕ). min (countOf (s .wear) k + n) stop) (sym (ap (λ (es : List Effect). totalOf (eraseOf k) es) begins-just ∙ operations-erase (d .part) k a w ys))
+
+  worn-others : (j : ℕ) → j < 7 → (j ≡ k → ⊥) → countOf (runLeftAt Clearing verify d s p k xs w sc .ran .state .wear) j ≡ countOf (s .wear) j
+  worn-others j h z = ap (λ (v : Wear). countOf v j) wear-left ∙ other-count (risesIn w ys) (s .wear) k j h z
+
   -- nothing wears less than the load's own cycles
   least-wear : Cells (d .part) xs → (bs : List Bus) → Brings d (worldOf s xs) k w bs → NoFewer d (worldOf s xs) k own bs
   least-wear bx bs h =
@@ -257,5 +298,7 @@ module _ (verify : Bool) (d : Device) (s : State) (p : Pins) (k : ℕ) (xs w sc 
         least-wear = least-wear;
         counted = ap (λ (r : Ran). r .count) ends-well ∙ sym (ap (λ (cs : List Cycle). length cs) cycles-are ∙ cycles-long verify d p a w ys);
         by-formula = ap (λ (r : Ran). r .count) ends-well ∙ ap (λ (ys : List ℕ). formulaBy verify d w ys) (held-is xs);
+        worn-block = worn-block;
+        worn-others = worn-others;
         scratch-left = scratch-wanted;
       }

@@ -2,7 +2,7 @@
 use mathlib.Core.Path.{_≡_}
 use mathlib.Core.Bool.{Bool, true, false}
 use mathlib.Core.List.{List}
-use Prim.Native.Nat.{ℕ, _≤_}
+use Prim.Native.Nat.{ℕ, _+_, _≤_, _<_, min}
 use lib.ListN.{length, getD}
 use Rattle.common.specs.Lists.{overlaid}
 use Rattle.device.specs.declared.Device.{Device}
@@ -10,6 +10,7 @@ use Rattle.device.specs.Parts.{unknownDevice, sizeOf, lengthOf, startOf, blockO
 use Rattle.model_types.specs.declared.Pins.{Pins}
 use Rattle.model_types.specs.declared.State.{State}
 use Rattle.model_types.specs.Cells.{Cells}
+use Rattle.model_types.specs.Counts.{stop, countOf}
 use Rattle.model_types.specs.Levels.{rpLow, vppHigh, badPins, unlocked}
 use Rattle.model_types.specs.States.{improper}
 use Rattle.loader.specs.declared.Stage.the-variants.{Clearing}
@@ -17,7 +18,7 @@ use Rattle.loader_steps.specs.Front.{noBlock}
 use Rattle.loader_run.specs.Runs.{runLeftAt}
 use Rattle.model_types.specs.Phases.{underWay}
 use Rattle.loader_run_claims.specs.Wear.{begunAt, heldBy, notedAll, operationsOf, formulaBy}
-use Rattle.model_history.specs.History.{Bus, World, worldOf, busesOf, worldAfter, effectsIn, begunOver, acceptsAll, uncut, erasesBegun, programsBegun}
+use Rattle.model_history.specs.History.{Bus, World, worldOf, busesOf, worldAfter, effectsIn, begunOver, acceptsAll, uncut, totalOf, eraseOf, erasesBegun, programsBegun}
 use Rattle.loader_run_claims.specs.Made.{cyclesAt}
 
 -- a proper idle start at any supply that is let in: a known device with its array, a proper state with nothing under way, a block
@@ -84,5 +85,9 @@ pub record Demand3 (verify : Bool) (d : Device) (s : State) (p : Pins) (k : ℕ)
   pub counted : runLeftAt Clearing verify d s p k xs w sc .ran .count ≡ length (cyclesAt Clearing verify d s p k xs w sc)
   -- .. by the formula
   pub by-formula : runLeftAt Clearing verify d s p k xs w sc .ran .count ≡ formulaBy verify d w (heldBy (d .part) k xs)
+  -- the counts of erases: that of the block has gone up by the erases begun, up to the stop; every other is as it was
+  pub worn-block : countOf (s .wear) k ≤ stop
+      → countOf (runLeftAt Clearing verify d s p k xs w sc .ran .state .wear) k ≡ min (countOf (s .wear) k + totalOf (eraseOf k) (begunAt Clearing verify d s p k xs w sc)) stop
+  pub worn-others : (j : ℕ) → j < 7 → (j ≡ k → ⊥) → countOf (runLeftAt Clearing verify d s p k xs w sc .ran .state .wear) j ≡ countOf (s .wear) j
   -- and scratch ends as wanted
   pub scratch-left : runLeftAt Clearing verify d s p k xs w sc .scratch ≡ w

@@ -33,7 +33,7 @@ use Rattle.loader_run.specs.Runs.{runRows, runNumber, RunLeft, runRefused, runL
 use Rattle.loader_run.proofs.Leaving.{left-refused}
 use Rattle.loader_run_claims.specs.Wear.{heldIn, baseOf, formula, loadFormula}
 use Rattle.loader_run_claims.specs.Made.{busCycle, readsThen, pollsThen, openingThen, eraseThen, programThen, programsThen, programmingThen, loadThen, closingOf, cyclesAt, cyclesOfLoad}
-use Rattle.loader_run_claims.specs.Ends.{loadedMode, endNumber, wellRan, faultRan, ranAs, bytesAs, scratchAs, cyclesAs}
+use Rattle.loader_run_claims.specs.Ends.{loadedMode, endNumber, wellRan, faultRan, ranAs, bytesAs, scratchAs, cyclesAs, erasedFrom}
 use Rattle.loader_run_claims.specs.Mission.{Taken}
 use Rattle.loader_run_claims.proofs.Starts.{none-refuses, taken-if}
 use Rattle.loader_run_claims.proofs.Layers.{cells-laid}
@@ -103,8 +103,11 @@ module _ (d : Device) (s : State) (p : Pins) (k : ℕ) (xs w sc : List ℕ) (t :
   fits = grounds.fitting d s p k xs w sc (none-refuses d s p k xs w sc t)
 
   -- the state and the array that a good load leaves
+  abbrev was : State
+  was = erasedFrom (risesIn w ys) k s
+
   abbrev after : State
-  after = atRest s (loadedMode w ys) 0x80
+  after = atRest was (loadedMode w ys) 0x80
 
   abbrev laid : List ℕ
   laid = overlaid xs a w
@@ -115,7 +118,7 @@ module _ (d : Device) (s : State) (p : Pins) (k : ℕ) (xs w sc : List ℕ) (t :
       record {
         known = t .known;
         sized = overlaid-length xs a w fits ∙ t .sized;
-        proper = parts-proper d after (rest-proper d s (loadedMode w ys) 0x80 refl);
+        proper = parts-proper d after (rest-proper d was (loadedMode w ys) 0x80 refl);
         idle = refl;
         block = t .block;
         wanted = t .wanted;
@@ -139,7 +142,7 @@ module _ (d : Device) (s : State) (p : Pins) (k : ℕ) (xs w sc : List ℕ) (t :
   held : heldIn a (length w) laid ≡ w
   held = held-over xs w a fits
 
-  verify-ran : verifyAlone d after p k laid w w .ran ≡ record { count = 1 + length w; end = 0; address = 0; state = atRest s Array 0x80 }
+  verify-ran : verifyAlone d after p k laid w w .ran ≡ record { count = 1 + length w; end = 0; address = 0; state = atRest was Array 0x80 }
   unfolding unitsRead verifyEnd verifyAddress
   verify-ran = verify-well .ran ∙ ap (λ (z : List ℕ). verifyRan (d .part) after a w z) held ∙ rw (as-wanted w) refl
 
@@ -153,18 +156,18 @@ module _ (d : Device) (s : State) (p : Pins) (k : ℕ) (xs w sc : List ℕ) (t :
 
   -- a load that ended well, and the run
   module _ (e : eqb (endNumber d p k w ys) 0 ≡ true) where
-    loaded : load ≡ record { ran = wellRan false d s w ys; bytes = laid; scratch = w }
+    loaded : load ≡ record { ran = wellRan false d s k w ys; bytes = laid; scratch = w }
     unfolding ranAs bytesAs scratchAs
     loaded =
-        parts load (record { ran = wellRan false d s w ys; bytes = laid; scratch = w })
+        parts load (record { ran = wellRan false d s k w ys; bytes = laid; scratch = w })
         (every-end false d s p k xs w sc t .ran ∙ if-true (eqb (endNumber d p k w ys) 0) _ _ e)
         (every-end false d s p k xs w sc t .bytes ∙ if-true (eqb (endNumber d p k w ys) 0) _ _ e)
         (every-end false d s p k xs w sc t .scratch ∙ if-true (eqb (endNumber d p k w ys) 0) _ _ e)
 
-    run-well : runLeft d s p k xs w sc ≡ record { ran = wellRan true d s w ys; bytes = laid; scratch = w }
+    run-well : runLeft d s p k xs w sc ≡ record { ran = wellRan true d s k w ys; bytes = laid; scratch = w }
     unfolding ranAs bytesAs scratchAs
     run-well =
-        parts (runLeft d s p k xs w sc) (record { ran = wellRan true d s w ys; bytes = laid; scratch = w })
+        parts (runLeft d s p k xs w sc) (record { ran = wellRan true d s k w ys; bytes = laid; scratch = w })
         (every-end true d s p k xs w sc t .ran ∙ if-true (eqb (endNumber d p k w ys) 0) _ _ e)
         (every-end true d s p k xs w sc t .bytes ∙ if-true (eqb (endNumber d p k w ys) 0) _ _ e)
         (every-end true d s p k xs w sc t .scratch ∙ if-true (eqb (endNumber d p k w ys) 0) _ _ e)
@@ -172,8 +175,8 @@ module _ (d : Device) (s : State) (p : Pins) (k : ℕ) (xs w sc : List ℕ) (t :
     well-both : runLeft d s p k xs w sc ≡ bothLeft d s p k xs w sc
     well-both =
         run-well
-        ∙ parts (record { ran = wellRan true d s w ys; bytes = laid; scratch = w }) (verifyAfter d p k w (record { ran = wellRan false d s w ys; bytes = laid; scratch = w }))
-        ((λ i. record { count = sums i; end = 0; address = 0; state = atRest s Array 0x80 }) ∙ ap (λ (r : Ran). countedOn (loadFormula d w ys) r) (sym verify-ran))
+        ∙ parts (record { ran = wellRan true d s k w ys; bytes = laid; scratch = w }) (verifyAfter d p k w (record { ran = wellRan false d s k w ys; bytes = laid; scratch = w }))
+        ((λ i. record { count = sums i; end = 0; address = 0; state = atRest was Array 0x80 }) ∙ ap (λ (r : Ran). countedOn (loadFormula d w ys) r) (sym verify-ran))
         (sym (verify-well .bytes)) (sym verify-scratch)
         ∙ ap (λ (l : RunLeft). thenVerify d p k w l) (sym loaded)
       where
