@@ -1,2 +1,3 @@
 pub mod Reports
+pub mod Counted
 pub mod Refusals
