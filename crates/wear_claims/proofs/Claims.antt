@@ -1,14 +1,22 @@
 -- What is claimed of the report on wear, in one place. Assumes nothing.
 use mathlib.Core.Path.{_≡_}
+use mathlib.Core.Bool.{false}
 use mathlib.Core.List.{List}
 use Prim.Native.Nat.{ℕ, _≤_, _<_}
-use lib.ListN.{length}
+use lib.ListN.{length, replicate}
 use Rattle.device.specs.declared.Device.{Device}
 use Rattle.device.specs.Parts.{lengthOf}
-use Rattle.wear.specs.Reports.{noTally, noReport, reportOn, tallyOf}
+use Rattle.model_types.specs.declared.Wear.{Wear}
+use Rattle.model_types.specs.Counts.{stop, countOf}
+use Rattle.wear.specs.declared.Report.{Report}
+use Rattle.wear.specs.declared.Reported.{Reported}
+use Rattle.wear.specs.Refusals.{unknownNumber, reportedOf}
+use Rattle.wear.specs.Reports.{most, noTally, noReport, added, reportOn, tallyOf}
 use Rattle.wear.specs.Counted.{Small}
-use Rattle.wear_claims.specs.Traces.{Trace, begunAll, wearsOf, lineOf, Beside}
+use Rattle.wear_claims.specs.Traces.{Trace, begunAll, wearsOf, lineOf, Beside, flat}
 use Rattle.wear_claims.proofs.Agree as agree
+use Rattle.wear_claims.proofs.Lent as lent
+use Rattle.wear.proofs.Folding as folding
 
 -- Where no trace begins more erases of a block than the stop, the report on the stored counts says of that block what the cycles say.
 pub report-agrees : (d : Device) (ts : List Trace) (k : ℕ) → k < 7 → length ts ≤ 65535 → Small (begunAll d k ts) → tallyOf (reportOn noReport (wearsOf d ts)) k ≡ lineOf d ts k
@@ -21,3 +29,13 @@ report-beside = agree.beside
 -- A block that the part has not is reported by zeros.
 pub absent-zeros : (d : Device) (ts : List Trace) (k : ℕ) → lengthOf (d .part) k ≡ 0 → lineOf d ts k ≡ noTally
 absent-zeros = agree.absent
+
+-- The whole over slices, each trace from the device asked for and seven counts for each, is the report trace after trace.
+pub report-of-slices : (number : ℕ) (ws : List Wear) → unknownNumber number ≡ false → length ws ≤ 65535
+    → reportedOf number (replicate (length ws) number) (flat ws) ≡ record { number = 0; report = reportOn noReport ws }
+report-of-slices = lent.lent
+
+-- Two traces may come in either order, on any report that the numbers' widths hold.
+pub order-free : (r : Report) (v w : Wear) → ((k : ℕ) → k < 7 → tallyOf r k .total ≤ most) → ((k : ℕ) → k < 7 → countOf v k ≤ stop) → ((k : ℕ) → k < 7 → countOf w k ≤ stop)
+    → added (added r v) w ≡ added (added r w) v
+order-free = folding.swapped
