@@ -24,6 +24,7 @@ use Rattle.model_types.specs.declared.Action.the-variants.{ToArray, ToIdentifie
 use Rattle.model_types.specs.declared.Effect.{Effect}
 use Rattle.model_types.specs.declared.Effect.the-variants.{Nothing, Program, Erase, CutProgram, CutErase}
 use Rattle.model_types.specs.declared.State.{State}
+use Rattle.model_types.specs.declared.Wear.{Wear}
 use Rattle.model_types.specs.declared.Pins.{Pins}
 use Rattle.model_types.specs.declared.Cycle.{Cycle}
 use Rattle.model_types.specs.declared.Settled.{Settled}
@@ -31,7 +32,7 @@ use Rattle.model_types.specs.declared.Decision.{Decision}
 use Rattle.model_types.specs.Cells.{ones}
 use Rattle.model_types.specs.Levels.{vppLow, atTwelve, vppHigh, badWp, badPins, mostOe, badOe, badLevels, unlocked, locked}
 use Rattle.model_types.specs.States.{proper, improper}
-use Rattle.model_commands.specs.Commands.{commandOf, dataOf, asksProgram, firstWrite, actionOf, unsupplied, startedOf, performedOf}
+use Rattle.model_commands.specs.Commands.{commandOf, dataOf, asksProgram, firstWrite, actionOf, unsupplied, wearBy, startedOf, performedOf}
 use Rattle.model_operation.specs.Settling.{cutOf, finishOf, residueFor, resetBy, cutBy, countedOff, passedOf, settleOf}
 use Rattle.model_rules.specs.Cycles.{pastArray, shortResidue, noCommand, suspendedRead, skipsLast, codePlace, noIdentifier, tableOf, numberOf, identifierOf, replyTo, respondOf, acceptOf, decideOf}
 use Rattle.model.specs.Arrays.{erased, residual, arrayOf, seenOf, arrayAfter, answerOf}
@@ -206,9 +207,18 @@ module _ (d : Device) (l : Leaves (d .part)) where
     unfolding unsupplied
     supply s = rw (low (c .pins)) refl
 
+    worn-same : (ph : Phase) (w : Wear) → wearBy ph p c w ≡ wearBy ph p (narrow c) w
+    worn-same Free w = refl
+    worn-same EraseAwaited w = refl
+    worn-same DataAwaited w = refl
+    worn-same (Programming x) w = refl
+    worn-same Erasing w = refl
+    worn-same (Suspending n) w = refl
+    worn-same Suspended w = refl
+
     started : (s : State) (ph : Phase) (t b : ℕ) → startedOf p c s ph t b ≡ before.startedOf p (narrow c) s ph t b
     unfolding startedOf
-    started s ph t b = rw (supply s, shut c) refl
+    started s ph t b = rw (supply s, shut c, worn-same ph (s .wear)) refl
 
     carried-byte : dataOf p c ≡ narrow c .data
     unfolding dataOf

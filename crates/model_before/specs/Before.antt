@@ -35,7 +35,7 @@ use Rattle.model_types.specs.Levels.{rpLow}
 use Rattle.model_types.specs.Phases.{isBusy, isSuspending, isSuspended, isPending}
 use Rattle.model_types.specs.Status.{SR7, SR6, SR5, SR4, SR3, withBits, withoutBits, isSet}
 use Rattle.model_types.specs.States.{isArray, isIdentifier, properMode, properReady, properHeld, properLow, properLeft, properSuspend, atRest, inPhase, resetOf}
-use Rattle.model_commands.specs.Commands.{afterErase, whileErasing, whileSuspending, whileSuspended, isRefuse, inMode, withStatus}
+use Rattle.model_commands.specs.Commands.{afterErase, whileErasing, whileSuspending, whileSuspended, isRefuse, inMode, withStatus, wearBy}
 use Rattle.model_operation.specs.Settling.{settledAs, cutBits, suspendPassed}
 use Rattle.model_rules.specs.Cycles.{decidedAs, refusedBy}
 use Rattle.model.specs.Arrays.{seenOf}
@@ -161,12 +161,13 @@ abbrev pub unsupplied : Part → Cycle → State → Bool
 unsupplied part c s = vppLow part (c .pins) || isSet (s .status) SR3
 
 -- a confirm or data: unsupplied sets SR.3 and the operation's error bit, locked the error bit (where both apply, the bits are
--- those of the first); otherwise the operation starts at this cycle's address with its busy time to go and SR.7 clear
+-- those of the first); otherwise the operation starts at this cycle's address with its busy time to go and SR.7 clear;
+-- an erase is counted, which it was not before
 abbrev pub startedOf : Part → Cycle → State → Phase → ℕ → ℕ → State
 startedOf part c s ph time bit =
     if unsupplied part c s then atRest s (s .mode) (withBits (withBits (s .status) SR3) bit)
     else if locked part c then atRest s (s .mode) (withBits (s .status) bit)
-    else record { mode = s .mode; status = withoutBits (s .status) SR7; phase = ph; left = time; address = c .address }
+    else record { mode = s .mode; status = withoutBits (s .status) SR7; phase = ph; left = time; address = c .address; wear = wearBy ph part c (s .wear) }
 
 -- what an action makes of the state; a suspend takes S cycles, of which this is none
 abbrev pub performedOf : Action → Device → Cycle → State → State
@@ -226,7 +227,7 @@ cutBy part s = settledAs (atRest s Status (withBits (withoutBits (s .status) SR6
 abbrev pub countedOff : Part → State → Settled
 countedOff part s =
     if eqb (s .left - 1) 0 then settledAs (atRest s (s .mode) (withBits (s .status) SR7)) (finishOf (s .phase) part (s .address))
-    else settledAs (record { mode = s .mode; status = s .status; phase = s .phase; left = s .left - 1; address = s .address }) Nothing
+    else settledAs (record { mode = s .mode; status = s .status; phase = s .phase; left = s .left - 1; address = s .address; wear = s .wear }) Nothing
 
 -- step 3 of a busy device
 abbrev pub passedOf : Part → State → Settled
