@@ -1,21 +1,20 @@
 -- One trace after the other comes to the line of the whole list, and the order does not matter. Assumes nothing.
-use mathlib.Core.Path.{_≡_, refl, sym, ap, subst, _∙_}
+use mathlib.Core.Path.{_≡_, refl, sym, ap, _∙_}
 use mathlib.Core.Bool.{Bool, true, false}
-use mathlib.Core.List.{List, [], _∷_}
+use mathlib.Core.List.{List, [], _∷_, _++_}
 use Prim.Native.Nat.{ℕ, zero, suc, _+_, _-_, _*_, _≤_, _<_, min, max}
 use native.Mathlib.Omega.{arith}
 use lib.ListN.{length}
 use lib.Dec.{eqb, ltb}
-use borrow.Author.Tests.{ltb-true, ltb-false, lt-ltb, le-ltb, ne-eqb}
+use borrow.Author.Tests.{ltb-true, ltb-false, ne-eqb}
 use Rattle.common.specs.Choice.{if_then_else_}
-use Rattle.common.proofs.Choice.{if-true, if-false}
 use Rattle.model_types.specs.declared.Wear.{Wear}
 use Rattle.model_types.specs.Counts.{stop, countOf, raised}
 use Rattle.model_types.proofs.Wears.{among, raised-is}
 use Rattle.wear.specs.declared.Tally.{Tally}
 use Rattle.wear.specs.declared.Report.{Report}
 use Rattle.wear.specs.Reports.{most, addedUp, larger, lowest, passing, tallied, noTally, noReport, added, wearAt, reportFrom, reportOn, tallyOf}
-use Rattle.wear.specs.Counted.{totalIn, largestIn, leastOf, smallestIn, passedIn, summary, countsOf, wearsFrom, Small}
+use Rattle.wear.specs.Counted.{totalIn, largestIn, leastOf, passedIn, summary, countsOf, wearsFrom, Small, Fits, AllFit, Sound}
 
 -- ---- one trace more, number by number
 added-is : (a n : ℕ) → a ≤ most → n ≤ most → addedUp a n ≡ min (a + n) most
@@ -204,9 +203,24 @@ swap-tally n t x y h p q =
     })
 
 -- two traces in either order, on any report that 64 bits hold
-pub swapped : (r : Report) (v w : Wear) → ((k : ℕ) → k < 7 → tallyOf r k .total ≤ most) → ((k : ℕ) → k < 7 → countOf v k ≤ stop) → ((k : ℕ) → k < 7 → countOf w k ≤ stop)
+pub swapped : (r : Report) (v w : Wear) → Sound r → Fits v → Fits w
     → added (added r v) w ≡ added (added r w) v
 swapped r v w h p q = same-report (added (added r v) w) (added (added r w) v) refl
     (λ k l. tally-added (added r v) w k l ∙ ap (λ (t : Tally). tallied (eqb (raised (r .traces)) 0) t (countOf w k)) (tally-added r v k l)
     ∙ swap-tally (r .traces) (tallyOf r k) (countOf v k) (countOf w k) (h k l) (p k l) (q k l)
     ∙ sym (tally-added (added r w) v k l ∙ ap (λ (t : Tally). tallied (eqb (raised (r .traces)) 0) t (countOf v k)) (tally-added r w k l)))
+
+-- .. and anywhere among the traces
+added-sound : (r : Report) (w : Wear) → Sound r → Fits w → Sound (added r w)
+added-sound r w h f k l =
+    let e : tallyOf (added r w) k .total ≡ addedUp (tallyOf r k .total) (countOf w k) = ap (λ (t : Tally). t .total) (tally-added r w k l) in
+    let q : addedUp (tallyOf r k .total) (countOf w k) ≡ min (tallyOf r k .total + countOf w k) most = added-is (tallyOf r k .total) (countOf w k) (h k l) (let g = f k l in omega arith) in
+    omega arith
+
+pub anywhere : (us : List Wear) (v w : Wear) (ws : List Wear) (r : Report) → Sound r → AllFit us → Fits v → Fits w
+    → reportOn r (us ++ (v ∷ w ∷ ws)) ≡ reportOn r (us ++ (w ∷ v ∷ ws))
+anywhere [] v w ws r h a p q = ap (λ (x : Report). reportOn x ws) (swapped r v w h p q)
+anywhere (u ∷ us) v w ws r h a p q = anywhere us v w ws (added r u) (added-sound r u h (a .0)) (a .1) p q
+
+pub none-sound : Sound noReport
+none-sound k l = let e : tallyOf noReport k .total ≡ 0 = ap (λ (t : Tally). t .total) (none-tallies k l) in omega arith

@@ -1,12 +1,13 @@
 -- What a report says of one block, from the list of its counts, a count a trace. Assumes nothing.
 use mathlib.Core.List.{List, [], _∷_}
-use Prim.Native.Nat.{ℕ, zero, suc, _+_, _≤_, min, max}
+use Prim.Native.Nat.{ℕ, zero, suc, _+_, _≤_, _<_, min, max}
 use lib.Dec.{ltb}
 use Rattle.common.specs.Choice.{if_then_else_}
 use Rattle.model_types.specs.declared.Wear.{Wear}
 use Rattle.model_types.specs.Counts.{stop, countOf}
 use Rattle.wear.specs.declared.Tally.{Tally}
-use Rattle.wear.specs.Reports.{wearAt}
+use Rattle.wear.specs.declared.Report.{Report}
+use Rattle.wear.specs.Reports.{most, wearAt, tallyOf}
 
 -- all of them together
 abbrev pub totalIn : List ℕ → ℕ
@@ -51,3 +52,14 @@ wearsFrom (suc n) i cs = wearAt cs i ∷ wearsFrom n (i + 1) cs
 abbrev pub Small : List ℕ → Type 0
 Small [] = 0 ≤ stop
 Small (c ∷ cs) = (c ≤ stop) × Small cs
+
+-- a trace's counts fit 32 bits, those of each trace do, and a report's totals fit 64
+abbrev pub Fits : Wear → Type 0
+Fits w = (k : ℕ) → k < 7 → countOf w k ≤ stop
+
+abbrev pub AllFit : List Wear → Type 0
+AllFit [] = 0 ≤ stop
+AllFit (w ∷ ws) = Fits w × AllFit ws
+
+abbrev pub Sound : Report → Type 0
+Sound r = (k : ℕ) → k < 7 → tallyOf r k .total ≤ most

@@ -7,7 +7,6 @@ use lib.ListN.{length}
 use lib.Dec.{eqb, ltb, leb}
 use Rattle.common.specs.Choice.{if_then_else_}
 use Rattle.common.specs.Numbers.{Row, row, given}
-use Rattle.device.specs.declared.Part.{Part}
 use Rattle.device.specs.Parts.{unknownPart}
 use Rattle.model_types.specs.declared.Wear.{Wear}
 use Rattle.wear.specs.declared.Report.{Report}

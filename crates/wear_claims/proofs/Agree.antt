@@ -2,7 +2,7 @@
 use mathlib.Core.Path.{_≡_, refl, sym, ap, subst, _∙_}
 use mathlib.Core.Bool.{Bool, true, false}
 use mathlib.Core.List.{List, [], _∷_}
-use Prim.Native.Nat.{ℕ, zero, suc, _+_, _≤_, _<_, min, max}
+use Prim.Native.Nat.{ℕ, suc, _+_, _≤_, _<_, min}
 use native.Mathlib.Omega.{arith}
 use lib.ListN.{length}
 use lib.Dec.{ltb}
@@ -10,8 +10,7 @@ use borrow.Author.Tests.{ltb-true, ltb-false, lt-ltb, le-ltb}
 use Rattle.common.specs.Choice.{if_then_else_}
 use Rattle.device.specs.declared.Device.{Device}
 use Rattle.device.specs.Parts.{lengthOf}
-use Rattle.model_types.specs.declared.Wear.{Wear}
-use Rattle.model_types.specs.Counts.{stop, countOf}
+use Rattle.model_types.specs.Counts.{stop}
 use Rattle.model_types.specs.States.{freshState}
 use Rattle.model_history.specs.History.{worldOf}
 use Rattle.model_history.proofs.Counting.{stored-fresh, none-begun}
@@ -19,7 +18,7 @@ use Rattle.wear.specs.declared.Tally.{Tally}
 use Rattle.wear.specs.Reports.{noTally, noReport, reportOn, tallyOf}
 use Rattle.wear.specs.Counted.{totalIn, largestIn, leastOf, smallestIn, passedIn, summary, countsOf, Small}
 use Rattle.wear.proofs.Folding.{exact}
-use Rattle.wear_claims.specs.Traces.{Trace, begunOf, wearOf, begunAll, wearsOf, lineOf, Beside}
+use Rattle.wear_claims.specs.Traces.{Trace, begunOf, begunAll, wearsOf, lineOf, Beside}
 
 abbrev capped : List ℕ → List ℕ
 capped [] = []

@@ -1,18 +1,15 @@
 -- What is claimed of the report on wear, in one place. Assumes nothing.
 use mathlib.Core.Path.{_≡_}
 use mathlib.Core.Bool.{false}
-use mathlib.Core.List.{List}
+use mathlib.Core.List.{List, _∷_, _++_}
 use Prim.Native.Nat.{ℕ, _≤_, _<_}
 use lib.ListN.{length, replicate}
 use Rattle.device.specs.declared.Device.{Device}
 use Rattle.device.specs.Parts.{lengthOf}
 use Rattle.model_types.specs.declared.Wear.{Wear}
-use Rattle.model_types.specs.Counts.{stop, countOf}
-use Rattle.wear.specs.declared.Report.{Report}
-use Rattle.wear.specs.declared.Reported.{Reported}
 use Rattle.wear.specs.Refusals.{unknownNumber, reportedOf}
-use Rattle.wear.specs.Reports.{most, noTally, noReport, added, reportOn, tallyOf}
-use Rattle.wear.specs.Counted.{Small}
+use Rattle.wear.specs.Reports.{noTally, noReport, reportOn, tallyOf}
+use Rattle.wear.specs.Counted.{Small, Fits, AllFit}
 use Rattle.wear_claims.specs.Traces.{Trace, begunAll, wearsOf, lineOf, Beside, flat}
 use Rattle.wear_claims.proofs.Agree as agree
 use Rattle.wear_claims.proofs.Lent as lent
@@ -35,7 +32,6 @@ pub report-of-slices : (number : ℕ) (ws : List Wear) → unknownNumber number 
     → reportedOf number (replicate (length ws) number) (flat ws) ≡ record { number = 0; report = reportOn noReport ws }
 report-of-slices = lent.lent
 
--- Two traces may come in either order, on any report that the numbers' widths hold.
-pub order-free : (r : Report) (v w : Wear) → ((k : ℕ) → k < 7 → tallyOf r k .total ≤ most) → ((k : ℕ) → k < 7 → countOf v k ≤ stop) → ((k : ℕ) → k < 7 → countOf w k ≤ stop)
-    → added (added r v) w ≡ added (added r w) v
-order-free = folding.swapped
+-- Two traces that follow each other may change places, anywhere in a report from no traces: so the order does not matter.
+pub order-free : (us : List Wear) (v w : Wear) (ws : List Wear) → AllFit us → Fits v → Fits w → reportOn noReport (us ++ (v ∷ w ∷ ws)) ≡ reportOn noReport (us ++ (w ∷ v ∷ ws))
+order-free us v w ws = folding.anywhere us v w ws noReport folding.none-sound

@@ -1,17 +1,16 @@
 -- The report over slices is the report on the traces, and the order of traces does not matter anywhere. Assumes nothing.
 use mathlib.Core.Path.{_≡_, refl, sym, ap, _∙_}
-use mathlib.Core.Bool.{Bool, true, false, not}
+use mathlib.Core.Bool.{true, false, not}
 use mathlib.Core.List.{List, [], _∷_, _++_, append-assoc}
-use Prim.Native.Nat.{ℕ, zero, suc, _+_, _*_, _≤_, _<_, min}
+use Prim.Native.Nat.{ℕ, zero, suc, _+_, _*_, _≤_}
 use native.Mathlib.Omega.{arith}
 use lib.ListN.{length, getD, replicate, length-append, length-replicate}
 use lib.Seq.{getD-append-add}
-use lib.Dec.{eqb, ltb}
+use lib.Dec.{eqb}
 use borrow.Author.Tests.{eq-eqb, le-ltb}
 use Rattle.common.proofs.Choice.{if-true}
 use Rattle.model_types.specs.declared.Wear.{Wear}
 use Rattle.wear.specs.declared.Report.{Report}
-use Rattle.wear.specs.declared.Reported.{Reported}
 use Rattle.wear.specs.Reports.{noReport, reportFrom, reportOn, wearAt}
 use Rattle.wear.specs.Counted.{wearsFrom}
 use Rattle.wear.specs.Refusals.{differ, unevenCounts, unknownNumber, reportNumber, reportedOf}

@@ -1,6 +1,6 @@
 -- The report on traces, defined from their cycles. Assumes nothing.
 use mathlib.Core.Path.{_≡_}
-use mathlib.Core.List.{List, [], _∷_, _++_}
+use mathlib.Core.List.{List, [], _∷_}
 use Prim.Native.Nat.{ℕ, _≤_, min}
 use Rattle.device.specs.declared.Device.{Device}
 use Rattle.model_types.specs.declared.Wear.{Wear}
@@ -8,7 +8,7 @@ use Rattle.model_types.specs.Counts.{stop}
 use Rattle.model_types.specs.States.{freshState}
 use Rattle.model_history.specs.History.{Bus, worldOf, worldAfter, erasesBegun}
 use Rattle.wear.specs.declared.Tally.{Tally}
-use Rattle.wear.specs.Counted.{totalIn, largestIn, smallestIn, passedIn, summary}
+use Rattle.wear.specs.Counted.{summary}
 
 -- a trace: any cycles, each with its residue, on a fresh device that holds some units
 pub record Trace : Type 0 where

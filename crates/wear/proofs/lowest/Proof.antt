@@ -1,24 +1,16 @@
-use borrow.Author.Needs.{needs}
-use native.Mathlib.Omega.{arith}
-use borrow.Author.Tests.{lt-ltb, le-ltb, le-leb, lt-leb, eq-eqb, ne-eqb}
-use mathlib.Core.Path.{refl, sym, _∙_}
+use borrow.Author.Tests.{lt-ltb, le-ltb}
 use Rattle.wear.specs.Reports.{lowest}
 use Rattle.wear.proofs.lowest.Statement.{statement}
 use Rattle.wear.proofs.lowest.Tie as tie
-use Rattle.wear.proofs.lowest.Reads as reads
-use Rattle.wear.proofs.lowest.Lts as lts
 
--- src/lib.rt:81:9
 returns : tie.Need-returns
 unfolding lowest
 returns c = simp (c .if1 .taken)
 
--- src/lib.rt:84:9
 returns-2 : tie.Need-returns-2
 unfolding lowest
 returns-2 c = simp (lt-ltb _ _ (c .if2 .taken), c .before .if1 .left)
 
--- src/lib.rt:77:1
 returns-3 : tie.Need-returns-3
 unfolding lowest
 returns-3 c = simp (le-ltb _ _ (c .if2 .left), c .before .if1 .left)

@@ -1,35 +1,24 @@
 use borrow.Author.Needs.{needs}
-use native.Mathlib.Omega.{arith}
-use borrow.Author.Tests.{lt-ltb, le-ltb, le-leb, lt-leb, eq-eqb, ne-eqb}
-use mathlib.Core.Path.{refl, sym, _∙_}
+use borrow.Author.Tests.{eq-eqb, ne-eqb}
+use mathlib.Core.Path.{sym, _∙_}
 use Rattle.wear.specs.Refusals.{reportedOf}
 use Rattle.wear.proofs.Walks.{few}
 use Rattle.wear.proofs.report_on.Statement.{statement}
 use Rattle.wear.proofs.report_on.Tie as tie
-use Rattle.wear.proofs.report_on.Reads as reads
-use Rattle.wear.proofs.report_on.Lts as lts
-use Rattle.wear.proofs.none.Reads as none-reads
-use Rattle.wear.proofs.report_number.Reads as report-number-reads
-use Rattle.wear.proofs.sum.Reads as sum-reads
 
--- src/lib.rt:256:9
 report-number-requires : tie.Need-report-number-requires
 report-number-requires c κs = search needs
 
--- src/lib.rt:260:21
 none-requires : tie.Need-none-requires
 none-requires c κs = search needs
 
--- src/lib.rt:258:9
 returns : tie.Need-returns
 unfolding reportedOf
 returns c = simp (c .none .ensures, ← c .before .before .report-number .ensures, ne-eqb _ _ (c .before .if1 .taken))
 
--- src/lib.rt:265:17
 sum-requires : tie.Need-sum-requires
 sum-requires c κs = few _ _ _ (sym (c .before .report-number .ensures) ∙ c .if1 .left)
 
--- src/lib.rt:253:1
 returns-2 : tie.Need-returns-2
 unfolding reportedOf
 returns-2 c = simp (c .sum .ensures, ← c .before .before .report-number .ensures, eq-eqb _ _ (c .before .if1 .left))

@@ -1,11 +1,11 @@
 -- `wear::sum` meets its contract: what is left to do leads to what was to do. Assumes nothing.
-use mathlib.Core.Path.{_≡_, refl, sym, ap, _∙_}
-use Prim.Native.Nat.{ℕ, _-_, _+_, _≤_, _<_}
+use mathlib.Core.Path.{_≡_, sym, ap, _∙_}
+use Prim.Native.Nat.{_-_, _+_, _≤_}
 use native.Mathlib.Omega.{arith}
 use borrow.Author.Needs.{needs}
 use Rattle.model_types.specs.declared.Wear.{Wear}
 use Rattle.wear.specs.declared.Report.{Report}
-use Rattle.wear.specs.Reports.{noReport, added, wearAt, reportFrom}
+use Rattle.wear.specs.Reports.{noReport, added, reportFrom}
 use Rattle.wear.proofs.Walks.{turn, over}
 use Rattle.wear.proofs.sum.Statement.{statement}
 use Rattle.wear.proofs.sum.Tie as tie
