@@ -20,6 +20,7 @@ use Rattle.model_types.specs.declared.Pins.{Pins}
 use Rattle.model_types.specs.declared.State.{State}
 use Rattle.model_types.specs.Cells.{ones, Cells}
 use Rattle.loader.specs.declared.Stage.the-variants.{Clearing}
+use Rattle.loader.specs.Walks.{risesIn}
 use Rattle.loader_run.specs.declared.Ran.{Ran}
 use Rattle.loader_run.specs.Runs.{runNumber, RunLeft, runLeftAt, lentNumber, asBytes, lentLeftAt}
 use Rattle.loader_run.proofs.Lending.{units-number, some, lent-made}
@@ -28,7 +29,7 @@ use Rattle.loader_run_claims.specs.Mission.{Start, Demand3}
 use Rattle.loader_run_claims.specs.Lent.{LentStart, LentDemand3}
 use Rattle.loader_run_claims.proofs.Starts.{taken-if}
 use Rattle.loader_run_claims.proofs.Mission.{ends-well, demand-3}
-use Rattle.loader_run_claims.specs.Ends.{endMode}
+use Rattle.loader_run_claims.specs.Ends.{endMode, erasedFrom}
 use Rattle.model_types.specs.States.{atRest}
 use Rattle.units.proofs.Pairs.{dbl, dbl-is, taken, dropped}
 
@@ -142,4 +143,4 @@ module _ (verify : Bool) (d : Device) (s : State) (p : Pins) (k : ℕ) (array wa
       }
     where
       well-at : List ℕ → Ran
-      well-at ys = record { count = formulaBy verify d W ys; end = 0; address = 0; state = atRest s (endMode verify W ys) 128 }
+      well-at ys = record { count = formulaBy verify d W ys; end = 0; address = 0; state = atRest (erasedFrom (risesIn W ys) k s) (endMode verify W ys) 128 }

@@ -15,9 +15,10 @@ use Rattle.model_types.specs.declared.Pins.{Pins}
 use Rattle.model_types.specs.declared.State.{State}
 use Rattle.model_types.specs.Levels.{vppHigh, unlocked}
 use Rattle.loader.specs.declared.Stage.the-variants.{Clearing}
+use Rattle.loader.specs.Walks.{risesIn}
 use Rattle.loader_run.specs.Runs.{lentRows, lentLeftAt}
 use Rattle.loader_run_claims.specs.Wear.{heldIn, formulaBy}
-use Rattle.loader_run_claims.specs.Ends.{endMode}
+use Rattle.loader_run_claims.specs.Ends.{endMode, erasedFrom}
 use Rattle.loader_run_claims.specs.Mission.{Demand3}
 use Rattle.model_types.specs.States.{atRest}
 
@@ -50,13 +51,16 @@ module _ (verify : Bool) (d : Device) (s : State) (p : Pins) (k : ℕ) (array wa
     pub array-left : lentLeftAt Clearing verify d s p k array wanted scratch .bytes ≡ overlaid array from wanted
     -- scratch ends as wanted
     pub scratch-left : lentLeftAt Clearing verify d s p k array wanted scratch .scratch ≡ wanted
-    -- all that it returns, with what the block held in units: mode read array after the verify, status 80H
+    -- all that it returns, with what the block held in units: mode read array after the verify, status 80H, and one erase more of that
+    -- block where some bit must rise
     pub returned : lentLeftAt Clearing verify d s p k array wanted scratch .ran
         ≡ record {
           count = formulaBy verify d (units (d .part .word) wanted) (heldIn (startOf (d .part) k) (lengthOf (d .part) k) (units (d .part .word) array));
           end = 0;
           address = 0;
-          state = atRest s (endMode verify (units (d .part .word) wanted) (heldIn (startOf (d .part) k) (lengthOf (d .part) k) (units (d .part .word) array))) 0x80;
+          state =
+              atRest (erasedFrom (risesIn (units (d .part .word) wanted) (heldIn (startOf (d .part) k) (lengthOf (d .part) k) (units (d .part .word) array))) k s)
+              (endMode verify (units (d .part .word) wanted) (heldIn (startOf (d .part) k) (lengthOf (d .part) k) (units (d .part .word) array))) 0x80;
         }
     -- the count, by the formula: n is the units of the block, and the programs counted are those of units that differ
     pub by-formula : lentLeftAt Clearing verify d s p k array wanted scratch .ran .count
