@@ -15,8 +15,10 @@ use Rattle.model_types.specs.Levels.{vppHigh, unlocked}
 use Rattle.model_types.specs.States.{atRest}
 use Rattle.units.specs.Units.{units}
 use Rattle.units.specs.Address.{byteOf}
+use Rattle.loader.specs.Walks.{risesIn}
 use Rattle.loader_run.specs.Runs.{lentRun}
 use Rattle.loader_run_claims.specs.Wear.{heldIn, formula}
+use Rattle.loader_run_claims.specs.Ends.{erasedFrom}
 use Rattle.loader_run_claims.specs.Lent.{LentDemand3}
 use Rattle.loader_from_file.specs.Loads.{loadRows, wantedOf, loadMade, loadLeft, loadedOf, bytesLoaded, wantedLoaded, scratchLoaded}
 
@@ -35,14 +37,15 @@ abbrev pub firstOf : Device → ℕ → ℕ
 firstOf d k = byteOf (d .part .word) (startOf (d .part) k)
 
 -- all of demand 3 holds of the run with the file and FFH as what is wanted, and the load leaves what that run leaves: ended well in the
--- formula's cycles, counted in units; block, wanted and scratch hold the file and FFH to the end, every byte outside is as before
+-- formula's cycles, counted in units, with one erase more of the block where some bit must rise; block, wanted and scratch hold the file
+-- and FFH to the end, every byte outside is as before
 pub record FileLoaded (d : Device) (s : State) (p : Pins) (k : ℕ) (xs w sc f : List ℕ) (asked : ℕ) : Type 0 where
   pub ran : loadedOf d s p k xs w sc f asked
       ≡ record {
         count = formula d (units (d .part .word) (wantedOf f (length w))) (heldIn (startOf (d .part) k) (lengthOf (d .part) k) (units (d .part .word) xs));
         end = 0;
         address = 0;
-        state = atRest s Array 0x80;
+        state = atRest (erasedFrom (risesIn (units (d .part .word) (wantedOf f (length w))) (heldIn (startOf (d .part) k) (lengthOf (d .part) k) (units (d .part .word) xs))) k s) Array 0x80;
       }
   pub holds : heldIn (firstOf d k) (length w) (bytesLoaded d s p k xs w sc f asked) ≡ wantedOf f (length w)
   pub before : (x : ℕ) → x < firstOf d k → getD (bytesLoaded d s p k xs w sc f asked) x 0 ≡ getD xs x 0
