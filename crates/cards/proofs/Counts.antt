@@ -1,5 +1,5 @@
 -- Cards 10 and 11: instances of the count of a good run, and of a good load alone. Assumes nothing.
-use mathlib.Core.Path.{_≡_, refl, ap, _∙_}
+use mathlib.Core.Path.{_≡_, refl, ap, _∙_, ap₂}
 use mathlib.Core.Bool.{Bool, true, false}
 use mathlib.Core.List.{List, _∷_}
 use Prim.Native.Nat.{ℕ, zero, suc, _+_, _*_}
@@ -19,6 +19,7 @@ use Rattle.loader.specs.Walks.{risesIn}
 use Rattle.loader_run.specs.declared.Ran.{Ran}
 use Rattle.loader_run.specs.Runs.{runNumber}
 use Rattle.loader_run_claims.specs.Wear.{differing, heldIn, formula, loadFormula}
+use Rattle.loader_run_claims.specs.Ends.{erasedFrom}
 use Rattle.loader_run_claims.specs.Mission.{Start}
 use Rattle.loader_run_claims.proofs.Starts.{taken-if}
 use Rattle.loader_run_claims.proofs.Same.{none-risen, none-differing}
@@ -50,12 +51,14 @@ starts xs w sc bx lx lw ls bytes = record {
 held-there : (xs w held : List ℕ) → length w ≡ 512 → heldIn 0x3A00 512 xs ≡ held → heldIn (startOf (deviceT .part) 1) (length w) xs ≡ held
 held-there xs w held lw h = ap (λ (a : ℕ). heldIn a (length w) xs) first ∙ ap (λ (k : ℕ). heldIn 0x3A00 k xs) lw ∙ h
 
-counts : (n : ℕ) (held w : List ℕ) → length w ≡ 512 → Bytes w → formula deviceT w held ≡ n → Counts n held w
-counts n held w lw bytes f xs sc bx lx ls h =
-    mission.ends-well true deviceT freshState normal 1 xs w sc (starts xs w sc bx lx lw ls bytes) ∙ ap (λ (ys : List ℕ). result (formula deviceT w ys)) (held-there xs w held lw h) ∙ ap result f
+counts : (n : ℕ) (erases : Bool) (held w : List ℕ) → length w ≡ 512 → Bytes w → formula deviceT w held ≡ n → risesIn w held ≡ erases → Counts n erases held w
+counts n erases held w lw bytes f r xs sc bx lx ls h =
+    mission.ends-well true deviceT freshState normal 1 xs w sc (starts xs w sc bx lx lw ls bytes)
+    ∙ ap (λ (ys : List ℕ). result (formula deviceT w ys) (risesIn w ys)) (held-there xs w held lw h)
+    ∙ ap₂ result f r
   where
-    result : ℕ → Ran
-    result k = record { count = k; end = 0; address = 0; state = atRest freshState Array 128 }
+    result : ℕ → Bool → Ran
+    result k e = record { count = k; end = 0; address = 0; state = atRest (erasedFrom e 1 freshState) Array 128 }
 
 load-counts : (n : ℕ) (held w : List ℕ) → length w ≡ 512 → Bytes w → loadFormula deviceT w held ≡ n → LoadCounts n held w
 load-counts n held w lw bytes f xs sc bx lx ls h =
@@ -84,13 +87,13 @@ bytes-10 (suc i) = bytes-replicate 511 255 (omega arith) i
 -- the formula, computed
 pub ten : Card10
 unfolding risesIn ones
-ten = counts _ (same 512 255) (0x5A ∷ same 511 255) refl bytes-10 refl
+ten = counts _ _ (same 512 255) (0x5A ∷ same 511 255) refl bytes-10 refl refl
 
 pub eleven : Card11
 unfolding risesIn ones
 eleven = (
-  counts _ (same 512 0) (same 512 255) refl (bytes-replicate 512 255 (omega arith)) refl,
-  λ (w : List ℕ) (e : length w ≡ 512) (b : Bytes w). counts _ w w e b (level w e),
+  counts _ _ (same 512 0) (same 512 255) refl (bytes-replicate 512 255 (omega arith)) refl refl,
+  λ (w : List ℕ) (e : length w ≡ 512) (b : Bytes w). counts _ _ w w e b (level w e) (none-risen w),
 )
 
 pub loads : Loads

@@ -13,12 +13,14 @@ use Rattle.model_types.specs.declared.Pins.{Pins}
 use Rattle.model_types.specs.declared.Mode.the-variants.{Array, Status}
 use Rattle.model_types.specs.declared.Phase.the-variants.{Suspended}
 use Rattle.model_types.specs.States.{freshState, atRest}
+use Rattle.model_types.specs.Counts.{unworn, worn}
 use Rattle.model.specs.declared.Seen.{Seen}
 use Rattle.model.specs.declared.Seen.the-variants.{NoData, Data, Refused}
 use Rattle.file_check.specs.Check.{checkOf}
 use Rattle.model_history.specs.History.{Bus, World, worldAfter, seenOn, seenIn}
 use Rattle.loader_run.specs.Runs.{loadAlone, ranOf}
 use Rattle.loader_run_claims.specs.Wear.{heldIn}
+use Rattle.loader_run_claims.specs.Ends.{erasedFrom}
 
 -- a part with P and E; S is 1
 abbrev pub device : ℕ → ℕ → ℕ → Device
@@ -125,7 +127,7 @@ card6 =
     && shows (worldAfter deviceB (fresh (plain 0)) (write normal 0 0x20 ∷ write (pinsAt 2 12000) 0 0xD0 ∷ read normal 0 ∷ read normal 0 ∷ read normal 0 ∷ [])) 0x80 (same 1024 255 ++ same 15360 0)
 
 -- 7: an erase suspended, on every device with E = e + 2 and S = m + 1, at every address outside the boot block: after B0H m reads
--- give 00H, the S-th gives C0H, the erase has one cycle less to go and every byte is what it was
+-- give 00H, the S-th gives C0H, the erase has one cycle less to go and is counted once, at its block, and every byte is what it was
 abbrev pub cycles7 : ℕ → ℕ → List Bus
 cycles7 m a = write normal a 0x20 ∷ write normal a 0xD0 ∷ write normal a 0xB0 ∷ replicate {A = Bus} (suc m) (read normal a)
 
@@ -133,7 +135,7 @@ abbrev pub Card7 : Type 0
 Card7 = (d : Device) (e m a : ℕ) (xs : List ℕ) → unknownDevice d ≡ false → d .erase ≡ e + 2 → d .suspend ≡ suc m → a < sizeOf (d .part)
     → (blockOf (d .part) a ≡ 0 → ⊥) → length xs ≡ sizeOf (d .part)
     → (seenIn d (fresh xs) (cycles7 m a) ≡ NoData ∷ NoData ∷ NoData ∷ (replicate {A = Seen} m (Data 0) ++ (Data 0xC0 ∷ [])))
-    × (worldAfter d (fresh xs) (cycles7 m a) ≡ record { state = record { mode = Status; status = 0xC0; phase = Suspended; left = e + 1; address = a }; bytes = xs })
+    × (worldAfter d (fresh xs) (cycles7 m a) ≡ record { state = record { mode = Status; status = 0xC0; phase = Suspended; left = e + 1; address = a; wear = worn unworn (blockOf (d .part) a) }; bytes = xs })
 
 -- 8: 20H in block 1 and D0H in block 2 erase block 2, and no other
 abbrev pub card8 : Bool
@@ -145,18 +147,19 @@ card8 =
 abbrev pub card9 : Bool
 card9 = shows (worldAfter deviceT (fresh (spot 255 0xF0)) (write normal 16 0x40 ∷ write normal 16 0x0F ∷ lent (0x33 ∷ []) (read (pinsAt 1 5000) 16) ∷ [])) 0x98 (spot 255 0x30)
 
--- a good run on block 1 of bench T, fresh, makes n cycles, whatever the other blocks and scratch hold
-abbrev pub Counts : ℕ → List ℕ → List ℕ → Type 0
-Counts n held wanted = (xs sc : List ℕ) → Bytes xs → length xs ≡ 16384 → length sc ≡ 512 → heldIn 0x3A00 512 xs ≡ held
-    → ranOf deviceT freshState normal 1 xs wanted sc ≡ record { count = n; end = 0; address = 0; state = atRest freshState Array 0x80 }
+-- a good run on block 1 of bench T, fresh, makes n cycles and counts one erase of that block or none, whatever the other blocks and
+-- scratch hold
+abbrev pub Counts : ℕ → Bool → List ℕ → List ℕ → Type 0
+Counts n erases held wanted = (xs sc : List ℕ) → Bytes xs → length xs ≡ 16384 → length sc ≡ 512 → heldIn 0x3A00 512 xs ≡ held
+    → ranOf deviceT freshState normal 1 xs wanted sc ≡ record { count = n; end = 0; address = 0; state = atRest (erasedFrom erases 1 freshState) Array 0x80 }
 
--- 10: the block held FFH, wanted is 5AH and then FFH: 1,031 cycles
+-- 10: the block held FFH, wanted is 5AH and then FFH: 1,031 cycles, no erase
 abbrev pub Card10 : Type 0
-Card10 = Counts 1031 (same 512 255) (0x5A ∷ same 511 255)
+Card10 = Counts 1031 false (same 512 255) (0x5A ∷ same 511 255)
 
--- 11: it held 00H, wanted is FFH: 1,032; it held what is wanted, whatever that is: 1,027
+-- 11: it held 00H, wanted is FFH: 1,032, one erase; it held what is wanted, whatever that is: 1,027, none
 abbrev pub Card11 : Type 0
-Card11 = Counts 1032 (same 512 0) (same 512 255) × ((w : List ℕ) → length w ≡ 512 → Bytes w → Counts 1027 w w)
+Card11 = Counts 1032 true (same 512 0) (same 512 255) × ((w : List ℕ) → length w ≡ 512 → Bytes w → Counts 1027 false w w)
 
 -- a good load alone there makes n cycles, and its scratch ends as wanted
 abbrev pub LoadCounts : ℕ → List ℕ → List ℕ → Type 0
