@@ -1,6 +1,6 @@
 -- What is claimed of a load's run beyond its promise, in one place. Assumes nothing.
 use mathlib.Core.Path.{_≡_}
-use mathlib.Core.Bool.{true}
+use mathlib.Core.Bool.{Bool, true, false}
 use mathlib.Core.List.{List}
 use mathlib.Core.Logic.{_↔_}
 use Prim.Native.Nat.{ℕ, _+_, _*_, _≤_, _<_}
@@ -16,7 +16,7 @@ use Rattle.model_types.specs.States.{atRest}
 use Rattle.loader.specs.declared.Stage.the-variants.{Clearing}
 use Rattle.loader.specs.Walks.{risesIn}
 use Rattle.loader_run.specs.Turns.{Config, after}
-use Rattle.loader_run.specs.Runs.{runRows, begin, ranOf, bytesOf, scratchOf, runNumber}
+use Rattle.loader_run.specs.Runs.{runRows, runLeftAt, begin, ranOf, bytesOf, scratchOf, runNumber}
 use Rattle.loader_run_claims.specs.Wear.{begunIn, heldIn, formula, operationsOf, notedAll, begunByLoad, heldBy}
 use Rattle.model_history.specs.History.{Bus, worldAfter, begunOver, worldOf, busesOf}
 use Rattle.loader_run_claims.specs.Made.{madeIn, cyclesOf, cyclesOfLoad}
@@ -65,6 +65,11 @@ taken-exactly = starts.taken-exactly
 pub ends-well : (d : Device) (s : State) (p : Pins) (k : ℕ) (xs w sc : List ℕ) → Start d s p k xs w sc
     → ranOf d s p k xs w sc ≡ record { count = formula d w (heldIn (startOf (d .part) k) (length w) xs); end = 0; address = 0; state = atRest (erasedFrom (risesIn w (heldIn (startOf (d .part) k) (length w) xs)) k s) Array 0x80 }
 ends-well = mission.ends-well true
+
+-- Wear: a load that has no bit to raise leaves every count of erases, with the verify after it or alone.
+pub no-rise-no-wear : (verify : Bool) (d : Device) (s : State) (p : Pins) (k : ℕ) (xs w sc : List ℕ) → Start d s p k xs w sc
+    → risesIn w (heldIn (startOf (d .part) k) (length w) xs) ≡ false → runLeftAt Clearing verify d s p k xs w sc .ran .state .wear ≡ s .wear
+no-rise-no-wear = mission.wear-kept
 
 -- The block holds the wanted units, every other unit is as before, and scratch holds the wanted ones.
 pub block-holds : (d : Device) (s : State) (p : Pins) (k : ℕ) (xs w sc : List ℕ) → Start d s p k xs w sc

@@ -256,6 +256,10 @@ module _ (verify : Bool) (d : Device) (s : State) (p : Pins) (k : ℕ) (xs w sc 
   wear-left : runLeftAt Clearing verify d s p k xs w sc .ran .state .wear ≡ (if risesIn w ys then worn (s .wear) k else s .wear)
   wear-left = ap (λ (r : Ran). r .state .wear) ends-well
 
+  -- with no bit to raise every count is as it was
+  pub wear-kept : risesIn w ys ≡ false → runLeftAt Clearing verify d s p k xs w sc .ran .state .wear ≡ s .wear
+  wear-kept e = wear-left ∙ if-false (risesIn w ys) (worn (s .wear) k) (s .wear) e
+
   worn-block : countOf (s .wear) k ≤ stop
       → countOf (runLeftAt Clearing verify d s p k xs w sc .ran .state .wear) k ≡ min (countOf (s .wear) k + totalOf (eraseOf k) (begunAt Clearing verify d s p k xs w sc)) stop
   worn-block c =

@@ -1,5 +1,5 @@
 -- What is claimed of a verify alone, of a load alone, and of a run as the two of them, in one place. Assumes nothing.
-use mathlib.Core.Path.{_≡_, refl}
+use mathlib.Core.Path.{_≡_, refl, ap}
 use mathlib.Core.Bool.{true, false}
 use mathlib.Core.List.{List, [], _++_}
 use mathlib.Core.Logic.{_↔_}
@@ -14,6 +14,7 @@ use Rattle.model_types.specs.declared.State.{State}
 use Rattle.model_types.specs.Cells.{Cells}
 use Rattle.loader.specs.declared.Stage.the-variants.{Clearing, Closing}
 use Rattle.loader.specs.Walks.{diffFrom}
+use Rattle.loader_run.specs.declared.Ran.{Ran}
 use Rattle.loader_run.specs.Runs.{runRows, runLeft, loadAlone, verifyAlone, lentRows, lentVerify}
 use Rattle.loader_run_claims.specs.Wear.{heldIn, heldBy, formula, loadFormula}
 use Rattle.loader_run_claims.specs.Made.{cyclesAt, cyclesOfLoad, loadThen}
@@ -37,6 +38,11 @@ use Rattle.units.specs.Address.{byteOf}
 -- field): what it returns, that the array is as before and no operation begun, what scratch holds, its cycles, and the status as before.
 pub verified : (d : Device) (s : State) (p : Pins) (k : ℕ) (xs w sc : List ℕ) → Cells (d .part) xs → NoRow (runRows d s p k (length xs) (length w) (length sc)) → Verified d s p k xs w sc
 verified = verifying.verified
+
+-- It leaves every count of erases as it was.
+pub verify-keeps-wear : (d : Device) (s : State) (p : Pins) (k : ℕ) (xs w sc : List ℕ) → Cells (d .part) xs → NoRow (runRows d s p k (length xs) (length w) (length sc))
+    → verifyAlone d s p k xs w sc .ran .state .wear ≡ s .wear
+verify-keeps-wear d s p k xs w sc h n = ap (λ (r : Ran). r .state .wear) (verified d s p k xs w sc h n .ran)
 
 -- It ends well exactly where the block holds the wanted units; else it ends 25 at the first place that differs, with the byte address of
 -- the first byte that differs and place + 2 cycles (`Met`).

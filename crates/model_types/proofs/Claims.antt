@@ -42,6 +42,7 @@ starts-at-words = start-twice
 pub words-in-blocks : (n a : ℕ) (high : Bool) → a < sizeOf (wordWide n) → blockOf (inBytes n) (byteAt true a high) ≡ blockOf (wordWide n) a
 words-in-blocks n a true h = both-bytes n a 1 h (omega arith)
 words-in-blocks n a false h = both-bytes n a 0 h (omega arith)
+
 -- Any count is proper: whether a state is does not depend on its counts.
 pub any-count : (d : Device) (s : State) (w : Wear)
     → improper d (record { mode = s .mode; status = s .status; phase = s .phase; left = s .left; address = s .address; wear = w }) ≡ improper d s

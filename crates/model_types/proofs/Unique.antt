@@ -13,7 +13,7 @@ use Rattle.model_types.specs.declared.Wear.{Wear}
 use Rattle.model_types.specs.declared.Mode.{Mode}
 use Rattle.model_types.specs.declared.Phase.{Phase}
 use Rattle.model_types.specs.Cells.{ones}
-use Rattle.model_types.specs.Counts.{unworn, worn}
+use Rattle.model_types.specs.Counts.{unworn, raised, worn}
 use Rattle.model_types.specs.Levels.{rpLow, vppLow, vppHigh, badPins, badLevels, unlocked, locked}
 use Rattle.model_types.specs.States.{isArray, isIdentifier, improper, atRest, inPhase, freshState, resetOf}
 use Rattle.model_types.specs.Phases.{isBusy, isSuspending, suspendLeft, isPending}
@@ -77,6 +77,9 @@ reset-unique s = only (resetOf s)
 
 pub unworn-unique : Unique (λ (r : Wear). r ≡ unworn)
 unworn-unique = only unworn
+
+pub raise-unique : (n : ℕ) → Unique (λ (r : ℕ). r ≡ raised n)
+raise-unique n = only (raised n)
 
 pub wear-out-unique : (w : Wear) (k : ℕ) → Unique (λ (r : Wear). r ≡ worn w k)
 wear-out-unique w k = only (worn w k)

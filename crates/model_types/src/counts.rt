@@ -21,13 +21,13 @@ pub fn unworn() -> Wear
 }
 
 // One more, up to the stop.
-fn raise(n: u32) -> u32
+pub fn raise(n: u32) -> u32
     ensures { λ r. ⌜ r ≡ raised n ⌝ }
 {
-    if n < STOP {
-        return n + 1;
+    if STOP <= n {
+        return n;
     }
-    n
+    n + 1
 }
 
 // The count n of block j after an erase of block k.

@@ -248,5 +248,13 @@ pub fn fresh() -> State
 pub fn reset(s: State) -> State
     ensures { λ r. ⌜ r ≡ resetOf s ⌝ }
 {
-    at_rest(s, Mode::Array, SR7)
+    let kept = s.wear;
+    State {
+        mode: Mode::Array,
+        status: SR7,
+        phase: Phase::Free,
+        left: 0,
+        address: 0,
+        wear: kept,
+    }
 }

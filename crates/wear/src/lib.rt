@@ -2,11 +2,10 @@
 // how many traces passed the sheet's 100,000.
 use device::Part;
 use model_types::Wear;
-use model_types::counts::STOP;
+use model_types::counts::raise;
 ghost use mathlib.Core.Path.{_≡_};
 ghost use Prim.Native.Nat.{_≤_, _<_};
 ghost use lib.ListN.{length, getD};
-ghost use Rattle.model_types.specs.Counts.{raised};
 ghost use Rattle.wear.specs.Reports.{most, addedUp, larger, lowest, passing, tallied, noTally, noReport, added, wearAt, reportFrom};
 ghost use Rattle.wear.specs.Refusals.{differ, unknownNumber, unevenCounts, reportNumber, reportedOf, addNumber, addedTo};
 
@@ -44,16 +43,6 @@ const SHEET: u32 = 100000;
 
 // The most traces.
 const TRACES: u32 = 65535;
-
-// One more, up to the stop of 32 bits.
-fn raise(n: u32) -> u32
-    ensures { λ r. ⌜ r ≡ raised n ⌝ }
-{
-    if n < STOP {
-        return n + 1;
-    }
-    n
-}
 
 fn add_up(a: u64, n: u32) -> u64
     ensures { λ r. ⌜ r ≡ addedUp a n ⌝ }

@@ -1,3 +1,4 @@
 pub mod Agree
 pub mod Lent
+pub mod Numbered
 pub mod Claims
