@@ -9,15 +9,15 @@ use Rattle.model_types.specs.declared.Phase.the-variants.{Erasing}
 use Rattle.model_types.specs.Status.{SR7, SR6, isSet}
 use Rattle.model.specs.declared.Seen.the-variants.{NoData}
 use Rattle.model_history.specs.History.{Bus, World, worldAfter, seenIn}
-use Rattle.model_suspend.specs.Suspends.{isSuspend, isResume, Unfinished, Smooth, heldStatus, shownAs, shownAll, Suspends}
+use Rattle.model_suspend.specs.Suspends.{isSuspend, isResume, isOpening, Unfinished, Smooth, heldStatus, shownAs, shownAll, Suspends}
 use Rattle.model_suspend.proofs.Held as held
 
 -- B0H in a running erase that it does not end, and S cycles after it, whatever they are, all accepted and none cutting or resetting:
--- the erase is suspended, at its address, with one cycle less to go, and the array is as before. Where the last of them is D0H it is
--- heard already, and the same erase runs again.
+-- the erase is suspended, at its address, with one cycle less to go, in mode read status, and the array is as before. Where the last
+-- of them is D0H it is heard already, and the same erase runs again; FFH is heard too, and the mode is read array.
 pub leads-to-suspended : (d : Device) (v : World) (b : Bus) (bs : List Bus) (last : Bus) → Unfinished (v .state) → isSuspend (b .cycle) ≡ true
     → suc (length bs) ≡ d .suspend → Smooth d v (b ∷ (bs ++ (last ∷ [])))
-    → Suspends v (worldAfter d v (b ∷ (bs ++ (last ∷ [])))) (isResume (last .cycle))
+    → Suspends v (worldAfter d v (b ∷ (bs ++ (last ∷ [])))) (isResume (last .cycle)) (isOpening (last .cycle))
 leads-to-suspended d v b bs last erase asks long smooth = held.suspends d v b bs last erase asks long smooth .0
 
 -- Meanwhile every read shows the status as it was, S - 1 times at most, and on the last cycle with SR.7 and SR.6 set.

@@ -18,7 +18,7 @@ use Rattle.model_types.specs.declared.Cycle.{Cycle}
 use Rattle.model_types.specs.declared.State.{State}
 use Rattle.model_types.specs.declared.Wear.{Wear}
 use Rattle.model_types.specs.declared.Mode.{Mode}
-use Rattle.model_types.specs.declared.Mode.the-variants.{Status}
+use Rattle.model_types.specs.declared.Mode.the-variants.{Array, Status}
 use Rattle.model_types.specs.declared.Phase.{Phase}
 use Rattle.model_types.specs.declared.Phase.the-variants.{Free, EraseAwaited, DataAwaited, Programming, Erasing, Suspending, Suspended}
 use Rattle.model_types.specs.declared.Action.{Action}
@@ -45,7 +45,7 @@ use Rattle.model.proofs.Outcome.{accept-effect}
 use Rattle.model.proofs.Lives.{accept-up}
 use Rattle.model.proofs.Status.{fits, all-below, status-fits}
 use Rattle.model_history.specs.History.{Bus, World, worldOf, stepped, worldAfter, seenOn, seenIn, effectsIn, acceptsAll, isCut, uncut}
-use Rattle.model_suspend.specs.Suspends.{isSuspend, isResume, Unfinished, Smooth, heldStatus, shownAs, shownAll, Suspends}
+use Rattle.model_suspend.specs.Suspends.{isSuspend, isResume, isOpening, Unfinished, Smooth, heldStatus, shownAs, shownAll, Suspends}
 
 -- an erase in mode status
 abbrev pub at : Wear → ℕ → Phase → ℕ → ℕ → State
@@ -154,7 +154,8 @@ back : (sr : ℕ) → sr < 64 → bitAnd (bitOr sr 0xC0) 0x3F ≡ sr
 back sr h = eqb-true (bitAnd (bitOr sr 0xC0) 0x3F) sr (all-below (λ x. eqb (bitAnd (bitOr x 0xC0) 0x3F) x) 64 refl sr h)
 
 -- what the last cycle leaves
-record Left (wr : Wear) (x : Decision) (sr l a : ℕ) (resumed : Bool) : Type 0 where
+record Left (wr : Wear) (x : Decision) (sr l a : ℕ) (resumed opened : Bool) : Type 0 where
+  mode : x .state .mode ≡ (if opened then Array else Status)
   effect : x .effect ≡ Nothing
   phase : x .state .phase ≡ (if resumed then Erasing else Suspended)
   left : x .state .left ≡ l
@@ -164,19 +165,19 @@ record Left (wr : Wear) (x : Decision) (sr l a : ℕ) (resumed : Bool) : Type 0 
 
 module _ (wr : Wear) (d : Device) (c : Cycle) (sr l a : ℕ) (small : sr < 64) where
   held-write : (f t u : Bool) → eqb (commandOf c) 0xFF ≡ f → eqb (commandOf c) 0x70 ≡ t → eqb (commandOf c) 0xD0 ≡ u
-      → Left wr (respondOf Write d c (settledAs (at wr (heldStatus sr) Suspended l a) Nothing)) sr l a u
+      → Left wr (respondOf Write d c (settledAs (at wr (heldStatus sr) Suspended l a) Nothing)) sr l a u f
   unfolding whileSuspended
   held-write true t true e f g = absurd (let p = eqb-true (commandOf c) 0xFF e in let q = eqb-true (commandOf c) 0xD0 g in omega arith)
-  held-write true t false e f g = rw e (record { effect = refl; phase = refl; left = refl; address = refl; status = refl; wear = refl })
+  held-write true t false e f g = rw e (record { mode = refl; effect = refl; phase = refl; left = refl; address = refl; status = refl; wear = refl })
   held-write false true true e f g = absurd (let p = eqb-true (commandOf c) 0x70 f in let q = eqb-true (commandOf c) 0xD0 g in omega arith)
-  held-write false true false e f g = rw (e, f) (record { effect = refl; phase = refl; left = refl; address = refl; status = refl; wear = refl })
-  held-write false false true e f g = rw (e, f, g) (record { effect = refl; phase = refl; left = refl; address = refl; status = back sr small; wear = refl })
-  held-write false false false e f g = rw (e, f, g) (record { effect = refl; phase = refl; left = refl; address = refl; status = refl; wear = refl })
+  held-write false true false e f g = rw (e, f) (record { mode = refl; effect = refl; phase = refl; left = refl; address = refl; status = refl; wear = refl })
+  held-write false false true e f g = rw (e, f, g) (record { mode = refl; effect = refl; phase = refl; left = refl; address = refl; status = back sr small; wear = refl })
+  held-write false false false e f g = rw (e, f, g) (record { mode = refl; effect = refl; phase = refl; left = refl; address = refl; status = refl; wear = refl })
 
-  held : (kind : Kind) → Left wr (respondOf kind d c (settledAs (at wr (heldStatus sr) Suspended l a) Nothing)) sr l a (isWrite kind && eqb (commandOf c) 0xD0)
-  held Read = record { effect = refl; phase = refl; left = refl; address = refl; status = refl; wear = refl }
+  held : (kind : Kind) → Left wr (respondOf kind d c (settledAs (at wr (heldStatus sr) Suspended l a) Nothing)) sr l a (isWrite kind && eqb (commandOf c) 0xD0) (isWrite kind && eqb (commandOf c) 0xFF)
+  held Read = record { mode = refl; effect = refl; phase = refl; left = refl; address = refl; status = refl; wear = refl }
   held Write = held-write (eqb (commandOf c) 0xFF) (eqb (commandOf c) 0x70) (eqb (commandOf c) 0xD0) refl refl refl
-  held Idle = record { effect = refl; phase = refl; left = refl; address = refl; status = refl; wear = refl }
+  held Idle = record { mode = refl; effect = refl; phase = refl; left = refl; address = refl; status = refl; wear = refl }
 
   held-reply : (kind : Kind) → respondOf kind d c (settledAs (at wr (heldStatus sr) Suspended l a) Nothing) .reply ≡ replyAs (heldStatus sr) kind
   held-reply Read = refl
@@ -225,7 +226,7 @@ module _ (d : Device) (v : World) (b : Bus) (bs : List Bus) (smooth : Smooth d v
 
 -- ---- all the cycles of a suspend under way, the last apart
 record Over (wr : Wear) (d : Device) (sr l a : ℕ) (xs : List ℕ) (bs : List Bus) (b : Bus) (v : World) : Type 0 where
-  left : Left wr (decidedAs Quiet (worldAfter d v (bs ++ (b ∷ [])) .state) Nothing) sr l a (isResume (b .cycle))
+  left : Left wr (decidedAs Quiet (worldAfter d v (bs ++ (b ∷ [])) .state) Nothing) sr l a (isResume (b .cycle)) (isOpening (b .cycle))
   bytes : worldAfter d v (bs ++ (b ∷ [])) .bytes ≡ xs
   seen : seenIn d v (bs ++ (b ∷ [])) ≡ shownAll sr bs ++ (shownAs (heldStatus sr) b ∷ [])
 
@@ -240,6 +241,7 @@ module _ (wr : Wear) (d : Device) (sr l a : ℕ) (small : sr < 64) (xs : List �
       let h = held wr d (b .cycle) sr l a small (b .cycle .kind) in
       record {
         left = record {
+          mode = ap (λ (x : Decision). x .state .mode) e ∙ h .mode;
           effect = refl;
           phase = ap (λ (x : Decision). x .state .phase) e ∙ h .phase;
           left = ap (λ (x : Decision). x .state .left) e ∙ h .left;
@@ -292,7 +294,7 @@ module _ (wr : Wear) (d : Device) (m : Mode) (sr l a : ℕ) (xs : List ℕ) (b :
   abbrev from : World
   from = worldOf (record { mode = m; status = sr; phase = Erasing; left = l; address = a; wear = wr }) xs
 
-  over : Smooth d from (b ∷ (bs ++ (last ∷ []))) → Suspends from (worldAfter d from (b ∷ (bs ++ (last ∷ [])))) (isResume (last .cycle))
+  over : Smooth d from (b ∷ (bs ++ (last ∷ []))) → Suspends from (worldAfter d from (b ∷ (bs ++ (last ∷ [])))) (isResume (last .cycle)) (isOpening (last .cycle))
       × (seenIn d from (b ∷ (bs ++ (last ∷ []))) ≡ NoData ∷ (shownAll sr bs ++ (shownAs (heldStatus sr) last ∷ [])))
   over smooth =
       let fine = head-fine d from b (bs ++ (last ∷ [])) smooth in
@@ -304,6 +306,7 @@ module _ (wr : Wear) (d : Device) (m : Mode) (sr l a : ℕ) (xs : List ℕ) (b :
       let o = all-of wr d sr (l - 1) a small xs bs last (subst (λ (v : World). Smooth d v (bs ++ (last ∷ []))) q (tail-smooth d from b (bs ++ (last ∷ [])) smooth)) in
       let p = subst (λ (v : World). Over wr d sr (l - 1) a xs bs last v) (sym q) o in (
         record {
+          mode = p .left .mode;
           phase = p .left .phase;
           left = ap (λ (k : ℕ). k + 1) (p .left .left) ∙ (let z : l - 1 + 1 ≡ l = omega arith in z);
           address = p .left .address;
@@ -317,14 +320,14 @@ module _ (wr : Wear) (d : Device) (m : Mode) (sr l a : ℕ) (xs : List ℕ) (b :
 -- the same of any state whose phase it is
 pub suspends : (d : Device) (v : World) (b : Bus) (bs : List Bus) (last : Bus) → Unfinished (v .state) → isSuspend (b .cycle) ≡ true → suc (length bs) ≡ d .suspend
     → Smooth d v (b ∷ (bs ++ (last ∷ [])))
-    → Suspends v (worldAfter d v (b ∷ (bs ++ (last ∷ [])))) (isResume (last .cycle))
+    → Suspends v (worldAfter d v (b ∷ (bs ++ (last ∷ [])))) (isResume (last .cycle)) (isOpening (last .cycle))
     × (seenIn d v (b ∷ (bs ++ (last ∷ []))) ≡ NoData ∷ (shownAll (v .state .status) bs ++ (shownAs (heldStatus (v .state .status)) last ∷ [])))
 suspends d v b bs last erase asks long smooth =
     let s = v .state in
     let f : World = worldOf (record { mode = s .mode; status = s .status; phase = Erasing; left = s .left; address = s .address; wear = s .wear }) (v .bytes) in
     let q : f ≡ v = λ i. worldOf (record { mode = s .mode; status = s .status; phase = sym (erase .0) i; left = s .left; address = s .address; wear = s .wear }) (v .bytes) in
     let o = over (s .wear) d (s .mode) (s .status) (s .left) (s .address) (v .bytes) b bs last asks (erase .1) long (subst (λ (w : World). Smooth d w (b ∷ (bs ++ (last ∷ [])))) (sym q) smooth) in
-    subst (λ (w : World). Suspends w (worldAfter d w (b ∷ (bs ++ (last ∷ [])))) (isResume (last .cycle))
+    subst (λ (w : World). Suspends w (worldAfter d w (b ∷ (bs ++ (last ∷ [])))) (isResume (last .cycle)) (isOpening (last .cycle))
     × (seenIn d w (b ∷ (bs ++ (last ∷ []))) ≡ NoData ∷ (shownAll (w .state .status) bs ++ (shownAs (heldStatus (w .state .status)) last ∷ [])))) q o
 
 -- the status that such a device shows: neither bit before, both at the end

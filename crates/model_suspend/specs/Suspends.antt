@@ -8,6 +8,7 @@ use Rattle.common.specs.Choice.{if_then_else_}
 use Rattle.device.specs.declared.Device.{Device}
 use Rattle.model_types.specs.declared.Cycle.{Cycle}
 use Rattle.model_types.specs.declared.State.{State}
+use Rattle.model_types.specs.declared.Mode.the-variants.{Array, Status}
 use Rattle.model_types.specs.declared.Phase.the-variants.{Erasing, Suspended}
 use Rattle.model_types.specs.Kinds.{isRead, isWrite}
 use Rattle.model_types.specs.Status.{SR7, SR6, withBits}
@@ -16,12 +17,15 @@ use Rattle.model.specs.declared.Seen.{Seen}
 use Rattle.model.specs.declared.Seen.the-variants.{NoData, Data}
 use Rattle.model_history.specs.History.{Bus, World, acceptsAll, effectsIn, uncut}
 
--- a write of B0H, and one of D0H
+-- a write of B0H, one of D0H, and one of FFH
 abbrev pub isSuspend : Cycle → Bool
 isSuspend c = isWrite (c .kind) && eqb (commandOf c) 0xB0
 
 abbrev pub isResume : Cycle → Bool
 isResume c = isWrite (c .kind) && eqb (commandOf c) 0xD0
+
+abbrev pub isOpening : Cycle → Bool
+isOpening c = isWrite (c .kind) && eqb (commandOf c) 0xFF
 
 -- an erase is running, and the next cycle does not end it
 abbrev pub Unfinished : State → Type 0
@@ -43,8 +47,10 @@ abbrev pub shownAll : ℕ → List Bus → List Seen
 shownAll sr [] = []
 shownAll sr (b ∷ bs) = shownAs sr b ∷ shownAll sr bs
 
--- from v to u the same erase: one cycle less to go, and suspended; or, where the last cycle was D0H, running again
-pub record Suspends (v u : World) (resumed : Bool) : Type 0 where
+-- from v to u the same erase: one cycle less to go, and suspended; or, where the last cycle was D0H, running again. A read gives the
+-- status, or the array where the last cycle was FFH
+pub record Suspends (v u : World) (resumed opened : Bool) : Type 0 where
+  pub mode : u .state .mode ≡ (if opened then Array else Status)
   pub phase : u .state .phase ≡ (if resumed then Erasing else Suspended)
   pub left : u .state .left + 1 ≡ v .state .left
   pub address : u .state .address ≡ v .state .address
