@@ -1,5 +1,5 @@
 """Holds include/torfbarke.h against the crates: structs field by field, functions parameter by parameter, the numbers of modes,
-phases, kinds, stages, answers and turns, the refusals, the parts' blocks, the supply bands and the load file's limits.
+phases, kinds, stages, answers and turns, the refusals, the parts' blocks, the supply bands, the limits of the load file and of wear.
 
     python3 tests/header.py        names every difference, and ends with 1 where there is one
 
@@ -36,7 +36,8 @@ constants = {name: int(value, 0) for name, value in re.findall(r"\b(TB_\w+) = (0
 
 # structs
 STRUCTS = {"Device": "tb_device", "State": "tb_state", "Bus": "tb_bus", "Answer": "tb_answer", "Loader": "tb_loader", "Turn": "tb_turn",
-           "Given": "tb_given", "Ran": "tb_ran", "Sized": "tb_sized", "Block": "tb_span", "Reading": "tb_reading"}
+           "Given": "tb_given", "Ran": "tb_ran", "Sized": "tb_sized", "Block": "tb_span", "Reading": "tb_reading", "Wear": "tb_wear",
+           "Tally": "tb_tally", "Report": "tb_report", "Reported": "tb_reported"}
 TYPES = {"u8": "uint8_t", "u16": "uint16_t", "u32": "uint32_t", "u64": "uint64_t", "usize": "size_t", "i32": "int32_t", "f64": "double", "": "void"}
 TYPES.update({f"{crate}Numbers": c for crate, c in STRUCTS.items()})
 
@@ -45,12 +46,20 @@ def without_unit(name):
     return re.sub(r"_mv$", "", name)
 
 
+def places(field):
+    """A field of the header's, or one for each place of it: block[7] is block0 to block6."""
+    row = re.match(r"(\w+)\[(\w+)\]$", field)
+    if not row:
+        return [without_unit(field)]
+    return [row.group(1) + str(i) for i in range(constants[row.group(2)])]
+
+
 in_code = {}
 for name, body in re.findall(r"#\[repr\(C\)\]\s*pub struct (\w+)Numbers \{(.*?)\n\}", text("*/src/*.rt"), re.S):
     in_code[STRUCTS.get(name, name)] = [(TYPES[t], f) for f, t in re.findall(r"pub (\w+): (\w+),", body)]
 in_header = {}
 for body, name in re.findall(r"typedef struct \{(.*?)\} (\w+);", plain, re.S):
-    in_header[name] = [(t, without_unit(f.strip())) for t, fs in re.findall(r"(\w+) ([^;]+);", body) for f in fs.split(",")]
+    in_header[name] = [(t, place) for t, fs in re.findall(r"(\w+) ([^;]+);", body) for f in fs.split(",") for place in places(f.strip())]
 same("structs", sorted(in_header), sorted(in_code))
 for name in sorted(in_header.keys() & in_code.keys()):
     same(f"struct {name}", in_header[name], in_code[name])
@@ -61,8 +70,9 @@ for name, arguments, result in re.findall(r'pub extern "C" fn (\w+)\((.*?)\)(?: 
     parameters = []
     for argument, kind in re.findall(r"(\w+): ([^,]+)", arguments):
         kind = kind.strip()
-        if kind in ("&[u8]", "&mut [u8]"):
-            parameters += [("const uint8_t *" if kind == "&[u8]" else "uint8_t *", argument), ("size_t", argument + "_length")]
+        lent = re.match(r"&(mut )?\[(\w+)\]$", kind)
+        if lent:
+            parameters += [(("" if lent.group(1) else "const ") + TYPES[lent.group(2)] + " *", argument), ("size_t", argument + "_length")]
         elif kind.startswith("&mut "):
             parameters.append((TYPES[kind[5:]] + " *", argument))
         else:
@@ -127,6 +137,16 @@ for name, size, spans in re.findall(r"^ \*\s+(TB_\w+),\s+([\d,]+) bytes: ([^\n*]
 same("parts", told, parts)
 same("TB_SIZE_MOST", constants["TB_SIZE_MOST"], max(size for size, _ in parts.values()))
 same("TB_BLOCK_MOST", constants["TB_BLOCK_MOST"], max(length for _, spans in parts.values() for _, length in spans))
+same("TB_BLOCKS_MOST", constants["TB_BLOCKS_MOST"], max(len(spans) for _, spans in parts.values()))
+
+# wear: where a count stops, the most traces, the sheet's erases
+refusing = text("wear/specs/Refusals.antt")
+stop = int(re.search(r"^stop = (\d+)$", text("model_types/specs/Counts.antt"), re.M).group(1))
+same("TB_WEAR_STOP", int(re.search(r"#define TB_WEAR_STOP (\d+)U$", HEADER, re.M).group(1)), stop)
+most = {int(n) for n in re.findall(r"row 47 \((?:ltb|leb) (\d+) ", refusing)}
+same("TB_TRACES_MOST", {constants["TB_TRACES_MOST"]}, most)
+sheet = int(re.search(r"^passing a n = if ltb (\d+) n then", text("wear/specs/Reports.antt"), re.M).group(1))
+same("TB_SHEET_ERASES", constants["TB_SHEET_ERASES"], sheet)
 
 # supply bands, load file, letters
 levels = text("*/specs/Levels.antt")

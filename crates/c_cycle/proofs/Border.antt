@@ -17,13 +17,15 @@ use Rattle.model_types.specs.declared.Mode.{Mode}
 use Rattle.model_types.specs.declared.Mode.the-variants.{Array, Status, Identifier}
 use Rattle.model_types.specs.declared.Phase.{Phase}
 use Rattle.model_types.specs.declared.Phase.the-variants.{Free, EraseAwaited, DataAwaited, Programming, Erasing, Suspending, Suspended}
+use Rattle.model_types.specs.declared.Wear.{Wear}
 use Rattle.model_types.specs.declared.State.{State}
 use Rattle.model_types.specs.States.{atRest, freshState, proper, improper}
 use Rattle.model_types.specs.Phases.{suspendLeft}
 use Rattle.model_types.specs.Levels.{badPins, mostOe, badOe, badLevels}
-use Rattle.c_cycle.specs.Values.{numberIn, partIn, flagOut, deviceIn, deviceOut, modeIn, modeOut, phaseIn, phaseOut, dataOut, strayData, straySuspend, noState, stateIn, stateOut, kindIn, kindOut, oeIn, cycleIn, cycleOut}
+use Rattle.c_cycle.specs.Values.{numberIn, partIn, flagOut, deviceIn, deviceOut, modeIn, modeOut, phaseIn, phaseOut, dataOut, strayData, straySuspend, noState, wearIn, wearOut, stateIn, stateOut, kindIn, kindOut, oeIn, cycleIn, cycleOut}
 use Rattle.c_cycle.specs.Answers.{stateBack}
 use Rattle.c_cycle.specs.declared.DeviceNumbers.{DeviceNumbers}
+use Rattle.c_cycle.specs.declared.WearNumbers.{WearNumbers}
 use Rattle.c_cycle.specs.declared.StateNumbers.{StateNumbers}
 use Rattle.c_cycle.specs.declared.BusNumbers.{BusNumbers}
 
@@ -128,13 +130,20 @@ out-state s = by-phase (s .phase) (ltb 2 (modeOut (s .mode))) (mode-low (s .mode
     by-phase (Suspending n) t e = rw e (and-none (not (eqb n 0)))
     by-phase Suspended t e = rw e refl
 
+-- counts: there and back, and back and there
+pub wear-back : (w : Wear) → wearIn (wearOut w) ≡ w
+wear-back w = refl
+
+pub wear-numbers : (n : WearNumbers) → wearOut (wearIn n) ≡ n
+wear-numbers n = refl
+
 -- out and in again: state, cycle, record
 pub state-back : (s : State) → stateIn (stateOut s) ≡ s
 unfolding stateIn
 state-back s =
     let m = mode-back (s .mode) in
     let p = phase-back (s .phase) in
-    if-false (noState (stateOut s)) _ _ (out-state s) ∙ (λ i. record { mode = m i; status = s .status; phase = p i; left = s .left; address = s .address })
+    if-false (noState (stateOut s)) _ _ (out-state s) ∙ (λ i. record { mode = m i; status = s .status; phase = p i; left = s .left; address = s .address; wear = s .wear })
 
 pub cycle-back : (c : Cycle) → cycleIn (cycleOut c) ≡ c
 cycle-back c =
@@ -212,7 +221,7 @@ state-numbers n e =
     let b = data-number (n .phase) (n .data) (n .suspend) least (or-right both bare rest) in
     let u = suspend-number (n .phase) (n .data) (n .suspend) least (or-right (both || bare) (straySuspend n) e) in
     ap (λ (s : State). stateOut s) (if-false (noState n) _ _ e)
-    ∙ (λ i. record { mode = m i; status = n .status; phase = p i; suspend = u i; left = n .left; «data» = b i; address = n .address })
+    ∙ (λ i. record { mode = m i; status = n .status; phase = p i; suspend = u i; left = n .left; «data» = b i; address = n .address; wear = n .wear })
 
 pub cycle-numbers : (n : BusNumbers) → ltb 2 (n .kind) ≡ false → cycleOut (cycleIn n) ≡ n
 unfolding oeIn

@@ -9,11 +9,13 @@ use Rattle.device.specs.declared.Device.{Device}
 use Rattle.model_types.specs.declared.Pins.{Pins}
 use Rattle.model_types.specs.declared.Cycle.{Cycle}
 use Rattle.model_types.specs.declared.Phase.{Phase}
+use Rattle.model_types.specs.declared.Wear.{Wear}
 use Rattle.model_types.specs.declared.State.{State}
 use Rattle.model.specs.declared.Answer.{Answer}
-use Rattle.c_cycle.specs.Values.{partIn, flagOut, deviceIn, pinsIn, phaseIn, stateIn, stateOut, cycleIn, cycleOut}
+use Rattle.c_cycle.specs.Values.{partIn, flagOut, deviceIn, pinsIn, phaseIn, wearIn, wearOut, stateIn, stateOut, cycleIn, cycleOut}
 use Rattle.c_cycle.specs.Answers.{stateBack, answerOut}
 use Rattle.c_cycle.specs.declared.DeviceNumbers.{DeviceNumbers}
+use Rattle.c_cycle.specs.declared.WearNumbers.{WearNumbers}
 use Rattle.c_cycle.specs.declared.StateNumbers.{StateNumbers}
 use Rattle.c_cycle.specs.declared.BusNumbers.{BusNumbers}
 use Rattle.c_cycle.specs.declared.AnswerNumbers.{AnswerNumbers}
@@ -32,6 +34,12 @@ pins-in-unique rp wp vpp = only (pinsIn rp wp vpp)
 
 pub phase-in-unique : (n unit suspend : ℕ) → Unique (λ (r : Phase). r ≡ phaseIn n unit suspend)
 phase-in-unique n unit suspend = only (phaseIn n unit suspend)
+
+pub wear-in-unique : (n : WearNumbers) → Unique (λ (r : Wear). r ≡ wearIn n)
+wear-in-unique n = only (wearIn n)
+
+pub wear-out-unique : (w : Wear) → Unique (λ (r : WearNumbers). r ≡ wearOut w)
+wear-out-unique w = only (wearOut w)
 
 pub state-in-unique : (n : StateNumbers) → Unique (λ (r : State). r ≡ stateIn n)
 state-in-unique n = only (stateIn n)

@@ -13,10 +13,12 @@ use Rattle.model_types.specs.declared.Mode.{Mode}
 use Rattle.model_types.specs.declared.Mode.the-variants.{Array, Status, Identifier}
 use Rattle.model_types.specs.declared.Phase.{Phase}
 use Rattle.model_types.specs.declared.Phase.the-variants.{Free, EraseAwaited, DataAwaited, Programming, Erasing, Suspending, Suspended}
+use Rattle.model_types.specs.declared.Wear.{Wear}
 use Rattle.model_types.specs.declared.State.{State}
 use Rattle.model_types.specs.Phases.{suspendLeft}
 use Rattle.model_types.specs.States.{atRest, freshState}
 use Rattle.c_cycle.specs.declared.DeviceNumbers.{DeviceNumbers}
+use Rattle.c_cycle.specs.declared.WearNumbers.{WearNumbers}
 use Rattle.c_cycle.specs.declared.StateNumbers.{StateNumbers}
 use Rattle.c_cycle.specs.declared.BusNumbers.{BusNumbers}
 
@@ -98,11 +100,43 @@ straySuspend n = not (eqb (n .suspend) 0) && not (eqb (n .phase) 6)
 unfoldable pub noState : StateNumbers → Bool
 noState n = ((ltb 2 (n .mode) || ltb 6 (n .phase)) || strayData n) || straySuspend n
 
--- numbers as a state; those that stand for none become one that is improper on every device: at rest with SR.7 clear
+-- counts of erases, each number as it is: all numbers are counts
+abbrev pub wearIn : WearNumbers → Wear
+wearIn n =
+    record {
+      block0 = n .block0;
+      block1 = n .block1;
+      block2 = n .block2;
+      block3 = n .block3;
+      block4 = n .block4;
+      block5 = n .block5;
+      block6 = n .block6;
+    }
+
+abbrev pub wearOut : Wear → WearNumbers
+wearOut w =
+    record {
+      block0 = w .block0;
+      block1 = w .block1;
+      block2 = w .block2;
+      block3 = w .block3;
+      block4 = w .block4;
+      block5 = w .block5;
+      block6 = w .block6;
+    }
+
+-- numbers as a state; those that stand for none become one that is improper on every device: at rest with SR.7 clear, no erase counted
 unfoldable pub stateIn : StateNumbers → State
 stateIn n =
     if noState n then atRest freshState Array 0
-    else record { mode = modeIn (n .mode); status = n .status; phase = phaseIn (n .phase) (n .data) (n .suspend); left = n .left; address = n .address }
+    else record {
+      mode = modeIn (n .mode);
+      status = n .status;
+      phase = phaseIn (n .phase) (n .data) (n .suspend);
+      left = n .left;
+      address = n .address;
+      wear = wearIn (n .wear);
+    }
 
 abbrev pub stateOut : State → StateNumbers
 stateOut s =
@@ -114,6 +148,7 @@ stateOut s =
       left = s .left;
       «data» = dataOut (s .phase);
       address = s .address;
+      wear = wearOut (s .wear);
     }
 
 -- kinds of cycle: 0 read, 1 write, 2 idle

@@ -1,5 +1,6 @@
 // Device, state, cycle and answer as structs of numbers, as a C program hands them over and gets them back, each way. The conversions are total:
 // numbers that stand for nothing become something that is refused in its place.
+pub mod counts;
 pub mod states;
 
 // A device: its number, whether it is in word mode (1, else 0), and the cycles that a program, an erase and a suspend take.
@@ -12,6 +13,18 @@ pub struct DeviceNumbers {
     pub suspend: u8,
 }
 
+// Erases begun, by block; there is room for seven.
+#[repr(C)]
+pub struct WearNumbers {
+    pub block0: u32,
+    pub block1: u32,
+    pub block2: u32,
+    pub block3: u32,
+    pub block4: u32,
+    pub block5: u32,
+    pub block6: u32,
+}
+
 // A device's state.
 #[repr(C)]
 pub struct StateNumbers {
@@ -22,6 +35,7 @@ pub struct StateNumbers {
     pub left: u16,
     pub data: u16,
     pub address: u32,
+    pub wear: WearNumbers,
 }
 
 // A bus cycle.

@@ -3,6 +3,8 @@ use crate::AnswerNumbers;
 use crate::BusNumbers;
 use crate::DeviceNumbers;
 use crate::StateNumbers;
+use crate::counts::wear_in;
+use crate::counts::wear_out;
 use device::Device;
 use device::Part;
 use model::Answer;
@@ -13,6 +15,7 @@ use model_types::Mode;
 use model_types::Phase;
 use model_types::Pins;
 use model_types::State;
+use model_types::counts::unworn;
 use model_types::states::suspend_left;
 ghost use mathlib.Core.Path.{_≡_};
 ghost use Rattle.c_cycle.specs.Values.{numberIn, partIn, flagOut, deviceIn, pinsIn, modeIn, modeOut, phaseIn, phaseOut, dataOut, strayData, straySuspend, noState, stateIn, stateOut, kindIn, kindOut, oeIn, cycleIn, cycleOut};
@@ -208,14 +211,17 @@ pub fn state_in(n: StateNumbers) -> State
             phase: Phase::Free,
             left: 0,
             address: 0,
+            wear: unworn(),
         };
     }
+    let w = n.wear;
     State {
         mode: mode_in(n.mode),
         status: n.status,
         phase: phase_in(n.phase, n.data, n.suspend),
         left: n.left,
         address: n.address,
+        wear: wear_in(w),
     }
 }
 
@@ -224,6 +230,7 @@ pub fn state_out(s: State) -> StateNumbers
 {
     let m = s.mode;
     let ph = s.phase;
+    let w = s.wear;
     StateNumbers {
         mode: mode_out(m),
         status: s.status,
@@ -232,6 +239,7 @@ pub fn state_out(s: State) -> StateNumbers
         left: s.left,
         data: data_out(ph),
         address: s.address,
+        wear: wear_out(w),
     }
 }
 

@@ -3,13 +3,16 @@
 use mathlib.Core.Path.{_≡_}
 use mathlib.Core.Bool.{Bool, true, false}
 use mathlib.Core.List.{List}
+use mathlib.Core.Logic.{_↔_}
 use Prim.Native.Nat.{ℕ}
 use lib.ListN.{length}
 use lib.Dec.{ltb}
+use Rattle.common.specs.Numbers.{Foremost, NoRow}
 use Rattle.device.specs.declared.Device.{Device}
 use Rattle.device.specs.Parts.{unknownPart, unknownDevice, sizeOf, lengthOf, startOf}
 use Rattle.model_types.specs.declared.Pins.{Pins}
 use Rattle.model_types.specs.declared.Cycle.{Cycle}
+use Rattle.model_types.specs.declared.Wear.{Wear}
 use Rattle.model_types.specs.declared.State.{State}
 use Rattle.model_types.specs.States.{improper}
 use Rattle.units.specs.Units.{units, lent, bytesIn}
@@ -22,16 +25,23 @@ use Rattle.loader.specs.declared.Turn.the-variants.{Barred}
 use Rattle.loader_steps.specs.Front.{noBlock, stepGiven, scratchLeft}
 use Rattle.loader_run.specs.Runs.{lentNumber, lentLeftAt}
 use Rattle.loader_from_file.specs.Loads.{loadNumber, fileLeftAt}
-use Rattle.c_cycle.specs.Values.{deviceIn, deviceOut, pinsIn, noState, stateIn, stateOut, cycleOut}
+use Rattle.wear.specs.declared.Report.{Report}
+use Rattle.wear.specs.Reports.{noReport}
+use Rattle.wear.specs.Refusals.{reportRows, addRows, addedTo}
+use Rattle.c_cycle.specs.Values.{deviceIn, deviceOut, pinsIn, noState, wearOut, stateIn, stateOut, cycleOut}
 use Rattle.c_records.specs.Records.{noRecord, loaderIn, loaderOut, turnOut}
 use Rattle.c_cycle.specs.Answers.{seenOut, valueOut}
-use Rattle.c_functions.specs.Calls.{startedAt, cycled, arrayCycled, steppedOf, scratchStepped, runAtOf, arrayRunAt, scratchRunAt, fileAtOf, arrayFileAt, wantedFileAt, scratchFileAt, writtenOf, fileLeft, fileRead, payloadLeft, ranNumbers}
+use Rattle.c_functions.specs.Calls.{startedAt, cycled, arrayCycled, steppedOf, scratchStepped, runAtOf, arrayRunAt, scratchRunAt, fileAtOf, arrayFileAt, wantedFileAt, scratchFileAt, writtenOf, fileLeft, fileRead, payloadLeft, ranNumbers, wearAdded, wearReported}
 use Rattle.c_functions.specs.Geometry.{sizeGiven, blockGiven}
 use Rattle.c_cycle.specs.declared.DeviceNumbers.{DeviceNumbers}
+use Rattle.c_cycle.specs.declared.WearNumbers.{WearNumbers}
 use Rattle.c_cycle.specs.declared.StateNumbers.{StateNumbers}
 use Rattle.c_cycle.specs.declared.BusNumbers.{BusNumbers}
 use Rattle.c_records.specs.declared.LoaderNumbers.{LoaderNumbers}
+use Rattle.c_wear.specs.declared.ReportNumbers.{ReportNumbers}
+use Rattle.c_wear.specs.Reports.{reportOut, reportedOut}
 use Rattle.c_functions.proofs.Returned as returned
+use Rattle.c_functions.proofs.Wears as wears
 
 -- Numbers that stand for no state, no kind or no record are refused in their place: 3 after 1 and 2, 4 after 1 to 3, 3 after 1.
 pub cycle-no-state : (d : DeviceNumbers) (s : StateNumbers) (c : BusNumbers) (xs rs : List ℕ) → unknownDevice (deviceIn d) ≡ false → length xs ≡ bytesIn (deviceIn d .part .word) (sizeOf (deviceIn d .part))
@@ -106,6 +116,32 @@ write-refused = returned.write-refused
 pub read-refused : (f : List ℕ) (asked : ℕ) (out : List ℕ) → (fileRead f asked out .number ≡ 0 → ⊥) → (fileRead f asked out .length ≡ 0) × (payloadLeft f asked out ≡ out)
 read-refused = returned.read-refused
 
+-- A trace and a report are refused exactly by the first row of their tables that holds.
+pub wear-add-refused-exactly : (part : ℕ) (r : ReportNumbers) (from : ℕ) (w : WearNumbers) (m : ℕ) → (m ≡ 0 → ⊥)
+    → (wearAdded part r from w .number ≡ m) ↔ Foremost (addRows part from (r .traces)) m
+wear-add-refused-exactly = wears.wear-add-refused-exactly
+
+pub wear-add-accepted-exactly : (part : ℕ) (r : ReportNumbers) (from : ℕ) (w : WearNumbers)
+    → (wearAdded part r from w .number ≡ 0) ↔ NoRow (addRows part from (r .traces))
+wear-add-accepted-exactly = wears.wear-add-accepted-exactly
+
+pub wear-report-refused-exactly : (part : ℕ) (parts counts : List ℕ) (m : ℕ) → (m ≡ 0 → ⊥)
+    → (wearReported part parts counts .number ≡ m) ↔ Foremost (reportRows part parts (length counts)) m
+wear-report-refused-exactly = wears.wear-report-refused-exactly
+
+pub wear-report-accepted-exactly : (part : ℕ) (parts counts : List ℕ)
+    → (wearReported part parts counts .number ≡ 0) ↔ NoRow (reportRows part parts (length counts))
+wear-report-accepted-exactly = wears.wear-report-accepted-exactly
+
+-- A trace that is refused leaves the report that came; a report that is refused is that on no traces.
+pub wear-add-refused : (part : ℕ) (r : ReportNumbers) (from : ℕ) (w : WearNumbers)
+    → (wearAdded part r from w .number ≡ 0 → ⊥) → wearAdded part r from w .report ≡ r
+wear-add-refused = wears.wear-add-refused
+
+pub wear-report-refused : (part : ℕ) (parts counts : List ℕ)
+    → (wearReported part parts counts .number ≡ 0 → ⊥) → wearReported part parts counts .report ≡ reportOut noReport
+wear-report-refused = wears.wear-report-refused
+
 -- On the numbers of typed values each C function is the typed function: its answer as numbers, by the units of what was lent, and what it
 -- leaves in the slices.
 pub cycle-typed : (d : Device) (s : State) (c : Cycle) (xs rs : List ℕ)
@@ -136,3 +172,7 @@ pub load-typed : (stage : Stage) (verify : Bool) (d : Device) (s : State) (p : P
     × (wantedFileAt stage verify (deviceOut d) (stateOut s) (p .rp) (p .wp) (p .vpp) k f asked xs w sc ≡ fileLeftAt stage verify d s p k xs w sc f asked .wanted)
     × (scratchFileAt stage verify (deviceOut d) (stateOut s) (p .rp) (p .wp) (p .vpp) k f asked xs w sc ≡ fileLeftAt stage verify d s p k xs w sc f asked .scratch)
 load-typed = returned.load-typed
+
+pub wear-add-typed : (part : ℕ) (r : Report) (from : ℕ) (w : Wear)
+    → wearAdded part (reportOut r) from (wearOut w) ≡ reportedOut (addedTo part r from w)
+wear-add-typed = wears.wear-add-typed

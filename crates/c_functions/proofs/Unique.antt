@@ -10,11 +10,12 @@ use Rattle.file_check.specs.Check.{checkOf}
 use Rattle.c_cycle.specs.Values.{stateOut}
 use Rattle.c_records.specs.declared.BlockNumbers.{BlockNumbers}
 use Rattle.c_functions.specs.Geometry.{sizeGiven, blockGiven}
-use Rattle.c_functions.specs.Calls.{cycled, arrayCycled, started, steppedOf, scratchStepped, runOf, arrayRun, scratchRun, loadOf, arrayLoad, wantedLoad, scratchLoad, loadStarted, verifyStarted, loadRunOf, arrayLoadRun, scratchLoadRun, verifyRunOf, arrayVerifyRun, scratchVerifyRun, verifyFileOf, arrayVerifyFile, wantedVerifyFile, scratchVerifyFile, writtenOf, fileLeft, fileRead, payloadLeft, readingGiven, readingRead}
+use Rattle.c_functions.specs.Calls.{cycled, arrayCycled, started, steppedOf, scratchStepped, runOf, arrayRun, scratchRun, loadOf, arrayLoad, wantedLoad, scratchLoad, loadStarted, verifyStarted, loadRunOf, arrayLoadRun, scratchLoadRun, verifyRunOf, arrayVerifyRun, scratchVerifyRun, verifyFileOf, arrayVerifyFile, wantedVerifyFile, scratchVerifyFile, writtenOf, fileLeft, fileRead, payloadLeft, readingGiven, readingRead, wearAdded, wearReported}
 use Rattle.c_readings.specs.declared.ReadingNumbers.{ReadingNumbers}
 use Rattle.reading_table.specs.Table.{tableNumber}
 use lib.IntN.{ℤ}
 use Rattle.c_cycle.specs.declared.DeviceNumbers.{DeviceNumbers}
+use Rattle.c_cycle.specs.declared.WearNumbers.{WearNumbers}
 use Rattle.c_cycle.specs.declared.StateNumbers.{StateNumbers}
 use Rattle.c_cycle.specs.declared.BusNumbers.{BusNumbers}
 use Rattle.c_cycle.specs.declared.AnswerNumbers.{AnswerNumbers}
@@ -23,6 +24,8 @@ use Rattle.c_records.specs.declared.TurnNumbers.{TurnNumbers}
 use Rattle.c_records.specs.declared.GivenNumbers.{GivenNumbers}
 use Rattle.c_records.specs.declared.RanNumbers.{RanNumbers}
 use Rattle.c_records.specs.declared.SizedNumbers.{SizedNumbers}
+use Rattle.c_wear.specs.declared.ReportNumbers.{ReportNumbers}
+use Rattle.c_wear.specs.declared.ReportedNumbers.{ReportedNumbers}
 
 pub fresh-unique : Unique (λ (r : StateNumbers). r ≡ stateOut freshState)
 fresh-unique = only (stateOut freshState)
@@ -138,3 +141,9 @@ reading-unique p x = only (readingGiven p x)
 
 pub reading-file-unique : (f : List ℕ) (asked : ℕ) (room : List ℕ) (x : ℤ) → Unique (λ (r : ReadingNumbers). r ≡ readingRead f asked room x)
 reading-file-unique f asked room x = only (readingRead f asked room x)
+
+pub wear-add-unique : (part : ℕ) (r : ReportNumbers) (from : ℕ) (w : WearNumbers) → Unique (λ (q : ReportedNumbers). q ≡ wearAdded part r from w)
+wear-add-unique part r from w = only (wearAdded part r from w)
+
+pub wear-report-unique : (part : ℕ) (parts counts : List ℕ) → Unique (λ (q : ReportedNumbers). q ≡ wearReported part parts counts)
+wear-report-unique part parts counts = only (wearReported part parts counts)

@@ -14,10 +14,11 @@ use Rattle.loader_run.specs.declared.Ran.{Ran}
 use Rattle.loader_run.specs.Runs.{lentLeftAt}
 use Rattle.loader_from_file.specs.Loads.{fileLeftAt}
 use Rattle.file_codec.specs.File.{limit, inRoom, leftIn, readerOf, writerOf, readAs, writtenAs}
-use Rattle.c_cycle.specs.Values.{stateOut, partIn, deviceIn, pinsIn, stateIn, cycleIn}
+use Rattle.c_cycle.specs.Values.{stateOut, partIn, deviceIn, pinsIn, wearIn, stateIn, cycleIn}
 use Rattle.c_records.specs.Records.{loaderIn, loaderOut, loaderBack, turnOut, writtenOut, readOut, ranOut}
 use Rattle.c_cycle.specs.Answers.{answerOut}
 use Rattle.c_cycle.specs.declared.DeviceNumbers.{DeviceNumbers}
+use Rattle.c_cycle.specs.declared.WearNumbers.{WearNumbers}
 use Rattle.c_cycle.specs.declared.StateNumbers.{StateNumbers}
 use Rattle.c_cycle.specs.declared.BusNumbers.{BusNumbers}
 use Rattle.c_cycle.specs.declared.AnswerNumbers.{AnswerNumbers}
@@ -28,6 +29,10 @@ use Rattle.c_records.specs.declared.SizedNumbers.{SizedNumbers}
 use Rattle.c_readings.specs.declared.ReadingNumbers.{ReadingNumbers}
 use Rattle.c_readings.specs.Readings.{readingOut, answerNumbers}
 use Rattle.reading.specs.Readings.{readingOf, answerAs}
+use Rattle.wear.specs.Refusals.{addedTo, reportedOf}
+use Rattle.c_wear.specs.declared.ReportNumbers.{ReportNumbers}
+use Rattle.c_wear.specs.declared.ReportedNumbers.{ReportedNumbers}
+use Rattle.c_wear.specs.Reports.{reportIn, reportedOut}
 
 -- whether the device that such numbers name is in word mode, and the part of a record's numbers
 abbrev pub wide : DeviceNumbers → Bool
@@ -173,3 +178,10 @@ readingGiven p x = readingOut (readingOf p x)
 
 unfoldable pub readingRead : List ℕ → ℕ → List ℕ → ℤ → ReadingNumbers
 readingRead f asked room x = answerNumbers (answerAs x (inRoom (length room) (readerOf limit f asked)))
+
+-- a report on wear: with one trace more, and on many traces
+unfoldable pub wearAdded : ℕ → ReportNumbers → ℕ → WearNumbers → ReportedNumbers
+wearAdded part r from w = reportedOut (addedTo part (reportIn r) from (wearIn w))
+
+unfoldable pub wearReported : ℕ → List ℕ → List ℕ → ReportedNumbers
+wearReported part parts counts = reportedOut (reportedOf part parts counts)

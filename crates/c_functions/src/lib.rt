@@ -1,9 +1,10 @@
-// What a C program gets of the library: numbers, byte slices and structs of numbers at the border, the typed functions behind
+// What a C program gets of the library: numbers, slices and structs of numbers at the border, the typed functions behind
 // it. include/torfbarke.h declares the same structs and functions.
 use c_cycle::AnswerNumbers;
 use c_cycle::BusNumbers;
 use c_cycle::DeviceNumbers;
 use c_cycle::StateNumbers;
+use c_cycle::WearNumbers;
 use c_readings::ReadingNumbers;
 use c_records::BlockNumbers;
 use c_records::GivenNumbers;
@@ -11,6 +12,8 @@ use c_records::LoaderNumbers;
 use c_records::RanNumbers;
 use c_records::SizedNumbers;
 use c_records::TurnNumbers;
+use c_wear::ReportNumbers;
+use c_wear::ReportedNumbers;
 use device::Part;
 use loader::Given;
 ghost use mathlib.Core.Path.{_≡_};
@@ -20,7 +23,7 @@ ghost use Rattle.file_check.specs.Check.{checkOf};
 ghost use Rattle.c_cycle.specs.Values.{stateOut};
 ghost use Rattle.reading_table.specs.Table.{tableNumber};
 ghost use Rattle.c_functions.specs.Geometry.{sizeGiven, blockGiven};
-ghost use Rattle.c_functions.specs.Calls.{cycled, arrayCycled, givenOut, started, loadStarted, verifyStarted, steppedOf, scratchStepped, runOf, arrayRun, scratchRun, loadRunOf, arrayLoadRun, scratchLoadRun, verifyRunOf, arrayVerifyRun, scratchVerifyRun, loadOf, arrayLoad, wantedLoad, scratchLoad, verifyFileOf, arrayVerifyFile, wantedVerifyFile, scratchVerifyFile, writtenOf, fileLeft, fileRead, payloadLeft, readingGiven, readingRead};
+ghost use Rattle.c_functions.specs.Calls.{cycled, arrayCycled, givenOut, started, loadStarted, verifyStarted, steppedOf, scratchStepped, runOf, arrayRun, scratchRun, loadRunOf, arrayLoadRun, scratchLoadRun, verifyRunOf, arrayVerifyRun, scratchVerifyRun, loadOf, arrayLoad, wantedLoad, scratchLoad, verifyFileOf, arrayVerifyFile, wantedVerifyFile, scratchVerifyFile, writtenOf, fileLeft, fileRead, payloadLeft, readingGiven, readingRead, wearAdded, wearReported};
 
 // A fresh device.
 #[no_mangle]
@@ -385,4 +388,29 @@ pub extern "C" fn tb_file_reading(
 {
     let answer = reading::reading_from_file(file, letter, room, microvolts);
     c_readings::answer_numbers(answer)
+}
+
+// A report on wear, with one trace more.
+#[no_mangle]
+pub extern "C" fn tb_wear_add(
+    part: u8,
+    report: ReportNumbers,
+    from: u8,
+    wear: WearNumbers,
+) -> ReportedNumbers
+    ensures { λ r. ⌜ r ≡ wearAdded part report from wear ⌝ }
+{
+    let before = c_wear::report_in(report);
+    let counts = c_cycle::counts::wear_in(wear);
+    let after = wear::add_to(part, before, from, counts);
+    c_wear::reported_out(after)
+}
+
+// The report on the wear of many traces: the number of each trace's device, and seven counts for each.
+#[no_mangle]
+pub extern "C" fn tb_wear_report(part: u8, parts: &[u8], counts: &[u32]) -> ReportedNumbers
+    ensures { λ r. ⌜ r ≡ wearReported part (now (parts .entry)) (now (counts .entry)) ⌝ }
+{
+    let reported = wear::report_on(part, parts, counts);
+    c_wear::reported_out(reported)
 }

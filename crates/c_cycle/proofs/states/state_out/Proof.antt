@@ -14,10 +14,13 @@ suspend-left-requires c κs = search needs
 data-out-requires : tie.Need-data-out-requires
 data-out-requires c κs = search needs
 
+wear-out-requires : tie.Need-wear-out-requires
+wear-out-requires c κs = search needs
+
 returns : tie.Need-returns
-returns c = simp (c .data-out .ensures, c .before .suspend-left .ensures, c .before .before .phase-out .ensures, c .before .before .before .mode-out .ensures)
+returns c = simp (c .wear-out .ensures, c .before .data-out .ensures, c .before .before .suspend-left .ensures, c .before .before .before .phase-out .ensures, c .before .before .before .before .mode-out .ensures)
 
 pub state-out-spec : {M : Type 1} → statement M
 state-out-spec =
     tie.close
-    (tie.spec mode-out-requires phase-out-requires suspend-left-requires data-out-requires returns)
+    (tie.spec mode-out-requires phase-out-requires suspend-left-requires data-out-requires wear-out-requires returns)
