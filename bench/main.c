@@ -27,6 +27,8 @@ typedef struct {
     uint16_t (*sums)(const uint8_t *, size_t);
     uint8_t (*judge)(const uint8_t *, size_t);
     tb_reading (*reading)(const uint8_t *, size_t, int32_t);
+    tb_reported (*add)(uint8_t, tb_report, uint8_t, tb_wear);
+    tb_reported (*report)(uint8_t, const uint8_t *, size_t, const uint32_t *, size_t);
 } maker;
 
 /* The check as the library works it out: running sums from the last byte on, nothing multiplied. */
@@ -42,14 +44,18 @@ static uint16_t c_running_sums(const uint8_t *block, size_t n) {
 }
 
 static const maker proved = {tb_size, tb_block, tb_fresh, tb_cycle, tb_start, tb_step, tb_run, tb_verify_run, tb_load,
-                             tb_file_write, tb_file_read, tb_block_check, tb_block_check, tb_table_judge, tb_table_reading};
+                             tb_file_write, tb_file_read, tb_block_check, tb_block_check, tb_table_judge, tb_table_reading,
+                             tb_wear_add, tb_wear_report};
 static const maker second = {c_size, c_block, c_fresh, c_cycle, c_start, c_step, c_run, c_verify_run, c_load, c_file_write,
-                             c_file_read, c_block_check, c_running_sums, c_table_judge, c_table_reading};
+                             c_file_read, c_block_check, c_running_sums, c_table_judge, c_table_reading, c_wear_add, c_wear_report};
 
 /* What the work is done on; `ready` of a row sets it, and all of it is compared after the row. It stands at the start of a page,
  * since the C library's copies go different ways for different addresses. */
+enum { TRACES = 1000 };
 static _Alignas(4096) struct {
     uint8_t array[262144], residue[8192], wanted[8192], scratch[8192], file[TB_FILE_MOST], payload[TB_PAYLOAD_MOST], back[TB_PAYLOAD_MOST];
+    uint8_t numbers[TRACES];
+    uint32_t counts[7 * TRACES];
     tb_device device;
     tb_state state;
     tb_answer answer;
@@ -57,6 +63,7 @@ static _Alignas(4096) struct {
     tb_ran ran;
     tb_sized sized;
     tb_span span;
+    tb_reported reported;
     uint32_t sum;
     double heat;
 } at;
@@ -88,7 +95,9 @@ static const tb_bus mix[] = {
 };
 enum { MIXED = sizeof mix / sizeof mix[0] };
 
-static const tb_state resting = {.mode = TB_MODE_ARRAY, .status = 0x80};
+/* Counts of erases, in every state that a row begins with. */
+#define WORN {{1, 99999, 7, 4294967294, 0, 5, 6}}
+static const tb_state resting = {.mode = TB_MODE_ARRAY, .status = 0x80, .wear = WORN};
 
 static void part(uint8_t number, uint8_t word, uint16_t p, uint16_t e) {
     at.device = (tb_device){number, word, p, e, 1};
@@ -98,7 +107,7 @@ static void part(uint8_t number, uint8_t word, uint16_t p, uint16_t e) {
 
 /* An operation under way, with cycles to go. */
 static tb_state busy(uint8_t phase, uint16_t left, uint32_t address) {
-    return (tb_state){.mode = TB_MODE_STATUS, .phase = phase, .left = left, .address = address};
+    return (tb_state){.mode = TB_MODE_STATUS, .phase = phase, .left = left, .address = address, .wear = WORN};
 }
 
 static void ready_mix(void) { part(3, 0, 2, 3); }
@@ -138,6 +147,10 @@ static void ready_same_cycle(tb_state state, tb_bus cycle) {
 }
 static void ready_idle(void) { ready_same_cycle(resting, (tb_bus)IDLE(12000)); }
 static void ready_command(void) { ready_same_cycle(resting, (tb_bus)W(0, 0x70)); }
+static void ready_confirm(void) {
+    tb_state s = {.mode = TB_MODE_STATUS, .status = 0x80, .phase = TB_ERASE_AWAITED, .wear = WORN};
+    ready_same_cycle(s, (tb_bus)W(0x3A00, 0xD0));
+}
 static void ready_suspend(void) { ready_same_cycle(busy(TB_ERASING, 3, 0x3A00), (tb_bus)W(0, 0xB0)); }
 static void ready_held(void) {
     tb_state s = busy(TB_SUSPENDING, 3, 0x3A00);
@@ -155,7 +168,7 @@ static void ready_fall(void) {
     ready_same_cycle(s, (tb_bus){.kind = 0, .rp = 1, .address = 0x10});
 }
 static void ready_reset(void) {
-    ready_same_cycle((tb_state){.mode = TB_MODE_STATUS, .status = 0xB0}, (tb_bus)DOWN(0));
+    ready_same_cycle((tb_state){.mode = TB_MODE_STATUS, .status = 0xB0, .wear = WORN}, (tb_bus)DOWN(0));
 }
 static void work_same_cycle(const maker *m) {
     for (int t = 0; t < TURNS; t++)
@@ -321,6 +334,22 @@ static void work_check(const maker *m) {
         at.sum += m->check(at.file, 510);
 }
 
+/* Reports: one trace more, and as many traces as `size` says. */
+static void ready_traces(void) {
+    at.state = resting;
+    memset(at.numbers, 3, sizeof at.numbers);
+    for (size_t i = 0; i < 7 * TRACES; i++)
+        at.counts[i] = (uint32_t)(i * i * 2654435761u >> 7);
+}
+static void work_add(const maker *m) {
+    for (int t = 0; t < TURNS; t++)
+        at.reported = m->add(3, at.reported.report, 3, at.state.wear);
+}
+static void work_report(const maker *m) {
+    for (int t = 0; t < TURNS; t++)
+        at.reported = m->report(3, at.numbers, size, at.counts, 7 * size);
+}
+
 static const struct {
     const char *name;
     size_t size;
@@ -336,6 +365,7 @@ static const struct {
     {"model: an erase cut, 8,192 bytes copied", 8192, TURNS, ready_erase, work_cut, "the copy alone, 4,096 bytes"},
     {"model: an idle cycle", 0, TURNS, ready_idle, work_same_cycle, NULL},
     {"model: a write, 70H", 0, TURNS, ready_command, work_same_cycle, NULL},
+    {"model: D0H that starts an erase", 0, TURNS, ready_confirm, work_same_cycle, NULL},
     {"model: B0H while an erase is busy", 0, TURNS, ready_suspend, work_same_cycle, NULL},
     {"model: the last cycle of a suspend, a read", 0, TURNS, ready_held, work_same_cycle, NULL},
     {"model: D0H while suspended", 0, TURNS, ready_resume, work_same_cycle, NULL},
@@ -372,12 +402,22 @@ static const struct {
     {"reading: one by a table of 673 knots", 673, TURNS, ready_table, work_reading, NULL},
     {"reading: a table of 18,853 knots judged", 18853, TURNS, ready_table, work_judge, NULL},
     {"reading: one by a table of 18,853 knots", 18853, TURNS, ready_table, work_reading, NULL},
+    {"wear: a report with one trace more", 0, TURNS, ready_traces, work_add, NULL},
+    {"wear: a report on 100 traces", 100, TURNS, ready_traces, work_report, NULL},
+    {"wear: a report on 1,000 traces", 1000, TURNS, ready_traces, work_report, NULL},
 };
 
 /* A number over everything that the work left. Structs have padding, so it goes field by field. */
 static uint64_t more(uint64_t h, uint64_t x) { return (h ^ x) * 0x100000001B3u + (x >> 32); }
 static uint64_t with_state(uint64_t h, tb_state s) {
+    for (int k = 0; k < TB_BLOCKS_MOST; k++)
+        h = more(h, s.wear.block[k]);
     return more(more(more(more(more(more(more(h, s.mode), s.status), s.phase), s.data), s.left), s.suspend), s.address);
+}
+static uint64_t with_report(uint64_t h, tb_report r) {
+    for (int k = 0; k < TB_BLOCKS_MOST; k++)
+        h = more(more(more(more(h, r.block[k].total), r.block[k].largest), r.block[k].smallest), r.block[k].passed);
+    return more(h, r.traces);
 }
 static uint64_t with_given(uint64_t h, tb_given g) {
     tb_bus c = g.turn.cycle;
@@ -396,9 +436,10 @@ static uint64_t heat_bits(void) {
 static uint64_t left(void) {
     const uint8_t *bytes = at.array;
     const uint64_t all[] = {at.answer.seen, at.answer.value, at.ran.count, at.ran.end, at.ran.address, at.sized.number,
-                            at.sized.length, at.span.first, at.span.length, at.sum, heat_bits()};
+                            at.sized.length, at.span.first, at.span.length, at.reported.number, at.sum, heat_bits()};
     uint64_t h = 14695981039346656037u;
     h = with_given(with_state(with_state(with_state(h, at.state), at.answer.state), at.ran.state), at.given);
+    h = with_report(h, at.reported.report);
     for (size_t i = 0; i < sizeof all / sizeof all[0]; i++)
         h = more(h, all[i]);
     for (size_t i = 0; i < offsetof(__typeof__(at), device); i++)

@@ -49,6 +49,14 @@ static uint64_t cycles_due(tb_device device, const uint8_t *wanted, size_t lengt
     return 2 * (length / unit) + 3 + (2 + device.erase) + programs * (2 + device.program);
 }
 
+/* How worn a part is: the erases begun of each of its blocks. They are part of its state, which the host keeps. */
+static void print_wear(uint8_t part, tb_wear wear) {
+    printf("wear: erases begun, by block:");
+    for (uint8_t k = 0; tb_block(part, k).length != 0; k++)
+        printf(" %lu", (unsigned long)wear.block[k]);
+    printf("\n");
+}
+
 /* Readings by the file as the part holds it: at each knot, half way between two, and above the table. */
 static void read_probe(const uint8_t *held) {
     uint8_t room[PAYLOAD];

@@ -12,6 +12,8 @@ static tb_state load(void) {
                          sizeof wanted, scratch, sizeof scratch);
     printf("load in words: %llu cycles, end %u\n", (unsigned long long)ran.count, ran.end);
     must(ran.end == TB_OK && ran.count == cycles_due(device, wanted, sizeof wanted), "the end of the load, or its cycles");
+    print_wear(PART, ran.state.wear);
+    must(ran.state.wear.block[BLOCK] == 1 && ran.state.wear.block[0] == 0, "the count of erases");
     return ran.state;
 }
 

@@ -9,7 +9,8 @@ void (*tell_case)(void);
 enum { PARTS = 8, WIDTHS = 2 };
 static uint64_t numbers[GROUPS][256], worded[ON_DEVICES][256], devices[ON_DEVICES][PARTS + 1][WIDTHS];
 static uint64_t phases[WIDTHS][256], stages[WIDTHS][256], edges[EDGES], marks[MARKS];
-static uint64_t all_blocks, all_cycles, all_loads, all_files, all_steps, all_readings;
+static uint64_t erases[2][PARTS + 1][WIDTHS][TB_BLOCKS_MOST]; /* counted in a cycle, and in a run */
+static uint64_t all_blocks, all_cycles, all_loads, all_files, all_steps, all_readings, all_reports;
 
 void met(int group, uint8_t number) { numbers[group][number]++; }
 void met_on(int group, uint8_t part, uint8_t word, uint8_t number, bool refused) {
@@ -27,6 +28,7 @@ void met_vpp(uint32_t vpp) {
     for (int i = 0; i < EDGES; i++)
         edges[i] += vpp == vpp_edges[i];
 }
+void met_erase(bool in_run, tb_device d, int block) { erases[in_run][d.number][d.word][block]++; }
 void mark_if(bool seen, int which) { marks[which] += seen; }
 void count_block(void) { all_blocks++; }
 void count_cycle(void) { all_cycles++; }
@@ -34,11 +36,12 @@ void count_load(void) { all_loads++; }
 void count_file(void) { all_files++; }
 void count_step(void) { all_steps++; }
 void count_reading(void) { all_readings++; }
+void count_report(void) { all_reports++; }
 
 static void counts(void) {
-    printf("%llu blocks of parts, %llu cycles, %llu loads, %llu files, %llu steps, %llu readings", (unsigned long long)all_blocks,
-           (unsigned long long)all_cycles, (unsigned long long)all_loads, (unsigned long long)all_files,
-           (unsigned long long)all_steps, (unsigned long long)all_readings);
+    printf("%llu blocks of parts, %llu cycles, %llu loads, %llu files, %llu steps, %llu readings, %llu reports",
+           (unsigned long long)all_blocks, (unsigned long long)all_cycles, (unsigned long long)all_loads, (unsigned long long)all_files,
+           (unsigned long long)all_steps, (unsigned long long)all_readings, (unsigned long long)all_reports);
 }
 
 void mismatch(const char *what) {
@@ -68,6 +71,8 @@ static const struct {
     [IN_READ] = {"read", {0, 30, 31, 32, 33, 34, 35, 37, 38}, 9},
     [IN_TABLE] = {"table", {0, 40, 41}, 3},
     [IN_READING] = {"reading", {0, 31, 35, 37, 38, 40, 41}, 7},
+    [IN_WEAR_ADD] = {"a trace more", {0, 1, 47, 48}, 4},
+    [IN_WEAR_REPORT] = {"report", {0, 1, 11, 47, 48}, 5},
 };
 
 static const char *const mark_names[MARKS] = {
@@ -95,6 +100,40 @@ static const char *const mark_names[MARKS] = {
     [BOOT_LOADED_BY_WP] = "a boot block loaded by WP#",
     [LOW_DIFFERS] = "25 at a low byte",
     [HIGH_DIFFERS] = "25 at a high byte",
+    [COUNT_TO_STOP] = "a count that reaches the stop",
+    [COUNT_AT_STOP] = "an erase counted at the stop",
+    [COUNT_ELSEWHERE] = "20H in another block than D0H",
+    [KEPT_BARRED] = "a confirm barred by low VPP, over a count",
+    [KEPT_BY_SR3] = "a confirm barred by SR.3, over a count",
+    [KEPT_LOCKED] = "a locked confirm, over a count",
+    [KEPT_OTHER_SECOND] = "20H and no confirm, over a count",
+    [KEPT_ASKED] = "20H, over a count",
+    [KEPT_RESUMED] = "a resume, over a count",
+    [KEPT_SUSPENDED] = "B0H, over a count",
+    [KEPT_CUT] = "an erase cut by VPP, over a count",
+    [KEPT_HELD_CUT] = "a suspended erase cut, over a count",
+    [KEPT_ENDED] = "an erase's end, over a count",
+    [KEPT_RESET] = "a reset at rest, over a count",
+    [KEPT_RESET_CUT] = "a reset in an erase, over a count",
+    [KEPT_PROGRAM] = "a program begun, over a count",
+    [KEPT_REFUSED] = "a refused cycle, over a count",
+    [KEPT_PLACES] = "an erase beside a count where there is no block",
+    [LOAD_AT_STOP] = "a load that erases at the stop",
+    [LOAD_NOT_COUNTED] = "a load that erases nothing, over a count",
+    [LOAD_BARRED] = "a load whose erase does not start, over a count",
+    [VERIFY_NOT_COUNTED] = "a verify, over a count",
+    [RUN_REFUSED_KEPT] = "a refused run, over a count",
+    [TRACES_NONE] = "a report on no traces",
+    [TRACES_MOST] = "a report on 65,535 traces",
+    [TRACES_OVER] = "65,536 traces",
+    [TRACES_TURNED] = "traces in another order",
+    [ONE_HUNDRED_THOUSAND] = "a count of 100,000 in a report",
+    [TOTAL_OVER_32_BITS] = "a total over 32 bits",
+    [TOTAL_STOPPED] = "a forged total at its stop",
+    [PASSED_STOPPED] = "a forged number of traces passed at its stop",
+    [OTHER_FIRST] = "another device in the first trace",
+    [OTHER_LAST] = "another device in the last trace",
+    [FROM_UNKNOWN] = "a trace from a device that is none",
 };
 
 static int missing;
@@ -140,6 +179,27 @@ static void line_of_devices(bool verbose, int g) {
     }
 }
 
+/* An erase was counted at every block of every device in every mode, and in runs on every device in every mode. */
+static void lines_of_erases(bool verbose) {
+    for (uint32_t word = 0; word < WIDTHS; word++)
+        for (uint8_t part = word ? TB_28F200BR_T : 1; part <= PARTS; part++) {
+            char name[64];
+            uint64_t in_runs = 0;
+            snprintf(name, sizeof name, "erases counted on device %u, %s", part, word ? "words" : "bytes");
+            if (verbose)
+                printf("%s, by block", name);
+            for (uint8_t k = 0; c_block(part, k).length != 0; k++) {
+                one(verbose, name, ", block", k, erases[0][part][word][k]);
+                in_runs += erases[1][part][word][k];
+            }
+            if (verbose)
+                printf("; in runs");
+            one(verbose, name, ", in runs of device", part, in_runs);
+            if (verbose)
+                printf("\n");
+        }
+}
+
 static void lines_of_marks(bool verbose) {
     for (int i = 0; i < MARKS; i++) {
         if (verbose)
@@ -169,6 +229,7 @@ int closing(uint64_t seed, bool verbose) {
         line(verbose, "phase", word ? ", word mode" : "", phases[word], up, 7);
         line(verbose, "stage", word ? ", word mode" : "", stages[word], up, 12);
     }
+    lines_of_erases(verbose);
     lines_of_marks(verbose);
     if (missing != 0)
         return 1;

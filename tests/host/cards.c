@@ -43,10 +43,20 @@ static bool all(uint32_t first, uint32_t n, uint8_t byte) {
     return true;
 }
 
+/* The counts of a state: so many erases of one block, none of any other. */
+static bool worn(tb_state s, int block, uint32_t times) {
+    for (int k = 0; k < TB_BLOCKS_MOST; k++)
+        if (s.wear.block[k] != (k == block ? times : 0))
+            return false;
+    return true;
+}
+static bool unworn(tb_state s) { return worn(s, 0, 0); }
+
 static void operations(void) {
     fresh(0xA5);
+    card(1, unworn(state));
     operate(0x40, 0x5A, 0x10, 1, 12000, 2);
-    card(1, array[0x10] == 0x00 && state.status == 0x80);
+    card(1, array[0x10] == 0x00 && state.status == 0x80 && unworn(state));
     fresh(0x3C);
     operate(0x40, 0xFF, 0x10, 1, 12000, 1);
     card(2, state.phase == TB_PROGRAMMING);
@@ -54,13 +64,13 @@ static void operations(void) {
     card(2, array[0x10] == 0x3C && last.value == 0x80);
     fresh(0x00);
     operate(0x20, 0xFF, 0x10, 1, 12000, 5);
-    card(3, state.status == 0xB0 && all(0, sizeof array, 0x00));
+    card(3, state.status == 0xB0 && all(0, sizeof array, 0x00) && unworn(state));
     operate(0x50, 0x40, 0x10, 1, 12000, 0);
     cycle(TB_CYCLE_WRITE, 1, 6500, 0x10, 0x12);
     card(4, state.status == 0x98);
     fresh(0x00);
     operate(0x20, 0xD0, 0x10, 1, 6500, 0);
-    card(4, state.status == 0xA8);
+    card(4, state.status == 0xA8 && unworn(state));
 }
 
 static void levels(void) {
@@ -81,10 +91,10 @@ static void levels(void) {
 static void erases(void) {
     fresh(0x00);
     operate(0x20, 0xD0, 0x3C00, 1, 12000, 5);
-    card(6, state.status == 0xA0 && all(0, sizeof array, 0x00));
+    card(6, state.status == 0xA0 && all(0, sizeof array, 0x00) && unworn(state));
     fresh(0x00);
     operate(0x20, 0xD0, 0x3C00, 2, 12000, 3);
-    card(6, state.status == 0x80 && all(0x3C00, 0x400, 0xFF) && all(0, 0x3C00, 0x00));
+    card(6, state.status == 0x80 && all(0x3C00, 0x400, 0xFF) && all(0, 0x3C00, 0x00) && worn(state, 0, 1));
     for (device.suspend = 1; device.suspend <= 100; device.suspend++) {
         fresh(0x00);
         operate(0x20, 0xD0, 0x3A00, 1, 12000, 0);
@@ -94,7 +104,7 @@ static void erases(void) {
             card(7, last.value == 0x00 && state.status == 0x00);
         }
         cycle(TB_CYCLE_READ, 1, 12000, 0, 0);
-        card(7, last.value == 0xC0 && state.status == 0xC0);
+        card(7, last.value == 0xC0 && state.status == 0xC0 && worn(state, 1, 1));
     }
     device.suspend = 1;
     fresh(0x00);
@@ -102,7 +112,7 @@ static void erases(void) {
     cycle(TB_CYCLE_WRITE, 1, 12000, 0x3800, 0xD0);
     for (int i = 0; i < 3; i++)
         cycle(TB_CYCLE_READ, 1, 12000, 0, 0);
-    card(8, all(0x3800, 0x200, 0xFF) && all(0x3A00, 0x200, 0x00));
+    card(8, all(0x3800, 0x200, 0xFF) && all(0x3A00, 0x200, 0x00) && worn(state, 2, 1));
     fresh(0xF0);
     memset(residue, 0x33, sizeof residue);
     operate(0x40, 0x0F, 0x10, 1, 12000, 0);
@@ -110,19 +120,23 @@ static void erases(void) {
     card(9, array[0x10] == 0x30 && state.status == 0x98);
 }
 
+/* The cycles of a run; its state stays in `state`. */
 static uint64_t count_of(uint8_t held, bool as_wanted, uint8_t first) {
     fresh(held);
     memset(wanted, 0xFF, 512);
     wanted[0] = first;
     if (as_wanted)
         memcpy(array + 0x3A00, wanted, 512);
-    return tb_run(device, state, 1, 0, 12000, 1, array, sizeof array, wanted, 512, scratch, 512).count;
+    tb_ran r = tb_run(device, state, 1, 0, 12000, 1, array, sizeof array, wanted, 512, scratch, 512);
+    state = r.state;
+    return r.count;
 }
 
 static void loads_and_files(void) {
     static uint8_t payload[113121], file[115200], ones[510];
-    card(10, count_of(0xFF, false, 0x5A) == 1031);
-    card(11, count_of(0x00, false, 0xFF) == 1032 && count_of(0x00, true, 0xFF) == 1027);
+    card(10, count_of(0xFF, false, 0x5A) == 1031 && unworn(state));
+    card(11, count_of(0x00, false, 0xFF) == 1032 && worn(state, 1, 1));
+    card(11, count_of(0x00, true, 0xFF) == 1027 && unworn(state));
     memset(ones, 0xFF, sizeof ones);
     card(12, tb_block_check(ones, sizeof ones) == 8629);
     card(13, tb_file_write('K', payload, 505, file, sizeof file).length == 512);
@@ -133,7 +147,7 @@ static void loads_and_files(void) {
     card(13, tb_file_write('K', payload, 113121, file, sizeof file).number == 36);
 }
 
-/* Devices 5 to 8, which have an array and levels of their own. Numbers from 101 on, since the cards end at 13. */
+/* Devices 5 to 8, which have an array and levels of their own. Numbers from 101 on, since the cards end at 13; wear has 112 to 117. */
 static uint8_t wide[TB_SIZE_MOST], left_by_cut[16384], wide_wanted[8192], wide_scratch[8192];
 static tb_device br;
 static uint8_t wp;
@@ -208,6 +222,7 @@ static void wide_levels(void) {
             wide_operate(0x20, 0xD0, 0x1FFF, rp, 5000, 3);
             bool open = level == 1 || rp == 2;
             card(104, state.status == (open ? 0x80 : 0xA0) && wide_all(0, 16384, open ? 0xFF : 0x00) && wide_all(16384, 245760, 0x00));
+            card(104, worn(state, 0, open));
         }
     wide_fresh(6, 1, 0x00);
     wp = 2;
@@ -233,7 +248,7 @@ static void words(void) {
     card(107, last.value == 0x0098 && wide[0] == (0xF0 & (0x00 | 0x33)) && wide[1] == (0xF0 & (0x0F | 0xCC)));
     wide_fresh(8, 1, 0x00);
     wide_operate(0x20, 0xD0, 0x3FFFF, 1, 5000, 3);
-    card(108, state.status == 0x80 && wide_all(0x60000, 0x20000, 0xFF) && wide_all(0, 0x60000, 0x00));
+    card(108, state.status == 0x80 && wide_all(0x60000, 0x20000, 0xFF) && wide_all(0, 0x60000, 0x00) && worn(state, 6, 1));
     wide_cycle(TB_CYCLE_READ, 1, 5000, 0x40000, 0);
     card(109, last.seen == TB_REFUSED && last.value == 5);
 }
@@ -253,6 +268,49 @@ static void word_loads(void) {
     }
 }
 
+/* The count of an erase: in the state of D0H's own cycle, once, however it goes on, up to the stop; over resets. */
+static void wear_of_an_erase(void) {
+    fresh(0x00);
+    cycle(TB_CYCLE_WRITE, 1, 12000, 0x3A00, 0x20);
+    card(112, unworn(state));
+    cycle(TB_CYCLE_WRITE, 1, 12000, 0x3A00, 0xD0);
+    card(112, worn(state, 1, 1));
+    cycle(TB_CYCLE_WRITE, 1, 12000, 0, 0xB0);
+    cycle(TB_CYCLE_IDLE, 1, 12000, 0, 0);
+    card(112, state.phase == TB_SUSPENDED && worn(state, 1, 1));
+    cycle(TB_CYCLE_WRITE, 1, 12000, 0, 0xD0);
+    card(112, state.phase == TB_ERASING && worn(state, 1, 1));
+    cycle(TB_CYCLE_READ, 1, 0, 0, 0);
+    card(112, state.phase == TB_FREE && state.status == 0xA8 && worn(state, 1, 1));
+    cycle(TB_CYCLE_IDLE, 0, 12000, 0, 0);
+    card(113, state.status == 0x80 && worn(state, 1, 1));
+    state.wear.block[1] = TB_WEAR_STOP - 1;
+    for (int i = 0; i < 3; i++) {
+        operate(0x20, 0xD0, 0x3A00, 1, 12000, 3);
+        card(114, state.status == 0x80 && worn(state, 1, TB_WEAR_STOP));
+    }
+}
+
+static bool reads(tb_tally t, uint64_t total, uint32_t largest, uint32_t smallest, uint32_t passed) {
+    return t.total == total && t.largest == largest && t.smallest == smallest && t.passed == passed;
+}
+
+/* Reports on no traces, and on three: 100,000 erases have not passed the sheet's 100,000. */
+static void wear_reports(void) {
+    static const uint8_t three[] = {3, 3, 3};
+    static const uint32_t counts[21] = {100000, 0, 0, 0, 0, 0, 9, 100001, 7, 0, 0, 0, 0, 9, 4294967295, 8, 0, 0, 0, 0, 9};
+    tb_reported none = tb_wear_report(3, NULL, 0, NULL, 0), all = tb_wear_report(3, three, 3, counts, 21);
+    card(115, none.number == 0 && none.report.traces == 0);
+    for (int k = 0; k < TB_BLOCKS_MOST; k++)
+        card(115, reads(none.report.block[k], 0, 0, 0, 0));
+    card(116, all.number == 0 && all.report.traces == 3 && reads(all.report.block[0], 4295167296, 4294967295, 100000, 2));
+    card(116, reads(all.report.block[1], 15, 8, 0, 0) && reads(all.report.block[6], 27, 9, 9, 0));
+    card(117, tb_wear_report(3, three, 3, counts, 20).number == 11 && tb_wear_report(4, three, 3, counts, 21).number == 48);
+    card(117, tb_wear_add(9, all.report, 9, state.wear).number == 1 && tb_wear_add(3, all.report, 4, state.wear).number == 48);
+    all.report.traces = 65535;
+    card(117, tb_wear_add(3, all.report, 4, state.wear).number == 47);
+}
+
 void cards(void) {
     operations();
     levels();
@@ -262,4 +320,6 @@ void cards(void) {
     wide_levels();
     words();
     word_loads();
+    wear_of_an_erase();
+    wear_reports();
 }

@@ -176,9 +176,22 @@ uint32_t some_address(uint8_t part, uint8_t word) {
     return first + below(length);
 }
 
+uint32_t some_count(void) {
+    if (chance(75))
+        return ONE_OF(0, 1, TB_SHEET_ERASES - 1, TB_SHEET_ERASES, TB_SHEET_ERASES + 1, TB_WEAR_STOP - 1, TB_WEAR_STOP);
+    return chance(50) ? below(1000) : any32();
+}
+
+tb_wear some_wear(void) {
+    tb_wear w;
+    for (int k = 0; k < TB_BLOCKS_MOST; k++)
+        w.block[k] = some_count();
+    return w;
+}
+
 static tb_state proper_state(tb_device d) {
     uint8_t part = real_part(d.number);
-    tb_state s = {.phase = (uint8_t)below(7), .mode = TB_MODE_STATUS, .status = (uint8_t)(below(8) << 3)};
+    tb_state s = {.phase = (uint8_t)below(7), .mode = TB_MODE_STATUS, .status = (uint8_t)(below(8) << 3), .wear = some_wear()};
     if (s.phase == TB_FREE)
         s.mode = (uint8_t)below(3);
     if (s.phase == TB_SUSPENDED)
@@ -214,16 +227,36 @@ tb_state some_state(tb_device d) {
     case 8: s.suspend = (uint8_t)ONE_OF(0, 1, d.suspend, d.suspend + 1, any32()); break;
     default:
         s = (tb_state){(uint8_t)any32(),  (uint8_t)any32(),  (uint8_t)any32(), (uint8_t)any32(),
-                       (uint16_t)any32(), (uint16_t)any32(), any32()};
+                       (uint16_t)any32(), (uint16_t)any32(), any32(),          some_wear()};
     }
     return s;
 }
 
+int changed_at(tb_wear before, tb_wear after) {
+    for (int k = 0; k < TB_BLOCKS_MOST; k++)
+        if (before.block[k] != after.block[k])
+            return k;
+    return -1;
+}
+
+bool any_wear(tb_wear w) { return changed_at((tb_wear){{0}}, w) >= 0; }
+
+void keeps_places(const char *what, uint8_t part, tb_wear before, tb_wear after) {
+    for (uint8_t k = 0; k < TB_BLOCKS_MOST; k++) {
+        if (c_block(part, k).length != 0 || before.block[k] == after.block[k])
+            continue;
+        printf("the count at place %u, where part %u has no block, was touched\n", k, part);
+        mismatch(what);
+    }
+}
+
 /* Telling. */
+
+bool same_wear(tb_wear a, tb_wear b) { return changed_at(a, b) < 0; }
 
 bool same_state(tb_state a, tb_state b) {
     return a.mode == b.mode && a.status == b.status && a.phase == b.phase && a.data == b.data && a.left == b.left &&
-           a.suspend == b.suspend && a.address == b.address;
+           a.suspend == b.suspend && a.address == b.address && same_wear(a.wear, b.wear);
 }
 
 bool same_bus(tb_bus a, tb_bus b) {
@@ -236,8 +269,11 @@ void tell_device(tb_device d) {
 }
 
 void tell_state(const char *name, tb_state s) {
-    printf("  %s: mode %u, status %02X, phase %u, data %04X, left %u, suspend %u, address %lX\n", name, s.mode, s.status, s.phase,
+    printf("  %s: mode %u, status %02X, phase %u, data %04X, left %u, suspend %u, address %lX, wear", name, s.mode, s.status, s.phase,
            s.data, s.left, s.suspend, (unsigned long)s.address);
+    for (int k = 0; k < TB_BLOCKS_MOST; k++)
+        printf(" %lu", (unsigned long)s.wear.block[k]);
+    printf("\n");
 }
 
 void tell_bus(tb_bus c) {

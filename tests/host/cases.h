@@ -29,20 +29,26 @@ uint8_t *ref_of(twin *);
 /* The account. A call is compared by its answer and by every byte that it was lent. */
 enum {
     IN_CYCLE, IN_START, IN_STEP, IN_RUN, IN_LOAD_RUN, IN_VERIFY_RUN, IN_LOAD, IN_VERIFY_FILE,
-    IN_WRITE, IN_READ, IN_TABLE, IN_READING, GROUPS
+    IN_WRITE, IN_READ, IN_TABLE, IN_READING, IN_WEAR_ADD, IN_WEAR_REPORT, GROUPS
 };
 enum { ON_DEVICES = IN_VERIFY_FILE + 1 }; /* the groups before this are about a device */
 void met(int group, uint8_t number);
 void met_on(int group, uint8_t part, uint8_t word, uint8_t number, bool refused); /* of a call about a device */
 void met_phase(uint8_t phase, bool word);
 void met_stage(uint8_t stage, bool word);
-void met_vpp(uint32_t vpp); /* on devices 5 to 8 */
+void met_vpp(uint32_t vpp);                        /* on devices 5 to 8 */
+void met_erase(bool in_run, tb_device, int block); /* one that was counted */
 
 /* What else must be met; account.c has their names. */
 enum {
     CUT_WORD, CUT_ERASE, BAND_CHANGE, TEN, HIGH_COMMAND, HIGH_DATA, BYTE_HIGH_DATA, CODE_BY_WORD, CODE_BY_BYTE,
     UNLOCKED_BY_WP, LOCKED_BY_WP, WP_REFUSED, WP_IGNORED, NO_MODE, NO_WORDS, ODD_ARRAY, ODD_RESIDUE, ODD_WANTED, ODD_SCRATCH,
-    LOADED_AT_5V, LOADED_AT_12V, BOOT_LOADED_BY_WP, LOW_DIFFERS, HIGH_DIFFERS, MARKS
+    LOADED_AT_5V, LOADED_AT_12V, BOOT_LOADED_BY_WP, LOW_DIFFERS, HIGH_DIFFERS,
+    COUNT_TO_STOP, COUNT_AT_STOP, COUNT_ELSEWHERE, KEPT_BARRED, KEPT_BY_SR3, KEPT_LOCKED, KEPT_OTHER_SECOND, KEPT_ASKED, KEPT_RESUMED,
+    KEPT_SUSPENDED, KEPT_CUT, KEPT_HELD_CUT, KEPT_ENDED, KEPT_RESET, KEPT_RESET_CUT, KEPT_PROGRAM, KEPT_REFUSED, KEPT_PLACES,
+    LOAD_AT_STOP, LOAD_NOT_COUNTED, LOAD_BARRED, VERIFY_NOT_COUNTED, RUN_REFUSED_KEPT,
+    TRACES_NONE, TRACES_MOST, TRACES_OVER, TRACES_TURNED, ONE_HUNDRED_THOUSAND, TOTAL_OVER_32_BITS, TOTAL_STOPPED, PASSED_STOPPED,
+    OTHER_FIRST, OTHER_LAST, FROM_UNKNOWN, MARKS
 };
 void mark_if(bool seen, int which);
 
@@ -52,6 +58,7 @@ void count_load(void);
 void count_file(void);
 void count_step(void);
 void count_reading(void);
+void count_report(void);
 void untouched(bool refused, const char *what, twin **, size_t); /* between the two calls: a refusal changed nothing */
 void alike(bool answers, const char *what, twin **, size_t);     /* after both calls */
 _Noreturn void mismatch(const char *what);
@@ -71,7 +78,12 @@ uint32_t some_vpp(uint8_t part, uint32_t rough);
 uint8_t some_wp(uint8_t part, uint32_t rough);
 uint8_t some_block(uint8_t part);                 /* one that the part has */
 uint32_t some_address(uint8_t part, uint8_t word); /* in units */
+uint32_t some_count(void); /* of erases: often at the stop, at the sheet's 100,000, or near them */
+tb_wear some_wear(void);
 tb_state some_state(tb_device);
+bool any_wear(tb_wear);                        /* a count that is not 0 */
+int changed_at(tb_wear before, tb_wear after); /* the first place at which they differ, or -1 */
+void keeps_places(const char *what, uint8_t part, tb_wear before, tb_wear after); /* where the part has no block */
 void cards(void);
 void parts(void);
 void stack(bool verbose);
@@ -79,6 +91,8 @@ void cycles(uint32_t walks, uint32_t scattered);
 void loads(uint32_t n);
 void files(uint32_t n);
 void readings(uint32_t n);
+void wears(uint32_t n);
+void wears_long(void); /* 65,535 traces and one more */
 void steps(uint32_t fed, uint32_t fed_long, uint32_t forged);
 void endless(void); /* polls that never get ready */
 
@@ -86,6 +100,7 @@ void endless(void); /* polls that never get ready */
 void tell_device(tb_device);
 void tell_state(const char *, tb_state);
 void tell_bus(tb_bus);
+bool same_wear(tb_wear, tb_wear);
 bool same_state(tb_state, tb_state);
 bool same_bus(tb_bus, tb_bus);
 

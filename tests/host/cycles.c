@@ -9,6 +9,7 @@ static tb_state before;
 static tb_bus bus;
 static tb_answer lib, ref;
 static uint32_t walked_at; /* VPP of the last cycle of a walk that was let pass; 0 before it */
+static int asked_block;    /* where 20H was last written in a walk; -1 before it */
 
 static void tell(void) {
     tell_device(device);
@@ -49,17 +50,71 @@ static void mark_operation(void) {
     mark_if(!cut && other_band, BAND_CHANGE);
 }
 
+/* The block of a unit; -1 where it is past the array. */
+static int block_of(uint32_t unit) {
+    for (uint8_t k = 0; k < TB_BLOCKS_MOST; k++) {
+        tb_span b = c_block(device.number, k);
+        if (((size_t)unit << device.word) - b.first < b.length)
+            return k;
+    }
+    return -1;
+}
+
+/* Whether the count of a block would show it, were it counted up or cleared. */
+static bool shows(int block) { return block >= 0 && before.wear.block[block] != 0 && before.wear.block[block] != TB_WEAR_STOP; }
+
+/* What a write showed of the counts: which erases are counted, and what is none. */
+static void mark_wear_of_write(int here) {
+    uint8_t byte = (uint8_t)bus.data, phase = before.phase, after = ref.state.phase;
+    bool confirm = phase == TB_ERASE_AWAITED && byte == 0xD0, started = confirm && after == TB_ERASING;
+    bool low = (ref.state.status & TB_SR_VPP_LOW) != 0, low_before = (before.status & TB_SR_VPP_LOW) != 0;
+    int counted = changed_at(before.wear, ref.state.wear);
+    if (counted >= 0)
+        met_erase(false, device, counted);
+    mark_if(counted >= 0 && ref.state.wear.block[counted] == TB_WEAR_STOP, COUNT_TO_STOP);
+    mark_if(counted >= 0 && asked_block >= 0 && asked_block != counted, COUNT_ELSEWHERE);
+    mark_if(started && counted < 0, COUNT_AT_STOP);
+    mark_if(started && c_block(device.number, TB_BLOCKS_MOST - 1).length == 0 && before.wear.block[TB_BLOCKS_MOST - 1] != 0, KEPT_PLACES);
+    mark_if(confirm && !started && low && !low_before && shows(here), KEPT_BARRED);
+    mark_if(confirm && !started && low_before && bus.vpp_mv > TB_VPP_LOW_MOST_MV && shows(here), KEPT_BY_SR3);
+    mark_if(confirm && !started && !low && shows(here), KEPT_LOCKED);
+    mark_if(phase == TB_ERASE_AWAITED && byte != 0xD0 && shows(here), KEPT_OTHER_SECOND);
+    mark_if(phase == TB_FREE && after == TB_ERASE_AWAITED && shows(here), KEPT_ASKED);
+    mark_if(phase == TB_DATA_AWAITED && after == TB_PROGRAMMING && shows(here), KEPT_PROGRAM);
+    if (phase == TB_FREE && after == TB_ERASE_AWAITED)
+        asked_block = here;
+}
+
+/* What a cycle that was let pass showed of the counts. An erase under way keeps its block's, however it goes on. */
+static void mark_wear(void) {
+    bool write = bus.kind == TB_CYCLE_WRITE && bus.rp != TB_RP_LOW, down = bus.rp == TB_RP_LOW;
+    uint8_t phase = before.phase, after = ref.state.phase;
+    bool cut = down || bus.vpp_mv <= (two_widths(device.number) ? TB_VPP_BR_LOW_MOST_MV : TB_VPP_LOW_MOST_MV);
+    bool erase = phase >= TB_ERASING, held = phase >= TB_SUSPENDED, of_erase = erase && shows(block_of(before.address));
+    if (write)
+        mark_wear_of_write(block_of(bus.address));
+    mark_if(of_erase && !held && cut && !down, KEPT_CUT);
+    mark_if(of_erase && !held && cut && down, KEPT_RESET_CUT);
+    mark_if(of_erase && held && cut, KEPT_HELD_CUT);
+    mark_if(of_erase && !held && !cut && before.left == 1, KEPT_ENDED);
+    mark_if(of_erase && phase == TB_ERASING && after == TB_SUSPENDING, KEPT_SUSPENDED);
+    mark_if(of_erase && phase == TB_SUSPENDED && after == TB_ERASING, KEPT_RESUMED);
+    mark_if(down && !running(phase) && any_wear(before.wear), KEPT_RESET);
+}
+
 static void account(void) {
     bool refused = ref.seen == TB_REFUSED, br = two_widths(device.number), word = real_mode(device.number, device.word);
     met_on(IN_CYCLE, device.number, device.word, (uint8_t)(refused ? ref.value : 0), refused);
     mark_if(refused && ref.value == TB_WRONG_ARRAY && word && array.length % 2 == 1, ODD_ARRAY);
     mark_if(refused && ref.value == TB_BAD_LEVEL && br && bus.wp > TB_WP_HIGH, WP_REFUSED);
     mark_if(!refused && !br && bus.wp > TB_WP_HIGH, WP_IGNORED);
+    mark_if(refused && any_wear(before.wear), KEPT_REFUSED);
     if (br)
         met_vpp(bus.vpp_mv);
     if (refused)
         return;
     met_phase(before.phase, word);
+    mark_wear();
     if (br)
         mark_cycle();
     if (word)
@@ -70,6 +125,9 @@ static void compare(void) {
     twin *lent[] = {&array, &residue};
     lib = tb_cycle(device, before, bus, lib_of(&array), array.length, lib_of(&residue), residue.length);
     untouched(lib.seen == TB_REFUSED, "cycle", lent, 2);
+    if (lib.seen == TB_REFUSED && !same_state(lib.state, before))
+        mismatch("cycle: a refusal moved the state");
+    keeps_places("cycle", device.number, before.wear, lib.state.wear);
     ref = c_cycle(device, before, bus, ref_of(&array), array.length, ref_of(&residue), residue.length);
     alike(lib.seen == ref.seen && lib.value == ref.value && same_state(lib.state, ref.state), "cycle", lent, 2);
     count_cycle();
@@ -134,8 +192,11 @@ static void walk(void) {
         device.number = 4;
     uint32_t home = some_address(device.number, device.word);
     before = tb_fresh();
-    if (!same_state(before, c_fresh()))
+    if (!same_state(before, c_fresh()) || any_wear(before.wear))
         mismatch("fresh");
+    if (chance(75))
+        before.wear = some_wear();
+    asked_block = -1;
     if (chance(10))
         twin_noise(&array, below((uint32_t)c_size(device.number)), 1);
     walked_at = 0;
@@ -162,6 +223,7 @@ static void scatter(void) {
     if (chance(3))
         bus = (tb_bus){(uint8_t)any32(), (uint8_t)any32(), (uint8_t)any32(), (uint8_t)any32(), (uint16_t)any32(), any32(), any32()};
     walked_at = 0;
+    asked_block = -1;
     lend(4);
     compare();
 }

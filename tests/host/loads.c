@@ -11,6 +11,7 @@ static uint8_t rp, wp, block, letter;
 static uint32_t vpp;
 static tb_ran lib, ref;
 static bool from_file;
+static uint8_t held[TB_BLOCK_MOST]; /* what the block held before the call */
 
 static void tell_ran(const char *who, tb_ran r) {
     printf("  %s: count %llu, end %u, address %lX\n", who, (unsigned long long)r.count, r.end, (unsigned long)r.address);
@@ -37,6 +38,38 @@ typedef tb_ran run_call(tb_device, tb_state, uint8_t, uint8_t, uint32_t, uint8_t
 typedef tb_ran file_call(tb_device, tb_state, uint8_t, uint8_t, uint32_t, uint8_t, uint8_t, const uint8_t *, size_t, uint8_t *, size_t,
                          uint8_t *, size_t, uint8_t *, size_t);
 
+static void keep_held(void) {
+    tb_span b = c_block(device.number, block);
+    if (array.length >= b.first + b.length)
+        memcpy(held, array.ref + b.first, b.length);
+}
+
+/* Whether a bit had to rise, of a call that was let pass. */
+static bool rises(void) {
+    for (size_t i = 0; i < wanted.length; i++)
+        if (wanted.ref[i] & ~held[i])
+            return true;
+    return false;
+}
+
+/* What a run makes of the counts, asked of the library itself: one more at the block where it erased, up to the stop; elsewhere nothing. */
+static void hold_wear(const char *name, bool verify) {
+    tb_wear due = state.wear;
+    bool passed = lib.count != 0, rose = passed && !verify && rises(), erased = rose && lib.end == TB_OK;
+    bool showed = block < TB_BLOCKS_MOST && state.wear.block[block] != 0 && state.wear.block[block] != TB_WEAR_STOP;
+    mark_if(erased && due.block[block] == TB_WEAR_STOP, LOAD_AT_STOP);
+    mark_if(showed && passed && !verify && !rose && lib.end == TB_OK, LOAD_NOT_COUNTED);
+    mark_if(showed && rose && !erased, LOAD_BARRED);
+    mark_if(showed && passed && verify, VERIFY_NOT_COUNTED);
+    mark_if(!passed && any_wear(state.wear), RUN_REFUSED_KEPT);
+    if (erased && due.block[block] != TB_WEAR_STOP) {
+        due.block[block]++;
+        met_erase(true, device, block);
+    }
+    if (!same_wear(lib.state.wear, due))
+        mismatch(name);
+}
+
 static void account(int group) {
     bool word = real_mode(device.number, device.word);
     bool well = ref.end == TB_OK && ref.count > wanted.length + 3; /* more than the words read twice: something was erased or programmed */
@@ -56,9 +89,12 @@ static void compare_run(const char *name, int group, run_call *library, run_call
     lib = library(device, state, rp, wp, vpp, block, lib_of(&array), array.length, lib_of(&wanted), wanted.length, lib_of(&scratch),
                   scratch.length);
     untouched(lib.count == 0, name, lent, 3);
+    if (lib.count == 0 && !same_state(lib.state, state))
+        mismatch(name);
     ref = second(device, state, rp, wp, vpp, block, ref_of(&array), array.length, ref_of(&wanted), wanted.length, ref_of(&scratch),
                  scratch.length);
     alike(same_ran(), name, lent, 3);
+    hold_wear(name, group == IN_VERIFY_RUN);
     account(group);
 }
 
@@ -68,9 +104,12 @@ static void compare_file(const char *name, int group, file_call *library, file_c
     lib = library(device, state, rp, wp, vpp, block, letter, lib_of(&file), file.length, lib_of(&array), array.length, lib_of(&wanted),
                   wanted.length, lib_of(&scratch), scratch.length);
     untouched(lib.count == 0, name, lent, 4);
+    if (lib.count == 0 && !same_state(lib.state, state))
+        mismatch(name);
     ref = second(device, state, rp, wp, vpp, block, letter, ref_of(&file), file.length, ref_of(&array), array.length, ref_of(&wanted),
                  wanted.length, ref_of(&scratch), scratch.length);
     alike(same_ran(), name, lent, 4);
+    hold_wear(name, group == IN_VERIFY_FILE);
     account(group);
 }
 
@@ -150,6 +189,7 @@ static void lay_file(tb_span b) {
 static void compare(void) {
     uint32_t what = below(5);
     from_file = what > 2;
+    keep_held();
     switch (what) {
     case 0: compare_run("run", IN_RUN, tb_run, c_run); break;
     case 1: compare_run("load alone", IN_LOAD_RUN, tb_load_run, c_load_run); break;
@@ -191,6 +231,8 @@ static void some_order(void) {
     state = tb_fresh();
     if (chance(30))
         state = (tb_state){.mode = (uint8_t)below(3), .status = (uint8_t)(0x80 | below(8) << 3)};
+    if (chance(80))
+        state.wear = some_wear();
     if (chance(8))
         state = some_state(device);
 }

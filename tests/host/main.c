@@ -20,12 +20,14 @@ int main(int argc, char **argv) {
     parts();
     cards();
     stack(verbose);
+    wears_long();
     for (int round = 0; round < 20; round++) {
         files(1000);
         cycles(250, 4000);
         steps(20, 10, 3000);
         loads(1000);
         readings(500);
+        wears(1000);
     }
     endless();
     return closing(seed, verbose);

@@ -42,5 +42,7 @@ uint16_t c_block_check(const uint8_t *block, size_t);
 uint8_t c_table_judge(const uint8_t *payload, size_t);
 tb_reading c_table_reading(const uint8_t *payload, size_t, int32_t microvolts);
 tb_reading c_file_reading(uint8_t letter, const uint8_t *file, size_t, uint8_t *room, size_t, int32_t microvolts);
+tb_reported c_wear_add(uint8_t part, tb_report, uint8_t from, tb_wear);
+tb_reported c_wear_report(uint8_t part, const uint8_t *parts, size_t, const uint32_t *counts, size_t);
 
 #endif

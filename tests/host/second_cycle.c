@@ -5,6 +5,14 @@ static const tb_state fresh = {.mode = TB_MODE_ARRAY, .status = SR7};
 
 tb_state c_fresh(void) { return fresh; }
 
+/* RP# low: as a fresh device, with the counts as they are. */
+static inline tb_state reset(const tb_state *s) {
+    tb_state after = fresh;
+    if (!SLIP(51))
+        after.wear = s->wear;
+    return after;
+}
+
 /* What a cut needs, in bytes: a program's unit, or the erase's block. */
 static inline bool residue_short(const part_rules *p, const tb_device *d, const tb_state *s, const tb_bus *b, size_t residue) {
     if (!pending(s->phase) || (b->rp != TB_RP_LOW && !vpp_low(p, b->vpp_mv)))
@@ -52,7 +60,7 @@ tb_answer c_cycle(tb_device d, tb_state s, tb_bus b, uint8_t *array, size_t n, c
     if (b.rp == TB_RP_LOW) {
         if (pending(s.phase))
             touch(&c, d.word, CUT, &s);
-        return (tb_answer){TB_NO_DATA, 0, fresh};
+        return (tb_answer){TB_NO_DATA, 0, reset(&s)};
     }
     number = d.word ? passed_words(&c, &s, &b, &value) : passed_bytes(&c, &s, &b, &value);
     if (number != TB_OK)

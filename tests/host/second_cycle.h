@@ -43,13 +43,22 @@ static inline bool proper(const part_rules *p, const tb_device *d, const tb_stat
     return s->phase == TB_PROGRAMMING ? s->left <= d->program : s->left <= d->erase && s->data == 0;
 }
 
-/* The operation is over; what it leaves of the status is its own affair. */
+/* The operation is over; what it leaves of the status is its own affair. The counts of erases stay. */
 static inline void rest(tb_state *s) {
     s->phase = TB_FREE;
     s->data = 0;
     s->left = 0;
     s->suspend = 0;
     s->address = 0;
+}
+
+/* The block of a unit inside the array. */
+static inline unsigned unit_block(const second_chip *c, bool word, uint32_t unit) { return block_at(c->part, looked_up(unit, word)); }
+
+/* An erase of that block has begun: one more, up to the stop. */
+static inline void wear(tb_state *s, unsigned block) {
+    if (s->wear.block[block] != TB_WEAR_STOP || SLIP(56))
+        s->wear.block[block]++;
 }
 
 /* What becomes of the array: nothing, or an operation that ended or was cut does its work. */
@@ -69,7 +78,7 @@ static inline void touch(const second_chip *c, bool word, effect what, const tb_
         store(c, word, what, s->address, s->data);
         return;
     }
-    unsigned k = block_at(c->part, looked_up(s->address, word));
+    unsigned k = unit_block(c, word, s->address);
     uint8_t *block = c->array + c->part->block[k].first;
     if (what == CUT)
         memcpy(block, c->residue, c->part->block[k].length);
@@ -126,7 +135,7 @@ static inline uint8_t respond(const second_chip *c, bool word, const tb_state *s
     if (s->mode == TB_MODE_STATUS) {
         *value = SLIP(41) && word ? s->status << 8 | s->status : s->status;
     } else if (s->mode == TB_MODE_ARRAY) {
-        if (s->phase == TB_SUSPENDED && holds(c->part, block_at(c->part, looked_up(s->address, word)), looked_up(address, word)))
+        if (s->phase == TB_SUSPENDED && holds(c->part, unit_block(c, word, s->address), looked_up(address, word)))
             return TB_SUSPENDED_READ;
         *value = unit_of(c->array, address, word);
     } else {
@@ -156,19 +165,24 @@ static inline uint8_t command(const part_rules *p, tb_state *s, uint16_t given) 
     return TB_NO_COMMAND;
 }
 
-/* Only for slip 8: where 20H was last written. */
+/* Only for slips 8 and 55: where 20H was last written; this address before it was. */
 static uint32_t asked_at;
+static inline uint32_t asked_or(const second_chip *c, bool word, uint32_t address) {
+    return asked_at < c->part->size >> word ? asked_at : address;
+}
 
 /* What unlocks the boot block: RP# at V_HH, or OE# at V_HH; where there is WP#, that high in place of OE#. */
 static inline bool unlocked(const part_rules *p, const tb_bus *b) {
     return b->rp == TB_RP_VHH || (p->br ? b->wp == (SLIP(37) ? TB_WP_LOW : TB_WP_HIGH) : b->oe == TB_OE_VHH);
 }
 
-/* A confirm or data: the operation starts, or error bits say why not. */
+/* A confirm or data: the operation starts, or error bits say why not. An erase that starts is counted at the block of this address. */
 static inline void begin(const second_chip *c, bool word, tb_state *s, const tb_bus *b) {
     bool erase = s->phase == TB_ERASE_AWAITED, low = vpp_low(c->part, b->vpp_mv) || (s->status & SR3) != 0;
-    uint32_t address = SLIP(8) && erase && asked_at < c->part->size >> word ? asked_at : b->address;
+    uint32_t address = SLIP(8) && erase ? asked_or(c, word, b->address) : b->address;
     if (low || (!unlocked(c->part, b) && holds(c->part, 0, looked_up(address, word)))) {
+        if ((low ? SLIP(54) : SLIP(61)) && erase)
+            wear(s, unit_block(c, word, address));
         s->status |= (erase ? SR5 : SR4) | (low ? SR3 : 0);
         s->phase = TB_FREE;
         return;
@@ -178,6 +192,8 @@ static inline void begin(const second_chip *c, bool word, tb_state *s, const tb_
     s->left = erase ? c->device.erase : c->device.program;
     s->data = erase ? 0 : word || SLIP(48) ? b->data : b->data & 0xFF;
     s->address = address;
+    if (erase)
+        wear(s, unit_block(c, word, SLIP(55) ? asked_or(c, word, address) : address));
     if (SLIP(45))
         begun_at = b->vpp_mv;
 }
@@ -197,8 +213,12 @@ static inline void suspended_write(tb_state *s, uint16_t given) {
 /* A write: 0 or 7. A command is the low 8 bits. */
 static inline uint8_t written(const second_chip *c, bool word, tb_state *s, const tb_bus *b) {
     uint16_t given = SLIP(32) && word ? b->data : b->data & 0xFF;
-    if (SLIP(8) && given == 0x20 && s->phase == TB_FREE)
+    if ((SLIP(8) || SLIP(55)) && given == 0x20 && s->phase == TB_FREE)
         asked_at = b->address;
+    if (SLIP(53) && given == 0x20 && s->phase == TB_FREE)
+        wear(s, unit_block(c, word, b->address));
+    if (SLIP(52) && given == 0xD0 && s->phase == TB_SUSPENDED)
+        wear(s, unit_block(c, word, s->address));
     if (SLIP(2) && s->phase == TB_DATA_AWAITED && given == 0xFF)
         s->phase = TB_FREE;
     switch (s->phase) {
@@ -232,6 +252,8 @@ LAID_IN uint8_t passed(const second_chip *c, bool word, tb_state *s, const tb_bu
         return asked(c, word, s, b, value);
     tb_state before = *s;
     effect what = settle(c->part, s, b->vpp_mv);
+    if (((SLIP(60) && what == CUT) || (SLIP(62) && what == FINISHED)) && before.phase != TB_PROGRAMMING)
+        wear(s, unit_block(c, word, before.address));
     uint8_t number = asked(c, word, s, b, value);
     if (number != TB_OK)
         *s = before;

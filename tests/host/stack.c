@@ -1,6 +1,8 @@
 /* How much stack the functions take: each is called on a stack of its own that was painted before, and what was painted over is
- * counted. The arguments are in it, and some 64 bytes of the caller that calls from there; what an empty caller takes is not. */
+ * counted. The arguments are in it, and up to 96 bytes of the caller that calls from there, which keeps them few: results go to static
+ * memory, and the header's assertions are off. What an empty caller takes is not in it. */
 #define _GNU_SOURCE
+#define TB_UNCHECKED
 #include <stdio.h>
 #include <stdlib.h>
 #include <string.h>
@@ -18,10 +20,12 @@ static uint8_t array[TB_SIZE_MOST], residue[TB_BLOCK_MOST], wanted[8192], scratc
 static const tb_device kinds[] = {{TB_BENCH_T, 0, 2, 3, 1}, {TB_28F200BR_T, 0, 2, 3, 1}, {TB_28F200BR_T, 1, 2, 3, 1}};
 static tb_device device;
 static size_t size, block; /* bytes of the device at hand, and of its block 1 */
-static tb_state state;
+static tb_state state, fresh;
 static tb_loader loader;
 static tb_bus bus;
-static uint8_t byte;
+static tb_report report;
+static uint32_t counts[7 * 100];
+static uint8_t byte, numbers[100];
 static uint16_t value;
 
 static size_t used_by(void (*call)(void)) {
@@ -45,16 +49,16 @@ static void nothing(void) {}
 static void cycle(void) { state = tb_cycle(device, state, bus, array, size, residue, sizeof residue).state; }
 static void start(void) { loader = tb_start(device.number, device.word, 1, 0, 12000, 1, wanted, block, scratch, block).loader; }
 static void step(void) { bus = tb_step(&loader, value, wanted, block, scratch, block).cycle; }
-static void run(void) { state = tb_run(device, tb_fresh(), 1, 0, 12000, 1, array, size, wanted, block, scratch, block).state; }
-static void load_run(void) { state = tb_load_run(device, tb_fresh(), 1, 0, 12000, 1, array, size, wanted, block, scratch, block).state; }
+static void run(void) { state = tb_run(device, fresh, 1, 0, 12000, 1, array, size, wanted, block, scratch, block).state; }
+static void load_run(void) { state = tb_load_run(device, fresh, 1, 0, 12000, 1, array, size, wanted, block, scratch, block).state; }
 static void verify_run(void) {
-    state = tb_verify_run(device, tb_fresh(), 1, 0, 12000, 1, array, size, wanted, block, scratch, block).state;
+    state = tb_verify_run(device, fresh, 1, 0, 12000, 1, array, size, wanted, block, scratch, block).state;
 }
 static void verify_file(void) {
-    state = tb_verify_file(device, tb_fresh(), 1, 0, 12000, 1, 'K', file, 512, array, size, wanted, block, scratch, block).state;
+    state = tb_verify_file(device, fresh, 1, 0, 12000, 1, 'K', file, 512, array, size, wanted, block, scratch, block).state;
 }
 static void load(void) {
-    state = tb_load(device, tb_fresh(), 1, 0, 12000, 1, 'K', file, 512, array, size, wanted, block, scratch, block).state;
+    state = tb_load(device, fresh, 1, 0, 12000, 1, 'K', file, 512, array, size, wanted, block, scratch, block).state;
 }
 static void write(void) { byte = tb_file_write('K', payload, sizeof payload, file, sizeof file).number; }
 static void write_short(void) { byte = tb_file_write('K', payload, 100, file, sizeof file).number; }
@@ -67,6 +71,11 @@ static void reading(void) {
 static void blank(void) {
     memset(file, 0xFF, sizeof file);
     byte = tb_file_read('K', file, sizeof file, payload, sizeof payload).number;
+}
+static void wear_add(void) { report = tb_wear_add(3, report, 3, state.wear).report; }
+static void wear_report(void) {
+    memset(numbers, 3, sizeof numbers);
+    report = tb_wear_report(3, numbers, sizeof numbers, counts, sizeof counts / sizeof counts[0]).report;
 }
 static void part(void) { byte = (uint8_t)(tb_size(3) + tb_block(3, 1).first + tb_fresh().status); }
 
@@ -82,7 +91,7 @@ static void measure(void (*call)(void)) {
 static void cycles_of(uint8_t phase) {
     for (unsigned k = 0; k < 18; k++) {
         bus = (tb_bus){(uint8_t)(k % 3), (uint8_t)(k / 3 % 3), 0, 0, 0xB0, k < 9 ? 0 : 12000, 0x10};
-        state = (tb_state){TB_MODE_STATUS, 0, phase, 0, 1, 0, 0x10};
+        state = (tb_state){.mode = TB_MODE_STATUS, .phase = phase, .left = 1, .address = 0x10};
         measure(cycle);
     }
 }
@@ -92,6 +101,16 @@ static void cycles_at_rest(void) {
     for (unsigned k = 0; k < 9; k++) {
         bus = (tb_bus){(uint8_t)(k % 3), 1, 0, 0, 0x40, 12000, 1};
         state = (tb_state){.mode = (uint8_t)(k / 3), .status = TB_SR_READY};
+        measure(cycle);
+    }
+}
+
+/* The second write of an erase and of a program: it starts, is barred, or is locked. */
+static void second_writes(void) {
+    uint32_t boot = (uint32_t)(tb_block(device.number, 0).first >> device.word);
+    for (unsigned k = 0; k < 6; k++) {
+        bus = (tb_bus){TB_CYCLE_WRITE, TB_RP_HIGH, 0, 0, 0xD0, k < 2 ? 0 : 12000, k < 4 ? 0x10 : boot};
+        state = (tb_state){.mode = TB_MODE_STATUS, .status = TB_SR_READY, .phase = k % 2 ? TB_DATA_AWAITED : TB_ERASE_AWAITED};
         measure(cycle);
     }
 }
@@ -115,11 +134,13 @@ static void steps_of_a_load(void) {
 static void on_device(tb_device d) {
     void (*const calls[])(void) = {run, load, load_run, verify_run, verify_file};
     device = d;
+    fresh = tb_fresh();
     size = tb_size(d.number);
     block = tb_block(d.number, 1).length;
     cycles_of(TB_PROGRAMMING);
     cycles_of(TB_ERASING);
     cycles_at_rest();
+    second_writes();
     steps_of_a_load();
     for (size_t i = 0; i < sizeof calls / sizeof calls[0]; i++) {
         memset(array, 0, size);
@@ -128,7 +149,7 @@ static void on_device(tb_device d) {
 }
 
 void stack(bool verbose) {
-    void (*const calls[])(void) = {part, write, read, check, reading, write_short};
+    void (*const calls[])(void) = {part, write, read, check, reading, write_short, wear_add, wear_report};
     size_t none = used_by(nothing);
     for (size_t i = 0; i < sizeof calls / sizeof calls[0]; i++)
         measure(calls[i]);
