@@ -1,3 +1,4 @@
 pub mod Walks
 pub mod Folding
 pub mod Unique
+pub mod Numbered

@@ -16,7 +16,7 @@ use Rattle.wear.specs.Counted.{summary, countsOf, Small, Fits, AllFit}
 use Rattle.wear_claims.specs.Traces.{Trace, begunAll, wearsOf, lineOf, Beside, flat}
 use Rattle.wear_claims.proofs.Agree as agree
 use Rattle.wear_claims.proofs.Lent as lent
-use Rattle.wear_claims.proofs.Numbered as numbered
+use Rattle.wear.proofs.Numbered as numbered
 use Rattle.wear.proofs.Folding as folding
 
 -- A block's line of a report says what the block's counts say: their sum, the largest, the smallest, and how many are over 100,000.

@@ -1,4 +1,3 @@
 pub mod Agree
 pub mod Lent
-pub mod Numbered
 pub mod Claims

@@ -30,6 +30,9 @@ said-number n good bad = go (eqb n 0) refl
 
 said-refused : (n : ℕ) (good bad : Report) → (n ≡ 0 → ⊥) → said n good bad ≡ record { number = n; report = bad }
 said-refused n good bad z = if-false (eqb n 0) (record { number = 0; report = good }) (record { number = n; report = bad }) (ne-eqb n 0 z)
+
+said-keeps : (n : ℕ) (good bad : Report) → (said n good bad .number ≡ 0 → ⊥) → said n good bad .report ≡ bad
+said-keeps n good bad h = ap (λ (r : Reported). r .report) (said-refused n good bad (λ e. h (said-number n good bad ∙ e)))
 
 -- the report over slices
 report-said : (number : ℕ) (numbers counts : List ℕ)
@@ -66,6 +69,10 @@ report-refused-gives number numbers counts m z f =
     ∙ ap (λ (n : ℕ). said n (reportFrom (length numbers) 0 counts noReport) noReport) (foremost-given f)
     ∙ said-refused m (reportFrom (length numbers) 0 counts noReport) noReport z
 
+pub report-refused-none : (number : ℕ) (numbers counts : List ℕ) → (reportedOf number numbers counts .number ≡ 0 → ⊥) → reportedOf number numbers counts .report ≡ noReport
+unfolding reportedOf
+report-refused-none number numbers counts = said-keeps (reportNumber number numbers (length counts)) (reportFrom (length numbers) 0 counts noReport) noReport
+
 -- one trace more
 add-said : (number : ℕ) (r : Report) (from : ℕ) (w : Wear) → addedTo number r from w ≡ said (addNumber number from (r .traces)) (added r w) r
 unfolding addedTo
@@ -92,3 +99,7 @@ pub add-refused-gives : (number : ℕ) (r : Report) (from : ℕ) (w : Wear) (m :
 unfolding addNumber
 add-refused-gives number r from w m z f =
     add-said number r from w ∙ ap (λ (n : ℕ). said n (added r w) r) (foremost-given f) ∙ said-refused m (added r w) r z
+
+pub add-refused-keeps : (number : ℕ) (r : Report) (from : ℕ) (w : Wear) → (addedTo number r from w .number ≡ 0 → ⊥) → addedTo number r from w .report ≡ r
+unfolding addedTo
+add-refused-keeps number r from w = said-keeps (addNumber number from (r .traces)) (added r w) r
