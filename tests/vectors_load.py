@@ -9,7 +9,7 @@ The load here is written from documents 01 and 02. It stands on the scripts' own
 on their own writer and reader of a load file (vectors_file.py), and shares nothing with the crates. Every case says beforehand
 how it must end and how many cycles it makes, and the load is held to that.
 
-A case is a name of 24 bytes and 46 numbers of six digits:
+A case is a name of 24 bytes, 46 numbers of six digits and seven of ten:
     0, 1       the file's letter and its payload bytes
     2 to 13    six changes of the file as it was written, place and byte (999999 for none)
     14, 15     how much of it is used, and the letter asked
@@ -23,15 +23,16 @@ A case is a name of 24 bytes and 46 numbers of six digits:
     42         1 for a verify, 0 for a load
     43         what the file's buffer holds before
     44, 45     1 for word mode, 0 for byte mode; WP#
+    46 to 52   the state's counts of erases begun, by block
 
 A line shows: the name; the end E, its address A and the count N; status, mode and phase S; then for array a, wanted w and scratch s
-a digest, the first byte and the last.
+a digest, the first byte and the last; the erases begun by block, before and after.
 """
 import functools
 
 from vectors_file import judge, row_of, spoiled
-from vectors_model import BLOCKS, FRESH, SIZE, Device, State, called, digest, pattern
-from vectors_run import Pins, block_length, formula, run, run_number
+from vectors_model import ALL, BLOCKS, FRESH, SIZE, SOME, STOP, Device, State, called, digest, near, pattern, tally
+from vectors_run import Pins, block_length, formula, run, run_number, worn_by
 
 NOWHERE = 999999
 NAME = 23
@@ -85,10 +86,10 @@ class Table:
         self.rows, self.lines = [], []
 
     def case(self, name, end, count=None, address=0, about=(), number=3, block=1, times=(2, 3), suspend=1, rp=None, vpp=12000, state=FRESH,
-             lent=(None, None, None), held=(255, 0), laid=False, spots=(), op="R", word=0, wp=0):
+             lent=(None, None, None), held=(255, 0), laid=False, spots=(), op="R", word=0, wp=0, wear=SOME):
         """One load. `about` is the file; `count` is told by the case where the end is not 0, and by the formula where it is."""
         assert len(name) <= NAME, name
-        row = row_of(**dict(about))
+        row, state = row_of(**dict(about)), state._replace(wear=wear)
         changes, data = file_of(row)
         there = number in BLOCKS and block < len(BLOCKS[number])
         first, n = (BLOCKS[number][block][0], block_length(number, block)) if there else (0, 512)
@@ -100,7 +101,7 @@ class Table:
         numbers += given + [x for pair in marks for x in pair] + [first if laid else NOWHERE] + pairs(spots, 2)
         numbers += [suspend, int(op == "V"), row[17], word, wp]
         assert len(numbers) == 46 and all(0 <= x <= 999999 for x in numbers)
-        self.rows.append(f"{name:{NAME + 1}}" + " ".join(f"{x:06d}" for x in numbers))
+        self.rows.append(f"{name:{NAME + 1}}" + " ".join([f"{x:06d}" for x in numbers] + [f"{n:010d}" for n in wear]))
         array, wanted, scratch = (pattern(*mark, k) for mark, k in zip(marks, given))
         if laid:
             array[first : first + len(data)] = data
@@ -111,18 +112,20 @@ class Table:
 
     def line(self, name, told, device, state, pins, block, first, array, wanted, scratch, data, asked, op):
         """The load or verify, held to what the case says, and its line."""
-        before = bytes(array), bytes(wanted), bytes(scratch)
+        before, held = (bytes(array), bytes(wanted), bytes(scratch)), array[first : first + len(wanted)]
         end, count, place = told
         if end == 0:
-            count = formula(device, array[first : first + len(wanted)], data + b"\xff" * (len(wanted) - len(data)), op)
+            count = formula(device, held, data + b"\xff" * (len(wanted) - len(data)), op)
         got, cycles, address, after = load(device, state, pins, block, array, wanted, scratch, data, asked, op)
         assert (got, cycles, address) == (end, 0 if count is None else count, place), (name, got, cycles, count, address)
         if cycles == 0:
             assert before == (array, wanted, scratch) and after == state, name
         else:
             assert wanted[: len(data)] == data and set(wanted[len(data) :]) <= {255}, name
+        assert after.wear == worn_by(state.wear, block, end, cycles, held, wanted, op), name
         told = f"E {got} A {address} N {cycles} S {after.status:02X} {after.mode} {after.phase}"
-        return f"{name:{NAME + 1}}{told} a {ends(array)} w {ends(wanted)} s {ends(scratch)}"
+        slices = f"a {ends(array)} w {ends(wanted)} s {ends(scratch)}"
+        return f"{name:{NAME + 1}}{told} {slices} {tally(state.wear)} > {tally(after.wear)}"
 
 
 def file_refused(t):
@@ -384,13 +387,30 @@ def wide_verified(t):
     t.case("verify 7w 131,072", 0, op="V", about={"size": 113120}, number=7, word=1, block=6, vpp=0, laid=True)
 
 
+# ---------------------------------------------------------------- the cases of wear
+
+
+def worn(t):
+    """A load that erases adds one at its block, up to the stop; a verify, a load that does not erase and a refused one keep all counts."""
+    file = {"about": {"size": 100}}
+    for number, word in ALL:
+        me, n = tag(number, word), block_length(number, 1) // (1 + word)
+        for count in (STOP - 1, STOP):
+            t.case(f"wear {me} erased {count % 1000}", 0, number=number, word=word, held=(0, 0), wear=near(1, count), **file)
+        t.case(f"wear {me} program", 0, number=number, word=word, wear=near(1, STOP - 1), **file)
+        t.case(f"wear {me} verify", 0, number=number, word=word, op="V", laid=True, wear=near(1, STOP - 1), **file)
+        t.case(f"wear {me} 21", 21, n + 5, number=number, word=word, held=(0, 0), vpp=0, wear=near(1, STOP - 1), **file)
+        t.case(f"wear {me} 31", 31, number=number, word=word, about={"size": 505, "before": [(5, 18)]}, held=(0, 0), wear=near(1, STOP - 1))
+
+
 OLD_PARTS = (file_refused, run_refused, loaded, ended, verified)
 NEW_PARTS = (wide_refused, wide_loaded, wide_ended, wide_verified)
+WEAR_PARTS = (worn,)
 
 
 def all_cases():
     t = Table()
-    for part in OLD_PARTS + NEW_PARTS:
+    for part in OLD_PARTS + NEW_PARTS + WEAR_PARTS:
         part(t)
     assert len({row[:NAME] for row in t.rows}) == len(t.rows)
     return t

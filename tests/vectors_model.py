@@ -11,7 +11,7 @@ second opinion to which the program is held. The second half is the list of case
 A line shows: group and number; the answer (D and what was read, N and dashes, X and a refusal); the status register; the mode
 (A array, S status, I identifier); the phase (F free, C confirm awaited, D data awaited, P programming and its data, E erasing,
 U being suspended and the cycles of that to go, S suspended); the cycles to go; the operation's address; a digest of the array that was
-lent.
+lent; the erases begun, for each of seven blocks.
 
 Addresses of cycles and states count units: bytes, or in word mode words. What a row of the table holds is said at ROWS below; what
 stands from column 40 on is a note to the reader.
@@ -24,7 +24,9 @@ from collections import namedtuple
 # ---------------------------------------------------------------- the model
 
 Device = namedtuple("Device", "number program erase suspend word", defaults=(1, 0))
-State = namedtuple("State", "mode status phase data left address")  # data: in phase P what is programmed, in phase U the cycles to go
+UNWORN = (0,) * 7  # erases begun, by block; a part with fewer blocks has places that nothing counts at
+# data: in phase P what is programmed, in phase U the cycles to go
+State = namedtuple("State", "mode status phase data left address wear", defaults=(UNWORN,))
 Cycle = namedtuple("Cycle", "kind rp oe vpp address data wp", defaults=(0,))
 
 # Eight devices: first and last byte address of each block, outward from the boot block, and the size in bytes.
@@ -51,6 +53,7 @@ CODE = {1: 0x94, 2: 0x95, 3: 0x94, 4: 0x95, 5: 0x2274, 6: 0x2275, 7: 0x4470, 8: 
 READY, SUSPENDED, ERASE_ERROR, PROGRAM_ERROR, VPP_LOW = 0x80, 0x40, 0x20, 0x10, 0x08
 AWAITING, RUNNING, BUSY, IN_FLIGHT = "CD", "PE", "PEU", "PEUS"
 FRESH = State("A", READY, "F", 0, 0, 0)
+STOP = 4294967295  # a count of erases goes no further
 
 
 def is_part(device):
@@ -179,18 +182,28 @@ def finish(device, s, array):
         array[first:past] = b"\xff" * (past - first)
 
 
+def rested(s):
+    """Step 1: what RP# low leaves. Wear is kept: a reset takes no erase back."""
+    return FRESH._replace(wear=s.wear)
+
+
+def counted(wear, block):
+    """The counts once an erase of a block has begun: one more there, up to the stop."""
+    return tuple(min(n + 1, STOP) if k == block else n for k, n in enumerate(wear))
+
+
 def settled(s, is_cut):
     """The state that steps 2 and 3 leave, where the operation is cut and where it is not."""
     if is_cut:
         status = (s.status | READY | VPP_LOW | error_bit(s)) & ~SUSPENDED
-        return State("S", status, "F", 0, 0, 0)
+        return State("S", status, "F", 0, 0, 0, s.wear)
     if s.phase == "U":
         if s.data == 1:
             return s._replace(phase="S", data=0, status=s.status | READY | SUSPENDED)
         return s._replace(data=s.data - 1)
     if s.phase in RUNNING:
         if s.left == 1:
-            return State("S", s.status | READY, "F", 0, 0, 0)
+            return State("S", s.status | READY, "F", 0, 0, 0, s.wear)
         return s._replace(left=s.left - 1)
     return s
 
@@ -225,8 +238,8 @@ def second_write(device, s, c):
     if errors:
         return over._replace(status=s.status | errors)
     if s.phase == "C":
-        return State("S", s.status & ~READY, "E", 0, device.erase, c.address)
-    return State("S", s.status & ~READY, "P", carried(device, c.data), device.program, c.address)
+        return State("S", s.status & ~READY, "E", 0, device.erase, c.address, counted(s.wear, block_of(device, c.address)))
+    return State("S", s.status & ~READY, "P", carried(device, c.data), device.program, c.address, s.wear)
 
 
 def busy_write(device, s, command):
@@ -301,7 +314,7 @@ def made(device, s, c, array, residue):
     if c.rp == 0:
         if is_cut:
             cut(device, s, array, residue)
-        return ("N", 0), FRESH
+        return ("N", 0), rested(s)
     answer, after = ("N", 0), settled(s, is_cut)
     if c.kind == "W":
         after = write(device, after, c)
@@ -335,6 +348,7 @@ ROOM = 131073  # one byte more than the largest block, for a residue, wanted or 
 #   G name                            the group's four letters
 #   D number word program erase suspend array residue     the device, and how many bytes of array and residue are lent
 #   A first step, B first step        fill the array, the residue, as far as they are lent
+#   E and seven counts                erases begun by block, for the states of the rows S that follow
 #   S status mode phase left address  the state, as a line shows it
 #   R rp oe wp vpp address data       the cycle
 
@@ -373,11 +387,16 @@ def shown(s):
     return f"{s.status:02X} {s.mode} {phase} {s.left:05d} {s.address:08X}"
 
 
+def tally(wear):
+    """Counts as the lines have them."""
+    return " ".join(map(str, wear))
+
+
 class Bench:
     """Runs the cases one after the other, and keeps the rows of the table and the expected lines."""
 
     def __init__(self):
-        self.device, self.state, self.lent, self.rest = Device(0, 0, 0), FRESH, 0, 0
+        self.device, self.state, self.lent, self.rest, self.wear = Device(0, 0, 0), FRESH, 0, 0, UNWORN
         self.array, self.residue, self.name, self.number = bytearray(ARRAY_ROOM), bytearray(ROOM), "    ", 0
         self.rows, self.lines, self.known = [], [], (None, 0)
 
@@ -403,9 +422,14 @@ class Bench:
         self.residue[: self.rest] = pattern(first, step, self.rest)
         self.row(f"B {first:03d} {step:03d}")
 
+    def worn(self, wear):
+        """The counts of the states that are put from here on."""
+        self.wear = tuple(wear)
+        self.row("E " + " ".join(f"{n:010d}" for n in wear))
+
     def put(self, mode, status, phase, left=0, address=0, data=0):
         """Put the device into a state."""
-        self.state = State(mode, status, phase, data, left, address)
+        self.state = State(mode, status, phase, data, left, address, self.wear)
         self.row(f"S {shown(self.state)}")
 
     def say(self, answer):
@@ -415,7 +439,7 @@ class Bench:
             self.known = (part, digest(part))
         told = {"D": f"D {value:04X}", "N": "N ----", "X": f"X {value:02d}"}[kind]
         self.number += 1
-        self.lines.append(f"{self.name} {self.number:04d} {told} {shown(self.state)} {self.known[1]:04X}")
+        self.lines.append(f"{self.name} {self.number:04d} {told} {shown(self.state)} {self.known[1]:04X} {tally(self.state.wear)}")
 
     def fresh(self, note):
         self.state = FRESH
@@ -423,7 +447,7 @@ class Bench:
         self.say(("N", 0))
 
     def reset(self, note):
-        self.state = FRESH
+        self.state = rested(self.state)
         self.row("Z", note)
         self.say(("N", 0))
 
@@ -1601,6 +1625,161 @@ def wide_times(b):
     b.idle("one of the 100")
 
 
+# ---------------------------------------------------------------- the cases of wear
+
+SOME = (11, 22, 33, 44, 55, 66, 77)  # every count nonzero and none like another: one at a wrong place shows
+ALL = tuple((number, 0) for number in (1, 2, 3, 4)) + BOTH
+
+
+def wear_bench(b, number, word, erase=3):
+    """A part of any device, with both patterns."""
+    b.use(number, 2, erase, word=word)
+    b.fill(200, 3)
+    b.fill_residue(17, 5)
+
+
+def near(block, count):
+    """Counts as in SOME, but this one at a block."""
+    return tuple(count if k == block else n for k, n in enumerate(SOME))
+
+
+def beside(b, block):
+    """Another block of the part."""
+    return (block + 1) % len(BLOCKS[b.device.number])
+
+
+def held_to(b, wear):
+    """What the request says of the counts, without the model of the first half."""
+    assert b.state.wear == tuple(wear), (b.rows[-1], b.state.wear, wear)
+
+
+def begun(b, block, address, note, **pins):
+    """20H in another block, and D0H at an address of this one, unlocked: counted in D0H's own cycle."""
+    before = b.state.wear
+    b.write(edges(b, beside(b, block))[0], 0x20, "20H in another block: nothing is counted")
+    held_to(b, before)
+    b.write(address, 0xD0, note, rp=2, **pins)
+    held_to(b, (min(n + 1, STOP) if k == block else n for k, n in enumerate(before)))
+
+
+def to_the_stop(b):
+    b.group("wear", "each block of each part: one before the stop, at the stop, ended, cut; the block is that of D0H's address")
+    for number, word in ALL:
+        wear_bench(b, number, word, 1)
+        for k in range(len(BLOCKS[number])):
+            first, last = edges(b, k)
+            b.worn(near(k, STOP - 1))
+            b.put("S", 0x80, "F")
+            begun(b, k, first, f"{named(number, word)}, block {k}, {first:05X}H: up to the stop")
+            b.idle("ended: not counted once more")
+            begun(b, k, last, f"{last:05X}H: it stays at the stop")
+            b.idle("cut: not counted once more", **(dict(vpp=0) if (k + number + word) % 2 else dict(rp=0)))
+            held_to(b, near(k, STOP))
+
+
+def not_started(b):
+    """Confirms that start nothing, and all else that is written: no count moves."""
+    boot, there = edges(b, 0)[1], edges(b, 1)[0]
+    low_supply = 1500 if b.device.number > 4 else 6500
+    b.put("S", 0x80, "F")
+    b.write(there, 0x20, "20H alone")
+    b.idle("is not counted")
+    b.write(there, 0xD0, "a confirm at low VPP", vpp=low_supply)
+    b.write(there, 0x20, "SR.3 is still set")
+    b.write(there, 0xD0, "and bars the confirm")
+    b.write(there, 0x50, "50H")
+    b.write(boot, 0x20, "the boot block")
+    b.write(boot, 0xD0, "locked")
+    b.write(boot, 0x20, "locked, and VPP low")
+    b.write(boot, 0xD0, vpp=0)
+    b.write(boot, 0x50)
+    b.write(there, 0x20, "20H and a wrong confirm")
+    b.write(there, 0x20)
+    b.write(there, 0x40, "40H, and D0H as data: a program")
+    b.write(there, 0xD0)
+    b.write(there, 0xD0, "D0H while it programs")
+    b.idle("the program ends")
+    b.write(there, 0xD0, "D0H at rest: refused 7")
+    b.write(there, 0x20, "20H, and D0H as RP# is low: nothing starts")
+    b.write(there, 0xD0, rp=0)
+    held_to(b, SOME)
+
+
+def refused_first(b):
+    """A confirm that is refused is not counted, and the one that is then taken is."""
+    there = edges(b, 1)[0]
+    past_end = SIZE[b.device.number] // width(b.device)
+    b.write(edges(b, 2)[0], 0x20, "20H in block 2")
+    b.write(there, 0xD0, "refused 4: VPP between the bands", vpp=9000)
+    b.write(past_end, 0xD0, "refused 5: past the array")
+    b.write(past_end, 0xD0, "refused 4: RP# low as well", rp=0, vpp=9000)
+    held_to(b, SOME)
+    b.write(there, 0xD0, "D0H in block 1: counted there, once")
+    held_to(b, near(1, 23))
+
+
+def goes_on(b):
+    """What becomes of an erase that is counted: suspended, resumed twice, cut, ended, the next begun; after each the counts."""
+    there = edges(b, 1)[0]
+    for again in ("", " again"):
+        b.write(there, 0xB0, f"suspended{again}")
+        b.write(there, 0xD0, f"resumed{again}: not counted")
+    b.read(there, "ended: not counted")
+    b.reset("what RP# low makes of it keeps the counts")
+    held_to(b, near(1, 23))
+    b.write(there, 0x20, "an erase of block 2")
+    b.write(edges(b, 2)[1], 0xD0, "counted")
+    b.write(there, 0xB0)
+    b.idle("suspended, and cut by RP#: not counted", rp=0)
+    b.put("S", 0x00, "E", 1, there)
+    b.write(there, 0x20, "an erase ends as 20H comes")
+    b.write(there, 0xD0, "and the next one is counted")
+    held_to(b, near(1, 23))
+    b.write(there, 0x20, "cut by VPP as 20H comes", vpp=0)
+    b.write(there, 0xD0, "the confirm is barred by SR.3: not counted")
+    held_to(b, near(1, 23))
+
+
+def kept_or_counted(b):
+    b.group("kept", "each part: what is not counted (20H, barred, locked, refused, resumed, ended, cut, reset) and what is")
+    for number, word in ALL:
+        wear_bench(b, number, word)
+        b.worn(SOME)
+        b.fresh(f"{named(number, word)}, fresh: all counts 0")
+        held_to(b, UNWORN)
+        not_started(b)
+        refused_first(b)
+        goes_on(b)
+
+
+def from_zero(b):
+    b.group("zero", "each part: erases from a fresh device on, block 0 once, block 1 twice")
+    for number, word in ALL:
+        b.use(number, 2, 1, word=word)
+        b.fill(200, 3)
+        b.fresh(named(number, word))
+        for block in (0, 1, 1):
+            begun(b, block, edges(b, block)[1], f"an erase of block {block}")
+            b.idle("ended")
+        held_to(b, (1, 2, 0, 0, 0, 0, 0))
+
+
+def any_count(b):
+    b.group("any ", "any count is proper, and none makes an improper state proper")
+    for number, word in ALL:
+        b.use(number, 2, 3, word=word)
+        there = edges(b, 1)[0]
+        for wear in ((STOP,) * 7, (0, STOP, 0, STOP, 0, STOP, 0)):
+            b.worn(wear)
+            b.put("S", 0x00, "E", 2, there)
+            b.idle(f"{named(number, word)}: proper")
+            b.put("S", 0x80, "E", 2, there)
+            b.idle("refused 3")
+            b.reset("and its reset")
+            held_to(b, wear)
+    b.worn(SOME)
+
+
 OLD_PARTS = (
     cards, commands, last_cycle, modes, bands, locks, barred, times, cuts, together, order, rp_low, past,
     suspended, suspending, suspend_at_rest, identifiers, residues, improper, blocks, devices, levels,
@@ -1610,11 +1789,13 @@ NEW_PARTS = (
     wide_locks, word_cuts, erase_cuts, wide_together, block_edges, wide_devices, wide_past, wide_states, wide_order, each_refusal,
     wide_suspended, wide_times,
 )
+WEAR_PARTS = (to_the_stop, kept_or_counted, from_zero, any_count)
 
 
 def all_cases():
     b = Bench()
-    for part in OLD_PARTS + NEW_PARTS:
+    b.worn(SOME)
+    for part in OLD_PARTS + NEW_PARTS + WEAR_PARTS:
         part(b)
     return b
 

@@ -9,15 +9,15 @@ The loader in the first half is written from documents 01 and 02 alone, as one p
 is the model of vectors_model.py. Both share nothing with the crates. The second half is the list of cases.
 
 A line of a run (R), of a load alone (O) or of a verify alone (V) shows: group and number; the end; the cycles made; the end's address;
-the status register, mode and phase that are left; digests of what was lent of the array and of scratch. A line of a step shows what the
-loader gave: a cycle (its kind, RP#, WP#, VPP, address, data), an end (E, its number and address) or a refusal (X); and a digest of
+the status register, mode and phase that are left; digests of what was lent of the array and of scratch; the erases begun by block, for
+each of seven, before and after. A line of a step shows what the loader gave: a cycle (its kind, RP#, WP#, VPP, address, data), an end (E, its number and address) or a refusal (X); and a digest of
 scratch. Addresses of cycles count units; the address of an end is that of a byte.
 """
 from collections import namedtuple
 
 from vectors_model import (
-    ARRAY_ROOM, BLOCKS, FRESH, ROOM, SIZE, Cycle, Device, State,
-    bad_levels, called, carried, cycle, digest, is_device, is_part, pattern, proper, put_unit, read, shown, width,
+    ALL, ARRAY_ROOM, BLOCKS, FRESH, ROOM, SIZE, SOME, STOP, UNWORN, Cycle, Device, State,
+    bad_levels, called, carried, counted, cycle, digest, is_device, is_part, near, pattern, proper, put_unit, read, shown, tally, width,
 )
 
 # ---------------------------------------------------------------- the loader
@@ -173,6 +173,13 @@ def formula(device, held, wanted, op="R"):
     return n + 2 + (n + 1 if op == "R" else 0) + rises * (2 + device.erase) + programs * (2 + device.program)
 
 
+def worn_by(wear, block, end, count, held, wanted, op):
+    """The counts after a run: one more at its block where it erased, up to the stop; else as they were. An erase that cannot start ends
+    the run with 21 or 23."""
+    rises = count and op != "V" and any(w & ~h for w, h in zip(wanted, held))
+    return counted(wear, block) if rises and end not in (21, 23) else wear
+
+
 class Stepped:
     """A loader stepped by hand. `place` and `polls` are kept only where a row hands them back."""
 
@@ -217,6 +224,7 @@ class Stepped:
 #   G name                                    the group's four letters
 #   D number word program erase suspend array wanted scratch     the device, and how many bytes of each slice are lent
 #   L rp wp vpp block                         the levels and the block
+#   E and seven counts                        erases begun by block, for the states of the rows S that follow
 #   S status mode phase left address, F       the state; a fresh one
 #   A first step, W first step, C first step  fill the array, wanted, scratch, as far as they are lent
 #   B place byte, X address byte              one byte of wanted, of the array
@@ -227,7 +235,7 @@ class Stepped:
 class Bench:
     def __init__(self):
         self.device, self.state, self.lent = Device(0, 0, 0), FRESH, (0, 0, 0)
-        self.pins, self.block, self.stepped = Pins(0, 0), 0, None
+        self.pins, self.block, self.stepped, self.wear = Pins(0, 0), 0, None, UNWORN
         self.array, self.wanted, self.scratch = bytearray(ARRAY_ROOM), bytearray(ROOM), bytearray(ROOM)
         self.name, self.number, self.rows, self.lines = "    ", 0, [], []
 
@@ -256,8 +264,13 @@ class Bench:
         self.pins, self.block = Pins(rp, vpp, wp), block
         self.row(f"L {rp:03d} {wp:03d} {vpp:010d} {block:03d}")
 
+    def worn(self, wear):
+        """The counts of the states that are put from here on."""
+        self.wear = tuple(wear)
+        self.row("E " + " ".join(f"{n:010d}" for n in wear))
+
     def put(self, mode, status, phase, left=0, address=0, data=0):
-        self.state = State(mode, status, phase, data, left, address)
+        self.state = State(mode, status, phase, data, left, address, self.wear)
         self.row(f"S {shown(self.state)}")
 
     def fresh(self):
@@ -277,16 +290,23 @@ class Bench:
         self.array[address] = byte
         self.row(f"X {address:08X} {byte:02X}", note)
 
+    def held(self):
+        """What the block holds, none where there is no such block."""
+        blocks = BLOCKS.get(self.device.number, ())
+        first, last = blocks[self.block] if self.block < len(blocks) else (0, -1)
+        return self.array[first : last + 1]
+
     def run(self, note, expected=None, op="R"):
         """One run, load alone or verify alone. Where the documents tell end, count and address, they are given, and it is held to them."""
         a, w, k = self.lent
-        array, scratch = self.array[:a], self.scratch[:k]
+        array, scratch, had, held = self.array[:a], self.scratch[:k], self.state.wear, self.held()
         end, count, address, self.state = run(self.device, self.state, self.pins, self.block, array, self.wanted[:w], scratch, op)
         assert expected is None or (end, count, address)[: len(expected)] == expected, (note, end, count, address)
+        assert self.state.wear == worn_by(had, self.block, end, count, held, self.wanted[:w], op), (note, had, self.state.wear)
         self.array[:a], self.scratch[:k] = array, scratch
-        s = self.state
+        s, sums = self.state, f"{digest(array):04X} {digest(scratch):04X}"
         self.row(op, note)
-        self.say(f"{op} {end:03d} {count:010d} {address:08X} {s.status:02X} {s.mode} {s.phase} {digest(array):04X} {digest(scratch):04X}")
+        self.say(f"{op} {end:03d} {count:010d} {address:08X} {s.status:02X} {s.mode} {s.phase} {sums} {tally(had)} > {tally(s.wear)}")
 
     def tell(self, given, scratch):
         if given[0] == "X":
@@ -1124,13 +1144,62 @@ def hands_back(b):
     b.step(0x005B, 1, "25 at the last byte", ("E", 25, 0x5FFF))
 
 
+# ---------------------------------------------------------------- the cases of wear
+
+
+def wear_runs(b):
+    b.group("wear", "block 1 of each part: an erase adds one there, up to the stop; every other run keeps all counts")
+    for number, word in ALL:
+        n = units_of(block_length(number, 1), word)
+        first = BLOCKS[number][1][0]
+        plain(b, number, 1, word)
+        b.worn(near(1, STOP - 1))
+        b.put("A", 0x80, "F")
+        b.hold(first, 0x00)
+        b.run(f"{named(number, word)}: an erase, up to the stop", (0, 2 * n + 3 + 5))
+        b.hold(first, 0x00)
+        b.load("a load alone: an erase at the stop", (0, n + 2 + 5))
+        b.verify("a verify alone", (0, n + 1))
+        b.want(0, 0x7F)
+        b.run("a program and no erase", (0, 2 * n + 3 + 4))
+        b.run("held as wanted", (0, 2 * n + 3))
+        b.want(0, 0xFF)
+        b.levels(1, 0, 1)
+        b.load("VPP low, the erase cannot start: 21", (21, n + 5))
+        b.levels(0, 12000, 1)
+        b.run("refused 4", (4, 0))
+        b.levels(1, 12000, 1)
+        b.put("S", 0x80, "C")
+        b.run("refused 12", (12, 0))
+
+
+def wear_blocks(b):
+    b.group("wblk", "each block erased by a load alone: its own count, and no other; the boot block locked and not")
+    b.worn(SOME)
+    mains = {(1, 0), (2, 0), (3, 0), (4, 0), (5, 1), (8, 1)}
+    for number, word in ALL:
+        for block in range(len(BLOCKS[number]) if (number, word) in mains else 3):
+            n = units_of(block_length(number, block), word)
+            plain(b, number, block, word)
+            b.put("A", 0x80, "F")
+            b.hold(BLOCKS[number][block][1], 0xFE)
+            if block == 0:
+                b.levels(1, 12000, 0)
+                b.load(f"{named(number, word)}: locked: 23", (23, n + 5))
+                b.levels(2, 12000, 0)
+            b.load(f"{named(number, word)}, block {block}", (0, n + 2 + 5))
+            b.load("held as wanted", (0, n + 2))
+
+
 OLD_PARTS = (cards, blocks, ways, other_ends, refusals, by_hand, barred, over, apart, verified, apart_by_hand)
 NEW_PARTS = (wide_runs, wide_mains, wide_boot, wide_verifies, wide_bars, words_by_hand, word_ends_by_hand, hands_back)
+WEAR_PARTS = (wear_runs, wear_blocks)
 
 
 def all_cases():
     b = Bench()
-    for part in OLD_PARTS + NEW_PARTS:
+    b.worn(SOME)
+    for part in OLD_PARTS + NEW_PARTS + WEAR_PARTS:
         part(b)
     return b
 

@@ -1,10 +1,11 @@
 // Loads and verifies from a file: a case a line of standard input, an answer a line of standard output. A case is a name of 24 bytes and
-// 46 numbers of six digits; tests/vectors_load.py says what they mean and works out the answers.
+// 46 numbers of six digits, then seven counts of ten; tests/vectors_load.py says what they mean and works out the answers.
 use device::Device;
 use device::Part;
 use loader_run::Ran;
 use model_types::Pins;
 use model_types::State;
+use model_types::Wear;
 ghost use Prim.Native.Nat.{_<_, _≤_};
 
 // Number k of a case: as a length, as a byte, as 16 bits, as 32 bits.
@@ -120,12 +121,14 @@ fn state_of(case: &[u8]) -> State {
     let phase = vectors_states::phase_by(byte(case, 24), 1);
     let left = half(case, 25);
     let address = long(case, 26);
+    let wear = vectors_states::wear_at(case, 346);
     State {
         mode: mode,
         status: status,
         phase: phase,
         left: left,
         address: address,
+        wear: wear,
     }
 }
 
@@ -226,6 +229,28 @@ fn tell_slices(array: &[u8], wanted: &[u8], scratch: &[u8]) {
     tell_slice(b" a ", array);
     tell_slice(b" w ", wanted);
     tell_slice(b" s ", scratch);
+}
+
+// The erases begun, block by block.
+fn tell_wear(w: Wear) {
+    tell(b" ", w.block0 as u64);
+    tell(b" ", w.block1 as u64);
+    tell(b" ", w.block2 as u64);
+    tell(b" ", w.block3 as u64);
+    tell(b" ", w.block4 as u64);
+    tell(b" ", w.block5 as u64);
+    tell(b" ", w.block6 as u64);
+}
+
+// The counts before the load and after it.
+fn tell_counts(case: &[u8], x: Ran) {
+    let before = state_of(case);
+    let after = x.state;
+    let had = before.wear;
+    let has = after.wear;
+    tell_wear(had);
+    io::write_all(1, b" >");
+    tell_wear(has);
     io::write_all(1, b"\n");
 }
 
@@ -242,6 +267,7 @@ fn run_case(case: &[u8], array: &mut [u8], wanted: &mut [u8], scratch: &mut [u8]
     let x = loaded(case, array, wanted, scratch, file);
     tell_end(case, x);
     tell_slices(array, wanted, scratch);
+    tell_counts(case, x);
 }
 
 // As much of each slice is lent as the case says.
@@ -271,11 +297,11 @@ fn one(case: &[u8]) {
 
 // All cases of a text.
 fn run_all(text: &[u8]) {
-    let n = text.len() / 346;
+    let n = text.len() / 423;
     let mut i = 0;
     while i < n {
-        let from = 346 * i;
-        let to = from + 346;
+        let from = 423 * i;
+        let to = from + 423;
         one(&text[from..to]);
         i += 1;
     }

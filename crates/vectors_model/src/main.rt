@@ -9,13 +9,15 @@ use model_types::Kind;
 use model_types::Phase;
 use model_types::Pins;
 use model_types::State;
+use model_types::Wear;
 use vectors_text::Group;
 
-// What stands from row to row: the device and its state, how much of array and residue is lent, the group, and the lines
-// printed.
+// What stands from row to row: the device and its state, the counts of the states that rows put, how much of array and residue
+// is lent, the group, and the lines printed.
 struct Bench {
     device: Device,
     state: State,
+    wear: Wear,
     array: usize,
     residue: usize,
     group: Group,
@@ -53,6 +55,7 @@ fn cycle_of(row: &[u8], op: u8) -> Cycle {
 // The bench before the first row.
 fn bare() -> Bench {
     let state = model::fresh();
+    let wear = state.wear;
     Bench {
         device: Device {
             part: Part {
@@ -64,6 +67,7 @@ fn bare() -> Bench {
             suspend: 0,
         },
         state: state,
+        wear: wear,
         array: 0,
         residue: 0,
         group: Group {
@@ -79,11 +83,13 @@ fn bare() -> Bench {
 // The bench after one more line, in the state that the line shows.
 fn after_line(b: Bench, state: State) -> Bench {
     let device = b.device;
+    let wear = b.wear;
     let group = b.group;
     let lines = (b.lines % 9999) + 1;
     Bench {
         device: device,
         state: state,
+        wear: wear,
         array: b.array,
         residue: b.residue,
         group: group,
@@ -169,17 +175,37 @@ fn print_numbers(left: u16, address: u32, sum: u64) {
     let mut four = [0u8; 4];
     print_decimal(&mut five, left as u64);
     print_hex(&mut eight, address as u64, b" ");
-    print_hex(&mut four, sum, b"\n");
+    print_hex(&mut four, sum, b"");
+}
+
+// A space and a count of erases.
+fn print_count(n: u32) {
+    io::write_all(1, b" ");
+    io::print_decimal(1, n as u64);
+}
+
+// The erases begun, block by block, and the end of the line.
+fn print_wear(w: Wear) {
+    print_count(w.block0);
+    print_count(w.block1);
+    print_count(w.block2);
+    print_count(w.block3);
+    print_count(w.block4);
+    print_count(w.block5);
+    print_count(w.block6);
+    io::write_all(1, b"\n");
 }
 
 // One whole line.
 fn print_line(b: Bench, seen: Seen, sum: u64) {
     let state = b.state;
+    let wear = state.wear;
     let group = b.group;
     print_label(group, b.lines);
     print_seen(seen);
     print_state(state);
     print_numbers(state.left, state.address, sum);
+    print_wear(wear);
 }
 
 // Prints a line about a state and what was seen, and gives the bench after it.
@@ -211,11 +237,25 @@ fn sow_part(s: &mut [u8], asked: usize, row: &[u8]) {
     vectors_text::pattern(&mut s[0..n], 256, first, step);
 }
 
+// The state after a row: one that it puts, a fresh one, what a reset makes of the one before, or that one.
+fn state_after(row: &[u8], op: u8, before: State, wear: Wear) -> State {
+    if op == b'S' {
+        return vectors_states::state_at(row, wear);
+    }
+    if op == b'F' {
+        return model::fresh();
+    }
+    if op == b'Z' {
+        return model::reset(before);
+    }
+    before
+}
+
 // The rows that set the bench, those that make the device fresh or reset it among them; any other leaves it.
 fn set(row: &[u8], op: u8, b: Bench) -> Bench {
     let before = b.state;
     let mut device = b.device;
-    let mut state = before;
+    let mut wear = b.wear;
     let mut array = b.array;
     let mut residue = b.residue;
     let mut group = b.group;
@@ -227,18 +267,14 @@ fn set(row: &[u8], op: u8, b: Bench) -> Bench {
         array = vectors_text::size_at(row, 10, 24, 6);
         residue = vectors_text::size_at(row, 10, 31, 6);
     }
-    if op == b'S' {
-        state = vectors_states::state_at(row);
+    if op == b'E' {
+        wear = vectors_states::wear_at(row, 2);
     }
-    if op == b'F' {
-        state = model::fresh();
-    }
-    if op == b'Z' {
-        state = model::reset(before);
-    }
+    let state = state_after(row, op, before, wear);
     Bench {
         device: device,
         state: state,
+        wear: wear,
         array: array,
         residue: residue,
         group: group,

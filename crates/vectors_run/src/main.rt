@@ -12,6 +12,7 @@ use model_types::Cycle;
 use model_types::Kind;
 use model_types::Pins;
 use model_types::State;
+use model_types::Wear;
 use vectors_text::Group;
 
 // What is loaded and with what: the device, the levels, the block, and how much of each slice is lent.
@@ -24,10 +25,11 @@ struct Setup {
     scratch: usize,
 }
 
-// What stands from row to row.
+// What stands from row to row; `wear` has the counts of the states that rows put.
 struct Bench {
     setup: Setup,
     state: State,
+    wear: Wear,
     loader: Loader,
     group: Group,
     lines: u32,
@@ -72,6 +74,7 @@ fn levels_of(row: &[u8], old: Setup) -> Setup {
 // The bench before the first row.
 fn bare() -> Bench {
     let state = model::fresh();
+    let wear = state.wear;
     let part = Part {
         number: 0,
         word: false,
@@ -97,6 +100,7 @@ fn bare() -> Bench {
             scratch: 0,
         },
         state: state,
+        wear: wear,
         loader: loader,
         group: Group {
             a: 32,
@@ -110,10 +114,28 @@ fn bare() -> Bench {
 
 // The bench with another setup, state or group.
 fn with(b: Bench, setup: Setup, state: State, group: Group) -> Bench {
+    let wear = b.wear;
     let loader = b.loader;
     Bench {
         setup: setup,
         state: state,
+        wear: wear,
+        loader: loader,
+        group: group,
+        lines: b.lines,
+    }
+}
+
+// The bench with other counts for the states that rows put.
+fn with_wear(b: Bench, wear: Wear) -> Bench {
+    let setup = b.setup;
+    let state = b.state;
+    let loader = b.loader;
+    let group = b.group;
+    Bench {
+        setup: setup,
+        state: state,
+        wear: wear,
         loader: loader,
         group: group,
         lines: b.lines,
@@ -123,12 +145,14 @@ fn with(b: Bench, setup: Setup, state: State, group: Group) -> Bench {
 // The bench after one more line, with the state and the record that the line shows; the line begins with its label.
 fn after_line(b: Bench, state: State, loader: Loader) -> Bench {
     let setup = b.setup;
+    let wear = b.wear;
     let group = b.group;
     let lines = (b.lines % 9999) + 1;
     print_label(group, lines);
     Bench {
         setup: setup,
         state: state,
+        wear: wear,
         loader: loader,
         group: group,
         lines: lines,
@@ -213,15 +237,37 @@ fn print_state(s: State) {
     print_text(&text);
 }
 
-// A whole run, or a load or a verify alone: its end, count and address, the state, and digests of array and scratch.
-fn print_run(op: u8, x: Ran, array: u64, scratch: u64) {
+// A space and a count of erases.
+fn print_count(n: u32) {
+    print_text(b" ");
+    io::print_decimal(1, n as u64);
+}
+
+// The erases begun, block by block, and what comes after them.
+fn print_wear(w: Wear, end: &[u8]) {
+    print_count(w.block0);
+    print_count(w.block1);
+    print_count(w.block2);
+    print_count(w.block3);
+    print_count(w.block4);
+    print_count(w.block5);
+    print_count(w.block6);
+    print_text(end);
+}
+
+// A whole run, or a load or a verify alone: its end, count and address, the state, digests of array and scratch, and the erases
+// begun before it and after it.
+fn print_run(op: u8, x: Ran, array: u64, scratch: u64, had: Wear) {
     let state = x.state;
+    let has = state.wear;
     print_number(op, x.end);
     print_long(x.count);
     print_address(x.address);
     print_state(state);
     print_sum(array, b" ");
-    print_sum(scratch, b"\n");
+    print_sum(scratch, b"");
+    print_wear(had, b" >");
+    print_wear(has, b"\n");
 }
 
 fn kind_letter(kind: Kind) -> u8 {
@@ -311,13 +357,14 @@ fn sum_of(s: &[u8], asked: usize) -> u64 {
 fn run_line(op: u8, b: Bench, array: &mut [u8], wanted: &[u8], scratch: &mut [u8]) -> Bench {
     let setup = b.setup;
     let before = b.state;
+    let had = before.wear;
     let loader = b.loader;
     let x = ran(op, setup, before, array, wanted, scratch);
     let state = x.state;
     let held = sum_of(array, setup.array);
     let room = sum_of(scratch, setup.scratch);
     let after = after_line(b, state, loader);
-    print_run(op, x, held, room);
+    print_run(op, x, held, room, had);
     after
 }
 
@@ -405,6 +452,7 @@ fn put_byte(s: &mut [u8], row: &[u8]) {
 fn handed(b: Bench, row: &[u8]) -> Bench {
     let setup = b.setup;
     let state = b.state;
+    let wear = b.wear;
     let group = b.group;
     let old = b.loader;
     let stage = old.stage;
@@ -418,6 +466,7 @@ fn handed(b: Bench, row: &[u8]) -> Bench {
     Bench {
         setup: setup,
         state: state,
+        wear: wear,
         loader: Loader {
             part: part,
             pins: pins,
@@ -437,6 +486,7 @@ fn handed(b: Bench, row: &[u8]) -> Bench {
 fn set(row: &[u8], op: u8, b: Bench) -> Bench {
     let setup = b.setup;
     let state = b.state;
+    let wear = b.wear;
     let group = b.group;
     if op == b'G' {
         return with(b, setup, state, vectors_text::group_at(row));
@@ -445,7 +495,10 @@ fn set(row: &[u8], op: u8, b: Bench) -> Bench {
         return with(b, setup_of(row, setup), state, group);
     }
     if op == b'S' {
-        return with(b, setup, vectors_states::state_at(row), group);
+        return with(b, setup, vectors_states::state_at(row, wear), group);
+    }
+    if op == b'E' {
+        return with_wear(b, vectors_states::wear_at(row, 2));
     }
     if op == b'F' {
         return with(b, setup, model::fresh(), group);

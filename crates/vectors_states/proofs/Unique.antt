@@ -10,7 +10,8 @@ use Rattle.device.specs.declared.Device.{Device}
 use Rattle.model_types.specs.declared.Mode.{Mode}
 use Rattle.model_types.specs.declared.Phase.{Phase}
 use Rattle.model_types.specs.declared.State.{State}
-use Rattle.vectors_states.specs.Letters.{modeBy, phaseBy, modeLetter, phaseLetter, stateAt, wordBy, deviceAt}
+use Rattle.model_types.specs.declared.Wear.{Wear}
+use Rattle.vectors_states.specs.Letters.{modeBy, phaseBy, modeLetter, phaseLetter, wearAt, stateAt, wordBy, deviceAt}
 
 pub mode-by-unique : (letter : ℕ) → Unique (λ (r : Mode). r ≡ modeBy letter)
 mode-by-unique letter = only (modeBy letter)
@@ -24,8 +25,11 @@ mode-letter-unique m = only (modeLetter m)
 pub phase-letter-unique : (p : Phase) → Unique (λ (r : ℕ). r ≡ phaseLetter p)
 phase-letter-unique p = only (phaseLetter p)
 
-pub state-at-unique : (row : List ℕ) → Unique (λ (r : State). r ≡ stateAt row)
-state-at-unique row = only (stateAt row)
+pub wear-at-unique : (row : List ℕ) (place : ℕ) → Unique (λ (r : Wear). r ≡ wearAt row place)
+wear-at-unique row place = only (wearAt row place)
+
+pub state-at-unique : (row : List ℕ) (worn : Wear) → Unique (λ (r : State). r ≡ stateAt row worn)
+state-at-unique row worn = only (stateAt row worn)
 
 pub device-at-unique : (row : List ℕ) → Unique (λ (r : Device). r ≡ deviceAt row)
 device-at-unique row = only (deviceAt row)

@@ -1,5 +1,5 @@
--- Modes and phases as letters, and a row's state and device. Assumes nothing.
-use Prim.Native.Nat.{ℕ, _%_}
+-- Modes and phases as letters, and a row's state, counts and device. Assumes nothing.
+use Prim.Native.Nat.{ℕ, _+_, _%_}
 use mathlib.Core.Bool.{Bool}
 use mathlib.Core.List.{List}
 use lib.Dec.{eqb}
@@ -11,6 +11,7 @@ use Rattle.model_types.specs.declared.Mode.the-variants.{Array, Status, Identif
 use Rattle.model_types.specs.declared.Phase.{Phase}
 use Rattle.model_types.specs.declared.Phase.the-variants.{Free, EraseAwaited, DataAwaited, Programming, Erasing, Suspending, Suspended}
 use Rattle.model_types.specs.declared.State.{State}
+use Rattle.model_types.specs.declared.Wear.{Wear}
 use Rattle.vectors_text.specs.Text.{numberRead, fieldOf}
 
 -- the mode of a letter: A, S, and the identifier for any other
@@ -50,14 +51,27 @@ phaseLetter Suspended = 83
 abbrev pub numberAt : List ℕ → ℕ → ℕ → ℕ → ℕ
 numberAt row base place n = numberRead base (fieldOf row place n)
 
--- the state that a row tells
-unfoldable pub stateAt : List ℕ → State
-stateAt row = record {
+-- the counts that stand in a row from a place on: seven numbers of ten digits, each with a space behind it
+unfoldable pub wearAt : List ℕ → ℕ → Wear
+wearAt row from = record {
+  block0 = numberAt row 10 from 10;
+  block1 = numberAt row 10 (from + 11) 10;
+  block2 = numberAt row 10 (from + 22) 10;
+  block3 = numberAt row 10 (from + 33) 10;
+  block4 = numberAt row 10 (from + 44) 10;
+  block5 = numberAt row 10 (from + 55) 10;
+  block6 = numberAt row 10 (from + 66) 10;
+}
+
+-- the state that a row tells, with these counts
+unfoldable pub stateAt : List ℕ → Wear → State
+stateAt row worn = record {
   mode = modeBy (getD row 5 0);
   status = numberAt row 16 2 2 % 256;
   phase = phaseBy (getD row 7 0) (numberAt row 16 8 4 % 65536);
   left = numberAt row 10 13 5 % 65536;
   address = numberAt row 16 19 8;
+  wear = worn;
 }
 
 -- word mode by its digit: 1 for words, any other for bytes

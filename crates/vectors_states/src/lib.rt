@@ -1,14 +1,16 @@
-// What the vector programs share about a device: its state and its description read off a row, modes and phases as letters.
+// What the vector programs share about a device: its state, its counts of erases and its description read off a row, modes and
+// phases as letters.
 // Each function takes any input.
 use device::Device;
 use device::Part;
 use model_types::Mode;
 use model_types::Phase;
 use model_types::State;
+use model_types::Wear;
 ghost use mathlib.Core.Path.{_≡_};
 ghost use Prim.Native.Nat.{ℕ};
 ghost use lib.ListN.{length, replicate};
-ghost use Rattle.vectors_states.specs.Letters.{modeBy, phaseBy, modeLetter, phaseLetter, stateAt, wordBy, deviceAt};
+ghost use Rattle.vectors_states.specs.Letters.{modeBy, phaseBy, modeLetter, phaseLetter, wearAt, stateAt, wordBy, deviceAt};
 
 // The mode that a letter stands for; any other letter for the identifier.
 pub fn mode_by(letter: u8) -> Mode
@@ -73,9 +75,25 @@ pub fn phase_letter(phase: Phase) -> u8
     }
 }
 
-// The state of a row: status, mode, phase with its data, cycles left, address.
-pub fn state_at(row: &[u8]) -> State
-    ensures { λ r. ⌜ r ≡ stateAt (now (row .entry)) ⌝ }
+// The counts of erases begun that stand in a row from a place on: seven numbers of ten digits, each with a space behind it.
+pub fn wear_at(row: &[u8], at: u16) -> Wear
+    ensures { λ r. ⌜ r ≡ wearAt (now (row .entry)) at ⌝ }
+{
+    let from = at as usize;
+    Wear {
+        block0: vectors_text::word_at(row, 10, from, 10),
+        block1: vectors_text::word_at(row, 10, from + 11, 10),
+        block2: vectors_text::word_at(row, 10, from + 22, 10),
+        block3: vectors_text::word_at(row, 10, from + 33, 10),
+        block4: vectors_text::word_at(row, 10, from + 44, 10),
+        block5: vectors_text::word_at(row, 10, from + 55, 10),
+        block6: vectors_text::word_at(row, 10, from + 66, 10),
+    }
+}
+
+// The state of a row: status, mode, phase with its data, cycles left, address; with these counts.
+pub fn state_at(row: &[u8], wear: Wear) -> State
+    ensures { λ r. ⌜ r ≡ stateAt (now (row .entry)) wear ⌝ }
 {
     let status = vectors_text::byte_at(row, 16, 2, 2);
     let mode = mode_by(common::nth(row, 5));
@@ -89,6 +107,7 @@ pub fn state_at(row: &[u8]) -> State
         phase: phase,
         left: left,
         address: address,
+        wear: wear,
     }
 }
 

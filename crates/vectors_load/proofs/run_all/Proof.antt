@@ -7,7 +7,7 @@ use Rattle.vectors_load.proofs.run_all.Statement.{statement}
 use Rattle.vectors_load.proofs.run_all.Tie as tie
 
 abbrev Inv-loop : tie.InvT-loop
-Inv-loop text n i₀ i = (i ≤ n) × (346 * n ≤ length text)
+Inv-loop text n i₀ i = (i ≤ n) × (423 * n ≤ length text)
 
 abbrev μ-loop : tie.MeasureT-loop
 μ-loop text n i₀ i = n - i

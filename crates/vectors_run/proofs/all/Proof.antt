@@ -38,7 +38,7 @@ loop-less : tie.Need-loop-less Inv-loop μ-loop
 loop-less c = search needs
 
 loop-again : tie.Need-loop-again Inv-loop μ-loop
-loop-again c = search needs
+loop-again c = let k = c .before .before .before .before .before .before .before .turn .kept in let l = c .before .before .before .before .before .before .before .before .before .before .before .before .before .loop .inv in search needs
 
 same-length : tie.Need-same-length Inv-loop μ-loop
 same-length c = search needs
