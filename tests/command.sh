@@ -173,6 +173,64 @@ head -n 3500 "$work/most.txt" >"$work/long.txt"
 call "$tb" script "$work/long.txt"; try 'a script of 3,500 lines' 1 '? 3001
 ' 'at most 3,000 lines'
 
+# wear: the counts by hand. The first trace begins two erases of block 1 and one of block 3, which a reset cuts; the boot block is locked, and
+# a D0 there starts nothing. The second begins one of block 0 (RP# at V_HH) and one of block 1, which it suspends and resumes
+worn=$root/crates/wear_program/data
+call "$tb" wear "$worn/first.txt"; try 'wear of a trace' 0 'block  total  largest  smallest  passed
+    0      0        0         0       0
+    1      2        2         2       0
+    2      0        0         0       0
+    3      1        1         1       0
+' ''
+both='block  total  largest  smallest  passed
+    0      1        1         0       0
+    1      3        2         1       0
+    2      0        0         0       0
+    3      1        1         0       0
+'
+call "$tb" wear "$worn/first.txt" "$worn/second.txt"; try 'wear of two traces' 0 "$both" ''
+call "$tb" wear "$worn/second.txt" "$worn/first.txt"; try 'wear of two traces, the other way round' 0 "$both" ''
+none='block  total  largest  smallest  passed
+    0      0        0         0       0
+    1      0        0         0       0
+    2      0        0         0       0
+    3      0        0         0       0
+'
+call "$tb" wear "$work/empty"; try 'wear of an empty trace' 0 "$none" ''
+call "$tb" wear "$work/page.txt" "$work/most.txt"; try 'wear of traces without an erase' 0 "$none" ''
+# 2,499 erases of block 2, each cut by low VPP in the cycle after it
+yes 'W 1 0 12000 3800 20
+W 1 0 12000 3800 D0
+I 1 0 00000 0000 00
+W 1 0 12000 0000 50' | head -n 9996 >"$work/cuts.txt"
+call "$tb" wear "$work/cuts.txt" "$worn/first.txt" "$work/cuts.txt"; try 'wear of a long trace' 0 'block  total  largest  smallest  passed
+    0      0        0         0       0
+    1      2        2         0       0
+    2   4998     2499         0       0
+    3      1        1         0       0
+' ''
+call "$tb" wear --words "$worn/first.txt" "$worn/second.txt"; try 'wear in words' 0 '*' ''
+grep -q '^block 1 (parameter block, 3A00-3BFF): 3 erases begun in 2 traces; 2 at most and 1 at least in one; none passed 100,000$' "$work/out" || wrong 'wear in words: block 1 is not told'
+call "$tb" wear --sample; try 'wear of the sample' 0 '*' ''
+mkfifo "$work/worn"
+cat "$worn/first.txt" >"$work/worn" &
+call "$tb" wear "$work/worn" "$worn/second.txt"; try 'wear of a FIFO' 0 "$both" ''
+cp "$worn/first.txt" "$work/a trace"
+call in_work "$tb" wear 'a trace' "$worn/second.txt"; try 'wear of a file with a space in its name' 0 "$both" ''
+call "$tb" wear "$worn/first.txt" "$root/samples/bad-line.txt"; try 'wear of a bad line' 1 '' 'bad-line.txt: line 2 is no line of a trace: column 19'
+grep -q 'small letter' "$work/err" || wrong 'wear of a bad line: nothing is told'
+call "$tb" wear "$root/samples/bad-line.txt" "$worn/first.txt" "$work/more.txt"; try 'wear of two bad traces' 1 '' 'more.txt: line 9999 is no line of a trace: a trace has at most 9,998 lines'
+[ "$(wc -l <"$work/err")" = 2 ] || wrong 'wear of two bad traces: not a line for each'
+call "$tb" wear; try 'wear of nothing' 2 '' 'no trace'
+call "$tb" wear ''; try 'wear of an empty name' 2 '' 'empty'
+call "$tb" wear "$worn/first.txt" "$work/nowhere"; try 'wear of no file' 2 '' 'there is no file'
+call "$tb" wear "$work"; try 'wear of a folder' 2 '' 'folder'
+call "$tb" wear --sample "$worn/first.txt"; try 'wear of a file and the sample' 2 '' 'not both'
+call "$tb" wear --all; try 'wear: an option that is none' 2 '' 'no option --all'
+call "$tb" wear --help; try 'wear --help' 0 '*' ''
+full() { "$tb" wear "$worn/first.txt" >/dev/full; }
+call full; try 'wear on a full disk' 4 '' 'could not be written'
+
 # readings and tables: the table of three knots that the help shows, and that of type K
 three='0 0
 4096 1000

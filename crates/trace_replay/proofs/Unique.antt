@@ -14,7 +14,7 @@ use Rattle.model.specs.declared.Seen.{Seen}
 use Rattle.trace_replay.specs.declared.Replayed.{Replayed}
 use Rattle.trace_lines.specs.Lines.{cycleStated}
 use Rattle.trace_replay.specs.Answers.{answerText, printedOf, markOf, traceEnd}
-use Rattle.trace_replay.specs.Replays.{benchT, lineStep, arrayBy, outputOf, arrayLeft, replayedIn, leftInRoom}
+use Rattle.trace_replay.specs.Replays.{benchT, lineStep, arrayBy, goodLines, outputOf, arrayLeft, replayedIn, leftInRoom}
 
 pub bench-unique : Unique (λ (r : Device). r ≡ benchT)
 bench-unique = only benchT
@@ -45,6 +45,9 @@ write-end-unique n over out = only (copied out (traceEnd n over))
 
 pub end-length-unique : (over : ℕ) → Unique (λ (r : ℕ). r ≡ length (traceEnd 0 over))
 end-length-unique over = only (length (traceEnd 0 over))
+
+pub good-lines-unique : (text : List ℕ) → Unique (λ (r : ℕ). r ≡ goodLines 9998 text)
+good-lines-unique text = only (goodLines 9998 text)
 
 pub replay-unique : (room : ℕ) (xs rs text : List ℕ) → Unique (λ (r : Replayed). r ≡ replayedIn room (outputOf xs rs text))
 replay-unique room xs rs text = only (replayedIn room (outputOf xs rs text))

@@ -77,7 +77,7 @@ fn good_at(text: &[u8], i: usize) -> bool
 }
 
 // How many good lines come first; line 9999 is not asked.
-fn good_lines(text: &[u8]) -> usize
+pub fn good_lines(text: &[u8]) -> usize
     ensures { λ r. ⌜ r ≡ goodLines 9998 (now (text .entry)) ⌝ }
 {
     let mut i = 0;

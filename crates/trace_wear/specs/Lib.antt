@@ -1,0 +1,2 @@
+pub mod Wears
+pub mod Inner

@@ -1,0 +1,1 @@
+// That the counts of a trace's text are the erases begun in the cycles that its lines state. Nothing runs.
