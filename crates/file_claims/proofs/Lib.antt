@@ -7,4 +7,3 @@ pub mod Order
 pub mod Raised
 pub mod Blank
 pub mod Claims
-pub mod Unique

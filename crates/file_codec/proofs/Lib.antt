@@ -3,3 +3,4 @@ pub mod Sizes
 pub mod Outcomes
 pub mod Parts
 pub mod Answers
+pub mod Unique
