@@ -132,7 +132,9 @@ slips='1:a program stores its data without AND
 65:one trace more is let in at 65,535
 66:48 is given before 47
 67:a total goes on past its stop, to 0
-68:47 is given before 11'
+68:47 is given before 11
+69:a program that starts is counted
+70:a refused trace gives the report on no traces'
 noticed=0 all=$(wc -l <<<"$slips")
 while IFS=: read -r number slip; do
     build "$out/broken" "$number"

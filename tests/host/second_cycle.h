@@ -192,7 +192,7 @@ static inline void begin(const second_chip *c, bool word, tb_state *s, const tb_
     s->left = erase ? c->device.erase : c->device.program;
     s->data = erase ? 0 : word || SLIP(48) ? b->data : b->data & 0xFF;
     s->address = address;
-    if (erase)
+    if (erase || SLIP(69))
         wear(s, unit_block(c, word, SLIP(55) ? asked_or(c, word, address) : address));
     if (SLIP(45))
         begun_at = b->vpp_mv;

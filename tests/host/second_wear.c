@@ -26,7 +26,7 @@ static inline void tally(tb_tally *t, bool first, uint32_t count) {
 tb_reported c_wear_add(uint8_t part, tb_report report, uint8_t from, tb_wear wear) {
     tb_reported r = {unfit(part, report.traces, from), report};
     if (r.number != TB_OK)
-        return r;
+        return SLIP(70) ? (tb_reported){.number = r.number} : r;
     for (int k = 0; k < TB_BLOCKS_MOST; k++)
         tally(&r.report.block[k], report.traces == 0, wear.block[k]);
     r.report.traces++;
