@@ -211,7 +211,13 @@ call "$tb" wear "$work/cuts.txt" "$worn/first.txt" "$work/cuts.txt"; try 'wear o
 ' ''
 call "$tb" wear --words "$worn/first.txt" "$worn/second.txt"; try 'wear in words' 0 '*' ''
 grep -q '^block 1 (parameter block, 3A00-3BFF): 3 erases begun in 2 traces; 2 at most and 1 at least in one; none passed 100,000$' "$work/out" || wrong 'wear in words: block 1 is not told'
-call "$tb" wear --sample; try 'wear of the sample' 0 '*' ''
+# the sample's third D0 resumes a suspended erase
+call "$tb" wear --sample; try 'wear of the sample' 0 'block  total  largest  smallest  passed
+    0      0        0         0       0
+    1      1        1         1       0
+    2      0        0         0       0
+    3      1        1         1       0
+' ''
 mkfifo "$work/worn"
 cat "$worn/first.txt" >"$work/worn" &
 call "$tb" wear "$work/worn" "$worn/second.txt"; try 'wear of a FIFO' 0 "$both" ''

@@ -3,7 +3,7 @@ use mathlib.Core.Path.{sym, subst}
 use Prim.Native.Nat.{ℕ, _*_, _≤_}
 use native.Mathlib.Omega.{arith}
 use lib.ListN.{length}
-use Rattle.trace_replay.proofs.Scans.{good-fit}
+use Rattle.trace_replay.proofs.Scans.{good-most, good-fit}
 use Rattle.trace_wear.proofs.Walks.{inside, bad-worn, bad-array, good-worn, good-array}
 use borrow.Author.Needs.{needs}
 use Rattle.trace_wear.proofs.count.Statement.{statement}
@@ -19,7 +19,10 @@ mul-if1 c =
     record { fits = omega (arith, subst (λ (m : ℕ). 20 * m ≤ length (a .text .now)) (sym (g .ensures)) (good-fit 9998 (a .text .now))) }
 
 add-t10 : tie.Need-add-t10
-add-t10 c = search needs
+add-t10 c =
+    let a = c .before .before .before .before .before .args in
+    let g = c .before .good-lines in
+    record { fits = omega (arith, subst (λ (m : ℕ). m ≤ 9998) (sym (g .ensures)) (good-most 9998 (a .text .now))) }
 
 returns : tie.Need-returns
 returns c =
