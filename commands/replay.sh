@@ -4,8 +4,7 @@
 root=${root:?}
 
 replay_help() {
-    cat <<'TXT'
-usage: torfbarke replay [--words] [FILE]     a trace from a file; '-' or nothing: from standard input
+    put "usage: torfbarke replay [--words] [FILE]     a trace from a file; '-' or nothing: from standard input
        torfbarke replay [--words] --sample   the sample that ships with the project
 
 Each line of a trace is one bus cycle on bench T, fresh at its start: kind, RP#, OE#, VPP, address, data.
@@ -14,31 +13,31 @@ status register. '?' and a number end the replay at a line that is none; standar
 
   --words   each answer beside its cycle, with what it means
 
-Exit status: 0 every line answered, 1 a bad line, 2 a wrong call, 3 the program could not be built, 4 a write failed.
-An example:
+Exit status: 0 every line answered, 1 a bad line, 2 a wrong call, 3 the program could not be built or run, 4 the
+output could not be written, 141 its reader went away. An example:
 
-    printf 'W 1 0 12000 0000 90\nR 1 0 12000 0000 00\n' | ./torfbarke replay
+    printf 'W 1 0 12000 0000 90\\nR 1 0 12000 0000 00\\n' | ./torfbarke replay
 
 The same lines over and over are shorter as a script: 'torfbarke script --help'.
 docs/OPERATORS.md has the form of a line, every number and worked traces.
-TXT
+"
 }
 
 input replay trace sample.txt "$@"
 program trace
 # 9,999 lines of 20 bytes: what follows cannot matter
-hold 199980
-held=${held:?}
-start <"$held/text" >"$held/answers" || fail 4 "the trace program did not end well"
-
-if [ -n "$words" ]; then
-    LC_ALL=C awk -f "$root/commands/lib/words.awk" "$held/answers" "$held/text" >"$held/out"
+fetch "${file:?}" 199980
+run < <(give "${bytes?}")
+heard
+if [ -n "${words?}" ]; then
+    lines=$(awk -f "$root/commands/lib/words.awk" <(printf '%s' "${wrote?}") <(give "$bytes")) || fail 3 "the answers could not be put into words"
+    put "$lines${lines:+$'\n'}"
 else
-    cp -- "$held/answers" "$held/out"
+    put "${wrote?}"
 fi
-answer
 
-bad=$(LC_ALL=C sed -n 's/^? 0*\([0-9]*\)$/\1/p' "$held/answers")
+bad=$(printf '%s' "$wrote" | sed -n 's/^? 0*\([0-9]*\)$/\1/p')
 [ -z "$bad" ] && exit 0
-why=$(tail -c +$((20 * (bad - 1) + 1)) <"$held/text" | head -c 200 | od -An -v -tu1 | LC_ALL=C awk -v number="$bad" -f "$root/commands/lib/fault.awk")
+# the lines before it have 20 bytes each
+why=$(give "${bytes:80 * (bad - 1):800}" | od -An -v -tu1 | awk -v number="$bad" -f "$root/commands/lib/fault.awk")
 fail 1 "line $bad is no line of a trace: $why"

@@ -4,8 +4,7 @@
 root=${root:?}
 
 script_help() {
-    cat <<'TXT'
-usage: torfbarke script [--words] [FILE]     a script from a file; '-' or nothing: from standard input
+    put "usage: torfbarke script [--words] [FILE]     a script from a file; '-' or nothing: from standard input
        torfbarke script [--words] --sample   the sample that ships with the project
 
 A script is a trace with groups: '( nnn' opens one, ')' closes it, each on a line of its own, and what stands between them
@@ -15,35 +14,33 @@ before it runs: at a fault '?' and the number of the line are all that is printe
 
   --words   each answer beside its cycle, with what it means
 
-Exit status: 0 every line answered, 1 a fault, 2 a wrong call, 3 the program could not be built, 4 a write failed.
-An example:
+Exit status: 0 every line answered, 1 a fault, 2 a wrong call, 3 the program could not be built or run, 4 the output could not
+be written, 141 its reader went away. An example:
 
-    printf '( 003\nI 1 0 12000 0000 00\n)\n' | ./torfbarke script
+    printf '( 003\\nI 1 0 12000 0000 00\\n)\\n' | ./torfbarke script
 
 docs/OPERATORS.md has the form of a line, every number and a worked script.
-TXT
+"
 }
 
 input script script script.txt "$@"
 program script
 # 3,000 lines of 20 bytes and one byte more: what follows cannot matter
-hold 60001
-held=${held:?}
-start <"$held/text" >"$held/answers" || fail 4 "the script program did not end well"
-
-bad=$(LC_ALL=C sed -n 's/^? 0*\([0-9]*\)$/\1/p' "$held/answers")
-if [ -n "$words" ] && [ -z "$bad" ]; then
-    LC_ALL=C awk -f "$root/commands/lib/expand.awk" "$held/text" >"$held/trace"
-    LC_ALL=C awk -f "$root/commands/lib/words.awk" "$held/answers" "$held/trace" >"$held/out"
+fetch "${file:?}" 60001
+run < <(give "${bytes?}")
+heard
+bad=$(printf '%s' "${wrote?}" | sed -n 's/^? 0*\([0-9]*\)$/\1/p')
+if [ -n "${words?}" ] && [ -z "$bad" ]; then
+    lib=$root/commands/lib
+    lines=$(awk -f "$lib/words.awk" <(printf '%s' "$wrote") <(awk -f "$lib/expand.awk" <(give "$bytes"))) || fail 3 "the answers could not be put into words"
+    put "$lines${lines:+$'\n'}"
 else
-    cp -- "$held/answers" "$held/out"
+    put "$wrote"
 fi
-answer
 
 [ -z "$bad" ] && exit 0
 # the lines before the one at fault are good, so their newlines count them
-head -n $((bad - 1)) <"$held/text" >"$held/before"
-tail -n +"$bad" <"$held/text" | head -c 200 | od -An -v -tu1 >"$held/bytes"
-why=$(LC_ALL=C awk -v number="$bad" -v before="$held/before" -f "$root/commands/lib/group.awk" "$held/bytes")
-[ -n "$why" ] || why="it is no line of a script: $(LC_ALL=C awk -v number="$bad" -f "$root/commands/lib/fault.awk" "$held/bytes")"
+from=$(give "$bytes" | tail -n +"$bad" 2>/dev/null | head -c 200 | od -An -v -tu1)
+why=$(printf '%s\n' "$from" | awk -v number="$bad" -v before=<(give "$bytes" | head -n $((bad - 1))) -f "$root/commands/lib/group.awk")
+[ -n "$why" ] || why="it is no line of a script: $(printf '%s\n' "$from" | awk -v number="$bad" -f "$root/commands/lib/fault.awk")"
 fail 1 "line $bad: $why"

@@ -4,19 +4,20 @@
 root=${root:?}
 
 verify_help() {
-    cat <<'TXT'
-usage: torfbarke verify IMAGE DEVICE BLOCK FILE LETTER [byte|word]
+    put "usage: torfbarke verify IMAGE DEVICE BLOCK FILE LETTER [byte|word]
 
 IMAGE is a dump of a part, all its bytes from address 0 on: 131,072 of devices 1 and 2, 16,384 of 3 and 4, 262,144 of 5 and 6,
 524,288 of 7 and 8. BLOCK is the flash block, 0 (boot) to 3, to 4 on 5 and 6, to 6 on 7 and 8. FILE is the load file that the block
 must hold, FFH behind it, and LETTER the one of the menu. The last word is the mode that the part is read in, byte if there is none;
-devices 1 to 4 have no word mode. An image is bytes in either mode, the low byte of a word first.
+devices 1 to 4 have no word mode. An image is bytes in either mode, the low byte of a word first. FILE may be the dump of a flash block
+that holds the file: the FFH behind the file is cut off, and standard error says so. '-' is standard input.
 
 One line comes: 'the block holds the file'; or 'differs at' and the byte address of the first byte that differs, in hexadecimal; or
 'refused', the number and what it means.
 
-Exit status: 0 the block holds the file, 1 it differs or is refused, 2 a wrong call, 3 the program could not be built.
-TXT
+Exit status: 0 the block holds the file, 1 it differs or is refused, 2 a wrong call, 3 the program could not be built or run, 4 the
+output could not be written, 141 its reader went away.
+"
 }
 
 case ${1-} in
@@ -26,15 +27,16 @@ case ${1-} in
     ;;
 esac
 [ $# = 5 ] || [ $# = 6 ] || fail 2 "an image, a device, a block, a load file, a letter and perhaps a mode; 'torfbarke verify --help' says more"
-for held in "$1" "$4"; do
-    [ -f "$held" ] || fail 2 "there is no file $held"
-    [ -r "$held" ] || fail 2 "cannot read the file $held"
+there "$1"
+there "$4"
+[ "$1$4" != -- ] || fail 2 "image and file cannot both be standard input"
+for number in "$2" "$3"; do
+    case $number in
+    '' | *[!0-9]*) fail 2 "device and block are whole numbers: '$number'" ;;
+    esac
+    [ ${#number} -le 9 ] || fail 2 "device and block are small numbers: $number"
 done
-case $2$3 in
-*[!0-9]*) fail 2 "device and block are whole numbers: $2 $3" ;;
-esac
-if [ -z "$2" ] || [ -z "$3" ] || [ ${#2} -gt 3 ] || [ ${#3} -gt 3 ]; then fail 2 "device and block are small numbers: $2 $3"; fi
-[ ${#5} = 1 ] || fail 2 "the letter is one of B E J K N R S T"
+letter "$5"
 
 case ${6-byte} in
 byte) mode=0 ;;
@@ -43,9 +45,14 @@ word) mode=1 ;;
 esac
 
 program verify_program
-line=$(start "$1" "$2" "$3" "$4" "$5" "$mode") || fail 3 "the verify program did not end well"
-[ -n "$line" ] || fail 2 "image or file could not be read"
-printf '%s\n' "$line"
-case $line in
+# a byte more than the longest part, and than the longest flash block: so what is longer is seen
+fetch "$1" 524289
+image=${bytes?}
+fetch "$4" 131073
+cut_dump "$4"
+run <(give "$image") "$((10#$2))" "$((10#$3))" <(give "$bytes") "$5" "$mode"
+heard
+put "${wrote?}"
+case $wrote in
 differs* | refused*) exit 1 ;;
 esac

@@ -1,12 +1,13 @@
 #!/usr/bin/env bash
-# command.sh: drives ./torfbarke the way a person would: every way to hand over a trace or a script, every fault of a line, wrong calls, a full
-# disk, a first call that builds, calls at the same time. Where TORFBARKE_PROGRAMS names a folder with the programs they are taken
-# from there; otherwise the first call proves and builds them. Expected answers are those of the page's own example.
+# command.sh: drives ./torfbarke the way a person would: every way to hand over a trace or a script, every fault of a line, wrong calls,
+# output that cannot be written, dumps, a first call that builds, is killed or finds another's folder, calls at the same time. Where
+# TORFBARKE_PROGRAMS names a folder with the programs they are taken from there; otherwise the first call proves and builds them.
+# Expected answers are those of the page's own example.
 set -eu
 unset CDPATH
 root=$(cd "$(dirname "$0")/.." && pwd)
 work=$(mktemp -d)
-trap 'rm -rf "$work"' EXIT
+trap 'umount "$work/small" 2>/dev/null || :; rm -rf "$work"' EXIT
 cases=0
 
 wrong() {
@@ -26,6 +27,12 @@ try() {
     [ "$status" = "$2" ] || wrong "$1: status $status, not $2"
     [ "$3" = '*' ] || printf '%s' "$3" | cmp -s - "$work/out" || wrong "$1: other answers"
     if [ -z "$4" ]; then [ ! -s "$work/err" ] || wrong "$1: words on standard error"; else grep -qF -- "$4" "$work/err" || wrong "$1: standard error lacks '$4'"; fi
+}
+
+# one NAME STATUS OUT ERR: the same, and standard error is one line
+one() {
+    try "$@"
+    [ "$(wc -l <"$work/err")" = 1 ] || wrong "$1: not one line on standard error"
 }
 
 page='W 1 0 12000 0010 40
@@ -99,8 +106,11 @@ if command -v script >/dev/null; then
     [ "$status" = 2 ] || wrong 'on a terminal: another status'
     grep -q 'no trace' "$work/out" || wrong 'on a terminal: nothing is told'
 fi
-full() { "$tb" replay "$work/page.txt" >/dev/full; }
-call full; try 'a full disk' 4 '' 'could not be written'
+call "$tb" replay "$work/page.txt" --words; try 'an option behind the file' 0 '*' ''
+[ "$(wc -l <"$work/out")" = 8 ] || wrong 'an option behind the file: not in words'
+call "$tb" replay "$work/page.txt" --word; one 'an option behind the file that is none' 2 '' 'no option --word'
+call "$tb" replay <"$work"; one 'a folder as standard input' 2 '' 'standard input could not be read'
+call "$tb" ''; one 'an empty word' 2 '' 'the word is empty'
 
 # what is wrong with a line, in words: the bytes of the second line (the first where a mark has to come first)
 line() { # line NAME WORDS BYTES
@@ -268,11 +278,45 @@ call "$tb" table print "$work/blank.load" K; try 'a table of a blank file' 1 '' 
 call "$tb" read "$work/other.load" K 6138; try 'a blank file but for one byte' 1 "refused 31: a block's check is wrong
 " ''
 call "$tb" table print "$work/three.load" S; try 'a table of another letter' 1 '' 'refused 35'
-printf '0 0\n0 1\n' >"$work/flat.txt"
-call written K "$work/flat.txt"; try 'a table that does not rise' 1 '' 'refused 41'
-printf '0 0\n1 1' >"$work/open.txt"
-call written K "$work/open.txt"; try 'a last line without its end' 1 '' 'line 2'
-call written X "$work/three.txt"; try 'a letter that is none' 1 '' 'refused 32'
+call written X "$work/three.txt"; one 'a letter that is none' 1 '' 'refused 32: the letter is one of B E J K N R S T'
+knot() { # knot NAME WORDS BYTES
+    printf '%b' "$3" >"$work/bad.txt"
+    call written K "$work/bad.txt"; one "$1" 1 '' "torfbarke: $2"
+}
+knot 'a table that does not rise' 'line 2: refused 41: its microvolts, 0, are not above those of line 1, 0' '0 0\n0 1\n'
+knot 'a table that falls' 'line 3: refused 41: its microvolts, -7, are not above those of line 2, 5' '-9 0\n5 1\n-7 2\n'
+knot 'microvolts too large' 'line 2: refused 41: its microvolts, 80001, are not from -10000 to 80000' '0 0\n80001 1\n'
+knot 'microvolts too small' 'line 1: refused 41: its microvolts, -10001, are not from -10000 to 80000' '-10001 0\n0 1\n'
+knot 'an empty table' 'refused 40: a table has two knots at least, and the text has none' ''
+knot 'one knot' 'refused 40: a table has two knots at least, and the text has one' '5 0\n'
+knot 'a table: no newline' 'line 2 is no knot: it has no newline' '0 0\n1 1'
+knot 'a table: a carriage return' 'line 1 is no knot: it has a carriage return' '0 0\r\n1 1\r\n'
+knot 'a table: a byte-order mark' 'line 1 is no knot: the text begins with a byte-order mark' '\0357\0273\02770 0\n1 1\n'
+knot 'a table: two-byte letters' 'line 1 is no knot: the text is in two-byte letters' '\0377\03760\00000 \0000'
+knot 'a table: CSV' "line 2 is no knot: column 2 has ','" '0 0\n1,1\n'
+knot 'a table: semicolons' "line 1 is no knot: column 2 has ';'" '0;0\n1;1\n'
+knot 'a table: a tab' 'line 2 is no knot: column 2 has a tab' '0 0\n1\t1\n'
+knot 'a table: a point' 'line 2 is no knot: column 4 has a point' '0 0\n1 1.5\n'
+knot 'a table: a blank line' 'line 2 is no knot: it is blank' '0 0\n\n1 1\n'
+knot 'a table: two spaces' 'line 2 is no knot: column 3 has a second space' '0 0\n1  1\n'
+knot 'a table: a space first' 'line 2 is no knot: it begins with a space' '0 0\n 1 1\n'
+knot 'a table: a space last' 'line 2 is no knot: it ends in a space' '0 0\n1 1 \n'
+knot 'a table: one number' 'line 2 is no knot: it has one number' '0 0\n1\n'
+knot 'a table: three numbers' 'line 2 is no knot: it has 3 numbers' '0 0\n1 1 1\n'
+knot 'a table: a sign' "line 2 is no knot: column 1 has '+'" '0 0\n+1 1\n'
+knot 'a table: a minus alone' 'line 2 is no knot: its tenths of a degree are a minus' '0 0\n1 -\n'
+knot 'a table: a minus inside' 'line 2 is no knot: column 2 has a minus' '0 0\n1-1 1\n'
+knot 'a table: a letter' "line 1 is no knot: column 1 has 'u'" 'uV T\n0 0\n1 1\n'
+knot 'a table: ten digits' 'line 2 is no knot: its microvolts have more than nine digits' '0 0\n1000000000 1\n'
+knot 'a table: tenths too large' 'line 2 is no knot: its tenths of a degree, 32768, are not' '0 0\n1 32768\n'
+knot 'a table: tenths too small' 'line 2 is no knot: its tenths of a degree, -32769, are not' '0 0\n1 -32769\n'
+printf '%s\n' '-10000 -32768' '-0 0' '00000000080000 32767' >"$work/ends.txt"
+call written K "$work/ends.txt"; try 'the smallest and the largest numbers' 0 '*' ''
+cp "$work/out" "$work/ends.load"
+call "$tb" table print "$work/ends.load" K; try 'the smallest and the largest numbers, printed' 0 '-10000 -32768
+0 0
+80000 32767
+' ''
 python3 "$root/tests/vectors_reading.py" text K >"$work/k.txt"
 call written K "$work/k.txt"; try 'the table of type K' 0 '*' ''
 cmp -s "$work/out" "$root/crates/reading_program/data/k.load" || wrong 'the table of type K: another file'
@@ -287,13 +331,56 @@ call "$tb" table print "$work/long.load" K; try 'the longest table printed' 0 "$
 call "$tb" read "$work/long.load" K 65408; try 'its last knot' 0 '85.2
 ' ''
 echo '65412 0' >>"$work/long.txt"
-call written K "$work/long.txt"; try 'a knot too many' 1 '' 'line 18854'
+call written K "$work/long.txt"; one 'a knot too many' 1 '' 'line 18854 is a knot too many'
 head -c 327680 /dev/zero | tr '\0' 0 >"$work/zeros.txt"
 call written K "$work/zeros.txt"; try 'a text that is too long' 1 '' 'longer than 327679 bytes'
 call "$tb" read "$work/nothing" K 1; try 'no file to read' 2 '' 'there is no file'
+call "$tb" read "$work" K 1; one 'a folder to read' 2 '' 'is a folder'
+call "$tb" table print "$work" K; one 'a folder to print' 2 '' 'is a folder'
+call written K "$work"; one 'a table from a folder' 2 '' 'standard input could not be read'
+call "$tb" read - K 6138 <"$work/three.load"; try 'a reading from standard input' 0 '150.5
+' ''
+cat "$work/three.load" >"$work/fifo" &
+call "$tb" read "$work/fifo" K 6138; try 'a reading from a FIFO' 0 '150.5
+' ''
+call "$tb" table print - K <"$work/three.load"; try 'a table from standard input' 0 "$three" ''
+call "$tb" read "$work/three.load" $'\303\204' 1; one 'a letter of two bytes' 2 '' 'the letter is one of B E J K N R S T'
+call "$tb" table print "$work/three.load" $'\303\204'; one 'a table: a letter of two bytes' 2 '' 'the letter is one of B E J K N R S T'
+call "$tb" table write --help; try 'table write --help' 0 '*' ''
 call "$tb" read "$work/three.load" K 1.5; try 'microvolts that are no whole number' 2 '' 'whole number'
 call "$tb" read "$work/three.load" KK 1; try 'two letters' 2 '' 'the letter'
 call "$tb" table erase; try 'no such part of a table' 2 '' 'table write or table print'
+
+# the knots of the C examples: the file that they pack is a table, and reads as they print
+sed -n 's/^} knots\[\] = {{\(.*\)}};$/\1/p' "$root/example/probe.h" | sed -e 's/}, {/\n/g' -e 's/, / /g' >"$work/probe.txt"
+[ "$(wc -l <"$work/probe.txt")" -ge 2 ] || wrong 'the examples: no knots'
+call written K "$work/probe.txt"; try "the examples' file" 0 '*' ''
+cp "$work/out" "$work/probe.load"
+[ "$(wc -c <"$work/probe.load")" = 512 ] || wrong "the examples' file: not one block"
+call "$tb" read "$work/probe.load" K 6117; try "the examples' reading" 0 '150.0
+' ''
+call "$tb" read "$work/probe.load" K 20000; try "the examples' reading above the table" 1 'above the table, which ends at 300.0
+' ''
+
+# a flash block that was dumped: the file and FFH behind it
+blank() { head -c "$1" /dev/zero | tr '\0' '\377'; }
+{ cat "$work/three.load" && blank 3584; } >"$work/dump"
+call "$tb" read "$work/dump" K 6138; one 'a dump read' 0 '150.5
+' 'a file of 512 bytes and behind it 3584 of FFH'
+call "$tb" table print "$work/dump" K; one 'a dump printed' 0 "$three" 'a file of 512 bytes and behind it 3584 of FFH'
+call "$tb" read - K 6138 <"$work/dump"; one 'a dump from standard input' 0 '150.5
+' 'a file of 512 bytes and behind it 3584 of FFH'
+{ cat "$work/long.load" && blank 16384; } >"$work/dump8"
+call "$tb" read "$work/dump8" K 65408; one 'a dump of a long main block' 0 '85.2
+' 'a file of 114688 bytes and behind it 16384 of FFH'
+call "$tb" read "$work/dump" S 6138; one 'a dump: another letter' 1 "refused 35: the file's letter is not the one asked for
+" 'a file of 512 bytes'
+{ cat "$work/three.load" && blank 511 && printf K; } >"$work/other.load"
+call "$tb" read "$work/other.load" K 6138; try 'a file and behind it not FFH alone' 1 "refused 33: a block's number or count is wrong
+" ''
+{ cat "$work/long.load" && blank 16385; } >"$work/other.load"
+call "$tb" read "$work/other.load" K 65408; try 'longer than any flash block' 1 "refused 30: the file's length is wrong
+" ''
 
 # a part's dump against a load file
 { head -c 14848 /dev/zero | tr '\0' '\377' && cat "$work/three.load" && head -c 1024 /dev/zero | tr '\0' '\377'; } >"$work/image"
@@ -319,8 +406,17 @@ call "$tb" verify "$work/image" 9 1 "$work/three.load" K; try 'verify: no such d
 ' ''
 call "$tb" verify "$work/image" 3 1 "$work/three.load" K word; try 'verify: no word mode' 1 'refused 1: there is no such device, or it has no word mode
 ' ''
+call "$tb" verify "$work/image" 03 001 "$work/three.load" K; try 'verify: numbers with zeros before them' 0 'the block holds the file
+' ''
+call "$tb" verify "$work/image" 3 12 "$work/three.load" K; try 'verify: a block of two digits' 1 'refused 10: there is no such block
+' ''
+call "$tb" verify "$work/image" 3 1 "$work/dump" K; one 'verify: a dump as the file' 0 'the block holds the file
+' 'a file of 512 bytes and behind it 3584 of FFH'
+call "$tb" verify - 3 1 "$work/three.load" K <"$work/image"; try 'verify: the image from standard input' 0 'the block holds the file
+' ''
+call "$tb" verify - 3 1 - K; one 'verify: both from standard input' 2 '' 'cannot both be standard input'
+call "$tb" verify "$work" 3 1 "$work/three.load" K; one 'verify: a folder as the image' 2 '' 'is a folder'
 # block 1 of device 5 begins at byte 3A000, block 6 of device 8 at 60000
-blank() { head -c "$1" /dev/zero | tr '\0' '\377'; }
 { blank 237568 && cat "$work/three.load" && blank 24064; } >"$work/image5"
 { blank 237568 && printf 'K\001' && tail -c 24574 "$work/image5"; } >"$work/other5"
 { blank 393216 && cat "$work/long.load" && blank 16384; } >"$work/image8"
@@ -345,14 +441,116 @@ call "$tb" verify "$work/image" 3 1 "$work/three.load"; try 'verify: four words'
 call "$tb" verify "$work/image" x 1 "$work/three.load" K; try 'verify: no number' 2 '' 'whole numbers'
 call "$tb" verify --help; try 'verify --help' 0 '*' ''
 
+# output that cannot be written: every word ends with 4 and one line, or by the signal where its reader has gone
+python3 -c "for i in range(2000): print(4 * i, i)" >"$work/2000.txt"
+"$tb" table write K <"$work/2000.txt" >"$work/2000.load"
+head -n 3000 "$work/most.txt" >"$work/3000.txt"
+all=("--help" "replay --help" "script --help" "read --help" "table --help" "verify --help"
+    "replay page.txt" "replay --words page.txt" "script script.txt" "script --words script.txt" "read three.load K 6138" "read three.load K 8139"
+    "table write K" "table print three.load K" "verify image 3 1 three.load K" "verify image 3 2 three.load K")
+cd "$work"
+every() { # every TRIAL [CALL..]: a trial of these calls, or of each word; the text of a table is their standard input
+    local trial=$1 words
+    shift
+    [ $# -gt 0 ] || set -- "${all[@]}"
+    for words in "$@"; do
+        status=0
+        # shellcheck disable=SC2086
+        "$trial" $words <2000.txt
+        cases=$((cases + 1))
+    done
+}
+cut_off() { # cut_off WORDS: the last call, told by $status and $work/err, was
+    [ "$status" = 4 ] || wrong "$*: status $status, not 4"
+    [ "$(cat "$work/err")" = 'torfbarke: the output could not be written to its end; what came of it is not whole' ] || wrong "$*: other words"
+}
+: >"$work/out"
+on_full() {
+    "$tb" "$@" >/dev/full 2>"$work/err" || status=$?
+    cut_off 'a full disk' "$@"
+}
+every on_full
+on_closed() {
+    "$tb" "$@" >&- 2>"$work/err" || status=$?
+    [ "$status" = 4 ] || wrong "standard output closed: $*: status $status, not 4"
+    [ "$(cat "$work/err")" = 'torfbarke: the output cannot be written: standard output is closed' ] || wrong "standard output closed: $*: other words"
+}
+every on_closed
+# a pipe whose reader has gone before the first byte
+gone() {
+    mkfifo "$work/gone"
+    # shellcheck disable=SC2094
+    exec 7<>"$work/gone" 6>"$work/gone" 7>&-
+    rm "$work/gone"
+}
+on_gone() {
+    gone
+    "$tb" "$@" >&6 2>"$work/err" || status=$?
+    exec 6>&-
+    [ "$status" = 141 ] || wrong "a closed pipe: $*: status $status, not 141"
+    [ ! -s "$work/err" ] || wrong "a closed pipe: $*: words"
+}
+on_deaf() { # the same where the signal is ignored
+    gone
+    (trap '' PIPE && exec "$tb" "$@" >&6 2>"$work/err") || status=$?
+    exec 6>&-
+    cut_off 'a closed pipe, the signal ignored' "$@"
+}
+every on_deaf
+if (gone && printf x >&6) 2>/dev/null || [ $? != 141 ]; then
+    printf 'tests/command.sh: the signal of a closed pipe is ignored here, so its cases are left out\n'
+else
+    every on_gone
+fi
+# a disk that fills up on the way, and a limit of file sizes: the longer outputs are cut, with a word
+long=("replay most.txt" "replay --words most.txt" "script 3000.txt" "script --words 3000.txt" "table write K" "table print 2000.load K")
+on_limit() {
+    (ulimit -f 1 && exec "$tb" "$@" >"$work/limited" 2>"$work/err") || status=$?
+    cut_off 'a limit of file sizes' "$@"
+    [ "$(wc -c <"$work/limited")" = 1024 ] || wrong "a limit of file sizes: $*: not cut there"
+}
+on_small() {
+    "$tb" "$@" >"$work/small/cut" 2>"$work/err" || status=$?
+    cut_off 'a disk that fills up' "$@"
+    [ -s "$work/small/cut" ] || wrong "a disk that fills up: $*: nothing was written"
+    rm "$work/small/cut"
+}
+every on_limit "${long[@]}"
+# no word needs a temporary file: with no room for one, and with no folder, the answers are the same
+on_none() {
+    "$tb" "$@" >"$work/out" 2>"$work/err" <2000.txt || status=$?
+    { (ulimit -f 0 && TMPDIR=$work/nowhere exec "$tb" "$@" 2>"$work/none") || printf '%s' "$?" >>"$work/status"; } | cat >"$work/other"
+    cmp -s "$work/out" "$work/other" || wrong "no temporary files: $*: other answers"
+}
+: >"$work/status"
+every on_none
+[ "$(cat "$work/status")" = 11 ] || wrong "no temporary files: statuses $(cat "$work/status")"
+mkdir "$work/small"
+if mount -t tmpfs -o size=4k tmpfs "$work/small" 2>/dev/null; then
+    every on_small "${long[@]}"
+    head -c 100000 /dev/zero >"$work/small/full" 2>/dev/null || :
+    on_filled() {
+        "$tb" "$@" >"$work/out" 2>"$work/err" <2000.txt || status=$?
+        TMPDIR=$work/small "$tb" "$@" >"$work/other" 2>"$work/err" || [ "$?" = "$status" ] || wrong "no room for temporary files: $*: another status"
+        cmp -s "$work/out" "$work/other" || wrong "no room for temporary files: $*: other answers"
+    }
+    every on_filled "${long[@]}" "read three.load K 6138" "verify image 3 1 three.load K"
+    umount "$work/small"
+else
+    printf 'tests/command.sh: no small disk can be mounted here, so its cases are left out\n'
+fi
+
 # a first call, with a kit that builds at once: calls at the same time wait for one build, a failed build is told, no kit is told
 mkdir "$work/kit"
 cat >"$work/kit/rt" <<'KIT'
 #!/bin/sh
 [ "$1" = doc ] && { echo "$REAL_DOC"; exit 0; }
+[ "$1" = version ] && { echo "kit ${KIT_VERSION-1}"; exit 0; }
 echo built >>"$BUILDS"
 [ -z "${BUILD_FAILS-}" ] || { echo 'rt: not proved'; exit 1; }
-sleep 1
+[ -z "${BUILD_HANGS-}" ] || { mkdir -p target; echo half >target/half; sleep 600 & echo $! >"$BUILD_HANGS"; wait; }
+[ ! -e target/half ] || echo goes on >>"$BUILDS"
+sleep "${BUILD_TAKES-0}"
 mkdir -p target/bin
 cp "$PROGRAM" target/bin/trace
 echo 'rt: cells proved (1 s)'
@@ -364,6 +562,7 @@ if [ -n "${TORFBARKE_PROGRAMS-}" ]; then
     REAL_DOC=$(rt doc 2>/dev/null || true)
     export REAL_DOC
     first() { env -u TORFBARKE_PROGRAMS XDG_CACHE_HOME="$work/cache$1" PATH="$work/kit:$PATH" "$tb" replay "$work/page.txt"; }
+    export BUILD_TAKES=1
     for pair in 1 2 3 4 5; do
         first "$pair" >"$work/one" 2>"$work/one.err" &
         call first "$pair"
@@ -374,11 +573,68 @@ if [ -n "${TORFBARKE_PROGRAMS-}" ]; then
         [ "$(cat "$work/out")" = "${answers%?}" ] || wrong 'two calls at once: other answers'
         [ "$(wc -l <"$work/builds")" = "$pair" ] || wrong 'two calls at once: built twice'
     done
+    unset BUILD_TAKES
     call first 6; try 'a first call tells what goes on' 0 "$answers" 'proved 1 of'
     call first 6; try 'a second call is quiet' 0 "$answers" ''
+    find "$work/cache6/torfbarke" -type d -not -perm 700 | grep -q . && wrong 'a first call: a folder that is open to others'
+    export KIT_VERSION=2
+    call first 6; try 'another kit builds anew' 0 "$answers" 'proved 1 of'
+    call first 6; try 'another kit, a second call' 0 "$answers" ''
+    unset KIT_VERSION
+    # a call that is killed leaves no prover, and the next one goes on where it was
+    for signal in TERM KILL; do
+        mkdir -p "$work/cache-$signal"
+        (BUILD_HANGS=$work/hangs && export BUILD_HANGS && exec env -u TORFBARKE_PROGRAMS XDG_CACHE_HOME="$work/cache-$signal" PATH="$work/kit:$PATH" \
+            "$tb" replay "$work/page.txt") >"$work/out" 2>"$work/err" &
+        started=$!
+        cases=$((cases + 1))
+        tries=0
+        until [ -s "$work/hangs" ]; do
+            tries=$((tries + 1))
+            [ "$tries" -lt 300 ] || wrong "a call ended by $signal: it did not build"
+            sleep 0.1
+        done
+        kill -"$signal" "$started"
+        wait "$started" 2>/dev/null && wrong "a call ended by $signal: it went on"
+        tries=0
+        while kill -0 "$(cat "$work/hangs")" 2>/dev/null; do
+            tries=$((tries + 1))
+            [ "$tries" -lt 100 ] || wrong "a call ended by $signal: its prover is left behind"
+            sleep 0.1
+        done
+        rm "$work/hangs"
+        call first "-$signal"; try "the call after one ended by $signal" 0 "$answers" 'goes on where it was'
+        [ "$(tail -n 1 "$work/builds")" = 'goes on' ] || wrong "the call after one ended by $signal: it did not go on"
+    done
+    # programs are run from a folder of the caller's own alone
+    homeless() { env -u TORFBARKE_PROGRAMS -u HOME -u XDG_CACHE_HOME PATH="$work/kit:$PATH" "$tb" replay "$work/page.txt"; }
+    call homeless; one 'no HOME' 3 '' 'set HOME, or XDG_CACHE_HOME to a folder of yours'
+    at_home() { env -u TORFBARKE_PROGRAMS HOME="$work/home" XDG_CACHE_HOME=here PATH="$work/kit:$PATH" "$tb" replay "$work/page.txt"; }
+    call at_home; try 'a HOME' 0 "$answers" 'proved 1 of'
+    [ -d "$work/home/.cache/torfbarke" ] || wrong 'a HOME: built elsewhere'
+    chmod 770 "$work/cache1/torfbarke"
+    call first 1; one 'a folder that a group writes to' 3 '' 'is not a folder of yours that only you write to'
+    chmod 702 "$work/cache1/torfbarke"
+    call first 1; one 'a folder that anybody writes to' 3 '' 'is not a folder of yours that only you write to'
+    chmod 700 "$work/cache1/torfbarke"
+    chmod 777 "$work/cache1/torfbarke"/*
+    call first 1; one 'a folder below that anybody writes to' 3 '' 'is not a folder of yours that only you write to'
+    mkdir "$work/cache9"
+    ln -s "$work/cache2/torfbarke" "$work/cache9/torfbarke"
+    call first 9; one 'a link in its place' 3 '' 'is not a folder of yours that only you write to'
+    if [ "$(id -u)" = 0 ] && chown 65534 "$work/cache3/torfbarke" 2>/dev/null; then
+        call first 3; one "another's folder" 3 '' 'is not a folder of yours that only you write to'
+    else
+        printf "tests/command.sh: nobody's folder can be made here, so its case is left out\n"
+    fi
+    roomless() { { (ulimit -f 0 && first 8 2>&1) || printf 'status %s\n' "$?"; } | cat; }
+    call roomless
+    cases=$((cases + 1))
+    tail -n 2 "$work/out" | grep -q 'trace was not built; the sources could not be copied' || wrong 'no room to build: other words'
+    [ "$(tail -n 1 "$work/out")" = 'status 3' ] || wrong 'no room to build: another status'
     export BUILD_FAILS=yes
     call first 7; try 'a build that fails' 3 '' 'was not built'
-    without() { env -u TORFBARKE_PROGRAMS XDG_CACHE_HOME="$work/cache8" PATH=/usr/bin:/bin "$tb" replay "$work/page.txt"; }
+    without() { env -u TORFBARKE_PROGRAMS XDG_CACHE_HOME="$work/cache10" PATH=/usr/bin:/bin "$tb" replay "$work/page.txt"; }
     PATH=/usr/bin:/bin command -v rt >/dev/null || { call without; try 'no kit' 3 '' 'kit is missing'; }
 fi
 printf 'tests/command.sh: %s cases, as expected\n' "$cases"

@@ -1,4 +1,5 @@
-// The trace program: standard input is replayed on bench T, and the answers are written. Lines past 9999 do not matter.
+// The trace program: standard input is replayed on bench T, and the answers are written. Lines past 9999 do not matter. A point on
+// standard error says that every answer was written.
 fn main() {
     let mut text = [0u8; 199980];
     let mut array = [255u8; 16384];
@@ -7,5 +8,7 @@ fn main() {
     let n = io::read_full(0, &mut text);
     let r = trace_replay::replay(&text[..n], &mut array, &residue, &mut out);
     let m = r.used;
-    io::write_all(1, &out[..m]);
+    if io::write_all(1, &out[..m]) {
+        io::write_all(2, b".");
+    }
 }
