@@ -66,7 +66,10 @@ heard
 # a trace that is not counted: its number among the files, and the line; no table was made
 faults=0
 while read -r sign number line; do
-    file=${files[number - 1]-}
+    case $sign in
+    '?' | '!' | X) file=${files[number - 1]} ;;
+    *) break ;;
+    esac
     case $sign in
     '?')
         bytes=${held[number - 1]}
@@ -76,7 +79,6 @@ while read -r sign number line; do
         ;;
     '!') fail 2 "$file could not be read to its end" ;;
     X) fail 1 "refused $line at $file: more than 65,535 traces" ;;
-    *) break ;;
     esac
     faults=$((faults + 1))
 done <<<"${wrote?}"
