@@ -23,10 +23,9 @@ docs/OPERATORS.md says how to read it.
 "
 }
 
-words='' sample='' plain=''
-files=()
-while [ $# -gt 0 ]; do
-    case $plain$1 in
+words='' sample='' plain='' traces=()
+for word in "$@"; do
+    case $plain$word in
     --help | -h)
         wear_help
         exit 0
@@ -34,55 +33,57 @@ while [ $# -gt 0 ]; do
     --words) words=yes ;;
     --sample) sample=yes ;;
     --) plain=: ;;
-    -?*) fail 2 "wear has no option $1 (a file of that name: ./$1); 'torfbarke wear --help' says more" ;;
-    *) files+=("$1") ;;
+    -?*) fail 2 "wear has no option $word (a file of that name: ./$word); 'torfbarke wear --help' says more" ;;
+    *) traces+=("$word") ;;
     esac
-    shift
 done
 if [ -n "$sample" ]; then
-    [ ${#files[@]} = 0 ] || fail 2 "traces or --sample, not both"
-    files=("$root/samples/sample.txt")
+    [ ${#traces[@]} = 0 ] || fail 2 "traces or --sample, not both"
+    traces=("$root/samples/sample.txt")
 fi
-[ ${#files[@]} -gt 0 ] || fail 2 "no trace: give one file or more, or --sample for the one that ships; 'torfbarke wear --help' says more"
-for file in "${files[@]}"; do there "$file"; done
+[ ${#traces[@]} -gt 0 ] || fail 2 "no trace: give one file or more, or --sample for the one that ships; 'torfbarke wear --help' says more"
+for file in "${traces[@]}"; do there "$file"; done
 
 program wear_program
-# 9,999 lines of 20 bytes of each: what follows cannot matter. The program reads a file itself; what can be read only once is held here
-traces=() held=()
-for file in "${files[@]}"; do
-    bytes=
+# a file is read by its name; what can be read only once, a FIFO or standard input, is held: 9,999 lines of 20 bytes
+names=() held=()
+for file in "${traces[@]}"; do
+    case $file in
+    -*) name=./$file ;;
+    *) name=$file ;;
+    esac
     if [ "$file" = - ] || [ ! -f "$file" ]; then
         fetch "$file" 199980
-        exec {trace}< <(give "$bytes")
-        traces+=("/dev/fd/$trace")
-    else
-        traces+=("$file")
+        held[${#names[@]}]=${bytes?}
+        exec {from}< <(give "$bytes")
+        name=/dev/fd/$from
     fi
-    held+=("$bytes")
+    names+=("$name")
 done
-run "${traces[@]}"
+run "${names[@]}"
 heard
 
 # a trace that is not counted: its number among the files, and the line; no table was made
 faults=0
 while read -r sign number line; do
     case $sign in
-    '?' | '!' | X) file=${files[number - 1]} ;;
-    *) break ;;
-    esac
-    case $sign in
     '?')
-        bytes=${held[number - 1]}
-        [ -n "$bytes" ] || fetch "$file" 199980
-        why=$(give "${bytes:80*(line - 1):800}" | od -An -v -tu1 | awk -v number="$line" -f "$root/commands/lib/fault.awk")
+        file=${traces[number - 1]}
+        if [ -n "${held[number - 1]+held}" ]; then
+            why=$(give "${held[number - 1]:80 * (line - 1):800}" | od -An -v -tu1)
+        else
+            why=$(tail -c +$((20 * (line - 1) + 1)) 2>/dev/null <"$file" | head -c 200 | od -An -v -tu1)
+        fi
+        why=$(printf '%s\n' "$why" | awk -v number="$line" -f "$root/commands/lib/fault.awk")
         say "$file: line $line is no line of a trace: $why"
         ;;
-    '!') fail 2 "$file could not be read to its end" ;;
-    X) fail 1 "refused $line at $file: more than 65,535 traces" ;;
+    '!') fail 2 "${traces[number - 1]} could not be read to its end" ;;
+    X) fail 1 "refused $line at ${traces[number - 1]}: more than 65,535 traces" ;;
+    *) break ;;
     esac
     faults=$((faults + 1))
-done <<<"${wrote?}"
+done < <(printf '%s' "${wrote?}")
 [ "$faults" = 0 ] || exit 1
 
-put "$(printf '%s' "$wrote" | awk -v words="$words" -v traces="${#files[@]}" -f "$root/commands/lib/wear.awk")
-"
+told=$(printf '%s' "$wrote" | awk -v words="$words" -v traces="${#traces[@]}" -f "$root/commands/lib/wear.awk") || fail 3 "the table could not be laid out"
+put "$told"$'\n'

@@ -445,7 +445,7 @@ call "$tb" verify --help; try 'verify --help' 0 '*' ''
 python3 -c "for i in range(2000): print(4 * i, i)" >"$work/2000.txt"
 "$tb" table write K <"$work/2000.txt" >"$work/2000.load"
 head -n 3000 "$work/most.txt" >"$work/3000.txt"
-all=("--help" "replay --help" "script --help" "read --help" "table --help" "verify --help"
+all=("--help" "replay --help" "script --help" "read --help" "table --help" "verify --help" "wear --help" "wear page.txt" "wear --words page.txt"
     "replay page.txt" "replay --words page.txt" "script script.txt" "script --words script.txt" "read three.load K 6138" "read three.load K 8139"
     "table write K" "table print three.load K" "verify image 3 1 three.load K" "verify image 3 2 three.load K")
 cd "$work"

@@ -40,15 +40,9 @@ begin d s l xs sc = record { loader = l; state = s; bytes = xs; scratch = sc; co
 abbrev pub beginningAt : Stage → Bool → Device → State → Pins → ℕ → List ℕ → List ℕ → Config
 beginningAt stage verify d s p k xs sc = begin d s (recordAt (d .part) p k stage verify) xs sc
 
--- a run begins with 50H and has the verify after the load, a load alone has none, and a verify alone begins with the last FFH
+-- a run begins with 50H and has the verify after the load
 abbrev pub beginning : Device → State → Pins → ℕ → List ℕ → List ℕ → Config
 beginning d s p k xs sc = beginningAt Clearing true d s p k xs sc
-
-abbrev pub loadBeginning : Device → State → Pins → ℕ → List ℕ → List ℕ → Config
-loadBeginning d s p k xs sc = beginningAt Clearing false d s p k xs sc
-
-abbrev pub verifyBeginning : Device → State → Pins → ℕ → List ℕ → List ℕ → Config
-verifyBeginning d s p k xs sc = beginningAt Closing true d s p k xs sc
 
 -- what is returned of a load under way
 abbrev pub ranBy : Config → Ran
@@ -61,10 +55,6 @@ driven d w c = after (bound (length w)) d w c
 -- such a beginning made to its end, as it is left
 unfoldable pub leftAt : Stage → Bool → Device → State → Pins → ℕ → List ℕ → List ℕ → List ℕ → Config
 leftAt stage verify d s p k xs w sc = driven d w (beginningAt stage verify d s p k xs sc)
-
--- a whole run
-abbrev pub leftBy : Device → State → Pins → ℕ → List ℕ → List ℕ → List ℕ → Config
-leftBy d s p k xs w sc = leftAt Clearing true d s p k xs w sc
 
 -- what a run returns and leaves: its result, the array and scratch
 pub record RunLeft : Type 0 where
