@@ -17,7 +17,7 @@ the room counts.
     L   x bytes of the file count          M   x bytes of the room count
     J   told: J and the judgement of the payload as a table
     S   told: S and the lower knot of the pair for x
-    R   told: the reading of x by the payload: T, B or A and the bits of its temperature in tenths, in hex
+    R   told: the reading of x by the payload, judged or not: T, B or A and the bits of its temperature in tenths, in hex; or ! and 40 or 41
     F   told: the same straight from the file under the letter y, or ! and the refusal; then D and a digest of the room
 
 The tables are those of types K and S, from the reference functions of ITS-90 (NIST Monograph 175): knots at whole degrees,
@@ -97,19 +97,44 @@ def pair_of(table, x):
 
 
 def reading(table, x):
-    """The case and the temperature in tenths, as a float."""
+    """The case and the temperature in tenths, as a float, by a table that was judged."""
     if x < table[0][0]:
         return "B", float(table[0][1])
     if x > table[-1][0]:
         return "A", float(table[-1][1])
-    if len(table) == 1:
-        return "T", float(table[0][1])
-    i = pair_of(table, x)
+    return by_pair(table, pair_of(table, x), x)
+
+
+def by_pair(table, i, x):
     x0, t0, x1, t1 = map(float, table[i] + table[i + 1])
     return "T", t0 + (t1 - t0) * (float(x) - x0) / (x1 - x0)
 
 
+def rises(low, high):
+    """Both knots in range, and the second above the first."""
+    return -10000 <= low[0] < high[0] <= 80000
+
+
+def unjudged(payload, x):
+    """The reading by a payload that nobody judged: 40 by its length; 41 where the first and the last knot are out of range or do not
+    rise, or the pair that halving ends with; else the reading, by these knots alone."""
+    table = table_of(payload)
+    if len(payload) % 6 or len(table) < 2:
+        return "!", 40
+    if not rises(table[0], table[-1]):
+        return "!", 41
+    if not table[0][0] <= x <= table[-1][0]:
+        return reading(table, x)
+    low, high = 0, len(table) - 1
+    while high - low > 1:
+        middle = low + (high - low) // 2
+        low, high = (middle, high) if table[middle][0] <= x else (low, middle)
+    return by_pair(table, low, x) if rises(table[low], table[high]) else ("!", 41)
+
+
 def told(answer):
+    if answer[0] == "!":
+        return f"! {answer[1]}"
     return f"{answer[0]} {struct.pack('>d', answer[1]).hex()}"
 
 
@@ -145,7 +170,12 @@ class Rows:
     def read(self, *xs):
         for x in xs:
             self.row("R", x)
-            self.lines.append(told(reading(table_of(self.payload) or [(0, 0)], x)))
+            answer = unjudged(self.payload, x)
+            # a table that the judgement lets through is read as it always was
+            assert judged(self.payload) or answer == reading(table_of(self.payload), x)
+            # and what is refused, the judgement refuses by the same number
+            assert answer[0] != "!" or judged(self.payload) == answer[1]
+            self.lines.append(told(answer))
 
     def seek(self, *xs):
         for x in xs:
@@ -218,10 +248,22 @@ def all_rows():
         r.judge()
         r.seek(*[x for x in around(table) if table[0][0] <= x <= table[-1][0]])
         r.read(*around(table), *FAR)
-    # fewer than two knots, which no judgement lets through: one alone, and none, as if there were one of 0 and 0
-    for table, more in ([(5, -7)], b""), ([(5, -7)], b"\0\0\0"), ([], b""), ([], b"\xff" * 5):
+    # payloads that no judgement lets through, read all the same: no table by its length
+    for table, more in ([], b""), ([], b"\xff" * 5), ([(5, -7)], b""), ([(5, -7)], b"\0"), ([(5, -7)], b"\0\0\0"), (THIRDS, b"\0"), (THIRDS, b"\0" * 5):
         r.table(table, more)
-        r.read(4, 5, 6, -1, 0, 1, *FAR)
+        r.read(4, 5, 0, FAR[0], FAR[-1])
+    # .. by its ends: equal, falling, out of range
+    for ends in ((5, 5), (5, 4), (80000, -10000), (-10001, 4), (-10001, -10000), (0, 80001), (80000, 80001), (2147483647, -2147483648),
+                 (-2147483648, 2147483647), (80001, 90000), (-20000, -10001)):
+        for between in ([], [(1, 3), (2, 4)]):
+            r.table([(ends[0], 0), *between, (ends[1], 1)])
+            r.read(ends[0], ends[1], 3, FAR[0], FAR[-1])
+    # .. by a pair: equal, falling, its lower or its upper knot out of range; where the search does not meet it, the reading is given
+    for inner in ([(5, 1), (5, 2)], [(5, 1), (4, 2)], [(-10001, 1), (6, 2)], [(5, 1), (80001, 2)], [(-2147483648, 1), (2147483647, 2)], [(5, 1), (5, 2), (5, 3)],
+                  [(9, 9), (7, 8), (5, 7), (3, 6), (1, 5)], [(80001, 4), (5, 3)], [(3, 1), (-10001, 2)]):
+        for table in ([(0, 0), *inner, (10, 9)], [(-30, 0), (-20, 5), (-10, 7), (0, 0), *inner, (10, 9)]):
+            r.table(table)
+            r.read(-25, -1, 0, 4, 5, 6, 9, 10, 11)
     # 40 and 41
     for table, more in (([], b""), ([(0, 0)], b""), (THIRDS, b"\0"), (THIRDS, b"\0" * 5), ([(5, 0), (5, 1)], b""), ([(5, 0), (4, 1)], b""),
                         ([(-10001, 0), (4, 1)], b""), ([(0, 0), (80001, 1)], b""), ([(0, 0), (4, 1), (4, 2)], b""), ([(5, 0), (4, 1)], b"\0"),
@@ -281,6 +323,7 @@ def all_rows():
     r.ask("K", 0)
     r.lend(6 * len(longer))
     r.ask("K", *around(longer, 336))
+    assert 16 * len(r.rows) <= 65536, "the program takes no more than 65,536 bytes"
     return r
 
 

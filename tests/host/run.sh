@@ -86,6 +86,9 @@ slips='1:a program stores its data without AND
 19:microvolts may stay from knot to knot
 20:the last knot is above the table
 21:a reading divides before it multiplies
+80:two knots with the same microvolts are a pair
+81:a reading takes a payload that is no multiple of six
+82:a pair out of range is read
 22:scratch takes a byte when its data is sent
 23:the verify is begun after a bad end
 24:the verify stops before its last byte

@@ -23,18 +23,23 @@ uint8_t c_table_judge(const uint8_t *payload, size_t n) {
     return TB_OK;
 }
 
-/* Fewer than two knots are read as a knot alone, and none as one of 0 microvolts and 0 tenths. */
+/* Two knots in range, the second above the first. */
+static inline int rises(int32_t a, int32_t b) { return a >= -10000 && a <= 80000 && b >= -10000 && b <= 80000 && (SLIP(80) ? a <= b : a < b); }
+
+/* By a payload that need not have been judged: 40 by its length, 41 by the knots that the answer is made of, the first and the last
+ * and, between them, the pair that is found. */
 tb_reading c_table_reading(const uint8_t *payload, size_t n, int32_t x) {
-    static const uint8_t none[6];
-    size_t knots = n / 6;
-    const uint8_t *first = knots == 0 ? none : payload, *last = knots == 0 ? none : payload + 6 * (knots - 1);
-    if (x < volts(first))
-        return (tb_reading){TB_BELOW, 0, heat(first)};
-    if (SLIP(20) ? x >= volts(last) : x > volts(last))
+    if ((n % 6 != 0 && !SLIP(81)) || n < 12)
+        return (tb_reading){TB_NO_READING, TB_TABLE_SHAPE, 0};
+    size_t low = 0, high = n / 6 - 1;
+    const uint8_t *last = payload + 6 * high;
+    int32_t least = volts(payload), most = volts(last);
+    if (!rises(least, most))
+        return (tb_reading){TB_NO_READING, TB_TABLE_VOLTS, 0};
+    if (x < least)
+        return (tb_reading){TB_BELOW, 0, heat(payload)};
+    if (SLIP(20) ? x >= most : x > most)
         return (tb_reading){TB_ABOVE, 0, heat(last)};
-    if (knots < 2)
-        return (tb_reading){TB_TEMPERATURE, 0, heat(first)};
-    size_t low = 0, high = knots - 1;
     while (high - low > 1) {
         size_t middle = low + (high - low) / 2;
         if (volts(payload + 6 * middle) <= x)
@@ -43,6 +48,8 @@ tb_reading c_table_reading(const uint8_t *payload, size_t n, int32_t x) {
             high = middle;
     }
     const uint8_t *a = payload + 6 * low, *b = a + 6;
+    if (SLIP(82) ? volts(a) >= volts(b) : !rises(volts(a), volts(b)))
+        return (tb_reading){TB_NO_READING, TB_TABLE_VOLTS, 0};
     double x0 = volts(a), t0 = heat(a), x1 = volts(b), t1 = heat(b);
     double t = SLIP(21) ? t0 + (t1 - t0) / (x1 - x0) * (x - x0) : t0 + (t1 - t0) * (x - x0) / (x1 - x0);
     return (tb_reading){TB_TEMPERATURE, 0, t};

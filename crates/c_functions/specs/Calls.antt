@@ -27,8 +27,8 @@ use Rattle.c_records.specs.declared.GivenNumbers.{GivenNumbers}
 use Rattle.c_records.specs.declared.RanNumbers.{RanNumbers}
 use Rattle.c_records.specs.declared.SizedNumbers.{SizedNumbers}
 use Rattle.c_readings.specs.declared.ReadingNumbers.{ReadingNumbers}
-use Rattle.c_readings.specs.Readings.{readingOut, answerNumbers}
-use Rattle.reading.specs.Readings.{readingOf, answerAs}
+use Rattle.c_readings.specs.Readings.{answerNumbers}
+use Rattle.reading.specs.Readings.{readingAnswer, answerAs}
 use Rattle.wear.specs.Refusals.{addedTo, reportedOf}
 use Rattle.c_wear.specs.declared.ReportNumbers.{ReportNumbers}
 use Rattle.c_wear.specs.declared.ReportedNumbers.{ReportedNumbers}
@@ -174,7 +174,7 @@ payloadLeft f asked out = leftIn out (inRoom (length out) (readerOf limit f aske
 
 -- a reading: by a payload, and straight from a file
 unfoldable pub readingGiven : List ℕ → ℤ → ReadingNumbers
-readingGiven p x = readingOut (readingOf p x)
+readingGiven p x = answerNumbers (readingAnswer p x)
 
 unfoldable pub readingRead : List ℕ → ℕ → List ℕ → ℤ → ReadingNumbers
 readingRead f asked room x = answerNumbers (answerAs x (inRoom (length room) (readerOf limit f asked)))

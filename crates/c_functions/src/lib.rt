@@ -366,13 +366,13 @@ pub extern "C" fn tb_table_judge(payload: &[u8]) -> u8
     reading_table::judge_table(payload)
 }
 
-// The reading at a voltage by a payload that was judged.
+// The reading at a voltage by a payload, judged or not; or 40 or 41.
 #[no_mangle]
 pub extern "C" fn tb_table_reading(payload: &[u8], microvolts: i32) -> ReadingNumbers
     ensures { λ r. ⌜ r ≡ readingGiven (now (payload .entry)) microvolts ⌝ }
 {
-    let given = reading::reading_at(payload, microvolts);
-    c_readings::reading_out(given)
+    let answer = reading::reading_at(payload, microvolts);
+    c_readings::answer_numbers(answer)
 }
 
 // The reading at a voltage straight from a file, for the letter asked; the payload goes into the front of room.

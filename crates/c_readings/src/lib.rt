@@ -31,7 +31,7 @@ fn zero() -> f64
     none as f64
 }
 
-pub fn reading_out(reading: Reading) -> ReadingNumbers
+fn reading_out(reading: Reading) -> ReadingNumbers
     ensures { λ r. ⌜ r ≡ readingOut reading ⌝ }
 {
     match reading {

@@ -1,22 +1,22 @@
 -- The claims about the load file, for any limit of blocks; `limit` is the one that the promises use. Assumes nothing.
 use mathlib.Core.Path.{_≡_, refl, sym, _∙_, ap}
-use mathlib.Core.List.{List, [], _∷_}
-use mathlib.Core.Bool.{true}
+use mathlib.Core.List.{List, [], _∷_, _++_}
+use mathlib.Core.Bool.{true, false}
 use mathlib.Core.Logic.{_↔_}
 use Prim.Native.Nat.{ℕ, _+_, _*_, _%_, _≤_, _<_}
 use native.Mathlib.Omega.{arith}
-use lib.ListN.{length, getD, drop, set, replicate, length-set}
+use lib.ListN.{length, getD, take, drop, set, replicate, length-set}
 use lib.Seq.{drop-append-seam, getD-set-other}
 use lib.Dec.{ltb}
-use Rattle.common.specs.Numbers.{row}
-use Rattle.file_check.specs.Check.{wsum, checkOf, checkWrong, storedOf, isBlank}
+use Rattle.common.specs.Numbers.{Row, row, numbered}
+use Rattle.file_check.specs.Check.{wsum, checkOf, checkWrong, storedOf, isBlank, checkFault}
 use Rattle.file_check.proofs.Verdicts as verdicts
 use Rattle.file_block.specs.Block.{isLetter}
-use Rattle.file_codec.specs.File.{limit, refused, made, fileOf, readerOf, writerOf, inRoom, leftIn, blocksIn, payloadOf, readRows, writeRows}
+use Rattle.file_codec.specs.File.{limit, refused, made, countOf, fileOf, readerOf, writerOf, inRoom, leftIn, lengthWrong, blocksIn, payloadOf, readRows, writeRows}
 use Rattle.file_codec.proofs.Outcomes.{payload-right, payload-fits, writer-lets, writer-made}
 use Rattle.common.specs.Lists.{Bytes}
 use Rattle.file_claims.proofs.Written.{written-read, written-other, written-bytes}
-use Rattle.file_claims.proofs.Reading.{read-written}
+use Rattle.file_claims.proofs.Reading as reading
 use Rattle.file_claims.proofs.Damage.{damaged, wsum-set}
 use Rattle.file_claims.specs.Tabled.{Ordered}
 use Rattle.file_claims.specs.Before.{readerBefore, toldBefore}
@@ -24,7 +24,8 @@ use Rattle.file_claims.specs.Roomy.{ReadsInto, WritesGivenRoom}
 use Rattle.file_claims.proofs.Given as given
 use Rattle.file_claims.proofs.Raised as raised
 use Rattle.file_claims.proofs.Blank as blank
-use Rattle.file_claims.proofs.Order.{writes-in-order, judges-in-order, reads-in-order}
+use Rattle.file_claims.proofs.Order as order
+use Rattle.file_claims.proofs.Checked as checked
 
 -- what the writer makes of a payload, the reader gives back for that letter
 pub comes-back : (most ℓ : ℕ) (p f : List ℕ) → writerOf most ℓ p ≡ made f → readerOf most f ℓ ≡ made p
@@ -32,7 +33,7 @@ comes-back = written-read
 
 -- what the reader gives for a letter, the writer makes into that same file
 pub goes-back : (most ℓ : ℕ) (f p : List ℕ) → Bytes f → readerOf most f ℓ ≡ made p → writerOf most ℓ p ≡ made f
-goes-back = read-written
+goes-back = reading.read-written
 
 -- the writer writes exactly the payloads of 1 byte up to 505 for each block of the limit, under one of the eight letters
 pub writes-exactly : (most ℓ : ℕ) (p f : List ℕ)
@@ -47,9 +48,20 @@ writes-exactly most ℓ p f = (
 pub reads-exactly : (most ℓ : ℕ) (f p : List ℕ) → Bytes f
     → readerOf most f ℓ ≡ made p ↔ ((isLetter ℓ ≡ true) × (0 < length p) × (length p ≤ 505 * most) × (f ≡ fileOf ℓ p))
 reads-exactly most ℓ f p bytes = (
-  λ (e : readerOf most f ℓ ≡ made p). writes-exactly most ℓ p f .0 (read-written most ℓ f p bytes e),
+  λ (e : readerOf most f ℓ ≡ made p). writes-exactly most ℓ p f .0 (reading.read-written most ℓ f p bytes e),
   λ (h : (isLetter ℓ ≡ true) × (0 < length p) × (length p ≤ 505 * most) × (f ≡ fileOf ℓ p)). written-read most ℓ p f (writes-exactly most ℓ p f .1 h),
 )
+
+-- What is read, whatever numbers f has: its letter is the one asked, and the payload has 1 byte up to 505 for each block of the limit.
+pub read-holds : (most ℓ : ℕ) (f p : List ℕ) → readerOf most f ℓ ≡ made p → (getD f 0 0 ≡ ℓ) × (0 < length p) × (length p ≤ 505 * most)
+read-holds = reading.read-holds
+
+-- A written file has one block for every 505 bytes of the payload that are begun: 4,040 bytes make eight, 4,041 nine, and 113,120 make 224.
+pub written-blocks : (most ℓ : ℕ) (p f : List ℕ) → writerOf most ℓ p ≡ made f → length f ≡ 512 * countOf (length p)
+written-blocks = checked.written-length
+
+pub blocks-are : (countOf 4040 ≡ 8) × (countOf 4041 ≡ 9) × (countOf 113120 ≡ 224)
+blocks-are = (refl, refl, refl)
 
 -- Given room, on the functions' own answers at the limit: bytes f are read for a letter into `out`, with p's length as the answer and
 -- p left at the front, exactly when p has room there and the writer, given room, makes f of p under that letter.
@@ -75,6 +87,10 @@ changed-byte-here ℓ p f = changed-byte limit ℓ p f (omega arith)
 pub raised-reads : (m n asked : ℕ) (f : List ℕ) → m ≤ n
     → (length f ≤ 512 * m → readerOf m f asked ≡ readerOf n f asked) × (512 * m < length f → readerOf m f asked ≡ refused 30)
 raised-reads m n asked f l = (raised.reads-alike m n asked f l, raised.longer-30 m asked f)
+
+-- (30 alone, which a load asks together with its own)
+pub raised-length : (m n size : ℕ) → m ≤ n → (size ≤ 512 * m → lengthWrong m size ≡ lengthWrong n size) × (512 * m < size → lengthWrong m size ≡ true)
+raised-length m n size l = (raised.same-length m n size l, raised.long-wrong m size)
 
 -- .. and the files of payloads of at most 505 bytes for each block of m are the same.
 pub raised-writes : (m n ℓ : ℕ) (p : List ℕ) → m ≤ n → length p ≤ 505 * m → writerOf m ℓ p ≡ writerOf n ℓ p
@@ -107,6 +123,13 @@ two-cancel xs b h e =
 -- a check of 65,521 or more that a block carries is never right
 pub never-right : (b : List ℕ) → 65521 ≤ storedOf b → checkWrong b ≡ true
 never-right = verdicts.never-right
+
+-- The check itself gives 38 exactly where the block is blank, and 31 exactly where it carries a wrong check and is not.
+pub check-38 : (b : List ℕ) → checkFault b ≡ 38 ↔ (isBlank b ≡ true)
+check-38 = checked.fault-38
+
+pub check-31 : (b : List ℕ) → checkFault b ≡ 31 ↔ ((checkOf (take 510 b) ≡ storedOf b → ⊥) × (isBlank b ≡ false))
+check-31 = checked.fault-31
 
 -- A blank block's check is wrong. So 38 stands only where 31 stood, what was accepted is accepted still and every other number is the same:
 -- with 38 told as 31 the reader is, on every file and letter, the one that had no number for a blank block.
@@ -141,16 +164,23 @@ blank-file = blank.blank-file
 -- each number is given exactly when its own condition holds and no earlier one does: the writer 32, 36, 37
 pub writer-order : (most ℓ : ℕ) (p : List ℕ) (room : ℕ)
     → Ordered (writeRows most ℓ p (row 37 (ltb room (length (fileOf ℓ p))) ∷ [])) (fileOf ℓ p) (inRoom room (writerOf most ℓ p))
-writer-order = writes-in-order
+writer-order = order.writes-in-order
 
 -- the judgement: 30, then block by block 38 or else 31, then 32, 33, 34; then 35
 pub judge-order : (most : ℕ) (f : List ℕ) (asked : ℕ) → Ordered (readRows most f asked []) (payloadOf (blocksIn f) f) (readerOf most f asked)
-judge-order = judges-in-order
+judge-order = order.judges-in-order
 
 -- the reader the same, then 37
 pub reader-order : (most : ℕ) (f : List ℕ) (asked room : ℕ)
     → Ordered (readRows most f asked (row 37 (ltb room (length (payloadOf (blocksIn f) f))) ∷ [])) (payloadOf (blocksIn f) f) (inRoom room (readerOf most f asked))
-reader-order = reads-in-order
+reader-order = order.reads-in-order
+
+-- No row of the reader's table has the number 0, and rows that a caller asks after them stand below them.
+pub rows-numbered : (most : ℕ) (f : List ℕ) (asked : ℕ) (after : List Row) → numbered after ≡ true → numbered (readRows most f asked after) ≡ true
+rows-numbered = order.read-numbered
+
+pub rows-below : (most : ℕ) (f : List ℕ) (asked : ℕ) (above after : List Row) → readRows most f asked (above ++ after) ≡ readRows most f asked above ++ after
+rows-below = order.read-below
 
 -- a refusal leaves the buffer, and bytes past the answer stay
 pub untouched : (out : List ℕ) (n : ℕ) → leftIn out (refused n) ≡ out

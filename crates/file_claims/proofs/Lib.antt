@@ -6,4 +6,5 @@ pub mod Given
 pub mod Order
 pub mod Raised
 pub mod Blank
+pub mod Checked
 pub mod Claims

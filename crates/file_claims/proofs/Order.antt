@@ -71,9 +71,19 @@ writes-in-order most ℓ p room =
     (sym (room-row (writeRows most ℓ p []) (fileOf ℓ p) room refl))
     (ordered (writeRows most ℓ p (row 37 (ltb room (length (fileOf ℓ p))) ∷ [])) (fileOf ℓ p) refl)
 
--- no row of the reader has the number 0
-read-numbered : (most : ℕ) (f : List ℕ) (asked : ℕ) (rest : List Row) → numbered rest ≡ true → numbered (readRows most f asked rest) ≡ true
+-- no row of the reader has the number 0, and what is asked after its rows stands below them
+pub read-numbered : (most : ℕ) (f : List ℕ) (asked : ℕ) (rest : List Row) → numbered rest ≡ true → numbered (readRows most f asked rest) ≡ true
 read-numbered most f asked rest m = blocks-numbered (blocksIn f) (getD f 0 0) 0 (blocksIn f) f (row 35 (not (eqb (getD f 0 0) asked)) ∷ rest) ∙ m
+
+pub read-below : (most : ℕ) (f : List ℕ) (asked : ℕ) (above rest : List Row) → readRows most f asked (above ++ rest) ≡ readRows most f asked above ++ rest
+read-below most f asked above rest =
+    ap (λ (rs : List Row). row 30 (lengthWrong most (length f)) ∷ rs)
+    (blocks-append (blocksIn f) (getD f 0 0) 0 (blocksIn f) f (Q ∷ (above ++ rest))
+    ∙ sym (append-assoc (blocksRows (blocksIn f) (getD f 0 0) 0 (blocksIn f) f []) (Q ∷ above) rest)
+    ∙ ap (λ (rs : List Row). rs ++ rest) (sym (blocks-append (blocksIn f) (getD f 0 0) 0 (blocksIn f) f (Q ∷ above))))
+  where
+    Q : Row
+    Q = row 35 (not (eqb (getD f 0 0) asked))
 
 -- the judgement: 30, then block by block 38 or else 31, then 32, 33, 34; then 35
 pub judges-in-order : (most : ℕ) (f : List ℕ) (asked : ℕ) → Ordered (readRows most f asked []) (payloadOf (blocksIn f) f) (readerOf most f asked)
@@ -88,24 +98,8 @@ reads-in-order most f asked room =
     subst (Ordered (readRows most f asked (row 37 (ltb room (length P)) ∷ [])) P)
     (sym
     (room-row (readRows most f asked []) P room (read-numbered most f asked [] refl)
-    ∙ ap (λ (rs : List Row). outcomeBy (given rs) P) behind))
+    ∙ ap (λ (rs : List Row). outcomeBy (given rs) P) (sym (read-below most f asked [] (row 37 (ltb room (length P)) ∷ [])))))
     (ordered (readRows most f asked (row 37 (ltb room (length P)) ∷ [])) P (read-numbered most f asked (row 37 (ltb room (length P)) ∷ []) refl))
   where
     P : List ℕ
     P = payloadOf (blocksIn f) f
-
-    B : List Row → List Row
-    B rs = blocksRows (blocksIn f) (getD f 0 0) 0 (blocksIn f) f rs
-
-    R : Row
-    R = row 37 (ltb room (length (payloadOf (blocksIn f) f)))
-
-    Q : Row
-    Q = row 35 (not (eqb (getD f 0 0) asked))
-
-    behind : readRows most f asked [] ++ (R ∷ []) ≡ readRows most f asked (R ∷ [])
-    behind =
-        ap (λ (rs : List Row). row 30 (lengthWrong most (length f)) ∷ rs)
-        (ap (λ (rs : List Row). rs ++ (R ∷ [])) (blocks-append (blocksIn f) (getD f 0 0) 0 (blocksIn f) f (Q ∷ []))
-        ∙ append-assoc (B []) (Q ∷ []) (R ∷ [])
-        ∙ sym (blocks-append (blocksIn f) (getD f 0 0) 0 (blocksIn f) f (Q ∷ R ∷ [])))

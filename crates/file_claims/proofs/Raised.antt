@@ -12,11 +12,11 @@ use Rattle.file_block.specs.Block.{isLetter}
 use Rattle.file_codec.specs.File.{refused, outcomeBy, fileOf, payloadWrong, writerOf, lengthWrong, blocksIn, blocksRows, payloadOf, readerOf}
 
 -- a length up to the lower limit is judged alike, one past it is wrong
-same-length : (m n size : ℕ) → m ≤ n → size ≤ 512 * m → lengthWrong m size ≡ lengthWrong n size
+pub same-length : (m n size : ℕ) → m ≤ n → size ≤ 512 * m → lengthWrong m size ≡ lengthWrong n size
 unfolding lengthWrong
 same-length m n size l h = simp (le-ltb (512 * m) size h, le-ltb (512 * n) size (omega arith))
 
-long-wrong : (m size : ℕ) → 512 * m < size → lengthWrong m size ≡ true
+pub long-wrong : (m size : ℕ) → 512 * m < size → lengthWrong m size ≡ true
 unfolding lengthWrong
 long-wrong m size h = simp (lt-ltb (512 * m) size h) (go (eqb size 0) (not (eqb (size % 512) 0)))
   where

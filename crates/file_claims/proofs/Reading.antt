@@ -151,3 +151,16 @@ read-written most ℓ f p bytes e =
     ∙ ap (blocksOf n (getD f 0 0) 0 n) (sym (o .3))
     ∙ sym (b .0) in
     writer-made most ℓ p (ap isLetter (sym (o .2)) ∙ b .1) (payload-fits most (length p) (omega arith) (omega arith)) ∙ ap made same
+
+-- what is read, of any list of numbers: its letter is the one asked, and the payload has 1 byte up to 505 for each block of the limit
+pub read-holds : (most ℓ : ℕ) (f p : List ℕ) → readerOf most f ℓ ≡ made p → (getD f 0 0 ≡ ℓ) × (0 < length p) × (length p ≤ 505 * most)
+read-holds most ℓ f p e =
+    let o = reader-lets most f ℓ p e in
+    let n = blocksIn f in
+    let r = length-right most (length f) (o .0) in
+    let s : 0 + n ≡ n = omega arith in
+    let z = sized n (getD f 0 0) 0 n f (r .1) s (r .0) (o .1) in
+    let lp : length p ≡ length (payloadOf n f) = ap length (sym (o .3)) in
+    let up : length p ≤ 505 * n = omega (arith, z .most) in
+    let low : 505 * n < length p + 505 = omega (arith, z .least) in
+    (o .2, omega arith, omega arith)

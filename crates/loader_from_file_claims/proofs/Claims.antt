@@ -6,7 +6,7 @@ use mathlib.Core.Logic.{_↔_}
 use Prim.Native.Nat.{ℕ, _*_, _≤_, _<_}
 use lib.ListN.{length, getD, set, replicate}
 use Rattle.common.specs.Lists.{Bytes}
-use Rattle.common.specs.Numbers.{NoRow}
+use Rattle.common.specs.Numbers.{given, NoRow}
 use Rattle.device.specs.declared.Device.{Device}
 use Rattle.model_types.specs.declared.Pins.{Pins}
 use Rattle.model_types.specs.declared.State.{State}
@@ -15,10 +15,12 @@ use Rattle.loader.specs.Stages.{isEnded}
 use Rattle.loader_run.specs.Runs.{lentRows, lentVerify}
 use Rattle.loader_run_claims.specs.Wear.{heldIn}
 use Rattle.file_codec.specs.File.{limit, refused, made, readerOf, writerOf}
-use Rattle.loader_from_file.specs.Loads.{loadNumber, wantedOf, loadRows, loadMade, loadRefused, fileLeftAt, verifyLeft}
+use Rattle.loader_from_file.specs.Loads.{loadNumber, wantedOf, fileRows, loadRows, loadMade, loadRefused, fileLeftAt, verifyLeft}
 use Rattle.loader_from_file_claims.specs.Through.{firstOf, FileStart, FileLoaded}
+use Rattle.loader_from_file_claims.specs.Stored.{fileRowsAt}
 use Rattle.loader_from_file_claims.proofs.Through as through
 use Rattle.loader_from_file_claims.proofs.Kept as kept
+use Rattle.loader_from_file_claims.proofs.Stored as stored
 
 -- Demand 3 through a file: from a load that nothing refuses, with VPP high and the boot block unlocked if it is the one, it
 -- ends well in as many cycles as the formula says; the block, wanted and scratch then hold the file and FFH to their ends, and every
@@ -56,3 +58,8 @@ changed-byte-31 = kept.changed-byte-31
 pub blank-38 : (stage : Stage) (verify : Bool) → isEnded stage ≡ false → (d : Device) (s : State) (p : Pins) (k : ℕ) (xs w sc : List ℕ) (n asked : ℕ) → 0 < n → n ≤ limit
     → NoRow (lentRows d s p k (length xs) (length w) (length sc)) → 512 * n ≤ length w → fileLeftAt stage verify d s p k xs w sc (replicate (512 * n) 255) asked ≡ loadRefused 38 s xs w sc
 blank-38 = kept.blank-38
+
+-- A stored file, of at most 4,096 bytes, meets in a load and in a verify the tests that it met with a limit of eight blocks, whatever the block's
+-- length, so it is loaded or refused as it was; a longer one was refused 30.
+pub stored-load : (f : List ℕ) (asked n : ℕ) → (length f ≤ 4096 → fileRowsAt 8 f asked n ≡ fileRows f asked n) × (4096 < length f → given (fileRowsAt 8 f asked n) ≡ 30)
+stored-load f asked n = (stored.tests-alike f asked n, stored.longer-30 f asked n)

@@ -7,12 +7,11 @@ use lib.ListN.{length}
 use Rattle.common.specs.Choice.{Unique}
 use Rattle.common.proofs.Choice.{only}
 use Rattle.file_codec.specs.File.{limit, readerOf, inRoom, leftIn}
-use Rattle.reading.specs.declared.Reading.{Reading}
 use Rattle.reading.specs.declared.ReadingAnswer.{ReadingAnswer}
-use Rattle.reading.specs.Readings.{readingOf, answerAs}
+use Rattle.reading.specs.Readings.{readingAnswer, answerAs}
 
-pub reading-at-unique : (p : List ℕ) (x : ℤ) → Unique (λ (r : Reading). r ≡ readingOf p x)
-reading-at-unique p x = only (readingOf p x)
+pub reading-at-unique : (p : List ℕ) (x : ℤ) → Unique (λ (r : ReadingAnswer). r ≡ readingAnswer p x)
+reading-at-unique p x = only (readingAnswer p x)
 
 pub reading-from-file-unique : (f : List ℕ) (letter : ℕ) (room : List ℕ) (x : ℤ) → Unique (λ (r : ReadingAnswer). r ≡ answerAs x (inRoom (length room) (readerOf limit f letter)))
 reading-from-file-unique f letter room x = only (answerAs x (inRoom (length room) (readerOf limit f letter)))

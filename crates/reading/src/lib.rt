@@ -8,7 +8,7 @@ ghost use lib.Signed.{ltZ};
 ghost use lib.Ieee.{ofInt, binary64};
 ghost use Rattle.file_codec.specs.File.{limit, readerOf, inRoom, leftIn};
 ghost use Rattle.reading_table.specs.Table.{voltsOf};
-ghost use Rattle.reading.specs.Readings.{heatOf, pairAt, readingOf, tableAnswer, answerAs};
+ghost use Rattle.reading.specs.Readings.{heatOf, pairAt, readingAnswer, tableAnswer, answerAs};
 
 // A temperature in tenths of a degree; or the voltage is below or above the table, with the end knot's temperature.
 pub enum Reading {
@@ -65,41 +65,33 @@ fn pair_at(s: &[u8], i: usize) -> Pair
     reading_pair::pair_of(x0, t0, x1, t1)
 }
 
-// Where there are fewer than two knots: by knot 0 alone.
-fn alone(payload: &[u8], x: i32) -> Reading
-    requires { ⌜ length (now payload) / 6 < 2 ⌝ }
-    ensures { λ r. ⌜ r ≡ readingOf (now (payload .entry)) x ⌝ }
+// The reading at x by a payload that need not have been judged: 40 by its length, and 41 where a knot that the reading is made of
+// is out of range or does not rise.
+pub fn reading_at(payload: &[u8], x: i32) -> ReadingAnswer
+    ensures { λ r. ⌜ r ≡ readingAnswer (now (payload .entry)) x ⌝ }
 {
+    if reading_table::shape_wrong(payload) {
+        return ReadingAnswer::Refused(40);
+    }
+    let last = payload.len() / 6 - 1;
+    if !reading_table::rises_to(payload, 0, last) {
+        return ReadingAnswer::Refused(41);
+    }
     if under(payload, 0, x) {
-        return Reading::Below(heat(payload, 0));
-    }
-    if over(payload, 0, x) {
-        return Reading::Above(heat(payload, 0));
-    }
-    Reading::Temperature(heat(payload, 0))
-}
-
-// The reading at x by a payload that was judged. It takes any other too; fewer than two knots are read as a knot alone.
-pub fn reading_at(payload: &[u8], x: i32) -> Reading
-    ensures { λ r. ⌜ r ≡ readingOf (now (payload .entry)) x ⌝ }
-{
-    let n = payload.len() / 6;
-    if n < 2 {
-        return alone(payload, x);
-    }
-    let last = n - 1;
-    if under(payload, 0, x) {
-        return Reading::Below(heat(payload, 0));
+        return ReadingAnswer::Read(Reading::Below(heat(payload, 0)));
     }
     if over(payload, last, x) {
-        return Reading::Above(heat(payload, last));
+        return ReadingAnswer::Read(Reading::Above(heat(payload, last)));
     }
     let i = reading_table::seek(payload, x);
+    if !reading_table::rises_to(payload, i, i + 1) {
+        return ReadingAnswer::Refused(41);
+    }
     let p = pair_at(payload, i);
-    Reading::Temperature(reading_pair::interpolate(p, wide(x)))
+    ReadingAnswer::Read(Reading::Temperature(reading_pair::interpolate(p, wide(x))))
 }
 
-// A payload is judged, then read.
+// A payload is judged as a whole, then read: what the reading tests again, it finds well.
 fn judged_reading(payload: &[u8], x: i32) -> ReadingAnswer
     ensures { λ r. ⌜ r ≡ tableAnswer (now (payload .entry)) x ⌝ }
 {
@@ -107,7 +99,7 @@ fn judged_reading(payload: &[u8], x: i32) -> ReadingAnswer
     if n != 0 {
         return ReadingAnswer::Refused(n);
     }
-    ReadingAnswer::Read(reading_at(payload, x))
+    reading_at(payload, x)
 }
 
 // The reading at x straight from a file: the reader for the letter asked, into the front of room, then the table.

@@ -25,7 +25,7 @@ use Rattle.reading_claims.proofs.Judged.{size, upto, not-later}
 
 -- inside a table the reading is a temperature: that of the pair found
 pub inside-reads : (p : List ℕ) (x : ℤ) → Table p → Inside p x → readingOf p x ≡ Temperature (interpolated (pairAt p (seekOf p x)) (ofInt binary64 x))
-inside-reads p x t h = sym (reads-between p x (no-lt x (voltsOf p 0) (h .0)) (no-lt (voltsOf p (knots p - 1)) x (h .1)) (t .two))
+inside-reads p x t h = sym (reads-between p x (no-lt x (voltsOf p 0) (h .0)) (no-lt (voltsOf p (knots p - 1)) x (h .1)))
 
 module _ (p : List ℕ) (t : Table p) (i : ℕ) (h : i + 1 < knots p) where
   abbrev apart : T (ltZ (voltsOf p i) (voltsOf p (i + 1)))

@@ -1,54 +1,30 @@
 -- A reading from a file: its refusals in their order, what they leave, and the letter. Assumes nothing.
-use mathlib.Core.Path.{_≡_, refl, sym, ap, _∙_}
-use mathlib.Core.Bool.{Bool, true, false, not}
+use mathlib.Core.Path.{_≡_, refl, sym, ap, _∙_, subst}
+use mathlib.Core.Bool.{Bool, true, false}
 use mathlib.Core.Logic.{_↔_}
-use mathlib.Core.List.{List, [], _∷_, _++_, append-assoc}
+use mathlib.Core.List.{List, [], _∷_, _++_}
 use Prim.Native.Nat.{ℕ, _*_, _≤_, _<_}
 use native.Mathlib.Omega.{arith}
 use lib.Dec.{eqb, ltb}
 use lib.IntN.{ℤ}
 use lib.ListN.{length, getD, drop, replicate}
-use borrow.Author.Tests.{eq-eqb, ne-eqb, eqb-true, eqb-false}
+use borrow.Author.Tests.{eqb-true, eqb-false, le-ltb}
 use Rattle.common.specs.Choice.{if_then_else_}
 use Rattle.common.proofs.Choice.{if-true, if-false}
 use Rattle.common.specs.Numbers.{Row, row, given, Foremost, NoRow, numbered}
-use Rattle.common.proofs.Numbers.{given-append, given-foremost, foremost-given, given-no-row, no-row-given}
-use Rattle.file_codec.specs.File.{Outcome, refused, made, limit, lengthWrong, readerOf, writerOf, inRoom, leftIn, blocksRows, blocksIn, outcomeBy}
-use Rattle.file_codec.proofs.Tables.{blocks-append, blocks-numbered}
-use Rattle.file_codec.proofs.Outcomes.{outcome-refused, outcome-made, reader-lets, length-right, room-made}
-use Rattle.file_codec.proofs.Sizes.{sized}
+use Rattle.common.proofs.Numbers.{given-append, given-foremost, given-no-row}
+use Rattle.file_codec.specs.File.{Outcome, refused, made, limit, readerOf, writerOf, inRoom, leftIn, outcomeBy}
 use Rattle.file_claims.specs.Tabled.{Ordered}
 use Rattle.file_claims.proofs.Claims as file-claims
 use Rattle.reading_table.specs.Table.{knots, mostKnots, tableRows, tableNumber}
 use Rattle.reading.specs.declared.Reading.{Reading}
 use Rattle.reading.specs.declared.ReadingAnswer.{ReadingAnswer}
 use Rattle.reading.specs.declared.ReadingAnswer.the-variants.{Read, Refused}
-use Rattle.reading.specs.Readings.{readingOf, tableAnswer, answerAs}
-use Rattle.reading_claims.specs.Answers.{payloadIn, answerFrom, roomLeft, readerRows, answerRows}
-
--- an answer by a number: 0 lets the reading through
-abbrev answerBy : ℕ → Reading → ReadingAnswer
-answerBy n r = if eqb n 0 then Read r else Refused n
-
-by-refused : (n m : ℕ) (r : Reading) → answerBy n r ≡ Refused m → n ≡ m
-by-refused n m r e = go (eqb n 0) refl
-  where
-    go : (t : Bool) → eqb n 0 ≡ t → n ≡ m
-    go true q = absurd (let w : Read r ≡ Refused m = sym (if-true (eqb n 0) (Read r) (Refused n) q) ∙ e in let z : _≡_ {A = ℕ} 0 1 = cc in omega arith)
-    go false q = let w : Refused n ≡ Refused m = sym (if-false (eqb n 0) (Read r) (Refused n) q) ∙ e in cc
-
-by-read : (n : ℕ) (r s : Reading) → answerBy n r ≡ Read s → (n ≡ 0) × (s ≡ r)
-by-read n r s e = go (eqb n 0) refl
-  where
-    go : (t : Bool) → eqb n 0 ≡ t → (n ≡ 0) × (s ≡ r)
-    go true q = (eqb-true n 0 q, let w : Read r ≡ Read s = sym (if-true (eqb n 0) (Read r) (Refused n) q) ∙ e in cc)
-    go false q = absurd (let w : Refused n ≡ Read s = sym (if-false (eqb n 0) (Read r) (Refused n) q) ∙ e in let z : _≡_ {A = ℕ} 0 1 = cc in omega arith)
-
-refuses-by : (n : ℕ) (r : Reading) → (n ≡ 0 → ⊥) → answerBy n r ≡ Refused n
-refuses-by n r z = if-false (eqb n 0) (Read r) (Refused n) (ne-eqb n 0 z)
-
-reads-by : (n : ℕ) (r : Reading) → n ≡ 0 → answerBy n r ≡ Read r
-reads-by n r z = if-true (eqb n 0) (Read r) (Refused n) (eq-eqb n 0 z)
+use Rattle.reading.specs.Readings.{readingOf, answerBy, tableAnswer, answerAs}
+use Rattle.reading_claims.specs.Answers.{degrees, payloadIn, answerFrom, roomLeft, readerRows, answerRows}
+use Rattle.reading_claims.proofs.By.{by-read, refused-by-rows, read-by-rows}
+use Rattle.reading_claims.proofs.Judged.{judged-table}
+use Rattle.reading_claims.proofs.Bounds.{Plain, plain-reading}
 
 module _ (f : List ℕ) (letter : ℕ) (room : List ℕ) where
   abbrev outcome : Outcome
@@ -62,21 +38,11 @@ module _ (f : List ℕ) (letter : ℕ) (room : List ℕ) where
 
   -- no row has the number 0
   rows-numbered : (rest : List Row) → numbered rest ≡ true → numbered (readerRows f letter (length room) rest) ≡ true
-  rows-numbered rest m = blocks-numbered (blocksIn f) (getD f 0 0) 0 (blocksIn f) f (row 35 (not (eqb (getD f 0 0) letter)) ∷ row 37 (ltb (length room) (length (payloadIn f))) ∷ rest) ∙ m
+  rows-numbered rest m = file-claims.rows-numbered limit f letter (row 37 (ltb (length room) (length (payloadIn f))) ∷ rest) m
 
   -- the table's rows stand below the reader's
   below-reader : (rest : List Row) → readerRows f letter (length room) rest ≡ before ++ rest
-  below-reader rest =
-      ap (λ (rs : List Row). row 30 (lengthWrong limit (length f)) ∷ rs)
-      (blocks-append (blocksIn f) (getD f 0 0) 0 (blocksIn f) f (A ∷ B ∷ rest)
-      ∙ sym (append-assoc (blocksRows (blocksIn f) (getD f 0 0) 0 (blocksIn f) f []) (A ∷ B ∷ []) rest)
-      ∙ ap (λ (rs : List Row). rs ++ rest) (sym (blocks-append (blocksIn f) (getD f 0 0) 0 (blocksIn f) f (A ∷ B ∷ []))))
-    where
-      A : Row
-      A = row 35 (not (eqb (getD f 0 0) letter))
-
-      B : Row
-      B = row 37 (ltb (length room) (length (payloadIn f)))
+  below-reader rest = file-claims.rows-below limit f letter (row 37 (ltb (length room) (length (payloadIn f))) ∷ []) rest
 
   -- the reader's outcome by its rows
   outcome-is : outcome ≡ outcomeBy (given before) (payloadIn f)
@@ -85,10 +51,10 @@ module _ (f : List ℕ) (letter : ℕ) (room : List ℕ) where
       go : (t : Bool) → eqb (given before) 0 ≡ t → outcome ≡ outcomeBy (given before) (payloadIn f)
       go true q =
           let z : given before ≡ 0 = eqb-true (given before) 0 q in
-          order .lets .1 (given-no-row before (rows-numbered [] refl) z) ∙ sym (outcome-made (given before) (payloadIn f) z)
+          order .lets .1 (given-no-row before (rows-numbered [] refl) z) ∙ sym (if-true (eqb (given before) 0) (made (payloadIn f)) (refused (given before)) q)
       go false q =
           let z : given before ≡ 0 → ⊥ = eqb-false (given before) 0 q in
-          order .refuses (given before) .1 (given-foremost before (given before) z refl) ∙ sym (outcome-refused (given before) (payloadIn f) z)
+          order .refuses (given before) .1 (given-foremost before (given before) z refl) ∙ sym (if-false (eqb (given before) 0) (made (payloadIn f)) (refused (given before)) q)
 
   -- the answer by all rows
   answer-is : (x : ℤ) → answerFrom f letter room x ≡ answerBy (given (answerRows f letter (length room))) (readingOf (payloadIn f) x)
@@ -103,19 +69,14 @@ module _ (f : List ℕ) (letter : ℕ) (room : List ℕ) where
 
   -- refused by a number exactly where its row is the first that holds, read exactly where none holds
   pub refused-exactly : (x : ℤ) (n : ℕ) → (n ≡ 0 → ⊥) → answerFrom f letter room x ≡ Refused n ↔ Foremost (answerRows f letter (length room)) n
-  refused-exactly x n z = (
-    λ (e : answerFrom f letter room x ≡ Refused n). given-foremost (answerRows f letter (length room)) n z (by-refused (given (answerRows f letter (length room))) n (readingOf (payloadIn f) x) (sym (answer-is x) ∙ e)),
-    λ (h : Foremost (answerRows f letter (length room)) n). answer-is x ∙ ap (λ (m : ℕ). answerBy m (readingOf (payloadIn f) x)) (foremost-given h) ∙ refuses-by n (readingOf (payloadIn f) x) z,
-  )
+  refused-exactly x n z =
+      subst (λ (a : ReadingAnswer). a ≡ Refused n ↔ Foremost (answerRows f letter (length room)) n) (sym (answer-is x))
+      (refused-by-rows (answerRows f letter (length room)) (readingOf (payloadIn f) x) n z)
 
   pub read-exactly : (x : ℤ) (r : Reading) → answerFrom f letter room x ≡ Read r ↔ (NoRow (answerRows f letter (length room)) × (r ≡ readingOf (payloadIn f) x))
-  read-exactly x r = (
-    λ (e : answerFrom f letter room x ≡ Read r).
-        let b = by-read (given (answerRows f letter (length room))) (readingOf (payloadIn f) x) r (sym (answer-is x) ∙ e) in
-        (given-no-row (answerRows f letter (length room)) (rows-numbered (tableRows (payloadIn f)) refl) (b .0), b .1),
-    λ (h : NoRow (answerRows f letter (length room)) × (r ≡ readingOf (payloadIn f) x)).
-        answer-is x ∙ reads-by (given (answerRows f letter (length room))) (readingOf (payloadIn f) x) (no-row-given (h .0)) ∙ ap Read (sym (h .1)),
-  )
+  read-exactly x r =
+      subst (λ (a : ReadingAnswer). a ≡ Read r ↔ (NoRow (answerRows f letter (length room)) × (r ≡ readingOf (payloadIn f) x))) (sym (answer-is x))
+      (read-by-rows (answerRows f letter (length room)) (readingOf (payloadIn f) x) (rows-numbered (tableRows (payloadIn f)) refl) r)
 
   -- what is left: nothing is touched where the reader refuses; where it does not, the payload is in the front of the room
   pub reader-leaves : (n : ℕ) → Foremost before n → (x : ℤ) → (answerFrom f letter room x ≡ Refused n) × (roomLeft f letter room ≡ room)
@@ -137,24 +98,27 @@ module _ (f : List ℕ) (letter : ℕ) (room : List ℕ) where
       go true w = absurd (let y : refused 37 ≡ made p = sym (if-true (ltb (length room) (length q)) (refused 37) (made q) w) ∙ e in let z : _≡_ {A = ℕ} 0 1 = cc in omega arith)
       go false w = sym (if-false (ltb (length room) (length q)) (refused 37) (made q) w) ∙ e
 
+  -- a reading from a file is that of a table: plain, and never refused by the search
+  pub read-plain : (x : ℤ) (r : Reading) → answerFrom f letter room x ≡ Read r → Plain (degrees r)
+  unfolding tableAnswer
+  read-plain x r e =
+      let m = made-of x r outcome e in
+      let b = by-read (tableNumber (m .0)) (readingOf (m .0) x) r (sym (ap (answerAs x) (m .1)) ∙ e) in
+      subst (λ (s : Reading). Plain (degrees s)) (sym (b .1)) (plain-reading (m .0) x (judged-table (m .0) (b .0)))
+
   -- a file that gives a reading has the letter asked for
   pub letter-is : (x : ℤ) (r : Reading) → answerFrom f letter room x ≡ Read r → getD f 0 0 ≡ letter
   letter-is x r e =
       let m = made-of x r outcome e in
-      reader-lets limit f letter (m .0) (through (readerOf limit f letter) (m .0) (m .1)) .2
+      file-claims.read-holds limit letter f (m .0) (through (readerOf limit f letter) (m .0) (m .1)) .0
 
 -- a payload that the reader gives has at most the knots of the limit
 pub few-knots : (f : List ℕ) (letter : ℕ) (p : List ℕ) → readerOf limit f letter ≡ made p → knots p ≤ mostKnots
-few-knots f letter p e =
-    let l = reader-lets limit f letter p e in
-    let n = length-right limit (length f) (l .0) in
-    let s = sized (blocksIn f) (getD f 0 0) 0 (blocksIn f) f (n .1) (omega arith) (n .0) (l .1) in
-    let q : length p ≡ length (payloadIn f) = ap length (sym (l .3)) in
-    omega (arith, s .most, n .2, q)
+few-knots f letter p e = let h = file-claims.read-holds limit letter f p e .2 in omega (arith, h)
 
 -- a table written under a letter is read under it, and refused 35 under every other
 pub written-reads : (letter : ℕ) (p f room : List ℕ) (x : ℤ) → writerOf limit letter p ≡ made f → length p ≤ length room → answerFrom f letter room x ≡ tableAnswer p x
-written-reads letter p f room x w h = ap (λ (o : Outcome). answerAs x (inRoom (length room) o)) (file-claims.comes-back limit letter p f w) ∙ ap (answerAs x) (room-made (length room) p h)
+written-reads letter p f room x w h = ap (λ (o : Outcome). answerAs x (inRoom (length room) o)) (file-claims.comes-back limit letter p f w) ∙ ap (answerAs x) (if-false (ltb (length room) (length p)) (refused 37) (made p) (le-ltb (length room) (length p) h))
 
 -- a file that the reader refuses gives no reading, and leaves the room
 refuses : (f : List ℕ) (asked : ℕ) (room : List ℕ) (x : ℤ) (n : ℕ) → readerOf limit f asked ≡ refused n → (answerFrom f asked room x ≡ Refused n) × (roomLeft f asked room ≡ room)
@@ -166,3 +130,10 @@ written-other letter p f room x w asked z = refuses f asked room x 35 (file-clai
 pub blank-read : (n asked : ℕ) (room : List ℕ) (x : ℤ) → 0 < n → n ≤ limit
     → (answerFrom (replicate (512 * n) 255) asked room x ≡ Refused 38) × (roomLeft (replicate (512 * n) 255) asked room ≡ room)
 blank-read n asked room x z l = refuses (replicate (512 * n) 255) asked room x 38 (file-claims.blank-file limit n asked z l)
+
+-- a stored file, of at most 4,096 bytes, is read as it was at eight blocks; one that was read then gives its reading
+pub stored-reads : (f : List ℕ) (letter : ℕ) (room : List ℕ) (x : ℤ) → length f ≤ 4096
+    → (answerAs x (inRoom (length room) (readerOf 8 f letter)) ≡ answerFrom f letter room x) × (leftIn room (inRoom (length room) (readerOf 8 f letter)) ≡ roomLeft f letter room)
+stored-reads f letter room x h =
+    let e = file-claims.stored-files letter f .0 h in
+    (ap (λ (o : Outcome). answerAs x (inRoom (length room) o)) e, ap (λ (o : Outcome). leftIn room (inRoom (length room) o)) e)

@@ -1,8 +1,13 @@
 pub mod Judged
 pub mod Held
+pub mod By
 pub mod Exact
 pub mod Sides
+pub mod Paired
 pub mod Bounds
+pub mod Products
 pub mod Warm
+pub mod Unjudged
 pub mod Files
+pub mod Longest
 pub mod Claims

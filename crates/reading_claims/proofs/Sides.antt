@@ -27,13 +27,13 @@ pub data Side (p : List ℕ) (x : ℤ) : Type 0 where
   over : T (ltZ (voltsOf p (knots p - 1)) x) → readingOf p x ≡ Above (heatOf p (knots p - 1)) → Side p x
   within : Inside p x → readingOf p x ≡ Temperature (interpolated (pairAt p (seekOf p x)) (ofInt binary64 x)) → Side p x
 
-pub side : (p : List ℕ) (x : ℤ) → Table p → Side p x
-side p x t = go (ltZ x (voltsOf p 0)) refl (ltZ (voltsOf p (knots p - 1)) x) refl
+pub side : (p : List ℕ) (x : ℤ) → Side p x
+side p x = go (ltZ x (voltsOf p 0)) refl (ltZ (voltsOf p (knots p - 1)) x) refl
   where
     go : (a : Bool) → ltZ x (voltsOf p 0) ≡ a → (b : Bool) → ltZ (voltsOf p (knots p - 1)) x ≡ b → Side p x
     go true e b f = under (subst T (sym e) tt) (sym (reads-below p x e))
     go false e true f = over (subst T (sym f) tt) (sym (reads-above p x e f))
-    go false e false f = within (not-lt x (voltsOf p 0) e, not-lt (voltsOf p (knots p - 1)) x f) (sym (reads-between p x e f (t .two)))
+    go false e false f = within (not-lt x (voltsOf p 0) e, not-lt (voltsOf p (knots p - 1)) x f) (sym (reads-between p x e f))
 
 -- the sides exclude each other
 under-not-inside : (p : List ℕ) (x : ℤ) → T (ltZ x (voltsOf p 0)) → Inside p x → ⊥
@@ -64,7 +64,7 @@ case (Above r) = 2
 module _ (p : List ℕ) (x : ℤ) (t : Table p) (r : Float) where
   pub below-exactly : readingOf p x ≡ Below r ↔ (T (ltZ x (voltsOf p 0)) × (r ≡ heatOf p 0))
   unfolding case
-  below-exactly = (λ e. forth e (side p x t), λ h. back h (side p x t))
+  below-exactly = (λ e. forth e (side p x), λ h. back h (side p x))
     where
       forth : readingOf p x ≡ Below r → Side p x → T (ltZ x (voltsOf p 0)) × (r ≡ heatOf p 0)
       forth e (under u q) = (u, sym (ap degrees (sym q ∙ e)))
@@ -78,7 +78,7 @@ module _ (p : List ℕ) (x : ℤ) (t : Table p) (r : Float) where
 
   pub above-exactly : readingOf p x ≡ Above r ↔ (T (ltZ (voltsOf p (knots p - 1)) x) × (r ≡ heatOf p (knots p - 1)))
   unfolding case
-  above-exactly = (λ e. forth e (side p x t), λ h. back h (side p x t))
+  above-exactly = (λ e. forth e (side p x), λ h. back h (side p x))
     where
       forth : readingOf p x ≡ Above r → Side p x → T (ltZ (voltsOf p (knots p - 1)) x) × (r ≡ heatOf p (knots p - 1))
       forth e (under u q) = absurd (let z : _≡_ {A = ℕ} 1 2 = ap case (sym q ∙ e) in omega arith)
@@ -92,7 +92,7 @@ module _ (p : List ℕ) (x : ℤ) (t : Table p) (r : Float) where
 
   pub temperature-exactly : readingOf p x ≡ Temperature r ↔ (Inside p x × (r ≡ interpolated (pairAt p (seekOf p x)) (ofInt binary64 x)))
   unfolding case
-  temperature-exactly = (λ e. forth e (side p x t), λ h. back h (side p x t))
+  temperature-exactly = (λ e. forth e (side p x), λ h. back h (side p x))
     where
       forth : readingOf p x ≡ Temperature r → Side p x → Inside p x × (r ≡ interpolated (pairAt p (seekOf p x)) (ofInt binary64 x))
       forth e (under u q) = absurd (let z : _≡_ {A = ℕ} 1 0 = ap case (sym q ∙ e) in omega arith)

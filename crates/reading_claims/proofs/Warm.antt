@@ -27,7 +27,7 @@ use Rattle.reading_claims.proofs.Judged.{size, upto}
 use Rattle.reading_claims.proofs.Held.{found-holds, upper}
 use Rattle.reading_claims.proofs.Exact.{lower-exact}
 use Rattle.reading_claims.proofs.Sides.{Side, under, over, within, side}
-use Rattle.reading_claims.proofs.Bounds.{small, lies-up, Plain, plain-inside, plain-knot}
+use Rattle.reading_claims.proofs.Bounds.{small, lies-up, Plain, plain-inside, plain-heat}
 
 -- inside a pair
 module _ (p : List ℕ) (t : Table p) (i : ℕ) (h : i + 1 < knots p) (x y : ℤ) (a : T (leZ (voltsOf p i) x)) (o : T (leZ x y)) (b : T (leZ y (voltsOf p (i + 1)))) where
@@ -69,12 +69,12 @@ module _ (p : List ℕ) (t : Table p) (w : Warming p) where
       (lies-up p t i h (voltsOf p i) (≤ℤ-refl (voltsOf p i) .le) (lt-le (voltsOf p i) (voltsOf p (i + 1)) (t .rises i h)) (w i h) .1)
 
   knots-rise : (i j : ℕ) → i ≤ j → j < knots p → T (le (heatOf p i) (heatOf p j))
-  knots-rise i zero l h = let e : i ≡ 0 = omega (arith, l) in subst (λ (k : ℕ). T (le (heatOf p k) (heatOf p 0))) (sym e) (le-self (heatOf p 0) (plain-knot p t 0 h .0))
+  knots-rise i zero l h = let e : i ≡ 0 = omega (arith, l) in subst (λ (k : ℕ). T (le (heatOf p k) (heatOf p 0))) (sym e) (le-self (heatOf p 0) (plain-heat p 0 .0))
   knots-rise i (suc j) l h =
       let e : j + 1 ≡ suc j = omega arith in
       let s : T (le (heatOf p j) (heatOf p (suc j))) = subst (λ (k : ℕ). T (le (heatOf p j) (heatOf p k))) e (next j (omega (arith, h))) in
-      ⊎-elim (λ (d : i ≡ suc j). subst (λ (k : ℕ). T (le (heatOf p k) (heatOf p (suc j)))) (sym d) (le-self (heatOf p (suc j)) (plain-knot p t (suc j) h .0)))
-      (λ (d : i < suc j). past (heatOf p i) (heatOf p j) (heatOf p (suc j)) (plain-knot p t i (omega (arith, d, h))) (plain-knot p t j (omega (arith, h))) (plain-knot p t (suc j) h) (knots-rise i j (omega (arith, d)) (omega (arith, h))) s)
+      ⊎-elim (λ (d : i ≡ suc j). subst (λ (k : ℕ). T (le (heatOf p k) (heatOf p (suc j)))) (sym d) (le-self (heatOf p (suc j)) (plain-heat p (suc j) .0)))
+      (λ (d : i < suc j). past (heatOf p i) (heatOf p j) (heatOf p (suc j)) (plain-heat p i) (plain-heat p j) (plain-heat p (suc j)) (knots-rise i j (omega (arith, d)) (omega (arith, h))) s)
       (eq-or-lt-of-le l)
 
   -- a reading inside the table, between the temperatures of its knots
@@ -97,10 +97,10 @@ module _ (p : List ℕ) (t : Table p) (w : Warming p) where
     from-first : T (le (heatOf p 0) R)
     from-first =
         let f = found .within in
-        past (heatOf p 0) (heatOf p (seekOf p x)) R (plain-knot p t 0 (omega (arith, f))) (plain-knot p t (seekOf p x) (omega (arith, f))) is-plain (knots-rise 0 (seekOf p x) zero-le (omega (arith, f))) from-lower
+        past (heatOf p 0) (heatOf p (seekOf p x)) R (plain-heat p 0) (plain-heat p (seekOf p x)) is-plain (knots-rise 0 (seekOf p x) zero-le (omega (arith, f))) from-lower
 
     to-knot : (j : ℕ) → seekOf p x + 1 ≤ j → j < knots p → T (le R (heatOf p j))
-    to-knot j l h = past R (heatOf p (seekOf p x + 1)) (heatOf p j) is-plain (plain-knot p t (seekOf p x + 1) (found .within)) (plain-knot p t j h) to-upper (knots-rise (seekOf p x + 1) j l h)
+    to-knot j l h = past R (heatOf p (seekOf p x + 1)) (heatOf p j) is-plain (plain-heat p (seekOf p x + 1)) (plain-heat p j) to-upper (knots-rise (seekOf p x + 1) j l h)
 
   -- two readings inside the table
   both : (x y : ℤ) (u : Inside p x) (v : Inside p y) → T (leZ x y) → T (le (interpolated (pairAt p (seekOf p x)) (ofInt binary64 x)) (interpolated (pairAt p (seekOf p y)) (ofInt binary64 y)))
@@ -110,7 +110,7 @@ module _ (p : List ℕ) (t : Table p) (w : Warming p) where
       go true e b f =
           let l = ltb-true (seekOf p x) (seekOf p y) e in
           let g = found y v .within in
-          past (R x u) (heatOf p (seekOf p y)) (R y v) (is-plain x u) (plain-knot p t (seekOf p y) (omega (arith, g))) (is-plain y v) (to-knot x u (seekOf p y) (omega (arith, l)) (omega (arith, g))) (from-lower y v)
+          past (R x u) (heatOf p (seekOf p y)) (R y v) (is-plain x u) (plain-heat p (seekOf p y)) (is-plain y v) (to-knot x u (seekOf p y) (omega (arith, l)) (omega (arith, g))) (from-lower y v)
       go false e true f =
           let l = ltb-true (seekOf p y) (seekOf p x) f in
           let g = found x u .within in
@@ -126,7 +126,7 @@ module _ (p : List ℕ) (t : Table p) (w : Warming p) where
 
   -- more voltage never reads lower
   pub table-rises : (x y : ℤ) → T (leZ x y) → T (le (degrees (readingOf p x)) (degrees (readingOf p y)))
-  table-rises x y o = go (side p x t) (side p y t)
+  table-rises x y o = go (side p x) (side p y)
     where
       end : knots p - 1 < knots p
       end = omega (arith, t .two)
@@ -135,7 +135,7 @@ module _ (p : List ℕ) (t : Table p) (w : Warming p) where
       both-are {a} {b} e f h = subst (λ (r : Reading). T (le (degrees r) (degrees (readingOf p y)))) (sym e) (subst (λ (r : Reading). T (le (degrees a) (degrees r))) (sym f) h)
 
       go : Side p x → Side p y → T (le (degrees (readingOf p x)) (degrees (readingOf p y)))
-      go (under u e) (under v f) = both-are e f (le-self (heatOf p 0) (plain-knot p t 0 (omega (arith, t .two)) .0))
+      go (under u e) (under v f) = both-are e f (le-self (heatOf p 0) (plain-heat p 0 .0))
       go (under u e) (within v f) = both-are e f (from-first y v)
       go (under u e) (over v f) = both-are e f (knots-rise 0 (knots p - 1) zero-le end)
       go (within u e) (under v f) = absurd (clash y (voltsOf p 0) x v (u .0) o)
@@ -143,4 +143,4 @@ module _ (p : List ℕ) (t : Table p) (w : Warming p) where
       go (within u e) (over v f) = let g = found x u .within in both-are e f (to-knot x u (knots p - 1) (omega (arith, g)) end)
       go (over u e) (under v f) = absurd (clash y (voltsOf p 0) x v (le-trans (voltsOf p 0) (voltsOf p (knots p - 1)) x (upto p t 0 (knots p - 1) zero-le end) (lt-le (voltsOf p (knots p - 1)) x u)) o)
       go (over u e) (within v f) = absurd (clash (voltsOf p (knots p - 1)) x y u o (v .1))
-      go (over u e) (over v f) = both-are e f (le-self (heatOf p (knots p - 1)) (plain-knot p t (knots p - 1) end .0))
+      go (over u e) (over v f) = both-are e f (le-self (heatOf p (knots p - 1)) (plain-heat p (knots p - 1) .0))

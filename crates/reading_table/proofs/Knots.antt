@@ -19,11 +19,11 @@ use Rattle.reading_table.specs.Table.{signed16, word16, voltsOf, tenthsO
 yes : {b : Bool} → b ≡ true → T b
 yes e = subst T (sym e) tt
 
-is : (b : Bool) → T b → b ≡ true
+pub is : (b : Bool) → T b → b ≡ true
 is true t = refl
 is false t = absurd t
 
-both : (a b : Bool) → (a && b) ≡ true → T a × T b
+pub both : (a b : Bool) → (a && b) ≡ true → T a × T b
 both true b e = (tt, yes e)
 both false b e = absurd (clash e)
   where

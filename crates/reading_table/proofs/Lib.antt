@@ -3,5 +3,6 @@ pub mod Signs
 pub mod Order
 pub mod Steps
 pub mod Seeking
+pub mod Judged
 pub mod Knots
 pub mod Unique

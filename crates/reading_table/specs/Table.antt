@@ -54,12 +54,16 @@ inRange v = leZ (negsuc 9999) v && leZ v (pos 80000)
 unfoldable pub goodAt : List ℕ → ℕ → Bool
 goodAt p i = if eqb i 0 then inRange (voltsOf p i) else (inRange (voltsOf p i) && ltZ (voltsOf p (i - 1)) (voltsOf p i))
 
--- the next k knots from knot i on are so
+-- knots i and j have microvolts in range, and those of j are above those of i
+unfoldable pub risesTo : List ℕ → ℕ → ℕ → Bool
+risesTo p i j = inRange (voltsOf p i) && (inRange (voltsOf p j) && ltZ (voltsOf p i) (voltsOf p j))
+
+-- the next k knots from knot i on are good
 unfoldable pub risingFrom : ℕ → ℕ → List ℕ → Bool
 risingFrom zero i p = true
 risingFrom (suc k) i p = goodAt p i && risingFrom k (i + 1) p
 
--- all knots are so
+-- all knots are good
 unfoldable pub risingOf : List ℕ → Bool
 unfolding risingFrom
 risingOf p = risingFrom (knots p) 0 p

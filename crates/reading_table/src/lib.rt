@@ -4,7 +4,7 @@ ghost use mathlib.Core.Bool.{not};
 ghost use Prim.Native.Nat.{_/_, _<_};
 ghost use lib.ListN.{length};
 ghost use lib.Signed.{ltZ, leZ};
-ghost use Rattle.reading_table.specs.Table.{signed32, signed16, word32, word16, voltsOf, tenthsOf, inRange, goodAt, risingOf, shapeWrong, tableNumber};
+ghost use Rattle.reading_table.specs.Table.{signed32, signed16, word32, word16, voltsOf, tenthsOf, inRange, goodAt, risesTo, risingOf, shapeWrong, tableNumber};
 ghost use Rattle.reading_table.specs.Search.{seekOf};
 
 // 32 bits as a signed number.
@@ -118,7 +118,19 @@ fn good_at(s: &[u8], i: usize) -> bool
     a & b
 }
 
-// Every knot is so.
+// The microvolts of two knots are in range, and those of the second are above those of the first. For any i and j, as they are read.
+pub fn rises_to(s: &[u8], i: usize, j: usize) -> bool
+    ensures { λ r. ⌜ r ≡ risesTo (now (s .entry)) i j ⌝ }
+{
+    let u = volts(s, i);
+    let v = volts(s, j);
+    let a = in_range(u);
+    let b = in_range(v);
+    let c = below(u, v);
+    a & (b & c)
+}
+
+// Every knot is good.
 fn rising(s: &[u8]) -> bool
     ensures { λ r. ⌜ r ≡ risingOf (now (s .entry)) ⌝ }
 {
@@ -136,7 +148,7 @@ fn rising(s: &[u8]) -> bool
 }
 
 // 40: the payload is no whole number of knots, or has fewer than two.
-fn shape_wrong(s: &[u8]) -> bool
+pub fn shape_wrong(s: &[u8]) -> bool
     ensures { λ r. ⌜ r ≡ shapeWrong (now (s .entry)) ⌝ }
 {
     let n = s.len();

@@ -167,7 +167,7 @@ fn write_row(row: &[u8], s: Sizes, payload: &[u8], file: &mut [u8]) -> Sizes {
 fn ask_payload(row: &[u8], kind: u8, payload: &[u8]) {
     let x = signed(first(row));
     if kind == b'R' {
-        tell_reading(reading::reading_at(payload, x));
+        tell_answer(reading::reading_at(payload, x));
         return;
     }
     if kind == b'S' {

@@ -3,9 +3,9 @@ use lib.IntN.{ℤ}
 use denote.Ref.{now}
 use mir.Syntax.{w32}
 use mir.ValLaws.{toZ-ofZ}
-use Rattle.reading.specs.declared.Reading.{Reading}
-use Rattle.reading.specs.Readings.{readingOf}
-use Rattle.c_readings.specs.Readings.{readingOut}
+use Rattle.reading.specs.declared.ReadingAnswer.{ReadingAnswer}
+use Rattle.reading.specs.Readings.{readingAnswer}
+use Rattle.c_readings.specs.Readings.{answerNumbers}
 use borrow.Author.Needs.{needs}
 use Rattle.c_functions.specs.Calls.{readingGiven}
 use Rattle.c_functions.proofs.tb_table_reading.Statement.{statement}
@@ -14,16 +14,16 @@ use Rattle.c_functions.proofs.tb_table_reading.Tie as tie
 reading-at-requires : tie.Need-reading-at-requires
 reading-at-requires c κs = search needs
 
-reading-out-requires : tie.Need-reading-out-requires
-reading-out-requires c κs = search needs
+answer-numbers-requires : tie.Need-answer-numbers-requires
+answer-numbers-requires c κs = search needs
 
 returns : tie.Need-returns
 unfolding readingGiven
 returns c =
     let s = c .before .before .before in
     let a = s .args in
-    c .reading-out .ensures ∙ ap (λ (x : Reading). readingOut x) (c .before .reading-at .ensures)
-    ∙ ap (λ (z : ℤ). readingOut (readingOf (now (a .payload)) z)) (toZ-ofZ w32 (a .microvolts) (s .fits .microvolts))
+    c .answer-numbers .ensures ∙ ap (λ (x : ReadingAnswer). answerNumbers x) (c .before .reading-at .ensures)
+    ∙ ap (λ (z : ℤ). answerNumbers (readingAnswer (now (a .payload)) z)) (toZ-ofZ w32 (a .microvolts) (s .fits .microvolts))
 
 pub tb-table-reading-spec : {M : Type 1} → statement M
-tb-table-reading-spec = tie.close (tie.spec reading-at-requires reading-out-requires returns)
+tb-table-reading-spec = tie.close (tie.spec reading-at-requires answer-numbers-requires returns)

@@ -1,10 +1,10 @@
-use mathlib.Core.Path.{ap, _∙_}
+use mathlib.Core.Path.{sym, ap, _∙_}
 use denote.Ref.{now}
 use mir.Syntax.{w32}
 use mir.ValLaws.{toZ-ofZ}
-use borrow.Author.Tests.{eq-eqb, ne-eqb}
-use Rattle.reading.specs.declared.ReadingAnswer.the-variants.{Read}
-use Rattle.reading.specs.Readings.{readingOf, tableAnswer}
+use borrow.Author.Tests.{ne-eqb}
+use Rattle.reading.specs.Readings.{readingAnswer, tableAnswer}
+use Rattle.reading.proofs.Ways.{judged-answer}
 use borrow.Author.Needs.{needs}
 use Rattle.reading.proofs.judged_reading.Statement.{statement}
 use Rattle.reading.proofs.judged_reading.Tie as tie
@@ -20,8 +20,10 @@ reading-at-requires : tie.Need-reading-at-requires
 reading-at-requires c κs = search needs
 
 returns-2 : tie.Need-returns-2
-unfolding tableAnswer
-returns-2 c = let a = c .before .before .before .before in simp (← c .before .before .judge-table .ensures, eq-eqb _ _ (c .before .if1 .left)) (ap Read (c .reading-at .ensures ∙ ap (readingOf (now (a .args .payload))) (toZ-ofZ w32 (a .args .x) (a .fits .x))))
+returns-2 c =
+    let a = c .before .before .before .before in
+    c .reading-at .ensures ∙ ap (readingAnswer (now (a .args .payload))) (toZ-ofZ w32 (a .args .x) (a .fits .x))
+    ∙ judged-answer (now (a .args .payload)) (a .args .x) (sym (c .before .before .judge-table .ensures) ∙ c .before .if1 .left)
 
 pub judged-reading-spec : {M : Type 1} → statement M
 judged-reading-spec =
