@@ -15,6 +15,7 @@ use Rattle.script_lines.specs.Words.{wordIn, isCloses, isEnds}
 use Rattle.script_lines.proofs.Forms.{word-traced, word-closes, word-opens}
 use Rattle.script_judge.specs.declared.Judged.{Judged}
 use Rattle.script_judge.specs.Judges.{faultAs, fineAs, follow, endOf, closeOf, capped, lineTurn, judge}
+use Rattle.script_judge.specs.Inner.{itemComes}
 
 -- one turn, at any number of lines left
 pub turn : (n ℓ : ℕ) (K : List ℕ) (p : ℕ) (e : Bool) (t : ℕ) (text : List ℕ) (w : Word) → wordIn n text ≡ w
@@ -59,14 +60,37 @@ module _ (n ℓ : ℕ) (K : List ℕ) (p : ℕ) (t : ℕ) (text : List ℕ) wher
   pub j-close : (q : ℕ) → wordIn n text ≡ Closes → judge n ℓ (q ∷ K) p false t text ≡ judge (n - 1) (ℓ + 1) K q false t (drop 2 text)
   j-close q h = turn n ℓ (q ∷ K) p false t text Closes h ∙ more n ℓ (judge (n - 1) (ℓ + 1) K q false t (drop 2 text)) (word-closes n text h .0)
 
-  pub j-item : (q : ℕ) → isCloses (wordIn n text) ≡ false → judge n ℓ (q ∷ K) p false t text ≡ judge n ℓ (q ∷ K) p true t text
-  j-item q h = by (wordIn n text) refl h where
-    by : (w : Word) → wordIn n text ≡ w → isCloses w ≡ false → judge n ℓ (q ∷ K) p false t text ≡ judge n ℓ (q ∷ K) p true t text
-    by Ends e f = turn n ℓ (q ∷ K) p false t text Ends e ∙ sym (turn n ℓ (q ∷ K) p true t text Ends e)
-    by Bad e f = turn n ℓ (q ∷ K) p false t text Bad e ∙ sym (turn n ℓ (q ∷ K) p true t text Bad e)
-    by Traced e f = turn n ℓ (q ∷ K) p false t text Traced e ∙ sym (turn n ℓ (q ∷ K) p true t text Traced e)
-    by (Opens m) e f = turn n ℓ (q ∷ K) p false t text (Opens m) e ∙ sym (turn n ℓ (q ∷ K) p true t text (Opens m) e)
-    by Closes e f = absurd (unlike f)
+  -- where an item is read, it is judged as where one must come
+  pub j-comes : (e : Bool) → itemComes e (wordIn n text) ≡ true → judge n ℓ K p e t text ≡ judge n ℓ K p true t text
+  j-comes e h = by (wordIn n text) refl h where
+    must : e ≡ true → judge n ℓ K p e t text ≡ judge n ℓ K p true t text
+    must f = ap (λ (b : Bool). judge n ℓ K p b t text) f
+
+    by : (w : Word) → wordIn n text ≡ w → itemComes e w ≡ true → judge n ℓ K p e t text ≡ judge n ℓ K p true t text
+    by Ends g f = must f
+    by Bad g f = turn n ℓ K p e t text Bad g ∙ sym (turn n ℓ K p true t text Bad g)
+    by Traced g f = turn n ℓ K p e t text Traced g ∙ sym (turn n ℓ K p true t text Traced g)
+    by (Opens m) g f = turn n ℓ K p e t text (Opens m) g ∙ sym (turn n ℓ K p true t text (Opens m) g)
+    by Closes g f = must f
+
+  -- where a list ends and no closing line stands, an open group is at fault; at the outermost list a closing line is
+  pub j-open-ends : (q : ℕ) → itemComes false (wordIn n text) ≡ false → isCloses (wordIn n text) ≡ false → judge n ℓ (q ∷ K) p false t text ≡ faultAs ℓ
+  j-open-ends q h c = by (wordIn n text) refl h c where
+    by : (w : Word) → wordIn n text ≡ w → itemComes false w ≡ false → isCloses w ≡ false → judge n ℓ (q ∷ K) p false t text ≡ faultAs ℓ
+    by Ends g f o = turn n ℓ (q ∷ K) p false t text Ends g
+    by Bad g f o = absurd (unlike f)
+    by Traced g f o = absurd (unlike f)
+    by (Opens m) g f o = absurd (unlike f)
+    by Closes g f o = absurd (unlike o)
+
+  pub j-top-closes : itemComes false (wordIn n text) ≡ false → isEnds (wordIn n text) ≡ false → judge n ℓ [] p false t text ≡ faultAs ℓ
+  j-top-closes h c = by (wordIn n text) refl h c where
+    by : (w : Word) → wordIn n text ≡ w → itemComes false w ≡ false → isEnds w ≡ false → judge n ℓ [] p false t text ≡ faultAs ℓ
+    by Ends g f o = absurd (unlike o)
+    by Bad g f o = absurd (unlike f)
+    by Traced g f o = absurd (unlike f)
+    by (Opens m) g f o = absurd (unlike f)
+    by Closes g f o = turn n ℓ [] p false t text Closes g
 
 pub j-top-ends : (n ℓ p t : ℕ) (text : List ℕ) → isEnds (wordIn n text) ≡ true → judge n ℓ [] p false t text ≡ fineAs t
 j-top-ends n ℓ p t text h = by (wordIn n text) refl h where
@@ -76,12 +100,3 @@ j-top-ends n ℓ p t text h = by (wordIn n text) refl h where
   by Traced e f = absurd (unlike (sym f))
   by (Opens m) e f = absurd (unlike (sym f))
   by Closes e f = absurd (unlike (sym f))
-
-pub j-top-item : (n ℓ p t : ℕ) (text : List ℕ) → isEnds (wordIn n text) ≡ false → judge n ℓ [] p false t text ≡ judge n ℓ [] p true t text
-j-top-item n ℓ p t text h = by (wordIn n text) refl h where
-  by : (w : Word) → wordIn n text ≡ w → isEnds w ≡ false → judge n ℓ [] p false t text ≡ judge n ℓ [] p true t text
-  by Ends e f = absurd (unlike f)
-  by Bad e f = turn n ℓ [] p false t text Bad e ∙ sym (turn n ℓ [] p true t text Bad e)
-  by Traced e f = turn n ℓ [] p false t text Traced e ∙ sym (turn n ℓ [] p true t text Traced e)
-  by (Opens m) e f = turn n ℓ [] p false t text (Opens m) e ∙ sym (turn n ℓ [] p true t text (Opens m) e)
-  by Closes e f = turn n ℓ [] p false t text Closes e ∙ sym (turn n ℓ [] p true t text Closes e)

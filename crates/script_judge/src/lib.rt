@@ -1,10 +1,12 @@
-// A script judged: its first line at fault, or that it is allowed. The reader of a list and the reader of an item call each other.
+// A script judged: its first line at fault, or that it is allowed. The reader of a list and the reader of an item call each other:
+// with each list fewer levels are left to open, with each item fewer bytes to read.
 use script_lines::Word;
 ghost use mathlib.Core.Path.{_≡_};
+ghost use mathlib.Core.Bool.{true};
 ghost use Prim.Native.Nat.{_≤_, _*_};
 ghost use lib.ListN.{length};
 ghost use Rattle.script_judge.specs.Judges.{capped, scriptJudged};
-ghost use Rattle.script_judge.specs.Inner.{faultSpot, nextSpot, ItemRead, RestRead, Sound, Ahead};
+ghost use Rattle.script_judge.specs.Inner.{faultSpot, nextSpot, closedSpot, itemComes, ReadTo, Sound, Ahead, Ended};
 
 // The first line at fault, and no lines; or no fault (0), and how many lines are written out.
 pub struct Judged {
@@ -59,10 +61,53 @@ fn past(text: &[u8], x: Spot, bytes: usize, total: usize) -> Spot
     }
 }
 
-// An item must stand at x: a trace line, or a group, with so many levels left to open and such a product of counts around it.
+// Past the closing line that must stand at x, behind a group's list.
+fn closed(text: &[u8], x: Spot) -> Spot
+    requires { ⌜ (x .at ≤ length (now text)) × Sound x ⌝ }
+    ensures { λ r. ⌜ r ≡ closedSpot (now (text .entry)) x ⌝ }
+{
+    if script_lines::closes_at(x.left, text, x.at) {
+        return past(text, x, 2, x.total);
+    }
+    fault_at(x.line)
+}
+
+// Whether an item is read at a word: where one must come, whatever stands there; else where the list does not end.
+fn comes(must: bool, w: Word) -> bool
+    ensures { λ r. ⌜ r ≡ itemComes must w ⌝ }
+{
+    match w {
+        Word::Ends => must,
+        Word::Bad => true,
+        Word::Traced => true,
+        Word::Opens(_n) => true,
+        Word::Closes => must,
+    }
+}
+
+// A list at x, to the line where it ends: the end of the text, or a closing line. Where an item must come, its first one does.
+fn list(text: &[u8], x: Spot, depth: usize, p: usize, must: bool) -> Spot
+    requires { ⌜ (x .at ≤ length (now text)) × Sound x × (p ≤ 9999) ⌝ }
+    ensures reads { λ r. ⌜ ReadTo (now (text .entry)) x depth p must r ⌝ }
+    ensures ends { λ r. ⌜ Ended (now (text .entry)) x r ⌝ }
+{
+    let mut y = x;
+    let mut due = must;
+    while comes(due, script_lines::word_at(y.left, text, y.at)) {
+        let z = item(text, y, depth, p);
+        if z.fault != 0 {
+            return z;
+        }
+        y = z;
+        due = false;
+    }
+    y
+}
+
+// An item must stand at x: a trace line, or a group, its list one level deeper. Around it the counts have the product p.
 fn item(text: &[u8], x: Spot, depth: usize, p: usize) -> Spot
     requires { ⌜ (x .at ≤ length (now text)) × Sound x × (p ≤ 9999) ⌝ }
-    ensures reads { λ r. ⌜ ItemRead (now (text .entry)) x depth p r ⌝ }
+    ensures reads { λ r. ⌜ ReadTo (now (text .entry)) x depth p true r ⌝ }
     ensures ahead { λ r. ⌜ Ahead (now (text .entry)) x r ⌝ }
 {
     let w = script_lines::word_at(x.left, text, x.at);
@@ -87,55 +132,41 @@ fn item(text: &[u8], x: Spot, depth: usize, p: usize) -> Spot
                 return fault_at(x.line);
             }
             let q = times(p, n);
-            let y = item(text, past(text, x, 6, x.total), depth - 1, q);
+            let y = list(text, past(text, x, 6, x.total), depth - 1, q, true);
             if y.fault != 0 {
                 return y;
             }
-            return rest(text, y, depth - 1, q);
+            return closed(text, y);
         }
     }
-}
-
-// The rest of a group's list, to its closing line.
-fn rest(text: &[u8], x: Spot, depth: usize, p: usize) -> Spot
-    requires { ⌜ (x .at ≤ length (now text)) × Sound x × (p ≤ 9999) ⌝ }
-    ensures reads { λ r. ⌜ RestRead (now (text .entry)) x depth p r ⌝ }
-    ensures ahead { λ r. ⌜ Ahead (now (text .entry)) x r ⌝ }
-{
-    let mut y = x;
-    while !script_lines::closes_at(y.left, text, y.at) {
-        let z = item(text, y, depth, p);
-        if z.fault != 0 {
-            return z;
-        }
-        y = z;
-    }
-    past(text, y, 2, y.total)
 }
 
 // A whole script judged: 3,000 lines at most, its own list to the end of the text.
 pub fn judge_script(text: &[u8]) -> Judged
     ensures { λ r. ⌜ r ≡ scriptJudged (now (text .entry)) ⌝ }
 {
-    let mut x = Spot {
+    let x = Spot {
         fault: 0,
         at: 0,
         left: 3000,
         line: 1,
         total: 0,
     };
-    while !script_lines::ends_at(x.left, text, x.at) {
-        let y = item(text, x, 8, 1);
-        if y.fault != 0 {
-            return Judged {
-                fault: y.fault,
-                lines: 0,
-            };
-        }
-        x = y;
+    let y = list(text, x, 8, 1, false);
+    if y.fault != 0 {
+        return Judged {
+            fault: y.fault,
+            lines: 0,
+        };
+    }
+    if script_lines::ends_at(y.left, text, y.at) {
+        return Judged {
+            fault: 0,
+            lines: y.total,
+        };
     }
     Judged {
-        fault: 0,
-        lines: x.total,
+        fault: y.line,
+        lines: 0,
     }
 }
