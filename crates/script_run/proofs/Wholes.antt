@@ -111,10 +111,10 @@ module _ (j : Judged) (xs rs text out : List ℕ) (ej : j ≡ scriptJudged text)
 
   -- room enough: the walk from the front went to r
   module _ (l : 8 * j .lines ≤ length out) (s : State) (es : s ≡ freshState) (r : Run) (xs′ out′ : List ℕ)
-      (i : RunRead text (record { at = 0; left = 3000; used = 0; state = s }) r xs rs out xs′ out′) where
+      (i : RunRead text (record { at = 0; left = 3000; used = 0; state = s }) 8 r xs rs out xs′ out′) where
     ran : Ran text (record { at = 0; left = 3000; used = 0; state = s }) r xs rs out xs′ out′ (linesWritten (scriptIn text)) [] (linesIn (scriptIn text))
     unfolding RunRead
-    ran = i (scriptIn text) 8 [] (allowed .formed) nothing (sym printed) (allowed .short) (let a = counted in omega arith)
+    ran = i (scriptIn text) [] (allowed .formed) nothing (sym printed) (allowed .short) (let a = counted in omega arith)
 
     enough : length (scriptOutput xs rs text) ≤ length out
     enough = let e = size in omega arith

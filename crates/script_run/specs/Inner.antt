@@ -61,28 +61,28 @@ pub record Ran (text : List ℕ) (x r : Run) (xs rs out xs′ out′ : List ℕ)
   pub array : xs′ ≡ arrayThrough cs (x .state) xs rs
   pub laid : out′ ≡ overlaid out (x .used) (answersThrough cs (x .state) xs rs)
 
--- whatever list is printed at x, with room for its answers: its lines written out were run
-unfoldable pub RunRead : List ℕ → Run → Run → List ℕ → List ℕ → List ℕ → List ℕ → List ℕ → Type 0
-RunRead text x r xs rs out xs′ out′ =
-    (c : Script) (d : ℕ) (tail : List ℕ) → Formed d c → Stop tail → drop (x .at) text ≡ printOn c tail → linesIn c ≤ x .left
+-- whatever list is printed at x, at most d levels deep, with room for its answers: its lines written out were run
+unfoldable pub RunRead : List ℕ → Run → ℕ → Run → List ℕ → List ℕ → List ℕ → List ℕ → List ℕ → Type 0
+RunRead text x d r xs rs out xs′ out′ =
+    (c : Script) (tail : List ℕ) → Formed d c → Stop tail → drop (x .at) text ≡ printOn c tail → linesIn c ≤ x .left
     → x .used + 8 * length (linesWritten c) ≤ length out
     → Ran text x r xs rs out xs′ out′ (linesWritten c) tail (linesIn c)
 
 -- from x to y items were run: whatever runs the list from y on runs it from x on
-unfoldable pub Leads : List ℕ → Run → Run → List ℕ → List ℕ → List ℕ → List ℕ → List ℕ → Type 0
-Leads text x y xs rs out ys out₁ = (r : Run) (xs′ out′ : List ℕ) → RunRead text y r ys rs out₁ xs′ out′ → RunRead text x r xs rs out xs′ out′
+unfoldable pub Leads : List ℕ → ℕ → Run → Run → List ℕ → List ℕ → List ℕ → List ℕ → List ℕ → Type 0
+Leads text d x y xs rs out ys out₁ = (r : Run) (xs′ out′ : List ℕ) → RunRead text y d r ys rs out₁ xs′ out′ → RunRead text x d r xs rs out xs′ out′
 
--- an item run: where no line was taken the list ends here, else it goes on
-unfoldable pub ItemRun : List ℕ → Run → Run → List ℕ → List ℕ → List ℕ → List ℕ → List ℕ → Type 0
-ItemRun text x r xs rs out xs′ out′ = (r .left ≡ x .left → RunRead text x r xs rs out xs′ out′) × (r .left < x .left → Leads text x r xs rs out xs′ out′)
+-- an item run: where no byte was taken the list ends here, else it goes on
+unfoldable pub ItemRun : List ℕ → Run → ℕ → Run → List ℕ → List ℕ → List ℕ → List ℕ → List ℕ → Type 0
+ItemRun text x d r xs rs out xs′ out′ = (r .at ≡ x .at → RunRead text x d r xs rs out xs′ out′) × (x .at < r .at → Leads text d x r xs rs out xs′ out′)
 
--- the same, n times over
-unfoldable pub AgainRead : List ℕ → Run → ℕ → Run → List ℕ → List ℕ → List ℕ → List ℕ → List ℕ → Type 0
-AgainRead text x n r xs rs out xs′ out′ =
-    (c : Script) (d : ℕ) (tail : List ℕ) → Formed d c → Stop tail → drop (x .at) text ≡ printOn c tail → linesIn c ≤ x .left → 1 ≤ n
+-- a list run n times over
+unfoldable pub AgainRead : List ℕ → Run → ℕ → ℕ → Run → List ℕ → List ℕ → List ℕ → List ℕ → List ℕ → Type 0
+AgainRead text x d n r xs rs out xs′ out′ =
+    (c : Script) (tail : List ℕ) → Formed d c → Stop tail → drop (x .at) text ≡ printOn c tail → linesIn c ≤ x .left → 1 ≤ n
     → x .used + 8 * length (timesOn n (linesWritten c) []) ≤ length out
     → Ran text x r xs rs out xs′ out′ (timesOn n (linesWritten c) []) tail (linesIn c)
 
 -- rounds of a list that were run, from x to y: whatever runs the m that are left runs all n
-unfoldable pub Rounds : List ℕ → Run → ℕ → Run → ℕ → List ℕ → List ℕ → List ℕ → List ℕ → List ℕ → Type 0
-Rounds text x n y m xs rs out ys out₁ = (r : Run) (xs′ out′ : List ℕ) → AgainRead text y m r ys rs out₁ xs′ out′ → AgainRead text x n r xs rs out xs′ out′
+unfoldable pub Rounds : List ℕ → Run → ℕ → ℕ → Run → ℕ → List ℕ → List ℕ → List ℕ → List ℕ → List ℕ → Type 0
+Rounds text x d n y m xs rs out ys out₁ = (r : Run) (xs′ out′ : List ℕ) → AgainRead text y d m r ys rs out₁ xs′ out′ → AgainRead text x d n r xs rs out xs′ out′

@@ -1,4 +1,6 @@
 // A script run on bench T: judged whole first, then walked, each group as often as its count says. Nothing is written out.
+// The reader of a list and the reader of an item call each other: with each list fewer levels are left to open, with each item fewer
+// bytes to read.
 use model_types::State;
 use script_lines::Word;
 use trace_replay::Replayed;
@@ -10,7 +12,7 @@ ghost use Rattle.trace_lines.specs.Lines.{cycleStated};
 ghost use Rattle.trace_replay.specs.Answers.{printedOf, markOf};
 ghost use Rattle.trace_replay.specs.Replays.{lineStep, arrayBy, replayedIn, leftInRoom, Used};
 ghost use Rattle.script_run.specs.Runs.{scriptOutput, scriptArray};
-ghost use Rattle.script_run.specs.Inner.{lineRun, pastOpen, closeRun, backTo, RunRead, ItemRun, AgainRead};
+ghost use Rattle.script_run.specs.Inner.{lineRun, pastOpen, closeRun, backTo, RunRead, ItemRun};
 
 // Where a run stands: place in the text, lines that may still come, bytes of output so far, and the device's state.
 struct Run {
@@ -87,11 +89,28 @@ fn past_close(text: &[u8], x: Run) -> Run
     x
 }
 
-// The item at x, run: a trace line, or a group; x itself where none stands, or no answer fits.
-fn run_item(text: &[u8], x: Run, array: &mut [u8], residue: &[u8], out: &mut [u8]) -> Run
+// The list at x, run to its end, with so many levels left to open.
+fn list(text: &[u8], x: Run, depth: usize, array: &mut [u8], residue: &[u8], out: &mut [u8]) -> Run
     requires { ⌜ (x .at ≤ length (now text)) × (x .used ≤ length (now out)) ⌝ }
-    ensures reads { λ r. ⌜ ItemRun (now (text .entry)) x r (now (array .entry)) (now (residue .entry)) (now (out .entry)) (now (array .exit)) (now (out .exit)) ⌝ }
-    ensures ahead { λ r. ⌜ (r .at ≤ length (now (text .entry))) × (r .left ≤ x .left) × (r .used ≤ length (now (out .entry))) ⌝ }
+    ensures reads { λ r. ⌜ RunRead (now (text .entry)) x depth r (now (array .entry)) (now (residue .entry)) (now (out .entry)) (now (array .exit)) (now (out .exit)) ⌝ }
+    ensures ahead { λ r. ⌜ (r .at ≤ length (now (text .entry))) × (x .at ≤ r .at) × (r .used ≤ length (now (out .entry))) ⌝ }
+{
+    let mut y = x;
+    while y.at < text.len() {
+        let z = item(text, y, depth, array, residue, out);
+        if z.at == y.at {
+            return z;
+        }
+        y = z;
+    }
+    y
+}
+
+// The item at x, run: a trace line, or a group, its list one level deeper; x itself where none stands, or no answer fits.
+fn item(text: &[u8], x: Run, depth: usize, array: &mut [u8], residue: &[u8], out: &mut [u8]) -> Run
+    requires { ⌜ (x .at ≤ length (now text)) × (x .used ≤ length (now out)) ⌝ }
+    ensures reads { λ r. ⌜ ItemRun (now (text .entry)) x depth r (now (array .entry)) (now (residue .entry)) (now (out .entry)) (now (array .exit)) (now (out .exit)) ⌝ }
+    ensures ahead { λ r. ⌜ (r .at ≤ length (now (text .entry))) × (x .at ≤ r .at) × (r .used ≤ length (now (out .entry))) ⌝ }
 {
     let w = script_lines::word_at(x.left, text, x.at);
     match w {
@@ -111,43 +130,18 @@ fn run_item(text: &[u8], x: Run, array: &mut [u8], residue: &[u8], out: &mut [u8
             return answered(text, x, array, residue, out);
         }
         Word::Opens(n) => {
-            let y = again(text, past_open(text, x), n, array, residue, out);
-            return past_close(text, y);
+            if depth == 0 {
+                return x;
+            }
+            let mut y = past_open(text, x);
+            let mut i = 1;
+            while i < n {
+                y = back(y, list(text, y, depth - 1, array, residue, out));
+                i += 1;
+            }
+            return past_close(text, list(text, y, depth - 1, array, residue, out));
         }
     }
-}
-
-// The list at x, run to its end.
-fn run_list(text: &[u8], x: Run, array: &mut [u8], residue: &[u8], out: &mut [u8]) -> Run
-    requires { ⌜ (x .at ≤ length (now text)) × (x .used ≤ length (now out)) ⌝ }
-    ensures reads { λ r. ⌜ RunRead (now (text .entry)) x r (now (array .entry)) (now (residue .entry)) (now (out .entry)) (now (array .exit)) (now (out .exit)) ⌝ }
-    ensures ahead { λ r. ⌜ (r .at ≤ length (now (text .entry))) × (r .left ≤ x .left) × (r .used ≤ length (now (out .entry))) ⌝ }
-{
-    let mut y = x;
-    while 0 < y.left {
-        let z = run_item(text, y, array, residue, out);
-        if z.left == y.left {
-            return z;
-        }
-        y = z;
-    }
-    y
-}
-
-// The list at x, run n times from the same place.
-fn again(text: &[u8], x: Run, n: usize, array: &mut [u8], residue: &[u8], out: &mut [u8]) -> Run
-    requires { ⌜ (x .at ≤ length (now text)) × (x .used ≤ length (now out)) × (n ≤ 999) ⌝ }
-    ensures reads { λ r. ⌜ AgainRead (now (text .entry)) x n r (now (array .entry)) (now (residue .entry)) (now (out .entry)) (now (array .exit)) (now (out .exit)) ⌝ }
-    ensures ahead { λ r. ⌜ (r .at ≤ length (now (text .entry))) × (r .left ≤ x .left) × (r .used ≤ length (now (out .entry))) ⌝ }
-{
-    let mut y = x;
-    let mut i = 1;
-    while i < n {
-        let z = run_list(text, y, array, residue, out);
-        y = back(y, z);
-        i += 1;
-    }
-    run_list(text, y, array, residue, out)
 }
 
 // The mark of a line at fault, alone.
@@ -193,18 +187,13 @@ pub fn run_script(text: &[u8], array: &mut [u8], residue: &[u8], out: &mut [u8])
         };
     }
     let s = model::fresh();
-    let y = run_list(
-        text,
-        Run {
-            at: 0,
-            left: 3000,
-            used: 0,
-            state: s,
-        },
-        array,
-        residue,
-        out,
-    );
+    let x = Run {
+        at: 0,
+        left: 3000,
+        used: 0,
+        state: s,
+    };
+    let y = list(text, x, 8, array, residue, out);
     Replayed {
         refusal: 0,
         used: y.used,

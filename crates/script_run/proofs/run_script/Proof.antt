@@ -36,8 +36,8 @@ returns-2 c =
 fresh-requires : tie.Need-fresh-requires
 fresh-requires c κs = search needs
 
-run-list-requires : tie.Need-run-list-requires
-run-list-requires c κs = search needs
+list-requires : tie.Need-list-requires
+list-requires c κs = search needs
 
 same-length-2 : tie.Need-same-length-2
 same-length-2 c = search needs
@@ -47,13 +47,13 @@ same-length-3 c = search needs
 
 returns-3 : tie.Need-returns-3
 returns-3 c =
-    let a = c .before .before .before .before .before .before .before .before .before .before .before .before .before .before .before .before .args in let j = c .before .before .before .before .before .before .before .before .before .before .before .judge-script in let h = c .before .before .before .before .before .before .before .before .before .before .if1 .left in let l = c .before .before .before .before .before .before .before .before .if2 .left in let f = c .before .before .before .before .before .before .before .fresh in let k = c .before .before .before .before .run-list in (
-      wholes.whole-result (j .result) (a .array .now) (a .residue .now) (a .text .now) (a .out .now) (j .ensures) h l (f .result) (f .ensures) (k .result) (k .last .1 .1 .0) (k .last .1 .1 .1 .1 .0) (k .ensures .0),
+    let a = c .before .before .before .before .before .before .before .before .before .before .before .before .before .before .before .before .args in let j = c .before .before .before .before .before .before .before .before .before .before .before .judge-script in let h = c .before .before .before .before .before .before .before .before .before .before .if1 .left in let l = c .before .before .before .before .before .before .before .before .if2 .left in let f = c .before .before .before .before .before .before .before .fresh in let k = c .before .before .before .before .list in (
+      wholes.whole-result (j .result) (a .array .now) (a .residue .now) (a .text .now) (a .out .now) (j .ensures) h l (f .result) (f .ensures) (k .result) (k .last .1 .1 .1 .0) (k .last .1 .1 .1 .1 .1 .0) (k .ensures .0),
       (
-        wholes.whole-array (j .result) (a .array .now) (a .residue .now) (a .text .now) (a .out .now) (j .ensures) h l (f .result) (f .ensures) (k .result) (k .last .1 .1 .0) (k .last .1 .1 .1 .1 .0) (k .ensures .0),
+        wholes.whole-array (j .result) (a .array .now) (a .residue .now) (a .text .now) (a .out .now) (j .ensures) h l (f .result) (f .ensures) (k .result) (k .last .1 .1 .1 .0) (k .last .1 .1 .1 .1 .1 .0) (k .ensures .0),
         (
-          wholes.whole-out (j .result) (a .array .now) (a .residue .now) (a .text .now) (a .out .now) (j .ensures) h l (f .result) (f .ensures) (k .result) (k .last .1 .1 .0) (k .last .1 .1 .1 .1 .0) (k .ensures .0),
-          wholes.whole-used (j .result) (a .array .now) (a .residue .now) (a .text .now) (a .out .now) (j .ensures) h l (f .result) (f .ensures) (k .result) (k .last .1 .1 .0) (k .last .1 .1 .1 .1 .0) (k .ensures .0) (k .kept .1 .1 .1 .1 .0),
+          wholes.whole-out (j .result) (a .array .now) (a .residue .now) (a .text .now) (a .out .now) (j .ensures) h l (f .result) (f .ensures) (k .result) (k .last .1 .1 .1 .0) (k .last .1 .1 .1 .1 .1 .0) (k .ensures .0),
+          wholes.whole-used (j .result) (a .array .now) (a .residue .now) (a .text .now) (a .out .now) (j .ensures) h l (f .result) (f .ensures) (k .result) (k .last .1 .1 .1 .0) (k .last .1 .1 .1 .1 .1 .0) (k .ensures .0) (k .kept .1 .1 .1 .1 .1 .0),
         ),
       ),
     )
@@ -69,7 +69,7 @@ run-script-spec =
     mul-n
     returns-2
     fresh-requires
-    run-list-requires
+    list-requires
     same-length-2
     same-length-3
     returns-3)
