@@ -98,10 +98,6 @@ module _ (p : List ℕ) (x : ℤ) where
       go false h true k = simp (says .0, ends, h, k)
       go false h false k = simp (says .0, ends, h, k, judged-rises p (says .1) (seekOf p x) (seekOf p x + 1) (omega arith) (next-knot h k two))
 
-  pub judged-answer : tableNumber p ≡ 0 → readingAnswer p x ≡ tableAnswer p x
-  unfolding readingAnswer tableAnswer
-  judged-answer z = ap (λ (n : ℕ). answerBy n (readingOf p x)) (judged-number z ∙ sym z)
-
 -- a file that the reader refuses
 pub refused-answer : (o : Outcome) (n : ℕ) (x : ℤ) → readAs o ≡ NotRead n → Refused n ≡ answerAs x o
 refused-answer (refused m) n x e = let q : m ≡ n = cc in ap Refused (sym q)

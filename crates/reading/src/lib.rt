@@ -2,13 +2,13 @@
 use file_codec::ReadBack;
 use reading_pair::Pair;
 ghost use mathlib.Core.Path.{_≡_};
-ghost use Prim.Native.Nat.{_+_, _-_, _/_, _<_};
+ghost use Prim.Native.Nat.{_+_, _-_, _/_, _≤_, _<_};
 ghost use lib.ListN.{length};
 ghost use lib.Signed.{ltZ};
 ghost use lib.Ieee.{ofInt, binary64};
 ghost use Rattle.file_codec.specs.File.{limit, readerOf, inRoom, leftIn};
 ghost use Rattle.reading_table.specs.Table.{voltsOf};
-ghost use Rattle.reading.specs.Readings.{heatOf, pairAt, readingAnswer, tableAnswer, answerAs};
+ghost use Rattle.reading.specs.Readings.{heatOf, pairAt, readingOf, readingAnswer, tableAnswer, answerAs};
 
 // A temperature in tenths of a degree; or the voltage is below or above the table, with the end knot's temperature.
 pub enum Reading {
@@ -91,7 +91,24 @@ pub fn reading_at(payload: &[u8], x: i32) -> ReadingAnswer
     ReadingAnswer::Read(Reading::Temperature(reading_pair::interpolate(p, wide(x))))
 }
 
-// A payload is judged as a whole, then read: what the reading tests again, it finds well.
+// The reading at x by a payload of two knots or more that was judged: nothing is tested again.
+fn judged_at(payload: &[u8], x: i32) -> Reading
+    requires { ⌜ 2 ≤ length (now payload) / 6 ⌝ }
+    ensures { λ r. ⌜ r ≡ readingOf (now (payload .entry)) x ⌝ }
+{
+    let last = payload.len() / 6 - 1;
+    if under(payload, 0, x) {
+        return Reading::Below(heat(payload, 0));
+    }
+    if over(payload, last, x) {
+        return Reading::Above(heat(payload, last));
+    }
+    let i = reading_table::seek(payload, x);
+    let p = pair_at(payload, i);
+    Reading::Temperature(reading_pair::interpolate(p, wide(x)))
+}
+
+// A payload is judged as a whole, then read.
 fn judged_reading(payload: &[u8], x: i32) -> ReadingAnswer
     ensures { λ r. ⌜ r ≡ tableAnswer (now (payload .entry)) x ⌝ }
 {
@@ -99,7 +116,7 @@ fn judged_reading(payload: &[u8], x: i32) -> ReadingAnswer
     if n != 0 {
         return ReadingAnswer::Refused(n);
     }
-    reading_at(payload, x)
+    ReadingAnswer::Read(judged_at(payload, x))
 }
 
 // The reading at x straight from a file: the reader for the letter asked, into the front of room, then the table.

@@ -1,6 +1,6 @@
 -- The pair of knots for a voltage, found by halving. Assumes nothing.
 use mathlib.Core.List.{List}
-use Prim.Native.Nat.{ℕ, zero, suc, _+_, _-_, _/_}
+use Prim.Native.Nat.{ℕ, zero, suc, _+_, _-_, _/_, _^_}
 use lib.Dec.{ltb}
 use lib.IntN.{ℤ}
 use lib.Signed.{leZ}
@@ -19,3 +19,12 @@ halving (suc k) p x lo hi =
 unfoldable pub seekOf : List ℕ → ℤ → ℕ
 unfolding halving
 seekOf p x = halving (knots p) p x 0 (knots p - 1)
+
+-- how many of the first k powers of two, from 1 on, are less than d
+unfoldable pub powersUnder : ℕ → ℕ → ℕ
+powersUnder zero d = 0
+powersUnder (suc k) d = (if ltb (2 ^ k) d then 1 else 0) + powersUnder k d
+
+-- the halvings that the code has still to make, at most, with its ends at lo and hi: the measure of its loop, which each turn lowers
+abbrev pub turnsLeft : ℕ → ℕ → ℕ
+turnsLeft lo hi = powersUnder 64 (hi - lo)

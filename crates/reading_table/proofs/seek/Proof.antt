@@ -1,6 +1,6 @@
 use mathlib.Core.Path.{_≡_, sym, ap, _∙_}
 use mathlib.Core.Bool.{true, false}
-use Prim.Native.Nat.{_-_}
+use Prim.Native.Nat.{ℕ, _+_, _-_, _≤_, _<_}
 use native.Mathlib.Omega.{arith}
 use borrow.Author.Needs.{needs}
 use lib.IntN.{ℤ}
@@ -10,8 +10,9 @@ use mir.Syntax.{w32}
 use mir.Val.{toZ, ofZ}
 use mir.ValLaws.{toZ-ofZ}
 use Rattle.reading_table.specs.Table.{voltsOf}
-use Rattle.reading_table.specs.Search.{seekOf}
+use Rattle.reading_table.specs.Search.{seekOf, turnsLeft}
 use Rattle.reading_table.proofs.Steps.{Halved, mid, halved-start, halved-few, halved-turn, halved-end}
+use Rattle.reading_table.proofs.Turns.{turns-fall}
 use Rattle.reading_table.proofs.seek.Statement.{statement}
 use Rattle.reading_table.proofs.seek.Tie as tie
 
@@ -19,11 +20,16 @@ abbrev Inv-loop : tie.InvT-loop
 Inv-loop s x n lo₀ hi₀ lo hi = Halved s (toZ w32 x) n lo hi
 
 abbrev μ-loop : tie.MeasureT-loop
-μ-loop s x n lo₀ hi₀ lo hi = hi - lo
+μ-loop s x n lo₀ hi₀ lo hi = turnsLeft lo hi
 
 -- what the test answered
 told : (c : tie.After-at-most Inv-loop μ-loop) → c .at-most .result ≡ leZ (voltsOf (now (c .before .before .before .before .before .before .args .s)) (mid (c .before .before .before .loop .lo) (c .before .before .before .loop .hi))) (toZ w32 (ofZ w32 (c .before .before .before .before .before .before .args .x)))
 told c = c .at-most .ensures ∙ ap (λ (v : ℤ). leZ v (toZ w32 (ofZ w32 (c .before .before .before .before .before .before .args .x)))) (toZ-ofZ w32 (c .before .volts-at .result) (record { sfits = c .before .volts-at .ok }) ∙ c .before .volts-at .ensures)
+
+-- either half has a turn fewer to come
+lowered : (lo hi : ℕ) → hi ≤ 9223372036854775808 → lo + 1 < hi → (turnsLeft (mid lo hi) hi < turnsLeft lo hi) × (turnsLeft lo (mid lo hi) < turnsLeft lo hi)
+lowered lo hi f h =
+    (turns-fall 63 (hi - lo) (hi - mid lo hi) (omega (arith, f)) (omega (arith, h)) (omega (arith, h)), turns-fall 63 (hi - lo) (mid lo hi - lo) (omega (arith, f, h)) (omega (arith, h)) (omega (arith, h)))
 
 returns : tie.Need-returns Inv-loop μ-loop
 returns c = halved-few _ _ (c .if1 .taken)
@@ -50,13 +56,13 @@ at-most-requires : tie.Need-at-most-requires Inv-loop μ-loop
 at-most-requires c κs = search needs
 
 loop-less : tie.Need-loop-less Inv-loop μ-loop
-loop-less c = let h = c .before .before .before .loop-test .taken in omega (arith, h)
+loop-less c = let t = c .before .before .before in let i = t .before .loop .inv in lowered (t .before .loop .lo) (t .before .loop .hi) (omega (arith, i .within, t .before .before .before .before .good .0 .0)) (t .loop-test .taken) .0
 
 loop-again : tie.Need-loop-again Inv-loop μ-loop
 loop-again c = halved-turn (c .before .before .before .before .loop .inv) (c .before .before .before .loop-test .taken) true (sym (told (c .before)) ∙ c .if2 .taken)
 
 loop-less-2 : tie.Need-loop-less-2 Inv-loop μ-loop
-loop-less-2 c = let h = c .before .before .before .loop-test .taken in omega (arith, h)
+loop-less-2 c = let t = c .before .before .before in let i = t .before .loop .inv in lowered (t .before .loop .lo) (t .before .loop .hi) (omega (arith, i .within, t .before .before .before .before .good .0 .0)) (t .loop-test .taken) .1
 
 loop-again-2 : tie.Need-loop-again-2 Inv-loop μ-loop
 loop-again-2 c = halved-turn (c .before .before .before .before .loop .inv) (c .before .before .before .loop-test .taken) false (sym (told (c .before)) ∙ c .if2 .left)
