@@ -49,6 +49,9 @@ start-unique part word rp wp vpp k w sc = only (started part word rp wp vpp k w 
 pub stepped-unique : (l : LoaderNumbers) (b : ℕ) (w sc : List ℕ) → Unique (λ (r : GivenNumbers). r ≡ steppedOf l b w sc)
 stepped-unique l b w sc = only (steppedOf l b w sc)
 
+pub stepped-scratch-unique : (l : LoaderNumbers) (b : ℕ) (w sc : List ℕ) → Unique (λ (left : List ℕ). left ≡ scratchStepped l b w sc)
+stepped-scratch-unique l b w sc = only (scratchStepped l b w sc)
+
 pub step-unique : (l : LoaderNumbers) (b : ℕ) (w sc : List ℕ) → Unique (λ (r : TurnNumbers). r ≡ steppedOf l b w sc .turn)
 step-unique l b w sc = only (steppedOf l b w sc .turn)
 
@@ -118,29 +121,32 @@ verify-file-wanted-unique d s rp wp vpp k f asked xs w sc = only (wantedVerifyFi
 pub verify-file-scratch-unique : (d : DeviceNumbers) (s : StateNumbers) (rp wp vpp k : ℕ) (f : List ℕ) (asked : ℕ) (xs w sc : List ℕ) → Unique (λ (left : List ℕ). left ≡ scratchVerifyFile d s rp wp vpp k f asked xs w sc)
 verify-file-scratch-unique d s rp wp vpp k f asked xs w sc = only (scratchVerifyFile d s rp wp vpp k f asked xs w sc)
 
-pub write-unique : (letter : ℕ) (p out : List ℕ) → Unique (λ (r : SizedNumbers). r ≡ writtenOf letter p out)
-write-unique letter p out = only (writtenOf letter p out)
+pub file-write-unique : (letter : ℕ) (p out : List ℕ) → Unique (λ (r : SizedNumbers). r ≡ writtenOf letter p out)
+file-write-unique letter p out = only (writtenOf letter p out)
 
-pub write-file-unique : (letter : ℕ) (p out : List ℕ) → Unique (λ (left : List ℕ). left ≡ fileLeft letter p out)
-write-file-unique letter p out = only (fileLeft letter p out)
+pub file-write-file-unique : (letter : ℕ) (p out : List ℕ) → Unique (λ (left : List ℕ). left ≡ fileLeft letter p out)
+file-write-file-unique letter p out = only (fileLeft letter p out)
 
-pub read-unique : (f : List ℕ) (asked : ℕ) (out : List ℕ) → Unique (λ (r : SizedNumbers). r ≡ fileRead f asked out)
-read-unique f asked out = only (fileRead f asked out)
+pub file-read-unique : (f : List ℕ) (asked : ℕ) (out : List ℕ) → Unique (λ (r : SizedNumbers). r ≡ fileRead f asked out)
+file-read-unique f asked out = only (fileRead f asked out)
 
-pub read-payload-unique : (f : List ℕ) (asked : ℕ) (out : List ℕ) → Unique (λ (left : List ℕ). left ≡ payloadLeft f asked out)
-read-payload-unique f asked out = only (payloadLeft f asked out)
+pub file-read-payload-unique : (f : List ℕ) (asked : ℕ) (out : List ℕ) → Unique (λ (left : List ℕ). left ≡ payloadLeft f asked out)
+file-read-payload-unique f asked out = only (payloadLeft f asked out)
 
-pub check-unique : (block : List ℕ) → Unique (λ (r : ℕ). r ≡ checkOf (take 510 block))
-check-unique block = only (checkOf (take 510 block))
+pub block-check-unique : (block : List ℕ) → Unique (λ (r : ℕ). r ≡ checkOf (take 510 block))
+block-check-unique block = only (checkOf (take 510 block))
 
 pub table-judge-unique : (p : List ℕ) → Unique (λ (r : ℕ). r ≡ tableNumber p)
 table-judge-unique p = only (tableNumber p)
 
-pub reading-unique : (p : List ℕ) (x : ℤ) → Unique (λ (r : ReadingNumbers). r ≡ readingGiven p x)
-reading-unique p x = only (readingGiven p x)
+pub table-reading-unique : (p : List ℕ) (x : ℤ) → Unique (λ (r : ReadingNumbers). r ≡ readingGiven p x)
+table-reading-unique p x = only (readingGiven p x)
 
-pub reading-file-unique : (f : List ℕ) (asked : ℕ) (room : List ℕ) (x : ℤ) → Unique (λ (r : ReadingNumbers). r ≡ readingRead f asked room x)
-reading-file-unique f asked room x = only (readingRead f asked room x)
+pub file-reading-unique : (f : List ℕ) (asked : ℕ) (room : List ℕ) (x : ℤ) → Unique (λ (r : ReadingNumbers). r ≡ readingRead f asked room x)
+file-reading-unique f asked room x = only (readingRead f asked room x)
+
+pub file-reading-room-unique : (f : List ℕ) (asked : ℕ) (room : List ℕ) → Unique (λ (left : List ℕ). left ≡ payloadLeft f asked room)
+file-reading-room-unique f asked room = only (payloadLeft f asked room)
 
 pub wear-add-unique : (part : ℕ) (r : ReportNumbers) (from : ℕ) (w : WearNumbers) → Unique (λ (q : ReportedNumbers). q ≡ wearAdded part r from w)
 wear-add-unique part r from w = only (wearAdded part r from w)
