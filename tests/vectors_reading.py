@@ -249,7 +249,8 @@ def all_rows():
         r.seek(*[x for x in around(table) if table[0][0] <= x <= table[-1][0]])
         r.read(*around(table), *FAR)
     # payloads that no judgement lets through, read all the same: no table by its length
-    for table, more in ([], b""), ([], b"\xff" * 5), ([(5, -7)], b""), ([(5, -7)], b"\0"), ([(5, -7)], b"\0\0\0"), (THIRDS, b"\0"), (THIRDS, b"\0" * 5):
+    for table, more in (([], b""), ([], b"\xff" * 5), ([(5, -7)], b""), ([(5, -7)], b"\0"), ([(5, -7)], b"\0\0\0"), (THIRDS, b"\0"),
+                        (THIRDS, b"\0" * 5)):
         r.table(table, more)
         r.read(4, 5, 0, FAR[0], FAR[-1])
     # .. by its ends: equal, falling, out of range
@@ -259,8 +260,8 @@ def all_rows():
             r.table([(ends[0], 0), *between, (ends[1], 1)])
             r.read(ends[0], ends[1], 3, FAR[0], FAR[-1])
     # .. by a pair: equal, falling, its lower or its upper knot out of range; where the search does not meet it, the reading is given
-    for inner in ([(5, 1), (5, 2)], [(5, 1), (4, 2)], [(-10001, 1), (6, 2)], [(5, 1), (80001, 2)], [(-2147483648, 1), (2147483647, 2)], [(5, 1), (5, 2), (5, 3)],
-                  [(9, 9), (7, 8), (5, 7), (3, 6), (1, 5)], [(80001, 4), (5, 3)], [(3, 1), (-10001, 2)]):
+    for inner in ([(5, 1), (5, 2)], [(5, 1), (4, 2)], [(-10001, 1), (6, 2)], [(5, 1), (80001, 2)], [(-2147483648, 1), (2147483647, 2)],
+                  [(5, 1), (5, 2), (5, 3)], [(9, 9), (7, 8), (5, 7), (3, 6), (1, 5)], [(80001, 4), (5, 3)], [(3, 1), (-10001, 2)]):
         for table in ([(0, 0), *inner, (10, 9)], [(-30, 0), (-20, 5), (-10, 7), (0, 0), *inner, (10, 9)]):
             r.table(table)
             r.read(-25, -1, 0, 4, 5, 6, 9, 10, 11)

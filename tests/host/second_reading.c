@@ -24,7 +24,9 @@ uint8_t c_table_judge(const uint8_t *payload, size_t n) {
 }
 
 /* Two knots in range, the second above the first. */
-static inline int rises(int32_t a, int32_t b) { return a >= -10000 && a <= 80000 && b >= -10000 && b <= 80000 && (SLIP(80) ? a <= b : a < b); }
+static inline int rises(int32_t a, int32_t b) {
+    return a >= -10000 && a <= 80000 && b >= -10000 && b <= 80000 && (SLIP(80) ? a <= b : a < b);
+}
 
 /* By a payload that need not have been judged: 40 by its length, 41 by the knots that the answer is made of, the first and the last
  * and, between them, the pair that is found. */

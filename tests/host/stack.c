@@ -65,6 +65,8 @@ static void write_short(void) { byte = tb_file_write('K', payload, 100, file, si
 static void read(void) { byte = tb_file_read('K', file, sizeof file, payload, sizeof payload).number; }
 static void check(void) { byte = (uint8_t)tb_block_check(file, sizeof file); }
 static void reading(void) {
+    for (size_t i = 0; i < 100; i++) /* knots one microvolt apart */
+        payload[6 * i + 3] = (uint8_t)i;
     byte = (uint8_t)(tb_table_judge(payload, 600) + tb_table_reading(payload, 600, 5).answer);
     byte = (uint8_t)(byte + tb_file_reading('K', file, sizeof file, payload, sizeof payload, 5).answer);
 }
