@@ -107,8 +107,8 @@ long s a u l m = let e = length-drop a s in omega arith
 pub traced-room : (s : List ℕ) (n a : ℕ) → wordIn n (drop a s) ≡ Traced → (1 ≤ n) × (a + 20 ≤ length s)
 traced-room s n a w = let f = word-traced n (drop a s) w in (f .0, long s a 20 (f .1) (omega arith))
 
-pub opens-room : (s : List ℕ) (n a m : ℕ) → wordIn n (drop a s) ≡ Opens m → (1 ≤ n) × (a + 6 ≤ length s) × (m ≤ 999)
-opens-room s n a m w = let f = word-opens n (drop a s) m w in (f .0, long s a 6 (f .1) (omega arith), f .2)
+pub opens-room : (s : List ℕ) (n a m : ℕ) → wordIn n (drop a s) ≡ Opens m → (1 ≤ n) × (a + 6 ≤ length s) × (m ≤ 999) × (1 ≤ m)
+opens-room s n a m w = let f = word-opens n (drop a s) m w in (f .0, long s a 6 (f .1) (omega arith), f .2, f .3)
 
 pub closes-room : (s : List ℕ) (n a : ℕ) → isCloses (wordIn n (drop a s)) ≡ true → (1 ≤ n) × (a + 2 ≤ length s)
 closes-room s n a c = let f = word-closes n (drop a s) (closes-is (wordIn n (drop a s)) c) in (f .0, long s a 2 (f .1) (omega arith))

@@ -134,12 +134,14 @@ fn item(text: &[u8], x: Run, depth: usize, array: &mut [u8], residue: &[u8], out
                 return x;
             }
             let mut y = past_open(text, x);
-            let mut i = 1;
+            let mut z = y;
+            let mut i = 0;
             while i < n {
-                y = back(y, list(text, y, depth - 1, array, residue, out));
+                z = list(text, y, depth - 1, array, residue, out);
+                y = back(y, z);
                 i += 1;
             }
-            return past_close(text, list(text, y, depth - 1, array, residue, out));
+            return past_close(text, z);
         }
     }
 }

@@ -51,11 +51,13 @@ abbrev list-knows : ℕ → list-lts.Claims
 list-knows t = (item-below t, item.Post)
 
 abbrev item-Inv-loop : item-lts.InvT-loop
-item-Inv-loop text depth array₀ residue out₀ n y₀ i₀ array out y i =
-    (1 ≤ i) × (y .at ≡ y₀ .at) × (y .left ≡ y₀ .left) × (y .used ≤ length out) × Rounds text y₀ (depth - 1) n y (n + 1 - i) array₀ residue out₀ array out × (length array ≡ length array₀) × (length out ≡ length out₀)
+item-Inv-loop text depth array₀ residue out₀ n y₀ z₀ i₀ array out y z i =
+    (y .at ≡ y₀ .at) × (y .left ≡ y₀ .left) × (y .used ≤ length out) × (z .at ≤ length text) × (y₀ .at ≤ z .at) × (z .used ≤ length out)
+    × (i < n → Rounds text y₀ (depth - 1) n y (n - i) array₀ residue out₀ array out) × (n ≤ i → AgainRead text y₀ (depth - 1) n z array₀ residue out₀ array out)
+    × (length array ≡ length array₀) × (length out ≡ length out₀)
 
 abbrev item-μ-loop : item-lts.MeasureT-loop
-item-μ-loop text depth array₀ residue out₀ n y₀ i₀ array out y i = n + 1 - i
+item-μ-loop text depth array₀ residue out₀ n y₀ z₀ i₀ array out y z i = n + 1 - i
 
 item-word-at-requires : (t : ℕ) → item-lts.Need-word-at-requires (item-knows t) (item-at t) item.Post item-Inv-loop item-μ-loop
 item-word-at-requires t c κs = search needs
@@ -139,9 +141,9 @@ item-past-open-requires t c κs =
 item-loop-holds : (t : ℕ) → item-lts.Need-loop-holds (item-knows t) (item-at t) item.Post item-Inv-loop item-μ-loop
 item-loop-holds t c =
     let a = c .before .before .before .before .before .before .before .before .before .before .args in let p = c .before .before .before .before .before .before .before .before .before .before .pre .0 in let p0 = c .before .before .before .before .before .before .before .before .before .before .pre .1 .0 in let p1 = c .before .before .before .before .before .before .before .before .before .before .pre .1 .1 in
-    let w = sym (c .before .before .before .before .before .word-at .ensures) ∙ c .before .before .before .w .given .1 in let n = c .before .before .before .w .given .0 .0 in let m = runs.opens-room (a .text .now) (a .x .left) (a .x .at) n w in let m0 = m .0 in let m1 = m .1 in let m2 = m .2 in
+    let w = sym (c .before .before .before .before .before .word-at .ensures) ∙ c .before .before .before .w .given .1 in let n = c .before .before .before .w .given .0 .0 in let m = runs.opens-room (a .text .now) (a .x .left) (a .x .at) n w in let m0 = m .0 in let m1 = m .1 in let m2 = m .2 in let m3 = m .3 in
     let o = c .past-open in let o1 = ap (λ (r : Run). r .at) (o .ensures) in let o2 = ap (λ (r : Run). r .left) (o .ensures) in let o3 = ap (λ (r : Run). r .used) (o .ensures) in
-    (omega arith, refl, refl, omega arith, runs.rounds-none (a .depth - 1) (a .text .now) (o .result) n (n + 1 - 1) (a .array .now) (a .residue .now) (a .out .now) (omega arith), refl, refl)
+    (refl, refl, omega arith, omega arith, omega arith, omega arith, λ u. runs.rounds-none (a .depth - 1) (a .text .now) (o .result) n (n - 0) (a .array .now) (a .residue .now) (a .out .now) (omega arith), λ u. absurd (omega arith), refl, refl)
 
 item-sub-list : (t : ℕ) → item-lts.Need-sub-list (item-knows t) (item-at t) item.Post item-Inv-loop item-μ-loop
 item-sub-list t c = search needs
@@ -149,10 +151,10 @@ item-sub-list t c = search needs
 item-list-requires : (t : ℕ) → item-lts.Need-list-requires (item-knows t) (item-at t) item.Post item-Inv-loop item-μ-loop
 item-list-requires t c κs =
     let a = c .before .before .before .before .before .before .before .before .before .before .before .before .before .before .args in let p = c .before .before .before .before .before .before .before .before .before .before .before .before .before .before .pre .0 in let p0 = c .before .before .before .before .before .before .before .before .before .before .before .before .before .before .pre .1 .0 in let p1 = c .before .before .before .before .before .before .before .before .before .before .before .before .before .before .pre .1 .1 in
-    let w = sym (c .before .before .before .before .before .before .before .before .before .word-at .ensures) ∙ c .before .before .before .before .before .before .before .w .given .1 in let n = c .before .before .before .before .before .before .before .w .given .0 .0 in let m = runs.opens-room (a .text .now) (a .x .left) (a .x .at) n w in let m0 = m .0 in let m1 = m .1 in let m2 = m .2 in
+    let w = sym (c .before .before .before .before .before .before .before .before .before .word-at .ensures) ∙ c .before .before .before .before .before .before .before .w .given .1 in let n = c .before .before .before .before .before .before .before .w .given .0 .0 in let m = runs.opens-room (a .text .now) (a .x .left) (a .x .at) n w in let m0 = m .0 in let m1 = m .1 in let m2 = m .2 in let m3 = m .3 in
     let o = c .before .before .before .before .past-open in let o1 = ap (λ (r : Run). r .at) (o .ensures) in let o2 = ap (λ (r : Run). r .left) (o .ensures) in let o3 = ap (λ (r : Run). r .used) (o .ensures) in
-    let l = c .before .before .before .loop in let y = l .y in let v = l .inv in let v0 = v .0 in let v1 = v .1 in let v2 = v .2 in let v3 = v .3 in let v6 = v .6 in
-    (omega arith, (omega arith, v3))
+    let l = c .before .before .before .loop in let y = l .y in let v = l .inv in let v0 = v .0 in let v1 = v .1 in let v2 = v .2 in let v3 = v .3 in let v4 = v .4 in let v5 = v .5 in let v9 = v .9 in
+    (omega arith, (omega arith, v2))
 
 item-back-requires : (t : ℕ) → item-lts.Need-back-requires (item-knows t) (item-at t) item.Post item-Inv-loop item-μ-loop
 item-back-requires t c κs = search needs
@@ -160,7 +162,7 @@ item-back-requires t c κs = search needs
 item-add-i : (t : ℕ) → item-lts.Need-add-i (item-knows t) (item-at t) item.Post item-Inv-loop item-μ-loop
 item-add-i t c =
     let a = c .before .before .before .before .before .before .before .before .before .before .before .before .before .before .before .before .before .before .before .before .args in let p = c .before .before .before .before .before .before .before .before .before .before .before .before .before .before .before .before .before .before .before .before .pre .0 in let p0 = c .before .before .before .before .before .before .before .before .before .before .before .before .before .before .before .before .before .before .before .before .pre .1 .0 in let p1 = c .before .before .before .before .before .before .before .before .before .before .before .before .before .before .before .before .before .before .before .before .pre .1 .1 in
-    let w = sym (c .before .before .before .before .before .before .before .before .before .before .before .before .before .before .before .word-at .ensures) ∙ c .before .before .before .before .before .before .before .before .before .before .before .before .before .w .given .1 in let n = c .before .before .before .before .before .before .before .before .before .before .before .before .before .w .given .0 .0 in let m = runs.opens-room (a .text .now) (a .x .left) (a .x .at) n w in let m0 = m .0 in let m1 = m .1 in let m2 = m .2 in let t = c .before .before .before .before .before .before .before .before .loop-test .taken in
+    let w = sym (c .before .before .before .before .before .before .before .before .before .before .before .before .before .before .before .word-at .ensures) ∙ c .before .before .before .before .before .before .before .before .before .before .before .before .before .w .given .1 in let n = c .before .before .before .before .before .before .before .before .before .before .before .before .before .w .given .0 .0 in let m = runs.opens-room (a .text .now) (a .x .left) (a .x .at) n w in let m0 = m .0 in let m1 = m .1 in let m2 = m .2 in let m3 = m .3 in let t = c .before .before .before .before .before .before .before .before .loop-test .taken in
     record { fits = omega arith }
 
 item-loop-less : (t : ℕ) → item-lts.Need-loop-less (item-knows t) (item-at t) item.Post item-Inv-loop item-μ-loop
@@ -170,32 +172,24 @@ item-loop-again : (t : ℕ) → item-lts.Need-loop-again (item-knows t) (item-at
 item-loop-again t c =
     let a = c .before .before .before .before .before .before .before .before .before .before .before .before .before .before .before .before .before .before .before .before .args in let p = c .before .before .before .before .before .before .before .before .before .before .before .before .before .before .before .before .before .before .before .before .pre .0 in let p0 = c .before .before .before .before .before .before .before .before .before .before .before .before .before .before .before .before .before .before .before .before .pre .1 .0 in let p1 = c .before .before .before .before .before .before .before .before .before .before .before .before .before .before .before .before .before .before .before .before .pre .1 .1 in
     let n = c .before .before .before .before .before .before .before .before .before .before .before .before .before .w .given .0 .0 in let o = c .before .before .before .before .before .before .before .before .before .before .past-open in let o1 = ap (λ (r : Run). r .at) (o .ensures) in let o2 = ap (λ (r : Run). r .left) (o .ensures) in let o3 = ap (λ (r : Run). r .used) (o .ensures) in
-    let l = c .before .before .before .before .before .before .before .before .before .loop in let y = l .y in let v = l .inv in let v0 = v .0 in let v1 = v .1 in let v2 = v .2 in let v3 = v .3 in let v6 = v .6 in let t = c .before .before .before .before .before .before .before .before .loop-test .taken in
-    let k = c .before .before .before .before .before .list in let z = k .result in let g2 = k .ensures .1 .2 in let len = k .kept .1 .1 .1 .1 .1 .0 in
+    let l = c .before .before .before .before .before .before .before .before .before .loop in let y = l .y in let v = l .inv in let v0 = v .0 in let v1 = v .1 in let v2 = v .2 in let v3 = v .3 in let v4 = v .4 in let v5 = v .5 in let v9 = v .9 in let t = c .before .before .before .before .before .before .before .before .loop-test .taken in
+    let k = c .before .before .before .before .before .list in let q = k .result in let g1 = k .ensures .1 .1 in let g2 = k .ensures .1 .2 in let len = k .kept .1 .1 .1 .1 .1 .0 in
     let b = c .back in let e = b .ensures in
     let e3 = ap (λ (r : Run). r .used) e in (
+      ap (λ (r : Run). r .at) e ∙ v0,
+      ap (λ (r : Run). r .left) e ∙ v1,
       omega arith,
-      ap (λ (r : Run). r .at) e ∙ v1,
-      ap (λ (r : Run). r .left) e ∙ v2,
+      k .ensures .1 .0,
       omega arith,
-      runs.rounds-one (a .depth - 1) (a .text .now) (o .result) y z (b .result) n (n + 1 - l .i) (n + 1 - (l .i + 1)) (a .array .now) (a .residue .now) (a .out .now) (l .array) (l .out) (k .last .1 .1 .1 .0) (k .last .1 .1 .1 .1 .1 .0) (v .4) (k .ensures .0) e (omega arith) (omega arith) len,
-      k .kept .1 .1 .1 .0 ∙ v .5,
-      len ∙ v6,
+      omega arith,
+      λ u. runs.rounds-one (a .depth - 1) (a .text .now) (o .result) y q (b .result) n (n - l .i) (n - (l .i + 1)) (a .array .now) (a .residue .now) (a .out .now) (l .array) (l .out) (k .last .1 .1 .1 .0) (k .last .1 .1 .1 .1 .1 .0) (v .6 (omega arith)) (k .ensures .0) e (omega arith) (omega arith) len,
+      λ u. runs.rounds-end (a .depth - 1) (a .text .now) (o .result) y q n (n - l .i) (a .array .now) (a .residue .now) (a .out .now) (l .array) (l .out) (k .last .1 .1 .1 .0) (k .last .1 .1 .1 .1 .1 .0) (v .6 (omega arith)) (omega arith) (k .ensures .0),
+      k .kept .1 .1 .1 .0 ∙ v .8,
+      len ∙ v9,
     )
 
-item-sub-list-2 : (t : ℕ) → item-lts.Need-sub-list-2 (item-knows t) (item-at t) item.Post item-Inv-loop item-μ-loop
-item-sub-list-2 t c = search needs
-
-item-list-requires-2 : (t : ℕ) → item-lts.Need-list-requires-2 (item-knows t) (item-at t) item.Post item-Inv-loop item-μ-loop
-item-list-requires-2 t c κs =
-    let a = c .before .before .before .before .before .before .before .before .before .before .before .before .before .before .args in let p = c .before .before .before .before .before .before .before .before .before .before .before .before .before .before .pre .0 in let p0 = c .before .before .before .before .before .before .before .before .before .before .before .before .before .before .pre .1 .0 in let p1 = c .before .before .before .before .before .before .before .before .before .before .before .before .before .before .pre .1 .1 in
-    let w = sym (c .before .before .before .before .before .before .before .before .before .word-at .ensures) ∙ c .before .before .before .before .before .before .before .w .given .1 in let n = c .before .before .before .before .before .before .before .w .given .0 .0 in let m = runs.opens-room (a .text .now) (a .x .left) (a .x .at) n w in let m0 = m .0 in let m1 = m .1 in let m2 = m .2 in
-    let o = c .before .before .before .before .past-open in let o1 = ap (λ (r : Run). r .at) (o .ensures) in let o2 = ap (λ (r : Run). r .left) (o .ensures) in let o3 = ap (λ (r : Run). r .used) (o .ensures) in
-    let l = c .before .before .before .loop in let y = l .y in let v = l .inv in let v0 = v .0 in let v1 = v .1 in let v2 = v .2 in let v3 = v .3 in let v6 = v .6 in
-    (omega arith, (omega arith, v3))
-
 item-past-close-requires : (t : ℕ) → item-lts.Need-past-close-requires (item-knows t) (item-at t) item.Post item-Inv-loop item-μ-loop
-item-past-close-requires t c κs = c .before .before .before .before .list2 .ensures .1 .0
+item-past-close-requires t c κs = c .before .loop .inv .3
 
 item-same-length-3 : (t : ℕ) → item-lts.Need-same-length-3 (item-knows t) (item-at t) item.Post item-Inv-loop item-μ-loop
 item-same-length-3 t c = search needs
@@ -205,16 +199,14 @@ item-same-length-4 t c = search needs
 
 item-returns-7 : (t : ℕ) → item-lts.Need-returns-7 (item-knows t) (item-at t) item.Post item-Inv-loop item-μ-loop
 item-returns-7 t c =
-    let a = c .before .before .before .before .before .before .before .before .before .before .before .before .before .before .before .before .before .before .before .before .args in let p = c .before .before .before .before .before .before .before .before .before .before .before .before .before .before .before .before .before .before .before .before .pre .0 in let p0 = c .before .before .before .before .before .before .before .before .before .before .before .before .before .before .before .before .before .before .before .before .pre .1 .0 in let p1 = c .before .before .before .before .before .before .before .before .before .before .before .before .before .before .before .before .before .before .before .before .pre .1 .1 in
-    let w = sym (c .before .before .before .before .before .before .before .before .before .before .before .before .before .before .before .word-at .ensures) ∙ c .before .before .before .before .before .before .before .before .before .before .before .before .before .w .given .1 in let n = c .before .before .before .before .before .before .before .before .before .before .before .before .before .w .given .0 .0 in let m = runs.opens-room (a .text .now) (a .x .left) (a .x .at) n w in let m0 = m .0 in let m1 = m .1 in let m2 = m .2 in
-    let o = c .before .before .before .before .before .before .before .before .before .before .past-open in let o1 = ap (λ (r : Run). r .at) (o .ensures) in let o2 = ap (λ (r : Run). r .left) (o .ensures) in let o3 = ap (λ (r : Run). r .used) (o .ensures) in
-    let l = c .before .before .before .before .before .before .before .before .before .loop in let y = l .y in let v = l .inv in let v0 = v .0 in let v1 = v .1 in let v2 = v .2 in let v3 = v .3 in let v6 = v .6 in let t = c .before .before .before .before .before .before .before .before .loop-test .left in
-    let k = c .before .before .before .before .before .list2 in let q = k .result in let g = k .ensures .1 in let g1 = g .1 in let g2 = g .2 in let len = k .kept .1 .1 .1 .1 .1 .0 in
-    let ez = c .past-close .ensures in let h = runs.close-ahead (a .text .now) q (g .0) in let h0 = h .0 in let h1 = h .1 in let h2 = h .2 in
+    let a = c .before .before .before .before .before .before .before .before .before .before .before .before .before .args in let p = c .before .before .before .before .before .before .before .before .before .before .before .before .before .pre .0 in let p0 = c .before .before .before .before .before .before .before .before .before .before .before .before .before .pre .1 .0 in let p1 = c .before .before .before .before .before .before .before .before .before .before .before .before .before .pre .1 .1 in
+    let w = sym (c .before .before .before .before .before .before .before .before .word-at .ensures) ∙ c .before .before .before .before .before .before .w .given .1 in let n = c .before .before .before .before .before .before .w .given .0 .0 in let m = runs.opens-room (a .text .now) (a .x .left) (a .x .at) n w in let m0 = m .0 in let m1 = m .1 in let m2 = m .2 in let m3 = m .3 in
+    let o = c .before .before .before .past-open in let o1 = ap (λ (r : Run). r .at) (o .ensures) in let o2 = ap (λ (r : Run). r .left) (o .ensures) in let o3 = ap (λ (r : Run). r .used) (o .ensures) in
+    let l = c .before .before .loop in let y = l .y in let v = l .inv in let v0 = v .0 in let v1 = v .1 in let v2 = v .2 in let v3 = v .3 in let v4 = v .4 in let v5 = v .5 in let v9 = v .9 in let t = c .before .loop-test .left in
+    let ez = c .past-close .ensures in let h = runs.close-ahead (a .text .now) (l .z) v3 in let h0 = h .0 in let h1 = h .1 in let h2 = h .2 in
     let e1 = ap (λ (r : Run). r .at) ez in let e3 = ap (λ (r : Run). r .used) ez in
-    let i = runs.rounds-end (a .depth - 1) (a .text .now) (o .result) y q n (n + 1 - l .i) (a .array .now) (a .residue .now) (a .out .now) (l .array) (l .out) (k .last .1 .1 .1 .0) (k .last .1 .1 .1 .1 .1 .0) (v .4) (omega arith) (k .ensures .0) in
-    let j = subst (λ (u : Run). AgainRead (a .text .now) u (a .depth - 1) n q (a .array .now) (a .residue .now) (a .out .now) (k .last .1 .1 .1 .0) (k .last .1 .1 .1 .1 .1 .0)) (o .ensures) i in
-    (runs.item-group (a .depth) (a .text .now) (a .x) q (c .past-close .result) n (a .array .now) (a .residue .now) (a .out .now) (k .last .1 .1 .1 .0) (k .last .1 .1 .1 .1 .1 .0) w j ez (omega arith) (len ∙ v6), (omega arith, omega arith, omega arith))
+    let j = subst (λ (u : Run). AgainRead (a .text .now) u (a .depth - 1) n (l .z) (a .array .now) (a .residue .now) (a .out .now) (l .array) (l .out)) (o .ensures) (v .7 (omega arith)) in
+    (runs.item-group (a .depth) (a .text .now) (a .x) (l .z) (c .past-close .result) n (a .array .now) (a .residue .now) (a .out .now) (l .array) (l .out) w j ez (omega arith) v9, (omega arith, omega arith, omega arith))
 
 abbrev list-Inv-loop : list-lts.InvT-loop
 list-Inv-loop text depth array₀ residue out₀ y₀ array out y =
@@ -304,8 +296,6 @@ pub +item+list-spec : {M : Type 1} → statement M
     (item-add-i t)
     (item-loop-less t)
     (item-loop-again t)
-    (item-sub-list-2 t)
-    (item-list-requires-2 t)
     (item-past-close-requires t)
     (item-same-length-3 t)
     (item-same-length-4 t)
