@@ -8,8 +8,12 @@ ghost use Rattle.file_block.specs.Block.{usedOf};
 ghost use Rattle.file_codec.specs.Layout.{headOf, sealed, blockWritten};
 ghost use Rattle.file_codec.specs.File.{limit, countOf, blocksOf, payloadWrong, lengthWrong, blocksRows, placesOf, writerOf, readerOf, inRoom, leftIn, writtenAs, judgedAs, readAs};
 
-// The most blocks that a file has.
+// The most blocks that a file has; with them the bytes of the longest file, and of the longest payload.
 const LIMIT: usize = 224;
+
+pub const FILE: usize = 512 * LIMIT;
+
+pub const PAYLOAD: usize = 505 * LIMIT;
 
 // The writer's answer: the bytes written, or the refusal.
 pub enum Written {

@@ -6,16 +6,17 @@ use lib.IntN.{ℤ}
 use lib.Ieee.{Float}
 use Rattle.common.specs.Choice.{Unique}
 use Rattle.common.proofs.Choice.{only}
-use Rattle.reading_print.specs.Texts.{countIn, laidIn, knotText, temperatureText}
+use Rattle.text.specs.Writing.{laidAt, behind}
+use Rattle.reading_print.specs.Texts.{knotText, temperatureText}
 
-pub knot-line-unique : (out : List ℕ) (volts tenths : ℤ) → Unique (λ (r : ℕ). r ≡ countIn out (knotText volts tenths))
-knot-line-unique out volts tenths = only (countIn out (knotText volts tenths))
+pub put-knot-unique : (out : List ℕ) (at : ℕ) (volts tenths : ℤ) → Unique (λ (r : ℕ). r ≡ behind out at (knotText volts tenths))
+put-knot-unique out at volts tenths = only (behind out at (knotText volts tenths))
 
-pub knot-line-left-unique : (out : List ℕ) (volts tenths : ℤ) → Unique (λ (left : List ℕ). left ≡ laidIn out (knotText volts tenths))
-knot-line-left-unique out volts tenths = only (laidIn out (knotText volts tenths))
+pub put-knot-left-unique : (out : List ℕ) (at : ℕ) (volts tenths : ℤ) → Unique (λ (left : List ℕ). left ≡ laidAt out at (knotText volts tenths))
+put-knot-left-unique out at volts tenths = only (laidAt out at (knotText volts tenths))
 
-pub temperature-text-unique : (out : List ℕ) (t : Float) → Unique (λ (r : ℕ). r ≡ countIn out (temperatureText t))
-temperature-text-unique out t = only (countIn out (temperatureText t))
+pub put-temperature-unique : (out : List ℕ) (at : ℕ) (t : Float) → Unique (λ (r : ℕ). r ≡ behind out at (temperatureText t))
+put-temperature-unique out at t = only (behind out at (temperatureText t))
 
-pub temperature-text-left-unique : (out : List ℕ) (t : Float) → Unique (λ (left : List ℕ). left ≡ laidIn out (temperatureText t))
-temperature-text-left-unique out t = only (laidIn out (temperatureText t))
+pub put-temperature-left-unique : (out : List ℕ) (at : ℕ) (t : Float) → Unique (λ (left : List ℕ). left ≡ laidAt out at (temperatureText t))
+put-temperature-left-unique out at t = only (laidAt out at (temperatureText t))

@@ -5,39 +5,9 @@ use Prim.Native.Nat.{ℕ, _+_, _/_, _%_}
 use lib.Dec.{ltb}
 use lib.IntN.{ℤ, pos, negsuc, natAbs}
 use lib.Signed.{ltZ}
-use lib.ListN.{length, drop}
 use lib.Ieee.{Float, fin, binary64, add, neg, lt, le, toUnsigned}
 use Rattle.common.specs.Choice.{if_then_else_}
-use Rattle.vectors_text.specs.Text.{spelled}
-
--- a text in front of what was there
-abbrev pub laid : List ℕ → List ℕ → List ℕ
-laid out text = text ++ drop (length text) out
-
--- what is left, and how many bytes are the text's: nothing is written where there is no room for 24 bytes, which is more than any takes
-unfoldable pub laidIn : List ℕ → List ℕ → List ℕ
-laidIn out text = if ltb (length out) 24 then out else laid out text
-
-unfoldable pub countIn : List ℕ → List ℕ → ℕ
-countIn out text = if ltb (length out) 24 then 0 else length text
-
--- the digits of a number below 2 to the 32
-unfoldable pub widthOf : ℕ → ℕ
-widthOf n =
-    if ltb n 10 then 1
-    else if ltb n 100 then 2
-    else if ltb n 1000 then 3
-    else if ltb n 10000 then 4
-    else if ltb n 100000 then 5
-    else if ltb n 1000000 then 6
-    else if ltb n 10000000 then 7
-    else if ltb n 100000000 then 8
-    else if ltb n 1000000000 then 9
-    else 10
-
--- a number in decimal, without zeros in front
-unfoldable pub decimalOf : ℕ → List ℕ
-decimalOf n = spelled 10 (widthOf n) n []
+use Rattle.text.specs.Digits.{decimalOf}
 
 -- with a minus before it where it is negative
 unfoldable pub signedText : Bool → ℕ → List ℕ

@@ -1,3 +1,4 @@
+pub mod Faulty
 pub mod Places
 pub mod Signs
 pub mod Order

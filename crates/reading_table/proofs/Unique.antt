@@ -7,6 +7,7 @@ use lib.IntN.{ℤ}
 use Rattle.common.specs.Choice.{Unique}
 use Rattle.common.proofs.Choice.{only}
 use Rattle.reading_table.specs.Table.{voltsOf, tenthsOf, risesTo, shapeWrong, tableNumber}
+use Rattle.reading_table.specs.Faults.{faultOf}
 use Rattle.reading_table.specs.Search.{seekOf}
 
 pub volts-unique : (p : List ℕ) (i : ℕ) → Unique (λ (r : ℤ). r ≡ voltsOf p i)
@@ -26,3 +27,6 @@ judge-table-unique p = only (tableNumber p)
 
 pub seek-unique : (p : List ℕ) (x : ℤ) → Unique (λ (r : ℕ). r ≡ seekOf p x)
 seek-unique p x = only (seekOf p x)
+
+pub first-fault-unique : (p : List ℕ) → Unique (λ (r : ℕ). r ≡ faultOf p)
+first-fault-unique p = only (faultOf p)

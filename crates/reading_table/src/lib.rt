@@ -5,6 +5,7 @@ ghost use Prim.Native.Nat.{_/_, _<_};
 ghost use lib.ListN.{length};
 ghost use lib.Signed.{ltZ, leZ};
 ghost use Rattle.reading_table.specs.Table.{signed32, signed16, word32, word16, voltsOf, tenthsOf, inRange, goodAt, risesTo, risingOf, shapeWrong, tableNumber};
+ghost use Rattle.reading_table.specs.Faults.{faultOf};
 ghost use Rattle.reading_table.specs.Search.{seekOf};
 
 // 32 bits as a signed number.
@@ -197,4 +198,21 @@ pub fn seek(s: &[u8], x: i32) -> usize
         }
     }
     lo
+}
+
+// The first knot whose microvolts are out of range or not above those of the knot before; where there is none, the number of knots.
+pub fn first_fault(s: &[u8]) -> usize
+    ensures { λ r. ⌜ r ≡ faultOf (now (s .entry)) ⌝ }
+{
+    let n = s.len() / 6;
+    let mut i = 0;
+    while i < n {
+        let g = good_at(s, i);
+        if g {
+            i += 1;
+        } else {
+            return i;
+        }
+    }
+    i
 }

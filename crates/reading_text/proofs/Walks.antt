@@ -17,7 +17,8 @@ use Rattle.common.proofs.Choice.{if-ind, if-true, if-false, or-right, and-right
 use Rattle.reading_text.specs.declared.Number.{Number}
 use Rattle.reading_text.specs.declared.NumberRead.the-variants.{Whole, NoNumber}
 use Rattle.reading_text.specs.declared.Scan.{Scan}
-use Rattle.reading_text.specs.Numbers.{isDecimal, fedDigit, fedMinus, fedOther, fed, fedAll, numberStart, numberFed, isNumber, isNegative, valueOf, numberTold}
+use Rattle.text.specs.Digits.{isDigit}
+use Rattle.reading_text.specs.Numbers.{fedDigit, fedMinus, fedOther, fed, fedAll, numberStart, numberFed, isNumber, isNegative, valueOf, numberTold}
 use Rattle.reading_text.specs.Tables.{Scanned, lineWrong, fitsTenths, gapWrong, stoppedScan, nextNumber, nextLine, nextLetter, atGap, withinLine, endLine, withKnot, scanMore, scanAll, sixOf}
 
 -- numbers
@@ -40,7 +41,7 @@ digit-small n b =
 
 fed-small : (n : Number) (b : ℕ) → Small n → Small (fed n b)
 unfolding fed
-fed-small n b h = if-ind Small (isDecimal b) (fedDigit n b) (if eqb b 45 then fedMinus n else fedOther n) (λ e. digit-small n b) (λ e. if-ind Small (eqb b 45) (fedMinus n) (fedOther n) (λ q. h) (λ q. h))
+fed-small n b h = if-ind Small (isDigit b) (fedDigit n b) (if eqb b 45 then fedMinus n else fedOther n) (λ e. digit-small n b) (λ e. if-ind Small (eqb b 45) (fedMinus n) (fedOther n) (λ q. h) (λ q. h))
 
 all-small : (n : Number) (bs : List ℕ) → Small n → Small (fedAll n bs)
 all-small n [] h = h

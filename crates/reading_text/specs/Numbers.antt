@@ -1,10 +1,11 @@
 -- A number as text: a minus or none, then digits. Assumes nothing.
 use mathlib.Core.Bool.{Bool, true, false, not, _&&_, _||_}
 use mathlib.Core.List.{List, [], _∷_}
-use Prim.Native.Nat.{ℕ, _+_, _-_, _*_, _%_}
+use Prim.Native.Nat.{ℕ, _+_, _-_, _*_}
 use lib.Dec.{eqb, leb, ltb}
 use lib.IntN.{ℤ, pos, negsuc}
 use Rattle.common.specs.Choice.{if_then_else_}
+use Rattle.text.specs.Digits.{isDigit, digitOf}
 use Rattle.reading_text.specs.declared.Number.{Number}
 use Rattle.reading_text.specs.declared.NumberRead.{NumberRead}
 use Rattle.reading_text.specs.declared.NumberRead.the-variants.{Whole, NoNumber}
@@ -13,15 +14,11 @@ use Rattle.reading_text.specs.declared.NumberRead.the-variants.{Whole, N
 abbrev pub numberStart : Number
 numberStart = record { minus = false; some = false; none = false; size = 0 }
 
--- `0` to `9`
-unfoldable pub isDecimal : ℕ → Bool
-isDecimal b = leb 48 b && leb b 57
-
 -- one digit more; a number that would pass nine digits is none
 unfoldable pub fedDigit : Number → ℕ → Number
 fedDigit n b =
     if leb 100000000 (n .size) then record { minus = n .minus; some = true; none = true; size = 0 }
-    else record { minus = n .minus; some = true; none = n .none; size = 10 * n .size + b % 16 }
+    else record { minus = n .minus; some = true; none = n .none; size = 10 * n .size + digitOf b }
 
 -- a minus: once, and before the first digit
 abbrev pub fedMinus : Number → Number
@@ -33,7 +30,7 @@ fedOther n = record { minus = n .minus; some = n .some; none = true; size = n .s
 
 -- one letter more
 unfoldable pub fed : Number → ℕ → Number
-fed n b = if isDecimal b then fedDigit n b else if eqb b 45 then fedMinus n else fedOther n
+fed n b = if isDigit b then fedDigit n b else if eqb b 45 then fedMinus n else fedOther n
 
 -- all letters of a text, one after the other
 abbrev pub fedAll : Number → List ℕ → Number

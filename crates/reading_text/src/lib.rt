@@ -3,7 +3,7 @@ ghost use mathlib.Core.Path.{_≡_};
 ghost use mathlib.Core.Bool.{not};
 ghost use Prim.Native.Nat.{ℕ, _+_, _*_, _/_, _≤_, _<_};
 ghost use lib.ListN.{length};
-ghost use Rattle.reading_text.specs.Numbers.{isDecimal, numberStart, fedDigit, fedMinus, fedOther, fed, numberFed, isNumber, isNegative, valueOf, numberTold};
+ghost use Rattle.reading_text.specs.Numbers.{numberStart, fedDigit, fedMinus, fedOther, fed, numberFed, isNumber, isNegative, valueOf, numberTold};
 ghost use Rattle.reading_text.specs.Tables.{bitsOf, sixOf, withKnot, fitsTenths, lineWrong, gapWrong, scanStart, stoppedScan, nextNumber, nextLine, nextLetter, atGap, withinLine, endLine, scanMore, isBegun, tableRead, tableScanned};
 
 // A number as far as it is read: whether it has a minus and a digit, whether it is none, and its size.
@@ -18,15 +18,6 @@ pub struct Number {
 pub enum NumberRead {
     Whole(i32),
     NoNumber,
-}
-
-// A digit's letter.
-fn is_decimal(b: u8) -> bool
-    ensures { λ r. ⌜ r ≡ isDecimal b ⌝ }
-{
-    let low = b'0' <= b;
-    let high = b <= b'9';
-    low & high
 }
 
 // One digit more: nine digits at most count.
@@ -85,7 +76,7 @@ fn feed_other(n: Number) -> Number
 fn feed(n: Number, b: u8) -> Number
     ensures { λ r. ⌜ r ≡ fed n b ⌝ }
 {
-    if is_decimal(b) {
+    if text::is_digit(b) {
         return feed_digit(n, b);
     }
     if b == b'-' {

@@ -9,14 +9,15 @@ use lib.Dec.{eqb, ltb}
 use borrow.Author.Tests.{ne-eqb, lt-ltb, le-leb, lt-leb, ltb-true}
 use Rattle.common.specs.Choice.{if_then_else_}
 use Rattle.common.proofs.Choice.{if-true, if-false, if-ind, unlike}
-use Rattle.vectors_text.specs.Text.{spelled, digitLetter}
+use Rattle.text.specs.Digits.{isDigit, digitLetter, spelled, widthOf, decimalOf}
+use Rattle.text.proofs.Spelling.{width-some}
 use Rattle.reading_text.specs.declared.Number.{Number}
 use Rattle.reading_text.specs.declared.Scan.{Scan}
-use Rattle.reading_text.specs.Numbers.{isDecimal, fedDigit, fed}
+use Rattle.reading_text.specs.Numbers.{fedDigit, fed}
 use Rattle.reading_text.specs.Tables.{Scanned, withinLine, atGap, nextLetter, scanMore, scanAll}
 use Rattle.reading_text.proofs.Walks.{step-within}
-use Rattle.reading_print.proofs.Laying.{width-some, signed-true, signed-false}
-use Rattle.reading_print.specs.Texts.{widthOf, decimalOf, signedText}
+use Rattle.reading_print.proofs.Laying.{signed-true, signed-false}
+use Rattle.reading_print.specs.Texts.{signedText}
 
 -- a number with its sign, its digits so far, and nothing wrong
 abbrev pub numbered : Bool → Bool → ℕ → Number
@@ -30,16 +31,16 @@ digit-is : (n : ℕ) → digitLetter (n % 10) ≡ 48 + n % 10
 unfolding digitLetter
 digit-is n = if-true (ltb (n % 10) 10) (48 + n % 10) (55 + n % 10) (lt-ltb (n % 10) 10 (omega arith))
 
-is-decimal : (n : ℕ) → isDecimal (48 + n % 10) ≡ true
-unfolding isDecimal
-is-decimal n = simp (le-leb 48 (48 + n % 10) (omega arith), le-leb (48 + n % 10) 57 (omega arith))
+is-digit : (n : ℕ) → isDigit (48 + n % 10) ≡ true
+unfolding isDigit
+is-digit n = simp (le-leb 48 (48 + n % 10) (omega arith), le-leb (48 + n % 10) 57 (omega arith))
 
 -- one digit more
 one-digit : (m s : Bool) (q n : ℕ) → q ≡ n / 10 → n < 1000000000 → fed (numbered m s q) (digitLetter (n % 10)) ≡ numbered m true n
 unfolding fed fedDigit
 one-digit m s q n e h =
     ap (fed (numbered m s q)) (digit-is n)
-    ∙ simp (is-decimal n, lt-leb 100000000 q (omega (arith, e, h)))
+    ∙ simp (is-digit n, lt-leb 100000000 q (omega (arith, e, h)))
     (ap (λ (z : ℕ). numbered m true z) (let w : 10 * q + (48 + n % 10) % 16 ≡ n = omega (arith, e) in w))
 
 -- a letter that is neither a space nor a newline
@@ -116,7 +117,7 @@ module _ (m : Bool) (volts : Number) (second : Bool) (k : ℕ) (out : List ℕ) 
       before-rest base (suc w) n after rest = before-rest base w (n / base) (digitLetter (n % base) ∷ after) rest
 
 minus-fed : fed (numbered false false 0) 45 ≡ numbered true false 0
-unfolding fed isDecimal
+unfolding fed isDigit
 minus-fed = refl
 
 -- with its sign

@@ -23,8 +23,8 @@ fn seal(file: &mut [u8], k: usize) {
         let to = from + 512;
         if to <= file.len() {
             let c = file_check::check(&file[from..to]);
-            vectors_text::put(file, from + 510, (c / 256) as u8);
-            vectors_text::put(file, from + 511, (c % 256) as u8);
+            text::put(file, from + 510, (c / 256) as u8);
+            text::put(file, from + 511, (c % 256) as u8);
         }
     }
 }
@@ -68,8 +68,8 @@ fn make(case: &[u8], payload: &[u8], file: &mut [u8]) {
 fn change_two(case: &[u8], k: usize, file: &mut [u8])
     requires { ⌜ k < 90 ⌝ }
 {
-    vectors_text::put(file, field(case, k), byte(case, k + 1));
-    vectors_text::put(file, field(case, k + 2), byte(case, k + 3));
+    text::put(file, field(case, k), byte(case, k + 1));
+    text::put(file, field(case, k + 2), byte(case, k + 3));
 }
 
 // Two bytes are changed, two blocks sealed, and two bytes changed after that.

@@ -57,7 +57,7 @@ fn change_all(case: &[u8], k: usize, n: usize, s: &mut [u8])
     let mut i = 0;
     while i < n {
         let at = k + 2 * i;
-        vectors_text::put(s, field(case, at), byte(case, at + 1));
+        text::put(s, field(case, at), byte(case, at + 1));
         i += 1;
     }
 }
@@ -174,7 +174,7 @@ fn loaded(
 // A byte in hex.
 fn tell_byte(x: u8) {
     let mut text = [0u8; 2];
-    vectors_text::hex(&mut text, x as u64);
+    text::hex(&mut text, x as u64);
     io::write_all(1, b" ");
     io::write_all(1, &text);
 }

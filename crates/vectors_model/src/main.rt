@@ -99,14 +99,14 @@ fn after_line(b: Bench, state: State) -> Bench {
 
 // A number in as many decimal digits as a slice has, and a space.
 fn print_decimal(text: &mut [u8], x: u64) {
-    vectors_text::decimal(text, x);
+    text::decimal(text, x);
     io::write_all(1, text);
     io::write_all(1, b" ");
 }
 
 // A number in as many hex digits as a slice has, and what comes after it.
 fn print_hex(text: &mut [u8], x: u64, end: &[u8]) {
-    vectors_text::hex(text, x);
+    text::hex(text, x);
     io::write_all(1, text);
     io::write_all(1, end);
 }

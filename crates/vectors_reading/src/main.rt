@@ -65,32 +65,32 @@ fn tell_answer(a: ReadingAnswer) {
 // A knot's six bytes from a place on; places past the end do not matter.
 fn put_knot(payload: &mut [u8], at: usize, volts: u32, tenths: u16) {
     if at < 4200 {
-        vectors_text::put(payload, at, (volts / 16777216 % 256) as u8);
-        vectors_text::put(payload, at + 1, (volts / 65536 % 256) as u8);
-        vectors_text::put(payload, at + 2, (volts / 256 % 256) as u8);
+        text::put(payload, at, (volts / 16777216 % 256) as u8);
+        text::put(payload, at + 1, (volts / 65536 % 256) as u8);
+        text::put(payload, at + 2, (volts / 256 % 256) as u8);
         put_rest(payload, at + 3, volts, tenths);
     }
 }
 
 fn put_rest(payload: &mut [u8], at: usize, volts: u32, tenths: u16) {
     if at < 4210 {
-        vectors_text::put(payload, at, (volts % 256) as u8);
-        vectors_text::put(payload, at + 1, (tenths / 256) as u8);
-        vectors_text::put(payload, at + 2, (tenths % 256) as u8);
+        text::put(payload, at, (volts % 256) as u8);
+        text::put(payload, at + 1, (tenths / 256) as u8);
+        text::put(payload, at + 2, (tenths % 256) as u8);
     }
 }
 
 // A byte of the file is changed, and its block gets the check that fits.
 fn forge(file: &mut [u8], at: usize, b: u8) {
-    vectors_text::put(file, at, b);
+    text::put(file, at, b);
     let k = at / 512;
     if k < 8 {
         let from = 512 * k;
         let to = from + 512;
         if to <= file.len() {
             let c = file_check::check(&file[from..to]);
-            vectors_text::put(file, from + 510, (c / 256) as u8);
-            vectors_text::put(file, from + 511, (c % 256) as u8);
+            text::put(file, from + 510, (c / 256) as u8);
+            text::put(file, from + 511, (c % 256) as u8);
         }
     }
 }
@@ -121,7 +121,7 @@ fn payload_row(row: &[u8], kind: u8, s: Sizes, payload: &mut [u8]) -> Sizes {
         };
     }
     if kind == b'B' {
-        vectors_text::put(payload, at, (first(row) % 256) as u8);
+        text::put(payload, at, (first(row) % 256) as u8);
         return Sizes {
             payload: at + 1,
             file: s.file,

@@ -165,14 +165,14 @@ fn print_text(text: &[u8]) {
 
 // A number in as many decimal digits as a slice has, and a space.
 fn print_decimal(text: &mut [u8], x: u64) {
-    vectors_text::decimal(text, x);
+    text::decimal(text, x);
     print_text(text);
     print_text(b" ");
 }
 
 // A number in as many hex digits as a slice has, and what comes after it.
 fn print_hex(text: &mut [u8], x: u64, end: &[u8]) {
-    vectors_text::hex(text, x);
+    text::hex(text, x);
     print_text(text);
     print_text(end);
 }
@@ -445,7 +445,7 @@ fn sow_part(s: &mut [u8], asked: usize, row: &[u8]) {
 fn put_byte(s: &mut [u8], row: &[u8]) {
     let at = vectors_text::size_at(row, 16, 2, 8);
     let v = vectors_text::byte_at(row, 16, 11, 2);
-    vectors_text::put(s, at, v);
+    text::put(s, at, v);
 }
 
 // The record that a host hands back: the bench's part, levels and block, a place and polls, at the stage that it had.

@@ -1,15 +1,15 @@
--- Laws of numbers read off text and written as text, and of where a row ends. Assumes nothing.
+-- Laws of numbers read off text, and of where a row ends. Assumes nothing.
 use mathlib.Core.Path.{_≡_, refl, sym, _∙_, ap}
 use mathlib.Core.Bool.{Bool, true, false}
 use mathlib.Core.List.{List}
-use Prim.Native.Nat.{ℕ, suc, _+_, _-_, _/_, _%_, _≤_, _<_, min}
+use Prim.Native.Nat.{ℕ, suc, _+_, _-_, _≤_, _<_, min}
 use native.Mathlib.Omega.{arith}
 use native.Mathlib.Numerals.{add-one}
 use lib.Dec.{eqb, leb}
-use lib.ListN.{length, getD, take, drop, set, length-set, length-drop, drop-of-length-le}
-use lib.Seq.{drop-cons, drop-set-lt, getD-set-same, take-all}
+use lib.ListN.{length, getD, take, drop, length-drop, drop-of-length-le}
+use lib.Seq.{drop-cons, take-all}
 use borrow.Author.Tests.{leb-true, leb-false}
-use Rattle.vectors_text.specs.Text.{walk, fieldOf, digitLetter, spelled, rowOf}
+use Rattle.vectors_text.specs.Text.{walk, fieldOf, rowOf}
 
 -- one element more of a walk
 pub walk-next : (f : ℕ → ℕ → ℕ) (v : ℕ) (xs : List ℕ) (i : ℕ) → i < length xs → walk f v (drop i xs) ≡ walk f (f v (getD xs i 0)) (drop (i + 1) xs)
@@ -63,13 +63,3 @@ row-end xs i h e = rw (drop-cons xs i 0 h, e) refl
 -- a walk that came to the end
 pub walk-end : (f : ℕ → ℕ → ℕ) (v : ℕ) (xs : List ℕ) (i : ℕ) → length xs ≤ i → walk f v (drop i xs) ≡ v
 walk-end f v xs i h = rw (drop-of-length-le xs {i = i} h) refl
-
--- one digit fewer to spell: it is written before what follows
-pub spelled-back :
-    (base x : ℕ) (out : List ℕ) (i b : ℕ) → 0 < i → i ≤ length out → b ≡ digitLetter (x % base) → spelled base (i - 1) (x / base) (drop (i - 1) (set out (i - 1) b)) ≡ spelled base i x (drop i out)
-spelled-back base x out i b h k e = go (i - 1) (omega arith)
-  where
-    go : (j : ℕ) → i ≡ suc j → spelled base j (x / base) (drop j (set out j b)) ≡ spelled base i x (drop i out)
-    go j p =
-        let l : j < length out = omega arith in
-        rw (p, drop-cons (set out j b) j 0 (rw (length-set out j b) l), getD-set-same out j b 0 l, drop-set-lt (suc j) out j b (omega arith), e) refl

@@ -1,12 +1,12 @@
 -- Two results that a promise of this crate allows are equal, and so is what it leaves in each thing lent. Assumes nothing.
 use mathlib.Core.Path.{_≡_}
-use mathlib.Core.List.{List, []}
+use mathlib.Core.List.{List}
 use Prim.Native.Nat.{ℕ, _+_, _%_, _≤_, min, max}
-use lib.ListN.{length, set, replicate}
+use lib.ListN.{length, replicate}
 use Rattle.common.specs.Choice.{Unique}
 use Rattle.common.proofs.Choice.{only}
 use Rattle.vectors_text.specs.declared.Group.{Group}
-use Rattle.vectors_text.specs.Text.{numberRead, fieldOf, spelled, nextRow, groupAt}
+use Rattle.vectors_text.specs.Text.{numberRead, fieldOf, nextRow, groupAt}
 use Rattle.vectors_text.specs.Patterns.{digestOf, patternOf}
 
 pub word-at-unique : (s : List ℕ) (base at n : ℕ) → Unique (λ (r : ℕ). r ≡ numberRead base (fieldOf s at n))
@@ -31,17 +31,8 @@ pub digest-unique : (s : List ℕ) → Unique (λ (r : ℕ). r ≡ digestOf s)
 digest-unique s = only (digestOf s)
 
 -- what is left in the slice lent
-pub decimal-unique : (out : List ℕ) (x : ℕ) → Unique (λ (left : List ℕ). left ≡ spelled 10 (length out) x [])
-decimal-unique out x = only (spelled 10 (length out) x [])
-
-pub hex-unique : (out : List ℕ) (x : ℕ) → Unique (λ (left : List ℕ). left ≡ spelled 16 (length out) x [])
-hex-unique out x = only (spelled 16 (length out) x [])
-
 pub pattern-unique : (s : List ℕ) (top first step : ℕ) → Unique (λ (left : List ℕ). left ≡ patternOf top first step (length s))
 pattern-unique s top first step = only (patternOf top first step (length s))
-
-pub put-unique : (s : List ℕ) (at b : ℕ) → Unique (λ (left : List ℕ). left ≡ set s at b)
-put-unique s at b = only (set s at b)
 
 -- the array made
 pub blank-unique : Unique (λ (r : List ℕ). (r ≡ replicate {A = ℕ} 131073 0) × (131073 ≡ length r))

@@ -1,9 +1,10 @@
--- Numbers read off text and written as text, and where a row ends. Assumes nothing.
+-- Numbers read off text, and where a row ends. Assumes nothing.
 use mathlib.Core.List.{List, [], _∷_}
-use Prim.Native.Nat.{ℕ, zero, suc, _+_, _-_, _*_, _/_, _%_}
-use lib.Dec.{ltb, eqb}
+use Prim.Native.Nat.{ℕ, suc, _+_, _*_, _%_}
+use lib.Dec.{eqb}
 use lib.ListN.{getD, take, drop}
 use Rattle.common.specs.Choice.{if_then_else_}
+use Rattle.text.specs.Digits.{isHex, hexOf}
 use Rattle.vectors_text.specs.declared.Group.{Group}
 
 -- a walk over a list: each element changes what is held by the step f
@@ -13,12 +14,7 @@ walk f v (x ∷ xs) = walk f (f v x) xs
 
 -- what a digit is worth, 0 for any other letter
 unfoldable pub digitRead : ℕ → ℕ
-digitRead x =
-    if ltb x 48 then 0
-    else if ltb x 58 then x - 48
-    else if ltb x 65 then 0
-    else if ltb x 71 then x - 55
-    else 0
+digitRead x = if isHex x then hexOf x else 0
 
 -- one digit more of a number in a base, modulo 2 to the 32
 abbrev pub digitMore : ℕ → ℕ → ℕ → ℕ
@@ -31,15 +27,6 @@ numberRead base xs = walk (digitMore base) 0 xs
 -- so many letters from a place on, as many as there are
 abbrev pub fieldOf : List ℕ → ℕ → ℕ → List ℕ
 fieldOf xs at n = take n (drop at xs)
-
--- the letter of a digit
-unfoldable pub digitLetter : ℕ → ℕ
-digitLetter d = if ltb d 10 then 48 + d else 55 + d
-
--- the last n digits of x in a base, the highest first, and then what follows
-abbrev pub spelled : ℕ → ℕ → ℕ → List ℕ → List ℕ
-spelled base zero x after = after
-spelled base (suc n) x after = spelled base n (x / base) (digitLetter (x % base) ∷ after)
 
 -- the bytes of the first row, its newline among them
 abbrev pub rowOf : List ℕ → ℕ

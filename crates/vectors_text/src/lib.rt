@@ -1,10 +1,10 @@
-// What the vector programs share about text and bytes: numbers read off a row, numbers written, patterns and digests. Each
+// What the vector programs share about text and bytes: numbers read off a row, patterns and digests. Each
 // function takes any input.
 ghost use mathlib.Core.Path.{_≡_};
-ghost use mathlib.Core.List.{List, []};
+ghost use mathlib.Core.List.{List};
 ghost use Prim.Native.Nat.{ℕ, _+_, _<_, _≤_, _%_, min, max};
-ghost use lib.ListN.{length, set, replicate};
-ghost use Rattle.vectors_text.specs.Text.{digitRead, numberRead, fieldOf, digitLetter, spelled, nextRow, groupAt};
+ghost use lib.ListN.{length, replicate};
+ghost use Rattle.vectors_text.specs.Text.{digitRead, numberRead, fieldOf, nextRow, groupAt};
 ghost use Rattle.vectors_text.specs.Patterns.{digestOf, patternOf};
 
 // The four letters of a group of rows.
@@ -31,28 +31,12 @@ pub fn group_at(row: &[u8]) -> Group
     }
 }
 
-// Past the last digit and the last letter, and what a letter counts from.
-const PAST_9: u8 = b'9' + 1;
-
-const PAST_F: u8 = b'F' + 1;
-
-const TEN: u8 = b'A' - 10;
-
 // What a digit is worth, 0 for any other letter.
-fn digit(x: u8) -> usize
+fn worth(x: u8) -> usize
     ensures { λ r. ⌜ (r ≡ digitRead x) × (r < 16) ⌝ }
 {
-    if x < b'0' {
-        return 0;
-    }
-    if x < PAST_9 {
-        return common::wide(x - b'0');
-    }
-    if x < b'A' {
-        return 0;
-    }
-    if x < PAST_F {
-        return common::wide(x - TEN);
+    if text::is_hex(x) {
+        return common::wide(text::hex_digit(x));
     }
     0
 }
@@ -65,7 +49,7 @@ fn number(s: &[u8], base: u8) -> u32
     let mut v = 0;
     let mut i = 0;
     while i < s.len() {
-        v = (b * v + digit(s[i])) % 4294967296;
+        v = (b * v + worth(s[i])) % 4294967296;
         i += 1;
     }
     v as u32
@@ -98,45 +82,6 @@ pub fn size_at(s: &[u8], base: u8, at: usize, n: usize) -> usize
     ensures { λ r. ⌜ r ≡ numberRead base (fieldOf (now (s .entry)) at n) ⌝ }
 {
     word_at(s, base, at, n) as usize
-}
-
-// The letter of a digit below 16.
-fn letter(d: u64) -> u8
-    requires { ⌜ d < 16 ⌝ }
-    ensures { λ r. ⌜ r ≡ digitLetter d ⌝ }
-{
-    let n = d as u8;
-    if n < 10 {
-        return b'0' + n;
-    }
-    TEN + n
-}
-
-// A whole slice gets the last digits of x.
-fn spell(out: &mut [u8], base: u64, x: u64)
-    requires { ⌜ (0 < base) × (base ≤ 16) ⌝ }
-    ensures { λ _. ⌜ now (out .exit) ≡ spelled base (length (now (out .entry))) x [] ⌝ }
-{
-    let mut rest = x;
-    let mut i = out.len();
-    while 0 < i {
-        i -= 1;
-        out[i] = letter(rest % base);
-        rest = rest / base;
-    }
-}
-
-// A slice gets the last digits of x, in decimal and in hex.
-pub fn decimal(out: &mut [u8], x: u64)
-    ensures { λ _. ⌜ now (out .exit) ≡ spelled 10 (length (now (out .entry))) x [] ⌝ }
-{
-    spell(out, 10, x)
-}
-
-pub fn hex(out: &mut [u8], x: u64)
-    ensures { λ _. ⌜ now (out .exit) ≡ spelled 16 (length (now (out .entry))) x [] ⌝ }
-{
-    spell(out, 16, x)
 }
 
 // Where the next row begins: behind the newline, or at the end of the text.
@@ -178,15 +123,6 @@ pub fn pattern(s: &mut [u8], top: u16, first: usize, step: usize)
         s[i] = (v % 256) as u8;
         v = (v + d) % m;
         i += 1;
-    }
-}
-
-// The byte at a place becomes b; nothing past the end.
-pub fn put(s: &mut [u8], at: usize, b: u8)
-    ensures { λ _. ⌜ now (s .exit) ≡ set (now (s .entry)) at b ⌝ }
-{
-    if at < s.len() {
-        s[at] = b;
     }
 }
 

@@ -173,9 +173,9 @@ fn run(i: u64, text: &mut [u8], array: &mut [u8], residue: &[u8], out: &mut [u8]
     let c = lengths(i);
     let at = c.place;
     let old = common::nth(text, at);
-    vectors_text::put(text, at, c.byte);
+    text::put(text, at, c.byte);
     let r = replayed(c, text, array, residue, out);
-    vectors_text::put(text, at, old);
+    text::put(text, at, old);
     show(i, r, array, out);
 }
 

@@ -177,7 +177,7 @@ fn put_three(s: &mut [u32], at: usize, w: Wear) {
 // Trace i: the number of its device and its seven counts.
 fn put_trace(numbers: &mut [u8], counts: &mut [u32], i: usize, from: u8, w: Wear) {
     if i < 70000 {
-        vectors_text::put(numbers, i, from);
+        text::put(numbers, i, from);
         put_four(counts, 7 * i, w);
         put_three(counts, 7 * i, w);
     }

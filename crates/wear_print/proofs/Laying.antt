@@ -11,7 +11,7 @@ use borrow.Rule.Slice.PartMut.{putMid, midOf, mid-len}
 use Rattle.common.specs.Choice.{if_then_else_}
 use Rattle.common.specs.Lists.{copied, overlaid}
 use Rattle.common.proofs.Choice.{if-true, if-false}
-use Rattle.vectors_text.specs.Text.{spelled, digitLetter}
+use Rattle.text.specs.Digits.{spelled, digitLetter}
 use Rattle.wear_print.specs.Tables.{widthFrom, widthOf, fieldText, headText, laidIn, countIn}
 
 -- the digits of a number, a turn of the loop that counts them

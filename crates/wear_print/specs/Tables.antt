@@ -4,7 +4,7 @@ use Prim.Native.Nat.{ℕ, zero, suc, _/_}
 use lib.Dec.{ltb}
 use lib.ListN.{length, drop}
 use Rattle.common.specs.Choice.{if_then_else_}
-use Rattle.vectors_text.specs.Text.{spelled}
+use Rattle.text.specs.Digits.{spelled}
 use Rattle.wear.specs.declared.Tally.{Tally}
 use Rattle.wear.specs.declared.Report.{Report}
 

@@ -34,7 +34,7 @@ fn put_field(out: &mut [u8], at: usize, n: u64) -> usize
     let from = at + 1;
     let end = from + w;
     out[at] = b' ';
-    vectors_text::decimal(&mut out[from..end], n);
+    text::decimal(&mut out[from..end], n);
     end
 }
 

@@ -33,11 +33,11 @@ loop-holds c = (omega arith, omega arith, c .wide .ensures .0, omega arith, refl
 mul-v : tie.Need-mul-v Inv-loop μ-loop
 mul-v c = omega (arith, product _ (c .before .loop .v) (c .before .loop .inv .3))
 
-shared-slice-read-digit : tie.Need-shared-slice-read-digit Inv-loop μ-loop
-shared-slice-read-digit c = omega arith
+shared-slice-read-worth : tie.Need-shared-slice-read-worth Inv-loop μ-loop
+shared-slice-read-worth c = omega arith
 
-digit-requires : tie.Need-digit-requires Inv-loop μ-loop
-digit-requires c κs = search needs
+worth-requires : tie.Need-worth-requires Inv-loop μ-loop
+worth-requires c κs = search needs
 
 add-v : tie.Need-add-v Inv-loop μ-loop
 add-v c =
@@ -60,7 +60,7 @@ loop-again c =
       omega arith,
       l .inv .2,
       l .inv .3,
-      ap (λ (w : ℕ). walk f w (drop (l .i + 1) s)) (more _ (a .base) (l .v) _ (getD s (l .i) 0) (l .inv .2) (c .digit .ensures .0)) ∙ sym (walk-next f (l .v) s (l .i) (omega arith)) ∙ l .inv .4,
+      ap (λ (w : ℕ). walk f w (drop (l .i + 1) s)) (more _ (a .base) (l .v) _ (getD s (l .i) 0) (l .inv .2) (c .worth .ensures .0)) ∙ sym (walk-next f (l .v) s (l .i) (omega arith)) ∙ l .inv .4,
     )
 
 cast-result : tie.Need-cast-result Inv-loop μ-loop
@@ -74,4 +74,4 @@ returns c =
     sym (walk-end (digitMore (a .base)) (l .v) (a .s .now) (l .i) (omega arith)) ∙ l .inv .4
 
 pub number-spec : {M : Type 1} → statement M
-number-spec = tie.close (tie.spec Inv-loop μ-loop wide-requires loop-holds mul-v shared-slice-read-digit digit-requires add-v add-i loop-less loop-again cast-result returns)
+number-spec = tie.close (tie.spec Inv-loop μ-loop wide-requires loop-holds mul-v shared-slice-read-worth worth-requires add-v add-i loop-less loop-again cast-result returns)

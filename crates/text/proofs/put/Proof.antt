@@ -1,9 +1,9 @@
--- `vectors_text::put` meets its contract. Assumes nothing.
+-- `text::put` meets its contract. Assumes nothing.
 use mathlib.Core.Path.{sym}
 use borrow.Author.Needs.{needs}
 use lib.Seq.{set-out}
-use Rattle.vectors_text.proofs.put.Statement.{statement}
-use Rattle.vectors_text.proofs.put.Tie as tie
+use Rattle.text.proofs.put.Statement.{statement}
+use Rattle.text.proofs.put.Tie as tie
 
 slice-write-s : tie.Need-slice-write-s
 slice-write-s c = search needs

@@ -1,7 +1,7 @@
 use borrow.Author.Tests.{lt-ltb, le-ltb}
-use Rattle.reading_print.specs.Texts.{widthOf}
-use Rattle.reading_print.proofs.width.Statement.{statement}
-use Rattle.reading_print.proofs.width.Tie as tie
+use Rattle.text.specs.Digits.{widthOf}
+use Rattle.text.proofs.width.Statement.{statement}
+use Rattle.text.proofs.width.Tie as tie
 
 returns : tie.Need-returns
 unfolding widthOf

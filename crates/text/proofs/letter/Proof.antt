@@ -1,12 +1,9 @@
--- `vectors_text::letter` meets its contract. Assumes nothing.
+-- `text::letter` meets its contract. Assumes nothing.
 use borrow.Author.Needs.{needs}
 use borrow.Author.Tests.{lt-ltb, le-ltb}
-use Rattle.vectors_text.specs.Text.{digitLetter}
-use Rattle.vectors_text.proofs.letter.Statement.{statement}
-use Rattle.vectors_text.proofs.letter.Tie as tie
-
-cast-n : tie.Need-cast-n
-cast-n c = search needs
+use Rattle.text.specs.Digits.{digitLetter}
+use Rattle.text.proofs.letter.Statement.{statement}
+use Rattle.text.proofs.letter.Tie as tie
 
 add-result : tie.Need-add-result
 add-result c = search needs
@@ -23,4 +20,4 @@ unfolding digitLetter
 returns-2 c = simp (le-ltb _ _ (c .if1 .left))
 
 pub letter-spec : {M : Type 1} → statement M
-letter-spec = tie.close (tie.spec cast-n add-result returns add-result-2 returns-2)
+letter-spec = tie.close (tie.spec add-result returns add-result-2 returns-2)
