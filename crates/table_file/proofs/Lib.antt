@@ -1,0 +1,3 @@
+pub mod Ways
+pub mod Few
+pub mod Unique
