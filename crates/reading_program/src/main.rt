@@ -1,24 +1,29 @@
 // The reading program. Arguments: a load file, the menu letter, a probe's microvolts. Standard output: the temperature in degrees with
-// one decimal, or one line that says below or above with the end knot's temperature, or the refusal with its number and words.
+// one decimal, or one line that says below or above with the end knot's temperature, or the refusal with its number and words. A `.` on
+// standard error says that all was written.
 use reading::Reading;
 use reading::ReadingAnswer;
 use reading_text::NumberRead;
 
-// Text on standard output.
-fn say(text: &[u8]) {
-    io::write_all(1, text);
+// A block more than the longest file: so one that is too long is seen.
+const ROOM: usize = file_codec::FILE + 512;
+
+// Text on standard output, and whether all of it was written.
+fn say(text: &[u8]) -> bool {
+    io::write_all(1, text)
 }
 
 // A temperature behind some words.
-fn say_degrees(words: &[u8], tenths: f64) {
+fn say_degrees(words: &[u8], tenths: f64) -> bool {
     let mut text = [0u8; 24];
-    let n = reading_print::temperature_text(&mut text, tenths);
-    say(words);
-    say(&text[..n]);
-    say(b"\n");
+    let n = common::least(reading_print::put_temperature(&mut text, 0, tenths), 24);
+    let a = say(words);
+    let b = say(&text[0..n]);
+    let c = say(b"\n");
+    a & b & c
 }
 
-fn say_reading(r: Reading) {
+fn say_reading(r: Reading) -> bool {
     match r {
         Reading::Temperature(t) => say_degrees(b"", t),
         Reading::Below(t) => say_degrees(b"below the table, which begins at ", t),
@@ -26,38 +31,33 @@ fn say_reading(r: Reading) {
     }
 }
 
-// What a refusal of the file means.
-fn say_file_words(n: u8) {
+// What a refusal means, in the front of out; the place behind it.
+fn words(out: &mut [u8], at: usize, n: u8) -> usize {
     match n {
-        30 => say(b"the file's length is wrong\n"),
-        31 => say(b"a block's check is wrong\n"),
-        32 => say(b"a block's letter is none, or not the first block's\n"),
-        33 => say(b"a block's number or count is wrong\n"),
-        34 => say(b"a block's used count or padding is wrong\n"),
-        35 => say(b"the file's letter is not the one asked for\n"),
-        38 => say(b"a block of the file is blank, not damaged: it was never loaded\n"),
-        _ => say(b"there is no room for the payload\n"),
+        30 => text::put_text(out, at, b"the file's length is wrong\n"),
+        37 => text::put_text(out, at, b"there is no room for the payload\n"),
+        40 => text::put_text(
+            out,
+            at,
+            b"the payload is no whole number of knots, or too few\n",
+        ),
+        41 => text::put_text(out, at, b"the microvolts are out of range or do not rise\n"),
+        _ => refusal_words::put_file_words(out, at, n),
     }
 }
 
-// What a refusal means.
-fn say_words(n: u8) {
-    match n {
-        40 => say(b"the payload is no whole number of knots, or too few\n"),
-        41 => say(b"the microvolts are out of range or do not rise\n"),
-        _ => say_file_words(n),
-    }
+fn say_refused(n: u8) -> bool {
+    let mut line = [0u8; 96];
+    let a = refusal_words::put_refused(&mut line, 0, n);
+    let b = text::put_text(&mut line, a, b": ");
+    let c = common::least(words(&mut line, b, n), 96);
+    say(&line[0..c])
 }
 
-fn say_answer(answer: ReadingAnswer) {
+fn say_answer(answer: ReadingAnswer) -> bool {
     match answer {
         ReadingAnswer::Read(r) => say_reading(r),
-        ReadingAnswer::Refused(n) => {
-            say(b"refused ");
-            io::print_decimal(1, n as u64);
-            say(b": ");
-            say_words(n);
-        }
+        ReadingAnswer::Refused(n) => say_refused(n),
     }
 }
 
@@ -68,10 +68,13 @@ fn usage() {
 
 // The reading from an open file. A file that is longer than a block past the limit is cut there, and refused all the same.
 fn read_open(fd: i32, letter: u8, x: i32) {
-    let mut file = [0u8; 115200];
-    let mut room = [0u8; 113120];
+    let mut file = [0u8; ROOM];
+    let mut room = [0u8; file_codec::PAYLOAD];
     let n = io::read_full(fd, &mut file);
-    say_answer(reading::reading_from_file(&file[..n], letter, &mut room, x));
+    let ok = say_answer(reading::reading_from_file(&file[..n], letter, &mut room, x));
+    if ok {
+        io::write_all(2, b".");
+    }
 }
 
 // The file is opened by its name.

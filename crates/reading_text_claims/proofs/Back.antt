@@ -19,7 +19,7 @@ use Rattle.reading_text.specs.Tables.{Scanned, sixOf, bitsOf, withKnot, scanAll
 use Rattle.reading_text.proofs.Walks.{put-over}
 use Rattle.reading_claims.specs.Tables.{Table}
 use Rattle.reading_claims.proofs.Judged.{size}
-use Rattle.reading_text_claims.specs.Printed.{linesOf, tableText}
+use Rattle.table_text.specs.Printed.{linesOf, tableText}
 use Rattle.reading_text_claims.proofs.Lines.{wholly, atLine, line, knot-bytes, tenths-fit}
 
 module _ (p out : List ℕ) (bytes : Bytes p) (t : Table p) (room : length p ≤ length out) where

@@ -8,7 +8,7 @@ use Rattle.reading_table.specs.Table.{knots}
 use Rattle.reading_text.specs.declared.TableRead.the-variants.{Knots}
 use Rattle.reading_text.specs.Tables.{tableScanned, tableRead}
 use Rattle.reading_claims.specs.Tables.{Table}
-use Rattle.reading_text_claims.specs.Printed.{tableText}
+use Rattle.table_text.specs.Printed.{tableText}
 use Rattle.reading_text_claims.proofs.Back as back
 
 -- A table that was printed reads back as the table: each line is a knot, the payload is in front, and what was behind it stays.

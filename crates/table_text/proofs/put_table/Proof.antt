@@ -1,0 +1,47 @@
+-- `table_text::put_table` meets its contract. Assumes nothing.
+use mathlib.Core.Path.{_≡_, sym, ap, _∙_}
+use mathlib.Core.List.{List}
+use Prim.Native.Nat.{ℕ}
+use denote.Ref.{now}
+use borrow.Author.Tests.{ne-eqb}
+use Rattle.text.specs.declared.Told.{Told}
+use Rattle.text.specs.Writing.{laidAt, toldOn}
+use Rattle.table_text.specs.Shown.{Said, tableSaid}
+use Rattle.table_text.proofs.Turns.{complained, good-table, bad-table}
+use borrow.Author.Needs.{needs}
+use Rattle.table_text.proofs.put_table.Statement.{statement}
+use Rattle.table_text.proofs.put_table.Tie as tie
+
+judge-table-requires : tie.Need-judge-table-requires
+judge-table-requires c κs = search needs
+
+put-knots-requires : tie.Need-put-knots-requires
+put-knots-requires c κs = search needs
+
+same-length : tie.Need-same-length
+same-length c = search needs
+
+returns : tie.Need-returns
+returns c =
+    let a = c .before .before .before .before .before .before .before .before .args in
+    let out = now (a .out) in
+    let p = c .before .before .put-knots in
+    let e = good-table (now (a .payload)) (sym (c .before .before .before .before .before .judge-table .ensures) ∙ c .before .before .before .before .if1 .taken) in
+    (ap (λ (z : ℕ). record { used = z; stream = 1 }) (p .ensures .0) ∙ ap (λ (z : Said). toldOn (z .stream) out (z .line)) e, p .ensures .1 ∙ ap (λ (z : Said). laidAt out 0 (z .line)) e)
+
+put-refusal-requires : tie.Need-put-refusal-requires
+put-refusal-requires c κs = search needs
+
+same-length-2 : tie.Need-same-length-2
+same-length-2 c = search needs
+
+returns-2 : tie.Need-returns-2
+returns-2 c =
+    let a = c .before .before .before .before .before .before .before .before .args in
+    let out = now (a .out) in
+    let p = c .before .before .put-refusal in
+    let j = c .before .before .before .before .before .judge-table in
+    complained out (p .last .0) (j .result) (tableSaid (now (a .payload))) (p .result) (bad-table (now (a .payload)) (j .result) (j .ensures) (ne-eqb _ _ (c .before .before .before .before .if1 .left))) (p .ensures .0) (p .ensures .1)
+
+pub put-table-spec : {M : Type 1} → statement M
+put-table-spec = tie.close (tie.spec judge-table-requires put-knots-requires same-length returns put-refusal-requires same-length-2 returns-2)
