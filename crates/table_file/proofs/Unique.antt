@@ -7,17 +7,16 @@ use Rattle.common.specs.Choice.{Unique}
 use Rattle.common.proofs.Choice.{only}
 use Rattle.text.specs.declared.Told.{Told}
 use Rattle.text.specs.Writing.{laidAt, toldOn}
-use Rattle.table_file.specs.Files.{Made, madeOf}
+use Rattle.table_file.specs.Files.{madeOf}
 
-module _ (text letter payload out : List ℕ) where
-  abbrev M : Made
-  M = madeOf text letter payload (length out)
+pub make-unique : (text letter payload out : List ℕ)
+    → Unique (λ (r : Told). r ≡ toldOn (madeOf text letter payload (length out) .said .stream) out (madeOf text letter payload (length out) .said .line))
+make-unique text letter payload out = only (toldOn (madeOf text letter payload (length out) .said .stream) out (madeOf text letter payload (length out) .said .line))
 
-  pub make-unique : Unique (λ (r : Told). r ≡ toldOn (M .said .stream) out (M .said .line))
-  make-unique = only (toldOn (M .said .stream) out (M .said .line))
+pub make-out-unique : (text letter payload out : List ℕ)
+    → Unique (λ (left : List ℕ). left ≡ laidAt out 0 (madeOf text letter payload (length out) .said .line))
+make-out-unique text letter payload out = only (laidAt out 0 (madeOf text letter payload (length out) .said .line))
 
-  pub make-out-unique : Unique (λ (left : List ℕ). left ≡ laidAt out 0 (M .said .line))
-  make-out-unique = only (laidAt out 0 (M .said .line))
-
-  pub make-payload-unique : Unique (λ (left : List ℕ). left ≡ M .payload)
-  make-payload-unique = only (M .payload)
+pub make-payload-unique : (text letter payload out : List ℕ)
+    → Unique (λ (left : List ℕ). left ≡ madeOf text letter payload (length out) .payload)
+make-payload-unique text letter payload out = only (madeOf text letter payload (length out) .payload)

@@ -6,17 +6,16 @@ use Rattle.common.specs.Choice.{Unique}
 use Rattle.common.proofs.Choice.{only}
 use Rattle.text.specs.declared.Told.{Told}
 use Rattle.text.specs.Writing.{laidAt, toldOn}
-use Rattle.table_text.specs.Shown.{Shown, shownOf}
+use Rattle.table_text.specs.Shown.{shownOf}
 
-module _ (file letter room out : List ℕ) where
-  abbrev S : Shown
-  S = shownOf file letter room
+pub show-unique : (file letter room out : List ℕ)
+    → Unique (λ (r : Told). r ≡ toldOn (shownOf file letter room .said .stream) out (shownOf file letter room .said .line))
+show-unique file letter room out = only (toldOn (shownOf file letter room .said .stream) out (shownOf file letter room .said .line))
 
-  pub show-unique : Unique (λ (r : Told). r ≡ toldOn (S .said .stream) out (S .said .line))
-  show-unique = only (toldOn (S .said .stream) out (S .said .line))
+pub show-out-unique : (file letter room out : List ℕ)
+    → Unique (λ (left : List ℕ). left ≡ laidAt out 0 (shownOf file letter room .said .line))
+show-out-unique file letter room out = only (laidAt out 0 (shownOf file letter room .said .line))
 
-  pub show-out-unique : Unique (λ (left : List ℕ). left ≡ laidAt out 0 (S .said .line))
-  show-out-unique = only (laidAt out 0 (S .said .line))
-
-  pub show-room-unique : Unique (λ (left : List ℕ). left ≡ S .room)
-  show-room-unique = only (S .room)
+pub show-room-unique : (file letter room out : List ℕ)
+    → Unique (λ (left : List ℕ). left ≡ shownOf file letter room .room)
+show-room-unique file letter room out = only (shownOf file letter room .room)

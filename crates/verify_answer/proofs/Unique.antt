@@ -6,23 +6,24 @@ use Rattle.common.specs.Choice.{Unique}
 use Rattle.common.proofs.Choice.{only}
 use Rattle.text.specs.declared.Told.{Told}
 use Rattle.text.specs.Writing.{laidAt, toldOn}
-use Rattle.verify_answer.specs.Answers.{Answered, answered}
+use Rattle.verify_answer.specs.Answers.{answered}
 
-module _ (count : ℕ) (image device block file letter mode wanted scratch out : List ℕ) where
-  abbrev A : Answered
-  A = answered count image device block file letter mode wanted scratch
+pub answer-unique : (count : ℕ) (image device block file letter mode wanted scratch out : List ℕ)
+    → Unique (λ (r : Told). r ≡ toldOn (answered count image device block file letter mode wanted scratch .stream) out (answered count image device block file letter mode wanted scratch .line))
+answer-unique count image device block file letter mode wanted scratch out = only (toldOn (answered count image device block file letter mode wanted scratch .stream) out (answered count image device block file letter mode wanted scratch .line))
 
-  pub answer-unique : Unique (λ (r : Told). r ≡ toldOn (A .stream) out (A .line))
-  answer-unique = only (toldOn (A .stream) out (A .line))
+pub answer-out-unique : (count : ℕ) (image device block file letter mode wanted scratch out : List ℕ)
+    → Unique (λ (left : List ℕ). left ≡ laidAt out 0 (answered count image device block file letter mode wanted scratch .line))
+answer-out-unique count image device block file letter mode wanted scratch out = only (laidAt out 0 (answered count image device block file letter mode wanted scratch .line))
 
-  pub answer-out-unique : Unique (λ (left : List ℕ). left ≡ laidAt out 0 (A .line))
-  answer-out-unique = only (laidAt out 0 (A .line))
+pub answer-image-unique : (count : ℕ) (image device block file letter mode wanted scratch out : List ℕ)
+    → Unique (λ (left : List ℕ). left ≡ answered count image device block file letter mode wanted scratch .image)
+answer-image-unique count image device block file letter mode wanted scratch out = only (answered count image device block file letter mode wanted scratch .image)
 
-  pub answer-image-unique : Unique (λ (left : List ℕ). left ≡ A .image)
-  answer-image-unique = only (A .image)
+pub answer-wanted-unique : (count : ℕ) (image device block file letter mode wanted scratch out : List ℕ)
+    → Unique (λ (left : List ℕ). left ≡ answered count image device block file letter mode wanted scratch .wanted)
+answer-wanted-unique count image device block file letter mode wanted scratch out = only (answered count image device block file letter mode wanted scratch .wanted)
 
-  pub answer-wanted-unique : Unique (λ (left : List ℕ). left ≡ A .wanted)
-  answer-wanted-unique = only (A .wanted)
-
-  pub answer-scratch-unique : Unique (λ (left : List ℕ). left ≡ A .scratch)
-  answer-scratch-unique = only (A .scratch)
+pub answer-scratch-unique : (count : ℕ) (image device block file letter mode wanted scratch out : List ℕ)
+    → Unique (λ (left : List ℕ). left ≡ answered count image device block file letter mode wanted scratch .scratch)
+answer-scratch-unique count image device block file letter mode wanted scratch out = only (answered count image device block file letter mode wanted scratch .scratch)
