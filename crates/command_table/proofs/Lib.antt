@@ -1,0 +1,4 @@
+pub mod Entries
+pub mod Rule
+pub mod Claims
+pub mod Unique
