@@ -7,13 +7,17 @@ use Rattle.common.proofs.Choice.{only}
 use Rattle.common.specs.Lists.{Bytes}
 use Rattle.units.specs.Units.{units, spare}
 use Rattle.units.proofs.Unique.{left-unique}
+use Rattle.device.specs.declared.Part.{Part}
 use Rattle.device.specs.declared.Device.{Device}
+use Rattle.model_types.specs.declared.Effect.{Effect}
+use Rattle.model_types.specs.declared.Reply.{Reply}
 use Rattle.model_types.specs.declared.State.{State}
 use Rattle.model_types.specs.declared.Cycle.{Cycle}
 use Rattle.model_types.specs.States.{freshState, resetOf}
+use Rattle.model.specs.declared.Seen.{Seen}
 use Rattle.model.specs.declared.Answer.{Answer}
-use Rattle.model.specs.Arrays.{answerOf, bytesAfter}
-use Rattle.model.specs.Inner.{answerJudged, arrayJudged}
+use Rattle.model.specs.Arrays.{seenOf, answerOf, bytesAfter}
+use Rattle.model.specs.Inner.{doneOf, answerJudged, arrayJudged}
 
 pub cycle-unique : (d : Device) (s : State) (c : Cycle) (us rs : List ℕ) → Unique (λ (r : Answer). r ≡ answerOf d s c us rs)
 cycle-unique d s c us rs = only (answerOf d s c us rs)
@@ -36,3 +40,12 @@ pub after-judging-array-unique : (d : Device) (s : State) (c : Cycle) (us rs res
     → (units (d .part .word) ys ≡ arrayJudged d s c us rs) × (spare (d .part .word) ys ≡ rest)
     → xs ≡ ys
 after-judging-array-unique d s c us rs rest xs ys = left-unique (d .part .word) (arrayJudged d s c us rs) rest xs ys
+
+pub see-unique : (reply : Reply) (us : List ℕ) → Unique (λ (r : Seen). r ≡ seenOf reply us)
+see-unique reply us = only (seenOf reply us)
+
+pub put-array-unique : (effect : Effect) (part : Part) (us rs rest xs ys : List ℕ) → Bytes xs → Bytes ys
+    → (units (part .word) xs ≡ doneOf effect part rs us) × (spare (part .word) xs ≡ rest)
+    → (units (part .word) ys ≡ doneOf effect part rs us) × (spare (part .word) ys ≡ rest)
+    → xs ≡ ys
+put-array-unique effect part us rs rest xs ys = left-unique (part .word) (doneOf effect part rs us) rest xs ys

@@ -107,8 +107,8 @@ fn finds(effect: Effect, part: Part, array: usize, residue: usize) -> bool
     }
 }
 
-// The effect done where it finds its units, and left undone elsewhere.
-fn put(effect: Effect, part: Part, array: &mut [u8], residue: &[u8])
+// The effect done where it finds its units, and left undone elsewhere. Public for a second engine, as `see` is.
+pub fn put(effect: Effect, part: Part, array: &mut [u8], residue: &[u8])
     ensures { λ _. ⌜ units (part .word) (now (array .exit))
         ≡ doneOf effect part (units (part .word) (now (residue .entry))) (units (part .word) (now (array .entry))) ⌝ }
     ensures { λ _. ⌜ spare (part .word) (now (array .exit)) ≡ spare (part .word) (now (array .entry)) ⌝ }
@@ -125,7 +125,7 @@ fn put(effect: Effect, part: Part, array: &mut [u8], residue: &[u8])
 }
 
 // What the host sees of a reply.
-fn see(reply: Reply, word: bool, array: &[u8]) -> Seen
+pub fn see(reply: Reply, word: bool, array: &[u8]) -> Seen
     ensures { λ r. ⌜ r ≡ seenOf reply (units word (now (array .entry))) ⌝ }
 {
     match reply {

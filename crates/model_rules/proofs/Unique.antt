@@ -4,12 +4,17 @@ use mathlib.Core.Bool.{Bool}
 use Prim.Native.Nat.{ℕ}
 use Rattle.common.specs.Choice.{Unique}
 use Rattle.common.proofs.Choice.{only}
+use Rattle.device.specs.declared.Part.{Part}
 use Rattle.device.specs.declared.Device.{Device}
+use Rattle.model_types.specs.declared.Action.{Action}
+use Rattle.model_types.specs.declared.Mode.{Mode}
+use Rattle.model_types.specs.declared.Reply.{Reply}
+use Rattle.model_types.specs.declared.Settled.{Settled}
 use Rattle.model_types.specs.declared.State.{State}
 use Rattle.model_types.specs.declared.Cycle.{Cycle}
 use Rattle.model_types.specs.declared.Decision.{Decision}
 use Rattle.model_rules.specs.Cycles.{judgeOf}
-use Rattle.model_rules.specs.Inner.{decideJudged, asksArray}
+use Rattle.model_rules.specs.Inner.{settledBy, decideRead, decideWrite, decideJudged, asksArray}
 
 pub judge-unique : (d : Device) (s : State) (c : Cycle) (array residue : ℕ) → Unique (λ (r : ℕ). r ≡ judgeOf d s c array residue)
 judge-unique d s c array residue = only (judgeOf d s c array residue)
@@ -19,3 +24,12 @@ decide-judged-unique d s c = only (decideJudged d s c)
 
 pub asks-array-unique : (s : State) (c : Cycle) → Unique (λ (r : Bool). r ≡ asksArray s c)
 asks-array-unique s c = only (asksArray s c)
+
+pub given-unique : (reply : Reply) (t : Settled) → Unique (λ (r : Decision). r ≡ settledBy reply t)
+given-unique reply t = only (settledBy reply t)
+
+pub read-unique : (m : Mode) (part : Part) (s : State) (c : Cycle) (t : Settled) → Unique (λ (r : Decision). r ≡ decideRead m part s c t)
+read-unique m part s c t = only (decideRead m part s c t)
+
+pub write-unique : (a : Action) (d : Device) (s : State) (c : Cycle) (t : Settled) → Unique (λ (r : Decision). r ≡ decideWrite a d s c t)
+write-unique a d s c t = only (decideWrite a d s c t)

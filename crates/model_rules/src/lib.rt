@@ -177,8 +177,8 @@ fn identifier(part: Part, address: u32) -> u16
     device::code(part)
 }
 
-// The settled state and effect under a reply.
-fn given(reply: Reply, t: Settled) -> Decision
+// The settled state and effect under a reply. Step 4 in its parts is public for an engine that tells a write's action in another way.
+pub fn given(reply: Reply, t: Settled) -> Decision
     ensures { λ r. ⌜ r ≡ settledBy reply t ⌝ }
 {
     let s = t.state;
@@ -229,7 +229,8 @@ fn sixteen(x: u8) -> u16
     x as u16
 }
 
-fn read(m: Mode, part: Part, s: State, c: Cycle, t: Settled) -> Decision
+// A read, by mode.
+pub fn read(m: Mode, part: Part, s: State, c: Cycle, t: Settled) -> Decision
     ensures { λ r. ⌜ r ≡ decideRead m part s c t ⌝ }
 {
     match m {
@@ -239,8 +240,8 @@ fn read(m: Mode, part: Part, s: State, c: Cycle, t: Settled) -> Decision
     }
 }
 
-// A write: 7, or what comes of it.
-fn write(a: Action, d: Device, s: State, c: Cycle, t: Settled) -> Decision
+// A write, by the action that it asks for: 7, or what comes of it.
+pub fn write(a: Action, d: Device, s: State, c: Cycle, t: Settled) -> Decision
     ensures { λ r. ⌜ r ≡ decideWrite a d s c t ⌝ }
 {
     let after = t.state;
