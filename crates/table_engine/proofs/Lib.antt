@@ -1,0 +1,3 @@
+pub mod Agree
+pub mod Claims
+pub mod Unique

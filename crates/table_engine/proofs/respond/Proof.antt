@@ -1,0 +1,48 @@
+use borrow.Author.Needs.{needs}
+use Rattle.table_engine.proofs.respond.Statement.{statement}
+use Rattle.table_engine.proofs.respond.Tie as tie
+
+enum-told : tie.Need-enum-told
+enum-told c = search needs
+
+read-requires : tie.Need-read-requires
+read-requires c κs = search needs
+
+enum-told-2 : tie.Need-enum-told-2
+enum-told-2 c = search needs
+
+action-requires : tie.Need-action-requires
+action-requires c κs = search needs
+
+write-requires : tie.Need-write-requires
+write-requires c κs = search needs
+
+enum-told-3 : tie.Need-enum-told-3
+enum-told-3 c = search needs
+
+given-requires : tie.Need-given-requires
+given-requires c κs = search needs
+
+returns : tie.Need-returns
+returns c = simp (c .read .ensures, c .before .before .enum-told .given .1)
+
+returns-2 : tie.Need-returns-2
+returns-2 c = simp (c .write .ensures, c .before .action .ensures, c .before .before .before .enum-told2 .given .1)
+
+returns-3 : tie.Need-returns-3
+returns-3 c = simp (c .given .ensures, c .before .enum-told3 .given .1)
+
+pub respond-spec : {M : Type 1} → statement M
+respond-spec =
+    tie.close
+    (tie.spec
+    enum-told
+    read-requires
+    enum-told-2
+    action-requires
+    write-requires
+    enum-told-3
+    given-requires
+    returns
+    returns-2
+    returns-3)
