@@ -99,7 +99,7 @@ def page():
 
 - *read array*, *read identifier*, *read status*: what reads give from now on; the state stays.
 - *the program starts*, *the erase starts*: at this cycle's address. With VPP low or SR.3 still set nothing starts, and SR.3 and the error bit
-  (SR.4 of a program, SR.5 of an erase) are set; in a locked block nothing starts, and the error bit is set. The device is idle then.
+  (SR.4 of a program, SR.5 of an erase) are set; in a locked boot block nothing starts, and the error bit is set. The device is idle then.
 - *data*: all bits that the cycle carries, 16 in word mode.
 - *wrong second write*: the device is idle, and what reads give is as it was.
 - *ignored*: nothing comes of the write.
@@ -109,7 +109,7 @@ def page():
 ![Seven states and what leads from one to the other](commands.svg)
 
 A whole line is a write, a broken line the end of the operation's or the suspend's own time. Not drawn: RP# low leads to idle from every state, VPP
-low ends what runs, is being suspended or is suspended, and a start that VPP, SR.3 or a locked block forbids leads to idle.
+low ends what runs, is being suspended or is suspended, and a start that VPP, SR.3 or a locked boot block forbids leads to idle.
 """
 
 
