@@ -1,0 +1,25 @@
+// Two engines behind one function: the rules tested one by one, or the table of `command_table`. The promise names no engine: they agree.
+use device::Device;
+use model::Answer;
+use model_types::Cycle;
+use model_types::State;
+ghost use mathlib.Core.Path.{_≡_};
+ghost use Rattle.units.specs.Units.{units, lent};
+ghost use Rattle.model.specs.Arrays.{answerOf, bytesAfter};
+
+// What decides a write: the rules' tests, or the table.
+pub enum Engine {
+    Rules,
+    Table,
+}
+
+// One bus cycle, by either.
+pub fn cycle(e: Engine, d: Device, s: State, c: Cycle, array: &mut [u8], residue: &[u8]) -> Answer
+    ensures { λ r. ⌜ r ≡ answerOf d s c (lent (d .part .word) (now (array .entry))) (units (d .part .word) (now (residue .entry))) ⌝ }
+    ensures { λ _. ⌜ now (array .exit) ≡ bytesAfter d s c (now (array .entry)) (now (residue .entry)) ⌝ }
+{
+    match e {
+        Engine::Rules => model::cycle(d, s, c, array, residue),
+        Engine::Table => table_engine::cycle(d, s, c, array, residue),
+    }
+}
