@@ -1,16 +1,17 @@
 #!/usr/bin/env python3
-"""The sample trace, the cases of the program `vectors_trace`, and what both programs must print.
+"""The sample trace, the cases of the program `vectors_trace`, and what the programs must print.
 
-    python3 tests/vectors_trace.py sample       the sample, as in crates/trace/stdin
-    python3 tests/vectors_trace.py answers      its answers, as in crates/trace/stdout
+    python3 tests/vectors_trace.py sample       the sample, as in crates/trace/stdin and crates/trace_table/stdin
+    python3 tests/vectors_trace.py answers      its answers, as in crates/trace/stdout and crates/trace_table/stdout
     python3 tests/vectors_trace.py expected     the lines of the cases, as in crates/vectors_trace/stdout
-    python3 tests/vectors_trace.py write        writes the three files
-    python3 tests/vectors_trace.py check        whether the three files are what the script prints
+    python3 tests/vectors_trace.py write        writes these files
+    python3 tests/vectors_trace.py check        whether they are what the script prints
     python3 tests/vectors_trace.py against target/bin/trace COUNT SEED
-                                                whether the program answers COUNT random traces as the script does
+                                                whether the program, or trace_table, answers COUNT random traces as the script does
 
-A line of `vectors_trace` shows: the case, the refusal (0 for none), the bytes of output, a digest of the 80,000 bytes lent for the
-output and of the array, and the last seven bytes of the output.
+The program `vectors_trace` runs every case by the rules and then every case by the table: the same lines twice. A line shows: the
+case, the refusal (0 for none), the bytes of output, a digest of the 80,000 bytes lent for the output and of the array, and the last
+seven bytes of the output.
 
 The reading of a trace below is written from document 01's section 'Trace program'; the chip behind it is the model of
 tests/vectors_model.py, written from the same page. Neither shares anything with the crates.
@@ -272,9 +273,9 @@ def against(program, count, seed):
 
 
 FILES = {
-    "sample": ("trace/stdin", sample),
-    "answers": ("trace/stdout", lambda: replay(sample())[0]),
-    "expected": ("vectors_trace/stdout", lambda: b"".join(line_of(i + 1, case) for i, case in enumerate(CASES))),
+    "sample": (["trace/stdin", "trace_table/stdin"], sample),
+    "answers": (["trace/stdout", "trace_table/stdout"], lambda: replay(sample())[0]),
+    "expected": (["vectors_trace/stdout"], lambda: 2 * b"".join(line_of(i + 1, case) for i, case in enumerate(CASES))),
 }
 
 
@@ -285,10 +286,11 @@ def main():
     told = replay("".join(left + "\n" for left, _ in example).encode())[0].decode().splitlines()
     assert told == [right for _, right in example], told
     if sys.argv[1:] == ["write"]:
-        for name, text in FILES.values():
-            (crates / name).write_bytes(text())
+        for names, text in FILES.values():
+            for name in names:
+                (crates / name).write_bytes(text())
     elif sys.argv[1:] == ["check"]:
-        wrong = [name for name, text in FILES.values() if (crates / name).read_bytes() != text()]
+        wrong = [name for names, text in FILES.values() for name in names if (crates / name).read_bytes() != text()]
         sys.exit("these files are not what the script prints: " + ", ".join(wrong) if wrong else 0)
     elif len(sys.argv) == 5 and sys.argv[1] == "against":
         against(sys.argv[2], int(sys.argv[3]), int(sys.argv[4]))

@@ -3,6 +3,7 @@ pub mod answers;
 
 use device::Device;
 use device::Part;
+use engines::Engine;
 use model::Answer;
 use model_types::Cycle;
 use model_types::State;
@@ -38,24 +39,31 @@ pub fn bench() -> Device
     }
 }
 
-// One line's step: the cycle that a line states, on bench T.
-pub fn step(s: State, c: Cycle, array: &mut [u8], residue: &[u8]) -> Answer
+// One line's step: the cycle that a line states, on bench T, by either engine. No promise here names the engine.
+pub fn step(engine: Engine, s: State, c: Cycle, array: &mut [u8], residue: &[u8]) -> Answer
     ensures { λ r. ⌜ r ≡ lineStep s c (now (array .entry)) (now (residue .entry)) ⌝ }
     ensures { λ _. ⌜ now (array .exit) ≡ arrayBy s c (now (array .entry)) (now (residue .entry)) ⌝ }
 {
     let d = bench();
-    model::cycle(d, s, c, array, residue)
+    engines::cycle(engine, d, s, c, array, residue)
 }
 
 // A line of the documented form is answered: its answer is laid over the front of out.
-pub fn answer_line(s: State, line: &[u8], array: &mut [u8], residue: &[u8], out: &mut [u8]) -> State
+pub fn answer_line(
+    engine: Engine,
+    s: State,
+    line: &[u8],
+    array: &mut [u8],
+    residue: &[u8],
+    out: &mut [u8],
+) -> State
     ensures { λ r. ⌜ r ≡ lineStep s (cycleStated (now (line .entry))) (now (array .entry)) (now (residue .entry)) .state ⌝ }
     ensures { λ _. ⌜ now (array .exit) ≡ arrayBy s (cycleStated (now (line .entry))) (now (array .entry)) (now (residue .entry)) ⌝ }
     ensures { λ _. ⌜ now (out .exit)
         ≡ copied (now (out .entry)) (printedOf (lineStep s (cycleStated (now (line .entry))) (now (array .entry)) (now (residue .entry)))) ⌝ }
 {
     let c = trace_lines::cycle_in(line);
-    let a = step(s, c, array, residue);
+    let a = step(engine, s, c, array, residue);
     let seen = a.seen;
     let state = a.state;
     let status = state.status;
@@ -92,7 +100,14 @@ pub fn good_lines(text: &[u8]) -> usize
 }
 
 // The first g lines are answered, each over its eight bytes of out.
-fn answer_lines(g: usize, text: &[u8], array: &mut [u8], residue: &[u8], out: &mut [u8])
+fn answer_lines(
+    engine: Engine,
+    g: usize,
+    text: &[u8],
+    array: &mut [u8],
+    residue: &[u8],
+    out: &mut [u8],
+)
     requires { ⌜ (20 * g ≤ length (now text)) × (8 * g ≤ length (now out)) ⌝ }
     ensures { λ _. ⌜ now (array .exit) ≡ arraysOf g freshState (now (array .entry)) (now (residue .entry)) (now (text .entry)) ⌝ }
     ensures { λ _. ⌜ now (out .exit)
@@ -105,13 +120,19 @@ fn answer_lines(g: usize, text: &[u8], array: &mut [u8], residue: &[u8], out: &m
         let e = a + 20;
         let p = 8 * i;
         let q = p + 8;
-        s = answer_line(s, &text[a..e], array, residue, &mut out[p..q]);
+        s = answer_line(engine, s, &text[a..e], array, residue, &mut out[p..q]);
         i += 1;
     }
 }
 
 // A whole trace on lent slices: the good lines are counted, answered, and what is left over is marked.
-pub fn replay(text: &[u8], array: &mut [u8], residue: &[u8], out: &mut [u8]) -> Replayed
+pub fn replay(
+    engine: Engine,
+    text: &[u8],
+    array: &mut [u8],
+    residue: &[u8],
+    out: &mut [u8],
+) -> Replayed
     ensures { λ r. ⌜ r ≡ replayedIn (length (now (out .entry))) (outputOf (now (array .entry)) (now (residue .entry)) (now (text .entry))) ⌝ }
     ensures { λ _. ⌜ now (array .exit)
         ≡ leftInRoom (length (now (out .entry))) (outputOf (now (array .entry)) (now (residue .entry)) (now (text .entry)))
@@ -130,7 +151,7 @@ pub fn replay(text: &[u8], array: &mut [u8], residue: &[u8], out: &mut [u8]) -> 
             used: 0,
         };
     }
-    answer_lines(g, text, array, residue, out);
+    answer_lines(engine, g, text, array, residue, out);
     let at = 8 * g;
     answers::write_end(g + 1, left, &mut out[at..n]);
     Replayed {

@@ -31,8 +31,8 @@ part-answer-line-end-2 c = search needs
 answer-line-requires : tie.Need-answer-line-requires
 answer-line-requires c κs = search needs
 
-sub-t13 : tie.Need-sub-t13
-sub-t13 c = search needs
+sub-t14 : tie.Need-sub-t14
+sub-t14 c = search needs
 
 same-length : tie.Need-same-length
 same-length c = search needs
@@ -43,7 +43,7 @@ same-length-2 c = search needs
 returns : tie.Need-returns
 returns c =
     let a = c .before .before .before .before .before .before .before .before .before .before .before .before .before .before .args in let k = c .before .before .before .before .before .answer-line in let p = c .before .before .before .before .before .before .before .before .before .before .before .before .before .before .pre .1 in
-    (line-state (a .text .now) (a .x) (a .array .now) (a .residue .now) (k .result) (k .ensures .0), (line-array (a .text .now) (a .x) (a .array .now) (a .residue .now) (k .last .1 .1 .0) (k .ensures .1 .0), line-laid (a .text .now) (a .x) (a .array .now) (a .residue .now) (a .out .now) (k .last .1 .1 .1 .1 .0) p (k .ensures .1 .1)))
+    (line-state (a .text .now) (a .x) (a .array .now) (a .residue .now) (k .result) (k .ensures .0), (line-array (a .text .now) (a .x) (a .array .now) (a .residue .now) (k .last .1 .1 .1 .0) (k .ensures .1 .0), line-laid (a .text .now) (a .x) (a .array .now) (a .residue .now) (a .out .now) (k .last .1 .1 .1 .1 .1 .0) p (k .ensures .1 .1)))
 
 pub answered-spec : {M : Type 1} → statement M
 answered-spec =
@@ -58,7 +58,7 @@ answered-spec =
     part-answer-line-start-2
     part-answer-line-end-2
     answer-line-requires
-    sub-t13
+    sub-t14
     same-length
     same-length-2
     returns)

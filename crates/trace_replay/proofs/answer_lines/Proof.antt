@@ -14,7 +14,7 @@ use Rattle.trace_replay.proofs.answer_lines.Statement.{statement}
 use Rattle.trace_replay.proofs.answer_lines.Tie as tie
 
 abbrev Inv-loop : tie.InvT-loop
-Inv-loop g text array₀ residue out₀ s₀ i₀ array out s i =
+Inv-loop engine g text array₀ residue out₀ s₀ i₀ array out s i =
     (i ≤ g)
     × (arraysOf (g - i) s array residue (drop (20 * i) text) ≡ arraysOf g s₀ array₀ residue text)
     × (take (8 * i) out ++ answersOf (g - i) s array residue (drop (20 * i) text) ≡ answersOf g s₀ array₀ residue text)
@@ -23,7 +23,7 @@ Inv-loop g text array₀ residue out₀ s₀ i₀ array out s i =
     × (length out ≡ length out₀)
 
 abbrev μ-loop : tie.MeasureT-loop
-μ-loop g text array₀ residue out₀ s₀ i₀ array out s i = g - i
+μ-loop engine g text array₀ residue out₀ s₀ i₀ array out s i = g - i
 
 fresh-requires : tie.Need-fresh-requires Inv-loop μ-loop
 fresh-requires c κs = search needs
@@ -90,13 +90,13 @@ loop-again c =
     let x = k .ensures .1 .0 in
     let o = k .ensures .1 .1 in (
       omega arith,
-      turned-array (a .g) (l .i) (l .s) (k .result) (l .array) (k .last .1 .1 .0) (k .last .1 .1 .1 .1 .0) (a .residue .now) (a .text .now) (l .out) h f e x o
+      turned-array (a .g) (l .i) (l .s) (k .result) (l .array) (k .last .1 .1 .1 .0) (k .last .1 .1 .1 .1 .1 .0) (a .residue .now) (a .text .now) (l .out) h f e x o
           (arraysOf (a .g) (c .before .before .before .before .before .before .before .before .before .before .fresh .result) (a .array .now) (a .residue .now) (a .text .now)) (l .inv .1),
-      turned-out (a .g) (l .i) (l .s) (k .result) (l .array) (k .last .1 .1 .0) (k .last .1 .1 .1 .1 .0) (a .residue .now) (a .text .now) (l .out) h f e x o
+      turned-out (a .g) (l .i) (l .s) (k .result) (l .array) (k .last .1 .1 .1 .0) (k .last .1 .1 .1 .1 .1 .0) (a .residue .now) (a .text .now) (l .out) h f e x o
           (answersOf (a .g) (c .before .before .before .before .before .before .before .before .before .before .fresh .result) (a .array .now) (a .residue .now) (a .text .now)) (l .inv .2),
-      turned-rest (a .g) (l .i) (l .s) (k .result) (l .array) (k .last .1 .1 .0) (k .last .1 .1 .1 .1 .0) (a .residue .now) (a .text .now) (l .out) h f e x o (a .out .now) (l .inv .3),
-      k .kept .1 .1 .0 ∙ l .inv .4,
-      turned-length (a .g) (l .i) (l .s) (k .result) (l .array) (k .last .1 .1 .0) (k .last .1 .1 .1 .1 .0) (a .residue .now) (a .text .now) (l .out) h f e x o ∙ l .inv .5,
+      turned-rest (a .g) (l .i) (l .s) (k .result) (l .array) (k .last .1 .1 .1 .0) (k .last .1 .1 .1 .1 .1 .0) (a .residue .now) (a .text .now) (l .out) h f e x o (a .out .now) (l .inv .3),
+      k .kept .1 .1 .1 .0 ∙ l .inv .4,
+      turned-length (a .g) (l .i) (l .s) (k .result) (l .array) (k .last .1 .1 .1 .0) (k .last .1 .1 .1 .1 .1 .0) (a .residue .now) (a .text .now) (l .out) h f e x o ∙ l .inv .5,
     )
 
 same-length : tie.Need-same-length Inv-loop μ-loop

@@ -90,10 +90,10 @@ returns-2 c =
     let h = c .before .before .before .before .before .before .before .before .before .before .before .if1 .left in (
       done (g .result) (n .result) (a .array .now) (a .residue .now) (a .text .now) (a .out .now) (g .ensures) (n .ensures) h,
       (
-        done-array (g .result) (n .result) (a .array .now) (a .residue .now) (a .text .now) (a .out .now) (g .ensures) (n .ensures) h (k .last .1 .1 .0) (k .ensures .0),
+        done-array (g .result) (n .result) (a .array .now) (a .residue .now) (a .text .now) (a .out .now) (g .ensures) (n .ensures) h (k .last .1 .1 .1 .0) (k .ensures .0),
         (
-          done-out (g .result) (n .result) (a .array .now) (a .residue .now) (a .text .now) (a .out .now) (g .ensures) (n .ensures) h (k .last .1 .1 .1 .1 .0) (w .last .1 .1 .0) (k .ensures .1) (w .ensures),
-          done-used (g .result) (n .result) (a .array .now) (a .residue .now) (a .text .now) (a .out .now) (g .ensures) (n .ensures) h (k .last .1 .1 .1 .1 .0) (w .last .1 .1 .0) (k .ensures .1) (w .ensures) (w .kept .1 .1 .0) (k .kept .1 .1 .1 .1 .0),
+          done-out (g .result) (n .result) (a .array .now) (a .residue .now) (a .text .now) (a .out .now) (g .ensures) (n .ensures) h (k .last .1 .1 .1 .1 .1 .0) (w .last .1 .1 .0) (k .ensures .1) (w .ensures),
+          done-used (g .result) (n .result) (a .array .now) (a .residue .now) (a .text .now) (a .out .now) (g .ensures) (n .ensures) h (k .last .1 .1 .1 .1 .1 .0) (w .last .1 .1 .0) (k .ensures .1) (w .ensures) (w .kept .1 .1 .0) (k .kept .1 .1 .1 .1 .1 .0),
         ),
       ),
     )
