@@ -4,14 +4,16 @@
 root=${root:?}
 
 replay_help() {
-    put "usage: torfbarke replay [--words] [FILE]     a trace from a file; '-' or nothing: from standard input
-       torfbarke replay [--words] --sample   the sample that ships with the project
+    put "usage: torfbarke replay [--words] [--engine NAME] [FILE]     a trace from a file; '-' or nothing: from standard input
+       torfbarke replay [--words] [--engine NAME] --sample   the sample that ships with the project
 
 Each line of a trace is one bus cycle on bench T, fresh at its start: kind, RP#, OE#, VPP, address, data.
 For each line comes an answer: D and the byte read, N -- for no data, X and the number of a refusal; then the
 status register. '?' and a number end the replay at a line that is none; standard error says what is wrong with it.
 
-  --words   each answer beside its cycle, with what it means
+  --words         each answer beside its cycle, with what it means
+  --engine NAME   rules, as when none is named, or table, which reads what a write asks for off the table of
+                  docs/COMMANDS.md. The same bytes come out: it is proved that the two agree
 
 Exit status: 0 every line answered, 1 a bad line, 2 a wrong call, 3 the program could not be built or run, 4 the
 output could not be written, 141 its reader went away. An example:
@@ -23,8 +25,32 @@ docs/OPERATORS.md has the form of a line, every number and worked traces.
 "
 }
 
-input replay trace sample.txt "$@"
-program trace
+# --engine and its name are taken out of the call, wherever they stand before a --; the last one named counts
+engine=rules rest=()
+while [ $# -gt 0 ]; do
+    case $1 in
+    --engine)
+        [ $# -gt 1 ] || fail 2 "--engine has no name behind it: rules or table"
+        engine=$2
+        shift
+        case $engine in
+        rules | table) ;;
+        *) fail 2 "there is no engine '$engine': it is rules or table" ;;
+        esac
+        ;;
+    --help | -h | --)
+        rest+=("$@")
+        break
+        ;;
+    *) rest+=("$1") ;;
+    esac
+    shift
+done
+input replay trace sample.txt ${rest[@]+"${rest[@]}"}
+case $engine in
+table) program trace_table ;;
+*) program trace ;;
+esac
 # 9,999 lines of 20 bytes: what follows cannot matter
 fetch "${file:?}" 199980
 run < <(give "${bytes?}")

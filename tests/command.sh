@@ -1,6 +1,6 @@
 #!/usr/bin/env bash
-# command.sh: drives ./torfbarke the way a person would: every way to hand over a trace or a script, every fault of a line, wrong calls,
-# output that cannot be written, dumps, a first call that builds, is killed or finds another's folder, calls at the same time. Where
+# command.sh: drives ./torfbarke the way a person would: every way to hand over a trace or a script, either engine, every fault of a line, wrong
+# calls, output that cannot be written, dumps, a first call that builds, is killed or finds another's folder, calls at the same time. Where
 # TORFBARKE_PROGRAMS names a folder with the programs they are taken from there; otherwise the first call proves and builds them.
 # Expected answers are those of the page's own example.
 set -eu
@@ -55,7 +55,9 @@ X 05 80
 '
 printf '%s' "$page" >"$work/page.txt"
 tb=$root/torfbarke
-"$tb" replay "$work/page.txt" >/dev/null # whatever has to be built is built here
+# whatever has to be built is built here
+"$tb" replay "$work/page.txt" >/dev/null
+"$tb" replay --engine table "$work/page.txt" >/dev/null
 
 # the ways to hand over a trace
 call "$tb" replay "$work/page.txt"; try 'a file' 0 "$answers" ''
@@ -139,6 +141,64 @@ yes 'I 1 0 12000 0000 00' | head -n 20000 >"$work/more.txt"
 call "$tb" replay "$work/more.txt"; try 'too many lines' 1 '*' 'at most 9,998'
 [ "$(tail -n 1 "$work/out")" = '? 9999' ] || wrong 'too many lines: no mark'
 
+# either engine: the answers, the words and the status are those of the call that names none, wherever the option stands
+either() { # either NAME STATUS ARGUMENTS
+    local name=$1 ends=$2 engine
+    shift 2
+    call "$tb" replay "$@"
+    [ "$status" = "$ends" ] || wrong "$name: status $status, not $ends"
+    cp "$work/out" "$work/named.out"
+    cp "$work/err" "$work/named.err"
+    for engine in rules table; do
+        call "$tb" replay --engine "$engine" "$@"
+        cases=$((cases + 1))
+        [ "$status" = "$ends" ] || wrong "$name, by the $engine: status $status, not $ends"
+        cmp -s "$work/named.out" "$work/out" || wrong "$name, by the $engine: other answers"
+        cmp -s "$work/named.err" "$work/err" || wrong "$name, by the $engine: other words on standard error"
+    done
+}
+worn=$root/crates/wear_program/data
+for words in '' --words; do
+    # shellcheck disable=SC2086
+    {
+        either "the sample $words" 0 $words --sample
+        either "the page's example $words" 0 $words "$work/page.txt"
+        either "an empty trace $words" 0 $words "$work/empty"
+        either "erases, one cut by a reset $words" 0 $words "$worn/first.txt"
+        either "the boot block, a suspend and a resume $words" 0 $words "$worn/second.txt"
+        either "the long sample, to its bad line $words" 1 $words "$root/crates/trace/stdin"
+        either "the sample of a bad line $words" 1 $words "$root/samples/bad-line.txt"
+        either "9,998 lines $words" 0 $words "$work/most.txt"
+        either "too many lines $words" 1 $words "$work/more.txt"
+    }
+done
+call "$tb" replay --engine table "$work/page.txt"; try 'by the table' 0 "$answers" ''
+call "$tb" replay --engine rules "$work/page.txt"; try 'by the rules' 0 "$answers" ''
+call piped --engine table; try 'by the table, from a pipe' 0 "$answers" ''
+call piped --engine table -; try 'by the table, from a pipe by its name' 0 "$answers" ''
+call "$tb" replay "$work/page.txt" --engine table; try 'an engine behind the file' 0 "$answers" ''
+call "$tb" replay --engine rules --engine table "$work/page.txt"; try 'two engines: the last counts' 0 "$answers" ''
+call in_work "$tb" replay --engine table -- -x; try 'by the table, a file named -x' 0 "$answers" ''
+"$tb" replay --words --sample >"$work/named.out"
+for words in '--words --engine table --sample' '--engine table --words --sample' '--sample --words --engine table' '--words --sample --engine table'; do
+    # shellcheck disable=SC2086
+    call "$tb" replay $words; try "$words" 0 '*' ''
+    cmp -s "$work/named.out" "$work/out" || wrong "$words: other answers"
+done
+call "$tb" replay --engine; one 'no engine named' 2 '' '--engine has no name behind it: rules or table'
+call "$tb" replay "$work/page.txt" --engine; one 'no engine named behind the file' 2 '' '--engine has no name behind it: rules or table'
+call "$tb" replay --engine tables "$work/page.txt"; one 'an engine that is none' 2 '' "there is no engine 'tables': it is rules or table"
+call "$tb" replay --engine Table "$work/page.txt"; one 'an engine in a capital' 2 '' "there is no engine 'Table'"
+call "$tb" replay --engine '' "$work/page.txt"; one 'an empty engine' 2 '' "there is no engine ''"
+call "$tb" replay --engine --words "$work/page.txt"; one 'an option for an engine' 2 '' "there is no engine '--words'"
+call "$tb" replay --engine x --engine table "$work/page.txt"; one 'an engine that is none, then one' 2 '' "there is no engine 'x'"
+call "$tb" replay --engine table "$work/nowhere"; one 'by the table: no such file' 2 '' 'there is no file'
+call "$tb" replay --engine table --sample "$work/page.txt"; one 'by the table: a file and the sample' 2 '' 'not both'
+call "$tb" replay --engine table --word; one 'by the table: an option that is none' 2 '' 'no option --word'
+call "$tb" replay -- --engine; one 'a file named --engine that is not there' 2 '' 'there is no file --engine'
+call "$tb" replay --help --engine; try 'replay --help before the rest' 0 '*' ''
+call "$tb" script --engine table "$work/page.txt"; one 'a script has no engines' 2 '' 'script has no option --engine'
+
 # scripts: the ways to hand one over, the answers of the lines written out, and what is wrong with a line, in words
 printf '( 002\n%s( 003\nI 1 0 12000 0000 00\n)\n)\n' "$page" >"$work/script.txt"
 again=$answers'N -- 80
@@ -185,7 +245,6 @@ call "$tb" script "$work/long.txt"; try 'a script of 3,500 lines' 1 '? 3001
 
 # wear: the counts by hand. The first trace begins two erases of block 1 and one of block 3, which a reset cuts; the boot block is locked, and
 # a D0 there starts nothing. The second begins one of block 0 (RP# at V_HH) and one of block 1, which it suspends and resumes
-worn=$root/crates/wear_program/data
 call "$tb" wear "$worn/first.txt"; try 'wear of a trace' 0 'block  total  largest  smallest  passed
     0      0        0         0       0
     1      2        2         2       0
@@ -446,7 +505,7 @@ python3 -c "for i in range(2000): print(4 * i, i)" >"$work/2000.txt"
 "$tb" table write K <"$work/2000.txt" >"$work/2000.load"
 head -n 3000 "$work/most.txt" >"$work/3000.txt"
 all=("--help" "replay --help" "script --help" "read --help" "table --help" "verify --help" "wear --help" "wear page.txt" "wear --words page.txt"
-    "replay page.txt" "replay --words page.txt" "script script.txt" "script --words script.txt" "read three.load K 6138" "read three.load K 8139"
+    "replay page.txt" "replay --words page.txt" "replay --engine table page.txt" "replay --engine table --words page.txt" "script script.txt" "script --words script.txt" "read three.load K 6138" "read three.load K 8139"
     "table write K" "table print three.load K" "verify image 3 1 three.load K" "verify image 3 2 three.load K")
 cd "$work"
 every() { # every TRIAL [CALL..]: a trial of these calls, or of each word; the text of a table is their standard input
@@ -503,7 +562,7 @@ else
     every on_gone
 fi
 # a disk that fills up on the way, and a limit of file sizes: the longer outputs are cut, with a word
-long=("replay most.txt" "replay --words most.txt" "script 3000.txt" "script --words 3000.txt" "table write K" "table print 2000.load K")
+long=("replay most.txt" "replay --words most.txt" "replay --engine table most.txt" "replay --engine table --words most.txt" "script 3000.txt" "script --words 3000.txt" "table write K" "table print 2000.load K")
 on_limit() {
     (ulimit -f 1 && exec "$tb" "$@" >"$work/limited" 2>"$work/err") || status=$?
     cut_off 'a limit of file sizes' "$@"
@@ -552,7 +611,7 @@ echo built >>"$BUILDS"
 [ ! -e target/half ] || echo goes on >>"$BUILDS"
 sleep "${BUILD_TAKES-0}"
 mkdir -p target/bin
-cp "$PROGRAM" target/bin/trace
+cp "$PROGRAM" "target/bin/$2"
 echo 'rt: cells proved (1 s)'
 echo 'rt: ok, 1 crates proved'
 KIT
@@ -561,7 +620,7 @@ if [ -n "${TORFBARKE_PROGRAMS-}" ]; then
     export PROGRAM=$TORFBARKE_PROGRAMS/trace BUILDS=$work/builds
     REAL_DOC=$(rt doc 2>/dev/null || true)
     export REAL_DOC
-    first() { env -u TORFBARKE_PROGRAMS XDG_CACHE_HOME="$work/cache$1" PATH="$work/kit:$PATH" "$tb" replay "$work/page.txt"; }
+    first() { env -u TORFBARKE_PROGRAMS XDG_CACHE_HOME="$work/cache$1" PATH="$work/kit:$PATH" "$tb" replay "${@:2}" "$work/page.txt"; }
     export BUILD_TAKES=1
     for pair in 1 2 3 4 5; do
         first "$pair" >"$work/one" 2>"$work/one.err" &
@@ -576,6 +635,8 @@ if [ -n "${TORFBARKE_PROGRAMS-}" ]; then
     unset BUILD_TAKES
     call first 6; try 'a first call tells what goes on' 0 "$answers" 'proved 1 of'
     call first 6; try 'a second call is quiet' 0 "$answers" ''
+    call first 6 --engine table; try 'the first call by the table builds a program of its own' 0 "$answers" 'first call: trace_table is proved'
+    call first 6 --engine table; try 'a second call by the table is quiet' 0 "$answers" ''
     find "$work/cache6/torfbarke" -type d -not -perm 700 | grep -q . && wrong 'a first call: a folder that is open to others'
     export KIT_VERSION=2
     call first 6; try 'another kit builds anew' 0 "$answers" 'proved 1 of'
