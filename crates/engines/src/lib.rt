@@ -7,19 +7,18 @@ ghost use mathlib.Core.Path.{_≡_};
 ghost use Rattle.units.specs.Units.{units, lent};
 ghost use Rattle.model.specs.Arrays.{answerOf, bytesAfter};
 
-// What decides a write: the rules' tests, or the table.
-pub enum Engine {
-    Rules,
-    Table,
-}
+// An engine is told by one bit: a value of an enum would go through memory, and a program that names one engine would hold both.
+pub const RULES: bool = false;
 
-// One bus cycle, by either.
-pub fn cycle(e: Engine, d: Device, s: State, c: Cycle, array: &mut [u8], residue: &[u8]) -> Answer
+pub const TABLE: bool = true;
+
+// One bus cycle, by the table or by the rules.
+pub fn cycle(table: bool, d: Device, s: State, c: Cycle, array: &mut [u8], residue: &[u8]) -> Answer
     ensures { λ r. ⌜ r ≡ answerOf d s c (lent (d .part .word) (now (array .entry))) (units (d .part .word) (now (residue .entry))) ⌝ }
     ensures { λ _. ⌜ now (array .exit) ≡ bytesAfter d s c (now (array .entry)) (now (residue .entry)) ⌝ }
 {
-    match e {
-        Engine::Rules => model::cycle(d, s, c, array, residue),
-        Engine::Table => table_engine::cycle(d, s, c, array, residue),
+    if table {
+        return table_engine::cycle(d, s, c, array, residue);
     }
+    model::cycle(d, s, c, array, residue)
 }

@@ -1,7 +1,6 @@
 // A script run on bench T: judged whole first, then walked, each group as often as its count says. Nothing is written out.
 // The reader of a list and the reader of an item call each other: with each list fewer levels are left to open, with each item fewer
 // bytes to read.
-use engines::Engine;
 use model_types::State;
 use script_lines::Word;
 use trace_replay::Replayed;
@@ -38,7 +37,7 @@ fn answered(text: &[u8], x: Run, array: &mut [u8], residue: &[u8], out: &mut [u8
     let q = p + 8;
     let s = x.state;
     let t = trace_replay::answer_line(
-        Engine::Rules,
+        engines::RULES,
         s,
         &text[a..e],
         array,

@@ -3,7 +3,6 @@ pub mod answers;
 
 use device::Device;
 use device::Part;
-use engines::Engine;
 use model::Answer;
 use model_types::Cycle;
 use model_types::State;
@@ -39,18 +38,18 @@ pub fn bench() -> Device
     }
 }
 
-// One line's step: the cycle that a line states, on bench T, by either engine. No promise here names the engine.
-pub fn step(engine: Engine, s: State, c: Cycle, array: &mut [u8], residue: &[u8]) -> Answer
+// One line's step: the cycle that a line states, on bench T, by the table or by the rules. No promise here tells which.
+pub fn step(table: bool, s: State, c: Cycle, array: &mut [u8], residue: &[u8]) -> Answer
     ensures { λ r. ⌜ r ≡ lineStep s c (now (array .entry)) (now (residue .entry)) ⌝ }
     ensures { λ _. ⌜ now (array .exit) ≡ arrayBy s c (now (array .entry)) (now (residue .entry)) ⌝ }
 {
     let d = bench();
-    engines::cycle(engine, d, s, c, array, residue)
+    engines::cycle(table, d, s, c, array, residue)
 }
 
 // A line of the documented form is answered: its answer is laid over the front of out.
 pub fn answer_line(
-    engine: Engine,
+    table: bool,
     s: State,
     line: &[u8],
     array: &mut [u8],
@@ -63,7 +62,7 @@ pub fn answer_line(
         ≡ copied (now (out .entry)) (printedOf (lineStep s (cycleStated (now (line .entry))) (now (array .entry)) (now (residue .entry)))) ⌝ }
 {
     let c = trace_lines::cycle_in(line);
-    let a = step(engine, s, c, array, residue);
+    let a = step(table, s, c, array, residue);
     let seen = a.seen;
     let state = a.state;
     let status = state.status;
@@ -101,7 +100,7 @@ pub fn good_lines(text: &[u8]) -> usize
 
 // The first g lines are answered, each over its eight bytes of out.
 fn answer_lines(
-    engine: Engine,
+    table: bool,
     g: usize,
     text: &[u8],
     array: &mut [u8],
@@ -120,14 +119,14 @@ fn answer_lines(
         let e = a + 20;
         let p = 8 * i;
         let q = p + 8;
-        s = answer_line(engine, s, &text[a..e], array, residue, &mut out[p..q]);
+        s = answer_line(table, s, &text[a..e], array, residue, &mut out[p..q]);
         i += 1;
     }
 }
 
 // A whole trace on lent slices: the good lines are counted, answered, and what is left over is marked.
 pub fn replay(
-    engine: Engine,
+    table: bool,
     text: &[u8],
     array: &mut [u8],
     residue: &[u8],
@@ -151,7 +150,7 @@ pub fn replay(
             used: 0,
         };
     }
-    answer_lines(engine, g, text, array, residue, out);
+    answer_lines(table, g, text, array, residue, out);
     let at = 8 * g;
     answers::write_end(g + 1, left, &mut out[at..n]);
     Replayed {

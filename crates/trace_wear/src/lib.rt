@@ -1,5 +1,4 @@
 // The wear that a whole trace leaves on bench T, counted from a fresh device.
-use engines::Engine;
 use model_types::State;
 use model_types::Wear;
 ghost use mathlib.Core.Path.{_≡_};
@@ -23,7 +22,7 @@ fn next(s: State, line: &[u8], array: &mut [u8], residue: &[u8]) -> State
     ensures { λ _. ⌜ now (array .exit) ≡ arrayBy s (cycleStated (now (line .entry))) (now (array .entry)) (now (residue .entry)) ⌝ }
 {
     let c = trace_lines::cycle_in(line);
-    let a = trace_replay::step(Engine::Rules, s, c, array, residue);
+    let a = trace_replay::step(engines::RULES, s, c, array, residue);
     a.state
 }
 

@@ -1,6 +1,5 @@
 // Replays generated inputs on lent slices by each engine and prints a line for each. The cases and the lines that they must print come from
 // tests/vectors_trace.py, which reads a trace in its own way and says what a line shows.
-use engines::Engine;
 use trace_replay::Replayed;
 
 // A case: so many bytes of input, with one byte put at a place, and so many bytes of room.
@@ -162,7 +161,7 @@ fn lengths(i: u64) -> Case {
 
 // The replay of a case, on a fresh array and a fresh output.
 fn replayed(
-    engine: Engine,
+    table: bool,
     c: Case,
     text: &[u8],
     array: &mut [u8],
@@ -173,25 +172,25 @@ fn replayed(
     let m = common::least(c.room, out.len());
     common::fill(array, 255);
     common::fill(out, 46);
-    trace_replay::replay(engine, &text[0..n], array, residue, &mut out[0..m])
+    trace_replay::replay(table, &text[0..n], array, residue, &mut out[0..m])
 }
 
 // One case: its byte is put into the text, and taken out again.
-fn run(engine: Engine, i: u64, text: &mut [u8], array: &mut [u8], residue: &[u8], out: &mut [u8]) {
+fn run(table: bool, i: u64, text: &mut [u8], array: &mut [u8], residue: &[u8], out: &mut [u8]) {
     let c = lengths(i);
     let at = c.place;
     let old = common::nth(text, at);
     text::put(text, at, c.byte);
-    let r = replayed(engine, c, text, array, residue, out);
+    let r = replayed(table, c, text, array, residue, out);
     text::put(text, at, old);
     show(i, r, array, out);
 }
 
 // Every case in its turn, by one engine.
-fn all(engine: Engine, text: &mut [u8], array: &mut [u8], residue: &[u8], out: &mut [u8]) {
+fn all(table: bool, text: &mut [u8], array: &mut [u8], residue: &[u8], out: &mut [u8]) {
     let mut i: u64 = 1;
     while i < 38 {
-        run(engine, i, text, array, residue, out);
+        run(table, i, text, array, residue, out);
         i += 1;
     }
 }
@@ -202,6 +201,6 @@ fn main() {
     let residue = [255u8; 16384];
     let mut out = [0u8; 80000];
     pattern(&mut text);
-    all(Engine::Rules, &mut text, &mut array, &residue, &mut out);
-    all(Engine::Table, &mut text, &mut array, &residue, &mut out);
+    all(engines::RULES, &mut text, &mut array, &residue, &mut out);
+    all(engines::TABLE, &mut text, &mut array, &residue, &mut out);
 }

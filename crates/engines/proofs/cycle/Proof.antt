@@ -5,42 +5,28 @@ use borrow.Author.Needs.{needs}
 use Rattle.engines.proofs.cycle.Statement.{statement}
 use Rattle.engines.proofs.cycle.Tie as tie
 
-enum-told : tie.Need-enum-told
-enum-told c = search needs
-
 cycle-requires : tie.Need-cycle-requires
 cycle-requires c κs = search needs
-
-enum-told-2 : tie.Need-enum-told-2
-enum-told-2 c = search needs
-
-cycle-requires-2 : tie.Need-cycle-requires-2
-cycle-requires-2 c κs = search needs
 
 same-length : tie.Need-same-length
 same-length c = search needs
 
 returns : tie.Need-returns
-returns c = search needs
+returns c =
+    let a = c .before .before .before .before .before .before .before .args in
+    let agree = engines-agree (a .d) (a .s) (a .c) (a .array .now) (a .residue .now) in
+    (c .before .before .cycle .ensures .0 ∙ agree .0, c .before .before .cycle .ensures .1 ∙ agree .1)
+
+cycle-requires-2 : tie.Need-cycle-requires-2
+cycle-requires-2 c κs = search needs
 
 same-length-2 : tie.Need-same-length-2
 same-length-2 c = search needs
 
 returns-2 : tie.Need-returns-2
-returns-2 c =
-    let a = c .before .before .before .before .before .before .before .before .args in
-    let agree = engines-agree (a .d) (a .s) (a .c) (a .array .now) (a .residue .now) in
-    (c .before .before .cycle2 .ensures .0 ∙ agree .0, c .before .before .cycle2 .ensures .1 ∙ agree .1)
+returns-2 c = search needs
 
 pub cycle-spec : {M : Type 1} → statement M
 cycle-spec =
     tie.close
-    (tie.spec
-    enum-told
-    cycle-requires
-    enum-told-2
-    cycle-requires-2
-    same-length
-    returns
-    same-length-2
-    returns-2)
+    (tie.spec cycle-requires same-length returns cycle-requires-2 same-length-2 returns-2)

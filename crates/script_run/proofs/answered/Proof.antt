@@ -31,8 +31,8 @@ part-answer-line-end-2 c = search needs
 answer-line-requires : tie.Need-answer-line-requires
 answer-line-requires c κs = search needs
 
-sub-t14 : tie.Need-sub-t14
-sub-t14 c = search needs
+sub-t13 : tie.Need-sub-t13
+sub-t13 c = search needs
 
 same-length : tie.Need-same-length
 same-length c = search needs
@@ -58,7 +58,7 @@ answered-spec =
     part-answer-line-start-2
     part-answer-line-end-2
     answer-line-requires
-    sub-t14
+    sub-t13
     same-length
     same-length-2
     returns)

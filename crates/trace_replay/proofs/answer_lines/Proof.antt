@@ -14,7 +14,7 @@ use Rattle.trace_replay.proofs.answer_lines.Statement.{statement}
 use Rattle.trace_replay.proofs.answer_lines.Tie as tie
 
 abbrev Inv-loop : tie.InvT-loop
-Inv-loop engine g text array₀ residue out₀ s₀ i₀ array out s i =
+Inv-loop table g text array₀ residue out₀ s₀ i₀ array out s i =
     (i ≤ g)
     × (arraysOf (g - i) s array residue (drop (20 * i) text) ≡ arraysOf g s₀ array₀ residue text)
     × (take (8 * i) out ++ answersOf (g - i) s array residue (drop (20 * i) text) ≡ answersOf g s₀ array₀ residue text)
@@ -23,7 +23,7 @@ Inv-loop engine g text array₀ residue out₀ s₀ i₀ array out s i =
     × (length out ≡ length out₀)
 
 abbrev μ-loop : tie.MeasureT-loop
-μ-loop engine g text array₀ residue out₀ s₀ i₀ array out s i = g - i
+μ-loop table g text array₀ residue out₀ s₀ i₀ array out s i = g - i
 
 fresh-requires : tie.Need-fresh-requires Inv-loop μ-loop
 fresh-requires c κs = search needs

@@ -7,10 +7,10 @@ use Rattle.vectors_trace.proofs.all.Statement.{statement}
 use Rattle.vectors_trace.proofs.all.Tie as tie
 
 abbrev Inv-loop : tie.InvT-loop
-Inv-loop engine text₀ array₀ residue out₀ i₀ text array out i = (i ≤ 38) × (length text ≡ length text₀) × (length array ≡ length array₀) × (length out ≡ length out₀)
+Inv-loop table text₀ array₀ residue out₀ i₀ text array out i = (i ≤ 38) × (length text ≡ length text₀) × (length array ≡ length array₀) × (length out ≡ length out₀)
 
 abbrev μ-loop : tie.MeasureT-loop
-μ-loop engine text₀ array₀ residue out₀ i₀ text array out i = 38 - i
+μ-loop table text₀ array₀ residue out₀ i₀ text array out i = 38 - i
 
 loop-holds : tie.Need-loop-holds Inv-loop μ-loop
 loop-holds c = search needs
