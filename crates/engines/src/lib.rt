@@ -1,4 +1,5 @@
-// Two engines behind one function: the rules tested one by one, or the table of `command_table`. The promise names no engine: they agree.
+// Two engines behind one function: the rules tested one by one, or the table of `command_table`. The promise names no engine, since they
+// agree.
 use device::Device;
 use model::Answer;
 use model_types::Cycle;
@@ -7,7 +8,7 @@ ghost use mathlib.Core.Path.{_≡_};
 ghost use Rattle.units.specs.Units.{units, lent};
 ghost use Rattle.model.specs.Arrays.{answerOf, bytesAfter};
 
-// An engine is told by one bit: a value of an enum would go through memory, and a program that names one engine would hold both.
+// An engine is told by one bit: a value of an enum goes through memory, and a program that names one engine would pay for the other.
 pub const RULES: bool = false;
 
 pub const TABLE: bool = true;
