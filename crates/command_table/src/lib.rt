@@ -5,7 +5,7 @@ use model_types::Action;
 use model_types::Cycle;
 use model_types::Phase;
 ghost use mathlib.Core.Path.{_≡_};
-ghost use Prim.Native.Nat.{_<_};
+ghost use Prim.Native.Nat.{_<_, _%_};
 ghost use Rattle.model_commands.specs.Commands.{commandOf, actionOf};
 ghost use Rattle.command_table.specs.Actions.{rowOf, forLarge, actionFor, entryIn, entryAt};
 
@@ -190,13 +190,14 @@ fn read_entry(line: usize, column: usize) -> u8
     COMMANDS[line][column]
 }
 
-// The entry of a byte in a state that has so many before it; past the seven states none is read.
-fn entry(row: usize, b: u8) -> u8
-    ensures { λ r. ⌜ r ≡ entryAt row b ⌝ }
+// The entry in a state that has so many before it, for the low byte of what the cycle carries; past the seven states none is read.
+fn entry(row: usize, v: u16) -> u8
+    ensures { λ r. ⌜ r ≡ entryAt row (v % 256) ⌝ }
 {
     if 6 < row {
         return REFUSE;
     }
+    let b = v % 256;
     read_entry(row * 16 + (b / 16) as usize, (b % 16) as usize)
 }
 
@@ -214,51 +215,27 @@ fn for_large(part: Part) -> Action
 fn action_for(part: Part, n: u8) -> Action
     ensures { λ r. ⌜ r ≡ actionFor part n ⌝ }
 {
-    if n == IGNORE {
-        return Action::Ignore;
+    match n {
+        IGNORE => Action::Ignore,
+        STORE => Action::Store,
+        WRONG_SECOND => Action::WrongSecond,
+        TO_ARRAY => Action::ToArray,
+        TO_IDENTIFIER => Action::ToIdentifier,
+        TO_STATUS => Action::ToStatus,
+        CLEAR => Action::Clear,
+        AWAIT_ERASE => Action::AwaitErase,
+        AWAIT_DATA => Action::AwaitData,
+        AWAIT_DATA_LARGE => for_large(part),
+        CONFIRM => Action::Confirm,
+        SUSPEND => Action::Suspend,
+        RESUME => Action::Resume,
+        _ => Action::Refuse,
     }
-    if n == STORE {
-        return Action::Store;
-    }
-    if n == WRONG_SECOND {
-        return Action::WrongSecond;
-    }
-    if n == TO_ARRAY {
-        return Action::ToArray;
-    }
-    if n == TO_IDENTIFIER {
-        return Action::ToIdentifier;
-    }
-    if n == TO_STATUS {
-        return Action::ToStatus;
-    }
-    if n == CLEAR {
-        return Action::Clear;
-    }
-    if n == AWAIT_ERASE {
-        return Action::AwaitErase;
-    }
-    if n == AWAIT_DATA {
-        return Action::AwaitData;
-    }
-    if n == AWAIT_DATA_LARGE {
-        return for_large(part);
-    }
-    if n == CONFIRM {
-        return Action::Confirm;
-    }
-    if n == SUSPEND {
-        return Action::Suspend;
-    }
-    if n == RESUME {
-        return Action::Resume;
-    }
-    Action::Refuse
 }
 
 // The action of a write, read off the table: the state's row, and the low byte of what the cycle carries.
 pub fn action(part: Part, ph: Phase, c: Cycle) -> Action
     ensures { λ r. ⌜ r ≡ actionOf part ph (commandOf c) ⌝ }
 {
-    action_for(part, entry(row_of(ph), units::low(c.data)))
+    action_for(part, entry(row_of(ph), c.data))
 }

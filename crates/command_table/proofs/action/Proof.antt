@@ -7,9 +7,6 @@ use Rattle.command_table.proofs.action.Tie as tie
 row-of-requires : tie.Need-row-of-requires
 row-of-requires c κs = search needs
 
-low-requires : tie.Need-low-requires
-low-requires c κs = search needs
-
 entry-requires : tie.Need-entry-requires
 entry-requires c κs = search needs
 
@@ -19,9 +16,9 @@ action-for-requires c κs = search needs
 returns : tie.Need-returns
 unfolding commandOf
 returns c =
-    let a = c .before .before .before .before .args in
-    simp (c .action-for .ensures, c .before .entry .ensures, c .before .before .low .ensures, c .before .before .before .row-of .ensures) (at-any-cycle (a .part) (a .ph) (a .c))
+    let a = c .before .before .before .args in
+    simp (c .action-for .ensures, c .before .entry .ensures, c .before .before .row-of .ensures) (at-any-cycle (a .part) (a .ph) (a .c))
 
 pub action-spec : {M : Type 1} → statement M
 action-spec =
-    tie.close (tie.spec row-of-requires low-requires entry-requires action-for-requires returns)
+    tie.close (tie.spec row-of-requires entry-requires action-for-requires returns)
