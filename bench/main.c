@@ -14,6 +14,7 @@ typedef struct {
     tb_span (*block)(uint8_t, uint8_t);
     tb_state (*fresh)(void);
     tb_answer (*cycle)(tb_device, tb_state, tb_bus, uint8_t *, size_t, const uint8_t *, size_t);
+    tb_answer (*table_cycle)(tb_device, tb_state, tb_bus, uint8_t *, size_t, const uint8_t *, size_t);
     tb_given (*start)(uint8_t, uint8_t, uint8_t, uint8_t, uint32_t, uint8_t, const uint8_t *, size_t, const uint8_t *, size_t);
     tb_turn (*step)(tb_loader *, uint16_t, const uint8_t *, size_t, uint8_t *, size_t);
     tb_ran (*run)(tb_device, tb_state, uint8_t, uint8_t, uint32_t, uint8_t, uint8_t *, size_t, const uint8_t *, size_t, uint8_t *, size_t);
@@ -43,10 +44,10 @@ static uint16_t c_running_sums(const uint8_t *block, size_t n) {
     return (uint16_t)total;
 }
 
-static const maker proved = {tb_size, tb_block, tb_fresh, tb_cycle, tb_start, tb_step, tb_run, tb_verify_run, tb_load,
+static const maker proved = {tb_size, tb_block, tb_fresh, tb_cycle, tb_table_cycle, tb_start, tb_step, tb_run, tb_verify_run, tb_load,
                              tb_file_write, tb_file_read, tb_block_check, tb_block_check, tb_table_judge, tb_table_reading,
                              tb_wear_add, tb_wear_report};
-static const maker second = {c_size, c_block, c_fresh, c_cycle, c_start, c_step, c_run, c_verify_run, c_load, c_file_write,
+static const maker second = {c_size, c_block, c_fresh, c_cycle, c_cycle, c_start, c_step, c_run, c_verify_run, c_load, c_file_write,
                              c_file_read, c_block_check, c_running_sums, c_table_judge, c_table_reading, c_wear_add, c_wear_report};
 
 /* What the work is done on; `ready` of a row sets it, and all of it is compared after the row. It stands at the start of a page,
@@ -173,6 +174,17 @@ static void ready_reset(void) {
 static void work_same_cycle(const maker *m) {
     for (int t = 0; t < TURNS; t++)
         at.answer = m->cycle(at.device, at.state, same, at.array, 16384, at.residue, 8192);
+}
+
+/* The mix, and one cycle over and over, by the second engine; in C it is the same cycle. */
+static void work_table_mix(const maker *m) {
+    for (int t = 0; t < TURNS; t++)
+        for (int i = 0; i < MIXED; i++)
+            at.state = m->table_cycle(at.device, at.state, mix[i], at.array, 16384, at.residue, 8192).state;
+}
+static void work_table_cycle(const maker *m) {
+    for (int t = 0; t < TURNS; t++)
+        at.answer = m->table_cycle(at.device, at.state, same, at.array, 16384, at.residue, 8192);
 }
 
 /* The same on a 28F200BR-T in word mode, at 5 V. */
@@ -371,6 +383,9 @@ static const struct {
     {"model: D0H while suspended", 0, TURNS, ready_resume, work_same_cycle, NULL},
     {"model: a program cut by VPP", 0, TURNS, ready_fall, work_same_cycle, NULL},
     {"model: a reset by RP# low", 0, TURNS, ready_reset, work_same_cycle, NULL},
+    {"by the table: a mix of cycles, per cycle", 0, TURNS * MIXED, ready_mix, work_table_mix, NULL},
+    {"by the table: an idle cycle", 0, TURNS, ready_idle, work_table_cycle, NULL},
+    {"by the table: a write, 70H", 0, TURNS, ready_command, work_table_cycle, NULL},
     {"words: an array read", 0, TURNS, ready_word_read, work_words, NULL},
     {"words: a write, 70H", 0, TURNS, ready_word_command, work_words, NULL},
     {"words: a program's end", 0, TURNS, ready_word_end, work_words, NULL},

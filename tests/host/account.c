@@ -10,7 +10,7 @@ enum { PARTS = 8, WIDTHS = 2 };
 static uint64_t numbers[GROUPS][256], worded[ON_DEVICES][256], devices[ON_DEVICES][PARTS + 1][WIDTHS];
 static uint64_t phases[WIDTHS][256], stages[WIDTHS][256], edges[EDGES], marks[MARKS];
 static uint64_t erases[2][PARTS + 1][WIDTHS][TB_BLOCKS_MOST]; /* counted in a cycle, and in a run */
-static uint64_t all_blocks, all_cycles, all_loads, all_files, all_steps, all_readings, all_reports;
+static uint64_t all_blocks, all_cycles, all_table_cycles, all_loads, all_files, all_steps, all_readings, all_reports;
 
 void met(int group, uint8_t number) { numbers[group][number]++; }
 void met_on(int group, uint8_t part, uint8_t word, uint8_t number, bool refused) {
@@ -32,6 +32,7 @@ void met_erase(bool in_run, tb_device d, int block) { erases[in_run][d.number][d
 void mark_if(bool seen, int which) { marks[which] += seen; }
 void count_block(void) { all_blocks++; }
 void count_cycle(void) { all_cycles++; }
+void count_table_cycle(void) { all_table_cycles++; }
 void count_load(void) { all_loads++; }
 void count_file(void) { all_files++; }
 void count_step(void) { all_steps++; }
@@ -39,9 +40,10 @@ void count_reading(void) { all_readings++; }
 void count_report(void) { all_reports++; }
 
 static void counts(void) {
-    printf("%llu blocks of parts, %llu cycles, %llu loads, %llu files, %llu steps, %llu readings, %llu reports",
-           (unsigned long long)all_blocks, (unsigned long long)all_cycles, (unsigned long long)all_loads, (unsigned long long)all_files,
-           (unsigned long long)all_steps, (unsigned long long)all_readings, (unsigned long long)all_reports);
+    printf("%llu blocks of parts, %llu cycles, %llu by the table, %llu loads, %llu files, %llu steps, %llu readings, %llu reports",
+           (unsigned long long)all_blocks, (unsigned long long)all_cycles, (unsigned long long)all_table_cycles,
+           (unsigned long long)all_loads, (unsigned long long)all_files, (unsigned long long)all_steps, (unsigned long long)all_readings,
+           (unsigned long long)all_reports);
 }
 
 void mismatch(const char *what) {
@@ -60,6 +62,7 @@ static const struct {
     size_t n;
 } wanted[GROUPS] = {
     [IN_CYCLE] = {"cycle", {0, 1, 2, 3, 4, 5, 6, 7, 8, 9}, 10},
+    [IN_TABLE_CYCLE] = {"cycle by the table", {0, 1, 2, 3, 4, 5, 6, 7, 8, 9}, 10},
     [IN_START] = {"start", {0, 1, 4, 10, 11}, 5},
     [IN_STEP] = {"step", {0, 1, 3, 4, 10, 11, 20, 21, 22, 23, 24, 25}, 12},
     [IN_RUN] = {"run", {0, 1, 2, 3, 4, 10, 11, 12, 21, 23, 24}, 11},

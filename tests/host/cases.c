@@ -43,6 +43,13 @@ void twin_new(twin *t, const char *name, size_t room) {
     twin_noise(t, 0, room);
 }
 
+void third_new(twin *t, const twin *of) {
+    if (t->lib != NULL)
+        return;
+    *t = (twin){of->name, guarded(of->room), of->lib, of->room, of->room};
+    memcpy(t->lib, t->ref, t->room);
+}
+
 void twin_set(twin *t, size_t at, uint8_t byte) { t->lib[at] = t->ref[at] = byte; }
 
 void twin_noise(twin *t, size_t from, size_t n) {

@@ -23,12 +23,13 @@ void twin_noise(twin *, size_t from, size_t n);                 /* random bytes,
 void twin_fill(twin *, size_t from, size_t n, uint8_t byte);
 void twin_set(twin *, size_t at, uint8_t byte);
 void twin_copy(twin *, size_t at, const uint8_t *bytes, size_t n);
+void third_new(twin *, const twin *of);                         /* a third copy as `lib`; the first, `lib` of the other, as `ref` */
 uint8_t *lib_of(twin *); /* what is handed over: sometimes null where the length is 0 */
 uint8_t *ref_of(twin *);
 
 /* The account. A call is compared by its answer and by every byte that it was lent. */
 enum {
-    IN_CYCLE, IN_START, IN_STEP, IN_RUN, IN_LOAD_RUN, IN_VERIFY_RUN, IN_LOAD, IN_VERIFY_FILE,
+    IN_CYCLE, IN_TABLE_CYCLE, IN_START, IN_STEP, IN_RUN, IN_LOAD_RUN, IN_VERIFY_RUN, IN_LOAD, IN_VERIFY_FILE,
     IN_WRITE, IN_READ, IN_TABLE, IN_READING, IN_WEAR_ADD, IN_WEAR_REPORT, GROUPS
 };
 enum { ON_DEVICES = IN_VERIFY_FILE + 1 }; /* the groups before this are about a device */
@@ -54,6 +55,7 @@ void mark_if(bool seen, int which);
 
 void count_block(void); /* of a part */
 void count_cycle(void);
+void count_table_cycle(void);
 void count_load(void);
 void count_file(void);
 void count_step(void);

@@ -1,13 +1,15 @@
-/* Random bus cycles: walks from a fresh device with plausible commands, and single cycles on any numbers. */
+/* Random bus cycles: walks from a fresh device with plausible commands, and single cycles on any numbers. Each is made by both engines of
+ * the library, and by the second implementation. */
 #include <stdio.h>
 
 #include "cases.h"
 
 static twin array, residue;
+static twin table_array, table_residue; /* what the second engine is lent, beside what the first one was */
 static tb_device device;
 static tb_state before;
 static tb_bus bus;
-static tb_answer lib, ref;
+static tb_answer lib, table, ref;
 static uint32_t walked_at; /* VPP of the last cycle of a walk that was let pass; 0 before it */
 static int asked_block;    /* where 20H was last written in a walk; -1 before it */
 
@@ -18,6 +20,8 @@ static void tell(void) {
     printf("  array %zu, residue %zu bytes\n", array.length, residue.length);
     printf("  the library: seen %u, value %u\n", lib.seen, lib.value);
     tell_state("after", lib.state);
+    printf("  by its table: seen %u, value %u\n", table.seen, table.value);
+    tell_state("after", table.state);
     printf("  expected: seen %u, value %u\n", ref.seen, ref.value);
     tell_state("after", ref.state);
 }
@@ -121,6 +125,22 @@ static void account(void) {
         mark_operation();
 }
 
+static bool same_answer(tb_answer a, tb_answer b) { return a.seen == b.seen && a.value == b.value && same_state(a.state, b.state); }
+
+static uint8_t *third_of(twin *t) { return t->length == 0 ? NULL : t->lib; }
+
+/* The cycle that the first engine has just made, by the second: the same answer, and the same bytes left. */
+static void compare_engines(void) {
+    twin *lent[] = {&table_array, &table_residue};
+    table_array.length = array.length;
+    table_residue.length = residue.length;
+    table = tb_table_cycle(device, before, bus, third_of(&table_array), array.length, third_of(&table_residue), residue.length);
+    alike(same_answer(table, lib), "cycle by the table", lent, 2);
+    count_table_cycle();
+    bool refused = table.seen == TB_REFUSED;
+    met_on(IN_TABLE_CYCLE, device.number, device.word, (uint8_t)(refused ? table.value : 0), refused);
+}
+
 static void compare(void) {
     twin *lent[] = {&array, &residue};
     lib = tb_cycle(device, before, bus, lib_of(&array), array.length, lib_of(&residue), residue.length);
@@ -128,8 +148,9 @@ static void compare(void) {
     if (lib.seen == TB_REFUSED && !same_state(lib.state, before))
         mismatch("cycle: a refusal moved the state");
     keeps_places("cycle", device.number, before.wear, lib.state.wear);
+    compare_engines();
     ref = c_cycle(device, before, bus, ref_of(&array), array.length, ref_of(&residue), residue.length);
-    alike(lib.seen == ref.seen && lib.value == ref.value && same_state(lib.state, ref.state), "cycle", lent, 2);
+    alike(same_answer(lib, ref), "cycle", lent, 2);
     count_cycle();
     account();
 }
@@ -197,8 +218,11 @@ static void walk(void) {
     if (chance(75))
         before.wear = some_wear();
     asked_block = -1;
-    if (chance(10))
-        twin_noise(&array, below((uint32_t)c_size(device.number)), 1);
+    if (chance(10)) {
+        size_t at = below((uint32_t)c_size(device.number));
+        twin_noise(&array, at, 1);
+        table_array.lib[at] = array.lib[at];
+    }
     walked_at = 0;
     for (uint32_t i = 0; i < 32; i++) {
         next_bus(rough, home);
@@ -232,6 +256,8 @@ void cycles(uint32_t walks, uint32_t scattered) {
     tell_case = tell;
     twin_new(&array, "array", TB_SIZE_MOST + 1);
     twin_new(&residue, "residue", TB_BLOCK_MOST + 1);
+    third_new(&table_array, &array);
+    third_new(&table_residue, &residue);
     for (uint32_t i = 0; i < walks; i++)
         walk();
     for (uint32_t i = 0; i < scattered; i++)

@@ -7,6 +7,7 @@ here=$(dirname -- "$(readlink -f -- "$0")")
 # shellcheck source=tests/host/tools.sh
 . "$here/tools.sh"
 archive
+table_archive
 compiler
 
 strict=(-O2 -Wall -Wextra -pedantic -Werror -I "$inc")
@@ -42,19 +43,20 @@ overlapping 0 -DNDEBUG
 printf 'header:%s; an overlap stops a run, and does not with TB_UNCHECKED\n' "$tongues"
 
 stack=$(sed -n 's/.*No call needs more than \([0-9]*\) bytes of stack.*/\1/p' "$inc/torfbarke.h")
-[ -n "$stack" ] || fail 1 "the header does not say how much stack a call needs"
+table_stack=$(sed -n 's/.*tb_table_cycle needs \([0-9]*\), its table lies there.*/\1/p' "$inc/torfbarke.h")
+[ -n "$stack" ] && [ -n "$table_stack" ] || fail 1 "the header does not say how much stack a call needs"
 
 objects() { # objects FOLDER SLIP FILE..
     local folder=$1 slip=$2
     shift 2
     mkdir -p -- "$folder"
-    (cd -- "$folder" && $CC -std=c11 -O3 -Wall -Wextra -Werror -DBREAK="$slip" -DSTACK="$stack" -I "$inc" -c "$@") ||
+    (cd -- "$folder" && $CC -std=c11 -O3 -Wall -Wextra -Werror -DBREAK="$slip" -DSTACK="$stack" -DTABLE_STACK="$table_stack" -I "$inc" -c "$@") ||
         fail 3 "the tests could not be built"
 }
 
 build() { # build PROGRAM SLIP
     objects "$out/slip$2" "$2" "$here"/second_*.c
-    $CC -static "$out"/cases/*.o "$out/slip$2"/*.o "$lib" -o "$1" || fail 3 "the tests could not be linked"
+    $CC -static "$out"/cases/*.o "$out/slip$2"/*.o "$lib" "$table" -o "$1" || fail 3 "the tests could not be linked"
 }
 
 shopt -s extglob

@@ -10,8 +10,8 @@
 
 #include "cases.h"
 
-#ifndef STACK
-#error "STACK is what the header says that a call needs at most; run.sh reads it there"
+#if !defined(STACK) || !defined(TABLE_STACK)
+#error "STACK is what the header says that a call needs at most, TABLE_STACK what tb_table_cycle does; run.sh reads them there"
 #endif
 enum { ROOM = 65536, PAINT = 0xC7, CALLER = 96 };
 
@@ -47,6 +47,7 @@ static size_t used_by(void (*call)(void)) {
 
 static void nothing(void) {}
 static void cycle(void) { state = tb_cycle(device, state, bus, array, size, residue, sizeof residue).state; }
+static void table_cycle(void) { state = tb_table_cycle(device, state, bus, array, size, residue, sizeof residue).state; }
 static void start(void) { loader = tb_start(device.number, device.word, 1, 0, 12000, 1, wanted, block, scratch, block).loader; }
 static void step(void) { bus = tb_step(&loader, value, wanted, block, scratch, block).cycle; }
 static void run(void) { state = tb_run(device, fresh, 1, 0, 12000, 1, array, size, wanted, block, scratch, block).state; }
@@ -81,12 +82,18 @@ static void wear_report(void) {
 }
 static void part(void) { byte = (uint8_t)(tb_size(3) + tb_block(3, 1).first + tb_fresh().status); }
 
-static size_t most;
+static size_t most, table_most; /* of all calls but tb_table_cycle, and of that */
 
-static void measure(void (*call)(void)) {
-    size_t used = used_by(call);
-    if (used > most)
-        most = used;
+static void larger(size_t *of, size_t used) { *of = used > *of ? used : *of; }
+
+static void measure(void (*call)(void)) { larger(&most, used_by(call)); }
+
+/* A cycle by each engine, from the same state. */
+static void measure_cycle(void) {
+    tb_state before = state;
+    measure(cycle);
+    state = before;
+    larger(&table_most, used_by(table_cycle));
 }
 
 /* Cycles of each kind on an operation with one cycle to go, at each RP# and at VPP low and high: it ends, is cut or is suspended. */
@@ -94,7 +101,7 @@ static void cycles_of(uint8_t phase) {
     for (unsigned k = 0; k < 18; k++) {
         bus = (tb_bus){(uint8_t)(k % 3), (uint8_t)(k / 3 % 3), 0, 0, 0xB0, k < 9 ? 0 : 12000, 0x10};
         state = (tb_state){.mode = TB_MODE_STATUS, .phase = phase, .left = 1, .address = 0x10};
-        measure(cycle);
+        measure_cycle();
     }
 }
 
@@ -103,7 +110,7 @@ static void cycles_at_rest(void) {
     for (unsigned k = 0; k < 9; k++) {
         bus = (tb_bus){(uint8_t)(k % 3), 1, 0, 0, 0x40, 12000, 1};
         state = (tb_state){.mode = (uint8_t)(k / 3), .status = TB_SR_READY};
-        measure(cycle);
+        measure_cycle();
     }
 }
 
@@ -113,7 +120,7 @@ static void second_writes(void) {
     for (unsigned k = 0; k < 6; k++) {
         bus = (tb_bus){TB_CYCLE_WRITE, TB_RP_HIGH, 0, 0, 0xD0, k < 2 ? 0 : 12000, k < 4 ? 0x10 : boot};
         state = (tb_state){.mode = TB_MODE_STATUS, .status = TB_SR_READY, .phase = k % 2 ? TB_DATA_AWAITED : TB_ERASE_AWAITED};
-        measure(cycle);
+        measure_cycle();
     }
 }
 
@@ -150,6 +157,13 @@ static void on_device(tb_device d) {
     }
 }
 
+static void holds(const char *what, size_t used, size_t told) {
+    if (used <= told + CALLER)
+        return;
+    printf("%s took %zu bytes of stack; the header says %zu\n", what, used, told);
+    exit(1);
+}
+
 void stack(bool verbose) {
     void (*const calls[])(void) = {part, write, read, check, reading, write_short, wear_add, wear_report};
     size_t none = used_by(nothing);
@@ -159,9 +173,7 @@ void stack(bool verbose) {
         on_device(kinds[i]);
     measure(blank);
     if (verbose)
-        printf("stack  %zu bytes at most\n", most - none);
-    if (most - none <= STACK + CALLER)
-        return;
-    printf("a call took %zu bytes of stack; the header says %u\n", most - none, STACK);
-    exit(1);
+        printf("stack  %zu bytes at most, %zu by the table\n", most - none, table_most - none);
+    holds("a call", most - none, STACK);
+    holds("tb_table_cycle", table_most - none, TABLE_STACK);
 }

@@ -2,6 +2,7 @@
 # machine runs; on any other, Debian's cross compiler builds and its user-mode emulator runs.
 #   $CC ..        compiles for x86-64          $RUN PROGRAM ..  runs it
 #   archive       proves the library, unless that was done for these sources, and leaves it in $lib; its header is in $inc
+#   table_archive the same of the second engine, in $table
 #   compiler      makes sure of $CC and $RUN   emulator         makes sure of qemu-x86_64, also where $RUN does not need it
 #   $out          a folder of this call for what is built; it goes at the end
 # shellcheck shell=bash disable=SC2034
@@ -16,6 +17,11 @@ trap 'rm -rf -- "$out"' EXIT
 archive() {
     library c_functions
     lib=$built
+}
+
+table_archive() {
+    library c_table
+    table=$built
 }
 
 # want 'TEST' PACKAGE..: where the test fails, root installs the packages and says so; anybody else is told their names.

@@ -1,3 +1,4 @@
+pub mod Cycles
 pub mod Returned
 pub mod Claims
 pub mod Unique

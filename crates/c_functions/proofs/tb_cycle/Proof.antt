@@ -1,11 +1,5 @@
 use borrow.Author.Needs.{needs}
-use mathlib.Core.Path.{_≡_, ap, _∙_}
-use Rattle.units.specs.Units.{units, lent}
-use Rattle.model.specs.declared.Answer.{Answer}
-use Rattle.model.specs.Arrays.{answerOf, bytesAfter}
-use Rattle.c_cycle.specs.Values.{deviceIn, stateIn, cycleIn}
-use Rattle.c_cycle.specs.Answers.{answerOut}
-use Rattle.c_functions.specs.Calls.{cycled, arrayCycled}
+use Rattle.c_functions.proofs.Cycles.{cycle-numbers}
 use Rattle.c_functions.proofs.tb_cycle.Statement.{statement}
 use Rattle.c_functions.proofs.tb_cycle.Tie as tie
 
@@ -28,19 +22,14 @@ same-length : tie.Need-same-length
 same-length c = search needs
 
 returns : tie.Need-returns
-unfolding cycled arrayCycled
 returns c =
     let a = c .before .before .before .before .before .before .before .before .before .before .args in
     let xs = a .array .now in
     let rs = a .residue .now in
-    let d : c .before .before .before .before .before .before .before .device-in .result ≡ deviceIn (a .device) = c .before .before .before .before .before .before .before .device-in .ensures in
-    let s : c .before .before .before .before .before .before .state-in .result ≡ stateIn (a .state) = c .before .before .before .before .before .before .state-in .ensures in
-    let b : c .before .before .before .before .before .cycle-in .result ≡ cycleIn (a .bus) = c .before .before .before .before .before .cycle-in .ensures in
-    let g : c .before .before .before .cycle .result ≡ answerOf (deviceIn (a .device)) (stateIn (a .state)) (cycleIn (a .bus)) (lent (deviceIn (a .device) .part .word) xs) (units (deviceIn (a .device) .part .word) rs) =
-    c .before .before .before .cycle .ensures .0 ∙ (λ i. answerOf (d i) (s i) (b i) (lent (d i .part .word) xs) (units (d i .part .word) rs)) in (
-      c .answer-out .ensures ∙ ap (λ (x : Answer). answerOut (a .state) x) g,
-      c .before .before .before .cycle .ensures .1 ∙ (λ i. bytesAfter (d i) (s i) (b i) xs rs),
-    )
+    let cycle = c .before .before .before .cycle in
+    cycle-numbers (a .device) (a .state) (a .bus) xs rs _ _ _ _ _ _ (c .before .before .before .before .before .before .before .device-in .ensures)
+    (c .before .before .before .before .before .before .state-in .ensures) (c .before .before .before .before .before .cycle-in .ensures)
+    (cycle .ensures .0) (cycle .ensures .1) (c .answer-out .ensures)
 
 pub tb-cycle-spec : {M : Type 1} → statement M
 tb-cycle-spec =
