@@ -50,7 +50,8 @@ objects() { # objects FOLDER SLIP FILE..
     local folder=$1 slip=$2
     shift 2
     mkdir -p -- "$folder"
-    (cd -- "$folder" && $CC -std=c11 -O3 -Wall -Wextra -Werror -DBREAK="$slip" -DSTACK="$stack" -DTABLE_STACK="$table_stack" -I "$inc" -c "$@") ||
+    (cd -- "$folder" && $CC -std=c11 -O3 -Wall -Wextra -Werror -DBREAK="$slip" -DSTACK="$stack" -DTABLE_STACK="$table_stack" \
+        -I "$inc" -c "$@") ||
         fail 3 "the tests could not be built"
 }
 

@@ -1,5 +1,5 @@
 use borrow.Author.Needs.{needs}
-use Rattle.c_functions.proofs.Cycles.{cycle-numbers}
+use Rattle.c_functions.proofs.Cycles.{cycle-given}
 use Rattle.c_functions.proofs.tb_cycle.Statement.{statement}
 use Rattle.c_functions.proofs.tb_cycle.Tie as tie
 
@@ -27,7 +27,7 @@ returns c =
     let xs = a .array .now in
     let rs = a .residue .now in
     let cycle = c .before .before .before .cycle in
-    cycle-numbers (a .device) (a .state) (a .bus) xs rs _ _ _ _ _ _ (c .before .before .before .before .before .before .before .device-in .ensures)
+    cycle-given (a .device) (a .state) (a .bus) xs rs _ _ _ _ _ _ (c .before .before .before .before .before .before .before .device-in .ensures)
     (c .before .before .before .before .before .before .state-in .ensures) (c .before .before .before .before .before .cycle-in .ensures)
     (cycle .ensures .0) (cycle .ensures .1) (c .answer-out .ensures)
 

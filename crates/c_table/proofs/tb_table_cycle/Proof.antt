@@ -1,7 +1,7 @@
 use borrow.Author.Needs.{needs}
 use mathlib.Core.Path.{_∙_}
 use Rattle.table_engine.proofs.Claims.{engines-agree}
-use Rattle.c_functions.proofs.Cycles.{cycle-numbers}
+use Rattle.c_functions.proofs.Cycles.{cycle-given}
 use Rattle.c_table.proofs.tb_table_cycle.Statement.{statement}
 use Rattle.c_table.proofs.tb_table_cycle.Tie as tie
 
@@ -32,7 +32,7 @@ returns c =
     let agree =
     engines-agree (c .before .before .before .before .before .before .before .device-in .result) (c .before .before .before .before .before .before .state-in .result)
     (c .before .before .before .before .before .cycle-in .result) xs rs in
-    cycle-numbers (a .device) (a .state) (a .bus) xs rs _ _ _ _ _ _ (c .before .before .before .before .before .before .before .device-in .ensures)
+    cycle-given (a .device) (a .state) (a .bus) xs rs _ _ _ _ _ _ (c .before .before .before .before .before .before .before .device-in .ensures)
     (c .before .before .before .before .before .before .state-in .ensures) (c .before .before .before .before .before .cycle-in .ensures)
     (cycle .ensures .0 ∙ agree .0) (cycle .ensures .1 ∙ agree .1) (c .answer-out .ensures)
 
