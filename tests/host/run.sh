@@ -44,7 +44,8 @@ printf 'header:%s; an overlap stops a run, and does not with TB_UNCHECKED\n' "$t
 
 stack=$(sed -n 's/.*No call needs more than \([0-9]*\) bytes of stack.*/\1/p' "$inc/torfbarke.h")
 table_stack=$(sed -n 's/.*tb_table_cycle needs \([0-9]*\), its table lies there.*/\1/p' "$inc/torfbarke.h")
-[ -n "$stack" ] && [ -n "$table_stack" ] || fail 1 "the header does not say how much stack a call needs"
+[ -n "$stack" ] || fail 1 "the header does not say how much stack a call needs"
+[ -n "$table_stack" ] || fail 1 "the header does not say how much stack tb_table_cycle needs"
 
 objects() { # objects FOLDER SLIP FILE..
     local folder=$1 slip=$2
