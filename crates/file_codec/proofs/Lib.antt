@@ -1,4 +1,5 @@
 pub mod Tables
+pub mod Told
 pub mod Sizes
 pub mod Outcomes
 pub mod Parts

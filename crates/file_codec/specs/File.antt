@@ -108,3 +108,21 @@ judgedAs (made bytes) = Sound (length bytes)
 abbrev pub readAs : Outcome → ReadBack
 readAs (refused n) = NotRead n
 readAs (made bytes) = Gave (length bytes)
+
+-- the same answers by their cases: the refusal's number, 0 where there is none, and the values given
+abbrev pub writtenTold : Written → ℕ × List ℕ
+writtenTold (Wrote size) = (0, size ∷ [])
+writtenTold (NotWritten n) = (n, [])
+
+abbrev pub judgedTold : Judged → ℕ × List ℕ
+judgedTold (Sound size) = (0, size ∷ [])
+judgedTold (Unsound n) = (n, [])
+
+abbrev pub readTold : ReadBack → ℕ × List ℕ
+readTold (Gave size) = (0, size ∷ [])
+readTold (NotRead n) = (n, [])
+
+-- what an outcome tells: its refusal's number, or 0 and how many bytes come of it
+abbrev pub toldBy : Outcome → ℕ × List ℕ
+toldBy (refused n) = (n, [])
+toldBy (made bytes) = (0, length bytes ∷ [])

@@ -1,2 +1,3 @@
+pub mod Told
 pub mod Ways
 pub mod Unique

@@ -64,3 +64,33 @@ tableAnswer p x = answerBy (tableNumber p) (readingOf p x)
 abbrev pub answerAs : ℤ → Outcome → ReadingAnswer
 answerAs x (refused n) = Refused n
 answerAs x (made p) = tableAnswer p x
+
+-- an answer by its cases: the refusal's number, 0 where there is none, and the reading given: 0 a temperature, 1 below the table,
+-- 2 above it, with its tenths
+abbrev pub readingTold : Reading → ℕ × Float
+readingTold (Temperature t) = (0, t)
+readingTold (Below t) = (1, t)
+readingTold (Above t) = (2, t)
+
+abbrev pub answerTold : ReadingAnswer → ℕ × List (ℕ × Float)
+answerTold (Read reading) = (0, readingTold reading ∷ [])
+answerTold (Refused n) = (n, [])
+
+-- the side of the table where a voltage lies, and the tenths there
+unfoldable pub sideOf : List ℕ → ℤ → ℕ
+sideOf p x = if ltZ x (voltsOf p 0) then 1 else if ltZ (voltsOf p (knots p - 1)) x then 2 else 0
+
+unfoldable pub heatAt : List ℕ → ℤ → Float
+heatAt p x =
+    if ltZ x (voltsOf p 0) then heatOf p 0
+    else if ltZ (voltsOf p (knots p - 1)) x then heatOf p (knots p - 1)
+    else interpolated (pairAt p (seekOf p x)) (ofInt binary64 x)
+
+-- what a payload tells by a number: 0 lets the reading through
+unfoldable pub toldAt : ℕ → List ℕ → ℤ → ℕ × List (ℕ × Float)
+toldAt n p x = if eqb n 0 then (0, (sideOf p x, heatAt p x) ∷ []) else (n, [])
+
+-- what a file tells, by what its reader makes of it
+abbrev pub toldAs : ℤ → Outcome → ℕ × List (ℕ × Float)
+toldAs x (refused n) = (n, [])
+toldAs x (made p) = toldAt (tableNumber p) p x

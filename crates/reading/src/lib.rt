@@ -8,7 +8,7 @@ ghost use lib.Signed.{ltZ};
 ghost use lib.Ieee.{ofInt, binary64};
 ghost use Rattle.file_codec.specs.File.{limit, readerOf, inRoom, leftIn};
 ghost use Rattle.reading_table.specs.Table.{voltsOf};
-ghost use Rattle.reading.specs.Readings.{heatOf, pairAt, readingOf, readingAnswer, tableAnswer, answerAs};
+ghost use Rattle.reading.specs.Readings.{heatOf, pairAt, readingOf, readingNumber, readingAnswer, tableAnswer, answerAs, answerTold, toldAt, toldAs};
 
 // A temperature in tenths of a degree; or the voltage is below or above the table, with the end knot's temperature.
 pub enum Reading {
@@ -69,6 +69,7 @@ fn pair_at(s: &[u8], i: usize) -> Pair
 // is out of range or does not rise.
 pub fn reading_at(payload: &[u8], x: i32) -> ReadingAnswer
     ensures { λ r. ⌜ r ≡ readingAnswer (now (payload .entry)) x ⌝ }
+    ensures told { λ r. ⌜ answerTold r ≡ toldAt (readingNumber (now (payload .entry)) x) (now (payload .entry)) x ⌝ }
 {
     if reading_table::shape_wrong(payload) {
         return ReadingAnswer::Refused(40);
@@ -122,6 +123,7 @@ fn judged_reading(payload: &[u8], x: i32) -> ReadingAnswer
 // The reading at x straight from a file: the reader for the letter asked, into the front of room, then the table.
 pub fn reading_from_file(file: &[u8], letter: u8, room: &mut [u8], x: i32) -> ReadingAnswer
     ensures { λ r. ⌜ r ≡ answerAs x (inRoom (length (now (room .entry))) (readerOf limit (now (file .entry)) letter)) ⌝ }
+    ensures told { λ r. ⌜ answerTold r ≡ toldAs x (inRoom (length (now (room .entry))) (readerOf limit (now (file .entry)) letter)) ⌝ }
     ensures { λ _. ⌜ now (room .exit) ≡ leftIn (now (room .entry)) (inRoom (length (now (room .entry))) (readerOf limit (now (file .entry)) letter)) ⌝ }
 {
     let got = file_codec::read(file, letter, room);

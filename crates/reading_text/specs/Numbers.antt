@@ -52,6 +52,15 @@ isNegative n = n .minus && ltb 0 (n .size)
 unfoldable pub valueOf : Number → ℤ
 valueOf n = if isNegative n then negsuc (n .size - 1) else pos (n .size)
 
+-- an answer by its cases: the value told, none where the text is no number
+abbrev pub numberValues : NumberRead → List ℤ
+numberValues (Whole v) = v ∷ []
+numberValues NoNumber = []
+
+-- the values that a text tells
+unfoldable pub valuesIn : List ℕ → List ℤ
+valuesIn bs = if isNumber (numberFed bs) then valueOf (numberFed bs) ∷ [] else []
+
 -- what a text says of a number
 unfoldable pub numberTold : List ℕ → NumberRead
 numberTold bs = if isNumber (numberFed bs) then Whole (valueOf (numberFed bs)) else NoNumber

@@ -90,6 +90,15 @@ tableScanned text out = scanAll text (record { scan = scanStart; payload = out }
 unfoldable pub isBegun : Scan → Bool
 isBegun s = ((s .second || s .number .minus) || s .number .some) || s .number .none
 
+-- an answer by its cases: the number of the first wrong line, 0 where none is wrong, and the knots told
+abbrev pub tableTold : TableRead → ℕ × List ℕ
+tableTold (Knots n) = (0, n ∷ [])
+tableTold (WrongLine line) = (line, [])
+
+-- what a scan that came to the end of its text tells: the line, from 1, that is wrong or was begun and not ended; or the knots
+unfoldable pub scanTold : Scan → ℕ × List ℕ
+scanTold s = if s .wrong || isBegun s then (s .knots + 1, []) else (0, s .knots ∷ [])
+
 -- what a text says of a table: its knots, or the first line that is none, counted from 1
 unfoldable pub tableRead : Scan → TableRead
 tableRead s = if s .wrong then WrongLine (s .knots + 1) else if isBegun s then WrongLine (s .knots + 1) else Knots (s .knots)

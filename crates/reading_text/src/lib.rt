@@ -3,8 +3,8 @@ ghost use mathlib.Core.Path.{_≡_};
 ghost use mathlib.Core.Bool.{not};
 ghost use Prim.Native.Nat.{ℕ, _+_, _*_, _/_, _≤_, _<_};
 ghost use lib.ListN.{length};
-ghost use Rattle.reading_text.specs.Numbers.{numberStart, fedDigit, fedMinus, fedOther, fed, numberFed, isNumber, isNegative, valueOf, numberTold};
-ghost use Rattle.reading_text.specs.Tables.{bitsOf, sixOf, withKnot, fitsTenths, lineWrong, gapWrong, scanStart, stoppedScan, nextNumber, nextLine, nextLetter, atGap, withinLine, endLine, scanMore, isBegun, tableRead, tableScanned};
+ghost use Rattle.reading_text.specs.Numbers.{numberStart, fedDigit, fedMinus, fedOther, fed, numberFed, isNumber, isNegative, valueOf, numberTold, numberValues, valuesIn};
+ghost use Rattle.reading_text.specs.Tables.{bitsOf, sixOf, withKnot, fitsTenths, lineWrong, gapWrong, scanStart, stoppedScan, nextNumber, nextLine, nextLetter, atGap, withinLine, endLine, scanMore, isBegun, tableRead, tableScanned, tableTold, scanTold};
 
 // A number as far as it is read: whether it has a minus and a digit, whether it is none, and its size.
 pub struct Number {
@@ -143,6 +143,7 @@ fn value(n: Number) -> i32
 // A whole text as a number: a minus or none, then digits, the nine last of which may be other than 0.
 pub fn read_number(text: &[u8]) -> NumberRead
     ensures { λ r. ⌜ r ≡ numberTold (now (text .entry)) ⌝ }
+    ensures told { λ r. ⌜ numberValues r ≡ valuesIn (now (text .entry)) ⌝ }
 {
     let n = number_fed(text);
     if is_number(n) {
@@ -393,6 +394,7 @@ fn table_end(s: Scan) -> TableRead
 // A whole table into the front of out, six bytes for a knot.
 pub fn read_table(text: &[u8], out: &mut [u8]) -> TableRead
     ensures { λ r. ⌜ r ≡ tableRead (tableScanned (now (text .entry)) (now (out .entry)) .scan) ⌝ }
+    ensures told { λ r. ⌜ tableTold r ≡ scanTold (tableScanned (now (text .entry)) (now (out .entry)) .scan) ⌝ }
     ensures { λ _. ⌜ now (out .exit) ≡ tableScanned (now (text .entry)) (now (out .entry)) .payload ⌝ }
 {
     let mut s = scan_start();

@@ -17,7 +17,7 @@ same-length c = search needs
 
 returns : tie.Need-returns
 unfolding fileRead payloadLeft
-returns c = (c .read-out .ensures ∙ ap (λ (x : ReadBack). readOut x) (c .before .before .before .read .ensures .0), c .before .before .before .read .ensures .1)
+returns c = (c .read-out .ensures ∙ ap (λ (x : ReadBack). readOut x) (c .before .before .before .read .ensures .0), c .before .before .before .read .ensures .1 .1)
 
 pub tb-file-read-spec : {M : Type 1} → statement M
 tb-file-read-spec = tie.close (tie.spec read-requires read-out-requires same-length returns)

@@ -30,7 +30,7 @@ returns c =
     let r = c .before .before .before .reading-from-file .ensures in (
       c .answer-numbers .ensures ∙ ap (λ (x : ReadingAnswer). answerNumbers x) (r .0)
           ∙ ap (λ (z : ℤ). answerNumbers (answerAs z (inRoom (length (now (a .room))) (readerOf limit (now (a .file)) (a .letter))))) (toZ-ofZ w32 (a .microvolts) (s .fits .microvolts)),
-      r .1,
+      r .1 .1,
     )
 
 pub tb-file-reading-spec : {M : Type 1} → statement M

@@ -17,7 +17,7 @@ same-length c = search needs
 
 returns : tie.Need-returns
 unfolding writtenOf fileLeft
-returns c = (c .written-out .ensures ∙ ap (λ (x : Written). writtenOut x) (c .before .before .before .write .ensures .0), c .before .before .before .write .ensures .1)
+returns c = (c .written-out .ensures ∙ ap (λ (x : Written). writtenOut x) (c .before .before .before .write .ensures .0), c .before .before .before .write .ensures .1 .1)
 
 pub tb-file-write-spec : {M : Type 1} → statement M
 tb-file-write-spec = tie.close (tie.spec write-requires written-out-requires same-length returns)

@@ -22,7 +22,7 @@ unfolding readingGiven
 returns c =
     let s = c .before .before .before in
     let a = s .args in
-    c .answer-numbers .ensures ∙ ap (λ (x : ReadingAnswer). answerNumbers x) (c .before .reading-at .ensures)
+    c .answer-numbers .ensures ∙ ap (λ (x : ReadingAnswer). answerNumbers x) (c .before .reading-at .ensures .0)
     ∙ ap (λ (z : ℤ). answerNumbers (readingAnswer (now (a .payload)) z)) (toZ-ofZ w32 (a .microvolts) (s .fits .microvolts))
 
 pub tb-table-reading-spec : {M : Type 1} → statement M

@@ -6,6 +6,7 @@ use native.Mathlib.Omega.{arith}
 use lib.ListN.{length, take}
 use Rattle.file_codec.specs.declared.ReadBack.the-variants.{Gave}
 use Rattle.file_codec.specs.File.{limit, refused, inRoom, leftIn, placesOf, readerOf, readAs}
+use Rattle.file_codec.proofs.Told.{read-too}
 use Rattle.file_codec.proofs.Outcomes.{judged-refused}
 use Rattle.file_codec.proofs.Answers.{held, too-short, long-enough, front-of, cut}
 use Rattle.file_codec.proofs.read.Statement.{statement}
@@ -27,9 +28,9 @@ returns c =
     let a = j .before .before .before .args in
     let f = a .file .now in
     let out = a .out .now in
-    let h = held limit f (a .asked) _ (sym (j .judge .ensures) ∙ v .verdict2 .given .1) in
+    let h = held limit f (a .asked) _ (sym (j .judge .ensures .0) ∙ v .verdict2 .given .1) in
     let q = too-short (length out) h (c .if1 .taken) in
-    (sym (ap readAs q), sym (ap (leftIn out) q))
+    read-too (inRoom (length out) (readerOf limit f (a .asked))) (sym (ap readAs q)) (sym (ap (leftIn out) q))
 
 sub-unpack : tie.Need-sub-unpack
 sub-unpack c = search needs
@@ -46,7 +47,7 @@ unpack-requires c κs =
     let j = v .before .before in
     let a = j .before .before .before .args in
     let f = a .file .now in
-    let h = held limit f (a .asked) _ (sym (j .judge .ensures) ∙ v .verdict2 .given .1) in
+    let h = held limit f (a .asked) _ (sym (j .judge .ensures .0) ∙ v .verdict2 .given .1) in
     let l = cut (a .out .now) _ (c .before .if1 .left) in
     (h .whole, omega (arith, l, h .upper), omega (arith, l, h .lower))
 
@@ -55,9 +56,9 @@ returns-2 c =
     let j = c .before .before .before in
     let a = j .before .before .before .args in
     let out = a .out .now in
-    let o : readerOf limit (a .file .now) (a .asked) ≡ refused _ = judged-refused (readerOf limit (a .file .now) (a .asked)) _ (sym (j .judge .ensures) ∙ c .before .verdict .given .1) in
+    let o : readerOf limit (a .file .now) (a .asked) ≡ refused _ = judged-refused (readerOf limit (a .file .now) (a .asked)) _ (sym (j .judge .ensures .0) ∙ c .before .verdict .given .1) in
     let q : inRoom (length out) (readerOf limit (a .file .now) (a .asked)) ≡ refused _ = ap (inRoom (length out)) o in
-    (sym (ap readAs q), sym (ap (leftIn out) q))
+    read-too (inRoom (length out) (readerOf limit (a .file .now) (a .asked))) (sym (ap readAs q)) (sym (ap (leftIn out) q))
 
 same-length : tie.Need-same-length
 same-length c = search needs
@@ -70,11 +71,11 @@ returns-3 c =
     let a = j .before .before .before .args in
     let f = a .file .now in
     let out = a .out .now in
-    let h = held limit f (a .asked) _ (sym (j .judge .ensures) ∙ v .verdict2 .given .1) in
+    let h = held limit f (a .asked) _ (sym (j .judge .ensures .0) ∙ v .verdict2 .given .1) in
     let k = c .before .before .before .before .if1 .left in
     let q = long-enough (length out) h k in
     let w = u .ensures ∙ ap (λ (m : ℕ). take m (placesOf (length f / 512) f)) (cut out _ k) in
-    (sym (ap readAs q ∙ ap Gave (h .size)), front-of out (u .last .0) _ _ _ q (h .size) w)
+    read-too (inRoom (length out) (readerOf limit f (a .asked))) (sym (ap readAs q ∙ ap Gave (h .size))) (front-of out (u .last .0) _ _ _ q (h .size) w)
 
 pub read-spec : {M : Type 1} → statement M
 read-spec =

@@ -9,6 +9,7 @@ use borrow.Author.Tests.{not-true, not-false}
 use Rattle.file_codec.specs.declared.Written.the-variants.{Wrote}
 use Rattle.file_codec.specs.File.{limit, refused, made, inRoom, leftIn, countOf, fileOf, writerOf, writtenAs}
 use Rattle.file_codec.proofs.Sizes.{blocks-length}
+use Rattle.file_codec.proofs.Told.{written-too}
 use Rattle.file_codec.proofs.Outcomes.{payload-right, writer-32, writer-36, writer-made, room-37, room-made}
 use Rattle.file_codec.proofs.write.Statement.{statement}
 use Rattle.file_codec.proofs.write.Tie as tie
@@ -22,7 +23,7 @@ returns c =
     let out = a .out .now in
     let q : inRoom (length out) (writerOf limit (a .letter) (a .payload .now)) ≡ refused 32 =
     ap (inRoom (length out)) (writer-32 limit (a .letter) (a .payload .now) (sym (c .before .is-letter .ensures) ∙ not-true _ (c .if1 .taken))) in
-    (sym (ap writtenAs q), sym (ap (leftIn out) q))
+    written-too (inRoom (length out) (writerOf limit (a .letter) (a .payload .now))) (sym (ap writtenAs q)) (sym (ap (leftIn out) q))
 
 payload-wrong-requires : tie.Need-payload-wrong-requires
 payload-wrong-requires c κs = search needs
@@ -35,7 +36,7 @@ returns-2 c =
     let q : inRoom (length out) (writerOf limit (a .letter) (a .payload .now)) ≡ refused 36 =
     ap (inRoom (length out))
     (writer-36 limit (a .letter) (a .payload .now) (sym (m .before .is-letter .ensures) ∙ not-false _ (m .if1 .left)) (sym (c .before .payload-wrong .ensures) ∙ c .if2 .taken)) in
-    (sym (ap writtenAs q), sym (ap (leftIn out) q))
+    written-too (inRoom (length out) (writerOf limit (a .letter) (a .payload .now))) (sym (ap writtenAs q)) (sym (ap (leftIn out) q))
 
 add-n : tie.Need-add-n
 add-n c = search needs
@@ -55,7 +56,7 @@ returns-3 c =
     ap (inRoom (length out))
     (writer-made limit (a .letter) (a .payload .now) (sym (m .before .is-letter .ensures) ∙ not-false _ (m .if1 .left)) (sym (p .payload-wrong .ensures) ∙ c .before .if2 .left))
     ∙ room-37 (length out) (fileOf (a .letter) (a .payload .now)) (omega (arith, c .if3 .taken)) in
-    (sym (ap writtenAs q), sym (ap (leftIn out) q))
+    written-too (inRoom (length out) (writerOf limit (a .letter) (a .payload .now))) (sym (ap writtenAs q)) (sym (ap (leftIn out) q))
 
 pack-requires : tie.Need-pack-requires
 pack-requires c κs =
@@ -82,7 +83,8 @@ returns-4 c =
     ap (inRoom (length out))
     (writer-made limit (a .letter) (a .payload .now) (sym (m .before .is-letter .ensures) ∙ not-false _ (m .if1 .left)) (sym (p .payload-wrong .ensures) ∙ g .before .if2 .left))
     ∙ room-made (length out) (fileOf (a .letter) (a .payload .now)) (omega (arith, g .if3 .left)) in
-    (sym (ap writtenAs q ∙ ap Wrote l), u .ensures ∙ ap (λ (k : ℕ). fileOf (a .letter) (a .payload .now) ++ drop k out) (sym l) ∙ sym (ap (leftIn out) q))
+    written-too (inRoom (length out) (writerOf limit (a .letter) (a .payload .now))) (sym (ap writtenAs q ∙ ap Wrote l))
+    (u .ensures ∙ ap (λ (k : ℕ). fileOf (a .letter) (a .payload .now) ++ drop k out) (sym l) ∙ sym (ap (leftIn out) q))
 
 pub write-spec : {M : Type 1} → statement M
 write-spec =

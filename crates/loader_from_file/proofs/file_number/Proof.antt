@@ -19,12 +19,12 @@ enum-known-judged c = search needs
 returns-2 : tie.Need-returns-2
 returns-2 c =
     let a = c .before .before .before .before .before .args in
-    sym (sound-0 (a .file .now) (a .asked) (a .n) _ (c .before .before .before .if1 .left) (sym (c .before .before .judge .ensures) ∙ c .enum-told .given .1))
+    sym (sound-0 (a .file .now) (a .asked) (a .n) _ (c .before .before .before .if1 .left) (sym (c .before .before .judge .ensures .0) ∙ c .enum-told .given .1))
 
 returns-3 : tie.Need-returns-3
 returns-3 c =
     let a = c .before .before .before .before .before .before .args in
-    sym (unsound-m (a .file .now) (a .asked) (a .n) _ (c .before .before .before .before .if1 .left) (sym (c .before .before .before .judge .ensures) ∙ c .before .judged .given .1))
+    sym (unsound-m (a .file .now) (a .asked) (a .n) _ (c .before .before .before .before .if1 .left) (sym (c .before .before .before .judge .ensures .0) ∙ c .before .judged .given .1))
 
 pub file-number-spec : {M : Type 1} → statement M
 file-number-spec =

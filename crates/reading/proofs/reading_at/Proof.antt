@@ -16,6 +16,7 @@ use Rattle.reading_table.proofs.Judged.{shape-right}
 use Rattle.reading.specs.declared.Reading.the-variants.{Temperature, Below, Above}
 use Rattle.reading.specs.declared.ReadingAnswer.the-variants.{Read}
 use Rattle.reading.specs.Readings.{pairAt}
+use Rattle.reading.proofs.Told.{told-too}
 use Rattle.reading.proofs.Ways.{next-knot, refused-40, refused-ends, answers-below, answers-above, refused-pair, answers-between}
 use borrow.Author.Needs.{needs}
 use Rattle.reading.proofs.reading_at.Statement.{statement}
@@ -67,7 +68,7 @@ shape-wrong-requires : tie.Need-shape-wrong-requires
 shape-wrong-requires c κs = search needs
 
 returns : tie.Need-returns
-returns c = refused-40 _ _ (sym (c .before .shape-wrong .ensures) ∙ c .if1 .taken)
+returns c = told-too _ _ (refused-40 _ _ (sym (c .before .shape-wrong .ensures) ∙ c .if1 .taken))
 
 sub-last : tie.Need-sub-last
 sub-last c = let n = shape-right _ (sym (c .before .shape-wrong .ensures) ∙ c .if1 .left) .1 in omega (arith, n)
@@ -76,7 +77,7 @@ rises-to-requires : tie.Need-rises-to-requires
 rises-to-requires c κs = search needs
 
 returns-2 : tie.Need-returns-2
-returns-2 c = refused-ends _ _ (shape (c .before)) (is-ends (c .before) false (not-true _ (c .if2 .taken)))
+returns-2 c = told-too _ _ (refused-ends _ _ (shape (c .before)) (is-ends (c .before) false (not-true _ (c .if2 .taken))))
 
 under-requires : tie.Need-under-requires
 under-requires c κs = search needs
@@ -87,7 +88,7 @@ heat-requires c κs = search needs
 returns-3 : tie.Need-returns-3
 returns-3 c =
     let u = c .before .before in
-    ap (λ r. Read (Below r)) (c .heat .ensures) ∙ answers-below _ _ (shape (u .before .before)) (ends u) (is-under u true (c .before .if3 .taken))
+    told-too _ _ (ap (λ r. Read (Below r)) (c .heat .ensures) ∙ answers-below _ _ (shape (u .before .before)) (ends u) (is-under u true (c .before .if3 .taken)))
 
 over-requires : tie.Need-over-requires
 over-requires c κs = search needs
@@ -99,7 +100,7 @@ returns-4 : tie.Need-returns-4
 returns-4 c =
     let o = c .before .before in
     let u = o .before .before in
-    ap (λ r. Read (Above r)) (c .heat2 .ensures) ∙ answers-above _ _ (shape (u .before .before)) (ends u) (not-under o) (is-over o true (c .before .if4 .taken))
+    told-too _ _ (ap (λ r. Read (Above r)) (c .heat2 .ensures) ∙ answers-above _ _ (shape (u .before .before)) (ends u) (not-under o) (is-over o true (c .before .if4 .taken)))
 
 seek-requires : tie.Need-seek-requires
 seek-requires c κs = search needs
@@ -115,7 +116,7 @@ returns-5 c =
     let k = c .before .before in
     let o = k .before .before in
     let u = o .before .before in
-    refused-pair _ _ (shape (u .before .before)) (ends u) (not-under o) (not-over k) (is-rise (c .before) false (not-true _ (c .if5 .taken)))
+    told-too _ _ (refused-pair _ _ (shape (u .before .before)) (ends u) (not-under o) (not-over k) (is-rise (c .before) false (not-true _ (c .if5 .taken))))
 
 pair-at-requires : tie.Need-pair-at-requires
 pair-at-requires c κs = next (c .before .before)
@@ -132,10 +133,11 @@ returns-6 c =
     let k = c .before .before .before .before .before in
     let o = k .before .before in
     let u = o .before .before in
-    ap (λ r. Read (Temperature r))
+    told-too _ _
+    (ap (λ r. Read (Temperature r))
     (c .interpolate .ensures
     ∙ ap₂ interpolated (c .before .before .pair-at .ensures ∙ ap (pairAt (now (a .args .payload))) (found k)) (c .before .wide .ensures ∙ ap (ofInt binary64) (toZ-ofZ w32 (a .args .x) (a .fits .x))))
-    ∙ answers-between _ _ (shape (u .before .before)) (ends u) (not-under o) (not-over k) (is-rise (c .before .before .before .before) true (not-false _ (c .before .before .before .if5 .left)))
+    ∙ answers-between _ _ (shape (u .before .before)) (ends u) (not-under o) (not-over k) (is-rise (c .before .before .before .before) true (not-false _ (c .before .before .before .if5 .left))))
 
 pub reading-at-spec : {M : Type 1} → statement M
 reading-at-spec =

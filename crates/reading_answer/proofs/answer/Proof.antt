@@ -76,7 +76,7 @@ returns-2 c =
     let v = c .before .before .before .before .before .before .before .before .before .number .given .0 .0 in
     let x = toZ-ofZ w32 v (record { sfits = c .before .before .before .before .before .before .before .before .known-told .given .0 .1 }) in
     let w = sym (c .before .before .before .before .before .before .before .before .before .before .before .before .before .call-wrong .ensures) ∙ c .before .before .before .before .before .before .before .before .before .before .before .before .if1 .left in
-    let e = answered-right (a .count) F (now (a .letter)) (now (a .volts)) R (Whole v) w (sym (c .before .before .before .before .before .before .before .before .before .before .before .read-number .ensures) ∙ c .before .before .before .before .before .before .before .before .before .number .given .1) in
+    let e = answered-right (a .count) F (now (a .letter)) (now (a .volts)) R (Whole v) w (sym (c .before .before .before .before .before .before .before .before .before .before .before .read-number .ensures .0) ∙ c .before .before .before .before .before .before .before .before .before .number .given .1) in
     let m = ap (λ (z : ℤ). readBy (Whole z) F (l .result) R) x ∙ ap (λ (z : ℕ). readBy (Whole v) F z R) (l .ensures) ∙ e in (
       ap (λ (z : ℕ). record { used = z; stream = 1 }) (q .ensures .0) ∙ ap (λ (z : Answered). toldOn (z .stream) out (z .line)) m,
       (
@@ -94,7 +94,7 @@ returns-3 c =
     let out = now (a .out) in
     let p = c .before .before .put-usage2 in
     let w = sym (c .before .before .before .before .before .before .before .before .call-wrong .ensures) ∙ c .before .before .before .before .before .before .before .if1 .left in
-    let e = answered-right (a .count) (now (a .file)) (now (a .letter)) (now (a .volts)) (now (a .room)) NoNumber w (sym (c .before .before .before .before .before .before .read-number .ensures) ∙ c .before .before .before .before .enum-told .given .1) in (
+    let e = answered-right (a .count) (now (a .file)) (now (a .letter)) (now (a .volts)) (now (a .room)) NoNumber w (sym (c .before .before .before .before .before .before .read-number .ensures .0) ∙ c .before .before .before .before .enum-told .given .1) in (
       ap (λ (z : ℕ). record { used = z; stream = 2 }) (p .ensures .0) ∙ ap (λ (z : Answered). toldOn (z .stream) out (z .line)) e,
       (
         p .ensures .1 ∙ ap (λ (z : Answered). laidAt out 0 (z .line)) e,

@@ -34,7 +34,7 @@ returns c =
     let p = c .before .before .put-answer in
     let o = inRoom (length (now (a .room))) (readerOf limit (now (a .file)) (a .letter)) in
     let e = r .ensures .0 ∙ ap (λ (z : ℤ). answerAs z o) (toZ-ofZ w32 (a .x) (c .before .before .before .before .before .before .before .before .before .before .before .fits .x)) in
-    (p .ensures .0 ∙ ap (λ (z : ReadingAnswer). behind out 0 (answerLine z)) e, (p .ensures .1 ∙ ap (λ (z : ReadingAnswer). laidAt out 0 (answerLine z)) e, r .ensures .1))
+    (p .ensures .0 ∙ ap (λ (z : ReadingAnswer). behind out 0 (answerLine z)) e, (p .ensures .1 ∙ ap (λ (z : ReadingAnswer). laidAt out 0 (answerLine z)) e, r .ensures .1 .1))
 
 pub put-read-spec : {M : Type 1} → statement M
 put-read-spec = tie.close (tie.spec reading-from-file-requires put-answer-requires same-length same-length-2 returns)

@@ -5,6 +5,7 @@ use lib.ListN.{getD, length, drop}
 use denote.Ref.{now}
 use Rattle.reading_text.specs.declared.Scan.{Scan}
 use Rattle.reading_text.specs.Tables.{Scanned, scanMore, scanAll, tableRead, tableScanned}
+use Rattle.reading_text.proofs.Told.{end-told}
 use Rattle.reading_text.proofs.Walks.{step-next, step-end, step-few}
 use borrow.Author.Needs.{needs}
 use Rattle.reading_text.proofs.read_table.Statement.{statement}
@@ -45,7 +46,7 @@ same-length : tie.Need-same-length Inv-loop μ-loop
 same-length c = c .before .before .loop .inv .0
 
 returns : tie.Need-returns Inv-loop μ-loop
-returns c = let l = c .before .before .loop in let a = c .before .before .before .before .before .before .args in let e = sym (step-end (record { scan = l .s; payload = l .out }) (now (a .text)) (l .i) (c .before .loop-test .left)) ∙ l .inv .1 in (c .table-end .ensures ∙ ap (λ (q : Scanned). tableRead (q .scan)) e, ap (λ (q : Scanned). q .payload) e)
+returns c = let l = c .before .before .loop in let a = c .before .before .before .before .before .before .args in let e = sym (step-end (record { scan = l .s; payload = l .out }) (now (a .text)) (l .i) (c .before .loop-test .left)) ∙ l .inv .1 in let r = c .table-end .ensures ∙ ap (λ (q : Scanned). tableRead (q .scan)) e in (r, (end-told (tableScanned (now (a .text)) (now (a .out)) .scan) r, ap (λ (q : Scanned). q .payload) e))
 
 pub read-table-spec : {M : Type 1} → statement M
 read-table-spec =

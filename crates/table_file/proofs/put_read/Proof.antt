@@ -54,8 +54,8 @@ returns c =
     let out = now (a .out) in
     let r = c .before .before .before .before .before .before .before .before .before .before .before .before .read-table in
     let q = c .before .before .put-table in
-    let e = read-good (a .letter) (length out) _ (c .before .before .before .before .before .before .least .result) (now (a .text)) (now (a .payload)) (r .last .1 .0) (c .before .before .before .before .before .before .least .ensures) (sym (r .ensures .0) ∙ c .before .before .before .before .before .before .before .before .got .given .1) (r .ensures .1) in
-    (q .ensures .0 ∙ ap (λ (z : Said). toldOn (z .stream) out (z .line)) e, (q .ensures .1 ∙ ap (λ (z : Said). laidAt out 0 (z .line)) e, r .ensures .1))
+    let e = read-good (a .letter) (length out) _ (c .before .before .before .before .before .before .least .result) (now (a .text)) (now (a .payload)) (r .last .1 .0) (c .before .before .before .before .before .before .least .ensures) (sym (r .ensures .0) ∙ c .before .before .before .before .before .before .before .before .got .given .1) (r .ensures .1 .1) in
+    (q .ensures .0 ∙ ap (λ (z : Said). toldOn (z .stream) out (z .line)) e, (q .ensures .1 ∙ ap (λ (z : Said). laidAt out 0 (z .line)) e, r .ensures .1 .1))
 
 same-length-3 : tie.Need-same-length-3
 same-length-3 c = search needs
@@ -70,7 +70,7 @@ returns-2 c =
     let r = c .before .before .before .before .before .before .before .before .before .read-table in
     let p = c .before .before .put-wrong-line in
     let t = line-told (a .letter) (length out) _ (p .result) (now (a .text)) (now (a .payload)) out (p .last .0) (sym (r .ensures .0) ∙ c .before .before .before .before .before .got2 .given .1) (p .ensures .0) (p .ensures .1) in
-    (t .0, (t .1, r .ensures .1))
+    (t .0, (t .1, r .ensures .1 .1))
 
 pub put-read-spec : {M : Type 1} → statement M
 put-read-spec = tie.close (tie.spec read-table-requires enum-known-got mul-least least-requires sub-put-table part-put-table-start part-put-table-end put-table-requires enum-known-got-2 put-wrong-line-requires same-length same-length-2 returns same-length-3 same-length-4 returns-2)

@@ -29,7 +29,7 @@ part-put-table-start : tie.Need-part-put-table-start
 part-put-table-start c = search needs
 
 part-put-table-end : tie.Need-part-put-table-end
-part-put-table-end c = let a = c .before .before .before .before .before .before .before .before .before .before .before .args in gave-fits (now (a .room)) (inRoom (length (now (a .room))) (readerOf limit (now (a .file)) (a .letter))) _ _ (sym (c .before .before .before .before .before .before .read .ensures .0) ∙ c .before .before .got2 .given .1) (c .before .before .before .before .before .before .read .ensures .1)
+part-put-table-end c = let a = c .before .before .before .before .before .before .before .before .before .before .before .args in gave-fits (now (a .room)) (inRoom (length (now (a .room))) (readerOf limit (now (a .file)) (a .letter))) _ _ (sym (c .before .before .before .before .before .before .read .ensures .0) ∙ c .before .before .got2 .given .1) (c .before .before .before .before .before .before .read .ensures .1 .1)
 
 put-table-requires : tie.Need-put-table-requires
 put-table-requires c κs = search needs
@@ -47,7 +47,7 @@ returns c =
     let r = c .before .before .before .before .before .before .before .before .before .read in
     let p = c .before .before .put-refusal in
     let t = complained out (p .last .0) _ (fileSaid (inRoom (length (now (a .room))) (readerOf limit (now (a .file)) (a .letter)))) (p .result) (not-read (inRoom (length (now (a .room))) (readerOf limit (now (a .file)) (a .letter))) _ (sym (r .ensures .0) ∙ c .before .before .before .before .before .got .given .1)) (p .ensures .0) (p .ensures .1) in
-    (t .0, (t .1, r .ensures .1))
+    (t .0, (t .1, r .ensures .1 .1))
 
 same-length-3 : tie.Need-same-length-3
 same-length-3 c = search needs
@@ -61,8 +61,8 @@ returns-2 c =
     let out = now (a .out) in
     let r = c .before .before .before .before .before .before .before .before .before .before .before .read in
     let q = c .before .before .put-table in
-    let e = gave (now (a .room)) (inRoom (length (now (a .room))) (readerOf limit (now (a .file)) (a .letter))) _ (r .last .1 .1 .0) (sym (r .ensures .0) ∙ c .before .before .before .before .before .before .before .got2 .given .1) (r .ensures .1) in
-    (q .ensures .0 ∙ ap (λ (z : Said). toldOn (z .stream) out (z .line)) e, (q .ensures .1 ∙ ap (λ (z : Said). laidAt out 0 (z .line)) e, r .ensures .1))
+    let e = gave (now (a .room)) (inRoom (length (now (a .room))) (readerOf limit (now (a .file)) (a .letter))) _ (r .last .1 .1 .0) (sym (r .ensures .0) ∙ c .before .before .before .before .before .before .before .got2 .given .1) (r .ensures .1 .1) in
+    (q .ensures .0 ∙ ap (λ (z : Said). toldOn (z .stream) out (z .line)) e, (q .ensures .1 ∙ ap (λ (z : Said). laidAt out 0 (z .line)) e, r .ensures .1 .1))
 
 pub put-file-spec : {M : Type 1} → statement M
 put-file-spec = tie.close (tie.spec read-requires enum-known-got put-refusal-requires enum-known-got-2 sub-put-table part-put-table-start part-put-table-end put-table-requires same-length same-length-2 returns same-length-3 same-length-4 returns-2)
