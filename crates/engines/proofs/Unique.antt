@@ -8,10 +8,13 @@ use Rattle.device.specs.declared.Device.{Device}
 use Rattle.model_types.specs.declared.State.{State}
 use Rattle.model_types.specs.declared.Cycle.{Cycle}
 use Rattle.model.specs.declared.Answer.{Answer}
-use Rattle.model.specs.Arrays.{answerOf, bytesAfter}
+use Rattle.model.specs.Arrays.{answerOf, cycleTold, bytesAfter}
 
 pub cycle-unique : (d : Device) (s : State) (c : Cycle) (us rs : List ℕ) → Unique (λ (r : Answer). r ≡ answerOf d s c us rs)
 cycle-unique d s c us rs = only (answerOf d s c us rs)
+
+pub cycle-told-unique : (d : Device) (s : State) (c : Cycle) (us rs : List ℕ) → Unique (λ (told : ℕ × List ℕ). told ≡ cycleTold d s c us rs)
+cycle-told-unique d s c us rs = only (cycleTold d s c us rs)
 
 pub cycle-array-unique : (d : Device) (s : State) (c : Cycle) (array residue : List ℕ) → Unique (λ (left : List ℕ). left ≡ bytesAfter d s c array residue)
 cycle-array-unique d s c array residue = only (bytesAfter d s c array residue)

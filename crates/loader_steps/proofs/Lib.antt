@@ -6,4 +6,5 @@ pub mod Ends
 pub mod Follows
 pub mod Unread
 pub mod Claims
+pub mod Told
 pub mod Unique

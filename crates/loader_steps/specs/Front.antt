@@ -10,6 +10,7 @@ use Rattle.common.specs.Numbers.{Row, row, given}
 use Rattle.device.specs.declared.Part.{Part}
 use Rattle.device.specs.Parts.{unknownPart, lengthOf}
 use Rattle.model_types.specs.declared.Pins.{Pins}
+use Rattle.model_types.specs.declared.Cycle.{Cycle}
 use Rattle.model_types.specs.Levels.{rpLow, badPins}
 use Rattle.loader.specs.declared.Stage.{Stage}
 use Rattle.loader.specs.declared.Stage.the-variants.{Clearing, Closing, Ended}
@@ -75,6 +76,16 @@ turnIn stage l w = if isEnded stage then Over (endBy stage) (endAddress l (endBy
 abbrev pub turnGiven : Loader → List ℕ → Given
 turnGiven l w = record { turn = turnIn (l .stage) l w; loader = l }
 
+-- a turn by its cases: its number (0 for a cycle, the end's, or the refusal's), the cycle given, and the address that an end gives
+abbrev pub turnTold : Turn → ℕ × List Cycle × List ℕ
+turnTold (Out c) = (0, c ∷ [], [])
+turnTold (Over n a) = (n, [], a ∷ [])
+turnTold (Barred n) = (n, [], [])
+
+-- what a record tells: the cycle that is out, or its end again
+abbrev pub recordTold : Loader → List ℕ → ℕ × List Cycle × List ℕ
+recordTold l w = if isEnded (l .stage) then (endBy (l .stage), [], endAddress l (endBy (l .stage)) ∷ []) else (0, cycleOf l w ∷ [], [])
+
 -- a refusal gives the record with it
 abbrev pub barredBy : ℕ → Loader → Given
 barredBy n l = record { turn = Barred n; loader = l }
@@ -101,10 +112,30 @@ loadStartGiven part p k w sc = startAt Clearing false part p k w sc
 abbrev pub verifyStartGiven : Part → Pins → ℕ → List ℕ → List ℕ → Given
 verifyStartGiven part p k w sc = startAt Closing true part p k w sc
 
+-- what a start tells: its refusal, or what the record at its beginning tells
+unfoldable pub toldAt : Stage → Bool → Part → Pins → ℕ → List ℕ → List ℕ → ℕ × List Cycle × List ℕ
+toldAt stage verify part p k w sc =
+    if eqb (startNumber part p k (length w) (length sc)) 0 then recordTold (recordAt part p k stage verify) w
+    else (startNumber part p k (length w) (length sc), [], [])
+
+abbrev pub startTold : Part → Pins → ℕ → List ℕ → List ℕ → ℕ × List Cycle × List ℕ
+startTold part p k w sc = toldAt Clearing true part p k w sc
+
+abbrev pub loadStartTold : Part → Pins → ℕ → List ℕ → List ℕ → ℕ × List Cycle × List ℕ
+loadStartTold part p k w sc = toldAt Clearing false part p k w sc
+
+abbrev pub verifyStartTold : Part → Pins → ℕ → List ℕ → List ℕ → ℕ × List Cycle × List ℕ
+verifyStartTold part p k w sc = toldAt Closing true part p k w sc
+
 -- a step: what is given ..
 unfoldable pub stepGiven : Loader → ℕ → List ℕ → List ℕ → Given
 stepGiven l v w sc =
     if eqb (stepNumber l (length w) (length sc)) 0 then turnGiven (nextOf l v w (storeOf l v w sc)) w else barredBy (stepNumber l (length w) (length sc)) l
+
+-- .. what it tells: its refusal, or what the next record tells ..
+unfoldable pub stepTold : Loader → ℕ → List ℕ → List ℕ → ℕ × List Cycle × List ℕ
+stepTold l v w sc =
+    if eqb (stepNumber l (length w) (length sc)) 0 then recordTold (nextOf l v w (storeOf l v w sc)) w else (stepNumber l (length w) (length sc), [], [])
 
 -- .. and what is left in scratch
 unfoldable pub scratchAfter : Loader → ℕ → List ℕ → List ℕ → List ℕ

@@ -13,7 +13,7 @@ use model_types::levels::bad_pins;
 use model_types::levels::rp_low;
 ghost use mathlib.Core.Path.{_≡_};
 ghost use lib.ListN.{length};
-ghost use Rattle.loader_steps.specs.Front.{barredPins, noBlock, wrongLengths, setupNumber, badRecord, startNumber, stepNumber, recordAt, endAddress, turnIn, turnGiven, barredBy, startAt, startGiven, loadStartGiven, verifyStartGiven, stepGiven, scratchLeft};
+ghost use Rattle.loader_steps.specs.Front.{barredPins, noBlock, wrongLengths, setupNumber, badRecord, startNumber, stepNumber, recordAt, endAddress, turnIn, turnGiven, barredBy, startAt, startGiven, loadStartGiven, verifyStartGiven, stepGiven, turnTold, startTold, loadStartTold, verifyStartTold, stepTold, scratchLeft};
 ghost use Rattle.units.specs.Units.{units, lent};
 
 // Refusal 4 of a loader.
@@ -169,6 +169,7 @@ fn start_at(
 // The first cycle of a load with the verify after it.
 pub fn start(part: Part, p: Pins, block: u8, wanted: &[u8], scratch: &[u8]) -> Given
     ensures { λ r. ⌜ r ≡ startGiven part p block (lent (part .word) (now (wanted .entry))) (lent (part .word) (now (scratch .entry))) ⌝ }
+    ensures told { λ r. ⌜ turnTold (r .turn) ≡ startTold part p block (lent (part .word) (now (wanted .entry))) (lent (part .word) (now (scratch .entry))) ⌝ }
 {
     start_at(Stage::Clearing, true, part, p, block, wanted, scratch)
 }
@@ -176,6 +177,7 @@ pub fn start(part: Part, p: Pins, block: u8, wanted: &[u8], scratch: &[u8]) -> G
 // The first cycle of a load alone.
 pub fn start_load(part: Part, p: Pins, block: u8, wanted: &[u8], scratch: &[u8]) -> Given
     ensures { λ r. ⌜ r ≡ loadStartGiven part p block (lent (part .word) (now (wanted .entry))) (lent (part .word) (now (scratch .entry))) ⌝ }
+    ensures told { λ r. ⌜ turnTold (r .turn) ≡ loadStartTold part p block (lent (part .word) (now (wanted .entry))) (lent (part .word) (now (scratch .entry))) ⌝ }
 {
     start_at(Stage::Clearing, false, part, p, block, wanted, scratch)
 }
@@ -183,6 +185,7 @@ pub fn start_load(part: Part, p: Pins, block: u8, wanted: &[u8], scratch: &[u8])
 // The first cycle of a verify alone.
 pub fn start_verify(part: Part, p: Pins, block: u8, wanted: &[u8], scratch: &[u8]) -> Given
     ensures { λ r. ⌜ r ≡ verifyStartGiven part p block (lent (part .word) (now (wanted .entry))) (lent (part .word) (now (scratch .entry))) ⌝ }
+    ensures told { λ r. ⌜ turnTold (r .turn) ≡ verifyStartTold part p block (lent (part .word) (now (wanted .entry))) (lent (part .word) (now (scratch .entry))) ⌝ }
 {
     start_at(Stage::Closing, true, part, p, block, wanted, scratch)
 }
@@ -190,6 +193,7 @@ pub fn start_verify(part: Part, p: Pins, block: u8, wanted: &[u8], scratch: &[u8
 // The data read by the cycle that was out go in, the next cycle or the end comes out.
 pub fn step(l: Loader, v: u16, wanted: &[u8], scratch: &mut [u8]) -> Given
     ensures { λ r. ⌜ r ≡ stepGiven l v (lent (l .part .word) (now (wanted .entry))) (lent (l .part .word) (now (scratch .entry))) ⌝ }
+    ensures told { λ r. ⌜ turnTold (r .turn) ≡ stepTold l v (lent (l .part .word) (now (wanted .entry))) (lent (l .part .word) (now (scratch .entry))) ⌝ }
     ensures { λ _. ⌜ now (scratch .exit) ≡ scratchLeft l v (now (wanted .entry)) (now (scratch .entry)) ⌝ }
 {
     let part = l.part;

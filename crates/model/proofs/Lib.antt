@@ -12,4 +12,5 @@ pub mod Borders
 pub mod Bytewise
 pub mod Narrow
 pub mod Claims
+pub mod Told
 pub mod Unique

@@ -16,11 +16,14 @@ use Rattle.model_types.specs.declared.Cycle.{Cycle}
 use Rattle.model_types.specs.States.{freshState, resetOf}
 use Rattle.model.specs.declared.Seen.{Seen}
 use Rattle.model.specs.declared.Answer.{Answer}
-use Rattle.model.specs.Arrays.{seenOf, answerOf, bytesAfter}
-use Rattle.model.specs.Inner.{doneOf, answerJudged, arrayJudged}
+use Rattle.model.specs.Arrays.{seenOf, answerOf, bytesAfter, replyTold, cycleTold}
+use Rattle.model.specs.Inner.{doneOf, answerJudged, arrayJudged, passedTold}
 
 pub cycle-unique : (d : Device) (s : State) (c : Cycle) (us rs : List ℕ) → Unique (λ (r : Answer). r ≡ answerOf d s c us rs)
 cycle-unique d s c us rs = only (answerOf d s c us rs)
+
+pub cycle-told-unique : (d : Device) (s : State) (c : Cycle) (us rs : List ℕ) → Unique (λ (told : ℕ × List ℕ). told ≡ cycleTold d s c us rs)
+cycle-told-unique d s c us rs = only (cycleTold d s c us rs)
 
 pub cycle-array-unique : (d : Device) (s : State) (c : Cycle) (array residue : List ℕ) → Unique (λ (left : List ℕ). left ≡ bytesAfter d s c array residue)
 cycle-array-unique d s c array residue = only (bytesAfter d s c array residue)
@@ -34,6 +37,9 @@ reset-unique s = only (resetOf s)
 pub after-judging-unique : (d : Device) (s : State) (c : Cycle) (xs rs : List ℕ) → Unique (λ (r : Answer). r ≡ answerJudged d s c xs rs)
 after-judging-unique d s c xs rs = only (answerJudged d s c xs rs)
 
+pub after-judging-told-unique : (d : Device) (s : State) (c : Cycle) (xs rs : List ℕ) → Unique (λ (told : ℕ × List ℕ). told ≡ passedTold d s c xs rs)
+after-judging-told-unique d s c xs rs = only (passedTold d s c xs rs)
+
 -- what is left is told by its units and the byte that is in none; that a slice's elements are below 256 is a fact of slices
 pub after-judging-array-unique : (d : Device) (s : State) (c : Cycle) (us rs rest xs ys : List ℕ) → Bytes xs → Bytes ys
     → (units (d .part .word) xs ≡ arrayJudged d s c us rs) × (spare (d .part .word) xs ≡ rest)
@@ -43,6 +49,9 @@ after-judging-array-unique d s c us rs rest xs ys = left-unique (d .part .word) 
 
 pub see-unique : (reply : Reply) (us : List ℕ) → Unique (λ (r : Seen). r ≡ seenOf reply us)
 see-unique reply us = only (seenOf reply us)
+
+pub see-told-unique : (reply : Reply) (us : List ℕ) → Unique (λ (told : ℕ × List ℕ). told ≡ replyTold reply us)
+see-told-unique reply us = only (replyTold reply us)
 
 pub put-array-unique : (effect : Effect) (part : Part) (us rs rest xs ys : List ℕ) → Bytes xs → Bytes ys
     → (units (part .word) xs ≡ doneOf effect part rs us) × (spare (part .word) xs ≡ rest)

@@ -1,7 +1,7 @@
 -- What a cycle does to the array, and what the host sees: on lists of units, and at the end on the lent bytes. Assumes nothing.
 use mathlib.Core.Path.{_≡_}
 use mathlib.Core.Bool.{Bool, true, false}
-use mathlib.Core.List.{List}
+use mathlib.Core.List.{List, [], _∷_}
 use Prim.Native.Nat.{ℕ}
 use lib.ListN.{length, getD, set, take, replicate}
 use lib.Bits.{bitAnd, bitOr}
@@ -53,6 +53,19 @@ seenOf (Gives v) xs = Data v
 seenOf (GivesArray a) xs = Data (getD xs a 0)
 seenOf (Refuses n) xs = Refused n
 
+-- what the host sees by its cases: the refusal's number, 0 where there is none, and the data given
+abbrev pub seenTold : Seen → ℕ × List ℕ
+seenTold NoData = (0, [])
+seenTold (Data v) = (0, v ∷ [])
+seenTold (Refused n) = (n, [])
+
+-- what a reply tells: of the array, the unit at its address
+abbrev pub replyTold : Reply → List ℕ → ℕ × List ℕ
+replyTold Quiet xs = (0, [])
+replyTold (Gives v) xs = (0, v ∷ [])
+replyTold (GivesArray a) xs = (0, getD xs a 0 ∷ [])
+replyTold (Refuses n) xs = (n, [])
+
 -- a cycle is accepted: what the host sees is no refusal
 abbrev pub Accepted : Answer → Type 0
 Accepted a = (m : ℕ) → a .seen ≡ Refused m → ⊥
@@ -65,6 +78,10 @@ arrayAfter d s c xs rs = arrayOf (decideOf d s c (length xs) (length rs) .effect
 unfoldable pub answerOf : Device → State → Cycle → List ℕ → List ℕ → Answer
 answerOf d s c xs rs =
     record { seen = seenOf (decideOf d s c (length xs) (length rs) .reply) (arrayAfter d s c xs rs); state = decideOf d s c (length xs) (length rs) .state }
+
+-- what a cycle tells
+unfoldable pub cycleTold : Device → State → Cycle → List ℕ → List ℕ → ℕ × List ℕ
+cycleTold d s c xs rs = replyTold (decideOf d s c (length xs) (length rs) .reply) (arrayAfter d s c xs rs)
 
 -- the lent bytes after a cycle: a refused cycle leaves them as they are, an accepted one the bytes of the array's units
 unfoldable pub bytesAfter : Device → State → Cycle → List ℕ → List ℕ → List ℕ

@@ -17,7 +17,7 @@ use Rattle.model_types.specs.declared.State.{State}
 use Rattle.model_types.specs.declared.Cycle.{Cycle}
 use Rattle.model_rules.specs.Inner.{decideJudged}
 use Rattle.model.specs.declared.Answer.{Answer}
-use Rattle.model.specs.Arrays.{arrayOf, seenOf}
+use Rattle.model.specs.Arrays.{arrayOf, seenOf, replyTold}
 
 -- an effect finds its units in an array and a residue of these lengths
 abbrev pub Within : Effect → Part → ℕ → ℕ → Type 0
@@ -46,3 +46,7 @@ arrayJudged d s c xs rs = doneOf (decideJudged d s c .effect) (d .part) rs xs
 -- the answer to it: only where they do not apply
 unfoldable pub answerJudged : Device → State → Cycle → List ℕ → List ℕ → Answer
 answerJudged d s c xs rs = record { seen = seenOf (decideJudged d s c .reply) (arrayJudged d s c xs rs); state = decideJudged d s c .state }
+
+-- what it tells: only where they do not apply
+unfoldable pub passedTold : Device → State → Cycle → List ℕ → List ℕ → ℕ × List ℕ
+passedTold d s c xs rs = replyTold (decideJudged d s c .reply) (arrayJudged d s c xs rs)

@@ -15,8 +15,8 @@ ghost use Rattle.units.specs.Units.{units, spare, lent};
 ghost use Rattle.model_types.specs.States.{freshState, resetOf};
 ghost use Rattle.device.specs.Parts.{sizeOf, lengthOf};
 ghost use Rattle.model.specs.declared.Seen.the-variants.{Data, Refused};
-ghost use Rattle.model.specs.Arrays.{erased, residual, arrayOf, seenOf, answerOf, bytesAfter};
-ghost use Rattle.model.specs.Inner.{findsIn, doneOf, answerJudged, arrayJudged, Within};
+ghost use Rattle.model.specs.Arrays.{erased, residual, arrayOf, seenOf, answerOf, bytesAfter, seenTold, replyTold, cycleTold};
+ghost use Rattle.model.specs.Inner.{findsIn, doneOf, answerJudged, arrayJudged, passedTold, Within};
 
 // What the host sees of a cycle: no data, a byte or a word, or a refusal by its number.
 pub enum Seen {
@@ -127,6 +127,7 @@ pub fn put(effect: Effect, part: Part, array: &mut [u8], residue: &[u8])
 // What the host sees of a reply.
 pub fn see(reply: Reply, word: bool, array: &[u8]) -> Seen
     ensures { λ r. ⌜ r ≡ seenOf reply (units word (now (array .entry))) ⌝ }
+    ensures told { λ r. ⌜ seenTold r ≡ replyTold reply (units word (now (array .entry))) ⌝ }
 {
     match reply {
         Reply::Quiet => Seen::NoData,
@@ -165,6 +166,7 @@ fn show(s: State, address: u32, word: bool, array: &[u8]) -> Answer
 // as the rules forbid. An effect that does not find its units is left undone.
 pub fn after_judging(d: Device, s: State, c: Cycle, array: &mut [u8], residue: &[u8]) -> Answer
     ensures { λ r. ⌜ r ≡ answerJudged d s c (units (d .part .word) (now (array .entry))) (units (d .part .word) (now (residue .entry))) ⌝ }
+    ensures told { λ r. ⌜ seenTold (r .seen) ≡ passedTold d s c (units (d .part .word) (now (array .entry))) (units (d .part .word) (now (residue .entry))) ⌝ }
     ensures { λ _. ⌜ units (d .part .word) (now (array .exit))
         ≡ arrayJudged d s c (units (d .part .word) (now (array .entry))) (units (d .part .word) (now (residue .entry))) ⌝ }
     ensures { λ _. ⌜ spare (d .part .word) (now (array .exit)) ≡ spare (d .part .word) (now (array .entry)) ⌝ }
@@ -198,6 +200,7 @@ fn refused(n: u8, s: State) -> Answer
 // One bus cycle.
 pub fn cycle(d: Device, s: State, c: Cycle, array: &mut [u8], residue: &[u8]) -> Answer
     ensures { λ r. ⌜ r ≡ answerOf d s c (lent (d .part .word) (now (array .entry))) (units (d .part .word) (now (residue .entry))) ⌝ }
+    ensures told { λ r. ⌜ seenTold (r .seen) ≡ cycleTold d s c (lent (d .part .word) (now (array .entry))) (units (d .part .word) (now (residue .entry))) ⌝ }
     ensures { λ _. ⌜ now (array .exit) ≡ bytesAfter d s c (now (array .entry)) (now (residue .entry)) ⌝ }
 {
     let part = d.part;

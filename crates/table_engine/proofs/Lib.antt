@@ -1,3 +1,4 @@
 pub mod Agree
 pub mod Claims
+pub mod Told
 pub mod Unique

@@ -21,7 +21,7 @@ use Rattle.model_commands.specs.Commands.{commandOf}
 use Rattle.model_operation.specs.Settling.{settleOf}
 use Rattle.model_rules.specs.Cycles.{judgeOf, refusedBy}
 use Rattle.model_rules.specs.Inner.{settledBy, decideRead, decideWrite}
-use Rattle.model.specs.Arrays.{arrayOf, isRefusal, seenOf}
+use Rattle.model.specs.Arrays.{arrayOf, isRefusal, seenOf, replyTold}
 use Rattle.model.specs.declared.Answer.{Answer}
 use Rattle.command_table.specs.Actions.{rowOf, actionFor, entryAt}
 
@@ -53,6 +53,10 @@ tableArray d s c xs rs = arrayOf (tableDecide d s c (length xs) (length rs) .eff
 unfoldable pub tableAnswer : Device → State → Cycle → List ℕ → List ℕ → Answer
 tableAnswer d s c xs rs =
     record { seen = seenOf (tableDecide d s c (length xs) (length rs) .reply) (tableArray d s c xs rs); state = tableDecide d s c (length xs) (length rs) .state }
+
+-- what it tells: the refusal's number, 0 where there is none, and the data given
+unfoldable pub tableTold : Device → State → Cycle → List ℕ → List ℕ → ℕ × List ℕ
+tableTold d s c xs rs = replyTold (tableDecide d s c (length xs) (length rs) .reply) (tableArray d s c xs rs)
 
 -- the lent bytes after it: refused, as they are
 unfoldable pub tableBytes : Device → State → Cycle → List ℕ → List ℕ → List ℕ

@@ -14,8 +14,9 @@ ghost use mathlib.Core.Path.{_≡_};
 ghost use Rattle.units.specs.Units.{units, spare, lent};
 ghost use Rattle.model_rules.specs.Inner.{decideKind, decideJudged};
 ghost use Rattle.model.specs.declared.Seen.the-variants.{Refused};
+ghost use Rattle.model.specs.Arrays.{seenTold};
 ghost use Rattle.model.specs.Inner.{answerJudged, arrayJudged};
-ghost use Rattle.table_engine.specs.Engine.{tableAnswer, tableBytes};
+ghost use Rattle.table_engine.specs.Engine.{tableAnswer, tableTold, tableBytes};
 
 // Step 4: the read or write itself. The table is asked for the state that settling leaves.
 fn respond(kind: Kind, d: Device, s: State, c: Cycle, t: Settled) -> Decision
@@ -84,6 +85,7 @@ fn refused(n: u8, s: State) -> Answer
 // One bus cycle, by the table.
 pub fn cycle(d: Device, s: State, c: Cycle, array: &mut [u8], residue: &[u8]) -> Answer
     ensures { λ r. ⌜ r ≡ tableAnswer d s c (lent (d .part .word) (now (array .entry))) (units (d .part .word) (now (residue .entry))) ⌝ }
+    ensures told { λ r. ⌜ seenTold (r .seen) ≡ tableTold d s c (lent (d .part .word) (now (array .entry))) (units (d .part .word) (now (residue .entry))) ⌝ }
     ensures { λ _. ⌜ now (array .exit) ≡ tableBytes d s c (now (array .entry)) (now (residue .entry)) ⌝ }
 {
     let part = d.part;

@@ -36,7 +36,7 @@ returns c =
     let turn = c .before .turn-out .ensures ∙ ap (λ (x : Given). turnOut (x .turn)) g in
     let loader = c .loader-back .ensures ∙ ap (λ (x : Given). loaderBack (a .l) (x .loader)) g in (
       λ i. record { turn = turn i; loader = loader i },
-      c .before .before .before .before .before .step .ensures .1 ∙ ap (λ (l : Loader). scratchLeft l (a .value) w sc) e,
+      c .before .before .before .before .before .step .ensures .1 .1 ∙ ap (λ (l : Loader). scratchLeft l (a .value) w sc) e,
     )
 
 pub stepped-spec : {M : Type 1} → statement M

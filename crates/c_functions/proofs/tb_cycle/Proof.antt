@@ -29,7 +29,7 @@ returns c =
     let cycle = c .before .before .before .cycle in
     cycle-given (a .device) (a .state) (a .bus) xs rs _ _ _ _ _ _ (c .before .before .before .before .before .before .before .device-in .ensures)
     (c .before .before .before .before .before .before .state-in .ensures) (c .before .before .before .before .before .cycle-in .ensures)
-    (cycle .ensures .0) (cycle .ensures .1) (c .answer-out .ensures)
+    (cycle .ensures .0) (cycle .ensures .1 .1) (c .answer-out .ensures)
 
 pub tb-cycle-spec : {M : Type 1} → statement M
 tb-cycle-spec =

@@ -17,7 +17,7 @@ given-out-requires c κs = search needs
 
 returns : tie.Need-returns
 unfolding startedAt
-returns c = simp (c .given-out .ensures, c .before .start .ensures, c .before .before .pins-in .ensures, c .before .before .before .part-in .ensures)
+returns c = simp (c .given-out .ensures, c .before .start .ensures .0, c .before .before .pins-in .ensures, c .before .before .before .part-in .ensures)
 
 pub tb-start-spec : {M : Type 1} → statement M
 tb-start-spec = tie.close (tie.spec part-in-requires pins-in-requires start-requires given-out-requires returns)

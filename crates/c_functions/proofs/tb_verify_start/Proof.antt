@@ -17,7 +17,7 @@ given-out-requires c κs = search needs
 
 returns : tie.Need-returns
 unfolding startedAt
-returns c = simp (c .given-out .ensures, c .before .start-verify .ensures, c .before .before .pins-in .ensures, c .before .before .before .part-in .ensures)
+returns c = simp (c .given-out .ensures, c .before .start-verify .ensures .0, c .before .before .pins-in .ensures, c .before .before .before .part-in .ensures)
 
 pub tb-verify-start-spec : {M : Type 1} → statement M
 tb-verify-start-spec =

@@ -34,7 +34,7 @@ returns c =
     (c .before .before .before .before .before .cycle-in .result) xs rs in
     cycle-given (a .device) (a .state) (a .bus) xs rs _ _ _ _ _ _ (c .before .before .before .before .before .before .before .device-in .ensures)
     (c .before .before .before .before .before .before .state-in .ensures) (c .before .before .before .before .before .cycle-in .ensures)
-    (cycle .ensures .0 ∙ agree .0) (cycle .ensures .1 ∙ agree .1) (c .answer-out .ensures)
+    (cycle .ensures .0 ∙ agree .0) (cycle .ensures .1 .1 ∙ agree .1) (c .answer-out .ensures)
 
 pub tb-table-cycle-spec : {M : Type 1} → statement M
 tb-table-cycle-spec =

@@ -1,5 +1,7 @@
 -- `engines::cycle` meets its contract: by the table, because the engines agree. Assumes nothing.
 use mathlib.Core.Path.{_∙_}
+use Rattle.units.specs.Units.{units, lent}
+use Rattle.model.proofs.Told.{answer-too}
 use Rattle.table_engine.proofs.Claims.{engines-agree}
 use borrow.Author.Needs.{needs}
 use Rattle.engines.proofs.cycle.Statement.{statement}
@@ -15,7 +17,8 @@ returns : tie.Need-returns
 returns c =
     let a = c .before .before .before .before .before .before .before .args in
     let agree = engines-agree (a .d) (a .s) (a .c) (a .array .now) (a .residue .now) in
-    (c .before .before .cycle .ensures .0 ∙ agree .0, c .before .before .cycle .ensures .1 ∙ agree .1)
+    answer-too (a .d) (a .s) (a .c) (lent (a .d .part .word) (a .array .now)) (units (a .d .part .word) (a .residue .now))
+    (c .before .before .cycle .ensures .0 ∙ agree .0) (c .before .before .cycle .ensures .1 .1 ∙ agree .1)
 
 cycle-requires-2 : tie.Need-cycle-requires-2
 cycle-requires-2 c κs = search needs

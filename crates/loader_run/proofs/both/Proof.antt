@@ -68,7 +68,7 @@ returns c =
         ap (λ (v : Answer). v .state) x,
         (
           subst (λ (part : Part). u part (y .last .1 .1 .1 .0) ≡ scratchBy (m .result .seen) l (u part (a .wanted .now)) (u part (a .scratch .now))) p (y .ensures .1) ∙ ap (λ (v : Answer). scratchBy (v .seen) l w sc) x,
-          m .ensures .1 .0 ∙ ap (λ (rs : List ℕ). arrayJudged (a .d) s (c .before .before .before .before .before .before .before .before .before .before .cycle-in .result) xs rs) (none (a .d .part .word)) ∙ ap (λ (k : Cycle). arrayJudged (a .d) s k xs []) o ∙ judged-array (a .d) s (cycleOf l w) xs [] z,
+          m .ensures .1 .1 .0 ∙ ap (λ (rs : List ℕ). arrayJudged (a .d) s (c .before .before .before .before .before .before .before .before .before .before .cycle-in .result) xs rs) (none (a .d .part .word)) ∙ ap (λ (k : Cycle). arrayJudged (a .d) s k xs []) o ∙ judged-array (a .d) s (cycleOf l w) xs [] z,
         ),
       ),
     )

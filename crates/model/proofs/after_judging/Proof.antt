@@ -11,6 +11,7 @@ use Rattle.model_rules.specs.Inner.{decideJudged}
 use Rattle.model_rules.proofs.Passing.{shows}
 use Rattle.model.specs.Arrays.{seenOf}
 use Rattle.model.specs.Inner.{doneOf, arrayJudged, answerJudged}
+use Rattle.model.proofs.Told.{judged-too}
 use borrow.Author.Needs.{needs}
 use Rattle.model.proofs.after_judging.Statement.{statement}
 use Rattle.model.proofs.after_judging.Tie as tie
@@ -31,10 +32,10 @@ returns c =
     let xs = units (a .d .part .word) (now (a .array)) in
     let rs = units (a .d .part .word) (now (a .residue)) in
     let e : decideJudged (a .d) (a .s) (a .c) ≡ decidedAs (GivesArray (a .c .address)) (a .s) Nothing =
-    shows (a .d) (a .s) (a .c) (sym (c .before .before .before .asks-array .ensures) ∙ c .before .before .if1 .taken) in (
-      c .show .ensures ∙ sym (ap (λ (x : Decision). record { seen = seenOf (x .reply) (doneOf (x .effect) (a .d .part) rs xs); state = x .state }) e),
-      (sym (ap (λ (x : Decision). doneOf (x .effect) (a .d .part) rs xs) e), refl),
-    )
+    shows (a .d) (a .s) (a .c) (sym (c .before .before .before .asks-array .ensures) ∙ c .before .before .if1 .taken) in
+    judged-too (a .d) (a .s) (a .c) xs rs
+    (c .show .ensures ∙ sym (ap (λ (x : Decision). record { seen = seenOf (x .reply) (doneOf (x .effect) (a .d .part) rs xs); state = x .state }) e))
+    (sym (ap (λ (x : Decision). doneOf (x .effect) (a .d .part) rs xs) e), refl)
 
 decide-judged-requires : tie.Need-decide-judged-requires
 decide-judged-requires c κs = search needs
@@ -60,9 +61,9 @@ returns-2 c =
     let e : decided .result ≡ x = decided .ensures in
     let left : units (a .d .part .word) (put .last .1 .1 .0) ≡ doneOf (x .effect) (a .d .part) rs xs = put .ensures .0 ∙ ap (λ (y : Decision). doneOf (y .effect) (a .d .part) rs xs) e in
     let p : c .see .result ≡ seenOf (x .reply) (doneOf (x .effect) (a .d .part) rs xs) =
-    c .see .ensures ∙ ap (λ (y : Decision). seenOf (y .reply) (units (a .d .part .word) (put .last .1 .1 .0))) e ∙ ap (λ (ys : List ℕ). seenOf (x .reply) ys) left in
+    c .see .ensures .0 ∙ ap (λ (y : Decision). seenOf (y .reply) (units (a .d .part .word) (put .last .1 .1 .0))) e ∙ ap (λ (ys : List ℕ). seenOf (x .reply) ys) left in
     let q : decided .result .state ≡ x .state = ap (λ (y : Decision). y .state) e in
-    (λ i. record { seen = p i; state = q i }, (left, put .ensures .1))
+    judged-too (a .d) (a .s) (a .c) xs rs (λ i. record { seen = p i; state = q i }) (left, put .ensures .1)
 
 pub after-judging-spec : {M : Type 1} → statement M
 after-judging-spec =

@@ -1,3 +1,6 @@
+use denote.Ref.{now}
+use Rattle.units.specs.Units.{units}
+use Rattle.model.proofs.Told.{seen-too}
 use borrow.Author.Needs.{needs}
 use Rattle.model.proofs.see.Statement.{statement}
 use Rattle.model.proofs.see.Tie as tie
@@ -24,13 +27,15 @@ returns : tie.Need-returns
 returns c = search needs
 
 returns-2 : tie.Need-returns-2
-returns-2 c = simp (c .before .reply .given .1)
+returns-2 c = let a = c .before .before .before .before .args in seen-too (a .reply) (units (a .word) (now (a .array))) (simp (c .before .reply .given .1))
 
 returns-3 : tie.Need-returns-3
-returns-3 c = simp (c .get-unit .ensures .0, c .before .index .ensures, c .before .before .before .reply2 .given .1)
+returns-3 c =
+    let a = c .before .before .before .before .before .before .args in
+    seen-too (a .reply) (units (a .word) (now (a .array))) (simp (c .get-unit .ensures .0, c .before .index .ensures, c .before .before .before .reply2 .given .1))
 
 returns-4 : tie.Need-returns-4
-returns-4 c = simp (c .before .reply3 .given .1)
+returns-4 c = let a = c .before .before .before .before .args in seen-too (a .reply) (units (a .word) (now (a .array))) (simp (c .before .reply3 .given .1))
 
 pub see-spec : {M : Type 1} → statement M
 see-spec =

@@ -35,7 +35,7 @@ returns c =
     let e : decided .result ≡ x = decided .ensures in
     let left : units (a .d .part .word) (put .last .1 .1 .0) ≡ doneOf (x .effect) (a .d .part) rs xs = put .ensures .0 ∙ ap (λ (y : Decision). doneOf (y .effect) (a .d .part) rs xs) e in
     let p : c .see .result ≡ seenOf (x .reply) (doneOf (x .effect) (a .d .part) rs xs) =
-    c .see .ensures ∙ ap (λ (y : Decision). seenOf (y .reply) (units (a .d .part .word) (put .last .1 .1 .0))) e ∙ ap (λ (ys : List ℕ). seenOf (x .reply) ys) left in
+    c .see .ensures .0 ∙ ap (λ (y : Decision). seenOf (y .reply) (units (a .d .part .word) (put .last .1 .1 .0))) e ∙ ap (λ (ys : List ℕ). seenOf (x .reply) ys) left in
     let q : decided .result .state ≡ x .state = ap (λ (y : Decision). y .state) e in
     (λ i. record { seen = p i; state = q i }, (left, put .ensures .1))
 

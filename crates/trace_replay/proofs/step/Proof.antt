@@ -24,7 +24,7 @@ returns c =
     let a = c .before .before .before .before .before .before .before .args in
     let e = c .before .before .before .before .bench .ensures in (
       c .before .before .cycle .ensures .0 ∙ ap (λ (d : Device). answerOf d (a .s) (a .c) (lent (d .part .word) (a .array .now)) (units (d .part .word) (a .residue .now))) e,
-      c .before .before .cycle .ensures .1 ∙ ap (λ (d : Device). bytesAfter d (a .s) (a .c) (a .array .now) (a .residue .now)) e
+      c .before .before .cycle .ensures .1 .1 ∙ ap (λ (d : Device). bytesAfter d (a .s) (a .c) (a .array .now) (a .residue .now)) e
           ∙ byte-mode-bytes benchT (a .s) (a .c) (a .array .now) (a .residue .now) refl,
     )
 

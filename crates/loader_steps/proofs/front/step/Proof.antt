@@ -2,6 +2,7 @@
 use borrow.Author.Needs.{needs}
 use mathlib.Core.Path.{sym, _∙_}
 use Rattle.units.specs.Units.{lent}
+use Rattle.loader_steps.proofs.Told.{step-too}
 use Rattle.loader_steps.proofs.Lending.{step-lent, step-gives, step-leaves, step-bars, step-keeps}
 use Rattle.loader_steps.proofs.front.step.Statement.{statement}
 use Rattle.loader_steps.proofs.front.step.Tie as tie
@@ -30,10 +31,10 @@ returns c =
     let t = c .before .before .before .before .before .before in
     let a = t .before .before .before .before .before .before .args in
     let n = step-lent (a .l) (a .wanted .now) (a .scratch .now) _ _ _ (t .step-number .ensures) (t .before .before .lent-in .ensures) (t .before .lent-in2 .ensures) in
-    let z = sym n ∙ c .before .before .before .before .before .if1 .taken in (
-      step-gives (a .l) (a .wanted .now) (a .scratch .now) (a .v) _ _ z (m .ensures .0) (c .given-by .ensures),
-      step-leaves (a .l) (a .wanted .now) (a .scratch .now) (a .v) (m .last .1 .1 .1 .0) z (m .kept .1 .1 .1 .0) (λ i. c .before .slice-known2 .given i .fits) (m .ensures .1 .0),
-    )
+    let z = sym n ∙ c .before .before .before .before .before .if1 .taken in
+    step-too (a .l) (a .v) (lent (a .l .part .word) (a .wanted .now)) (lent (a .l .part .word) (a .scratch .now))
+    (step-gives (a .l) (a .wanted .now) (a .scratch .now) (a .v) _ _ z (m .ensures .0) (c .given-by .ensures))
+    (step-leaves (a .l) (a .wanted .now) (a .scratch .now) (a .v) (m .last .1 .1 .1 .0) z (m .kept .1 .1 .1 .0) (λ i. c .before .slice-known2 .given i .fits) (m .ensures .1 .0))
 
 barred-by-requires : tie.Need-barred-by-requires
 barred-by-requires c κs = search needs
@@ -43,7 +44,9 @@ returns-2 c =
     let t = c .before .before in
     let a = t .before .before .before .before .before .before .args in
     let n = step-lent (a .l) (a .wanted .now) (a .scratch .now) _ _ _ (t .step-number .ensures) (t .before .before .lent-in .ensures) (t .before .lent-in2 .ensures) in
-    (step-bars (a .l) (a .wanted .now) (a .scratch .now) (a .v) _ _ n (c .before .if1 .left) (c .barred-by .ensures), step-keeps (a .l) (a .wanted .now) (a .scratch .now) (a .v) _ n (c .before .if1 .left))
+    step-too (a .l) (a .v) (lent (a .l .part .word) (a .wanted .now)) (lent (a .l .part .word) (a .scratch .now))
+    (step-bars (a .l) (a .wanted .now) (a .scratch .now) (a .v) _ _ n (c .before .if1 .left) (c .barred-by .ensures))
+    (step-keeps (a .l) (a .wanted .now) (a .scratch .now) (a .v) _ n (c .before .if1 .left))
 
 pub step-spec : {M : Type 1} → statement M
 step-spec =

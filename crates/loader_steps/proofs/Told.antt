@@ -1,0 +1,48 @@
+-- What a turn tells by its cases is what its start, or its step, tells. Assumes nothing.
+use mathlib.Core.Path.{_≡_, ap, _∙_}
+use mathlib.Core.Bool.{Bool}
+use mathlib.Core.List.{List, [], _∷_}
+use Prim.Native.Nat.{ℕ}
+use lib.ListN.{length}
+use lib.Dec.{eqb}
+use Rattle.common.specs.Choice.{if_then_else_}
+use Rattle.common.proofs.Choice.{if-ap}
+use Rattle.device.specs.declared.Part.{Part}
+use Rattle.model_types.specs.declared.Pins.{Pins}
+use Rattle.model_types.specs.declared.Cycle.{Cycle}
+use Rattle.loader.specs.declared.Stage.{Stage}
+use Rattle.loader.specs.declared.Stage.the-variants.{Ended}
+use Rattle.loader.specs.declared.Loader.{Loader}
+use Rattle.loader.specs.declared.Turn.the-variants.{Out, Over}
+use Rattle.loader.specs.declared.Given.{Given}
+use Rattle.loader.specs.Stages.{isEnded, endBy}
+use Rattle.loader.specs.Moves.{nextOf}
+use Rattle.loader_steps.specs.Outs.{cycleOf}
+use Rattle.loader_steps.specs.Stores.{storeOf}
+use Rattle.loader_steps.specs.Front.{startNumber, stepNumber, recordAt, endAddress, turnIn, turnGiven, barredBy, startAt, stepGiven, turnTold, recordTold, toldAt, stepTold}
+
+abbrev told : Given → ℕ × List Cycle × List ℕ
+told g = turnTold (g .turn)
+
+record-told : (l : Loader) (w : List ℕ) → told (turnGiven l w) ≡ recordTold l w
+record-told l w = if-ap turnTold (isEnded (l .stage)) (Over (endBy (l .stage)) (endAddress l (endBy (l .stage)))) (Out (cycleOf l w))
+
+-- a number that lets the record through or not
+by-number : (n : ℕ) (l bars : Loader) (w : List ℕ) → told (if eqb n 0 then turnGiven l w else barredBy n bars) ≡ (if eqb n 0 then recordTold l w else (n, [], []))
+by-number n l bars w =
+    if-ap told (eqb n 0) (turnGiven l w) (barredBy n bars) ∙ ap (λ (z : ℕ × List Cycle × List ℕ). if eqb n 0 then z else (n, [], [])) (record-told l w)
+
+-- an answer's equation with what it tells
+pub start-too : {r : Given} (stage : Stage) (verify : Bool) (part : Part) (p : Pins) (k : ℕ) (w sc : List ℕ) → r ≡ startAt stage verify part p k w sc
+    → (r ≡ startAt stage verify part p k w sc) × (turnTold (r .turn) ≡ toldAt stage verify part p k w sc)
+unfolding startAt toldAt
+start-too stage verify part p k w sc e =
+    let n = startNumber part p k (length w) (length sc) in
+    (e, ap told e ∙ by-number n (recordAt part p k stage verify) (recordAt part p k (Ended n) verify) w)
+
+-- .. and with what is left
+pub step-too : {r : Given} {Left : Type 0} (l : Loader) (v : ℕ) (w sc : List ℕ) → r ≡ stepGiven l v w sc → Left
+    → (r ≡ stepGiven l v w sc) × ((turnTold (r .turn) ≡ stepTold l v w sc) × Left)
+unfolding stepGiven stepTold
+step-too l v w sc e left =
+    (e, (ap told e ∙ by-number (stepNumber l (length w) (length sc)) (nextOf l v w (storeOf l v w sc)) l w, left))

@@ -1,0 +1,19 @@
+-- `loader_steps::front::start_verify` meets its contract. Assumes nothing.
+use borrow.Author.Needs.{needs}
+use mathlib.Core.Bool.{true}
+use Rattle.units.specs.Units.{lent}
+use Rattle.loader.specs.declared.Stage.the-variants.{Closing}
+use Rattle.loader_steps.proofs.Told.{start-too}
+use Rattle.loader_steps.proofs.front.start_verify.Statement.{statement}
+use Rattle.loader_steps.proofs.front.start_verify.Tie as tie
+
+start-at-requires : tie.Need-start-at-requires
+start-at-requires c κs = search needs
+
+returns : tie.Need-returns
+returns c =
+    let a = c .before .before .before .args in
+    start-too Closing true (a .part) (a .p) (a .block) (lent (a .part .word) (a .wanted .now)) (lent (a .part .word) (a .scratch .now)) (c .start-at .ensures)
+
+pub start-verify-spec : {M : Type 1} → statement M
+start-verify-spec = tie.close (tie.spec start-at-requires returns)
