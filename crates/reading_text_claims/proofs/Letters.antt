@@ -44,7 +44,7 @@ one-digit m s q n e h =
     (ap (λ (z : ℕ). numbered m true z) (let w : 10 * q + (48 + n % 10) % 16 ≡ n = omega (arith, e) in w))
 
 -- a letter that is neither a space nor a newline
-within : (n volts : Number) (second : Bool) (k : ℕ) (out : List ℕ) (b : ℕ) → eqb b 10 ≡ false → eqb b 32 ≡ false
+pub within : (n volts : Number) (second : Bool) (k : ℕ) (out : List ℕ) (b : ℕ) → eqb b 10 ≡ false → eqb b 32 ≡ false
     → scanMore (atNumber n volts second k out .scan) b out ≡ atNumber (fed n b) volts second k out
 unfolding withinLine
 within n volts second k out b e f =
@@ -116,7 +116,7 @@ module _ (m : Bool) (volts : Number) (second : Bool) (k : ℕ) (out : List ℕ) 
       before-rest base zero n after rest = refl
       before-rest base (suc w) n after rest = before-rest base w (n / base) (digitLetter (n % base) ∷ after) rest
 
-minus-fed : fed (numbered false false 0) 45 ≡ numbered true false 0
+pub minus-fed : fed (numbered false false 0) 45 ≡ numbered true false 0
 unfolding fed isDigit
 minus-fed = refl
 
