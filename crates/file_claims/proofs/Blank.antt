@@ -1,6 +1,6 @@
 -- A blank block beside the reader that had no number for it, and blank files. Assumes nothing.
 use mathlib.Core.Path.{_≡_, refl, sym, _∙_, ap}
-use mathlib.Core.List.{List, [], _∷_, _++_}
+use mathlib.Core.List.{List, [], _∷_}
 use mathlib.Core.Bool.{Bool, true, false, not, _||_}
 use mathlib.Core.Logic.{_↔_}
 use Prim.Native.Nat.{ℕ, zero, suc, _+_, _*_, _/_, _-_, _≤_, _<_}
@@ -8,7 +8,7 @@ use native.Mathlib.Omega.{arith}
 use lib.ListN.{length, getD, take, drop, replicate, length-replicate, replicate-append-replicate}
 use lib.Seq.{take-at}
 use lib.Dec.{eqb}
-use borrow.Author.Tests.{eqb-true, eqb-false, ne-eqb}
+use borrow.Author.Tests.{eqb-true}
 use Rattle.common.specs.Choice.{if_then_else_}
 use Rattle.common.proofs.Choice.{if-true, if-false}
 use Rattle.common.specs.Numbers.{Row, row, given}

@@ -8,10 +8,9 @@ use native.Mathlib.Omega.{arith}
 use lib.ListN.{length, take}
 use lib.Dec.{eqb}
 use borrow.Author.Tests.{eqb-true, eqb-false}
-use Rattle.common.proofs.Choice.{unlike}
 use Rattle.file_check.specs.Check.{checkOf, storedOf, isBlank, checkFault}
 use Rattle.file_check.proofs.Verdicts.{check-right, check-blank, check-not-right}
-use Rattle.file_codec.specs.File.{made, countOf, fileOf, writerOf}
+use Rattle.file_codec.specs.File.{made, countOf, writerOf}
 use Rattle.file_codec.proofs.Sizes.{blocks-length}
 use Rattle.file_codec.proofs.Outcomes.{writer-lets}
 

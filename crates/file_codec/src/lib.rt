@@ -6,7 +6,7 @@ ghost use lib.ListN.{length, getD, take, drop};
 ghost use Rattle.common.specs.Numbers.{given};
 ghost use Rattle.file_block.specs.Block.{usedOf};
 ghost use Rattle.file_codec.specs.Layout.{headOf, sealed, blockWritten};
-ghost use Rattle.file_codec.specs.File.{limit, countOf, blocksOf, payloadWrong, lengthWrong, blocksRows, placesOf, writerOf, readerOf, inRoom, leftIn, writtenAs, judgedAs, readAs, writtenTold, judgedTold, readTold, toldBy};
+ghost use Rattle.file_codec.specs.File.{limit, blocksOf, payloadWrong, lengthWrong, blocksRows, placesOf, writerOf, readerOf, inRoom, leftIn, writtenAs, judgedAs, readAs, writtenTold, judgedTold, readTold, toldBy};
 
 // The most blocks that a file has; with them the bytes of the longest file, and of the longest payload.
 const LIMIT: usize = 224;

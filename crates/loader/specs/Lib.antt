@@ -1,3 +1,4 @@
+pub mod Inner
 pub mod Stages
 pub mod Walks
 pub mod Moves

@@ -10,6 +10,7 @@ use Rattle.loader.specs.declared.Stage.{Stage}
 use Rattle.loader.specs.declared.Stage.the-variants.{Clearing, Opening, Reading, EraseAsking, EraseConfirming, EraseWaiting, ProgramAsking, ProgramSending, ProgramWaiting, Closing, Verifying, Ended}
 use Rattle.loader.specs.declared.Loader.{Loader}
 use Rattle.loader.specs.Walks.{risesIn, diffFrom}
+use Rattle.loader.specs.Inner.{past}
 
 -- the record at another stage, place and count of polls
 abbrev pub movedTo : Loader → Stage → ℕ → ℕ → Loader
@@ -85,10 +86,6 @@ pollMore l stage = if leb 65534 (l .polls) then endedBy l 20 else movedTo l stag
 -- a poll of the erase is in
 unfoldable pub erasePolled : Loader → ℕ → List ℕ → List ℕ → Loader
 erasePolled l b w sc = if isReady b then (if eqb (eraseFault b) 0 then onward l 0 w sc else endedBy l (eraseFault b)) else pollMore l EraseWaiting
-
--- the place after p, no further than the end
-unfoldable pub past : ℕ → ℕ → ℕ
-past p n = if ltb p n then p + 1 else p
 
 -- a poll of a program is in
 unfoldable pub programPolled : Loader → ℕ → List ℕ → List ℕ → Loader

@@ -6,10 +6,11 @@ use Rattle.model_types.specs.declared.Kind.the-variants.{Read, Write, Idle}
 use Rattle.loader.specs.declared.Stage.{Stage}
 use Rattle.loader.specs.declared.Stage.the-variants.{Clearing, Opening, Reading, EraseAsking, EraseConfirming, EraseWaiting, ProgramAsking, ProgramSending, ProgramWaiting, Closing, Verifying, Ended}
 use Rattle.loader.specs.declared.StageIs.{StageIs}
+use Rattle.loader.specs.Inner.{noEnd}
 
--- before the end: a cycle of a kind is out; the load has no number yet, and 255 stands for that
+-- before the end: a cycle of a kind is out, and the load has no number yet
 abbrev pub givesCycle : Kind → Bool → Bool → ℕ → StageIs
-givesCycle kind here wanted command = record { ended = false; end = 255; kind = kind; here = here; wanted = wanted; command = command }
+givesCycle kind here wanted command = record { ended = false; end = noEnd; kind = kind; here = here; wanted = wanted; command = command }
 
 -- a command to the block's first address
 abbrev pub commands : ℕ → StageIs

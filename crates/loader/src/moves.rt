@@ -11,7 +11,8 @@ use model_types::states::SR7;
 ghost use mathlib.Core.Path.{_≡_};
 ghost use Prim.Native.Nat.{_-_};
 ghost use Rattle.units.specs.Units.{units};
-ghost use Rattle.loader.specs.Moves.{movedTo, endedBy, endedApart, isReady, sr3, sr4, sr5, bothErrors, eraseFault, programFault, loadedStage, onward, afterReads, afterRead, pollMore, erasePolled, past, programPolled, verifyMore, nextIn};
+ghost use Rattle.loader.specs.Moves.{movedTo, endedBy, endedApart, isReady, sr3, sr4, sr5, bothErrors, eraseFault, programFault, loadedStage, onward, afterReads, afterRead, pollMore, erasePolled, programPolled, verifyMore, nextIn};
+ghost use Rattle.loader.specs.Inner.{past};
 
 // The record at another stage, place and count of polls.
 pub fn moved(l: Loader, stage: Stage, place: usize, polls: u32) -> Loader

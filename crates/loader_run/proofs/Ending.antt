@@ -15,7 +15,8 @@ use Rattle.device.specs.declared.Device.{Device}
 use Rattle.model_types.specs.declared.Pins.{Pins}
 use Rattle.model_types.specs.declared.State.{State}
 use Rattle.loader_run.specs.declared.Ran.{Ran}
-use Rattle.loader_run.specs.Turns.{Config, answerTo, moved, after, bound}
+use Rattle.loader_run.specs.Turns.{Config, answerTo, moved, after}
+use Rattle.loader_run.specs.Inner.{bound}
 use Rattle.loader.specs.declared.Stage.{Stage}
 use Rattle.loader.specs.Stages.{isEnded}
 use Rattle.loader_run.specs.Runs.{runRows, runNumber, beginningAt, ranBy, driven, leftAt, RunLeft, runLeftAt}

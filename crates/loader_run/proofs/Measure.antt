@@ -14,11 +14,13 @@ use Rattle.loader.specs.declared.Stage.the-variants.{Clearing, Opening, Reading
 use Rattle.loader.specs.declared.Loader.{Loader}
 use Rattle.units.specs.Units.{carried}
 use Rattle.loader.specs.Walks.{nextDiff, diffFrom, risesIn}
-use Rattle.loader.specs.Moves.{statusIn, isReady, eraseFault, programFault, loadedStage, onward, afterReads, afterRead, pollMore, erasePolled, past, programPolled, verifyMore, nextIn}
+use Rattle.loader.specs.Moves.{statusIn, isReady, eraseFault, programFault, loadedStage, onward, afterReads, afterRead, pollMore, erasePolled, programPolled, verifyMore, nextIn}
+use Rattle.loader.specs.Inner.{past}
 use Rattle.loader_steps.specs.Stores.{storeOf}
 use Rattle.model.specs.declared.Seen.{Seen}
 use Rattle.model.specs.declared.Seen.the-variants.{NoData, Data, Refused}
-use Rattle.loader_run.specs.Turns.{loaderBy, bound}
+use Rattle.loader_run.specs.Turns.{loaderBy}
+use Rattle.loader_run.specs.Inner.{bound}
 use Rattle.loader.specs.Stages.{isEnded}
 
 -- the most cycles from the first program of a load of n bytes to its end

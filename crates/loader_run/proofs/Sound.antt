@@ -27,7 +27,8 @@ use Rattle.model.proofs.Keeping.{cycle-proper}
 use Rattle.model.proofs.Contents.{cycle-length}
 use Rattle.loader.specs.declared.Stage.{Stage}
 use Rattle.loader.specs.declared.Loader.{Loader}
-use Rattle.loader_steps.specs.Outs.{firstAddress, reach, hereOf, addressIn, carriedIn, cycleAt, cycleAtStage, cycleOf}
+use Rattle.loader_steps.specs.Outs.{firstAddress, hereOf, addressIn, carriedIn, cycleAt, cycleAtStage, cycleOf}
+use Rattle.loader_steps.specs.Inner.{reach}
 use Rattle.loader_steps.specs.Stores.{storeOf}
 use Rattle.loader_steps.specs.Front.{barredPins, noBlock, recordAt}
 use Rattle.loader_steps.proofs.Again.{some-block, Kept, kept-next}

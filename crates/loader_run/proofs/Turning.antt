@@ -15,7 +15,8 @@ use Rattle.loader_steps.specs.Stores.{storeOf}
 use Rattle.loader_steps.proofs.Again.{first-kept}
 use Rattle.model.specs.declared.Seen.{Seen}
 use Rattle.model.specs.declared.Seen.the-variants.{NoData, Data, Refused}
-use Rattle.loader_run.specs.Turns.{Config, isRefused, numberIn, refusalIn, loaderBy, scratchBy, answerTo, arrayTo, moved, turnOf, after, bound}
+use Rattle.loader_run.specs.Turns.{Config, isRefused, numberIn, refusalIn, loaderBy, scratchBy, answerTo, arrayTo, moved, turnOf, after}
+use Rattle.loader_run.specs.Inner.{bound}
 use Rattle.loader.specs.Stages.{isEnded}
 use Rattle.loader_run.specs.Runs.{driven}
 use Rattle.loader_run.proofs.Measure.{remains, remains-bound, falls}

@@ -19,7 +19,8 @@ use Rattle.loader.specs.declared.Loader.{Loader}
 use Rattle.loader.specs.Stages.{endBy}
 use Rattle.loader_steps.specs.Front.{setupRows, recordAt, endAddress}
 use Rattle.loader_run.specs.declared.Ran.{Ran}
-use Rattle.loader_run.specs.Turns.{Config, after, bound}
+use Rattle.loader_run.specs.Turns.{Config, after}
+use Rattle.loader_run.specs.Inner.{bound}
 
 -- the tests of a run, in their order, the lengths in units; 12 is something awaited, running or suspended
 abbrev pub runRows : Device → State → Pins → ℕ → ℕ → ℕ → ℕ → List Row

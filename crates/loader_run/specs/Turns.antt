@@ -1,7 +1,7 @@
 -- Loader and model stepped against each other. The array, scratch and what is wanted are lists of units. Assumes nothing.
 use mathlib.Core.Bool.{Bool, true, false}
 use mathlib.Core.List.{List, []}
-use Prim.Native.Nat.{ℕ, zero, suc, _+_, _*_}
+use Prim.Native.Nat.{ℕ, zero, suc, _+_}
 use Rattle.common.specs.Choice.{if_then_else_}
 use Rattle.device.specs.declared.Device.{Device}
 use Rattle.model_types.specs.declared.State.{State}
@@ -78,7 +78,3 @@ turnOf d w c = if isEnded (c .loader .stage) then c else moved d w c
 abbrev pub after : ℕ → Device → List ℕ → Config → Config
 after zero d w c = c
 after (suc k) d w c = after k d w (turnOf d w c)
-
--- no load of n units makes more cycles
-abbrev pub bound : ℕ → ℕ
-bound n = n * 65539 + 196622

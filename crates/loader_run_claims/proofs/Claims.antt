@@ -16,7 +16,7 @@ use Rattle.model_types.specs.States.{atRest}
 use Rattle.loader.specs.declared.Stage.the-variants.{Clearing}
 use Rattle.loader.specs.Walks.{risesIn}
 use Rattle.loader_run.specs.Turns.{Config, after}
-use Rattle.loader_run.specs.Runs.{runRows, runLeftAt, begin, ranOf, bytesOf, scratchOf, runNumber}
+use Rattle.loader_run.specs.Runs.{runRows, runLeftAt, ranOf, bytesOf, scratchOf, runNumber}
 use Rattle.loader_run_claims.specs.Wear.{begunIn, heldIn, formula, operationsOf, notedAll, begunByLoad, heldBy}
 use Rattle.model_history.specs.History.{Bus, worldAfter, begunOver, worldOf, busesOf}
 use Rattle.loader_run_claims.specs.Made.{madeIn, cyclesOf, cyclesOfLoad}

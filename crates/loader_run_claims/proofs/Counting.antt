@@ -16,7 +16,8 @@ use Rattle.loader.specs.declared.Stage.{Stage}
 use Rattle.loader.specs.Walks.{risesIn, diffFrom}
 use Rattle.loader_steps.specs.Outs.{cycleOf}
 use Rattle.loader_steps.specs.Front.{recordAt}
-use Rattle.loader_run.specs.Turns.{Config, turnOf, after, bound}
+use Rattle.loader_run.specs.Turns.{Config, turnOf, after}
+use Rattle.loader_run.specs.Inner.{bound}
 use Rattle.loader.specs.Stages.{isEnded}
 use Rattle.loader_run.specs.Runs.{runRows, runNumber, begin, driven, leftAt, RunLeft, runLeftAt}
 use Rattle.loader_run.proofs.Leaving.{left-made}

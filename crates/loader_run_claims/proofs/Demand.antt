@@ -13,7 +13,6 @@ use Rattle.common.specs.Lists.{overlaid}
 use Rattle.device.specs.declared.Device.{Device}
 use Rattle.device.specs.Parts.{startOf}
 use Rattle.model_types.specs.declared.Pins.{Pins}
-use Rattle.model_types.specs.declared.Mode.{Mode}
 use Rattle.model_types.specs.declared.Mode.the-variants.{Array, Status}
 use Rattle.model_types.specs.declared.State.{State}
 use Rattle.model_types.specs.declared.Effect.{Effect}
@@ -34,7 +33,7 @@ use Rattle.loader_run_claims.specs.Wear.{heldIn, baseOf, programsIn, for
 use Rattle.loader_run_claims.specs.Made.{openingThen, closingBy, cyclesBy}
 use Rattle.loader_run_claims.specs.Ends.{asWanted, loadedMode, endMode, erasedFrom, eraseTried, programTried, faultCycles}
 use Rattle.loader_run.proofs.Turning.{conf}
-use Rattle.loader_run.proofs.Good.{Good, good}
+use Rattle.loader_run.proofs.Good.{Good}
 use Rattle.loader_run_claims.specs.Mission.{Taken}
 use Rattle.loader_run_claims.proofs.Starts.{none-refuses}
 use Rattle.loader_run_claims.proofs.Answers.{Up, Ready, Stuck}

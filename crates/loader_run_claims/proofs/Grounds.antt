@@ -28,7 +28,8 @@ use Rattle.loader_steps.specs.Front.{noBlock}
 use Rattle.loader_steps.specs.Outs.{cycleOf}
 use Rattle.loader.specs.declared.Stage.{Stage}
 use Rattle.model_types.specs.declared.Cycle.{Cycle}
-use Rattle.loader_run.specs.Turns.{Config, turnOf, after, bound}
+use Rattle.loader_run.specs.Turns.{Config, turnOf, after}
+use Rattle.loader_run.specs.Inner.{bound}
 use Rattle.loader.specs.Stages.{isEnded}
 use Rattle.loader_run.specs.Runs.{runNumber, beginningAt, driven, leftAt, ranBy, RunLeft, runMade, runLeftAt}
 use Rattle.model_types.specs.Phases.{underWay}

@@ -34,7 +34,7 @@ use Rattle.loader.specs.declared.Stage.the-variants.{Clearing}
 use Rattle.loader_steps.specs.Front.{endAddress}
 use Rattle.loader.specs.Walks.{risesIn}
 use Rattle.loader_run.specs.declared.Ran.{Ran}
-use Rattle.loader_run.specs.Turns.{bound}
+use Rattle.loader_run.specs.Inner.{bound}
 use Rattle.loader_run.specs.Runs.{beginningAt, driven, leftAt, runLeftAt}
 use Rattle.loader_run_claims.specs.Wear.{begunAt, heldIn, heldBy, baseOf, erasesOf, programsIn, programsOf, differing, formula, loadFormula, formulaBy, operationsOf}
 use Rattle.model_history.specs.History.{Bus, World, worldOf, worldAfter, effectsIn, begunOver, uncut, totalOf, eraseOf, programIn, programOf, erasesBegun, programsBegun}

@@ -40,7 +40,8 @@ use Rattle.loader.specs.declared.Stage.{Stage}
 use Rattle.loader.specs.declared.Stage.the-variants.{Clearing, Opening, Reading, EraseAsking, EraseConfirming, EraseWaiting, ProgramAsking, ProgramSending, ProgramWaiting, Closing, Verifying, Ended}
 use Rattle.loader.specs.declared.Loader.{Loader}
 use Rattle.loader.specs.Walks.{mustRise, rises, nextDiff, diffFrom, risesIn}
-use Rattle.loader.specs.Moves.{nextOf, loadedStage, onward, afterReads, afterRead, pollMore, erasePolled, past, programPolled, verifyMore, eraseFault, programFault, bothErrors}
+use Rattle.loader.specs.Moves.{nextOf, loadedStage, onward, afterReads, afterRead, pollMore, erasePolled, programPolled, verifyMore, eraseFault, programFault, bothErrors}
+use Rattle.loader.specs.Inner.{past}
 use Rattle.loader_steps.specs.Outs.{firstAddress, hereOf, cycleOf}
 use Rattle.loader_steps.specs.Stores.{storeOf, erasedWell, programmedWell}
 use Rattle.loader_steps.proofs.Small.{length-small}

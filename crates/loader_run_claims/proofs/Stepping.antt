@@ -44,7 +44,8 @@ use Rattle.loader_steps.specs.Front.{barredPins, startNumber, stepNumber, recor
 use Rattle.loader_steps.proofs.Again.{taken, start-gives, start-again, step-on, step-again}
 use Rattle.loader_run.specs.declared.Ran.{Ran}
 use Rattle.loader_run.specs.Turns as turns
-use Rattle.loader_run.specs.Turns.{Config, numberIn, answerTo, moved, turnOf, after, bound}
+use Rattle.loader_run.specs.Turns.{Config, numberIn, answerTo, moved, turnOf, after}
+use Rattle.loader_run.specs.Inner.{bound}
 use Rattle.loader.specs.Stages.{stageIs, isEnded, endBy}
 use Rattle.loader_run.specs.Runs.{runRows, ranBy, begin, driven, runLeftAt}
 use Rattle.loader_run.proofs.Turning.{took, turn-ended, turn-going, ended-stays}

@@ -1,9 +1,7 @@
 -- Starts that there are: every block of every device, in byte mode and, of devices 5 to 8, in word mode. Assumes nothing.
 use mathlib.Core.Bool.{Bool, true, false, _&&_}
-use mathlib.Core.List.{List, [], _∷_}
 use Prim.Native.Nat.{ℕ, zero, suc}
 use lib.Dec.{eqb}
-use Rattle.device.specs.declared.Part.{Part}
 use Rattle.device.specs.declared.Device.{Device}
 use Rattle.device.specs.Parts.{sizeOf, lengthOf}
 use Rattle.units.specs.Units.{bytesIn}

@@ -24,6 +24,7 @@ use Rattle.loader.specs.declared.Turn.the-variants.{Out, Over, Barred}
 use Rattle.loader.specs.declared.Given.{Given}
 use Rattle.loader.specs.Walks.{diffFrom, risesIn}
 use Rattle.loader.specs.Moves as moves
+use Rattle.loader.specs.Inner as inner
 use Rattle.units.specs.Units.{carried}
 use Rattle.loader.specs.Moves.{movedTo, endedBy, statusIn, isReady, eraseFault, programFault, onward, afterReads, afterRead, pollMore, erasePolled, programPolled, verifyMore, nextIn, nextOf}
 use Rattle.loader_steps.specs.Outs.{firstAddress}
@@ -196,7 +197,7 @@ module _ (l : Loader) (w : List ℕ) where
   unfolding programPolled
   kept-program b sc =
       if-ind In (isReady b) _ _
-      (λ r. if-ind In (eqb (programFault b) 0) _ _ (λ f. kept-onward (moves.past (l .place) (length w)) sc) (λ f. kept-end (programFault b)))
+      (λ r. if-ind In (eqb (programFault b) 0) _ _ (λ f. kept-onward (inner.past (l .place) (length w)) sc) (λ f. kept-end (programFault b)))
       (λ r. kept-poll ProgramWaiting)
 
   kept-verify : (b : ℕ) → In (verifyMore l b w)

@@ -3,7 +3,7 @@ use mathlib.Core.Path.{_≡_}
 use mathlib.Core.Bool.{Bool, true, false}
 use mathlib.Core.List.{List}
 use mathlib.Core.Logic.{_↔_}
-use Prim.Native.Nat.{ℕ}
+use Prim.Native.Nat.{ℕ, _+_}
 use lib.ListN.{length}
 use Rattle.common.specs.Numbers.{Foremost, NoRow}
 use Rattle.device.specs.declared.Part.{Part}
@@ -13,6 +13,8 @@ use Rattle.loader.specs.declared.Stage.the-variants.{Ended}
 use Rattle.loader.specs.declared.Loader.{Loader}
 use Rattle.loader.specs.Stages.{isEnded}
 use Rattle.loader.specs.declared.Turn.the-variants.{Over, Barred}
+use Rattle.loader.specs.Inner.{past}
+use Rattle.loader_steps.specs.Outs.{firstAddress, hereOf}
 use Rattle.loader_steps.specs.Front.{startRows, stepRows, startNumber, stepNumber, recordAt, endAddress, isBarred, startAt, stepGiven, scratchAfter}
 use Rattle.loader_steps.specs.Ends.{endsLoad, endsVerify, ofLoad, ofVerify, withVerify, carriedOn}
 use Rattle.loader_steps.proofs.Again as again
@@ -20,6 +22,7 @@ use Rattle.loader_steps.proofs.Ends as ends
 use Rattle.units.specs.Units.{carried}
 use Rattle.loader_steps.proofs.Follows as follows
 use Rattle.loader_steps.proofs.Unread as unread
+use Rattle.loader_steps.proofs.Limits as limits
 
 -- The numbers, for the three starts alike (a load with the verify after it, a load alone, a verify alone), and for one at any other
 -- stage: it is refused by m exactly where m's own condition holds and that of no number before it does ..
@@ -94,3 +97,11 @@ load-follows = follows.load-follows
 pub step-unread : (l : Loader) (v : ℕ) (w sc : List ℕ)
     → (stepGiven l (carried (l .part .word) v) w sc ≡ stepGiven l v w sc) × (scratchAfter l (carried (l .part .word) v) w sc ≡ scratchAfter l v w sc)
 step-unread = unread.step-unread
+
+-- A record that a step takes meets none of the code's own limits: the unit at its place is that many units behind the block's first, and
+-- the place after it is one more.
+pub here-is : (l : Loader) (w sc : ℕ) → stepNumber l w sc ≡ 0 → hereOf l ≡ firstAddress l + l .place
+here-is = limits.here-is
+
+pub past-is : (l : Loader) (w sc : ℕ) → stepNumber l w sc ≡ 0 → past (l .place) w ≡ l .place + 1
+past-is = limits.past-is

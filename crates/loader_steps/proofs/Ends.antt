@@ -14,7 +14,8 @@ use Rattle.loader.specs.declared.Turn.the-variants.{Over}
 use Rattle.loader.specs.declared.Given.{Given}
 use Rattle.loader.specs.Walks.{diffFrom, risesIn}
 use Rattle.units.specs.Units.{carried}
-use Rattle.loader.specs.Moves.{statusIn, isReady, sr3, sr4, sr5, bothErrors, eraseFault, programFault, loadedStage, onward, afterReads, afterRead, pollMore, erasePolled, past, programPolled, verifyMore, nextIn, nextOf}
+use Rattle.loader.specs.Moves.{statusIn, isReady, sr3, sr4, sr5, bothErrors, eraseFault, programFault, loadedStage, onward, afterReads, afterRead, pollMore, erasePolled, programPolled, verifyMore, nextIn, nextOf}
+use Rattle.loader.specs.Inner.{past}
 use Rattle.loader_steps.specs.Stores.{storeOf}
 use Rattle.loader_steps.specs.Front.{stepNumber, turnGiven, barredBy, stepGiven}
 use Rattle.loader_steps.specs.Ends.{endsLoad, endsVerify, ofLoad, ofVerify}

@@ -1,6 +1,6 @@
 -- A run's step is its load's, and the verify's start where the load ended well, whatever data are handed on. Assumes nothing.
 use mathlib.Core.Path.{_≡_, refl, sym, ap, _∙_}
-use mathlib.Core.Bool.{Bool, true, false, not}
+use mathlib.Core.Bool.{Bool, true, false}
 use mathlib.Core.List.{List}
 use Prim.Native.Nat.{ℕ, _+_, _-_}
 use lib.ListN.{length}
@@ -13,7 +13,8 @@ use Rattle.loader.specs.declared.Loader.{Loader}
 use Rattle.loader.specs.declared.Given.{Given}
 use Rattle.loader.specs.Stages.{isEnded}
 use Rattle.loader.specs.Walks.{diffFrom, risesIn}
-use Rattle.loader.specs.Moves.{movedTo, endedBy, statusIn, isReady, eraseFault, programFault, onward, afterReads, afterRead, pollMore, erasePolled, past, programPolled, nextIn, nextOf}
+use Rattle.loader.specs.Moves.{movedTo, endedBy, statusIn, isReady, eraseFault, programFault, onward, afterReads, afterRead, pollMore, erasePolled, programPolled, nextIn, nextOf}
+use Rattle.loader.specs.Inner.{past}
 use Rattle.loader_steps.specs.Stores.{storeOf}
 use Rattle.loader_steps.specs.Front.{badRecord, stepNumber, stepGiven, scratchAfter}
 use Rattle.loader_steps.specs.Ends.{ofLoad, withVerify, carriedOn}

@@ -5,6 +5,7 @@ pub mod Lending
 pub mod Ends
 pub mod Follows
 pub mod Unread
+pub mod Limits
 pub mod Claims
 pub mod Told
 pub mod Unique

@@ -1,7 +1,7 @@
 -- What a turn tells by its cases is what its start, or its step, tells. Assumes nothing.
 use mathlib.Core.Path.{_≡_, ap, _∙_}
 use mathlib.Core.Bool.{Bool}
-use mathlib.Core.List.{List, [], _∷_}
+use mathlib.Core.List.{List, []}
 use Prim.Native.Nat.{ℕ}
 use lib.ListN.{length}
 use lib.Dec.{eqb}
@@ -19,7 +19,7 @@ use Rattle.loader.specs.Stages.{isEnded, endBy}
 use Rattle.loader.specs.Moves.{nextOf}
 use Rattle.loader_steps.specs.Outs.{cycleOf}
 use Rattle.loader_steps.specs.Stores.{storeOf}
-use Rattle.loader_steps.specs.Front.{startNumber, stepNumber, recordAt, endAddress, turnIn, turnGiven, barredBy, startAt, stepGiven, turnTold, recordTold, toldAt, stepTold}
+use Rattle.loader_steps.specs.Front.{startNumber, stepNumber, recordAt, endAddress, turnGiven, barredBy, startAt, stepGiven, turnTold, recordTold, toldAt, stepTold}
 
 abbrev told : Given → ℕ × List Cycle × List ℕ
 told g = turnTold (g .turn)

@@ -1,3 +1,4 @@
+pub mod Inner
 pub mod Outs
 pub mod Stores
 pub mod Front

@@ -1,9 +1,8 @@
 -- The cycle that is out. Addresses are those of units, and what is wanted is a list of units. Assumes nothing.
 use mathlib.Core.Bool.{Bool}
 use mathlib.Core.List.{List}
-use Prim.Native.Nat.{ℕ, _+_}
+use Prim.Native.Nat.{ℕ}
 use lib.ListN.{getD}
-use lib.Dec.{ltb}
 use Rattle.common.specs.Choice.{if_then_else_}
 use Rattle.device.specs.Parts.{startOf}
 use Rattle.units.specs.Address.{byteAt}
@@ -12,18 +11,15 @@ use Rattle.model_types.specs.declared.Cycle.{Cycle}
 use Rattle.loader.specs.declared.Stage.{Stage}
 use Rattle.loader.specs.declared.Loader.{Loader}
 use Rattle.loader.specs.Stages.{stageIs}
+use Rattle.loader_steps.specs.Inner.{addressFrom}
 
 -- the block's first address
 unfoldable pub firstAddress : Loader → ℕ
 firstAddress l = startOf (l .part) (l .block)
 
--- no block is that long: a place beyond it belongs to no record that is taken
-abbrev pub reach : ℕ
-reach = 16777216
-
 -- the address of the unit at the record's place
 unfoldable pub hereOf : Loader → ℕ
-hereOf l = if ltb (l .place) reach then firstAddress l + l .place else firstAddress l
+hereOf l = addressFrom (firstAddress l) (l .place)
 
 -- the byte address of the byte that differs there: in word mode the low one of its word, or the high one
 unfoldable pub byteHere : Loader → ℕ

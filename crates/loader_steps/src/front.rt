@@ -12,7 +12,6 @@ use model_types::Pins;
 use model_types::levels::bad_pins;
 use model_types::levels::rp_low;
 ghost use mathlib.Core.Path.{_≡_};
-ghost use lib.ListN.{length};
 ghost use Rattle.loader_steps.specs.Front.{barredPins, noBlock, wrongLengths, setupNumber, badRecord, startNumber, stepNumber, recordAt, endAddress, turnIn, turnGiven, barredBy, startAt, startGiven, loadStartGiven, verifyStartGiven, stepGiven, turnTold, startTold, loadStartTold, verifyStartTold, stepTold, scratchLeft};
 ghost use Rattle.units.specs.Units.{units, lent};
 

@@ -11,7 +11,6 @@ use Rattle.device.specs.declared.Device.{Device}
 use Rattle.device.specs.Parts.{sizeOf, blockOf, lengthOf}
 use Rattle.device.proofs.Claims.{blocks-cover}
 use Rattle.model_types.specs.declared.State.{State}
-use Rattle.model_types.specs.declared.Wear.{Wear}
 use Rattle.model_types.specs.declared.Pins.{Pins}
 use Rattle.model_types.specs.declared.Cycle.{Cycle}
 use Rattle.model_types.specs.declared.Settled.{Settled}

@@ -1,5 +1,5 @@
 -- The counts of erases under any cycles: what was there and what was begun, up to the stop. Assumes nothing.
-use mathlib.Core.Path.{_≡_, refl, sym, ap, _∙_}
+use mathlib.Core.Path.{_≡_, refl, ap, _∙_}
 use mathlib.Core.Bool.{Bool, true, false}
 use mathlib.Core.List.{List, [], _∷_}
 use Prim.Native.Nat.{ℕ, _+_, _≤_, _<_, min}
@@ -14,13 +14,13 @@ use Rattle.device.specs.Parts.{lengthOf}
 use Rattle.model_types.specs.declared.Wear.{Wear}
 use Rattle.model_types.specs.declared.Effect.{Effect}
 use Rattle.model_types.specs.declared.Effect.the-variants.{Nothing, Program, Erase, CutProgram, CutErase}
-use Rattle.model_types.specs.Counts.{stop, unworn, countOf, raised, raisedAt, worn, wornBy}
+use Rattle.model_types.specs.Counts.{stop, unworn, countOf, raised, raisedAt, wornBy}
 use Rattle.model_types.specs.States.{freshState}
 use Rattle.model_types.proofs.Wears.{count-worn, count-unworn, raised-is}
 use Rattle.model.specs.Arrays.{answerOf}
 use Rattle.model.specs.Begun.{begunBy}
 use Rattle.model.proofs.Worn.{wear-after, There, begun-there}
-use Rattle.model_history.specs.History.{Bus, World, worldOf, stepped, worldAfter, begunOver, totalOf, eraseOf, erasesBegun}
+use Rattle.model_history.specs.History.{Bus, World, worldOf, stepped, worldAfter, eraseOf, erasesBegun}
 
 -- a count after one more erase, by which block it is of
 by-test : (k j n m : ℕ) → (if eqb j k then raised n else n) ≡ m → raisedAt k j n ≡ m

@@ -13,7 +13,6 @@ use Rattle.file_codec.specs.File.{Outcome, refused, made}
 use Rattle.reading_pair.specs.Pairs.{interpolated}
 use Rattle.reading_table.specs.Table.{voltsOf, knots, tableNumber}
 use Rattle.reading_table.specs.Search.{seekOf}
-use Rattle.reading.specs.declared.Reading.{Reading}
 use Rattle.reading.specs.declared.Reading.the-variants.{Temperature, Below, Above}
 use Rattle.reading.specs.declared.ReadingAnswer.{ReadingAnswer}
 use Rattle.reading.specs.declared.ReadingAnswer.the-variants.{Read, Refused}

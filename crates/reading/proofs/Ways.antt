@@ -21,7 +21,7 @@ use Rattle.reading_table.proofs.Knots.{Rising}
 use Rattle.reading_table.proofs.Judged.{shape-right, judged-says, judged-rises}
 use Rattle.reading.specs.declared.Reading.the-variants.{Temperature, Below, Above}
 use Rattle.reading.specs.declared.ReadingAnswer.the-variants.{Read, Refused}
-use Rattle.reading.specs.Readings.{heatOf, pairAt, readingOf, answerBy, endsWrong, pairWrong, readingRows, readingNumber, readingAnswer, tableAnswer, answerAs}
+use Rattle.reading.specs.Readings.{heatOf, pairAt, readingOf, endsWrong, pairWrong, readingRows, readingNumber, readingAnswer, tableAnswer, answerAs}
 
 module _ (p : List ℕ) (x : ℤ) where
   abbrev Under : Bool

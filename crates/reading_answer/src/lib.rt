@@ -8,7 +8,7 @@ ghost use lib.ListN.{length};
 ghost use Rattle.text.specs.Writing.{laidAt, behind, Used, toldOn};
 ghost use Rattle.file_codec.specs.File.{limit, inRoom, leftIn, readerOf};
 ghost use Rattle.reading.specs.Readings.{answerAs};
-ghost use Rattle.reading_answer.specs.Lines.{readWords, refusedLine, degrees, readingLine, answerLine, usage, callWrong, readBy, answered};
+ghost use Rattle.reading_answer.specs.Lines.{readWords, refusedLine, degrees, readingLine, answerLine, usage, callWrong, answered};
 
 // What a refusal means, from a place on; the place behind it.
 fn put_words(out: &mut [u8], at: usize, n: u8) -> usize

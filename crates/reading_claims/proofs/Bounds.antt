@@ -10,7 +10,7 @@ use lib.Signed.{leZ, ltZ, ≤ℤ-refl}
 use lib.Ieee.{Float, binary64, ofInt}
 use lib.Ieee.Scale.{finite}
 use Rattle.reading_pair.specs.Pairs.{interpolated}
-use Rattle.reading_pair.specs.Order.{Lies, notMinusZero}
+use Rattle.reading_pair.specs.Order.{LiesBetween, notMinusZero}
 use Rattle.reading_pair.proofs.Knots.{at-first}
 use Rattle.reading_pair.proofs.Inside.{inside-up, inside-down, wide-gap}
 use Rattle.reading_table.specs.Table.{knots, voltsOf, tenthsOf, inRange, risesTo}
@@ -34,13 +34,13 @@ module _ (p : List ℕ) (i : ℕ) (g : risesTo p i (i + 1) ≡ true) (x : ℤ) (
   pub small-at : natAbs x ≤ 80000
   small-at = range-size x (le-trans (negsuc 9999) (voltsOf p i) x (range-low (voltsOf p i) (pair .0)) a) (le-trans x (voltsOf p (i + 1)) (pos 80000) b (range-high (voltsOf p (i + 1)) (pair .1)))
 
-  pub up-at : T (leZ (tenthsOf p i) (tenthsOf p (i + 1))) → Lies (tenthsOf p i) (interpolated (pairAt p i) (ofInt binary64 x)) (tenthsOf p (i + 1))
+  pub up-at : T (leZ (tenthsOf p i) (tenthsOf p (i + 1))) → LiesBetween (tenthsOf p i) (interpolated (pairAt p i) (ofInt binary64 x)) (tenthsOf p (i + 1))
   unfolding pairAt
   up-at =
       inside-up (voltsOf p i) (tenthsOf p i) (voltsOf p (i + 1)) (tenthsOf p (i + 1)) x
       (in-range-size (voltsOf p i) (pair .0)) (in-range-size (voltsOf p (i + 1)) (pair .1)) small-at (tenths-size p i) (tenths-size p (i + 1)) (pair .2) a b
 
-  pub down-at : T (ltZ (tenthsOf p (i + 1)) (tenthsOf p i)) → Lies (tenthsOf p (i + 1)) (interpolated (pairAt p i) (ofInt binary64 x)) (tenthsOf p i)
+  pub down-at : T (ltZ (tenthsOf p (i + 1)) (tenthsOf p i)) → LiesBetween (tenthsOf p (i + 1)) (interpolated (pairAt p i) (ofInt binary64 x)) (tenthsOf p i)
   unfolding pairAt
   down-at =
       inside-down (voltsOf p i) (tenthsOf p i) (voltsOf p (i + 1)) (tenthsOf p (i + 1)) x
@@ -51,10 +51,10 @@ module _ (p : List ℕ) (t : Table p) (i : ℕ) (h : i + 1 < knots p) (x : ℤ) 
   pub small : natAbs x ≤ 80000
   small = small-at p i (pair-rises p t i h) x a b
 
-  pub lies-up : T (leZ (tenthsOf p i) (tenthsOf p (i + 1))) → Lies (tenthsOf p i) (interpolated (pairAt p i) (ofInt binary64 x)) (tenthsOf p (i + 1))
+  pub lies-up : T (leZ (tenthsOf p i) (tenthsOf p (i + 1))) → LiesBetween (tenthsOf p i) (interpolated (pairAt p i) (ofInt binary64 x)) (tenthsOf p (i + 1))
   lies-up = up-at p i (pair-rises p t i h) x a b
 
-  pub lies-down : T (ltZ (tenthsOf p (i + 1)) (tenthsOf p i)) → Lies (tenthsOf p (i + 1)) (interpolated (pairAt p i) (ofInt binary64 x)) (tenthsOf p i)
+  pub lies-down : T (ltZ (tenthsOf p (i + 1)) (tenthsOf p i)) → LiesBetween (tenthsOf p (i + 1)) (interpolated (pairAt p i) (ofInt binary64 x)) (tenthsOf p i)
   lies-down = down-at p i (pair-rises p t i h) x a b
 
 -- neither a NaN nor an infinity, nor the zero with a minus sign
@@ -95,7 +95,7 @@ plain-reading p x t = go (side p x)
 
 -- and inside the table it lies between the temperatures of the pair found
 pub lies-inside : (p : List ℕ) (x : ℤ) → Table p → Inside p x → let i = seekOf p x in let r = interpolated (pairAt p i) (ofInt binary64 x) in
-    (T (leZ (tenthsOf p i) (tenthsOf p (i + 1))) → Lies (tenthsOf p i) r (tenthsOf p (i + 1))) × (T (ltZ (tenthsOf p (i + 1)) (tenthsOf p i)) → Lies (tenthsOf p (i + 1)) r (tenthsOf p i))
+    (T (leZ (tenthsOf p i) (tenthsOf p (i + 1))) → LiesBetween (tenthsOf p i) r (tenthsOf p (i + 1))) × (T (ltZ (tenthsOf p (i + 1)) (tenthsOf p i)) → LiesBetween (tenthsOf p (i + 1)) r (tenthsOf p i))
 lies-inside p x t u =
     let a : Around p x (knots p) (seekOf p x) (seekOf p x + 1) = seek-brackets p x (t .two) (u .0) (u .1) in
     (lies-up p t (seekOf p x) (a .within) x (a .from) (a .to), lies-down p t (seekOf p x) (a .within) x (a .from) (a .to))

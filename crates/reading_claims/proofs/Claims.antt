@@ -14,7 +14,7 @@ use lib.Ieee.Scale.{finite}
 use Rattle.common.specs.Numbers.{Foremost, NoRow}
 use Rattle.file_codec.specs.File.{limit, made, fileOf, readerOf, writerOf, inRoom, leftIn}
 use Rattle.reading_pair.specs.Pairs.{interpolated}
-use Rattle.reading_pair.specs.Order.{Lies, notMinusZero}
+use Rattle.reading_pair.specs.Order.{LiesBetween, notMinusZero}
 use Rattle.reading_table.specs.Table.{knots, mostKnots, voltsOf, tenthsOf, tableNumber}
 use Rattle.reading_table.specs.Search.{halving, seekOf, turnsLeft}
 use Rattle.reading_table.proofs.Seeking.{seek-few}
@@ -23,7 +23,7 @@ use Rattle.reading.specs.declared.Reading.{Reading}
 use Rattle.reading.specs.declared.Reading.the-variants.{Temperature, Below, Above}
 use Rattle.reading.specs.declared.ReadingAnswer.the-variants.{Read, Refused}
 use Rattle.reading.specs.Readings.{heatOf, pairAt, readingOf, readingRows, readingAnswer, tableAnswer, answerAs}
-use Rattle.reading_claims.specs.Tables.{Table, Holds, Told, Inside, Warming}
+use Rattle.reading_claims.specs.Tables.{Table, PairHolds, Told, Inside, Warming}
 use Rattle.reading_claims.specs.Longest.{knotsFrom}
 use Rattle.reading_claims.specs.Answers.{degrees, payloadIn, answerFrom, roomLeft, readerRows, answerRows}
 use Rattle.reading_claims.proofs.Judged as judged
@@ -43,10 +43,10 @@ pub judged-exactly : (p : List ℕ) → tableNumber p ≡ 0 ↔ Table p
 judged-exactly = judged.judged-exactly
 
 -- Between the first and the last knot the pair that is used holds the voltage, and no other pair does.
-pub pair-holds : (p : List ℕ) (x : ℤ) → Table p → Inside p x → Holds p (seekOf p x) x
+pub pair-holds : (p : List ℕ) (x : ℤ) → Table p → Inside p x → PairHolds p (seekOf p x) x
 pair-holds = held.found-holds
 
-pub one-pair : (p : List ℕ) (x : ℤ) (i j : ℕ) → Table p → Holds p i x → Holds p j x → i ≡ j
+pub one-pair : (p : List ℕ) (x : ℤ) (i j : ℕ) → Table p → PairHolds p i x → PairHolds p j x → i ≡ j
 one-pair = held.one-holds
 
 -- A reading is below exactly where the voltage is under the first knot, above exactly where it is over the last, each with that
@@ -63,7 +63,7 @@ temperature-exactly = sides.temperature-exactly
 
 -- Told without the search: a reading is the temperature r exactly where some pair of neighbouring knots holds the voltage and r is its interpolation.
 pub told-by-pair : (p : List ℕ) (x : ℤ) → Table p → (r : Float)
-    → readingOf p x ≡ Temperature r ↔ ((i : ℕ) × Holds p i x × (r ≡ interpolated (pairAt p i) (ofInt binary64 x)))
+    → readingOf p x ≡ Temperature r ↔ ((i : ℕ) × PairHolds p i x × (r ≡ interpolated (pairAt p i) (ofInt binary64 x)))
 told-by-pair = paired.paired
 
 -- Every pair is exact at both its knots, and every knot is read as its own temperature: the f64 of its whole tenths.
@@ -83,7 +83,7 @@ few-bits = products.few-bits
 
 -- A reading lies between the temperatures of its pair, whichever way they go, in f64's own order.
 pub lies-between : (p : List ℕ) (x : ℤ) → Table p → Inside p x → let i = seekOf p x in let r = interpolated (pairAt p i) (ofInt binary64 x) in
-    (T (leZ (tenthsOf p i) (tenthsOf p (i + 1))) → Lies (tenthsOf p i) r (tenthsOf p (i + 1))) × (T (ltZ (tenthsOf p (i + 1)) (tenthsOf p i)) → Lies (tenthsOf p (i + 1)) r (tenthsOf p i))
+    (T (leZ (tenthsOf p i) (tenthsOf p (i + 1))) → LiesBetween (tenthsOf p i) r (tenthsOf p (i + 1))) × (T (ltZ (tenthsOf p (i + 1)) (tenthsOf p i)) → LiesBetween (tenthsOf p (i + 1)) r (tenthsOf p i))
 lies-between = bounds.lies-inside
 
 -- Of a table every reading is finite and never the zero with a minus sign, below and above too. Of any payload and of any file the same holds of every

@@ -1,16 +1,16 @@
 -- A reading by a payload that nobody judged: what it refuses, and what it answers else. Assumes nothing.
-use mathlib.Core.Path.{_≡_, refl, sym, ap, _∙_, subst}
+use mathlib.Core.Path.{_≡_, refl, sym, _∙_, subst}
 use mathlib.Core.Bool.{Bool, true, false, not}
 use mathlib.Core.Logic.{_↔_}
 use mathlib.Core.List.{List}
-use Prim.Native.Nat.{ℕ, _+_, _-_, _≤_}
+use Prim.Native.Nat.{ℕ, _+_, _-_}
 use native.Mathlib.Omega.{arith}
 use lib.Dec.{T, eqb}
 use lib.IntN.{ℤ}
 use lib.Signed.{ltZ}
 use lib.Ieee.{Float, binary64, ofInt}
 use borrow.Author.Tests.{eqb-true, eqb-false}
-use Rattle.common.specs.Numbers.{given, Foremost, NoRow}
+use Rattle.common.specs.Numbers.{Foremost, NoRow}
 use Rattle.reading_pair.specs.Pairs.{interpolated}
 use Rattle.reading_table.specs.Table.{knots, voltsOf, risesTo, shapeWrong, risingOf, tableNumber}
 use Rattle.reading_table.specs.Search.{seekOf}
@@ -20,7 +20,7 @@ use Rattle.reading_table.proofs.Seeking.{Around, seek-brackets}
 use Rattle.reading.specs.declared.Reading.{Reading}
 use Rattle.reading.specs.declared.Reading.the-variants.{Temperature, Below, Above}
 use Rattle.reading.specs.declared.ReadingAnswer.the-variants.{Read, Refused}
-use Rattle.reading.specs.Readings.{heatOf, pairAt, readingOf, endsWrong, pairWrong, readingRows, readingNumber, readingAnswer, tableAnswer}
+use Rattle.reading.specs.Readings.{heatOf, pairAt, readingOf, endsWrong, pairWrong, readingRows, readingNumber, readingAnswer}
 use Rattle.reading.proofs.Ways.{judged-number, refused-40, refused-ends, answers-below, answers-above, refused-pair, answers-between}
 use Rattle.reading_claims.specs.Tables.{Table, Told}
 use Rattle.reading_claims.specs.Answers.{degrees}

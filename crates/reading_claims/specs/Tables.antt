@@ -20,7 +20,7 @@ pub record Table (p : List ℕ) : Type 0 where
   pub rises : (i : ℕ) → i + 1 < knots p → T (ltZ (voltsOf p i) (voltsOf p (i + 1)))
 
 -- knots i and i + 1 hold x: from the lower up to the upper, which belongs to the next pair but for the last pair
-pub record Holds (p : List ℕ) (i : ℕ) (x : ℤ) : Type 0 where
+pub record PairHolds (p : List ℕ) (i : ℕ) (x : ℤ) : Type 0 where
   pub pair : i + 1 < knots p
   pub from : T (leZ (voltsOf p i) x)
   pub to : T (if eqb (i + 2) (knots p) then leZ x (voltsOf p (i + 1)) else ltZ x (voltsOf p (i + 1)))

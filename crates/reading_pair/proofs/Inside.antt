@@ -11,7 +11,7 @@ use lib.Ieee.{binary64, ofInt}
 use Rattle.reading_pair.specs.Pairs.{pairOf, interpolated}
 use Rattle.reading_pair.proofs.Whole.{yes-lt, no-lt, below?, plus, gap}
 use Rattle.reading_pair.proofs.Knots.{sign, has, plain, few, small, near, sizes}
-use Rattle.reading_pair.specs.Order.{Lies}
+use Rattle.reading_pair.specs.Order.{LiesBetween}
 use Rattle.reading_pair.proofs.Between.{up-from, down-from}
 
 -- z - a for a ≤ z
@@ -80,13 +80,13 @@ module _ (x0 t0 x1 t1 x : ℤ) (r0 : natAbs x0 ≤ 80000) (r1 : natAbs x1 ≤ 80
   up : T (leZ x0 x1)
   up = weak x0 x1 rises
 
-  pub inside-up : T (leZ t0 t1) → Lies t0 (interpolated (pairOf x0 t0 x1 t1) (ofInt binary64 x)) t1
+  pub inside-up : T (leZ t0 t1) → LiesBetween t0 (interpolated (pairOf x0 t0 x1 t1) (ofInt binary64 x)) t1
   inside-up h =
       up-from binary64 (ofInt binary64 t0) (ofInt binary64 t1) (ofInt binary64 x0) (ofInt binary64 x1) (ofInt binary64 x) (sign t0) (sign t1) (sign x0) (sign x1) (sign x) (natAbs t0) (natAbs t1) (natAbs x0) (natAbs x1) (natAbs x)
       (has t0 (omega (arith, u0))) (has t1 (omega (arith, u1))) (has x0 r0) (has x1 r1) (has x r) (plain t0) (plain t1) (wide-gap x0 x1 rises) (up-gap x0 x1 up) (up-gap x0 x after) (less-gap x0 x x1 after up before)
       (few x0 t0 x1 t1 r0 r1 u0 u1) (small x0 t0 x1 t1 r0 r1 u0 u1) (near x0 t0 x1 t1 r0 r1 u0 u1) (sizes x0 t0 x1 t1 r0 r1 u0 u1) (up-gap t0 t1 h)
 
-  pub inside-down : T (ltZ t1 t0) → Lies t1 (interpolated (pairOf x0 t0 x1 t1) (ofInt binary64 x)) t0
+  pub inside-down : T (ltZ t1 t0) → LiesBetween t1 (interpolated (pairOf x0 t0 x1 t1) (ofInt binary64 x)) t0
   inside-down h =
       down-from binary64 (ofInt binary64 t0) (ofInt binary64 t1) (ofInt binary64 x0) (ofInt binary64 x1) (ofInt binary64 x) (sign t0) (sign t1) (sign x0) (sign x1) (sign x) (natAbs t0) (natAbs t1) (natAbs x0) (natAbs x1) (natAbs x)
       (has t0 (omega (arith, u0))) (has t1 (omega (arith, u1))) (has x0 r0) (has x1 r1) (has x r) (plain t0) (plain t1) (wide-gap x0 x1 rises) (up-gap x0 x1 up) (up-gap x0 x after) (less-gap x0 x x1 after up before)

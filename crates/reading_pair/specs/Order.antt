@@ -13,5 +13,5 @@ notMinusZero (fin false m e) = true
 notMinusZero (fin true m e) = ltb 0 m
 
 -- r is at least a and at most b, neither a NaN nor an infinity, nor the zero with a minus sign
-abbrev pub Lies : ℤ → Float → ℤ → Type 0
-Lies a r b = T (le (ofInt binary64 a) r) × T (le r (ofInt binary64 b)) × T (finite r) × T (notMinusZero r)
+abbrev pub LiesBetween : ℤ → Float → ℤ → Type 0
+LiesBetween a r b = T (le (ofInt binary64 a) r) × T (le r (ofInt binary64 b)) × T (finite r) × T (notMinusZero r)

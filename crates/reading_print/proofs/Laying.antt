@@ -1,5 +1,5 @@
 -- A signed number laid from a place on, and how long it is. Assumes nothing.
-use mathlib.Core.Path.{_≡_, refl, sym, ap, _∙_, subst}
+use mathlib.Core.Path.{_≡_, refl, sym, ap, _∙_}
 use mathlib.Core.Bool.{Bool, true, false}
 use mathlib.Core.List.{List, [], _∷_, _++_}
 use Prim.Native.Nat.{ℕ, suc, _≤_}
@@ -8,7 +8,7 @@ use lib.ListN.{length}
 use Rattle.text.specs.Digits.{decimalOf}
 use Rattle.text.specs.Writing.{laidAt, behind}
 use Rattle.text.proofs.Spelling.{width-some, decimal-length}
-use Rattle.text.proofs.Laying.{Laid, laid-first, laid-more}
+use Rattle.text.proofs.Laying.{laid-first, laid-more}
 use Rattle.reading_print.specs.Texts.{signedText}
 
 pub signed-true : (n : ℕ) → signedText true n ≡ 45 ∷ decimalOf n

@@ -1,7 +1,6 @@
 // A number and a table read off text. Each public function takes any input.
 ghost use mathlib.Core.Path.{_≡_};
-ghost use mathlib.Core.Bool.{not};
-ghost use Prim.Native.Nat.{ℕ, _+_, _*_, _/_, _≤_, _<_};
+ghost use Prim.Native.Nat.{_+_, _*_, _/_, _<_};
 ghost use lib.ListN.{length};
 ghost use Rattle.reading_text.specs.Numbers.{numberStart, fedDigit, fedMinus, fedOther, fed, numberFed, isNumber, isNegative, valueOf, numberTold, numberValues, valuesIn};
 ghost use Rattle.reading_text.specs.Tables.{bitsOf, sixOf, withKnot, fitsTenths, lineWrong, gapWrong, scanStart, stoppedScan, nextNumber, nextLine, nextLetter, atGap, withinLine, endLine, scanMore, isBegun, tableRead, tableScanned, tableTold, scanTold};

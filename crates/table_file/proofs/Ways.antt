@@ -1,7 +1,7 @@
 -- What is said of a payload, of a text and of a call, way by way. Assumes nothing.
 use mathlib.Core.Path.{_≡_, refl, sym, ap, _∙_}
 use mathlib.Core.Bool.{Bool, true, false}
-use mathlib.Core.List.{List, [], _++_}
+use mathlib.Core.List.{List}
 use Prim.Native.Nat.{ℕ, _+_, _-_, _*_, _≤_, _<_, min}
 use native.Mathlib.Omega.{arith}
 use lib.Dec.{eqb, ltb, leb}
@@ -10,7 +10,6 @@ use lib.Seq.{take-all}
 use borrow.Author.Tests.{leb-true, leb-false}
 use Rattle.common.specs.Choice.{if_then_else_}
 use Rattle.common.proofs.Choice.{if-true, if-false}
-use Rattle.text.specs.declared.Told.{Told}
 use Rattle.text.specs.Writing.{laidAt, behind, toldOn}
 use Rattle.text.proofs.Laying.{laid-whole}
 use Rattle.file_codec.specs.declared.Written.the-variants.{Wrote, NotWritten}

@@ -1,19 +1,18 @@
 -- A table's lines, laid one behind the other, and what is said of a file, way by way. Assumes nothing.
-use mathlib.Core.Path.{_≡_, refl, sym, ap, ap₂, _∙_, subst}
-use mathlib.Core.Bool.{Bool, true, false}
-use mathlib.Core.List.{List, [], _∷_, _++_}
-use Prim.Native.Nat.{ℕ, zero, suc, _+_, _-_, _/_, _≤_, _<_, min}
+use mathlib.Core.Path.{_≡_, refl, sym, ap, _∙_, subst}
+use mathlib.Core.Bool.{true, false}
+use mathlib.Core.List.{List, _++_}
+use Prim.Native.Nat.{ℕ, suc, _+_, _-_, _/_, _≤_, _<_}
 use native.Mathlib.Omega.{arith}
 use lib.IntN.{ℤ}
 use lib.Dec.{eqb}
 use lib.ListN.{length, getD, take, drop, length-append}
 use lib.Seq.{take-at}
 use Rattle.common.proofs.Choice.{if-true, if-false}
-use Rattle.text.specs.declared.Told.{Told}
 use Rattle.text.specs.Writing.{laidAt, behind, toldOn}
 use Rattle.file_codec.specs.declared.ReadBack.the-variants.{Gave, NotRead}
 use Rattle.file_codec.specs.File.{limit, Outcome, refused, made, inRoom, leftIn, readerOf, readAs}
-use Rattle.text.proofs.Laying.{Laid, laid-first, laid-more, laid-none, laid-length, laid-laid}
+use Rattle.text.proofs.Laying.{Laid, laid-first, laid-more, laid-none, laid-length}
 use Rattle.reading_table.specs.Table.{knots, voltsOf, tenthsOf, tableNumber}
 use Rattle.reading_print.specs.Texts.{knotText}
 use Rattle.table_text.specs.Printed.{linesOf, tableText}

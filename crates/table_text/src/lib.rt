@@ -2,7 +2,6 @@
 use file_codec::ReadBack;
 use text::Told;
 ghost use mathlib.Core.Path.{_≡_};
-ghost use mathlib.Core.List.{_++_};
 ghost use lib.ListN.{length};
 ghost use Rattle.text.specs.Writing.{laidAt, behind, Used, toldOn};
 ghost use Rattle.file_codec.specs.File.{limit, inRoom, leftIn, readerOf};

@@ -11,7 +11,7 @@ use Rattle.device.specs.declared.Part.{Part}
 use Rattle.model_types.specs.declared.State.{State}
 use Rattle.model_types.specs.States.{freshState}
 use Rattle.loader_from_file.specs.Loads.{verifyLeft}
-use Rattle.verify_answer.specs.Answers.{deviceOf, reading, verifyOf, callWrong, numeralOf, askedPart, askedLeft, bytesOf, misused, ended, Answered, answered}
+use Rattle.verify_answer.specs.Answers.{deviceOf, reading, verifyOf, callWrong, numeralOf, askedPart, askedLeft, bytesOf, misused, ended, answered}
 
 module _ (count : ℕ) (xs device block f letter mode w sc : List ℕ) where
   pub answered-wrong : callWrong count letter (numeralOf mode) ≡ true → misused xs w sc ≡ answered count xs device block f letter mode w sc

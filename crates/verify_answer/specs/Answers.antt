@@ -1,5 +1,5 @@
 -- The line that a verify prints: what is asked, the verify itself, and its result in words. Assumes nothing.
-use mathlib.Core.Bool.{Bool, true, false, not, _&&_, _||_}
+use mathlib.Core.Bool.{Bool, false, not, _&&_, _||_}
 use mathlib.Core.List.{List, [], _++_}
 use Prim.Native.Nat.{ℕ, min}
 use lib.Dec.{eqb, ltb}

@@ -1,18 +1,14 @@
 -- `reading_answer::answer` meets its contract. Assumes nothing.
-use mathlib.Core.Path.{_≡_, sym, ap, _∙_}
-use mathlib.Core.Bool.{true, false}
+use mathlib.Core.Path.{sym, ap, _∙_}
 use Prim.Native.Nat.{ℕ}
-use lib.ListN.{length, getD}
 use lib.IntN.{ℤ}
 use denote.Ref.{now}
 use mir.Syntax.{w32}
 use mir.ValLaws.{toZ-ofZ}
-use Rattle.text.specs.Writing.{laidAt, behind, toldOn}
+use Rattle.text.specs.Writing.{laidAt, toldOn}
 use Rattle.text.proofs.Laying.{front-used}
-use Rattle.file_codec.specs.File.{limit, inRoom, leftIn, readerOf}
-use Rattle.reading.specs.Readings.{answerAs}
 use Rattle.reading_text.specs.declared.NumberRead.the-variants.{Whole, NoNumber}
-use Rattle.reading_answer.specs.Lines.{answerLine, usage, callWrong, readBy, Answered}
+use Rattle.reading_answer.specs.Lines.{usage, readBy, Answered}
 use Rattle.reading_answer.proofs.Ways.{answered-wrong, answered-right}
 use borrow.Author.Needs.{needs}
 use Rattle.reading_answer.proofs.answer.Statement.{statement}

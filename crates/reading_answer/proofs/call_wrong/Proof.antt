@@ -1,7 +1,6 @@
 -- `reading_answer::call_wrong` meets its contract. Assumes nothing.
 use mathlib.Core.Path.{refl}
 use Rattle.reading_answer.specs.Lines.{callWrong}
-use borrow.Author.Needs.{needs}
 use Rattle.reading_answer.proofs.call_wrong.Statement.{statement}
 use Rattle.reading_answer.proofs.call_wrong.Tie as tie
 

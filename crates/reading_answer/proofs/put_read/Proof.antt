@@ -1,5 +1,5 @@
 -- `reading_answer::put_read` meets its contract. Assumes nothing.
-use mathlib.Core.Path.{_≡_, ap, _∙_}
+use mathlib.Core.Path.{ap, _∙_}
 use lib.IntN.{ℤ}
 use lib.ListN.{length}
 use denote.Ref.{now}

@@ -1,5 +1,5 @@
 -- `reading_print::put_temperature` meets its contract. Assumes nothing.
-use mathlib.Core.Path.{_≡_, ap₂, subst}
+use mathlib.Core.Path.{ap₂, subst}
 use mathlib.Core.Bool.{Bool}
 use mathlib.Core.List.{List, [], _∷_, _++_}
 use Prim.Native.Nat.{ℕ, _+_, _/_, _%_}

@@ -1,5 +1,5 @@
 -- `table_text::put_file` meets its contract. Assumes nothing.
-use mathlib.Core.Path.{_≡_, sym, ap, _∙_}
+use mathlib.Core.Path.{sym, ap, _∙_}
 use lib.ListN.{length}
 use denote.Ref.{now}
 use Rattle.text.specs.Writing.{laidAt, toldOn}

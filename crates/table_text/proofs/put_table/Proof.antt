@@ -1,10 +1,8 @@
 -- `table_text::put_table` meets its contract. Assumes nothing.
-use mathlib.Core.Path.{_≡_, sym, ap, _∙_}
-use mathlib.Core.List.{List}
+use mathlib.Core.Path.{sym, ap, _∙_}
 use Prim.Native.Nat.{ℕ}
 use denote.Ref.{now}
 use borrow.Author.Tests.{ne-eqb}
-use Rattle.text.specs.declared.Told.{Told}
 use Rattle.text.specs.Writing.{laidAt, toldOn}
 use Rattle.table_text.specs.Shown.{Said, tableSaid}
 use Rattle.table_text.proofs.Turns.{complained, good-table, bad-table}

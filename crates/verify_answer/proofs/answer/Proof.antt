@@ -1,15 +1,13 @@
 -- `verify_answer::answer` meets its contract. Assumes nothing.
 use mathlib.Core.Path.{_≡_, sym, ap, _∙_}
 use mathlib.Core.Bool.{true, false}
-use mathlib.Core.List.{List}
 use Prim.Native.Nat.{ℕ}
-use lib.Dec.{eqb}
 use lib.ListN.{getD}
 use denote.Ref.{now}
 use Rattle.text.specs.Writing.{laidAt, behind, toldOn}
 use Rattle.text.proofs.Laying.{front-used}
 use Rattle.loader_run.specs.declared.Ran.{Ran}
-use Rattle.verify_answer.specs.Answers.{callWrong, numeralOf, endText, partOf, bytesOf, verifyOf, usage, Answered, ended, answered}
+use Rattle.verify_answer.specs.Answers.{callWrong, numeralOf, endText, partOf, bytesOf, verifyOf, usage, Answered, ended}
 use Rattle.verify_answer.proofs.Ways.{answered-wrong, answered-right}
 use borrow.Author.Needs.{needs}
 use Rattle.verify_answer.proofs.answer.Statement.{statement}

@@ -1,7 +1,6 @@
 -- `verify_answer::call_wrong` meets its contract. Assumes nothing.
 use mathlib.Core.Path.{refl}
 use Rattle.verify_answer.specs.Answers.{callWrong}
-use borrow.Author.Needs.{needs}
 use Rattle.verify_answer.proofs.call_wrong.Statement.{statement}
 use Rattle.verify_answer.proofs.call_wrong.Tie as tie
 

@@ -1,6 +1,6 @@
 use borrow.Author.Needs.{needs}
 use borrow.Author.Tests.{lt-ltb, le-ltb}
-use Rattle.loader.specs.Moves.{past}
+use Rattle.loader.specs.Inner.{past}
 use Rattle.loader.proofs.moves.past.Statement.{statement}
 use Rattle.loader.proofs.moves.past.Tie as tie
 

@@ -2,7 +2,7 @@ use Rattle.units.proofs.Widths.{byte-at-most}
 use Rattle.loader_steps.proofs.Small.{here-small}
 use borrow.Author.Needs.{needs}
 use native.Mathlib.Omega.{arith}
-use Rattle.loader_steps.specs.Outs.{hereOf, byteHere}
+use Rattle.loader_steps.specs.Outs.{byteHere}
 use Rattle.loader_steps.proofs.outs.byte_here.Statement.{statement}
 use Rattle.loader_steps.proofs.outs.byte_here.Tie as tie
 
