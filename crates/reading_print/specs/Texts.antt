@@ -1,7 +1,7 @@
 -- A knot and a temperature as text. Assumes nothing.
 use mathlib.Core.Bool.{Bool, true, false}
 use mathlib.Core.List.{List, [], _∷_, _++_}
-use Prim.Native.Nat.{ℕ, _+_, _/_, _%_}
+use Prim.Native.Nat.{ℕ, _+_, _*_, _/_, _%_, _≤_, _<_}
 use lib.Dec.{ltb}
 use lib.IntN.{ℤ, pos, negsuc, natAbs}
 use lib.Signed.{ltZ}
@@ -36,6 +36,10 @@ wholeOf d = if lt (fin true 1 (pos 0)) d then (if lt d (fin false 1 (pos 64)) th
 -- the whole tenths nearest to a temperature, by the whole part of its double; a half goes up. Past 2 to the 31 it is 0: no table's is
 unfoldable pub tenthsShown : Float → ℕ
 tenthsShown t = let u = wholeOf (add binary64 (sizeShown t) (sizeShown t)) in if ltb u 4294967296 then (u + 1) / 2 else 0
+
+-- n is the whole number nearest to a / c, a half going up: from n - 1/2 to below n + 1/2
+abbrev pub NearestTo : ℕ → ℕ → ℕ → Type 0
+NearestTo n a c = (2 * n * c ≤ 2 * a + c) × (2 * a < (2 * n + 1) * c)
 
 -- in degrees, with one decimal
 abbrev pub temperatureText : Float → List ℕ
