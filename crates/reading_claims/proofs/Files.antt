@@ -21,6 +21,7 @@ use Rattle.reading.specs.declared.Reading.{Reading}
 use Rattle.reading.specs.declared.ReadingAnswer.{ReadingAnswer}
 use Rattle.reading.specs.declared.ReadingAnswer.the-variants.{Read, Refused}
 use Rattle.reading.specs.Readings.{readingOf, answerBy, tableAnswer, answerAs}
+use Rattle.reading_claims.specs.Tables.{Table}
 use Rattle.reading_claims.specs.Answers.{degrees, payloadIn, answerFrom, roomLeft, readerRows, answerRows}
 use Rattle.reading_claims.proofs.By.{by-read, refused-by-rows, read-by-rows}
 use Rattle.reading_claims.proofs.Judged.{judged-table}
@@ -99,12 +100,15 @@ module _ (f : List ℕ) (letter : ℕ) (room : List ℕ) where
       go false w = sym (if-false (ltb (length room) (length q)) (refused 37) (made q) w) ∙ e
 
   -- a reading from a file is that of a table: plain, and never refused by the search
-  pub read-plain : (x : ℤ) (r : Reading) → answerFrom f letter room x ≡ Read r → Plain (degrees r)
+  pub read-table : (x : ℤ) (r : Reading) → answerFrom f letter room x ≡ Read r → (p : List ℕ) × (Table p × (r ≡ readingOf p x))
   unfolding tableAnswer
-  read-plain x r e =
+  read-table x r e =
       let m = made-of x r outcome e in
       let b = by-read (tableNumber (m .0)) (readingOf (m .0) x) r (sym (ap (answerAs x) (m .1)) ∙ e) in
-      subst (λ (s : Reading). Plain (degrees s)) (sym (b .1)) (plain-reading (m .0) x (judged-table (m .0) (b .0)))
+      (m .0, (judged-table (m .0) (b .0), b .1))
+
+  pub read-plain : (x : ℤ) (r : Reading) → answerFrom f letter room x ≡ Read r → Plain (degrees r)
+  read-plain x r e = let m = read-table x r e in subst (λ (s : Reading). Plain (degrees s)) (sym (m .1 .1)) (plain-reading (m .0) x (m .1 .0))
 
   -- a file that gives a reading has the letter asked for
   pub letter-is : (x : ℤ) (r : Reading) → answerFrom f letter room x ≡ Read r → getD f 0 0 ≡ letter
