@@ -7,7 +7,7 @@ use native.Mathlib.Omega.{arith}
 use lib.Dec.{eqb}
 use borrow.Author.Tests.{eqb-false}
 use Rattle.common.specs.Choice.{if_then_else_}
-use Rattle.common.specs.Numbers.{Row, row, given, Foremost, here, below, NoRow, end, past, numbered}
+use Rattle.common.specs.Numbers.{Row, given, Foremost, here, below, NoRow, end, past, numbered}
 use Rattle.common.proofs.Choice.{if-true, if-false}
 
 -- a number given is that of the first row that holds ..

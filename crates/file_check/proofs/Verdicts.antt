@@ -7,7 +7,7 @@ use native.Mathlib.Omega.{arith}
 use lib.ListN.{length, getD, take, drop}
 use lib.Seq.{take-all}
 use lib.Dec.{eqb}
-use borrow.Author.Tests.{eq-eqb, ne-eqb, eqb-true, not-false}
+use borrow.Author.Tests.{eq-eqb, ne-eqb, eqb-true}
 use Rattle.common.proofs.Choice.{if-true, if-false, unlike}
 use Rattle.file_check.specs.Check.{checkOf, checkWrong, storedOf, allAre, isBlank, isDamaged, checkFault}
 

@@ -1,7 +1,7 @@
 // Counts of erases begun, one for each block.
 use crate::Wear;
 ghost use mathlib.Core.Path.{_≡_};
-ghost use Rattle.model_types.specs.Counts.{stop, unworn, raised, raisedAt, worn};
+ghost use Rattle.model_types.specs.Counts.{unworn, raised, raisedAt, worn};
 
 // A count stops here.
 pub const STOP: u32 = 0xFFFF_FFFF;

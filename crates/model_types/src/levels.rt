@@ -4,7 +4,6 @@ use crate::Kind;
 use crate::Pins;
 use device::Part;
 ghost use mathlib.Core.Path.{_≡_};
-ghost use lib.Dec.{eqb};
 ghost use Rattle.model_types.specs.Levels.{rpLow, vppLow, atTwelve, atFive, vppHigh, badWp, badPins, mostOe, badOe, badLevels, unlocked, locked};
 
 pub fn rp_low(p: Pins) -> bool

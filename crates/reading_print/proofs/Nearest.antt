@@ -1,8 +1,8 @@
 -- The tenth shown is the nearest: doubling is exact, the whole part is the floor, and one more than it is halved. Assumes nothing.
 use mathlib.Core.Path.{_≡_, refl, sym, ap, ap₂, _∙_, subst}
-use mathlib.Core.Bool.{Bool, true, false, not, _&&_, _||_}
+use mathlib.Core.Bool.{Bool, true, false, _&&_}
 use Prim.Native.Nat.{ℕ, zero, suc, _+_, _-_, _*_, _/_, _%_, _^_, _≤_, _<_, min}
-use native.Mathlib.Nat.{mul-assoc, mul-comm, mul-right-comm, mul-pos, mul-one, one-mul, mul-add, add-mul, two-mul, pow-suc, mul-le-mul-right, mul-lt-mul-of-pos-right, lt-of-mul-lt-mul-right, lt-of-lt-of-le, lt-irrefl, le-trans, div-mul-le-self, lt-mul-div-succ, div-lt-iff-lt-mul}
+use native.Mathlib.Nat.{mul-assoc, mul-comm, mul-right-comm, mul-pos, mul-one, one-mul, add-mul, two-mul, pow-suc, mul-le-mul-right, mul-lt-mul-of-pos-right, lt-of-mul-lt-mul-right, lt-of-lt-of-le, lt-irrefl, le-trans, div-mul-le-self, lt-mul-div-succ, div-lt-iff-lt-mul}
 use native.Mathlib.Omega.{arith}
 use lib.Dec.{T, eqb, leb, ltb, lit≤, leb→le, ltb→lt, eqb→eq}
 use lib.IntN.{ℤ, pos, negsuc}
@@ -13,7 +13,7 @@ use lib.Ieee.Nearest.{div-same}
 use lib.Ieee.Fits.{up-pos, down-pos, and-l, and-r}
 use borrow.Author.Tests.{lt-ltb, ne-eqb, eqb-true, eqb-false, leb-true, leb-false, ltb-false}
 use Rattle.common.specs.Choice.{if_then_else_}
-use Rattle.common.proofs.Choice.{if-true, if-false, if-ind, or-left, or-right, and-none, and-rest, unlike}
+use Rattle.common.proofs.Choice.{if-true, if-false, if-ind, or-left, or-right, and-none, unlike}
 use Rattle.reading_print.specs.Texts.{isUnder, sizeShown, wholeOf, tenthsShown, NearestTo}
 use Rattle.reading_print.proofs.Shown.{whole-in, shown-in}
 

@@ -8,7 +8,7 @@ use lib.Dec.{eqb, leb}
 use lib.ListN.{length}
 use borrow.Author.Tests.{lt-leb, leb-true, leb-false, eqb-true}
 use Rattle.common.specs.Choice.{if_then_else_}
-use Rattle.common.proofs.Choice.{if-true, if-ind, and-left, and-right, unlike}
+use Rattle.common.proofs.Choice.{if-ind, and-left, and-right, unlike}
 use Rattle.text.specs.Digits.{isDigit, digitOf}
 use Rattle.reading_text.specs.declared.Number.{Number}
 use Rattle.reading_text.specs.Numbers.{numberStart, fedDigit, fedMinus, fedOther, fed, fedAll, numberFed, isNumber}

@@ -1,6 +1,6 @@
 -- A text is taken as a table exactly where it is of the form and there is room for its knots. Assumes nothing.
 use mathlib.Core.Path.{_≡_, refl, sym, ap, _∙_, subst}
-use mathlib.Core.Bool.{Bool, true, false, not, _&&_, _||_}
+use mathlib.Core.Bool.{Bool, true, false, not, _||_}
 use mathlib.Core.List.{List, [], _∷_, _++_, append-assoc}
 use mathlib.Core.Logic.{_↔_}
 use Prim.Native.Nat.{ℕ, _+_, _*_, _/_, _≤_, _<_}
@@ -18,10 +18,10 @@ use Rattle.reading_text.specs.declared.Scan.{Scan}
 use Rattle.reading_text.specs.declared.TableRead.{TableRead}
 use Rattle.reading_text.specs.declared.TableRead.the-variants.{Knots, WrongLine}
 use Rattle.reading_text.specs.Numbers.{numberStart, fedDigit, fedMinus, fedOther, fed, fedAll, numberFed, isNumber}
-use Rattle.reading_text.specs.Tables.{Scanned, bitsOf, sixOf, withKnot, fitsTenths, lineWrong, gapWrong, stoppedScan, nextNumber, nextLetter, atGap, withinLine, scanMore, scanAll, scanStart, tableScanned, isBegun, tableRead}
+use Rattle.reading_text.specs.Tables.{Scanned, bitsOf, sixOf, withKnot, fitsTenths, lineWrong, gapWrong, stoppedScan, nextNumber, atGap, withinLine, scanMore, scanAll, tableScanned, isBegun, tableRead}
 use Rattle.reading_text.proofs.Walks.{line-room, end-wrong, end-right, step-wrong, step-line, step-within}
 use Rattle.reading_text_claims.specs.Forms.{allDigits, countedFrom, NumberForm, tenthsHold, TableForm, done, knot}
-use Rattle.reading_text_claims.proofs.Letters.{numbered, atNumber, within}
+use Rattle.reading_text_claims.proofs.Letters.{atNumber, within}
 use Rattle.reading_text_claims.proofs.Formed.{formed, number-form}
 
 -- a line at its start, and what its end says

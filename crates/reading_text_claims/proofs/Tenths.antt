@@ -21,7 +21,6 @@ use Rattle.reading_table.specs.Search.{seekOf}
 use Rattle.reading_table.proofs.Knots.{tenths-size}
 use Rattle.reading_table.proofs.Order.{not-le}
 use Rattle.reading.specs.declared.Reading.{Reading}
-use Rattle.reading.specs.declared.Reading.the-variants.{Temperature}
 use Rattle.reading.specs.declared.ReadingAnswer.the-variants.{Read}
 use Rattle.reading.specs.Readings.{heatOf, pairAt, readingOf, readingAnswer}
 use Rattle.reading_claims.specs.Tables.{Told}

@@ -1,7 +1,6 @@
 // What the vector programs share about text and bytes: numbers read off a row, patterns and digests. Each
 // function takes any input.
 ghost use mathlib.Core.Path.{_≡_};
-ghost use mathlib.Core.List.{List};
 ghost use Prim.Native.Nat.{ℕ, _+_, _<_, _≤_, _%_, min, max};
 ghost use lib.ListN.{length, replicate};
 ghost use Rattle.vectors_text.specs.Text.{digitRead, numberRead, fieldOf, nextRow, groupAt};

@@ -1,7 +1,5 @@
 use borrow.Author.Needs.{needs}
-use native.Mathlib.Omega.{arith}
-use borrow.Author.Tests.{lt-ltb, le-ltb, le-leb, lt-leb, eq-eqb, ne-eqb}
-use mathlib.Core.Path.{refl, sym, _∙_}
+use mathlib.Core.Path.{sym, _∙_}
 use Rattle.command_table.specs.Actions.{forLarge}
 use Rattle.command_table.proofs.for_large.Statement.{statement}
 use Rattle.command_table.proofs.for_large.Tie as tie

@@ -1,6 +1,6 @@
 -- `check` meets its contract: running sums of the bytes from a place on are what the weighted sum makes of them. Assumes nothing.
-use mathlib.Core.Path.{_≡_, refl, sym, _∙_, ap}
-use mathlib.Core.List.{List, [], _∷_}
+use mathlib.Core.Path.{_≡_, sym, _∙_, ap}
+use mathlib.Core.List.{List, []}
 use Prim.Native.Nat.{ℕ, _≤_, _-_, _<_, _+_, _%_, min}
 use native.Mathlib.Omega.{arith}
 use borrow.Author.Needs.{needs}

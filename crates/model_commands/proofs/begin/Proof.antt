@@ -1,7 +1,5 @@
 use borrow.Author.Needs.{needs}
-use native.Mathlib.Omega.{arith}
-use borrow.Author.Tests.{lt-ltb, le-ltb, le-leb, lt-leb, eq-eqb, ne-eqb}
-use mathlib.Core.Path.{refl, sym, _∙_}
+use mathlib.Core.Path.{sym, _∙_}
 use Rattle.model_commands.specs.Commands.{startedOf}
 use Rattle.model_commands.proofs.begin.Statement.{statement}
 use Rattle.model_commands.proofs.begin.Tie as tie

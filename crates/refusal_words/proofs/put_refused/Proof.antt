@@ -1,5 +1,4 @@
 -- `refusal_words::put_refused` meets its contract. Assumes nothing.
-use mathlib.Core.List.{_++_}
 use denote.Ref.{now}
 use Rattle.text.specs.Digits.{decimalOf}
 use Rattle.text.specs.Writing.{bytes}

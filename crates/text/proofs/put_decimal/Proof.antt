@@ -1,12 +1,11 @@
 -- `text::put_decimal` meets its contract: the last of ten digits. Assumes nothing.
-use mathlib.Core.Path.{_≡_, sym, ap, _∙_, subst}
+use mathlib.Core.Path.{sym, ap, _∙_, subst}
 use mathlib.Core.List.{List}
 use Prim.Native.Nat.{ℕ, _-_, _≤_}
 use native.Mathlib.Omega.{arith}
 use lib.ListN.{take, drop}
 use denote.Ref.{now}
 use borrow.Author.Needs.{needs}
-use Rattle.text.specs.Digits.{decimalOf}
 use Rattle.text.specs.Writing.{laidAt, behind}
 use Rattle.text.proofs.Spelling.{width-some, decimal-last}
 use Rattle.text.proofs.put_decimal.Statement.{statement}

@@ -1,10 +1,7 @@
 -- `vectors_text::worth` meets its contract. Assumes nothing.
-use mathlib.Core.Path.{sym, ap, _∙_, subst}
-use Prim.Native.Nat.{ℕ, _<_}
+use mathlib.Core.Path.{sym, _∙_}
 use native.Mathlib.Omega.{arith}
 use borrow.Author.Needs.{needs}
-use Rattle.text.specs.Digits.{isHex, hexOf}
-use Rattle.common.proofs.Choice.{if-true, if-false}
 use Rattle.vectors_text.specs.Text.{digitRead}
 use Rattle.vectors_text.proofs.worth.Statement.{statement}
 use Rattle.vectors_text.proofs.worth.Tie as tie

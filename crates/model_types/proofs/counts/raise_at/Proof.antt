@@ -1,7 +1,5 @@
 use borrow.Author.Needs.{needs}
-use native.Mathlib.Omega.{arith}
-use borrow.Author.Tests.{lt-ltb, le-ltb, le-leb, lt-leb, eq-eqb, ne-eqb}
-use mathlib.Core.Path.{refl, sym, _∙_}
+use borrow.Author.Tests.{eq-eqb, ne-eqb}
 use Rattle.model_types.specs.Counts.{raisedAt}
 use Rattle.model_types.proofs.counts.raise_at.Statement.{statement}
 use Rattle.model_types.proofs.counts.raise_at.Tie as tie
