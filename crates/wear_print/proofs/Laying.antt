@@ -100,6 +100,10 @@ field-over out y at w n e b h s f =
 pub from-letter : (out A now : List ℕ) (b at p : ℕ) → at ≤ length out → p < length now → From out at A now p → From out at (A ++ (b ∷ [])) (set now p b) (p + 1)
 from-letter out A now b at p h l f = from-more out A (b ∷ []) now (set now p b) at p (p + 1) h f (set-over now p b l) refl
 
+-- a letter in front
+pub letter-front : (out : List ℕ) (b : ℕ) → 0 < length out → From out 0 (b ∷ []) (set out 0 b) 1
+letter-front out b l = record { bytes = set-over out 0 b l; behind = refl }
+
 -- the header in front
 pub head-front : (out now : List ℕ) → 512 ≤ length out → now ≡ copied out headText → From out 0 headText now 37
 head-front out now h e =

@@ -1,4 +1,5 @@
--- The report on wear as a table in text: a header, and a line for each of bench T's four blocks. Assumes nothing.
+-- The report on wear as a table in text: a header, and a line for each of bench T's four blocks; and the line of a
+-- trace that is not in it. Assumes nothing.
 use mathlib.Core.List.{List, [], _∷_, _++_}
 use Prim.Native.Nat.{ℕ, zero, suc, _/_}
 use lib.Dec.{ltb}
@@ -32,6 +33,10 @@ headText = 32 ∷ 98 ∷ 108 ∷ 111 ∷ 99 ∷ 107 ∷ 32 ∷ 116 ∷ 111 ∷ 1
 -- the table
 unfoldable pub tableText : Report → List ℕ
 tableText r = (((headText ++ rowText 0 (r .block0)) ++ rowText 1 (r .block1)) ++ rowText 2 (r .block2)) ++ rowText 3 (r .block3)
+
+-- a sign, two numbers, each behind a space, and a newline
+unfoldable pub lineText : ℕ → ℕ → ℕ → List ℕ
+lineText sign a b = (((sign ∷ []) ++ fieldText a) ++ fieldText b) ++ (10 ∷ [])
 
 -- what is left of a slice, and how many bytes are the table's: nothing is written where there is no room for 512 bytes, which is more than any takes
 unfoldable pub laidIn : List ℕ → List ℕ → List ℕ

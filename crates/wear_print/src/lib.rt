@@ -1,4 +1,5 @@
-// The report on wear as a table in text, into the front of a slice: a header, and a line for each of bench T's four blocks.
+// The report on wear as a table in text, into the front of a slice: a header, and a line for each of bench T's four blocks. And a line for
+// a trace that is not in it.
 use wear::Report;
 use wear::Tally;
 ghost use mathlib.Core.Path.{_≡_};
@@ -6,7 +7,7 @@ ghost use Prim.Native.Nat.{_+_, _≤_};
 ghost use lib.ListN.{length};
 ghost use Rattle.common.specs.Lists.{overlaid};
 ghost use Rattle.io.specs.Counts.{Counts};
-ghost use Rattle.wear_print.specs.Tables.{widthOf, fieldText, rowText, tableText, laidIn, countIn};
+ghost use Rattle.wear_print.specs.Tables.{widthOf, fieldText, rowText, tableText, lineText, laidIn, countIn};
 
 // How many digits a number has.
 fn width(n: u64) -> usize
@@ -71,4 +72,20 @@ pub fn table(out: &mut [u8], r: Report) -> usize
     let b = put_row(out, a, 1, t1);
     let c = put_row(out, b, 2, t2);
     put_row(out, c, 3, t3)
+}
+
+// A sign, two numbers and a newline; how many bytes they take. Nothing where there is no room for 512.
+pub fn line(out: &mut [u8], sign: u8, a: u64, b: u64) -> usize
+    ensures { λ n. ⌜ n ≡ countIn (now (out .entry)) (lineText sign a b) ⌝ }
+    ensures { λ _. ⌜ now (out .exit) ≡ laidIn (now (out .entry)) (lineText sign a b) ⌝ }
+    ensures { λ n. ⌜ Counts n (now (out .exit)) ⌝ }
+{
+    if out.len() < 512 {
+        return 0;
+    }
+    out[0] = sign;
+    let p = put_field(out, 1, a);
+    let q = put_field(out, p, b);
+    out[q] = b'\n';
+    q + 1
 }
