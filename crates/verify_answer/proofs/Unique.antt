@@ -6,7 +6,7 @@ use Rattle.common.specs.Choice.{Unique}
 use Rattle.common.proofs.Choice.{only}
 use Rattle.text.specs.declared.Told.{Told}
 use Rattle.text.specs.Writing.{laidAt, toldOn}
-use Rattle.verify_answer.specs.Answers.{answered}
+use Rattle.verify_answer.specs.Answers.{answered, told}
 
 pub answer-unique : (count : ℕ) (image device block file letter mode wanted scratch out : List ℕ)
     → Unique (λ (r : Told). r ≡ toldOn (answered count image device block file letter mode wanted scratch .stream) out (answered count image device block file letter mode wanted scratch .line))
@@ -27,3 +27,15 @@ answer-wanted-unique count image device block file letter mode wanted scratch ou
 pub answer-scratch-unique : (count : ℕ) (image device block file letter mode wanted scratch out : List ℕ)
     → Unique (λ (left : List ℕ). left ≡ answered count image device block file letter mode wanted scratch .scratch)
 answer-scratch-unique count image device block file letter mode wanted scratch out = only (answered count image device block file letter mode wanted scratch .scratch)
+
+pub tell-unique : (count : ℕ) (image device block file letter mode out : List ℕ)
+    → Unique (λ (r : Told). r ≡ toldOn (told count image device block file letter mode .stream) out (told count image device block file letter mode .line))
+tell-unique count image device block file letter mode out = only (toldOn (told count image device block file letter mode .stream) out (told count image device block file letter mode .line))
+
+pub tell-out-unique : (count : ℕ) (image device block file letter mode out : List ℕ)
+    → Unique (λ (left : List ℕ). left ≡ laidAt out 0 (told count image device block file letter mode .line))
+tell-out-unique count image device block file letter mode out = only (laidAt out 0 (told count image device block file letter mode .line))
+
+pub tell-image-unique : (count : ℕ) (image device block file letter mode out : List ℕ)
+    → Unique (λ (left : List ℕ). left ≡ told count image device block file letter mode .image)
+tell-image-unique count image device block file letter mode out = only (told count image device block file letter mode .image)

@@ -3,7 +3,7 @@ use mathlib.Core.Bool.{Bool, false, not, _&&_, _||_}
 use mathlib.Core.List.{List, [], _++_}
 use Prim.Native.Nat.{ℕ, min}
 use lib.Dec.{eqb, ltb}
-use lib.ListN.{length, getD, take, drop}
+use lib.ListN.{length, getD, take, drop, replicate}
 use Rattle.common.specs.Choice.{if_then_else_}
 use Rattle.text.specs.Digits.{isDigit, digitOf, spelled}
 use Rattle.text.specs.Writing.{bytes}
@@ -108,3 +108,7 @@ unfoldable pub answered : ℕ → List ℕ → List ℕ → List ℕ → List �
 answered count xs device block f letter mode w sc =
     if callWrong count letter (numeralOf mode) then misused xs w sc
     else ended (askedLeft device block mode xs w sc f letter) (bytesOf (askedPart device mode) (numeralOf block) w sc) w sc
+
+-- the same with rooms as long as the longest flash block
+unfoldable pub told : ℕ → List ℕ → List ℕ → List ℕ → List ℕ → List ℕ → List ℕ → Answered
+told count xs device block f letter mode = answered count xs device block f letter mode (replicate {A = ℕ} 131072 0) (replicate {A = ℕ} 131072 0)

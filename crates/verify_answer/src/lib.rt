@@ -11,7 +11,7 @@ ghost use Prim.Native.Nat.{min};
 ghost use lib.ListN.{drop};
 ghost use Rattle.device.specs.Parts.{lengthOf};
 ghost use Rattle.text.specs.Writing.{laidAt, behind, Used, toldOn};
-ghost use Rattle.verify_answer.specs.Answers.{isNumeral, numeralOf, callWrong, verifyWords, refusedLine, addressText, differsText, endText, narrowed, bytesOf, verifyOf, usage, answered};
+ghost use Rattle.verify_answer.specs.Answers.{isNumeral, numeralOf, callWrong, verifyWords, refusedLine, addressText, differsText, endText, narrowed, bytesOf, verifyOf, usage, answered, told};
 
 // A word that is one digit.
 fn is_numeral(word: &[u8]) -> bool
@@ -227,4 +227,36 @@ pub fn answer(
         used: put_end(out, x.end, x.address),
         stream: 1,
     }
+}
+
+// The same with rooms of its own, as long as the longest flash block.
+pub fn tell(
+    count: usize,
+    image: &mut [u8],
+    device: &[u8],
+    block: &[u8],
+    file: &[u8],
+    letter: &[u8],
+    mode: &[u8],
+    out: &mut [u8],
+) -> Told
+    ensures { λ r. ⌜ r ≡ toldOn (told count (now (image .entry)) (now (device .entry)) (now (block .entry)) (now (file .entry)) (now (letter .entry)) (now (mode .entry)) .stream) (now (out .entry)) (told count (now (image .entry)) (now (device .entry)) (now (block .entry)) (now (file .entry)) (now (letter .entry)) (now (mode .entry)) .line) ⌝ }
+    ensures { λ _. ⌜ now (out .exit) ≡ laidAt (now (out .entry)) 0 (told count (now (image .entry)) (now (device .entry)) (now (block .entry)) (now (file .entry)) (now (letter .entry)) (now (mode .entry)) .line) ⌝ }
+    ensures { λ _. ⌜ now (image .exit) ≡ told count (now (image .entry)) (now (device .entry)) (now (block .entry)) (now (file .entry)) (now (letter .entry)) (now (mode .entry)) .image ⌝ }
+    ensures { λ r. ⌜ Used (r .used) (now (out .exit)) ⌝ }
+{
+    let mut wanted = [0u8; 131072];
+    let mut scratch = [0u8; 131072];
+    answer(
+        count,
+        image,
+        device,
+        block,
+        file,
+        letter,
+        mode,
+        &mut wanted,
+        &mut scratch,
+        out,
+    )
 }

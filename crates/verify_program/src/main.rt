@@ -7,68 +7,52 @@ const IMAGE: usize = 524288 + 1;
 
 const ROOM: usize = file_codec::FILE + 512;
 
-// As much as there is of the file that an argument names; where it cannot be opened, standard error says why.
-fn fetched(k: usize, into: &mut [u8]) -> usize {
+fn main() {
     let mut name = io::buffer();
-    let n = os::arg(k, &mut name);
-    let fd = os::open_read(&name[..n]);
-    if fd < 0 {
-        os::fail(&name[..n]);
-        return 0;
+    let mut image = [0u8; IMAGE];
+    let mut file = [0u8; ROOM];
+    let a = os::arg(1, &mut name);
+    let from = os::open_read(&name[..a]);
+    if from < 0 {
+        os::fail(&name[..a]);
     }
-    let m = io::read_full(fd, into);
+    let n = io::read_full(from, &mut image);
+    libc::close(from);
+    let b = os::arg(4, &mut name);
+    let fd = os::open_read(&name[..b]);
+    if fd < 0 {
+        os::fail(&name[..b]);
+    }
+    let m = io::read_full(fd, &mut file);
     libc::close(fd);
-    m
-}
-
-// The other words of the call, and the answer.
-fn answered(image: &mut [u8], file: &[u8]) {
     let mut device = [0u8; 2];
     let mut block = [0u8; 2];
     let mut letter = [0u8; 2];
     let mut mode = [0u8; 2];
-    let mut wanted = [0u8; 131072];
-    let mut scratch = [0u8; 131072];
     let mut out = [0u8; 96];
     let d = os::arg(2, &mut device);
     let k = os::arg(3, &mut block);
     let l = os::arg(5, &mut letter);
-    let m = os::arg(6, &mut mode);
-    let r = verify_answer::answer(
+    let w = os::arg(6, &mut mode);
+    let r = verify_answer::tell(
         os::arg_count(),
-        image,
+        &mut image[..n],
         &device[..d],
         &block[..k],
-        file,
+        &file[..m],
         &letter[..l],
-        &mode[..m],
-        &mut wanted,
-        &mut scratch,
+        &mode[..w],
         &mut out,
     );
-    let n = r.used;
+    let u = r.used;
     let stream = r.stream;
     if stream == 2 {
-        io::write_all(2, &out[..n]);
+        io::write_all(2, &out[..u]);
         io::write_all(2, b".");
         return;
     }
-    let ok = io::write_all(1, &out[..n]);
+    let ok = io::write_all(1, &out[..u]);
     if ok {
         io::write_all(2, b".");
     }
-}
-
-fn with_file(image: &mut [u8], n: usize) {
-    let mut file = [0u8; ROOM];
-    let m = fetched(4, &mut file);
-    let a = common::least(n, image.len());
-    let b = common::least(m, ROOM);
-    answered(&mut image[0..a], &file[0..b]);
-}
-
-fn main() {
-    let mut image = [0u8; IMAGE];
-    let n = fetched(1, &mut image);
-    with_file(&mut image, n);
 }
