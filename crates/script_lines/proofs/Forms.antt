@@ -11,7 +11,8 @@ use Rattle.common.proofs.Choice.{and-left, and-right}
 use Rattle.model_types.specs.declared.Kind.{Kind}
 use Rattle.model_types.specs.declared.Kind.the-variants.{Read, Write, Idle}
 use Rattle.model_types.specs.declared.Cycle.{Cycle}
-use Rattle.trace_lines.specs.Lines.{Place, isDigit, isKind, fits, newline, lineForm, isLine, digitOf, decimalDigit, letterFor, lineOf, Fits, cycleStated}
+use Rattle.text.specs.Digits.{isDigit, digitOf}
+use Rattle.trace_lines.specs.Lines.{Place, isKind, fits, newline, lineForm, isLine, decimalDigit, letterFor, lineOf, Fits, cycleStated}
 use Rattle.trace_lines.proofs.Places.{both, form-length, form-at}
 use Rattle.trace_lines.proofs.Claims.{read-exactly, read-once, line-read}
 use Rattle.trace_lines.proofs.Forms.{read-good}

@@ -10,7 +10,8 @@ use lib.Seq.{take-all, take-take, getD-take}
 use borrow.Author.Tests.{eqb-true, eqb-false, eq-eqb}
 use Rattle.common.specs.Choice.{if_then_else_}
 use Rattle.common.proofs.Choice.{unlike}
-use Rattle.trace_lines.specs.Lines.{Place, fits, isLine, digitOf}
+use Rattle.text.specs.Digits.{digitOf}
+use Rattle.trace_lines.specs.Lines.{Place, fits, isLine}
 use Rattle.trace_lines.proofs.Places.{unfit}
 use Rattle.script_lines.specs.declared.Word.{Word}
 use Rattle.script_lines.specs.declared.Word.the-variants.{Ends, Bad, Traced, Opens, Closes}

@@ -5,7 +5,8 @@ use Prim.Native.Nat.{ℕ, _+_, _*_}
 use lib.Dec.{eqb}
 use lib.ListN.{length, take, getD}
 use Rattle.common.specs.Choice.{if_then_else_}
-use Rattle.trace_lines.specs.Lines.{Place, aDigit, exactly, fits, space, newline, isLine, digitOf}
+use Rattle.text.specs.Digits.{digitOf}
+use Rattle.trace_lines.specs.Lines.{Place, aDigit, exactly, fits, space, newline, isLine}
 use Rattle.script_lines.specs.declared.Word.{Word}
 use Rattle.script_lines.specs.declared.Word.the-variants.{Ends, Bad, Traced, Opens, Closes}
 

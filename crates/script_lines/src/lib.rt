@@ -1,7 +1,7 @@
 // The lines of a script: a trace line, a line that opens a group, `( nnn`, and one that closes it, `)`, each with its newline.
 ghost use mathlib.Core.Path.{_≡_};
 ghost use lib.ListN.{drop};
-ghost use Rattle.trace_lines.specs.Lines.{isDigit, digitOf, fits};
+ghost use Rattle.trace_lines.specs.Lines.{fits};
 ghost use Rattle.script_lines.specs.Words.{openForm, closeForm, isTraced, isOpening, isClosing, countStated, wordIn, isEnds, isCloses};
 
 // What stands at the front of a text: nothing, no line of a script, a trace line, an opening line with its count, a closing line.
@@ -13,12 +13,6 @@ pub enum Word {
     Closes,
 }
 
-fn is_digit(b: u8) -> bool
-    ensures { λ r. ⌜ r ≡ isDigit b ⌝ }
-{
-    (b'0' <= b) & (b <= b'9')
-}
-
 fn open_line(line: &[u8]) -> bool
     ensures { λ r. ⌜ r ≡ fits openForm (now (line .entry)) ⌝ }
 {
@@ -26,9 +20,9 @@ fn open_line(line: &[u8]) -> bool
     (n == 6)
         & (common::nth(line, 0) == b'(')
         & (common::nth(line, 1) == b' ')
-        & is_digit(common::nth(line, 2))
-        & is_digit(common::nth(line, 3))
-        & is_digit(common::nth(line, 4))
+        & text::is_digit(common::nth(line, 2))
+        & text::is_digit(common::nth(line, 3))
+        & text::is_digit(common::nth(line, 4))
         & (common::nth(line, 5) == b'\n')
 }
 
@@ -69,18 +63,14 @@ pub fn is_closing(text: &[u8]) -> bool
     close_line(&text[0..2])
 }
 
-fn digit(b: u8) -> usize
-    ensures { λ r. ⌜ r ≡ digitOf b ⌝ }
-{
-    (b % 16) as usize
-}
-
 // The count that an opening line states.
 pub fn count(text: &[u8]) -> usize
     ensures { λ r. ⌜ r ≡ countStated (now (text .entry)) ⌝ }
 {
-    (digit(common::nth(text, 2)) * 10 + digit(common::nth(text, 3))) * 10
-        + digit(common::nth(text, 4))
+    let a = text::digit(common::nth(text, 2)) as usize;
+    let b = text::digit(common::nth(text, 3)) as usize;
+    let c = text::digit(common::nth(text, 4)) as usize;
+    (a * 10 + b) * 10 + c
 }
 
 // The word at the front of a text, where so many lines may still come.

@@ -11,11 +11,12 @@ use lib.ListN.{length, getD, drop}
 use lib.Seq.{drop-cons, drop-length}
 use borrow.Author.Tests.{eqb-true, leb-true, lt-ltb, le-ltb, le-leb, lt-leb, ltb-true, ltb-false}
 use Rattle.common.proofs.Choice.{if-true, if-false, and-left, and-right}
+use Rattle.text.specs.Digits.{isDigit, isHex, digitOf, hexOf, digitLetter}
 use Rattle.model_types.specs.declared.Kind.{Kind}
 use Rattle.model_types.specs.declared.Kind.the-variants.{Read, Write, Idle}
 use Rattle.model_types.specs.declared.Cycle.{Cycle}
 use Rattle.trace_lines.specs.declared.LineRead.the-variants.{NotALine, Stated}
-use Rattle.trace_lines.specs.Lines.{isDigit, isHex, isKind, isAt, fits, newline, lineForm, isLine, kindOf, digitOf, hexOf, fiveDigits, fourHex, twoHex, cycleStated, readLine, letterFor, decimalDigit, hexDigit, lineOf, Fits}
+use Rattle.trace_lines.specs.Lines.{isKind, isAt, fits, newline, lineForm, isLine, kindOf, fiveDigits, fourHex, twoHex, cycleStated, readLine, letterFor, decimalDigit, lineOf, Fits}
 use Rattle.trace_lines.proofs.Places.{both, form-length, form-at}
 
 -- a line has 20 bytes
@@ -47,27 +48,27 @@ digit-small : (b : ℕ) → isDigit b ≡ true → digitOf b < 10
 digit-small b e = let h = digit-bounds b e in omega arith
 
 -- a hexadecimal digit
-hex-good : (n : ℕ) → n < 16 → isHex (hexDigit n) ≡ true
-unfolding isHex hexDigit isDigit
+hex-good : (n : ℕ) → n < 16 → isHex (digitLetter n) ≡ true
+unfolding isHex digitLetter isDigit
 hex-good n h = go (ltb n 10) refl
   where
-    go : (t : Bool) → ltb n 10 ≡ t → isHex (hexDigit n) ≡ true
+    go : (t : Bool) → ltb n 10 ≡ t → isHex (digitLetter n) ≡ true
     go true e = let k : n < 10 = ltb-true n 10 e in simp (e, le-leb 48 (48 + n) (omega arith), le-leb (48 + n) 57 (omega arith))
     go false e = let k : 10 ≤ n = ltb-false n 10 e in simp (e, le-leb 48 (55 + n) (omega arith), lt-leb (55 + n) 57 (omega arith), le-leb 65 (55 + n) (omega arith), le-leb (55 + n) 70 (omega arith))
 
-hex-back : (n : ℕ) → n < 16 → hexOf (hexDigit n) ≡ n
-unfolding hexOf hexDigit
+hex-back : (n : ℕ) → n < 16 → hexOf (digitLetter n) ≡ n
+unfolding hexOf digitLetter
 hex-back n h = go (ltb n 10) refl
   where
-    go : (t : Bool) → ltb n 10 ≡ t → hexOf (hexDigit n) ≡ n
+    go : (t : Bool) → ltb n 10 ≡ t → hexOf (digitLetter n) ≡ n
     go true e = let k : n < 10 = ltb-true n 10 e in simp (e, lt-ltb (48 + n) 65 (omega arith)) (omega arith)
     go false e = let k : 10 ≤ n = ltb-false n 10 e in simp (e, le-ltb (55 + n) 65 (omega arith)) (omega arith)
 
-hex-form : (b : ℕ) → isHex b ≡ true → hexDigit (hexOf b) ≡ b
-unfolding isHex hexOf hexDigit isDigit
+hex-form : (b : ℕ) → isHex b ≡ true → digitLetter (hexOf b) ≡ b
+unfolding isHex hexOf digitLetter isDigit
 hex-form b e = go (leb 48 b && leb b 57) refl
   where
-    go : (t : Bool) → (leb 48 b && leb b 57) ≡ t → hexDigit (hexOf b) ≡ b
+    go : (t : Bool) → (leb 48 b && leb b 57) ≡ t → digitLetter (hexOf b) ≡ b
     go true d =
         let h : 48 ≤ b = leb-true 48 b (and-left (leb 48 b) (leb b 57) d) in
         let k : b ≤ 57 = leb-true b 57 (and-right (leb 48 b) (leb b 57) d) in
@@ -167,24 +168,24 @@ five-back v h =
     ten (v / 10) ((v / 10000 % 10 * 10 + v / 1000 % 10) * 10 + v / 100 % 10) (c ∙ hundred v) in
     rw (f (v / 10000), f (v / 1000), f (v / 100), f (v / 10), f v) (ten v (((v / 10000 % 10 * 10 + v / 1000 % 10) * 10 + v / 100 % 10) * 10 + v / 10 % 10) d)
 
-four-back : (v : ℕ) → v < 65536 → fourHex (hexDigit (v / 4096 % 16)) (hexDigit (v / 256 % 16)) (hexDigit (v / 16 % 16)) (hexDigit (v % 16)) ≡ v
+four-back : (v : ℕ) → v < 65536 → fourHex (digitLetter (v / 4096 % 16)) (digitLetter (v / 256 % 16)) (digitLetter (v / 16 % 16)) (digitLetter (v % 16)) ≡ v
 four-back v h =
-    let f : (n : ℕ) → hexOf (hexDigit (n % 16)) ≡ n % 16 = λ (n : ℕ). hex-back (n % 16) (omega arith) in
+    let f : (n : ℕ) → hexOf (digitLetter (n % 16)) ≡ n % 16 = λ (n : ℕ). hex-back (n % 16) (omega arith) in
     let a : v / 4096 % 16 ≡ v / 256 / 16 = omega (arith, section v) in
     let b : v / 4096 % 16 * 16 + v / 256 % 16 ≡ v / 256 = sixteen (v / 256) (v / 4096 % 16) a in
     let c : (v / 4096 % 16 * 16 + v / 256 % 16) * 16 + v / 16 % 16 ≡ v / 16 = sixteen (v / 16) (v / 4096 % 16 * 16 + v / 256 % 16) (b ∙ page v) in
     rw (f (v / 4096), f (v / 256), f (v / 16), f v) (sixteen v ((v / 4096 % 16 * 16 + v / 256 % 16) * 16 + v / 16 % 16) c)
 
-two-back : (v : ℕ) → v < 256 → twoHex (hexDigit (v / 16 % 16)) (hexDigit (v % 16)) ≡ v
+two-back : (v : ℕ) → v < 256 → twoHex (digitLetter (v / 16 % 16)) (digitLetter (v % 16)) ≡ v
 two-back v h =
-    let f : (n : ℕ) → hexOf (hexDigit (n % 16)) ≡ n % 16 = λ (n : ℕ). hex-back (n % 16) (omega arith) in
+    let f : (n : ℕ) → hexOf (digitLetter (n % 16)) ≡ n % 16 = λ (n : ℕ). hex-back (n % 16) (omega arith) in
     rw (f (v / 16), f v) (sixteen v (v / 16 % 16) (omega arith))
 
 printed-good : (c : Cycle) → Fits c → isLine (lineOf c) ≡ true
 unfolding isLine fits
 printed-good c f =
     let d : (n : ℕ) → isDigit (decimalDigit n) ≡ true = λ (n : ℕ). digit-good (n % 10) (omega arith) in
-    let h : (n : ℕ) → isHex (hexDigit (n % 16)) ≡ true = λ (n : ℕ). hex-good (n % 16) (omega arith) in
+    let h : (n : ℕ) → isHex (digitLetter (n % 16)) ≡ true = λ (n : ℕ). hex-good (n % 16) (omega arith) in
     both (kind-good (c .kind))
     (both (digit-good (c .pins .rp) (f .0))
     (both (digit-good (c .oe) (f .1))
@@ -268,25 +269,25 @@ module _ (a b c d : ℕ) (p : isHex a ≡ true) (q : isHex b ≡ true) (r : isHe
   w3 : fourHex a b c d / 4096 ≡ hexOf a
   w3 = section (fourHex a b c d) ∙ ap (λ (n : ℕ). n / 16) w2 ∙ sixteen-front (hexOf a) (hexOf b) (hex-small b)
 
-  four-0 : hexDigit (fourHex a b c d / 4096 % 16) ≡ a
-  four-0 = ap (λ (n : ℕ). hexDigit (n % 16)) w3 ∙ ap (λ (n : ℕ). hexDigit n) (let z : hexOf a % 16 ≡ hexOf a = omega (arith, hex-small a) in z) ∙ hex-form a p
+  four-0 : digitLetter (fourHex a b c d / 4096 % 16) ≡ a
+  four-0 = ap (λ (n : ℕ). digitLetter (n % 16)) w3 ∙ ap (λ (n : ℕ). digitLetter n) (let z : hexOf a % 16 ≡ hexOf a = omega (arith, hex-small a) in z) ∙ hex-form a p
 
-  four-1 : hexDigit (fourHex a b c d / 256 % 16) ≡ b
-  four-1 = ap (λ (n : ℕ). hexDigit (n % 16)) w2 ∙ ap (λ (n : ℕ). hexDigit n) (sixteen-last (hexOf a) (hexOf b) (hex-small b)) ∙ hex-form b q
+  four-1 : digitLetter (fourHex a b c d / 256 % 16) ≡ b
+  four-1 = ap (λ (n : ℕ). digitLetter (n % 16)) w2 ∙ ap (λ (n : ℕ). digitLetter n) (sixteen-last (hexOf a) (hexOf b) (hex-small b)) ∙ hex-form b q
 
-  four-2 : hexDigit (fourHex a b c d / 16 % 16) ≡ c
-  four-2 = ap (λ (n : ℕ). hexDigit (n % 16)) w1 ∙ ap (λ (n : ℕ). hexDigit n) (sixteen-last (hexOf a * 16 + hexOf b) (hexOf c) (hex-small c)) ∙ hex-form c r
+  four-2 : digitLetter (fourHex a b c d / 16 % 16) ≡ c
+  four-2 = ap (λ (n : ℕ). digitLetter (n % 16)) w1 ∙ ap (λ (n : ℕ). digitLetter n) (sixteen-last (hexOf a * 16 + hexOf b) (hexOf c) (hex-small c)) ∙ hex-form c r
 
-  four-3 : hexDigit (fourHex a b c d % 16) ≡ d
-  four-3 = ap (λ (n : ℕ). hexDigit n) (sixteen-last ((hexOf a * 16 + hexOf b) * 16 + hexOf c) (hexOf d) (hex-small d)) ∙ hex-form d s
+  four-3 : digitLetter (fourHex a b c d % 16) ≡ d
+  four-3 = ap (λ (n : ℕ). digitLetter n) (sixteen-last ((hexOf a * 16 + hexOf b) * 16 + hexOf c) (hexOf d) (hex-small d)) ∙ hex-form d s
 
-two-0 : (a b : ℕ) → isHex a ≡ true → hexDigit (twoHex a b / 16 % 16) ≡ a
+two-0 : (a b : ℕ) → isHex a ≡ true → digitLetter (twoHex a b / 16 % 16) ≡ a
 two-0 a b p =
-    ap (λ (n : ℕ). hexDigit (n % 16)) (sixteen-front (hexOf a) (hexOf b) (hex-small b))
-    ∙ ap (λ (n : ℕ). hexDigit n) (let z : hexOf a % 16 ≡ hexOf a = omega (arith, hex-small a) in z) ∙ hex-form a p
+    ap (λ (n : ℕ). digitLetter (n % 16)) (sixteen-front (hexOf a) (hexOf b) (hex-small b))
+    ∙ ap (λ (n : ℕ). digitLetter n) (let z : hexOf a % 16 ≡ hexOf a = omega (arith, hex-small a) in z) ∙ hex-form a p
 
-two-1 : (a b : ℕ) → isHex b ≡ true → hexDigit (twoHex a b % 16) ≡ b
-two-1 a b q = ap (λ (n : ℕ). hexDigit n) (sixteen-last (hexOf a) (hexOf b) (hex-small b)) ∙ hex-form b q
+two-1 : (a b : ℕ) → isHex b ≡ true → digitLetter (twoHex a b % 16) ≡ b
+two-1 a b q = ap (λ (n : ℕ). digitLetter n) (sixteen-last (hexOf a) (hexOf b) (hex-small b)) ∙ hex-form b q
 
 line-spelled : (xs : List ℕ) → isLine xs ≡ true → lineOf (cycleStated xs) ≡ spelled 20 0 xs
 unfolding cycleStated spelled

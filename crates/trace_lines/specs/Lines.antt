@@ -3,22 +3,15 @@ use mathlib.Core.Path.{_≡_}
 use mathlib.Core.Bool.{Bool, true, false, _&&_, _||_}
 use mathlib.Core.List.{List, [], _∷_}
 use Prim.Native.Nat.{ℕ, _+_, _*_, _/_, _%_, _<_}
-use lib.Dec.{eqb, ltb, leb}
+use lib.Dec.{eqb}
 use lib.ListN.{getD}
 use Rattle.common.specs.Choice.{if_then_else_}
+use Rattle.text.specs.Digits.{isDigit, isHex, digitOf, hexOf, digitLetter}
 use Rattle.model_types.specs.declared.Kind.{Kind}
 use Rattle.model_types.specs.declared.Kind.the-variants.{Read, Write, Idle}
 use Rattle.model_types.specs.declared.Cycle.{Cycle}
 use Rattle.trace_lines.specs.declared.LineRead.{LineRead}
 use Rattle.trace_lines.specs.declared.LineRead.the-variants.{NotALine, Stated}
-
--- a decimal digit: '0' to '9'
-unfoldable pub isDigit : ℕ → Bool
-isDigit b = leb 48 b && leb b 57
-
--- a hexadecimal digit: '0' to '9' or 'A' to 'F', capitals only
-unfoldable pub isHex : ℕ → Bool
-isHex b = isDigit b || (leb 65 b && leb b 70)
 
 -- a kind: R, W or I
 unfoldable pub isKind : ℕ → Bool
@@ -75,14 +68,6 @@ kindOf b =
     else if eqb b 87 then Write
     else Idle
 
--- what a decimal digit counts
-abbrev pub digitOf : ℕ → ℕ
-digitOf b = b % 16
-
--- what a hexadecimal digit counts: the letters go on from 10
-unfoldable pub hexOf : ℕ → ℕ
-hexOf b = if ltb b 65 then b % 16 else (b + 9) % 16
-
 -- five decimal digits as a number
 abbrev pub fiveDigits : ℕ → ℕ → ℕ → ℕ → ℕ → ℕ
 fiveDigits a b c d e = (((digitOf a * 10 + digitOf b) * 10 + digitOf c) * 10 + digitOf d) * 10 + digitOf e
@@ -120,10 +105,6 @@ letterFor Idle = 73
 abbrev pub decimalDigit : ℕ → ℕ
 decimalDigit n = 48 + n % 10
 
--- a number below 16, printed as one hexadecimal digit
-unfoldable pub hexDigit : ℕ → ℕ
-hexDigit n = if ltb n 10 then 48 + n else 55 + n
-
 -- the line that states a cycle
 abbrev pub lineOf : Cycle → List ℕ
 lineOf c =
@@ -131,8 +112,8 @@ lineOf c =
     ∷ (48 + c .pins .rp) ∷ 32
     ∷ (48 + c .oe) ∷ 32
     ∷ decimalDigit (c .pins .vpp / 10000) ∷ decimalDigit (c .pins .vpp / 1000) ∷ decimalDigit (c .pins .vpp / 100) ∷ decimalDigit (c .pins .vpp / 10) ∷ decimalDigit (c .pins .vpp) ∷ 32
-    ∷ hexDigit (c .address / 4096 % 16) ∷ hexDigit (c .address / 256 % 16) ∷ hexDigit (c .address / 16 % 16) ∷ hexDigit (c .address % 16) ∷ 32
-    ∷ hexDigit (c .data / 16 % 16) ∷ hexDigit (c .data % 16) ∷ 10
+    ∷ digitLetter (c .address / 4096 % 16) ∷ digitLetter (c .address / 256 % 16) ∷ digitLetter (c .address / 16 % 16) ∷ digitLetter (c .address % 16) ∷ 32
+    ∷ digitLetter (c .data / 16 % 16) ∷ digitLetter (c .data % 16) ∷ 10
     ∷ []
 
 -- a cycle that fits a line: each number has as many digits as the line has room for, and WP# is 0

@@ -4,27 +4,13 @@ use model_types::Kind;
 use model_types::Pins;
 ghost use mathlib.Core.Path.{_≡_};
 ghost use mathlib.Core.Bool.{true};
-ghost use Prim.Native.Nat.{_<_};
-ghost use Rattle.trace_lines.specs.Lines.{isDigit, isHex, isKind, isLine, kindOf, digitOf, hexOf, fiveDigits, fourHex, twoHex, cycleStated, readLine};
+ghost use Rattle.trace_lines.specs.Lines.{isKind, isLine, kindOf, fiveDigits, fourHex, twoHex, cycleStated, readLine};
 ghost use Rattle.trace_lines.specs.Inner.{metFrom, frontRun, supplyRun, addressRun, backRun};
 
 // What a line says: the cycle that it states, or that it is none.
 pub enum LineRead {
     NotALine,
     Stated(Cycle),
-}
-
-fn is_digit(b: u8) -> bool
-    ensures { λ r. ⌜ r ≡ isDigit b ⌝ }
-{
-    (b'0' <= b) & (b <= b'9')
-}
-
-// Capitals only.
-fn is_hex(b: u8) -> bool
-    ensures { λ r. ⌜ r ≡ isHex b ⌝ }
-{
-    is_digit(b) | (b'A' <= b) & (b <= b'F')
 }
 
 fn is_kind(b: u8) -> bool
@@ -39,9 +25,9 @@ fn good_front(line: &[u8]) -> bool
 {
     is_kind(common::nth(line, 0))
         & (common::nth(line, 1) == b' ')
-        & is_digit(common::nth(line, 2))
+        & text::is_digit(common::nth(line, 2))
         & (common::nth(line, 3) == b' ')
-        & is_digit(common::nth(line, 4))
+        & text::is_digit(common::nth(line, 4))
         & (common::nth(line, 5) == b' ')
 }
 
@@ -49,11 +35,11 @@ fn good_front(line: &[u8]) -> bool
 fn good_supply(line: &[u8]) -> bool
     ensures { λ r. ⌜ r ≡ metFrom true supplyRun 6 (now (line .entry)) ⌝ }
 {
-    is_digit(common::nth(line, 6))
-        & is_digit(common::nth(line, 7))
-        & is_digit(common::nth(line, 8))
-        & is_digit(common::nth(line, 9))
-        & is_digit(common::nth(line, 10))
+    text::is_digit(common::nth(line, 6))
+        & text::is_digit(common::nth(line, 7))
+        & text::is_digit(common::nth(line, 8))
+        & text::is_digit(common::nth(line, 9))
+        & text::is_digit(common::nth(line, 10))
         & (common::nth(line, 11) == b' ')
 }
 
@@ -61,10 +47,10 @@ fn good_supply(line: &[u8]) -> bool
 fn good_address(line: &[u8]) -> bool
     ensures { λ r. ⌜ r ≡ metFrom true addressRun 12 (now (line .entry)) ⌝ }
 {
-    is_hex(common::nth(line, 12))
-        & is_hex(common::nth(line, 13))
-        & is_hex(common::nth(line, 14))
-        & is_hex(common::nth(line, 15))
+    text::is_hex(common::nth(line, 12))
+        & text::is_hex(common::nth(line, 13))
+        & text::is_hex(common::nth(line, 14))
+        & text::is_hex(common::nth(line, 15))
         & (common::nth(line, 16) == b' ')
 }
 
@@ -72,7 +58,9 @@ fn good_address(line: &[u8]) -> bool
 fn good_back(line: &[u8]) -> bool
     ensures { λ r. ⌜ r ≡ metFrom true backRun 17 (now (line .entry)) ⌝ }
 {
-    is_hex(common::nth(line, 17)) & is_hex(common::nth(line, 18)) & (common::nth(line, 19) == b'\n')
+    text::is_hex(common::nth(line, 17))
+        & text::is_hex(common::nth(line, 18))
+        & (common::nth(line, 19) == b'\n')
 }
 
 // Whether 20 bytes are a line of the documented form.
@@ -95,48 +83,25 @@ fn kind_of(b: u8) -> Kind
     Kind::Idle
 }
 
-// What a digit counts, as a level.
-fn level(b: u8) -> u8
-    ensures { λ r. ⌜ r ≡ digitOf b ⌝ }
-{
-    b % 16
-}
-
-fn digit(b: u8) -> u32
-    ensures { λ r. ⌜ r ≡ digitOf b ⌝ }
-{
-    (b % 16) as u32
-}
-
-// Where the letters among the digits begin.
-const LETTERS: u32 = b'A' as u32;
-
-fn hex(b: u8) -> u32
-    ensures { λ r. ⌜ (r ≡ hexOf b) × (r < 16) ⌝ }
-{
-    let n = b as u32;
-    if n < LETTERS {
-        return n % 16;
-    }
-    (n + 9) % 16
-}
-
 fn five(a: u8, b: u8, c: u8, d: u8, e: u8) -> u32
     ensures { λ r. ⌜ r ≡ fiveDigits a b c d e ⌝ }
 {
-    (((digit(a) * 10 + digit(b)) * 10 + digit(c)) * 10 + digit(d)) * 10 + digit(e)
+    let p = text::digit(a) as u32 * 10 + text::digit(b) as u32;
+    let q = (p * 10 + text::digit(c) as u32) * 10 + text::digit(d) as u32;
+    q * 10 + text::digit(e) as u32
 }
 
 fn four(a: u8, b: u8, c: u8, d: u8) -> u32
     ensures { λ r. ⌜ r ≡ fourHex a b c d ⌝ }
 {
-    ((hex(a) * 16 + hex(b)) * 16 + hex(c)) * 16 + hex(d)
+    let p = text::hex_digit(a) as u32 * 16 + text::hex_digit(b) as u32;
+    (p * 16 + text::hex_digit(c) as u32) * 16 + text::hex_digit(d) as u32
 }
 
 fn two(a: u8, b: u8) -> u16
     ensures { λ r. ⌜ r ≡ twoHex a b ⌝ }
 {
-    (hex(a) * 16 + hex(b)) as u16
+    text::hex_digit(a) as u16 * 16 + text::hex_digit(b) as u16
 }
 
 // The cycle that a line states, read off its places.
@@ -144,8 +109,8 @@ pub fn cycle_in(line: &[u8]) -> Cycle
     ensures { λ r. ⌜ r ≡ cycleStated (now (line .entry)) ⌝ }
 {
     let kind = kind_of(common::nth(line, 0));
-    let rp = level(common::nth(line, 2));
-    let oe = level(common::nth(line, 4));
+    let rp = text::digit(common::nth(line, 2));
+    let oe = text::digit(common::nth(line, 4));
     let vpp = five(
         common::nth(line, 6),
         common::nth(line, 7),

@@ -6,7 +6,8 @@ use Rattle.common.specs.Choice.{if_then_else_}
 use Rattle.model.specs.declared.Seen.{Seen}
 use Rattle.model.specs.declared.Seen.the-variants.{NoData, Data, Refused}
 use Rattle.model.specs.declared.Answer.{Answer}
-use Rattle.trace_lines.specs.Lines.{decimalDigit, hexDigit}
+use Rattle.text.specs.Digits.{digitLetter}
+use Rattle.trace_lines.specs.Lines.{decimalDigit}
 
 -- D for a byte, N for no data, X for a refusal
 abbrev pub signOf : Seen → ℕ
@@ -17,17 +18,17 @@ signOf (Refused n) = 88
 -- the byte in two hexadecimal digits, two dashes, or the refusal in two decimal digits
 abbrev pub firstSign : Seen → ℕ
 firstSign NoData = 45
-firstSign (Data b) = hexDigit (b / 16 % 16)
+firstSign (Data b) = digitLetter (b / 16 % 16)
 firstSign (Refused n) = decimalDigit (n / 10)
 
 abbrev pub secondSign : Seen → ℕ
 secondSign NoData = 45
-secondSign (Data b) = hexDigit (b % 16)
+secondSign (Data b) = digitLetter (b % 16)
 secondSign (Refused n) = decimalDigit n
 
 -- an answer printed: what is seen, then a status register
 unfoldable pub answerText : Seen → ℕ → List ℕ
-answerText seen sr = signOf seen ∷ 32 ∷ firstSign seen ∷ secondSign seen ∷ 32 ∷ hexDigit (sr / 16 % 16) ∷ hexDigit (sr % 16) ∷ 10 ∷ []
+answerText seen sr = signOf seen ∷ 32 ∷ firstSign seen ∷ secondSign seen ∷ 32 ∷ digitLetter (sr / 16 % 16) ∷ digitLetter (sr % 16) ∷ 10 ∷ []
 
 -- the answer to a line: the status register is the one after the cycle
 abbrev pub printedOf : Answer → List ℕ

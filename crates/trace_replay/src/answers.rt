@@ -2,26 +2,14 @@
 use model::Seen;
 ghost use Prim.Native.Nat.{_%_};
 ghost use mathlib.Core.Path.{_≡_};
-ghost use Prim.Native.Nat.{_<_};
 ghost use lib.ListN.{length};
 ghost use Rattle.common.specs.Lists.{copied};
-ghost use Rattle.trace_lines.specs.Lines.{decimalDigit, hexDigit};
+ghost use Rattle.text.specs.Digits.{digitLetter};
+ghost use Rattle.trace_lines.specs.Lines.{decimalDigit};
 ghost use Rattle.trace_replay.specs.Answers.{signOf, firstSign, secondSign, answerText, markOf, traceEnd};
 
-// The digit 0 as a length, and what a letter counts from.
+// The digit 0 as a length.
 const ZERO: usize = b'0' as usize;
-
-const TEN: u8 = b'A' - 10;
-
-fn hex_digit(n: u8) -> u8
-    requires { ⌜ n < 16 ⌝ }
-    ensures { λ r. ⌜ r ≡ hexDigit n ⌝ }
-{
-    if n < 10 {
-        return b'0' + n;
-    }
-    TEN + n
-}
 
 fn decimal_digit(n: usize) -> u8
     ensures { λ r. ⌜ r ≡ decimalDigit n ⌝ }
@@ -36,11 +24,11 @@ fn small_digit(n: u8) -> u8
     b'0' + n % 10
 }
 
-// The low four bits.
-fn nibble(v: u16) -> u8
-    ensures { λ r. ⌜ r ≡ v % 16 ⌝ }
+// The low four bits as one digit.
+fn low_digit(v: u16) -> u8
+    ensures { λ r. ⌜ r ≡ digitLetter (v % 16) ⌝ }
 {
-    (v % 16) as u8
+    text::letter((v % 16) as u8)
 }
 
 fn letter(seen: Seen) -> u8
@@ -58,7 +46,7 @@ fn first(seen: Seen) -> u8
 {
     match seen {
         Seen::NoData => b'-',
-        Seen::Data(b) => hex_digit(nibble(b / 16)),
+        Seen::Data(b) => low_digit(b / 16),
         Seen::Refused(n) => small_digit(n / 10),
     }
 }
@@ -68,7 +56,7 @@ fn second(seen: Seen) -> u8
 {
     match seen {
         Seen::NoData => b'-',
-        Seen::Data(b) => hex_digit(nibble(b)),
+        Seen::Data(b) => low_digit(b),
         Seen::Refused(n) => small_digit(n),
     }
 }
@@ -83,8 +71,8 @@ pub fn write_answer(seen: Seen, sr: u8, out: &mut [u8])
         first(seen),
         second(seen),
         b' ',
-        hex_digit(sr / 16 % 16),
-        hex_digit(sr % 16),
+        text::letter(sr / 16),
+        text::letter(sr),
         b'\n',
     ];
     common::copy(out, &line)

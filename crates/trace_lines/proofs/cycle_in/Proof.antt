@@ -13,14 +13,14 @@ kind-of-requires c κs = search needs
 nth-requires-2 : tie.Need-nth-requires-2
 nth-requires-2 c κs = search needs
 
-level-requires : tie.Need-level-requires
-level-requires c κs = search needs
+digit-requires : tie.Need-digit-requires
+digit-requires c κs = search needs
 
 nth-requires-3 : tie.Need-nth-requires-3
 nth-requires-3 c κs = search needs
 
-level-requires-2 : tie.Need-level-requires-2
-level-requires-2 c κs = search needs
+digit-requires-2 : tie.Need-digit-requires-2
+digit-requires-2 c κs = search needs
 
 nth-requires-4 : tie.Need-nth-requires-4
 nth-requires-4 c κs = search needs
@@ -66,7 +66,7 @@ two-requires c κs = search needs
 
 returns : tie.Need-returns
 unfolding cycleStated
-returns c = simp (c .two .ensures, c .before .nth14 .ensures, c .before .before .nth13 .ensures, c .before .before .before .four .ensures, c .before .before .before .before .nth12 .ensures, c .before .before .before .before .before .nth11 .ensures, c .before .before .before .before .before .before .nth10 .ensures, c .before .before .before .before .before .before .before .nth9 .ensures, c .before .before .before .before .before .before .before .before .five .ensures, c .before .before .before .before .before .before .before .before .before .nth8 .ensures, c .before .before .before .before .before .before .before .before .before .before .nth7 .ensures, c .before .before .before .before .before .before .before .before .before .before .before .nth6 .ensures, c .before .before .before .before .before .before .before .before .before .before .before .before .nth5 .ensures, c .before .before .before .before .before .before .before .before .before .before .before .before .before .nth4 .ensures, c .before .before .before .before .before .before .before .before .before .before .before .before .before .before .level2 .ensures, c .before .before .before .before .before .before .before .before .before .before .before .before .before .before .before .nth3 .ensures, c .before .before .before .before .before .before .before .before .before .before .before .before .before .before .before .before .level .ensures, c .before .before .before .before .before .before .before .before .before .before .before .before .before .before .before .before .before .nth2 .ensures, c .before .before .before .before .before .before .before .before .before .before .before .before .before .before .before .before .before .before .kind-of .ensures, c .before .before .before .before .before .before .before .before .before .before .before .before .before .before .before .before .before .before .before .nth .ensures)
+returns c = simp (c .two .ensures, c .before .nth14 .ensures, c .before .before .nth13 .ensures, c .before .before .before .four .ensures, c .before .before .before .before .nth12 .ensures, c .before .before .before .before .before .nth11 .ensures, c .before .before .before .before .before .before .nth10 .ensures, c .before .before .before .before .before .before .before .nth9 .ensures, c .before .before .before .before .before .before .before .before .five .ensures, c .before .before .before .before .before .before .before .before .before .nth8 .ensures, c .before .before .before .before .before .before .before .before .before .before .nth7 .ensures, c .before .before .before .before .before .before .before .before .before .before .before .nth6 .ensures, c .before .before .before .before .before .before .before .before .before .before .before .before .nth5 .ensures, c .before .before .before .before .before .before .before .before .before .before .before .before .before .nth4 .ensures, c .before .before .before .before .before .before .before .before .before .before .before .before .before .before .digit2 .ensures, c .before .before .before .before .before .before .before .before .before .before .before .before .before .before .before .nth3 .ensures, c .before .before .before .before .before .before .before .before .before .before .before .before .before .before .before .before .digit .ensures, c .before .before .before .before .before .before .before .before .before .before .before .before .before .before .before .before .before .nth2 .ensures, c .before .before .before .before .before .before .before .before .before .before .before .before .before .before .before .before .before .before .kind-of .ensures, c .before .before .before .before .before .before .before .before .before .before .before .before .before .before .before .before .before .before .before .nth .ensures)
 
 pub cycle-in-spec : {M : Type 1} → statement M
 cycle-in-spec =
@@ -75,9 +75,9 @@ cycle-in-spec =
     nth-requires
     kind-of-requires
     nth-requires-2
-    level-requires
+    digit-requires
     nth-requires-3
-    level-requires-2
+    digit-requires-2
     nth-requires-4
     nth-requires-5
     nth-requires-6

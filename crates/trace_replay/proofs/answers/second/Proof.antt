@@ -1,3 +1,4 @@
+-- `trace_replay::answers::second` meets its contract. Assumes nothing.
 use borrow.Author.Needs.{needs}
 use Rattle.trace_replay.proofs.answers.second.Statement.{statement}
 use Rattle.trace_replay.proofs.answers.second.Tie as tie
@@ -8,11 +9,8 @@ enum-told c = search needs
 enum-known-seen : tie.Need-enum-known-seen
 enum-known-seen c = search needs
 
-nibble-requires : tie.Need-nibble-requires
-nibble-requires c κs = search needs
-
-hex-digit-requires : tie.Need-hex-digit-requires
-hex-digit-requires c κs = search needs
+low-digit-requires : tie.Need-low-digit-requires
+low-digit-requires c κs = search needs
 
 enum-known-seen-2 : tie.Need-enum-known-seen-2
 enum-known-seen-2 c = search needs
@@ -24,7 +22,7 @@ returns : tie.Need-returns
 returns c = search needs
 
 returns-2 : tie.Need-returns-2
-returns-2 c = simp (c .hex-digit .ensures, c .before .nibble .ensures, c .before .before .before .seen .given .1)
+returns-2 c = simp (c .low-digit .ensures, c .before .before .seen .given .1)
 
 returns-3 : tie.Need-returns-3
 returns-3 c = simp (c .small-digit .ensures, c .before .before .seen2 .given .1)
@@ -35,8 +33,7 @@ second-spec =
     (tie.spec
     enum-told
     enum-known-seen
-    nibble-requires
-    hex-digit-requires
+    low-digit-requires
     enum-known-seen-2
     small-digit-requires
     returns

@@ -13,11 +13,11 @@ first-requires c κs = search needs
 second-requires : tie.Need-second-requires
 second-requires c κs = search needs
 
-hex-digit-requires : tie.Need-hex-digit-requires
-hex-digit-requires c κs = search needs
+letter-requires-2 : tie.Need-letter-requires-2
+letter-requires-2 c κs = search needs
 
-hex-digit-requires-2 : tie.Need-hex-digit-requires-2
-hex-digit-requires-2 c κs = search needs
+letter-requires-3 : tie.Need-letter-requires-3
+letter-requires-3 c κs = search needs
 
 slice-aggregate-copy : tie.Need-slice-aggregate-copy
 slice-aggregate-copy c = search needs
@@ -30,7 +30,7 @@ same-length c = search needs
 
 returns : tie.Need-returns
 unfolding answerText
-returns c = simp (c .before .before .copy .ensures, c .before .before .before .before .before .hex-digit2 .ensures, c .before .before .before .before .before .before .hex-digit .ensures, c .before .before .before .before .before .before .before .second .ensures, c .before .before .before .before .before .before .before .before .first .ensures, c .before .before .before .before .before .before .before .before .before .letter .ensures)
+returns c = simp (c .before .before .copy .ensures, c .before .before .before .before .before .letter3 .ensures, c .before .before .before .before .before .before .letter2 .ensures, c .before .before .before .before .before .before .before .second .ensures, c .before .before .before .before .before .before .before .before .first .ensures, c .before .before .before .before .before .before .before .before .before .letter .ensures)
 
 pub write-answer-spec : {M : Type 1} → statement M
 write-answer-spec =
@@ -39,8 +39,8 @@ write-answer-spec =
     letter-requires
     first-requires
     second-requires
-    hex-digit-requires
-    hex-digit-requires-2
+    letter-requires-2
+    letter-requires-3
     slice-aggregate-copy
     copy-requires
     same-length
