@@ -59,7 +59,7 @@ module _ (d : Device) (xs : List ℕ) where
   abbrev w : Bool
   w = d .part .word
 
-  sized-whole : length (lent w xs) ≡ sizeOf (d .part) → torn w (length xs) ≡ false
+  pub sized-whole : length (lent w xs) ≡ sizeOf (d .part) → torn w (length xs) ≡ false
   sized-whole e = lent-whole w xs (let z = size-some (d .part) in omega arith)
 
   pub two-counts-bytes : (length (lent w xs) ≡ sizeOf (d .part)) ↔ (length xs ≡ bytesIn w (sizeOf (d .part)))
@@ -103,7 +103,7 @@ unfolding judgeOf
 judge-sized d s c n r e =
     eqb-true n (sizeOf (d .part)) (not-false (eqb n (sizeOf (d .part))) (no-head (no-tail (given-no-row (early d s c n r) refl e))))
 
-done-sized : (d : Device) (s : State) (c : Cycle) (n r : ℕ) → isRefusal (decideOf d s c n r .reply) ≡ false → n ≡ sizeOf (d .part)
+pub done-sized : (d : Device) (s : State) (c : Cycle) (n r : ℕ) → isRefusal (decideOf d s c n r .reply) ≡ false → n ≡ sizeOf (d .part)
 done-sized d s c n r =
     outcome d s c n r (λ (x : Decision). isRefusal (x .reply) ≡ false → n ≡ sizeOf (d .part)) (λ m z e q. absurd (unlike q)) (λ z f q. f .sized)
 
@@ -125,11 +125,11 @@ module _ (d : Device) (s : State) (c : Cycle) (xs rs : List ℕ) where
   unfolding arrayAfter
   unchanged e = ap (λ (x : Effect). arrayOf x (d .part) ts us) (refused-nothing d s c (length us) (length ts) e .1)
 
-  kept : refuses ≡ true → bytesAfter d s c xs rs ≡ xs
+  pub kept : refuses ≡ true → bytesAfter d s c xs rs ≡ xs
   unfolding bytesAfter
   kept e = if-true refuses xs (back wide (arrayAfter d s c us ts)) e
 
-  done : refuses ≡ false → bytesAfter d s c xs rs ≡ back wide (arrayAfter d s c us ts)
+  pub done : refuses ≡ false → bytesAfter d s c xs rs ≡ back wide (arrayAfter d s c us ts)
   unfolding bytesAfter
   done e = if-false refuses xs (back wide (arrayAfter d s c us ts)) e
 
