@@ -127,7 +127,7 @@ module _ (t : Effect → Bool) (none : t Nothing ≡ false) where
     ended-origin bs i v b h = pending-origin bs i v (cycle-ended (before byRules d v bs i) b h)
 
 -- an effect is on the bytes of its operation
-on-operation : (part : Part) (e : Effect) (x : ℕ) → isOn part (operationOf e) x ≡ isOn part e x
+pub on-operation : (part : Part) (e : Effect) (x : ℕ) → isOn part (operationOf e) x ≡ isOn part e x
 on-operation part Nothing x = refl
 on-operation part (Program a y) x = refl
 on-operation part (Erase k) x = refl
