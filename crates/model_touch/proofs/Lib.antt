@@ -3,3 +3,6 @@ pub mod Steps
 pub mod Origins
 pub mod Confirms
 pub mod Manual
+pub mod Further
+pub mod Engines
+pub mod Claims

@@ -29,7 +29,7 @@ use Rattle.model_touch.proofs.Origins.{Origin, on-operation, changed-or
 use Rattle.model_touch.proofs.Confirms.{Begins, begins, boot-unlocked}
 
 -- nothing is pending where no operation is running, being suspended or suspended
-idle-none : (ph : Phase) (part : Part) (a : ℕ) → isPending ph ≡ false → pendingIn ph part a ≡ Nothing
+pub idle-none : (ph : Phase) (part : Part) (a : ℕ) → isPending ph ≡ false → pendingIn ph part a ≡ Nothing
 idle-none Free part a e = refl
 idle-none EraseAwaited part a e = refl
 idle-none DataAwaited part a e = refl

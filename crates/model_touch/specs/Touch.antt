@@ -11,13 +11,14 @@ use Rattle.units.specs.Units.{units, lent, bytesIn}
 use Rattle.units.specs.Address.{byteOf}
 use Rattle.device.specs.declared.Part.{Part}
 use Rattle.device.specs.declared.Device.{Device}
-use Rattle.device.specs.Parts.{startOf, lengthOf}
+use Rattle.device.specs.Parts.{unknownDevice, sizeOf, startOf, lengthOf}
 use Rattle.model_types.specs.declared.State.{State}
 use Rattle.model_types.specs.declared.Cycle.{Cycle}
 use Rattle.model_types.specs.declared.Kind.the-variants.{Write}
 use Rattle.model_types.specs.declared.Effect.{Effect}
 use Rattle.model_types.specs.declared.Effect.the-variants.{Nothing, Program, Erase, CutProgram, CutErase}
 use Rattle.model_types.specs.Levels.{vppHigh, unlocked, locked}
+use Rattle.model_types.specs.States.{improper}
 use Rattle.model_commands.specs.Commands.{unsupplied}
 use Rattle.model_rules.specs.Cycles.{numberOf, decideOf}
 use Rattle.model.specs.declared.Answer.{Answer}
@@ -159,9 +160,25 @@ pub record Begun (g : Engine) (d : Device) (v : World) (bs : List Bus) (i : ℕ)
   pub there : At bs index bus
   pub begins : begunIn d (before g d v bs index) bus ≡ op
 
--- a cycle that is refused, barred by VPP or SR.3, or locked
+-- a confirm, carried out or not: a write that asks for an operation
+abbrev pub IsConfirm : Device → World → Bus → Type 0
+IsConfirm d v b = (b .cycle .kind ≡ Write) × (askedIn d v b ≡ Nothing → ⊥)
+
+-- a cycle that is refused, or barred by VPP low or SR.3, or locked
 abbrev pub stopped : Device → World → Bus → Bool
 stopped d v b =
     (not (eqb (numberOf d (v .state) (b .cycle) (length (lent (d .part .word) (v .bytes))) (length (units (d .part .word) (b .residue)))) 0)
     || unsupplied (d .part) (b .cycle) (v .state))
     || locked (d .part) (b .cycle)
+
+-- a start that every cycle refuses: the device is not known, the array has not its length, or the state is improper
+abbrev pub wrongStart : Device → World → Bool
+wrongStart d v = (unknownDevice d || not (eqb (length (lent (d .part .word) (v .bytes))) (sizeOf (d .part)))) || improper d (v .state)
+
+-- the same on units, where the history of cycles is told
+abbrev pub onUnits : Device → World → World
+onUnits d v = worldOf (v .state) (lent (d .part .word) (v .bytes))
+
+abbrev pub busesOn : Device → List Bus → List Bus
+busesOn d [] = []
+busesOn d (b ∷ bs) = record { cycle = b .cycle; residue = units (d .part .word) (b .residue) } ∷ busesOn d bs
