@@ -1,6 +1,6 @@
 -- What is claimed of which byte may change, in one place: of either engine, any device number, both widths, any list of cycles with any
 -- residues, refused and cutting ones among them. Assumes nothing.
-use mathlib.Core.Path.{_≡_, ap}
+use mathlib.Core.Path.{_≡_, sym, ap, _∙_}
 use mathlib.Core.Bool.{true, false}
 use mathlib.Core.List.{List}
 use mathlib.Core.Logic.{_⊎_, _↔_}
@@ -16,6 +16,7 @@ use Rattle.model_types.specs.Phases.{isPending}
 use Rattle.model.specs.Begun.{operationOf}
 use Rattle.model_history.specs.History.{Bus, World, worldAfter}
 use Rattle.model_touch.specs.Touch.{Engine, byRules, byTable, Ours, afterAll, before, At, effectIn, begunIn, inUnit, inBlock, byteIn, Confirmed, Unlocked, Manual, Begun, IsConfirm, stopped, wrongStart, onUnits, busesOn}
+use Rattle.model_touch.proofs.Confirms.{held}
 use Rattle.model_touch.proofs.Manual as statement
 use Rattle.model_touch.proofs.Further as further
 use Rattle.model_touch.proofs.Engines.{one-engine, both}
@@ -32,6 +33,10 @@ boot-confirm o d v bs x = both (λ (g : Engine). (k : Confirmed g d v bs x) → 
 -- The bytes of a program are one byte, or in word mode the low and the high byte of one word, by the one way from word to byte addresses.
 pub own-bytes : (part : Part) (a x : ℕ) → (inUnit part a x ≡ true) ↔ ((x ≡ byteAt (part .word) a false) ⊎ (x ≡ byteAt (part .word) a true))
 own-bytes = further.own-bytes
+
+-- A byte is in one block alone.
+pub one-block : (part : Part) (j k x : ℕ) → inBlock part j x ≡ true → inBlock part k x ≡ true → j ≡ k
+one-block part j k x p q = sym (held part x j p) ∙ held part x k q
 
 -- An operation that ends or is cut was begun by an earlier cycle of the list.
 pub was-begun : {g : Engine} → Ours g → (d : Device) (v : World) (bs : List Bus) → isPending (v .state .phase) ≡ false

@@ -132,7 +132,7 @@ module _ (part : Part) (x : ℕ) where
   abbrev u : ℕ
   u = unitAt (part .word) x
 
-  held : (k : ℕ) → inBlock part k x ≡ true → blockOf part u ≡ k
+  pub held : (k : ℕ) → inBlock part k x ≡ true → blockOf part u ≡ k
   held k h =
       let i = inside (startOf part k) (lengthOf part k) u (sym (among-units (part .word) (startOf part k) (lengthOf part k) x) ∙ h) in
       lies part k u (i .0) (i .1)

@@ -5,4 +5,5 @@ pub mod Confirms
 pub mod Manual
 pub mod Further
 pub mod Engines
+pub mod Shown
 pub mod Claims
