@@ -9,14 +9,16 @@ use Rattle.common.specs.Lists.{Bytes}
 use Rattle.units.specs.Address.{byteAt}
 use Rattle.device.specs.declared.Part.{Part}
 use Rattle.device.specs.declared.Device.{Device}
-use Rattle.model_types.specs.declared.Effect.{Effect}
+use Rattle.device.specs.Parts.{blockOf}
+use Rattle.model_types.specs.declared.Phase.the-variants.{EraseAwaited, DataAwaited}
 use Rattle.model_types.specs.declared.Effect.the-variants.{Nothing}
 use Rattle.model_types.specs.Levels.{vppHigh}
 use Rattle.model_types.specs.Phases.{isPending}
+use Rattle.model_commands.specs.Commands.{commandOf}
 use Rattle.model.specs.Begun.{operationOf}
 use Rattle.model_history.specs.History.{Bus, World, worldAfter}
-use Rattle.model_touch.specs.Touch.{Engine, byRules, byTable, Ours, afterAll, before, At, effectIn, begunIn, inUnit, inBlock, byteIn, Confirmed, Unlocked, Manual, Begun, IsConfirm, stopped, wrongStart, onUnits, busesOn}
-use Rattle.model_touch.proofs.Confirms.{held}
+use Rattle.model_touch.specs.Touch.{Engine, byRules, byTable, Ours, afterAll, before, At, effectOn, begunOn, inUnit, inBlock, byteIn, Confirmed, Unlocked, Manual, Begun, IsConfirm, stopped, wrongStart, onUnits, busesOn}
+use Rattle.model_touch.proofs.Confirms.{held, asked-how}
 use Rattle.model_touch.proofs.Manual as statement
 use Rattle.model_touch.proofs.Further as further
 use Rattle.model_touch.proofs.Engines.{one-engine, both}
@@ -25,6 +27,12 @@ use Rattle.model_touch.proofs.Engines.{one-engine, both}
 -- the state may be improper. That the array holds bytes is what a lent slice is.
 pub manual : {g : Engine} → Ours g → (d : Device) (v : World) (bs : List Bus) → isPending (v .state .phase) ≡ false → Bytes (v .bytes) → Manual g d v bs
 manual o d v bs idle bytes = both (λ (g : Engine). Manual g d v bs) (statement.manual d v bs idle bytes) o
+
+-- A confirm on a byte is D0H after 20H at an address of its block, or data after 40H or 10H at the address of its unit.
+pub confirm-is : {g : Engine} {d : Device} {v : World} {bs : List Bus} {x : ℕ} (k : Confirmed g d v bs x)
+    → ((before g d v bs (k .index) .state .phase ≡ EraseAwaited) × (commandOf (k .bus .cycle) ≡ 0xD0) × (inBlock (d .part) (blockOf (d .part) (k .bus .cycle .address)) x ≡ true))
+    ⊎ ((before g d v bs (k .index) .state .phase ≡ DataAwaited) × (inUnit (d .part) (k .bus .cycle .address) x ≡ true))
+confirm-is {g} {d} {v} {bs} {x} k = asked-how (d .part) x (before g d v bs (k .index) .state .phase) (k .bus .cycle) (k .own)
 
 -- Every confirm on a boot byte was made unlocked, not only that of a byte that changed.
 pub boot-confirm : {g : Engine} → Ours g → (d : Device) (v : World) (bs : List Bus) (x : ℕ) (k : Confirmed g d v bs x) → inBlock (d .part) 0 x ≡ true → Unlocked k
@@ -40,9 +48,9 @@ one-block part j k x p q = sym (held part x j p) ∙ held part x k q
 
 -- An operation that ends or is cut was begun by an earlier cycle of the list.
 pub was-begun : {g : Engine} → Ours g → (d : Device) (v : World) (bs : List Bus) → isPending (v .state .phase) ≡ false
-    → (i : ℕ) (b : Bus) → (operationOf (effectIn d (before g d v bs i) b) ≡ Nothing → ⊥) → Begun g d v bs i (operationOf (effectIn d (before g d v bs i) b))
+    → (i : ℕ) (b : Bus) → (operationOf (effectOn d (before g d v bs i) b) ≡ Nothing → ⊥) → Begun g d v bs i (operationOf (effectOn d (before g d v bs i) b))
 was-begun o d v bs idle i b =
-    both (λ (g : Engine). (operationOf (effectIn d (before g d v bs i) b) ≡ Nothing → ⊥) → Begun g d v bs i (operationOf (effectIn d (before g d v bs i) b)))
+    both (λ (g : Engine). (operationOf (effectOn d (before g d v bs i) b) ≡ Nothing → ⊥) → Begun g d v bs i (operationOf (effectOn d (before g d v bs i) b)))
     (further.was-begun d v bs idle i b) o
 
 -- A byte that no operation was confirmed on is as it was at every point of the list.
@@ -67,9 +75,9 @@ all-stopped o d v bs idle bytes =
 
 -- .. and so does one that begins nothing.
 pub none-begun : {g : Engine} → Ours g → (d : Device) (v : World) (bs : List Bus) → isPending (v .state .phase) ≡ false → Bytes (v .bytes)
-    → ((i : ℕ) (b : Bus) → At bs i b → begunIn d (before g d v bs i) b ≡ Nothing) → (i : ℕ) → before g d v bs i .bytes ≡ v .bytes
+    → ((i : ℕ) (b : Bus) → At bs i b → begunOn d (before g d v bs i) b ≡ Nothing) → (i : ℕ) → before g d v bs i .bytes ≡ v .bytes
 none-begun o d v bs idle bytes =
-    both (λ (g : Engine). ((i : ℕ) (b : Bus) → At bs i b → begunIn d (before g d v bs i) b ≡ Nothing) → (i : ℕ) → before g d v bs i .bytes ≡ v .bytes)
+    both (λ (g : Engine). ((i : ℕ) (b : Bus) → At bs i b → begunOn d (before g d v bs i) b ≡ Nothing) → (i : ℕ) → before g d v bs i .bytes ≡ v .bytes)
     (further.none-begun d v bs idle bytes) o
 
 -- From an improper state, on an unknown device or an array of another length nothing changes, state nor bytes.

@@ -2,7 +2,8 @@
 use mathlib.Core.Path.{_≡_, refl, sym, ap, subst, _∙_}
 use mathlib.Core.Bool.{Bool, true, false, not, _&&_, _||_}
 use mathlib.Core.List.{List}
-use Prim.Native.Nat.{ℕ, _+_, _≤_, _<_}
+use mathlib.Core.Logic.{_⊎_, inl, inr, ⊎-elim}
+use Prim.Native.Nat.{ℕ}
 use native.Mathlib.Omega.{arith}
 use lib.ListN.{length}
 use lib.Dec.{eqb, ltb}
@@ -33,7 +34,7 @@ use Rattle.model.specs.Begun.{askedBy, startsOf, begunBy}
 use Rattle.model.proofs.Claims.{accepted-exactly}
 use Rattle.model_history.specs.History.{Bus, World}
 use Rattle.model_history.proofs.Wearing.{lies}
-use Rattle.model_touch.specs.Touch.{byRules, answerTo, begunIn, askedIn, inUnit, inBlock, isOn}
+use Rattle.model_touch.specs.Touch.{byRules, answerOn, begunOn, askedOn, inUnit, inBlock, isOn}
 use Rattle.model_touch.proofs.Pieces.{unitAt, among-units, inside}
 
 -- levels that are let pass: where VPP is not low it is high
@@ -93,12 +94,12 @@ module _ (part : Part) (x : ℕ) where
 -- a cycle that begins an operation on byte x
 pub record Begins (d : Device) (v : World) (b : Bus) : Type 0 where
   pub write : b .cycle .kind ≡ Write
-  pub accepted : Accepted (answerTo byRules d v b)
-  pub begins : begunIn d v b ≡ askedIn d v b
+  pub accepted : Accepted (answerOn byRules d v b)
+  pub begins : begunOn d v b ≡ askedOn d v b
   pub supplied : vppHigh (d .part) (b .cycle .pins) ≡ true
   pub open-to : locked (d .part) (b .cycle) ≡ false
 
-pub begins : (d : Device) (v : World) (b : Bus) (x : ℕ) → isOn (d .part) (begunIn d v b) x ≡ true → Begins d v b
+pub begins : (d : Device) (v : World) (b : Bus) (x : ℕ) → isOn (d .part) (begunOn d v b) x ≡ true → Begins d v b
 unfolding begunBy numberOf
 begins d v b x h =
     record {
@@ -140,17 +141,25 @@ module _ (part : Part) (x : ℕ) where
   own-unit : (a : ℕ) → inUnit part a x ≡ true → u ≡ a
   own-unit a h = let i = inside a 1 u (sym (among-units (part .word) a 1 x) ∙ h) in omega (arith, i .0, i .1)
 
-  boot-asked : (ph : Phase) (c : Cycle) → isOn part (askedBy ph part c) x ≡ true → inBlock part 0 x ≡ true → blockOf part (c .address) ≡ 0
-  boot-asked Free c h o = absurd (unlike (sym h))
-  boot-asked EraseAwaited c h o =
+  -- what a confirm on byte x is: D0H after 20H in the byte's block, or data after 40H or 10H at the byte's unit
+  pub asked-how : (ph : Phase) (c : Cycle) → isOn part (askedBy ph part c) x ≡ true
+      → ((ph ≡ EraseAwaited) × (commandOf c ≡ 0xD0) × (inBlock part (blockOf part (c .address)) x ≡ true)) ⊎ ((ph ≡ DataAwaited) × (inUnit part (c .address) x ≡ true))
+  asked-how Free c h = absurd (unlike (sym h))
+  asked-how EraseAwaited c h =
       let k = blockOf part (c .address) in
       let t = chosen part x (eqb (commandOf c) 0xD0) (Erase k) h in
-      sym (held k (subst (λ (e : Effect). isOn part e x ≡ true) (if-true (eqb (commandOf c) 0xD0) (Erase k) Nothing t) h)) ∙ held 0 o
-  boot-asked DataAwaited c h o = ap (blockOf part) (sym (own-unit (c .address) h)) ∙ held 0 o
-  boot-asked (Programming y) c h o = absurd (unlike (sym h))
-  boot-asked Erasing c h o = absurd (unlike (sym h))
-  boot-asked (Suspending n) c h o = absurd (unlike (sym h))
-  boot-asked Suspended c h o = absurd (unlike (sym h))
+      inl (refl, eqb-true (commandOf c) 0xD0 t, subst (λ (e : Effect). isOn part e x ≡ true) (if-true (eqb (commandOf c) 0xD0) (Erase k) Nothing t) h)
+  asked-how DataAwaited c h = inr (refl, h)
+  asked-how (Programming y) c h = absurd (unlike (sym h))
+  asked-how Erasing c h = absurd (unlike (sym h))
+  asked-how (Suspending n) c h = absurd (unlike (sym h))
+  asked-how Suspended c h = absurd (unlike (sym h))
+
+  boot-asked : (ph : Phase) (c : Cycle) → isOn part (askedBy ph part c) x ≡ true → inBlock part 0 x ≡ true → blockOf part (c .address) ≡ 0
+  boot-asked ph c h o =
+      ⊎-elim (λ (e : (ph ≡ EraseAwaited) × (commandOf c ≡ 0xD0) × (inBlock part (blockOf part (c .address)) x ≡ true)). sym (held (blockOf part (c .address)) (e .2)) ∙ held 0 o)
+      (λ (e : (ph ≡ DataAwaited) × (inUnit part (c .address) x ≡ true)). ap (blockOf part) (sym (own-unit (c .address) (e .1))) ∙ held 0 o)
+      (asked-how ph c h)
 
   -- so that it was unlocked, where it was begun
   pub boot-unlocked : (ph : Phase) (c : Cycle) → isOn part (askedBy ph part c) x ≡ true → inBlock part 0 x ≡ true → locked part c ≡ false → unlocked part (c .pins) (c .oe) ≡ true

@@ -1,17 +1,17 @@
 -- What follows beside the statement, by rules: bytes that stay, what was begun, wrong starts, the same on units. Assumes nothing.
-use mathlib.Core.Path.{_≡_, refl, sym, ap, ap₂, subst, _∙_}
+use mathlib.Core.Path.{_≡_, refl, sym, ap, ap₂, _∙_}
 use mathlib.Core.Bool.{Bool, true, false, not, _&&_, _||_}
 use mathlib.Core.List.{List, [], _∷_}
 use mathlib.Core.Logic.{_⊎_, inl, inr, ⊎-elim, _↔_}
 use Prim.Native.Nat.{ℕ, zero, suc, _+_, _*_, _≤_, _<_}
 use native.Mathlib.Omega.{arith}
-use lib.ListN.{length, getD, take}
+use lib.ListN.{length}
 use lib.Seq.{ext-getD}
 use lib.Dec.{eqb, ltb, leb}
-use borrow.Author.Tests.{eqb-true, eqb-false, eq-eqb, not-false, le-leb, lt-ltb}
+use borrow.Author.Tests.{eqb-true, eqb-false, eq-eqb, le-leb, lt-ltb}
 use Rattle.common.specs.Choice.{if_then_else_}
 use Rattle.common.specs.Lists.{Bytes}
-use Rattle.common.proofs.Choice.{if-true, if-false, if-same, and-left, and-right, unlike}
+use Rattle.common.proofs.Choice.{and-left, and-right, unlike}
 use Rattle.units.specs.Units.{units, lent}
 use Rattle.units.specs.Address.{byteAt}
 use Rattle.device.specs.declared.Part.{Part}
@@ -28,13 +28,13 @@ use Rattle.model_types.specs.States.{improper}
 use Rattle.model_commands.specs.Commands.{unsupplied}
 use Rattle.model_rules.specs.Cycles.{numberOf, decideOf}
 use Rattle.model_rules.proofs.Facts.{parts-proper}
-use Rattle.model.specs.Arrays.{isRefusal, answerOf, arrayAfter, bytesAfter}
-use Rattle.model.specs.Begun.{operationOf, pendingOf, askedBy, startsOf, begunBy}
+use Rattle.model.specs.Arrays.{isRefusal, answerOf}
+use Rattle.model.specs.Begun.{operationOf, pendingOf, startsOf, begunBy}
 use Rattle.model.proofs.Outcome.{outcome}
 use Rattle.model.proofs.Borders.{kept}
 use Rattle.model.proofs.Claims.{keeps-bytes, left-units}
-use Rattle.model_history.specs.History.{Bus, World, worldOf, stepped, worldAfter}
-use Rattle.model_touch.specs.Touch.{byRules, afterCycle, afterAll, before, At, effectIn, begunIn, askedIn, amongBytes, inUnit, isOn, byteIn, Confirmed, Begun, IsConfirm, stopped, wrongStart, onUnits, busesOn}
+use Rattle.model_history.specs.History.{Bus, World, worldOf, worldAfter}
+use Rattle.model_touch.specs.Touch.{byRules, afterCycle, afterAll, before, At, effectOn, begunOn, askedOn, amongBytes, inUnit, isOn, byteIn, Confirmed, Begun, IsConfirm, stopped, wrongStart, onUnits, busesOn}
 use Rattle.model_touch.proofs.Pieces.{inside}
 use Rattle.model_touch.proofs.Origins.{Origin, ended-origin}
 use Rattle.model_touch.proofs.Manual.{idle-none, changed}
@@ -46,7 +46,7 @@ long d [] (suc i) v = refl
 long d (b ∷ bs) (suc i) v = long d bs i (afterCycle byRules d v b) ∙ keeps-bytes d (v .state) (b .cycle) (v .bytes) (b .residue)
 
 -- a confirm that is stopped begins nothing
-stopped-none : (d : Device) (v : World) (b : Bus) → stopped d v b ≡ true → begunIn d v b ≡ Nothing
+stopped-none : (d : Device) (v : World) (b : Bus) → stopped d v b ≡ true → begunOn d v b ≡ Nothing
 unfolding begunBy startsOf
 stopped-none d v b e = go (eqb number 0) (unsupplied (d .part) (b .cycle) (v .state)) (locked (d .part) (b .cycle)) e
   where
@@ -60,11 +60,11 @@ stopped-none d v b e = go (eqb number 0) (unsupplied (d .part) (b .cycle) (v .st
     apart true = refl
     apart false = refl
 
-    go : (n u l : Bool) → ((not n || u) || l) ≡ true → (if n then (if (W && not u) && not l then askedIn d v b else Nothing) else Nothing) ≡ Nothing
+    go : (n u l : Bool) → ((not n || u) || l) ≡ true → (if n then (if (W && not u) && not l then askedOn d v b else Nothing) else Nothing) ≡ Nothing
     go false u l h = refl
     go true false false h = absurd (unlike (sym h))
-    go true true l h = ap (λ (t : Bool). if t && not l then askedIn d v b else Nothing) (apart W)
-    go true false true h = ap (λ (t : Bool). if t then askedIn d v b else Nothing) (apart (W && true))
+    go true true l h = ap (λ (t : Bool). if t && not l then askedOn d v b else Nothing) (apart W)
+    go true false true h = ap (λ (t : Bool). if t then askedOn d v b else Nothing) (apart (W && true))
 
 module _ (d : Device) (v : World) (bs : List Bus) (idle : isPending (v .state .phase) ≡ false) (bytes : Bytes (v .bytes)) where
   pub as-it-was : (x : ℕ) → (Confirmed byRules d v bs x → ⊥) → (i : ℕ) → byteIn (before byRules d v bs i) x ≡ byteIn v x
@@ -80,7 +80,7 @@ module _ (d : Device) (v : World) (bs : List Bus) (idle : isPending (v .state .p
   pub never-high : ((i : ℕ) (b : Bus) → At bs i b → vppHigh (d .part) (b .cycle .pins) ≡ false) → (i : ℕ) → before byRules d v bs i .bytes ≡ v .bytes
   never-high low = all-as-was (λ x k. unlike (sym (k .supplied) ∙ low (k .index) (k .bus) (k .there)))
 
-  pub none-begun : ((i : ℕ) (b : Bus) → At bs i b → begunIn d (before byRules d v bs i) b ≡ Nothing) → (i : ℕ) → before byRules d v bs i .bytes ≡ v .bytes
+  pub none-begun : ((i : ℕ) (b : Bus) → At bs i b → begunOn d (before byRules d v bs i) b ≡ Nothing) → (i : ℕ) → before byRules d v bs i .bytes ≡ v .bytes
   none-begun never = all-as-was (λ x k. unlike (sym (k .own) ∙ ap (λ (e : Effect). isOn (d .part) e x) (sym (k .begins) ∙ never (k .index) (k .bus) (k .there))))
 
   pub all-stopped : ((i : ℕ) (b : Bus) → At bs i b → IsConfirm d (before byRules d v bs i) b → stopped d (before byRules d v bs i) b ≡ true)
@@ -90,7 +90,7 @@ module _ (d : Device) (v : World) (bs : List Bus) (idle : isPending (v .state .p
       never : (x : ℕ) → Confirmed byRules d v bs x → ⊥
       never x k =
           let u : World = before byRules d v bs (k .index) in
-          let asks : askedIn d u (k .bus) ≡ Nothing → ⊥ = λ q. unlike (sym (k .own) ∙ ap (λ (e : Effect). isOn (d .part) e x) q) in
+          let asks : askedOn d u (k .bus) ≡ Nothing → ⊥ = λ q. unlike (sym (k .own) ∙ ap (λ (e : Effect). isOn (d .part) e x) q) in
           asks (sym (k .begins) ∙ stopped-none d u (k .bus) (stop (k .index) (k .bus) (k .there) (k .write, asks)))
 
 -- the same operation, as a test
@@ -143,8 +143,8 @@ same-self (CutErase k) n = eq-eqb k k refl
 
 -- what ends or is cut was begun by an earlier cycle of the list
 pub was-begun : (d : Device) (v : World) (bs : List Bus) → isPending (v .state .phase) ≡ false
-    → (i : ℕ) (b : Bus) → (operationOf (effectIn d (before byRules d v bs i) b) ≡ Nothing → ⊥)
-    → Begun byRules d v bs i (operationOf (effectIn d (before byRules d v bs i) b))
+    → (i : ℕ) (b : Bus) → (operationOf (effectOn d (before byRules d v bs i) b) ≡ Nothing → ⊥)
+    → Begun byRules d v bs i (operationOf (effectOn d (before byRules d v bs i) b))
 was-begun d v bs idle i b n =
     ⊎-elim
     (λ (p : sameAs op (pendingOf (d .part) (v .state)) ≡ true). absurd (unlike (sym p ∙ ap (sameAs op) (idle-none (v .state .phase) (d .part) (v .state .address) idle) ∙ same-none op)))
@@ -153,12 +153,12 @@ was-begun d v bs idle i b n =
       sooner = o .sooner;
       bus = o .bus;
       there = o .there;
-      begins = same-is op (begunIn d (before byRules d v bs (o .index)) (o .bus)) (o .hit);
+      begins = same-is op (begunOn d (before byRules d v bs (o .index)) (o .bus)) (o .hit);
     })
-    (ended-origin (sameAs op) (same-none op) d bs i v b (same-self (effectIn d (before byRules d v bs i) b) n))
+    (ended-origin (sameAs op) (same-none op) d bs i v b (same-self (effectOn d (before byRules d v bs i) b) n))
   where
     op : Effect
-    op = operationOf (effectIn d (before byRules d v bs i) b)
+    op = operationOf (effectOn d (before byRules d v bs i) b)
 
 -- a wrong start refuses every cycle, and nothing changes
 wrong-cycle : (d : Device) (v : World) (b : Bus) → wrongStart d v ≡ true → afterCycle byRules d v b ≡ v

@@ -1,28 +1,23 @@
--- The manual's statement by rules, and what else follows from the same laws. Assumes nothing.
+-- The manual's statement, by rules. Assumes nothing.
 use mathlib.Core.Path.{_≡_, refl, sym, ap, subst, _∙_}
-use mathlib.Core.Bool.{Bool, true, false, not, _&&_, _||_}
+use mathlib.Core.Bool.{Bool, true, false}
 use mathlib.Core.List.{List, [], _∷_}
-use mathlib.Core.Logic.{_⊎_, inl, inr, ⊎-elim}
-use Prim.Native.Nat.{ℕ, zero, suc, _+_, _<_}
-use native.Mathlib.Omega.{arith}
-use lib.ListN.{length, getD, take}
-use lib.Seq.{take-length, ext-getD}
-use lib.Dec.{eqb}
-use borrow.Author.Tests.{eqb-true, eqb-false, eq-eqb}
-use Rattle.common.specs.Choice.{if_then_else_}
+use mathlib.Core.Logic.{_⊎_, ⊎-elim}
+use Prim.Native.Nat.{ℕ, zero, suc}
+use lib.ListN.{length}
+use lib.Seq.{take-length}
 use Rattle.common.specs.Lists.{Bytes}
-use Rattle.common.proofs.Choice.{if-true, if-false, if-same, and-left, and-right, unlike}
-use Rattle.units.specs.Units.{units, lent}
+use Rattle.common.proofs.Choice.{unlike}
 use Rattle.device.specs.declared.Part.{Part}
 use Rattle.device.specs.declared.Device.{Device}
 use Rattle.model_types.specs.declared.Phase.{Phase}
 use Rattle.model_types.specs.declared.Phase.the-variants.{Free, EraseAwaited, DataAwaited, Programming, Erasing, Suspending, Suspended}
 use Rattle.model_types.specs.declared.Effect.{Effect}
-use Rattle.model_types.specs.declared.Effect.the-variants.{Nothing, Program, Erase, CutProgram, CutErase}
+use Rattle.model_types.specs.declared.Effect.the-variants.{Nothing, Program, Erase, CutProgram}
 use Rattle.model_types.specs.Phases.{isPending}
 use Rattle.model.specs.Begun.{operationOf, pendingIn, pendingOf}
 use Rattle.model_history.specs.History.{Bus, World}
-use Rattle.model_touch.specs.Touch.{byRules, afterCycle, afterAll, before, At, effectIn, begunIn, inUnit, inBlock, isOn, byteIn, Differs, TouchesOnly, OnlyClears, Confirmed, Unlocked, Manual}
+use Rattle.model_touch.specs.Touch.{byRules, afterCycle, afterAll, before, effectOn, inUnit, inBlock, isOn, byteIn, Differs, TouchesOnly, OnlyClears, Confirmed, Unlocked, Manual}
 use Rattle.model_touch.proofs.Pieces.{erases}
 use Rattle.model_touch.proofs.Steps.{Whole, bytes-whole, stays-whole, byte-kept, byte-clears, all-kept}
 use Rattle.model_touch.proofs.Origins.{Origin, on-operation, changed-origin}
@@ -52,9 +47,6 @@ boot-confirm {d} {v} {bs} {x} k o =
     (begins d u (k .bus) x (subst (λ (e : Effect). isOn (d .part) e x ≡ true) (sym (k .begins)) (k .own)) .open-to)
 
 module _ (d : Device) (v : World) (bs : List Bus) (idle : isPending (v .state .phase) ≡ false) (bytes : Bytes (v .bytes)) where
-  w : Bool
-  w = d .part .word
-
   none : pendingOf (d .part) (v .state) ≡ Nothing
   none = idle-none (v .state .phase) (d .part) (v .state .address) idle
 
@@ -90,18 +82,18 @@ module _ (d : Device) (v : World) (bs : List Bus) (idle : isPending (v .state .p
     whole : Whole (d .part .word) (u .bytes)
     whole = whole-before d bs i v (bytes-whole (d .part .word) (v .bytes) bytes)
 
-    touches : (own : ℕ → Bool) → ((x : ℕ) → isOn (d .part) (effectIn d u b) x ≡ own x) → TouchesOnly own u (afterCycle byRules d u b)
+    touches : (own : ℕ → Bool) → ((x : ℕ) → isOn (d .part) (effectOn d u b) x ≡ own x) → TouchesOnly own u (afterCycle byRules d u b)
     touches own e x o = byte-kept d u b whole x (e x ∙ o)
 
-    program : (e : Effect) (a : ℕ) → effectIn d u b ≡ e → erases e ≡ false → ((x : ℕ) → isOn (d .part) e x ≡ inUnit (d .part) a x)
+    program : (e : Effect) (a : ℕ) → effectOn d u b ≡ e → erases e ≡ false → ((x : ℕ) → isOn (d .part) e x ≡ inUnit (d .part) a x)
         → OnlyClears u (afterCycle byRules d u b) × TouchesOnly (inUnit (d .part) a) u (afterCycle byRules d u b)
     program e a q h o = (
       λ x. byte-clears d u b whole (ap erases q ∙ h) x,
       touches (inUnit (d .part) a) (λ x. ap (λ (z : Effect). isOn (d .part) z x) q ∙ o x),
     )
 
-    erase : (k : ℕ) → operationOf (effectIn d u b) ≡ Erase k → TouchesOnly (inBlock (d .part) k) u (afterCycle byRules d u b)
-    erase k q = touches (inBlock (d .part) k) (λ x. sym (on-operation (d .part) (effectIn d u b) x) ∙ ap (λ (z : Effect). isOn (d .part) z x) q)
+    erase : (k : ℕ) → operationOf (effectOn d u b) ≡ Erase k → TouchesOnly (inBlock (d .part) k) u (afterCycle byRules d u b)
+    erase k q = touches (inBlock (d .part) k) (λ x. sym (on-operation (d .part) (effectOn d u b) x) ∙ ap (λ (z : Effect). isOn (d .part) z x) q)
 
   pub manual : Manual byRules d v bs
   manual =

@@ -9,13 +9,12 @@ use lib.ListN.{length, getD, take, set, replicate, length-replicate}
 use lib.Seq.{length-take-le, getD-set-same, getD-set-other, set-out}
 use lib.Bits.{bitAnd, bitOr, and-self, and-mod, and-shr}
 use lib.Dec.{eqb, ltb, leb}
-use borrow.Author.Tests.{eqb-true, eqb-false, eq-eqb, ltb-true, ltb-false, lt-ltb, le-ltb, leb-true, leb-false, le-leb, lt-leb}
+use borrow.Author.Tests.{eqb-true, eqb-false, ltb-true, ltb-false, lt-ltb, le-ltb, leb-true, leb-false, le-leb, lt-leb}
 use Rattle.common.specs.Choice.{if_then_else_}
 use Rattle.common.specs.Lists.{overlaid}
 use Rattle.common.proofs.Choice.{unlike, and-left, and-right}
 use Rattle.common.proofs.Bytes.{overlaid-before, overlaid-after}
-use Rattle.units.specs.Units.{halves, back, bytesIn}
-use Rattle.units.specs.Address.{byteOf}
+use Rattle.units.specs.Units.{halves, back}
 use Rattle.device.specs.declared.Part.{Part}
 use Rattle.device.specs.Parts.{startOf, lengthOf}
 use Rattle.device.proofs.Claims.{blocks-end-inside}

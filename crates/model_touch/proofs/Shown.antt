@@ -20,7 +20,7 @@ use Rattle.model_rules.specs.Cycles.{pastArray, shortResidue, noCommand, suspen
 use Rattle.model.specs.Arrays.{erased, residual, arrayAfter, answerOf, bytesAfter}
 use Rattle.model.specs.Begun.{startsOf, begunBy}
 use Rattle.model_history.specs.History.{Bus, World}
-use Rattle.model_touch.specs.Touch.{byRules, before, begunIn, amongBytes, inBlock, isOn, byteIn}
+use Rattle.model_touch.specs.Touch.{byRules, before, begunOn, amongBytes, inBlock, isOn, byteIn}
 
 abbrev bench : Device
 bench = record { part = record { number = 3; word = false }; program = 1; erase = 1; suspend = 1 }
@@ -40,7 +40,7 @@ cycles =
 
 -- cycle i of it begins an operation on byte x
 abbrev starts : ℕ → Bus → ℕ → Bool
-starts i b x = isOn (bench .part) (begunIn bench (before byRules bench start cycles i) b) x
+starts i b x = isOn (bench .part) (begunOn bench (before byRules bench start cycles i) b) x
 
 shown : (eqb (byteIn (before byRules bench start cycles 9) 0x3A00) 0x5A
     && eqb (byteIn (before byRules bench start cycles 7) 0x3C00) 0xFF

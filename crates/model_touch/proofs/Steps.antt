@@ -12,11 +12,11 @@ use Rattle.device.specs.declared.Device.{Device}
 use Rattle.model_types.specs.declared.Effect.{Effect}
 use Rattle.model_types.specs.declared.Effect.the-variants.{Nothing}
 use Rattle.model_rules.specs.Cycles.{decideOf}
-use Rattle.model.specs.Arrays.{arrayOf, isRefusal, arrayAfter, bytesAfter}
+use Rattle.model.specs.Arrays.{arrayOf, isRefusal, arrayAfter}
 use Rattle.model.proofs.Reach.{within}
 use Rattle.model.proofs.Borders.{sized-whole, done-sized, kept, done}
 use Rattle.model_history.specs.History.{Bus, World}
-use Rattle.model_touch.specs.Touch.{byRules, afterCycle, effectIn, isOn, byteIn}
+use Rattle.model_touch.specs.Touch.{byRules, afterCycle, effectOn, isOn, byteIn}
 use Rattle.model_touch.proofs.Pieces.{unitAt, piece, piece-at, unit-kept, erases, unit-clears, piece-clears}
 
 -- bytes that are those of their units, where they are a whole number of them
@@ -41,7 +41,7 @@ module _ (d : Device) (v : World) (b : Bus) where
 
   -- the units that the effect leaves
   abbrev os : List ℕ
-  os = arrayOf (effectIn d v b) (d .part) ts us
+  os = arrayOf (effectOn d v b) (d .part) ts us
 
   abbrev ys : List ℕ
   ys = afterCycle byRules d v b .bytes
@@ -66,22 +66,22 @@ module _ (d : Device) (v : World) (b : Bus) where
       go false r = subst (Whole w) (sym (is r)) (λ t. ap (back w) (units-back w os))
 
   -- a byte that the effect is not on stays
-  pub byte-kept : Whole w (v .bytes) → (x : ℕ) → isOn (d .part) (effectIn d v b) x ≡ false → byteIn (afterCycle byRules d v b) x ≡ byteIn v x
+  pub byte-kept : Whole w (v .bytes) → (x : ℕ) → isOn (d .part) (effectOn d v b) x ≡ false → byteIn (afterCycle byRules d v b) x ≡ byteIn v x
   byte-kept k x o = go refuses refl
     where
       go : (t : Bool) → refuses ≡ t → getD ys x 0 ≡ byteIn v x
       go true r = ap (λ (zs : List ℕ). getD zs x 0) (refused r)
       go false r =
           ap (λ (zs : List ℕ). getD zs x 0) (is r) ∙ piece-at w os x
-          ∙ ap (piece w x) (unit-kept (effectIn d v b) (d .part) ts us x (within d (v .state) (b .cycle) (length us) (length ts)) o)
+          ∙ ap (piece w x) (unit-kept (effectOn d v b) (d .part) ts us x (within d (v .state) (b .cycle) (length us) (length ts)) o)
           ∙ sym (piece-at w us x) ∙ ap (λ (zs : List ℕ). getD zs x 0) (was k r)
 
   -- an effect that is no erase only clears bits
-  pub byte-clears : Whole w (v .bytes) → erases (effectIn d v b) ≡ false → (x : ℕ) → bitAnd (byteIn v x) (byteIn (afterCycle byRules d v b) x) ≡ byteIn (afterCycle byRules d v b) x
+  pub byte-clears : Whole w (v .bytes) → erases (effectOn d v b) ≡ false → (x : ℕ) → bitAnd (byteIn v x) (byteIn (afterCycle byRules d v b) x) ≡ byteIn (afterCycle byRules d v b) x
   byte-clears k h x = go refuses refl
     where
       pieces : bitAnd (piece w x (getD us (unitAt w x) 0)) (piece w x (getD os (unitAt w x) 0)) ≡ piece w x (getD os (unitAt w x) 0)
-      pieces = piece-clears w x (getD us (unitAt w x) 0) (getD os (unitAt w x) 0) (unit-clears (effectIn d v b) (d .part) ts us (unitAt w x) h)
+      pieces = piece-clears w x (getD us (unitAt w x) 0) (getD os (unitAt w x) 0) (unit-clears (effectOn d v b) (d .part) ts us (unitAt w x) h)
 
       go : (t : Bool) → refuses ≡ t → bitAnd (byteIn v x) (getD ys x 0) ≡ getD ys x 0
       go true r = rw (refused r) (and-self (byteIn v x))
@@ -91,7 +91,7 @@ module _ (d : Device) (v : World) (b : Bus) where
           ap₂ (λ (m n : ℕ). bitAnd m n) p q ∙ pieces ∙ sym q
 
   -- no effect leaves all bytes
-  pub all-kept : Whole w (v .bytes) → effectIn d v b ≡ Nothing → ys ≡ v .bytes
+  pub all-kept : Whole w (v .bytes) → effectOn d v b ≡ Nothing → ys ≡ v .bytes
   all-kept k e = go refuses refl
     where
       go : (t : Bool) → refuses ≡ t → ys ≡ v .bytes

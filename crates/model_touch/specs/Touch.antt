@@ -45,12 +45,12 @@ pub data Ours : Engine → Type 0 where
   table : Ours byTable
 
 -- an engine's answer to a cycle on lent bytes
-abbrev pub answerTo : Engine → Device → World → Bus → Answer
-answerTo g d v b = g .answer d (v .state) (b .cycle) (lent (d .part .word) (v .bytes)) (units (d .part .word) (b .residue))
+abbrev pub answerOn : Engine → Device → World → Bus → Answer
+answerOn g d v b = g .answer d (v .state) (b .cycle) (lent (d .part .word) (v .bytes)) (units (d .part .word) (b .residue))
 
 -- a device with its lent bytes after one cycle
 abbrev pub afterCycle : Engine → Device → World → Bus → World
-afterCycle g d v b = worldOf (answerTo g d v b .state) (g .leaves d (v .state) (b .cycle) (v .bytes) (b .residue))
+afterCycle g d v b = worldOf (answerOn g d v b .state) (g .leaves d (v .state) (b .cycle) (v .bytes) (b .residue))
 
 -- .. after a list of them
 abbrev pub afterAll : Engine → Device → World → List Bus → World
@@ -68,16 +68,16 @@ At (c ∷ bs) zero b = c ≡ b
 At (c ∷ bs) (suc i) b = At bs i b
 
 -- what a cycle does to the array: an operation ends or is cut, or nothing
-abbrev pub effectIn : Device → World → Bus → Effect
-effectIn d v b = decideOf d (v .state) (b .cycle) (length (lent (d .part .word) (v .bytes))) (length (units (d .part .word) (b .residue))) .effect
+abbrev pub effectOn : Device → World → Bus → Effect
+effectOn d v b = decideOf d (v .state) (b .cycle) (length (lent (d .part .word) (v .bytes))) (length (units (d .part .word) (b .residue))) .effect
 
 -- the operation that it begins
-abbrev pub begunIn : Device → World → Bus → Effect
-begunIn d v b = begunBy d (v .state) (b .cycle) (length (lent (d .part .word) (v .bytes))) (length (units (d .part .word) (b .residue)))
+abbrev pub begunOn : Device → World → Bus → Effect
+begunOn d v b = begunBy d (v .state) (b .cycle) (length (lent (d .part .word) (v .bytes))) (length (units (d .part .word) (b .residue)))
 
 -- the operation that it asks for at its own address: after 20H an erase by D0H, after 40H or 10H a program of its data
-abbrev pub askedIn : Device → World → Bus → Effect
-askedIn d v b = askedBy (v .state .phase) (d .part) (b .cycle)
+abbrev pub askedOn : Device → World → Bus → Effect
+askedOn d v b = askedBy (v .state .phase) (d .part) (b .cycle)
 
 -- byte x is one of the bytes of n units from unit a on
 unfoldable pub amongBytes : Bool → ℕ → ℕ → ℕ → Bool
@@ -122,9 +122,9 @@ pub record Confirmed (g : Engine) (d : Device) (v : World) (bs : List Bus) (x : 
   pub bus : Bus
   pub there : At bs index bus
   pub write : bus .cycle .kind ≡ Write
-  pub accepted : Accepted (answerTo g d (before g d v bs index) bus)
-  pub begins : begunIn d (before g d v bs index) bus ≡ askedIn d (before g d v bs index) bus
-  pub own : isOn (d .part) (askedIn d (before g d v bs index) bus) x ≡ true
+  pub accepted : Accepted (answerOn g d (before g d v bs index) bus)
+  pub begins : begunOn d (before g d v bs index) bus ≡ askedOn d (before g d v bs index) bus
+  pub own : isOn (d .part) (askedOn d (before g d v bs index) bus) x ≡ true
   pub supplied : vppHigh (d .part) (bus .cycle .pins) ≡ true
 
 -- a confirm was made unlocked: by the levels of its own cycle
@@ -133,23 +133,23 @@ Unlocked {d = d} k = unlocked (d .part) (k .bus .cycle .pins) (k .bus .cycle .oe
 
 -- the statement, a field for each sentence, of the cycles bs from v on by an engine; two fields more than it has sentences
 pub record Manual (g : Engine) (d : Device) (v : World) (bs : List Bus) : Type 0 where
-  -- A byte changes only if an operation on it, or on its block, was confirmed with VPP high.
+  -- A byte changes only where an operation on it, or on its block, was confirmed, and VPP was high at that confirm.
   pub byte-changes : (x : ℕ) → Differs v (afterAll g d v bs) x → Confirmed g d v bs x
-  -- A boot byte changes only if that confirm was made unlocked.
+  -- A byte of the boot block changes only where that confirm was made unlocked.
   pub boot-byte : (x : ℕ) (h : Differs v (afterAll g d v bs) x) → inBlock (d .part) 0 x ≡ true → Unlocked (byte-changes x h)
-  -- An uncut program only clears bits and touches one byte, or one word.
-  pub program : (i : ℕ) (b : Bus) → At bs i b → (a y : ℕ) → effectIn d (before g d v bs i) b ≡ Program a y
+  -- A program that is not cut only clears bits, and touches one byte, or in word mode one word.
+  pub program : (i : ℕ) (b : Bus) → At bs i b → (a y : ℕ) → effectOn d (before g d v bs i) b ≡ Program a y
       → OnlyClears (before g d v bs i) (afterCycle g d (before g d v bs i) b)
       × TouchesOnly (inUnit (d .part) a) (before g d v bs i) (afterCycle g d (before g d v bs i) b)
-  -- An erase, cut or not, touches its own block alone.
-  pub erase : (i : ℕ) (b : Bus) → At bs i b → (k : ℕ) → operationOf (effectIn d (before g d v bs i) b) ≡ Erase k
+  -- An erase touches its own block and nothing else, whether it is cut or not.
+  pub erase : (i : ℕ) (b : Bus) → At bs i b → (k : ℕ) → operationOf (effectOn d (before g d v bs i) b) ≡ Erase k
       → TouchesOnly (inBlock (d .part) k) (before g d v bs i) (afterCycle g d (before g d v bs i) b)
-  -- A cut program too only clears bits and touches one byte, or one word.
-  pub cut-program : (i : ℕ) (b : Bus) → At bs i b → (a y : ℕ) → effectIn d (before g d v bs i) b ≡ CutProgram a y
+  -- A program that is cut only clears bits too, and touches no more.
+  pub cut-program : (i : ℕ) (b : Bus) → At bs i b → (a y : ℕ) → effectOn d (before g d v bs i) b ≡ CutProgram a y
       → OnlyClears (before g d v bs i) (afterCycle g d (before g d v bs i) b)
       × TouchesOnly (inUnit (d .part) a) (before g d v bs i) (afterCycle g d (before g d v bs i) b)
-  -- A cycle in which no operation ends or is cut touches nothing.
-  pub no-effect : (i : ℕ) (b : Bus) → At bs i b → effectIn d (before g d v bs i) b ≡ Nothing
+  -- A cycle in which no operation ends and none is cut touches nothing.
+  pub no-effect : (i : ℕ) (b : Bus) → At bs i b → effectOn d (before g d v bs i) b ≡ Nothing
       → afterCycle g d (before g d v bs i) b .bytes ≡ before g d v bs i .bytes
 
 -- an operation that the cycle at a place in front of place i begins
@@ -158,11 +158,11 @@ pub record Begun (g : Engine) (d : Device) (v : World) (bs : List Bus) (i : ℕ)
   pub sooner : index < i
   pub bus : Bus
   pub there : At bs index bus
-  pub begins : begunIn d (before g d v bs index) bus ≡ op
+  pub begins : begunOn d (before g d v bs index) bus ≡ op
 
 -- a confirm, carried out or not: a write that asks for an operation
 abbrev pub IsConfirm : Device → World → Bus → Type 0
-IsConfirm d v b = (b .cycle .kind ≡ Write) × (askedIn d v b ≡ Nothing → ⊥)
+IsConfirm d v b = (b .cycle .kind ≡ Write) × (askedOn d v b ≡ Nothing → ⊥)
 
 -- a cycle that is refused, or barred by VPP low or SR.3, or locked
 abbrev pub stopped : Device → World → Bus → Bool
