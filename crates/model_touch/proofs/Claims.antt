@@ -17,7 +17,7 @@ use Rattle.model_types.specs.Phases.{isPending}
 use Rattle.model_commands.specs.Commands.{commandOf}
 use Rattle.model.specs.Begun.{operationOf}
 use Rattle.model_history.specs.History.{Bus, World, worldAfter}
-use Rattle.model_touch.specs.Touch.{Engine, byRules, byTable, Ours, afterAll, before, At, effectOn, begunOn, inUnit, inBlock, byteIn, Confirmed, Unlocked, Manual, Begun, IsConfirm, stopped, wrongStart, onUnits, busesOn}
+use Rattle.model_touch.specs.Touch.{Engine, byRules, byTable, Ours, afterCycle, afterAll, before, At, effectOn, begunOn, inUnit, inBlock, byteIn, Differs, Confirmed, ConfirmedBefore, Unlocked, Manual, Begun, IsConfirm, stopped, wrongStart, onUnits, busesOn}
 use Rattle.model_touch.proofs.Confirms.{held, asked-how}
 use Rattle.model_touch.proofs.Manual as statement
 use Rattle.model_touch.proofs.Further as further
@@ -45,6 +45,19 @@ own-bytes = further.own-bytes
 -- A byte is in one block alone.
 pub one-block : (part : Part) (j k x : ℕ) → inBlock part j x ≡ true → inBlock part k x ≡ true → j ≡ k
 one-block part j k x p q = sym (held part x j p) ∙ held part x k q
+
+-- A byte that differs at a point of the list was confirmed by one of the cycles in front of it ..
+pub confirm-sooner : {g : Engine} → Ours g → (d : Device) (v : World) (bs : List Bus) → isPending (v .state .phase) ≡ false → Bytes (v .bytes)
+    → (i x : ℕ) → Differs v (before g d v bs i) x → ConfirmedBefore g d v bs i x
+confirm-sooner o d v bs idle bytes i x =
+    both (λ (g : Engine). Differs v (before g d v bs i) x → ConfirmedBefore g d v bs i x) (statement.changed d v bs idle bytes i x) o
+
+-- .. and so was one that a cycle at that point changes: the cycle that changes a byte comes after its confirm.
+pub confirm-earlier : {g : Engine} → Ours g → (d : Device) (v : World) (bs : List Bus) → isPending (v .state .phase) ≡ false → Bytes (v .bytes)
+    → (i : ℕ) (b : Bus) (x : ℕ) → Differs (before g d v bs i) (afterCycle g d (before g d v bs i) b) x → ConfirmedBefore g d v bs i x
+confirm-earlier o d v bs idle bytes i b x =
+    both (λ (g : Engine). Differs (before g d v bs i) (afterCycle g d (before g d v bs i) b) x → ConfirmedBefore g d v bs i x)
+    (statement.changed-in d v bs idle bytes i b x) o
 
 -- An operation that ends or is cut was begun by an earlier cycle of the list.
 pub was-begun : {g : Engine} → Ours g → (d : Device) (v : World) (bs : List Bus) → isPending (v .state .phase) ≡ false

@@ -72,7 +72,7 @@ module _ (d : Device) (v : World) (bs : List Bus) (idle : isPending (v .state .p
     where
       go : (t : Bool) → eqb (byteIn (before byRules d v bs i) x) (byteIn v x) ≡ t → byteIn (before byRules d v bs i) x ≡ byteIn v x
       go true e = eqb-true _ _ e
-      go false e = absurd (never (changed d v bs idle bytes i x (eqb-false _ _ e)))
+      go false e = absurd (never (changed d v bs idle bytes i x (eqb-false _ _ e) .confirm))
 
   all-as-was : ((x : ℕ) → Confirmed byRules d v bs x → ⊥) → (i : ℕ) → before byRules d v bs i .bytes ≡ v .bytes
   all-as-was never i = ext-getD 0 (before byRules d v bs i .bytes) (v .bytes) (long d bs i v) (λ x l. as-it-was x (never x) i)

@@ -17,10 +17,10 @@ use Rattle.model_types.specs.declared.Effect.the-variants.{Nothing, Program, Er
 use Rattle.model_types.specs.Phases.{isPending}
 use Rattle.model.specs.Begun.{operationOf, pendingIn, pendingOf}
 use Rattle.model_history.specs.History.{Bus, World}
-use Rattle.model_touch.specs.Touch.{byRules, afterCycle, afterAll, before, effectOn, inUnit, inBlock, isOn, byteIn, Differs, TouchesOnly, OnlyClears, Confirmed, Unlocked, Manual}
+use Rattle.model_touch.specs.Touch.{byRules, afterCycle, afterAll, before, effectOn, inUnit, inBlock, isOn, byteIn, Differs, TouchesOnly, OnlyClears, Confirmed, ConfirmedBefore, Unlocked, Manual}
 use Rattle.model_touch.proofs.Pieces.{erases}
 use Rattle.model_touch.proofs.Steps.{Whole, bytes-whole, stays-whole, byte-kept, byte-clears, all-kept}
-use Rattle.model_touch.proofs.Origins.{Origin, on-operation, changed-origin}
+use Rattle.model_touch.proofs.Origins.{Origin, on-operation, ended-origin, changed-origin}
 use Rattle.model_touch.proofs.Confirms.{Begins, begins, boot-unlocked}
 
 -- nothing is pending where no operation is running, being suspended or suspended
@@ -50,30 +50,46 @@ module _ (d : Device) (v : World) (bs : List Bus) (idle : isPending (v .state .p
   none : pendingOf (d .part) (v .state) ≡ Nothing
   none = idle-none (v .state .phase) (d .part) (v .state .address) idle
 
-  -- a byte that differs before place i, or at the end
-  pub changed : (i x : ℕ) → Differs v (before byRules d v bs i) x → Confirmed byRules d v bs x
-  changed i x h =
+  -- a confirm, from where what is on byte x was begun
+  confirm : (i x : ℕ) → (isOn (d .part) (pendingOf (d .part) (v .state)) x ≡ true) ⊎ Origin (λ (e : Effect). isOn (d .part) e x) refl d v bs i → ConfirmedBefore byRules d v bs i x
+  confirm i x =
       ⊎-elim (λ (p : isOn (d .part) (pendingOf (d .part) (v .state)) x ≡ true). absurd (unlike (sym p ∙ ap (λ (e : Effect). isOn (d .part) e x) none)))
-      (λ (o : Origin (λ (e : Effect). isOn (d .part) e x) refl d v bs i). confirm o)
-      (changed-origin d x bs i v (bytes-whole (d .part .word) (v .bytes) bytes) h)
+      (λ (o : Origin (λ (e : Effect). isOn (d .part) e x) refl d v bs i). made o)
     where
-      confirm : Origin (λ (e : Effect). isOn (d .part) e x) refl d v bs i → Confirmed byRules d v bs x
-      confirm o =
+      made : Origin (λ (e : Effect). isOn (d .part) e x) refl d v bs i → ConfirmedBefore byRules d v bs i x
+      made o =
           let u : World = before byRules d v bs (o .index) in
           let q : Begins d u (o .bus) = begins d u (o .bus) x (o .hit) in
           record {
-            index = o .index;
-            bus = o .bus;
-            there = o .there;
-            write = q .write;
-            accepted = q .accepted;
-            begins = q .begins;
-            own = subst (λ (e : Effect). isOn (d .part) e x ≡ true) (q .begins) (o .hit);
-            supplied = q .supplied;
+            confirm = record {
+              index = o .index;
+              bus = o .bus;
+              there = o .there;
+              write = q .write;
+              accepted = q .accepted;
+              begins = q .begins;
+              own = subst (λ (e : Effect). isOn (d .part) e x ≡ true) (q .begins) (o .hit);
+              supplied = q .supplied;
+            };
+            sooner = o .sooner;
           }
 
+  -- a byte that differs before place i, and one that cycle i changes
+  pub changed : (i x : ℕ) → Differs v (before byRules d v bs i) x → ConfirmedBefore byRules d v bs i x
+  changed i x h = confirm i x (changed-origin d x bs i v (bytes-whole (d .part .word) (v .bytes) bytes) h)
+
+  pub changed-in : (i : ℕ) (b : Bus) (x : ℕ) → Differs (before byRules d v bs i) (afterCycle byRules d (before byRules d v bs i) b) x → ConfirmedBefore byRules d v bs i x
+  changed-in i b x h = go (isOn (d .part) (effectOn d u b) x) refl
+    where
+      u : World
+      u = before byRules d v bs i
+
+      go : (t : Bool) → isOn (d .part) (effectOn d u b) x ≡ t → ConfirmedBefore byRules d v bs i x
+      go true e = confirm i x (ended-origin (λ (z : Effect). isOn (d .part) z x) refl d bs i v b (on-operation (d .part) (effectOn d u b) x ∙ e))
+      go false e = absurd (h (byte-kept d u b (whole-before d bs i v (bytes-whole (d .part .word) (v .bytes) bytes)) x e))
+
   changed-end : (x : ℕ) → Differs v (afterAll byRules d v bs) x → Confirmed byRules d v bs x
-  changed-end x h = changed (length bs) x (λ q. h (sym (ap (λ (cs : List Bus). byteIn (afterAll byRules d v cs) x) (take-length bs)) ∙ q))
+  changed-end x h = changed (length bs) x (λ q. h (sym (ap (λ (cs : List Bus). byteIn (afterAll byRules d v cs) x) (take-length bs)) ∙ q)) .confirm
 
   module _ (i : ℕ) (b : Bus) where
     abbrev u : World

@@ -127,6 +127,11 @@ pub record Confirmed (g : Engine) (d : Device) (v : World) (bs : List Bus) (x : 
   pub own : isOn (d .part) (askedOn d (before g d v bs index) bus) x ≡ true
   pub supplied : vppHigh (d .part) (bus .cycle .pins) ≡ true
 
+-- .. in front of place i of the list
+pub record ConfirmedBefore (g : Engine) (d : Device) (v : World) (bs : List Bus) (i x : ℕ) : Type 0 where
+  pub confirm : Confirmed g d v bs x
+  pub sooner : confirm .index < i
+
 -- a confirm was made unlocked: by the levels of its own cycle
 abbrev pub Unlocked : {g : Engine} {d : Device} {v : World} {bs : List Bus} {x : ℕ} → Confirmed g d v bs x → Type 0
 Unlocked {d = d} k = unlocked (d .part) (k .bus .cycle .pins) (k .bus .cycle .oe) ≡ true
