@@ -95,6 +95,15 @@ cycleStated xs =
 unfoldable pub readLine : List ℕ → LineRead
 readLine xs = if isLine xs then Stated (cycleStated xs) else NotALine
 
+-- a line read by its cases: the cycle stated, or nothing; the page has no number for a line that is none
+abbrev pub lineTold : LineRead → List Cycle
+lineTold NotALine = []
+lineTold (Stated c) = c ∷ []
+
+-- what a line tells
+unfoldable pub toldIn : List ℕ → List Cycle
+toldIn xs = if isLine xs then cycleStated xs ∷ [] else []
+
 -- the letter of a kind
 abbrev pub letterFor : Kind → ℕ
 letterFor Read = 82

@@ -4,7 +4,7 @@ use model_types::Kind;
 use model_types::Pins;
 ghost use mathlib.Core.Path.{_≡_};
 ghost use mathlib.Core.Bool.{true};
-ghost use Rattle.trace_lines.specs.Lines.{isKind, isLine, kindOf, fiveDigits, fourHex, twoHex, cycleStated, readLine};
+ghost use Rattle.trace_lines.specs.Lines.{isKind, isLine, kindOf, fiveDigits, fourHex, twoHex, cycleStated, readLine, lineTold, toldIn};
 ghost use Rattle.trace_lines.specs.Inner.{metFrom, frontRun, supplyRun, addressRun, backRun};
 
 // What a line says: the cycle that it states, or that it is none.
@@ -142,6 +142,7 @@ pub fn cycle_in(line: &[u8]) -> Cycle
 // A line read.
 pub fn read_line(line: &[u8]) -> LineRead
     ensures { λ r. ⌜ r ≡ readLine (now (line .entry)) ⌝ }
+    ensures told { λ r. ⌜ lineTold r ≡ toldIn (now (line .entry)) ⌝ }
 {
     if is_line(line) {
         let c = cycle_in(line);

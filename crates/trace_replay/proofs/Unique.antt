@@ -14,13 +14,16 @@ use Rattle.model.specs.declared.Seen.{Seen}
 use Rattle.trace_replay.specs.declared.Replayed.{Replayed}
 use Rattle.trace_lines.specs.Lines.{cycleStated}
 use Rattle.trace_replay.specs.Answers.{answerText, printedOf, markOf, traceEnd}
-use Rattle.trace_replay.specs.Replays.{benchT, lineStep, arrayBy, goodLines, outputOf, arrayLeft, replayedIn, leftInRoom}
+use Rattle.trace_replay.specs.Replays.{benchT, lineStep, stepTold, arrayBy, goodLines, outputOf, arrayLeft, replayedIn, leftInRoom}
 
 pub bench-unique : Unique (λ (r : Device). r ≡ benchT)
 bench-unique = only benchT
 
 pub step-unique : (s : State) (c : Cycle) (xs rs : List ℕ) → Unique (λ (r : Answer). r ≡ lineStep s c xs rs)
 step-unique s c xs rs = only (lineStep s c xs rs)
+
+pub step-told-unique : (s : State) (c : Cycle) (xs rs : List ℕ) → Unique (λ (told : ℕ × List ℕ). told ≡ stepTold s c xs rs)
+step-told-unique s c xs rs = only (stepTold s c xs rs)
 
 pub step-array-unique : (s : State) (c : Cycle) (xs rs : List ℕ) → Unique (λ (left : List ℕ). left ≡ arrayBy s c xs rs)
 step-array-unique s c xs rs = only (arrayBy s c xs rs)

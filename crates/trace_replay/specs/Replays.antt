@@ -11,7 +11,7 @@ use Rattle.model_types.specs.declared.State.{State}
 use Rattle.model_types.specs.declared.Cycle.{Cycle}
 use Rattle.model_types.specs.States.{freshState, improper}
 use Rattle.model.specs.declared.Answer.{Answer}
-use Rattle.model.specs.Arrays.{answerOf, arrayAfter}
+use Rattle.model.specs.Arrays.{answerOf, cycleTold, arrayAfter}
 use Rattle.trace_lines.specs.Lines.{isLine, cycleStated}
 use Rattle.trace_replay.specs.Answers.{printedOf, traceEnd}
 use Rattle.trace_replay.specs.declared.Replayed.{Replayed}
@@ -28,6 +28,10 @@ pub record BenchSound (s : State) (xs : List ℕ) : Type 0 where
 -- one line's step on bench T: the answer, and the array after it
 unfoldable pub lineStep : State → Cycle → List ℕ → List ℕ → Answer
 lineStep s c xs rs = answerOf benchT s c xs rs
+
+-- what it tells
+unfoldable pub stepTold : State → Cycle → List ℕ → List ℕ → ℕ × List ℕ
+stepTold s c xs rs = cycleTold benchT s c xs rs
 
 unfoldable pub arrayBy : State → Cycle → List ℕ → List ℕ → List ℕ
 arrayBy s c xs rs = arrayAfter benchT s c xs rs

@@ -12,9 +12,10 @@ ghost use Prim.Native.Nat.{_+_, _*_, _≤_, _<_};
 ghost use lib.ListN.{length, take, drop};
 ghost use Rattle.common.specs.Lists.{copied};
 ghost use Rattle.model_types.specs.States.{freshState};
+ghost use Rattle.model.specs.Arrays.{seenTold};
 ghost use Rattle.trace_lines.specs.Lines.{isLine, cycleStated};
 ghost use Rattle.trace_replay.specs.Answers.{printedOf, traceEnd};
-ghost use Rattle.trace_replay.specs.Replays.{benchT, lineStep, arrayBy, goodLines, answersOf, arraysOf, outputOf, arrayLeft, replayedIn, leftInRoom, Used};
+ghost use Rattle.trace_replay.specs.Replays.{benchT, lineStep, stepTold, arrayBy, goodLines, answersOf, arraysOf, outputOf, arrayLeft, replayedIn, leftInRoom, Used};
 
 // How a replay went: refused by 37, or by nothing (0) with so many bytes of output.
 pub struct Replayed {
@@ -41,6 +42,7 @@ pub fn bench() -> Device
 // One line's step: the cycle that a line states, on bench T, by the table or by the rules. No promise here tells which.
 pub fn step(table: bool, s: State, c: Cycle, array: &mut [u8], residue: &[u8]) -> Answer
     ensures { λ r. ⌜ r ≡ lineStep s c (now (array .entry)) (now (residue .entry)) ⌝ }
+    ensures told { λ r. ⌜ seenTold (r .seen) ≡ stepTold s c (now (array .entry)) (now (residue .entry)) ⌝ }
     ensures { λ _. ⌜ now (array .exit) ≡ arrayBy s c (now (array .entry)) (now (residue .entry)) ⌝ }
 {
     let d = bench();

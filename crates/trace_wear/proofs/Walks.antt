@@ -1,12 +1,13 @@
 -- The walk of a trace from the count of its good lines: the state, a turn of the loop that makes it, and the bad line. Assumes nothing.
 use mathlib.Core.Path.{_≡_, refl, sym, ap, _∙_, subst}
 use mathlib.Core.Bool.{Bool, true, false}
-use mathlib.Core.List.{List}
+use mathlib.Core.List.{List, [], _∷_}
 use Prim.Native.Nat.{ℕ, zero, suc, _+_, _-_, _*_, _≤_, _<_}
 use native.Mathlib.Omega.{arith}
 use lib.Dec.{eqb}
 use lib.ListN.{length, take, drop, length-drop}
 use borrow.Author.Tests.{eq-eqb, ne-eqb}
+use Rattle.common.specs.Choice.{if_then_else_}
 use Rattle.common.proofs.Choice.{if-true, if-false}
 use Rattle.model_types.specs.declared.State.{State}
 use Rattle.model_types.specs.States.{freshState}
@@ -14,8 +15,9 @@ use Rattle.trace_lines.specs.Lines.{isLine, cycleStated}
 use Rattle.trace_replay.specs.Replays.{lineStep, arrayBy, goodLines, arraysOf, arrayLeft}
 use Rattle.trace_replay.proofs.Scans.{past, good-fit}
 use Rattle.trace_replay.proofs.Turns.{answerTo, arrayTo, arrays-turn, array-is}
+use Rattle.trace_wear.specs.declared.Worn.{Worn}
 use Rattle.trace_wear.specs.declared.Worn.the-variants.{Counted, BadLine}
-use Rattle.trace_wear.specs.Wears.{stateFrom, badAt, badFrom, stateLeft, badLine, wornOf, arrayWorn}
+use Rattle.trace_wear.specs.Wears.{stateFrom, badAt, badFrom, stateLeft, badLine, wornOf, wornTold, countTold, arrayWorn}
 use Rattle.trace_wear.specs.Inner.{statesOf}
 
 states-none : (s : State) (xs rs text : List ℕ) → statesOf zero s xs rs text ≡ s
@@ -148,3 +150,14 @@ module _ (g : ℕ) (xs rs text : List ℕ) (eg : g ≡ goodLines 9998 text) wher
     good-array ys e =
         e ∙ ap (λ (m : ℕ). arraysOf m freshState xs rs text) eg ∙ sym (array-is 9998 freshState xs rs text)
         ∙ sym (if-true (eqb (badLine text) 0) (arrayLeft xs rs text) xs whole)
+
+-- the counts with what they tell, and with what is left
+pub worn-too : {r : Worn} {Left : Type 0} (xs rs text : List ℕ) → r ≡ wornOf xs rs text → Left → (r ≡ wornOf xs rs text) × ((wornTold r ≡ countTold xs rs text) × Left)
+unfolding wornOf countTold
+worn-too xs rs text e left = (e, (ap wornTold e ∙ go (eqb (badLine text) 0), left))
+  where
+    go : (b : Bool)
+        → wornTold (if b then Counted (stateLeft xs rs text .wear) else BadLine (badLine text))
+        ≡ (if b then (0, stateLeft xs rs text .wear ∷ []) else (badLine text, []))
+    go true = refl
+    go false = refl

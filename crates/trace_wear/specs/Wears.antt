@@ -1,10 +1,11 @@
 -- The wear that a whole trace leaves: the counts of its last state, or its first bad line. Assumes nothing.
-use mathlib.Core.List.{List}
+use mathlib.Core.List.{List, [], _∷_}
 use Prim.Native.Nat.{ℕ, zero, suc}
 use lib.Dec.{eqb}
 use lib.ListN.{length, take, drop}
 use Rattle.common.specs.Choice.{if_then_else_}
 use Rattle.model_types.specs.declared.State.{State}
+use Rattle.model_types.specs.declared.Wear.{Wear}
 use Rattle.model_types.specs.States.{freshState}
 use Rattle.trace_lines.specs.Lines.{isLine, cycleStated}
 use Rattle.trace_replay.specs.Replays.{lineStep, arrayBy, arrayLeft}
@@ -38,6 +39,15 @@ badLine text = badFrom 9998 1 text
 -- its counts; a trace with a bad line has none
 unfoldable pub wornOf : List ℕ → List ℕ → List ℕ → Worn
 wornOf xs rs text = if eqb (badLine text) 0 then Counted (stateLeft xs rs text .wear) else BadLine (badLine text)
+
+-- a trace's counts by their cases: the number of its first bad line, 0 where none is, and the counts
+abbrev pub wornTold : Worn → ℕ × List Wear
+wornTold (Counted w) = (0, w ∷ [])
+wornTold (BadLine n) = (n, [])
+
+-- what a trace tells
+unfoldable pub countTold : List ℕ → List ℕ → List ℕ → ℕ × List Wear
+countTold xs rs text = if eqb (badLine text) 0 then (0, stateLeft xs rs text .wear ∷ []) else (badLine text, [])
 
 -- the array that it leaves; a trace with a bad line is not replayed
 unfoldable pub arrayWorn : List ℕ → List ℕ → List ℕ → List ℕ

@@ -7,7 +7,7 @@ ghost use lib.ListN.{length};
 ghost use Rattle.model_types.specs.States.{freshState};
 ghost use Rattle.trace_lines.specs.Lines.{cycleStated};
 ghost use Rattle.trace_replay.specs.Replays.{lineStep, arrayBy, arraysOf};
-ghost use Rattle.trace_wear.specs.Wears.{wornOf, arrayWorn};
+ghost use Rattle.trace_wear.specs.Wears.{wornOf, wornTold, countTold, arrayWorn};
 ghost use Rattle.trace_wear.specs.Inner.{statesOf};
 
 // The counts of a trace's last state, or the number of its first bad line. A bad trace has no counts.
@@ -46,6 +46,7 @@ fn last_state(g: usize, text: &[u8], array: &mut [u8], residue: &[u8]) -> State
 // A whole trace on lent slices. One with a bad line is not replayed, and the array stays as it is.
 pub fn count(text: &[u8], array: &mut [u8], residue: &[u8]) -> Worn
     ensures { λ r. ⌜ r ≡ wornOf (now (array .entry)) (now (residue .entry)) (now (text .entry)) ⌝ }
+    ensures told { λ r. ⌜ wornTold r ≡ countTold (now (array .entry)) (now (residue .entry)) (now (text .entry)) ⌝ }
     ensures { λ _. ⌜ now (array .exit) ≡ arrayWorn (now (array .entry)) (now (residue .entry)) (now (text .entry)) ⌝ }
 {
     let g = trace_replay::good_lines(text);

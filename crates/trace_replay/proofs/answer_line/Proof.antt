@@ -32,7 +32,7 @@ returns c =
     let k = c .before .before .before .before .before .before .before .step .ensures in
     let f : c .before .before .before .before .before .before .before .step .result ≡ lineStep (a .s) (cycleStated (a .line .now)) (a .array .now) (a .residue .now) = k .0 ∙ ap (λ (x : Cycle). lineStep (a .s) x (a .array .now) (a .residue .now)) e in (
       ap (λ (x : Answer). x .state) f,
-      (k .1 ∙ ap (λ (x : Cycle). arrayBy (a .s) x (a .array .now) (a .residue .now)) e, c .before .before .write-answer .ensures ∙ ap (λ (x : Answer). copied (a .out .now) (printedOf x)) f),
+      (k .1 .1 ∙ ap (λ (x : Cycle). arrayBy (a .s) x (a .array .now) (a .residue .now)) e, c .before .before .write-answer .ensures ∙ ap (λ (x : Answer). copied (a .out .now) (printedOf x)) f),
     )
 
 pub answer-line-spec : {M : Type 1} → statement M

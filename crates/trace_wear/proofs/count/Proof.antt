@@ -4,7 +4,7 @@ use Prim.Native.Nat.{ℕ, _*_, _≤_}
 use native.Mathlib.Omega.{arith}
 use lib.ListN.{length}
 use Rattle.trace_replay.proofs.Scans.{good-most, good-fit}
-use Rattle.trace_wear.proofs.Walks.{inside, bad-worn, bad-array, good-worn, good-array}
+use Rattle.trace_wear.proofs.Walks.{worn-too, inside, bad-worn, bad-array, good-worn, good-array}
 use borrow.Author.Needs.{needs}
 use Rattle.trace_wear.proofs.count.Statement.{statement}
 use Rattle.trace_wear.proofs.count.Tie as tie
@@ -27,10 +27,10 @@ add-t10 c =
 returns : tie.Need-returns
 returns c =
     let a = c .before .before .before .before .before .args in
-    let g = c .before .good-lines in (
-      bad-worn (g .result) (a .array .now) (a .residue .now) (a .text .now) (g .ensures) (c .if1 .taken),
-      bad-array (g .result) (a .array .now) (a .residue .now) (a .text .now) (g .ensures) (c .if1 .taken),
-    )
+    let g = c .before .good-lines in
+    worn-too (a .array .now) (a .residue .now) (a .text .now)
+    (bad-worn (g .result) (a .array .now) (a .residue .now) (a .text .now) (g .ensures) (c .if1 .taken))
+    (bad-array (g .result) (a .array .now) (a .residue .now) (a .text .now) (g .ensures) (c .if1 .taken))
 
 last-state-requires : tie.Need-last-state-requires
 last-state-requires c κs =
@@ -46,10 +46,10 @@ returns-2 c =
     let a = c .before .before .before .before .before .before .before .before .before .before .args in
     let g = c .before .before .before .before .before .before .good-lines in
     let k = c .before .before .before .last-state in
-    let h = c .before .before .before .before .before .if1 .left in (
-      good-worn (g .result) (a .array .now) (a .residue .now) (a .text .now) (g .ensures) h (k .result) (k .ensures .0),
-      good-array (g .result) (a .array .now) (a .residue .now) (a .text .now) (g .ensures) h (k .last .1 .1 .0) (k .ensures .1),
-    )
+    let h = c .before .before .before .before .before .if1 .left in
+    worn-too (a .array .now) (a .residue .now) (a .text .now)
+    (good-worn (g .result) (a .array .now) (a .residue .now) (a .text .now) (g .ensures) h (k .result) (k .ensures .0))
+    (good-array (g .result) (a .array .now) (a .residue .now) (a .text .now) (g .ensures) h (k .last .1 .1 .0) (k .ensures .1))
 
 pub count-spec : {M : Type 1} → statement M
 count-spec =

@@ -22,7 +22,7 @@ returns c =
     let e = c .before .before .before .before .before .cycle-in .ensures in
     let k = c .before .before .before .step .ensures in (
       ap (λ (x : Answer). x .state) (k .0 ∙ ap (λ (x : Cycle). lineStep (a .s) x (a .array .now) (a .residue .now)) e),
-      k .1 ∙ ap (λ (x : Cycle). arrayBy (a .s) x (a .array .now) (a .residue .now)) e,
+      k .1 .1 ∙ ap (λ (x : Cycle). arrayBy (a .s) x (a .array .now) (a .residue .now)) e,
     )
 
 pub next-spec : {M : Type 1} → statement M
