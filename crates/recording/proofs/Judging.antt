@@ -1,0 +1,139 @@
+-- A record's verdict, way by way, as the code comes to it. Assumes nothing.
+use mathlib.Core.Path.{_≡_, refl, sym, ap, ap₂, _∙_}
+use mathlib.Core.Bool.{Bool, true, false, not}
+use mathlib.Core.List.{List, []}
+use Prim.Native.Nat.{ℕ}
+use native.Mathlib.Omega.{arith}
+use lib.ListN.{length}
+use lib.Dec.{eqb}
+use borrow.Author.Tests.{eqb-true, not-false}
+use Rattle.common.proofs.Choice.{if-true, if-false}
+use Rattle.common.proofs.Numbers.{given-no-row, no-head, no-tail}
+use Rattle.units.specs.Units.{units, unitsIn, lent, lentIn}
+use Rattle.units.proofs.Widths.{lent-length, lent-is}
+use Rattle.device.specs.declared.Device.{Device}
+use Rattle.device.specs.Parts.{sizeOf}
+use Rattle.device.proofs.Place.{size-some}
+use Rattle.model_types.specs.declared.Cycle.{Cycle}
+use Rattle.model_types.specs.declared.Decision.{Decision}
+use Rattle.model_types.specs.declared.State.{State}
+use Rattle.model_rules.specs.Cycles.{early, judgeOf}
+use Rattle.model_rules.specs.Inner.{decideJudged}
+use Rattle.model_rules.proofs.Claims.{passes}
+use Rattle.model.specs.declared.Seen.{Seen}
+use Rattle.model.specs.declared.Seen.the-variants.{Refused}
+use Rattle.model.specs.declared.Answer.{Answer}
+use Rattle.model.specs.Arrays.{seenOf, answerOf, bytesAfter}
+use Rattle.model.proofs.Borders.{stopped-answer}
+use Rattle.recording.specs.declared.Noted.{Noted}
+use Rattle.recording.specs.declared.Why.{Why}
+use Rattle.recording.specs.Recordings.{wrongCount, cutsOff, deviceFor, agrees, answerTo, faulty, recordedOf, bytesRecorded, whyAs, whySeen, whyOf}
+use Rattle.recording.specs.Inner.{seenJudged}
+use Rattle.recording.proofs.Seeing.{seen-early}
+
+-- no bytes have no units
+pub none : (w : Bool) → units w [] ≡ []
+none false = refl
+none true = refl
+
+none-in : (w : Bool) → unitsIn w 0 ≡ 0
+none-in false = refl
+none-in true = refl
+
+judge-sized : (d : Device) (s : State) (c : Cycle) (n r : ℕ) → judgeOf d s c n r ≡ 0 → n ≡ sizeOf (d .part)
+unfolding judgeOf
+judge-sized d s c n r e =
+    eqb-true n (sizeOf (d .part)) (not-false (eqb n (sizeOf (d .part))) (no-head (no-tail (given-no-row (early d s c n r) refl e))))
+
+-- a cycle on lent bytes with no residue
+module _ (e : Device) (s : State) (c : Cycle) (bytes : List ℕ) (n : ℕ) (j : n ≡ judgeOf e s c (lentIn (e .part .word) (length bytes)) 0) where
+  abbrev us : List ℕ
+  us = lent (e .part .word) bytes
+
+  -- judged and refused: that is what is seen
+  pub stopped : (n ≡ 0 → ⊥) → answerOf e s c us [] .seen ≡ Refused n
+  stopped z =
+      ap (λ (rs : List ℕ). answerOf e s c us rs .seen) (sym (none (e .part .word)))
+      ∙ ap (λ (a : Answer). a .seen)
+      (sym (stopped-answer e s c bytes [] n (j ∙ ap (λ (k : ℕ). judgeOf e s c (lentIn (e .part .word) (length bytes)) k) (sym (none-in (e .part .word)))) z (record { seen = Refused n; state = s }) refl))
+
+  -- judged and passed, with nothing cut: what is seen is seen before anything is stored
+  pub passed : n ≡ 0 → cutsOff (e .part) s c ≡ false → seenJudged e s c (units (e .part .word) bytes) ≡ answerOf e s c us [] .seen
+  unfolding seenJudged
+  passed z whole =
+      let k : judgeOf e s c (length us) 0 ≡ 0 = ap (λ (m : ℕ). judgeOf e s c m 0) (lent-length (e .part .word) bytes) ∙ sym j ∙ z in
+      let l : length us ≡ sizeOf (e .part) = judge-sized e s c (length us) 0 k in
+      let is : us ≡ units (e .part .word) bytes = lent-is (e .part .word) bytes (let q = size-some (e .part) in omega arith) in
+      ap (λ (vs : List ℕ). seenOf (decideJudged e s c .reply) vs) (sym is)
+      ∙ ap (λ (x : Decision). seenOf (x .reply) us) (sym (passes e s c (length us) 0 k))
+      ∙ sym (seen-early e s c us [] whole)
+
+-- the ways to a verdict
+module _ (d : Device) (s : State) (r : Noted) (bytes : List ℕ) where
+  pub count-fault : wrongCount (d .part) s r ≡ true → true ≡ faulty d s r bytes
+  unfolding faulty
+  count-fault e = simp e
+
+  pub cut-fault : wrongCount (d .part) s r ≡ false → cutsOff (d .part) s (r .cycle) ≡ true → true ≡ faulty d s r bytes
+  unfolding faulty
+  cut-fault e f = simp (e, f)
+
+  pub count-why : wrongCount (d .part) s r ≡ true → whyAs 1 (r .busy) ≡ whyOf d s r bytes
+  unfolding whyOf
+  count-why e = simp e
+
+  pub cut-why : wrongCount (d .part) s r ≡ false → cutsOff (d .part) s (r .cycle) ≡ true → whyAs 2 0 ≡ whyOf d s r bytes
+  unfolding whyOf
+  cut-why e f = simp (e, f)
+
+  module _ (e : wrongCount (d .part) s r ≡ false) (f : cutsOff (d .part) s (r .cycle) ≡ false) (g : Device) (same : g ≡ deviceFor d s r)
+      (m : ℕ) (lies : m ≡ lentIn (d .part .word) (length bytes)) (n : ℕ) (j : n ≡ judgeOf g s (r .cycle) m 0) where
+    judged : n ≡ judgeOf (deviceFor d s r) s (r .cycle) (lentIn (d .part .word) (length bytes)) 0
+    judged = j ∙ ap₂ (λ (h : Device) (k : ℕ). judgeOf h s (r .cycle) k 0) same lies
+
+    there : n ≡ 0 → (v : Seen) → v ≡ seenJudged g s (r .cycle) (units (g .part .word) bytes) → v ≡ answerOf (deviceFor d s r) s (r .cycle) (lent (d .part .word) bytes) [] .seen
+    there z v p =
+        p ∙ ap (λ (h : Device). seenJudged h s (r .cycle) (units (h .part .word) bytes)) same ∙ passed (deviceFor d s r) s (r .cycle) bytes n judged z f
+
+    pub refused-fault : (n ≡ 0 → ⊥) → true ≡ faulty d s r bytes
+    unfolding faulty answerTo
+    refused-fault z = simp (e, f, stopped (deviceFor d s r) s (r .cycle) bytes n judged z)
+
+    pub answer-fault : n ≡ 0 → (v : Seen) → v ≡ seenJudged g s (r .cycle) (units (g .part .word) bytes) → (b : Bool) → b ≡ agrees v (r .heard) → not b ≡ faulty d s r bytes
+    unfolding faulty answerTo
+    answer-fault z v p b q = ap not (q ∙ ap (λ (x : Seen). agrees x (r .heard)) (there z v p)) ∙ sym (simp (e, f))
+
+    pub refused-why : (n ≡ 0 → ⊥) → whyAs 3 n ≡ whyOf d s r bytes
+    unfolding whyOf answerTo
+    refused-why z = simp (e, f, stopped (deviceFor d s r) s (r .cycle) bytes n judged z)
+
+    pub answer-why : n ≡ 0 → (v : Seen) → v ≡ seenJudged g s (r .cycle) (units (g .part .word) bytes) → (w : Why) → w ≡ whySeen v → w ≡ whyOf d s r bytes
+    unfolding whyOf answerTo
+    answer-why z v p w q = q ∙ ap whySeen (there z v p) ∙ sym (simp (e, f))
+
+  -- at fault nothing changes
+  pub fault-state : faulty d s r bytes ≡ true → record { fault = true; state = s } ≡ recordedOf d s r bytes
+  unfolding recordedOf
+  fault-state e = sym (if-true (faulty d s r bytes) _ _ e)
+
+  pub fault-bytes : faulty d s r bytes ≡ true → bytes ≡ bytesRecorded d s r bytes
+  unfolding bytesRecorded
+  fault-bytes e = rw e refl
+
+  -- else it is the model's cycle
+  module _ (e : faulty d s r bytes ≡ false) (g : Device) (same : g ≡ deviceFor d s r) (rs : List ℕ) (empty : rs ≡ []) where
+    pub good-state : (a : Answer) → a ≡ answerOf g s (r .cycle) (lent (g .part .word) bytes) (units (g .part .word) rs)
+        → record { fault = false; state = a .state } ≡ recordedOf d s r bytes
+    unfolding recordedOf answerTo
+    good-state a p =
+        let there : a ≡ answerOf (deviceFor d s r) s (r .cycle) (lent (d .part .word) bytes) [] =
+        p ∙ ap (λ (zs : List ℕ). answerOf g s (r .cycle) (lent (g .part .word) bytes) (units (g .part .word) zs)) empty
+        ∙ ap (λ (zs : List ℕ). answerOf g s (r .cycle) (lent (g .part .word) bytes) zs) (none (g .part .word))
+        ∙ ap (λ (h : Device). answerOf h s (r .cycle) (lent (h .part .word) bytes) []) same in
+        ap (λ (x : Answer). record { fault = false; state = x .state }) there ∙ sym (if-false (faulty d s r bytes) _ _ e)
+
+    pub good-bytes : (ys : List ℕ) → ys ≡ bytesAfter g s (r .cycle) bytes rs → ys ≡ bytesRecorded d s r bytes
+    unfolding bytesRecorded
+    good-bytes ys p =
+        p ∙ ap (λ (zs : List ℕ). bytesAfter g s (r .cycle) bytes zs) empty ∙ ap (λ (h : Device). bytesAfter h s (r .cycle) bytes []) same
+        ∙ sym (if-false (faulty d s r bytes) _ _ e)

@@ -1,0 +1,4 @@
+pub mod Starting
+pub mod Seeing
+pub mod Judging
+pub mod Unique

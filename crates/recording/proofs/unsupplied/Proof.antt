@@ -1,0 +1,14 @@
+use borrow.Author.Needs.{needs}
+use Rattle.model_commands.specs.Commands.{unsupplied}
+use Rattle.recording.proofs.unsupplied.Statement.{statement}
+use Rattle.recording.proofs.unsupplied.Tie as tie
+
+vpp-low-requires : tie.Need-vpp-low-requires
+vpp-low-requires c κs = search needs
+
+returns : tie.Need-returns
+unfolding unsupplied
+returns c = simp (c .before .vpp-low .ensures)
+
+pub unsupplied-spec : {M : Type 1} → statement M
+unsupplied-spec = tie.close (tie.spec vpp-low-requires returns)

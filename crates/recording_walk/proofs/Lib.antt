@@ -1,0 +1,4 @@
+pub mod Again
+pub mod Equal
+pub mod Going
+pub mod Unique
