@@ -1,5 +1,6 @@
 """Holds include/torfbarke.h against the crates: structs field by field, functions parameter by parameter, the numbers of modes,
-phases, kinds, stages, answers and turns, the refusals, the parts' blocks, the supply bands, the limits of the load file and of wear.
+phases, kinds, stages, answers and turns, the refusals, the parts' blocks, the supply bands, the limits of the load file, of
+wear and of a busy time.
 
     python3 tests/header.py        names every difference, and ends with 1 where there is one
 
@@ -37,7 +38,7 @@ constants = {name: int(value, 0) for name, value in re.findall(r"\b(TB_\w+) = (0
 # structs
 STRUCTS = {"Device": "tb_device", "State": "tb_state", "Bus": "tb_bus", "Answer": "tb_answer", "Loader": "tb_loader", "Turn": "tb_turn",
            "Given": "tb_given", "Ran": "tb_ran", "Sized": "tb_sized", "Block": "tb_span", "Reading": "tb_reading", "Wear": "tb_wear",
-           "Tally": "tb_tally", "Report": "tb_report", "Reported": "tb_reported"}
+           "Tally": "tb_tally", "Record": "tb_record", "Checked": "tb_checked", "Report": "tb_report", "Reported": "tb_reported"}
 TYPES = {"u8": "uint8_t", "u16": "uint16_t", "u32": "uint32_t", "u64": "uint64_t", "usize": "size_t", "i32": "int32_t", "f64": "double", "": "void"}
 TYPES.update({f"{crate}Numbers": c for crate, c in STRUCTS.items()})
 
@@ -147,6 +148,10 @@ most = {int(n) for n in re.findall(r"row 47 \((?:ltb|leb) (\d+) ", refusing)}
 same("TB_TRACES_MOST", {constants["TB_TRACES_MOST"]}, most)
 sheet = int(re.search(r"^passing a n = if ltb (\d+) n then", text("wear/specs/Reports.antt"), re.M).group(1))
 same("TB_SHEET_ERASES", constants["TB_SHEET_ERASES"], sheet)
+
+# recordings: the longest busy time
+longest = int(re.search(r"^longest = (\d+)$", text("recording/specs/Recordings.antt"), re.M).group(1))
+same("TB_BUSY_MOST", constants["TB_BUSY_MOST"], longest)
 
 # supply bands, load file, letters
 levels = text("*/specs/Levels.antt")

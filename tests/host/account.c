@@ -10,7 +10,7 @@ enum { PARTS = 8, WIDTHS = 2 };
 static uint64_t numbers[GROUPS][256], worded[ON_DEVICES][256], devices[ON_DEVICES][PARTS + 1][WIDTHS];
 static uint64_t phases[WIDTHS][256], stages[WIDTHS][256], edges[EDGES], marks[MARKS];
 static uint64_t erases[2][PARTS + 1][WIDTHS][TB_BLOCKS_MOST]; /* counted in a cycle, and in a run */
-static uint64_t all_blocks, all_cycles, all_table_cycles, all_loads, all_files, all_steps, all_readings, all_reports;
+static uint64_t all_blocks, all_cycles, all_table_cycles, all_loads, all_files, all_steps, all_readings, all_reports, all_recordings;
 
 void met(int group, uint8_t number) { numbers[group][number]++; }
 void met_on(int group, uint8_t part, uint8_t word, uint8_t number, bool refused) {
@@ -38,12 +38,13 @@ void count_file(void) { all_files++; }
 void count_step(void) { all_steps++; }
 void count_reading(void) { all_readings++; }
 void count_report(void) { all_reports++; }
+void count_recording(void) { all_recordings++; }
 
 static void counts(void) {
-    printf("%llu blocks of parts, %llu cycles, %llu by the table, %llu loads, %llu files, %llu steps, %llu readings, %llu reports",
+    printf("%llu blocks of parts, %llu cycles, %llu by the table, %llu loads, %llu files, %llu steps, %llu readings, %llu reports, %llu recordings",
            (unsigned long long)all_blocks, (unsigned long long)all_cycles, (unsigned long long)all_table_cycles,
            (unsigned long long)all_loads, (unsigned long long)all_files, (unsigned long long)all_steps, (unsigned long long)all_readings,
-           (unsigned long long)all_reports);
+           (unsigned long long)all_reports, (unsigned long long)all_recordings);
 }
 
 void mismatch(const char *what) {
@@ -63,6 +64,7 @@ static const struct {
 } wanted[GROUPS] = {
     [IN_CYCLE] = {"cycle", {0, 1, 2, 3, 4, 5, 6, 7, 8, 9}, 10},
     [IN_TABLE_CYCLE] = {"cycle by the table", {0, 1, 2, 3, 4, 5, 6, 7, 8, 9}, 10},
+    [IN_RECORDING] = {"recording", {0, 1, 2, 3, 12}, 5},
     [IN_START] = {"start", {0, 1, 4, 10, 11}, 5},
     [IN_STEP] = {"step", {0, 1, 3, 4, 10, 11, 20, 21, 22, 23, 24, 25}, 12},
     [IN_RUN] = {"run", {0, 1, 2, 3, 4, 10, 11, 12, 21, 23, 24}, 11},
@@ -137,6 +139,22 @@ static const char *const mark_names[MARKS] = {
     [OTHER_FIRST] = "another device in the first trace",
     [OTHER_LAST] = "another device in the last trace",
     [FROM_UNKNOWN] = "a trace from a device that is none",
+    [ACCEPTED] = "a recording accepted",
+    [ACCEPTED_EMPTY] = "a recording of no records accepted",
+    [ACCEPTED_ERASE] = "a recording accepted with an erase",
+    [ACCEPTED_SUSPENDED] = "a recording accepted with a suspend",
+    [FAULT_FIRST] = "the first record at fault",
+    [FAULT_LAST] = "the last record at fault",
+    [FAULT_IN_END] = "a fault in the record that ends an operation",
+    [FAULT_CUT] = "a record that cuts",
+    [FAULT_HELD_CUT] = "a record that cuts a suspended erase",
+    [FAULT_COUNT] = "a busy count of 0 or over 65,535",
+    [FAULT_COUNT_WRAPS] = "a busy count over 65,535 that 16 bits would take",
+    [FAULT_SEEN] = "an answer seen that is none",
+    [FAULT_AWAITING] = "a recording that ends awaiting",
+    [FAULT_PROMISED] = "another array promised",
+    [FAULT_PROMISED_LENGTH] = "an array of another length promised",
+    [COUNT_UNREAD] = "a count of 0 that is not read, at a second write",
 };
 
 static int missing;

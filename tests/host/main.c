@@ -28,6 +28,7 @@ int main(int argc, char **argv) {
         loads(1000);
         readings(500);
         wears(1000);
+        recordings(200);
     }
     endless();
     return closing(seed, verbose);

@@ -8,6 +8,7 @@ here=$(dirname -- "$(readlink -f -- "$0")")
 . "$here/tools.sh"
 archive
 table_archive
+recording_archive
 compiler
 
 strict=(-O2 -Wall -Wextra -pedantic -Werror -I "$inc")
@@ -58,7 +59,7 @@ objects() { # objects FOLDER SLIP FILE..
 
 build() { # build PROGRAM SLIP
     objects "$out/slip$2" "$2" "$here"/second_*.c
-    $CC -static "$out"/cases/*.o "$out/slip$2"/*.o "$lib" "$table" -o "$1" || fail 3 "the tests could not be linked"
+    $CC -static "$out"/cases/*.o "$out/slip$2"/*.o "$lib" "$table" "$recording" -o "$1" || fail 3 "the tests could not be linked"
 }
 
 shopt -s extglob
@@ -141,7 +142,16 @@ slips='1:a program stores its data without AND
 67:a total goes on past its stop, to 0
 68:47 is given before 11
 69:a program that starts is counted
-70:a refused trace gives the report on no traces'
+70:a refused trace gives the report on no traces
+83:a recording may begin where a second write is awaited
+84:a suspended erase may be cut in a recording
+85:an answer seen that is none is taken for data
+86:a recording goes by P and E of the device
+87:a count is read at a second write that starts nothing
+88:a busy count has 16 bits
+89:what the record at fault would store stays
+90:a recording may end where a second write is awaited
+91:a promised array may be short'
 noticed=0 all=$(wc -l <<<"$slips")
 while IFS=: read -r number slip; do
     build "$out/broken" "$number"

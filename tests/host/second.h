@@ -19,6 +19,7 @@ size_t c_size(uint8_t part);
 tb_span c_block(uint8_t part, uint8_t block);
 tb_state c_fresh(void);
 tb_answer c_cycle(tb_device, tb_state, tb_bus, uint8_t *array, size_t, const uint8_t *residue, size_t);
+tb_checked c_recording(tb_device, tb_state, const tb_record *list, size_t, const uint8_t *promised, size_t, uint8_t *array, size_t);
 tb_given c_start(uint8_t part, uint8_t word, uint8_t rp, uint8_t wp, uint32_t vpp, uint8_t block, const uint8_t *wanted, size_t,
                  const uint8_t *scratch, size_t);
 tb_given c_load_start(uint8_t part, uint8_t word, uint8_t rp, uint8_t wp, uint32_t vpp, uint8_t block, const uint8_t *wanted, size_t,

@@ -17,6 +17,8 @@ enum { ROOM = 65536, PAINT = 0xC7, CALLER = 96 };
 
 static _Alignas(64) uint8_t painted[ROOM];
 static uint8_t array[TB_SIZE_MOST], residue[TB_BLOCK_MOST], wanted[8192], scratch[8192], payload[TB_PAYLOAD_MOST], file[TB_FILE_MOST];
+static uint8_t promised[TB_SIZE_MOST];
+static tb_record records[12];
 static const tb_device kinds[] = {{TB_BENCH_T, 0, 2, 3, 1}, {TB_28F200BR_T, 0, 2, 3, 1}, {TB_28F200BR_T, 1, 2, 3, 1}};
 static tb_device device;
 static size_t size, block; /* bytes of the device at hand, and of its block 1 */
@@ -61,6 +63,7 @@ static void verify_file(void) {
 static void load(void) {
     state = tb_load(device, fresh, 1, 0, 12000, 1, 'K', file, 512, array, size, wanted, block, scratch, block).state;
 }
+static void recording(void) { state = tb_recording(device, fresh, records, sizeof records / sizeof records[0], promised, size, array, size).state; }
 static void write(void) { byte = tb_file_write('K', payload, sizeof payload, file, sizeof file).number; }
 static void write_short(void) { byte = tb_file_write('K', payload, 100, file, sizeof file).number; }
 static void read(void) { byte = tb_file_read('K', file, sizeof file, payload, sizeof payload).number; }
@@ -140,12 +143,22 @@ static void steps_of_a_load(void) {
     }
 }
 
+/* An erase that is suspended and resumed, a program, and a read, each write and wait answered by no data. */
+static void recorded(void) {
+    static const uint8_t writes[] = {0x20, 0xD0, 0xB0, 0, 0xD0, 0, 0x40, 0x5A, 0, 0xFF, 0, 0x70};
+    for (size_t i = 0; i < sizeof writes; i++)
+        records[i] = (tb_record){{writes[i] == 0 ? TB_CYCLE_IDLE : TB_CYCLE_WRITE, TB_RP_HIGH, 0, 0, writes[i], 12000, 0x10}, TB_NO_DATA, 0, 1};
+    records[1].busy = 2;
+    records[10] = (tb_record){{TB_CYCLE_READ, TB_RP_HIGH, 0, 0, 0, 12000, 0x10}, TB_DATA, device.word ? 0x005A : 0x5A, 0};
+}
+
 static void on_device(tb_device d) {
-    void (*const calls[])(void) = {run, load, load_run, verify_run, verify_file};
+    void (*const calls[])(void) = {run, load, load_run, verify_run, verify_file, recording};
     device = d;
     fresh = tb_fresh();
     size = tb_size(d.number);
     block = tb_block(d.number, 1).length;
+    recorded();
     cycles_of(TB_PROGRAMMING);
     cycles_of(TB_ERASING);
     cycles_at_rest();

@@ -1,0 +1,4 @@
+pub mod Border
+pub mod Claims
+pub mod Numbers
+pub mod Unique
