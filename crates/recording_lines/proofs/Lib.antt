@@ -1,0 +1,7 @@
+pub mod Same
+pub mod Spelled
+pub mod Runs
+pub mod Digits
+pub mod Forms
+pub mod Claims
+pub mod Unique

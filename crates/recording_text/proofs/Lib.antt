@@ -1,0 +1,5 @@
+pub mod Turns
+pub mod Judging
+pub mod Written
+pub mod Claims
+pub mod Unique
