@@ -26,7 +26,6 @@ use Rattle.c_cycle.specs.Values.{flagOut, deviceIn, deviceOut, noState, stateIn
 use Rattle.c_cycle.specs.Answers.{stateBack}
 use Rattle.c_cycle.proofs.Border.{device-back, out-state, state-back, cycle-back, state-same, no-kind-refused}
 use Rattle.c_recording.specs.declared.RecordNumbers.{RecordNumbers}
-use Rattle.c_recording.specs.declared.CheckedNumbers.{CheckedNumbers}
 use Rattle.c_recording.specs.Records.{heardIn, kindSeen, busSeen, recordIn, recordsIn, seenHeard, valueHeard, recordOut, recordsOut, checkedNumbers, checkedOut, checkedGiven, arrayChecked}
 
 -- an answer seen: out and in again, and its cycle keeps its kind

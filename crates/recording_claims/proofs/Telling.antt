@@ -6,7 +6,7 @@ use Prim.Native.Nat.{ℕ, suc, _+_, _≤_, _<_, min}
 use native.Mathlib.Omega.{arith}
 use lib.ListN.{length}
 use Rattle.common.specs.Choice.{if_then_else_}
-use Rattle.units.specs.Units.{units, lent}
+use Rattle.units.specs.Units.{lent}
 use Rattle.device.specs.declared.Device.{Device}
 use Rattle.model_types.specs.declared.Effect.{Effect}
 use Rattle.model_types.specs.declared.Wear.{Wear}

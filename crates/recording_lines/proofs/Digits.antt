@@ -1,13 +1,12 @@
 -- The digits of a record line: what is known of trace lines, asked of a trace line that holds them. Assumes nothing.
-use mathlib.Core.Path.{_≡_, refl, sym, ap, _∙_}
-use mathlib.Core.Bool.{Bool, true, false}
+use mathlib.Core.Path.{_≡_, refl, ap}
+use mathlib.Core.Bool.{true}
 use mathlib.Core.List.{List, [], _∷_}
 use Prim.Native.Nat.{ℕ, _/_, _%_, _<_}
 use native.Mathlib.Omega.{arith}
-use lib.ListN.{length, getD}
+use lib.ListN.{getD}
 use Rattle.model_types.specs.declared.Cycle.{Cycle}
 use Rattle.model_types.specs.declared.Kind.the-variants.{Read}
-use Rattle.trace_lines.specs.declared.LineRead.the-variants.{Stated}
 use Rattle.trace_lines.specs.Lines.{isAt, isKind, isLine, fits, lineForm, newline, fiveDigits, twoHex, cycleAs, cycleStated, decimalDigit, lineOf, Fits}
 use Rattle.text.specs.Digits.{isDigit, isHex, digitLetter}
 use Rattle.trace_lines.proofs.Places.{both, form-at}

@@ -1,21 +1,20 @@
 -- Record lines and records: what is printed is read back, and what is read prints as itself. Assumes nothing.
 use mathlib.Core.Path.{_≡_, refl, sym, ap, _∙_, subst}
-use mathlib.Core.Bool.{Bool, true, false, not, _||_}
+use mathlib.Core.Bool.{Bool, true, false, _||_}
 use mathlib.Core.List.{List, [], _∷_, _++_}
 use mathlib.Core.Logic.{_↔_, _⊎_, inl, inr, ⊎-elim}
-use Prim.Native.Nat.{ℕ, zero, suc, _+_, _/_, _%_, _<_}
+use Prim.Native.Nat.{ℕ, zero, suc, _+_, _/_, _<_}
 use native.Mathlib.Omega.{arith}
 use lib.Dec.{eqb, ltb}
 use lib.ListN.{length, getD, take}
 use borrow.Author.Tests.{eqb-true, ne-eqb, ltb-true}
-use Rattle.common.specs.Choice.{if_then_else_}
 use Rattle.common.proofs.Choice.{if-true, if-false, and-left, and-right, unlike}
 use Rattle.recording.specs.declared.Heard.{Heard}
 use Rattle.recording.specs.declared.Heard.the-variants.{Silence, Told}
 use Rattle.recording.specs.declared.Noted.{Noted}
 use Rattle.model_types.specs.declared.Cycle.{Cycle}
 use Rattle.trace_lines.specs.Lines.{Place, isAt, fits, newline, lineForm, isLine, fiveDigits, twoHex, cycleStated, decimalDigit, lineOf, Fits}
-use Rattle.text.specs.Digits.{isDigit, isHex, digitLetter}
+use Rattle.text.specs.Digits.{isDigit, isHex}
 use Rattle.trace_lines.proofs.Places.{both, form-length, form-at}
 use Rattle.recording_lines.specs.Records.{cycleForm, answerForm, countForm, recordForm, isRecord, heardStated, countStated, recordStated, answerText, countText, recordLine, recordLineOf, HeardFits, CountFits, RecordFits, Prints}
 use Rattle.recording_lines.proofs.Spelled.{spelled, spelled-whole}

@@ -1,5 +1,5 @@
 -- The cycle of a record line laid over newlines is a trace line. Assumes nothing.
-use mathlib.Core.Path.{_≡_, refl, sym, ap, _∙_}
+use mathlib.Core.Path.{_≡_, _∙_}
 use mathlib.Core.List.{List, [], _∷_, _++_}
 use Prim.Native.Nat.{ℕ, min}
 use native.Mathlib.Omega.{arith}

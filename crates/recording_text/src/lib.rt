@@ -3,7 +3,7 @@ use recording_walk::Checked;
 use recording_walk::Walk;
 ghost use mathlib.Core.Path.{_≡_};
 ghost use Prim.Native.Nat.{_*_, _≤_, _<_};
-ghost use lib.ListN.{length, take, drop};
+ghost use lib.ListN.{take, drop};
 ghost use Rattle.recording_lines.specs.Records.{isRecord, recordStated};
 ghost use Rattle.recording_walk.specs.Inner.{wentOn, bytesOn, bytesOver};
 ghost use Rattle.recording_text.specs.Texts.{recordsOf, badAfter, judgedOf, arrayJudged};

@@ -8,7 +8,6 @@ use recording::Recorded;
 ghost use mathlib.Core.Path.{_≡_};
 ghost use mathlib.Core.Bool.{not};
 ghost use lib.Dec.{eqb};
-ghost use lib.ListN.{length};
 ghost use Rattle.units.specs.Units.{lentIn};
 ghost use Rattle.device.specs.Parts.{sizeOf};
 ghost use Rattle.model_types.specs.Phases.{isFree, underWay};

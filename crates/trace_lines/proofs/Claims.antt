@@ -5,7 +5,6 @@ use mathlib.Core.List.{List}
 use mathlib.Core.Logic.{_↔_}
 use Prim.Native.Nat.{ℕ, _<_}
 use lib.ListN.{length, getD}
-use Rattle.common.proofs.Choice.{only}
 use Rattle.model_types.specs.declared.Cycle.{Cycle}
 use Rattle.trace_lines.specs.declared.LineRead.the-variants.{NotALine, Stated}
 use Rattle.trace_lines.specs.Lines.{Place, isAt, fits, isLine, cycleStated, readLine, lineOf, Fits}

@@ -14,7 +14,7 @@ ghost use Rattle.common.specs.Lists.{copied};
 ghost use Rattle.model_types.specs.States.{freshState};
 ghost use Rattle.model.specs.Arrays.{seenTold};
 ghost use Rattle.trace_lines.specs.Lines.{isLine, cycleStated};
-ghost use Rattle.trace_replay.specs.Answers.{printedOf, traceEnd};
+ghost use Rattle.trace_replay.specs.Answers.{printedOf};
 ghost use Rattle.trace_replay.specs.Replays.{benchT, lineStep, stepTold, arrayBy, goodLines, answersOf, arraysOf, outputOf, arrayLeft, replayedIn, leftInRoom, Used};
 
 // How a replay went: refused by 37, or by nothing (0) with so many bytes of output.

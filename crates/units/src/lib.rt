@@ -1,9 +1,9 @@
 // Units of lent bytes: what one bus cycle carries, a byte, or in word mode a word, low byte first. The leaves here are the only code
 // that knows where a unit's bytes lie.
 ghost use mathlib.Core.Path.{_≡_};
-ghost use Prim.Native.Nat.{ℕ, _+_, _*_, _/_, _%_, _≤_, _<_};
+ghost use Prim.Native.Nat.{_+_, _*_, _/_, _%_, _≤_, _<_};
 ghost use lib.ListN.{length, getD, take, replicate, set};
-ghost use lib.Bits.{bitAnd, bitOr};
+ghost use lib.Bits.{bitAnd};
 ghost use lib.Dec.{leb};
 ghost use Rattle.common.specs.Lists.{overlaid};
 ghost use Rattle.common.specs.Choice.{if_then_else_};

@@ -4,9 +4,9 @@ use device::Part;
 use model_types::Wear;
 use model_types::counts::raise;
 ghost use mathlib.Core.Path.{_≡_};
-ghost use Prim.Native.Nat.{_≤_, _<_};
-ghost use lib.ListN.{length, getD};
-ghost use Rattle.wear.specs.Reports.{most, addedUp, larger, lowest, passing, tallied, noTally, noReport, added, wearAt, reportFrom};
+ghost use Prim.Native.Nat.{_<_};
+ghost use lib.ListN.{getD};
+ghost use Rattle.wear.specs.Reports.{addedUp, larger, lowest, passing, tallied, noTally, noReport, added, wearAt, reportFrom};
 ghost use Rattle.wear.specs.Refusals.{differ, unknownNumber, unevenCounts, reportNumber, reportedOf, addNumber, addedTo};
 
 // Of one block: the sum of its counts, the largest, the smallest (0 of no traces) and how many are over 100,000.

@@ -12,7 +12,7 @@ use Rattle.trace_wear.specs.Wears.{wornOf}
 use Rattle.wear.specs.declared.Reported.{Reported}
 use Rattle.wear.specs.Reports.{noReport}
 use Rattle.wear.specs.Refusals.{addedTo}
-use Rattle.wear_print.specs.Tables.{tableText, lineText, laidIn, countIn}
+use Rattle.wear_print.specs.Tables.{tableText, lineText, countIn}
 use Rattle.wear_answer.specs.declared.Counting.{Counting}
 use Rattle.wear_answer.specs.declared.Said.{Said}
 

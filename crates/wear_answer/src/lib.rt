@@ -4,7 +4,6 @@ use model_types::Wear;
 use trace_wear::Worn;
 use wear::Report;
 ghost use mathlib.Core.Path.{_≡_};
-ghost use lib.ListN.{length};
 ghost use Rattle.io.specs.Counts.{Counts};
 ghost use Rattle.wear_print.specs.Tables.{laidIn, countIn};
 ghost use Rattle.wear_answer.specs.Answers.{noneYet, wornFresh, unread, saidIn, uncounted, wearSaid, moreSaid, finalText};

@@ -1,5 +1,5 @@
 use borrow.Author.Needs.{needs}
-use mathlib.Core.Path.{_≡_, ap, _∙_}
+use mathlib.Core.Path.{ap, _∙_}
 use Rattle.recording_walk.specs.declared.Checked.{Checked}
 use Rattle.c_recording.specs.Records.{checkedOut}
 use Rattle.c_recording.proofs.ended.Statement.{statement}

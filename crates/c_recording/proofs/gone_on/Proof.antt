@@ -1,6 +1,6 @@
 use borrow.Author.Needs.{needs}
 use denote.Ref.{now}
-use mathlib.Core.Path.{_≡_, ap, _∙_}
+use mathlib.Core.Path.{ap, _∙_}
 use Rattle.recording.specs.declared.Noted.{Noted}
 use Rattle.recording_walk.specs.Inner.{wentOn, bytesOn}
 use Rattle.c_recording.proofs.gone_on.Statement.{statement}

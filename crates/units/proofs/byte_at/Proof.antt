@@ -1,4 +1,3 @@
-use borrow.Author.Needs.{needs}
 use native.Mathlib.Omega.{arith}
 use Rattle.units.proofs.byte_at.Statement.{statement}
 use Rattle.units.proofs.byte_at.Tie as tie

@@ -1,6 +1,5 @@
-use Prim.Native.Nat.{ℕ}
 use denote.Ref.{now}
-use mathlib.Core.Path.{_≡_, refl, sym, _∙_}
+use mathlib.Core.Path.{refl, sym, _∙_}
 use Rattle.units.specs.Units.{units}
 use Rattle.units.proofs.Widths.{both-there, residue-if, left-there, left-past}
 use borrow.Author.Needs.{needs}

@@ -2,7 +2,6 @@
 use mathlib.Core.Path.{ap, _∙_}
 use denote.Ref.{now}
 use borrow.Author.Tests.{eq-eqb, ne-eqb}
-use Rattle.wear.specs.declared.Reported.{Reported}
 use Rattle.wear_answer.specs.Answers.{uncounted, addedSaid, wearSaid}
 use Rattle.wear_answer.proofs.Ways.{same, silent, taken, refused}
 use borrow.Author.Needs.{needs}

@@ -1,7 +1,6 @@
 -- `wear_answer::finish` meets its contract. Assumes nothing.
 use mathlib.Core.Path.{ap, _∙_}
-use mathlib.Core.List.{List}
-use Prim.Native.Nat.{ℕ, zero-le}
+use Prim.Native.Nat.{zero-le}
 use denote.Ref.{now}
 use Rattle.wear_print.specs.Tables.{laidIn, countIn}
 use Rattle.wear_print.proofs.Laying.{counts}
