@@ -1,8 +1,8 @@
 #!/usr/bin/env bash
 # command.sh: drives ./torfbarke the way a person would: every way to hand over a trace or a script, either engine, every fault of a line, wrong
-# calls, output that cannot be written, dumps, a first call that builds, is killed or finds another's folder, calls at the same time. Where
-# TORFBARKE_PROGRAMS names a folder with the programs they are taken from there; otherwise the first call proves and builds them.
-# Expected answers are those of the page's own example.
+# calls, recordings, output that cannot be written, dumps, a first call that builds, is killed or finds another's folder, calls at the same
+# time. Where TORFBARKE_PROGRAMS names a folder with the programs they are taken from there; otherwise the first call proves and builds
+# them. Expected answers are those of the page's own example.
 set -eu
 unset CDPATH
 root=$(cd "$(dirname "$0")/.." && pwd)
@@ -500,13 +500,148 @@ call "$tb" verify "$work/image" 3 1 "$work/three.load"; try 'verify: four words'
 call "$tb" verify "$work/image" x 1 "$work/three.load" K; try 'verify: no number' 2 '' 'whole numbers'
 call "$tb" verify --help; try 'verify --help' 0 '*' ''
 
+# recordings: a programmer's cycles with the answers seen and the busy counts. The sample erases block 1 in five cycles and programs 5AH at
+# 3A00 in three; by the rules a poll gives 00 while busy and 80 in the cycle that ends the operation
+cp "$root/samples/recording.txt" "$work/recording.txt"
+cp "$root/samples/promised.bin" "$work/promised.bin"
+blank 16384 >"$work/blank.bin"
+{ blank 14848 && printf 'Z' && blank 1535; } | cmp -s - "$work/promised.bin" || wrong 'the promised sample is not FFH with 5AH at 3A00'
+accepted='accepted: 15 records, and the array is the one promised
+'
+check() { call "$tb" recording --promised "$work/promised.bin" "$@"; }
+check "$work/recording.txt"; try 'a recording' 0 "$accepted" ''
+check <"$work/recording.txt"; try 'a recording from standard input' 0 "$accepted" ''
+check - <"$work/recording.txt"; try 'a recording from standard input, by its name' 0 "$accepted" ''
+call "$tb" recording --sample; try 'the sample recording' 0 "$accepted" ''
+call "$tb" recording "$work/recording.txt" --before "$work/blank.bin" --promised "$work/promised.bin"; try 'a recording, options behind it' 0 "$accepted" ''
+call "$tb" recording --promised - "$work/recording.txt" <"$work/promised.bin"; try 'a promised image from standard input' 0 "$accepted" ''
+check --before - "$work/recording.txt" <"$work/blank.bin"; try 'an image before from standard input' 0 "$accepted" ''
+cat "$work/recording.txt" >"$work/fifo" &
+check "$work/fifo"; try 'a recording from a FIFO' 0 "$accepted" ''
+cp "$work/recording.txt" "$work/-r"
+call in_work "$tb" recording --promised promised.bin -- -r; try 'a recording named -r' 0 "$accepted" ''
+# the erase is real: what block 1 held before is gone; what block 2 held is not
+{ blank 14848 && printf 'old bytes' && blank 1527; } >"$work/held.bin"
+check --before "$work/held.bin" "$work/recording.txt"; try 'a part that was not blank' 0 "$accepted" ''
+{ blank 14336 && printf 'old bytes' && blank 2039; } >"$work/held.bin"
+check --before "$work/held.bin" "$work/recording.txt"; try 'another block that was not blank' 1 'the end is at fault: the array differs from the one promised at 3800
+' ''
+
+# spoilt NAME STATUS WORDS LINE TEXT: one line of the sample is another
+spoilt() {
+    awk -v at="$4" -v text="$5" 'NR == at { $0 = text } { print }' "$work/recording.txt" >"$work/bad.txt"
+    check "$work/bad.txt"; try "$1" "$2" "$3
+" ''
+}
+spoilt 'another byte seen' 1 'line 14 is at fault: seen D 5B, the rules give D 5A' 14 'R 1 0 12000 3A00 00 D 5B -----'
+spoilt 'no data seen' 1 'line 14 is at fault: seen N --, the rules give D 5A' 14 'R 1 0 12000 3A00 00 N -- -----'
+spoilt 'data seen at a write' 1 'line 1 is at fault: seen D 80, the rules give N --' 1 'W 1 0 12000 3A00 20 D 80 -----'
+spoilt 'ready too late' 1 'line 7 is at fault: seen D 00, the rules give D 80' 7 'R 1 0 12000 3A00 00 D 00 -----'
+spoilt 'an address past the array' 1 'line 14 is at fault: seen D 5A, the rules refuse the cycle by number 5' 14 'R 1 0 12000 4000 00 D 5A -----'
+spoilt 'a level that is none' 1 'line 1 is at fault: seen N --, the rules refuse the cycle by number 4' 1 'W 1 0 07000 3A00 20 N -- -----'
+spoilt 'a command that is none' 1 'line 13 is at fault: seen N --, the rules refuse the cycle by number 7' 13 'W 1 0 12000 0000 00 N -- -----'
+spoilt 'a cut by VPP' 1 'line 4 is at fault: an operation is cut' 4 'R 1 0 05000 3A00 00 D A8 -----'
+spoilt 'a cut by RP#' 1 'line 4 is at fault: an operation is cut' 4 'R 0 0 12000 3A00 00 N -- -----'
+spoilt 'no count at a confirm' 1 'line 2 is at fault: the count 0 is not 1 to 65535' 2 'W 1 0 12000 3A00 D0 N -- -----'
+spoilt 'a count of 0' 1 'line 2 is at fault: the count 0 is not 1 to 65535' 2 'W 1 0 12000 3A00 D0 N -- 00000'
+spoilt 'a count of 65,536' 1 'line 9 is at fault: the count 65536 is not 1 to 65535' 9 'W 1 0 12000 3A00 5A N -- 65536'
+spoilt 'a count that is too small' 1 'line 6 is at fault: seen D 00, the rules give D 80' 2 'W 1 0 12000 3A00 D0 N -- 00004'
+spoilt 'a count that is too large' 1 'line 7 is at fault: seen D 80, the rules give D 00' 2 'W 1 0 12000 3A00 D0 N -- 65535'
+spoilt 'a count where none is read' 0 "${accepted%?}" 1 'W 1 0 12000 3A00 20 N -- 99999'
+spoilt 'a reset with nothing running' 1 'line 14 is at fault: seen D 5A, the rules give N --' 14 'R 0 0 12000 3A00 00 D 5A -----'
+spoilt 'a reset with nothing running, as it is' 0 "${accepted%?}" 14 'R 0 0 12000 3A00 00 N -- -----'
+ends() { # ends LINES WORDS [MORE]: so many lines of the sample, and perhaps more
+    { head -n "$1" "$work/recording.txt" && printf '%b' "${3-}"; } >"$work/bad.txt"
+    check "$work/bad.txt"; try "a recording that ends: $2" 1 "the end is at fault: $2
+" ''
+}
+ends 1 'not idle, an erase waits for its confirm'
+ends 2 'not idle, an erase is running'
+ends 3 'not idle, an erase is being suspended' 'W 1 0 12000 3A00 B0 N -- -----\n'
+ends 3 'not idle, an erase is suspended' 'W 1 0 12000 3A00 B0 N -- -----\nR 1 0 12000 3A00 00 D C0 -----\n'
+ends 7 'the array differs from the one promised at 3A00'
+ends 8 'not idle, a program waits for its data'
+ends 9 'not idle, a program is running'
+promised() { # promised NAME STATUS WORDS: against the image $work/image3
+    call "$tb" recording --promised "$work/image3" "$work/recording.txt"; try "$1" "$2" "$3
+" ''
+}
+{ blank 14848 && printf 'Z' && blank 1534 && printf '\000'; } >"$work/image3"
+promised 'the last byte of the promised image is another' 1 'the end is at fault: the array differs from the one promised at 3FFF'
+head -c 512 "$work/promised.bin" >"$work/image3"
+promised 'a promised image that is too short' 1 'the end is at fault: the array promised has 512 bytes, the part 16384'
+: >"$work/image3"
+promised 'a promised image that is empty' 1 'the end is at fault: the array promised has 0 bytes, the part 16384'
+{ cat "$work/promised.bin" && printf '\377'; } >"$work/image3"
+promised 'a promised image that is too long' 1 "the end is at fault: the array promised has more bytes than the part's 16384"
+check --before "$work/image3" "$work/recording.txt"; try 'an image before that is too long' 1 'refused 2: the array at the start is not as long as the part
+' ''
+check --before "$work/empty" "$work/recording.txt"; try 'an image before that is empty' 1 'refused 2: the array at the start is not as long as the part
+' ''
+
+# lines that are none, and which of two wrong things is told: the first by its line
+check "$work/empty"; try 'an empty recording' 1 'the end is at fault: the array differs from the one promised at 3A00
+' ''
+call "$tb" recording --promised "$work/blank.bin" "$work/empty"; try 'an empty recording that promises nothing' 0 'accepted: 0 records, and the array is the one promised
+' ''
+none() { # none NAME LINE WORDS BYTES: the sample's first two lines and these bytes
+    { head -n 2 "$work/recording.txt" && printf '%b' "$4"; } >"$work/bad.txt"
+    check "$work/bad.txt"; one "$1" 1 "line $2 is no line of a recording
+" "$3"
+}
+none 'a trace line' 3 'too short: 19 letters before its end, not 30' 'R 1 0 12000 3A00 00\n'
+none 'too long a line' 3 'too long: 31 letters before its end, not 30' 'R 1 0 12000 3A00 00 D 00 000005\n'
+none 'a refusal for an answer' 3 "column 21 has 'X' where D or N stands" 'R 1 0 12000 4000 00 X 05 -----\n'
+none 'a small letter in an answer' 3 "column 23 has 'f', a small letter, where a hexadecimal digit stands" 'R 1 0 12000 3A00 00 D ff -----\n'
+none 'no dashes behind N' 3 "column 23 has '0' where a dash stands" 'R 1 0 12000 3A00 00 N 00 -----\n'
+none 'a count with a dash' 3 "column 30 has '-' where a digit stands" 'R 1 0 12000 3A00 00 D 00 0000-\n'
+none 'dashes with a digit' 3 "column 27 has '5' where a dash stands" 'R 1 0 12000 3A00 00 D 00 -5---\n'
+none 'a count in blanks' 3 "column 26 has a space where a digit or a dash stands" 'R 1 0 12000 3A00 00 D 00     5\n'
+none 'a wrong kind of cycle' 3 "column 1 has 'X' where R, W or I stands" 'X 1 0 12000 3A00 00 D 00 -----\n'
+none 'a carriage return in a recording' 3 'carriage return' 'R 1 0 12000 3A00 00 D 00 -----\r\n'
+none 'no newline in a recording' 3 'no newline' 'R 1 0 12000 3A00 00 D 00 -----'
+none 'a blank line in a recording' 3 'it is blank' '\n'
+none 'a bad line before a fault' 3 'it is blank' '\nR 1 0 12000 3A00 00 D 77 -----\n'
+{ head -n 2 "$work/recording.txt" && printf 'R 1 0 12000 3A00 00 D 77 -----\n\n'; } >"$work/bad.txt"
+check "$work/bad.txt"; try 'a fault before a bad line' 1 'line 3 is at fault: seen D 77, the rules give D 00
+' ''
+yes 'I 1 0 12000 0000 00 N -- -----' | head -n 9998 >"$work/idle.txt"
+call "$tb" recording --promised "$work/blank.bin" "$work/idle.txt"; try 'a recording of 9,998 lines' 0 'accepted: 9998 records, and the array is the one promised
+' ''
+yes 'I 1 0 12000 0000 00 N -- -----' | head -n 20000 >"$work/idle.txt"
+call "$tb" recording --promised "$work/blank.bin" "$work/idle.txt"; one 'a recording that is too long' 1 'line 9999 is no line of a recording
+' 'at most 9,998 lines'
+python3 "$root/tests/recording_said.py" 30 28001 >"$work/out" 2>"$work/err" || wrong 'random recordings: another line'
+cases=$((cases + 30))
+
+# wrong calls of it
+call "$tb" recording --help; try 'recording --help' 0 '*' ''
+grep -q 'Exit status' "$work/out" || wrong 'recording --help: no statuses'
+call "$tb" recording "$work/recording.txt"; one 'no promised image' 2 '' 'no promised image'
+call "$tb" recording "$work/recording.txt" --promised; one 'no name of a promised image' 2 '' '--promised has no image behind it'
+call "$tb" recording --before; one 'no name of an image before' 2 '' '--before has no image behind it'
+call "$tb" recording --promised '' "$work/recording.txt"; one 'an empty name of an image' 2 '' 'the name of an image is empty'
+call "$tb" recording --promised "$work/nowhere" "$work/recording.txt"; one 'no such promised image' 2 '' 'there is no file'
+call "$tb" recording --promised "$work" "$work/recording.txt"; one 'a folder as the promised image' 2 '' 'is a folder'
+check --before "$work/nowhere" "$work/recording.txt"; one 'no such image before' 2 '' 'there is no file'
+check --promised "$work/blank.bin" "$work/recording.txt"; one 'two promised images' 2 '' 'one promised image at a time'
+check --before "$work/blank.bin" --before "$work/blank.bin" "$work/recording.txt"; one 'two images before' 2 '' 'one image before at a time'
+check "$work/nowhere"; one 'no such recording' 2 '' 'there is no file'
+check "$work/recording.txt" "$work/recording.txt"; one 'two recordings' 2 '' 'one recording at a time'
+check --sample "$work/recording.txt"; one 'a recording and the sample' 2 '' 'not both'
+check --words "$work/recording.txt"; one 'recording has no --words' 2 '' 'no option --words'
+check --word "$work/recording.txt"; one 'an option that recording has not' 2 '' 'no option --word'
+call "$tb" recording --promised - - <"$work/recording.txt"; one 'recording and image from standard input' 2 '' 'can be standard input'
+call "$tb" recording --promised - --before - "$work/recording.txt"; one 'two images from standard input' 2 '' 'can be standard input'
+
 # output that cannot be written: every word ends with 4 and one line, or by the signal where its reader has gone
 python3 -c "for i in range(2000): print(4 * i, i)" >"$work/2000.txt"
 "$tb" table write K <"$work/2000.txt" >"$work/2000.load"
 head -n 3000 "$work/most.txt" >"$work/3000.txt"
 all=("--help" "replay --help" "script --help" "read --help" "table --help" "verify --help" "wear --help" "wear page.txt" "wear --words page.txt"
     "replay page.txt" "replay --words page.txt" "replay --engine table page.txt" "replay --engine table --words page.txt" "script script.txt" "script --words script.txt" "read three.load K 6138" "read three.load K 8139"
-    "table write K" "table print three.load K" "verify image 3 1 three.load K" "verify image 3 2 three.load K")
+    "table write K" "table print three.load K" "verify image 3 1 three.load K" "verify image 3 2 three.load K"
+    "recording --help" "recording --promised promised.bin recording.txt" "recording --promised blank.bin recording.txt")
 cd "$work"
 every() { # every TRIAL [CALL..]: a trial of these calls, or of each word; the text of a table is their standard input
     local trial=$1 words
@@ -583,7 +718,7 @@ on_none() {
 }
 : >"$work/status"
 every on_none
-[ "$(cat "$work/status")" = 11 ] || wrong "no temporary files: statuses $(cat "$work/status")"
+[ "$(cat "$work/status")" = 111 ] || wrong "no temporary files: statuses $(cat "$work/status")"
 mkdir "$work/small"
 if mount -t tmpfs -o size=4k tmpfs "$work/small" 2>/dev/null; then
     every on_small "${long[@]}"
@@ -593,7 +728,7 @@ if mount -t tmpfs -o size=4k tmpfs "$work/small" 2>/dev/null; then
         TMPDIR=$work/small "$tb" "$@" >"$work/other" 2>"$work/err" || [ "$?" = "$status" ] || wrong "no room for temporary files: $*: another status"
         cmp -s "$work/out" "$work/other" || wrong "no room for temporary files: $*: other answers"
     }
-    every on_filled "${long[@]}" "read three.load K 6138" "verify image 3 1 three.load K"
+    every on_filled "${long[@]}" "read three.load K 6138" "verify image 3 1 three.load K" "recording --promised promised.bin recording.txt"
     umount "$work/small"
 else
     printf 'tests/command.sh: no small disk can be mounted here, so its cases are left out\n'

@@ -8,7 +8,7 @@ use native.Mathlib.Omega.{arith}
 use lib.Dec.{eqb, leb}
 use lib.ListN.{length, getD, drop, drop-of-length-le}
 use lib.Seq.{drop-cons}
-use borrow.Author.Tests.{eq-eqb, ne-eqb, leb-true, leb-false}
+use borrow.Author.Tests.{eq-eqb, ne-eqb, eqb-false, leb-true, leb-false}
 use Rattle.common.specs.Choice.{if_then_else_}
 use Rattle.recording_answer.specs.Lines.{firstApart}
 
@@ -37,3 +37,15 @@ over xs ys i h = go (leb (length xs) i) refl
     go false e =
         let k : i < length xs = leb-false (length xs) i e in
         ap (firstApart (drop i xs)) (drop-of-length-le ys {i = i} (omega arith)) ∙ none-right (drop i xs)
+
+-- where they differ before the end, they do
+pub place-differs : (xs ys : List ℕ) → length xs ≡ length ys → firstApart xs ys < length ys → getD xs (firstApart xs ys) 0 ≡ getD ys (firstApart xs ys) 0 → ⊥
+place-differs [] [] l h e = omega (arith, h)
+place-differs [] (y ∷ ys) l h e = omega (arith, l)
+place-differs (x ∷ xs) [] l h e = omega (arith, h)
+place-differs (x ∷ xs) (y ∷ ys) l h e = go (eqb x y) refl (place-differs xs ys (let z : length xs ≡ length ys = omega (arith, l) in z)) h e
+  where
+    go : (b : Bool) → eqb x y ≡ b → (firstApart xs ys < length ys → getD xs (firstApart xs ys) 0 ≡ getD ys (firstApart xs ys) 0 → ⊥)
+        → (if b then suc (firstApart xs ys) else 0) < suc (length ys) → getD (x ∷ xs) (if b then suc (firstApart xs ys) else 0) 0 ≡ getD (y ∷ ys) (if b then suc (firstApart xs ys) else 0) 0 → ⊥
+    go true f more k g = more (omega (arith, k)) g
+    go false f more k g = eqb-false x y f g

@@ -1,2 +1,4 @@
 pub mod Apart
+pub mod Widths
+pub mod Claims
 pub mod Unique

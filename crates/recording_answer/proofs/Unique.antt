@@ -1,11 +1,11 @@
 -- Two results that a promise of this crate allows are equal, and so is what it leaves in each thing lent. Assumes nothing.
 use mathlib.Core.Path.{_≡_}
-use mathlib.Core.Bool.{Bool}
 use mathlib.Core.List.{List}
 use Prim.Native.Nat.{ℕ}
 use Rattle.common.specs.Choice.{Unique}
 use Rattle.common.proofs.Choice.{only}
 use Rattle.text.specs.Writing.{laidAt, behind}
+use Rattle.model_types.specs.declared.Phase.{Phase}
 use Rattle.recording.specs.declared.Heard.{Heard}
 use Rattle.recording.specs.declared.Why.{Why}
 use Rattle.recording_answer.specs.Lines.{faultLine, badLine, acceptedLine, endText, firstApart}
@@ -28,11 +28,11 @@ put-accepted-unique out at n = only (behind out at (acceptedLine n))
 pub put-accepted-out-unique : (out : List ℕ) (at n : ℕ) → Unique (λ (left : List ℕ). left ≡ laidAt out at (acceptedLine n))
 put-accepted-out-unique out at n = only (laidAt out at (acceptedLine n))
 
-pub put-end-unique : (out : List ℕ) (at : ℕ) (idle : Bool) (v : ℕ) → Unique (λ (r : ℕ). r ≡ behind out at (endText idle v))
-put-end-unique out at idle v = only (behind out at (endText idle v))
+pub put-end-unique : (out : List ℕ) (at : ℕ) (ph : Phase) (promised array : List ℕ) → Unique (λ (r : ℕ). r ≡ behind out at (endText ph promised array))
+put-end-unique out at ph promised array = only (behind out at (endText ph promised array))
 
-pub put-end-out-unique : (out : List ℕ) (at : ℕ) (idle : Bool) (v : ℕ) → Unique (λ (left : List ℕ). left ≡ laidAt out at (endText idle v))
-put-end-out-unique out at idle v = only (laidAt out at (endText idle v))
+pub put-end-out-unique : (out : List ℕ) (at : ℕ) (ph : Phase) (promised array : List ℕ) → Unique (λ (left : List ℕ). left ≡ laidAt out at (endText ph promised array))
+put-end-out-unique out at ph promised array = only (laidAt out at (endText ph promised array))
 
 pub apart-at-unique : (a b : List ℕ) → Unique (λ (r : ℕ). r ≡ firstApart a b)
 apart-at-unique a b = only (firstApart a b)

@@ -1,18 +1,67 @@
 // What is said of a recording, in words. Each public function takes any input and writes from a place on, as far as out goes.
+use model_types::Phase;
 use recording::Heard;
 use recording::Why;
 ghost use mathlib.Core.Path.{_≡_};
+ghost use mathlib.Core.List.{[]};
+ghost use Prim.Native.Nat.{_≤_};
 ghost use Rattle.recording.specs.declared.Heard.the-variants.{Told};
+ghost use Rattle.text.specs.Digits.{spelled};
 ghost use Rattle.text.specs.Writing.{laidAt, behind};
-ghost use Rattle.recording_answer.specs.Lines.{byteText, heardText, around, givenText, rulesText, seenText, whyText, faultLine, badLine, acceptedLine, addressText, differsText, endText, firstApart};
+ghost use Rattle.recording_answer.specs.Lines.{dataWidth, addressWidth, dataText, addressText, heardText, around, givenText, rulesText, seenText, whyText, faultLine, badLine, acceptedLine, differsText, shorterText, lengthsText, placeText, arrayText, endText, firstApart};
 
-fn put_byte(out: &mut [u8], at: usize, v: u32) -> usize
-    ensures { λ r. ⌜ r ≡ behind (now (out .entry)) at (byteText v) ⌝ }
-    ensures { λ _. ⌜ now (out .exit) ≡ laidAt (now (out .entry)) at (byteText v) ⌝ }
+// So many hexadecimal digits of a number.
+fn put_hex(out: &mut [u8], at: usize, n: usize, v: u64) -> usize
+    requires { ⌜ n ≤ 16 ⌝ }
+    ensures { λ r. ⌜ r ≡ behind (now (out .entry)) at (spelled 16 n v []) ⌝ }
+    ensures { λ _. ⌜ now (out .exit) ≡ laidAt (now (out .entry)) at (spelled 16 n v []) ⌝ }
 {
-    let mut digits = [0u8; 2];
-    text::hex(&mut digits, v as u64);
-    text::put_text(out, at, &digits[0..2])
+    let mut digits = [0u8; 16];
+    let from = 16 - n;
+    text::hex(&mut digits, v);
+    text::put_text(out, at, &digits[from..16])
+}
+
+// The digits that data is told in.
+fn data_width(v: u64) -> usize
+    ensures { λ r. ⌜ r ≡ dataWidth v ⌝ }
+{
+    if v < 0x100 {
+        return 2;
+    }
+    if v < 0x10000 {
+        return 4;
+    }
+    if v < 0x1_0000_0000 {
+        return 8;
+    }
+    16
+}
+
+// The digits that an address is told in.
+fn address_width(v: u64) -> usize
+    ensures { λ r. ⌜ r ≡ addressWidth v ⌝ }
+{
+    if v < 0x100 {
+        return 4;
+    }
+    data_width(v)
+}
+
+fn put_data(out: &mut [u8], at: usize, v: u64) -> usize
+    ensures { λ r. ⌜ r ≡ behind (now (out .entry)) at (dataText v) ⌝ }
+    ensures { λ _. ⌜ now (out .exit) ≡ laidAt (now (out .entry)) at (dataText v) ⌝ }
+{
+    let n = data_width(v);
+    put_hex(out, at, n, v)
+}
+
+fn put_address(out: &mut [u8], at: usize, v: u64) -> usize
+    ensures { λ r. ⌜ r ≡ behind (now (out .entry)) at (addressText v) ⌝ }
+    ensures { λ _. ⌜ now (out .exit) ≡ laidAt (now (out .entry)) at (addressText v) ⌝ }
+{
+    let n = address_width(v);
+    put_hex(out, at, n, v)
 }
 
 // Data that was seen.
@@ -21,7 +70,7 @@ fn put_told(out: &mut [u8], at: usize, v: u16) -> usize
     ensures { λ _. ⌜ now (out .exit) ≡ laidAt (now (out .entry)) at (heardText (Told v)) ⌝ }
 {
     let a = text::put_text(out, at, b"D ");
-    put_byte(out, a, v as u32)
+    put_data(out, a, v as u64)
 }
 
 // The answer seen.
@@ -50,7 +99,7 @@ fn put_given(out: &mut [u8], at: usize, v: u32) -> usize
     ensures { λ _. ⌜ now (out .exit) ≡ laidAt (now (out .entry)) at (givenText v) ⌝ }
 {
     let a = text::put_text(out, at, b"give D ");
-    let b = put_byte(out, a, v);
+    let b = put_data(out, a, v as u64);
     text::put_text(out, b, b"\n")
 }
 
@@ -125,39 +174,6 @@ pub fn put_accepted(out: &mut [u8], at: usize, n: u32) -> usize
     )
 }
 
-fn put_address(out: &mut [u8], at: usize, v: u32) -> usize
-    ensures { λ r. ⌜ r ≡ behind (now (out .entry)) at (addressText v) ⌝ }
-    ensures { λ _. ⌜ now (out .exit) ≡ laidAt (now (out .entry)) at (addressText v) ⌝ }
-{
-    let mut digits = [0u8; 4];
-    text::hex(&mut digits, v as u64);
-    text::put_text(out, at, &digits[0..4])
-}
-
-fn put_differs(out: &mut [u8], at: usize, v: u32) -> usize
-    ensures { λ r. ⌜ r ≡ behind (now (out .entry)) at (differsText v) ⌝ }
-    ensures { λ _. ⌜ now (out .exit) ≡ laidAt (now (out .entry)) at (differsText v) ⌝ }
-{
-    let a = text::put_text(
-        out,
-        at,
-        b"the end is at fault: the array differs from the one promised at ",
-    );
-    let b = put_address(out, a, v);
-    text::put_text(out, b, b"\n")
-}
-
-// Only the end is at fault: the device is idle and the array differs at an address, or it is not idle.
-pub fn put_end(out: &mut [u8], at: usize, idle: bool, v: u32) -> usize
-    ensures { λ r. ⌜ r ≡ behind (now (out .entry)) at (endText idle v) ⌝ }
-    ensures { λ _. ⌜ now (out .exit) ≡ laidAt (now (out .entry)) at (endText idle v) ⌝ }
-{
-    if idle {
-        return put_differs(out, at, v);
-    }
-    text::put_text(out, at, b"the end is at fault: not idle\n")
-}
-
 // Where two slices first differ: how many bytes are the same in front of both.
 pub fn apart_at(a: &[u8], b: &[u8]) -> usize
     ensures { λ r. ⌜ r ≡ firstApart (now (a .entry)) (now (b .entry)) ⌝ }
@@ -171,4 +187,121 @@ pub fn apart_at(a: &[u8], b: &[u8]) -> usize
         i += 1;
     }
     i
+}
+
+fn put_differs(out: &mut [u8], at: usize, v: u64) -> usize
+    ensures { λ r. ⌜ r ≡ behind (now (out .entry)) at (differsText v) ⌝ }
+    ensures { λ _. ⌜ now (out .exit) ≡ laidAt (now (out .entry)) at (differsText v) ⌝ }
+{
+    let a = text::put_text(
+        out,
+        at,
+        b"the end is at fault: the array differs from the one promised at ",
+    );
+    let b = put_address(out, a, v);
+    text::put_text(out, b, b"\n")
+}
+
+fn put_shorter(out: &mut [u8], at: usize, n: u32, m: u32) -> usize
+    ensures { λ r. ⌜ r ≡ behind (now (out .entry)) at (shorterText n m) ⌝ }
+    ensures { λ _. ⌜ now (out .exit) ≡ laidAt (now (out .entry)) at (shorterText n m) ⌝ }
+{
+    let a = put_around(
+        out,
+        at,
+        b"the end is at fault: the array promised has ",
+        n,
+        b" bytes, the part ",
+    );
+    let b = text::put_decimal(out, a, m);
+    text::put_text(out, b, b"\n")
+}
+
+// The array promised has another length.
+fn put_lengths(out: &mut [u8], at: usize, n: usize, m: usize) -> usize
+    ensures { λ r. ⌜ r ≡ behind (now (out .entry)) at (lengthsText n m) ⌝ }
+    ensures { λ _. ⌜ now (out .exit) ≡ laidAt (now (out .entry)) at (lengthsText n m) ⌝ }
+{
+    if 0xFFFF_FFFF < m {
+        return text::put_text(
+            out,
+            at,
+            b"the end is at fault: the array promised is not as long as the part\n",
+        );
+    }
+    if m < n {
+        return put_around(
+            out,
+            at,
+            b"the end is at fault: the array promised has more bytes than the part's ",
+            m as u32,
+            b"\n",
+        );
+    }
+    put_shorter(out, at, n as u32, m as u32)
+}
+
+// Two arrays of m bytes differ first at v; past the end they do not.
+fn put_place(out: &mut [u8], at: usize, v: usize, m: usize) -> usize
+    ensures { λ r. ⌜ r ≡ behind (now (out .entry)) at (placeText v m) ⌝ }
+    ensures { λ _. ⌜ now (out .exit) ≡ laidAt (now (out .entry)) at (placeText v m) ⌝ }
+{
+    if v < m {
+        return put_differs(out, at, v as u64);
+    }
+    text::put_text(out, at, b"the end is as it must be\n")
+}
+
+// The array promised against the part's.
+fn put_array(out: &mut [u8], at: usize, promised: &[u8], array: &[u8]) -> usize
+    ensures { λ r. ⌜ r ≡ behind (now (out .entry)) at (arrayText (now (promised .entry)) (now (array .entry))) ⌝ }
+    ensures { λ _. ⌜ now (out .exit) ≡ laidAt (now (out .entry)) at (arrayText (now (promised .entry)) (now (array .entry))) ⌝ }
+{
+    let n = promised.len();
+    let m = array.len();
+    if n == m {
+        let v = apart_at(promised, array);
+        return put_place(out, at, v, m);
+    }
+    put_lengths(out, at, n, m)
+}
+
+// Only the end is at fault: something is awaited, running or suspended there, or the array is not the one promised.
+pub fn put_end(out: &mut [u8], at: usize, ph: Phase, promised: &[u8], array: &[u8]) -> usize
+    ensures { λ r. ⌜ r ≡ behind (now (out .entry)) at (endText ph (now (promised .entry)) (now (array .entry))) ⌝ }
+    ensures { λ _. ⌜ now (out .exit) ≡ laidAt (now (out .entry)) at (endText ph (now (promised .entry)) (now (array .entry))) ⌝ }
+{
+    match ph {
+        Phase::Free => put_array(out, at, promised, array),
+        Phase::EraseAwaited => text::put_text(
+            out,
+            at,
+            b"the end is at fault: not idle, an erase waits for its confirm\n",
+        ),
+        Phase::DataAwaited => text::put_text(
+            out,
+            at,
+            b"the end is at fault: not idle, a program waits for its data\n",
+        ),
+        Phase::Programming(_) => text::put_text(
+            out,
+            at,
+            b"the end is at fault: not idle, a program is running\n",
+        ),
+        Phase::Erasing => text::put_text(
+            out,
+            at,
+            b"the end is at fault: not idle, an erase is running\n",
+        ),
+        Phase::Suspending(_) => text::put_text(
+            out,
+            at,
+            b"the end is at fault: not idle, an erase is being suspended\n",
+        ),
+        Phase::Suspended => text::put_text(
+            out,
+            at,
+            b"the end is at fault: not idle, an erase is suspended\n",
+        ),
+    }
 }

@@ -3,7 +3,7 @@ use mathlib.Core.List.{_++_}
 use denote.Ref.{now}
 use Rattle.text.proofs.Laying.{laid-first, laid-more}
 use Rattle.text.specs.Writing.{bytes}
-use Rattle.recording_answer.specs.Lines.{byteText}
+use Rattle.recording_answer.specs.Lines.{dataText}
 use borrow.Author.Needs.{needs}
 use Rattle.recording_answer.proofs.put_given.Statement.{statement}
 use Rattle.recording_answer.proofs.put_given.Tie as tie
@@ -14,8 +14,8 @@ slice-aggregate-put-text c = search needs
 put-text-requires : tie.Need-put-text-requires
 put-text-requires c κs = search needs
 
-put-byte-requires : tie.Need-put-byte-requires
-put-byte-requires c κs = search needs
+put-data-requires : tie.Need-put-data-requires
+put-data-requires c κs = search needs
 
 slice-aggregate-put-text-2 : tie.Need-slice-aggregate-put-text-2
 slice-aggregate-put-text-2 c = search needs
@@ -31,11 +31,11 @@ returns c =
     let a = c .before .before .before .before .before .before .before .before .before .before .before .before .before .before .before .args in
     let xs = now (a .out) in
     let p0 = c .before .before .before .before .before .before .before .before .before .before .before .put-text in
-    let p1 = c .before .before .before .before .before .before .before .put-byte in
+    let p1 = c .before .before .before .before .before .before .before .put-data in
     let p2 = c .before .before .put-text2 in
     let f0 = laid-first xs (bytes "give D ") (p0 .last .0) (a .at) (p0 .result) (p0 .ensures .0) (p0 .ensures .1) in
-    let f1 = laid-more xs (bytes "give D ") (byteText (a .v)) (p0 .last .0) (p1 .last .0) (a .at) (p0 .result) (p1 .result) f0 (p1 .ensures .0) (p1 .ensures .1) in
-    let f2 = laid-more xs ((bytes "give D ") ++ (byteText (a .v))) (bytes "\n") (p1 .last .0) (p2 .last .0) (a .at) (p1 .result) (p2 .result) f1 (p2 .ensures .0) (p2 .ensures .1) in
+    let f1 = laid-more xs (bytes "give D ") (dataText (a .v)) (p0 .last .0) (p1 .last .0) (a .at) (p0 .result) (p1 .result) f0 (p1 .ensures .0) (p1 .ensures .1) in
+    let f2 = laid-more xs ((bytes "give D ") ++ (dataText (a .v))) (bytes "\n") (p1 .last .0) (p2 .last .0) (a .at) (p1 .result) (p2 .result) f1 (p2 .ensures .0) (p2 .ensures .1) in
     (f2 .place, f2 .bytes)
 
 pub put-given-spec : {M : Type 1} → statement M
@@ -44,7 +44,7 @@ put-given-spec =
     (tie.spec
     slice-aggregate-put-text
     put-text-requires
-    put-byte-requires
+    put-data-requires
     slice-aggregate-put-text-2
     put-text-requires-2
     same-length

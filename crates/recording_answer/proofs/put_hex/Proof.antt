@@ -1,13 +1,17 @@
--- `recording_answer::put_byte` meets its contract. Assumes nothing.
-use mathlib.Core.Path.{ap, _∙_}
+-- `recording_answer::put_hex` meets its contract: the last of sixteen digits. Assumes nothing.
+use mathlib.Core.Path.{refl, ap, _∙_}
 use mathlib.Core.List.{List}
 use Prim.Native.Nat.{ℕ, _-_}
 use lib.ListN.{take, drop}
 use denote.Ref.{now}
 use Rattle.text.specs.Writing.{laidAt, behind}
+use Rattle.recording_answer.proofs.Widths.{hex-last}
 use borrow.Author.Needs.{needs}
-use Rattle.recording_answer.proofs.put_byte.Statement.{statement}
-use Rattle.recording_answer.proofs.put_byte.Tie as tie
+use Rattle.recording_answer.proofs.put_hex.Statement.{statement}
+use Rattle.recording_answer.proofs.put_hex.Tie as tie
+
+sub-from : tie.Need-sub-from
+sub-from c = search needs
 
 slice-aggregate-hex : tie.Need-slice-aggregate-hex
 slice-aggregate-hex c = search needs
@@ -32,15 +36,18 @@ same-length c = search needs
 
 returns : tie.Need-returns
 returns c =
-    let a = c .before .before .before .before .before .before .before .before .before .before .args in
+    let s = c .before .before .before .before .before .before .before .before .before .before in
+    let a = s .args in
     let p = c .before .before .put-text in
-    let e = ap (λ (z : List ℕ). take (2 - 0) (drop 0 z)) (c .before .before .before .before .before .before .before .hex .ensures) in
+    let from = 16 - a .n in
+    let e = ap (λ (z : List ℕ). take (16 - from) (drop from z)) (c .before .before .before .before .before .before .before .hex .ensures) ∙ hex-last (a .n) (a .v) from (s .pre) refl in
     (p .ensures .0 ∙ ap (λ (z : List ℕ). behind (now (a .out)) (a .at) z) e, p .ensures .1 ∙ ap (λ (z : List ℕ). laidAt (now (a .out)) (a .at) z) e)
 
-pub put-byte-spec : {M : Type 1} → statement M
-put-byte-spec =
+pub put-hex-spec : {M : Type 1} → statement M
+put-hex-spec =
     tie.close
     (tie.spec
+    sub-from
     slice-aggregate-hex
     hex-requires
     sub-put-text

@@ -1,0 +1,6 @@
+pub mod Firsts
+pub mod Said
+pub mod Letters
+pub mod Lengths
+pub mod Claims
+pub mod Unique
