@@ -4,12 +4,14 @@
 root=${root:?}
 
 wear_help() {
-    put "usage: torfbarke wear [--words] TRACE..     traces from files, each replayed on a fresh bench T; '-': from standard input
+    put "usage: torfbarke wear [--words] FILE..      traces or recordings, each on a fresh bench T; '-': from standard input
        torfbarke wear [--words] --sample    the sample trace that ships with the project
 
-For each block of bench T comes a row: over all traces the total of the erases begun, the largest and the smallest count of
-one trace, and how many traces passed the sheet's 100,000 (more than 100,000). An erase counts in the cycle whose D0 starts it.
-With a bad line in any trace there is no table: standard error says which file, which line and what is wrong with it.
+For each block of bench T comes a row: over all files the total of the erases begun, the largest and the smallest count of
+one file, and how many files passed the sheet's 100,000 (more than 100,000). An erase counts in the cycle whose D0 starts it.
+A file whose first line goes on where a line of a trace ends is a recording, of a part that was blank at its start; its end and
+its array are not judged here. With a bad line in any file, or a line of a recording at fault, there is no table: standard
+error says which file, which line and what is wrong with it.
 
   --words   a sentence for each block
 
@@ -45,7 +47,7 @@ fi
 for file in "${traces[@]}"; do there "$file"; done
 
 program wear_program
-# a file is read by its name; what can be read only once, a FIFO or standard input, is held: 9,999 lines of 20 bytes
+# a file is read by its name; what can be read only once, a FIFO or standard input, is held: 9,999 lines of 31 bytes
 names=() held=()
 for file in "${traces[@]}"; do
     case $file in
@@ -53,7 +55,7 @@ for file in "${traces[@]}"; do
     *) name=$file ;;
     esac
     if [ "$file" = - ] || [ ! -f "$file" ]; then
-        fetch "$file" 199980
+        fetch "$file" 309969
         held[${#names[@]}]=${bytes?}
         exec {from}< <(give "$bytes")
         name=/dev/fd/$from
@@ -69,6 +71,17 @@ while read -r sign number line; do
     case $sign in
     '?')
         file=${traces[number - 1]}
+        if [ -n "${held[number - 1]+held}" ]; then
+            byte=$(give "${held[number - 1]:76:4}" | od -An -tu1)
+        else
+            byte=$(tail -c +20 2>/dev/null <"$file" | head -c 1 | od -An -tu1)
+        fi
+        # a space behind the first 19 bytes: a recording
+        if [ "${byte// /}" = 32 ]; then
+            say "$file looks like a recording, its first line goes on behind column 19; line $line is no line of one, or at fault: 'torfbarke recording' says more"
+            faults=$((faults + 1))
+            continue
+        fi
         if [ -n "${held[number - 1]+held}" ]; then
             why=$(give "${held[number - 1]:80 * (line - 1):800}" | od -An -v -tu1)
         else

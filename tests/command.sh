@@ -199,6 +199,74 @@ call "$tb" replay -- --engine; one 'a file named --engine that is not there' 2 '
 call "$tb" replay --help --engine; try 'replay --help before the rest' 0 '*' ''
 call "$tb" script --engine table "$work/page.txt"; one 'a script has no engines' 2 '' 'script has no option --engine'
 
+# a recording of a trace: the page's first six lines and an erase, the recording worked out by hand from the rules: P is 2, E is 3, an idle
+# cycle counts nothing while an erase is awaited, and a count stands at the two starts alone
+record_trace='W 1 0 12000 0010 40
+W 1 0 12000 0010 5A
+R 1 0 12000 0010 00
+R 1 0 12000 0010 00
+W 1 0 12000 0000 FF
+R 1 0 12000 0010 00
+W 1 0 12000 3A00 20
+I 1 0 12000 0000 00
+W 1 0 12000 3A00 D0
+R 1 0 12000 3A00 00
+R 1 0 12000 3A00 00
+R 1 0 12000 3A00 00
+'
+recorded='W 1 0 12000 0010 40 N -- -----
+W 1 0 12000 0010 5A N -- 00002
+R 1 0 12000 0010 00 D 00 -----
+R 1 0 12000 0010 00 D 80 -----
+W 1 0 12000 0000 FF N -- -----
+R 1 0 12000 0010 00 D 5A -----
+W 1 0 12000 3A00 20 N -- -----
+I 1 0 12000 0000 00 N -- -----
+W 1 0 12000 3A00 D0 N -- 00003
+R 1 0 12000 3A00 00 D 00 -----
+R 1 0 12000 3A00 00 D 00 -----
+R 1 0 12000 3A00 00 D 80 -----
+'
+printf '%s' "$record_trace" >"$work/record.txt"
+"$tb" replay --record "$work/record.txt" >/dev/null
+call "$tb" replay --record "$work/record.txt"; try 'a recording' 0 "$recorded" ''
+call "$tb" replay "$work/record.txt" --record; try 'a recording, the option behind the file' 0 "$recorded" ''
+call "$tb" replay --record <"$work/record.txt"; try 'a recording from standard input' 0 "$recorded" ''
+call "$tb" replay --record "$work/empty"; try 'a recording of nothing' 0 '' ''
+# what is recorded is accepted with the array that the trace leaves: 5AH at 0010H, the rest blank
+python3 -c 'import sys; sys.stdout.buffer.write(bytes([255] * 16 + [90] + [255] * 16367))' >"$work/recorded.bin"
+"$tb" replay --record "$work/record.txt" >"$work/recorded.txt"
+call "$tb" recording --promised "$work/recorded.bin" "$work/recorded.txt"; try 'a recording is accepted' 0 '*' ''
+grep -q '^accepted' "$work/out" || wrong 'a recording is accepted: other words'
+# no recording: a refused cycle, a bad line, and of both the first
+refusal=': the cycle is refused by 7, which is no answer of a device: there is no recording'
+call "$tb" replay --record "$work/page.txt"; one 'a refused cycle is not recorded' 5 '' "line 7$refusal"
+call "$tb" replay --record --sample; one 'the sample has a refused cycle' 5 '' 'line 19: the cycle is refused by 8, which is no answer of a device: there is no recording'
+call "$tb" replay --record "$root/samples/bad-line.txt"; one 'a bad line is not recorded' 1 '' 'a hexadecimal digit stands (capitals only); there is no recording'
+{ cat "$work/page.txt" && printf 'x\n'; } >"$work/both.txt"
+call "$tb" replay --record "$work/both.txt"; one 'a refused cycle before a bad line' 5 '' "line 7$refusal"
+call "$tb" replay --record "$work/more.txt"; one 'too many lines are not recorded' 1 '' 'at most 9,998'
+# a recording that the check will not accept: a cut, an end that is not idle, and of both the cut
+printf 'W 1 0 12000 3A00 20\nW 1 0 12000 3A00 D0\nR 0 0 12000 0000 00\n' >"$work/cut.txt"
+call "$tb" replay --record "$work/cut.txt"; one 'a cut is recorded' 6 'W 1 0 12000 3A00 20 N -- -----
+W 1 0 12000 3A00 D0 N -- 00003
+R 0 0 12000 0000 00 N -- -----
+' 'line 3 cuts an operation: the check does not accept this recording'
+"$tb" replay --record "$work/cut.txt" >"$work/recorded.txt" 2>/dev/null || :
+call "$tb" recording --promised "$work/recorded.bin" "$work/recorded.txt"; try 'the check does not accept a cut' 1 '*' ''
+printf 'W 1 0 12000 3A00 40\n' >"$work/awaits.txt"
+call "$tb" replay --record "$work/awaits.txt"; one 'an end that is not idle is recorded' 6 'W 1 0 12000 3A00 40 N -- -----
+' 'the end is not idle: the check does not accept this recording'
+{ cat "$work/cut.txt" "$work/awaits.txt"; } >"$work/both.txt"
+call "$tb" replay --record "$work/both.txt"; one 'a cut and an end that is not idle' 6 '*' 'line 3 cuts an operation'
+# wrong calls
+call "$tb" replay --record --words "$work/record.txt"; one 'a recording in words' 2 '' '--record and --words do not go together'
+call "$tb" replay --engine table --record "$work/record.txt"; one 'a recording by the table' 2 '' '--record and --engine do not go together'
+call "$tb" replay --record "$work/nowhere"; one 'a recording of no file' 2 '' 'there is no file'
+call "$tb" replay --record --sample "$work/record.txt"; one 'a recording of a file and the sample' 2 '' 'not both'
+call "$tb" replay -- --record; one 'a file named --record that is not there' 2 '' 'there is no file --record'
+call "$tb" script --record "$work/page.txt"; one 'a script is not recorded' 2 '' 'script has no option --record'
+
 # scripts: the ways to hand one over, the answers of the lines written out, and what is wrong with a line, in words
 printf '( 002\n%s( 003\nI 1 0 12000 0000 00\n)\n)\n' "$page" >"$work/script.txt"
 again=$answers'N -- 80
@@ -296,6 +364,29 @@ call "$tb" wear "$worn/first.txt" "$root/samples/bad-line.txt"; try 'wear of a b
 grep -q 'small letter' "$work/err" || wrong 'wear of a bad line: nothing is told'
 call "$tb" wear "$root/samples/bad-line.txt" "$worn/first.txt" "$work/more.txt"; try 'wear of two bad traces' 1 '' 'more.txt: line 9999 is no line of a trace: a trace has at most 9,998 lines'
 [ "$(wc -l <"$work/err")" = 2 ] || wrong 'wear of two bad traces: not a line for each'
+# recordings: the sample begins one erase of block 1, busy for five cycles; a wrong answer, a bad line, and a recording of a part that was
+# not blank have no counts
+one_erase='block  total  largest  smallest  passed
+    0      0        0         0       0
+    1      1        1         1       0
+    2      0        0         0       0
+    3      0        0         0       0
+'
+call "$tb" wear "$root/samples/recording.txt"; try 'wear of a recording' 0 "$one_erase" ''
+call "$tb" wear - <"$root/samples/recording.txt"; try 'wear of a recording from standard input' 0 "$one_erase" ''
+call "$tb" wear "$worn/first.txt" "$root/samples/recording.txt" "$worn/second.txt"; try 'wear of traces and a recording' 0 'block  total  largest  smallest  passed
+    0      1        1         0       0
+    1      4        2         1       0
+    2      0        0         0       0
+    3      1        1         0       0
+' ''
+sed '6s/D 00/D 80/' "$root/samples/recording.txt" >"$work/wrong.txt"
+call "$tb" wear "$worn/first.txt" "$work/wrong.txt"; one 'wear of a recording at fault' 1 '' 'wrong.txt looks like a recording, its first line goes on behind column 19; line 6 is no line of one, or at fault'
+call "$tb" wear - <"$work/wrong.txt"; one 'wear of a recording at fault from standard input' 1 '' 'line 6 is no line of one, or at fault'
+sed '3s/D 00/D 0/' "$root/samples/recording.txt" >"$work/wrong.txt"
+call "$tb" wear "$work/wrong.txt"; one 'wear of a recording with a bad line' 1 '' 'line 3 is no line of one, or at fault'
+head -n 4 "$root/samples/recording.txt" >"$work/early.txt"
+call "$tb" wear "$work/early.txt"; try 'wear of a recording that ends too early' 0 "$one_erase" ''
 call "$tb" wear; try 'wear of nothing' 2 '' 'no trace'
 call "$tb" wear ''; try 'wear of an empty name' 2 '' 'empty'
 call "$tb" wear "$worn/first.txt" "$work/nowhere"; try 'wear of no file' 2 '' 'there is no file'
@@ -639,7 +730,7 @@ python3 -c "for i in range(2000): print(4 * i, i)" >"$work/2000.txt"
 "$tb" table write K <"$work/2000.txt" >"$work/2000.load"
 head -n 3000 "$work/most.txt" >"$work/3000.txt"
 all=("--help" "replay --help" "script --help" "read --help" "table --help" "verify --help" "wear --help" "wear page.txt" "wear --words page.txt"
-    "replay page.txt" "replay --words page.txt" "replay --engine table page.txt" "replay --engine table --words page.txt" "script script.txt" "script --words script.txt" "read three.load K 6138" "read three.load K 8139"
+    "replay page.txt" "replay --words page.txt" "replay --engine table page.txt" "replay --engine table --words page.txt" "replay --record record.txt" "script script.txt" "script --words script.txt" "read three.load K 6138" "read three.load K 8139"
     "table write K" "table print three.load K" "verify image 3 1 three.load K" "verify image 3 2 three.load K"
     "recording --help" "recording --promised promised.bin recording.txt" "recording --promised blank.bin recording.txt")
 cd "$work"
@@ -697,7 +788,7 @@ else
     every on_gone
 fi
 # a disk that fills up on the way, and a limit of file sizes: the longer outputs are cut, with a word
-long=("replay most.txt" "replay --words most.txt" "replay --engine table most.txt" "replay --engine table --words most.txt" "script 3000.txt" "script --words 3000.txt" "table write K" "table print 2000.load K")
+long=("replay most.txt" "replay --record most.txt" "replay --words most.txt" "replay --engine table most.txt" "replay --engine table --words most.txt" "script 3000.txt" "script --words 3000.txt" "table write K" "table print 2000.load K")
 on_limit() {
     (ulimit -f 1 && exec "$tb" "$@" >"$work/limited" 2>"$work/err") || status=$?
     cut_off 'a limit of file sizes' "$@"

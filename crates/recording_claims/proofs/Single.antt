@@ -80,7 +80,7 @@ passed-uncut part s =
     Un x = isCut (x .effect) ≡ false
 
 -- a cycle that cuts nothing has no cut for its effect
-whole-uncut : (part : Part) (s : State) (c : Cycle) → cutsOff part s c ≡ false → isCut (settleOf part s (c .pins) .effect) ≡ false
+pub whole-uncut : (part : Part) (s : State) (c : Cycle) → cutsOff part s c ≡ false → isCut (settleOf part s (c .pins) .effect) ≡ false
 unfolding settleOf cutsOff
 whole-uncut part s c whole = go (isBusy (s .phase)) refl
   where

@@ -9,6 +9,7 @@ use Rattle.model_types.specs.declared.Wear.{Wear}
 use Rattle.trace_wear.specs.declared.Worn.{Worn}
 use Rattle.trace_wear.specs.declared.Worn.the-variants.{Counted, BadLine}
 use Rattle.trace_wear.specs.Wears.{wornOf}
+use Rattle.recording_wear.specs.Recorded.{looksRecorded, wornRecorded}
 use Rattle.wear.specs.declared.Reported.{Reported}
 use Rattle.wear.specs.Reports.{noReport}
 use Rattle.wear.specs.Refusals.{addedTo}
@@ -21,12 +22,16 @@ abbrev pub noneYet : Counting
 noneYet = record { report = noReport; good = true }
 
 -- a trace on bench T, fresh, with an array and a residue of FFH
-unfoldable pub wornFresh : List ℕ → Worn
-wornFresh text = wornOf (replicate {A = ℕ} 16384 255) (replicate {A = ℕ} 16384 255) text
+unfoldable pub wornTraced : List ℕ → Worn
+wornTraced text = wornOf (replicate {A = ℕ} 16384 255) (replicate {A = ℕ} 16384 255) text
 
--- a trace was not read to its end: fewer bytes than 9,999 lines have, and the file does not end there
+-- a recording or a trace: which of them it is, its first line says
+unfoldable pub wornFresh : List ℕ → Worn
+wornFresh text = if looksRecorded text then wornRecorded text else wornTraced text
+
+-- it was not read to its end: fewer bytes than 9,999 lines of a recording have, and the file does not end there
 unfoldable pub unread : ℕ → Bool → Bool
-unread n ended = ltb n 199980 && not ended
+unread n ended = ltb n 309969 && not ended
 
 -- what one trace comes to: what is known then, and the line that says why it is not counted
 pub record Told : Type 0 where

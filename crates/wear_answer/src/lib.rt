@@ -1,15 +1,15 @@
-// What the wear program says of the traces that its arguments name: a line for each that is not counted, and the table where all are. The
-// public functions take any input.
+// What the wear program says of the traces and recordings that its arguments name: a line for each that is not counted, and the table
+// where all are. The public functions take any input.
 use model_types::Wear;
 use trace_wear::Worn;
 use wear::Report;
 ghost use mathlib.Core.Path.{_≡_};
 ghost use Rattle.io.specs.Counts.{Counts};
 ghost use Rattle.wear_print.specs.Tables.{laidIn, countIn};
-ghost use Rattle.wear_answer.specs.Answers.{noneYet, wornFresh, unread, saidIn, uncounted, wearSaid, moreSaid, finalText};
+ghost use Rattle.wear_answer.specs.Answers.{noneYet, wornTraced, wornFresh, unread, saidIn, uncounted, wearSaid, moreSaid, finalText};
 
-// As many bytes as 9,999 lines have: a trace that fills them is too long, whatever follows.
-pub const ROOM: usize = 199980;
+// As many bytes as 9,999 lines of a recording have: what fills them is too long, whatever follows. A trace's lines are shorter.
+pub const ROOM: usize = 309969;
 
 // What is known after some traces: the report on those that are counted, and whether all of them are.
 pub struct Counting {
@@ -35,12 +35,22 @@ pub fn none() -> Counting
 }
 
 // A trace on bench T, fresh, with an array and a residue of FFH.
-fn judged(text: &[u8]) -> Worn
-    ensures { λ r. ⌜ r ≡ wornFresh (now (text .entry)) ⌝ }
+fn traced(text: &[u8]) -> Worn
+    ensures { λ r. ⌜ r ≡ wornTraced (now (text .entry)) ⌝ }
 {
     let mut array = [255u8; 16384];
     let residue = [255u8; 16384];
     trace_wear::count(text, &mut array, &residue)
+}
+
+// A trace or a recording: which of them it is, its first line says.
+fn judged(text: &[u8]) -> Worn
+    ensures { λ r. ⌜ r ≡ wornFresh (now (text .entry)) ⌝ }
+{
+    if recording_wear::is_recording(text) {
+        return recording_wear::count(text);
+    }
+    traced(text)
 }
 
 // Whether a trace of so many bytes was not read to its end: the room is not full, and the file does not end there.

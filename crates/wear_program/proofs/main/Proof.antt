@@ -8,7 +8,7 @@ use Rattle.wear_program.proofs.main.Statement.{statement}
 use Rattle.wear_program.proofs.main.Tie as tie
 
 abbrev Inv-loop : tie.InvT-loop
-Inv-loop n name₀ text₀ one₀ out₀ counting₀ told₀ k₀ t19 name text one out counting told k = (4096 ≡ length name) × (199980 ≡ length text) × (1 ≡ length one) × (512 ≡ length out)
+Inv-loop n name₀ text₀ one₀ out₀ counting₀ told₀ k₀ t19 name text one out counting told k = (4096 ≡ length name) × (309969 ≡ length text) × (1 ≡ length one) × (512 ≡ length out)
 
 abbrev μ-loop : tie.MeasureT-loop
 μ-loop n name₀ text₀ one₀ out₀ counting₀ told₀ k₀ t19 name text one out counting told k = n - k

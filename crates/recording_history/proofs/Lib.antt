@@ -1,0 +1,4 @@
+pub mod Sources
+pub mod Touching
+pub mod Recordings
+pub mod Claims

@@ -1,0 +1,104 @@
+-- Cycles on a device whose busy times differ from cycle to cycle: where they lead, and what may touch which byte. A recording is such a
+-- history. Addresses x are byte addresses of the lent array in both widths. Assumes nothing.
+use mathlib.Core.Path.{_≡_}
+use mathlib.Core.Bool.{true}
+use mathlib.Core.List.{List, [], _∷_}
+use Prim.Native.Nat.{ℕ, zero, suc, _<_}
+use lib.ListN.{length, take}
+use Rattle.device.specs.declared.Device.{Device}
+use Rattle.model_types.specs.declared.Effect.{Effect}
+use Rattle.model_types.specs.declared.Effect.the-variants.{Nothing, Program, Erase, CutProgram}
+use Rattle.model_types.specs.declared.Kind.the-variants.{Write}
+use Rattle.model_types.specs.Levels.{vppHigh, unlocked}
+use Rattle.model.specs.Arrays.{Accepted}
+use Rattle.model.specs.Begun.{operationOf}
+use Rattle.model_history.specs.History.{Bus, World, worldOf}
+use Rattle.model_touch.specs.Touch.{byRules, answerOn, afterCycle, effectOn, begunOn, askedOn, inUnit, inBlock, isOn, Differs, TouchesOnly, OnlyClears}
+use Rattle.recording.specs.declared.Noted.{Noted}
+use Rattle.recording.specs.Recordings.{timeOf}
+use Rattle.recording_walk.specs.Lists.{Held, onward}
+use Rattle.recording_claims.specs.Histories.{busOf, withTimes}
+
+-- a cycle with the busy times of the device that it is made on
+pub record TimedCycle : Type 0 where
+  pub program : ℕ
+  pub erase : ℕ
+  pub bus : Bus
+
+-- that device: its part and S are those of the one device
+abbrev pub deviceAt : Device → TimedCycle → Device
+deviceAt d t = withTimes d (t .program) (t .erase)
+
+-- the lent bytes and the state after one of them, after all, and before the one at a place
+abbrev pub afterTurn : Device → World → TimedCycle → World
+afterTurn d v t = afterCycle byRules (deviceAt d t) v (t .bus)
+
+abbrev pub afterTurns : Device → World → List TimedCycle → World
+afterTurns d v [] = v
+afterTurns d v (t ∷ ts) = afterTurns d (afterTurn d v t) ts
+
+abbrev pub beforeTurn : Device → World → List TimedCycle → ℕ → World
+beforeTurn d v ts i = afterTurns d v (take i ts)
+
+-- the one at place i is t, counted from 0
+abbrev pub TurnAt : List TimedCycle → ℕ → TimedCycle → Type 0
+TurnAt [] i t = ⊥
+TurnAt (u ∷ ts) zero t = u ≡ t
+TurnAt (u ∷ ts) (suc i) t = TurnAt ts i t
+
+-- what one does to the array, what it begins, and what it asks for at its own address
+abbrev pub effectIn : Device → World → TimedCycle → Effect
+effectIn d v t = effectOn (deviceAt d t) v (t .bus)
+
+abbrev pub operationAt : Device → World → TimedCycle → Effect
+operationAt d v t = begunOn (deviceAt d t) v (t .bus)
+
+abbrev pub askedAt : Device → World → TimedCycle → Effect
+askedAt d v t = askedOn (deviceAt d t) v (t .bus)
+
+-- in front of place i an operation that byte x is one of the bytes of was confirmed: an accepted write that begins what it asks for, with
+-- VPP high
+pub record ConfirmedIn (d : Device) (v : World) (ts : List TimedCycle) (i x : ℕ) : Type 0 where
+  pub index : ℕ
+  pub sooner : index < i
+  pub turn : TimedCycle
+  pub there : TurnAt ts index turn
+  pub write : turn .bus .cycle .kind ≡ Write
+  pub accepted : Accepted (answerOn byRules (deviceAt d turn) (beforeTurn d v ts index) (turn .bus))
+  pub begins : operationAt d (beforeTurn d v ts index) turn ≡ askedAt d (beforeTurn d v ts index) turn
+  pub own : isOn (d .part) (askedAt d (beforeTurn d v ts index) turn) x ≡ true
+  pub supplied : vppHigh (d .part) (turn .bus .cycle .pins) ≡ true
+
+-- it was made unlocked: by the levels of its own cycle
+abbrev pub UnlockedIn : {d : Device} {v : World} {ts : List TimedCycle} {i x : ℕ} → ConfirmedIn d v ts i x → Type 0
+UnlockedIn {d = d} k = unlocked (d .part) (k .turn .bus .cycle .pins) (k .turn .bus .cycle .oe) ≡ true
+
+-- what may touch which byte
+pub record Touch (d : Device) (v : World) (ts : List TimedCycle) : Type 0 where
+  -- A byte changes only where an operation on it, or on its block, was confirmed, and VPP was high at that confirm.
+  pub byte-changes : (x : ℕ) → Differs v (afterTurns d v ts) x → ConfirmedIn d v ts (length ts) x
+  -- A byte of the boot block changes only where that confirm was made unlocked.
+  pub boot-byte : (x : ℕ) (h : Differs v (afterTurns d v ts) x) → inBlock (d .part) 0 x ≡ true → UnlockedIn (byte-changes x h)
+  -- A program that is not cut only clears bits, and touches one byte, or in word mode one word.
+  pub program : (i : ℕ) (t : TimedCycle) → TurnAt ts i t → (a y : ℕ) → effectIn d (beforeTurn d v ts i) t ≡ Program a y
+      → OnlyClears (beforeTurn d v ts i) (afterTurn d (beforeTurn d v ts i) t)
+      × TouchesOnly (inUnit (d .part) a) (beforeTurn d v ts i) (afterTurn d (beforeTurn d v ts i) t)
+  -- An erase touches its own block and nothing else, whether it is cut or not.
+  pub erase : (i : ℕ) (t : TimedCycle) → TurnAt ts i t → (k : ℕ) → operationOf (effectIn d (beforeTurn d v ts i) t) ≡ Erase k
+      → TouchesOnly (inBlock (d .part) k) (beforeTurn d v ts i) (afterTurn d (beforeTurn d v ts i) t)
+  -- A program that is cut only clears bits too, and touches no more.
+  pub cut-program : (i : ℕ) (t : TimedCycle) → TurnAt ts i t → (a y : ℕ) → effectIn d (beforeTurn d v ts i) t ≡ CutProgram a y
+      → OnlyClears (beforeTurn d v ts i) (afterTurn d (beforeTurn d v ts i) t)
+      × TouchesOnly (inUnit (d .part) a) (beforeTurn d v ts i) (afterTurn d (beforeTurn d v ts i) t)
+  -- A cycle in which no operation ends and none is cut touches nothing.
+  pub no-effect : (i : ℕ) (t : TimedCycle) → TurnAt ts i t → effectIn d (beforeTurn d v ts i) t ≡ Nothing
+      → afterTurn d (beforeTurn d v ts i) t .bytes ≡ beforeTurn d v ts i .bytes
+
+-- a recording as such a history: a turn for each record, with the record's own time
+abbrev pub turnsOf : Device → Held → List Noted → List TimedCycle
+turnsOf d v [] = []
+turnsOf d v (r ∷ rs) = record { program = timeOf (d .part) (v .state) r; erase = timeOf (d .part) (v .state) r; bus = busOf r } ∷ turnsOf d (onward d v r) rs
+
+-- what is held, as a world
+abbrev pub worldIn : Held → World
+worldIn v = worldOf (v .state) (v .bytes)

@@ -1,0 +1,4 @@
+pub mod Turns
+pub mod Wholes
+pub mod Notes
+pub mod Unique

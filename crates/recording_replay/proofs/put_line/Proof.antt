@@ -1,0 +1,47 @@
+-- `recording_replay::put_line` meets its contract. Assumes nothing.
+use mathlib.Core.List.{_++_}
+use denote.Ref.{now}
+use Rattle.text.specs.Digits.{decimalOf}
+use Rattle.text.specs.Writing.{bytes}
+use Rattle.text.proofs.Laying.{laid-first, laid-more}
+use borrow.Author.Needs.{needs}
+use Rattle.recording_replay.proofs.put_line.Statement.{statement}
+use Rattle.recording_replay.proofs.put_line.Tie as tie
+
+slice-aggregate-put-text : tie.Need-slice-aggregate-put-text
+slice-aggregate-put-text c = search needs
+
+put-text-requires : tie.Need-put-text-requires
+put-text-requires c κs = search needs
+
+put-decimal-requires : tie.Need-put-decimal-requires
+put-decimal-requires c κs = search needs
+
+put-text-requires-2 : tie.Need-put-text-requires-2
+put-text-requires-2 c κs = search needs
+
+same-length : tie.Need-same-length
+same-length c = search needs
+
+returns : tie.Need-returns
+returns c =
+    let a = c .before .before .before .before .before .before .before .before .before .before .before .before .before .before .before .args in
+    let xs = now (a .out) in
+    let p0 = c .before .before .before .before .before .before .before .before .before .before .put-text in
+    let p1 = c .before .before .before .before .before .before .put-decimal in
+    let p2 = c .before .before .put-text2 in
+    let f0 = laid-first xs (bytes "line ") (p0 .last .0) 0 (p0 .result) (p0 .ensures .0) (p0 .ensures .1) in
+    let f1 = laid-more xs (bytes "line ") (decimalOf (a .n)) (p0 .last .0) (p1 .last .0) 0 (p0 .result) (p1 .result) f0 (p1 .ensures .0) (p1 .ensures .1) in
+    let f2 = laid-more xs (bytes "line " ++ decimalOf (a .n)) (now (a .words)) (p1 .last .0) (p2 .last .0) 0 (p1 .result) (p2 .result) f1 (p2 .ensures .0) (p2 .ensures .1) in
+    (f2 .place, f2 .bytes)
+
+pub put-line-spec : {M : Type 1} → statement M
+put-line-spec =
+    tie.close
+    (tie.spec
+    slice-aggregate-put-text
+    put-text-requires
+    put-decimal-requires
+    put-text-requires-2
+    same-length
+    returns)

@@ -1,0 +1,1 @@
+// Nothing runs here: what is claimed of a trace recorded.

@@ -1,0 +1,1 @@
+// What is claimed of the wear that a recording leaves. Nothing runs here.
