@@ -30,6 +30,7 @@ typedef struct {
     tb_reading (*reading)(const uint8_t *, size_t, int32_t);
     tb_reported (*add)(uint8_t, tb_report, uint8_t, tb_wear);
     tb_reported (*report)(uint8_t, const uint8_t *, size_t, const uint32_t *, size_t);
+    tb_sized (*find)(uint8_t, uint8_t, uint8_t, const uint8_t *, size_t, uint8_t *, size_t);
 } maker;
 
 /* The check as the library works it out: running sums from the last byte on, nothing multiplied. */
@@ -46,9 +47,10 @@ static uint16_t c_running_sums(const uint8_t *block, size_t n) {
 
 static const maker proved = {tb_size, tb_block, tb_fresh, tb_cycle, tb_table_cycle, tb_start, tb_step, tb_run, tb_verify_run, tb_load,
                              tb_file_write, tb_file_read, tb_block_check, tb_block_check, tb_table_judge, tb_table_reading,
-                             tb_wear_add, tb_wear_report};
+                             tb_wear_add, tb_wear_report, tb_store_find};
 static const maker second = {c_size, c_block, c_fresh, c_cycle, c_cycle, c_start, c_step, c_run, c_verify_run, c_load, c_file_write,
-                             c_file_read, c_block_check, c_running_sums, c_table_judge, c_table_reading, c_wear_add, c_wear_report};
+                             c_file_read, c_block_check, c_running_sums, c_table_judge, c_table_reading, c_wear_add, c_wear_report,
+                             c_store_find};
 
 /* What the work is done on; `ready` of a row sets it, and all of it is compared after the row. It stands at the start of a page,
  * since the C library's copies go different ways for different addresses. */
@@ -362,6 +364,26 @@ static void work_report(const maker *m) {
         at.reported = m->report(3, at.numbers, size, at.counts, 7 * size);
 }
 
+/* A store of eight files that fill the main block of part `size`: 28 places each on the 28F001BX, 3 or 4 on bench T. */
+static void ready_store(void) {
+    static const uint8_t few[8] = {4, 4, 4, 4, 3, 3, 3, 3};
+    tb_span b = c_block((uint8_t)size, 3);
+    uint8_t *to = at.array + b.first;
+    specks(at.payload, sizeof at.payload);
+    for (int i = 0; i < 8; i++) {
+        size_t blocks = b.length > 100000 ? 28 : few[i];
+        to += c_file_write((uint8_t)TB_LETTERS[i], at.payload, blocks * TB_FILE_USED, to, blocks * TB_FILE_BLOCK).length;
+    }
+}
+static void work_find(const maker *m) {
+    for (int i = 0; i < TURNS; i++)
+        at.sized = m->find((uint8_t)size, 0, 'T', at.array, c_size((uint8_t)size), at.file, sizeof at.file);
+}
+static void work_find_none(const maker *m) {
+    for (int i = 0; i < TURNS; i++)
+        at.sized = m->find((uint8_t)size, 0, 'A', at.array, c_size((uint8_t)size), at.file, sizeof at.file);
+}
+
 static const struct {
     const char *name;
     size_t size;
@@ -420,6 +442,10 @@ static const struct {
     {"wear: a report with one trace more", 0, TURNS, ready_traces, work_add, NULL},
     {"wear: a report on 100 traces", 100, TURNS, ready_traces, work_report, NULL},
     {"wear: a report on 1,000 traces", 1000, TURNS, ready_traces, work_report, NULL},
+    {"store: eight files in 28 places judged", 3, TURNS, ready_store, work_find_none, NULL},
+    {"store: a file of 3 blocks found among them", 3, TURNS, ready_store, work_find, NULL},
+    {"store: eight files in 224 places judged", 1, TURNS, ready_store, work_find_none, NULL},
+    {"store: a file of 28 blocks found among them", 1, TURNS, ready_store, work_find, NULL},
 };
 
 /* A number over everything that the work left. Structs have padding, so it goes field by field. */

@@ -8,6 +8,7 @@ here=$(dirname -- "$(readlink -f -- "$0")")
 . "$here/../tests/host/tools.sh"
 archive
 table_archive
+store_archive
 compiler
 emulator
 want 'command -v gcc' gcc libc6-dev
@@ -16,7 +17,7 @@ want 'command -v gcc' gcc libc6-dev
 major=$(qemu-x86_64 --version | sed -n 's/^qemu-x86_64 version \([0-9]*\).*/\1/p')
 gcc -O2 -fPIC -shared -DVERSION=$((major < 9 ? 1 : 2)) "$here/count.c" -o "$out/count.so" || fail 3 "the counter could not be built"
 second=$here/../tests/host
-$CC -std=gnu11 -O3 -Wall -Wextra -Werror -static -I "$inc" -I "$second" "$here/main.c" "$second"/second_*.c "$lib" "$table" \
+$CC -std=gnu11 -O3 -Wall -Wextra -Werror -static -I "$inc" -I "$second" "$here/main.c" "$second"/second_*.c "$lib" "$table" "$store" \
     -o "$out/bench" ||
     fail 3 "the bench could not be built"
 qemu-x86_64 -cpu qemu64 -plugin "$out/count.so" -d plugin -D "$out/marks" "$out/bench" >"$out/rows" ||

@@ -10,7 +10,7 @@ enum { PARTS = 8, WIDTHS = 2 };
 static uint64_t numbers[GROUPS][256], worded[ON_DEVICES][256], devices[ON_DEVICES][PARTS + 1][WIDTHS];
 static uint64_t phases[WIDTHS][256], stages[WIDTHS][256], edges[EDGES], marks[MARKS];
 static uint64_t erases[2][PARTS + 1][WIDTHS][TB_BLOCKS_MOST]; /* counted in a cycle, and in a run */
-static uint64_t all_blocks, all_cycles, all_table_cycles, all_loads, all_files, all_steps, all_readings, all_reports, all_recordings;
+static uint64_t all_blocks, all_cycles, all_table_cycles, all_loads, all_files, all_steps, all_readings, all_reports, all_recordings, all_stores;
 
 void met(int group, uint8_t number) { numbers[group][number]++; }
 void met_on(int group, uint8_t part, uint8_t word, uint8_t number, bool refused) {
@@ -39,12 +39,13 @@ void count_step(void) { all_steps++; }
 void count_reading(void) { all_readings++; }
 void count_report(void) { all_reports++; }
 void count_recording(void) { all_recordings++; }
+void count_store(void) { all_stores++; }
 
 static void counts(void) {
-    printf("%llu blocks of parts, %llu cycles, %llu by the table, %llu loads, %llu files, %llu steps, %llu readings, %llu reports, %llu recordings",
+    printf("%llu blocks of parts, %llu cycles, %llu by the table, %llu loads, %llu files, %llu steps, %llu readings, %llu reports, %llu recordings, %llu calls on stores",
            (unsigned long long)all_blocks, (unsigned long long)all_cycles, (unsigned long long)all_table_cycles,
            (unsigned long long)all_loads, (unsigned long long)all_files, (unsigned long long)all_steps, (unsigned long long)all_readings,
-           (unsigned long long)all_reports, (unsigned long long)all_recordings);
+           (unsigned long long)all_reports, (unsigned long long)all_recordings, (unsigned long long)all_stores);
 }
 
 void mismatch(const char *what) {
@@ -78,6 +79,10 @@ static const struct {
     [IN_READING] = {"reading", {0, 31, 35, 37, 38, 40, 41}, 7},
     [IN_WEAR_ADD] = {"a trace more", {0, 1, 47, 48}, 4},
     [IN_WEAR_REPORT] = {"report", {0, 1, 11, 47, 48}, 5},
+    [IN_STORE_FIND] = {"find in a store", {0, 1, 2, 37, 42, 44}, 6},
+    [IN_STORE_READ] = {"read in a store", {0, 1, 2, 37, 40, 41, 42, 44}, 8},
+    [IN_STORE_DROP] = {"drop from a store", {0, 1, 2, 3, 4, 11, 12, 21, 42, 44}, 10},
+    [IN_STORE_ADD] = {"add to a store", {0, 1, 2, 3, 4, 11, 12, 21, 30, 31, 32, 33, 34, 35, 38, 43, 44}, 17},
 };
 
 static const char *const mark_names[MARKS] = {
@@ -155,6 +160,14 @@ static const char *const mark_names[MARKS] = {
     [FAULT_PROMISED] = "another array promised",
     [FAULT_PROMISED_LENGTH] = "an array of another length promised",
     [COUNT_UNREAD] = "a count of 0 that is not read, at a second write",
+    [STORE_SLID] = "a store's files that slide",
+    [STORE_SLID_REPLACED] = "files that slide and one that is replaced",
+    [STORE_REPLACED] = "a file replaced without a slide",
+    [STORE_FULL_REPLACED] = "43 for a letter that is there",
+    [STORE_FULL_LONG] = "43 for a file longer than the block",
+    [STORE_ON_BR] = "an add on devices 5 to 8",
+    [STORE_NO_LETTER] = "42 for a letter that is none",
+    [STORE_NO_WORDS] = "a find on devices 5 to 8",
 };
 
 static int missing;

@@ -30,7 +30,7 @@ uint8_t *ref_of(twin *);
 /* The account. A call is compared by its answer and by every byte that it was lent. */
 enum {
     IN_CYCLE, IN_TABLE_CYCLE, IN_RECORDING, IN_START, IN_STEP, IN_RUN, IN_LOAD_RUN, IN_VERIFY_RUN, IN_LOAD, IN_VERIFY_FILE,
-    IN_WRITE, IN_READ, IN_TABLE, IN_READING, IN_WEAR_ADD, IN_WEAR_REPORT, GROUPS
+    IN_WRITE, IN_READ, IN_TABLE, IN_READING, IN_WEAR_ADD, IN_WEAR_REPORT, IN_STORE_FIND, IN_STORE_READ, IN_STORE_DROP, IN_STORE_ADD, GROUPS
 };
 enum { ON_DEVICES = IN_VERIFY_FILE + 1 }; /* the groups before this are about a device */
 void met(int group, uint8_t number);
@@ -51,7 +51,8 @@ enum {
     TRACES_NONE, TRACES_MOST, TRACES_OVER, TRACES_TURNED, ONE_HUNDRED_THOUSAND, TOTAL_OVER_32_BITS, TOTAL_STOPPED, PASSED_STOPPED,
     OTHER_FIRST, OTHER_LAST, FROM_UNKNOWN,
     ACCEPTED, ACCEPTED_EMPTY, ACCEPTED_ERASE, ACCEPTED_SUSPENDED, FAULT_FIRST, FAULT_LAST, FAULT_IN_END, FAULT_CUT, FAULT_HELD_CUT, FAULT_COUNT,
-    FAULT_COUNT_WRAPS, FAULT_SEEN, FAULT_AWAITING, FAULT_PROMISED, FAULT_PROMISED_LENGTH, COUNT_UNREAD, MARKS
+    FAULT_COUNT_WRAPS, FAULT_SEEN, FAULT_AWAITING, FAULT_PROMISED, FAULT_PROMISED_LENGTH, COUNT_UNREAD,
+    STORE_SLID, STORE_SLID_REPLACED, STORE_REPLACED, STORE_FULL_REPLACED, STORE_FULL_LONG, STORE_ON_BR, STORE_NO_LETTER, STORE_NO_WORDS, MARKS
 };
 void mark_if(bool seen, int which);
 
@@ -64,6 +65,7 @@ void count_step(void);
 void count_reading(void);
 void count_report(void);
 void count_recording(void);
+void count_store(void); /* a call on one */
 void untouched(bool refused, const char *what, twin **, size_t); /* between the two calls: a refusal changed nothing */
 void alike(bool answers, const char *what, twin **, size_t);     /* after both calls */
 _Noreturn void mismatch(const char *what);
@@ -98,6 +100,7 @@ void files(uint32_t n);
 void readings(uint32_t n);
 void wears(uint32_t n);
 void recordings(uint32_t n);
+void stores(uint32_t n);
 void wears_long(void); /* 65,535 traces and one more */
 void steps(uint32_t fed, uint32_t fed_long, uint32_t forged);
 void endless(void); /* polls that never get ready */

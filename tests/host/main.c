@@ -29,6 +29,7 @@ int main(int argc, char **argv) {
         readings(500);
         wears(1000);
         recordings(200);
+        stores(40);
     }
     endless();
     return closing(seed, verbose);

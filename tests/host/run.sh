@@ -9,6 +9,7 @@ here=$(dirname -- "$(readlink -f -- "$0")")
 archive
 table_archive
 recording_archive
+store_archive
 compiler
 
 strict=(-O2 -Wall -Wextra -pedantic -Werror -I "$inc")
@@ -59,7 +60,7 @@ objects() { # objects FOLDER SLIP FILE..
 
 build() { # build PROGRAM SLIP
     objects "$out/slip$2" "$2" "$here"/second_*.c
-    $CC -static "$out"/cases/*.o "$out/slip$2"/*.o "$lib" "$table" "$recording" -o "$1" || fail 3 "the tests could not be linked"
+    $CC -static "$out"/cases/*.o "$out/slip$2"/*.o "$lib" "$table" "$recording" "$store" -o "$1" || fail 3 "the tests could not be linked"
 }
 
 shopt -s extglob
@@ -151,7 +152,20 @@ slips='1:a program stores its data without AND
 88:a busy count has 16 bits
 89:what the record at fault would store stays
 90:a recording may end where a second write is awaited
-91:a promised array may be short'
+91:a promised array may be short
+92:a dead place of a store is used again
+93:the replaced file is counted in 43
+94:42 is given before 44
+95:the longest run of blank places is used
+96:a slide turns the order of the files around
+97:the old file is dropped before 43 is judged
+98:the check of a dead place is read
+99:a letter may stand twice in a store
+100:a place is blank by its first byte
+101:43 is given one block too early
+102:a drop marks the first place of a file alone
+103:devices 5 to 8 have a store
+104:44 is given before what the reader says of the file'
 noticed=0 all=$(wc -l <<<"$slips")
 while IFS=: read -r number slip; do
     build "$out/broken" "$number"

@@ -3,6 +3,7 @@
 #include "second_cycle.h"
 #include "second_file.h"
 #include "second_load.h"
+#include "second_run.h"
 
 typedef struct {
     second_chip chip;
@@ -120,6 +121,12 @@ static uint8_t refused(const order *o, size_t array, size_t wanted, size_t scrat
         return TB_BAD_LEVEL;
     uint8_t number = lengths_bad(p, o->block, wanted, scratch);
     return number != TB_OK ? number : o->state.phase != TB_FREE ? TB_UNDER_WAY : TB_OK;
+}
+
+uint8_t second_run_refused(tb_device d, tb_state s, uint8_t rp, uint8_t wp, uint32_t vpp, uint8_t block, size_t array, size_t wanted,
+                           size_t scratch) {
+    order o = {d, s, rp, wp, block, vpp};
+    return refused(&o, array, wanted, scratch);
 }
 
 /* A loop of words and a loop of bytes behind one test. */

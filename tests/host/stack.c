@@ -17,7 +17,7 @@ enum { ROOM = 65536, PAINT = 0xC7, CALLER = 96 };
 
 static _Alignas(64) uint8_t painted[ROOM];
 static uint8_t array[TB_SIZE_MOST], residue[TB_BLOCK_MOST], wanted[8192], scratch[8192], payload[TB_PAYLOAD_MOST], file[TB_FILE_MOST];
-static uint8_t promised[TB_SIZE_MOST];
+static uint8_t promised[TB_SIZE_MOST], memory[14336], main_scratch[14336]; /* of the main block of bench T */
 static tb_record records[12];
 static const tb_device kinds[] = {{TB_BENCH_T, 0, 2, 3, 1}, {TB_28F200BR_T, 0, 2, 3, 1}, {TB_28F200BR_T, 1, 2, 3, 1}};
 static tb_device device;
@@ -83,6 +83,14 @@ static void wear_report(void) {
     memset(numbers, 3, sizeof numbers);
     report = tb_wear_report(3, numbers, sizeof numbers, counts, sizeof counts / sizeof counts[0]).report;
 }
+static void store_add(void) {
+    state = tb_store_add(device, fresh, 1, 0, 12000, 'K', file, 512, array, size, memory, sizeof memory, main_scratch, sizeof main_scratch).state;
+}
+static void store_drop(void) {
+    state = tb_store_drop(device, fresh, 1, 0, 12000, 'K', array, size, memory, sizeof memory, main_scratch, sizeof main_scratch).state;
+}
+static void store_find(void) { byte = tb_store_find(device.number, 0, 'K', array, size, payload, sizeof payload).number; }
+static void store_read(void) { byte = tb_store_read(device.number, 0, 'K', array, size, payload, sizeof payload, 5).answer; }
 static void part(void) { byte = (uint8_t)(tb_size(3) + tb_block(3, 1).first + tb_fresh().status); }
 
 static size_t most, table_most; /* of all calls but tb_table_cycle, and of that */
@@ -170,6 +178,20 @@ static void on_device(tb_device d) {
     }
 }
 
+/* A file into the empty store, found, read by and dropped; then into a store of dead places, by a slide. */
+static void on_store(void) {
+    void (*const calls[])(void) = {store_add, store_find, store_read, store_drop, store_add};
+    device = kinds[0];
+    size = tb_size(device.number);
+    write_short();
+    memset(array, 0xFF, size);
+    for (size_t i = 0; i < sizeof calls / sizeof calls[0]; i++) {
+        measure(calls[i]);
+        if (calls[i] == store_drop)
+            memset(array, 0, 14336);
+    }
+}
+
 static void holds(const char *what, size_t used, size_t told) {
     if (used <= told + CALLER)
         return;
@@ -184,6 +206,7 @@ void stack(bool verbose) {
         measure(calls[i]);
     for (size_t i = 0; i < sizeof kinds / sizeof kinds[0]; i++)
         on_device(kinds[i]);
+    on_store();
     measure(blank);
     if (verbose)
         printf("stack  %zu bytes at most, %zu by the table\n", most - none, table_most - none);

@@ -1,0 +1,4 @@
+pub mod Blocks
+pub mod Judging
+pub mod Leaving
+pub mod Unique

@@ -1,0 +1,42 @@
+use borrow.Author.Needs.{needs}
+use lib.ListN.{length}
+use Rattle.file_codec.specs.File.{limit}
+use Rattle.store_places.specs.Store.{dropOf}
+use Rattle.store_survey.specs.Survey.{faultOf}
+use Rattle.store.specs.Stores.{mainOf, dropNumber}
+use Rattle.store.proofs.Leaving.{change-told}
+use Rattle.store.proofs.drop_letter.Statement.{statement}
+use Rattle.store.proofs.drop_letter.Tie as tie
+
+drop-prepared-requires : tie.Need-drop-prepared-requires
+drop-prepared-requires c κs = search needs
+
+change-requires : tie.Need-change-requires
+change-requires c κs = search needs
+
+same-length : tie.Need-same-length
+same-length c = search needs
+
+same-length-2 : tie.Need-same-length-2
+same-length-2 c = search needs
+
+same-length-3 : tie.Need-same-length-3
+same-length-3 c = search needs
+
+returns : tie.Need-returns
+returns c =
+    let a = c .before .before .before .before .before .before .before .before .before .before .before .before .before .before .before .before .args in
+    let k = c .before .before .before .before .before .before .before .before .before .before .drop-prepared .ensures in
+    let e = c .before .before .before .before .change .ensures in
+    change-told (dropNumber (a .d) (a .s) (a .p) (a .array .now) (length (a .memory .now)) (length (a .scratch .now)) (a .letter)) (dropOf (faultOf limit) (a .letter) (mainOf (a .d .part) (a .array .now))) (a .d) (a .s) (a .p) (a .array .now) (a .memory .now) (a .scratch .now) _ (k .1) _ _ _ (e .0) (e .1 .0) (e .1 .1) (k .0)
+
+pub drop-letter-spec : {M : Type 1} → statement M
+drop-letter-spec =
+    tie.close
+    (tie.spec
+    drop-prepared-requires
+    change-requires
+    same-length
+    same-length-2
+    same-length-3
+    returns)

@@ -1,0 +1,11 @@
+pub mod Parts
+pub mod Main
+pub mod Rows
+pub mod Contents
+pub mod Calls
+pub mod Many
+pub mod Worn
+pub mod Again
+pub mod More
+pub mod Loads
+pub mod Claims

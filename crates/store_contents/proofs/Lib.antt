@@ -1,0 +1,9 @@
+pub mod Bytewise
+pub mod Sliding
+pub mod Stepping
+pub mod Overlays
+pub mod Slides
+pub mod Adding
+pub mod Numbers
+pub mod Putting
+pub mod Unique

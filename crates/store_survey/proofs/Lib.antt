@@ -1,0 +1,6 @@
+pub mod Reader
+pub mod Walking
+pub mod Turning
+pub mod Spots
+pub mod Carried
+pub mod Unique
