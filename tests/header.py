@@ -38,7 +38,8 @@ constants = {name: int(value, 0) for name, value in re.findall(r"\b(TB_\w+) = (0
 # structs
 STRUCTS = {"Device": "tb_device", "State": "tb_state", "Bus": "tb_bus", "Answer": "tb_answer", "Loader": "tb_loader", "Turn": "tb_turn",
            "Given": "tb_given", "Ran": "tb_ran", "Sized": "tb_sized", "Block": "tb_span", "Reading": "tb_reading", "Wear": "tb_wear",
-           "Tally": "tb_tally", "Record": "tb_record", "Checked": "tb_checked", "Report": "tb_report", "Reported": "tb_reported"}
+           "Tally": "tb_tally", "Record": "tb_record", "Checked": "tb_checked", "Report": "tb_report", "Reported": "tb_reported",
+           "Hold": "tb_hold", "Held": "tb_held", "HeldGiven": "tb_held_given"}
 TYPES = {"u8": "uint8_t", "u16": "uint16_t", "u32": "uint32_t", "u64": "uint64_t", "usize": "size_t", "i32": "int32_t", "f64": "double", "": "void"}
 TYPES.update({f"{crate}Numbers": c for crate, c in STRUCTS.items()})
 

@@ -11,6 +11,7 @@ static uint64_t numbers[GROUPS][256], worded[ON_DEVICES][256], devices[ON_DEVICE
 static uint64_t phases[WIDTHS][256], stages[WIDTHS][256], edges[EDGES], marks[MARKS];
 static uint64_t erases[2][PARTS + 1][WIDTHS][TB_BLOCKS_MOST]; /* counted in a cycle, and in a run */
 static uint64_t all_blocks, all_cycles, all_table_cycles, all_loads, all_files, all_steps, all_readings, all_reports, all_recordings, all_stores;
+static uint64_t all_helds, all_held_steps;
 
 void met(int group, uint8_t number) { numbers[group][number]++; }
 void met_on(int group, uint8_t part, uint8_t word, uint8_t number, bool refused) {
@@ -40,12 +41,15 @@ void count_reading(void) { all_readings++; }
 void count_report(void) { all_reports++; }
 void count_recording(void) { all_recordings++; }
 void count_store(void) { all_stores++; }
+void count_held(void) { all_helds++; }
+void count_held_step(void) { all_held_steps++; }
 
 static void counts(void) {
     printf("%llu blocks of parts, %llu cycles, %llu by the table, %llu loads, %llu files, %llu steps, %llu readings, %llu reports, %llu recordings, %llu calls on stores",
            (unsigned long long)all_blocks, (unsigned long long)all_cycles, (unsigned long long)all_table_cycles,
            (unsigned long long)all_loads, (unsigned long long)all_files, (unsigned long long)all_steps, (unsigned long long)all_readings,
            (unsigned long long)all_reports, (unsigned long long)all_recordings, (unsigned long long)all_stores);
+    printf(", %llu interrupted loads, %llu steps of such", (unsigned long long)all_helds, (unsigned long long)all_held_steps);
 }
 
 void mismatch(const char *what) {
@@ -73,6 +77,10 @@ static const struct {
     [IN_VERIFY_RUN] = {"verify", {0, 1, 2, 3, 4, 10, 11, 12, 25}, 9},
     [IN_LOAD] = {"load", {0, 1, 2, 3, 4, 10, 11, 12, 21, 23, 24, 30, 31, 32, 33, 34, 35, 38}, 18},
     [IN_VERIFY_FILE] = {"verify a file", {0, 1, 2, 3, 4, 10, 11, 12, 25, 30, 31, 32, 33, 34, 35, 38}, 16},
+    [IN_HELD_START] = {"start of an interrupted load", {0, 1, 4, 5, 10, 11, 37, 45, 46}, 9},
+    [IN_HELD_STEP] = {"step of an interrupted load", {0, 1, 3, 4, 5, 10, 11, 20, 21, 22, 23, 24, 37, 45, 46}, 15},
+    [IN_HELD_RUN] = {"interrupted load", {0, 1, 2, 3, 4, 5, 10, 11, 12, 21, 23, 24, 37, 45, 46}, 15},
+    [IN_HELD_LOAD] = {"interrupted load from a file", {0, 2, 4, 5, 10, 11, 21, 23, 31, 35}, 10},
     [IN_WRITE] = {"write", {0, 32, 36, 37}, 4},
     [IN_READ] = {"read", {0, 30, 31, 32, 33, 34, 35, 37, 38}, 9},
     [IN_TABLE] = {"table", {0, 40, 41}, 3},
@@ -168,6 +176,19 @@ static const char *const mark_names[MARKS] = {
     [STORE_ON_BR] = "an add on devices 5 to 8",
     [STORE_NO_LETTER] = "42 for a letter that is none",
     [STORE_NO_WORDS] = "a find on devices 5 to 8",
+    [HELD_USUAL] = "a usual step of an interrupted load",
+    [HELD_HALTING] = "B0H in a poll's place",
+    [HELD_LOOKING] = "70H in an interruption",
+    [HELD_SETTLING] = "a poll of a suspend's own wait",
+    [HELD_TURNING] = "FFH in an interruption",
+    [HELD_FETCHING] = "a read in an interruption",
+    [HELD_RESUMING] = "D0H in an interruption",
+    [HELD_MADE] = "a load with interruptions",
+    [HELD_WORDS] = "a load with interruptions in word mode",
+    [HELD_NO_READS] = "interruptions without reads",
+    [HELD_ALL_READS] = "interruptions of 4,096 reads",
+    [HELD_NEVER] = "polls that never came",
+    [HELD_NO_ERASE] = "polls listed where nothing is erased",
 };
 
 static int missing;
@@ -195,7 +216,7 @@ static void line_of_words(bool verbose, int g) {
     uint8_t can[sizeof wanted[g].can];
     size_t n = 0;
     for (size_t i = 0; i < wanted[g].n; i++)
-        if (wanted[g].can[i] != TB_NO_DEVICE || (g != IN_START && g != IN_STEP))
+        if (wanted[g].can[i] != TB_NO_DEVICE || (g != IN_START && g != IN_STEP && g != IN_HELD_START && g != IN_HELD_STEP))
             can[n++] = wanted[g].can[i];
     line(verbose, wanted[g].name, ", word mode", worded[g], can, n);
 }

@@ -30,9 +30,10 @@ uint8_t *ref_of(twin *);
 /* The account. A call is compared by its answer and by every byte that it was lent. */
 enum {
     IN_CYCLE, IN_TABLE_CYCLE, IN_RECORDING, IN_START, IN_STEP, IN_RUN, IN_LOAD_RUN, IN_VERIFY_RUN, IN_LOAD, IN_VERIFY_FILE,
+    IN_HELD_START, IN_HELD_STEP, IN_HELD_RUN, IN_HELD_LOAD,
     IN_WRITE, IN_READ, IN_TABLE, IN_READING, IN_WEAR_ADD, IN_WEAR_REPORT, IN_STORE_FIND, IN_STORE_READ, IN_STORE_DROP, IN_STORE_ADD, GROUPS
 };
-enum { ON_DEVICES = IN_VERIFY_FILE + 1 }; /* the groups before this are about a device */
+enum { ON_DEVICES = IN_HELD_LOAD + 1 }; /* the groups before this are about a device */
 void met(int group, uint8_t number);
 void met_on(int group, uint8_t part, uint8_t word, uint8_t number, bool refused); /* of a call about a device */
 void met_phase(uint8_t phase, bool word);
@@ -52,7 +53,9 @@ enum {
     OTHER_FIRST, OTHER_LAST, FROM_UNKNOWN,
     ACCEPTED, ACCEPTED_EMPTY, ACCEPTED_ERASE, ACCEPTED_SUSPENDED, FAULT_FIRST, FAULT_LAST, FAULT_IN_END, FAULT_CUT, FAULT_HELD_CUT, FAULT_COUNT,
     FAULT_COUNT_WRAPS, FAULT_SEEN, FAULT_AWAITING, FAULT_PROMISED, FAULT_PROMISED_LENGTH, COUNT_UNREAD,
-    STORE_SLID, STORE_SLID_REPLACED, STORE_REPLACED, STORE_FULL_REPLACED, STORE_FULL_LONG, STORE_ON_BR, STORE_NO_LETTER, STORE_NO_WORDS, MARKS
+    STORE_SLID, STORE_SLID_REPLACED, STORE_REPLACED, STORE_FULL_REPLACED, STORE_FULL_LONG, STORE_ON_BR, STORE_NO_LETTER, STORE_NO_WORDS,
+    HELD_USUAL, HELD_HALTING, HELD_LOOKING, HELD_SETTLING, HELD_TURNING, HELD_FETCHING, HELD_RESUMING, /* by TB_USUAL to TB_RESUMING */
+    HELD_MADE, HELD_WORDS, HELD_NO_READS, HELD_ALL_READS, HELD_NEVER, HELD_NO_ERASE, MARKS
 };
 void mark_if(bool seen, int which);
 
@@ -66,6 +69,8 @@ void count_reading(void);
 void count_report(void);
 void count_recording(void);
 void count_store(void); /* a call on one */
+void count_held(void);
+void count_held_step(void);
 void untouched(bool refused, const char *what, twin **, size_t); /* between the two calls: a refusal changed nothing */
 void alike(bool answers, const char *what, twin **, size_t);     /* after both calls */
 _Noreturn void mismatch(const char *what);
@@ -101,6 +106,7 @@ void readings(uint32_t n);
 void wears(uint32_t n);
 void recordings(uint32_t n);
 void stores(uint32_t n);
+void helds(uint32_t runs, uint32_t walks, uint32_t forged);
 void wears_long(void); /* 65,535 traces and one more */
 void steps(uint32_t fed, uint32_t fed_long, uint32_t forged);
 void endless(void); /* polls that never get ready */

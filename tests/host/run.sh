@@ -10,6 +10,7 @@ archive
 table_archive
 recording_archive
 store_archive
+held_archive
 compiler
 
 strict=(-O2 -Wall -Wextra -pedantic -Werror -I "$inc")
@@ -60,7 +61,7 @@ objects() { # objects FOLDER SLIP FILE..
 
 build() { # build PROGRAM SLIP
     objects "$out/slip$2" "$2" "$here"/second_*.c
-    $CC -static "$out"/cases/*.o "$out/slip$2"/*.o "$lib" "$table" "$recording" "$store" -o "$1" || fail 3 "the tests could not be linked"
+    $CC -static "$out"/cases/*.o "$out/slip$2"/*.o "$lib" "$table" "$recording" "$store" "$held" -o "$1" || fail 3 "the tests could not be linked"
 }
 
 shopt -s extglob
@@ -165,7 +166,14 @@ slips='1:a program stores its data without AND
 101:43 is given one block too early
 102:a drop marks the first place of a file alone
 103:devices 5 to 8 have a store
-104:44 is given before what the reader says of the file'
+104:44 is given before what the reader says of the file
+110:an interruption may read in the block that is erased
+111:the room of an interruption is counted in units
+112:an interruption looks at no status: no 70H
+113:D0H is written though the erase is finished
+114:the polls of an erase are numbered from 0
+115:20 counts on over an interruption
+116:the number of a poll begins anew after an interruption'
 noticed=0 all=$(wc -l <<<"$slips")
 while IFS=: read -r number slip; do
     build "$out/broken" "$number"

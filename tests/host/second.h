@@ -37,6 +37,17 @@ tb_ran c_load(tb_device, tb_state, uint8_t rp, uint8_t wp, uint32_t vpp, uint8_t
               uint8_t *array, size_t, uint8_t *wanted, size_t, uint8_t *scratch, size_t);
 tb_ran c_verify_file(tb_device, tb_state, uint8_t rp, uint8_t wp, uint32_t vpp, uint8_t block, uint8_t letter, const uint8_t *file,
                      size_t, uint8_t *array, size_t, uint8_t *wanted, size_t, uint8_t *scratch, size_t);
+tb_held_given c_held_start(uint8_t part, uint8_t word, uint8_t rp, uint8_t wp, uint32_t vpp, uint8_t block, uint8_t verify,
+                           const uint8_t *wanted, size_t, const uint8_t *scratch, size_t, const uint32_t *addresses, size_t,
+                           const uint8_t *room, size_t);
+tb_held_given c_held_step(tb_held, uint16_t value, const uint8_t *wanted, size_t, uint8_t *scratch, size_t, const uint32_t *polls, size_t,
+                          const uint32_t *addresses, size_t, uint8_t *room, size_t);
+tb_ran c_held_run(tb_device, tb_state, uint8_t rp, uint8_t wp, uint32_t vpp, uint8_t block, uint8_t verify, uint8_t *array, size_t,
+                  const uint8_t *wanted, size_t, uint8_t *scratch, size_t, const uint32_t *polls, size_t, const uint32_t *addresses,
+                  size_t, uint8_t *room, size_t);
+tb_ran c_held_load(tb_device, tb_state, uint8_t rp, uint8_t wp, uint32_t vpp, uint8_t block, uint8_t verify, uint8_t letter,
+                   const uint8_t *file, size_t, uint8_t *array, size_t, uint8_t *wanted, size_t, uint8_t *scratch, size_t,
+                   const uint32_t *polls, size_t, const uint32_t *addresses, size_t, uint8_t *room, size_t);
 tb_sized c_file_write(uint8_t letter, const uint8_t *payload, size_t, uint8_t *file, size_t);
 tb_sized c_file_read(uint8_t letter, const uint8_t *file, size_t, uint8_t *payload, size_t);
 uint16_t c_block_check(const uint8_t *block, size_t);

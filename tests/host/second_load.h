@@ -70,4 +70,18 @@ static inline uint8_t status_judged(uint8_t status, bool erase) {
     return status & own ? failed : TB_OK;
 }
 
+/* 3 of a record. */
+static inline bool record_bad(const part_rules *p, const tb_loader *l) {
+    if (l->stage > TB_ENDED || (l->end != 0 && l->stage != TB_ENDED) || l->verify > 1 || l->high > 1 || l->polls >= POLLS_MOST)
+        return true;
+    return l->block < p->blocks && l->place >= (p->block[l->block].length >> l->word) + (SLIP(9) ? 1 : 0);
+}
+
+/* 4, 10 and 11. */
+static inline uint8_t unfit(const part_rules *p, const tb_loader *l, size_t wanted, size_t scratch) {
+    return pins_bad(p, l->rp, l->wp, l->vpp_mv) ? TB_BAD_LEVEL : lengths_bad(p, l->block, wanted, scratch);
+}
+
+static inline uint32_t first_of(const part_rules *p, const tb_loader *l) { return p->block[l->block].first >> l->word; }
+
 #endif

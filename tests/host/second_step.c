@@ -120,19 +120,6 @@ static inline void moved(tb_loader *l, bool word, uint16_t value, const uint8_t 
     } /* an end stays */
 }
 
-static inline bool record_bad(const part_rules *p, const tb_loader *l) {
-    if (l->stage > TB_ENDED || (l->end != 0 && l->stage != TB_ENDED) || l->verify > 1 || l->high > 1 || l->polls >= POLLS_MOST)
-        return true;
-    return l->block < p->blocks && l->place >= (p->block[l->block].length >> l->word) + (SLIP(9) ? 1 : 0);
-}
-
-/* 4, 10 and 11. */
-static inline uint8_t unfit(const part_rules *p, const tb_loader *l, size_t wanted, size_t scratch) {
-    return pins_bad(p, l->rp, l->wp, l->vpp_mv) ? TB_BAD_LEVEL : lengths_bad(p, l->block, wanted, scratch);
-}
-
-static inline uint32_t first_of(const part_rules *p, const tb_loader *l) { return p->block[l->block].first >> l->word; }
-
 /* A start: the record at its first stage, and whether the verify is part of what it does. With a mode that is none the record is of
  * no part, 0. */
 static inline tb_given started(uint8_t part, uint8_t word, uint8_t rp, uint8_t wp, uint32_t vpp, uint8_t block, uint8_t stage,

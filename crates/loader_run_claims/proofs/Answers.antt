@@ -88,7 +88,7 @@ module _ (d : Device) (p : Pins) (u : Up d p) (was : State) where
       calm Suspended q = refl
 
   -- a cycle that no late number refuses goes on to its read or write
-  decides : (s t : State) (e : Effect) (kind : Kind) (a b : ℕ) → Proper d s → a < sizeOf (d .part) → shortResidue (d .part) s (cyc p kind a b) 0 ≡ false
+  pub decides : (s t : State) (e : Effect) (kind : Kind) (a b : ℕ) → Proper d s → a < sizeOf (d .part) → shortResidue (d .part) s (cyc p kind a b) 0 ≡ false
       → settleOf (d .part) s p ≡ settledAs t e → lateOf (d .part) t (cyc p kind a b) ≡ 0
       → decideOf d s (cyc p kind a b) (sizeOf (d .part)) 0 ≡ respondOf kind d (cyc p kind a b) (settledAs t e)
   unfolding acceptOf
@@ -99,12 +99,12 @@ module _ (d : Device) (p : Pins) (u : Up d p) (was : State) where
       ∙ ap (λ (x : Settled). respondOf kind d (cyc p kind a b) x) g
 
   -- .. where nothing is pending
-  calm-decides : (s : State) (kind : Kind) (a b : ℕ) → Proper d s → a < sizeOf (d .part) → isPending (s .phase) ≡ false → lateOf (d .part) s (cyc p kind a b) ≡ 0
+  pub calm-decides : (s : State) (kind : Kind) (a b : ℕ) → Proper d s → a < sizeOf (d .part) → isPending (s .phase) ≡ false → lateOf (d .part) s (cyc p kind a b) ≡ 0
       → decideOf d s (cyc p kind a b) (sizeOf (d .part)) 0 ≡ respondOf kind d (cyc p kind a b) (settledAs s Nothing)
   calm-decides s kind a b q h e l = decides s s Nothing kind a b q h (unasked (d .part) s (cyc p kind a b) e) (rest s e) l
 
   -- a write to a device at rest
-  rest-write : (m : Mode) (x a b : ℕ) → fits 2 x ≡ true → a < sizeOf (d .part) → lateOf (d .part) (atRest was m x) (cyc p Write a b) ≡ 0
+  pub rest-write : (m : Mode) (x a b : ℕ) → fits 2 x ≡ true → a < sizeOf (d .part) → lateOf (d .part) (atRest was m x) (cyc p Write a b) ≡ 0
       → decideOf d (atRest was m x) (cyc p Write a b) (sizeOf (d .part)) 0 ≡ decidedAs Quiet (performedOf (actionOf (d .part) Free (commandOf (cyc p Write a b))) d (cyc p Write a b) (atRest was m x)) Nothing
   rest-write m x a b f h l = calm-decides (atRest was m x) Write a b (rest-proper d was m x f) h refl l
 
@@ -135,7 +135,7 @@ module _ (d : Device) (p : Pins) (u : Up d p) (was : State) where
   reads x a f h = calm-decides (atRest was Array x) Read a 0 (rest-proper d was Array x f) h refl refl
 
   -- no late number refuses a read of the status
-  late-status : (s : State) (a : ℕ) → s .mode ≡ Status → lateOf (d .part) s (cyc p Read a 0) ≡ 0
+  pub late-status : (s : State) (a : ℕ) → s .mode ≡ Status → lateOf (d .part) s (cyc p Read a 0) ≡ 0
   unfolding lateOf noCommand suspendedRead noIdentifier
   late-status s a m = simp m (go (isSuspended (s .phase)))
     where
@@ -210,10 +210,10 @@ module _ (d : Device) (p : Pins) (u : Up d p) (was : State) where
         ∙ ap (λ (v : ℕ). st was Status 0 (Programming v) (d .program) a) (data-cell (d .part) (cyc p Write a b) c))
 
     -- a running operation is proper
-    within : (most left : ℕ) → 0 < left → left ≤ most → (eqb left 0 || ltb most left) ≡ false
+    pub within : (most left : ℕ) → 0 < left → left ≤ most → (eqb left 0 || ltb most left) ≡ false
     within most left h m = or-both (eqb left 0) (ltb most left) (ne-eqb left 0 (λ q. omega arith)) (le-ltb most left m)
 
-    in-range : (most left : ℕ) → 0 < left → left ≤ most → ((eqb left 0 || ltb most left) || false) ≡ false
+    pub in-range : (most left : ℕ) → 0 < left → left ≤ most → ((eqb left 0 || ltb most left) || false) ≡ false
     in-range most left h m = or-both (eqb left 0 || ltb most left) false (within most left h m) refl
 
     busy-proper : (ph : Phase) (left a : ℕ) → Runs ph → 0 < left → left ≤ mostLeft d ph → a < sizeOf (d .part) → Proper d (st was Status 0 ph left a)
@@ -249,7 +249,7 @@ module _ (d : Device) (p : Pins) (u : Up d p) (was : State) where
         decides s (atRest was Status 128) (finishOf ph (d .part) a) Read b 0 (busy-proper ph 1 a e (omega arith) m h) g (unasked-high (d .part) s (cyc p Read b 0) (u .up) (r .high)) (counts s e) (late-status (atRest was Status 128) b refl)
 
     -- a running erase that is told to suspend, and the polls of the suspend: while cycles of it are left, and the last one
-    held-proper : (n left a : ℕ) → 0 < n → n ≤ d .suspend → 0 < left → left ≤ d .erase → a < sizeOf (d .part) → Proper d (st was Status 0 (Suspending n) left a)
+    pub held-proper : (n left a : ℕ) → 0 < n → n ≤ d .suspend → 0 < left → left ≤ d .erase → a < sizeOf (d .part) → Proper d (st was Status 0 (Suspending n) left a)
     unfolding badStatus badLeft badAddress
     held-proper n left a y x z m h = record {
       mode = refl;
@@ -267,7 +267,7 @@ module _ (d : Device) (p : Pins) (u : Up d p) (was : State) where
         (counts s (refl, refl) ∙ if-false (eqb (left + 1 - 1) 0) _ _ (ne-eqb (left + 1 - 1) 0 (λ q. omega arith)) ∙ ap (λ (j : ℕ). settledAs (st was Status 0 Erasing j a) Nothing) (let q : left + 1 - 1 ≡ left = omega arith in q))
         refl
 
-    passes : (n left a : ℕ) → settleOf (d .part) (st was Status 0 (Suspending n) left a) p ≡ suspendPassed (st was Status 0 (Suspending n) left a)
+    pub passes : (n left a : ℕ) → settleOf (d .part) (st was Status 0 (Suspending n) left a) p ≡ suspendPassed (st was Status 0 (Suspending n) left a)
     unfolding settleOf passedOf
     passes n left a = simp (u .up, r .high)
 

@@ -47,7 +47,7 @@ use Rattle.loader_run_claims.proofs.Same.{same-list, none-risen, none-a
 use Rattle.loader_run_claims.proofs.Phases as phases
 
 -- a ready status is in the low 8 bits
-low-eight : (x : ℕ) → fits 2 x ≡ true → x % 256 ≡ x
+pub low-eight : (x : ℕ) → fits 2 x ≡ true → x % 256 ≡ x
 low-eight x f = let q : x / 64 ≡ 2 = eqb-true (x / 64) 2 (and-right (eqb (x % 8) 0) (eqb (x / 64) 2) f) in omega arith
 
 -- what follows a load: the verify of a block as wanted, or its end
@@ -116,11 +116,11 @@ module _ (verify : Bool) (d : Device) (p : Pins) (k : ℕ) (u : Up d p) (was : S
         (arrive d w _ _ (ap (λ (m : ℕ). conf (rec (Ended n) i 0) (atRest was Status x) X sc m) (let z : cnt + 1 + 1 + 1 ≡ cnt + 3 = omega arith in z)))))
 
   -- a ready status with a fault ends the load, and scratch stays
-  erase-ends : (x n : ℕ) (sc : List ℕ) → x % 256 ≡ x → isReady x ≡ true → eraseFault x ≡ n → eqb n 0 ≡ false → nextOf (rec EraseWaiting 0 0) x w sc ≡ rec (Ended n) 0 0
+  pub erase-ends : (x n : ℕ) (sc : List ℕ) → x % 256 ≡ x → isReady x ≡ true → eraseFault x ≡ n → eqb n 0 ≡ false → nextOf (rec EraseWaiting 0 0) x w sc ≡ rec (Ended n) 0 0
   unfolding erasePolled
   erase-ends x n sc y ready e z = simp (y, ready, e, z)
 
-  erase-keeps : (x n : ℕ) (sc : List ℕ) → x % 256 ≡ x → eraseFault x ≡ n → eqb n 0 ≡ false → storeOf (rec EraseWaiting 0 0) x w sc ≡ sc
+  pub erase-keeps : (x n : ℕ) (sc : List ℕ) → x % 256 ≡ x → eraseFault x ≡ n → eqb n 0 ≡ false → storeOf (rec EraseWaiting 0 0) x w sc ≡ sc
   unfolding erasedWell
   erase-keeps x n sc y e z = rw (y, e, z) (go (isReady x))
     where

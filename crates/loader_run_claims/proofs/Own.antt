@@ -35,11 +35,11 @@ noted-total f z (e ∷ es) = each e (noted-total f z es)
     each (CutErase k) h = ap (λ (n : ℕ). f (CutErase k) + n) h
 
 -- the model takes each cycle, and none cuts an operation
-abbrev smoothOver : Device → World → List Bus → Bool
+abbrev pub smoothOver : Device → World → List Bus → Bool
 smoothOver d v [] = true
 smoothOver d v (b ∷ bs) = isSmooth (decideOf d (v .state) (b .cycle) (length (v .bytes)) (length (b .residue))) && smoothOver d (stepped d v b) bs
 
-smooth-parts : (d : Device) (bs : List Bus) (v : World) → smoothOver d v bs ≡ true → (acceptsAll d v bs ≡ true) × (uncut (effectsIn d v bs) ≡ true)
+pub smooth-parts : (d : Device) (bs : List Bus) (v : World) → smoothOver d v bs ≡ true → (acceptsAll d v bs ≡ true) × (uncut (effectsIn d v bs) ≡ true)
 smooth-parts d [] v e = (refl, refl)
 smooth-parts d (b ∷ bs) v e =
     let x = decideOf d (v .state) (b .cycle) (length (v .bytes)) (length (b .residue)) in
@@ -56,12 +56,12 @@ abbrev pub deviceIn : Config → World
 deviceIn c = worldOf (c .state) (c .bytes)
 
 -- the cycles cs from v lead to e, begin es, and are smooth where t says so
-record Goes (d : Device) (v : World) (cs : List Cycle) (e : World) (es : List Effect) (t : Bool) : Type 0 where
-  led : worldAfter d v (busesOf cs) ≡ e
-  begun : notedAll (begunOver d v (busesOf cs)) ≡ es
-  smooth : smoothOver d v (busesOf cs) ≡ t
+pub record Goes (d : Device) (v : World) (cs : List Cycle) (e : World) (es : List Effect) (t : Bool) : Type 0 where
+  pub led : worldAfter d v (busesOf cs) ≡ e
+  pub begun : notedAll (begunOver d v (busesOf cs)) ≡ es
+  pub smooth : smoothOver d v (busesOf cs) ≡ t
 
-one-more : (d : Device) (v : World) (cy : Cycle) (cs : List Cycle) (e : World) (es : List Effect) (t : Bool) → Goes d (stepped d v (record { cycle = cy; residue = [] })) cs e es t
+pub one-more : (d : Device) (v : World) (cy : Cycle) (cs : List Cycle) (e : World) (es : List Effect) (t : Bool) → Goes d (stepped d v (record { cycle = cy; residue = [] })) cs e es t
     → Goes d v (cy ∷ cs) e (noted (begunBy d (v .state) cy (length (v .bytes)) 0) es) (isSmooth (decideOf d (v .state) cy (length (v .bytes)) 0) && t)
 one-more d v cy cs e es t h =
     record {

@@ -448,7 +448,7 @@ module _ (verify : Bool) (d : Device) (p : Pins) (k : ℕ) (u : Up d p) (was : S
         later = sym (if-false (eqb (1 + n) 0) m Status (ne-eqb (1 + n) 0 (λ q. omega arith)))
 
     -- the programs from place i on, whatever follows; scratch is the block so far
-    walking : (sx : State) (r : Ready d p k) → Cells (d .part) w → (sc : List ℕ) → length sc ≡ length w → ((i : ℕ) → i < length w → bitAnd (getD sc i 0) (getD w i 0) ≡ getD w i 0) → 0 < d .program → d .program ≤ 65535
+    pub walking : (sx : State) (r : Ready d p k) → Cells (d .part) w → (sc : List ℕ) → length sc ≡ length w → ((i : ℕ) → i < length w → bitAnd (getD sc i 0) (getD w i 0) ≡ getD w i 0) → 0 < d .program → d .program ≤ 65535
         → (e : Config) (cs : List Cycle) (j i cnt : ℕ) (m : Mode) → i + j ≡ length w
         → ((cnt′ : ℕ) (m′ : Mode) → cnt′ ≡ cnt + costs j i sc → m′ ≡ modeAfter m (differing j i w sc) → Reach d w (loadedAs sx m′ cnt′) e [] cs)
         → Reach d w (conf (onto i (overwritten i w sc)) (atRest sx m 128) (overlaid xs a (overwritten i w sc)) (overwritten i w sc) cnt) e (programsOf j a i w sc) (programsThen d p j a i w sc cs)
@@ -500,10 +500,10 @@ module _ (verify : Bool) (d : Device) (p : Pins) (k : ℕ) (u : Up d p) (was : S
         (eqb-true (bitAnd (getD ys (0 + i) 0) (getD w (0 + i) 0)) (getD w (0 + i) 0) (not-false (eqb (bitAnd (getD ys (0 + i) 0) (getD w (0 + i) 0)) (getD w (0 + i) 0)) (no-rise (length w) 0 w ys e i h)))
 
     -- the block all ones
-    abbrev blank : List ℕ
+    abbrev pub blank : List ℕ
     blank = replicate (length w) (ones (d .part))
 
-    erased-blank : (X : List ℕ) (j : ℕ) → j ≡ k → erased (d .part) j X ≡ overlaid X a blank
+    pub erased-blank : (X : List ℕ) (j : ℕ) → j ≡ k → erased (d .part) j X ≡ overlaid X a blank
     unfolding erased
     erased-blank X j e = ap (λ (i : ℕ). overlaid X (startOf (d .part) i) (replicate (lengthOf (d .part) i) (ones (d .part)))) e ∙ ap (λ (n : ℕ). overlaid X a (replicate n (ones (d .part)))) (sym lw)
 
@@ -515,11 +515,11 @@ module _ (verify : Bool) (d : Device) (p : Pins) (k : ℕ) (u : Up d p) (was : S
     unfolding erasedWell eraseFault bothErrors
     erase-keeps q sc = refl
 
-    erase-fills : (q : ℕ) (sc : List ℕ) → length sc ≡ length w → storeOf (rec EraseWaiting 0 q) 128 w sc ≡ blank
+    pub erase-fills : (q : ℕ) (sc : List ℕ) → length sc ≡ length w → storeOf (rec EraseWaiting 0 q) 128 w sc ≡ blank
     unfolding erasedWell eraseFault bothErrors
     erase-fills q sc e = ap (λ (n : ℕ). replicate n (ones (d .part))) e
 
-    erased-on : (q : ℕ) (sc : List ℕ) → nextOf (rec EraseWaiting 0 q) 128 w sc ≡ onto 0 sc
+    pub erased-on : (q : ℕ) (sc : List ℕ) → nextOf (rec EraseWaiting 0 q) 128 w sc ≡ onto 0 sc
     unfolding erasePolled eraseFault bothErrors
     erased-on q sc = onward-onto EraseWaiting 0 q 0 sc
 

@@ -83,14 +83,14 @@ smooth-taken d w c g h =
     not-true (isRefusal (x .reply)) (and-left (not (isRefusal (x .reply))) _ (sym (if-false (isEnded (c .loader .stage)) true (isSmooth x) g) ∙ h))
 
 -- what a host sees of a reply is a refusal where the reply is one
-seen-taken : (r : Reply) (xs : List ℕ) → isRefusal r ≡ false → turns.isRefused (seenOf r xs) ≡ false
+pub seen-taken : (r : Reply) (xs : List ℕ) → isRefusal r ≡ false → turns.isRefused (seenOf r xs) ≡ false
 seen-taken Quiet xs e = refl
 seen-taken (Gives b) xs e = refl
 seen-taken (GivesArray a) xs e = refl
 seen-taken (Refuses n) xs e = e
 
 -- a read that is taken with RP# up is answered by a byte
-read-answered : (d : Device) (s : State) (c : Cycle) (n r : ℕ) (xs : List ℕ) → c .kind ≡ Read → rpLow (c .pins) ≡ false → isRefusal (decideOf d s c n r .reply) ≡ false
+pub read-answered : (d : Device) (s : State) (c : Cycle) (n r : ℕ) (xs : List ℕ) → c .kind ≡ Read → rpLow (c .pins) ≡ false → isRefusal (decideOf d s c n r .reply) ≡ false
     → seenOf (decideOf d s c n r .reply) xs ≡ Data (numberIn (seenOf (decideOf d s c n r .reply) xs))
 read-answered d s c n r xs kind up =
     outcome d s c n r (λ (x : Decision). isRefusal (x .reply) ≡ false → seenOf (x .reply) xs ≡ Data (numberIn (seenOf (x .reply) xs))) (λ m z e q. absurd (unlike q))
@@ -116,7 +116,7 @@ same-byte : (stage : Stage) (l : Loader) (w sc : List ℕ) (b x : ℕ) → b ≡
 same-byte stage l w sc b x q =
     record { stored = ap (λ (y : ℕ). storeIn stage (l .part) (l .place) y w sc) q; next = ap (λ (y : ℕ). nextIn stage l y w (storeIn stage (l .part) (l .place) y w sc)) q }
 
-alike : (stage : Stage) (l : Loader) (w sc : List ℕ) (b x : ℕ) → (stageIs stage .kind ≡ Read → b ≡ x) → Alike stage l w sc b x
+pub alike : (stage : Stage) (l : Loader) (w sc : List ℕ) (b x : ℕ) → (stageIs stage .kind ≡ Read → b ≡ x) → Alike stage l w sc b x
 alike Clearing l w sc b x h = record { stored = refl; next = refl }
 alike Opening l w sc b x h = record { stored = refl; next = refl }
 alike Reading l w sc b x h = same-byte Reading l w sc b x (h refl)
@@ -182,7 +182,7 @@ module _ (d : Device) (w : List ℕ) (c : Config) (going : isEnded (c .loader .s
     step-stored = step-on (c .loader) b w (c .scratch) passes .1 ∙ same .stored ∙ sym turn-scratch
 
 -- what passes the tests of a run passes those of a start
-known-part : (d : Device) → unknownDevice d ≡ false → unknownPart (d .part) ≡ false
+pub known-part : (d : Device) → unknownDevice d ≡ false → unknownPart (d .part) ≡ false
 unfolding unknownDevice
 known-part d e =
     let a = unknownPart (d .part) in
@@ -190,7 +190,7 @@ known-part d e =
     let c = b || eqb (d .erase) 0 in
     or-left a (eqb (d .program) 0) (or-left b (eqb (d .erase) 0) (or-left c (eqb (d .suspend) 0) (or-left (c || eqb (d .suspend) 0) (ltb 100 (d .suspend)) e)))
 
-start-passes : (d : Device) (s : State) (p : Pins) (k array w sc : ℕ) → NoRow (runRows d s p k array w sc) → startNumber (d .part) p k w sc ≡ 0
+pub start-passes : (d : Device) (s : State) (p : Pins) (k array w sc : ℕ) → NoRow (runRows d s p k array w sc) → startNumber (d .part) p k w sc ≡ 0
 unfolding startNumber
 start-passes d s p k array w sc r =
     let r4 = no-tail (no-tail (no-tail r)) in
@@ -199,7 +199,7 @@ start-passes d s p k array w sc r =
     no-row-given (past (known-part d (no-head r)) (past (no-head r4) (past (no-head r5) (past (no-head r6) end))))
 
 -- a record that has ended tells its number and address
-over-given : (stage : Stage) (l : Loader) (w : List ℕ) → isEnded stage ≡ true → turnIn stage l w ≡ Over (endBy stage) (endAddress l (endBy stage))
+pub over-given : (stage : Stage) (l : Loader) (w : List ℕ) → isEnded stage ≡ true → turnIn stage l w ≡ Over (endBy stage) (endAddress l (endBy stage))
 over-given stage l w e = if-true (isEnded stage) (Over (endBy stage) (endAddress l (endBy stage))) (Out (cycleOf l w)) e
 
 -- a run whose cycles the model takes, stepped by hand

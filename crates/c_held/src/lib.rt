@@ -1,0 +1,200 @@
+// A load whose erase is interrupted for readings, for a C program, in an archive of its own: its start, its step and its run, and the records
+// of it as structs of numbers. include/torfbarke.h declares the same structs and functions.
+pub mod holds;
+
+use c_cycle::DeviceNumbers;
+use c_cycle::StateNumbers;
+use c_records::LoaderNumbers;
+use c_records::RanNumbers;
+use c_records::TurnNumbers;
+use loader_held_steps::HeldGiven;
+ghost use mathlib.Core.Path.{_≡_};
+ghost use Rattle.c_held.specs.Helds.{givenHeld, givenHeldBack, startedHeld, steppedHeld, scratchSteppedHeld, roomSteppedHeld, heldRunLeft, heldRunOf, heldLoadLeft, heldLoadOf};
+
+// Where an interruption stands.
+#[repr(C)]
+pub struct HoldNumbers {
+    pub step: u8,
+    pub suspended: u8,
+    pub number: u32,
+    pub waits: u32,
+    pub place: usize,
+}
+
+// The loader's record beside it.
+#[repr(C)]
+pub struct HeldNumbers {
+    pub loader: LoaderNumbers,
+    pub hold: HoldNumbers,
+}
+
+// What a start or a step says, beside the records.
+#[repr(C)]
+pub struct HeldGivenNumbers {
+    pub turn: TurnNumbers,
+    pub held: HeldNumbers,
+}
+
+// What a start says, as numbers.
+fn given_out(g: HeldGiven) -> HeldGivenNumbers
+    ensures { λ r. ⌜ r ≡ givenHeld g ⌝ }
+{
+    let turn = g.turn;
+    let pair = g.pair;
+    HeldGivenNumbers {
+        turn: c_records::records::turn_out(turn),
+        held: holds::held_out(pair),
+    }
+}
+
+// What a step says, for the records that came in.
+fn given_back(n: HeldNumbers, g: HeldGiven) -> HeldGivenNumbers
+    ensures { λ r. ⌜ r ≡ givenHeldBack n g ⌝ }
+{
+    let turn = g.turn;
+    let pair = g.pair;
+    HeldGivenNumbers {
+        turn: c_records::records::turn_out(turn),
+        held: holds::held_back(n, pair),
+    }
+}
+
+// The first cycle of a load that may be interrupted, with the verify after it where verify is not 0.
+#[no_mangle]
+pub extern "C" fn tb_held_start(
+    part: u8,
+    word: u8,
+    rp: u8,
+    wp: u8,
+    vpp: u32,
+    block: u8,
+    verify: u8,
+    wanted: &[u8],
+    scratch: &[u8],
+    addresses: &[u32],
+    room: &[u8],
+) -> HeldGivenNumbers
+    ensures { λ r. ⌜ r ≡ startedHeld part word rp wp vpp block verify (now (wanted .entry)) (now (scratch .entry)) (now (addresses .entry)) (now (room .entry)) ⌝ }
+{
+    let known = c_cycle::states::part_in(part, word);
+    let p = c_cycle::states::pins_in(rp, wp, vpp);
+    given_out(loader_held_steps::start_held(
+        verify != 0,
+        known,
+        p,
+        block,
+        wanted,
+        scratch,
+        addresses,
+        room,
+    ))
+}
+
+// The data that the last cycle read go in, the next cycle or the end comes out, beside the records.
+#[no_mangle]
+pub extern "C" fn tb_held_step(
+    held: HeldNumbers,
+    value: u16,
+    wanted: &[u8],
+    scratch: &mut [u8],
+    polls: &[u32],
+    addresses: &[u32],
+    room: &mut [u8],
+) -> HeldGivenNumbers
+    ensures { λ r. ⌜ r ≡ steppedHeld held value (now (wanted .entry)) (now (scratch .entry)) (now (polls .entry)) (now (addresses .entry)) (now (room .entry)) ⌝ }
+    ensures { λ _. ⌜ now (scratch .exit) ≡ scratchSteppedHeld held value (now (wanted .entry)) (now (scratch .entry)) (now (addresses .entry)) (now (room .entry)) ⌝ }
+    ensures { λ _. ⌜ now (room .exit) ≡ roomSteppedHeld held value (now (wanted .entry)) (now (scratch .entry)) (now (addresses .entry)) (now (room .entry)) ⌝ }
+{
+    let pair = holds::held_in(held);
+    given_back(
+        held,
+        loader_held_steps::step_held(pair, value, wanted, scratch, polls, addresses, room),
+    )
+}
+
+// A load that may be interrupted, run against the model, with the verify after it where verify is not 0.
+#[no_mangle]
+pub extern "C" fn tb_held_run(
+    device: DeviceNumbers,
+    state: StateNumbers,
+    rp: u8,
+    wp: u8,
+    vpp: u32,
+    block: u8,
+    verify: u8,
+    array: &mut [u8],
+    wanted: &[u8],
+    scratch: &mut [u8],
+    polls: &[u32],
+    addresses: &[u32],
+    room: &mut [u8],
+) -> RanNumbers
+    ensures { λ r. ⌜ r ≡ heldRunOf device state rp wp vpp block verify (now (array .entry)) (now (wanted .entry)) (now (scratch .entry)) (now (polls .entry)) (now (addresses .entry)) (now (room .entry)) ⌝ }
+    ensures { λ _. ⌜ now (array .exit) ≡ heldRunLeft device state rp wp vpp block verify (now (array .entry)) (now (wanted .entry)) (now (scratch .entry)) (now (polls .entry)) (now (addresses .entry)) (now (room .entry)) .bytes ⌝ }
+    ensures { λ _. ⌜ now (scratch .exit) ≡ heldRunLeft device state rp wp vpp block verify (now (array .entry)) (now (wanted .entry)) (now (scratch .entry)) (now (polls .entry)) (now (addresses .entry)) (now (room .entry)) .scratch ⌝ }
+    ensures { λ _. ⌜ now (room .exit) ≡ heldRunLeft device state rp wp vpp block verify (now (array .entry)) (now (wanted .entry)) (now (scratch .entry)) (now (polls .entry)) (now (addresses .entry)) (now (room .entry)) .room ⌝ }
+{
+    let d = c_cycle::states::device_in(device);
+    let s = c_cycle::states::state_in(state);
+    let p = c_cycle::states::pins_in(rp, wp, vpp);
+    let ran = loader_held_run::run_held(
+        d,
+        s,
+        p,
+        block,
+        array,
+        wanted,
+        scratch,
+        polls,
+        addresses,
+        room,
+        verify != 0,
+    );
+    c_records::runs::ran_out(state, ran)
+}
+
+// The same from a load file for a letter.
+#[no_mangle]
+pub extern "C" fn tb_held_load(
+    device: DeviceNumbers,
+    state: StateNumbers,
+    rp: u8,
+    wp: u8,
+    vpp: u32,
+    block: u8,
+    verify: u8,
+    letter: u8,
+    file: &[u8],
+    array: &mut [u8],
+    wanted: &mut [u8],
+    scratch: &mut [u8],
+    polls: &[u32],
+    addresses: &[u32],
+    room: &mut [u8],
+) -> RanNumbers
+    ensures { λ r. ⌜ r ≡ heldLoadOf device state rp wp vpp block verify letter (now (file .entry)) (now (array .entry)) (now (wanted .entry)) (now (scratch .entry)) (now (polls .entry)) (now (addresses .entry)) (now (room .entry)) ⌝ }
+    ensures { λ _. ⌜ now (array .exit) ≡ heldLoadLeft device state rp wp vpp block verify letter (now (file .entry)) (now (array .entry)) (now (wanted .entry)) (now (scratch .entry)) (now (polls .entry)) (now (addresses .entry)) (now (room .entry)) .bytes ⌝ }
+    ensures { λ _. ⌜ now (wanted .exit) ≡ heldLoadLeft device state rp wp vpp block verify letter (now (file .entry)) (now (array .entry)) (now (wanted .entry)) (now (scratch .entry)) (now (polls .entry)) (now (addresses .entry)) (now (room .entry)) .wanted ⌝ }
+    ensures { λ _. ⌜ now (scratch .exit) ≡ heldLoadLeft device state rp wp vpp block verify letter (now (file .entry)) (now (array .entry)) (now (wanted .entry)) (now (scratch .entry)) (now (polls .entry)) (now (addresses .entry)) (now (room .entry)) .scratch ⌝ }
+    ensures { λ _. ⌜ now (room .exit) ≡ heldLoadLeft device state rp wp vpp block verify letter (now (file .entry)) (now (array .entry)) (now (wanted .entry)) (now (scratch .entry)) (now (polls .entry)) (now (addresses .entry)) (now (room .entry)) .room ⌝ }
+{
+    let d = c_cycle::states::device_in(device);
+    let s = c_cycle::states::state_in(state);
+    let p = c_cycle::states::pins_in(rp, wp, vpp);
+    let ran = loader_held_file::load_held(
+        d,
+        s,
+        p,
+        block,
+        array,
+        wanted,
+        scratch,
+        file,
+        letter,
+        polls,
+        addresses,
+        room,
+        verify != 0,
+    );
+    c_records::runs::ran_out(state, ran)
+}

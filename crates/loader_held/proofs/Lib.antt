@@ -1,0 +1,3 @@
+pub mod Fetched
+pub mod HeldKept
+pub mod Unique

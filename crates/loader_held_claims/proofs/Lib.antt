@@ -1,0 +1,12 @@
+pub mod HeldAnswers
+pub mod HeldReaching
+pub mod Interrupting
+pub mod ErasePolling
+pub mod Lifting
+pub mod Ways
+pub mod Quiet
+pub mod Whole
+pub mod Rooms
+pub mod Starting
+pub mod Tried
+pub mod Every

@@ -1,0 +1,2 @@
+pub mod HeldMade
+pub mod HeldEnds

@@ -1,0 +1,1 @@
+// The claims about a load whose erase is interrupted. Nothing runs here: the laws are in proofs/.

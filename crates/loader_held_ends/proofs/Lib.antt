@@ -1,0 +1,9 @@
+pub mod HeldGrounds
+pub mod HeldOwn
+pub mod HeldLists
+pub mod HeldMission
+pub mod Addresses
+pub mod HeldLent
+pub mod HeldStepping
+pub mod Readings
+pub mod Claims

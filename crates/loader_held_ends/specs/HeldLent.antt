@@ -1,0 +1,87 @@
+-- A load with interruptions on lent bytes, in byte mode and in word mode, beside the run without them, and demand 3 of it. Assumes
+-- nothing.
+use mathlib.Core.Path.{_≡_}
+use mathlib.Core.Bool.{Bool, true, _&&_}
+use mathlib.Core.List.{List, _++_}
+use Prim.Native.Nat.{ℕ, _+_, _*_, _≤_, _<_}
+use lib.ListN.{length, getD, drop}
+use Rattle.common.specs.Choice.{if_then_else_}
+use Rattle.common.specs.Lists.{overlaid, Bytes}
+use Rattle.common.specs.Numbers.{NoRow}
+use Rattle.device.specs.declared.Device.{Device}
+use Rattle.device.specs.Parts.{startOf, lengthOf}
+use Rattle.units.specs.Units.{units, back, bytesIn}
+use Rattle.units.specs.Address.{byteOf}
+use Rattle.model_types.specs.declared.Pins.{Pins}
+use Rattle.model_types.specs.declared.State.{State}
+use Rattle.model_types.specs.Levels.{vppHigh, unlocked}
+use Rattle.loader.specs.declared.Stage.the-variants.{Clearing}
+use Rattle.loader.specs.Walks.{risesIn}
+use Rattle.loader_run.specs.Runs.{lentLeftAt}
+use Rattle.loader_run_claims.specs.Wear.{heldIn, formulaBy}
+use Rattle.loader_held_run.specs.HeldRuns.{heldRunRows, HeldLeft, lentHeld}
+use Rattle.loader_held_claims.specs.HeldMade.{readAt, interrupts, interruptions, addedIn}
+use Rattle.loader_held_claims.specs.HeldEnds.{erases, addedBy, endsTurned, ranMore}
+use Rattle.loader_held_ends.specs.HeldMission.{HeldDemand3}
+
+-- no number refuses the run or its lists. The rest is so of all that code can be handed: bytes, and busy times of 16 bits
+pub record LentTaken (d : Device) (s : State) (p : Pins) (k : ℕ) (array wanted scratch bs room : List ℕ) : Type 0 where
+  pub accepted : NoRow (heldRunRows d s p k (length array) (length wanted) (length scratch) bs (length room))
+  pub array-bytes : Bytes array
+  pub wanted-bytes : Bytes wanted
+  pub room-bytes : Bytes room
+  pub programs : d .program ≤ 65535
+  pub erase-time : d .erase ≤ 65535
+
+-- .. and VPP is high, and the boot block unlocked if it is the one
+pub record LentHeldStart (d : Device) (s : State) (p : Pins) (k : ℕ) (array wanted scratch bs room : List ℕ) : Type 0 where
+  pub base : LentTaken d s p k array wanted scratch bs room
+  pub high : vppHigh (d .part) p ≡ true
+  pub unlock : k ≡ 0 → unlocked (d .part) p 0 ≡ true
+
+-- the room in bytes after an interruption: the units at the addresses, low byte first, and what it held past them
+abbrev pub roomIn : Bool → List ℕ → List ℕ → List ℕ → List ℕ
+roomIn word array bs room = back word (readAt (units word array) bs) ++ drop (bytesIn word (length bs)) room
+
+module _ (verify : Bool) (d : Device) (s : State) (p : Pins) (k : ℕ) (array wanted scratch ps bs room : List ℕ) where
+  -- what is wanted, and what the block holds, in units
+  abbrev pub W : List ℕ
+  W = units (d .part .word) wanted
+
+  abbrev pub Y : List ℕ
+  Y = heldIn (startOf (d .part) k) (lengthOf (d .part) k) (units (d .part .word) array)
+
+  abbrev pub held : HeldLeft
+  held = lentHeld verify d s p k array wanted scratch ps bs room
+
+  -- whatever the end: what the run without interruptions returns and leaves, with the cycles that they add, in one case another mode, and
+  -- the room
+  pub record LentBeside : Type 0 where
+    pub ran : held .ran ≡ ranMore (lentLeftAt Clearing verify d s p k array wanted scratch .ran) (addedBy d p k W Y bs ps) (endsTurned d p k W Y ps)
+    pub bytes : held .bytes ≡ lentLeftAt Clearing verify d s p k array wanted scratch .bytes
+    pub scratch-left : held .scratch ≡ lentLeftAt Clearing verify d s p k array wanted scratch .scratch
+    pub filled : held .room ≡ (if erases d p k W Y && interrupts ps 0 (d .erase) then roomIn (d .part .word) array bs room else room)
+
+  -- demand 3 in bytes; block k begins at byte `from`
+  abbrev pub from : ℕ
+  from = byteOf (d .part .word) (startOf (d .part) k)
+
+  pub record LentHeldDemand3 : Type 0 where
+    -- it ends well
+    pub well : held .ran .end ≡ 0
+    -- the block holds the wanted bytes, which are as many as the block has
+    pub sized : length wanted ≡ bytesIn (d .part .word) (lengthOf (d .part) k)
+    pub block : heldIn from (length wanted) (held .bytes) ≡ wanted
+    -- every other byte is as before
+    pub before : (x : ℕ) → x < from → getD (held .bytes) x 0 ≡ getD array x 0
+    pub behind : (x : ℕ) → from + length wanted ≤ x → getD (held .bytes) x 0 ≡ getD array x 0
+    pub array-left : held .bytes ≡ overlaid array from wanted
+    -- scratch ends as wanted
+    pub scratch-left : held .scratch ≡ wanted
+    -- the count: the formula's, and what the interruptions add, at most S + k + 4 for each
+    pub by-formula : held .ran .count ≡ formulaBy verify d W Y + (if risesIn W Y then addedIn d bs ps 0 (d .erase) else 0)
+    pub at-most : held .ran .count ≤ formulaBy verify d W Y + interruptions ps 0 (d .erase) * (d .suspend + length bs + 4)
+    -- the room: the bytes of the units at the addresses where an interruption was made; past them, and with none made, as it was
+    pub room-left : held .room ≡ (if risesIn W Y && interrupts ps 0 (d .erase) then roomIn (d .part .word) array bs room else room)
+    -- and every clause of demand 3 holds of the units that were lent: operations begun, cycles made, least wear
+    pub of-units : HeldDemand3 verify d s p k (units (d .part .word) array) W (units (d .part .word) scratch) bs ps (units (d .part .word) room)

@@ -1,0 +1,4 @@
+pub mod HeldMission
+pub mod HeldLent
+pub mod HeldStepping
+pub mod HeldAnchors

@@ -1,0 +1,4 @@
+pub mod HeldFileJudging
+pub mod HeldFileLeaving
+pub mod Claims
+pub mod Unique

@@ -1,0 +1,131 @@
+// A load from a file whose erase is interrupted for readings: the file is judged for the letter asked, then the addresses and the room,
+// and only then the flash block is loaded with it.
+use device::Device;
+use file_codec::Judged;
+use loader_held_lists::list_number;
+use loader_held_run::refused;
+use loader_held_run::run_held;
+use loader_run::Ran;
+use loader_run::run_number;
+use model_types::Pins;
+use model_types::State;
+ghost use mathlib.Core.Path.{_≡_};
+ghost use Prim.Native.Nat.{_≤_};
+ghost use lib.ListN.{length};
+ghost use Rattle.loader_from_file.specs.Loads.{fileNumber, wantedOf};
+ghost use Rattle.loader_held_file.specs.HeldLoads.{heldLoadNumber, heldFileLeft};
+
+// Refusals 30 to 35 and 38 of a file for the letter asked and a block of n bytes, or 0.
+fn file_number(file: &[u8], asked: u8, n: usize) -> u8
+    ensures { λ r. ⌜ r ≡ fileNumber (now (file .entry)) asked n ⌝ }
+{
+    if n < file.len() {
+        return 30;
+    }
+    let judged = file_codec::judge(file, asked);
+    match judged {
+        Judged::Sound(_) => 0,
+        Judged::Unsound(m) => m,
+    }
+}
+
+// Wanted becomes the file, then FFH to its end.
+fn fill_file(file: &[u8], wanted: &mut [u8])
+    requires { ⌜ length (now file) ≤ length (now wanted) ⌝ }
+    ensures { λ _. ⌜ now (wanted .exit) ≡ wantedOf (now (file .entry)) (length (now (wanted .entry))) ⌝ }
+{
+    let n = file.len();
+    common::copy(wanted, file);
+    common::fill(&mut wanted[n..], 255)
+}
+
+// A run's number, then the file's, then that of the addresses and the room. The lengths are in bytes.
+fn held_load_number(
+    d: Device,
+    s: State,
+    p: Pins,
+    block: u8,
+    array: usize,
+    wanted: usize,
+    scratch: usize,
+    file: &[u8],
+    asked: u8,
+    addresses: &[u32],
+    room: usize,
+) -> u8
+    ensures { λ r. ⌜ r ≡ heldLoadNumber d s p block array wanted scratch (now (file .entry)) asked (now (addresses .entry)) room ⌝ }
+{
+    let part = d.part;
+    let word = part.word;
+    let n = run_number(
+        d,
+        s,
+        p,
+        block,
+        units::lent_in(word, array),
+        units::lent_in(word, wanted),
+        units::lent_in(word, scratch),
+    );
+    if n != 0 {
+        return n;
+    }
+    let m = file_number(file, asked, wanted);
+    if m != 0 {
+        return m;
+    }
+    list_number(part, block, addresses, room)
+}
+
+// A load of one block from a file, its erase interrupted at the polls given, with the verify after it or without.
+pub fn load_held(
+    d: Device,
+    s: State,
+    p: Pins,
+    block: u8,
+    array: &mut [u8],
+    wanted: &mut [u8],
+    scratch: &mut [u8],
+    file: &[u8],
+    asked: u8,
+    polls: &[u32],
+    addresses: &[u32],
+    room: &mut [u8],
+    verify: bool,
+) -> Ran
+    ensures { λ r. ⌜ r ≡ heldFileLeft verify d s p block (now (array .entry)) (now (wanted .entry)) (now (scratch .entry)) (now (file .entry)) asked (now (polls .entry)) (now (addresses .entry)) (now (room .entry)) .ran ⌝ }
+    ensures { λ _. ⌜ now (array .exit) ≡ heldFileLeft verify d s p block (now (array .entry)) (now (wanted .entry)) (now (scratch .entry)) (now (file .entry)) asked (now (polls .entry)) (now (addresses .entry)) (now (room .entry)) .bytes ⌝ }
+    ensures { λ _. ⌜ now (wanted .exit) ≡ heldFileLeft verify d s p block (now (array .entry)) (now (wanted .entry)) (now (scratch .entry)) (now (file .entry)) asked (now (polls .entry)) (now (addresses .entry)) (now (room .entry)) .wanted ⌝ }
+    ensures { λ _. ⌜ now (scratch .exit) ≡ heldFileLeft verify d s p block (now (array .entry)) (now (wanted .entry)) (now (scratch .entry)) (now (file .entry)) asked (now (polls .entry)) (now (addresses .entry)) (now (room .entry)) .scratch ⌝ }
+    ensures { λ _. ⌜ now (room .exit) ≡ heldFileLeft verify d s p block (now (array .entry)) (now (wanted .entry)) (now (scratch .entry)) (now (file .entry)) asked (now (polls .entry)) (now (addresses .entry)) (now (room .entry)) .room ⌝ }
+{
+    let n = held_load_number(
+        d,
+        s,
+        p,
+        block,
+        array.len(),
+        wanted.len(),
+        scratch.len(),
+        file,
+        asked,
+        addresses,
+        room.len(),
+    );
+    if n == 0 {
+        fill_file(file, wanted);
+        return run_held(
+            d,
+            s,
+            p,
+            block,
+            array,
+            wanted,
+            scratch,
+            polls,
+            addresses,
+            room,
+            verify,
+        );
+    }
+    refused(n, s)
+}

@@ -1,0 +1,2 @@
+pub mod HeldThrough
+pub mod Claims

@@ -1,0 +1,9 @@
+pub mod HeldMeasure
+pub mod HeldTurning
+pub mod HeldSound
+pub mod HeldEnding
+pub mod HeldJudging
+pub mod HeldLending
+pub mod HeldBorders
+pub mod Claims
+pub mod Unique

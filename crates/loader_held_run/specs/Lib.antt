@@ -1,0 +1,4 @@
+pub mod HeldTurns
+pub mod Inner
+pub mod HeldRuns
+pub mod HeldPromises

@@ -1,0 +1,11 @@
+pub mod Numbering
+pub mod Passed
+pub mod HeldLending
+pub mod HeldTold
+pub mod HeldAnswering
+pub mod HeldAgain
+pub mod HeldEnd
+pub mod HeldBefore
+pub mod HeldUnread
+pub mod Claims
+pub mod Unique

@@ -1,0 +1,2 @@
+pub mod HeldFront
+pub mod ByHand

@@ -1,0 +1,56 @@
+-- `vectors_held::steps` is safe and ends: scratch and the room keep their lengths. Assumes nothing.
+use Prim.Native.Nat.{_-_}
+use mathlib.Core.Path.{_≡_}
+use borrow.Author.Needs.{needs}
+use lib.ListN.{length}
+use Rattle.vectors_held.proofs.steps.Statement.{statement}
+use Rattle.vectors_held.proofs.steps.Tie as tie
+
+abbrev Inv-loop : tie.InvT-loop
+Inv-loop value times wanted scratch₀ polls addresses room₀ g₀ i₀ scratch room g i = (length scratch ≡ length scratch₀) × (length room ≡ length room₀)
+
+abbrev μ-loop : tie.MeasureT-loop
+μ-loop value times wanted scratch₀ polls addresses room₀ g₀ i₀ scratch room g i = times - i
+
+step-held-requires : tie.Need-step-held-requires Inv-loop μ-loop
+step-held-requires c κs = search needs
+
+loop-holds : tie.Need-loop-holds Inv-loop μ-loop
+loop-holds c = search needs
+
+step-held-requires-2 : tie.Need-step-held-requires-2 Inv-loop μ-loop
+step-held-requires-2 c κs = search needs
+
+add-i : tie.Need-add-i Inv-loop μ-loop
+add-i c = let t = c .before .before .before .before .before .before .before .before .loop-test .taken in let f = c .before .before .before .before .before .before .before .before .before .before .before .before .before .before .before .before .before .before .before .before .before .before .fits in search needs
+
+loop-less : tie.Need-loop-less Inv-loop μ-loop
+loop-less c = search needs
+
+loop-again : tie.Need-loop-again Inv-loop μ-loop
+loop-again c = search needs
+
+same-length : tie.Need-same-length Inv-loop μ-loop
+same-length c = search needs
+
+same-length-2 : tie.Need-same-length-2 Inv-loop μ-loop
+same-length-2 c = search needs
+
+returns : tie.Need-returns Inv-loop μ-loop
+returns c = search needs
+
+pub steps-spec : {M : Type 1} → statement M
+steps-spec =
+    tie.close
+    (tie.spec
+    Inv-loop
+    μ-loop
+    step-held-requires
+    loop-holds
+    step-held-requires-2
+    add-i
+    loop-less
+    loop-again
+    same-length
+    same-length-2
+    returns)
