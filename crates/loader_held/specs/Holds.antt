@@ -17,7 +17,8 @@ use Rattle.loader.specs.declared.Stage.the-variants.{Clearing, Opening, Reading
 use Rattle.loader.specs.declared.Loader.{Loader}
 use Rattle.loader.specs.Moves.{nextOf, movedTo, endedBy, statusIn, isReady, eraseFault}
 use Rattle.loader.specs.Inner.{past}
-use Rattle.loader_steps.specs.Outs.{cycleOf, cycleAt, firstAddress}
+use Rattle.loader_steps.specs.Addresses.{firstAddress}
+use Rattle.loader_steps.specs.Outs.{cycleOf, cycleAt}
 use Rattle.loader_steps.specs.Stores.{storeOf}
 use Rattle.loader_held.specs.declared.Step.{Step}
 use Rattle.loader_held.specs.declared.Step.the-variants.{Usual, Halting, Looking, Settling, Turning, Fetching, Resuming}

@@ -35,7 +35,7 @@ use Rattle.loader.specs.declared.Stage.the-variants.{EraseWaiting}
 use Rattle.loader.specs.declared.Loader.{Loader}
 use Rattle.loader.specs.Moves.{nextOf, eraseFault, bothErrors}
 use Rattle.loader.specs.Inner.{past}
-use Rattle.loader_steps.specs.Outs.{firstAddress}
+use Rattle.loader_steps.specs.Addresses.{firstAddress}
 use Rattle.loader_steps.specs.Stores.{storeOf}
 use Rattle.loader_run_claims.specs.Made.{pollsThen, busCycle as cyc}
 use Rattle.loader_run_claims.proofs.Answers as answers

@@ -33,7 +33,7 @@ use Rattle.loader.specs.declared.Stage.the-variants.{EraseAsking, EraseConfirmi
 use Rattle.loader.specs.declared.Loader.{Loader}
 use Rattle.loader.specs.Walks.{risesIn, diffFrom}
 use Rattle.loader.specs.Moves.{nextOf}
-use Rattle.loader_steps.specs.Outs.{firstAddress}
+use Rattle.loader_steps.specs.Addresses.{firstAddress}
 use Rattle.loader_run.specs.Turns.{Config, after}
 use Rattle.loader_run.proofs.Turning.{conf}
 use Rattle.loader_run_claims.specs.Made.{programsThen, closingBy, madeIn, busCycle as cyc}

@@ -24,7 +24,8 @@ use Rattle.model.proofs.Keeping.{cycle-proper}
 use Rattle.model.proofs.Contents.{cycle-length}
 use Rattle.loader.specs.declared.Loader.{Loader}
 use Rattle.loader.specs.Stages.{isEnded}
-use Rattle.loader_steps.specs.Outs.{firstAddress, cycleAt}
+use Rattle.loader_steps.specs.Addresses.{firstAddress}
+use Rattle.loader_steps.specs.Outs.{cycleAt}
 use Rattle.loader_steps.specs.Front.{noBlock}
 use Rattle.loader_steps.proofs.Again.{Kept}
 use Rattle.loader_run.proofs.Judging.{unasked, unasked-high, judged, stays-calm}

@@ -27,7 +27,9 @@ use Rattle.model.proofs.Keeping.{cycle-proper}
 use Rattle.model.proofs.Contents.{cycle-length}
 use Rattle.loader.specs.declared.Stage.{Stage}
 use Rattle.loader.specs.declared.Loader.{Loader}
-use Rattle.loader_steps.specs.Outs.{firstAddress, hereOf, addressIn, carriedIn, cycleAt, cycleAtStage, cycleOf}
+use Rattle.loader_steps.specs.Addresses.{firstAddress}
+use Rattle.loader_steps.specs.Inner.{hereOf}
+use Rattle.loader_steps.specs.Outs.{addressIn, carriedIn, cycleAt, cycleAtStage, cycleOf}
 use Rattle.loader_steps.specs.Inner.{reach}
 use Rattle.loader_steps.specs.Stores.{storeOf}
 use Rattle.loader_steps.specs.Front.{barredPins, noBlock, recordAt}

@@ -10,7 +10,7 @@ use Rattle.device.specs.declared.Device.{Device}
 use Rattle.model_types.specs.declared.State.{State}
 use Rattle.loader.specs.declared.Loader.{Loader}
 use Rattle.loader.specs.Moves.{endedBy, nextOf}
-use Rattle.loader_steps.specs.Outs.{firstAddress}
+use Rattle.loader_steps.specs.Addresses.{firstAddress}
 use Rattle.loader_steps.specs.Stores.{storeOf}
 use Rattle.loader_steps.proofs.Again.{first-kept}
 use Rattle.model.specs.declared.Seen.{Seen}

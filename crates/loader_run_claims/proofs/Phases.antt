@@ -42,7 +42,9 @@ use Rattle.loader.specs.declared.Loader.{Loader}
 use Rattle.loader.specs.Walks.{mustRise, rises, nextDiff, diffFrom, risesIn}
 use Rattle.loader.specs.Moves.{nextOf, loadedStage, onward, afterReads, afterRead, pollMore, erasePolled, programPolled, verifyMore, eraseFault, programFault, bothErrors}
 use Rattle.loader.specs.Inner.{past}
-use Rattle.loader_steps.specs.Outs.{firstAddress, hereOf, cycleOf}
+use Rattle.loader_steps.specs.Addresses.{firstAddress}
+use Rattle.loader_steps.specs.Inner.{hereOf}
+use Rattle.loader_steps.specs.Outs.{cycleOf}
 use Rattle.loader_steps.specs.Stores.{storeOf, erasedWell, programmedWell}
 use Rattle.loader_steps.proofs.Small.{length-small}
 use Rattle.loader.proofs.Walking.{diff-turn, diff-over}

@@ -27,7 +27,7 @@ use Rattle.loader.specs.Moves as moves
 use Rattle.loader.specs.Inner as inner
 use Rattle.units.specs.Units.{carried}
 use Rattle.loader.specs.Moves.{movedTo, endedBy, statusIn, isReady, eraseFault, programFault, onward, afterReads, afterRead, pollMore, erasePolled, programPolled, verifyMore, nextIn, nextOf}
-use Rattle.loader_steps.specs.Outs.{firstAddress}
+use Rattle.loader_steps.specs.Addresses.{firstAddress}
 use Rattle.loader_steps.specs.Stores.{erasedWell, programmedWell, storeIn, storeOf}
 use Rattle.loader_steps.specs.Front.{barredPins, noBlock, wrongLengths, badRecord, startRows, stepRows, startNumber, stepNumber, recordAt, endAddress, turnIn, turnGiven, barredBy, isBarred, startAt, stepGiven, scratchAfter}
 

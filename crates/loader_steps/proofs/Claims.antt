@@ -14,7 +14,8 @@ use Rattle.loader.specs.declared.Loader.{Loader}
 use Rattle.loader.specs.Stages.{isEnded}
 use Rattle.loader.specs.declared.Turn.the-variants.{Over, Barred}
 use Rattle.loader.specs.Inner.{past}
-use Rattle.loader_steps.specs.Outs.{firstAddress, hereOf}
+use Rattle.loader_steps.specs.Addresses.{firstAddress}
+use Rattle.loader_steps.specs.Inner.{hereOf}
 use Rattle.loader_steps.specs.Front.{startRows, stepRows, startNumber, stepNumber, recordAt, endAddress, isBarred, startAt, stepGiven, scratchAfter}
 use Rattle.loader_steps.specs.Ends.{endsLoad, endsVerify, ofLoad, ofVerify, withVerify, carriedOn}
 use Rattle.loader_steps.proofs.Again as again

@@ -9,7 +9,8 @@ use Rattle.device.specs.Parts.{lengthOf}
 use Rattle.loader.specs.declared.Loader.{Loader}
 use Rattle.loader.specs.Inner.{past}
 use Rattle.loader_steps.specs.Inner.{reach}
-use Rattle.loader_steps.specs.Outs.{firstAddress, hereOf}
+use Rattle.loader_steps.specs.Addresses.{firstAddress}
+use Rattle.loader_steps.specs.Inner.{hereOf}
 use Rattle.loader_steps.specs.Front.{stepNumber}
 use Rattle.loader_steps.proofs.Small.{length-small}
 use Rattle.loader_steps.proofs.Again.{taken}

@@ -9,7 +9,8 @@ use lib.Dec.{ltb}
 use borrow.Author.Tests.{ltb-true}
 use Rattle.common.proofs.Choice.{if-ind}
 use Rattle.loader.specs.declared.Loader.{Loader}
-use Rattle.loader_steps.specs.Outs.{firstAddress, hereOf}
+use Rattle.loader_steps.specs.Addresses.{firstAddress}
+use Rattle.loader_steps.specs.Inner.{hereOf}
 
 pub start-small : (part : Part) (k : ℕ) → startOf part k ≤ 524288
 start-small part k = omega (arith, blocks-end-inside part k, size-small part)

@@ -15,7 +15,8 @@ use Rattle.loader.specs.declared.Stage.{Stage}
 use Rattle.loader.specs.declared.Loader.{Loader}
 use Rattle.loader.specs.declared.Given.{Given}
 use Rattle.loader.specs.Moves.{nextOf}
-use Rattle.loader_steps.specs.Outs.{firstAddress, cycleAtStage, cycleOf}
+use Rattle.loader_steps.specs.Addresses.{firstAddress}
+use Rattle.loader_steps.specs.Outs.{cycleAtStage, cycleOf}
 use Rattle.loader_steps.specs.Stores.{storeOf}
 use Rattle.loader_steps.specs.Front.{barredPins, noBlock, wrongLengths, setupNumber, recordAt, endAddress, startGiven, loadStartGiven, verifyStartGiven, stepGiven, startTold, loadStartTold, verifyStartTold, stepTold, scratchLeft}
 

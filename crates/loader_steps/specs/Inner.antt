@@ -3,6 +3,8 @@
 use Prim.Native.Nat.{ℕ, _+_}
 use lib.Dec.{ltb}
 use Rattle.common.specs.Choice.{if_then_else_}
+use Rattle.loader.specs.declared.Loader.{Loader}
+use Rattle.loader_steps.specs.Addresses.{firstAddress}
 
 -- no block is that long
 abbrev pub reach : ℕ
@@ -11,3 +13,7 @@ reach = 16777216
 -- the address so many units behind a first one, as far as that
 abbrev pub addressFrom : ℕ → ℕ → ℕ
 addressFrom first place = if ltb place reach then first + place else first
+
+-- the address of the unit at the record's place
+unfoldable pub hereOf : Loader → ℕ
+hereOf l = addressFrom (firstAddress l) (l .place)

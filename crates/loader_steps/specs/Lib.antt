@@ -1,3 +1,4 @@
+pub mod Addresses
 pub mod Inner
 pub mod Outs
 pub mod Stores

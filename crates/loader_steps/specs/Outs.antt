@@ -4,22 +4,14 @@ use mathlib.Core.List.{List}
 use Prim.Native.Nat.{ℕ}
 use lib.ListN.{getD}
 use Rattle.common.specs.Choice.{if_then_else_}
-use Rattle.device.specs.Parts.{startOf}
 use Rattle.units.specs.Address.{byteAt}
 use Rattle.model_types.specs.declared.Kind.{Kind}
 use Rattle.model_types.specs.declared.Cycle.{Cycle}
 use Rattle.loader.specs.declared.Stage.{Stage}
 use Rattle.loader.specs.declared.Loader.{Loader}
 use Rattle.loader.specs.Stages.{stageIs}
-use Rattle.loader_steps.specs.Inner.{addressFrom}
-
--- the block's first address
-unfoldable pub firstAddress : Loader → ℕ
-firstAddress l = startOf (l .part) (l .block)
-
--- the address of the unit at the record's place
-unfoldable pub hereOf : Loader → ℕ
-hereOf l = addressFrom (firstAddress l) (l .place)
+use Rattle.loader_steps.specs.Addresses.{firstAddress}
+use Rattle.loader_steps.specs.Inner.{hereOf}
 
 -- the byte address of the byte that differs there: in word mode the low one of its word, or the high one
 unfoldable pub byteHere : Loader → ℕ

@@ -6,7 +6,9 @@ use model_types::Cycle;
 use model_types::Kind;
 ghost use mathlib.Core.Path.{_≡_};
 ghost use Rattle.units.specs.Units.{units};
-ghost use Rattle.loader_steps.specs.Outs.{firstAddress, hereOf, byteHere, addressIn, carriedIn, cycleAt, cycleAtStage, cycleOf};
+ghost use Rattle.loader_steps.specs.Addresses.{firstAddress};
+ghost use Rattle.loader_steps.specs.Inner.{hereOf};
+ghost use Rattle.loader_steps.specs.Outs.{byteHere, addressIn, carriedIn, cycleAt, cycleAtStage, cycleOf};
 
 // The block's first address.
 pub fn first(l: Loader) -> u32

@@ -29,7 +29,9 @@ use Rattle.loader_run_claims.specs.Wear.{differing, heldIn, heldBy}
 use Rattle.loader_run_claims.specs.Made.{closingOf}
 use Rattle.loader_run_claims.specs.Ends.{asWanted}
 use Rattle.model_types.specs.Cells.{Cells}
-use Rattle.loader_steps.specs.Outs.{firstAddress, hereOf, byteHere}
+use Rattle.loader_steps.specs.Addresses.{firstAddress}
+use Rattle.loader_steps.specs.Inner.{hereOf}
+use Rattle.loader_steps.specs.Outs.{byteHere}
 use Rattle.loader_run_claims.proofs.Layers.{over-self, cells-held}
 use Rattle.loader_run_claims.proofs.Grounds as grounds
 use Rattle.loader_run_claims.proofs.Grounds.{Left}

@@ -5,7 +5,9 @@ use Rattle.device.specs.declared.Part.{Part}
 use Rattle.units.specs.Units.{units}
 use Rattle.loader_run.proofs.Lending.{none}
 use Rattle.model_types.specs.declared.Cycle.{Cycle}
-use Rattle.loader_steps.specs.Outs.{firstAddress, hereOf, cycleAtStage, cycleOf}
+use Rattle.loader_steps.specs.Addresses.{firstAddress}
+use Rattle.loader_steps.specs.Inner.{hereOf}
+use Rattle.loader_steps.specs.Outs.{cycleAtStage, cycleOf}
 use Rattle.model.specs.declared.Answer.{Answer}
 use lib.ListN.{length}
 use Rattle.model_rules.specs.Cycles.{judgeOf}

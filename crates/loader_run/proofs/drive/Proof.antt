@@ -9,7 +9,7 @@ use Rattle.loader_run.specs.Turns.{Config, answerTo}
 use Rattle.loader.specs.Stages.{isEnded, endBy}
 use Rattle.loader_run.specs.Runs.{driven, begin, ranBy}
 use Rattle.loader.specs.declared.StageIs.{StageIs}
-use Rattle.loader_steps.specs.Outs.{firstAddress}
+use Rattle.loader_steps.specs.Addresses.{firstAddress}
 use Rattle.loader_steps.specs.Front.{endAddress}
 use Rattle.loader_run.proofs.Measure.{remains}
 use Rattle.loader.specs.declared.Loader.{Loader}

@@ -1,4 +1,5 @@
-use Rattle.loader_steps.specs.Outs.{firstAddress, hereOf}
+use Rattle.loader_steps.specs.Addresses.{firstAddress}
+use Rattle.loader_steps.specs.Inner.{hereOf}
 use Rattle.loader_steps.proofs.Small.{start-small}
 use borrow.Author.Needs.{needs}
 use native.Mathlib.Omega.{arith}

@@ -1,7 +1,7 @@
 use Rattle.loader_steps.proofs.Small.{start-small}
 use borrow.Author.Needs.{needs}
 use native.Mathlib.Omega.{arith}
-use Rattle.loader_steps.specs.Outs.{firstAddress}
+use Rattle.loader_steps.specs.Addresses.{firstAddress}
 use Rattle.loader_steps.proofs.outs.first.Statement.{statement}
 use Rattle.loader_steps.proofs.outs.first.Tie as tie
 
