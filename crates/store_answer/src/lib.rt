@@ -245,10 +245,10 @@ fn put_row(out: &mut [u8], at: usize, main: &[u8], p: usize, spot: Spot) -> usiz
     ensures { λ _. ⌜ now (out .exit) ≡ laidAt (now (out .entry)) at (rowBy (now (main .entry)) p spot) ⌝ }
 {
     match spot {
-        Spot::Blank => text::put_text(out, at, b""),
-        Spot::Dead => text::put_text(out, at, b""),
+        Spot::Blank => text::put_text(out, at, &main[0..0]),
+        Spot::Dead => text::put_text(out, at, &main[0..0]),
         Spot::File(m, k) => put_stood(out, at, main, m, p, k),
-        Spot::Junk => text::put_text(out, at, b""),
+        Spot::Junk => text::put_text(out, at, &main[0..0]),
     }
 }
 
@@ -259,7 +259,7 @@ fn put_rowed(out: &mut [u8], at: usize, main: &[u8], p: usize, w: Pace) -> usize
     ensures { λ _. ⌜ now (out .exit) ≡ laidAt (now (out .entry)) at (rowPiece (now (main .entry)) p w) ⌝ }
 {
     if 0 < w.skip {
-        return text::put_text(out, at, b"");
+        return text::put_text(out, at, &main[0..0]);
     }
     let spot = store_survey::spot_at(main, p);
     put_row(out, at, main, p, spot)

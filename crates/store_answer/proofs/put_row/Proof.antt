@@ -12,8 +12,14 @@ use Rattle.store_answer.proofs.put_row.Tie as tie
 enum-told : tie.Need-enum-told
 enum-told c = search needs
 
-slice-aggregate-put-text : tie.Need-slice-aggregate-put-text
-slice-aggregate-put-text c = search needs
+sub-put-text : tie.Need-sub-put-text
+sub-put-text c = search needs
+
+part-put-text-start : tie.Need-part-put-text-start
+part-put-text-start c = search needs
+
+part-put-text-end : tie.Need-part-put-text-end
+part-put-text-end c = search needs
 
 put-text-requires : tie.Need-put-text-requires
 put-text-requires c κs = search needs
@@ -21,8 +27,14 @@ put-text-requires c κs = search needs
 enum-told-2 : tie.Need-enum-told-2
 enum-told-2 c = search needs
 
-slice-aggregate-put-text-2 : tie.Need-slice-aggregate-put-text-2
-slice-aggregate-put-text-2 c = search needs
+sub-put-text-2 : tie.Need-sub-put-text-2
+sub-put-text-2 c = search needs
+
+part-put-text-start-2 : tie.Need-part-put-text-start-2
+part-put-text-start-2 c = search needs
+
+part-put-text-end-2 : tie.Need-part-put-text-end-2
+part-put-text-end-2 c = search needs
 
 put-text-requires-2 : tie.Need-put-text-requires-2
 put-text-requires-2 c κs = search needs
@@ -36,8 +48,14 @@ put-stood-requires c κs = search needs
 enum-told-3 : tie.Need-enum-told-3
 enum-told-3 c = search needs
 
-slice-aggregate-put-text-3 : tie.Need-slice-aggregate-put-text-3
-slice-aggregate-put-text-3 c = search needs
+sub-put-text-3 : tie.Need-sub-put-text-3
+sub-put-text-3 c = search needs
+
+part-put-text-start-3 : tie.Need-part-put-text-start-3
+part-put-text-start-3 c = search needs
+
+part-put-text-end-3 : tie.Need-part-put-text-end-3
+part-put-text-end-3 c = search needs
 
 put-text-requires-3 : tie.Need-put-text-requires-3
 put-text-requires-3 c κs = search needs
@@ -87,15 +105,21 @@ put-row-spec =
     tie.close
     (tie.spec
     enum-told
-    slice-aggregate-put-text
+    sub-put-text
+    part-put-text-start
+    part-put-text-end
     put-text-requires
     enum-told-2
-    slice-aggregate-put-text-2
+    sub-put-text-2
+    part-put-text-start-2
+    part-put-text-end-2
     put-text-requires-2
     enum-known-spot
     put-stood-requires
     enum-told-3
-    slice-aggregate-put-text-3
+    sub-put-text-3
+    part-put-text-start-3
+    part-put-text-end-3
     put-text-requires-3
     same-length
     returns

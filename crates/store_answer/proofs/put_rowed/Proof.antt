@@ -11,8 +11,14 @@ use borrow.Author.Needs.{needs}
 use Rattle.store_answer.proofs.put_rowed.Statement.{statement}
 use Rattle.store_answer.proofs.put_rowed.Tie as tie
 
-slice-aggregate-put-text : tie.Need-slice-aggregate-put-text
-slice-aggregate-put-text c = search needs
+sub-put-text : tie.Need-sub-put-text
+sub-put-text c = search needs
+
+part-put-text-start : tie.Need-part-put-text-start
+part-put-text-start c = search needs
+
+part-put-text-end : tie.Need-part-put-text-end
+part-put-text-end c = search needs
 
 put-text-requires : tie.Need-put-text-requires
 put-text-requires c κs = search needs
@@ -49,7 +55,9 @@ pub put-rowed-spec : {M : Type 1} → statement M
 put-rowed-spec =
     tie.close
     (tie.spec
-    slice-aggregate-put-text
+    sub-put-text
+    part-put-text-start
+    part-put-text-end
     put-text-requires
     same-length
     returns
