@@ -80,7 +80,7 @@ static const struct {
     [IN_HELD_START] = {"start of an interrupted load", {0, 1, 4, 5, 10, 11, 37, 45, 46}, 9},
     [IN_HELD_STEP] = {"step of an interrupted load", {0, 1, 3, 4, 5, 10, 11, 20, 21, 22, 23, 24, 37, 45, 46}, 15},
     [IN_HELD_RUN] = {"interrupted load", {0, 1, 2, 3, 4, 5, 10, 11, 12, 21, 23, 24, 37, 45, 46}, 15},
-    [IN_HELD_LOAD] = {"interrupted load from a file", {0, 2, 4, 5, 10, 11, 21, 23, 31, 35}, 10},
+    [IN_HELD_LOAD] = {"interrupted load from a file", {0, 2, 4, 5, 11, 31, 35}, 7},
     [IN_WRITE] = {"write", {0, 32, 36, 37}, 4},
     [IN_READ] = {"read", {0, 30, 31, 32, 33, 34, 35, 37, 38}, 9},
     [IN_TABLE] = {"table", {0, 40, 41}, 3},

@@ -304,7 +304,7 @@ void helds(uint32_t runs, uint32_t walks, uint32_t forgeries) {
     for (uint32_t i = 0; i < runs; i++) {
         some_case();
         started();
-        if (chance(75))
+        if (chance(60))
             compare_run();
         else
             compare_load();

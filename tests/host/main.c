@@ -30,7 +30,7 @@ int main(int argc, char **argv) {
         wears(1000);
         recordings(200);
         stores(40);
-        helds(250, 15, 1500);
+        helds(300, 15, 1500);
     }
     endless();
     return closing(seed, verbose);
