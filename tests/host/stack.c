@@ -24,6 +24,9 @@ static tb_device device;
 static size_t size, block; /* bytes of the device at hand, and of its block 1 */
 static tb_state state, fresh;
 static tb_loader loader;
+static tb_held_given held;
+static const uint32_t polls[] = {1, 2}, addresses[] = {0x10, 0x20};
+static uint8_t room[8];
 static tb_bus bus;
 static tb_report report;
 static uint32_t counts[7 * 100];
@@ -62,6 +65,20 @@ static void verify_file(void) {
 }
 static void load(void) {
     state = tb_load(device, fresh, 1, 0, 12000, 1, 'K', file, 512, array, size, wanted, block, scratch, block).state;
+}
+static void held_start(void) {
+    held = tb_held_start(device.number, device.word, 1, 0, 12000, 1, 1, wanted, block, scratch, block, addresses, 2, room, sizeof room);
+}
+static void held_step(void) {
+    held = tb_held_step(held.held, value, wanted, block, scratch, block, polls, 2, addresses, 2, room, sizeof room);
+}
+static void held_run(void) {
+    state = tb_held_run(device, fresh, 1, 0, 12000, 1, 1, array, size, wanted, block, scratch, block, polls, 2, addresses, 2, room,
+                        sizeof room).state;
+}
+static void held_load(void) {
+    state = tb_held_load(device, fresh, 1, 0, 12000, 1, 1, 'K', file, 512, array, size, wanted, block, scratch, block, polls, 2, addresses,
+                         2, room, sizeof room).state;
 }
 static void recording(void) { state = tb_recording(device, fresh, records, sizeof records / sizeof records[0], promised, size, array, size).state; }
 static void write(void) { byte = tb_file_write('K', payload, sizeof payload, file, sizeof file).number; }
@@ -151,6 +168,17 @@ static void steps_of_a_load(void) {
     }
 }
 
+/* An interrupted load by hand, from its erase on: both polls are interrupted, the second finds the erase finished. */
+static void steps_of_a_held_load(void) {
+    memset(wanted, 0x5A, sizeof wanted);
+    measure(held_start);
+    held.held.loader.stage = TB_ERASE_CONFIRMING;
+    for (int i = 0; i < 24; i++) {
+        value = i < 8 ? 0x00C0 : 0x0080;
+        measure(held_step);
+    }
+}
+
 /* An erase that is suspended and resumed, a program, and a read, each write and wait answered by no data. */
 static void recorded(void) {
     static const uint8_t writes[] = {0x20, 0xD0, 0xB0, 0, 0xD0, 0, 0x40, 0x5A, 0, 0xFF, 0, 0x70};
@@ -161,7 +189,7 @@ static void recorded(void) {
 }
 
 static void on_device(tb_device d) {
-    void (*const calls[])(void) = {run, load, load_run, verify_run, verify_file, recording};
+    void (*const calls[])(void) = {run, load, load_run, verify_run, verify_file, recording, held_run, held_load};
     device = d;
     fresh = tb_fresh();
     size = tb_size(d.number);
@@ -172,6 +200,7 @@ static void on_device(tb_device d) {
     cycles_at_rest();
     second_writes();
     steps_of_a_load();
+    steps_of_a_held_load();
     for (size_t i = 0; i < sizeof calls / sizeof calls[0]; i++) {
         memset(array, 0, size);
         measure(calls[i]);
