@@ -195,13 +195,13 @@ fn put_payload(out: &mut [u8], at: usize, payload: &[u8]) -> usize
     text::put_text(out, at, b"no table\n")
 }
 
-// What the reader makes of a file, from a place on; the place behind it. The payload has a room of its own.
-fn put_file(out: &mut [u8], at: usize, file: &[u8], letter: u8) -> usize
+// What the reader makes of a file, from a place on; the place behind it. The payload goes through room.
+fn put_file(out: &mut [u8], at: usize, file: &[u8], letter: u8, room: &mut [u8]) -> usize
+    requires { ⌜ length (now room) ≡ 113120 ⌝ }
     ensures { λ r. ⌜ r ≡ behind (now (out .entry)) at (fileText (inRoom 113120 (readerOf limit (now (file .entry)) letter))) ⌝ }
     ensures { λ _. ⌜ now (out .exit) ≡ laidAt (now (out .entry)) at (fileText (inRoom 113120 (readerOf limit (now (file .entry)) letter))) ⌝ }
 {
-    let mut room = [0u8; 113120];
-    let got = file_codec::read(file, letter, &mut room);
+    let got = file_codec::read(file, letter, room);
     match got {
         ReadBack::NotRead(n) => text::put_text(out, at, b"no table\n"),
         ReadBack::Gave(size) => put_payload(out, at, &room[0..size]),
@@ -224,8 +224,16 @@ fn put_head(out: &mut [u8], at: usize, letter: u8, p: usize, n: u8) -> usize
 }
 
 // The row of a file, from a place of out on; the place behind it.
-fn put_stood(out: &mut [u8], at: usize, main: &[u8], letter: u8, p: usize, n: u8) -> usize
-    requires { ⌜ p < 4294967296 ⌝ }
+fn put_stood(
+    out: &mut [u8],
+    at: usize,
+    main: &[u8],
+    letter: u8,
+    p: usize,
+    n: u8,
+    room: &mut [u8],
+) -> usize
+    requires { ⌜ (p < 4294967296) × (length (now room) ≡ 113120) ⌝ }
     ensures { λ r. ⌜ r ≡ behind (now (out .entry)) at (rowText (now (main .entry)) p letter n) ⌝ }
     ensures { λ _. ⌜ now (out .exit) ≡ laidAt (now (out .entry)) at (rowText (now (main .entry)) p letter n) ⌝ }
 {
@@ -233,28 +241,28 @@ fn put_stood(out: &mut [u8], at: usize, main: &[u8], letter: u8, p: usize, n: u8
     let from = 512 * p;
     let to = from + 512 * common::wide(n);
     if to <= main.len() {
-        return put_file(out, a, &main[from..to], letter);
+        return put_file(out, a, &main[from..to], letter, room);
     }
     text::put_text(out, a, b"cut off\n")
 }
 
 // The row of what begins at a place, from a place of out on; the place behind it.
-fn put_row(out: &mut [u8], at: usize, main: &[u8], p: usize, spot: Spot) -> usize
-    requires { ⌜ p < 4294967296 ⌝ }
+fn put_row(out: &mut [u8], at: usize, main: &[u8], p: usize, spot: Spot, room: &mut [u8]) -> usize
+    requires { ⌜ (p < 4294967296) × (length (now room) ≡ 113120) ⌝ }
     ensures { λ r. ⌜ r ≡ behind (now (out .entry)) at (rowBy (now (main .entry)) p spot) ⌝ }
     ensures { λ _. ⌜ now (out .exit) ≡ laidAt (now (out .entry)) at (rowBy (now (main .entry)) p spot) ⌝ }
 {
     match spot {
         Spot::Blank => text::put_text(out, at, &main[0..0]),
         Spot::Dead => text::put_text(out, at, &main[0..0]),
-        Spot::File(m, k) => put_stood(out, at, main, m, p, k),
+        Spot::File(m, k) => put_stood(out, at, main, m, p, k, room),
         Spot::Junk => text::put_text(out, at, &main[0..0]),
     }
 }
 
 // The row at a place of the walk.
-fn put_rowed(out: &mut [u8], at: usize, main: &[u8], p: usize, w: Pace) -> usize
-    requires { ⌜ p < 4294967296 ⌝ }
+fn put_rowed(out: &mut [u8], at: usize, main: &[u8], p: usize, w: Pace, room: &mut [u8]) -> usize
+    requires { ⌜ (p < 4294967296) × (length (now room) ≡ 113120) ⌝ }
     ensures { λ r. ⌜ r ≡ behind (now (out .entry)) at (rowPiece (now (main .entry)) p w) ⌝ }
     ensures { λ _. ⌜ now (out .exit) ≡ laidAt (now (out .entry)) at (rowPiece (now (main .entry)) p w) ⌝ }
 {
@@ -262,7 +270,7 @@ fn put_rowed(out: &mut [u8], at: usize, main: &[u8], p: usize, w: Pace) -> usize
         return text::put_text(out, at, &main[0..0]);
     }
     let spot = store_survey::spot_at(main, p);
-    put_row(out, at, main, p, spot)
+    put_row(out, at, main, p, spot, room)
 }
 
 // The map's letter at a place of the walk.
@@ -276,20 +284,28 @@ fn put_mapped(out: &mut [u8], at: usize, main: &[u8], p: usize, w: Pace) -> usiz
 }
 
 // What is told at a place: of the rows, or of the map.
-fn put_piece(out: &mut [u8], at: usize, rows: bool, main: &[u8], p: usize, w: Pace) -> usize
-    requires { ⌜ p < 4294967296 ⌝ }
+fn put_piece(
+    out: &mut [u8],
+    at: usize,
+    rows: bool,
+    main: &[u8],
+    p: usize,
+    w: Pace,
+    room: &mut [u8],
+) -> usize
+    requires { ⌜ (p < 4294967296) × (length (now room) ≡ 113120) ⌝ }
     ensures { λ r. ⌜ r ≡ behind (now (out .entry)) at (pieceOf rows (now (main .entry)) p w) ⌝ }
     ensures { λ _. ⌜ now (out .exit) ≡ laidAt (now (out .entry)) at (pieceOf rows (now (main .entry)) p w) ⌝ }
 {
     if rows {
-        return put_rowed(out, at, main, p, w);
+        return put_rowed(out, at, main, p, w, room);
     }
     put_mapped(out, at, main, p, w)
 }
 
 // The same of all places of a block, from a place of out on; the place behind it.
-fn put_pieces(out: &mut [u8], at: usize, rows: bool, main: &[u8]) -> usize
-    requires { ⌜ (at ≤ length (now out)) × (length (now main) < 1000000) ⌝ }
+fn put_pieces(out: &mut [u8], at: usize, rows: bool, main: &[u8], room: &mut [u8]) -> usize
+    requires { ⌜ (at ≤ length (now out)) × (length (now main) < 1000000) × (length (now room) ≡ 113120) ⌝ }
     ensures { λ r. ⌜ r ≡ behind (now (out .entry)) at (piecesOf rows (now (main .entry))) ⌝ }
     ensures { λ _. ⌜ now (out .exit) ≡ laidAt (now (out .entry)) at (piecesOf rows (now (main .entry))) ⌝ }
 {
@@ -298,7 +314,7 @@ fn put_pieces(out: &mut [u8], at: usize, rows: bool, main: &[u8]) -> usize
     let mut a = at;
     let mut p = 0;
     while p < total {
-        a = put_piece(out, a, rows, main, p, w);
+        a = put_piece(out, a, rows, main, p, w, room);
         w = pace_on(main, p, w);
         p += 1;
     }
@@ -306,22 +322,24 @@ fn put_pieces(out: &mut [u8], at: usize, rows: bool, main: &[u8]) -> usize
 }
 
 // The map, then the rows, in the front of out; the place behind them.
-fn put_list(out: &mut [u8], main: &[u8]) -> usize
-    requires { ⌜ length (now main) < 1000000 ⌝ }
+fn put_list(out: &mut [u8], main: &[u8], room: &mut [u8]) -> usize
+    requires { ⌜ (length (now main) < 1000000) × (length (now room) ≡ 113120) ⌝ }
     ensures { λ r. ⌜ r ≡ behind (now (out .entry)) 0 (listText (now (main .entry))) ⌝ }
     ensures { λ _. ⌜ now (out .exit) ≡ laidAt (now (out .entry)) 0 (listText (now (main .entry))) ⌝ }
 {
-    let a = put_pieces(out, 0, false, main);
-    put_pieces(out, a, true, main)
+    let a = put_pieces(out, 0, false, main, room);
+    put_pieces(out, a, true, main, room)
 }
 
 // What a block holds, as a store, in the front of out: a map of its places, and a row for each file. A room of 1,200 bytes holds every
-// store's list.
+// store's list. The payloads go through a room of its own, made here and lent to all below: where the compiler lays them into one
+// function, none of them may return before the room is made.
 pub fn list(main: &[u8], out: &mut [u8]) -> usize
     ensures { λ r. ⌜ r ≡ behind (now (out .entry)) 0 (listOf (now (main .entry))) ⌝ }
     ensures { λ _. ⌜ now (out .exit) ≡ laidAt (now (out .entry)) 0 (listOf (now (main .entry))) ⌝ }
     ensures { λ r. ⌜ Used r (now (out .exit)) ⌝ }
 {
+    let mut room = [0u8; 113120];
     let n = common::least(main.len(), 524288);
-    put_list(out, &main[0..n])
+    put_list(out, &main[0..n], &mut room)
 }

@@ -24,6 +24,9 @@ part-put-list-start c = search needs
 part-put-list-end : tie.Need-part-put-list-end
 part-put-list-end c = search needs
 
+slice-aggregate-put-list : tie.Need-slice-aggregate-put-list
+slice-aggregate-put-list c = search needs
+
 put-list-requires : tie.Need-put-list-requires
 put-list-requires c κs = search needs
 
@@ -32,11 +35,11 @@ same-length c = search needs
 
 returns : tie.Need-returns
 returns c =
-    let a = c .before .before .before .before .before .before .before .before .args in
-    let p = c .before .before .put-list in
+    let a = c .before .before .before .before .before .before .before .before .before .before .args in
+    let p = c .before .before .before .put-list in
     let M = now (a .main) in
-    let z : c .before .before .before .before .before .least .result - 0 ≡ c .before .before .before .before .before .least .result = omega arith in
-    let e : listText (take (c .before .before .before .before .before .least .result - 0) (drop 0 M)) ≡ listOf M = ap (λ (k : ℕ). listText (take k M)) (z ∙ c .before .before .before .before .before .least .ensures) in
+    let z : c .before .before .before .before .before .before .before .least .result - 0 ≡ c .before .before .before .before .before .before .before .least .result = omega arith in
+    let e : listText (take (c .before .before .before .before .before .before .before .least .result - 0) (drop 0 M)) ≡ listOf M = ap (λ (k : ℕ). listText (take k M)) (z ∙ c .before .before .before .before .before .before .before .least .ensures) in
     let f = p .ensures .0 ∙ ap (λ (t : List ℕ). behind (now (a .out)) 0 t) e in
     let g = p .ensures .1 ∙ ap (λ (t : List ℕ). laidAt (now (a .out)) 0 t) e in
     (f, (g, front-used (now (a .out)) (listOf M) (p .last .0) (p .result) f g))
@@ -44,11 +47,4 @@ returns c =
 pub list-spec : {M : Type 1} → statement M
 list-spec =
     tie.close
-    (tie.spec
-    least-requires
-    sub-put-list
-    part-put-list-start
-    part-put-list-end
-    put-list-requires
-    same-length
-    returns)
+    (tie.spec least-requires sub-put-list part-put-list-start part-put-list-end slice-aggregate-put-list put-list-requires same-length returns)

@@ -65,7 +65,7 @@ same-length c = search needs
 
 returns : tie.Need-returns
 returns c =
-    let a = c .before .before .before .before .before .before .before .before .before .args in
+    let a = c .before .before .before .before .before .before .before .before .before .before .args in
     let p = c .before .before .put-text in
     let e = ap (rowBy (now (a .main)) (a .p)) (c .before .before .before .before .before .enum-told .given .1) in
     (p .ensures .0 ∙ ap (λ (z : List ℕ). behind (now (a .out)) (a .at) z) (sym e), p .ensures .1 ∙ ap (λ (z : List ℕ). laidAt (now (a .out)) (a .at) z) (sym e))
@@ -75,7 +75,7 @@ same-length-2 c = search needs
 
 returns-2 : tie.Need-returns-2
 returns-2 c =
-    let a = c .before .before .before .before .before .before .before .before .before .args in
+    let a = c .before .before .before .before .before .before .before .before .before .before .args in
     let p = c .before .before .put-text2 in
     let e = ap (rowBy (now (a .main)) (a .p)) (c .before .before .before .before .before .enum-told2 .given .1) in
     (p .ensures .0 ∙ ap (λ (z : List ℕ). behind (now (a .out)) (a .at) z) (sym e), p .ensures .1 ∙ ap (λ (z : List ℕ). laidAt (now (a .out)) (a .at) z) (sym e))
@@ -83,19 +83,22 @@ returns-2 c =
 same-length-3 : tie.Need-same-length-3
 same-length-3 c = search needs
 
-returns-3 : tie.Need-returns-3
-returns-3 c =
-    let a = c .before .before .before .before .before .before .before .before .before .args in
-    let p = c .before .before .put-stood in
-    let e = ap (rowBy (now (a .main)) (a .p)) (c .before .before .before .before .before .spot .given .1) in
-    (p .ensures .0 ∙ ap (λ (z : List ℕ). behind (now (a .out)) (a .at) z) (sym e), p .ensures .1 ∙ ap (λ (z : List ℕ). laidAt (now (a .out)) (a .at) z) (sym e))
-
 same-length-4 : tie.Need-same-length-4
 same-length-4 c = search needs
 
+returns-3 : tie.Need-returns-3
+returns-3 c =
+    let a = c .before .before .before .before .before .before .before .before .before .before .before .before .before .args in
+    let p = c .before .before .before .before .put-stood in
+    let e = ap (rowBy (now (a .main)) (a .p)) (c .before .before .before .before .before .before .before .before .spot .given .1) in
+    (p .ensures .0 ∙ ap (λ (z : List ℕ). behind (now (a .out)) (a .at) z) (sym e), p .ensures .1 ∙ ap (λ (z : List ℕ). laidAt (now (a .out)) (a .at) z) (sym e))
+
+same-length-5 : tie.Need-same-length-5
+same-length-5 c = search needs
+
 returns-4 : tie.Need-returns-4
 returns-4 c =
-    let a = c .before .before .before .before .before .before .before .before .before .args in
+    let a = c .before .before .before .before .before .before .before .before .before .before .args in
     let p = c .before .before .put-text3 in
     let e = ap (rowBy (now (a .main)) (a .p)) (c .before .before .before .before .before .enum-told3 .given .1) in
     (p .ensures .0 ∙ ap (λ (z : List ℕ). behind (now (a .out)) (a .at) z) (sym e), p .ensures .1 ∙ ap (λ (z : List ℕ). laidAt (now (a .out)) (a .at) z) (sym e))
@@ -103,29 +106,4 @@ returns-4 c =
 pub put-row-spec : {M : Type 1} → statement M
 put-row-spec =
     tie.close
-    (tie.spec
-    enum-told
-    sub-put-text
-    part-put-text-start
-    part-put-text-end
-    put-text-requires
-    enum-told-2
-    sub-put-text-2
-    part-put-text-start-2
-    part-put-text-end-2
-    put-text-requires-2
-    enum-known-spot
-    put-stood-requires
-    enum-told-3
-    sub-put-text-3
-    part-put-text-start-3
-    part-put-text-end-3
-    put-text-requires-3
-    same-length
-    returns
-    same-length-2
-    returns-2
-    same-length-3
-    returns-3
-    same-length-4
-    returns-4)
+    (tie.spec enum-told sub-put-text part-put-text-start part-put-text-end put-text-requires enum-told-2 sub-put-text-2 part-put-text-start-2 part-put-text-end-2 put-text-requires-2 enum-known-spot put-stood-requires enum-told-3 sub-put-text-3 part-put-text-start-3 part-put-text-end-3 put-text-requires-3 same-length returns same-length-2 returns-2 same-length-3 same-length-4 returns-3 same-length-5 returns-4)

@@ -29,7 +29,7 @@ same-length c = search needs
 returns : tie.Need-returns
 unfolding rowPiece
 returns c =
-    let a = c .before .before .before .before .before .before .before .before .before .args in
+    let a = c .before .before .before .before .before .before .before .before .before .before .args in
     let p = c .before .before .put-text in
     let e : rowPiece (now (a .main)) (a .p) (a .w) ≡ [] = simp (lt-ltb _ _ (c .before .before .before .before .before .if1 .taken)) in
     (p .ensures .0 ∙ ap (λ (z : List ℕ). behind (now (a .out)) (a .at) z) (sym e), p .ensures .1 ∙ ap (λ (z : List ℕ). laidAt (now (a .out)) (a .at) z) (sym e))
@@ -43,25 +43,18 @@ put-row-requires c κs = search needs
 same-length-2 : tie.Need-same-length-2
 same-length-2 c = search needs
 
+same-length-3 : tie.Need-same-length-3
+same-length-3 c = search needs
+
 returns-2 : tie.Need-returns-2
 unfolding rowPiece
 returns-2 c =
-    let a = c .before .before .before .before .before .before .before .before .before .args in
-    let p = c .before .before .put-row in
-    let e : rowPiece (now (a .main)) (a .p) (a .w) ≡ rowBy (now (a .main)) (a .p) (c .before .before .before .before .spot-at .result) = simp (le-ltb _ _ (c .before .before .before .before .before .if1 .left), c .before .before .before .before .spot-at .ensures) in
+    let a = c .before .before .before .before .before .before .before .before .before .before .before .before .before .args in
+    let p = c .before .before .before .before .put-row in
+    let e : rowPiece (now (a .main)) (a .p) (a .w) ≡ rowBy (now (a .main)) (a .p) (c .before .before .before .before .before .before .before .spot-at .result) = simp (le-ltb _ _ (c .before .before .before .before .before .before .before .before .if1 .left), c .before .before .before .before .before .before .before .spot-at .ensures) in
     (p .ensures .0 ∙ ap (λ (z : List ℕ). behind (now (a .out)) (a .at) z) (sym e), p .ensures .1 ∙ ap (λ (z : List ℕ). laidAt (now (a .out)) (a .at) z) (sym e))
 
 pub put-rowed-spec : {M : Type 1} → statement M
 put-rowed-spec =
     tie.close
-    (tie.spec
-    sub-put-text
-    part-put-text-start
-    part-put-text-end
-    put-text-requires
-    same-length
-    returns
-    spot-at-requires
-    put-row-requires
-    same-length-2
-    returns-2)
+    (tie.spec sub-put-text part-put-text-start part-put-text-end put-text-requires same-length returns spot-at-requires put-row-requires same-length-2 same-length-3 returns-2)
