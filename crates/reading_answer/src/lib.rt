@@ -11,7 +11,7 @@ ghost use Rattle.reading.specs.Readings.{answerAs};
 ghost use Rattle.reading_answer.specs.Lines.{readWords, refusedLine, degrees, readingLine, answerLine, usage, callWrong, answered};
 
 // What a refusal means, from a place on; the place behind it.
-fn put_words(out: &mut [u8], at: usize, n: u8) -> usize
+pub fn put_words(out: &mut [u8], at: usize, n: u8) -> usize
     ensures { λ r. ⌜ r ≡ behind (now (out .entry)) at (readWords n) ⌝ }
     ensures { λ _. ⌜ now (out .exit) ≡ laidAt (now (out .entry)) at (readWords n) ⌝ }
 {
@@ -54,7 +54,7 @@ fn put_degrees(out: &mut [u8], at: usize, t: f64) -> usize
 }
 
 // A reading in the front of out; the place behind it.
-fn put_reading(out: &mut [u8], r: Reading) -> usize
+pub fn put_reading(out: &mut [u8], r: Reading) -> usize
     ensures { λ n. ⌜ n ≡ behind (now (out .entry)) 0 (readingLine r) ⌝ }
     ensures { λ _. ⌜ now (out .exit) ≡ laidAt (now (out .entry)) 0 (readingLine r) ⌝ }
 {

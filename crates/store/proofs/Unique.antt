@@ -17,7 +17,10 @@ use Rattle.reading.specs.Readings.{answerAs, toldAs}
 use Rattle.reading.specs.declared.ReadingAnswer.{ReadingAnswer}
 use Rattle.store_find.specs.Finds.{foundAs, readBy}
 use Rattle.store_find.specs.declared.Found.{Found}
-use Rattle.store.specs.Stores.{foundOn, dropLeft, addLeft}
+use Rattle.store.specs.Stores.{partNumber, foundOn, dropLeft, addLeft}
+
+pub part-number-unique : (part : Part) (array : ℕ) → Unique (λ (r : ℕ). r ≡ partNumber part array)
+part-number-unique part array = only (partNumber part array)
 
 pub find-letter-unique : (part : Part) (xs : List ℕ) (ℓ : ℕ) (room : List ℕ) → Unique (λ (r : Found). r ≡ foundAs (inRoom (length room) (foundOn part xs ℓ)))
 find-letter-unique part xs ℓ room = only (foundAs (inRoom (length room) (foundOn part xs ℓ)))

@@ -25,6 +25,10 @@ mainOf part xs = take (lengthOf part 3) (drop (startOf part 3) xs)
 unfoldable pub noStore : Part → Bool
 noStore part = unknownPart part || isLarge part
 
+-- the refusals of an image: 1, then 2 for so many bytes
+abbrev pub partNumber : Part → ℕ → ℕ
+partNumber part n = given (row 1 (noStore part) ∷ row 2 (not (eqb n (sizeOf part))) ∷ [])
+
 -- the refusals of a find before room is asked for: 1, 2, then 44, 42
 abbrev pub seekRows : Part → List ℕ → ℕ → List Row
 seekRows part xs ℓ = row 1 (noStore part) ∷ row 2 (not (eqb (length xs) (sizeOf part))) ∷ findRows (faultOf limit) ℓ (mainOf part xs) []

@@ -20,7 +20,7 @@ ghost use Rattle.store_places.specs.Store.{dropOf, addOf};
 ghost use Rattle.store_survey.specs.Survey.{faultOf};
 ghost use Rattle.store_find.specs.Finds.{foundAs, readBy};
 ghost use Rattle.store_contents.specs.Contents.{memoryBy};
-ghost use Rattle.store.specs.Stores.{mainOf, noStore, foundOn, changeNumber, dropNumber, addNumber, changeLeft, dropLeft, addLeft};
+ghost use Rattle.store.specs.Stores.{mainOf, noStore, partNumber, foundOn, changeNumber, dropNumber, addNumber, changeLeft, dropLeft, addLeft};
 
 // 1: the part is not known, or is one of 5 to 8.
 fn no_store(part: Part) -> bool
@@ -30,8 +30,8 @@ fn no_store(part: Part) -> bool
 }
 
 // 1, then 2, for an array of so many bytes.
-fn part_number(part: Part, array: usize) -> u8
-    ensures { λ r. ⌜ r ≡ given (row 1 (noStore part) ∷ row 2 (not (eqb array (sizeOf part))) ∷ []) ⌝ }
+pub fn part_number(part: Part, array: usize) -> u8
+    ensures { λ r. ⌜ r ≡ partNumber part array ⌝ }
 {
     if no_store(part) {
         return 1;

@@ -4,18 +4,18 @@ use Prim.Native.Nat.{ℕ}
 use lib.Dec.{eqb}
 use Rattle.common.specs.Choice.{if_then_else_}
 use Rattle.text.specs.Writing.{bytes}
-use Rattle.refusal_words.specs.Words.{fileWords, refusedText}
+use Rattle.refusal_words.specs.Words.{refusedText}
+use Rattle.reading_answer.specs.Lines.{readWords}
 
--- what a refusal means: a device, an image, a file, the store
+-- what a refusal means: a device, an image, the store, or what it means of a reading
 unfoldable pub storeWords : ℕ → List ℕ
 storeWords n =
     if eqb n 1 then bytes "the device is none of 1 to 4: only these have a store\n"
     else if eqb n 2 then bytes "the image is not as long as the part\n"
-    else if eqb n 30 then bytes "the file's length is wrong\n"
     else if eqb n 42 then bytes "the store has no file of that letter\n"
     else if eqb n 43 then bytes "the file and those that stay do not fit into the main block\n"
     else if eqb n 44 then bytes "the main block is no proper store\n"
-    else fileWords n
+    else readWords n
 
 -- a refusal: its number and its words
 abbrev pub refusedLine : ℕ → List ℕ

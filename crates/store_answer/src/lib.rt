@@ -36,9 +36,6 @@ fn put_words(out: &mut [u8], at: usize, n: u8) -> usize
     if n == 2 {
         return text::put_text(out, at, b"the image is not as long as the part\n");
     }
-    if n == 30 {
-        return text::put_text(out, at, b"the file's length is wrong\n");
-    }
     if n == 42 {
         return text::put_text(out, at, b"the store has no file of that letter\n");
     }
@@ -52,7 +49,7 @@ fn put_words(out: &mut [u8], at: usize, n: u8) -> usize
     if n == 44 {
         return text::put_text(out, at, b"the main block is no proper store\n");
     }
-    refusal_words::put_file_words(out, at, n)
+    reading_answer::put_words(out, at, n)
 }
 
 // A refusal in the front of out; the place behind it.

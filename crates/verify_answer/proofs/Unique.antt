@@ -6,7 +6,10 @@ use Rattle.common.specs.Choice.{Unique}
 use Rattle.common.proofs.Choice.{only}
 use Rattle.text.specs.declared.Told.{Told}
 use Rattle.text.specs.Writing.{laidAt, toldOn}
-use Rattle.verify_answer.specs.Answers.{answered, told}
+use Rattle.verify_answer.specs.Answers.{numeralOf, answered, told}
+
+pub numeral-unique : (word : List ℕ) → Unique (λ (r : ℕ). r ≡ numeralOf word)
+numeral-unique word = only (numeralOf word)
 
 pub answer-unique : (count : ℕ) (image device block file letter mode wanted scratch out : List ℕ)
     → Unique (λ (r : Told). r ≡ toldOn (answered count image device block file letter mode wanted scratch .stream) out (answered count image device block file letter mode wanted scratch .line))

@@ -22,7 +22,7 @@ fn is_numeral(word: &[u8]) -> bool
 }
 
 // What it counts; 255 where it is none.
-fn numeral(word: &[u8]) -> u8
+pub fn numeral(word: &[u8]) -> u8
     ensures { λ r. ⌜ r ≡ numeralOf (now (word .entry)) ⌝ }
 {
     if is_numeral(word) {

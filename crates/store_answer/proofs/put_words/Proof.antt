@@ -5,7 +5,7 @@ use Prim.Native.Nat.{ℕ}
 use denote.Ref.{now}
 use borrow.Author.Tests.{eq-eqb, ne-eqb}
 use Rattle.text.specs.Writing.{bytes, laidAt, behind}
-use Rattle.refusal_words.specs.Words.{fileWords}
+use Rattle.reading_answer.specs.Lines.{readWords}
 use Rattle.store_answer.specs.Words.{storeWords}
 use borrow.Author.Needs.{needs}
 use Rattle.store_answer.proofs.put_words.Statement.{statement}
@@ -59,7 +59,7 @@ unfolding storeWords
 returns-3 c =
     let a = c .before .before .before .before .before .before .before .before .before .args in
     let p = c .before .before .put-text3 in
-    let e : storeWords (a .n) ≡ bytes "the file's length is wrong\n" = simp (eq-eqb _ _ (c .before .before .before .before .before .if3 .taken), ne-eqb _ _ (c .before .before .before .before .before .before .if2 .left), ne-eqb _ _ (c .before .before .before .before .before .before .before .if1 .left)) in
+    let e : storeWords (a .n) ≡ bytes "the store has no file of that letter\n" = simp (eq-eqb _ _ (c .before .before .before .before .before .if3 .taken), ne-eqb _ _ (c .before .before .before .before .before .before .if2 .left), ne-eqb _ _ (c .before .before .before .before .before .before .before .if1 .left)) in
     (p .ensures .0 ∙ ap (λ (z : List ℕ). behind (now (a .out)) (a .at) z) (sym e), p .ensures .1 ∙ ap (λ (z : List ℕ). laidAt (now (a .out)) (a .at) z) (sym e))
 
 slice-aggregate-put-text-4 : tie.Need-slice-aggregate-put-text-4
@@ -76,7 +76,7 @@ unfolding storeWords
 returns-4 c =
     let a = c .before .before .before .before .before .before .before .before .before .before .args in
     let p = c .before .before .put-text4 in
-    let e : storeWords (a .n) ≡ bytes "the store has no file of that letter\n" = simp (eq-eqb _ _ (c .before .before .before .before .before .if4 .taken), ne-eqb _ _ (c .before .before .before .before .before .before .if3 .left), ne-eqb _ _ (c .before .before .before .before .before .before .before .if2 .left), ne-eqb _ _ (c .before .before .before .before .before .before .before .before .if1 .left)) in
+    let e : storeWords (a .n) ≡ bytes "the file and those that stay do not fit into the main block\n" = simp (eq-eqb _ _ (c .before .before .before .before .before .if4 .taken), ne-eqb _ _ (c .before .before .before .before .before .before .if3 .left), ne-eqb _ _ (c .before .before .before .before .before .before .before .if2 .left), ne-eqb _ _ (c .before .before .before .before .before .before .before .before .if1 .left)) in
     (p .ensures .0 ∙ ap (λ (z : List ℕ). behind (now (a .out)) (a .at) z) (sym e), p .ensures .1 ∙ ap (λ (z : List ℕ). laidAt (now (a .out)) (a .at) z) (sym e))
 
 slice-aggregate-put-text-5 : tie.Need-slice-aggregate-put-text-5
@@ -93,14 +93,11 @@ unfolding storeWords
 returns-5 c =
     let a = c .before .before .before .before .before .before .before .before .before .before .before .args in
     let p = c .before .before .put-text5 in
-    let e : storeWords (a .n) ≡ bytes "the file and those that stay do not fit into the main block\n" = simp (eq-eqb _ _ (c .before .before .before .before .before .if5 .taken), ne-eqb _ _ (c .before .before .before .before .before .before .if4 .left), ne-eqb _ _ (c .before .before .before .before .before .before .before .if3 .left), ne-eqb _ _ (c .before .before .before .before .before .before .before .before .if2 .left), ne-eqb _ _ (c .before .before .before .before .before .before .before .before .before .if1 .left)) in
+    let e : storeWords (a .n) ≡ bytes "the main block is no proper store\n" = simp (eq-eqb _ _ (c .before .before .before .before .before .if5 .taken), ne-eqb _ _ (c .before .before .before .before .before .before .if4 .left), ne-eqb _ _ (c .before .before .before .before .before .before .before .if3 .left), ne-eqb _ _ (c .before .before .before .before .before .before .before .before .if2 .left), ne-eqb _ _ (c .before .before .before .before .before .before .before .before .before .if1 .left)) in
     (p .ensures .0 ∙ ap (λ (z : List ℕ). behind (now (a .out)) (a .at) z) (sym e), p .ensures .1 ∙ ap (λ (z : List ℕ). laidAt (now (a .out)) (a .at) z) (sym e))
 
-slice-aggregate-put-text-6 : tie.Need-slice-aggregate-put-text-6
-slice-aggregate-put-text-6 c = search needs
-
-put-text-requires-6 : tie.Need-put-text-requires-6
-put-text-requires-6 c κs = search needs
+put-words-requires : tie.Need-put-words-requires
+put-words-requires c κs = search needs
 
 same-length-6 : tie.Need-same-length-6
 same-length-6 c = search needs
@@ -108,53 +105,10 @@ same-length-6 c = search needs
 returns-6 : tie.Need-returns-6
 unfolding storeWords
 returns-6 c =
-    let a = c .before .before .before .before .before .before .before .before .before .before .before .before .args in
-    let p = c .before .before .put-text6 in
-    let e : storeWords (a .n) ≡ bytes "the main block is no proper store\n" = simp (eq-eqb _ _ (c .before .before .before .before .before .if6 .taken), ne-eqb _ _ (c .before .before .before .before .before .before .if5 .left), ne-eqb _ _ (c .before .before .before .before .before .before .before .if4 .left), ne-eqb _ _ (c .before .before .before .before .before .before .before .before .if3 .left), ne-eqb _ _ (c .before .before .before .before .before .before .before .before .before .if2 .left), ne-eqb _ _ (c .before .before .before .before .before .before .before .before .before .before .if1 .left)) in
-    (p .ensures .0 ∙ ap (λ (z : List ℕ). behind (now (a .out)) (a .at) z) (sym e), p .ensures .1 ∙ ap (λ (z : List ℕ). laidAt (now (a .out)) (a .at) z) (sym e))
-
-put-file-words-requires : tie.Need-put-file-words-requires
-put-file-words-requires c κs = search needs
-
-same-length-7 : tie.Need-same-length-7
-same-length-7 c = search needs
-
-returns-7 : tie.Need-returns-7
-unfolding storeWords
-returns-7 c =
-    let a = c .before .before .before .before .before .before .before .before .before .before .before .args in
-    let p = c .before .before .put-file-words in
-    let e : storeWords (a .n) ≡ fileWords (a .n) = simp (ne-eqb _ _ (c .before .before .before .before .if6 .left), ne-eqb _ _ (c .before .before .before .before .before .if5 .left), ne-eqb _ _ (c .before .before .before .before .before .before .if4 .left), ne-eqb _ _ (c .before .before .before .before .before .before .before .if3 .left), ne-eqb _ _ (c .before .before .before .before .before .before .before .before .if2 .left), ne-eqb _ _ (c .before .before .before .before .before .before .before .before .before .if1 .left)) in
+    let a = c .before .before .before .before .before .before .before .before .before .before .args in
+    let p = c .before .before .put-words in
+    let e : storeWords (a .n) ≡ readWords (a .n) = simp (ne-eqb _ _ (c .before .before .before .before .if5 .left), ne-eqb _ _ (c .before .before .before .before .before .if4 .left), ne-eqb _ _ (c .before .before .before .before .before .before .if3 .left), ne-eqb _ _ (c .before .before .before .before .before .before .before .if2 .left), ne-eqb _ _ (c .before .before .before .before .before .before .before .before .if1 .left)) in
     (p .ensures .0 ∙ ap (λ (z : List ℕ). behind (now (a .out)) (a .at) z) (sym e), p .ensures .1 ∙ ap (λ (z : List ℕ). laidAt (now (a .out)) (a .at) z) (sym e))
 
 pub put-words-spec : {M : Type 1} → statement M
-put-words-spec =
-    tie.close
-    (tie.spec
-    slice-aggregate-put-text
-    put-text-requires
-    same-length
-    returns
-    slice-aggregate-put-text-2
-    put-text-requires-2
-    same-length-2
-    returns-2
-    slice-aggregate-put-text-3
-    put-text-requires-3
-    same-length-3
-    returns-3
-    slice-aggregate-put-text-4
-    put-text-requires-4
-    same-length-4
-    returns-4
-    slice-aggregate-put-text-5
-    put-text-requires-5
-    same-length-5
-    returns-5
-    slice-aggregate-put-text-6
-    put-text-requires-6
-    same-length-6
-    returns-6
-    put-file-words-requires
-    same-length-7
-    returns-7)
+put-words-spec = tie.close (tie.spec slice-aggregate-put-text put-text-requires same-length returns slice-aggregate-put-text-2 put-text-requires-2 same-length-2 returns-2 slice-aggregate-put-text-3 put-text-requires-3 same-length-3 returns-3 slice-aggregate-put-text-4 put-text-requires-4 same-length-4 returns-4 slice-aggregate-put-text-5 put-text-requires-5 same-length-5 returns-5 put-words-requires same-length-6 returns-6)
