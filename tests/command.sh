@@ -1,6 +1,6 @@
 #!/usr/bin/env bash
 # command.sh: drives ./torfbarke the way a person would: every way to hand over a trace or a script, either engine, every fault of a line, wrong
-# calls, recordings, output that cannot be written, dumps, a first call that builds, is killed or finds another's folder, calls at the same
+# calls, recordings, stores, output that cannot be written, dumps, a first call that builds, is killed or finds another's folder, calls at the same
 # time. Where TORFBARKE_PROGRAMS names a folder with the programs they are taken from there; otherwise the first call proves and builds
 # them. Expected answers are those of the page's own example.
 set -eu
@@ -591,6 +591,10 @@ call "$tb" verify "$work/image" 3 1 "$work/three.load"; try 'verify: four words'
 call "$tb" verify "$work/image" x 1 "$work/three.load" K; try 'verify: no number' 2 '' 'whole numbers'
 call "$tb" verify --help; try 'verify --help' 0 '*' ''
 
+# several tables in the main block
+# shellcheck source=tests/command_store.sh
+. "$root/tests/command_store.sh"
+
 # recordings: a programmer's cycles with the answers seen and the busy counts. The sample erases block 1 in five cycles and programs 5AH at
 # 3A00 in three; by the rules a poll gives 00 while busy and 80 in the cycle that ends the operation
 cp "$root/samples/recording.txt" "$work/recording.txt"
@@ -732,6 +736,7 @@ head -n 3000 "$work/most.txt" >"$work/3000.txt"
 all=("--help" "replay --help" "script --help" "read --help" "table --help" "verify --help" "wear --help" "wear page.txt" "wear --words page.txt"
     "replay page.txt" "replay --words page.txt" "replay --engine table page.txt" "replay --engine table --words page.txt" "replay --record record.txt" "script script.txt" "script --words script.txt" "read three.load K 6138" "read three.load K 8139"
     "table write K" "table print three.load K" "verify image 3 1 three.load K" "verify image 3 2 three.load K"
+    "store --help" "store card 3 list" "store card 3 find K" "store card 3 read K 6138"
     "recording --help" "recording --promised promised.bin recording.txt" "recording --promised blank.bin recording.txt")
 cd "$work"
 every() { # every TRIAL [CALL..]: a trial of these calls, or of each word; the text of a table is their standard input
