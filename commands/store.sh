@@ -89,10 +89,14 @@ change() {
     flock -n 7 || fail 3 "another call is changing $file: nothing was done"
     [ /dev/fd/7 -ef "$file" ] || fail 3 "another call has just changed $file: nothing was done"
     take_image "$file"
-    fresh=$(mktemp -- "$file.XXXXXX" 2>/dev/null) || fail 4 "no file can be made beside $file, which is as it was"
-    trap 'rm -f -- "$fresh"' EXIT
+    # its name is known before it is made, so whatever ends this call removes it
+    fresh=$file.new.$$
+    if [ -e "$fresh" ] || [ -L "$fresh" ]; then fail 4 "there is a file $fresh already, so the new image has no place: $file is as it was"; fi
+    trap 'trap "" HUP INT TERM; rm -f -- "$fresh"' EXIT
+    trap 'exit 129' HUP
     trap 'exit 130' INT
     trap 'exit 143' TERM
+    { : >"$fresh"; } 2>/dev/null || fail 4 "no file can be made beside $file, which is as it was"
     pass "$1" <(give "$image") "$device" "$2" 0 <(give "$3") >"$fresh"
     case ${said?} in
     refused*)

@@ -163,12 +163,25 @@ limited() { (ulimit -f 8 && exec "$tb" store "$@"); }
 call limited "$card" 3 drop S; one 'an image that cannot be written' 4 '' "card is as it was"
 kept 'an image that cannot be written'
 mkdir "$work/slow"
-printf '#!/bin/sh\nprintf K\nsleep 30\n' >"$work/slow/store_program"
+printf '#!/bin/sh\nprintf K\n: >%s/slow/begun\nsleep 60\n' "$work" >"$work/slow/store_program"
 chmod 755 "$work/slow" "$work/slow/store_program"
-slow() { TORFBARKE_PROGRAMS=$work/slow timeout -s TERM 1 "$tb" store "$@"; }
-call slow "$card" 3 drop S
-[ "$status" != 0 ] || wrong 'a call that is stopped: status 0'
-kept 'a call that is stopped'
+slow() { TORFBARKE_PROGRAMS=$work/slow "$tb" store "$@"; }
+# stopped SIGNAL: the whole group of processes is, as a terminal does it, once the program has begun to write
+stopped() {
+    local group n=0
+    TORFBARKE_PROGRAMS=$work/slow setsid "$tb" store "$card" 3 drop S >"$work/out" 2>"$work/err" &
+    group=$!
+    while [ ! -e "$work/slow/begun" ] && [ "$n" -lt 600 ]; do sleep 0.1 && n=$((n + 1)); done
+    [ "$(find "$work" -name 'card*' | wc -l)" = 2 ] || wrong "stopped by $1: there was no file beside the image"
+    kill -s "$1" -- "-$group"
+    status=0
+    wait "$group" || status=$?
+    rm -f "$work/slow/begun"
+    [ "$status" = "$2" ] || wrong "stopped by $1: status $status, not $2"
+    kept "stopped by $1"
+}
+stopped TERM 143
+stopped HUP 129
 printf '#!/bin/sh\nprintf K\nprintf "done, nothing was erased\\n" >&2\n' >"$work/slow/store_program"
 call slow "$card" 3 drop S; one 'a program that does not end well' 4 '' 'card is as it was'
 kept 'a program that does not end well'
