@@ -14,7 +14,7 @@ use Rattle.model_types.specs.declared.Action.the-variants.{ToArray, ToIdentifie
 use Rattle.model_commands.specs.Commands.{actionOf}
 use Rattle.command_table.specs.Table.{commandTable}
 
--- the rows: idle, erase awaited, program awaited, program busy, erase busy, suspending, suspended
+-- the rows: idle, erase awaited, program awaited, program busy, erase busy, suspending, suspended (R-table-1)
 abbrev pub rowOf : Phase → ℕ
 rowOf Free = 0
 rowOf EraseAwaited = 1
@@ -35,7 +35,7 @@ phaseAt row =
     else if eqb row 5 then Suspending 0
     else Suspended
 
--- 10H at idle: the table knows no device, the part decides when the action is performed
+-- 10H at idle: the table knows no device, the part decides when the action is performed (R-write-2)
 unfoldable pub forLarge : Part → Action
 forLarge part = if isLarge part then AwaitData else Refuse
 
@@ -90,7 +90,7 @@ abbrev pub partOf : Bool → Part
 partOf true = record { number = 5; word = false }
 partOf false = record { number = 1; word = false }
 
--- the rule of an entry
+-- the rule of an entry (R-table-1)
 unfoldable pub follows : ℕ → ℕ → ℕ → Bool
 follows line column x = followsFor (partOf true) line column x && followsFor (partOf false) line column x
 
@@ -99,6 +99,6 @@ abbrev pub each : {A : Type 0} → (ℕ → A → Bool) → ℕ → List A → B
 each f i [] = true
 each f i (x ∷ xs) = f i x && each f (suc i) xs
 
--- the rule of a line: it has 16 entries, and each follows its rule
+-- the rule of a line: it has 16 entries, and each follows its rule (R-table-1)
 unfoldable pub lineFollows : ℕ → List ℕ → Bool
 lineFollows line row = eqb (length row) 16 && each (follows line) 0 row

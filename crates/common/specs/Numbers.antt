@@ -14,12 +14,12 @@ pub record Row : Type 0 where
 abbrev pub row : ℕ → Bool → Row
 row n b = record { number = n; holds = b }
 
--- the number of the first row that holds; 0 where none does
+-- the number of the first row that holds; 0 where none does (R-number-0)
 abbrev pub given : List Row → ℕ
 given [] = 0
 given (r ∷ rs) = if r .holds then r .number else given rs
 
--- n is the number of a row that holds, and no row above it holds
+-- n is the number of a row that holds, and no row above it holds (R-number-0)
 pub data Foremost : List Row → ℕ → Type 0 where
   here : {r : Row} {rs : List Row} → r .holds ≡ true → Foremost (r ∷ rs) (r .number)
   below : {r : Row} {rs : List Row} {n : ℕ} → r .holds ≡ false → Foremost rs n → Foremost (r ∷ rs) n

@@ -24,7 +24,7 @@ abbrev pub blocksBefore : ℕ → ℕ → ℕ → ℕ → List ℕ → List Row 
 blocksBefore zero first i n f after = after
 blocksBefore (suc left) first i n f after = blockBefore first i n (take 512 f) (blocksBefore left first (i + 1) n (drop 512 f) after)
 
--- what the reader made of a file for the letter asked, given room: 30, the blocks, 35
+-- what the reader made of a file for the letter asked, given room: 30, the blocks, 35 (R-file-4)
 unfoldable pub readerBefore : ℕ → List ℕ → ℕ → Outcome
 readerBefore most f asked =
     outcomeBy

@@ -7,7 +7,7 @@ use Rattle.file_codec.specs.declared.Written.the-variants.{Wrote}
 use Rattle.file_codec.specs.declared.ReadBack.the-variants.{Gave}
 use Rattle.file_codec.specs.File.{limit, inRoom, leftIn, readerOf, writerOf, readAs, writtenAs}
 
--- the reader, asked for a letter and lent `out`, answers p's length and leaves p at the front, with what was behind it
+-- the reader, asked for a letter and lent `out`, answers p's length and leaves p at the front, with what was behind it (R-file-3)
 abbrev pub ReadsInto : List ℕ → ℕ → List ℕ → List ℕ → Type 0
 ReadsInto f asked out p =
     (readAs (inRoom (length out) (readerOf limit f asked)) ≡ Gave (length p))
@@ -19,6 +19,6 @@ WritesInto ℓ p out f =
     (writtenAs (inRoom (length out) (writerOf limit ℓ p)) ≡ Wrote (length f))
     × (leftIn out (inRoom (length out) (writerOf limit ℓ p)) ≡ f ++ drop (length f) out)
 
--- our writer, given room: it writes f into any buffer that is no shorter than f
+-- our writer, given room: it writes f into any buffer that is no shorter than f (R-file-3)
 abbrev pub WritesGivenRoom : ℕ → List ℕ → List ℕ → Type 0
 WritesGivenRoom ℓ p f = (out : List ℕ) → length f ≤ length out → WritesInto ℓ p out f

@@ -17,6 +17,7 @@ use Rattle.loader_run.specs.declared.Ran.{Ran}
 use Rattle.loader_run.specs.Runs.{RunLeft, lentRows, lentLeftAt}
 
 -- the tests of a file for a block of n bytes: 30 also where it is longer than the block, then block by block 38 or else 31, then 32, 33, 34; then 35
+-- (R-order-3, R-number-30)
 abbrev pub fileRows : List ℕ → ℕ → ℕ → List Row
 fileRows f asked n =
     row 30 (lengthWrong limit (length f) || ltb n (length f))
@@ -26,7 +27,7 @@ fileRows f asked n =
 unfoldable pub fileNumber : List ℕ → ℕ → ℕ → ℕ
 fileNumber f asked n = given (fileRows f asked n)
 
--- the tests of a load from a file of so many lent bytes, in their order: a run's, then the file's
+-- the tests of a load from a file of so many lent bytes, in their order: a run's, then the file's (R-order-3)
 abbrev pub loadRows : Device → State → Pins → ℕ → ℕ → ℕ → ℕ → List ℕ → ℕ → List Row
 loadRows d s p k array w sc f asked = lentRows d s p k array w sc ++ fileRows f asked w
 
@@ -34,11 +35,11 @@ loadRows d s p k array w sc f asked = lentRows d s p k array w sc ++ fileRows f 
 unfoldable pub loadNumber : Device → State → Pins → ℕ → ℕ → ℕ → ℕ → List ℕ → ℕ → ℕ
 loadNumber d s p k array w sc f asked = given (loadRows d s p k array w sc f asked)
 
--- what a load wants of a block of n bytes: the file, then FFH to the end
+-- what a load wants of a block of n bytes: the file, then FFH to the end (R-load-8)
 abbrev pub wantedOf : List ℕ → ℕ → List ℕ
 wantedOf f n = f ++ replicate (n - length f) 255
 
--- wanted after a load's tests: filled where they gave 0, else as it was
+-- wanted after a load's tests: filled where they gave 0, else as it was (R-order-3)
 unfoldable pub wantedBy : ℕ → List ℕ → List ℕ → List ℕ
 wantedBy n f w = if eqb n 0 then wantedOf f (length w) else w
 

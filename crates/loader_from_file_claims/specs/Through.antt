@@ -38,7 +38,7 @@ firstOf d k = byteOf (d .part .word) (startOf (d .part) k)
 
 -- all of demand 3 holds of the run with the file and FFH as what is wanted, and the load leaves what that run leaves: ended well in the
 -- formula's cycles, counted in units, with one erase more of the block where some bit must rise; block, wanted and scratch hold the file
--- and FFH to the end, every byte outside is as before
+-- and FFH to the end, every byte outside is as before (R-demand-3)
 pub record FileLoaded (d : Device) (s : State) (p : Pins) (k : ℕ) (xs w sc f : List ℕ) (asked : ℕ) : Type 0 where
   pub ran : loadedOf d s p k xs w sc f asked
       ≡ record {

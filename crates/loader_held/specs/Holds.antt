@@ -25,7 +25,7 @@ use Rattle.loader_held.specs.declared.Step.the-variants.{Usual, Halting,
 use Rattle.loader_held.specs.declared.Hold.{Hold}
 use Rattle.loader_held.specs.declared.Pair.{Pair}
 
--- poll n of the erase is to be interrupted: the list may be in any order and may name a poll twice
+-- poll n of the erase is to be interrupted: the list may be in any order and may name a poll twice (R-held-1)
 unfoldable pub listed : ℕ → List ℕ → Bool
 listed n ps = someOf (λ p. eqb p n) ps
 
@@ -52,7 +52,7 @@ pairOf l h = record { loader = l; hold = h }
 
 -- after poll n of the erase comes poll n + 1: an interruption in its place where it is listed. So the first poll has number 1, an entry
 -- 0 is never met, and an interrupted poll keeps its number. Numbers stop at 4,294,967,295, and a poll that gets no new number is not
--- interrupted: no list of polls goes on for ever
+-- interrupted: no list of polls goes on for ever (R-held-1)
 unfoldable pub afterPoll : ℕ → List ℕ → Hold
 afterPoll n ps =
     if ltb n 4294967295 then (if listed (n + 1) ps then holdAs Halting (n + 1) 0 0 false else usual (n + 1))
@@ -82,7 +82,7 @@ abbrev pub stopped : Loader → Hold → ℕ → Pair
 stopped l h n = pairOf (endedBy l n) (usual (h .number))
 
 -- a poll of the suspend's own wait is in. Ready, its status is judged at once: 21, 22 or 23, else FFH comes next. Not ready, another
--- poll comes, or 20 as the 65,535th of this wait is taken
+-- poll comes, or 20 as the 65,535th of this wait is taken (R-held-1, R-held-2)
 unfoldable pub settledBy : Loader → Hold → ℕ → Pair
 settledBy l h sr =
     if isReady sr then (if eqb (eraseFault sr) 0 then pairOf l (holdAs Turning (h .number) 0 0 (sr6 sr)) else stopped l h (eraseFault sr))
@@ -90,7 +90,7 @@ settledBy l h sr =
     else pairOf l (holdAs Settling (h .number) 0 (h .waits + 1) false)
 
 -- FFH or a read is done, and address i of k comes next. After the last one D0H comes where the erase was found suspended; else it was
--- found finished, and the loader goes on as after a ready poll without a fault
+-- found finished, and the loader goes on as after a ready poll without a fault (R-held-1)
 unfoldable pub fetchOn : Loader → Hold → ℕ → ℕ → List ℕ → List ℕ → Pair
 fetchOn l h i k w sc =
     if ltb i k then pairOf l (holdAs Fetching (h .number) i 0 (h .suspended))
@@ -101,11 +101,11 @@ fetchOn l h i k w sc =
 unfoldable pub fetchStored : Loader → Hold → ℕ → ℕ → List ℕ → List ℕ → List ℕ
 fetchStored l h i k w sc = if ltb i k then sc else if h .suspended then sc else storeOf l 0x80 w sc
 
--- D0H is done and the erase goes on: its polls are counted afresh for 20, and their numbers go on
+-- D0H is done and the erase goes on: its polls are counted afresh for 20, and their numbers go on (R-held-2)
 abbrev pub resumed : Loader → Hold → List ℕ → Pair
 resumed l h ps = pairOf (movedTo l EraseWaiting 0 0) (afterPoll (h .number) ps)
 
--- both records after the data of the cycle that was out, by the scratch before them; k is the number of addresses
+-- both records after the data of the cycle that was out, by the scratch before them; k is the number of addresses (R-held-1)
 abbrev pub heldNext : Step → Loader → Hold → ℕ → ℕ → List ℕ → List ℕ → List ℕ → Pair
 heldNext Usual l h v k w sc ps = movedOn (nextOf l v w (storeOf l v w sc)) (h .number) ps
 heldNext Halting l h v k w sc ps = pairOf l (heldTo h Looking)
@@ -125,7 +125,7 @@ heldScratch Turning l h v k w sc = fetchStored l h 0 k w sc
 heldScratch Fetching l h v k w sc = fetchStored l h (past (h .place) k) k w sc
 heldScratch Resuming l h v k w sc = sc
 
--- .. and the room: a unit read goes to its place, the rest stays
+-- .. and the room: a unit read goes to its place, the rest stays (R-held-1)
 abbrev pub heldRoom : Step → Bool → Hold → ℕ → List ℕ → List ℕ
 heldRoom Usual word h v room = room
 heldRoom Halting word h v room = room
@@ -135,7 +135,7 @@ heldRoom Turning word h v room = room
 heldRoom Fetching word h v room = set room (h .place) (carried word v)
 heldRoom Resuming word h v room = room
 
--- the cycle that is out: commands and polls to the block's first address, reads to theirs
+-- the cycle that is out: commands and polls to the block's first address, reads to theirs (R-held-1)
 abbrev pub heldCycle : Step → Loader → Hold → List ℕ → List ℕ → Cycle
 heldCycle Usual l h w bs = cycleOf l w
 heldCycle Halting l h w bs = cycleAt l Write (firstAddress l) 0xB0

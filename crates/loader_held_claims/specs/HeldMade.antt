@@ -118,6 +118,7 @@ interruptions ps n zero = 0
 interruptions ps n (suc m) = (if listed (n + 1) ps then 1 else 0) + interruptions ps (n + 1) m
 
 -- what an interruption in one poll's place adds, so many polls being still to come: k + 3 + max(1, S - 1), and k + 3 in the last one's
+-- (R-held-2)
 abbrev pub addedAt : Device → List ℕ → ℕ → ℕ
 addedAt d bs left = length bs + 3 + (if isLast left then 0 else waitsOf (d .suspend))
 

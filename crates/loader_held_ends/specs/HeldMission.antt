@@ -64,7 +64,7 @@ module _ (verify : Bool) (d : Device) (s : State) (p : Pins) (k : ℕ) (xs w sc 
     pub elsewhere : Elsewhere d k bs
     pub roomy : length bs ≤ length room
 
-  -- demand 3, clause by clause as of a run without interruptions (specs/Mission of loader_run_claims)
+  -- demand 3, clause by clause as of a run without interruptions (specs/Mission of loader_run_claims) (R-held-2, R-demand-3)
   pub record HeldDemand3 : Type 0 where
     -- it ends well
     pub well : heldRan heldEnd .end ≡ 0

@@ -16,6 +16,7 @@ use Rattle.loader_held_lists.specs.Listings.{heldRows}
 use Rattle.loader_held_run.specs.HeldRuns.{HeldLeft, lentHeld}
 
 -- the tests of such a load of so many lent bytes, in their order: a run's, the file's, then those of the addresses and the room
+-- (R-held-3)
 abbrev pub heldLoadRows : Device → State → Pins → ℕ → ℕ → ℕ → ℕ → List ℕ → ℕ → List ℕ → ℕ → List Row
 heldLoadRows d s p k array w sc f asked bs room = loadRows d s p k array w sc f asked ++ heldRows (d .part) k bs room
 

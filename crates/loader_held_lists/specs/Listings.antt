@@ -15,19 +15,19 @@ abbrev pub someOf : (ℕ → Bool) → List ℕ → Bool
 someOf test [] = false
 someOf test (x ∷ xs) = test x || someOf test xs
 
--- refusal 5 of one address: it is past the array
+-- refusal 5 of one address: it is past the array (R-number-5)
 unfoldable pub pastArray : Part → ℕ → Bool
 pastArray part a = leb (sizeOf part) a
 
--- refusal 45 of one address: it is in block k, the one that is loaded
+-- refusal 45 of one address: it is in block k, the one that is loaded (R-number-45)
 unfoldable pub inLoaded : Part → ℕ → ℕ → Bool
 inLoaded part k a = ltb a (startOf part k + lengthOf part k) && leb (startOf part k) a
 
--- refusal 46: more addresses than 4,096
+-- refusal 46: more addresses than 4,096 (R-number-46)
 abbrev pub tooMany : ℕ → Bool
 tooMany n = ltb 4096 n
 
--- refusal 37: the room is too short for a unit of each of n addresses, in word mode two bytes
+-- refusal 37: the room is too short for a unit of each of n addresses, in word mode two bytes (R-number-37)
 unfoldable pub shortRoom : Bool → ℕ → ℕ → Bool
 shortRoom word n room = ltb room (bytesIn word n)
 
@@ -38,7 +38,7 @@ roomRows word n room = row 46 (tooMany n) ∷ row 37 (shortRoom word n room) ∷
 unfoldable pub roomNumber : Bool → ℕ → ℕ → ℕ
 roomNumber word n room = given (roomRows word n room)
 
--- the tests of the lists, in their order, each over the whole list before the next
+-- the tests of the lists, in their order, each over the whole list before the next (R-held-3)
 abbrev pub heldRows : Part → ℕ → List ℕ → ℕ → List Row
 heldRows part k bs room = row 5 (someOf (pastArray part) bs) ∷ row 45 (someOf (inLoaded part k) bs) ∷ roomRows (part .word) (length bs) room
 

@@ -23,7 +23,7 @@ use Rattle.loader_held.specs.Holds.{usual}
 use Rattle.loader_held_run.specs.Inner.{pauseBound}
 use Rattle.loader_held_run.specs.HeldTurns.{HeldConfig, heldAfter, beside}
 
--- the tests of such a run of so many lent bytes, in their order: a run's, then those of the addresses and the room
+-- the tests of such a run of so many lent bytes, in their order: a run's, then those of the addresses and the room (R-held-3)
 abbrev pub heldRunRows : Device → State → Pins → ℕ → ℕ → ℕ → ℕ → List ℕ → ℕ → List Row
 heldRunRows d s p k array wanted scratch bs room = lentRows d s p k array wanted scratch ++ heldRows (d .part) k bs room
 

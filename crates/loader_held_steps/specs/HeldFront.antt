@@ -65,7 +65,7 @@ waitsErase Verifying = false
 waitsErase (Ended n) = false
 
 -- refusal 3 of an interruption's record beside the loader's, with k addresses: an interruption though the loader waits for no erase, polls
--- over 65,534, or a read whose place is past the addresses
+-- over 65,534, or a read whose place is past the addresses (R-number-3)
 unfoldable pub badHold : ℕ → Loader → Hold → Bool
 badHold k l h = ((interrupting (h .step) && not (waitsErase (l .stage))) || ltb 65534 (h .waits)) || (fetching (h .step) && leb k (h .place))
 
@@ -91,7 +91,7 @@ usedRows part k i bs room =
 unfoldable pub usedNumber : Part → ℕ → ℕ → List ℕ → ℕ → ℕ
 usedNumber part k i bs room = given (usedRows part k i bs room)
 
--- the tests of a start, in their order: those of a load's start, then those of the whole lists
+-- the tests of a start, in their order: those of a load's start, then those of the whole lists (R-held-3)
 abbrev pub startHeldRows : Part → Pins → ℕ → ℕ → ℕ → List ℕ → ℕ → List Row
 startHeldRows part p k w sc bs room = startRows part p k w sc ++ heldRows part k bs room
 

@@ -12,7 +12,7 @@ use Rattle.loader.specs.declared.Stage.{Stage}
 use Rattle.loader.specs.Stages.{isEnded}
 use Rattle.loader_run.specs.Runs.{beginningAt, ranBy}
 
--- e is what the first k cycles from c leave after which the load has ended, k being e's count
+-- e is what the first k cycles from c leave after which the load has ended, k being e's count (R-form-7)
 pub record FirstEnd (d : Device) (w : List ℕ) (c e : Config) : Type 0 where
   pub reached : e ≡ after (e .count) d w c
   pub ended : isEnded (e .loader .stage) ≡ true

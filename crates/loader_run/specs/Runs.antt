@@ -22,7 +22,7 @@ use Rattle.loader_run.specs.declared.Ran.{Ran}
 use Rattle.loader_run.specs.Turns.{Config, after}
 use Rattle.loader_run.specs.Inner.{bound}
 
--- the tests of a run, in their order, the lengths in units; 12 is something awaited, running or suspended
+-- the tests of a run, in their order, the lengths in units; 12 is something awaited, running or suspended (R-order-2, R-number-12)
 abbrev pub runRows : Device → State → Pins → ℕ → ℕ → ℕ → ℕ → List Row
 runRows d s p k array w sc =
     row 1 (unknownDevice d)
@@ -41,7 +41,7 @@ begin d s l xs sc = record { loader = l; state = s; bytes = xs; scratch = sc; co
 abbrev pub beginningAt : Stage → Bool → Device → State → Pins → ℕ → List ℕ → List ℕ → Config
 beginningAt stage verify d s p k xs sc = begin d s (recordAt (d .part) p k stage verify) xs sc
 
--- a run begins with 50H and has the verify after the load
+-- a run begins with 50H and has the verify after the load (R-load-1, R-load-5)
 abbrev pub beginning : Device → State → Pins → ℕ → List ℕ → List ℕ → Config
 beginning d s p k xs sc = beginningAt Clearing true d s p k xs sc
 
@@ -67,7 +67,7 @@ pub record RunLeft : Type 0 where
 abbrev pub runMade : Config → RunLeft
 runMade c = record { ran = ranBy c; bytes = c .bytes; scratch = c .scratch }
 
--- .. of a run that is refused: no cycle is counted and nothing is touched
+-- .. of a run that is refused: no cycle is counted and nothing is touched (R-order-2)
 abbrev pub runRefused : ℕ → State → List ℕ → List ℕ → RunLeft
 runRefused n s xs sc = record { ran = record { count = 0; end = n; address = 0; state = s }; bytes = xs; scratch = sc }
 
@@ -77,7 +77,7 @@ runLeftAt stage verify d s p k xs w sc =
     if eqb (runNumber d s p k (length xs) (length w) (length sc)) 0 then runMade (leftAt stage verify d s p k xs w sc)
     else runRefused (runNumber d s p k (length xs) (length w) (length sc)) s xs sc
 
--- a run of load and verify, a load alone, and a verify alone
+-- a run of load and verify, a load alone, and a verify alone (R-load-5)
 abbrev pub runLeft : Device → State → Pins → ℕ → List ℕ → List ℕ → List ℕ → RunLeft
 runLeft d s p k xs w sc = runLeftAt Clearing true d s p k xs w sc
 

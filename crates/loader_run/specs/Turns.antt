@@ -70,7 +70,7 @@ moved d w c =
       count = c .count + 1;
     }
 
--- a turn: one cycle, and none after the end
+-- a turn: one cycle, and none after the end (R-order-5)
 unfoldable pub turnOf : Device → List ℕ → Config → Config
 turnOf d w c = if isEnded (c .loader .stage) then c else moved d w c
 

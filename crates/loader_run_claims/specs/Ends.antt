@@ -35,7 +35,7 @@ asWanted w ys = eqb (differing (length w) 0 w ys) 0
 unfoldable pub shut : Part → Pins → ℕ → Bool
 shut part p k = eqb k 0 && not (unlocked part p 0)
 
--- the end's number: well with nothing to do; else 21 with VPP low; else 23 or 24 where the block is shut; else well
+-- the end's number: well with nothing to do; else 21 with VPP low; else 23 or 24 where the block is shut; else well (R-order-5)
 unfoldable pub endNumber : Device → Pins → ℕ → List ℕ → List ℕ → ℕ
 endNumber d p k w ys =
     if asWanted w ys then 0

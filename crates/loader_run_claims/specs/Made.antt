@@ -69,15 +69,15 @@ abbrev pub pollsThen : Pins → ℕ → ℕ → List Cycle → List Cycle
 pollsThen p zero x cs = cs
 pollsThen p (suc n) x cs = busCycle p Read x 0 ∷ pollsThen p n x cs
 
--- 50H, FFH and the first reads, then cs
+-- 50H, FFH and the first reads, then cs (R-load-1)
 abbrev pub openingThen : Pins → ℕ → ℕ → List Cycle → List Cycle
 openingThen p a n cs = busCycle p Write a 0x50 ∷ busCycle p Write a 0xFF ∷ readsThen p n a 0 cs
 
--- 20H, D0H and E polls, then cs
+-- 20H, D0H and E polls, then cs (R-load-2)
 abbrev pub eraseThen : Device → Pins → ℕ → List Cycle → List Cycle
 eraseThen d p a cs = busCycle p Write a 0x20 ∷ busCycle p Write a 0xD0 ∷ pollsThen p (d .erase) a cs
 
--- 40H, the byte and P polls, all at the byte's address, then cs
+-- 40H, the byte and P polls, all at the byte's address, then cs (R-load-3)
 abbrev pub programThen : Device → Pins → ℕ → ℕ → List Cycle → List Cycle
 programThen d p x b cs = busCycle p Write x 0x40 ∷ busCycle p Write x b ∷ pollsThen p (d .program) x cs
 
@@ -87,7 +87,7 @@ programsThen d p zero a i w s cs = cs
 programsThen d p (suc k) a i w s cs =
     if eqb (getD s i 0) (getD w i 0) then programsThen d p k a (i + 1) w s cs else programThen d p (a + i) (getD w i 0) (programsThen d p k a (i + 1) w s cs)
 
--- the last FFH and the verify's reads
+-- the last FFH and the verify's reads (R-load-4)
 abbrev pub closingOf : Pins → ℕ → ℕ → List Cycle
 closingOf p a n = busCycle p Write a 0xFF ∷ readsThen p n a 0 []
 

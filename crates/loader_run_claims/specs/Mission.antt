@@ -40,7 +40,7 @@ pub record Taken (d : Device) (s : State) (p : Pins) (k : ℕ) (xs w sc : List �
   pub held : Cells (d .part) xs
 
 -- the mission's start: such a start with VPP high, in either band where there are two, and the boot block unlocked if it is the one: RP#
--- at unlock level, or WP# high on devices 5 to 8
+-- at unlock level, or WP# high on devices 5 to 8 (R-demand-3)
 pub record Start (d : Device) (s : State) (p : Pins) (k : ℕ) (xs w sc : List ℕ) : Type 0 where
   pub base : Taken d s p k xs w sc
   pub high : vppHigh (d .part) p ≡ true
@@ -55,12 +55,12 @@ pub record Brings (d : Device) (v : World) (k : ℕ) (w : List ℕ) (bs : List B
 abbrev pub ownCycles : Bool → Device → State → Pins → ℕ → List ℕ → List ℕ → List ℕ → List Bus
 ownCycles verify d s p k xs w sc = busesOf (cyclesAt Clearing verify d s p k xs w sc)
 
--- bs begin at least as many erases of block k as cs, and at least as many programs in it
+-- bs begin at least as many erases of block k as cs, and at least as many programs in it (R-demand-3)
 pub record NoFewer (d : Device) (v : World) (k : ℕ) (cs bs : List Bus) : Type 0 where
   pub erases : erasesBegun d v k cs ≤ erasesBegun d v k bs
   pub programs : programsBegun d v k cs ≤ programsBegun d v k bs
 
--- demand 3, clause by clause in the mission's order: of a run, which has the verify after the load, and of a load alone
+-- demand 3, clause by clause in the mission's order: of a run, which has the verify after the load, and of a load alone (R-demand-3)
 pub record Demand3 (verify : Bool) (d : Device) (s : State) (p : Pins) (k : ℕ) (xs w sc : List ℕ) : Type 0 where
   -- a load ends well
   pub well : runLeftAt Clearing verify d s p k xs w sc .ran .end ≡ 0

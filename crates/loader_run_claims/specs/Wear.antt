@@ -82,11 +82,11 @@ erasesOf w ys = if risesIn w ys then 1 else 0
 abbrev pub programsIn : Part → List ℕ → List ℕ → ℕ
 programsIn part w ys = differing (length w) 0 w (baseOf part w ys)
 
--- the count of a good run: 2n + 3 + e(2 + E) + p(2 + P)
+-- the count of a good run: 2n + 3 + e(2 + E) + p(2 + P) (R-load-5)
 abbrev pub formula : Device → List ℕ → List ℕ → ℕ
 formula d w ys = 2 * length w + 3 + erasesOf w ys * (2 + d .erase) + programsIn (d .part) w ys * (2 + d .program)
 
--- the count of a good load alone: n + 2 + e(2 + E) + p(2 + P)
+-- the count of a good load alone: n + 2 + e(2 + E) + p(2 + P) (R-load-5)
 abbrev pub loadFormula : Device → List ℕ → List ℕ → ℕ
 loadFormula d w ys = length w + 2 + erasesOf w ys * (2 + d .erase) + programsIn (d .part) w ys * (2 + d .program)
 
@@ -94,6 +94,6 @@ loadFormula d w ys = length w + 2 + erasesOf w ys * (2 + d .erase) + programsIn 
 abbrev pub formulaBy : Bool → Device → List ℕ → List ℕ → ℕ
 formulaBy verify d w ys = if verify then formula d w ys else loadFormula d w ys
 
--- the operations that a load of a block k at a begins, in their order
+-- the operations that a load of a block k at a begins, in their order (R-demand-3)
 abbrev pub operationsOf : Part → ℕ → ℕ → List ℕ → List ℕ → List Effect
 operationsOf part k a w ys = if risesIn w ys then Erase k ∷ programsOf (length w) a 0 w (baseOf part w ys) else programsOf (length w) a 0 w (baseOf part w ys)

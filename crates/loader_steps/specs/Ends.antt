@@ -9,11 +9,11 @@ use Rattle.loader.specs.declared.Loader.{Loader}
 use Rattle.loader.specs.Stages.{isEnded, endBy}
 use Rattle.loader_steps.specs.Front.{recordAt}
 
--- a load ends well or by 20 to 24
+-- a load ends well or by 20 to 24 (R-load-8)
 abbrev pub endsLoad : ℕ → Bool
 endsLoad n = eqb n 0 || (leb 20 n && leb n 24)
 
--- a verify ends well or by 25
+-- a verify ends well or by 25 (R-load-8)
 abbrev pub endsVerify : ℕ → Bool
 endsVerify n = eqb n 0 || eqb n 25
 

@@ -24,19 +24,19 @@ use Rattle.units.specs.Units.{lent, back}
 use Rattle.loader_steps.specs.Outs.{byteHere, cycleOf}
 use Rattle.loader_steps.specs.Stores.{storeOf}
 
--- refusal 4 of a loader: a level outside what is allowed, or RP# low
+-- refusal 4 of a loader: a level outside what is allowed, or RP# low (R-number-4)
 unfoldable pub barredPins : Part → Pins → Bool
 barredPins part p = badPins part p || rpLow p
 
--- refusal 10: there is no such block
+-- refusal 10: there is no such block (R-number-10)
 unfoldable pub noBlock : Part → ℕ → Bool
 noBlock part k = eqb (lengthOf part k) 0
 
--- refusal 11: wanted or scratch is not as long as the block
+-- refusal 11: wanted or scratch is not as long as the block (R-number-11)
 unfoldable pub wrongLengths : Part → ℕ → ℕ → ℕ → Bool
 wrongLengths part k w sc = not (eqb w (lengthOf part k)) || not (eqb sc (lengthOf part k))
 
--- refusal 3 of a loader: polls over 65,534, or a place past the block where there is one
+-- refusal 3 of a loader: polls over 65,534, or a place past the block where there is one (R-number-3)
 unfoldable pub badRecord : Loader → Bool
 badRecord l = ltb 65534 (l .polls) || (not (noBlock (l .part) (l .block)) && leb (lengthOf (l .part) (l .block)) (l .place))
 
@@ -47,14 +47,14 @@ setupRows part p k w sc = row 4 (barredPins part p) ∷ row 10 (noBlock part k) 
 unfoldable pub setupNumber : Part → Pins → ℕ → ℕ → ℕ → ℕ
 setupNumber part p k w sc = given (setupRows part p k w sc)
 
--- the tests of a start, in their order
+-- the tests of a start, in their order (R-order-4)
 abbrev pub startRows : Part → Pins → ℕ → ℕ → ℕ → List Row
 startRows part p k w sc = row 1 (unknownPart part) ∷ setupRows part p k w sc
 
 unfoldable pub startNumber : Part → Pins → ℕ → ℕ → ℕ → ℕ
 startNumber part p k w sc = given (startRows part p k w sc)
 
--- the tests of a step, in their order
+-- the tests of a step, in their order (R-order-4)
 abbrev pub stepRows : Loader → ℕ → ℕ → List Row
 stepRows l w sc = row 1 (unknownPart (l .part)) ∷ row 3 (badRecord l) ∷ setupRows (l .part) (l .pins) (l .block) w sc
 
@@ -65,11 +65,11 @@ stepNumber l w sc = given (stepRows l w sc)
 abbrev pub recordAt : Part → Pins → ℕ → Stage → Bool → Loader
 recordAt part p k stage verify = record { part = part; pins = p; block = k; stage = stage; place = 0; polls = 0; verify = verify; high = false }
 
--- the address that an end gives: for 25 the byte address of the byte that differs, else 0
+-- the address that an end gives: for 25 the byte address of the byte that differs, else 0 (R-number-25)
 unfoldable pub endAddress : Loader → ℕ → ℕ
 endAddress l n = if eqb n 25 then byteHere l else 0
 
--- what a record gives: the cycle that is out, or its end again
+-- what a record gives: the cycle that is out, or its end again (R-load-7)
 abbrev pub turnIn : Stage → Loader → List ℕ → Turn
 turnIn stage l w = if isEnded stage then Over (endBy stage) (endAddress l (endBy stage)) else Out (cycleOf l w)
 
@@ -77,6 +77,7 @@ abbrev pub turnGiven : Loader → List ℕ → Given
 turnGiven l w = record { turn = turnIn (l .stage) l w; loader = l }
 
 -- a turn by its cases: its number (0 for a cycle, the end's, or the refusal's), the cycle given, and the address that an end gives
+-- (R-promise-2)
 abbrev pub turnTold : Turn → ℕ × List Cycle × List ℕ
 turnTold (Out c) = (0, c ∷ [], [])
 turnTold (Over n a) = (n, [], a ∷ [])
@@ -127,7 +128,7 @@ loadStartTold part p k w sc = toldAt Clearing false part p k w sc
 abbrev pub verifyStartTold : Part → Pins → ℕ → List ℕ → List ℕ → ℕ × List Cycle × List ℕ
 verifyStartTold part p k w sc = toldAt Closing true part p k w sc
 
--- a step: what is given ..
+-- a step: what is given .. (R-load-7)
 unfoldable pub stepGiven : Loader → ℕ → List ℕ → List ℕ → Given
 stepGiven l v w sc =
     if eqb (stepNumber l (length w) (length sc)) 0 then turnGiven (nextOf l v w (storeOf l v w sc)) w else barredBy (stepNumber l (length w) (length sc)) l

@@ -17,11 +17,11 @@ use Rattle.loader_steps.specs.Inner.{hereOf}
 unfoldable pub byteHere : Loader → ℕ
 byteHere l = byteAt (l .part .word) (hereOf l) (l .high)
 
--- a cycle at an address with the record's levels, OE# normal
+-- a cycle at an address with the record's levels, OE# normal (R-load-6)
 abbrev pub cycleAt : Loader → Kind → ℕ → ℕ → Cycle
 cycleAt l kind address carried = record { kind = kind; pins = l .pins; oe = 0; address = address; «data» = carried }
 
--- where it goes: to the unit at the record's place, or to the block's first address
+-- where it goes: to the unit at the record's place, or to the block's first address (R-load-6)
 abbrev pub addressIn : Bool → ℕ → ℕ → ℕ
 addressIn isHere first here = if isHere then here else first
 

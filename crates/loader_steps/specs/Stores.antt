@@ -17,7 +17,7 @@ use Rattle.loader.specs.Moves.{statusIn, isReady, eraseFault, programFault}
 unfoldable pub erasedWell : ℕ → Bool
 erasedWell sr = isReady sr && eqb (eraseFault sr) 0
 
--- .. fills scratch with ones
+-- .. fills scratch with ones (R-load-2)
 abbrev pub eraseStored : Part → ℕ → List ℕ → List ℕ
 eraseStored part sr sc = if erasedWell sr then replicate (length sc) (ones part) else sc
 
@@ -25,11 +25,12 @@ eraseStored part sr sc = if erasedWell sr then replicate (length sc) (ones part)
 unfoldable pub programmedWell : ℕ → Bool
 programmedWell sr = isReady sr && eqb (programFault sr) 0
 
--- .. puts its unit, the wanted one of its place, into scratch
+-- .. puts its unit, the wanted one of its place, into scratch (R-load-3)
 abbrev pub programStored : ℕ → ℕ → List ℕ → List ℕ → List ℕ
 programStored place sr w sc = if programmedWell sr then set sc place (getD w place 0) else sc
 
 -- what the data do to scratch: reads store them, and an operation that ended well does there what it did to the block
+-- (R-load-1, R-load-4)
 abbrev pub storeIn : Stage → Part → ℕ → ℕ → List ℕ → List ℕ → List ℕ
 storeIn Clearing part place v w sc = sc
 storeIn Opening part place v w sc = sc

@@ -26,7 +26,7 @@ verifyAfter d p k w l =
       scratch = verifyAlone d (l .ran .state) p k (l .bytes) w (l .scratch) .scratch;
     }
 
--- what a load leaves, and, only where it ended well, the verify after it
+-- what a load leaves, and, only where it ended well, the verify after it (R-load-5)
 abbrev pub thenVerify : Device → Pins → ℕ → List ℕ → RunLeft → RunLeft
 thenVerify d p k w l = if eqb (l .ran .end) 0 then verifyAfter d p k w l else l
 

@@ -27,7 +27,7 @@ use Rattle.loader_run_claims.specs.Ends.{asWanted}
 unfoldable pub unitsRead : List ℕ → List ℕ → ℕ
 unitsRead w ys = if asWanted w ys then length w else diffFrom 0 w ys + 1
 
--- its end: well, or 25 ..
+-- its end: well, or 25 .. (R-number-25)
 unfoldable pub verifyEnd : List ℕ → List ℕ → ℕ
 verifyEnd w ys = if asWanted w ys then 0 else 25
 
@@ -44,7 +44,7 @@ verifyAddress part a w ys = if asWanted w ys then 0 else byteApart part (a + dif
 abbrev pub verifyRan : Part → State → ℕ → List ℕ → List ℕ → Ran
 verifyRan part s a w ys = record { count = 1 + unitsRead w ys; end = verifyEnd w ys; address = verifyAddress part a w ys; state = atRest s Array (s .status) }
 
--- a verify alone of block k, sentence by sentence
+-- a verify alone of block k, sentence by sentence (R-load-4)
 pub record Verified (d : Device) (s : State) (p : Pins) (k : ℕ) (xs w sc : List ℕ) : Type 0 where
   -- what it returns
   pub ran : verifyAlone d s p k xs w sc .ran ≡ verifyRan (d .part) s (startOf (d .part) k) w (heldIn (startOf (d .part) k) (length w) xs)

@@ -23,15 +23,16 @@ use Rattle.model.specs.declared.Seen.{Seen}
 use Rattle.model.specs.declared.Seen.the-variants.{NoData, Data, Refused}
 use Rattle.model.specs.declared.Answer.{Answer}
 
--- an erase that ends leaves ones in its whole block
+-- an erase that ends leaves ones in its whole block (R-cycle-5)
 unfoldable pub erased : Part → ℕ → List ℕ → List ℕ
 erased part k xs = overlaid xs (startOf part k) (replicate (lengthOf part k) (ones part))
 
--- an erase that is cut leaves residue unit i at unit i of the block
+-- an erase that is cut leaves residue unit i at unit i of the block (R-cycle-7)
 unfoldable pub residual : Part → ℕ → List ℕ → List ℕ → List ℕ
 residual part k rs xs = overlaid xs (startOf part k) (take (lengthOf part k) rs)
 
 -- the array after an effect: a program leaves old AND data; cut, it leaves old AND (data OR r), r the residue's first unit
+-- (R-cycle-5, R-cycle-7)
 abbrev pub arrayOf : Effect → Part → List ℕ → List ℕ → List ℕ
 arrayOf Nothing part rs xs = xs
 arrayOf (Program at b) part rs xs = set xs at (bitAnd (getD xs at 0) b)
@@ -53,7 +54,7 @@ seenOf (Gives v) xs = Data v
 seenOf (GivesArray a) xs = Data (getD xs a 0)
 seenOf (Refuses n) xs = Refused n
 
--- what the host sees by its cases: the refusal's number, 0 where there is none, and the data given
+-- what the host sees by its cases: the refusal's number, 0 where there is none, and the data given (R-promise-2)
 abbrev pub seenTold : Seen → ℕ × List ℕ
 seenTold NoData = (0, [])
 seenTold (Data v) = (0, v ∷ [])
@@ -74,7 +75,7 @@ Accepted a = (m : ℕ) → a .seen ≡ Refused m → ⊥
 unfoldable pub arrayAfter : Device → State → Cycle → List ℕ → List ℕ → List ℕ
 arrayAfter d s c xs rs = arrayOf (decideOf d s c (length xs) (length rs) .effect) (d .part) rs xs
 
--- the answer to a cycle: its read sees the array as steps 1 to 3 leave it
+-- the answer to a cycle: its read sees the array as steps 1 to 3 leave it (R-demand-2)
 unfoldable pub answerOf : Device → State → Cycle → List ℕ → List ℕ → Answer
 answerOf d s c xs rs =
     record { seen = seenOf (decideOf d s c (length xs) (length rs) .reply) (arrayAfter d s c xs rs); state = decideOf d s c (length xs) (length rs) .state }
@@ -83,7 +84,7 @@ answerOf d s c xs rs =
 unfoldable pub cycleTold : Device → State → Cycle → List ℕ → List ℕ → ℕ × List ℕ
 cycleTold d s c xs rs = replyTold (decideOf d s c (length xs) (length rs) .reply) (arrayAfter d s c xs rs)
 
--- the lent bytes after a cycle: a refused cycle leaves them as they are, an accepted one the bytes of the array's units
+-- the lent bytes after a cycle: a refused cycle leaves them as they are, an accepted one the bytes of the array's units (R-cycle-8)
 unfoldable pub bytesAfter : Device → State → Cycle → List ℕ → List ℕ → List ℕ
 bytesAfter d s c array residue =
     let us : List ℕ = lent (d .part .word) array in

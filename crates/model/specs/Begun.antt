@@ -52,14 +52,14 @@ askedBy Erasing part c = Nothing
 askedBy (Suspending n) part c = Nothing
 askedBy Suspended part c = Nothing
 
--- a write with RP# up that is neither unsupplied nor locked starts what it asks for
+-- a write with RP# up that is neither unsupplied nor locked starts what it asks for (R-second-3, R-second-4)
 unfoldable pub startsOf : Part → State → Cycle → Effect
 startsOf part s c =
     if ((isWrite (c .kind) && not (rpLow (c .pins))) && not (unsupplied part c s)) && not (locked part c)
     then askedBy (s .phase) part c
     else Nothing
 
--- the operation that a cycle begins; a refused cycle begins none
+-- the operation that a cycle begins; a refused cycle begins none (R-demand-3)
 unfoldable pub begunBy : Device → State → Cycle → ℕ → ℕ → Effect
 begunBy d s c array residue = if eqb (numberOf d s c array residue) 0 then startsOf (d .part) s c else Nothing
 
@@ -67,6 +67,6 @@ begunBy d s c array residue = if eqb (numberOf d s c array residue) 0 then start
 abbrev pub begunFrom : Part → State → State → Effect
 begunFrom part s t = if isAwaited (s .phase) then pendingOf part t else Nothing
 
--- the counts of erases after a cycle: one more at the block of an erase that the cycle begins
+-- the counts of erases after a cycle: one more at the block of an erase that the cycle begins (R-wear-1)
 abbrev pub wearAfter : Device → State → Cycle → ℕ → ℕ → Wear
 wearAfter d s c array residue = wornBy (begunBy d s c array residue) (s .wear)

@@ -21,19 +21,19 @@ use Rattle.model_types.specs.Levels.{vppLow, locked}
 use Rattle.model_types.specs.Status.{SR7, SR6, SR5, SR4, SR3, withBits, withoutBits, isSet}
 use Rattle.model_types.specs.States.{atRest, inPhase}
 
--- the command of a cycle: the low 8 bits of its data
+-- the command of a cycle: the low 8 bits of its data (R-write-1)
 unfoldable pub commandOf : Cycle → ℕ
 commandOf c = c .data % 256
 
--- the data of a cycle: all 16 bits in word mode, in byte mode the low 8
+-- the data of a cycle: all 16 bits in word mode, in byte mode the low 8 (R-part-6)
 unfoldable pub dataOf : Part → Cycle → ℕ
 dataOf part c = carried (part .word) (c .data)
 
--- 40H asks for a program, and on devices 5 to 8 10H does too
+-- 40H asks for a program, and on devices 5 to 8 10H does too (R-write-2)
 unfoldable pub asksProgram : Part → ℕ → Bool
 asksProgram part b = eqb b 0x40 || (isLarge part && eqb b 0x10)
 
--- nothing awaited, running or suspended: B0H too sets read array
+-- nothing awaited, running or suspended: B0H too sets read array (R-write-1, R-write-2, R-write-3)
 unfoldable pub firstWrite : Part → ℕ → Action
 firstWrite part b =
     if eqb b 0xFF then ToArray
@@ -45,19 +45,19 @@ firstWrite part b =
     else if asksProgram part b then AwaitData
     else Refuse
 
--- after 20H
+-- after 20H (R-second-1)
 unfoldable pub afterErase : ℕ → Action
 afterErase b = if eqb b 0xD0 then Confirm else WrongSecond
 
--- while an erase is busy
+-- while an erase is busy (R-busy-2)
 unfoldable pub whileErasing : ℕ → Action
 whileErasing b = if eqb b 0xB0 then Suspend else Ignore
 
--- while a suspend is under way; a second B0H begins nothing anew
+-- while a suspend is under way; a second B0H begins nothing anew (R-busy-2)
 unfoldable pub whileSuspending : ℕ → Action
 whileSuspending b = if eqb b 0x70 then ToStatus else Ignore
 
--- while suspended
+-- while suspended (R-suspended-1)
 unfoldable pub whileSuspended : ℕ → Action
 whileSuspended b =
     if eqb b 0xFF then ToArray
@@ -65,7 +65,7 @@ whileSuspended b =
     else if eqb b 0xD0 then Resume
     else Ignore
 
--- the command rules: after 40H all is data, and a busy program ignores every write
+-- the command rules: after 40H all is data, and a busy program ignores every write (R-second-1, R-busy-1)
 abbrev pub actionOf : Part → Phase → ℕ → Action
 actionOf part Free b = firstWrite part b
 actionOf part EraseAwaited b = afterErase b
@@ -99,11 +99,11 @@ inMode m s = record { mode = m; status = s .status; phase = s .phase; left = s .
 abbrev pub withStatus : ℕ → State → State
 withStatus sr s = record { mode = s .mode; status = sr; phase = s .phase; left = s .left; address = s .address; wear = s .wear }
 
--- VPP is low at this cycle, or SR.3 is still set
+-- VPP is low at this cycle, or SR.3 is still set (R-second-3, R-status-2)
 unfoldable pub unsupplied : Part → Cycle → State → Bool
 unsupplied part c s = vppLow part (c .pins) || isSet (s .status) SR3
 
--- the counts after an operation starts at this cycle's address: an erase counts at its block, a program does not count
+-- the counts after an operation starts at this cycle's address: an erase counts at its block, a program does not count (R-wear-1)
 abbrev pub wearBy : Phase → Part → Cycle → Wear → Wear
 wearBy Free part c w = w
 wearBy EraseAwaited part c w = w
@@ -115,14 +115,14 @@ wearBy Suspended part c w = w
 
 -- a confirm or data: unsupplied sets SR.3 and the operation's error bit, locked the error bit (where both apply, the bits are
 -- those of the first); otherwise the operation starts at this cycle's address with its busy time to go and SR.7 clear,
--- and an erase is counted
+-- and an erase is counted (R-second-2, R-second-3, R-second-4)
 unfoldable pub startedOf : Part → Cycle → State → Phase → ℕ → ℕ → State
 startedOf part c s ph time bit =
     if unsupplied part c s then atRest s (s .mode) (withBits (withBits (s .status) SR3) bit)
     else if locked part c then atRest s (s .mode) (withBits (s .status) bit)
     else record { mode = s .mode; status = withoutBits (s .status) SR7; phase = ph; left = time; address = c .address; wear = wearBy ph part c (s .wear) }
 
--- what an action makes of the state; a suspend takes S cycles, of which this is none
+-- what an action makes of the state; a suspend takes S cycles, of which this is none (R-write-1, R-second-1, R-busy-2, R-suspended-1)
 abbrev pub performedOf : Action → Device → Cycle → State → State
 performedOf ToArray d c s = inMode Array s
 performedOf ToIdentifier d c s = inMode Identifier s

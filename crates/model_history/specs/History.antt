@@ -82,7 +82,7 @@ isCut (Erase k) = false
 isCut (CutProgram a b) = true
 isCut (CutErase k) = true
 
--- no operation is cut
+-- no operation is cut (R-demand-3)
 abbrev pub uncut : List Effect → Bool
 uncut [] = true
 uncut (e ∷ es) = not (isCut e) && uncut es
@@ -121,7 +121,7 @@ programIn a n (CutErase j) = 0
 abbrev pub programOf : Part → ℕ → Effect → ℕ
 programOf part k = programIn (startOf part k) (lengthOf part k)
 
--- how many erases of block k cycles begin, and how many programs in it
+-- how many erases of block k cycles begin, and how many programs in it (R-demand-3, R-wear-3)
 abbrev pub erasesBegun : Device → World → ℕ → List Bus → ℕ
 erasesBegun d v k bs = totalOf (eraseOf k) (begunOver d v bs)
 

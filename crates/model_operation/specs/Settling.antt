@@ -32,7 +32,7 @@ cutOf Erasing part a = CutErase (blockOf part a)
 cutOf (Suspending n) part a = CutErase (blockOf part a)
 cutOf Suspended part a = CutErase (blockOf part a)
 
--- the end of the operation that is running
+-- the end of the operation that is running (R-cycle-5)
 abbrev pub finishOf : Phase → Part → ℕ → Effect
 finishOf Free part a = Nothing
 finishOf EraseAwaited part a = Nothing
@@ -42,7 +42,7 @@ finishOf Erasing part a = Erase (blockOf part a)
 finishOf (Suspending n) part a = Nothing
 finishOf Suspended part a = Nothing
 
--- what a cut by VPP sets: SR.7 and SR.3, with SR.4 for a program or SR.5 for an erase
+-- what a cut by VPP sets: SR.7 and SR.3, with SR.4 for a program or SR.5 for an erase (R-cycle-4)
 abbrev pub cutBits : Phase → ℕ
 cutBits Free = 0
 cutBits EraseAwaited = 0
@@ -52,7 +52,7 @@ cutBits Erasing = SR7 + SR5 + SR3
 cutBits (Suspending n) = SR7 + SR5 + SR3
 cutBits Suspended = SR7 + SR5 + SR3
 
--- the residue that a cut needs, in units: one for a program, the block's for an erase
+-- the residue that a cut needs, in units: one for a program, the block's for an erase (R-cycle-7)
 abbrev pub residueFor : Phase → Part → ℕ → ℕ
 residueFor Free part a = 0
 residueFor EraseAwaited part a = 0
@@ -62,21 +62,22 @@ residueFor Erasing part a = lengthOf part (blockOf part a)
 residueFor (Suspending n) part a = lengthOf part (blockOf part a)
 residueFor Suspended part a = lengthOf part (blockOf part a)
 
--- step 1: RP# low
+-- step 1: RP# low (R-cycle-3)
 abbrev pub resetBy : Part → State → Settled
 resetBy part s = settledAs (resetOf s) (cutOf (s .phase) part (s .address))
 
--- step 2: VPP low with an operation running, being suspended or suspended; SR.6 is cleared
+-- step 2: VPP low with an operation running, being suspended or suspended; SR.6 is cleared (R-cycle-4)
 unfoldable pub cutBy : Part → State → Settled
 cutBy part s = settledAs (atRest s Status (withBits (withoutBits (s .status) SR6) (cutBits (s .phase)))) (cutOf (s .phase) part (s .address))
 
--- step 3: a running operation counts one cycle off; at zero it is finished
+-- step 3: a running operation counts one cycle off; at zero it is finished (R-cycle-5)
 unfoldable pub countedOff : Part → State → Settled
 countedOff part s =
     if eqb (s .left - 1) 0 then settledAs (atRest s (s .mode) (withBits (s .status) SR7)) (finishOf (s .phase) part (s .address))
     else settledAs (record { mode = s .mode; status = s .status; phase = s .phase; left = s .left - 1; address = s .address; wear = s .wear }) Nothing
 
 -- step 3 while a suspend is under way: the erase stands still and one cycle of the suspend passes; on the last SR.7 and SR.6 are set
+-- (R-busy-2)
 unfoldable pub suspendPassed : State → Settled
 suspendPassed s =
     if eqb (suspendLeft (s .phase) - 1) 0 then settledAs (inPhase Suspended (withBits (s .status) (SR7 + SR6)) s) Nothing
@@ -86,7 +87,7 @@ suspendPassed s =
 unfoldable pub passedOf : Part → State → Settled
 passedOf part s = if isSuspending (s .phase) then suspendPassed s else countedOff part s
 
--- the three steps in their order
+-- the three steps in their order (R-cycle-3, R-cycle-4, R-cycle-5)
 unfoldable pub settleOf : Part → State → Pins → Settled
 settleOf part s p =
     if rpLow p then resetBy part s

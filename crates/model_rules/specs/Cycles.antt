@@ -28,37 +28,37 @@ use Rattle.model_types.specs.States.{improper, isArray, isIdentifier}
 use Rattle.model_commands.specs.Commands.{commandOf, actionOf, isRefuse, performedOf}
 use Rattle.model_operation.specs.Settling.{settleOf, residueFor}
 
--- refusal 5: the address is past the array; not asked with RP# low, nor of an idle cycle
+-- refusal 5: the address is past the array; not asked with RP# low, nor of an idle cycle (R-number-5)
 unfoldable pub pastArray : Part → Cycle → Bool
 pastArray part c = (leb (sizeOf part) (c .address) && not (rpLow (c .pins))) && not (isIdle (c .kind))
 
--- refusal 6: the cycle cuts an operation, and the residue is too short for it
+-- refusal 6: the cycle cuts an operation, and the residue is too short for it (R-number-6)
 unfoldable pub shortResidue : Part → State → Cycle → ℕ → Bool
 shortResidue part s c residue = (rpLow (c .pins) || vppLow part (c .pins)) && ltb residue (residueFor (s .phase) part (s .address))
 
--- refusal 7: a write of a byte that is no command
+-- refusal 7: a write of a byte that is no command (R-number-7)
 unfoldable pub noCommand : Part → State → Cycle → Bool
 noCommand part t c = (isWrite (c .kind) && isRefuse (actionOf part (t .phase) (commandOf c))) && not (rpLow (c .pins))
 
--- refusal 8: an array read in the suspended block
+-- refusal 8: an array read in the suspended block (R-number-8, R-suspended-2)
 unfoldable pub suspendedRead : Part → State → Cycle → Bool
 suspendedRead part t c =
     (((isRead (c .kind) && isSuspended (t .phase)) && isArray (t .mode)) && eqb (blockOf part (c .address)) (blockOf part (t .address)))
     && not (rpLow (c .pins))
 
--- devices 5 to 8 in byte mode: A-1 does not matter to an identifier read
+-- devices 5 to 8 in byte mode: A-1 does not matter to an identifier read (R-read-2)
 unfoldable pub skipsLast : Part → Bool
 skipsLast part = isLarge part && not (part .word)
 
--- which identifier code an address asks for, 0 or 1, any more being none
+-- which identifier code an address asks for, 0 or 1, any more being none (R-read-2)
 unfoldable pub codePlace : Part → ℕ → ℕ
 codePlace part a = if skipsLast part then a / 2 else a
 
--- refusal 9: an identifier read where there is no code
+-- refusal 9: an identifier read where there is no code (R-number-9)
 unfoldable pub noIdentifier : Part → State → Cycle → Bool
 noIdentifier part t c = ((isRead (c .kind) && isIdentifier (t .mode)) && ltb 1 (codePlace part (c .address))) && not (rpLow (c .pins))
 
--- refusals 1 to 6, each by its own condition
+-- refusals 1 to 6, each by its own condition (R-number-2, R-order-1)
 abbrev pub early : Device → State → Cycle → ℕ → ℕ → List Row
 early d s c array residue =
     row 1 (unknownDevice d)
@@ -69,7 +69,7 @@ early d s c array residue =
     ∷ row 6 (shortResidue (d .part) s c residue)
     ∷ []
 
--- refusals 7 to 9, by the state that steps 2 and 3 would leave
+-- refusals 7 to 9, by the state that steps 2 and 3 would leave (R-order-1)
 abbrev pub late : Part → State → Cycle → List Row
 late part t c = row 7 (noCommand part t c) ∷ row 8 (suspendedRead part t c) ∷ row 9 (noIdentifier part t c) ∷ []
 
@@ -77,7 +77,7 @@ late part t c = row 7 (noCommand part t c) ∷ row 8 (suspendedRead part t c) �
 abbrev pub tableOf : Device → State → Cycle → ℕ → ℕ → List Row
 tableOf d s c array residue = early d s c array residue ++ late (d .part) (settleOf (d .part) s (c .pins) .state) c
 
--- the number of a cycle: the lowest that applies, 0 where none does
+-- the number of a cycle: the lowest that applies, 0 where none does (R-number-0)
 unfoldable pub numberOf : Device → State → Cycle → ℕ → ℕ → ℕ
 numberOf d s c array residue = given (tableOf d s c array residue)
 
@@ -93,31 +93,31 @@ lateOf part t c = given (late part t c)
 abbrev pub decidedAs : Reply → State → Effect → Decision
 decidedAs r s e = record { reply = r; state = s; effect = e }
 
--- a refused cycle has not happened
+-- a refused cycle has not happened (R-cycle-8)
 abbrev pub refusedBy : ℕ → State → Decision
 refusedBy n s = decidedAs (Refuses n) s Nothing
 
--- 89H at place 0, the part's code at 1
+-- 89H at place 0, the part's code at 1 (R-read-1, R-read-2)
 unfoldable pub identifierOf : Part → ℕ → ℕ
 identifierOf part a = if eqb (codePlace part a) 0 then 0x89 else codeOf part
 
--- a read, by mode
+-- a read, by mode (R-read-1)
 abbrev pub replyTo : Mode → Part → ℕ → ℕ → Reply
 replyTo Array part a sr = GivesArray a
 replyTo Status part a sr = Gives sr
 replyTo Identifier part a sr = Gives (identifierOf part a)
 
--- step 4: the read or write itself
+-- step 4: the read or write itself (R-cycle-6)
 abbrev pub respondOf : Kind → Device → Cycle → Settled → Decision
 respondOf Read d c t = decidedAs (replyTo (t .state .mode) (d .part) (c .address) (t .state .status)) (t .state) (t .effect)
 respondOf Write d c t = decidedAs Quiet (performedOf (actionOf (d .part) (t .state .phase) (commandOf c)) d c (t .state)) (t .effect)
 respondOf Idle d c t = decidedAs Quiet (t .state) (t .effect)
 
--- with RP# low the cycle ends after step 1
+-- with RP# low the cycle ends after step 1 (R-cycle-3)
 unfoldable pub acceptOf : Device → Cycle → Settled → Decision
 acceptOf d c t = if rpLow (c .pins) then decidedAs Quiet (t .state) (t .effect) else respondOf (c .kind) d c t
 
--- one bus cycle: refused by its number, or the four steps
+-- one bus cycle: refused by its number, or the four steps (R-demand-2)
 unfoldable pub decideOf : Device → State → Cycle → ℕ → ℕ → Decision
 decideOf d s c array residue =
     if eqb (numberOf d s c array residue) 0 then acceptOf d c (settleOf (d .part) s (c .pins)) else refusedBy (numberOf d s c array residue) s

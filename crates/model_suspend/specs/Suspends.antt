@@ -48,7 +48,7 @@ shownAll sr [] = []
 shownAll sr (b ∷ bs) = shownAs sr b ∷ shownAll sr bs
 
 -- from v to u the same erase: one cycle less to go, and suspended; or, where the last cycle was D0H, running again. A read gives the
--- status, or the array where the last cycle was FFH
+-- status, or the array where the last cycle was FFH (R-busy-2)
 pub record Suspends (v u : World) (resumed opened : Bool) : Type 0 where
   pub mode : u .state .mode ≡ (if opened then Array else Status)
   pub phase : u .state .phase ≡ (if resumed then Erasing else Suspended)

@@ -39,7 +39,7 @@ byRules = record { answer = answerOf; leaves = bytesAfter }
 abbrev pub byTable : Engine
 byTable = record { answer = tableAnswer; leaves = tableBytes }
 
--- our two engines
+-- our two engines (R-touch-2)
 pub data Ours : Engine → Type 0 where
   rules : Ours byRules
   table : Ours byTable
@@ -111,12 +111,12 @@ Differs v w x = byteIn w x ≡ byteIn v x → ⊥
 abbrev pub TouchesOnly : (ℕ → Bool) → World → World → Type 0
 TouchesOnly own v w = (x : ℕ) → own x ≡ false → byteIn w x ≡ byteIn v x
 
--- bits are only cleared: every bit that is set was set
+-- bits are only cleared: every bit that is set was set (R-touch-2)
 abbrev pub OnlyClears : World → World → Type 0
 OnlyClears v w = (x : ℕ) → bitAnd (byteIn v x) (byteIn w x) ≡ byteIn w x
 
 -- a confirm, D0H or data, of an operation that byte x is one of the bytes of: where in the list, which cycle with its address and levels;
--- an accepted write that begins what it asks for, with VPP high
+-- an accepted write that begins what it asks for, with VPP high (R-touch-1)
 pub record Confirmed (g : Engine) (d : Device) (v : World) (bs : List Bus) (x : ℕ) : Type 0 where
   pub index : ℕ
   pub bus : Bus
@@ -132,11 +132,12 @@ pub record ConfirmedBefore (g : Engine) (d : Device) (v : World) (bs : List Bus)
   pub confirm : Confirmed g d v bs x
   pub sooner : confirm .index < i
 
--- a confirm was made unlocked: by the levels of its own cycle
+-- a confirm was made unlocked: by the levels of its own cycle (R-touch-1)
 abbrev pub Unlocked : {g : Engine} {d : Device} {v : World} {bs : List Bus} {x : ℕ} → Confirmed g d v bs x → Type 0
 Unlocked {d = d} k = unlocked (d .part) (k .bus .cycle .pins) (k .bus .cycle .oe) ≡ true
 
 -- the statement, a field for each sentence, of the cycles bs from v on by an engine; two fields more than it has sentences
+-- (R-touch-1, R-touch-2)
 pub record Manual (g : Engine) (d : Device) (v : World) (bs : List Bus) : Type 0 where
   -- A byte changes only where an operation on it, or on its block, was confirmed, and VPP was high at that confirm.
   pub byte-changes : (x : ℕ) → Differs v (afterAll g d v bs) x → Confirmed g d v bs x

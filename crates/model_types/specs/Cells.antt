@@ -5,7 +5,7 @@ use lib.ListN.{getD}
 use Rattle.units.specs.Units.{top}
 use Rattle.device.specs.declared.Part.{Part}
 
--- an erased cell of a part: all ones of a byte, or in word mode of a word
+-- an erased cell of a part: all ones of a byte, or in word mode of a word (R-cycle-5)
 unfoldable pub ones : Part → ℕ
 ones part = top (part .word)
 

@@ -6,11 +6,11 @@ use Rattle.model_types.specs.declared.Wear.{Wear}
 use Rattle.model_types.specs.declared.Effect.{Effect}
 use Rattle.model_types.specs.declared.Effect.the-variants.{Nothing, Program, Erase, CutProgram, CutErase}
 
--- a count stops here: 4,294,967,295
+-- a count stops here: 4,294,967,295 (R-wear-1)
 abbrev pub stop : ℕ
 stop = 4294967295
 
--- a fresh device
+-- a fresh device (R-wear-1)
 abbrev pub unworn : Wear
 unworn = record { block0 = 0; block1 = 0; block2 = 0; block3 = 0; block4 = 0; block5 = 0; block6 = 0 }
 
@@ -26,7 +26,7 @@ countOf w k =
     else if eqb k 6 then w .block6
     else 0
 
--- one more, up to the stop
+-- one more, up to the stop (R-wear-1)
 unfoldable pub raised : ℕ → ℕ
 raised n = if ltb n stop then n + 1 else n
 
@@ -46,7 +46,7 @@ worn w k = record {
   block6 = raisedAt 6 k (w .block6);
 }
 
--- the counts after an operation is begun: an erase counts at its block, nothing else counts
+-- the counts after an operation is begun: an erase counts at its block, nothing else counts (R-wear-1)
 abbrev pub wornBy : Effect → Wear → Wear
 wornBy Nothing w = w
 wornBy (Program at b) w = w

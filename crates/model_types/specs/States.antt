@@ -42,38 +42,38 @@ mostLeft d Erasing = d .erase
 mostLeft d (Suspending n) = d .erase
 mostLeft d Suspended = d .erase
 
--- mode status while awaiting or busy; array or status while suspended
+-- mode status while awaiting or busy; array or status while suspended (R-proper-1)
 abbrev pub properMode : Phase → Mode → Bool
 properMode ph m =
     if isAwaited ph || isBusy ph then isStatus m
     else if isSuspended ph then isArray m || isStatus m
     else true
 
--- SR.7, the top bit, is clear exactly when busy
+-- SR.7, the top bit, is clear exactly when busy (R-proper-1)
 abbrev pub properReady : Phase → ℕ → Bool
 properReady ph sr = eqb (sr / SR7) (if isBusy ph then 0 else 1)
 
--- SR.6 is set exactly when suspended
+-- SR.6 is set exactly when suspended (R-proper-1)
 abbrev pub properHeld : Phase → ℕ → Bool
 properHeld ph sr = eqb (sr / SR6 % 2) (if isSuspended ph then 1 else 0)
 
--- SR.2-0, all that is below SR.3, are zero
+-- SR.2-0, all that is below SR.3, are zero (R-proper-1)
 abbrev pub properLow : ℕ → Bool
 properLow sr = eqb (sr % SR3) 0
 
--- cycles to go: from 1 to P or E with an operation running or suspended, zero without one
+-- cycles to go: from 1 to P or E with an operation running or suspended, zero without one (R-proper-1)
 abbrev pub properLeft : Device → Phase → ℕ → Bool
 properLeft d ph left = if isPending ph then leb 1 left && leb left (mostLeft d ph) else eqb left 0
 
--- cycles of a suspend to go: from 1 to S while it is under way, none in every other phase
+-- cycles of a suspend to go: from 1 to S while it is under way, none in every other phase (R-proper-1)
 abbrev pub properSuspend : Device → Phase → Bool
 properSuspend d ph = if isSuspending ph then leb 1 (suspendLeft ph) && leb (suspendLeft ph) (d .suspend) else true
 
--- the operation's address: inside the array, zero without one
+-- the operation's address: inside the array, zero without one (R-proper-1)
 abbrev pub properAddress : Device → Phase → ℕ → Bool
 properAddress d ph a = if isPending ph then ltb a (sizeOf (d .part)) else eqb a 0
 
--- a proper state
+-- a proper state (R-proper-1)
 unfoldable pub proper : Device → State → Bool
 proper d s =
     properMode (s .phase) (s .mode)
@@ -84,7 +84,7 @@ proper d s =
     && properSuspend d (s .phase)
     && properAddress d (s .phase) (s .address)
 
--- refusal 3: the state is not proper
+-- refusal 3: the state is not proper (R-number-3)
 unfoldable pub improper : Device → State → Bool
 improper d s = not (proper d s)
 
@@ -96,10 +96,10 @@ atRest s m sr = record { mode = m; status = sr; phase = Free; left = 0; address 
 abbrev pub inPhase : Phase → ℕ → State → State
 inPhase ph sr s = record { mode = Status; status = sr; phase = ph; left = s .left; address = s .address; wear = s .wear }
 
--- a fresh device: read array, 80H, nothing carried, no erase begun
+-- a fresh device: read array, 80H, nothing carried, no erase begun (R-status-3)
 abbrev pub freshState : State
 freshState = record { mode = Array; status = SR7; phase = Free; left = 0; address = 0; wear = unworn }
 
--- what RP# low makes of a state
+-- what RP# low makes of a state (R-cycle-3)
 abbrev pub resetOf : State → State
 resetOf s = atRest s Array SR7

@@ -4,23 +4,23 @@ use Prim.Native.Nat.{ℕ, _-_, _/_, _%_}
 use lib.Bits.{bitAnd, bitOr}
 use lib.Dec.{eqb}
 
--- SR.7: ready
+-- SR.7: ready (R-status-1)
 abbrev pub SR7 : ℕ
 SR7 = 0x80
 
--- SR.6: an erase is suspended
+-- SR.6: an erase is suspended (R-status-1)
 abbrev pub SR6 : ℕ
 SR6 = 0x40
 
--- SR.5: erase error
+-- SR.5: erase error (R-status-1)
 abbrev pub SR5 : ℕ
 SR5 = 0x20
 
--- SR.4: program error
+-- SR.4: program error (R-status-1)
 abbrev pub SR4 : ℕ
 SR4 = 0x10
 
--- SR.3: VPP was low
+-- SR.3: VPP was low (R-status-1)
 abbrev pub SR3 : ℕ
 SR3 = 0x08
 

@@ -26,7 +26,7 @@ heatOf p i = ofInt binary64 (tenthsOf p i)
 unfoldable pub pairAt : List ℕ → ℕ → Pair
 pairAt p i = pairOf (voltsOf p i) (tenthsOf p i) (voltsOf p (i + 1)) (tenthsOf p (i + 1))
 
--- below the first knot, above the last, or between two: by the pair that the search finds
+-- below the first knot, above the last, or between two: by the pair that the search finds (R-reading-3)
 unfoldable pub readingOf : List ℕ → ℤ → Reading
 readingOf p x =
     if ltZ x (voltsOf p 0) then Below (heatOf p 0)
@@ -46,6 +46,7 @@ unfoldable pub pairWrong : List ℕ → ℤ → Bool
 pairWrong p x = not (ltZ x (voltsOf p 0)) && (not (ltZ (voltsOf p (knots p - 1)) x) && not (risesTo p (seekOf p x) (seekOf p x + 1)))
 
 -- the refusals of a payload that was not judged: 40 by its length, and 41 by the four knots that the reading is made of
+-- (R-number-40, R-number-41)
 abbrev pub readingRows : List ℕ → ℤ → List Row
 readingRows p x = row 40 (shapeWrong p) ∷ row 41 (endsWrong p) ∷ row 41 (pairWrong p x) ∷ []
 
@@ -60,13 +61,13 @@ readingAnswer p x = answerBy (readingNumber p x) (readingOf p x)
 unfoldable pub tableAnswer : List ℕ → ℤ → ReadingAnswer
 tableAnswer p x = answerBy (tableNumber p) (readingOf p x)
 
--- the answer by what the load file's reader makes of a file in the room lent: its refusal, or the answer of the payload
+-- the answer by what the load file's reader makes of a file in the room lent: its refusal, or the answer of the payload (R-reading-3)
 abbrev pub answerAs : ℤ → Outcome → ReadingAnswer
 answerAs x (refused n) = Refused n
 answerAs x (made p) = tableAnswer p x
 
 -- an answer by its cases: the refusal's number, 0 where there is none, and the reading given: 0 a temperature, 1 below the table,
--- 2 above it, with its tenths
+-- 2 above it, with its tenths (R-promise-2)
 abbrev pub readingTold : Reading → ℕ × Float
 readingTold (Temperature t) = (0, t)
 readingTold (Below t) = (1, t)

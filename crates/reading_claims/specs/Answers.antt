@@ -34,6 +34,6 @@ roomLeft f letter room = leftIn room (inRoom (length room) (readerOf limit f let
 abbrev pub readerRows : List ℕ → ℕ → ℕ → List Row → List Row
 readerRows f letter room after = readRows limit f letter (row 37 (ltb room (length (payloadIn f))) ∷ after)
 
--- all refusals of a reading from a file: the reader's, then 40, then 41
+-- all refusals of a reading from a file: the reader's, then 40, then 41 (R-reading-3)
 abbrev pub answerRows : List ℕ → ℕ → ℕ → List Row
 answerRows f letter room = readerRows f letter room (tableRows (payloadIn f))

@@ -12,7 +12,7 @@ use Rattle.reading_pair.specs.Pairs.{interpolated}
 use Rattle.reading_table.specs.Table.{knots, voltsOf, tenthsOf, inRange, risesTo}
 use Rattle.reading.specs.Readings.{pairAt}
 
--- whole knots, two or more; microvolts in range and strictly rising
+-- whole knots, two or more; microvolts in range and strictly rising (R-reading-1)
 pub record Table (p : List ℕ) : Type 0 where
   pub whole : length p % 6 ≡ 0
   pub two : 2 ≤ knots p

@@ -24,33 +24,33 @@ signed32 u = if ltb u 2147483648 then pos u else negsuc (4294967295 - u)
 unfoldable pub signed16 : ℕ → ℤ
 signed16 u = if ltb u 32768 then pos u else negsuc (65535 - u)
 
--- the knots of a payload, six bytes each
+-- the knots of a payload, six bytes each (R-reading-1)
 abbrev pub knots : List ℕ → ℕ
 knots p = length p / 6
 
--- the most knots that a file can hold: its payload is at most 505 bytes for each block of the limit
+-- the most knots that a file can hold: its payload is at most 505 bytes for each block of the limit (R-reading-1)
 abbrev pub mostKnots : ℕ
 mostKnots = 505 * limit / 6
 
--- knot i's microvolts, bytes 0 to 3 of the six; 0 past the last knot
+-- knot i's microvolts, bytes 0 to 3 of the six; 0 past the last knot (R-reading-1)
 unfoldable pub voltsOf : List ℕ → ℕ → ℤ
 voltsOf p i =
     if ltb i (knots p) then signed32 (word32 (getD p (6 * i) 0) (getD p (6 * i + 1) 0) (getD p (6 * i + 2) 0) (getD p (6 * i + 3) 0))
     else pos 0
 
--- knot i's tenths of a degree, bytes 4 and 5; 0 past the last knot
+-- knot i's tenths of a degree, bytes 4 and 5; 0 past the last knot (R-reading-1)
 unfoldable pub tenthsOf : List ℕ → ℕ → ℤ
 tenthsOf p i = if ltb i (knots p) then signed16 (word16 (getD p (6 * i + 4) 0) (getD p (6 * i + 5) 0)) else pos 0
 
--- 40: the payload is no multiple of six, or has too few knots
+-- 40: the payload is no multiple of six, or has too few knots (R-number-40)
 unfoldable pub shapeWrong : List ℕ → Bool
 shapeWrong p = not (eqb (length p % 6) 0) || ltb (knots p) 2
 
--- -10,000 to 80,000 (negsuc n is -1 - n)
+-- -10,000 to 80,000 (negsuc n is -1 - n) (R-reading-1)
 unfoldable pub inRange : ℤ → Bool
 inRange v = leZ (negsuc 9999) v && leZ v (pos 80000)
 
--- knot i's microvolts are in range and, but for the first knot, above those of the knot before
+-- knot i's microvolts are in range and, but for the first knot, above those of the knot before (R-number-41)
 unfoldable pub goodAt : List ℕ → ℕ → Bool
 goodAt p i = if eqb i 0 then inRange (voltsOf p i) else (inRange (voltsOf p i) && ltZ (voltsOf p (i - 1)) (voltsOf p i))
 
@@ -68,7 +68,7 @@ unfoldable pub risingOf : List ℕ → Bool
 unfolding risingFrom
 risingOf p = risingFrom (knots p) 0 p
 
--- the refusals of a table: 40 by the whole payload, then 41
+-- the refusals of a table: 40 by the whole payload, then 41 (R-reading-3)
 abbrev pub tableRows : List ℕ → List Row
 tableRows p = row 40 (shapeWrong p) ∷ row 41 (not (risingOf p)) ∷ []
 

@@ -32,7 +32,7 @@ isOperation (Erase k) = true
 isOperation (CutProgram a b) = true
 isOperation (CutErase k) = true
 
--- a cycle starts an operation: a confirm or data that nothing bars
+-- a cycle starts an operation: a confirm or data that nothing bars (R-recording-1)
 unfoldable pub starts : Part → State → Cycle → Bool
 starts part s c = isOperation (startsOf part s c)
 
@@ -40,15 +40,15 @@ starts part s c = isOperation (startsOf part s c)
 abbrev pub longest : ℕ
 longest = 65535
 
--- a count that is not from 1 to the longest
+-- a count that is not from 1 to the longest (R-recording-1)
 unfoldable pub outside : ℕ → Bool
 outside n = eqb n 0 || ltb longest n
 
--- a record's count is needed and wrong; at any other record none is read
+-- a record's count is needed and wrong; at any other record none is read (R-recording-1)
 unfoldable pub wrongCount : Part → State → Noted → Bool
 wrongCount part s r = starts part s (r .cycle) && outside (r .busy)
 
--- a cycle cuts an operation that is running, being suspended or suspended
+-- a cycle cuts an operation that is running, being suspended or suspended (R-recording-2)
 unfoldable pub cutsOff : Part → State → Cycle → Bool
 cutsOff part s c = isPending (s .phase) && (rpLow (c .pins) || vppLow part (c .pins))
 
@@ -69,7 +69,7 @@ timed d n = record { part = d .part; program = n; erase = n; suspend = d .suspen
 abbrev pub deviceFor : Device → State → Noted → Device
 deviceFor d s r = timed d (timeOf (d .part) s r)
 
--- the answer given is the one seen, bit by bit; a refusal is no answer
+-- the answer given is the one seen, bit by bit; a refusal is no answer (R-recording-2)
 abbrev pub agrees : Seen → Heard → Bool
 agrees NoData Silence = true
 agrees NoData (Told w) = false
@@ -82,6 +82,7 @@ unfoldable pub answerTo : Device → State → Noted → List ℕ → Answer
 answerTo d s r bytes = answerOf (deviceFor d s r) s (r .cycle) (lent (d .part .word) bytes) []
 
 -- a record is at fault: its count is needed and wrong, it cuts an operation, or the rules refuse its cycle or answer otherwise
+-- (R-recording-2)
 unfoldable pub faulty : Device → State → Noted → List ℕ → Bool
 faulty d s r bytes = (wrongCount (d .part) s r || cutsOff (d .part) s (r .cycle)) || not (agrees (answerTo d s r bytes .seen) (r .heard))
 
@@ -90,7 +91,7 @@ unfoldable pub recordedOf : Device → State → Noted → List ℕ → Recorded
 recordedOf d s r bytes =
     if faulty d s r bytes then record { fault = true; state = s } else record { fault = false; state = answerTo d s r bytes .state }
 
--- the lent bytes after it: at fault, as they were
+-- the lent bytes after it: at fault, as they were (R-recording-3)
 unfoldable pub bytesRecorded : Device → State → Noted → List ℕ → List ℕ
 bytesRecorded d s r bytes = if faulty d s r bytes then bytes else bytesAfter (deviceFor d s r) s (r .cycle) bytes []
 

@@ -31,13 +31,13 @@ pub record Startable (d : Device) (s : State) (bytes : List ℕ) : Type 0 where
   pub proper : improper d s ≡ false
   pub idle : isFree (s .phase) ≡ true
 
--- a recording is to be accepted
+-- a recording is to be accepted (R-recording-2)
 pub record Accepts (d : Device) (s : State) (rs : List Noted) (promised bytes : List ℕ) : Type 0 where
   pub start : Startable d s bytes
   pub faultless : Faultless d (heldOf s bytes) rs
   pub ends : Ends (leftBy d (heldOf s bytes) rs) promised
 
--- record i is the first at fault: those before it are without fault, and it is not
+-- record i is the first at fault: those before it are without fault, and it is not (R-recording-2)
 pub record FirstFault (d : Device) (v : Held) (rs : List Noted) (i : ℕ) : Type 0 where
   pub before : List Noted
   pub here : Noted

@@ -57,7 +57,7 @@ timeUsed d Erasing = 0
 timeUsed d (Suspending n) = 0
 timeUsed d Suspended = 0
 
--- the record of a cycle, and the recording of cycles
+-- the record of a cycle, and the recording of cycles (R-recording-3)
 abbrev pub recordOf : Device → Held → Bus → Noted
 recordOf d v b = record { cycle = b .cycle; heard = heardOf (answeredOn d v b .seen); busy = timeUsed d (v .state .phase) }
 

@@ -73,7 +73,7 @@ pub record ConfirmedIn (d : Device) (v : World) (ts : List TimedCycle) (i x : �
 abbrev pub UnlockedIn : {d : Device} {v : World} {ts : List TimedCycle} {i x : ℕ} → ConfirmedIn d v ts i x → Type 0
 UnlockedIn {d = d} k = unlocked (d .part) (k .turn .bus .cycle .pins) (k .turn .bus .cycle .oe) ≡ true
 
--- what may touch which byte
+-- what may touch which byte (R-touch-1, R-touch-2)
 pub record Touch (d : Device) (v : World) (ts : List TimedCycle) : Type 0 where
   -- A byte changes only where an operation on it, or on its block, was confirmed, and VPP was high at that confirm.
   pub byte-changes : (x : ℕ) → Differs v (afterTurns d v ts) x → ConfirmedIn d v ts (length ts) x

@@ -47,11 +47,11 @@ sameBytes [] (y ∷ ys) = false
 sameBytes (x ∷ xs) [] = false
 sameBytes (x ∷ xs) (y ∷ ys) = eqb x y && sameBytes xs ys
 
--- the end is as it must be: nothing awaited, running or suspended, and the array is the one promised
+-- the end is as it must be: nothing awaited, running or suspended, and the array is the one promised (R-recording-2)
 unfoldable pub endsWell : Held → List ℕ → Bool
 endsWell v promised = isFree (v .state .phase) && sameBytes promised (v .bytes)
 
--- the refusals before the list, on an array of so many bytes
+-- the refusals before the list, on an array of so many bytes (R-recording-3, R-number-12)
 abbrev pub startRows : Device → State → ℕ → List Row
 startRows d s n =
     row 1 (unknownDevice d)
@@ -65,7 +65,7 @@ unfoldable pub startNumber : Device → State → ℕ → ℕ
 startNumber d s n = given (startRows d s n)
 
 -- the check's answer: refused by a number; or the records that passed before the first at fault, accepted where all of them did and the
--- end is as it must be; and the state that the records before it leave
+-- end is as it must be; and the state that the records before it leave (R-recording-2)
 unfoldable pub checkedOf : Device → State → List Noted → List ℕ → List ℕ → Checked
 checkedOf d s rs promised bytes =
     let v : Held = heldOf s bytes in
@@ -74,7 +74,7 @@ checkedOf d s rs promised bytes =
     if eqb n 0 then record { refusal = 0; accepted = eqb i (length rs) && endsWell (leftBy d v rs) promised; at = i; state = leftBy d v (take i rs) .state }
     else record { refusal = n; accepted = false; at = 0; state = s }
 
--- the lent bytes after the check: as the records before the first at fault leave them
+-- the lent bytes after the check: as the records before the first at fault leave them (R-recording-3)
 unfoldable pub bytesChecked : Device → State → List Noted → List ℕ → List ℕ
 bytesChecked d s rs bytes =
     let v : Held = heldOf s bytes in

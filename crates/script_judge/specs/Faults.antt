@@ -46,14 +46,14 @@ sums K p (anOpen n ∷ ms) = sums (p ∷ K) (p * n) ms
 sums [] p (aClose ∷ ms) = sums [] p ms
 sums (q ∷ K) p (aClose ∷ ms) = sums K q ms
 
--- nothing is wrong so far: they can go on to a script, and neither they nor what they write out are too many
+-- nothing is wrong so far: they can go on to a script, and neither they nor what they write out are too many (R-script-3)
 pub record Fine (ms : List Mark) : Type 0 where
   pub begins : Begins ms
   pub short : length ms ≤ 3000
   pub few : sums [] 1 ms ≤ 9998
 
 -- line i is the first at fault: the lines before it are fine; with whatever line stands there they are not; and where the text
--- ends there, they are no whole script
+-- ends there, they are no whole script (R-script-3)
 pub record FaultAt (text : List ℕ) (i : ℕ) : Type 0 where
   pub before : List Mark
   pub behind : List ℕ

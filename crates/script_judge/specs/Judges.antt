@@ -43,7 +43,7 @@ abbrev pub capped : ℕ → ℕ
 capped p = if leb p 9999 then p else 9999
 
 -- line ℓ by its word: a trace line adds the product around it, and is at fault where the total passes 9,998; an opening line is
--- at fault where eight groups are open
+-- at fault where eight groups are open (R-script-3)
 abbrev pub lineTurn : Word → ℕ → List ℕ → ℕ → Bool → ℕ → Turn
 lineTurn Ends ℓ K p must t = stops (endOf ℓ K must t)
 lineTurn Bad ℓ K p must t = stops (faultAs ℓ)
@@ -56,6 +56,6 @@ unfoldable pub judge : ℕ → ℕ → List ℕ → ℕ → Bool → ℕ → Lis
 judge zero ℓ K p must t text = follow (lineTurn (wordIn 0 text) ℓ K p must t) (λ K′ p′ must′ t′ u. faultAs ℓ)
 judge (suc n) ℓ K p must t text = follow (lineTurn (wordIn (suc n) text) ℓ K p must t) (λ K′ p′ must′ t′ u. judge n (ℓ + 1) K′ p′ must′ t′ (drop u text))
 
--- a whole script: 3,000 lines at most, the first is line 1, no group is open
+-- a whole script: 3,000 lines at most, the first is line 1, no group is open (R-script-2)
 abbrev pub scriptJudged : List ℕ → Judged
 scriptJudged text = judge 3000 1 [] 1 false 0 text

@@ -5,17 +5,17 @@ use Rattle.model_types.specs.declared.Cycle.{Cycle}
 use Rattle.trace_lines.specs.Lines.{decimalDigit, lineOf, Fits}
 
 -- a list of items: none; a trace line, here the cycle that it states, and the items after it; or a group, its count and its own
--- list, and the items after it
+-- list, and the items after it (R-script-1)
 pub data Script : Type 0 where
   done : Script
   line : Cycle → Script → Script
   group : ℕ → Script → Script → Script
 
--- the line that opens a group of count n: '(', a space, three digits, a newline
+-- the line that opens a group of count n: '(', a space, three digits, a newline (R-script-1)
 abbrev pub openBy : ℕ → List ℕ
 openBy n = 40 ∷ 32 ∷ decimalDigit (n / 100) ∷ decimalDigit (n / 10) ∷ decimalDigit n ∷ 10 ∷ []
 
--- the line that closes a group: ')' and a newline
+-- the line that closes a group: ')' and a newline (R-script-1)
 abbrev pub closeBy : List ℕ
 closeBy = 41 ∷ 10 ∷ []
 
@@ -31,7 +31,7 @@ Some done = ⊥
 Some (line c r) = Unit {0}
 Some (group n b r) = Unit {0}
 
--- of the form, with groups at most d deep: cycles that fit a line, counts from 1 to 999, no group empty
+-- of the form, with groups at most d deep: cycles that fit a line, counts from 1 to 999, no group empty (R-script-1)
 unfoldable pub Formed : ℕ → Script → Type 0
 Formed d done = Unit {0}
 Formed d (line c r) = Fits c × Formed d r
@@ -44,13 +44,13 @@ linesIn done = 0
 linesIn (line c r) = 1 + linesIn r
 linesIn (group n b r) = 2 + linesIn b + linesIn r
 
--- how many trace lines it writes out where the counts around it have the product p: each line adds that product
+-- how many trace lines it writes out where the counts around it have the product p: each line adds that product (R-script-3)
 unfoldable pub writtenIn : ℕ → Script → ℕ
 writtenIn p done = 0
 writtenIn p (line c r) = p + writtenIn p r
 writtenIn p (group n b r) = writtenIn (p * n) b + writtenIn p r
 
--- the scripts allowed: of the form, eight deep; at most 3,000 lines; at most 9,998 written out
+-- the scripts allowed: of the form, eight deep; at most 3,000 lines; at most 9,998 written out (R-script-2)
 pub record Allowed (s : Script) : Type 0 where
   pub formed : Formed 8 s
   pub short : linesIn s ≤ 3000

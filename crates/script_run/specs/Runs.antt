@@ -13,7 +13,7 @@ use Rattle.trace_replay.specs.Replays.{outputOf, arrayLeft}
 abbrev pub traceIn : List ℕ → List ℕ
 traceIn text = traceOf (linesWritten (scriptIn text))
 
--- the output: without a fault, the replay's of that trace; else the mark of the first line at fault, alone
+-- the output: without a fault, the replay's of that trace; else the mark of the first line at fault, alone (R-script-2, R-script-3)
 unfoldable pub scriptOutput : List ℕ → List ℕ → List ℕ → List ℕ
 scriptOutput xs rs text = if eqb (scriptJudged text .fault) 0 then outputOf xs rs (traceIn text) else markOf (scriptJudged text .fault)
 

@@ -21,7 +21,7 @@ use Rattle.store_survey.specs.Survey.{faultOf}
 abbrev pub mainOf : Part → List ℕ → List ℕ
 mainOf part xs = take (lengthOf part 3) (drop (startOf part 3) xs)
 
--- 1: the part is not known, or it is one of 5 to 8, which have no store
+-- 1: the part is not known, or it is one of 5 to 8, which have no store (R-number-1)
 unfoldable pub noStore : Part → Bool
 noStore part = unknownPart part || isLarge part
 
@@ -40,7 +40,7 @@ seekNumber part xs ℓ = given (seekRows part xs ℓ)
 unfoldable pub foundOn : Part → List ℕ → ℕ → Outcome
 foundOn part xs ℓ = outcomeBy (seekNumber part xs ℓ) (findOf (faultOf limit) ℓ (mainOf part xs))
 
--- the refusals of a change: 1 for a part of 5 to 8, then those of a run of block 3, then those of the change itself
+-- the refusals of a change: 1 for a part of 5 to 8, then those of a run of block 3, then those of the change itself (R-store-5)
 abbrev pub changeRows : Device → State → Pins → ℕ → ℕ → ℕ → List Row → List Row
 changeRows d s p array memory scratch own = row 1 (isLarge (d .part)) ∷ (lentRows d s p 3 array memory scratch ++ own)
 

@@ -26,7 +26,7 @@ use Rattle.store.specs.Stores.{mainOf, dropNumber, addNumber, ChangeLeft, dropL
 abbrev pub placesFor : Part → ℕ
 placesFor part = lengthOf part 3 / 512
 
--- 224 places, 28 on the bench devices
+-- 224 places, 28 on the bench devices (R-store-3)
 abbrev pub placesAt : ℕ → ℕ
 placesAt number = if ltb number 3 then 224 else 28
 
@@ -58,7 +58,7 @@ callLeft d xs c = changeLeftBy (c .change) d (c .state) (c .pins) xs (c .memory)
 abbrev pub contentsBy : Device → List ℕ → Call → List ℕ
 contentsBy d xs c = doneBy (faultOf limit) (c .change) (mainOf (d .part) xs)
 
--- a call is refused before a cycle, or its run ends well
+-- a call is refused before a cycle, or its run ends well (R-store-4)
 abbrev pub Settled : Device → List ℕ → Call → Type 0
 Settled d xs c = callNumber d xs c ≡ 0 → callLeft d xs c .ran .end ≡ 0
 
@@ -91,7 +91,7 @@ pub record Timed (d : Device) : Type 0 where
   pub programs : d .program ≤ 65535
   pub erases : d .erase ≤ 65535
 
--- what any calls leave, each refused before a cycle or ended well
+-- what any calls leave, each refused before a cycle or ended well (R-store-4)
 pub record Kept (d : Device) (cs : List Call) (xs : List ℕ) : Type 0 where
   -- the main block is what the changes that were made leave of it, one after the other
   pub block : mainOf (d .part) (arrayThrough d cs xs) ≡ changedAll (faultOf limit) (changesMade d cs xs) (mainOf (d .part) xs)
@@ -105,7 +105,7 @@ pub record Kept (d : Device) (cs : List Call) (xs : List ℕ) : Type 0 where
   pub size : length (arrayThrough d cs xs) ≡ length xs
   pub bytes : Bytes (arrayThrough d cs xs)
 
--- what a find answers of the file that should stand under a letter: 42 where there is none
+-- what a find answers of the file that should stand under a letter: 42 where there is none (R-number-42)
 abbrev pub fileOr42 : List ℕ → Outcome
 fileOr42 [] = refused 42
 fileOr42 (x ∷ f) = made (x ∷ f)

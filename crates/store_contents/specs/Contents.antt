@@ -24,7 +24,7 @@ abbrev pub roomRows : List ℕ → List ℕ → ℕ → List Row
 roomRows main f ℓ =
     row 44 (not (isWhole main)) ∷ row 44 (not (isProper (faultOf limit) main)) ∷ row 43 (noRoom (length main / 512) ℓ (placesIn f) (itemsOf main)) ∷ []
 
--- the refusals of an add: 11, the reader's for the letter, 44, 43
+-- the refusals of an add: 11, the reader's for the letter, 44, 43 (R-store-5)
 abbrev pub addRows : List ℕ → List ℕ → ℕ → ℕ → List Row
 addRows main f ℓ room = row 11 (unlike main room) ∷ readRows limit f ℓ (roomRows main f ℓ)
 

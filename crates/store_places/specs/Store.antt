@@ -36,7 +36,7 @@ join (p ∷ s) = p ++ join s
 abbrev pub blankPlace : List ℕ
 blankPlace = replicate 512 255
 
--- a place is dead: its first byte is 00H; nothing else of it is read
+-- a place is dead: its first byte is 00H; nothing else of it is read (R-store-1)
 unfoldable pub isDead : List ℕ → Bool
 isDead p = eqb (getD p 0 0) 0
 
@@ -53,7 +53,7 @@ pub data Item : Type 0 where
   junk : List ℕ → Item
 
 -- the item that begins with place p, the places s above it; a file is as many places as its first block says, and is one only where
--- the reader reads these bytes for the letter that they begin with
+-- the reader reads these bytes for the letter that they begin with (R-store-1)
 unfoldable pub itemAt : Judgement → List ℕ → List (List ℕ) → Item
 itemAt fault p s =
     if isDead p then dead p
@@ -90,7 +90,7 @@ hasIn ℓ (dead p ∷ is) = hasIn ℓ is
 hasIn ℓ (filed m f ∷ is) = eqb m ℓ || hasIn ℓ is
 hasIn ℓ (junk p ∷ is) = hasIn ℓ is
 
--- proper: every place is blank, dead or a file's, and no letter stands twice
+-- proper: every place is blank, dead or a file's, and no letter stands twice (R-store-1, R-number-44)
 abbrev pub properIn : List Item → Bool
 properIn [] = true
 properIn (blank ∷ is) = properIn is
@@ -114,7 +114,7 @@ liveIn (dead p ∷ is) = liveIn is
 liveIn (filed m f ∷ is) = length f + liveIn is
 liveIn (junk p ∷ is) = liveIn is
 
--- the places of a dropped file: 00H over the first byte of each
+-- the places of a dropped file: 00H over the first byte of each (R-store-1)
 abbrev pub deadOf : List (List ℕ) → List Item
 deadOf [] = []
 deadOf (p ∷ f) = dead (zeroed p) ∷ deadOf f
@@ -145,7 +145,7 @@ abbrev pub fitsIn : ℕ → List Item → Bool
 fitsIn n [] = false
 fitsIn n (i ∷ is) = blankRun n (i ∷ is) || fitsIn n is
 
--- a file laid into the first run of blank places that is long enough
+-- a file laid into the first run of blank places that is long enough (R-store-2)
 abbrev pub laidIn : ℕ → List (List ℕ) → List Item → List Item
 laidIn ℓ f [] = []
 laidIn ℓ f (i ∷ is) = if blankRun (length f) (i ∷ is) then filed ℓ f ∷ drop (length f) (i ∷ is) else i ∷ laidIn ℓ f is
@@ -158,7 +158,7 @@ filesOf (dead p ∷ is) = filesOf is
 filesOf (filed m f ∷ is) = filed m f ∷ filesOf is
 filesOf (junk p ∷ is) = filesOf is
 
--- the slide in a block of N places: the files from the lowest place on, the new one right behind them, blank places after it
+-- the slide in a block of N places: the files from the lowest place on, the new one right behind them, blank places after it (R-store-2)
 abbrev pub slidIn : ℕ → ℕ → List (List ℕ) → List Item → List Item
 slidIn N ℓ f is = filesOf is ++ (filed ℓ f ∷ replicate (N - (liveIn is + length f)) blank)
 
@@ -166,11 +166,11 @@ slidIn N ℓ f is = filesOf is ++ (filed ℓ f ∷ replicate (N - (liveIn is + l
 abbrev pub runFor : ℕ → List (List ℕ) → List Item → Bool
 runFor ℓ f is = fitsIn (length f) (without ℓ is)
 
--- a file added: the old one under its letter dropped, then laid into the first long enough run, or by a slide
+-- a file added: the old one under its letter dropped, then laid into the first long enough run, or by a slide (R-store-2)
 unfoldable pub addedIn : ℕ → ℕ → List (List ℕ) → List Item → List Item
 addedIn N ℓ f is = if runFor ℓ f is then laidIn ℓ f (without ℓ is) else slidIn N ℓ f (without ℓ is)
 
--- 43, no room: the live blocks without the replaced file, and the new ones, exceed N
+-- 43, no room: the live blocks without the replaced file, and the new ones, exceed N (R-store-3, R-number-43)
 unfoldable pub noRoom : ℕ → ℕ → List (List ℕ) → List Item → Bool
 noRoom N ℓ f is = ltb N (liveIn (without ℓ is) + length f)
 
@@ -198,11 +198,11 @@ dropOf fault ℓ main = join (placesOf (without ℓ (itemsIn fault main)))
 unfoldable pub addOf : Judgement → ℕ → List ℕ → List ℕ → List ℕ
 addOf fault ℓ b main = join (placesOf (addedIn (length main / 512) ℓ (placesIn b) (itemsIn fault main)))
 
--- the refusals of a find, and of a drop: 44, then 42
+-- the refusals of a find, and of a drop: 44, then 42 (R-number-42, R-number-44)
 abbrev pub findRows : Judgement → ℕ → List ℕ → List Row → List Row
 findRows fault ℓ main after = row 44 (not (isProper fault main)) ∷ row 42 (not (hasIn ℓ (itemsIn fault main))) ∷ after
 
--- the refusals of an add: the reader's, then 44, then 43
+-- the refusals of an add: the reader's, then 44, then 43 (R-store-5)
 abbrev pub addRows : Judgement → ℕ → List ℕ → List ℕ → List Row → List Row
 addRows fault ℓ b main after =
     row (fault ℓ b) (not (eqb (fault ℓ b) 0))
@@ -252,7 +252,7 @@ abbrev pub nowUnder : ℕ → Change → List ℕ → List ℕ
 nowUnder m (adds ℓ b) was = if eqb ℓ m then b else was
 nowUnder m (drops ℓ) was = if eqb ℓ m then [] else was
 
--- the file that changes leave under letter m: the one last added and not dropped, or the one that stood there at first
+-- the file that changes leave under letter m: the one last added and not dropped, or the one that stood there at first (R-store-4)
 abbrev pub lastUnder : ℕ → List Change → List ℕ → List ℕ
 lastUnder m [] was = was
 lastUnder m (c ∷ cs) was = lastUnder m cs (nowUnder m c was)

@@ -25,7 +25,7 @@ use Rattle.model.specs.Arrays.{arrayOf, isRefusal, seenOf, replyTold}
 use Rattle.model.specs.declared.Answer.{Answer}
 use Rattle.command_table.specs.Actions.{rowOf, actionFor, entryAt}
 
--- the action of a write: the entry of the state and of the low byte of what the cycle carries, for the part
+-- the action of a write: the entry of the state and of the low byte of what the cycle carries, for the part (R-table-1)
 unfoldable pub tableAction : Part → Phase → Cycle → Action
 tableAction part ph c = actionFor part (entryAt (rowOf ph) (commandOf c))
 
@@ -49,7 +49,7 @@ tableDecide d s c array residue =
 unfoldable pub tableArray : Device → State → Cycle → List ℕ → List ℕ → List ℕ
 tableArray d s c xs rs = arrayOf (tableDecide d s c (length xs) (length rs) .effect) (d .part) rs xs
 
--- the answer, with the state and its counts of erases
+-- the answer, with the state and its counts of erases (R-table-2)
 unfoldable pub tableAnswer : Device → State → Cycle → List ℕ → List ℕ → Answer
 tableAnswer d s c xs rs =
     record { seen = seenOf (tableDecide d s c (length xs) (length rs) .reply) (tableArray d s c xs rs); state = tableDecide d s c (length xs) (length rs) .state }
@@ -58,7 +58,7 @@ tableAnswer d s c xs rs =
 unfoldable pub tableTold : Device → State → Cycle → List ℕ → List ℕ → ℕ × List ℕ
 tableTold d s c xs rs = replyTold (tableDecide d s c (length xs) (length rs) .reply) (tableArray d s c xs rs)
 
--- the lent bytes after it: refused, as they are
+-- the lent bytes after it: refused, as they are (R-table-2)
 unfoldable pub tableBytes : Device → State → Cycle → List ℕ → List ℕ → List ℕ
 tableBytes d s c array residue =
     let us : List ℕ = lent (d .part .word) array in

@@ -47,6 +47,7 @@ abbrev pub newline : Place
 newline = exactly 10
 
 -- a line's form: kind; RP#; OE#; VPP in five digits; the address in four hexadecimal digits; data in two; single spaces, a newline
+-- (R-trace-1)
 abbrev pub lineForm : List Place
 lineForm =
     aKind ∷ space

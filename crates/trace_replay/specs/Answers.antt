@@ -26,7 +26,7 @@ secondSign NoData = 45
 secondSign (Data b) = digitLetter (b % 16)
 secondSign (Refused n) = decimalDigit n
 
--- an answer printed: what is seen, then a status register
+-- an answer printed: what is seen, then a status register (R-trace-2)
 unfoldable pub answerText : Seen → ℕ → List ℕ
 answerText seen sr = signOf seen ∷ 32 ∷ firstSign seen ∷ secondSign seen ∷ 32 ∷ digitLetter (sr / 16 % 16) ∷ digitLetter (sr % 16) ∷ 10 ∷ []
 
@@ -34,10 +34,10 @@ answerText seen sr = signOf seen ∷ 32 ∷ firstSign seen ∷ secondSign seen �
 abbrev pub printedOf : Answer → List ℕ
 printedOf a = answerText (a .seen) (a .state .status)
 
--- the mark of line n: '?', a space and the number in four digits
+-- the mark of line n: '?', a space and the number in four digits (R-trace-3)
 unfoldable pub markOf : ℕ → List ℕ
 markOf n = 63 ∷ 32 ∷ decimalDigit (n / 1000) ∷ decimalDigit (n / 100) ∷ decimalDigit (n / 10) ∷ decimalDigit n ∷ 10 ∷ []
 
--- how a trace ends before line n: without a word where no byte is left over, else with the mark
+-- how a trace ends before line n: without a word where no byte is left over, else with the mark (R-trace-3)
 unfoldable pub traceEnd : ℕ → ℕ → List ℕ
 traceEnd n left = if eqb left 0 then [] else markOf n

@@ -16,7 +16,7 @@ use Rattle.trace_lines.specs.Lines.{isLine, cycleStated}
 use Rattle.trace_replay.specs.Answers.{printedOf, traceEnd}
 use Rattle.trace_replay.specs.declared.Replayed.{Replayed}
 
--- bench T: device 3, a program busy for 2 cycles, an erase for 3, a suspend for 1
+-- bench T: device 3, a program busy for 2 cycles, an erase for 3, a suspend for 1 (R-trace-1)
 abbrev pub benchT : Device
 benchT = record { part = record { number = 3; word = false }; program = 2; erase = 3; suspend = 1 }
 
@@ -71,7 +71,7 @@ arrayFrom (suc k) s xs rs text =
     then arrayFrom k (lineStep s (cycleStated (take 20 text)) xs rs .state) (arrayBy s (cycleStated (take 20 text)) xs rs) rs (drop 20 text)
     else xs
 
--- a whole trace: a fresh device, lines counted from 1, line 9999 never answered
+-- a whole trace: a fresh device, lines counted from 1, line 9999 never answered (R-trace-3)
 unfoldable pub outputOf : List ℕ → List ℕ → List ℕ → List ℕ
 outputOf xs rs text = outputFrom 9998 1 freshState xs rs text
 

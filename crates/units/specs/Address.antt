@@ -5,7 +5,7 @@ use Rattle.common.specs.Choice.{if_then_else_}
 use Rattle.units.specs.declared.WordAddress.{WordAddress}
 use Rattle.units.specs.declared.ByteAddress.{ByteAddress}
 
--- the byte address of a word's low byte, that of A-1 zero
+-- the byte address of a word's low byte, that of A-1 zero (R-part-6)
 abbrev pub firstByte : WordAddress → ByteAddress
 firstByte w = record { byte = 2 * w .word }
 

@@ -12,7 +12,7 @@ use Rattle.common.specs.Lists.{overlaid}
 abbrev pub wordOf : ℕ → ℕ → ℕ
 wordOf low high = high * 256 + low
 
--- the words that bytes make; an odd last byte is in no word
+-- the words that bytes make; an odd last byte is in no word (R-part-6)
 abbrev pub pairs : List ℕ → List ℕ
 pairs [] = []
 pairs (x ∷ []) = []
@@ -56,7 +56,7 @@ bytesIn true n = 2 * n
 abbrev pub torn : Bool → ℕ → Bool
 torn w n = w && eqb (n % 2) 1
 
--- the units of lent bytes that must be a whole number of them: an odd number of bytes makes none in word mode
+-- the units of lent bytes that must be a whole number of them: an odd number of bytes makes none in word mode (R-part-7)
 unfoldable pub lent : Bool → List ℕ → List ℕ
 lent w xs = if torn w (length xs) then [] else units w xs
 

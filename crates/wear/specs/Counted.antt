@@ -34,7 +34,7 @@ abbrev pub passedIn : List ℕ → ℕ
 passedIn [] = 0
 passedIn (c ∷ cs) = (if ltb 100000 c then 1 else 0) + passedIn cs
 
--- a block's line of the report
+-- a block's line of the report (R-wear-2)
 abbrev pub summary : List ℕ → Tally
 summary cs = record { total = totalIn cs; largest = largestIn cs; smallest = smallestIn cs; passed = passedIn cs }
 

@@ -39,7 +39,7 @@ reportedOf number numbers counts =
     if eqb (reportNumber number numbers (length counts)) 0 then record { number = 0; report = reportFrom (length numbers) 0 counts noReport }
     else record { number = reportNumber number numbers (length counts); report = noReport }
 
--- one trace more: 47 where there are 65,535 already
+-- one trace more: 47 where there are 65,535 already (R-number-47, R-number-48)
 abbrev pub addRows : ℕ → ℕ → ℕ → List Row
 addRows number from traces = row 1 (unknownNumber number) ∷ row 47 (leb 65535 traces) ∷ row 48 (not (eqb from number)) ∷ []
 

@@ -29,18 +29,18 @@ lowest first a n =
     else if ltb n a then n
     else a
 
--- one more where a count passed the sheet's 100,000: where it is over it
+-- one more where a count passed the sheet's 100,000: where it is over it (R-wear-2)
 unfoldable pub passing : ℕ → ℕ → ℕ
 passing a n = if ltb 100000 n then raised a else a
 
--- one block, with a trace more
+-- one block, with a trace more (R-wear-2)
 abbrev pub tallied : Bool → Tally → ℕ → Tally
 tallied first t n = record { total = addedUp (t .total) n; largest = larger (t .largest) n; smallest = lowest first (t .smallest) n; passed = passing (t .passed) n }
 
 abbrev pub noTally : Tally
 noTally = record { total = 0; largest = 0; smallest = 0; passed = 0 }
 
--- the report on no traces: zeros, the smallest too
+-- the report on no traces: zeros, the smallest too (R-wear-2)
 abbrev pub noReport : Report
 noReport = record { traces = 0; block0 = noTally; block1 = noTally; block2 = noTally; block3 = noTally; block4 = noTally; block5 = noTally; block6 = noTally }
 

@@ -15,7 +15,7 @@ pub record Trace : Type 0 where
   pub held : List ℕ
   pub buses : List Bus
 
--- the erases of block k that it begins
+-- the erases of block k that it begins (R-wear-3)
 abbrev pub begunOf : Device → ℕ → Trace → ℕ
 begunOf d k t = erasesBegun d (worldOf freshState (t .held)) k (t .buses)
 
@@ -31,7 +31,7 @@ abbrev pub wearsOf : Device → List Trace → List Wear
 wearsOf d [] = []
 wearsOf d (t ∷ ts) = wearOf d t ∷ wearsOf d ts
 
--- the line of block k, from the cycles
+-- the line of block k, from the cycles (R-wear-3)
 abbrev pub lineOf : Device → List Trace → ℕ → Tally
 lineOf d ts k = summary (begunAll d k ts)
 
