@@ -9,18 +9,18 @@ use Rattle.device.specs.declared.Part.{Part}
 use Rattle.device.specs.declared.Device.{Device}
 use Rattle.device.specs.declared.Shape.{Shape}
 
--- four blocks outward from the boot block: boot, two parameter blocks, main
+-- four blocks outward from the boot block: boot, two parameter blocks, main (R-part-2, R-part-3)
 abbrev pub fourBlocks : ℕ → ℕ → ℕ → Bool → ℕ → Shape
 fourBlocks boot parameter main top code =
     record { l0 = boot; l1 = parameter; l2 = parameter; l3 = main; l4 = 0; l5 = 0; l6 = 0; top = top; code = code }
 
 -- seven blocks outward from the boot block: boot, two parameter blocks, a main block of 98,304 bytes and one of 131,072, and two
--- further ones
+-- further ones (R-part-4)
 abbrev pub moreBlocks : ℕ → Bool → ℕ → Shape
 moreBlocks further top code =
     record { l0 = 16384; l1 = 8192; l2 = 8192; l3 = 98304; l4 = 131072; l5 = further; l6 = further; top = top; code = code }
 
--- the table of parts, lengths in bytes: 28F001BX-T and -B, bench T and B, 28F200BR-T and -B, 28F400BR-T and -B
+-- the table of parts, lengths in bytes: 28F001BX-T and -B, bench T and B, 28F200BR-T and -B, 28F400BR-T and -B (R-part-1)
 unfoldable pub rowOf : ℕ → Shape
 rowOf n =
     if eqb n 1 then fourBlocks 8192 4096 114688 true 0x94
@@ -37,7 +37,7 @@ unfoldable pub inWords : Shape → Shape
 inWords s =
     record { l0 = s .l0 / 2; l1 = s .l1 / 2; l2 = s .l2 / 2; l3 = s .l3 / 2; l4 = s .l4 / 2; l5 = s .l5 / 2; l6 = s .l6 / 2; top = s .top; code = s .code }
 
--- a part in its units: what one cycle carries, a byte, or in word mode a word
+-- a part in its units: what one cycle carries, a byte, or in word mode a word (R-part-6)
 unfoldable pub shapeOf : Part → Shape
 shapeOf p = if p .word then inWords (rowOf (p .number)) else rowOf (p .number)
 
@@ -82,11 +82,11 @@ pub record Holds (s : Shape) (k a : ℕ) : Type 0 where
 unfoldable pub isLarge : Part → Bool
 isLarge p = leb 5 (p .number)
 
--- refusal 1 of a part: its number is not 1 to 8, or it is one of 1 to 4 in word mode
+-- refusal 1 of a part: its number is not 1 to 8, or it is one of 1 to 4 in word mode (R-number-1)
 unfoldable pub unknownPart : Part → Bool
 unknownPart p = (eqb (p .number) 0 || ltb 8 (p .number)) || (p .word && not (isLarge p))
 
--- refusal 1 of a device: the part is not known, P or E is zero, or S is not 1 to 100
+-- refusal 1 of a device: the part is not known, P or E is zero, or S is not 1 to 100 (R-number-1, R-part-5)
 unfoldable pub unknownDevice : Device → Bool
 unknownDevice d = (((unknownPart (d .part) || eqb (d .program) 0) || eqb (d .erase) 0) || eqb (d .suspend) 0) || ltb 100 (d .suspend)
 
@@ -115,7 +115,7 @@ abbrev pub lastOf : Part → ℕ → ℕ
 lastOf p k = startOf p k + lengthOf p k - 1
 
 -- a device's row in the table of the first four: each block's first and last address, outward from the boot block, then the size and
--- the identifier code
+-- the identifier code (R-part-2, R-part-3)
 abbrev pub tableRow : ℕ → List ℕ
 tableRow n =
     let p : Part = record { number = n; word = false } in
@@ -126,7 +126,7 @@ abbrev pub liesAt : Part → ℕ → List ℕ → List ℕ
 liesAt p k rest = (if eqb (lengthOf p k) 0 then 0 else startOf p k) ∷ lengthOf p k ∷ rest
 
 -- a row in the table of devices 5 to 8, in byte mode or in word mode: where each of seven blocks lies, outward from the boot block,
--- then the size and the identifier code
+-- then the size and the identifier code (R-part-4)
 abbrev pub wideRow : ℕ → Bool → List ℕ
 wideRow n w =
     let p : Part = record { number = n; word = w } in

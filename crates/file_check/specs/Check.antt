@@ -12,7 +12,7 @@ abbrev pub wsum : ℕ → List ℕ → ℕ
 wsum k [] = 0
 wsum k (x ∷ xs) = k * x + wsum (suc k) xs
 
--- the check over a list of bytes: 1 plus the weighted sum, modulo 65,521
+-- the check over a list of bytes: 1 plus the weighted sum, modulo 65,521 (R-file-2)
 unfoldable pub checkOf : List ℕ → ℕ
 checkOf bs = (1 + wsum 1 bs) % 65521
 
@@ -20,7 +20,7 @@ checkOf bs = (1 + wsum 1 bs) % 65521
 abbrev pub pair : ℕ → ℕ → ℕ
 pair h l = h * 256 + l
 
--- the check that a block carries in bytes 510 and 511
+-- the check that a block carries in bytes 510 and 511 (R-file-1)
 abbrev pub storedOf : List ℕ → ℕ
 storedOf b = pair (getD b 510 0) (getD b 511 0)
 
@@ -33,11 +33,11 @@ abbrev pub allAre : ℕ → List ℕ → Bool
 allAre b [] = true
 allAre b (x ∷ xs) = if eqb x b then allAre b xs else false
 
--- 38: the block is blank, as an erase leaves it: 512 bytes, each of them FFH, those of the check too
+-- 38: the block is blank, as an erase leaves it: 512 bytes, each of them FFH, those of the check too (R-number-38)
 unfoldable pub isBlank : List ℕ → Bool
 isBlank b = if eqb (length b) 512 then allAre 255 b else false
 
--- 31: the check is wrong and the block is not blank
+-- 31: the check is wrong and the block is not blank (R-number-31)
 unfoldable pub isDamaged : List ℕ → Bool
 isDamaged b = if isBlank b then false else checkWrong b
 

@@ -15,11 +15,11 @@ use Rattle.file_codec.specs.declared.Judged.the-variants.{Sound, Unsound
 use Rattle.file_codec.specs.declared.ReadBack.{ReadBack}
 use Rattle.file_codec.specs.declared.ReadBack.the-variants.{Gave, NotRead}
 
--- the most blocks that a file has
+-- the most blocks that a file has (R-file-1)
 abbrev pub limit : ℕ
 limit = 224
 
--- the blocks that a payload of so many bytes takes, 505 to a block
+-- the blocks that a payload of so many bytes takes, 505 to a block (R-file-1)
 abbrev pub countOf : ℕ → ℕ
 countOf size = (size + 504) / 505
 
@@ -28,7 +28,7 @@ abbrev pub blocksOf : ℕ → ℕ → ℕ → ℕ → List ℕ → List ℕ
 blocksOf zero ℓ i n p = []
 blocksOf (suc left) ℓ i n p = blockWritten ℓ i n (take 505 p) ++ blocksOf left ℓ (i + 1) n (drop 505 p)
 
--- the load file of a payload under a letter
+-- the load file of a payload under a letter (R-file-1)
 abbrev pub fileOf : ℕ → List ℕ → List ℕ
 fileOf ℓ p = blocksOf (countOf (length p)) ℓ 0 (countOf (length p)) p
 
@@ -41,21 +41,21 @@ pub data Outcome : Type 0 where
 abbrev pub outcomeBy : ℕ → List ℕ → Outcome
 outcomeBy n bytes = if eqb n 0 then made bytes else refused n
 
--- what comes of it where there is room for so many bytes: 37 where they do not fit
+-- what comes of it where there is room for so many bytes: 37 where they do not fit (R-number-37)
 abbrev pub inRoom : ℕ → Outcome → Outcome
 inRoom room (refused n) = refused n
 inRoom room (made bytes) = if ltb room (length bytes) then refused 37 else made bytes
 
--- what is left of a lent buffer: untouched by a refusal; else the bytes, and past them what was there
+-- what is left of a lent buffer: untouched by a refusal; else the bytes, and past them what was there (R-order-6)
 abbrev pub leftIn : List ℕ → Outcome → List ℕ
 leftIn out (refused n) = out
 leftIn out (made bytes) = bytes ++ drop (length bytes) out
 
--- 36: the payload is empty or takes more blocks than the limit
+-- 36: the payload is empty or takes more blocks than the limit (R-number-36)
 unfoldable pub payloadWrong : ℕ → ℕ → Bool
 payloadWrong most size = eqb size 0 || ltb (505 * most) size
 
--- the writer's refusals before room is asked for
+-- the writer's refusals before room is asked for (R-order-6)
 abbrev pub writeRows : ℕ → ℕ → List ℕ → List Row → List Row
 writeRows most ℓ p after = row 32 (not (isLetter ℓ)) ∷ row 36 (payloadWrong most (length p)) ∷ after
 
@@ -63,7 +63,7 @@ writeRows most ℓ p after = row 32 (not (isLetter ℓ)) ∷ row 36 (payloadWron
 unfoldable pub writerOf : ℕ → ℕ → List ℕ → Outcome
 writerOf most ℓ p = outcomeBy (given (writeRows most ℓ p [])) (fileOf ℓ p)
 
--- 30: the file is empty, longer than the limit of blocks, or no whole number of blocks
+-- 30: the file is empty, longer than the limit of blocks, or no whole number of blocks (R-number-30)
 unfoldable pub lengthWrong : ℕ → ℕ → Bool
 lengthWrong most size = (eqb size 0 || ltb (512 * most) size) || not (eqb (size % 512) 0)
 
@@ -87,6 +87,7 @@ abbrev pub blocksIn : List ℕ → ℕ
 blocksIn f = length f / 512
 
 -- the reader's refusals: 30, then block by block 38 or else 31, then 32, 33, 34; then 35, then what is asked after them
+-- (R-order-6, R-number-35)
 abbrev pub readRows : ℕ → List ℕ → ℕ → List Row → List Row
 readRows most f asked after =
     row 30 (lengthWrong most (length f))
@@ -109,7 +110,7 @@ abbrev pub readAs : Outcome → ReadBack
 readAs (refused n) = NotRead n
 readAs (made bytes) = Gave (length bytes)
 
--- the same answers by their cases: the refusal's number, 0 where there is none, and the values given
+-- the same answers by their cases: the refusal's number, 0 where there is none, and the values given (R-promise-2)
 abbrev pub writtenTold : Written → ℕ × List ℕ
 writtenTold (Wrote size) = (0, size ∷ [])
 writtenTold (NotWritten n) = (n, [])
