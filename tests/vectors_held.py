@@ -38,7 +38,8 @@ class Numbered:
 
 
 def interruption(device, first, addresses, room):
-    """B0H, 70H, polls until SR.7, FFH, the reads, and D0H if SR.6 was set. Returns the end that it comes to, and whether the erase is over."""
+    """B0H, 70H, polls until SR.7, FFH, the reads, and D0H if SR.6 was set. Returns the end that it comes to, and whether the erase is over.
+    (R-held-1)"""
     yield ("W", first, 0xB0)
     yield ("W", first, 0x70)
     for _ in range(65535):
@@ -62,7 +63,7 @@ def interruption(device, first, addresses, room):
 
 
 def erase_polls(device, first, polls, addresses, room, numbered):
-    """The erase's polls, each wait of 65,535 at most, with an interruption in the place of each that is listed."""
+    """The erase's polls, each wait of 65,535 at most, with an interruption in the place of each that is listed. (R-held-2)"""
     waited = 0
     while True:
         if numbered.next() in polls:
@@ -117,7 +118,7 @@ def begun(op, device, block, wanted, scratch, polls, addresses, room, numbered):
 
 
 def list_number(device, block, addresses, room):
-    """The refusals of the lists: each test over the whole list before the next."""
+    """The refusals of the lists: each test over the whole list before the next. (R-held-3)"""
     w = width(device)
     first, last = BLOCKS[device.number][block]
     if any(a * w >= SIZE[device.number] for a in addresses):
@@ -160,7 +161,7 @@ def run(device, state, pins, block, array, wanted, scratch, polls, addresses, ro
 
 
 def extras(device, polls, k):
-    """What the interruptions of an erase of E polls add, by the request's own figures."""
+    """What the interruptions of an erase of E polls add, by the request's own figures. (R-held-2)"""
     met = {n for n in polls if 1 <= n <= device.erase}
     return sum(k + 3 + (0 if n == device.erase else max(1, device.suspend - 1)) for n in met)
 

@@ -42,14 +42,14 @@ NAME = 23
 
 
 def file_number(data, asked, n):
-    """The reader's 30 to 35 and 38; 30 also for a file longer than a flash block of n bytes."""
+    """The reader's 30 to 35 and 38; 30 also for a file longer than a flash block of n bytes. (R-order-3)"""
     if len(data) > n:
         return 30
     return judge(data, asked)[0]
 
 
 def load(device, state, pins, block, array, wanted, scratch, data, asked, op="R"):
-    """A run's tests, then the file's; only then wanted is filled, with the file and FFH, and the run made."""
+    """A run's tests, then the file's; only then wanted is filled, with the file and FFH, and the run made. (R-order-3)"""
     number = run_number(device, state, pins, block, array, wanted, scratch)
     if number == 0:
         number = file_number(data, asked, len(wanted))

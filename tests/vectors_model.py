@@ -57,7 +57,7 @@ STOP = 4294967295  # a count of erases goes no further
 
 
 def is_part(device):
-    """The part is one: a number there is, and word mode on the 28F200BR and 28F400BR only."""
+    """The part is one: a number there is, and word mode on the 28F200BR and 28F400BR only. (R-number-1)"""
     return device.number in BLOCKS and device.word in ((0, 1) if device.number > 4 else (0,))
 
 
@@ -115,7 +115,7 @@ def high(device, vpp):
 
 
 def bad_levels(device, c):
-    """One bus cycle: levels outside those that the documents know."""
+    """One bus cycle: levels outside those that the documents know. (R-number-4)"""
     if c.rp > 2 or not (low(device, c.vpp) or high(device, c.vpp)):
         return True
     if device.number > 4:
@@ -124,14 +124,14 @@ def bad_levels(device, c):
 
 
 def unlocked(device, c):
-    """What unlocks the boot block."""
+    """What unlocks the boot block. (R-lock-1)"""
     if device.number > 4:
         return c.wp == 1 or c.rp == 2
     return c.rp == 2 or c.oe == 1
 
 
 def proper(device, s):
-    """A proper state."""
+    """A proper state. (R-proper-1)"""
     if s.phase in AWAITING + BUSY and s.mode != "S":
         return False
     if s.phase == "S" and s.mode not in "AS":
@@ -151,12 +151,12 @@ def proper(device, s):
 
 
 def cut_comes(device, s, c):
-    """Steps 1 and 2: RP# low or VPP low meets an operation running or suspended."""
+    """Steps 1 and 2: RP# low or VPP low meets an operation running or suspended. (R-cycle-3, R-cycle-4)"""
     return s.phase in IN_FLIGHT and (c.rp == 0 or low(device, c.vpp))
 
 
 def residue_needed(device, s):
-    """How many bytes of residue the cut of this operation needs."""
+    """How many bytes of residue the cut of this operation needs. (R-number-6)"""
     if s.phase == "P":
         return width(device)
     first, past = block_bytes(device, s.address)
@@ -164,7 +164,7 @@ def residue_needed(device, s):
 
 
 def cut(device, s, array, residue):
-    """What a cut leaves in the array."""
+    """What a cut leaves in the array. (R-cycle-7)"""
     if s.phase == "P":
         r = unit_at(device, residue, 0)
         put_unit(device, array, s.address, unit_at(device, array, s.address) & (s.data | r))
@@ -174,7 +174,7 @@ def cut(device, s, array, residue):
 
 
 def finish(device, s, array):
-    """Step 3: what an operation leaves in the array when it is finished."""
+    """Step 3: what an operation leaves in the array when it is finished. (R-cycle-5)"""
     if s.phase == "P":
         put_unit(device, array, s.address, unit_at(device, array, s.address) & s.data)
     else:
@@ -183,17 +183,17 @@ def finish(device, s, array):
 
 
 def rested(s):
-    """Step 1: what RP# low leaves. Wear is kept: a reset takes no erase back."""
+    """Step 1: what RP# low leaves. Wear is kept: a reset takes no erase back. (R-cycle-3)"""
     return FRESH._replace(wear=s.wear)
 
 
 def counted(wear, block):
-    """The counts once an erase of a block has begun: one more there, up to the stop."""
+    """The counts once an erase of a block has begun: one more there, up to the stop. (R-wear-1)"""
     return tuple(min(n + 1, STOP) if k == block else n for k, n in enumerate(wear))
 
 
 def settled(s, is_cut):
-    """The state that steps 2 and 3 leave, where the operation is cut and where it is not."""
+    """The state that steps 2 and 3 leave, where the operation is cut and where it is not. (R-cycle-4, R-cycle-5)"""
     if is_cut:
         status = (s.status | READY | VPP_LOW | error_bit(s)) & ~SUSPENDED
         return State("S", status, "F", 0, 0, 0, s.wear)
@@ -209,7 +209,7 @@ def settled(s, is_cut):
 
 
 def first_write(device, s, command):
-    """Writes, nothing awaited, running or suspended. None is refusal 7."""
+    """Writes, nothing awaited, running or suspended. None is refusal 7. (R-write-1, R-write-3)"""
     if command in (0xFF, 0xB0):
         return s._replace(mode="A")
     if command == 0x90:
@@ -226,7 +226,7 @@ def first_write(device, s, command):
 
 
 def second_write(device, s, c):
-    """Second writes."""
+    """Second writes. (R-second-1)"""
     over = s._replace(phase="F")
     if s.phase == "C" and c.data & 0xFF != 0xD0:
         return over._replace(status=s.status | ERASE_ERROR | PROGRAM_ERROR)
@@ -243,14 +243,14 @@ def second_write(device, s, c):
 
 
 def busy_write(device, s, command):
-    """While busy. 70H finds the mode that it asks for."""
+    """While busy. 70H finds the mode that it asks for. (R-busy-2)"""
     if s.phase == "E" and command == 0xB0:
         return s._replace(phase="U", data=device.suspend)
     return s
 
 
 def suspended_write(s, command):
-    """While suspended."""
+    """While suspended. (R-suspended-1)"""
     if command == 0xFF:
         return s._replace(mode="A")
     if command == 0x70:
@@ -273,7 +273,8 @@ def write(device, s, c):
 
 
 def identifier(device, address):
-    """The maker's code and the device's. A-1 is not looked at in the byte mode of devices 5 to 8, and the low byte is read."""
+    """The maker's code and the device's. A-1 is not looked at in the byte mode of devices 5 to 8, and the low byte is read.
+    (R-read-1, R-read-2)"""
     place = address // 2 if device.number > 4 and not device.word else address
     if place > 1:
         return ("X", 9)
@@ -281,7 +282,7 @@ def identifier(device, address):
 
 
 def read(device, s, address, array):
-    """Reads: what step 4 answers to a read."""
+    """Reads: what step 4 answers to a read. (R-read-1)"""
     if s.mode == "S" or s.phase in BUSY:
         return ("D", s.status)
     if s.mode == "I":
@@ -292,7 +293,7 @@ def read(device, s, address, array):
 
 
 def judged(device, s, c, array, residue):
-    """Refusals 1 to 6 of a cycle, 0 for none."""
+    """Refusals 1 to 6 of a cycle, 0 for none. (R-order-1)"""
     if not is_device(device):
         return 1
     if array != SIZE[device.number]:
@@ -332,7 +333,7 @@ def made(device, s, c, array, residue):
 
 
 def cycle(device, s, c, array, residue):
-    """One bus cycle: the answer and the state after it. The array is changed in place."""
+    """One bus cycle: the answer and the state after it. The array is changed in place. (R-demand-2)"""
     number = judged(device, s, c, len(array), len(residue))
     if number:
         return ("X", number), s

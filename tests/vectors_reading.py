@@ -97,7 +97,7 @@ def pair_of(table, x):
 
 
 def reading(table, x):
-    """The case and the temperature in tenths, as a float, by a table that was judged."""
+    """The case and the temperature in tenths, as a float, by a table that was judged. (R-reading-3)"""
     if x < table[0][0]:
         return "B", float(table[0][1])
     if x > table[-1][0]:
@@ -117,7 +117,7 @@ def rises(low, high):
 
 def unjudged(payload, x):
     """The reading by a payload that nobody judged: 40 by its length; 41 where the first and the last knot are out of range or do not
-    rise, or the pair that halving ends with; else the reading, by these knots alone."""
+    rise, or the pair that halving ends with; else the reading, by these knots alone. (R-number-40, R-number-41)"""
     table = table_of(payload)
     if len(payload) % 6 or len(table) < 2:
         return "!", 40

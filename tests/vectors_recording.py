@@ -35,7 +35,7 @@ LONGEST = 65535
 # ---------------------------------------------------------------- the check of a recording
 
 def start_number(device, state, array):
-    """Refusals before the list: 1 to 3, then 12."""
+    """Refusals before the list: 1 to 3, then 12. (R-recording-3)"""
     if not is_device(device):
         return 1
     if len(array) != SIZE[device.number]:
@@ -48,7 +48,8 @@ def start_number(device, state, array):
 def record_fault(device, state, array, record):
     """None where a record is at fault, else the state and the array that it leaves.
 
-    P and E are used for nothing here: a device with the longest times makes the cycle, and a start goes on with its own count."""
+    P and E are used for nothing here: a device with the longest times makes the cycle, and a start goes on with its own count.
+    (R-recording-2)"""
     c, heard, busy = record
     if state.phase in IN_FLIGHT and (c.rp == 0 or low(device, c.vpp)):
         return None
@@ -64,7 +65,7 @@ def record_fault(device, state, array, record):
 
 
 def check(device, state, array, records, promised):
-    """The verdict, the state and the array left."""
+    """The verdict, the state and the array left. (R-recording-2)"""
     number = start_number(device, state, array)
     if number:
         return ("X", number), state, array
@@ -152,7 +153,7 @@ class Bench:
 
 def recorded(device, state, array, cycles, counts=()):
     """What the model records of cycles: each with its answer, and at a start the busy count that it took. Counts stand in for P and E,
-    start by start; where they end, the device's own are used."""
+    start by start; where they end, the device's own are used. (R-recording-3)"""
     counts, records, array = list(counts), [], bytearray(array)
     for c in cycles:
         busy = 0

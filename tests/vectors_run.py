@@ -26,7 +26,7 @@ Pins = namedtuple("Pins", "rp vpp wp", defaults=(0,))  # the levels that a run k
 
 
 def fault(status, erase):
-    """Judging a ready status: 0 for none."""
+    """Judging a ready status: 0 for none. (R-number-21 to R-number-24)"""
     if status & 0x08:
         return 21
     if status & 0x30 == 0x30:
@@ -39,7 +39,7 @@ def fault(status, erase):
 
 
 def poll(address, erase):
-    """Status reads until SR.7, 65,535 at most. The status is in the low eight bits."""
+    """Status reads until SR.7, 65,535 at most. The status is in the low eight bits. (R-load-6, R-number-20)"""
     for _ in range(65535):
         status = (yield ("R", address, 0)) & 0xFF
         if status & 0x80:
@@ -53,7 +53,8 @@ def all_units(device, part):
 
 
 def load(device, first, wanted, scratch):
-    """Loading a block of n units, without the verify. Hands out cycles, takes what is read, returns the end and its address."""
+    """Loading a block of n units, without the verify. Hands out cycles, takes what is read, returns the end and its address.
+    (R-load-1 to R-load-3)"""
     wants, holds = all_units(device, wanted), []
     n = len(wants)
     yield ("W", first, 0x50)
@@ -81,7 +82,8 @@ def load(device, first, wanted, scratch):
 
 
 def verify(device, first, wanted, scratch):
-    """Verifying a block of n units: FFH, and the reads up to a difference. The address told is that of the first byte that differs."""
+    """Verifying a block of n units: FFH, and the reads up to a difference. The address told is that of the first byte that differs.
+    (R-load-4)"""
     w = width(device)
     yield ("W", first, 0xFF)
     for i in range(len(wanted) // w):
@@ -93,7 +95,7 @@ def verify(device, first, wanted, scratch):
 
 
 def both(device, first, wanted, scratch):
-    """A load and, where it ended well, the verify after it."""
+    """A load and, where it ended well, the verify after it. (R-load-5)"""
     over = yield from load(device, first, wanted, scratch)
     if over[0]:
         return over
@@ -126,7 +128,7 @@ def loader_number(device, pins, block, wanted, scratch):
 
 
 def run_number(device, state, pins, block, array, wanted, scratch):
-    """The refusals of a run, 0 for none."""
+    """The refusals of a run, 0 for none. (R-order-2)"""
     if not is_device(device):
         return 1
     if len(array) != SIZE[device.number]:
@@ -161,7 +163,8 @@ def run(device, state, pins, block, array, wanted, scratch, op="R"):
 
 
 def formula(device, held, wanted, op="R"):
-    """The count of a good run, 2n + 3 + e(2 + E) + p(2 + P); of a load alone, n + 2 and the same; of a verify alone, n + 1. In units."""
+    """The count of a good run, 2n + 3 + e(2 + E) + p(2 + P); of a load alone, n + 2 and the same; of a verify alone, n + 1. In units.
+    (R-load-5)"""
     wants, holds = all_units(device, wanted), all_units(device, held)
     n = len(wants)
     if op == "V":
@@ -175,7 +178,7 @@ def formula(device, held, wanted, op="R"):
 
 def worn_by(wear, block, end, count, held, wanted, op):
     """The counts after a run: one more at its block where it erased, up to the stop; else as they were. An erase that cannot start ends
-    the run with 21 or 23."""
+    the run with 21 or 23. (R-wear-1)"""
     rises = count and op != "V" and any(w & ~h for w, h in zip(wanted, held))
     return counted(wear, block) if rises and end not in (21, 23) else wear
 

@@ -47,7 +47,7 @@ def next_line(text, at):
 
 
 def first_fault(text):
-    """The number of the first line at fault, 0 where the script is allowed."""
+    """The number of the first line at fault, 0 where the script is allowed. (R-script-3)"""
     at, number, total = 0, 1, 0
     counts, items = [], []  # of the groups that are open: their counts, and how many items each has so far
     while at < len(text):
@@ -81,7 +81,7 @@ def first_fault(text):
 
 
 def tree(text, at=0):
-    """The items from a place on, to a closing line or the end: lines, and pairs of a count and items; and where they end."""
+    """The items from a place on, to a closing line or the end: lines, and pairs of a count and items; and where they end. (R-script-1)"""
     items = []
     while at < len(text):
         kind, value, at = next_line(text, at)

@@ -38,7 +38,7 @@ def printed(answer, state):
 
 
 def replay(text):
-    """The output of a whole input, and the array it leaves."""
+    """The output of a whole input, and the array it leaves. (R-trace-3)"""
     array, residue = bytearray(b"\xff" * 16384), b"\xff" * 16384
     state, number = FRESH, 1
     lines = []
@@ -166,7 +166,7 @@ R 1 0 12000 0030 00
 
 
 def sample():
-    """The whole example of the page, the sample above, and a bad line, after which nothing is read."""
+    """The whole example of the page, the sample above, and a bad line, after which nothing is read. (R-trace-4)"""
     lines = [row[:19] + "\n" for row in (EXAMPLE + SAMPLE).splitlines()]
     return "".join(lines).encode() + b"R 1 0 12000 0030 3c\n" + lines[0].encode()
 

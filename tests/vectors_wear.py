@@ -36,7 +36,7 @@ NONE = Report(0, (Tally(0, 0, 0, 0),) * 7)
 
 
 def tally(counts):
-    """One block, from its count in each trace."""
+    """One block, from its count in each trace. (R-wear-2)"""
     return Tally(sum(counts), max(counts, default=0), min(counts, default=0), sum(n > SHEET for n in counts))
 
 
@@ -46,7 +46,7 @@ def report(traces):
 
 
 def refusal(number, froms, counts):
-    """The first number that applies to a report on many traces; counts is how many are lent."""
+    """The first number that applies to a report on many traces; counts is how many are lent. (R-number-47, R-number-48)"""
     if number not in DEVICES:
         return 1
     if counts != 7 * len(froms):
