@@ -17,7 +17,7 @@ ROOT = pathlib.Path(__file__).resolve().parent.parent
 PAPER, BEGIN, END = ROOT / "docs/TRUST.md", "<!-- the table of tests/size.py -->\n", "<!-- its end -->\n"
 DEFINITION = re.compile(r"^(  )?((unfoldable|abbrev) (pub )?\S+ :|(pub )?(record|data) )")
 LAW = re.compile(r"^(pub )?[^\s(){}:;=|]+ : ")
-PUBLIC = re.compile(r"^pub (?!mod\b|record\b|data\b)\S+ :")
+PUBLIC = re.compile(r"^(  )?pub (?!mod\b|record\b|data\b)\S+ :")
 
 
 def lines(file, comment):
