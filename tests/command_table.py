@@ -23,14 +23,14 @@ WORDS = {
     REFUSE: "refused (7)",
     IGNORE: "ignored",
     STORE: "data: the program starts",
-    WRONG_SECOND: "wrong second write: SR.5 and SR.4 set",
+    WRONG_SECOND: "wrong second write",
     TO_ARRAY: "read array",
     TO_IDENTIFIER: "read identifier",
     TO_STATUS: "read status",
     CLEAR: "SR.5, SR.4 and SR.3 cleared",
     AWAIT_ERASE: "erase awaited",
     AWAIT_DATA: "program awaited",
-    AWAIT_DATA_LARGE: "devices 5 to 8: program awaited; 1 to 4: refused (7)",
+    AWAIT_DATA_LARGE: "5 to 8: program awaited; else refused (7)",
     CONFIRM: "confirm: the erase starts",
     SUSPEND: "the suspend starts",
     RESUME: "the erase goes on",
@@ -86,8 +86,8 @@ def page():
     lines = [
         "# What a write does",
         "",
-        "Made from the table of crates/command_table by tests/command_table.py; the gate compares it. Of what a write carries, the low byte is the",
-        "command; the state is the one that steps 2 and 3 of the cycle leave. The number in brackets is the refusal's.",
+        "The table of R-table-1, made from crates/command_table by tests/command_table.py; the gate compares it. Of what a write carries, the low",
+        "byte is the command; the state is the one that steps 2 and 3 of the cycle leave. The number in brackets is the refusal's.",
         "",
         "| byte | " + " | ".join(name for name, _, _ in STATES) + " |",
         "|---|" + "---|" * len(STATES),
@@ -98,18 +98,21 @@ def page():
     return "\n".join(lines) + """
 
 - *read array*, *read identifier*, *read status*: what reads give from now on; the state stays.
-- *the program starts*, *the erase starts*: at this cycle's address. With VPP low or SR.3 still set nothing starts, and SR.3 and the error bit
-  (SR.4 of a program, SR.5 of an erase) are set; in a locked boot block nothing starts, and the error bit is set. The device is idle then.
+- *5 to 8*: on these devices; on 1 to 4 it is refused.
+- *the program starts*, *the erase starts*: at this cycle's address. With VPP low or SR.3 still set nothing starts, and SR.3 and the
+  error bit (SR.4 of a program, SR.5 of an erase) are set; in a locked boot block nothing starts, and the error bit is set. The device is
+  idle then.
 - *data*: all bits that the cycle carries, 16 in word mode.
-- *wrong second write*: the device is idle, and what reads give is as it was.
+- *wrong second write*: SR.5 and SR.4 are set, the device is idle, and what reads give is as it was.
 - *ignored*: nothing comes of the write.
 - *refused*: the write has not happened.
 - A cycle with RP# low is heard as no command in any state.
 
 ![Seven states and what leads from one to the other](commands.svg)
 
-A whole line is a write, a broken line the end of the operation's or the suspend's own time. Not drawn: RP# low leads to idle from every state, VPP
-low ends what runs, is being suspended or is suspended, and a start that VPP, SR.3 or a locked boot block forbids leads to idle.
+A whole line is a write, a broken line the end of the operation's or the suspend's own time. Not drawn: RP# low leads to idle from every
+state, VPP low ends what runs, is being suspended or is suspended, and a start that VPP, SR.3 or a locked boot block forbids leads to
+idle.
 """
 
 
