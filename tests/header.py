@@ -105,10 +105,10 @@ for variant, number in re.findall(r"^turnOut \((\w+)[^)]*\) = turnAt (\d+)", bor
     name = "TB_CYCLE_OUT" if variant == "Out" else "TB_" + variant.upper()
     same(name, constants.get(name), int(number))
 
-# refusals: the same set of numbers on both sides, and each with its number in the operators' table
+# refusals: the same set of numbers on both sides, and each with its number in the operators' list
 listed = re.search(r"enum \{\s*TB_OK = 0,(.*?)\};", plain, re.S).group(1)
 refusals = sorted(int(n) for n in re.findall(r"= (\d+)", listed))
-operators = sorted(int(n) for n in re.findall(r"^\| (\d+) \|", (ROOT / "docs/OPERATORS.md").read_text().split("## Every number")[1], re.M))
+operators = sorted(int(n) for n in re.findall(r"^- \*\*(\d+)\*\* ", (ROOT / "docs/OPERATORS.md").read_text().split("## Every number")[1], re.M))
 same("refusals, beside docs/OPERATORS.md", refusals, operators)
 given = {int(n) for n in re.findall(r"\brow (\d+) \(", text("*/specs/*.antt"))}
 given |= {int(n) for n in re.findall(r"\b(?:then|else) (2[0-4])\b", text("loader/specs/*.antt"))}
