@@ -24,7 +24,7 @@ NAME = re.compile(r"\s*(?:unfoldable |abbrev )?(?:pub )?(?:record |data )?([^\s:
 # Rules that no definition and no claim can answer, each with its reason.
 ELSEWHERE = {
     "R-scope-2": "it says what is in no rule",
-    "R-form-10": "it is about DECISIONS, and every form could be had",
+    "R-form-10": "it is about what DECISIONS must name",
     "R-landing-1": "it is about the notes in docs/landings/",
 }
 
