@@ -1,6 +1,7 @@
 #!/usr/bin/env bash
 # command.sh: drives ./torfbarke the way a person would: every way to hand over a trace or a script, either engine, every fault of a line, wrong
-# calls, recordings, stores, output that cannot be written, dumps, a first call that builds, is killed or finds another's folder, calls at the same
+# calls, recordings, tables, output that cannot be written, dumps, a first call that builds, is killed or finds another's folder, calls at the same
+    "store --help" "store card 3 list" "store card 3 find K" "store card 3 read K 6138"
 # time. Where TORFBARKE_PROGRAMS names a folder with the programs they are taken from there; otherwise the first call proves and builds
 # them. Expected answers are those of the page's own example.
 set -eu
@@ -404,6 +405,8 @@ three='0 0
 '
 printf '%s' "$three" >"$work/three.txt"
 written() { "$tb" table write "$1" <"$2"; }
+# forced: a table that is no letter's; standard error says so, in one line
+forced() { "$tb" table write --force "$1" <"$2"; }
 call written K "$work/three.txt"; try 'a table written' 0 '*' ''
 cp "$work/out" "$work/three.load"
 call "$tb" table print "$work/three.load" K; try 'a table printed' 0 "$three" ''
@@ -429,9 +432,10 @@ call "$tb" read "$work/other.load" K 6138; try 'a blank file but for one byte' 1
 " ''
 call "$tb" table print "$work/three.load" S; try 'a table of another letter' 1 '' 'refused 35'
 call written X "$work/three.txt"; one 'a letter that is none' 1 '' 'refused 32: the letter is one of B E J K N R S T'
-knot() { # knot NAME WORDS BYTES
+knot() { # knot NAME WORDS BYTES: the program that writes and the script that checks refuse it by the same words
     printf '%b' "$3" >"$work/bad.txt"
     call written K "$work/bad.txt"; one "$1" 1 '' "torfbarke: $2"
+    call "$tb" table check K "$work/bad.txt"; one "$1, checked" 1 '' "torfbarke: $2"
 }
 knot 'a table that does not rise' 'line 2: refused 41: its microvolts, 0, are not above those of line 1, 0' '0 0\n0 1\n'
 knot 'a table that falls' 'line 3: refused 41: its microvolts, -7, are not above those of line 2, 5' '-9 0\n5 1\n-7 2\n'
@@ -461,7 +465,8 @@ knot 'a table: ten digits' 'line 2 is no knot: its microvolts have more than nin
 knot 'a table: tenths too large' 'line 2 is no knot: its tenths of a degree, 32768, are not' '0 0\n1 32768\n'
 knot 'a table: tenths too small' 'line 2 is no knot: its tenths of a degree, -32769, are not' '0 0\n1 -32769\n'
 printf '%s\n' '-10000 -32768' '-0 0' '00000000080000 32767' >"$work/ends.txt"
-call written K "$work/ends.txt"; try 'the smallest and the largest numbers' 0 '*' ''
+call written K "$work/ends.txt"; one 'the smallest and the largest numbers are no table of type K' 1 '' 'no table of type K'
+call forced K "$work/ends.txt"; one 'the smallest and the largest numbers' 0 '*' 'It is written all the same'
 cp "$work/out" "$work/ends.load"
 call "$tb" table print "$work/ends.load" K; try 'the smallest and the largest numbers, printed' 0 '-10000 -32768
 0 0
@@ -473,7 +478,7 @@ cmp -s "$work/out" "$root/crates/reading_program/data/k.load" || wrong 'the tabl
 call "$tb" table print "$root/crates/reading_program/data/k.load" K; try 'the table of type K printed' 0 "$(cat "$work/k.txt")
 " ''
 python3 -c "for i in range(18853): print(4 * i - 10000, i % 3000)" >"$work/long.txt"
-call written K "$work/long.txt"; try 'the longest table' 0 '*' ''
+call forced K "$work/long.txt"; one 'the longest table' 0 '*' 'It is written all the same'
 cp "$work/out" "$work/long.load"
 [ "$(wc -c <"$work/long.load")" = 114688 ] || wrong 'the longest table: not 224 blocks'
 call "$tb" table print "$work/long.load" K; try 'the longest table printed' 0 "$(cat "$work/long.txt")
@@ -499,7 +504,269 @@ call "$tb" table print "$work/three.load" $'\303\204'; one 'a table: a letter of
 call "$tb" table write --help; try 'table write --help' 0 '*' ''
 call "$tb" read "$work/three.load" K 1.5; try 'microvolts that are no whole number' 2 '' 'whole number'
 call "$tb" read "$work/three.load" KK 1; try 'two letters' 2 '' 'the letter'
-call "$tb" table erase; try 'no such part of a table' 2 '' 'table write or table print'
+call "$tb" table erase; try 'no such part of a table' 2 '' 'table list, write, check, plot or print'
+
+# the tables that ship: listed as their files are, written, printed, and read at published values (degrees at whole microvolts)
+call "$tb" table list; try 'the tables that ship' 0 '*' ''
+[ "$(wc -l <"$work/out")" = 9 ] || wrong 'the tables that ship: not a row for each letter'
+while IFS= read -r row; do grep -qxF -- "    $row" "$root/docs/OPERATORS.md" || wrong "the tables that ship: docs/OPERATORS.md lacks '$row'"; done <"$work/out"
+for letter in B E J K N R S T; do
+    sed '/^#/d' "$root/tables/$letter.txt" >"$work/ship.txt"
+    row=$(awk -v name="$letter" 'NR == 1 { x = $1; t = $2 } END { printf "%s tables/%s.txt %.1f to %.1f %d to %d %d", name, name, t / 10, $2 / 10, x, $1, NR }' "$work/ship.txt")
+    call "$tb" table list
+    tr -s ' ' <"$work/out" | grep -qE "^$row 0\.0[45][0-9]$" || wrong "the tables that ship: $letter is another"
+    call "$tb" table write "$letter" "$root/tables/$letter.txt" "$work/$letter.load"; try "the table of type $letter that ships, written" 0 '' ''
+    [ "$(wc -c <"$work/$letter.load")" = 512 ] || wrong "the table of type $letter that ships: not one block"
+    call "$tb" table print "$work/$letter.load" "$letter"; try "the table of type $letter that ships, printed" 0 "$(cat "$work/ship.txt")
+" ''
+done
+near() { # near LETTER MICROVOLTS DEGREES: published values are rounded to the microvolt
+    call "$tb" read "$work/$1.load" "$1" "$2"; try "type $1 at $2 microvolts" 0 '*' ''
+    awk -v t="$3" '{ d = $1 - t; if (d < 0) d = -d; exit d < 0.16 ? 0 : 1 }' "$work/out" || wrong "type $1 at $2 microvolts: not $3"
+}
+while read -r letter volts degrees; do near "$letter" "$volts" "$degrees"; done <<'PUBLISHED'
+B 787 400
+B 1792 600
+B 4834 1000
+B 10099 1500
+B 13820 1820
+E -8825 -200
+E -5237 -100
+E 6319 100
+E 37005 500
+E 76373 1000
+J -7890 -200
+J 5269 100
+J 27393 500
+J 42919 760
+J 69553 1200
+K -5891 -200
+K -3554 -100
+K 4096 100
+K 41276 1000
+K 54886 1372
+N -3990 -200
+N 2774 100
+N 20613 600
+N 36256 1000
+N 47513 1300
+R 647 100
+R 4471 500
+R 10506 1000
+R 17451 1500
+R 21101 1768
+S 646 100
+S 4233 500
+S 9587 1000
+S 15582 1500
+S 18693 1768
+T -5603 -200
+T -3379 -100
+T 4279 100
+T 9288 200
+T 20872 400
+PUBLISHED
+# the mishap: an S probe at 100, 400, 800, 1,000, 1,200 and 1,600 degrees through the table of type K
+while read -r volts degrees; do
+    call "$tb" read "$work/K.load" K "$volts"; try "the mishap at $volts microvolts" 0 "$degrees
+" ''
+done <<'MISHAP'
+646 16.2
+3259 79.8
+7345 180.1
+9587 236.0
+11951 293.8
+16777 409.0
+MISHAP
+call "$tb" table list K; one 'a list of one' 2 '' 'table list takes nothing'
+call "$tb" table list --help; try 'table list --help' 0 '*' ''
+
+# the check: a table against the reference function of its letter, and which letter it looks like
+mishap='no table of type S: at 18694 microvolts it gives 454.2 degrees, and the type has 1768.1: 1313.9 off, 4.4 allowed; it looks like type K'
+fits='a table of type K: at worst 0.65 degrees off, at 1553 microvolts, where it gives 37.92 and the type has 38.57; 2.5 are allowed
+'
+call "$tb" table check K "$work/three.txt"; try 'a table checked' 0 "$fits" ''
+call "$tb" table check K - <"$work/three.txt"; try 'a table checked from standard input' 0 "$fits" ''
+call "$tb" table check K "$root/tables/K.txt"; try 'the table of type K checked' 0 '*' ''
+grep -q '^a table of type K: at worst 0.04 degrees off' "$work/out" || wrong 'the table of type K checked: other words'
+call "$tb" table check S "$root/tables/K.txt"; try 'the table of type K under S' 1 "$mishap
+" ''
+"$tb" table print "$work/K.load" K | "$tb" table check K - >"$work/out" || wrong 'a load file checked: another status'
+grep -q '^a table of type K' "$work/out" || wrong 'a load file checked: other words'
+call "$tb" table check R "$root/tables/S.txt"; try 'the table of type S under R' 1 '*' ''
+grep -q '; it looks like type S$' "$work/out" || wrong 'the table of type S under R: S is not told'
+checks() { # checks NAME STATUS WORDS LETTER BYTES
+    printf '%b' "$5" >"$work/table.txt"
+    call "$tb" table check "$4" "$work/table.txt"; try "$1" "$2" '*' ''
+    grep -qE -- "$3" "$work/out" || wrong "$1: other words"
+}
+checks 'whole degrees in the place of tenths' 1 'with ten times its temperatures it would be one: a knot has tenths' K '0 0\n4096 100\n8138 200\n'
+checks 'ten times too much' 1 'with a tenth of its temperatures it would be one' T '0 0\n992 2500\n2036 5000\n'
+checks 'one knot that is wrong' 1 '^no table of type K: at 4096 microvolts it gives 130.0 degrees, and the type has 100.0: 30.0 off, 2.5 allowed; it looks like none' K '0 0\n2023 500\n4096 1300\n6138 1500\n'
+checks 'a table that begins too low' 1 '^no table of type K: it begins at -6600 microvolts, and the type has none below -6458' K '-6600 -2790\n-6458 -2700\n-6441 -2600\n'
+checks 'a table that ends too high' 1 '^no table of type T: it ends at 21500 microvolts, and the type has none above 20872' T '20560 3950\n20872 4000\n21500 4100\n'
+checks 'a table without a microvolt of its type' 1 '^no table of type S: it has no microvolts in common with the type; it looks like type K$' S '41276 10000\n41308 10008\n'
+checks 'a limit that is kept' 0 '2.41 degrees off.*2.5 are allowed' K '4096 1024\n4097 1024\n'
+checks 'a limit that is not kept' 1 'it gives 102.6 degrees' K '4096 1026\n4097 1026\n'
+checks 'a limit that rises with the temperature' 0 '7.39 degrees off.*7.5 are allowed' K '41276 10074\n41277 10074\n'
+checks 'the narrower limit of type S' 1 '1.5 allowed' S '4233 5020\n4234 5020\n'
+checks 'type B where two temperatures give the same' 0 '^a table of type B: at worst 0.64 degrees off, at 15 microvolts' B '-3 210\n0 420\n2 491\n3 515\n4 544\n6 595\n9 655\n13 725\n18 803\n'
+checks 'a table of one temperature' 1 '^no table of type K: at 8138 microvolts' K '0 0\n8138 0\n'
+call "$tb" table check X "$work/three.txt"; one 'checked for a letter that is none' 1 '' 'refused 32: the letter is one of B E J K N R S T'
+call "$tb" table check k "$work/three.txt"; one 'checked for a small letter' 1 '' 'refused 32'
+call "$tb" table check KK "$work/three.txt"; one 'checked for two letters' 2 '' 'the letter is one of'
+call "$tb" table check K; one 'a check of nothing' 2 '' 'table check takes a letter and a text'
+call "$tb" table check K "$work/nowhere"; one 'a check of no file' 2 '' 'there is no file'
+call "$tb" table check K "$work"; one 'a check of a folder' 2 '' 'is a folder'
+call "$tb" table check K "$work/three.txt" "$work/three.txt"; one 'a check of two files' 2 '' 'table check takes a letter and a text'
+call "$tb" table check --force K "$work/three.txt"; one 'a check that is forced' 2 '' 'table check has no option --force'
+call "$tb" table check --word K "$work/three.txt"; one 'an option that a table has not' 2 '' 'table has no option --word'
+call "$tb" table check K "$work/long.txt"; one 'a check of a knot too many' 1 '' 'line 18854 is a knot too many'
+call "$tb" table check K "$work/zeros.txt"; one 'a check of a text that is too long' 1 '' 'longer than 327679 bytes'
+call "$tb" table check K "$work/empty"; one 'a check of an empty text' 1 '' 'the text has none'
+call "$tb" table check --help; try 'table check --help' 0 '*' ''
+
+# comments: lines that begin with #, which are counted where a line is told
+knot 'a comment before a knot that does not rise' 'line 4: refused 41: its microvolts, 0, are not above those of line 2, 0' '# a\n0 0\n# b\n0 1\n'
+knot 'comments before a line that is no knot' "line 3 is no knot: column 2 has ','" '# a\n#\n0,0\n1 1\n'
+knot 'comments alone' 'refused 40: a table has two knots at least, and the text has none' '# a\n# b\n'
+knot 'a comment and one knot' 'refused 40: a table has two knots at least, and the text has one, in line 2' '# a\n5 0\n# b'
+knot 'a comment behind a knot' "line 1 is no knot: column 5 has '#'" '0 0 # a\n1 1\n'
+knot 'a byte-order mark before a comment' 'line 1 is no knot: the text begins with a byte-order mark' '\0357\0273\0277# a\n0 0\n1 1\n'
+printf '# three knots\n%s# the end' "$three" >"$work/comments.txt"
+call written K "$work/comments.txt"; try 'a table with comments' 0 '*' ''
+cmp -s "$work/out" "$work/three.load" || wrong 'a table with comments: another file'
+
+# CSV: microvolts and degrees, as spreadsheets write them
+csv() { # csv NAME BYTES: the same file as that of the three knots
+    printf '%b' "$2" >"$work/table.csv"
+    call "$tb" table write --csv K "$work/table.csv"; try "$1" 0 '*' ''
+    cmp -s "$work/out" "$work/three.load" || wrong "$1: another file"
+    call "$tb" table check --csv K "$work/table.csv"; try "$1, checked" 0 "$fits" ''
+}
+csv 'CSV' '0,0\n4096,100\n8138,200\n'
+csv 'CSV: decimals' '0.0,0.0\n4096,100.0\n8138.,200.00\n'
+csv 'CSV: carriage returns' '0,0\r\n4096,100\r\n8138,200\r\n'
+csv 'CSV: no newline at the end' '0,0\n4096,100\n8138,200'
+csv 'CSV: a heading, comments and blank lines' 'uV,degC\n# K\n\n0,0\n  \n4096,100\n8138,200\n\n'
+csv 'CSV: a byte-order mark, quotes and blanks' '\0357\0273\0277"uV" , "T"\n"0", "0"\n 4096 ,100.0 \n8138,"200"\n'
+csv 'CSV: semicolons and decimal commas' 'uV;T\n0;0,0\n4096,0;100,0\n8138;200\n'
+csv 'CSV: tabs and signs' '-0\t+0\n+4096\t+100,0\n8138\t200.0\n'
+printf -- '-10,-0.3\n0,0\n10,0.3\n' >"$work/table.csv"
+call "$tb" table write --csv K "$work/table.csv" "$work/csv.load"; try 'CSV: tenths below zero' 0 '' ''
+call "$tb" table print "$work/csv.load" K; try 'CSV: tenths below zero, printed' 0 '-10 -3
+0 0
+10 3
+' ''
+no_csv() { # no_csv NAME WORDS BYTES
+    printf '%b' "$3" >"$work/bad.csv"
+    call "$tb" table write --csv K "$work/bad.csv" "$work/none.load"; one "$1" 1 '' "torfbarke: $2"
+    call "$tb" table check --csv K "$work/bad.csv"; one "$1, checked" 1 '' "torfbarke: $2"
+    [ ! -e "$work/none.load" ] || wrong "$1: a file is written"
+}
+no_csv 'CSV: no comma' 'line 1 is no knot: no comma, semicolon or tab parts two numbers' '0 0\n1 1\n'
+no_csv 'CSV: three fields' 'line 2 is no knot: it has 3 fields' '0,0\n1,1,1\n'
+no_csv 'CSV: a decimal comma between commas' 'line 2 is no knot: it has 3 fields' '0,0\n4096,100,0\n'
+no_csv 'CSV: hundredths' 'line 3 is no knot: its degrees, 100.05, are finer than tenths' '# a\n0,0\n4096,100.05\n'
+no_csv 'CSV: parts of a microvolt' 'line 2 is no knot: its microvolts, 4.096, are finer than whole ones' 'mV,T\n4.096,100\n'
+no_csv 'CSV: a second heading' "line 2 is no knot: its microvolts are no number: 'b'" 'a,b\nb,c\n0,0\n'
+no_csv 'CSV: a word among numbers' "line 2 is no knot: its degrees are no number: 'hot'" '0,0\n4096,hot\n'
+no_csv 'CSV: an empty field' "line 1 is no knot: its degrees are no number: ''" '4096,\n'
+no_csv 'CSV: microvolts that do not rise' 'line 5: refused 41: its microvolts, 0, are not above those of line 3, 0' 'uV,T\n# a\n0,0\n\n0,1\n'
+no_csv 'CSV: degrees that are too large' 'line 2 is no knot: its tenths of a degree, 40000, are not from' '0,0\n4096,4000\n'
+no_csv 'CSV: nothing' 'refused 40: a table has two knots at least, and the text has none' ''
+no_csv 'CSV: two-byte letters' 'the text is in two-byte letters' '\0377\03760\0000'
+no_csv 'CSV: a byte of zero' 'the text has a byte 00H' '0,0\n\0000,1\n'
+
+# a load file in a file: whole or not at all
+kept() { # kept NAME STATUS WORDS CALL: OUT, $work/kept, stays as it was, and nothing is left beside it
+    printf 'as it was' >"$work/kept"
+    call "${@:4}"; one "$1" "$2" '' "$3"
+    [ "$(cat "$work/kept")" = 'as it was' ] || wrong "$1: the output is another"
+    [ -z "$(find "$work" -name '*.part.*')" ] || wrong "$1: a part is left"
+}
+printf '0 0\n0 1\n' >"$work/bad.txt"
+kept 'a refused table leaves the output' 1 'line 2: refused 41' "$tb" table write K "$work/bad.txt" "$work/kept"
+kept 'a table of another type leaves the output' 1 'it looks like type K. Nothing is written; --force writes it all the same' "$tb" table write S "$root/tables/K.txt" "$work/kept"
+kept 'a letter that is none leaves the output' 1 'refused 32' "$tb" table write X "$work/three.txt" "$work/kept"
+kept 'a picture of a refused table leaves the output' 1 'line 2: refused 41' "$tb" table plot "$work/bad.txt" K "$work/kept"
+limited() { # no file may grow, so standard error goes through a pipe
+    { { (ulimit -f 0 && exec "$@" 2>&1 >/dev/null) || printf '%s' "$?" >"$work/ended"; } | cat >&2; }
+    return "$(cat "$work/ended")"
+}
+kept 'no room leaves the output' 4 'could not be written; it is as it was' limited "$tb" table write K "$work/three.txt" "$work/kept"
+kept 'no room for a picture leaves the output' 4 'could not be written; it is as it was' limited "$tb" table plot "$work/three.txt" K "$work/kept"
+call "$tb" table write K "$work/three.txt" "$work/kept"; try 'a load file in the place of another' 0 '' ''
+cmp -s "$work/kept" "$work/three.load" || wrong 'a load file in the place of another: another file'
+[ -z "$(find "$work" -name '*.part.*')" ] || wrong 'a load file in the place of another: a part is left'
+call "$tb" table write K - "$work/new.load" <"$work/three.txt"; try 'a load file from standard input' 0 '' ''
+cmp -s "$work/new.load" "$work/three.load" || wrong 'a load file from standard input: another file'
+call "$tb" table write K "$work/three.txt" -; try 'a load file to standard output' 0 '*' ''
+cmp -s "$work/out" "$work/three.load" || wrong 'a load file to standard output: another file'
+ln -sf new.load "$work/new-link"
+call "$tb" table write --force S "$work/three.txt" "$work/new-link"; one 'a load file through a link, forced' 0 '' 'no table of type S: at 8138 microvolts'
+[ -L "$work/new-link" ] || wrong 'a load file through a link: the link is gone'
+call "$tb" table print "$work/new.load" S; try 'a load file through a link, printed' 0 "$three" ''
+call in_work "$tb" table write K three.txt ./-k.load; try 'an output named -k.load' 0 '' ''
+call in_work "$tb" table write -- K three.txt -k.load; try 'an output named -k.load, after --' 0 '' ''
+call "$tb" table write K "$work/three.txt" /dev/full; one 'a load file to a full device' 4 '' 'the output could not be written to its end'
+call "$tb" table write K "$work/three.txt" "$work/three.txt"; one 'a load file over its text' 2 '' 'is text and output at once'
+call "$tb" table write K "$work/three.txt" "$work"; one 'a folder as the output' 2 '' 'is a folder'
+call "$tb" table write K "$work/three.txt" "$work/nowhere/k.load"; one 'an output in no folder' 2 '' 'there is no folder'
+call "$tb" table write K "$work/three.txt" ''; one 'an output without a name' 2 '' 'the name of the output is empty'
+call "$tb" table write K "$work/nowhere" "$work/none.load"; one 'a load file of no file' 2 '' 'there is no file'
+call "$tb" table write K "$work/three.txt" "$work/none.load" x; one 'a word too many' 2 '' 'table write takes a letter'
+call "$tb" table write; one 'table write alone' 2 '' 'table write takes a letter'
+call "$tb" table write --forced K "$work/three.txt"; one 'an option that write has not' 2 '' 'table has no option --forced'
+[ ! -e "$work/none.load" ] || wrong 'a wrong call: a file is written'
+
+# pictures
+drawn() { # drawn NAME: the picture is whole, of plain ASCII, and has both panels
+    python3 -c 'import sys, xml.dom.minidom as m; d = m.parse(sys.argv[1]); assert len(d.getElementsByTagName("polyline")) >= 3' "$work/table.svg" || wrong "$1: no picture"
+    LC_ALL=C grep -q '[^ -~]' "$work/table.svg" && wrong "$1: not plain ASCII"
+    rm "$work/table.svg"
+}
+call "$tb" table plot "$work/three.txt" K "$work/table.svg"; try 'a picture' 0 '' ''
+call "$tb" table plot "$work/three.txt" K -; try 'a picture to standard output' 0 "$(cat "$work/table.svg")
+" ''
+drawn 'a picture'
+call "$tb" table plot "$root/tables/K.txt" S "$work/table.svg"; try 'a picture of another type' 0 '' ''
+drawn 'a picture of another type'
+call "$tb" table plot --csv - K "$work/table.svg" <"$work/table.csv"; try 'a picture of CSV' 0 '' ''
+grep -q 'standard input as a table of type K' "$work/table.svg" || wrong 'a picture of CSV: another name'
+drawn 'a picture of CSV'
+cp "$work/three.txt" "$work/a <b> & c"
+call "$tb" table plot "$work/a <b> & c" K "$work/table.svg"; try 'a picture of a file with signs in its name' 0 '' ''
+drawn 'a picture of a file with signs in its name'
+in_docs() { (cd "$root" && "$tb" table plot tables/K.txt K -); }
+call in_docs; try 'the picture of docs' 0 "$(cat "$root/docs/table-k.svg")
+" ''
+printf '60000 0\n60001 0\n' >"$work/table.txt"
+call "$tb" table plot "$work/table.txt" K -; try 'a picture of a table without a microvolt of its type' 0 '*' ''
+grep -q 'no microvolts in common' "$work/out" || wrong 'a picture of a table without a microvolt of its type: other words'
+call "$tb" table plot "$work/three.txt" X "$work/none.svg"; one 'a picture for a letter that is none' 1 '' 'refused 32'
+call "$tb" table plot "$work/three.txt" K; one 'a picture without an output' 2 '' 'table plot takes a text, a letter and an output'
+call "$tb" table plot --force "$work/three.txt" K "$work/none.svg"; one 'a picture that is forced' 2 '' 'table plot has no option --force'
+call "$tb" table plot "$work/nowhere" K "$work/none.svg"; one 'a picture of no file' 2 '' 'there is no file'
+call "$tb" table plot "$work/three.txt" K "$work/three.txt"; one 'a picture over its text' 2 '' 'is text and output at once'
+[ ! -e "$work/none.svg" ] || wrong 'a wrong picture: a file is written'
+
+# without python3 nothing is checked or drawn, and a table is written by --force alone
+mkdir "$work/tools"
+ln -s /usr/bin/* /bin/* "$work/tools/" 2>/dev/null || :
+rm -f "$work"/tools/python*
+bare() { env PATH="$work/tools" "$tb" table "$@"; }
+call bare check K "$work/three.txt"; one 'no python3: a check' 3 '' 'there is no python3'
+call bare plot "$work/three.txt" K -; one 'no python3: a picture' 3 '' 'there is no python3'
+call bare write K "$work/three.txt" "$work/none.load"; one 'no python3: a load file' 3 '' 'there is no python3, so the table cannot be checked; --force writes it all the same'
+[ ! -e "$work/none.load" ] || wrong 'no python3: a file is written'
+call bare write --force --csv K "$work/table.csv" "$work/bare.load"; one 'no python3: a load file, forced' 0 '' 'so the table is not checked. It is written all the same'
+cmp -s "$work/bare.load" "$work/csv.load" || wrong 'no python3: another file'
+call bare list; try 'no python3: the list' 0 '*' ''
+printf '#!/bin/sh\nexit 9\n' >"$work/tools/python3"
+chmod +x "$work/tools/python3"
+call bare check K "$work/three.txt"; one 'a python3 that does not run' 3 '' 'the script reference.py ended with status 9'
+call bare write --force K "$work/three.txt" "$work/none.load"; one 'a python3 that does not run: a load file, forced' 3 '' 'the script reference.py ended with status 9'
 
 # the knots of the C examples: the file that they pack is a table, and reads as they print
 sed -n 's/^} knots\[\] = {{\(.*\)}};$/\1/p' "$root/example/probe.h" | sed -e 's/}, {/\n/g' -e 's/, / /g' >"$work/probe.txt"
@@ -730,12 +997,13 @@ call "$tb" recording --promised - - <"$work/recording.txt"; one 'recording and i
 call "$tb" recording --promised - --before - "$work/recording.txt"; one 'two images from standard input' 2 '' 'can be standard input'
 
 # output that cannot be written: every word ends with 4 and one line, or by the signal where its reader has gone
-python3 -c "for i in range(2000): print(4 * i, i)" >"$work/2000.txt"
+python3 -c "for i in range(2000): print(4 * i, round(4 * i / 4.07))" >"$work/2000.txt"
 "$tb" table write K <"$work/2000.txt" >"$work/2000.load"
 head -n 3000 "$work/most.txt" >"$work/3000.txt"
 all=("--help" "replay --help" "script --help" "read --help" "table --help" "verify --help" "wear --help" "wear page.txt" "wear --words page.txt"
     "replay page.txt" "replay --words page.txt" "replay --engine table page.txt" "replay --engine table --words page.txt" "replay --record record.txt" "script script.txt" "script --words script.txt" "read three.load K 6138" "read three.load K 8139"
-    "table write K" "table print three.load K" "verify image 3 1 three.load K" "verify image 3 2 three.load K"
+    "table write K" "table write K three.txt" "table write --csv K table.csv" "table print three.load K" "table list" "table check K three.txt" "table check S three.txt"
+    "table plot three.txt K -" "verify image 3 1 three.load K" "verify image 3 2 three.load K"
     "store --help" "store card 3 list" "store card 3 find K" "store card 3 read K 6138"
     "recording --help" "recording --promised promised.bin recording.txt" "recording --promised blank.bin recording.txt")
 cd "$work"
@@ -793,7 +1061,7 @@ else
     every on_gone
 fi
 # a disk that fills up on the way, and a limit of file sizes: the longer outputs are cut, with a word
-long=("replay most.txt" "replay --record most.txt" "replay --words most.txt" "replay --engine table most.txt" "replay --engine table --words most.txt" "script 3000.txt" "script --words 3000.txt" "table write K" "table print 2000.load K")
+long=("replay most.txt" "replay --record most.txt" "replay --words most.txt" "replay --engine table most.txt" "replay --engine table --words most.txt" "script 3000.txt" "script --words 3000.txt" "table write K" "table print 2000.load K" "table plot three.txt K -")
 on_limit() {
     (ulimit -f 1 && exec "$tb" "$@" >"$work/limited" 2>"$work/err") || status=$?
     cut_off 'a limit of file sizes' "$@"
@@ -814,7 +1082,7 @@ on_none() {
 }
 : >"$work/status"
 every on_none
-[ "$(cat "$work/status")" = 111 ] || wrong "no temporary files: statuses $(cat "$work/status")"
+[ "$(cat "$work/status")" = 1111 ] || wrong "no temporary files: statuses $(cat "$work/status")"
 mkdir "$work/small"
 if mount -t tmpfs -o size=4k tmpfs "$work/small" 2>/dev/null; then
     every on_small "${long[@]}"

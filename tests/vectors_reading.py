@@ -20,8 +20,8 @@ the room counts.
     R   told: the reading of x by the payload, judged or not: T, B or A and the bits of its temperature in tenths, in hex; or ! and 40 or 41
     F   told: the same straight from the file under the letter y, or ! and the refusal; then D and a digest of the room
 
-The tables are those of types K and S, from the reference functions of ITS-90 (NIST Monograph 175): knots at whole degrees,
-microvolts rounded to whole ones. Temperatures are worked out in Python's floats, which are IEEE 754 doubles, each operation rounded once.
+The tables are those of types K and S, from the reference functions of commands/lib/reference.py: knots at whole degrees, microvolts
+rounded to whole ones. Temperatures are worked out in Python's floats, which are IEEE 754 doubles, each operation rounded once.
 """
 import math
 import pathlib
@@ -31,43 +31,21 @@ import sys
 from vectors_file import check as check_of, digest, judge, write
 from vectors_model import files_differ
 
+sys.path.insert(0, str(pathlib.Path(__file__).resolve().parent.parent / "commands" / "lib"))
+sys.dont_write_bytecode = True
+from reference import microvolts  # noqa: E402
+
 ROOM = 4040
 
-# millivolts at t degrees, by powers of t
-K_BELOW = [0.0, 0.394501280250e-01, 0.236223735980e-04, -0.328589067840e-06, -0.499048287770e-08, -0.675090591730e-10,
-           -0.574103274280e-12, -0.310888728940e-14, -0.104516093650e-16, -0.198892668780e-19, -0.163226974860e-22]
-K_ABOVE = [-0.176004136860e-01, 0.389212049750e-01, 0.185587700320e-04, -0.994575928740e-07, 0.318409457190e-09,
-           -0.560728448890e-12, 0.560750590590e-15, -0.320207200030e-18, 0.971511471520e-22, -0.121047212750e-25]
-K_BUMP = (0.118597600000e+00, -0.118343200000e-03, 0.126968600000e+03)
-S_LOW = [0.0, 0.540313308631e-02, 0.125934289740e-04, -0.232477968689e-07, 0.322028823036e-10, -0.331465196389e-13,
-         0.255744251786e-16, -0.125068871393e-19, 0.271443176145e-23]
-S_MIDDLE = [0.132900444085e+01, 0.334509311344e-02, 0.654805192818e-05, -0.164856259209e-08, 0.129989605174e-13]
-S_HIGH = [0.146628232636e+03, -0.258430516752e+00, 0.163693574641e-03, -0.330439046987e-07, -0.943223690612e-14]
 
-
-def powers(coefficients, t):
-    return math.fsum(c * t ** i for i, c in enumerate(coefficients))
-
-
-def type_k(t):
-    if t < 0:
-        return powers(K_BELOW, t)
-    a, b, c = K_BUMP
-    return powers(K_ABOVE, t) + a * math.exp(b * (t - c) ** 2)
-
-
-def type_s(t):
-    return powers(S_LOW if t < 1064.18 else S_MIDDLE if t < 1664.5 else S_HIGH, t)
-
-
-def knots(function, degrees):
+def knots(letter, degrees):
     """Knots of whole microvolts and tenths of a degree."""
-    return [(round(1000 * function(t)), 10 * t) for t in degrees]
+    return [(round(microvolts(letter, t)), 10 * t) for t in degrees]
 
 
-TABLE_K = knots(type_k, list(range(-270, 1372, 4)) + [1372])
-TABLE_S = knots(type_s, range(-50, 1769, 3))
-FULL_K = knots(type_k, range(-270, 1076, 2))
+TABLE_K = knots("K", list(range(-270, 1372, 4)) + [1372])
+TABLE_S = knots("S", range(-50, 1769, 3))
+FULL_K = knots("K", range(-270, 1076, 2))
 
 
 def payload_of(table):
@@ -281,7 +259,7 @@ def all_rows():
     r.write("K")
     r.ask("K", *around(TABLE_K, 71), 4096, 41276)
     # the mishap: the file of S under the letter K; and a table of K whose letter was forged to S, read with an S probe's voltage
-    s_probe = round(1000 * type_s(1000))
+    s_probe = round(microvolts("S", 1000))
     for k in range((6 * len(TABLE_K) + 504) // 505):
         r.forge(512 * k, ord("S"))
     r.ask("K", s_probe)

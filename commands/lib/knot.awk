@@ -1,5 +1,6 @@
 # The bytes of a table in text, as numbers: says in words why it is none. -v refused: 40 or 41 where its lines are knots and the table is
-# refused, else nothing; -v number: the line at fault, where it is known.
+# refused, else nothing; -v number: the line at fault, where it is known. Lines that begin with # are comments: the number counts none of
+# them, but the words do.
 { for (i = 1; i <= NF; i++) byte[++n] = $i + 0 }
 
 function show(b) { return b == 9 ? "a tab" : b > 32 && b < 127 ? sprintf("'%c'", b) : sprintf("byte %02XH", b) }
@@ -49,8 +50,8 @@ function crooked(from, to, name,    i) {
 
 # what is wrong with the line
 function fault(    i, spaces, at, why) {
-    if (number == 1 && byte[1] == 239 && byte[2] == 187 && byte[3] == 191) return "the text begins with a byte-order mark; save it as plain text without one"
-    if (number == 1 && ((byte[1] == 255 && byte[2] == 254) || (byte[1] == 254 && byte[2] == 255))) return "the text is in two-byte letters (UTF-16); save it as plain text"
+    if (first == 1 && byte[1] == 239 && byte[2] == 187 && byte[3] == 191) return "the text begins with a byte-order mark; save it as plain text without one"
+    if (first == 1 && ((byte[1] == 255 && byte[2] == 254) || (byte[1] == 254 && byte[2] == 255))) return "the text is in two-byte letters (UTF-16); save it as plain text"
     for (i = first; i <= last; i++) if (byte[i] == 13) return "it has a carriage return; save the text with Unix line ends"
     for (i = first; i <= last && (byte[i] == 32 || byte[i] == 9); i++) ;
     if (i > last) return "it is blank"
@@ -83,28 +84,31 @@ function volts() {
 function wide(x) { return x + 0 < -10000 || x + 0 > 80000 }
 
 END {
-    # the line, and the microvolts of the one before it; where no line is named it is the first whose microvolts are refused
+    # the line, and the one before it with its microvolts; where no line is named it is the first whose microvolts are refused
     place = 1
     for (at = 1; place <= n; at++) {
         line_at(place)
-        if (number != "" && at == number + 0) break
+        place = last + 2
+        if (byte[first] == 35 && first <= last) continue
+        count++
+        if (number != "" && count == number + 0) break
         if (refused == 41) {
             now = volts()
-            if (number == "" && (wide(now) || (at > 1 && now + 0 <= before + 0))) { number = at; break }
+            if (number == "" && (wide(now) || (count > 1 && now + 0 <= before + 0))) break
             before = now
         }
-        place = last + 2
+        prior = at
     }
     if (refused == 40) {
-        print "refused 40: a table has two knots at least, and the text has " (at == 1 ? "none" : "one, in line 1")
+        print "refused 40: a table has two knots at least, and the text has " (count ? "one, in line " prior : "none")
         exit
     }
     if (refused == 41) {
         now = volts()
-        print "line " number ": refused 41: its microvolts, " now ", are " (wide(now) ? "not from -10000 to 80000" : "not above those of line " (number - 1) ", " before)
+        print "line " at ": refused 41: its microvolts, " now ", are " (wide(now) ? "not from -10000 to 80000" : "not above those of line " prior ", " before)
         exit
     }
     why = fault()
-    if (number > 18853 && why ~ /^look/) print "line " number " is a knot too many: a table has at most 18,853"
-    else print "line " number " is no knot: " why
+    if (count > 18853 && why ~ /^look/) print "line " at " is a knot too many: a table has at most 18,853"
+    else print "line " at " is no knot: " why
 }
