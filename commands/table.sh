@@ -21,7 +21,8 @@ files; '-' is standard input and standard output, and so is one that is left out
   --force    the table is written though the check finds it wrong, or cannot be made; standard error says so
 
 'check' holds a table against the reference function of its letter (IEC 60584-1) at every whole microvolt. It may be as far off as the
-standard allows a probe of class 2 to be. 'write' checks before it writes. Both, and 'plot', need python3. FILE may be the dump
+standard allows a probe of class 2 to be. Functions and limits were written without a copy of the standard: compare the tables with
+one before a card is sold. 'write' checks before it writes. Both, and 'plot', need python3. FILE may be the dump
 of a flash block that holds a file: the FFH behind the file is cut off, and standard error says so.
 
 Exit status: 0 done, 1 refused, a wrong line or not the letter's table (standard error says which), 2 a wrong call, 3 a program could

@@ -3,7 +3,7 @@
 commands/lib/reference.py.
 
     python3 tests/tables.py make     writes them
-    python3 tests/tables.py check    whether they are what the script makes; whether the reference functions hold the published values,
+    python3 tests/tables.py check    whether they are what the script makes; whether the reference functions give the remembered values,
                                      join piece to piece, and each table is as far off as it says
     python3 tests/tables.py slips    tries every slip of one digit in a coefficient: how many the check would miss, and how many
                                      microvolts the worst of those would do
@@ -21,8 +21,9 @@ from picture import INK, BLUE, RED, GREY, Panel, label, legend, sheet, table_pic
 from reference import (  # noqa: E402
     DOWNWARD, K_BUMP, LETTERS, PIECES, all_degrees, by_piece, degrees, ends, looks_like, microvolts, off, readings, span, verdict)
 
-# Published values, IEC 60584-1 and NIST Monograph 175: degrees and millivolts to the microvolt
-PUBLISHED = {
+# Values of the types, degrees and millivolts to the microvolt, as remembered of the tables of IEC 60584-1 and NIST Monograph 175. No copy of
+# either was at hand, for these or for the coefficients: docs/DECISIONS.md, 'The figures of the types have no source at hand'
+REMEMBERED = {
     "B": """0 0.000  20 -0.003  50 0.002  100 0.033  150 0.092  200 0.178  250 0.291  300 0.431  400 0.787  500 1.242  600 1.792  700 2.431
         800 3.154  900 3.957  1000 4.834  1100 5.780  1200 6.786  1300 7.848  1400 8.956  1500 10.099  1600 11.263  1700 12.433  1800 13.591
         1820 13.820""",
@@ -43,7 +44,7 @@ PUBLISHED = {
     "T": """-270 -6.258  -250 -6.180  -200 -5.603  -150 -4.648  -100 -3.379  -50 -1.819  0 0.000  25 0.992  50 2.036  100 4.279  150 6.704
         200 9.288  250 12.013  300 14.862  350 17.819  400 20.872""",
 }
-# The slope of type N is another on either side of 0 in the published functions, by so many microvolts for a degree
+# The slope of type N is another on either side of 0 in the functions as remembered, by so many microvolts for a degree
 SLOPE_JUMP = {("N", 0.0): -0.2297}
 
 METALS = {
@@ -52,7 +53,7 @@ METALS = {
     "N": "nickel-chromium-silicon against nickel-silicon", "R": "platinum with 13 % rhodium against platinum",
     "S": "platinum with 10 % rhodium against platinum", "T": "copper against copper-nickel",
 }
-# Below 250 degrees a microvolt is more than 0.4 degrees of type B, and its published inverse begins there
+# Below 250 degrees a microvolt is more than 0.4 degrees of type B, so the table begins there
 FIRST = {"B": 250.0}
 # in degrees; with it every table goes into one block of a load file, 84 knots
 BUDGET = 0.04
@@ -64,8 +65,8 @@ WORST = 0.05
 MISHAP = [(100, "16.2"), (400, "79.8"), (800, "180.1"), (1000, "236.0"), (1200, "293.8"), (1600, "409.0")]
 
 
-def published(letter):
-    words = PUBLISHED[letter].split()
+def remembered(letter):
+    words = REMEMBERED[letter].split()
     return [(float(t), round(1000 * float(v))) for t, v in zip(words[::2], words[1::2])]
 
 
@@ -104,7 +105,8 @@ class Table:
         (x0, t0), (x1, t1) = self.knots[0], self.knots[-1]
         head = [
             f"type {self.letter}: {METALS[self.letter]}",
-            "source: the reference function of IEC 60584-1 and ITS-90 (NIST Monograph 175), inverted by tests/tables.py",
+            "source: the reference function of IEC 60584-1 and ITS-90 (NIST Monograph 175), as remembered, inverted by tests/tables.py",
+            "not compared with a copy of the standard: compare it before a card is sold with it",
             f"range: {t0 / 10:.1f} to {t1 / 10:.1f} degrees, {x0} to {x1} microvolts",
             f"worst error at a whole microvolt: {off(self.worst):.3f} degrees, at {self.worst[0]} microvolts",
             f"knots: {len(self.knots)}; each line has microvolts and tenths of a degree",
@@ -144,21 +146,21 @@ def made():
 
 
 def reference_faults(letter):
-    """What is wrong with a reference function: published values to the microvolt; value and slope at each join."""
-    for t, x in published(letter):
+    """What is wrong with a reference function: remembered values to the microvolt; value and slope at each join."""
+    for t, x in remembered(letter):
         if abs(microvolts(letter, t) - x) > 0.5001:
-            yield f"type {letter} at {t} degrees: {microvolts(letter, t):.2f} microvolts, {x} are published"
+            yield f"type {letter} at {t} degrees: {microvolts(letter, t):.2f} microvolts, {x} are remembered"
     for i, (_, t, _) in enumerate(PIECES[letter][:-1]):
         (v0, s0), (v1, s1) = by_piece(letter, i, t), by_piece(letter, i + 1, t)
         if abs(v1 - v0) > 1e-4 or abs(s1 - s0 - SLOPE_JUMP.get((letter, t), 0.0)) > 2e-5:
             yield f"type {letter}: the pieces do not join at {t} degrees"
     low, high = ends(letter)
-    if published(letter)[0][0] != low or published(letter)[-1][0] < high - 1:
-        yield f"type {letter}: no published value at an end"
+    if remembered(letter)[0][0] != low or remembered(letter)[-1][0] < high - 1:
+        yield f"type {letter}: no remembered value at an end"
 
 
 def table_faults(table):
-    """What is wrong with a table: its size, its error, readings at published values, and whether another type's limits hold it."""
+    """What is wrong with a table: its size, its error, readings at remembered values, and whether another type's limits hold it."""
     letter, ours = table.letter, table.knots
     if len(ours) > BLOCK_KNOTS:
         yield f"type {letter}: {len(ours)} knots, more than a block holds"
@@ -170,12 +172,12 @@ def table_faults(table):
     fits, words = verdict(letter, ours, table.errors)
     if not fits:
         yield words
-    for t, x in published(letter):
+    for t, x in remembered(letter):
         if ours[0][0] <= x <= ours[-1][0]:
-            # published microvolts are rounded: the temperature may be that of half a microvolt less or more
+            # remembered microvolts are rounded: the temperature may be that of half a microvolt less or more
             given = next(readings(ours, [x]))
             if not degrees(letter, x - 0.5001) - WORST <= given <= degrees(letter, x + 0.5001) + WORST:
-                yield f"type {letter} at {x} microvolts: {given:.2f} degrees, {t} are published"
+                yield f"type {letter} at {x} microvolts: {given:.2f} degrees, {t} are remembered"
             if not degrees(letter, x - 0.5001) - 1e-6 <= t <= degrees(letter, x + 0.5001) + 1e-6:
                 yield f"type {letter} at {x} microvolts: the inverse is not {t} degrees"
     for other in LETTERS:
@@ -213,8 +215,8 @@ def check():
     wrong += [f"tables/{name} is none of the script's" for name in sorted(strangers)]
     if wrong:
         sys.exit("\n".join(f"tests/tables.py: {line}" for line in wrong))
-    values = sum(len(published(letter)) for letter in LETTERS)
-    print(f"tables: eight tables and two pictures are what the script makes; {values} published values hold")
+    values = sum(len(remembered(letter)) for letter in LETTERS)
+    print(f"tables: eight tables and two pictures are what the script makes; {values} remembered values hold, not compared with a copy of the standard")
 
 
 def slipped(number):

@@ -8,7 +8,8 @@ the table is not that letter's, or with 5 where the text is no table; the line i
 Standard library alone, and no file is written. picture.py draws the same.
 
 The functions are those of IEC 60584-1, which are those of ITS-90 (NIST Monograph 175): millivolts at t degrees Celsius, reference
-junction at 0. tests/tables.py holds them against published values and makes the tables that ship.
+junction at 0. Coefficients and limits are as remembered: no copy of either was at hand, so compare them with one before relying on them.
+tests/tables.py holds them against remembered values and makes the tables that ship.
 """
 import math
 import re
@@ -150,7 +151,7 @@ def degrees(letter, x):
 
 
 def span(letter):
-    """First and last whole microvolt that a temperature is told for: those of the ends, rounded as published tables do."""
+    """First and last whole microvolt that a temperature is told for: those of the ends, rounded."""
     first = microvolts(letter, told_from(letter))
     return math.ceil(first) if letter == "B" else round(first), round(microvolts(letter, ends(letter)[1]))
 
