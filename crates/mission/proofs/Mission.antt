@@ -82,7 +82,7 @@ pub record Demand2 : Type 0 where
   -- also when supply or reset cuts an operation: for any weight, what ended, was cut or is pending is what began or was pending
   pub cuts : (f : Effect → ℕ) → f Nothing ≡ 0 → (d : Device) (s : State) (c : Cycle) (n r : ℕ) → let x = decideOf d s c n r in
       f (operationOf (x .effect)) + f (pendingOf (d .part) (x .state)) ≡ f (begunBy d s c n r) + f (pendingOf (d .part) s)
-  -- as the data sheet says: the twelve bench cards, a cut among them
+  -- worked examples of the page, a cut among them: the twelve bench cards. That the rules are the data sheet's is for people to read
   pub bench : cards.specs.Table.Cards
   -- a load file is, given room, read exactly when our writer could have written it for the letter asked, and comes back as written
   pub load-file : (f : List ℕ) (ℓ : ℕ) (out p : List ℕ) → Bytes f → ReadsInto f ℓ out p ↔ ((length p ≤ length out) × WritesGivenRoom ℓ p f)
