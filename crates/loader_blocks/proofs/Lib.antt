@@ -1,0 +1,4 @@
+pub mod Laws
+pub mod Bytewise
+pub mod Lent
+pub mod Unique
