@@ -1,12 +1,12 @@
 -- Lent bytes that are alike, and what is promised of them; where they are not, nothing is done. Assumes nothing.
-use mathlib.Core.Path.{_≡_, sym, ap, _∙_}
+use mathlib.Core.Path.{_≡_, refl, sym, ap, _∙_}
 use mathlib.Core.Bool.{Bool, true, false, not, _&&_}
 use mathlib.Core.List.{List}
 use Prim.Native.Nat.{ℕ, _≤_}
 use native.Mathlib.Omega.{arith}
 use lib.ListN.{length}
 use lib.Dec.{eqb, ltb, leb}
-use borrow.Author.Tests.{eqb-true, leb-true}
+use borrow.Author.Tests.{eqb-true, leb-true, eq-eqb, le-leb}
 use Rattle.common.proofs.Choice.{if-true, if-false, and-left, and-right}
 use Rattle.common.specs.Lists.{overwritten}
 use Rattle.units.specs.Units.{units, spare, unitsIn, torn}
@@ -15,6 +15,11 @@ use Rattle.loader.specs.Walks.{risesIn, diffFrom}
 use Rattle.loader_blocks.specs.declared.Done.{Done}
 use Rattle.loader_blocks.specs.declared.Found.{Found}
 use Rattle.loader_blocks.specs.Blocks.{alike, workDone, readTo, blockDone, blockLeft, roomLeft, blockFound, blockRead, blockMet, blockSeen}
+
+-- and back
+pub alike-if : (word : Bool) (h w s : ℕ) → h ≡ w → s ≡ w → w ≤ 16777216 → torn word w ≡ false → alike word h w s ≡ true
+unfolding alike
+alike-if word h w s p q l t = rw (eq-eqb h w p, eq-eqb s w q, le-leb w 16777216 l, t) refl
 
 untrue : (b : Bool) → not b ≡ true → b ≡ false
 untrue true e = sym e
@@ -63,33 +68,37 @@ module _ (word : Bool) (h w s : List ℕ) where
     whole = untrue (torn word (length w)) (and-right ((eqb (length h) (length w) && eqb (length s) (length w)) && leb (length w) 16777216) (not (torn word (length w))) e)
 
     -- what is promised then
-    pub done-so : (once each : ℕ) (r : Done) → r ≡ workDone word once each (units word w) (units word h) → r ≡ blockDone word once each h w s
+    pub done-is : (once each : ℕ) → blockDone word once each h w s ≡ workDone word once each (units word w) (units word h)
     unfolding blockDone
-    done-so once each r q = q ∙ sym (if-true b _ _ e)
+    done-is once each = if-true b _ _ e
 
-    pub left-so : (x : List ℕ) → x ≡ units word w → x ≡ blockLeft word h w s
+    pub left-is : blockLeft word h w s ≡ units word w
     unfolding blockLeft
-    left-so x q = q ∙ sym (if-true b (units word w) (units word h) e)
+    left-is = if-true b (units word w) (units word h) e
 
-    pub room-so : (x : List ℕ) → x ≡ units word w → x ≡ roomLeft word h w s
+    pub room-is : roomLeft word h w s ≡ units word w
     unfolding roomLeft
-    room-so x q = q ∙ sym (if-true b (units word w) (units word s) e)
+    room-is = if-true b (units word w) (units word s) e
 
-    pub found-so : (r : Found) → r .differs ≡ ltb (diffFrom 0 (units word w) (units word h)) (length (units word w)) → r .rises ≡ risesIn (units word w) (units word h) → r ≡ blockFound word h w s
+    pub found-is : blockFound word h w s ≡ record { differs = ltb (diffFrom 0 (units word w) (units word h)) (length (units word w)); rises = risesIn (units word w) (units word h) }
     unfolding blockFound
-    found-so r p q = (λ i. record { differs = p i; rises = q i }) ∙ sym (if-true b _ _ e)
+    found-is = if-true b _ _ e
 
-    pub read-so : (x : List ℕ) → x ≡ h → x ≡ blockRead word h w s
+    pub read-is : blockRead word h w s ≡ h
     unfolding blockRead
-    read-so x q = q ∙ sym (if-true b h s e)
+    read-is = if-true b h s e
 
-    pub met-so : (n : ℕ) → n ≡ diffFrom 0 (units word w) (units word h) → n ≡ blockMet word h w s
+    pub met-is : blockMet word h w s ≡ diffFrom 0 (units word w) (units word h)
     unfolding blockMet
-    met-so n q = q ∙ sym (if-true b (diffFrom 0 (units word w) (units word h)) 0 e)
+    met-is = if-true b (diffFrom 0 (units word w) (units word h)) 0 e
 
-    pub seen-so : (x : List ℕ) → x ≡ overwritten (readTo (units word w) (units word h)) (units word h) (units word s) → x ≡ blockSeen word h w s
+    pub seen-is : blockSeen word h w s ≡ overwritten (readTo (units word w) (units word h)) (units word h) (units word s)
     unfolding blockSeen
-    seen-so x q = q ∙ sym (if-true b (overwritten (readTo (units word w) (units word h)) (units word h) (units word s)) (units word s) e)
+    seen-is = if-true b (overwritten (readTo (units word w) (units word h)) (units word h) (units word s)) (units word s) e
+
+    -- .. for code
+    pub found-so : (r : Found) → r .differs ≡ ltb (diffFrom 0 (units word w) (units word h)) (length (units word w)) → r .rises ≡ risesIn (units word w) (units word h) → r ≡ blockFound word h w s
+    found-so r p q = (λ i. record { differs = p i; rises = q i }) ∙ sym found-is
 
   -- and where they are not alike
   module _ (e : alike word (length h) (length w) (length s) ≡ false) where

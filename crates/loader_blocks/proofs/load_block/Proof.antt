@@ -9,7 +9,7 @@ use borrow.Author.Needs.{needs}
 use Rattle.common.proofs.Lists.{copied-whole}
 use Rattle.units.specs.Units.{units, torn}
 use Rattle.loader_blocks.specs.Blocks.{alike, workDone}
-use Rattle.loader_blocks.proofs.Lent.{spare-same, held-long, room-long, few, whole, done-so, left-so, room-so, none-done, none-left, none-room}
+use Rattle.loader_blocks.proofs.Lent.{spare-same, held-long, room-long, few, whole, done-is, left-is, room-is, none-done, none-left, none-room}
 use Rattle.loader_blocks.proofs.load_block.Statement.{statement}
 use Rattle.loader_blocks.proofs.load_block.Tie as tie
 
@@ -48,12 +48,12 @@ returns c =
     let z : c .before .before .before .before .before .before .before .before .before .copy .last .0 ≡ h = c .before .before .before .before .before .before .before .before .before .copy .ensures ∙ copied-whole s h (room-long b h w s e ∙ sym (held-long b h w s e)) in
     let th : torn b (length h) ≡ false = ap (λ (n : ℕ). torn b n) (held-long b h w s e) ∙ whole b h w s e in
     let ts : torn b (length s) ≡ false = ap (λ (n : ℕ). torn b n) (room-long b h w s e) ∙ whole b h w s e in (
-      done-so b h w s e (a .once) (a .each) (f .result) (f .ensures .0 ∙ ap (λ (x : List ℕ). workDone b (a .once) (a .each) (units b w) (units b x)) z),
+      f .ensures .0 ∙ ap (λ (x : List ℕ). workDone b (a .once) (a .each) (units b w) (units b x)) z ∙ sym (done-is b h w s e (a .once) (a .each)),
       (
-        left-so b h w s e _ (f .ensures .1 .0),
+        f .ensures .1 .0 ∙ sym (left-is b h w s e),
         (
           spare-same b (f .last .1 .1 .1 .0) h (f .kept .1 .1 .1 .0) th,
-          (room-so b h w s e _ (f .ensures .1 .1), spare-same b (f .last .1 .1 .1 .1 .1 .0) s (f .kept .1 .1 .1 .1 .1 .0 ∙ c .before .before .before .before .before .before .before .before .before .copy .kept .0) ts),
+          (f .ensures .1 .1 ∙ sym (room-is b h w s e), spare-same b (f .last .1 .1 .1 .1 .1 .0) s (f .kept .1 .1 .1 .1 .1 .0 ∙ c .before .before .before .before .before .before .before .before .before .copy .kept .0) ts),
         ),
       ),
     )

@@ -12,7 +12,7 @@ use Rattle.units.proofs.Widths.{units-length}
 use Rattle.loader.specs.Walks.{risesIn, diffFrom}
 use Rattle.loader_blocks.specs.Blocks.{alike}
 use Rattle.loader_blocks.proofs.Bytewise.{rises-units}
-use Rattle.loader_blocks.proofs.Lent.{units-same, held-long, room-long, whole, found-so, read-so, none-found, none-read}
+use Rattle.loader_blocks.proofs.Lent.{units-same, held-long, room-long, whole, found-so, read-is, none-found, none-read}
 use Rattle.loader_blocks.proofs.look_at_block.Statement.{statement}
 use Rattle.loader_blocks.proofs.look_at_block.Tie as tie
 
@@ -59,7 +59,7 @@ returns c =
     let n : c .before .before .units-in .result ≡ length (units b w) = c .before .before .units-in .ensures ∙ sym (units-length b w) in
     let r : c .rises .result ≡ risesIn (units b w) (units b h) =
     c .rises .ensures ∙ ap (λ (x : List ℕ). risesIn w x) z ∙ sym (rises-units b w h (held-long b h w s e) (whole b h w s e) (λ i. c .before .before .before .before .before .before .before .before .before .before .before .before .before .before .shared-slice-known2 .given i .fits) (λ i. c .before .before .before .before .before .before .before .before .before .before .before .before .before .before .before .shared-slice-known .given i .fits)) in
-    (found-so b h w s e _ (λ i. ltb (v .ensures .0 i) (n i)) r, read-so b h w s e (c .before .before .before .before .before .copy .last .0) z)
+    (found-so b h w s e _ (λ i. ltb (v .ensures .0 i) (n i)) r, z ∙ sym (read-is b h w s e))
 
 returns-2 : tie.Need-returns-2
 returns-2 c =

@@ -6,7 +6,7 @@ use lib.ListN.{length}
 use borrow.Author.Needs.{needs}
 use Rattle.units.specs.Units.{torn}
 use Rattle.loader_blocks.specs.Blocks.{alike}
-use Rattle.loader_blocks.proofs.Lent.{units-same, spare-same, held-long, room-long, whole, met-so, seen-so, none-met, none-seen}
+use Rattle.loader_blocks.proofs.Lent.{units-same, spare-same, held-long, room-long, whole, met-is, seen-is, none-met, none-seen}
 use Rattle.loader_blocks.proofs.verify_block.Statement.{statement}
 use Rattle.loader_blocks.proofs.verify_block.Tie as tie
 
@@ -34,7 +34,7 @@ returns c =
     let f = c .before .before .verify-all in
     let e : alike (a .word) (length h) (length w) (length s) ≡ true = sym (c .before .before .before .before .before .are-alike .ensures) ∙ c .before .before .before .before .if1 .taken in
     let t : torn (a .word) (length s) ≡ false = ap (λ (n : ℕ). torn (a .word) n) (room-long (a .word) h w s e) ∙ whole (a .word) h w s e in
-    (met-so (a .word) h w s e (f .result) (f .ensures .0), (seen-so (a .word) h w s e _ (f .ensures .1), spare-same (a .word) (f .last .1 .1 .1 .0) s (f .kept .1 .1 .1 .0) t))
+    (f .ensures .0 ∙ sym (met-is (a .word) h w s e), (f .ensures .1 ∙ sym (seen-is (a .word) h w s e), spare-same (a .word) (f .last .1 .1 .1 .0) s (f .kept .1 .1 .1 .0) t))
 
 returns-2 : tie.Need-returns-2
 returns-2 c =
