@@ -1,14 +1,14 @@
 -- What the stages of a load do to a block and to scratch, and what they cost in cycles. Lists are of units but where bytes are said.
 -- Assumes nothing.
 use mathlib.Core.Path.{_≡_}
-use mathlib.Core.Bool.{Bool, true, false, not, _&&_}
+use mathlib.Core.Bool.{Bool, false, not, _&&_}
 use mathlib.Core.List.{List}
 use Prim.Native.Nat.{ℕ, zero, suc, _+_, _≤_, _<_}
 use lib.ListN.{length, getD, set, replicate}
 use lib.Dec.{eqb, ltb, leb}
 use lib.Bits.{bitAnd}
 use Rattle.common.specs.Choice.{if_then_else_}
-use Rattle.common.specs.Lists.{overwritten, Bytes}
+use Rattle.common.specs.Lists.{overwritten}
 use Rattle.units.specs.Units.{units, torn, top}
 use Rattle.loader.specs.Walks.{risesIn, diffFrom}
 use Rattle.loader_blocks.specs.declared.Done.{Done}

@@ -7,7 +7,7 @@ ghost use Prim.Native.Nat.{_<_, _≤_};
 ghost use lib.ListN.{length};
 ghost use lib.Bits.{bitAnd, bitXor};
 ghost use Rattle.common.specs.Lists.{overwritten};
-ghost use Rattle.units.specs.Units.{units, spare, pairs, unpaired, torn};
+ghost use Rattle.units.specs.Units.{units, spare, pairs, torn};
 ghost use Rattle.loader.specs.Walks.{risesIn, diffFrom};
 ghost use Rattle.loader_blocks.specs.Blocks.{alike, costAt, bitsKept, unitKept, costs, Programmable, Workable, workDone, readTo, blockDone, blockLeft, roomLeft, blockFound, blockRead, blockMet, blockSeen};
 

@@ -1,6 +1,6 @@
 -- `loader_blocks::work` meets its contract. Assumes nothing.
 use mathlib.Core.Path.{_≡_, sym, ap, _∙_}
-use mathlib.Core.Bool.{Bool, true, false}
+use mathlib.Core.Bool.{true, false}
 use mathlib.Core.List.{List}
 use Prim.Native.Nat.{ℕ, _+_, _*_, _≤_}
 use native.Mathlib.Omega.{arith}
@@ -47,7 +47,7 @@ add-t21 c =
     let W : List ℕ = units (a .word) (a .wanted .now) in
     let S : List ℕ = units (a .word) (c .before .before .before .before .before .before .before .before .before .fill-units2 .last .1 .0) in
     let m : costs (length W) (a .each) 0 W S ≤ length W * 4294967295 = costs-most (length W) (a .each) 0 W S (p .2) in
-    record { fits = omega (arith, m, f .ensures .0, units-few (a .word) (a .wanted .now), p .0 .short, p .1) }
+    record { fits = omega (arith, m, f .ensures .0, units-few (a .word) (a .wanted .now), p .0 .short, p .1, p .2) }
 
 same-length : tie.Need-same-length
 same-length c = search needs

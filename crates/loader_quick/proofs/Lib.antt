@@ -1,0 +1,5 @@
+pub mod Places
+pub mod Loading
+pub mod Comparing
+pub mod Runs
+pub mod Unique
