@@ -118,7 +118,7 @@ pub fn load(
         asked,
     );
     if n == 0 {
-        return loader_run::run(d, s, p, block, array, wanted, scratch);
+        return loader_quick::run_quick(d, s, p, block, array, wanted, scratch);
     }
     Ran {
         count: 0,
@@ -157,7 +157,7 @@ pub fn verify_from_file(
         asked,
     );
     if n == 0 {
-        return loader_run::run_verify(d, s, p, block, array, wanted, scratch);
+        return loader_quick::run_verify_quick(d, s, p, block, array, wanted, scratch);
     }
     Ran {
         count: 0,

@@ -9,8 +9,8 @@ use Rattle.loader_from_file.proofs.verify_from_file.Tie as tie
 prepared-requires : tie.Need-prepared-requires
 prepared-requires c κs = search needs
 
-run-verify-requires : tie.Need-run-verify-requires
-run-verify-requires c κs = search needs
+run-verify-quick-requires : tie.Need-run-verify-quick-requires
+run-verify-quick-requires c κs = search needs
 
 same-length : tie.Need-same-length
 same-length c = search needs
@@ -25,7 +25,7 @@ returns : tie.Need-returns
 returns c =
     let a = c .before .before .before .before .before .before .before .before .before .before .before .before .before .before .before .before .before .args in
     let s = c .before .before .before .before .before .before .before .before .before .before .before .prepared in
-    let r = c .before .before .before .before .run-verify .ensures in
+    let r = c .before .before .before .before .run-verify-quick .ensures in
     told-made Closing true refl (a .d) (a .s) (a .p) (a .block) (a .array .now) (a .wanted .now) (a .scratch .now) (a .file .now) (a .asked) (sym (s .ensures .0) ∙ c .before .before .before .before .before .before .before .before .if1 .taken) _ (s .ensures .1) _ _ _ (r .0)
     (r .1 .0) (r .1 .1)
 
@@ -43,7 +43,7 @@ verify-from-file-spec =
     tie.close
     (tie.spec
     prepared-requires
-    run-verify-requires
+    run-verify-quick-requires
     same-length
     same-length-2
     same-length-3
