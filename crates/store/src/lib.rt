@@ -158,7 +158,7 @@ fn change(
     ensures { λ _. ⌜ now (scratch .exit) ≡ changeLeft number (now (memory .entry)) d s p (now (array .entry)) (now (memory .entry)) (now (scratch .entry)) .scratch ⌝ }
 {
     if number == 0 {
-        return loader_run::run(d, s, p, 3, array, memory, scratch);
+        return loader_quick::run_quick(d, s, p, 3, array, memory, scratch);
     }
     Ran {
         count: 0,

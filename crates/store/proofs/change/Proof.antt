@@ -6,8 +6,8 @@ use Rattle.store.proofs.Leaving.{made, refused}
 use Rattle.store.proofs.change.Statement.{statement}
 use Rattle.store.proofs.change.Tie as tie
 
-run-requires : tie.Need-run-requires
-run-requires c κs = search needs
+run-quick-requires : tie.Need-run-quick-requires
+run-quick-requires c κs = search needs
 
 same-length : tie.Need-same-length
 same-length c = search needs
@@ -17,7 +17,7 @@ same-length-2 c = search needs
 
 returns : tie.Need-returns
 returns c = let a = c .before .before .before .before .before .before .before .before .before .before .before .args in
-    let e = c .before .before .before .before .run .ensures in
+    let e = c .before .before .before .before .run-quick .ensures in
     let q = sym (made (a .number) (a .memory .now) (a .d) (a .s) (a .p) (a .array .now) (a .memory .now) (a .scratch .now) (c .before .before .before .before .before .before .before .if1 .taken)) in
     (e .0 ∙ ap (λ (x : ChangeLeft). x .ran) q, (e .1 .0 ∙ ap (λ (x : ChangeLeft). x .bytes) q, e .1 .1 ∙ ap (λ (x : ChangeLeft). x .scratch) q))
 
@@ -27,4 +27,4 @@ returns-2 c = let a = c .before .before .before .before .args in
     (ap (λ (x : ChangeLeft). x .ran) q, (ap (λ (x : ChangeLeft). x .bytes) q, ap (λ (x : ChangeLeft). x .scratch) q))
 
 pub change-spec : {M : Type 1} → statement M
-change-spec = tie.close (tie.spec run-requires same-length same-length-2 returns returns-2)
+change-spec = tie.close (tie.spec run-quick-requires same-length same-length-2 returns returns-2)
