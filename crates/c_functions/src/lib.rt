@@ -214,7 +214,7 @@ pub extern "C" fn tb_run(
     let d = c_cycle::states::device_in(device);
     let s = c_cycle::states::state_in(state);
     let p = c_cycle::states::pins_in(rp, wp, vpp);
-    let r = loader_run::run(d, s, p, block, array, wanted, scratch);
+    let r = loader_quick::run_quick(d, s, p, block, array, wanted, scratch);
     c_records::runs::ran_out(state, r)
 }
 
@@ -238,7 +238,7 @@ pub extern "C" fn tb_load_run(
     let d = c_cycle::states::device_in(device);
     let s = c_cycle::states::state_in(state);
     let p = c_cycle::states::pins_in(rp, wp, vpp);
-    let r = loader_run::run_load(d, s, p, block, array, wanted, scratch);
+    let r = loader_quick::run_load_quick(d, s, p, block, array, wanted, scratch);
     c_records::runs::ran_out(state, r)
 }
 
@@ -262,7 +262,7 @@ pub extern "C" fn tb_verify_run(
     let d = c_cycle::states::device_in(device);
     let s = c_cycle::states::state_in(state);
     let p = c_cycle::states::pins_in(rp, wp, vpp);
-    let r = loader_run::run_verify(d, s, p, block, array, wanted, scratch);
+    let r = loader_quick::run_verify_quick(d, s, p, block, array, wanted, scratch);
     c_records::runs::ran_out(state, r)
 }
 

@@ -19,8 +19,8 @@ state-in-requires c κs = search needs
 pins-in-requires : tie.Need-pins-in-requires
 pins-in-requires c κs = search needs
 
-run-requires : tie.Need-run-requires
-run-requires c κs = search needs
+run-quick-requires : tie.Need-run-quick-requires
+run-quick-requires c κs = search needs
 
 ran-out-requires : tie.Need-ran-out-requires
 ran-out-requires c κs = search needs
@@ -41,12 +41,12 @@ returns c =
     let d : c .before .before .before .before .before .before .before .before .before .before .device-in .result ≡ deviceIn (a .device) = c .before .before .before .before .before .before .before .before .before .before .device-in .ensures in
     let s : c .before .before .before .before .before .before .before .before .before .state-in .result ≡ stateIn (a .state) = c .before .before .before .before .before .before .before .before .before .state-in .ensures in
     let p : c .before .before .before .before .before .before .before .before .pins-in .result ≡ pinsIn (a .rp) (a .wp) (a .vpp) = c .before .before .before .before .before .before .before .before .pins-in .ensures in
-    let g : c .before .before .before .before .before .run .result ≡ lentLeftAt Clearing true (deviceIn (a .device)) (stateIn (a .state)) (pinsIn (a .rp) (a .wp) (a .vpp)) (a .block) xs w sc .ran =
-    c .before .before .before .before .before .run .ensures .0 ∙ (λ i. lentLeftAt Clearing true (d i) (s i) (p i) (a .block) xs w sc .ran) in (
+    let g : c .before .before .before .before .before .run-quick .result ≡ lentLeftAt Clearing true (deviceIn (a .device)) (stateIn (a .state)) (pinsIn (a .rp) (a .wp) (a .vpp)) (a .block) xs w sc .ran =
+    c .before .before .before .before .before .run-quick .ensures .0 ∙ (λ i. lentLeftAt Clearing true (d i) (s i) (p i) (a .block) xs w sc .ran) in (
       c .ran-out .ensures ∙ ap (λ (x : Ran). ranOut (a .state) x) g,
       (
-        c .before .before .before .before .before .run .ensures .1 .0 ∙ (λ i. lentLeftAt Clearing true (d i) (s i) (p i) (a .block) xs w sc .bytes),
-        c .before .before .before .before .before .run .ensures .1 .1 ∙ (λ i. lentLeftAt Clearing true (d i) (s i) (p i) (a .block) xs w sc .scratch),
+        c .before .before .before .before .before .run-quick .ensures .1 .0 ∙ (λ i. lentLeftAt Clearing true (d i) (s i) (p i) (a .block) xs w sc .bytes),
+        c .before .before .before .before .before .run-quick .ensures .1 .1 ∙ (λ i. lentLeftAt Clearing true (d i) (s i) (p i) (a .block) xs w sc .scratch),
       ),
     )
 
@@ -57,7 +57,7 @@ tb-run-spec =
     device-in-requires
     state-in-requires
     pins-in-requires
-    run-requires
+    run-quick-requires
     ran-out-requires
     same-length
     same-length-2
