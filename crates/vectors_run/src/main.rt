@@ -1,5 +1,6 @@
-// Runs the loads that it reads, whole against the bench model or stepped by hand, and prints a line for each. The rows and the
-// lines that they must print come from tests/vectors_run.py, which has a loader of its own and says what a row holds.
+// Runs the loads that it reads, whole against the bench model or stepped by hand, and prints a line for each. A whole run goes stage by
+// stage, and on copies cycle by cycle; a second line says where the two differ. The rows and the lines that they must print come from
+// tests/vectors_run.py, which has a loader of its own and says what a row holds.
 
 use device::Device;
 use device::Part;
@@ -301,8 +302,8 @@ fn print_turn(turn: Turn) {
     }
 }
 
-// A whole run, a load alone or a verify alone.
-fn ran_by(
+// A whole run, a load alone or a verify alone, cycle by cycle against the model.
+fn driven_by(
     op: u8,
     device: Device,
     before: State,
@@ -321,8 +322,29 @@ fn ran_by(
     loader_run::run(device, before, pins, block, array, wanted, scratch)
 }
 
-// The same on what is lent.
+// The same stage by stage.
+fn ran_by(
+    op: u8,
+    device: Device,
+    before: State,
+    pins: Pins,
+    block: u8,
+    array: &mut [u8],
+    wanted: &[u8],
+    scratch: &mut [u8],
+) -> Ran {
+    if op == b'O' {
+        return loader_quick::run_load_quick(device, before, pins, block, array, wanted, scratch);
+    }
+    if op == b'V' {
+        return loader_quick::run_verify_quick(device, before, pins, block, array, wanted, scratch);
+    }
+    loader_quick::run_quick(device, before, pins, block, array, wanted, scratch)
+}
+
+// Either on what is lent.
 fn ran(
+    cycles: bool,
     op: u8,
     setup: Setup,
     before: State,
@@ -332,15 +354,31 @@ fn ran(
 ) -> Ran {
     let device = setup.device;
     let pins = setup.pins;
+    let block = setup.block;
+    if cycles {
+        return driven_by(op, device, before, pins, block, array, wanted, scratch);
+    }
+    ran_by(op, device, before, pins, block, array, wanted, scratch)
+}
+
+// .. the fronts of three slices.
+fn ran_lent(
+    cycles: bool,
+    op: u8,
+    setup: Setup,
+    before: State,
+    array: &mut [u8],
+    wanted: &[u8],
+    scratch: &mut [u8],
+) -> Ran {
     let n = common::least(setup.array, array.len());
     let m = common::least(setup.wanted, wanted.len());
     let k = common::least(setup.scratch, scratch.len());
-    ran_by(
+    ran(
+        cycles,
         op,
-        device,
+        setup,
         before,
-        pins,
-        setup.block,
         &mut array[0..n],
         &wanted[0..m],
         &mut scratch[0..k],
@@ -353,18 +391,92 @@ fn sum_of(s: &[u8], asked: usize) -> u64 {
     vectors_text::digest(&s[0..n])
 }
 
+// What the run cycle by cycle returns, and digests of what it leaves.
+struct Other {
+    ran: Ran,
+    held: u64,
+    room: u64,
+}
+
+// The run cycle by cycle, on copies.
+fn by_cycles(
+    op: u8,
+    setup: Setup,
+    before: State,
+    array: &[u8],
+    wanted: &[u8],
+    scratch: &[u8],
+) -> Other {
+    let mut twin = vectors_states::vast();
+    let mut room = vectors_text::blank();
+    common::copy(&mut twin, array);
+    common::copy(&mut room, scratch);
+    let x = ran_lent(true, op, setup, before, &mut twin, wanted, &mut room);
+    let held = sum_of(&twin, setup.array);
+    let left = sum_of(&room, setup.scratch);
+    Other {
+        ran: x,
+        held: held,
+        room: left,
+    }
+}
+
+fn same_wear(a: Wear, b: Wear) -> bool {
+    (a.block0 == b.block0)
+        & (a.block1 == b.block1)
+        & (a.block2 == b.block2)
+        & (a.block3 == b.block3)
+        & (a.block4 == b.block4)
+        & (a.block5 == b.block5)
+        & (a.block6 == b.block6)
+}
+
+fn same_state(a: State, b: State) -> bool {
+    let m = a.mode;
+    let n = b.mode;
+    let p = a.phase;
+    let q = b.phase;
+    let v = a.wear;
+    let w = b.wear;
+    (vectors_states::mode_letter(m) == vectors_states::mode_letter(n))
+        & (vectors_states::phase_letter(p) == vectors_states::phase_letter(q))
+        & (a.status == b.status)
+        & (a.left == b.left)
+        & (a.address == b.address)
+        & same_wear(v, w)
+}
+
+fn same_ran(x: Ran, y: Ran) -> bool {
+    let s = x.state;
+    let t = y.state;
+    (x.count == y.count) & (x.end == y.end) & (x.address == y.address) & same_state(s, t)
+}
+
+// A second line where the run cycle by cycle returns or leaves something else.
+fn print_other(op: u8, x: Ran, held: u64, room: u64, had: Wear, other: Other) {
+    let y = other.ran;
+    let same = same_ran(x, y) & (held == other.held) & (room == other.room);
+    if same {
+        return;
+    }
+    print_text(b"cycle by cycle: ");
+    print_run(op, y, other.held, other.room, had)
+}
+
 // A whole run, or a part of it alone, and its line.
 fn run_line(op: u8, b: Bench, array: &mut [u8], wanted: &[u8], scratch: &mut [u8]) -> Bench {
     let setup = b.setup;
     let before = b.state;
     let had = before.wear;
     let loader = b.loader;
-    let x = ran(op, setup, before, array, wanted, scratch);
+    let other = by_cycles(op, setup, before, array, wanted, scratch);
+    let x = ran_lent(false, op, setup, before, array, wanted, scratch);
     let state = x.state;
     let held = sum_of(array, setup.array);
     let room = sum_of(scratch, setup.scratch);
     let after = after_line(b, state, loader);
     print_run(op, x, held, room, had);
+    print_other(op, x, held, room, had, other);
     after
 }
 
