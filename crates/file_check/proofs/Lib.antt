@@ -1,3 +1,4 @@
 pub mod Walks
+pub mod Sums
 pub mod Verdicts
 pub mod Unique

@@ -12,15 +12,11 @@ use lib.Dec.{eqb}
 use borrow.Author.Tests.{eq-eqb, ne-eqb}
 use Rattle.common.proofs.Choice.{if-true, if-false}
 use Rattle.file_check.specs.Check.{wsum, allAre}
+use Rattle.file_check.specs.Inner.{sumOf}
 
 -- what drop leaves at a place within the list
 pub from-here : (s : List ℕ) (i : ℕ) → i < length s → drop i s ≡ getD s i 0 ∷ drop (i + 1) s
 from-here s i h = rw (add-one i) (drop-cons s i 0 h)
-
--- the numbers of a list added up
-abbrev pub sumOf : List ℕ → ℕ
-sumOf [] = 0
-sumOf (x ∷ xs) = x + sumOf xs
 
 -- every weight one more: the plain sum more
 pub running : (k : ℕ) (xs : List ℕ) → wsum (suc k) xs ≡ wsum k xs + sumOf xs

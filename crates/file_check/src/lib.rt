@@ -1,8 +1,31 @@
 // The check that seals a block, a block that is blank, and numbers of two bytes. Each function takes any input.
 ghost use mathlib.Core.Path.{_≡_};
-ghost use Prim.Native.Nat.{_<_, _%_};
-ghost use lib.ListN.{length, getD, take};
+ghost use Prim.Native.Nat.{_+_, _*_, _/_, _%_, _<_, _≤_};
+ghost use lib.ListN.{length, getD, take, drop};
 ghost use Rattle.file_check.specs.Check.{checkOf, allAre, isBlank, checkFault, pair};
+ghost use Rattle.file_check.specs.Inner.{Small, Held, nextOf, weightIn};
+
+// The sums over bytes that stand four apart, four columns from the last byte on: what each column adds up to, and what it added up
+// to before each of its bytes, all of these added up.
+struct Columns {
+    s0: u32,
+    s1: u32,
+    s2: u32,
+    s3: u32,
+    t0: u32,
+    t1: u32,
+    t2: u32,
+    t3: u32,
+}
+
+// The high and the low half of a number as 15 and 1: 65,536 leaves 15 over 65,521.
+fn folded(x: u32) -> u32
+    ensures { λ r. ⌜ r ≡ x % 65536 + 15 * (x / 65536) ⌝ }
+{
+    let high = x >> 16;
+    let low = x % 65536;
+    low + (high << 4) - high
+}
 
 // A sum below twice 65,521, brought below 65,521 by one subtraction.
 fn lowered(x: u32) -> u32
@@ -15,6 +38,13 @@ fn lowered(x: u32) -> u32
     x
 }
 
+// What a number leaves over 65,521, without a division.
+fn left_over(x: u32) -> u16
+    ensures { λ r. ⌜ r ≡ x % 65521 ⌝ }
+{
+    lowered(folded(folded(x))) as u16
+}
+
 // A byte of the block as a number to add.
 fn byte_at(block: &[u8], place: usize) -> u32
     requires { ⌜ place < length (now block) ⌝ }
@@ -23,23 +53,100 @@ fn byte_at(block: &[u8], place: usize) -> u32
     block[place] as u32
 }
 
-// The check over the first 510 bytes, or over all where there are fewer, by running sums. From the last byte to the first, `sum` is
-// the bytes met so far added up, and `total` is 1 and all these sums: so byte i counts i + 1 times, and nothing is multiplied.
+// One byte more in each column.
+fn next(s: Columns, a: u32, b: u32, c: u32, d: u32) -> Columns
+    requires { ⌜ Small s × (a < 256) × (b < 256) × (c < 256) × (d < 256) ⌝ }
+    ensures { λ r. ⌜ r ≡ nextOf s a b c d ⌝ }
+{
+    Columns {
+        s0: s.s0 + a,
+        s1: s.s1 + b,
+        s2: s.s2 + c,
+        s3: s.s3 + d,
+        t0: s.t0 + s.s0,
+        t1: s.t1 + s.s1,
+        t2: s.t2 + s.s2,
+        t3: s.t3 + s.s3,
+    }
+}
+
+// Four bytes more in front, one for each column.
+fn four(s: Columns, bytes: &[u8], at: usize) -> Columns
+    requires { ⌜ (at + 4 ≤ length (now bytes)) × (length (now bytes) ≤ 510) × Held s (drop (at + 4) (now bytes)) ⌝ }
+    ensures { λ r. ⌜ Held r (drop at (now (bytes .entry))) ⌝ }
+{
+    let a = byte_at(bytes, at);
+    let b = byte_at(bytes, at + 1);
+    let c = byte_at(bytes, at + 2);
+    let d = byte_at(bytes, at + 3);
+    next(s, a, b, c, d)
+}
+
+// The columns of all bytes but the first few, fewer than eight: from the last byte to the first, eight a turn.
+fn by_columns(bytes: &[u8]) -> Columns
+    requires { ⌜ length (now bytes) ≤ 510 ⌝ }
+    ensures { λ r. ⌜ Held r (drop (length (now (bytes .entry)) % 8) (now (bytes .entry))) ⌝ }
+{
+    let mut s = Columns {
+        s0: 0,
+        s1: 0,
+        s2: 0,
+        s3: 0,
+        t0: 0,
+        t1: 0,
+        t2: 0,
+        t3: 0,
+    };
+    let mut place = bytes.len();
+    while 8 <= place {
+        s = four(s, bytes, place - 4);
+        s = four(s, bytes, place - 8);
+        place -= 8;
+    }
+    s
+}
+
+// The bytes of all columns added up.
+fn plain(s: Columns) -> u32
+    requires { ⌜ Small s ⌝ }
+    ensures { λ r. ⌜ r ≡ s .s0 + s .s1 + s .s2 + s .s3 ⌝ }
+{
+    s.s0 + s.s1 + s.s2 + s.s3
+}
+
+// The same, each as often as it counts, and the 1 of the check: nothing is multiplied.
+fn weighed(s: Columns) -> u32
+    requires { ⌜ Small s ⌝ }
+    ensures { λ r. ⌜ r ≡ 1 + weightIn s ⌝ }
+{
+    let each = s.t0 + s.t1 + s.t2 + s.t3;
+    1 + (each << 2) + (s.s0 + s.s1 + s.s2 + s.s3) + (s.s1 + s.s3) + ((s.s2 + s.s3) << 1)
+}
+
+// The check over at most 510 bytes by running sums. From the last byte to the first, `sum` is the bytes met so far added up, and
+// `total` is 1 and all these sums: so byte i counts i + 1 times. The columns do it for all but the first few bytes.
+fn check_all(bytes: &[u8]) -> u16
+    requires { ⌜ length (now bytes) ≤ 510 ⌝ }
+    ensures { λ r. ⌜ r ≡ checkOf (now (bytes .entry)) ⌝ }
+{
+    let s = by_columns(bytes);
+    let mut sum = plain(s);
+    let mut total = weighed(s);
+    let mut place = bytes.len() % 8;
+    while 0 < place {
+        place -= 1;
+        sum += byte_at(bytes, place);
+        total += sum;
+    }
+    left_over(total)
+}
+
+// The check over the first 510 bytes, or over all where there are fewer.
 pub fn check(block: &[u8]) -> u16
     ensures { λ r. ⌜ r ≡ checkOf (take 510 (now (block .entry))) ⌝ }
 {
     let n = common::least(block.len(), 510);
-    let mut sum: u32 = 0;
-    let mut total: u32 = 1;
-    let mut place = n;
-    let mut met = 0;
-    while met < n {
-        place -= 1;
-        sum = lowered(sum + byte_at(block, place));
-        total = lowered(total + sum);
-        met += 1;
-    }
-    total as u16
+    check_all(&block[0..n])
 }
 
 // Two bytes as one number, the high byte first.
