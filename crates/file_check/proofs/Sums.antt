@@ -9,7 +9,7 @@ use lib.Dec.{ltb}
 use borrow.Author.Tests.{ltb-true, ltb-false}
 use mathlib.Core.Bool.{Bool, true, false}
 use Rattle.file_check.specs.Check.{wsum}
-use Rattle.file_check.specs.Inner.{sumOf, nextOf, weightIn, Small, Held}
+use Rattle.file_check.specs.Inner.{sumOf, nextOf, Small, Held, From}
 use Rattle.file_check.specs.declared.Columns.{Columns}
 use Rattle.file_check.proofs.Walks.{from-here, running}
 
@@ -30,10 +30,9 @@ running-four xs =
 
 -- four bytes more in front
 held-front : (s : Columns) (a b c d : ℕ) (xs : List ℕ) → length xs ≤ 506 → a < 256 → b < 256 → c < 256 → d < 256 → Held s xs → Held (nextOf s a b c d) (a ∷ b ∷ c ∷ d ∷ xs)
-unfolding weightIn
 held-front s a b c d xs l ka kb kc kd h =
     let e = h .sum in
-    let w : 4 * (s .t0 + s .t1 + s .t2 + s .t3) + (s .s0 + 2 * s .s1 + 3 * s .s2 + 4 * s .s3) ≡ wsum 1 xs = h .weight in
+    let w = h .weight in
     let f = h .few in
     let m = h .many in
     let r = running-four xs in
@@ -51,30 +50,25 @@ four-here xs at l =
     ∙ ap (λ (z : List ℕ). getD xs at 0 ∷ getD xs (at + 1) 0 ∷ getD xs (at + 2) 0 ∷ z) (from-here xs (at + 3) (omega arith) ∙ ap (λ (k : ℕ). getD xs (at + 3) 0 ∷ drop k xs) r)
 
 -- one turn of the columns, by the bytes that were read
-pub held-turn : (s : Columns) (xs : List ℕ) (at : ℕ) → at + 4 ≤ length xs → length xs ≤ 510 → Held s (drop (at + 4) xs) → {a b c d : ℕ} {r : Columns} → (a ≡ getD xs at 0) × (a < 256) → (b ≡ getD xs (at + 1) 0) × (b < 256) → (c ≡ getD xs (at + 2) 0) × (c < 256) → (d ≡ getD xs (at + 3) 0) × (d < 256) → r ≡ nextOf s a b c d → Held r (drop at xs)
+pub held-turn : (s : Columns) (xs : List ℕ) (at : ℕ) → at + 4 ≤ length xs → length xs ≤ 510 → From s (at + 4) xs → {a b c d : ℕ} {r : Columns} → (a ≡ getD xs at 0) × (a < 256) → (b ≡ getD xs (at + 1) 0) × (b < 256) → (c ≡ getD xs (at + 2) 0) × (c < 256) → (d ≡ getD xs (at + 3) 0) × (d < 256) → r ≡ nextOf s a b c d → From r at xs
 held-turn s xs at l m h {a} {b} {c} {d} {r} ea eb ec ed e =
     let n : length (drop (at + 4) xs) ≤ 506 = simp length-drop (omega arith) in
     let z : a ∷ b ∷ c ∷ d ∷ drop (at + 4) xs ≡ drop at xs = (λ i. ea .0 i ∷ eb .0 i ∷ ec .0 i ∷ ed .0 i ∷ drop (at + 4) xs) ∙ sym (four-here xs at l) in
-    subst (λ (q : Columns). Held q (drop at xs)) (sym e)
-    (subst (λ (y : List ℕ). Held (nextOf s a b c d) y) z (held-front s a b c d (drop (at + 4) xs) n (ea .1) (eb .1) (ec .1) (ed .1) h))
+    subst (λ (q : Columns). From q at xs) (sym e)
+    record { held = subst (λ (y : List ℕ). Held (nextOf s a b c d) y) z (held-front s a b c d (drop (at + 4) xs) n (ea .1) (eb .1) (ec .1) (ed .1) (h .held)) }
 
 -- nothing met yet
 abbrev none : Columns
 none = record { s0 = 0; s1 = 0; s2 = 0; s3 = 0; t0 = 0; t1 = 0; t2 = 0; t3 = 0 }
 
-pub held-start : (xs : List ℕ) → Held none (drop (length xs) xs)
-unfolding weightIn
+pub held-start : (xs : List ℕ) → From none (length xs) xs
 held-start xs =
     let h : Held none [] = record { sum = refl; weight = refl; few = omega arith; many = omega arith } in
-    subst (λ (z : List ℕ). Held none z) (sym (drop-of-length-le xs {i = length xs} (omega arith))) h
+    record { held = subst (λ (z : List ℕ). Held none z) (sym (drop-of-length-le xs {i = length xs} (omega arith))) h }
 
--- the weight of small columns
-pub small-weight : (s : Columns) → Small s → weightIn s ≤ 265822200
-unfolding weightIn
-small-weight s h =
-    let f = h .few in
-    let m = h .many in
-    omega arith
+-- the same place, told otherwise
+pub held-at : {s : Columns} {xs : List ℕ} {i k : ℕ} → From s i xs → i ≡ k → From s k xs
+held-at {s} {xs} h e = subst (λ (k : ℕ). From s k xs) e h
 
 -- what a shift of 32 bits keeps
 kept-whole : (m : ℕ) → m < 4294967296 → m % 4294967296 ≡ m

@@ -1,12 +1,12 @@
 // The check that seals a block, a block that is blank, and numbers of two bytes. Each function takes any input.
 ghost use mathlib.Core.Path.{_≡_};
-ghost use Prim.Native.Nat.{_+_, _*_, _/_, _%_, _<_, _≤_};
-ghost use lib.ListN.{length, getD, take, drop};
+ghost use Prim.Native.Nat.{_+_, _-_, _*_, _/_, _%_, _<_, _≤_};
+ghost use lib.ListN.{length, getD, take};
 ghost use Rattle.file_check.specs.Check.{checkOf, allAre, isBlank, checkFault, pair};
-ghost use Rattle.file_check.specs.Inner.{Small, Held, nextOf, weightIn};
+ghost use Rattle.file_check.specs.Inner.{Small, From, nextOf, overOf};
 
-// The sums over bytes that stand four apart, four columns from the last byte on: what each column adds up to, and what it added up
-// to before each of its bytes, all of these added up.
+// The sums over bytes that stand four apart, four columns from the last byte on: what each column adds up to, and all that it added
+// up to, byte after byte, added up.
 struct Columns {
     s0: u32,
     s1: u32,
@@ -58,22 +58,26 @@ fn next(s: Columns, a: u32, b: u32, c: u32, d: u32) -> Columns
     requires { ⌜ Small s × (a < 256) × (b < 256) × (c < 256) × (d < 256) ⌝ }
     ensures { λ r. ⌜ r ≡ nextOf s a b c d ⌝ }
 {
+    let e = s.s0 + a;
+    let f = s.s1 + b;
+    let g = s.s2 + c;
+    let h = s.s3 + d;
     Columns {
-        s0: s.s0 + a,
-        s1: s.s1 + b,
-        s2: s.s2 + c,
-        s3: s.s3 + d,
-        t0: s.t0 + s.s0,
-        t1: s.t1 + s.s1,
-        t2: s.t2 + s.s2,
-        t3: s.t3 + s.s3,
+        s0: e,
+        s1: f,
+        s2: g,
+        s3: h,
+        t0: s.t0 + e,
+        t1: s.t1 + f,
+        t2: s.t2 + g,
+        t3: s.t3 + h,
     }
 }
 
 // Four bytes more in front, one for each column.
 fn four(s: Columns, bytes: &[u8], at: usize) -> Columns
-    requires { ⌜ (at + 4 ≤ length (now bytes)) × (length (now bytes) ≤ 510) × Held s (drop (at + 4) (now bytes)) ⌝ }
-    ensures { λ r. ⌜ Held r (drop at (now (bytes .entry))) ⌝ }
+    requires { ⌜ (at + 4 ≤ length (now bytes)) × (length (now bytes) ≤ 510) × From s (at + 4) (now bytes) ⌝ }
+    ensures { λ r. ⌜ From r at (now (bytes .entry)) ⌝ }
 {
     let a = byte_at(bytes, at);
     let b = byte_at(bytes, at + 1);
@@ -85,7 +89,7 @@ fn four(s: Columns, bytes: &[u8], at: usize) -> Columns
 // The columns of all bytes but the first few, fewer than eight: from the last byte to the first, eight a turn.
 fn by_columns(bytes: &[u8]) -> Columns
     requires { ⌜ length (now bytes) ≤ 510 ⌝ }
-    ensures { λ r. ⌜ Held r (drop (length (now (bytes .entry)) % 8) (now (bytes .entry))) ⌝ }
+    ensures { λ r. ⌜ From r (length (now (bytes .entry)) % 8) (now (bytes .entry)) ⌝ }
 {
     let mut s = Columns {
         s0: 0,
@@ -116,11 +120,12 @@ fn plain(s: Columns) -> u32
 
 // The same, each as often as it counts, and the 1 of the check: nothing is multiplied.
 fn weighed(s: Columns) -> u32
-    requires { ⌜ Small s ⌝ }
-    ensures { λ r. ⌜ r ≡ 1 + weightIn s ⌝ }
+    requires { ⌜ Small s × (overOf s ≤ 4 * (s .t0 + s .t1 + s .t2 + s .t3)) ⌝ }
+    ensures { λ r. ⌜ r ≡ 1 + 4 * (s .t0 + s .t1 + s .t2 + s .t3) - overOf s ⌝ }
 {
     let each = s.t0 + s.t1 + s.t2 + s.t3;
-    1 + (each << 2) + (s.s0 + s.s1 + s.s2 + s.s3) + (s.s1 + s.s3) + ((s.s2 + s.s3) << 1)
+    let over = s.s0 + s.s0 + s.s0 + s.s1 + s.s1 + s.s2;
+    1 + (each << 2) - over
 }
 
 // The check over at most 510 bytes by running sums. From the last byte to the first, `sum` is the bytes met so far added up, and

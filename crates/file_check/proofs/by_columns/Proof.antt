@@ -1,15 +1,15 @@
 -- `by_columns` meets its contract: the columns hold the sums of the bytes from the place on. Assumes nothing.
-use mathlib.Core.Path.{_≡_, refl, subst}
-use Prim.Native.Nat.{ℕ, _≤_, _+_, _-_, _%_}
+use mathlib.Core.Path.{_≡_, refl}
+use Prim.Native.Nat.{_≤_, _%_}
 use native.Mathlib.Omega.{arith}
-use lib.ListN.{length, drop}
-use Rattle.file_check.specs.Inner.{Held}
-use Rattle.file_check.proofs.Sums.{held-start}
+use lib.ListN.{length}
+use Rattle.file_check.specs.Inner.{From}
+use Rattle.file_check.proofs.Sums.{held-start, held-at}
 use Rattle.file_check.proofs.by_columns.Statement.{statement}
 use Rattle.file_check.proofs.by_columns.Tie as tie
 
 abbrev Inv-loop : tie.InvT-loop
-Inv-loop bytes s₀ place₀ s place = (place ≤ length bytes) × (place % 8 ≡ length bytes % 8) × Held s (drop place bytes)
+Inv-loop bytes s₀ place₀ s place = (place ≤ length bytes) × (place % 8 ≡ length bytes % 8) × From s place bytes
 
 abbrev μ-loop : tie.MeasureT-loop
 μ-loop bytes s₀ place₀ s place = place
@@ -24,29 +24,23 @@ sub-four c = omega arith
 four-requires : tie.Need-four-requires Inv-loop μ-loop
 four-requires c κs =
     let l = c .before .loop in
-    let xs = c .before .before .before .args .bytes .now in
-    let e : l .place ≡ l .place - 4 + 4 = omega arith in
-    (omega arith, c .before .before .before .pre, subst (λ (k : ℕ). Held (l .s) (drop k xs)) e (l .inv .2))
+    (omega arith, c .before .before .before .pre, held-at (l .inv .2) (omega arith))
 
 four-requires-2 : tie.Need-four-requires-2 Inv-loop μ-loop
 four-requires-2 c κs =
-    let l = c .before .before .loop in
-    let xs = c .before .before .before .before .args .bytes .now in
-    let e : l .place - 4 ≡ l .place - 8 + 4 = omega arith in
-    (omega arith, c .before .before .before .before .pre, subst (λ (k : ℕ). Held (c .four .result) (drop k xs)) e (c .four .ensures))
+    (omega arith, c .before .before .before .before .pre, held-at (c .four .ensures) (omega arith))
 
 loop-less : tie.Need-loop-less Inv-loop μ-loop
 loop-less c = omega arith
 
 loop-again : tie.Need-loop-again Inv-loop μ-loop
-loop-again c = (omega arith, omega arith, c .four2 .ensures)
+loop-again c =
+    (omega arith, omega arith, held-at (c .four2 .ensures) (omega arith))
 
 returns : tie.Need-returns Inv-loop μ-loop
 returns c =
     let l = c .before .loop in
-    let xs = c .before .before .before .args .bytes .now in
-    let e : l .place ≡ length xs % 8 = omega arith in
-    subst (λ (k : ℕ). Held (l .s) (drop k xs)) e (l .inv .2)
+    held-at (l .inv .2) (omega arith)
 
 pub by-columns-spec : {M : Type 1} → statement M
 by-columns-spec =

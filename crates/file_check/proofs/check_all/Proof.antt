@@ -5,9 +5,9 @@ use Prim.Native.Nat.{ℕ, _≤_, _<_, _+_, _*_, _-_, _%_}
 use native.Mathlib.Omega.{arith}
 use lib.ListN.{length, getD, drop, length-drop}
 use Rattle.file_check.specs.Check.{wsum, checkOf}
-use Rattle.file_check.specs.Inner.{sumOf, weightIn, Small}
+use Rattle.file_check.specs.Inner.{sumOf, Small}
 use Rattle.file_check.proofs.Walks.{one-more, sum-more}
-use Rattle.file_check.proofs.Sums.{held-small, small-weight}
+use Rattle.file_check.proofs.Sums.{held-small}
 use Rattle.file_check.proofs.check_all.Statement.{statement}
 use Rattle.file_check.proofs.check_all.Tie as tie
 
@@ -24,7 +24,7 @@ small c =
     let a = c .before .before in
     let xs = a .args .bytes .now in
     let n : length (drop (length xs % 8) xs) ≤ 510 = simp length-drop (let p = a .pre in omega arith) in
-    held-small (c .by-columns .result) (drop (length xs % 8) xs) n (c .by-columns .ensures)
+    held-small (c .by-columns .result) (drop (length xs % 8) xs) n (c .by-columns .ensures .held)
 
 by-columns-requires : tie.Need-by-columns-requires Inv-loop μ-loop
 by-columns-requires c κs = search needs
@@ -33,7 +33,7 @@ plain-requires : tie.Need-plain-requires Inv-loop μ-loop
 plain-requires c κs = small c
 
 weighed-requires : tie.Need-weighed-requires Inv-loop μ-loop
-weighed-requires c κs = small (c .before)
+weighed-requires c κs = let h = c .before .by-columns .ensures .held in let w = h .weight in (small (c .before), omega arith)
 
 loop-holds : tie.Need-loop-holds Inv-loop μ-loop
 loop-holds c =
@@ -41,14 +41,15 @@ loop-holds c =
     let a = k .before .before in
     let xs = a .args .bytes .now in
     let i = length xs % 8 in
-    let h = k .by-columns .ensures in
+    let h = k .by-columns .ensures .held in
     let m = small k in
     let e : c .before .plain .result ≡ sumOf (drop i xs) = c .before .plain .ensures ∙ h .sum in
-    let t : c .weighed .result ≡ 1 + wsum 1 (drop i xs) = c .weighed .ensures ∙ ap (λ (n : ℕ). 1 + n) (h .weight) in
-    let f : c .before .plain .result ≤ 255 * (length xs - i) = subst (λ (n : ℕ). c .before .plain .result ≤ 255 * n) (length-drop i xs) (let q = h .few in let z = c .before .plain .ensures in omega arith) in
-    let b : weightIn (k .by-columns .result) ≤ 265822200 = small-weight (k .by-columns .result) m in
-    let p = a .pre in
     let y = c .weighed .ensures in
+    let w = h .weight in
+    let t : c .weighed .result ≡ 1 + wsum 1 (drop i xs) = omega arith in
+    let f : c .before .plain .result ≤ 255 * (length xs - i) = subst (λ (n : ℕ). c .before .plain .result ≤ 255 * n) (length-drop i xs) (let q = h .few in let z = c .before .plain .ensures in omega arith) in
+    let b = m .many in
+    let p = a .pre in
     (omega arith, e, t, omega arith, omega arith)
 
 sub-place : tie.Need-sub-place Inv-loop μ-loop

@@ -3,7 +3,6 @@ use borrow.Author.Needs.{needs}
 use native.Mathlib.Omega.{arith}
 use Prim.Native.Nat.{_≤_, _+_}
 use lib.ListN.{length, drop, length-drop}
-use Rattle.file_check.specs.Inner.{Held}
 use Rattle.file_check.proofs.Sums.{held-small, held-turn}
 use Rattle.file_check.proofs.four.Statement.{statement}
 use Rattle.file_check.proofs.four.Tie as tie
@@ -34,7 +33,7 @@ next-requires c κs =
     let s = c .before .before .before .before .before in
     let xs = s .args .bytes .now in
     let n : length (drop (s .args .at + 4) xs) ≤ 510 = simp length-drop (omega arith) in
-    (held-small (s .args .s) (drop (s .args .at + 4) xs) n (s .pre .2), c .before .before .before .byte-at .ensures .1, c .before .before .byte-at2 .ensures .1, c .before .byte-at3 .ensures .1, c .byte-at4 .ensures .1)
+    (held-small (s .args .s) (drop (s .args .at + 4) xs) n (s .pre .2 .held), c .before .before .before .byte-at .ensures .1, c .before .before .byte-at2 .ensures .1, c .before .byte-at3 .ensures .1, c .byte-at4 .ensures .1)
 
 returns : tie.Need-returns
 returns c =
