@@ -1,3 +1,4 @@
+pub mod Shifts
 pub mod Tables
 pub mod Told
 pub mod Sizes

@@ -6,7 +6,7 @@ ghost use lib.ListN.{length, getD, take, drop};
 ghost use Rattle.common.specs.Numbers.{given};
 ghost use Rattle.file_block.specs.Block.{usedOf};
 ghost use Rattle.file_codec.specs.Layout.{headOf, sealed, blockWritten};
-ghost use Rattle.file_codec.specs.File.{limit, blocksOf, payloadWrong, lengthWrong, blocksRows, placesOf, writerOf, readerOf, inRoom, leftIn, writtenAs, judgedAs, readAs, writtenTold, judgedTold, readTold, toldBy};
+ghost use Rattle.file_codec.specs.File.{limit, countOf, blocksOf, payloadWrong, lengthWrong, blocksRows, placesOf, writerOf, readerOf, inRoom, leftIn, writtenAs, judgedAs, readAs, writtenTold, judgedTold, readTold, toldBy};
 
 // The most blocks that a file has; with them the bytes of the longest file, and of the longest payload.
 const LIMIT: usize = 224;
@@ -62,15 +62,23 @@ fn length_wrong(size: usize) -> bool
     none | over | !whole
 }
 
+// Seven times a count, by a shift.
+fn seven(n: usize) -> usize
+    requires { ⌜ n < 1152921504606846976 ⌝ }
+    ensures { λ r. ⌜ r ≡ 7 * n ⌝ }
+{
+    (n << 3) - n
+}
+
 // The payload bytes of n sound blocks: 505 of each but the last, which says its own.
 fn payload_size(file: &[u8], n: usize) -> usize
     requires { ⌜ (0 < n) × (length (now file) ≡ 512 * n) ⌝ }
     ensures { λ r. ⌜ r ≡ 505 * (n - 1) + usedOf (take 512 (drop (512 * (n - 1)) (now (file .entry)))) ⌝ }
 {
     let whole = n - 1;
-    let from = 512 * whole;
-    let to = from + 512;
-    505 * whole + file_block::used(&file[from..to])
+    let to = file.len();
+    let from = to - 512;
+    from - seven(whole) + file_block::used(&file[from..to])
 }
 
 // The judgement of a file for the letter asked: 30, then block by block 38 or else 31, then 32, 33, 34; then 35, in one walk.
@@ -101,13 +109,14 @@ fn unpack(out: &mut [u8], file: &[u8], n: usize)
 {
     let size = out.len();
     let mut i = 0;
+    let mut to = 0;
     while i < n {
-        let to = 505 * i;
         let end = common::least(to + 505, size);
         let from = 512 * i + 5;
         let stop = from + 505;
         common::copy(&mut out[to..end], &file[from..stop]);
         i += 1;
+        to = end;
     }
 }
 
@@ -172,9 +181,9 @@ fn pack(out: &mut [u8], letter: u8, payload: &[u8], n: usize)
     ensures { λ _. ⌜ now (out .exit) ≡ blocksOf n letter 0 n (now (payload .entry)) ++ drop (512 * n) (now (out .entry)) ⌝ }
 {
     let mut i = 0;
+    let mut from = 0;
     while i < n {
         let to = 512 * i;
-        let from = 505 * i;
         let stop = common::least(from + 505, payload.len());
         put_block(
             &mut out[to..],
@@ -184,6 +193,7 @@ fn pack(out: &mut [u8], letter: u8, payload: &[u8], n: usize)
             &payload[from..stop],
         );
         i += 1;
+        from = stop;
     }
 }
 
@@ -194,6 +204,44 @@ fn payload_wrong(size: usize) -> bool
     let none = size == 0;
     let over = 505 * LIMIT < size;
     none | over
+}
+
+// Blocks counted, and the bytes that are left to count.
+struct Count {
+    blocks: usize,
+    left: usize,
+}
+
+// So many blocks more, where so many bytes are left.
+fn counted(c: Count, blocks: usize, unit: usize) -> Count
+    requires { ⌜ (unit ≡ 505 * blocks) × (c .left < unit + unit) × (505 * c .blocks + c .left ≤ 505 * limit + 504) ⌝ }
+    ensures { λ r. ⌜ (505 * r .blocks + r .left ≡ 505 * c .blocks + c .left) × (r .left < unit) ⌝ }
+{
+    if unit <= c.left {
+        return Count {
+            blocks: c.blocks + blocks,
+            left: c.left - unit,
+        };
+    }
+    c
+}
+
+// The blocks that a payload of so many bytes takes, without a division: one for each 512 bytes, and what 512 is more than 505 is left.
+fn blocks_for(size: usize) -> usize
+    requires { ⌜ size ≤ 505 * limit ⌝ }
+    ensures { λ r. ⌜ r ≡ countOf size ⌝ }
+{
+    let all = size + 504;
+    let sure = all >> 9;
+    let left = all % 512 + (sure << 3) - sure;
+    let first = Count {
+        blocks: sure,
+        left: left,
+    };
+    let fours = counted(first, 4, 2020);
+    let twos = counted(fours, 2, 1010);
+    let ones = counted(twos, 1, 505);
+    ones.blocks
 }
 
 // The writer: 32, 36, 37, then the file into the front of out.
@@ -210,7 +258,7 @@ pub fn write(letter: u8, payload: &[u8], out: &mut [u8]) -> Written
     if payload_wrong(size) {
         return Written::NotWritten(36);
     }
-    let n = (size + 504) / 505;
+    let n = blocks_for(size);
     let whole = 512 * n;
     if out.len() < whole {
         return Written::NotWritten(37);

@@ -1,35 +1,33 @@
 -- `file_codec::pack` meets its contract: the blocks written and the blocks left to write make up the file. Assumes nothing.
 use mathlib.Core.Path.{_≡_, refl, ap, _∙_}
 use mathlib.Core.List.{_++_}
-use Prim.Native.Nat.{ℕ, _≤_, _-_, _+_, _*_}
+use Prim.Native.Nat.{ℕ, _≤_, _-_, _+_, _*_, min}
 use native.Mathlib.Omega.{arith}
 use borrow.Author.Needs.{needs}
 use lib.ListN.{length, take, drop}
-use borrow.Rule.Slice.PartMut.{same-len-mid}
+use borrow.Rule.Slice.PartMut.{same-len-mid, midOf}
+use Rattle.file_codec.specs.Layout.{blockWritten}
 use Rattle.file_codec.specs.File.{blocksOf}
 use Rattle.file_codec.proofs.Parts.{packed, behind, further, all-packed}
 use Rattle.file_codec.proofs.pack.Statement.{statement}
 use Rattle.file_codec.proofs.pack.Tie as tie
 
 abbrev Inv-loop : tie.InvT-loop
-Inv-loop out₀ letter payload n i₀ out i =
+Inv-loop out₀ letter payload n i₀ from₀ out i from =
     (i ≤ n) × (length out ≡ length out₀) × (take (512 * i) out ++ blocksOf (n - i) letter i n (drop (505 * i) payload) ≡ blocksOf n letter 0 n payload)
-    × (drop (512 * i) out ≡ drop (512 * i) out₀)
+    × (drop (512 * i) out ≡ drop (512 * i) out₀) × (from ≡ min (505 * i) (length payload))
 
 abbrev μ-loop : tie.MeasureT-loop
-μ-loop out₀ letter payload n i₀ out i = n - i
+μ-loop out₀ letter payload n i₀ from₀ out i from = n - i
 
 loop-holds : tie.Need-loop-holds Inv-loop μ-loop
 loop-holds c =
     let a = c .before .before .args in
     let z : a .n - 0 ≡ a .n = omega arith in
-    (omega arith, omega arith, ap (λ (k : ℕ). blocksOf k (a .letter) 0 (a .n) (a .payload .now)) z, refl)
+    (omega arith, omega arith, ap (λ (k : ℕ). blocksOf k (a .letter) 0 (a .n) (a .payload .now)) z, refl, omega arith)
 
 mul-to : tie.Need-mul-to Inv-loop μ-loop
 mul-to c = omega arith
-
-mul-from : tie.Need-mul-from Inv-loop μ-loop
-mul-from c = omega arith
 
 add-least : tie.Need-add-least Inv-loop μ-loop
 add-least c = omega arith
@@ -75,13 +73,19 @@ loop-again c =
     let p = c .before .before .put-block in
     let m = c .before .before .before .before .before in
     let l = m .before .before .loop in
-    let a = m .before .before .before .before .before .args in (
+    let a = m .before .before .before .before .before .args in
+    let i = l .i in
+    let x = a .payload .now in
+    let e = m .least .result in
+    let at : l .from ≡ 505 * i = omega arith in
+    let s : e ≡ min (505 * i + 505) (length x) = m .least .ensures ∙ ap (λ (k : ℕ). min (k + 505) (length x)) at in
+    let y : p .last .0 ≡ blockWritten (a .letter) i (a .n) (take (e - 505 * i) (drop (505 * i) x)) ++ drop 512 (midOf (512 * i) (length (l .out) - 512 * i) (l .out)) =
+    p .ensures ∙ ap (λ (k : ℕ). blockWritten (a .letter) i (a .n) (take (e - k) (drop k x)) ++ drop 512 (midOf (512 * i) (length (l .out) - 512 * i) (l .out))) at in (
       omega arith,
-      same-len-mid (512 * l .i) (length (l .out) - 512 * l .i) (l .out) (p .last .0) (p .kept .0) ∙ l .inv .1,
-      packed (a .letter) (l .i) (a .n) (m .least .result) (a .payload .now) (l .out) (p .last .0) (omega arith) (omega arith) (m .least .ensures) (p .ensures)
-          ∙ l .inv .2,
-      behind (a .letter) (l .i) (a .n) (m .least .result) (a .payload .now) (l .out) (p .last .0) (omega arith) (omega arith) (m .least .ensures) (p .ensures)
-          ∙ further (l .i) (l .out) (a .out .now) (l .inv .3),
+      same-len-mid (512 * i) (length (l .out) - 512 * i) (l .out) (p .last .0) (p .kept .0) ∙ l .inv .1,
+      packed (a .letter) i (a .n) e x (l .out) (p .last .0) (omega arith) (omega arith) s y ∙ l .inv .2,
+      behind (a .letter) i (a .n) e x (l .out) (p .last .0) (omega arith) (omega arith) s y ∙ further i (l .out) (a .out .now) (l .inv .3),
+      omega arith,
     )
 
 same-length : tie.Need-same-length Inv-loop μ-loop
@@ -101,7 +105,6 @@ pack-spec =
     μ-loop
     loop-holds
     mul-to
-    mul-from
     add-least
     least-requires
     sub-put-block

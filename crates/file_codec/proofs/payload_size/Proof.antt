@@ -3,7 +3,7 @@ use borrow.Author.Needs.{needs}
 use mathlib.Core.Path.{_≡_, ap, _∙_}
 use Prim.Native.Nat.{ℕ, _+_, _-_, _*_}
 use native.Mathlib.Omega.{arith}
-use lib.ListN.{take, drop}
+use lib.ListN.{length, take, drop}
 use Rattle.file_block.specs.Block.{usedOf}
 use Rattle.file_codec.proofs.payload_size.Statement.{statement}
 use Rattle.file_codec.proofs.payload_size.Tie as tie
@@ -11,14 +11,14 @@ use Rattle.file_codec.proofs.payload_size.Tie as tie
 sub-whole : tie.Need-sub-whole
 sub-whole c = search needs
 
-mul-from : tie.Need-mul-from
-mul-from c = search needs
+sub-from : tie.Need-sub-from
+sub-from c = search needs
 
-add-to : tie.Need-add-to
-add-to c = search needs
+seven-requires : tie.Need-seven-requires
+seven-requires c κs = search needs
 
-mul-result : tie.Need-mul-result
-mul-result c = search needs
+sub-result : tie.Need-sub-result
+sub-result c = search needs
 
 sub-used : tie.Need-sub-used
 sub-used c = search needs
@@ -37,19 +37,25 @@ add-result c = search needs
 
 returns : tie.Need-returns
 returns c =
-    let a = c .before .before .before .args in
-    let from = 512 * (a .n - 1) in
-    let e : from + 512 - from ≡ 512 = omega arith in
-    ap (λ (u : ℕ). 505 * (a .n - 1) + u) (c .used .ensures .0 ∙ ap (λ (k : ℕ). usedOf (take k (drop from (a .file .now)))) e)
+    let a = c .before .before .before .before in
+    let n = a .args .n in
+    let xs = a .args .file .now in
+    let l = a .pre .1 in
+    let z = a .pre .0 in
+    let f : length xs - 512 ≡ 512 * (n - 1) = omega arith in
+    let k : length xs - (length xs - 512) ≡ 512 = omega arith in
+    let u : c .used .result ≡ usedOf (take 512 (drop (512 * (n - 1)) xs)) = c .used .ensures .0 ∙ (λ i. usedOf (take (k i) (drop (f i) xs))) in
+    let w = c .before .before .seven .ensures in
+    omega arith
 
 pub payload-size-spec : {M : Type 1} → statement M
 payload-size-spec =
     tie.close
     (tie.spec
     sub-whole
-    mul-from
-    add-to
-    mul-result
+    sub-from
+    seven-requires
+    sub-result
     sub-used
     part-used-start
     part-used-end

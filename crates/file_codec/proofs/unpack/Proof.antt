@@ -14,20 +14,17 @@ use Rattle.file_codec.proofs.unpack.Statement.{statement}
 use Rattle.file_codec.proofs.unpack.Tie as tie
 
 abbrev Inv-loop : tie.InvT-loop
-Inv-loop out₀ file n size i₀ out i =
-    (i ≤ n) × (size ≡ length out₀) × (length out ≡ length out₀) × (out ≡ overwritten (min (505 * i) (length out₀)) (placesOf n file) out₀)
+Inv-loop out₀ file n size i₀ to₀ out i to =
+    (i ≤ n) × (size ≡ length out₀) × (length out ≡ length out₀) × (out ≡ overwritten (min (505 * i) (length out₀)) (placesOf n file) out₀) × (to ≡ min (505 * i) (length out₀))
 
 abbrev μ-loop : tie.MeasureT-loop
-μ-loop out₀ file n size i₀ out i = n - i
+μ-loop out₀ file n size i₀ to₀ out i to = n - i
 
 loop-holds : tie.Need-loop-holds Inv-loop μ-loop
 loop-holds c =
     let a = c .before .before .args in
     let z : 0 ≡ min 0 (length (a .out .now)) = omega arith in
-    (omega arith, refl, refl, ap (λ (k : ℕ). overwritten k (placesOf (a .n) (a .file .now)) (a .out .now)) z)
-
-mul-to : tie.Need-mul-to Inv-loop μ-loop
-mul-to c = omega arith
+    (omega arith, refl, refl, ap (λ (k : ℕ). overwritten k (placesOf (a .n) (a .file .now)) (a .out .now)) z, z)
 
 add-least : tie.Need-add-least Inv-loop μ-loop
 add-least c = omega arith
@@ -81,22 +78,27 @@ loop-again c =
     let n = a .n in
     let s = a .out .now in
     let f = a .file .now in
-    let d = m .least .result - 505 * i in
+    let at : l .to ≡ 505 * i = omega arith in
+    let r = m .least .result in
+    let d = r - 505 * i in
     let P = placesOf n f in
     let b : min (505 * i) (length s) ≡ 505 * i = omega arith in
     let o : l .out ≡ overwritten (505 * i) P s = l .inv .3 ∙ ap (λ (k : ℕ). overwritten k P s) b in
     let w : 512 * i + 5 + 505 - (512 * i + 5) ≡ 505 = omega arith in
     let y : p .last .0 ≡ copied (midOf (505 * i) d (overwritten (505 * i) P s)) (take 505 (drop (512 * i + 5) f)) =
     p .ensures
+    ∙ ap (λ (k : ℕ). copied (midOf k (r - k) (l .out)) (take (512 * i + 5 + 505 - (512 * i + 5)) (drop (512 * i + 5) f))) at
     ∙ ap (λ (x : List ℕ). copied (midOf (505 * i) d x) (take (512 * i + 5 + 505 - (512 * i + 5)) (drop (512 * i + 5) f))) o
     ∙ ap (λ (k : ℕ). copied (midOf (505 * i) d (overwritten (505 * i) P s)) (take k (drop (512 * i + 5) f))) w in
     let u : 505 * i + d ≡ min (505 * (i + 1)) (length s) = omega arith in (
       omega arith,
       refl,
-      same-len-mid (505 * i) d (l .out) (p .last .0) (p .kept .0) ∙ l .inv .2,
-      ap (λ (x : List ℕ). putMid (505 * i) d x (p .last .0)) o
+      same-len-mid (l .to) (r - l .to) (l .out) (p .last .0) (p .kept .0) ∙ l .inv .2,
+      ap (λ (k : ℕ). putMid k (r - k) (l .out) (p .last .0)) at
+          ∙ ap (λ (x : List ℕ). putMid (505 * i) d x (p .last .0)) o
           ∙ unpacked i n d f s (p .last .0) (omega arith) (omega arith) (omega arith) (omega arith) (omega arith) y
           ∙ ap (λ (k : ℕ). overwritten k P s) u,
+      omega arith,
     )
 
 same-length : tie.Need-same-length Inv-loop μ-loop
@@ -118,7 +120,6 @@ unpack-spec =
     Inv-loop
     μ-loop
     loop-holds
-    mul-to
     add-least
     least-requires
     mul-from
