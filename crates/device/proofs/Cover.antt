@@ -22,6 +22,13 @@ ends-inside [] k = omega arith
 ends-inside (l ∷ ls) zero = omega arith
 ends-inside (l ∷ ls) (suc k) = omega (arith, ends-inside ls k)
 
+-- behind the last block, and past it, lies nothing
+pub none-behind : (ls : List ℕ) (k : ℕ) → length ls ≤ k + 1 → unitsOfAll ls ≤ offsetAt ls k + lengthAt ls k
+none-behind [] k h = omega arith
+none-behind (l ∷ []) zero h = omega arith
+none-behind (l ∷ m ∷ ls) zero h = absurd (omega arith)
+none-behind (l ∷ ls) (suc k) h = omega (arith, none-behind ls k (omega arith))
+
 -- the blocks cover the array: the block named for a place holds it
 pub covered : (ls : List ℕ) (p : ℕ) → p < unitsOfAll ls → Lies ls (holder ls p) p
 covered [] p h = absurd (not-suc-le-zero h)

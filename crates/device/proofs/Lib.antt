@@ -1,3 +1,4 @@
+pub mod Rows
 pub mod Cover
 pub mod Place
 pub mod Twice

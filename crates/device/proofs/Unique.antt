@@ -6,7 +6,9 @@ use Rattle.common.specs.Choice.{Unique}
 use Rattle.common.proofs.Choice.{only}
 use Rattle.device.specs.Parts.{isLarge, unknownPart, unknownDevice, sizeOf, lengthOf, startOf, blockOf, codeOf}
 use Rattle.device.specs.declared.Part.{Part}
+use Rattle.device.specs.Inner.{spanOf}
 use Rattle.device.specs.declared.Device.{Device}
+use Rattle.device.specs.declared.Span.{Span}
 
 pub unknown-part-unique : (p : Part) → Unique (λ (r : Bool). r ≡ unknownPart p)
 unknown-part-unique p = only (unknownPart p)
@@ -25,6 +27,9 @@ length-unique p k = only (lengthOf p k)
 
 pub start-unique : (p : Part) (k : ℕ) → Unique (λ (r : ℕ). r ≡ startOf p k)
 start-unique p k = only (startOf p k)
+
+pub block-span-unique : (p : Part) (k : ℕ) → Unique (λ (r : Span). r ≡ spanOf p k)
+block-span-unique p k = only (spanOf p k)
 
 pub block-of-unique : (p : Part) (a : ℕ) → Unique (λ (r : ℕ). r ≡ blockOf p a)
 block-of-unique p a = only (blockOf p a)

@@ -2,6 +2,7 @@
 ghost use mathlib.Core.Path.{_≡_};
 ghost use Prim.Native.Nat.{_-_};
 ghost use Rattle.device.specs.Parts.{fourBlocks, moreBlocks, rowOf, inWords, shapeOf, isLarge, sizeIn, lengthIn, offsetIn, holderIn, turned, startIn, blockIn, unknownPart, unknownDevice, sizeOf, lengthOf, startOf, blockOf, codeOf};
+ghost use Rattle.device.specs.Inner.{spanIn, spanOf};
 
 // What a loader knows of the flash: its number, 1 to 8, and whether it is in word mode. A unit is what one cycle carries: a byte,
 // or in word mode a word. Addresses and lengths of a part are in units.
@@ -30,6 +31,12 @@ pub struct Shape {
     pub l6: u32,
     pub top: bool,
     pub code: u16,
+}
+
+// Where a block lies: its first address and its units; no units where there is no such block.
+pub struct Span {
+    pub first: usize,
+    pub length: usize,
 }
 
 // A length as an index.
@@ -82,26 +89,29 @@ fn more(further: u32, top: bool, code: u16) -> Shape
     }
 }
 
-// The table of parts, lengths in bytes.
+// The table of parts, lengths in bytes; any other number is taken for 8.
 fn row(n: u8) -> Shape
     ensures { λ r. ⌜ r ≡ rowOf n ⌝ }
 {
-    if n == 1 {
-        return four(8192, 4096, 114688, true, 0x94);
+    if n < 1 {
+        return more(131072, false, 0x4471);
     }
-    if n == 2 {
+    if n < 3 {
+        if n == 1 {
+            return four(8192, 4096, 114688, true, 0x94);
+        }
         return four(8192, 4096, 114688, false, 0x95);
     }
-    if n == 3 {
-        return four(1024, 512, 14336, true, 0x94);
-    }
-    if n == 4 {
+    if n < 5 {
+        if n == 3 {
+            return four(1024, 512, 14336, true, 0x94);
+        }
         return four(1024, 512, 14336, false, 0x95);
     }
-    if n == 5 {
-        return more(0, true, 0x2274);
-    }
-    if n == 6 {
+    if n < 7 {
+        if n == 5 {
+            return more(0, true, 0x2274);
+        }
         return more(0, false, 0x2275);
     }
     if n == 7 {
@@ -208,6 +218,37 @@ fn offset_at(s: Shape, k: u8) -> usize
     at + wide(s.l6)
 }
 
+// What lies behind block k, counted from the boot end.
+fn behind_at(s: Shape, k: u8) -> usize
+    ensures { λ r. ⌜ r ≡ sizeIn s - offsetIn s k - lengthIn s k ⌝ }
+{
+    let mut at = 0;
+    if 5 < k {
+        return at;
+    }
+    at = wide(s.l6);
+    if 4 < k {
+        return at;
+    }
+    at = at + wide(s.l5);
+    if 3 < k {
+        return at;
+    }
+    at = at + wide(s.l4);
+    if 2 < k {
+        return at;
+    }
+    at = at + wide(s.l3);
+    if 1 < k {
+        return at;
+    }
+    at = at + wide(s.l2);
+    if 0 < k {
+        return at;
+    }
+    at + wide(s.l1)
+}
+
 // The block that holds a place counted from the boot end.
 fn holder_at(s: Shape, place: usize) -> u8
     ensures { λ r. ⌜ r ≡ holderIn s place ⌝ }
@@ -264,12 +305,21 @@ fn turn(top: bool, n: usize, a: usize) -> usize
 fn start_at(s: Shape, k: u8) -> usize
     ensures { λ r. ⌜ r ≡ startIn s k ⌝ }
 {
-    let at = offset_at(s, k);
     let top = s.top;
     if top {
-        return less(less(sum(s), at), length_at(s, k));
+        return behind_at(s, k);
     }
-    at
+    offset_at(s, k)
+}
+
+// Where block k lies in a description.
+fn span_at(s: Shape, k: u8) -> Span
+    ensures { λ r. ⌜ r ≡ spanIn s k ⌝ }
+{
+    Span {
+        first: start_at(s, k),
+        length: length_at(s, k),
+    }
 }
 
 // The block that holds an address in a description.
@@ -321,6 +371,13 @@ pub fn start(p: Part, k: u8) -> usize
     ensures { λ r. ⌜ r ≡ startOf p k ⌝ }
 {
     start_at(describe(p), k)
+}
+
+// Where block k lies, by one description.
+pub fn block_span(p: Part, k: u8) -> Span
+    ensures { λ r. ⌜ r ≡ spanOf p k ⌝ }
+{
+    span_at(describe(p), k)
 }
 
 // The block that holds an address.
