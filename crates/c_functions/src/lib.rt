@@ -63,15 +63,16 @@ pub extern "C" fn tb_block(part: u8, block: u8) -> BlockNumbers
             length: 0,
         };
     }
-    if loader_steps::front::no_block(known, block) {
+    let span = device::block_span(known, block);
+    if span.length == 0 {
         return BlockNumbers {
             first: 0,
             length: 0,
         };
     }
     BlockNumbers {
-        first: device::start(known, block),
-        length: device::length(known, block),
+        first: span.first,
+        length: span.length,
     }
 }
 

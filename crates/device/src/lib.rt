@@ -156,6 +156,25 @@ fn sum(s: Shape) -> usize
         + (wide(s.l1) + (wide(s.l2) + (wide(s.l3) + (wide(s.l4) + (wide(s.l5) + wide(s.l6))))))
 }
 
+// The same of a row of the table, without reading it.
+fn bytes(n: u8) -> usize
+    ensures { λ r. ⌜ r ≡ sizeIn (rowOf n) ⌝ }
+{
+    if n < 1 {
+        return 524288;
+    }
+    if n < 3 {
+        return 131072;
+    }
+    if n < 5 {
+        return 16384;
+    }
+    if n < 7 {
+        return 262144;
+    }
+    524288
+}
+
 fn length_at(s: Shape, k: u8) -> usize
     ensures { λ r. ⌜ r ≡ lengthIn s k ⌝ }
 {
@@ -356,7 +375,12 @@ pub fn unknown_device(d: Device) -> bool
 pub fn size(p: Part) -> usize
     ensures { λ r. ⌜ r ≡ sizeOf p ⌝ }
 {
-    sum(describe(p))
+    let word = p.word;
+    let n = bytes(p.number);
+    if word {
+        return n / 2;
+    }
+    n
 }
 
 // The units of block k, 0 where there is none.

@@ -1,6 +1,10 @@
 use borrow.Author.Needs.{needs}
-use mathlib.Core.Path.{sym, _∙_}
-use Rattle.c_functions.specs.Geometry.{blockGiven}
+use borrow.Author.Tests.{eq-eqb, ne-eqb}
+use mathlib.Core.Path.{_≡_, sym, ap, _∙_}
+use Rattle.device.specs.Parts.{lengthOf}
+use Rattle.device.specs.declared.Span.{Span}
+use Rattle.loader_steps.specs.Front.{noBlock}
+use Rattle.c_functions.specs.Geometry.{partBy, blockGiven}
 use Rattle.c_functions.proofs.tb_block.Statement.{statement}
 use Rattle.c_functions.proofs.tb_block.Tie as tie
 
@@ -11,31 +15,26 @@ returns : tie.Need-returns
 unfolding blockGiven
 returns c = simp (sym (c .before .unknown-part .ensures) ∙ c .if1 .taken)
 
-no-block-requires : tie.Need-no-block-requires
-no-block-requires c κs = search needs
+block-span-requires : tie.Need-block-span-requires
+block-span-requires c κs = search needs
 
 returns-2 : tie.Need-returns-2
-unfolding blockGiven
-returns-2 c = simp (sym (c .before .no-block .ensures) ∙ c .if2 .taken, sym (c .before .before .before .unknown-part .ensures) ∙ c .before .before .if1 .left)
-
-start-requires : tie.Need-start-requires
-start-requires c κs = search needs
-
-length-requires : tie.Need-length-requires
-length-requires c κs = search needs
+unfolding blockGiven noBlock
+returns-2 c =
+    let s = c .before .before .block-span in
+    let a = c .before .before .before .before .before .args in
+    let l : lengthOf (partBy (a .part)) (a .block) ≡ 0 = sym (ap (λ (z : Span). z .length) (s .ensures)) ∙ c .if2 .taken in
+    simp (eq-eqb _ _ l, sym (c .before .before .before .before .unknown-part .ensures) ∙ c .before .before .before .if1 .left)
 
 returns-3 : tie.Need-returns-3
-unfolding blockGiven
-returns-3 c = simp (c .length .ensures, c .before .start .ensures, sym (c .before .before .before .no-block .ensures) ∙ c .before .before .if2 .left, sym (c .before .before .before .before .before .unknown-part .ensures) ∙ c .before .before .before .before .if1 .left)
+unfolding blockGiven noBlock
+returns-3 c =
+    let e = c .before .before .block-span .ensures in
+    let a = c .before .before .before .before .before .args in
+    let l : lengthOf (partBy (a .part)) (a .block) ≡ 0 → ⊥ = λ (z : lengthOf (partBy (a .part)) (a .block) ≡ 0). c .if2 .left (ap (λ (y : Span). y .length) e ∙ z) in
+    simp (ne-eqb _ _ l, sym (c .before .before .before .before .unknown-part .ensures) ∙ c .before .before .before .if1 .left)
+    (λ i. record { first = e i .first; length = e i .length })
 
 pub tb-block-spec : {M : Type 1} → statement M
 tb-block-spec =
-    tie.close
-    (tie.spec
-    unknown-part-requires
-    returns
-    no-block-requires
-    returns-2
-    start-requires
-    length-requires
-    returns-3)
+    tie.close (tie.spec unknown-part-requires returns block-span-requires returns-2 returns-3)
