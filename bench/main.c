@@ -1,6 +1,7 @@
 /* Does each piece of work twice, by the library and by the second implementation in C, and marks where each begins and ends. For
  * every row it prints its number, the calls, and its name; count.c says the instructions. A line `more` asks for a difference of
  * two rows. */
+#include <stdbool.h>
 #include <stdio.h>
 #include <stdlib.h>
 #include <string.h>
@@ -18,6 +19,8 @@ typedef struct {
     tb_given (*start)(uint8_t, uint8_t, uint8_t, uint8_t, uint32_t, uint8_t, const uint8_t *, size_t, const uint8_t *, size_t);
     tb_turn (*step)(tb_loader *, uint16_t, const uint8_t *, size_t, uint8_t *, size_t);
     tb_ran (*run)(tb_device, tb_state, uint8_t, uint8_t, uint32_t, uint8_t, uint8_t *, size_t, const uint8_t *, size_t, uint8_t *, size_t);
+    tb_ran (*stepped)(tb_device, tb_state, uint8_t, uint8_t, uint32_t, uint8_t, uint8_t *, size_t, const uint8_t *, size_t, uint8_t *,
+                      size_t);
     tb_ran (*verify)(tb_device, tb_state, uint8_t, uint8_t, uint32_t, uint8_t, uint8_t *, size_t, const uint8_t *, size_t, uint8_t *,
                      size_t);
     tb_ran (*load)(tb_device, tb_state, uint8_t, uint8_t, uint32_t, uint8_t, uint8_t, const uint8_t *, size_t, uint8_t *, size_t,
@@ -31,6 +34,9 @@ typedef struct {
     tb_reported (*add)(uint8_t, tb_report, uint8_t, tb_wear);
     tb_reported (*report)(uint8_t, const uint8_t *, size_t, const uint32_t *, size_t);
     tb_sized (*find)(uint8_t, uint8_t, uint8_t, const uint8_t *, size_t, uint8_t *, size_t);
+    tb_checked (*recording)(tb_device, tb_state, const tb_record *, size_t, const uint8_t *, size_t, uint8_t *, size_t);
+    tb_ran (*held)(tb_device, tb_state, uint8_t, uint8_t, uint32_t, uint8_t, uint8_t, uint8_t *, size_t, const uint8_t *, size_t,
+                   uint8_t *, size_t, const uint32_t *, size_t, const uint32_t *, size_t, uint8_t *, size_t);
 } maker;
 
 /* The check without a product, as fast as this compiler makes it: running sums in 32 columns of 16 bits, from the last byte on, which
@@ -60,19 +66,19 @@ static uint16_t c_no_product(const uint8_t *block, size_t n) {
     return (uint16_t)(total >= 65521 ? total - 65521 : total);
 }
 
-static const maker proved = {tb_size, tb_block, tb_fresh, tb_cycle, tb_table_cycle, tb_start, tb_step, tb_run, tb_verify_run, tb_load,
-                             tb_file_write, tb_file_read, tb_block_check, tb_block_check, tb_table_judge, tb_table_reading,
-                             tb_wear_add, tb_wear_report, tb_store_find};
-static const maker second = {c_size, c_block, c_fresh, c_cycle, c_cycle, c_start, c_step, c_run, c_verify_run, c_load, c_file_write,
-                             c_file_read, c_block_check, c_no_product, c_table_judge, c_table_reading, c_wear_add, c_wear_report,
-                             c_store_find};
+static const maker proved = {tb_size, tb_block, tb_fresh, tb_cycle, tb_table_cycle, tb_start, tb_step, tb_run, tb_run, tb_verify_run,
+                             tb_load, tb_file_write, tb_file_read, tb_block_check, tb_block_check, tb_table_judge, tb_table_reading,
+                             tb_wear_add, tb_wear_report, tb_store_find, tb_recording, tb_held_run};
+static const maker second = {c_size, c_block, c_fresh, c_cycle, c_cycle, c_start, c_step, c_run, c_stepped_run, c_verify_run,
+                             c_load, c_file_write, c_file_read, c_block_check, c_no_product, c_table_judge, c_table_reading,
+                             c_wear_add, c_wear_report, c_store_find, c_recording, c_held_run};
 
 /* What the work is done on; `ready` of a row sets it, and all of it is compared after the row. It stands at the start of a page,
  * since the C library's copies go different ways for different addresses. */
-enum { TRACES = 1000 };
+enum { TRACES = TB_TRACES_MOST, RECORDS = 600, READS = 16 };
 static _Alignas(4096) struct {
-    uint8_t array[262144], residue[8192], wanted[8192], scratch[8192], file[TB_FILE_MOST], payload[TB_PAYLOAD_MOST], back[TB_PAYLOAD_MOST];
-    uint8_t numbers[TRACES];
+    uint8_t array[TB_SIZE_MOST], residue[TB_BLOCK_MOST], wanted[TB_BLOCK_MOST], scratch[TB_BLOCK_MOST], file[TB_FILE_MOST];
+    uint8_t payload[TB_PAYLOAD_MOST], back[TB_PAYLOAD_MOST], numbers[TRACES + 1], room[2 * READS];
     uint32_t counts[7 * TRACES];
     tb_device device;
     tb_state state;
@@ -82,6 +88,7 @@ static _Alignas(4096) struct {
     tb_sized sized;
     tb_span span;
     tb_reported reported;
+    tb_checked checked;
     uint32_t sum;
     double heat;
 } at;
@@ -155,6 +162,21 @@ static void work_cut(const maker *m) {
         at.sum += m->cycle(at.device, at.state, (tb_bus)DOWN(2), at.array, 131072, at.residue, 8192).state.status;
 }
 
+/* The same in the last block of a 28F400BR-T, the longest there is. */
+static void ready_long_erase(void) {
+    part(TB_28F400BR_T, 0, 1, 1);
+    at.state = busy(TB_ERASING, 1, 0);
+    specks(at.residue, sizeof at.residue);
+}
+static void work_long_end(const maker *m) {
+    for (int t = 0; t < TURNS; t++)
+        at.sum += m->cycle(at.device, at.state, (tb_bus)R(0), at.array, TB_SIZE_MOST, NULL, 0).value;
+}
+static void work_long_cut(const maker *m) {
+    for (int t = 0; t < TURNS; t++)
+        at.sum += m->cycle(at.device, at.state, (tb_bus)DOWN(2), at.array, TB_SIZE_MOST, at.residue, sizeof at.residue).state.status;
+}
+
 /* One cycle over and over from one state of bench T. */
 static tb_bus same;
 static void ready_same_cycle(tb_state state, tb_bus cycle) {
@@ -219,13 +241,29 @@ static void ready_word_end(void) {
     ready_words(s, (tb_bus)AT_5V(0, 0x1D000, 0));
 }
 static void ready_word_erase(void) { ready_words(busy(TB_ERASING, 1, 0x1D000), (tb_bus)AT_5V(0, 0, 0)); }
+static void ready_byte_read(void) { ready_words(resting, (tb_bus)AT_5V(0, 0x1234, 0)), at.device.word = 0; }
+static void ready_byte_command(void) { ready_words(resting, (tb_bus)AT_5V(1, 0, 0x70)), at.device.word = 0; }
+static void ready_byte_end(void) {
+    tb_state s = busy(TB_PROGRAMMING, 1, 0x3A000);
+    s.data = 0x5A;
+    ready_words(s, (tb_bus)AT_5V(0, 0x3A000, 0)), at.device.word = 0;
+}
+static void ready_large_confirm(void) {
+    tb_state s = {.mode = TB_MODE_STATUS, .status = 0x80, .phase = TB_ERASE_AWAITED, .wear = WORN};
+    ready_words(s, (tb_bus)AT_5V(1, 0x3A000, 0xD0)), at.device.number = TB_28F400BR_B;
+}
+static void work_large(const maker *m) {
+    for (int t = 0; t < TURNS; t++)
+        at.answer = m->cycle(at.device, at.state, same, at.array, TB_SIZE_MOST, NULL, 0);
+}
 static void work_words(const maker *m) {
     for (int t = 0; t < TURNS; t++)
         at.answer = m->cycle(at.device, at.state, same, at.array, 262144, NULL, 0);
 }
 
-/* A load of block 1 or 0 of bench T: 512 or 1,024 bytes; or of block 1 of a 28F200BR-T in words, 8,192 bytes. */
-static uint32_t first_of(void) { return size == 512 ? 0x3A00 : size == 1024 ? 0x3C00 : 0x3A000; }
+/* A load of block 1 or 0 of bench T: 512 or 1,024 bytes; of block 1 of a 28F200BR-T, 8,192 bytes; or of the last block of a 28F400BR-T,
+ * 131,072 bytes, the longest there is. */
+static uint32_t first_of(void) { return size == 512 ? 0x3A00 : size == 1024 ? 0x3C00 : size == 8192 ? 0x3A000 : 0; }
 static void fill_full(void) {
     memset(at.array + first_of(), 0, size);
     for (size_t i = 0; i < size; i++)
@@ -246,6 +284,36 @@ static void ready_same(void) {
 static void ready_same_words(void) {
     ready_full_words();
     memcpy(at.array + first_of(), at.wanted, size);
+}
+static void ready_large_on(uint8_t word, bool held) {
+    part(TB_28F400BR_T, word, 1, 1);
+    fill_full();
+    if (held)
+        memcpy(at.array, at.wanted, size);
+}
+static void ready_large(void) { ready_large_on(0, false); }
+static void ready_large_same(void) { ready_large_on(0, true); }
+static void ready_large_words(void) { ready_large_on(1, false); }
+static void ready_large_words_same(void) { ready_large_on(1, true); }
+static void work_run_large(const maker *m) {
+    at.ran = m->run(at.device, at.state, 1, 0, 5000, 6, at.array, TB_SIZE_MOST, at.wanted, size, at.scratch, size);
+}
+static void work_verify_large(const maker *m) {
+    at.ran = m->verify(at.device, at.state, 1, 0, 0, 6, at.array, TB_SIZE_MOST, at.wanted, size, at.scratch, size);
+}
+#ifdef QUICK
+/* The longest run there is. A run that makes each of its cycles does not come to its end here. */
+static void ready_longest(void) {
+    ready_large_on(0, false);
+    at.device.program = at.device.erase = TB_BUSY_MOST;
+}
+#endif
+static void ready_full_bytes(void) {
+    part(TB_28F200BR_T, 0, 2, 3);
+    fill_full();
+}
+static void work_stepped(const maker *m) {
+    at.ran = m->stepped(at.device, at.state, 2, 0, 12000, size == 512 ? 1 : 0, at.array, 16384, at.wanted, size, at.scratch, size);
 }
 static void work_run(const maker *m) {
     at.ran = m->run(at.device, at.state, 2, 0, 12000, size == 512 ? 1 : 0, at.array, 16384, at.wanted, size, at.scratch, size);
@@ -343,7 +411,8 @@ static void work_sums(const maker *m) {
 static void ready_table(void) {
     for (size_t i = 0; i < size; i++) {
         uint32_t volts = (uint32_t)(-9000 + (int32_t)(size > 673 ? i * 4 : i * 118 + i * 7 % 50)), tenths = (uint32_t)(i * 13 % 9000);
-        const uint8_t six[] = {(uint8_t)(volts >> 24), (uint8_t)(volts >> 16), (uint8_t)(volts >> 8), (uint8_t)volts, (uint8_t)(tenths >> 8), (uint8_t)tenths};
+        const uint8_t six[] = {(uint8_t)(volts >> 24), (uint8_t)(volts >> 16), (uint8_t)(volts >> 8),
+                               (uint8_t)volts,         (uint8_t)(tenths >> 8), (uint8_t)tenths};
         memcpy(at.payload + 6 * i, six, 6);
     }
 }
@@ -367,16 +436,17 @@ static void work_check(const maker *m) {
 static void ready_traces(void) {
     at.state = resting;
     memset(at.numbers, 3, sizeof at.numbers);
-    for (size_t i = 0; i < 7 * TRACES; i++)
+    for (size_t i = 0; i < 7 * (size_t)TRACES; i++)
         at.counts[i] = (uint32_t)(i * i * 2654435761u >> 7);
 }
 static void work_add(const maker *m) {
     for (int t = 0; t < TURNS; t++)
         at.reported = m->add(3, at.reported.report, 3, at.state.wear);
 }
+static void work_report_once(const maker *m) { at.reported = m->report(3, at.numbers, size, at.counts, 7 * size); }
 static void work_report(const maker *m) {
     for (int t = 0; t < TURNS; t++)
-        at.reported = m->report(3, at.numbers, size, at.counts, 7 * size);
+        work_report_once(m);
 }
 
 /* A store of eight files that fill the main block of part `size`: 28 places each on the 28F001BX, 3 or 4 on bench T. */
@@ -390,6 +460,7 @@ static void ready_store(void) {
         to += c_file_write((uint8_t)TB_LETTERS[i], at.payload, blocks * TB_FILE_USED, to, blocks * TB_FILE_BLOCK).length;
     }
 }
+static void ready_blank_store(void) { memset(at.array, 0xFF, sizeof at.array); }
 static void work_find(const maker *m) {
     for (int i = 0; i < TURNS; i++)
         at.sized = m->find((uint8_t)size, 0, 'T', at.array, c_size((uint8_t)size), at.file, sizeof at.file);
@@ -397,6 +468,68 @@ static void work_find(const maker *m) {
 static void work_find_none(const maker *m) {
     for (int i = 0; i < TURNS; i++)
         at.sized = m->find((uint8_t)size, 0, 'A', at.array, c_size((uint8_t)size), at.file, sizeof at.file);
+}
+
+/* A recording of as many records as `size` says, on bench T or on a 28F400BR-T in words: programs with their polls and reads, every tenth
+ * time an erase with a suspend. It is made by the second implementation, on an array of its own, which is then the one promised. */
+static uint8_t promised[TB_SIZE_MOST];
+static tb_record records[RECORDS + 64];
+static size_t recorded;
+static tb_state recorded_state;
+static void record(uint8_t kind, uint32_t address, uint16_t data) {
+    tb_device longest = {at.device.number, at.device.word, TB_BUSY_MOST, TB_BUSY_MOST, at.device.suspend};
+    tb_bus bus = {.kind = kind, .rp = 1, .data = data, .vpp_mv = 12000, .address = address};
+    tb_answer a = c_cycle(longest, recorded_state, bus, promised, c_size(at.device.number), NULL, 0);
+    records[recorded++] = (tb_record){bus, a.seen, a.value, 3};
+    if (recorded_state.phase < TB_PROGRAMMING && a.state.phase >= TB_PROGRAMMING)
+        a.state.left = 3;
+    recorded_state = a.state;
+}
+static void record_program(uint32_t i) {
+    const uint16_t writes[] = {0x40, (uint16_t)(i * 321), 0xFF};
+    record(1, i, writes[0]), record(1, i, writes[1]), record(0, i, 0), record(0, i, 0), record(0, i, 0), record(1, i, writes[2]);
+    record(0, i, 0), record(0, i + 1, 0);
+}
+static void record_erase(void) {
+    static const uint16_t writes[] = {0x20, 0xD0, 0xB0, 0x70, 0xFF};
+    uint32_t first = (uint32_t)(c_block(at.device.number, 1).first >> at.device.word);
+    for (int i = 0; i < 5; i++)
+        record(1, first, writes[i]);
+    record(0, 0, 0), record(0, 1, 0), record(1, first, 0xD0), record(0, first, 0), record(0, first, 0), record(1, first, 0xFF);
+}
+static void ready_recording_on(uint8_t number, uint8_t word) {
+    part(number, word, 2, 3);
+    memcpy(promised, at.array, sizeof promised);
+    recorded_state = at.state;
+    recorded = 0;
+    for (uint32_t i = 0; recorded + 12 < size; i++)
+        i % 10 == 9 ? record_erase() : record_program(i);
+    while (recorded < size)
+        record(0, (uint32_t)recorded, 0);
+}
+static void ready_recording(void) { ready_recording_on(TB_BENCH_T, 0); }
+static void ready_word_recording(void) { ready_recording_on(TB_28F400BR_T, 1); }
+static void work_recording(const maker *m) {
+    size_t n = c_size(at.device.number);
+    at.checked = m->recording(at.device, at.state, records, size, promised, n, at.array, n);
+}
+
+/* A load of 512 bytes whose erase takes 40 cycles and is interrupted `size` times for 16 reads each; S is 3. */
+static const uint32_t interrupted_at[] = {2, 5, 9, 20};
+static void ready_interrupted(void) {
+    size_t times = size;
+    size = 512;
+    part(TB_BENCH_T, 0, 2, 40);
+    fill_full();
+    at.device.suspend = 3;
+    size = times;
+}
+static void work_interrupted(const maker *m) {
+    uint32_t addresses[READS];
+    for (uint32_t i = 0; i < READS; i++)
+        addresses[i] = 100 * i;
+    at.ran = m->held(at.device, at.state, 1, 0, 12000, 1, 1, at.array, 16384, at.wanted, 512, at.scratch, 512, interrupted_at, size,
+                     addresses, READS, at.room, sizeof at.room);
 }
 
 static const struct {
@@ -427,6 +560,12 @@ static const struct {
     {"words: a write, 70H", 0, TURNS, ready_word_command, work_words, NULL},
     {"words: a program's end", 0, TURNS, ready_word_end, work_words, NULL},
     {"words: an erase's end, 8,192 bytes", 0, TURNS, ready_word_erase, work_words, NULL},
+    {"device 5, bytes: an array read", 0, TURNS, ready_byte_read, work_words, NULL},
+    {"device 5, bytes: a write, 70H", 0, TURNS, ready_byte_command, work_words, NULL},
+    {"device 5, bytes: a program's end", 0, TURNS, ready_byte_end, work_words, NULL},
+    {"device 8, words: D0H that starts an erase, block 6", 0, TURNS, ready_large_confirm, work_large, NULL},
+    {"device 7: an erase's end, 131,072 bytes", 0, TURNS, ready_long_erase, work_long_end, NULL},
+    {"device 7: an erase cut, 131,072 bytes copied", 0, TURNS, ready_long_erase, work_long_cut, NULL},
     {"fresh", 0, TURNS, ready_nothing, work_fresh, NULL},
     {"size of a part", 0, TURNS, ready_nothing, work_size, NULL},
     {"block of a part", 0, TURNS, ready_nothing, work_block, NULL},
@@ -441,6 +580,20 @@ static const struct {
     {"words: a run of 4,096, one erase, all programmed", 8192, 1, ready_full_words, work_run_words, NULL},
     {"words: a run of 4,096 held as wanted", 8192, 1, ready_same_words, work_run_words, NULL},
     {"words: a verify of 4,096 held as wanted", 8192, 1, ready_same_words, work_verify_words, NULL},
+    {"run: 512 bytes, all programmed, the C by steps", 512, 1, ready_full, work_stepped, NULL},
+    {"run: 512 bytes held as wanted, the C by steps", 512, 1, ready_same, work_stepped, NULL},
+    {"device 5, bytes: a run of 8,192, all programmed", 8192, 1, ready_full_bytes, work_run_words, NULL},
+    {"device 7, bytes: a run of 131,072, P and E 1", TB_BLOCK_MOST, 1, ready_large, work_run_large, NULL},
+    {"device 7, bytes: 131,072 held as wanted", TB_BLOCK_MOST, 1, ready_large_same, work_run_large, NULL},
+    {"device 7, words: a run of 65,536, P and E 1", TB_BLOCK_MOST, 1, ready_large_words, work_run_large, NULL},
+    {"device 7, words: 65,536 held as wanted", TB_BLOCK_MOST, 1, ready_large_words_same, work_run_large, NULL},
+    {"device 7, bytes: a verify of 131,072", TB_BLOCK_MOST, 1, ready_large_same, work_verify_large, NULL},
+    {"device 7, words: a verify of 65,536", TB_BLOCK_MOST, 1, ready_large_words_same, work_verify_large, NULL},
+#ifdef QUICK
+    {"device 7, bytes: a run of 131,072, P and E 65,535", TB_BLOCK_MOST, 1, ready_longest, work_run_large, NULL},
+#endif
+    {"held: 512 bytes, an erase of 40, no interruption", 0, 1, ready_interrupted, work_interrupted, NULL},
+    {"held: the same with four interruptions of 16 reads", 4, 1, ready_interrupted, work_interrupted, "the four interruptions alone"},
     {"load from a file of one block", 505, 1, ready_load, work_load, NULL},
     {"writer: one block", 505, TURNS, ready_file, work_write, NULL},
     {"writer: eight blocks", 4040, TURNS, ready_file, work_write, NULL},
@@ -457,6 +610,12 @@ static const struct {
     {"wear: a report with one trace more", 0, TURNS, ready_traces, work_add, NULL},
     {"wear: a report on 100 traces", 100, TURNS, ready_traces, work_report, NULL},
     {"wear: a report on 1,000 traces", 1000, TURNS, ready_traces, work_report, NULL},
+    {"wear: a report on 65,535 traces", TB_TRACES_MOST, 1, ready_traces, work_report_once, NULL},
+    {"recording: 300 records, array of 16,384 compared", 300, 1, ready_recording, work_recording, NULL},
+    {"recording: 600 records, array of 16,384 compared", 600, 1, ready_recording, work_recording, "300 records alone"},
+    {"words: 300 records, array of 524,288 compared", 300, 1, ready_word_recording, work_recording, NULL},
+    {"words: 600 records, array of 524,288 compared", 600, 1, ready_word_recording, work_recording, "words: 300 records alone"},
+    {"store: 28 blank places judged", 3, TURNS, ready_blank_store, work_find_none, NULL},
     {"store: eight files in 28 places judged", 3, TURNS, ready_store, work_find_none, NULL},
     {"store: a file of 3 blocks found among them", 3, TURNS, ready_store, work_find, NULL},
     {"store: eight files in 224 places judged", 1, TURNS, ready_store, work_find_none, NULL},
@@ -490,16 +649,19 @@ static uint64_t heat_bits(void) {
     return bits;
 }
 static uint64_t left(void) {
-    const uint8_t *bytes = at.array;
     const uint64_t all[] = {at.answer.seen, at.answer.value, at.ran.count, at.ran.end, at.ran.address, at.sized.number,
-                            at.sized.length, at.span.first, at.span.length, at.reported.number, at.sum, heat_bits()};
-    uint64_t h = 14695981039346656037u;
+                            at.sized.length, at.span.first, at.span.length, at.reported.number, at.checked.refusal, at.checked.accepted,
+                            at.checked.at, at.sum, heat_bits()};
+    uint64_t h = 14695981039346656037u, eight;
     h = with_given(with_state(with_state(with_state(h, at.state), at.answer.state), at.ran.state), at.given);
+    h = with_state(h, at.checked.state);
     h = with_report(h, at.reported.report);
     for (size_t i = 0; i < sizeof all / sizeof all[0]; i++)
         h = more(h, all[i]);
-    for (size_t i = 0; i < offsetof(__typeof__(at), device); i++)
-        h = more(h, bytes[i]);
+    for (size_t i = 0; i < offsetof(__typeof__(at), device); i += sizeof eight) {
+        memcpy(&eight, (const uint8_t *)&at + i, sizeof eight);
+        h = more(h, eight);
+    }
     return h;
 }
 

@@ -1,7 +1,7 @@
 #!/usr/bin/env bash
-# Counts instructions: the library's and those of the second implementation in C (tests/host/second*) at gcc -O3, in one run, and
-# prints a table. The counts are exact: every run of the same two gives the same numbers, on any machine. Both run under
-# qemu-x86_64 with count.c.
+# run.sh [-DQUICK]: counts instructions, the library's and those of the second implementation in C (tests/host/second*) at gcc -O3, in
+# one run, and prints a table. The counts are exact: every run of the same two gives the same numbers, on any machine. Both run under
+# qemu-x86_64 with count.c. -DQUICK adds the longest run there is, for a library whose run does not make each of its cycles.
 set -eu
 here=$(dirname -- "$(readlink -f -- "$0")")
 # shellcheck source=tests/host/tools.sh
@@ -9,6 +9,8 @@ here=$(dirname -- "$(readlink -f -- "$0")")
 archive
 table_archive
 store_archive
+recording_archive
+held_archive
 compiler
 emulator
 want 'command -v gcc' gcc libc6-dev
@@ -17,16 +19,16 @@ want 'command -v gcc' gcc libc6-dev
 major=$(qemu-x86_64 --version | sed -n 's/^qemu-x86_64 version \([0-9]*\).*/\1/p')
 gcc -O2 -fPIC -shared -DVERSION=$((major < 9 ? 1 : 2)) "$here/count.c" -o "$out/count.so" || fail 3 "the counter could not be built"
 second=$here/../tests/host
-$CC -std=gnu11 -O3 -Wall -Wextra -Werror -static -I "$inc" -I "$second" "$here/main.c" "$second"/second_*.c "$lib" "$table" "$store" \
-    -o "$out/bench" ||
+$CC "$@" -std=gnu11 -O3 -Wall -Wextra -Werror -static -I "$inc" -I "$second" "$here/main.c" "$second"/second_*.c "$lib" "$table" "$store" \
+    "$recording" "$held" -o "$out/bench" ||
     fail 3 "the bench could not be built"
 qemu-x86_64 -cpu qemu64 -plugin "$out/count.so" -d plugin -D "$out/marks" "$out/bench" >"$out/rows" ||
     fail 1 "the library and the second implementation differ: $(tail -n 1 "$out/rows")"
 
 awk '
     function line(name, a, b) {
-        if (!rows++) printf "| %-46s | %10s | %10s | %5s |\n|---|---:|---:|---:|\n", "work", "library", "C", "ratio"
-        printf "| %-46s | %10.0f | %10.0f | %5.2f |\n", name, a, b, a / b
+        if (!rows++) printf "| %-50s | %10s | %10s | %5s |\n|---|---:|---:|---:|\n", "work", "library", "C", "ratio"
+        printf "| %-50s | %10.0f | %10.0f | %5.2f |\n", name, a, b, a / b
         if (a / b > worst) worst = a / b
         if (a / b > 1.2) over++
     }

@@ -83,6 +83,23 @@ static void account(int group) {
     mark_if(ref.end == TB_VERIFY_FAILED, ref.address % 2 ? HIGH_DIFFERS : LOW_DIFFERS);
 }
 
+/* The second implementation runs by stages. One run in eight it makes once more cycle by cycle, on copies; both must leave the same. */
+static uint8_t stepped_array[TB_SIZE_MOST + 1], stepped_scratch[TB_BLOCK_MOST + 1];
+static bool steps_too(int group) {
+    static unsigned runs;
+    if (group != IN_RUN || runs++ % 8 != 0)
+        return false;
+    memcpy(stepped_array, array.ref, array.length);
+    memcpy(stepped_scratch, scratch.ref, scratch.length);
+    return true;
+}
+static void hold_steps(void) {
+    lib = c_stepped_run(device, state, rp, wp, vpp, block, stepped_array, array.length, wanted.ref, wanted.length, stepped_scratch,
+                        scratch.length);
+    if (!same_ran() || memcmp(stepped_array, array.ref, array.length) != 0 || memcmp(stepped_scratch, scratch.ref, scratch.length) != 0)
+        mismatch("run by stages and by steps, both of the second implementation");
+}
+
 /* A run, a load alone or a verify alone. */
 static void compare_run(const char *name, int group, run_call *library, run_call *second) {
     twin *lent[] = {&array, &wanted, &scratch};
@@ -91,11 +108,14 @@ static void compare_run(const char *name, int group, run_call *library, run_call
     untouched(lib.count == 0, name, lent, 3);
     if (lib.count == 0 && !same_state(lib.state, state))
         mismatch(name);
+    bool steps = steps_too(group);
     ref = second(device, state, rp, wp, vpp, block, ref_of(&array), array.length, ref_of(&wanted), wanted.length, ref_of(&scratch),
                  scratch.length);
     alike(same_ran(), name, lent, 3);
     hold_wear(name, group == IN_VERIFY_RUN);
     account(group);
+    if (steps)
+        hold_steps();
 }
 
 /* A run or a verify alone, from a file. */

@@ -29,6 +29,8 @@ tb_given c_verify_start(uint8_t part, uint8_t word, uint8_t rp, uint8_t wp, uint
 tb_turn c_step(tb_loader *, uint16_t value, const uint8_t *wanted, size_t, uint8_t *scratch, size_t);
 tb_ran c_run(tb_device, tb_state, uint8_t rp, uint8_t wp, uint32_t vpp, uint8_t block, uint8_t *array, size_t, const uint8_t *wanted,
              size_t, uint8_t *scratch, size_t);
+tb_ran c_stepped_run(tb_device, tb_state, uint8_t rp, uint8_t wp, uint32_t vpp, uint8_t block, uint8_t *array, size_t,
+                     const uint8_t *wanted, size_t, uint8_t *scratch, size_t); /* as c_run, cycle by cycle */
 tb_ran c_load_run(tb_device, tb_state, uint8_t rp, uint8_t wp, uint32_t vpp, uint8_t block, uint8_t *array, size_t,
                   const uint8_t *wanted, size_t, uint8_t *scratch, size_t);
 tb_ran c_verify_run(tb_device, tb_state, uint8_t rp, uint8_t wp, uint32_t vpp, uint8_t block, uint8_t *array, size_t,

@@ -1,9 +1,7 @@
 /* The second implementation: a load whose erase is interrupted for reads from other blocks, run and a step at a time. The usual cycles of a
- * step are those of c_step; the cycles of a run are made by c_cycle. */
-#include <string.h>
-
+ * step are those of c_step. A run's stages are those of second_run.h, but for the erase, whose cycles are made one by one. */
 #include "second_file.h"
-#include "second_load.h"
+#include "second_run.h"
 
 enum { READS_MOST = TB_HELD_MOST };
 
@@ -24,6 +22,15 @@ static bool listed(const lists *h, uint32_t number) {
     return false;
 }
 
+/* The lowest listed number from that one on; past all numbers where there is none. */
+static uint64_t listed_from(const lists *h, uint64_t from) {
+    uint64_t next = UINT64_MAX;
+    for (size_t i = 0; i < h->polls_length; i++)
+        if (h->polls[i] >= from && h->polls[i] < next)
+            next = h->polls[i];
+    return next;
+}
+
 /* 5, 45, 46, 37: each over the addresses from `from` to `to` before the next. */
 static uint8_t lists_bad(const part_rules *p, uint8_t block, bool word, const lists *h, size_t from, size_t to) {
     for (size_t i = from; i < to; i++)
@@ -37,31 +44,31 @@ static uint8_t lists_bad(const part_rules *p, uint8_t block, bool word, const li
     return h->room_length < (h->count << (SLIP(111) ? 0 : word)) ? TB_NO_ROOM : TB_OK;
 }
 
-/* A run, cycle by cycle. */
-typedef struct {
-    tb_device device;
-    tb_state state;
-    uint8_t rp, wp;
-    uint32_t vpp, first;
-    uint8_t *array;
-    uint64_t count;
-} bench;
-
-static uint16_t made(bench *b, uint8_t kind, uint32_t address, uint16_t data) {
-    tb_bus bus = {.kind = kind, .rp = b->rp, .wp = b->wp, .vpp_mv = b->vpp, .address = address, .data = data};
-    tb_answer a = c_cycle(b->device, b->state, bus, b->array, second_parts[b->device.number].size, NULL, 0);
-    b->state = a.state;
+/* One cycle of the erase at the block's first address. None is refused or cut. */
+static inline uint16_t made(bench *b, const tb_bus *bus) {
+    operation o = operation_of(&b->state);
+    bool word = b->chip.device->word, ends;
+    uint16_t unit = 0;
+    worked_out(&b->chip, word, &b->state, bus, &unit, &ends);
+    if (ends)
+        finish(&b->chip, word, o);
     b->count++;
-    return a.value;
+    return unit;
 }
 
-static void give(bench *b, uint32_t address, uint16_t data) { made(b, TB_CYCLE_WRITE, address, data); }
-static uint16_t take(bench *b, uint32_t address) { return made(b, TB_CYCLE_READ, address, 0); }
+/* The erase's own levels and address, with nothing to read or write yet. */
+static void give(bench *b, tb_bus at, uint16_t data) {
+    at.kind = TB_CYCLE_WRITE;
+    at.data = data;
+    made(b, &at);
+}
+
+static uint16_t take(bench *b, tb_bus at) { return made(b, &at); }
 
 /* Polls until the chip is ready: its status, or 0 after so many. */
-static uint8_t ready(bench *b, uint32_t address, uint32_t most) {
-    for (uint32_t i = 0; i < most; i++) {
-        uint8_t status = (uint8_t)take(b, address);
+static uint8_t ready(bench *b, tb_bus at) {
+    for (uint32_t i = 0; i < POLLS_MOST; i++) {
+        uint8_t status = (uint8_t)take(b, at);
         if (status & TB_SR_READY)
             return status;
     }
@@ -69,37 +76,41 @@ static uint8_t ready(bench *b, uint32_t address, uint32_t most) {
 }
 
 /* An interruption: the number that ends the load, and whether the erase goes on. */
-static uint8_t interrupted(bench *b, const lists *h, bool *on) {
-    bool word = b->device.word;
-    give(b, b->first, 0xB0);
+static uint8_t interrupted(bench *b, tb_bus at, const lists *h, bool *on) {
+    bool word = b->chip.device->word;
+    give(b, at, 0xB0);
     if (!SLIP(112))
-        give(b, b->first, 0x70);
-    uint8_t status = ready(b, b->first, POLLS_MOST), number = status == 0 ? TB_NEVER_READY : status_judged(status, true);
+        give(b, at, 0x70);
+    uint8_t status = ready(b, at), number = status == 0 ? TB_NEVER_READY : status_judged(status, true);
     if (number != TB_OK)
         return number;
-    give(b, b->first, 0xFF);
-    for (size_t i = 0; i < h->count; i++)
-        put_unit(h->room, i, take(b, h->addresses[i]), word);
+    give(b, at, 0xFF);
+    for (size_t i = 0; i < h->count; i++) /* reads of other blocks: each gives its unit and changes nothing */
+        put_unit(h->room, i, unit_of(b->chip.array, h->addresses[i], word), word);
+    b->count += h->count;
     *on = status & TB_SR_SUSPENDED;
     if (*on || SLIP(113))
-        give(b, b->first, 0xD0);
+        give(b, at, 0xD0);
     return TB_OK;
 }
 
-static uint8_t erase_waited(bench *b, const lists *h) {
+/* Polls with numbers, from 1 on. What is listed next is looked up once for each interruption. */
+static uint8_t erase_waited(bench *b, tb_bus at, const lists *h) {
     uint32_t waited = 0;
-    for (uint32_t number = SLIP(114) ? 0 : 1;; number++) {
-        if (listed(h, number)) {
+    uint64_t next = listed_from(h, SLIP(114) ? 0 : 1);
+    for (uint64_t number = SLIP(114) ? 0 : 1;; number++) {
+        if (number == next) {
             bool on = true;
-            uint8_t end = interrupted(b, h, &on);
+            uint8_t end = interrupted(b, at, h, &on);
             if (end != TB_OK || !on)
                 return end;
             waited = 0;
             if (SLIP(116))
                 number = 0;
+            next = listed_from(h, number + 1);
             continue;
         }
-        uint8_t status = (uint8_t)take(b, b->first);
+        uint8_t status = (uint8_t)take(b, at);
         if (status & TB_SR_READY)
             return status_judged(status, true);
         if (++waited == POLLS_MOST)
@@ -107,101 +118,57 @@ static uint8_t erase_waited(bench *b, const lists *h) {
     }
 }
 
-static uint8_t programmed(bench *b, const uint8_t *wanted, uint8_t *scratch, size_t n) {
-    bool word = b->device.word;
-    for (size_t i = 0; (i = unit_differs(i, word, wanted, scratch, n)) < n >> word; i++) {
-        uint32_t here = b->first + (uint32_t)i;
-        uint16_t unit = unit_of(wanted, i, word);
-        give(b, here, 0x40);
-        give(b, here, unit);
-        uint8_t status = ready(b, here, POLLS_MOST), end = status == 0 ? TB_NEVER_READY : status_judged(status, false);
+static uint8_t loaded(bench *b, const order *o, const lists *h) {
+    bool word = o->device.word;
+    open_block(b, word);
+    if (must_erase(b->wanted, b->scratch, b->n)) {
+        uint32_t first = b->chip.part->block[o->block].first >> word;
+        tb_bus at = {.kind = TB_CYCLE_READ, .rp = o->rp, .wp = o->wp, .vpp_mv = o->vpp, .address = first};
+        give(b, at, 0x20);
+        give(b, at, 0xD0);
+        uint8_t end = erase_waited(b, at, h);
         if (end != TB_OK)
             return end;
-        put_unit(scratch, i, unit, word);
+        memset(b->scratch, 0xFF, b->n);
     }
-    return TB_OK;
+    return program_all(b, word);
 }
 
-static uint8_t loaded(bench *b, const lists *h, const uint8_t *wanted, uint8_t *scratch, size_t n) {
-    bool word = b->device.word;
-    give(b, b->first, 0x50);
-    give(b, b->first, 0xFF);
-    for (size_t i = 0; i < n >> word; i++)
-        put_unit(scratch, i, take(b, b->first + (uint32_t)i), word);
-    if (must_erase(wanted, scratch, n)) {
-        give(b, b->first, 0x20);
-        give(b, b->first, 0xD0);
-        uint8_t end = erase_waited(b, h);
-        if (end != TB_OK)
-            return end;
-        memset(scratch, 0xFF, n);
-    }
-    return programmed(b, wanted, scratch, n);
-}
-
-static uint8_t verified(bench *b, const uint8_t *wanted, uint8_t *scratch, size_t n, uint32_t *address) {
-    bool word = b->device.word;
-    give(b, b->first, 0xFF);
-    for (size_t i = 0; i < n >> word; i++) {
-        uint16_t unit = take(b, b->first + (uint32_t)i), want = unit_of(wanted, i, word);
-        put_unit(scratch, i, unit, word);
-        if (unlike(unit, want)) {
-            *address = told(b->first + (uint32_t)i, word, high_differs(unit, want));
-            return TB_VERIFY_FAILED;
-        }
-    }
-    return TB_OK;
-}
-
-/* 1 to 4 and 10 to 12. Whether a state is proper c_cycle tells, in an idle cycle with RP# low. */
-static uint8_t run_refused(tb_device d, const tb_state *s, uint8_t rp, uint8_t wp, uint32_t vpp, uint8_t block, size_t array, size_t wanted,
-                           size_t scratch) {
-    if (!known(d.number, d.word) || d.program == 0 || d.erase == 0 || d.suspend - 1u >= 100)
-        return TB_NO_DEVICE;
-    const part_rules *p = &second_parts[d.number];
-    if (array != p->size)
-        return TB_WRONG_ARRAY;
-    tb_bus idle = {.kind = TB_CYCLE_IDLE, .rp = TB_RP_LOW, .vpp_mv = 0};
-    static uint8_t residue[TB_BLOCK_MOST], nothing[TB_SIZE_MOST];
-    if (c_cycle(d, *s, idle, nothing, p->size, residue, sizeof residue).seen == TB_REFUSED)
-        return TB_IMPROPER;
-    if (pins_bad(p, rp, wp, vpp))
-        return TB_BAD_LEVEL;
-    uint8_t number = lengths_bad(p, block, wanted, scratch);
-    return number != TB_OK ? number : s->phase != TB_FREE ? TB_UNDER_WAY : TB_OK;
+static tb_ran ran(const order *o, bool verify, uint8_t *array, const uint8_t *wanted, uint8_t *scratch, size_t n, const lists *h) {
+    bench b = bench_of(o, array, wanted, scratch, n);
+    uint32_t address = 0;
+    uint8_t end = loaded(&b, o, h);
+    if (end == TB_OK && verify)
+        end = verify_all(&b, o->device.word, &address);
+    return (tb_ran){b.count, end, address, b.state};
 }
 
 tb_ran c_held_run(tb_device d, tb_state s, uint8_t rp, uint8_t wp, uint32_t vpp, uint8_t block, uint8_t verify, uint8_t *array, size_t size,
                   const uint8_t *wanted, size_t n, uint8_t *scratch, size_t m, const uint32_t *polls, size_t q, const uint32_t *addresses,
                   size_t k, uint8_t *room, size_t r) {
+    order o = {d, s, rp, wp, block, vpp};
     lists h = {polls, q, addresses, k, room, r};
-    uint8_t number = run_refused(d, &s, rp, wp, vpp, block, size, n, m);
+    uint8_t number = run_refused(&o, size, n, m);
     if (number == TB_OK)
-        number = lists_bad(&second_parts[d.number], block, d.word, &h, 0, k);
-    if (number != TB_OK)
-        return (tb_ran){0, number, 0, s};
-    bench b = {d, s, rp, wp, vpp, second_parts[d.number].block[block].first >> d.word, array, 0};
-    uint32_t address = 0;
-    uint8_t end = loaded(&b, &h, wanted, scratch, n);
-    if (end == TB_OK && verify)
-        end = verified(&b, wanted, scratch, n, &address);
-    return (tb_ran){b.count, end, address, b.state};
+        number = lists_bad(second_parts[d.number], block, d.word, &h, 0, k);
+    return number != TB_OK ? (tb_ran){0, number, 0, s} : ran(&o, verify, array, wanted, scratch, n, &h);
 }
 
 tb_ran c_held_load(tb_device d, tb_state s, uint8_t rp, uint8_t wp, uint32_t vpp, uint8_t block, uint8_t verify, uint8_t letter,
                    const uint8_t *file, size_t f, uint8_t *array, size_t size, uint8_t *wanted, size_t n, uint8_t *scratch, size_t m,
                    const uint32_t *polls, size_t q, const uint32_t *addresses, size_t k, uint8_t *room, size_t r) {
+    order o = {d, s, rp, wp, block, vpp};
     lists h = {polls, q, addresses, k, room, r};
-    uint8_t number = run_refused(d, &s, rp, wp, vpp, block, size, n, m);
+    uint8_t number = run_refused(&o, size, n, m);
     if (number == TB_OK)
         number = f > n ? TB_FILE_SIZE : second_judge(letter, file, f);
     if (number == TB_OK)
-        number = lists_bad(&second_parts[d.number], block, d.word, &h, 0, k);
+        number = lists_bad(second_parts[d.number], block, d.word, &h, 0, k);
     if (number != TB_OK)
         return (tb_ran){0, number, 0, s};
     memcpy(wanted, file, f);
     memset(wanted + f, 0xFF, n - f);
-    return c_held_run(d, s, rp, wp, vpp, block, verify, array, size, wanted, n, scratch, m, polls, q, addresses, k, room, r);
+    return ran(&o, verify, array, wanted, scratch, n, &h);
 }
 
 /* A step at a time. */
@@ -331,7 +298,7 @@ tb_held_given c_held_start(uint8_t part, uint8_t word, uint8_t rp, uint8_t wp, u
     (void)room;
     if (g.turn.turn == TB_BARRED)
         return (tb_held_given){g.turn, x};
-    uint8_t number = lists_bad(&second_parts[part], block, word, &h, 0, k);
+    uint8_t number = lists_bad(second_parts[part], block, word, &h, 0, k);
     if (number == TB_OK)
         return (tb_held_given){g.turn, x};
     ended(&x, number);
@@ -342,9 +309,9 @@ tb_held_given c_held_step(tb_held x, uint16_t value, const uint8_t *wanted, size
                           size_t q, const uint32_t *addresses, size_t k, uint8_t *room, size_t r) {
     lists h = {polls, q, addresses, k, room, r};
     tb_held was = x;
-    if (!known(x.loader.part, x.loader.word))
+    if (part_in(x.loader.part, x.loader.word) == NULL)
         return (tb_held_given){barred(TB_NO_DEVICE), was};
-    const part_rules *p = &second_parts[x.loader.part];
+    const part_rules *p = second_parts[x.loader.part];
     uint8_t number = record_bad(p, &x.loader) || hold_bad(&x, k) ? TB_IMPROPER : unfit(p, &x.loader, n, m);
     size_t place = read_next(&x.hold, k);
     if (number == TB_OK)

@@ -26,6 +26,12 @@ static inline uint64_t eight(const uint8_t *at) {
     return word;
 }
 
+static inline uint16_t two(const uint8_t *at) {
+    uint16_t word;
+    memcpy(&word, at, 2);
+    return word;
+}
+
 /* Whether some wanted byte has a 1 where scratch has a 0. */
 static inline bool must_erase(const uint8_t *wanted, const uint8_t *scratch, size_t n) {
     for (size_t i = 0; i < n; i += 8)
@@ -46,6 +52,18 @@ static inline size_t differs_from(size_t from, const uint8_t *wanted, const uint
 /* The same in units, of n bytes that are whole units. */
 static inline size_t unit_differs(size_t from, bool word, const uint8_t *wanted, const uint8_t *scratch, size_t n) {
     return differs_from(from << word, wanted, scratch, n) >> word;
+}
+
+/* How many units differ. */
+static inline uint32_t units_unlike(bool word, const uint8_t *wanted, const uint8_t *scratch, size_t n) {
+    uint32_t unlike = 0;
+    if (word)
+        for (size_t i = 0; i < n / 2; i++)
+            unlike += two(wanted + 2 * i) != two(scratch + 2 * i);
+    else
+        for (size_t i = 0; i < n; i++)
+            unlike += wanted[i] != scratch[i];
+    return unlike;
 }
 
 /* The verify read `read` where `want` is wanted: whether that is another unit, and whether only the high bytes differ. */

@@ -3,7 +3,7 @@
 
 enum { LOW = TB_VPP_LOW_MOST_MV, BR_LOW = TB_VPP_BR_LOW_MOST_MV };
 
-const part_rules second_parts[9] = {
+static const part_rules rules[9] = {
     {0},
     {131072, 4, {{0x1E000, 0x2000}, {0x1D000, 0x1000}, {0x1C000, 0x1000}, {0x00000, 0x1C000}}, 0x94, LOW, false},
     {131072, 4, {{0x00000, 0x2000}, {0x02000, 0x1000}, {0x03000, 0x1000}, {0x04000, 0x1C000}}, 0x95, LOW, false},
@@ -27,10 +27,13 @@ const part_rules second_parts[9] = {
      true},
 };
 
-size_t c_size(uint8_t part) { return known(part, 0) ? second_parts[part].size : 0; }
+const part_rules *const second_parts[9] = {NULL,      &rules[1], &rules[2], &rules[3], &rules[4],
+                                           &rules[5], &rules[6], &rules[7], &rules[8]};
+
+size_t c_size(uint8_t part) { return part - 1u < 8 ? rules[part].size : 0; }
 
 tb_span c_block(uint8_t part, uint8_t block) {
-    if (!known(part, 0) || block >= second_parts[part].blocks)
+    if (part - 1u >= 8 || block >= rules[part].blocks)
         return (tb_span){0, 0};
-    return (tb_span){second_parts[part].block[block].first, second_parts[part].block[block].length};
+    return (tb_span){rules[part].block[block].first, rules[part].block[block].length};
 }

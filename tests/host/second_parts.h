@@ -4,6 +4,10 @@
 
 #include "second.h"
 
+/* The compiler is told to lay these into their callers, and to keep what is seldom out of the way: of itself it does neither well. */
+#define LAID_IN __attribute__((always_inline)) static inline
+#define APART __attribute__((noipa)) static
+
 /* What lies where, in bytes and byte addresses: size, and blocks outward from the boot block. Then the identifier code, the most
  * millivolts of VPP that are low, and whether the part is a 28F200BR or a 28F400BR. */
 typedef struct {
@@ -15,10 +19,21 @@ typedef struct {
     bool br;
 } part_rules;
 
-extern const part_rules second_parts[9]; /* by number; 0 is no part */
+extern const part_rules *const second_parts[9]; /* by number; 0 is no part */
 
-/* Whether there is a part of that number in that mode: word mode, 1, is for parts 5 to 8. */
-static inline bool known(uint8_t part, uint8_t word) { return part - 1u < 8 && (SLIP(46) ? word <= 1 : word <= (part > 4)); }
+/* The part of that number in that mode, or null: word mode, 1, is for parts 5 to 8. */
+static inline const part_rules *part_in(uint8_t part, uint8_t word) {
+    if (part - 1u >= 8)
+        return NULL;
+    const part_rules *p = second_parts[part];
+    return word <= (SLIP(46) ? 1 : p->br) ? p : NULL;
+}
+
+/* The part of a device, or null where its numbers are refused 1. */
+static inline const part_rules *device_part(const tb_device *d) {
+    const part_rules *p = part_in(d->number, d->word);
+    return p == NULL || d->program == 0 || d->erase == 0 || d->suspend - 1u >= (SLIP(17) ? 255 : 100) ? NULL : p;
+}
 
 static inline bool holds(const part_rules *p, unsigned block, uint32_t byte) {
     return byte - p->block[block].first < p->block[block].length;

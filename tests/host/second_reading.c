@@ -13,14 +13,16 @@ static inline double heat(const uint8_t *knot) {
 }
 
 uint8_t c_table_judge(const uint8_t *payload, size_t n) {
-    if (n % 6 != 0 || n / 6 < 2)
+    if (n % 6 != 0 || n < 12)
         return TB_TABLE_SHAPE;
-    for (size_t i = 0; i < n; i += 6) {
-        int32_t here = volts(payload + i);
-        if (here < -10000 || here > 80000 || (i > 0 && (SLIP(19) ? here < volts(payload + i - 6) : here <= volts(payload + i - 6))))
+    int32_t before = volts(payload), first = before;
+    for (const uint8_t *knot = payload + 6; knot < payload + n; knot += 6) {
+        int32_t here = volts(knot);
+        if (SLIP(19) ? here < before : here <= before)
             return TB_TABLE_VOLTS;
+        before = here;
     }
-    return TB_OK;
+    return first < -10000 || before > 80000 ? TB_TABLE_VOLTS : TB_OK; /* they rise, so those between are in range */
 }
 
 /* Two knots in range, the second above the first. */

@@ -127,8 +127,8 @@ static inline tb_given started(uint8_t part, uint8_t word, uint8_t rp, uint8_t w
     bool mode = word <= TB_WORD_MODE;
     tb_given g = {.loader = {.part = mode ? part : 0, .word = mode ? word : 0, .rp = rp, .wp = wp, .block = block, .stage = stage,
                              .verify = verify, .vpp_mv = vpp}};
-    const part_rules *p = &second_parts[known(part, word) ? part : 0];
-    uint8_t number = known(part, word) ? unfit(p, &g.loader, n, m) : TB_NO_DEVICE;
+    const part_rules *p = part_in(part, word);
+    uint8_t number = part_in(part, word) != NULL ? unfit(p, &g.loader, n, m) : TB_NO_DEVICE;
     if (number == TB_OK) {
         g.turn = out(&g.loader, word, first_of(p, &g.loader), wanted);
         return g;
@@ -157,9 +157,9 @@ tb_given c_verify_start(uint8_t part, uint8_t word, uint8_t rp, uint8_t wp, uint
 }
 
 tb_turn c_step(tb_loader *l, uint16_t value, const uint8_t *wanted, size_t n, uint8_t *scratch, size_t m) {
-    if (!known(l->part, l->word))
+    if (part_in(l->part, l->word) == NULL)
         return (tb_turn){.turn = TB_BARRED, .number = TB_NO_DEVICE};
-    const part_rules *p = &second_parts[l->part];
+    const part_rules *p = second_parts[l->part];
     uint8_t number = record_bad(p, l) ? TB_IMPROPER : unfit(p, l, n, m);
     if (number != TB_OK)
         return (tb_turn){.turn = TB_BARRED, .number = number};

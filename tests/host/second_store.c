@@ -2,7 +2,6 @@
 #include <string.h>
 
 #include "second_file.h"
-#include "second_parts.h"
 #include "second_run.h"
 
 enum { PLACE = TB_FILE_BLOCK, MAIN = 3, FILES = 8 };
@@ -21,8 +20,10 @@ typedef struct {
 } store;
 
 static bool blank(const uint8_t *place) {
-    for (size_t i = 0; i < (SLIP(100) ? 1 : PLACE); i++)
-        if (place[i] != 0xFF)
+    if (SLIP(100))
+        return place[0] == 0xFF;
+    for (size_t i = 0; i < PLACE; i += 8)
+        if (eight(place + i) != UINT64_MAX)
             return false;
     return true;
 }
@@ -62,19 +63,19 @@ static store divided(const uint8_t *block, size_t places) {
 }
 
 /* The main block of a part that has a store, and its places. */
-static const uint8_t *main_of(uint8_t part, const uint8_t *array) { return array + second_parts[part].block[MAIN].first; }
-static size_t places_of(uint8_t part) { return second_parts[part].block[MAIN].length / PLACE; }
+static const uint8_t *main_of(uint8_t part, const uint8_t *array) { return array + second_parts[part]->block[MAIN].first; }
+static size_t places_of(uint8_t part) { return second_parts[part]->block[MAIN].length / PLACE; }
 
 /* 1 for a part that has no store, or 0. */
 static uint8_t part_refused(uint8_t part, uint8_t word) {
-    return !known(part, word) || (part > TB_BENCH_B && !SLIP(103)) ? TB_NO_DEVICE : TB_OK;
+    return part_in(part, word) == NULL || (part > TB_BENCH_B && !SLIP(103)) ? TB_NO_DEVICE : TB_OK;
 }
 
 /* Finds: a refusal, or 0 and the file in *found. */
 static uint8_t sought(uint8_t part, uint8_t word, uint8_t letter, const uint8_t *array, size_t n, stood *found) {
     if (part_refused(part, word) != TB_OK)
         return TB_NO_DEVICE;
-    if (n != second_parts[part].size)
+    if (n != second_parts[part]->size)
         return TB_WRONG_ARRAY;
     store s = divided(main_of(part, array), places_of(part));
     const stood *f = file_of(&s, letter);
@@ -145,15 +146,16 @@ static void slide(const uint8_t *block, size_t places, const store *s, uint8_t l
 static tb_ran refused_by(uint8_t number, tb_state s) { return (tb_ran){0, number, 0, s}; }
 
 /* The tests of a run of the main block on a device that has a store. */
-static uint8_t run_refused(tb_device d, tb_state s, uint8_t rp, uint8_t wp, uint32_t vpp, size_t array, size_t memory, size_t scratch) {
+static uint8_t change_refused(tb_device d, tb_state s, uint8_t rp, uint8_t wp, uint32_t vpp, size_t array, size_t memory, size_t scratch) {
     uint8_t number = part_refused(d.number, d.word);
-    return number != TB_OK ? number : second_run_refused(d, s, rp, wp, vpp, MAIN, array, memory, scratch);
+    order o = {d, s, rp, wp, MAIN, vpp};
+    return number != TB_OK ? number : run_refused(&o, array, memory, scratch);
 }
 
 tb_ran c_store_drop(tb_device d, tb_state s, uint8_t rp, uint8_t wp, uint32_t vpp, uint8_t letter, uint8_t *array, size_t size,
                     uint8_t *memory, size_t n, uint8_t *scratch, size_t m) {
     stood f = {0, 0, 0};
-    uint8_t number = run_refused(d, s, rp, wp, vpp, size, n, m);
+    uint8_t number = change_refused(d, s, rp, wp, vpp, size, n, m);
     if (number == TB_OK)
         number = sought(d.number, d.word, letter, array, size, &f);
     if (number != TB_OK)
@@ -174,7 +176,7 @@ static size_t live_without(const store *s, uint8_t letter) {
 
 tb_ran c_store_add(tb_device d, tb_state s, uint8_t rp, uint8_t wp, uint32_t vpp, uint8_t letter, const uint8_t *file, size_t k,
                    uint8_t *array, size_t size, uint8_t *memory, size_t n, uint8_t *scratch, size_t m) {
-    uint8_t number = run_refused(d, s, rp, wp, vpp, size, n, m);
+    uint8_t number = change_refused(d, s, rp, wp, vpp, size, n, m);
     uint8_t judged = second_judge(letter, file, k);
     if (number != TB_OK || (judged != TB_OK && !SLIP(104)))
         return refused_by(number != TB_OK ? number : judged, s);
@@ -185,7 +187,7 @@ tb_ran c_store_add(tb_device d, tb_state s, uint8_t rp, uint8_t wp, uint32_t vpp
         return refused_by(!held.proper ? TB_NO_STORE : judged, s);
     const stood *old = file_of(&held, letter);
     if (SLIP(97) && old != NULL)
-        kill_places(array + second_parts[d.number].block[MAIN].first, old);
+        kill_places(array + second_parts[d.number]->block[MAIN].first, old);
     if (live_without(&held, letter) + count > places - SLIP(101))
         return refused_by(TB_STORE_FULL, s);
     size_t at = run_for(block, places, count);
