@@ -86,10 +86,10 @@ fn four(s: Columns, bytes: &[u8], at: usize) -> Columns
     next(s, a, b, c, d)
 }
 
-// The columns of all bytes but the first few, fewer than eight: from the last byte to the first, eight a turn.
+// The columns of all bytes but the first few, fewer than sixteen: from the last byte to the first, sixteen a turn.
 fn by_columns(bytes: &[u8]) -> Columns
     requires { ⌜ length (now bytes) ≤ 510 ⌝ }
-    ensures { λ r. ⌜ From r (length (now (bytes .entry)) % 8) (now (bytes .entry)) ⌝ }
+    ensures { λ r. ⌜ From r (length (now (bytes .entry)) % 16) (now (bytes .entry)) ⌝ }
 {
     let mut s = Columns {
         s0: 0,
@@ -102,10 +102,12 @@ fn by_columns(bytes: &[u8]) -> Columns
         t3: 0,
     };
     let mut place = bytes.len();
-    while 8 <= place {
+    while 16 <= place {
         s = four(s, bytes, place - 4);
         s = four(s, bytes, place - 8);
-        place -= 8;
+        s = four(s, bytes, place - 12);
+        s = four(s, bytes, place - 16);
+        place -= 16;
     }
     s
 }
@@ -137,7 +139,7 @@ fn check_all(bytes: &[u8]) -> u16
     let s = by_columns(bytes);
     let mut sum = plain(s);
     let mut total = weighed(s);
-    let mut place = bytes.len() % 8;
+    let mut place = bytes.len() % 16;
     while 0 < place {
         place -= 1;
         sum += byte_at(bytes, place);

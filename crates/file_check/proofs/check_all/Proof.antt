@@ -23,8 +23,8 @@ small : (c : tie.After-by-columns Inv-loop μ-loop) → Small (c .by-columns .re
 small c =
     let a = c .before .before in
     let xs = a .args .bytes .now in
-    let n : length (drop (length xs % 8) xs) ≤ 510 = simp length-drop (let p = a .pre in omega arith) in
-    held-small (c .by-columns .result) (drop (length xs % 8) xs) n (c .by-columns .ensures .held)
+    let n : length (drop (length xs % 16) xs) ≤ 510 = simp length-drop (let p = a .pre in omega arith) in
+    held-small (c .by-columns .result) (drop (length xs % 16) xs) n (c .by-columns .ensures .held)
 
 by-columns-requires : tie.Need-by-columns-requires Inv-loop μ-loop
 by-columns-requires c κs = search needs
@@ -40,7 +40,7 @@ loop-holds c =
     let k = c .before .before in
     let a = k .before .before in
     let xs = a .args .bytes .now in
-    let i = length xs % 8 in
+    let i = length xs % 16 in
     let h = k .by-columns .ensures .held in
     let m = small k in
     let e : c .before .plain .result ≡ sumOf (drop i xs) = c .before .plain .ensures ∙ h .sum in
