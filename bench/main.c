@@ -301,13 +301,11 @@ static void work_run_large(const maker *m) {
 static void work_verify_large(const maker *m) {
     at.ran = m->verify(at.device, at.state, 1, 0, 0, 6, at.array, TB_SIZE_MOST, at.wanted, size, at.scratch, size);
 }
-#ifdef QUICK
-/* The longest run there is. A run that makes each of its cycles does not come to its end here. */
+/* The longest run there is, 8,590,393,348 cycles. A run that makes each of its cycles does not come to its end here. */
 static void ready_longest(void) {
     ready_large_on(0, false);
     at.device.program = at.device.erase = TB_BUSY_MOST;
 }
-#endif
 static void ready_full_bytes(void) {
     part(TB_28F200BR_T, 0, 2, 3);
     fill_full();
@@ -589,9 +587,7 @@ static const struct {
     {"device 7, words: 65,536 held as wanted", TB_BLOCK_MOST, 1, ready_large_words_same, work_run_large, NULL},
     {"device 7, bytes: a verify of 131,072", TB_BLOCK_MOST, 1, ready_large_same, work_verify_large, NULL},
     {"device 7, words: a verify of 65,536", TB_BLOCK_MOST, 1, ready_large_words_same, work_verify_large, NULL},
-#ifdef QUICK
     {"device 7, bytes: a run of 131,072, P and E 65,535", TB_BLOCK_MOST, 1, ready_longest, work_run_large, NULL},
-#endif
     {"held: 512 bytes, an erase of 40, no interruption", 0, 1, ready_interrupted, work_interrupted, NULL},
     {"held: the same with four interruptions of 16 reads", 4, 1, ready_interrupted, work_interrupted, "the four interruptions alone"},
     {"load from a file of one block", 505, 1, ready_load, work_load, NULL},

@@ -1,7 +1,7 @@
 #!/usr/bin/env bash
-# run.sh [-DQUICK]: counts instructions, the library's and those of the second implementation in C (tests/host/second*) at gcc -O3, in
+# run.sh: counts instructions, the library's and those of the second implementation in C (tests/host/second*) at gcc -O3, in
 # one run, and prints a table. The counts are exact: every run of the same two gives the same numbers, on any machine. Both run under
-# qemu-x86_64 with count.c. -DQUICK adds the longest run there is, for a library whose run does not make each of its cycles.
+# qemu-x86_64 with count.c.
 set -eu
 here=$(dirname -- "$(readlink -f -- "$0")")
 # shellcheck source=tests/host/tools.sh
@@ -19,7 +19,7 @@ want 'command -v gcc' gcc libc6-dev
 major=$(qemu-x86_64 --version | sed -n 's/^qemu-x86_64 version \([0-9]*\).*/\1/p')
 gcc -O2 -fPIC -shared -DVERSION=$((major < 9 ? 1 : 2)) "$here/count.c" -o "$out/count.so" || fail 3 "the counter could not be built"
 second=$here/../tests/host
-$CC "$@" -std=gnu11 -O3 -Wall -Wextra -Werror -static -I "$inc" -I "$second" "$here/main.c" "$second"/second_*.c "$lib" "$table" "$store" \
+$CC -std=gnu11 -O3 -Wall -Wextra -Werror -static -I "$inc" -I "$second" "$here/main.c" "$second"/second_*.c "$lib" "$table" "$store" \
     "$recording" "$held" -o "$out/bench" ||
     fail 3 "the bench could not be built"
 qemu-x86_64 -cpu qemu64 -plugin "$out/count.so" -d plugin -D "$out/marks" "$out/bench" >"$out/rows" ||
