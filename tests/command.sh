@@ -1,7 +1,6 @@
 #!/usr/bin/env bash
 # command.sh: drives ./torfbarke the way a person would: every way to hand over a trace or a script, either engine, every fault of a line, wrong
-# calls, recordings, tables, output that cannot be written, dumps, a first call that builds, is killed or finds another's folder, calls at the same
-    "store --help" "store card 3 list" "store card 3 find K" "store card 3 read K 6138"
+# calls, recordings, stores, tables, output that cannot be written, dumps, a first call that builds, is killed or finds another's folder, calls at the same
 # time. Where TORFBARKE_PROGRAMS names a folder with the programs they are taken from there; otherwise the first call proves and builds
 # them. Expected answers are those of the page's own example.
 set -eu

@@ -5,21 +5,21 @@
 root=${root:?} work=${work:?} tb=${tb:?}
 card=$work/card
 store() { "$tb" store "$@"; }
-# shown NAME MAP: the card's map is this one, filled up with blank places
-shown() {
+# card_shown NAME MAP: the card's map is this one, filled up with blank places
+card_shown() {
     call store "$card" 3 list
     [ "$status" = 0 ] || wrong "$1: status $status"
     [ "$(head -n 1 "$work/out")" = "$(printf '%-28s' "$2" | tr ' ' .)" ] || wrong "$1: another map"
     cases=$((cases + 1))
 }
-# kept NAME: the card is, byte for byte and as a file, what it was, and nothing is left beside it
-kept() {
+# card_kept NAME: the card is, byte for byte and as a file, what it was, and nothing is left beside it
+card_kept() {
     cmp -s "$card" "$work/before" || wrong "$1: the image was changed"
     [ "$(stat -c %i "$card")" = "$inode" ] || wrong "$1: the image was replaced"
     [ "$(find "$work" -name 'card*' | wc -l)" = 1 ] || wrong "$1: a file is left beside the image"
     cases=$((cases + 1))
 }
-keep() {
+card_keep() {
     cp "$card" "$work/before"
     inode=$(stat -c %i "$card")
 }
@@ -30,7 +30,7 @@ slid='done, the files slid down: the block was erased and loaded anew
 # big LETTER BLOCKS: a file of so many blocks, its knots 10 microvolts and a tenth apart
 big() {
     python3 -c "for i in range(505 * ($2 - 1) // 6 + 2): print(10 * i - 9000, i)" >"$work/big.txt"
-    call written "$1" "$work/big.txt"
+    call forced "$1" "$work/big.txt"
     cp "$work/out" "$work/big.load"
     [ "$(wc -c <"$work/big.load")" = $((512 * $2)) ] || wrong "a file of $2 blocks: another length"
 }
@@ -41,13 +41,13 @@ chmod 640 "$card"
 call store "$card" 3 list; try 'an empty store' 0 '............................
 ' ''
 call store "$card" 3 add "$work/three.load" K; try 'the first table' 0 "$calm" ''
-shown 'the first table' K
+card_shown 'the first table' K
 { cat "$work/three.load" && blank 15872; } | cmp -s - "$card" || wrong 'the first table: other bytes'
 [ "$(stat -c %a "$card")" = 640 ] || wrong 'the first table: another mode of the image'
-call written S "$work/three.txt"; try 'a table under S' 0 '*' ''
+call forced S "$work/three.txt"; one 'a table under S' 0 '*' 'It is written all the same'
 cp "$work/out" "$work/s.load"
 call store "$card" 3 add "$work/s.load" S; try 'the second table' 0 "$calm" ''
-shown 'the second table' KS
+card_shown 'the second table' KS
 call store "$card" 3 read K 6138; try 'read by the first table' 0 '150.5
 ' ''
 call store "$card" 3 add "$work/probe.load" K; try 'the first table replaced' 0 "$calm" ''
@@ -68,12 +68,12 @@ cmp -s "$work/out" "$work/probe.load" || wrong 'a file found: other bytes'
 call store "$card" 3 find S; try 'the other file found' 0 '*' ''
 cmp -s "$work/out" "$work/s.load" || wrong 'the other file found: other bytes'
 call store "$card" 3 drop S; try 'a table dropped' 0 "$calm" ''
-shown 'a table dropped' xxK
-keep
+card_shown 'a table dropped' xxK
+card_keep
 gone42='the store has no file of that letter'
 call store "$card" 3 drop S; try 'dropped again' 1 "refused 42: $gone42
 " ''
-kept 'dropped again'
+card_kept 'dropped again'
 call store "$card" 3 find S; one 'a file that is not there' 1 '' "refused 42: $gone42"
 call store "$card" 3 find Q; one 'a letter that is none' 1 '' "refused 42: $gone42"
 call store "$card" 3 read S 6138; try 'a table that is not there' 1 "refused 42: $gone42
@@ -82,28 +82,28 @@ call store "$card" 3 read S 6138; try 'a table that is not there' 1 "refused 42:
 # no run is long enough: the files slide down in their order, and dead places are used again
 big N 26
 call store "$card" 3 add "$work/big.load" N; try 'a slide' 0 "$slid" ''
-shown 'a slide' KNNNNNNNNNNNNNNNNNNNNNNNNNN
+card_shown 'a slide' KNNNNNNNNNNNNNNNNNNNNNNNNNN
 call store "$card" 3 find N; try 'found after a slide' 0 '*' ''
 cmp -s "$work/out" "$work/big.load" || wrong 'found after a slide: other bytes'
-keep
+card_keep
 big R 2
 call store "$card" 3 add "$work/big.load" R; try 'one place too many' 1 'refused 43: the file and those that stay do not fit into the main block
 ' ''
-kept 'one place too many'
+card_kept 'one place too many'
 big N 27
 call store "$card" 3 add "$work/big.load" N; try 'the replaced file is not counted' 0 "$slid" ''
-shown 'the replaced file is not counted' KNNNNNNNNNNNNNNNNNNNNNNNNNNN
+card_shown 'the replaced file is not counted' KNNNNNNNNNNNNNNNNNNNNNNNNNNN
 call store "$card" 3 drop N; try 'a large file dropped' 0 "$calm" ''
-shown 'a large file dropped' Kxxxxxxxxxxxxxxxxxxxxxxxxxxx
+card_shown 'a large file dropped' Kxxxxxxxxxxxxxxxxxxxxxxxxxxx
 call store "$card" 3 add "$work/s.load" S; try 'a slide over dead places' 0 "$slid" ''
-shown 'a slide over dead places' KS
+card_shown 'a slide over dead places' KS
 
 # the first run, not the longest: places 1 and 2 blank, 3 taken, the rest blank
 { cat "$work/three.load" && blank 1024 && cat "$work/s.load" && blank 14336; } >"$card"
 big R 2
 call store "$card" 3 add "$work/big.load" R; try 'the first run' 0 "$calm" ''
-shown 'the first run' KRRS
-keep
+card_shown 'the first run' KRRS
+card_keep
 
 # what is refused, before anything is changed
 call store "$card" 3 add "$work/s.load" K; try 'add: another letter' 1 "refused 35: the file's letter is not the one asked for
@@ -126,7 +126,7 @@ call store "$card" 1 list; try 'list: the image of another part' 1 'refused 2: t
 ' ''
 call store "$card" 1 drop K; try 'drop: the image of another part' 1 'refused 2: the image is not as long as the part
 ' ''
-kept 'what is refused'
+card_kept 'what is refused'
 # 44, also before 42: junk in a place, a letter twice, half a file at the block's end
 none44='refused 44: the main block is no proper store'
 { cat "$work/three.load" "$work/spoilt.load" && blank 15360; } >"$work/junk"
@@ -157,11 +157,11 @@ ln -s card "$work/cardlink"
 call store "$work/cardlink" 3 drop R; try 'through a link' 0 "$calm" ''
 [ -L "$work/cardlink" ] || wrong 'through a link: the link is gone'
 rm "$work/cardlink"
-shown 'through a link' KxxS
-keep
+card_shown 'through a link' KxxS
+card_keep
 limited() { (ulimit -f 8 && exec "$tb" store "$@"); }
 call limited "$card" 3 drop S; one 'an image that cannot be written' 4 '' "card is as it was"
-kept 'an image that cannot be written'
+card_kept 'an image that cannot be written'
 mkdir "$work/slow"
 printf '#!/bin/sh\nprintf K\n: >%s/slow/begun\nsleep 60\n' "$work" >"$work/slow/store_program"
 chmod 755 "$work/slow" "$work/slow/store_program"
@@ -178,20 +178,20 @@ stopped() {
     wait "$group" || status=$?
     rm -f "$work/slow/begun"
     [ "$status" = "$2" ] || wrong "stopped by $1: status $status, not $2"
-    kept "stopped by $1"
+    card_kept "stopped by $1"
 }
 stopped TERM 143
 stopped HUP 129
 printf '#!/bin/sh\nprintf K\nprintf "done, nothing was erased\\n" >&2\n' >"$work/slow/store_program"
 call slow "$card" 3 drop S; one 'a program that does not end well' 4 '' 'card is as it was'
-kept 'a program that does not end well'
+card_kept 'a program that does not end well'
 rm -r "$work/slow"
 locked() { flock "$card" "$tb" store "$@"; }
 call locked "$card" 3 drop S; one 'another call at the same time' 3 '' 'another call is changing'
-kept 'another call at the same time'
+card_kept 'another call at the same time'
 said_full() { "$tb" store "$@" >/dev/full; }
 call said_full "$card" 3 drop S; one 'a change whose line cannot be written' 4 '' 'was changed, but the line'
-shown 'a change whose line cannot be written' Kxxx
+card_shown 'a change whose line cannot be written' Kxxx
 
 # wrong calls
 call store; one 'store alone' 2 '' 'an image, a device'
