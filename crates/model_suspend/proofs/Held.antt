@@ -64,7 +64,7 @@ cut-cuts Suspended part a e = refl
 -- ---- an accepted cycle that does not cut what is pending
 module _ (d : Device) (s : State) (c : Cycle) (n r : ℕ) (pending : isPending (s .phase) ≡ true)
     (fine : isRefusal (decideOf d s c n r .reply) ≡ false) (whole : isCut (decideOf d s c n r .effect) ≡ false) where
-  taken : decideOf d s c n r ≡ acceptOf d c (settleOf (d .part) s (c .pins))
+  pub taken : decideOf d s c n r ≡ acceptOf d c (settleOf (d .part) s (c .pins))
   taken = go (eqb (numberOf d s c n r) 0) refl
     where
       go : (b : Bool) → eqb (numberOf d s c n r) 0 ≡ b → decideOf d s c n r ≡ acceptOf d c (settleOf (d .part) s (c .pins))
@@ -77,7 +77,7 @@ module _ (d : Device) (s : State) (c : Cycle) (n r : ℕ) (pending : isPending (
   uncut-settled =
       ap isCut (sym (accept-effect d c (settleOf (d .part) s (c .pins)))) ∙ ap (λ (x : Decision). isCut (x .effect)) (sym taken) ∙ whole
 
-  up : rpLow (c .pins) ≡ false
+  pub up : rpLow (c .pins) ≡ false
   unfolding settleOf
   up = go (rpLow (c .pins)) refl
     where
@@ -85,7 +85,7 @@ module _ (d : Device) (s : State) (c : Cycle) (n r : ℕ) (pending : isPending (
       go true e = absurd (unlike (sym (cut-cuts (s .phase) (d .part) (s .address) pending) ∙ (simp e at uncut-settled)))
       go false e = refl
 
-  high : vppLow (d .part) (c .pins) ≡ false
+  pub high : vppLow (d .part) (c .pins) ≡ false
   unfolding settleOf cutBy
   high = go (vppLow (d .part) (c .pins)) refl
     where

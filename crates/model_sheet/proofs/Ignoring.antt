@@ -1,0 +1,126 @@
+-- A write that is ignored does what an idle cycle does in its place, and leaves all but the count. Assumes nothing.
+use mathlib.Core.Path.{_≡_, refl, sym, ap, _∙_}
+use mathlib.Core.Bool.{true, false, not, _&&_, _||_}
+use Prim.Native.Nat.{ℕ, _-_}
+use lib.ListN.{length}
+use lib.Dec.{eqb, ltb, leb}
+use borrow.Author.Tests.{ltb-true}
+use Rattle.common.specs.Numbers.NoRow.{end, past}
+use Rattle.common.proofs.Numbers.{given-no-row, no-row-given, no-head, no-tail}
+use Rattle.common.proofs.Choice.{and-none, or-left, or-right, unlike}
+use Rattle.device.specs.declared.Part.{Part}
+use Rattle.device.specs.declared.Device.{Device}
+use Rattle.device.specs.Parts.{sizeOf}
+use Rattle.model_types.specs.declared.Kind.the-variants.{Write}
+use Rattle.model_types.specs.declared.Mode.{Mode}
+use Rattle.model_types.specs.declared.Mode.the-variants.{Array, Status, Identifier}
+use Rattle.model_types.specs.declared.Phase.{Phase}
+use Rattle.model_types.specs.declared.Phase.the-variants.{Free, EraseAwaited, DataAwaited, Programming, Erasing, Suspending, Suspended}
+use Rattle.model_types.specs.declared.State.{State}
+use Rattle.model_types.specs.declared.Action.{Action}
+use Rattle.model_types.specs.declared.Action.the-variants.{Ignore}
+use Rattle.model_types.specs.declared.Effect.the-variants.{Nothing}
+use Rattle.model_types.specs.declared.Reply.the-variants.{Quiet}
+use Rattle.model_types.specs.declared.Settled.{Settled}
+use Rattle.model_types.specs.Inner.{badMode}
+use Rattle.model_types.specs.Levels.{rpLow, vppLow, badPins, badOe, badLevels}
+use Rattle.model_types.specs.Phases.{isBusy}
+use Rattle.model_types.specs.States.{isStatus}
+use Rattle.model_commands.specs.Commands.{commandOf, whileErasing, whileSuspending, whileSuspended, actionOf, isRefuse, performedOf}
+use Rattle.model_operation.specs.Settling.{settledAs, settleOf}
+use Rattle.model_rules.specs.Cycles.{early, judgeOf, pastArray, shortResidue, decidedAs, decideOf}
+use Rattle.model_history.specs.History.{Bus, World}
+use Rattle.model_sheet.specs.Sheet.{Judged, isRunning, heeds, idleFor, goesOn, leftThen, phaseThen, oneLess}
+use Rattle.model_sheet.specs.Sentences.{Ignored}
+use Rattle.model_sheet.proofs.Ways.{settle-held, settle-count, settle-suspending, judged-proper, when-idle, when-write, leads, shows}
+
+-- a write that is not heeded asks for nothing
+ignore-is : (part : Part) (ph : Phase) (b : ℕ) → heeds ph b ≡ false → actionOf part ph b ≡ Ignore
+unfolding whileErasing whileSuspending whileSuspended
+ignore-is part Free b e = absurd (unlike e)
+ignore-is part EraseAwaited b e = absurd (unlike e)
+ignore-is part DataAwaited b e = absurd (unlike e)
+ignore-is part (Programming x) b e = refl
+ignore-is part Erasing b e = simp e
+ignore-is part (Suspending n) b e = simp e
+ignore-is part Suspended b e =
+    let f = eqb b 0xFF in
+    let s = eqb b 0x70 in
+    let both = or-left (f || s) (eqb b 0xD0) e in
+    simp (or-left f s both, or-right f s both, or-right (f || s) (eqb b 0xD0) e)
+
+-- refusals 1 to 6 are not against an idle cycle in its place
+idle-judged : (d : Device) (v : World) (b : Bus) → Judged d v b → Judged d v (idleFor b)
+unfolding judgeOf badLevels pastArray shortResidue
+idle-judged d v b z =
+    let r = given-no-row (early d (v .state) (b .cycle) (length (v .bytes)) (length (b .residue))) refl z in
+    let r2 = no-tail r in
+    let r3 = no-tail r2 in
+    let r4 = no-tail r3 in
+    let r5 = no-tail r4 in
+    let r6 = no-tail r5 in
+    let good : (badPins (d .part) (b .cycle .pins) || ltb 0 0) ≡ false = simp (or-left (badPins (d .part) (b .cycle .pins)) (badOe (d .part) (b .cycle .kind) (b .cycle .oe)) (no-head r4)) in
+    no-row-given (past (no-head r) (past (no-head r2) (past (no-head r3) (past good
+    (past (and-none (leb (sizeOf (d .part)) (b .cycle .address) && not (rpLow (b .cycle .pins)))) (past (no-head r6) end))))))
+
+status-is : (m : Mode) → not (isStatus m) ≡ false → m ≡ Status
+status-is Array e = absurd (unlike e)
+status-is Status e = refl
+status-is Identifier e = absurd (unlike e)
+
+-- steps 1 to 3 count one off where they end neither the operation nor its suspend
+pub counts-one : (d : Device) (v : World) (b : Bus) → Judged d v b → rpLow (b .cycle .pins) ≡ false → vppLow (d .part) (b .cycle .pins) ≡ false
+    → goesOn (v .state .phase) (v .state .left) ≡ true → settleOf (d .part) (v .state) (b .cycle .pins) ≡ settledAs (oneLess (v .state)) Nothing
+counts-one d v b judged up high on = go (v .state .phase) refl on
+  where
+    s : State
+    s = v .state
+
+    runs : (ph : Phase) → s .phase ≡ ph → isRunning ph ≡ true → (leftThen ph (s .left) ≡ s .left - 1) → phaseThen ph ≡ ph → ltb 1 (s .left) ≡ true
+        → settleOf (d .part) s (b .cycle .pins) ≡ settledAs (oneLess s) Nothing
+    runs ph e r l p o =
+        let ps : s .phase ≡ phaseThen (s .phase) = e ∙ sym p ∙ ap phaseThen (sym e) in
+        let ls : s .left - 1 ≡ leftThen (s .phase) (s .left) = sym l ∙ ap (λ (x : Phase). leftThen x (s .left)) (sym e) in
+        settle-count (d .part) s (b .cycle .pins) up high (ap isRunning e ∙ r) (ltb-true 1 (s .left) o)
+        ∙ (λ i. settledAs (record { mode = s .mode; status = s .status; phase = ps i; left = ls i; address = s .address; wear = s .wear }) Nothing)
+
+    go : (ph : Phase) → s .phase ≡ ph → goesOn ph (s .left) ≡ true → settleOf (d .part) s (b .cycle .pins) ≡ settledAs (oneLess s) Nothing
+    go Free e o = absurd (unlike (sym o))
+    go EraseAwaited e o = absurd (unlike (sym o))
+    go DataAwaited e o = absurd (unlike (sym o))
+    go (Programming x) e o = runs (Programming x) e refl refl refl o
+    go Erasing e o = runs Erasing e refl refl refl o
+    go (Suspending n) e o =
+        let m : s .mode ≡ Status = status-is (s .mode) (ap (λ (ph : Phase). badMode ph (s .mode)) (sym e) ∙ judged-proper d v b judged .mode) in
+        let ps : Suspending (n - 1) ≡ phaseThen (s .phase) = ap phaseThen (sym e) in
+        let ls : s .left ≡ leftThen (s .phase) (s .left) = ap (λ (x : Phase). leftThen x (s .left)) (sym e) in
+        settle-suspending (d .part) s (b .cycle .pins) up high n e (ltb-true 1 n o)
+        ∙ (λ i. settledAs (record { mode = sym m i; status = s .status; phase = ps i; left = ls i; address = s .address; wear = s .wear }) Nothing)
+    go Suspended e o =
+        let ps : s .phase ≡ phaseThen (s .phase) = e ∙ ap phaseThen (sym e) in
+        let ls : s .left ≡ leftThen (s .phase) (s .left) = ap (λ (x : Phase). leftThen x (s .left)) (sym e) in
+        settle-held (d .part) s (b .cycle .pins) up high (ap isBusy e)
+        ∙ (λ i. settledAs (record { mode = s .mode; status = s .status; phase = ps i; left = ls i; address = s .address; wear = s .wear }) Nothing)
+
+module _ (d : Device) (v : World) (b : Bus) (judged : Judged d v b) (up : rpLow (b .cycle .pins) ≡ false) (kind : b .cycle .kind ≡ Write)
+    (unheard : heeds (settleOf (d .part) (v .state) (b .cycle .pins) .state .phase) (commandOf (b .cycle)) ≡ false) where
+  abbrev t : Settled
+  t = settleOf (d .part) (v .state) (b .cycle .pins)
+
+  done : decideOf d (v .state) (b .cycle) (length (v .bytes)) (length (b .residue)) ≡ decidedAs Quiet (t .state) (t .effect)
+  done =
+      let is = ignore-is (d .part) (t .state .phase) (commandOf (b .cycle)) unheard in
+      when-write d v b judged up t refl kind (ap isRefuse is)
+      ∙ ap (λ (x : Action). decidedAs Quiet (performedOf x d (b .cycle) (t .state)) (t .effect)) is
+
+  pub ignored : Ignored d v b
+  ignored = record {
+    as-idle = (
+      leads d v b Quiet (t .state) (t .effect) done
+          ∙ sym (leads d v (idleFor b) Quiet (t .state) (t .effect) (when-idle d v (idleFor b) (idle-judged d v b judged) up t refl refl)),
+      shows d v b Quiet (t .state) (t .effect) done,
+    );
+    but-count = λ high on.
+        let counted = done ∙ ap (λ (x : Settled). decidedAs Quiet (x .state) (x .effect)) (counts-one d v b judged up high on) in
+        (leads d v b Quiet (oneLess (v .state)) Nothing counted, shows d v b Quiet (oneLess (v .state)) Nothing counted);
+  }

@@ -1,0 +1,11 @@
+pub mod Ways
+pub mod Lasting
+pub mod Cutting
+pub mod Ignoring
+pub mod Opening
+pub mod Bits
+pub mod Starting
+pub mod Reading
+pub mod Idling
+pub mod Claims
+pub mod Shown
