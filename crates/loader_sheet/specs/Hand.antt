@@ -68,6 +68,10 @@ isFirst Closing = true
 isFirst Verifying = false
 isFirst (Ended n) = false
 
+-- a wait begins: a step is taken, a poll is out, and none was counted yet
+abbrev pub WaitBegins : List ℕ → Hand → Type 0
+WaitBegins w h = Takes w h × (isPolling (h .loader .stage) ≡ true) × (h .loader .polls ≡ 0)
+
 -- SR.7 is in no status of a list
 abbrev pub neverReady : List ℕ → Bool
 neverReady [] = true

@@ -15,7 +15,7 @@ use Rattle.loader.specs.declared.Stage.{Stage}
 use Rattle.loader.specs.declared.Stage.the-variants.{EraseWaiting, ProgramWaiting}
 use Rattle.loader.specs.Moves.{statusIn}
 use Rattle.loader_steps.specs.Front.{startNumber}
-use Rattle.loader_sheet.specs.Hand.{Hand, startHand, fed, fedAll, Takes, EndedBy, isPolling, isFirst, neverReady, WantedTo}
+use Rattle.loader_sheet.specs.Hand.{Hand, startHand, fed, fedAll, Takes, EndedBy, isPolling, WaitBegins, isFirst, neverReady, WantedTo}
 
 -- which status ends a load at a poll of its erase: bits SR.7, SR.5, SR.4 and SR.3 (R-number-20, R-number-21, R-number-22, R-number-23)
 pub record ErasePoll (w : List ℕ) (h : Hand) (v : ℕ) : Type 0 where
@@ -45,12 +45,14 @@ pub record FedByHand (w : List ℕ) : Type 0 where
   pub erase-poll : (h : Hand) (v : ℕ) → Takes w h → h .loader .stage ≡ EraseWaiting → ErasePoll w h v
   pub program-poll : (h : Hand) (v : ℕ) → Takes w h → h .loader .stage ≡ ProgramWaiting → ProgramPoll w h v
   -- each wait begins without polls ..
-  pub afresh : (h : Hand) (v : ℕ) → Takes w h → isPolling (h .loader .stage) ≡ false → isPolling (fed w h v .loader .stage) ≡ true → fed w h v .loader .polls ≡ 0
+  pub afresh : (h : Hand) (v : ℕ) → Takes w h → isPolling (h .loader .stage) ≡ false → isPolling (fed w h v .loader .stage) ≡ true
+      → fed w h v .loader .polls ≡ 0
   -- .. fewer than 65,535 polls without SR.7 leave it waiting, with scratch as it was ..
-  pub waits : (h : Hand) (vs : List ℕ) → Takes w h → isPolling (h .loader .stage) ≡ true → h .loader .polls ≡ 0 → neverReady vs ≡ true → length vs < 65535
-      → (fedAll w h vs .loader .stage ≡ h .loader .stage) × (fedAll w h vs .loader .polls ≡ length vs) × (fedAll w h vs .scratch ≡ h .scratch)
+  pub waits : (h : Hand) (vs : List ℕ) → WaitBegins w h → neverReady vs ≡ true → length vs < 65535
+      → (fedAll w h vs .loader .stage ≡ h .loader .stage) × (fedAll w h vs .loader .polls ≡ length vs)
+      × (fedAll w h vs .scratch ≡ h .scratch)
   -- .. and the 65,535th ends it by 20
-  pub gives-up : (h : Hand) (vs : List ℕ) → Takes w h → isPolling (h .loader .stage) ≡ true → h .loader .polls ≡ 0 → neverReady vs ≡ true → length vs ≡ 65535
+  pub gives-up : (h : Hand) (vs : List ℕ) → WaitBegins w h → neverReady vs ≡ true → length vs ≡ 65535
       → EndedBy 20 (fedAll w h vs) × (fedAll w h vs .scratch ≡ h .scratch)
   -- an end by 20 to 24 leaves scratch as the polls before it left it
   pub fault-leaves : (h : Hand) (v n : ℕ) → Takes w h → 20 ≤ n → n ≤ 24 → EndedBy n (fed w h v) → fed w h v .scratch ≡ h .scratch

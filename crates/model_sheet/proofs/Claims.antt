@@ -8,19 +8,17 @@ use lib.Dec.{eqb}
 use Rattle.common.specs.Choice.{if_then_else_}
 use Rattle.device.specs.declared.Device.{Device}
 use Rattle.device.specs.Parts.{blockOf}
-use Rattle.model_types.specs.declared.Kind.the-variants.{Read, Write}
+use Rattle.model_types.specs.declared.Kind.the-variants.{Read}
 use Rattle.model_types.specs.declared.Mode.the-variants.{Array}
 use Rattle.model_types.specs.declared.Effect.{Effect}
 use Rattle.model_types.specs.declared.Effect.the-variants.{Nothing}
 use Rattle.model_types.specs.Levels.{rpLow, vppLow}
 use Rattle.model_types.specs.Phases.{isSuspended}
-use Rattle.model_commands.specs.Commands.{commandOf}
-use Rattle.model_operation.specs.Settling.{settleOf}
 use Rattle.model.specs.declared.Seen.the-variants.{Data, Refused}
 use Rattle.model_history.specs.History.{Bus, World, stepped, worldAfter, seenOn, seenIn, effectsIn, uncut}
 use Rattle.model_suspend.specs.Suspends.{isSuspend}
-use Rattle.model_sheet.specs.Sheet.{Judged, begunAt, heeds, allBare}
-use Rattle.model_sheet.specs.Sentences.{Lasts, Cut, Ignored, OpensArray, Errors}
+use Rattle.model_sheet.specs.Sheet.{Judged, begunAt, allBare}
+use Rattle.model_sheet.specs.Sentences.{Lasts, Cut, Ignores, OpensArray, Errors}
 use Rattle.model_sheet.proofs.Lasting as lasting
 use Rattle.model_sheet.proofs.Cutting as cutting
 use Rattle.model_sheet.proofs.Ignoring as ignoring
@@ -41,11 +39,10 @@ takes-its-time = lasting.whole-life
 pub cut-leaves : (d : Device) (v : World) (b : Bus) → Cut d v b
 cut-leaves = cutting.cut
 
--- A write that the operation takes no notice of, by the phase that steps 1 to 3 leave, does what an idle cycle does in its place: it leaves
--- everything but the count.
-pub ignored-leaves : (d : Device) (v : World) (b : Bus) → Judged d v b → rpLow (b .cycle .pins) ≡ false → b .cycle .kind ≡ Write
-    → heeds (settleOf (d .part) (v .state) (b .cycle .pins) .state .phase) (commandOf (b .cycle)) ≡ false → Ignored d v b
-ignored-leaves = ignoring.ignored
+-- What is ignored while an operation is busy, being suspended or suspended leaves everything but the count: it does what an idle cycle
+-- does in its place.
+pub ignored-leaves : (d : Device) (v : World) → Ignores d v
+ignored-leaves = ignoring.ignores
 
 -- B0H at rest, and in the cycle that ends or cuts an operation, sets read array. (In a running erase it suspends: `leads-to-suspended` of
 -- model_suspend; as a second write it is data, or no confirm.)
@@ -60,7 +57,9 @@ errors-stay d v = record {
   sr3-bars = starting.sr3-bars d v;
   low-bars = starting.low-bars d v;
   lock-bars = starting.lock-bars d v;
-  else-begins = starting.else-begins d v;
+  low-leaves = λ b c. starting.low-leaves d v b (c .0) (c .1) (c .2);
+  lock-leaves = λ b c. starting.lock-leaves d v b (c .0) (c .1) (c .2);
+  else-begins = λ b c. starting.else-begins d v b (c .0) (c .1) (c .2);
   lock-elsewhere = starting.lock-elsewhere d v;
 }
 
@@ -68,11 +67,13 @@ errors-stay d v = record {
 pub suspended-reads : (d : Device) (v : World) (b : Bus) → Judged d v b → isSuspended (v .state .phase) ≡ true → v .state .mode ≡ Array
     → b .cycle .kind ≡ Read → rpLow (b .cycle .pins) ≡ false → vppLow (d .part) (b .cycle .pins) ≡ false
     → (seenOn d v b
-    ≡ (if eqb (blockOf (d .part) (b .cycle .address)) (blockOf (d .part) (v .state .address)) then Refused 8 else Data (getD (v .bytes) (b .cycle .address) 0)))
+    ≡ (if eqb (blockOf (d .part) (b .cycle .address)) (blockOf (d .part) (v .state .address)) then Refused 8
+    else Data (getD (v .bytes) (b .cycle .address) 0)))
     × (stepped d v b ≡ v)
 suspended-reads = reading.reads
 
 -- Idle ignores address and data: cycles that differ in nothing but the addresses and the data of their idle cycles lead to the same state
 -- and array, and show the same.
-pub idle-ignores : (d : Device) (v : World) (bs cs : List Bus) → allBare bs ≡ allBare cs → (worldAfter d v bs ≡ worldAfter d v cs) × (seenIn d v bs ≡ seenIn d v cs)
+pub idle-ignores : (d : Device) (v : World) (bs cs : List Bus) → allBare bs ≡ allBare cs
+    → (worldAfter d v bs ≡ worldAfter d v cs) × (seenIn d v bs ≡ seenIn d v cs)
 idle-ignores = idling.alike

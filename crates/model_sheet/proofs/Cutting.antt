@@ -108,9 +108,12 @@ module _ (d : Device) (v : World) (b : Bus) where
       let done = when-low d v b judged low ∙ ap (λ (t : Settled). decidedAs Quiet (t .state) (t .effect)) (settle-reset (d .part) (v .state) (b .cycle .pins) low) in
       (leads d v b Quiet (resetOf (v .state)) e done, shows d v b Quiet (resetOf (v .state)) e done)
 
-  module _ (judged : Judged d v b) (up : rpLow (b .cycle .pins) ≡ false) (falls : Falls d v b) where
+  module _ (judged : Judged d v b) (falls : Falls d v b) where
+    up : rpLow (b .cycle .pins) ≡ false
+    up = falls .0
+
     cuts : settleOf (d .part) (v .state) (b .cycle .pins) ≡ settledAs s e
-    cuts = settle-cut (d .part) (v .state) (b .cycle .pins) up (falls .0) (falls .1)
+    cuts = settle-cut (d .part) (v .state) (b .cycle .pins) up (falls .2) (falls .1)
 
     by-read : b .cycle .kind ≡ Read → (stepped d v b ≡ worldOf s (cutBytes d v b)) × (seenOn d v b ≡ Data (s .status))
     by-read k =

@@ -1,13 +1,15 @@
 -- A write that is ignored does what an idle cycle does in its place, and leaves all but the count. Assumes nothing.
 use mathlib.Core.Path.{_≡_, refl, sym, ap, _∙_}
-use mathlib.Core.Bool.{true, false, not, _&&_, _||_}
+use mathlib.Core.Bool.{Bool, true, false, not, _&&_, _||_}
+use mathlib.Core.List.{List, [], _∷_}
 use Prim.Native.Nat.{ℕ, _-_}
 use lib.ListN.{length}
 use lib.Dec.{eqb, ltb, leb}
-use borrow.Author.Tests.{ltb-true}
+use borrow.Author.Tests.{eqb-true, ltb-true}
+use Rattle.common.specs.Choice.{if_then_else_}
 use Rattle.common.specs.Numbers.NoRow.{end, past}
 use Rattle.common.proofs.Numbers.{given-no-row, no-row-given, no-head, no-tail}
-use Rattle.common.proofs.Choice.{and-none, or-left, or-right, unlike}
+use Rattle.common.proofs.Choice.{if-ind, and-left, and-right, and-none, or-left, or-right, unlike}
 use Rattle.device.specs.declared.Part.{Part}
 use Rattle.device.specs.declared.Device.{Device}
 use Rattle.device.specs.Parts.{sizeOf}
@@ -23,15 +25,17 @@ use Rattle.model_types.specs.declared.Effect.the-variants.{Nothing}
 use Rattle.model_types.specs.declared.Reply.the-variants.{Quiet}
 use Rattle.model_types.specs.declared.Settled.{Settled}
 use Rattle.model_types.specs.Inner.{badMode}
+use Rattle.model_types.specs.Kinds.{isWrite}
 use Rattle.model_types.specs.Levels.{rpLow, vppLow, badPins, badOe, badLevels}
 use Rattle.model_types.specs.Phases.{isBusy}
 use Rattle.model_types.specs.States.{isStatus}
 use Rattle.model_commands.specs.Commands.{commandOf, whileErasing, whileSuspending, whileSuspended, actionOf, isRefuse, performedOf}
 use Rattle.model_operation.specs.Settling.{settledAs, settleOf}
 use Rattle.model_rules.specs.Cycles.{early, judgeOf, pastArray, shortResidue, decidedAs, decideOf}
-use Rattle.model_history.specs.History.{Bus, World}
-use Rattle.model_sheet.specs.Sheet.{Judged, isRunning, heeds, idleFor, goesOn, leftThen, phaseThen, oneLess}
-use Rattle.model_sheet.specs.Sentences.{Ignored}
+use Rattle.model_history.specs.History.{Bus, World, worldOf, stepped, worldAfter, seenOn, seenIn}
+use Rattle.model_sheet.specs.Sheet.{Judged, isRunning, Quietly, heeds, idleFor, isIgnored, unheard, goesOn, leftThen, phaseThen, oneLess}
+use Rattle.model_sheet.specs.Sentences.{Ignores}
+use Rattle.model_sheet.proofs.Opening.{is-write}
 use Rattle.model_sheet.proofs.Ways.{settle-held, settle-count, settle-suspending, judged-proper, when-idle, when-write, leads, shows}
 
 -- a write that is not heeded asks for nothing
@@ -113,14 +117,77 @@ module _ (d : Device) (v : World) (b : Bus) (judged : Judged d v b) (up : rpLow 
       when-write d v b judged up t refl kind (ap isRefuse is)
       ∙ ap (λ (x : Action). decidedAs Quiet (performedOf x d (b .cycle) (t .state)) (t .effect)) is
 
-  pub ignored : Ignored d v b
-  ignored = record {
-    as-idle = (
-      leads d v b Quiet (t .state) (t .effect) done
-          ∙ sym (leads d v (idleFor b) Quiet (t .state) (t .effect) (when-idle d v (idleFor b) (idle-judged d v b judged) up t refl refl)),
-      shows d v b Quiet (t .state) (t .effect) done,
-    );
-    but-count = λ high on.
-        let counted = done ∙ ap (λ (x : Settled). decidedAs Quiet (x .state) (x .effect)) (counts-one d v b judged up high on) in
-        (leads d v b Quiet (oneLess (v .state)) Nothing counted, shows d v b Quiet (oneLess (v .state)) Nothing counted);
-  }
+  idled : decideOf d (v .state) (idleFor b .cycle) (length (v .bytes)) (length (b .residue)) ≡ decidedAs Quiet (t .state) (t .effect)
+  idled = when-idle d v (idleFor b) (idle-judged d v b judged) up t refl refl
+
+  -- it does what an idle cycle does in its place
+  one-step : stepped d v (idleFor b) ≡ stepped d v b
+  one-step = leads d v (idleFor b) Quiet (t .state) (t .effect) idled ∙ sym (leads d v b Quiet (t .state) (t .effect) done)
+
+  one-seen : seenOn d v (idleFor b) ≡ seenOn d v b
+  one-seen = shows d v (idleFor b) Quiet (t .state) (t .effect) idled ∙ sym (shows d v b Quiet (t .state) (t .effect) done)
+
+  one-count : vppLow (d .part) (b .cycle .pins) ≡ false → goesOn (v .state .phase) (v .state .left) ≡ true → Quietly d v b (worldOf (oneLess (v .state)) (v .bytes))
+  one-count high on =
+      let counted = done ∙ ap (λ (x : Settled). decidedAs Quiet (x .state) (x .effect)) (counts-one d v b judged up high on) in
+      (leads d v b Quiet (oneLess (v .state)) Nothing counted, shows d v b Quiet (oneLess (v .state)) Nothing counted)
+
+-- ---- the test of a write that is ignored
+module _ (d : Device) (v : World) (b : Bus) (is : isIgnored d v b ≡ true) where
+  abbrev j : Bool
+  j = eqb (judgeOf d (v .state) (b .cycle) (length (v .bytes)) (length (b .residue))) 0
+
+  abbrev low : Bool
+  low = rpLow (b .cycle .pins)
+
+  abbrev hears : Bool
+  hears = heeds (settleOf (d .part) (v .state) (b .cycle .pins) .state .phase) (commandOf (b .cycle))
+
+  rest : (isWrite (b .cycle .kind) && not (low || hears)) ≡ true
+  rest = and-right j (isWrite (b .cycle .kind) && not (low || hears)) is
+
+  neither : (low || hears) ≡ false
+  neither = off (low || hears) (and-right (isWrite (b .cycle .kind)) (not (low || hears)) rest)
+    where
+      off : (x : Bool) → not x ≡ true → x ≡ false
+      off true q = absurd (unlike (sym q))
+      off false q = refl
+
+  fits : Judged d v b
+  fits = eqb-true (judgeOf d (v .state) (b .cycle) (length (v .bytes)) (length (b .residue))) 0 (and-left j (isWrite (b .cycle .kind) && not (low || hears)) is)
+
+  writes : b .cycle .kind ≡ Write
+  writes = is-write (b .cycle .kind) (and-left (isWrite (b .cycle .kind)) (not (low || hears)) rest)
+
+  pub ignored-step : stepped d v (idleFor b) ≡ stepped d v b
+  ignored-step = one-step d v b fits (or-left low hears neither) writes (or-right low hears neither)
+
+  pub ignored-seen : seenOn d v (idleFor b) ≡ seenOn d v b
+  ignored-seen = one-seen d v b fits (or-left low hears neither) writes (or-right low hears neither)
+
+  pub but-count : vppLow (d .part) (b .cycle .pins) ≡ false → goesOn (v .state .phase) (v .state .left) ≡ true → Quietly d v b (worldOf (oneLess (v .state)) (v .bytes))
+  but-count = one-count d v b fits (or-left low hears neither) writes (or-right low hears neither)
+
+-- ---- any cycles
+abbrev instead : Device → World → Bus → Bus
+instead d v b = if isIgnored d v b then idleFor b else b
+
+instead-step : (d : Device) (v : World) (b : Bus) → stepped d v (instead d v b) ≡ stepped d v b
+instead-step d v b = if-ind (λ (x : Bus). stepped d v x ≡ stepped d v b) (isIgnored d v b) (idleFor b) b (λ e. ignored-step d v b e) (λ e. refl)
+
+instead-seen : (d : Device) (v : World) (b : Bus) → seenOn d v (instead d v b) ≡ seenOn d v b
+instead-seen d v b = if-ind (λ (x : Bus). seenOn d v x ≡ seenOn d v b) (isIgnored d v b) (idleFor b) b (λ e. ignored-seen d v b e) (λ e. refl)
+
+as-idle-world : (d : Device) (bs : List Bus) (v : World) → worldAfter d v (unheard d v bs) ≡ worldAfter d v bs
+as-idle-world d [] v = refl
+as-idle-world d (b ∷ bs) v = ap (λ (u : World). worldAfter d u (unheard d (stepped d v b) bs)) (instead-step d v b) ∙ as-idle-world d bs (stepped d v b)
+
+as-idle-seen : (d : Device) (bs : List Bus) (v : World) → seenIn d v (unheard d v bs) ≡ seenIn d v bs
+as-idle-seen d [] v = refl
+as-idle-seen d (b ∷ bs) v =
+    let rest : seenIn d (stepped d v (instead d v b)) (unheard d (stepped d v b) bs) ≡ seenIn d (stepped d v b) bs =
+    ap (λ (u : World). seenIn d u (unheard d (stepped d v b) bs)) (instead-step d v b) ∙ as-idle-seen d bs (stepped d v b) in
+    λ i. instead-seen d v b i ∷ rest i
+
+pub ignores : (d : Device) (v : World) → Ignores d v
+ignores d v = record { as-idle = λ bs. (as-idle-world d bs v, as-idle-seen d bs v); but-count = but-count d v }

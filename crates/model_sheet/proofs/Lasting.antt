@@ -41,7 +41,7 @@ use Rattle.model.proofs.Outcome.{accept-effect}
 use Rattle.model.proofs.Table.{refused-nothing}
 use Rattle.model_history.specs.History.{Bus, World, stepped, worldAfter, effectBy, effectsIn, isCut, uncut}
 use Rattle.model_suspend.proofs.Held as held
-use Rattle.model_sheet.specs.Sheet.{isRunning, endState, isTaken, begunAt, countsOn, countedIn, busyTime}
+use Rattle.model_sheet.specs.Sheet.{isRunning, endState, isTaken, begunAt, countsOn, countedIn, busyTime, IsLast}
 use Rattle.model_sheet.specs.Sentences.{Lasts}
 use Rattle.model_sheet.proofs.Ways.{running-is, settle-end, leads}
 use Rattle.model_sheet.proofs.Opening.{is-write}
@@ -431,27 +431,24 @@ module _ (d : Device) (v : World) (b : Bus) (op : Effect) (begun : begunAt d v b
   sooner : n < busyTime d op → (pendingOf (d .part) (at .state) ≡ op) × (at .state .left + n ≡ busyTime d op) × (at .bytes ≡ v .bytes)
   sooner h = let q = so-far h in (q .pending ∙ start .pending, q .left ∙ start .left, q .bytes ∙ start .bytes)
 
-  over : (e : Bus) → n + 1 ≡ busyTime d op → countsOn d at e ≡ true → isCut (effectBy d at e) ≡ false
-      → (effectBy d at e ≡ op) × (pendingOf (d .part) (stepped d at e .state) ≡ Nothing)
-  over e h counts uncuts =
+  over : (e : Bus) → IsLast d v b op bs e → (effectBy d at e ≡ op) × (pendingOf (d .part) (stepped d at e .state) ≡ Nothing)
+  over e last =
+      let h = last .0 in
       let q = sooner (let z : n < busyTime d op = omega arith in z) in
-      let m = ends d at e counts uncuts (let l = q .1 in let z : at .state .left ≡ 1 = omega arith in z) in
+      let m = ends d at e (last .1) (last .2) (let l = q .1 in let z : at .state .left ≡ 1 = omega arith in z) in
       (m .0 ∙ q .0, m .1)
 
-  leaves : (e : Bus) → n + 1 ≡ busyTime d op → countsOn d at e ≡ true → isCut (effectBy d at e) ≡ false
-      → stepped d at e .bytes ≡ arrayOf op (d .part) (e .residue) (v .bytes)
+  leaves : (e : Bus) → IsLast d v b op bs e → stepped d at e .bytes ≡ arrayOf op (d .part) (e .residue) (v .bytes)
   unfolding arrayAfter
-  leaves e h counts uncuts =
+  leaves e last =
+      let h = last .0 in
       let q = sooner (let z : n < busyTime d op = omega arith in z) in
-      ap (λ (x : Effect). arrayOf x (d .part) (e .residue) (at .bytes)) (over e h counts uncuts .0)
-      ∙ ap (λ (xs : List ℕ). arrayOf op (d .part) (e .residue) xs) (q .2)
+      ap (λ (x : Effect). arrayOf x (d .part) (e .residue) (at .bytes)) (over e last .0) ∙ ap (λ (xs : List ℕ). arrayOf op (d .part) (e .residue) xs) (q .2)
 
   pub whole-life : Lasts d v b op bs
   whole-life = record {
     not-sooner = sooner;
     then-over = over;
-    program-leaves = λ e a y p h counts uncuts.
-        leaves e (h ∙ sym (ap (busyTime d) p)) counts uncuts ∙ ap (λ (x : Effect). arrayOf x (d .part) (e .residue) (v .bytes)) p;
-    erase-leaves = λ e j p h counts uncuts.
-        leaves e (h ∙ sym (ap (busyTime d) p)) counts uncuts ∙ ap (λ (x : Effect). arrayOf x (d .part) (e .residue) (v .bytes)) p;
+    program-leaves = λ e last a y p. leaves e last ∙ ap (λ (x : Effect). arrayOf x (d .part) (e .residue) (v .bytes)) p;
+    erase-leaves = λ e last j p. leaves e last ∙ ap (λ (x : Effect). arrayOf x (d .part) (e .residue) (v .bytes)) p;
   }

@@ -70,8 +70,8 @@ module _ (d : Device) (v : World) (b : Bus) (judged : Judged d v b) (asks : isSu
   pub opens : OpensArray d v b
   opens = record {
     at-rest = λ up f. let w = free-is (v .state .phase) f in opened (v .state) Nothing up (settle-still (d .part) (v .state) (b .cycle .pins) up (w .1) (w .2)) (w .0);
-    at-end = λ up h. opened (endState (v .state)) (finishOf (v .state .phase) (d .part) (v .state .address)) up (settle-end (d .part) (v .state) (b .cycle .pins) up (h .2) (h .0) (h .1)) refl;
-    at-cut = λ up h. opened (cutState (v .state)) (cutOf (v .state .phase) (d .part) (v .state .address)) up (settle-cut (d .part) (v .state) (b .cycle .pins) up (h .0) (h .1)) refl;
+    at-end = λ h. opened (endState (v .state)) (finishOf (v .state .phase) (d .part) (v .state .address)) (h .0) (settle-end (d .part) (v .state) (b .cycle .pins) (h .0) (h .1) (h .2) (h .3)) refl;
+    at-cut = λ h. opened (cutState (v .state)) (cutOf (v .state .phase) (d .part) (v .state .address)) (h .0) (settle-cut (d .part) (v .state) (b .cycle .pins) (h .0) (h .2) (h .1)) refl;
     at-reset = λ low.
         let e = cutOf (v .state .phase) (d .part) (v .state .address) in
         let done = when-low d v b judged low ∙ ap (λ (t : Settled). decidedAs Quiet (t .state) (t .effect)) (settle-reset (d .part) (v .state) (b .cycle .pins) low) in

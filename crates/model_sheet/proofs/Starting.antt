@@ -6,7 +6,7 @@ use lib.ListN.{length}
 use lib.Dec.{eqb}
 use Rattle.common.specs.Choice.{if_then_else_}
 use Rattle.common.specs.Numbers.{given}
-use Rattle.common.proofs.Choice.{if-ind, if-same, if-false, and-left, and-rest, and-none, unlike}
+use Rattle.common.proofs.Choice.{if-ind, if-same, if-false, and-left, and-right, and-rest, and-none, unlike}
 use Rattle.device.specs.declared.Part.{Part}
 use Rattle.device.specs.declared.Device.{Device}
 use Rattle.model_types.specs.declared.Kind.{Kind}
@@ -25,17 +25,18 @@ use Rattle.model_types.specs.declared.Decision.{Decision}
 use Rattle.model_types.specs.Kinds.{isWrite}
 use Rattle.model_types.specs.Levels.{rpLow, vppLow, locked}
 use Rattle.model_types.specs.Phases.{isAwaited}
-use Rattle.model_types.specs.Status.{SR3, isSet}
-use Rattle.model_commands.specs.Commands.{asksProgram, firstWrite, afterErase, whileErasing, whileSuspending, whileSuspended, commandOf, actionOf, isRefuse, performedOf, unsupplied}
+use Rattle.model_types.specs.Status.{SR3, withBits, isSet}
+use Rattle.model_types.specs.States.{atRest}
+use Rattle.model_commands.specs.Commands.{asksProgram, firstWrite, afterErase, whileErasing, whileSuspending, whileSuspended, commandOf, dataOf, actionOf, isRefuse, startedOf, performedOf, unsupplied}
 use Rattle.model_operation.specs.Settling.{settledAs, settleOf}
 use Rattle.model_rules.specs.Cycles.{pastArray, shortResidue, noCommand, suspendedRead, noIdentifier, tableOf, numberOf, decideOf, acceptOf, respondOf, decidedAs}
 use Rattle.model.specs.Arrays.{isRefusal, seenOf, arrayOf, answerOf, arrayAfter}
 use Rattle.model.specs.Begun.{askedBy, startsOf, begunBy}
 use Rattle.model.proofs.Lives.{begun-accepted, settle-awaited, settle-unawaited}
 use Rattle.model_history.specs.History.{Bus, World, worldOf, stepped, seenOn}
-use Rattle.model_sheet.specs.Sheet.{Judged, begunAt, isConfirm, levelled, Comparable}
+use Rattle.model_sheet.specs.Sheet.{Judged, Quietly, begunAt, isConfirm, errorOf, levelled, Comparable}
 use Rattle.model_sheet.proofs.Opening.{is-write}
-use Rattle.model_sheet.proofs.Ways.{when-write}
+use Rattle.model_sheet.proofs.Ways.{when-write, leads, shows}
 use Rattle.model_sheet.proofs.Bits.{number-zero}
 
 -- ---- what bars
@@ -92,6 +93,40 @@ else-begins d v b judged up confirms sr3 high free =
     begun-accepted d (v .state) (b .cycle) (length (v .bytes)) (length (b .residue))
     (number-zero d (v .state) (b .cycle) (length (v .bytes)) (length (b .residue)) (ap (λ (x : Decision). isRefusal (x .reply)) done))
     ∙ simp (w .1, up, high, sr3, free)
+
+-- ---- a confirm that is barred
+module _ (d : Device) (v : World) (b : Bus) (judged : Judged d v b) (up : rpLow (b .cycle .pins) ≡ false) (confirms : isConfirm (v .state .phase) b ≡ true) where
+  abbrev at : State
+  at = v .state
+
+  -- what it asks for is what the phase awaits
+  confirmed : (ph : Phase) → isConfirm ph b ≡ true → (u : State) → ((time : ℕ) (next : Phase) → startedOf (d .part) (b .cycle) at next time (errorOf ph) ≡ u)
+      → performedOf (actionOf (d .part) ph (commandOf (b .cycle))) d (b .cycle) at ≡ u
+  unfolding afterErase
+  confirmed Free e u f = absurd (unlike (sym e))
+  confirmed EraseAwaited e u f = simp (and-right (isWrite (b .cycle .kind)) (eqb (commandOf (b .cycle)) 0xD0) e) (f (d .erase) Erasing)
+  confirmed DataAwaited e u f = f (d .program) (Programming (dataOf (d .part) (b .cycle)))
+  confirmed (Programming x) e u f = absurd (unlike (sym e))
+  confirmed Erasing e u f = absurd (unlike (sym e))
+  confirmed (Suspending n) e u f = absurd (unlike (sym e))
+  confirmed Suspended e u f = absurd (unlike (sym e))
+
+  comes-to : (u : State) → ((time : ℕ) (next : Phase) → startedOf (d .part) (b .cycle) at next time (errorOf (at .phase)) ≡ u) → Quietly d v b (worldOf u (v .bytes))
+  comes-to u f =
+      let w = confirm-is (at .phase) (d .part) b confirms in
+      let done = when-write d v b judged up (settledAs at Nothing) (settle-awaited (d .part) at (b .cycle) (w .0) up) (is-write (b .cycle .kind) (w .1)) (w .2)
+      ∙ ap (λ (x : State). decidedAs Quiet x Nothing) (confirmed (at .phase) confirms u f) in
+      (leads d v b Quiet u Nothing done, shows d v b Quiet u Nothing done)
+
+  pub low-leaves : unsupplied (d .part) (b .cycle) at ≡ true
+      → Quietly d v b (worldOf (atRest at (at .mode) (withBits (withBits (at .status) SR3) (errorOf (at .phase)))) (v .bytes))
+  unfolding startedOf
+  low-leaves e = comes-to (atRest at (at .mode) (withBits (withBits (at .status) SR3) (errorOf (at .phase)))) (λ time next. simp e)
+
+  pub lock-leaves : unsupplied (d .part) (b .cycle) at ≡ false → locked (d .part) (b .cycle) ≡ true
+      → Quietly d v b (worldOf (atRest at (at .mode) (withBits (at .status) (errorOf (at .phase)))) (v .bytes))
+  unfolding startedOf
+  lock-leaves e f = comes-to (atRest at (at .mode) (withBits (at .status) (errorOf (at .phase)))) (λ time next. simp (e, f))
 
 -- ---- the levels that unlock, in any other cycle
 abbrev isStart : Action → Bool

@@ -11,6 +11,7 @@ use Rattle.model_types.specs.declared.Kind.{Kind}
 use Rattle.model_types.specs.declared.Kind.the-variants.{Read, Write, Idle}
 use Rattle.model_types.specs.declared.Cycle.{Cycle}
 use Rattle.model_types.specs.declared.State.{State}
+use Rattle.model_types.specs.declared.Pins.{Pins}
 use Rattle.model_types.specs.declared.Phase.{Phase}
 use Rattle.model_types.specs.declared.Phase.the-variants.{Free, EraseAwaited, DataAwaited, Programming, Erasing, Suspending, Suspended}
 use Rattle.model_types.specs.declared.Mode.the-variants.{Status}
@@ -27,7 +28,7 @@ use Rattle.model_rules.specs.Cycles.{judgeOf, decideOf}
 use Rattle.model.specs.declared.Seen.the-variants.{NoData}
 use Rattle.model.specs.Arrays.{isRefusal, arrayOf}
 use Rattle.model.specs.Begun.{begunBy}
-use Rattle.model_history.specs.History.{Bus, World, stepped, seenOn}
+use Rattle.model_history.specs.History.{Bus, World, stepped, worldAfter, seenOn, effectBy, isCut}
 
 -- none of refusals 1 to 6 is against a cycle
 abbrev pub Judged : Device → World → Bus → Type 0
@@ -90,13 +91,28 @@ busyTime d (Erase k) = d .erase
 busyTime d (CutProgram a y) = 0
 busyTime d (CutErase k) = 0
 
--- a cycle is the last of the operation that is running, and VPP is not low (R-cycle-5)
-abbrev pub LastOf : Device → World → Bus → Type 0
-LastOf d v b = (isRunning (v .state .phase) ≡ true) × (v .state .left ≡ 1) × (vppLow (d .part) (b .cycle .pins) ≡ false)
+-- where cycles lead that follow the one that begins an operation, and how many of them count
+abbrev pub afterBegun : Device → World → Bus → List Bus → World
+afterBegun d v b bs = worldAfter d (stepped d v b) bs
 
--- VPP is low in a cycle with an operation running, being suspended or suspended (R-cycle-4)
+abbrev pub countedAfter : Device → World → Bus → List Bus → ℕ
+countedAfter d v b bs = countedIn d (stepped d v b) bs
+
+-- behind them a cycle is the last that counts, and does not cut
+abbrev pub IsLast : Device → World → Bus → Effect → List Bus → Bus → Type 0
+IsLast d v b op bs e =
+    (countedAfter d v b bs + 1 ≡ busyTime d op) × (countsOn d (afterBegun d v b bs) e ≡ true)
+    × (isCut (effectBy d (afterBegun d v b bs) e) ≡ false)
+
+-- RP# is up, VPP is not low, and a cycle is the last of the operation that is running (R-cycle-5)
+abbrev pub LastOf : Device → World → Bus → Type 0
+LastOf d v b =
+    (rpLow (b .cycle .pins) ≡ false) × (vppLow (d .part) (b .cycle .pins) ≡ false)
+    × (isRunning (v .state .phase) ≡ true) × (v .state .left ≡ 1)
+
+-- RP# is up, and VPP is low with an operation running, being suspended or suspended (R-cycle-4)
 abbrev pub Falls : Device → World → Bus → Type 0
-Falls d v b = (isPending (v .state .phase) ≡ true) × (vppLow (d .part) (b .cycle .pins) ≡ true)
+Falls d v b = (rpLow (b .cycle .pins) ≡ false) × (vppLow (d .part) (b .cycle .pins) ≡ true) × (isPending (v .state .phase) ≡ true)
 
 -- the state that the end of an operation leaves: SR.7 set, mode as it was (R-cycle-5)
 abbrev pub endState : State → State
@@ -123,10 +139,24 @@ heeds Erasing b = eqb b 0xB0
 heeds (Suspending n) b = eqb b 0x70
 heeds Suspended b = (eqb b 0xFF || eqb b 0x70) || eqb b 0xD0
 
--- an idle cycle in the place of another, with its levels
+-- an idle cycle in the place of another, with its levels; OE# is normal
 abbrev pub idleFor : Bus → Bus
-idleFor b =
-    record { cycle = record { kind = Idle; pins = b .cycle .pins; oe = 0; address = b .cycle .address; «data» = b .cycle .data }; residue = b .residue }
+idleFor b = record {
+  cycle = record { kind = Idle; pins = b .cycle .pins; oe = 0; address = b .cycle .address; «data» = b .cycle .data };
+  residue = b .residue;
+}
+
+-- a write that is ignored: none of refusals 1 to 6 is against it, RP# is up, and the phase that steps 1 to 3 leave takes no notice of it
+abbrev pub isIgnored : Device → World → Bus → Bool
+isIgnored d v b =
+    eqb (judgeOf d (v .state) (b .cycle) (length (v .bytes)) (length (b .residue))) 0
+    && (isWrite (b .cycle .kind)
+    && not (rpLow (b .cycle .pins) || heeds (settleOf (d .part) (v .state) (b .cycle .pins) .state .phase) (commandOf (b .cycle))))
+
+-- the cycles with an idle one in the place of each write that is ignored
+abbrev pub unheard : Device → World → List Bus → List Bus
+unheard d v [] = []
+unheard d v (b ∷ bs) = (if isIgnored d v b then idleFor b else b) ∷ unheard d (stepped d v b) bs
 
 -- the next cycle ends neither the operation nor its suspend
 abbrev pub goesOn : Phase → ℕ → Bool
@@ -159,7 +189,14 @@ phaseThen Suspended = Suspended
 
 -- a state with one cycle counted, and nothing else changed
 abbrev pub oneLess : State → State
-oneLess s = record { mode = s .mode; status = s .status; phase = phaseThen (s .phase); left = leftThen (s .phase) (s .left); address = s .address; wear = s .wear }
+oneLess s = record {
+  mode = s .mode;
+  status = s .status;
+  phase = phaseThen (s .phase);
+  left = leftThen (s .phase) (s .left);
+  address = s .address;
+  wear = s .wear;
+}
 
 -- the error bits SR.5, SR.4 and SR.3 (R-status-1)
 pub data ErrorBit : ℕ → Type 0 where
@@ -172,7 +209,8 @@ abbrev pub clears : Device → World → Bus → Bool
 clears d v b =
     isTaken d v b
     && (rpLow (b .cycle .pins)
-    || (isWrite (b .cycle .kind) && (eqb (commandOf (b .cycle)) 0x50 && isFree (settleOf (d .part) (v .state) (b .cycle .pins) .state .phase))))
+    || (isWrite (b .cycle .kind)
+    && (eqb (commandOf (b .cycle)) 0x50 && isFree (settleOf (d .part) (v .state) (b .cycle .pins) .state .phase))))
 
 -- .. and none of a list does
 abbrev pub noneClears : Device → World → List Bus → Bool
@@ -189,10 +227,26 @@ isConfirm Erasing b = false
 isConfirm (Suspending n) b = false
 isConfirm Suspended b = false
 
+-- a confirm or data that none of refusals 1 to 6 is against, with RP# up
+abbrev pub Confirms : Device → World → Bus → Type 0
+Confirms d v b = Judged d v b × (rpLow (b .cycle .pins) ≡ false) × (isConfirm (v .state .phase) b ≡ true)
+
+-- the error bit of the operation whose second write is awaited
+abbrev pub errorOf : Phase → ℕ
+errorOf Free = 0
+errorOf EraseAwaited = SR5
+errorOf DataAwaited = SR4
+errorOf (Programming x) = 0
+errorOf Erasing = 0
+errorOf (Suspending n) = 0
+errorOf Suspended = 0
+
 -- a cycle with other levels of RP#, WP# and OE#, the pins that unlock
 abbrev pub levelled : ℕ → ℕ → ℕ → Bus → Bus
 levelled rp wp oe b =
-    record { cycle = record { kind = b .cycle .kind; pins = record { rp = rp; wp = wp; vpp = b .cycle .pins .vpp }; oe = oe; address = b .cycle .address; «data» = b .cycle .data }; residue = b .residue }
+    let pins : Pins = record { rp = rp; wp = wp; vpp = b .cycle .pins .vpp } in
+    let cycle : Cycle = record { kind = b .cycle .kind; pins = pins; oe = oe; address = b .cycle .address; «data» = b .cycle .data } in
+    record { cycle = cycle; residue = b .residue }
 
 -- both are levels that the rules allow, and RP# is low in both or in none
 abbrev pub Comparable : Device → Bus → Bus → Type 0
