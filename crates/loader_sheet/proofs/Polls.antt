@@ -8,7 +8,7 @@ use native.Mathlib.Omega.{arith}
 use lib.ListN.{length, getD, set, replicate}
 use lib.Bits.{bitAnd}
 use lib.Dec.{eqb, ltb, leb}
-use borrow.Author.Tests.{eqb-true, eq-eqb, ne-eqb, leb-true, le-leb}
+use borrow.Author.Tests.{eqb-true, eq-eqb, ne-eqb, leb-true, le-leb, not-true}
 use Rattle.common.specs.Choice.{if_then_else_}
 use Rattle.common.proofs.Choice.{if-ind, if-true, if-false, and-left, and-right, unlike}
 use Rattle.model_types.specs.Cells.{ones}
@@ -194,12 +194,8 @@ module _ (w : List ℕ) (h : Hand) (v : ℕ) (t : Takes w h) where
   twenty-bits : {A : Type 0} → A ↔ ((isReady sr ≡ false) × (l .polls ≡ 65534)) → A ↔ ((bitAnd sr 0x80 ≡ 0) × (l .polls ≡ 65534))
   twenty-bits p = (
     λ a. let q = p .0 a in (eqb-true (bitAnd sr 0x80) 0 (sym (not-ready sr (status-small v)) ∙ ap not (q .0)), q .1),
-    λ q. p .1 (off (isReady sr) (not-ready sr (status-small v) ∙ eq-eqb (bitAnd sr 0x80) 0 (q .0)), q .1),
+    λ q. p .1 (not-true (isReady sr) (not-ready sr (status-small v) ∙ eq-eqb (bitAnd sr 0x80) 0 (q .0)), q .1),
   )
-    where
-      off : (x : Bool) → not x ≡ true → x ≡ false
-      off true e = absurd (unlike (sym e))
-      off false e = refl
 
   module _ (at : l .stage ≡ EraseWaiting) where
     erase-goes : fed w h v .loader ≡ r l (onward l 0 w sc) EraseWaiting sr (eraseFault sr) (onward-calm l 0 w sc) refl

@@ -1,12 +1,12 @@
 -- A wait: it begins without polls, goes on for 65,534 of them, and the next ends it by 20. Assumes nothing.
 use mathlib.Core.Path.{_≡_, refl, sym, ap, subst, _∙_}
-use mathlib.Core.Bool.{Bool, true, false, not}
+use mathlib.Core.Bool.{true, false, not}
 use mathlib.Core.List.{List, [], _∷_}
 use Prim.Native.Nat.{ℕ, suc, _+_, _-_, _≤_, _<_}
 use native.Mathlib.Omega.{arith}
 use lib.ListN.{length}
 use lib.Dec.{eqb, ltb, leb}
-use borrow.Author.Tests.{le-leb, lt-leb}
+use borrow.Author.Tests.{le-leb, lt-leb, not-true}
 use Rattle.common.proofs.Choice.{if-ind, if-true, if-false, and-left, and-right, unlike}
 use Rattle.loader.specs.declared.Stage.{Stage}
 use Rattle.loader.specs.declared.Stage.the-variants.{Clearing, Opening, Reading, EraseAsking, EraseConfirming, EraseWaiting, ProgramAsking, ProgramSending, ProgramWaiting, Closing, Verifying, Ended}
@@ -71,13 +71,9 @@ polls-on l w sc v Closing e r = absurd (unlike (sym e))
 polls-on l w sc v Verifying e r = absurd (unlike (sym e))
 polls-on l w sc v (Ended n) e r = absurd (unlike (sym e))
 
-off : (x : Bool) → not x ≡ true → x ≡ false
-off true q = absurd (unlike (sym q))
-off false q = refl
-
 module _ (w : List ℕ) (h : Hand) (v : ℕ) (vs : List ℕ) (t : Takes w h) (p : isPolling (h .loader .stage) ≡ true) (never : neverReady (v ∷ vs) ≡ true) where
   ready : isReady (statusIn v) ≡ false
-  ready = off (isReady (statusIn v)) (and-left (not (isReady (statusIn v))) (neverReady vs) never)
+  ready = not-true (isReady (statusIn v)) (and-left (not (isReady (statusIn v))) (neverReady vs) never)
 
   rest : neverReady vs ≡ true
   rest = and-right (not (isReady (statusIn v))) (neverReady vs) never

@@ -6,7 +6,7 @@ use Prim.Native.Nat.{ℕ, _-_, _<_}
 use lib.ListN.{length}
 use lib.Bits.{bitAnd, bitOr}
 use lib.Dec.{eqb}
-use borrow.Author.Tests.{eqb-true, eqb-false}
+use borrow.Author.Tests.{eqb-true, eqb-false, not-true}
 use Rattle.common.proofs.Choice.{if-ind, if-true, and-left, and-right, or-left, or-right, unlike}
 use Rattle.device.specs.declared.Part.{Part}
 use Rattle.device.specs.declared.Device.{Device}
@@ -35,7 +35,7 @@ use Rattle.model.proofs.Keeping.{settle-proper}
 use Rattle.model.proofs.Lives.{accept-up, settle-low}
 use Rattle.model.proofs.Table.{refused-nothing}
 use Rattle.model_history.specs.History.{Bus, World, stepped, worldAfter}
-use Rattle.model_sheet.proofs.Opening.{is-write}
+use Rattle.model_sheet.proofs.Opening.{is-write, free-is}
 use Rattle.model_sheet.specs.Sheet.{ErrorBit, erase-error, program-error, supply-error, isTaken, clears, noneClears}
 
 -- every error bit of one status is in the other
@@ -224,11 +224,7 @@ pub stay : (d : Device) (bs : List Bus) (v : World) → noneClears d v bs ≡ tr
 stay d [] v e bit k h = h
 stay d (b ∷ bs) v e bit k h =
     stay d bs (stepped d v b) (and-right (not (clears d v b)) (noneClears d (stepped d v b) bs) e) bit k
-    (step-keeps d v b (off (clears d v b) (and-left (not (clears d v b)) (noneClears d (stepped d v b) bs) e)) bit k h)
-  where
-    off : (x : Bool) → not x ≡ true → x ≡ false
-    off true q = absurd (unlike (sym q))
-    off false q = refl
+    (step-keeps d v b (not-true (clears d v b) (and-left (not (clears d v b)) (noneClears d (stepped d v b) bs) e)) bit k h)
 
 -- ---- what 50H and a reset leave
 none-left : (x : ℕ) → x < 256 → (bit : ℕ) → ErrorBit bit → isSet (bitAnd x 0xC7) bit ≡ false
@@ -240,29 +236,16 @@ none-left x h bit e =
     let n3 = not (isSet (bitAnd x 0xC7) SR3) in
     go e (and-left n5 n4 (and-left (n5 && n4) n3 all)) (and-right n5 n4 (and-left (n5 && n4) n3 all)) (and-right (n5 && n4) n3 all)
   where
-    off : (y : Bool) → not y ≡ true → y ≡ false
-    off true q = absurd (unlike (sym q))
-    off false q = refl
-
     go : {bit : ℕ} → ErrorBit bit → not (isSet (bitAnd x 0xC7) SR5) ≡ true → not (isSet (bitAnd x 0xC7) SR4) ≡ true → not (isSet (bitAnd x 0xC7) SR3) ≡ true
         → isSet (bitAnd x 0xC7) bit ≡ false
-    go erase-error p q r = off (isSet (bitAnd x 0xC7) SR5) p
-    go program-error p q r = off (isSet (bitAnd x 0xC7) SR4) q
-    go supply-error p q r = off (isSet (bitAnd x 0xC7) SR3) r
+    go erase-error p q r = not-true (isSet (bitAnd x 0xC7) SR5) p
+    go program-error p q r = not-true (isSet (bitAnd x 0xC7) SR4) q
+    go supply-error p q r = not-true (isSet (bitAnd x 0xC7) SR3) r
 
 reset-none : {bit : ℕ} → ErrorBit bit → isSet 0x80 bit ≡ false
 reset-none erase-error = refl
 reset-none program-error = refl
 reset-none supply-error = refl
-
-free-is : (ph : Phase) → isFree ph ≡ true → ph ≡ Free
-free-is Free e = refl
-free-is EraseAwaited e = absurd (unlike (sym e))
-free-is DataAwaited e = absurd (unlike (sym e))
-free-is (Programming b) e = absurd (unlike (sym e))
-free-is Erasing e = absurd (unlike (sym e))
-free-is (Suspending n) e = absurd (unlike (sym e))
-free-is Suspended e = absurd (unlike (sym e))
 
 fifty-clears : (part : Part) → actionOf part Free 0x50 ≡ Clear
 unfolding firstWrite
@@ -276,11 +259,7 @@ module _ (d : Device) (v : World) (b : Bus) (yes : clears d v b ≡ true) (bit :
   cl = low || fifty d v b
 
   taken : isRefusal (all d v b .reply) ≡ false
-  taken = off (isRefusal (all d v b .reply)) (and-left (isTaken d v b) cl yes)
-    where
-      off : (y : Bool) → not y ≡ true → y ≡ false
-      off true q = absurd (unlike (sym q))
-      off false q = refl
+  taken = not-true (isRefusal (all d v b .reply)) (and-left (isTaken d v b) cl yes)
 
   by-reset : low ≡ true → isSet (all d v b .state .status) bit ≡ false
   unfolding acceptOf
@@ -296,7 +275,7 @@ module _ (d : Device) (v : World) (b : Bus) (yes : clears d v b ≡ true) (bit :
       let two : (f && rest) ≡ true = and-right w (f && rest) e in
       let kind : b .cycle .kind ≡ Write = is-write (b .cycle .kind) (and-left w (f && rest) e) in
       let asks : actionOf (d .part) (t d v b .state .phase) (commandOf (b .cycle)) ≡ Clear =
-      ap (λ (ph : Phase). actionOf (d .part) ph (commandOf (b .cycle))) (free-is (t d v b .state .phase) (and-right f rest two))
+      ap (λ (ph : Phase). actionOf (d .part) ph (commandOf (b .cycle))) (free-is (t d v b .state .phase) (and-right f rest two) .0)
       ∙ ap (actionOf (d .part) Free) (eqb-true (commandOf (b .cycle)) 0x50 (and-left f rest two)) ∙ fifty-clears (d .part) in
       ap (λ (x : Decision). isSet (x .state .status) bit) (is d v b taken ∙ accept-up d (b .cycle) (t d v b) up ∙ ap (λ (x : Kind). respondOf x d (b .cycle) (t d v b)) kind)
       ∙ ap (λ (x : Action). isSet (performedOf x d (b .cycle) (t d v b .state) .status) bit) asks

@@ -5,7 +5,7 @@ use mathlib.Core.List.{List, [], _∷_}
 use Prim.Native.Nat.{ℕ, _-_}
 use lib.ListN.{length}
 use lib.Dec.{eqb, ltb, leb}
-use borrow.Author.Tests.{eqb-true, ltb-true}
+use borrow.Author.Tests.{eqb-true, ltb-true, not-true}
 use Rattle.common.specs.Choice.{if_then_else_}
 use Rattle.common.specs.Numbers.NoRow.{end, past}
 use Rattle.common.proofs.Numbers.{given-no-row, no-row-given, no-head, no-tail}
@@ -147,11 +147,7 @@ module _ (d : Device) (v : World) (b : Bus) (is : isIgnored d v b ≡ true) wher
   rest = and-right j (isWrite (b .cycle .kind) && not (low || hears)) is
 
   neither : (low || hears) ≡ false
-  neither = off (low || hears) (and-right (isWrite (b .cycle .kind)) (not (low || hears)) rest)
-    where
-      off : (x : Bool) → not x ≡ true → x ≡ false
-      off true q = absurd (unlike (sym q))
-      off false q = refl
+  neither = not-true (low || hears) (and-right (isWrite (b .cycle .kind)) (not (low || hears)) rest)
 
   fits : Judged d v b
   fits = eqb-true (judgeOf d (v .state) (b .cycle) (length (v .bytes)) (length (b .residue))) 0 (and-left j (isWrite (b .cycle .kind) && not (low || hears)) is)

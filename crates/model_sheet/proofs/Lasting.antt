@@ -2,11 +2,11 @@
 use mathlib.Core.Path.{_≡_, refl, sym, ap, subst, _∙_}
 use mathlib.Core.Bool.{Bool, true, false, not, _&&_}
 use mathlib.Core.List.{List, [], _∷_}
-use Prim.Native.Nat.{ℕ, _+_, _-_, _<_}
+use Prim.Native.Nat.{ℕ, _+_, _-_, _/_, _%_, _<_}
 use native.Mathlib.Omega.{arith}
 use lib.ListN.{length}
 use lib.Dec.{eqb}
-use borrow.Author.Tests.{eqb-true, eqb-false}
+use borrow.Author.Tests.{eqb-true, eqb-false, ne-eqb, not-true}
 use Rattle.common.specs.Choice.{if_then_else_}
 use Rattle.common.proofs.Choice.{if-ind, if-true, if-false, and-left, and-right, and-none, unlike}
 use Rattle.device.specs.declared.Part.{Part}
@@ -27,15 +27,19 @@ use Rattle.model_types.specs.declared.Settled.{Settled}
 use Rattle.model_types.specs.declared.Decision.{Decision}
 use Rattle.model_types.specs.Kinds.{isWrite}
 use Rattle.model_types.specs.Levels.{rpLow, vppLow, locked}
-use Rattle.model_types.specs.Status.{SR7, withoutBits}
+use Rattle.model_types.specs.Status.{SR7, withoutBits, isSet}
+use Rattle.model_types.specs.Inner.{topBits}
 use Rattle.model_types.specs.Phases.{isAwaited, isPending, isBusy, isSuspending, suspendLeft}
 use Rattle.model_commands.specs.Commands.{asksProgram, firstWrite, afterErase, whileErasing, whileSuspending, whileSuspended, commandOf, dataOf, actionOf, unsupplied, wearBy, startedOf, performedOf}
 use Rattle.model_operation.specs.Settling.{settledAs, finishOf, countedOff, suspendPassed, passedOf, settleOf}
 use Rattle.model_rules.specs.Cycles.{numberOf, decidedAs, decideOf, respondOf}
 use Rattle.model_rules.proofs.Cases.{accepted}
+use Rattle.model_rules.proofs.Facts as facts
+use Rattle.model_rules.proofs.Facts.{Proper}
 use Rattle.model.specs.Arrays.{isRefusal, arrayOf, answerOf, arrayAfter}
 use Rattle.model.specs.Begun.{pendingIn, pendingOf, askedBy, startsOf}
-use Rattle.model.proofs.Keeping.{st}
+use Rattle.model.proofs.Keeping.{st, cycle-proper}
+use Rattle.model.proofs.Status.{status-fits}
 use Rattle.model.proofs.Lives.{settle-awaited, accept-up, begun-refused, begun-accepted}
 use Rattle.model.proofs.Outcome.{accept-effect}
 use Rattle.model.proofs.Table.{refused-nothing}
@@ -45,6 +49,7 @@ use Rattle.model_sheet.specs.Sheet.{isRunning, endState, isTaken, begunA
 use Rattle.model_sheet.specs.Sentences.{Lasts}
 use Rattle.model_sheet.proofs.Ways.{running-is, settle-end, leads}
 use Rattle.model_sheet.proofs.Opening.{is-write}
+use Rattle.model_sheet.proofs.Bits.{number-zero}
 
 -- one where a test holds
 abbrev one : Bool → ℕ
@@ -232,17 +237,13 @@ pub record Still (d : Device) (v w : World) (n : ℕ) : Type 0 where
   pub still : isPending (w .state .phase) ≡ true
   pub bytes : w .bytes ≡ v .bytes
 
-off : (x : Bool) → not x ≡ true → x ≡ false
-off true q = absurd (unlike (sym q))
-off false q = refl
-
 pub lasts : (d : Device) (bs : List Bus) (v : World) → isPending (v .state .phase) ≡ true → uncut (effectsIn d v bs) ≡ true → countedIn d v bs < v .state .left
     → Still d v (worldAfter d v bs) (countedIn d v bs)
 lasts d [] v pends whole more = record { pending = refl; left = omega arith; still = pends; bytes = refl }
 lasts d (b ∷ bs) v pends whole more =
     let x = countsOn d v b in
     let n = countedIn d (stepped d v b) bs in
-    let one-step = step d v b pends (off (isCut (effectBy d v b)) (and-left (not (isCut (effectBy d v b))) (uncut (effectsIn d (stepped d v b) bs)) whole))
+    let one-step = step d v b pends (not-true (isCut (effectBy d v b)) (and-left (not (isCut (effectBy d v b))) (uncut (effectsIn d (stepped d v b) bs)) whole))
     (λ y. fewer x n (v .state .left) y more) in
     let rest = lasts d bs (stepped d v b) (one-step .still) (and-right (not (isCut (effectBy d v b))) (uncut (effectsIn d (stepped d v b) bs)) whole)
     (let l = one-step .left in omega arith) in
@@ -292,7 +293,7 @@ ends d v b counts whole last =
     let x : Decision = decideOf d s (b .cycle) n r in
     let t : Settled = settleOf (d .part) s (b .cycle .pins) in
     let runs : isRunning (s .phase) ≡ true = and-left (isRunning (s .phase)) (isTaken d v b) counts in
-    let fine : isRefusal (x .reply) ≡ false = off (isRefusal (x .reply)) (and-right (isRunning (s .phase)) (isTaken d v b) counts) in
+    let fine : isRefusal (x .reply) ≡ false = not-true (isRefusal (x .reply)) (and-right (isRunning (s .phase)) (isTaken d v b) counts) in
     let pends = running-is (s .phase) runs .0 in
     let up = held.up d s (b .cycle) n r pends fine whole in
     let high = held.high d s (b .cycle) n r pends fine whole in
@@ -381,16 +382,16 @@ module _ (d : Device) (v : World) (b : Bus) (op : Effect) (begun : begunAt d v b
   asked = sym (if-true (((w && r) && u) && k) _ _ test) ∙ starts-it
 
   raised : rpLow (b .cycle .pins) ≡ false
-  raised = off (rpLow (b .cycle .pins)) (and-right w r (and-left (w && r) u (and-left ((w && r) && u) k test)))
+  raised = not-true (rpLow (b .cycle .pins)) (and-right w r (and-left (w && r) u (and-left ((w && r) && u) k test)))
 
   goal : (isAwaited (v .state .phase) ≡ true)
       × Goal d (b .cycle) (v .state)
-      (off (unsupplied (d .part) (b .cycle) (v .state)) (and-right (w && r) u (and-left ((w && r) && u) k test)))
-      (off (locked (d .part) (b .cycle)) (and-right ((w && r) && u) k test))
+      (not-true (unsupplied (d .part) (b .cycle) (v .state)) (and-right (w && r) u (and-left ((w && r) && u) k test)))
+      (not-true (locked (d .part) (b .cycle)) (and-right ((w && r) && u) k test))
       (askedBy (v .state .phase) (d .part) (b .cycle)) (performedOf (actionOf (d .part) (v .state .phase) (commandOf (b .cycle))) d (b .cycle) (v .state))
   goal =
-      begins-with d (b .cycle) (v .state) (off (unsupplied (d .part) (b .cycle) (v .state)) (and-right (w && r) u (and-left ((w && r) && u) k test)))
-      (off (locked (d .part) (b .cycle)) (and-right ((w && r) && u) k test)) (v .state .phase) (λ z. some (sym asked ∙ z))
+      begins-with d (b .cycle) (v .state) (not-true (unsupplied (d .part) (b .cycle) (v .state)) (and-right (w && r) u (and-left ((w && r) && u) k test)))
+      (not-true (locked (d .part) (b .cycle)) (and-right ((w && r) && u) k test)) (v .state .phase) (λ z. some (sym asked ∙ z))
 
   is : decideOf d (v .state) (b .cycle) (length (v .bytes)) (length (b .residue))
       ≡ decidedAs Quiet (performedOf (actionOf (d .part) (v .state .phase) (commandOf (b .cycle))) d (b .cycle) (v .state)) Nothing
@@ -409,6 +410,33 @@ module _ (d : Device) (v : World) (b : Bus) (op : Effect) (begun : begunAt d v b
         still = ap (λ (x : World). isPending (x .state .phase)) q ∙ goal .1 .2;
         bytes = ap (λ (x : World). x .bytes) q;
       }
+
+-- ---- SR.7 where nothing is pending
+none-idle : (ph : Phase) (part : Part) (a : ℕ) → pendingIn ph part a ≡ Nothing → topBits ph ≡ 2
+none-idle Free part a e = refl
+none-idle EraseAwaited part a e = refl
+none-idle DataAwaited part a e = refl
+none-idle (Programming x) part a e = absurd (let z : _≡_ {A = ℕ} 0 1 = cc in omega arith)
+none-idle Erasing part a e = absurd (let z : _≡_ {A = ℕ} 0 1 = cc in omega arith)
+none-idle (Suspending n) part a e = absurd (let z : _≡_ {A = ℕ} 0 1 = cc in omega arith)
+none-idle Suspended part a e = absurd (let z : _≡_ {A = ℕ} 0 1 = cc in omega arith)
+
+ready : (d : Device) (s : State) → Proper d s → pendingOf (d .part) s ≡ Nothing → isSet (s .status) SR7 ≡ true
+ready d s p e =
+    let f = status-fits (s .phase) (s .status) (p .status) in
+    let q = eqb-true (s .status / 64) (topBits (s .phase)) (and-right (eqb (s .status % 8) 0) (eqb (s .status / 64) (topBits (s .phase))) f) in
+    let t = none-idle (s .phase) (d .part) (s .address) e in
+    ap not (ne-eqb (s .status / 128 % 2) 0 (λ z. omega arith))
+
+-- a cycle that counts leaves a proper state
+counts-proper : (d : Device) (v : World) (b : Bus) → countsOn d v b ≡ true → Proper d (stepped d v b .state)
+unfolding answerOf
+counts-proper d v b counts =
+    let x : Decision = decideOf d (v .state) (b .cycle) (length (v .bytes)) (length (b .residue)) in
+    let fine = not-true (isRefusal (x .reply)) (and-right (isRunning (v .state .phase)) (isTaken d v b) counts) in
+    let zero = number-zero d (v .state) (b .cycle) (length (v .bytes)) (length (b .residue)) fine in
+    cycle-proper d (v .state) (b .cycle) (length (v .bytes)) (length (b .residue))
+    (facts.fine d (v .state) (b .cycle) (length (v .bytes)) (length (b .residue)) zero .proper)
 
 -- ---- from its beginning to its end
 module _ (d : Device) (v : World) (b : Bus) (op : Effect) (begun : begunAt d v b ≡ op) (some : op ≡ Nothing → ⊥) (bs : List Bus)
@@ -431,12 +459,13 @@ module _ (d : Device) (v : World) (b : Bus) (op : Effect) (begun : begunAt d v b
   sooner : n < busyTime d op → (pendingOf (d .part) (at .state) ≡ op) × (at .state .left + n ≡ busyTime d op) × (at .bytes ≡ v .bytes)
   sooner h = let q = so-far h in (q .pending ∙ start .pending, q .left ∙ start .left, q .bytes ∙ start .bytes)
 
-  over : (e : Bus) → IsLast d v b op bs e → (effectBy d at e ≡ op) × (pendingOf (d .part) (stepped d at e .state) ≡ Nothing)
+  over : (e : Bus) → IsLast d v b op bs e
+      → (effectBy d at e ≡ op) × (pendingOf (d .part) (stepped d at e .state) ≡ Nothing) × (isSet (stepped d at e .state .status) SR7 ≡ true)
   over e last =
       let h = last .0 in
       let q = sooner (let z : n < busyTime d op = omega arith in z) in
       let m = ends d at e (last .1) (last .2) (let l = q .1 in let z : at .state .left ≡ 1 = omega arith in z) in
-      (m .0 ∙ q .0, m .1)
+      (m .0 ∙ q .0, m .1, ready d (stepped d at e .state) (counts-proper d at e (last .1)) (m .1))
 
   leaves : (e : Bus) → IsLast d v b op bs e → stepped d at e .bytes ≡ arrayOf op (d .part) (e .residue) (v .bytes)
   unfolding arrayAfter

@@ -37,7 +37,7 @@ is-write Read e = absurd (unlike (sym e))
 is-write Write e = refl
 is-write Idle e = absurd (unlike (sym e))
 
-free-is : (ph : Phase) → isFree ph ≡ true → (ph ≡ Free) × (isPending ph ≡ false) × (isBusy ph ≡ false)
+pub free-is : (ph : Phase) → isFree ph ≡ true → (ph ≡ Free) × (isPending ph ≡ false) × (isBusy ph ≡ false)
 free-is Free e = (refl, refl, refl)
 free-is EraseAwaited e = absurd (unlike (sym e))
 free-is DataAwaited e = absurd (unlike (sym e))

@@ -15,7 +15,7 @@ use Rattle.model_types.specs.declared.Effect.{Effect}
 use Rattle.model_types.specs.declared.Effect.the-variants.{Nothing, Program, Erase}
 use Rattle.model_types.specs.Levels.{rpLow, vppLow, locked}
 use Rattle.model_types.specs.Phases.{isFree, isPending}
-use Rattle.model_types.specs.Status.{SR3, withBits, isSet}
+use Rattle.model_types.specs.Status.{SR7, SR3, withBits, isSet}
 use Rattle.model_types.specs.States.{atRest, resetOf}
 use Rattle.model_commands.specs.Commands.{commandOf, firstWrite, isRefuse, performedOf, inMode, unsupplied}
 use Rattle.model.specs.declared.Seen.the-variants.{Data, Refused}
@@ -31,9 +31,10 @@ pub record Lasts (d : Device) (v : World) (b : Bus) (op : Effect) (bs : List Bus
       → (pendingOf (d .part) (afterBegun d v b bs .state) ≡ op)
       × (afterBegun d v b bs .state .left + countedAfter d v b bs ≡ busyTime d op)
       × (afterBegun d v b bs .bytes ≡ v .bytes)
-  -- the last cycle that counts ends it, whatever that cycle is: nothing is pending then ..
+  -- the last cycle that counts ends it, whatever that cycle is: nothing is pending then, and SR.7 is set ..
   pub then-over : (e : Bus) → IsLast d v b op bs e
       → (effectBy d (afterBegun d v b bs) e ≡ op) × (pendingOf (d .part) (stepped d (afterBegun d v b bs) e .state) ≡ Nothing)
+      × (isSet (stepped d (afterBegun d v b bs) e .state .status) SR7 ≡ true)
   -- .. a program has left old AND data in its unit, and every other unit as it was ..
   pub program-leaves : (e : Bus) → IsLast d v b op bs e → (a y : ℕ) → op ≡ Program a y
       → stepped d (afterBegun d v b bs) e .bytes ≡ set (v .bytes) a (bitAnd (getD (v .bytes) a 0) y)
