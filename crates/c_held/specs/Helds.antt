@@ -1,4 +1,4 @@
--- A load that may be interrupted, as plain numbers: its records, and what its start, its step and its run give. Assumes nothing.
+-- A load that may be interrupted, as plain numbers: its records, and what its start, its step and its run give.
 use mathlib.Core.Bool.{Bool, not, _||_}
 use mathlib.Core.List.{List}
 use Prim.Native.Nat.{ℕ}

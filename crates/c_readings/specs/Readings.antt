@@ -1,4 +1,4 @@
--- What a reading answers, as plain numbers. Assumes nothing.
+-- What a reading answers, as plain numbers.
 use Prim.Native.Nat.{ℕ}
 use lib.IntN.{pos}
 use lib.Ieee.{Float, binary64, ofInt}

@@ -1,4 +1,4 @@
--- Recordings as numbers: there and back, what becomes of numbers that stand for no answer, and what a refusal gives. Assumes nothing.
+-- Recordings as numbers: there and back, what becomes of numbers that stand for no answer, and what a refusal gives.
 use mathlib.Core.Path.{_≡_, refl, sym, ap, _∙_}
 use mathlib.Core.Bool.{Bool, true, false}
 use mathlib.Core.List.{List, [], _∷_}

@@ -1,4 +1,4 @@
--- The walk over numbers read as records comes to the numbers of the check's answer. Assumes nothing.
+-- The walk over numbers read as records comes to the numbers of the check's answer.
 use mathlib.Core.Path.{_≡_, refl, ap, _∙_}
 use mathlib.Core.List.{List, [], _∷_, _++_}
 use Prim.Native.Nat.{ℕ, suc, _≤_}

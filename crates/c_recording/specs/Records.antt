@@ -1,4 +1,4 @@
--- Recordings as plain numbers: the records, and what the check of them answers. Assumes nothing.
+-- Recordings as plain numbers: the records, and what the check of them answers.
 use mathlib.Core.List.{List, [], _∷_}
 use Prim.Native.Nat.{ℕ}
 use lib.Dec.{eqb, ltb}

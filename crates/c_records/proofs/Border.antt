@@ -1,4 +1,4 @@
--- A loader's record and its numbers: there and back, and what becomes of numbers that stand for none. Assumes nothing.
+-- A loader's record and its numbers: there and back, and what becomes of numbers that stand for none.
 use mathlib.Core.Path.{_≡_, refl, sym, ap, _∙_}
 use mathlib.Core.Bool.{Bool, true, false, not, _&&_, _||_}
 use Prim.Native.Nat.{ℕ, zero, suc, _≤_}

@@ -1,4 +1,4 @@
--- The loader's record, and what start, step, run, load, writer and reader say, as plain numbers. Assumes nothing.
+-- The loader's record, and what start, step, run, load, writer and reader say, as plain numbers.
 use mathlib.Core.Bool.{Bool, not, _&&_, _||_}
 use Prim.Native.Nat.{ℕ}
 use lib.Dec.{eqb, ltb}

@@ -1,4 +1,4 @@
--- What the C functions of the store give and leave, on plain numbers. Assumes nothing.
+-- What the C functions of the store give and leave, on plain numbers.
 use mathlib.Core.List.{List}
 use Prim.Native.Nat.{ℕ}
 use lib.IntN.{ℤ}

@@ -1,4 +1,4 @@
--- What is claimed of reports as numbers: nothing is lost either way. Assumes nothing.
+-- What is claimed of reports as numbers: nothing is lost either way.
 use mathlib.Core.Path.{_≡_, refl}
 use Rattle.wear.specs.declared.Tally.{Tally}
 use Rattle.wear.specs.declared.Report.{Report}

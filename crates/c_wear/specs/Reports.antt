@@ -1,4 +1,4 @@
--- The report on wear as plain numbers, each way: each number as it is. Assumes nothing.
+-- The report on wear as plain numbers, each way: each number as it is.
 use Rattle.wear.specs.declared.Tally.{Tally}
 use Rattle.wear.specs.declared.Report.{Report}
 use Rattle.wear.specs.declared.Reported.{Reported}

@@ -1,4 +1,4 @@
--- Card 2, for every P: busy until the P-th read. Assumes nothing.
+-- Card 2, for every P: busy until the P-th read.
 use mathlib.Core.Path.{_≡_, refl, sym, ap, _∙_, subst}
 use mathlib.Core.Bool.{Bool, true, false}
 use mathlib.Core.List.{List, [], _∷_, _++_}

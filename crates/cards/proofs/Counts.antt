@@ -1,4 +1,4 @@
--- Cards 10 and 11: instances of the count of a good run, and of a good load alone. Assumes nothing.
+-- Cards 10 and 11: instances of the count of a good run, and of a good load alone.
 use mathlib.Core.Path.{_≡_, refl, ap, _∙_, ap₂}
 use mathlib.Core.Bool.{Bool, true, false}
 use mathlib.Core.List.{List, _∷_}

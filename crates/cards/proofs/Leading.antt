@@ -1,4 +1,4 @@
--- Cycles of a card, one before the other: what the host sees of them, and where they lead. Assumes nothing.
+-- Cycles of a card, one before the other: what the host sees of them, and where they lead.
 use mathlib.Core.Path.{_≡_, refl, ap, _∙_}
 use mathlib.Core.Bool.{Bool, true, false}
 use mathlib.Core.List.{List, [], _∷_}

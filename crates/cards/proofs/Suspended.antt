@@ -1,4 +1,4 @@
--- Card 7, for every S: suspended on the S-th read. Assumes nothing.
+-- Card 7, for every S: suspended on the S-th read.
 use mathlib.Core.Path.{_≡_, refl, ap, _∙_, subst}
 use mathlib.Core.Bool.{true, false}
 use mathlib.Core.List.{List, [], _∷_, _++_}

@@ -1,4 +1,4 @@
--- The bench cards, on bench T (device 3) and bench B (device 4) with P 2, E 3 and S 1 where nothing else is said. Assumes nothing.
+-- The bench cards, on bench T (device 3) and bench B (device 4) with P 2, E 3 and S 1 where nothing else is said.
 use mathlib.Core.Path.{_≡_}
 use mathlib.Core.Bool.{Bool, true, false, _&&_}
 use mathlib.Core.List.{List, [], _∷_, _++_}

@@ -1,4 +1,4 @@
--- What the board designer's table is: the command rules, entry by entry. Assumes nothing.
+-- What the board designer's table is: the command rules, entry by entry.
 use mathlib.Core.Path.{_≡_}
 use mathlib.Core.Bool.{true}
 use Prim.Native.Nat.{ℕ, _+_, _*_, _/_, _%_, _<_}

@@ -1,4 +1,4 @@
--- A test that passes at each element of a list, and so at every place. Assumes nothing.
+-- A test that passes at each element of a list, and so at every place.
 use mathlib.Core.Path.{_≡_, sym, subst, _∙_}
 use mathlib.Core.Bool.{Bool, true}
 use mathlib.Core.List.{List, [], _∷_}

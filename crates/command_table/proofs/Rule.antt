@@ -1,4 +1,4 @@
--- The table is the command rules: one test over its 1,792 entries, and from it each entry for every part. Assumes nothing.
+-- The table is the command rules: one test over its 1,792 entries, and from it each entry for every part.
 use mathlib.Core.Path.{_≡_, refl, sym, ap, ap₂, subst, _∙_}
 use mathlib.Core.Bool.{Bool, true, false}
 use mathlib.Core.List.{List, []}

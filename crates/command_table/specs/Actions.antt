@@ -1,4 +1,4 @@
--- What the table's rows and action numbers stand for, and what it is for an entry to follow its rule. Assumes nothing.
+-- What the table's rows and action numbers stand for, and what it is for an entry to follow its rule.
 use mathlib.Core.Bool.{Bool, true, false, _&&_}
 use mathlib.Core.List.{List, [], _∷_}
 use Prim.Native.Nat.{ℕ, suc, _+_, _*_, _/_, _%_}

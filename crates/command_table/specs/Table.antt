@@ -1,5 +1,5 @@
 -- The command rules as a table, once more as in src/lib.rt: 256 entries for each of seven states, each an action number.
--- tests/command_table.py writes both. Assumes nothing.
+-- tests/command_table.py writes both.
 use mathlib.Core.List.{List, [], _∷_}
 use Prim.Native.Nat.{ℕ}
 

@@ -1,4 +1,4 @@
--- What keeps a list of bytes one; and a list with a part laid over it, place by place. Assumes nothing.
+-- What keeps a list of bytes one; and a list with a part laid over it, place by place.
 use mathlib.Core.Path.{_≡_, refl, sym, _∙_, subst}
 use mathlib.Core.Bool.{Bool, true, false}
 use mathlib.Core.List.{List, _++_}

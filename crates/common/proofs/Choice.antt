@@ -1,4 +1,4 @@
--- Laws of a choice by a test, and of tests put together. Assumes nothing.
+-- Laws of a choice by a test, and of tests put together.
 use mathlib.Core.Path.{_≡_, refl, sym, _∙_}
 use mathlib.Core.Bool.{Bool, true, false, _&&_, _||_}
 use Prim.Native.Nat.{ℕ}

@@ -1,4 +1,4 @@
--- Laws of a list that is copied, filled or laid over another, turn by turn. Assumes nothing.
+-- Laws of a list that is copied, filled or laid over another, turn by turn.
 use mathlib.Core.Path.{_≡_, refl, sym, _∙_, ap}
 use mathlib.Core.List.{List, append-nil}
 use Prim.Native.Nat.{ℕ, suc, _+_, _-_, _≤_, _<_, min}

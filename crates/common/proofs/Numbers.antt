@@ -1,4 +1,4 @@
--- Laws of a table of refusals: the number given is that of the first row that holds. Assumes nothing.
+-- Laws of a table of refusals: the number given is that of the first row that holds.
 use mathlib.Core.Path.{_≡_, refl, sym, _∙_, subst}
 use mathlib.Core.Bool.{Bool, true, false}
 use mathlib.Core.List.{List, [], _∷_, _++_}

@@ -1,4 +1,4 @@
--- A loop that lays a list over another piece by piece. Assumes nothing.
+-- A loop that lays a list over another piece by piece.
 use mathlib.Core.Path.{_≡_, sym, ap, _∙_}
 use mathlib.Core.List.{List, _++_, append-assoc}
 use Prim.Native.Nat.{ℕ, _+_, _-_, _≤_}

@@ -1,4 +1,4 @@
--- A choice by a test, and when a promise has one answer. Assumes nothing.
+-- A choice by a test, and when a promise has one answer.
 use mathlib.Core.Path.{_≡_}
 use mathlib.Core.Bool.{Bool, true, false}
 

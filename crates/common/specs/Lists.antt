@@ -1,4 +1,4 @@
--- Lists of bytes: a copy, a part that is overwritten, and lists whose elements are bytes. Assumes nothing.
+-- Lists of bytes: a copy, a part that is overwritten, and lists whose elements are bytes.
 use mathlib.Core.List.{List, _++_}
 use Prim.Native.Nat.{ℕ, _<_}
 use lib.ListN.{length, getD, take, drop}

@@ -1,4 +1,4 @@
--- A table of refusals: rows in the order in which they are tested, each a number with its own condition. Assumes nothing.
+-- A table of refusals: rows in the order in which they are tested, each a number with its own condition.
 use mathlib.Core.Path.{_≡_}
 use mathlib.Core.Bool.{Bool, true, false}
 use mathlib.Core.List.{List, [], _∷_}

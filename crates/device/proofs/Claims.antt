@@ -1,4 +1,4 @@
--- What is claimed of the parts, in one place. Assumes nothing.
+-- What is claimed of the parts, in one place.
 use mathlib.Core.Path.{_≡_, refl, sym}
 use mathlib.Core.Bool.{true, false}
 use mathlib.Core.List.{List, [], _∷_}

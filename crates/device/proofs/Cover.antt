@@ -1,4 +1,4 @@
--- Laws of flash blocks, for any list of lengths. Assumes nothing.
+-- Laws of flash blocks, for any list of lengths.
 use mathlib.Core.Path.{_≡_, refl, ap}
 use mathlib.Core.Bool.{Bool, true, false}
 use mathlib.Core.List.{List, [], _∷_}

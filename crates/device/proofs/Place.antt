@@ -1,4 +1,4 @@
--- The laws of blocks as addresses have them, for any description and for every part. Assumes nothing.
+-- The laws of blocks as addresses have them, for any description and for every part.
 use mathlib.Core.Path.{_≡_, refl}
 use mathlib.Core.Bool.{Bool, true, false}
 use Prim.Native.Nat.{ℕ, _+_, _-_, _≤_, _<_}

@@ -1,4 +1,4 @@
--- The table of parts: past its end, and the sizes of its rows. Assumes nothing.
+-- The table of parts: past its end, and the sizes of its rows.
 use mathlib.Core.Path.{_≡_, refl, sym, ap, subst}
 use mathlib.Core.Bool.{false}
 use Prim.Native.Nat.{ℕ, zero, suc, _<_, _/_}

@@ -1,4 +1,4 @@
--- A part in bytes and the same part in words: every length twice, and both bytes of a word in the word's block. Assumes nothing.
+-- A part in bytes and the same part in words: every length twice, and both bytes of a word in the word's block.
 use mathlib.Core.Path.{_≡_, refl, ap, _∙_}
 use mathlib.Core.Bool.{Bool, true, false}
 use mathlib.Core.List.{List, [], _∷_}

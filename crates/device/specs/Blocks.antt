@@ -1,4 +1,4 @@
--- Flash blocks as a list of lengths, counted outward from the boot block. Assumes nothing.
+-- Flash blocks as a list of lengths, counted outward from the boot block.
 use mathlib.Core.List.{List, [], _∷_}
 use Prim.Native.Nat.{ℕ, zero, suc, _+_, _-_, _≤_, _<_}
 use lib.ListN.{getD}

@@ -1,4 +1,4 @@
--- What only the code's shape asks for: first address and length of a block together, so that the description is read once. Assumes nothing.
+-- What only the code's shape asks for: first address and length of a block together, so that the description is read once.
 use Prim.Native.Nat.{ℕ}
 use Rattle.device.specs.Parts.{startIn, lengthIn, startOf, lengthOf}
 use Rattle.device.specs.declared.Part.{Part}

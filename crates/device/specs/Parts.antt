@@ -1,4 +1,4 @@
--- The parts we load, each by a short description, and all that follows from it. Assumes nothing.
+-- The parts we load, each by a short description, and all that follows from it.
 use mathlib.Core.Bool.{Bool, true, false, not, _&&_, _||_}
 use mathlib.Core.List.{List, [], _∷_}
 use Prim.Native.Nat.{ℕ, _+_, _-_, _/_, _%_, _≤_, _<_}

@@ -1,4 +1,4 @@
--- What is claimed of one block, in one place. Assumes nothing.
+-- What is claimed of one block, in one place.
 use mathlib.Core.Path.{_≡_}
 use mathlib.Core.Logic.{_↔_}
 use mathlib.Core.List.{List}

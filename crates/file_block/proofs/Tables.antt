@@ -1,4 +1,4 @@
--- Laws of the table of one block: what is asked after it, and what a right block is. Assumes nothing.
+-- Laws of the table of one block: what is asked after it, and what a right block is.
 use mathlib.Core.Path.{_≡_, refl, sym, _∙_}
 use mathlib.Core.List.{List, [], _∷_}
 use mathlib.Core.Logic.{_↔_}

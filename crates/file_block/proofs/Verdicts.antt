@@ -1,4 +1,4 @@
--- What the tests of one block say, as laws that its function cites. Assumes nothing.
+-- What the tests of one block say, as laws that its function cites.
 use mathlib.Core.Path.{_≡_, refl, sym, _∙_, ap}
 use mathlib.Core.List.{List, [], _∷_}
 use mathlib.Core.Bool.{Bool, true, false, not, _||_}

@@ -1,4 +1,4 @@
--- One turn of each loop on a slice, as a law about its list. Assumes nothing.
+-- One turn of each loop on a slice, as a law about its list.
 use mathlib.Core.Path.{_≡_, _∙_, ap}
 use mathlib.Core.List.{List}
 use mathlib.Core.Bool.{true}

@@ -1,4 +1,4 @@
--- One block of a load file: what is wrong with it. Assumes nothing.
+-- One block of a load file: what is wrong with it.
 use mathlib.Core.List.{List, [], _∷_}
 use mathlib.Core.Bool.{Bool, true, false, not, _||_}
 use Prim.Native.Nat.{ℕ, _+_, _-_}

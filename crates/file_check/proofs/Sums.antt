@@ -1,4 +1,4 @@
--- The check's sums in four columns: what they hold stays the sums of the bytes met. Assumes nothing.
+-- The check's sums in four columns: what they hold stays the sums of the bytes met.
 use mathlib.Core.Path.{_≡_, refl, sym, _∙_, ap, subst}
 use mathlib.Core.List.{List, [], _∷_}
 use Prim.Native.Nat.{ℕ, _+_, _*_, _%_, _/_, _-_, _≤_, _<_, min}

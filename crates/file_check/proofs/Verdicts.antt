@@ -1,4 +1,4 @@
--- What the check says of a block, and what a blank block is, as laws that functions cite. Assumes nothing.
+-- What the check says of a block, and what a blank block is, as laws that functions cite.
 use mathlib.Core.Path.{_≡_, refl, sym, _∙_, ap}
 use mathlib.Core.List.{List, [], _∷_}
 use mathlib.Core.Bool.{Bool, true, false, not}

@@ -1,4 +1,4 @@
--- Running sums and the weighted sum, and a test of every byte, over any list. Assumes nothing.
+-- Running sums and the weighted sum, and a test of every byte, over any list.
 use mathlib.Core.Path.{_≡_, sym, _∙_, ap}
 use mathlib.Core.List.{List, [], _∷_}
 use mathlib.Core.Bool.{false}

@@ -1,4 +1,4 @@
--- The check of a block, a blank block, and numbers of two bytes. Assumes nothing.
+-- The check of a block, a blank block, and numbers of two bytes.
 use mathlib.Core.List.{List, [], _∷_}
 use mathlib.Core.Bool.{Bool, true, false, not}
 use Prim.Native.Nat.{ℕ, suc, _+_, _*_, _%_}

@@ -1,4 +1,4 @@
--- What only the code's shape asks for: the check's sums are kept in four columns. Assumes nothing.
+-- What only the code's shape asks for: the check's sums are kept in four columns.
 use mathlib.Core.Path.{_≡_}
 use mathlib.Core.List.{List, [], _∷_}
 use Prim.Native.Nat.{ℕ, _+_, _*_, _≤_}

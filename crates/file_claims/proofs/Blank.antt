@@ -1,4 +1,4 @@
--- A blank block beside the reader that had no number for it, and blank files. Assumes nothing.
+-- A blank block beside the reader that had no number for it, and blank files.
 use mathlib.Core.Path.{_≡_, refl, sym, _∙_, ap}
 use mathlib.Core.List.{List, [], _∷_}
 use mathlib.Core.Bool.{Bool, true, false, not, _||_}

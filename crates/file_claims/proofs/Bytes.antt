@@ -1,4 +1,4 @@
--- Lists of bytes, and the laws of lists that the claims stand on. Assumes nothing.
+-- Lists of bytes, and the laws of lists that the claims stand on.
 use mathlib.Core.Path.{_≡_, refl, sym, _∙_, ap, subst}
 use mathlib.Core.List.{List, [], _∷_, _++_}
 use mathlib.Core.Bool.{Bool, true, false}

@@ -1,4 +1,4 @@
--- The two numbers of the check itself, each exactly where it applies, and the blocks of a written file. Assumes nothing.
+-- The two numbers of the check itself, each exactly where it applies, and the blocks of a written file.
 use mathlib.Core.Path.{_≡_, refl, sym, _∙_, ap}
 use mathlib.Core.List.{List}
 use mathlib.Core.Bool.{Bool, true, false}

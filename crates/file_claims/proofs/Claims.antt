@@ -1,4 +1,4 @@
--- The claims about the load file, for any limit of blocks; `limit` is the one that the promises use. Assumes nothing.
+-- The claims about the load file, for any limit of blocks; `limit` is the one that the promises use.
 use mathlib.Core.Path.{_≡_, refl, sym, _∙_, ap}
 use mathlib.Core.List.{List, [], _∷_, _++_}
 use mathlib.Core.Bool.{true, false}

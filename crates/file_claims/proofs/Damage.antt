@@ -1,4 +1,4 @@
--- One changed byte is found out by the check of its block. Assumes nothing.
+-- One changed byte is found out by the check of its block.
 use mathlib.Core.Path.{_≡_, refl, sym, _∙_, ap, subst}
 use mathlib.Core.List.{List, [], _∷_}
 use mathlib.Core.Bool.{Bool, true, false, not}

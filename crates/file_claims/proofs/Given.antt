@@ -1,4 +1,4 @@
--- Reader and writer by their own answers: what they say and leave tells what they made. Assumes nothing.
+-- Reader and writer by their own answers: what they say and leave tells what they made.
 use mathlib.Core.Path.{_≡_, refl, sym, _∙_, ap}
 use mathlib.Core.List.{List, _++_}
 use mathlib.Core.Bool.{Bool, true, false}

@@ -1,4 +1,4 @@
--- The order of the refusals: each table against the outcome that it gives. Assumes nothing.
+-- The order of the refusals: each table against the outcome that it gives.
 use mathlib.Core.Path.{_≡_, refl, sym, _∙_, ap, subst}
 use mathlib.Core.List.{List, [], _∷_, _++_, append-assoc}
 use mathlib.Core.Bool.{Bool, true, false, not}

@@ -1,4 +1,4 @@
--- A higher limit of blocks: what was read and written below the lower one stays. Assumes nothing.
+-- A higher limit of blocks: what was read and written below the lower one stays.
 use mathlib.Core.Path.{_≡_, refl, ap}
 use mathlib.Core.Bool.{Bool, true, false, not, _||_}
 use mathlib.Core.List.{List, [], _∷_}

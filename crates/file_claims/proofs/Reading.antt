@@ -1,4 +1,4 @@
--- What is read could have been written: one block, then all. Assumes nothing.
+-- What is read could have been written: one block, then all.
 use mathlib.Core.Path.{_≡_, sym, _∙_, ap}
 use mathlib.Core.List.{List, [], _∷_, _++_, append-nil}
 use mathlib.Core.Bool.{true, false, not}

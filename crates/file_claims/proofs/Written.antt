@@ -1,4 +1,4 @@
--- What the writer writes is read back: one block, then all. Assumes nothing.
+-- What the writer writes is read back: one block, then all.
 use mathlib.Core.Path.{_≡_, refl, sym, _∙_, ap, subst}
 use mathlib.Core.List.{List, [], _∷_, _++_, append-assoc, append-nil}
 use mathlib.Core.Bool.{Bool, true, false, not, _||_}

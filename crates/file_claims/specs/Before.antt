@@ -1,4 +1,4 @@
--- The reader as it was while a blank block had no number of its own. Assumes nothing.
+-- The reader as it was while a blank block had no number of its own.
 use mathlib.Core.List.{List, [], _∷_}
 use mathlib.Core.Bool.{not, _||_}
 use Prim.Native.Nat.{ℕ, zero, suc, _+_}

@@ -1,4 +1,4 @@
--- The reader and the writer by their own answers and by what they leave in the buffer that is lent. Assumes nothing.
+-- The reader and the writer by their own answers and by what they leave in the buffer that is lent.
 use mathlib.Core.Path.{_≡_}
 use mathlib.Core.List.{List, _++_}
 use Prim.Native.Nat.{ℕ, _≤_}

@@ -1,4 +1,4 @@
--- An outcome that a table of refusals decides. Assumes nothing.
+-- An outcome that a table of refusals decides.
 use mathlib.Core.Path.{_≡_}
 use mathlib.Core.List.{List}
 use mathlib.Core.Logic.{_↔_}

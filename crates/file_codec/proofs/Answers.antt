@@ -1,4 +1,4 @@
--- What reader and writer leave in the lent buffer, as laws that they cite. Assumes nothing.
+-- What reader and writer leave in the lent buffer, as laws that they cite.
 use mathlib.Core.Path.{_≡_, sym, _∙_, ap}
 use mathlib.Core.List.{List, _++_}
 use Prim.Native.Nat.{ℕ, _+_, _*_, _/_, _-_, _≤_, _<_}

@@ -1,4 +1,4 @@
--- Laws of the outcomes of reader and writer: one for each way out, and the ways back. Assumes nothing.
+-- Laws of the outcomes of reader and writer: one for each way out, and the ways back.
 use mathlib.Core.Path.{_≡_, refl, sym, _∙_, ap}
 use mathlib.Core.List.{List, [], _∷_}
 use mathlib.Core.Bool.{Bool, true, false, not, _||_}

@@ -1,4 +1,4 @@
--- Parts of a slice that are written one behind the other, as laws about lists. Assumes nothing.
+-- Parts of a slice that are written one behind the other, as laws about lists.
 use mathlib.Core.Path.{_≡_, refl, sym, _∙_, ap}
 use mathlib.Core.List.{List, [], _++_, append-assoc, append-nil}
 use Prim.Native.Nat.{ℕ, suc, _+_, _*_, _-_, _≤_, _<_, min}

@@ -1,4 +1,4 @@
--- Eight times a number by a shift. Assumes nothing.
+-- Eight times a number by a shift.
 use mathlib.Core.Path.{_≡_}
 use Prim.Native.Nat.{ℕ, _*_, _%_, _<_}
 use native.Mathlib.Omega.{arith}

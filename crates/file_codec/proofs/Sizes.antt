@@ -1,4 +1,4 @@
--- Lengths: of a block, of the blocks of a payload, and of the payload of right blocks. Assumes nothing.
+-- Lengths: of a block, of the blocks of a payload, and of the payload of right blocks.
 use mathlib.Core.Path.{_≡_, refl, sym, _∙_, ap}
 use mathlib.Core.List.{List, [], _∷_, _++_, append-nil}
 use Prim.Native.Nat.{ℕ, zero, suc, _+_, _*_, _-_, _≤_, _<_}

@@ -1,4 +1,4 @@
--- Laws of the reader's table: what is asked after the blocks, and one block at a time. Assumes nothing.
+-- Laws of the reader's table: what is asked after the blocks, and one block at a time.
 use mathlib.Core.Path.{_≡_, refl, _∙_, ap}
 use mathlib.Core.List.{List, [], _++_}
 use Prim.Native.Nat.{ℕ, zero, suc, _+_, _*_, _-_, _<_}

@@ -1,4 +1,4 @@
--- What an answer tells by its cases is what its outcome tells: an answer's equation with that, and with what is left. Assumes nothing.
+-- What an answer tells by its cases is what its outcome tells: an answer's equation with that, and with what is left.
 use mathlib.Core.Path.{_≡_, refl, ap, _∙_}
 use mathlib.Core.List.{List}
 use Prim.Native.Nat.{ℕ}

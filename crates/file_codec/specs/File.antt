@@ -1,4 +1,4 @@
--- The load file: what the writer writes, how the reader judges a file, and what each answers. Assumes nothing.
+-- The load file: what the writer writes, how the reader judges a file, and what each answers.
 use mathlib.Core.List.{List, [], _∷_, _++_}
 use mathlib.Core.Bool.{Bool, not, _||_}
 use Prim.Native.Nat.{ℕ, zero, suc, _+_, _*_, _/_, _%_}

@@ -1,4 +1,4 @@
--- One block of a load file: how it is written. Assumes nothing.
+-- One block of a load file: how it is written.
 use mathlib.Core.List.{List, [], _∷_, _++_}
 use Prim.Native.Nat.{ℕ, _-_, _/_, _%_}
 use lib.ListN.{length, replicate}

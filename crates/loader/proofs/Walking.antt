@@ -1,4 +1,4 @@
--- One turn of the two walks, and their ends. Assumes nothing.
+-- One turn of the two walks, and their ends.
 use mathlib.Core.Path.{_≡_, ap}
 use mathlib.Core.Bool.{false, _||_}
 use mathlib.Core.List.{List}

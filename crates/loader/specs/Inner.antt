@@ -1,5 +1,5 @@
 -- What only the code's shape asks for. No record that a start or a step takes meets it: there the place after p is p + 1 (`past-is` of
--- loader_steps), and the number of an end is asked of an end alone. Assumes nothing.
+-- loader_steps), and the number of an end is asked of an end alone.
 use Prim.Native.Nat.{ℕ, _+_}
 use lib.Dec.{ltb}
 use Rattle.common.specs.Choice.{if_then_else_}

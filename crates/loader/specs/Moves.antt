@@ -1,4 +1,4 @@
--- The loader's moves: the record after a read's data. What is wanted and scratch are lists of units. Assumes nothing.
+-- The loader's moves: the record after a read's data. What is wanted and scratch are lists of units.
 use mathlib.Core.Bool.{Bool, false, _&&_}
 use mathlib.Core.List.{List}
 use Prim.Native.Nat.{ℕ, _+_, _-_, _/_, _%_}

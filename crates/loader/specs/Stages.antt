@@ -1,4 +1,4 @@
--- What a stage is: the end of a load, or a cycle that is out. Assumes nothing.
+-- What a stage is: the end of a load, or a cycle that is out.
 use mathlib.Core.Bool.{Bool, true, false}
 use Prim.Native.Nat.{ℕ}
 use Rattle.model_types.specs.declared.Kind.{Kind}

@@ -1,4 +1,4 @@
--- Walks over what is wanted and what the block held, lists of units: by the units left, at a place. Assumes nothing.
+-- Walks over what is wanted and what the block held, lists of units: by the units left, at a place.
 use mathlib.Core.Bool.{Bool, false, not, _||_}
 use mathlib.Core.List.{List}
 use Prim.Native.Nat.{ℕ, zero, suc, _+_, _-_}

@@ -1,5 +1,4 @@
 -- What the stages of a load do to a block and to scratch, and what they cost in cycles. Lists are of units but where bytes are said.
--- Assumes nothing.
 use mathlib.Core.Path.{_≡_}
 use mathlib.Core.Bool.{Bool, false, not, _&&_}
 use mathlib.Core.List.{List}

@@ -1,5 +1,5 @@
 -- What is claimed of a load from a file and of a verify from a file, in one place: of both as of what begins at a stage that is no
--- end, with or without the verify after a load. Assumes nothing.
+-- end, with or without the verify after a load.
 use mathlib.Core.Path.{_≡_}
 use mathlib.Core.Bool.{Bool, false}
 use mathlib.Core.List.{List}

@@ -1,4 +1,4 @@
--- Wanted as a load fills it. Assumes nothing.
+-- Wanted as a load fills it.
 use mathlib.Core.Path.{_≡_, refl, ap, _∙_}
 use mathlib.Core.List.{List, [], _++_, append-nil}
 use Prim.Native.Nat.{ℕ, _+_, _-_, _≤_}

@@ -1,4 +1,4 @@
--- The numbers of a load: a run's first, then the file's, which are the reader's where the file is no longer than the block. Assumes nothing.
+-- The numbers of a load: a run's first, then the file's, which are the reader's where the file is no longer than the block.
 use mathlib.Core.Path.{_≡_, refl, sym, ap, _∙_}
 use mathlib.Core.Bool.{Bool, true, false, not, _||_}
 use mathlib.Core.List.{List, [], _∷_}

@@ -1,5 +1,4 @@
 -- A load and a verify from a file, on lent bytes: after a run's own tests the file is judged, and only then wanted is filled and the run made.
--- Assumes nothing.
 use mathlib.Core.Bool.{Bool, true, not, _||_}
 use mathlib.Core.List.{List, [], _∷_, _++_}
 use Prim.Native.Nat.{ℕ, _-_}

@@ -1,4 +1,4 @@
--- What is claimed of a load from a file and of a verify from a file beyond their promises, in one place. Assumes nothing.
+-- What is claimed of a load from a file and of a verify from a file beyond their promises, in one place.
 use mathlib.Core.Path.{_≡_}
 use mathlib.Core.Bool.{Bool, false}
 use mathlib.Core.List.{List}

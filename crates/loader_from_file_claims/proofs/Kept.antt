@@ -1,4 +1,4 @@
--- Files that are neither loaded nor verified against: a written file under another letter, or with a byte changed; a blank file. Assumes nothing.
+-- Files that are neither loaded nor verified against: a written file under another letter, or with a byte changed; a blank file.
 use mathlib.Core.Path.{_≡_, sym, ap, _∙_, subst}
 use mathlib.Core.Bool.{Bool, false}
 use mathlib.Core.List.{List}

@@ -1,4 +1,4 @@
--- Stored files in a load: the tests are the same with eight blocks and with the limit. Assumes nothing.
+-- Stored files in a load: the tests are the same with eight blocks and with the limit.
 use mathlib.Core.Path.{_≡_, ap}
 use mathlib.Core.Bool.{Bool, not, _||_}
 use mathlib.Core.List.{List, [], _∷_}

@@ -1,4 +1,4 @@
--- Demand 3 of a run, and a verify, with the file and FFH as what is wanted. Assumes nothing.
+-- Demand 3 of a run, and a verify, with the file and FFH as what is wanted.
 use mathlib.Core.Path.{_≡_, refl, sym, ap, _∙_, subst}
 use mathlib.Core.Bool.{true}
 use mathlib.Core.List.{List}

@@ -1,4 +1,4 @@
--- The tests of a file in a load, with any limit of blocks. Assumes nothing.
+-- The tests of a file in a load, with any limit of blocks.
 use mathlib.Core.Bool.{not, _||_}
 use mathlib.Core.List.{List, [], _∷_}
 use Prim.Native.Nat.{ℕ}

@@ -1,4 +1,4 @@
--- Demand 3 through a file: the start that it speaks of, and what a good load returns and leaves. Assumes nothing.
+-- Demand 3 through a file: the start that it speaks of, and what a good load returns and leaves.
 use mathlib.Core.Path.{_≡_}
 use mathlib.Core.Bool.{true}
 use mathlib.Core.List.{List}

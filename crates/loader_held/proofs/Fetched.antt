@@ -1,4 +1,4 @@
--- The reads are done and the erase was found finished: what follows. Assumes nothing.
+-- The reads are done and the erase was found finished: what follows.
 use mathlib.Core.Path.{_≡_, _∙_}
 use mathlib.Core.Bool.{false}
 use mathlib.Core.List.{List}

@@ -1,5 +1,4 @@
 -- The data of a cycle, the loader's or an interruption's, leave a record of the same part, block and levels, its place in the block.
--- Assumes nothing.
 use mathlib.Core.Path.{_≡_, refl}
 use mathlib.Core.List.{List}
 use Prim.Native.Nat.{ℕ, _≤_, _<_}

@@ -1,7 +1,7 @@
 -- An erase that is interrupted for readings: the moves of an interruption beside those of the loader. Told are the polls of the erase
 -- to interrupt (ps) and the addresses to read each time (bs, k of them). In a listed poll's place come B0H, 70H, polls until SR.7, FFH,
 -- k reads into the room and, where SR.6 was set, D0H; the loader's own record waits meanwhile. What is wanted, scratch and the room are
--- lists of units, the polls and the addresses lists of numbers. Assumes nothing.
+-- lists of units, the polls and the addresses lists of numbers.
 use mathlib.Core.Bool.{Bool, false}
 use mathlib.Core.List.{List}
 use Prim.Native.Nat.{ℕ, _+_, _/_, _%_}

@@ -1,4 +1,4 @@
--- The polls of an erase, any of them interrupted, whatever follows. Assumes nothing.
+-- The polls of an erase, any of them interrupted, whatever follows.
 use mathlib.Core.Path.{_≡_, refl, sym, ap, _∙_, subst}
 use mathlib.Core.Bool.{Bool, true, false}
 use mathlib.Core.List.{List, _∷_}

@@ -1,4 +1,4 @@
--- What the model answers to each cycle of an interruption. Assumes nothing.
+-- What the model answers to each cycle of an interruption.
 use mathlib.Core.Path.{_≡_, refl, ap, _∙_}
 use mathlib.Core.Bool.{true, false}
 use Prim.Native.Nat.{ℕ, _+_, _-_, _≤_, _<_}

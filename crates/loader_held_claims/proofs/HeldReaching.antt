@@ -1,4 +1,4 @@
--- Turns of an interrupted load put before turns, as in Reaching of loader_run_claims. Assumes nothing.
+-- Turns of an interrupted load put before turns, as in Reaching of loader_run_claims.
 use mathlib.Core.Path.{_≡_, refl, ap, _∙_}
 use mathlib.Core.Bool.{Bool, true, false, _&&_}
 use mathlib.Core.List.{List, [], _∷_}

@@ -1,4 +1,4 @@
--- One interruption of an erase against the model, whatever follows. Assumes nothing.
+-- One interruption of an erase against the model, whatever follows.
 use mathlib.Core.Path.{_≡_, refl, sym, ap, _∙_, subst}
 use mathlib.Core.Bool.{Bool, true, false}
 use mathlib.Core.List.{List, [], _∷_}

@@ -1,4 +1,4 @@
--- Where no interruption is made, an interrupted load is the old load, turn by turn. Assumes nothing.
+-- Where no interruption is made, an interrupted load is the old load, turn by turn.
 use mathlib.Core.Path.{_≡_, refl, sym, ap, _∙_}
 use mathlib.Core.Bool.{Bool, true, false, not, _&&_}
 use mathlib.Core.List.{List, [], _∷_, _++_}

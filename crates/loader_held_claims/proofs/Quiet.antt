@@ -1,4 +1,4 @@
--- A load that has no bit to raise makes no poll of an erase: all its turns are quiet. Assumes nothing.
+-- A load that has no bit to raise makes no poll of an erase: all its turns are quiet.
 use mathlib.Core.Path.{_≡_, refl, sym, ap, _∙_}
 use mathlib.Core.Bool.{Bool, true, false, not, _&&_, _||_}
 use mathlib.Core.List.{List, [], _∷_}

@@ -1,4 +1,4 @@
--- What stands in other blocks, the room after any interruptions, and what they cost. Assumes nothing.
+-- What stands in other blocks, the room after any interruptions, and what they cost.
 use mathlib.Core.Path.{_≡_, refl, sym, ap, _∙_, subst}
 use mathlib.Core.Bool.{Bool, true, false, _||_}
 use mathlib.Core.List.{List, [], _∷_, _++_}

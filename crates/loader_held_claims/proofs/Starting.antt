@@ -1,4 +1,4 @@
--- A load from a start that nothing refuses: its grounds, and the first reads, whatever follows. Assumes nothing.
+-- A load from a start that nothing refuses: its grounds, and the first reads, whatever follows.
 use mathlib.Core.Path.{_≡_, refl, sym, ap, _∙_, subst}
 use mathlib.Core.Bool.{Bool, true, false, _||_}
 use mathlib.Core.List.{List, [], _∷_, _++_}

@@ -1,4 +1,4 @@
--- A load whose erase cannot start, its one poll interrupted or not: it ends by the same number. Assumes nothing.
+-- A load whose erase cannot start, its one poll interrupted or not: it ends by the same number.
 use mathlib.Core.Path.{_≡_, refl, ap, _∙_, subst}
 use mathlib.Core.Bool.{Bool, true, false}
 use mathlib.Core.List.{List, [], _∷_}

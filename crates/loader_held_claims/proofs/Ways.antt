@@ -1,4 +1,4 @@
--- No way leads back to the erase's polls: turns before them and after them are quiet. Assumes nothing.
+-- No way leads back to the erase's polls: turns before them and after them are quiet.
 use mathlib.Core.Path.{_≡_, refl, sym, ap, _∙_}
 use mathlib.Core.Bool.{Bool, true, false, not, _&&_, _||_}
 use mathlib.Core.List.{List}

@@ -1,5 +1,5 @@
 -- From 20H on: an erase that is interrupted at any polls, the programs and, where it is asked for, the verify: where they lead, what they
--- begin, the cycles that they make. Assumes nothing.
+-- begin, the cycles that they make.
 use mathlib.Core.Path.{_≡_, refl, sym, ap, _∙_, subst}
 use mathlib.Core.Bool.{Bool, true, false}
 use mathlib.Core.List.{List, [], _∷_, _++_, append-nil}

@@ -1,5 +1,5 @@
 -- How a load with interruptions ends that nothing refuses, whatever VPP and RP#: as the old one, with what interruptions add to it. bs are
--- the addresses read, ps the polls told. Assumes nothing.
+-- the addresses read, ps the polls told.
 use mathlib.Core.Path.{_≡_}
 use mathlib.Core.Bool.{Bool, true, _&&_}
 use mathlib.Core.List.{List, [], _∷_}

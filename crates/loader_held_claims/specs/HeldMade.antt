@@ -1,4 +1,4 @@
--- What such a load begins, the cycles that it makes, and what an interruption costs and reads. Assumes nothing.
+-- What such a load begins, the cycles that it makes, and what an interruption costs and reads.
 use mathlib.Core.Path.{_≡_}
 use mathlib.Core.Bool.{Bool, true, false, _&&_, _||_}
 use mathlib.Core.List.{List, [], _∷_}

@@ -1,4 +1,4 @@
--- Lists that no test refuses: the addresses are in other blocks, and the room has a unit for each. Assumes nothing.
+-- Lists that no test refuses: the addresses are in other blocks, and the room has a unit for each.
 use mathlib.Core.Path.{_≡_, refl, sym, ap, _∙_, subst}
 use mathlib.Core.Bool.{Bool, true, false, _&&_}
 use mathlib.Core.List.{List, [], _∷_, _++_, append-nil, append-assoc}

@@ -1,6 +1,6 @@
 -- What is claimed of a load whose erase is interrupted for readings (02 xi), in one place. `verify` is whether the verify follows the
 -- load; ps are the polls told, bs the addresses. That no list of polls makes a load that does not end is `always-ends` of
--- loader_held_run/proofs/Claims. Assumes nothing.
+-- loader_held_run/proofs/Claims.
 use mathlib.Core.Path.{_≡_}
 use mathlib.Core.Bool.{Bool, true, false, _||_}
 use mathlib.Core.List.{List, [], _∷_, _++_}

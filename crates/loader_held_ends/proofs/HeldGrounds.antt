@@ -1,4 +1,4 @@
--- What some turns of a load with interruptions reach is where it ends; its count is the number of its cycles. Assumes nothing.
+-- What some turns of a load with interruptions reach is where it ends; its count is the number of its cycles.
 use mathlib.Core.Path.{_≡_, refl, sym, ap, _∙_}
 use mathlib.Core.Bool.{Bool, true, false, _&&_}
 use mathlib.Core.List.{List, _∷_}

@@ -1,4 +1,4 @@
--- A load with interruptions on lent bytes of either width: beside the run without them, and demand 3 of it. Assumes nothing.
+-- A load with interruptions on lent bytes of either width: beside the run without them, and demand 3 of it.
 use mathlib.Core.Path.{_≡_, sym, ap, _∙_, subst}
 use mathlib.Core.Bool.{Bool, true, false, _&&_}
 use mathlib.Core.List.{List, _++_}

@@ -1,4 +1,4 @@
--- Of the list of polls only which numbers it names is looked at, and of those only the numbers of polls that come. Assumes nothing.
+-- Of the list of polls only which numbers it names is looked at, and of those only the numbers of polls that come.
 use mathlib.Core.Path.{_≡_, refl, sym, ap, _∙_}
 use mathlib.Core.Bool.{Bool, true, false, _&&_, _||_}
 use mathlib.Core.List.{List, [], _∷_, _++_}

@@ -1,4 +1,4 @@
--- Demand 3 of a load with interruptions: what it leaves and begins is what the old load leaves and begins. Assumes nothing.
+-- Demand 3 of a load with interruptions: what it leaves and begins is what the old load leaves and begins.
 use mathlib.Core.Path.{_≡_, refl, sym, ap, _∙_, subst}
 use mathlib.Core.Bool.{Bool, true, false, not, _&&_}
 use mathlib.Core.List.{List}

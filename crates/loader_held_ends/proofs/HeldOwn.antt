@@ -1,5 +1,5 @@
 -- The cycles of a load with interruptions as one history among others: they lead where the load leads, begin what it begins, and where
--- they are smooth none is refused or cuts an operation. Assumes nothing.
+-- they are smooth none is refused or cuts an operation.
 use mathlib.Core.Path.{_≡_, refl, ap, _∙_, subst}
 use mathlib.Core.Bool.{Bool, true, false}
 use mathlib.Core.List.{List, []}

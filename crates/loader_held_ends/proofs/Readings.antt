@@ -1,5 +1,4 @@
--- What an interruption adds exactly, what the room holds place by place, and loads that no poll of theirs is interrupted in. Assumes
--- nothing.
+-- What an interruption adds exactly, what the room holds place by place, and loads that no poll of theirs is interrupted in.
 use mathlib.Core.Path.{_≡_, refl, sym, ap, _∙_, subst}
 use mathlib.Core.Bool.{Bool, true, false, _&&_}
 use mathlib.Core.List.{List, [], _∷_}

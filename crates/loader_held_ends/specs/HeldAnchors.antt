@@ -1,5 +1,5 @@
 -- Lists that there are: for every block of every device an address in another block, in byte mode and, of devices 5 to 8, in word mode; and
--- some figures. Assumes nothing.
+-- some figures.
 use mathlib.Core.Bool.{Bool, true, false, _&&_}
 use mathlib.Core.List.{List, [], _∷_}
 use Prim.Native.Nat.{ℕ, zero, suc}

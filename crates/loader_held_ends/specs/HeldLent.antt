@@ -1,5 +1,4 @@
--- A load with interruptions on lent bytes, in byte mode and in word mode, beside the run without them, and demand 3 of it. Assumes
--- nothing.
+-- A load with interruptions on lent bytes, in byte mode and in word mode, beside the run without them, and demand 3 of it.
 use mathlib.Core.Path.{_≡_}
 use mathlib.Core.Bool.{Bool, true, _&&_}
 use mathlib.Core.List.{List, _++_}

@@ -1,5 +1,5 @@
 -- A load with interruptions made to its end: what it returns, leaves, begins and makes, whatever the end; and demand 3 of it. Lists are of
--- units; bs are the addresses read, ps the polls told. Assumes nothing.
+-- units; bs are the addresses read, ps the polls told.
 use mathlib.Core.Path.{_≡_}
 use mathlib.Core.Bool.{Bool, true, _&&_}
 use mathlib.Core.List.{List}

@@ -1,5 +1,4 @@
--- A host that steps a load with interruptions by hand, beside the run. Lists are of units; `size` is the bytes of the room. Assumes
--- nothing.
+-- A host that steps a load with interruptions by hand, beside the run. Lists are of units; `size` is the bytes of the room.
 use mathlib.Core.Path.{_≡_}
 use mathlib.Core.Bool.{Bool, true, false}
 use mathlib.Core.List.{List}

@@ -1,4 +1,4 @@
--- What is claimed of a load from a file whose erase is interrupted, in one place. Assumes nothing.
+-- What is claimed of a load from a file whose erase is interrupted, in one place.
 use mathlib.Core.Path.{_≡_}
 use mathlib.Core.Bool.{Bool}
 use mathlib.Core.List.{List}

@@ -1,4 +1,4 @@
--- The numbers of an interrupted load from a file: a run's first, then the file's, then those of the lists. Assumes nothing.
+-- The numbers of an interrupted load from a file: a run's first, then the file's, then those of the lists.
 use mathlib.Core.Path.{_≡_, refl, sym, ap, _∙_}
 use mathlib.Core.Bool.{Bool, true, false}
 use mathlib.Core.List.{List}

@@ -1,5 +1,5 @@
 -- A load from a file whose erase is interrupted, on lent bytes: after the tests of a load from a file come those of the addresses and the
--- room, and only then wanted is filled and the run made. Assumes nothing.
+-- room, and only then wanted is filled and the run made.
 use mathlib.Core.Bool.{Bool}
 use mathlib.Core.List.{List, _++_}
 use Prim.Native.Nat.{ℕ}

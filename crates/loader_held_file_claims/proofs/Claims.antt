@@ -1,4 +1,4 @@
--- What is claimed of a load from a file with interruptions (02 xi). Assumes nothing.
+-- What is claimed of a load from a file with interruptions (02 xi).
 use mathlib.Core.Bool.{Bool}
 use mathlib.Core.List.{List}
 use Prim.Native.Nat.{ℕ}

@@ -1,4 +1,4 @@
--- Demand 3 of a load from a file with interruptions: its run has the file and FFH as what is wanted. Assumes nothing.
+-- Demand 3 of a load from a file with interruptions: its run has the file and FFH as what is wanted.
 use mathlib.Core.Path.{_≡_, refl, sym, ap, _∙_, subst}
 use mathlib.Core.Bool.{Bool}
 use mathlib.Core.List.{List}

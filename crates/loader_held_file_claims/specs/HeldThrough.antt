@@ -1,5 +1,4 @@
 -- A load from a file with interruptions, on lent bytes: the start that demand 3 speaks of, and what a good load returns and leaves.
--- Assumes nothing.
 use mathlib.Core.Path.{_≡_}
 use mathlib.Core.Bool.{Bool, true, false, _&&_}
 use mathlib.Core.List.{List}

@@ -1,5 +1,4 @@
 -- One turn of a walk over a list that looks for a number, and its end; a block's end as an address; the room in bytes and in units.
--- Assumes nothing.
 use mathlib.Core.Path.{_≡_, refl, sym, ap, _∙_}
 use mathlib.Core.Bool.{Bool, true, false, _||_}
 use mathlib.Core.List.{List}

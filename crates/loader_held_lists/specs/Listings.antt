@@ -1,5 +1,5 @@
 -- The lists that a load with interruptions is lent, and their tests: the addresses read in each interruption, and the room for what is
--- read. Addresses are those of units; the room is counted in bytes. Assumes nothing.
+-- read. Addresses are those of units; the room is counted in bytes.
 use mathlib.Core.Bool.{Bool, true, false, _&&_, _||_}
 use mathlib.Core.List.{List, [], _∷_}
 use Prim.Native.Nat.{ℕ, _+_}

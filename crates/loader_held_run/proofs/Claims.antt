@@ -1,4 +1,4 @@
--- What is claimed of a run whose erase is interrupted, in one place: with the verify after the load or without. Assumes nothing.
+-- What is claimed of a run whose erase is interrupted, in one place: with the verify after the load or without.
 use mathlib.Core.Path.{_≡_}
 use mathlib.Core.Bool.{Bool, true, false}
 use mathlib.Core.List.{List}

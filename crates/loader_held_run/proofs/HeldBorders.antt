@@ -1,4 +1,4 @@
--- The refusals of an interrupted run exactly, and its promise where nothing refuses it. Assumes nothing.
+-- The refusals of an interrupted run exactly, and its promise where nothing refuses it.
 use mathlib.Core.Path.{_≡_, refl, sym, ap, _∙_, subst}
 use mathlib.Core.Bool.{Bool, true, false}
 use mathlib.Core.List.{List, _++_}

@@ -1,4 +1,4 @@
--- Every interrupted load ends, after a first number of cycles, from any input whatever. Assumes nothing.
+-- Every interrupted load ends, after a first number of cycles, from any input whatever.
 use mathlib.Core.Path.{_≡_, refl, sym, ap, _∙_, subst}
 use mathlib.Core.Bool.{Bool, true, false}
 use mathlib.Core.List.{List}

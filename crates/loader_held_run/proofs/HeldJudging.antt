@@ -1,5 +1,4 @@
 -- The tests of an interrupted run: a run's first, then those of the addresses and the room, and what is known where none refuses.
--- Assumes nothing.
 use mathlib.Core.Path.{_≡_, refl, sym, ap, _∙_}
 use mathlib.Core.Bool.{Bool, true, false}
 use mathlib.Core.List.{List, [], _∷_}

@@ -1,4 +1,4 @@
--- An interrupted run on lent bytes: what its loop over their units leaves is what such a run leaves. Assumes nothing.
+-- An interrupted run on lent bytes: what its loop over their units leaves is what such a run leaves.
 use mathlib.Core.Path.{_≡_, sym, ap, ap₂, _∙_}
 use mathlib.Core.Bool.{Bool, false}
 use mathlib.Core.List.{List, _++_}

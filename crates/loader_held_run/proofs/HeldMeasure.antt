@@ -1,5 +1,4 @@
 -- A number that falls with every cycle of an interrupted load, for any records, answer, scratch and lists: every such load ends.
--- Assumes nothing.
 use mathlib.Core.Path.{_≡_, refl, sym, ap, _∙_, subst}
 use mathlib.Core.Bool.{false}
 use mathlib.Core.List.{List}

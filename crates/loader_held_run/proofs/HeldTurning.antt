@@ -1,4 +1,4 @@
--- Turns of an interrupted load: the end stays, and such a load is its end after the bound. Assumes nothing.
+-- Turns of an interrupted load: the end stays, and such a load is its end after the bound.
 use mathlib.Core.Path.{_≡_, refl, sym, ap, _∙_, subst}
 use mathlib.Core.Bool.{true, false}
 use mathlib.Core.List.{List}

@@ -1,4 +1,4 @@
--- What is promised of an interrupted run that nothing refuses: the first number of cycles after which the load has ended. Assumes nothing.
+-- What is promised of an interrupted run that nothing refuses: the first number of cycles after which the load has ended.
 use mathlib.Core.Path.{_≡_}
 use mathlib.Core.Bool.{Bool, true, false}
 use mathlib.Core.List.{List, _++_}

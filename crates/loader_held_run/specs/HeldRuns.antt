@@ -1,4 +1,4 @@
--- A run whose erase is interrupted, on lent bytes: its tests, its beginning, and what it returns and leaves. Assumes nothing.
+-- A run whose erase is interrupted, on lent bytes: its tests, its beginning, and what it returns and leaves.
 use mathlib.Core.Bool.{Bool}
 use mathlib.Core.List.{List, _++_}
 use Prim.Native.Nat.{ℕ, _+_, _*_}

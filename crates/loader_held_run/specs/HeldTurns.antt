@@ -1,4 +1,4 @@
--- A load whose erase is interrupted, stepped against the model; bs are the addresses to read, ps the polls to interrupt. Assumes nothing.
+-- A load whose erase is interrupted, stepped against the model; bs are the addresses to read, ps the polls to interrupt.
 use mathlib.Core.Bool.{Bool}
 use mathlib.Core.List.{List, []}
 use Prim.Native.Nat.{ℕ, zero, suc, _+_}

@@ -1,4 +1,4 @@
--- What only the code's shape asks for. Not part of what a buyer must believe. Assumes nothing.
+-- What only the code's shape asks for. Not part of what a buyer must believe.
 use mathlib.Core.List.{List}
 use Prim.Native.Nat.{ℕ, _+_, _<_}
 use lib.ListN.{getD}

@@ -1,4 +1,4 @@
--- What is claimed of a load with interruptions a step at a time, in one place. Assumes nothing.
+-- What is claimed of a load with interruptions a step at a time, in one place.
 use mathlib.Core.Path.{_≡_}
 use mathlib.Core.Bool.{Bool, false}
 use mathlib.Core.List.{List, []}

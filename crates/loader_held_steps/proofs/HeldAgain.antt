@@ -1,4 +1,4 @@
--- Every pair of records that an accepted start or step gives is taken again, with lists that the start let pass. Assumes nothing.
+-- Every pair of records that an accepted start or step gives is taken again, with lists that the start let pass.
 use mathlib.Core.Path.{_≡_, refl, sym, ap, _∙_, subst}
 use mathlib.Core.Bool.{Bool, true, false, not, _&&_, _||_}
 use mathlib.Core.List.{List, [], _∷_}

@@ -1,4 +1,4 @@
--- Start and step with the lists: their refusals exactly, and what a refusal leaves. Assumes nothing.
+-- Start and step with the lists: their refusals exactly, and what a refusal leaves.
 use mathlib.Core.Path.{_≡_, refl, sym, ap, _∙_}
 use mathlib.Core.Bool.{Bool, true, false}
 use mathlib.Core.List.{List, _++_}

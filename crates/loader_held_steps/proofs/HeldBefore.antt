@@ -1,4 +1,4 @@
--- With no polls to interrupt, a start and the steps after it are those of the loader alone, turn for turn. Assumes nothing.
+-- With no polls to interrupt, a start and the steps after it are those of the loader alone, turn for turn.
 use mathlib.Core.Path.{_≡_, refl, sym, ap, ap₂, _∙_, subst}
 use mathlib.Core.Bool.{Bool, true, false, _||_}
 use mathlib.Core.List.{List, [], _∷_, _++_}

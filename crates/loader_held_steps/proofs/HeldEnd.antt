@@ -1,4 +1,4 @@
--- After its end a load with interruptions repeats that end. Assumes nothing.
+-- After its end a load with interruptions repeats that end.
 use mathlib.Core.Path.{_≡_, refl, sym, ap, _∙_}
 use mathlib.Core.Bool.{true}
 use mathlib.Core.List.{List}

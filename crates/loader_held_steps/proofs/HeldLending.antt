@@ -1,4 +1,4 @@
--- Lent bytes that a start or a step with the lists takes are whole units, and its promises speak of them. Assumes nothing.
+-- Lent bytes that a start or a step with the lists takes are whole units, and its promises speak of them.
 use mathlib.Core.Path.{_≡_, refl, sym, ap, ap₂, _∙_}
 use mathlib.Core.Bool.{Bool, false}
 use mathlib.Core.List.{List, _++_}

@@ -1,4 +1,4 @@
--- The numbers as the code finds them: levels, block and lengths first, then the lists. Assumes nothing.
+-- The numbers as the code finds them: levels, block and lengths first, then the lists.
 use mathlib.Core.Path.{_≡_, refl, sym, ap, _∙_}
 use mathlib.Core.Bool.{false}
 use mathlib.Core.List.{List, _++_}

@@ -1,4 +1,4 @@
--- A start or a step with the lists that is not refused: what each of its tests found. Assumes nothing.
+-- A start or a step with the lists that is not refused: what each of its tests found.
 use mathlib.Core.Path.{_≡_, refl}
 use mathlib.Core.Bool.{false}
 use mathlib.Core.List.{List}

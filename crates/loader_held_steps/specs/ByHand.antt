@@ -1,4 +1,4 @@
--- Steps one after the other, each with the data that a host hands in, and the turns that they give. Assumes nothing.
+-- Steps one after the other, each with the data that a host hands in, and the turns that they give.
 use mathlib.Core.Path.{_≡_}
 use mathlib.Core.List.{List, [], _∷_}
 use Prim.Native.Nat.{ℕ}

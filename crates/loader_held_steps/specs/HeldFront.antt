@@ -1,6 +1,6 @@
 -- A load with interruptions a step at a time: its start, its step, and their tests. The polls to interrupt are ps, the addresses to read
 -- bs; the room is counted in bytes. What is wanted and scratch are lists of units: those of the lent bytes, of which an odd number makes
--- none in word mode. Assumes nothing.
+-- none in word mode.
 use mathlib.Core.Bool.{Bool, true, false, not, _&&_, _||_}
 use mathlib.Core.List.{List, [], _∷_, _++_}
 use Prim.Native.Nat.{ℕ}

@@ -1,4 +1,4 @@
--- What a verify comes to, and a load with the verify after it. Assumes nothing.
+-- What a verify comes to, and a load with the verify after it.
 use mathlib.Core.Path.{_≡_, refl, sym, ap, _∙_}
 use mathlib.Core.Bool.{Bool, true, false}
 use mathlib.Core.List.{List, _++_}

@@ -1,4 +1,4 @@
--- What a load comes to, stage by stage, is what every end of a load is. Assumes nothing.
+-- What a load comes to, stage by stage, is what every end of a load is.
 use mathlib.Core.Path.{_≡_, refl, sym, ap, _∙_}
 use mathlib.Core.Bool.{Bool, true, false, _||_}
 use mathlib.Core.List.{List}

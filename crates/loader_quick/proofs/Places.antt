@@ -1,4 +1,4 @@
--- Where a block lies in lent bytes, and what it holds in units. Assumes nothing.
+-- Where a block lies in lent bytes, and what it holds in units.
 use mathlib.Core.Path.{_≡_, refl, sym, ap, _∙_}
 use mathlib.Core.Bool.{Bool, true, false}
 use mathlib.Core.List.{List, _++_}

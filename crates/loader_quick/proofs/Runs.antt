@@ -1,4 +1,4 @@
--- A run that nothing refuses: where its block lies, and that what the stages come to is what the definition leaves. Assumes nothing.
+-- A run that nothing refuses: where its block lies, and that what the stages come to is what the definition leaves.
 use mathlib.Core.Path.{_≡_, refl, sym, ap, _∙_}
 use mathlib.Core.Bool.{Bool, true, false}
 use mathlib.Core.List.{List}

@@ -1,5 +1,5 @@
 -- What a load and a verify come to, stage by stage: where the block lies in what is lent, how a load ends whose operations cannot start,
--- what a good load leaves, and how a verify ends. Assumes nothing.
+-- what a good load leaves, and how a verify ends.
 use mathlib.Core.Path.{_≡_}
 use mathlib.Core.Bool.{Bool, false, _||_}
 use mathlib.Core.List.{List}

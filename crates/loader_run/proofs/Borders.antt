@@ -1,5 +1,4 @@
 -- A run on lent bytes is the run on their units: its numbers, what it returns, and what a refusal leaves. 2 and 11 count bytes.
--- Assumes nothing.
 use mathlib.Core.Path.{_≡_, refl, sym, ap, _∙_, subst}
 use mathlib.Core.Bool.{Bool, true, false}
 use mathlib.Core.List.{List}

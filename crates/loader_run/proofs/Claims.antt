@@ -1,5 +1,5 @@
 -- What is claimed of a run, of a load alone and of a verify alone, in one place: of all three as of whatever begins at a stage that is
--- no end, with or without the verify after a load. Assumes nothing.
+-- no end, with or without the verify after a load.
 use mathlib.Core.Path.{_≡_}
 use mathlib.Core.Bool.{Bool, true, false}
 use mathlib.Core.List.{List}

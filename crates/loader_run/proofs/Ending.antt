@@ -1,4 +1,4 @@
--- Every load ends, after a first number of cycles; and the refusals of a run. Assumes nothing.
+-- Every load ends, after a first number of cycles; and the refusals of a run.
 use mathlib.Core.Path.{_≡_, refl, sym, ap, _∙_, subst}
 use mathlib.Core.Bool.{Bool, true, false}
 use mathlib.Core.List.{List}

@@ -1,4 +1,4 @@
--- What is known of a run that nothing refuses. Assumes nothing.
+-- What is known of a run that nothing refuses.
 use mathlib.Core.Path.{_≡_, refl}
 use mathlib.Core.Bool.{false, not}
 use Prim.Native.Nat.{ℕ, _≤_}

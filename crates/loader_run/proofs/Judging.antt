@@ -1,4 +1,4 @@
--- Refusals 1 to 6 of a cycle in the array with OE# normal, and that with VPP low no operation begins. Assumes nothing.
+-- Refusals 1 to 6 of a cycle in the array with OE# normal, and that with VPP low no operation begins.
 use mathlib.Core.Path.{_≡_, refl, ap, _∙_}
 use mathlib.Core.Bool.{Bool, true, false, not, _&&_, _||_}
 use Prim.Native.Nat.{ℕ, _<_}

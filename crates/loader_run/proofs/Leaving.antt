@@ -1,4 +1,4 @@
--- What a run leaves, where its number is known. Assumes nothing.
+-- What a run leaves, where its number is known.
 use mathlib.Core.Path.{_≡_}
 use mathlib.Core.Bool.{Bool}
 use mathlib.Core.List.{List}

@@ -1,4 +1,4 @@
--- A run on lent bytes: where it is taken they are whole units, and what it leaves are those that the units make. Assumes nothing.
+-- A run on lent bytes: where it is taken they are whole units, and what it leaves are those that the units make.
 use mathlib.Core.Path.{_≡_, refl, sym, ap, _∙_}
 use mathlib.Core.Bool.{Bool, true, false}
 use mathlib.Core.List.{List, []}

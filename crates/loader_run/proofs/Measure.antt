@@ -1,4 +1,4 @@
--- A number that falls with every cycle of a load, for any record, byte and scratch: every load ends. Assumes nothing.
+-- A number that falls with every cycle of a load, for any record, byte and scratch: every load ends.
 use mathlib.Core.Path.{_≡_, refl}
 use mathlib.Core.Bool.{Bool, true, false}
 use mathlib.Core.List.{List}

@@ -1,4 +1,4 @@
--- Turns: the end stays, and a load is its end after the bound. Assumes nothing.
+-- Turns: the end stays, and a load is its end after the bound.
 use mathlib.Core.Path.{_≡_, refl, sym, ap, _∙_, subst}
 use mathlib.Core.Bool.{true, false}
 use mathlib.Core.List.{List}

@@ -1,4 +1,4 @@
--- A record at another stage, all else kept, and how far the code's loop counts. Not part of what a buyer must believe. Assumes nothing.
+-- A record at another stage, all else kept, and how far the code's loop counts. Not part of what a buyer must believe.
 use Prim.Native.Nat.{ℕ, _+_, _*_}
 use Rattle.loader.specs.declared.Stage.{Stage}
 use Rattle.loader.specs.declared.Loader.{Loader}

@@ -1,4 +1,4 @@
--- A run: its tests, its beginning and what it returns, told of lists of units; and then of lent bytes. Assumes nothing.
+-- A run: its tests, its beginning and what it returns, told of lists of units; and then of lent bytes.
 use mathlib.Core.Bool.{Bool, true, false, not}
 use mathlib.Core.List.{List, [], _∷_, _++_}
 use Prim.Native.Nat.{ℕ}

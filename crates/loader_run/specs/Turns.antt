@@ -1,4 +1,4 @@
--- Loader and model stepped against each other. The array, scratch and what is wanted are lists of units. Assumes nothing.
+-- Loader and model stepped against each other. The array, scratch and what is wanted are lists of units.
 use mathlib.Core.Bool.{Bool, true, false}
 use mathlib.Core.List.{List, []}
 use Prim.Native.Nat.{ℕ, zero, suc, _+_}

@@ -1,4 +1,4 @@
--- Every block of every device has a start; and a count that passes 32 bits. Assumes nothing.
+-- Every block of every device has a start; and a count that passes 32 bits.
 use mathlib.Core.Path.{_≡_, refl, sym, ap, ap₂, _∙_, subst}
 use mathlib.Core.Bool.{Bool, true, false}
 use mathlib.Core.List.{List}

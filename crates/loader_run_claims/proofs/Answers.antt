@@ -1,4 +1,4 @@
--- What the model answers to each cycle of a load: the place that opens the model's rules, with Judging of run. Assumes nothing.
+-- What the model answers to each cycle of a load: the place that opens the model's rules, with Judging of run.
 use mathlib.Core.Path.{_≡_, refl, sym, ap, _∙_}
 use mathlib.Core.Bool.{Bool, true, false, not, _&&_, _||_}
 use Prim.Native.Nat.{ℕ, _+_, _-_, _≤_, _<_}

@@ -1,4 +1,4 @@
--- The count is the number of cycles made: the length of their list. Assumes nothing.
+-- The count is the number of cycles made: the length of their list.
 use mathlib.Core.Path.{_≡_, refl, ap}
 use mathlib.Core.Bool.{Bool, true, false}
 use mathlib.Core.List.{List, _∷_}

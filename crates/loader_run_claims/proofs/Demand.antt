@@ -1,4 +1,4 @@
--- From a run that nothing refuses to its end: what the phases reach is what the run returns and leaves. Assumes nothing.
+-- From a run that nothing refuses to its end: what the phases reach is what the run returns and leaves.
 use mathlib.Core.Path.{_≡_, refl, sym, ap, _∙_, subst}
 use mathlib.Core.Bool.{Bool, true, false}
 use mathlib.Core.List.{List, []}

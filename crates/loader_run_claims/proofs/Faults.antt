@@ -1,4 +1,4 @@
--- The ends that need no operation, and those where none can start. Assumes nothing.
+-- The ends that need no operation, and those where none can start.
 use mathlib.Core.Path.{_≡_, refl, sym, ap, _∙_, subst}
 use mathlib.Core.Bool.{Bool, true, false, _&&_}
 use mathlib.Core.List.{List, [], _∷_}

@@ -1,4 +1,4 @@
--- A run that nothing refuses: its grounds, and that what some turns reach is what it returns and leaves. Assumes nothing.
+-- A run that nothing refuses: its grounds, and that what some turns reach is what it returns and leaves.
 use mathlib.Core.Path.{_≡_, refl, sym, ap, _∙_, subst}
 use mathlib.Core.Bool.{Bool, true, false, _&&_}
 use mathlib.Core.List.{List, [], _∷_}

@@ -1,4 +1,4 @@
--- Lists as a load sees them: a block inside the array, and a walk that has come to place i. Assumes nothing.
+-- Lists as a load sees them: a block inside the array, and a walk that has come to place i.
 use mathlib.Core.Path.{_≡_, sym, ap, _∙_, subst, refl}
 use mathlib.Core.List.{List, [], _∷_, _++_}
 use Prim.Native.Nat.{ℕ, _+_, _≤_, _<_, _-_}

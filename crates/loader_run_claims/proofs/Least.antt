@@ -1,5 +1,5 @@
 -- Least wear: no uncut cycles from the same start to the same block contents begin fewer erases of the block or fewer programs
--- in it. Assumes nothing.
+-- in it.
 use mathlib.Core.Path.{_≡_, refl, sym, ap, _∙_, subst}
 use mathlib.Core.Bool.{Bool, true, false, not}
 use mathlib.Core.List.{List}

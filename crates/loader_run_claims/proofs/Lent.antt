@@ -1,4 +1,4 @@
--- Demand 3 of a run on lent bytes of either width. Assumes nothing.
+-- Demand 3 of a run on lent bytes of either width.
 use mathlib.Core.Path.{_≡_, refl, sym, ap, _∙_, subst, ap₂}
 use mathlib.Core.Bool.{Bool, true, false}
 use mathlib.Core.List.{List}

@@ -1,5 +1,5 @@
 -- Demand 3 and least wear in the mission's own words: what a run returns and leaves, how much it wears, and that nothing wears
--- less. Assumes nothing.
+-- less.
 use mathlib.Core.Path.{_≡_, refl, sym, ap, _∙_, subst}
 use mathlib.Core.Bool.{Bool, true, false}
 use mathlib.Core.List.{List, [], _∷_}

@@ -1,5 +1,5 @@
 -- A load's own cycles as one history among others: they lead where the load leads, begin what it begins, and none is refused or
--- cuts an operation. Assumes nothing.
+-- cuts an operation.
 use mathlib.Core.Path.{_≡_, refl, ap, _∙_, subst}
 use mathlib.Core.Bool.{Bool, true, false, not, _&&_}
 use mathlib.Core.List.{List, [], _∷_}

@@ -1,4 +1,4 @@
--- The phases of a load against the model, from the back, each whatever follows. Assumes nothing.
+-- The phases of a load against the model, from the back, each whatever follows.
 use mathlib.Core.Path.{_≡_, refl, sym, ap, _∙_, subst}
 use mathlib.Core.Bool.{Bool, true, false, not, _&&_, _||_}
 use mathlib.Core.List.{List, [], _∷_}

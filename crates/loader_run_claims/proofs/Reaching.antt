@@ -1,4 +1,4 @@
--- A load reaches its end, whatever follows: turns put before turns. Assumes nothing.
+-- A load reaches its end, whatever follows: turns put before turns.
 use mathlib.Core.Path.{_≡_, refl, ap, _∙_}
 use mathlib.Core.Bool.{Bool, true, false, _&&_}
 use mathlib.Core.List.{List, [], _∷_}

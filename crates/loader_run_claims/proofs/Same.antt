@@ -1,4 +1,4 @@
--- A block that holds what is wanted, and one that does not: what the walks over it find. Assumes nothing.
+-- A block that holds what is wanted, and one that does not: what the walks over it find.
 use mathlib.Core.Path.{_≡_, refl, sym, ap, _∙_, subst}
 use mathlib.Core.Bool.{Bool, true, false}
 use mathlib.Core.List.{List}

@@ -1,4 +1,4 @@
--- A proper idle start against the run's own tests: nothing refuses it, and what nothing refuses is one. Assumes nothing.
+-- A proper idle start against the run's own tests: nothing refuses it, and what nothing refuses is one.
 use mathlib.Core.Path.{_≡_, ap}
 use mathlib.Core.Bool.{false, not}
 use mathlib.Core.List.{List}

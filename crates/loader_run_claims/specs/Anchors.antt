@@ -1,4 +1,4 @@
--- Starts that there are: every block of every device, in byte mode and, of devices 5 to 8, in word mode. Assumes nothing.
+-- Starts that there are: every block of every device, in byte mode and, of devices 5 to 8, in word mode.
 use mathlib.Core.Bool.{Bool, true, false, _&&_}
 use Prim.Native.Nat.{ℕ, zero, suc}
 use lib.Dec.{eqb}

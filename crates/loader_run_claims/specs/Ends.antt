@@ -1,5 +1,4 @@
 -- How a run that nothing refuses ends, with or without the verify after the load, for every supply and level that is let in.
--- Assumes nothing.
 use mathlib.Core.Path.{_≡_}
 use mathlib.Core.Bool.{Bool, true, not, _&&_}
 use mathlib.Core.List.{List, [], _∷_}

@@ -1,5 +1,5 @@
 -- Demand 3 of a run on lent bytes, in byte mode and in word mode: the start that it speaks of, and what it demands, told in bytes and,
--- where cycles and operations are counted, in units. Assumes nothing.
+-- where cycles and operations are counted, in units.
 use mathlib.Core.Path.{_≡_}
 use mathlib.Core.Bool.{Bool, true}
 use mathlib.Core.List.{List}

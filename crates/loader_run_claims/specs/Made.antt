@@ -1,4 +1,4 @@
--- The cycles that a load makes, by turning the definitions, and the list of a good load's cycles. Assumes nothing.
+-- The cycles that a load makes, by turning the definitions, and the list of a good load's cycles.
 use mathlib.Core.Bool.{Bool, true, not, _&&_}
 use mathlib.Core.List.{List, [], _∷_}
 use Prim.Native.Nat.{ℕ, zero, suc, _+_}

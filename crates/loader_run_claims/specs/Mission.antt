@@ -1,4 +1,4 @@
--- The start that the mission speaks of, and what it demands of a load from there. Assumes nothing.
+-- The start that the mission speaks of, and what it demands of a load from there.
 use mathlib.Core.Path.{_≡_}
 use mathlib.Core.Bool.{Bool, true, false}
 use mathlib.Core.List.{List}

@@ -1,4 +1,4 @@
--- A host that steps the loader by hand, beside the run. Assumes nothing.
+-- A host that steps the loader by hand, beside the run.
 use mathlib.Core.Path.{_≡_}
 use mathlib.Core.Bool.{Bool, true, false}
 use mathlib.Core.List.{List}

@@ -1,4 +1,4 @@
--- The operations that a load begins, by the model's own definition, and what is wanted of it. Assumes nothing.
+-- The operations that a load begins, by the model's own definition, and what is wanted of it.
 use mathlib.Core.Bool.{Bool, true}
 use mathlib.Core.List.{List, [], _∷_}
 use Prim.Native.Nat.{ℕ, zero, suc, _+_, _*_}

@@ -1,4 +1,4 @@
--- A run is its load and the verify after it. Assumes nothing.
+-- A run is its load and the verify after it.
 use mathlib.Core.Path.{_≡_, refl, sym, ap, _∙_}
 use mathlib.Core.Bool.{Bool, true, false}
 use mathlib.Core.List.{List, [], _∷_, _++_, append-nil}

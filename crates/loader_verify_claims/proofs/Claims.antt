@@ -1,4 +1,4 @@
--- What is claimed of a verify alone, of a load alone, and of a run as the two of them, in one place. Assumes nothing.
+-- What is claimed of a verify alone, of a load alone, and of a run as the two of them, in one place.
 use mathlib.Core.Path.{_≡_, refl, ap}
 use mathlib.Core.Bool.{true, false}
 use mathlib.Core.List.{List, [], _++_}

@@ -1,4 +1,4 @@
--- The first unit that differs, and the first byte. Assumes nothing.
+-- The first unit that differs, and the first byte.
 use mathlib.Core.Path.{_≡_, refl, sym, ap, ap₂, _∙_, subst}
 use mathlib.Core.Bool.{Bool, true, false, _&&_}
 use mathlib.Core.List.{List}

@@ -1,4 +1,4 @@
--- A verify on lent bytes of either width: it ends well exactly where the block holds the wanted bytes. Assumes nothing.
+-- A verify on lent bytes of either width: it ends well exactly where the block holds the wanted bytes.
 use mathlib.Core.Path.{_≡_, refl, sym, ap, _∙_, subst}
 use mathlib.Core.Bool.{Bool, true, false, _&&_}
 use mathlib.Core.List.{List}

@@ -1,4 +1,4 @@
--- A verify alone against the model: its end, and that it ends well exactly where the block holds what is wanted. Assumes nothing.
+-- A verify alone against the model: its end, and that it ends well exactly where the block holds what is wanted.
 use mathlib.Core.Path.{_≡_, refl, sym, ap, _∙_, subst}
 use mathlib.Core.Bool.{Bool, true, false, _&&_}
 use mathlib.Core.List.{List, []}

@@ -1,4 +1,4 @@
--- A run as its load and the verify that follows. Assumes nothing.
+-- A run as its load and the verify that follows.
 use mathlib.Core.List.{List, [], _++_}
 use mathlib.Core.Bool.{true, false}
 use Prim.Native.Nat.{ℕ, _+_}

@@ -1,4 +1,4 @@
--- A verify on lent bytes that ends 25, told in bytes at both widths. Assumes nothing.
+-- A verify on lent bytes that ends 25, told in bytes at both widths.
 use mathlib.Core.Path.{_≡_}
 use mathlib.Core.List.{List}
 use Prim.Native.Nat.{ℕ, _+_, _<_}

@@ -1,4 +1,4 @@
--- How a verify alone that nothing refuses ends. All lists are of units. Assumes nothing.
+-- How a verify alone that nothing refuses ends. All lists are of units.
 use mathlib.Core.Path.{_≡_}
 use mathlib.Core.Bool.{true}
 use mathlib.Core.List.{List, []}

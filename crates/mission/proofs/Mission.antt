@@ -1,5 +1,5 @@
 -- The mission's three demands: a record for each, its fields in the mission's order, and below them the theorem cited for each field.
--- Lists called xs, rs, w and sc are of units: bytes, in word mode words. All others are of bytes, as they are lent. Assumes nothing.
+-- Lists called xs, rs, w and sc are of units: bytes, in word mode words. All others are of bytes, as they are lent.
 use mathlib.Core.{Path._≡_, Path.refl, Path.sym, Path._∙_, Bool.Bool, Bool.true, Bool.false, List.List, List.[], List._∷_, Logic._↔_}
 use Prim.Native.Nat.{ℕ, _+_, _≤_, _<_}
 use lib.{ListN.length, ListN.getD, Dec.ltb}

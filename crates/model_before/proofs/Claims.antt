@@ -1,4 +1,4 @@
--- On devices 1 to 4 the model is the one from before devices 5 to 8. Assumes nothing.
+-- On devices 1 to 4 the model is the one from before devices 5 to 8.
 use mathlib.Core.Path.{_≡_, ap, _∙_}
 use mathlib.Core.Bool.{false}
 use mathlib.Core.List.{List}

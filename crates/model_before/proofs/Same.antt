@@ -1,4 +1,4 @@
--- Each rule of before, from the leaves up: on a part of before, in byte mode, it is the rule of now. Assumes nothing.
+-- Each rule of before, from the leaves up: on a part of before, in byte mode, it is the rule of now.
 use mathlib.Core.Path.{_≡_, refl, sym, ap, ap₂, _∙_}
 use mathlib.Core.Bool.{Bool, true, false, not, _&&_, _||_}
 use mathlib.Core.List.{List}

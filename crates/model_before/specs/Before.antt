@@ -1,5 +1,5 @@
 -- The rules as they were before devices 5 to 8, word for word: every definition that has changed since, or that stands on one that has.
--- What is taken from elsewhere has not changed. Assumes nothing.
+-- What is taken from elsewhere has not changed.
 use mathlib.Core.Bool.{Bool, true, false, not, _&&_, _||_}
 use mathlib.Core.List.{List, [], _∷_, _++_}
 use Prim.Native.Nat.{ℕ, _+_, _-_}

@@ -1,4 +1,4 @@
--- What a cycle's data and command are where the data is a cell's. Assumes nothing.
+-- What a cycle's data and command are where the data is a cell's.
 use mathlib.Core.Path.{_≡_}
 use Prim.Native.Nat.{_≤_, _<_}
 use native.Mathlib.Nat.{mod-eq-of-lt}

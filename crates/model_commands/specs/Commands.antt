@@ -1,4 +1,4 @@
--- What a write asks for, and what comes of it. Assumes nothing.
+-- What a write asks for, and what comes of it.
 use mathlib.Core.Bool.{Bool, true, false, _&&_, _||_}
 use Prim.Native.Nat.{ℕ, _+_, _%_}
 use lib.Dec.{eqb}

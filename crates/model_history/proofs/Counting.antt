@@ -1,4 +1,4 @@
--- The counts of erases under any cycles: what was there and what was begun, up to the stop. Assumes nothing.
+-- The counts of erases under any cycles: what was there and what was begun, up to the stop.
 use mathlib.Core.Path.{_≡_, refl, ap, _∙_}
 use mathlib.Core.Bool.{Bool, true, false}
 use mathlib.Core.List.{List, [], _∷_}

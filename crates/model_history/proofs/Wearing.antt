@@ -1,4 +1,4 @@
--- One byte under a list of effects, and what that costs at least. Assumes nothing.
+-- One byte under a list of effects, and what that costs at least.
 use mathlib.Core.Path.{_≡_, refl, sym, ap, _∙_, subst}
 use mathlib.Core.Bool.{Bool, true, false, not}
 use mathlib.Core.List.{List, [], _∷_}

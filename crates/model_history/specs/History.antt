@@ -1,4 +1,4 @@
--- Any cycles on a device, one after the other: where they lead, what the host sees, what they do to the array and what they begin. Assumes nothing.
+-- Any cycles on a device, one after the other: where they lead, what the host sees, what they do to the array and what they begin.
 use mathlib.Core.Bool.{Bool, true, false, not, _&&_}
 use mathlib.Core.List.{List, [], _∷_}
 use Prim.Native.Nat.{ℕ, _+_}

@@ -1,4 +1,4 @@
--- One cycle off the last leaves none, off any other some. Assumes nothing.
+-- One cycle off the last leaves none, off any other some.
 use mathlib.Core.Path.{_≡_}
 use mathlib.Core.Bool.{true, false}
 use Prim.Native.Nat.{ℕ, _-_, _≤_, _<_}

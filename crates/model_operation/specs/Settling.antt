@@ -1,4 +1,4 @@
--- Steps 1 to 3 of a cycle: what becomes of an operation before the read or write. Assumes nothing.
+-- Steps 1 to 3 of a cycle: what becomes of an operation before the read or write.
 use mathlib.Core.Bool.{_&&_}
 use Prim.Native.Nat.{ℕ, _+_, _-_}
 use lib.Dec.{eqb}

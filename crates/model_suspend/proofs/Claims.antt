@@ -1,4 +1,4 @@
--- What is claimed of a suspend. Assumes nothing.
+-- What is claimed of a suspend.
 use mathlib.Core.Path.{_≡_, refl}
 use mathlib.Core.Bool.{true, false}
 use mathlib.Core.List.{List, [], _∷_, _++_}

@@ -1,4 +1,4 @@
--- One cycle of a suspend under way, and all of them. Assumes nothing.
+-- One cycle of a suspend under way, and all of them.
 use mathlib.Core.Path.{_≡_, refl, sym, ap, _∙_, subst}
 use mathlib.Core.Bool.{Bool, true, false, not, _&&_}
 use mathlib.Core.List.{List, [], _∷_, _++_}

@@ -1,4 +1,4 @@
--- What is said of a suspend: which cycles ask for it and end it, and what S cycles after B0H leave and show. Assumes nothing.
+-- What is said of a suspend: which cycles ask for it and end it, and what S cycles after B0H leave and show.
 use mathlib.Core.Path.{_≡_}
 use mathlib.Core.Bool.{Bool, true, _&&_}
 use mathlib.Core.List.{List, [], _∷_}

@@ -1,5 +1,5 @@
 -- What is claimed of which byte may change, in one place: of either engine, any device number, both widths, any list of cycles with any
--- residues, refused and cutting ones among them. Assumes nothing.
+-- residues, refused and cutting ones among them.
 use mathlib.Core.Path.{_≡_, sym, ap, _∙_}
 use mathlib.Core.Bool.{true, false}
 use mathlib.Core.List.{List}

@@ -1,4 +1,4 @@
--- What is known of a cycle that begins an operation on a byte. Assumes nothing.
+-- What is known of a cycle that begins an operation on a byte.
 use mathlib.Core.Path.{_≡_, refl, sym, ap, subst, _∙_}
 use mathlib.Core.Bool.{Bool, true, false, not, _&&_, _||_}
 use mathlib.Core.List.{List}

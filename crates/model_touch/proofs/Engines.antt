@@ -1,4 +1,4 @@
--- Both engines are one to every statement about what they answer and leave. Assumes nothing.
+-- Both engines are one to every statement about what they answer and leave.
 use mathlib.Core.Path.{_≡_, sym, subst}
 use Rattle.table_engine.proofs.Agree.{same-answer, same-bytes}
 use Rattle.model_touch.specs.Touch.{Engine, byRules, byTable, Ours, rules, table}

@@ -1,4 +1,4 @@
--- What follows beside the statement, by rules: bytes that stay, what was begun, wrong starts, the same on units. Assumes nothing.
+-- What follows beside the statement, by rules: bytes that stay, what was begun, wrong starts, the same on units.
 use mathlib.Core.Path.{_≡_, refl, sym, ap, ap₂, _∙_}
 use mathlib.Core.Bool.{Bool, true, false, not, _&&_, _||_}
 use mathlib.Core.List.{List, [], _∷_}

@@ -1,4 +1,4 @@
--- The manual's statement, by rules. Assumes nothing.
+-- The manual's statement, by rules.
 use mathlib.Core.Path.{_≡_, refl, sym, ap, subst, _∙_}
 use mathlib.Core.Bool.{Bool, true, false}
 use mathlib.Core.List.{List, [], _∷_}

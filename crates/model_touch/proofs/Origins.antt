@@ -1,4 +1,4 @@
--- Where what ends, and what changes a byte, was begun: an earlier cycle of the list, or before the list. By rules. Assumes nothing.
+-- Where what ends, and what changes a byte, was begun: an earlier cycle of the list, or before the list. By rules.
 use mathlib.Core.Path.{_≡_, refl, ap, _∙_}
 use mathlib.Core.Bool.{Bool, true, false}
 use mathlib.Core.List.{List, [], _∷_}

@@ -1,4 +1,4 @@
--- The byte at a byte address, by the unit that it is in; and units that an effect leaves as they were. Assumes nothing.
+-- The byte at a byte address, by the unit that it is in; and units that an effect leaves as they were.
 use mathlib.Core.Path.{_≡_, refl, sym, ap, ap₂, subst, _∙_}
 use mathlib.Core.Bool.{Bool, true, false, _&&_}
 use mathlib.Core.List.{List, [], _∷_}

@@ -1,5 +1,5 @@
 -- One history computed on bench T, so that the definitions are seen at work: a parameter byte is programmed, a boot byte is not where the
--- confirm is locked, and is where RP# is at V_HH at the confirm. Assumes nothing.
+-- confirm is locked, and is where RP# is at V_HH at the confirm.
 use mathlib.Core.Path.{_≡_, refl}
 use mathlib.Core.Bool.{Bool, true, false, not, _&&_}
 use mathlib.Core.List.{List, [], _∷_}

@@ -1,4 +1,4 @@
--- One cycle on lent bytes, by rules: which bytes it leaves as they were, and where it only clears bits. Assumes nothing.
+-- One cycle on lent bytes, by rules: which bytes it leaves as they were, and where it only clears bits.
 use mathlib.Core.Path.{_≡_, refl, sym, ap, ap₂, subst, _∙_}
 use mathlib.Core.Bool.{Bool, true, false}
 use mathlib.Core.List.{List}

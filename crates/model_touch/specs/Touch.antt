@@ -1,5 +1,5 @@
 -- What may touch which byte: any cycles on lent bytes by either engine, and the statement that the manual prints. Addresses x are byte
--- addresses of the lent array in both widths. Assumes nothing.
+-- addresses of the lent array in both widths.
 use mathlib.Core.Path.{_≡_}
 use mathlib.Core.Bool.{Bool, true, false, not, _&&_, _||_}
 use mathlib.Core.List.{List, [], _∷_}

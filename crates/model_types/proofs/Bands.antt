@@ -1,4 +1,4 @@
--- The supply bands do not meet. Assumes nothing.
+-- The supply bands do not meet.
 use mathlib.Core.Path.{_≡_, refl}
 use mathlib.Core.Bool.{Bool, true, false, _&&_, _||_}
 use Prim.Native.Nat.{ℕ, suc}

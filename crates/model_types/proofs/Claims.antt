@@ -1,4 +1,4 @@
--- What is claimed of levels and states, in one place. Assumes nothing.
+-- What is claimed of levels and states, in one place.
 use Rattle.model_types.specs.Phases.{underWay}
 use mathlib.Core.Path.{_≡_}
 use mathlib.Core.Bool.{Bool, true, false, _||_}

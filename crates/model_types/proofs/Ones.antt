@@ -1,4 +1,4 @@
--- All ones keep any cell. Assumes nothing.
+-- All ones keep any cell.
 use mathlib.Core.Path.{_≡_, _∙_}
 use mathlib.Core.Bool.{Bool, true, false}
 use Prim.Native.Nat.{ℕ, _≤_, _<_}

@@ -1,4 +1,4 @@
--- A state is improper exactly where one of the code's tests says so. Assumes nothing.
+-- A state is improper exactly where one of the code's tests says so.
 use mathlib.Core.Path.{_≡_, refl, sym, ap, _∙_}
 use mathlib.Core.Bool.{Bool, true, false, not, _&&_, _||_}
 use Prim.Native.Nat.{ℕ, _+_, _*_, _/_, _%_, _<_}

@@ -1,4 +1,4 @@
--- When a state is at rest. Assumes nothing.
+-- When a state is at rest.
 use mathlib.Core.Path.{_≡_, refl, sym, subst, _∙_}
 use mathlib.Core.Bool.{false, _||_}
 use Prim.Native.Nat.{ℕ}

@@ -1,4 +1,4 @@
--- The counts of erases: what one more erase makes of each, and that they stop. Assumes nothing.
+-- The counts of erases: what one more erase makes of each, and that they stop.
 use mathlib.Core.Path.{_≡_, refl, _∙_}
 use mathlib.Core.Bool.{Bool, true, false}
 use Prim.Native.Nat.{ℕ, zero, suc, _+_, _≤_, _<_, min}

@@ -1,4 +1,4 @@
--- An erased cell, and lists of cells. Assumes nothing.
+-- An erased cell, and lists of cells.
 use mathlib.Core.List.{List}
 use Prim.Native.Nat.{ℕ, _≤_}
 use lib.ListN.{getD}

@@ -1,4 +1,4 @@
--- Counts of erases begun, one for each block. Assumes nothing.
+-- Counts of erases begun, one for each block.
 use Prim.Native.Nat.{ℕ, _+_}
 use lib.Dec.{eqb, ltb}
 use Rattle.common.specs.Choice.{if_then_else_}

@@ -1,5 +1,5 @@
 -- How the code tests that a state is not proper, part by part, with SR.7 and SR.6 in one comparison. Not part of what a buyer must
--- believe: that these tests together are `improper` is proved (`improper-parts`). Assumes nothing.
+-- believe: that these tests together are `improper` is proved (`improper-parts`).
 use mathlib.Core.Bool.{Bool, false, not, _||_}
 use Prim.Native.Nat.{ℕ, _/_, _%_}
 use lib.Dec.{eqb, ltb, leb}

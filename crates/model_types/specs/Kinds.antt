@@ -1,4 +1,4 @@
--- The tests of a cycle's kind. Assumes nothing.
+-- The tests of a cycle's kind.
 use mathlib.Core.Bool.{Bool, true, false}
 use Rattle.model_types.specs.declared.Kind.{Kind}
 use Rattle.model_types.specs.declared.Kind.the-variants.{Read, Write, Idle}

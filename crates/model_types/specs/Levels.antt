@@ -1,4 +1,4 @@
--- Pin levels and supply bands. Assumes nothing.
+-- Pin levels and supply bands.
 use mathlib.Core.Bool.{Bool, false, not, _&&_, _||_}
 use Prim.Native.Nat.{ℕ}
 use lib.Dec.{eqb, ltb, leb}

@@ -1,4 +1,4 @@
--- The tests of a phase: what is awaited, running, being suspended or suspended. Assumes nothing.
+-- The tests of a phase: what is awaited, running, being suspended or suspended.
 use mathlib.Core.Bool.{Bool, true, false, not}
 use Prim.Native.Nat.{ℕ}
 use Rattle.model_types.specs.declared.Phase.{Phase}

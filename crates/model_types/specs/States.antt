@@ -1,4 +1,4 @@
--- Device states: what makes one proper, and the states that the rules name. Assumes nothing.
+-- Device states: what makes one proper, and the states that the rules name.
 use mathlib.Core.Bool.{Bool, true, false, not, _&&_, _||_}
 use Prim.Native.Nat.{ℕ, _/_, _%_}
 use lib.Dec.{eqb, ltb, leb}

@@ -1,4 +1,4 @@
--- The status register, bit by bit. Assumes nothing.
+-- The status register, bit by bit.
 use mathlib.Core.Bool.{Bool, not}
 use Prim.Native.Nat.{ℕ, _-_, _/_, _%_}
 use lib.Bits.{bitAnd, bitOr}

@@ -1,4 +1,4 @@
--- Each way out of a reading, and of a reading from a file. Assumes nothing.
+-- Each way out of a reading, and of a reading from a file.
 use mathlib.Core.Path.{_≡_, refl, sym, ap, _∙_}
 use mathlib.Core.Bool.{Bool, true, false}
 use mathlib.Core.List.{List}

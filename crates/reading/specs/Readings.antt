@@ -1,4 +1,4 @@
--- The reading of a voltage: by a payload, and from a file. Assumes nothing.
+-- The reading of a voltage: by a payload, and from a file.
 use mathlib.Core.Bool.{Bool, not, _&&_}
 use mathlib.Core.List.{List, [], _∷_}
 use Prim.Native.Nat.{ℕ, _+_, _-_}

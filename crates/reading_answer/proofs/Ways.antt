@@ -1,4 +1,4 @@
--- A call's answer, way by way. Assumes nothing.
+-- A call's answer, way by way.
 use mathlib.Core.Path.{_≡_, sym, ap, _∙_}
 use mathlib.Core.Bool.{true, false}
 use mathlib.Core.List.{List, _++_}

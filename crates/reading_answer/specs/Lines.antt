@@ -1,4 +1,4 @@
--- The line that a reading prints. Assumes nothing.
+-- The line that a reading prints.
 use mathlib.Core.Bool.{Bool, not, _||_}
 use mathlib.Core.List.{List, _++_}
 use Prim.Native.Nat.{ℕ}

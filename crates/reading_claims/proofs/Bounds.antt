@@ -1,4 +1,4 @@
--- A reading lies between the temperatures of its pair. Assumes nothing.
+-- A reading lies between the temperatures of its pair.
 use mathlib.Core.Path.{_≡_, refl, sym, subst}
 use mathlib.Core.Bool.{Bool, true, false}
 use mathlib.Core.List.{List}

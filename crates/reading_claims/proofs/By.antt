@@ -1,4 +1,4 @@
--- An answer by a table of refusals: refused by the first row that holds, read where none does. Assumes nothing.
+-- An answer by a table of refusals: refused by the first row that holds, read where none does.
 use mathlib.Core.Path.{_≡_, refl, sym, ap, _∙_}
 use mathlib.Core.Bool.{Bool, true, false}
 use mathlib.Core.Logic.{_↔_}

@@ -1,4 +1,4 @@
--- What is claimed of readings, in one place. Assumes nothing.
+-- What is claimed of readings, in one place.
 use mathlib.Core.Path.{_≡_, refl}
 use mathlib.Core.List.{List, [], _++_}
 use mathlib.Core.Logic.{_↔_}

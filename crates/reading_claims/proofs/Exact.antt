@@ -1,4 +1,4 @@
--- Both knots of every pair are read as they stand, and so is every knot of a table. Assumes nothing.
+-- Both knots of every pair are read as they stand, and so is every knot of a table.
 use mathlib.Core.Path.{_≡_, sym, ap, _∙_}
 use mathlib.Core.Logic.{⊎-elim, _⊎_, inl, inr}
 use mathlib.Core.List.{List}

@@ -1,4 +1,4 @@
--- A reading from a file: its refusals in their order, what they leave, and the letter. Assumes nothing.
+-- A reading from a file: its refusals in their order, what they leave, and the letter.
 use mathlib.Core.Path.{_≡_, refl, sym, ap, _∙_, subst}
 use mathlib.Core.Bool.{Bool, true, false}
 use mathlib.Core.Logic.{_↔_}

@@ -1,4 +1,4 @@
--- The pair that the search finds holds the voltage, and no other pair does. Assumes nothing.
+-- The pair that the search finds holds the voltage, and no other pair does.
 use mathlib.Core.Path.{_≡_, refl, subst}
 use mathlib.Core.Bool.{Bool, true, false}
 use mathlib.Core.Logic.{_⊎_, inl, inr}

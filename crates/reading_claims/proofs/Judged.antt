@@ -1,4 +1,4 @@
--- The judgement lets through exactly the tables, and their voltages rise from any knot to any later one. Assumes nothing.
+-- The judgement lets through exactly the tables, and their voltages rise from any knot to any later one.
 use mathlib.Core.Path.{_≡_, subst}
 use mathlib.Core.Bool.{true}
 use mathlib.Core.Logic.{⊎-elim, _↔_}

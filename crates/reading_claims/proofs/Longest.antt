@@ -1,4 +1,4 @@
--- Tables of every length up to the most that a file holds: each is a table, is written and is read. Assumes nothing.
+-- Tables of every length up to the most that a file holds: each is a table, is written and is read.
 use mathlib.Core.Path.{_≡_, refl, sym, ap, _∙_, subst}
 use mathlib.Core.List.{List}
 use Prim.Native.Nat.{ℕ, zero, suc, _+_, _-_, _*_, _/_, _%_, _≤_, _<_}

@@ -1,4 +1,4 @@
--- A temperature of a table, told by the pair that holds the voltage and without the search. Assumes nothing.
+-- A temperature of a table, told by the pair that holds the voltage and without the search.
 use mathlib.Core.Path.{_≡_, ap, _∙_}
 use mathlib.Core.Bool.{Bool, true, false}
 use mathlib.Core.Logic.{_↔_}

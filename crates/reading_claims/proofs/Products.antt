@@ -1,4 +1,4 @@
--- The whole numbers that an interpolation multiplies, and that their product is small. Assumes nothing.
+-- The whole numbers that an interpolation multiplies, and that their product is small.
 use mathlib.Core.Path.{_≡_, refl, sym, subst}
 use mathlib.Core.Bool.{Bool, true, false, cond}
 use mathlib.Core.List.{List}

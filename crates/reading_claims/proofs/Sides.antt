@@ -1,4 +1,4 @@
--- Below, above and between, each exactly where it applies. Assumes nothing.
+-- Below, above and between, each exactly where it applies.
 use mathlib.Core.Path.{_≡_, refl, sym, ap, _∙_, subst}
 use mathlib.Core.Bool.{Bool, true, false}
 use mathlib.Core.Logic.{_↔_}

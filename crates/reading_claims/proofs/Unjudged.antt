@@ -1,4 +1,4 @@
--- A reading by a payload that nobody judged: what it refuses, and what it answers else. Assumes nothing.
+-- A reading by a payload that nobody judged: what it refuses, and what it answers else.
 use mathlib.Core.Path.{_≡_, refl, sym, _∙_, subst}
 use mathlib.Core.Bool.{Bool, true, false, not}
 use mathlib.Core.Logic.{_↔_}

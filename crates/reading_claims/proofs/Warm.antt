@@ -1,4 +1,4 @@
--- Readings rise with the voltage: inside a pair, and over a table whose temperatures do not fall. Assumes nothing.
+-- Readings rise with the voltage: inside a pair, and over a table whose temperatures do not fall.
 use mathlib.Core.Path.{_≡_, refl, sym, subst}
 use mathlib.Core.Bool.{Bool, true, false}
 use mathlib.Core.Logic.{⊎-elim}

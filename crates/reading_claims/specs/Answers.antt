@@ -1,4 +1,4 @@
--- The refusals of a reading from a file, in their order, and the temperature of a reading. Assumes nothing.
+-- The refusals of a reading from a file, in their order, and the temperature of a reading.
 use mathlib.Core.List.{List, _∷_}
 use Prim.Native.Nat.{ℕ}
 use lib.Dec.{ltb}

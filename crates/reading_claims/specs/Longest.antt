@@ -1,4 +1,4 @@
--- A table of so many knots, one microvolt apart. Assumes nothing.
+-- A table of so many knots, one microvolt apart.
 use mathlib.Core.List.{List, [], _∷_}
 use Prim.Native.Nat.{ℕ, zero, suc, _+_, _/_, _%_}
 

@@ -1,4 +1,4 @@
--- A payload that is a table, and the pair of its knots that holds a voltage. Assumes nothing.
+-- A payload that is a table, and the pair of its knots that holds a voltage.
 use mathlib.Core.Path.{_≡_}
 use mathlib.Core.List.{List}
 use Prim.Native.Nat.{ℕ, _+_, _-_, _%_, _≤_, _<_}

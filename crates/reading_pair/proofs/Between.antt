@@ -1,4 +1,4 @@
--- Between two knots the reading lies between their temperatures, in f64's own order, and is finite. Assumes nothing.
+-- Between two knots the reading lies between their temperatures, in f64's own order, and is finite.
 use mathlib.Core.Path.{_≡_, refl, sym, ap, ap₂, _∙_, subst}
 use mathlib.Core.Bool.{Bool, true, false, not, cond, _&&_, Bool·beq}
 use mathlib.Core.Logic.{⊎-elim}

@@ -1,4 +1,4 @@
--- A reading inside its pair of knots, over whole microvolts and whole tenths. Assumes nothing.
+-- A reading inside its pair of knots, over whole microvolts and whole tenths.
 use mathlib.Core.Path.{_≡_, refl, sym, ap, subst}
 use mathlib.Core.Bool.{Bool, true, false, not}
 use mathlib.Core.Logic.{⊎-elim}

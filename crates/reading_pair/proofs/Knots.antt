@@ -1,4 +1,4 @@
--- Whole numbers of the card as f64, and a reading that is exact at both knots. Assumes nothing.
+-- Whole numbers of the card as f64, and a reading that is exact at both knots.
 use mathlib.Core.Path.{_≡_, refl, sym, _∙_, subst}
 use mathlib.Core.Bool.{Bool, true, false, not, cond, _&&_, Bool·beq}
 use Prim.Native.Nat.{ℕ, _+_, _-_, _*_, _≤_, _<_, _^_}

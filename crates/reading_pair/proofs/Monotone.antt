@@ -1,4 +1,4 @@
--- Inside a pair the reading rises with the voltage where the temperatures rise, and falls where they fall. Assumes nothing.
+-- Inside a pair the reading rises with the voltage where the temperatures rise, and falls where they fall.
 use mathlib.Core.Path.{_≡_, sym, subst}
 use mathlib.Core.Bool.{Bool, true, false, not, cond}
 use mathlib.Core.Logic.{⊎-elim}

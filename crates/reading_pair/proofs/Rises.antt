@@ -1,4 +1,4 @@
--- Two readings of one pair, over whole microvolts and whole tenths. Assumes nothing.
+-- Two readings of one pair, over whole microvolts and whole tenths.
 use Prim.Native.Nat.{_≤_}
 use native.Mathlib.Omega.{arith}
 use lib.Dec.{T}

@@ -1,4 +1,4 @@
--- Rounding keeps the order, in the form a reading needs: over signs, with whole numbers as the bounds. Assumes nothing.
+-- Rounding keeps the order, in the form a reading needs: over signs, with whole numbers as the bounds.
 use mathlib.Core.Path.{_≡_, refl, sym, ap, ap₂, _∙_, subst}
 use mathlib.Core.Bool.{Bool, true, false, cond, _&&_, _||_, Bool·beq, true≢false}
 use mathlib.Core.Logic.{⊎-elim, _⊎_, inl, inr}

@@ -1,4 +1,4 @@
--- The operations of f64 on whole numbers, and the two knots of a reading. Assumes nothing.
+-- The operations of f64 on whole numbers, and the two knots of a reading.
 use mathlib.Core.Path.{_≡_, refl, sym, ap, ap₂, _∙_, subst}
 use mathlib.Core.Bool.{Bool, true, false, not, cond, _&&_, Bool·beq}
 use Prim.Native.Nat.{ℕ, zero, suc, _+_, _-_, _*_, _≤_, _<_, _^_, zero-le}

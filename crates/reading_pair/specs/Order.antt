@@ -1,4 +1,4 @@
--- Where a reading lies, in f64's own order. Assumes nothing.
+-- Where a reading lies, in f64's own order.
 use mathlib.Core.Bool.{Bool, true, false}
 use lib.Dec.{T, ltb}
 use lib.IntN.{ℤ}

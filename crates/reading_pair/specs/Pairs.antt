@@ -1,4 +1,4 @@
--- A pair of knots and the reading between them. Assumes nothing.
+-- A pair of knots and the reading between them.
 use lib.IntN.{ℤ}
 use lib.Ieee.{Float, add, sub, mul, div, binary64, ofInt}
 use Rattle.reading_pair.specs.declared.Pair.{Pair}

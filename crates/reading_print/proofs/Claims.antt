@@ -1,4 +1,4 @@
--- What is claimed of a temperature as text. Assumes nothing.
+-- What is claimed of a temperature as text.
 use mathlib.Core.Bool.{Bool}
 use Prim.Native.Nat.{ℕ, _*_, _<_}
 use lib.Dec.{T}

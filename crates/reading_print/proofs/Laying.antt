@@ -1,4 +1,4 @@
--- A signed number laid from a place on, and how long it is. Assumes nothing.
+-- A signed number laid from a place on, and how long it is.
 use mathlib.Core.Path.{_≡_, refl, sym, ap, _∙_}
 use mathlib.Core.Bool.{Bool, true, false}
 use mathlib.Core.List.{List, [], _∷_, _++_}

@@ -1,4 +1,4 @@
--- The tenth shown is the nearest: doubling is exact, the whole part is the floor, and one more than it is halved. Assumes nothing.
+-- The tenth shown is the nearest: doubling is exact, the whole part is the floor, and one more than it is halved.
 use mathlib.Core.Path.{_≡_, refl, sym, ap, ap₂, _∙_, subst}
 use mathlib.Core.Bool.{Bool, true, false, _&&_}
 use Prim.Native.Nat.{ℕ, zero, suc, _+_, _-_, _*_, _/_, _%_, _^_, _≤_, _<_, min}

@@ -1,4 +1,4 @@
--- The whole tenths nearest to a temperature, way by way. Assumes nothing.
+-- The whole tenths nearest to a temperature, way by way.
 use mathlib.Core.Path.{_≡_, sym, ap, _∙_}
 use mathlib.Core.Bool.{Bool, true, false}
 use Prim.Native.Nat.{ℕ, _+_, _/_, _≤_, _<_}

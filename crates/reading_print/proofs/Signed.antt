@@ -1,4 +1,4 @@
--- The size of a signed number. Assumes nothing.
+-- The size of a signed number.
 use mathlib.Core.Path.{_≡_, refl, sym, ap, _∙_, subst}
 use mathlib.Core.Bool.{Bool, true, false, cond}
 use Prim.Native.Nat.{ℕ, suc, _+_, _-_, _<_, _^_}

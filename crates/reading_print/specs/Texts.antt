@@ -1,4 +1,4 @@
--- A knot and a temperature as text. Assumes nothing.
+-- A knot and a temperature as text.
 use mathlib.Core.Bool.{Bool, true, false}
 use mathlib.Core.List.{List, [], _∷_, _++_}
 use Prim.Native.Nat.{ℕ, _+_, _*_, _/_, _%_, _≤_, _<_}

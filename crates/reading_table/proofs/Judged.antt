@@ -1,4 +1,4 @@
--- What the judgement lets through: the shape is right, and every later knot is above every earlier one. Assumes nothing.
+-- What the judgement lets through: the shape is right, and every later knot is above every earlier one.
 use mathlib.Core.Path.{_≡_, refl, sym, ap, ap₂, subst}
 use mathlib.Core.Bool.{true, false, not, _&&_}
 use mathlib.Core.Logic.{⊎-elim}

@@ -1,4 +1,4 @@
--- What the tests of a table say of each knot. Assumes nothing.
+-- What the tests of a table say of each knot.
 use mathlib.Core.Path.{_≡_, refl, sym, ap₂, subst}
 use mathlib.Core.Bool.{Bool, true, false, not, _&&_}
 use mathlib.Core.Logic.{⊎-elim}

@@ -1,4 +1,4 @@
--- The order of signed numbers, where the tests answer it. Assumes nothing.
+-- The order of signed numbers, where the tests answer it.
 use mathlib.Core.Path.{_≡_, refl, sym, subst}
 use mathlib.Core.Bool.{Bool, true, false, not}
 use Prim.Native.Nat.{ℕ}

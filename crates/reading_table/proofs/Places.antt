@@ -1,4 +1,4 @@
--- A knot of the payload by its six bytes, and what stands past the last. Assumes nothing.
+-- A knot of the payload by its six bytes, and what stands past the last.
 use mathlib.Core.Path.{_≡_}
 use mathlib.Core.List.{List}
 use Prim.Native.Nat.{ℕ, _+_, _*_, _≤_, _<_}

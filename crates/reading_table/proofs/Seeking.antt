@@ -1,4 +1,4 @@
--- The search: what it keeps, what it finds, and how few halvings it takes. Assumes nothing.
+-- The search: what it keeps, what it finds, and how few halvings it takes.
 use mathlib.Core.Path.{_≡_, refl, sym, _∙_, ap, subst}
 use mathlib.Core.Bool.{Bool, true, false}
 use mathlib.Core.Logic.{_⊎_, inl, inr}

@@ -1,4 +1,4 @@
--- -1 - d, as a signed number of any width. Assumes nothing.
+-- -1 - d, as a signed number of any width.
 use mathlib.Core.Path.{_≡_, refl, sym, ap, _∙_, subst}
 use Prim.Native.Nat.{ℕ, zero, suc, _<_, _^_}
 use native.Mathlib.Omega.{arith}

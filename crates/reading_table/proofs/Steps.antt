@@ -1,4 +1,4 @@
--- One turn of each loop, on plain lists and numbers. Assumes nothing.
+-- One turn of each loop, on plain lists and numbers.
 use mathlib.Core.Path.{_≡_, refl, sym, ap, _∙_}
 use mathlib.Core.Bool.{Bool, true, false, _&&_}
 use mathlib.Core.List.{List}

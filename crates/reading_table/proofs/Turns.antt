@@ -1,4 +1,4 @@
--- The turns of the code's own search: each lowers what is left of them, and few are left at the start. Assumes nothing.
+-- The turns of the code's own search: each lowers what is left of them, and few are left at the start.
 use mathlib.Core.Path.{_≡_, refl, sym, subst}
 use mathlib.Core.Bool.{Bool, true, false}
 use Prim.Native.Nat.{ℕ, zero, suc, _+_, _*_, _^_, _≤_, _<_, zero-le}

@@ -1,4 +1,4 @@
--- The knot at fault in a table. Assumes nothing.
+-- The knot at fault in a table.
 use mathlib.Core.List.{List}
 use Prim.Native.Nat.{ℕ, zero, suc, _+_}
 use Rattle.common.specs.Choice.{if_then_else_}

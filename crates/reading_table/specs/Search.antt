@@ -1,4 +1,4 @@
--- The pair of knots for a voltage, found by halving. Assumes nothing.
+-- The pair of knots for a voltage, found by halving.
 use mathlib.Core.List.{List}
 use Prim.Native.Nat.{ℕ, zero, suc, _+_, _-_, _/_, _^_}
 use lib.Dec.{ltb}

@@ -1,4 +1,4 @@
--- A payload as a table of knots, and its refusals 40 and 41. Assumes nothing.
+-- A payload as a table of knots, and its refusals 40 and 41.
 use mathlib.Core.Bool.{Bool, true, not, _&&_, _||_}
 use mathlib.Core.List.{List, [], _∷_}
 use Prim.Native.Nat.{ℕ, zero, suc, _+_, _-_, _*_, _/_, _%_}

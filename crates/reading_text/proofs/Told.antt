@@ -1,4 +1,4 @@
--- What an answer tells by its cases is what the text tells. Assumes nothing.
+-- What an answer tells by its cases is what the text tells.
 use mathlib.Core.Path.{_≡_, refl, ap, _∙_}
 use mathlib.Core.Bool.{Bool, true, false, _||_}
 use mathlib.Core.List.{List, [], _∷_}

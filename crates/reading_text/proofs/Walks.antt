@@ -1,4 +1,4 @@
--- A text letter by letter: one letter more, the end, and how large a number and a scan grow. Assumes nothing.
+-- A text letter by letter: one letter more, the end, and how large a number and a scan grow.
 use mathlib.Core.Path.{_≡_, refl, sym, _∙_, ap, ap₂}
 use mathlib.Core.Bool.{true, false, not, _||_}
 use mathlib.Core.List.{List, [], _∷_, append-nil, _++_}

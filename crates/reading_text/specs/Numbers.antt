@@ -1,4 +1,4 @@
--- A number as text: a minus or none, then digits. Assumes nothing.
+-- A number as text: a minus or none, then digits.
 use mathlib.Core.Bool.{Bool, true, false, not, _&&_, _||_}
 use mathlib.Core.List.{List, [], _∷_}
 use Prim.Native.Nat.{ℕ, _+_, _-_, _*_}

@@ -1,4 +1,4 @@
--- A table as text: a line for each knot, its microvolts, a space, its tenths of a degree, a newline. Assumes nothing.
+-- A table as text: a line for each knot, its microvolts, a space, its tenths of a degree, a newline.
 use mathlib.Core.Bool.{Bool, true, false, not, _||_}
 use mathlib.Core.List.{List, [], _∷_}
 use Prim.Native.Nat.{ℕ, _+_, _-_, _*_, _/_, _%_}

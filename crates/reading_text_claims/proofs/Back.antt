@@ -1,4 +1,4 @@
--- A table that was printed is read again, line by line. Assumes nothing.
+-- A table that was printed is read again, line by line.
 use mathlib.Core.Path.{_≡_, sym, ap, ap₂, _∙_}
 use mathlib.Core.List.{List, _++_}
 use Prim.Native.Nat.{ℕ, zero, suc, _+_, _-_, _*_, _/_, _≤_, _<_}

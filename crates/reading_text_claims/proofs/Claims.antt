@@ -1,4 +1,4 @@
--- What is claimed of tables as text. Assumes nothing.
+-- What is claimed of tables as text.
 use mathlib.Core.Path.{_≡_}
 use mathlib.Core.Bool.{true}
 use mathlib.Core.List.{List, _++_}

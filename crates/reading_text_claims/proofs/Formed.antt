@@ -1,4 +1,4 @@
--- A number is taken exactly where its letters are of the form. Assumes nothing.
+-- A number is taken exactly where its letters are of the form.
 use mathlib.Core.Path.{_≡_, refl, sym, ap, _∙_, subst}
 use mathlib.Core.Bool.{Bool, true, false, not, _&&_, _||_}
 use mathlib.Core.List.{List, [], _∷_}

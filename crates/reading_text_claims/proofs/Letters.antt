@@ -1,4 +1,4 @@
--- A number that was written is read again, letter by letter, inside a line. Assumes nothing.
+-- A number that was written is read again, letter by letter, inside a line.
 use mathlib.Core.Path.{_≡_, refl, sym, ap, _∙_, subst}
 use mathlib.Core.Bool.{Bool, true, false}
 use mathlib.Core.List.{List, [], _∷_, _++_}

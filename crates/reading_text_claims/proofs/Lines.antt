@@ -1,4 +1,4 @@
--- A line that was written is read again as its knot, and the knot's six bytes are those of the payload. Assumes nothing.
+-- A line that was written is read again as its knot, and the knot's six bytes are those of the payload.
 use mathlib.Core.Path.{_≡_, refl, sym, ap, ap₂, _∙_}
 use mathlib.Core.Bool.{Bool, true, false}
 use mathlib.Core.List.{List, [], _∷_, _++_, append-assoc}

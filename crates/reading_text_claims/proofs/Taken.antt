@@ -1,4 +1,4 @@
--- A text is taken as a table exactly where it is of the form and there is room for its knots. Assumes nothing.
+-- A text is taken as a table exactly where it is of the form and there is room for its knots.
 use mathlib.Core.Path.{_≡_, refl, sym, ap, _∙_, subst}
 use mathlib.Core.Bool.{Bool, true, false, not, _||_}
 use mathlib.Core.List.{List, [], _∷_, _++_, append-assoc}

@@ -1,4 +1,4 @@
--- Every reading is shown by its nearest tenth: a temperature of 16 bits, or between two of them, is a small f64. Assumes nothing.
+-- Every reading is shown by its nearest tenth: a temperature of 16 bits, or between two of them, is a small f64.
 use mathlib.Core.Path.{_≡_, refl, sym, ap, _∙_, subst}
 use mathlib.Core.Bool.{Bool, true, false, _&&_, _||_}
 use mathlib.Core.List.{List}

@@ -1,4 +1,4 @@
--- Which texts are numbers, and which are tables, told without the reader. Assumes nothing.
+-- Which texts are numbers, and which are tables, told without the reader.
 use mathlib.Core.Path.{_≡_}
 use mathlib.Core.Bool.{Bool, true, _&&_}
 use mathlib.Core.List.{List, [], _∷_, _++_}

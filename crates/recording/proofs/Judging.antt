@@ -1,4 +1,4 @@
--- A record's verdict, way by way, as the code comes to it. Assumes nothing.
+-- A record's verdict, way by way, as the code comes to it.
 use mathlib.Core.Path.{_≡_, refl, sym, ap, ap₂, _∙_}
 use mathlib.Core.Bool.{Bool, true, false, not}
 use mathlib.Core.List.{List, []}

@@ -1,4 +1,4 @@
--- What a cycle shows, it shows before anything is stored: the read of a cycle that ends an operation gives the status. Assumes nothing.
+-- What a cycle shows, it shows before anything is stored: the read of a cycle that ends an operation gives the status.
 use mathlib.Core.Path.{_≡_, refl, ap, _∙_}
 use mathlib.Core.Bool.{Bool, true, false, _||_}
 use mathlib.Core.List.{List}

@@ -1,4 +1,4 @@
--- A start told as the code asks: nothing bars it, and the second write asks for an operation. Assumes nothing.
+-- A start told as the code asks: nothing bars it, and the second write asks for an operation.
 use mathlib.Core.Path.{_≡_, refl, _∙_}
 use mathlib.Core.Bool.{Bool, true, false}
 use lib.Dec.{eqb}

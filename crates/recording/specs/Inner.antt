@@ -1,5 +1,5 @@
 -- How the code asks: what bars a start, and what a judged cycle shows before anything is stored. Not part of what a buyer must
--- believe. Assumes nothing.
+-- believe.
 use mathlib.Core.Bool.{Bool, true, false, not, _&&_}
 use mathlib.Core.List.{List}
 use Prim.Native.Nat.{ℕ}

@@ -1,4 +1,4 @@
--- Recordings: one record judged in a world, without a list. The world is the device's state and the lent bytes. Assumes nothing.
+-- Recordings: one record judged in a world, without a list. The world is the device's state and the lent bytes.
 use mathlib.Core.Bool.{Bool, true, false, not, _&&_, _||_}
 use mathlib.Core.List.{List, []}
 use Prim.Native.Nat.{ℕ}

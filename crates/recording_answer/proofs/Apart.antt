@@ -1,4 +1,4 @@
--- Where two lists first differ, from a place on. Assumes nothing.
+-- Where two lists first differ, from a place on.
 use mathlib.Core.Path.{_≡_, refl, ap, ap₂, _∙_}
 use mathlib.Core.Bool.{Bool, true, false}
 use mathlib.Core.List.{List, [], _∷_}

@@ -1,4 +1,4 @@
--- Numbers told in hexadecimal digits: the last of sixteen, and enough of them that none is left out. Assumes nothing.
+-- Numbers told in hexadecimal digits: the last of sixteen, and enough of them that none is left out.
 use mathlib.Core.Path.{_≡_, refl, sym, ap, ap₂, _∙_, subst}
 use mathlib.Core.Bool.{Bool, true, false}
 use mathlib.Core.List.{List, [], _∷_, _++_}

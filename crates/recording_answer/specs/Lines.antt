@@ -1,5 +1,4 @@
 -- What is said of a recording: a fault with its line, what was seen and what the rules give; a line that is none; the end; acceptance.
--- Assumes nothing.
 use mathlib.Core.List.{List, [], _∷_, _++_}
 use Prim.Native.Nat.{ℕ, suc}
 use lib.Dec.{eqb, ltb}

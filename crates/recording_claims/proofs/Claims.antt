@@ -1,4 +1,4 @@
--- What is claimed of recordings, in one place. Assumes nothing.
+-- What is claimed of recordings, in one place.
 use mathlib.Core.Path.{_≡_, sym, ap, _∙_}
 use mathlib.Core.Bool.{true, false}
 use mathlib.Core.List.{List}

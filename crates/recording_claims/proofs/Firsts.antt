@@ -1,4 +1,4 @@
--- The records that pass and the first at fault, told by the list. Assumes nothing.
+-- The records that pass and the first at fault, told by the list.
 use mathlib.Core.Path.{_≡_, refl, sym, ap, subst, _∙_}
 use mathlib.Core.Bool.{Bool, true, false}
 use mathlib.Core.List.{List, [], _∷_, _++_}

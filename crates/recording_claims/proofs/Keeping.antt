@@ -1,4 +1,4 @@
--- Within a recording the state stays proper on the device of the longest busy time. Assumes nothing.
+-- Within a recording the state stays proper on the device of the longest busy time.
 use mathlib.Core.Path.{_≡_, sym, subst}
 use mathlib.Core.Bool.{true, false}
 use mathlib.Core.List.{List, [], _∷_}

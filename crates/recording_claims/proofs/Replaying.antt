@@ -1,4 +1,4 @@
--- What the model records of smooth cycles is without fault, and leads where the cycles lead. Assumes nothing.
+-- What the model records of smooth cycles is without fault, and leads where the cycles lead.
 use mathlib.Core.Path.{_≡_, refl, sym, ap, subst, _∙_}
 use mathlib.Core.Bool.{Bool, true, false, not, _&&_, _||_}
 use mathlib.Core.List.{List, [], _∷_}

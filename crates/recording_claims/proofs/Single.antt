@@ -1,4 +1,4 @@
--- A recording whose counts are the device's own is a history of the device. Assumes nothing.
+-- A recording whose counts are the device's own is a history of the device.
 use mathlib.Core.Path.{_≡_, refl, sym, ap, _∙_}
 use mathlib.Core.Bool.{Bool, true, false, not, _||_}
 use mathlib.Core.List.{List, [], _∷_}

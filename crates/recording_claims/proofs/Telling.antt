@@ -1,5 +1,4 @@
 -- A recording as a history: its world on units, its counts of erases, its lengths; and that the device's own times do not matter to it.
--- Assumes nothing.
 use mathlib.Core.Path.{_≡_, refl, sym, ap, _∙_}
 use mathlib.Core.List.{List, [], _∷_}
 use Prim.Native.Nat.{ℕ, suc, _+_, _≤_, _<_, min}

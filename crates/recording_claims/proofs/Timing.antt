@@ -1,4 +1,4 @@
--- The same cycle on a device of other busy times: nothing but a start looks at them. Assumes nothing.
+-- The same cycle on a device of other busy times: nothing but a start looks at them.
 use mathlib.Core.Path.{_≡_, refl, sym, ap, subst, _∙_}
 use mathlib.Core.Bool.{Bool, true, false, not, _&&_, _||_}
 use Prim.Native.Nat.{ℕ, _-_, _≤_}

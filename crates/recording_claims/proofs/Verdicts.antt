@@ -1,4 +1,4 @@
--- The check's answer told by the list. Assumes nothing.
+-- The check's answer told by the list.
 use mathlib.Core.Path.{_≡_, refl, sym, ap, subst, _∙_}
 use mathlib.Core.Bool.{Bool, true, false, not, _&&_}
 use mathlib.Core.List.{List}

@@ -1,4 +1,4 @@
--- When a recording is to be accepted, and which record is the first at fault: predicates on the list, without the code. Assumes nothing.
+-- When a recording is to be accepted, and which record is the first at fault: predicates on the list, without the code.
 use mathlib.Core.Path.{_≡_}
 use mathlib.Core.Bool.{true, false}
 use mathlib.Core.List.{List, _∷_, _++_}

@@ -1,4 +1,4 @@
--- A recording as a history: each record is one cycle of the model, on a device of the record's own busy time. Assumes nothing.
+-- A recording as a history: each record is one cycle of the model, on a device of the record's own busy time.
 use mathlib.Core.Bool.{Bool, true, not, _&&_, _||_}
 use mathlib.Core.List.{List, [], _∷_}
 use Prim.Native.Nat.{ℕ}

@@ -1,5 +1,4 @@
 -- What the model records of its own cycles: each cycle with the answer that the host sees, and at a start the busy time that it uses.
--- Assumes nothing.
 use mathlib.Core.Bool.{Bool, true, not, _&&_}
 use mathlib.Core.List.{List, [], _∷_}
 use Prim.Native.Nat.{ℕ}

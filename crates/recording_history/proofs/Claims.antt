@@ -1,4 +1,4 @@
--- What is claimed of a recording as a history, in one place: its busy counts may differ from start to start. Assumes nothing.
+-- What is claimed of a recording as a history, in one place: its busy counts may differ from start to start.
 use mathlib.Core.Path.{_≡_, sym, ap, subst, _∙_}
 use mathlib.Core.Bool.{true, false}
 use mathlib.Core.List.{List}

@@ -1,4 +1,4 @@
--- A recording is a history whose busy times differ from cycle to cycle. Assumes nothing.
+-- A recording is a history whose busy times differ from cycle to cycle.
 use mathlib.Core.Path.{_≡_, refl, ap, _∙_}
 use mathlib.Core.List.{List, [], _∷_, _++_}
 use Prim.Native.Nat.{ℕ, zero, suc}

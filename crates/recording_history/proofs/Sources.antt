@@ -1,4 +1,4 @@
--- Where what changes a byte was begun: an earlier cycle of the list, or before the list. Assumes nothing.
+-- Where what changes a byte was begun: an earlier cycle of the list, or before the list.
 use mathlib.Core.Path.{_≡_, refl, sym, subst, _∙_}
 use mathlib.Core.Bool.{Bool, true, false}
 use mathlib.Core.List.{List, [], _∷_}

@@ -1,4 +1,4 @@
--- What may touch which byte, where the busy times differ from cycle to cycle. Assumes nothing.
+-- What may touch which byte, where the busy times differ from cycle to cycle.
 use mathlib.Core.Path.{_≡_, refl, sym, ap, subst, _∙_}
 use mathlib.Core.Bool.{Bool, true, false}
 use mathlib.Core.List.{List, [], _∷_}

@@ -1,5 +1,5 @@
 -- Cycles on a device whose busy times differ from cycle to cycle: where they lead, and what may touch which byte. A recording is such a
--- history. Addresses x are byte addresses of the lent array in both widths. Assumes nothing.
+-- history. Addresses x are byte addresses of the lent array in both widths.
 use mathlib.Core.Path.{_≡_}
 use mathlib.Core.Bool.{true}
 use mathlib.Core.List.{List, [], _∷_}

@@ -1,4 +1,4 @@
--- The digits of a record line: what is known of trace lines, asked of a trace line that holds them. Assumes nothing.
+-- The digits of a record line: what is known of trace lines, asked of a trace line that holds them.
 use mathlib.Core.Path.{_≡_, refl, ap}
 use mathlib.Core.Bool.{true}
 use mathlib.Core.List.{List, [], _∷_}

@@ -1,4 +1,4 @@
--- A record line tested as the code tests it: the length, the cycle as a trace line, the answer, the count. Assumes nothing.
+-- A record line tested as the code tests it: the length, the cycle as a trace line, the answer, the count.
 use mathlib.Core.Path.{_≡_, refl, sym, ap, _∙_}
 use mathlib.Core.Bool.{Bool, true, false, _&&_, _||_}
 use mathlib.Core.List.{List, [], _∷_, _++_}

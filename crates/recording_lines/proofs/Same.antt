@@ -1,4 +1,4 @@
--- The cycle of a record line laid over newlines is a trace line. Assumes nothing.
+-- The cycle of a record line laid over newlines is a trace line.
 use mathlib.Core.Path.{_≡_, _∙_}
 use mathlib.Core.List.{List, [], _∷_, _++_}
 use Prim.Native.Nat.{ℕ, min}

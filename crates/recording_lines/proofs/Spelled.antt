@@ -1,4 +1,4 @@
--- A list's elements one by one. Assumes nothing.
+-- A list's elements one by one.
 use mathlib.Core.Path.{_≡_, refl, sym, ap, _∙_}
 use mathlib.Core.List.{List, [], _∷_}
 use Prim.Native.Nat.{ℕ, zero, suc, _+_, _≤_, _<_}

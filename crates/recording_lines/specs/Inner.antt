@@ -1,5 +1,5 @@
 -- How the code tests a line: the length first, then the cycle as a trace line, then the answer and the count. Not part of what a buyer
--- must believe: that these tests together are `isRecord` is proved (`record-runs`). Assumes nothing.
+-- must believe: that these tests together are `isRecord` is proved (`record-runs`).
 use mathlib.Core.Bool.{Bool, true, false, _||_}
 use mathlib.Core.List.{List, [], _∷_, _++_}
 use Prim.Native.Nat.{ℕ}

@@ -1,4 +1,4 @@
--- The lines of a recording: their form, the record that one states, and how a record is printed. Assumes nothing.
+-- The lines of a recording: their form, the record that one states, and how a record is printed.
 use mathlib.Core.Path.{_≡_}
 use mathlib.Core.Bool.{Bool, true, false, not, _||_}
 use mathlib.Core.List.{List, [], _∷_, _++_}

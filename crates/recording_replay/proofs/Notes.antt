@@ -1,4 +1,4 @@
--- A note in front of a slice. Assumes nothing.
+-- A note in front of a slice.
 use mathlib.Core.Path.{_≡_, sym, ap, _∙_}
 use mathlib.Core.List.{List}
 use Prim.Native.Nat.{ℕ}

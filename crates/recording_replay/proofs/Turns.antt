@@ -1,4 +1,4 @@
--- The lines of a recording: a turn of the loop that writes them, and their length. Assumes nothing.
+-- The lines of a recording: a turn of the loop that writes them, and their length.
 use mathlib.Core.Path.{_≡_, refl, sym, ap, subst, _∙_}
 use mathlib.Core.Bool.{Bool, true, false, not}
 use mathlib.Core.List.{List, [], _++_, append-assoc, append-nil}

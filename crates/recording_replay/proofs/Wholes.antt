@@ -1,4 +1,4 @@
--- A whole trace recorded: the two ways out. Assumes nothing.
+-- A whole trace recorded: the two ways out.
 use mathlib.Core.Path.{_≡_, sym, ap, subst, _∙_}
 use mathlib.Core.List.{List, _++_}
 use Prim.Native.Nat.{ℕ, _*_, _≤_, _<_}

@@ -1,4 +1,4 @@
--- A trace recorded: for each good line its line of a recording, and what is to be said of them. Assumes nothing.
+-- A trace recorded: for each good line its line of a recording, and what is to be said of them.
 use mathlib.Core.Bool.{Bool, true, not}
 use mathlib.Core.List.{List, [], _∷_, _++_}
 use Prim.Native.Nat.{ℕ, zero, suc, _+_, _*_}

@@ -1,4 +1,4 @@
--- The lines of a whole trace recorded: the records that the model makes, printed. Assumes nothing.
+-- The lines of a whole trace recorded: the records that the model makes, printed.
 use mathlib.Core.Path.{_≡_, refl, sym, ap, subst, _∙_}
 use mathlib.Core.Bool.{Bool, true, false, not, _||_}
 use mathlib.Core.List.{List, [], _∷_, _++_, append-assoc}

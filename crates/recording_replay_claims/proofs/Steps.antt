@@ -1,4 +1,4 @@
--- One line of a trace recorded: its record is without fault, leads where the cycle leads, and fits a line. Assumes nothing.
+-- One line of a trace recorded: its record is without fault, leads where the cycle leads, and fits a line.
 use mathlib.Core.Path.{_≡_, refl, sym, ap, subst, _∙_}
 use mathlib.Core.Bool.{Bool, true, false, not, _&&_, _||_}
 use mathlib.Core.List.{List, []}

@@ -1,4 +1,4 @@
--- A whole trace recorded: what is written, and that the check accepts it. Assumes nothing.
+-- A whole trace recorded: what is written, and that the check accepts it.
 use mathlib.Core.Path.{_≡_, refl, sym, ap, subst, _∙_}
 use mathlib.Core.Bool.{Bool, true, false}
 use mathlib.Core.List.{List, _++_}

@@ -1,5 +1,4 @@
 -- What the model records of the lines of a trace: each cycle with the answer that it gives and, at a start, the busy count that it takes.
--- Assumes nothing.
 use mathlib.Core.List.{List, [], _∷_}
 use Prim.Native.Nat.{ℕ, zero, suc}
 use lib.ListN.{take, drop}

@@ -1,4 +1,4 @@
--- A text judged: the walk over its records from a fresh bench, and its end. Assumes nothing.
+-- A text judged: the walk over its records from a fresh bench, and its end.
 use mathlib.Core.Path.{_≡_, ap, ap₂, _∙_}
 use mathlib.Core.List.{List}
 use Prim.Native.Nat.{ℕ, _≤_}

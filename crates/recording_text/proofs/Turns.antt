@@ -1,4 +1,4 @@
--- The records of a text, line by line, and one turn of the loop that reads and walks them. Assumes nothing.
+-- The records of a text, line by line, and one turn of the loop that reads and walks them.
 use mathlib.Core.Path.{_≡_, refl, sym, ap, ap₂, _∙_}
 use mathlib.Core.Bool.{Bool, true, false}
 use mathlib.Core.List.{List, [], _∷_}

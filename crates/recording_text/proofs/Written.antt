@@ -1,4 +1,4 @@
--- Records written as a text are read back: all of them, with no bad line. Assumes nothing.
+-- Records written as a text are read back: all of them, with no bad line.
 use mathlib.Core.Path.{_≡_, refl, ap, ap₂, _∙_}
 use mathlib.Core.Bool.{true}
 use mathlib.Core.List.{List, [], _∷_, _++_}

@@ -1,4 +1,4 @@
--- How the code goes: one loop reads and walks. Not part of what a buyer must believe. Assumes nothing.
+-- How the code goes: one loop reads and walks. Not part of what a buyer must believe.
 use mathlib.Core.List.{List}
 use Prim.Native.Nat.{ℕ}
 use lib.ListN.{length}

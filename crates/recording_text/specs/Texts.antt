@@ -1,4 +1,4 @@
--- A recording as a text: the records that its good lines state, its first bad line, and how it is judged on bench T. Assumes nothing.
+-- A recording as a text: the records that its good lines state, its first bad line, and how it is judged on bench T.
 use mathlib.Core.List.{List, [], _∷_}
 use Prim.Native.Nat.{ℕ, zero, suc, _+_, _*_}
 use lib.Dec.{ltb}

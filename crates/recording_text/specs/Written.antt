@@ -1,4 +1,4 @@
--- A recording written as a text. Assumes nothing.
+-- A recording written as a text.
 use mathlib.Core.Bool.{true}
 use mathlib.Core.List.{List, [], _∷_, _++_}
 use Prim.Native.Nat.{ℕ}

@@ -1,4 +1,4 @@
--- The first record at fault: where it stands in the list, and where its line lies in the text. Assumes nothing.
+-- The first record at fault: where it stands in the list, and where its line lies in the text.
 use mathlib.Core.Path.{_≡_, refl, sym, ap, ap₂, _∙_, subst}
 use mathlib.Core.Bool.{Bool, true, false}
 use mathlib.Core.List.{List, [], _∷_}

@@ -1,4 +1,4 @@
--- No line that is said is longer than 128 bytes. Assumes nothing.
+-- No line that is said is longer than 128 bytes.
 use mathlib.Core.Path.{_≡_, refl}
 use mathlib.Core.Bool.{Bool, true, false}
 use mathlib.Core.List.{List, [], _∷_, _++_}

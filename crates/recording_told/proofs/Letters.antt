@@ -1,4 +1,4 @@
--- What a line that is said begins with. Assumes nothing.
+-- What a line that is said begins with.
 use mathlib.Core.Path.{_≡_, refl, sym, ap, _∙_}
 use mathlib.Core.Bool.{Bool, true, false, _&&_}
 use mathlib.Core.List.{List}

@@ -1,4 +1,4 @@
--- What the code says by the judgement is what is to be said. Assumes nothing.
+-- What the code says by the judgement is what is to be said.
 use mathlib.Core.Path.{_≡_, refl, sym, ap, ap₂, _∙_, subst}
 use mathlib.Core.Bool.{Bool, true, false, _&&_}
 use mathlib.Core.List.{List}

@@ -1,5 +1,5 @@
 -- How the code tells it: by the judgement of the whole text, and the record of a line read once more. Not part of what a buyer must
--- believe. Assumes nothing.
+-- believe.
 use mathlib.Core.List.{List}
 use Prim.Native.Nat.{ℕ, _+_, _*_}
 use lib.Dec.{eqb, ltb}

@@ -1,5 +1,5 @@
 -- What is said of a recording as a text, judged on bench T from a fresh device: the first thing that is wrong, by its line, or that it is
--- accepted. Assumes nothing.
+-- accepted.
 use mathlib.Core.Bool.{Bool}
 use mathlib.Core.List.{List, [], _∷_, _++_}
 use Prim.Native.Nat.{ℕ, suc}

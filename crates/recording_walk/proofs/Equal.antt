@@ -1,4 +1,4 @@
--- Two lists of bytes compared from the front. Assumes nothing.
+-- Two lists of bytes compared from the front.
 use mathlib.Core.Path.{_≡_, refl, sym, ap, ap₂, _∙_}
 use mathlib.Core.Bool.{Bool, true, false, _&&_}
 use mathlib.Core.List.{List, [], _∷_}

@@ -1,4 +1,4 @@
--- The walk in the code comes to the check's answer. Assumes nothing.
+-- The walk in the code comes to the check's answer.
 use mathlib.Core.Path.{_≡_, refl, sym, ap, ap₂, subst, _∙_}
 use mathlib.Core.Bool.{Bool, true, false, not, _&&_}
 use mathlib.Core.List.{List, [], _∷_, _++_}

@@ -1,5 +1,5 @@
 -- The walk over the records as the code makes it, with the first fault held in its state. Not part of what a buyer must believe: that it
--- comes to the check's answer is proved. Assumes nothing.
+-- comes to the check's answer is proved.
 use mathlib.Core.Bool.{Bool, not, _&&_}
 use mathlib.Core.List.{List, [], _∷_}
 use Prim.Native.Nat.{ℕ, _+_}

@@ -1,4 +1,4 @@
--- A recording, a list of records: where the records lead, the first at fault, and what the check of it answers. Assumes nothing.
+-- A recording, a list of records: where the records lead, the first at fault, and what the check of it answers.
 use mathlib.Core.Bool.{Bool, true, false, not, _&&_}
 use mathlib.Core.List.{List, [], _∷_}
 use Prim.Native.Nat.{ℕ, suc}

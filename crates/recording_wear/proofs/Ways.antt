@@ -1,4 +1,4 @@
--- A recording's counts, way by way. Assumes nothing.
+-- A recording's counts, way by way.
 use mathlib.Core.Path.{_≡_, sym, ap, _∙_}
 use mathlib.Core.List.{List, [], _∷_}
 use Prim.Native.Nat.{ℕ}

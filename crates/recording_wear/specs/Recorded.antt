@@ -1,5 +1,4 @@
--- The wear that a whole recording leaves: the counts of the state that its judgement leaves on a blank bench T, or its first fault. Assumes
--- nothing.
+-- The wear that a whole recording leaves: the counts of the state that its judgement leaves on a blank bench T, or its first fault.
 use mathlib.Core.Bool.{Bool}
 use mathlib.Core.List.{List, [], _∷_}
 use Prim.Native.Nat.{ℕ, _+_}

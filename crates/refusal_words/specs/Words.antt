@@ -1,4 +1,4 @@
--- A refusal by its number, and what a refusal of a load file means, in words. Assumes nothing.
+-- A refusal by its number, and what a refusal of a load file means, in words.
 use mathlib.Core.List.{List, _++_}
 use Prim.Native.Nat.{ℕ}
 use lib.Dec.{eqb}

@@ -1,4 +1,4 @@
--- The judge's number, both ways, and the empty text. Assumes nothing.
+-- The judge's number, both ways, and the empty text.
 use mathlib.Core.Path.{_≡_}
 use mathlib.Core.Bool.{false}
 use mathlib.Core.List.{List, []}

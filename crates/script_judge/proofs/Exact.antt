@@ -1,4 +1,4 @@
--- Exactly the printed allowed scripts are accepted. Assumes nothing.
+-- Exactly the printed allowed scripts are accepted.
 use mathlib.Core.Path.{_≡_, refl, sym, ap, subst, _∙_}
 use mathlib.Core.Bool.{Bool, true, false}
 use mathlib.Core.List.{List, [], _∷_, _++_}

@@ -1,4 +1,4 @@
--- The judge gives the first line at fault. Assumes nothing.
+-- The judge gives the first line at fault.
 use mathlib.Core.Path.{_≡_, refl, sym, ap, subst, _∙_}
 use mathlib.Core.Bool.{Bool, true, false}
 use mathlib.Core.List.{List, [], _∷_, _++_}

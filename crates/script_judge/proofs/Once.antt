@@ -1,4 +1,4 @@
--- Each text is the print of one script at most. Assumes nothing.
+-- Each text is the print of one script at most.
 use mathlib.Core.Path.{_≡_, refl, sym, ap, _∙_}
 use mathlib.Core.List.{List, [], _++_}
 use Prim.Native.Nat.{ℕ, zero, suc, _≤_}

@@ -1,4 +1,4 @@
--- No other line is the first at fault, and none in an allowed script. Assumes nothing.
+-- No other line is the first at fault, and none in an allowed script.
 use mathlib.Core.Path.{_≡_, refl, sym, ap, subst, _∙_}
 use mathlib.Core.Bool.{Bool, true, false}
 use mathlib.Core.List.{List, [], _∷_, _++_, append-assoc, append-nil}

@@ -1,4 +1,4 @@
--- The script that a text states is the one printed there. Assumes nothing.
+-- The script that a text states is the one printed there.
 use mathlib.Core.Path.{_≡_, refl, sym, ap, subst, _∙_}
 use mathlib.Core.List.{List, [], _++_}
 use mathlib.Core.Logic.{_↔_}

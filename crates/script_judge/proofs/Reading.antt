@@ -1,4 +1,4 @@
--- What the two readers answer to each other, one law for each way out. Assumes nothing.
+-- What the two readers answer to each other, one law for each way out.
 use mathlib.Core.Path.{_≡_, refl, sym, ap, subst, _∙_}
 use mathlib.Core.Bool.{Bool, true, false}
 use mathlib.Core.List.{List, [], _∷_}

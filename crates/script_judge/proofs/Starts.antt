@@ -1,4 +1,4 @@
--- Which lines begin a script. Assumes nothing.
+-- Which lines begin a script.
 use mathlib.Core.Path.{_≡_, refl, sym, ap, subst, _∙_}
 use mathlib.Core.Bool.{Bool, true, false}
 use mathlib.Core.List.{List, [], _∷_, _++_}

@@ -1,4 +1,4 @@
--- The first line at fault, told without a reader: the lines before it can go on to a script, with it they cannot. Assumes nothing.
+-- The first line at fault, told without a reader: the lines before it can go on to a script, with it they cannot.
 use mathlib.Core.Path.{_≡_}
 use mathlib.Core.List.{List, [], _∷_, _++_}
 use Prim.Native.Nat.{ℕ, _+_, _*_, _≤_}

@@ -1,5 +1,4 @@
 -- What the two readers of the code promise each other. Not part of what a buyer must believe: the judge's promise is `scriptJudged`.
--- Assumes nothing.
 use mathlib.Core.Path.{_≡_}
 use mathlib.Core.Bool.{Bool, true, false}
 use mathlib.Core.List.{List}

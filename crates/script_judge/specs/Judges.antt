@@ -1,4 +1,4 @@
--- A script judged line by line: the first line at fault, or that it is allowed. Assumes nothing.
+-- A script judged line by line: the first line at fault, or that it is allowed.
 use mathlib.Core.Bool.{Bool, true, false}
 use mathlib.Core.List.{List, [], _∷_}
 use Prim.Native.Nat.{ℕ, zero, suc, _+_, _*_}

@@ -1,4 +1,4 @@
--- The script that a text states. Assumes nothing.
+-- The script that a text states.
 use mathlib.Core.List.{List}
 use Prim.Native.Nat.{ℕ, zero, suc}
 use lib.ListN.{take, drop}

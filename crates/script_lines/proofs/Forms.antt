@@ -1,4 +1,4 @@
--- Each line's printed form and its word, both ways. Assumes nothing.
+-- Each line's printed form and its word, both ways.
 use mathlib.Core.Path.{_≡_, refl, sym, ap, _∙_}
 use mathlib.Core.Bool.{true, false}
 use mathlib.Core.List.{List, [], _∷_, _++_}

@@ -1,4 +1,4 @@
--- What each word says of the text that it stands in front of. Assumes nothing.
+-- What each word says of the text that it stands in front of.
 use mathlib.Core.Path.{_≡_, refl, sym, ap, _∙_}
 use mathlib.Core.Bool.{Bool, true, false}
 use mathlib.Core.List.{List, [], _∷_}

@@ -1,4 +1,4 @@
--- The count of the lines written out is their number, times the product around them. Assumes nothing.
+-- The count of the lines written out is their number, times the product around them.
 use mathlib.Core.Path.{_≡_, ap}
 use mathlib.Core.List.{List}
 use Prim.Native.Nat.{ℕ, zero, suc, _+_, _*_, _≤_}

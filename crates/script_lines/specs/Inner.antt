@@ -1,4 +1,4 @@
--- What the laws of the readers are about. Not part of what a buyer must believe. Assumes nothing.
+-- What the laws of the readers are about. Not part of what a buyer must believe.
 use mathlib.Core.List.{List, [], _++_}
 use Prim.Native.Nat.{ℕ}
 use Rattle.script_lines.specs.Scripts.{closeBy}

@@ -1,4 +1,4 @@
--- The scripts: how one is printed, which are allowed, and their lines written out. Nothing is read here. Assumes nothing.
+-- The scripts: how one is printed, which are allowed, and their lines written out. Nothing is read here.
 use mathlib.Core.List.{List, [], _∷_, _++_}
 use Prim.Native.Nat.{ℕ, zero, suc, _+_, _*_, _/_, _≤_}
 use Rattle.model_types.specs.declared.Cycle.{Cycle}

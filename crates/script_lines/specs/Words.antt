@@ -1,4 +1,4 @@
--- The word at the front of a text: which line of a script it begins with. Assumes nothing.
+-- The word at the front of a text: which line of a script it begins with.
 use mathlib.Core.Bool.{Bool, true, false}
 use mathlib.Core.List.{List, [], _∷_}
 use Prim.Native.Nat.{ℕ, _+_, _*_}

@@ -1,4 +1,4 @@
--- Cycles made one after the other: two lists of them, the answers' length, and the replay of their trace. Assumes nothing.
+-- Cycles made one after the other: two lists of them, the answers' length, and the replay of their trace.
 use mathlib.Core.Path.{_≡_, refl, sym, ap, _∙_}
 use mathlib.Core.Bool.{true}
 use mathlib.Core.List.{List, [], _∷_, _++_, append-assoc}

@@ -1,4 +1,4 @@
--- Lists laid over a list one behind the other, and a part put back. Assumes nothing.
+-- Lists laid over a list one behind the other, and a part put back.
 use mathlib.Core.Path.{_≡_, sym, ap, _∙_}
 use mathlib.Core.List.{List, [], _++_, append-assoc}
 use Prim.Native.Nat.{ℕ, _+_, _-_, _≤_}

@@ -1,4 +1,4 @@
--- A trace line answered in its place, a mark alone, and a whole run. Assumes nothing.
+-- A trace line answered in its place, a mark alone, and a whole run.
 use mathlib.Core.Path.{_≡_, refl, sym, ap, _∙_}
 use mathlib.Core.List.{List}
 use Prim.Native.Nat.{ℕ, _+_, _-_, _≤_, _<_}

@@ -1,4 +1,4 @@
--- The run's ways out, one law each. Assumes nothing.
+-- The run's ways out, one law each.
 use mathlib.Core.Path.{_≡_, refl, sym, ap, subst, _∙_}
 use mathlib.Core.Bool.{Bool, true, false}
 use mathlib.Core.List.{List, [], _∷_, _++_, append-nil}

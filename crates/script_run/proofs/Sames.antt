@@ -1,4 +1,4 @@
--- What the run of a script is the same as. Assumes nothing.
+-- What the run of a script is the same as.
 use mathlib.Core.Path.{_≡_, refl, sym, ap, _∙_}
 use mathlib.Core.Bool.{Bool, true, false}
 use mathlib.Core.List.{List, [], _++_}

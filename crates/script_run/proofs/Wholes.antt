@@ -1,4 +1,4 @@
--- A whole script: at a fault its mark alone, else what the walk leaves is the replay of its lines written out. Assumes nothing.
+-- A whole script: at a fault its mark alone, else what the walk leaves is the replay of its lines written out.
 use mathlib.Core.Path.{_≡_, sym, ap, _∙_}
 use mathlib.Core.List.{List, []}
 use Prim.Native.Nat.{ℕ, _*_, _≤_, _<_}

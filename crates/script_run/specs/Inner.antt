@@ -1,5 +1,5 @@
 -- What the functions of the run promise each other. Not part of what a buyer must believe: the run's promise is `scriptOutput` and
--- `scriptArray`. Assumes nothing.
+-- `scriptArray`.
 use mathlib.Core.Path.{_≡_}
 use mathlib.Core.List.{List, [], _∷_, _++_}
 use Prim.Native.Nat.{ℕ, _+_, _-_, _*_, _≤_, _<_}

@@ -1,4 +1,4 @@
--- A script run: its output and the array that it leaves, by the replay of its lines written out. Assumes nothing.
+-- A script run: its output and the array that it leaves, by the replay of its lines written out.
 use mathlib.Core.List.{List}
 use Prim.Native.Nat.{ℕ}
 use lib.Dec.{eqb}

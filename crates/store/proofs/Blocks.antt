@@ -1,4 +1,4 @@
--- The main block of a part that has a store: it lies in the array, and is a whole number of places. Assumes nothing.
+-- The main block of a part that has a store: it lies in the array, and is a whole number of places.
 use mathlib.Core.Path.{_≡_, refl, sym, _∙_, ap}
 use mathlib.Core.Bool.{Bool, true, false, _||_}
 use mathlib.Core.List.{List}

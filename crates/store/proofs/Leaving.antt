@@ -1,4 +1,4 @@
--- What a change returns and leaves, by its number, and from what its two parts leave. Assumes nothing.
+-- What a change returns and leaves, by its number, and from what its two parts leave.
 use mathlib.Core.Path.{_≡_, refl, sym, _∙_, ap}
 use mathlib.Core.Bool.{Bool, true, false}
 use mathlib.Core.List.{List}

@@ -1,4 +1,4 @@
--- The store on a part: which numbers are given and in which order, what is returned, and what is left in everything lent. Assumes nothing.
+-- The store on a part: which numbers are given and in which order, what is returned, and what is left in everything lent.
 use mathlib.Core.Bool.{Bool, not, _||_}
 use mathlib.Core.List.{List, [], _∷_, _++_}
 use Prim.Native.Nat.{ℕ, _/_}

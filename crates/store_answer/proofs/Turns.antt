@@ -1,4 +1,4 @@
--- The walk that lists a store, turn by turn, and what the reader makes of a file in it. Assumes nothing.
+-- The walk that lists a store, turn by turn, and what the reader makes of a file in it.
 use mathlib.Core.Path.{_≡_, refl, sym, ap, _∙_, subst}
 use mathlib.Core.Bool.{Bool}
 use mathlib.Core.List.{List, _++_}

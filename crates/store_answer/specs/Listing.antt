@@ -1,4 +1,4 @@
--- What a store holds, as text: a map of the places, and a row for each file. Assumes nothing.
+-- What a store holds, as text: a map of the places, and a row for each file.
 use mathlib.Core.Bool.{Bool, true, false}
 use mathlib.Core.List.{List, [], _∷_, _++_}
 use Prim.Native.Nat.{ℕ, zero, suc, _+_, _-_, _*_, _/_, _%_, min}

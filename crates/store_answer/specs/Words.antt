@@ -1,4 +1,4 @@
--- What is said of a store's word: a refusal by its number and words, and how a change ended. Assumes nothing.
+-- What is said of a store's word: a refusal by its number and words, and how a change ended.
 use mathlib.Core.List.{List, _++_}
 use Prim.Native.Nat.{ℕ}
 use lib.Dec.{eqb}

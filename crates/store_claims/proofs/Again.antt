@@ -1,4 +1,4 @@
--- A slide need not erase: a file added again to a block that it fills. An erased block is the empty store. Assumes nothing.
+-- A slide need not erase: a file added again to a block that it fills. An erased block is the empty store.
 use mathlib.Core.Path.{_≡_, refl, sym, _∙_, ap}
 use mathlib.Core.List.{List, [], _∷_, _++_, append-nil}
 use mathlib.Core.Bool.{false}

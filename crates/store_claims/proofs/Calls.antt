@@ -1,4 +1,4 @@
--- One call of the store, made by its run; and calls one after the other. Assumes nothing.
+-- One call of the store, made by its run; and calls one after the other.
 use mathlib.Core.Path.{_≡_, refl, sym, _∙_, ap, subst}
 use mathlib.Core.List.{List}
 use mathlib.Core.Bool.{Bool, true, false, not}

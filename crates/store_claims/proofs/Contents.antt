@@ -1,4 +1,4 @@
--- The new contents of a block are bytes where the old ones and the file are; where no bit falls back, none must rise. Assumes nothing.
+-- The new contents of a block are bytes where the old ones and the file are; where no bit falls back, none must rise.
 use mathlib.Core.Path.{_≡_, refl, sym, _∙_, ap, subst}
 use mathlib.Core.List.{List, [], _∷_, _++_}
 use mathlib.Core.Bool.{Bool, true, false, not, _||_}

@@ -1,4 +1,4 @@
--- A load of one file into the main block leaves a proper store that holds it. Assumes nothing.
+-- A load of one file into the main block leaves a proper store that holds it.
 use mathlib.Core.Path.{_≡_, refl, sym, _∙_, ap, subst}
 use mathlib.Core.List.{List, [], _∷_}
 use mathlib.Core.Bool.{Bool, true, false, not, _||_}

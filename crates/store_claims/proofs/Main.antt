@@ -1,4 +1,4 @@
--- The main block of a lent array, where no number of a run applies and the device is one of 1 to 4. Assumes nothing.
+-- The main block of a lent array, where no number of a run applies and the device is one of 1 to 4.
 use mathlib.Core.Path.{_≡_, sym, _∙_}
 use mathlib.Core.Bool.{false}
 use mathlib.Core.List.{List}

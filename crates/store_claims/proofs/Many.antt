@@ -1,4 +1,4 @@
--- Calls one after the other, each refused before a cycle or ended well: what they leave, and what a find answers then. Assumes nothing.
+-- Calls one after the other, each refused before a cycle or ended well: what they leave, and what a find answers then.
 use mathlib.Core.Path.{_≡_, refl, sym, _∙_, ap, subst}
 use mathlib.Core.List.{List, [], _∷_, _++_}
 use mathlib.Core.Bool.{Bool, true, false, not}

@@ -1,4 +1,4 @@
--- 43 exactly; the letter found is the letter asked; what a load of one file leaves. Assumes nothing.
+-- 43 exactly; the letter found is the letter asked; what a load of one file leaves.
 use mathlib.Core.Path.{_≡_, refl, sym, _∙_, subst}
 use mathlib.Core.List.{List, _++_}
 use mathlib.Core.Bool.{Bool, true, false}

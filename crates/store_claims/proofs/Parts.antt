@@ -1,4 +1,4 @@
--- Devices 1 to 4: byte mode, and a main block of 224 or 28 places. Assumes nothing.
+-- Devices 1 to 4: byte mode, and a main block of 224 or 28 places.
 use mathlib.Core.Path.{_≡_, refl, sym, _∙_, ap}
 use mathlib.Core.Bool.{Bool, true, false, not, _&&_, _||_}
 use Prim.Native.Nat.{ℕ, zero, suc, _*_, _<_}

@@ -1,4 +1,4 @@
--- The numbers of a call: 1 for devices 5 to 8, then a run's, then the change's own. Assumes nothing.
+-- The numbers of a call: 1 for devices 5 to 8, then a run's, then the change's own.
 use mathlib.Core.Path.{_≡_, refl, sym, _∙_, ap}
 use mathlib.Core.List.{List, [], _∷_, _++_}
 use mathlib.Core.Bool.{Bool, true, false, not}

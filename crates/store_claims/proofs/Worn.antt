@@ -1,4 +1,4 @@
--- What a call wears: an erase exactly where some bit must rise; none by a drop, and none by an add that finds a run. Assumes nothing.
+-- What a call wears: an erase exactly where some bit must rise; none by a drop, and none by an add that finds a run.
 use mathlib.Core.Path.{_≡_, refl, sym, _∙_, ap, subst}
 use mathlib.Core.List.{List, _∷_}
 use mathlib.Core.Bool.{Bool, true, false}

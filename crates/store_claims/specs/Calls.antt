@@ -1,4 +1,4 @@
--- Calls of the store on one device, one after the other: each an add or a drop made by its run, or refused. Assumes nothing.
+-- Calls of the store on one device, one after the other: each an add or a drop made by its run, or refused.
 use mathlib.Core.Path.{_≡_}
 use mathlib.Core.List.{List, [], _∷_, _++_}
 use mathlib.Core.Bool.{true, false}

@@ -1,4 +1,4 @@
--- What a drop and an add leave, in the bytes that the code puts there: by the survey's answers of a proper store. Assumes nothing.
+-- What a drop and an add leave, in the bytes that the code puts there: by the survey's answers of a proper store.
 use mathlib.Core.Path.{_≡_, refl, sym, _∙_, ap}
 use mathlib.Core.List.{List, [], _∷_, _++_}
 use mathlib.Core.Bool.{Bool, true, false, _||_}

@@ -1,4 +1,4 @@
--- A drop and an add without slide in bytes: what code on a lent block is held to. Assumes nothing.
+-- A drop and an add without slide in bytes: what code on a lent block is held to.
 use mathlib.Core.Path.{_≡_, refl, sym, _∙_, ap}
 use mathlib.Core.List.{List, [], _∷_, _++_, append-assoc}
 use mathlib.Core.Bool.{Bool, true, false, not, _||_}

@@ -1,4 +1,4 @@
--- A file copied into a part of lent memory, and ones behind it. Assumes nothing.
+-- A file copied into a part of lent memory, and ones behind it.
 use mathlib.Core.Path.{_≡_, sym, _∙_, ap}
 use mathlib.Core.List.{List, [], _++_, append-nil, append-assoc}
 use Prim.Native.Nat.{ℕ, _+_, _-_, _≤_}

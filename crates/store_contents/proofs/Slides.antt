@@ -1,4 +1,4 @@
--- The slide's loop: what is laid and what is left to lay are all the files that stay. Assumes nothing.
+-- The slide's loop: what is laid and what is left to lay are all the files that stay.
 use mathlib.Core.Path.{_≡_, refl, sym, _∙_, ap, subst}
 use mathlib.Core.List.{List, [], _++_, append-nil, append-assoc}
 use Prim.Native.Nat.{ℕ, _+_, _-_, _/_, _≤_, _<_}

@@ -1,4 +1,4 @@
--- An add by a slide in bytes. Assumes nothing.
+-- An add by a slide in bytes.
 use mathlib.Core.Path.{_≡_, refl, sym, _∙_, ap}
 use mathlib.Core.List.{List, [], _∷_, _++_, append-assoc}
 use mathlib.Core.Bool.{Bool, true, false}

@@ -1,4 +1,4 @@
--- The slide's walk: an item of a divided block by its first byte and its count alone, and what is left behind it. Assumes nothing.
+-- The slide's walk: an item of a divided block by its first byte and its count alone, and what is left behind it.
 use mathlib.Core.Path.{_≡_, refl, sym, _∙_, ap, subst}
 use mathlib.Core.List.{List, [], _∷_, _++_}
 use mathlib.Core.Bool.{Bool, false, _||_}

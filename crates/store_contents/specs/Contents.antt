@@ -1,4 +1,4 @@
--- The new contents of a block, into memory of its length: the refusals, and what is left in memory. Assumes nothing.
+-- The new contents of a block, into memory of its length: the refusals, and what is left in memory.
 use mathlib.Core.Bool.{Bool, not}
 use mathlib.Core.List.{List, [], _∷_}
 use Prim.Native.Nat.{ℕ, _/_}

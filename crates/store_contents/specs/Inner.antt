@@ -1,4 +1,4 @@
--- The new contents of a block, told by its bytes, as the code makes them. Nobody has to believe these. Assumes nothing.
+-- The new contents of a block, told by its bytes, as the code makes them. Nobody has to believe these.
 use mathlib.Core.List.{List, [], _∷_, _++_}
 use Prim.Native.Nat.{ℕ, zero, suc, _+_, _*_, _-_}
 use mathlib.Core.Bool.{Bool, _||_}

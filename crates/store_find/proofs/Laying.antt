@@ -1,4 +1,4 @@
--- Where things stand, in places: what code for find, drop and add is filed to. Assumes nothing.
+-- Where things stand, in places: what code for find, drop and add is filed to.
 use mathlib.Core.Path.{_≡_, refl, sym, _∙_, ap}
 use mathlib.Core.List.{List, [], _∷_, _++_, append-assoc}
 use mathlib.Core.Bool.{Bool, true, false, _||_}

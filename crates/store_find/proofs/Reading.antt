@@ -1,4 +1,4 @@
--- A reading's answer, what it tells and what it leaves, by what the reader makes. Assumes nothing.
+-- A reading's answer, what it tells and what it leaves, by what the reader makes.
 use mathlib.Core.Path.{_≡_, sym, _∙_, ap}
 use mathlib.Core.List.{List}
 use Prim.Native.Nat.{ℕ}

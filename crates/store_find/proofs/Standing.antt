@@ -1,4 +1,4 @@
--- The number of a find by the survey, and the file's bytes where it stands. Assumes nothing.
+-- The number of a find by the survey, and the file's bytes where it stands.
 use mathlib.Core.Path.{_≡_, refl, sym, _∙_, ap}
 use mathlib.Core.List.{List, [], _∷_, _++_}
 use mathlib.Core.Bool.{Bool, true, false, not}

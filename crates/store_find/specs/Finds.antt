@@ -1,4 +1,4 @@
--- Where the file under a letter stands in a block, and what is found and read there. Assumes nothing.
+-- Where the file under a letter stands in a block, and what is found and read there.
 use mathlib.Core.Bool.{Bool, not}
 use mathlib.Core.List.{List, [], _∷_}
 use Prim.Native.Nat.{ℕ, _*_, _%_}

@@ -1,4 +1,4 @@
--- Items after a drop and after an add: who stands there, what is found, how many places. Assumes nothing.
+-- Items after a drop and after an add: who stands there, what is found, how many places.
 use mathlib.Core.Path.{_≡_, refl, sym, _∙_, ap, subst}
 use mathlib.Core.List.{List, [], _∷_, _++_}
 use mathlib.Core.Bool.{Bool, true, false, not, _&&_, _||_}

@@ -1,4 +1,4 @@
--- A drop clears bits only, and a file laid into a run programs blank places only. Assumes nothing.
+-- A drop clears bits only, and a file laid into a run programs blank places only.
 use mathlib.Core.Path.{_≡_, refl, sym, ap, ap₂, _∙_, subst}
 use mathlib.Core.List.{List, [], _∷_, _++_}
 use mathlib.Core.Bool.{Bool, true, false, _||_}

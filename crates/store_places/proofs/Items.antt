@@ -1,4 +1,4 @@
--- The walk reads back what items print, and a proper store prints as it was. Assumes nothing.
+-- The walk reads back what items print, and a proper store prints as it was.
 use mathlib.Core.Path.{_≡_, refl, sym, _∙_, ap}
 use mathlib.Core.List.{List, [], _∷_, _++_}
 use mathlib.Core.Bool.{Bool, true, false, not, _&&_}

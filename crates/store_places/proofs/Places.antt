@@ -1,4 +1,4 @@
--- Places and bytes: cut and join undo one another. Assumes nothing.
+-- Places and bytes: cut and join undo one another.
 use mathlib.Core.Path.{_≡_, refl, sym, _∙_, ap}
 use mathlib.Core.List.{List, [], _∷_, _++_, append-assoc}
 use mathlib.Core.Bool.{Bool, true, false}

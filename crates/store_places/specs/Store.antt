@@ -1,4 +1,4 @@
--- The store: several files in one block of 512-byte places. Assumes nothing.
+-- The store: several files in one block of 512-byte places.
 use mathlib.Core.Path.{_≡_}
 use mathlib.Core.List.{List, [], _∷_, _++_}
 use mathlib.Core.Bool.{Bool, true, false, not, _&&_, _||_}

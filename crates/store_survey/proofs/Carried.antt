@@ -1,4 +1,4 @@
--- One turn of the code's loop over the places, and its start. Assumes nothing.
+-- One turn of the code's loop over the places, and its start.
 use mathlib.Core.Path.{_≡_, refl, sym, _∙_, ap, subst}
 use mathlib.Core.List.{List}
 use mathlib.Core.Bool.{Bool, true, false}

@@ -1,4 +1,4 @@
--- The reader of load files meets what the store asks of a reader; its judgement is its number. Assumes nothing.
+-- The reader of load files meets what the store asks of a reader; its judgement is its number.
 use mathlib.Core.Path.{_≡_, refl, sym, _∙_, ap}
 use mathlib.Core.List.{List, []}
 use mathlib.Core.Bool.{Bool, true, false, not}

@@ -1,4 +1,4 @@
--- The spot that the code tells of some bytes is that of the item there; the items one by one; the end of the walk. Assumes nothing.
+-- The spot that the code tells of some bytes is that of the item there; the items one by one; the end of the walk.
 use mathlib.Core.Path.{_≡_, refl, sym, _∙_, ap, subst}
 use mathlib.Core.List.{List, [], _∷_, _++_}
 use mathlib.Core.Bool.{Bool, true, false, _&&_, _||_}

@@ -1,4 +1,4 @@
--- One turn of the walk: what is left to tell agrees with what was to tell. Assumes nothing.
+-- One turn of the walk: what is left to tell agrees with what was to tell.
 use mathlib.Core.Path.{_≡_, refl, sym, _∙_, ap}
 use mathlib.Core.List.{List, _∷_}
 use mathlib.Core.Bool.{Bool, true, false, not, _&&_, _||_}

@@ -1,4 +1,4 @@
--- Each promise of a public function has one answer. Assumes nothing.
+-- Each promise of a public function has one answer.
 use mathlib.Core.Path.{_≡_}
 use mathlib.Core.List.{List}
 use Prim.Native.Nat.{ℕ}

@@ -1,4 +1,4 @@
--- The walk as the code makes it: letters met, and a run that is looked for, carried from item to item. Assumes nothing.
+-- The walk as the code makes it: letters met, and a run that is looked for, carried from item to item.
 use mathlib.Core.Path.{_≡_, refl, sym, _∙_, ap}
 use mathlib.Core.List.{List, [], _∷_}
 use mathlib.Core.Bool.{Bool, true, false, not, _&&_, _||_}

@@ -1,4 +1,4 @@
--- The walk over the places as the code makes it, a spot at a time. Nobody has to believe these. Assumes nothing.
+-- The walk over the places as the code makes it, a spot at a time. Nobody has to believe these.
 use mathlib.Core.List.{List}
 use mathlib.Core.Bool.{Bool, true, false, not, _&&_}
 use Prim.Native.Nat.{ℕ, _+_, _*_, _-_}

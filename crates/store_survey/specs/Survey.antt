@@ -1,4 +1,4 @@
--- What a walk over the places of a block tells, for a letter and a file of n blocks. Assumes nothing.
+-- What a walk over the places of a block tells, for a letter and a file of n blocks.
 use mathlib.Core.List.{List, [], _∷_}
 use mathlib.Core.Bool.{Bool, false}
 use Prim.Native.Nat.{ℕ, _+_}

@@ -1,4 +1,4 @@
--- A call on a store, way by way. Assumes nothing.
+-- A call on a store, way by way.
 use mathlib.Core.Path.{_≡_, refl, sym, ap, _∙_, subst}
 use mathlib.Core.Bool.{Bool, true, false}
 use mathlib.Core.List.{List, [], _++_}

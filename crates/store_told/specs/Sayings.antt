@@ -1,5 +1,4 @@
 -- What is said of a call on a store: the words of the call, what is asked of the part, and the line, the file or the image that comes of it.
--- Assumes nothing.
 use mathlib.Core.Bool.{Bool, true, false, not, _||_}
 use mathlib.Core.List.{List, [], _++_}
 use Prim.Native.Nat.{ℕ, min}

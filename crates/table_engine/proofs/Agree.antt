@@ -1,4 +1,4 @@
--- The second engine decides as the first, whatever the cycle, the state and the lengths. Assumes nothing.
+-- The second engine decides as the first, whatever the cycle, the state and the lengths.
 use mathlib.Core.Path.{_≡_, refl, sym, ap, _∙_}
 use mathlib.Core.Bool.{Bool, true, false}
 use mathlib.Core.List.{List}

@@ -1,4 +1,4 @@
--- Both engines agree on every cycle, state and lent array. Assumes nothing.
+-- Both engines agree on every cycle, state and lent array.
 use mathlib.Core.Path.{_≡_}
 use mathlib.Core.List.{List}
 use Prim.Native.Nat.{ℕ}

@@ -1,4 +1,4 @@
--- What the second engine's answer tells by its cases is what its cycle tells. Assumes nothing.
+-- What the second engine's answer tells by its cases is what its cycle tells.
 use mathlib.Core.Path.{_≡_, ap, _∙_}
 use mathlib.Core.List.{List}
 use Prim.Native.Nat.{ℕ}

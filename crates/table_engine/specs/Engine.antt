@@ -1,4 +1,4 @@
--- One bus cycle by the second engine: what a write asks for is read off the table; the rest is the first engine's. Assumes nothing.
+-- One bus cycle by the second engine: what a write asks for is read off the table; the rest is the first engine's.
 use mathlib.Core.List.{List}
 use Prim.Native.Nat.{ℕ}
 use lib.Dec.{eqb}

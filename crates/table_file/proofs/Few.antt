@@ -1,4 +1,4 @@
--- A text has no more knots than letters, and what it says of a table counts one more line at most. Assumes nothing.
+-- A text has no more knots than letters, and what it says of a table counts one more line at most.
 use mathlib.Core.Path.{_≡_, ap}
 use mathlib.Core.List.{List, [], _∷_}
 use Prim.Native.Nat.{ℕ, _+_, _≤_}

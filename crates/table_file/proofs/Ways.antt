@@ -1,4 +1,4 @@
--- What is said of a payload, of a text and of a call, way by way. Assumes nothing.
+-- What is said of a payload, of a text and of a call, way by way.
 use mathlib.Core.Path.{_≡_, refl, sym, ap, _∙_}
 use mathlib.Core.Bool.{Bool, true, false}
 use mathlib.Core.List.{List}

@@ -1,4 +1,4 @@
--- The load file of a table in text, or why there is none. Assumes nothing.
+-- The load file of a table in text, or why there is none.
 use mathlib.Core.List.{List, _++_}
 use Prim.Native.Nat.{ℕ, _+_, _*_}
 use lib.Dec.{eqb, ltb}

@@ -1,4 +1,4 @@
--- A table's lines, laid one behind the other, and what is said of a file, way by way. Assumes nothing.
+-- A table's lines, laid one behind the other, and what is said of a file, way by way.
 use mathlib.Core.Path.{_≡_, refl, sym, ap, _∙_, subst}
 use mathlib.Core.Bool.{true, false}
 use mathlib.Core.List.{List, _++_}

@@ -1,4 +1,4 @@
--- A whole table as text. Assumes nothing.
+-- A whole table as text.
 use mathlib.Core.List.{List, [], _++_}
 use Prim.Native.Nat.{ℕ, zero, suc, _+_}
 use Rattle.reading_table.specs.Table.{knots, voltsOf, tenthsOf}

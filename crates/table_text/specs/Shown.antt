@@ -1,4 +1,4 @@
--- The table of a load file as text, or why there is none. Assumes nothing.
+-- The table of a load file as text, or why there is none.
 use mathlib.Core.List.{List, _++_}
 use Prim.Native.Nat.{ℕ}
 use lib.Dec.{eqb}

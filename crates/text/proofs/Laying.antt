@@ -1,4 +1,4 @@
--- Text laid behind text, as far as there is room. Assumes nothing.
+-- Text laid behind text, as far as there is room.
 use mathlib.Core.Path.{_≡_, refl, sym, ap, ap₂, _∙_}
 use mathlib.Core.Bool.{Bool, true, false}
 use mathlib.Core.List.{List, [], _++_, append-assoc, append-nil}

@@ -1,4 +1,4 @@
--- Laws of numbers spelled: digit by digit, how long they are, and their last digits. Assumes nothing.
+-- Laws of numbers spelled: digit by digit, how long they are, and their last digits.
 use mathlib.Core.Path.{_≡_, refl, sym, ap, _∙_}
 use mathlib.Core.List.{List, [], _∷_, _++_, append-assoc}
 use Prim.Native.Nat.{ℕ, zero, suc, _+_, _-_, _/_, _%_, _≤_, _<_}

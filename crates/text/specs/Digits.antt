@@ -1,4 +1,4 @@
--- Digits, and numbers spelled by them. Assumes nothing.
+-- Digits, and numbers spelled by them.
 use mathlib.Core.Bool.{Bool, _&&_, _||_}
 use mathlib.Core.List.{List, [], _∷_}
 use Prim.Native.Nat.{ℕ, zero, suc, _+_, _/_, _%_}

@@ -1,4 +1,4 @@
--- Text written into lent bytes, piece behind piece. Assumes nothing.
+-- Text written into lent bytes, piece behind piece.
 use mathlib.Core.Path.{_≡_}
 use mathlib.Core.List.{List, [], _∷_, _++_}
 use Prim.Native.Nat.{ℕ, zero, suc, _+_, _≤_, min}

@@ -1,4 +1,4 @@
--- Forms of lines: what a list that is of a form has at each place, over any form. Assumes nothing.
+-- Forms of lines: what a list that is of a form has at each place, over any form.
 use mathlib.Core.Path.{_≡_, refl, sym, ap}
 use mathlib.Core.Bool.{Bool, true, false, _&&_}
 use mathlib.Core.List.{List, [], _∷_}

@@ -1,4 +1,4 @@
--- A form tested as the code tests it: the length first, then the places one by one, in runs. Assumes nothing.
+-- A form tested as the code tests it: the length first, then the places one by one, in runs.
 use mathlib.Core.Path.{_≡_, refl, sym, ap, _∙_}
 use mathlib.Core.Bool.{Bool, true, false, _&&_, and-assoc, and-comm}
 use mathlib.Core.List.{List, [], _∷_}

@@ -1,5 +1,5 @@
 -- How the code tests a line: the length first, then its places in four runs. Not part of what a buyer must believe: that these tests
--- together are `isLine` is proved (`line-runs`). Assumes nothing.
+-- together are `isLine` is proved (`line-runs`).
 use mathlib.Core.Bool.{Bool, _&&_}
 use mathlib.Core.List.{List, [], _∷_}
 use Prim.Native.Nat.{ℕ, suc}

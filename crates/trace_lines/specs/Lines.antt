@@ -1,4 +1,4 @@
--- The lines of a trace: their form, the cycle that one states, and how a cycle is printed. Assumes nothing.
+-- The lines of a trace: their form, the cycle that one states, and how a cycle is printed.
 use mathlib.Core.Path.{_≡_}
 use mathlib.Core.Bool.{Bool, true, false, _&&_, _||_}
 use mathlib.Core.List.{List, [], _∷_}

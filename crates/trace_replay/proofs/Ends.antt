@@ -1,4 +1,4 @@
--- The ways in which a replay goes on and ends, one law each. Assumes nothing.
+-- The ways in which a replay goes on and ends, one law each.
 use mathlib.Core.Path.{_≡_, refl, ap, _∙_}
 use mathlib.Core.Bool.{true, false}
 use mathlib.Core.List.{List, [], _++_}

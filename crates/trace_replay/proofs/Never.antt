@@ -1,4 +1,4 @@
--- Bench T with its own lengths in a proper state: what is left of the table of refusals, and that a step keeps it so. Assumes nothing.
+-- Bench T with its own lengths in a proper state: what is left of the table of refusals, and that a step keeps it so.
 use mathlib.Core.Path.{_≡_, refl, sym, ap, _∙_}
 use mathlib.Core.Bool.{Bool, true, false, _&&_, _||_}
 use mathlib.Core.List.{List, _∷_}

@@ -1,4 +1,4 @@
--- The answers to the good lines: a turn of the loop that writes them, their length, and the whole output that they begin. Assumes nothing.
+-- The answers to the good lines: a turn of the loop that writes them, their length, and the whole output that they begin.
 use mathlib.Core.Path.{_≡_, refl, sym, ap, _∙_, subst}
 use mathlib.Core.Bool.{Bool, true, false}
 use mathlib.Core.List.{List, [], _++_, append-assoc, append-nil}

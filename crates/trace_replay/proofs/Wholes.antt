@@ -1,4 +1,4 @@
--- A whole trace, from the count of its good lines and the length of its end. Assumes nothing.
+-- A whole trace, from the count of its good lines and the length of its end.
 use mathlib.Core.Path.{_≡_, sym, ap, _∙_, subst}
 use mathlib.Core.List.{List, _++_}
 use Prim.Native.Nat.{ℕ, _+_, _-_, _*_, _≤_, _<_}

@@ -1,4 +1,4 @@
--- What a trace prints: the answer to a line, and the mark that ends a trace. Assumes nothing.
+-- What a trace prints: the answer to a line, and the mark that ends a trace.
 use mathlib.Core.List.{List, [], _∷_}
 use Prim.Native.Nat.{ℕ, _/_, _%_}
 use lib.Dec.{eqb}

@@ -1,4 +1,4 @@
--- A whole trace replayed: its output, the array that it leaves, and both where the room is too short. Assumes nothing.
+-- A whole trace replayed: its output, the array that it leaves, and both where the room is too short.
 use mathlib.Core.Bool.{false}
 use mathlib.Core.Path.{_≡_}
 use mathlib.Core.List.{List, [], _++_}

@@ -1,4 +1,4 @@
--- The walk of a trace from the count of its good lines: the state, a turn of the loop that makes it, and the bad line. Assumes nothing.
+-- The walk of a trace from the count of its good lines: the state, a turn of the loop that makes it, and the bad line.
 use mathlib.Core.Path.{_≡_, refl, sym, ap, _∙_, subst}
 use mathlib.Core.Bool.{Bool, true, false}
 use mathlib.Core.List.{List, [], _∷_}

@@ -1,4 +1,4 @@
--- How the code goes: the lines are counted first, then so many are replayed. Not part of what a buyer must believe. Assumes nothing.
+-- How the code goes: the lines are counted first, then so many are replayed. Not part of what a buyer must believe.
 use mathlib.Core.List.{List}
 use Prim.Native.Nat.{ℕ, zero, suc}
 use lib.ListN.{take, drop}

@@ -1,4 +1,4 @@
--- The wear that a whole trace leaves: the counts of its last state, or its first bad line. Assumes nothing.
+-- The wear that a whole trace leaves: the counts of its last state, or its first bad line.
 use mathlib.Core.List.{List, [], _∷_}
 use Prim.Native.Nat.{ℕ, zero, suc}
 use lib.Dec.{eqb}

@@ -1,4 +1,4 @@
--- What is claimed of the wear that a trace's text leaves, in one place. Assumes nothing.
+-- What is claimed of the wear that a trace's text leaves, in one place.
 use mathlib.Core.Path.{_≡_}
 use mathlib.Core.List.{List, _++_}
 use Prim.Native.Nat.{ℕ, _*_, _≤_, _<_}

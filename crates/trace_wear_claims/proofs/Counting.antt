@@ -1,4 +1,4 @@
--- The walk of a trace's text is the history of the cycles that its lines state. Assumes nothing.
+-- The walk of a trace's text is the history of the cycles that its lines state.
 use mathlib.Core.Path.{_≡_, refl, sym, ap, _∙_}
 use mathlib.Core.Bool.{Bool, true, false}
 use mathlib.Core.List.{List, [], _∷_, _++_}

@@ -1,4 +1,4 @@
--- Texts of traces as traces of cycles: the cycles that their lines state. Assumes nothing.
+-- Texts of traces as traces of cycles: the cycles that their lines state.
 use mathlib.Core.List.{List, [], _∷_}
 use Prim.Native.Nat.{ℕ, zero, suc}
 use lib.Dec.{eqb}

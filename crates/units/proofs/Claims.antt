@@ -1,4 +1,4 @@
--- What is claimed of units, in one place. Assumes nothing.
+-- What is claimed of units, in one place.
 use Prim.Native.Nat.{ℕ, _≤_, _<_}
 use mathlib.Core.Path.{_≡_}
 use mathlib.Core.Bool.{Bool}

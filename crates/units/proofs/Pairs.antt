@@ -1,4 +1,4 @@
--- Laws of the words that bytes make. Assumes nothing.
+-- Laws of the words that bytes make.
 use Prim.Native.Nat.{ℕ, zero, suc, _+_, _*_, _≤_, _<_}
 use mathlib.Core.Path.{_≡_, refl, ap}
 use mathlib.Core.List.{List, [], _∷_, _++_}

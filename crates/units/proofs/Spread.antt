@@ -1,4 +1,4 @@
--- A part of a list, put back after it was filled or copied over. Assumes nothing.
+-- A part of a list, put back after it was filled or copied over.
 use mathlib.Core.Path.{_≡_, sym, ap, _∙_}
 use mathlib.Core.List.{List, _++_}
 use Prim.Native.Nat.{ℕ, _+_, _-_, _≤_}

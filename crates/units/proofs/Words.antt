@@ -1,4 +1,4 @@
--- A word read, written and programmed by its two bytes; words laid over words. Assumes nothing.
+-- A word read, written and programmed by its two bytes; words laid over words.
 use Prim.Native.Nat.{ℕ, zero, suc, _+_, _*_, _/_, _%_, _≤_, _<_, min}
 use mathlib.Core.Path.{_≡_, refl, sym, ap, ap₂, subst, _∙_}
 use mathlib.Core.List.{List, [], _∷_, _++_}

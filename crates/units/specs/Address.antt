@@ -1,4 +1,4 @@
--- Word addresses and byte addresses: neither stands for the other, and this is the one way from one to the other. Assumes nothing.
+-- Word addresses and byte addresses: neither stands for the other, and this is the one way from one to the other.
 use mathlib.Core.Bool.{Bool, true, false}
 use Prim.Native.Nat.{ℕ, _+_, _*_}
 use Rattle.common.specs.Choice.{if_then_else_}

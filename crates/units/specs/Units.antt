@@ -1,5 +1,5 @@
 -- Units of lent bytes, by the width (false: byte mode, true: word mode). A unit is what one cycle carries: a byte, or in word mode a
--- word, its low byte first. Assumes nothing.
+-- word, its low byte first.
 use mathlib.Core.Bool.{Bool, true, false, _&&_}
 use mathlib.Core.List.{List, [], _∷_}
 use Prim.Native.Nat.{ℕ, _+_, _*_, _/_, _%_}

@@ -1,4 +1,4 @@
--- What is claimed of letters, in one place: a letter that is written is read back. Assumes nothing.
+-- What is claimed of letters, in one place: a letter that is written is read back.
 use mathlib.Core.Path.{_≡_, refl}
 use Rattle.model_types.specs.declared.Mode.{Mode}
 use Rattle.model_types.specs.declared.Mode.the-variants.{Array, Status, Identifier}

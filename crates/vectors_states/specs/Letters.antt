@@ -1,4 +1,4 @@
--- Modes and phases as letters, and a row's state, counts and device. Assumes nothing.
+-- Modes and phases as letters, and a row's state, counts and device.
 use Prim.Native.Nat.{ℕ, _+_, _%_}
 use mathlib.Core.Bool.{Bool}
 use mathlib.Core.List.{List}

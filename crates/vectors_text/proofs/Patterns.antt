@@ -1,4 +1,4 @@
--- Laws of patterns of bytes. Assumes nothing.
+-- Laws of patterns of bytes.
 use mathlib.Core.Path.{_≡_, refl, sym, _∙_, ap}
 use mathlib.Core.List.{List, _∷_}
 use Prim.Native.Nat.{ℕ, zero, suc, _+_, _-_, _%_, _<_}

@@ -1,4 +1,4 @@
--- Laws of numbers read off text, and of where a row ends. Assumes nothing.
+-- Laws of numbers read off text, and of where a row ends.
 use mathlib.Core.Path.{_≡_, refl, sym, _∙_, ap}
 use mathlib.Core.Bool.{Bool, true, false}
 use mathlib.Core.List.{List}

@@ -1,4 +1,4 @@
--- Digests of bytes and patterns of bytes. Assumes nothing.
+-- Digests of bytes and patterns of bytes.
 use mathlib.Core.List.{List, [], _∷_}
 use Prim.Native.Nat.{ℕ, zero, suc, _+_, _*_, _%_}
 use Rattle.vectors_text.specs.Text.{walk}

@@ -1,4 +1,4 @@
--- Numbers read off text, and where a row ends. Assumes nothing.
+-- Numbers read off text, and where a row ends.
 use mathlib.Core.List.{List, [], _∷_}
 use Prim.Native.Nat.{ℕ, suc, _+_, _*_, _%_}
 use lib.Dec.{eqb}

@@ -1,4 +1,4 @@
--- A call's answer, way by way, and a part of a slice lent. Assumes nothing.
+-- A call's answer, way by way, and a part of a slice lent.
 use mathlib.Core.Path.{_≡_, sym, ap, _∙_}
 use mathlib.Core.Bool.{true, false}
 use mathlib.Core.List.{List, _++_}

@@ -1,4 +1,4 @@
--- The line that a verify prints: what is asked, the verify itself, and its result in words. Assumes nothing.
+-- The line that a verify prints: what is asked, the verify itself, and its result in words.
 use mathlib.Core.Bool.{Bool, false, not, _&&_, _||_}
 use mathlib.Core.List.{List, [], _++_}
 use Prim.Native.Nat.{ℕ, min}

@@ -1,4 +1,4 @@
--- One trace after the other comes to the line of the whole list, and the order does not matter. Assumes nothing.
+-- One trace after the other comes to the line of the whole list, and the order does not matter.
 use mathlib.Core.Path.{_≡_, refl, sym, ap, _∙_}
 use mathlib.Core.Bool.{Bool, true, false}
 use mathlib.Core.List.{List, [], _∷_, _++_}

@@ -1,4 +1,4 @@
--- When a report is refused, and what comes back then. Assumes nothing.
+-- When a report is refused, and what comes back then.
 use mathlib.Core.Path.{_≡_, refl, sym, _∙_, ap}
 use mathlib.Core.Bool.{Bool, true, false}
 use mathlib.Core.List.{List}

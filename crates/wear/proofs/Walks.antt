@@ -1,4 +1,4 @@
--- The walks of a report: over the device numbers, and over the traces. Assumes nothing.
+-- The walks of a report: over the device numbers, and over the traces.
 use mathlib.Core.Path.{_≡_, refl, ap, sym, _∙_}
 use mathlib.Core.Bool.{Bool, true, false, not, _||_}
 use mathlib.Core.List.{List, _∷_}

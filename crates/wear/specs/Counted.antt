@@ -1,4 +1,4 @@
--- What a report says of one block, from the list of its counts, a count a trace. Assumes nothing.
+-- What a report says of one block, from the list of its counts, a count a trace.
 use mathlib.Core.List.{List, [], _∷_}
 use Prim.Native.Nat.{ℕ, zero, suc, _+_, _≤_, _<_, min, max}
 use lib.Dec.{ltb}

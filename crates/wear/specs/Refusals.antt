@@ -1,5 +1,5 @@
 -- What a report refuses: 1 an unknown device number, 11 counts that are not seven for each trace, 47 over 65,535 traces, 48 a trace from
--- another device number. Assumes nothing.
+-- another device number.
 use mathlib.Core.Bool.{Bool, true, false, not}
 use mathlib.Core.List.{List, [], _∷_}
 use Prim.Native.Nat.{ℕ, _*_}

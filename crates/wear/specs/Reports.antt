@@ -1,4 +1,4 @@
--- The report on the wear of traces, one trace after the other, from the counts of their last states. Assumes nothing.
+-- The report on the wear of traces, one trace after the other, from the counts of their last states.
 use mathlib.Core.Bool.{Bool}
 use mathlib.Core.List.{List, [], _∷_}
 use Prim.Native.Nat.{ℕ, zero, suc, _+_, _-_, _*_}

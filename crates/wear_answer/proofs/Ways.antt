@@ -1,4 +1,4 @@
--- What a trace comes to, way by way, and that no line leaves a slice as it is. Assumes nothing.
+-- What a trace comes to, way by way, and that no line leaves a slice as it is.
 use mathlib.Core.Path.{_≡_, sym, ap, ap₂, _∙_}
 use mathlib.Core.Bool.{Bool, true, false}
 use mathlib.Core.List.{List, []}

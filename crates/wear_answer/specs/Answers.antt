@@ -1,4 +1,4 @@
--- What the wear program says of traces: a line for each that is not counted, and the table where all are. Assumes nothing.
+-- What the wear program says of traces: a line for each that is not counted, and the table where all are.
 use mathlib.Core.Bool.{Bool, true, false, not, _&&_}
 use mathlib.Core.List.{List, []}
 use Prim.Native.Nat.{ℕ}

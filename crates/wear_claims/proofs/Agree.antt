@@ -1,4 +1,4 @@
--- The report from the stored counts and the one from the cycles. Assumes nothing.
+-- The report from the stored counts and the one from the cycles.
 use mathlib.Core.Path.{_≡_, refl, sym, ap, subst, _∙_}
 use mathlib.Core.Bool.{Bool, true, false}
 use mathlib.Core.List.{List, [], _∷_}

@@ -1,4 +1,4 @@
--- The report over slices is the report on the traces, and the order of traces does not matter anywhere. Assumes nothing.
+-- The report over slices is the report on the traces, and the order of traces does not matter anywhere.
 use mathlib.Core.Path.{_≡_, refl, sym, ap, _∙_}
 use mathlib.Core.Bool.{true, false}
 use mathlib.Core.List.{List, [], _∷_, _++_, append-assoc}

@@ -1,4 +1,4 @@
--- The report on traces, defined from their cycles. Assumes nothing.
+-- The report on traces, defined from their cycles.
 use mathlib.Core.Path.{_≡_}
 use mathlib.Core.List.{List, [], _∷_}
 use Prim.Native.Nat.{ℕ, _≤_, min}

@@ -1,4 +1,4 @@
--- Text laid behind text from a place on, and the count of a number's digits, turn by turn. Assumes nothing.
+-- Text laid behind text from a place on, and the count of a number's digits, turn by turn.
 use mathlib.Core.Path.{_≡_, refl, sym, ap, ap₂, _∙_}
 use mathlib.Core.List.{List, [], _∷_, _++_, append-assoc}
 use Prim.Native.Nat.{ℕ, zero, suc, _+_, _-_, _/_, _%_, _≤_, _<_}

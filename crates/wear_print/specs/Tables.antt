@@ -1,5 +1,5 @@
 -- The report on wear as a table in text: a header, and a line for each of bench T's four blocks; and the line of a
--- trace that is not in it. Assumes nothing.
+-- trace that is not in it.
 use mathlib.Core.List.{List, [], _∷_, _++_}
 use Prim.Native.Nat.{ℕ, zero, suc, _/_}
 use lib.Dec.{ltb}

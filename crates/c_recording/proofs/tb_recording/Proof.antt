@@ -1,6 +1,6 @@
 -- `tb_recording` meets its promise: its code is walked by hand, since a lent slice of structs is not covered. `begun` is called; in each
 -- turn the list is looked into, the numbers of one record are copied out, the list is shut again, the array is lent on and `gone_on` is
--- called; behind the loop the array is lent on once more and `ended` is called. Assumes nothing.
+-- called; behind the loop the array is lent on once more and `ended` is called.
 use mathlib.Core.Path.{_≡_, refl, ap, sym, subst, _∙_}
 use mathlib.Core.Logic.{⊎-elim, _⊎_, inl, inr}
 use Prim.Native.Nat.{ℕ, _+_, _-_, _*_, _≤_, _<_, _^_}

@@ -1,4 +1,4 @@
--- `common::nth` meets its contract. Assumes nothing.
+-- `common::nth` meets its contract.
 use mathlib.Core.Path.{sym}
 use borrow.Author.Needs.{needs}
 use lib.ListN.{List·getD-eq-default}

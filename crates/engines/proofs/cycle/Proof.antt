@@ -1,4 +1,4 @@
--- `engines::cycle` meets its contract: by the table, because the engines agree. Assumes nothing.
+-- `engines::cycle` meets its contract: by the table, because the engines agree.
 use mathlib.Core.Path.{_∙_}
 use Rattle.units.specs.Units.{units, lent}
 use Rattle.model.proofs.Told.{answer-too}

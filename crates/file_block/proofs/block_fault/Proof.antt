@@ -1,4 +1,4 @@
--- `file_block::block_fault` meets its contract. Assumes nothing.
+-- `file_block::block_fault` meets its contract.
 use borrow.Author.Needs.{needs}
 use borrow.Author.Tests.{eq-eqb, ne-eqb}
 use mathlib.Core.Path.{sym, _∙_}

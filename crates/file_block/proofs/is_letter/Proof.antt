@@ -1,4 +1,4 @@
--- `file_block::is_letter` meets its contract. Assumes nothing.
+-- `file_block::is_letter` meets its contract.
 use borrow.Author.Needs.{needs}
 use Rattle.file_block.specs.Block.{isLetter}
 use Rattle.file_block.proofs.is_letter.Statement.{statement}

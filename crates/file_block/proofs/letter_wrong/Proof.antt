@@ -1,4 +1,4 @@
--- `file_block::letter_wrong` meets its contract. Assumes nothing.
+-- `file_block::letter_wrong` meets its contract.
 use borrow.Author.Needs.{needs}
 use Rattle.file_block.specs.Block.{letterWrong}
 use Rattle.file_block.proofs.letter_wrong.Statement.{statement}

@@ -1,4 +1,4 @@
--- `file_block::one_of` meets its contract: what was passed is not x, so x is looked for in the rest. Assumes nothing.
+-- `file_block::one_of` meets its contract: what was passed is not x, so x is looked for in the rest.
 use mathlib.Core.Path.{_≡_, refl, sym, ap, _∙_}
 use Prim.Native.Nat.{_≤_, _-_}
 use native.Mathlib.Omega.{arith}

@@ -1,4 +1,4 @@
--- `file_block::padding_wrong` meets its contract. Assumes nothing.
+-- `file_block::padding_wrong` meets its contract.
 use borrow.Author.Needs.{needs}
 use native.Mathlib.Omega.{arith}
 use mathlib.Core.Path.{_≡_, sym, ap, _∙_}

@@ -1,4 +1,4 @@
--- `file_block::place_wrong` meets its contract. Assumes nothing.
+-- `file_block::place_wrong` meets its contract.
 use borrow.Author.Needs.{needs}
 use Rattle.file_block.specs.Block.{placeWrong}
 use Rattle.file_block.proofs.place_wrong.Statement.{statement}

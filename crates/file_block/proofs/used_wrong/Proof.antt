@@ -1,4 +1,4 @@
--- `file_block::used_wrong` meets its contract. Assumes nothing.
+-- `file_block::used_wrong` meets its contract.
 use borrow.Author.Needs.{needs}
 use borrow.Author.Tests.{eq-eqb, ne-eqb}
 use Rattle.file_block.specs.Block.{usedWrong}

@@ -1,4 +1,4 @@
--- `file_check::all_ff` meets its contract: what was passed is FFH, so the rest decides. Assumes nothing.
+-- `file_check::all_ff` meets its contract: what was passed is FFH, so the rest decides.
 use mathlib.Core.Path.{_≡_, refl, sym, ap, _∙_}
 use Prim.Native.Nat.{_≤_, _-_}
 use native.Mathlib.Omega.{arith}

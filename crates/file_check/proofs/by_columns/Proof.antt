@@ -1,4 +1,4 @@
--- `by_columns` meets its contract: the columns hold the sums of the bytes from the place on. Assumes nothing.
+-- `by_columns` meets its contract: the columns hold the sums of the bytes from the place on.
 use mathlib.Core.Path.{_≡_, refl}
 use Prim.Native.Nat.{_≤_, _%_}
 use native.Mathlib.Omega.{arith}

@@ -1,4 +1,4 @@
--- `check` meets its contract: the part that is handed over is the first 510 bytes. Assumes nothing.
+-- `check` meets its contract: the part that is handed over is the first 510 bytes.
 use borrow.Author.Needs.{needs}
 use mathlib.Core.Path.{_∙_, ap}
 use native.Mathlib.Omega.{arith}

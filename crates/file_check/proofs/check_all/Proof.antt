@@ -1,4 +1,4 @@
--- `check_all` meets its contract: running sums of the bytes from a place on are what the weighted sum makes of them. Assumes nothing.
+-- `check_all` meets its contract: running sums of the bytes from a place on are what the weighted sum makes of them.
 use borrow.Author.Needs.{needs}
 use mathlib.Core.Path.{_≡_, _∙_, ap, subst}
 use Prim.Native.Nat.{ℕ, _≤_, _<_, _+_, _*_, _-_, _%_}

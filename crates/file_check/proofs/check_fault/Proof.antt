@@ -1,4 +1,4 @@
--- `file_check::check_fault` meets its contract. Assumes nothing.
+-- `file_check::check_fault` meets its contract.
 use borrow.Author.Needs.{needs}
 use mathlib.Core.Path.{_≡_, sym, _∙_}
 use lib.ListN.{take}

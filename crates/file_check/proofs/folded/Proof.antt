@@ -1,4 +1,4 @@
--- `folded` meets its contract. Assumes nothing.
+-- `folded` meets its contract.
 use borrow.Author.Needs.{needs}
 use native.Mathlib.Omega.{arith}
 use Prim.Native.Nat.{_/_, _<_}

@@ -1,4 +1,4 @@
--- `four` meets its contract. Assumes nothing.
+-- `four` meets its contract.
 use borrow.Author.Needs.{needs}
 use native.Mathlib.Omega.{arith}
 use Prim.Native.Nat.{_≤_, _+_}

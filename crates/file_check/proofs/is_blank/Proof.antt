@@ -1,4 +1,4 @@
--- `file_check::is_blank` meets its contract. Assumes nothing.
+-- `file_check::is_blank` meets its contract.
 use borrow.Author.Needs.{needs}
 use mathlib.Core.Path.{_∙_}
 use Rattle.file_check.proofs.Verdicts.{blank-short, blank-whole}

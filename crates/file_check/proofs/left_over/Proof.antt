@@ -1,4 +1,4 @@
--- `left_over` meets its contract: two folds and one subtraction. Assumes nothing.
+-- `left_over` meets its contract: two folds and one subtraction.
 use borrow.Author.Needs.{needs}
 use Rattle.file_check.proofs.Sums.{folds, folds-small}
 use Rattle.file_check.proofs.left_over.Statement.{statement}

@@ -1,4 +1,4 @@
--- `weighed` meets its contract. Assumes nothing.
+-- `weighed` meets its contract.
 use borrow.Author.Needs.{needs}
 use native.Mathlib.Omega.{arith}
 use Rattle.file_check.proofs.weighed.Statement.{statement}

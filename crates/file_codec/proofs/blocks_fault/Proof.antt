@@ -1,4 +1,4 @@
--- `file_codec::blocks_fault` meets its contract: the blocks passed are right, so the rest decides. Assumes nothing.
+-- `file_codec::blocks_fault` meets its contract: the blocks passed are right, so the rest decides.
 use mathlib.Core.Path.{_≡_, sym, ap, _∙_}
 use mathlib.Core.List.{[]}
 use Prim.Native.Nat.{ℕ, _≤_, _-_, _+_, _*_}

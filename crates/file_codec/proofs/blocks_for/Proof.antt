@@ -1,4 +1,4 @@
--- `blocks_for` meets its contract: each step keeps what is counted and what is left together. Assumes nothing.
+-- `blocks_for` meets its contract: each step keeps what is counted and what is left together.
 use borrow.Author.Needs.{needs}
 use Prim.Native.Nat.{_+_, _/_, _<_}
 use native.Mathlib.Omega.{arith}

@@ -1,4 +1,4 @@
--- `file_codec::length_wrong` meets its contract. Assumes nothing.
+-- `file_codec::length_wrong` meets its contract.
 use borrow.Author.Needs.{needs}
 use mathlib.Core.Path.{refl}
 use Rattle.file_codec.specs.File.{lengthWrong}

@@ -1,4 +1,4 @@
--- `file_codec::pack` meets its contract: the blocks written and the blocks left to write make up the file. Assumes nothing.
+-- `file_codec::pack` meets its contract: the blocks written and the blocks left to write make up the file.
 use mathlib.Core.Path.{_≡_, refl, ap, _∙_}
 use mathlib.Core.List.{_++_}
 use Prim.Native.Nat.{ℕ, _≤_, _-_, _+_, _*_, min}

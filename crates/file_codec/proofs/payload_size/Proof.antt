@@ -1,4 +1,4 @@
--- `file_codec::payload_size` meets its contract. Assumes nothing.
+-- `file_codec::payload_size` meets its contract.
 use borrow.Author.Needs.{needs}
 use mathlib.Core.Path.{_≡_, ap, _∙_}
 use Prim.Native.Nat.{ℕ, _+_, _-_, _*_}

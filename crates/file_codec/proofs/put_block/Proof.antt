@@ -1,4 +1,4 @@
--- `file_codec::put_block` meets its contract. Assumes nothing.
+-- `file_codec::put_block` meets its contract.
 use borrow.Author.Needs.{needs}
 use Rattle.file_codec.proofs.Parts.{block-put}
 use native.Mathlib.Omega.{arith}

@@ -1,4 +1,4 @@
--- `file_codec::put_check` meets its contract. Assumes nothing.
+-- `file_codec::put_check` meets its contract.
 use borrow.Author.Needs.{needs}
 use mathlib.Core.List.{[], _∷_, _++_}
 use Prim.Native.Nat.{ℕ, _/_, _%_}

@@ -1,4 +1,4 @@
--- `file_codec::put_head` meets its contract. Assumes nothing.
+-- `file_codec::put_head` meets its contract.
 use borrow.Author.Needs.{needs}
 use mathlib.Core.List.{[], _∷_}
 use Prim.Native.Nat.{_<_, _/_, _%_}

@@ -1,4 +1,4 @@
--- `file_codec::read` meets its contract: the judgement, the room, and the payload in the front of the buffer. Assumes nothing.
+-- `file_codec::read` meets its contract: the judgement, the room, and the payload in the front of the buffer.
 use borrow.Author.Needs.{needs}
 use mathlib.Core.Path.{_≡_, sym, ap, _∙_}
 use Prim.Native.Nat.{ℕ, _/_}

@@ -1,4 +1,4 @@
--- `seven` meets its contract. Assumes nothing.
+-- `seven` meets its contract.
 use native.Mathlib.Omega.{arith}
 use Rattle.file_codec.proofs.Shifts.{eight-times}
 use Rattle.file_codec.proofs.seven.Statement.{statement}

@@ -1,4 +1,4 @@
--- `file_codec::unpack` meets its contract: what is copied so far lies in front of what was there. Assumes nothing.
+-- `file_codec::unpack` meets its contract: what is copied so far lies in front of what was there.
 use mathlib.Core.Path.{_≡_, refl, ap, _∙_}
 use mathlib.Core.List.{List, _++_, append-nil}
 use Prim.Native.Nat.{ℕ, _≤_, _-_, _+_, _*_, min}

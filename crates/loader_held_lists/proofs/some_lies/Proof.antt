@@ -1,4 +1,4 @@
--- `loader_held_lists::some_lies` meets its contract: what is left to look at is what was to look at. Assumes nothing.
+-- `loader_held_lists::some_lies` meets its contract: what is left to look at is what was to look at.
 use mathlib.Core.Path.{_≡_, refl, sym, ap, _∙_}
 use mathlib.Core.Bool.{Bool, true, false, _&&_, _||_}
 use Prim.Native.Nat.{ℕ, _+_, _-_, _≤_}

@@ -1,4 +1,4 @@
--- `loader_held_run::drive_held` meets its contract: what is left of the bound leads to the same end, and the cycles to go fall. Assumes nothing.
+-- `loader_held_run::drive_held` meets its contract: what is left of the bound leads to the same end, and the cycles to go fall.
 use mathlib.Core.Path.{_≡_, refl, sym, ap, _∙_, subst}
 use mathlib.Core.List.{List}
 use Prim.Native.Nat.{ℕ, _+_, _≤_}

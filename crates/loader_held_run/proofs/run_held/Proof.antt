@@ -1,4 +1,4 @@
--- `loader_held_run::run_held` meets its contract, by the laws of lent bytes. Assumes nothing.
+-- `loader_held_run::run_held` meets its contract, by the laws of lent bytes.
 use mathlib.Core.Path.{_≡_, refl, sym, ap, _∙_, subst}
 use Prim.Native.Nat.{_≤_}
 use lib.ListN.{length}

@@ -1,4 +1,4 @@
--- `loader_quick::both` meets its contract. Assumes nothing.
+-- `loader_quick::both` meets its contract.
 use mathlib.Core.Path.{_≡_, sym, ap, _∙_, subst}
 use mathlib.Core.Bool.{true}
 use mathlib.Core.List.{List}

@@ -1,4 +1,4 @@
--- `loader_quick::erased_from` meets its contract. Assumes nothing.
+-- `loader_quick::erased_from` meets its contract.
 use mathlib.Core.Path.{sym, _∙_}
 use Rattle.common.proofs.Choice.{if-true, if-false}
 use Rattle.model_types.specs.Counts.{worn}

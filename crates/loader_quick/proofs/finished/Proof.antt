@@ -1,4 +1,4 @@
--- `loader_quick::finished` meets its contract. Assumes nothing.
+-- `loader_quick::finished` meets its contract.
 use mathlib.Core.Path.{_∙_}
 use Prim.Native.Nat.{_+_}
 use Rattle.model_types.specs.States.{atRest}

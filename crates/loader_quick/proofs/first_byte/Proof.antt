@@ -1,4 +1,4 @@
--- `loader_quick::first_byte` meets its contract. Assumes nothing.
+-- `loader_quick::first_byte` meets its contract.
 use mathlib.Core.Path.{ap, _∙_}
 use Prim.Native.Nat.{ℕ}
 use native.Mathlib.Omega.{arith}

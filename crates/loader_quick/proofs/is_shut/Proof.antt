@@ -1,4 +1,4 @@
--- `loader_quick::is_shut` meets its contract. Assumes nothing.
+-- `loader_quick::is_shut` meets its contract.
 use Rattle.loader_run_claims.specs.Ends.{shut}
 use borrow.Author.Needs.{needs}
 use Rattle.loader_quick.proofs.is_shut.Statement.{statement}

@@ -1,4 +1,4 @@
--- `loader_quick::is_stuck` meets its contract. Assumes nothing.
+-- `loader_quick::is_stuck` meets its contract.
 use Rattle.loader_quick.specs.Quick.{stuckBy}
 use borrow.Author.Needs.{needs}
 use Rattle.loader_quick.proofs.is_stuck.Statement.{statement}

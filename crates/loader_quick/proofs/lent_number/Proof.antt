@@ -1,4 +1,4 @@
--- `loader_quick::lent_number` meets its contract. Assumes nothing.
+-- `loader_quick::lent_number` meets its contract.
 use mathlib.Core.Path.{_∙_}
 use Rattle.loader_run.specs.Runs.{runNumber}
 use borrow.Author.Needs.{needs}

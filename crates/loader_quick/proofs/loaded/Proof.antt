@@ -1,4 +1,4 @@
--- `loader_quick::loaded` meets its contract. Assumes nothing.
+-- `loader_quick::loaded` meets its contract.
 use mathlib.Core.Path.{_≡_, sym, _∙_}
 use mathlib.Core.Bool.{true, false}
 use mathlib.Core.List.{List}

@@ -1,4 +1,4 @@
--- `loader_quick::mode_by` meets its contract. Assumes nothing.
+-- `loader_quick::mode_by` meets its contract.
 use borrow.Author.Tests.{eq-eqb, ne-eqb}
 use Rattle.loader_quick.specs.Quick.{modeBy}
 use Rattle.loader_quick.proofs.mode_by.Statement.{statement}

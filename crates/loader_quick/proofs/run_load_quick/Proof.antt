@@ -1,4 +1,4 @@
--- `loader_quick::run_load_quick` meets its contract. Assumes nothing.
+-- `loader_quick::run_load_quick` meets its contract.
 use mathlib.Core.Path.{_≡_, sym, _∙_}
 use mathlib.Core.Bool.{false}
 use lib.ListN.{length}

@@ -1,4 +1,4 @@
--- `loader_quick::tried` meets its contract. Assumes nothing.
+-- `loader_quick::tried` meets its contract.
 use mathlib.Core.Path.{sym, ap, _∙_}
 use Prim.Native.Nat.{ℕ, _+_}
 use Rattle.common.proofs.Choice.{if-true, if-false}

@@ -1,4 +1,4 @@
--- `loader_quick::verdict` meets its contract. Assumes nothing.
+-- `loader_quick::verdict` meets its contract.
 use mathlib.Core.Path.{_≡_, sym, _∙_}
 use Prim.Native.Nat.{_+_, _%_}
 use native.Mathlib.Omega.{arith}

@@ -1,4 +1,4 @@
--- `loader_quick::worked` meets its contract. Assumes nothing.
+-- `loader_quick::worked` meets its contract.
 use mathlib.Core.Path.{_≡_, sym, ap, _∙_}
 use mathlib.Core.List.{List}
 use Prim.Native.Nat.{ℕ, _+_, _-_, _*_, _≤_}

@@ -1,4 +1,4 @@
--- `loader_run::drive` meets its contract: what is left of the bound leads to the same end, and the cycles to go fall. Assumes nothing.
+-- `loader_run::drive` meets its contract: what is left of the bound leads to the same end, and the cycles to go fall.
 use mathlib.Core.Path.{_≡_, refl, sym, ap, _∙_, subst}
 use Prim.Native.Nat.{ℕ, _-_, _≤_}
 use native.Mathlib.Omega.{arith}

@@ -1,4 +1,4 @@
--- `loader_run::run_at` meets its contract, by the laws of lent bytes. Assumes nothing.
+-- `loader_run::run_at` meets its contract, by the laws of lent bytes.
 use mathlib.Core.Path.{_≡_, refl, sym, ap, _∙_, subst}
 use lib.ListN.{length}
 use Rattle.units.specs.Units.{units}

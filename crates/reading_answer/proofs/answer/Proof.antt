@@ -1,4 +1,4 @@
--- `reading_answer::answer` meets its contract. Assumes nothing.
+-- `reading_answer::answer` meets its contract.
 use mathlib.Core.Path.{sym, ap, _∙_}
 use Prim.Native.Nat.{ℕ}
 use lib.IntN.{ℤ}

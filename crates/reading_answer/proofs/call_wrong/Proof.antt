@@ -1,4 +1,4 @@
--- `reading_answer::call_wrong` meets its contract. Assumes nothing.
+-- `reading_answer::call_wrong` meets its contract.
 use mathlib.Core.Path.{refl}
 use Rattle.reading_answer.specs.Lines.{callWrong}
 use Rattle.reading_answer.proofs.call_wrong.Statement.{statement}

@@ -1,4 +1,4 @@
--- `reading_answer::put_answer` meets its contract. Assumes nothing.
+-- `reading_answer::put_answer` meets its contract.
 use mathlib.Core.Path.{sym, ap, _∙_}
 use mathlib.Core.List.{List}
 use Prim.Native.Nat.{ℕ}

@@ -1,4 +1,4 @@
--- `reading_answer::put_degrees` meets its contract. Assumes nothing.
+-- `reading_answer::put_degrees` meets its contract.
 use denote.Ref.{now}
 use Rattle.text.specs.Writing.{bytes}
 use Rattle.text.proofs.Laying.{laid-first, laid-more}

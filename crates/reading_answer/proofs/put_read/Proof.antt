@@ -1,4 +1,4 @@
--- `reading_answer::put_read` meets its contract. Assumes nothing.
+-- `reading_answer::put_read` meets its contract.
 use mathlib.Core.Path.{ap, _∙_}
 use lib.IntN.{ℤ}
 use lib.ListN.{length}

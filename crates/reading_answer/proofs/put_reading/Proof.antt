@@ -1,4 +1,4 @@
--- `reading_answer::put_reading` meets its contract. Assumes nothing.
+-- `reading_answer::put_reading` meets its contract.
 use mathlib.Core.Path.{ap}
 use denote.Ref.{now}
 use Rattle.text.specs.Writing.{bytes}

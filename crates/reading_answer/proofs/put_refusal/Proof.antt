@@ -1,4 +1,4 @@
--- `reading_answer::put_refusal` meets its contract. Assumes nothing.
+-- `reading_answer::put_refusal` meets its contract.
 use mathlib.Core.List.{_++_}
 use denote.Ref.{now}
 use Rattle.text.specs.Writing.{bytes}

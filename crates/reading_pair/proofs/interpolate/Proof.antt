@@ -1,4 +1,4 @@
--- `interpolate` meets its contract: the operations of the code are those of the formula, in its order. Assumes nothing.
+-- `interpolate` meets its contract: the operations of the code are those of the formula, in its order.
 use mathlib.Core.Path.{refl}
 use Rattle.reading_pair.proofs.interpolate.Statement.{statement}
 use Rattle.reading_pair.proofs.interpolate.Tie as tie

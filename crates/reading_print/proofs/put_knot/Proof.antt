@@ -1,4 +1,4 @@
--- `reading_print::put_knot` meets its contract. Assumes nothing.
+-- `reading_print::put_knot` meets its contract.
 use mathlib.Core.Path.{_≡_, ap, ap₂, _∙_, subst}
 use mathlib.Core.List.{List, [], _∷_, _++_}
 use Prim.Native.Nat.{ℕ}

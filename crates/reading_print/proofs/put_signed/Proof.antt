@@ -1,4 +1,4 @@
--- `reading_print::put_signed` meets its contract. Assumes nothing.
+-- `reading_print::put_signed` meets its contract.
 use denote.Ref.{now}
 use Rattle.reading_print.proofs.Laying.{minus-laid, plain-laid}
 use borrow.Author.Needs.{needs}

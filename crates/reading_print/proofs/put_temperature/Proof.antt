@@ -1,4 +1,4 @@
--- `reading_print::put_temperature` meets its contract. Assumes nothing.
+-- `reading_print::put_temperature` meets its contract.
 use mathlib.Core.Path.{ap₂, subst}
 use mathlib.Core.Bool.{Bool}
 use mathlib.Core.List.{List, [], _∷_, _++_}

@@ -1,4 +1,4 @@
--- `below` meets its contract: the order is strict. Assumes nothing.
+-- `below` meets its contract: the order is strict.
 use mathlib.Core.Path.{ap₂}
 use lib.Signed.{ltZ}
 use mir.Syntax.{w32}

@@ -1,4 +1,4 @@
--- `recording_answer::apart_at` meets its contract: what was passed is the same, so the rest decides. Assumes nothing.
+-- `recording_answer::apart_at` meets its contract: what was passed is the same, so the rest decides.
 use mathlib.Core.Path.{_≡_}
 use Prim.Native.Nat.{_+_, _-_, _≤_, min}
 use native.Mathlib.Nat.{zero-add}

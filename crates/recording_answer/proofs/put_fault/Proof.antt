@@ -1,4 +1,4 @@
--- `recording_answer::put_fault` meets its contract. Assumes nothing.
+-- `recording_answer::put_fault` meets its contract.
 use denote.Ref.{now}
 use Rattle.text.proofs.Laying.{laid-first, laid-more}
 use Rattle.text.specs.Writing.{bytes}

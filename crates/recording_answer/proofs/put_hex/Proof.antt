@@ -1,4 +1,4 @@
--- `recording_answer::put_hex` meets its contract: the last of sixteen digits. Assumes nothing.
+-- `recording_answer::put_hex` meets its contract: the last of sixteen digits.
 use mathlib.Core.Path.{refl, ap, _∙_}
 use mathlib.Core.List.{List}
 use Prim.Native.Nat.{ℕ, _-_}

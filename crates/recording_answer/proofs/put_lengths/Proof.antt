@@ -1,4 +1,4 @@
--- `recording_answer::put_lengths` meets its contract. Assumes nothing.
+-- `recording_answer::put_lengths` meets its contract.
 use mathlib.Core.Path.{_≡_, sym, ap, _∙_}
 use mathlib.Core.List.{List}
 use Prim.Native.Nat.{ℕ}

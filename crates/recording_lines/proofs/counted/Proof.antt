@@ -1,4 +1,4 @@
--- `recording_lines::counted` meets its contract. Assumes nothing.
+-- `recording_lines::counted` meets its contract.
 use borrow.Author.Needs.{needs}
 use Rattle.recording_lines.proofs.counted.Statement.{statement}
 use Rattle.recording_lines.proofs.counted.Tie as tie

@@ -1,4 +1,4 @@
--- `recording_lines::good_answer` meets its contract. Assumes nothing.
+-- `recording_lines::good_answer` meets its contract.
 use borrow.Author.Needs.{needs}
 use Rattle.recording_lines.proofs.good_answer.Statement.{statement}
 use Rattle.recording_lines.proofs.good_answer.Tie as tie

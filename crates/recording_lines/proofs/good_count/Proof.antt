@@ -1,4 +1,4 @@
--- `recording_lines::good_count` meets its contract. Assumes nothing.
+-- `recording_lines::good_count` meets its contract.
 use borrow.Author.Needs.{needs}
 use Rattle.recording_lines.proofs.good_count.Statement.{statement}
 use Rattle.recording_lines.proofs.good_count.Tie as tie

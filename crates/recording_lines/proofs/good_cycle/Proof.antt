@@ -1,4 +1,4 @@
--- `recording_lines::good_cycle` meets its contract. Assumes nothing.
+-- `recording_lines::good_cycle` meets its contract.
 use borrow.Author.Needs.{needs}
 use mathlib.Core.Path.{ap, _∙_}
 use mathlib.Core.List.{List}

@@ -1,4 +1,4 @@
--- `recording_lines::is_record` meets its contract. Assumes nothing.
+-- `recording_lines::is_record` meets its contract.
 use borrow.Author.Needs.{needs}
 use mathlib.Core.Path.{sym}
 use Rattle.recording_lines.proofs.Runs.{record-runs, not-record}

@@ -1,4 +1,4 @@
--- `recording_lines::record_in` meets its contract. Assumes nothing.
+-- `recording_lines::record_in` meets its contract.
 use borrow.Author.Needs.{needs}
 use Rattle.recording_lines.specs.Records.{recordStated}
 use Rattle.recording_lines.proofs.record_in.Statement.{statement}

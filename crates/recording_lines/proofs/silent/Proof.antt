@@ -1,4 +1,4 @@
--- `recording_lines::silent` meets its contract. Assumes nothing.
+-- `recording_lines::silent` meets its contract.
 use borrow.Author.Needs.{needs}
 use Rattle.recording_lines.proofs.silent.Statement.{statement}
 use Rattle.recording_lines.proofs.silent.Tie as tie

@@ -1,4 +1,4 @@
--- `recording_lines::told` meets its contract. Assumes nothing.
+-- `recording_lines::told` meets its contract.
 use borrow.Author.Needs.{needs}
 use Rattle.recording_lines.proofs.told.Statement.{statement}
 use Rattle.recording_lines.proofs.told.Tie as tie

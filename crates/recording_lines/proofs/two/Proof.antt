@@ -1,4 +1,4 @@
--- `recording_lines::two` meets its contract. Assumes nothing.
+-- `recording_lines::two` meets its contract.
 use borrow.Author.Needs.{needs}
 use Rattle.recording_lines.proofs.two.Statement.{statement}
 use Rattle.recording_lines.proofs.two.Tie as tie

@@ -1,4 +1,4 @@
--- `recording_lines::uncounted` meets its contract. Assumes nothing.
+-- `recording_lines::uncounted` meets its contract.
 use borrow.Author.Needs.{needs}
 use Rattle.recording_lines.proofs.uncounted.Statement.{statement}
 use Rattle.recording_lines.proofs.uncounted.Tie as tie

@@ -1,4 +1,4 @@
--- `recording_replay::bad_behind` meets its contract. Assumes nothing.
+-- `recording_replay::bad_behind` meets its contract.
 use borrow.Author.Tests.{lt-ltb, le-ltb}
 use Rattle.recording_replay.specs.Recorded.{badBehind}
 use borrow.Author.Needs.{needs}

@@ -1,4 +1,4 @@
--- `recording_replay::busy_of` meets its contract. Assumes nothing.
+-- `recording_replay::busy_of` meets its contract.
 use mathlib.Core.Path.{sym, _∙_}
 use Rattle.recording_replay.specs.Recorded.{busyOf}
 use borrow.Author.Needs.{needs}

@@ -1,4 +1,4 @@
--- `recording_replay::cuts` meets its contract. Assumes nothing.
+-- `recording_replay::cuts` meets its contract.
 use Rattle.recording.specs.Recordings.{cutsOff}
 use borrow.Author.Needs.{needs}
 use Rattle.recording_replay.proofs.cuts.Statement.{statement}

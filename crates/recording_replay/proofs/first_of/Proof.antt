@@ -1,4 +1,4 @@
--- `recording_replay::first_of` meets its contract. Assumes nothing.
+-- `recording_replay::first_of` meets its contract.
 use borrow.Author.Tests.{lt-ltb, le-ltb}
 use Rattle.recording_replay.specs.Recorded.{firstLine}
 use borrow.Author.Needs.{needs}

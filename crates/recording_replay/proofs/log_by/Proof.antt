@@ -1,4 +1,4 @@
--- `recording_replay::log_by` meets its contract. Assumes nothing.
+-- `recording_replay::log_by` meets its contract.
 use borrow.Author.Needs.{needs}
 use Rattle.recording_replay.proofs.log_by.Statement.{statement}
 use Rattle.recording_replay.proofs.log_by.Tie as tie

@@ -1,4 +1,4 @@
--- `recording_replay::made_from` meets its contract. Assumes nothing.
+-- `recording_replay::made_from` meets its contract.
 use borrow.Author.Needs.{needs}
 use Rattle.recording_replay.proofs.made_from.Statement.{statement}
 use Rattle.recording_replay.proofs.made_from.Tie as tie

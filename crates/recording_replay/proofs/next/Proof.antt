@@ -1,4 +1,4 @@
--- `recording_replay::next` meets its contract. Assumes nothing.
+-- `recording_replay::next` meets its contract.
 use mathlib.Core.Path.{_≡_, refl, sym, ap, _∙_}
 use denote.Ref.{now}
 use Rattle.common.specs.Lists.{copied}

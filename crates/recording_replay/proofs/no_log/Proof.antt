@@ -1,4 +1,4 @@
--- `recording_replay::no_log` meets its contract. Assumes nothing.
+-- `recording_replay::no_log` meets its contract.
 use borrow.Author.Needs.{needs}
 use Rattle.recording_replay.proofs.no_log.Statement.{statement}
 use Rattle.recording_replay.proofs.no_log.Tie as tie

@@ -1,4 +1,4 @@
--- `recording_replay::note` meets its contract. Assumes nothing.
+-- `recording_replay::note` meets its contract.
 use mathlib.Core.Path.{_≡_, refl, sym, ap, _∙_}
 use mathlib.Core.List.{[]}
 use native.Mathlib.Omega.{arith}

@@ -1,4 +1,4 @@
--- `recording_replay::put_answer` meets its contract. Assumes nothing.
+-- `recording_replay::put_answer` meets its contract.
 use mathlib.Core.Path.{_≡_, refl, sym, ap, _∙_}
 use mathlib.Core.List.{List, [], _∷_}
 use Prim.Native.Nat.{ℕ}

@@ -1,4 +1,4 @@
--- `recording_replay::put_line` meets its contract. Assumes nothing.
+-- `recording_replay::put_line` meets its contract.
 use mathlib.Core.List.{_++_}
 use denote.Ref.{now}
 use Rattle.text.specs.Digits.{decimalOf}

@@ -1,4 +1,4 @@
--- `recording_replay::put_refused` meets its contract. Assumes nothing.
+-- `recording_replay::put_refused` meets its contract.
 use mathlib.Core.List.{List, _++_}
 use Prim.Native.Nat.{ℕ}
 use denote.Ref.{now}

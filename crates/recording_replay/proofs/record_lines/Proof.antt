@@ -1,4 +1,4 @@
--- `recording_replay::record_lines` meets its contract: after i turns the first i lines stand, and what is left makes up the rest. Assumes nothing.
+-- `recording_replay::record_lines` meets its contract: after i turns the first i lines stand, and what is left makes up the rest.
 use mathlib.Core.Path.{_≡_, refl, sym, ap, _∙_}
 use mathlib.Core.List.{_++_}
 use Prim.Native.Nat.{ℕ, _+_, _-_, _*_, _≤_, _<_}

@@ -1,4 +1,4 @@
--- `recording_replay::record_trace` meets its contract. Assumes nothing.
+-- `recording_replay::record_trace` meets its contract.
 use mathlib.Core.Path.{_∙_}
 use native.Mathlib.Omega.{arith}
 use Rattle.recording_replay.proofs.Wholes.{few, inside, short, enough}

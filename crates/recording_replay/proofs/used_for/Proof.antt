@@ -1,4 +1,4 @@
--- `recording_replay::used_for` meets its contract. Assumes nothing.
+-- `recording_replay::used_for` meets its contract.
 use borrow.Author.Tests.{lt-ltb, le-ltb}
 use Rattle.recording_replay.specs.Recorded.{usedFor}
 use borrow.Author.Needs.{needs}

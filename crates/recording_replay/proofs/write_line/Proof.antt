@@ -1,4 +1,4 @@
--- `recording_replay::write_line` meets its contract. Assumes nothing.
+-- `recording_replay::write_line` meets its contract.
 use mathlib.Core.List.{_++_}
 use lib.ListN.{take}
 use denote.Ref.{now}

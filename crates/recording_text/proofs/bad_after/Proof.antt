@@ -1,4 +1,4 @@
--- `recording_text::bad_after` meets its contract. Assumes nothing.
+-- `recording_text::bad_after` meets its contract.
 use borrow.Author.Tests.{lt-ltb, le-ltb}
 use Rattle.recording_text.specs.Texts.{badAfter}
 use borrow.Author.Needs.{needs}

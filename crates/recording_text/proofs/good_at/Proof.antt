@@ -1,4 +1,4 @@
--- `recording_text::good_at` meets its contract: fewer than 31 bytes are no line. Assumes nothing.
+-- `recording_text::good_at` meets its contract: fewer than 31 bytes are no line.
 use mathlib.Core.Path.{_≡_, ap, sym, _∙_}
 use Prim.Native.Nat.{ℕ, _+_, _-_, _*_}
 use native.Mathlib.Omega.{arith}

@@ -1,4 +1,4 @@
--- `recording_text::judge` meets its contract: the walk from a fresh bench over the text's records, and its end. Assumes nothing.
+-- `recording_text::judge` meets its contract: the walk from a fresh bench over the text's records, and its end.
 use borrow.Author.Needs.{needs}
 use Rattle.recording_text.proofs.Judging.{read-few, left, judged}
 use Rattle.recording_text.proofs.judge.Statement.{statement}

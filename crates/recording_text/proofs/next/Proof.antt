@@ -1,4 +1,4 @@
--- `recording_text::next` meets its contract. Assumes nothing.
+-- `recording_text::next` meets its contract.
 use mathlib.Core.Path.{ap, _∙_}
 use Rattle.recording.specs.declared.Noted.{Noted}
 use Rattle.recording_walk.specs.Inner.{wentOn, bytesOn}

@@ -1,4 +1,4 @@
--- `recording_text::walk_lines` meets its contract: after i turns what is ahead leads where the whole leads. Assumes nothing.
+-- `recording_text::walk_lines` meets its contract: after i turns what is ahead leads where the whole leads.
 use mathlib.Core.Path.{_≡_, refl, sym, _∙_}
 use Prim.Native.Nat.{_+_, _-_, _*_, _≤_, _<_}
 use native.Mathlib.Nat.{zero-add}

@@ -1,4 +1,4 @@
--- `recording_told::put_refused` meets its contract. Assumes nothing.
+-- `recording_told::put_refused` meets its contract.
 use denote.Ref.{now}
 use Rattle.text.proofs.Laying.{laid-first, laid-more}
 use Rattle.refusal_words.specs.Words.{refusedText}

@@ -1,4 +1,4 @@
--- `recording_told::tell` meets its contract: it is judged, and told way by way. Assumes nothing.
+-- `recording_told::tell` meets its contract: it is judged, and told way by way.
 use mathlib.Core.Path.{ap, _∙_}
 use mathlib.Core.List.{List}
 use Prim.Native.Nat.{ℕ}

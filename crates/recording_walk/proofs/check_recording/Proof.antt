@@ -1,6 +1,6 @@
 -- `recording_walk::check_recording` meets its contract: its code is walked by hand, since a lent slice of structs is not covered. `begin` is
 -- called; in each turn the list is looked into, one record is copied out, the list is shut again, the array is lent on and `go_on`
--- is called; behind the loop the array is lent on once more and `end` is called. Assumes nothing.
+-- is called; behind the loop the array is lent on once more and `end` is called.
 use mathlib.Core.Path.{_≡_, refl, ap, sym, subst, _∙_}
 use mathlib.Core.Logic.{⊎-elim, _⊎_, inl, inr}
 use Prim.Native.Nat.{ℕ, _+_, _-_, _*_, _≤_, _<_, _^_}

@@ -1,4 +1,4 @@
--- `recording_walk::same` meets its contract: what was passed is the same, so the rest decides. Assumes nothing.
+-- `recording_walk::same` meets its contract: what was passed is the same, so the rest decides.
 use borrow.Author.Needs.{needs}
 use mathlib.Core.Path.{_≡_, refl, sym, _∙_}
 use Prim.Native.Nat.{_-_}

@@ -1,4 +1,4 @@
--- `recording_wear::count` meets its contract. Assumes nothing.
+-- `recording_wear::count` meets its contract.
 use Prim.Native.Nat.{ℕ}
 use mathlib.Core.Path.{_≡_}
 use native.Mathlib.Omega.{arith}

@@ -1,4 +1,4 @@
--- `recording_wear::fault_in` meets its contract. Assumes nothing.
+-- `recording_wear::fault_in` meets its contract.
 use borrow.Author.Tests.{lt-ltb, le-ltb}
 use Rattle.recording_wear.specs.Recorded.{faultIn}
 use borrow.Author.Needs.{needs}

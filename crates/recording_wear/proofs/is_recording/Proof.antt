@@ -1,4 +1,4 @@
--- `recording_wear::is_recording` meets its contract. Assumes nothing.
+-- `recording_wear::is_recording` meets its contract.
 use Rattle.recording_wear.specs.Recorded.{looksRecorded}
 use borrow.Author.Needs.{needs}
 use Rattle.recording_wear.proofs.is_recording.Statement.{statement}

@@ -1,4 +1,4 @@
--- `recording_wear::judged` meets its contract. Assumes nothing.
+-- `recording_wear::judged` meets its contract.
 use Rattle.recording_wear.specs.Recorded.{judgedBlank}
 use borrow.Author.Needs.{needs}
 use Rattle.recording_wear.proofs.judged.Statement.{statement}

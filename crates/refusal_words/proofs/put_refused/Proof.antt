@@ -1,4 +1,4 @@
--- `refusal_words::put_refused` meets its contract. Assumes nothing.
+-- `refusal_words::put_refused` meets its contract.
 use denote.Ref.{now}
 use Rattle.text.specs.Digits.{decimalOf}
 use Rattle.text.specs.Writing.{bytes}

@@ -1,4 +1,4 @@
--- `script_judge::closed` meets its contract. Assumes nothing.
+-- `script_judge::closed` meets its contract.
 use borrow.Author.Needs.{needs}
 use mathlib.Core.Path.{sym, _∙_}
 use native.Mathlib.Omega.{arith}

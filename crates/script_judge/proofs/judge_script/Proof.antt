@@ -1,4 +1,4 @@
--- `script_judge::judge_script` meets its contract: the outermost list, and then the end of the text. Assumes nothing.
+-- `script_judge::judge_script` meets its contract: the outermost list, and then the end of the text.
 use borrow.Author.Needs.{needs}
 use mathlib.Core.Path.{refl, sym, _∙_}
 use native.Mathlib.Omega.{arith}

@@ -1,4 +1,4 @@
--- `script_judge::times` meets its contract. Assumes nothing.
+-- `script_judge::times` meets its contract.
 use borrow.Author.Needs.{needs}
 use native.Mathlib.Nat.{mul-le-mul}
 use native.Mathlib.Omega.{arith}

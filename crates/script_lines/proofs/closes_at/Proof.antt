@@ -1,4 +1,4 @@
--- `script_lines::closes_at` meets its contract. Assumes nothing.
+-- `script_lines::closes_at` meets its contract.
 use borrow.Author.Needs.{needs}
 use Rattle.script_lines.proofs.closes_at.Statement.{statement}
 use Rattle.script_lines.proofs.closes_at.Tie as tie

@@ -1,4 +1,4 @@
--- `script_lines::count` meets its contract. Assumes nothing.
+-- `script_lines::count` meets its contract.
 use borrow.Author.Needs.{needs}
 use Rattle.script_lines.proofs.count.Statement.{statement}
 use Rattle.script_lines.proofs.count.Tie as tie

@@ -1,4 +1,4 @@
--- `script_lines::ends_at` meets its contract. Assumes nothing.
+-- `script_lines::ends_at` meets its contract.
 use borrow.Author.Needs.{needs}
 use Rattle.script_lines.proofs.ends_at.Statement.{statement}
 use Rattle.script_lines.proofs.ends_at.Tie as tie

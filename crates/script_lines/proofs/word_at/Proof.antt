@@ -1,4 +1,4 @@
--- `script_lines::word_at` meets its contract. Assumes nothing.
+-- `script_lines::word_at` meets its contract.
 use borrow.Author.Needs.{needs}
 use mathlib.Core.Path.{sym}
 use Rattle.script_lines.proofs.Words.{rest-all, past-end}

@@ -1,4 +1,4 @@
--- `script_lines::word_in` meets its contract. Assumes nothing.
+-- `script_lines::word_in` meets its contract.
 use borrow.Author.Needs.{needs}
 use borrow.Author.Tests.{eq-eqb, ne-eqb}
 use mathlib.Core.Path.{sym, _∙_}

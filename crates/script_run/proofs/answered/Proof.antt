@@ -1,4 +1,4 @@
--- `script_run::answered` meets its contract. Assumes nothing.
+-- `script_run::answered` meets its contract.
 use Rattle.script_run.proofs.Lines.{line-state, line-array, line-laid}
 use borrow.Author.Needs.{needs}
 use Rattle.script_run.proofs.answered.Statement.{statement}

@@ -1,4 +1,4 @@
--- `script_run::marked` meets its contract. Assumes nothing.
+-- `script_run::marked` meets its contract.
 use mathlib.Core.Path.{refl}
 use native.Mathlib.Omega.{arith}
 use Rattle.script_run.proofs.Lines.{mark-short, mark-short-out, mark-long, mark-long-out, mark-used}

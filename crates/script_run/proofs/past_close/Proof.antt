@@ -1,4 +1,4 @@
--- `script_run::past_close` meets its contract. Assumes nothing.
+-- `script_run::past_close` meets its contract.
 use mathlib.Core.Path.{sym, _∙_}
 use Rattle.script_run.proofs.Runs.{closes-room, close-true, close-false}
 use borrow.Author.Needs.{needs}

@@ -1,4 +1,4 @@
--- `script_run::run_script` meets its contract. Assumes nothing.
+-- `script_run::run_script` meets its contract.
 use mathlib.Core.Path.{_≡_, refl, ap}
 use native.Mathlib.Omega.{arith}
 use Rattle.script_judge.specs.declared.Judged.{Judged}

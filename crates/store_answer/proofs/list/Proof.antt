@@ -1,4 +1,4 @@
--- `store_answer::list` meets its contract. Assumes nothing.
+-- `store_answer::list` meets its contract.
 use mathlib.Core.Path.{_≡_, ap, _∙_}
 use mathlib.Core.List.{List}
 use Prim.Native.Nat.{ℕ, _-_, min}

@@ -1,4 +1,4 @@
--- `store_answer::pace_by` meets its contract. Assumes nothing.
+-- `store_answer::pace_by` meets its contract.
 use mathlib.Core.Path.{_≡_, sym, ap, _∙_}
 use Prim.Native.Nat.{ℕ, _-_}
 use Rattle.store_answer.specs.Listing.{paceAs, paceBy}

@@ -1,4 +1,4 @@
--- `store_answer::pace_on` meets its contract. Assumes nothing.
+-- `store_answer::pace_on` meets its contract.
 use mathlib.Core.Path.{_≡_, sym, ap, _∙_}
 use borrow.Author.Tests.{lt-ltb, le-ltb}
 use Rattle.store_survey.specs.Survey.{spotIn}

@@ -1,4 +1,4 @@
--- `store_answer::put_knots` meets its contract. Assumes nothing.
+-- `store_answer::put_knots` meets its contract.
 use mathlib.Core.Path.{_≡_, sym, ap, _∙_, subst}
 use mathlib.Core.List.{List, _++_}
 use Prim.Native.Nat.{ℕ, _/_}

@@ -1,4 +1,4 @@
--- `store_answer::put_list` meets its contract. Assumes nothing.
+-- `store_answer::put_list` meets its contract.
 use mathlib.Core.Bool.{true, false}
 use denote.Ref.{now}
 use Rattle.text.proofs.Laying.{laid-first, laid-more}

@@ -1,4 +1,4 @@
--- `store_answer::put_pieces` meets its contract: what is left to tell, laid behind what stands, is all that is told. Assumes nothing.
+-- `store_answer::put_pieces` meets its contract: what is left to tell, laid behind what stands, is all that is told.
 use mathlib.Core.Path.{_≡_, refl, _∙_}
 use Prim.Native.Nat.{ℕ, _-_, _/_, _<_, _≤_, zero-le}
 use native.Mathlib.Omega.{arith}

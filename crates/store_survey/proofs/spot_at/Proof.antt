@@ -1,4 +1,4 @@
--- `store_survey::spot_at` meets its contract: the bytes from a place on, or past the last place. Assumes nothing.
+-- `store_survey::spot_at` meets its contract: the bytes from a place on, or past the last place.
 use borrow.Author.Needs.{needs}
 use mathlib.Core.Path.{sym, _∙_}
 use Rattle.store_survey.proofs.Spots.{spot-here, spot-past}

@@ -1,4 +1,4 @@
--- `store_survey::walk_places` meets its contract: what is left to tell agrees with what was to tell, place by place. Assumes nothing.
+-- `store_survey::walk_places` meets its contract: what is left to tell agrees with what was to tell, place by place.
 use borrow.Author.Needs.{needs}
 use mathlib.Core.Path.{_≡_, refl, _∙_, ap}
 use Prim.Native.Nat.{_-_, _/_}

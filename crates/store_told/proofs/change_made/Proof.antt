@@ -1,4 +1,4 @@
--- `store_told::change_made` meets its contract. Assumes nothing.
+-- `store_told::change_made` meets its contract.
 use mathlib.Core.Path.{ap, _∙_}
 use denote.Ref.{now}
 use borrow.Author.Tests.{eq-eqb, ne-eqb}

@@ -1,4 +1,4 @@
--- `store_told::change_said` meets its contract. Assumes nothing.
+-- `store_told::change_said` meets its contract.
 use mathlib.Core.Path.{_≡_, refl, sym, ap, _∙_}
 use lib.Dec.{eqb}
 use Prim.Native.Nat.{ℕ}

@@ -1,4 +1,4 @@
--- `store_told::put_listed` meets its contract. Assumes nothing.
+-- `store_told::put_listed` meets its contract.
 use mathlib.Core.Path.{_≡_, refl, sym, ap, _∙_}
 use mathlib.Core.List.{List, [], _++_}
 use Prim.Native.Nat.{ℕ}

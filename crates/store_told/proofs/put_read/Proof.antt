@@ -1,4 +1,4 @@
--- `store_told::put_read` meets its contract. Assumes nothing.
+-- `store_told::put_read` meets its contract.
 use mathlib.Core.Path.{_≡_, refl, sym, ap, _∙_}
 use lib.IntN.{ℤ}
 use lib.ListN.{length}

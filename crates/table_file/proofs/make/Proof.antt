@@ -1,4 +1,4 @@
--- `table_file::make` meets its contract. Assumes nothing.
+-- `table_file::make` meets its contract.
 use mathlib.Core.Path.{refl, ap, _∙_}
 use Prim.Native.Nat.{ℕ}
 use lib.ListN.{length}

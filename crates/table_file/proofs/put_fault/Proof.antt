@@ -1,4 +1,4 @@
--- `table_file::put_fault` meets its contract. Assumes nothing.
+-- `table_file::put_fault` meets its contract.
 use mathlib.Core.Path.{sym, ap, _∙_, subst}
 use mathlib.Core.List.{List, _++_}
 use Prim.Native.Nat.{ℕ, _+_, _/_, _≤_}

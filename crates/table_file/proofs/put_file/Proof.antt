@@ -1,4 +1,4 @@
--- `table_file::put_file` meets its contract. Assumes nothing.
+-- `table_file::put_file` meets its contract.
 use mathlib.Core.Path.{sym, _∙_}
 use lib.ListN.{length}
 use denote.Ref.{now}

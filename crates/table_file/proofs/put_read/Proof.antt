@@ -1,4 +1,4 @@
--- `table_file::put_read` meets its contract. Assumes nothing.
+-- `table_file::put_read` meets its contract.
 use mathlib.Core.Path.{sym, ap, _∙_}
 use native.Mathlib.Omega.{arith}
 use lib.ListN.{length}

@@ -1,4 +1,4 @@
--- `table_file::put_table_line` meets its contract. Assumes nothing.
+-- `table_file::put_table_line` meets its contract.
 use mathlib.Core.Path.{_≡_, sym, ap, _∙_}
 use mathlib.Core.List.{List}
 use Prim.Native.Nat.{ℕ}

@@ -1,4 +1,4 @@
--- `table_file::put_wrong_line` meets its contract. Assumes nothing.
+-- `table_file::put_wrong_line` meets its contract.
 use mathlib.Core.List.{_++_}
 use denote.Ref.{now}
 use Rattle.text.specs.Digits.{decimalOf}

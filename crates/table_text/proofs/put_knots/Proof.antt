@@ -1,4 +1,4 @@
--- `table_text::put_knots` meets its contract: the lines that are left, laid behind those that stand, are the table's. Assumes nothing.
+-- `table_text::put_knots` meets its contract: the lines that are left, laid behind those that stand, are the table's.
 use mathlib.Core.Path.{_≡_, refl, _∙_}
 use Prim.Native.Nat.{_-_, _≤_, zero-le}
 use native.Mathlib.Omega.{arith}

@@ -1,4 +1,4 @@
--- `table_text::put_table` meets its contract. Assumes nothing.
+-- `table_text::put_table` meets its contract.
 use mathlib.Core.Path.{sym, ap, _∙_}
 use Prim.Native.Nat.{ℕ}
 use denote.Ref.{now}

@@ -1,4 +1,4 @@
--- `table_text::show` meets its contract. Assumes nothing.
+-- `table_text::show` meets its contract.
 use mathlib.Core.Path.{ap, _∙_}
 use Prim.Native.Nat.{ℕ}
 use lib.ListN.{length}

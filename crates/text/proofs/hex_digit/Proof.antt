@@ -1,4 +1,4 @@
--- `text::hex_digit` meets its contract. Assumes nothing.
+-- `text::hex_digit` meets its contract.
 use mathlib.Core.Path.{refl}
 use native.Mathlib.Omega.{arith}
 use borrow.Author.Needs.{needs}

@@ -1,4 +1,4 @@
--- `text::is_digit` meets its contract. Assumes nothing.
+-- `text::is_digit` meets its contract.
 use mathlib.Core.Path.{refl}
 use Rattle.text.specs.Digits.{isDigit}
 use Rattle.text.proofs.is_digit.Statement.{statement}

@@ -1,4 +1,4 @@
--- `text::is_hex` meets its contract. Assumes nothing.
+-- `text::is_hex` meets its contract.
 use borrow.Author.Needs.{needs}
 use Rattle.text.specs.Digits.{isHex}
 use Rattle.text.proofs.is_hex.Statement.{statement}

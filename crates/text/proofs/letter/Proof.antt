@@ -1,4 +1,4 @@
--- `text::letter` meets its contract. Assumes nothing.
+-- `text::letter` meets its contract.
 use borrow.Author.Needs.{needs}
 use borrow.Author.Tests.{lt-ltb, le-ltb}
 use Rattle.text.specs.Digits.{digitLetter}

@@ -1,4 +1,4 @@
--- `text::put` meets its contract. Assumes nothing.
+-- `text::put` meets its contract.
 use mathlib.Core.Path.{sym}
 use borrow.Author.Needs.{needs}
 use lib.Seq.{set-out}

@@ -1,4 +1,4 @@
--- `text::put_decimal` meets its contract: the last of ten digits. Assumes nothing.
+-- `text::put_decimal` meets its contract: the last of ten digits.
 use mathlib.Core.Path.{sym, ap, _∙_, subst}
 use mathlib.Core.List.{List}
 use Prim.Native.Nat.{ℕ, _-_, _≤_}

@@ -1,4 +1,4 @@
--- `text::put_text` meets its contract. Assumes nothing.
+-- `text::put_text` meets its contract.
 use mathlib.Core.Path.{_≡_}
 use Prim.Native.Nat.{_+_, min}
 use native.Mathlib.Omega.{arith}

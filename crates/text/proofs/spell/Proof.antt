@@ -1,4 +1,4 @@
--- `text::spell` meets its contract: what is left to spell, before what is written, is what was to be spelt. Assumes nothing.
+-- `text::spell` meets its contract: what is left to spell, before what is written, is what was to be spelt.
 use mathlib.Core.Path.{_≡_, refl, sym, ap, _∙_}
 use mathlib.Core.List.{List, []}
 use Prim.Native.Nat.{ℕ, _-_, _%_, _≤_, _<_}

@@ -1,4 +1,4 @@
--- `trace_lines::cycle_in` meets its contract. Assumes nothing.
+-- `trace_lines::cycle_in` meets its contract.
 use borrow.Author.Needs.{needs}
 use Rattle.trace_lines.specs.Lines.{cycleStated}
 use Rattle.trace_lines.proofs.cycle_in.Statement.{statement}

@@ -1,4 +1,4 @@
--- `trace_lines::is_kind` meets its contract. Assumes nothing.
+-- `trace_lines::is_kind` meets its contract.
 use mathlib.Core.Path.{refl}
 use Rattle.trace_lines.specs.Lines.{isKind}
 use Rattle.trace_lines.proofs.is_kind.Statement.{statement}

@@ -1,4 +1,4 @@
--- `trace_lines::is_line` meets its contract. Assumes nothing.
+-- `trace_lines::is_line` meets its contract.
 use borrow.Author.Needs.{needs}
 use mathlib.Core.Path.{sym}
 use Rattle.trace_lines.proofs.Runs.{line-runs}

@@ -1,4 +1,4 @@
--- `trace_lines::kind_of` meets its contract. Assumes nothing.
+-- `trace_lines::kind_of` meets its contract.
 use borrow.Author.Tests.{eq-eqb, ne-eqb}
 use Rattle.trace_lines.specs.Lines.{kindOf}
 use Rattle.trace_lines.proofs.kind_of.Statement.{statement}

@@ -1,4 +1,4 @@
--- `trace_lines::read_line` meets its contract. Assumes nothing.
+-- `trace_lines::read_line` meets its contract.
 use borrow.Author.Needs.{needs}
 use mathlib.Core.Path.{sym, _∙_}
 use Rattle.trace_lines.specs.Lines.{readLine, toldIn}

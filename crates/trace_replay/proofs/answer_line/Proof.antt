@@ -1,4 +1,4 @@
--- `trace_replay::answer_line` meets its contract. Assumes nothing.
+-- `trace_replay::answer_line` meets its contract.
 use mathlib.Core.Path.{_≡_, ap, _∙_}
 use Rattle.common.specs.Lists.{copied}
 use Rattle.model_types.specs.declared.Cycle.{Cycle}

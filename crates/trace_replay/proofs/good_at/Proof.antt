@@ -1,4 +1,4 @@
--- `trace_replay::good_at` meets its contract: fewer than 20 bytes are no line. Assumes nothing.
+-- `trace_replay::good_at` meets its contract: fewer than 20 bytes are no line.
 use mathlib.Core.Path.{_≡_, ap, sym, _∙_}
 use Prim.Native.Nat.{ℕ, _+_, _-_, _*_}
 use lib.ListN.{take, drop}

@@ -1,4 +1,4 @@
--- `trace_replay::replay` meets its contract: the good lines are counted, answered and marked, and that is the output. Assumes nothing.
+-- `trace_replay::replay` meets its contract: the good lines are counted, answered and marked, and that is the output.
 use mathlib.Core.Path.{refl, sym, subst}
 use Prim.Native.Nat.{ℕ, _*_, _≤_}
 use native.Mathlib.Omega.{arith}

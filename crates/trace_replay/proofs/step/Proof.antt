@@ -1,4 +1,4 @@
--- `trace_replay::step` meets its contract. Assumes nothing.
+-- `trace_replay::step` meets its contract.
 use mathlib.Core.Path.{refl, ap, _∙_}
 use Rattle.device.specs.declared.Device.{Device}
 use Rattle.model.specs.Arrays.{answerOf, bytesAfter}

@@ -1,4 +1,4 @@
--- `trace_wear::count` meets its contract: the good lines are counted, and replayed where nothing is left over. Assumes nothing.
+-- `trace_wear::count` meets its contract: the good lines are counted, and replayed where nothing is left over.
 use mathlib.Core.Path.{sym, subst}
 use Prim.Native.Nat.{ℕ, _*_, _≤_}
 use native.Mathlib.Omega.{arith}

@@ -1,4 +1,4 @@
--- `trace_wear::last_state` meets its contract: after i turns what is left to replay leads where the whole leads. Assumes nothing.
+-- `trace_wear::last_state` meets its contract: after i turns what is left to replay leads where the whole leads.
 use mathlib.Core.Path.{_≡_, refl, sym, ap, _∙_}
 use Prim.Native.Nat.{ℕ, _-_, _*_, _≤_, _<_}
 use native.Mathlib.Nat.{sub-zero}

@@ -1,4 +1,4 @@
--- `trace_wear::next` meets its contract. Assumes nothing.
+-- `trace_wear::next` meets its contract.
 use mathlib.Core.Path.{ap, _∙_}
 use Rattle.model_types.specs.declared.Cycle.{Cycle}
 use Rattle.model.specs.declared.Answer.{Answer}

@@ -1,4 +1,4 @@
--- `vectors_file::run_all` is safe and ends. Assumes nothing.
+-- `vectors_file::run_all` is safe and ends.
 use mathlib.Core.Path.{_≡_, refl, _∙_}
 use Prim.Native.Nat.{_≤_, _-_, _*_}
 use native.Mathlib.Omega.{arith}

@@ -1,4 +1,4 @@
--- `vectors_held::all` is safe and ends: each turn goes on to a later row, and what is lent keeps its lengths. Assumes nothing.
+-- `vectors_held::all` is safe and ends: each turn goes on to a later row, and what is lent keeps its lengths.
 use Prim.Native.Nat.{_≤_, _-_}
 use mathlib.Core.Path.{_≡_}
 use borrow.Author.Needs.{needs}

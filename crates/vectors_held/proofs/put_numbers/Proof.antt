@@ -1,4 +1,4 @@
--- `vectors_held::put_numbers` is safe and ends: the list keeps its length. Assumes nothing.
+-- `vectors_held::put_numbers` is safe and ends: the list keeps its length.
 use Prim.Native.Nat.{_≤_, _-_}
 use mathlib.Core.Path.{_≡_}
 use borrow.Author.Needs.{needs}

@@ -1,4 +1,4 @@
--- `vectors_held::steps` is safe and ends: scratch and the room keep their lengths. Assumes nothing.
+-- `vectors_held::steps` is safe and ends: scratch and the room keep their lengths.
 use Prim.Native.Nat.{_-_}
 use mathlib.Core.Path.{_≡_}
 use borrow.Author.Needs.{needs}

@@ -1,4 +1,4 @@
--- `vectors_load::change_all` is safe and ends: the slice keeps its length. Assumes nothing.
+-- `vectors_load::change_all` is safe and ends: the slice keeps its length.
 use Prim.Native.Nat.{_≤_, _<_, _-_}
 use mathlib.Core.Path.{_≡_}
 use borrow.Author.Needs.{needs}

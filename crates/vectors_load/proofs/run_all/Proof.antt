@@ -1,4 +1,4 @@
--- `vectors_load::run_all` is safe and ends. Assumes nothing.
+-- `vectors_load::run_all` is safe and ends.
 use Prim.Native.Nat.{_≤_, _-_, _*_}
 use native.Mathlib.Omega.{arith}
 use borrow.Author.Needs.{needs}

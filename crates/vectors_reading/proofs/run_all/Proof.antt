@@ -1,4 +1,4 @@
--- All rows of a text: safe, and it ends. Assumes nothing.
+-- All rows of a text: safe, and it ends.
 use mathlib.Core.Path.{_≡_, refl, _∙_}
 use Prim.Native.Nat.{_≤_, _+_, _-_, _*_, _/_}
 use native.Mathlib.Omega.{arith}

@@ -1,4 +1,4 @@
--- Bits as a signed number: safe. Assumes nothing.
+-- Bits as a signed number: safe.
 use Prim.Native.Nat.{ℕ, _-_, _<_, _≤_}
 use native.Mathlib.Omega.{arith}
 use mir.Syntax.{w32}

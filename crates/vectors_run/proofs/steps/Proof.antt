@@ -1,4 +1,4 @@
--- `vectors_run::steps` is safe and ends: scratch keeps its length. Assumes nothing.
+-- `vectors_run::steps` is safe and ends: scratch keeps its length.
 use Prim.Native.Nat.{_-_}
 use mathlib.Core.Path.{_≡_}
 use borrow.Author.Needs.{needs}

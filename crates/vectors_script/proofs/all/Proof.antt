@@ -1,4 +1,4 @@
--- `vectors_script::all` is safe and ends: one row a turn, and the lent slices keep their lengths. Assumes nothing.
+-- `vectors_script::all` is safe and ends: one row a turn, and the lent slices keep their lengths.
 use Prim.Native.Nat.{_≤_, _-_}
 use mathlib.Core.Path.{_≡_}
 use borrow.Author.Needs.{needs}

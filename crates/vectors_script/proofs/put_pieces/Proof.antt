@@ -1,4 +1,4 @@
--- `vectors_script::put_pieces` is safe and ends: one piece a turn. Assumes nothing.
+-- `vectors_script::put_pieces` is safe and ends: one piece a turn.
 use Prim.Native.Nat.{_≤_, _-_}
 use mathlib.Core.Path.{_≡_}
 use borrow.Author.Needs.{needs}

@@ -1,4 +1,4 @@
--- `vectors_states::device_at` meets its contract. Assumes nothing.
+-- `vectors_states::device_at` meets its contract.
 use borrow.Author.Needs.{needs}
 use Rattle.vectors_states.specs.Letters.{deviceAt}
 use Rattle.vectors_states.proofs.device_at.Statement.{statement}

@@ -1,4 +1,4 @@
--- `vectors_states::mode_by` meets its contract. Assumes nothing.
+-- `vectors_states::mode_by` meets its contract.
 use borrow.Author.Tests.{eq-eqb, ne-eqb}
 use Rattle.vectors_states.specs.Letters.{modeBy}
 use Rattle.vectors_states.proofs.mode_by.Statement.{statement}

@@ -1,4 +1,4 @@
--- `vectors_states::phase_by` meets its contract. Assumes nothing.
+-- `vectors_states::phase_by` meets its contract.
 use borrow.Author.Needs.{needs}
 use borrow.Author.Tests.{eq-eqb, ne-eqb}
 use Rattle.vectors_states.specs.Letters.{phaseBy}

@@ -1,4 +1,4 @@
--- `vectors_states::state_at` meets its contract. Assumes nothing.
+-- `vectors_states::state_at` meets its contract.
 use borrow.Author.Needs.{needs}
 use Rattle.vectors_states.specs.Letters.{stateAt}
 use Rattle.vectors_states.proofs.state_at.Statement.{statement}

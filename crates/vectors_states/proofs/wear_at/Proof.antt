@@ -1,4 +1,4 @@
--- `vectors_states::wear_at` meets its contract. Assumes nothing.
+-- `vectors_states::wear_at` meets its contract.
 use borrow.Author.Needs.{needs}
 use Rattle.vectors_states.specs.Letters.{wearAt}
 use Rattle.vectors_states.proofs.wear_at.Statement.{statement}

@@ -1,4 +1,4 @@
--- A temperature's bits: a NaN, which has none of its own, is told apart. Assumes nothing.
+-- A temperature's bits: a NaN, which has none of its own, is told apart.
 use mathlib.Core.Path.{_≡_}
 use mathlib.Core.Bool.{false, not}
 use lib.Dec.{T}

@@ -1,4 +1,4 @@
--- `vectors_text::digest` meets its contract: what is left to go through gives the digest of all. Assumes nothing.
+-- `vectors_text::digest` meets its contract: what is left to go through gives the digest of all.
 use mathlib.Core.Path.{_≡_, refl, sym, ap, _∙_}
 use Prim.Native.Nat.{ℕ, _+_, _*_, _-_, _%_, _≤_, _<_}
 use native.Mathlib.Omega.{arith}

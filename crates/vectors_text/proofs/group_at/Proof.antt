@@ -1,4 +1,4 @@
--- `vectors_text::group_at` meets its contract. Assumes nothing.
+-- `vectors_text::group_at` meets its contract.
 use borrow.Author.Needs.{needs}
 use Rattle.vectors_text.specs.Text.{groupAt}
 use Rattle.vectors_text.proofs.group_at.Statement.{statement}

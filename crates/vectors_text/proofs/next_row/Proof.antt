@@ -1,4 +1,4 @@
--- `vectors_text::next_row` meets its contract: the bytes gone through and the row that is left make the row. Assumes nothing.
+-- `vectors_text::next_row` meets its contract: the bytes gone through and the row that is left make the row.
 use mathlib.Core.Path.{_≡_, refl, ap}
 use Prim.Native.Nat.{_+_, _-_, _≤_, _<_, max}
 use native.Mathlib.Omega.{arith}

@@ -1,4 +1,4 @@
--- `vectors_text::number` meets its contract: what is left to read gives what was to be read. Assumes nothing.
+-- `vectors_text::number` meets its contract: what is left to read gives what was to be read.
 use mathlib.Core.Path.{_≡_, refl, sym, ap, _∙_}
 use Prim.Native.Nat.{ℕ, _+_, _*_, _-_, _%_, _≤_, _<_}
 use native.Mathlib.Omega.{arith}

@@ -1,4 +1,4 @@
--- `vectors_text::word_at` meets its contract: the part cut out is the field. Assumes nothing.
+-- `vectors_text::word_at` meets its contract: the part cut out is the field.
 use mathlib.Core.Path.{ap, _∙_}
 use mathlib.Core.List.{List}
 use Prim.Native.Nat.{ℕ}

@@ -1,4 +1,4 @@
--- `vectors_text::worth` meets its contract. Assumes nothing.
+-- `vectors_text::worth` meets its contract.
 use mathlib.Core.Path.{sym, _∙_}
 use native.Mathlib.Omega.{arith}
 use borrow.Author.Needs.{needs}

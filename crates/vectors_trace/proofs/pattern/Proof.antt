@@ -1,4 +1,4 @@
--- `pattern` is safe and ends: each turn goes on by a byte. Assumes nothing.
+-- `pattern` is safe and ends: each turn goes on by a byte.
 use Prim.Native.Nat.{_≤_, _-_}
 use mathlib.Core.Path.{_≡_}
 use borrow.Author.Needs.{needs}

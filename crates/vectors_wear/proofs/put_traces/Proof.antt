@@ -1,4 +1,4 @@
--- `vectors_wear::put_traces` is safe and ends: both slices keep their lengths. Assumes nothing.
+-- `vectors_wear::put_traces` is safe and ends: both slices keep their lengths.
 use Prim.Native.Nat.{_-_}
 use mathlib.Core.Path.{_≡_}
 use borrow.Author.Needs.{needs}

@@ -1,4 +1,4 @@
--- `verify_answer::answer` meets its contract. Assumes nothing.
+-- `verify_answer::answer` meets its contract.
 use mathlib.Core.Path.{_≡_, sym, ap, _∙_}
 use mathlib.Core.Bool.{true, false}
 use Prim.Native.Nat.{ℕ}

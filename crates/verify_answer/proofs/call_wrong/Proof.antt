@@ -1,4 +1,4 @@
--- `verify_answer::call_wrong` meets its contract. Assumes nothing.
+-- `verify_answer::call_wrong` meets its contract.
 use mathlib.Core.Path.{refl}
 use Rattle.verify_answer.specs.Answers.{callWrong}
 use Rattle.verify_answer.proofs.call_wrong.Statement.{statement}

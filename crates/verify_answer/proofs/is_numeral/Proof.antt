@@ -1,4 +1,4 @@
--- `verify_answer::is_numeral` meets its contract. Assumes nothing.
+-- `verify_answer::is_numeral` meets its contract.
 use Rattle.verify_answer.specs.Answers.{isNumeral}
 use borrow.Author.Needs.{needs}
 use Rattle.verify_answer.proofs.is_numeral.Statement.{statement}

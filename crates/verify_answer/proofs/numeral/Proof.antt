@@ -1,4 +1,4 @@
--- `verify_answer::numeral` meets its contract. Assumes nothing.
+-- `verify_answer::numeral` meets its contract.
 use mathlib.Core.Path.{sym, _∙_}
 use Rattle.verify_answer.specs.Answers.{numeralOf}
 use borrow.Author.Needs.{needs}

@@ -1,4 +1,4 @@
--- `verify_answer::put_address` meets its contract. Assumes nothing.
+-- `verify_answer::put_address` meets its contract.
 use mathlib.Core.Path.{ap, _∙_}
 use mathlib.Core.List.{List}
 use Prim.Native.Nat.{ℕ, _-_}

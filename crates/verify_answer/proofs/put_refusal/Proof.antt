@@ -1,4 +1,4 @@
--- `verify_answer::put_refusal` meets its contract. Assumes nothing.
+-- `verify_answer::put_refusal` meets its contract.
 use mathlib.Core.List.{_++_}
 use denote.Ref.{now}
 use Rattle.text.specs.Writing.{bytes}

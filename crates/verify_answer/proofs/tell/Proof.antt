@@ -1,4 +1,4 @@
--- `verify_answer::tell` meets its contract. Assumes nothing.
+-- `verify_answer::tell` meets its contract.
 use Rattle.verify_answer.specs.Answers.{told}
 use borrow.Author.Needs.{needs}
 use Rattle.verify_answer.proofs.tell.Statement.{statement}

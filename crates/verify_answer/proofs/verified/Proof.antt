@@ -1,4 +1,4 @@
--- `verify_answer::verified` meets its contract. Assumes nothing.
+-- `verify_answer::verified` meets its contract.
 use mathlib.Core.Path.{ap, _∙_}
 use denote.Ref.{now}
 use Rattle.loader_from_file.specs.Loads.{LoadLeft}

@@ -1,4 +1,4 @@
--- `wear::differ` meets its contract: what was passed is the same, so the rest decides. Assumes nothing.
+-- `wear::differ` meets its contract: what was passed is the same, so the rest decides.
 use mathlib.Core.Path.{_≡_, refl, sym, ap, _∙_}
 use Prim.Native.Nat.{_≤_, _-_}
 use native.Mathlib.Omega.{arith}

@@ -1,4 +1,4 @@
--- `wear::sum` meets its contract: what is left to do leads to what was to do. Assumes nothing.
+-- `wear::sum` meets its contract: what is left to do leads to what was to do.
 use mathlib.Core.Path.{_≡_, sym, ap, _∙_}
 use Prim.Native.Nat.{_-_, _+_, _≤_}
 use native.Mathlib.Omega.{arith}

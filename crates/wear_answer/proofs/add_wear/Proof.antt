@@ -1,4 +1,4 @@
--- `wear_answer::add_wear` meets its contract. Assumes nothing.
+-- `wear_answer::add_wear` meets its contract.
 use mathlib.Core.Path.{ap, _∙_}
 use denote.Ref.{now}
 use borrow.Author.Tests.{eq-eqb, ne-eqb}

@@ -1,4 +1,4 @@
--- `wear_answer::finish` meets its contract. Assumes nothing.
+-- `wear_answer::finish` meets its contract.
 use mathlib.Core.Path.{ap, _∙_}
 use Prim.Native.Nat.{zero-le}
 use denote.Ref.{now}

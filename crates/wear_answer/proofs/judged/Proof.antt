@@ -1,4 +1,4 @@
--- `wear_answer::judged` meets its contract. Assumes nothing.
+-- `wear_answer::judged` meets its contract.
 use mathlib.Core.Path.{sym, _∙_}
 use denote.Ref.{now}
 use Rattle.common.proofs.Choice.{if-true, if-false}

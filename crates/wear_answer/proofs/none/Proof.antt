@@ -1,4 +1,4 @@
--- `wear_answer::none` meets its contract. Assumes nothing.
+-- `wear_answer::none` meets its contract.
 use mathlib.Core.Path.{ap}
 use mathlib.Core.Bool.{true}
 use Rattle.wear.specs.declared.Report.{Report}

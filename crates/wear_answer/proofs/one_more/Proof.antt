@@ -1,4 +1,4 @@
--- `wear_answer::one_more` meets its contract. Assumes nothing.
+-- `wear_answer::one_more` meets its contract.
 use mathlib.Core.Path.{sym, _∙_}
 use denote.Ref.{now}
 use Rattle.wear_answer.specs.Answers.{uncounted, wearSaid, moreSaid}

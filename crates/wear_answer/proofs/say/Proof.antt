@@ -1,4 +1,4 @@
--- `wear_answer::say` meets its contract. Assumes nothing.
+-- `wear_answer::say` meets its contract.
 use mathlib.Core.Path.{refl}
 use denote.Ref.{now}
 use Rattle.wear_answer.proofs.Ways.{spoiled}

@@ -1,4 +1,4 @@
--- `wear_answer::traced` meets its contract. Assumes nothing.
+-- `wear_answer::traced` meets its contract.
 use Rattle.wear_answer.specs.Answers.{wornTraced}
 use borrow.Author.Needs.{needs}
 use Rattle.wear_answer.proofs.traced.Statement.{statement}

@@ -1,4 +1,4 @@
--- `wear_answer::unread` meets its contract. Assumes nothing.
+-- `wear_answer::unread` meets its contract.
 use mathlib.Core.Path.{refl}
 use Rattle.wear_answer.specs.Answers.{unread}
 use Rattle.wear_answer.proofs.unread.Statement.{statement}

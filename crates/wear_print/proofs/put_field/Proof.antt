@@ -1,4 +1,4 @@
--- `wear_print::put_field` meets its contract. Assumes nothing.
+-- `wear_print::put_field` meets its contract.
 use mathlib.Core.Path.{_∙_}
 use Prim.Native.Nat.{_+_, _-_, _≤_}
 use native.Mathlib.Omega.{arith}

@@ -1,4 +1,4 @@
--- `wear_print::put_row` meets its contract. Assumes nothing.
+-- `wear_print::put_row` meets its contract.
 use mathlib.Core.Path.{_≡_, _∙_}
 use mathlib.Core.List.{List, _++_}
 use Prim.Native.Nat.{ℕ, _+_, _≤_, _<_}

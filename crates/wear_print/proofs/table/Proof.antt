@@ -1,4 +1,4 @@
--- `wear_print::table` meets its contract. Assumes nothing.
+-- `wear_print::table` meets its contract.
 use mathlib.Core.Path.{_≡_, _∙_}
 use mathlib.Core.List.{List, _++_}
 use Prim.Native.Nat.{ℕ, zero-le, _≤_}

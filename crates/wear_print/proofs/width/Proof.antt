@@ -1,4 +1,4 @@
--- `wear_print::width` meets its contract: the digits passed and those left make up the count. Assumes nothing.
+-- `wear_print::width` meets its contract: the digits passed and those left make up the count.
 use mathlib.Core.Path.{_≡_, refl}
 use Prim.Native.Nat.{_+_, _-_, _≤_}
 use native.Mathlib.Omega.{arith}

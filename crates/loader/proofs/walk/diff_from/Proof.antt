@@ -1,4 +1,4 @@
--- `loader::walk::diff_from` meets its contract: what is left to look at is what was to look at. Assumes nothing.
+-- `loader::walk::diff_from` meets its contract: what is left to look at is what was to look at.
 use mathlib.Core.Path.{_≡_, sym, ap, _∙_}
 use mathlib.Core.Bool.{true, false}
 use Prim.Native.Nat.{ℕ, _+_, _-_}

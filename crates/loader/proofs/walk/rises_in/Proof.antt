@@ -1,4 +1,4 @@
--- `loader::walk::rises_in` meets its contract: what is left to look at is what was to look at. Assumes nothing.
+-- `loader::walk::rises_in` meets its contract: what is left to look at is what was to look at.
 use mathlib.Core.Path.{_≡_, sym, ap, ap₂, _∙_}
 use mathlib.Core.Bool.{Bool, true, false, _||_}
 use Prim.Native.Nat.{ℕ, _+_, _-_, _≤_}

@@ -1,4 +1,4 @@
--- `loader_held::holds::is_listed` meets its contract: what is left to look at is what was to look at. Assumes nothing.
+-- `loader_held::holds::is_listed` meets its contract: what is left to look at is what was to look at.
 use mathlib.Core.Path.{_≡_, refl, sym, _∙_}
 use mathlib.Core.Bool.{Bool}
 use Prim.Native.Nat.{ℕ, _-_, _≤_}

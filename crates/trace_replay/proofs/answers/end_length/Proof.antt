@@ -1,4 +1,4 @@
--- `trace_replay::answers::end_length` meets its contract. Assumes nothing.
+-- `trace_replay::answers::end_length` meets its contract.
 use Rattle.trace_replay.specs.Answers.{traceEnd, markOf}
 use borrow.Author.Tests.{eq-eqb, ne-eqb}
 use Rattle.trace_replay.proofs.answers.end_length.Statement.{statement}

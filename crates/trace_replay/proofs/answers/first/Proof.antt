@@ -1,4 +1,4 @@
--- `trace_replay::answers::first` meets its contract. Assumes nothing.
+-- `trace_replay::answers::first` meets its contract.
 use borrow.Author.Needs.{needs}
 use Rattle.trace_replay.proofs.answers.first.Statement.{statement}
 use Rattle.trace_replay.proofs.answers.first.Tie as tie

@@ -1,4 +1,4 @@
--- `trace_replay::answers::letter` meets its contract. Assumes nothing.
+-- `trace_replay::answers::letter` meets its contract.
 use borrow.Author.Needs.{needs}
 use Rattle.trace_replay.proofs.answers.letter.Statement.{statement}
 use Rattle.trace_replay.proofs.answers.letter.Tie as tie

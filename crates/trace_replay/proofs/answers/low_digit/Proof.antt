@@ -1,4 +1,4 @@
--- `trace_replay::answers::low_digit` meets its contract. Assumes nothing.
+-- `trace_replay::answers::low_digit` meets its contract.
 use mathlib.Core.Path.{_≡_, ap, _∙_}
 use Prim.Native.Nat.{_%_}
 use native.Mathlib.Omega.{arith}

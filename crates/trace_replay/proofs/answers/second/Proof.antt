@@ -1,4 +1,4 @@
--- `trace_replay::answers::second` meets its contract. Assumes nothing.
+-- `trace_replay::answers::second` meets its contract.
 use borrow.Author.Needs.{needs}
 use Rattle.trace_replay.proofs.answers.second.Statement.{statement}
 use Rattle.trace_replay.proofs.answers.second.Tie as tie

@@ -1,4 +1,4 @@
--- `trace_replay::answers::write_answer` meets its contract. Assumes nothing.
+-- `trace_replay::answers::write_answer` meets its contract.
 use Rattle.trace_replay.specs.Answers.{answerText}
 use borrow.Author.Needs.{needs}
 use Rattle.trace_replay.proofs.answers.write_answer.Statement.{statement}

@@ -1,4 +1,4 @@
--- `trace_replay::answers::write_end` meets its contract. Assumes nothing.
+-- `trace_replay::answers::write_end` meets its contract.
 use Rattle.trace_replay.specs.Answers.{traceEnd}
 use Rattle.trace_replay.proofs.Turns.{end-nothing}
 use borrow.Author.Needs.{needs}

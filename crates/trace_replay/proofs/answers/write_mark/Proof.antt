@@ -1,4 +1,4 @@
--- `trace_replay::answers::write_mark` meets its contract. Assumes nothing.
+-- `trace_replay::answers::write_mark` meets its contract.
 use Rattle.trace_replay.specs.Answers.{markOf}
 use borrow.Author.Needs.{needs}
 use Rattle.trace_replay.proofs.answers.write_mark.Statement.{statement}
