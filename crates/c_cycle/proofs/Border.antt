@@ -1,4 +1,4 @@
--- Numbers and what they stand for: there and back, and what becomes of numbers that stand for nothing. Assumes nothing.
+-- Numbers and what they stand for: there and back, and what becomes of numbers that stand for nothing.
 use mathlib.Core.Path.{_≡_, refl, sym, _∙_, ap}
 use mathlib.Core.Bool.{Bool, true, false, not, _&&_, _||_}
 use Prim.Native.Nat.{ℕ, zero, suc, _≤_}

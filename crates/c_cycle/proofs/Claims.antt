@@ -1,4 +1,4 @@
--- What is claimed of numbers and what they stand for, in one place. Assumes nothing.
+-- What is claimed of numbers and what they stand for, in one place.
 use mathlib.Core.Path.{_≡_}
 use mathlib.Core.Bool.{true, false}
 use lib.Dec.{ltb}

@@ -1,4 +1,4 @@
--- What a cycle answers, as plain numbers. Assumes nothing.
+-- What a cycle answers, as plain numbers.
 use Prim.Native.Nat.{ℕ}
 use Rattle.common.specs.Choice.{if_then_else_}
 use Rattle.model_types.specs.declared.State.{State}

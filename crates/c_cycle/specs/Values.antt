@@ -1,4 +1,4 @@
--- Device, state and cycle as plain numbers, each way. Assumes nothing.
+-- Device, state and cycle as plain numbers, each way.
 use mathlib.Core.Bool.{Bool, not, _&&_, _||_}
 use Prim.Native.Nat.{ℕ}
 use lib.Dec.{eqb, ltb}

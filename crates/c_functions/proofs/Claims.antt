@@ -1,5 +1,5 @@
 -- What is claimed of the C functions, in one place. What is said of a stage and a verify holds of a run, a load alone and a verify
--- alone, and of a load and a verify from a file. Assumes nothing.
+-- alone, and of a load and a verify from a file.
 use mathlib.Core.Path.{_≡_}
 use mathlib.Core.Bool.{Bool, true, false}
 use mathlib.Core.List.{List}

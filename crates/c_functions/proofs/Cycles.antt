@@ -1,4 +1,4 @@
--- From what a cycle answers to the numbers that a C function gives. Assumes nothing.
+-- From what a cycle answers to the numbers that a C function gives.
 use mathlib.Core.Path.{_≡_, ap, _∙_}
 use mathlib.Core.List.{List}
 use Prim.Native.Nat.{ℕ}

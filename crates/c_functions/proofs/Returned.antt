@@ -1,4 +1,4 @@
--- What the C functions give back: what came in where they refuse, and else the typed functions' answers. Assumes nothing.
+-- What the C functions give back: what came in where they refuse, and else the typed functions' answers.
 use mathlib.Core.Path.{_≡_, refl, sym, _∙_, ap}
 use mathlib.Core.Bool.{Bool, true, false, not, _||_}
 use mathlib.Core.List.{List}

@@ -1,4 +1,4 @@
--- What the C functions about wear give back: what came where they refuse, and else the typed functions' answers. Assumes nothing.
+-- What the C functions about wear give back: what came where they refuse, and else the typed functions' answers.
 use mathlib.Core.Path.{_≡_, refl, ap}
 use mathlib.Core.List.{List}
 use mathlib.Core.Logic.{_↔_}

@@ -1,4 +1,4 @@
--- What each C function gives: the typed function's answer as numbers. Assumes nothing.
+-- What each C function gives: the typed function's answer as numbers.
 use mathlib.Core.Bool.{Bool, true, false}
 use mathlib.Core.List.{List}
 use Prim.Native.Nat.{ℕ}

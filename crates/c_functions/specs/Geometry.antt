@@ -1,4 +1,4 @@
--- Where a part's blocks lie, as numbers. Assumes nothing.
+-- Where a part's blocks lie, as numbers.
 use mathlib.Core.Bool.{false}
 use Prim.Native.Nat.{ℕ}
 use Rattle.common.specs.Choice.{if_then_else_}

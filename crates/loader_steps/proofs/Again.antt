@@ -1,4 +1,4 @@
--- Start and step: their refusals exactly, what a refusal leaves, every record taken again, and the end that repeats. Assumes nothing.
+-- Start and step: their refusals exactly, what a refusal leaves, every record taken again, and the end that repeats.
 use mathlib.Core.Path.{_≡_, refl, sym, ap, _∙_, subst}
 use mathlib.Core.Bool.{Bool, true, false, not, _&&_}
 use mathlib.Core.List.{List}

@@ -1,4 +1,4 @@
--- What is claimed of the loader, in one place. Assumes nothing.
+-- What is claimed of the loader, in one place.
 use mathlib.Core.Path.{_≡_}
 use mathlib.Core.Bool.{Bool, true, false}
 use mathlib.Core.List.{List}

@@ -1,4 +1,4 @@
--- A load alone keeps to its stages and ends, and so does a verify, whatever data are handed to the steps. Assumes nothing.
+-- A load alone keeps to its stages and ends, and so does a verify, whatever data are handed to the steps.
 use mathlib.Core.Path.{_≡_, refl, sym, ap, _∙_}
 use mathlib.Core.Bool.{true, false}
 use mathlib.Core.List.{List}

@@ -1,4 +1,4 @@
--- A run's step is its load's, and the verify's start where the load ended well, whatever data are handed on. Assumes nothing.
+-- A run's step is its load's, and the verify's start where the load ended well, whatever data are handed on.
 use mathlib.Core.Path.{_≡_, refl, sym, ap, _∙_}
 use mathlib.Core.Bool.{Bool, true, false}
 use mathlib.Core.List.{List}

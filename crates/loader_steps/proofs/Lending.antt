@@ -1,4 +1,4 @@
--- Lent bytes that a start or a step takes are whole units, and its promises speak of them. Assumes nothing.
+-- Lent bytes that a start or a step takes are whole units, and its promises speak of them.
 use mathlib.Core.Path.{_≡_, sym, ap, ap₂, _∙_, subst}
 use mathlib.Core.Bool.{Bool, false, not}
 use mathlib.Core.List.{List}

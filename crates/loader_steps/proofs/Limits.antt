@@ -1,4 +1,4 @@
--- A record that is taken is where the code's own limits are not met. Assumes nothing.
+-- A record that is taken is where the code's own limits are not met.
 use mathlib.Core.Path.{_≡_, subst}
 use Prim.Native.Nat.{ℕ, _+_, _<_}
 use native.Mathlib.Omega.{arith}

@@ -1,4 +1,4 @@
--- Addresses are small: a block begins inside the array. Assumes nothing.
+-- Addresses are small: a block begins inside the array.
 use Prim.Native.Nat.{ℕ, _≤_, _<_}
 use native.Mathlib.Omega.{arith}
 use Rattle.device.specs.declared.Part.{Part}

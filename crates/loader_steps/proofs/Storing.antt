@@ -1,4 +1,4 @@
--- What a read's data do to scratch, through its units. Assumes nothing.
+-- What a read's data do to scratch, through its units.
 use mathlib.Core.Path.{_≡_, sym, ap, _∙_}
 use mathlib.Core.Bool.{Bool, true, false}
 use mathlib.Core.List.{List, _++_, append-nil}

@@ -1,4 +1,4 @@
--- What a turn tells by its cases is what its start, or its step, tells. Assumes nothing.
+-- What a turn tells by its cases is what its start, or its step, tells.
 use mathlib.Core.Path.{_≡_, ap, _∙_}
 use mathlib.Core.Bool.{Bool}
 use mathlib.Core.List.{List, []}

@@ -1,4 +1,4 @@
--- What a step does not look at: in byte mode the high byte of the data, and in a status at either width. Assumes nothing.
+-- What a step does not look at: in byte mode the high byte of the data, and in a status at either width.
 use mathlib.Core.Path.{_≡_, refl, ap, _∙_}
 use mathlib.Core.Bool.{Bool, true, false, _&&_}
 use mathlib.Core.List.{List}

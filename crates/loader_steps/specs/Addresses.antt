@@ -1,4 +1,4 @@
--- Where the cycles of a load go that are about the block as a whole. Assumes nothing.
+-- Where the cycles of a load go that are about the block as a whole.
 use Prim.Native.Nat.{ℕ}
 use Rattle.device.specs.Parts.{startOf}
 use Rattle.loader.specs.declared.Loader.{Loader}

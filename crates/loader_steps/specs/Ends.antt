@@ -1,4 +1,4 @@
--- The ends of a load and of a verify, the stages of each alone, and how a run goes from one to the other. Assumes nothing.
+-- The ends of a load and of a verify, the stages of each alone, and how a run goes from one to the other.
 use mathlib.Core.Bool.{Bool, true, false, _&&_, _||_}
 use Prim.Native.Nat.{ℕ}
 use lib.Dec.{eqb, leb}

@@ -1,5 +1,5 @@
 -- The loader's tests, its start and its step. Lengths are counted in units, and what is wanted and scratch are lists of units: those of
--- the lent bytes, of which an odd number makes none in word mode. Assumes nothing.
+-- the lent bytes, of which an odd number makes none in word mode.
 use mathlib.Core.Bool.{Bool, true, false, not, _&&_, _||_}
 use mathlib.Core.List.{List, [], _∷_}
 use Prim.Native.Nat.{ℕ}

@@ -1,5 +1,5 @@
 -- What only the code's shape asks for: it adds addresses in 32 bits. A record that a start or a step takes has its place inside the block,
--- and there an address is the sum (`here-is`). Assumes nothing.
+-- and there an address is the sum (`here-is`).
 use Prim.Native.Nat.{ℕ, _+_}
 use lib.Dec.{ltb}
 use Rattle.common.specs.Choice.{if_then_else_}

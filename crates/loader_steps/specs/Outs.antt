@@ -1,4 +1,4 @@
--- The cycle that is out. Addresses are those of units, and what is wanted is a list of units. Assumes nothing.
+-- The cycle that is out. Addresses are those of units, and what is wanted is a list of units.
 use mathlib.Core.Bool.{Bool}
 use mathlib.Core.List.{List}
 use Prim.Native.Nat.{ℕ}

@@ -1,4 +1,4 @@
--- What the data of a cycle do to scratch, a list of units. Assumes nothing.
+-- What the data of a cycle do to scratch, a list of units.
 use mathlib.Core.Bool.{Bool, _&&_}
 use mathlib.Core.List.{List}
 use Prim.Native.Nat.{ℕ}

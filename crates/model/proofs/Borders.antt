@@ -1,4 +1,4 @@
--- Between lent bytes and units: what a cycle on units says of the bytes. Assumes nothing.
+-- Between lent bytes and units: what a cycle on units says of the bytes.
 use mathlib.Core.Path.{_≡_, refl, sym, ap, ap₂, subst, _∙_}
 use mathlib.Core.Bool.{Bool, true, false, _&&_, _||_}
 use mathlib.Core.List.{List, [], _∷_}

@@ -1,4 +1,4 @@
--- What the effects on units do to the lent bytes, byte by byte. Assumes nothing.
+-- What the effects on units do to the lent bytes, byte by byte.
 use mathlib.Core.Path.{_≡_, refl, sym, ap, ap₂, subst, _∙_}
 use mathlib.Core.Bool.{Bool, true, false}
 use mathlib.Core.List.{List, _∷_}

@@ -1,4 +1,4 @@
--- What is claimed of the bench model, in one place. Assumes nothing.
+-- What is claimed of the bench model, in one place.
 use mathlib.Core.Path.{_≡_}
 use mathlib.Core.Bool.{true, false, _&&_, _||_}
 use mathlib.Core.List.{List, _∷_}

@@ -1,4 +1,4 @@
--- The array under an effect: it keeps its length, and its cells stay cells. Assumes nothing.
+-- The array under an effect: it keeps its length, and its cells stay cells.
 use mathlib.Core.Path.{_≡_, refl, sym, subst}
 use mathlib.Core.Bool.{Bool, true, false}
 use mathlib.Core.List.{List, _++_}

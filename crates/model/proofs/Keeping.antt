@@ -1,4 +1,4 @@
--- Proper stays proper: through settling, through an action, through a cycle. Assumes nothing.
+-- Proper stays proper: through settling, through an action, through a cycle.
 use mathlib.Core.Path.{_≡_, refl, sym, subst, _∙_}
 use mathlib.Core.Bool.{Bool, true, false, _&&_, _||_}
 use Prim.Native.Nat.{ℕ, _-_, _≤_}

@@ -1,4 +1,4 @@
--- Begun, pending and ended operations, and the law that ties them. Assumes nothing.
+-- Begun, pending and ended operations, and the law that ties them.
 use mathlib.Core.Path.{_≡_, refl, sym, ap, _∙_}
 use mathlib.Core.Bool.{Bool, true, false, not, _&&_}
 use Prim.Native.Nat.{ℕ, _+_, _-_}

@@ -1,4 +1,4 @@
--- In byte mode the high byte of a cycle's data is not looked at. Assumes nothing.
+-- In byte mode the high byte of a cycle's data is not looked at.
 use mathlib.Core.Path.{_≡_, refl, ap, ap₂}
 use mathlib.Core.Bool.{Bool, true, false}
 use mathlib.Core.List.{List}

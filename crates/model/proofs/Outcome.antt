@@ -1,4 +1,4 @@
--- The one split of a cycle: refused by a number, or accepted with nothing against it. Assumes nothing.
+-- The one split of a cycle: refused by a number, or accepted with nothing against it.
 use mathlib.Core.Path.{_≡_, refl, sym, subst}
 use mathlib.Core.Bool.{Bool, true, false}
 use Prim.Native.Nat.{ℕ}

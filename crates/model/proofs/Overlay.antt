@@ -1,4 +1,4 @@
--- A block's units in the array. Assumes nothing.
+-- A block's units in the array.
 use mathlib.Core.Path.{_≡_, ap, _∙_}
 use mathlib.Core.List.{List}
 use Prim.Native.Nat.{ℕ, _+_, _≤_}

@@ -1,4 +1,4 @@
--- A cycle to which refusals 1 to 6 do not apply is answered by `after_judging`. Assumes nothing.
+-- A cycle to which refusals 1 to 6 do not apply is answered by `after_judging`.
 use mathlib.Core.Path.{_≡_, refl, sym, ap, _∙_}
 use mathlib.Core.Bool.{Bool, true, _&&_}
 use mathlib.Core.List.{List}

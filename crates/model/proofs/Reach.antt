@@ -1,4 +1,4 @@
--- What a decided cycle touches lies inside the array and the residue. Assumes nothing.
+-- What a decided cycle touches lies inside the array and the residue.
 use mathlib.Core.Path.{_≡_, refl}
 use mathlib.Core.Bool.{true, false, not, _&&_, _||_}
 use Prim.Native.Nat.{ℕ, _-_, _≤_}

@@ -1,4 +1,4 @@
--- Facts of the status register under masks: one computed test over 256 values, and one law. Assumes nothing.
+-- Facts of the status register under masks: one computed test over 256 values, and one law.
 use mathlib.Core.Path.{_≡_, refl, sym, ap, _∙_}
 use mathlib.Core.Bool.{Bool, true, false, not, _&&_, _||_}
 use Prim.Native.Nat.{ℕ, zero, suc, _/_, _%_, _≤_, _<_}

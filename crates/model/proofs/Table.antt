@@ -1,4 +1,4 @@
--- The table of refusals: refused by a number exactly where its row is the first that holds. Assumes nothing.
+-- The table of refusals: refused by a number exactly where its row is the first that holds.
 use mathlib.Core.Path.{_≡_, refl, sym, ap, _∙_}
 use mathlib.Core.List.{List}
 use mathlib.Core.Logic.{_↔_}

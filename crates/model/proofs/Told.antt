@@ -1,4 +1,4 @@
--- What the host sees tells by its cases what the cycle tells. Assumes nothing.
+-- What the host sees tells by its cases what the cycle tells.
 use mathlib.Core.Path.{_≡_, refl, ap, _∙_}
 use mathlib.Core.List.{List}
 use Prim.Native.Nat.{ℕ}

@@ -1,4 +1,4 @@
--- A cycle counts the erase that it begins, and nothing else. Assumes nothing.
+-- A cycle counts the erase that it begins, and nothing else.
 use mathlib.Core.Path.{_≡_, refl, sym, ap, _∙_}
 use mathlib.Core.Bool.{Bool, true, false, not, _&&_}
 use Prim.Native.Nat.{ℕ, _-_, _<_}

@@ -1,4 +1,4 @@
--- What a cycle does to the array, and what the host sees: on lists of units, and at the end on the lent bytes. Assumes nothing.
+-- What a cycle does to the array, and what the host sees: on lists of units, and at the end on the lent bytes.
 use mathlib.Core.Path.{_≡_}
 use mathlib.Core.Bool.{Bool, true, false}
 use mathlib.Core.List.{List, [], _∷_}

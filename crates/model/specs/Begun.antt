@@ -1,4 +1,4 @@
--- Operations over their life: which one a cycle begins, which is pending in a state, which one an effect ends or cuts. Assumes nothing.
+-- Operations over their life: which one a cycle begins, which is pending in a state, which one an effect ends or cuts.
 use mathlib.Core.Bool.{not, _&&_}
 use Prim.Native.Nat.{ℕ}
 use lib.Dec.{eqb}

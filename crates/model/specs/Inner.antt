@@ -1,6 +1,6 @@
 -- A cycle after it was judged, on any array and residue. Not part of what a buyer must believe, and meant only for callers that know
 -- refusals 1 to 6 not to apply: that it then is the cycle's answer is proved (`judged-answer`). Where one of them would apply, it
--- answers what the rules forbid: data, a new state or a changed array instead of the refusal. Assumes nothing.
+-- answers what the rules forbid: data, a new state or a changed array instead of the refusal.
 use mathlib.Core.Path.{_≡_}
 use mathlib.Core.Bool.{Bool, true, _&&_}
 use mathlib.Core.List.{List}

@@ -1,4 +1,4 @@
--- What is said of a word by its two bytes, and of a cycle without its high byte. Assumes nothing.
+-- What is said of a word by its two bytes, and of a cycle without its high byte.
 use mathlib.Core.List.{List}
 use Prim.Native.Nat.{ℕ, _+_, _%_}
 use lib.ListN.{getD, set}

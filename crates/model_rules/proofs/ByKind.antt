@@ -1,4 +1,4 @@
--- The answers kind by kind are those of the table. Assumes nothing.
+-- The answers kind by kind are those of the table.
 use mathlib.Core.Path.{_≡_, refl, ap, _∙_}
 use mathlib.Core.Bool.{Bool, true, false, _&&_}
 use Prim.Native.Nat.{ℕ}

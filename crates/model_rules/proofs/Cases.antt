@@ -1,4 +1,4 @@
--- The ways out of a cycle: refused early, refused late, or accepted. Assumes nothing.
+-- The ways out of a cycle: refused early, refused late, or accepted.
 use mathlib.Core.Path.{_≡_, refl, _∙_}
 use Prim.Native.Nat.{ℕ}
 use lib.Dec.{eqb}

@@ -1,4 +1,4 @@
--- What is claimed of a judged cycle. What the rules amount to is claimed with the model, whose cycle applies them. Assumes nothing.
+-- What is claimed of a judged cycle. What the rules amount to is claimed with the model, whose cycle applies them.
 use mathlib.Core.Path.{_≡_, refl}
 use mathlib.Core.Bool.{Bool, true, false}
 use mathlib.Core.List.{List, [], _∷_}

@@ -1,4 +1,4 @@
--- What is known of a cycle that nothing refuses, and of a proper state. Assumes nothing.
+-- What is known of a cycle that nothing refuses, and of a proper state.
 use mathlib.Core.Path.{_≡_, refl, sym, _∙_}
 use mathlib.Core.Bool.{false, _||_}
 use Prim.Native.Nat.{ℕ}

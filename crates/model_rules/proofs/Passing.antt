@@ -1,4 +1,4 @@
--- A cycle is refused by its early number, or passes; and an array read at rest passes with its byte. Assumes nothing.
+-- A cycle is refused by its early number, or passes; and an array read at rest passes with its byte.
 use mathlib.Core.Path.{_≡_, refl, sym, ap, _∙_}
 use mathlib.Core.Bool.{Bool, true, false, not, _&&_}
 use Prim.Native.Nat.{ℕ}

@@ -1,5 +1,5 @@
 -- A whole cycle: the table of refusals, and the answer, state and effect where none applies. Addresses are those of units, and the
--- lengths of the array and the residue are counted in units. Assumes nothing.
+-- lengths of the array and the residue are counted in units.
 use mathlib.Core.Bool.{Bool, not, _&&_, _||_}
 use mathlib.Core.List.{List, [], _∷_, _++_}
 use Prim.Native.Nat.{ℕ, _/_}

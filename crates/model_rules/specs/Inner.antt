@@ -1,6 +1,6 @@
 -- The answers kind by kind, in the order in which the code asks. Not part of what a buyer must believe, and meant only for callers
 -- that know refusals 1 to 6 not to apply: that the table then gives the same is proved (`passes`). Where one of them would apply,
--- what is said here is not the device's answer. Assumes nothing.
+-- what is said here is not the device's answer.
 use mathlib.Core.Bool.{Bool, false, not, _&&_}
 use Prim.Native.Nat.{ℕ}
 use lib.Dec.{eqb, ltb}

@@ -1,5 +1,5 @@
 -- `tb_step` meets its promise: its code is walked by hand, since a record lent by `&mut` is not covered. The loan is opened, the
--- record copied out, `stepped` called on it, the record that comes back stored in its place, and the loan closed. Assumes nothing.
+-- record copied out, `stepped` called on it, the record that comes back stored in its place, and the loan closed.
 use mathlib.Core.Path.{_≡_, refl, ap}
 use mathlib.Core.List.{List, [], _∷_}
 use Prim.Native.Nat.{ℕ, _<_, _^_}

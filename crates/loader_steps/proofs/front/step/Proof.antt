@@ -1,4 +1,4 @@
--- `loader_steps::front::step` meets its contract, by the laws of lent bytes. Assumes nothing.
+-- `loader_steps::front::step` meets its contract, by the laws of lent bytes.
 use borrow.Author.Needs.{needs}
 use mathlib.Core.Path.{sym, _∙_}
 use Rattle.units.specs.Units.{lent}
