@@ -34,6 +34,7 @@ stepIn n =
     else if eqb n 5 then Fetching
     else Resuming
 
+-- .. and a step as its number
 abbrev pub stepOut : Step → ℕ
 stepOut Usual = 0
 stepOut Halting = 1
@@ -55,6 +56,7 @@ waitsIn n = if noHold n then 65535 else n .waits
 abbrev pub holdIn : HoldNumbers → Hold
 holdIn n = record { step = stepIn (n .step); number = n .number; place = n .place; waits = waitsIn n; suspended = eqb (n .suspended) 1 }
 
+-- .. an interruption's record as numbers
 abbrev pub holdOut : Hold → HoldNumbers
 holdOut h = record { step = stepOut (h .step); suspended = flagOut (h .suspended); number = h .number; waits = h .waits; place = h .place }
 
@@ -66,9 +68,11 @@ holdBack n h = if noHold n then n else holdOut h
 abbrev pub heldIn : HeldNumbers → Pair
 heldIn n = record { loader = loaderIn (n .loader); hold = holdIn (n .hold) }
 
+-- .. as numbers
 abbrev pub heldOut : Pair → HeldNumbers
 heldOut q = record { loader = loaderOut (q .loader); hold = holdOut (q .hold) }
 
+-- .. the records that go back for those that came in; numbers that stand for none go back as they came
 abbrev pub heldBack : HeldNumbers → Pair → HeldNumbers
 heldBack n q = record { loader = loaderBack (n .loader) (q .loader); hold = holdBack (n .hold) (q .hold) }
 
@@ -76,6 +80,7 @@ heldBack n q = record { loader = loaderBack (n .loader) (q .loader); hold = hold
 abbrev pub givenHeld : HeldGiven → HeldGivenNumbers
 givenHeld g = record { turn = turnOut (g .turn); held = heldOut (g .pair) }
 
+-- .. what a step says, for the records that came in
 abbrev pub givenHeldBack : HeldNumbers → HeldGiven → HeldGivenNumbers
 givenHeldBack n g = record { turn = turnOut (g .turn); held = heldBack n (g .pair) }
 
@@ -97,9 +102,11 @@ unfoldable pub steppedHeld : HeldNumbers → ℕ → List ℕ → List ℕ → L
 steppedHeld n v w sc ps bs room =
     givenHeldBack n (stepHeldGiven (heldIn n .loader) (heldIn n .hold) v (lent (wordIn n) w) (lent (wordIn n) sc) ps bs (length room))
 
+-- .. what it leaves in scratch
 unfoldable pub scratchSteppedHeld : HeldNumbers → ℕ → List ℕ → List ℕ → List ℕ → List ℕ → List ℕ
 scratchSteppedHeld n v w sc bs room = heldScratchLeft (heldIn n .loader) (heldIn n .hold) v w sc bs (length room)
 
+-- .. what it leaves in the room
 unfoldable pub roomSteppedHeld : HeldNumbers → ℕ → List ℕ → List ℕ → List ℕ → List ℕ → List ℕ
 roomSteppedHeld n v w sc bs room = heldRoomLeft (heldIn n .loader) (heldIn n .hold) v w sc bs room
 

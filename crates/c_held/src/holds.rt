@@ -90,6 +90,7 @@ fn hold_back(n: HoldNumbers, h: Hold) -> HoldNumbers
     hold_out(h)
 }
 
+// Numbers as the two records, the loader's and the interruption's.
 pub fn held_in(n: HeldNumbers) -> Pair
     ensures { λ r. ⌜ r ≡ heldIn n ⌝ }
 {
@@ -101,6 +102,7 @@ pub fn held_in(n: HeldNumbers) -> Pair
     }
 }
 
+// The two records as numbers.
 pub fn held_out(q: Pair) -> HeldNumbers
     ensures { λ r. ⌜ r ≡ heldOut q ⌝ }
 {

@@ -41,6 +41,7 @@ fn reading_out(reading: Reading) -> ReadingNumbers
     }
 }
 
+// A reading as numbers, or a refusal with its number.
 pub fn answer_numbers(answer: ReadingAnswer) -> ReadingNumbers
     ensures { λ r. ⌜ r ≡ answerNumbers answer ⌝ }
 {

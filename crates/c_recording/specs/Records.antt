@@ -41,6 +41,7 @@ busSeen n =
 abbrev pub recordIn : RecordNumbers → Noted
 recordIn n = record { cycle = cycleIn (busSeen n); heard = heardIn (n .seen) (n .value); busy = n .busy }
 
+-- .. a list of them
 abbrev pub recordsIn : List RecordNumbers → List Noted
 recordsIn [] = []
 recordsIn (n ∷ ns) = recordIn n ∷ recordsIn ns
@@ -50,13 +51,16 @@ abbrev pub seenHeard : Heard → ℕ
 seenHeard Silence = 0
 seenHeard (Told v) = 1
 
+-- the value of an answer that was recorded: its data, 0 without
 abbrev pub valueHeard : Heard → ℕ
 valueHeard Silence = 0
 valueHeard (Told v) = v
 
+-- a record as numbers
 abbrev pub recordOut : Noted → RecordNumbers
 recordOut r = record { bus = cycleOut (r .cycle); seen = seenHeard (r .heard); value = valueHeard (r .heard); busy = r .busy }
 
+-- .. a list of them
 abbrev pub recordsOut : List Noted → List RecordNumbers
 recordsOut [] = []
 recordsOut (r ∷ rs) = recordOut r ∷ recordsOut rs
@@ -73,5 +77,6 @@ checkedOut n c = record { refusal = c .refusal; accepted = flagOut (c .accepted)
 unfoldable pub checkedGiven : DeviceNumbers → StateNumbers → List RecordNumbers → List ℕ → List ℕ → CheckedNumbers
 checkedGiven d s ns promised bytes = checkedOut s (checkedOf (deviceIn d) (stateIn s) (recordsIn ns) promised bytes)
 
+-- .. the lent bytes of the array after the check
 unfoldable pub arrayChecked : DeviceNumbers → StateNumbers → List RecordNumbers → List ℕ → List ℕ
 arrayChecked d s ns bytes = bytesChecked (deviceIn d) (stateIn s) (recordsIn ns) bytes

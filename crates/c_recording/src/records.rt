@@ -47,6 +47,7 @@ fn bus_seen(n: RecordNumbers) -> BusNumbers
     }
 }
 
+// Numbers as a record of a recording.
 pub fn record_in(n: RecordNumbers) -> Noted
     ensures { λ r. ⌜ r ≡ recordIn n ⌝ }
 {
@@ -58,6 +59,7 @@ pub fn record_in(n: RecordNumbers) -> Noted
     }
 }
 
+// What a check answers, as numbers, its state for the numbers that came in.
 pub fn checked_out(n: StateNumbers, c: Checked) -> CheckedNumbers
     ensures { λ r. ⌜ r ≡ checkedOut n c ⌝ }
 {

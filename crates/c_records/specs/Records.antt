@@ -39,6 +39,7 @@ stageIn n end =
     else if eqb n 10 then Verifying
     else Ended end
 
+-- .. and a stage as its number; the number that a load ended with stands apart
 abbrev pub stageOut : Stage → ℕ
 stageOut Clearing = 0
 stageOut Opening = 1
@@ -81,6 +82,7 @@ loaderIn n =
       high = eqb (n .high) 1;
     }
 
+-- .. and a loader's record as numbers
 abbrev pub loaderOut : Loader → LoaderNumbers
 loaderOut l =
     record {
@@ -106,6 +108,7 @@ loaderBack n l = if noRecord n then n else loaderOut l
 abbrev pub noCycle : BusNumbers
 noCycle = record { kind = 0; rp = 0; oe = 0; wp = 0; «data» = 0; vpp = 0; address = 0 }
 
+-- a turn by its four numbers
 abbrev pub turnAt : ℕ → ℕ → ℕ → BusNumbers → TurnNumbers
 turnAt turn number address cycle = record { turn = turn; number = number; address = address; cycle = cycle }
 
@@ -119,13 +122,16 @@ turnOut (Barred n) = turnAt 2 n 0 noCycle
 abbrev pub sizedAs : ℕ → ℕ → SizedNumbers
 sizedAs number size = record { number = number; length = size }
 
+-- what the writer made, as numbers
 abbrev pub writtenOut : Written → SizedNumbers
 writtenOut (Wrote size) = sizedAs 0 size
 writtenOut (NotWritten n) = sizedAs n 0
 
+-- what the reader gave, as numbers
 abbrev pub readOut : ReadBack → SizedNumbers
 readOut (Gave size) = sizedAs 0 size
 readOut (NotRead n) = sizedAs n 0
 
+-- what a run returns, as numbers, for the state's numbers that came in
 abbrev pub ranOut : StateNumbers → Ran → RanNumbers
 ranOut n r = record { count = r .count; end = r .end; address = r .address; state = stateBack n (r .state) }

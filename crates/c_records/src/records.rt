@@ -81,6 +81,7 @@ fn polls_in(n: LoaderNumbers) -> u32
     n.polls
 }
 
+// Numbers as a loader's record.
 pub fn loader_in(n: LoaderNumbers) -> Loader
     ensures { λ r. ⌜ r ≡ loaderIn n ⌝ }
 {
@@ -96,6 +97,7 @@ pub fn loader_in(n: LoaderNumbers) -> Loader
     }
 }
 
+// A loader's record as numbers.
 pub fn loader_out(l: Loader) -> LoaderNumbers
     ensures { λ r. ⌜ r ≡ loaderOut l ⌝ }
 {
@@ -154,6 +156,7 @@ fn turn_at(turn: u8, number: u8, address: u32, cycle: BusNumbers) -> TurnNumbers
     }
 }
 
+// What a start or a step says, as numbers.
 pub fn turn_out(turn: Turn) -> TurnNumbers
     ensures { λ r. ⌜ r ≡ turnOut turn ⌝ }
 {

@@ -6,6 +6,7 @@ use loader_run::Ran;
 ghost use mathlib.Core.Path.{_≡_};
 ghost use Rattle.c_records.specs.Records.{ranOut};
 
+// Its state is for the numbers that came in.
 pub fn ran_out(n: StateNumbers, ran: Ran) -> RanNumbers
     ensures { λ r. ⌜ r ≡ ranOut n ran ⌝ }
 {

@@ -14,6 +14,7 @@ fn sized_as(number: u8, size: usize) -> SizedNumbers
     }
 }
 
+// What the writer made, as numbers.
 pub fn written_out(written: Written) -> SizedNumbers
     ensures { λ r. ⌜ r ≡ writtenOut written ⌝ }
 {
@@ -23,6 +24,7 @@ pub fn written_out(written: Written) -> SizedNumbers
     }
 }
 
+// What the reader gave, as numbers.
 pub fn read_out(read: ReadBack) -> SizedNumbers
     ensures { λ r. ⌜ r ≡ readOut read ⌝ }
 {

@@ -25,6 +25,7 @@ foundOut f = sizedAs (f .number) (f .length)
 unfoldable pub storeFound : ℕ → ℕ → ℕ → List ℕ → List ℕ → SizedNumbers
 storeFound part word letter xs room = foundOut (foundAs (inRoom (length room) (foundOn (partIn part word) xs letter)))
 
+-- .. what it leaves in room
 unfoldable pub roomFound : ℕ → ℕ → ℕ → List ℕ → List ℕ → List ℕ
 roomFound part word letter xs room = leftIn room (inRoom (length room) (foundOn (partIn part word) xs letter))
 
@@ -32,6 +33,7 @@ roomFound part word letter xs room = leftIn room (inRoom (length room) (foundOn 
 unfoldable pub storeRead : ℕ → ℕ → ℕ → List ℕ → List ℕ → ℤ → ReadingNumbers
 storeRead part word letter xs room x = answerNumbers (answerAs x (inRoom (length room) (readBy letter (foundOn (partIn part word) xs letter))))
 
+-- .. what it leaves in room
 unfoldable pub roomRead : ℕ → ℕ → ℕ → List ℕ → List ℕ → List ℕ
 roomRead part word letter xs room = leftIn room (inRoom (length room) (readBy letter (foundOn (partIn part word) xs letter)))
 
@@ -39,6 +41,7 @@ roomRead part word letter xs room = leftIn room (inRoom (length room) (readBy le
 unfoldable pub dropped : DeviceNumbers → StateNumbers → ℕ → ℕ → ℕ → ℕ → List ℕ → List ℕ → List ℕ → ChangeLeft
 dropped d s rp wp vpp letter xs memory scratch = dropLeft (deviceIn d) (stateIn s) (pinsIn rp wp vpp) xs memory scratch letter
 
+-- .. its answer as numbers
 abbrev pub storeDropped : DeviceNumbers → StateNumbers → ℕ → ℕ → ℕ → ℕ → List ℕ → List ℕ → List ℕ → RanNumbers
 storeDropped d s rp wp vpp letter xs memory scratch = ranOut s (dropped d s rp wp vpp letter xs memory scratch .ran)
 
@@ -46,5 +49,6 @@ storeDropped d s rp wp vpp letter xs memory scratch = ranOut s (dropped d s rp w
 unfoldable pub added : DeviceNumbers → StateNumbers → ℕ → ℕ → ℕ → ℕ → List ℕ → List ℕ → List ℕ → List ℕ → ChangeLeft
 added d s rp wp vpp letter f xs memory scratch = addLeft (deviceIn d) (stateIn s) (pinsIn rp wp vpp) xs memory scratch f letter
 
+-- .. its answer as numbers
 abbrev pub storeAdded : DeviceNumbers → StateNumbers → ℕ → ℕ → ℕ → ℕ → List ℕ → List ℕ → List ℕ → List ℕ → RanNumbers
 storeAdded d s rp wp vpp letter f xs memory scratch = ranOut s (added d s rp wp vpp letter f xs memory scratch .ran)

@@ -10,6 +10,7 @@ use Rattle.c_wear.specs.declared.ReportedNumbers.{ReportedNumbers}
 abbrev pub tallyIn : TallyNumbers → Tally
 tallyIn n = record { total = n .total; largest = n .largest; smallest = n .smallest; passed = n .passed }
 
+-- .. as numbers
 abbrev pub tallyOut : Tally → TallyNumbers
 tallyOut t = record { total = t .total; largest = t .largest; smallest = t .smallest; passed = t .passed }
 
@@ -26,6 +27,7 @@ reportIn n = record {
   block6 = tallyIn (n .block6);
 }
 
+-- .. as numbers
 abbrev pub reportOut : Report → ReportNumbers
 reportOut r = record {
   traces = r .traces;
@@ -42,5 +44,6 @@ reportOut r = record {
 abbrev pub reportedIn : ReportedNumbers → Reported
 reportedIn n = record { number = n .number; report = reportIn (n .report) }
 
+-- .. as numbers
 abbrev pub reportedOut : Reported → ReportedNumbers
 reportedOut r = record { number = r .number; report = reportOut (r .report) }

@@ -56,6 +56,7 @@ fn tally_out(t: Tally) -> TallyNumbers
     }
 }
 
+// Numbers as a report.
 pub fn report_in(n: ReportNumbers) -> Report
     ensures { λ r. ⌜ r ≡ reportIn n ⌝ }
 {
@@ -78,6 +79,7 @@ pub fn report_in(n: ReportNumbers) -> Report
     }
 }
 
+// A report as numbers.
 pub fn report_out(r: Report) -> ReportNumbers
     ensures { λ q. ⌜ q ≡ reportOut r ⌝ }
 {
@@ -100,6 +102,7 @@ pub fn report_out(r: Report) -> ReportNumbers
     }
 }
 
+// A refusal or 0, and the report, as numbers.
 pub fn reported_out(r: Reported) -> ReportedNumbers
     ensures { λ q. ⌜ q ≡ reportedOut r ⌝ }
 {

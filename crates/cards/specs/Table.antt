@@ -26,9 +26,11 @@ use Rattle.loader_run_claims.specs.Ends.{erasedFrom}
 abbrev pub device : ℕ → ℕ → ℕ → Device
 device number program erase = record { part = record { number = number; word = false }; program = program; erase = erase; suspend = 1 }
 
+-- bench T with P 2 and E 3
 abbrev pub deviceT : Device
 deviceT = device 3 2 3
 
+-- bench B with P 2 and E 3
 abbrev pub deviceB : Device
 deviceB = device 4 2 3
 
@@ -36,6 +38,7 @@ deviceB = device 4 2 3
 abbrev pub pinsAt : ℕ → ℕ → Pins
 pinsAt rp vpp = record { rp = rp; vpp = vpp; wp = 0 }
 
+-- RP# high and 12 V
 abbrev pub normal : Pins
 normal = pinsAt 1 12000
 
@@ -43,9 +46,11 @@ normal = pinsAt 1 12000
 abbrev pub write : Pins → ℕ → ℕ → Bus
 write p a b = record { cycle = record { kind = Write; pins = p; oe = 0; address = a; «data» = b }; residue = [] }
 
+-- a read at an address
 abbrev pub read : Pins → ℕ → Bus
 read p a = record { cycle = record { kind = Read; pins = p; oe = 0; address = a; «data» = 0 }; residue = [] }
 
+-- a cycle with residue lent
 abbrev pub lent : List ℕ → Bus → Bus
 lent rs b = record { cycle = b .cycle; residue = rs }
 
@@ -68,11 +73,13 @@ alike (x ∷ xs) (y ∷ ys) = eqb x y && alike xs ys
 abbrev pub shows : World → ℕ → List ℕ → Bool
 shows v sr xs = eqb (v .state .status) sr && alike (v .bytes) xs
 
+-- a read gave this byte
 abbrev pub gives : ℕ → Seen → Bool
 gives b NoData = false
 gives b (Data x) = eqb b x
 gives b (Refused n) = false
 
+-- a cycle was refused by this number
 abbrev pub refuses : ℕ → Seen → Bool
 refuses n NoData = false
 refuses n (Data x) = false
@@ -82,6 +89,7 @@ refuses n (Refused m) = eqb n m
 abbrev pub plain : ℕ → List ℕ
 plain b = same 16384 b
 
+-- a bench array of one value with another byte at 10H
 abbrev pub spot : ℕ → ℕ → List ℕ
 spot b x = same 16 b ++ (x ∷ same 16367 b)
 
@@ -94,6 +102,7 @@ card1 = shows (worldAfter deviceT (fresh (spot 255 0xA5)) (write normal 16 0x40 
 abbrev pub cycles2 : ℕ → ℕ → List Bus
 cycles2 m a = write normal a 0x40 ∷ write normal a 0xFF ∷ replicate {A = Bus} (suc m) (read normal a)
 
+-- .. what the cycles of card 2 show and leave
 abbrev pub Card2 : Type 0
 Card2 = (d : Device) (m a : ℕ) (xs : List ℕ) → unknownDevice d ≡ false → d .program ≡ suc m → a < sizeOf (d .part) → (blockOf (d .part) a ≡ 0 → ⊥)
     → length xs ≡ sizeOf (d .part) → getD xs a 0 ≡ 0x3C
@@ -115,6 +124,7 @@ card4 =
 abbrev pub awaiting : World
 awaiting = worldAfter deviceT (fresh (spot 255 0xA5)) (write normal 16 0x40 ∷ [])
 
+-- .. what they show and leave
 abbrev pub card5 : Bool
 card5 =
     (refuses 4 (seenOn deviceT awaiting (write (pinsAt 1 6501) 16 0x5A)) && refuses 4 (seenOn deviceT awaiting (write (pinsAt 1 11399) 16 0x5A)))
@@ -132,6 +142,7 @@ card6 =
 abbrev pub cycles7 : ℕ → ℕ → List Bus
 cycles7 m a = write normal a 0x20 ∷ write normal a 0xD0 ∷ write normal a 0xB0 ∷ replicate {A = Bus} (suc m) (read normal a)
 
+-- .. what the cycles of card 7 show and leave
 abbrev pub Card7 : Type 0
 Card7 = (d : Device) (e m a : ℕ) (xs : List ℕ) → unknownDevice d ≡ false → d .erase ≡ e + 2 → d .suspend ≡ suc m → a < sizeOf (d .part)
     → (blockOf (d .part) a ≡ 0 → ⊥) → length xs ≡ sizeOf (d .part)

@@ -11,6 +11,7 @@ pub record Row : Type 0 where
   pub number : ℕ
   pub holds : Bool
 
+-- one row of a table: a number and its condition
 abbrev pub row : ℕ → Bool → Row
 row n b = record { number = n; holds = b }
 

@@ -11,6 +11,7 @@ ghost use Rattle.model.specs.Arrays.{answerOf, seenTold, cycleTold, bytesAfter}
 // An engine is told by one bit: a value of an enum goes through memory, and a program that names one engine would pay for the other.
 pub const RULES: bool = false;
 
+// The engine by the table.
 pub const TABLE: bool = true;
 
 // One bus cycle, by the table or by the rules.

@@ -37,6 +37,7 @@ readerBefore most f asked =
 abbrev pub told : ℕ → ℕ
 told n = if eqb n 38 then 31 else n
 
+-- an outcome with 38 told as 31
 abbrev pub toldBefore : Outcome → Outcome
 toldBefore (refused n) = refused (told n)
 toldBefore (made p) = made p

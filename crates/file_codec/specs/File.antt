@@ -102,10 +102,12 @@ abbrev pub writtenAs : Outcome → Written
 writtenAs (refused n) = NotWritten n
 writtenAs (made bytes) = Wrote (length bytes)
 
+-- .. of the reader's judgement alone
 abbrev pub judgedAs : Outcome → Judged
 judgedAs (refused n) = Unsound n
 judgedAs (made bytes) = Sound (length bytes)
 
+-- .. of the reader
 abbrev pub readAs : Outcome → ReadBack
 readAs (refused n) = NotRead n
 readAs (made bytes) = Gave (length bytes)
@@ -115,10 +117,12 @@ abbrev pub writtenTold : Written → ℕ × List ℕ
 writtenTold (Wrote size) = (0, size ∷ [])
 writtenTold (NotWritten n) = (n, [])
 
+-- .. of the reader's judgement alone
 abbrev pub judgedTold : Judged → ℕ × List ℕ
 judgedTold (Sound size) = (0, size ∷ [])
 judgedTold (Unsound n) = (n, [])
 
+-- .. of the reader
 abbrev pub readTold : ReadBack → ℕ × List ℕ
 readTold (Gave size) = (0, size ∷ [])
 readTold (NotRead n) = (n, [])

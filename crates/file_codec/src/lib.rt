@@ -11,8 +11,10 @@ ghost use Rattle.file_codec.specs.File.{limit, countOf, blocksOf, payloa
 // The most blocks that a file has; with them the bytes of the longest file, and of the longest payload.
 const LIMIT: usize = 224;
 
+// The bytes of the longest file.
 pub const FILE: usize = 512 * LIMIT;
 
+// The bytes of the longest payload.
 pub const PAYLOAD: usize = 505 * LIMIT;
 
 // The writer's answer: the bytes written, or the refusal.

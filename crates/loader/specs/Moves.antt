@@ -37,9 +37,11 @@ isReady sr = leb 0x80 sr
 abbrev pub sr3 : ℕ → Bool
 sr3 sr = eqb (sr / 0x08 % 2) 1
 
+-- SR.4 is set
 abbrev pub sr4 : ℕ → Bool
 sr4 sr = eqb (sr / 0x10 % 2) 1
 
+-- SR.5 is set
 abbrev pub sr5 : ℕ → Bool
 sr5 sr = eqb (sr / 0x20 % 2) 1
 
@@ -114,5 +116,6 @@ nextIn Closing l v w sc = movedTo l Verifying 0 0
 nextIn Verifying l v w sc = verifyMore l v w
 nextIn (Ended n) l v w sc = l
 
+-- .. by the record's own stage
 abbrev pub nextOf : Loader → ℕ → List ℕ → List ℕ → Loader
 nextOf l v w sc = nextIn (l .stage) l v w sc

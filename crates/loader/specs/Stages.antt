@@ -20,6 +20,7 @@ commands command = givesCycle Write false false command
 abbrev pub programs : StageIs
 programs = givesCycle Write true false 0x40
 
+-- the wanted unit, written to the unit at the record's place
 abbrev pub sends : StageIs
 sends = givesCycle Write true true 0
 
@@ -27,6 +28,7 @@ sends = givesCycle Write true true 0
 abbrev pub readsHere : StageIs
 readsHere = givesCycle Read true false 0
 
+-- a read of the block's first address
 abbrev pub readsFirst : StageIs
 readsFirst = givesCycle Read false false 0
 

@@ -33,12 +33,14 @@ pub fn moved(l: Loader, stage: Stage, place: usize, polls: u32) -> Loader
     }
 }
 
+// The end by a number, at the record's place.
 pub fn ended_by(l: Loader, n: u8) -> Loader
     ensures { λ r. ⌜ r ≡ endedBy l n ⌝ }
 {
     moved(l, Stage::Ended(n), l.place, 0)
 }
 
+// SR.7 of a status.
 pub fn is_ready(b: u8) -> bool
     ensures { λ r. ⌜ r ≡ isReady b ⌝ }
 {
@@ -69,6 +71,7 @@ fn both_errors(b: u8) -> bool
     program_error(b) & erase_error(b)
 }
 
+// How an erase ended, by its ready status: 21, 22, 23, or 0 where it went well.
 pub fn erase_fault(b: u8) -> u8
     ensures { λ r. ⌜ r ≡ eraseFault b ⌝ }
 {
@@ -84,6 +87,7 @@ pub fn erase_fault(b: u8) -> u8
     0
 }
 
+// How a program ended, by its ready status: 21, 22, 24, or 0 where it went well.
 pub fn program_fault(b: u8) -> u8
     ensures { λ r. ⌜ r ≡ programFault b ⌝ }
 {

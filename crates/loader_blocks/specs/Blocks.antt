@@ -53,6 +53,7 @@ unfoldable pub workCosts : Bool → ℕ → ℕ → List ℕ → List ℕ → �
 workCosts word once each w s =
     if risesIn w s then once + costs (length w) each 0 w (replicate (length w) (top word)) else costs (length w) each 0 w s
 
+-- .. as the code answers: their cycles, and whether the block was erased
 abbrev pub workDone : Bool → ℕ → ℕ → List ℕ → List ℕ → Done
 workDone word once each w s = record { cycles = workCosts word once each w s; erased = risesIn w s }
 
@@ -72,6 +73,7 @@ blockDone word once each h w s =
 unfoldable pub blockLeft : Bool → List ℕ → List ℕ → List ℕ → List ℕ
 blockLeft word h w s = if alike word (length h) (length w) (length s) then units word w else units word h
 
+-- .. what becomes of scratch
 unfoldable pub roomLeft : Bool → List ℕ → List ℕ → List ℕ → List ℕ
 roomLeft word h w s = if alike word (length h) (length w) (length s) then units word w else units word s
 

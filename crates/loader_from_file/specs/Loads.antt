@@ -67,6 +67,7 @@ fileLeftAt stage verify d s p k xs w sc f asked =
 abbrev pub loadLeft : Device → State → Pins → ℕ → List ℕ → List ℕ → List ℕ → List ℕ → ℕ → LoadLeft
 loadLeft d s p k xs w sc f asked = fileLeftAt Clearing true d s p k xs w sc f asked
 
+-- .. a verify alone, from a file
 abbrev pub verifyLeft : Device → State → Pins → ℕ → List ℕ → List ℕ → List ℕ → List ℕ → ℕ → LoadLeft
 verifyLeft d s p k xs w sc f asked = fileLeftAt Closing true d s p k xs w sc f asked
 
@@ -74,11 +75,14 @@ verifyLeft d s p k xs w sc f asked = fileLeftAt Closing true d s p k xs w sc f a
 abbrev pub loadedOf : Device → State → Pins → ℕ → List ℕ → List ℕ → List ℕ → List ℕ → ℕ → Ran
 loadedOf d s p k xs w sc f asked = loadLeft d s p k xs w sc f asked .ran
 
+-- .. the lent bytes of the array
 abbrev pub bytesLoaded : Device → State → Pins → ℕ → List ℕ → List ℕ → List ℕ → List ℕ → ℕ → List ℕ
 bytesLoaded d s p k xs w sc f asked = loadLeft d s p k xs w sc f asked .bytes
 
+-- .. what stands in wanted
 abbrev pub wantedLoaded : Device → State → Pins → ℕ → List ℕ → List ℕ → List ℕ → List ℕ → ℕ → List ℕ
 wantedLoaded d s p k xs w sc f asked = loadLeft d s p k xs w sc f asked .wanted
 
+-- .. what stands in scratch
 abbrev pub scratchLoaded : Device → State → Pins → ℕ → List ℕ → List ℕ → List ℕ → List ℕ → ℕ → List ℕ
 scratchLoaded d s p k xs w sc f asked = loadLeft d s p k xs w sc f asked .scratch

@@ -48,6 +48,7 @@ fn hold_as(step: Step, number: u32, place: usize, waits: u32, suspended: bool) -
     }
 }
 
+// No interruption under way, after poll n of the erase.
 pub fn usually(n: u32) -> Hold
     ensures { λ r. ⌜ r ≡ usual n ⌝ }
 {
@@ -61,6 +62,7 @@ fn held_to(h: Hold, step: Step) -> Hold
     hold_as(step, h.number, 0, 0, suspended)
 }
 
+// The two records side by side.
 pub fn pair_of(l: Loader, h: Hold) -> Pair
     ensures { λ r. ⌜ r ≡ pairOf l h ⌝ }
 {
@@ -170,6 +172,7 @@ fn resume(l: Loader, h: Hold, polls: &[u32]) -> Pair
     )
 }
 
+// The place after p, no further than the end.
 pub fn next_place(p: usize, n: usize) -> usize
     ensures { λ r. ⌜ r ≡ past p n ⌝ }
 {

@@ -34,6 +34,7 @@ erases d p k w ys = risesIn w ys && eqb (endNumber d p k w ys) 0
 abbrev pub triedPoll : Pins → ℕ → List ℕ → List Cycle
 triedPoll p a ps = if listed 1 ps then busCycle p Write a 0xB0 ∷ busCycle p Write a 0x70 ∷ busCycle p Read a 0 ∷ [] else busCycle p Read a 0 ∷ []
 
+-- .. how many cycles the interruption adds there
 abbrev pub addedTried : List ℕ → ℕ
 addedTried ps = if listed 1 ps then 2 else 0
 
@@ -55,6 +56,7 @@ ranMore r added turned =
       state = record { mode = if turned then Array else r .state .mode; status = r .state .status; phase = r .state .phase; left = r .state .left; address = r .state .address; wear = r .state .wear };
     }
 
+-- what the load with interruptions returns, by what the old load returns
 unfoldable pub heldRanAs : Bool → Device → State → Pins → ℕ → List ℕ → List ℕ → List ℕ → List ℕ → Ran
 heldRanAs verify d s p k w ys bs ps = ranMore (ranAs verify d s p k w ys) (addedBy d p k w ys bs ps) (endsTurned d p k w ys ps)
 

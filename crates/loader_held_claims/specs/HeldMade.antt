@@ -28,18 +28,22 @@ use Rattle.loader_held_run.specs.HeldTurns.{HeldConfig, outOf, heldTurn, heldAf
 unfoldable pub heldBegunTurn : Device → List ℕ → List ℕ → HeldConfig → Effect
 heldBegunTurn d w bs c = if isEnded (c .loader .stage) then Nothing else begunBy d (c .state) (outOf w bs c) (length (c .bytes)) 0
 
+-- .. what k turns begin, in their order
 abbrev pub heldBegun : ℕ → Device → List ℕ → List ℕ → List ℕ → HeldConfig → List Effect
 heldBegun zero d w bs ps c = []
 heldBegun (suc k) d w bs ps c = noted (heldBegunTurn d w bs c) (heldBegun k d w bs ps (heldTurn d w bs ps c))
 
+-- .. the cycles that k turns make
 abbrev pub heldMade : ℕ → Device → List ℕ → List ℕ → List ℕ → HeldConfig → List Cycle
 heldMade zero d w bs ps c = []
 heldMade (suc k) d w bs ps c =
     if isEnded (c .loader .stage) then heldMade k d w bs ps (heldTurn d w bs ps c) else outOf w bs c ∷ heldMade k d w bs ps (heldTurn d w bs ps c)
 
+-- the cycle of a turn is not refused and cuts nothing
 unfoldable pub heldSmoothTurn : Device → List ℕ → List ℕ → HeldConfig → Bool
 heldSmoothTurn d w bs c = if isEnded (c .loader .stage) then true else isSmooth (decideOf d (c .state) (outOf w bs c) (length (c .bytes)) 0)
 
+-- .. of each of k turns
 abbrev pub heldSmooth : ℕ → Device → List ℕ → List ℕ → List ℕ → HeldConfig → Bool
 heldSmooth zero d w bs ps c = true
 heldSmooth (suc k) d w bs ps c = heldSmoothTurn d w bs c && heldSmooth k d w bs ps (heldTurn d w bs ps c)
@@ -81,6 +85,7 @@ heldThen d p a bs cs =
     busCycle p Write a 0xB0 ∷ busCycle p Write a 0x70
     ∷ pollsThen p (waitsOf (d .suspend)) a (busCycle p Write a 0xFF ∷ fetchesThen p (length bs) bs 0 (busCycle p Write a 0xD0 ∷ cs))
 
+-- an interruption in the place of the erase's last poll: the erase is found finished and not resumed
 abbrev pub foundThen : Pins → ℕ → List ℕ → List Cycle → List Cycle
 foundThen p a bs cs =
     busCycle p Write a 0xB0 ∷ busCycle p Write a 0x70 ∷ busCycle p Read a 0 ∷ busCycle p Write a 0xFF ∷ fetchesThen p (length bs) bs 0 cs
@@ -104,6 +109,7 @@ pollsCost d bs ps n zero = 0
 pollsCost d bs ps n (suc left) =
     (if listed (n + 1) ps then length bs + 4 + (if isLast left then 0 else waitsOf (d .suspend)) else 1) + pollsCost d bs ps (n + 1) left
 
+-- .. the room after them
 abbrev pub roomOver : List ℕ → List ℕ → List ℕ → ℕ → ℕ → List ℕ → List ℕ
 roomOver xs bs ps n zero room = room
 roomOver xs bs ps n (suc left) room = roomOver xs bs ps (n + 1) left (if listed (n + 1) ps then filledBy xs bs room else room)
@@ -113,6 +119,7 @@ abbrev pub interrupts : List ℕ → ℕ → ℕ → Bool
 interrupts ps n zero = false
 interrupts ps n (suc m) = listed (n + 1) ps || interrupts ps (n + 1) m
 
+-- how many polls of the m after number n are interrupted
 abbrev pub interruptions : List ℕ → ℕ → ℕ → ℕ
 interruptions ps n zero = 0
 interruptions ps n (suc m) = (if listed (n + 1) ps then 1 else 0) + interruptions ps (n + 1) m

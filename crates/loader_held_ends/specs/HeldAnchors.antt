@@ -23,6 +23,7 @@ listsUpTo n word (suc k) = listsUpTo n word k && listsAt n word (suc k)
 abbrev pub largeLists : Bool → Bool
 largeLists word = ((listsUpTo 5 word 4 && listsUpTo 6 word 4) && listsUpTo 7 word 6) && listsUpTo 8 word 6
 
+-- .. of every part, and of devices 5 to 8 in bytes and in words
 abbrev pub allLists : Bool
 allLists = ((((listsUpTo 1 false 3 && listsUpTo 2 false 3) && listsUpTo 3 false 3) && listsUpTo 4 false 3) && largeLists false) && largeLists true
 

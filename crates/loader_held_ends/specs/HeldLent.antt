@@ -47,9 +47,11 @@ module _ (verify : Bool) (d : Device) (s : State) (p : Pins) (k : ℕ) (array wa
   abbrev pub W : List ℕ
   W = units (d .part .word) wanted
 
+  -- .. what the block holds
   abbrev pub Y : List ℕ
   Y = heldIn (startOf (d .part) k) (lengthOf (d .part) k) (units (d .part .word) array)
 
+  -- what the load with interruptions returns and leaves
   abbrev pub held : HeldLeft
   held = lentHeld verify d s p k array wanted scratch ps bs room
 
@@ -65,6 +67,7 @@ module _ (verify : Bool) (d : Device) (s : State) (p : Pins) (k : ℕ) (array wa
   abbrev pub from : ℕ
   from = byteOf (d .part .word) (startOf (d .part) k)
 
+  -- demand 3 of a load with interruptions, in lent bytes
   pub record LentHeldDemand3 : Type 0 where
     -- it ends well
     pub well : held .ran .end ≡ 0

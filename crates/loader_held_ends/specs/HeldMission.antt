@@ -31,12 +31,15 @@ module _ (verify : Bool) (d : Device) (s : State) (p : Pins) (k : ℕ) (xs w sc 
   abbrev pub heldEnd : HeldConfig
   heldEnd = heldDriven d w bs ps (heldBeginning verify d s p k xs sc room)
 
+  -- the operations that the load begins
   abbrev pub heldBegins : List Effect
   heldBegins = heldBegun (heldBound (length w) (length bs)) d w bs ps (heldBeginning verify d s p k xs sc room)
 
+  -- the cycles that the load makes
   abbrev pub heldCycles : List Cycle
   heldCycles = heldMade (heldBound (length w) (length bs)) d w bs ps (heldBeginning verify d s p k xs sc room)
 
+  -- none of its cycles is refused or cuts
   abbrev pub heldFine : Bool
   heldFine = heldSmooth (heldBound (length w) (length bs)) d w bs ps (heldBeginning verify d s p k xs sc room)
 

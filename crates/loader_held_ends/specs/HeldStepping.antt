@@ -37,6 +37,7 @@ module _ (verify : Bool) (d : Device) (s : State) (p : Pins) (k : ℕ) (xs w sc 
   abbrev pub steppedOver : ℕ → Bool
   steppedOver j = isEnded (steppedAt j .loader .stage)
 
+  -- where the run of the same load ends
   abbrev pub last : HeldConfig
   last = heldEnd verify d s p k xs w sc bs ps room
 

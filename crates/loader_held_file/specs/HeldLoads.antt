@@ -20,6 +20,7 @@ use Rattle.loader_held_run.specs.HeldRuns.{HeldLeft, lentHeld}
 abbrev pub heldLoadRows : Device → State → Pins → ℕ → ℕ → ℕ → ℕ → List ℕ → ℕ → List ℕ → ℕ → List Row
 heldLoadRows d s p k array w sc f asked bs room = loadRows d s p k array w sc f asked ++ heldRows (d .part) k bs room
 
+-- the first refusal of these, 0 where nothing refuses
 unfoldable pub heldLoadNumber : Device → State → Pins → ℕ → ℕ → ℕ → ℕ → List ℕ → ℕ → List ℕ → ℕ → ℕ
 heldLoadNumber d s p k array w sc f asked bs room = given (heldLoadRows d s p k array w sc f asked bs room)
 

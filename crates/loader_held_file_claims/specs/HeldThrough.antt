@@ -38,6 +38,7 @@ module _ (verify : Bool) (d : Device) (s : State) (p : Pins) (k : ℕ) (xs w sc 
   abbrev pub wish : List ℕ
   wish = wantedOf f (length w)
 
+  -- .. what the load returns and leaves
   abbrev pub loaded : HeldLoadLeft
   loaded = heldFileLeft verify d s p k xs w sc f asked ps bs room
 

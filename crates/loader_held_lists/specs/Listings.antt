@@ -35,6 +35,7 @@ shortRoom word n room = ltb room (bytesIn word n)
 abbrev pub roomRows : Bool → ℕ → ℕ → List Row
 roomRows word n room = row 46 (tooMany n) ∷ row 37 (shortRoom word n room) ∷ []
 
+-- the first refusal of these two, 0 where nothing refuses
 unfoldable pub roomNumber : Bool → ℕ → ℕ → ℕ
 roomNumber word n room = given (roomRows word n room)
 
@@ -42,5 +43,6 @@ roomNumber word n room = given (roomRows word n room)
 abbrev pub heldRows : Part → ℕ → List ℕ → ℕ → List Row
 heldRows part k bs room = row 5 (someOf (pastArray part) bs) ∷ row 45 (someOf (inLoaded part k) bs) ∷ roomRows (part .word) (length bs) room
 
+-- the first refusal of the lists, 0 where nothing refuses
 unfoldable pub heldNumber : Part → ℕ → List ℕ → ℕ → ℕ
 heldNumber part k bs room = given (heldRows part k bs room)

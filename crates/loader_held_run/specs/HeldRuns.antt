@@ -27,6 +27,7 @@ use Rattle.loader_held_run.specs.HeldTurns.{HeldConfig, heldAfter, besid
 abbrev pub heldRunRows : Device → State → Pins → ℕ → ℕ → ℕ → ℕ → List ℕ → ℕ → List Row
 heldRunRows d s p k array wanted scratch bs room = lentRows d s p k array wanted scratch ++ heldRows (d .part) k bs room
 
+-- the first refusal of such a run, 0 where nothing refuses
 unfoldable pub heldRunNumber : Device → State → Pins → ℕ → ℕ → ℕ → ℕ → List ℕ → ℕ → ℕ
 heldRunNumber d s p k array wanted scratch bs room = given (heldRunRows d s p k array wanted scratch bs room)
 

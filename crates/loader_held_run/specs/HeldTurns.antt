@@ -38,11 +38,13 @@ pairBy NoData l h k w sc ps = heldNext (h .step) l h 0 k w sc ps
 pairBy (Data v) l h k w sc ps = heldNext (h .step) l h v k w sc ps
 pairBy (Refused n) l h k w sc ps = stopped l h n
 
+-- .. what becomes of scratch
 abbrev pub scratchHeld : Seen → Loader → Hold → ℕ → List ℕ → List ℕ → List ℕ
 scratchHeld NoData l h k w sc = heldScratch (h .step) l h 0 k w sc
 scratchHeld (Data v) l h k w sc = heldScratch (h .step) l h v k w sc
 scratchHeld (Refused n) l h k w sc = sc
 
+-- .. what becomes of the room
 abbrev pub roomBy : Seen → Bool → Hold → List ℕ → List ℕ
 roomBy NoData word h room = heldRoom (h .step) word h 0 room
 roomBy (Data v) word h room = heldRoom (h .step) word h v room
@@ -52,9 +54,11 @@ roomBy (Refused n) word h room = room
 abbrev pub outOf : List ℕ → List ℕ → HeldConfig → Cycle
 outOf w bs c = heldCycle (c .hold .step) (c .loader) (c .hold) w bs
 
+-- .. the model's answer to it
 unfoldable pub heldAnswer : Device → List ℕ → List ℕ → HeldConfig → Answer
 heldAnswer d w bs c = answerOf d (c .state) (outOf w bs c) (c .bytes) []
 
+-- .. the array after it
 unfoldable pub heldArray : Device → List ℕ → List ℕ → HeldConfig → List ℕ
 heldArray d w bs c = arrayAfter d (c .state) (outOf w bs c) (c .bytes) []
 
@@ -71,6 +75,7 @@ movedBy seen s xs w bs ps c =
       count = c .count + 1;
     }
 
+-- .. by the model's own answer
 abbrev pub heldMoved : Device → List ℕ → List ℕ → List ℕ → HeldConfig → HeldConfig
 heldMoved d w bs ps c = movedBy (heldAnswer d w bs c .seen) (heldAnswer d w bs c .state) (heldArray d w bs c) w bs ps c
 
@@ -78,6 +83,7 @@ heldMoved d w bs ps c = movedBy (heldAnswer d w bs c .seen) (heldAnswer d w bs c
 unfoldable pub heldTurn : Device → List ℕ → List ℕ → List ℕ → HeldConfig → HeldConfig
 heldTurn d w bs ps c = if isEnded (c .loader .stage) then c else heldMoved d w bs ps c
 
+-- .. k turns
 abbrev pub heldAfter : ℕ → Device → List ℕ → List ℕ → List ℕ → HeldConfig → HeldConfig
 heldAfter zero d w bs ps c = c
 heldAfter (suc k) d w bs ps c = heldAfter k d w bs ps (heldTurn d w bs ps c)

@@ -24,5 +24,6 @@ pauseBound n k = n + (k + 262160)
 abbrev pub holdingOf : Loader → Hold → State → Holding
 holdingOf l h s = record { loader = l; hold = h; state = s }
 
+-- what is returned of them after n cycles
 abbrev pub holdingRan : Holding → ℕ → Ran
 holdingRan h n = record { count = n; end = endBy (h .loader .stage); address = endAddress (h .loader) (endBy (h .loader .stage)); state = h .state }

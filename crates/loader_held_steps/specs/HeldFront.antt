@@ -88,6 +88,7 @@ abbrev pub usedRows : Part → ℕ → ℕ → List ℕ → ℕ → List Row
 usedRows part k i bs room =
     row 5 (ltb i (length bs) && pastArray part (getD bs i 0)) ∷ row 45 (ltb i (length bs) && inLoaded part k (getD bs i 0)) ∷ roomRows (part .word) (length bs) room
 
+-- the first refusal of these, 0 where nothing refuses
 unfoldable pub usedNumber : Part → ℕ → ℕ → List ℕ → ℕ → ℕ
 usedNumber part k i bs room = given (usedRows part k i bs room)
 
@@ -95,6 +96,7 @@ usedNumber part k i bs room = given (usedRows part k i bs room)
 abbrev pub startHeldRows : Part → Pins → ℕ → ℕ → ℕ → List ℕ → ℕ → List Row
 startHeldRows part p k w sc bs room = startRows part p k w sc ++ heldRows part k bs room
 
+-- the first refusal of a start, 0 where nothing refuses
 unfoldable pub startHeldNumber : Part → Pins → ℕ → ℕ → ℕ → List ℕ → ℕ → ℕ
 startHeldNumber part p k w sc bs room = given (startHeldRows part p k w sc bs room)
 
@@ -105,6 +107,7 @@ stepHeldRows l h w sc bs room =
     ∷ row 3 (badPair (length bs) l h)
     ∷ (setupRows (l .part) (l .pins) (l .block) w sc ++ usedRows (l .part) (l .block) (placeNext (h .step) (h .place) (length bs)) bs room)
 
+-- the first refusal of a step, 0 where nothing refuses
 unfoldable pub stepHeldNumber : Loader → Hold → ℕ → ℕ → List ℕ → ℕ → ℕ
 stepHeldNumber l h w sc bs room = given (stepHeldRows l h w sc bs room)
 
@@ -112,6 +115,7 @@ stepHeldNumber l h w sc bs room = given (stepHeldRows l h w sc bs room)
 abbrev pub heldTurnIn : Loader → Hold → List ℕ → List ℕ → Turn
 heldTurnIn l h w bs = if isEnded (l .stage) then Over (endBy (l .stage)) (endAddress l (endBy (l .stage))) else Out (heldCycle (h .step) l h w bs)
 
+-- .. beside the two records
 abbrev pub heldGiven : Pair → List ℕ → List ℕ → HeldGiven
 heldGiven q w bs = record { turn = heldTurnIn (q .loader) (q .hold) w bs; pair = q }
 

@@ -45,6 +45,7 @@ stuckBy part p k = vppLow part p || shut part p k
 unfoldable pub faultEnd : Part → Pins → Bool → ℕ
 faultEnd part p erase = if vppLow part p then 21 else if erase then 23 else 24
 
+-- the status that an operation leaves that could not start
 unfoldable pub faultBits : Part → Pins → Bool → ℕ
 faultBits part p erase = if vppLow part p then (if erase then 0xA8 else 0x98) else if erase then 0xA0 else 0x90
 

@@ -3,6 +3,7 @@ use Prim.Native.Nat.{ℕ, _+_, _*_}
 use Rattle.loader.specs.declared.Stage.{Stage}
 use Rattle.loader.specs.declared.Loader.{Loader}
 
+-- a record at another stage, all else kept
 abbrev pub stayed : Loader → Stage → Loader
 stayed l stage = record { part = l .part; pins = l .pins; block = l .block; stage = stage; place = l .place; polls = l .polls; verify = l .verify; high = l .high }
 

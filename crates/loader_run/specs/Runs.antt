@@ -30,6 +30,7 @@ runRows d s p k array w sc =
     ∷ row 3 (improper d s)
     ∷ (setupRows (d .part) p k w sc ++ (row 12 (underWay (s .phase)) ∷ []))
 
+-- the first refusal of a run, 0 where nothing refuses
 unfoldable pub runNumber : Device → State → Pins → ℕ → ℕ → ℕ → ℕ → ℕ
 runNumber d s p k array w sc = given (runRows d s p k array w sc)
 
@@ -81,9 +82,11 @@ runLeftAt stage verify d s p k xs w sc =
 abbrev pub runLeft : Device → State → Pins → ℕ → List ℕ → List ℕ → List ℕ → RunLeft
 runLeft d s p k xs w sc = runLeftAt Clearing true d s p k xs w sc
 
+-- a load alone
 abbrev pub loadAlone : Device → State → Pins → ℕ → List ℕ → List ℕ → List ℕ → RunLeft
 loadAlone d s p k xs w sc = runLeftAt Clearing false d s p k xs w sc
 
+-- a verify alone
 abbrev pub verifyAlone : Device → State → Pins → ℕ → List ℕ → List ℕ → List ℕ → RunLeft
 verifyAlone d s p k xs w sc = runLeftAt Closing true d s p k xs w sc
 
@@ -91,9 +94,11 @@ verifyAlone d s p k xs w sc = runLeftAt Closing true d s p k xs w sc
 abbrev pub ranOf : Device → State → Pins → ℕ → List ℕ → List ℕ → List ℕ → Ran
 ranOf d s p k xs w sc = runLeft d s p k xs w sc .ran
 
+-- .. what stands in the array
 abbrev pub bytesOf : Device → State → Pins → ℕ → List ℕ → List ℕ → List ℕ → List ℕ
 bytesOf d s p k xs w sc = runLeft d s p k xs w sc .bytes
 
+-- .. what stands in scratch
 abbrev pub scratchOf : Device → State → Pins → ℕ → List ℕ → List ℕ → List ℕ → List ℕ
 scratchOf d s p k xs w sc = runLeft d s p k xs w sc .scratch
 
@@ -101,6 +106,7 @@ scratchOf d s p k xs w sc = runLeft d s p k xs w sc .scratch
 abbrev pub lentRows : Device → State → Pins → ℕ → ℕ → ℕ → ℕ → List Row
 lentRows d s p k array wanted scratch = runRows d s p k (lentIn (d .part .word) array) (lentIn (d .part .word) wanted) (lentIn (d .part .word) scratch)
 
+-- the first refusal of a run on so many lent bytes, 0 where nothing refuses
 abbrev pub lentNumber : Device → State → Pins → ℕ → ℕ → ℕ → ℕ → ℕ
 lentNumber d s p k array wanted scratch = runNumber d s p k (lentIn (d .part .word) array) (lentIn (d .part .word) wanted) (lentIn (d .part .word) scratch)
 
@@ -119,8 +125,10 @@ lentLeftAt stage verify d s p k array wanted scratch =
 abbrev pub lentRun : Device → State → Pins → ℕ → List ℕ → List ℕ → List ℕ → RunLeft
 lentRun d s p k array wanted scratch = lentLeftAt Clearing true d s p k array wanted scratch
 
+-- a load alone, on lent bytes
 abbrev pub lentLoad : Device → State → Pins → ℕ → List ℕ → List ℕ → List ℕ → RunLeft
 lentLoad d s p k array wanted scratch = lentLeftAt Clearing false d s p k array wanted scratch
 
+-- a verify alone, on lent bytes
 abbrev pub lentVerify : Device → State → Pins → ℕ → List ℕ → List ℕ → List ℕ → RunLeft
 lentVerify d s p k array wanted scratch = lentLeftAt Closing true d s p k array wanted scratch

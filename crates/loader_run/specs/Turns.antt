@@ -23,6 +23,7 @@ pub record Config : Type 0 where
   pub scratch : List ℕ
   pub count : ℕ
 
+-- the cycle was refused
 abbrev pub isRefused : Seen → Bool
 isRefused NoData = false
 isRefused (Data b) = false
@@ -46,6 +47,7 @@ loaderBy NoData l w sc = nextOf l 0 w (storeOf l 0 w sc)
 loaderBy (Data b) l w sc = nextOf l b w (storeOf l b w sc)
 loaderBy (Refused n) l w sc = endedBy l n
 
+-- .. what becomes of scratch
 abbrev pub scratchBy : Seen → Loader → List ℕ → List ℕ → List ℕ
 scratchBy NoData l w sc = storeOf l 0 w sc
 scratchBy (Data b) l w sc = storeOf l b w sc

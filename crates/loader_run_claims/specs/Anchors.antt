@@ -36,6 +36,7 @@ startsUpTo p n word (suc k) = startsUpTo p n word k && startsAt p n word (suc k)
 abbrev pub fourStart : Pins → Bool
 fourStart p = ((startsUpTo p 1 false 3 && startsUpTo p 2 false 3) && startsUpTo p 3 false 3) && startsUpTo p 4 false 3
 
+-- .. of devices 5 to 8, in bytes or in words
 abbrev pub largeStart : Pins → Bool → Bool
 largeStart p word = ((startsUpTo p 5 word 4 && startsUpTo p 6 word 4) && startsUpTo p 7 word 6) && startsUpTo p 8 word 6
 

@@ -53,6 +53,7 @@ faultStatus d p w ys =
 abbrev pub eraseTried : Pins → ℕ → List Cycle
 eraseTried p a = busCycle p Write a 0x20 ∷ busCycle p Write a 0xD0 ∷ busCycle p Read a 0 ∷ []
 
+-- .. of a program that does not start
 abbrev pub programTried : Pins → ℕ → ℕ → List Cycle
 programTried p x b = busCycle p Write x 0x40 ∷ busCycle p Write x b ∷ busCycle p Read x 0 ∷ []
 
@@ -76,6 +77,7 @@ erasedFrom erases k s = record { mode = s .mode; status = s .status; phase = s .
 abbrev pub wellRan : Bool → Device → State → ℕ → List ℕ → List ℕ → Ran
 wellRan verify d s k w ys = record { count = formulaBy verify d w ys; end = 0; address = 0; state = atRest (erasedFrom (risesIn w ys) k s) (endMode verify w ys) 0x80 }
 
+-- what a run returns that ends by a fault n
 abbrev pub faultRan : Device → State → Pins → List ℕ → List ℕ → ℕ → Ran
 faultRan d s p w ys n = record { count = length w + 5; end = n; address = 0; state = atRest s Status (faultStatus d p w ys) }
 
@@ -83,12 +85,15 @@ faultRan d s p w ys n = record { count = length w + 5; end = n; address = 0; sta
 unfoldable pub ranAs : Bool → Device → State → Pins → ℕ → List ℕ → List ℕ → Ran
 ranAs verify d s p k w ys = if eqb (endNumber d p k w ys) 0 then wellRan verify d s k w ys else faultRan d s p w ys (endNumber d p k w ys)
 
+-- .. what it leaves in the array
 unfoldable pub bytesAs : Device → Pins → ℕ → ℕ → List ℕ → List ℕ → List ℕ → List ℕ
 bytesAs d p k a w ys xs = if eqb (endNumber d p k w ys) 0 then overlaid xs a w else xs
 
+-- .. what it leaves in scratch
 unfoldable pub scratchAs : Device → Pins → ℕ → List ℕ → List ℕ → List ℕ
 scratchAs d p k w ys = if eqb (endNumber d p k w ys) 0 then w else ys
 
+-- .. the cycles that it makes
 unfoldable pub cyclesAs : Bool → Device → Pins → ℕ → ℕ → List ℕ → List ℕ → List Cycle
 cyclesAs verify d p k a w ys = if eqb (endNumber d p k w ys) 0 then cyclesBy verify d p a w ys else faultCycles p a w ys
 

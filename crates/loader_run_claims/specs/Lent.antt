@@ -35,9 +35,11 @@ pub record LentStart (d : Device) (s : State) (p : Pins) (k : ℕ) (array wanted
 
 -- what the run on lent bytes returns and leaves: block k begins at byte `from`
 module _ (verify : Bool) (d : Device) (s : State) (p : Pins) (k : ℕ) (array wanted scratch : List ℕ) where
+  -- the byte at which block k begins
   abbrev pub from : ℕ
   from = byteOf (d .part .word) (startOf (d .part) k)
 
+  -- demand 3 of a run, in lent bytes
   pub record LentDemand3 : Type 0 where
     -- it ends well
     pub well : lentLeftAt Clearing verify d s p k array wanted scratch .ran .end ≡ 0

@@ -79,6 +79,7 @@ baseOf part w ys = if risesIn w ys then replicate (length w) (ones part) else ys
 abbrev pub erasesOf : List ℕ → List ℕ → ℕ
 erasesOf w ys = if risesIn w ys then 1 else 0
 
+-- .. the programs: one for each unit that differs
 abbrev pub programsIn : Part → List ℕ → List ℕ → ℕ
 programsIn part w ys = differing (length w) 0 w (baseOf part w ys)
 

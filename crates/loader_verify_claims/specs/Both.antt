@@ -30,6 +30,7 @@ verifyAfter d p k w l =
 abbrev pub thenVerify : Device → Pins → ℕ → List ℕ → RunLeft → RunLeft
 thenVerify d p k w l = if eqb (l .ran .end) 0 then verifyAfter d p k w l else l
 
+-- a load alone, and then, where it ended well, a verify alone
 abbrev pub bothLeft : Device → State → Pins → ℕ → List ℕ → List ℕ → List ℕ → RunLeft
 bothLeft d s p k xs w sc = thenVerify d p k w (loadAlone d s p k xs w sc)
 
@@ -37,5 +38,6 @@ bothLeft d s p k xs w sc = thenVerify d p k w (loadAlone d s p k xs w sc)
 abbrev pub cyclesAfter : Device → Pins → ℕ → List ℕ → RunLeft → List Cycle
 cyclesAfter d p k w l = if eqb (l .ran .end) 0 then cyclesAt Closing true d (l .ran .state) p k (l .bytes) w (l .scratch) else []
 
+-- .. the cycles of both
 abbrev pub bothCycles : Device → State → Pins → ℕ → List ℕ → List ℕ → List ℕ → List Cycle
 bothCycles d s p k xs w sc = cyclesAt Clearing false d s p k xs w sc ++ cyclesAfter d p k w (loadAlone d s p k xs w sc)

@@ -138,6 +138,7 @@ pub fn action(part: Part, ph: Phase, b: u8) -> Action
     }
 }
 
+// The write asks for nothing that there is.
 pub fn is_refuse(a: Action) -> bool
     ensures { λ r. ⌜ r ≡ isRefuse a ⌝ }
 {

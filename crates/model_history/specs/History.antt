@@ -50,6 +50,7 @@ worldAfter d v (b ∷ bs) = worldAfter d (stepped d v b) bs
 abbrev pub seenOn : Device → World → Bus → Seen
 seenOn d v b = answerOf d (v .state) (b .cycle) (v .bytes) (b .residue) .seen
 
+-- .. of each of the cycles, in their order
 abbrev pub seenIn : Device → World → List Bus → List Seen
 seenIn d v [] = []
 seenIn d v (b ∷ bs) = seenOn d v b ∷ seenIn d (stepped d v b) bs
@@ -100,6 +101,7 @@ eraseOf k (Erase j) = if eqb j k then 1 else 0
 eraseOf k (CutProgram at b) = 0
 eraseOf k (CutErase j) = 0
 
+-- the weight of a program at an address
 abbrev pub programAt : ℕ → Effect → ℕ
 programAt x Nothing = 0
 programAt x (Program at b) = if eqb at x then 1 else 0
@@ -107,6 +109,7 @@ programAt x (Erase j) = 0
 programAt x (CutProgram at b) = 0
 programAt x (CutErase j) = 0
 
+-- the weight of a program in n bytes from a on
 abbrev pub programIn : ℕ → ℕ → Effect → ℕ
 programIn a n Nothing = 0
 programIn a n (Program at b) =
@@ -125,5 +128,6 @@ programOf part k = programIn (startOf part k) (lengthOf part k)
 abbrev pub erasesBegun : Device → World → ℕ → List Bus → ℕ
 erasesBegun d v k bs = totalOf (eraseOf k) (begunOver d v bs)
 
+-- how many programs in block k cycles begin
 abbrev pub programsBegun : Device → World → ℕ → List Bus → ℕ
 programsBegun d v k bs = totalOf (programOf (d .part) k) (begunOver d v bs)

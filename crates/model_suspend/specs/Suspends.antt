@@ -21,9 +21,11 @@ use Rattle.model_history.specs.History.{Bus, World, acceptsAll, effectsIn, uncu
 abbrev pub isSuspend : Cycle → Bool
 isSuspend c = isWrite (c .kind) && eqb (commandOf c) 0xB0
 
+-- a write of D0H
 abbrev pub isResume : Cycle → Bool
 isResume c = isWrite (c .kind) && eqb (commandOf c) 0xD0
 
+-- a write of FFH
 abbrev pub isOpening : Cycle → Bool
 isOpening c = isWrite (c .kind) && eqb (commandOf c) 0xFF
 
@@ -43,6 +45,7 @@ heldStatus sr = withBits sr (SR7 + SR6)
 abbrev pub shownAs : ℕ → Bus → Seen
 shownAs sr b = if isRead (b .cycle .kind) then Data sr else NoData
 
+-- .. of each of several cycles
 abbrev pub shownAll : ℕ → List Bus → List Seen
 shownAll sr [] = []
 shownAll sr (b ∷ bs) = shownAs sr b ∷ shownAll sr bs

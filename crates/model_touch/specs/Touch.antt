@@ -36,6 +36,7 @@ pub record Engine : Type 0 where
 abbrev pub byRules : Engine
 byRules = record { answer = answerOf; leaves = bytesAfter }
 
+-- the engine by the table
 abbrev pub byTable : Engine
 byTable = record { answer = tableAnswer; leaves = tableBytes }
 
@@ -185,6 +186,7 @@ wrongStart d v = (unknownDevice d || not (eqb (length (lent (d .part .word) (v .
 abbrev pub onUnits : Device → World → World
 onUnits d v = worldOf (v .state) (lent (d .part .word) (v .bytes))
 
+-- .. cycles with their residue in units
 abbrev pub busesOn : Device → List Bus → List Bus
 busesOn d [] = []
 busesOn d (b ∷ bs) = record { cycle = b .cycle; residue = units (d .part .word) (b .residue) } ∷ busesOn d bs

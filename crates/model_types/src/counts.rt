@@ -6,6 +6,7 @@ ghost use Rattle.model_types.specs.Counts.{unworn, raised, raisedAt, wor
 // A count stops here.
 pub const STOP: u32 = 0xFFFF_FFFF;
 
+// The counts of a fresh device.
 pub fn unworn() -> Wear
     ensures { λ r. ⌜ r ≡ unworn ⌝ }
 {

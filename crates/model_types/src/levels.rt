@@ -6,12 +6,14 @@ use device::Part;
 ghost use mathlib.Core.Path.{_≡_};
 ghost use Rattle.model_types.specs.Levels.{rpLow, vppLow, atTwelve, atFive, vppHigh, badWp, badPins, mostOe, badOe, badLevels, unlocked, locked};
 
+// RP# is low.
 pub fn rp_low(p: Pins) -> bool
     ensures { λ r. ⌜ r ≡ rpLow p ⌝ }
 {
     p.rp == 0
 }
 
+// VPP is low.
 pub fn vpp_low(part: Part, p: Pins) -> bool
     ensures { λ r. ⌜ r ≡ vppLow part p ⌝ }
 {
@@ -33,6 +35,7 @@ fn at_five(p: Pins) -> bool
     (4500 <= p.vpp) & (p.vpp <= 5500)
 }
 
+// VPP is high.
 pub fn vpp_high(part: Part, p: Pins) -> bool
     ensures { λ r. ⌜ r ≡ vppHigh part p ⌝ }
 {
@@ -52,6 +55,7 @@ fn bad_wp(part: Part, p: Pins) -> bool
     false
 }
 
+// A level of RP#, VPP or WP# that there is not.
 pub fn bad_pins(part: Part, p: Pins) -> bool
     ensures { λ r. ⌜ r ≡ badPins part p ⌝ }
 {

@@ -15,6 +15,7 @@ pub struct Pins {
     pub vpp: u32,
 }
 
+// The kinds of cycle.
 pub enum Kind {
     Read,
     Write,
@@ -110,6 +111,7 @@ pub struct Settled {
     pub effect: Effect,
 }
 
+// What is decided of a cycle: the reply, the next state, and what is done to the array.
 pub struct Decision {
     pub reply: Reply,
     pub state: State,

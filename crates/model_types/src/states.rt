@@ -12,14 +12,19 @@ ghost use Rattle.model_types.specs.Phases.{isBusy, isSuspending, suspend
 // The bits of the status register: ready, erase suspended, erase error, program error, VPP low.
 pub const SR7: u8 = 0x80;
 
+// .. erase suspended,
 pub const SR6: u8 = 0x40;
 
+// .. erase error,
 pub const SR5: u8 = 0x20;
 
+// .. program error,
 pub const SR4: u8 = 0x10;
 
+// .. VPP low.
 pub const SR3: u8 = 0x08;
 
+// An operation is running, or a suspend of it is under way.
 pub fn is_busy(ph: Phase) -> bool
     ensures { λ r. ⌜ r ≡ isBusy ph ⌝ }
 {
@@ -34,6 +39,7 @@ pub fn is_busy(ph: Phase) -> bool
     }
 }
 
+// A suspend is under way: the erase stands still.
 pub fn is_suspending(ph: Phase) -> bool
     ensures { λ r. ⌜ r ≡ isSuspending ph ⌝ }
 {
@@ -63,6 +69,7 @@ pub fn suspend_left(ph: Phase) -> u8
     }
 }
 
+// An operation is running, being suspended or suspended.
 pub fn is_pending(ph: Phase) -> bool
     ensures { λ r. ⌜ r ≡ isPending ph ⌝ }
 {
@@ -105,6 +112,7 @@ fn most_left(d: Device, ph: Phase) -> u16
     }
 }
 
+// The mode is read array.
 pub fn is_array(m: Mode) -> bool
     ensures { λ r. ⌜ r ≡ isArray m ⌝ }
 {
@@ -125,6 +133,7 @@ fn is_status(m: Mode) -> bool
     }
 }
 
+// The mode is identifier.
 pub fn is_identifier(m: Mode) -> bool
     ensures { λ r. ⌜ r ≡ isIdentifier m ⌝ }
 {

@@ -50,6 +50,7 @@ pairWrong p x = not (ltZ x (voltsOf p 0)) && (not (ltZ (voltsOf p (knots p - 1))
 abbrev pub readingRows : List ℕ → ℤ → List Row
 readingRows p x = row 40 (shapeWrong p) ∷ row 41 (endsWrong p) ∷ row 41 (pairWrong p x) ∷ []
 
+-- the first refusal of these, 0 where nothing refuses
 unfoldable pub readingNumber : List ℕ → ℤ → ℕ
 readingNumber p x = given (readingRows p x)
 
@@ -73,6 +74,7 @@ readingTold (Temperature t) = (0, t)
 readingTold (Below t) = (1, t)
 readingTold (Above t) = (2, t)
 
+-- .. of a whole answer
 abbrev pub answerTold : ReadingAnswer → ℕ × List (ℕ × Float)
 answerTold (Read reading) = (0, readingTold reading ∷ [])
 answerTold (Refused n) = (n, [])
@@ -81,6 +83,7 @@ answerTold (Refused n) = (n, [])
 unfoldable pub sideOf : List ℕ → ℤ → ℕ
 sideOf p x = if ltZ x (voltsOf p 0) then 1 else if ltZ (voltsOf p (knots p - 1)) x then 2 else 0
 
+-- .. the tenths of a degree at a voltage
 unfoldable pub heatAt : List ℕ → ℤ → Float
 heatAt p x =
     if ltZ x (voltsOf p 0) then heatOf p 0

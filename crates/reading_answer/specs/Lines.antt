@@ -42,6 +42,7 @@ readingLine (Temperature t) = degrees t
 readingLine (Below t) = bytes "below the table, which begins at " ++ degrees t
 readingLine (Above t) = bytes "above the table, which ends at " ++ degrees t
 
+-- .. or the words of a refusal
 abbrev pub answerLine : ReadingAnswer → List ℕ
 answerLine (Read r) = readingLine r
 answerLine (Refused n) = refusedLine n
@@ -56,6 +57,7 @@ pub record Answered : Type 0 where
   pub stream : ℕ
   pub room : List ℕ
 
+-- a call that is none: how it is called, on standard error
 abbrev pub misused : List ℕ → Answered
 misused room = record { line = usage; stream = 2; room = room }
 

@@ -27,6 +27,7 @@ payloadIn f = payloadOf (blocksIn f) f
 abbrev pub answerFrom : List ℕ → ℕ → List ℕ → ℤ → ReadingAnswer
 answerFrom f letter room x = answerAs x (inRoom (length room) (readerOf limit f letter))
 
+-- .. what is left in the room
 abbrev pub roomLeft : List ℕ → ℕ → List ℕ → List ℕ
 roomLeft f letter room = leftIn room (inRoom (length room) (readerOf limit f letter))
 

@@ -14,6 +14,7 @@ use Rattle.file_codec.specs.File.{limit}
 abbrev pub word32 : ℕ → ℕ → ℕ → ℕ → ℕ
 word32 a b c d = ((a * 256 + b) * 256 + c) * 256 + d
 
+-- two bytes as one number, high byte first
 abbrev pub word16 : ℕ → ℕ → ℕ
 word16 a b = a * 256 + b
 
@@ -21,6 +22,7 @@ word16 a b = a * 256 + b
 unfoldable pub signed32 : ℕ → ℤ
 signed32 u = if ltb u 2147483648 then pos u else negsuc (4294967295 - u)
 
+-- 16 bits as a signed number
 unfoldable pub signed16 : ℕ → ℤ
 signed16 u = if ltb u 32768 then pos u else negsuc (65535 - u)
 

@@ -86,6 +86,7 @@ pub fn volts(s: &[u8], i: usize) -> i32
     0
 }
 
+// Knot i's tenths of a degree, 0 past the last knot.
 pub fn tenths(s: &[u8], i: usize) -> i16
     ensures { λ r. ⌜ r ≡ tenthsOf (now (s .entry)) i ⌝ }
 {

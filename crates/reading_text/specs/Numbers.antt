@@ -37,6 +37,7 @@ abbrev pub fedAll : Number → List ℕ → Number
 fedAll n [] = n
 fedAll n (b ∷ bs) = fedAll (fed n b) bs
 
+-- .. from the beginning: the number that a text is
 unfoldable pub numberFed : List ℕ → Number
 numberFed bs = fedAll numberStart bs
 

@@ -40,15 +40,19 @@ gapWrong s = s .second || not (isNumber (s .number))
 abbrev pub scanStart : Scan
 scanStart = record { number = numberStart; volts = numberStart; second = false; wrong = false; knots = 0 }
 
+-- the scan stopped: something is wrong
 abbrev pub stoppedScan : Scan → Scan
 stoppedScan s = record { number = s .number; volts = s .volts; second = s .second; wrong = true; knots = s .knots }
 
+-- the scan at the second number of its line
 abbrev pub nextNumber : Scan → Scan
 nextNumber s = record { number = numberStart; volts = s .number; second = true; wrong = s .wrong; knots = s .knots }
 
+-- the scan at the next line, with one knot more
 abbrev pub nextLine : Scan → Scan
 nextLine s = record { number = numberStart; volts = numberStart; second = false; wrong = s .wrong; knots = s .knots + 1 }
 
+-- the scan after one more letter of a number
 abbrev pub nextLetter : Scan → ℕ → Scan
 nextLetter s b = record { number = fed (s .number) b; volts = s .volts; second = s .second; wrong = s .wrong; knots = s .knots }
 
@@ -56,6 +60,7 @@ nextLetter s b = record { number = fed (s .number) b; volts = s .volts; second =
 unfoldable pub atGap : Scan → Scan
 atGap s = if gapWrong s then stoppedScan s else nextNumber s
 
+-- a letter that does not end its line: a space, or a letter of a number
 unfoldable pub withinLine : Scan → ℕ → Scan
 withinLine s b = if eqb b 32 then atGap s else nextLetter s b
 

@@ -24,9 +24,11 @@ dataWidth v =
 unfoldable pub addressWidth : ℕ → ℕ
 addressWidth v = if ltb v 0x100 then 4 else dataWidth v
 
+-- data in hexadecimal digits
 abbrev pub dataText : ℕ → List ℕ
 dataText v = spelled 16 (dataWidth v) v []
 
+-- an address in hexadecimal digits
 abbrev pub addressText : ℕ → List ℕ
 addressText v = spelled 16 (addressWidth v) v []
 

@@ -31,6 +31,7 @@ answeredOn d v b = answerOf d (v .state) (b .cycle) (lent (d .part .word) (v .by
 abbrev pub madeOne : Device → Held → Bus → Held
 madeOne d v b = heldOf (answeredOn d v b .state) (bytesAfter d (v .state) (b .cycle) (v .bytes) (b .residue))
 
+-- .. what is left by cycles, one after the other
 abbrev pub madeBy : Device → Held → List Bus → Held
 madeBy d v [] = v
 madeBy d v (b ∷ bs) = madeBy d (madeOne d v b) bs
@@ -60,6 +61,7 @@ timeUsed d Suspended = 0
 abbrev pub recordOf : Device → Held → Bus → Noted
 recordOf d v b = record { cycle = b .cycle; heard = heardOf (answeredOn d v b .seen); busy = timeUsed d (v .state .phase) }
 
+-- the recording of cycles
 abbrev pub recordsOf : Device → Held → List Bus → List Noted
 recordsOf d v [] = []
 recordsOf d v (b ∷ bs) = recordOf d v b ∷ recordsOf d (madeOne d v b) bs

@@ -33,10 +33,12 @@ deviceAt d t = withTimes d (t .program) (t .erase)
 abbrev pub afterTurn : Device → World → TimedCycle → World
 afterTurn d v t = afterCycle byRules (deviceAt d t) v (t .bus)
 
+-- .. after all of them
 abbrev pub afterTurns : Device → World → List TimedCycle → World
 afterTurns d v [] = v
 afterTurns d v (t ∷ ts) = afterTurns d (afterTurn d v t) ts
 
+-- .. before the one at place i
 abbrev pub beforeTurn : Device → World → List TimedCycle → ℕ → World
 beforeTurn d v ts i = afterTurns d v (take i ts)
 
@@ -50,9 +52,11 @@ TurnAt (u ∷ ts) (suc i) t = TurnAt ts i t
 abbrev pub effectIn : Device → World → TimedCycle → Effect
 effectIn d v t = effectOn (deviceAt d t) v (t .bus)
 
+-- .. what it begins
 abbrev pub operationAt : Device → World → TimedCycle → Effect
 operationAt d v t = begunOn (deviceAt d t) v (t .bus)
 
+-- .. what it asks for at its own address
 abbrev pub askedAt : Device → World → TimedCycle → Effect
 askedAt d v t = askedOn (deviceAt d t) v (t .bus)
 

@@ -15,5 +15,6 @@ traceLine xs = take 19 xs ++ (10 ∷ [])
 abbrev pub answerMet : List ℕ → Bool
 answerMet xs = metFrom true (answerForm true) 19 xs || metFrom true (answerForm false) 19 xs
 
+-- .. the count at its places
 abbrev pub countMet : List ℕ → Bool
 countMet xs = metFrom true (countForm true) 24 xs || metFrom true (countForm false) 24 xs

@@ -52,6 +52,7 @@ firstLine at hit n =
     else if hit then n
     else 0
 
+-- the first number that is not 0: that of before, or this one
 unfoldable pub firstNumber : ℕ → ℕ → ℕ
 firstNumber number here = if ltb 0 number then number else here
 

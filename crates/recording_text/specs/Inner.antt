@@ -11,5 +11,6 @@ use Rattle.recording_text.specs.Texts.{recordsOf}
 abbrev pub comeAs : Walk → ℕ → Come
 comeAs w n = record { walk = w; lines = n }
 
+-- .. of a walk over a whole text
 unfoldable pub comeOf : Walk → List ℕ → List ℕ → Come
 comeOf w text bytes = comeAs (wentOver bytes w (recordsOf text)) (length (recordsOf text))

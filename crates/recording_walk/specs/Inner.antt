@@ -33,6 +33,7 @@ wentBy w x = record { device = w .device; state = x .state; refusal = w .refusal
 unfoldable pub wentOn : Walk → Noted → List ℕ → Walk
 wentOn w r bytes = if w .stopped then w else wentBy w (recordedOf (w .device) (w .state) r bytes)
 
+-- .. the array after it
 unfoldable pub bytesOn : Walk → Noted → List ℕ → List ℕ
 bytesOn w r bytes = if w .stopped then bytes else bytesRecorded (w .device) (w .state) r bytes
 
@@ -41,6 +42,7 @@ abbrev pub bytesOver : List ℕ → Walk → List Noted → List ℕ
 bytesOver bytes w [] = bytes
 bytesOver bytes w (r ∷ rs) = bytesOver (bytesOn w r bytes) (wentOn w r bytes) rs
 
+-- .. where the walk stands after the whole list
 abbrev pub wentOver : List ℕ → Walk → List Noted → Walk
 wentOver bytes w [] = w
 wentOver bytes w (r ∷ rs) = wentOver (bytesOn w r bytes) (wentOn w r bytes) rs

@@ -23,6 +23,7 @@ judgedBlank text = judgedOf text [] (replicate {A = ℕ} 16384 255)
 unfoldable pub faultIn : ℕ → ℕ → ℕ → ℕ
 faultIn lines bad at = if ltb at lines then at + 1 else bad
 
+-- .. of a judgement
 abbrev pub faultOf : Judged → ℕ
 faultOf j = faultIn (j .lines) (j .bad) (j .checked .at)
 
@@ -30,6 +31,7 @@ faultOf j = faultIn (j .lines) (j .bad) (j .checked .at)
 abbrev pub wornBy : Judged → Worn
 wornBy j = if eqb (faultOf j) 0 then Counted (j .checked .state .wear) else BadLine (faultOf j)
 
+-- the wear that a recording leaves on a blank bench T
 unfoldable pub wornRecorded : List ℕ → Worn
 wornRecorded text = wornBy (judgedBlank text)
 
@@ -37,5 +39,6 @@ wornRecorded text = wornBy (judgedBlank text)
 abbrev pub toldBy : Judged → ℕ × List Wear
 toldBy j = if eqb (faultOf j) 0 then (0, j .checked .state .wear ∷ []) else (faultOf j, [])
 
+-- .. of a recording, judged on a blank bench T
 unfoldable pub recordedTold : List ℕ → ℕ × List Wear
 recordedTold text = toldBy (judgedBlank text)

@@ -16,6 +16,7 @@ use Rattle.script_judge.specs.Judges.{faultAs, judge}
 abbrev pub faultSpot : ℕ → Spot
 faultSpot n = record { fault = n; at = 0; left = 0; line = 0; total = 0 }
 
+-- past a line of u bytes at x, with t lines written out
 abbrev pub nextSpot : Spot → ℕ → ℕ → Spot
 nextSpot x u t = record { fault = 0; at = x .at + u; left = x .left - 1; line = x .line + 1; total = t }
 

@@ -14,6 +14,7 @@ use Rattle.script_judge.specs.declared.Judged.{Judged}
 abbrev pub faultAs : ℕ → Judged
 faultAs ℓ = record { fault = ℓ; lines = 0 }
 
+-- no line is at fault, and t lines are written out
 abbrev pub fineAs : ℕ → Judged
 fineAs t = record { fault = 0; lines = t }
 

@@ -17,9 +17,11 @@ pub record Listed : Type 0 where
 abbrev pub noItem : List ℕ → Listed
 noItem text = record { script = done; behind = text }
 
+-- a trace line before a list
 abbrev pub lineThen : List ℕ → Listed → Listed
 lineThen text r = record { script = line (cycleStated (take 20 text)) (r .script); behind = r .behind }
 
+-- a group before a list
 abbrev pub groupThen : ℕ → Script → Listed → Listed
 groupThen n b r = record { script = group n b (r .script); behind = r .behind }
 

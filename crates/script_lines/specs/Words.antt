@@ -22,9 +22,11 @@ closeForm = exactly 41 ∷ newline ∷ []
 unfoldable pub isTraced : List ℕ → Bool
 isTraced text = isLine (take 20 text)
 
+-- a text begins with an opening line
 unfoldable pub isOpening : List ℕ → Bool
 isOpening text = fits openForm (take 6 text)
 
+-- a text begins with a closing line
 unfoldable pub isClosing : List ℕ → Bool
 isClosing text = fits closeForm (take 2 text)
 
@@ -51,6 +53,7 @@ isEnds Traced = false
 isEnds (Opens n) = false
 isEnds Closes = false
 
+-- a word closes a group
 abbrev pub isCloses : Word → Bool
 isCloses Ends = false
 isCloses Bad = false

@@ -21,10 +21,12 @@ unfoldable pub stateThrough : List Cycle → State → List ℕ → List ℕ →
 stateThrough [] s xs rs = s
 stateThrough (c ∷ cs) s xs rs = stateThrough cs (lineStep s c xs rs .state) (arrayBy s c xs rs) rs
 
+-- .. the array that the cycles leave
 unfoldable pub arrayThrough : List Cycle → State → List ℕ → List ℕ → List ℕ
 arrayThrough [] s xs rs = xs
 arrayThrough (c ∷ cs) s xs rs = arrayThrough cs (lineStep s c xs rs .state) (arrayBy s c xs rs) rs
 
+-- .. the answers to the cycles, as they are printed
 unfoldable pub answersThrough : List Cycle → State → List ℕ → List ℕ → List ℕ
 answersThrough [] s xs rs = []
 answersThrough (c ∷ cs) s xs rs = printedOf (lineStep s c xs rs) ++ answersThrough cs (lineStep s c xs rs .state) (arrayBy s c xs rs) rs
@@ -42,6 +44,7 @@ lineRun text x xs rs = record {
 abbrev pub pastOpen : Run → Run
 pastOpen x = record { at = x .at + 6; left = x .left - 1; used = x .used; state = x .state }
 
+-- a run at x again, with the output and the device as z has them
 abbrev pub backTo : Run → Run → Run
 backTo x z = record { at = x .at; left = x .left; used = z .used; state = z .state }
 
@@ -49,6 +52,7 @@ backTo x z = record { at = x .at; left = x .left; used = z .used; state = z .sta
 abbrev pub pastClose : Run → Run
 pastClose x = record { at = x .at + 2; left = x .left - 1; used = x .used; state = x .state }
 
+-- a run past its closing line, where there is one
 unfoldable pub closeRun : List ℕ → Run → Run
 closeRun text x = if isCloses (wordIn (x .left) (drop (x .at) text)) then pastClose x else x
 

@@ -33,6 +33,7 @@ partNumber part n = given (row 1 (noStore part) ∷ row 2 (not (eqb n (sizeOf pa
 abbrev pub seekRows : Part → List ℕ → ℕ → List Row
 seekRows part xs ℓ = row 1 (noStore part) ∷ row 2 (not (eqb (length xs) (sizeOf part))) ∷ findRows (faultOf limit) ℓ (mainOf part xs) []
 
+-- the first refusal of these, 0 where nothing refuses
 unfoldable pub seekNumber : Part → List ℕ → ℕ → ℕ
 seekNumber part xs ℓ = given (seekRows part xs ℓ)
 
@@ -61,9 +62,11 @@ addingRows d s p xs memory scratch f ℓ =
     ∷ row 43 (noRoom (length (mainOf (d .part) xs) / 512) ℓ (placesIn f) (itemsIn (faultOf limit) (mainOf (d .part) xs)))
     ∷ []))
 
+-- the first refusal of a drop, 0 where nothing refuses
 unfoldable pub dropNumber : Device → State → Pins → List ℕ → ℕ → ℕ → ℕ → ℕ
 dropNumber d s p xs memory scratch ℓ = given (dropRows d s p xs memory scratch ℓ)
 
+-- the first refusal of an add, 0 where nothing refuses
 unfoldable pub addNumber : Device → State → Pins → List ℕ → ℕ → ℕ → List ℕ → ℕ → ℕ
 addNumber d s p xs memory scratch f ℓ = given (addingRows d s p xs memory scratch f ℓ)
 
@@ -91,6 +94,7 @@ abbrev pub dropLeft : Device → State → Pins → List ℕ → List ℕ → Li
 dropLeft d s p xs memory scratch ℓ =
     changeLeft (dropNumber d s p xs (length memory) (length scratch) ℓ) (dropOf (faultOf limit) ℓ (mainOf (d .part) xs)) d s p xs memory scratch
 
+-- what an add of the file f under a letter returns and leaves
 abbrev pub addLeft : Device → State → Pins → List ℕ → List ℕ → List ℕ → List ℕ → ℕ → ChangeLeft
 addLeft d s p xs memory scratch f ℓ =
     changeLeft (addNumber d s p xs (length memory) (length scratch) f ℓ) (addOf (faultOf limit) ℓ f (mainOf (d .part) xs)) d s p xs memory scratch

@@ -21,6 +21,7 @@ use Rattle.store_answer.specs.declared.Pace.{Pace}
 abbrev pub paceAs : ℕ → ℕ → Pace
 paceAs skip mark = record { skip = skip; mark = mark }
 
+-- .. at a place where something begins
 abbrev pub paceBy : Spot → Pace
 paceBy Blank = paceAs 0 46
 paceBy Dead = paceAs 0 120
@@ -73,6 +74,7 @@ rowBy main p Dead = []
 rowBy main p (File ℓ n) = rowText main p ℓ n
 rowBy main p Junk = []
 
+-- .. nothing where a file that began before goes on
 unfoldable pub rowPiece : List ℕ → ℕ → Pace → List ℕ
 rowPiece main p w = if ltb 0 (w .skip) then [] else rowBy main p (spotIn main p)
 

@@ -43,6 +43,7 @@ abbrev pub numberBy : Change → Device → State → Pins → List ℕ → ℕ 
 numberBy (adds ℓ b) d s p xs memory scratch = addNumber d s p xs memory scratch b ℓ
 numberBy (drops ℓ) d s p xs memory scratch = dropNumber d s p xs memory scratch ℓ
 
+-- .. of a call
 abbrev pub callNumber : Device → List ℕ → Call → ℕ
 callNumber d xs c = numberBy (c .change) d (c .state) (c .pins) xs (length (c .memory)) (length (c .scratch))
 
@@ -51,6 +52,7 @@ abbrev pub changeLeftBy : Change → Device → State → Pins → List ℕ → 
 changeLeftBy (adds ℓ b) d s p xs memory scratch = addLeft d s p xs memory scratch b ℓ
 changeLeftBy (drops ℓ) d s p xs memory scratch = dropLeft d s p xs memory scratch ℓ
 
+-- .. of a call
 abbrev pub callLeft : Device → List ℕ → Call → ChangeLeft
 callLeft d xs c = changeLeftBy (c .change) d (c .state) (c .pins) xs (c .memory) (c .scratch)
 
@@ -82,6 +84,7 @@ abbrev pub FileBytes : Change → Type 0
 FileBytes (adds ℓ b) = Bytes b
 FileBytes (drops ℓ) = Unit {0}
 
+-- .. in each of several calls
 abbrev pub AllBytes : List Call → Type 0
 AllBytes [] = Unit {0}
 AllBytes (c ∷ cs) = FileBytes (c .change) × AllBytes cs

@@ -28,9 +28,11 @@ roomRows main f ℓ =
 abbrev pub addRows : List ℕ → List ℕ → ℕ → ℕ → List Row
 addRows main f ℓ room = row 11 (unlike main room) ∷ readRows limit f ℓ (roomRows main f ℓ)
 
+-- the first refusal of a drop, 0 where nothing refuses
 unfoldable pub dropFault : List ℕ → ℕ → ℕ → ℕ
 dropFault main ℓ room = given (dropRows main ℓ room)
 
+-- the first refusal of an add, 0 where nothing refuses
 unfoldable pub addFault : List ℕ → List ℕ → ℕ → ℕ → ℕ
 addFault main f ℓ room = given (addRows main f ℓ room)
 

@@ -20,6 +20,7 @@ isWhole main = eqb (length main % 512) 0
 abbrev pub standsRows : List ℕ → ℕ → List Row
 standsRows main ℓ = row 44 (not (isWhole main)) ∷ findRows (faultOf limit) ℓ main []
 
+-- the first refusal of these, 0 where nothing refuses
 unfoldable pub standsNumber : List ℕ → ℕ → ℕ
 standsNumber main ℓ = given (standsRows main ℓ)
 

@@ -31,6 +31,7 @@ use Rattle.store_told.specs.declared.Said.{Said}
 unfoldable pub isChange : ℕ → Bool
 isChange b = eqb b 68 || eqb b 65
 
+-- one of the five
 unfoldable pub isWord : ℕ → Bool
 isWord b = ((eqb b 76 || eqb b 70) || eqb b 82) || isChange b
 
@@ -46,9 +47,11 @@ usage = bytes "usage: store_program L|F|R|D|A IMAGE DEVICE LETTER MICROVOLTS FIL
 abbrev pub partOf : List ℕ → Part
 partOf device = record { number = numeralOf device; word = false }
 
+-- a device with that part; its times do not matter to a call
 abbrev pub deviceOf : Part → Device
 deviceOf part = record { part = part; program = 1; erase = 1; suspend = 1 }
 
+-- RP# high and 12 V
 abbrev pub loading : Pins
 loading = record { rp = 1; wp = 0; vpp = 12000 }
 
@@ -76,9 +79,11 @@ pub record Asked : Type 0 where
 abbrev pub listAsked : Part → List ℕ → List ℕ → Asked
 listAsked part xs room = record { line = listLine part xs; stream = 1; given = 0; memory = room }
 
+-- a find: the file that is there, or the words of the refusal
 abbrev pub findAsked : Outcome → List ℕ → Asked
 findAsked o room = record { line = findLine (foundAs o); stream = 2; given = foundAs o .length; memory = leftIn room o }
 
+-- a reading by the file that is found
 abbrev pub readAsked : ReadingAnswer → Outcome → List ℕ → Asked
 readAsked r o room = record { line = answerLine r; stream = 1; given = 0; memory = leftIn room o }
 
@@ -147,8 +152,10 @@ answered count word xs device letter volts f memory scratch =
 abbrev pub saidOn : List ℕ → List ℕ → ℕ → ℕ → Bool → Said
 saidOn out line stream given changed = record { used = behind out 0 line; stream = stream; given = given; changed = changed }
 
+-- .. of a call that changes nothing
 abbrev pub askedOn : List ℕ → Asked → Said
 askedOn out q = saidOn out (q .line) (q .stream) (q .given) false
 
+-- .. of any call
 abbrev pub answeredOn : List ℕ → Answered → Said
 answeredOn out a = saidOn out (a .line) (a .stream) (a .given) (a .changed)

@@ -65,6 +65,7 @@ scannedSaid letter room q = readSaid letter room (tableRead (q .scan)) (q .paylo
 abbrev pub longLine : List ℕ
 longLine = bytes "the text is longer than 327679 bytes\n"
 
+-- how the program is called
 abbrev pub usage : List ℕ
 usage = bytes "usage: table_write LETTER < TEXT > FILE\n"
 

@@ -13,6 +13,7 @@ ghost use Rattle.table_file.specs.Files.{longest, refusedLine, faultLine
 // The bytes of the longest text that is read, and a room that shows a longer one.
 const LONGEST: usize = 327679;
 
+// A room that shows a text that is longer than the longest.
 pub const ROOM: usize = LONGEST + 1;
 
 // A refusal in the front of out.

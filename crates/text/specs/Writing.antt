@@ -13,6 +13,7 @@ abbrev pub bytesFrom : ℕ → ℕ → String → List ℕ
 bytesFrom zero i s = []
 bytesFrom (suc k) i s = code (charAt s i) ∷ bytesFrom k (i + 1) s
 
+-- the bytes of a quoted text, whole
 abbrev pub bytes : String → List ℕ
 bytes s = bytesFrom (len s) 0 s
 

@@ -79,6 +79,7 @@ pub fn decimal(out: &mut [u8], x: u64)
     spell(out, 10, x)
 }
 
+// A slice gets the last digits of x in hexadecimal.
 pub fn hex(out: &mut [u8], x: u64)
     ensures { λ _. ⌜ now (out .exit) ≡ spelled 16 (length (now (out .entry))) x [] ⌝ }
 {

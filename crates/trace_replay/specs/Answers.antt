@@ -21,6 +21,7 @@ firstSign NoData = 45
 firstSign (Data b) = digitLetter (b / 16 % 16)
 firstSign (Refused n) = decimalDigit (n / 10)
 
+-- .. its second letter
 abbrev pub secondSign : Seen → ℕ
 secondSign NoData = 45
 secondSign (Data b) = digitLetter (b % 16)

@@ -33,6 +33,7 @@ lineStep s c xs rs = answerOf benchT s c xs rs
 unfoldable pub stepTold : State → Cycle → List ℕ → List ℕ → ℕ × List ℕ
 stepTold s c xs rs = cycleTold benchT s c xs rs
 
+-- .. the array after it
 unfoldable pub arrayBy : State → Cycle → List ℕ → List ℕ → List ℕ
 arrayBy s c xs rs = arrayAfter benchT s c xs rs
 
@@ -48,6 +49,7 @@ answersOf (suc k) s xs rs text =
     printedOf (lineStep s (cycleStated (take 20 text)) xs rs)
     ++ answersOf k (lineStep s (cycleStated (take 20 text)) xs rs .state) (arrayBy s (cycleStated (take 20 text)) xs rs) rs (drop 20 text)
 
+-- .. the array that the first k lines leave
 unfoldable pub arraysOf : ℕ → State → List ℕ → List ℕ → List ℕ → List ℕ
 arraysOf zero s xs rs text = xs
 arraysOf (suc k) s xs rs text =
@@ -75,6 +77,7 @@ arrayFrom (suc k) s xs rs text =
 unfoldable pub outputOf : List ℕ → List ℕ → List ℕ → List ℕ
 outputOf xs rs text = outputFrom 9998 1 freshState xs rs text
 
+-- .. the array that a whole trace leaves
 unfoldable pub arrayLeft : List ℕ → List ℕ → List ℕ → List ℕ
 arrayLeft xs rs text = arrayFrom 9998 freshState xs rs text
 
@@ -82,6 +85,7 @@ arrayLeft xs rs text = arrayFrom 9998 freshState xs rs text
 abbrev pub replayedAs : ℕ → ℕ → Replayed
 replayedAs n m = record { refusal = n; used = m }
 
+-- what is returned of an output in so much room
 unfoldable pub replayedIn : ℕ → List ℕ → Replayed
 replayedIn room ys = if ltb room (length ys) then replayedAs 37 0 else replayedAs 0 (length ys)
 

@@ -33,6 +33,7 @@ badFrom (suc k) n text = if isLine (take 20 text) then badFrom k (suc n) (drop 2
 unfoldable pub stateLeft : List ℕ → List ℕ → List ℕ → State
 stateLeft xs rs text = stateFrom 9998 freshState xs rs text
 
+-- the first line that is none, 0 where there is no such line
 unfoldable pub badLine : List ℕ → ℕ
 badLine text = badFrom 9998 1 text
 

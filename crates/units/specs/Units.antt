@@ -34,6 +34,7 @@ unpaired [] = []
 unpaired (x ∷ []) = x ∷ []
 unpaired (x ∷ y ∷ zs) = unpaired zs
 
+-- .. in either width: in byte mode there is none
 abbrev pub spare : Bool → List ℕ → List ℕ
 spare false xs = []
 spare true xs = unpaired xs
@@ -48,6 +49,7 @@ abbrev pub unitsIn : Bool → ℕ → ℕ
 unitsIn false n = n
 unitsIn true n = n / 2
 
+-- so many units in bytes
 abbrev pub bytesIn : Bool → ℕ → ℕ
 bytesIn false n = n
 bytesIn true n = 2 * n

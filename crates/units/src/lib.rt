@@ -15,6 +15,7 @@ pub struct WordAddress {
     pub word: usize,
 }
 
+// The address of a byte.
 pub struct ByteAddress {
     pub byte: usize,
 }

@@ -38,6 +38,7 @@ modeLetter Array = 65
 modeLetter Status = 83
 modeLetter Identifier = 73
 
+-- the letter of a phase
 abbrev pub phaseLetter : Phase → ℕ
 phaseLetter Free = 70
 phaseLetter EraseAwaited = 67

@@ -51,6 +51,7 @@ pub fn phase_by(letter: u8, value: u16) -> Phase
     Phase::Suspended
 }
 
+// The letter of a mode.
 pub fn mode_letter(mode: Mode) -> u8
     ensures { λ r. ⌜ r ≡ modeLetter mode ⌝ }
 {
@@ -61,6 +62,7 @@ pub fn mode_letter(mode: Mode) -> u8
     }
 }
 
+// The letter of a phase.
 pub fn phase_letter(phase: Phase) -> u8
     ensures { λ r. ⌜ r ≡ phaseLetter phase ⌝ }
 {

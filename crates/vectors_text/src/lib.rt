@@ -71,12 +71,14 @@ pub fn byte_at(s: &[u8], base: u8, at: usize, n: usize) -> u8
     (word_at(s, base, at, n) % 256) as u8
 }
 
+// The same as 16 bits.
 pub fn half_at(s: &[u8], base: u8, at: usize, n: usize) -> u16
     ensures { λ r. ⌜ r ≡ numberRead base (fieldOf (now (s .entry)) at n) % 65536 ⌝ }
 {
     (word_at(s, base, at, n) % 65536) as u16
 }
 
+// The same as a length.
 pub fn size_at(s: &[u8], base: u8, at: usize, n: usize) -> usize
     ensures { λ r. ⌜ r ≡ numberRead base (fieldOf (now (s .entry)) at n) ⌝ }
 {

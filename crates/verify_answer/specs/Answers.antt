@@ -19,6 +19,7 @@ use Rattle.loader_from_file.specs.Loads.{LoadLeft, verifyLeft}
 unfoldable pub isNumeral : List ℕ → Bool
 isNumeral word = eqb (length word) 1 && isDigit (getD word 0 0)
 
+-- .. what such a word counts
 unfoldable pub numeralOf : List ℕ → ℕ
 numeralOf word = if isNumeral word then digitOf (getD word 0 0) else 255
 
@@ -43,6 +44,7 @@ refusedLine n = (refusedText n ++ bytes ": ") ++ verifyWords n
 abbrev pub addressText : ℕ → List ℕ
 addressText address = spelled 16 5 address []
 
+-- the line that names the first byte that differs
 abbrev pub differsText : ℕ → List ℕ
 differsText address = (bytes "differs at " ++ addressText address) ++ bytes "\n"
 
@@ -57,9 +59,11 @@ endText end address =
 abbrev pub partOf : ℕ → ℕ → Part
 partOf number mode = record { number = number; word = eqb mode 1 }
 
+-- a device with that part; its times do not matter to a verify
 abbrev pub deviceOf : Part → Device
 deviceOf part = record { part = part; program = 1; erase = 1; suspend = 1 }
 
+-- RP# high, WP# and VPP low
 abbrev pub reading : Pins
 reading = record { rp = 1; wp = 0; vpp = 0 }
 
@@ -67,6 +71,7 @@ reading = record { rp = 1; wp = 0; vpp = 0 }
 abbrev pub narrowed : Part → Part
 narrowed part = record { number = part .number; word = false }
 
+-- .. the bytes of block k of a part, at most what the rooms have
 abbrev pub bytesOf : Part → ℕ → List ℕ → List ℕ → ℕ
 bytesOf part k w sc = min (lengthOf (narrowed part) k) (min (length w) (length sc))
 

@@ -57,9 +57,11 @@ Small (c ∷ cs) = (c ≤ stop) × Small cs
 abbrev pub Fits : Wear → Type 0
 Fits w = (k : ℕ) → k < 7 → countOf w k ≤ stop
 
+-- .. of each of several traces
 abbrev pub AllFit : List Wear → Type 0
 AllFit [] = 0 ≤ stop
 AllFit (w ∷ ws) = Fits w × AllFit ws
 
+-- a report's totals fit 64 bits
 abbrev pub Sound : Report → Type 0
 Sound r = (k : ℕ) → k < 7 → tallyOf r k .total ≤ most

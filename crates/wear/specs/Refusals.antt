@@ -26,10 +26,12 @@ unevenCounts traces counts = not (eqb counts (7 * traces))
 unfoldable pub unknownNumber : ℕ → Bool
 unknownNumber number = unknownPart (record { number = number; word = false })
 
+-- the tests of a report on many traces, in their order
 abbrev pub reportRows : ℕ → List ℕ → ℕ → List Row
 reportRows number numbers counts =
     row 1 (unknownNumber number) ∷ row 11 (unevenCounts (length numbers) counts) ∷ row 47 (ltb 65535 (length numbers)) ∷ row 48 (differ number numbers) ∷ []
 
+-- the first refusal of these, 0 where nothing refuses
 unfoldable pub reportNumber : ℕ → List ℕ → ℕ → ℕ
 reportNumber number numbers counts = given (reportRows number numbers counts)
 
@@ -43,6 +45,7 @@ reportedOf number numbers counts =
 abbrev pub addRows : ℕ → ℕ → ℕ → List Row
 addRows number from traces = row 1 (unknownNumber number) ∷ row 47 (leb 65535 traces) ∷ row 48 (not (eqb from number)) ∷ []
 
+-- the first refusal of one trace more, 0 where nothing refuses
 unfoldable pub addNumber : ℕ → ℕ → ℕ → ℕ
 addNumber number from traces = given (addRows number from traces)
 

@@ -37,6 +37,7 @@ passing a n = if ltb 100000 n then raised a else a
 abbrev pub tallied : Bool → Tally → ℕ → Tally
 tallied first t n = record { total = addedUp (t .total) n; largest = larger (t .largest) n; smallest = lowest first (t .smallest) n; passed = passing (t .passed) n }
 
+-- a block of which nothing was counted
 abbrev pub noTally : Tally
 noTally = record { total = 0; largest = 0; smallest = 0; passed = 0 }
 

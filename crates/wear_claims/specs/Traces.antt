@@ -23,10 +23,12 @@ begunOf d k t = erasesBegun d (worldOf freshState (t .held)) k (t .buses)
 abbrev pub wearOf : Device → Trace → Wear
 wearOf d t = worldAfter d (worldOf freshState (t .held)) (t .buses) .state .wear
 
+-- the erases of block k that each of several traces begins
 abbrev pub begunAll : Device → ℕ → List Trace → List ℕ
 begunAll d k [] = []
 begunAll d k (t ∷ ts) = begunOf d k t ∷ begunAll d k ts
 
+-- the counts that each of several traces leaves
 abbrev pub wearsOf : Device → List Trace → List Wear
 wearsOf d [] = []
 wearsOf d (t ∷ ts) = wearOf d t ∷ wearsOf d ts

@@ -42,5 +42,6 @@ lineText sign a b = (((sign ∷ []) ++ fieldText a) ++ fieldText b) ++ (10 ∷ [
 unfoldable pub laidIn : List ℕ → List ℕ → List ℕ
 laidIn out text = if ltb (length out) 512 then out else text ++ drop (length text) out
 
+-- how many bytes are the table's
 unfoldable pub countIn : List ℕ → List ℕ → ℕ
 countIn out text = if ltb (length out) 512 then 0 else length text
