@@ -25,5 +25,6 @@ valueOut NoData = 0
 valueOut (Data v) = v
 valueOut (Refused n) = n
 
+-- an answer as numbers, its state for the numbers that came in
 abbrev pub answerOut : StateNumbers → Answer → AnswerNumbers
 answerOut n a = record { seen = seenOut (a .seen); value = valueOut (a .seen); state = stateBack n (a .state) }

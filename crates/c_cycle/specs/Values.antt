@@ -53,6 +53,7 @@ modeIn n =
     else if eqb n 1 then Status
     else Identifier
 
+-- .. and a mode as its number
 abbrev pub modeOut : Mode → ℕ
 modeOut Array = 0
 modeOut Status = 1
@@ -69,6 +70,7 @@ phaseIn n unit suspend =
     else if eqb n 5 then Suspended
     else Suspending suspend
 
+-- .. and a phase as its number
 abbrev pub phaseOut : Phase → ℕ
 phaseOut Free = 0
 phaseOut EraseAwaited = 1
@@ -113,6 +115,7 @@ wearIn n =
       block6 = n .block6;
     }
 
+-- .. and back
 abbrev pub wearOut : Wear → WearNumbers
 wearOut w =
     record {
@@ -138,6 +141,7 @@ stateIn n =
       wear = wearIn (n .wear);
     }
 
+-- .. and a state as numbers
 abbrev pub stateOut : State → StateNumbers
 stateOut s =
     record {
@@ -158,6 +162,7 @@ kindIn n =
     else if eqb n 1 then Write
     else Idle
 
+-- .. and a kind as its number
 abbrev pub kindOut : Kind → ℕ
 kindOut Read = 0
 kindOut Write = 1
@@ -172,6 +177,7 @@ abbrev pub cycleIn : BusNumbers → Cycle
 cycleIn n =
     record { kind = kindIn (n .kind); pins = pinsIn (n .rp) (n .wp) (n .vpp); oe = oeIn (n .kind) (n .oe); address = n .address; «data» = n .data }
 
+-- .. and a cycle as numbers
 abbrev pub cycleOut : Cycle → BusNumbers
 cycleOut c =
     record { kind = kindOut (c .kind); rp = c .pins .rp; oe = c .oe; wp = c .pins .wp; «data» = c .data; vpp = c .pins .vpp; address = c .address }

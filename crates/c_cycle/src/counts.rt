@@ -4,6 +4,7 @@ use model_types::Wear;
 ghost use mathlib.Core.Path.{_≡_};
 ghost use Rattle.c_cycle.specs.Values.{wearIn, wearOut};
 
+// Numbers as counts.
 pub fn wear_in(n: WearNumbers) -> Wear
     ensures { λ r. ⌜ r ≡ wearIn n ⌝ }
 {
@@ -18,6 +19,7 @@ pub fn wear_in(n: WearNumbers) -> Wear
     }
 }
 
+// Counts as numbers.
 pub fn wear_out(w: Wear) -> WearNumbers
     ensures { λ r. ⌜ r ≡ wearOut w ⌝ }
 {

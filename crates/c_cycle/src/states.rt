@@ -24,37 +24,49 @@ ghost use Rattle.c_cycle.specs.Answers.{stateBack, seenOut, valueOut, an
 // Modes as numbers.
 pub const ARRAY: u8 = 0;
 
+// .. read status,
 pub const STATUS: u8 = 1;
 
+// .. identifier.
 pub const IDENTIFIER: u8 = 2;
 
 // Phases as numbers. From PROGRAMMING on an operation is running, suspended or being suspended.
 pub const FREE: u8 = 0;
 
+// .. the confirm of an erase is awaited,
 pub const ERASE_AWAITED: u8 = 1;
 
+// .. data are awaited,
 pub const DATA_AWAITED: u8 = 2;
 
+// .. a unit is being programmed,
 pub const PROGRAMMING: u8 = 3;
 
+// .. a block is being erased,
 pub const ERASING: u8 = 4;
 
+// .. an erase is suspended,
 pub const SUSPENDED: u8 = 5;
 
+// .. an erase is being suspended.
 pub const SUSPENDING: u8 = 6;
 
 // Kinds of cycle as numbers.
 pub const READ: u8 = 0;
 
+// .. a write,
 pub const WRITE: u8 = 1;
 
+// .. an idle cycle.
 pub const IDLE: u8 = 2;
 
 // What a cycle answers, as a number.
 pub const NO_DATA: u8 = 0;
 
+// .. data,
 pub const DATA: u8 = 1;
 
+// .. a refusal.
 pub const REFUSED: u8 = 2;
 
 // The number of a part; where the mode is none, a number that is no part's.
@@ -67,6 +79,7 @@ fn number_in(number: u8, word: u8) -> u8
     number
 }
 
+// A part by its number and its mode.
 pub fn part_in(number: u8, word: u8) -> Part
     ensures { λ r. ⌜ r ≡ partIn number word ⌝ }
 {
@@ -86,6 +99,7 @@ pub fn flag_out(flag: bool) -> u8
     0
 }
 
+// The device that five numbers name.
 pub fn device_in(n: DeviceNumbers) -> Device
     ensures { λ r. ⌜ r ≡ deviceIn n ⌝ }
 {
@@ -97,6 +111,7 @@ pub fn device_in(n: DeviceNumbers) -> Device
     }
 }
 
+// The levels that a run keeps fixed.
 pub fn pins_in(rp: u8, wp: u8, vpp: u32) -> Pins
     ensures { λ r. ⌜ r ≡ pinsIn rp wp vpp ⌝ }
 {
@@ -129,6 +144,7 @@ fn mode_out(m: Mode) -> u8
     }
 }
 
+// A phase by its number, with the unit that is programmed or the cycles that a suspend still takes.
 pub fn phase_in(n: u8, unit: u16, suspend: u8) -> Phase
     ensures { λ r. ⌜ r ≡ phaseIn n unit suspend ⌝ }
 {
@@ -201,6 +217,7 @@ fn no_state(n: StateNumbers) -> bool
     (IDENTIFIER < n.mode) | (SUSPENDING < n.phase) | stray_data(n) | stray_suspend(n)
 }
 
+// Numbers as a state; those that stand for none become a state that no device has.
 pub fn state_in(n: StateNumbers) -> State
     ensures { λ r. ⌜ r ≡ stateIn n ⌝ }
 {
@@ -225,6 +242,7 @@ pub fn state_in(n: StateNumbers) -> State
     }
 }
 
+// A state as numbers.
 pub fn state_out(s: State) -> StateNumbers
     ensures { λ r. ⌜ r ≡ stateOut s ⌝ }
 {
@@ -284,6 +302,7 @@ fn oe_in(kind: u8, oe: u8) -> u8
     oe
 }
 
+// Numbers as a cycle.
 pub fn cycle_in(n: BusNumbers) -> Cycle
     ensures { λ r. ⌜ r ≡ cycleIn n ⌝ }
 {
@@ -296,6 +315,7 @@ pub fn cycle_in(n: BusNumbers) -> Cycle
     }
 }
 
+// A cycle as numbers.
 pub fn cycle_out(c: Cycle) -> BusNumbers
     ensures { λ r. ⌜ r ≡ cycleOut c ⌝ }
 {
@@ -331,6 +351,7 @@ fn value_out(seen: Seen) -> u16
     }
 }
 
+// An answer as numbers, its state for the numbers that came in.
 pub fn answer_out(n: StateNumbers, a: Answer) -> AnswerNumbers
     ensures { λ r. ⌜ r ≡ answerOut n a ⌝ }
 {

@@ -38,6 +38,7 @@ use Rattle.c_wear.specs.Reports.{reportIn, reportedOut}
 abbrev pub wide : DeviceNumbers → Bool
 wide d = deviceIn d .part .word
 
+-- whether the part that a loader's numbers name is in word mode
 abbrev pub wideIn : LoaderNumbers → Bool
 wideIn l = loaderIn l .part .word
 
@@ -45,6 +46,7 @@ wideIn l = loaderIn l .part .word
 unfoldable pub cycled : DeviceNumbers → StateNumbers → BusNumbers → List ℕ → List ℕ → AnswerNumbers
 cycled d s c xs rs = answerOut s (answerOf (deviceIn d) (stateIn s) (cycleIn c) (lent (wide d) xs) (units (wide d) rs))
 
+-- .. the lent bytes of the array after it
 unfoldable pub arrayCycled : DeviceNumbers → StateNumbers → BusNumbers → List ℕ → List ℕ → List ℕ
 arrayCycled d s c xs rs = bytesAfter (deviceIn d) (stateIn s) (cycleIn c) xs rs
 
@@ -61,9 +63,11 @@ startedAt stage verify part word rp wp vpp k w sc =
 abbrev pub started : ℕ → ℕ → ℕ → ℕ → ℕ → ℕ → List ℕ → List ℕ → GivenNumbers
 started part word rp wp vpp k w sc = startedAt Clearing true part word rp wp vpp k w sc
 
+-- .. of a load alone
 abbrev pub loadStarted : ℕ → ℕ → ℕ → ℕ → ℕ → ℕ → List ℕ → List ℕ → GivenNumbers
 loadStarted part word rp wp vpp k w sc = startedAt Clearing false part word rp wp vpp k w sc
 
+-- .. of a verify alone
 abbrev pub verifyStarted : ℕ → ℕ → ℕ → ℕ → ℕ → ℕ → List ℕ → List ℕ → GivenNumbers
 verifyStarted part word rp wp vpp k w sc = startedAt Closing true part word rp wp vpp k w sc
 
@@ -73,6 +77,7 @@ steppedOf l v w sc =
     let g : Given = stepGiven (loaderIn l) v (lent (wideIn l) w) (lent (wideIn l) sc) in
     record { turn = turnOut (g .turn); loader = loaderBack l (g .loader) }
 
+-- .. what it leaves in scratch
 unfoldable pub scratchStepped : LoaderNumbers → ℕ → List ℕ → List ℕ → List ℕ
 scratchStepped l v w sc = scratchLeft (loaderIn l) v w sc
 
@@ -84,9 +89,11 @@ ranNumbers r = record { count = r .count; end = r .end; address = r .address; st
 unfoldable pub runAtOf : Stage → Bool → DeviceNumbers → StateNumbers → ℕ → ℕ → ℕ → ℕ → List ℕ → List ℕ → List ℕ → RanNumbers
 runAtOf stage verify d s rp wp vpp k xs w sc = ranOut s (lentLeftAt stage verify (deviceIn d) (stateIn s) (pinsIn rp wp vpp) k xs w sc .ran)
 
+-- .. what it leaves in the array
 unfoldable pub arrayRunAt : Stage → Bool → DeviceNumbers → StateNumbers → ℕ → ℕ → ℕ → ℕ → List ℕ → List ℕ → List ℕ → List ℕ
 arrayRunAt stage verify d s rp wp vpp k xs w sc = lentLeftAt stage verify (deviceIn d) (stateIn s) (pinsIn rp wp vpp) k xs w sc .bytes
 
+-- .. what it leaves in scratch
 unfoldable pub scratchRunAt : Stage → Bool → DeviceNumbers → StateNumbers → ℕ → ℕ → ℕ → ℕ → List ℕ → List ℕ → List ℕ → List ℕ
 scratchRunAt stage verify d s rp wp vpp k xs w sc = lentLeftAt stage verify (deviceIn d) (stateIn s) (pinsIn rp wp vpp) k xs w sc .scratch
 
@@ -94,9 +101,11 @@ scratchRunAt stage verify d s rp wp vpp k xs w sc = lentLeftAt stage verify (dev
 abbrev pub runOf : DeviceNumbers → StateNumbers → ℕ → ℕ → ℕ → ℕ → List ℕ → List ℕ → List ℕ → RanNumbers
 runOf d s rp wp vpp k xs w sc = runAtOf Clearing true d s rp wp vpp k xs w sc
 
+-- .. what a run leaves in the array
 abbrev pub arrayRun : DeviceNumbers → StateNumbers → ℕ → ℕ → ℕ → ℕ → List ℕ → List ℕ → List ℕ → List ℕ
 arrayRun d s rp wp vpp k xs w sc = arrayRunAt Clearing true d s rp wp vpp k xs w sc
 
+-- .. what a run leaves in scratch
 abbrev pub scratchRun : DeviceNumbers → StateNumbers → ℕ → ℕ → ℕ → ℕ → List ℕ → List ℕ → List ℕ → List ℕ
 scratchRun d s rp wp vpp k xs w sc = scratchRunAt Clearing true d s rp wp vpp k xs w sc
 
@@ -104,9 +113,11 @@ scratchRun d s rp wp vpp k xs w sc = scratchRunAt Clearing true d s rp wp vpp k 
 abbrev pub loadRunOf : DeviceNumbers → StateNumbers → ℕ → ℕ → ℕ → ℕ → List ℕ → List ℕ → List ℕ → RanNumbers
 loadRunOf d s rp wp vpp k xs w sc = runAtOf Clearing false d s rp wp vpp k xs w sc
 
+-- .. what a load alone leaves in the array
 abbrev pub arrayLoadRun : DeviceNumbers → StateNumbers → ℕ → ℕ → ℕ → ℕ → List ℕ → List ℕ → List ℕ → List ℕ
 arrayLoadRun d s rp wp vpp k xs w sc = arrayRunAt Clearing false d s rp wp vpp k xs w sc
 
+-- .. what a load alone leaves in scratch
 abbrev pub scratchLoadRun : DeviceNumbers → StateNumbers → ℕ → ℕ → ℕ → ℕ → List ℕ → List ℕ → List ℕ → List ℕ
 scratchLoadRun d s rp wp vpp k xs w sc = scratchRunAt Clearing false d s rp wp vpp k xs w sc
 
@@ -114,9 +125,11 @@ scratchLoadRun d s rp wp vpp k xs w sc = scratchRunAt Clearing false d s rp wp v
 abbrev pub verifyRunOf : DeviceNumbers → StateNumbers → ℕ → ℕ → ℕ → ℕ → List ℕ → List ℕ → List ℕ → RanNumbers
 verifyRunOf d s rp wp vpp k xs w sc = runAtOf Closing true d s rp wp vpp k xs w sc
 
+-- .. what a verify alone leaves in the array
 abbrev pub arrayVerifyRun : DeviceNumbers → StateNumbers → ℕ → ℕ → ℕ → ℕ → List ℕ → List ℕ → List ℕ → List ℕ
 arrayVerifyRun d s rp wp vpp k xs w sc = arrayRunAt Closing true d s rp wp vpp k xs w sc
 
+-- .. what a verify alone leaves in scratch
 abbrev pub scratchVerifyRun : DeviceNumbers → StateNumbers → ℕ → ℕ → ℕ → ℕ → List ℕ → List ℕ → List ℕ → List ℕ
 scratchVerifyRun d s rp wp vpp k xs w sc = scratchRunAt Closing true d s rp wp vpp k xs w sc
 
@@ -124,12 +137,15 @@ scratchVerifyRun d s rp wp vpp k xs w sc = scratchRunAt Closing true d s rp wp v
 unfoldable pub fileAtOf : Stage → Bool → DeviceNumbers → StateNumbers → ℕ → ℕ → ℕ → ℕ → List ℕ → ℕ → List ℕ → List ℕ → List ℕ → RanNumbers
 fileAtOf stage verify d s rp wp vpp k f asked xs w sc = ranOut s (fileLeftAt stage verify (deviceIn d) (stateIn s) (pinsIn rp wp vpp) k xs w sc f asked .ran)
 
+-- .. what it leaves in the array
 unfoldable pub arrayFileAt : Stage → Bool → DeviceNumbers → StateNumbers → ℕ → ℕ → ℕ → ℕ → List ℕ → ℕ → List ℕ → List ℕ → List ℕ → List ℕ
 arrayFileAt stage verify d s rp wp vpp k f asked xs w sc = fileLeftAt stage verify (deviceIn d) (stateIn s) (pinsIn rp wp vpp) k xs w sc f asked .bytes
 
+-- .. what it leaves in wanted
 unfoldable pub wantedFileAt : Stage → Bool → DeviceNumbers → StateNumbers → ℕ → ℕ → ℕ → ℕ → List ℕ → ℕ → List ℕ → List ℕ → List ℕ → List ℕ
 wantedFileAt stage verify d s rp wp vpp k f asked xs w sc = fileLeftAt stage verify (deviceIn d) (stateIn s) (pinsIn rp wp vpp) k xs w sc f asked .wanted
 
+-- .. what it leaves in scratch
 unfoldable pub scratchFileAt : Stage → Bool → DeviceNumbers → StateNumbers → ℕ → ℕ → ℕ → ℕ → List ℕ → ℕ → List ℕ → List ℕ → List ℕ → List ℕ
 scratchFileAt stage verify d s rp wp vpp k f asked xs w sc = fileLeftAt stage verify (deviceIn d) (stateIn s) (pinsIn rp wp vpp) k xs w sc f asked .scratch
 
@@ -137,12 +153,15 @@ scratchFileAt stage verify d s rp wp vpp k f asked xs w sc = fileLeftAt stage ve
 abbrev pub loadOf : DeviceNumbers → StateNumbers → ℕ → ℕ → ℕ → ℕ → List ℕ → ℕ → List ℕ → List ℕ → List ℕ → RanNumbers
 loadOf d s rp wp vpp k f asked xs w sc = fileAtOf Clearing true d s rp wp vpp k f asked xs w sc
 
+-- .. what such a load leaves in the array
 abbrev pub arrayLoad : DeviceNumbers → StateNumbers → ℕ → ℕ → ℕ → ℕ → List ℕ → ℕ → List ℕ → List ℕ → List ℕ → List ℕ
 arrayLoad d s rp wp vpp k f asked xs w sc = arrayFileAt Clearing true d s rp wp vpp k f asked xs w sc
 
+-- .. what such a load leaves in wanted
 abbrev pub wantedLoad : DeviceNumbers → StateNumbers → ℕ → ℕ → ℕ → ℕ → List ℕ → ℕ → List ℕ → List ℕ → List ℕ → List ℕ
 wantedLoad d s rp wp vpp k f asked xs w sc = wantedFileAt Clearing true d s rp wp vpp k f asked xs w sc
 
+-- .. what such a load leaves in scratch
 abbrev pub scratchLoad : DeviceNumbers → StateNumbers → ℕ → ℕ → ℕ → ℕ → List ℕ → ℕ → List ℕ → List ℕ → List ℕ → List ℕ
 scratchLoad d s rp wp vpp k f asked xs w sc = scratchFileAt Clearing true d s rp wp vpp k f asked xs w sc
 
@@ -150,12 +169,15 @@ scratchLoad d s rp wp vpp k f asked xs w sc = scratchFileAt Clearing true d s rp
 abbrev pub verifyFileOf : DeviceNumbers → StateNumbers → ℕ → ℕ → ℕ → ℕ → List ℕ → ℕ → List ℕ → List ℕ → List ℕ → RanNumbers
 verifyFileOf d s rp wp vpp k f asked xs w sc = fileAtOf Closing true d s rp wp vpp k f asked xs w sc
 
+-- .. what such a verify leaves in the array
 abbrev pub arrayVerifyFile : DeviceNumbers → StateNumbers → ℕ → ℕ → ℕ → ℕ → List ℕ → ℕ → List ℕ → List ℕ → List ℕ → List ℕ
 arrayVerifyFile d s rp wp vpp k f asked xs w sc = arrayFileAt Closing true d s rp wp vpp k f asked xs w sc
 
+-- .. what such a verify leaves in wanted
 abbrev pub wantedVerifyFile : DeviceNumbers → StateNumbers → ℕ → ℕ → ℕ → ℕ → List ℕ → ℕ → List ℕ → List ℕ → List ℕ → List ℕ
 wantedVerifyFile d s rp wp vpp k f asked xs w sc = wantedFileAt Closing true d s rp wp vpp k f asked xs w sc
 
+-- .. what such a verify leaves in scratch
 abbrev pub scratchVerifyFile : DeviceNumbers → StateNumbers → ℕ → ℕ → ℕ → ℕ → List ℕ → ℕ → List ℕ → List ℕ → List ℕ → List ℕ
 scratchVerifyFile d s rp wp vpp k f asked xs w sc = scratchFileAt Closing true d s rp wp vpp k f asked xs w sc
 
@@ -163,12 +185,15 @@ scratchVerifyFile d s rp wp vpp k f asked xs w sc = scratchFileAt Closing true d
 unfoldable pub writtenOf : ℕ → List ℕ → List ℕ → SizedNumbers
 writtenOf letter p out = writtenOut (writtenAs (inRoom (length out) (writerOf limit letter p)))
 
+-- what the writer leaves in the buffer
 unfoldable pub fileLeft : ℕ → List ℕ → List ℕ → List ℕ
 fileLeft letter p out = leftIn out (inRoom (length out) (writerOf limit letter p))
 
+-- what the reader answers: a number and a length
 unfoldable pub fileRead : List ℕ → ℕ → List ℕ → SizedNumbers
 fileRead f asked out = readOut (readAs (inRoom (length out) (readerOf limit f asked)))
 
+-- what the reader leaves in the buffer
 unfoldable pub payloadLeft : List ℕ → ℕ → List ℕ → List ℕ
 payloadLeft f asked out = leftIn out (inRoom (length out) (readerOf limit f asked))
 
@@ -176,6 +201,7 @@ payloadLeft f asked out = leftIn out (inRoom (length out) (readerOf limit f aske
 unfoldable pub readingGiven : List ℕ → ℤ → ReadingNumbers
 readingGiven p x = answerNumbers (readingAnswer p x)
 
+-- a reading straight from a file, under the letter asked for
 unfoldable pub readingRead : List ℕ → ℕ → List ℕ → ℤ → ReadingNumbers
 readingRead f asked room x = answerNumbers (answerAs x (inRoom (length room) (readerOf limit f asked)))
 
@@ -183,5 +209,6 @@ readingRead f asked room x = answerNumbers (answerAs x (inRoom (length room) (re
 unfoldable pub wearAdded : ℕ → ReportNumbers → ℕ → WearNumbers → ReportedNumbers
 wearAdded part r from w = reportedOut (addedTo part (reportIn r) from (wearIn w))
 
+-- a report on many traces, from the numbers of their parts and their counts
 unfoldable pub wearReported : ℕ → List ℕ → List ℕ → ReportedNumbers
 wearReported part parts counts = reportedOut (reportedOf part parts counts)

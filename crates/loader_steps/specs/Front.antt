@@ -44,6 +44,7 @@ badRecord l = ltb 65534 (l .polls) || (not (noBlock (l .part) (l .block)) && leb
 abbrev pub setupRows : Part → Pins → ℕ → ℕ → ℕ → List Row
 setupRows part p k w sc = row 4 (barredPins part p) ∷ row 10 (noBlock part k) ∷ row 11 (wrongLengths part k w sc) ∷ []
 
+-- the first refusal of these, 0 where nothing refuses
 unfoldable pub setupNumber : Part → Pins → ℕ → ℕ → ℕ → ℕ
 setupNumber part p k w sc = given (setupRows part p k w sc)
 
@@ -51,6 +52,7 @@ setupNumber part p k w sc = given (setupRows part p k w sc)
 abbrev pub startRows : Part → Pins → ℕ → ℕ → ℕ → List Row
 startRows part p k w sc = row 1 (unknownPart part) ∷ setupRows part p k w sc
 
+-- the first refusal of a start, 0 where nothing refuses
 unfoldable pub startNumber : Part → Pins → ℕ → ℕ → ℕ → ℕ
 startNumber part p k w sc = given (startRows part p k w sc)
 
@@ -58,6 +60,7 @@ startNumber part p k w sc = given (startRows part p k w sc)
 abbrev pub stepRows : Loader → ℕ → ℕ → List Row
 stepRows l w sc = row 1 (unknownPart (l .part)) ∷ row 3 (badRecord l) ∷ setupRows (l .part) (l .pins) (l .block) w sc
 
+-- the first refusal of a step, 0 where nothing refuses
 unfoldable pub stepNumber : Loader → ℕ → ℕ → ℕ
 stepNumber l w sc = given (stepRows l w sc)
 
@@ -73,6 +76,7 @@ endAddress l n = if eqb n 25 then byteHere l else 0
 abbrev pub turnIn : Stage → Loader → List ℕ → Turn
 turnIn stage l w = if isEnded stage then Over (endBy stage) (endAddress l (endBy stage)) else Out (cycleOf l w)
 
+-- .. beside the record
 abbrev pub turnGiven : Loader → List ℕ → Given
 turnGiven l w = record { turn = turnIn (l .stage) l w; loader = l }
 
@@ -107,9 +111,11 @@ startAt stage verify part p k w sc =
 abbrev pub startGiven : Part → Pins → ℕ → List ℕ → List ℕ → Given
 startGiven part p k w sc = startAt Clearing true part p k w sc
 
+-- .. of a load alone
 abbrev pub loadStartGiven : Part → Pins → ℕ → List ℕ → List ℕ → Given
 loadStartGiven part p k w sc = startAt Clearing false part p k w sc
 
+-- .. of a verify alone
 abbrev pub verifyStartGiven : Part → Pins → ℕ → List ℕ → List ℕ → Given
 verifyStartGiven part p k w sc = startAt Closing true part p k w sc
 
@@ -119,12 +125,15 @@ toldAt stage verify part p k w sc =
     if eqb (startNumber part p k (length w) (length sc)) 0 then recordTold (recordAt part p k stage verify) w
     else (startNumber part p k (length w) (length sc), [], [])
 
+-- .. of a load with the verify after it
 abbrev pub startTold : Part → Pins → ℕ → List ℕ → List ℕ → ℕ × List Cycle × List ℕ
 startTold part p k w sc = toldAt Clearing true part p k w sc
 
+-- .. of a load alone
 abbrev pub loadStartTold : Part → Pins → ℕ → List ℕ → List ℕ → ℕ × List Cycle × List ℕ
 loadStartTold part p k w sc = toldAt Clearing false part p k w sc
 
+-- .. of a verify alone
 abbrev pub verifyStartTold : Part → Pins → ℕ → List ℕ → List ℕ → ℕ × List Cycle × List ℕ
 verifyStartTold part p k w sc = toldAt Closing true part p k w sc
 

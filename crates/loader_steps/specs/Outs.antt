@@ -34,5 +34,6 @@ abbrev pub cycleAtStage : Stage → ℕ → ℕ → Loader → List ℕ → Cycl
 cycleAtStage stage first here l w =
     cycleAt l (stageIs stage .kind) (addressIn (stageIs stage .here) first here) (carriedIn (stageIs stage .wanted) (stageIs stage .command) (l .place) w)
 
+-- .. as the record's own stage says
 abbrev pub cycleOf : Loader → List ℕ → Cycle
 cycleOf l w = cycleAtStage (l .stage) (firstAddress l) (hereOf l) l w

@@ -45,5 +45,6 @@ storeIn Closing part place v w sc = sc
 storeIn Verifying part place v w sc = set sc place (carried (part .word) v)
 storeIn (Ended n) part place v w sc = sc
 
+-- .. by the record's own stage
 abbrev pub storeOf : Loader → ℕ → List ℕ → List ℕ → List ℕ
 storeOf l v w sc = storeIn (l .stage) (l .part) (l .place) v w sc

@@ -84,6 +84,7 @@ fn step_number(l: Loader, wanted: usize, scratch: usize) -> u8
     setup_number(part, p, l.block, wanted, scratch)
 }
 
+// A record at its beginning.
 pub fn record_at(part: Part, p: Pins, block: u8, stage: Stage, verify: bool) -> Loader
     ensures { λ r. ⌜ r ≡ recordAt part p block stage verify ⌝ }
 {
