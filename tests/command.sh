@@ -59,7 +59,7 @@ tb=$root/torfbarke
 "$tb" replay "$work/page.txt" >/dev/null
 "$tb" replay --engine table "$work/page.txt" >/dev/null
 
-# the ways to hand over a trace
+# the ways to hand over a trace (R-trace-1, R-trace-2, R-trace-4)
 call "$tb" replay "$work/page.txt"; try 'a file' 0 "$answers" ''
 call "$tb" replay <"$work/page.txt"; try 'standard input' 0 "$answers" ''
 # shellcheck disable=SC2002
@@ -114,7 +114,7 @@ call "$tb" replay "$work/page.txt" --word; one 'an option behind the file that i
 call "$tb" replay <"$work"; one 'a folder as standard input' 2 '' 'standard input could not be read'
 call "$tb" ''; one 'an empty word' 2 '' 'the word is empty'
 
-# what is wrong with a line, in words: the bytes of the second line (the first where a mark has to come first)
+# what is wrong with a line, in words: the bytes of the second line (the first where a mark has to come first) (R-trace-3)
 line() { # line NAME WORDS BYTES
     printf 'W 1 0 12000 0010 40\n%b' "$3" >"$work/bad.txt"
     call "$tb" replay "$work/bad.txt"; try "$1" 1 'N -- 80
@@ -141,7 +141,7 @@ yes 'I 1 0 12000 0000 00' | head -n 20000 >"$work/more.txt"
 call "$tb" replay "$work/more.txt"; try 'too many lines' 1 '*' 'at most 9,998'
 [ "$(tail -n 1 "$work/out")" = '? 9999' ] || wrong 'too many lines: no mark'
 
-# either engine: the answers, the words and the status are those of the call that names none, wherever the option stands
+# either engine: the answers, the words and the status are those of the call that names none, wherever the option stands (R-table-2)
 either() { # either NAME STATUS ARGUMENTS
     local name=$1 ends=$2 engine
     shift 2
@@ -200,7 +200,7 @@ call "$tb" replay --help --engine; try 'replay --help before the rest' 0 '*' ''
 call "$tb" script --engine table "$work/page.txt"; one 'a script has no engines' 2 '' 'script has no option --engine'
 
 # a recording of a trace: the page's first six lines and an erase, the recording worked out by hand from the rules: P is 2, E is 3, an idle
-# cycle counts nothing while an erase is awaited, and a count stands at the two starts alone
+# cycle counts nothing while an erase is awaited, and a count stands at the two starts alone (R-recording-3)
 record_trace='W 1 0 12000 0010 40
 W 1 0 12000 0010 5A
 R 1 0 12000 0010 00
@@ -268,6 +268,7 @@ call "$tb" replay -- --record; one 'a file named --record that is not there' 2 '
 call "$tb" script --record "$work/page.txt"; one 'a script is not recorded' 2 '' 'script has no option --record'
 
 # scripts: the ways to hand one over, the answers of the lines written out, and what is wrong with a line, in words
+# (R-script-1 to R-script-3)
 printf '( 002\n%s( 003\nI 1 0 12000 0000 00\n)\n)\n' "$page" >"$work/script.txt"
 again=$answers'N -- 80
 N -- 80
@@ -313,6 +314,7 @@ call "$tb" script "$work/long.txt"; try 'a script of 3,500 lines' 1 '? 3001
 
 # wear: the counts by hand. The first trace begins two erases of block 1 and one of block 3, which a reset cuts; the boot block is locked, and
 # a D0 there starts nothing. The second begins one of block 0 (RP# at V_HH) and one of block 1, which it suspends and resumes
+# (R-wear-1, R-wear-2)
 call "$tb" wear "$worn/first.txt"; try 'wear of a trace' 0 'block  total  largest  smallest  passed
     0      0        0         0       0
     1      2        2         2       0
@@ -397,7 +399,7 @@ call "$tb" wear --help; try 'wear --help' 0 '*' ''
 full() { "$tb" wear "$worn/first.txt" >/dev/full; }
 call full; try 'wear on a full disk' 4 '' 'could not be written'
 
-# readings and tables: the table of three knots that the help shows, and that of type K
+# readings and tables: the table of three knots that the help shows, and that of type K (R-reading-3)
 three='0 0
 4096 1000
 8138 2000
@@ -798,7 +800,7 @@ call "$tb" read "$work/other.load" K 6138; try 'a file and behind it not FFH alo
 call "$tb" read "$work/other.load" K 65408; try 'longer than any flash block' 1 "refused 30: the file's length is wrong
 " ''
 
-# a part's dump against a load file
+# a part's dump against a load file (R-load-4, R-number-25)
 { head -c 14848 /dev/zero | tr '\0' '\377' && cat "$work/three.load" && head -c 1024 /dev/zero | tr '\0' '\377'; } >"$work/image"
 call "$tb" verify "$work/image" 3 1 "$work/three.load" K; try 'a part that holds its file' 0 'the block holds the file
 ' ''
@@ -862,7 +864,7 @@ call "$tb" verify --help; try 'verify --help' 0 '*' ''
 . "$root/tests/command_store.sh"
 
 # recordings: a programmer's cycles with the answers seen and the busy counts. The sample erases block 1 in five cycles and programs 5AH at
-# 3A00 in three; by the rules a poll gives 00 while busy and 80 in the cycle that ends the operation
+# 3A00 in three; by the rules a poll gives 00 while busy and 80 in the cycle that ends the operation (R-recording-1, R-recording-2)
 cp "$root/samples/recording.txt" "$work/recording.txt"
 cp "$root/samples/promised.bin" "$work/promised.bin"
 blank 16384 >"$work/blank.bin"

@@ -35,7 +35,7 @@ big() {
     [ "$(wc -c <"$work/big.load")" = $((512 * $2)) ] || wrong "a file of $2 blocks: another length"
 }
 
-# a day with two probes
+# a day with two probes (R-store-1, R-store-4)
 blank 16384 >"$card"
 chmod 640 "$card"
 call store "$card" 3 list; try 'an empty store' 0 '............................
@@ -79,7 +79,7 @@ call store "$card" 3 find Q; one 'a letter that is none' 1 '' "refused 42: $gone
 call store "$card" 3 read S 6138; try 'a table that is not there' 1 "refused 42: $gone42
 " ''
 
-# no run is long enough: the files slide down in their order, and dead places are used again
+# no run is long enough: the files slide down in their order, and dead places are used again (R-store-2)
 big N 26
 call store "$card" 3 add "$work/big.load" N; try 'a slide' 0 "$slid" ''
 card_shown 'a slide' KNNNNNNNNNNNNNNNNNNNNNNNNNN
@@ -98,14 +98,14 @@ card_shown 'a large file dropped' Kxxxxxxxxxxxxxxxxxxxxxxxxxxx
 call store "$card" 3 add "$work/s.load" S; try 'a slide over dead places' 0 "$slid" ''
 card_shown 'a slide over dead places' KS
 
-# the first run, not the longest: places 1 and 2 blank, 3 taken, the rest blank
+# the first run, not the longest: places 1 and 2 blank, 3 taken, the rest blank (R-store-2)
 { cat "$work/three.load" && blank 1024 && cat "$work/s.load" && blank 14336; } >"$card"
 big R 2
 call store "$card" 3 add "$work/big.load" R; try 'the first run' 0 "$calm" ''
 card_shown 'the first run' KRRS
 card_keep
 
-# what is refused, before anything is changed
+# what is refused, before anything is changed (R-store-5)
 call store "$card" 3 add "$work/s.load" K; try 'add: another letter' 1 "refused 35: the file's letter is not the one asked for
 " ''
 call store "$card" 3 add "$work/page.txt" K; try 'add: no load file' 1 "refused 30: the file's length is wrong
@@ -127,7 +127,7 @@ call store "$card" 1 list; try 'list: the image of another part' 1 'refused 2: t
 call store "$card" 1 drop K; try 'drop: the image of another part' 1 'refused 2: the image is not as long as the part
 ' ''
 card_kept 'what is refused'
-# 44, also before 42: junk in a place, a letter twice, half a file at the block's end
+# 44, also before 42: junk in a place, a letter twice, half a file at the block's end (R-store-1, R-number-44)
 none44='refused 44: the main block is no proper store'
 { cat "$work/three.load" "$work/spoilt.load" && blank 15360; } >"$work/junk"
 call store "$work/junk" 3 list; one 'junk in a place' 1 "K?..........................
@@ -142,7 +142,7 @@ call store "$work/junk" 3 add "$work/three.load" K; try '44 of an add' 1 "$none4
 call store "$work/junk" 3 list; try 'a letter twice' 1 '*' "$none44"
 { blank 13824 && head -c 512 "$work/long.load" && blank 2048; } >"$work/junk"
 call store "$work/junk" 3 list; try 'half a file' 1 '*' "$none44"
-# the largest store, on device 1
+# the largest store, on device 1 (R-store-3)
 { cat "$work/long.load" && blank 16384; } >"$work/whole1"
 call store "$work/whole1" 1 list; try '224 places' 0 '*' ''
 [ "$(head -n 8 "$work/out" | tr -d 'K\n' | wc -c)" = 0 ] || wrong '224 places: another map'

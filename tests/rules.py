@@ -1,13 +1,15 @@
 #!/usr/bin/env python3
 """The tags of the rules. docs/RULES.md defines each once, as the bold beginning of a list item; a definition in specs/ carries the tag of
-its rule in its comment, and CLAIMS, DECISIONS, OPERATORS and the tests cite rules by their tags.
+its rule in its comment, and CLAIMS, DECISIONS, OPERATORS, the header for C and the tests cite rules by their tags. `R-load-1 to R-load-3`
+cites all three.
 
-    python3 tests/rules.py            compares, and ends with 1 where something is wrong
-    python3 tests/rules.py list       prints each rule with the definitions and papers that carry its tag
+    python3 tests/rules.py            compares, and ends with 1 where something is wrong; names the rules that no test cites
+    python3 tests/rules.py list       prints each rule with the definitions, papers and tests that carry its tag
     python3 tests/rules.py RULE ..    the same of these rules
 
 Wrong is a tag that is no rule's, a tag that is defined twice, a rule without a definition and without a claim (docs/CLAIMS.md) that
-ELSEWHERE does not name, and a rule in ELSEWHERE that has one of the two."""
+ELSEWHERE does not name, and a rule in ELSEWHERE or UNTESTED that has what these say it has not. A rule that no test cites and that
+UNTESTED does not name is told, and is not wrong."""
 import pathlib
 import re
 import sys
@@ -18,6 +20,7 @@ PLACES = ["crates", "docs", "tests", "include", "commands", "example", "bench", 
           "CHANGELOG.md"]
 KINDS = {".antt", ".rt", ".edit", ".md", ".py", ".sh", ".awk", ".c", ".h", ".txt", ""}
 TAG = re.compile(r"\bR-[a-z]+-[0-9]+\b")
+RANGE = re.compile(r"\bR-([a-z]+)-([0-9]+) to R-\1-([0-9]+)\b")
 DEFINED = re.compile(r"- \*\*(R-[a-z]+-[0-9]+)\*\*")
 NAME = re.compile(r"\s*(?:unfoldable |abbrev )?(?:pub )?(?:record |data )?([^\s:]+)")
 
@@ -27,6 +30,19 @@ ELSEWHERE = {
     "R-form-10": "it is about what DECISIONS must name",
     "R-landing-1": "it is about the notes in docs/landings/",
 }
+
+# Rules that no run of anything shows, each with its reason.
+UNTESTED = dict(ELSEWHERE, **{
+    "R-scope-1": "it names what is built",
+    "R-reading-4": "it is about which crate stands on which: crates.txt",
+    "R-touch-1": "it is about any cycles whatever: a theorem",
+    "R-touch-2": "it is about any cycles whatever: a theorem",
+    "R-card-13": "it is about the cards as one theorem",
+    "R-promise-2": "it is about what a contract says",
+    "R-promise-3": "it is about what is proved once",
+    "R-slip-2": "it is about contracts that a wrong program must not meet: must-fail edits",
+})
+UNTESTED.update({f"R-form-{n}": "it is about the form of code" for n in (1, 2, 3, 4, 5, 6, 8, 9)})
 
 
 def files():
@@ -49,7 +65,7 @@ def defines(lines, at):
 
 def collect():
     """Where each rule is defined, and where each tag is used: rule -> places, tag -> (file, line, what)."""
-    rules, uses = {}, {}
+    rules, uses, ranges = {}, {}, []
     for name, file in files():
         try:
             lines = file.read_text(encoding="utf-8").split("\n")
@@ -63,14 +79,29 @@ def collect():
             for tag in TAG.findall(line):
                 what = defines(lines, number) if "/specs/" in name else ""
                 uses.setdefault(tag, []).append((name, number, what))
+            ranges += [(tag, (name, number, "")) for tag in between(line)]
+    for tag, at in ranges:
+        if tag in rules:
+            uses.setdefault(tag, []).append(at)
     return rules, uses
+
+
+def between(line):
+    """The tags that stand between the two of a range."""
+    return [f"R-{kind}-{n}" for kind, first, last in RANGE.findall(line) for n in range(int(first) + 1, int(last))]
+
+
+def tested(tag, uses):
+    """The tests that cite a rule."""
+    return sorted({name for name, _, _ in uses.get(tag, []) if name.startswith("tests/") and name != "tests/rules.py"})
 
 
 def told(tag, uses):
     """A rule with its places, in one paragraph."""
     definitions = [f"{name.split('/')[1]}: {what}" for name, _, what in uses.get(tag, []) if "/specs/" in name]
-    papers = sorted({name for name, _, what in uses.get(tag, []) if "/specs/" not in name and name != RULES})
-    return f"{tag}\n  definitions: {', '.join(definitions) or 'none'}\n  papers and tests: {', '.join(papers) or 'none'}"
+    papers = sorted({name for name, _, what in uses.get(tag, []) if "/specs/" not in name and name != RULES and not name.startswith("tests/")})
+    return (f"{tag}\n  definitions: {', '.join(definitions) or 'none'}\n  papers: {', '.join(papers) or 'none'}\n"
+            f"  tests: {', '.join(tested(tag, uses)) or 'none'}")
 
 
 def main(words):
@@ -88,12 +119,15 @@ def main(words):
         if tag not in defined | claimed and tag not in ELSEWHERE:
             wrong.append(f"{RULES}: {tag} has no definition and no claim")
     wrong += [f"tests/rules.py: {tag} of ELSEWHERE has a definition or a claim" for tag in ELSEWHERE if tag in defined | claimed]
-    wrong += [f"tests/rules.py: {tag} of ELSEWHERE is no rule's" for tag in ELSEWHERE if tag not in rules]
-    for line in wrong:
+    wrong += [f"tests/rules.py: {tag} of UNTESTED is cited by {', '.join(tested(tag, uses))}" for tag in UNTESTED if tested(tag, uses)]
+    wrong += [f"tests/rules.py: {tag} of UNTESTED is no rule's" for tag in UNTESTED if tag not in rules]
+    bare = [tag for tag in rules if not tested(tag, uses) and tag not in UNTESTED]
+    for line in wrong + ([f"no test cites {', '.join(bare)}"] if bare else []):
         print(line)
     cited = sum(len(at) for at in uses.values())
     print(f"rules: {len(rules)} rules, {len(defined)} with a definition, {len(claimed)} with a claim, {len(ELSEWHERE)} with neither and "
-          f"why, {cited} citations, {len(wrong)} wrong")
+          f"why; {len(rules) - len(bare) - len(UNTESTED)} cited by tests, {len(UNTESTED)} not and why, {len(bare)} not; {cited} citations, "
+          f"{len(wrong)} wrong")
     return 1 if wrong else 0
 
 

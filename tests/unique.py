@@ -2,7 +2,7 @@
 """Every public function has its uniqueness: for each equation of its contract a theorem NAME-unique or NAME-..-unique stands in
 proofs/Unique.antt of its crate, and says the contract's own right-hand side, its bound variables standing for the arguments. The C
 functions leave out `tb_`. A slice that is told by its units and its spare byte, both of them in the contract, is covered by the one law
-`left-unique` of units: what has the same units and the same spare byte is the same.
+`left-unique` of units: what has the same units and the same spare byte is the same. (R-promise-1)
 
 `unique.py` compares and ends with 1 where one is missing or says something else; `unique.py list` prints the pairs too."""
 import pathlib

@@ -20,11 +20,11 @@ MOST, OLD = 224, 8  # blocks, now and before
 FILE, BACK, NONE = (5200, 115300), (4200, 113600), 999999  # of a short file, and of a long one
 
 
-def check(first):
+def check(first):  # R-file-2
     return (1 + sum((i + 1) * b for i, b in enumerate(first[:510]))) % 65521
 
 
-def write(letter, payload):
+def write(letter, payload):  # R-file-1, R-number-32, R-number-36
     if letter not in LETTERS:
         return 32, None
     if not 1 <= len(payload) <= 505 * MOST:
@@ -38,7 +38,7 @@ def write(letter, payload):
     return 0, out
 
 
-def judge(data, asked, most=MOST):
+def judge(data, asked, most=MOST):  # R-number-30 to R-number-35, R-number-38, R-order-6
     if len(data) == 0 or len(data) > 512 * most or len(data) % 512:
         return 30, None
     count = len(data) // 512
@@ -117,7 +117,7 @@ def spoiled(row, payload):
     return number, 0 if number else len(made), file
 
 
-def run(row):
+def run(row):  # R-file-3, R-file-4, R-number-37
     length, asked, back, long = row[13:17]
     out = bytearray(b"\x5a" * BACK[long])
     number, made, file = spoiled(row, pattern(row[1]))
@@ -137,7 +137,7 @@ def run(row):
     return f"{said} F {digest(file)} B {digest(out)}"
 
 
-def fill():
+def fill():  # R-card-14, R-number-30 to R-number-37, R-order-6
     blocks = lambda size: 512 * ((size + 504) // 505)
     for size in (0, 1, 504, 505, 506, 1010, 1011, 4039, 4040, 4041, 4545, 4546, 113119, 113120, 113121):
         case(f"payload of {size}", size=size)
@@ -241,7 +241,7 @@ def fill():
 
 
 def blank_blocks():
-    """Blocks of FFH. Under the letter A nothing is written, so that the buffer stays blank."""
+    """Blocks of FFH. Under the letter A nothing is written, so that the buffer stays blank. (R-number-38)"""
     blank = {"letter": "A", "size": 20, "fill": 255}
     for count in (1, 2, 8, 9, 223, 224):
         case(f"38: blank, {count} blocks", length=512 * count, asked="K", **blank)

@@ -118,7 +118,8 @@ def begun(op, device, block, wanted, scratch, polls, addresses, room, numbered):
 
 
 def list_number(device, block, addresses, room):
-    """The refusals of the lists: each test over the whole list before the next. (R-held-3)"""
+    """The refusals of the lists: each test over the whole list before the next.
+    (R-held-3, R-number-5, R-number-37, R-number-45, R-number-46)"""
     w = width(device)
     first, last = BLOCKS[device.number][block]
     if any(a * w >= SIZE[device.number] for a in addresses):
@@ -330,7 +331,7 @@ def others(number, block, word=0):
     return [low // w, high // w]
 
 
-def subsets(b):
+def subsets(b):  # R-held-1, R-held-2
     b.group("subs", "every set of polls for E 1 to 4, S 1, 2, 3, 7 and k 0, 2: block 1 of device 3")
     b.fresh()
     b.fit(3, 1)
@@ -348,7 +349,7 @@ def subsets(b):
                         b.run(f"S {suspend}, k {k}, E {erase}: polls {', '.join(map(str, polls)) or 'none'}", (0,), op)
 
 
-def same_lists(b):
+def same_lists(b):  # R-held-1
     b.group("same", "unsorted, doubled, 0 and polls that never come change nothing")
     bench_for(b, 3, 2, erase=3, suspend=3)
     there = BLOCKS[3][2][0]
@@ -376,7 +377,7 @@ def no_erase(b):
     b.run("a load alone", (0, 514), "O")
 
 
-def last_poll(b):
+def last_poll(b):  # R-held-1
     b.group("last", "in the last poll's place the erase is found finished, and the device is left in read array")
     for suspend in (1, 2, 100):
         bench_for(b, 3, 1, erase=2, suspend=suspend)
@@ -389,7 +390,7 @@ def last_poll(b):
             assert b.state.mode == ("A" if 2 in polls else "S")
 
 
-def long_ones(b):
+def long_ones(b):  # R-held-2, R-number-46
     b.group("long", "an erase of 65,535 polls, and 4,096 reads at once")
     bench_for(b, 4, 2, erase=65535, suspend=100, k=2)
     b.lists((60000, 65534), others(4, 2))
@@ -427,7 +428,7 @@ def each_part(b):
             b.run(f"device {number}, {'words' if word else 'bytes'}, block {block}", (0,), "O")
 
 
-def order(b):
+def order(b):  # R-held-3, R-number-45, R-number-46
     b.group("bars", "refusals of the lists after those of a run, each over the whole list before the next; nothing touched")
     bench_for(b, 3, 1, k=2)
     b.fill("C", 9, 9)
@@ -497,7 +498,7 @@ def words(b):
     b.run("37: one byte", (37, 0, 0))
 
 
-def by_hand(b):
+def by_hand(b):  # R-held-1
     b.group("hand", "stepped by hand: the cycles of an interruption, one by one")
     b.fresh()
     bench_for(b, 3, 1, erase=3, suspend=2)
@@ -538,7 +539,7 @@ def by_hand(b):
     b.step(0, 1, "D0H at once", ("W", 0x3A00, 0xD0))
 
 
-def waits(b):
+def waits(b):  # R-held-2, R-number-20
     b.group("wait", "20 counts each wait afresh; the ready byte of the suspend's wait is judged at once")
     for status, end in ((0xA8, 21), (0xB0, 22), (0xA0, 23), (0xE0, 23), (0xF8, 21)):
         b.lists((1,), [0x0010])

@@ -129,7 +129,8 @@ class Table:
 
 
 def file_refused(t):
-    """The file is refused before wanted is filled: array, wanted and scratch stay, no cycle counts."""
+    """The file is refused before wanted is filled: array, wanted and scratch stay, no cycle counts.
+    (R-order-3, R-number-30 to R-number-35, R-number-38)"""
     two = {"number": 3, "block": 0, "held": (40, 3)}
     wide = {"number": 4, "block": 3, "held": (9, 11)}
     for length in (0, 1, 511, 513, 1023):
@@ -179,7 +180,7 @@ def file_refused(t):
 
 
 def run_refused(t):
-    """A run's refusals come before the file's."""
+    """A run's refusals come before the file's. (R-order-3)"""
     bar = functools.partial(t.case, held=(40, 3))
     bad = {"size": 900, "before": [(9, 0)], "asked": "T"}
     none = {"length": 0}
@@ -215,7 +216,7 @@ def run_refused(t):
 
 
 def loaded(t):
-    """Loads that end well; each count is that of the formula."""
+    """Loads that end well; each count is that of the formula. (R-load-5, R-load-8)"""
     for letter in "BEJKNRST":
         t.case(f"well letter {letter}", 0, about={"letter": letter, "size": 40}, number=3, block=1)
     t.case("well block filled", 0, about={"size": 505}, number=3, block=1, held=(5, 9))
@@ -255,7 +256,7 @@ def loaded(t):
 
 
 def ended(t):
-    """Wanted is filled, and the run ends otherwise: 50H, FFH, n reads, two writes and a poll."""
+    """Wanted is filled, and the run ends otherwise: 50H, FFH, n reads, two writes and a poll. (R-order-5)"""
     file = {"about": {"size": 100}}
     for vpp in (0, 6500):
         t.case(f"21 program, VPP {vpp}", 21, 512 + 5, vpp=vpp, **file)
@@ -271,7 +272,7 @@ def ended(t):
 
 
 def verified(t):
-    """Verifies against a file: wanted is filled, the array stays. At a difference the count is its place and 2."""
+    """Verifies against a file: wanted is filled, the array stays. At a difference the count is its place and 2. (R-load-4, R-number-25)"""
     check = functools.partial(t.case, op="V")
     half = {"about": {"size": 100}, "number": 3, "block": 0, "laid": True}
     first = BLOCKS[3][0][0]
@@ -391,7 +392,8 @@ def wide_verified(t):
 
 
 def worn(t):
-    """A load that erases adds one at its block, up to the stop; a verify, a load that does not erase and a refused one keep all counts."""
+    """A load that erases adds one at its block, up to the stop; a verify, a load that does not erase and a refused one keep all counts.
+    (R-wear-1)"""
     file = {"about": {"size": 100}}
     for number, word in ALL:
         me, n = tag(number, word), block_length(number, 1) // (1 + word)

@@ -29,7 +29,7 @@ UNWORN = (0,) * 7  # erases begun, by block; a part with fewer blocks has places
 State = namedtuple("State", "mode status phase data left address wear", defaults=(UNWORN,))
 Cycle = namedtuple("Cycle", "kind rp oe vpp address data wp", defaults=(0,))
 
-# Eight devices: first and last byte address of each block, outward from the boot block, and the size in bytes.
+# Eight devices: first and last byte address of each block, outward from the boot block, and the size in bytes. (R-part-1 to R-part-4)
 BLOCKS = {
     1: ((0x1E000, 0x1FFFF), (0x1D000, 0x1DFFF), (0x1C000, 0x1CFFF), (0x00000, 0x1BFFF)),
     2: ((0x00000, 0x01FFF), (0x02000, 0x02FFF), (0x03000, 0x03FFF), (0x04000, 0x1FFFF)),
@@ -61,17 +61,17 @@ def is_part(device):
     return device.number in BLOCKS and device.word in ((0, 1) if device.number > 4 else (0,))
 
 
-def is_device(device):
+def is_device(device):  # R-number-1, R-part-5
     return is_part(device) and device.program > 0 and device.erase > 0 and 1 <= device.suspend <= 100
 
 
 def width(device):
-    """The bytes of a unit."""
+    """The bytes of a unit. (R-part-6)"""
     return 2 if device.word else 1
 
 
 def unit_at(device, part, address):
-    """A unit of lent bytes, low byte first."""
+    """A unit of lent bytes, low byte first. (R-part-6)"""
     if device.word:
         return part[2 * address + 1] << 8 | part[2 * address]
     return part[address]
@@ -106,16 +106,16 @@ def error_bit(state):
     return PROGRAM_ERROR if state.phase in "DP" else ERASE_ERROR
 
 
-def low(device, vpp):
+def low(device, vpp):  # R-cycle-2
     return vpp <= (1500 if device.number > 4 else 6500)
 
 
-def high(device, vpp):
+def high(device, vpp):  # R-cycle-2
     return 11400 <= vpp <= 12600 or device.number > 4 and 4500 <= vpp <= 5500
 
 
 def bad_levels(device, c):
-    """One bus cycle: levels outside those that the documents know. (R-number-4)"""
+    """One bus cycle: levels outside those that the documents know. (R-number-4, R-cycle-1)"""
     if c.rp > 2 or not (low(device, c.vpp) or high(device, c.vpp)):
         return True
     if device.number > 4:
@@ -209,7 +209,7 @@ def settled(s, is_cut):
 
 
 def first_write(device, s, command):
-    """Writes, nothing awaited, running or suspended. None is refusal 7. (R-write-1, R-write-3)"""
+    """Writes, nothing awaited, running or suspended. None is refusal 7. (R-write-1 to R-write-3, R-number-7)"""
     if command in (0xFF, 0xB0):
         return s._replace(mode="A")
     if command == 0x90:
@@ -226,7 +226,7 @@ def first_write(device, s, command):
 
 
 def second_write(device, s, c):
-    """Second writes. (R-second-1)"""
+    """Second writes. (R-second-1 to R-second-4)"""
     over = s._replace(phase="F")
     if s.phase == "C" and c.data & 0xFF != 0xD0:
         return over._replace(status=s.status | ERASE_ERROR | PROGRAM_ERROR)
@@ -243,7 +243,7 @@ def second_write(device, s, c):
 
 
 def busy_write(device, s, command):
-    """While busy. 70H finds the mode that it asks for. (R-busy-2)"""
+    """While busy. 70H finds the mode that it asks for. (R-busy-1, R-busy-2)"""
     if s.phase == "E" and command == 0xB0:
         return s._replace(phase="U", data=device.suspend)
     return s
@@ -282,7 +282,7 @@ def identifier(device, address):
 
 
 def read(device, s, address, array):
-    """Reads: what step 4 answers to a read. (R-read-1)"""
+    """Reads: what step 4 answers to a read. (R-read-1, R-busy-1, R-suspended-2, R-number-8, R-number-9)"""
     if s.mode == "S" or s.phase in BUSY:
         return ("D", s.status)
     if s.mode == "I":
@@ -293,7 +293,7 @@ def read(device, s, address, array):
 
 
 def judged(device, s, c, array, residue):
-    """Refusals 1 to 6 of a cycle, 0 for none. (R-order-1)"""
+    """Refusals 1 to 6 of a cycle, 0 for none. (R-order-1, R-number-1 to R-number-6)"""
     if not is_device(device):
         return 1
     if array != SIZE[device.number]:
@@ -333,7 +333,7 @@ def made(device, s, c, array, residue):
 
 
 def cycle(device, s, c, array, residue):
-    """One bus cycle: the answer and the state after it. The array is changed in place. (R-demand-2)"""
+    """One bus cycle: the answer and the state after it. The array is changed in place. (R-demand-2, R-cycle-6, R-cycle-8)"""
     number = judged(device, s, c, len(array), len(residue))
     if number:
         return ("X", number), s
@@ -483,7 +483,7 @@ def new_bench(b, number=3, program=2, erase=3, suspend=1):
     b.fill_residue(17, 5)
 
 
-def cards(b):
+def cards(b):  # R-card-1 to R-card-4, R-card-6 to R-card-9, R-status-3
     b.group("card", "the first nine bench cards, cycle by cycle")
     new_bench(b)
     b.fill(0xA5, 0)
@@ -533,7 +533,7 @@ def cards(b):
     b.read(0x20)
 
 
-def commands(b):
+def commands(b):  # R-write-1 to R-write-3, R-second-1, R-busy-1, R-suspended-1, R-number-7
     b.group("cmds", "every command in every phase")
     new_bench(b)
     phases = (
@@ -556,7 +556,7 @@ def commands(b):
         b.write(0x3805, byte, f"suspended, mode status: {byte:02X}H")
 
 
-def last_cycle(b):
+def last_cycle(b):  # R-cycle-5
     b.group("last", "writes and reads on the last busy cycle")
     new_bench(b)
     for byte in COMMANDS:
@@ -573,7 +573,7 @@ def last_cycle(b):
     b.read(0x3805, "and finished")
 
 
-def modes(b):
+def modes(b):  # R-write-1, R-status-2
     b.group("mode", "50H keeps the mode and clears SR.5 to SR.3")
     new_bench(b)
     for mode in "ASI":
@@ -582,7 +582,7 @@ def modes(b):
         b.read(1)
 
 
-def bands(b):
+def bands(b):  # R-cycle-2, R-card-5, R-card-14
     b.group("band", "the supply's bands")
     new_bench(b)
     for vpp in (0, 6500, 6501, 11399, 11400, 12600, 12601, MOST):
@@ -597,7 +597,7 @@ def bands(b):
     b.read(0x0123, "RP# low at 9,000 mV", vpp=9000, rp=0)
 
 
-def locks(b):
+def locks(b):  # R-lock-1
     b.group("lock", "the boot block's lock")
     new_bench(b)
     for phase, byte, name in (("C", 0xD0, "erase"), ("D", 0x00, "program")):
@@ -623,7 +623,7 @@ def locks(b):
     b.idle()
 
 
-def barred(b):
+def barred(b):  # R-status-2, R-second-3
     b.group("bars", "SR.3 bars new operations until 50H")
     new_bench(b)
     b.put("S", 0x80, "D")
@@ -647,7 +647,7 @@ def barred(b):
     b.write(0x0040, 0xD0)
 
 
-def times(b):
+def times(b):  # R-part-5, R-second-4
     b.group("time", "busy times of 1 and of 65,535")
     new_bench(b, program=1, erase=1)
     b.fresh("P 1 and E 1")
@@ -672,7 +672,7 @@ def times(b):
     b.idle()
 
 
-def cuts(b):
+def cuts(b):  # R-cycle-3, R-cycle-4, R-cycle-7
     b.group("cuts", "both cuts, in both operations and while suspended")
     new_bench(b)
     running = (
@@ -702,7 +702,7 @@ def cuts(b):
     b.read(0x0123)
 
 
-def together(b):
+def together(b):  # R-cycle-4, R-order-1
     b.group("both", "a cut and a write in one cycle")
     new_bench(b)
     busy = (
@@ -721,7 +721,7 @@ def together(b):
     b.write(0x3805, 0x00)
 
 
-def order(b):
+def order(b):  # R-number-0, R-order-1
     b.group("ordr", "the lowest number that applies")
     new_bench(b)
     b.use(3, 2, 3, residue=0)
@@ -750,7 +750,7 @@ def order(b):
     b.read(0x3A11, "8")
 
 
-def rp_low(b):
+def rp_low(b):  # R-cycle-3, R-order-1
     b.group("rplo", "RP# low")
     new_bench(b)
     for name, phase in (("confirm", "C"), ("data", "D")):
@@ -776,7 +776,7 @@ def rp_low(b):
     b.reset("and of an improper state")
 
 
-def past(b):
+def past(b):  # R-number-5
     b.group("past", "addresses past the array")
     new_bench(b)
     b.put("A", 0x80, "F")
@@ -795,7 +795,7 @@ def past(b):
     b.idle("idle: the erase ends", address=0x4000)
 
 
-def suspended(b):
+def suspended(b):  # R-suspended-2, R-number-8
     b.group("susp", "reads while suspended")
     new_bench(b)
     b.put("S", 0x00, "E", 3, 0x3A11)
@@ -814,7 +814,7 @@ def suspended(b):
     b.read(0x3A11, "finished")
 
 
-def suspending(b):
+def suspending(b):  # R-busy-2
     b.group("hold", "a suspend takes S cycles")
     new_bench(b, suspend=1)
     running = dict(mode="S", status=0x00, phase="E", left=3, address=0x3A11)
@@ -872,7 +872,7 @@ def suspending(b):
         b.idle(f"a cut, with a residue of {rest}", vpp=0)
 
 
-def suspend_at_rest(b):
+def suspend_at_rest(b):  # R-write-3
     b.group("none", "B0H with nothing running, suspended or awaited")
     new_bench(b)
     for mode in "ASI":
@@ -890,7 +890,7 @@ def suspend_at_rest(b):
     b.write(0x3A00, 0xD0, "D0H stays refused")
 
 
-def identifiers(b):
+def identifiers(b):  # R-read-1, R-number-9
     b.group("iden", "identifier reads")
     for number in (1, 2, 3, 4):
         new_bench(b, number)
@@ -901,7 +901,7 @@ def identifiers(b):
         b.read(SIZE[number] - 1, "the last address")
 
 
-def residues(b):
+def residues(b):  # R-cycle-7, R-number-6
     b.group("resi", "residues of the length needed, and too short by one")
     for number in (1, 2, 3, 4):
         new_bench(b, number)
@@ -923,7 +923,7 @@ def residues(b):
     b.idle("program, one byte", rp=0)
 
 
-def improper(b):
+def improper(b):  # R-proper-1, R-number-3
     b.group("stat", "states that are not proper, each beside a proper one")
     new_bench(b)
 
@@ -990,7 +990,7 @@ def improper(b):
     state("being suspended past the array", "S", 0x00, "U", 3, 0x4000, 3)
 
 
-def blocks(b):
+def blocks(b):  # R-part-2, R-part-3, R-second-2, R-lock-1
     b.group("blks", "an erase at both ends of each block of each device")
     for number in (1, 2, 3, 4):
         new_bench(b, number, 1, 1)
@@ -1008,7 +1008,7 @@ def blocks(b):
             b.write(address, 0x00, f"device {number}, {address:05X}H")
 
 
-def devices(b):
+def devices(b):  # R-part-1, R-part-7, R-number-1, R-number-2
     b.group("devs", "devices, busy times and lengths")
     new_bench(b)
     b.put("A", 0x80, "F")
@@ -1032,7 +1032,7 @@ def devices(b):
     b.idle("device 3, array of 16384")
 
 
-def levels(b):
+def levels(b):  # R-cycle-1, R-number-4
     b.group("pins", "levels of RP# and OE#")
     new_bench(b)
     b.put("A", 0x80, "F")
@@ -1129,7 +1129,7 @@ def wide_erase_cards(b, ones):
     b.read(main)
 
 
-def wide_cards(b):
+def wide_cards(b):  # R-card-1 to R-card-4, R-card-6 to R-card-9, R-part-6
     b.group("wide", "the first nine bench cards on device 5, in both widths")
     for word, ones in ((1, 0x0101), (0, 0x01)):
         wide_bench(b, 5, word)
@@ -1137,7 +1137,7 @@ def wide_cards(b):
         wide_erase_cards(b, ones)
 
 
-def wide_commands(b):
+def wide_commands(b):  # R-write-1 to R-write-3
     b.group("cmdw", "every command in every phase, in words and in bytes")
     for number, word in ((5, 1), (6, 0)):
         wide_bench(b, number, word)
@@ -1157,7 +1157,7 @@ def wide_commands(b):
                 b.write(other, data, f"{name}: {data:02X}H")
 
 
-def ten(b):
+def ten(b):  # R-write-2
     b.group("ten ", "10H awaits data on devices 5 to 8, and is no command on devices 1 to 4")
     for number, word in tuple((n, 0) for n in (1, 2, 3, 4)) + BOTH:
         b.use(number, 2, 3, word=word)
@@ -1175,7 +1175,7 @@ def ten(b):
     b.write(0x0011, 0x10)
 
 
-def high_bytes(b):
+def high_bytes(b):  # R-write-1, R-part-6
     b.group("high", "the high byte of a command is not looked at; of data in word mode alone")
     for number, word in ((5, 1), (6, 0), (3, 0)):
         b.use(number, 2, 3, word=word)
@@ -1203,7 +1203,7 @@ def high_bytes(b):
         b.idle("idle carries anything", address=MOST, data=0xFFFF)
 
 
-def status_reads(b):
+def status_reads(b):  # R-status-1
     b.group("sr16", "a status read has a high byte of 0; an array read has the unit's")
     for word in (1, 0):
         wide_bench(b, 5, word)
@@ -1225,7 +1225,7 @@ def status_reads(b):
             b.read(at(b, byte), f"the array's unit of byte {byte:05X}H")
 
 
-def wide_bands(b):
+def wide_bands(b):  # R-cycle-2, R-number-4
     b.group("volt", "the supply's bands on devices 5 to 8")
     for number, word in ((5, 1), (6, 0)):
         wide_bench(b, number, word)
@@ -1260,7 +1260,7 @@ def wide_bands(b):
             b.idle(f"programming at {vpp} mV", vpp=vpp)
 
 
-def band_changes(b):
+def band_changes(b):  # R-cycle-4
     b.group("swap", "a change from one high band to the other is no cut")
     for word in (1, 0):
         wide_bench(b, 5, word, 3, 4)
@@ -1282,7 +1282,7 @@ def band_changes(b):
             b.read(there, "to its end", vpp=first)
 
 
-def wide_identifiers(b):
+def wide_identifiers(b):  # R-read-2, R-number-9
     b.group("code", "identifier reads of devices 5 to 8")
     for number, word in BOTH:
         b.use(number, 2, 3, word=word)
@@ -1296,7 +1296,7 @@ def wide_identifiers(b):
     b.read(1, "RP# low: no data, and the device is reset", rp=0)
 
 
-def write_protect(b):
+def write_protect(b):  # R-cycle-1, R-number-4
     b.group("wpin", "levels of WP#: 0 and 1 on devices 5 to 8, any on devices 1 to 4")
     for number, word in BOTH + tuple((n, 0) for n in (1, 2, 3, 4)):
         b.use(number, 2, 3, word=word)
@@ -1313,7 +1313,7 @@ def write_protect(b):
     b.idle("WP# may change: the erase ends", wp=1)
 
 
-def output_enable(b):
+def output_enable(b):  # R-cycle-2, R-number-4
     b.group("oepi", "OE# other than 0 is no level on devices 5 to 8")
     for number, word in BOTH:
         b.use(number, 2, 3, word=word)
@@ -1332,7 +1332,7 @@ def output_enable(b):
         b.read(5, f"a read with RP# {rp}", rp=rp)
 
 
-def wide_locks(b):
+def wide_locks(b):  # R-lock-1
     b.group("lckw", "the boot block of devices 5 to 8: WP# high or RP# at V_HH unlocks it")
     for number, word in BOTH:
         b.use(number, 2, 3, word=word)
@@ -1370,7 +1370,7 @@ def wide_locks(b):
     b.write(at(b, 0x1FFFE), 0xD0)
 
 
-def word_cuts(b):
+def word_cuts(b):  # R-cycle-7, R-number-6
     b.group("cutw", "cuts of programs in both widths, with residues of 0, 1, 2 and 3 bytes")
     cuts = (("RP#", dict(rp=0)), ("VPP", dict(vpp=1500)), ("both", dict(rp=0, vpp=0)))
     for word in (1, 0):
@@ -1395,7 +1395,7 @@ def word_cuts(b):
     b.read(0x1FFFE)
 
 
-def erase_cuts(b):
+def erase_cuts(b):  # R-cycle-7, R-number-6
     b.group("cute", "cut erases: the residue's bytes of the block in both widths, one short, one more")
     for word in (1, 0):
         wide_bench(b, 5, word)
@@ -1413,7 +1413,7 @@ def erase_cuts(b):
     b.read(edges(b, 3)[1], "erasing, a read as RP# falls: no data", rp=0)
 
 
-def wide_together(b):
+def wide_together(b):  # R-cycle-4, R-cycle-5
     b.group("togw", "a cut, or the last busy cycle, and a write in one cycle, in word mode")
     wide_bench(b, 5, 1)
     there = edges(b, 1)[0] + 7
@@ -1428,7 +1428,7 @@ def wide_together(b):
                 b.write(0x0200, data, f"{name} {how} and {data:02X}H", **pins)
 
 
-def block_edges(b):
+def block_edges(b):  # R-part-4
     b.group("edge", "the first and the last unit of each block: an erase that ends, one that is cut, a program at each")
     for number, word in BOTH:
         wide_bench(b, number, word)
@@ -1450,7 +1450,7 @@ def block_edges(b):
             b.write(address, 0x00, f"{named(number, word)}, {address:05X}H")
 
 
-def wide_devices(b):
+def wide_devices(b):  # R-part-6, R-part-7, R-number-1, R-number-2
     b.group("devw", "devices 5 to 8 and word mode: busy times and lengths in bytes")
     for number in (0, 1, 2, 3, 4, 9, 255):
         b.use(number, 2, 3, word=1)
@@ -1470,7 +1470,7 @@ def wide_devices(b):
             b.idle(f"{named(number, word)}, array of {array}")
 
 
-def wide_past(b):
+def wide_past(b):  # R-number-5
     b.group("pstw", "addresses past the array, in units")
     for number, word in BOTH:
         b.use(number, 2, 3, word=word)
@@ -1491,7 +1491,7 @@ def wide_past(b):
     b.read(0x20000, "RP# low: not tested", rp=0)
 
 
-def wide_states(b):
+def wide_states(b):  # R-proper-1
     b.group("stwd", "states of devices 5 to 8, proper and not: addresses in units")
     for number, word in BOTH:
         b.use(number, 2, 3, word=word, residue=0)
@@ -1517,7 +1517,7 @@ def wide_states(b):
         b.idle(note)
 
 
-def wide_order(b):
+def wide_order(b):  # R-number-0, R-order-1
     b.group("ordw", "the lowest number that applies, in word mode")
     b.use(5, 2, 3, residue=1, word=1)
     program = dict(mode="S", status=0x00, phase="P", left=2, address=0x0011, data=0x0F0F)
@@ -1551,7 +1551,7 @@ def wide_order(b):
     b.read(0x1D011, "8")
 
 
-def each_refusal(b):
+def each_refusal(b):  # R-number-1 to R-number-9, R-cycle-8
     b.group("each", "refusals 1 to 9, each on each of devices 5 to 8 in both widths")
     for number, word in BOTH:
         size, name = SIZE[number], named(number, word)
@@ -1584,7 +1584,7 @@ def each_refusal(b):
         b.idle("6 of an erase by one byte", vpp=1500)
 
 
-def wide_suspended(b):
+def wide_suspended(b):  # R-suspended-2, R-busy-2
     b.group("susw", "reads while suspended: the block in units, and S cycles")
     for word in (1, 0):
         wide_bench(b, 5, word, suspend=2)
@@ -1601,7 +1601,7 @@ def wide_suspended(b):
         b.read(last, "finished", vpp=5000)
 
 
-def wide_times(b):
+def wide_times(b):  # R-part-5
     b.group("busy", "busy times of 1 and of 65,535 in word mode")
     wide_bench(b, 5, 1, 1, 1)
     b.fresh("P 1 and E 1")
@@ -1663,7 +1663,7 @@ def begun(b, block, address, note, **pins):
     held_to(b, (min(n + 1, STOP) if k == block else n for k, n in enumerate(before)))
 
 
-def to_the_stop(b):
+def to_the_stop(b):  # R-wear-1
     b.group("wear", "each block of each part: one before the stop, at the stop, ended, cut; the block is that of D0H's address")
     for number, word in ALL:
         wear_bench(b, number, word, 1)
@@ -1679,7 +1679,7 @@ def to_the_stop(b):
 
 
 def not_started(b):
-    """Confirms that start nothing, and all else that is written: no count moves."""
+    """Confirms that start nothing, and all else that is written: no count moves. (R-wear-1, R-second-3)"""
     boot, there = edges(b, 0)[1], edges(b, 1)[0]
     low_supply = 1500 if b.device.number > 4 else 6500
     b.put("S", 0x80, "F")
@@ -1707,7 +1707,7 @@ def not_started(b):
 
 
 def refused_first(b):
-    """A confirm that is refused is not counted, and the one that is then taken is."""
+    """A confirm that is refused is not counted, and the one that is then taken is. (R-wear-1, R-cycle-8)"""
     there = edges(b, 1)[0]
     past_end = SIZE[b.device.number] // width(b.device)
     b.write(edges(b, 2)[0], 0x20, "20H in block 2")
@@ -1720,7 +1720,7 @@ def refused_first(b):
 
 
 def goes_on(b):
-    """What becomes of an erase that is counted: suspended, resumed twice, cut, ended, the next begun; after each the counts."""
+    """What becomes of an erase that is counted: suspended, resumed twice, cut, ended, the next begun; after each the counts. (R-wear-1)"""
     there = edges(b, 1)[0]
     for again in ("", " again"):
         b.write(there, 0xB0, f"suspended{again}")
@@ -1741,7 +1741,7 @@ def goes_on(b):
     held_to(b, near(1, 23))
 
 
-def kept_or_counted(b):
+def kept_or_counted(b):  # R-wear-1
     b.group("kept", "each part: what is not counted (20H, barred, locked, refused, resumed, ended, cut, reset) and what is")
     for number, word in ALL:
         wear_bench(b, number, word)
@@ -1753,7 +1753,7 @@ def kept_or_counted(b):
         goes_on(b)
 
 
-def from_zero(b):
+def from_zero(b):  # R-wear-1, R-wear-3
     b.group("zero", "each part: erases from a fresh device on, block 0 once, block 1 twice")
     for number, word in ALL:
         b.use(number, 2, 1, word=word)
@@ -1765,7 +1765,7 @@ def from_zero(b):
         held_to(b, (1, 2, 0, 0, 0, 0, 0))
 
 
-def any_count(b):
+def any_count(b):  # R-wear-1, R-proper-1
     b.group("any ", "any count is proper, and none makes an improper state proper")
     for number, word in ALL:
         b.use(number, 2, 3, word=word)

@@ -56,7 +56,7 @@ def table_of(payload):
     return [struct.unpack(">ih", payload[i:i + 6]) for i in range(0, len(payload) - 5, 6)]
 
 
-def judged(payload):
+def judged(payload):  # R-reading-1, R-number-40, R-number-41
     table = table_of(payload)
     if len(payload) % 6 or len(table) < 2:
         return 40
@@ -83,7 +83,7 @@ def reading(table, x):
     return by_pair(table, pair_of(table, x), x)
 
 
-def by_pair(table, i, x):
+def by_pair(table, i, x):  # R-reading-2
     x0, t0, x1, t1 = map(float, table[i] + table[i + 1])
     return "T", t0 + (t1 - t0) * (float(x) - x0) / (x1 - x0)
 
@@ -110,7 +110,7 @@ def unjudged(payload, x):
     return by_pair(table, low, x) if rises(table[low], table[high]) else ("!", 41)
 
 
-def told(answer):
+def told(answer):  # R-reading-3
     if answer[0] == "!":
         return f"! {answer[1]}"
     return f"{answer[0]} {struct.pack('>d', answer[1]).hex()}"

@@ -49,7 +49,7 @@ def record_fault(device, state, array, record):
     """None where a record is at fault, else the state and the array that it leaves.
 
     P and E are used for nothing here: a device with the longest times makes the cycle, and a start goes on with its own count.
-    (R-recording-2)"""
+    (R-recording-2, R-recording-1)"""
     c, heard, busy = record
     if state.phase in IN_FLIGHT and (c.rp == 0 or low(device, c.vpp)):
         return None
@@ -226,7 +226,7 @@ def named(number, word):
     return f"device {number}" + (" in words" if word else "")
 
 
-def accepted(b):
+def accepted(b):  # R-recording-3
     b.group("good", "what the model records is accepted")
     for number, word in ALL:
         for block in (0, 1, len(BLOCKS[number]) - 1):
@@ -279,7 +279,7 @@ def spoiled(b, number, word, i, record, note):
     b.judge()
 
 
-def places(b):
+def places(b):  # R-recording-2
     b.group("seen", "another answer, at every record")
     for number, word in ((3, 0), (5, 1)):
         for i, (c, (kind, value), busy) in enumerate(base(b, number, word)[0]):
@@ -303,7 +303,7 @@ def places(b):
             spoiled(b, 3, 0, i, (c, heard, count), f"{count}")
 
 
-def ends(b):
+def ends(b):  # R-recording-2
     b.group("ends", "only the end is at fault")
     records, left = base(b)
     wrong = bytearray(left)
@@ -335,7 +335,7 @@ def ends(b):
     b.judge("suspended at the end")
 
 
-def unread(b):
+def unread(b):  # R-recording-1
     b.group("none", "no count is read where nothing starts")
     cases = (
         ("a barred confirm", [write(0x3A00, 0x20, pins(None)), write(0x3A00, 0xD0, pins(None, vpp=6500))]),
@@ -361,7 +361,7 @@ def unread(b):
         b.judge("a resume, and all the others")
 
 
-def starts(b):
+def starts(b):  # R-recording-3, R-number-12
     b.group("from", "refused before the list, and nothing is touched")
     cases = [
         ("1: no device", dict(number=9), None), ("1: P 0", dict(program=0), None), ("1: E 0", dict(erase=0), None),
@@ -389,7 +389,7 @@ def starts(b):
             b.judge(note)
 
 
-def longest(b):
+def longest(b):  # R-recording-1
     b.group("long", "counts larger than the device's own P and E, and the longest")
     for count in (4, 255, 256, 300):
         begin(b, 3)
@@ -407,7 +407,7 @@ def longest(b):
     b.judge("65,535: still running at the end")
 
 
-def any_way(b):
+def any_way(b):  # R-recording-2, R-recording-3
     b.group("rand", "any cycles, what the model records and one record spoiled or none")
     rng = random.Random(2802)
     for _ in range(100):

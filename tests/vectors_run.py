@@ -83,7 +83,7 @@ def load(device, first, wanted, scratch):
 
 def verify(device, first, wanted, scratch):
     """Verifying a block of n units: FFH, and the reads up to a difference. The address told is that of the first byte that differs.
-    (R-load-4)"""
+    (R-load-4, R-number-25)"""
     w = width(device)
     yield ("W", first, 0xFF)
     for i in range(len(wanted) // w):
@@ -117,7 +117,7 @@ def block_length(number, block):
 
 
 def loader_number(device, pins, block, wanted, scratch):
-    """The tests that start, step and run share; lengths in bytes."""
+    """The tests that start, step and run share; lengths in bytes. (R-number-4, R-number-10, R-number-11)"""
     if bad_levels(device, Cycle("R", pins.rp, 0, pins.vpp, 0, 0, pins.wp)) or pins.rp == 0:
         return 4
     if block >= len(BLOCKS[device.number]):
@@ -128,7 +128,7 @@ def loader_number(device, pins, block, wanted, scratch):
 
 
 def run_number(device, state, pins, block, array, wanted, scratch):
-    """The refusals of a run, 0 for none. (R-order-2)"""
+    """The refusals of a run, 0 for none. (R-order-2, R-number-12)"""
     if not is_device(device):
         return 1
     if len(array) != SIZE[device.number]:
@@ -142,7 +142,8 @@ def run_number(device, state, pins, block, array, wanted, scratch):
 
 
 def run(device, state, pins, block, array, wanted, scratch, op="R"):
-    """A run, a load alone or a verify alone: the end, the count, the address and the state. Array and scratch are changed in place."""
+    """A run, a load alone or a verify alone: the end, the count, the address and the state. Array and scratch are changed in place.
+    (R-form-7)"""
     number = run_number(device, state, pins, block, array, wanted, scratch)
     if number:
         return number, 0, 0, state
@@ -355,7 +356,7 @@ class Bench:
 # ---------------------------------------------------------------- the cases
 
 
-def cards(b):
+def cards(b):  # R-card-10, R-card-11
     b.group("card", "bench cards 10 and 11")
     b.fresh()
     b.fit(3, 1)
@@ -370,7 +371,7 @@ def cards(b):
     b.run("held as wanted", (0, 1027))
 
 
-def blocks(b):
+def blocks(b):  # R-load-2, R-load-3, R-demand-3
     b.group("each", "each block of each device, with bits that rise and bytes that differ")
     for number in (3, 4, 1, 2):
         for block in (0, 1, 2):
@@ -391,7 +392,7 @@ def blocks(b):
         b.run("the main block: its last byte is programmed", (0, 2 * 114688 + 3 + 5))
 
 
-def ways(b):
+def ways(b):  # R-demand-3
     b.group("ways", "bits that fall, bits that rise, first and last byte, and any idle start")
     b.fit(4, 2)
     b.fill("A", 255, 0)
@@ -418,7 +419,7 @@ def ways(b):
     b.run("E 65,535: the last poll is ready", (0, 1027 + 65537))
 
 
-def other_ends(b):
+def other_ends(b):  # R-number-21, R-number-23, R-number-24, R-order-5
     b.group("ends", "low supply, and the boot block locked")
     b.fit(3, 2, vpp=5000)
     b.fill("A", 255, 0)
@@ -441,7 +442,7 @@ def other_ends(b):
     b.run("RP# at unlock level: well", (0, 2051 + 5 + 4))
 
 
-def refusals(b):
+def refusals(b):  # R-order-2, R-number-1 to R-number-4, R-number-10 to R-number-12
     b.group("bars", "each refusal of a run; nothing is touched and no cycle counted")
     b.fresh()
     b.fit(3, 1)
@@ -488,7 +489,7 @@ def refusals(b):
     b.run("1 before all", (1, 0))
 
 
-def by_hand(b):
+def by_hand(b):  # R-load-6, R-load-7
     b.group("hand", "the loader stepped by hand")
     b.fit(3, 1)
     b.fill("W", 255, 0)
@@ -547,7 +548,7 @@ def by_hand(b):
     b.step(0x00, 2, "repeated", ("E", 0))
 
 
-def barred(b):
+def barred(b):  # R-order-4, R-number-3
     b.group("held", "refusals of start and step, and records that a host hands back")
     b.fit(3, 1)
     b.fill("W", 255, 0)
@@ -589,7 +590,7 @@ def barred(b):
     b.step(0xFF, 1, "the record as it was: write FFH")
 
 
-def over(b):
+def over(b):  # R-number-20 to R-number-25, R-load-7
     b.group("over", "more ends by hand, and steps after them; the records of refused starts")
     b.fit(3, 1)
     b.fill("W", 255, 0)
@@ -651,7 +652,7 @@ def over(b):
     b.step(0xFF, 2, "with the block's length: the end that the start left", ("E", 11))
 
 
-def apart(b):
+def apart(b):  # R-load-5
     b.group("load", "loads alone: the counts of cards 10 and 11 without the verify, and every other end")
     b.fresh()
     b.fit(3, 1)
@@ -690,7 +691,7 @@ def apart(b):
         b.verify("and verified", (0, block_length(number, 0) + 1))
 
 
-def verified(b):
+def verified(b):  # R-load-4, R-load-5, R-number-25
     b.group("veri", "verifies alone: low supply, lock, old error bits, and differences")
     b.fresh()
     b.fit(3, 2, vpp=5000)
@@ -767,7 +768,7 @@ def verified(b):
         b.load("12", (12, 0))
 
 
-def apart_by_hand(b):
+def apart_by_hand(b):  # R-load-7
     b.group("step", "a load alone and a verify alone, stepped by hand")
     b.fresh()
     b.fit(3, 1)
@@ -855,7 +856,7 @@ def some_bytes(b):
     return 7 if b.device.word else 8
 
 
-def wide_runs(b):
+def wide_runs(b):  # R-load-5, R-part-6
     b.group("wrun", "parameter blocks of devices 5 to 8 in both widths, VPP in both bands: n, p and reads in units")
     b.fresh()
     for number, word in NEW:
@@ -885,7 +886,7 @@ def wide_runs(b):
         b.run("another pattern", (0, count))
 
 
-def wide_mains(b):
+def wide_mains(b):  # R-load-5, R-part-4
     b.group("wmai", "main blocks: 98,304 bytes and 131,072")
     for number, block, word, length, op in ((5, 3, 1, 98304, "R"), (8, 3, 0, 98304, "O"), (6, 4, 1, 131072, "O"), (8, 6, 1, 131072, "O")):
         n = units_of(length, word)
@@ -902,7 +903,7 @@ def wide_mains(b):
     b.verify("25 at the last of 65,536 words, its high byte", (25, 65537, 0x3FFFF))
 
 
-def wide_boot(b):
+def wide_boot(b):  # R-lock-1
     b.group("wboo", "the boot block of devices 5 to 8: by RP# at V_HH, by WP# high, locked")
     for number, word in NEW:
         n = units_of(N0, word)
@@ -938,7 +939,7 @@ def wide_boot(b):
     b.run("device 3: WP# is not looked at: well", (0, 2051 + 4))
 
 
-def wide_verifies(b):
+def wide_verifies(b):  # R-number-25
     b.group("w25 ", "25 gives a byte address: at a low byte, at a high byte, at both")
     b.fresh()
     for number, word in NEW:
@@ -997,7 +998,7 @@ def bars_of(b, number, word):
     b.fresh()
 
 
-def wide_bars(b):
+def wide_bars(b):  # R-order-2
     b.group("wbar", "refusals on devices 5 to 8 in both widths; nothing is touched and no cycle counted")
     b.fresh()
 
@@ -1039,7 +1040,7 @@ def words_wanted(b):
     b.fill("C", 3, 1)
 
 
-def words_by_hand(b):
+def words_by_hand(b):  # R-load-7, R-part-6
     b.group("whan", "the loader stepped by hand in word mode: addresses and places in words")
     words_wanted(b)
     b.start("write 50H", "R")
@@ -1069,7 +1070,7 @@ def words_by_hand(b):
     b.step(0x0080, 1, "well", ("E", 0, 0))
 
 
-def word_ends_by_hand(b):
+def word_ends_by_hand(b):  # R-number-20 to R-number-25
     b.group("wend", "ends by hand in word mode: 20 to 25")
     words_wanted(b)
     for value, address, note in ((0x3C5B, 0x3A000, "the low byte"), (0x3D5A, 0x3A001, "the high byte"), (0x0000, 0x3A000, "both")):
@@ -1128,7 +1129,7 @@ def handed_back(b, word, last):
     b.step(0xFFFF, 1, "write FFH")
 
 
-def hands_back(b):
+def hands_back(b):  # R-order-4, R-number-3
     b.group("whel", "refusals of start and step on devices 5 to 8, and records handed back: places in units")
     handed_back(b, 1, 4095)
     handed_back(b, 0, 8191)
@@ -1150,7 +1151,7 @@ def hands_back(b):
 # ---------------------------------------------------------------- the cases of wear
 
 
-def wear_runs(b):
+def wear_runs(b):  # R-wear-1
     b.group("wear", "block 1 of each part: an erase adds one there, up to the stop; every other run keeps all counts")
     for number, word in ALL:
         n = units_of(block_length(number, 1), word)
@@ -1176,7 +1177,7 @@ def wear_runs(b):
         b.run("refused 12", (12, 0))
 
 
-def wear_blocks(b):
+def wear_blocks(b):  # R-wear-1
     b.group("wblk", "each block erased by a load alone: its own count, and no other; the boot block locked and not")
     b.worn(SOME)
     mains = {(1, 0), (2, 0), (3, 0), (4, 0), (5, 1), (8, 1)}

@@ -35,7 +35,8 @@ MOST_LINES, MOST_WRITTEN, DEEPEST = 3000, 9998, 8
 
 
 def next_line(text, at):
-    """The line at a place: what it is, its count or itself, and where the next begins; None where it is no line of a script."""
+    """The line at a place: what it is, its count or itself, and where the next begins; None where it is no line of a script.
+    (R-script-1)"""
     if text.startswith(b")\n", at):
         return "close", None, at + 2
     opening = OPENING.match(text, at)
@@ -95,7 +96,7 @@ def tree(text, at=0):
     return items, at
 
 
-def written_out(items):
+def written_out(items):  # R-script-2
     lines = []
     for item in items:
         if isinstance(item, tuple):
@@ -107,7 +108,7 @@ def written_out(items):
 
 
 def run(text):
-    """The output of a whole script, and the array that it leaves."""
+    """The output of a whole script, and the array that it leaves. (R-script-2)"""
     fault = first_fault(text)
     if fault:
         return b"? %04d\n" % fault, bytearray(b"\xff" * 16384)

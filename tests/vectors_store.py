@@ -35,7 +35,8 @@ BLANK = b"\xff" * PLACE
 
 @functools.lru_cache(maxsize=64)
 def files_in(block):
-    """The files of a main block, lowest place first: place, letter, count of places. None where its places are not a proper store."""
+    """The files of a main block, lowest place first: place, letter, count of places. None where its places are not a proper store.
+    (R-store-1, R-number-44)"""
     files, at, places = [], 0, len(block) // PLACE
     while at < places:
         here = block[PLACE * at : PLACE * at + PLACE]
@@ -53,7 +54,7 @@ def files_in(block):
 
 
 def has_store(device):
-    """Devices 1 to 4 hold a store."""
+    """Devices 1 to 4 hold a store. (R-store-1, R-number-1)"""
     return device.number <= 4
 
 
@@ -63,7 +64,7 @@ def main_of(device, array):
 
 
 def found(device, array, letter):
-    """1, 2, 44, 42, or 0 and the file's bytes."""
+    """1, 2, 44, 42, or 0 and the file's bytes. (R-number-42, R-number-44)"""
     if not is_part(device) or not has_store(device):
         return 1, None
     if len(array) != SIZE[device.number]:
@@ -103,7 +104,7 @@ def read(device, array, letter, room, x):
 
 
 def dropped(block, at, count):
-    """00H over the first byte of each of a file's blocks."""
+    """00H over the first byte of each of a file's blocks. (R-store-1)"""
     new = bytearray(block)
     for place in range(at, at + count):
         new[PLACE * place] = 0
@@ -111,7 +112,7 @@ def dropped(block, at, count):
 
 
 def first_run(block, count):
-    """The place where the first long enough run of blank places begins; None where there is none."""
+    """The place where the first long enough run of blank places begins; None where there is none. (R-store-2)"""
     length = 0
     for place in range(len(block) // PLACE):
         length = length + 1 if block[PLACE * place : PLACE * place + PLACE] == BLANK else 0
@@ -121,13 +122,13 @@ def first_run(block, count):
 
 
 def slid(block, others, data):
-    """The live files in their order from the lowest place on, the new one right behind them, FFH after."""
+    """The live files in their order from the lowest place on, the new one right behind them, FFH after. (R-store-2)"""
     new = b"".join(block[PLACE * at : PLACE * (at + count)] for at, _, count in others) + data
     return bytearray(new + b"\xff" * (len(block) - len(new)))
 
 
 def after_drop(block, letter):
-    """44 or 42, or the block's new contents."""
+    """44 or 42, or the block's new contents. (R-store-5)"""
     files = files_in(block)
     if files is None:
         return 44, None
@@ -138,7 +139,7 @@ def after_drop(block, letter):
 
 
 def after_add(block, data, letter):
-    """44 or 43, or the block's new contents."""
+    """44 or 43, or the block's new contents. (R-store-2, R-store-3, R-number-43)"""
     files = files_in(block)
     if files is None:
         return 44, None
@@ -158,7 +159,7 @@ def after_add(block, data, letter):
 
 def change(device, state, pins, array, memory, scratch, letter, data=None):
     """An add of a file, or without one a drop: the end, the count, the address and the state. A run's refusals, the reader's, then 44
-    and 42 or 43; only then memory becomes the new contents, and the block is loaded with them."""
+    and 42 or 43; only then memory becomes the new contents, and the block is loaded with them. (R-store-5)"""
     number = run_number(device, state, pins, MAIN, array, memory, scratch) if not is_device(device) or has_store(device) else 1
     if number == 0 and data is not None:
         number = judge(data, letter)[0]
@@ -333,7 +334,7 @@ ALL_LETTERS = LETTERS.decode()
 BENCH = (3, 4)
 
 
-def empty(b):
+def empty(b):  # R-store-1
     b.group("none", "the empty store: an erased block")
     for number in (3, 4, 1, 2):
         b.new(number)
@@ -407,7 +408,7 @@ def full(b):
         b.add("K", "dead places are not used: a slide")
 
 
-def dead(b):
+def dead(b):  # R-store-1
     b.group("dead", "dead places between files; they are not read and not used")
     b.new(3)
     b.laid("B", 0, 2)
@@ -449,7 +450,7 @@ def dead(b):
     b.find("R", "all three: 42", 42)
 
 
-def improper(b):
+def improper(b):  # R-store-1, R-number-44
     b.group("junk", "places that are not a proper store: 44, before any cycle")
 
     def all_44(note):
@@ -533,7 +534,7 @@ def improper(b):
     all_44("44")
 
 
-def border(b):
+def border(b):  # R-store-3, R-number-43
     b.group("brim", "43 exactly where live blocks, without the replaced file, and the new ones exceed 28")
     for number in BENCH:
         b.new(number)
@@ -567,7 +568,7 @@ def border(b):
     b.add("N", "28 in place of 28: a slide")
 
 
-def replaced(b):
+def replaced(b):  # R-store-2
     b.group("repl", "a letter already there: the old file is dropped, and left out of the sum")
     b.new(3)
     b.laid("K", 0, 5)
@@ -591,7 +592,7 @@ def replaced(b):
     b.add("K", "the same again, in the run behind it")
 
 
-def slides(b):
+def slides(b):  # R-store-2
     b.group("down", "a slide keeps the order of the live files")
     for number in BENCH:
         b.new(number)
@@ -619,7 +620,7 @@ def slides(b):
     b.add("K", "nothing else: the file alone, from place 0 on")
 
 
-def runs(b):
+def runs(b):  # R-store-2
     b.group("runs", "the first run that is long enough, not the longest and not the best")
     b.new(3)
     for letter, place, count in (("B", 2, 1), ("E", 8, 2), ("J", 22, 2)):
@@ -648,7 +649,7 @@ def runs(b):
     b.add("S", "six: none, a slide")
 
 
-def refused(b):
+def refused(b):  # R-store-5
     b.group("bars", "the refusals of a run, then the reader's, then 44, 42, 43; nothing is touched")
 
     def both(note, end, bad_file=True):
@@ -711,7 +712,7 @@ def refused(b):
         both("1 before all, device 8", 1)
 
 
-def read_refused(b):
+def read_refused(b):  # R-store-5
     b.group("file", "the reader's refusals, before 44 and 43")
 
     def each(expected, note, build, asked="K"):
@@ -792,7 +793,7 @@ def ends(b):
     b.add("K", "VPP low, a slide to what is there but for dead places: 21", 21)
 
 
-def worn(b):
+def worn(b):  # R-wear-1
     b.group("wear", "a drop erases nothing, an add only where it slides; counts up to the stop")
     for wear in (SOME, near(MAIN, STOP - 1), near(MAIN, STOP), near(MAIN, 99999), (STOP,) * 7):
         b.worn(wear)
@@ -896,7 +897,7 @@ def readings(b):
 
 
 def many(b):
-    """Adds and drops in no order; a find gives the file last added and not dropped."""
+    """Adds and drops in no order; a find gives the file last added and not dropped. (R-store-4)"""
     b.group("many", "adds and drops in no order")
     chosen = random.Random(9)
     for number, steps in ((3, 40), (4, 40)):

@@ -31,14 +31,14 @@ FORM = re.compile(rb"([RWI]) ([0-9]) ([0-9]) ([0-9]{5}) ([0-9A-F]{4}) ([0-9A-F]{
 LAST = 9999
 
 
-def printed(answer, state):
+def printed(answer, state):  # R-trace-2
     letter, value = answer
     seen = {"D": f"D {value:02X}", "N": "N --", "X": f"X {value:02d}"}[letter]
     return f"{seen} {state.status:02X}\n".encode()
 
 
 def replay(text):
-    """The output of a whole input, and the array it leaves. (R-trace-3)"""
+    """The output of a whole input, and the array it leaves. (R-trace-3, R-trace-1)"""
     array, residue = bytearray(b"\xff" * 16384), b"\xff" * 16384
     state, number = FRESH, 1
     lines = []

@@ -41,7 +41,7 @@ def tally(counts):
 
 
 def report(traces):
-    """The report on traces, each seven counts."""
+    """The report on traces, each seven counts. (R-wear-2)"""
     return Report(len(traces), tuple(tally([t[k] for t in traces]) for k in range(7)))
 
 
@@ -155,7 +155,7 @@ def alike(n):
     return (n,) * 7
 
 
-def no_traces(d):
+def no_traces(d):  # R-wear-2
     d.group("none", "no traces give zeros, the smallest too; numbers that no device has")
     for number in DEVICES:
         d.about(number)
@@ -182,7 +182,7 @@ def one_trace(d):
         d.whole(f"block {k} alone")
 
 
-def many_traces(d):
+def many_traces(d):  # R-wear-2
     d.group("many", "several traces, in one order and in another; added one by one, the report on the first of them each time")
     traces = (SOME, (3, 100, 33, 0, 9, 100001, 1), (7, 1, 99, 5, 8, 100000, 2), alike(0), (50, 2, 32, 45, 54, 67, 76), alike(12), SOME)
     for order in (traces, traces[::-1], traces[3:] + traces[:3]):
@@ -196,7 +196,7 @@ def many_traces(d):
             d.whole(f"the first {n} of them")
 
 
-def passed(d):
+def passed(d):  # R-wear-2
     d.group("pass", "the sheet's 100,000: passed is over it")
     for n in (99999, 100000, 100001):
         d.about(3)
@@ -211,7 +211,7 @@ def passed(d):
             d.add(tuple(n if j == k else 100000 for j in range(7)), note=f"block {k}: {n}")
 
 
-def at_the_stop(d):
+def at_the_stop(d):  # R-wear-1, R-wear-2
     d.group("stop", "counts at the stop, and totals over 32 bits")
     d.about(8)
     d.more(alike(STOP))
@@ -227,7 +227,7 @@ def at_the_stop(d):
     d.whole("every second block")
 
 
-def lengths(d):
+def lengths(d):  # R-number-11
     d.group("leng", "11: counts that are not seven for each trace, before 47 and 48")
     d.about(6)
     for counts in (1, 6, 7):
@@ -248,7 +248,7 @@ def lengths(d):
     d.whole("what is not lent is not looked at")
 
 
-def most_traces(d):
+def most_traces(d):  # R-number-47
     d.group("most", "65,535 traces, and one more: 47, before 48")
     d.about(3)
     d.more(alike(STOP), times=65534, note="all but one at the stop")
@@ -267,7 +267,7 @@ def most_traces(d):
     d.whole("1 before 11, 47 and 48", 1)
 
 
-def others(d):
+def others(d):  # R-number-48
     d.group("othr", "48: the first, a middle or the last trace from another device number, any other")
     for number, other in ((1, 2), (2, 1), (3, 4), (8, 7), (5, 0), (6, 9), (7, 255)):
         for place in (0, 1, 2):

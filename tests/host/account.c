@@ -61,7 +61,8 @@ void mismatch(const char *what) {
     exit(1);
 }
 
-/* For each function the numbers that it can give: refusals, and for steps and runs the ends; 0 is none or a good end. */
+/* For each function the numbers that it can give: refusals, and for steps and runs the ends; 0 is none or a good end.
+ * (R-number-1 to R-number-48) */
 static const struct {
     const char *name;
     uint8_t can[20];
@@ -221,7 +222,7 @@ static void line_of_words(bool verbose, int g) {
     line(verbose, wanted[g].name, ", word mode", worded[g], can, n);
 }
 
-/* Every device in every mode that it has, in calls that were not refused. */
+/* Every device in every mode that it has, in calls that were not refused. (R-part-1, R-part-6) */
 static void line_of_devices(bool verbose, int g) {
     for (uint32_t word = 0; word < WIDTHS; word++) {
         const char *with = word ? ", words of device" : ", bytes of device";

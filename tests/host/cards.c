@@ -1,4 +1,5 @@
-/* The bench cards, and cards of devices 5 to 8, run on the library alone: what they ask stands in the rules as numbers. */
+/* The bench cards, and cards of devices 5 to 8, run on the library alone: what they ask stands in the rules as numbers.
+ * Cards 1 to 12 are R-card-1 to R-card-12, card 13 is of R-card-14. */
 #include <stdio.h>
 #include <stdlib.h>
 #include <string.h>
@@ -184,7 +185,7 @@ static bool gives(bool code, uint16_t data) {
     return code ? last.seen == TB_DATA && last.value == data : last.seen == TB_REFUSED && last.value == 9;
 }
 
-/* Identifiers of the sheet's table 5: by word, and by byte with A-1 ignored. */
+/* Identifiers of the sheet's table 5: by word, and by byte with A-1 ignored. (R-read-2, R-number-9) */
 static void identifiers(void) {
     static const uint16_t code[] = {0x2274, 0x2275, 0x4470, 0x4471};
     for (uint8_t k = 0; k < 4; k++) {
@@ -203,7 +204,7 @@ static void identifiers(void) {
     }
 }
 
-/* VPP and WP#: what is refused, what starts, and what the status says of what does not. */
+/* VPP and WP#: what is refused, what starts, and what the status says of what does not. (R-cycle-1, R-cycle-2, R-lock-1) */
 static void wide_levels(void) {
     static const struct {
         uint32_t vpp;
@@ -230,7 +231,8 @@ static void wide_levels(void) {
     card(105, last.seen == TB_REFUSED && last.value == 4);
 }
 
-/* A word is one operation; cut, the residue's first two bytes are r, low byte first. The bands may change meanwhile. */
+/* A word is one operation; cut, the residue's first two bytes are r, low byte first. The bands may change meanwhile.
+ * (R-part-6, R-cycle-7) */
 static void words(void) {
     wide_fresh(5, 1, 0xFF);
     wide_operate(0xFF10, 0x5AC3, 0x1D001, 1, 5000, 1);
@@ -253,7 +255,8 @@ static void words(void) {
     card(109, last.seen == TB_REFUSED && last.value == 5);
 }
 
-/* A load of 4,096 words, of which one is programmed: 2n + 3 + (2 + P); and what a verify says of a byte that differs. */
+/* A load of 4,096 words, of which one is programmed: 2n + 3 + (2 + P); and what a verify says of a byte that differs.
+ * (R-load-5, R-number-25) */
 static void word_loads(void) {
     for (uint8_t high = 0; high < 2; high++) {
         wide_fresh(5, 1, 0xFF);
@@ -268,7 +271,7 @@ static void word_loads(void) {
     }
 }
 
-/* The count of an erase: in the state of D0H's own cycle, once, however it goes on, up to the stop; over resets. */
+/* The count of an erase: in the state of D0H's own cycle, once, however it goes on, up to the stop; over resets. (R-wear-1) */
 static void wear_of_an_erase(void) {
     fresh(0x00);
     cycle(TB_CYCLE_WRITE, 1, 12000, 0x3A00, 0x20);
@@ -295,7 +298,7 @@ static bool reads(tb_tally t, uint64_t total, uint32_t largest, uint32_t smalles
     return t.total == total && t.largest == largest && t.smallest == smallest && t.passed == passed;
 }
 
-/* Reports on no traces, and on three: 100,000 erases have not passed the sheet's 100,000. */
+/* Reports on no traces, and on three: 100,000 erases have not passed the sheet's 100,000. (R-wear-2) */
 static void wear_reports(void) {
     static const uint8_t three[] = {3, 3, 3};
     static const uint32_t counts[21] = {100000, 0, 0, 0, 0, 0, 9, 100001, 7, 0, 0, 0, 0, 9, 4294967295, 8, 0, 0, 0, 0, 9};

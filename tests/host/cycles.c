@@ -67,7 +67,7 @@ static int block_of(uint32_t unit) {
 /* Whether the count of a block would show it, were it counted up or cleared. */
 static bool shows(int block) { return block >= 0 && before.wear.block[block] != 0 && before.wear.block[block] != TB_WEAR_STOP; }
 
-/* What a write showed of the counts: which erases are counted, and what is none. */
+/* What a write showed of the counts: which erases are counted, and what is none. (R-wear-1) */
 static void mark_wear_of_write(int here) {
     uint8_t byte = (uint8_t)bus.data, phase = before.phase, after = ref.state.phase;
     bool confirm = phase == TB_ERASE_AWAITED && byte == 0xD0, started = confirm && after == TB_ERASING;
@@ -129,7 +129,7 @@ static bool same_answer(tb_answer a, tb_answer b) { return a.seen == b.seen && a
 
 static uint8_t *third_of(twin *t) { return t->length == 0 ? NULL : t->lib; }
 
-/* The cycle that the first engine has just made, by the second: the same answer, and the same bytes left. */
+/* The cycle that the first engine has just made, by the second: the same answer, and the same bytes left. (R-table-2) */
 static void compare_engines(void) {
     twin *lent[] = {&table_array, &table_residue};
     table_array.length = array.length;

@@ -52,7 +52,7 @@ static uint8_t some_letter(void) {
     return chance(97) ? (uint8_t)"BEJKNRST"[below(8)] : (uint8_t)ONE_OF(0, 'A', 'b', 'C', 'U', 255, any32());
 }
 
-/* Writes a file and reads it back; where nothing is refused the payload must come back whatever the second opinion says. */
+/* Writes a file and reads it back; where nothing is refused the payload must come back whatever the second opinion says. (R-file-3) */
 static void written(void) {
     letter = some_letter();
     payload.length = chance(60) ? 1 + below(4040) : ONE_OF(0, 1, 504, 505, 506, 1010, 1011, 4039, 4040, 4041, 4096);
@@ -133,7 +133,7 @@ static void made_up(void) {
     compare_read();
 }
 
-/* A good file that is blank from some block on, sometimes but for a byte or two, or with a blank block behind its end. */
+/* A good file that is blank from some block on, sometimes but for a byte or two, or with a blank block behind its end. (R-number-38) */
 static void erased(void) {
     uint32_t blocks = 1 + below(5), from = below(blocks + 1);
     letter = (uint8_t)"BEJKNRST"[below(8)];

@@ -60,7 +60,7 @@ static bool same_held(tb_held a, tb_held b) {
            a.hold.suspended == b.hold.suspended && a.hold.number == b.hold.number && a.hold.waits == b.hold.waits && a.hold.place == b.hold.place;
 }
 
-/* A unit address outside the block, or now and then anywhere. */
+/* A unit address outside the block, or now and then anywhere. (R-held-3) */
 static uint32_t read_address(tb_span b) {
     uint32_t units = (uint32_t)(c_size(device.number) >> device.word);
     for (int turn = 0; turn < 20; turn++) {
@@ -154,7 +154,7 @@ static bool rises(void) {
     return false;
 }
 
-/* What the interruptions add to a good load, by the request's own figures. */
+/* What the interruptions add to a good load, by the request's own figures. (R-held-2) */
 static uint64_t extras(void) {
     uint64_t sum = 0;
     for (uint32_t n = 1; n <= device.erase; n++)

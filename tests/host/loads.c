@@ -52,7 +52,8 @@ static bool rises(void) {
     return false;
 }
 
-/* What a run makes of the counts, asked of the library itself: one more at the block where it erased, up to the stop; elsewhere nothing. */
+/* What a run makes of the counts, asked of the library itself: one more at the block where it erased, up to the stop; elsewhere nothing.
+ * (R-wear-1) */
 static void hold_wear(const char *name, bool verify) {
     tb_wear due = state.wear;
     bool passed = lib.count != 0, rose = passed && !verify && rises(), erased = rose && lib.end == TB_OK;
@@ -100,7 +101,7 @@ static void hold_steps(void) {
         mismatch("run by stages and by steps, both of the second implementation");
 }
 
-/* A run, a load alone or a verify alone. */
+/* A run, a load alone or a verify alone. (R-load-5, R-demand-3) */
 static void compare_run(const char *name, int group, run_call *library, run_call *second) {
     twin *lent[] = {&array, &wanted, &scratch};
     lib = library(device, state, rp, wp, vpp, block, lib_of(&array), array.length, lib_of(&wanted), wanted.length, lib_of(&scratch),
@@ -118,7 +119,7 @@ static void compare_run(const char *name, int group, run_call *library, run_call
         hold_steps();
 }
 
-/* A run or a verify alone, from a file. */
+/* A run or a verify alone, from a file. (R-order-3) */
 static void compare_file(const char *name, int group, file_call *library, file_call *second) {
     twin *lent[] = {&array, &wanted, &scratch, &file};
     lib = library(device, state, rp, wp, vpp, block, letter, lib_of(&file), file.length, lib_of(&array), array.length, lib_of(&wanted),

@@ -5,7 +5,7 @@
 #include "cases.h"
 
 /* First and last byte address of each block, as the tables have them; of parts 5 to 8 by the sheet's maps of word mode, where a word
- * address stands for two bytes. */
+ * address stands for two bytes. (R-part-1 to R-part-4) */
 #define WORDS(first, last) {2 * (first), 2 * (last) + 1}
 static const struct {
     size_t size;

@@ -16,7 +16,7 @@ static void tell(void) {
     printf("  expected: answer %u, number %u, %.17g tenths\n", ref.answer, ref.number, ref.tenths);
 }
 
-/* Temperatures are compared bit by bit. */
+/* Temperatures are compared bit by bit. (R-reading-2) */
 static bool same_reading(void) {
     return lib.answer == ref.answer && lib.number == ref.number && memcmp(&lib.tenths, &ref.tenths, sizeof lib.tenths) == 0;
 }
@@ -68,7 +68,8 @@ static void some_table(void) {
         payload.length = ONE_OF(0, 1, 5, 6, 11, payload.length - 1);
 }
 
-/* Once: payloads that the judgement refuses, by their length, by an end, by a pair; a reading is asked of them all the same. */
+/* Once: payloads that the judgement refuses, by their length, by an end, by a pair; a reading is asked of them all the same.
+ * (R-number-40, R-number-41) */
 static void refused_tables(void) {
     static const struct {
         size_t length;

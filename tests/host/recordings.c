@@ -1,4 +1,4 @@
-/* Random recordings: made by the second implementation, then spoilt or not, and checked by both. */
+/* Random recordings: made by the second implementation, then spoilt or not, and checked by both. (R-recording-1 to R-recording-3) */
 #include <stdio.h>
 #include <string.h>
 
@@ -126,7 +126,7 @@ static tb_record *some_record(void) {
     return &list[i];
 }
 
-/* A record that cuts what is held, where there is one. */
+/* A record that cuts what is held, where there is one. (R-recording-2) */
 static void cut(void) {
     for (size_t i = 0; i < count; i++)
         if (states[i].phase == TB_SUSPENDED && chance(50)) {

@@ -72,6 +72,7 @@ $RUN "$out/against" "$@" || status=$?
 [ "$status" != 1 ] || fail 1 "the library does not do what the tests expect"
 [ "$status" = 0 ] || fail 1 "the tests did not run to their end"
 
+# 1, 2, 3, 8 and 11 are those of R-slip-1
 slips='1:a program stores its data without AND
 2:FFH after 40H goes back to read array
 3:an operation finishes on the cycle where VPP falls

@@ -10,14 +10,14 @@ LAID_IN bool cut_by_vpp(const part_rules *p, const tb_state *s, uint32_t vpp) {
     return pending(s->phase) && (vpp_low(p, vpp) || other) && !(SLIP(3) && s->phase < TB_SUSPENDED && s->left == 1);
 }
 
-/* What a cut needs, in bytes: a program's unit, or the erase's block. */
+/* What a cut needs, in bytes: a program's unit, or the erase's block. (R-number-6) */
 LAID_IN size_t residue_needed(const second_chip *c, bool word, operation o) {
     if (o.phase == TB_PROGRAMMING)
         return SLIP(43) ? 1 : 1u << word;
     return c->part->block[unit_block(c, word, o.address)].length;
 }
 
-/* A cut program takes the first unit of the residue for r; a cut erase leaves the residue in its block. */
+/* A cut program takes the first unit of the residue for r; a cut erase leaves the residue in its block. (R-cycle-7) */
 LAID_IN void cut(const second_chip *c, bool word, operation o, const uint8_t *residue) {
     if (o.phase == TB_PROGRAMMING) {
         uint16_t r = unit_of(residue, 0, word);
@@ -28,7 +28,7 @@ LAID_IN void cut(const second_chip *c, bool word, operation o, const uint8_t *re
     memcpy(c->array + c->part->block[k].first, residue, c->part->block[k].length);
 }
 
-/* What step 2 makes of the state. */
+/* What step 2 makes of the state. (R-cycle-4) */
 LAID_IN void fall(tb_state *s) {
     s->status = (s->status & ~SR6) | SR7 | SR3 | (s->phase == TB_PROGRAMMING ? SR4 : SR5);
     s->mode = TB_MODE_STATUS;
@@ -41,7 +41,7 @@ LAID_IN tb_answer answer(const tb_bus *b, uint16_t value, const tb_state *s) {
     return (tb_answer){b->kind == TB_CYCLE_READ ? TB_DATA : TB_NO_DATA, value, *s};
 }
 
-/* A cycle with RP# low. */
+/* A cycle with RP# low. (R-cycle-3) */
 APART tb_answer low_cycle(second_chip c, tb_state *s, const tb_bus *b, const uint8_t *residue, size_t m) {
     bool word = c.device->word;
     if (!proper(c.part, c.device, s))
@@ -57,7 +57,7 @@ APART tb_answer low_cycle(second_chip c, tb_state *s, const tb_bus *b, const uin
     return (tb_answer){TB_NO_DATA, 0, *s};
 }
 
-/* The state goes back after 7 to 9. No such cycle gets as far as the counts of erases. */
+/* The state goes back after 7 to 9. No such cycle gets as far as the counts of erases. (R-cycle-8) */
 LAID_IN tb_answer put_back(uint8_t number, tb_state *s, uint64_t front, uint32_t address) {
     memcpy(s, &front, sizeof front);
     s->address = address;

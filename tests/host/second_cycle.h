@@ -17,7 +17,7 @@ typedef struct {
     uint8_t *array;
 } second_chip;
 
-/* 4, of a cycle. */
+/* 4, of a cycle. (R-number-4) */
 LAID_IN bool levels_bad(const part_rules *p, const tb_bus *b) {
     if (b->kind > TB_CYCLE_IDLE || b->rp > TB_RP_VHH || b->oe > (b->kind == TB_CYCLE_WRITE && (!p->br || SLIP(38))))
         return true;
@@ -56,7 +56,7 @@ LAID_IN bool to_go(const part_rules *p, const tb_device *d, const tb_state *s, u
     return s->left - 1u < most && s->address < p->size >> d->word;
 }
 
-/* Whether a state is proper on a device. */
+/* Whether a state is proper on a device. (R-proper-1) */
 LAID_IN bool proper(const part_rules *p, const tb_device *d, const tb_state *s) {
     uint64_t front = front_of(s) & FRONT_COMPARED;
     uint32_t head = (uint32_t)front;
@@ -85,7 +85,7 @@ LAID_IN void rest(tb_state *s) {
     s->address = 0;
 }
 
-/* RP# low: as a fresh device, with the counts as they are. */
+/* RP# low: as a fresh device, with the counts as they are. (R-cycle-3) */
 LAID_IN void reset(tb_state *s) {
     rest(s);
     s->mode = TB_MODE_ARRAY;
@@ -97,7 +97,7 @@ LAID_IN void reset(tb_state *s) {
 /* The block of a unit inside the array. */
 LAID_IN unsigned unit_block(const second_chip *c, bool word, uint32_t unit) { return block_at(c->part, looked_up(unit, word)); }
 
-/* An erase of that block has begun: one more, up to the stop. */
+/* An erase of that block has begun: one more, up to the stop. (R-wear-1) */
 LAID_IN void wear(tb_state *s, unsigned block) {
     if (s->wear.block[block] != TB_WEAR_STOP || SLIP(56))
         s->wear.block[block]++;
@@ -112,7 +112,7 @@ typedef struct {
 
 LAID_IN operation operation_of(const tb_state *s) { return (operation){s->phase, s->data, s->address}; }
 
-/* A program leaves old AND (data OR r), r 0 where it ends well. */
+/* A program leaves old AND (data OR r), r 0 where it ends well. (R-cycle-5, R-cycle-7) */
 LAID_IN void program_leaves(uint8_t *array, bool word, operation o, uint16_t r) {
     uint16_t old = unit_of(array, o.address, word), left = SLIP(1) ? o.data | r : old & (o.data | r);
     put_unit(array, o.address, SLIP(31) && word ? (left & 0xFF) | (old & 0xFF00) : left, word);
@@ -128,7 +128,7 @@ LAID_IN void finish(const second_chip *c, bool word, operation o) {
     memset(c->array + c->part->block[k].first, 0xFF, c->part->block[k].length);
 }
 
-/* One cycle of a suspend passes; the erase stands still. */
+/* One cycle of a suspend passes; the erase stands still. (R-busy-2) */
 LAID_IN void hold(tb_state *s) {
     if (SLIP(14) && s->left > 1)
         s->left--;
@@ -150,7 +150,8 @@ LAID_IN bool counted_off(tb_state *s) {
     return true;
 }
 
-/* An identifier: 0 and the code, or 9. A part of two widths has A-1 before its first address line in byte mode, and it is ignored. */
+/* An identifier: 0 and the code, or 9. A part of two widths has A-1 before its first address line in byte mode, and it is ignored.
+ * (R-read-1, R-read-2) */
 LAID_IN uint8_t identified(const part_rules *p, bool word, uint32_t address, uint16_t *value) {
     uint32_t place = p->br && !word && !SLIP(44) ? address >> 1 : address;
     if (place > 1)
@@ -160,7 +161,8 @@ LAID_IN uint8_t identified(const part_rules *p, bool word, uint32_t address, uin
     return TB_OK;
 }
 
-/* A read: 0 and the unit, or 8 or 9. The array is read only where nothing was running, so no effect can be due. */
+/* A read: 0 and the unit, or 8 or 9. The array is read only where nothing was running, so no effect can be due.
+ * (R-read-1, R-suspended-2) */
 LAID_IN uint8_t respond(const second_chip *c, bool word, const tb_state *s, uint32_t address, uint16_t *value) {
     if (s->mode == TB_MODE_STATUS) {
         *value = SLIP(41) && word ? s->status << 8 | s->status : s->status;
@@ -174,7 +176,7 @@ LAID_IN uint8_t respond(const second_chip *c, bool word, const tb_state *s, uint
     return TB_OK;
 }
 
-/* A write with nothing awaited, running or suspended: 0 or 7. */
+/* A write with nothing awaited, running or suspended: 0 or 7. (R-write-1 to R-write-3) */
 LAID_IN uint8_t command(const part_rules *p, tb_state *s, uint16_t given) {
     switch (given) {
     case 0xB0:
@@ -204,12 +206,13 @@ LAID_IN uint32_t asked_or(const second_chip *c, bool word, uint32_t address) {
     return asked_at < c->part->size >> word ? asked_at : address;
 }
 
-/* What unlocks the boot block: RP# at V_HH, or OE# at V_HH; where there is WP#, that high in place of OE#. */
+/* What unlocks the boot block: RP# at V_HH, or OE# at V_HH; where there is WP#, that high in place of OE#. (R-lock-1) */
 LAID_IN bool unlocked(const part_rules *p, const tb_bus *b) {
     return b->rp == TB_RP_VHH || (p->br ? b->wp == (SLIP(37) ? TB_WP_LOW : TB_WP_HIGH) : b->oe == TB_OE_VHH);
 }
 
-/* A confirm or data: the operation starts, or error bits say why not. An erase that starts is counted at the block of this address. */
+/* A confirm or data: the operation starts, or error bits say why not. An erase that starts is counted at the block of this address.
+ * (R-second-1 to R-second-4) */
 LAID_IN void begin(const second_chip *c, bool word, tb_state *s, const tb_bus *b) {
     bool erase = s->phase == TB_ERASE_AWAITED, low = vpp_low(c->part, b->vpp_mv) || (s->status & SR3) != 0;
     uint32_t address = SLIP(8) && erase ? asked_or(c, word, b->address) : b->address;

@@ -64,7 +64,7 @@ static bool used_wrong(const uint8_t *block, bool last) {
     return false;
 }
 
-/* Every byte is FFH, those of the check too. */
+/* Every byte is FFH, those of the check too. (R-number-38) */
 static bool blank(const uint8_t *block, size_t number) {
     size_t n = SLIP(27) ? 1 : SLIP(28) ? CHECKED : BLOCK;
     for (size_t i = 0; i < n; i++)

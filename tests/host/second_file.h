@@ -4,7 +4,7 @@
 
 #include "second.h"
 
-/* 30 to 35 and 38, but for room: 0 or a refusal. */
+/* 30 to 35 and 38, but for room: 0 or a refusal. (R-order-6) */
 uint8_t second_judge(uint8_t letter, const uint8_t *file, size_t);
 
 #endif

@@ -31,7 +31,7 @@ static uint64_t listed_from(const lists *h, uint64_t from) {
     return next;
 }
 
-/* 5, 45, 46, 37: each over the addresses from `from` to `to` before the next. */
+/* 5, 45, 46, 37: each over the addresses from `from` to `to` before the next. (R-held-3) */
 static uint8_t lists_bad(const part_rules *p, uint8_t block, bool word, const lists *h, size_t from, size_t to) {
     for (size_t i = from; i < to; i++)
         if ((uint64_t)h->addresses[i] << word >= p->size)
@@ -75,7 +75,7 @@ static uint8_t ready(bench *b, tb_bus at) {
     return 0;
 }
 
-/* An interruption: the number that ends the load, and whether the erase goes on. */
+/* An interruption: the number that ends the load, and whether the erase goes on. (R-held-1) */
 static uint8_t interrupted(bench *b, tb_bus at, const lists *h, bool *on) {
     bool word = b->chip.device->word;
     give(b, at, 0xB0);
@@ -94,7 +94,7 @@ static uint8_t interrupted(bench *b, tb_bus at, const lists *h, bool *on) {
     return TB_OK;
 }
 
-/* Polls with numbers, from 1 on. What is listed next is looked up once for each interruption. */
+/* Polls with numbers, from 1 on. What is listed next is looked up once for each interruption. (R-held-1) */
 static uint8_t erase_waited(bench *b, tb_bus at, const lists *h) {
     uint32_t waited = 0;
     uint64_t next = listed_from(h, SLIP(114) ? 0 : 1);

@@ -12,7 +12,7 @@ static inline bool pins_bad(const part_rules *p, uint8_t rp, uint8_t wp, uint32_
     return (rp != TB_RP_HIGH && rp != TB_RP_VHH) || !vpp_good(p, vpp) || !wp_good(p, wp);
 }
 
-/* 10 and 11, or 0; lengths are in bytes. */
+/* 10 and 11, or 0; lengths are in bytes. (R-number-10, R-number-11) */
 static inline uint8_t lengths_bad(const part_rules *p, uint8_t block, size_t wanted, size_t scratch) {
     if (block >= p->blocks)
         return TB_NO_BLOCK;
@@ -32,7 +32,7 @@ static inline uint16_t two(const uint8_t *at) {
     return word;
 }
 
-/* Whether some wanted byte has a 1 where scratch has a 0. */
+/* Whether some wanted byte has a 1 where scratch has a 0. (R-load-2) */
 static inline bool must_erase(const uint8_t *wanted, const uint8_t *scratch, size_t n) {
     for (size_t i = 0; i < n; i += 8)
         if (eight(wanted + i) & ~eight(scratch + i))
@@ -70,10 +70,10 @@ static inline uint32_t units_unlike(bool word, const uint8_t *wanted, const uint
 static inline bool unlike(uint16_t read, uint16_t want) { return SLIP(49) ? (uint8_t)read != (uint8_t)want : read != want; }
 static inline bool high_differs(uint16_t read, uint16_t want) { return (uint8_t)read == (uint8_t)want; }
 
-/* The address that 25 gives for the unit there: that of the byte. */
+/* The address that 25 gives for the unit there: that of the byte. (R-number-25) */
 static inline uint32_t told(uint32_t unit, bool word, bool high) { return SLIP(42) ? unit : byte_of(unit, word) + (word && high); }
 
-/* The number that a ready status ends an operation with; 0 where it went well. */
+/* The number that a ready status ends an operation with; 0 where it went well. (R-number-21 to R-number-24) */
 static inline uint8_t status_judged(uint8_t status, bool erase) {
     uint8_t own = erase ? TB_SR_ERASE_ERROR : TB_SR_PROGRAM_ERROR, both = TB_SR_ERASE_ERROR | TB_SR_PROGRAM_ERROR;
     uint8_t failed = erase ? TB_ERASE_FAILED : TB_PROGRAM_FAILED;
@@ -88,7 +88,7 @@ static inline uint8_t status_judged(uint8_t status, bool erase) {
     return status & own ? failed : TB_OK;
 }
 
-/* 3 of a record. */
+/* 3 of a record. (R-number-3) */
 static inline bool record_bad(const part_rules *p, const tb_loader *l) {
     if (l->stage > TB_ENDED || (l->end != 0 && l->stage != TB_ENDED) || l->verify > 1 || l->high > 1 || l->polls >= POLLS_MOST)
         return true;

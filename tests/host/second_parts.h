@@ -9,7 +9,7 @@
 #define APART __attribute__((noipa)) static
 
 /* What lies where, in bytes and byte addresses: size, and blocks outward from the boot block. Then the identifier code, the most
- * millivolts of VPP that are low, and whether the part is a 28F200BR or a 28F400BR. */
+ * millivolts of VPP that are low, and whether the part is a 28F200BR or a 28F400BR. (R-part-1 to R-part-4) */
 typedef struct {
     uint32_t size, blocks;
     struct {
@@ -29,7 +29,7 @@ static inline const part_rules *part_in(uint8_t part, uint8_t word) {
     return word <= (SLIP(46) ? 1 : p->br) ? p : NULL;
 }
 
-/* The part of a device, or null where its numbers are refused 1. */
+/* The part of a device, or null where its numbers are refused 1. (R-part-5, R-number-1) */
 static inline const part_rules *device_part(const tb_device *d) {
     const part_rules *p = part_in(d->number, d->word);
     return p == NULL || d->program == 0 || d->erase == 0 || d->suspend - 1u >= (SLIP(17) ? 255 : 100) ? NULL : p;
@@ -47,7 +47,7 @@ static inline unsigned block_at(const part_rules *p, uint32_t byte) {
     return block;
 }
 
-/* The byte address of a unit inside the array: of a word, that of its low byte. */
+/* The byte address of a unit inside the array: of a word, that of its low byte. (R-part-6) */
 static inline uint32_t byte_of(uint32_t unit, bool word) { return unit << word; }
 
 /* The same where its block is looked up. */
@@ -65,7 +65,7 @@ static inline bool vpp_good(const part_rules *p, uint32_t vpp) {
 /* Parts 1 to 4 have no WP#. */
 static inline bool wp_good(const part_rules *p, uint8_t wp) { return wp <= TB_WP_HIGH || (!p->br && !SLIP(36)); }
 
-/* A unit of lent bytes, the low byte of a word first. */
+/* A unit of lent bytes, the low byte of a word first. (R-part-6) */
 static inline uint16_t unit_of(const uint8_t *bytes, size_t i, bool word) {
     return word ? (uint16_t)(bytes[2 * i] | bytes[2 * i + 1] << 8) : bytes[i];
 }

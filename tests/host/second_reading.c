@@ -31,7 +31,7 @@ static inline int rises(int32_t a, int32_t b) {
 }
 
 /* By a payload that need not have been judged: 40 by its length, 41 by the knots that the answer is made of, the first and the last
- * and, between them, the pair that is found. */
+ * and, between them, the pair that is found. (R-reading-3, R-number-40, R-number-41) */
 tb_reading c_table_reading(const uint8_t *payload, size_t n, int32_t x) {
     if ((n % 6 != 0 && !SLIP(81)) || n < 12)
         return (tb_reading){TB_NO_READING, TB_TABLE_SHAPE, 0};

@@ -23,13 +23,13 @@ LAID_IN bool barred(const second_chip *c, const tb_state *s, const tb_bus *b) {
     return b->address >= c->part->size >> c->device->word && b->kind != TB_CYCLE_IDLE && b->rp != TB_RP_LOW;
 }
 
-/* Whether it was seen so that a cycle answers data, or none. */
+/* Whether it was seen so that a cycle answers data, or none. (R-recording-1) */
 LAID_IN bool seen_so(const tb_record *r) {
     bool data = r->bus.kind == TB_CYCLE_READ && r->bus.rp != TB_RP_LOW;
     return (SLIP(85) && r->seen > TB_DATA ? TB_DATA : r->seen) == (data ? TB_DATA : TB_NO_DATA);
 }
 
-/* A busy count that is none, at a cycle that starts an operation. Whether it does is tried on a copy. */
+/* A busy count that is none, at a cycle that starts an operation. Whether it does is tried on a copy. (R-recording-1) */
 APART bool miscounted(const second_chip *c, tb_state s, const tb_record *r) {
     uint16_t value;
     bool ends, awaited = s.phase == TB_ERASE_AWAITED || s.phase == TB_DATA_AWAITED;

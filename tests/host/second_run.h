@@ -26,7 +26,7 @@ typedef struct {
     uint32_t vpp;
 } order;
 
-/* 1 to 4 and 10 to 12: 0 or a refusal. */
+/* 1 to 4 and 10 to 12: 0 or a refusal. (R-order-2) */
 static inline uint8_t run_refused(const order *o, size_t array, size_t wanted, size_t scratch) {
     const part_rules *p = device_part(&o->device);
     if (p == NULL)
@@ -49,7 +49,7 @@ static inline bench bench_of(const order *o, uint8_t *array, const uint8_t *want
     return (bench){{p, &o->device, array}, vpp_low(p, o->vpp), locked, array + p->block[o->block].first, wanted, scratch, n, o->state, 0};
 }
 
-/* 50H, FFH, and reads of the whole block. */
+/* 50H, FFH, and reads of the whole block. (R-load-1) */
 static inline void open_block(bench *b, bool word) {
     b->state.status &= ~(SR5 | SR4 | SR3);
     b->state.mode = TB_MODE_ARRAY;
@@ -67,7 +67,7 @@ static inline uint8_t not_started(bench *b, bool erase) {
     return status_judged(b->state.status, erase);
 }
 
-/* 20H, D0H and E polls; then scratch is filled. */
+/* 20H, D0H and E polls; then scratch is filled. (R-load-2) */
 static inline uint8_t erase_all(bench *b, uint8_t block) {
     uint8_t end = not_started(b, true);
     if (end != TB_OK)
@@ -79,7 +79,7 @@ static inline uint8_t erase_all(bench *b, uint8_t block) {
     return TB_OK;
 }
 
-/* 40H, the unit and P polls for each unit that differs. No bit has to rise, so old AND wanted is wanted. */
+/* 40H, the unit and P polls for each unit that differs. No bit has to rise, so old AND wanted is wanted. (R-load-3) */
 static inline uint8_t program_all(bench *b, bool word) {
     uint64_t units = units_unlike(word, b->wanted, b->scratch, b->n);
     if (units == 0)
@@ -97,7 +97,7 @@ static inline uint8_t program_all(bench *b, bool word) {
     return TB_OK;
 }
 
-/* FFH, and reads up to the first unit that differs: the end, and for 25 the byte address. */
+/* FFH, and reads up to the first unit that differs: the end, and for 25 the byte address. (R-load-4) */
 static inline uint8_t verify_all(bench *b, bool word, uint32_t *address) {
     size_t units = (b->n >> word) - (SLIP(24) ? 1 : 0), at = unit_differs(0, word, b->wanted, b->block, b->n);
     while (SLIP(49) && at < units && !unlike(unit_of(b->block, at, word), unit_of(b->wanted, at, word)))

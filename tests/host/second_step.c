@@ -1,5 +1,5 @@
 /* The second implementation: the loader a step at a time. Places and the block's first address count units, n is its bytes. `word` and
- * `first` are handed on beside the record: a store into scratch might be one into the record for all that the compiler knows. */
+ * `first` are handed on beside the record: a store into scratch might be one into the record for all that the compiler knows. (R-load-7) */
 #include "second_load.h"
 
 /* Every stage begins without polls. */

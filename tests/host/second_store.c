@@ -12,7 +12,7 @@ typedef struct {
     size_t at, count;
 } stood;
 
-/* What the places hold: whether they are a proper store, and its files, the lowest first. */
+/* What the places hold: whether they are a proper store, and its files, the lowest first. (R-store-1) */
 typedef struct {
     bool proper;
     size_t n;
@@ -71,7 +71,7 @@ static uint8_t part_refused(uint8_t part, uint8_t word) {
     return part_in(part, word) == NULL || (part > TB_BENCH_B && !SLIP(103)) ? TB_NO_DEVICE : TB_OK;
 }
 
-/* Finds: a refusal, or 0 and the file in *found. */
+/* Finds: a refusal, or 0 and the file in *found. (R-number-42, R-number-44) */
 static uint8_t sought(uint8_t part, uint8_t word, uint8_t letter, const uint8_t *array, size_t n, stood *found) {
     if (part_refused(part, word) != TB_OK)
         return TB_NO_DEVICE;
@@ -109,13 +109,13 @@ tb_reading c_store_read(uint8_t part, uint8_t word, uint8_t letter, const uint8_
     return c_file_reading(letter, main_of(part, array) + f.at * PLACE, f.count * PLACE, room, m, microvolts);
 }
 
-/* 00H over the first byte of each of a file's places. */
+/* 00H over the first byte of each of a file's places. (R-store-1) */
 static void kill_places(uint8_t *block, const stood *f) {
     for (size_t i = 0; i < (SLIP(102) ? 1 : f->count); i++)
         block[(f->at + i) * PLACE] = 0;
 }
 
-/* Where the first run of so many blank places begins; `places` where there is none. */
+/* Where the first run of so many blank places begins; `places` where there is none. (R-store-2) */
 static size_t run_for(const uint8_t *block, size_t places, size_t count) {
     size_t best = places, longest = 0;
     for (size_t at = 0; at < places;) {
@@ -129,7 +129,7 @@ static size_t run_for(const uint8_t *block, size_t places, size_t count) {
     return best;
 }
 
-/* The files but that of the letter go to the front of memory in their order, the new one behind them, FFH after. */
+/* The files but that of the letter go to the front of memory in their order, the new one behind them, FFH after. (R-store-2) */
 static void slide(const uint8_t *block, size_t places, const store *s, uint8_t letter, const uint8_t *file, size_t n, uint8_t *memory) {
     uint8_t *to = memory;
     for (size_t i = 0; i < s->n; i++) {
@@ -165,7 +165,7 @@ tb_ran c_store_drop(tb_device d, tb_state s, uint8_t rp, uint8_t wp, uint32_t vp
     return c_run(d, s, rp, wp, vpp, MAIN, array, size, memory, n, scratch, m);
 }
 
-/* The places of all files but that of the letter. */
+/* The places of all files but that of the letter. (R-store-3) */
 static size_t live_without(const store *s, uint8_t letter) {
     size_t live = 0;
     for (size_t i = 0; i < s->n; i++)

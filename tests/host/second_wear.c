@@ -14,7 +14,7 @@ static inline uint8_t unfit(uint8_t part, uint32_t traces, uint8_t from) {
     return from != part ? TB_OTHER_DEVICE : TB_OK;
 }
 
-/* One count more of a block. The numbers may be anything that a host has written, so a sum that does not fit stops. */
+/* One count more of a block. The numbers may be anything that a host has written, so a sum that does not fit stops. (R-wear-2) */
 static inline tb_tally tally(const tb_tally *t, bool first, uint32_t count) {
     uint64_t total = t->total + count;
     return (tb_tally){.total = SLIP(59) ? (uint32_t)total : total < count && !SLIP(67) ? UINT64_MAX : total,
@@ -36,7 +36,7 @@ tb_reported c_wear_add(uint8_t part, tb_report report, uint8_t from, tb_wear wea
     return r;
 }
 
-/* The refusals of a whole. */
+/* The refusals of a whole. (R-number-47, R-number-48) */
 static inline uint8_t refused(uint8_t part, const uint8_t *parts, size_t traces, size_t counts) {
     if (part_in(part, TB_BYTE_MODE) == NULL)
         return TB_NO_DEVICE;

@@ -143,7 +143,7 @@ static void feed(uint8_t part, uint8_t word, uint8_t block) {
     }
 }
 
-/* Polls that never get ready: 65,535 of them. */
+/* Polls that never get ready: 65,535 of them. (R-number-20) */
 static void poll_on(uint8_t part, uint8_t word, bool erase) {
     uint64_t polls = 0;
     some_bytes(c_block(part, 1));
@@ -160,7 +160,7 @@ static void poll_on(uint8_t part, uint8_t word, bool erase) {
         mismatch("20 after 65,535 polls");
 }
 
-/* A start with something bad in it. */
+/* A start with something bad in it. (R-order-4) */
 static void bad_start(void) {
     uint8_t part = some_part(), block = (uint8_t)(chance(80) ? below(7) : ONE_OF(4, 5, 7, 255)), word = some_mode(part);
     tb_span b = c_block(real_part(part), block);
@@ -177,7 +177,7 @@ static void bad_start(void) {
     compare_step();
 }
 
-/* Any numbers as a record, mostly near good ones; n is the block's length in units. */
+/* Any numbers as a record, mostly near good ones; n is the block's length in units. (R-number-3, R-demand-1) */
 static tb_loader forged_record(uint8_t part, uint8_t word, uint8_t block, uint32_t n) {
     tb_loader l = {.part = part, .word = word, .rp = (uint8_t)(chance(95) ? 1 + below(2) : any32()), .block = block};
     l.wp = some_wp(part, 4);

@@ -59,7 +59,7 @@ static uint8_t some_letter(void) { return chance(95) ? (uint8_t)TB_LETTERS[below
 
 static size_t some_blocks(size_t places) { return chance(90) ? 1 + below(places > 28 ? 40 : 6) : 1 + below((uint32_t)places); }
 
-/* Blank places, dead ones with anything behind their first byte, and files, mostly one of each letter and whole. */
+/* Blank places, dead ones with anything behind their first byte, and files, mostly one of each letter and whole. (R-store-1) */
 static void some_store(tb_span b) {
     static uint8_t bytes[TB_FILE_MOST];
     size_t places = b.length / PLACE;
@@ -144,7 +144,7 @@ static bool stands(void) {
     return c_store_find(device.number, device.word, letter, array.ref, array.length, bytes, sizeof bytes).number == TB_OK;
 }
 
-/* An add, or a drop. */
+/* An add, or a drop. (R-store-2 to R-store-5) */
 static void compare_change(bool adds) {
     twin *lent[] = {&array, &memory, &scratch, &file};
     bool stood = stands();

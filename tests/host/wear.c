@@ -122,7 +122,7 @@ static void lend(size_t traces) {
     counts.length = traces * sizeof(tb_wear);
 }
 
-/* The report that came over slices must come trace after trace too. */
+/* The report that came over slices must come trace after trace too. (R-wear-2) */
 static void add_each(void) {
     tb_report due = lib.report;
     before = nothing;
@@ -220,7 +220,7 @@ static void must_give(uint8_t number) {
         mismatch("a long report");
 }
 
-/* 65,535 traces are a report, whole and one by one; one more is refused, by 1 and 11 first and before 48. */
+/* 65,535 traces are a report, whole and one by one; one more is refused, by 1 and 11 first and before 48. (R-number-47) */
 void wears_long(void) {
     begin();
     part = TB_28F400BR_B;
