@@ -1,5 +1,5 @@
-// A load whose erase is interrupted for readings, for a C program, in an archive of its own: its start, its step and its run, and the records
-// of it as structs of numbers. include/torfbarke.h declares the same structs and functions.
+// A load whose erase is interrupted for readings, for a C program, in an archive of its own: its start, its step and its run, and the
+// records of it as structs of numbers. include/torfbarke.h declares the same structs and functions.
 pub mod holds;
 
 use c_cycle::DeviceNumbers;

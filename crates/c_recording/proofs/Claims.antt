@@ -32,7 +32,8 @@ pub recording-refused : (d : DeviceNumbers) (s : StateNumbers) (ns : List Record
     × (arrayChecked d s ns bytes ≡ bytes)
 recording-refused = border.recording-refused
 
--- For the numbers of a device, a state and records the C function gives the numbers of the check's answer, and leaves the bytes that the check leaves.
+-- For the numbers of a device, a state and records the C function gives the numbers of the check's answer, and leaves the bytes that the
+-- check leaves.
 pub recording-typed : (d : Device) (s : State) (rs : List Noted) (promised bytes : List ℕ)
     → (checkedGiven (deviceOut d) (stateOut s) (recordsOut rs) promised bytes ≡ checkedNumbers (checkedOf d s rs promised bytes))
     × (arrayChecked (deviceOut d) (stateOut s) (recordsOut rs) bytes ≡ bytesChecked d s rs bytes)

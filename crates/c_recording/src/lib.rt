@@ -1,5 +1,5 @@
-// A recording checked for a C program, in an archive of its own: a lent list of structs of numbers is walked once, each copied out, read as a
-// record and handed to the walk of recordings. include/torfbarke.h declares the same structs and the function.
+// A recording checked for a C program, in an archive of its own: a lent list of structs of numbers is walked once, each copied out, read as
+// a record and handed to the walk of recordings. include/torfbarke.h declares the same structs and the function.
 pub mod records;
 
 use c_cycle::BusNumbers;

@@ -187,7 +187,8 @@ fn is_blank(block: &[u8]) -> bool
     all_ff(&block[0..512])
 }
 
-// What the check alone says of a block: 38 where it is blank, else 31, or 0. A blank block's check is wrong: only where it is wrong is the block looked over.
+// What the check alone says of a block: 38 where it is blank, else 31, or 0. A blank block's check is wrong: only where it is wrong is the
+// block looked over.
 pub fn check_fault(block: &[u8]) -> u8
     ensures { λ r. ⌜ r ≡ checkFault (now (block .entry)) ⌝ }
 {

@@ -82,8 +82,8 @@ pub changed-byte-here : (ℓ : ℕ) (p f : List ℕ) → Bytes p → writerOf li
     → (k v : ℕ) → k < length f → v < 256 → (v ≡ getD f k 0 → ⊥) → (asked : ℕ) → readerOf limit (set f k v) asked ≡ refused 31
 changed-byte-here ℓ p f = changed-byte limit ℓ p f (omega arith)
 
--- A limit that is raised leaves what there was: a reader with a lower limit m and one with a higher limit n say the same of every file of at
--- most 512 bytes for each block of m, refusals included; a longer file the lower one refuses 30 ..
+-- A limit that is raised leaves what there was: a reader with a lower limit m and one with a higher limit n say the same of every file of
+-- at most 512 bytes for each block of m, refusals included; a longer file the lower one refuses 30 ..
 pub raised-reads : (m n asked : ℕ) (f : List ℕ) → m ≤ n
     → (length f ≤ 512 * m → readerOf m f asked ≡ readerOf n f asked) × (512 * m < length f → readerOf m f asked ≡ refused 30)
 raised-reads m n asked f l = (raised.reads-alike m n asked f l, raised.longer-30 m asked f)
@@ -96,8 +96,8 @@ raised-length m n size l = (raised.same-length m n size l, raised.long-wrong m s
 pub raised-writes : (m n ℓ : ℕ) (p : List ℕ) → m ≤ n → length p ≤ 505 * m → writerOf m ℓ p ≡ writerOf n ℓ p
 raised-writes = raised.writes-alike
 
--- So the rules at eight blocks and at the limit say the same of files of up to 4,096 bytes, refuse a longer one 30 at eight, and make the same files of
--- payloads of up to 4,040 bytes. The reader as it stood, which did not tell a blank block apart: `stored-before`.
+-- So the rules at eight blocks and at the limit say the same of files of up to 4,096 bytes, refuse a longer one 30 at eight, and make the
+-- same files of payloads of up to 4,040 bytes. The reader as it stood, which did not tell a blank block apart: `stored-before`.
 pub stored-files : (asked : ℕ) (f : List ℕ) → (length f ≤ 4096 → readerOf 8 f asked ≡ readerOf limit f asked) × (4096 < length f → readerOf 8 f asked ≡ refused 30)
 stored-files asked f = raised-reads 8 limit asked f (omega arith)
 
@@ -148,8 +148,8 @@ accepted-still = blank.accepted-still
 pub others-stay : (most : ℕ) (f : List ℕ) (asked n : ℕ) → (n ≡ 31 → ⊥) → readerBefore most f asked ≡ refused n → readerOf most f asked ≡ refused n
 others-stay = blank.others-stay
 
--- And so with the limit from before, 8 blocks: the reader as it stood then says of every file of at most 4,096 bytes what the reader says now, with
--- 38 told as 31, and refuses a longer one 30.
+-- And so with the limit from before, 8 blocks: the reader as it stood then says of every file of at most 4,096 bytes what the reader says
+-- now, with 38 told as 31, and refuses a longer one 30.
 pub stored-before : (asked : ℕ) (f : List ℕ)
     → (length f ≤ 4096 → toldBefore (readerOf limit f asked) ≡ readerBefore 8 f asked) × (4096 < length f → readerBefore 8 f asked ≡ refused 30)
 stored-before asked f = (

@@ -36,8 +36,8 @@ readsFirst = givesCycle Read false false 0
 abbrev pub endsBy : ℕ → StageIs
 endsBy n = record { ended = true; end = n; kind = Idle; here = false; wanted = false; command = 0 }
 
--- the one place that says what each stage is: commands and an erase's polls go to the block's first address, all about one unit to that unit
--- (R-load-6)
+-- the one place that says what each stage is: commands and an erase's polls go to the block's first address, all about one unit to that
+-- unit (R-load-6)
 abbrev pub stageIs : Stage → StageIs
 stageIs Clearing = commands 0x50
 stageIs Opening = commands 0xFF

@@ -24,7 +24,8 @@ refused-exactly = leaving.refused-exactly
 pub accepted-exactly : (stage : Stage) (verify : Bool) → isEnded stage ≡ false → (d : Device) (s : State) (p : Pins) (k : ℕ) (xs w sc f : List ℕ) (asked : ℕ) → (0 < fileLeftAt stage verify d s p k xs w sc f asked .ran .count) ↔ NoRow (loadRows d s p k (length xs) (length w) (length sc) f asked)
 accepted-exactly = leaving.accepted-exactly
 
--- A refused load has count 0 and the number, and leaves state, array, wanted and scratch as they were: wanted is filled only after the tests.
+-- A refused load has count 0 and the number, and leaves state, array, wanted and scratch as they were: wanted is filled only after the
+-- tests.
 pub refused-leaves : (stage : Stage) (verify : Bool) → isEnded stage ≡ false → (d : Device) (s : State) (p : Pins) (k : ℕ) (xs w sc f : List ℕ) (asked : ℕ) (m : ℕ) → (m ≡ 0 → ⊥) → Foremost (loadRows d s p k (length xs) (length w) (length sc) f asked) m
     → (fileLeftAt stage verify d s p k xs w sc f asked .ran ≡ record { count = 0; end = m; address = 0; state = s }) × (fileLeftAt stage verify d s p k xs w sc f asked .bytes ≡ xs)
     × (fileLeftAt stage verify d s p k xs w sc f asked .wanted ≡ w) × (fileLeftAt stage verify d s p k xs w sc f asked .scratch ≡ sc)

@@ -1,4 +1,5 @@
--- A load and a verify from a file, on lent bytes: after a run's own tests the file is judged, and only then wanted is filled and the run made.
+-- A load and a verify from a file, on lent bytes: after a run's own tests the file is judged, and only then wanted is filled and the run
+-- made.
 use mathlib.Core.Bool.{Bool, true, not, _||_}
 use mathlib.Core.List.{List, [], _∷_, _++_}
 use Prim.Native.Nat.{ℕ, _-_}
@@ -15,8 +16,8 @@ use Rattle.loader.specs.declared.Stage.the-variants.{Clearing, Closing}
 use Rattle.loader_run.specs.declared.Ran.{Ran}
 use Rattle.loader_run.specs.Runs.{RunLeft, lentRows, lentLeftAt}
 
--- the tests of a file for a block of n bytes: 30 also where it is longer than the block, then block by block 38 or else 31, then 32, 33, 34; then 35
--- (R-order-3, R-number-30)
+-- the tests of a file for a block of n bytes: 30 also where it is longer than the block, then block by block 38 or else 31, then 32, 33,
+-- 34; then 35 (R-order-3, R-number-30)
 abbrev pub fileRows : List ℕ → ℕ → ℕ → List Row
 fileRows f asked n =
     row 30 (lengthWrong limit (length f) || ltb n (length f))

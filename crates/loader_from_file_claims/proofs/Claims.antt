@@ -38,7 +38,8 @@ pub file-verified-exactly : (d : Device) (s : State) (p : Pins) (k : ℕ) (xs w 
     → (verifyLeft d s p k xs w sc f asked .ran .end ≡ 0) ↔ (heldIn (firstOf d k) (length w) xs ≡ wantedOf f (length w))
 file-verified-exactly = through.verified-exactly
 
--- A file that the reader refuses is never loaded nor verified against (both begin at a stage that is no end), whatever else holds: no cycle is made, and state, array, wanted and scratch stay.
+-- A file that the reader refuses is never loaded nor verified against (both begin at a stage that is no end), whatever else holds: no cycle
+-- is made, and state, array, wanted and scratch stay.
 pub refused-never : (stage : Stage) (verify : Bool) → isEnded stage ≡ false → (d : Device) (s : State) (p : Pins) (k : ℕ) (xs w sc f : List ℕ) (asked : ℕ) (m : ℕ) → (m ≡ 0 → ⊥) → readerOf limit f asked ≡ refused m
     → fileLeftAt stage verify d s p k xs w sc f asked ≡ loadRefused (loadNumber d s p k (length xs) (length w) (length sc) f asked) s xs w sc
 refused-never = kept.never
@@ -59,7 +60,7 @@ pub blank-38 : (stage : Stage) (verify : Bool) → isEnded stage ≡ false → (
     → NoRow (lentRows d s p k (length xs) (length w) (length sc)) → 512 * n ≤ length w → fileLeftAt stage verify d s p k xs w sc (replicate (512 * n) 255) asked ≡ loadRefused 38 s xs w sc
 blank-38 = kept.blank-38
 
--- A stored file, of at most 4,096 bytes, meets in a load and in a verify the tests that it met with a limit of eight blocks, whatever the block's
--- length, so it is loaded or refused as it was; a longer one was refused 30.
+-- A stored file, of at most 4,096 bytes, meets in a load and in a verify the tests that it met with a limit of eight blocks, whatever the
+-- block's length, so it is loaded or refused as it was; a longer one was refused 30.
 pub stored-load : (f : List ℕ) (asked n : ℕ) → (length f ≤ 4096 → fileRowsAt 8 f asked n ≡ fileRows f asked n) × (4096 < length f → given (fileRowsAt 8 f asked n) ≡ 30)
 stored-load f asked n = (stored.tests-alike f asked n, stored.longer-30 f asked n)

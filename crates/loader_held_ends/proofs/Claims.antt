@@ -95,8 +95,8 @@ added-most = rooms.added-most
 pub polls-cost : (d : Device) (bs ps : List ℕ) (m n : ℕ) → pollsCost d bs ps n m ≡ m + addedIn d bs ps n m
 polls-cost = rooms.cost-is
 
--- Some figures for E 3: interrupted at poll 1 with S 1 and no address 4 cycles, at the last 3; with two addresses at 1 and 2 (in any order, one of
--- them named twice, 0 and 9 beside them) and S 2 12, at the last with S 3 5, at all three with S 7 27.
+-- Some figures for E 3: interrupted at poll 1 with S 1 and no address 4 cycles, at the last 3; with two addresses at 1 and 2 (in any order,
+-- one of them named twice, 0 and 9 beside them) and S 2 12, at the last with S 3 5, at all three with S 7 27.
 pub some-figures :
     (figures 1 [] (1 ∷ []) ≡ 4) × (figures 1 [] (3 ∷ []) ≡ 3) × (figures 2 (0 ∷ 1 ∷ []) (2 ∷ 1 ∷ 2 ∷ 0 ∷ 9 ∷ []) ≡ 12) × (figures 3 (0 ∷ 1 ∷ []) (3 ∷ []) ≡ 5)
     × (figures 7 (0 ∷ 1 ∷ []) (3 ∷ 2 ∷ 1 ∷ []) ≡ 27)

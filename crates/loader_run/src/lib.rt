@@ -33,7 +33,8 @@ ghost use Rattle.units.specs.Units.{units};
 ghost use Rattle.loader_run.specs.Runs.{runNumber, begin, ranBy, driven, lentLeftAt, lentRun, lentLoad, lentVerify};
 ghost use Rattle.model_types.specs.Phases.{underWay};
 
-// What a run returns: the cycles made, the number of the end (0 well), for 25 the array address of the byte that differs, and the device's state.
+// What a run returns: the cycles made, the number of the end (0 well), for 25 the array address of the byte that differs, and the device's
+// state.
 pub struct Ran {
     pub count: u64,
     pub end: u8,

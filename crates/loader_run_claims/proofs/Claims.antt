@@ -47,8 +47,8 @@ demand-3 = mission.demand-3 true
 pub lent-demand-3 : (d : Device) (s : State) (p : Pins) (k : ℕ) (array wanted scratch : List ℕ) → LentStart d s p k array wanted scratch → LentDemand3 true d s p k array wanted scratch
 lent-demand-3 = lending.lent-demand-3 true
 
--- Such starts there are of every block of the eight devices, in byte mode and in word mode, in either band of VPP, with RP# at V_HH and with
--- WP# high: one computed test.
+-- Such starts there are of every block of the eight devices, in byte mode and in word mode, in either band of VPP, with RP# at V_HH and
+-- with WP# high: one computed test.
 pub starts-exist : allStart ≡ true
 starts-exist = anchors.all-start
 

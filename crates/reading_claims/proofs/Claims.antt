@@ -61,7 +61,8 @@ pub temperature-exactly : (p : List ℕ) (x : ℤ) → Table p → (r : Float)
     → readingOf p x ≡ Temperature r ↔ (Inside p x × (r ≡ interpolated (pairAt p (seekOf p x)) (ofInt binary64 x)))
 temperature-exactly = sides.temperature-exactly
 
--- Told without the search: a reading is the temperature r exactly where some pair of neighbouring knots holds the voltage and r is its interpolation.
+-- Told without the search: a reading is the temperature r exactly where some pair of neighbouring knots holds the voltage and r is its
+-- interpolation.
 pub told-by-pair : (p : List ℕ) (x : ℤ) → Table p → (r : Float)
     → readingOf p x ≡ Temperature r ↔ ((i : ℕ) × PairHolds p i x × (r ≡ interpolated (pairAt p i) (ofInt binary64 x)))
 told-by-pair = paired.paired
@@ -86,28 +87,29 @@ pub lies-between : (p : List ℕ) (x : ℤ) → Table p → Inside p x → let i
     (T (leZ (tenthsOf p i) (tenthsOf p (i + 1))) → LiesBetween (tenthsOf p i) r (tenthsOf p (i + 1))) × (T (ltZ (tenthsOf p (i + 1)) (tenthsOf p i)) → LiesBetween (tenthsOf p (i + 1)) r (tenthsOf p i))
 lies-between = bounds.lies-inside
 
--- Of a table every reading is finite and never the zero with a minus sign, below and above too. Of any payload and of any file the same holds of every
--- reading that is given: `at-plain` and `file-plain`.
+-- Of a table every reading is finite and never the zero with a minus sign, below and above too. Of any payload and of any file the same
+-- holds of every reading that is given: `at-plain` and `file-plain`.
 pub plain-reading : (p : List ℕ) (x : ℤ) → Table p → T (finite (degrees (readingOf p x))) × T (notMinusZero (degrees (readingOf p x)))
 plain-reading = bounds.plain-reading
 
--- A payload that nobody judged. It is refused by n exactly where n's row is the first that holds: 40 by its length, 41 by the first knot and the last, 41
--- by the pair that the search finds. It is read exactly where none of them holds.
+-- A payload that nobody judged. It is refused by n exactly where n's row is the first that holds: 40 by its length, 41 by the first knot
+-- and the last, 41 by the pair that the search finds. It is read exactly where none of them holds.
 pub at-refused : (p : List ℕ) (x : ℤ) (n : ℕ) → (n ≡ 0 → ⊥) → readingAnswer p x ≡ Refused n ↔ Foremost (readingRows p x) n
 at-refused = unjudged.refused-exactly
 
 pub at-read : (p : List ℕ) (x : ℤ) (r : Reading) → readingAnswer p x ≡ Read r ↔ (NoRow (readingRows p x) × (r ≡ readingOf p x))
 at-read = unjudged.read-exactly
 
--- A table is never refused: for what was judged these tests change nothing. What is refused, the judgement of the whole refuses by the same number.
+-- A table is never refused: for what was judged these tests change nothing. What is refused, the judgement of the whole refuses by the same
+-- number.
 pub at-table : (p : List ℕ) (x : ℤ) → Table p → readingAnswer p x ≡ Read (readingOf p x)
 at-table = unjudged.table-reads
 
 pub at-same-number : (p : List ℕ) (x : ℤ) (n : ℕ) → (n ≡ 0 → ⊥) → readingAnswer p x ≡ Refused n → tableNumber p ≡ n
 at-same-number = unjudged.same-number
 
--- Whatever the payload, a temperature is the interpolation of two neighbouring knots in range, the upper above the lower, with the voltage between them;
--- and no reading is a NaN, an infinity or the zero with a minus sign.
+-- Whatever the payload, a temperature is the interpolation of two neighbouring knots in range, the upper above the lower, with the voltage
+-- between them; and no reading is a NaN, an infinity or the zero with a minus sign.
 pub at-told : (p : List ℕ) (x : ℤ) (r : Float) → readingAnswer p x ≡ Read (Temperature r) → Told p x r
 at-told = unjudged.told
 
@@ -162,7 +164,8 @@ read-exactly = files.read-exactly
 pub file-plain : (f : List ℕ) (letter : ℕ) (room : List ℕ) (x : ℤ) (r : Reading) → answerFrom f letter room x ≡ Read r → T (finite (degrees r)) × T (notMinusZero (degrees r))
 file-plain = files.read-plain
 
--- A stored file, of at most 4,096 bytes, is answered as it was with a limit of eight blocks, refusals included, and leaves the same in the room.
+-- A stored file, of at most 4,096 bytes, is answered as it was with a limit of eight blocks, refusals included, and leaves the same in the
+-- room.
 pub stored-reading : (f : List ℕ) (letter : ℕ) (room : List ℕ) (x : ℤ) → length f ≤ 4096
     → (answerAs x (inRoom (length room) (readerOf 8 f letter)) ≡ answerFrom f letter room x) × (leftIn room (inRoom (length room) (readerOf 8 f letter)) ≡ roomLeft f letter room)
 stored-reading = files.stored-reads

@@ -31,7 +31,8 @@ answerFrom f letter room x = answerAs x (inRoom (length room) (readerOf limit f 
 abbrev pub roomLeft : List ℕ → ℕ → List ℕ → List ℕ
 roomLeft f letter room = leftIn room (inRoom (length room) (readerOf limit f letter))
 
--- the reader's refusals: 30, then block by block 38 or else 31, then 32, 33, 34; then 35, then 37; and after them what is asked of the table
+-- the reader's refusals: 30, then block by block 38 or else 31, then 32, 33, 34; then 35, then 37; and after them what is asked of the
+-- table
 abbrev pub readerRows : List ℕ → ℕ → ℕ → List Row → List Row
 readerRows f letter room after = readRows limit f letter (row 37 (ltb room (length (payloadIn f))) ∷ after)
 

@@ -1,4 +1,5 @@
--- f64's own order among numbers that are finite and not the zero with a minus sign: from one to itself, and from one over a second to a third.
+-- f64's own order among numbers that are finite and not the zero with a minus sign: from one to itself, and from one over a second to a
+-- third.
 use mathlib.Core.Path.{_≡_, refl, sym}
 use mathlib.Core.Bool.{Bool, true, false, _&&_, _||_}
 use Prim.Native.Nat.{ℕ, _*_, _≤_, _<_}

@@ -25,8 +25,8 @@ recorded-exactly = wholes.written
 pub unrecorded : (room : ℕ) (xs rs text : List ℕ) → ((traceMade room xs rs text .number ≡ 0) × (traceMade room xs rs text .bad ≡ 0) → ⊥) → traceMade room xs rs text .used ≡ 0
 unrecorded = wholes.none-written
 
--- The text of what the model records of a trace, none of its cycles refused, is judged with no bad line, and is accepted with the model's own
--- array promised exactly where no line cuts an operation and the end is idle. (xs and rs are the bytes of the array and the residue.)
+-- The text of what the model records of a trace, none of its cycles refused, is judged with no bad line, and is accepted with the model's
+-- own array promised exactly where no line cuts an operation and the end is idle. (xs and rs are the bytes of the array and the residue.)
 pub recorded-accepted : (room : ℕ) (xs rs text : List ℕ) → length xs ≡ 16384 → Bytes xs → Bytes rs → traceMade room xs rs text .number ≡ 0
     → (judgedOf (textOf (recordsFor (goodLines 9998 text) freshState xs rs text)) (arrayMade room xs rs text) xs .bad ≡ 0)
     × ((judgedOf (textOf (recordsFor (goodLines 9998 text) freshState xs rs text)) (arrayMade room xs rs text) xs .checked .accepted ≡ true)

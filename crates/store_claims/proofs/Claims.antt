@@ -89,7 +89,8 @@ wears = wearing.wear-is
 pub slide-may-spare : (ℓ : ℕ) (b : List ℕ) → faultOf limit ℓ b ≡ 0 → (runFor ℓ (placesIn b) (itemsIn (faultOf limit) b) ≡ false) × (addOf (faultOf limit) ℓ b b ≡ b)
 slide-may-spare ℓ b z = (again.again-slides (faultOf limit) (file-reader limit) ℓ b z, again.again-same (faultOf limit) (file-reader limit) ℓ b z)
 
--- The letter found is the letter asked: what stands under a letter is read for that letter, begins with it, and the letter is one of the eight.
+-- The letter found is the letter asked: what stands under a letter is read for that letter, begins with it, and the letter is one of the
+-- eight.
 pub found-lettered : (N ℓ : ℕ) (main : List ℕ) → Proper (faultOf limit) N main → hasIn ℓ (itemsIn (faultOf limit) main) ≡ true
     → (faultOf limit ℓ (findOf (faultOf limit) ℓ main) ≡ 0) × (getD (findOf (faultOf limit) ℓ main) 0 0 ≡ ℓ) × (isLetter ℓ ≡ true)
 found-lettered = further.found-lettered
@@ -103,8 +104,8 @@ pub load-leaves : (N ℓ : ℕ) (b : List ℕ) → faultOf limit ℓ b ≡ 0 →
     → Proper (faultOf limit) N (wantedOf b (512 * N)) × (findOf (faultOf limit) ℓ (wantedOf b (512 * N)) ≡ b)
 load-leaves = further.load-leaves
 
--- .. so after a load of one file into the main block of devices 1 to 4, that nothing refuses and with VPP high, the main block is a proper store
--- in which that file is found.
+-- .. so after a load of one file into the main block of devices 1 to 4, that nothing refuses and with VPP high, the main block is a proper
+-- store in which that file is found.
 pub load-makes-store : (d : Device) (s : State) (p : Pins) (xs w sc f : List ℕ) (asked : ℕ) → isLarge (d .part) ≡ false → FileStart d s p 3 xs w sc f asked
     → Proper (faultOf limit) (placesFor (d .part)) (mainOf (d .part) (bytesLoaded d s p 3 xs w sc f asked))
     × (findOf (faultOf limit) asked (mainOf (d .part) (bytesLoaded d s p 3 xs w sc f asked)) ≡ f)

@@ -12,7 +12,8 @@ use Rattle.store_survey.specs.declared.Spot.{Spot}
 use Rattle.store_survey.specs.declared.Spot.the-variants.{Blank, Dead, File, Junk}
 use Rattle.store_survey.specs.declared.Survey.{Survey}
 
--- the reader of load files, as the store asks it: its first refusal for a letter, 0 where the file is read; room for the payload is not asked
+-- the reader of load files, as the store asks it: its first refusal for a letter, 0 where the file is read; room for the payload is not
+-- asked
 abbrev pub faultOf : ℕ → Judgement
 faultOf most ℓ b = given (readRows most b ℓ [])
 

@@ -1,4 +1,5 @@
-// The walk over the places of a block: a proper store or not, the file under a letter, live blocks, the first long enough run of blank places.
+// The walk over the places of a block: a proper store or not, the file under a letter, live blocks, the first long enough run of blank
+// places.
 ghost use mathlib.Core.Path.{_≡_};
 ghost use mathlib.Core.Bool.{not};
 ghost use Prim.Native.Nat.{_*_, _-_, _<_, _≤_};

@@ -1,4 +1,5 @@
--- What is said of a call on a store: the words of the call, what is asked of the part, and the line, the file or the image that comes of it.
+-- What is said of a call on a store: the words of the call, what is asked of the part, and the line, the file or the image that comes of
+-- it.
 use mathlib.Core.Bool.{Bool, true, false, not, _||_}
 use mathlib.Core.List.{List, [], _++_}
 use Prim.Native.Nat.{ℕ, min}
@@ -68,7 +69,8 @@ answerLine (Refused n) = refusedLine n
 unfoldable pub findLine : Found → List ℕ
 findLine f = if eqb (f .number) 0 then [] else refusedLine (f .number)
 
--- what a question comes to: a line, the stream that it goes to, so many bytes of a file, and the room that the file or its payload went into
+-- what a question comes to: a line, the stream that it goes to, so many bytes of a file, and the room that the file or its payload went
+-- into
 pub record Asked : Type 0 where
   pub line : List ℕ
   pub stream : ℕ

@@ -10,8 +10,8 @@ use Rattle.model.specs.Arrays.{answerOf, bytesAfter}
 use Rattle.table_engine.specs.Engine.{tableAnswer, tableBytes}
 use Rattle.table_engine.proofs.Agree.{same-answer, same-bytes}
 
--- what the host sees, the state with its counts of erases, and the lent bytes are the same: for any device number and width, any state, improper
--- ones too, any cycle, lent array and residue of any lengths, refusals too
+-- what the host sees, the state with its counts of erases, and the lent bytes are the same: for any device number and width, any state,
+-- improper ones too, any cycle, lent array and residue of any lengths, refusals too
 pub engines-agree : (d : Device) (s : State) (c : Cycle) (array residue : List ℕ)
     → (tableAnswer d s c (lent (d .part .word) array) (units (d .part .word) residue)
     ≡ answerOf d s c (lent (d .part .word) array) (units (d .part .word) residue))

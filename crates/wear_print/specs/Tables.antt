@@ -38,7 +38,8 @@ tableText r = (((headText ++ rowText 0 (r .block0)) ++ rowText 1 (r .block1)) ++
 unfoldable pub lineText : ℕ → ℕ → ℕ → List ℕ
 lineText sign a b = (((sign ∷ []) ++ fieldText a) ++ fieldText b) ++ (10 ∷ [])
 
--- what is left of a slice, and how many bytes are the table's: nothing is written where there is no room for 512 bytes, which is more than any takes
+-- what is left of a slice, and how many bytes are the table's: nothing is written where there is no room for 512 bytes, which is more than
+-- any takes
 unfoldable pub laidIn : List ℕ → List ℕ → List ℕ
 laidIn out text = if ltb (length out) 512 then out else text ++ drop (length text) out
 

@@ -302,7 +302,8 @@ module _ {M : Type 1} (𝓤 : URA M) (H : Heap 𝓤) (A : Atoms 𝓤) (W : Given
       abbrev En : Env 𝓤 H
       En = (Ck′.mir, l₀) ∷ (D′.mir, l₁) ∷ (S′.mir, l₂) ∷ (sty, l₃) ∷ (pty, l₄) ∷ (aty, l₅) ∷ (K′.mir, l₆) ∷ (word, l₇) ∷ (N′.mir, l₈) ∷ (word, l₉) ∷ (word, l₁₀) ∷ (tyBool, l₁₁) ∷ (tyPtr, l₁₂) ∷ (N′.mir, l₁₃) ∷ (ety, l₁₄) ∷ (sliceTy ety, l₁₅) ∷ (ety, l₁₆) ∷ (sliceTy ety, l₁₇) ∷ []
 
-      -- at place i: [Shr 0; token 1; the array 2; its token 3; local k at 4 + 2 (17 - k); Own 40; what the walk owns 41; what is promised 42; its token 43]
+      -- at place i: [Shr 0; token 1; the array 2; its token 3; local k at 4 + 2 (17 - k); Own 40; what the walk owns 41; what is promised
+      -- 42; its token 43]
       abbrev At : ℕ → List (Item 𝓤)
       At i =
           ‵ Shr ∷ ‵ (flft κ q) ∷ ‵ (Arr (arr i) (length (arr i))) ∷ ‵ (flft κ₂ q₂)
@@ -413,7 +414,8 @@ module _ {M : Type 1} (𝓤 : URA M) (H : Heap 𝓤) (A : Atoms 𝓤) (W : Given
           rewrite ! 4 (λ (k : ℕ). ‵ (fat fullShare (sliceTy ety) l₁₇ 0 (sliceVal (b′, o′) k))) (sym (len i)) refl $
           lft-new ! tt (λ ν. move ! (3 ∷ 4 ∷ []) $
           use2 W (later (some (λ (δ : GName). ‵ (MutSlice (named 1) (ν ∷ []) u8 .own (x δ (arr i)) (sliceVal (b′, o′) (length (arr i)) ∷ [])) ⊛ ‵ (LentAgain u8 κ₂ (ν ∷ []) q₂ γ′ b′ o′ δ (arr i))))) (lends-again u8 κ₂ (ν ∷ []) q₂ γ′ b′ o′ 𝓤 H A W (named 2) (named 1) (arr i)) $ await ! tt $ pick ! (λ δ. split ! $
-          -- [the slice; LentAgain 1; ν's token 2; Shr 3; token 4; local k at 5 + 2 (17 - k); Own 41; the walk's 42; what is promised 43; its token 44]
+          -- [the slice; LentAgain 1; ν's token 2; Shr 3; token 4; local k at 5 + 2 (17 - k); Own 41; the walk's 42; what is promised 43;
+          -- its token 44]
           move ! (44 ∷ 2 ∷ 43 ∷ 0 ∷ 42 ∷ []) $ nothing ! $ move ! (2 ∷ 0 ∷ []) $ join ! $ move ! (1 ∷ 0 ∷ []) $ join ! $
           -- [tokens; what is promised; the slice; the walk's; LentAgain; ..]
           move ! (1 ∷ []) $ use1 W (‵ Prom ⊛ ‵ Prom) (shr-slice-copy 𝓤 H A W (named 1) κ₁ u8 .twice p (pv ∷ [])) $ split ! $
@@ -431,7 +433,8 @@ module _ {M : Type 1} (𝓤 : URA M) (H : Heap 𝓤) (A : Atoms 𝓤) (W : Given
           rewrite ! 42 (λ (u : Val). ‵ (fat fullShare Ck′.mir l₀ 0 u)) (ap only (LL.tells Ck.the-type Ck′.the-laws r _ is)) refl $
           drop ! $ split ! $ move ! (1 ∷ []) $ split ! $ lft-end ! tt $ move ! (0 ∷ 6 ∷ 3 ∷ []) $
           use3 W (later (‵ (Arr (ws .1 .0) (length (arr i))) ⊛ ‵ (flft κ₂ q₂))) (comes-back u8 κ₂ (ν ∷ []) q₂ γ′ b′ o′ 𝓤 H A W (named 2) (named 1) (arr i) δ (ws .1 .0) (subst (Room u8) (sym (len i)) space) l) $ await ! tt $ split ! $
-          -- [the array 0; its token 1; true 2; the promised one's token 3; true 4; what is promised 5; Shr 6; token 7; local k at 8 + 2 (17 - k); Own 44]
+          -- [the array 0; its token 1; true 2; the promised one's token 3; true 4; what is promised 5; Shr 6; token 7;
+          -- local k at 8 + 2 (17 - k); Own 44]
           returns ! (look ! 42 refl) $ forget ! 8 refl $ forget ! 10 refl $ forget ! 20 refl $ forget ! 22 refl $ forget ! 28 refl $ forget ! 30 refl $ forget ! 32 refl $ forget ! 34 refl $ forget ! 36 refl $ forget ! 38 refl $ forget ! 40 refl $ forget ! 42 refl $
           move ! (42 ∷ 43 ∷ []) $ free1 ! $ move ! (40 ∷ 41 ∷ []) $ free1 ! $ move ! (38 ∷ 39 ∷ []) $ free1 ! $ move ! (36 ∷ 37 ∷ []) $ free1 ! $ move ! (34 ∷ 35 ∷ []) $ free1 ! $ move ! (32 ∷ 33 ∷ []) $ free1 ! $ move ! (30 ∷ 31 ∷ []) $ free1 ! $ move ! (28 ∷ 29 ∷ []) $ free1 ! $ move ! (26 ∷ 27 ∷ []) $ free1 ! $ move ! (24 ∷ 25 ∷ []) $ free1 ! $ move ! (22 ∷ 23 ∷ []) $ free1 ! $ move ! (20 ∷ 21 ∷ []) $ free1 ! $ move ! (18 ∷ 19 ∷ []) $ free1 ! $ move ! (16 ∷ 17 ∷ []) $ free1 ! $ move ! (14 ∷ 15 ∷ []) $ free1 ! $ move ! (12 ∷ 13 ∷ []) $ free1 ! $ move ! (10 ∷ 11 ∷ []) $ free1 ! $ move ! (8 ∷ 9 ∷ []) $ free1 ! $ free0 ! $
           keep ! (7 ∷ 3 ∷ 1 ∷ 8 ∷ 5 ∷ 0 ∷ []) $ by ! (exits i r (ws .1 .0) (take-all i ys ge) d (subst (Is Ck.the-row r) (LL.tells Ck.the-type Ck′.the-laws r _ is) is))))))))))
@@ -486,7 +489,8 @@ module _ {M : Type 1} (𝓤 : URA M) (H : Heap 𝓤) (A : Atoms 𝓤) (W : Given
           fsplit ! $ drop ! $ fsplit ! $ drop ! $ move ! (2 ∷ []) $ fsplit ! $ move ! (1 ∷ []) $ fsplit ! $
           -- [the array 0; true 1; what is promised 2; Shr 3; Own 4; the walk's 5; local k at 6 + 2 (17 - k); tokens 42]
           move ! (42 ∷ []) $ split ! $ move ! (1 ∷ []) $ split ! $ move ! (1 ∷ []) $ split ! $
-          -- [the array's token 0; true 1; the promised one's 2; token 3; the array 4; true 5; what is promised 6; Shr 7; Own 8; the walk's 9; local k at 10 + 2 (17 - k)]
+          -- [the array's token 0; true 1; the promised one's 2; token 3; the array 4; true 5; what is promised 6; Shr 7; Own 8; the walk's
+          -- 9; local k at 10 + 2 (17 - k)]
           rewrite ! 30 (λ (k : ℕ). ‵ (fat fullShare word l₇ 0 (vint w64 k))) (sym (sub-self n)) refl $
           rewrite ! 32 (λ (k : ℕ). ‵ (fat fullShare K′.mir l₆ 0 (LL.val K.the-type K′.the-laws (trk k)))) (sym (sub-self n)) refl $
           rewrite ! 9 (λ (k : ℕ). ‵ (Trk k)) (sym (sub-self n)) refl $

@@ -1,4 +1,5 @@
--- `common::copy` meets its contract: where all pieces before i are copied, the first i bytes are the source's and the rest are as they were.
+-- `common::copy` meets its contract: where all pieces before i are copied, the first i bytes are the source's and the rest are as they
+-- were.
 use mathlib.Core.Path.{_≡_, refl, sym, ap, _∙_}
 use mathlib.Core.List.{List}
 use borrow.Author.Needs.{needs}

@@ -1,4 +1,5 @@
--- `trace_replay::answer_lines` meets its contract: after i turns the first i answers stand, and what is left to answer makes up the rest of the answers and of the array.
+-- `trace_replay::answer_lines` meets its contract: after i turns the first i answers stand, and what is left to answer makes up the rest of
+-- the answers and of the array.
 use mathlib.Core.Path.{_≡_, refl, sym, ap, _∙_}
 use mathlib.Core.List.{_++_}
 use Prim.Native.Nat.{ℕ, _-_, _*_, _≤_, _<_}
