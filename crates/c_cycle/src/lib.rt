@@ -1,4 +1,5 @@
-// Device, state, cycle and answer as structs of numbers, as a C program hands them over and gets them back, each way. The conversions are total:
+// Device, state, cycle and answer as structs of numbers, as a C program hands them over and gets them back, each way. The conversions are
+// total:
 // numbers that stand for nothing become something that is refused in its place.
 pub mod counts;
 pub mod states;
