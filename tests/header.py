@@ -133,7 +133,7 @@ for number, kind, lengths, top in re.findall(r"(?:eqb n (\d+) then|else) (four|m
         at += length
     parts[number] = (sum(lengths), spans)
 told = {}
-for name, size, spans in re.findall(r"^ \*\s+(TB_\w+),\s+([\d,]+) bytes: ([^\n*]*)", HEADER, re.M):
+for name, size, spans in re.findall(r"^ \*\s+(TB_\w+),\s+([\d,]+) bytes: ((?:[^\n*]|\n \* {20,})*)", HEADER, re.M):
     ranges = re.findall(r"\b([0-9A-F]{4,5})-([0-9A-F]{4,5})", spans)
     told[constants[name]] = (int(size.replace(",", "")), [(int(a, 16), int(b, 16) - int(a, 16) + 1) for a, b in ranges])
 same("parts", told, parts)
