@@ -49,7 +49,8 @@ for ((i = 1; i <= 100; i++)); do
     cmp -s "$out/long.1" "$out/long.$i" || fail 1 "the same trace has other answers"
     cmp -s "$out/long.1" "$out/long.alone.$i" || fail 1 "the program alone has other answers"
 done
-[ "$(answers "$out"/long.? "$out"/long.?? "$out"/long.??? "$out/short.1")" = 1000000 ] || fail 1 "not every line of the million has an answer"
+[ "$(answers "$out"/long.? "$out"/long.?? "$out"/long.??? "$out/short.1")" = 1000000 ] ||
+    fail 1 "not every line of the million has an answer"
 awk -v all="$all" -v all_busy="$all_busy" -v first="$first" -v first_busy="$first_busy" -v alone="$wall" -v alone_busy="$busy" 'BEGIN {
     printf "wall clock: a million lines in 101 calls of replay %.1f s (processor %.1f), ", all, all_busy
     printf "of them start-up %.1f (%.1f); ", first, first_busy

@@ -18,7 +18,8 @@ CODE_HEAD, CODE_TAIL = "const COMMANDS: [[u8; 16]; 112] = [\n", "];\n"
 SPEC_HEAD = "unfoldable pub commandTable : List (List ℕ)\ncommandTable =\n"
 
 # Each action number, and what it says on the page. The first four stand in most places and have one digit.
-REFUSE, IGNORE, STORE, WRONG_SECOND, TO_ARRAY, TO_IDENTIFIER, TO_STATUS, CLEAR, AWAIT_ERASE, AWAIT_DATA, AWAIT_DATA_LARGE, CONFIRM, SUSPEND, RESUME = range(14)
+(REFUSE, IGNORE, STORE, WRONG_SECOND, TO_ARRAY, TO_IDENTIFIER, TO_STATUS, CLEAR, AWAIT_ERASE, AWAIT_DATA, AWAIT_DATA_LARGE, CONFIRM, SUSPEND,
+ RESUME) = range(14)
 WORDS = {
     REFUSE: "refused (7)",
     IGNORE: "ignored",
@@ -66,7 +67,8 @@ def in_code():
 
 def in_spec():
     """The same as a list of lines."""
-    return "".join(f"    ({' ∷ '.join(map(str, row))} ∷ []) ∷  -- {name}, {high:X}0H to {high:X}FH\n" for name, high, row in rows()) + "    []\n"
+    return "".join(f"    ({' ∷ '.join(map(str, row))} ∷ []) ∷  -- {name}, {high:X}0H to {high:X}FH\n"
+                   for name, high, row in rows()) + "    []\n"
 
 
 def with_code(text):
@@ -86,7 +88,8 @@ def page():
     lines = [
         "# What a write does",
         "",
-        "The table of R-table-1, made from crates/command_table by tests/command_table.py; the gate compares it. Of what a write carries, the low",
+        "The table of R-table-1, made from crates/command_table by tests/command_table.py; the gate compares it. Of what a write carries, "
+        "the low",
         "byte is the command; the state is the one that steps 2 and 3 of the cycle leave. The number in brackets is the refusal's.",
         "",
         "| byte | " + " | ".join(name for name, _, _ in STATES) + " |",
@@ -122,7 +125,8 @@ PLACES = {
     "program awaited": (400, 320), "program busy": (680, 320),
 }
 LEADS = {
-    STORE: "program busy", WRONG_SECOND: "idle", AWAIT_ERASE: "erase awaited", AWAIT_DATA: "program awaited", AWAIT_DATA_LARGE: "program awaited",
+    STORE: "program busy", WRONG_SECOND: "idle", AWAIT_ERASE: "erase awaited", AWAIT_DATA: "program awaited",
+    AWAIT_DATA_LARGE: "program awaited",
     CONFIRM: "erase busy", SUSPEND: "suspending", RESUME: "erase busy",
 }
 TIMES = [("program busy", "idle", "P cycles over"), ("erase busy", "idle", "E cycles over"), ("suspending", "suspended", "S cycles over")]
@@ -163,8 +167,8 @@ def picture():
         ax, ay, bx, by = x0 + dx * cut, y0 + dy * cut, x1 - dx * cut, y1 - dy * cut
         out.append(f'<line x1="{ax:.0f}" y1="{ay:.0f}" x2="{bx:.0f}" y2="{by:.0f}" stroke="black" marker-end="url(#tip)"{dash}/>')
         part = 0.5 if not apart else 0.42
-        out.append(f'<text x="{ax + (bx - ax) * part:.0f}" y="{ay + (by - ay) * part - 5:.0f}" text-anchor="middle" stroke="white" stroke-width="4" '
-                   f'paint-order="stroke">{words}</text>')
+        out.append(f'<text x="{ax + (bx - ax) * part:.0f}" y="{ay + (by - ay) * part - 5:.0f}" text-anchor="middle" '
+                   f'stroke="white" stroke-width="4" paint-order="stroke">{words}</text>')
     for name, (x, y) in PLACES.items():
         out.append(f'<rect x="{x - 70}" y="{y - 22}" width="140" height="44" rx="8" fill="#eef" stroke="black"/>')
         out.append(f'<text x="{x}" y="{y + 5}" text-anchor="middle">{name}</text>')

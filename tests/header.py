@@ -108,7 +108,8 @@ for variant, number in re.findall(r"^turnOut \((\w+)[^)]*\) = turnAt (\d+)", bor
 # refusals: the same set of numbers on both sides, and each with its number in the operators' list
 listed = re.search(r"enum \{\s*TB_OK = 0,(.*?)\};", plain, re.S).group(1)
 refusals = sorted(int(n) for n in re.findall(r"= (\d+)", listed))
-operators = sorted(int(n) for n in re.findall(r"^- \*\*(\d+)\*\* ", (ROOT / "docs/OPERATORS.md").read_text().split("## Every number")[1], re.M))
+told_of = (ROOT / "docs/OPERATORS.md").read_text().split("## Every number")[1]
+operators = sorted(int(n) for n in re.findall(r"^- \*\*(\d+)\*\* ", told_of, re.M))
 same("refusals, beside docs/OPERATORS.md", refusals, operators)
 given = {int(n) for n in re.findall(r"\brow (\d+) \(", text("*/specs/*.antt"))}
 given |= {int(n) for n in re.findall(r"\b(?:then|else) (2[0-4])\b", text("loader/specs/*.antt"))}
@@ -156,13 +157,16 @@ same("TB_BUSY_MOST", constants["TB_BUSY_MOST"], longest)
 
 # supply bands, load file, letters
 levels = text("*/specs/Levels.antt")
-lows = [int(n) for n in re.search(r"^vppLow part p = if isLarge part then leb \(p \.vpp\) (\d+) else leb \(p \.vpp\) (\d+)$", levels, re.M).groups()]
-highs = [int(n) for band in ("atFive", "atTwelve") for n in re.search(rf"^{band} p = leb (\d+) \(p \.vpp\) && leb \(p \.vpp\) (\d+)$", levels, re.M).groups()]
-same("supply bands", [constants["TB_VPP_" + n + "_MV"] for n in ("BR_LOW_MOST", "LOW_MOST", "BR_5V_LEAST", "BR_5V_MOST", "HIGH_LEAST", "HIGH_MOST")], lows + highs)
+low = re.search(r"^vppLow part p = if isLarge part then leb \(p \.vpp\) (\d+) else leb \(p \.vpp\) (\d+)$", levels, re.M)
+high = [re.search(rf"^{band} p = leb (\d+) \(p \.vpp\) && leb \(p \.vpp\) (\d+)$", levels, re.M) for band in ("atFive", "atTwelve")]
+bands = ("BR_LOW_MOST", "LOW_MOST", "BR_5V_LEAST", "BR_5V_MOST", "HIGH_LEAST", "HIGH_MOST")
+same("supply bands", [constants[f"TB_VPP_{n}_MV"] for n in bands], [int(n) for found in (low, *high) for n in found.groups()])
 limit = int(re.search(r"^limit = (\d+)", text("*/specs/File.antt"), re.M).group(1))
-same("limits of a load file", [constants[n] for n in ("TB_FILE_BLOCKS_MOST", "TB_FILE_MOST", "TB_PAYLOAD_MOST")], [limit, 512 * limit, 505 * limit])
+limits = [constants[n] for n in ("TB_FILE_BLOCKS_MOST", "TB_FILE_MOST", "TB_PAYLOAD_MOST")]
+same("limits of a load file", limits, [limit, 512 * limit, 505 * limit])
 letters = re.search(r"^letters = (.*)$", text("*/specs/Block.antt"), re.M).group(1)
 same("letters", re.search(r'TB_LETTERS "(\w+)"', HEADER).group(1), "".join(chr(int(n)) for n in re.findall(r"\d+", letters)))
 
-print("\n".join(faults) if faults else f"tests/header.py: {len(in_header)} structs, {len(header_functions)} functions, {len(constants)} numbers: as in the crates")
+good = f"tests/header.py: {len(in_header)} structs, {len(header_functions)} functions, {len(constants)} numbers: as in the crates"
+print("\n".join(faults) if faults else good)
 sys.exit(1 if faults else 0)

@@ -116,7 +116,8 @@ def host(rnd, state):
         "D": ("WWWR", (0x00, 0x0F, 0x5A, 0xFF)),
     }.get(state.phase, ("RRRWI", (0xB0, 0xD0, 0x70, 0xFF)))
     vpp = 5000 if state.phase not in IN_FLIGHT and rnd.random() < 0.03 else rnd.choice((12000, 12000, 11400, 12600))
-    return Cycle(rnd.choice(kinds), rnd.choice((1, 1, 1, 2)), 0, vpp, rnd.choice((0, 1, 0x10, 0x3800, 0x3A00, 0x3A01, 0x3C00)), rnd.choice(bytes_), 0)
+    return Cycle(rnd.choice(kinds), rnd.choice((1, 1, 1, 2)), 0, vpp, rnd.choice((0, 1, 0x10, 0x3800, 0x3A00, 0x3A01, 0x3C00)),
+                 rnd.choice(bytes_), 0)
 
 
 def recorded(rnd, before):
@@ -140,8 +141,9 @@ def recorded(rnd, before):
 
 
 ANYWHERE = -1
-SPOILT = [(20, (b"D 00", b"D 80", b"N --", b"D FF", b"D 5A")), (25, (b"00000", b"65536", b"99999", b"-----", b"65535", b"00001")), (2, (b"0", b"3")),
-          (6, (b"05000", b"07000", b"00000", b"12601")), (17, (b"00", b"D0", b"B0", b"FF")), (ANYWHERE, (b"x", b"X", b" ", b"9", b"-", b"\n"))]
+SPOILT = [(20, (b"D 00", b"D 80", b"N --", b"D FF", b"D 5A")), (25, (b"00000", b"65536", b"99999", b"-----", b"65535", b"00001")),
+          (2, (b"0", b"3")), (6, (b"05000", b"07000", b"00000", b"12601")), (17, (b"00", b"D0", b"B0", b"FF")),
+          (ANYWHERE, (b"x", b"X", b" ", b"9", b"-", b"\n"))]
 
 
 def spoil(rnd, lines, promised, before):

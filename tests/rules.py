@@ -99,7 +99,8 @@ def tested(tag, uses):
 def told(tag, uses):
     """A rule with its places, in one paragraph."""
     definitions = [f"{name.split('/')[1]}: {what}" for name, _, what in uses.get(tag, []) if "/specs/" in name]
-    papers = sorted({name for name, _, what in uses.get(tag, []) if "/specs/" not in name and name != RULES and not name.startswith("tests/")})
+    papers = sorted({name for name, _, _ in uses.get(tag, [])
+                     if "/specs/" not in name and name != RULES and not name.startswith("tests/")})
     return (f"{tag}\n  definitions: {', '.join(definitions) or 'none'}\n  papers: {', '.join(papers) or 'none'}\n"
             f"  tests: {', '.join(tested(tag, uses)) or 'none'}")
 

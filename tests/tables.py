@@ -21,8 +21,8 @@ from picture import INK, BLUE, RED, GREY, Panel, label, legend, sheet, table_pic
 from reference import (  # noqa: E402
     DOWNWARD, K_BUMP, LETTERS, PIECES, all_degrees, by_piece, degrees, ends, looks_like, microvolts, off, readings, span, verdict)
 
-# Values of the types, degrees and millivolts to the microvolt, as remembered of the tables of IEC 60584-1 and NIST Monograph 175. No copy of
-# either was at hand, for these or for the coefficients: docs/DECISIONS.md, 'The figures of the types have no source at hand'
+# Values of the types, degrees and millivolts to the microvolt, as remembered of the tables of IEC 60584-1 and NIST Monograph 175. No copy
+# of either was at hand, for these or for the coefficients: docs/DECISIONS.md, 'The figures of the types have no source at hand'
 REMEMBERED = {
     "B": """0 0.000  20 -0.003  50 0.002  100 0.033  150 0.092  200 0.178  250 0.291  300 0.431  400 0.787  500 1.242  600 1.792  700 2.431
         800 3.154  900 3.957  1000 4.834  1100 5.780  1200 6.786  1300 7.848  1400 8.956  1500 10.099  1600 11.263  1700 12.433  1800 13.591
@@ -205,7 +205,8 @@ def paper_faults():
 
 def check():
     tables, files = made()
-    wrong = [*(fault for letter in LETTERS for fault in reference_faults(letter)), *(fault for table in tables.values() for fault in table_faults(table)),
+    wrong = [*(fault for letter in LETTERS for fault in reference_faults(letter)),
+             *(fault for table in tables.values() for fault in table_faults(table)),
              *mishap_faults(tables["K"]), *paper_faults()]
     for name, data in files.items():
         path = ROOT / name
@@ -216,7 +217,8 @@ def check():
     if wrong:
         sys.exit("\n".join(f"tests/tables.py: {line}" for line in wrong))
     values = sum(len(remembered(letter)) for letter in LETTERS)
-    print(f"tables: eight tables and two pictures are what the script makes; {values} remembered values hold, not compared with a copy of the standard")
+    print(f"tables: eight tables and two pictures are what the script makes; {values} remembered values hold, not compared with a copy of "
+          "the standard")
 
 
 def slipped(number):
@@ -230,7 +232,7 @@ def slipped(number):
 
 def slips():
     for letter in LETTERS:
-        degrees_tried = [t for first, last, _ in PIECES[letter] for t in (first + (last - first) * i / 20 for i in range(20))] + [ends(letter)[1]]
+        degrees_tried = [first + (last - first) * i / 20 for first, last, _ in PIECES[letter] for i in range(20)] + [ends(letter)[1]]
         true = [microvolts(letter, t) for t in degrees_tried]
         tried = missed = 0
         most = 0.0

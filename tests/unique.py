@@ -176,7 +176,8 @@ def main():
                     if told_by_units(fact, facts):
                         continue
                     pairs += 1
-                    found = [t[0] for t in own for side in sides(t[2]) if bind(as_list(side[0] if len(side) == 1 else side), as_list(right), t[1], {})]
+                    found = [t[0] for t in own for side in sides(t[2])
+                             if bind(as_list(side[0] if len(side) == 1 else side), as_list(right), t[1], {})]
                     if "list" in sys.argv:
                         print(crate.name, name, "|", fact.replace("\n", " "), "|", ", ".join(found))
                     if not found:

@@ -6,8 +6,8 @@
     python3 tests/vectors_held.py check        whether both files are what the script prints
 
 The interruptions in the first half are written from document 02 (xi), over the loader of vectors_run.py and the device of
-vectors_model.py; they share no text with the crates, whose definitions were known. Every good run is held to a count worked out beside it: the formula of a load and, for
-each poll that is interrupted, k + 3 + max(1, S - 1) cycles, or k + 3 at the erase's last poll.
+vectors_model.py; they share no text with the crates, whose definitions were known. Every good run is held to a count worked out beside
+it: the formula of a load and, for each poll that is interrupted, k + 3 + max(1, S - 1) cycles, or k + 3 at the erase's last poll.
 
 A line of a run (R) or of a load alone (O) shows: group and number; the end; the cycles made; the end's address; the status register, mode
 and phase that are left; digests of what was lent of the array, of scratch and of the room; the erases begun by block, before and after. A

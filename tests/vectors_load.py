@@ -201,7 +201,8 @@ def run_refused(t):
         bar(f"4 RP {rp} VPP {vpp}", 4, about=about, rp=rp, vpp=vpp)
     for block, about in ((4, bad), (255, none)):
         bar(f"10 block {block}", 10, about=about, block=block)
-    for wanted, scratch, about in ((511, 512, bad), (513, 512, none), (512, 511, bad), (512, 0, good), (0, 512, none), (1024, 1024, {"size": 900})):
+    for wanted, scratch, about in ((511, 512, bad), (513, 512, none), (512, 511, bad), (512, 0, good), (0, 512, none),
+                                   (1024, 1024, {"size": 900})):
         bar(f"11 lent {wanted} {scratch}", 11, about=about, lent=(None, wanted, scratch))
     bar("12 confirm awaited", 12, about=bad, state=State("S", 0x80, "C", 0, 0, 0))
     bar("12 data awaited", 12, about=none, state=State("S", 0xB8, "D", 0, 0, 0))

@@ -421,7 +421,8 @@ def any_way(b):  # R-recording-2, R-recording-3
             levels = {"rp": rng.choice((1, 1, 1, 2)), "oe": 0, "wp": rng.choice((0, 1)), "vpp": rng.choice((12000, 12000, 11400, 12600))}
             kind = rng.choice("RWWWI")
             data = rng.choice((0x20, 0xD0, 0xD0, 0x40, 0x5A, 0xFF, 0x70, 0xB0, 0x50)) | (rng.randrange(256) << 8 if word else 0)
-            cycles.append(Cycle(kind, levels["rp"], levels["oe"], levels["vpp"], rng.choice(units), data if kind == "W" else 0, levels["wp"]))
+            carried = data if kind == "W" else 0
+            cycles.append(Cycle(kind, levels["rp"], levels["oe"], levels["vpp"], rng.choice(units), carried, levels["wp"]))
         records, state, left = recorded(d, FRESH, b.array, cycles, [rng.randrange(1, 6) for _ in cycles])
         records = [(c, heard if heard[0] != "X" else ("N", 0), busy) for c, heard, busy in records]
         b.promise(left)

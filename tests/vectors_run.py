@@ -10,8 +10,9 @@ is the model of vectors_model.py. Both share nothing with the crates. The second
 
 A line of a run (R), of a load alone (O) or of a verify alone (V) shows: group and number; the end; the cycles made; the end's address;
 the status register, mode and phase that are left; digests of what was lent of the array and of scratch; the erases begun by block, for
-each of seven, before and after. A line of a step shows what the loader gave: a cycle (its kind, RP#, WP#, VPP, address, data), an end (E, its number and address) or a refusal (X); and a digest of
-scratch. Addresses of cycles count units; the address of an end is that of a byte.
+each of seven, before and after. A line of a step shows what the loader gave: a cycle (its kind, RP#, WP#, VPP, address, data), an end
+(E, its number and address) or a refusal (X); and a digest of scratch. Addresses of cycles count units; the address of an end is that of
+a byte.
 """
 from collections import namedtuple
 
@@ -474,7 +475,8 @@ def refusals(b):  # R-order-2, R-number-1 to R-number-4, R-number-10 to R-number
         b.use(3, 2, 3, 16384, wanted, scratch)
         b.run("11", (11, 0))
     b.fit(3, 1)
-    for mode, status, phase, left, address in (("S", 0x80, "C", 0, 0), ("S", 0x80, "D", 0, 0), ("S", 0x00, "P", 1, 16), ("S", 0x00, "E", 3, 16), ("A", 0xC0, "S", 2, 16)):
+    for mode, status, phase, left, address in (
+            ("S", 0x80, "C", 0, 0), ("S", 0x80, "D", 0, 0), ("S", 0x00, "P", 1, 16), ("S", 0x00, "E", 3, 16), ("A", 0xC0, "S", 2, 16)):
         b.put(mode, status, phase, left, address)
         b.run("12", (12, 0))
     b.use(3, 2, 3, 16384, 512, 512, 100)

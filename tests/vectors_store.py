@@ -304,7 +304,8 @@ class Bench(vectors_run.Bench):
         self.array[:a], self.wanted[:w], self.scratch[:k] = array, memory, scratch
         s, sums = self.state, f"{digest(array):04X} {digest(memory):04X} {digest(scratch):04X}"
         self.row(f"{op} {letter:02X}", note)
-        self.say(f"{op} {end:03d} {count:010d} {address:08X} {s.status:02X} {s.mode} {s.phase} {sums} {tally(had)} > {tally(s.wear)} : {self.finds(array)}")
+        self.say(f"{op} {end:03d} {count:010d} {address:08X} {s.status:02X} {s.mode} {s.phase} {sums} {tally(had)} > {tally(s.wear)} : "
+                 f"{self.finds(array)}")
 
     def add(self, letter, note, end=0):
         self.changed("I", letter, bytes(self.file[: self.used]), note, end)
@@ -920,7 +921,8 @@ def many(b):
                 assert found(b.device, b.array[: b.lent[0]], ord(other)) == wanted
 
 
-PARTS = (empty, single, full, dead, improper, border, replaced, slides, runs, refused, read_refused, ends, worn, long_block, rooms, readings, many)
+PARTS = (empty, single, full, dead, improper, border, replaced, slides, runs, refused, read_refused, ends, worn, long_block, rooms,
+         readings, many)
 
 
 def all_cases():

@@ -45,7 +45,8 @@ void count_held(void) { all_helds++; }
 void count_held_step(void) { all_held_steps++; }
 
 static void counts(void) {
-    printf("%llu blocks of parts, %llu cycles, %llu by the table, %llu loads, %llu files, %llu steps, %llu readings, %llu reports, %llu recordings, %llu calls on stores",
+    printf("%llu blocks of parts, %llu cycles, %llu by the table, %llu loads, %llu files, %llu steps, %llu readings, %llu reports, "
+           "%llu recordings, %llu calls on stores",
            (unsigned long long)all_blocks, (unsigned long long)all_cycles, (unsigned long long)all_table_cycles,
            (unsigned long long)all_loads, (unsigned long long)all_files, (unsigned long long)all_steps, (unsigned long long)all_readings,
            (unsigned long long)all_reports, (unsigned long long)all_recordings, (unsigned long long)all_stores);

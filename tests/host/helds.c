@@ -57,7 +57,8 @@ static bool same_held(tb_held a, tb_held b) {
            a.loader.block == b.loader.block && a.loader.stage == b.loader.stage && a.loader.end == b.loader.end &&
            a.loader.verify == b.loader.verify && a.loader.high == b.loader.high && a.loader.vpp_mv == b.loader.vpp_mv &&
            a.loader.polls == b.loader.polls && a.loader.place == b.loader.place && a.hold.step == b.hold.step &&
-           a.hold.suspended == b.hold.suspended && a.hold.number == b.hold.number && a.hold.waits == b.hold.waits && a.hold.place == b.hold.place;
+           a.hold.suspended == b.hold.suspended && a.hold.number == b.hold.number && a.hold.waits == b.hold.waits &&
+           a.hold.place == b.hold.place;
 }
 
 /* A unit address outside the block, or now and then anywhere. (R-held-3) */
@@ -282,9 +283,11 @@ static void forged(void) {
     lib_held = (tb_held){.loader = {.part = device.number, .word = device.word, .rp = rp, .wp = wp, .block = block,
                                     .stage = (uint8_t)(chance(80) ? TB_ERASE_WAITING : below(13)), .verify = (uint8_t)below(2),
                                     .vpp_mv = vpp, .polls = chance(90) ? below(3) : ONE_OF(65534, 65535)},
-                         .hold = {.step = (uint8_t)(chance(95) ? below(7) : ONE_OF(7, 255)), .suspended = (uint8_t)(chance(95) ? below(2) : 2),
+                         .hold = {.step = (uint8_t)(chance(95) ? below(7) : ONE_OF(7, 255)),
+                                  .suspended = (uint8_t)(chance(95) ? below(2) : 2),
                                   .number = chance(80) ? below(8) : ONE_OF(4294967294u, 4294967295u),
-                                  .waits = chance(85) ? below(3) : ONE_OF(65533, 65534, 65535), .place = chance(90) ? below(6) : below(5000)}};
+                                  .waits = chance(85) ? below(3) : ONE_OF(65533, 65534, 65535),
+                                  .place = chance(90) ? below(6) : below(5000)}};
     if (lib_held.loader.stage == TB_ENDED)
         lib_held.loader.end = (uint8_t)below(26);
     ref_held = lib_held;

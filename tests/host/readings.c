@@ -46,7 +46,8 @@ static void compare_file(void) {
 }
 
 static void put_knot(size_t i, int32_t microvolts, int32_t tenths) {
-    const uint8_t six[] = {(uint8_t)((uint32_t)microvolts >> 24), (uint8_t)((uint32_t)microvolts >> 16), (uint8_t)((uint32_t)microvolts >> 8),
+    const uint8_t six[] = {(uint8_t)((uint32_t)microvolts >> 24), (uint8_t)((uint32_t)microvolts >> 16),
+                           (uint8_t)((uint32_t)microvolts >> 8),
                            (uint8_t)microvolts, (uint8_t)((uint32_t)tenths >> 8), (uint8_t)tenths};
     twin_copy(&payload, 6 * i, six, 6);
 }

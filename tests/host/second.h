@@ -55,9 +55,11 @@ tb_sized c_file_read(uint8_t letter, const uint8_t *file, size_t, uint8_t *paylo
 uint16_t c_block_check(const uint8_t *block, size_t);
 uint8_t c_table_judge(const uint8_t *payload, size_t);
 tb_reading c_table_reading(const uint8_t *payload, size_t, int32_t microvolts);
-tb_reading c_file_reading(uint8_t letter, const uint8_t *file, size_t, uint8_t *room, size_t, int32_t microvolts);
+tb_reading c_file_reading(uint8_t letter, const uint8_t *file, size_t, uint8_t *room, size_t,
+                        int32_t microvolts);
 tb_sized c_store_find(uint8_t part, uint8_t word, uint8_t letter, const uint8_t *array, size_t, uint8_t *room, size_t);
-tb_reading c_store_read(uint8_t part, uint8_t word, uint8_t letter, const uint8_t *array, size_t, uint8_t *room, size_t, int32_t microvolts);
+tb_reading c_store_read(uint8_t part, uint8_t word, uint8_t letter, const uint8_t *array, size_t, uint8_t *room, size_t,
+                        int32_t microvolts);
 tb_ran c_store_drop(tb_device, tb_state, uint8_t rp, uint8_t wp, uint32_t vpp, uint8_t letter, uint8_t *array, size_t, uint8_t *memory,
                     size_t, uint8_t *scratch, size_t);
 tb_ran c_store_add(tb_device, tb_state, uint8_t rp, uint8_t wp, uint32_t vpp, uint8_t letter, const uint8_t *file, size_t, uint8_t *array,

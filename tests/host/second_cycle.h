@@ -1,6 +1,6 @@
-/* The second implementation: proper states, and a bus cycle that refusals 1 to 6 let pass. The check of a recording and an interrupted erase
- * make their cycles by it too, so it stands here, where the compiler can lay it into its callers. Addresses of cycles and states count
- * units. What is commonest is tested first, and a state is worked on where it stands. */
+/* The second implementation: proper states, and a bus cycle that refusals 1 to 6 let pass. The check of a recording and an interrupted
+ * erase make their cycles by it too, so it stands here, where the compiler can lay it into its callers. Addresses of cycles and states
+ * count units. What is commonest is tested first, and a state is worked on where it stands. */
 #ifndef SECOND_CYCLE_H
 #define SECOND_CYCLE_H
 

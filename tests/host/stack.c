@@ -80,7 +80,9 @@ static void held_load(void) {
     state = tb_held_load(device, fresh, 1, 0, 12000, 1, 1, 'K', file, 512, array, size, wanted, block, scratch, block, polls, 2, addresses,
                          2, room, sizeof room).state;
 }
-static void recording(void) { state = tb_recording(device, fresh, records, sizeof records / sizeof records[0], promised, size, array, size).state; }
+static void recording(void) {
+    state = tb_recording(device, fresh, records, sizeof records / sizeof records[0], promised, size, array, size).state;
+}
 static void write(void) { byte = tb_file_write('K', payload, sizeof payload, file, sizeof file).number; }
 static void write_short(void) { byte = tb_file_write('K', payload, 100, file, sizeof file).number; }
 static void read(void) { byte = tb_file_read('K', file, sizeof file, payload, sizeof payload).number; }
@@ -101,7 +103,8 @@ static void wear_report(void) {
     report = tb_wear_report(3, numbers, sizeof numbers, counts, sizeof counts / sizeof counts[0]).report;
 }
 static void store_add(void) {
-    state = tb_store_add(device, fresh, 1, 0, 12000, 'K', file, 512, array, size, memory, sizeof memory, main_scratch, sizeof main_scratch).state;
+    state = tb_store_add(device, fresh, 1, 0, 12000, 'K', file, 512, array, size, memory, sizeof memory, main_scratch,
+                         sizeof main_scratch).state;
 }
 static void store_drop(void) {
     state = tb_store_drop(device, fresh, 1, 0, 12000, 'K', array, size, memory, sizeof memory, main_scratch, sizeof main_scratch).state;
@@ -183,7 +186,8 @@ static void steps_of_a_held_load(void) {
 static void recorded(void) {
     static const uint8_t writes[] = {0x20, 0xD0, 0xB0, 0, 0xD0, 0, 0x40, 0x5A, 0, 0xFF, 0, 0x70};
     for (size_t i = 0; i < sizeof writes; i++)
-        records[i] = (tb_record){{writes[i] == 0 ? TB_CYCLE_IDLE : TB_CYCLE_WRITE, TB_RP_HIGH, 0, 0, writes[i], 12000, 0x10}, TB_NO_DATA, 0, 1};
+        records[i] = (tb_record){{writes[i] == 0 ? TB_CYCLE_IDLE : TB_CYCLE_WRITE, TB_RP_HIGH, 0, 0, writes[i], 12000, 0x10},
+                                 TB_NO_DATA, 0, 1};
     records[1].busy = 2;
     records[10] = (tb_record){{TB_CYCLE_READ, TB_RP_HIGH, 0, 0, 0, 12000, 0x10}, TB_DATA, device.word ? 0x005A : 0x5A, 0};
 }

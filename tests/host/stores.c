@@ -30,7 +30,8 @@ static void tell(void) {
            room.length);
     tell_ran("the library", lib);
     tell_ran("expected", ref);
-    printf("  the library: find %u, %zu bytes; reading %u, %u\n", lib_sized.number, lib_sized.length, lib_reading.answer, lib_reading.number);
+    printf("  the library: find %u, %zu bytes; reading %u, %u\n", lib_sized.number, lib_sized.length, lib_reading.answer,
+           lib_reading.number);
     printf("  expected: find %u, %zu bytes; reading %u, %u\n", ref_sized.number, ref_sized.length, ref_reading.answer, ref_reading.number);
 }
 
@@ -242,7 +243,8 @@ void stores(uint32_t n) {
     for (uint32_t i = 0; i < n; i++) {
         uint8_t part = stored_part();
         tb_span b = c_block(part, MAIN);
-        device = (tb_device){part, two_widths(part) && chance(50), (uint16_t)(1 + below(2)), (uint16_t)(1 + below(4)), (uint8_t)(1 + below(100))};
+        device = (tb_device){part, two_widths(part) && chance(50), (uint16_t)(1 + below(2)), (uint16_t)(1 + below(4)),
+                             (uint8_t)(1 + below(100))};
         array.length = c_size(part);
         memory.length = scratch.length = b.length;
         some_store(b);
