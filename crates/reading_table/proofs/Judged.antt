@@ -15,7 +15,7 @@ use Rattle.common.proofs.Choice.{or-left, or-right, or-both}
 use Rattle.common.proofs.Numbers.{given-no-row, no-row-given, no-head, no-tail}
 use Rattle.reading_table.specs.Table.{knots, voltsOf, inRange, risesTo, shapeWrong, risingOf, tableRows, tableNumber}
 use Rattle.reading_table.proofs.Order.{lt-le}
-use Rattle.reading_table.proofs.Knots.{Rising, rising-says, rising-if, is, both}
+use Rattle.reading_table.proofs.Knots.{Rising, rising-says, rising-if, is, and-holds}
 
 module _ (p : List ℕ) where
   -- 40 does not apply: whole knots, two or more
@@ -59,8 +59,8 @@ module _ (p : List ℕ) where
   pub rises-says : (i j : ℕ) → risesTo p i j ≡ true → T (inRange (voltsOf p i)) × T (inRange (voltsOf p j)) × T (ltZ (voltsOf p i) (voltsOf p j))
   unfolding risesTo
   rises-says i j e =
-      let a = both (inRange (voltsOf p i)) (inRange (voltsOf p j) && ltZ (voltsOf p i) (voltsOf p j)) e in
-      let b = both (inRange (voltsOf p j)) (ltZ (voltsOf p i) (voltsOf p j)) (is (inRange (voltsOf p j) && ltZ (voltsOf p i) (voltsOf p j)) (a .1)) in
+      let a = and-holds (inRange (voltsOf p i)) (inRange (voltsOf p j) && ltZ (voltsOf p i) (voltsOf p j)) e in
+      let b = and-holds (inRange (voltsOf p j)) (ltZ (voltsOf p i) (voltsOf p j)) (is (inRange (voltsOf p j) && ltZ (voltsOf p i) (voltsOf p j)) (a .1)) in
       (a .0, b .0, b .1)
 
   -- so do any two of a table

@@ -23,9 +23,9 @@ pub is : (b : Bool) → T b → b ≡ true
 is true t = refl
 is false t = absurd t
 
-pub both : (a b : Bool) → (a && b) ≡ true → T a × T b
-both true b e = (tt, yes e)
-both false b e = absurd (clash e)
+pub and-holds : (a b : Bool) → (a && b) ≡ true → T a × T b
+and-holds true b e = (tt, yes e)
+and-holds false b e = absurd (clash e)
   where
     clash : false ≡ true → ⊥
     clash e = let z : _≡_ {A = ℕ} 0 1 = cc in omega (arith, z)
@@ -38,7 +38,7 @@ good-from zero i p e j l m = let z : _≡_ {A = ℕ} 0 1 = omega (arith, l, m) i
     clash : _≡_ {A = ℕ} 0 1 → ⊥
     clash z = omega (arith, z)
 good-from (suc k) i p e j l m =
-    let g = both (goodAt p i) (risingFrom k (i + 1) p) e in
+    let g = and-holds (goodAt p i) (risingFrom k (i + 1) p) e in
     ⊎-elim
     (λ (q : i ≡ j). subst (λ (z : ℕ). goodAt p z ≡ true) q (is (goodAt p i) (g .0)))
     (λ (q : i < j). good-from k (i + 1) p (is (risingFrom k (i + 1) p) (g .1)) j (omega (arith, q)) (omega (arith, m))) (eq-or-lt-of-le l)
@@ -58,7 +58,7 @@ range-of p i e = go (eqb i 0) e
   where
     go : (t : Bool) → (if t then inRange (voltsOf p i) else (inRange (voltsOf p i) && ltZ (voltsOf p (i - 1)) (voltsOf p i))) ≡ true → T (inRange (voltsOf p i))
     go true e = yes e
-    go false e = both (inRange (voltsOf p i)) (ltZ (voltsOf p (i - 1)) (voltsOf p i)) e .0
+    go false e = and-holds (inRange (voltsOf p i)) (ltZ (voltsOf p (i - 1)) (voltsOf p i)) e .0
 
 rise-of : (p : List ℕ) (i : ℕ) → goodAt p (i + 1) ≡ true → T (ltZ (voltsOf p i) (voltsOf p (i + 1)))
 unfolding goodAt
@@ -66,7 +66,7 @@ rise-of p i e =
     let n : i + 1 ≡ 0 → ⊥ = (λ q. omega (arith, q)) in
     let g : (inRange (voltsOf p (i + 1)) && ltZ (voltsOf p (i + 1 - 1)) (voltsOf p (i + 1))) ≡ true = subst (λ (t : Bool). (if t then inRange (voltsOf p (i + 1)) else (inRange (voltsOf p (i + 1)) && ltZ (voltsOf p (i + 1 - 1)) (voltsOf p (i + 1)))) ≡ true) (ne-eqb (i + 1) 0 n) e in
     let z : i + 1 - 1 ≡ i = omega arith in
-    subst (λ (m : ℕ). T (ltZ (voltsOf p m) (voltsOf p (i + 1)))) z (both (inRange (voltsOf p (i + 1))) (ltZ (voltsOf p (i + 1 - 1)) (voltsOf p (i + 1))) g .1)
+    subst (λ (m : ℕ). T (ltZ (voltsOf p m) (voltsOf p (i + 1)))) z (and-holds (inRange (voltsOf p (i + 1))) (ltZ (voltsOf p (i + 1 - 1)) (voltsOf p (i + 1))) g .1)
 
 unfoldable pub Rising : List ℕ → Type 0
 Rising p = ((i : ℕ) → i < knots p → T (inRange (voltsOf p i))) × ((i : ℕ) → i + 1 < knots p → T (ltZ (voltsOf p i) (voltsOf p (i + 1))))
@@ -95,15 +95,15 @@ range-size (negsuc n) a b = let l = leb→le n 9999 a in omega (arith, l)
 
 pub range-low : (v : ℤ) → T (inRange v) → T (leZ (negsuc 9999) v)
 unfolding inRange
-range-low v h = both (leZ (negsuc 9999) v) (leZ v (pos 80000)) (is (inRange v) h) .0
+range-low v h = and-holds (leZ (negsuc 9999) v) (leZ v (pos 80000)) (is (inRange v) h) .0
 
 pub range-high : (v : ℤ) → T (inRange v) → T (leZ v (pos 80000))
 unfolding inRange
-range-high v h = both (leZ (negsuc 9999) v) (leZ v (pos 80000)) (is (inRange v) h) .1
+range-high v h = and-holds (leZ (negsuc 9999) v) (leZ v (pos 80000)) (is (inRange v) h) .1
 
 pub in-range-size : (v : ℤ) → T (inRange v) → natAbs v ≤ 80000
 unfolding inRange
-in-range-size v h = let b = both (leZ (negsuc 9999) v) (leZ v (pos 80000)) (is (inRange v) h) in range-size v (b .0) (b .1)
+in-range-size v h = let b = and-holds (leZ (negsuc 9999) v) (leZ v (pos 80000)) (is (inRange v) h) in range-size v (b .0) (b .1)
 
 small : (u : ℕ) → natAbs (signed16 u) ≤ 32768
 unfolding signed16

@@ -34,8 +34,8 @@ pub not-true : (a : Bool) → not a ≡ true → a ≡ false
 not-true true h = sym h
 not-true false h = refl
 
-pub both : (a b : Bool) → a ≡ false → b ≡ true → (not a && b) ≡ true
-both a b x y = simp (x, y)
+pub not-and-true : (a b : Bool) → a ≡ false → b ≡ true → (not a && b) ≡ true
+not-and-true a b x y = simp (x, y)
 
 pub flip : (a b : ℕ) → eqb a b ≡ false → eqb b a ≡ false
 flip a b e = ne-eqb b a (λ (q : b ≡ a). eqb-false a b e (sym q))
@@ -147,7 +147,7 @@ without-proper ℓ (filed m f ∷ is) h = go (eqb m ℓ) refl (without-proper �
     go true q r = ap (λ (x : List Item). properIn (x ++ without ℓ is)) (kept-true ℓ m f q) ∙ dead-proper f (without ℓ is) ∙ r
     go false q r =
         ap (λ (x : List Item). properIn (x ++ without ℓ is)) (kept-false ℓ m f q)
-        ∙ both (hasIn m (without ℓ is)) (properIn (without ℓ is))
+        ∙ not-and-true (hasIn m (without ℓ is)) (properIn (without ℓ is))
         (without-other ℓ m is (flip m ℓ q) ∙ not-true (hasIn m is) (and-l (not (hasIn m is)) (properIn is) h)) r
 without-proper ℓ (junk p ∷ is) h = h
 
@@ -240,7 +240,7 @@ laid-filed ℓ f k g is js n o =
       find = λ (m : ℕ). ap (λ (x : List (List ℕ)). (if eqb k m then g else x)) (o .find m) ∙ sided m (eqb k m) refl (eqb ℓ m) refl;
       live = (let e = o .live in omega arith);
       proper = λ (h : properIn (filed k g ∷ is) ≡ true).
-          both (hasIn k js) (properIn js)
+          not-and-true (hasIn k js) (properIn js)
           (o .has k ∙ ap (λ (x : Bool). x || hasIn k is) (flip k ℓ n) ∙ not-true (hasIn k is) (and-l (not (hasIn k is)) (properIn is) h))
           (o .proper (and-r (not (hasIn k is)) (properIn is) h));
       good = λ (fault : Judgement) (h : Good fault (filed k g ∷ is)) (r : Right fault (filed ℓ f)). (h .0, o .good fault (h .1) r);
@@ -271,7 +271,7 @@ laid ℓ f (i ∷ is) n h = go (blankRun (length f) (i ∷ is)) refl (laid ℓ f
           has = λ (m : ℕ). ap (λ (x : Bool). eqb ℓ m || x) (o .has m);
           find = λ (m : ℕ). ap (λ (x : List (List ℕ)). (if eqb ℓ m then f else x)) (o .find m);
           live = (let e = o .live in omega arith);
-          proper = λ (p : properIn (i ∷ is) ≡ true). both (hasIn ℓ D) (properIn D) (o .has ℓ ∙ n) (o .proper ∙ p);
+          proper = λ (p : properIn (i ∷ is) ≡ true). not-and-true (hasIn ℓ D) (properIn D) (o .has ℓ ∙ n) (o .proper ∙ p);
           good = λ (fault : Judgement) (g : Good fault (i ∷ is)) (s : Right fault (filed ℓ f)). (s, o .good fault g);
         } in
         subst (λ (x : List Item). Laid ℓ f (i ∷ is) x) (sym (if-true (blankRun (length f) (i ∷ is)) (filed ℓ f ∷ D) (i ∷ laidIn ℓ f is) q)) w
@@ -299,7 +299,7 @@ slid ℓ f k [] n =
       has = λ (m : ℕ). ap (λ (x : Bool). eqb ℓ m || x) (frees k m .0);
       find = λ (m : ℕ). ap (λ (x : List (List ℕ)). (if eqb ℓ m then f else x)) (frees k m .1);
       live = (let e = frees k 0 .2 in omega arith);
-      proper = λ (h : true ≡ true). both (hasIn ℓ (replicate k blank)) (properIn (replicate k blank)) (frees k ℓ .0) (frees k ℓ .3);
+      proper = λ (h : true ≡ true). not-and-true (hasIn ℓ (replicate k blank)) (properIn (replicate k blank)) (frees k ℓ .0) (frees k ℓ .3);
       good = λ (fault : Judgement) (g : Unit {0}) (r : Right fault (filed ℓ f)). (r, frees-good fault k);
     }
 slid ℓ f k (blank ∷ is) n =
