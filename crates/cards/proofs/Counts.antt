@@ -22,7 +22,7 @@ use Rattle.loader_run_claims.specs.Wear.{differing, heldIn, formula, loadFormul
 use Rattle.loader_run_claims.specs.Ends.{erasedFrom}
 use Rattle.loader_run_claims.specs.Mission.{Start}
 use Rattle.loader_run_claims.proofs.Starts.{taken-if}
-use Rattle.loader_run_claims.proofs.Same.{none-risen, none-differing}
+use Rattle.loader_run_claims.proofs.SameBlock.{none-risen, none-differing}
 use Rattle.loader_run_claims.proofs.Mission as mission
 use Rattle.cards.specs.Table.{deviceT, normal, same, Counts, Card10, Card11, LoadCounts, Loads}
 

@@ -9,7 +9,7 @@ use Rattle.device.specs.Parts.{rowOf, inWords, shapeOf, sizeIn, lengthIn
 use Rattle.device.specs.declared.Part.{Part}
 use Rattle.device.proofs.Cover.{covered, alone, ends-inside}
 use Rattle.device.proofs.Place.{named, sole, fits, size-some}
-use Rattle.device.proofs.Twice.{inBytes, wordWide, size-twice, block-length-twice}
+use Rattle.device.proofs.TwoWidths.{inBytes, wordWide, size-twice, block-length-twice}
 
 -- For any list of lengths: every place is in the block named for it, in no other, and every block ends inside.
 pub lists-cover : (ls : List ℕ) (p : ℕ) → p < unitsOfAll ls → Lies ls (holder ls p) p

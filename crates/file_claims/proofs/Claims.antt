@@ -21,7 +21,7 @@ use Rattle.file_claims.proofs.Damage.{damaged, wsum-set}
 use Rattle.file_claims.specs.Tabled.{Ordered}
 use Rattle.file_claims.specs.Before.{readerBefore, toldBefore}
 use Rattle.file_claims.specs.Roomy.{ReadsInto, WritesGivenRoom}
-use Rattle.file_claims.proofs.Given as given
+use Rattle.file_claims.proofs.OwnAnswers as own-answers
 use Rattle.file_claims.proofs.Raised as raised
 use Rattle.file_claims.proofs.Blank as blank
 use Rattle.file_claims.proofs.Order as order
@@ -66,7 +66,7 @@ blocks-are = (refl, refl, refl)
 -- Given room, on the functions' own answers at the limit: bytes f are read for a letter into `out`, with p's length as the answer and
 -- p left at the front, exactly when p has room there and the writer, given room, makes f of p under that letter.
 pub given-room : (f : List ℕ) (ℓ : ℕ) (out p : List ℕ) → Bytes f → ReadsInto f ℓ out p ↔ ((length p ≤ length out) × WritesGivenRoom ℓ p f)
-given-room = given.given-room
+given-room = own-answers.given-room
 
 -- a file written under one letter is refused 35 for every other byte that is asked
 pub other-letter : (most ℓ : ℕ) (p f : List ℕ) → writerOf most ℓ p ≡ made f → (asked : ℕ) → (ℓ ≡ asked → ⊥) → readerOf most f asked ≡ refused 35

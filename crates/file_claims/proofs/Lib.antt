@@ -2,7 +2,7 @@ pub mod Bytes
 pub mod Written
 pub mod Reading
 pub mod Damage
-pub mod Given
+pub mod OwnAnswers
 pub mod Order
 pub mod Raised
 pub mod Blank

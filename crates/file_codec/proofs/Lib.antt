@@ -3,6 +3,6 @@ pub mod Tables
 pub mod Told
 pub mod Sizes
 pub mod Outcomes
-pub mod Parts
+pub mod SliceParts
 pub mod Answers
 pub mod Unique

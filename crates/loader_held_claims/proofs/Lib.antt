@@ -3,10 +3,10 @@ pub mod HeldReaching
 pub mod Interrupting
 pub mod ErasePolling
 pub mod Lifting
-pub mod Ways
+pub mod QuietTurns
 pub mod Quiet
-pub mod Whole
+pub mod FromErase
 pub mod Rooms
 pub mod Starting
-pub mod Tried
-pub mod Every
+pub mod EraseTried
+pub mod EveryEnd

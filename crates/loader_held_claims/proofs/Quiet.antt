@@ -24,7 +24,7 @@ use Rattle.loader_run.proofs.Turning.{turn-ended, turn-going}
 use Rattle.loader_run_claims.specs.Made.{madeIn, readsThen, openingThen}
 use Rattle.loader_held_claims.specs.HeldMade.{pollsErase}
 use Rattle.loader_held_claims.proofs.Lifting.{quietIn}
-use Rattle.loader_held_claims.proofs.Ways.{late, late-next, onward-late}
+use Rattle.loader_held_claims.proofs.QuietTurns.{late, late-next, onward-late}
 
 -- the stages outside an erase
 abbrev pub outside : Stage → Bool

@@ -35,7 +35,7 @@ use Rattle.loader_run_claims.specs.Mission.{Taken}
 use Rattle.loader_run_claims.proofs.Answers.{Up}
 use Rattle.loader_run_claims.proofs.Reaching as old
 use Rattle.loader_run_claims.proofs.Reaching.{Reach}
-use Rattle.loader_run_claims.proofs.Layers.{cells-held}
+use Rattle.loader_run_claims.proofs.LoadLists.{cells-held}
 use Rattle.loader_run_claims.proofs.Starts.{none-refuses}
 use Rattle.loader_run_claims.proofs.Grounds as grounds
 use Rattle.loader_run_claims.proofs.Phases as phases
@@ -43,7 +43,7 @@ use Rattle.loader_held.specs.Holds.{usual}
 use Rattle.loader_held_run.specs.HeldTurns.{HeldConfig, beside}
 use Rattle.loader_held_claims.specs.HeldMade.{HeldReach}
 use Rattle.loader_held_claims.proofs.Lifting.{quietIn, lift-then}
-use Rattle.loader_held_claims.proofs.Ways.{late, way, after-load, quiet-after, quiet-before}
+use Rattle.loader_held_claims.proofs.QuietTurns.{late, way, after-load, quiet-after, quiet-before}
 use Rattle.loader_held_claims.proofs.Quiet.{noAsk, quiet-made, quiet-on, opening-none}
 
 reads-append : (p : Pins) (n a i : ℕ) (cs : List Cycle) → readsThen p n a i [] ++ cs ≡ readsThen p n a i cs

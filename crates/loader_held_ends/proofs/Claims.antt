@@ -36,7 +36,7 @@ use Rattle.loader_held_ends.proofs.HeldGrounds as grounds
 use Rattle.loader_held_ends.proofs.HeldLists as lists
 use Rattle.loader_held_ends.proofs.HeldMission as mission
 use Rattle.loader_held_ends.proofs.HeldLent as lending
-use Rattle.loader_held_ends.proofs.HeldOwn as own
+use Rattle.loader_held_ends.proofs.HeldHistory as own
 use Rattle.loader_held_ends.proofs.HeldStepping as stepping
 use Rattle.loader_held_ends.proofs.Addresses as addresses
 use Rattle.loader_held_ends.proofs.Readings as readings

@@ -22,7 +22,7 @@ use Rattle.loader_held_run.proofs.HeldTurning.{turn-ended, turn-going}
 use Rattle.loader_held_run.proofs.HeldEnding.{always-ends, end-only}
 use Rattle.loader_held_claims.specs.HeldMade.{HeldReach, Elsewhere, heldBegunTurn, heldBegun, heldMade, heldSmoothTurn, heldSmooth}
 use Rattle.loader_held_claims.specs.HeldEnds.{HeldEnds}
-use Rattle.loader_held_claims.proofs.Every as every
+use Rattle.loader_held_claims.proofs.EveryEnd as every
 use Rattle.loader_held_ends.specs.HeldMission.{HeldWhole}
 
 module _ (d : Device) (w bs ps : List ℕ) where

@@ -27,7 +27,7 @@ use Rattle.loader_run.specs.Runs.{runLeftAt}
 use Rattle.loader_run_claims.specs.Wear.{heldIn, heldBy, formulaBy}
 use Rattle.loader_run_claims.specs.Ends.{asWanted, shut, endNumber, Whole}
 use Rattle.loader_run_claims.specs.Mission.{Taken, Brings, ownCycles, NoFewer, Demand3}
-use Rattle.loader_run_claims.proofs.Own.{noted-total}
+use Rattle.loader_run_claims.proofs.OwnHistory.{noted-total}
 use Rattle.loader_run_claims.proofs.Total as total
 use Rattle.loader_run_claims.proofs.Mission as mission
 use Rattle.loader_held_run.specs.HeldTurns.{HeldConfig}
@@ -37,7 +37,7 @@ use Rattle.loader_held_claims.specs.HeldEnds.{erases, addedBy, endsTurned, ranM
 use Rattle.loader_held_claims.proofs.Rooms.{added-most}
 use Rattle.loader_held_ends.specs.HeldMission.{heldEnd, heldCycles, ownHeld, HeldWhole, HeldStart, HeldDemand3}
 use Rattle.loader_held_ends.proofs.HeldGrounds.{counts-end, whole}
-use Rattle.loader_held_ends.proofs.HeldOwn as own
+use Rattle.loader_held_ends.proofs.HeldHistory as own
 
 -- where VPP is high and the block not shut, a load ends well
 pub ends-well : (d : Device) (p : Pins) (k : ℕ) (w ys : List ℕ) → vppLow (d .part) p ≡ false → (k ≡ 0 → unlocked (d .part) p 0 ≡ true) → endNumber d p k w ys ≡ 0

@@ -1,5 +1,5 @@
 pub mod HeldGrounds
-pub mod HeldOwn
+pub mod HeldHistory
 pub mod HeldLists
 pub mod HeldMission
 pub mod Addresses

@@ -23,7 +23,7 @@ use Rattle.loader_blocks.specs.Blocks.{readTo}
 use Rattle.loader_run.specs.declared.Ran.{Ran}
 use Rattle.loader_run_claims.specs.Wear.{heldIn, formula, loadFormula}
 use Rattle.loader_run_claims.specs.Ends.{asWanted, endNumber, erasedFrom, wellRan, faultRan, ranAs, bytesAs, scratchAs}
-use Rattle.loader_run_claims.proofs.Same.{same-list, none-ahead, some-ahead}
+use Rattle.loader_run_claims.proofs.SameBlock.{same-list, none-ahead, some-ahead}
 use Rattle.loader_verify_claims.specs.Verified.{unitsRead, byteApart, verifyEnd, verifyAddress, verifyRan}
 use Rattle.loader_verify_claims.proofs.Verifying.{as-wanted}
 use Rattle.loader_quick.specs.Quick.{verdictOf}

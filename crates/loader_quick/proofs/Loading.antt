@@ -26,7 +26,7 @@ use Rattle.loader_blocks.proofs.Laws.{costs-most}
 use Rattle.loader_run.specs.declared.Ran.{Ran}
 use Rattle.loader_run_claims.specs.Wear.{differing, erasesOf, programsIn, formula, loadFormula}
 use Rattle.loader_run_claims.specs.Ends.{asWanted, shut, endNumber, faultStatus, loadedMode, erasedFrom, wellRan, faultRan, ranAs, bytesAs, scratchAs}
-use Rattle.loader_run_claims.proofs.Same.{same-list, none-risen, none-differing, none-ahead, some-ahead, risen-differs}
+use Rattle.loader_run_claims.proofs.SameBlock.{same-list, none-risen, none-differing, none-ahead, some-ahead, risen-differs}
 use Rattle.loader_quick.specs.Quick.{stuckBy, faultEnd, faultBits, lookedAt, triedOf, modeBy, finishedOf, Timed}
 
 -- what the programs cost is a product, and nothing exactly where no unit differs

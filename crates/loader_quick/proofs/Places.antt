@@ -13,7 +13,7 @@ use Rattle.device.specs.Parts.{startOf}
 use Rattle.units.specs.Units.{units, bytesIn}
 use Rattle.units.specs.Address.{byteOf, byteAt}
 use Rattle.units.proofs.Widths.{units-length, whole, leave-law}
-use Rattle.loader_run_claims.proofs.Layers.{over-self}
+use Rattle.loader_run_claims.proofs.LoadLists.{over-self}
 use Rattle.loader_run_claims.proofs.Lent.{held-units}
 use Rattle.loader_blocks.specs.Blocks.{alike}
 use Rattle.loader_blocks.proofs.Lent.{alike-if, units-few}

@@ -22,9 +22,9 @@ use Rattle.model_history.specs.History.{Bus, worldAfter, begunOver, worldOf, bu
 use Rattle.loader_run_claims.specs.Made.{madeIn, cyclesOf, cyclesOfLoad}
 use Rattle.loader_run_claims.specs.Ends.{asWanted, erasedFrom, ranAs, cyclesAs, Whole}
 use Rattle.loader_run_claims.specs.Mission.{Taken, Start, Brings, ownCycles, NoFewer, Demand3}
-use Rattle.loader_run_claims.proofs.Same as same
+use Rattle.loader_run_claims.proofs.SameBlock as same
 use Rattle.loader_run_claims.proofs.Starts as starts
-use Rattle.loader_run_claims.proofs.Own as own
+use Rattle.loader_run_claims.proofs.OwnHistory as own
 use Rattle.loader_run_claims.proofs.Total as total-ends
 use Rattle.loader_run_claims.proofs.Counting as counting
 use Rattle.loader_run_claims.specs.Stepping.{Stepped}

@@ -39,12 +39,12 @@ use Rattle.loader_run_claims.proofs.Starts.{none-refuses}
 use Rattle.loader_run_claims.proofs.Answers.{Up, Ready, Stuck}
 use Rattle.loader_run_claims.proofs.Reaching.{Reach}
 use Rattle.model_types.specs.Cells.{Cells}
-use Rattle.loader_run_claims.proofs.Layers.{over-self, cells-held}
+use Rattle.loader_run_claims.proofs.LoadLists.{over-self, cells-held}
 use Rattle.loader_run_claims.proofs.Grounds as grounds
 use Rattle.loader_run_claims.proofs.Grounds.{Left}
 use Rattle.loader_run_claims.proofs.Phases as phases
 use Rattle.loader_run_claims.proofs.Faults as faults
-use Rattle.loader_run_claims.proofs.Same.{same-list, none-risen, none-differing, none-programmed}
+use Rattle.loader_run_claims.proofs.SameBlock.{same-list, none-risen, none-differing, none-programmed}
 
 -- the count of a load, and of what follows it
 summed : (v rise : Bool) (n E P cnt : ℕ) → cnt ≡ 2 + n + ((if rise then 2 + E else 0) + P)

@@ -43,7 +43,7 @@ use Rattle.loader_run_claims.specs.Ends.{asWanted, eraseTried, programTr
 use Rattle.loader_run_claims.proofs.Answers as answers
 use Rattle.loader_run_claims.proofs.Answers.{Up, Stuck}
 use Rattle.loader_run_claims.proofs.Reaching.{Reach, Answered, does-as, arrive, prepend, turned, does}
-use Rattle.loader_run_claims.proofs.Same.{same-list, none-risen, none-ahead, some-ahead}
+use Rattle.loader_run_claims.proofs.SameBlock.{same-list, none-risen, none-ahead, some-ahead}
 use Rattle.loader_run_claims.proofs.Phases as phases
 
 -- a ready status is in the low 8 bits

@@ -42,7 +42,7 @@ use Rattle.loader_run.proofs.Good.{Good, good}
 use Rattle.loader_run_claims.proofs.Starts.{levels-of}
 use Rattle.loader_run_claims.proofs.Answers.{Up}
 use Rattle.loader_run_claims.proofs.Reaching.{Reach}
-use Rattle.loader_run_claims.proofs.Layers.{over-self}
+use Rattle.loader_run_claims.proofs.LoadLists.{over-self}
 
 -- two ends of one load are the same, and so is what was begun on the way to them
 pub same-end : (i j : ℕ) (d : Device) (w : List ℕ) (c : Config) → isEnded (after i d w c .loader .stage) ≡ true → isEnded (after j d w c .loader .stage) ≡ true → after i d w c ≡ after j d w c

@@ -1,14 +1,14 @@
 pub mod Answers
 pub mod Reaching
-pub mod Layers
-pub mod Same
+pub mod LoadLists
+pub mod SameBlock
 pub mod Phases
 pub mod Faults
 pub mod Starts
 pub mod Grounds
 pub mod Demand
 pub mod Least
-pub mod Own
+pub mod OwnHistory
 pub mod Mission
 pub mod Total
 pub mod Counting

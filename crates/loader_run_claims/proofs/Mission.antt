@@ -47,7 +47,7 @@ use Rattle.loader_run_claims.proofs.Demand.{goal, good-load, ran-left, 
 use Rattle.loader_run_claims.proofs.Starts.{none-refuses}
 use Rattle.model_history.proofs.Wearing.{lies}
 use Rattle.loader_run_claims.proofs.Least.{least}
-use Rattle.loader_run_claims.proofs.Own.{noted-total, deviceIn, own-leads as leads, own-begins as begins, own-smooth as smooth}
+use Rattle.loader_run_claims.proofs.OwnHistory.{noted-total, deviceIn, own-leads as leads, own-begins as begins, own-smooth as smooth}
 
 -- the programs of a load are counted, all in the block, and none of them is an erase
 programs-counted : (j i a n b : ℕ) (w s : List ℕ) → a ≤ b + i → b + i + j ≤ a + n → totalOf (programIn a n) (programsOf j b i w s) ≡ differing j i w s

@@ -57,9 +57,9 @@ use Rattle.loader_run_claims.specs.Wear.{programsOf, differing, baseOf, 
 use Rattle.loader_run.proofs.Turning.{conf}
 use Rattle.loader_run_claims.specs.Made.{isSmooth, readsThen, pollsThen, openingThen, eraseThen, programThen, programsThen, closingOf, programmingThen, loadThen, busCycle as cyc}
 use Rattle.loader_run_claims.proofs.Reaching.{Reach, Answered, Does, does-as, arrive, prepend, turned, does}
-use Rattle.loader_run_claims.proofs.Layers.{put-over, over-over, overwritten-length, overwritten-here, overwritten-agree}
+use Rattle.loader_run_claims.proofs.LoadLists.{put-over, over-over, overwritten-length, overwritten-here, overwritten-agree}
 use Rattle.loader_run_claims.specs.Ends.{erasedFrom, asWanted, loadedMode}
-use Rattle.loader_run_claims.proofs.Same.{risen-differs}
+use Rattle.loader_run_claims.proofs.SameBlock.{risen-differs}
 use Rattle.units.specs.Units.{carried}
 use Rattle.units.proofs.Widths.{carried-cell}
 use Rattle.loader_run_claims.proofs.Answers as answers

@@ -26,9 +26,9 @@ use Rattle.loader_run_claims.proofs.Total as total-ends
 use Rattle.loader_run_claims.proofs.Counting as counting
 use Rattle.loader_run_claims.proofs.Stepping as stepping
 use Rattle.loader_verify_claims.specs.Verified.{Verified, Met}
-use Rattle.loader_verify_claims.specs.Both.{bothLeft, bothCycles}
+use Rattle.loader_verify_claims.specs.LoadThenVerify.{bothLeft, bothCycles}
 use Rattle.loader_verify_claims.proofs.Verifying as verifying
-use Rattle.loader_verify_claims.proofs.Both as both
+use Rattle.loader_verify_claims.proofs.LoadThenVerify as both
 use Rattle.loader_verify_claims.proofs.Lent as lending
 use Rattle.loader_verify_claims.specs.Lent.{LentMet}
 use Rattle.common.specs.Lists.{Bytes}

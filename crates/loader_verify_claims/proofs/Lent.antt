@@ -27,7 +27,7 @@ use Rattle.loader_run.proofs.Borders.{lent-ran}
 use Rattle.loader_run_claims.specs.Wear.{heldIn, heldBy}
 use Rattle.loader_run_claims.proofs.Lent.{units-cells, held-units}
 use Rattle.loader_verify_claims.proofs.Verifying.{well-exactly, first-difference}
-use Rattle.loader_verify_claims.proofs.First.{first-byte}
+use Rattle.loader_verify_claims.proofs.FirstDifference.{first-byte}
 use Rattle.loader_verify_claims.specs.Lent.{LentMet}
 use Rattle.common.specs.Choice.{if_then_else_}
 use Rattle.loader.specs.Walks.{diffFrom}

@@ -1,5 +1,5 @@
 pub mod Verifying
-pub mod Both
-pub mod First
+pub mod LoadThenVerify
+pub mod FirstDifference
 pub mod Lent
 pub mod Claims

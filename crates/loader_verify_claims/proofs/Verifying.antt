@@ -32,11 +32,11 @@ use Rattle.model_types.specs.Cells.{Cells}
 use Rattle.loader_steps.specs.Addresses.{firstAddress}
 use Rattle.loader_steps.specs.Inner.{hereOf}
 use Rattle.loader_steps.specs.Outs.{byteHere}
-use Rattle.loader_run_claims.proofs.Layers.{over-self, cells-held}
+use Rattle.loader_run_claims.proofs.LoadLists.{over-self, cells-held}
 use Rattle.loader_run_claims.proofs.Grounds as grounds
 use Rattle.loader_run_claims.proofs.Grounds.{Left}
 use Rattle.loader_run_claims.proofs.Phases as phases
-use Rattle.loader_run_claims.proofs.Same.{same-list, none-ahead, some-ahead, none-differing}
+use Rattle.loader_run_claims.proofs.SameBlock.{same-list, none-ahead, some-ahead, none-differing}
 use Rattle.units.specs.Address.{byteAt}
 use Rattle.loader_verify_claims.specs.Verified.{unitsRead, byteApart, verifyEnd, verifyAddress, Verified, Met}
 

@@ -1,3 +1,3 @@
 pub mod Verified
-pub mod Both
+pub mod LoadThenVerify
 pub mod Lent

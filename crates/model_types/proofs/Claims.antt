@@ -6,7 +6,7 @@ use Prim.Native.Nat.{ℕ, _<_, _+_, _≤_, min}
 use native.Mathlib.Omega.{arith}
 use Rattle.units.specs.Address.{byteOf, byteAt}
 use Rattle.device.specs.Parts.{sizeOf, startOf, blockOf}
-use Rattle.device.proofs.Twice.{inBytes, wordWide, start-twice, both-bytes}
+use Rattle.device.proofs.TwoWidths.{inBytes, wordWide, start-twice, both-bytes}
 use Rattle.device.specs.declared.Part.{Part}
 use Rattle.device.specs.declared.Device.{Device}
 use Rattle.model_types.specs.declared.Pins.{Pins}

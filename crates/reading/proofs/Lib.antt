@@ -1,3 +1,3 @@
 pub mod Told
-pub mod Ways
+pub mod WaysOut
 pub mod Unique

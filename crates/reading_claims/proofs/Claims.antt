@@ -27,13 +27,13 @@ use Rattle.reading_claims.specs.Tables.{Table, PairHolds, Told, Inside, 
 use Rattle.reading_claims.specs.Longest.{knotsFrom}
 use Rattle.reading_claims.specs.Answers.{degrees, payloadIn, answerFrom, roomLeft, readerRows, answerRows}
 use Rattle.reading_claims.proofs.Judged as judged
-use Rattle.reading_claims.proofs.Held as held
+use Rattle.reading_claims.proofs.PairFound as found
 use Rattle.reading_claims.proofs.Exact as exact
 use Rattle.reading_claims.proofs.Sides as sides
 use Rattle.reading_claims.proofs.Bounds as bounds
 use Rattle.reading_claims.proofs.Paired as paired
 use Rattle.reading_claims.proofs.Unjudged as unjudged
-use Rattle.reading_claims.proofs.Warm as warm
+use Rattle.reading_claims.proofs.Rising as rising
 use Rattle.reading_claims.proofs.Products as products
 use Rattle.reading_claims.proofs.Files as files
 use Rattle.reading_claims.proofs.Longest as longest
@@ -44,10 +44,10 @@ judged-exactly = judged.judged-exactly
 
 -- Between the first and the last knot the pair that is used holds the voltage, and no other pair does.
 pub pair-holds : (p : List ℕ) (x : ℤ) → Table p → Inside p x → PairHolds p (seekOf p x) x
-pair-holds = held.found-holds
+pair-holds = found.found-holds
 
 pub one-pair : (p : List ℕ) (x : ℤ) (i j : ℕ) → Table p → PairHolds p i x → PairHolds p j x → i ≡ j
-one-pair = held.one-holds
+one-pair = found.one-holds
 
 -- A reading is below exactly where the voltage is under the first knot, above exactly where it is over the last, each with that
 -- knot's temperature; else it is the temperature by the pair.
@@ -119,15 +119,15 @@ at-plain = unjudged.plain-answer
 -- Inside a pair a reading rises with the voltage where the temperatures do, and falls where they fall.
 pub pair-rises : (p : List ℕ) → Table p → (i : ℕ) → i + 1 < knots p → (x y : ℤ) → T (leZ (voltsOf p i) x) → T (leZ x y) → T (leZ y (voltsOf p (i + 1)))
     → T (leZ (tenthsOf p i) (tenthsOf p (i + 1))) → T (le (interpolated (pairAt p i) (ofInt binary64 x)) (interpolated (pairAt p i) (ofInt binary64 y)))
-pair-rises = warm.pair-rises
+pair-rises = rising.pair-rises
 
 pub pair-falls : (p : List ℕ) → Table p → (i : ℕ) → i + 1 < knots p → (x y : ℤ) → T (leZ (voltsOf p i) x) → T (leZ x y) → T (leZ y (voltsOf p (i + 1)))
     → T (ltZ (tenthsOf p (i + 1)) (tenthsOf p i)) → T (le (interpolated (pairAt p i) (ofInt binary64 y)) (interpolated (pairAt p i) (ofInt binary64 x)))
-pair-falls = warm.pair-falls
+pair-falls = rising.pair-falls
 
 -- A table whose temperatures never fall from knot to knot never reads lower for more voltage, below and above it too.
 pub table-rises : (p : List ℕ) → Table p → Warming p → (x y : ℤ) → T (leZ x y) → T (le (degrees (readingOf p x)) (degrees (readingOf p y)))
-table-rises = warm.table-rises
+table-rises = rising.table-rises
 
 -- The search takes at most k halvings in a table of at most 2 to the k knots: fifteen in a file's.
 pub few-halvings : (p : List ℕ) (x : ℤ) (k : ℕ) → knots p ≤ 2 ^ k → seekOf p x ≡ halving k p x 0 (knots p - 1)

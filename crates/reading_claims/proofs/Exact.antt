@@ -19,7 +19,7 @@ use Rattle.reading_table.proofs.Seeking.{Around, seek-brackets}
 use Rattle.reading_table.proofs.Knots.{tenths-size}
 use Rattle.reading.specs.declared.Reading.the-variants.{Temperature}
 use Rattle.reading.specs.Readings.{heatOf, pairAt, readingOf}
-use Rattle.reading.proofs.Ways.{reads-between}
+use Rattle.reading.proofs.WaysOut.{reads-between}
 use Rattle.reading_claims.specs.Tables.{Table, Inside}
 use Rattle.reading_claims.proofs.Judged.{size, upto, not-later}
 

@@ -23,7 +23,7 @@ use Rattle.reading.specs.declared.ReadingAnswer.the-variants.{Read, Refused}
 use Rattle.reading.specs.Readings.{readingOf, answerBy, tableAnswer, answerAs}
 use Rattle.reading_claims.specs.Tables.{Table}
 use Rattle.reading_claims.specs.Answers.{degrees, payloadIn, answerFrom, roomLeft, readerRows, answerRows}
-use Rattle.reading_claims.proofs.By.{by-read, refused-by-rows, read-by-rows}
+use Rattle.reading_claims.proofs.FirstRow.{by-read, refused-by-rows, read-by-rows}
 use Rattle.reading_claims.proofs.Judged.{judged-table}
 use Rattle.reading_claims.proofs.Bounds.{Plain, plain-reading}
 

@@ -1,12 +1,12 @@
 pub mod Judged
-pub mod Held
-pub mod By
+pub mod PairFound
+pub mod FirstRow
 pub mod Exact
 pub mod Sides
 pub mod Paired
 pub mod Bounds
 pub mod Products
-pub mod Warm
+pub mod Rising
 pub mod Unjudged
 pub mod Files
 pub mod Longest

@@ -20,7 +20,7 @@ use Rattle.reading.specs.Readings.{readingOf, tableAnswer}
 use Rattle.reading_claims.specs.Tables.{Table}
 use Rattle.reading_claims.specs.Answers.{answerFrom}
 use Rattle.reading_claims.specs.Longest.{knotsFrom}
-use Rattle.reading_claims.proofs.By.{reads-by}
+use Rattle.reading_claims.proofs.FirstRow.{reads-by}
 use Rattle.reading_claims.proofs.Judged.{table-judged}
 use Rattle.reading_claims.proofs.Files.{written-reads}
 

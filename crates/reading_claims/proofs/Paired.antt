@@ -18,7 +18,7 @@ use Rattle.reading.specs.declared.Reading.the-variants.{Temperature}
 use Rattle.reading.specs.Readings.{pairAt, readingOf}
 use Rattle.reading_claims.specs.Tables.{Table, PairHolds, Inside}
 use Rattle.reading_claims.proofs.Judged.{upto}
-use Rattle.reading_claims.proofs.Held.{found-holds, one-holds}
+use Rattle.reading_claims.proofs.PairFound.{found-holds, one-holds}
 use Rattle.reading_claims.proofs.Sides.{temperature-exactly}
 
 module _ (p : List ℕ) (x : ℤ) (t : Table p) where

@@ -16,7 +16,7 @@ use Rattle.reading_table.proofs.Order.{not-lt, lt-le, le-trans}
 use Rattle.reading.specs.declared.Reading.{Reading}
 use Rattle.reading.specs.declared.Reading.the-variants.{Temperature, Below, Above}
 use Rattle.reading.specs.Readings.{heatOf, pairAt, readingOf}
-use Rattle.reading.proofs.Ways.{reads-below, reads-above, reads-between}
+use Rattle.reading.proofs.WaysOut.{reads-below, reads-above, reads-between}
 use Rattle.reading_claims.specs.Tables.{Table, Inside}
 use Rattle.reading_claims.specs.Answers.{degrees}
 use Rattle.reading_claims.proofs.Judged.{upto}

@@ -21,10 +21,10 @@ use Rattle.reading.specs.declared.Reading.{Reading}
 use Rattle.reading.specs.declared.Reading.the-variants.{Temperature, Below, Above}
 use Rattle.reading.specs.declared.ReadingAnswer.the-variants.{Read, Refused}
 use Rattle.reading.specs.Readings.{heatOf, pairAt, readingOf, endsWrong, pairWrong, readingRows, readingNumber, readingAnswer}
-use Rattle.reading.proofs.Ways.{judged-number, refused-40, refused-ends, answers-below, answers-above, refused-pair, answers-between}
+use Rattle.reading.proofs.WaysOut.{judged-number, refused-40, refused-ends, answers-below, answers-above, refused-pair, answers-between}
 use Rattle.reading_claims.specs.Tables.{Table, Told}
 use Rattle.reading_claims.specs.Answers.{degrees}
-use Rattle.reading_claims.proofs.By.{by-refused, reads-by, refused-by-rows, read-by-rows}
+use Rattle.reading_claims.proofs.FirstRow.{by-refused, reads-by, refused-by-rows, read-by-rows}
 use Rattle.reading_claims.proofs.Judged.{table-judged}
 use Rattle.reading_claims.proofs.Bounds.{Plain, plain-pair, plain-heat}
 

@@ -12,7 +12,7 @@ use lib.Ieee.Exact.{HasValue}
 use lib.Ieee.Back.{round-whole}
 use lib.Ieee.Scale.{finite, grid, overflow}
 use Rattle.reading_pair.specs.Order.{notMinusZero}
-use Rattle.reading_pair.proofs.Whole.{yes-lt, no-lt, lt-scale, below?, sub-mul, above, plus, gap, sub-whole, mul-whole}
+use Rattle.reading_pair.proofs.WholeNumbers.{yes-lt, no-lt, lt-scale, below?, sub-mul, above, plus, gap, sub-whole, mul-whole}
 use Rattle.reading_pair.proofs.Rounded.{SLe, grid-le, round-value, under-whole, over-whole, round-minus, plus-minus, div-frac, add-frac, sum-plus-at}
 
 -- t0 + k for k at most t1 - t0 lies between t0 and t1

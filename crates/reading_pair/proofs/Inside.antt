@@ -9,7 +9,7 @@ use lib.IntN.{ℤ, pos, negsuc, natAbs}
 use lib.Signed.{leZ, ltZ}
 use lib.Ieee.{binary64, ofInt}
 use Rattle.reading_pair.specs.Pairs.{pairOf, interpolated}
-use Rattle.reading_pair.proofs.Whole.{yes-lt, no-lt, below?, plus, gap}
+use Rattle.reading_pair.proofs.WholeNumbers.{yes-lt, no-lt, below?, plus, gap}
 use Rattle.reading_pair.proofs.Knots.{sign, has, plain, few, small, near, sizes}
 use Rattle.reading_pair.specs.Order.{LiesBetween}
 use Rattle.reading_pair.proofs.Between.{up-from, down-from}

@@ -10,7 +10,7 @@ use lib.Ieee.{Float, binary64, prec, round, ofInt}
 use lib.Ieee.Exact.{HasValue}
 use lib.Ieee.Back.{round-whole}
 use Rattle.reading_pair.specs.Pairs.{pairOf, interpolated}
-use Rattle.reading_pair.proofs.Whole.{gap, first-knot, second-knot}
+use Rattle.reading_pair.proofs.WholeNumbers.{gap, first-knot, second-knot}
 
 abbrev pub sign : ℤ → Bool
 sign (pos n) = false

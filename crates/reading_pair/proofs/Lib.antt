@@ -1,4 +1,4 @@
-pub mod Whole
+pub mod WholeNumbers
 pub mod Rounded
 pub mod Knots
 pub mod Between

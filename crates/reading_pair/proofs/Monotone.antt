@@ -10,7 +10,7 @@ use lib.Pow.{pow-pos}
 use lib.Ieee.{Float, Format, prec, low, round, add, sub, mul, div, le}
 use lib.Ieee.Exact.{HasValue}
 use lib.Ieee.Scale.{grid, overflow}
-use Rattle.reading_pair.proofs.Whole.{yes-lt, no-lt, below?, plus, gap}
+use Rattle.reading_pair.proofs.WholeNumbers.{yes-lt, no-lt, below?, plus, gap}
 use Rattle.reading_pair.proofs.Rounded.{SLe, le-signed, grid-mono, round-value}
 use Rattle.reading_pair.proofs.Between.{is, bound, up-fits, down-fits}
 

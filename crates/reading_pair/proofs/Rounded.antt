@@ -15,7 +15,7 @@ use lib.Ieee.Order.{transfer, le-of-values, round-mono, drop, kept}
 use lib.Ieee.Fits.{down-pos, round-is}
 use lib.Ieee.Positive.{num, den, den-pos, value→cross, first-pos}
 use Rattle.reading_pair.specs.Order.{notMinusZero}
-use Rattle.reading_pair.proofs.Whole.{yes-lt, no-lt, lt-scale, below?, sub-mul, plus, above}
+use Rattle.reading_pair.proofs.WholeNumbers.{yes-lt, no-lt, lt-scale, below?, sub-mul, plus, above}
 
 -- finite, or the infinity
 odd-finite : (d q k l : ℕ) → T (finite (odd d false q k l))

@@ -1,4 +1,4 @@
 pub mod Turns
-pub mod Wholes
+pub mod WholeTrace
 pub mod Notes
 pub mod Unique

@@ -1,4 +1,4 @@
 pub mod Steps
 pub mod Lists
-pub mod Wholes
+pub mod WholeTrace
 pub mod Claims

@@ -9,7 +9,7 @@ use Rattle.script_judge.specs.Judges.{fineAs, scriptJudged}
 use Rattle.script_judge.specs.Reads.{scriptIn}
 use Rattle.script_judge.specs.Faults.{FaultAt}
 use Rattle.script_judge.proofs.Reader as reader
-use Rattle.script_judge.proofs.Once as once
+use Rattle.script_judge.proofs.OnePrint as once
 use Rattle.script_judge.proofs.Cuts as cuts
 use Rattle.script_judge.proofs.Ends as ends
 

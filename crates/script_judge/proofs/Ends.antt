@@ -10,7 +10,7 @@ use Rattle.script_judge.specs.Judges.{fineAs, scriptJudged}
 use Rattle.script_judge.specs.Faults.{FaultAt}
 use Rattle.script_judge.proofs.Turns.{turn}
 use Rattle.script_judge.proofs.Fault as fault
-use Rattle.script_judge.proofs.Only as only
+use Rattle.script_judge.proofs.OtherLines as only
 
 pub first-fault : (text : List ℕ) (i : ℕ) → (i ≡ 0 → ⊥) → (scriptJudged text .fault ≡ i) ↔ FaultAt text i
 first-fault text i z = (λ (h : scriptJudged text .fault ≡ i). fault.first-fault text i h z, λ (f : FaultAt text i). only.faulted text i f)

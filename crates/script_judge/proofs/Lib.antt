@@ -1,10 +1,10 @@
 pub mod Turns
 pub mod Reading
 pub mod Exact
-pub mod Once
+pub mod OnePrint
 pub mod Starts
 pub mod Fault
-pub mod Only
+pub mod OtherLines
 pub mod Reader
 pub mod Cuts
 pub mod Ends

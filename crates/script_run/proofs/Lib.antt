@@ -2,7 +2,7 @@ pub mod Laid
 pub mod Answers
 pub mod Runs
 pub mod Lines
-pub mod Wholes
-pub mod Sames
+pub mod WholeScript
+pub mod SameRuns
 pub mod Claims
 pub mod Unique

@@ -20,7 +20,7 @@ use Rattle.script_lines.specs.Words.{wordIn, isCloses}
 use Rattle.script_lines.specs.Inner.{Stop, nothing, closing}
 use Rattle.script_lines.proofs.Words.{code, held, closes-is}
 use Rattle.script_lines.proofs.Forms.{word-traced, word-opens, word-closes, traced-word, opens-word, closes-word, empty-word, printed-line}
-use Rattle.script_judge.proofs.Once.{parts}
+use Rattle.script_judge.proofs.OnePrint.{parts}
 use Rattle.trace_replay.specs.Answers.{printedOf}
 use Rattle.trace_replay.specs.Replays.{lineStep, arrayBy}
 use Rattle.script_run.specs.declared.Run.{Run}

@@ -42,7 +42,7 @@ use Rattle.store_survey.proofs.Reader.{file-reader}
 use Rattle.store.specs.Stores.{mainOf, ChangeLeft, changeMade, changeRefused, changeLeft}
 use Rattle.store_claims.specs.Calls.{placesFor, Call, numberBy, callNumber, changeLeftBy, callLeft, contentsBy, FileBytes, Timed}
 use Rattle.store_claims.proofs.Contents.{drop-bytes, add-bytes}
-use Rattle.store_claims.proofs.Main.{There, there}
+use Rattle.store_claims.proofs.MainBlock.{There, there}
 use Rattle.store_claims.proofs.Rows.{none-applies}
 
 -- what a change returns and leaves, by its number and the new contents

@@ -26,10 +26,10 @@ use Rattle.store_survey.proofs.Reader.{file-reader}
 use Rattle.store.specs.Stores.{mainOf, noStore, addNumber, foundOn, changeMade, changeRefused}
 use Rattle.store_claims.specs.Calls.{placesFor, placesAt, Call, callNumber, callLeft, contentsBy, arrayThrough, AllSettled, changesMade, FileBytes, AllBytes, Timed, Kept, fileOr42, AllHigh, Spared}
 use Rattle.store_claims.proofs.Calls as calls
-use Rattle.store_claims.proofs.Many as many
+use Rattle.store_claims.proofs.ManyCalls as many
 use Rattle.store_claims.proofs.Worn as wearing
-use Rattle.store_claims.proofs.Again as again
-use Rattle.store_claims.proofs.More as further
+use Rattle.store_claims.proofs.AddedAgain as again
+use Rattle.store_claims.proofs.FullAndFound as further
 use Rattle.store_claims.proofs.Loads as loads
 
 -- Any calls on one device, one after the other, at any levels and from any states, each an add or a drop that is refused before a cycle or

@@ -1,11 +1,11 @@
-pub mod Parts
-pub mod Main
+pub mod StoreParts
+pub mod MainBlock
 pub mod Rows
 pub mod Contents
 pub mod Calls
-pub mod Many
+pub mod ManyCalls
 pub mod Worn
-pub mod Again
-pub mod More
+pub mod AddedAgain
+pub mod FullAndFound
 pub mod Loads
 pub mod Claims

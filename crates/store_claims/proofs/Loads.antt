@@ -25,8 +25,8 @@ use Rattle.store_places.specs.Store.{findOf, Proper}
 use Rattle.store_survey.specs.Survey.{faultOf}
 use Rattle.store.specs.Stores.{mainOf}
 use Rattle.store_claims.specs.Calls.{placesFor}
-use Rattle.store_claims.proofs.Main.{there}
-use Rattle.store_claims.proofs.More.{load-leaves}
+use Rattle.store_claims.proofs.MainBlock.{there}
+use Rattle.store_claims.proofs.FullAndFound.{load-leaves}
 
 -- two tables of which nothing is given, one below the other
 both-none : (r s : ℕ) → (if eqb r 0 then s else r) ≡ 0 → (r ≡ 0) × (s ≡ 0)

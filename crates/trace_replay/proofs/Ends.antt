@@ -20,7 +20,7 @@ use Rattle.trace_lines.specs.Lines.{isLine, cycleStated}
 use Rattle.trace_replay.specs.Answers.{printedOf, markOf, traceEnd}
 use Rattle.trace_replay.specs.Replays.{benchT, lineStep, arrayBy, goodLines, answersOf, outputFrom, outputOf}
 use Rattle.trace_replay.proofs.Scans.{not-line}
-use Rattle.trace_replay.proofs.Wholes.{few, short, whole-length}
+use Rattle.trace_replay.proofs.WholeTrace.{few, short, whole-length}
 use Rattle.trace_replay.proofs.Turns.{output-is}
 
 pub step-refused : (s : State) (c : Cycle) (xs rs : List ℕ) (m : ℕ) → (m ≡ 0 → ⊥)

@@ -1,6 +1,6 @@
 pub mod Scans
 pub mod Turns
-pub mod Wholes
+pub mod WholeTrace
 pub mod Ends
 pub mod Never
 pub mod Claims

@@ -8,7 +8,7 @@ use lib.ListN.{length, take, drop}
 use borrow.Rule.Slice.PartMut.{same-len-mid, midOf}
 use Rattle.file_codec.specs.Layout.{blockWritten}
 use Rattle.file_codec.specs.File.{blocksOf}
-use Rattle.file_codec.proofs.Parts.{packed, behind, further, all-packed}
+use Rattle.file_codec.proofs.SliceParts.{packed, behind, further, all-packed}
 use Rattle.file_codec.proofs.pack.Statement.{statement}
 use Rattle.file_codec.proofs.pack.Tie as tie
 

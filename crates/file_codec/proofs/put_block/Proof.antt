@@ -1,6 +1,6 @@
 -- `file_codec::put_block` meets its contract.
 use borrow.Author.Needs.{needs}
-use Rattle.file_codec.proofs.Parts.{block-put}
+use Rattle.file_codec.proofs.SliceParts.{block-put}
 use native.Mathlib.Omega.{arith}
 use mathlib.Core.Path.{_∙_}
 use Rattle.file_codec.proofs.put_block.Statement.{statement}

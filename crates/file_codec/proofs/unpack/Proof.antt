@@ -9,7 +9,7 @@ use borrow.Rule.Slice.PartMut.{same-len-mid, putMid, midOf}
 use Rattle.common.specs.Lists.{copied, overwritten}
 use lib.Seq.{drop-length}
 use Rattle.file_codec.specs.File.{placesOf}
-use Rattle.file_codec.proofs.Parts.{unpacked}
+use Rattle.file_codec.proofs.SliceParts.{unpacked}
 use Rattle.file_codec.proofs.unpack.Statement.{statement}
 use Rattle.file_codec.proofs.unpack.Tie as tie
 

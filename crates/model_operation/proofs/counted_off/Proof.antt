@@ -1,7 +1,7 @@
 use borrow.Author.Needs.{needs}
 use Prim.Native.Nat.{_-_}
 use Rattle.model_operation.specs.Settling.{countedOff}
-use Rattle.model_operation.proofs.Small.{last-one, one-more}
+use Rattle.model_operation.proofs.LastCycle.{last-one, one-more}
 use Rattle.model_operation.proofs.counted_off.Statement.{statement}
 use Rattle.model_operation.proofs.counted_off.Tie as tie
 

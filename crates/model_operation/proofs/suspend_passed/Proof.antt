@@ -1,6 +1,6 @@
 use borrow.Author.Needs.{needs}
 use Rattle.model_operation.specs.Settling.{suspendPassed}
-use Rattle.model_operation.proofs.Small.{last-one, one-more}
+use Rattle.model_operation.proofs.LastCycle.{last-one, one-more}
 use Rattle.model_operation.proofs.suspend_passed.Statement.{statement}
 use Rattle.model_operation.proofs.suspend_passed.Tie as tie
 

@@ -13,7 +13,7 @@ use Rattle.reading_table.specs.Table.{voltsOf, knots}
 use Rattle.reading_table.specs.Search.{seekOf}
 use Rattle.reading.specs.declared.Reading.the-variants.{Temperature, Below, Above}
 use Rattle.reading.specs.Readings.{pairAt}
-use Rattle.reading.proofs.Ways.{reads-below, reads-above, reads-between, next-knot}
+use Rattle.reading.proofs.WaysOut.{reads-below, reads-above, reads-between, next-knot}
 use borrow.Author.Needs.{needs}
 use Rattle.reading.proofs.judged_at.Statement.{statement}
 use Rattle.reading.proofs.judged_at.Tie as tie

@@ -17,7 +17,7 @@ use Rattle.reading.specs.declared.Reading.the-variants.{Temperature, Bel
 use Rattle.reading.specs.declared.ReadingAnswer.the-variants.{Read}
 use Rattle.reading.specs.Readings.{pairAt}
 use Rattle.reading.proofs.Told.{told-too}
-use Rattle.reading.proofs.Ways.{next-knot, refused-40, refused-ends, answers-below, answers-above, refused-pair, answers-between}
+use Rattle.reading.proofs.WaysOut.{next-knot, refused-40, refused-ends, answers-below, answers-above, refused-pair, answers-between}
 use borrow.Author.Needs.{needs}
 use Rattle.reading.proofs.reading_at.Statement.{statement}
 use Rattle.reading.proofs.reading_at.Tie as tie

@@ -6,7 +6,7 @@ use mir.ValLaws.{toZ-ofZ}
 use Rattle.file_codec.specs.File.{limit, readerOf, inRoom}
 use Rattle.reading.specs.Readings.{tableAnswer}
 use Rattle.reading.proofs.Told.{file-too}
-use Rattle.reading.proofs.Ways.{refused-answer, made-fits, made-answer}
+use Rattle.reading.proofs.WaysOut.{refused-answer, made-fits, made-answer}
 use borrow.Author.Needs.{needs}
 use Rattle.reading.proofs.reading_from_file.Statement.{statement}
 use Rattle.reading.proofs.reading_from_file.Tie as tie

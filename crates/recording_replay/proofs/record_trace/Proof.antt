@@ -1,7 +1,7 @@
 -- `recording_replay::record_trace` meets its contract.
 use mathlib.Core.Path.{_∙_}
 use native.Mathlib.Omega.{arith}
-use Rattle.recording_replay.proofs.Wholes.{few, inside, short, enough}
+use Rattle.recording_replay.proofs.WholeTrace.{few, inside, short, enough}
 use borrow.Author.Needs.{needs}
 use Rattle.recording_replay.proofs.record_trace.Statement.{statement}
 use Rattle.recording_replay.proofs.record_trace.Tie as tie

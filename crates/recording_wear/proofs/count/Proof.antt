@@ -3,7 +3,7 @@ use Prim.Native.Nat.{ℕ}
 use mathlib.Core.Path.{_≡_}
 use native.Mathlib.Omega.{arith}
 use denote.Ref.{now}
-use Rattle.recording_wear.proofs.Ways.{counted, faulted}
+use Rattle.recording_wear.proofs.CountCases.{counted, faulted}
 use borrow.Author.Needs.{needs}
 use Rattle.recording_wear.proofs.count.Statement.{statement}
 use Rattle.recording_wear.proofs.count.Tie as tie

@@ -4,7 +4,7 @@ use Prim.Native.Nat.{ℕ, _*_, _≤_}
 use native.Mathlib.Omega.{arith}
 use lib.ListN.{length}
 use Rattle.trace_replay.proofs.Scans.{good-most, good-fit}
-use Rattle.trace_replay.proofs.Wholes.{few, inside, short, refused, refused-array, refused-out, done, done-array, done-out, done-used}
+use Rattle.trace_replay.proofs.WholeTrace.{few, inside, short, refused, refused-array, refused-out, done, done-array, done-out, done-used}
 use borrow.Author.Needs.{needs}
 use Rattle.trace_replay.proofs.replay.Statement.{statement}
 use Rattle.trace_replay.proofs.replay.Tie as tie

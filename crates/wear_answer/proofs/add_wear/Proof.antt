@@ -3,7 +3,7 @@ use mathlib.Core.Path.{ap, _∙_}
 use denote.Ref.{now}
 use borrow.Author.Tests.{eq-eqb, ne-eqb}
 use Rattle.wear_answer.specs.Answers.{uncounted, addedSaid, wearSaid}
-use Rattle.wear_answer.proofs.Ways.{same, silent, taken, refused}
+use Rattle.wear_answer.proofs.TraceCases.{same, silent, taken, refused}
 use borrow.Author.Needs.{needs}
 use Rattle.wear_answer.proofs.add_wear.Statement.{statement}
 use Rattle.wear_answer.proofs.add_wear.Tie as tie

@@ -4,7 +4,7 @@ use Prim.Native.Nat.{zero-le}
 use denote.Ref.{now}
 use Rattle.wear_print.specs.Tables.{laidIn, countIn}
 use Rattle.wear_print.proofs.Laying.{counts}
-use Rattle.wear_answer.proofs.Ways.{none-used, none-laid, all-counted, not-counted}
+use Rattle.wear_answer.proofs.TraceCases.{none-used, none-laid, all-counted, not-counted}
 use borrow.Author.Needs.{needs}
 use Rattle.wear_answer.proofs.finish.Statement.{statement}
 use Rattle.wear_answer.proofs.finish.Tie as tie

@@ -2,7 +2,7 @@
 use mathlib.Core.Path.{sym, _∙_}
 use denote.Ref.{now}
 use Rattle.wear_answer.specs.Answers.{uncounted, wearSaid, moreSaid}
-use Rattle.wear_answer.proofs.Ways.{same, cut, whole}
+use Rattle.wear_answer.proofs.TraceCases.{same, cut, whole}
 use borrow.Author.Needs.{needs}
 use Rattle.wear_answer.proofs.one_more.Statement.{statement}
 use Rattle.wear_answer.proofs.one_more.Tie as tie

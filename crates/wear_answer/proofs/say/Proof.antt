@@ -1,7 +1,7 @@
 -- `wear_answer::say` meets its contract.
 use mathlib.Core.Path.{refl}
 use denote.Ref.{now}
-use Rattle.wear_answer.proofs.Ways.{spoiled}
+use Rattle.wear_answer.proofs.TraceCases.{spoiled}
 use borrow.Author.Needs.{needs}
 use Rattle.wear_answer.proofs.say.Statement.{statement}
 use Rattle.wear_answer.proofs.say.Tie as tie

@@ -43,8 +43,8 @@ use Rattle.loader_run_claims.specs.Ends.{asWanted, shut, endNumber, faultStatus
 use Rattle.loader_run_claims.specs.Ends as ends
 use Rattle.loader_run_claims.specs.Mission.{Taken}
 use Rattle.loader_run_claims.proofs.Answers.{Up, Ready, Stuck, unsupplied-stuck, locked-stuck}
-use Rattle.loader_run_claims.proofs.Layers.{over-self, cells-laid}
-use Rattle.loader_run_claims.proofs.Same.{risen-differs}
+use Rattle.loader_run_claims.proofs.LoadLists.{over-self, cells-laid}
+use Rattle.loader_run_claims.proofs.SameBlock.{risen-differs}
 use Rattle.loader_run_claims.proofs.Phases as phases
 use Rattle.loader_run_claims.proofs.Demand.{good-load, erase-load}
 use Rattle.loader_run_claims.proofs.Total as total
@@ -56,8 +56,8 @@ use Rattle.loader_held_claims.proofs.HeldReaching.{arrive}
 use Rattle.loader_held_claims.proofs.Lifting.{lift-then}
 use Rattle.loader_held_claims.proofs.Rooms.{cells-blank, same-elsewhere, room-is, cost-is}
 use Rattle.loader_held_claims.proofs.Starting as start
-use Rattle.loader_held_claims.proofs.Tried as trying
-use Rattle.loader_held_claims.proofs.Whole as whole
+use Rattle.loader_held_claims.proofs.EraseTried as trying
+use Rattle.loader_held_claims.proofs.FromErase as whole
 
 -- nothing added to what a load returns
 none-more : (r : Ran) (n : ℕ) (b : Bool) → n ≡ 0 → b ≡ false → r ≡ ranMore r n b

@@ -42,7 +42,7 @@ use Rattle.loader_run_claims.specs.Ends.{erasedFrom}
 use Rattle.loader_run_claims.proofs.Answers as answers
 use Rattle.loader_run_claims.proofs.Answers.{Up, Ready}
 use Rattle.loader_run_claims.proofs.Reaching.{Reach}
-use Rattle.loader_run_claims.proofs.Layers.{over-over}
+use Rattle.loader_run_claims.proofs.LoadLists.{over-over}
 use Rattle.loader_run_claims.proofs.Phases as phases
 use Rattle.loader_run_claims.proofs.Faults as faults
 use Rattle.loader_held.specs.Holds.{listed, usual, afterPoll}
@@ -52,7 +52,7 @@ use Rattle.loader_held_claims.specs.HeldMade.{HeldReach, Elsewhere, read
 use Rattle.loader_held_claims.proofs.HeldReaching.{arrive, goes, goes-as}
 use Rattle.loader_held_claims.proofs.ErasePolling as erase
 use Rattle.loader_held_claims.proofs.Lifting.{lift-then, calm-numbered}
-use Rattle.loader_held_claims.proofs.Ways.{late, after-load, late-quiet, quiet-after}
+use Rattle.loader_held_claims.proofs.QuietTurns.{late, after-load, late-quiet, quiet-after}
 
 module _ (verify : Bool) (d : Device) (p : Pins) (k : ℕ) (r : Ready d p k) (s : State) (w : List ℕ) (lw : length w ≡ lengthOf (d .part) k) (some : 0 < length w) (cw : Cells (d .part) w)
     (xs : List ℕ) (lx : length xs ≡ sizeOf (d .part)) (ys : List ℕ) (ly : length ys ≡ length w)

@@ -16,7 +16,7 @@ use Rattle.loader_run.specs.Runs.{lentNumber}
 use Rattle.loader_run.proofs.Good.{good}
 use Rattle.store.specs.Stores.{mainOf}
 use Rattle.store_claims.specs.Calls.{placesFor, placesAt}
-use Rattle.store_claims.proofs.Parts.{Plain, plain, known-part, lent-same}
+use Rattle.store_claims.proofs.StoreParts.{Plain, plain, known-part, lent-same}
 
 pub record There (d : Device) (xs : List ℕ) (memory : ℕ) : Type 0 where
   pub small : Plain (d .part)

@@ -32,7 +32,7 @@ use Rattle.loader_run_claims.specs.Made.{openingThen, busCycle as cyc}
 use Rattle.loader_run_claims.specs.Mission.{Taken}
 use Rattle.loader_run_claims.proofs.Answers as answers
 use Rattle.loader_run_claims.proofs.Answers.{Up, Stuck}
-use Rattle.loader_run_claims.proofs.Layers.{over-self}
+use Rattle.loader_run_claims.proofs.LoadLists.{over-self}
 use Rattle.loader_run_claims.proofs.Phases as phases
 use Rattle.loader_run_claims.proofs.Faults as faults
 use Rattle.loader_held.specs.declared.Step.the-variants.{Halting, Looking, Settling}

@@ -36,12 +36,12 @@ use Rattle.loader_run_claims.specs.Made.{busCycle, readsThen, pollsThen, openin
 use Rattle.loader_run_claims.specs.Ends.{loadedMode, endNumber, wellRan, faultRan, ranAs, bytesAs, scratchAs, cyclesAs, erasedFrom}
 use Rattle.loader_run_claims.specs.Mission.{Taken}
 use Rattle.loader_run_claims.proofs.Starts.{none-refuses, taken-if}
-use Rattle.loader_run_claims.proofs.Layers.{cells-laid}
+use Rattle.loader_run_claims.proofs.LoadLists.{cells-laid}
 use Rattle.loader_run_claims.proofs.Grounds as grounds
 use Rattle.loader_run_claims.proofs.Total.{every-end}
 use Rattle.loader_run_claims.proofs.Mission.{formula-both}
 use Rattle.loader_verify_claims.specs.Verified.{unitsRead, verifyEnd, verifyAddress, verifyRan, Verified}
-use Rattle.loader_verify_claims.specs.Both.{countedOn, verifyAfter, thenVerify, bothLeft, cyclesAfter, bothCycles}
+use Rattle.loader_verify_claims.specs.LoadThenVerify.{countedOn, verifyAfter, thenVerify, bothLeft, cyclesAfter, bothCycles}
 use Rattle.loader_verify_claims.proofs.Verifying.{as-wanted, verified}
 
 -- what was laid over an array is held there

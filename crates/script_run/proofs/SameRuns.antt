@@ -22,7 +22,7 @@ use Rattle.trace_replay.proofs.Claims.{empty-input}
 use Rattle.script_run.specs.Runs.{traceIn, scriptOutput, scriptArray}
 use Rattle.script_run.proofs.Lines.{mark-length}
 use Rattle.script_run.proofs.Answers.{answers-length}
-use Rattle.script_run.proofs.Wholes.{replayed, mark-alone, array-kept, size, few-lines}
+use Rattle.script_run.proofs.WholeScript.{replayed, mark-alone, array-kept, size, few-lines}
 
 module _ (s : Script) (xs rs : List ℕ) (a : Allowed s) where
   fine : scriptJudged (printOn s []) .fault ≡ 0

@@ -8,7 +8,7 @@ use Rattle.device.specs.declared.Device.{Device}
 use Rattle.model_history.specs.History.{World, worldOf, busesOf, stepped, worldAfter, effectsIn, begunOver, acceptsAll, uncut}
 use Rattle.loader.specs.Stages.{isEnded}
 use Rattle.loader_run_claims.specs.Wear.{notedAll}
-use Rattle.loader_run_claims.proofs.Own.{Goes, one-more, smooth-parts}
+use Rattle.loader_run_claims.proofs.OwnHistory.{Goes, one-more, smooth-parts}
 use Rattle.loader_held_run.specs.HeldTurns.{HeldConfig, outOf, heldAnswer, heldArray, heldTurn, heldAfter}
 use Rattle.loader_held_run.proofs.HeldTurning.{turn-ended, turn-going}
 use Rattle.loader_held_claims.specs.HeldMade.{heldBegunTurn, heldBegun, heldMade, heldSmoothTurn, heldSmooth}

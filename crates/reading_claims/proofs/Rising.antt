@@ -24,7 +24,7 @@ use Rattle.reading.specs.Readings.{heatOf, pairAt, readingOf}
 use Rattle.reading_claims.specs.Tables.{Table, Inside, Warming}
 use Rattle.reading_claims.specs.Answers.{degrees}
 use Rattle.reading_claims.proofs.Judged.{size, upto}
-use Rattle.reading_claims.proofs.Held.{found-holds, upper}
+use Rattle.reading_claims.proofs.PairFound.{found-holds, upper}
 use Rattle.reading_claims.proofs.Exact.{lower-exact}
 use Rattle.reading_claims.proofs.Sides.{Side, under, over, within, side}
 use Rattle.reading_claims.proofs.Bounds.{small, lies-up, Plain, plain-inside, plain-heat}

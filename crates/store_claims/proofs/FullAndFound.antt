@@ -22,7 +22,7 @@ use Rattle.store_survey.specs.Survey.{faultOf}
 use Rattle.store_survey.proofs.Reader.{file-reader, letter-of}
 use Rattle.store.specs.Stores.{mainOf, addNumber}
 use Rattle.store_claims.specs.Calls.{placesFor, placesAt}
-use Rattle.store_claims.proofs.Main.{there}
+use Rattle.store_claims.proofs.MainBlock.{there}
 use Rattle.store_claims.proofs.Rows.{own-number}
 
 pub room-43 : (d : Device) (s : State) (p : Pins) (xs : List ℕ) (memory scratch : ℕ) (b : List ℕ) (ℓ : ℕ) → isLarge (d .part) ≡ false → lentNumber d s p 3 (length xs) memory scratch ≡ 0
