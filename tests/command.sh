@@ -1,8 +1,8 @@
 #!/usr/bin/env bash
-# command.sh: drives ./torfbarke the way a person would: every way to hand over a trace or a script, either engine, every fault of a line, wrong
-# calls, recordings, stores, tables, output that cannot be written, dumps, a first call that builds, is killed or finds another's folder, calls at the same
-# time. Where TORFBARKE_PROGRAMS names a folder with the programs they are taken from there; otherwise the first call proves and builds
-# them. Expected answers are those of the page's own example.
+# command.sh: drives ./torfbarke the way a person would: every way to hand over a trace or a script, either engine, every fault of a line,
+# wrong calls, recordings, stores, tables, output that cannot be written, dumps, a first call that builds, is killed or finds another's
+# folder, calls at the same time. Where TORFBARKE_PROGRAMS names a folder with the programs they are taken from there; otherwise the first
+# call proves and builds them. Expected answers are those of the page's own example.
 set -eu
 unset CDPATH
 root=$(cd "$(dirname "$0")/.." && pwd)
@@ -312,8 +312,8 @@ head -n 3500 "$work/most.txt" >"$work/long.txt"
 call "$tb" script "$work/long.txt"; try 'a script of 3,500 lines' 1 '? 3001
 ' 'at most 3,000 lines'
 
-# wear: the counts by hand. The first trace begins two erases of block 1 and one of block 3, which a reset cuts; the boot block is locked, and
-# a D0 there starts nothing. The second begins one of block 0 (RP# at V_HH) and one of block 1, which it suspends and resumes
+# wear: the counts by hand. The first trace begins two erases of block 1 and one of block 3, which a reset cuts; the boot block is locked,
+# and a D0 there starts nothing. The second begins one of block 0 (RP# at V_HH) and one of block 1, which it suspends and resumes
 # (R-wear-1, R-wear-2)
 call "$tb" wear "$worn/first.txt"; try 'wear of a trace' 0 'block  total  largest  smallest  passed
     0      0        0         0       0

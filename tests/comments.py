@@ -4,16 +4,21 @@
     python3 tests/comments.py      names every fault, and ends with 1 where there is one
 
 A fault is: a public definition of specs/ without a comment in the line above it, and a public item of src/ without one (attributes may
-stand between); the sentence that a file assumes nothing, which docs/ARCHITECTURE.md says once for all."""
+stand between); the sentence that a file assumes nothing, which docs/ARCHITECTURE.md says once for all; a comment of more than 140
+characters, wherever it stands, and a line of a paper that is longer. A row of a table in a paper may be, and so may code: `rt fmt` lays
+it out in crates/, and words in a script cannot be broken."""
 import pathlib
 import re
 import sys
 
 ROOT = pathlib.Path(__file__).resolve().parent.parent
+MOST = 140
 ONCE = "Assumes" + " nothing."
 DEFINITION = re.compile(r" *(?:(?:unfoldable|abbrev) pub |pub (?:record |data )?(?!mod\b|use\b))([^\s:]+)")
 ITEM = re.compile(r'pub (?:extern "C" )?(?:fn|struct|enum|const|static|type) (\w+)')
 FIELDS = re.compile(r"( *)(?:pub )?(?:record|data) ")
+TEXTS = ["*.md", "docs/**/*.md", "include/*.h", "crates.txt", "tests/**/*", "commands/**/*", "example/*", "bench/*", ".ci/run", "torfbarke"]
+MARKS = {".py": "#", ".sh": "#", ".awk": "#", ".txt": "#", "": "#", ".c": ("/*", "* ", "//"), ".h": ("/*", "* ", "//"), ".md": ""}
 faults = []
 
 
@@ -51,7 +56,7 @@ def items(file):
 
 
 def crates():
-    """How many definitions and items there are; their faults, and those of the comments."""
+    """How many definitions and items there are; their faults, and those of every comment."""
     counted = [0, 0]
     for file in sorted((ROOT / "crates").rglob("*")):
         if file.suffix not in (".antt", ".rt"):
@@ -65,12 +70,24 @@ def crates():
         for number, line in enumerate(here, 1):
             if ONCE in line:
                 faults.append(f"{name}:{number}: '{ONCE}' is said once for all, in docs/ARCHITECTURE.md")
+            if line.lstrip().startswith(mark) and len(line) > MOST:
+                faults.append(f"{name}:{number}: a comment of {len(line)} characters")
     return counted
 
 
+def papers():
+    """How many papers, scripts and tests there are; their long lines."""
+    found = sorted({file for pattern in TEXTS for file in ROOT.glob(pattern) if file.is_file() and file.suffix in MARKS})
+    for file in found:
+        for number, line in enumerate(lines(file), 1):
+            if len(line) > MOST and not line.startswith("|") and line.lstrip().startswith(MARKS[file.suffix]):
+                faults.append(f"{file.relative_to(ROOT).as_posix()}:{number}: a line of {len(line)} characters")
+    return len(found)
+
+
 def main():
-    specs, src = crates()
-    print("\n".join(faults + [f"comments: {specs} definitions and {src} items, {len(faults)} faults"]))
+    (specs, src), texts = crates(), papers()
+    print("\n".join(faults + [f"comments: {specs} definitions, {src} items and {texts} texts, {len(faults)} faults"]))
     return 1 if faults else 0
 
 
