@@ -1,4 +1,4 @@
--- Bits that must rise, in words and in their bytes. Assumes nothing.
+-- Bits that must rise, in words and in their bytes.
 use mathlib.Core.Path.{_≡_, refl, sym, ap, ap₂, _∙_}
 use mathlib.Core.Bool.{Bool, true, false, not, _&&_, _||_}
 use mathlib.Core.List.{List, [], _∷_}

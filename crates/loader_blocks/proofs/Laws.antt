@@ -1,4 +1,4 @@
--- One turn of each walk over a block, and what it comes to. Assumes nothing.
+-- One turn of each walk over a block, and what it comes to.
 use mathlib.Core.Path.{_≡_, refl, sym, ap, _∙_, subst}
 use mathlib.Core.Bool.{Bool, true, false, not, _||_}
 use mathlib.Core.List.{List}

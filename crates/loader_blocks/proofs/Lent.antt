@@ -1,4 +1,4 @@
--- Lent bytes that are alike, and what is promised of them; where they are not, nothing is done. Assumes nothing.
+-- Lent bytes that are alike, and what is promised of them; where they are not, nothing is done.
 use mathlib.Core.Path.{_≡_, refl, sym, ap, _∙_}
 use mathlib.Core.Bool.{Bool, true, false, not, _&&_}
 use mathlib.Core.List.{List}

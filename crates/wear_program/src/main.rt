@@ -1,8 +1,8 @@
 // The wear program. Arguments: traces and recordings, each on a fresh bench T; what is said of traces holds of recordings too, a line at
-// fault being a bad line. Standard output: where every trace is good, the table of the report on their wear. Else there is no table, but a line for each trace
-// that is not: '?', the argument's number and the number of its first bad line; '!', the argument's number and 0 where it could not be
-// read to its end; 'X', the argument's number and the refusal where the report does not take it. Standard error: '.' at the end, where
-// every write to standard output went well.
+// fault being a bad line. Standard output: where every trace is good, the table of the report on their wear. Else there is no table, but a
+// line for each trace that is not: '?', the argument's number and the number of its first bad line; '!', the argument's number and 0 where
+// it could not be read to its end; 'X', the argument's number and the refusal where the report does not take it. Standard error: '.' at the
+// end, where every write to standard output went well.
 
 // Of each trace as many bytes as the room has, and one read more: a file that ends gives nothing, and one that cannot be opened or read
 // gives no end.

@@ -1,4 +1,4 @@
--- `loader_blocks::are_alike` meets its contract. Assumes nothing.
+-- `loader_blocks::are_alike` meets its contract.
 use Rattle.loader_blocks.specs.Blocks.{alike}
 use borrow.Author.Needs.{needs}
 use Rattle.loader_blocks.proofs.are_alike.Statement.{statement}

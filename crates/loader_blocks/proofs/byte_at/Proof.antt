@@ -1,4 +1,4 @@
--- `loader_blocks::byte_at` meets its contract. Assumes nothing.
+-- `loader_blocks::byte_at` meets its contract.
 use borrow.Author.Tests.{eq-eqb, ne-eqb}
 use borrow.Author.Needs.{needs}
 use Rattle.loader_blocks.proofs.Laws.{none-due, one-due}

@@ -1,4 +1,4 @@
--- `loader_blocks::program_all` meets its contract. Assumes nothing.
+-- `loader_blocks::program_all` meets its contract.
 use mathlib.Core.Path.{subst}
 use mathlib.Core.Bool.{Bool}
 use borrow.Author.Needs.{needs}

@@ -1,5 +1,5 @@
 -- `loader_blocks::program_bytes` meets its contract: the first i bytes of block and scratch are the wanted ones, and the cost so far with
--- what is left to pay is all of it. Assumes nothing.
+-- what is left to pay is all of it.
 use mathlib.Core.Path.{_≡_, refl, sym, ap, _∙_, subst}
 use mathlib.Core.List.{List}
 use Prim.Native.Nat.{ℕ, _+_, _-_, _*_, _≤_, _<_}

@@ -1,5 +1,5 @@
 -- `loader_blocks::program_words` meets its contract: the first i words of block and scratch are the wanted ones, and the cost so far with
--- what is left to pay is all of it. Assumes nothing.
+-- what is left to pay is all of it.
 use mathlib.Core.Path.{_≡_, refl, sym, ap, _∙_, subst}
 use mathlib.Core.Bool.{true}
 use mathlib.Core.List.{List}

@@ -1,4 +1,4 @@
--- `loader_blocks::rises` meets its contract: the bits gathered and what is left to look at say what was to look at. Assumes nothing.
+-- `loader_blocks::rises` meets its contract: the bits gathered and what is left to look at say what was to look at.
 use mathlib.Core.Path.{_≡_, refl, sym, ap, _∙_}
 use mathlib.Core.Bool.{Bool, not, _||_}
 use Prim.Native.Nat.{ℕ, _+_, _-_, _≤_, _<_}

@@ -1,4 +1,4 @@
--- `loader_blocks::verify_all` meets its contract. Assumes nothing.
+-- `loader_blocks::verify_all` meets its contract.
 use mathlib.Core.Path.{_≡_, subst}
 use mathlib.Core.Bool.{Bool}
 use lib.ListN.{length}

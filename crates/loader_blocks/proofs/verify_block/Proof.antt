@@ -1,4 +1,4 @@
--- `loader_blocks::verify_block` meets its contract. Assumes nothing.
+-- `loader_blocks::verify_block` meets its contract.
 use mathlib.Core.Path.{_≡_, refl, sym, ap, _∙_}
 use mathlib.Core.Bool.{true, false}
 use Prim.Native.Nat.{ℕ}

@@ -1,5 +1,5 @@
--- `loader_blocks::verify_bytes` meets its contract: the first i bytes of scratch are the block's, and what is left to look at is what was to
--- look at. Assumes nothing.
+-- `loader_blocks::verify_bytes` meets its contract: the first i bytes of scratch are the block's, and what is left to look at is what was
+-- to look at.
 use mathlib.Core.Path.{_≡_, refl, sym, ap, _∙_}
 use mathlib.Core.Bool.{true, false}
 use mathlib.Core.List.{List}

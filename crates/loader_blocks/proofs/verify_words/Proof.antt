@@ -1,5 +1,5 @@
 -- `loader_blocks::verify_words` meets its contract: the first i words of scratch are the block's, and what is left to look at is what was
--- to look at. Assumes nothing.
+-- to look at.
 use mathlib.Core.Path.{_≡_, refl, sym, ap, _∙_}
 use mathlib.Core.Bool.{true, false}
 use Prim.Native.Nat.{ℕ, _+_, _-_, _≤_, _<_}

@@ -1,4 +1,4 @@
--- `loader_blocks::word_at` meets its contract. Assumes nothing.
+-- `loader_blocks::word_at` meets its contract.
 use mathlib.Core.Path.{_≡_, sym, ap, _∙_}
 use mathlib.Core.List.{List}
 use Prim.Native.Nat.{ℕ}

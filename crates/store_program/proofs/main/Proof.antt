@@ -1,4 +1,4 @@
--- `store_program::main` meets its contract. Assumes nothing.
+-- `store_program::main` meets its contract.
 use mathlib.Core.Path.{_≡_}
 use mathlib.Core.List.{List, _++_}
 use Prim.Native.Nat.{ℕ, _≤_}

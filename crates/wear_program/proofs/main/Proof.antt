@@ -1,4 +1,4 @@
--- `main` is safe and ends: the arrays keep their lengths. Assumes nothing.
+-- `main` is safe and ends: the arrays keep their lengths.
 use mathlib.Core.Path.{_≡_}
 use Prim.Native.Nat.{_-_, _<_}
 use native.Mathlib.Omega.{arith}
