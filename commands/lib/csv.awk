@@ -27,7 +27,8 @@ function scaled(s, name, places,    sign, whole, part) {
         whole = substr(s, 1, index(s, ".") - 1)
         part = substr(s, index(s, ".") + 1)
     }
-    if (substr(part, places + 1) ~ /[1-9]/) fault("its " name ", " shown(sign s) ", are finer than " (places ? "tenths" : "whole ones") ", and a knot is not")
+    if (substr(part, places + 1) ~ /[1-9]/)
+        fault("its " name ", " shown(sign s) ", are finer than " (places ? "tenths" : "whole ones") ", and a knot is not")
     whole = whole (places ? (part == "" ? "0" : substr(part, 1, 1)) : "")
     sub(/^0+/, "", whole)
     return sign (whole == "" ? "0" : whole)

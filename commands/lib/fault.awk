@@ -27,17 +27,29 @@ function fits(c, b, want) {
 }
 
 END {
-    if (number == 9999 && form == "recording") { print "a recording has at most 9,998 lines; split it where the part is idle (each check begins with a fresh chip)"; exit }
+    if (number == 9999 && form == "recording") {
+        print "a recording has at most 9,998 lines; split it where the part is idle (each check begins with a fresh chip)"
+        exit
+    }
     if (number == 9999) { print "a trace has at most 9,998 lines; split it (each replay begins with a fresh chip)"; exit }
     for (len = 0; len < n && byte[len + 1] != 10; len++) ;
     ended = len < n
-    if (number == 1 && byte[1] == 239 && byte[2] == 187 && byte[3] == 191) { print "the file begins with a byte-order mark; save it as plain text without one"; exit }
-    if (number == 1 && ((byte[1] == 255 && byte[2] == 254) || (byte[1] == 254 && byte[2] == 255))) { print "the file is in two-byte letters (UTF-16); save it as plain text"; exit }
+    if (number == 1 && byte[1] == 239 && byte[2] == 187 && byte[3] == 191) {
+        print "the file begins with a byte-order mark; save it as plain text without one"
+        exit
+    }
+    if (number == 1 && ((byte[1] == 255 && byte[2] == 254) || (byte[1] == 254 && byte[2] == 255))) {
+        print "the file is in two-byte letters (UTF-16); save it as plain text"
+        exit
+    }
     if (ended && (len == 0 || (len == 1 && byte[1] == 13))) { print "it is blank"; exit }
     if (len > 0 && byte[len] == 13) { print "it ends in a carriage return; save the file with Unix line ends"; exit }
     if (!ended && len == letters) { print "it has no newline at its end"; exit }
     if (len < letters) { print "it is too short: " len (len == 1 ? " letter" : " letters") " before its end, not " letters; exit }
-    if (len > letters) { print "it is too long: " (n == 200 && !ended ? "more than 199" : len) " letters before its end, not " letters; exit }
+    if (len > letters) {
+        print "it is too long: " (n == 200 && !ended ? "more than 199" : len) " letters before its end, not " letters
+        exit
+    }
     for (c = 1; c <= letters; c++) if (!fits(c, byte[c])) {
         small = byte[c] >= 97 && byte[c] <= 122 ? ", a small letter," : ""
         print "column " c " has " show(byte[c]) small " where " wanted(c) " stands" (small != "" ? " (capitals only)" : "")

@@ -21,7 +21,10 @@ END {
     if (number == 3001) { print "a script has at most 3,000 lines"; exit }
     text = letters()
     first = substr(text, 1, 1)
-    if ((first == "(" || first == ")") && length(text) > 1 && byte[length(text)] == 13) { print "it ends in a carriage return; save the file with Unix line ends"; exit }
+    if ((first == "(" || first == ")") && length(text) > 1 && byte[length(text)] == 13) {
+        print "it ends in a carriage return; save the file with Unix line ends"
+        exit
+    }
     if (text ~ /^\( [0-9][0-9][0-9]$/ || text == ")") {
         if (!ended) print "it has no newline at its end"
         else if (text == "( 000") print "a group is repeated 001 to 999 times, not 000"

@@ -50,8 +50,10 @@ function crooked(from, to, name,    i) {
 
 # what is wrong with the line
 function fault(    i, spaces, at, why) {
-    if (first == 1 && byte[1] == 239 && byte[2] == 187 && byte[3] == 191) return "the text begins with a byte-order mark; save it as plain text without one"
-    if (first == 1 && ((byte[1] == 255 && byte[2] == 254) || (byte[1] == 254 && byte[2] == 255))) return "the text is in two-byte letters (UTF-16); save it as plain text"
+    if (first == 1 && byte[1] == 239 && byte[2] == 187 && byte[3] == 191)
+        return "the text begins with a byte-order mark; save it as plain text without one"
+    if (first == 1 && ((byte[1] == 255 && byte[2] == 254) || (byte[1] == 254 && byte[2] == 255)))
+        return "the text is in two-byte letters (UTF-16); save it as plain text"
     for (i = first; i <= last; i++) if (byte[i] == 13) return "it has a carriage return; save the text with Unix line ends"
     for (i = first; i <= last && (byte[i] == 32 || byte[i] == 9); i++) ;
     if (i > last) return "it is blank"

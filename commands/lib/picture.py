@@ -45,7 +45,8 @@ class Panel:
         if points:
             path = " ".join("%.1f,%.1f" % self.at(x, y) for x, y in points)
             dashed = f' stroke-dasharray="{dashes}"' if dashes else ""
-            self.parts.append(f'<polyline points="{path}" fill="none" stroke="{colour}" stroke-width="{width}" stroke-linejoin="round"{dashed}/>')
+            self.parts.append(f'<polyline points="{path}" fill="none" stroke="{colour}" stroke-width="{width}" '
+                              f'stroke-linejoin="round"{dashed}/>')
 
     def dot(self, x, y, colour, radius):
         self.parts.append('<circle cx="%.1f" cy="%.1f" r="%s" fill="%s"/>' % (*self.at(x, y), radius, colour))
