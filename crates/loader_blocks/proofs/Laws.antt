@@ -4,7 +4,7 @@ use mathlib.Core.Bool.{Bool, true, false, not, _||_}
 use mathlib.Core.List.{List}
 use Prim.Native.Nat.{ℕ, zero, suc, _+_, _-_, _*_, _≤_, _<_}
 use native.Mathlib.Omega.{arith}
-use native.Mathlib.Nat.{not-suc-le-zero, le-of-suc-le-suc}
+use native.Mathlib.Nat.{not-suc-le-zero, le-of-suc-le-suc, add-mul, one-mul, zero-mul}
 use lib.ListN.{length, getD, set, take, drop, replicate, length-replicate, getD-replicate}
 use lib.Seq.{length-take-le, set-getD, getD-append-add, getD-drop}
 use lib.Dec.{eqb, ltb}
@@ -12,13 +12,12 @@ use lib.Bits.{bitAnd, bitOr, bitXor, and-le-l, and-le-r, or-add-and, xor-add-and
 use borrow.Author.Tests.{lt-ltb, le-ltb, eq-eqb, ne-eqb, eqb-true, eqb-false, not-false}
 use Rattle.common.specs.Choice.{if_then_else_}
 use Rattle.common.proofs.Choice.{if-true, if-false, if-ind, or-left, or-right}
-use Rattle.common.specs.Lists.{overwritten}
+use Rattle.common.specs.Lists.{overwritten, Bytes}
 use Rattle.common.proofs.Lists.{overwritten-more}
 use Rattle.model_types.specs.Cells.{ones}
 use Rattle.model_types.proofs.Ones.{and-ones}
-use Rattle.units.specs.Units.{top}
-use Rattle.loader.specs.Walks.{mustRise, rises, risesIn, diffFrom}
-use Rattle.loader_blocks.specs.Blocks.{costAt, costs, bitsKept, unitKept, readTo, Programmable}
+use Rattle.loader.specs.Walks.{mustRise, rises, risesIn, nextDiff, diffFrom}
+use Rattle.loader_blocks.specs.Blocks.{costs, readTo, Falling}
 
 -- the bits that must rise, gathered: none is there exactly where none was and no bit of the next unit must rise
 module _ (a h w : ℕ) where
@@ -53,23 +52,6 @@ pub or-none : (x : Bool) → (x || false) ≡ x
 or-none true = refl
 or-none false = refl
 
--- the program of one unit
-module _ (each i : ℕ) (w s h : List ℕ) where
-  abbrev same : Bool
-  same = eqb (getD s i 0) (getD w i 0)
-
-  pub none-due : same ≡ true → (0 ≡ costAt each i w s) × ((h ≡ bitsKept i w s h) × (s ≡ unitKept i w s))
-  unfolding costAt bitsKept unitKept
-  none-due e = (sym (if-true same 0 each e), (sym (if-true same h (set h i (bitAnd (getD h i 0) (getD w i 0))) e), sym (if-true same s (set s i (getD w i 0)) e)))
-
-  pub one-due : same ≡ false → (each ≡ costAt each i w s) × ((set h i (bitAnd (getD h i 0) (getD w i 0)) ≡ bitsKept i w s h) × (set s i (getD w i 0) ≡ unitKept i w s))
-  unfolding costAt bitsKept unitKept
-  one-due e = (sym (if-false same 0 each e), (sym (if-false same h (set h i (bitAnd (getD h i 0) (getD w i 0))) e), sym (if-false same s (set s i (getD w i 0)) e)))
-
-  pub cost-most : costAt each i w s ≤ each
-  unfolding costAt
-  cost-most = if-ind (λ (n : ℕ). n ≤ each) same 0 each (λ e. omega arith) (λ e. omega arith)
-
 -- a walk that has come to place i, over a list as long
 module _ (w s : List ℕ) (long : length s ≡ length w) where
   here : (i : ℕ) → i < length s → getD (overwritten i w s) i 0 ≡ getD s i 0
@@ -79,31 +61,50 @@ module _ (w s : List ℕ) (long : length s ≡ length w) where
       ∙ getD-drop i s 0 0
       ∙ ap (λ (m : ℕ). getD s m 0) (let q : i + 0 ≡ i = omega arith in q)
 
-  -- the wanted unit laid there, or there already, is the walk one place on
-  laid : (i v : ℕ) → i < length s → v ≡ getD w i 0 → set (overwritten i w s) i v ≡ overwritten (i + 1) w s
-  laid i v h e = ap (λ (x : ℕ). set (overwritten i w s) i x) e ∙ overwritten-more w s i (omega arith) h
+  -- the ones that both have, where they are the wanted unit, are the walk one place on
+  pub bits-more : (i : ℕ) → i < length s → bitAnd (getD s i 0) (getD w i 0) ≡ getD w i 0
+      → set (overwritten i w s) i (bitAnd (getD (overwritten i w s) i 0) (getD w i 0)) ≡ overwritten (i + 1) w s
+  bits-more i h f =
+      ap (λ (x : ℕ). set (overwritten i w s) i x) (ap (λ (x : ℕ). bitAnd x (getD w i 0)) (here i h) ∙ f)
+      ∙ overwritten-more w s i (omega arith) h
 
-  stays : (i : ℕ) → i < length s → getD (overwritten i w s) i 0 ≡ getD w i 0 → overwritten i w s ≡ overwritten (i + 1) w s
-  stays i h e = sym (set-getD (overwritten i w s) i 0) ∙ laid i (getD (overwritten i w s) i 0) h e
+  -- a unit that is the wanted one already is the walk one place on
+  pub same-more : (i : ℕ) → i < length s → overwritten i w s ≡ s → getD s i 0 ≡ getD w i 0 → overwritten (i + 1) w s ≡ s
+  same-more i h e f =
+      sym (overwritten-more w s i (omega arith) h) ∙ (λ j. set (e j) i (sym f j)) ∙ set-getD s i 0
 
-  pub unit-more : (i : ℕ) → i < length s → unitKept i w (overwritten i w s) ≡ overwritten (i + 1) w s
-  unfolding unitKept
-  unit-more i h = if-ind (λ (x : List ℕ). x ≡ overwritten (i + 1) w s) (eqb (getD (overwritten i w s) i 0) (getD w i 0)) (overwritten i w s) (set (overwritten i w s) i (getD w i 0)) (λ e. stays i h (eqb-true _ _ e)) (λ e. laid i (getD w i 0) h refl)
-
-  pub bits-more : (i : ℕ) → i < length s → bitAnd (getD s i 0) (getD w i 0) ≡ getD w i 0 → bitsKept i w (overwritten i w s) (overwritten i w s) ≡ overwritten (i + 1) w s
-  unfolding bitsKept
-  bits-more i h f = if-ind (λ (x : List ℕ). x ≡ overwritten (i + 1) w s) (eqb (getD (overwritten i w s) i 0) (getD w i 0)) (overwritten i w s) (set (overwritten i w s) i (bitAnd (getD (overwritten i w s) i 0) (getD w i 0)))
-      (λ e. stays i h (eqb-true _ _ e)) (λ e. laid i (bitAnd (getD (overwritten i w s) i 0) (getD w i 0)) h (ap (λ (x : ℕ). bitAnd x (getD w i 0)) (here i h) ∙ f))
-
-  pub cost-here : (each i : ℕ) → i < length s → costAt each i w (overwritten i w s) ≡ (if eqb (getD s i 0) (getD w i 0) then 0 else each)
-  unfolding costAt
-  cost-here each i h = ap (λ (x : ℕ). if eqb x (getD w i 0) then 0 else each) (here i h)
+-- bits gathered of two units: none is there only where none was and the two are the same
+pub none-gathered : (a h w : ℕ) → bitOr a (bitXor h w) ≡ 0 → (a ≡ 0) × (h ≡ w)
+none-gathered a h w e =
+    let m = or-add-and a (bitXor h w) in
+    let n = and-le-l a (bitXor h w) in
+    let n′ = and-le-r a (bitXor h w) in
+    let x = xor-add-and h w in
+    let y = and-le-l h w in
+    let y′ = and-le-r h w in
+    (omega arith, omega arith)
 
 pub costs-turn : (n each i : ℕ) (w s : List ℕ) → i < n → costs (n - i) each i w s ≡ (if eqb (getD s i 0) (getD w i 0) then 0 else each) + costs (n - (i + 1)) each (i + 1) w s
 costs-turn n each i w s h = ap (λ (k : ℕ). costs k each i w s) (let e : n - i ≡ suc (n - (i + 1)) = omega arith in e)
 
 pub costs-over : (n each i : ℕ) (w s : List ℕ) → n ≤ i → costs (n - i) each i w s ≡ 0
 costs-over n each i w s h = ap (λ (k : ℕ). costs k each i w s) (let e : n - i ≡ 0 = omega arith in e)
+
+-- programs of `each` cycles cost as many times that as there are units that differ
+pub costs-each : (k each i : ℕ) (w s : List ℕ) → costs k each i w s ≡ costs k 1 i w s * each
+costs-each zero each i w s = sym (zero-mul each)
+costs-each (suc k) each i w s =
+    let t = eqb (getD s i 0) (getD w i 0) in
+    let one : (if t then 0 else each) ≡ (if t then 0 else 1) * each = if-ind (λ (n : ℕ). (if t then 0 else each) ≡ n * each) t 0 1 (λ e. if-true t 0 each e ∙ sym (zero-mul each)) (λ e. if-false t 0 each e ∙ sym (one-mul each)) in
+    (λ j. one j + costs-each k each (i + 1) w s j) ∙ sym (add-mul (if t then 0 else 1) (costs k 1 (i + 1) w s) each)
+
+-- no more differ than there are
+pub costs-few : (k i : ℕ) (w s : List ℕ) → costs k 1 i w s ≤ k
+costs-few zero i w s = omega arith
+costs-few (suc k) i w s =
+    let m = costs-few k (i + 1) w s in
+    let l : (if eqb (getD s i 0) (getD w i 0) then 0 else 1) ≤ 1 = if-ind (λ (n : ℕ). n ≤ 1) (eqb (getD s i 0) (getD w i 0)) 0 1 (λ e. omega arith) (λ e. omega arith) in
+    omega arith
 
 -- no byte costs more than 65,537
 pub costs-most : (k each i : ℕ) (w s : List ℕ) → each ≤ 4294967295 → costs k each i w s ≤ k * 4294967295
@@ -134,26 +135,26 @@ unrisen (suc n) i w s e (suc j) h =
     (unrisen n (i + 1) w s (or-right (mustRise (getD s i 0) (getD w i 0)) (rises n (i + 1) w s) e) j (le-of-suc-le-suc h))
 
 -- so the programs may begin
-module _ (h w s : List ℕ) (same : h ≡ s) (long : length s ≡ length w) (short : length w ≤ 16777216) where
-  pub as-held : risesIn w s ≡ false → Programmable h w s
-  unfolding risesIn
-  as-held e = record {
-    read = same;
-    long = long;
-    short = short;
-    falls = λ i l. eqb-true _ _ (not-false _ (subst (λ (m : ℕ). mustRise (getD s m 0) (getD w m 0) ≡ false) (let q : 0 + i ≡ i = omega arith in q) (unrisen (length w) 0 w s e i l)));
-  }
-
--- all ones keep any unit
-top-keeps : (word : Bool) (v : ℕ) → v ≤ top word → bitAnd (top word) v ≡ v
-unfolding ones
-top-keeps word v h = and-ones (record { number = 0; word = word }) v h
+pub as-held : (h w s : List ℕ) → h ≡ s → length s ≡ length w → risesIn w s ≡ false → Falling h w
+unfolding risesIn
+as-held h w s same long e = record {
+  long = ap (λ (x : List ℕ). length x) same ∙ long;
+  falls = λ i l. ap (λ (x : List ℕ). bitAnd (getD x i 0) (getD w i 0)) same ∙ eqb-true _ _ (not-false _ (subst (λ (m : ℕ). mustRise (getD s m 0) (getD w m 0) ≡ false) (let q : 0 + i ≡ i = omega arith in q) (unrisen (length w) 0 w s e i l)));
+}
 
 -- and from all ones they may
-pub as-erased : (word : Bool) (h w s : List ℕ) (m n : ℕ) → h ≡ replicate m (top word) → s ≡ replicate n (top word) → m ≡ n → n ≡ length w → length w ≤ 16777216 → ((i : ℕ) → getD w i 0 ≤ top word) → Programmable h w s
-as-erased word h w s m n f g e l short cells = record {
-  read = f ∙ ap (λ (x : ℕ). replicate x (top word)) e ∙ sym g;
-  long = ap (λ (x : List ℕ). length x) g ∙ length-replicate n (top word) ∙ l;
-  short = short;
-  falls = λ i b. ap (λ (x : List ℕ). bitAnd (getD x i 0) (getD w i 0)) g ∙ ap (λ (x : ℕ). bitAnd x (getD w i 0)) (getD-replicate n i (top word) 0 (omega (arith, l))) ∙ top-keeps word (getD w i 0) (cells i);
+pub as-erased : (h w : List ℕ) (n : ℕ) → h ≡ replicate n 255 → n ≡ length w → Bytes w → Falling h w
+unfolding ones
+as-erased h w n f l bytes = record {
+  long = ap (λ (x : List ℕ). length x) f ∙ length-replicate n 255 ∙ l;
+  falls = λ i b. ap (λ (x : List ℕ). bitAnd (getD x i 0) (getD w i 0)) f ∙ ap (λ (x : ℕ). bitAnd x (getD w i 0)) (getD-replicate n i 255 0 (omega (arith, l))) ∙ and-ones (record { number = 0; word = false }) (getD w i 0) (omega (arith, bytes i));
 }
+
+-- nothing differs from itself
+never : (k i : ℕ) (us : List ℕ) → nextDiff k i us us ≡ i + k
+never zero i us = omega arith
+never (suc k) i us = if-true (eqb (getD us i 0) (getD us i 0)) _ _ (eq-eqb (getD us i 0) (getD us i 0) refl) ∙ never k (i + 1) us ∙ (let q : i + 1 + k ≡ i + suc k = omega arith in q)
+
+pub none-differs : (us : List ℕ) → diffFrom 0 us us ≡ length us
+unfolding diffFrom
+none-differs us = never (length us - 0) 0 us ∙ (let q : 0 + (length us - 0) ≡ length us = omega arith in q)

@@ -17,29 +17,15 @@ use Rattle.loader_blocks.specs.declared.Found.{Found}
 unfoldable pub alike : Bool → ℕ → ℕ → ℕ → Bool
 alike word h w s = ((eqb h w && eqb s w) && leb w 16777216) && not (torn word w)
 
--- the program of the unit at a place costs `each`, where it differs
-unfoldable pub costAt : ℕ → ℕ → List ℕ → List ℕ → ℕ
-costAt each i w s = if eqb (getD s i 0) (getD w i 0) then 0 else each
-
--- .. the held unit keeps the ones that the wanted unit has too
-unfoldable pub bitsKept : ℕ → List ℕ → List ℕ → List ℕ → List ℕ
-bitsKept i w s h = if eqb (getD s i 0) (getD w i 0) then h else set h i (bitAnd (getD h i 0) (getD w i 0))
-
--- .. and scratch takes the wanted unit
-unfoldable pub unitKept : ℕ → List ℕ → List ℕ → List ℕ
-unitKept i w s = if eqb (getD s i 0) (getD w i 0) then s else set s i (getD w i 0)
-
 -- the programs of k units from place i on
 abbrev pub costs : ℕ → ℕ → ℕ → List ℕ → List ℕ → ℕ
 costs zero each i w s = 0
 costs (suc k) each i w s = (if eqb (getD s i 0) (getD w i 0) then 0 else each) + costs k each (i + 1) w s
 
--- scratch is what the block holds, which is as long as what is wanted, and no bit must rise
-pub record Programmable (h w s : List ℕ) : Type 0 where
-  pub read : h ≡ s
-  pub long : length s ≡ length w
-  pub short : length w ≤ 16777216
-  pub falls : (i : ℕ) → i < length w → bitAnd (getD s i 0) (getD w i 0) ≡ getD w i 0
+-- the block's bytes are as many as the wanted ones, and no bit must rise
+pub record Falling (h w : List ℕ) : Type 0 where
+  pub long : length h ≡ length w
+  pub falls : (i : ℕ) → i < length w → bitAnd (getD h i 0) (getD w i 0) ≡ getD w i 0
 
 -- bytes of a whole number of units, with bits that must rise perhaps
 pub record Workable (word : Bool) (h w s : List ℕ) : Type 0 where

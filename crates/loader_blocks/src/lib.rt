@@ -2,14 +2,16 @@
 // block inside the array. Each stage is one walk, and gives the cycles of its operations: an operation's polls are counted, not made.
 use units::WordAddress;
 ghost use mathlib.Core.Path.{_≡_};
-ghost use mathlib.Core.Bool.{false};
+ghost use mathlib.Core.Bool.{true, false};
 ghost use Prim.Native.Nat.{_<_, _≤_};
 ghost use lib.ListN.{length};
 ghost use lib.Bits.{bitAnd, bitXor};
+ghost use lib.Dec.{eqb};
+ghost use Rattle.common.specs.Choice.{if_then_else_};
 ghost use Rattle.common.specs.Lists.{overwritten};
 ghost use Rattle.units.specs.Units.{units, spare, pairs, torn};
 ghost use Rattle.loader.specs.Walks.{risesIn, diffFrom};
-ghost use Rattle.loader_blocks.specs.Blocks.{alike, costAt, bitsKept, unitKept, costs, Programmable, Workable, workDone, readTo, blockDone, blockLeft, roomLeft, blockFound, blockRead, blockMet, blockSeen};
+ghost use Rattle.loader_blocks.specs.Blocks.{alike, costs, Falling, Workable, workDone, readTo, blockDone, blockLeft, roomLeft, blockFound, blockRead, blockMet, blockSeen};
 
 // The operations of a load: the cycles that they take, and whether an erase is among them.
 pub struct Done {
@@ -59,86 +61,85 @@ fn rises(wanted: &[u8], scratch: &[u8]) -> bool
     !(bits == 0)
 }
 
-// The program of one byte, where scratch differs from what is wanted: the byte keeps only the ones that both have, and scratch takes
-// what is wanted. `each` is what a program costs.
-fn byte_at(each: u64, at: usize, held: &mut [u8], wanted: &[u8], scratch: &mut [u8]) -> u64
-    requires { ⌜ (at < length (now held)) × (at < length (now wanted)) × (at < length (now scratch)) ⌝ }
-    ensures { λ r. ⌜ r ≡ costAt each at (now (wanted .entry)) (now (scratch .entry)) ⌝ }
-    ensures { λ _. ⌜ now (held .exit) ≡ bitsKept at (now (wanted .entry)) (now (scratch .entry)) (now (held .entry)) ⌝ }
-    ensures { λ _. ⌜ now (scratch .exit) ≡ unitKept at (now (wanted .entry)) (now (scratch .entry)) ⌝ }
+// One where two units differ.
+fn unlike(a: u16, b: u16) -> u32
+    ensures { λ r. ⌜ (r ≡ (if eqb a b then 0 else 1)) × (r ≤ 1) ⌝ }
 {
-    let b = wanted[at];
-    if scratch[at] == b {
+    if a == b {
         return 0;
     }
-    held[at] = held[at] & b;
-    scratch[at] = b;
-    each
+    1
 }
 
-// The programs: each byte that differs, rising.
-fn program_bytes(each: u64, held: &mut [u8], wanted: &[u8], scratch: &mut [u8]) -> u64
-    requires { ⌜ Programmable (now held) (now wanted) (now scratch) × (each ≤ 4294967295) ⌝ }
-    ensures { λ r. ⌜ r ≡ costs (length (now (wanted .entry))) each 0 (now (wanted .entry)) (now (scratch .entry)) ⌝ }
+// How many bytes differ. No walk from here on has a stop, so that the compiler takes many bytes at once.
+fn unlike_bytes(wanted: &[u8], scratch: &[u8]) -> u32
+    requires { ⌜ (length (now scratch) ≡ length (now wanted)) × (length (now wanted) ≤ 16777216) ⌝ }
+    ensures { λ r. ⌜ r ≡ costs (length (now (wanted .entry))) 1 0 (now (wanted .entry)) (now (scratch .entry)) ⌝ }
+{
+    let n = wanted.len();
+    let mut count: u32 = 0;
+    let mut i = 0;
+    while i < n {
+        let c = unlike(units::wide(scratch[i]), units::wide(wanted[i]));
+        count += c;
+        i += 1;
+    }
+    count
+}
+
+// How many words differ.
+fn unlike_words(wanted: &[u8], scratch: &[u8]) -> u32
+    requires { ⌜ length (now wanted) ≤ 16777216 ⌝ }
+    ensures { λ r. ⌜ r ≡ costs (length (pairs (now (wanted .entry)))) 1 0 (pairs (now (wanted .entry))) (pairs (now (scratch .entry))) ⌝ }
+{
+    let n = units::units_in(true, wanted.len());
+    let mut count: u32 = 0;
+    let mut i = 0;
+    while i < n {
+        let u = units::get_word(scratch, WordAddress { word: i });
+        let v = units::get_word(wanted, WordAddress { word: i });
+        let c = unlike(u, v);
+        count += c;
+        i += 1;
+    }
+    count
+}
+
+// How many units differ.
+fn unlike_units(word: bool, wanted: &[u8], scratch: &[u8]) -> u32
+    requires { ⌜ (length (now scratch) ≡ length (now wanted)) × (length (now wanted) ≤ 16777216) ⌝ }
+    ensures { λ r. ⌜ r ≡ costs (length (units word (now (wanted .entry)))) 1 0 (units word (now (wanted .entry))) (units word (now (scratch .entry))) ⌝ }
+{
+    if word {
+        return unlike_words(wanted, scratch);
+    }
+    unlike_bytes(wanted, scratch)
+}
+
+// What programs leave: each byte keeps only the ones that the wanted byte has too. Where no bit must rise, these are the wanted bytes.
+fn keep_bits(held: &mut [u8], wanted: &[u8])
+    requires { ⌜ Falling (now held) (now wanted) ⌝ }
+    ensures { λ _. ⌜ now (held .exit) ≡ now (wanted .entry) ⌝ }
+{
+    let n = wanted.len();
+    let mut i = 0;
+    while i < n {
+        held[i] = held[i] & wanted[i];
+        i += 1;
+    }
+}
+
+// The programs: each unit that differs, for `each` cycles; scratch takes what is wanted.
+fn program_all(word: bool, each: u64, held: &mut [u8], wanted: &[u8], scratch: &mut [u8]) -> u64
+    requires { ⌜ Falling (now held) (now wanted) × (length (now scratch) ≡ length (now wanted)) × (length (now wanted) ≤ 16777216) × (each ≤ 4294967295) ⌝ }
+    ensures { λ r. ⌜ r ≡ costs (length (units word (now (wanted .entry)))) each 0 (units word (now (wanted .entry))) (units word (now (scratch .entry))) ⌝ }
     ensures { λ _. ⌜ now (held .exit) ≡ now (wanted .entry) ⌝ }
     ensures { λ _. ⌜ now (scratch .exit) ≡ now (wanted .entry) ⌝ }
 {
-    let n = wanted.len();
-    let mut count: u64 = 0;
-    let mut i = 0;
-    while i < n {
-        let c = byte_at(each, i, held, wanted, scratch);
-        count += c;
-        i += 1;
-    }
-    count
-}
-
-// The program of one word, likewise: both bytes at once.
-fn word_at(each: u64, at: usize, held: &mut [u8], wanted: &[u8], scratch: &mut [u8]) -> u64
-    ensures { λ r. ⌜ r ≡ costAt each at (pairs (now (wanted .entry))) (pairs (now (scratch .entry))) ⌝ }
-    ensures { λ _. ⌜ pairs (now (held .exit)) ≡ bitsKept at (pairs (now (wanted .entry))) (pairs (now (scratch .entry))) (pairs (now (held .entry))) ⌝ }
-    ensures { λ _. ⌜ pairs (now (scratch .exit)) ≡ unitKept at (pairs (now (wanted .entry))) (pairs (now (scratch .entry))) ⌝ }
-{
-    let v = units::get_word(wanted, WordAddress { word: at });
-    let u = units::get_word(scratch, WordAddress { word: at });
-    if u == v {
-        return 0;
-    }
-    units::program_unit(true, held, at, v);
-    units::put_word(scratch, WordAddress { word: at }, v);
-    each
-}
-
-// The programs: each word that differs, rising.
-fn program_words(each: u64, held: &mut [u8], wanted: &[u8], scratch: &mut [u8]) -> u64
-    requires { ⌜ Programmable (pairs (now held)) (pairs (now wanted)) (pairs (now scratch)) × (each ≤ 4294967295) ⌝ }
-    ensures { λ r. ⌜ r ≡ costs (length (pairs (now (wanted .entry)))) each 0 (pairs (now (wanted .entry))) (pairs (now (scratch .entry))) ⌝ }
-    ensures { λ _. ⌜ pairs (now (held .exit)) ≡ pairs (now (wanted .entry)) ⌝ }
-    ensures { λ _. ⌜ pairs (now (scratch .exit)) ≡ pairs (now (wanted .entry)) ⌝ }
-{
-    let n = units::units_in(true, wanted.len());
-    let mut count: u64 = 0;
-    let mut i = 0;
-    while i < n {
-        let c = word_at(each, i, held, wanted, scratch);
-        count += c;
-        i += 1;
-    }
-    count
-}
-
-// The programs of either width.
-fn program_all(word: bool, each: u64, held: &mut [u8], wanted: &[u8], scratch: &mut [u8]) -> u64
-    requires { ⌜ Programmable (units word (now held)) (units word (now wanted)) (units word (now scratch)) × (each ≤ 4294967295) ⌝ }
-    ensures { λ r. ⌜ r ≡ costs (length (units word (now (wanted .entry)))) each 0 (units word (now (wanted .entry))) (units word (now (scratch .entry))) ⌝ }
-    ensures { λ _. ⌜ units word (now (held .exit)) ≡ units word (now (wanted .entry)) ⌝ }
-    ensures { λ _. ⌜ units word (now (scratch .exit)) ≡ units word (now (wanted .entry)) ⌝ }
-{
-    if word {
-        return program_words(each, held, wanted, scratch);
-    }
-    program_bytes(each, held, wanted, scratch)
+    let n = unlike_units(word, wanted, scratch);
+    keep_bits(held, wanted);
+    common::copy(scratch, wanted);
+    n as u64 * each
 }
 
 // The operations of a load, once the block is read into scratch: the erase if some bit must rise, then the programs. `once` is what the
@@ -236,12 +237,31 @@ fn verify_words(held: &[u8], wanted: &[u8], scratch: &mut [u8]) -> usize
     i
 }
 
-// .. of either width.
+// Two stretches of bytes are the same: a sufficient test, by one walk.
+fn are_same(held: &[u8], wanted: &[u8]) -> bool
+    requires { ⌜ length (now held) ≡ length (now wanted) ⌝ }
+    ensures { λ r. ⌜ (r ≡ true → now (held .entry) ≡ now (wanted .entry)) ⌝ }
+{
+    let n = wanted.len();
+    let mut bits: u8 = 0;
+    let mut i = 0;
+    while i < n {
+        bits = bits | (held[i] ^ wanted[i]);
+        i += 1;
+    }
+    bits == 0
+}
+
+// The reads of a verify, of either width: where nothing differs, all at once.
 fn verify_all(word: bool, held: &[u8], wanted: &[u8], scratch: &mut [u8]) -> usize
-    requires { ⌜ (length (units word (now held)) ≡ length (units word (now wanted))) × (length (units word (now scratch)) ≡ length (units word (now wanted))) ⌝ }
+    requires { ⌜ (length (now held) ≡ length (now wanted)) × (length (now scratch) ≡ length (now wanted)) ⌝ }
     ensures { λ r. ⌜ r ≡ diffFrom 0 (units word (now (wanted .entry))) (units word (now (held .entry))) ⌝ }
     ensures { λ _. ⌜ units word (now (scratch .exit)) ≡ overwritten (readTo (units word (now (wanted .entry))) (units word (now (held .entry)))) (units word (now (held .entry))) (units word (now (scratch .entry))) ⌝ }
 {
+    if are_same(held, wanted) {
+        common::copy(scratch, held);
+        return units::units_in(word, wanted.len());
+    }
     if word {
         return verify_words(held, wanted, scratch);
     }

@@ -12,7 +12,7 @@ use Rattle.units.proofs.Widths.{units-length}
 use Rattle.loader.specs.Walks.{risesIn}
 use Rattle.loader_blocks.specs.Blocks.{alike}
 use Rattle.loader_blocks.proofs.Bytewise.{rises-units}
-use Rattle.loader_blocks.proofs.Lent.{units-same, held-long, room-long, whole, found-so, read-is, none-found, none-read}
+use Rattle.loader_blocks.proofs.Lent.{held-long, room-long, whole, found-so, read-is, none-found, none-read}
 use Rattle.loader_blocks.proofs.look_at_block.Statement.{statement}
 use Rattle.loader_blocks.proofs.look_at_block.Tie as tie
 
@@ -26,7 +26,7 @@ verify-all-requires c κs =
     let w = a .wanted .now in
     let s = a .scratch .now in
     let e : alike (a .word) (length h) (length w) (length s) ≡ true = sym (c .before .before .are-alike .ensures) ∙ c .before .if1 .taken in
-    (units-same (a .word) h w (held-long (a .word) h w s e), units-same (a .word) s w (room-long (a .word) h w s e))
+    (held-long (a .word) h w s e, room-long (a .word) h w s e)
 
 copy-requires : tie.Need-copy-requires
 copy-requires c κs = search needs

@@ -6,7 +6,7 @@ use lib.ListN.{length}
 use borrow.Author.Needs.{needs}
 use Rattle.units.specs.Units.{torn}
 use Rattle.loader_blocks.specs.Blocks.{alike}
-use Rattle.loader_blocks.proofs.Lent.{units-same, spare-same, held-long, room-long, whole, met-is, seen-is, none-met, none-seen}
+use Rattle.loader_blocks.proofs.Lent.{spare-same, held-long, room-long, whole, met-is, seen-is, none-met, none-seen}
 use Rattle.loader_blocks.proofs.verify_block.Statement.{statement}
 use Rattle.loader_blocks.proofs.verify_block.Tie as tie
 
@@ -20,7 +20,7 @@ verify-all-requires c κs =
     let w = a .wanted .now in
     let s = a .scratch .now in
     let e : alike (a .word) (length h) (length w) (length s) ≡ true = sym (c .before .before .are-alike .ensures) ∙ c .before .if1 .taken in
-    (units-same (a .word) h w (held-long (a .word) h w s e), units-same (a .word) s w (room-long (a .word) h w s e))
+    (held-long (a .word) h w s e, room-long (a .word) h w s e)
 
 same-length : tie.Need-same-length
 same-length c = search needs

@@ -4,11 +4,10 @@ use mathlib.Core.Bool.{true, false}
 use mathlib.Core.List.{List}
 use Prim.Native.Nat.{ℕ, _+_, _*_, _≤_}
 use native.Mathlib.Omega.{arith}
-use lib.ListN.{length, replicate}
+use lib.ListN.{length, replicate, length-replicate}
 use borrow.Author.Needs.{needs}
 use Rattle.common.proofs.Choice.{if-true, if-false}
 use Rattle.units.specs.Units.{units, top}
-use Rattle.units.proofs.Widths.{cells}
 use Rattle.loader.specs.Walks.{risesIn}
 use Rattle.loader_blocks.specs.Blocks.{costs, workCosts}
 use Rattle.loader_blocks.proofs.Laws.{as-held, as-erased, costs-most}
@@ -30,12 +29,12 @@ program-all-requires : tie.Need-program-all-requires
 program-all-requires c κs =
     let a = c .before .before .before .before .before .before .before .before .before .before .before .before .before .before .before .before .args in
     let p = c .before .before .before .before .before .before .before .before .before .before .before .before .before .before .before .before .pre in
-    let b = a .word in
     let w = a .wanted .now in
     let f = c .before .before .before .before .before .before .before .before .fill-units in
     let g = c .before .before .before .before .fill-units2 in (
-      as-erased b (units b (f .last .1 .0)) (units b w) (units b (g .last .1 .0)) (length (units b (a .held .now))) (length (units b (a .scratch .now))) (f .ensures .0) (g .ensures .0)
-          (ap (λ (z : List ℕ). length (units b z)) (p .0 .read)) (units-same b (a .scratch .now) w (p .0 .long)) (omega (arith, units-few b w, p .0 .short)) (cells b w (λ i. c .before .before .before .before .before .before .before .before .before .before .before .before .before .before .shared-slice-known .given i .fits)),
+      as-erased (f .last .1 .0) w (length (a .held .now)) (f .ensures .1) (ap (λ (z : List ℕ). length z) (p .0 .read) ∙ p .0 .long) (λ i. c .before .before .before .before .before .before .before .before .before .before .before .before .before .before .shared-slice-known .given i .fits),
+      ap (λ (z : List ℕ). length z) (g .ensures .1) ∙ length-replicate (length (a .scratch .now)) 255 ∙ p .0 .long,
+      p .0 .short,
       p .2,
     )
 
@@ -68,15 +67,14 @@ returns c =
     let t : risesIn W S ≡ true = rises-units b (a .wanted .now) (a .scratch .now) (p .0 .long) (p .0 .whole) (λ i. c .before .before .before .before .before .before .before .before .before .before .before .before .before .before .before .before .before .before .before .shared-slice-known .given i .fits) (λ i. c .before .before .before .before .before .before .before .before .before .before .before .before .before .before .before .before .before .before .slice-known2 .given i .fits) ∙ sym (c .before .before .before .before .before .before .before .before .before .before .before .before .before .before .before .before .rises .ensures) ∙ c .before .before .before .before .before .before .before .before .before .before .before .before .before .before .before .if1 .taken in
     let e : units b (g .last .1 .0) ≡ replicate (length W) (top b) = g .ensures .0 ∙ ap (λ (n : ℕ). replicate n (top b)) (units-same b (a .scratch .now) (a .wanted .now) (p .0 .long)) in
     let q : a .once + f .result ≡ workCosts b (a .once) (a .each) W S = ap (λ (n : ℕ). a .once + n) (f .ensures .0 ∙ ap (λ (z : List ℕ). costs (length W) (a .each) 0 W z) e) ∙ sym (if-true (risesIn W S) _ _ t) in
-    ((λ i. record { cycles = q i; erased = sym t i }), (f .ensures .1 .0, f .ensures .1 .1))
+    ((λ i. record { cycles = q i; erased = sym t i }), (ap (λ (z : List ℕ). units b z) (f .ensures .1 .0), ap (λ (z : List ℕ). units b z) (f .ensures .1 .1)))
 
 program-all-requires-2 : tie.Need-program-all-requires-2
 program-all-requires-2 c κs =
     let a = c .before .before .before .before .before .before .before .before .args in
     let p = c .before .before .before .before .before .before .before .before .pre in
-    let b = a .word in
-    let t : risesIn (units b (a .wanted .now)) (units b (a .scratch .now)) ≡ false = rises-units b (a .wanted .now) (a .scratch .now) (p .0 .long) (p .0 .whole) (λ i. c .before .before .before .before .before .before .shared-slice-known .given i .fits) (λ i. c .before .before .before .before .before .slice-known2 .given i .fits) ∙ sym (c .before .before .before .rises .ensures) ∙ c .before .before .if1 .left in
-    (as-held (units b (a .held .now)) (units b (a .wanted .now)) (units b (a .scratch .now)) (ap (λ (z : List ℕ). units b z) (p .0 .read)) (units-same b (a .scratch .now) (a .wanted .now) (p .0 .long)) (omega (arith, units-few b (a .wanted .now), p .0 .short)) t, p .2)
+    let t : risesIn (a .wanted .now) (a .scratch .now) ≡ false = sym (c .before .before .before .rises .ensures) ∙ c .before .before .if1 .left in
+    (as-held (a .held .now) (a .wanted .now) (a .scratch .now) (p .0 .read) (p .0 .long) t, p .0 .long, p .0 .short, p .2)
 
 same-length-3 : tie.Need-same-length-3
 same-length-3 c = search needs
@@ -95,7 +93,7 @@ returns-2 c =
     let f = c .before .before .before .before .program-all2 in
     let t : risesIn W S ≡ false = rises-units b (a .wanted .now) (a .scratch .now) (p .0 .long) (p .0 .whole) (λ i. c .before .before .before .before .before .before .before .before .before .before .before .shared-slice-known .given i .fits) (λ i. c .before .before .before .before .before .before .before .before .before .before .slice-known2 .given i .fits) ∙ sym (c .before .before .before .before .before .before .before .before .rises .ensures) ∙ c .before .before .before .before .before .before .before .if1 .left in
     let q : f .result ≡ workCosts b (a .once) (a .each) W S = f .ensures .0 ∙ sym (if-false (risesIn W S) _ _ t) in
-    ((λ i. record { cycles = q i; erased = sym t i }), (f .ensures .1 .0, f .ensures .1 .1))
+    ((λ i. record { cycles = q i; erased = sym t i }), (ap (λ (z : List ℕ). units b z) (f .ensures .1 .0), ap (λ (z : List ℕ). units b z) (f .ensures .1 .1)))
 
 pub work-spec : {M : Type 1} → statement M
 work-spec =
