@@ -152,7 +152,7 @@ cycle-back c =
     λ i. record { kind = k i; pins = c .pins; oe = oe i; address = c .address; «data» = c .data }
 
 -- in and out again, for numbers in their range
-mode-number : (n : ℕ) → n ≤ 2 → modeOut (modeIn n) ≡ n
+pub mode-number : (n : ℕ) → n ≤ 2 → modeOut (modeIn n) ≡ n
 unfolding modeIn
 mode-number zero h = refl
 mode-number (suc zero) h = refl

@@ -1,3 +1,4 @@
 pub mod Border
+pub mod Cycles
 pub mod Claims
 pub mod Unique

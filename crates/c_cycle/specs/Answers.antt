@@ -1,11 +1,16 @@
 -- What a cycle answers, as plain numbers.
+use mathlib.Core.List.{List}
 use Prim.Native.Nat.{ℕ}
 use Rattle.common.specs.Choice.{if_then_else_}
+use Rattle.units.specs.Units.{units, lent}
 use Rattle.model_types.specs.declared.State.{State}
 use Rattle.model.specs.declared.Seen.{Seen}
 use Rattle.model.specs.declared.Seen.the-variants.{NoData, Data, Refused}
 use Rattle.model.specs.declared.Answer.{Answer}
-use Rattle.c_cycle.specs.Values.{stateOut, noState}
+use Rattle.model.specs.Arrays.{answerOf, bytesAfter}
+use Rattle.c_cycle.specs.Values.{deviceIn, stateIn, stateOut, cycleIn, noState}
+use Rattle.c_cycle.specs.declared.DeviceNumbers.{DeviceNumbers}
+use Rattle.c_cycle.specs.declared.BusNumbers.{BusNumbers}
 use Rattle.c_cycle.specs.declared.StateNumbers.{StateNumbers}
 use Rattle.c_cycle.specs.declared.AnswerNumbers.{AnswerNumbers}
 
@@ -28,3 +33,11 @@ valueOut (Refused n) = n
 -- an answer as numbers, its state for the numbers that came in
 abbrev pub answerOut : StateNumbers → Answer → AnswerNumbers
 answerOut n a = record { seen = seenOut (a .seen); value = valueOut (a .seen); state = stateBack n (a .state) }
+
+-- a bus cycle: the answer, by the units of the lent bytes
+unfoldable pub cycled : DeviceNumbers → StateNumbers → BusNumbers → List ℕ → List ℕ → AnswerNumbers
+cycled d s c xs rs = answerOut s (answerOf (deviceIn d) (stateIn s) (cycleIn c) (lent (deviceIn d .part .word) xs) (units (deviceIn d .part .word) rs))
+
+-- .. and the lent bytes of the array after it
+unfoldable pub arrayCycled : DeviceNumbers → StateNumbers → BusNumbers → List ℕ → List ℕ → List ℕ
+arrayCycled d s c xs rs = bytesAfter (deviceIn d) (stateIn s) (cycleIn c) xs rs

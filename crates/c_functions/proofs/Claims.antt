@@ -30,8 +30,8 @@ use Rattle.wear.specs.Reports.{noReport}
 use Rattle.wear.specs.Refusals.{reportRows, addRows, addedTo}
 use Rattle.c_cycle.specs.Values.{deviceIn, deviceOut, pinsIn, noState, wearOut, stateIn, stateOut, cycleOut}
 use Rattle.c_records.specs.Records.{noRecord, loaderIn, loaderOut, turnOut}
-use Rattle.c_cycle.specs.Answers.{seenOut, valueOut}
-use Rattle.c_functions.specs.Calls.{startedAt, cycled, arrayCycled, steppedOf, scratchStepped, runAtOf, arrayRunAt, scratchRunAt, fileAtOf, arrayFileAt, wantedFileAt, scratchFileAt, writtenOf, fileLeft, fileRead, payloadLeft, ranNumbers, wearAdded, wearReported}
+use Rattle.c_cycle.specs.Answers.{seenOut, valueOut, cycled, arrayCycled}
+use Rattle.c_functions.specs.Calls.{startedAt, steppedOf, scratchStepped, runAtOf, arrayRunAt, scratchRunAt, fileAtOf, arrayFileAt, wantedFileAt, scratchFileAt, writtenOf, fileLeft, fileRead, payloadLeft, ranNumbers, wearAdded, wearReported}
 use Rattle.c_functions.specs.Geometry.{sizeGiven, blockGiven}
 use Rattle.c_cycle.specs.declared.DeviceNumbers.{DeviceNumbers}
 use Rattle.c_cycle.specs.declared.WearNumbers.{WearNumbers}

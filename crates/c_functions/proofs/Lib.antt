@@ -1,4 +1,3 @@
-pub mod Cycles
 pub mod Returned
 pub mod Claims
 pub mod Unique

@@ -48,8 +48,8 @@ use Rattle.loader_from_file.proofs.Leaving as load-leaving
 use Rattle.file_codec.specs.File.{Outcome, refused, made, limit, inRoom, leftIn, readerOf, writerOf, readAs, writtenAs}
 use Rattle.c_cycle.specs.Values.{partIn, deviceIn, pinsIn, noState, stateIn, stateOut, cycleIn, cycleOut, deviceOut}
 use Rattle.c_records.specs.Records.{noRecord, loaderIn, loaderOut, loaderBack, turnOut, ranOut, writtenOut, readOut}
-use Rattle.c_cycle.specs.Answers.{stateBack, seenOut, valueOut, answerOut}
-use Rattle.c_functions.specs.Calls.{wide, wideIn, startedAt, cycled, arrayCycled, steppedOf, scratchStepped, runAtOf, arrayRunAt, scratchRunAt, fileAtOf, arrayFileAt, wantedFileAt, scratchFileAt, writtenOf, fileLeft, fileRead, payloadLeft, ranNumbers}
+use Rattle.c_cycle.specs.Answers.{stateBack, seenOut, valueOut, answerOut, cycled, arrayCycled}
+use Rattle.c_functions.specs.Calls.{wide, wideIn, startedAt, steppedOf, scratchStepped, runAtOf, arrayRunAt, scratchRunAt, fileAtOf, arrayFileAt, wantedFileAt, scratchFileAt, writtenOf, fileLeft, fileRead, payloadLeft, ranNumbers}
 use Rattle.c_functions.specs.Geometry.{partBy, sizeGiven, blockGiven}
 use Rattle.c_cycle.specs.declared.DeviceNumbers.{DeviceNumbers}
 use Rattle.c_cycle.specs.declared.StateNumbers.{StateNumbers}

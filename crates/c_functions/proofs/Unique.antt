@@ -10,7 +10,8 @@ use Rattle.file_check.specs.Check.{checkOf}
 use Rattle.c_cycle.specs.Values.{stateOut}
 use Rattle.c_records.specs.declared.BlockNumbers.{BlockNumbers}
 use Rattle.c_functions.specs.Geometry.{sizeGiven, blockGiven}
-use Rattle.c_functions.specs.Calls.{cycled, arrayCycled, started, steppedOf, scratchStepped, runOf, arrayRun, scratchRun, loadOf, arrayLoad, wantedLoad, scratchLoad, loadStarted, verifyStarted, loadRunOf, arrayLoadRun, scratchLoadRun, verifyRunOf, arrayVerifyRun, scratchVerifyRun, verifyFileOf, arrayVerifyFile, wantedVerifyFile, scratchVerifyFile, writtenOf, fileLeft, fileRead, payloadLeft, readingGiven, readingRead, wearAdded, wearReported}
+use Rattle.c_cycle.specs.Answers.{cycled, arrayCycled}
+use Rattle.c_functions.specs.Calls.{started, steppedOf, scratchStepped, runOf, arrayRun, scratchRun, loadOf, arrayLoad, wantedLoad, scratchLoad, loadStarted, verifyStarted, loadRunOf, arrayLoadRun, scratchLoadRun, verifyRunOf, arrayVerifyRun, scratchVerifyRun, verifyFileOf, arrayVerifyFile, wantedVerifyFile, scratchVerifyFile, writtenOf, fileLeft, fileRead, payloadLeft, readingGiven, readingRead, wearAdded, wearReported}
 use Rattle.c_readings.specs.declared.ReadingNumbers.{ReadingNumbers}
 use Rattle.reading_table.specs.Table.{tableNumber}
 use lib.IntN.{ℤ}

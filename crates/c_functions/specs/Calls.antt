@@ -5,7 +5,6 @@ use Prim.Native.Nat.{ℕ}
 use lib.ListN.{length}
 use lib.IntN.{ℤ}
 use Rattle.units.specs.Units.{units, lent}
-use Rattle.model.specs.Arrays.{answerOf, bytesAfter}
 use Rattle.loader.specs.declared.Stage.{Stage}
 use Rattle.loader.specs.declared.Stage.the-variants.{Clearing, Closing}
 use Rattle.loader.specs.declared.Given.{Given}
@@ -16,7 +15,6 @@ use Rattle.loader_from_file.specs.Loads.{fileLeftAt}
 use Rattle.file_codec.specs.File.{limit, inRoom, leftIn, readerOf, writerOf, readAs, writtenAs}
 use Rattle.c_cycle.specs.Values.{stateOut, partIn, deviceIn, pinsIn, wearIn, stateIn, cycleIn}
 use Rattle.c_records.specs.Records.{loaderIn, loaderOut, loaderBack, turnOut, writtenOut, readOut, ranOut}
-use Rattle.c_cycle.specs.Answers.{answerOut}
 use Rattle.c_cycle.specs.declared.DeviceNumbers.{DeviceNumbers}
 use Rattle.c_cycle.specs.declared.WearNumbers.{WearNumbers}
 use Rattle.c_cycle.specs.declared.StateNumbers.{StateNumbers}
@@ -41,14 +39,6 @@ wide d = deviceIn d .part .word
 -- whether the part that a loader's numbers name is in word mode
 abbrev pub wideIn : LoaderNumbers → Bool
 wideIn l = loaderIn l .part .word
-
--- a bus cycle: the answer, by the units of the lent bytes, and the lent bytes of the array
-unfoldable pub cycled : DeviceNumbers → StateNumbers → BusNumbers → List ℕ → List ℕ → AnswerNumbers
-cycled d s c xs rs = answerOut s (answerOf (deviceIn d) (stateIn s) (cycleIn c) (lent (wide d) xs) (units (wide d) rs))
-
--- .. the lent bytes of the array after it
-unfoldable pub arrayCycled : DeviceNumbers → StateNumbers → BusNumbers → List ℕ → List ℕ → List ℕ
-arrayCycled d s c xs rs = bytesAfter (deviceIn d) (stateIn s) (cycleIn c) xs rs
 
 -- what a start says, and the record
 abbrev pub givenOut : Given → GivenNumbers

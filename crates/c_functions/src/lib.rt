@@ -23,7 +23,8 @@ ghost use Rattle.file_check.specs.Check.{checkOf};
 ghost use Rattle.c_cycle.specs.Values.{stateOut};
 ghost use Rattle.reading_table.specs.Table.{tableNumber};
 ghost use Rattle.c_functions.specs.Geometry.{sizeGiven, blockGiven};
-ghost use Rattle.c_functions.specs.Calls.{cycled, arrayCycled, givenOut, started, loadStarted, verifyStarted, steppedOf, scratchStepped, runOf, arrayRun, scratchRun, loadRunOf, arrayLoadRun, scratchLoadRun, verifyRunOf, arrayVerifyRun, scratchVerifyRun, loadOf, arrayLoad, wantedLoad, scratchLoad, verifyFileOf, arrayVerifyFile, wantedVerifyFile, scratchVerifyFile, writtenOf, fileLeft, fileRead, payloadLeft, readingGiven, readingRead, wearAdded, wearReported};
+ghost use Rattle.c_cycle.specs.Answers.{cycled, arrayCycled};
+ghost use Rattle.c_functions.specs.Calls.{givenOut, started, loadStarted, verifyStarted, steppedOf, scratchStepped, runOf, arrayRun, scratchRun, loadRunOf, arrayLoadRun, scratchLoadRun, verifyRunOf, arrayVerifyRun, scratchVerifyRun, loadOf, arrayLoad, wantedLoad, scratchLoad, verifyFileOf, arrayVerifyFile, wantedVerifyFile, scratchVerifyFile, writtenOf, fileLeft, fileRead, payloadLeft, readingGiven, readingRead, wearAdded, wearReported};
 
 // A fresh device.
 #[no_mangle]
@@ -88,11 +89,7 @@ pub extern "C" fn tb_cycle(
     ensures { λ r. ⌜ r ≡ cycled device state bus (now (array .entry)) (now (residue .entry)) ⌝ }
     ensures { λ _. ⌜ now (array .exit) ≡ arrayCycled device state bus (now (array .entry)) (now (residue .entry)) ⌝ }
 {
-    let d = c_cycle::states::device_in(device);
-    let s = c_cycle::states::state_in(state);
-    let c = c_cycle::states::cycle_in(bus);
-    let a = model::cycle(d, s, c, array, residue);
-    c_cycle::states::answer_out(state, a)
+    c_ordinary::cycle(device, state, bus, array, residue)
 }
 
 // What a start says, and the record.

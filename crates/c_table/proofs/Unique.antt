@@ -8,7 +8,7 @@ use Rattle.c_cycle.specs.declared.AnswerNumbers.{AnswerNumbers}
 use Rattle.c_cycle.specs.declared.BusNumbers.{BusNumbers}
 use Rattle.c_cycle.specs.declared.DeviceNumbers.{DeviceNumbers}
 use Rattle.c_cycle.specs.declared.StateNumbers.{StateNumbers}
-use Rattle.c_functions.specs.Calls.{cycled, arrayCycled}
+use Rattle.c_cycle.specs.Answers.{cycled, arrayCycled}
 
 pub table-cycle-unique : (d : DeviceNumbers) (s : StateNumbers) (c : BusNumbers) (xs rs : List ℕ) → Unique (λ (r : AnswerNumbers). r ≡ cycled d s c xs rs)
 table-cycle-unique d s c xs rs = only (cycled d s c xs rs)

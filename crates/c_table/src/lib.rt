@@ -5,7 +5,7 @@ use c_cycle::BusNumbers;
 use c_cycle::DeviceNumbers;
 use c_cycle::StateNumbers;
 ghost use mathlib.Core.Path.{_≡_};
-ghost use Rattle.c_functions.specs.Calls.{cycled, arrayCycled};
+ghost use Rattle.c_cycle.specs.Answers.{cycled, arrayCycled};
 
 // One bus cycle, by the table.
 #[no_mangle]

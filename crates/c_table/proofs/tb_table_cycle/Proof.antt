@@ -1,7 +1,7 @@
 use borrow.Author.Needs.{needs}
 use mathlib.Core.Path.{_∙_}
 use Rattle.table_engine.proofs.Claims.{engines-agree}
-use Rattle.c_functions.proofs.Cycles.{cycle-given}
+use Rattle.c_cycle.proofs.Cycles.{cycle-given}
 use Rattle.c_table.proofs.tb_table_cycle.Statement.{statement}
 use Rattle.c_table.proofs.tb_table_cycle.Tie as tie
 

@@ -8,13 +8,12 @@ use Rattle.model_types.specs.declared.Cycle.{Cycle}
 use Rattle.model_types.specs.declared.State.{State}
 use Rattle.model.specs.declared.Answer.{Answer}
 use Rattle.model.specs.Arrays.{answerOf, bytesAfter}
 use Rattle.c_cycle.specs.Values.{deviceIn, stateIn, cycleIn}
-use Rattle.c_cycle.specs.Answers.{answerOut}
+use Rattle.c_cycle.specs.Answers.{answerOut, cycled, arrayCycled}
 use Rattle.c_cycle.specs.declared.AnswerNumbers.{AnswerNumbers}
 use Rattle.c_cycle.specs.declared.BusNumbers.{BusNumbers}
 use Rattle.c_cycle.specs.declared.DeviceNumbers.{DeviceNumbers}
 use Rattle.c_cycle.specs.declared.StateNumbers.{StateNumbers}
-use Rattle.c_functions.specs.Calls.{cycled, arrayCycled}
 
 -- values that stand for the numbers, an engine's answer and bytes for them, and that answer's numbers
 pub cycle-given : (d : DeviceNumbers) (s : StateNumbers) (c : BusNumbers) (xs rs : List ℕ) (dv : Device) (sv : State) (cv : Cycle) (a : Answer) (left : List ℕ) (out : AnswerNumbers)

@@ -1,0 +1,204 @@
+-- An ordinary cycle of a device at rest: refusals 1 to 6 do not apply, nothing is settled, and the answer is told by kind, mode and command.
+use mathlib.Core.Path.{_≡_, refl, sym, ap, _∙_}
+use mathlib.Core.Bool.{Bool, true, false, not, _&&_, _||_}
+use mathlib.Core.List.{List}
+use Prim.Native.Nat.{ℕ, _/_, _%_, _≤_, _<_}
+use native.Mathlib.Omega.{arith}
+use lib.ListN.{length, getD}
+use lib.Dec.{eqb, ltb, leb}
+use lib.Bits.{bitAnd}
+use borrow.Author.Tests.{eq-eqb, le-ltb, lt-leb}
+use Rattle.common.specs.Choice.{if_then_else_}
+use Rattle.common.specs.Lists.{Bytes}
+use Rattle.common.proofs.Choice.{if-true, if-false, and-none}
+use Rattle.units.specs.Units.{units, spare, lent, lentIn, unitsIn}
+use Rattle.units.proofs.Widths.{lent-length, lent-whole, lent-even}
+use Rattle.device.specs.declared.Part.{Part}
+use Rattle.device.specs.declared.Device.{Device}
+use Rattle.device.specs.Parts.{isLarge, unknownDevice, sizeOf}
+use Rattle.model_types.specs.declared.Kind.{Kind}
+use Rattle.model_types.specs.declared.Kind.the-variants.{Read, Write, Idle}
+use Rattle.model_types.specs.declared.Mode.{Mode}
+use Rattle.model_types.specs.declared.Mode.the-variants.{Array, Status, Identifier}
+use Rattle.model_types.specs.declared.Phase.the-variants.{Free}
+use Rattle.model_types.specs.declared.Action.{Action}
+use Rattle.model_types.specs.declared.Action.the-variants.{ToArray, ToIdentifier, ToStatus, Clear, AwaitErase, AwaitData}
+use Rattle.model_types.specs.declared.Effect.the-variants.{Nothing}
+use Rattle.model_types.specs.declared.Reply.{Reply}
+use Rattle.model_types.specs.declared.Reply.the-variants.{Quiet, Gives, GivesArray}
+use Rattle.model_types.specs.declared.State.{State}
+use Rattle.model_types.specs.declared.Cycle.{Cycle}
+use Rattle.model_types.specs.declared.Decision.{Decision}
+use Rattle.model_types.specs.declared.Settled.{Settled}
+use Rattle.model_types.specs.Levels.{rpLow, vppLow, badPins, mostOe, badOe, badLevels}
+use Rattle.model_types.specs.States.{proper, improper}
+use Rattle.model_operation.specs.Settling.{settledAs, settleOf}
+use Rattle.model_commands.specs.Commands.{commandOf, asksProgram, firstWrite, isRefuse, performedOf}
+use Rattle.model_rules.specs.Cycles.{pastArray, shortResidue, judgeOf, decidedAs}
+use Rattle.model_rules.specs.Inner.{inSuspended, decideArray, decideRead, decideWrite, decideKind, decideJudged}
+use Rattle.model.specs.declared.Seen.{Seen}
+use Rattle.model.specs.declared.Answer.{Answer}
+use Rattle.model.specs.Arrays.{seenOf}
+use Rattle.model.specs.Inner.{answerJudged, arrayJudged}
+use Rattle.model.proofs.Borders.{passed-answer, passed-bytes, sized-whole}
+use Rattle.c_cycle.specs.Values.{deviceIn, modeIn, modeOut, phaseIn, strayData, straySuspend, noState, wearIn, stateIn, stateOut, kindIn, oeIn, cycleIn}
+use Rattle.c_cycle.specs.Answers.{stateBack, answerOut, cycled, arrayCycled}
+use Rattle.c_cycle.specs.declared.DeviceNumbers.{DeviceNumbers}
+use Rattle.c_cycle.specs.declared.StateNumbers.{StateNumbers}
+use Rattle.c_cycle.specs.declared.BusNumbers.{BusNumbers}
+use Rattle.c_cycle.specs.declared.AnswerNumbers.{AnswerNumbers}
+use Rattle.c_cycle.proofs.Border.{mode-number}
+use Rattle.c_ordinary.specs.Ordinary.{Ordinary, Resting, quietAs, shownAs}
+
+-- OE# low is a level of every kind
+oe-low : (part : Part) (k : Kind) → badOe part k 0 ≡ false
+oe-low part Read = refl
+oe-low part Write = go (mostOe part)
+  where
+    go : (m : ℕ) → ltb m 0 ≡ false
+    go m = le-ltb m 0 (omega arith)
+oe-low part Idle = refl
+
+module _ (n : StateNumbers) (r : Resting n) where
+  -- the state that the numbers stand for
+  abbrev pub rest : State
+  rest = record { mode = modeIn (n .mode); status = n .status; phase = Free; left = 0; address = 0; wear = wearIn (n .wear) }
+
+  there : noState n ≡ false
+  unfolding noState strayData straySuspend
+  there = simp (le-ltb 2 (n .mode) (r .mode), r .phase, r .unit, r .suspend)
+
+  pub at-rest : stateIn n ≡ rest
+  unfolding stateIn phaseIn
+  at-rest = simp (there, r .phase, r .left, r .address)
+
+  pub is-proper : (d : Device) → improper d rest ≡ false
+  unfolding improper proper
+  is-proper d =
+      let a : n .status / 128 ≡ 1 = omega (arith, r .ready) in
+      simp (a, r .ready, r .low)
+
+  -- a state goes back as its numbers
+  pub goes-back : (s : State) → stateBack n s ≡ stateOut s
+  unfolding stateBack
+  goes-back s = if-false (noState n) n (stateOut s) there
+
+-- an ordinary cycle at rest
+module _ (d : DeviceNumbers) (n : StateNumbers) (b : BusNumbers) (xs rs : List ℕ) (o : Ordinary d b (length xs)) (r : Resting n) where
+  abbrev D : Device
+  D = deviceIn d
+
+  abbrev C : Cycle
+  C = cycleIn b
+
+  abbrev S : State
+  S = rest n r
+
+  abbrev wide : Bool
+  wide = D .part .word
+
+  oe-is : C .oe ≡ 0
+  unfolding oeIn
+  oe-is = if-false (ltb 2 (b .kind)) 2 (b .oe) (le-ltb 2 (b .kind) (o .kind)) ∙ o .oe
+
+  levels : badLevels (D .part) C ≡ false
+  unfolding badLevels
+  levels = simp (o .pins, ap (λ (x : ℕ). badOe (D .part) (C .kind) x) oe-is ∙ oe-low (D .part) (C .kind))
+
+  inside : pastArray (D .part) C ≡ false
+  unfolding pastArray
+  inside = simp (lt-leb (sizeOf (D .part)) (b .address) (o .inside))
+
+  enough : (k : ℕ) → shortResidue (D .part) S C k ≡ false
+  unfolding shortResidue
+  enough k = simp (le-ltb k 0 (omega arith), and-none (rpLow (C .pins) || vppLow (D .part) (C .pins)))
+
+  -- none of refusals 1 to 6 applies
+  pub passes : 0 ≡ judgeOf D (stateIn n) C (lentIn wide (length xs)) (unitsIn wide (length rs))
+  unfolding judgeOf
+  passes = simp (at-rest n r, o .known, o .sized, eq-eqb (sizeOf (D .part)) (sizeOf (D .part)) refl, is-proper n r D, levels, inside, enough (unitsIn wide (length rs)))
+
+  -- steps 1 to 3 do nothing
+  settled : settleOf (D .part) S (C .pins) ≡ settledAs S Nothing
+  unfolding settleOf
+  settled = simp (o .up, and-none (vppLow (D .part) (C .pins)))
+
+  -- the answer where step 4 is known to change the state alone
+  module _ (reply : Reply) (t : State) (e : decideJudged D S C ≡ decidedAs reply t Nothing) where
+    same : decideJudged D (stateIn n) C ≡ decidedAs reply t Nothing
+    same = ap (λ (s : State). decideJudged D s C) (at-rest n r) ∙ e
+
+    judged : record { seen = seenOf reply (units wide xs); state = t } ≡ answerJudged D (stateIn n) C (units wide xs) (units wide rs)
+    unfolding answerJudged arrayJudged
+    judged = simp same
+
+    pub answered : answerOut n (record { seen = seenOf reply (units wide xs); state = t }) ≡ cycled d n b xs rs
+    unfolding cycled
+    answered = ap (λ (a : Answer). answerOut n a) (passed-answer D (stateIn n) C xs rs 0 passes refl _ judged)
+
+    pub unwritten : Bytes xs → xs ≡ arrayCycled d n b xs rs
+    unfolding arrayJudged arrayCycled
+    unwritten bytes = passed-bytes D (stateIn n) C xs rs 0 passes refl xs bytes bytes (simp same) refl refl
+
+  -- by kind
+  up-kind : (k : Kind) → C .kind ≡ k → decideJudged D S C ≡ decideKind k D S C (settledAs S Nothing)
+  unfolding decideJudged
+  up-kind k e = if-false (rpLow (C .pins)) _ _ (o .up) ∙ (λ i. decideKind (e i) D S C (settled i))
+
+  kind-is : (k : ℕ) → b .kind ≡ k → C .kind ≡ kindIn k
+  kind-is k e = ap kindIn e
+
+  pub idle : b .kind ≡ 2 → decideJudged D S C ≡ decidedAs Quiet S Nothing
+  unfolding kindIn
+  idle e = up-kind Idle (kind-is 2 e)
+
+  pub reads-array : b .kind ≡ 0 → n .mode ≡ 0 → decideJudged D S C ≡ decidedAs (GivesArray (b .address)) S Nothing
+  unfolding kindIn decideArray inSuspended modeIn
+  reads-array e m = up-kind Read (kind-is 0 e) ∙ simp m
+
+  pub reads-status : b .kind ≡ 0 → n .mode ≡ 1 → decideJudged D S C ≡ decidedAs (Gives (n .status)) S Nothing
+  unfolding kindIn modeIn
+  reads-status e m = up-kind Read (kind-is 0 e) ∙ simp m
+
+  pub writes : b .kind ≡ 1 → (a : Action) → firstWrite (D .part) (b .data % 256) ≡ a → isRefuse a ≡ false
+      → decideJudged D S C ≡ decidedAs Quiet (performedOf a D C S) Nothing
+  unfolding kindIn decideWrite commandOf
+  writes e a f q =
+      up-kind Write (kind-is 1 e) ∙ ap (λ (x : Action). decideWrite x D S C (settledAs S Nothing)) f ∙ if-false (isRefuse a) _ _ q
+
+  -- the numbers of what is answered
+  quiet-state : (t : State) → answerOut n (record { seen = seenOf Quiet (units wide xs); state = t }) ≡ record { seen = 0; value = 0; state = stateOut t }
+  quiet-state t = λ i. record { seen = 0; value = 0; state = goes-back n r t i }
+
+  mode-back : modeOut (modeIn (n .mode)) ≡ n .mode
+  mode-back = mode-number (n .mode) (r .mode)
+
+  numbers : stateOut S ≡ n
+  numbers = λ i. record { mode = mode-back i; status = n .status; phase = sym (r .phase) i; suspend = sym (r .suspend) i; left = sym (r .left) i; «data» = sym (r .unit) i; address = sym (r .address) i; wear = n .wear }
+
+  -- for code: an idle cycle, and reads
+  pub idle-answer : b .kind ≡ 2 → quietAs n (n .mode) (n .status) 0 ≡ cycled d n b xs rs
+  idle-answer e = (λ i. quietAs n (sym mode-back i) (n .status) 0) ∙ sym (quiet-state S) ∙ answered Quiet S (idle e)
+
+  pub shown-answer : (reply : Reply) (v : ℕ) → decideJudged D S C ≡ decidedAs reply S Nothing
+      → answerOut n (record { seen = seenOf reply (units wide xs); state = S }) ≡ record { seen = 1; value = v; state = stateBack n S }
+      → shownAs n v ≡ cycled d n b xs rs
+  shown-answer reply v e f = (λ i. shownAs (sym numbers i) v) ∙ (λ i. record { seen = 1; value = v; state = sym (goes-back n r S) i }) ∙ sym f ∙ answered reply S e
+
+  pub array-answer : b .kind ≡ 0 → n .mode ≡ 0 → (v : ℕ) → v ≡ getD (units wide xs) (b .address) 0 → shownAs n v ≡ cycled d n b xs rs
+  array-answer e m v f = shown-answer (GivesArray (b .address)) v (reads-array e m) (λ i. record { seen = 1; value = sym f i; state = stateBack n S })
+
+  pub status-answer : b .kind ≡ 0 → n .mode ≡ 1 → (v : ℕ) → v ≡ n .status → shownAs n v ≡ cycled d n b xs rs
+  status-answer e m v f = shown-answer (Gives (n .status)) v (reads-status e m) (λ i. record { seen = 1; value = sym f i; state = stateBack n S })
+
+  -- a command
+  pub command-answer : b .kind ≡ 1 → (a : Action) → firstWrite (D .part) (b .data % 256) ≡ a → isRefuse a ≡ false → (q : AnswerNumbers)
+      → q ≡ record { seen = 0; value = 0; state = stateOut (performedOf a D C S) } → q ≡ cycled d n b xs rs
+  command-answer e a f g q h = h ∙ sym (quiet-state (performedOf a D C S)) ∙ answered Quiet (performedOf a D C S) (writes e a f g)
+
+  pub command-bytes : b .kind ≡ 1 → (a : Action) → firstWrite (D .part) (b .data % 256) ≡ a → isRefuse a ≡ false → Bytes xs
+      → xs ≡ arrayCycled d n b xs rs
+  command-bytes e a f g = unwritten Quiet (performedOf a D C S) (writes e a f g)
+
+  pub cleared : quietAs n (n .mode) (bitAnd (n .status) 0xC7) 0 ≡ record { seen = 0; value = 0; state = stateOut (performedOf Clear D C S) }
+  cleared = λ i. quietAs n (sym mode-back i) (bitAnd (n .status) 0xC7) 0
