@@ -6,7 +6,8 @@ use Prim.Native.Nat.{ℕ, zero, suc, _+_, _-_, _*_, _≤_, _<_}
 use native.Mathlib.Omega.{arith}
 use native.Mathlib.Nat.{not-suc-le-zero, le-of-suc-le-suc, add-mul, one-mul, zero-mul}
 use lib.ListN.{length, getD, set, take, drop, replicate, length-replicate, getD-replicate}
-use lib.Seq.{length-take-le, set-getD, getD-append-add, getD-drop}
+use lib.Seq.{length-take-le, set-getD, getD-append-add, getD-drop, getD-take}
+use borrow.Rule.Slice.PartMut.{midOf}
 use lib.Dec.{eqb, ltb}
 use lib.Bits.{bitAnd, bitOr, bitXor, and-le-l, and-le-r, or-add-and, xor-add-and, xor-self}
 use borrow.Author.Tests.{lt-ltb, le-ltb, eq-eqb, ne-eqb, eqb-true, eqb-false, not-false}
@@ -97,6 +98,37 @@ costs-each (suc k) each i w s =
     let t = eqb (getD s i 0) (getD w i 0) in
     let one : (if t then 0 else each) ≡ (if t then 0 else 1) * each = if-ind (λ (n : ℕ). (if t then 0 else each) ≡ n * each) t 0 1 (λ e. if-true t 0 each e ∙ sym (zero-mul each)) (λ e. if-false t 0 each e ∙ sym (one-mul each)) in
     (λ j. one j + costs-each k each (i + 1) w s j) ∙ sym (add-mul (if t then 0 else 1) (costs k 1 (i + 1) w s) each)
+
+-- what differs in a piece differs there in the whole
+mid-at : (a n i : ℕ) (xs : List ℕ) → i < n → getD (midOf a n xs) i 0 ≡ getD xs (a + i) 0
+mid-at a n i xs h = getD-take n (drop a xs) i 0 h ∙ getD-drop a xs i 0
+
+pub mid-costs : (k a n i : ℕ) (w s : List ℕ) → i + k ≤ n → costs k 1 i (midOf a n w) (midOf a n s) ≡ costs k 1 (a + i) w s
+mid-costs zero a n i w s h = refl
+mid-costs (suc k) a n i w s h =
+    let l : i < n = omega arith in
+    let e : a + (i + 1) ≡ a + i + 1 = omega arith in
+    (λ j. (if eqb (mid-at a n i s l j) (mid-at a n i w l j) then 0 else 1) + mid-costs k a n (i + 1) w s (let z : i + 1 + k ≤ n = omega arith in z) j)
+    ∙ ap (λ (m : ℕ). (if eqb (getD s (a + i) 0) (getD w (a + i) 0) then 0 else 1) + costs k 1 m w s) e
+
+-- what differs in two stretches, one behind the other
+pub costs-split : (a b i : ℕ) (w s : List ℕ) → costs (a + b) 1 i w s ≡ costs a 1 i w s + costs b 1 (i + a) w s
+costs-split zero b i w s =
+    let p : 0 + b ≡ b = omega arith in
+    let q : i ≡ i + 0 = omega arith in
+    let e : costs (0 + b) 1 i w s ≡ costs b 1 (i + 0) w s = (λ j. costs (p j) 1 (q j) w s) in
+    let z : costs 0 1 i w s ≡ 0 = refl in
+    omega arith
+costs-split (suc a) b i w s =
+    let r = costs-split a b (i + 1) w s in
+    let p : suc a + b ≡ suc (a + b) = omega arith in
+    let q : i + 1 + a ≡ i + suc a = omega arith in
+    let e : costs b 1 (i + 1 + a) w s ≡ costs b 1 (i + suc a) w s = ap (λ (m : ℕ). costs b 1 m w s) q in
+    let f : costs (suc a + b) 1 i w s ≡ costs (suc (a + b)) 1 i w s = ap (λ (m : ℕ). costs m 1 i w s) p in
+    let x : ℕ = if eqb (getD s i 0) (getD w i 0) then 0 else 1 in
+    let y : costs (suc (a + b)) 1 i w s ≡ x + costs (a + b) 1 (i + 1) w s = refl in
+    let z : costs (suc a) 1 i w s ≡ x + costs a 1 (i + 1) w s = refl in
+    omega arith
 
 -- no more differ than there are
 pub costs-few : (k i : ℕ) (w s : List ℕ) → costs k 1 i w s ≤ k

@@ -3,7 +3,7 @@
 use units::WordAddress;
 ghost use mathlib.Core.Path.{_≡_};
 ghost use mathlib.Core.Bool.{true, false};
-ghost use Prim.Native.Nat.{_<_, _≤_};
+ghost use Prim.Native.Nat.{_+_, _<_, _≤_};
 ghost use lib.ListN.{length};
 ghost use lib.Bits.{bitAnd, bitXor};
 ghost use lib.Dec.{eqb};
@@ -62,7 +62,7 @@ fn rises(wanted: &[u8], scratch: &[u8]) -> bool
 }
 
 // One where two units differ.
-fn unlike(a: u16, b: u16) -> u32
+fn unlike(a: u16, b: u16) -> u8
     ensures { λ r. ⌜ (r ≡ (if eqb a b then 0 else 1)) × (r ≤ 1) ⌝ }
 {
     if a == b {
@@ -71,7 +71,35 @@ fn unlike(a: u16, b: u16) -> u32
     1
 }
 
-// How many bytes differ. No walk from here on has a stop, so that the compiler takes many bytes at once.
+// How many bytes of a piece differ. No walk from here on has a stop, so that the compiler takes many bytes at once; here sixteen, each
+// with its own count of eight bits.
+fn unlike_piece(wanted: &[u8], scratch: &[u8]) -> u8
+    requires { ⌜ (length (now scratch) ≡ length (now wanted)) × (length (now wanted) ≤ 192) ⌝ }
+    ensures { λ r. ⌜ r ≡ costs (length (now (wanted .entry))) 1 0 (now (wanted .entry)) (now (scratch .entry)) ⌝ }
+{
+    let n = wanted.len();
+    let mut count: u8 = 0;
+    let mut i = 0;
+    while i < n {
+        let c = unlike(units::wide(scratch[i]), units::wide(wanted[i]));
+        count += c;
+        i += 1;
+    }
+    count
+}
+
+// Where the piece that begins at i ends: after 192 bytes, or with the last.
+fn piece_end(i: usize, n: usize) -> usize
+    requires { ⌜ (i < n) × (n ≤ 16777216) ⌝ }
+    ensures { λ r. ⌜ (i < r) × (r ≤ n) × (r ≤ i + 192) ⌝ }
+{
+    if n - i < 192 {
+        return n;
+    }
+    i + 192
+}
+
+// How many bytes differ, piece by piece.
 fn unlike_bytes(wanted: &[u8], scratch: &[u8]) -> u32
     requires { ⌜ (length (now scratch) ≡ length (now wanted)) × (length (now wanted) ≤ 16777216) ⌝ }
     ensures { λ r. ⌜ r ≡ costs (length (now (wanted .entry))) 1 0 (now (wanted .entry)) (now (scratch .entry)) ⌝ }
@@ -80,9 +108,10 @@ fn unlike_bytes(wanted: &[u8], scratch: &[u8]) -> u32
     let mut count: u32 = 0;
     let mut i = 0;
     while i < n {
-        let c = unlike(units::wide(scratch[i]), units::wide(wanted[i]));
-        count += c;
-        i += 1;
+        let e = piece_end(i, n);
+        let c = unlike_piece(&wanted[i..e], &scratch[i..e]);
+        count += c as u32;
+        i = e;
     }
     count
 }
@@ -99,7 +128,7 @@ fn unlike_words(wanted: &[u8], scratch: &[u8]) -> u32
         let u = units::get_word(scratch, WordAddress { word: i });
         let v = units::get_word(wanted, WordAddress { word: i });
         let c = unlike(u, v);
-        count += c;
+        count += c as u32;
         i += 1;
     }
     count
