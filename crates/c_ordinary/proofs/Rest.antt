@@ -1,4 +1,4 @@
--- An ordinary cycle of a device at rest: refusals 1 to 6 do not apply, nothing is settled, and the answer is told by kind, mode and command.
+-- An ordinary cycle of a device at rest: refusals 1 to 6 do not apply, nothing is settled, and kind, mode and command tell the answer.
 use mathlib.Core.Path.{_≡_, refl, sym, ap, _∙_}
 use mathlib.Core.Bool.{Bool, true, false, not, _&&_, _||_}
 use mathlib.Core.List.{List}

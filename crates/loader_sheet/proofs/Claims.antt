@@ -1,4 +1,4 @@
--- The sentences of a loader that is fed by hand, whatever it is handed, in one place. Lists are of units, bytes or words. Assumes nothing.
+-- The sentences of a loader that is fed by hand, whatever it is handed, in one place. Lists are of units, bytes or words.
 use mathlib.Core.List.{List}
 use Prim.Native.Nat.{ℕ}
 use Rattle.loader_sheet.specs.Sentences.{FedByHand}

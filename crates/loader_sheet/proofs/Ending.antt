@@ -1,4 +1,4 @@
--- Scratch at each end: as the polls found it, as wanted, or as wanted below the place that is told. Assumes nothing.
+-- Scratch at each end: as the polls found it, as wanted, or as wanted below the place that is told.
 use mathlib.Core.Path.{_≡_, refl, sym, ap, subst, _∙_}
 use mathlib.Core.Bool.{Bool, true, false}
 use mathlib.Core.List.{List, [], _∷_}

@@ -1,4 +1,4 @@
--- One poll: which status ends the load, and what it leaves of scratch. Assumes nothing.
+-- One poll: which status ends the load, and what it leaves of scratch.
 use mathlib.Core.Path.{_≡_, refl, sym, ap, _∙_}
 use mathlib.Core.Bool.{Bool, true, false, not, _&&_}
 use mathlib.Core.List.{List}

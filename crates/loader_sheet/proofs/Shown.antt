@@ -1,4 +1,4 @@
--- The definitions computed on block 1 of bench T, so that they are seen at work. Assumes nothing.
+-- The definitions computed on block 1 of bench T, so that they are seen at work.
 use mathlib.Core.Path.{_≡_, refl}
 use mathlib.Core.Bool.{true, false, not, _&&_}
 use mathlib.Core.List.{List, [], _∷_}

@@ -1,4 +1,4 @@
--- A wait: it begins without polls, goes on for 65,534 of them, and the next ends it by 20. Assumes nothing.
+-- A wait: it begins without polls, goes on for 65,534 of them, and the next ends it by 20.
 use mathlib.Core.Path.{_≡_, refl, sym, ap, subst, _∙_}
 use mathlib.Core.Bool.{true, false, not}
 use mathlib.Core.List.{List, [], _∷_}

@@ -1,4 +1,4 @@
--- A loader that is fed by hand: what a host hands to its steps, one value after the other. Assumes nothing.
+-- A loader that is fed by hand: what a host hands to its steps, one value after the other.
 use mathlib.Core.Path.{_≡_}
 use mathlib.Core.Bool.{Bool, true, false, not, _&&_}
 use mathlib.Core.List.{List, [], _∷_}

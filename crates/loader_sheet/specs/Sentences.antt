@@ -1,4 +1,4 @@
--- The sentences of a loader that is fed by hand, a field for each part. Assumes nothing.
+-- The sentences of a loader that is fed by hand, a field for each part.
 use mathlib.Core.Path.{_≡_}
 use mathlib.Core.Bool.{Bool, true, false}
 use mathlib.Core.List.{List}

@@ -1,4 +1,4 @@
--- Error bits under one cycle and under any. Assumes nothing.
+-- Error bits under one cycle and under any.
 use mathlib.Core.Path.{_≡_, refl, sym, ap, subst, _∙_}
 use mathlib.Core.Bool.{Bool, true, false, not, _&&_, _||_}
 use mathlib.Core.List.{List, [], _∷_}

@@ -1,5 +1,5 @@
 -- The sentences of the data sheet, over any cycles, in one place: every device, both widths. A `Bus` is a cycle with the residue that is
--- lent with it, a `World` a state with the units of the array; the units of lent bytes are `left-units` of model. Assumes nothing.
+-- lent with it, a `World` a state with the units of the array; the units of lent bytes are `left-units` of model.
 use mathlib.Core.Path.{_≡_}
 use mathlib.Core.Bool.{true, false}
 use mathlib.Core.List.{List}

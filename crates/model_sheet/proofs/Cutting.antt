@@ -1,4 +1,4 @@
--- What a cut by RP# or VPP leaves, and that nothing ends in a cycle with VPP low. Assumes nothing.
+-- What a cut by RP# or VPP leaves, and that nothing ends in a cycle with VPP low.
 use mathlib.Core.Path.{_≡_, refl, sym, ap, _∙_}
 use mathlib.Core.Bool.{Bool, true, false, _&&_}
 use mathlib.Core.List.{List}

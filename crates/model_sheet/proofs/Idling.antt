@@ -1,4 +1,4 @@
--- An idle cycle does the same at every address and with any data. Assumes nothing.
+-- An idle cycle does the same at every address and with any data.
 use mathlib.Core.Path.{_≡_, refl, sym, ap, _∙_}
 use mathlib.Core.Bool.{not, _&&_}
 use mathlib.Core.List.{List, [], _∷_}

@@ -1,4 +1,4 @@
--- A write that is ignored does what an idle cycle does in its place, and leaves all but the count. Assumes nothing.
+-- A write that is ignored does what an idle cycle does in its place, and leaves all but the count.
 use mathlib.Core.Path.{_≡_, refl, sym, ap, _∙_}
 use mathlib.Core.Bool.{Bool, true, false, not, _&&_, _||_}
 use mathlib.Core.List.{List, [], _∷_}

@@ -1,4 +1,4 @@
--- An operation from the cycle that begins it to the last that counts. Assumes nothing.
+-- An operation from the cycle that begins it to the last that counts.
 use mathlib.Core.Path.{_≡_, refl, sym, ap, subst, _∙_}
 use mathlib.Core.Bool.{Bool, true, false, not, _&&_}
 use mathlib.Core.List.{List, [], _∷_}

@@ -1,4 +1,4 @@
--- B0H at rest, and in the cycle that ends or cuts an operation. Assumes nothing.
+-- B0H at rest, and in the cycle that ends or cuts an operation.
 use mathlib.Core.Path.{_≡_, refl, sym, ap, _∙_}
 use mathlib.Core.Bool.{true, false}
 use lib.Dec.{eqb}

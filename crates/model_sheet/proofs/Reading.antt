@@ -1,4 +1,4 @@
--- An array read of a suspended device: 8 in the block that is suspended, the unit elsewhere. Assumes nothing.
+-- An array read of a suspended device: 8 in the block that is suspended, the unit elsewhere.
 use mathlib.Core.Path.{_≡_, refl, sym, _∙_}
 use mathlib.Core.Bool.{Bool, true, false}
 use lib.ListN.{length, getD}

@@ -1,4 +1,4 @@
--- The definitions computed on bench T with P 2, E 3 and S 1, so that they are seen at work. Assumes nothing.
+-- The definitions computed on bench T with P 2, E 3 and S 1, so that they are seen at work.
 use mathlib.Core.Path.{_≡_, refl}
 use mathlib.Core.Bool.{true, false, not, _&&_}
 use mathlib.Core.List.{List, [], _∷_, _++_}

@@ -1,4 +1,4 @@
--- What bars a start and what does not, and that the lock counts nowhere else. Assumes nothing.
+-- What bars a start and what does not, and that the lock counts nowhere else.
 use mathlib.Core.Path.{_≡_, refl, sym, ap, _∙_}
 use mathlib.Core.Bool.{Bool, true, false, not, _&&_, _||_}
 use Prim.Native.Nat.{ℕ}

@@ -1,4 +1,4 @@
--- What steps 1 to 3 of a cycle come to, case by case, and what the cycle makes of it. Assumes nothing.
+-- What steps 1 to 3 of a cycle come to, case by case, and what the cycle makes of it.
 use mathlib.Core.Path.{_≡_, refl, sym, ap, _∙_}
 use mathlib.Core.Bool.{true, false}
 use Prim.Native.Nat.{ℕ, _+_, _-_, _<_}

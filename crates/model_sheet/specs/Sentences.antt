@@ -1,4 +1,4 @@
--- The data sheet's sentences that have several parts, each as a record with a field for each part. Assumes nothing.
+-- The data sheet's sentences that have several parts, each as a record with a field for each part.
 use mathlib.Core.Path.{_≡_}
 use mathlib.Core.Bool.{true, false}
 use mathlib.Core.List.{List}

@@ -1,4 +1,4 @@
--- What the data sheet's sentences are said with, of a device between two cycles (`World`) and of cycles (`Bus`). Assumes nothing.
+-- What the data sheet's sentences are said with, of a device between two cycles (`World`) and of cycles (`Bus`).
 use mathlib.Core.Path.{_≡_}
 use mathlib.Core.Bool.{Bool, true, false, not, _&&_, _||_}
 use mathlib.Core.List.{List, [], _∷_}
@@ -91,10 +91,11 @@ busyTime d (Erase k) = d .erase
 busyTime d (CutProgram a y) = 0
 busyTime d (CutErase k) = 0
 
--- where cycles lead that follow the one that begins an operation, and how many of them count
+-- where cycles lead that follow the one that begins an operation
 abbrev pub afterBegun : Device → World → Bus → List Bus → World
 afterBegun d v b bs = worldAfter d (stepped d v b) bs
 
+-- .. and how many of them count
 abbrev pub countedAfter : Device → World → Bus → List Bus → ℕ
 countedAfter d v b bs = countedIn d (stepped d v b) bs
 
@@ -122,10 +123,11 @@ endState s = atRest s (s .mode) (withBits (s .status) SR7)
 abbrev pub cutState : State → State
 cutState s = atRest s Status (withBits (withoutBits (s .status) SR6) (cutBits (s .phase)))
 
--- the array that the end of the operation leaves, and the one that its cut leaves (R-cycle-5, R-cycle-7)
+-- the array that the end of the operation leaves (R-cycle-5)
 abbrev pub endBytes : Device → World → Bus → List ℕ
 endBytes d v b = arrayOf (finishOf (v .state .phase) (d .part) (v .state .address)) (d .part) (b .residue) (v .bytes)
 
+-- .. and the one that its cut leaves (R-cycle-7)
 abbrev pub cutBytes : Device → World → Bus → List ℕ
 cutBytes d v b = arrayOf (cutOf (v .state .phase) (d .part) (v .state .address)) (d .part) (b .residue) (v .bytes)
 
@@ -178,6 +180,7 @@ leftThen Erasing l = l - 1
 leftThen (Suspending n) l = l
 leftThen Suspended l = l
 
+-- .. and the phase, a cycle of a suspend being counted off
 abbrev pub phaseThen : Phase → Phase
 phaseThen Free = Free
 phaseThen EraseAwaited = EraseAwaited

@@ -1,4 +1,4 @@
--- `recording_walk::same` meets its contract: the bits gathered, and what is left, say what both lists say. Assumes nothing.
+-- `recording_walk::same` meets its contract: the bits gathered, and what is left, say what both lists say.
 use mathlib.Core.Path.{_≡_, refl, sym, ap, _∙_}
 use mathlib.Core.Bool.{Bool, true, _&&_}
 use Prim.Native.Nat.{_-_, _≤_, _<_}
