@@ -13,7 +13,7 @@ static const struct {
     int32_t microvolts;
     int16_t tenths;
 } knots[] = {{0, 0}, {4096, 1000}, {8138, 2000}, {12209, 3000}};
-enum { KNOTS = sizeof knots / sizeof knots[0], PAYLOAD = 6 * KNOTS, FILE_BYTES = TB_FILE_LENGTH(PAYLOAD), LETTER = 'K' };
+enum { KNOTS = sizeof knots / sizeof knots[0], PAYLOAD = TB_KNOT_BYTES * KNOTS, FILE_BYTES = TB_FILE_LENGTH(PAYLOAD), LETTER = 'K' };
 
 /* Ends the example where an answer is not the one that must come. */
 static void must(int holds, const char *what) {
@@ -23,16 +23,11 @@ static void must(int holds, const char *what) {
     exit(1);
 }
 
-/* The load file of the table: knots of six bytes, high bytes first. */
+/* The load file of the table. */
 static void pack(uint8_t *file) {
     uint8_t payload[PAYLOAD];
-    for (int i = 0; i < KNOTS; i++) {
-        uint32_t volts = (uint32_t)knots[i].microvolts;
-        uint16_t tenths = (uint16_t)knots[i].tenths;
-        const uint8_t six[] = {(uint8_t)(volts >> 24), (uint8_t)(volts >> 16),  (uint8_t)(volts >> 8),
-                               (uint8_t)volts,         (uint8_t)(tenths >> 8), (uint8_t)tenths};
-        memcpy(payload + 6 * i, six, sizeof six);
-    }
+    for (size_t i = 0; i < KNOTS; i++)
+        must(tb_knot_pack(i, knots[i].microvolts, knots[i].tenths, payload, PAYLOAD) == TB_OK, "a knot is refused");
     must(tb_table_judge(payload, PAYLOAD) == TB_OK, "the table is refused");
     tb_sized made = tb_file_write(LETTER, payload, PAYLOAD, file, FILE_BYTES);
     must(made.number == TB_OK && made.length == FILE_BYTES, "the file is not written");

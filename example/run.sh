@@ -7,9 +7,10 @@ here=$(dirname -- "$(readlink -f -- "$0")")
 . "$here/../tests/host/tools.sh"
 archive
 held_archive
+words_archive
 compiler
 for name in table word measure; do
-    $CC -std=c11 -O2 -Wall -Wextra -Werror -static -I "$inc" "$here/$name.c" "$lib" "$held" -o "$out/$name" ||
+    $CC -std=c11 -O2 -Wall -Wextra -Werror -static -I "$inc" "$here/$name.c" "$lib" "$held" "$words" -o "$out/$name" ||
         fail 3 "the example $name could not be built"
     $RUN "$out/$name" || fail 1 "the example $name ended with a wrong answer"
 done

@@ -1,6 +1,6 @@
 """Holds include/torfbarke.h against the crates: structs field by field, functions parameter by parameter, the numbers of modes,
-phases, kinds, stages, answers and turns, the refusals, the parts' blocks, the supply bands, the limits of the load file, of
-wear and of a busy time.
+phases, kinds, stages, answers and turns, the refusals and which of them have words, the parts' blocks, the supply bands, the limits of
+the load file, of wear and of a busy time; the version beside the file VERSION; and that every call which an overlap threatens is tested.
 
     python3 tests/header.py        names every difference, and ends with 1 where there is one
 
@@ -39,8 +39,8 @@ constants = {name: int(value, 0) for name, value in re.findall(r"\b(TB_\w+) = (0
 STRUCTS = {"Device": "tb_device", "State": "tb_state", "Bus": "tb_bus", "Answer": "tb_answer", "Loader": "tb_loader", "Turn": "tb_turn",
            "Given": "tb_given", "Ran": "tb_ran", "Sized": "tb_sized", "Block": "tb_span", "Reading": "tb_reading", "Wear": "tb_wear",
            "Tally": "tb_tally", "Record": "tb_record", "Checked": "tb_checked", "Report": "tb_report", "Reported": "tb_reported",
-           "Hold": "tb_hold", "Held": "tb_held", "HeldGiven": "tb_held_given"}
-TYPES = {"u8": "uint8_t", "u16": "uint16_t", "u32": "uint32_t", "u64": "uint64_t", "usize": "size_t", "i32": "int32_t", "f64": "double", "": "void"}
+           "Hold": "tb_hold", "Held": "tb_held", "HeldGiven": "tb_held_given", "Knot": "tb_knot"}
+TYPES = {"u8": "uint8_t", "u16": "uint16_t", "u32": "uint32_t", "u64": "uint64_t", "usize": "size_t", "i32": "int32_t", "i16": "int16_t", "f64": "double", "": "void"}
 TYPES.update({f"{crate}Numbers": c for crate, c in STRUCTS.items()})
 
 
@@ -116,6 +116,27 @@ given |= {int(n) for n in re.findall(r"\b(?:then|else) (2[0-4])\b", text("loader
 given |= {int(n) for n in re.findall(r"(?:endedBy l|stage = Ended) (2\d)\b", text("loader/specs/*.antt"))}
 given |= {int(n) for n in re.findall(r"refused (3\d)\b", text("*/specs/*.antt"))}
 same("refusals, beside the tables of specs/", refusals, sorted(given))
+
+# words: every number has some, no other has, and the room that the header names is what the code has
+lines = text("c_words/specs/Words.antt") + text("refusal_words/specs/Words.antt")
+worded = {int(n) for n, words in re.findall(r'eqb n (\d+) then bytes "([^"]*)\\n"', lines) if words} | {9}
+same("words of numbers", sorted(refusals + [0]), sorted(worded))
+same("words of 9, the last of the first ten", "an identifier read where there is none" in lines, True)
+same("TB_WORDS_ROOM", constants["TB_WORDS_ROOM"], int(re.search(r"const ROOM: usize = (\d+);", text("c_words/src/lib.rt")).group(1)))
+same("TB_TENTHS_TOO_WIDE", constants["TB_TENTHS_TOO_WIDE"], int(re.search(r"else (\d+)\) else 41$", text("c_words/specs/Knots.antt"), re.M).group(1)))
+
+# the version: in the header, in the code, in its definition and in the file
+version = [int(n) for n in (ROOT / "VERSION").read_text().strip().split(".")]
+names = ("MAJOR", "MINOR", "PATCH")
+same("version", [int(re.search(rf"^#define TB_VERSION_{n} (\d+)$", HEADER, re.M).group(1)) for n in names], version)
+same("version of the code", [int(re.search(rf"^const {n}: u32 = (\d+);$", text("c_words/src/lib.rt"), re.M).group(1)) for n in names], version)
+same("version of specs/", [int(re.search(rf"^{n.lower()} = (\d+)$", text("c_words/specs/Version.antt"), re.M).group(1)) for n in names], version)
+
+# an overlap threatens every call with a slice that it writes to and another; each has its test and stands in for the plain one
+threatened = {n for n, (_, ps) in header_functions.items() if any(k.endswith("*") and not k.startswith("const") for k, _ in ps) and sum(k.endswith("*") for k, _ in ps) > 1}
+checked = set(re.findall(r"^#define (tb_\w+)\(\.\.\.\) \1_checked\(__VA_ARGS__\)$", HEADER, re.M))
+same("calls that are tested for an overlap", sorted(checked), sorted(threatened))
+same("NDEBUG in the code of the header", "NDEBUG" in plain, False)
 
 # parts: size and blocks, in bytes, from the description of each
 table = text("device/specs/Parts.antt")

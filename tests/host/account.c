@@ -11,7 +11,7 @@ static uint64_t numbers[GROUPS][256], worded[ON_DEVICES][256], devices[ON_DEVICE
 static uint64_t phases[WIDTHS][256], stages[WIDTHS][256], edges[EDGES], marks[MARKS];
 static uint64_t erases[2][PARTS + 1][WIDTHS][TB_BLOCKS_MOST]; /* counted in a cycle, and in a run */
 static uint64_t all_blocks, all_cycles, all_table_cycles, all_loads, all_files, all_steps, all_readings, all_reports, all_recordings, all_stores;
-static uint64_t all_helds, all_held_steps;
+static uint64_t all_helds, all_held_steps, all_knots;
 
 void met(int group, uint8_t number) { numbers[group][number]++; }
 void met_on(int group, uint8_t part, uint8_t word, uint8_t number, bool refused) {
@@ -43,6 +43,7 @@ void count_recording(void) { all_recordings++; }
 void count_store(void) { all_stores++; }
 void count_held(void) { all_helds++; }
 void count_held_step(void) { all_held_steps++; }
+void count_knot(void) { all_knots++; }
 
 static void counts(void) {
     printf("%llu blocks of parts, %llu cycles, %llu by the table, %llu loads, %llu files, %llu steps, %llu readings, %llu reports, "
@@ -50,7 +51,8 @@ static void counts(void) {
            (unsigned long long)all_blocks, (unsigned long long)all_cycles, (unsigned long long)all_table_cycles,
            (unsigned long long)all_loads, (unsigned long long)all_files, (unsigned long long)all_steps, (unsigned long long)all_readings,
            (unsigned long long)all_reports, (unsigned long long)all_recordings, (unsigned long long)all_stores);
-    printf(", %llu interrupted loads, %llu steps of such", (unsigned long long)all_helds, (unsigned long long)all_held_steps);
+    printf(", %llu interrupted loads, %llu steps of such, %llu knots", (unsigned long long)all_helds, (unsigned long long)all_held_steps,
+           (unsigned long long)all_knots);
 }
 
 void mismatch(const char *what) {
@@ -89,6 +91,8 @@ static const struct {
     [IN_READING] = {"reading", {0, 31, 35, 37, 38, 40, 41}, 7},
     [IN_WEAR_ADD] = {"a trace more", {0, 1, 47, 48}, 4},
     [IN_WEAR_REPORT] = {"report", {0, 1, 11, 47, 48}, 5},
+    [IN_WORDS] = {"words", {0, 1, 12, 13, 20, 25, 30, 38, 39, 40, 48, 49, 255}, 13},
+    [IN_KNOT] = {"knot packed", {0, 37, 41, TB_TENTHS_TOO_WIDE}, 4},
     [IN_STORE_FIND] = {"find in a store", {0, 1, 2, 37, 42, 44}, 6},
     [IN_STORE_READ] = {"read in a store", {0, 1, 2, 37, 40, 41, 42, 44}, 8},
     [IN_STORE_DROP] = {"drop from a store", {0, 1, 2, 3, 4, 11, 12, 21, 42, 44}, 10},

@@ -31,7 +31,8 @@ uint8_t *ref_of(twin *);
 enum {
     IN_CYCLE, IN_TABLE_CYCLE, IN_RECORDING, IN_START, IN_STEP, IN_RUN, IN_LOAD_RUN, IN_VERIFY_RUN, IN_LOAD, IN_VERIFY_FILE,
     IN_HELD_START, IN_HELD_STEP, IN_HELD_RUN, IN_HELD_LOAD,
-    IN_WRITE, IN_READ, IN_TABLE, IN_READING, IN_WEAR_ADD, IN_WEAR_REPORT, IN_STORE_FIND, IN_STORE_READ, IN_STORE_DROP, IN_STORE_ADD, GROUPS
+    IN_WRITE, IN_READ, IN_TABLE, IN_READING, IN_WEAR_ADD, IN_WEAR_REPORT, IN_STORE_FIND, IN_STORE_READ, IN_STORE_DROP, IN_STORE_ADD,
+    IN_WORDS, IN_KNOT, GROUPS
 };
 enum { ON_DEVICES = IN_HELD_LOAD + 1 }; /* the groups before this are about a device */
 void met(int group, uint8_t number);
@@ -71,6 +72,7 @@ void count_recording(void);
 void count_store(void); /* a call on one */
 void count_held(void);
 void count_held_step(void);
+void count_knot(void);
 void untouched(bool refused, const char *what, twin **, size_t); /* between the two calls: a refusal changed nothing */
 void alike(bool answers, const char *what, twin **, size_t);     /* after both calls */
 _Noreturn void mismatch(const char *what);
@@ -103,6 +105,8 @@ void cycles(uint32_t walks, uint32_t scattered);
 void loads(uint32_t n);
 void files(uint32_t n);
 void readings(uint32_t n);
+void every_word(void); /* of every number in every room, and the version */
+void knots(uint32_t n);
 void wears(uint32_t n);
 void recordings(uint32_t n);
 void stores(uint32_t n);

@@ -20,6 +20,7 @@ int main(int argc, char **argv) {
     parts();
     cards();
     stack(verbose);
+    every_word();
     wears_long();
     for (int round = 0; round < 20; round++) {
         files(1000);
@@ -27,6 +28,7 @@ int main(int argc, char **argv) {
         steps(20, 10, 3000);
         loads(1000);
         readings(500);
+        knots(2000);
         wears(1000);
         recordings(200);
         stores(40);

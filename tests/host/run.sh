@@ -11,12 +11,13 @@ table_archive
 recording_archive
 store_archive
 held_archive
+words_archive
 compiler
 
 strict=(-O2 -Wall -Wextra -pedantic -Werror -I "$inc")
 tongues=''
 
-alone() { # alone COMPILER LANGUAGE STANDARD..: the header by itself, with its assertions and without
+alone() { # alone COMPILER LANGUAGE STANDARD..: the header by itself, with its tests of slices and without
     local with tongue compile=$1 language=$2
     shift 2
     for tongue; do
@@ -39,11 +40,12 @@ overlapping() { # overlapping STATUS FLAG: the run on overlapping memory ends wi
 alone "$CC" c c99 c11 c17
 plus=${CC%gcc}g++
 if command -v "$plus" >/dev/null; then alone "$plus" c++ c++11 c++17; fi
-overlapping 6 -DWITH
-grep -q tb_apart "$out/overlap.log" || fail 1 "an overlap did not stop at the header's assertion"
+for with in -DWITH -DNDEBUG; do
+    overlapping 6 "$with"
+    grep -q 'slices overlap: .*tb_apart' "$out/overlap.log" || fail 1 "an overlap did not stop at the header's test, compiled with $with"
+done
 overlapping 0 -DTB_UNCHECKED
-overlapping 0 -DNDEBUG
-printf 'header:%s; an overlap stops a run, and does not with TB_UNCHECKED\n' "$tongues"
+printf 'header:%s; an overlap stops a run, with NDEBUG too, and does not with TB_UNCHECKED\n' "$tongues"
 
 stack=$(sed -n 's/.*No call needs more than \([0-9]*\) bytes of stack.*/\1/p' "$inc/torfbarke.h")
 table_stack=$(sed -n 's/.*tb_table_cycle needs \([0-9]*\), its table lies there.*/\1/p' "$inc/torfbarke.h")
@@ -61,7 +63,7 @@ objects() { # objects FOLDER SLIP FILE..
 
 build() { # build PROGRAM SLIP
     objects "$out/slip$2" "$2" "$here"/second_*.c
-    $CC -static "$out"/cases/*.o "$out/slip$2"/*.o "$lib" "$table" "$recording" "$store" "$held" -o "$1" || fail 3 "the tests could not be linked"
+    $CC -static "$out"/cases/*.o "$out/slip$2"/*.o "$lib" "$table" "$recording" "$store" "$held" "$words" -o "$1" || fail 3 "the tests could not be linked"
 }
 
 shopt -s extglob
@@ -174,7 +176,17 @@ slips='1:a program stores its data without AND
 113:D0H is written though the erase is finished
 114:the polls of an erase are numbered from 0
 115:20 counts on over an interruption
-116:the number of a poll begins anew after an interruption'
+116:the number of a poll begins anew after an interruption
+117:a number that is none has words
+118:words that have no room are cut off
+119:words are written where there is no room for their 0
+120:the length of words counts their 0
+121:37 is given before 41
+122:tenths are judged before microvolts
+123:80,000 microvolts are out of range
+124:tenths are cut to 16 bits
+125:tenths have their low byte first
+126:the last knot is not there'
 noticed=0 all=$(wc -l <<<"$slips")
 while IFS=: read -r number slip; do
     build "$out/broken" "$number"

@@ -64,6 +64,10 @@ tb_ran c_store_drop(tb_device, tb_state, uint8_t rp, uint8_t wp, uint32_t vpp, u
                     size_t, uint8_t *scratch, size_t);
 tb_ran c_store_add(tb_device, tb_state, uint8_t rp, uint8_t wp, uint32_t vpp, uint8_t letter, const uint8_t *file, size_t, uint8_t *array,
                    size_t, uint8_t *memory, size_t, uint8_t *scratch, size_t);
+size_t c_words(uint8_t number, uint8_t *out, size_t);
+uint8_t c_knot_pack(size_t place, int32_t microvolts, int32_t tenths, uint8_t *payload, size_t);
+tb_knot c_knot_unpack(size_t place, const uint8_t *payload, size_t);
+uint32_t c_version(void);
 tb_reported c_wear_add(uint8_t part, tb_report, uint8_t from, tb_wear);
 tb_reported c_wear_report(uint8_t part, const uint8_t *parts, size_t, const uint32_t *counts, size_t);
 

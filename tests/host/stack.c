@@ -1,6 +1,6 @@
 /* How much stack the functions take: each is called on a stack of its own that was painted before, and what was painted over is
  * counted. The arguments are in it, and up to 96 bytes of the caller that calls from there, which keeps them few: results go to static
- * memory, and the header's assertions are off. What an empty caller takes is not in it. */
+ * memory, and the header's tests are off. What an empty caller takes is not in it. */
 #define _GNU_SOURCE
 #define TB_UNCHECKED
 #include <stdio.h>
@@ -111,6 +111,11 @@ static void store_drop(void) {
 }
 static void store_find(void) { byte = tb_store_find(device.number, 0, 'K', array, size, payload, sizeof payload).number; }
 static void store_read(void) { byte = tb_store_read(device.number, 0, 'K', array, size, payload, sizeof payload, 5).answer; }
+static void knot(void) {
+    byte = tb_knot_pack(3, 4096, 1000, payload, 600);
+    byte = (uint8_t)(byte + tb_knot_unpack(3, payload, 600).tenths + tb_version());
+}
+static void words(void) { size = tb_words(41, payload, sizeof payload); }
 static void part(void) { byte = (uint8_t)(tb_size(3) + tb_block(3, 1).first + tb_fresh().status); }
 
 static size_t most, table_most; /* of all calls but tb_table_cycle, and of that */
@@ -233,7 +238,7 @@ static void holds(const char *what, size_t used, size_t told) {
 }
 
 void stack(bool verbose) {
-    void (*const calls[])(void) = {part, write, read, check, reading, write_short, wear_add, wear_report};
+    void (*const calls[])(void) = {part, write, read, check, reading, write_short, wear_add, wear_report, knot, words};
     size_t none = used_by(nothing);
     for (size_t i = 0; i < sizeof calls / sizeof calls[0]; i++)
         measure(calls[i]);

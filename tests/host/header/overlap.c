@@ -1,4 +1,4 @@
-/* A run whose wanted and scratch are one memory. The header's assertion stops it: status 6. Where assertions are off it ends well,
+/* A run whose wanted and scratch are one memory. The header's test stops it: status 6. With TB_UNCHECKED it ends well,
  * with the count of a good load, and has loaded nothing: status 0. */
 #include <signal.h>
 #include <stdlib.h>

@@ -1,0 +1,5 @@
+pub mod Claims
+pub mod Counts
+pub mod Packing
+pub mod Signed
+pub mod Unique

@@ -1,0 +1,3 @@
+pub mod Knots
+pub mod Version
+pub mod Words
