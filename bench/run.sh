@@ -11,7 +11,6 @@ table_archive
 store_archive
 recording_archive
 held_archive
-words_archive
 compiler
 emulator
 want 'command -v gcc' gcc libc6-dev
@@ -21,7 +20,7 @@ major=$(qemu-x86_64 --version | sed -n 's/^qemu-x86_64 version \([0-9]*\).*/\1/p
 gcc -O2 -fPIC -shared -DVERSION=$((major < 9 ? 1 : 2)) "$here/count.c" -o "$out/count.so" || fail 3 "the counter could not be built"
 second=$here/../tests/host
 $CC -std=gnu11 -O3 -Wall -Wextra -Werror -static -I "$inc" -I "$second" "$here/main.c" "$second"/second_*.c "$lib" "$table" "$store" \
-    "$recording" "$held" "$words" -o "$out/bench" ||
+    "$recording" "$held" -o "$out/bench" ||
     fail 3 "the bench could not be built"
 qemu-x86_64 -cpu qemu64 -plugin "$out/count.so" -d plugin -D "$out/marks" "$out/bench" >"$out/rows" ||
     fail 1 "the library and the second implementation differ: $(tail -n 1 "$out/rows")"

@@ -1,5 +1,5 @@
 #!/usr/bin/env bash
-# run.sh [-v] [SEED]: compiles the header as each language that it is for; holds the library against a second implementation in C
+# run.sh [-v] [SEED]: compiles the header as each language that it is for; runs the programs of the reference; holds the library against a second implementation in C
 # on random cases; then breaks that second implementation in many ways, one at a time, and looks whether each is noticed.
 # -v prints what was met, and how often.
 set -eu
@@ -46,6 +46,14 @@ for with in -DWITH -DNDEBUG; do
 done
 overlapping 0 -DTB_UNCHECKED
 printf 'header:%s; an overlap stops a run, with NDEBUG too, and does not with TB_UNCHECKED\n' "$tongues"
+
+# the programs of the reference, with all archives; what each prints stands on the page
+while read -r name line; do
+    $CC -std=c11 "${strict[@]}" -static "$here/../../example/ref/$name.c" "$lib" "$table" "$recording" "$store" "$held" "$words" -o "$out/$name" ||
+        fail 1 "example/ref/$name.c does not compile"
+    [ "$($RUN "$out/$name")" = "$line" ] || fail 1 "example/ref/$name.c does not print what the page says: $line"
+done < <(python3 "$here/../reference.py" prints)
+printf 'reference: %s programs, each prints what the page says\n' "$(python3 "$here/../reference.py" prints | wc -l)"
 
 stack=$(sed -n 's/.*No call needs more than \([0-9]*\) bytes of stack.*/\1/p' "$inc/torfbarke.h")
 table_stack=$(sed -n 's/.*tb_table_cycle needs \([0-9]*\), its table lies there.*/\1/p' "$inc/torfbarke.h")

@@ -2,8 +2,8 @@
 # machine runs; on any other, Debian's cross compiler builds and its user-mode emulator runs.
 #   $CC ..        compiles for x86-64          $RUN PROGRAM ..  runs it
 #   archive       proves the library, unless that was done for these sources, and leaves it in $lib; its header is in $inc
-#   table_archive the same of the second engine, in $table; recording_archive of recordings, in $recording; store_archive of the store, in $store;
-#   held_archive of interrupted loads, in $held; words_archive of words, knots and the version, in $words
+#   table_archive the same of the second engine, in $table; recording_archive of recordings, in $recording; store_archive of the
+#                 store, in $store; held_archive of interrupted loads, in $held; words_archive of words, knots and the version, in $words
 #   compiler      makes sure of $CC and $RUN   emulator         makes sure of qemu-x86_64, also where $RUN does not need it
 #   $out          a folder of this call for what is built; it goes at the end
 # shellcheck shell=bash disable=SC2034
