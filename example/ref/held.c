@@ -26,7 +26,8 @@ static unsigned long by_hand(uint8_t *end) {
     for (; now.turn.turn == TB_CYCLE_OUT; cycles++) {
         tb_answer answer = tb_cycle(device, state, now.turn.cycle, array, sizeof array, NULL, 0);
         state = answer.state;
-        now = tb_held_step(now.held, answer.value, wanted, sizeof wanted, scratch, sizeof scratch, polls, 1, addresses, 2, room, sizeof room);
+        now = tb_held_step(now.held, answer.value, wanted, sizeof wanted, scratch, sizeof scratch, polls, 1, addresses, 2, room,
+                           sizeof room);
     }
     *end = now.turn.number;
     return cycles;
@@ -39,8 +40,8 @@ int main(void) {
     /* without the interruption it takes 1,032 cycles (card 11). It adds B0H, 70H, a poll, FFH, two reads and D0H, and B0H is a cycle of the
      * erase in the place of one poll */
     before();
-    tb_ran ran = tb_held_run(device, tb_fresh(), TB_RP_HIGH, TB_WP_LOW, 12000, BLOCK, 1, array, sizeof array, wanted, sizeof wanted, scratch,
-                             sizeof scratch, polls, 1, addresses, 2, room, sizeof room);
+    tb_ran ran = tb_held_run(device, tb_fresh(), TB_RP_HIGH, TB_WP_LOW, 12000, BLOCK, 1, array, sizeof array, wanted, sizeof wanted,
+                             scratch, sizeof scratch, polls, 1, addresses, 2, room, sizeof room);
     if (ran.end != TB_OK || ran.count != 1032 + 7 - 1 || !seen() || array[tb_block(PART, BLOCK).first] != 0xFF)
         return puts("wrong: an interrupted run"), 1;
     before();

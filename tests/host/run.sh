@@ -1,6 +1,7 @@
 #!/usr/bin/env bash
-# run.sh [-v] [SEED]: compiles the header as each language that it is for; runs the programs of the reference; holds the library against a second implementation in C
-# on random cases; then breaks that second implementation in many ways, one at a time, and looks whether each is noticed.
+# run.sh [-v] [SEED]: compiles the header as each language that it is for; runs the programs of the reference; holds the library against
+# a second implementation in C on random cases; then breaks that second implementation in many ways, one at a time, and looks whether
+# each is noticed.
 # -v prints what was met, and how often.
 set -eu
 here=$(dirname -- "$(readlink -f -- "$0")")

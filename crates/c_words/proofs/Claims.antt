@@ -1,4 +1,4 @@
--- What is claimed of knots as numbers: a knot that was packed is unpacked as it was. Assumes nothing.
+-- What is claimed of knots as numbers: a knot that was packed is unpacked as it was.
 use mathlib.Core.Path.{_≡_, ap, _∙_}
 use mathlib.Core.Bool.{true}
 use mathlib.Core.List.{List}

@@ -1,4 +1,4 @@
--- How long the lines of numbers are, and what of them is left. Assumes nothing.
+-- How long the lines of numbers are, and what of them is left.
 use mathlib.Core.Path.{_≡_, refl, sym, ap, _∙_}
 use mathlib.Core.Bool.{Bool, true, false}
 use mathlib.Core.List.{List, [], _∷_, _++_}

@@ -1,4 +1,4 @@
--- The number of a knot, and what is left of a payload, by that number. Assumes nothing.
+-- The number of a knot, and what is left of a payload, by that number.
 use mathlib.Core.Path.{_≡_, refl, ap, _∙_}
 use mathlib.Core.Bool.{Bool, true, false}
 use mathlib.Core.List.{List}

@@ -1,4 +1,4 @@
--- The bits of a signed number, below 0 and else. Assumes nothing.
+-- The bits of a signed number, below 0 and else.
 use mathlib.Core.Path.{_≡_, refl, ap}
 use mathlib.Core.Bool.{true, false}
 use Prim.Native.Nat.{ℕ, suc, _-_, _<_}

@@ -1,4 +1,4 @@
--- A knot of a table's payload as numbers, each way: reading_table says what six bytes mean, reading_text which they are. Assumes nothing.
+-- A knot of a table's payload as numbers, each way: reading_table says what six bytes mean, reading_text which they are.
 use mathlib.Core.Bool.{Bool, _&&_}
 use mathlib.Core.List.{List}
 use Prim.Native.Nat.{ℕ, _-_, _*_, _/_}

@@ -1,12 +1,15 @@
--- The version, as the file VERSION has it. Assumes nothing.
+-- The version, as the file VERSION has it.
 use Prim.Native.Nat.{ℕ, _+_, _*_}
 
+-- the major number of the version
 abbrev pub major : ℕ
 major = 0
 
+-- the minor number of the version
 abbrev pub minor : ℕ
 minor = 10
 
+-- the patch number of the version
 abbrev pub patch : ℕ
 patch = 0
 

@@ -1,4 +1,4 @@
--- The words of every number that is given back, and where they are left. Assumes nothing.
+-- The words of every number that is given back, and where they are left.
 use mathlib.Core.List.{List, [], _∷_, _++_}
 use Prim.Native.Nat.{ℕ, _-_}
 use lib.Dec.{eqb, leb, ltb}

@@ -1,4 +1,4 @@
--- `tb_knot_pack` meets its contract. Assumes nothing.
+-- `tb_knot_pack` meets its contract.
 use mathlib.Core.Path.{_≡_, sym, ap, ap₂, _∙_}
 use Prim.Native.Nat.{_*_}
 use lib.IntN.{ℤ}

@@ -1,4 +1,4 @@
--- `tb_knot_unpack` meets its contract. Assumes nothing.
+-- `tb_knot_unpack` meets its contract.
 use mathlib.Core.Path.{_∙_}
 use mir.Syntax.{w16, w32}
 use mir.ValLaws.{toZ-ofZ}

@@ -1,4 +1,4 @@
--- `tb_words` meets its contract. Assumes nothing.
+-- `tb_words` meets its contract.
 use mathlib.Core.Path.{_≡_, refl, sym, ap, _∙_}
 use mathlib.Core.List.{List, [], _∷_, _++_}
 use Prim.Native.Nat.{ℕ, _-_}

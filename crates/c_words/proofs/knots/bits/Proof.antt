@@ -1,4 +1,4 @@
--- `knots::bits` meets its contract. Assumes nothing.
+-- `knots::bits` meets its contract.
 use mathlib.Core.Path.{sym, ap, _∙_}
 use Prim.Native.Nat.{_-_}
 use native.Mathlib.Omega.{arith}

@@ -1,4 +1,4 @@
--- `knots::in_range` meets its contract. Assumes nothing.
+-- `knots::in_range` meets its contract.
 use lib.IntN.{ℤ, pos, negsuc}
 use mir.Syntax.{w32}
 use mir.ValLaws.{toZ-ofZ}

@@ -1,4 +1,4 @@
--- `knots::is_there` meets its contract. Assumes nothing.
+-- `knots::is_there` meets its contract.
 use borrow.Author.Tests.{lt-ltb, le-ltb}
 use Rattle.c_words.specs.Knots.{thereOf}
 use Rattle.c_words.proofs.knots.is_there.Statement.{statement}

@@ -1,4 +1,4 @@
--- `knots::pack_number` meets its contract. Assumes nothing.
+-- `knots::pack_number` meets its contract.
 use mathlib.Core.Path.{sym, ap, _∙_}
 use mir.Syntax.{w32}
 use mir.ValLaws.{toZ-ofZ}

@@ -1,4 +1,4 @@
--- `knots::put_knot` meets its contract. Assumes nothing.
+-- `knots::put_knot` meets its contract.
 use mathlib.Core.Path.{ap, _∙_}
 use mir.Syntax.{w32}
 use mir.ValLaws.{toZ-ofZ}

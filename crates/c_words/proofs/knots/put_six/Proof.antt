@@ -1,4 +1,4 @@
--- `knots::put_six` meets its contract. Assumes nothing.
+-- `knots::put_six` meets its contract.
 use mathlib.Core.Path.{_∙_}
 use mathlib.Core.List.{[], _∷_}
 use Prim.Native.Nat.{_/_, _%_}

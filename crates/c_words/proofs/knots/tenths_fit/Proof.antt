@@ -1,4 +1,4 @@
--- `knots::tenths_fit` meets its contract. Assumes nothing.
+-- `knots::tenths_fit` meets its contract.
 use lib.IntN.{ℤ, pos, negsuc}
 use mir.Syntax.{w32}
 use mir.ValLaws.{toZ-ofZ}

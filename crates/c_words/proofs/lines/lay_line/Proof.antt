@@ -1,4 +1,4 @@
--- `lines::lay_line` meets its contract. Assumes nothing.
+-- `lines::lay_line` meets its contract.
 use borrow.Author.Needs.{needs}
 use borrow.Author.Tests.{lt-ltb, le-ltb}
 use Rattle.c_words.specs.Words.{lineOf}
