@@ -62,7 +62,7 @@ fn rises(wanted: &[u8], scratch: &[u8]) -> bool
 }
 
 // One where two units differ.
-fn unlike(a: u16, b: u16) -> u8
+fn unlike(a: u16, b: u16) -> u32
     ensures { λ r. ⌜ (r ≡ (if eqb a b then 0 else 1)) × (r ≤ 1) ⌝ }
 {
     if a == b {
@@ -82,7 +82,7 @@ fn unlike_piece(wanted: &[u8], scratch: &[u8]) -> u8
     let mut i = 0;
     while i < n {
         let c = unlike(units::wide(scratch[i]), units::wide(wanted[i]));
-        count += c;
+        count += c as u8;
         i += 1;
     }
     count
@@ -128,7 +128,7 @@ fn unlike_words(wanted: &[u8], scratch: &[u8]) -> u32
         let u = units::get_word(scratch, WordAddress { word: i });
         let v = units::get_word(wanted, WordAddress { word: i });
         let c = unlike(u, v);
-        count += c as u32;
+        count += c;
         i += 1;
     }
     count

@@ -43,6 +43,9 @@ wide-requires-2 c κs = search needs
 unlike-requires : tie.Need-unlike-requires Inv-loop μ-loop
 unlike-requires c κs = search needs
 
+cast-count : tie.Need-cast-count Inv-loop μ-loop
+cast-count c = record { fits = omega (arith, c .unlike .ensures .1) }
+
 add-count : tie.Need-add-count Inv-loop μ-loop
 add-count c =
     let l = c .before .before .before .before .before .before .loop in
@@ -87,6 +90,7 @@ unlike-piece-spec =
     shared-slice-read-wide-2
     wide-requires-2
     unlike-requires
+    cast-count
     add-count
     add-i
     loop-less

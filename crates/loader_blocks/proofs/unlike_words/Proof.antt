@@ -46,9 +46,6 @@ get-word-requires-2 c κs = search needs
 unlike-requires : tie.Need-unlike-requires Inv-loop μ-loop
 unlike-requires c κs = search needs
 
-cast-count : tie.Need-cast-count Inv-loop μ-loop
-cast-count c = search needs
-
 add-count : tie.Need-add-count Inv-loop μ-loop
 add-count c =
     let l = c .before .before .before .before .loop in
@@ -92,7 +89,6 @@ unlike-words-spec =
     get-word-requires
     get-word-requires-2
     unlike-requires
-    cast-count
     add-count
     add-i
     loop-less
