@@ -1,6 +1,6 @@
 #!/usr/bin/env bash
-# Counts the instructions of the script program on one group of 999 lines, ten times over, and those of the trace program on the same 9,990
-# lines written out: whole programs, from their start to their end. Both must print the same. Under qemu-x86_64 with count.c.
+# Counts the instructions of the program's word script on one group of 999 lines, ten times over, and those of its word trace on the same 9,990
+# lines written out: whole runs, from their start to their end. Both must print the same. Under qemu-x86_64 with count.c.
 set -eu
 here=$(dirname -- "$(readlink -f -- "$0")")
 # shellcheck source=tests/host/tools.sh
@@ -21,11 +21,11 @@ lines() { awk 'BEGIN { for (i = 0; i < 333; i++) printf "W 1 0 12000 %04X 40\nW 
 { printf '( 010\n' && lines && printf ')\n'; } >"$out/script"
 for _ in 1 2 3 4 5 6 7 8 9 10; do lines; done >"$out/trace"
 
-# counted NAME: the instructions of the program of that name on the text of that name
+# counted WORD: the instructions of the program by that word on the text of that name
 counted() {
     program "$1"
-    qemu-x86_64 -cpu qemu64 -plugin "$out/count.so" -d plugin -D "$out/$1.marks" "$loader" ${paths:+--library-path "$paths"} "$built" \
-        <"$out/$1" >"$out/$1.out" || fail 1 "the program $1 failed"
+    qemu-x86_64 -cpu qemu64 -plugin "$out/count.so" -d plugin -D "$out/$1.marks" "$loader" ${paths:+--library-path "$paths"} "$built" "$1" \
+        <"$out/$1" >"$out/$1.out" || fail 1 "the program failed by $1"
     sed -n 's/^end //p' "$out/$1.marks"
 }
 one=$(counted script)

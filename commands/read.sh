@@ -34,7 +34,7 @@ case $digits in
 esac
 [ ${#digits} -le 9 ] || fail 2 "microvolts have at most nine digits: $3"
 
-program reading_program
+program read
 # a byte more than the longest flash block: so what is longer is seen
 fetch "$1" 131073
 cut_dump "$1"

@@ -74,7 +74,7 @@ taken=0
 for name in "$before" "$promised" "${file:?}"; do [ "$name" != - ] || taken=$((taken + 1)); done
 [ "$taken" -le 1 ] || fail 2 "only one of recording and images can be standard input"
 
-program recording_program
+program recording
 # 9,999 lines of 31 bytes, and a byte more than the part has: what follows cannot matter
 fetch "$file" 309969
 recording=${bytes?}

@@ -58,9 +58,9 @@ case $record$engine in
 yes*)
     [ -z "${words?}" ] || fail 2 "--record and --words do not go together: a recording has its own form"
     [ -z "$named" ] || fail 2 "--record and --engine do not go together: a recording is made by the rules"
-    program recording_write
+    program record
     ;;
-table) program trace_table ;;
+table) program table ;;
 *) program trace ;;
 esac
 # 9,999 lines of 20 bytes: what follows cannot matter

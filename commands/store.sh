@@ -157,7 +157,7 @@ esac
 device=$((10#$2))
 case $3 in
 list | find | read | add | drop)
-    program store_program
+    program store
     "store_$3" "${@:4}"
     ;;
 *) fail 2 "list, find, read, add or drop, not '$3'; 'torfbarke store --help' says more" ;;

@@ -182,7 +182,7 @@ table_write() {
     letter "$letter"
     [ "$file" != - ] || [ ! -t 0 ] || fail 2 "no table: its text comes from standard input; 'torfbarke table --help' says more"
     apart "$file" "$output"
-    program table_write
+    program write
     text "$file"
     # the program's own judgement comes first, then the check; nothing is written before both
     made "$letter" >/dev/null
@@ -246,7 +246,7 @@ table_print() {
     [ $# = 2 ] || fail 2 "table print takes a file and its letter; 'torfbarke table --help' says more"
     there "$1"
     letter "$2"
-    program table_print
+    program print
     fetch "$1" 131073
     cut_dump "$1"
     pass <(give "${bytes?}") "$2"

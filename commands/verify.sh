@@ -44,7 +44,7 @@ word) mode=1 ;;
 *) fail 2 "the mode is byte or word: $6" ;;
 esac
 
-program verify_program
+program verify
 # a byte more than the longest part, and than the longest flash block: so what is longer is seen
 fetch "$1" 524289
 image=${bytes?}

@@ -46,7 +46,7 @@ fi
 [ ${#traces[@]} -gt 0 ] || fail 2 "no trace: give one file or more, or --sample for the one that ships; 'torfbarke wear --help' says more"
 for file in "${traces[@]}"; do there "$file"; done
 
-program wear_program
+program wear
 # a file is read by its name; what can be read only once, a FIFO or standard input, is held: 9,999 lines of 31 bytes
 names=() held=()
 for file in "${traces[@]}"; do

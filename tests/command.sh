@@ -91,9 +91,29 @@ call "$tb" replay --words "$work/page.txt"; try 'in words' 0 '*' ''
 grep -q 'W 1 0 12000 0000 00  X 07 80 .*refused by 7' "$work/out" || wrong 'in words: 7 is not told'
 grep -q 'R 1 0 12000 0010 00  D 5A 80 .*gave 5A; ready' "$work/out" || wrong 'in words: the byte is not told'
 
+# a sample of each word: its call, a word to a line, what it reads, and what it must print
+in_root() { (cd "$root" && "$@"); }
+for sample in "$root"/tests/samples/*.args; do
+    mapfile -t words <"$sample"
+    sample=${sample%.args} input=/dev/null
+    [ ! -e "$sample.stdin" ] || input=$sample.stdin
+    call in_root "$tb" "${words[@]}" <"$input"; try "the sample ${sample##*/}" 0 '*' ''
+    cmp -s "$sample.stdout" "$work/out" || wrong "the sample ${sample##*/}: other answers"
+done
+call "$tb" replay "$root/crates/desk/stdin"; one 'the long sample' 1 '*' 'is no line of a trace'
+cmp -s "$root/crates/desk/stdout" "$work/out" || wrong 'the long sample: other answers'
+
 # wrong calls
 call "$tb"; try 'no word' 2 '' 'replay'
 call "$tb" --help; try '--help' 0 '*' ''
+call "$tb" --version; try '--version' 0 '*' ''
+[ "$(head -n 1 "$work/out")" = "torfbarke $(cat "$root/VERSION")" ] || wrong '--version: another version'
+grep -qF "proved with the kit: $(cat "$root/KIT")" "$work/out" || wrong '--version: another kit'
+for word in build clean; do
+    call "$tb" "$word" --help; try "$word --help" 0 '*' ''
+    grep -q 'Exit status' "$work/out" || wrong "$word --help: no statuses"
+    call "$tb" "$word" now; one "$word: a word too many" 2 '' 'takes nothing behind it'
+done
 call "$tb" replay --help; try 'replay --help' 0 '*' ''
 grep -q 'Exit status' "$work/out" || wrong 'replay --help: no statuses'
 call "$tb" reply; try 'a word that is none' 2 '' "no word 'reply'"
@@ -157,7 +177,7 @@ either() { # either NAME STATUS ARGUMENTS
         cmp -s "$work/named.err" "$work/err" || wrong "$name, by the $engine: other words on standard error"
     done
 }
-worn=$root/crates/wear_program/data
+worn=$root/tests/samples
 for words in '' --words; do
     # shellcheck disable=SC2086
     {
@@ -166,7 +186,7 @@ for words in '' --words; do
         either "an empty trace $words" 0 $words "$work/empty"
         either "erases, one cut by a reset $words" 0 $words "$worn/first.txt"
         either "the boot block, a suspend and a resume $words" 0 $words "$worn/second.txt"
-        either "the long sample, to its bad line $words" 1 $words "$root/crates/trace/stdin"
+        either "the long sample, to its bad line $words" 1 $words "$root/crates/desk/stdin"
         either "the sample of a bad line $words" 1 $words "$root/samples/bad-line.txt"
         either "9,998 lines $words" 0 $words "$work/most.txt"
         either "too many lines $words" 1 $words "$work/more.txt"
@@ -475,8 +495,8 @@ call "$tb" table print "$work/ends.load" K; try 'the smallest and the largest nu
 ' ''
 python3 "$root/tests/vectors_reading.py" text K >"$work/k.txt"
 call written K "$work/k.txt"; try 'the table of type K' 0 '*' ''
-cmp -s "$work/out" "$root/crates/reading_program/data/k.load" || wrong 'the table of type K: another file'
-call "$tb" table print "$root/crates/reading_program/data/k.load" K; try 'the table of type K printed' 0 "$(cat "$work/k.txt")
+cmp -s "$work/out" "$root/tests/samples/k.load" || wrong 'the table of type K: another file'
+call "$tb" table print "$root/tests/samples/k.load" K; try 'the table of type K printed' 0 "$(cat "$work/k.txt")
 " ''
 python3 -c "for i in range(18853): print(4 * i - 10000, i % 3000)" >"$work/long.txt"
 call forced K "$work/long.txt"; one 'the longest table' 0 '*' 'It is written all the same'
@@ -1001,7 +1021,7 @@ call "$tb" recording --promised - --before - "$work/recording.txt"; one 'two ima
 python3 -c "for i in range(2000): print(4 * i, round(4 * i / 4.07))" >"$work/2000.txt"
 "$tb" table write K <"$work/2000.txt" >"$work/2000.load"
 head -n 3000 "$work/most.txt" >"$work/3000.txt"
-all=("--help" "replay --help" "script --help" "read --help" "table --help" "verify --help" "wear --help" "wear page.txt" "wear --words page.txt"
+all=("--help" "--version" "build --help" "clean --help" "replay --help" "script --help" "read --help" "table --help" "verify --help" "wear --help" "wear page.txt" "wear --words page.txt"
     "replay page.txt" "replay --words page.txt" "replay --engine table page.txt" "replay --engine table --words page.txt" "replay --record record.txt" "script script.txt" "script --words script.txt" "read three.load K 6138" "read three.load K 8139"
     "table write K" "table write K three.txt" "table write --csv K table.csv" "table print three.load K" "table list" "table check K three.txt" "table check S three.txt"
     "table plot three.txt K -" "verify image 3 1 three.load K" "verify image 3 2 three.load K"
@@ -1117,7 +1137,7 @@ echo 'rt: ok, 1 crates proved'
 KIT
 chmod +x "$work/kit/rt"
 if [ -n "${TORFBARKE_PROGRAMS-}" ]; then
-    export PROGRAM=$TORFBARKE_PROGRAMS/trace BUILDS=$work/builds
+    export PROGRAM=$TORFBARKE_PROGRAMS/desk BUILDS=$work/builds
     REAL_DOC=$(rt doc 2>/dev/null || true)
     export REAL_DOC
     first() { env -u TORFBARKE_PROGRAMS XDG_CACHE_HOME="$work/cache$1" PATH="$work/kit:$PATH" "$tb" replay "${@:2}" "$work/page.txt"; }
@@ -1135,8 +1155,7 @@ if [ -n "${TORFBARKE_PROGRAMS-}" ]; then
     unset BUILD_TAKES
     call first 6; try 'a first call tells what goes on' 0 "$answers" 'proved 1 of'
     call first 6; try 'a second call is quiet' 0 "$answers" ''
-    call first 6 --engine table; try 'the first call by the table builds a program of its own' 0 "$answers" 'first call: trace_table is proved'
-    call first 6 --engine table; try 'a second call by the table is quiet' 0 "$answers" ''
+    call first 6 --engine table; try 'another word, by the same program, is quiet' 0 "$answers" ''
     find "$work/cache6/torfbarke" -type d -not -perm 700 | grep -q . && wrong 'a first call: a folder that is open to others'
     export KIT_VERSION=2
     call first 6; try 'another kit builds anew' 0 "$answers" 'proved 1 of'
@@ -1167,6 +1186,39 @@ if [ -n "${TORFBARKE_PROGRAMS-}" ]; then
         call first "-$signal"; try "the call after one ended by $signal" 0 "$answers" 'goes on where it was'
         [ "$(tail -n 1 "$work/builds")" = 'goes on' ] || wrong "the call after one ended by $signal: it did not go on"
     done
+    # build alone, and clean: it removes what was built and nothing else
+    housed() { env -u TORFBARKE_PROGRAMS XDG_CACHE_HOME="$work/cache11" PATH="$work/kit:$PATH" "$tb" "$@"; }
+    call housed clean; try 'clean with nothing built' 0 "nothing was removed: there is nothing built in $work/cache11/torfbarke
+" ''
+    [ ! -e "$work/cache11" ] || wrong 'clean with nothing built: a folder was made'
+    call housed build; try 'build' 0 '*' 'first call: desk is proved and built'
+    key=$(ls "$work/cache11/torfbarke")
+    place=$work/cache11/torfbarke/$key
+    [ "$(cat "$work/out")" = "the program is proved and built: $place/desk" ] || wrong 'build: other words'
+    call housed build; try 'build once more' 0 "the program is proved and built: $place/desk
+" ''
+    call housed replay "$work/page.txt"; try 'a word after build' 0 "$answers" ''
+    mkdir "$work/cache11/torfbarke/mine" "$work/elsewhere"
+    : >"$work/elsewhere/kept"
+    : >"$work/cache11/torfbarke/0123456789abcdef0123456789abcdef"
+    ln -s "$work/elsewhere" "$work/cache11/torfbarke/fedcba9876543210fedcba9876543210"
+    building() { flock "$place/lock" env -u TORFBARKE_PROGRAMS XDG_CACHE_HOME="$work/cache11" PATH="$work/kit:$PATH" "$tb" clean; }
+    call building; one 'clean while another call builds' 0 '*' 'another call is building'
+    [ -e "$place/desk" ] || wrong 'clean while another call builds: it is gone'
+    call housed clean; try 'clean' 0 "removed $place
+" ''
+    [ ! -e "$place" ] || wrong 'clean: it is still there'
+    if [ ! -d "$work/cache11/torfbarke/mine" ] || [ ! -e "$work/elsewhere/kept" ] || [ "$(ls "$work/cache11/torfbarke" | wc -l)" != 3 ]; then wrong 'clean: more was removed'; fi
+    mkdir "$work/cache12"
+    ln -s "$work/cache2/torfbarke" "$work/cache12/torfbarke"
+    linked() { XDG_CACHE_HOME=$work/cache12 "$tb" clean; }
+    call linked; one 'clean through a link' 3 '' 'is not a folder of yours: nothing was removed'
+    [ -n "$(ls "$work/cache2/torfbarke")" ] || wrong 'clean through a link: something was removed'
+    call env KIT_VERSION=9 PATH="$work/kit:$PATH" "$tb" --version; try 'the version, with another kit' 0 "torfbarke $(cat "$root/VERSION")
+proved with the kit: $(cat "$root/KIT")
+the kit here:        kit 9
+these are not the same kit: what is built here may be refused by its prover
+" ''
     # programs are run from a folder of the caller's own alone
     homeless() { env -u TORFBARKE_PROGRAMS -u HOME -u XDG_CACHE_HOME PATH="$work/kit:$PATH" "$tb" replay "$work/page.txt"; }
     call homeless; one 'no HOME' 3 '' 'set HOME, or XDG_CACHE_HOME to a folder of yours'
@@ -1191,7 +1243,7 @@ if [ -n "${TORFBARKE_PROGRAMS-}" ]; then
     roomless() { { (ulimit -f 0 && first 8 2>&1) || printf 'status %s\n' "$?"; } | cat; }
     call roomless
     cases=$((cases + 1))
-    tail -n 2 "$work/out" | grep -q 'trace was not built; the sources could not be copied' || wrong 'no room to build: other words'
+    tail -n 2 "$work/out" | grep -q 'desk was not built; the sources could not be copied' || wrong 'no room to build: other words'
     [ "$(tail -n 1 "$work/out")" = 'status 3' ] || wrong 'no room to build: another status'
     export BUILD_FAILS=yes
     call first 7; try 'a build that fails' 3 '' 'was not built'

@@ -163,8 +163,8 @@ limited() { (ulimit -f 8 && exec "$tb" store "$@"); }
 call limited "$card" 3 drop S; one 'an image that cannot be written' 4 '' "card is as it was"
 card_kept 'an image that cannot be written'
 mkdir "$work/slow"
-printf '#!/bin/sh\nprintf K\n: >%s/slow/begun\nsleep 60\n' "$work" >"$work/slow/store_program"
-chmod 755 "$work/slow" "$work/slow/store_program"
+printf '#!/bin/sh\nprintf K\n: >%s/slow/begun\nsleep 60\n' "$work" >"$work/slow/desk"
+chmod 755 "$work/slow" "$work/slow/desk"
 slow() { TORFBARKE_PROGRAMS=$work/slow "$tb" store "$@"; }
 # stopped SIGNAL: the whole group of processes is, as a terminal does it, once the program has begun to write
 stopped() {
@@ -182,7 +182,7 @@ stopped() {
 }
 stopped TERM 143
 stopped HUP 129
-printf '#!/bin/sh\nprintf K\nprintf "done, nothing was erased\\n" >&2\n' >"$work/slow/store_program"
+printf '#!/bin/sh\nprintf K\nprintf "done, nothing was erased\\n" >&2\n' >"$work/slow/desk"
 call slow "$card" 3 drop S; one 'a program that does not end well' 4 '' 'card is as it was'
 card_kept 'a program that does not end well'
 rm -r "$work/slow"

@@ -5,7 +5,7 @@
     python3 tests/vectors_reading.py expected   what it must print (its file stdout)
     python3 tests/vectors_reading.py check      whether both files, and those of the three programs, are what the script makes
     python3 tests/vectors_reading.py store      writes them
-    python3 tests/vectors_reading.py text K     a table as text, for table_write: K or S
+    python3 tests/vectors_reading.py text K     a table as text, for `torfbarke table write`: K or S
 
 A row is a letter, eight hex digits (x) and four (y). It changes what is held: a payload, a file, and how much of the file and of
 the room counts.
@@ -308,29 +308,28 @@ def all_rows():
 
 
 def stored():
-    """The files beside the programs: their arguments, what they read and what they must print."""
+    """The samples of three words of the command: their calls, what they read and what they must print."""
     text = lambda table: "".join(f"{x} {t}\n" for x, t in table).encode()
     file_k, file_s = write(ord("K"), payload_of(TABLE_K))[1], write(ord("S"), payload_of(TABLE_S))[1]
     x = 20218
     answer = reading(TABLE_K, x)
     return {
-        "reading_program/args": f"k.load\nK\n{x}\n".encode(),
-        "reading_program/data/k.load": file_k,
-        "reading_program/stdout": f"{degrees(answer[1])}\n".encode(),
-        "table_write/args": b"S\n",
-        "table_write/stdin": text(TABLE_S),
-        "table_write/stdout": file_s,
-        "table_print/args": b"k.load\nK\n",
-        "table_print/data/k.load": file_k,
-        "table_print/stdout": text(TABLE_K),
+        "read.args": f"read\ntests/samples/k.load\nK\n{x}\n".encode(),
+        "k.load": file_k,
+        "read.stdout": f"{degrees(answer[1])}\n".encode(),
+        "write.args": b"table\nwrite\nS\n",
+        "write.stdin": text(TABLE_S),
+        "write.stdout": file_s,
+        "print.args": b"table\nprint\ntests/samples/k.load\nK\n",
+        "print.stdout": text(TABLE_K),
     }
 
 
 def differ():
     """The stored files that are not what this script makes."""
-    crates = pathlib.Path(__file__).resolve().parent.parent / "crates"
+    samples = pathlib.Path(__file__).resolve().parent / "samples"
     wrong = [f"vectors_reading/{name}" for name in files_differ("vectors_reading", all_rows())]
-    return wrong + [name for name, data in stored().items() if (crates / name).read_bytes() != data]
+    return wrong + [name for name, data in stored().items() if (samples / name).read_bytes() != data]
 
 
 def store():
@@ -339,8 +338,7 @@ def store():
     (crates / "vectors_reading" / "stdin").write_text("\n".join(rows.rows) + "\n")
     (crates / "vectors_reading" / "stdout").write_text("\n".join(rows.lines) + "\n")
     for name, data in stored().items():
-        (crates / name).parent.mkdir(parents=True, exist_ok=True)
-        (crates / name).write_bytes(data)
+        (crates.parent / "tests" / "samples" / name).write_bytes(data)
 
 
 def main(asked):

@@ -1,15 +1,15 @@
 #!/usr/bin/env python3
-"""The sample script, the cases of the program `vectors_script`, and what both programs must print.
+"""The sample script, the cases of the program `vectors_script`, and what is printed of both.
 
-    python3 tests/vectors_script.py sample       the sample, as in crates/script/stdin
-    python3 tests/vectors_script.py answers      its answers, as in crates/script/stdout
+    python3 tests/vectors_script.py sample       the sample, as in samples/script.txt
+    python3 tests/vectors_script.py answers      its answers, as in tests/samples/script.stdout
     python3 tests/vectors_script.py cases        the cases, as in crates/vectors_script/stdin
     python3 tests/vectors_script.py expected     their lines, as in crates/vectors_script/stdout
     python3 tests/vectors_script.py write        writes the four files
     python3 tests/vectors_script.py check        whether the four files are what the script prints
-    python3 tests/vectors_script.py against target/bin/script target/bin/trace COUNT SEED
-                                                 whether both programs answer COUNT random scripts as the script does: the first
-                                                 the script, the second its lines written out
+    python3 tests/vectors_script.py against target/bin/desk COUNT SEED
+                                                 whether the program answers COUNT random scripts as the script does: its word script
+                                                 the script, its word trace the lines written out
 
 A case is a text put together from pieces, and the room lent for its output. On standard input a piece is `* nnnnn mmm`, a newline and
 mmm bytes, to be put nnnnn times; `= rrrrr 000` and a newline runs what was put together, in rrrrr bytes of room. A line of
@@ -290,45 +290,45 @@ def random_items(r, depth, room):
     return out
 
 
-def told(program, text):
-    return subprocess.run([program], input=text, stdout=subprocess.PIPE, check=True).stdout
+def told(program, word, text):
+    return subprocess.run([program, word], input=text, stdout=subprocess.PIPE, check=True).stdout
 
 
-def against(script, trace, count, seed):
+def against(program, count, seed):
     r = random.Random(seed)
     fine = 0
     for _ in range(count):
         text = b"".join(random_items(r, r.choice([0, 2, 8]), 400) for _ in range(r.choice([1, 3, 12])))
         text = text[: len(text) - r.choice([0] * 9 + [1])]
         want = run(text)[0]
-        same = told(script, text) == want
+        same = told(program, "script", text) == want
         if not first_fault(text):
             fine += 1
-            same = same and told(trace, b"".join(written_out(tree(text)[0]))) == want
+            same = same and told(program, "trace", b"".join(written_out(tree(text)[0]))) == want
         if not same:
             sys.stdout.buffer.write(text)
-            sys.exit("a program and the script answer this script differently")
+            sys.exit("the program and the script answer this script differently")
     print(f"{count} random scripts answered alike, {fine} of them without a fault")
 
 
 FILES = {
-    "sample": ("script/stdin", lambda: SAMPLE),
-    "answers": ("script/stdout", lambda: run(SAMPLE)[0]),
-    "cases": ("vectors_script/stdin", lambda: b"".join(rows_of(case) for case in CASES)),
-    "expected": ("vectors_script/stdout", lambda: b"".join(line_of(i + 1, case) for i, case in enumerate(CASES))),
+    "sample": ("samples/script.txt", lambda: SAMPLE),
+    "answers": ("tests/samples/script.stdout", lambda: run(SAMPLE)[0]),
+    "cases": ("crates/vectors_script/stdin", lambda: b"".join(rows_of(case) for case in CASES)),
+    "expected": ("crates/vectors_script/stdout", lambda: b"".join(line_of(i + 1, case) for i, case in enumerate(CASES))),
 }
 
 
 def main():
-    crates = pathlib.Path(__file__).resolve().parent.parent / "crates"
+    root = pathlib.Path(__file__).resolve().parent.parent
     if sys.argv[1:] == ["write"]:
         for name, text in FILES.values():
-            (crates / name).write_bytes(text())
+            (root / name).write_bytes(text())
     elif sys.argv[1:] == ["check"]:
-        wrong = [name for name, text in FILES.values() if (crates / name).read_bytes() != text()]
+        wrong = [name for name, text in FILES.values() if (root / name).read_bytes() != text()]
         sys.exit("these files are not what the script prints: " + ", ".join(wrong) if wrong else 0)
-    elif len(sys.argv) == 6 and sys.argv[1] == "against":
-        against(sys.argv[2], sys.argv[3], int(sys.argv[4]), int(sys.argv[5]))
+    elif len(sys.argv) == 5 and sys.argv[1] == "against":
+        against(sys.argv[2], int(sys.argv[3]), int(sys.argv[4]))
     elif len(sys.argv) == 2 and sys.argv[1] in FILES:
         sys.stdout.buffer.write(FILES[sys.argv[1]][1]())
     else:

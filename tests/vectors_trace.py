@@ -1,13 +1,13 @@
 #!/usr/bin/env python3
 """The sample trace, the cases of the program `vectors_trace`, and what the programs must print.
 
-    python3 tests/vectors_trace.py sample       the sample, as in crates/trace/stdin and crates/trace_table/stdin
-    python3 tests/vectors_trace.py answers      its answers, as in crates/trace/stdout and crates/trace_table/stdout
+    python3 tests/vectors_trace.py sample       the sample, as in crates/desk/stdin
+    python3 tests/vectors_trace.py answers      its answers, as in crates/desk/stdout
     python3 tests/vectors_trace.py expected     the lines of the cases, as in crates/vectors_trace/stdout
     python3 tests/vectors_trace.py write        writes these files
     python3 tests/vectors_trace.py check        whether they are what the script prints
-    python3 tests/vectors_trace.py against target/bin/trace COUNT SEED
-                                                whether the program, or trace_table, answers COUNT random traces as the script does
+    python3 tests/vectors_trace.py against target/bin/desk trace COUNT SEED
+                                                whether the program's word trace, or table, answers COUNT random traces as the script does
 
 The program `vectors_trace` runs every case by the rules and then every case by the table: the same lines twice. A line shows: the
 case, the refusal (0 for none), the bytes of output, a digest of the 80,000 bytes lent for the output and of the array, and the last
@@ -261,12 +261,12 @@ def random_line(r):
     return bytes(line)
 
 
-def against(program, count, seed):
+def against(program, word, count, seed):
     r = random.Random(seed)
     for _ in range(count):
         text = b"".join(random_line(r) for _ in range(r.choice([1, 7, 60, 400])))
         text = text[: len(text) - r.choice([0, 0, 0, 1, 19])]
-        told = subprocess.run([program], input=text, stdout=subprocess.PIPE, check=True).stdout
+        told = subprocess.run([program, word], input=text, stdout=subprocess.PIPE, check=True).stdout
         if told != replay(text)[0]:
             sys.stdout.buffer.write(text)
             sys.exit("the program and the script answer this trace differently")
@@ -274,8 +274,8 @@ def against(program, count, seed):
 
 
 FILES = {
-    "sample": (["trace/stdin", "trace_table/stdin"], sample),
-    "answers": (["trace/stdout", "trace_table/stdout"], lambda: replay(sample())[0]),
+    "sample": (["desk/stdin"], sample),
+    "answers": (["desk/stdout"], lambda: replay(sample())[0]),
     "expected": (["vectors_trace/stdout"], lambda: 2 * b"".join(line_of(i + 1, case) for i, case in enumerate(CASES))),
 }
 
@@ -293,8 +293,8 @@ def main():
     elif sys.argv[1:] == ["check"]:
         wrong = [name for names, text in FILES.values() for name in names if (crates / name).read_bytes() != text()]
         sys.exit("these files are not what the script prints: " + ", ".join(wrong) if wrong else 0)
-    elif len(sys.argv) == 5 and sys.argv[1] == "against":
-        against(sys.argv[2], int(sys.argv[3]), int(sys.argv[4]))
+    elif len(sys.argv) == 6 and sys.argv[1] == "against":
+        against(sys.argv[2], sys.argv[3], int(sys.argv[4]), int(sys.argv[5]))
     elif len(sys.argv) == 2 and sys.argv[1] in FILES:
         sys.stdout.buffer.write(FILES[sys.argv[1]][1]())
     else:

@@ -49,7 +49,7 @@ answerLine (Refused n) = refusedLine n
 
 -- how the program is called
 abbrev pub usage : List ℕ
-usage = bytes "usage: reading_program FILE LETTER MICROVOLTS\n"
+usage = bytes "usage: desk read FILE LETTER MICROVOLTS\n"
 
 -- what a call comes to: a line, the stream that it goes to, and what is left of the room lent
 pub record Answered : Type 0 where
@@ -61,9 +61,9 @@ pub record Answered : Type 0 where
 abbrev pub misused : List ℕ → Answered
 misused room = record { line = usage; stream = 2; room = room }
 
--- a wrong call: other than four words with the program's own, or a letter of another length
+-- a wrong call: other than five words with the program's own and `read`, or a letter of another length
 unfoldable pub callWrong : ℕ → List ℕ → Bool
-callWrong count letter = not (eqb count 4) || not (eqb (length letter) 1)
+callWrong count letter = not (eqb count 5) || not (eqb (length letter) 1)
 
 -- the microvolts are a number, or they are none
 abbrev pub readBy : NumberRead → List ℕ → ℕ → List ℕ → Answered

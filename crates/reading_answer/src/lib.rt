@@ -87,7 +87,7 @@ fn put_usage(out: &mut [u8]) -> usize
     ensures { λ r. ⌜ r ≡ behind (now (out .entry)) 0 usage ⌝ }
     ensures { λ _. ⌜ now (out .exit) ≡ laidAt (now (out .entry)) 0 usage ⌝ }
 {
-    text::put_text(out, 0, b"usage: reading_program FILE LETTER MICROVOLTS\n")
+    text::put_text(out, 0, b"usage: desk read FILE LETTER MICROVOLTS\n")
 }
 
 // A wrong call.
@@ -95,7 +95,7 @@ fn call_wrong(count: usize, letter: &[u8]) -> bool
     ensures { λ r. ⌜ r ≡ callWrong count (now (letter .entry)) ⌝ }
 {
     let n = letter.len();
-    (count != 4) | (n != 1)
+    (count != 5) | (n != 1)
 }
 
 // The reading at so many microvolts from a file, in the front of out; the place behind it. The payload goes into room.
@@ -109,7 +109,7 @@ fn put_read(out: &mut [u8], file: &[u8], letter: u8, room: &mut [u8], x: i32) ->
     put_answer(out, answer)
 }
 
-// The answer to a call of so many words, the program's own among them: a file, a letter and microvolts. The line goes into the front of
+// The answer to a call of so many words, the program's own and `read` among them: a file, a letter and microvolts. The line goes into the front of
 // out, the payload into room.
 pub fn answer(
     count: usize,

@@ -51,7 +51,7 @@ fn call_wrong(count: usize, word: &[u8], letter: &[u8]) -> bool
 {
     let n = word.len();
     let m = letter.len();
-    (count != 7) | (n != 1) | !is_word(common::nth(word, 0)) | (m != 1)
+    (count != 8) | (n != 1) | !is_word(common::nth(word, 0)) | (m != 1)
 }
 
 // How the program is called, in the front of out; the place behind it.
@@ -62,7 +62,7 @@ fn put_usage(out: &mut [u8]) -> usize
     text::put_text(
         out,
         0,
-        b"usage: store_program L|F|R|D|A IMAGE DEVICE LETTER MICROVOLTS FILE\n",
+        b"usage: desk store L|F|R|D|A IMAGE DEVICE LETTER MICROVOLTS FILE\n",
     )
 }
 
@@ -263,7 +263,7 @@ fn change_said(out: &mut [u8], ran: Ran) -> Said
     )
 }
 
-// The answer to a call of so many words, the program's own among them: a word, an image, a device, a letter, microvolts and a file. The
+// The answer to a call of so many words, the program's own and `store` among them: a word, an image, a device, a letter, microvolts and a file. The
 // line goes into the front of out (1,200 bytes hold every line), a file found into the front of memory; a change leaves the new image.
 pub fn answer(
     count: usize,

@@ -67,7 +67,7 @@ longLine = bytes "the text is longer than 327679 bytes\n"
 
 -- how the program is called
 abbrev pub usage : List ℕ
-usage = bytes "usage: table_write LETTER < TEXT > FILE\n"
+usage = bytes "usage: desk write LETTER < TEXT > FILE\n"
 
 -- what is said of a text under a letter, and the payload that is left
 pub record Made : Type 0 where

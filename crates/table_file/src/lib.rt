@@ -139,7 +139,7 @@ fn put_usage(out: &mut [u8]) -> usize
     ensures { λ r. ⌜ r ≡ behind (now (out .entry)) 0 usage ⌝ }
     ensures { λ _. ⌜ now (out .exit) ≡ laidAt (now (out .entry)) 0 usage ⌝ }
 {
-    text::put_text(out, 0, b"usage: table_write LETTER < TEXT > FILE\n")
+    text::put_text(out, 0, b"usage: desk write LETTER < TEXT > FILE\n")
 }
 
 // The file of a text under a letter, in the front of out, or a line that says why there is none. The knots go into payload.

@@ -30,7 +30,7 @@ fileSaid (made p) = tableSaid p
 
 -- how the program is called
 abbrev pub usage : List ℕ
-usage = bytes "usage: table_print FILE LETTER\n"
+usage = bytes "usage: desk print FILE LETTER\n"
 
 -- what is said of a file for a letter, and what is left of the room lent
 pub record Shown : Type 0 where

@@ -80,7 +80,7 @@ fn put_usage(out: &mut [u8]) -> usize
     ensures { λ r. ⌜ r ≡ behind (now (out .entry)) 0 usage ⌝ }
     ensures { λ _. ⌜ now (out .exit) ≡ laidAt (now (out .entry)) 0 usage ⌝ }
 {
-    text::put_text(out, 0, b"usage: table_print FILE LETTER\n")
+    text::put_text(out, 0, b"usage: desk print FILE LETTER\n")
 }
 
 // The table of a file for a letter, in the front of out, or the line that says why there is none. The payload goes into room.

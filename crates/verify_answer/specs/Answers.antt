@@ -23,9 +23,9 @@ isNumeral word = eqb (length word) 1 && isDigit (getD word 0 0)
 unfoldable pub numeralOf : List ℕ → ℕ
 numeralOf word = if isNumeral word then digitOf (getD word 0 0) else 255
 
--- a wrong call: other than seven words with the program's own, a letter of another length, a mode that is neither 0 nor 1
+-- a wrong call: other than eight words with the program's own and `verify`, a letter of another length, a mode that is neither 0 nor 1
 unfoldable pub callWrong : ℕ → List ℕ → ℕ → Bool
-callWrong count letter mode = (not (eqb count 7) || not (eqb (length letter) 1)) || ltb 1 mode
+callWrong count letter mode = (not (eqb count 8) || not (eqb (length letter) 1)) || ltb 1 mode
 
 -- what a refusal means: a device, an image, a block, a file
 unfoldable pub verifyWords : ℕ → List ℕ
@@ -81,7 +81,7 @@ verifyOf part k xs w sc f letter = verifyLeft (deviceOf part) freshState reading
 
 -- how the program is called
 abbrev pub usage : List ℕ
-usage = bytes "usage: verify_program IMAGE DEVICE BLOCK FILE LETTER MODE\n"
+usage = bytes "usage: desk verify IMAGE DEVICE BLOCK FILE LETTER MODE\n"
 
 -- what is asked by the words of a call
 abbrev pub askedPart : List ℕ → List ℕ → Part

@@ -1,5 +1,5 @@
 // The line that a verify prints: the words of a call become a part, a block and a letter, the image is verified, and the result is told.
-// The public function takes any input.
+// Each public function takes any input.
 use device::Device;
 use device::Part;
 use loader_run::Ran;
@@ -36,7 +36,7 @@ fn call_wrong(count: usize, letter: &[u8], mode: u8) -> bool
     ensures { λ r. ⌜ r ≡ callWrong count (now (letter .entry)) mode ⌝ }
 {
     let n = letter.len();
-    (count != 7) | (n != 1) | (1 < mode)
+    (count != 8) | (n != 1) | (1 < mode)
 }
 
 // What a refusal means, from a place on; the place behind it.
@@ -67,8 +67,8 @@ fn put_words(out: &mut [u8], at: usize, n: u8) -> usize
     refusal_words::put_file_words(out, at, n)
 }
 
-// A refusal in the front of out; the place behind it.
-fn put_refusal(out: &mut [u8], n: u8) -> usize
+// A refusal of a verify, or of a load, in the front of out; the place behind it.
+pub fn put_refusal(out: &mut [u8], n: u8) -> usize
     ensures { λ r. ⌜ r ≡ behind (now (out .entry)) 0 (refusedLine n) ⌝ }
     ensures { λ _. ⌜ now (out .exit) ≡ laidAt (now (out .entry)) 0 (refusedLine n) ⌝ }
 {
@@ -112,7 +112,7 @@ fn put_end(out: &mut [u8], end: u8, address: u32) -> usize
 }
 
 // The bytes of a flash block, as many as the rooms lent have.
-fn block_bytes(part: Part, block: u8, wanted: usize, scratch: usize) -> usize
+pub fn block_bytes(part: Part, block: u8, wanted: usize, scratch: usize) -> usize
     ensures { λ r. ⌜ r ≡ min (lengthOf (narrowed part) block) (min wanted scratch) ⌝ }
 {
     let narrow = Part {
@@ -178,11 +178,11 @@ fn put_usage(out: &mut [u8]) -> usize
     text::put_text(
         out,
         0,
-        b"usage: verify_program IMAGE DEVICE BLOCK FILE LETTER MODE\n",
+        b"usage: desk verify IMAGE DEVICE BLOCK FILE LETTER MODE\n",
     )
 }
 
-// The answer to a call of so many words, the program's own among them: an image, a device, a block, a file, a letter and a mode. The
+// The answer to a call of so many words, the program's own and `verify` among them: an image, a device, a block, a file, a letter and a mode. The
 // line goes into the front of out; a room of 96 bytes holds every line.
 pub fn answer(
     count: usize,
