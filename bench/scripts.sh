@@ -1,5 +1,6 @@
 #!/usr/bin/env bash
-# Counts the instructions of the program's word script on one group of 999 lines, ten times over, and those of its word trace on the same 9,990
+# Counts the instructions of the program's word script on one group of 999 lines, ten times over, and those of its word trace on the
+# same 9,990
 # lines written out: whole runs, from their start to their end. Both must print the same. Under qemu-x86_64 with count.c.
 set -eu
 here=$(dirname -- "$(readlink -f -- "$0")")

@@ -109,7 +109,8 @@ fn put_read(out: &mut [u8], file: &[u8], letter: u8, room: &mut [u8], x: i32) ->
     put_answer(out, answer)
 }
 
-// The answer to a call of so many words, the program's own and `read` among them: a file, a letter and microvolts. The line goes into the front of
+// The answer to a call of so many words, the program's own and `read` among them: a file, a letter and microvolts. The line goes into
+// the front of
 // out, the payload into room.
 pub fn answer(
     count: usize,

@@ -36,7 +36,8 @@ isChange b = eqb b 68 || eqb b 65
 unfoldable pub isWord : ℕ → Bool
 isWord b = ((eqb b 76 || eqb b 70) || eqb b 82) || isChange b
 
--- a wrong call: other than eight words with the program's own and `store`, a word of another length or none of the five, a letter of another length
+-- a wrong call: other than eight words with the program's own and `store`, a word of another length or none of the five, a letter of
+-- another length
 unfoldable pub callWrong : ℕ → List ℕ → List ℕ → Bool
 callWrong count word letter = ((not (eqb count 8) || not (eqb (length word) 1)) || not (isWord (getD word 0 0))) || not (eqb (length letter) 1)
 

@@ -263,7 +263,8 @@ fn change_said(out: &mut [u8], ran: Ran) -> Said
     )
 }
 
-// The answer to a call of so many words, the program's own and `store` among them: a word, an image, a device, a letter, microvolts and a file. The
+// The answer to a call of so many words, the program's own and `store` among them: a word, an image, a device, a letter, microvolts
+// and a file. The
 // line goes into the front of out (1,200 bytes hold every line), a file found into the front of memory; a change leaves the new image.
 pub fn answer(
     count: usize,

@@ -182,7 +182,8 @@ fn put_usage(out: &mut [u8]) -> usize
     )
 }
 
-// The answer to a call of so many words, the program's own and `verify` among them: an image, a device, a block, a file, a letter and a mode. The
+// The answer to a call of so many words, the program's own and `verify` among them: an image, a device, a block, a file, a letter and
+// a mode. The
 // line goes into the front of out; a room of 96 bytes holds every line.
 pub fn answer(
     count: usize,
