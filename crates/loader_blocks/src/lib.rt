@@ -116,16 +116,17 @@ fn unlike_bytes(wanted: &[u8], scratch: &[u8]) -> u32
     count
 }
 
-// How many words differ.
+// How many words differ. Scratch is lent as a part as long as what is wanted, so that the compiler knows the two to be as long.
 fn unlike_words(wanted: &[u8], scratch: &[u8]) -> u32
-    requires { ⌜ length (now wanted) ≤ 16777216 ⌝ }
+    requires { ⌜ (length (now scratch) ≡ length (now wanted)) × (length (now wanted) ≤ 16777216) ⌝ }
     ensures { λ r. ⌜ r ≡ costs (length (pairs (now (wanted .entry)))) 1 0 (pairs (now (wanted .entry))) (pairs (now (scratch .entry))) ⌝ }
 {
-    let n = units::units_in(true, wanted.len());
+    let m = wanted.len();
+    let n = units::units_in(true, m);
     let mut count: u32 = 0;
     let mut i = 0;
     while i < n {
-        let u = units::get_word(scratch, WordAddress { word: i });
+        let u = units::get_word(&scratch[0..m], WordAddress { word: i });
         let v = units::get_word(wanted, WordAddress { word: i });
         let c = unlike(u, v);
         count += c;

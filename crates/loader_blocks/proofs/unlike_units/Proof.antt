@@ -4,7 +4,7 @@ use Rattle.loader_blocks.proofs.unlike_units.Statement.{statement}
 use Rattle.loader_blocks.proofs.unlike_units.Tie as tie
 
 unlike-words-requires : tie.Need-unlike-words-requires
-unlike-words-requires c κs = c .before .before .before .pre .1
+unlike-words-requires c κs = c .before .before .before .pre
 
 returns : tie.Need-returns
 returns c = simp (c .before .if1 .taken) (c .unlike-words .ensures)
