@@ -3,13 +3,19 @@
 # Sourced by torfbarke, after commands/lib/common. Load files and tables are the programs' own output; the check and the picture are those
 # of commands/lib/reference.py and picture.py. Everything else goes to standard error.
 root=${root:?}
+# shellcheck source=commands/lib/images
+. "$root/commands/lib/images"
+# shellcheck source=commands/lib/place
+. "$root/commands/lib/place"
+# shellcheck source=commands/lib/meaning
+. "$root/commands/lib/meaning"
 
 table_help() {
     put "usage: torfbarke table list                                             the tables that ship, one for each letter
-       torfbarke table write [--csv] [--force] LETTER [TEXT [OUT]]      a load file of a table
+       torfbarke table write [--csv] [--force] [--format FORMAT] LETTER [TEXT [OUT]]    a load file of a table
        torfbarke table check [--csv] LETTER TEXT                        how far a table is off
        torfbarke table plot [--csv] TEXT LETTER OUT                     a picture of that, as SVG
-       torfbarke table print FILE LETTER                                the table of a load file
+       torfbarke table print [--format FORMAT] FILE LETTER              the table of a load file
 
 A table in text has a line for each knot: its microvolts, a space, its tenths of a degree, both whole numbers. Microvolts are from
 -10000 to 80000 and rise from line to line; there are 2 to 18,853 lines. A line that begins with # is a comment. TEXT and OUT are
@@ -19,6 +25,8 @@ files; '-' is standard input and standard output, and so is one that is left out
              by a point, or by a comma where no comma parts the two. Comments, blank lines, one heading, quotes, carriage returns and
              a byte-order mark are taken
   --force    the table is written though the check finds it wrong, or cannot be made; standard error says so
+  --format   of the load file, OUT or FILE: bin, hex (Intel HEX) or srec (S-records). Where it is not said the ending decides (.hex .ihx
+             .ihex; .s19 .s28 .s37 .srec .mot), and standard input and output are bytes. Text needs python3
 
 'check' holds a table against the reference function of its letter (IEC 60584-1) at every whole microvolt. It may be as far off as the
 standard allows a probe of class 2 to be. Functions and limits were written without a copy of the standard: compare the tables with
@@ -30,22 +38,6 @@ not be built or run, or there is no python3, 4 the output could not be written, 
 
     ./torfbarke table write K tables/K.txt k.load
 "
-}
-
-# what a refusal means
-meaning() {
-    case $1 in
-    30) echo "the file's length is wrong" ;;
-    31) echo "a block's check is wrong" ;;
-    32) echo "a letter is none of B E J K N R S T, or not the first block's" ;;
-    33) echo "a block's number or count is wrong" ;;
-    34) echo "a block's used count or padding is wrong" ;;
-    35) echo "the file's letter is not the one asked for" ;;
-    38) echo "a block of the file is blank, not damaged: it was never loaded" ;;
-    40) echo "the payload is no whole number of knots, or too few" ;;
-    41) echo "the microvolts are out of range or do not rise" ;;
-    *) echo "docs/OPERATORS.md lists the numbers" ;;
-    esac
 }
 
 # why a text is no table: the line that the program names, if it names one, and the refusal, in words
@@ -64,10 +56,10 @@ fault() {
     esac
 }
 
-# options ARGUMENTS: sets $csv and $force (yes or nothing), and $rest, the words that are none
+# options ARGUMENTS: sets $csv and $force (yes or nothing), $format (one or nothing), and $rest, the words that are none
 options() {
     local plain=''
-    csv='' force='' rest=()
+    csv='' force='' format='' rest=()
     while [ $# -gt 0 ]; do
         case $plain$1 in
         --help | -h)
@@ -76,6 +68,11 @@ options() {
             ;;
         --csv) csv=yes ;;
         --force) force=yes ;;
+        --format)
+            image_named "$@"
+            format=$2
+            shift
+            ;;
         --) plain=: ;;
         -?*) fail 2 "table has no option $1 (a file of that name: ./$1); 'torfbarke table --help' says more" ;;
         *) rest+=("$1") ;;
@@ -102,9 +99,11 @@ text() {
 # the text as the program reads it: without its comments
 knots() { give "$bytes" | sed '/^#/d'; }
 
-# made LETTER: the load file of the text to standard output, or the end with what is wrong with it
+# made LETTER: the load file of the text in $load, or the end with what is wrong with it
 made() {
-    pass "$1" < <(knots)
+    local text=$bytes
+    hold "$1" < <(knots)
+    load=$bytes bytes=$text
     case ${said?} in
     'refused '* | 'no knot'*) fail 1 "$(fault)" ;;
     'the text is longer '*) fail 1 "$said" ;;
@@ -130,36 +129,6 @@ by_script() {
     fail 3 "the script $1 ended with status $status"
 }
 
-# out NAME: what is written from here on goes to a file beside NAME, and takes its place by a call of `placed`. Whatever ends the call
-# before leaves NAME as it was. A device or a FIFO is written to as it is; - is standard output
-out() {
-    local folder
-    place=''
-    [ "$1" != - ] || return 0
-    [ -n "$1" ] || fail 2 "the name of the output is empty"
-    [ ! -d "$1" ] || fail 2 "$1 is a folder, not a file"
-    place=$(readlink -f -- "$1") || fail 2 "there is no folder for $1"
-    folder=$(dirname -- "$place")
-    [ -d "$folder" ] || fail 2 "there is no folder $folder"
-    if [ -e "$place" ] && [ ! -f "$place" ]; then
-        { exec >"$place"; } 2>/dev/null || fail 2 "you may not write to $1"
-        place=''
-        return 0
-    fi
-    part=$place.part.$$
-    if [ ! -w "$folder" ] || [ ! -x "$folder" ]; then fail 2 "you may not write in the folder $folder"; fi
-    [ ! -e "$place" ] || [ -w "$place" ] || fail 2 "you may not write to $1"
-    unwritten() { fail 4 "$place could not be written; it is as it was"; }
-    trap 'rm -f -- "$part"' EXIT
-    { set -C && exec >"$part"; } 2>/dev/null || unwritten
-    set +C
-}
-
-placed() {
-    [ -n "$place" ] || return 0
-    mv -f -- "$part" "$place" 2>/dev/null || unwritten
-}
-
 # table_list: by the comments of the files; the gate holds them against the knots
 table_list() {
     local lines
@@ -168,11 +137,8 @@ table_list() {
     put "$lines"$'\n'
 }
 
-# apart TEXT OUT: the end with 2 where both are one file, whose text would be lost
-apart() { [ "$1" = - ] || [ "$2" = - ] || [ ! "$1" -ef "$2" ] || fail 2 "$1 is text and output at once"; }
-
 table_write() {
-    local letter file output
+    local letter file output form load
     options "$@"
     case ${#rest[@]} in
     1 | 2 | 3) ;;
@@ -181,14 +147,16 @@ table_write() {
     letter=${rest[0]} file=${rest[1]--} output=${rest[2]--}
     letter "$letter"
     [ "$file" != - ] || [ ! -t 0 ] || fail 2 "no table: its text comes from standard input; 'torfbarke table --help' says more"
-    apart "$file" "$output"
+    apart "$file" "$output" text
+    image_form "$output" "$format"
     program write
     text "$file"
     # the program's own judgement comes first, then the check; nothing is written before both
-    made "$letter" >/dev/null
-    checked "$letter"
-    out "$output"
     made "$letter"
+    checked "$letter"
+    [ "$form" = bin ] || image_python
+    out "$output"
+    image_give "$load" "$form"
     placed
 }
 
@@ -211,11 +179,17 @@ one_of() {
     esac
 }
 
+# unforced WORD: the end with 2 where the call has an option that is of write alone
+unforced() {
+    [ -z "$force" ] || fail 2 "table $1 has no option --force; 'torfbarke table --help' says more"
+    [ -z "$format" ] || fail 2 "table $1 has no option --format; 'torfbarke table --help' says more"
+}
+
 # table_check, table_plot: without the program, so that they need no prover
 table_check() {
     local fits=yes
     options "$@"
-    [ -z "$force" ] || fail 2 "table check has no option --force; 'torfbarke table --help' says more"
+    unforced check
     [ ${#rest[@]} = 2 ] || fail 2 "table check takes a letter and a text; 'torfbarke table --help' says more"
     letter "${rest[0]}"
     text "${rest[1]}"
@@ -228,11 +202,11 @@ table_check() {
 table_plot() {
     local file output name
     options "$@"
-    [ -z "$force" ] || fail 2 "table plot has no option --force; 'torfbarke table --help' says more"
+    unforced plot
     [ ${#rest[@]} = 3 ] || fail 2 "table plot takes a text, a letter and an output; 'torfbarke table --help' says more"
     file=${rest[0]} output=${rest[2]} name=${rest[0]}
     [ "$file" != - ] || name='standard input'
-    apart "$file" "$output"
+    apart "$file" "$output" text
     letter "${rest[1]}"
     text "$file"
     one_of "${rest[1]}"
@@ -243,11 +217,13 @@ table_plot() {
 }
 
 table_print() {
+    image_one 'table print' "$@"
+    set -- ${rest[@]+"${rest[@]}"}
     [ $# = 2 ] || fail 2 "table print takes a file and its letter; 'torfbarke table --help' says more"
     there "$1"
     letter "$2"
     program print
-    fetch "$1" 131073
+    image_fetch "$1" 131073 "$image_said"
     cut_dump "$1"
     pass <(give "${bytes?}") "$2"
     case ${said?} in
