@@ -2,11 +2,13 @@
 # shellcheck shell=bash
 # Sourced by torfbarke, after commands/lib/common. Standard output is the trace program's own; everything else goes to standard error.
 root=${root:?}
+# shellcheck source=commands/lib/place
+. "$root/commands/lib/place"
 
 replay_help() {
-    put "usage: torfbarke replay [--words] [--engine NAME] [FILE]     a trace from a file; '-' or nothing: from standard input
-       torfbarke replay [--words] [--engine NAME] --sample   the sample that ships with the project
-       torfbarke replay --record [FILE | --sample]           a recording of the trace
+    put "usage: torfbarke replay [--words] [--engine NAME] [--vcd OUT] [--svg OUT] [FILE]     a trace; '-' or nothing: standard input
+       torfbarke replay [--words] [--engine NAME] [--vcd OUT] [--svg OUT] --sample   the sample that ships with the project
+       torfbarke replay --record [FILE | --sample]                                   a recording of the trace
 
 Each line of a trace is one bus cycle on bench T, fresh at its start: kind, RP#, OE#, VPP, address, data.
 For each line comes an answer: D and the byte read, N -- for no data, X and the number of a refusal; then the
@@ -15,12 +17,16 @@ status register. '?' and a number end the replay at a line that is none; standar
   --words         each answer beside its cycle, with what it means
   --engine NAME   rules, as when none is named, or table, which reads what a write asks for off the table of
                   docs/COMMANDS.md. The same bytes come out: it is proved that the two agree
+  --vcd OUT       besides, the cycles and answers as a value change dump, which viewers of waveforms open (GTKWave and others): line n
+                  from time 100 n on, the answer from its middle on. What is not told is x, a bus that nothing drives z
+  --svg OUT       besides, a picture of the first hundred cycles. OUT is whole or stays as it was, of both; with a bad line
+                  there is none. Both need python3
   --record        no answers but a recording, as 'torfbarke recording' checks it: each line with its answer and, at a
                   confirm or data that starts an operation, how many cycles it takes. A refusal is no answer of a
-                  device: with a refused cycle, or a bad line, there is no recording. Goes with neither of the above
+                  device: with a refused cycle, or a bad line, there is no recording. Goes with none of the above
 
 Exit status: 0 every line answered, 1 a bad line, 2 a wrong call, 3 the program could not be built or run, 4 the
-output could not be written, 141 its reader went away. With --record also 5 a cycle is refused, so there is no
+output, or OUT, could not be written, 141 its reader went away. With --record also 5 a cycle is refused, so there is no
 recording, and 6 the recording is written, but the check will not accept it: a line cuts an operation, or the end
 is not idle. Standard error says which. An example:
 
@@ -31,10 +37,17 @@ docs/OPERATORS.md has the form of a line, every number and worked traces.
 "
 }
 
-# --record, and --engine and its name, are taken out of the call, wherever they stand before a --; the last engine named counts
-engine=rules named='' record='' rest=()
+# --record, and --engine, --vcd and --svg with their names, are taken out of the call, wherever they stand before a --; the last counts
+engine=rules named='' record='' vcd='' svg='' rest=()
 while [ $# -gt 0 ]; do
     case $1 in
+    --vcd | --svg)
+        [ $# -gt 1 ] || fail 2 "$1 has no name of a file behind it"
+        [ -n "$2" ] || fail 2 "the name of the output is empty"
+        [ "$2" != - ] || fail 2 "the answers go to standard output: name a file behind $1"
+        if [ "$1" = --vcd ]; then vcd=$2; else svg=$2; fi
+        shift
+        ;;
     --record) record=yes ;;
     --engine)
         [ $# -gt 1 ] || fail 2 "--engine has no name behind it: rules or table"
@@ -58,11 +71,22 @@ case $record$engine in
 yes*)
     [ -z "${words?}" ] || fail 2 "--record and --words do not go together: a recording has its own form"
     [ -z "$named" ] || fail 2 "--record and --engine do not go together: a recording is made by the rules"
+    [ -z "$vcd$svg" ] || fail 2 "--record and waves do not go together: a recording has no refusal and no status to show"
     program record
     ;;
 table) program table ;;
 *) program trace ;;
 esac
+# waves_may NAME: the end where its file cannot be made
+waves_may() {
+    [ -n "$1" ] || return 0
+    command -v python3 >/dev/null 2>&1 || fail 3 "there is no python3, which draws the waves"
+    apart "${file:?}" "$1" trace
+    may_place "$1"
+}
+waves_may "$vcd"
+waves_may "$svg"
+[ -z "$vcd" ] || [ -z "$svg" ] || [ "$(readlink -f -- "$vcd")" != "$(readlink -f -- "$svg")" ] || fail 2 "$vcd and $svg are one file"
 # 9,999 lines of 20 bytes: what follows cannot matter
 fetch "${file:?}" 199980
 run < <(give "${bytes?}")
@@ -89,12 +113,25 @@ if [ -n "$record" ]; then
     esac
 fi
 heard
+bad=$(printf '%s' "${wrote?}" | sed -n 's/^? 0*\([0-9]*\)$/\1/p')
+
+# waves FORM OUT: the cycles and answers as waves, into a file
+waves() {
+    local name=${file#"$root"/} text
+    [ -n "$2" ] || return 0
+    [ "$name" != - ] || name='standard input'
+    text=$(python3 -E -s -B "$root/commands/lib/waves.py" "$1" "$name" <(printf '%s' "$wrote") <(give "$bytes") 2>/dev/null) ||
+        fail 3 "the script waves.py ended with status $?"
+    deliver "$2" "$text"$'\n'
+}
+if [ -z "$bad" ]; then
+    waves vcd "$vcd"
+    waves svg "$svg"
+fi
 if [ -n "${words?}" ]; then
     lines=$(awk -f "$root/commands/lib/words.awk" <(printf '%s' "${wrote?}") <(give "$bytes")) || fail 3 "the answers could not be put into words"
     put "$lines${lines:+$'\n'}"
 else
-    put "${wrote?}"
+    put "$wrote"
 fi
-
-bad=$(printf '%s' "$wrote" | sed -n 's/^? 0*\([0-9]*\)$/\1/p')
-[ -z "$bad" ] || no_line "$bad" ''
+[ -z "$bad" ] || no_line "$bad" "${vcd:+; no waves are written}${svg:+; no picture is drawn}"

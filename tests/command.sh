@@ -888,6 +888,8 @@ call "$tb" verify --help; try 'verify --help' 0 '*' ''
 . "$root/tests/command_images.sh"
 # shellcheck source=tests/command_info.sh
 . "$root/tests/command_info.sh"
+# shellcheck source=tests/command_waves.sh
+. "$root/tests/command_waves.sh"
 
 # recordings: a programmer's cycles with the answers seen and the busy counts. The sample erases block 1 in five cycles and programs 5AH at
 # 3A00 in three; by the rules a poll gives 00 while busy and 80 in the cycle that ends the operation (R-recording-1, R-recording-2)
