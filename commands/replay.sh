@@ -14,7 +14,7 @@ Each line of a trace is one bus cycle on bench T, fresh at its start: kind, RP#,
 For each line comes an answer: D and the byte read, N -- for no data, X and the number of a refusal; then the
 status register. '?' and a number end the replay at a line that is none; standard error says what is wrong with it.
 
-  --words         each answer beside its cycle, with what it means
+  --words         each answer beside its cycle, with what it means, and what each write asks for
   --engine NAME   rules, as when none is named, or table, which reads what a write asks for off the table of
                   docs/COMMANDS.md. The same bytes come out: it is proved that the two agree
   --vcd OUT       besides, the cycles and answers as a value change dump, which viewers of waveforms open (GTKWave and others): line n

@@ -12,7 +12,7 @@ is repeated 001 to 999 times. Groups may stand inside groups, eight deep, and no
 lines written out, as 'torfbarke replay' gives them: 3,000 lines at most, 9,998 written out. The script is judged as a whole
 before it runs: at a fault '?' and the number of the line are all that is printed; standard error says what is wrong.
 
-  --words   each answer beside its cycle, with what it means
+  --words   each answer beside its cycle, with what it means, and what each write asks for
 
 Exit status: 0 every line answered, 1 a fault, 2 a wrong call, 3 the program could not be built or run, 4 the output could not
 be written, 141 its reader went away. An example:

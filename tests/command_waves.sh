@@ -1,5 +1,5 @@
 # shellcheck shell=bash
-# Sourced by tests/command.sh: a replay as waves (--vcd, --svg). The dump of four cycles is worked out by
+# Sourced by tests/command.sh: a replay as waves (--vcd, --svg), and what --words says of writes. The dump of four cycles is worked out by
 # hand: 90H asks for the identifier, 89H stands at 0000, 0002 is refused by 9, an idle cycle has neither address nor data.
 root=${root:?} work=${work:?} tb=${tb:?}
 four='W 1 0 12000 0000 90
@@ -156,3 +156,52 @@ unpictured() { env PATH="$work/tools" "$tb" replay "$@"; }
 call unpictured --vcd "$work/one" "$work/four.txt"; one 'no python3: waves' 3 '' 'there is no python3'
 [ ! -e "$work/one" ] || wrong 'wrong waves: a file is written'
 
+# what a write means, by the phase: a refused write changes nothing, VPP low and RP# low cut, D0 confirms, resumes or is no confirm
+named() { # named NAME WORDS LINES: what is said of the last line
+    printf '%b' "$3" >"$work/named.txt"
+    call "$tb" replay --words "$work/named.txt"; try "$1" 0 '*' ''
+    tail -n 1 "$work/out" | grep -qF -- " mV: $2;" || wrong "$1: other words"
+}
+set_up='W 1 0 12000 3A00 20\n'
+confirm='W 1 0 12000 3A00 D0\n'
+suspend='W 1 0 12000 3A00 B0\n'
+idle='I 1 0 12000 0000 00\n'
+named '40' 'program set-up' 'W 1 0 12000 0010 40\n'
+named 'data' 'data 5A of a program at 0010, it starts' 'W 1 0 12000 0000 40\nW 1 0 12000 0010 5A\n'
+named 'data FF' 'data FF of a program at 0010, it starts' 'W 1 0 12000 0000 40\nW 1 0 12000 0010 FF\n'
+named 'data in the locked boot block' 'data 5A of a program at 3C00, nothing starts' 'W 1 0 12000 0000 40\nW 1 0 12000 3C00 5A\n'
+named '20' 'erase set-up' "$set_up"
+named 'D0 behind 20' 'erase confirm in block 1, it starts' "$set_up$confirm"
+named 'D0 behind 20 and an idle cycle' 'erase confirm in block 1, it starts' "$set_up$idle$confirm"
+named 'D0 behind 20 with VPP low' 'erase confirm in block 1, nothing starts' "${set_up}W 1 0 06500 3A00 D0\n"
+named 'the block is that of D0' 'erase confirm in block 2, it starts' "${set_up}W 1 0 12000 3800 D0\n"
+named 'FF behind 20' 'no erase confirm, nothing starts' "${set_up}W 1 0 12000 3A00 FF\n"
+named 'D0 behind 20 that was refused' 'erase confirm in block 1, it starts' "${set_up}W 1 0 12000 4000 FF\n$confirm"
+named 'D0 behind 20 and a reset' 'refused by 7, the byte written is no command here, and nothing happened' "${set_up}R 0 0 12000 0000 00\n$confirm"
+named 'B0' 'erase suspend' "$set_up$confirm$suspend"
+named 'B0 twice' 'ignored while an erase is suspended' "$set_up$confirm$suspend$suspend"
+named 'B0 at rest' 'nothing to suspend: read array' "$suspend"
+named 'B0 in the last cycle of an erase' 'nothing to suspend: read array' "$set_up$confirm$idle$idle$suspend"
+named 'D0 while suspended' 'erase resume' "$set_up$confirm$suspend$idle$confirm"
+named 'D0 in the cycle that suspends' 'erase resume' "$set_up$confirm$suspend$confirm"
+named 'D0 behind a suspend that VPP cuts' 'refused by 7, the byte written is no command here, and nothing happened' "$set_up$confirm${suspend}I 1 0 00000 0000 00\n$confirm"
+named '20 while suspended' 'ignored while an erase is suspended' "$set_up$confirm$suspend$idle$set_up"
+named '70 while suspended' 'read status' "$set_up$confirm$suspend${idle}W 1 0 12000 0000 70\n"
+named 'FF while suspended' 'read array' "$set_up$confirm$suspend${idle}W 1 0 12000 0000 FF\n"
+named '20 while an erase runs' 'ignored while an erase runs' "$set_up$confirm$set_up"
+named '40 while a program runs' 'ignored while a program runs' 'W 1 0 12000 0000 40\nW 1 0 12000 0010 5A\nW 1 0 12000 0010 40\n'
+named '20 in the last cycle of a program' 'erase set-up' "W 1 0 12000 0000 40\nW 1 0 12000 0010 5A\n$idle$set_up"
+named '40 behind a program that VPP cuts' 'program set-up' 'W 1 0 12000 0000 40\nW 1 0 12000 0010 5A\nW 1 0 05000 0010 40\n'
+named '50' 'clear the error bits' 'W 1 0 12000 0000 50\n'
+named '70' 'read status' 'W 1 0 12000 0000 70\n'
+named '90' 'read identifier' 'W 1 0 12000 0000 90\n'
+named 'FF' 'read array' 'W 1 0 12000 0000 FF\n'
+named 'a write with RP# low' 'not heard, RP# is low' 'W 0 0 12000 0000 40\n'
+printf '( 002\nW 1 0 12000 0000 40\nW 1 0 12000 0010 5A\n)\n' >"$work/named.txt"
+call "$tb" script --words "$work/named.txt"; try 'a script: what writes mean' 0 '*' ''
+[ "$(sed 's/.* mV: \(.*\);.*/\1/' "$work/out")" = 'program set-up
+data 5A of a program at 0010, it starts
+ignored while a program runs
+refused by 7, the byte written is no command here, and nothing happened' ] || wrong 'a script: what writes mean'
+python3 "$root/tests/words_said.py" 30 3501 >"$work/out" 2>"$work/err" || wrong 'random traces: a write is named otherwise'
+cases=$((cases + 30))
