@@ -67,7 +67,7 @@ judged() {
 # one_file: a load file, or the dump of a flash block that holds one
 one_file() {
     local hint=''
-    program table_print
+    program print
     image_fetch "$file" 524289 "$image_said"
     case $((${#bytes} / 4)) in
     16384 | 131072 | 262144 | 524288) hint="; of a dump of a part 'torfbarke info' asks for the device too" ;;
@@ -112,7 +112,7 @@ stored() {
     local letters
     store=''
     [ "$device" -le 4 ] || return 0
-    program store_program
+    program store
     run F <(give "$image") "$device" - 0 /dev/null
     case ${said?} in
     'refused 42'*) ;;
@@ -147,7 +147,7 @@ holding() {
 whole_part() {
     local block holds store rows=()
     take_part
-    program table_print
+    program print
     for block in "${!blocks[@]}"; do
         holding "$block"
         rows+=("$holds")
@@ -180,7 +180,7 @@ cut_block() {
     [ "$cut" -lt ${#blocks[@]} ] || fail 1 "refused 10: there is no such block"
     flash_block "$cut"
     ! blank_block || fail 1 "block $cut is blank"
-    program table_print
+    program print
     judged
     if [ -z "$letter" ]; then
         store=''

@@ -4,7 +4,7 @@
     python3 commands/lib/reference.py LETTER <TABLE    a line: how far the table is off, or why it is not that letter's
 
 TABLE is a table in text without comments: a line for each knot, microvolts, a space, tenths of a degree. It ends with 0, with 1 where
-the table is not that letter's, or with 5 where the text is no table; the line is then the one that the program table_write says.
+the table is not that letter's, or with 5 where the text is no table; the line is then the one that the program says.
 Standard library alone, and no file is written. picture.py draws the same.
 
 The functions are those of IEC 60584-1, which are those of ITS-90 (NIST Monograph 175): millivolts at t degrees Celsius, reference
@@ -189,7 +189,7 @@ def allowed(letter, t):
 
 
 class NoTable(Exception):
-    """Why a text is no table, as the program table_write says it."""
+    """Why a text is no table, as the program says it."""
 
 
 # two numbers of at most nine digits behind zeros
