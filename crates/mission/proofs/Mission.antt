@@ -7,14 +7,15 @@ use Rattle.common.specs.{Lists.Bytes, Numbers.Row, Numbers.row, Numbers.Foremos
 use Rattle.units.specs.{Units.units, Units.lent, Address.byteOf}
 use Rattle.device.specs.{declared.Part.Part, declared.Device.Device, Parts.startOf}
 use Rattle.model_types.specs.{declared.Pins.Pins, declared.State.State, declared.Cycle.Cycle, declared.Kind.the-variants.Read}
-use Rattle.model_types.specs.{declared.Effect.Effect, declared.Effect.the-variants.Nothing, Levels.rpLow, Phases.isBusy, States.improper}
+use Rattle.model_types.specs.{Levels.rpLow, Phases.isBusy, States.improper}
 use Rattle.model_operation.specs.Settling.{settleOf}
 use Rattle.model_rules.{specs.Cycles.tableOf, specs.Cycles.numberOf, specs.Cycles.acceptOf, specs.Cycles.decideOf, proofs.Cases.accepted}
 use Rattle.model.specs.declared.Seen.the-variants.{Data, Refused}
-use Rattle.model.specs.Begun.{operationOf, pendingOf, begunBy}
 use Rattle.model.specs.Arrays.{Accepted, answerOf, arrayAfter, bytesAfter, seenTold, cycleTold}
 use Rattle.model.proofs as model
 use Rattle.model_history.specs.History.{Bus, World, worldOf, busesOf, begunOver, acceptsAll}
+use Rattle.model_sheet.specs.Sentences.{Cut}
+use Rattle.model_sheet.proofs.Claims as sheet
 use Rattle.loader.specs.{declared.Stage.Stage, declared.Loader.Loader, declared.Turn.the-variants.Barred, Stages.isEnded}
 use Rattle.loader_steps.specs.Front.{startRows, stepRows, startAt, stepGiven, isBarred}
 use Rattle.loader_steps.proofs.Claims as steps
@@ -79,9 +80,8 @@ pub record Demand2 : Type 0 where
   -- array: the lent bytes are left with the units that the rules leave
   pub array : (d : Device) (s : State) (c : Cycle) (b r : List ℕ)
       → lent (d .part .word) (bytesAfter d s c b r) ≡ arrayAfter d s c (lent (d .part .word) b) (units (d .part .word) r)
-  -- also when supply or reset cuts an operation: for any weight, what ended, was cut or is pending is what began or was pending
-  pub cuts : (f : Effect → ℕ) → f Nothing ≡ 0 → (d : Device) (s : State) (c : Cycle) (n r : ℕ) → let x = decideOf d s c n r in
-      f (operationOf (x .effect)) + f (pendingOf (d .part) (x .state)) ≡ f (begunBy d s c n r) + f (pendingOf (d .part) s)
+  -- also when supply or reset cuts an operation: what a cut leaves in state and array, by its cases
+  pub cuts : (d : Device) (v : World) (b : Bus) → Cut d v b
   -- worked examples of the page, a cut among them: the twelve bench cards. That the rules are the data sheet's is for people to read
   pub bench : cards.specs.Table.Cards
   -- a load file is, given room, read exactly when our writer could have written it for the letter asked, and comes back as written
@@ -123,7 +123,7 @@ demand-2 = record {
   status = model.Claims.busy-read-ending;
   state = model.Claims.stays-proper;
   array = model.Claims.left-units;
-  cuts = model.Claims.conserved;
+  cuts = sheet.cut-leaves;
   bench = cards.proofs.Claims.all-twelve;
   load-file = file.given-room;
 }
