@@ -7,7 +7,7 @@ major = 0
 
 -- the minor number of the version
 abbrev pub minor : ℕ
-minor = 10
+minor = 11
 
 -- the patch number of the version
 abbrev pub patch : ℕ

@@ -65,7 +65,7 @@ pub extern "C" fn tb_knot_pack(place: usize, microvolts: i32, tenths: i32, paylo
 
 const MAJOR: u32 = 0;
 
-const MINOR: u32 = 10;
+const MINOR: u32 = 11;
 
 const PATCH: u32 = 0;
 
