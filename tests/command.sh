@@ -91,13 +91,14 @@ call "$tb" replay --words "$work/page.txt"; try 'in words' 0 '*' ''
 grep -q 'W 1 0 12000 0000 00  X 07 80 .*refused by 7' "$work/out" || wrong 'in words: 7 is not told'
 grep -q 'R 1 0 12000 0010 00  D 5A 80 .*gave 5A; ready' "$work/out" || wrong 'in words: the byte is not told'
 
-# a sample of each word: its call, a word to a line, what it reads, and what it must print
+# the samples: a call, a word to a line, what it reads, what it must print, and its status where that is not 0
 in_root() { (cd "$root" && "$@"); }
 for sample in "$root"/tests/samples/*.args; do
     mapfile -t words <"$sample"
-    sample=${sample%.args} input=/dev/null
+    sample=${sample%.args} input=/dev/null ends=0
     [ ! -e "$sample.stdin" ] || input=$sample.stdin
-    call in_root "$tb" "${words[@]}" <"$input"; try "the sample ${sample##*/}" 0 '*' ''
+    [ ! -e "$sample.status" ] || ends=$(cat "$sample.status")
+    call in_root "$tb" "${words[@]}" <"$input"; try "the sample ${sample##*/}" "$ends" '*' ''
     cmp -s "$sample.stdout" "$work/out" || wrong "the sample ${sample##*/}: other answers"
 done
 call "$tb" replay "$root/crates/desk/stdin"; one 'the long sample' 1 '*' 'is no line of a trace'
@@ -109,11 +110,25 @@ call "$tb" --help; try '--help' 0 '*' ''
 call "$tb" --version; try '--version' 0 '*' ''
 [ "$(head -n 1 "$work/out")" = "torfbarke $(cat "$root/VERSION")" ] || wrong '--version: another version'
 grep -qF "proved with the kit: $(cat "$root/KIT")" "$work/out" || wrong '--version: another kit'
-for word in build clean; do
+for word in build clean selftest; do
     call "$tb" "$word" --help; try "$word --help" 0 '*' ''
     grep -q 'Exit status' "$work/out" || wrong "$word --help: no statuses"
     call "$tb" "$word" now; one "$word: a word too many" 2 '' 'takes nothing behind it'
 done
+if [ -n "${TORFBARKE_PROGRAMS-}" ]; then
+    call "$tb" selftest; try 'selftest' 0 'selftest: 12 of 12 as expected
+' ''
+    # a program that says nothing, and one that is not built
+    mkdir "$work/mute"
+    printf '#!/bin/sh\nexit 0\n' >"$work/mute/desk"
+    chmod 755 "$work/mute" "$work/mute/desk"
+    mute() { TORFBARKE_PROGRAMS=$work/mute "$tb" selftest; }
+    call mute; try 'selftest of a program that says nothing' 1 'selftest: 0 of 12 as expected
+' 'selftest: the sample cards is not as expected'
+    [ "$(wc -l <"$work/err")" = 12 ] || wrong 'selftest of a program that says nothing: not a line for each'
+    unbuilt() { env -u TORFBARKE_PROGRAMS XDG_CACHE_HOME="$work/unbuilt" "$tb" selftest; }
+    if command -v rt >/dev/null; then call unbuilt; one 'selftest with nothing built' 3 '' "not proved and built yet: 'torfbarke build' does it"; fi
+fi
 call "$tb" replay --help; try 'replay --help' 0 '*' ''
 grep -q 'Exit status' "$work/out" || wrong 'replay --help: no statuses'
 call "$tb" reply; try 'a word that is none' 2 '' "no word 'reply'"
@@ -1029,7 +1044,7 @@ call "$tb" recording --promised - --before - "$work/recording.txt"; one 'two ima
 python3 -c "for i in range(2000): print(4 * i, round(4 * i / 4.07))" >"$work/2000.txt"
 "$tb" table write K <"$work/2000.txt" >"$work/2000.load"
 head -n 3000 "$work/most.txt" >"$work/3000.txt"
-all=("--help" "--version" "build --help" "clean --help" "replay --help" "script --help" "read --help" "table --help" "verify --help" "wear --help" "wear page.txt" "wear --words page.txt"
+all=("--help" "--version" "build --help" "clean --help" "selftest --help" "replay --help" "script --help" "read --help" "table --help" "verify --help" "wear --help" "wear page.txt" "wear --words page.txt"
     "replay page.txt" "replay --words page.txt" "replay --engine table page.txt" "replay --engine table --words page.txt" "replay --record record.txt" "script script.txt" "script --words script.txt" "read three.load K 6138" "read three.load K 8139"
     "table write K" "table write K three.txt" "table write --csv K table.csv" "table print three.load K" "table list" "table check K three.txt" "table check S three.txt"
     "table plot three.txt K -" "verify image 3 1 three.load K" "verify image 3 2 three.load K"
