@@ -7,6 +7,8 @@ root=${root:?}
 . "$root/commands/lib/images"
 # shellcheck source=commands/lib/parts
 . "$root/commands/lib/parts"
+# shellcheck source=commands/lib/replace
+. "$root/commands/lib/replace"
 
 store_help() {
     put "usage: torfbarke store IMAGE DEVICE list                       what the main block holds
@@ -94,21 +96,11 @@ store_read() {
     esac
 }
 
-# change WORD LETTER ADDED: the new image goes into a file beside the old one, which it then replaces. One call at a time: the image is
-# locked, and it is the one that was locked.
+# change WORD LETTER ADDED: the new image takes the old one's place
 change() {
-    { exec 7<"$file"; } 2>/dev/null || fail 2 "you may not read the file $file"
-    flock -n 7 || fail 3 "another call is changing $file: nothing was done"
-    [ /dev/fd/7 -ef "$file" ] || fail 3 "another call has just changed $file: nothing was done"
+    lock_image
     take_image "$file"
-    # its name is known before it is made, so whatever ends this call removes it
-    fresh=$file.new.$$
-    if [ -e "$fresh" ] || [ -L "$fresh" ]; then fail 4 "there is a file $fresh already, so the new image has no place: $file is as it was"; fi
-    trap 'trap "" HUP INT TERM; rm -f -- "$fresh"' EXIT
-    trap 'exit 129' HUP
-    trap 'exit 130' INT
-    trap 'exit 143' TERM
-    { : >"$fresh"; } 2>/dev/null || fail 4 "no file can be made beside $file, which is as it was"
+    begin_image
     hold "$1" <(give "$image") "$device" "$2" 0 <(give "$3")
     case ${said?} in
     refused*)
@@ -122,20 +114,6 @@ change() {
         fail 4 "the new image could not be written: $file is as it was"
     fi
     printf '%s\n' "$said" 2>/dev/null || fail 4 "$file was changed, but the line that says so could not be written"
-}
-
-# the new image as the old one was, on the disk, then in its place
-replace() {
-    chmod --reference="$file" -- "$fresh" 2>/dev/null || return 1
-    chown --reference="$file" -- "$fresh" 2>/dev/null || :
-    sync -- "$fresh" 2>/dev/null && mv -fT -- "$fresh" "$file" 2>/dev/null
-}
-
-# an image that is to be changed: a file, by its own name where the name is a link's
-own_image() {
-    [ "$file" != - ] || fail 2 "an image from standard input cannot be changed: name a file"
-    file=$(readlink -f -- "$file") || fail 2 "the file $file has no place"
-    [ -f "$file" ] || fail 2 "an image that is to be changed is a plain file: $file"
 }
 
 store_add() {

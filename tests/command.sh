@@ -116,16 +116,16 @@ for word in build clean selftest; do
     call "$tb" "$word" now; one "$word: a word too many" 2 '' 'takes nothing behind it'
 done
 if [ -n "${TORFBARKE_PROGRAMS-}" ]; then
-    call "$tb" selftest; try 'selftest' 0 'selftest: 12 of 12 as expected
+    call "$tb" selftest; try 'selftest' 0 'selftest: 29 of 29 as expected
 ' ''
     # a program that says nothing, and one that is not built
     mkdir "$work/mute"
     printf '#!/bin/sh\nexit 0\n' >"$work/mute/desk"
     chmod 755 "$work/mute" "$work/mute/desk"
     mute() { TORFBARKE_PROGRAMS=$work/mute "$tb" selftest; }
-    call mute; try 'selftest of a program that says nothing' 1 'selftest: 0 of 12 as expected
+    call mute; try 'selftest of a program that says nothing' 1 'selftest: 0 of 29 as expected
 ' 'selftest: the sample cards is not as expected'
-    [ "$(wc -l <"$work/err")" = 12 ] || wrong 'selftest of a program that says nothing: not a line for each'
+    [ "$(wc -l <"$work/err")" = 29 ] || wrong 'selftest of a program that says nothing: not a line for each'
     unbuilt() { env -u TORFBARKE_PROGRAMS XDG_CACHE_HOME="$work/unbuilt" "$tb" selftest; }
     if command -v rt >/dev/null; then call unbuilt; one 'selftest with nothing built' 3 '' "not proved and built yet: 'torfbarke build' does it"; fi
 fi
@@ -905,6 +905,8 @@ call "$tb" verify --help; try 'verify --help' 0 '*' ''
 . "$root/tests/command_info.sh"
 # shellcheck source=tests/command_waves.sh
 . "$root/tests/command_waves.sh"
+# shellcheck source=tests/command_load.sh
+. "$root/tests/command_load.sh"
 
 # recordings: a programmer's cycles with the answers seen and the busy counts. The sample erases block 1 in five cycles and programs 5AH at
 # 3A00 in three; by the rules a poll gives 00 while busy and 80 in the cycle that ends the operation (R-recording-1, R-recording-2)
@@ -1048,7 +1050,7 @@ all=("--help" "--version" "build --help" "clean --help" "selftest --help" "repla
     "replay page.txt" "replay --words page.txt" "replay --engine table page.txt" "replay --engine table --words page.txt" "replay --record record.txt" "script script.txt" "script --words script.txt" "read three.load K 6138" "read three.load K 8139"
     "table write K" "table write K three.txt" "table write --csv K table.csv" "table print three.load K" "table list" "table check K three.txt" "table check S three.txt"
     "table plot three.txt K -" "verify image 3 1 three.load K" "verify image 3 2 three.load K"
-    "store --help" "store card 3 list" "store card 3 find K" "store card 3 read K 6138"
+    "load --help" "load --dry card 3 1 three.load K" "load -o - card 3 1 three.load K" "store --help" "store card 3 list" "store card 3 find K" "store card 3 read K 6138"
     "recording --help" "recording --promised promised.bin recording.txt" "recording --promised blank.bin recording.txt")
 cd "$work"
 every() { # every TRIAL [CALL..]: a trial of these calls, or of each word; the text of a table is their standard input

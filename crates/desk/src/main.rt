@@ -40,6 +40,9 @@ fn main() {
     if same(word, b"verify") {
         return parts::verify();
     }
+    if same(word, b"load") {
+        return parts::load();
+    }
     if same(word, b"store") {
         return parts::store();
     }

@@ -1,0 +1,150 @@
+# about: runs the loader against the model on an image of a part: a load file into one block
+# shellcheck shell=bash
+# Sourced by torfbarke, after commands/lib/common. Standard output is one line on the load; everything else goes to standard error.
+root=${root:?}
+# shellcheck source=commands/lib/replace
+. "$root/commands/lib/replace"
+
+load_help() {
+    put "usage: torfbarke load [OPTION..] IMAGE DEVICE BLOCK FILE LETTER [byte|word]
+
+IMAGE is a dump of a part, all its bytes from address 0 on: 131,072 of devices 1 and 2, 16,384 of 3 and 4, 262,144 of 5 and 6,
+524,288 of 7 and 8. BLOCK is the flash block, 0 (boot) to 3, to 4 on 5 and 6, to 6 on 7 and 8. FILE is the load file that the block is to
+hold, FFH behind it, and LETTER the one of the menu. The last word is the mode that the part is loaded in, byte if there is none; devices 1
+to 4 have no word mode. FILE may be the dump of a flash block that holds the file: the FFH behind the file is cut off, and standard error
+says so. '-' is standard input.
+
+The loader is run against the model at 12 V, RP# high, for the boot block at the level that unlocks it, on a part that is fresh. Only when
+that ended well the new image takes the old one's place, at once. A call that is refused or broken off leaves IMAGE as it was.
+
+  -o OUT         the new image goes to the file OUT, and IMAGE stays; '-' is standard output, and the line then goes to standard error
+  --dry          nothing is written: the line says what a load would take
+  --program P    the cycles that a program stays busy, 1 to 65535; 1 if it is not named
+  --erase E      the cycles that an erase stays busy, 1 to 65535; 1 if it is not named
+
+One line comes: the cycles of the run, the erases begun (0 or 1; since the part is fresh it is also the block's count of erases after it),
+and the bytes, or in word mode the words, that were programmed; or 'refused', the number and what it means. With n bytes or words in the
+block, e erases and p programs a run has 2n + 3 + e(2 + E) + p(2 + P) cycles.
+
+Exit status: 0 the block holds the file, 1 refused, 2 a wrong call, 3 the program could not be built or run, 4 the output or the new image
+could not be written, 141 its reader went away. An image of a blank part of device 3, and a table in its main block:
+
+    head -c 16384 /dev/zero | tr '\\0' '\\377' >card.bin
+    ./torfbarke load card.bin 3 3 k.load K
+"
+}
+
+# busy OPTION WORD: the end with 2 unless it is a number from 1 to 65535; its four hexadecimal digits are then in $time
+busy() {
+    case $2 in
+    '' | *[!0-9]*) fail 2 "$1 is a whole number: '$2'" ;;
+    esac
+    [ ${#2} -le 9 ] && [ "$((10#$2))" -ge 1 ] && [ "$((10#$2))" -le 65535 ] || fail 2 "$1 is from 1 to 65535: $2"
+    printf -v time '%04X' "$((10#$2))"
+}
+
+program_time=0001 erase_time=0001 output='' dry='' plain='' rest=()
+while [ $# -gt 0 ]; do
+    case $plain$1 in
+    --help | -h)
+        load_help
+        exit 0
+        ;;
+    -o | --program | --erase)
+        [ $# -gt 1 ] || fail 2 "$1 has nothing behind it; 'torfbarke load --help' says more"
+        case $1 in
+        -o)
+            [ -z "$output" ] || fail 2 "one output at a time"
+            [ -n "$2" ] || fail 2 "the name of the output is empty"
+            output=$2
+            ;;
+        --program)
+            busy --program "$2"
+            program_time=$time
+            ;;
+        --erase)
+            busy --erase "$2"
+            erase_time=$time
+            ;;
+        esac
+        shift
+        ;;
+    --dry) dry=yes ;;
+    --) plain=: ;;
+    -?*) fail 2 "load has no option $1 (a file of that name: ./$1); 'torfbarke load --help' says more" ;;
+    *) rest+=("$1") ;;
+    esac
+    shift
+done
+set -- ${rest[@]+"${rest[@]}"}
+[ $# = 5 ] || [ $# = 6 ] || fail 2 "an image, a device, a block, a load file, a letter and perhaps a mode; 'torfbarke load --help' says more"
+[ -z "$dry" ] || [ -z "$output" ] || fail 2 "--dry writes nothing, so -o does not go with it"
+there "$1"
+there "$4"
+[ "$1$4" != -- ] || fail 2 "image and file cannot both be standard input"
+for number in "$2" "$3"; do
+    case $number in
+    '' | *[!0-9]*) fail 2 "device and block are whole numbers: '$number'" ;;
+    esac
+    [ ${#number} -le 9 ] || fail 2 "device and block are small numbers: $number"
+done
+letter "$5"
+case ${6-byte} in
+byte) mode=0 ;;
+word) mode=1 ;;
+*) fail 2 "the mode is byte or word: $6" ;;
+esac
+file=$1
+device=$((10#$2)) block=$((10#$3))
+
+# ran: the load, its image to standard output; its line is then in $said, the numbers without zeros in front. A refusal is the end
+ran() {
+    pass <(give "$image") "$device" "$block" <(give "$wanted") "$letter" "$mode" "$program_time" "$erase_time"
+    case ${said?} in
+    refused*)
+        printf '%s\n' "$said" >&"$line" 2>/dev/null || unwritten
+        exit 1
+        ;;
+    'cycles '*) said=$(printf '%s\n' "$said" | sed 's/ 0*\([0-9]\)/ \1/g') ;;
+    *) heard ;;
+    esac
+    [ -n "${whole?}" ] || unwritten
+}
+
+# tell_line WORDS: the line behind these words, where the answer goes
+tell_line() { printf '%s: %s\n' "$1" "$said" >&"$line" 2>/dev/null; }
+
+letter=$5
+if [ -n "$output" ] && [ "$output" != - ]; then
+    [ "$file" = - ] || [ ! "$file" -ef "$output" ] || fail 2 "$output is the image itself: without -o it is replaced"
+    [ "$4" = - ] || [ ! "$4" -ef "$output" ] || fail 2 "$output is load file and output at once"
+fi
+program load
+[ -n "$dry$output" ] || own_image
+[ -n "$dry$output" ] || lock_image
+# a byte more than the longest flash block, and than the longest part: so what is longer is seen
+fetch "$4" 131073
+cut_dump "$4"
+wanted=${bytes?}
+fetch "$file" 524289
+image=$bytes
+exec {line}>&1
+if [ -n "$dry" ]; then
+    ran >/dev/null
+    tell_line 'dry, nothing is written' || unwritten
+elif [ "$output" = - ]; then
+    exec {line}>&2
+    ran
+    tell_line loaded || :
+elif [ -n "$output" ]; then
+    out "$output"
+    ran
+    placed
+    tell_line loaded || fail 4 "$output was written, but the line that says so could not be written"
+else
+    begin_image
+    unwritten() { fail 4 "the new image could not be written: $file is as it was"; }
+    ran >"${fresh:?}"
+    replace || unwritten
+    tell_line loaded || fail 4 "$file was changed, but the line that says so could not be written"
+fi
