@@ -4,6 +4,12 @@
 root=${root:?}
 # shellcheck source=commands/lib/replace
 . "$root/commands/lib/replace"
+# shellcheck source=commands/lib/place
+. "$root/commands/lib/place"
+# shellcheck source=commands/lib/images
+. "$root/commands/lib/images"
+# shellcheck source=commands/lib/parts
+. "$root/commands/lib/parts"
 
 load_help() {
     put "usage: torfbarke load [OPTION..] IMAGE DEVICE BLOCK FILE LETTER [byte|word]
@@ -18,6 +24,11 @@ The loader is run against the model at 12 V, RP# high, for the boot block at the
 that ended well the new image takes the old one's place, at once. A call that is refused or broken off leaves IMAGE as it was.
 
   -o OUT         the new image goes to the file OUT, and IMAGE stays; '-' is standard output, and the line then goes to standard error
+  --format FORMAT        of IMAGE: bin, hex (Intel HEX) or srec (S-records). Where it is not said the ending decides (.hex .ihx .ihex; .s19
+                         .s28 .s37 .srec .mot), and standard input is bytes. IMAGE is written back in its own format, and so is
+                         standard output; OUT goes by its ending. A byte that no record gives is FFH, and standard error says how many
+                         there are. Text needs python3
+  --file-format FORMAT   the same of FILE
   --dry          nothing is written: the line says what a load would take
   --program P    the cycles that a program stays busy, 1 to 65535; 1 if it is not named
   --erase E      the cycles that an erase stays busy, 1 to 65535; 1 if it is not named
@@ -26,8 +37,9 @@ One line comes: the cycles of the run, the erases begun (0 or 1; since the part 
 and the bytes, or in word mode the words, that were programmed; or 'refused', the number and what it means. With n bytes or words in the
 block, e erases and p programs a run has 2n + 3 + e(2 + E) + p(2 + P) cycles.
 
-Exit status: 0 the block holds the file, 1 refused, 2 a wrong call, 3 the program could not be built or run, 4 the output or the new image
-could not be written, 141 its reader went away. An image of a blank part of device 3, and a table in its main block:
+Exit status: 0 the block holds the file, 1 refused, or a record is at fault, 2 a wrong call, 3 the program could not be built or run, 4
+the output or the new image could not be written, 141 its reader went away. An image of a blank part of device 3, and a table in its main
+block:
 
     head -c 16384 /dev/zero | tr '\\0' '\\377' >card.bin
     ./torfbarke load card.bin 3 3 k.load K
@@ -43,7 +55,7 @@ busy() {
     printf -v time '%04X' "$((10#$2))"
 }
 
-program_time=0001 erase_time=0001 output='' dry='' plain='' rest=()
+program_time=0001 erase_time=0001 output='' dry='' plain='' image_said='' file_said='' rest=()
 while [ $# -gt 0 ]; do
     case $plain$1 in
     --help | -h)
@@ -67,6 +79,16 @@ while [ $# -gt 0 ]; do
             erase_time=$time
             ;;
         esac
+        shift
+        ;;
+    --format)
+        image_named "$@"
+        image_said=$2
+        shift
+        ;;
+    --file-format)
+        image_named "$@"
+        file_said=$2
         shift
         ;;
     --dry) dry=yes ;;
@@ -96,10 +118,17 @@ word) mode=1 ;;
 esac
 file=$1
 device=$((10#$2)) block=$((10#$3))
+# by the names of the call, also where one is a link's
+image_form "$file" "$image_said"
+image_said=${form?}
+case $output in
+'' | -) ;;
+*) image_form "$output" '' ;;
+esac
 
-# ran: the load, its image to standard output; its line is then in $said, the numbers without zeros in front. A refusal is the end
+# ran: the load, its image in $bytes; its line is then in $said, the numbers without zeros in front. A refusal is the end
 ran() {
-    pass <(give "$image") "$device" "$block" <(give "$wanted") "$letter" "$mode" "$program_time" "$erase_time"
+    hold <(give "$image") "$device" "$block" <(give "$wanted") "$letter" "$mode" "$program_time" "$erase_time"
     case ${said?} in
     refused*)
         printf '%s\n' "$said" >&"$line" 2>/dev/null || unwritten
@@ -123,28 +152,32 @@ program load
 [ -n "$dry$output" ] || own_image
 [ -n "$dry$output" ] || lock_image
 # a byte more than the longest flash block, and than the longest part: so what is longer is seen
-fetch "$4" 131073
+image_fetch "$4" 131073 "$file_said"
 cut_dump "$4"
 wanted=${bytes?}
-fetch "$file" 524289
+part "$device"
+image_fetch "$file" 524289 "$image_said" "${size?}"
 image=$bytes
 exec {line}>&1
 if [ -n "$dry" ]; then
-    ran >/dev/null
+    ran
     tell_line 'dry, nothing is written' || unwritten
 elif [ "$output" = - ]; then
     exec {line}>&2
     ran
+    image_give "$bytes" "$form"
     tell_line loaded || :
 elif [ -n "$output" ]; then
     out "$output"
     ran
+    image_give "$bytes" "$form"
     placed
     tell_line loaded || fail 4 "$output was written, but the line that says so could not be written"
 else
     begin_image
     unwritten() { fail 4 "the new image could not be written: $file is as it was"; }
-    ran >"${fresh:?}"
+    ran
+    image_give "$bytes" "$image_said" >"${fresh:?}"
     replace || unwritten
     tell_line loaded || fail 4 "$file was changed, but the line that says so could not be written"
 fi

@@ -187,6 +187,30 @@ call "$tb" recording --format srec --promised - "$root/samples/recording.txt" <"
 sed '2,900d' "$work/promised.s19" | sed '/^S5/d' >"$work/less.s19"
 call "$tb" recording --promised "$work/less.s19" "$root/samples/recording.txt"; one 'a promised image in part' 0 '*' 'no record gives 14384 of its 16384 bytes'
 
+# a load: the image is written back in its own format, OUT in that of its ending. 2n + 3 cycles of a block of 512 bytes, and 3 for each
+# byte that is not FFH
+programmed=$(od -An -v -tx1 -w1 "$work/three.load" | grep -vc ' ff')
+loaded="cycles $((1027 + 3 * programmed)), erases begun 0, bytes programmed $programmed
+"
+blank 16384 >"$work/some"
+images give hex <"$work/some" >"$work/load.hex"
+cp "$work/load.hex" "$work/load.before"
+call "$tb" load --dry "$work/load.hex" 3 1 "$work/three.srec" K; try 'a dry load in HEX' 0 "dry, nothing is written: $loaded" ''
+call "$tb" load -o "$work/load.s19" "$work/load.hex" 3 1 "$work/three.srec" K; try 'a load out of HEX into S-records' 0 "loaded: $loaded" ''
+cmp -s "$work/load.s19" "$work/image.s19" || wrong 'a load out of HEX into S-records: another text'
+call "$tb" load -o - --format hex - 3 1 --file-format srec "$work/three.srec" K <"$work/load.hex"; one 'a load from pipe to pipe in HEX' 0 "$(cat "$work/image.hex")
+" "loaded: $loaded"
+cmp -s "$work/load.hex" "$work/load.before" || wrong 'a load elsewhere: the image is another'
+call "$tb" load "$work/load.hex" 3 1 "$work/three.load" K; try 'a load in HEX' 0 "loaded: $loaded" ''
+cmp -s "$work/load.hex" "$work/image.hex" || wrong 'a load in HEX: another text'
+cp "$work/part.hex" "$work/less.hex"
+call "$tb" load "$work/less.hex" 3 1 "$work/three.load" K; one 'a load of an image in part' 0 'loaded: cycles 1027, erases begun 0, bytes programmed 0
+' 'no record gives 15872 of its 16384 bytes'
+cmp -s "$work/less.hex" "$work/image.hex" || wrong 'a load of an image in part: another text'
+call "$tb" load "$work/load.hex" 3 1 "$work/f.text" K; [ "$status" = 1 ] || wrong 'a load of text without an ending: another status'
+cmp -s "$work/load.hex" "$work/image.hex" || wrong 'a load that is refused: another text'
+call "$tb" load --format "$work/load.hex" 3 1 "$work/three.load" K; one 'a load: no such format' 2 '' 'there is no format'
+
 # what is wrong with a text, by its line. A record of block 0 of three.load stands before: K, 0, 1, 0
 bad() { # bad FORMAT NAME WORDS BYTES
     printf '%b' "$4" >"$work/bad.$1"

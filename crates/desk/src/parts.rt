@@ -61,7 +61,8 @@ pub(crate) fn verify() {
     }
 }
 
-// A load. Arguments: as those of a verify, and the busy times of a program and an erase, each four hexadecimal digits. The image that a good
+// A load. Arguments: as those of a verify, and the busy times of a program and an erase, each four hexadecimal digits. The image that
+// a good
 // load leaves is written. Standard error says what the load took, or why there is none.
 pub(crate) fn load() {
     let mut name = io::buffer();

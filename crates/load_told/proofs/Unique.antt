@@ -1,4 +1,4 @@
--- Two results that the promise of this crate allows are equal, and so is what it leaves in each thing lent. Assumes nothing.
+-- Two results that the promise of this crate allows are equal, and so is what it leaves in each thing lent.
 use mathlib.Core.Path.{_≡_}
 use mathlib.Core.List.{List}
 use Prim.Native.Nat.{ℕ}

@@ -1,4 +1,4 @@
--- A call's answer, way by way, and the run in the front of the rooms lent. Assumes nothing.
+-- A call's answer, way by way, and the run in the front of the rooms lent.
 use mathlib.Core.Path.{_≡_, sym, _∙_}
 use mathlib.Core.Bool.{true, false}
 use mathlib.Core.List.{List}

@@ -1,4 +1,4 @@
--- What is said of a load into an image of a part: the words of the call, the run itself, and its end in words. Assumes nothing.
+-- What is said of a load into an image of a part: the words of the call, the run itself, and its end in words.
 use mathlib.Core.Bool.{Bool, false, not, _||_}
 use mathlib.Core.List.{List, [], _++_}
 use Prim.Native.Nat.{ℕ, _+_, _-_, _*_, _/_, min}

@@ -1,4 +1,4 @@
--- `load_told::call_wrong` meets its contract. Assumes nothing.
+-- `load_told::call_wrong` meets its contract.
 use mathlib.Core.Path.{refl}
 use Rattle.load_told.specs.Tellings.{callWrong}
 use Rattle.load_told.proofs.call_wrong.Statement.{statement}

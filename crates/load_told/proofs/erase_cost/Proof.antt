@@ -1,4 +1,4 @@
--- `load_told::erase_cost` meets its contract. Assumes nothing.
+-- `load_told::erase_cost` meets its contract.
 use borrow.Author.Tests.{eq-eqb, ne-eqb}
 use Rattle.load_told.specs.Tellings.{eraseCost}
 use borrow.Author.Needs.{needs}

@@ -1,4 +1,4 @@
--- `load_told::erases_of` meets its contract. Assumes nothing.
+-- `load_told::erases_of` meets its contract.
 use borrow.Author.Tests.{eq-eqb, ne-eqb}
 use Rattle.model_types.specs.Counts.{countOf}
 use Rattle.load_told.proofs.erases_of.Statement.{statement}

@@ -1,4 +1,4 @@
--- `load_told::loaded` meets its contract. Assumes nothing.
+-- `load_told::loaded` meets its contract.
 use mathlib.Core.Path.{ap, _∙_}
 use denote.Ref.{now}
 use Rattle.loader_from_file.specs.Loads.{LoadLeft}

@@ -1,4 +1,4 @@
--- `load_told::pins_of` meets its contract. Assumes nothing.
+-- `load_told::pins_of` meets its contract.
 use borrow.Author.Tests.{eq-eqb, ne-eqb}
 use Rattle.load_told.specs.Tellings.{pinsOf}
 use Rattle.load_told.proofs.pins_of.Statement.{statement}

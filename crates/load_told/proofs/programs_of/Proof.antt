@@ -1,4 +1,4 @@
--- `load_told::programs_of` meets its contract. Assumes nothing.
+-- `load_told::programs_of` meets its contract.
 use borrow.Author.Needs.{needs}
 use Rattle.load_told.proofs.programs_of.Statement.{statement}
 use Rattle.load_told.proofs.programs_of.Tie as tie

@@ -1,4 +1,4 @@
--- `load_told::put_done` meets its contract. Assumes nothing.
+-- `load_told::put_done` meets its contract.
 use mathlib.Core.List.{_++_}
 use denote.Ref.{now}
 use Rattle.text.specs.Digits.{decimalOf}

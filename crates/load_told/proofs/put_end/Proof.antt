@@ -1,4 +1,4 @@
--- `load_told::put_end` meets its contract. Assumes nothing.
+-- `load_told::put_end` meets its contract.
 use mathlib.Core.Path.{_≡_, sym, ap, _∙_}
 use mathlib.Core.List.{List}
 use Prim.Native.Nat.{ℕ}

@@ -1,4 +1,4 @@
--- `load_told::put_number` meets its contract. Assumes nothing.
+-- `load_told::put_number` meets its contract.
 use mathlib.Core.Path.{ap, _∙_}
 use mathlib.Core.List.{List}
 use Prim.Native.Nat.{ℕ, _-_}

@@ -1,4 +1,4 @@
--- `load_told::tell` meets its contract. Assumes nothing.
+-- `load_told::tell` meets its contract.
 use mathlib.Core.Path.{_≡_, sym, ap, _∙_}
 use mathlib.Core.Bool.{true, false}
 use Prim.Native.Nat.{ℕ}

@@ -1,4 +1,4 @@
--- `load_told::time_of` meets its contract. Assumes nothing.
+-- `load_told::time_of` meets its contract.
 use borrow.Author.Needs.{needs}
 use Rattle.load_told.proofs.time_of.Statement.{statement}
 use Rattle.load_told.proofs.time_of.Tie as tie
