@@ -30,6 +30,9 @@ that ended well the new image takes the old one's place, at once. A call that is
                          there are. Text needs python3
   --file-format FORMAT   the same of FILE
   --dry          nothing is written: the line says what a load would take
+  --trace TRACE  the cycles of the load go to the file TRACE, as a recording with the answers seen and the busy counts; for device 3 alone,
+                 bench T, and at most 9,998 cycles. Before anything is written the recording is held against the rules, as the word
+                 recording does it: from the old image it must lead to the new one, in as many cycles as the load took
   --program P    the cycles that a program stays busy, 1 to 65535; 1 if it is not named
   --erase E      the cycles that an erase stays busy, 1 to 65535; 1 if it is not named
 
@@ -55,20 +58,26 @@ busy() {
     printf -v time '%04X' "$((10#$2))"
 }
 
-program_time=0001 erase_time=0001 output='' dry='' plain='' image_said='' file_said='' rest=()
+program_time=0001 erase_time=0001 output='' traced='' dry='' plain='' image_said='' file_said='' rest=()
 while [ $# -gt 0 ]; do
     case $plain$1 in
     --help | -h)
         load_help
         exit 0
         ;;
-    -o | --program | --erase)
+    -o | --program | --erase | --trace)
         [ $# -gt 1 ] || fail 2 "$1 has nothing behind it; 'torfbarke load --help' says more"
         case $1 in
         -o)
             [ -z "$output" ] || fail 2 "one output at a time"
             [ -n "$2" ] || fail 2 "the name of the output is empty"
             output=$2
+            ;;
+        --trace)
+            [ -z "$traced" ] || fail 2 "one trace at a time"
+            [ -n "$2" ] || fail 2 "the name of the trace is empty"
+            [ "$2" != - ] || fail 2 "the trace goes to a file, not to standard output"
+            traced=$2
             ;;
         --program)
             busy --program "$2"
@@ -101,6 +110,7 @@ done
 set -- ${rest[@]+"${rest[@]}"}
 [ $# = 5 ] || [ $# = 6 ] || fail 2 "an image, a device, a block, a load file, a letter and perhaps a mode; 'torfbarke load --help' says more"
 [ -z "$dry" ] || [ -z "$output" ] || fail 2 "--dry writes nothing, so -o does not go with it"
+[ -z "$dry" ] || [ -z "$traced" ] || fail 2 "--dry writes nothing, so --trace does not go with it"
 there "$1"
 there "$4"
 [ "$1$4" != -- ] || fail 2 "image and file cannot both be standard input"
@@ -140,10 +150,41 @@ ran() {
     [ -n "${whole?}" ] || unwritten
 }
 
+# traces: the cycles of the load into the file $traced, once the check of recordings has accepted them
+traces() {
+    local first last level=1 lines cycles=${said#cycles } line_said=$said task_was=${task?}
+    [ -n "$traced" ] || return 0
+    cycles=${cycles%%,*}
+    [ "$cycles" -le 9998 ] || fail 1 "a recording has at most 9998 lines, and the load $cycles cycles: nothing was written"
+    first=$((16#${blocks[block]%-*})) last=$((16#${blocks[block]#*-}))
+    [ "$block" != 0 ] || level=2
+    lines=$(awk -v first="$first" -v rp="$level" -v erase="$((16#$erase_time))" -v program="$((16#$program_time))" \
+        -v before="$(block_text "$image")" -v after="$(block_text "$bytes")" -f "$root/commands/lib/load.awk")$'\n'
+    program recording
+    run <(give "$image") <(give "$bytes") < <(printf '%s' "$lines")
+    [ "${wrote?}" = "accepted: $cycles records, and the array is the one promised"$'\n' ] ||
+        fail 3 "the cycles that were to be written are not accepted, so nothing was written: $wrote$said"
+    deliver "$traced" "$lines"
+    said=$line_said task=$task_was
+}
+
+# block_text BYTES: those from $first to $last, two digits each
+block_text() {
+    local text=${1:4*first:4*(last + 1 - first)}
+    printf '%s' "${text//\\x/}"
+}
+
 # tell_line WORDS: the line behind these words, where the answer goes
 tell_line() { printf '%s: %s\n' "$1" "$said" >&"$line" 2>/dev/null; }
 
 letter=$5
+if [ -n "$traced" ]; then
+    [ "$device" = 3 ] || fail 2 "--trace is for bench T, device 3: a recording has no other part"
+    apart "$file" "$traced" image
+    apart "$4" "$traced" 'load file'
+    may_place "$traced"
+    [ "$(readlink -f -- "$traced")" != "$(readlink -f -- "${output:-/}")" ] || fail 2 "$traced is new image and trace at once"
+fi
 if [ -n "$output" ] && [ "$output" != - ]; then
     [ "$file" = - ] || [ ! "$file" -ef "$output" ] || fail 2 "$output is the image itself: without -o it is replaced"
     [ "$4" = - ] || [ ! "$4" -ef "$output" ] || fail 2 "$output is load file and output at once"
@@ -165,11 +206,13 @@ if [ -n "$dry" ]; then
 elif [ "$output" = - ]; then
     exec {line}>&2
     ran
+    traces
     image_give "$bytes" "$form"
     tell_line loaded || :
 elif [ -n "$output" ]; then
     out "$output"
     ran
+    traces
     image_give "$bytes" "$form"
     placed
     tell_line loaded || fail 4 "$output was written, but the line that says so could not be written"
@@ -177,6 +220,7 @@ else
     begin_image
     unwritten() { fail 4 "the new image could not be written: $file is as it was"; }
     ran
+    traces
     image_give "$bytes" "$image_said" >"${fresh:?}"
     replace || unwritten
     tell_line loaded || fail 4 "$file was changed, but the line that says so could not be written"

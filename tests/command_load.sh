@@ -205,3 +205,52 @@ for bad in 0 65536 x '' -1 1.5 4294967297; do
 done
 call load --help; try 'load --help' 0 '*' ''
 grep -q 'Exit status' "$work/out" || wrong 'load --help: no statuses'
+
+# the cycles of a load as a recording: as many as the load took, accepted from the old image to the new one; at bench T's own times, from a
+# blank part, it is what the replay of its cycles records (R-load-1 to R-load-6, R-recording-1)
+trace=$work/loadtrace
+p=$(not_ff "$three")
+blank 16384 >"$card"
+call load --program 2 --erase 3 --trace "$trace" "$card" 3 1 "$three" K
+try 'a load with its trace' 0 "loaded: $(line_of $((1027 + 4 * p)) 0 bytes "$p")
+" ''
+[ "$(wc -l <"$trace")" = $((1027 + 4 * p)) ] || wrong 'a load with its trace: other lines than cycles'
+[ "$(head -n 3 "$trace")" = "W 1 0 12000 3A00 50 N -- -----
+W 1 0 12000 3A00 FF N -- -----
+R 1 0 12000 3A00 00 D FF -----" ] || wrong 'a load with its trace: another beginning'
+call "$tb" recording --promised "$card" "$trace"
+try 'the trace of a load, held against the rules' 0 "accepted: $((1027 + 4 * p)) records, and the array is the one promised
+" ''
+cut -c 1-19 "$trace" >"$work/loadlines"
+"$tb" replay --record "$work/loadlines" 2>/dev/null | cmp -s - "$trace" || wrong 'the trace of a load: its replay records something else'
+cases=$((cases + 3))
+# an erase of seven cycles in it, and OUT beside it; the boot block at the unlock level
+p=$(not_ff "$work/loadother")
+cp "$card" "$work/loadbefore"
+call load --erase 7 -o "$work/loadnew" --trace "$trace" "$card" 3 1 "$work/loadother" S
+try 'a load that erases, with its trace' 0 "loaded: $(line_of $((1027 + 9 + 3 * p)) 1 bytes "$p")
+" ''
+cmp -s "$card" "$work/loadbefore" || wrong 'a load elsewhere with its trace: the image was changed'
+call "$tb" recording --before "$card" --promised "$work/loadnew" "$trace"
+try 'the trace of a load that erases' 0 "accepted: $((1027 + 9 + 3 * p)) records, and the array is the one promised
+" ''
+call load --trace "$trace" "$card" 3 0 "$work/loadother" S
+try 'a load of the boot block with its trace' 0 "loaded: $(line_of $((2051 + 3 * p)) 0 bytes "$p")
+" ''
+[ "$(cut -c 1-3 "$trace" | sort -u | tr '\n' ' ')" = 'R 2 W 2 ' ] || wrong 'a load of the boot block: another level of RP#'
+# where there is no trace, nothing else is written either
+rm "$trace"
+cp "$card" "$work/before"
+call load --trace "$trace" "$card" 3 3 "$three" K
+one 'a trace of too many cycles' 1 '' 'a recording has at most 9998 lines'
+call load --trace "$trace" "$card" 4 1 "$three" K; one 'a trace of another part' 2 '' '--trace is for bench T, device 3'
+call load --dry --trace "$trace" "$card" 3 1 "$three" K; one 'a trace of a dry load' 2 '' '--dry writes nothing, so --trace does not go with it'
+call load --trace - "$card" 3 1 "$three" K; one 'a trace to standard output' 2 '' 'the trace goes to a file'
+call load --trace "$card" "$card" 3 1 "$three" K; one 'a trace over the image' 2 '' 'is image and output at once'
+call load --trace "$trace" -o "$trace" "$card" 3 1 "$three" K; one 'a trace over the new image' 2 '' 'is new image and trace at once'
+call load --trace "$work/none/here" "$card" 3 1 "$three" K; one 'a trace where no folder is' 2 '' 'there is no folder'
+call load --trace "$trace" "$card" 3 1 "$three" S; try 'a trace of a load that is refused' 1 'refused 35: the file'"'"'s letter is not the one asked for
+' ''
+cmp -s "$card" "$work/before" || wrong 'a load without its trace: the image was changed'
+[ ! -e "$trace" ] || wrong 'a load without its trace: there is one'
+cases=$((cases + 4))
