@@ -83,7 +83,7 @@ fn put_six(out: &mut [u8], volts: u32, tenths: u32)
 }
 
 // A knot into a place that is there.
-pub fn put_knot(place: usize, microvolts: i32, tenths: i32, payload: &mut [u8])
+pub(crate) fn put_knot(place: usize, microvolts: i32, tenths: i32, payload: &mut [u8])
     requires { ⌜ place < length (now payload) / 6 ⌝ }
     ensures { λ _. ⌜ now (payload .exit) ≡ overlaid (now (payload .entry)) (6 * place) (sixOf (bitsOf microvolts) (bitsOf tenths)) ⌝ }
 {
