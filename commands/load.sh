@@ -108,26 +108,10 @@ while [ $# -gt 0 ]; do
     shift
 done
 set -- ${rest[@]+"${rest[@]}"}
-[ $# = 5 ] || [ $# = 6 ] || fail 2 "an image, a device, a block, a load file, a letter and perhaps a mode; 'torfbarke load --help' says more"
 [ -z "$dry" ] || [ -z "$output" ] || fail 2 "--dry writes nothing, so -o does not go with it"
 [ -z "$dry" ] || [ -z "$traced" ] || fail 2 "--dry writes nothing, so --trace does not go with it"
-there "$1"
-there "$4"
-[ "$1$4" != -- ] || fail 2 "image and file cannot both be standard input"
-for number in "$2" "$3"; do
-    case $number in
-    '' | *[!0-9]*) fail 2 "device and block are whole numbers: '$number'" ;;
-    esac
-    [ ${#number} -le 9 ] || fail 2 "device and block are small numbers: $number"
-done
-letter "$5"
-case ${6-byte} in
-byte) mode=0 ;;
-word) mode=1 ;;
-*) fail 2 "the mode is byte or word: $6" ;;
-esac
+flash_call load "$@"
 file=$1
-device=$((10#$2)) block=$((10#$3))
 # by the names of the call, also where one is a link's
 image_form "$file" "$image_said"
 image_said=${form?}
@@ -138,7 +122,7 @@ esac
 
 # ran: the load, its image in $bytes; its line is then in $said, the numbers without zeros in front. A refusal is the end
 ran() {
-    hold <(give "$image") "$device" "$block" <(give "$wanted") "$letter" "$mode" "$program_time" "$erase_time"
+    hold <(give "$image") "${device?}" "${block?}" <(give "$wanted") "$letter" "${mode?}" "$program_time" "$erase_time"
     case ${said?} in
     refused*)
         printf '%s\n' "$said" >&"$line" 2>/dev/null || unwritten

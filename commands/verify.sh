@@ -36,23 +36,7 @@ case ${1-} in
 esac
 image_options "$@"
 set -- ${rest[@]+"${rest[@]}"}
-[ $# = 5 ] || [ $# = 6 ] || fail 2 "an image, a device, a block, a load file, a letter and perhaps a mode; 'torfbarke verify --help' says more"
-there "$1"
-there "$4"
-[ "$1$4" != -- ] || fail 2 "image and file cannot both be standard input"
-for number in "$2" "$3"; do
-    case $number in
-    '' | *[!0-9]*) fail 2 "device and block are whole numbers: '$number'" ;;
-    esac
-    [ ${#number} -le 9 ] || fail 2 "device and block are small numbers: $number"
-done
-letter "$5"
-
-case ${6-byte} in
-byte) mode=0 ;;
-word) mode=1 ;;
-*) fail 2 "the mode is byte or word: $6" ;;
-esac
+flash_call verify "$@"
 
 program verify
 # a byte more than the longest part, and than the longest flash block: so what is longer is seen
@@ -61,7 +45,7 @@ image_fetch "$1" 524289 "${image_said?}" "${size?}"
 image=${bytes?}
 image_fetch "$4" 131073 "${file_said?}"
 cut_dump "$4"
-run <(give "$image") "$((10#$2))" "$((10#$3))" <(give "$bytes") "$5" "$mode"
+run <(give "$image") "${device?}" "${block?}" <(give "$bytes") "$5" "${mode?}"
 heard
 put "${wrote?}"
 case $wrote in
