@@ -10,7 +10,7 @@ use Rattle.script_lines.specs.Words.{wordIn}
 use Rattle.script_judge.specs.declared.Spot.{Spot}
 use Rattle.script_judge.specs.Inner.{nextSpot, closedSpot, itemComes, Sound, Onward}
 use Rattle.script_judge.proofs.Reading as reading
-use borrow.Fn.Kinds.{In}
+use borrow.Fn.Kinds.{In, Out}
 use borrow.Fn.PlainCycle.{Measures, is, falls, and}
 use Rattle.script_judge.proofs.item.Reads as item
 use Rattle.script_judge.proofs.item.Kinds as item-kinds
@@ -52,124 +52,86 @@ item-knows t = (word-at-reads.Asked, word-at-reads.Learnt, fault-at-reads.Asked,
 abbrev list-knows : ℕ → list-lts.Claims
 list-knows t = (word-at-reads.Asked, word-at-reads.Learnt, comes-reads.Asked, comes-reads.Learnt, item-below t, item.Post)
 
-item-word-at-requires : (t : ℕ) → item-lts.Need-word-at-requires (item-knows t) (item-at t) item.Post
-item-word-at-requires t c κs = search needs
+-- what a need asks of `item` at the measure t
+abbrev item-asks : (item-lts.Claims → In 1 item-kinds.ps → Out 1 item-kinds.ps item-kinds.r → Type 0) → Type 0
+item-asks need = (t : ℕ) → need (item-knows t) (item-at t) item.Post
 
-item-enum-told : (t : ℕ) → item-lts.Need-enum-told (item-knows t) (item-at t) item.Post
-item-enum-told t c = search needs
-
-item-fault-at-requires : (t : ℕ) → item-lts.Need-fault-at-requires (item-knows t) (item-at t) item.Post
-item-fault-at-requires t c κs = search needs
-
-item-returns : (t : ℕ) → item-lts.Need-returns (item-knows t) (item-at t) item.Post
+item-returns : item-asks item-lts.Need-returns
 item-returns t c =
-    let a = c .before .before .before .before .before .args in let s = a .text .now in let x = a .x in let d = a .depth in let p = a .p in let h = c .before .before .before .before .before .pre .1 .1 in
+    let start = c .before .before .before .before .before in let a = start .args in let s = a .text .now in let x = a .x in let d = a .depth in let p = a .p in let h = start .pre .1 .1 in
     let w = sym (c .before .before .before .word-at .ensures) ∙ c .before .enum-told .given .1 in
     reading.fault-by s x d p (c .fault-at .result) h (c .fault-at .ensures) (reading.item-ends s x d p h w)
 
-item-enum-told-2 : (t : ℕ) → item-lts.Need-enum-told-2 (item-knows t) (item-at t) item.Post
-item-enum-told-2 t c = search needs
-
-item-fault-at-requires-2 : (t : ℕ) → item-lts.Need-fault-at-requires-2 (item-knows t) (item-at t) item.Post
-item-fault-at-requires-2 t c κs = search needs
-
-item-returns-2 : (t : ℕ) → item-lts.Need-returns-2 (item-knows t) (item-at t) item.Post
+item-returns-2 : item-asks item-lts.Need-returns-2
 item-returns-2 t c =
-    let a = c .before .before .before .before .before .args in let s = a .text .now in let x = a .x in let d = a .depth in let p = a .p in let h = c .before .before .before .before .before .pre .1 .1 in
+    let start = c .before .before .before .before .before in let a = start .args in let s = a .text .now in let x = a .x in let d = a .depth in let p = a .p in let h = start .pre .1 .1 in
     let w = sym (c .before .before .before .word-at .ensures) ∙ c .before .enum-told2 .given .1 in
     reading.fault-by s x d p (c .fault-at2 .result) h (c .fault-at2 .ensures) (reading.item-bad s x d p h w)
 
-item-enum-told-3 : (t : ℕ) → item-lts.Need-enum-told-3 (item-knows t) (item-at t) item.Post
-item-enum-told-3 t c = search needs
-
-item-fault-at-requires-3 : (t : ℕ) → item-lts.Need-fault-at-requires-3 (item-knows t) (item-at t) item.Post
-item-fault-at-requires-3 t c κs = search needs
-
-item-returns-3 : (t : ℕ) → item-lts.Need-returns-3 (item-knows t) (item-at t) item.Post
+item-returns-3 : item-asks item-lts.Need-returns-3
 item-returns-3 t c =
-    let a = c .before .before .before .before .before .args in let s = a .text .now in let x = a .x in let d = a .depth in let p = a .p in let h = c .before .before .before .before .before .pre .1 .1 in
+    let start = c .before .before .before .before .before in let a = start .args in let s = a .text .now in let x = a .x in let d = a .depth in let p = a .p in let h = start .pre .1 .1 in
     let w = sym (c .before .before .before .word-at .ensures) ∙ c .before .enum-told3 .given .1 in
     reading.fault-by s x d p (c .fault-at3 .result) h (c .fault-at3 .ensures) (reading.item-close s x d p h w)
 
-item-enum-told-4 : (t : ℕ) → item-lts.Need-enum-told-4 (item-knows t) (item-at t) item.Post
-item-enum-told-4 t c = search needs
-
-item-add-if1 : (t : ℕ) → item-lts.Need-add-if1 (item-knows t) (item-at t) item.Post
-item-add-if1 t c = search needs
-
-item-fault-at-requires-4 : (t : ℕ) → item-lts.Need-fault-at-requires-4 (item-knows t) (item-at t) item.Post
-item-fault-at-requires-4 t c κs = search needs
-
-item-returns-4 : (t : ℕ) → item-lts.Need-returns-4 (item-knows t) (item-at t) item.Post
+item-returns-4 : item-asks item-lts.Need-returns-4
 item-returns-4 t c =
-    let a = c .before .before .before .before .before .before .before .args in let s = a .text .now in let x = a .x in let d = a .depth in let p = a .p in let h = c .before .before .before .before .before .before .before .pre .1 .1 in
+    let start = c .before .before .before .before .before .before .before in let a = start .args in let s = a .text .now in let x = a .x in let d = a .depth in let p = a .p in let h = start .pre .1 .1 in
     let w = sym (c .before .before .before .before .before .word-at .ensures) ∙ c .before .before .before .enum-told4 .given .1 in
     reading.fault-by s x d p (c .fault-at4 .result) h (c .fault-at4 .ensures) (reading.item-over s x d p h w (let l = c .before .if1 .taken in omega arith))
 
-item-add-past : (t : ℕ) → item-lts.Need-add-past (item-knows t) (item-at t) item.Post
-item-add-past t c = search needs
-
-item-past-requires : (t : ℕ) → item-lts.Need-past-requires (item-knows t) (item-at t) item.Post
+item-past-requires : item-asks item-lts.Need-past-requires
 item-past-requires t c κs =
-    let a = c .before .before .before .before .before .before .before .args in let s = a .text .now in let x = a .x in let d = a .depth in let p = a .p in let h = c .before .before .before .before .before .before .before .pre .1 .1 in
+    let start = c .before .before .before .before .before .before .before in let a = start .args in let s = a .text .now in let x = a .x in let d = a .depth in let p = a .p in let h = start .pre .1 .1 in
     let w = sym (c .before .before .before .before .before .word-at .ensures) ∙ c .before .before .before .enum-told4 .given .1 in
     (c .before .before .before .before .before .before .before .pre .1 .0, omega arith, reading.was-traced s x h w, h)
 
-item-returns-5 : (t : ℕ) → item-lts.Need-returns-5 (item-knows t) (item-at t) item.Post
+item-returns-5 : item-asks item-lts.Need-returns-5
 item-returns-5 t c =
-    let a = c .before .before .before .before .before .before .before .before .args in let s = a .text .now in let x = a .x in let d = a .depth in let p = a .p in let h = c .before .before .before .before .before .before .before .before .pre .1 .1 in
+    let start = c .before .before .before .before .before .before .before .before in let a = start .args in let s = a .text .now in let x = a .x in let d = a .depth in let p = a .p in let h = start .pre .1 .1 in
     let w = sym (c .before .before .before .before .before .before .word-at .ensures) ∙ c .before .before .before .before .enum-told4 .given .1 in let l : x .total + p ≤ 9998 = (let l = c .before .before .if1 .left in omega arith) in
     reading.item-by s x d p (c .past .result) (nextSpot x 20 (x .total + p)) (c .past .ensures) (reading.item-traced s x d p h w l) (reading.traced-ahead s x h p w l)
 
-item-enum-known-w : (t : ℕ) → item-lts.Need-enum-known-w (item-knows t) (item-at t) item.Post
-item-enum-known-w t c = search needs
-
-item-fault-at-requires-5 : (t : ℕ) → item-lts.Need-fault-at-requires-5 (item-knows t) (item-at t) item.Post
-item-fault-at-requires-5 t c κs = search needs
-
-item-returns-6 : (t : ℕ) → item-lts.Need-returns-6 (item-knows t) (item-at t) item.Post
+item-returns-6 : item-asks item-lts.Need-returns-6
 item-returns-6 t c =
-    let a = c .before .before .before .before .before .before .before .args in let s = a .text .now in let x = a .x in let d = a .depth in let p = a .p in let h = c .before .before .before .before .before .before .before .pre .1 .1 in
+    let start = c .before .before .before .before .before .before .before in let a = start .args in let s = a .text .now in let x = a .x in let d = a .depth in let p = a .p in let h = start .pre .1 .1 in
     let w = sym (c .before .before .before .before .before .word-at .ensures) ∙ c .before .before .before .w .given .1 in let m = c .before .before .before .w .given .0 .0 in
     reading.fault-by s x d p (c .fault-at5 .result) h (c .fault-at5 .ensures) (reading.item-deep s x d p h m w (c .before .if2 .taken))
 
-item-times-requires : (t : ℕ) → item-lts.Need-times-requires (item-knows t) (item-at t) item.Post
+item-times-requires : item-asks item-lts.Need-times-requires
 item-times-requires t c κs =
-    let a = c .before .before .before .before .before .before .args in let s = a .text .now in let x = a .x in let d = a .depth in let p = a .p in let h = c .before .before .before .before .before .before .pre .1 .1 in
+    let start = c .before .before .before .before .before .before in let a = start .args in let s = a .text .now in let x = a .x in let d = a .depth in let p = a .p in let h = start .pre .1 .1 in
     let w = sym (c .before .before .before .before .word-at .ensures) ∙ c .before .before .w .given .1 in let m = c .before .before .w .given .0 .0 in
     (c .before .before .before .before .before .before .pre .1 .2, reading.was-open s x h m w .1)
 
-item-past-requires-2 : (t : ℕ) → item-lts.Need-past-requires-2 (item-knows t) (item-at t) item.Post
+item-past-requires-2 : item-asks item-lts.Need-past-requires-2
 item-past-requires-2 t c κs =
-    let a = c .before .before .before .before .before .before .before .args in let s = a .text .now in let x = a .x in let d = a .depth in let p = a .p in let h = c .before .before .before .before .before .before .before .pre .1 .1 in
+    let start = c .before .before .before .before .before .before .before in let a = start .args in let s = a .text .now in let x = a .x in let d = a .depth in let p = a .p in let h = start .pre .1 .1 in
     let w = sym (c .before .before .before .before .before .word-at .ensures) ∙ c .before .before .before .w .given .1 in let m = c .before .before .before .w .given .0 .0 in
     (c .before .before .before .before .before .before .before .pre .1 .0, omega arith, reading.was-open s x h m w .0, h)
 
-item-sub-list : (t : ℕ) → item-lts.Need-sub-list (item-knows t) (item-at t) item.Post
-item-sub-list t c = search needs
-
-item-list-requires : (t : ℕ) → item-lts.Need-list-requires (item-knows t) (item-at t) item.Post
+item-list-requires : item-asks item-lts.Need-list-requires
 item-list-requires t c κs =
-    let a = c .before .before .before .before .before .before .before .before .args in let s = a .text .now in let x = a .x in let d = a .depth in let p = a .p in let h = c .before .before .before .before .before .before .before .before .pre .1 .1 in let e = c .before .before .before .before .before .before .before .before .pre .0 in let deep = c .before .before .if2 .left in
+    let start = c .before .before .before .before .before .before .before .before in let a = start .args in let s = a .text .now in let x = a .x in let d = a .depth in let p = a .p in let h = start .pre .1 .1 in let e = start .pre .0 in let deep = c .before .before .if2 .left in
     let w = sym (c .before .before .before .before .before .before .word-at .ensures) ∙ c .before .before .before .before .w .given .1 in let m = c .before .before .before .before .w .given .0 .0 in let low = subst (λ (q : ℕ). q ≤ 9999) (sym (c .before .times .ensures)) (reading.capped-low (p * m)) in
     let z = c .past2 in let o = subst (λ (y : Spot). (y .at ≤ length s) × Sound y × (x .at < y .at)) (sym (z .ensures)) (reading.open-ahead s x h m w) in let o0 = o .0 in let o2 = o .2 in
     (omega arith, (o0, o .1, low))
 
-item-returns-7 : (t : ℕ) → item-lts.Need-returns-7 (item-knows t) (item-at t) item.Post
+item-returns-7 : item-asks item-lts.Need-returns-7
 item-returns-7 t c =
-    let a = c .before .before .before .before .before .before .before .before .before .before .before .args in let s = a .text .now in let x = a .x in let d = a .depth in let p = a .p in let h = c .before .before .before .before .before .before .before .before .before .before .before .pre .1 .1 in
+    let start = c .before .before .before .before .before .before .before .before .before .before .before in let a = start .args in let s = a .text .now in let x = a .x in let d = a .depth in let p = a .p in let h = start .pre .1 .1 in
     let w = sym (c .before .before .before .before .before .before .before .before .before .word-at .ensures) ∙ c .before .before .before .before .before .before .before .w .given .1 in let m = c .before .before .before .before .before .before .before .w .given .0 .0 in
     let z = c .before .before .before .past2 in let y = c .before .before .list .result in let j = reading.group-read s x d p h m (c .before .before .before .before .times .result) (z .result) y (c .before .before .list .ensures .0) (z .ensures) (c .before .before .before .before .times .ensures) refl in
     (reading.group-fault s x d p h m y w (c .before .before .before .before .before .if2 .left) j (c .if3 .taken), reading.fault-ahead s x y (c .if3 .taken))
 
-item-closed-requires : (t : ℕ) → item-lts.Need-closed-requires (item-knows t) (item-at t) item.Post
+item-closed-requires : item-asks item-lts.Need-closed-requires
 item-closed-requires t c κs =
     let s = c .before .before .before .before .before .before .before .before .before .before .before .args .text .now in let g = reading.ended s (c .before .before .before .past2 .result) (c .before .before .list .result) (c .before .before .list .ensures .1) (c .if3 .left) in
     (g .0, g .1)
 
-item-returns-8 : (t : ℕ) → item-lts.Need-returns-8 (item-knows t) (item-at t) item.Post
+item-returns-8 : item-asks item-lts.Need-returns-8
 item-returns-8 t c =
-    let a = c .before .before .before .before .before .before .before .before .before .before .before .before .args in let s = a .text .now in let x = a .x in let d = a .depth in let p = a .p in let h = c .before .before .before .before .before .before .before .before .before .before .before .before .pre .1 .1 in
+    let start = c .before .before .before .before .before .before .before .before .before .before .before .before in let a = start .args in let s = a .text .now in let x = a .x in let d = a .depth in let p = a .p in let h = start .pre .1 .1 in
     let w = sym (c .before .before .before .before .before .before .before .before .before .before .word-at .ensures) ∙ c .before .before .before .before .before .before .before .before .w .given .1 in let m = c .before .before .before .before .before .before .before .before .w .given .0 .0 in
     let z = c .before .before .before .before .past2 in let o = subst (λ (y : Spot). (y .at ≤ length s) × Sound y × (x .at < y .at)) (sym (z .ensures)) (reading.open-ahead s x h m w) in let o0 = o .0 in let o2 = o .2 in
     let y = c .before .before .before .list .result in let j = reading.group-read s x d p h m (c .before .before .before .before .before .times .result) (z .result) y (c .before .before .before .list .ensures .0) (z .ensures) (c .before .before .before .before .before .times .ensures) refl in
@@ -182,48 +144,46 @@ list-Inv-loop text depth p must y₀ due₀ y due = (y .at ≤ length text) × S
 abbrev list-μ-loop : list-lts.MeasureT-loop
 list-μ-loop text depth p must y₀ due₀ y due = length text - y .at
 
-list-loop-holds : (t : ℕ) → list-lts.Need-loop-holds (list-knows t) (list-at t) list.Post list-Inv-loop list-μ-loop
+-- what a need asks of `list` at the measure t
+abbrev list-asks : (list-lts.Claims → In 1 list-kinds.ps → Out 1 list-kinds.ps list-kinds.r → list-lts.InvT-loop → list-lts.MeasureT-loop → Type 0) → Type 0
+list-asks need = (t : ℕ) → need (list-knows t) (list-at t) list.Post list-Inv-loop list-μ-loop
+
+list-loop-holds : list-asks list-lts.Need-loop-holds
 list-loop-holds t c =
-    let a = c .before .args in let s = a .text .now in let x = a .x in let d = a .depth in let p = a .p in let h = c .before .pre .1 .1 in
+    let start = c .before in let a = start .args in let s = a .text .now in let x = a .x in let d = a .depth in let p = a .p in let h = start .pre .1 .1 in
     (c .before .pre .1 .0, h, omega arith, reading.onward-none s d p x (a .must), c .before .pre .1 .2)
 
-list-word-at-requires : (t : ℕ) → list-lts.Need-word-at-requires (list-knows t) (list-at t) list.Post list-Inv-loop list-μ-loop
-list-word-at-requires t c κs = search needs
-
-list-comes-requires : (t : ℕ) → list-lts.Need-comes-requires (list-knows t) (list-at t) list.Post list-Inv-loop list-μ-loop
-list-comes-requires t c κs = search needs
-
-list-item-requires : (t : ℕ) → list-lts.Need-item-requires (list-knows t) (list-at t) list.Post list-Inv-loop list-μ-loop
+list-item-requires : list-asks list-lts.Need-item-requires
 list-item-requires t c κs =
-    let a = c .before .before .before .before .before .args in let s = a .text .now in let x = a .x in let d = a .depth in let p = a .p in let h = c .before .before .before .before .before .pre .1 .1 in let e = c .before .before .before .before .before .pre .0 in
+    let start = c .before .before .before .before .before in let a = start .args in let s = a .text .now in let x = a .x in let d = a .depth in let p = a .p in let h = start .pre .1 .1 in let e = start .pre .0 in
     let l = c .before .before .before .loop in let y = l .y in let v = l .inv in let v2 = v .2 in let v0 = v .0 in
     (omega arith, (v0, v .1, v .4))
 
-list-returns : (t : ℕ) → list-lts.Need-returns (list-knows t) (list-at t) list.Post list-Inv-loop list-μ-loop
+list-returns : list-asks list-lts.Need-returns
 list-returns t c =
-    let a = c .before .before .before .before .before .before .before .before .args in let s = a .text .now in let x = a .x in let d = a .depth in let p = a .p in let h = c .before .before .before .before .before .before .before .before .pre .1 .1 in
+    let start = c .before .before .before .before .before .before .before .before in let a = start .args in let s = a .text .now in let x = a .x in let d = a .depth in let p = a .p in let h = start .pre .1 .1 in
     let l = c .before .before .before .before .before .before .loop in let y = l .y in let v = l .inv in let v2 = v .2 in
     let w = ap (λ (u : Word). itemComes (l .due) u) (sym (c .before .before .before .before .before .word-at .ensures)) ∙ sym (c .before .before .before .before .comes .ensures) ∙ c .before .before .before .if1 .taken in let z = c .before .before .item .result in
     (reading.onward-fault s d p x (a .must) y z (l .due) (v .3) w (c .before .before .item .ensures .0), reading.fault-ended s x z (c .if2 .taken))
 
-list-loop-less : (t : ℕ) → list-lts.Need-loop-less (list-knows t) (list-at t) list.Post list-Inv-loop list-μ-loop
+list-loop-less : list-asks list-lts.Need-loop-less
 list-loop-less t c =
-    let a = c .before .before .before .before .before .before .before .before .args in let s = a .text .now in let x = a .x in let d = a .depth in let p = a .p in let h = c .before .before .before .before .before .before .before .before .pre .1 .1 in
+    let start = c .before .before .before .before .before .before .before .before in let a = start .args in let s = a .text .now in let x = a .x in let d = a .depth in let p = a .p in let h = start .pre .1 .1 in
     let l = c .before .before .before .before .before .before .loop in let y = l .y in let v = l .inv in let v2 = v .2 in
     let z = c .before .before .item .result in let g = reading.ahead s y z (c .before .before .item .ensures .1) (c .if2 .left) in let g0 = g .0 in let g2 = g .2 in
     omega arith
 
-list-loop-again : (t : ℕ) → list-lts.Need-loop-again (list-knows t) (list-at t) list.Post list-Inv-loop list-μ-loop
+list-loop-again : list-asks list-lts.Need-loop-again
 list-loop-again t c =
-    let a = c .before .before .before .before .before .before .before .before .args in let s = a .text .now in let x = a .x in let d = a .depth in let p = a .p in let h = c .before .before .before .before .before .before .before .before .pre .1 .1 in
+    let start = c .before .before .before .before .before .before .before .before in let a = start .args in let s = a .text .now in let x = a .x in let d = a .depth in let p = a .p in let h = start .pre .1 .1 in
     let l = c .before .before .before .before .before .before .loop in let y = l .y in let v = l .inv in let v2 = v .2 in
     let w = ap (λ (u : Word). itemComes (l .due) u) (sym (c .before .before .before .before .before .word-at .ensures)) ∙ sym (c .before .before .before .before .comes .ensures) ∙ c .before .before .before .if1 .taken in
     let z = c .before .before .item .result in let g = reading.ahead s y z (c .before .before .item .ensures .1) (c .if2 .left) in let g0 = g .0 in let g2 = g .2 in
     (g0, g .1, omega arith, reading.onward-item s d p x (a .must) y z (l .due) (v .3) w (c .before .before .item .ensures .0) (c .if2 .left), v .4)
 
-list-returns-2 : (t : ℕ) → list-lts.Need-returns-2 (list-knows t) (list-at t) list.Post list-Inv-loop list-μ-loop
+list-returns-2 : list-asks list-lts.Need-returns-2
 list-returns-2 t c =
-    let a = c .before .before .before .before .before .args in let s = a .text .now in let x = a .x in let d = a .depth in let p = a .p in let h = c .before .before .before .before .before .pre .1 .1 in
+    let start = c .before .before .before .before .before in let a = start .args in let s = a .text .now in let x = a .x in let d = a .depth in let p = a .p in let h = start .pre .1 .1 in
     let l = c .before .before .before .loop in let y = l .y in let v = l .inv in let v2 = v .2 in
     let w = ap (λ (u : Word). itemComes (l .due) u) (sym (c .before .before .word-at .ensures)) ∙ sym (c .before .comes .ensures) ∙ c .if1 .left in let n = reading.none-due (l .due) (wordIn (y .left) (drop (y .at) s)) w in
     (reading.onward-end s d p x (a .must) y (l .due) (v .3) (n .0) (v .1), reading.here-ended s x y (v .0) (v .1) v2 (n .1))
@@ -232,29 +192,29 @@ pub +item+list-spec : {M : Type 1} → statement M
 +item+list-spec = close μ-item μ-list (λ t. item-lts.spec (item-knows t)
     (item-at t)
     item.Post
-    (item-word-at-requires t)
-    (item-enum-told t)
-    (item-fault-at-requires t)
+    (λ c κs. search needs)
+    (λ c. search needs)
+    (λ c κs. search needs)
     (item-returns t)
-    (item-enum-told-2 t)
-    (item-fault-at-requires-2 t)
+    (λ c. search needs)
+    (λ c κs. search needs)
     (item-returns-2 t)
-    (item-enum-told-3 t)
-    (item-fault-at-requires-3 t)
+    (λ c. search needs)
+    (λ c κs. search needs)
     (item-returns-3 t)
-    (item-enum-told-4 t)
-    (item-add-if1 t)
-    (item-fault-at-requires-4 t)
+    (λ c. search needs)
+    (λ c. search needs)
+    (λ c κs. search needs)
     (item-returns-4 t)
-    (item-add-past t)
+    (λ c. search needs)
     (item-past-requires t)
     (item-returns-5 t)
-    (item-enum-known-w t)
-    (item-fault-at-requires-5 t)
+    (λ c. search needs)
+    (λ c κs. search needs)
     (item-returns-6 t)
     (item-times-requires t)
     (item-past-requires-2 t)
-    (item-sub-list t)
+    (λ c. search needs)
     (item-list-requires t)
     (item-returns-7 t)
     (item-closed-requires t)
@@ -265,8 +225,8 @@ pub +item+list-spec : {M : Type 1} → statement M
     list-Inv-loop
     list-μ-loop
     (list-loop-holds t)
-    (list-word-at-requires t)
-    (list-comes-requires t)
+    (λ c κs. search needs)
+    (λ c κs. search needs)
     (list-item-requires t)
     (list-returns t)
     (list-loop-less t)

@@ -9,7 +9,7 @@ use Rattle.script_lines.specs.declared.Word.the-variants.{Ends, Bad, Closes}
 use Rattle.script_run.specs.declared.Run.{Run}
 use Rattle.script_run.specs.Inner.{Leads, Rounds, AgainRead}
 use Rattle.script_run.proofs.Runs as runs
-use borrow.Fn.Kinds.{In}
+use borrow.Fn.Kinds.{In, Out}
 use borrow.Fn.PlainCycle.{Measures, is, falls, and}
 use Rattle.script_run.proofs.item.Reads as item
 use Rattle.script_run.proofs.item.Kinds as item-kinds
@@ -59,118 +59,89 @@ item-Inv-loop text depth array₀ residue out₀ n y₀ z₀ i₀ array out y z 
 abbrev item-μ-loop : item-lts.MeasureT-loop
 item-μ-loop text depth array₀ residue out₀ n y₀ z₀ i₀ array out y z i = n + 1 - i
 
-item-word-at-requires : (t : ℕ) → item-lts.Need-word-at-requires (item-knows t) (item-at t) item.Post item-Inv-loop item-μ-loop
-item-word-at-requires t c κs = search needs
+-- what a need asks of `item` at the measure t
+abbrev item-asks : (item-lts.Claims → In 4 item-kinds.ps → Out 4 item-kinds.ps item-kinds.r → item-lts.InvT-loop → item-lts.MeasureT-loop → Type 0) → Type 0
+item-asks need = (t : ℕ) → need (item-knows t) (item-at t) item.Post item-Inv-loop item-μ-loop
 
-item-enum-told : (t : ℕ) → item-lts.Need-enum-told (item-knows t) (item-at t) item.Post item-Inv-loop item-μ-loop
-item-enum-told t c = search needs
-
-item-returns : (t : ℕ) → item-lts.Need-returns (item-knows t) (item-at t) item.Post item-Inv-loop item-μ-loop
+item-returns : item-asks item-lts.Need-returns
 item-returns t c =
-    let a = c .before .before .before .before .before .before .before .args in let p = c .before .before .before .before .before .before .before .pre .0 in let p0 = c .before .before .before .before .before .before .before .pre .1 .0 in let p1 = c .before .before .before .before .before .before .before .pre .1 .1 in
+    let start = c .before .before .before .before .before .before .before in let a = start .args in let p = start .pre .0 in let p0 = start .pre .1 .0 in let p1 = start .pre .1 .1 in
     let w = sym (c .before .before .word-at .ensures) ∙ c .enum-told .given .1 in
-    (runs.item-none (a .depth) (a .text .now) (a .x) (a .array .now) (a .residue .now) (a .out .now) (runs.run-stop (a .depth) (a .text .now) (a .x) (a .array .now) (a .residue .now) (a .out .now) Ends w (λ z. absurd (omega arith)) (λ z. absurd (omega arith))), (p0, omega arith, p1))
+    (runs.item-none _ _ _ _ _ _ (runs.run-stop (a .depth) (a .text .now) (a .x) (a .array .now) (a .residue .now) (a .out .now) Ends w (λ z. absurd (omega arith)) (λ z. absurd (omega arith))), (p0, omega arith, p1))
 
-item-enum-told-2 : (t : ℕ) → item-lts.Need-enum-told-2 (item-knows t) (item-at t) item.Post item-Inv-loop item-μ-loop
-item-enum-told-2 t c = search needs
-
-item-returns-2 : (t : ℕ) → item-lts.Need-returns-2 (item-knows t) (item-at t) item.Post item-Inv-loop item-μ-loop
+item-returns-2 : item-asks item-lts.Need-returns-2
 item-returns-2 t c =
-    let a = c .before .before .before .before .before .before .before .args in let p = c .before .before .before .before .before .before .before .pre .0 in let p0 = c .before .before .before .before .before .before .before .pre .1 .0 in let p1 = c .before .before .before .before .before .before .before .pre .1 .1 in
+    let start = c .before .before .before .before .before .before .before in let a = start .args in let p = start .pre .0 in let p0 = start .pre .1 .0 in let p1 = start .pre .1 .1 in
     let w = sym (c .before .before .word-at .ensures) ∙ c .enum-told2 .given .1 in
-    (runs.item-none (a .depth) (a .text .now) (a .x) (a .array .now) (a .residue .now) (a .out .now) (runs.run-stop (a .depth) (a .text .now) (a .x) (a .array .now) (a .residue .now) (a .out .now) Bad w (λ z. absurd (omega arith)) (λ z. absurd (omega arith))), (p0, omega arith, p1))
+    (runs.item-none _ _ _ _ _ _ (runs.run-stop (a .depth) (a .text .now) (a .x) (a .array .now) (a .residue .now) (a .out .now) Bad w (λ z. absurd (omega arith)) (λ z. absurd (omega arith))), (p0, omega arith, p1))
 
-item-enum-told-3 : (t : ℕ) → item-lts.Need-enum-told-3 (item-knows t) (item-at t) item.Post item-Inv-loop item-μ-loop
-item-enum-told-3 t c = search needs
-
-item-returns-3 : (t : ℕ) → item-lts.Need-returns-3 (item-knows t) (item-at t) item.Post item-Inv-loop item-μ-loop
+item-returns-3 : item-asks item-lts.Need-returns-3
 item-returns-3 t c =
-    let a = c .before .before .before .before .before .before .before .args in let p = c .before .before .before .before .before .before .before .pre .0 in let p0 = c .before .before .before .before .before .before .before .pre .1 .0 in let p1 = c .before .before .before .before .before .before .before .pre .1 .1 in
+    let start = c .before .before .before .before .before .before .before in let a = start .args in let p = start .pre .0 in let p0 = start .pre .1 .0 in let p1 = start .pre .1 .1 in
     let w = sym (c .before .before .word-at .ensures) ∙ c .enum-told3 .given .1 in
-    (runs.item-none (a .depth) (a .text .now) (a .x) (a .array .now) (a .residue .now) (a .out .now) (runs.run-stop (a .depth) (a .text .now) (a .x) (a .array .now) (a .residue .now) (a .out .now) Closes w (λ z. absurd (omega arith)) (λ z. absurd (omega arith))), (p0, omega arith, p1))
+    (runs.item-none _ _ _ _ _ _ (runs.run-stop (a .depth) (a .text .now) (a .x) (a .array .now) (a .residue .now) (a .out .now) Closes w (λ z. absurd (omega arith)) (λ z. absurd (omega arith))), (p0, omega arith, p1))
 
-item-enum-told-4 : (t : ℕ) → item-lts.Need-enum-told-4 (item-knows t) (item-at t) item.Post item-Inv-loop item-μ-loop
-item-enum-told-4 t c = search needs
-
-item-sub-if1 : (t : ℕ) → item-lts.Need-sub-if1 (item-knows t) (item-at t) item.Post item-Inv-loop item-μ-loop
-item-sub-if1 t c = search needs
-
-item-returns-4 : (t : ℕ) → item-lts.Need-returns-4 (item-knows t) (item-at t) item.Post item-Inv-loop item-μ-loop
+item-returns-4 : item-asks item-lts.Need-returns-4
 item-returns-4 t c =
-    let a = c .before .before .before .before .before .before .before .before .before .args in let p = c .before .before .before .before .before .before .before .before .before .pre .0 in let p0 = c .before .before .before .before .before .before .before .before .before .pre .1 .0 in let p1 = c .before .before .before .before .before .before .before .before .before .pre .1 .1 in
+    let start = c .before .before .before .before .before .before .before .before .before in let a = start .args in let p = start .pre .0 in let p0 = start .pre .1 .0 in let p1 = start .pre .1 .1 in
     let w = sym (c .before .before .before .before .word-at .ensures) ∙ c .before .before .enum-told4 .given .1 in
-    (runs.item-none (a .depth) (a .text .now) (a .x) (a .array .now) (a .residue .now) (a .out .now) (runs.run-short (a .depth) (a .text .now) (a .x) (a .array .now) (a .residue .now) (a .out .now) w (c .if1 .taken)), (p0, omega arith, p1))
+    (runs.item-none _ _ _ _ _ _ (runs.run-short (a .depth) (a .text .now) (a .x) (a .array .now) (a .residue .now) (a .out .now) w (c .if1 .taken)), (p0, omega arith, p1))
 
-item-answered-requires : (t : ℕ) → item-lts.Need-answered-requires (item-knows t) (item-at t) item.Post item-Inv-loop item-μ-loop
+item-answered-requires : item-asks item-lts.Need-answered-requires
 item-answered-requires t c κs =
-    let a = c .before .before .before .before .before .before .before .before .before .before .before .args in let p = c .before .before .before .before .before .before .before .before .before .before .before .pre .0 in let p0 = c .before .before .before .before .before .before .before .before .before .before .before .pre .1 .0 in let p1 = c .before .before .before .before .before .before .before .before .before .before .before .pre .1 .1 in let l = c .before .before .if1 .left in
+    let start = c .before .before .before .before .before .before .before .before .before .before .before in let a = start .args in let p = start .pre .0 in let p0 = start .pre .1 .0 in let p1 = start .pre .1 .1 in let l = c .before .before .if1 .left in
     let w = sym (c .before .before .before .before .before .before .word-at .ensures) ∙ c .before .before .before .before .enum-told4 .given .1 in
     let m = runs.traced-room (a .text .now) (a .x .left) (a .x .at) w in
     (m .1, omega arith, m .0)
 
-item-same-length : (t : ℕ) → item-lts.Need-same-length (item-knows t) (item-at t) item.Post item-Inv-loop item-μ-loop
-item-same-length t c = search needs
-
-item-same-length-2 : (t : ℕ) → item-lts.Need-same-length-2 (item-knows t) (item-at t) item.Post item-Inv-loop item-μ-loop
-item-same-length-2 t c = search needs
-
-item-returns-5 : (t : ℕ) → item-lts.Need-returns-5 (item-knows t) (item-at t) item.Post item-Inv-loop item-μ-loop
+item-returns-5 : item-asks item-lts.Need-returns-5
 item-returns-5 t c =
-    let a = c .before .before .before .before .before .before .before .before .before .before .before .before .before .before .before .before .args in let p = c .before .before .before .before .before .before .before .before .before .before .before .before .before .before .before .before .pre .0 in let p0 = c .before .before .before .before .before .before .before .before .before .before .before .before .before .before .before .before .pre .1 .0 in let p1 = c .before .before .before .before .before .before .before .before .before .before .before .before .before .before .before .before .pre .1 .1 in let l = c .before .before .before .before .before .before .before .if1 .left in
+    let start = c .before .before .before .before .before .before .before .before .before .before .before .before .before .before .before .before in let a = start .args in let p = start .pre .0 in let p0 = start .pre .1 .0 in let p1 = start .pre .1 .1 in let l = c .before .before .before .before .before .before .before .if1 .left in
     let w = sym (c .before .before .before .before .before .before .before .before .before .before .before .word-at .ensures) ∙ c .before .before .before .before .before .before .before .before .before .enum-told4 .given .1 in
     let m = runs.traced-room (a .text .now) (a .x .left) (a .x .at) w in let m1 = m .1 in
     let k = c .before .before .before .before .answered in let e = k .ensures .0 in
     let e1 = ap (λ (r : Run). r .at) e in let e3 = ap (λ (r : Run). r .used) e in
     (runs.item-line (a .depth) (a .text .now) (a .x) (k .result) (a .array .now) (a .residue .now) (a .out .now) (k .last .1 .1 .0) (k .last .1 .1 .1 .1 .0) w e (k .ensures .1 .0) (k .ensures .1 .1) (k .kept .1 .1 .1 .1 .0), (omega arith, omega arith, omega arith))
 
-item-enum-known-w : (t : ℕ) → item-lts.Need-enum-known-w (item-knows t) (item-at t) item.Post item-Inv-loop item-μ-loop
-item-enum-known-w t c = search needs
-
-item-returns-6 : (t : ℕ) → item-lts.Need-returns-6 (item-knows t) (item-at t) item.Post item-Inv-loop item-μ-loop
+item-returns-6 : item-asks item-lts.Need-returns-6
 item-returns-6 t c =
-    let a = c .before .before .before .before .before .before .before .before .before .args in let p = c .before .before .before .before .before .before .before .before .before .pre .0 in let p0 = c .before .before .before .before .before .before .before .before .before .pre .1 .0 in let p1 = c .before .before .before .before .before .before .before .before .before .pre .1 .1 in
+    let start = c .before .before .before .before .before .before .before .before .before in let a = start .args in let p = start .pre .0 in let p0 = start .pre .1 .0 in let p1 = start .pre .1 .1 in
     let w = sym (c .before .before .before .before .word-at .ensures) ∙ c .before .before .w .given .1 in let n = c .before .before .w .given .0 .0 in
-    (runs.item-none (a .depth) (a .text .now) (a .x) (a .array .now) (a .residue .now) (a .out .now) (runs.run-deep (a .depth) (a .text .now) (a .x) n (a .array .now) (a .residue .now) (a .out .now) w (c .if2 .taken)), (p0, omega arith, p1))
+    (runs.item-none _ _ _ _ _ _ (runs.run-deep (a .depth) (a .text .now) (a .x) n (a .array .now) (a .residue .now) (a .out .now) w (c .if2 .taken)), (p0, omega arith, p1))
 
-item-past-open-requires : (t : ℕ) → item-lts.Need-past-open-requires (item-knows t) (item-at t) item.Post item-Inv-loop item-μ-loop
+item-past-open-requires : item-asks item-lts.Need-past-open-requires
 item-past-open-requires t c κs =
-    let a = c .before .before .before .before .before .before .before .before .before .args in let p = c .before .before .before .before .before .before .before .before .before .pre .0 in let p0 = c .before .before .before .before .before .before .before .before .before .pre .1 .0 in let p1 = c .before .before .before .before .before .before .before .before .before .pre .1 .1 in
+    let start = c .before .before .before .before .before .before .before .before .before in let a = start .args in let p = start .pre .0 in let p0 = start .pre .1 .0 in let p1 = start .pre .1 .1 in
     let w = sym (c .before .before .before .before .word-at .ensures) ∙ c .before .before .w .given .1 in let n = c .before .before .w .given .0 .0 in let m = runs.opens-room (a .text .now) (a .x .left) (a .x .at) n w in let m0 = m .0 in let m1 = m .1 in let m2 = m .2 in
     (p0, m0)
 
-item-loop-holds : (t : ℕ) → item-lts.Need-loop-holds (item-knows t) (item-at t) item.Post item-Inv-loop item-μ-loop
+item-loop-holds : item-asks item-lts.Need-loop-holds
 item-loop-holds t c =
-    let a = c .before .before .before .before .before .before .before .before .before .before .args in let p = c .before .before .before .before .before .before .before .before .before .before .pre .0 in let p0 = c .before .before .before .before .before .before .before .before .before .before .pre .1 .0 in let p1 = c .before .before .before .before .before .before .before .before .before .before .pre .1 .1 in
+    let start = c .before .before .before .before .before .before .before .before .before .before in let a = start .args in let p = start .pre .0 in let p0 = start .pre .1 .0 in let p1 = start .pre .1 .1 in
     let w = sym (c .before .before .before .before .before .word-at .ensures) ∙ c .before .before .before .w .given .1 in let n = c .before .before .before .w .given .0 .0 in let m = runs.opens-room (a .text .now) (a .x .left) (a .x .at) n w in let m0 = m .0 in let m1 = m .1 in let m2 = m .2 in let m3 = m .3 in
     let o = c .past-open in let o1 = ap (λ (r : Run). r .at) (o .ensures) in let o2 = ap (λ (r : Run). r .left) (o .ensures) in let o3 = ap (λ (r : Run). r .used) (o .ensures) in
     (refl, refl, omega arith, omega arith, omega arith, omega arith, λ u. runs.rounds-none (a .depth - 1) (a .text .now) (o .result) n (n - 0) (a .array .now) (a .residue .now) (a .out .now) (omega arith), λ u. absurd (omega arith), refl, refl)
 
-item-sub-list : (t : ℕ) → item-lts.Need-sub-list (item-knows t) (item-at t) item.Post item-Inv-loop item-μ-loop
-item-sub-list t c = search needs
-
-item-list-requires : (t : ℕ) → item-lts.Need-list-requires (item-knows t) (item-at t) item.Post item-Inv-loop item-μ-loop
+item-list-requires : item-asks item-lts.Need-list-requires
 item-list-requires t c κs =
-    let a = c .before .before .before .before .before .before .before .before .before .before .before .before .before .before .args in let p = c .before .before .before .before .before .before .before .before .before .before .before .before .before .before .pre .0 in let p0 = c .before .before .before .before .before .before .before .before .before .before .before .before .before .before .pre .1 .0 in let p1 = c .before .before .before .before .before .before .before .before .before .before .before .before .before .before .pre .1 .1 in
+    let start = c .before .before .before .before .before .before .before .before .before .before .before .before .before .before in let a = start .args in let p = start .pre .0 in let p0 = start .pre .1 .0 in let p1 = start .pre .1 .1 in
     let w = sym (c .before .before .before .before .before .before .before .before .before .word-at .ensures) ∙ c .before .before .before .before .before .before .before .w .given .1 in let n = c .before .before .before .before .before .before .before .w .given .0 .0 in let m = runs.opens-room (a .text .now) (a .x .left) (a .x .at) n w in let m0 = m .0 in let m1 = m .1 in let m2 = m .2 in let m3 = m .3 in
     let o = c .before .before .before .before .past-open in let o1 = ap (λ (r : Run). r .at) (o .ensures) in let o2 = ap (λ (r : Run). r .left) (o .ensures) in let o3 = ap (λ (r : Run). r .used) (o .ensures) in
     let l = c .before .before .before .loop in let y = l .y in let v = l .inv in let v0 = v .0 in let v1 = v .1 in let v2 = v .2 in let v3 = v .3 in let v4 = v .4 in let v5 = v .5 in let v9 = v .9 in
     (omega arith, (omega arith, v2))
 
-item-back-requires : (t : ℕ) → item-lts.Need-back-requires (item-knows t) (item-at t) item.Post item-Inv-loop item-μ-loop
-item-back-requires t c κs = search needs
-
-item-add-i : (t : ℕ) → item-lts.Need-add-i (item-knows t) (item-at t) item.Post item-Inv-loop item-μ-loop
+item-add-i : item-asks item-lts.Need-add-i
 item-add-i t c =
-    let a = c .before .before .before .before .before .before .before .before .before .before .before .before .before .before .before .before .before .before .before .before .args in let p = c .before .before .before .before .before .before .before .before .before .before .before .before .before .before .before .before .before .before .before .before .pre .0 in let p0 = c .before .before .before .before .before .before .before .before .before .before .before .before .before .before .before .before .before .before .before .before .pre .1 .0 in let p1 = c .before .before .before .before .before .before .before .before .before .before .before .before .before .before .before .before .before .before .before .before .pre .1 .1 in
+    let start = c .before .before .before .before .before .before .before .before .before .before .before .before .before .before .before .before .before .before .before .before in let a = start .args in let p = start .pre .0 in let p0 = start .pre .1 .0 in let p1 = start .pre .1 .1 in
     let w = sym (c .before .before .before .before .before .before .before .before .before .before .before .before .before .before .before .word-at .ensures) ∙ c .before .before .before .before .before .before .before .before .before .before .before .before .before .w .given .1 in let n = c .before .before .before .before .before .before .before .before .before .before .before .before .before .w .given .0 .0 in let m = runs.opens-room (a .text .now) (a .x .left) (a .x .at) n w in let m0 = m .0 in let m1 = m .1 in let m2 = m .2 in let m3 = m .3 in let t = c .before .before .before .before .before .before .before .before .loop-test .taken in
     record { fits = omega arith }
 
-item-loop-less : (t : ℕ) → item-lts.Need-loop-less (item-knows t) (item-at t) item.Post item-Inv-loop item-μ-loop
+item-loop-less : item-asks item-lts.Need-loop-less
 item-loop-less t c = let t = c .before .before .before .before .before .before .before .before .loop-test .taken in omega arith
 
-item-loop-again : (t : ℕ) → item-lts.Need-loop-again (item-knows t) (item-at t) item.Post item-Inv-loop item-μ-loop
+item-loop-again : item-asks item-lts.Need-loop-again
 item-loop-again t c =
-    let a = c .before .before .before .before .before .before .before .before .before .before .before .before .before .before .before .before .before .before .before .before .args in let p = c .before .before .before .before .before .before .before .before .before .before .before .before .before .before .before .before .before .before .before .before .pre .0 in let p0 = c .before .before .before .before .before .before .before .before .before .before .before .before .before .before .before .before .before .before .before .before .pre .1 .0 in let p1 = c .before .before .before .before .before .before .before .before .before .before .before .before .before .before .before .before .before .before .before .before .pre .1 .1 in
+    let start = c .before .before .before .before .before .before .before .before .before .before .before .before .before .before .before .before .before .before .before .before in let a = start .args in let p = start .pre .0 in let p0 = start .pre .1 .0 in let p1 = start .pre .1 .1 in
     let n = c .before .before .before .before .before .before .before .before .before .before .before .before .before .w .given .0 .0 in let o = c .before .before .before .before .before .before .before .before .before .before .past-open in let o1 = ap (λ (r : Run). r .at) (o .ensures) in let o2 = ap (λ (r : Run). r .left) (o .ensures) in let o3 = ap (λ (r : Run). r .used) (o .ensures) in
     let l = c .before .before .before .before .before .before .before .before .before .loop in let y = l .y in let v = l .inv in let v0 = v .0 in let v1 = v .1 in let v2 = v .2 in let v3 = v .3 in let v4 = v .4 in let v5 = v .5 in let v9 = v .9 in let t = c .before .before .before .before .before .before .before .before .loop-test .taken in
     let k = c .before .before .before .before .before .list in let q = k .result in let g1 = k .ensures .1 .1 in let g2 = k .ensures .1 .2 in let len = k .kept .1 .1 .1 .1 .1 .0 in
@@ -188,18 +159,12 @@ item-loop-again t c =
       len ∙ v9,
     )
 
-item-past-close-requires : (t : ℕ) → item-lts.Need-past-close-requires (item-knows t) (item-at t) item.Post item-Inv-loop item-μ-loop
+item-past-close-requires : item-asks item-lts.Need-past-close-requires
 item-past-close-requires t c κs = c .before .loop .inv .3
 
-item-same-length-3 : (t : ℕ) → item-lts.Need-same-length-3 (item-knows t) (item-at t) item.Post item-Inv-loop item-μ-loop
-item-same-length-3 t c = search needs
-
-item-same-length-4 : (t : ℕ) → item-lts.Need-same-length-4 (item-knows t) (item-at t) item.Post item-Inv-loop item-μ-loop
-item-same-length-4 t c = search needs
-
-item-returns-7 : (t : ℕ) → item-lts.Need-returns-7 (item-knows t) (item-at t) item.Post item-Inv-loop item-μ-loop
+item-returns-7 : item-asks item-lts.Need-returns-7
 item-returns-7 t c =
-    let a = c .before .before .before .before .before .before .before .before .before .before .before .before .before .args in let p = c .before .before .before .before .before .before .before .before .before .before .before .before .before .pre .0 in let p0 = c .before .before .before .before .before .before .before .before .before .before .before .before .before .pre .1 .0 in let p1 = c .before .before .before .before .before .before .before .before .before .before .before .before .before .pre .1 .1 in
+    let start = c .before .before .before .before .before .before .before .before .before .before .before .before .before in let a = start .args in let p = start .pre .0 in let p0 = start .pre .1 .0 in let p1 = start .pre .1 .1 in
     let w = sym (c .before .before .before .before .before .before .before .before .word-at .ensures) ∙ c .before .before .before .before .before .before .w .given .1 in let n = c .before .before .before .before .before .before .w .given .0 .0 in let m = runs.opens-room (a .text .now) (a .x .left) (a .x .at) n w in let m0 = m .0 in let m1 = m .1 in let m2 = m .2 in let m3 = m .3 in
     let o = c .before .before .before .past-open in let o1 = ap (λ (r : Run). r .at) (o .ensures) in let o2 = ap (λ (r : Run). r .left) (o .ensures) in let o3 = ap (λ (r : Run). r .used) (o .ensures) in
     let l = c .before .before .loop in let y = l .y in let v = l .inv in let v0 = v .0 in let v1 = v .1 in let v2 = v .2 in let v3 = v .3 in let v4 = v .4 in let v5 = v .5 in let v9 = v .9 in let t = c .before .loop-test .left in
@@ -215,54 +180,46 @@ list-Inv-loop text depth array₀ residue out₀ y₀ array out y =
 abbrev list-μ-loop : list-lts.MeasureT-loop
 list-μ-loop text depth array₀ residue out₀ y₀ array out y = length text - y .at
 
-list-loop-holds : (t : ℕ) → list-lts.Need-loop-holds (list-knows t) (list-at t) list.Post list-Inv-loop list-μ-loop
+-- what a need asks of `list` at the measure t
+abbrev list-asks : (list-lts.Claims → In 4 list-kinds.ps → Out 4 list-kinds.ps list-kinds.r → list-lts.InvT-loop → list-lts.MeasureT-loop → Type 0) → Type 0
+list-asks need = (t : ℕ) → need (list-knows t) (list-at t) list.Post list-Inv-loop list-μ-loop
+
+list-loop-holds : list-asks list-lts.Need-loop-holds
 list-loop-holds t c =
-    let a = c .before .before .before .before .args in let p = c .before .before .before .before .pre .0 in let p0 = c .before .before .before .before .pre .1 .0 in let p1 = c .before .before .before .before .pre .1 .1 in
+    let start = c .before .before .before .before in let a = start .args in let p = start .pre .0 in let p0 = start .pre .1 .0 in let p1 = start .pre .1 .1 in
     (p0, p1, omega arith, runs.leads-none (a .depth) (a .text .now) (a .x) (a .array .now) (a .residue .now) (a .out .now), refl, refl)
 
-list-item-requires : (t : ℕ) → list-lts.Need-item-requires (list-knows t) (list-at t) list.Post list-Inv-loop list-μ-loop
+list-item-requires : list-asks list-lts.Need-item-requires
 list-item-requires t c κs =
-    let a = c .before .before .before .before .before .before .before .before .before .args in let p = c .before .before .before .before .before .before .before .before .before .pre .0 in let p0 = c .before .before .before .before .before .before .before .before .before .pre .1 .0 in let p1 = c .before .before .before .before .before .before .before .before .before .pre .1 .1 in
+    let start = c .before .before .before .before .before .before .before .before .before in let a = start .args in let p = start .pre .0 in let p0 = start .pre .1 .0 in let p1 = start .pre .1 .1 in
     let l = c .before .before .before .before .loop in let y = l .y in let v = l .inv in let v0 = v .0 in let v1 = v .1 in let v2 = v .2 in let v5 = v .5 in
     (omega arith, (v0, v1))
 
-list-same-length : (t : ℕ) → list-lts.Need-same-length (list-knows t) (list-at t) list.Post list-Inv-loop list-μ-loop
-list-same-length t c = search needs
-
-list-same-length-2 : (t : ℕ) → list-lts.Need-same-length-2 (list-knows t) (list-at t) list.Post list-Inv-loop list-μ-loop
-list-same-length-2 t c = search needs
-
-list-returns : (t : ℕ) → list-lts.Need-returns (list-knows t) (list-at t) list.Post list-Inv-loop list-μ-loop
+list-returns : list-asks list-lts.Need-returns
 list-returns t c =
-    let a = c .before .before .before .before .before .before .before .before .before .before .before .before .before .before .before .before .before .args in let p = c .before .before .before .before .before .before .before .before .before .before .before .before .before .before .before .before .before .pre .0 in let p0 = c .before .before .before .before .before .before .before .before .before .before .before .before .before .before .before .before .before .pre .1 .0 in let p1 = c .before .before .before .before .before .before .before .before .before .before .before .before .before .before .before .before .before .pre .1 .1 in
+    let start = c .before .before .before .before .before .before .before .before .before .before .before .before .before .before .before .before .before in let a = start .args in let p = start .pre .0 in let p0 = start .pre .1 .0 in let p1 = start .pre .1 .1 in
     let l = c .before .before .before .before .before .before .before .before .before .before .before .before .loop in let y = l .y in let v = l .inv in let v0 = v .0 in let v1 = v .1 in let v2 = v .2 in let v5 = v .5 in
     let k = c .before .before .before .before .before .before .before .item in let z = k .result in let g = k .ensures .1 in let g1 = g .1 in let g2 = g .2 in let len = k .kept .1 .1 .1 .1 .1 .0 in
     (runs.leads-end (a .depth) (a .text .now) (a .x) y z (a .array .now) (a .residue .now) (a .out .now) (l .array) (l .out) (k .last .1 .1 .1 .0) (k .last .1 .1 .1 .1 .1 .0) (v .3) (k .ensures .0) (c .if2 .taken), (g .0, omega arith, omega arith))
 
-list-loop-less : (t : ℕ) → list-lts.Need-loop-less (list-knows t) (list-at t) list.Post list-Inv-loop list-μ-loop
+list-loop-less : list-asks list-lts.Need-loop-less
 list-loop-less t c =
-    let a = c .before .before .before .before .before .before .before .before .before .before .before .before .before .before .before .before .before .args in let p = c .before .before .before .before .before .before .before .before .before .before .before .before .before .before .before .before .before .pre .0 in let p0 = c .before .before .before .before .before .before .before .before .before .before .before .before .before .before .before .before .before .pre .1 .0 in let p1 = c .before .before .before .before .before .before .before .before .before .before .before .before .before .before .before .before .before .pre .1 .1 in
+    let start = c .before .before .before .before .before .before .before .before .before .before .before .before .before .before .before .before .before in let a = start .args in let p = start .pre .0 in let p0 = start .pre .1 .0 in let p1 = start .pre .1 .1 in
     let l = c .before .before .before .before .before .before .before .before .before .before .before .before .loop in let y = l .y in let v = l .inv in let v0 = v .0 in let v1 = v .1 in let v2 = v .2 in let v5 = v .5 in
     let k = c .before .before .before .before .before .before .before .item in let g = k .ensures .1 in let g0 = g .0 in let f = runs.below (y .at) (k .result .at) (g .1) (λ (e : y .at ≡ k .result .at). c .if2 .left (sym e)) in
     omega arith
 
-list-loop-again : (t : ℕ) → list-lts.Need-loop-again (list-knows t) (list-at t) list.Post list-Inv-loop list-μ-loop
+list-loop-again : list-asks list-lts.Need-loop-again
 list-loop-again t c =
-    let a = c .before .before .before .before .before .before .before .before .before .before .before .before .before .before .before .before .before .args in let p = c .before .before .before .before .before .before .before .before .before .before .before .before .before .before .before .before .before .pre .0 in let p0 = c .before .before .before .before .before .before .before .before .before .before .before .before .before .before .before .before .before .pre .1 .0 in let p1 = c .before .before .before .before .before .before .before .before .before .before .before .before .before .before .before .before .before .pre .1 .1 in
+    let start = c .before .before .before .before .before .before .before .before .before .before .before .before .before .before .before .before .before in let a = start .args in let p = start .pre .0 in let p0 = start .pre .1 .0 in let p1 = start .pre .1 .1 in
     let l = c .before .before .before .before .before .before .before .before .before .before .before .before .loop in let y = l .y in let v = l .inv in let v0 = v .0 in let v1 = v .1 in let v2 = v .2 in let v5 = v .5 in
     let k = c .before .before .before .before .before .before .before .item in let z = k .result in let g = k .ensures .1 in let g1 = g .1 in let g2 = g .2 in let len = k .kept .1 .1 .1 .1 .1 .0 in
     let f = runs.below (y .at) (z .at) g1 (λ (e : y .at ≡ z .at). c .if2 .left (sym e)) in
     (g .0, omega arith, omega arith, runs.leads-item (a .depth) (a .text .now) (a .x) y z (a .array .now) (a .residue .now) (a .out .now) (l .array) (l .out) (k .last .1 .1 .1 .0) (k .last .1 .1 .1 .1 .1 .0) (v .3) (k .ensures .0) f, k .kept .1 .1 .1 .0 ∙ v .4, len ∙ v5)
 
-list-same-length-3 : (t : ℕ) → list-lts.Need-same-length-3 (list-knows t) (list-at t) list.Post list-Inv-loop list-μ-loop
-list-same-length-3 t c = search needs
-
-list-same-length-4 : (t : ℕ) → list-lts.Need-same-length-4 (list-knows t) (list-at t) list.Post list-Inv-loop list-μ-loop
-list-same-length-4 t c = search needs
-
-list-returns-2 : (t : ℕ) → list-lts.Need-returns-2 (list-knows t) (list-at t) list.Post list-Inv-loop list-μ-loop
+list-returns-2 : list-asks list-lts.Need-returns-2
 list-returns-2 t c =
-    let a = c .before .before .before .before .before .before .before .args in let p = c .before .before .before .before .before .before .before .pre .0 in let p0 = c .before .before .before .before .before .before .before .pre .1 .0 in let p1 = c .before .before .before .before .before .before .before .pre .1 .1 in
+    let start = c .before .before .before .before .before .before .before in let a = start .args in let p = start .pre .0 in let p0 = start .pre .1 .0 in let p1 = start .pre .1 .1 in
     let l = c .before .before .loop in let y = l .y in let v = l .inv in let v0 = v .0 in let v1 = v .1 in let v2 = v .2 in let v5 = v .5 in
     (runs.leads-to (a .depth) (a .text .now) (a .x) y y (a .array .now) (a .residue .now) (a .out .now) (l .array) (l .out) (l .array) (l .out) (v .3) (runs.run-over (a .depth) (a .text .now) y (l .array) (a .residue .now) (l .out) (c .if1 .left)), (v0, v2, omega arith))
 
@@ -272,33 +229,33 @@ pub +item+list-spec : {M : Type 1} → statement M
     item.Post
     item-Inv-loop
     item-μ-loop
-    (item-word-at-requires t)
-    (item-enum-told t)
+    (λ c κs. search needs)
+    (λ c. search needs)
     (item-returns t)
-    (item-enum-told-2 t)
+    (λ c. search needs)
     (item-returns-2 t)
-    (item-enum-told-3 t)
+    (λ c. search needs)
     (item-returns-3 t)
-    (item-enum-told-4 t)
-    (item-sub-if1 t)
+    (λ c. search needs)
+    (λ c. search needs)
     (item-returns-4 t)
     (item-answered-requires t)
-    (item-same-length t)
-    (item-same-length-2 t)
+    (λ c. search needs)
+    (λ c. search needs)
     (item-returns-5 t)
-    (item-enum-known-w t)
+    (λ c. search needs)
     (item-returns-6 t)
     (item-past-open-requires t)
     (item-loop-holds t)
-    (item-sub-list t)
+    (λ c. search needs)
     (item-list-requires t)
-    (item-back-requires t)
+    (λ c κs. search needs)
     (item-add-i t)
     (item-loop-less t)
     (item-loop-again t)
     (item-past-close-requires t)
-    (item-same-length-3 t)
-    (item-same-length-4 t)
+    (λ c. search needs)
+    (λ c. search needs)
     (item-returns-7 t))
     λ t. list-lts.spec (list-knows t)
     (list-at t)
@@ -307,11 +264,11 @@ pub +item+list-spec : {M : Type 1} → statement M
     list-μ-loop
     (list-loop-holds t)
     (list-item-requires t)
-    (list-same-length t)
-    (list-same-length-2 t)
+    (λ c. search needs)
+    (λ c. search needs)
     (list-returns t)
     (list-loop-less t)
     (list-loop-again t)
-    (list-same-length-3 t)
-    (list-same-length-4 t)
+    (λ c. search needs)
+    (λ c. search needs)
     (list-returns-2 t)
