@@ -24,7 +24,7 @@ use Rattle.loader_run.proofs.Turning.{turn-ended, turn-going}
 use Rattle.loader_run_claims.specs.Made.{madeIn, readsThen, openingThen}
 use Rattle.loader_held_claims.specs.HeldMade.{pollsErase}
 use Rattle.loader_held_claims.proofs.Lifting.{quietIn}
-use Rattle.loader_held_claims.proofs.QuietTurns.{late, late-next, onward-late}
+use Rattle.loader_held_claims.proofs.QuietTurns.{late, late-next, none-polls, onward-late}
 
 -- the stages outside an erase
 abbrev pub outside : Stage → Bool
@@ -117,20 +117,6 @@ abbrev pub noAsk : List Cycle → Bool
 noAsk [] = true
 noAsk (c ∷ cs) = not (eqb (c .data) 0x20) && noAsk cs
 
-asks-going : (s : Stage) → asks s ≡ true → isEnded s ≡ false
-asks-going Clearing e = refl
-asks-going Opening e = refl
-asks-going Reading e = refl
-asks-going EraseAsking e = refl
-asks-going EraseConfirming e = refl
-asks-going EraseWaiting e = refl
-asks-going ProgramAsking e = refl
-asks-going ProgramSending e = refl
-asks-going ProgramWaiting e = refl
-asks-going Closing e = refl
-asks-going Verifying e = refl
-asks-going (Ended n) e = absurd (unlike (sym e))
-
 asks-is : (s : Stage) → asks s ≡ true → s ≡ EraseAsking
 asks-is Clearing e = absurd (unlike (sym e))
 asks-is Opening e = absurd (unlike (sym e))
@@ -145,19 +131,11 @@ asks-is Closing e = absurd (unlike (sym e))
 asks-is Verifying e = absurd (unlike (sym e))
 asks-is (Ended n) e = absurd (unlike (sym e))
 
+asks-going : (s : Stage) → asks s ≡ true → isEnded s ≡ false
+asks-going s e = ap isEnded (asks-is s e)
+
 near-quiet : (s : Stage) → near s ≡ true → pollsErase s ≡ false
-near-quiet Clearing e = refl
-near-quiet Opening e = refl
-near-quiet Reading e = refl
-near-quiet EraseAsking e = refl
-near-quiet EraseConfirming e = refl
-near-quiet EraseWaiting e = absurd (unlike (sym e))
-near-quiet ProgramAsking e = refl
-near-quiet ProgramSending e = refl
-near-quiet ProgramWaiting e = refl
-near-quiet Closing e = refl
-near-quiet Verifying e = refl
-near-quiet (Ended n) e = refl
+near-quiet = none-polls near refl
 
 -- turns from outside an erase that make no cycle with 20H are quiet
 module _ (d : Device) (w : List ℕ) where

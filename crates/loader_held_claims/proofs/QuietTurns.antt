@@ -64,32 +64,29 @@ verify-late l v w =
     (λ e. if-ind (λ (x : Loader). late (x .stage) ≡ true) (ltb (l .place) (length w - 1)) _ _ (λ f. refl) (λ f. refl)) (λ e. refl)
 
 late-way : (s : Stage) → late s ≡ true → way s ≡ true
-late-way Clearing e = absurd (unlike (sym e))
-late-way Opening e = absurd (unlike (sym e))
-late-way Reading e = absurd (unlike (sym e))
-late-way EraseAsking e = absurd (unlike (sym e))
-late-way EraseConfirming e = absurd (unlike (sym e))
-late-way EraseWaiting e = refl
-late-way ProgramAsking e = refl
-late-way ProgramSending e = refl
-late-way ProgramWaiting e = refl
-late-way Closing e = refl
-late-way Verifying e = refl
-late-way (Ended n) e = refl
+late-way s e = ap (λ (b : Bool). pollsErase s || b) e ∙ or-yes (pollsErase s)
+  where
+    or-yes : (b : Bool) → (b || true) ≡ true
+    or-yes true = refl
+    or-yes false = refl
+
+-- stages among which the erase's poll is not are quiet
+pub none-polls : (P : Stage → Bool) → P EraseWaiting ≡ false → (s : Stage) → P s ≡ true → pollsErase s ≡ false
+none-polls P h Clearing e = refl
+none-polls P h Opening e = refl
+none-polls P h Reading e = refl
+none-polls P h EraseAsking e = refl
+none-polls P h EraseConfirming e = refl
+none-polls P h EraseWaiting e = absurd (unlike (sym e ∙ h))
+none-polls P h ProgramAsking e = refl
+none-polls P h ProgramSending e = refl
+none-polls P h ProgramWaiting e = refl
+none-polls P h Closing e = refl
+none-polls P h Verifying e = refl
+none-polls P h (Ended n) e = refl
 
 pub late-quiet : (s : Stage) → late s ≡ true → pollsErase s ≡ false
-late-quiet Clearing e = refl
-late-quiet Opening e = refl
-late-quiet Reading e = refl
-late-quiet EraseAsking e = refl
-late-quiet EraseConfirming e = refl
-late-quiet EraseWaiting e = absurd (unlike (sym e))
-late-quiet ProgramAsking e = refl
-late-quiet ProgramSending e = refl
-late-quiet ProgramWaiting e = refl
-late-quiet Closing e = refl
-late-quiet Verifying e = refl
-late-quiet (Ended n) e = refl
+late-quiet = none-polls late refl
 
 poll-way : (l : Loader) (b : ℕ) (w sc : List ℕ) → way (erasePolled l b w sc .stage) ≡ true
 unfolding erasePolled pollMore
