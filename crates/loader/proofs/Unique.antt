@@ -9,7 +9,7 @@ use Rattle.loader.specs.declared.Stage.{Stage}
 use Rattle.loader.specs.declared.Loader.{Loader}
 use Rattle.loader.specs.declared.StageIs.{StageIs}
 use Rattle.loader.specs.Stages.{stageIs}
-use Rattle.loader.specs.Moves.{movedTo, endedBy, isReady, eraseFault, programFault, afterRead, erasePolled, programPolled, verifyMore, nextIn}
+use Rattle.loader.specs.Moves.{movedTo, endedBy, isReady, eraseFault, programFault, afterRead, erasePolled, programPolled, verifyMore}
 
 pub stage-is-unique : (stage : Stage) → Unique (λ (r : StageIs). r ≡ stageIs stage)
 stage-is-unique stage = only (stageIs stage)
@@ -40,6 +40,3 @@ program-polled-unique l b w sc = only (programPolled l b w sc)
 
 pub verify-more-unique : (l : Loader) (b : ℕ) (w : List ℕ) → Unique (λ (r : Loader). r ≡ verifyMore l b w)
 verify-more-unique l b w = only (verifyMore l b w)
-
-pub next-unique : (stage : Stage) (l : Loader) (b : ℕ) (w sc : List ℕ) → Unique (λ (r : Loader). r ≡ nextIn stage l b w sc)
-next-unique stage l b w sc = only (nextIn stage l b w sc)

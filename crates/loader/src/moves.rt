@@ -11,7 +11,7 @@ use model_types::states::SR7;
 ghost use mathlib.Core.Path.{_≡_};
 ghost use Prim.Native.Nat.{_-_};
 ghost use Rattle.units.specs.Units.{units};
-ghost use Rattle.loader.specs.Moves.{movedTo, endedBy, endedApart, isReady, sr3, sr4, sr5, bothErrors, eraseFault, programFault, loadedStage, onward, afterReads, afterRead, pollMore, erasePolled, programPolled, verifyMore, nextIn};
+ghost use Rattle.loader.specs.Moves.{movedTo, endedBy, endedApart, isReady, sr3, sr4, sr5, bothErrors, eraseFault, programFault, loadedStage, onward, afterReads, afterRead, pollMore, erasePolled, programPolled, verifyMore};
 ghost use Rattle.loader.specs.Inner.{past};
 
 // The record at another stage, place and count of polls.
@@ -245,24 +245,4 @@ pub fn verify_more(l: Loader, v: u16, wanted: &[u8]) -> Loader
         return ended_by(l, 0);
     }
     ended_apart(l, v, want)
-}
-
-// The record after a read's data. A status is in their low 8 bits.
-pub fn next(stage: Stage, l: Loader, v: u16, wanted: &[u8], scratch: &[u8]) -> Loader
-    ensures { λ r. ⌜ r ≡ nextIn stage l v (units (l .part .word) (now (wanted .entry))) (units (l .part .word) (now (scratch .entry))) ⌝ }
-{
-    match stage {
-        Stage::Clearing => moved(l, Stage::Opening, 0, 0),
-        Stage::Opening => moved(l, Stage::Reading, 0, 0),
-        Stage::Reading => read_more(l, wanted, scratch),
-        Stage::EraseAsking => moved(l, Stage::EraseConfirming, 0, 0),
-        Stage::EraseConfirming => moved(l, Stage::EraseWaiting, 0, 0),
-        Stage::EraseWaiting => erase_polled(l, units::low(v), wanted, scratch),
-        Stage::ProgramAsking => moved(l, Stage::ProgramSending, l.place, 0),
-        Stage::ProgramSending => moved(l, Stage::ProgramWaiting, l.place, 0),
-        Stage::ProgramWaiting => program_polled(l, units::low(v), wanted, scratch),
-        Stage::Closing => moved(l, Stage::Verifying, 0, 0),
-        Stage::Verifying => verify_more(l, v, wanted),
-        Stage::Ended(_) => l,
-    }
 }

@@ -1,7 +1,4 @@
 // The loader run against the model: the cycles are made one after the other until the load ends, and counted.
-mod taking;
-
-use crate::taking::take;
 use device::Device;
 use device::Part;
 use loader::Loader;
@@ -13,6 +10,7 @@ use loader_steps::front::record_at;
 use loader_steps::front::setup_number;
 use loader_steps::outs::cycle_in;
 use loader_steps::outs::first;
+use loader_steps::stores::advance;
 use model::Seen;
 use model_types::Phase;
 use model_types::Pins;
@@ -87,7 +85,7 @@ fn taken(seen: Seen, l: Loader, wanted: &[u8], scratch: &mut [u8]) -> Loader
         return ended_by(l, refusal_in(seen));
     }
     let v = number_in(seen);
-    take(l, v, wanted, scratch)
+    advance(l, v, wanted, scratch)
 }
 
 // The address of the unit at the record's place, by the block's first address.

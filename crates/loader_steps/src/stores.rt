@@ -1,15 +1,20 @@
-// A read's data taken: what they do to scratch, and then the record after them.
+// A read's data taken: what they do to scratch, and the record after them, which reads the new scratch.
 use device::Part;
 use loader::Loader;
 use loader::Stage;
 use loader::moves::erase_fault;
+use loader::moves::erase_polled;
 use loader::moves::is_ready;
-use loader::moves::next;
+use loader::moves::moved;
 use loader::moves::program_fault;
+use loader::moves::program_polled;
+use loader::moves::read_more;
+use loader::moves::verify_more;
 ghost use mathlib.Core.Path.{_≡_};
-ghost use Rattle.units.specs.Units.{units, spare};
-ghost use Rattle.loader.specs.Moves.{nextOf};
-ghost use Rattle.loader_steps.specs.Stores.{erasedWell, eraseStored, programmedWell, programStored, storeIn, storeOf};
+ghost use lib.ListN.{set};
+ghost use Rattle.units.specs.Units.{units, spare, carried};
+ghost use Rattle.loader.specs.Moves.{afterRead, erasePolled, programPolled, verifyMore, nextOf};
+ghost use Rattle.loader_steps.specs.Stores.{erasedWell, eraseStored, programmedWell, programStored, storeOf};
 
 fn erased_well(b: u8) -> bool
     ensures { λ r. ⌜ r ≡ erasedWell b ⌝ }
@@ -46,30 +51,54 @@ pub fn store_program(word: bool, place: usize, b: u8, wanted: &[u8], scratch: &m
     }
 }
 
-// What the data do to scratch.
-fn store(stage: Stage, part: Part, place: usize, v: u16, wanted: &[u8], scratch: &mut [u8])
-    ensures { λ _. ⌜ units (part .word) (now (scratch .exit))
-        ≡ storeIn stage part place v (units (part .word) (now (wanted .entry))) (units (part .word) (now (scratch .entry))) ⌝ }
-    ensures { λ _. ⌜ spare (part .word) (now (scratch .exit)) ≡ spare (part .word) (now (scratch .entry)) ⌝ }
+// A unit of the first reads.
+fn take_read(l: Loader, v: u16, wanted: &[u8], scratch: &mut [u8]) -> Loader
+    ensures { λ r. ⌜ r ≡ afterRead l (units (l .part .word) (now (wanted .entry))) (set (units (l .part .word) (now (scratch .entry))) (l .place) (carried (l .part .word) v)) ⌝ }
+    ensures { λ _. ⌜ units (l .part .word) (now (scratch .exit)) ≡ set (units (l .part .word) (now (scratch .entry))) (l .place) (carried (l .part .word) v) ⌝ }
+    ensures { λ _. ⌜ spare (l .part .word) (now (scratch .exit)) ≡ spare (l .part .word) (now (scratch .entry)) ⌝ }
 {
+    let part = l.part;
     let word = part.word;
-    match stage {
-        Stage::Clearing => {}
-        Stage::Opening => {}
-        Stage::Reading => units::put_unit(word, scratch, place, v),
-        Stage::EraseAsking => {}
-        Stage::EraseConfirming => {}
-        Stage::EraseWaiting => store_erase(part, units::low(v), scratch),
-        Stage::ProgramAsking => {}
-        Stage::ProgramSending => {}
-        Stage::ProgramWaiting => store_program(word, place, units::low(v), wanted, scratch),
-        Stage::Closing => {}
-        Stage::Verifying => units::put_unit(word, scratch, place, v),
-        Stage::Ended(_) => {}
-    }
+    units::put_unit(word, scratch, l.place, v);
+    read_more(l, wanted, scratch)
 }
 
-// A read's data taken: scratch first, then the record, which reads the new scratch.
+// A poll of the erase.
+fn take_erase(l: Loader, b: u8, wanted: &[u8], scratch: &mut [u8]) -> Loader
+    ensures { λ r. ⌜ r ≡ erasePolled l b (units (l .part .word) (now (wanted .entry))) (eraseStored (l .part) b (units (l .part .word) (now (scratch .entry)))) ⌝ }
+    ensures { λ _. ⌜ units (l .part .word) (now (scratch .exit)) ≡ eraseStored (l .part) b (units (l .part .word) (now (scratch .entry))) ⌝ }
+    ensures { λ _. ⌜ spare (l .part .word) (now (scratch .exit)) ≡ spare (l .part .word) (now (scratch .entry)) ⌝ }
+{
+    let part = l.part;
+    store_erase(part, b, scratch);
+    erase_polled(l, b, wanted, scratch)
+}
+
+// A poll of a program.
+fn take_program(l: Loader, b: u8, wanted: &[u8], scratch: &mut [u8]) -> Loader
+    ensures { λ r. ⌜ r ≡ programPolled l b (units (l .part .word) (now (wanted .entry))) (programStored (l .place) b (units (l .part .word) (now (wanted .entry))) (units (l .part .word) (now (scratch .entry)))) ⌝ }
+    ensures { λ _. ⌜ units (l .part .word) (now (scratch .exit)) ≡ programStored (l .place) b (units (l .part .word) (now (wanted .entry))) (units (l .part .word) (now (scratch .entry))) ⌝ }
+    ensures { λ _. ⌜ spare (l .part .word) (now (scratch .exit)) ≡ spare (l .part .word) (now (scratch .entry)) ⌝ }
+{
+    let part = l.part;
+    let word = part.word;
+    store_program(word, l.place, b, wanted, scratch);
+    program_polled(l, b, wanted, scratch)
+}
+
+// A unit of the verify.
+fn take_verify(l: Loader, v: u16, wanted: &[u8], scratch: &mut [u8]) -> Loader
+    ensures { λ r. ⌜ r ≡ verifyMore l v (units (l .part .word) (now (wanted .entry))) ⌝ }
+    ensures { λ _. ⌜ units (l .part .word) (now (scratch .exit)) ≡ set (units (l .part .word) (now (scratch .entry))) (l .place) (carried (l .part .word) v) ⌝ }
+    ensures { λ _. ⌜ spare (l .part .word) (now (scratch .exit)) ≡ spare (l .part .word) (now (scratch .entry)) ⌝ }
+{
+    let part = l.part;
+    let word = part.word;
+    units::put_unit(word, scratch, l.place, v);
+    verify_more(l, v, wanted)
+}
+
+// A read's data taken: the one place that says where each stage goes.
 pub fn advance(l: Loader, v: u16, wanted: &[u8], scratch: &mut [u8]) -> Loader
     ensures { λ r. ⌜ r
         ≡ nextOf l v (units (l .part .word) (now (wanted .entry))) (storeOf l v (units (l .part .word) (now (wanted .entry))) (units (l .part .word) (now (scratch .entry)))) ⌝ }
@@ -78,7 +107,18 @@ pub fn advance(l: Loader, v: u16, wanted: &[u8], scratch: &mut [u8]) -> Loader
     ensures { λ _. ⌜ spare (l .part .word) (now (scratch .exit)) ≡ spare (l .part .word) (now (scratch .entry)) ⌝ }
 {
     let stage = l.stage;
-    let part = l.part;
-    store(stage, part, l.place, v, wanted, scratch);
-    next(stage, l, v, wanted, scratch)
+    match stage {
+        Stage::Clearing => moved(l, Stage::Opening, 0, 0),
+        Stage::Opening => moved(l, Stage::Reading, 0, 0),
+        Stage::Reading => take_read(l, v, wanted, scratch),
+        Stage::EraseAsking => moved(l, Stage::EraseConfirming, 0, 0),
+        Stage::EraseConfirming => moved(l, Stage::EraseWaiting, 0, 0),
+        Stage::EraseWaiting => take_erase(l, units::low(v), wanted, scratch),
+        Stage::ProgramAsking => moved(l, Stage::ProgramSending, l.place, 0),
+        Stage::ProgramSending => moved(l, Stage::ProgramWaiting, l.place, 0),
+        Stage::ProgramWaiting => take_program(l, units::low(v), wanted, scratch),
+        Stage::Closing => moved(l, Stage::Verifying, 0, 0),
+        Stage::Verifying => take_verify(l, v, wanted, scratch),
+        Stage::Ended(_) => l,
+    }
 }

@@ -29,8 +29,8 @@ returns c =
 number-in-requires : tie.Need-number-in-requires
 number-in-requires c κs = search needs
 
-take-requires : tie.Need-take-requires
-take-requires c κs = search needs
+advance-requires : tie.Need-advance-requires
+advance-requires c κs = search needs
 
 same-length : tie.Need-same-length
 same-length c = search needs
@@ -43,7 +43,7 @@ returns-2 c =
     let e = sym (c .before .before .before .before .before .before .is-refused .ensures) ∙ c .before .before .before .before .before .if1 .left in
     let n : c .before .before .before .before .number-in .result ≡ numberIn (a .seen) = c .before .before .before .before .number-in .ensures in
     let t = took (a .seen) (a .l) w sc e in
-    (c .before .before .take .ensures .0 ∙ ap (λ (m : ℕ). nextOf (a .l) m w (storeOf (a .l) m w sc)) n ∙ sym (t .0), c .before .before .take .ensures .1 ∙ ap (λ (m : ℕ). storeOf (a .l) m w sc) n ∙ sym (t .1))
+    (c .before .before .advance .ensures .0 ∙ ap (λ (m : ℕ). nextOf (a .l) m w (storeOf (a .l) m w sc)) n ∙ sym (t .0), c .before .before .advance .ensures .1 .0 ∙ ap (λ (m : ℕ). storeOf (a .l) m w sc) n ∙ sym (t .1))
 
 pub taken-spec : {M : Type 1} → statement M
 taken-spec =
@@ -54,6 +54,6 @@ taken-spec =
     ended-by-requires
     returns
     number-in-requires
-    take-requires
+    advance-requires
     same-length
     returns-2)

@@ -4,8 +4,8 @@ use Prim.Native.Nat.{ℕ}
 use Rattle.loader.specs.Moves.{afterRead}
 use Rattle.units.specs.Units.{units}
 use borrow.Author.Needs.{needs}
-use Rattle.loader_run.proofs.taking.take_read.Statement.{statement}
-use Rattle.loader_run.proofs.taking.take_read.Tie as tie
+use Rattle.loader_steps.proofs.stores.take_read.Statement.{statement}
+use Rattle.loader_steps.proofs.stores.take_read.Tie as tie
 
 put-unit-requires : tie.Need-put-unit-requires
 put-unit-requires c κs = search needs
@@ -19,8 +19,8 @@ same-length c = search needs
 returns : tie.Need-returns
 returns c =
     let a = c .before .before .before .before .before .before .before .before .before .args in
-    let e = c .before .before .before .before .put-unit .ensures .0 in
-    (c .read-more .ensures ∙ ap (λ (z : List ℕ). afterRead (a .l) (units (a .l .part .word) (a .wanted .now)) z) e, e)
+    let e = c .before .before .before .before .put-unit .ensures in
+    (c .read-more .ensures ∙ ap (λ (z : List ℕ). afterRead (a .l) (units (a .l .part .word) (a .wanted .now)) z) (e .0), (e .0, e .1))
 
 pub take-read-spec : {M : Type 1} → statement M
 take-read-spec = tie.close (tie.spec put-unit-requires read-more-requires same-length returns)

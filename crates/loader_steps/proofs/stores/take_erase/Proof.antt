@@ -4,8 +4,8 @@ use Prim.Native.Nat.{ℕ}
 use Rattle.loader.specs.Moves.{erasePolled}
 use Rattle.units.specs.Units.{units}
 use borrow.Author.Needs.{needs}
-use Rattle.loader_run.proofs.taking.take_erase.Statement.{statement}
-use Rattle.loader_run.proofs.taking.take_erase.Tie as tie
+use Rattle.loader_steps.proofs.stores.take_erase.Statement.{statement}
+use Rattle.loader_steps.proofs.stores.take_erase.Tie as tie
 
 store-erase-requires : tie.Need-store-erase-requires
 store-erase-requires c κs = search needs
@@ -19,8 +19,8 @@ same-length c = search needs
 returns : tie.Need-returns
 returns c =
     let a = c .before .before .before .before .before .before .before .before .before .args in
-    let e = c .before .before .before .before .store-erase .ensures .0 in
-    (c .erase-polled .ensures ∙ ap (λ (z : List ℕ). erasePolled (a .l) (a .b) (units (a .l .part .word) (a .wanted .now)) z) e, e)
+    let e = c .before .before .before .before .store-erase .ensures in
+    (c .erase-polled .ensures ∙ ap (λ (z : List ℕ). erasePolled (a .l) (a .b) (units (a .l .part .word) (a .wanted .now)) z) (e .0), (e .0, e .1))
 
 pub take-erase-spec : {M : Type 1} → statement M
 take-erase-spec =

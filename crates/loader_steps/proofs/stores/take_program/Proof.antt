@@ -4,8 +4,8 @@ use Prim.Native.Nat.{ℕ}
 use Rattle.loader.specs.Moves.{programPolled}
 use Rattle.units.specs.Units.{units}
 use borrow.Author.Needs.{needs}
-use Rattle.loader_run.proofs.taking.take_program.Statement.{statement}
-use Rattle.loader_run.proofs.taking.take_program.Tie as tie
+use Rattle.loader_steps.proofs.stores.take_program.Statement.{statement}
+use Rattle.loader_steps.proofs.stores.take_program.Tie as tie
 
 store-program-requires : tie.Need-store-program-requires
 store-program-requires c κs = search needs
@@ -19,8 +19,8 @@ same-length c = search needs
 returns : tie.Need-returns
 returns c =
     let a = c .before .before .before .before .before .before .before .before .before .args in
-    let e = c .before .before .before .before .store-program .ensures .0 in
-    (c .program-polled .ensures ∙ ap (λ (z : List ℕ). programPolled (a .l) (a .b) (units (a .l .part .word) (a .wanted .now)) z) e, e)
+    let e = c .before .before .before .before .store-program .ensures in
+    (c .program-polled .ensures ∙ ap (λ (z : List ℕ). programPolled (a .l) (a .b) (units (a .l .part .word) (a .wanted .now)) z) (e .0), (e .0, e .1))
 
 pub take-program-spec : {M : Type 1} → statement M
 take-program-spec =
