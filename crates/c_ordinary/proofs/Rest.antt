@@ -1,5 +1,5 @@
--- An ordinary cycle of a device at rest: refusals 1 to 6 do not apply, nothing is settled, and kind, mode and command tell the answer.
-use mathlib.Core.Path.{_≡_, refl, sym, ap, _∙_}
+-- An ordinary cycle of a device at rest: nothing is settled, and kind, mode and command tell the answer.
+use mathlib.Core.Path.{_≡_, refl, sym, ap, subst, _∙_}
 use mathlib.Core.Bool.{Bool, true, false, not, _&&_, _||_}
 use mathlib.Core.List.{List}
 use Prim.Native.Nat.{ℕ, _/_, _%_, _≤_, _<_}
@@ -7,10 +7,10 @@ use native.Mathlib.Omega.{arith}
 use lib.ListN.{length, getD}
 use lib.Dec.{eqb, ltb, leb}
 use lib.Bits.{bitAnd}
-use borrow.Author.Tests.{eq-eqb, le-ltb, lt-leb}
+use borrow.Author.Tests.{eqb-true, eqb-false, not-true, not-false, le-ltb}
 use Rattle.common.specs.Choice.{if_then_else_}
 use Rattle.common.specs.Lists.{Bytes}
-use Rattle.common.proofs.Choice.{if-true, if-false, and-none}
+use Rattle.common.proofs.Choice.{if-true, if-false, if-ind, and-none, unlike}
 use Rattle.units.specs.Units.{units, spare, lent, lentIn, unitsIn}
 use Rattle.units.proofs.Widths.{lent-length, lent-whole, lent-even}
 use Rattle.device.specs.declared.Part.{Part}
@@ -48,16 +48,10 @@ use Rattle.c_cycle.specs.declared.StateNumbers.{StateNumbers}
 use Rattle.c_cycle.specs.declared.BusNumbers.{BusNumbers}
 use Rattle.c_cycle.specs.declared.AnswerNumbers.{AnswerNumbers}
 use Rattle.c_cycle.proofs.Border.{mode-number}
-use Rattle.c_ordinary.specs.Ordinary.{Ordinary, Resting, quietAs, shownAs}
-
--- OE# low is a level of every kind
-oe-low : (part : Part) (k : Kind) → badOe part k 0 ≡ false
-oe-low part Read = refl
-oe-low part Write = go (mostOe part)
-  where
-    go : (m : ℕ) → ltb m 0 ≡ false
-    go m = le-ltb m 0 (omega arith)
-oe-low part Idle = refl
+use Rattle.c_ordinary.specs.Ordinary.{Ordinary, Resting, quietAs, shownAs, commandedOf}
+use Rattle.c_ordinary.specs.declared.Commanded.{Commanded}
+use Rattle.c_ordinary.proofs.Passing.{Stands}
+use Rattle.c_ordinary.proofs.Passing as passing
 
 module _ (n : StateNumbers) (r : Resting n) where
   -- the state that the numbers stand for
@@ -94,59 +88,33 @@ module _ (d : DeviceNumbers) (n : StateNumbers) (b : BusNumbers) (xs rs : List �
   abbrev S : State
   S = rest n r
 
-  abbrev wide : Bool
-  wide = D .part .word
-
-  oe-is : C .oe ≡ 0
-  unfolding oeIn
-  oe-is = if-false (ltb 2 (b .kind)) 2 (b .oe) (le-ltb 2 (b .kind) (o .kind)) ∙ o .oe
-
-  levels : badLevels (D .part) C ≡ false
-  unfolding badLevels
-  levels = simp (o .pins, ap (λ (x : ℕ). badOe (D .part) (C .kind) x) oe-is ∙ oe-low (D .part) (C .kind))
-
-  inside : pastArray (D .part) C ≡ false
-  unfolding pastArray
-  inside = simp (lt-leb (sizeOf (D .part)) (b .address) (o .inside))
+  abbrev word : Bool
+  word = D .part .word
 
   enough : (k : ℕ) → shortResidue (D .part) S C k ≡ false
   unfolding shortResidue
   enough k = simp (le-ltb k 0 (omega arith), and-none (rpLow (C .pins) || vppLow (D .part) (C .pins)))
-
-  -- none of refusals 1 to 6 applies
-  pub passes : 0 ≡ judgeOf D (stateIn n) C (lentIn wide (length xs)) (unitsIn wide (length rs))
-  unfolding judgeOf
-  passes = simp (at-rest n r, o .known, o .sized, eq-eqb (sizeOf (D .part)) (sizeOf (D .part)) refl, is-proper n r D, levels, inside, enough (unitsIn wide (length rs)))
 
   -- steps 1 to 3 do nothing
   settled : settleOf (D .part) S (C .pins) ≡ settledAs S Nothing
   unfolding settleOf
   settled = simp (o .up, and-none (vppLow (D .part) (C .pins)))
 
-  -- the answer where step 4 is known to change the state alone
-  module _ (reply : Reply) (t : State) (e : decideJudged D S C ≡ decidedAs reply t Nothing) where
-    same : decideJudged D (stateIn n) C ≡ decidedAs reply t Nothing
-    same = ap (λ (s : State). decideJudged D s C) (at-rest n r) ∙ e
+  stands : Stands d n b S S
+  stands = record { typed = at-rest n r; good = is-proper n r D; enough = enough; settled = settled }
 
-    judged : record { seen = seenOf reply (units wide xs); state = t } ≡ answerJudged D (stateIn n) C (units wide xs) (units wide rs)
-    unfolding answerJudged arrayJudged
-    judged = simp same
+  abbrev up-kind : (k : Kind) → C .kind ≡ k → decideJudged D S C ≡ decideKind k D S C (settledAs S Nothing)
+  up-kind = passing.up-kind d n b xs rs o S S stands
 
-    pub answered : answerOut n (record { seen = seenOf reply (units wide xs); state = t }) ≡ cycled d n b xs rs
-    unfolding cycled
-    answered = ap (λ (a : Answer). answerOut n a) (passed-answer D (stateIn n) C xs rs 0 passes refl _ judged)
+  abbrev kind-is : (k : ℕ) → b .kind ≡ k → C .kind ≡ kindIn k
+  kind-is = passing.kind-is d n b xs rs o S S stands
 
-    pub unwritten : Bytes xs → xs ≡ arrayCycled d n b xs rs
-    unfolding arrayJudged arrayCycled
-    unwritten bytes = passed-bytes D (stateIn n) C xs rs 0 passes refl xs bytes bytes (simp same) refl refl
+  pub answered : (reply : Reply) (t : State) → decideJudged D S C ≡ decidedAs reply t Nothing
+      → answerOut n (record { seen = seenOf reply (units word xs); state = t }) ≡ cycled d n b xs rs
+  answered = passing.answered d n b xs rs o S S stands
 
-  -- by kind
-  up-kind : (k : Kind) → C .kind ≡ k → decideJudged D S C ≡ decideKind k D S C (settledAs S Nothing)
-  unfolding decideJudged
-  up-kind k e = if-false (rpLow (C .pins)) _ _ (o .up) ∙ (λ i. decideKind (e i) D S C (settled i))
-
-  kind-is : (k : ℕ) → b .kind ≡ k → C .kind ≡ kindIn k
-  kind-is k e = ap kindIn e
+  pub unwritten : (reply : Reply) (t : State) → decideJudged D S C ≡ decidedAs reply t Nothing → Bytes xs → xs ≡ arrayCycled d n b xs rs
+  unwritten = passing.unwritten d n b xs rs o S S stands
 
   pub idle : b .kind ≡ 2 → decideJudged D S C ≡ decidedAs Quiet S Nothing
   unfolding kindIn
@@ -167,7 +135,7 @@ module _ (d : DeviceNumbers) (n : StateNumbers) (b : BusNumbers) (xs rs : List �
       up-kind Write (kind-is 1 e) ∙ ap (λ (x : Action). decideWrite x D S C (settledAs S Nothing)) f ∙ if-false (isRefuse a) _ _ q
 
   -- the numbers of what is answered
-  quiet-state : (t : State) → answerOut n (record { seen = seenOf Quiet (units wide xs); state = t }) ≡ record { seen = 0; value = 0; state = stateOut t }
+  quiet-state : (t : State) → answerOut n (record { seen = seenOf Quiet (units word xs); state = t }) ≡ record { seen = 0; value = 0; state = stateOut t }
   quiet-state t = λ i. record { seen = 0; value = 0; state = goes-back n r t i }
 
   mode-back : modeOut (modeIn (n .mode)) ≡ n .mode
@@ -181,24 +149,54 @@ module _ (d : DeviceNumbers) (n : StateNumbers) (b : BusNumbers) (xs rs : List �
   idle-answer e = (λ i. quietAs n (sym mode-back i) (n .status) 0) ∙ sym (quiet-state S) ∙ answered Quiet S (idle e)
 
   pub shown-answer : (reply : Reply) (v : ℕ) → decideJudged D S C ≡ decidedAs reply S Nothing
-      → answerOut n (record { seen = seenOf reply (units wide xs); state = S }) ≡ record { seen = 1; value = v; state = stateBack n S }
+      → answerOut n (record { seen = seenOf reply (units word xs); state = S }) ≡ record { seen = 1; value = v; state = stateBack n S }
       → shownAs n v ≡ cycled d n b xs rs
   shown-answer reply v e f = (λ i. shownAs (sym numbers i) v) ∙ (λ i. record { seen = 1; value = v; state = sym (goes-back n r S) i }) ∙ sym f ∙ answered reply S e
 
-  pub array-answer : b .kind ≡ 0 → n .mode ≡ 0 → (v : ℕ) → v ≡ getD (units wide xs) (b .address) 0 → shownAs n v ≡ cycled d n b xs rs
+  pub array-answer : b .kind ≡ 0 → n .mode ≡ 0 → (v : ℕ) → v ≡ getD (units word xs) (b .address) 0 → shownAs n v ≡ cycled d n b xs rs
   array-answer e m v f = shown-answer (GivesArray (b .address)) v (reads-array e m) (λ i. record { seen = 1; value = sym f i; state = stateBack n S })
 
   pub status-answer : b .kind ≡ 0 → n .mode ≡ 1 → (v : ℕ) → v ≡ n .status → shownAs n v ≡ cycled d n b xs rs
   status-answer e m v f = shown-answer (Gives (n .status)) v (reads-status e m) (λ i. record { seen = 1; value = sym f i; state = stateBack n S })
 
   -- a command
-  pub command-answer : b .kind ≡ 1 → (a : Action) → firstWrite (D .part) (b .data % 256) ≡ a → isRefuse a ≡ false → (q : AnswerNumbers)
-      → q ≡ record { seen = 0; value = 0; state = stateOut (performedOf a D C S) } → q ≡ cycled d n b xs rs
-  command-answer e a f g q h = h ∙ sym (quiet-state (performedOf a D C S)) ∙ answered Quiet (performedOf a D C S) (writes e a f g)
+  command-answer : b .kind ≡ 1 → (a : Action) → firstWrite (D .part) (b .data % 256) ≡ a → isRefuse a ≡ false → (q : AnswerNumbers)
+      → q ≡ record { seen = 0; value = 0; state = stateOut (performedOf a D C S) } → (q ≡ cycled d n b xs rs) × (Bytes xs → xs ≡ arrayCycled d n b xs rs)
+  command-answer e a f g q h =
+      let w = writes e a f g in
+      (h ∙ sym (quiet-state (performedOf a D C S)) ∙ answered Quiet (performedOf a D C S) w, unwritten Quiet (performedOf a D C S) w)
 
-  pub command-bytes : b .kind ≡ 1 → (a : Action) → firstWrite (D .part) (b .data % 256) ≡ a → isRefuse a ≡ false → Bytes xs
-      → xs ≡ arrayCycled d n b xs rs
-  command-bytes e a f g = unwritten Quiet (performedOf a D C S) (writes e a f g)
+  -- such an answer, where the command is known
+  abbrev Answers : Commanded → Type 0
+  Answers t = t .known ≡ true → (quietAs n (t .mode) (t .status) (t .phase) ≡ cycled d n b xs rs) × (Bytes xs → xs ≡ arrayCycled d n b xs rs)
 
-  pub cleared : quietAs n (n .mode) (bitAnd (n .status) 0xC7) 0 ≡ record { seen = 0; value = 0; state = stateOut (performedOf Clear D C S) }
+  byte-is : (v : ℕ) (a : Action) → firstWrite (D .part) v ≡ a → eqb (b .data % 256) v ≡ true → firstWrite (D .part) (b .data % 256) ≡ a
+  byte-is v a f e = ap (λ (x : ℕ). firstWrite (D .part) x) (eqb-true (b .data % 256) v e) ∙ f
+
+  cleared : quietAs n (n .mode) (bitAnd (n .status) 0xC7) 0 ≡ record { seen = 0; value = 0; state = stateOut (performedOf Clear D C S) }
   cleared = λ i. quietAs n (sym mode-back i) (bitAnd (n .status) 0xC7) 0
+
+  -- for code: what is no read
+  pub command-told : eqb (b .kind) 0 ≡ false → (t : Commanded) → t ≡ commandedOf (b .kind) (b .data % 256) (n .mode) (n .status) → Answers t
+  unfolding commandedOf firstWrite asksProgram
+  command-told z t e = subst Answers (sym e) chain
+    where
+      y : ℕ
+      y = b .data % 256
+
+      w : not (eqb (b .kind) 1) ≡ false → b .kind ≡ 1
+      w q = eqb-true (b .kind) 1 (not-false (eqb (b .kind) 1) q)
+
+      rests : not (eqb (b .kind) 1) ≡ true → b .kind ≡ 2
+      rests q = omega (arith, o .kind, eqb-false (b .kind) 0 z, eqb-false (b .kind) 1 (not-true (eqb (b .kind) 1) q))
+
+      chain : Answers (commandedOf (b .kind) y (n .mode) (n .status))
+      chain =
+          if-ind Answers (not (eqb (b .kind) 1)) _ _ (λ q k. (idle-answer (rests q), unwritten Quiet S (idle (rests q))))
+          (λ q. if-ind Answers (eqb y 0xFF) _ _ (λ f k. command-answer (w q) ToArray (byte-is 0xFF ToArray refl f) refl _ refl)
+          (λ m1. if-ind Answers (eqb y 0x90) _ _ (λ f k. command-answer (w q) ToIdentifier (byte-is 0x90 ToIdentifier refl f) refl _ refl)
+          (λ m2. if-ind Answers (eqb y 0x70) _ _ (λ f k. command-answer (w q) ToStatus (byte-is 0x70 ToStatus refl f) refl _ refl)
+          (λ m3. if-ind Answers (eqb y 0x50) _ _ (λ f k. command-answer (w q) Clear (byte-is 0x50 Clear refl f) refl _ cleared)
+          (λ m4. if-ind Answers (eqb y 0x20) _ _ (λ f k. command-answer (w q) AwaitErase (byte-is 0x20 AwaitErase refl f) refl _ refl)
+          (λ m5. if-ind Answers (eqb y 0x40) _ _ (λ f k. command-answer (w q) AwaitData (byte-is 0x40 AwaitData refl f) refl _ refl)
+          (λ m6 k. absurd (unlike (sym k)))))))))
