@@ -18,16 +18,13 @@ use Rattle.loader.specs.Moves.{nextOf}
 use Rattle.loader_steps.specs.Addresses.{firstAddress}
 use Rattle.loader_steps.specs.Outs.{cycleAtStage, cycleOf}
 use Rattle.loader_steps.specs.Stores.{storeOf}
-use Rattle.loader_steps.specs.Front.{barredPins, noBlock, wrongLengths, setupNumber, recordAt, endAddress, startGiven, loadStartGiven, verifyStartGiven, stepGiven, startTold, loadStartTold, verifyStartTold, stepTold, scratchLeft}
+use Rattle.loader_steps.specs.Front.{barredPins, noBlock, setupNumber, recordAt, endAddress, startGiven, loadStartGiven, verifyStartGiven, stepGiven, startTold, loadStartTold, verifyStartTold, stepTold, scratchLeft}
 
 pub barred-pins-unique : (part : Part) (p : Pins) → Unique (λ (r : Bool). r ≡ barredPins part p)
 barred-pins-unique part p = only (barredPins part p)
 
 pub no-block-unique : (part : Part) (k : ℕ) → Unique (λ (r : Bool). r ≡ noBlock part k)
 no-block-unique part k = only (noBlock part k)
-
-pub wrong-lengths-unique : (part : Part) (k w sc : ℕ) → Unique (λ (r : Bool). r ≡ wrongLengths part k w sc)
-wrong-lengths-unique part k w sc = only (wrongLengths part k w sc)
 
 pub setup-number-unique : (part : Part) (p : Pins) (k w sc : ℕ) → Unique (λ (r : ℕ). r ≡ setupNumber part p k w sc)
 setup-number-unique part p k w sc = only (setupNumber part p k w sc)

@@ -12,7 +12,8 @@ use model_types::Pins;
 use model_types::levels::bad_pins;
 use model_types::levels::rp_low;
 ghost use mathlib.Core.Path.{_≡_};
-ghost use Rattle.loader_steps.specs.Front.{barredPins, noBlock, wrongLengths, setupNumber, badRecord, startNumber, stepNumber, recordAt, endAddress, turnIn, turnGiven, barredBy, startAt, startGiven, loadStartGiven, verifyStartGiven, stepGiven, turnTold, startTold, loadStartTold, verifyStartTold, stepTold, scratchLeft};
+ghost use Rattle.device.specs.Parts.{lengthOf};
+ghost use Rattle.loader_steps.specs.Front.{barredPins, noBlock, setupNumber, badRecord, startNumber, stepNumber, recordAt, endAddress, turnIn, turnGiven, barredBy, startAt, startGiven, loadStartGiven, verifyStartGiven, stepGiven, turnTold, startTold, loadStartTold, verifyStartTold, stepTold, scratchLeft};
 ghost use Rattle.units.specs.Units.{units, lent};
 
 // Refusal 4 of a loader.
@@ -29,36 +30,40 @@ pub fn no_block(part: Part, block: u8) -> bool
     device::length(part, block) == 0
 }
 
-// Refusal 11. The lengths are in units.
-pub fn wrong_lengths(part: Part, block: u8, wanted: usize, scratch: usize) -> bool
-    ensures { λ r. ⌜ r ≡ wrongLengths part block wanted scratch ⌝ }
-{
-    let n = device::length(part, block);
-    !(wanted == n) | !(scratch == n)
-}
-
-// Refusal 3 of a loader.
-fn bad_record(l: Loader) -> bool
+// Refusal 3 of a loader, by the block's length.
+fn bad_record(n: usize, l: Loader) -> bool
+    requires { ⌜ n ≡ lengthOf (l .part) (l .block) ⌝ }
     ensures { λ r. ⌜ r ≡ badRecord l ⌝ }
 {
-    let part = l.part;
-    (65534 < l.polls) | (!no_block(part, l.block) & (device::length(part, l.block) <= l.place))
+    (65534 < l.polls) | (!(n == 0) & (n <= l.place))
+}
+
+// Refusals 4, 10 and 11, by the block's length.
+fn setup_by(n: usize, part: Part, p: Pins, block: u8, wanted: usize, scratch: usize) -> u8
+    requires { ⌜ n ≡ lengthOf part block ⌝ }
+    ensures { λ r. ⌜ r ≡ setupNumber part p block wanted scratch ⌝ }
+{
+    if barred_pins(part, p) {
+        return 4;
+    }
+    if n == 0 {
+        return 10;
+    }
+    if wanted != n {
+        return 11;
+    }
+    if scratch != n {
+        return 11;
+    }
+    0
 }
 
 // Refusals 4, 10 and 11, the first of them that applies, or 0. The lengths are in units.
 pub fn setup_number(part: Part, p: Pins, block: u8, wanted: usize, scratch: usize) -> u8
     ensures { λ r. ⌜ r ≡ setupNumber part p block wanted scratch ⌝ }
 {
-    if barred_pins(part, p) {
-        return 4;
-    }
-    if no_block(part, block) {
-        return 10;
-    }
-    if wrong_lengths(part, block, wanted, scratch) {
-        return 11;
-    }
-    0
+    let n = device::length(part, block);
+    setup_by(n, part, p, block, wanted, scratch)
 }
 
 fn start_number(part: Part, p: Pins, block: u8, wanted: usize, scratch: usize) -> u8
@@ -78,10 +83,11 @@ fn step_number(l: Loader, wanted: usize, scratch: usize) -> u8
     if device::unknown_part(part) {
         return 1;
     }
-    if bad_record(l) {
+    let n = device::length(part, l.block);
+    if bad_record(n, l) {
         return 3;
     }
-    setup_number(part, p, l.block, wanted, scratch)
+    setup_by(n, part, p, l.block, wanted, scratch)
 }
 
 // A record at its beginning.

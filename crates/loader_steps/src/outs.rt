@@ -18,15 +18,15 @@ pub fn first(l: Loader) -> u32
     device::start(part, l.block) as u32
 }
 
-// The address of the unit at the record's place.
-pub(crate) fn here(l: Loader) -> u32
+// The address of the unit at the record's place, by the block's first address.
+fn here(start: u32, l: Loader) -> u32
+    requires { ⌜ start ≡ firstAddress l ⌝ }
     ensures { λ r. ⌜ r ≡ hereOf l ⌝ }
 {
-    let a = first(l);
     if l.place < 16777216 {
-        return a + l.place as u32;
+        return start + l.place as u32;
     }
-    a
+    start
 }
 
 // The byte address of the byte that differs there.
@@ -36,7 +36,8 @@ pub(crate) fn byte_here(l: Loader) -> u32
     let part = l.part;
     let word = part.word;
     let high = l.high;
-    units::byte_at(word, here(l), high) as u32
+    let a = first(l);
+    units::byte_at(word, here(a, l), high) as u32
 }
 
 fn cycle_at(l: Loader, kind: Kind, address: u32, v: u16) -> Cycle
@@ -97,5 +98,5 @@ pub fn out(l: Loader, wanted: &[u8]) -> Cycle
 {
     let stage = l.stage;
     let a = first(l);
-    cycle_in(stage, a, here(l), l, wanted)
+    cycle_in(stage, a, here(a, l), l, wanted)
 }

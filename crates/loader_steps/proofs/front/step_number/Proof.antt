@@ -1,6 +1,7 @@
-use borrow.Author.Needs.{needs}
+-- `loader_steps::front::step_number` meets its contract.
 use mathlib.Core.Path.{sym, _∙_}
 use Rattle.loader_steps.specs.Front.{stepNumber, setupNumber}
+use borrow.Author.Needs.{needs}
 use Rattle.loader_steps.proofs.front.step_number.Statement.{statement}
 use Rattle.loader_steps.proofs.front.step_number.Tie as tie
 
@@ -11,19 +12,22 @@ returns : tie.Need-returns
 unfolding stepNumber setupNumber
 returns c = simp (sym (c .before .unknown-part .ensures) ∙ c .if1 .taken)
 
+length-requires : tie.Need-length-requires
+length-requires c κs = search needs
+
 bad-record-requires : tie.Need-bad-record-requires
-bad-record-requires c κs = search needs
+bad-record-requires c κs = c .length .ensures
 
 returns-2 : tie.Need-returns-2
 unfolding stepNumber setupNumber
-returns-2 c = simp (sym (c .before .bad-record .ensures) ∙ c .if2 .taken, sym (c .before .before .before .unknown-part .ensures) ∙ c .before .before .if1 .left)
+returns-2 c = simp (sym (c .before .bad-record .ensures) ∙ c .if2 .taken, sym (c .before .before .before .before .unknown-part .ensures) ∙ c .before .before .before .if1 .left)
 
-setup-number-requires : tie.Need-setup-number-requires
-setup-number-requires c κs = search needs
+setup-by-requires : tie.Need-setup-by-requires
+setup-by-requires c κs = c .before .before .length .ensures
 
 returns-3 : tie.Need-returns-3
 unfolding stepNumber setupNumber
-returns-3 c = simp (c .setup-number .ensures, sym (c .before .before .bad-record .ensures) ∙ c .before .if2 .left, sym (c .before .before .before .before .unknown-part .ensures) ∙ c .before .before .before .if1 .left)
+returns-3 c = simp (c .setup-by .ensures, sym (c .before .before .bad-record .ensures) ∙ c .before .if2 .left, sym (c .before .before .before .before .before .unknown-part .ensures) ∙ c .before .before .before .before .if1 .left)
 
 pub step-number-spec : {M : Type 1} → statement M
 step-number-spec =
@@ -31,7 +35,8 @@ step-number-spec =
     (tie.spec
     unknown-part-requires
     returns
+    length-requires
     bad-record-requires
     returns-2
-    setup-number-requires
+    setup-by-requires
     returns-3)
