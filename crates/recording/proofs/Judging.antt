@@ -1,15 +1,16 @@
 -- A record's verdict, way by way, as the code comes to it.
 use mathlib.Core.Path.{_≡_, refl, sym, ap, ap₂, _∙_}
-use mathlib.Core.Bool.{Bool, true, false, not}
+use mathlib.Core.Bool.{Bool, true, false, not, _||_}
 use mathlib.Core.List.{List, []}
 use Prim.Native.Nat.{ℕ}
 use native.Mathlib.Omega.{arith}
 use lib.ListN.{length}
 use lib.Dec.{eqb}
-use borrow.Author.Tests.{eqb-true, not-false}
-use Rattle.common.proofs.Choice.{if-true, if-false}
+use borrow.Author.Tests.{eqb-true, eqb-false, not-false}
+use Rattle.common.specs.Lists.{Bytes}
+use Rattle.common.proofs.Choice.{if-true, if-false, or-right, unlike}
 use Rattle.common.proofs.Numbers.{given-no-row, no-head, no-tail}
-use Rattle.units.specs.Units.{units, unitsIn, lent, lentIn}
+use Rattle.units.specs.Units.{units, spare, unitsIn, lent, lentIn}
 use Rattle.units.proofs.Widths.{lent-length, lent-is}
 use Rattle.device.specs.declared.Device.{Device}
 use Rattle.device.specs.Parts.{sizeOf}
@@ -24,7 +25,8 @@ use Rattle.model.specs.declared.Seen.{Seen}
 use Rattle.model.specs.declared.Seen.the-variants.{Refused}
 use Rattle.model.specs.declared.Answer.{Answer}
 use Rattle.model.specs.Arrays.{seenOf, answerOf, bytesAfter}
-use Rattle.model.proofs.Borders.{stopped-answer}
+use Rattle.model.specs.Inner.{answerJudged, arrayJudged}
+use Rattle.model.proofs.Borders.{stopped-answer, passed-answer, passed-bytes}
 use Rattle.recording.specs.declared.Noted.{Noted}
 use Rattle.recording.specs.declared.Why.{Why}
 use Rattle.recording.specs.Recordings.{wrongCount, cutsOff, deviceFor, agrees, answerTo, faulty, recordedOf, bytesRecorded, whyAs, whySeen, whyOf}
@@ -120,20 +122,47 @@ module _ (d : Device) (s : State) (r : Noted) (bytes : List ℕ) where
   unfolding bytesRecorded
   fault-bytes e = rw e refl
 
-  -- else it is the model's cycle
+  -- else it is the model's cycle, which no number refuses
   module _ (e : faulty d s r bytes ≡ false) (g : Device) (same : g ≡ deviceFor d s r) (rs : List ℕ) (empty : rs ≡ []) where
-    pub good-state : (a : Answer) → a ≡ answerOf g s (r .cycle) (lent (g .part .word) bytes) (units (g .part .word) rs)
+    abbrev word : Bool
+    word = d .part .word
+
+    abbrev judge : ℕ
+    judge = judgeOf (deviceFor d s r) s (r .cycle) (lentIn word (length bytes)) 0
+
+    heard : agrees (answerOf (deviceFor d s r) s (r .cycle) (lent word bytes) [] .seen) (r .heard) ≡ true
+    unfolding faulty answerTo
+    heard = not-false _ (or-right (wrongCount (d .part) s r || cutsOff (d .part) s (r .cycle)) _ e)
+
+    unstopped : judge ≡ 0
+    unstopped = go (eqb judge 0) refl
+      where
+        go : (t : Bool) → eqb judge 0 ≡ t → judge ≡ 0
+        go true f = eqb-true judge 0 f
+        go false f =
+            absurd (unlike (sym heard ∙ ap (λ (x : Seen). agrees x (r .heard)) (stopped (deviceFor d s r) s (r .cycle) bytes judge refl (eqb-false judge 0 f))))
+
+    zero : 0 ≡ judgeOf g s (r .cycle) (lentIn (g .part .word) (length bytes)) (unitsIn (g .part .word) (length rs))
+    zero =
+        sym unstopped ∙ ap (λ (k : ℕ). judgeOf (deviceFor d s r) s (r .cycle) (lentIn word (length bytes)) k) (sym (none-in word))
+        ∙ ap (λ (zs : List ℕ). judgeOf (deviceFor d s r) s (r .cycle) (lentIn word (length bytes)) (unitsIn word (length zs))) (sym empty)
+        ∙ ap (λ (h : Device). judgeOf h s (r .cycle) (lentIn (h .part .word) (length bytes)) (unitsIn (h .part .word) (length rs))) (sym same)
+
+    pub good-state : (a : Answer) → a ≡ answerJudged g s (r .cycle) (units (g .part .word) bytes) (units (g .part .word) rs)
         → record { fault = false; state = a .state } ≡ recordedOf d s r bytes
     unfolding recordedOf answerTo
     good-state a p =
         let there : a ≡ answerOf (deviceFor d s r) s (r .cycle) (lent (d .part .word) bytes) [] =
-        p ∙ ap (λ (zs : List ℕ). answerOf g s (r .cycle) (lent (g .part .word) bytes) (units (g .part .word) zs)) empty
+        passed-answer g s (r .cycle) bytes rs 0 zero refl a p
+        ∙ ap (λ (zs : List ℕ). answerOf g s (r .cycle) (lent (g .part .word) bytes) (units (g .part .word) zs)) empty
         ∙ ap (λ (zs : List ℕ). answerOf g s (r .cycle) (lent (g .part .word) bytes) zs) (none (g .part .word))
         ∙ ap (λ (h : Device). answerOf h s (r .cycle) (lent (h .part .word) bytes) []) same in
         ap (λ (x : Answer). record { fault = false; state = x .state }) there ∙ sym (if-false (faulty d s r bytes) _ _ e)
 
-    pub good-bytes : (ys : List ℕ) → ys ≡ bytesAfter g s (r .cycle) bytes rs → ys ≡ bytesRecorded d s r bytes
+    pub good-bytes : (ys : List ℕ) → Bytes bytes → Bytes ys → units (g .part .word) ys ≡ arrayJudged g s (r .cycle) (units (g .part .word) bytes) (units (g .part .word) rs)
+        → spare (g .part .word) ys ≡ spare (g .part .word) bytes → length ys ≡ length bytes → ys ≡ bytesRecorded d s r bytes
     unfolding bytesRecorded
-    good-bytes ys p =
-        p ∙ ap (λ (zs : List ℕ). bytesAfter g s (r .cycle) bytes zs) empty ∙ ap (λ (h : Device). bytesAfter h s (r .cycle) bytes []) same
+    good-bytes ys b q u o l =
+        passed-bytes g s (r .cycle) bytes rs 0 zero refl ys b q u o l
+        ∙ ap (λ (zs : List ℕ). bytesAfter g s (r .cycle) bytes zs) empty ∙ ap (λ (h : Device). bytesAfter h s (r .cycle) bytes []) same
         ∙ sym (if-false (faulty d s r bytes) _ _ e)

@@ -1,5 +1,5 @@
 -- A start told as the code asks: nothing bars it, and the second write asks for an operation.
-use mathlib.Core.Path.{_≡_, refl, _∙_}
+use mathlib.Core.Path.{_≡_, refl, sym, _∙_}
 use mathlib.Core.Bool.{Bool, true, false}
 use lib.Dec.{eqb}
 use Rattle.common.specs.Choice.{if_then_else_}
@@ -38,3 +38,18 @@ module _ (part : Part) (s : State) (c : Cycle) where
   pub starts-barred : unbarred part s c ≡ false → false ≡ starts part s c
   unfolding starts startsOf unbarred
   starts-barred e = simp e
+
+  -- what is asked for first, and then what bars it
+  pub starts-asked : asks (s .phase) c ≡ true → unbarred part s c ≡ starts part s c
+  starts-asked e = go (unbarred part s c) refl
+    where
+      go : (b : Bool) → unbarred part s c ≡ b → b ≡ starts part s c
+      go true u = sym e ∙ starts-unbarred u
+      go false u = starts-barred u
+
+  pub starts-unasked : asks (s .phase) c ≡ false → false ≡ starts part s c
+  starts-unasked e = go (unbarred part s c) refl
+    where
+      go : (b : Bool) → unbarred part s c ≡ b → false ≡ starts part s c
+      go true u = sym e ∙ starts-unbarred u
+      go false u = starts-barred u

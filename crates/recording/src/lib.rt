@@ -96,8 +96,8 @@ pub fn starts(part: Part, s: State, c: Cycle) -> bool
     ensures { λ r. ⌜ r ≡ starts part s c ⌝ }
 {
     let ph = s.phase;
-    if unbarred(part, s, c) {
-        return asks(ph, c);
+    if asks(ph, c) {
+        return unbarred(part, s, c);
     }
     false
 }
@@ -279,7 +279,7 @@ pub fn reason(d: Device, s: State, r: Noted, array: &[u8]) -> Why
     why_seen(seen)
 }
 
-// One record: at fault it changes nothing, else it is made by the model's own cycle.
+// One record: at fault it changes nothing, else it is made by the model's own cycle, which was judged already.
 pub fn step_record(d: Device, s: State, r: Noted, array: &mut [u8]) -> Recorded
     ensures { λ q. ⌜ q ≡ recordedOf d s r (now (array .entry)) ⌝ }
     ensures { λ _. ⌜ now (array .exit) ≡ bytesRecorded d s r (now (array .entry)) ⌝ }
@@ -293,7 +293,7 @@ pub fn step_record(d: Device, s: State, r: Noted, array: &mut [u8]) -> Recorded
     let c = r.cycle;
     let none = [0u8; 0];
     let e = device_for(d, s, r);
-    let a = model::cycle(e, s, c, array, &none);
+    let a = model::after_judging(e, s, c, array, &none);
     let t = a.state;
     Recorded {
         fault: false,

@@ -1,6 +1,6 @@
-use borrow.Author.Needs.{needs}
 use mathlib.Core.Path.{refl, sym, _∙_}
 use Rattle.recording.proofs.Judging.{fault-state, fault-bytes, good-state, good-bytes}
+use borrow.Author.Needs.{needs}
 use Rattle.recording.proofs.step_record.Statement.{statement}
 use Rattle.recording.proofs.step_record.Tie as tie
 
@@ -18,11 +18,11 @@ returns c =
 device-for-requires : tie.Need-device-for-requires
 device-for-requires c κs = search needs
 
-slice-aggregate-cycle : tie.Need-slice-aggregate-cycle
-slice-aggregate-cycle c = search needs
+slice-aggregate-after-judging : tie.Need-slice-aggregate-after-judging
+slice-aggregate-after-judging c = search needs
 
-cycle-requires : tie.Need-cycle-requires
-cycle-requires c κs = search needs
+after-judging-requires : tie.Need-after-judging-requires
+after-judging-requires c κs = search needs
 
 same-length-2 : tie.Need-same-length-2
 same-length-2 c = search needs
@@ -30,8 +30,9 @@ same-length-2 c = search needs
 returns-2 : tie.Need-returns-2
 returns-2 c =
     let e = sym (c .before .before .before .before .before .before .before .before .before .at-fault .ensures) ∙ c .before .before .before .before .before .before .before .before .if1 .left in
-    let cycle = c .before .before .before .cycle in
-    (good-state _ _ _ _ e _ (c .before .before .before .before .before .before .device-for .ensures) _ refl _ (cycle .ensures .0), good-bytes _ _ _ _ e _ (c .before .before .before .before .before .before .device-for .ensures) _ refl _ (cycle .ensures .1 .1))
+    let after = c .before .before .before .after-judging in
+    let g = c .before .before .before .before .before .before .device-for .ensures in
+    (good-state _ _ _ _ e _ g _ refl _ (after .ensures .0), good-bytes _ _ _ _ e _ g _ refl _ (λ i. c .before .before .before .before .before .before .before .before .before .before .before .slice-known .given i .fits) (λ i. c .before .slice-known2 .given i .fits) (after .ensures .1 .1 .0) (after .ensures .1 .1 .1) (after .kept .1 .1 .1 .0))
 
 pub step-record-spec : {M : Type 1} → statement M
 step-record-spec =
@@ -41,7 +42,7 @@ step-record-spec =
     same-length
     returns
     device-for-requires
-    slice-aggregate-cycle
-    cycle-requires
+    slice-aggregate-after-judging
+    after-judging-requires
     same-length-2
     returns-2)
