@@ -163,18 +163,17 @@ pub fn joined(high: u8, low: u8) -> usize
     common::wide(high) * 256 + common::wide(low)
 }
 
-// Whether every byte is FFH.
+// Whether every byte is FFH. The walk has no stop, so that the compiler takes many bytes at once.
 pub fn all_ff(s: &[u8]) -> bool
     ensures { λ r. ⌜ r ≡ allAre 255 (now (s .entry)) ⌝ }
 {
+    let mut bits: u8 = 255;
     let mut i = 0;
     while i < s.len() {
-        if s[i] != 255 {
-            return false;
-        }
+        bits = bits & s[i];
         i += 1;
     }
-    true
+    bits == 255
 }
 
 // Whether a block is blank, as an erase leaves it.
