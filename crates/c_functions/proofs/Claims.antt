@@ -1,5 +1,5 @@
--- What is claimed of the C functions, in one place. What is said of a stage and a verify holds of a run, a load alone and a verify
--- alone, and of a load and a verify from a file.
+-- What is claimed of the C functions, in one place. What is said of a work holds of a run, a load alone and a verify alone, and of a load
+-- and a verify from a file.
 use mathlib.Core.Path.{_≡_}
 use mathlib.Core.Bool.{Bool, true, false}
 use mathlib.Core.List.{List}
@@ -10,7 +10,6 @@ use lib.Dec.{ltb}
 use Rattle.common.specs.Numbers.{Foremost, NoRow}
 use Rattle.device.specs.declared.Device.{Device}
 use Rattle.device.specs.Parts.{unknownPart, unknownDevice, sizeOf, lengthOf, startOf}
-use Rattle.model_types.specs.declared.Pins.{Pins}
 use Rattle.model_types.specs.declared.Cycle.{Cycle}
 use Rattle.model_types.specs.declared.Wear.{Wear}
 use Rattle.model_types.specs.declared.State.{State}
@@ -18,18 +17,16 @@ use Rattle.model_types.specs.States.{improper}
 use Rattle.units.specs.Units.{units, lent, bytesIn}
 use Rattle.units.specs.Address.{byteOf}
 use Rattle.model.specs.Arrays.{answerOf, bytesAfter}
-use Rattle.loader.specs.declared.Stage.{Stage}
-use Rattle.loader.specs.Stages.{isEnded}
 use Rattle.loader.specs.declared.Loader.{Loader}
 use Rattle.loader.specs.declared.Turn.the-variants.{Barred}
 use Rattle.loader_steps.specs.Front.{noBlock, stepGiven, scratchLeft}
-use Rattle.loader_run.specs.Runs.{lentNumber, lentLeftAt}
-use Rattle.loader_from_file.specs.Loads.{loadNumber, fileLeftAt}
+use Rattle.loader_run.specs.Runs.{lentNumber, lentRun}
+use Rattle.loader_from_file.specs.Loads.{loadNumber, loadLeft}
 use Rattle.wear.specs.declared.Report.{Report}
 use Rattle.wear.specs.Reports.{noReport}
 use Rattle.wear.specs.Refusals.{reportRows, addRows, addedTo}
-use Rattle.c_cycle.specs.Values.{deviceIn, deviceOut, pinsIn, noState, wearOut, stateIn, stateOut, cycleOut}
-use Rattle.c_records.specs.Records.{noRecord, loaderIn, loaderOut, turnOut}
+use Rattle.c_cycle.specs.Values.{deviceIn, deviceOut, noState, wearOut, stateIn, stateOut, cycleOut}
+use Rattle.c_records.specs.Records.{noRecord, loaderIn, loaderOut, turnOut, jobIn}
 use Rattle.c_cycle.specs.Answers.{seenOut, valueOut, cycled, arrayCycled}
 use Rattle.c_functions.specs.Calls.{startedAt, steppedOf, scratchStepped, runAtOf, arrayRunAt, scratchRunAt, fileAtOf, arrayFileAt, wantedFileAt, scratchFileAt, writtenOf, fileLeft, fileRead, payloadLeft, ranNumbers, wearAdded, wearReported}
 use Rattle.c_functions.specs.Geometry.{sizeGiven, blockGiven}
@@ -40,6 +37,8 @@ use Rattle.c_cycle.specs.declared.BusNumbers.{BusNumbers}
 use Rattle.c_records.specs.declared.LoaderNumbers.{LoaderNumbers}
 use Rattle.c_wear.specs.declared.ReportNumbers.{ReportNumbers}
 use Rattle.c_wear.specs.Reports.{reportOut, reportedOut}
+use Rattle.loader_run.specs.declared.Job.{Job}
+use Rattle.loader.specs.declared.Work.{Work}
 use Rattle.c_functions.proofs.Returned as returned
 use Rattle.c_functions.proofs.Wears as wears
 
@@ -60,18 +59,18 @@ step-no-record = returned.step-no-record
 pub cycle-no-mode : (d : DeviceNumbers) (s : StateNumbers) (c : BusNumbers) (xs rs : List ℕ) → ltb 1 (d .word) ≡ true → cycled d s c xs rs ≡ record { seen = 2; value = 1; state = s }
 cycle-no-mode = returned.cycle-no-mode
 
-pub start-no-mode : (stage : Stage) (verify : Bool) (part word rp wp vpp k : ℕ) (w sc : List ℕ) → ltb 1 word ≡ true → startedAt stage verify part word rp wp vpp k w sc .turn ≡ turnOut (Barred 1)
+pub start-no-mode : (work : Work) (part word rp wp vpp k : ℕ) (w sc : List ℕ) → ltb 1 word ≡ true → startedAt work part word rp wp vpp k w sc .turn ≡ turnOut (Barred 1)
 start-no-mode = returned.start-no-mode
 
 pub step-no-mode : (l : LoaderNumbers) (b : ℕ) (w sc : List ℕ) → ltb 1 (l .word) ≡ true → (steppedOf l b w sc .turn ≡ turnOut (Barred 1)) × (steppedOf l b w sc .loader ≡ l)
 step-no-mode = returned.step-no-mode
 
-pub run-no-mode : (stage : Stage) (verify : Bool) (d : DeviceNumbers) (s : StateNumbers) (rp wp vpp k : ℕ) (xs w sc : List ℕ) → ltb 1 (d .word) ≡ true
-    → runAtOf stage verify d s rp wp vpp k xs w sc ≡ record { count = 0; end = 1; address = 0; state = s }
+pub run-no-mode : (work : Work) (d : DeviceNumbers) (s : StateNumbers) (rp wp vpp k : ℕ) (xs w sc : List ℕ) → ltb 1 (d .word) ≡ true
+    → runAtOf work d s rp wp vpp k xs w sc ≡ record { count = 0; end = 1; address = 0; state = s }
 run-no-mode = returned.run-no-mode
 
-pub load-no-mode : (stage : Stage) (verify : Bool) (d : DeviceNumbers) (s : StateNumbers) (rp wp vpp k : ℕ) (xs w sc : List ℕ) → isEnded stage ≡ false → (f : List ℕ) (asked : ℕ) → ltb 1 (d .word) ≡ true
-    → fileAtOf stage verify d s rp wp vpp k f asked xs w sc ≡ record { count = 0; end = 1; address = 0; state = s }
+pub load-no-mode : (work : Work) (d : DeviceNumbers) (s : StateNumbers) (rp wp vpp k : ℕ) (xs w sc : List ℕ) → (f : List ℕ) (asked : ℕ) → ltb 1 (d .word) ≡ true
+    → fileAtOf work d s rp wp vpp k f asked xs w sc ≡ record { count = 0; end = 1; address = 0; state = s }
 load-no-mode = returned.load-no-mode
 
 -- The bytes and byte addresses that tb_size and tb_block give are those of the part in either mode.
@@ -82,12 +81,12 @@ pub block-either : (n k : ℕ) (w : Bool) → unknownPart (record { number = n; 
     → blockGiven n k ≡ record { first = byteOf w (startOf (record { number = n; word = w }) k); length = bytesIn w (lengthOf (record { number = n; word = w }) k) }
 block-either = returned.block-either
 
-pub run-no-state : (stage : Stage) (verify : Bool) (d : DeviceNumbers) (s : StateNumbers) (rp wp vpp k : ℕ) (xs w sc : List ℕ) → unknownDevice (deviceIn d) ≡ false → length xs ≡ bytesIn (deviceIn d .part .word) (sizeOf (deviceIn d .part))
-    → noState s ≡ true → runAtOf stage verify d s rp wp vpp k xs w sc ≡ record { count = 0; end = 3; address = 0; state = s }
+pub run-no-state : (work : Work) (d : DeviceNumbers) (s : StateNumbers) (rp wp vpp k : ℕ) (xs w sc : List ℕ) → unknownDevice (deviceIn d) ≡ false → length xs ≡ bytesIn (deviceIn d .part .word) (sizeOf (deviceIn d .part))
+    → noState s ≡ true → runAtOf work d s rp wp vpp k xs w sc ≡ record { count = 0; end = 3; address = 0; state = s }
 run-no-state = returned.run-no-state
 
-pub load-no-state : (stage : Stage) (verify : Bool) (d : DeviceNumbers) (s : StateNumbers) (rp wp vpp k : ℕ) (xs w sc : List ℕ) → isEnded stage ≡ false → (f : List ℕ) (asked : ℕ) → unknownDevice (deviceIn d) ≡ false
-    → length xs ≡ bytesIn (deviceIn d .part .word) (sizeOf (deviceIn d .part)) → noState s ≡ true → fileAtOf stage verify d s rp wp vpp k f asked xs w sc ≡ record { count = 0; end = 3; address = 0; state = s }
+pub load-no-state : (work : Work) (d : DeviceNumbers) (s : StateNumbers) (rp wp vpp k : ℕ) (xs w sc : List ℕ) → (f : List ℕ) (asked : ℕ) → unknownDevice (deviceIn d) ≡ false
+    → length xs ≡ bytesIn (deviceIn d .part .word) (sizeOf (deviceIn d .part)) → noState s ≡ true → fileAtOf work d s rp wp vpp k f asked xs w sc ≡ record { count = 0; end = 3; address = 0; state = s }
 load-no-state = returned.load-no-state
 
 -- A refusal gives back the very numbers that came in, whatever they stand for, and leaves all that was lent.
@@ -99,15 +98,15 @@ pub step-refused : (l : LoaderNumbers) (b : ℕ) (w sc : List ℕ) → steppedOf
     → (steppedOf l b w sc .loader ≡ l) × (scratchStepped l b w sc ≡ sc)
 step-refused = returned.step-refused
 
-pub run-refused : (stage : Stage) (verify : Bool) (d : DeviceNumbers) (s : StateNumbers) (rp wp vpp k : ℕ) (xs w sc : List ℕ) (m : ℕ) → (m ≡ 0 → ⊥)
-    → lentNumber (deviceIn d) (stateIn s) (pinsIn rp wp vpp) k (length xs) (length w) (length sc) ≡ m
-    → (runAtOf stage verify d s rp wp vpp k xs w sc ≡ record { count = 0; end = m; address = 0; state = s }) × (arrayRunAt stage verify d s rp wp vpp k xs w sc ≡ xs) × (scratchRunAt stage verify d s rp wp vpp k xs w sc ≡ sc)
+pub run-refused : (work : Work) (d : DeviceNumbers) (s : StateNumbers) (rp wp vpp k : ℕ) (xs w sc : List ℕ) (m : ℕ) → (m ≡ 0 → ⊥)
+    → lentNumber (jobIn work d s rp wp vpp k) (length xs) (length w) (length sc) ≡ m
+    → (runAtOf work d s rp wp vpp k xs w sc ≡ record { count = 0; end = m; address = 0; state = s }) × (arrayRunAt work d s rp wp vpp k xs w sc ≡ xs) × (scratchRunAt work d s rp wp vpp k xs w sc ≡ sc)
 run-refused = returned.run-refused
 
-pub load-refused : (stage : Stage) (verify : Bool) (d : DeviceNumbers) (s : StateNumbers) (rp wp vpp k : ℕ) (xs w sc : List ℕ) → isEnded stage ≡ false → (f : List ℕ) (asked m : ℕ) → (m ≡ 0 → ⊥)
-    → loadNumber (deviceIn d) (stateIn s) (pinsIn rp wp vpp) k (length xs) (length w) (length sc) f asked ≡ m
-    → (fileAtOf stage verify d s rp wp vpp k f asked xs w sc ≡ record { count = 0; end = m; address = 0; state = s }) × (arrayFileAt stage verify d s rp wp vpp k f asked xs w sc ≡ xs)
-    × (wantedFileAt stage verify d s rp wp vpp k f asked xs w sc ≡ w) × (scratchFileAt stage verify d s rp wp vpp k f asked xs w sc ≡ sc)
+pub load-refused : (work : Work) (d : DeviceNumbers) (s : StateNumbers) (rp wp vpp k : ℕ) (xs w sc : List ℕ) → (f : List ℕ) (asked m : ℕ) → (m ≡ 0 → ⊥)
+    → loadNumber (jobIn work d s rp wp vpp k) (length xs) (length w) (length sc) f asked ≡ m
+    → (fileAtOf work d s rp wp vpp k f asked xs w sc ≡ record { count = 0; end = m; address = 0; state = s }) × (arrayFileAt work d s rp wp vpp k f asked xs w sc ≡ xs)
+    × (wantedFileAt work d s rp wp vpp k f asked xs w sc ≡ w) × (scratchFileAt work d s rp wp vpp k f asked xs w sc ≡ sc)
 load-refused = returned.load-refused
 
 pub write-refused : (letter : ℕ) (p out : List ℕ) → (writtenOf letter p out .number ≡ 0 → ⊥) → (writtenOf letter p out .length ≡ 0) × (fileLeft letter p out ≡ out)
@@ -160,17 +159,17 @@ pub step-typed : (l : Loader) (b : ℕ) (w sc : List ℕ)
     × (scratchStepped (loaderOut l) b w sc ≡ scratchLeft l b w sc)
 step-typed = returned.step-typed
 
-pub run-typed : (stage : Stage) (verify : Bool) (d : Device) (s : State) (p : Pins) (k : ℕ) (xs w sc : List ℕ)
-    → (runAtOf stage verify (deviceOut d) (stateOut s) (p .rp) (p .wp) (p .vpp) k xs w sc ≡ ranNumbers (lentLeftAt stage verify d s p k xs w sc .ran))
-    × (arrayRunAt stage verify (deviceOut d) (stateOut s) (p .rp) (p .wp) (p .vpp) k xs w sc ≡ lentLeftAt stage verify d s p k xs w sc .bytes)
-    × (scratchRunAt stage verify (deviceOut d) (stateOut s) (p .rp) (p .wp) (p .vpp) k xs w sc ≡ lentLeftAt stage verify d s p k xs w sc .scratch)
+pub run-typed : (j : Job) (xs w sc : List ℕ)
+    → (runAtOf (j .work) (deviceOut (j .device)) (stateOut (j .state)) (j .pins .rp) (j .pins .wp) (j .pins .vpp) (j .block) xs w sc ≡ ranNumbers (lentRun j xs w sc .ran))
+    × (arrayRunAt (j .work) (deviceOut (j .device)) (stateOut (j .state)) (j .pins .rp) (j .pins .wp) (j .pins .vpp) (j .block) xs w sc ≡ lentRun j xs w sc .bytes)
+    × (scratchRunAt (j .work) (deviceOut (j .device)) (stateOut (j .state)) (j .pins .rp) (j .pins .wp) (j .pins .vpp) (j .block) xs w sc ≡ lentRun j xs w sc .scratch)
 run-typed = returned.run-typed
 
-pub load-typed : (stage : Stage) (verify : Bool) (d : Device) (s : State) (p : Pins) (k : ℕ) (f : List ℕ) (asked : ℕ) (xs w sc : List ℕ)
-    → (fileAtOf stage verify (deviceOut d) (stateOut s) (p .rp) (p .wp) (p .vpp) k f asked xs w sc ≡ ranNumbers (fileLeftAt stage verify d s p k xs w sc f asked .ran))
-    × (arrayFileAt stage verify (deviceOut d) (stateOut s) (p .rp) (p .wp) (p .vpp) k f asked xs w sc ≡ fileLeftAt stage verify d s p k xs w sc f asked .bytes)
-    × (wantedFileAt stage verify (deviceOut d) (stateOut s) (p .rp) (p .wp) (p .vpp) k f asked xs w sc ≡ fileLeftAt stage verify d s p k xs w sc f asked .wanted)
-    × (scratchFileAt stage verify (deviceOut d) (stateOut s) (p .rp) (p .wp) (p .vpp) k f asked xs w sc ≡ fileLeftAt stage verify d s p k xs w sc f asked .scratch)
+pub load-typed : (j : Job) (f : List ℕ) (asked : ℕ) (xs w sc : List ℕ)
+    → (fileAtOf (j .work) (deviceOut (j .device)) (stateOut (j .state)) (j .pins .rp) (j .pins .wp) (j .pins .vpp) (j .block) f asked xs w sc ≡ ranNumbers (loadLeft j xs w sc f asked .ran))
+    × (arrayFileAt (j .work) (deviceOut (j .device)) (stateOut (j .state)) (j .pins .rp) (j .pins .wp) (j .pins .vpp) (j .block) f asked xs w sc ≡ loadLeft j xs w sc f asked .bytes)
+    × (wantedFileAt (j .work) (deviceOut (j .device)) (stateOut (j .state)) (j .pins .rp) (j .pins .wp) (j .pins .vpp) (j .block) f asked xs w sc ≡ loadLeft j xs w sc f asked .wanted)
+    × (scratchFileAt (j .work) (deviceOut (j .device)) (stateOut (j .state)) (j .pins .rp) (j .pins .wp) (j .pins .vpp) (j .block) f asked xs w sc ≡ loadLeft j xs w sc f asked .scratch)
 load-typed = returned.load-typed
 
 pub wear-add-typed : (part : ℕ) (r : Report) (from : ℕ) (w : Wear)

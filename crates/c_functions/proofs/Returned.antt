@@ -15,7 +15,6 @@ use Rattle.device.specs.declared.Device.{Device}
 use Rattle.device.specs.Parts.{unknownPart, unknownDevice, sizeOf, lengthOf, startOf}
 use Rattle.device.proofs.Claims as device-claims
 use Rattle.model_types.proofs.Claims as types-claims
-use Rattle.model_types.specs.declared.Pins.{Pins}
 use Rattle.model_types.specs.declared.Cycle.{Cycle}
 use Rattle.model_types.specs.declared.State.{State}
 use Rattle.model_types.specs.States.{improper}
@@ -27,7 +26,6 @@ use Rattle.units.specs.Address.{byteOf}
 use Rattle.units.proofs.Widths.{lent-length}
 use Rattle.model.specs.Arrays.{answerOf, bytesAfter}
 use Rattle.model.proofs.Claims as model-claims
-use Rattle.loader.specs.declared.Stage.{Stage}
 use Rattle.loader.specs.Stages.{isEnded, endBy}
 use Rattle.loader.specs.Moves.{nextOf}
 use Rattle.loader.specs.declared.Given.{Given}
@@ -41,13 +39,13 @@ use Rattle.loader_steps.proofs.Again.{step-on}
 use Rattle.loader_steps.proofs.Lending.{step-keeps}
 use Rattle.loader_steps.proofs.Claims as loader-claims
 use Rattle.loader_run.specs.declared.Ran.{Ran}
-use Rattle.loader_run.specs.Runs.{runNumber, lentRows, lentNumber, lentLeftAt, RunLeft}
+use Rattle.loader_run.specs.Runs.{lentRows, lentNumber, RunLeft, runFirst, lentRun, jobOf}
 use Rattle.loader_run.proofs.Lending.{lent-refused}
-use Rattle.loader_from_file.specs.Loads.{loadRows, loadNumber, fileLeftAt}
+use Rattle.loader_from_file.specs.Loads.{loadRows, loadNumber, loadLeft}
 use Rattle.loader_from_file.proofs.Leaving as load-leaving
 use Rattle.file_codec.specs.File.{Outcome, refused, made, limit, inRoom, leftIn, readerOf, writerOf, readAs, writtenAs}
 use Rattle.c_cycle.specs.Values.{partIn, deviceIn, pinsIn, noState, stateIn, stateOut, cycleIn, cycleOut, deviceOut}
-use Rattle.c_records.specs.Records.{noRecord, loaderIn, loaderOut, loaderBack, turnOut, ranOut, writtenOut, readOut}
+use Rattle.c_records.specs.Records.{noRecord, loaderIn, loaderOut, loaderBack, turnOut, ranOut, writtenOut, readOut, jobIn}
 use Rattle.c_cycle.specs.Answers.{stateBack, seenOut, valueOut, answerOut, cycled, arrayCycled}
 use Rattle.c_functions.specs.Calls.{wide, wideIn, startedAt, steppedOf, scratchStepped, runAtOf, arrayRunAt, scratchRunAt, fileAtOf, arrayFileAt, wantedFileAt, scratchFileAt, writtenOf, fileLeft, fileRead, payloadLeft, ranNumbers}
 use Rattle.c_functions.specs.Geometry.{partBy, sizeGiven, blockGiven}
@@ -57,6 +55,8 @@ use Rattle.c_cycle.specs.declared.BusNumbers.{BusNumbers}
 use Rattle.c_records.specs.declared.LoaderNumbers.{LoaderNumbers}
 use Rattle.c_cycle.proofs.Border.{device-back, no-mode-unknown, no-mode-refused, out-state, state-back, cycle-back, state-same, no-state-improper, no-kind-refused}
 use Rattle.c_records.proofs.Border.{out-record, record-back, record-same, no-record-bad, no-mode-part}
+use Rattle.loader_run.specs.declared.Job.{Job}
+use Rattle.loader.specs.declared.Work.{Work}
 
 -- the state or record that goes back for one that came as a state's or a record's numbers
 state-given : (s t : State) → stateBack (stateOut s) t ≡ stateOut t
@@ -170,15 +170,15 @@ module _ (l : LoaderNumbers) (b : ℕ) (w sc : List ℕ) where
   step-no-record known e =
       step-by 3 (loader-claims.step-refused-exactly (loaderIn l) b wu su 3 (λ (z : 3 ≡ 0). (omega arith)) .1 (below known (here (no-record-bad l e))))
 
-module _ (stage : Stage) (verify : Bool) (d : DeviceNumbers) (s : StateNumbers) (rp wp vpp k : ℕ) (xs w sc : List ℕ) where
+module _ (work : Work) (d : DeviceNumbers) (s : StateNumbers) (rp wp vpp k : ℕ) (xs w sc : List ℕ) where
   abbrev numberOfRun : ℕ
-  numberOfRun = lentNumber (deviceIn d) (stateIn s) (pinsIn rp wp vpp) k (length xs) (length w) (length sc)
+  numberOfRun = lentNumber (jobIn work d s rp wp vpp k) (length xs) (length w) (length sc)
 
   pub run-refused : (m : ℕ) → (m ≡ 0 → ⊥) → numberOfRun ≡ m
-      → (runAtOf stage verify d s rp wp vpp k xs w sc ≡ record { count = 0; end = m; address = 0; state = s }) × (arrayRunAt stage verify d s rp wp vpp k xs w sc ≡ xs) × (scratchRunAt stage verify d s rp wp vpp k xs w sc ≡ sc)
+      → (runAtOf work d s rp wp vpp k xs w sc ≡ record { count = 0; end = m; address = 0; state = s }) × (arrayRunAt work d s rp wp vpp k xs w sc ≡ xs) × (scratchRunAt work d s rp wp vpp k xs w sc ≡ sc)
   unfolding runAtOf arrayRunAt scratchRunAt
   run-refused m z e =
-      let q = lent-refused stage verify (deviceIn d) (stateIn s) (pinsIn rp wp vpp) k xs w sc (λ (h : numberOfRun ≡ 0). z (sym e ∙ h)) in
+      let q = lent-refused (jobIn work d s rp wp vpp k) xs w sc (λ (h : numberOfRun ≡ 0). z (sym e ∙ h)) in
       let t = state-same s in (
         ap (λ (r : RunLeft). ranOut s (r .ran)) q ∙ (λ i. record { count = 0; end = e i; address = 0; state = t i }),
         ap (λ (r : RunLeft). r .bytes) q,
@@ -187,48 +187,48 @@ module _ (stage : Stage) (verify : Bool) (d : DeviceNumbers) (s : StateNumbers) 
 
   -- a mode that is none has the number 1, before all else
   first : ltb 1 (d .word) ≡ true → numberOfRun ≡ 1
-  unfolding runNumber
+  unfolding runFirst
   first e =
-      let f : Foremost (lentRows (deviceIn d) (stateIn s) (pinsIn rp wp vpp) k (length xs) (length w) (length sc)) 1 = here (no-mode-refused d e) in
+      let f : Foremost (lentRows (jobIn work d s rp wp vpp k) (length xs) (length w) (length sc)) 1 = here (no-mode-refused d e) in
       foremost-given f
 
-  pub run-no-mode : ltb 1 (d .word) ≡ true → runAtOf stage verify d s rp wp vpp k xs w sc ≡ record { count = 0; end = 1; address = 0; state = s }
+  pub run-no-mode : ltb 1 (d .word) ≡ true → runAtOf work d s rp wp vpp k xs w sc ≡ record { count = 0; end = 1; address = 0; state = s }
   run-no-mode e = run-refused 1 (λ (z : 1 ≡ 0). (omega arith)) (first e) .0
 
   -- numbers that stand for no state have the number 3, after 1 and 2
   third : unknownDevice (deviceIn d) ≡ false → length xs ≡ bytesIn (deviceIn d .part .word) (sizeOf (deviceIn d .part)) → noState s ≡ true → numberOfRun ≡ 3
-  unfolding runNumber
+  unfolding runFirst
   third known whole e =
-      let f : Foremost (lentRows (deviceIn d) (stateIn s) (pinsIn rp wp vpp) k (length xs) (length w) (length sc)) 3 =
+      let f : Foremost (lentRows (jobIn work d s rp wp vpp k) (length xs) (length w) (length sc)) 3 =
       below known (below (lent-whole d xs whole) (here (no-state-improper s e (deviceIn d)))) in
       foremost-given f
 
   pub run-no-state : unknownDevice (deviceIn d) ≡ false → length xs ≡ bytesIn (deviceIn d .part .word) (sizeOf (deviceIn d .part)) → noState s ≡ true
-      → runAtOf stage verify d s rp wp vpp k xs w sc ≡ record { count = 0; end = 3; address = 0; state = s }
+      → runAtOf work d s rp wp vpp k xs w sc ≡ record { count = 0; end = 3; address = 0; state = s }
   run-no-state known whole e = run-refused 3 (λ (z : 3 ≡ 0). (omega arith)) (third known whole e) .0
 
-  pub load-refused : isEnded stage ≡ false → (f : List ℕ) (asked m : ℕ) → (m ≡ 0 → ⊥) → loadNumber (deviceIn d) (stateIn s) (pinsIn rp wp vpp) k (length xs) (length w) (length sc) f asked ≡ m
-      → (fileAtOf stage verify d s rp wp vpp k f asked xs w sc ≡ record { count = 0; end = m; address = 0; state = s }) × (arrayFileAt stage verify d s rp wp vpp k f asked xs w sc ≡ xs)
-      × (wantedFileAt stage verify d s rp wp vpp k f asked xs w sc ≡ w) × (scratchFileAt stage verify d s rp wp vpp k f asked xs w sc ≡ sc)
+  pub load-refused : (f : List ℕ) (asked m : ℕ) → (m ≡ 0 → ⊥) → loadNumber (jobIn work d s rp wp vpp k) (length xs) (length w) (length sc) f asked ≡ m
+      → (fileAtOf work d s rp wp vpp k f asked xs w sc ≡ record { count = 0; end = m; address = 0; state = s }) × (arrayFileAt work d s rp wp vpp k f asked xs w sc ≡ xs)
+      × (wantedFileAt work d s rp wp vpp k f asked xs w sc ≡ w) × (scratchFileAt work d s rp wp vpp k f asked xs w sc ≡ sc)
   unfolding fileAtOf arrayFileAt wantedFileAt scratchFileAt
-  load-refused going f asked m z e =
-      let n = load-leaving.refused-touches-nothing stage verify going (deviceIn d) (stateIn s) (pinsIn rp wp vpp) k xs w sc f asked m z e in
+  load-refused f asked m z e =
+      let n = load-leaving.refused-touches-nothing (jobIn work d s rp wp vpp k) xs w sc f asked m z e in
       let t = state-same s in
       (ap (λ (r : Ran). ranOut s r) (n .0) ∙ (λ i. record { count = 0; end = m; address = 0; state = t i }), n .1, n .2, n .3)
 
-  pub load-no-mode : isEnded stage ≡ false → (f : List ℕ) (asked : ℕ) → ltb 1 (d .word) ≡ true → fileAtOf stage verify d s rp wp vpp k f asked xs w sc ≡ record { count = 0; end = 1; address = 0; state = s }
-  unfolding loadNumber
-  load-no-mode going f asked e =
-      let h : Foremost (loadRows (deviceIn d) (stateIn s) (pinsIn rp wp vpp) k (length xs) (length w) (length sc) f asked) 1 = here (no-mode-refused d e) in
-      load-refused going f asked 1 (λ (z : 1 ≡ 0). (omega arith)) (foremost-given h) .0
+  pub load-no-mode : (f : List ℕ) (asked : ℕ) → ltb 1 (d .word) ≡ true → fileAtOf work d s rp wp vpp k f asked xs w sc ≡ record { count = 0; end = 1; address = 0; state = s }
+  unfolding runFirst
+  load-no-mode f asked e =
+      let h : Foremost (loadRows (jobIn work d s rp wp vpp k) (length xs) (length w) (length sc) f asked) 1 = here (no-mode-refused d e) in
+      load-refused f asked 1 (λ (z : 1 ≡ 0). (omega arith)) (foremost-given h) .0
 
-  pub load-no-state : isEnded stage ≡ false → (f : List ℕ) (asked : ℕ) → unknownDevice (deviceIn d) ≡ false → length xs ≡ bytesIn (deviceIn d .part .word) (sizeOf (deviceIn d .part)) → noState s ≡ true
-      → fileAtOf stage verify d s rp wp vpp k f asked xs w sc ≡ record { count = 0; end = 3; address = 0; state = s }
-  unfolding loadNumber
-  load-no-state going f asked known whole e =
-      let h : Foremost (loadRows (deviceIn d) (stateIn s) (pinsIn rp wp vpp) k (length xs) (length w) (length sc) f asked) 3 =
+  pub load-no-state : (f : List ℕ) (asked : ℕ) → unknownDevice (deviceIn d) ≡ false → length xs ≡ bytesIn (deviceIn d .part .word) (sizeOf (deviceIn d .part)) → noState s ≡ true
+      → fileAtOf work d s rp wp vpp k f asked xs w sc ≡ record { count = 0; end = 3; address = 0; state = s }
+  unfolding runFirst
+  load-no-state f asked known whole e =
+      let h : Foremost (loadRows (jobIn work d s rp wp vpp k) (length xs) (length w) (length sc) f asked) 3 =
       below known (below (lent-whole d xs whole) (here (no-state-improper s e (deviceIn d)))) in
-      load-refused going f asked 3 (λ (z : 3 ≡ 0). (omega arith)) (foremost-given h) .0
+      load-refused f asked 3 (λ (z : 3 ≡ 0). (omega arith)) (foremost-given h) .0
 
 -- the writer's and the reader's refusals
 write-left : (o : Outcome) (out : List ℕ) → (writtenOut (writtenAs o) .number ≡ 0 → ⊥) → (writtenOut (writtenAs o) .length ≡ 0) × (leftIn out o ≡ out)
@@ -297,44 +297,44 @@ step-typed l b w sc =
       λ i. scratchLeft (m i) b w sc,
     )
 
-pub run-typed : (stage : Stage) (verify : Bool) (d : Device) (s : State) (p : Pins) (k : ℕ) (xs w sc : List ℕ)
-    → (runAtOf stage verify (deviceOut d) (stateOut s) (p .rp) (p .wp) (p .vpp) k xs w sc ≡ ranNumbers (lentLeftAt stage verify d s p k xs w sc .ran))
-    × (arrayRunAt stage verify (deviceOut d) (stateOut s) (p .rp) (p .wp) (p .vpp) k xs w sc ≡ lentLeftAt stage verify d s p k xs w sc .bytes)
-    × (scratchRunAt stage verify (deviceOut d) (stateOut s) (p .rp) (p .wp) (p .vpp) k xs w sc ≡ lentLeftAt stage verify d s p k xs w sc .scratch)
+pub run-typed : (j : Job) (xs w sc : List ℕ)
+    → (runAtOf (j .work) (deviceOut (j .device)) (stateOut (j .state)) (j .pins .rp) (j .pins .wp) (j .pins .vpp) (j .block) xs w sc ≡ ranNumbers (lentRun j xs w sc .ran))
+    × (arrayRunAt (j .work) (deviceOut (j .device)) (stateOut (j .state)) (j .pins .rp) (j .pins .wp) (j .pins .vpp) (j .block) xs w sc ≡ lentRun j xs w sc .bytes)
+    × (scratchRunAt (j .work) (deviceOut (j .device)) (stateOut (j .state)) (j .pins .rp) (j .pins .wp) (j .pins .vpp) (j .block) xs w sc ≡ lentRun j xs w sc .scratch)
 unfolding runAtOf arrayRunAt scratchRunAt
-run-typed stage verify d s p k xs w sc =
-    let e = device-back d in
-    let t = state-back s in
-    let r : Ran = lentLeftAt stage verify d s p k xs w sc .ran in
-    let back = state-given s (r .state) in (
-      (λ i. ranOut (stateOut s) (lentLeftAt stage verify (e i) (t i) p k xs w sc .ran)) ∙ (λ i. record { count = r .count; end = r .end; address = r .address; state = back i }),
-      λ i. lentLeftAt stage verify (e i) (t i) p k xs w sc .bytes,
-      λ i. lentLeftAt stage verify (e i) (t i) p k xs w sc .scratch,
+run-typed j xs w sc =
+    let e = device-back (j .device) in
+    let t = state-back (j .state) in
+    let r : Ran = lentRun j xs w sc .ran in
+    let back = state-given (j .state) (r .state) in (
+      (λ i. ranOut (stateOut (j .state)) (lentRun (jobOf (j .work) (e i) (t i) (j .pins) (j .block)) xs w sc .ran)) ∙ (λ i. record { count = r .count; end = r .end; address = r .address; state = back i }),
+      λ i. lentRun (jobOf (j .work) (e i) (t i) (j .pins) (j .block)) xs w sc .bytes,
+      λ i. lentRun (jobOf (j .work) (e i) (t i) (j .pins) (j .block)) xs w sc .scratch,
     )
 
-pub load-typed : (stage : Stage) (verify : Bool) (d : Device) (s : State) (p : Pins) (k : ℕ) (f : List ℕ) (asked : ℕ) (xs w sc : List ℕ)
-    → (fileAtOf stage verify (deviceOut d) (stateOut s) (p .rp) (p .wp) (p .vpp) k f asked xs w sc ≡ ranNumbers (fileLeftAt stage verify d s p k xs w sc f asked .ran))
-    × (arrayFileAt stage verify (deviceOut d) (stateOut s) (p .rp) (p .wp) (p .vpp) k f asked xs w sc ≡ fileLeftAt stage verify d s p k xs w sc f asked .bytes)
-    × (wantedFileAt stage verify (deviceOut d) (stateOut s) (p .rp) (p .wp) (p .vpp) k f asked xs w sc ≡ fileLeftAt stage verify d s p k xs w sc f asked .wanted)
-    × (scratchFileAt stage verify (deviceOut d) (stateOut s) (p .rp) (p .wp) (p .vpp) k f asked xs w sc ≡ fileLeftAt stage verify d s p k xs w sc f asked .scratch)
+pub load-typed : (j : Job) (f : List ℕ) (asked : ℕ) (xs w sc : List ℕ)
+    → (fileAtOf (j .work) (deviceOut (j .device)) (stateOut (j .state)) (j .pins .rp) (j .pins .wp) (j .pins .vpp) (j .block) f asked xs w sc ≡ ranNumbers (loadLeft j xs w sc f asked .ran))
+    × (arrayFileAt (j .work) (deviceOut (j .device)) (stateOut (j .state)) (j .pins .rp) (j .pins .wp) (j .pins .vpp) (j .block) f asked xs w sc ≡ loadLeft j xs w sc f asked .bytes)
+    × (wantedFileAt (j .work) (deviceOut (j .device)) (stateOut (j .state)) (j .pins .rp) (j .pins .wp) (j .pins .vpp) (j .block) f asked xs w sc ≡ loadLeft j xs w sc f asked .wanted)
+    × (scratchFileAt (j .work) (deviceOut (j .device)) (stateOut (j .state)) (j .pins .rp) (j .pins .wp) (j .pins .vpp) (j .block) f asked xs w sc ≡ loadLeft j xs w sc f asked .scratch)
 unfolding fileAtOf arrayFileAt wantedFileAt scratchFileAt
-load-typed stage verify d s p k f asked xs w sc =
-    let e = device-back d in
-    let t = state-back s in
-    let r : Ran = fileLeftAt stage verify d s p k xs w sc f asked .ran in
-    let back = state-given s (r .state) in (
-      (λ i. ranOut (stateOut s) (fileLeftAt stage verify (e i) (t i) p k xs w sc f asked .ran)) ∙ (λ i. record { count = r .count; end = r .end; address = r .address; state = back i }),
-      λ i. fileLeftAt stage verify (e i) (t i) p k xs w sc f asked .bytes,
-      λ i. fileLeftAt stage verify (e i) (t i) p k xs w sc f asked .wanted,
-      λ i. fileLeftAt stage verify (e i) (t i) p k xs w sc f asked .scratch,
+load-typed j f asked xs w sc =
+    let e = device-back (j .device) in
+    let t = state-back (j .state) in
+    let r : Ran = loadLeft j xs w sc f asked .ran in
+    let back = state-given (j .state) (r .state) in (
+      (λ i. ranOut (stateOut (j .state)) (loadLeft (jobOf (j .work) (e i) (t i) (j .pins) (j .block)) xs w sc f asked .ran)) ∙ (λ i. record { count = r .count; end = r .end; address = r .address; state = back i }),
+      λ i. loadLeft (jobOf (j .work) (e i) (t i) (j .pins) (j .block)) xs w sc f asked .bytes,
+      λ i. loadLeft (jobOf (j .work) (e i) (t i) (j .pins) (j .block)) xs w sc f asked .wanted,
+      λ i. loadLeft (jobOf (j .work) (e i) (t i) (j .pins) (j .block)) xs w sc f asked .scratch,
     )
 
 -- a start at a mode that is none: refused 1, with a record that has ended so
-pub start-no-mode : (stage : Stage) (verify : Bool) (part word rp wp vpp k : ℕ) (w sc : List ℕ) → ltb 1 word ≡ true → startedAt stage verify part word rp wp vpp k w sc .turn ≡ turnOut (Barred 1)
+pub start-no-mode : (work : Work) (part word rp wp vpp k : ℕ) (w sc : List ℕ) → ltb 1 word ≡ true → startedAt work part word rp wp vpp k w sc .turn ≡ turnOut (Barred 1)
 unfolding startedAt
-start-no-mode stage verify part word rp wp vpp k w sc e =
+start-no-mode work part word rp wp vpp k w sc e =
     ap (λ (t : Turn). turnOut t)
-    (loader-claims.start-refused-exactly stage verify (partIn part word) (pinsIn rp wp vpp) k (lent (partIn part word .word) w) (lent (partIn part word .word) sc) 1 (λ (z : 1 ≡ 0). (omega arith)) .1
+    (loader-claims.start-refused-exactly work (partIn part word) (pinsIn rp wp vpp) k (lent (partIn part word .word) w) (lent (partIn part word .word) sc) 1 (λ (z : 1 ≡ 0). (omega arith)) .1
     (here (no-mode-unknown part word e)))
 
 -- bytes of a part by its number alone: the same in either mode, and what a cycle, a run and a load ask of array and wanted

@@ -5,16 +5,12 @@ use Prim.Native.Nat.{ℕ}
 use lib.ListN.{length}
 use lib.IntN.{ℤ}
 use Rattle.units.specs.Units.{units, lent}
-use Rattle.loader.specs.declared.Stage.{Stage}
-use Rattle.loader.specs.declared.Stage.the-variants.{Clearing, Closing}
 use Rattle.loader.specs.declared.Given.{Given}
-use Rattle.loader_steps.specs.Front.{startAt, stepGiven, scratchLeft}
+use Rattle.loader_steps.specs.Front.{startGiven, stepGiven, scratchLeft}
 use Rattle.loader_run.specs.declared.Ran.{Ran}
-use Rattle.loader_run.specs.Runs.{lentLeftAt}
-use Rattle.loader_from_file.specs.Loads.{fileLeftAt}
 use Rattle.file_codec.specs.File.{limit, inRoom, leftIn, readerOf, writerOf, readAs, writtenAs}
-use Rattle.c_cycle.specs.Values.{stateOut, partIn, deviceIn, pinsIn, wearIn, stateIn, cycleIn}
-use Rattle.c_records.specs.Records.{loaderIn, loaderOut, loaderBack, turnOut, writtenOut, readOut, ranOut}
+use Rattle.c_cycle.specs.Values.{stateOut, partIn, deviceIn, pinsIn, wearIn, cycleIn}
+use Rattle.c_records.specs.Records.{loaderIn, loaderOut, loaderBack, turnOut, writtenOut, readOut, ranOut, jobIn}
 use Rattle.c_cycle.specs.declared.DeviceNumbers.{DeviceNumbers}
 use Rattle.c_cycle.specs.declared.WearNumbers.{WearNumbers}
 use Rattle.c_cycle.specs.declared.StateNumbers.{StateNumbers}
@@ -31,6 +27,10 @@ use Rattle.wear.specs.Refusals.{addedTo, reportedOf}
 use Rattle.c_wear.specs.declared.ReportNumbers.{ReportNumbers}
 use Rattle.c_wear.specs.declared.ReportedNumbers.{ReportedNumbers}
 use Rattle.c_wear.specs.Reports.{reportIn, reportedOut}
+use Rattle.loader.specs.declared.Work.{Work}
+use Rattle.loader.specs.declared.Work.the-variants.{Load, Verify}
+use Rattle.loader_run.specs.Runs.{lentRun}
+use Rattle.loader_from_file.specs.Loads.{loadLeft}
 
 -- whether the device that such numbers name is in word mode, and the part of a record's numbers
 abbrev pub wide : DeviceNumbers → Bool
@@ -44,22 +44,22 @@ wideIn l = loaderIn l .part .word
 abbrev pub givenOut : Given → GivenNumbers
 givenOut g = record { turn = turnOut (g .turn); loader = loaderOut (g .loader) }
 
--- a loader's start at a stage, with or without the verify after a load
-unfoldable pub startedAt : Stage → Bool → ℕ → ℕ → ℕ → ℕ → ℕ → ℕ → List ℕ → List ℕ → GivenNumbers
-startedAt stage verify part word rp wp vpp k w sc =
-    givenOut (startAt stage verify (partIn part word) (pinsIn rp wp vpp) k (lent (partIn part word .word) w) (lent (partIn part word .word) sc))
+-- a loader's start, of a load with or without the verify after it, or of a verify alone
+unfoldable pub startedAt : Work → ℕ → ℕ → ℕ → ℕ → ℕ → ℕ → List ℕ → List ℕ → GivenNumbers
+startedAt work part word rp wp vpp k w sc =
+    givenOut (startGiven work (partIn part word) (pinsIn rp wp vpp) k (lent (partIn part word .word) w) (lent (partIn part word .word) sc))
 
 -- of a load with the verify after it, of a load alone, of a verify alone
 abbrev pub started : ℕ → ℕ → ℕ → ℕ → ℕ → ℕ → List ℕ → List ℕ → GivenNumbers
-started part word rp wp vpp k w sc = startedAt Clearing true part word rp wp vpp k w sc
+started part word rp wp vpp k w sc = startedAt (Load true) part word rp wp vpp k w sc
 
 -- .. of a load alone
 abbrev pub loadStarted : ℕ → ℕ → ℕ → ℕ → ℕ → ℕ → List ℕ → List ℕ → GivenNumbers
-loadStarted part word rp wp vpp k w sc = startedAt Clearing false part word rp wp vpp k w sc
+loadStarted part word rp wp vpp k w sc = startedAt (Load false) part word rp wp vpp k w sc
 
 -- .. of a verify alone
 abbrev pub verifyStarted : ℕ → ℕ → ℕ → ℕ → ℕ → ℕ → List ℕ → List ℕ → GivenNumbers
-verifyStarted part word rp wp vpp k w sc = startedAt Closing true part word rp wp vpp k w sc
+verifyStarted part word rp wp vpp k w sc = startedAt Verify part word rp wp vpp k w sc
 
 -- a loader's step: what it says and the record, and scratch
 unfoldable pub steppedOf : LoaderNumbers → ℕ → List ℕ → List ℕ → GivenNumbers
@@ -75,101 +75,101 @@ scratchStepped l v w sc = scratchLeft (loaderIn l) v w sc
 abbrev pub ranNumbers : Ran → RanNumbers
 ranNumbers r = record { count = r .count; end = r .end; address = r .address; state = stateOut (r .state) }
 
--- from a stage on, with or without the verify after a load: what is returned, the array, and scratch
-unfoldable pub runAtOf : Stage → Bool → DeviceNumbers → StateNumbers → ℕ → ℕ → ℕ → ℕ → List ℕ → List ℕ → List ℕ → RanNumbers
-runAtOf stage verify d s rp wp vpp k xs w sc = ranOut s (lentLeftAt stage verify (deviceIn d) (stateIn s) (pinsIn rp wp vpp) k xs w sc .ran)
+-- a run of a load, with or without the verify after it, or of a verify alone: what is returned, the array, and scratch
+unfoldable pub runAtOf : Work → DeviceNumbers → StateNumbers → ℕ → ℕ → ℕ → ℕ → List ℕ → List ℕ → List ℕ → RanNumbers
+runAtOf work d s rp wp vpp k xs w sc = ranOut s (lentRun (jobIn work d s rp wp vpp k) xs w sc .ran)
 
 -- .. what it leaves in the array
-unfoldable pub arrayRunAt : Stage → Bool → DeviceNumbers → StateNumbers → ℕ → ℕ → ℕ → ℕ → List ℕ → List ℕ → List ℕ → List ℕ
-arrayRunAt stage verify d s rp wp vpp k xs w sc = lentLeftAt stage verify (deviceIn d) (stateIn s) (pinsIn rp wp vpp) k xs w sc .bytes
+unfoldable pub arrayRunAt : Work → DeviceNumbers → StateNumbers → ℕ → ℕ → ℕ → ℕ → List ℕ → List ℕ → List ℕ → List ℕ
+arrayRunAt work d s rp wp vpp k xs w sc = lentRun (jobIn work d s rp wp vpp k) xs w sc .bytes
 
 -- .. what it leaves in scratch
-unfoldable pub scratchRunAt : Stage → Bool → DeviceNumbers → StateNumbers → ℕ → ℕ → ℕ → ℕ → List ℕ → List ℕ → List ℕ → List ℕ
-scratchRunAt stage verify d s rp wp vpp k xs w sc = lentLeftAt stage verify (deviceIn d) (stateIn s) (pinsIn rp wp vpp) k xs w sc .scratch
+unfoldable pub scratchRunAt : Work → DeviceNumbers → StateNumbers → ℕ → ℕ → ℕ → ℕ → List ℕ → List ℕ → List ℕ → List ℕ
+scratchRunAt work d s rp wp vpp k xs w sc = lentRun (jobIn work d s rp wp vpp k) xs w sc .scratch
 
 -- .. of a run
 abbrev pub runOf : DeviceNumbers → StateNumbers → ℕ → ℕ → ℕ → ℕ → List ℕ → List ℕ → List ℕ → RanNumbers
-runOf d s rp wp vpp k xs w sc = runAtOf Clearing true d s rp wp vpp k xs w sc
+runOf d s rp wp vpp k xs w sc = runAtOf (Load true) d s rp wp vpp k xs w sc
 
 -- .. what a run leaves in the array
 abbrev pub arrayRun : DeviceNumbers → StateNumbers → ℕ → ℕ → ℕ → ℕ → List ℕ → List ℕ → List ℕ → List ℕ
-arrayRun d s rp wp vpp k xs w sc = arrayRunAt Clearing true d s rp wp vpp k xs w sc
+arrayRun d s rp wp vpp k xs w sc = arrayRunAt (Load true) d s rp wp vpp k xs w sc
 
 -- .. what a run leaves in scratch
 abbrev pub scratchRun : DeviceNumbers → StateNumbers → ℕ → ℕ → ℕ → ℕ → List ℕ → List ℕ → List ℕ → List ℕ
-scratchRun d s rp wp vpp k xs w sc = scratchRunAt Clearing true d s rp wp vpp k xs w sc
+scratchRun d s rp wp vpp k xs w sc = scratchRunAt (Load true) d s rp wp vpp k xs w sc
 
 -- .. of a load alone
 abbrev pub loadRunOf : DeviceNumbers → StateNumbers → ℕ → ℕ → ℕ → ℕ → List ℕ → List ℕ → List ℕ → RanNumbers
-loadRunOf d s rp wp vpp k xs w sc = runAtOf Clearing false d s rp wp vpp k xs w sc
+loadRunOf d s rp wp vpp k xs w sc = runAtOf (Load false) d s rp wp vpp k xs w sc
 
 -- .. what a load alone leaves in the array
 abbrev pub arrayLoadRun : DeviceNumbers → StateNumbers → ℕ → ℕ → ℕ → ℕ → List ℕ → List ℕ → List ℕ → List ℕ
-arrayLoadRun d s rp wp vpp k xs w sc = arrayRunAt Clearing false d s rp wp vpp k xs w sc
+arrayLoadRun d s rp wp vpp k xs w sc = arrayRunAt (Load false) d s rp wp vpp k xs w sc
 
 -- .. what a load alone leaves in scratch
 abbrev pub scratchLoadRun : DeviceNumbers → StateNumbers → ℕ → ℕ → ℕ → ℕ → List ℕ → List ℕ → List ℕ → List ℕ
-scratchLoadRun d s rp wp vpp k xs w sc = scratchRunAt Clearing false d s rp wp vpp k xs w sc
+scratchLoadRun d s rp wp vpp k xs w sc = scratchRunAt (Load false) d s rp wp vpp k xs w sc
 
 -- .. of a verify alone
 abbrev pub verifyRunOf : DeviceNumbers → StateNumbers → ℕ → ℕ → ℕ → ℕ → List ℕ → List ℕ → List ℕ → RanNumbers
-verifyRunOf d s rp wp vpp k xs w sc = runAtOf Closing true d s rp wp vpp k xs w sc
+verifyRunOf d s rp wp vpp k xs w sc = runAtOf Verify d s rp wp vpp k xs w sc
 
 -- .. what a verify alone leaves in the array
 abbrev pub arrayVerifyRun : DeviceNumbers → StateNumbers → ℕ → ℕ → ℕ → ℕ → List ℕ → List ℕ → List ℕ → List ℕ
-arrayVerifyRun d s rp wp vpp k xs w sc = arrayRunAt Closing true d s rp wp vpp k xs w sc
+arrayVerifyRun d s rp wp vpp k xs w sc = arrayRunAt Verify d s rp wp vpp k xs w sc
 
 -- .. what a verify alone leaves in scratch
 abbrev pub scratchVerifyRun : DeviceNumbers → StateNumbers → ℕ → ℕ → ℕ → ℕ → List ℕ → List ℕ → List ℕ → List ℕ
-scratchVerifyRun d s rp wp vpp k xs w sc = scratchRunAt Closing true d s rp wp vpp k xs w sc
+scratchVerifyRun d s rp wp vpp k xs w sc = scratchRunAt Verify d s rp wp vpp k xs w sc
 
 -- with a file: what is returned, the array, wanted, and scratch
-unfoldable pub fileAtOf : Stage → Bool → DeviceNumbers → StateNumbers → ℕ → ℕ → ℕ → ℕ → List ℕ → ℕ → List ℕ → List ℕ → List ℕ → RanNumbers
-fileAtOf stage verify d s rp wp vpp k f asked xs w sc = ranOut s (fileLeftAt stage verify (deviceIn d) (stateIn s) (pinsIn rp wp vpp) k xs w sc f asked .ran)
+unfoldable pub fileAtOf : Work → DeviceNumbers → StateNumbers → ℕ → ℕ → ℕ → ℕ → List ℕ → ℕ → List ℕ → List ℕ → List ℕ → RanNumbers
+fileAtOf work d s rp wp vpp k f asked xs w sc = ranOut s (loadLeft (jobIn work d s rp wp vpp k) xs w sc f asked .ran)
 
 -- .. what it leaves in the array
-unfoldable pub arrayFileAt : Stage → Bool → DeviceNumbers → StateNumbers → ℕ → ℕ → ℕ → ℕ → List ℕ → ℕ → List ℕ → List ℕ → List ℕ → List ℕ
-arrayFileAt stage verify d s rp wp vpp k f asked xs w sc = fileLeftAt stage verify (deviceIn d) (stateIn s) (pinsIn rp wp vpp) k xs w sc f asked .bytes
+unfoldable pub arrayFileAt : Work → DeviceNumbers → StateNumbers → ℕ → ℕ → ℕ → ℕ → List ℕ → ℕ → List ℕ → List ℕ → List ℕ → List ℕ
+arrayFileAt work d s rp wp vpp k f asked xs w sc = loadLeft (jobIn work d s rp wp vpp k) xs w sc f asked .bytes
 
 -- .. what it leaves in wanted
-unfoldable pub wantedFileAt : Stage → Bool → DeviceNumbers → StateNumbers → ℕ → ℕ → ℕ → ℕ → List ℕ → ℕ → List ℕ → List ℕ → List ℕ → List ℕ
-wantedFileAt stage verify d s rp wp vpp k f asked xs w sc = fileLeftAt stage verify (deviceIn d) (stateIn s) (pinsIn rp wp vpp) k xs w sc f asked .wanted
+unfoldable pub wantedFileAt : Work → DeviceNumbers → StateNumbers → ℕ → ℕ → ℕ → ℕ → List ℕ → ℕ → List ℕ → List ℕ → List ℕ → List ℕ
+wantedFileAt work d s rp wp vpp k f asked xs w sc = loadLeft (jobIn work d s rp wp vpp k) xs w sc f asked .wanted
 
 -- .. what it leaves in scratch
-unfoldable pub scratchFileAt : Stage → Bool → DeviceNumbers → StateNumbers → ℕ → ℕ → ℕ → ℕ → List ℕ → ℕ → List ℕ → List ℕ → List ℕ → List ℕ
-scratchFileAt stage verify d s rp wp vpp k f asked xs w sc = fileLeftAt stage verify (deviceIn d) (stateIn s) (pinsIn rp wp vpp) k xs w sc f asked .scratch
+unfoldable pub scratchFileAt : Work → DeviceNumbers → StateNumbers → ℕ → ℕ → ℕ → ℕ → List ℕ → ℕ → List ℕ → List ℕ → List ℕ → List ℕ
+scratchFileAt work d s rp wp vpp k f asked xs w sc = loadLeft (jobIn work d s rp wp vpp k) xs w sc f asked .scratch
 
 -- .. of a load from a file, with the verify after it
 abbrev pub loadOf : DeviceNumbers → StateNumbers → ℕ → ℕ → ℕ → ℕ → List ℕ → ℕ → List ℕ → List ℕ → List ℕ → RanNumbers
-loadOf d s rp wp vpp k f asked xs w sc = fileAtOf Clearing true d s rp wp vpp k f asked xs w sc
+loadOf d s rp wp vpp k f asked xs w sc = fileAtOf (Load true) d s rp wp vpp k f asked xs w sc
 
 -- .. what such a load leaves in the array
 abbrev pub arrayLoad : DeviceNumbers → StateNumbers → ℕ → ℕ → ℕ → ℕ → List ℕ → ℕ → List ℕ → List ℕ → List ℕ → List ℕ
-arrayLoad d s rp wp vpp k f asked xs w sc = arrayFileAt Clearing true d s rp wp vpp k f asked xs w sc
+arrayLoad d s rp wp vpp k f asked xs w sc = arrayFileAt (Load true) d s rp wp vpp k f asked xs w sc
 
 -- .. what such a load leaves in wanted
 abbrev pub wantedLoad : DeviceNumbers → StateNumbers → ℕ → ℕ → ℕ → ℕ → List ℕ → ℕ → List ℕ → List ℕ → List ℕ → List ℕ
-wantedLoad d s rp wp vpp k f asked xs w sc = wantedFileAt Clearing true d s rp wp vpp k f asked xs w sc
+wantedLoad d s rp wp vpp k f asked xs w sc = wantedFileAt (Load true) d s rp wp vpp k f asked xs w sc
 
 -- .. what such a load leaves in scratch
 abbrev pub scratchLoad : DeviceNumbers → StateNumbers → ℕ → ℕ → ℕ → ℕ → List ℕ → ℕ → List ℕ → List ℕ → List ℕ → List ℕ
-scratchLoad d s rp wp vpp k f asked xs w sc = scratchFileAt Clearing true d s rp wp vpp k f asked xs w sc
+scratchLoad d s rp wp vpp k f asked xs w sc = scratchFileAt (Load true) d s rp wp vpp k f asked xs w sc
 
 -- .. of a verify from a file
 abbrev pub verifyFileOf : DeviceNumbers → StateNumbers → ℕ → ℕ → ℕ → ℕ → List ℕ → ℕ → List ℕ → List ℕ → List ℕ → RanNumbers
-verifyFileOf d s rp wp vpp k f asked xs w sc = fileAtOf Closing true d s rp wp vpp k f asked xs w sc
+verifyFileOf d s rp wp vpp k f asked xs w sc = fileAtOf Verify d s rp wp vpp k f asked xs w sc
 
 -- .. what such a verify leaves in the array
 abbrev pub arrayVerifyFile : DeviceNumbers → StateNumbers → ℕ → ℕ → ℕ → ℕ → List ℕ → ℕ → List ℕ → List ℕ → List ℕ → List ℕ
-arrayVerifyFile d s rp wp vpp k f asked xs w sc = arrayFileAt Closing true d s rp wp vpp k f asked xs w sc
+arrayVerifyFile d s rp wp vpp k f asked xs w sc = arrayFileAt Verify d s rp wp vpp k f asked xs w sc
 
 -- .. what such a verify leaves in wanted
 abbrev pub wantedVerifyFile : DeviceNumbers → StateNumbers → ℕ → ℕ → ℕ → ℕ → List ℕ → ℕ → List ℕ → List ℕ → List ℕ → List ℕ
-wantedVerifyFile d s rp wp vpp k f asked xs w sc = wantedFileAt Closing true d s rp wp vpp k f asked xs w sc
+wantedVerifyFile d s rp wp vpp k f asked xs w sc = wantedFileAt Verify d s rp wp vpp k f asked xs w sc
 
 -- .. what such a verify leaves in scratch
 abbrev pub scratchVerifyFile : DeviceNumbers → StateNumbers → ℕ → ℕ → ℕ → ℕ → List ℕ → ℕ → List ℕ → List ℕ → List ℕ → List ℕ
-scratchVerifyFile d s rp wp vpp k f asked xs w sc = scratchFileAt Closing true d s rp wp vpp k f asked xs w sc
+scratchVerifyFile d s rp wp vpp k f asked xs w sc = scratchFileAt Verify d s rp wp vpp k f asked xs w sc
 
 -- the writer and the reader: a number and a length, and the buffer that was lent
 unfoldable pub writtenOf : ℕ → List ℕ → List ℕ → SizedNumbers

@@ -16,6 +16,7 @@ use c_wear::ReportNumbers;
 use c_wear::ReportedNumbers;
 use device::Part;
 use loader::Given;
+use loader::Work;
 ghost use mathlib.Core.Path.{_≡_};
 ghost use lib.ListN.{take};
 ghost use Rattle.model_types.specs.States.{freshState};
@@ -120,7 +121,7 @@ pub extern "C" fn tb_start(
 {
     let known = c_cycle::states::part_in(part, word);
     let p = c_cycle::states::pins_in(rp, wp, vpp);
-    given_out(loader_steps::front::start(known, p, block, wanted, scratch))
+    given_out(loader_steps::front::start(Work::Load(true), known, p, block, wanted, scratch))
 }
 
 // The first cycle of a load alone.
@@ -139,7 +140,7 @@ pub extern "C" fn tb_load_start(
 {
     let known = c_cycle::states::part_in(part, word);
     let p = c_cycle::states::pins_in(rp, wp, vpp);
-    given_out(loader_steps::front::start_load(known, p, block, wanted, scratch))
+    given_out(loader_steps::front::start(Work::Load(false), known, p, block, wanted, scratch))
 }
 
 // The first cycle of a verify alone.
@@ -158,7 +159,7 @@ pub extern "C" fn tb_verify_start(
 {
     let known = c_cycle::states::part_in(part, word);
     let p = c_cycle::states::pins_in(rp, wp, vpp);
-    given_out(loader_steps::front::start_verify(known, p, block, wanted, scratch))
+    given_out(loader_steps::front::start(Work::Verify, known, p, block, wanted, scratch))
 }
 
 // A loader's step on numbers, by value.
@@ -209,10 +210,8 @@ pub extern "C" fn tb_run(
     ensures { λ _. ⌜ now (array .exit) ≡ arrayRun device state rp wp vpp block (now (array .entry)) (now (wanted .entry)) (now (scratch .entry)) ⌝ }
     ensures { λ _. ⌜ now (scratch .exit) ≡ scratchRun device state rp wp vpp block (now (array .entry)) (now (wanted .entry)) (now (scratch .entry)) ⌝ }
 {
-    let d = c_cycle::states::device_in(device);
-    let s = c_cycle::states::state_in(state);
-    let p = c_cycle::states::pins_in(rp, wp, vpp);
-    let r = loader_quick::run_quick(d, s, p, block, array, wanted, scratch);
+    let j = c_records::runs::job_in(Work::Load(true), device, state, rp, wp, vpp, block);
+    let r = loader_quick::run_quick(j, array, wanted, scratch);
     c_records::runs::ran_out(state, r)
 }
 
@@ -233,10 +232,8 @@ pub extern "C" fn tb_load_run(
     ensures { λ _. ⌜ now (array .exit) ≡ arrayLoadRun device state rp wp vpp block (now (array .entry)) (now (wanted .entry)) (now (scratch .entry)) ⌝ }
     ensures { λ _. ⌜ now (scratch .exit) ≡ scratchLoadRun device state rp wp vpp block (now (array .entry)) (now (wanted .entry)) (now (scratch .entry)) ⌝ }
 {
-    let d = c_cycle::states::device_in(device);
-    let s = c_cycle::states::state_in(state);
-    let p = c_cycle::states::pins_in(rp, wp, vpp);
-    let r = loader_quick::run_load_quick(d, s, p, block, array, wanted, scratch);
+    let j = c_records::runs::job_in(Work::Load(false), device, state, rp, wp, vpp, block);
+    let r = loader_quick::run_quick(j, array, wanted, scratch);
     c_records::runs::ran_out(state, r)
 }
 
@@ -257,10 +254,8 @@ pub extern "C" fn tb_verify_run(
     ensures { λ _. ⌜ now (array .exit) ≡ arrayVerifyRun device state rp wp vpp block (now (array .entry)) (now (wanted .entry)) (now (scratch .entry)) ⌝ }
     ensures { λ _. ⌜ now (scratch .exit) ≡ scratchVerifyRun device state rp wp vpp block (now (array .entry)) (now (wanted .entry)) (now (scratch .entry)) ⌝ }
 {
-    let d = c_cycle::states::device_in(device);
-    let s = c_cycle::states::state_in(state);
-    let p = c_cycle::states::pins_in(rp, wp, vpp);
-    let r = loader_quick::run_verify_quick(d, s, p, block, array, wanted, scratch);
+    let j = c_records::runs::job_in(Work::Verify, device, state, rp, wp, vpp, block);
+    let r = loader_quick::run_quick(j, array, wanted, scratch);
     c_records::runs::ran_out(state, r)
 }
 
@@ -284,10 +279,8 @@ pub extern "C" fn tb_load(
     ensures { λ _. ⌜ now (wanted .exit) ≡ wantedLoad device state rp wp vpp block (now (file .entry)) letter (now (array .entry)) (now (wanted .entry)) (now (scratch .entry)) ⌝ }
     ensures { λ _. ⌜ now (scratch .exit) ≡ scratchLoad device state rp wp vpp block (now (file .entry)) letter (now (array .entry)) (now (wanted .entry)) (now (scratch .entry)) ⌝ }
 {
-    let d = c_cycle::states::device_in(device);
-    let s = c_cycle::states::state_in(state);
-    let p = c_cycle::states::pins_in(rp, wp, vpp);
-    let r = loader_from_file::load(d, s, p, block, array, wanted, scratch, file, letter);
+    let j = c_records::runs::job_in(Work::Load(true), device, state, rp, wp, vpp, block);
+    let r = loader_from_file::load(j, array, wanted, scratch, file, letter);
     c_records::runs::ran_out(state, r)
 }
 
@@ -311,21 +304,9 @@ pub extern "C" fn tb_verify_file(
     ensures { λ _. ⌜ now (wanted .exit) ≡ wantedVerifyFile device state rp wp vpp block (now (file .entry)) letter (now (array .entry)) (now (wanted .entry)) (now (scratch .entry)) ⌝ }
     ensures { λ _. ⌜ now (scratch .exit) ≡ scratchVerifyFile device state rp wp vpp block (now (file .entry)) letter (now (array .entry)) (now (wanted .entry)) (now (scratch .entry)) ⌝ }
 {
-    let d = c_cycle::states::device_in(device);
-    let s = c_cycle::states::state_in(state);
-    let p = c_cycle::states::pins_in(rp, wp, vpp);
-    let r = loader_from_file::verify_from_file(
-        d,
-        s,
-        p,
-        block,
-        array,
-        wanted,
-        scratch,
-        file,
-        letter,
-    );
-    c_records::runs::ran_out(state, r)
+    let j = c_records::runs::job_in(Work::Verify, device, state, rp, wp, vpp, block);
+    let ran = loader_from_file::load(j, array, wanted, scratch, file, letter);
+    c_records::runs::ran_out(state, ran)
 }
 
 // The writer of a load file.

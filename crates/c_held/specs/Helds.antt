@@ -16,12 +16,13 @@ use Rattle.loader_held_run.specs.HeldRuns.{HeldLeft, lentHeld}
 use Rattle.loader_held_file.specs.HeldLoads.{HeldLoadLeft, heldFileLeft}
 use Rattle.c_cycle.specs.declared.DeviceNumbers.{DeviceNumbers}
 use Rattle.c_cycle.specs.declared.StateNumbers.{StateNumbers}
-use Rattle.c_cycle.specs.Values.{flagOut, partIn, pinsIn, deviceIn, stateIn}
+use Rattle.c_cycle.specs.Values.{flagOut, partIn, pinsIn}
 use Rattle.c_records.specs.declared.RanNumbers.{RanNumbers}
-use Rattle.c_records.specs.Records.{loaderIn, loaderOut, loaderBack, turnOut, ranOut}
+use Rattle.c_records.specs.Records.{loaderIn, loaderOut, loaderBack, turnOut, ranOut, jobIn}
 use Rattle.c_held.specs.declared.HoldNumbers.{HoldNumbers}
 use Rattle.c_held.specs.declared.HeldNumbers.{HeldNumbers}
 use Rattle.c_held.specs.declared.HeldGivenNumbers.{HeldGivenNumbers}
+use Rattle.loader.specs.declared.Work.the-variants.{Load}
 
 -- steps of an interruption: 0 none, 1 to 6 by the cycle that is out
 unfoldable pub stepIn : ℕ → Step
@@ -112,7 +113,7 @@ roomSteppedHeld n v w sc bs room = heldRoomLeft (heldIn n .loader) (heldIn n .ho
 
 -- a run: what it returns and leaves
 unfoldable pub heldRunLeft : DeviceNumbers → StateNumbers → ℕ → ℕ → ℕ → ℕ → ℕ → List ℕ → List ℕ → List ℕ → List ℕ → List ℕ → List ℕ → HeldLeft
-heldRunLeft d s rp wp vpp k verify xs w sc ps bs room = lentHeld (yes verify) (deviceIn d) (stateIn s) (pinsIn rp wp vpp) k xs w sc ps bs room
+heldRunLeft d s rp wp vpp k verify xs w sc ps bs room = lentHeld (jobIn (Load (yes verify)) d s rp wp vpp k) xs w sc ps bs room
 
 -- .. the result as numbers
 unfoldable pub heldRunOf : DeviceNumbers → StateNumbers → ℕ → ℕ → ℕ → ℕ → ℕ → List ℕ → List ℕ → List ℕ → List ℕ → List ℕ → List ℕ → RanNumbers
@@ -120,7 +121,7 @@ heldRunOf d s rp wp vpp k verify xs w sc ps bs room = ranOut s (heldRunLeft d s 
 
 -- a load from a file: what it returns and leaves
 unfoldable pub heldLoadLeft : DeviceNumbers → StateNumbers → ℕ → ℕ → ℕ → ℕ → ℕ → ℕ → List ℕ → List ℕ → List ℕ → List ℕ → List ℕ → List ℕ → List ℕ → HeldLoadLeft
-heldLoadLeft d s rp wp vpp k verify asked f xs w sc ps bs room = heldFileLeft (yes verify) (deviceIn d) (stateIn s) (pinsIn rp wp vpp) k xs w sc f asked ps bs room
+heldLoadLeft d s rp wp vpp k verify asked f xs w sc ps bs room = heldFileLeft (jobIn (Load (yes verify)) d s rp wp vpp k) xs w sc f asked ps bs room
 
 -- .. the result as numbers
 unfoldable pub heldLoadOf : DeviceNumbers → StateNumbers → ℕ → ℕ → ℕ → ℕ → ℕ → ℕ → List ℕ → List ℕ → List ℕ → List ℕ → List ℕ → List ℕ → List ℕ → RanNumbers

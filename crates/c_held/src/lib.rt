@@ -7,6 +7,7 @@ use c_cycle::StateNumbers;
 use c_records::LoaderNumbers;
 use c_records::RanNumbers;
 use c_records::TurnNumbers;
+use loader::Work;
 use loader_held_steps::HeldGiven;
 ghost use mathlib.Core.Path.{_≡_};
 ghost use Rattle.c_held.specs.Helds.{givenHeld, givenHeldBack, startedHeld, steppedHeld, scratchSteppedHeld, roomSteppedHeld, heldRunLeft, heldRunOf, heldLoadLeft, heldLoadOf};
@@ -134,22 +135,9 @@ pub extern "C" fn tb_held_run(
     ensures { λ _. ⌜ now (scratch .exit) ≡ heldRunLeft device state rp wp vpp block verify (now (array .entry)) (now (wanted .entry)) (now (scratch .entry)) (now (polls .entry)) (now (addresses .entry)) (now (room .entry)) .scratch ⌝ }
     ensures { λ _. ⌜ now (room .exit) ≡ heldRunLeft device state rp wp vpp block verify (now (array .entry)) (now (wanted .entry)) (now (scratch .entry)) (now (polls .entry)) (now (addresses .entry)) (now (room .entry)) .room ⌝ }
 {
-    let d = c_cycle::states::device_in(device);
-    let s = c_cycle::states::state_in(state);
-    let p = c_cycle::states::pins_in(rp, wp, vpp);
-    let ran = loader_held_run::run_held(
-        d,
-        s,
-        p,
-        block,
-        array,
-        wanted,
-        scratch,
-        polls,
-        addresses,
-        room,
-        verify != 0,
-    );
+    let work = Work::Load(verify != 0);
+    let j = c_records::runs::job_in(work, device, state, rp, wp, vpp, block);
+    let ran = loader_held_run::run_held(j, array, wanted, scratch, polls, addresses, room);
     c_records::runs::ran_out(state, ran)
 }
 
@@ -178,14 +166,10 @@ pub extern "C" fn tb_held_load(
     ensures { λ _. ⌜ now (scratch .exit) ≡ heldLoadLeft device state rp wp vpp block verify letter (now (file .entry)) (now (array .entry)) (now (wanted .entry)) (now (scratch .entry)) (now (polls .entry)) (now (addresses .entry)) (now (room .entry)) .scratch ⌝ }
     ensures { λ _. ⌜ now (room .exit) ≡ heldLoadLeft device state rp wp vpp block verify letter (now (file .entry)) (now (array .entry)) (now (wanted .entry)) (now (scratch .entry)) (now (polls .entry)) (now (addresses .entry)) (now (room .entry)) .room ⌝ }
 {
-    let d = c_cycle::states::device_in(device);
-    let s = c_cycle::states::state_in(state);
-    let p = c_cycle::states::pins_in(rp, wp, vpp);
+    let work = Work::Load(verify != 0);
+    let j = c_records::runs::job_in(work, device, state, rp, wp, vpp, block);
     let ran = loader_held_file::load_held(
-        d,
-        s,
-        p,
-        block,
+        j,
         array,
         wanted,
         scratch,
@@ -194,7 +178,6 @@ pub extern "C" fn tb_held_load(
         polls,
         addresses,
         room,
-        verify != 0,
     );
     c_records::runs::ran_out(state, ran)
 }

@@ -1,18 +1,25 @@
 -- Two results that a promise of this crate allows are equal, and so is what it leaves in each thing lent.
 use mathlib.Core.Path.{_≡_}
+use Prim.Native.Nat.{ℕ}
 use Rattle.common.specs.Choice.{Unique}
 use Rattle.common.proofs.Choice.{only}
 use Rattle.loader.specs.declared.Loader.{Loader}
 use Rattle.loader.specs.declared.Turn.{Turn}
 use Rattle.loader_run.specs.declared.Ran.{Ran}
+use Rattle.loader_run.specs.declared.Job.{Job}
+use Rattle.loader.specs.declared.Work.{Work}
 use Rattle.file_codec.specs.declared.Written.{Written}
 use Rattle.file_codec.specs.declared.ReadBack.{ReadBack}
-use Rattle.c_records.specs.Records.{loaderIn, loaderOut, ranOut, loaderBack, turnOut, writtenOut, readOut}
+use Rattle.c_records.specs.Records.{loaderIn, loaderOut, jobIn, ranOut, loaderBack, turnOut, writtenOut, readOut}
+use Rattle.c_cycle.specs.declared.DeviceNumbers.{DeviceNumbers}
 use Rattle.c_cycle.specs.declared.StateNumbers.{StateNumbers}
 use Rattle.c_records.specs.declared.LoaderNumbers.{LoaderNumbers}
 use Rattle.c_records.specs.declared.TurnNumbers.{TurnNumbers}
 use Rattle.c_records.specs.declared.RanNumbers.{RanNumbers}
 use Rattle.c_records.specs.declared.SizedNumbers.{SizedNumbers}
+
+pub job-in-unique : (work : Work) (d : DeviceNumbers) (s : StateNumbers) (rp wp vpp k : ℕ) → Unique (λ (r : Job). r ≡ jobIn work d s rp wp vpp k)
+job-in-unique work d s rp wp vpp k = only (jobIn work d s rp wp vpp k)
 
 pub ran-out-unique : (n : StateNumbers) (ran : Ran) → Unique (λ (r : RanNumbers). r ≡ ranOut n ran)
 ran-out-unique n ran = only (ranOut n ran)

@@ -3,6 +3,7 @@ use mathlib.Core.Bool.{Bool, not, _&&_, _||_}
 use Prim.Native.Nat.{ℕ}
 use lib.Dec.{eqb, ltb}
 use Rattle.common.specs.Choice.{if_then_else_}
+use Rattle.c_cycle.specs.declared.DeviceNumbers.{DeviceNumbers}
 use Rattle.c_cycle.specs.declared.StateNumbers.{StateNumbers}
 use Rattle.c_cycle.specs.declared.BusNumbers.{BusNumbers}
 use Rattle.loader.specs.declared.Stage.{Stage}
@@ -13,11 +14,14 @@ use Rattle.c_records.specs.declared.LoaderNumbers.{LoaderNumbers}
 use Rattle.loader.specs.declared.Turn.{Turn}
 use Rattle.loader.specs.declared.Turn.the-variants.{Out, Over, Barred}
 use Rattle.loader_run.specs.declared.Ran.{Ran}
+use Rattle.loader_run.specs.declared.Job.{Job}
+use Rattle.loader_run.specs.Runs.{jobOf}
+use Rattle.loader.specs.declared.Work.{Work}
 use Rattle.file_codec.specs.declared.Written.{Written}
 use Rattle.file_codec.specs.declared.Written.the-variants.{Wrote, NotWritten}
 use Rattle.file_codec.specs.declared.ReadBack.{ReadBack}
 use Rattle.file_codec.specs.declared.ReadBack.the-variants.{Gave, NotRead}
-use Rattle.c_cycle.specs.Values.{cycleOut, partIn, pinsIn, flagOut}
+use Rattle.c_cycle.specs.Values.{cycleOut, deviceIn, stateIn, partIn, pinsIn, flagOut}
 use Rattle.c_records.specs.declared.TurnNumbers.{TurnNumbers}
 use Rattle.c_records.specs.declared.RanNumbers.{RanNumbers}
 use Rattle.c_records.specs.declared.SizedNumbers.{SizedNumbers}
@@ -131,6 +135,10 @@ writtenOut (NotWritten n) = sizedAs n 0
 abbrev pub readOut : ReadBack → SizedNumbers
 readOut (Gave size) = sizedAs 0 size
 readOut (NotRead n) = sizedAs n 0
+
+-- what is run, by the numbers of the device, its state and the levels on it
+abbrev pub jobIn : Work → DeviceNumbers → StateNumbers → ℕ → ℕ → ℕ → ℕ → Job
+jobIn work d s rp wp vpp k = jobOf work (deviceIn d) (stateIn s) (pinsIn rp wp vpp) k
 
 -- what a run returns, as numbers, for the state's numbers that came in
 abbrev pub ranOut : StateNumbers → Ran → RanNumbers

@@ -17,7 +17,7 @@ use Rattle.model_types.specs.declared.Mode.the-variants.{Array}
 use Rattle.loader_steps.specs.Front.{barredPins, noBlock, wrongLengths}
 use Rattle.loader.specs.Walks.{risesIn}
 use Rattle.loader_run.specs.declared.Ran.{Ran}
-use Rattle.loader_run.specs.Runs.{runNumber}
+use Rattle.loader_run.specs.Runs.{runNumber, runFirst, jobOf}
 use Rattle.loader_run_claims.specs.Wear.{differing, heldIn, formula, loadFormula}
 use Rattle.loader_run_claims.specs.Ends.{erasedFrom}
 use Rattle.loader_run_claims.specs.Mission.{Start}
@@ -25,10 +25,11 @@ use Rattle.loader_run_claims.proofs.Starts.{taken-if}
 use Rattle.loader_run_claims.proofs.SameBlock.{none-risen, none-differing}
 use Rattle.loader_run_claims.proofs.Mission as mission
 use Rattle.cards.specs.Table.{deviceT, normal, same, Counts, Card10, Card11, LoadCounts, Loads}
+use Rattle.loader.specs.declared.Work.the-variants.{Load}
 
 -- nothing refuses such a run
-accepted : runNumber deviceT freshState normal 1 16384 512 512 ≡ 0
-unfolding runNumber rowOf shapeOf sizeIn lengthIn isLarge unknownPart unknownDevice sizeOf lengthOf vppLow atTwelve vppHigh badWp badPins proper improper barredPins noBlock wrongLengths
+accepted : runNumber (jobOf (Load true) deviceT freshState normal 1) 16384 512 512 ≡ 0
+unfolding runFirst rowOf shapeOf sizeIn lengthIn isLarge unknownPart unknownDevice sizeOf lengthOf vppLow atTwelve vppHigh badWp badPins proper improper barredPins noBlock wrongLengths
 accepted = refl
 
 supply : vppHigh (deviceT .part) normal ≡ true
@@ -39,10 +40,10 @@ first : startOf (deviceT .part) 1 ≡ 0x3A00
 unfolding rowOf shapeOf sizeIn lengthIn offsetIn startIn startOf
 first = refl
 
-starts : (xs w sc : List ℕ) → Bytes xs → length xs ≡ 16384 → length w ≡ 512 → length sc ≡ 512 → Bytes w → Start deviceT freshState normal 1 xs w sc
+starts : (xs w sc : List ℕ) → Bytes xs → length xs ≡ 16384 → length w ≡ 512 → length sc ≡ 512 → Bytes w → Start (jobOf (Load true) deviceT freshState normal 1) xs w sc
 unfolding ones
 starts xs w sc bx lx lw ls bytes = record {
-  base = taken-if deviceT freshState normal 1 xs w sc (rw (lx, lw, ls) accepted) (omega arith) (omega arith) (λ (i : ℕ). omega (arith, bytes i)) (λ (i : ℕ). omega (arith, bx i));
+  base = taken-if (jobOf (Load true) deviceT freshState normal 1) xs w sc (rw (lx, lw, ls) accepted) (omega arith) (omega arith) (λ (i : ℕ). omega (arith, bytes i)) (λ (i : ℕ). omega (arith, bx i));
   high = supply;
   unlock = λ (e : _≡_ {A = ℕ} 1 0). absurd (omega arith);
 }
@@ -53,7 +54,7 @@ held-there xs w held lw h = ap (λ (a : ℕ). heldIn a (length w) xs) first ∙ 
 
 counts : (n : ℕ) (erases : Bool) (held w : List ℕ) → length w ≡ 512 → Bytes w → formula deviceT w held ≡ n → risesIn w held ≡ erases → Counts n erases held w
 counts n erases held w lw bytes f r xs sc bx lx ls h =
-    mission.ends-well true deviceT freshState normal 1 xs w sc (starts xs w sc bx lx lw ls bytes)
+    mission.ends-well true (jobOf (Load true) deviceT freshState normal 1) xs w sc (starts xs w sc bx lx lw ls bytes)
     ∙ ap (λ (ys : List ℕ). result (formula deviceT w ys) (risesIn w ys)) (held-there xs w held lw h)
     ∙ ap₂ result f r
   where
@@ -63,10 +64,10 @@ counts n erases held w lw bytes f r xs sc bx lx ls h =
 load-counts : (n : ℕ) (held w : List ℕ) → length w ≡ 512 → Bytes w → loadFormula deviceT w held ≡ n → LoadCounts n held w
 load-counts n held w lw bytes f xs sc bx lx ls h =
     let start = starts xs w sc bx lx lw ls bytes in
-    let e = mission.ends-well false deviceT freshState normal 1 xs w sc start in (
+    let e = mission.ends-well false (jobOf (Load true) deviceT freshState normal 1) xs w sc start in (
       ap (λ (r : Ran). r .count) e ∙ ap (λ (ys : List ℕ). loadFormula deviceT w ys) (held-there xs w held lw h) ∙ f,
       ap (λ (r : Ran). r .end) e,
-      mission.scratch-wanted false deviceT freshState normal 1 xs w sc start,
+      mission.scratch-wanted false (jobOf (Load true) deviceT freshState normal 1) xs w sc start,
     )
 
 -- a block that holds what is wanted

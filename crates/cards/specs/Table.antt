@@ -18,9 +18,10 @@ use Rattle.model.specs.declared.Seen.{Seen}
 use Rattle.model.specs.declared.Seen.the-variants.{NoData, Data, Refused}
 use Rattle.file_check.specs.Check.{checkOf}
 use Rattle.model_history.specs.History.{Bus, World, worldAfter, seenOn, seenIn}
-use Rattle.loader_run.specs.Runs.{loadAlone, ranOf}
 use Rattle.loader_run_claims.specs.Wear.{heldIn}
 use Rattle.loader_run_claims.specs.Ends.{erasedFrom}
+use Rattle.loader.specs.declared.Work.the-variants.{Load}
+use Rattle.loader_run.specs.Runs.{runLeft, jobOf}
 
 -- a part with P and E; S is 1
 abbrev pub device : ℕ → ℕ → ℕ → Device
@@ -163,7 +164,7 @@ card9 = shows (worldAfter deviceT (fresh (spot 255 0xF0)) (write normal 16 0x40 
 -- scratch hold
 abbrev pub Counts : ℕ → Bool → List ℕ → List ℕ → Type 0
 Counts n erases held wanted = (xs sc : List ℕ) → Bytes xs → length xs ≡ 16384 → length sc ≡ 512 → heldIn 0x3A00 512 xs ≡ held
-    → ranOf deviceT freshState normal 1 xs wanted sc ≡ record { count = n; end = 0; address = 0; state = atRest (erasedFrom erases 1 freshState) Array 0x80 }
+    → runLeft (jobOf (Load true) deviceT freshState normal 1) xs wanted sc .ran ≡ record { count = n; end = 0; address = 0; state = atRest (erasedFrom erases 1 freshState) Array 0x80 }
 
 -- 10: the block held FFH, wanted is 5AH and then FFH: 1,031 cycles, no erase (R-card-10)
 abbrev pub Card10 : Type 0
@@ -176,8 +177,8 @@ Card11 = Counts 1032 true (same 512 0) (same 512 255) × ((w : List ℕ) → len
 -- a good load alone there makes n cycles, and its scratch ends as wanted
 abbrev pub LoadCounts : ℕ → List ℕ → List ℕ → Type 0
 LoadCounts n held wanted = (xs sc : List ℕ) → Bytes xs → length xs ≡ 16384 → length sc ≡ 512 → heldIn 0x3A00 512 xs ≡ held
-    → (loadAlone deviceT freshState normal 1 xs wanted sc .ran .count ≡ n) × (loadAlone deviceT freshState normal 1 xs wanted sc .ran .end ≡ 0)
-    × (loadAlone deviceT freshState normal 1 xs wanted sc .scratch ≡ wanted)
+    → (runLeft (jobOf (Load false) deviceT freshState normal 1) xs wanted sc .ran .count ≡ n) × (runLeft (jobOf (Load false) deviceT freshState normal 1) xs wanted sc .ran .end ≡ 0)
+    × (runLeft (jobOf (Load false) deviceT freshState normal 1) xs wanted sc .scratch ≡ wanted)
 
 -- 10 and 11 without the verify: 518; 519 and 514
 abbrev pub Loads : Type 0

@@ -14,6 +14,8 @@ use Rattle.model_types.specs.States.{freshState}
 use Rattle.loader_from_file.specs.Loads.{loadLeft}
 use Rattle.verify_answer.specs.Answers.{numeralOf, bytesOf}
 use Rattle.load_told.specs.Tellings.{pinsOf, loadOf, callWrong, misused, endedBy, askedDevice, told}
+use Rattle.loader.specs.declared.Work.the-variants.{Load}
+use Rattle.loader_run.specs.Runs.{jobOf}
 
 module _ (count : ℕ) (xs device block f letter mode program erase w sc : List ℕ) where
   pub told-wrong : callWrong count letter (numeralOf mode) ≡ true → misused xs w sc ≡ told count xs device block f letter mode program erase w sc
@@ -27,8 +29,8 @@ module _ (count : ℕ) (xs device block f letter mode program erase w sc : List 
 
 -- a load in the front of the rooms lent
 pub load-is : (d : Device) (k : ℕ) (xs w sc f : List ℕ) (letter n : ℕ) (s : State) (p : Pins) → n ≡ bytesOf (d .part) k w sc → s ≡ freshState → p ≡ pinsOf k
-    → loadLeft d s p k xs (midOf 0 (n - 0) w) (midOf 0 (n - 0) sc) f letter ≡ loadOf d k xs w sc f letter
+    → loadLeft (jobOf (Load true) d s p k) xs (midOf 0 (n - 0) w) (midOf 0 (n - 0) sc) f letter ≡ loadOf d k xs w sc f letter
 unfolding loadOf
 load-is d k xs w sc f letter n s p e g h =
     let m : n - 0 ≡ bytesOf (d .part) k w sc = (let z : n - 0 ≡ n = omega arith in z) ∙ e in
-    λ i. loadLeft d (g i) (h i) k xs (take (m i) w) (take (m i) sc) f letter
+    λ i. loadLeft (jobOf (Load true) d (g i) (h i) k) xs (take (m i) w) (take (m i) sc) f letter

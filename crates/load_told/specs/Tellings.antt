@@ -1,5 +1,5 @@
 -- What is said of a load into an image of a part: the words of the call, the run itself, and its end in words.
-use mathlib.Core.Bool.{Bool, false, not, _||_}
+use mathlib.Core.Bool.{Bool, false, not, _||_, true}
 use mathlib.Core.List.{List, [], _++_}
 use Prim.Native.Nat.{ℕ, _+_, _-_, _*_, _/_, min}
 use lib.Dec.{eqb, ltb}
@@ -18,6 +18,8 @@ use Rattle.loader_run.specs.declared.Ran.{Ran}
 use Rattle.loader_from_file.specs.Loads.{LoadLeft, loadLeft}
 use Rattle.verify_answer.specs.Answers.{numeralOf, refusedLine, askedPart, bytesOf}
 use Rattle.load_told.specs.declared.Said.{Said}
+use Rattle.loader.specs.declared.Work.the-variants.{Load}
+use Rattle.loader_run.specs.Runs.{jobOf}
 
 -- a busy time by its word, four hexadecimal digits; 0000 is the time of no device
 abbrev pub timeOf : List ℕ → ℕ
@@ -41,7 +43,7 @@ pinsOf k = if eqb k 0 then record { rp = 2; wp = 0; vpp = 12000 } else record { 
 
 -- the load of block k of an image of a part that is fresh, in the front of the rooms lent
 unfoldable pub loadOf : Device → ℕ → List ℕ → List ℕ → List ℕ → List ℕ → ℕ → LoadLeft
-loadOf d k xs w sc f letter = loadLeft d freshState (pinsOf k) k xs (take (bytesOf (d .part) k w sc) w) (take (bytesOf (d .part) k w sc) sc) f letter
+loadOf d k xs w sc f letter = loadLeft (jobOf (Load true) d freshState (pinsOf k) k) xs (take (bytesOf (d .part) k w sc) w) (take (bytesOf (d .part) k w sc) sc) f letter
 
 -- the cycles of the erase, where one was begun
 unfoldable pub eraseCost : ℕ → ℕ → ℕ

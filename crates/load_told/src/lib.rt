@@ -2,6 +2,8 @@
 // and its end is told. The public function takes any input.
 use device::Device;
 use device::Part;
+use loader::Work;
+use loader_run::Job;
 use loader_run::Ran;
 use model_types::Pins;
 use model_types::Wear;
@@ -190,11 +192,15 @@ fn loaded(
     let n = verify_answer::block_bytes(part, block, wanted.len(), scratch.len());
     let state = model::fresh();
     let pins = pins_of(block);
+    let j = Job {
+        device: d,
+        state: state,
+        pins: pins,
+        block: block,
+        work: Work::Load(true),
+    };
     loader_from_file::load(
-        d,
-        state,
-        pins,
-        block,
+        j,
         image,
         &mut wanted[0..n],
         &mut scratch[0..n],

@@ -8,11 +8,18 @@ use Rattle.common.proofs.Choice.{only}
 use Rattle.loader.specs.declared.Stage.{Stage}
 use Rattle.loader.specs.declared.Loader.{Loader}
 use Rattle.loader.specs.declared.StageIs.{StageIs}
-use Rattle.loader.specs.Stages.{stageIs}
+use Rattle.loader.specs.declared.Work.{Work}
+use Rattle.loader.specs.Stages.{stageIs, firstStage, verifies}
 use Rattle.loader.specs.Moves.{movedTo, endedBy, isReady, eraseFault, programFault, afterRead, erasePolled, programPolled, verifyMore}
 
 pub stage-is-unique : (stage : Stage) → Unique (λ (r : StageIs). r ≡ stageIs stage)
 stage-is-unique stage = only (stageIs stage)
+
+pub first-stage-unique : (work : Work) → Unique (λ (r : Stage). r ≡ firstStage work)
+first-stage-unique work = only (firstStage work)
+
+pub verifies-unique : (work : Work) → Unique (λ (r : Bool). r ≡ verifies work)
+verifies-unique work = only (verifies work)
 
 pub moved-unique : (l : Loader) (stage : Stage) (place polls : ℕ) → Unique (λ (r : Loader). r ≡ movedTo l stage place polls)
 moved-unique l stage place polls = only (movedTo l stage place polls)

@@ -6,6 +6,8 @@ use Rattle.model_types.specs.declared.Kind.the-variants.{Read, Write, Idle}
 use Rattle.loader.specs.declared.Stage.{Stage}
 use Rattle.loader.specs.declared.Stage.the-variants.{Clearing, Opening, Reading, EraseAsking, EraseConfirming, EraseWaiting, ProgramAsking, ProgramSending, ProgramWaiting, Closing, Verifying, Ended}
 use Rattle.loader.specs.declared.StageIs.{StageIs}
+use Rattle.loader.specs.declared.Work.{Work}
+use Rattle.loader.specs.declared.Work.the-variants.{Load, Verify}
 use Rattle.loader.specs.Inner.{noEnd}
 
 -- before the end: a cycle of a kind is out, and the load has no number yet
@@ -59,3 +61,13 @@ isEnded stage = stageIs stage .ended
 -- the number of its end
 abbrev pub endBy : Stage → ℕ
 endBy stage = stageIs stage .end
+
+-- the stage that a work begins at: a load with 50H, a verify alone with FFH (R-load-1, R-load-5)
+abbrev pub firstStage : Work → Stage
+firstStage (Load v) = Clearing
+firstStage Verify = Closing
+
+-- a verify is part of it: after the load where that is asked for, or alone (R-load-5)
+abbrev pub verifies : Work → Bool
+verifies (Load v) = v
+verifies Verify = true

@@ -24,6 +24,12 @@ pub enum Stage {
     Ended(u8),
 }
 
+// What is asked of the loader: a load, with (true) or without the verify after it, or a verify alone.
+pub enum Work {
+    Load(bool),
+    Verify,
+}
+
 // What a stage is. Whether it is the end of a load, and by which number (before the end there is none, and 255 stands for that). The
 // cycle that is out: its kind; whether it goes to the unit at the record's place or to the block's first address; and whether it
 // carries that place's wanted unit or `command`.

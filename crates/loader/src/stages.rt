@@ -1,9 +1,10 @@
 // What a stage is: the end of a load, or a cycle that is out.
 use crate::Stage;
 use crate::StageIs;
+use crate::Work;
 use model_types::Kind;
 ghost use mathlib.Core.Path.{_≡_};
-ghost use Rattle.loader.specs.Stages.{givesCycle, stageIs};
+ghost use Rattle.loader.specs.Stages.{givesCycle, stageIs, firstStage, verifies};
 
 // A stage before the end, by its cycle.
 fn gives_cycle(kind: Kind, here: bool, wanted: bool, command: u8) -> StageIs
@@ -43,5 +44,25 @@ pub fn stage_is(stage: Stage) -> StageIs
             wanted: false,
             command: 0,
         },
+    }
+}
+
+// The stage that a work begins at.
+pub fn first_stage(work: Work) -> Stage
+    ensures { λ r. ⌜ r ≡ firstStage work ⌝ }
+{
+    match work {
+        Work::Load(_) => Stage::Clearing,
+        Work::Verify => Stage::Closing,
+    }
+}
+
+// Whether a verify is part of it.
+pub fn verifies(work: Work) -> bool
+    ensures { λ r. ⌜ r ≡ verifies work ⌝ }
+{
+    match work {
+        Work::Load(v) => v,
+        Work::Verify => true,
     }
 }

@@ -11,27 +11,25 @@ use Rattle.common.specs.Choice.{if_then_else_}
 use Rattle.common.proofs.Choice.{if-true, if-false, or-right}
 use Rattle.common.specs.Numbers.{row, given, numbered, NoRow}
 use Rattle.common.proofs.Numbers.{given-append, given-no-row, no-head}
-use Rattle.device.specs.declared.Device.{Device}
-use Rattle.model_types.specs.declared.Pins.{Pins}
-use Rattle.model_types.specs.declared.State.{State}
-use Rattle.loader_run.specs.Runs.{runNumber, lentRows, lentNumber}
+use Rattle.loader_run.specs.Runs.{lentRows, lentNumber, runFirst}
 use Rattle.file_codec.specs.File.{refused, made, outcomeBy, limit, lengthWrong, blocksIn, blocksRows, payloadOf, readRows, readerOf, judgedAs}
 use Rattle.file_codec.specs.declared.Judged.the-variants.{Sound, Unsound}
 use Rattle.file_codec.proofs.Tables.{blocks-numbered}
 use Rattle.loader_from_file.specs.Loads.{fileRows, fileNumber, loadRows, loadNumber}
+use Rattle.loader_run.specs.declared.Job.{Job}
 
 -- no row of a load has the number 0
 file-numbered : (f : List ℕ) (asked n : ℕ) → numbered (fileRows f asked n) ≡ true
 file-numbered f asked n = blocks-numbered (blocksIn f) (getD f 0 0) 0 (blocksIn f) f (row 35 (not (eqb (getD f 0 0) asked)) ∷ [])
 
-pub load-numbered : (d : Device) (s : State) (p : Pins) (k array w sc : ℕ) (f : List ℕ) (asked : ℕ) → numbered (loadRows d s p k array w sc f asked) ≡ true
-load-numbered d s p k array w sc f asked = file-numbered f asked w
+pub load-numbered : (j : Job) (array w sc : ℕ) (f : List ℕ) (asked : ℕ) → numbered (loadRows j array w sc f asked) ≡ true
+load-numbered j array w sc f asked = file-numbered f asked w
 
 -- the file is asked where the run's tests give nothing
-pub file-after : (d : Device) (s : State) (p : Pins) (k array w sc : ℕ) (f : List ℕ) (asked : ℕ)
-    → loadNumber d s p k array w sc f asked ≡ (if eqb (lentNumber d s p k array w sc) 0 then fileNumber f asked w else lentNumber d s p k array w sc)
-unfolding loadNumber fileNumber runNumber
-file-after d s p k array w sc f asked = given-append (lentRows d s p k array w sc) (fileRows f asked w) refl
+pub file-after : (j : Job) (array w sc : ℕ) (f : List ℕ) (asked : ℕ)
+    → loadNumber j array w sc f asked ≡ (if eqb (lentNumber j array w sc) 0 then fileNumber f asked w else lentNumber j array w sc)
+unfolding runFirst fileNumber
+file-after j array w sc f asked = given-append (lentRows j array w sc) (fileRows f asked w) refl
 
 -- what two tables one below the other give is 0 only where both do
 both-none : (a b : ℕ) → (if eqb a 0 then b else a) ≡ 0 → (a ≡ 0) × (b ≡ 0)
@@ -44,10 +42,10 @@ both-none a b e = go (eqb a 0) refl
         absurd (let y : _≡_ {A = ℕ} 0 1 = let v : true ≡ false = sym (ap (λ (m : ℕ). eqb m 0) z) ∙ q in cc in omega arith)
 
 -- a load that nothing refuses: neither its run nor its file is refused
-pub none-refuses : (d : Device) (s : State) (p : Pins) (k array w sc : ℕ) (f : List ℕ) (asked : ℕ) → loadNumber d s p k array w sc f asked ≡ 0
-    → (lentNumber d s p k array w sc ≡ 0) × (fileNumber f asked w ≡ 0)
-none-refuses d s p k array w sc f asked e =
-    both-none (lentNumber d s p k array w sc) (fileNumber f asked w) (sym (file-after d s p k array w sc f asked) ∙ e)
+pub none-refuses : (j : Job) (array w sc : ℕ) (f : List ℕ) (asked : ℕ) → loadNumber j array w sc f asked ≡ 0
+    → (lentNumber j array w sc ≡ 0) × (fileNumber f asked w ≡ 0)
+none-refuses j array w sc f asked e =
+    both-none (lentNumber j array w sc) (fileNumber f asked w) (sym (file-after j array w sc f asked) ∙ e)
 
 -- a file that is not refused is no longer than the block
 pub no-longer : (f : List ℕ) (asked n : ℕ) → fileNumber f asked n ≡ 0 → length f ≤ n
@@ -56,8 +54,8 @@ no-longer f asked n e =
     let r : NoRow (fileRows f asked n) = given-no-row (fileRows f asked n) (file-numbered f asked n) e in
     ltb-false n (length f) (or-right (lengthWrong limit (length f)) (ltb n (length f)) (no-head r))
 
-pub short-file : (d : Device) (s : State) (p : Pins) (k array w sc : ℕ) (f : List ℕ) (asked : ℕ) → loadNumber d s p k array w sc f asked ≡ 0 → length f ≤ w
-short-file d s p k array w sc f asked e = no-longer f asked w (none-refuses d s p k array w sc f asked e .1)
+pub short-file : (j : Job) (array w sc : ℕ) (f : List ℕ) (asked : ℕ) → loadNumber j array w sc f asked ≡ 0 → length f ≤ w
+short-file j array w sc f asked e = no-longer f asked w (none-refuses j array w sc f asked e .1)
 
 -- a longer file is refused by 30
 or-holds : (a b : Bool) → b ≡ true → (a || b) ≡ true

@@ -1,20 +1,17 @@
 -- A load and a verify from a file, on lent bytes: after a run's own tests the file is judged, and only then wanted is filled and the run
 -- made.
-use mathlib.Core.Bool.{Bool, true, not, _||_}
+use mathlib.Core.Bool.{not, _||_}
 use mathlib.Core.List.{List, [], _∷_, _++_}
 use Prim.Native.Nat.{ℕ, _-_}
 use lib.ListN.{length, getD, replicate}
 use lib.Dec.{eqb, ltb}
 use Rattle.common.specs.Choice.{if_then_else_}
 use Rattle.common.specs.Numbers.{Row, row, given}
-use Rattle.device.specs.declared.Device.{Device}
-use Rattle.model_types.specs.declared.Pins.{Pins}
 use Rattle.model_types.specs.declared.State.{State}
 use Rattle.file_codec.specs.File.{limit, lengthWrong, blocksIn, blocksRows}
-use Rattle.loader.specs.declared.Stage.{Stage}
-use Rattle.loader.specs.declared.Stage.the-variants.{Clearing, Closing}
 use Rattle.loader_run.specs.declared.Ran.{Ran}
-use Rattle.loader_run.specs.Runs.{RunLeft, lentRows, lentLeftAt}
+use Rattle.loader_run.specs.Runs.{RunLeft, lentRows, lentRun, runFirst}
+use Rattle.loader_run.specs.declared.Job.{Job}
 
 -- the tests of a file for a block of n bytes: 30 also where it is longer than the block, then block by block 38 or else 31, then 32, 33,
 -- 34; then 35 (R-order-3, R-number-30)
@@ -28,12 +25,12 @@ unfoldable pub fileNumber : List ℕ → ℕ → ℕ → ℕ
 fileNumber f asked n = given (fileRows f asked n)
 
 -- the tests of a load from a file of so many lent bytes, in their order: a run's, then the file's (R-order-3)
-abbrev pub loadRows : Device → State → Pins → ℕ → ℕ → ℕ → ℕ → List ℕ → ℕ → List Row
-loadRows d s p k array w sc f asked = lentRows d s p k array w sc ++ fileRows f asked w
+abbrev pub loadRows : Job → ℕ → ℕ → ℕ → List ℕ → ℕ → List Row
+loadRows j array w sc f asked = lentRows j array w sc ++ fileRows f asked w
 
 -- the number of a load from a file
-unfoldable pub loadNumber : Device → State → Pins → ℕ → ℕ → ℕ → ℕ → List ℕ → ℕ → ℕ
-loadNumber d s p k array w sc f asked = given (loadRows d s p k array w sc f asked)
+abbrev pub loadNumber : Job → ℕ → ℕ → ℕ → List ℕ → ℕ → ℕ
+loadNumber j array w sc f asked = runFirst (loadRows j array w sc f asked)
 
 -- what a load wants of a block of n bytes: the file, then FFH to the end (R-load-8)
 abbrev pub wantedOf : List ℕ → ℕ → List ℕ
@@ -58,32 +55,8 @@ loadMade r w = record { ran = r .ran; bytes = r .bytes; wanted = w; scratch = r 
 abbrev pub loadRefused : ℕ → State → List ℕ → List ℕ → List ℕ → LoadLeft
 loadRefused n s xs w sc = record { ran = record { count = 0; end = n; address = 0; state = s }; bytes = xs; wanted = w; scratch = sc }
 
--- from a stage on: refused by the load's number, or wanted filled and the run made
-unfoldable pub fileLeftAt : Stage → Bool → Device → State → Pins → ℕ → List ℕ → List ℕ → List ℕ → List ℕ → ℕ → LoadLeft
-fileLeftAt stage verify d s p k xs w sc f asked =
-    if eqb (loadNumber d s p k (length xs) (length w) (length sc) f asked) 0 then loadMade (lentLeftAt stage verify d s p k xs (wantedOf f (length w)) sc) (wantedOf f (length w))
-    else loadRefused (loadNumber d s p k (length xs) (length w) (length sc) f asked) s xs w sc
-
--- a load with the verify after it, and a verify alone
-abbrev pub loadLeft : Device → State → Pins → ℕ → List ℕ → List ℕ → List ℕ → List ℕ → ℕ → LoadLeft
-loadLeft d s p k xs w sc f asked = fileLeftAt Clearing true d s p k xs w sc f asked
-
--- .. a verify alone, from a file
-abbrev pub verifyLeft : Device → State → Pins → ℕ → List ℕ → List ℕ → List ℕ → List ℕ → ℕ → LoadLeft
-verifyLeft d s p k xs w sc f asked = fileLeftAt Closing true d s p k xs w sc f asked
-
--- a load's four parts
-abbrev pub loadedOf : Device → State → Pins → ℕ → List ℕ → List ℕ → List ℕ → List ℕ → ℕ → Ran
-loadedOf d s p k xs w sc f asked = loadLeft d s p k xs w sc f asked .ran
-
--- .. the lent bytes of the array
-abbrev pub bytesLoaded : Device → State → Pins → ℕ → List ℕ → List ℕ → List ℕ → List ℕ → ℕ → List ℕ
-bytesLoaded d s p k xs w sc f asked = loadLeft d s p k xs w sc f asked .bytes
-
--- .. what stands in wanted
-abbrev pub wantedLoaded : Device → State → Pins → ℕ → List ℕ → List ℕ → List ℕ → List ℕ → ℕ → List ℕ
-wantedLoaded d s p k xs w sc f asked = loadLeft d s p k xs w sc f asked .wanted
-
--- .. what stands in scratch
-abbrev pub scratchLoaded : Device → State → Pins → ℕ → List ℕ → List ℕ → List ℕ → List ℕ → ℕ → List ℕ
-scratchLoaded d s p k xs w sc f asked = loadLeft d s p k xs w sc f asked .scratch
+-- a job from a file, a load or a verify: refused by the load's number, or wanted filled and the run made
+unfoldable pub loadLeft : Job → List ℕ → List ℕ → List ℕ → List ℕ → ℕ → LoadLeft
+loadLeft j xs w sc f asked =
+    if eqb (loadNumber j (length xs) (length w) (length sc) f asked) 0 then loadMade (lentRun j xs (wantedOf f (length w)) sc) (wantedOf f (length w))
+    else loadRefused (loadNumber j (length xs) (length w) (length sc) f asked) (j .state) xs w sc

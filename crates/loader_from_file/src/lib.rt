@@ -1,17 +1,15 @@
 // A load and a verify from a file: the file is judged for the letter asked, and only then the flash block is loaded with it, or
 // verified against it.
-use device::Device;
 use file_codec::Judged;
+use loader_run::Job;
 use loader_run::Ran;
-use model_types::Pins;
-use model_types::State;
 ghost use mathlib.Core.Path.{_≡_};
 ghost use Prim.Native.Nat.{_≤_};
 ghost use lib.ListN.{length};
-ghost use Rattle.loader_from_file.specs.Loads.{fileNumber, wantedBy, loadNumber, loadedOf, bytesLoaded, wantedLoaded, scratchLoaded, verifyLeft};
+ghost use Rattle.loader_from_file.specs.Loads.{fileNumber, wantedBy, loadNumber, loadLeft};
 
 // Refusals 30 to 35 and 38 of a file for the letter asked and a block of n bytes, or 0.
-fn file_number(file: &[u8], asked: u8, n: usize) -> u8
+pub fn file_number(file: &[u8], asked: u8, n: usize) -> u8
     ensures { λ r. ⌜ r ≡ fileNumber (now (file .entry)) asked n ⌝ }
 {
     if n < file.len() {
@@ -38,26 +36,14 @@ fn fill_wanted(number: u8, file: &[u8], wanted: &mut [u8])
 }
 
 // A run's number, then the file's. The lengths are in bytes.
-fn load_number(
-    d: Device,
-    s: State,
-    p: Pins,
-    block: u8,
-    array: usize,
-    wanted: usize,
-    scratch: usize,
-    file: &[u8],
-    asked: u8,
-) -> u8
-    ensures { λ r. ⌜ r ≡ loadNumber d s p block array wanted scratch (now (file .entry)) asked ⌝ }
+fn load_number(j: Job, array: usize, wanted: usize, scratch: usize, file: &[u8], asked: u8) -> u8
+    ensures { λ r. ⌜ r ≡ loadNumber j array wanted scratch (now (file .entry)) asked ⌝ }
 {
+    let d = j.device;
     let part = d.part;
     let word = part.word;
     let n = loader_run::run_number(
-        d,
-        s,
-        p,
-        block,
+        j,
         units::lent_in(word, array),
         units::lent_in(word, wanted),
         units::lent_in(word, scratch),
@@ -69,95 +55,34 @@ fn load_number(
 }
 
 // The number of a load from a file; where it is 0, wanted becomes the file, then FFH to its end.
-fn prepared(
-    d: Device,
-    s: State,
-    p: Pins,
-    block: u8,
-    array: usize,
-    wanted: &mut [u8],
-    scratch: usize,
-    file: &[u8],
-    asked: u8,
-) -> u8
-    ensures { λ r. ⌜ r ≡ loadNumber d s p block array (length (now (wanted .entry))) scratch (now (file .entry)) asked ⌝ }
+fn prepared(j: Job, array: usize, wanted: &mut [u8], scratch: usize, file: &[u8], asked: u8) -> u8
+    ensures { λ r. ⌜ r ≡ loadNumber j array (length (now (wanted .entry))) scratch (now (file .entry)) asked ⌝ }
     ensures { λ _. ⌜ now (wanted .exit)
-        ≡ wantedBy (loadNumber d s p block array (length (now (wanted .entry))) scratch (now (file .entry)) asked) (now (file .entry)) (now (wanted .entry)) ⌝ }
+        ≡ wantedBy (loadNumber j array (length (now (wanted .entry))) scratch (now (file .entry)) asked) (now (file .entry)) (now (wanted .entry)) ⌝ }
 {
-    let n = load_number(d, s, p, block, array, wanted.len(), scratch, file, asked);
+    let n = load_number(j, array, wanted.len(), scratch, file, asked);
     fill_wanted(n, file, wanted);
     n
 }
 
-// A load of one block from a file, and the verify after it.
+// A job from a file: the block is loaded with it, or verified against it.
 pub fn load(
-    d: Device,
-    s: State,
-    p: Pins,
-    block: u8,
+    j: Job,
     array: &mut [u8],
     wanted: &mut [u8],
     scratch: &mut [u8],
     file: &[u8],
     asked: u8,
 ) -> Ran
-    ensures { λ r. ⌜ r ≡ loadedOf d s p block (now (array .entry)) (now (wanted .entry)) (now (scratch .entry)) (now (file .entry)) asked ⌝ }
-    ensures { λ _. ⌜ now (array .exit) ≡ bytesLoaded d s p block (now (array .entry)) (now (wanted .entry)) (now (scratch .entry)) (now (file .entry)) asked ⌝ }
-    ensures { λ _. ⌜ now (wanted .exit) ≡ wantedLoaded d s p block (now (array .entry)) (now (wanted .entry)) (now (scratch .entry)) (now (file .entry)) asked ⌝ }
-    ensures { λ _. ⌜ now (scratch .exit) ≡ scratchLoaded d s p block (now (array .entry)) (now (wanted .entry)) (now (scratch .entry)) (now (file .entry)) asked ⌝ }
+    ensures { λ r. ⌜ r ≡ loadLeft j (now (array .entry)) (now (wanted .entry)) (now (scratch .entry)) (now (file .entry)) asked .ran ⌝ }
+    ensures { λ _. ⌜ now (array .exit) ≡ loadLeft j (now (array .entry)) (now (wanted .entry)) (now (scratch .entry)) (now (file .entry)) asked .bytes ⌝ }
+    ensures { λ _. ⌜ now (wanted .exit) ≡ loadLeft j (now (array .entry)) (now (wanted .entry)) (now (scratch .entry)) (now (file .entry)) asked .wanted ⌝ }
+    ensures { λ _. ⌜ now (scratch .exit) ≡ loadLeft j (now (array .entry)) (now (wanted .entry)) (now (scratch .entry)) (now (file .entry)) asked .scratch ⌝ }
 {
-    let n = prepared(
-        d,
-        s,
-        p,
-        block,
-        array.len(),
-        wanted,
-        scratch.len(),
-        file,
-        asked,
-    );
+    let s = j.state;
+    let n = prepared(j, array.len(), wanted, scratch.len(), file, asked);
     if n == 0 {
-        return loader_quick::run_quick(d, s, p, block, array, wanted, scratch);
-    }
-    Ran {
-        count: 0,
-        end: n,
-        address: 0,
-        state: s,
-    }
-}
-
-// A verify of one block against a file.
-pub fn verify_from_file(
-    d: Device,
-    s: State,
-    p: Pins,
-    block: u8,
-    array: &mut [u8],
-    wanted: &mut [u8],
-    scratch: &mut [u8],
-    file: &[u8],
-    asked: u8,
-) -> Ran
-    ensures { λ r. ⌜ r ≡ verifyLeft d s p block (now (array .entry)) (now (wanted .entry)) (now (scratch .entry)) (now (file .entry)) asked .ran ⌝ }
-    ensures { λ _. ⌜ now (array .exit) ≡ verifyLeft d s p block (now (array .entry)) (now (wanted .entry)) (now (scratch .entry)) (now (file .entry)) asked .bytes ⌝ }
-    ensures { λ _. ⌜ now (wanted .exit) ≡ verifyLeft d s p block (now (array .entry)) (now (wanted .entry)) (now (scratch .entry)) (now (file .entry)) asked .wanted ⌝ }
-    ensures { λ _. ⌜ now (scratch .exit) ≡ verifyLeft d s p block (now (array .entry)) (now (wanted .entry)) (now (scratch .entry)) (now (file .entry)) asked .scratch ⌝ }
-{
-    let n = prepared(
-        d,
-        s,
-        p,
-        block,
-        array.len(),
-        wanted,
-        scratch.len(),
-        file,
-        asked,
-    );
-    if n == 0 {
-        return loader_quick::run_verify_quick(d, s, p, block, array, wanted, scratch);
+        return loader_quick::run_quick(j, array, wanted, scratch);
     }
     Ran {
         count: 0,

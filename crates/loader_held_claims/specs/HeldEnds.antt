@@ -13,18 +13,18 @@ use Rattle.model_types.specs.declared.Pins.{Pins}
 use Rattle.model_types.specs.declared.Kind.the-variants.{Read, Write}
 use Rattle.model_types.specs.declared.Cycle.{Cycle}
 use Rattle.model_types.specs.declared.Mode.the-variants.{Array}
-use Rattle.model_types.specs.declared.State.{State}
-use Rattle.loader.specs.declared.Stage.the-variants.{Clearing}
 use Rattle.loader.specs.Walks.{risesIn}
 use Rattle.loader.specs.Stages.{isEnded}
 use Rattle.loader_run.specs.declared.Ran.{Ran}
-use Rattle.loader_run.specs.Runs.{beginningAt, ranBy}
+use Rattle.loader_run.specs.Runs.{ranBy, beginning, doing}
 use Rattle.loader_run_claims.specs.Wear.{begunAt, heldIn, programsIn}
 use Rattle.loader_run_claims.specs.Made.{busCycle, openingThen, closingBy, programmingThen}
 use Rattle.loader_run_claims.specs.Ends.{endNumber, ranAs, bytesAs, scratchAs, cyclesAs}
 use Rattle.loader_held.specs.Holds.{listed, usual}
 use Rattle.loader_held_run.specs.HeldTurns.{HeldConfig, bare, beside}
 use Rattle.loader_held_claims.specs.HeldMade.{HeldReach, filledBy, erasePolls, interrupts, addedIn}
+use Rattle.loader.specs.declared.Work.the-variants.{Load}
+use Rattle.loader_run.specs.declared.Job.{Job}
 
 -- an erase is begun: some bit must rise, and it can start
 unfoldable pub erases : Device → Pins → ℕ → List ℕ → List ℕ → Bool
@@ -57,8 +57,8 @@ ranMore r added turned =
     }
 
 -- what the load with interruptions returns, by what the old load returns
-unfoldable pub heldRanAs : Bool → Device → State → Pins → ℕ → List ℕ → List ℕ → List ℕ → List ℕ → Ran
-heldRanAs verify d s p k w ys bs ps = ranMore (ranAs verify d s p k w ys) (addedBy d p k w ys bs ps) (endsTurned d p k w ys ps)
+unfoldable pub heldRanAs : Bool → Job → List ℕ → List ℕ → List ℕ → List ℕ → Ran
+heldRanAs verify j w ys bs ps = ranMore (ranAs verify j w ys) (addedBy (j .device) (j .pins) (j .block) w ys bs ps) (endsTurned (j .device) (j .pins) (j .block) w ys ps)
 
 -- the room: the array's units at the addresses where an interruption was made, else as it was
 unfoldable pub roomAs : Device → Pins → ℕ → List ℕ → List ℕ → List ℕ → List ℕ → List ℕ → List ℕ → List ℕ
@@ -74,12 +74,12 @@ heldCyclesAs verify d p k a w ys bs ps =
 
 -- such a load comes to an end where it returns and leaves that; it begins what the old load begins, makes those cycles, and the model
 -- refuses none of them and none cuts an operation
-pub record HeldEnds (verify : Bool) (d : Device) (s : State) (p : Pins) (k : ℕ) (xs w sc bs ps room : List ℕ) : Type 0 where
+pub record HeldEnds (verify : Bool) (j : Job) (xs w sc bs ps room : List ℕ) : Type 0 where
   pub last : HeldConfig
-  pub reach : HeldReach d w bs ps (beside (beginningAt Clearing verify d s p k xs sc) (usual 0) room) last (begunAt Clearing verify d s p k xs w sc)
-      (heldCyclesAs verify d p k (startOf (d .part) k) w (heldIn (startOf (d .part) k) (length w) xs) bs ps)
+  pub reach : HeldReach (j .device) w bs ps (beside (beginning (doing (Load verify) j) xs sc) (usual 0) room) last (begunAt (doing (Load verify) j) xs w sc)
+      (heldCyclesAs verify (j .device) (j .pins) (j .block) (startOf (j .device .part) (j .block)) w (heldIn (startOf (j .device .part) (j .block)) (length w) xs) bs ps)
   pub ended : isEnded (last .loader .stage) ≡ true
-  pub ran : ranBy (bare last) ≡ heldRanAs verify d s p k w (heldIn (startOf (d .part) k) (length w) xs) bs ps
-  pub bytes : last .bytes ≡ bytesAs d p k (startOf (d .part) k) w (heldIn (startOf (d .part) k) (length w) xs) xs
-  pub scratch : last .scratch ≡ scratchAs d p k w (heldIn (startOf (d .part) k) (length w) xs)
-  pub filled : last .room ≡ roomAs d p k w (heldIn (startOf (d .part) k) (length w) xs) xs bs ps room
+  pub ran : ranBy (bare last) ≡ heldRanAs verify j w (heldIn (startOf (j .device .part) (j .block)) (length w) xs) bs ps
+  pub bytes : last .bytes ≡ bytesAs (j .device) (j .pins) (j .block) (startOf (j .device .part) (j .block)) w (heldIn (startOf (j .device .part) (j .block)) (length w) xs) xs
+  pub scratch : last .scratch ≡ scratchAs (j .device) (j .pins) (j .block) w (heldIn (startOf (j .device .part) (j .block)) (length w) xs)
+  pub filled : last .room ≡ roomAs (j .device) (j .pins) (j .block) w (heldIn (startOf (j .device .part) (j .block)) (length w) xs) xs bs ps room

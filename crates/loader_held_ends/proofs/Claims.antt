@@ -11,11 +11,8 @@ use Rattle.device.specs.Parts.{startOf}
 use Rattle.units.specs.Units.{units}
 use Rattle.model_types.specs.Cells.{Cells}
 use Rattle.model_types.specs.declared.Pins.{Pins}
-use Rattle.model_types.specs.declared.State.{State}
 use Rattle.model_history.specs.History.{Bus, worldOf, busesOf, worldAfter}
-use Rattle.loader.specs.declared.Stage.the-variants.{Clearing}
 use Rattle.loader_run.specs.Turns.{Config}
-use Rattle.loader_run.specs.Runs.{runLeftAt, lentLeftAt}
 use Rattle.loader_run_claims.specs.Wear.{begunAt, heldIn}
 use Rattle.loader_run_claims.specs.Mission.{Taken, Brings, NoFewer}
 use Rattle.loader_held_lists.specs.Listings.{heldNumber}
@@ -32,6 +29,9 @@ use Rattle.loader_held_ends.specs.HeldMission.{heldEnd, heldBegins, ownH
 use Rattle.loader_held_ends.specs.HeldLent.{LentTaken, LentHeldStart, LentBeside, LentHeldDemand3}
 use Rattle.loader_held_ends.specs.HeldStepping.{HeldStepped}
 use Rattle.loader_held_ends.specs.HeldAnchors.{allLists, figures}
+use Rattle.loader.specs.declared.Work.the-variants.{Load}
+use Rattle.loader_run.specs.declared.Job.{Job}
+use Rattle.loader_run.specs.Runs.{runLeft, lentRun, doing}
 use Rattle.loader_held_ends.proofs.HeldGrounds as grounds
 use Rattle.loader_held_ends.proofs.HeldLists as lists
 use Rattle.loader_held_ends.proofs.HeldMission as mission
@@ -45,13 +45,13 @@ use Rattle.loader_held_ends.proofs.Readings as readings
 -- and room for a unit of each: it ends well, the block holds what is wanted, all else is as before, one erase is begun if some bit must
 -- rise and none otherwise, each unit that then differs is programmed once and no other, nothing wears less, the count is the number of
 -- cycles made: the formula's and what the interruptions add; and the room.
-pub demand-3 : (verify : Bool) (d : Device) (s : State) (p : Pins) (k : ℕ) (xs w sc bs ps room : List ℕ) → HeldStart verify d s p k xs w sc bs ps room
-    → HeldDemand3 verify d s p k xs w sc bs ps room
+pub demand-3 : (verify : Bool) (j : Job) (xs w sc bs ps room : List ℕ) → HeldStart verify j xs w sc bs ps room
+    → HeldDemand3 verify j xs w sc bs ps room
 demand-3 = mission.demand-3
 
 -- The same of lent bytes, in byte mode and in word mode: what `run_held` promises (`lentHeld`) meets it.
-pub lent-demand-3 : (verify : Bool) (d : Device) (s : State) (p : Pins) (k : ℕ) (array wanted scratch ps bs room : List ℕ) → LentHeldStart d s p k array wanted scratch bs room
-    → LentHeldDemand3 verify d s p k array wanted scratch ps bs room
+pub lent-demand-3 : (verify : Bool) (j : Job) (array wanted scratch ps bs room : List ℕ) → LentHeldStart j array wanted scratch bs room
+    → LentHeldDemand3 verify j array wanted scratch ps bs room
 lent-demand-3 = lending.lent-held-demand-3
 
 -- Such lists there are: for every block of the eight devices, in byte mode and in word mode, an address that no test refuses (computed).
@@ -61,13 +61,13 @@ lists-exist = readings.all-lists
 -- Every end, whatever VPP and RP#: such a load returns and leaves what the old one does (0, 21, 23, 24), with the cycles added that
 -- specs/HeldEnds says, begins what the old one begins, and makes the cycles listed there; the model refuses none of them, and none cuts
 -- an operation.
-pub every-end : (verify : Bool) (d : Device) (s : State) (p : Pins) (k : ℕ) (xs w sc : List ℕ) → Taken d s p k xs w sc → (bs ps room : List ℕ) → Elsewhere d k bs → length bs ≤ length room
-    → HeldWhole verify d s p k xs w sc bs ps room
+pub every-end : (verify : Bool) (j : Job) (xs w sc : List ℕ) → Taken j xs w sc → (bs ps room : List ℕ) → Elsewhere (j .device) (j .block) bs → length bs ≤ length room
+    → HeldWhole verify j xs w sc bs ps room
 every-end = grounds.whole
 
 -- On lent bytes: beside the run without interruptions, whatever the end.
-pub lent-beside : (verify : Bool) (d : Device) (s : State) (p : Pins) (k : ℕ) (array wanted scratch ps bs room : List ℕ) → LentTaken d s p k array wanted scratch bs room
-    → LentBeside verify d s p k array wanted scratch ps bs room
+pub lent-beside : (verify : Bool) (j : Job) (array wanted scratch ps bs room : List ℕ) → LentTaken j array wanted scratch bs room
+    → LentBeside verify j array wanted scratch ps bs room
 lent-beside = lending.lent-beside
 
 -- Where the tests of the lists refuse nothing the addresses are in other blocks, and the room has a unit for each.
@@ -104,9 +104,9 @@ some-figures = readings.some-figures
 
 -- Whatever the end, the count is that of the load without interruptions and what is added: one equation; and each interruption adds at most
 -- S + k + 4 there too.
-pub count-added : (verify : Bool) (d : Device) (s : State) (p : Pins) (k : ℕ) (xs w sc : List ℕ) → Taken d s p k xs w sc → (bs ps room : List ℕ) → Elsewhere d k bs → length bs ≤ length room
-    → heldRan (heldEnd verify d s p k xs w sc bs ps room) .count
-    ≡ runLeftAt Clearing verify d s p k xs w sc .ran .count + addedBy d p k w (heldIn (startOf (d .part) k) (length w) xs) bs ps
+pub count-added : (verify : Bool) (j : Job) (xs w sc : List ℕ) → Taken j xs w sc → (bs ps room : List ℕ) → Elsewhere (j .device) (j .block) bs → length bs ≤ length room
+    → heldRan (heldEnd verify j xs w sc bs ps room) .count
+    ≡ runLeft (doing (Load verify) j) xs w sc .ran .count + addedBy (j .device) (j .pins) (j .block) w (heldIn (startOf (j .device .part) (j .block)) (length w) xs) bs ps
 count-added = readings.count-added
 
 pub added-by-most : (d : Device) (p : Pins) (k : ℕ) (w ys bs ps : List ℕ) → 0 < d .erase → addedBy d p k w ys bs ps ≤ interruptions ps 0 (d .erase) * (d .suspend + length bs + 4)
@@ -124,24 +124,24 @@ room-holds = readings.room-holds
 pub room-past : (xs bs room : List ℕ) (i : ℕ) → getD (filledBy xs bs room) (length bs + i) 0 ≡ getD room (length bs + i) 0
 room-past = readings.room-past
 
-pub still-there : (verify : Bool) (d : Device) (s : State) (p : Pins) (k : ℕ) (xs w sc bs ps room : List ℕ) → HeldStart verify d s p k xs w sc bs ps room
-    → (i : ℕ) → i < length bs → getD (heldEnd verify d s p k xs w sc bs ps room .bytes) (getD bs i 0) 0 ≡ getD xs (getD bs i 0) 0
+pub still-there : (verify : Bool) (j : Job) (xs w sc bs ps room : List ℕ) → HeldStart verify j xs w sc bs ps room
+    → (i : ℕ) → i < length bs → getD (heldEnd verify j xs w sc bs ps room .bytes) (getD bs i 0) 0 ≡ getD xs (getD bs i 0) 0
 still-there = readings.still-there
 
 -- Least wear: no uncut cycles from the same start to the same block contents begin fewer erases of that block or fewer programs in it
 -- than the load's own cycles with all their interruptions.
-pub nothing-less : (verify : Bool) (d : Device) (s : State) (p : Pins) (k : ℕ) (xs w sc bs ps room : List ℕ) → HeldStart verify d s p k xs w sc bs ps room → Cells (d .part) xs
-    → (other : List Bus) → Brings d (worldOf s xs) k w other → NoFewer d (worldOf s xs) k (ownHeld verify d s p k xs w sc bs ps room) other
-nothing-less verify d s p k xs w sc bs ps room start = mission.demand-3 verify d s p k xs w sc bs ps room start .least-wear
+pub nothing-less : (verify : Bool) (j : Job) (xs w sc bs ps room : List ℕ) → HeldStart verify j xs w sc bs ps room → Cells (j .device .part) xs
+    → (other : List Bus) → Brings (j .device) (worldOf (j .state) xs) (j .block) w other → NoFewer (j .device) (worldOf (j .state) xs) (j .block) (ownHeld verify j xs w sc bs ps room) other
+nothing-less verify j xs w sc bs ps room start = mission.demand-3 verify j xs w sc bs ps room start .least-wear
 
 -- It begins what the load without interruptions begins.
-pub begins-as-before : (verify : Bool) (d : Device) (s : State) (p : Pins) (k : ℕ) (xs w sc : List ℕ) → Taken d s p k xs w sc → (bs ps room : List ℕ) → Elsewhere d k bs → length bs ≤ length room
-    → heldBegins verify d s p k xs w sc bs ps room ≡ begunAt Clearing verify d s p k xs w sc
-begins-as-before verify d s p k xs w sc t bs ps room els roomy = grounds.whole verify d s p k xs w sc t bs ps room els roomy .begun
+pub begins-as-before : (verify : Bool) (j : Job) (xs w sc : List ℕ) → Taken j xs w sc → (bs ps room : List ℕ) → Elsewhere (j .device) (j .block) bs → length bs ≤ length room
+    → heldBegins verify j xs w sc bs ps room ≡ begunAt (doing (Load verify) j) xs w sc
+begins-as-before verify j xs w sc t bs ps room els roomy = grounds.whole verify j xs w sc t bs ps room els roomy .begun
 
 -- 20, 22 and 25 never come from the model, whatever polls are told: 20 counts each wait afresh.
-pub never : (verify : Bool) (d : Device) (s : State) (p : Pins) (k : ℕ) (xs w sc : List ℕ) → Taken d s p k xs w sc → (bs ps room : List ℕ) → Elsewhere d k bs → length bs ≤ length room
-    → (heldRan (heldEnd verify d s p k xs w sc bs ps room) .end ≡ 20 → ⊥) × (heldRan (heldEnd verify d s p k xs w sc bs ps room) .end ≡ 22 → ⊥) × (heldRan (heldEnd verify d s p k xs w sc bs ps room) .end ≡ 25 → ⊥)
+pub never : (verify : Bool) (j : Job) (xs w sc : List ℕ) → Taken j xs w sc → (bs ps room : List ℕ) → Elsewhere (j .device) (j .block) bs → length bs ≤ length room
+    → (heldRan (heldEnd verify j xs w sc bs ps room) .end ≡ 20 → ⊥) × (heldRan (heldEnd verify j xs w sc bs ps room) .end ≡ 22 → ⊥) × (heldRan (heldEnd verify j xs w sc bs ps room) .end ≡ 25 → ⊥)
 never = readings.never
 
 -- With no interruption it is the old load to the cycle: after any number of turns, from anywhere, where no poll to come is listed ..
@@ -153,13 +153,13 @@ pub empty-list : (j : ℕ) (d : Device) (w bs room : List ℕ) (c : Config) → 
 empty-list = lifting.empty-list
 
 -- .. and on lent bytes where none of the numbers 1 to E is: a poll that never comes changes nothing.
-pub no-interruption : (verify : Bool) (d : Device) (s : State) (p : Pins) (k : ℕ) (array wanted scratch ps bs room : List ℕ) → LentTaken d s p k array wanted scratch bs room
-    → ((i : ℕ) → 0 < i → i ≤ d .erase → listed i ps ≡ false)
-    → lentHeld verify d s p k array wanted scratch ps bs room
+pub no-interruption : (verify : Bool) (j : Job) (array wanted scratch ps bs room : List ℕ) → LentTaken j array wanted scratch bs room
+    → ((i : ℕ) → 0 < i → i ≤ j .device .erase → listed i ps ≡ false)
+    → lentHeld (doing (Load verify) j) array wanted scratch ps bs room
     ≡ record {
-      ran = lentLeftAt Clearing verify d s p k array wanted scratch .ran;
-      bytes = lentLeftAt Clearing verify d s p k array wanted scratch .bytes;
-      scratch = lentLeftAt Clearing verify d s p k array wanted scratch .scratch;
+      ran = lentRun (doing (Load verify) j) array wanted scratch .ran;
+      bytes = lentRun (doing (Load verify) j) array wanted scratch .bytes;
+      scratch = lentRun (doing (Load verify) j) array wanted scratch .scratch;
       room = room;
     }
 no-interruption = readings.no-interruption
@@ -183,13 +183,13 @@ pub same-lists : (ps qs : List ℕ) → ((n : ℕ) → 0 < n → listed n ps ≡
 same-lists ps qs same d w bs j c = (lists.after-lists ps qs same d w bs j c, lists.made-lists ps qs same d w bs j c)
 
 -- .. and from a start that nothing refuses only the numbers 1 to E are: the same is returned, read and made.
-pub same-polls : (verify : Bool) (d : Device) (s : State) (p : Pins) (k : ℕ) (xs w ys bs ps qs room : List ℕ) → 0 < d .erase → ((i : ℕ) → 0 < i → i ≤ d .erase → listed i ps ≡ listed i qs)
-    → (heldRanAs verify d s p k w ys bs ps ≡ heldRanAs verify d s p k w ys bs qs) × (roomAs d p k w ys xs bs ps room ≡ roomAs d p k w ys xs bs qs room)
-    × (heldCyclesAs verify d p k (startOf (d .part) k) w ys bs ps ≡ heldCyclesAs verify d p k (startOf (d .part) k) w ys bs qs)
-same-polls verify d s p k xs w ys bs ps qs room some same = (
-  lists.ran-same verify d s p k w ys bs ps qs some same,
-  lists.room-same verify d s p k w ys bs ps qs some same xs room,
-  lists.cycles-same verify d s p k w ys bs ps qs some same (startOf (d .part) k),
+pub same-polls : (verify : Bool) (j : Job) (xs w ys bs ps qs room : List ℕ) → 0 < j .device .erase → ((i : ℕ) → 0 < i → i ≤ j .device .erase → listed i ps ≡ listed i qs)
+    → (heldRanAs verify j w ys bs ps ≡ heldRanAs verify j w ys bs qs) × (roomAs (j .device) (j .pins) (j .block) w ys xs bs ps room ≡ roomAs (j .device) (j .pins) (j .block) w ys xs bs qs room)
+    × (heldCyclesAs verify (j .device) (j .pins) (j .block) (startOf (j .device .part) (j .block)) w ys bs ps ≡ heldCyclesAs verify (j .device) (j .pins) (j .block) (startOf (j .device .part) (j .block)) w ys bs qs)
+same-polls verify j xs w ys bs ps qs room some same = (
+  lists.ran-same verify j w ys bs ps qs some same,
+  lists.room-same verify j w ys bs ps qs some same xs room,
+  lists.cycles-same verify j w ys bs ps qs some same (startOf (j .device .part) (j .block)),
 )
 
 -- Its cycles, put to a device alone, lead it to where the load is. From any input whatever.
@@ -199,15 +199,15 @@ own-leads = own.own-leads
 
 -- Stepping by hand (start_held, step_held) is the run, a sentence a field (specs/HeldStepping), from every start that nothing refuses;
 -- `size` is the bytes of the room.
-pub stepped-by-hand : (verify : Bool) (d : Device) (s : State) (p : Pins) (k : ℕ) (xs w sc : List ℕ) → Taken d s p k xs w sc → (bs ps room : List ℕ) (size : ℕ)
-    → heldNumber (d .part) k bs size ≡ 0 → length bs ≤ length room → HeldStepped verify d s p k xs w sc bs ps room size
-stepped-by-hand verify d s p k xs w sc t bs ps room size none roomy =
-    stepping.by-hand verify d s p k xs w sc bs ps room size (starting.n0 verify d s p k xs w sc t) none
-    (grounds.whole verify d s p k xs w sc t bs ps room (addresses.elsewhere d k bs size none) roomy .smooth)
+pub stepped-by-hand : (verify : Bool) (j : Job) (xs w sc : List ℕ) → Taken j xs w sc → (bs ps room : List ℕ) (size : ℕ)
+    → heldNumber (j .device .part) (j .block) bs size ≡ 0 → length bs ≤ length room → HeldStepped verify j xs w sc bs ps room size
+stepped-by-hand verify j xs w sc t bs ps room size none roomy =
+    stepping.by-hand verify j xs w sc bs ps room size (starting.n0 verify j xs w sc t) none
+    (grounds.whole verify j xs w sc t bs ps room (addresses.elsewhere (j .device) (j .block) bs size none) roomy .smooth)
 
 -- .. and so on lent bytes, by their units.
-pub lent-stepped-by-hand : (verify : Bool) (d : Device) (s : State) (p : Pins) (k : ℕ) (array wanted scratch ps bs room : List ℕ) → LentTaken d s p k array wanted scratch bs room
-    → HeldStepped verify d s p k (units (d .part .word) array) (units (d .part .word) wanted) (units (d .part .word) scratch) bs ps (units (d .part .word) room) (length room)
-lent-stepped-by-hand verify d s p k array wanted scratch ps bs room t =
-    stepped-by-hand verify d s p k (units (d .part .word) array) (units (d .part .word) wanted) (units (d .part .word) scratch) (lending.taken verify d s p k array wanted scratch ps bs room t)
-    bs ps (units (d .part .word) room) (length room) (lending.lists-none verify d s p k array wanted scratch ps bs room t) (lending.roomy verify d s p k array wanted scratch ps bs room t)
+pub lent-stepped-by-hand : (verify : Bool) (j : Job) (array wanted scratch ps bs room : List ℕ) → LentTaken j array wanted scratch bs room
+    → HeldStepped verify j (units (j .device .part .word) array) (units (j .device .part .word) wanted) (units (j .device .part .word) scratch) bs ps (units (j .device .part .word) room) (length room)
+lent-stepped-by-hand verify j array wanted scratch ps bs room t =
+    stepped-by-hand verify j (units (j .device .part .word) array) (units (j .device .part .word) wanted) (units (j .device .part .word) scratch) (lending.taken verify j array wanted scratch ps bs room t)
+    bs ps (units (j .device .part .word) room) (length room) (lending.lists-none verify j array wanted scratch ps bs room t) (lending.roomy verify j array wanted scratch ps bs room t)

@@ -8,8 +8,6 @@ use lib.ListN.{length}
 use Rattle.common.specs.Choice.{if_then_else_}
 use Rattle.common.proofs.Choice.{if-true}
 use Rattle.device.specs.declared.Device.{Device}
-use Rattle.model_types.specs.declared.Pins.{Pins}
-use Rattle.model_types.specs.declared.State.{State}
 use Rattle.model_types.specs.declared.Cycle.{Cycle}
 use Rattle.model_types.specs.declared.Effect.{Effect}
 use Rattle.model_types.specs.declared.Effect.the-variants.{Nothing}
@@ -24,6 +22,9 @@ use Rattle.loader_held_claims.specs.HeldMade.{HeldReach, Elsewhere, heldBegunTu
 use Rattle.loader_held_claims.specs.HeldEnds.{HeldEnds}
 use Rattle.loader_held_claims.proofs.EveryEnd as every
 use Rattle.loader_held_ends.specs.HeldMission.{HeldWhole}
+use Rattle.loader_run.specs.declared.Job.{Job}
+use Rattle.loader.specs.declared.Work.the-variants.{Load}
+use Rattle.loader_run.specs.Runs.{doing}
 
 module _ (d : Device) (w bs ps : List ℕ) where
   -- what turns begin and make, and whether they are smooth
@@ -97,11 +98,11 @@ module _ (d : Device) (w bs ps : List ℕ) where
   counts-end c = counts-made (heldBound (length w) (length bs)) c
 
 -- every end of a load that nothing refuses, with addresses of other blocks and room for them
-pub whole : (verify : Bool) (d : Device) (s : State) (p : Pins) (k : ℕ) (xs w sc : List ℕ) → Taken d s p k xs w sc → (bs ps room : List ℕ) → Elsewhere d k bs → length bs ≤ length room
-    → HeldWhole verify d s p k xs w sc bs ps room
-whole verify d s p k xs w sc t bs ps room els roomy =
-    let E : HeldEnds verify d s p k xs w sc bs ps room = every.every-end verify d s p k xs w sc t bs ps room els roomy in
-    let C = comes d w bs ps (heldBeginning verify d s p k xs sc room) (E .last) _ _ (E .ended) (E .reach) in
+pub whole : (verify : Bool) (j : Job) (xs w sc : List ℕ) → Taken j xs w sc → (bs ps room : List ℕ) → Elsewhere (j .device) (j .block) bs → length bs ≤ length room
+    → HeldWhole verify j xs w sc bs ps room
+whole verify j xs w sc t bs ps room els roomy =
+    let E : HeldEnds verify j xs w sc bs ps room = every.every-end verify j xs w sc t bs ps room els roomy in
+    let C = comes (j .device) w bs ps (heldBeginning (doing (Load verify) j) xs sc room) (E .last) _ _ (E .ended) (E .reach) in
     record {
       ran = ap heldRan (C .end) ∙ E .ran;
       bytes = ap (λ (c : HeldConfig). c .bytes) (C .end) ∙ E .bytes;

@@ -7,16 +7,12 @@ use lib.ListN.{length}
 use Rattle.common.specs.Choice.{if_then_else_}
 use Rattle.common.specs.Numbers.{NoRow, end, past}
 use Rattle.common.proofs.Numbers.{no-row-given, no-head, no-tail}
-use Rattle.device.specs.declared.Device.{Device}
 use Rattle.device.specs.Parts.{startOf, lengthOf}
 use Rattle.units.specs.Units.{units, back, spare}
 use Rattle.units.proofs.Widths.{lent-is, all-bytes}
-use Rattle.model_types.specs.declared.Pins.{Pins}
-use Rattle.model_types.specs.declared.State.{State}
-use Rattle.loader.specs.declared.Stage.the-variants.{Clearing}
 use Rattle.loader.specs.Walks.{risesIn}
 use Rattle.loader_run.specs.declared.Ran.{Ran}
-use Rattle.loader_run.specs.Runs.{runNumber, lentRows, lentNumber, RunLeft, runLeftAt, asBytes, lentLeftAt}
+use Rattle.loader_run.specs.Runs.{runNumber, lentRows, lentNumber, RunLeft, asBytes, runLeft, lentRun, doing, runFirst}
 use Rattle.loader_run.proofs.Lending.{units-number, some, lent-made}
 use Rattle.loader_run_claims.specs.Wear.{heldIn, formulaBy}
 use Rattle.loader_run_claims.specs.Ends.{Whole}
@@ -36,10 +32,12 @@ use Rattle.loader_held_ends.specs.HeldLent.{LentTaken, LentHeldStart, ro
 use Rattle.loader_held_ends.proofs.HeldGrounds.{whole}
 use Rattle.loader_held_ends.proofs.HeldMission.{demand-3}
 use Rattle.loader_held_ends.proofs.Addresses.{elsewhere, enough, room-bytes}
+use Rattle.loader.specs.declared.Work.the-variants.{Load}
+use Rattle.loader_run.specs.declared.Job.{Job}
 
 -- the run's own rows of those that no row holds of
-run-rows : (d : Device) (s : State) (p : Pins) (k a w sc : ℕ) (bs : List ℕ) (room : ℕ) → NoRow (heldRunRows d s p k a w sc bs room) → NoRow (lentRows d s p k a w sc)
-run-rows d s p k a w sc bs room r =
+run-rows : (j : Job) (a w sc : ℕ) (bs : List ℕ) (room : ℕ) → NoRow (heldRunRows j a w sc bs room) → NoRow (lentRows j a w sc)
+run-rows j a w sc bs room r =
     let r2 = no-tail r in
     let r3 = no-tail r2 in
     let r4 = no-tail r3 in
@@ -48,9 +46,9 @@ run-rows d s p k a w sc bs room r =
     let r7 = no-tail r6 in
     past (no-head r) (past (no-head r2) (past (no-head r3) (past (no-head r4) (past (no-head r5) (past (no-head r6) (past (no-head r7) end))))))
 
-module _ (verify : Bool) (d : Device) (s : State) (p : Pins) (k : ℕ) (array wanted scratch ps bs room : List ℕ) (t : LentTaken d s p k array wanted scratch bs room) where
+module _ (verify : Bool) (j : Job) (array wanted scratch ps bs room : List ℕ) (t : LentTaken j array wanted scratch bs room) where
   abbrev w : Bool
-  w = d .part .word
+  w = j .device .part .word
 
   abbrev X : List ℕ
   X = units w array
@@ -65,106 +63,106 @@ module _ (verify : Bool) (d : Device) (s : State) (p : Pins) (k : ℕ) (array wa
   R = units w room
 
   abbrev Y : List ℕ
-  Y = heldIn (startOf (d .part) k) (lengthOf (d .part) k) X
+  Y = heldIn (startOf (j .device .part) (j .block)) (lengthOf (j .device .part) (j .block)) X
 
-  none : heldRunNumber d s p k (length array) (length wanted) (length scratch) bs (length room) ≡ 0
-  unfolding heldRunNumber
+  none : heldRunNumber j (length array) (length wanted) (length scratch) bs (length room) ≡ 0
+  unfolding runFirst
   none = no-row-given (t .accepted)
 
-  own-none : lentNumber d s p k (length array) (length wanted) (length scratch) ≡ 0
-  own-none = none-refuses d s p k (length array) (length wanted) (length scratch) bs (length room) none .0
+  own-none : lentNumber j (length array) (length wanted) (length scratch) ≡ 0
+  own-none = none-refuses j (length array) (length wanted) (length scratch) bs (length room) none .0
 
-  pub lists-none : heldNumber (d .part) k bs (length room) ≡ 0
-  lists-none = none-refuses d s p k (length array) (length wanted) (length scratch) bs (length room) none .1
+  pub lists-none : heldNumber (j .device .part) (j .block) bs (length room) ≡ 0
+  lists-none = none-refuses j (length array) (length wanted) (length scratch) bs (length room) none .1
 
-  n0 : runNumber d s p k (length X) (length W) (length S) ≡ 0
-  n0 = units-number Clearing verify d s p k array wanted scratch own-none
+  n0 : runNumber j (length X) (length W) (length S) ≡ 0
+  n0 = units-number (doing (Load verify) j) array wanted scratch own-none
 
-  pub taken : Taken d s p k X W S
-  taken = taken-if d s p k X W S n0 (t .programs) (t .erase-time) (units-cells (d .part) wanted (t .wanted-bytes)) (units-cells (d .part) array (t .array-bytes))
+  pub taken : Taken j X W S
+  taken = taken-if j X W S n0 (t .programs) (t .erase-time) (units-cells (j .device .part) wanted (t .wanted-bytes)) (units-cells (j .device .part) array (t .array-bytes))
 
-  els : Elsewhere d k bs
-  els = elsewhere d k bs (length room) lists-none
+  els : Elsewhere (j .device) (j .block) bs
+  els = elsewhere (j .device) (j .block) bs (length room) lists-none
 
   pub roomy : length bs ≤ length R
-  roomy = enough d k bs room lists-none
+  roomy = enough (j .device) (j .block) bs room lists-none
 
-  H : HeldWhole verify d s p k X W S bs ps R
-  H = whole verify d s p k X W S taken bs ps R els roomy
+  H : HeldWhole verify j X W S bs ps R
+  H = whole verify j X W S taken bs ps R els roomy
 
-  old : Whole verify d s p k X W S
-  old = total.every-end verify d s p k X W S taken
+  old : Whole verify j X W S
+  old = total.every-end verify j X W S taken
 
   -- the run without interruptions on lent bytes is that of their units, as bytes again
-  old-made : lentLeftAt Clearing verify d s p k array wanted scratch ≡ asBytes w (runLeftAt Clearing verify d s p k X W S)
+  old-made : lentRun (doing (Load verify) j) array wanted scratch ≡ asBytes w (runLeft (doing (Load verify) j) X W S)
   old-made =
-      let h = some Clearing verify d s p k array wanted scratch own-none in
+      let h = some (doing (Load verify) j) array wanted scratch own-none in
       let e = lent-is w array (h .0) in
       let f = lent-is w wanted (h .1) in
       let g = lent-is w scratch (h .2) in
-      lent-made Clearing verify d s p k array wanted scratch own-none ∙ (λ i. asBytes w (runLeftAt Clearing verify d s p k (e i) (f i) (g i)))
+      lent-made (doing (Load verify) j) array wanted scratch own-none ∙ (λ i. asBytes w (runLeft (doing (Load verify) j) (e i) (f i) (g i)))
 
   -- and so is the one with them
-  made : lentHeld verify d s p k array wanted scratch ps bs room ≡ heldLeft w (heldEnd verify d s p k X W S bs ps R) (spare w room)
-  made = held-made verify d s p k array wanted scratch ps bs room none
+  made : lentHeld (doing (Load verify) j) array wanted scratch ps bs room ≡ heldLeft w (heldEnd verify j X W S bs ps R) (spare w room)
+  made = held-made (doing (Load verify) j) array wanted scratch ps bs room none
 
-  held-is : heldIn (startOf (d .part) k) (length W) X ≡ Y
-  held-is = ap (λ (n : ℕ). heldIn (startOf (d .part) k) n X) (taken .wanted)
+  held-is : heldIn (startOf (j .device .part) (j .block)) (length W) X ≡ Y
+  held-is = ap (λ (n : ℕ). heldIn (startOf (j .device .part) (j .block)) n X) (taken .wanted)
 
-  ran-units : heldRan (heldEnd verify d s p k X W S bs ps R) ≡ ranMore (runLeftAt Clearing verify d s p k X W S .ran) (addedBy d p k W Y bs ps) (endsTurned d p k W Y ps)
+  ran-units : heldRan (heldEnd verify j X W S bs ps R) ≡ ranMore (runLeft (doing (Load verify) j) X W S .ran) (addedBy (j .device) (j .pins) (j .block) W Y bs ps) (endsTurned (j .device) (j .pins) (j .block) W Y ps)
   unfolding heldRanAs
-  ran-units = H .ran ∙ (λ i. ranMore (sym (old .ran) i) (addedBy d p k W (held-is i) bs ps) (endsTurned d p k W (held-is i) ps))
+  ran-units = H .ran ∙ (λ i. ranMore (sym (old .ran) i) (addedBy (j .device) (j .pins) (j .block) W (held-is i) bs ps) (endsTurned (j .device) (j .pins) (j .block) W (held-is i) ps))
 
-  room-units : back w (heldEnd verify d s p k X W S bs ps R .room) ++ spare w room ≡ (if erases d p k W Y && interrupts ps 0 (d .erase) then roomIn w array bs room else room)
+  room-units : back w (heldEnd verify j X W S bs ps R .room) ++ spare w room ≡ (if erases (j .device) (j .pins) (j .block) W Y && interrupts ps 0 (j .device .erase) then roomIn w array bs room else room)
   unfolding roomAs
   room-units =
       ap (λ (z : List ℕ). back w z ++ spare w room) (H .filled)
-      ∙ ap (λ (z : List ℕ). back w (if erases d p k W z && interrupts ps 0 (d .erase) then filledBy X bs R else R) ++ spare w room) held-is
-      ∙ go (erases d p k W Y && interrupts ps 0 (d .erase))
+      ∙ ap (λ (z : List ℕ). back w (if erases (j .device) (j .pins) (j .block) W z && interrupts ps 0 (j .device .erase) then filledBy X bs R else R) ++ spare w room) held-is
+      ∙ go (erases (j .device) (j .pins) (j .block) W Y && interrupts ps 0 (j .device .erase))
     where
       go : (b : Bool) → back w (if b then filledBy X bs R else R) ++ spare w room ≡ (if b then roomIn w array bs room else room)
       go true = room-bytes w X bs room (t .room-bytes) roomy
       go false = all-bytes w room (t .room-bytes)
 
-  pub lent-beside : LentBeside verify d s p k array wanted scratch ps bs room
+  pub lent-beside : LentBeside verify j array wanted scratch ps bs room
   lent-beside =
       record {
-        ran = ap (λ (r : HeldLeft). r .ran) made ∙ ran-units ∙ ap (λ (r : RunLeft). ranMore (r .ran) (addedBy d p k W Y bs ps) (endsTurned d p k W Y ps)) (sym old-made);
+        ran = ap (λ (r : HeldLeft). r .ran) made ∙ ran-units ∙ ap (λ (r : RunLeft). ranMore (r .ran) (addedBy (j .device) (j .pins) (j .block) W Y bs ps) (endsTurned (j .device) (j .pins) (j .block) W Y ps)) (sym old-made);
         bytes = ap (λ (r : HeldLeft). r .bytes) made ∙ ap (back w) (H .bytes ∙ sym (old .bytes)) ∙ ap (λ (r : RunLeft). r .bytes) (sym old-made);
         scratch-left = ap (λ (r : HeldLeft). r .scratch) made ∙ ap (back w) (H .scratch ∙ sym (old .scratch)) ∙ ap (λ (r : RunLeft). r .scratch) (sym old-made);
         filled = ap (λ (r : HeldLeft). r .room) made ∙ room-units;
       }
 
 -- demand 3 on lent bytes
-module _ (verify : Bool) (d : Device) (s : State) (p : Pins) (k : ℕ) (array wanted scratch ps bs room : List ℕ) (t : LentHeldStart d s p k array wanted scratch bs room) where
+module _ (verify : Bool) (j : Job) (array wanted scratch ps bs room : List ℕ) (t : LentHeldStart j array wanted scratch bs room) where
   abbrev word : Bool
-  word = d .part .word
+  word = j .device .part .word
 
   abbrev wanted-units : List ℕ
   wanted-units = units word wanted
 
   abbrev Held : List ℕ
-  Held = heldIn (startOf (d .part) k) (lengthOf (d .part) k) (units word array)
+  Held = heldIn (startOf (j .device .part) (j .block)) (lengthOf (j .device .part) (j .block)) (units word array)
 
-  start : HeldStart verify d s p k (units word array) wanted-units (units word scratch) bs ps (units word room)
+  start : HeldStart verify j (units word array) wanted-units (units word scratch) bs ps (units word room)
   start =
       record {
-        base = record { base = taken verify d s p k array wanted scratch ps bs room (t .base); high = t .high; unlock = t .unlock };
-        elsewhere = els verify d s p k array wanted scratch ps bs room (t .base);
-        roomy = roomy verify d s p k array wanted scratch ps bs room (t .base);
+        base = record { base = taken verify j array wanted scratch ps bs room (t .base); high = t .high; unlock = t .unlock };
+        elsewhere = els verify j array wanted scratch ps bs room (t .base);
+        roomy = roomy verify j array wanted scratch ps bs room (t .base);
       }
 
-  D : HeldDemand3 verify d s p k (units word array) wanted-units (units word scratch) bs ps (units word room)
-  D = demand-3 verify d s p k (units word array) wanted-units (units word scratch) bs ps (units word room) start
+  D : HeldDemand3 verify j (units word array) wanted-units (units word scratch) bs ps (units word room)
+  D = demand-3 verify j (units word array) wanted-units (units word scratch) bs ps (units word room) start
 
-  B : LentBeside verify d s p k array wanted scratch ps bs room
-  B = lent-beside verify d s p k array wanted scratch ps bs room (t .base)
+  B : LentBeside verify j array wanted scratch ps bs room
+  B = lent-beside verify j array wanted scratch ps bs room (t .base)
 
-  without : LentDemand3 verify d s p k array wanted scratch
+  without : LentDemand3 verify j array wanted scratch
   without =
-      lent-demand-3 verify d s p k array wanted scratch
+      lent-demand-3 verify j array wanted scratch
       (record {
-        accepted = run-rows d s p k (length array) (length wanted) (length scratch) bs (length room) (t .base .accepted);
+        accepted = run-rows j (length array) (length wanted) (length scratch) bs (length room) (t .base .accepted);
         high = t .high;
         unlock = t .unlock;
         array-bytes = t .base .array-bytes;
@@ -173,18 +171,18 @@ module _ (verify : Bool) (d : Device) (s : State) (p : Pins) (k : ℕ) (array wa
         erases = t .base .erase-time;
       })
 
-  made-so : lentHeld verify d s p k array wanted scratch ps bs room ≡ heldLeft word (heldEnd verify d s p k (units word array) wanted-units (units word scratch) bs ps (units word room)) (spare word room)
-  made-so = made verify d s p k array wanted scratch ps bs room (t .base)
+  made-so : lentHeld (doing (Load verify) j) array wanted scratch ps bs room ≡ heldLeft word (heldEnd verify j (units word array) wanted-units (units word scratch) bs ps (units word room)) (spare word room)
+  made-so = made verify j array wanted scratch ps bs room (t .base)
 
-  room-so : lentHeld verify d s p k array wanted scratch ps bs room .room ≡ (if risesIn wanted-units Held && interrupts ps 0 (d .erase) then roomIn word array bs room else room)
+  room-so : lentHeld (doing (Load verify) j) array wanted scratch ps bs room .room ≡ (if risesIn wanted-units Held && interrupts ps 0 (j .device .erase) then roomIn word array bs room else room)
   room-so =
-      ap (λ (r : HeldLeft). r .room) made-so ∙ ap (λ (z : List ℕ). back word z ++ spare word room) (D .room-left) ∙ go (risesIn wanted-units Held && interrupts ps 0 (d .erase))
+      ap (λ (r : HeldLeft). r .room) made-so ∙ ap (λ (z : List ℕ). back word z ++ spare word room) (D .room-left) ∙ go (risesIn wanted-units Held && interrupts ps 0 (j .device .erase))
     where
       go : (b : Bool) → back word (if b then filledBy (units word array) bs (units word room) else units word room) ++ spare word room ≡ (if b then roomIn word array bs room else room)
-      go true = room-bytes word (units word array) bs room (t .base .room-bytes) (roomy verify d s p k array wanted scratch ps bs room (t .base))
+      go true = room-bytes word (units word array) bs room (t .base .room-bytes) (roomy verify j array wanted scratch ps bs room (t .base))
       go false = all-bytes word room (t .base .room-bytes)
 
-  pub lent-held-demand-3 : LentHeldDemand3 verify d s p k array wanted scratch ps bs room
+  pub lent-held-demand-3 : LentHeldDemand3 verify j array wanted scratch ps bs room
   lent-held-demand-3 =
       record {
         well = ap (λ (r : Ran). r .end) (B .ran) ∙ without .well;
@@ -195,7 +193,7 @@ module _ (verify : Bool) (d : Device) (s : State) (p : Pins) (k : ℕ) (array wa
         array-left = B .bytes ∙ without .array-left;
         scratch-left = B .scratch-left ∙ without .scratch-left;
         by-formula = ap (λ (r : HeldLeft). r .ran .count) made-so ∙ D .by-formula;
-        at-most = subst (λ (r : HeldLeft). r .ran .count ≤ formulaBy verify d wanted-units Held + interruptions ps 0 (d .erase) * (d .suspend + length bs + 4)) (sym made-so) (D .at-most);
+        at-most = subst (λ (r : HeldLeft). r .ran .count ≤ formulaBy verify (j .device) wanted-units Held + interruptions ps 0 (j .device .erase) * (j .device .suspend + length bs + 4)) (sym made-so) (D .at-most);
         room-left = room-so;
         of-units = D;
       }

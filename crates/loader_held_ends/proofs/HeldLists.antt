@@ -9,7 +9,6 @@ use lib.Dec.{eqb, ltb}
 use borrow.Author.Tests.{ne-eqb}
 use Rattle.common.specs.Choice.{if_then_else_}
 use Rattle.device.specs.declared.Device.{Device}
-use Rattle.model_types.specs.declared.Pins.{Pins}
 use Rattle.model_types.specs.declared.Kind.the-variants.{Read, Write}
 use Rattle.model_types.specs.declared.State.{State}
 use Rattle.model_types.specs.declared.Cycle.{Cycle}
@@ -33,6 +32,7 @@ use Rattle.loader_held_run.specs.HeldTurns.{HeldConfig, pairBy, scratchHeld, ro
 use Rattle.loader_held_claims.specs.HeldMade.{heldMade, filledBy, heldThen, foundThen, isLast, erasePolls}
 use Rattle.loader_held_claims.specs.HeldEnds.{erases, triedPoll, addedBy, endsTurned, ranMore, heldRanAs, roomAs, heldCyclesAs}
 use Rattle.loader_held_claims.proofs.Rooms.{same-interrupts, same-added}
+use Rattle.loader_run.specs.declared.Job.{Job}
 
 -- a number is named by a list if it is by a part of it
 pub listed-joined : (n : ℕ) (ps qs : List ℕ) → listed n (ps ++ qs) ≡ (listed n ps || listed n qs)
@@ -127,43 +127,43 @@ module _ (ps qs : List ℕ) (same : (n : ℕ) → 0 < n → listed n ps ≡ list
         (ap (λ (x : HeldConfig). heldMade j d w bs ps x) (turn-same c) ∙ made-lists j (heldTurn d w bs qs c))
 
 -- from a start that nothing refuses: two lists that name the same of the numbers 1 to E
-module _ (verify : Bool) (d : Device) (s : State) (p : Pins) (k : ℕ) (w ys bs ps qs : List ℕ) (some : 0 < d .erase) (same : (i : ℕ) → 0 < i → i ≤ d .erase → listed i ps ≡ listed i qs) where
-  polls-same : (a m n : ℕ) (cs : List Cycle) → ((i : ℕ) → n < i → i ≤ n + m → listed i ps ≡ listed i qs) → erasePolls d p a bs ps n m cs ≡ erasePolls d p a bs qs n m cs
+module _ (verify : Bool) (j : Job) (w ys bs ps qs : List ℕ) (some : 0 < j .device .erase) (same : (i : ℕ) → 0 < i → i ≤ j .device .erase → listed i ps ≡ listed i qs) where
+  polls-same : (a m n : ℕ) (cs : List Cycle) → ((i : ℕ) → n < i → i ≤ n + m → listed i ps ≡ listed i qs) → erasePolls (j .device) (j .pins) a bs ps n m cs ≡ erasePolls (j .device) (j .pins) a bs qs n m cs
   polls-same a zero n cs h = refl
   polls-same a (suc m) n cs h = go (polls-same a m (n + 1) cs (λ i g f. h i (omega arith) (omega arith)))
     where
-      go : erasePolls d p a bs ps (n + 1) m cs ≡ erasePolls d p a bs qs (n + 1) m cs → erasePolls d p a bs ps n (suc m) cs ≡ erasePolls d p a bs qs n (suc m) cs
+      go : erasePolls (j .device) (j .pins) a bs ps (n + 1) m cs ≡ erasePolls (j .device) (j .pins) a bs qs (n + 1) m cs → erasePolls (j .device) (j .pins) a bs ps n (suc m) cs ≡ erasePolls (j .device) (j .pins) a bs qs n (suc m) cs
       go rest = λ t.
           if h (n + 1) (omega arith) (omega arith) t
-          then (if isLast m then foundThen p a bs cs else heldThen d p a bs (rest t))
-          else busCycle p Read a 0 ∷ rest t
+          then (if isLast m then foundThen (j .pins) a bs cs else heldThen (j .device) (j .pins) a bs (rest t))
+          else busCycle (j .pins) Read a 0 ∷ rest t
 
-  coming : (i : ℕ) → 0 < i → i ≤ 0 + d .erase → listed i ps ≡ listed i qs
+  coming : (i : ℕ) → 0 < i → i ≤ 0 + j .device .erase → listed i ps ≡ listed i qs
   coming i g f = same i g (omega arith)
 
-  added-same : addedBy d p k w ys bs ps ≡ addedBy d p k w ys bs qs
+  added-same : addedBy (j .device) (j .pins) (j .block) w ys bs ps ≡ addedBy (j .device) (j .pins) (j .block) w ys bs qs
   unfolding addedBy
-  added-same = λ t. if risesIn w ys then (if eqb (endNumber d p k w ys) 0 then same-added ps qs d bs (d .erase) 0 coming t else (if same 1 (omega arith) (omega arith) t then 2 else 0)) else 0
+  added-same = λ t. if risesIn w ys then (if eqb (endNumber (j .device) (j .pins) (j .block) w ys) 0 then same-added ps qs (j .device) bs (j .device .erase) 0 coming t else (if same 1 (omega arith) (omega arith) t then 2 else 0)) else 0
 
-  turned-same : endsTurned d p k w ys ps ≡ endsTurned d p k w ys qs
+  turned-same : endsTurned (j .device) (j .pins) (j .block) w ys ps ≡ endsTurned (j .device) (j .pins) (j .block) w ys qs
   unfolding endsTurned
-  turned-same = λ t. (erases d p k w ys && eqb (programsIn (d .part) w ys) 0) && same (d .erase) some (omega arith) t
+  turned-same = λ t. (erases (j .device) (j .pins) (j .block) w ys && eqb (programsIn (j .device .part) w ys) 0) && same (j .device .erase) some (omega arith) t
 
-  pub ran-same : heldRanAs verify d s p k w ys bs ps ≡ heldRanAs verify d s p k w ys bs qs
+  pub ran-same : heldRanAs verify j w ys bs ps ≡ heldRanAs verify j w ys bs qs
   unfolding heldRanAs
-  ran-same = λ t. ranMore (ranAs verify d s p k w ys) (added-same t) (turned-same t)
+  ran-same = λ t. ranMore (ranAs verify j w ys) (added-same t) (turned-same t)
 
-  pub room-same : (xs room : List ℕ) → roomAs d p k w ys xs bs ps room ≡ roomAs d p k w ys xs bs qs room
+  pub room-same : (xs room : List ℕ) → roomAs (j .device) (j .pins) (j .block) w ys xs bs ps room ≡ roomAs (j .device) (j .pins) (j .block) w ys xs bs qs room
   unfolding roomAs
-  room-same xs room = λ t. if erases d p k w ys && same-interrupts ps qs (d .erase) 0 coming t then filledBy xs bs room else room
+  room-same xs room = λ t. if erases (j .device) (j .pins) (j .block) w ys && same-interrupts ps qs (j .device .erase) 0 coming t then filledBy xs bs room else room
 
-  pub cycles-same : (a : ℕ) → heldCyclesAs verify d p k a w ys bs ps ≡ heldCyclesAs verify d p k a w ys bs qs
+  pub cycles-same : (a : ℕ) → heldCyclesAs verify (j .device) (j .pins) (j .block) a w ys bs ps ≡ heldCyclesAs verify (j .device) (j .pins) (j .block) a w ys bs qs
   unfolding heldCyclesAs
   cycles-same a = λ t.
       if risesIn w ys
-      then openingThen p a (length w) (busCycle p Write a 0x20 ∷ busCycle p Write a 0xD0
-      ∷ (if eqb (endNumber d p k w ys) 0 then polls-same a (d .erase) 0 (programmingThen d p a w ys (closingBy verify p a (length w))) coming t else tried t))
-      else cyclesAs verify d p k a w ys
+      then openingThen (j .pins) a (length w) (busCycle (j .pins) Write a 0x20 ∷ busCycle (j .pins) Write a 0xD0
+      ∷ (if eqb (endNumber (j .device) (j .pins) (j .block) w ys) 0 then polls-same a (j .device .erase) 0 (programmingThen (j .device) (j .pins) a w ys (closingBy verify (j .pins) a (length w))) coming t else tried t))
+      else cyclesAs verify (j .device) (j .pins) (j .block) a w ys
     where
-      tried : triedPoll p a ps ≡ triedPoll p a qs
-      tried = λ t. if same 1 (omega arith) (omega arith) t then busCycle p Write a 0xB0 ∷ busCycle p Write a 0x70 ∷ busCycle p Read a 0 ∷ [] else busCycle p Read a 0 ∷ []
+      tried : triedPoll (j .pins) a ps ≡ triedPoll (j .pins) a qs
+      tried = λ t. if same 1 (omega arith) (omega arith) t then busCycle (j .pins) Write a 0xB0 ∷ busCycle (j .pins) Write a 0x70 ∷ busCycle (j .pins) Read a 0 ∷ [] else busCycle (j .pins) Read a 0 ∷ []

@@ -12,10 +12,8 @@ use Rattle.common.proofs.Choice.{if-true, if-false, or-right, and-left, and-rig
 use Rattle.common.specs.Numbers.{NoRow}
 use Rattle.common.proofs.Numbers.{given-no-row}
 use Rattle.device.specs.declared.Device.{Device}
-use Rattle.model_types.specs.declared.Pins.{Pins}
 use Rattle.model_types.specs.declared.Kind.the-variants.{Read}
 use Rattle.model_types.specs.declared.Decision.{Decision}
-use Rattle.model_types.specs.declared.State.{State}
 use Rattle.model_types.specs.Levels.{rpLow, badPins}
 use Rattle.model_rules.specs.Cycles.{decideOf}
 use Rattle.model.specs.declared.Seen.{Seen}
@@ -28,7 +26,7 @@ use Rattle.loader.specs.Stages.{isEnded, endBy}
 use Rattle.loader_steps.specs.Front.{barredPins, startNumber, endAddress}
 use Rattle.loader_steps.proofs.Again.{taken}
 use Rattle.loader_run.specs.Turns.{isRefused, numberIn}
-use Rattle.loader_run.specs.Runs.{runRows, runNumber}
+use Rattle.loader_run.specs.Runs.{runRows, runNumber, runFirst}
 use Rattle.loader_run_claims.specs.Made.{isSmooth}
 use Rattle.loader_run_claims.proofs.Stepping.{Alike, seen-taken, read-answered, alike, start-passes}
 use Rattle.loader_held_lists.specs.Listings.{heldNumber}
@@ -49,6 +47,7 @@ use Rattle.loader_held_run.proofs.HeldEnding.{always-ends, first-end}
 use Rattle.loader_held_claims.specs.HeldMade.{heldSmoothTurn, heldSmooth}
 use Rattle.loader_held_ends.specs.HeldMission.{heldEnd, heldFine}
 use Rattle.loader_held_ends.specs.HeldStepping.{HandedOn, pairIn, steppedAt, steppedOver, HeldStepped}
+use Rattle.loader_run.specs.declared.Job.{Job}
 
 -- what an answer that is no refusal makes of the records, scratch and the room
 took : (seen : Seen) (l : Loader) (h : Hold) (k : ℕ) (w sc ps : List ℕ) → isRefused seen ≡ false → pairBy seen l h k w sc ps ≡ heldNext (h .step) l h (numberIn seen) k w sc ps
@@ -177,95 +176,95 @@ module _ (d : Device) (w bs ps : List ℕ) where
       not-true (isRefusal (x .reply)) (and-left (not (isRefusal (x .reply))) _ (sym (if-false (isEnded (c .loader .stage)) true (isSmooth x) g) ∙ h))
 
 -- a run whose cycles the model takes, stepped by hand
-module _ (verify : Bool) (d : Device) (s : State) (p : Pins) (k : ℕ) (xs w sc bs ps room : List ℕ) (size : ℕ) (free : runNumber d s p k (length xs) (length w) (length sc) ≡ 0)
-    (lists : heldNumber (d .part) k bs size ≡ 0) (smooth : heldFine verify d s p k xs w sc bs ps room ≡ true) where
+module _ (verify : Bool) (j : Job) (xs w sc bs ps room : List ℕ) (size : ℕ) (free : runNumber j (length xs) (length w) (length sc) ≡ 0)
+    (lists : heldNumber (j .device .part) (j .block) bs size ≡ 0) (smooth : heldFine verify j xs w sc bs ps room ≡ true) where
   abbrev at : ℕ → HeldConfig
-  at j = steppedAt verify d s p k xs w sc bs ps room size j
+  at i = steppedAt verify j xs w sc bs ps room size i
 
   abbrev over : ℕ → Bool
-  over j = steppedOver verify d s p k xs w sc bs ps room size j
+  over i = steppedOver verify j xs w sc bs ps room size i
 
   abbrev E : HeldConfig
-  E = heldEnd verify d s p k xs w sc bs ps room
+  E = heldEnd verify j xs w sc bs ps room
 
-  promise : HeldFirstEnd d w bs ps (at 0) E
-  promise = first-end d w bs ps (at 0) refl
+  promise : HeldFirstEnd (j .device) w bs ps (at 0) E
+  promise = first-end (j .device) w bs ps (at 0) refl
 
   bounded : isEnded (at (heldBound (length w) (length bs)) .loader .stage) ≡ true
   unfolding heldDriven
-  bounded = always-ends d w bs ps (at 0)
+  bounded = always-ends (j .device) w bs ps (at 0)
 
-  fine : (j : ℕ) → over j ≡ false → isRefusal (decideOf d (at j .state) (outOf w bs (at j)) (length (at j .bytes)) 0 .reply) ≡ false
-  fine j e = smooth-taken d w bs ps (at j) e (smooth-at d w bs ps (heldBound (length w) (length bs)) j (at 0) bounded smooth e)
+  fine : (i : ℕ) → over i ≡ false → isRefusal (decideOf (j .device) (at i .state) (outOf w bs (at i)) (length (at i .bytes)) 0 .reply) ≡ false
+  fine i e = smooth-taken (j .device) w bs ps (at i) e (smooth-at (j .device) w bs ps (heldBound (length w) (length bs)) i (at 0) bounded smooth e)
 
-  next : (j : ℕ) → at (suc j) ≡ heldTurn d w bs ps (at j)
-  next j = after-last d w bs ps j (at 0)
+  next : (i : ℕ) → at (suc i) ≡ heldTurn (j .device) w bs ps (at i)
+  next i = after-last (j .device) w bs ps i (at 0)
 
   -- the tests of every step pass
   abbrev Passing : HeldConfig → Type 0
   Passing c = (stepHeldNumber (c .loader) (c .hold) (length w) (length (c .scratch)) bs size ≡ 0) × (heldNumber (c .loader .part) (c .loader .block) bs size ≡ 0)
 
-  run-free : NoRow (runRows d s p k (length xs) (length w) (length sc))
-  unfolding runNumber
-  run-free = given-no-row (runRows d s p k (length xs) (length w) (length sc)) refl free
+  run-free : NoRow (runRows j (length xs) (length w) (length sc))
+  unfolding runFirst
+  run-free = given-no-row (runRows j (length xs) (length w) (length sc)) refl free
 
-  start-free : startNumber (d .part) p k (length w) (length sc) ≡ 0
-  start-free = start-passes d s p k (length xs) (length w) (length sc) run-free
+  start-free : startNumber (j .device .part) (j .pins) (j .block) (length w) (length sc) ≡ 0
+  start-free = start-passes j (length xs) (length w) (length sc) run-free
 
-  start-held : startHeldNumber (d .part) p k (length w) (length sc) bs size ≡ 0
-  start-held = start-passed-back (d .part) p k (length w) (length sc) bs size start-free lists
+  start-held : startHeldNumber (j .device .part) (j .pins) (j .block) (length w) (length sc) bs size ≡ 0
+  start-held = start-passed-back (j .device .part) (j .pins) (j .block) (length w) (length sc) bs size start-free lists
 
-  passing : (j : ℕ) → Passing (at j)
-  passing zero = start-again verify (d .part) p k (length w) (length sc) bs size start-held
-  passing (suc j) = subst Passing (sym (next j)) (go (over j) refl (passing j))
+  passing : (i : ℕ) → Passing (at i)
+  passing zero = start-again verify (j .device .part) (j .pins) (j .block) (length w) (length sc) bs size start-held
+  passing (suc i) = subst Passing (sym (next i)) (go (over i) refl (passing i))
     where
-      go : (t : Bool) → over j ≡ t → Passing (at j) → Passing (heldTurn d w bs ps (at j))
-      go true e h = subst Passing (sym (turn-ended d w bs ps (at j) e)) h
-      go false e h = turn-passes d w bs ps size (at j) e (fine j e) (h .0) (h .1)
+      go : (t : Bool) → over i ≡ t → Passing (at i) → Passing (heldTurn (j .device) w bs ps (at i))
+      go true e h = subst Passing (sym (turn-ended (j .device) w bs ps (at i) e)) h
+      go false e h = turn-passes (j .device) w bs ps size (at i) e (fine i e) (h .0) (h .1)
 
   -- the run is before its end for as many cycles as it counts
-  lasting : (j : ℕ) → over j ≡ false → j < E .count
-  lasting j e = go (ltb j (E .count)) refl
+  lasting : (i : ℕ) → over i ≡ false → i < E .count
+  lasting i e = go (ltb i (E .count)) refl
     where
-      go : (t : Bool) → ltb j (E .count) ≡ t → j < E .count
-      go true q = ltb-true j (E .count) q
+      go : (t : Bool) → ltb i (E .count) ≡ t → i < E .count
+      go true q = ltb-true i (E .count) q
       go false q =
-          absurd (unlike (sym (ended-later d w bs ps (E .count) j (at 0) (ltb-false j (E .count) q) (sym (ap (λ (x : HeldConfig). isEnded (x .loader .stage)) (promise .reached)) ∙ promise .ended)) ∙ e))
+          absurd (unlike (sym (ended-later (j .device) w bs ps (E .count) i (at 0) (ltb-false i (E .count) q) (sym (ap (λ (x : HeldConfig). isEnded (x .loader .stage)) (promise .reached)) ∙ promise .ended)) ∙ e))
 
-  counting : (j : ℕ) → over j ≡ false → over (suc j) ≡ true → E .count ≡ suc j
-  counting j e z = go (ltb (suc j) (E .count)) refl (lasting j e)
+  counting : (i : ℕ) → over i ≡ false → over (suc i) ≡ true → E .count ≡ suc i
+  counting i e z = go (ltb (suc i) (E .count)) refl (lasting i e)
     where
-      go : (t : Bool) → ltb (suc j) (E .count) ≡ t → j < E .count → E .count ≡ suc j
-      go true q h = absurd (unlike (sym z ∙ promise .first (suc j) (ltb-true (suc j) (E .count) q)))
-      go false q h = let x = ltb-false (suc j) (E .count) q in omega arith
+      go : (t : Bool) → ltb (suc i) (E .count) ≡ t → i < E .count → E .count ≡ suc i
+      go true q h = absurd (unlike (sym z ∙ promise .first (suc i) (ltb-true (suc i) (E .count) q)))
+      go false q h = let x = ltb-false (suc i) (E .count) q in omega arith
 
-  leaving : (j : ℕ) → over j ≡ false → over (suc j) ≡ true → at (suc j) ≡ E
-  leaving j e z = sym (promise .reached ∙ ap at (counting j e z))
+  leaving : (i : ℕ) → over i ≡ false → over (suc i) ≡ true → at (suc i) ≡ E
+  leaving i e z = sym (promise .reached ∙ ap at (counting i e z))
 
-  stepping : (j b : ℕ) → over j ≡ false → HandedOn d w bs (at j) b → stepHeldGiven (at j .loader) (at j .hold) b w (at j .scratch) ps bs size ≡ heldGiven (pairIn (at (suc j))) w bs
-  stepping j b e h = step-given d w bs ps size (at j) e (fine j e) (passing j .0) b h ∙ ap (λ (c : HeldConfig). heldGiven (pairIn c) w bs) (sym (next j))
+  stepping : (i b : ℕ) → over i ≡ false → HandedOn (j .device) w bs (at i) b → stepHeldGiven (at i .loader) (at i .hold) b w (at i .scratch) ps bs size ≡ heldGiven (pairIn (at (suc i))) w bs
+  stepping i b e h = step-given (j .device) w bs ps size (at i) e (fine i e) (passing i .0) b h ∙ ap (λ (c : HeldConfig). heldGiven (pairIn c) w bs) (sym (next i))
 
-  starting : startHeldGiven verify (d .part) p k w sc bs size ≡ heldGiven (pairIn (at 0)) w bs
-  starting = start-on verify (d .part) p k w sc bs size start-held
+  starting : startHeldGiven verify (j .device .part) (j .pins) (j .block) w sc bs size ≡ heldGiven (pairIn (at 0)) w bs
+  starting = start-on verify (j .device .part) (j .pins) (j .block) w sc bs size start-held
 
-  pub by-hand : HeldStepped verify d s p k xs w sc bs ps room size
+  pub by-hand : HeldStepped verify j xs w sc bs ps room size
   by-hand =
       record {
         starts = starting;
-        lasts = λ j. (lasting j, promise .first j);
-        takes = λ j e. turn-taken d w bs ps size (at j) e (fine j e) (passing j .0);
-        answers = λ j e. turn-read d w bs ps size (at j) e (fine j e) (passing j .0);
-        makes = λ j e.
-            let m : heldMoved d w bs ps (at j) ≡ at (suc j) = sym (turn-going d w bs ps (at j) e) ∙ sym (next j) in
+        lasts = λ i. (lasting i, promise .first i);
+        takes = λ i e. turn-taken (j .device) w bs ps size (at i) e (fine i e) (passing i .0);
+        answers = λ i e. turn-read (j .device) w bs ps size (at i) e (fine i e) (passing i .0);
+        makes = λ i e.
+            let m : heldMoved (j .device) w bs ps (at i) ≡ at (suc i) = sym (turn-going (j .device) w bs ps (at i) e) ∙ sym (next i) in
             (ap (λ (c : HeldConfig). c .state) m, ap (λ (c : HeldConfig). c .bytes) m);
-        passes = λ j. passing j .0;
+        passes = λ i. passing i .0;
         steps = stepping;
-        stores = λ j b e h. step-stored d w bs ps size (at j) e (fine j e) (passing j .0) b h ∙ ap (λ (c : HeldConfig). c .scratch) (sym (next j));
-        fills = λ j b e h. step-filled d w bs ps size (at j) e (fine j e) (passing j .0) b h ∙ ap (λ (c : HeldConfig). c .room) (sym (next j));
-        ends = λ j b e z h.
-            ap (λ g. g .turn) (stepping j b e h)
-            ∙ if-true (isEnded (at (suc j) .loader .stage)) (Over (endBy (at (suc j) .loader .stage)) (endAddress (at (suc j) .loader) (endBy (at (suc j) .loader .stage)))) _ z
-            ∙ ap (λ (c : HeldConfig). Over (heldRan c .end) (heldRan c .address)) (leaving j e z);
+        stores = λ i b e h. step-stored (j .device) w bs ps size (at i) e (fine i e) (passing i .0) b h ∙ ap (λ (c : HeldConfig). c .scratch) (sym (next i));
+        fills = λ i b e h. step-filled (j .device) w bs ps size (at i) e (fine i e) (passing i .0) b h ∙ ap (λ (c : HeldConfig). c .room) (sym (next i));
+        ends = λ i b e z h.
+            ap (λ g. g .turn) (stepping i b e h)
+            ∙ if-true (isEnded (at (suc i) .loader .stage)) (Over (endBy (at (suc i) .loader .stage)) (endAddress (at (suc i) .loader) (endBy (at (suc i) .loader .stage)))) _ z
+            ∙ ap (λ (c : HeldConfig). Over (heldRan c .end) (heldRan c .address)) (leaving i e z);
         counts = counting;
         leaves = leaving;
       }

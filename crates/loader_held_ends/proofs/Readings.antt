@@ -15,11 +15,8 @@ use Rattle.device.specs.declared.Device.{Device}
 use Rattle.device.specs.Parts.{rowOf, inWords, shapeOf, sizeIn, lengthIn, offsetIn, startIn, sizeOf, startOf, lengthOf, blockOf}
 use Rattle.units.specs.Units.{units}
 use Rattle.model_types.specs.declared.Pins.{Pins}
-use Rattle.model_types.specs.declared.State.{State}
-use Rattle.loader.specs.declared.Stage.the-variants.{Clearing}
 use Rattle.loader.specs.Walks.{risesIn}
 use Rattle.loader_run.specs.declared.Ran.{Ran}
-use Rattle.loader_run.specs.Runs.{runLeftAt, lentLeftAt}
 use Rattle.loader_run_claims.specs.Wear.{heldIn, programsIn}
 use Rattle.loader_run_claims.specs.Ends.{endNumber, Whole}
 use Rattle.loader_run_claims.specs.Mission.{Taken}
@@ -38,6 +35,9 @@ use Rattle.loader_held_ends.specs.HeldAnchors.{allLists, figures}
 use Rattle.loader_held_ends.proofs.HeldGrounds.{whole}
 use Rattle.loader_held_ends.proofs.HeldMission.{demand-3}
 use Rattle.loader_held_ends.proofs.HeldLent.{taken, lent-beside}
+use Rattle.loader.specs.declared.Work.the-variants.{Load}
+use Rattle.loader_run.specs.declared.Job.{Job}
+use Rattle.loader_run.specs.Runs.{runLeft, lentRun, doing}
 
 -- the polls of a suspend's own wait are max(1, S - 1)
 waits-are : (s : ℕ) → waitsOf s ≡ max 1 (s - 1)
@@ -68,10 +68,10 @@ room-past xs bs room i =
     ∙ getD-drop (length bs) room i 0
 
 -- what was read stands there still when the load has ended
-pub still-there : (verify : Bool) (d : Device) (s : State) (p : Pins) (k : ℕ) (xs w sc bs ps room : List ℕ) → HeldStart verify d s p k xs w sc bs ps room
-    → (i : ℕ) → i < length bs → getD (heldEnd verify d s p k xs w sc bs ps room .bytes) (getD bs i 0) 0 ≡ getD xs (getD bs i 0) 0
-still-there verify d s p k xs w sc bs ps room st i h =
-    demand-3 verify d s p k xs w sc bs ps room st .others (getD bs i 0) (λ q. unlike (sym (eq-eqb (blockOf (d .part) (getD bs i 0)) k q) ∙ st .elsewhere .other i h))
+pub still-there : (verify : Bool) (j : Job) (xs w sc bs ps room : List ℕ) → HeldStart verify j xs w sc bs ps room
+    → (i : ℕ) → i < length bs → getD (heldEnd verify j xs w sc bs ps room .bytes) (getD bs i 0) 0 ≡ getD xs (getD bs i 0) 0
+still-there verify j xs w sc bs ps room st i h =
+    demand-3 verify j xs w sc bs ps room st .others (getD bs i 0) (λ q. unlike (sym (eq-eqb (blockOf (j .device .part) (getD bs i 0)) (j .block) q) ∙ st .elsewhere .other i h))
 
 -- a load that no number 1 to E is told to: nothing is added
 none-interrupted : (ps : List ℕ) (m n : ℕ) → ((i : ℕ) → n < i → i ≤ n + m → listed i ps ≡ false) → interrupts ps n m ≡ false
@@ -120,14 +120,14 @@ added-by-most d p k w ys bs ps some = go (risesIn w ys) (eqb (endNumber d p k w 
     go false b = omega arith
 
 -- and the count is the old one with what is added
-pub count-added : (verify : Bool) (d : Device) (s : State) (p : Pins) (k : ℕ) (xs w sc : List ℕ) → Taken d s p k xs w sc → (bs ps room : List ℕ) → Elsewhere d k bs → length bs ≤ length room
-    → heldRan (heldEnd verify d s p k xs w sc bs ps room) .count
-    ≡ runLeftAt Clearing verify d s p k xs w sc .ran .count + addedBy d p k w (heldIn (startOf (d .part) k) (length w) xs) bs ps
+pub count-added : (verify : Bool) (j : Job) (xs w sc : List ℕ) → Taken j xs w sc → (bs ps room : List ℕ) → Elsewhere (j .device) (j .block) bs → length bs ≤ length room
+    → heldRan (heldEnd verify j xs w sc bs ps room) .count
+    ≡ runLeft (doing (Load verify) j) xs w sc .ran .count + addedBy (j .device) (j .pins) (j .block) w (heldIn (startOf (j .device .part) (j .block)) (length w) xs) bs ps
 unfolding heldRanAs
-count-added verify d s p k xs w sc t bs ps room els roomy =
-    let H = whole verify d s p k xs w sc t bs ps room els roomy in
-    let E : Whole verify d s p k xs w sc = total.every-end verify d s p k xs w sc t in
-    ap (λ (r : Ran). r .count) (H .ran) ∙ ap (λ (r : Ran). r .count + addedBy d p k w (heldIn (startOf (d .part) k) (length w) xs) bs ps) (sym (E .ran))
+count-added verify j xs w sc t bs ps room els roomy =
+    let H = whole verify j xs w sc t bs ps room els roomy in
+    let E : Whole verify j xs w sc = total.every-end verify j xs w sc t in
+    ap (λ (r : Ran). r .count) (H .ran) ∙ ap (λ (r : Ran). r .count + addedBy (j .device) (j .pins) (j .block) w (heldIn (startOf (j .device .part) (j .block)) (length w) xs) bs ps) (sym (E .ran))
 
 -- nothing added is the run without interruptions
 plain : (r : Ran) (n : ℕ) (b : Bool) → n ≡ 0 → b ≡ false → ranMore r n b ≡ r
@@ -136,34 +136,34 @@ plain r n b e f =
     ∙ (λ i. record { count = (let z : r .count + 0 ≡ r .count = omega arith in z) i; end = r .end; address = r .address; state = r .state })
 
 -- .. on lent bytes: the same result, array and scratch, and the room as it was
-pub no-interruption : (verify : Bool) (d : Device) (s : State) (p : Pins) (k : ℕ) (array wanted scratch ps bs room : List ℕ) → LentTaken d s p k array wanted scratch bs room
-    → ((i : ℕ) → 0 < i → i ≤ d .erase → listed i ps ≡ false)
-    → lentHeld verify d s p k array wanted scratch ps bs room
+pub no-interruption : (verify : Bool) (j : Job) (array wanted scratch ps bs room : List ℕ) → LentTaken j array wanted scratch bs room
+    → ((i : ℕ) → 0 < i → i ≤ j .device .erase → listed i ps ≡ false)
+    → lentHeld (doing (Load verify) j) array wanted scratch ps bs room
     ≡ record {
-      ran = lentLeftAt Clearing verify d s p k array wanted scratch .ran;
-      bytes = lentLeftAt Clearing verify d s p k array wanted scratch .bytes;
-      scratch = lentLeftAt Clearing verify d s p k array wanted scratch .scratch;
+      ran = lentRun (doing (Load verify) j) array wanted scratch .ran;
+      bytes = lentRun (doing (Load verify) j) array wanted scratch .bytes;
+      scratch = lentRun (doing (Load verify) j) array wanted scratch .scratch;
       room = room;
     }
-no-interruption verify d s p k array wanted scratch ps bs room t none =
-    let B : LentBeside verify d s p k array wanted scratch ps bs room = lent-beside verify d s p k array wanted scratch ps bs room t in
-    let some : 0 < d .erase = start.e0 verify d s p k (units (d .part .word) array) (units (d .part .word) wanted) (units (d .part .word) scratch) (taken verify d s p k array wanted scratch ps bs room t) in
-    let wu : List ℕ = units (d .part .word) wanted in
-    let yu : List ℕ = heldIn (startOf (d .part) k) (lengthOf (d .part) k) (units (d .part .word) array) in
-    let ran-is = B .ran ∙ plain (lentLeftAt Clearing verify d s p k array wanted scratch .ran) (addedBy d p k wu yu bs ps) (endsTurned d p k wu yu ps) (adds-nothing d p k wu yu bs ps some none) (turns-not d p k wu yu bs ps some none) in
-    let room-is = B .filled ∙ ap (λ (b : Bool). if erases d p k wu yu && b then roomIn (d .part .word) array bs room else room) (uninterrupted d p k wu yu bs ps some none)
-    ∙ ap (λ (b : Bool). if b then roomIn (d .part .word) array bs room else room) (and-none (erases d p k wu yu)) in
+no-interruption verify j array wanted scratch ps bs room t none =
+    let B : LentBeside verify j array wanted scratch ps bs room = lent-beside verify j array wanted scratch ps bs room t in
+    let some : 0 < j .device .erase = start.e0 verify j (units (j .device .part .word) array) (units (j .device .part .word) wanted) (units (j .device .part .word) scratch) (taken verify j array wanted scratch ps bs room t) in
+    let wu : List ℕ = units (j .device .part .word) wanted in
+    let yu : List ℕ = heldIn (startOf (j .device .part) (j .block)) (lengthOf (j .device .part) (j .block)) (units (j .device .part .word) array) in
+    let ran-is = B .ran ∙ plain (lentRun (doing (Load verify) j) array wanted scratch .ran) (addedBy (j .device) (j .pins) (j .block) wu yu bs ps) (endsTurned (j .device) (j .pins) (j .block) wu yu ps) (adds-nothing (j .device) (j .pins) (j .block) wu yu bs ps some none) (turns-not (j .device) (j .pins) (j .block) wu yu bs ps some none) in
+    let room-is = B .filled ∙ ap (λ (b : Bool). if erases (j .device) (j .pins) (j .block) wu yu && b then roomIn (j .device .part .word) array bs room else room) (uninterrupted (j .device) (j .pins) (j .block) wu yu bs ps some none)
+    ∙ ap (λ (b : Bool). if b then roomIn (j .device .part .word) array bs room else room) (and-none (erases (j .device) (j .pins) (j .block) wu yu)) in
     λ i. record { ran = ran-is i; bytes = B .bytes i; scratch = B .scratch-left i; room = room-is i }
 
 -- 20, 22 and 25 never come from the model, whatever the polls told
-pub never : (verify : Bool) (d : Device) (s : State) (p : Pins) (k : ℕ) (xs w sc : List ℕ) → Taken d s p k xs w sc → (bs ps room : List ℕ) → Elsewhere d k bs → length bs ≤ length room
-    → (heldRan (heldEnd verify d s p k xs w sc bs ps room) .end ≡ 20 → ⊥) × (heldRan (heldEnd verify d s p k xs w sc bs ps room) .end ≡ 22 → ⊥) × (heldRan (heldEnd verify d s p k xs w sc bs ps room) .end ≡ 25 → ⊥)
+pub never : (verify : Bool) (j : Job) (xs w sc : List ℕ) → Taken j xs w sc → (bs ps room : List ℕ) → Elsewhere (j .device) (j .block) bs → length bs ≤ length room
+    → (heldRan (heldEnd verify j xs w sc bs ps room) .end ≡ 20 → ⊥) × (heldRan (heldEnd verify j xs w sc bs ps room) .end ≡ 22 → ⊥) × (heldRan (heldEnd verify j xs w sc bs ps room) .end ≡ 25 → ⊥)
 unfolding heldRanAs
-never verify d s p k xs w sc t bs ps room els roomy =
-    let H = whole verify d s p k xs w sc t bs ps room els roomy in
-    let E : Whole verify d s p k xs w sc = total.every-end verify d s p k xs w sc t in
-    let same : heldRan (heldEnd verify d s p k xs w sc bs ps room) .end ≡ runLeftAt Clearing verify d s p k xs w sc .ran .end = ap (λ (r : Ran). r .end) (H .ran) ∙ ap (λ (r : Ran). r .end) (sym (E .ran)) in
-    let n = total.never verify d s p k xs w sc t in
+never verify j xs w sc t bs ps room els roomy =
+    let H = whole verify j xs w sc t bs ps room els roomy in
+    let E : Whole verify j xs w sc = total.every-end verify j xs w sc t in
+    let same : heldRan (heldEnd verify j xs w sc bs ps room) .end ≡ runLeft (doing (Load verify) j) xs w sc .ran .end = ap (λ (r : Ran). r .end) (H .ran) ∙ ap (λ (r : Ran). r .end) (sym (E .ran)) in
+    let n = total.never verify j xs w sc t in
     (λ q. n .0 (sym same ∙ q), λ q. n .1 (sym same ∙ q), λ q. n .2 (sym same ∙ q))
 
 -- lists that there are

@@ -8,35 +8,33 @@ use borrow.Author.Tests.{eqb-true, eq-eqb, ne-eqb}
 use Rattle.common.specs.Choice.{if_then_else_}
 use Rattle.common.proofs.Choice.{if-true, if-false, unlike}
 use Rattle.common.proofs.Numbers.{given-append}
-use Rattle.device.specs.declared.Device.{Device}
-use Rattle.model_types.specs.declared.Pins.{Pins}
-use Rattle.model_types.specs.declared.State.{State}
-use Rattle.loader_run.specs.Runs.{lentNumber}
+use Rattle.loader_run.specs.Runs.{lentNumber, runFirst}
 use Rattle.loader_from_file.specs.Loads.{fileNumber, loadRows, loadNumber}
 use Rattle.loader_from_file.proofs.Judging.{load-numbered, file-after}
 use Rattle.loader_held_lists.specs.Listings.{heldRows, heldNumber}
 use Rattle.loader_held_file.specs.HeldLoads.{heldLoadNumber}
+use Rattle.loader_run.specs.declared.Job.{Job}
 
-module _ (d : Device) (s : State) (p : Pins) (k array w sc : ℕ) (f : List ℕ) (asked : ℕ) (bs : List ℕ) (room : ℕ) where
+module _ (j : Job) (array w sc : ℕ) (f : List ℕ) (asked : ℕ) (bs : List ℕ) (room : ℕ) where
   abbrev load : ℕ
-  load = loadNumber d s p k array w sc f asked
+  load = loadNumber j array w sc f asked
 
   abbrev run : ℕ
-  run = lentNumber d s p k array w sc
+  run = lentNumber j array w sc
 
   abbrev file : ℕ
   file = fileNumber f asked w
 
   abbrev lists : ℕ
-  lists = heldNumber (d .part) k bs room
+  lists = heldNumber (j .device .part) (j .block) bs room
 
   abbrev number : ℕ
-  number = heldLoadNumber d s p k array w sc f asked bs room
+  number = heldLoadNumber j array w sc f asked bs room
 
   -- the lists are asked where the load's tests give nothing
   pub lists-last : number ≡ (if eqb load 0 then lists else load)
-  unfolding heldLoadNumber loadNumber heldNumber
-  lists-last = given-append (loadRows d s p k array w sc f asked) (heldRows (d .part) k bs room) (load-numbered d s p k array w sc f asked)
+  unfolding runFirst heldNumber
+  lists-last = given-append (loadRows j array w sc f asked) (heldRows (j .device .part) (j .block) bs room) (load-numbered j array w sc f asked)
 
   -- by a load's own number
   by-load : (load ≡ 0 → ⊥) → number ≡ load
@@ -45,17 +43,17 @@ module _ (d : Device) (s : State) (p : Pins) (k array w sc : ℕ) (f : List ℕ)
   -- by the run, by the file, by the lists
   pub by-run : (run ≡ 0 → ⊥) → number ≡ run
   by-run z =
-      let e : load ≡ run = file-after d s p k array w sc f asked ∙ if-false (eqb run 0) file run (ne-eqb run 0 z) in
+      let e : load ≡ run = file-after j array w sc f asked ∙ if-false (eqb run 0) file run (ne-eqb run 0 z) in
       by-load (λ q. z (sym e ∙ q)) ∙ e
 
   pub by-file : run ≡ 0 → (file ≡ 0 → ⊥) → number ≡ file
   by-file r z =
-      let e : load ≡ file = file-after d s p k array w sc f asked ∙ if-true (eqb run 0) file run (eq-eqb run 0 r) in
+      let e : load ≡ file = file-after j array w sc f asked ∙ if-true (eqb run 0) file run (eq-eqb run 0 r) in
       by-load (λ q. z (sym e ∙ q)) ∙ e
 
   pub by-lists : run ≡ 0 → file ≡ 0 → number ≡ lists
   by-lists r z =
-      let e : load ≡ 0 = file-after d s p k array w sc f asked ∙ if-true (eqb run 0) file run (eq-eqb run 0 r) ∙ z in
+      let e : load ≡ 0 = file-after j array w sc f asked ∙ if-true (eqb run 0) file run (eq-eqb run 0 r) ∙ z in
       lists-last ∙ if-true (eqb load 0) lists load (eq-eqb load 0 e)
 
   -- where nothing refuses: neither the load's tests nor those of the lists

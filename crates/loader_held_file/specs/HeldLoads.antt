@@ -1,28 +1,27 @@
 -- A load from a file whose erase is interrupted, on lent bytes: after the tests of a load from a file come those of the addresses and the
 -- room, and only then wanted is filled and the run made.
-use mathlib.Core.Bool.{Bool}
 use mathlib.Core.List.{List, _++_}
 use Prim.Native.Nat.{ℕ}
 use lib.ListN.{length}
 use lib.Dec.{eqb}
 use Rattle.common.specs.Choice.{if_then_else_}
-use Rattle.common.specs.Numbers.{Row, given}
-use Rattle.device.specs.declared.Device.{Device}
-use Rattle.model_types.specs.declared.Pins.{Pins}
+use Rattle.common.specs.Numbers.{Row}
 use Rattle.model_types.specs.declared.State.{State}
 use Rattle.loader_run.specs.declared.Ran.{Ran}
 use Rattle.loader_from_file.specs.Loads.{loadRows, wantedOf}
 use Rattle.loader_held_lists.specs.Listings.{heldRows}
 use Rattle.loader_held_run.specs.HeldRuns.{HeldLeft, lentHeld}
+use Rattle.loader_run.specs.declared.Job.{Job}
+use Rattle.loader_run.specs.Runs.{runFirst}
 
 -- the tests of such a load of so many lent bytes, in their order: a run's, the file's, then those of the addresses and the room
 -- (R-held-3)
-abbrev pub heldLoadRows : Device → State → Pins → ℕ → ℕ → ℕ → ℕ → List ℕ → ℕ → List ℕ → ℕ → List Row
-heldLoadRows d s p k array w sc f asked bs room = loadRows d s p k array w sc f asked ++ heldRows (d .part) k bs room
+abbrev pub heldLoadRows : Job → ℕ → ℕ → ℕ → List ℕ → ℕ → List ℕ → ℕ → List Row
+heldLoadRows j array w sc f asked bs room = loadRows j array w sc f asked ++ heldRows (j .device .part) (j .block) bs room
 
 -- the first refusal of these, 0 where nothing refuses
-unfoldable pub heldLoadNumber : Device → State → Pins → ℕ → ℕ → ℕ → ℕ → List ℕ → ℕ → List ℕ → ℕ → ℕ
-heldLoadNumber d s p k array w sc f asked bs room = given (heldLoadRows d s p k array w sc f asked bs room)
+abbrev pub heldLoadNumber : Job → ℕ → ℕ → ℕ → List ℕ → ℕ → List ℕ → ℕ → ℕ
+heldLoadNumber j array w sc f asked bs room = runFirst (heldLoadRows j array w sc f asked bs room)
 
 -- what such a load returns and leaves: its result, the array, wanted, scratch and the room
 pub record HeldLoadLeft : Type 0 where
@@ -42,8 +41,8 @@ heldLoadRefused n s xs w sc room = record { ran = record { count = 0; end = n; a
 
 -- a load from a file f for the letter asked, interrupted at the polls ps, with the verify after it or without: refused by its number, or
 -- wanted filled and the run made
-unfoldable pub heldFileLeft : Bool → Device → State → Pins → ℕ → List ℕ → List ℕ → List ℕ → List ℕ → ℕ → List ℕ → List ℕ → List ℕ → HeldLoadLeft
-heldFileLeft verify d s p k xs w sc f asked ps bs room =
-    if eqb (heldLoadNumber d s p k (length xs) (length w) (length sc) f asked bs (length room)) 0
-    then heldLoadMade (lentHeld verify d s p k xs (wantedOf f (length w)) sc ps bs room) (wantedOf f (length w))
-    else heldLoadRefused (heldLoadNumber d s p k (length xs) (length w) (length sc) f asked bs (length room)) s xs w sc room
+unfoldable pub heldFileLeft : Job → List ℕ → List ℕ → List ℕ → List ℕ → ℕ → List ℕ → List ℕ → List ℕ → HeldLoadLeft
+heldFileLeft j xs w sc f asked ps bs room =
+    if eqb (heldLoadNumber j (length xs) (length w) (length sc) f asked bs (length room)) 0
+    then heldLoadMade (lentHeld j xs (wantedOf f (length w)) sc ps bs room) (wantedOf f (length w))
+    else heldLoadRefused (heldLoadNumber j (length xs) (length w) (length sc) f asked bs (length room)) (j .state) xs w sc room

@@ -1,33 +1,17 @@
 // A load from a file whose erase is interrupted for readings: the file is judged for the letter asked, then the addresses and the room,
 // and only then the flash block is loaded with it.
-use device::Device;
-use file_codec::Judged;
+use loader_from_file::file_number;
 use loader_held_lists::list_number;
 use loader_held_run::refused;
 use loader_held_run::run_held;
+use loader_run::Job;
 use loader_run::Ran;
 use loader_run::run_number;
-use model_types::Pins;
-use model_types::State;
 ghost use mathlib.Core.Path.{_≡_};
 ghost use Prim.Native.Nat.{_≤_};
 ghost use lib.ListN.{length};
-ghost use Rattle.loader_from_file.specs.Loads.{fileNumber, wantedOf};
+ghost use Rattle.loader_from_file.specs.Loads.{wantedOf};
 ghost use Rattle.loader_held_file.specs.HeldLoads.{heldLoadNumber, heldFileLeft};
-
-// Refusals 30 to 35 and 38 of a file for the letter asked and a block of n bytes, or 0.
-fn file_number(file: &[u8], asked: u8, n: usize) -> u8
-    ensures { λ r. ⌜ r ≡ fileNumber (now (file .entry)) asked n ⌝ }
-{
-    if n < file.len() {
-        return 30;
-    }
-    let judged = file_codec::judge(file, asked);
-    match judged {
-        Judged::Sound(_) => 0,
-        Judged::Unsound(m) => m,
-    }
-}
 
 // Wanted becomes the file, then FFH to its end.
 fn fill_file(file: &[u8], wanted: &mut [u8])
@@ -41,10 +25,7 @@ fn fill_file(file: &[u8], wanted: &mut [u8])
 
 // A run's number, then the file's, then that of the addresses and the room. The lengths are in bytes.
 fn held_load_number(
-    d: Device,
-    s: State,
-    p: Pins,
-    block: u8,
+    j: Job,
     array: usize,
     wanted: usize,
     scratch: usize,
@@ -53,15 +34,13 @@ fn held_load_number(
     addresses: &[u32],
     room: usize,
 ) -> u8
-    ensures { λ r. ⌜ r ≡ heldLoadNumber d s p block array wanted scratch (now (file .entry)) asked (now (addresses .entry)) room ⌝ }
+    ensures { λ r. ⌜ r ≡ heldLoadNumber j array wanted scratch (now (file .entry)) asked (now (addresses .entry)) room ⌝ }
 {
+    let d = j.device;
     let part = d.part;
     let word = part.word;
     let n = run_number(
-        d,
-        s,
-        p,
-        block,
+        j,
         units::lent_in(word, array),
         units::lent_in(word, wanted),
         units::lent_in(word, scratch),
@@ -73,15 +52,12 @@ fn held_load_number(
     if m != 0 {
         return m;
     }
-    list_number(part, block, addresses, room)
+    list_number(part, j.block, addresses, room)
 }
 
-// A load of one block from a file, its erase interrupted at the polls given, with the verify after it or without.
+// A job from a file, its erase interrupted at the polls given: a load, with the verify after it or without.
 pub fn load_held(
-    d: Device,
-    s: State,
-    p: Pins,
-    block: u8,
+    j: Job,
     array: &mut [u8],
     wanted: &mut [u8],
     scratch: &mut [u8],
@@ -90,19 +66,16 @@ pub fn load_held(
     polls: &[u32],
     addresses: &[u32],
     room: &mut [u8],
-    verify: bool,
 ) -> Ran
-    ensures { λ r. ⌜ r ≡ heldFileLeft verify d s p block (now (array .entry)) (now (wanted .entry)) (now (scratch .entry)) (now (file .entry)) asked (now (polls .entry)) (now (addresses .entry)) (now (room .entry)) .ran ⌝ }
-    ensures { λ _. ⌜ now (array .exit) ≡ heldFileLeft verify d s p block (now (array .entry)) (now (wanted .entry)) (now (scratch .entry)) (now (file .entry)) asked (now (polls .entry)) (now (addresses .entry)) (now (room .entry)) .bytes ⌝ }
-    ensures { λ _. ⌜ now (wanted .exit) ≡ heldFileLeft verify d s p block (now (array .entry)) (now (wanted .entry)) (now (scratch .entry)) (now (file .entry)) asked (now (polls .entry)) (now (addresses .entry)) (now (room .entry)) .wanted ⌝ }
-    ensures { λ _. ⌜ now (scratch .exit) ≡ heldFileLeft verify d s p block (now (array .entry)) (now (wanted .entry)) (now (scratch .entry)) (now (file .entry)) asked (now (polls .entry)) (now (addresses .entry)) (now (room .entry)) .scratch ⌝ }
-    ensures { λ _. ⌜ now (room .exit) ≡ heldFileLeft verify d s p block (now (array .entry)) (now (wanted .entry)) (now (scratch .entry)) (now (file .entry)) asked (now (polls .entry)) (now (addresses .entry)) (now (room .entry)) .room ⌝ }
+    ensures { λ r. ⌜ r ≡ heldFileLeft j (now (array .entry)) (now (wanted .entry)) (now (scratch .entry)) (now (file .entry)) asked (now (polls .entry)) (now (addresses .entry)) (now (room .entry)) .ran ⌝ }
+    ensures { λ _. ⌜ now (array .exit) ≡ heldFileLeft j (now (array .entry)) (now (wanted .entry)) (now (scratch .entry)) (now (file .entry)) asked (now (polls .entry)) (now (addresses .entry)) (now (room .entry)) .bytes ⌝ }
+    ensures { λ _. ⌜ now (wanted .exit) ≡ heldFileLeft j (now (array .entry)) (now (wanted .entry)) (now (scratch .entry)) (now (file .entry)) asked (now (polls .entry)) (now (addresses .entry)) (now (room .entry)) .wanted ⌝ }
+    ensures { λ _. ⌜ now (scratch .exit) ≡ heldFileLeft j (now (array .entry)) (now (wanted .entry)) (now (scratch .entry)) (now (file .entry)) asked (now (polls .entry)) (now (addresses .entry)) (now (room .entry)) .scratch ⌝ }
+    ensures { λ _. ⌜ now (room .exit) ≡ heldFileLeft j (now (array .entry)) (now (wanted .entry)) (now (scratch .entry)) (now (file .entry)) asked (now (polls .entry)) (now (addresses .entry)) (now (room .entry)) .room ⌝ }
 {
+    let s = j.state;
     let n = held_load_number(
-        d,
-        s,
-        p,
-        block,
+        j,
         array.len(),
         wanted.len(),
         scratch.len(),
@@ -113,19 +86,7 @@ pub fn load_held(
     );
     if n == 0 {
         fill_file(file, wanted);
-        return run_held(
-            d,
-            s,
-            p,
-            block,
-            array,
-            wanted,
-            scratch,
-            polls,
-            addresses,
-            room,
-            verify,
-        );
+        return run_held(j, array, wanted, scratch, polls, addresses, room);
     }
     refused(n, s)
 }

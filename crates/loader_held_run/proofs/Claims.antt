@@ -1,6 +1,6 @@
 -- What is claimed of a run whose erase is interrupted, in one place: with the verify after the load or without.
 use mathlib.Core.Path.{_≡_}
-use mathlib.Core.Bool.{Bool, true, false}
+use mathlib.Core.Bool.{true, false}
 use mathlib.Core.List.{List}
 use mathlib.Core.Logic.{_↔_}
 use Prim.Native.Nat.{ℕ, _-_, _<_}
@@ -8,33 +8,32 @@ use lib.ListN.{length}
 use Rattle.common.specs.Numbers.{Foremost, NoRow}
 use Rattle.device.specs.declared.Device.{Device}
 use Rattle.units.specs.Units.{units}
-use Rattle.model_types.specs.declared.Pins.{Pins}
-use Rattle.model_types.specs.declared.State.{State}
 use Rattle.model_rules.specs.Cycles.{judgeOf}
 use Rattle.loader.specs.Stages.{isEnded}
 use Rattle.loader_run.specs.declared.Ran.{Ran}
 use Rattle.loader_held_run.specs.HeldTurns.{HeldConfig, outOf, heldAfter}
 use Rattle.loader_held_run.specs.HeldRuns.{heldRunRows, heldDriven, heldRefused, lentHeld}
 use Rattle.loader_held_run.specs.HeldPromises.{HeldFirstEnd, heldAt, HeldPromise}
+use Rattle.loader_run.specs.declared.Job.{Job}
 use Rattle.loader_held_run.proofs.HeldEnding as ending
 use Rattle.loader_held_run.proofs.HeldBorders as borders
 
 -- The numbers: a run makes no cycle and ends with m exactly where m's own condition holds and that of no number before it does: those of a
 -- run, then 5, 45, 46 and 37. The polls are not looked at: they are judged even where no interruption will come.
-pub refused-exactly : (verify : Bool) (d : Device) (s : State) (p : Pins) (k : ℕ) (array wanted scratch ps bs room : List ℕ) (m : ℕ) → (m ≡ 0 → ⊥)
-    → ((lentHeld verify d s p k array wanted scratch ps bs room .ran .count ≡ 0) × (lentHeld verify d s p k array wanted scratch ps bs room .ran .end ≡ m))
-    ↔ Foremost (heldRunRows d s p k (length array) (length wanted) (length scratch) bs (length room)) m
+pub refused-exactly : (j : Job) (array wanted scratch ps bs room : List ℕ) (m : ℕ) → (m ≡ 0 → ⊥)
+    → ((lentHeld j array wanted scratch ps bs room .ran .count ≡ 0) × (lentHeld j array wanted scratch ps bs room .ran .end ≡ m))
+    ↔ Foremost (heldRunRows j (length array) (length wanted) (length scratch) bs (length room)) m
 refused-exactly = borders.held-numbers
 
 -- It makes cycles exactly where none of these conditions holds.
-pub accepted-exactly : (verify : Bool) (d : Device) (s : State) (p : Pins) (k : ℕ) (array wanted scratch ps bs room : List ℕ)
-    → (0 < lentHeld verify d s p k array wanted scratch ps bs room .ran .count) ↔ NoRow (heldRunRows d s p k (length array) (length wanted) (length scratch) bs (length room))
+pub accepted-exactly : (j : Job) (array wanted scratch ps bs room : List ℕ)
+    → (0 < lentHeld j array wanted scratch ps bs room .ran .count) ↔ NoRow (heldRunRows j (length array) (length wanted) (length scratch) bs (length room))
 accepted-exactly = borders.held-accepted
 
 -- A refused run has count 0 and the number, and leaves state, array, scratch and room as they were.
-pub refused-leaves : (verify : Bool) (d : Device) (s : State) (p : Pins) (k : ℕ) (array wanted scratch ps bs room : List ℕ) (m : ℕ) → (m ≡ 0 → ⊥)
-    → Foremost (heldRunRows d s p k (length array) (length wanted) (length scratch) bs (length room)) m
-    → lentHeld verify d s p k array wanted scratch ps bs room ≡ heldRefused m s array scratch room
+pub refused-leaves : (j : Job) (array wanted scratch ps bs room : List ℕ) (m : ℕ) → (m ≡ 0 → ⊥)
+    → Foremost (heldRunRows j (length array) (length wanted) (length scratch) bs (length room)) m
+    → lentHeld j array wanted scratch ps bs room ≡ heldRefused m (j .state) array scratch room
 refused-leaves = borders.held-leaves
 
 -- What any number of turns leaves is what as many cycles leave as were counted; and no list of polls makes a load that does not end:
@@ -51,10 +50,10 @@ end-only = ending.end-only
 
 -- The promise of a run that nothing refuses: the count is the first number of cycles after which the load has ended, and the end, the
 -- address, the state, the array, scratch and the room are what those cycles leave; in word mode an odd byte of the room stays.
-pub first-end : (verify : Bool) (d : Device) (s : State) (p : Pins) (k : ℕ) (array wanted scratch ps bs room : List ℕ)
-    → NoRow (heldRunRows d s p k (length array) (length wanted) (length scratch) bs (length room))
-    → HeldPromise verify d s p k array wanted scratch ps bs room (lentHeld verify d s p k array wanted scratch ps bs room .ran) (lentHeld verify d s p k array wanted scratch ps bs room .bytes)
-    (lentHeld verify d s p k array wanted scratch ps bs room .scratch) (lentHeld verify d s p k array wanted scratch ps bs room .room)
+pub first-end : (j : Job) (array wanted scratch ps bs room : List ℕ)
+    → NoRow (heldRunRows j (length array) (length wanted) (length scratch) bs (length room))
+    → HeldPromise j array wanted scratch ps bs room (lentHeld j array wanted scratch ps bs room .ran) (lentHeld j array wanted scratch ps bs room .bytes)
+    (lentHeld j array wanted scratch ps bs room .scratch) (lentHeld j array wanted scratch ps bs room .room)
 first-end = borders.held-first
 
 -- There is one such number: an early stop or an invented count does not meet it.
@@ -62,15 +61,15 @@ pub first-only : (d : Device) (w bs ps : List ℕ) (c e : HeldConfig) → HeldFi
     → ((i : ℕ) → i < j → isEnded (heldAfter i d w bs ps c .loader .stage) ≡ false) → j ≡ e .count
 first-only = ending.first-only
 
-pub promise-once : (verify : Bool) (d : Device) (s : State) (p : Pins) (k : ℕ) (array wanted scratch ps bs room : List ℕ) (r t : Ran) (x y u v a b : List ℕ)
-    → HeldPromise verify d s p k array wanted scratch ps bs room r x u a → HeldPromise verify d s p k array wanted scratch ps bs room t y v b → (r ≡ t) × (x ≡ y) × (u ≡ v) × (a ≡ b)
+pub promise-once : (j : Job) (array wanted scratch ps bs room : List ℕ) (r t : Ran) (x y u v a b : List ℕ)
+    → HeldPromise j array wanted scratch ps bs room r x u a → HeldPromise j array wanted scratch ps bs room t y v b → (r ≡ t) × (x ≡ y) × (u ≡ v) × (a ≡ b)
 promise-once = borders.promise-once
 
 -- None of refusals 1 to 6 ever applies to the cycle that is out, its own or one of an interruption: the loop need not test them again.
-pub passes-ever : (verify : Bool) (d : Device) (s : State) (p : Pins) (k : ℕ) (array wanted scratch ps bs room : List ℕ)
-    → NoRow (heldRunRows d s p k (length array) (length wanted) (length scratch) bs (length room)) → (j : ℕ)
-    → isEnded (heldAt verify d s p k array wanted scratch ps bs room j .loader .stage) ≡ false
-    → judgeOf d (heldAt verify d s p k array wanted scratch ps bs room j .state) (outOf (units (d .part .word) wanted) bs (heldAt verify d s p k array wanted scratch ps bs room j))
-    (length (heldAt verify d s p k array wanted scratch ps bs room j .bytes)) 0
+pub passes-ever : (j : Job) (array wanted scratch ps bs room : List ℕ)
+    → NoRow (heldRunRows j (length array) (length wanted) (length scratch) bs (length room)) → (i : ℕ)
+    → isEnded (heldAt j array wanted scratch ps bs room i .loader .stage) ≡ false
+    → judgeOf (j .device) (heldAt j array wanted scratch ps bs room i .state) (outOf (units (j .device .part .word) wanted) bs (heldAt j array wanted scratch ps bs room i))
+    (length (heldAt j array wanted scratch ps bs room i .bytes)) 0
     ≡ 0
 passes-ever = borders.passes-ever

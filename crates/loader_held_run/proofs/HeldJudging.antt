@@ -12,23 +12,22 @@ use Rattle.common.proofs.Numbers.{given-append, given-no-row, no-head, no-tail}
 use Rattle.device.specs.declared.Device.{Device}
 use Rattle.device.specs.Parts.{sizeOf}
 use Rattle.device.proofs.Claims.{sizes-some}
-use Rattle.model_types.specs.declared.Pins.{Pins}
-use Rattle.model_types.specs.declared.State.{State}
-use Rattle.loader_run.specs.Runs.{runNumber, lentRows, lentNumber}
+use Rattle.loader_run.specs.Runs.{lentRows, lentNumber, runFirst}
 use Rattle.loader_held_lists.specs.Listings.{someOf, pastArray, heldRows, heldNumber}
 use Rattle.loader_held_run.specs.HeldRuns.{heldRunNumber}
 use Rattle.loader_held_run.specs.Inner.{ReadsInside}
+use Rattle.loader_run.specs.declared.Job.{Job}
 
 -- the lists are asked where the run's tests give nothing
-pub lists-after : (d : Device) (s : State) (p : Pins) (k array w sc : ℕ) (bs : List ℕ) (room : ℕ)
-    → heldRunNumber d s p k array w sc bs room ≡ (if eqb (lentNumber d s p k array w sc) 0 then heldNumber (d .part) k bs room else lentNumber d s p k array w sc)
-unfolding heldRunNumber heldNumber runNumber
-lists-after d s p k array w sc bs room = given-append (lentRows d s p k array w sc) (heldRows (d .part) k bs room) refl
+pub lists-after : (j : Job) (array w sc : ℕ) (bs : List ℕ) (room : ℕ)
+    → heldRunNumber j array w sc bs room ≡ (if eqb (lentNumber j array w sc) 0 then heldNumber (j .device .part) (j .block) bs room else lentNumber j array w sc)
+unfolding runFirst heldNumber
+lists-after j array w sc bs room = given-append (lentRows j array w sc) (heldRows (j .device .part) (j .block) bs room) refl
 
 -- a run that nothing refuses: neither its own tests nor those of the lists
-pub none-refuses : (d : Device) (s : State) (p : Pins) (k array w sc : ℕ) (bs : List ℕ) (room : ℕ) → heldRunNumber d s p k array w sc bs room ≡ 0
-    → (lentNumber d s p k array w sc ≡ 0) × (heldNumber (d .part) k bs room ≡ 0)
-none-refuses d s p k array w sc bs room e = go (lentNumber d s p k array w sc) (heldNumber (d .part) k bs room) (sym (lists-after d s p k array w sc bs room) ∙ e) (eqb (lentNumber d s p k array w sc) 0) refl
+pub none-refuses : (j : Job) (array w sc : ℕ) (bs : List ℕ) (room : ℕ) → heldRunNumber j array w sc bs room ≡ 0
+    → (lentNumber j array w sc ≡ 0) × (heldNumber (j .device .part) (j .block) bs room ≡ 0)
+none-refuses j array w sc bs room e = go (lentNumber j array w sc) (heldNumber (j .device .part) (j .block) bs room) (sym (lists-after j array w sc bs room) ∙ e) (eqb (lentNumber j array w sc) 0) refl
   where
     go : (a b : ℕ) → (if eqb a 0 then b else a) ≡ 0 → (t : Bool) → eqb a 0 ≡ t → (a ≡ 0) × (b ≡ 0)
     go a b z true q = (eqb-true a 0 q, sym (if-true (eqb a 0) b a q) ∙ z)

@@ -1,7 +1,6 @@
 // A load whose erase is interrupted for readings, run against the model.
 use device::Device;
 use loader::Loader;
-use loader::Stage;
 use loader::moves::ended_by;
 use loader::stages::stage_is;
 use loader_held::Hold;
@@ -11,12 +10,12 @@ use loader_held::holds::held_next;
 use loader_held::holds::held_out;
 use loader_held::holds::store_room;
 use loader_held_lists::list_number;
+use loader_run::Job;
 use loader_run::Ran;
+use loader_run::record_for;
 use loader_run::run_number;
 use loader_steps::front::end_address;
-use loader_steps::front::record_at;
 use model::Seen;
-use model_types::Pins;
 use model_types::State;
 ghost use mathlib.Core.Path.{_≡_};
 ghost use mathlib.Core.Bool.{not};
@@ -25,11 +24,10 @@ ghost use lib.ListN.{length};
 ghost use Rattle.units.specs.Units.{units, spare};
 ghost use Rattle.model_rules.specs.Cycles.{judgeOf};
 ghost use Rattle.loader.specs.Stages.{isEnded};
-ghost use Rattle.loader_steps.specs.Front.{recordAt};
 ghost use Rattle.loader_run.specs.Runs.{runNumber};
 ghost use Rattle.loader_held.specs.Holds.{stopped, heldCycle, heldNext, heldScratch, heldRoom, usual};
 ghost use Rattle.loader_held_run.specs.HeldTurns.{pairBy, scratchHeld, roomBy, heldMoved};
-ghost use Rattle.loader_held_run.specs.HeldRuns.{heldConf, heldFrom, heldRan, ranRefused, heldRunNumber, lentHeld};
+ghost use Rattle.loader_held_run.specs.HeldRuns.{heldConf, heldDone, heldRan, ranRefused, heldRunNumber, lentHeld};
 ghost use Rattle.loader_held_run.specs.Inner.{holdingOf, holdingRan, ReadsInside};
 
 // The loader's record, that of an interruption and the device's state, between two cycles.
@@ -180,11 +178,9 @@ fn over(h: Holding, count: u64) -> Ran
     }
 }
 
-// The load made to its end, from a beginning that nothing refuses.
+// The job made to its end, where nothing refuses it.
 fn drive_held(
-    d: Device,
-    s: State,
-    l: Loader,
+    j: Job,
     wanted: &[u8],
     scratch: &mut [u8],
     array: &mut [u8],
@@ -192,15 +188,17 @@ fn drive_held(
     addresses: &[u32],
     room: &mut [u8],
 ) -> Ran
-    requires { ⌜ (runNumber d s (l .pins) (l .block) (length (units (d .part .word) (now array))) (length (units (d .part .word) (now wanted))) (length (units (d .part .word) (now scratch))) ≡ 0)
-        × (l ≡ recordAt (d .part) (l .pins) (l .block) (l .stage) (l .verify)) × ReadsInside d (now addresses) × (length (now addresses) ≤ 4096) ⌝ }
-    ensures { λ r. ⌜ r ≡ heldRan (heldFrom d s l (now (array .entry)) (now (wanted .entry)) (now (scratch .entry)) (now (polls .entry)) (now (addresses .entry)) (now (room .entry))) ⌝ }
-    ensures { λ _. ⌜ units (d .part .word) (now (array .exit)) ≡ heldFrom d s l (now (array .entry)) (now (wanted .entry)) (now (scratch .entry)) (now (polls .entry)) (now (addresses .entry)) (now (room .entry)) .bytes ⌝ }
-    ensures { λ _. ⌜ units (d .part .word) (now (scratch .exit)) ≡ heldFrom d s l (now (array .entry)) (now (wanted .entry)) (now (scratch .entry)) (now (polls .entry)) (now (addresses .entry)) (now (room .entry)) .scratch ⌝ }
-    ensures { λ _. ⌜ units (d .part .word) (now (room .exit)) ≡ heldFrom d s l (now (array .entry)) (now (wanted .entry)) (now (scratch .entry)) (now (polls .entry)) (now (addresses .entry)) (now (room .entry)) .room ⌝ }
-    ensures { λ _. ⌜ spare (d .part .word) (now (room .exit)) ≡ spare (d .part .word) (now (room .entry)) ⌝ }
+    requires { ⌜ (runNumber j (length (units (j .device .part .word) (now array))) (length (units (j .device .part .word) (now wanted))) (length (units (j .device .part .word) (now scratch))) ≡ 0)
+        × ReadsInside (j .device) (now addresses) × (length (now addresses) ≤ 4096) ⌝ }
+    ensures { λ r. ⌜ r ≡ heldRan (heldDone j (now (array .entry)) (now (wanted .entry)) (now (scratch .entry)) (now (polls .entry)) (now (addresses .entry)) (now (room .entry))) ⌝ }
+    ensures { λ _. ⌜ units (j .device .part .word) (now (array .exit)) ≡ heldDone j (now (array .entry)) (now (wanted .entry)) (now (scratch .entry)) (now (polls .entry)) (now (addresses .entry)) (now (room .entry)) .bytes ⌝ }
+    ensures { λ _. ⌜ units (j .device .part .word) (now (scratch .exit)) ≡ heldDone j (now (array .entry)) (now (wanted .entry)) (now (scratch .entry)) (now (polls .entry)) (now (addresses .entry)) (now (room .entry)) .scratch ⌝ }
+    ensures { λ _. ⌜ units (j .device .part .word) (now (room .exit)) ≡ heldDone j (now (array .entry)) (now (wanted .entry)) (now (scratch .entry)) (now (polls .entry)) (now (addresses .entry)) (now (room .entry)) .room ⌝ }
+    ensures { λ _. ⌜ spare (j .device .part .word) (now (room .exit)) ≡ spare (j .device .part .word) (now (room .entry)) ⌝ }
 {
-    let mut h = begun(l, s);
+    let d = j.device;
+    let s = j.state;
+    let mut h = begun(record_for(j), s);
     let mut count: u64 = 0;
     while going(h) {
         h = held_both(d, h, wanted, scratch, array, polls, addresses, room);
@@ -211,31 +209,26 @@ fn drive_held(
 
 // A run's number, then that of the addresses and the room. The lengths are in bytes.
 pub fn held_number(
-    d: Device,
-    s: State,
-    p: Pins,
-    block: u8,
+    j: Job,
     array: usize,
     wanted: usize,
     scratch: usize,
     addresses: &[u32],
     room: usize,
 ) -> u8
-    ensures { λ r. ⌜ r ≡ heldRunNumber d s p block array wanted scratch (now (addresses .entry)) room ⌝ }
+    ensures { λ r. ⌜ r ≡ heldRunNumber j array wanted scratch (now (addresses .entry)) room ⌝ }
 {
+    let d = j.device;
     let part = d.part;
     let word = part.word;
     let n = run_number(
-        d,
-        s,
-        p,
-        block,
+        j,
         units::lent_in(word, array),
         units::lent_in(word, wanted),
         units::lent_in(word, scratch),
     );
     if n == 0 {
-        return list_number(part, block, addresses, room);
+        return list_number(part, j.block, addresses, room);
     }
     n
 }
@@ -252,31 +245,25 @@ pub fn refused(n: u8, s: State) -> Ran
     }
 }
 
-// A load of one block whose erase is interrupted at the polls given, with the verify after it or without, against the model.
+// A job whose erase is interrupted at the polls given, against the model: a load, with the verify after it or without. A verify alone has
+// no erase, and is made as it stands.
 pub fn run_held(
-    d: Device,
-    s: State,
-    p: Pins,
-    block: u8,
+    j: Job,
     array: &mut [u8],
     wanted: &[u8],
     scratch: &mut [u8],
     polls: &[u32],
     addresses: &[u32],
     room: &mut [u8],
-    verify: bool,
 ) -> Ran
-    ensures { λ r. ⌜ r ≡ lentHeld verify d s p block (now (array .entry)) (now (wanted .entry)) (now (scratch .entry)) (now (polls .entry)) (now (addresses .entry)) (now (room .entry)) .ran ⌝ }
-    ensures { λ _. ⌜ now (array .exit) ≡ lentHeld verify d s p block (now (array .entry)) (now (wanted .entry)) (now (scratch .entry)) (now (polls .entry)) (now (addresses .entry)) (now (room .entry)) .bytes ⌝ }
-    ensures { λ _. ⌜ now (scratch .exit) ≡ lentHeld verify d s p block (now (array .entry)) (now (wanted .entry)) (now (scratch .entry)) (now (polls .entry)) (now (addresses .entry)) (now (room .entry)) .scratch ⌝ }
-    ensures { λ _. ⌜ now (room .exit) ≡ lentHeld verify d s p block (now (array .entry)) (now (wanted .entry)) (now (scratch .entry)) (now (polls .entry)) (now (addresses .entry)) (now (room .entry)) .room ⌝ }
+    ensures { λ r. ⌜ r ≡ lentHeld j (now (array .entry)) (now (wanted .entry)) (now (scratch .entry)) (now (polls .entry)) (now (addresses .entry)) (now (room .entry)) .ran ⌝ }
+    ensures { λ _. ⌜ now (array .exit) ≡ lentHeld j (now (array .entry)) (now (wanted .entry)) (now (scratch .entry)) (now (polls .entry)) (now (addresses .entry)) (now (room .entry)) .bytes ⌝ }
+    ensures { λ _. ⌜ now (scratch .exit) ≡ lentHeld j (now (array .entry)) (now (wanted .entry)) (now (scratch .entry)) (now (polls .entry)) (now (addresses .entry)) (now (room .entry)) .scratch ⌝ }
+    ensures { λ _. ⌜ now (room .exit) ≡ lentHeld j (now (array .entry)) (now (wanted .entry)) (now (scratch .entry)) (now (polls .entry)) (now (addresses .entry)) (now (room .entry)) .room ⌝ }
 {
-    let part = d.part;
+    let s = j.state;
     let n = held_number(
-        d,
-        s,
-        p,
-        block,
+        j,
         array.len(),
         wanted.len(),
         scratch.len(),
@@ -284,8 +271,7 @@ pub fn run_held(
         room.len(),
     );
     if n == 0 {
-        let l = record_at(part, p, block, Stage::Clearing, verify);
-        return drive_held(d, s, l, wanted, scratch, array, polls, addresses, room);
+        return drive_held(j, wanted, scratch, array, polls, addresses, room);
     }
     refused(n, s)
 }

@@ -14,13 +14,14 @@ use Rattle.loader.specs.declared.Stage.the-variants.{Clearing, Ended}
 use Rattle.loader.specs.declared.Loader.{Loader}
 use Rattle.loader.specs.declared.Turn.the-variants.{Over, Barred}
 use Rattle.loader.specs.Inner.{past}
-use Rattle.loader_steps.specs.Front.{endAddress, isBarred, startAt, stepGiven, scratchAfter, scratchLeft}
+use Rattle.loader_steps.specs.Front.{endAddress, isBarred, startGiven, stepGiven, scratchAfter, scratchLeft}
 use Rattle.loader_held_lists.specs.Listings.{roomNumber, heldNumber}
 use Rattle.loader_held.specs.declared.Step.the-variants.{Fetching}
 use Rattle.loader_held.specs.declared.Hold.{Hold}
 use Rattle.loader_held.specs.Holds.{usual, pairOf, heldScratch, heldRoom}
 use Rattle.loader_held_steps.specs.HeldFront.{startHeldRows, startHeldNumber, stepHeldRows, stepHeldNumber, beginning, startHeldGiven, heldMove, stepHeldGiven, heldScratchLeft, heldRoomLeft}
 use Rattle.loader_held_steps.specs.ByHand.{AsOld, heldScratchAfter, oldTurns, heldTurns}
+use Rattle.loader.specs.declared.Work.the-variants.{Load}
 use Rattle.loader_held_steps.proofs.HeldAnswering as answering
 use Rattle.loader_held_steps.proofs.HeldAgain as again
 use Rattle.loader_held_steps.proofs.HeldEnd as ends
@@ -81,8 +82,8 @@ held-end-repeats = ends.end-again
 -- the same records, the same scratch, refusals too, and the room as it was. The lists have passed their tests; of a step that is those of
 -- their lengths.
 pub no-polls-start : (verify : Bool) (part : Part) (p : Pins) (k : ℕ) (w sc bs : List ℕ) (room : ℕ) → heldNumber part k bs room ≡ 0
-    → (startHeldGiven verify part p k w sc bs room .turn ≡ startAt Clearing verify part p k w sc .turn)
-    × (startHeldGiven verify part p k w sc bs room .pair ≡ pairOf (startAt Clearing verify part p k w sc .loader) (usual 0))
+    → (startHeldGiven verify part p k w sc bs room .turn ≡ startGiven (Load verify) part p k w sc .turn)
+    × (startHeldGiven verify part p k w sc bs room .pair ≡ pairOf (startGiven (Load verify) part p k w sc .loader) (usual 0))
 no-polls-start = before.start-same
 
 pub no-polls-step : (l : Loader) (n : ℕ) (bs : List ℕ) (room : ℕ) → roomNumber (l .part .word) (length bs) room ≡ 0 → (v : ℕ) (w sc : List ℕ)

@@ -24,7 +24,7 @@ use Rattle.loader.specs.declared.Turn.{Turn}
 use Rattle.loader.specs.declared.Given.{Given}
 use Rattle.loader.specs.Moves.{nextOf}
 use Rattle.loader_steps.specs.Stores.{storeOf}
-use Rattle.loader_steps.specs.Front.{badRecord, setupRows, startRows, startNumber, stepRows, stepNumber, recordAt, turnGiven, barredBy, startAt, stepGiven, scratchAfter, scratchLeft}
+use Rattle.loader_steps.specs.Front.{badRecord, setupRows, startRows, startNumber, stepRows, stepNumber, recordAt, turnGiven, barredBy, startGiven, stepGiven, scratchAfter, scratchLeft}
 use Rattle.loader_steps.proofs.Again.{kept-next}
 use Rattle.loader_held_lists.specs.Listings.{pastArray, inLoaded, roomRows, roomNumber, heldRows, heldNumber}
 use Rattle.loader_held.specs.declared.Hold.{Hold}
@@ -33,6 +33,7 @@ use Rattle.loader_held.specs.Holds.{listed, usual, pairOf, afterPoll, numbered}
 use Rattle.loader_held_steps.specs.declared.HeldGiven.{HeldGiven}
 use Rattle.loader_held_steps.specs.HeldFront.{badHold, badPair, usedRows, startHeldNumber, stepHeldNumber, heldTurnIn, heldGiven, heldBarred, beginning, startHeldGiven, heldMove, stepHeldGiven, heldScratchLeft, heldRoomLeft}
 use Rattle.loader_held_steps.specs.ByHand.{Still, AsOld, heldScratchAfter, oldTurns, heldTurns}
+use Rattle.loader.specs.declared.Work.the-variants.{Load}
 
 -- a table below another that gives nothing changes nothing
 nothing-below : (rs ss : List Row) → given ss ≡ 0 → (if eqb (given rs) 0 then given ss else given rs) ≡ given rs
@@ -72,9 +73,9 @@ module _ (verify : Bool) (part : Part) (p : Pins) (k : ℕ) (w sc bs : List ℕ)
       go false = (refl, refl)
 
   pub start-same : heldNumber part k bs room ≡ 0
-      → (startHeldGiven verify part p k w sc bs room .turn ≡ startAt Clearing verify part p k w sc .turn)
-      × (startHeldGiven verify part p k w sc bs room .pair ≡ pairOf (startAt Clearing verify part p k w sc .loader) (usual 0))
-  unfolding startHeldGiven startAt
+      → (startHeldGiven verify part p k w sc bs room .turn ≡ startGiven (Load verify) part p k w sc .turn)
+      × (startHeldGiven verify part p k w sc bs room .pair ≡ pairOf (startGiven (Load verify) part p k w sc .loader) (usual 0))
+  unfolding startHeldGiven startGiven
   start-same e =
       let n = startNumber part p k (length w) (length sc) in
       let o = start-number-same part p k (length w) (length sc) bs room e in

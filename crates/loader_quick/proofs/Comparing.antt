@@ -13,8 +13,6 @@ use Rattle.common.proofs.Choice.{if-true, if-false}
 use Rattle.common.specs.Lists.{overlaid, overwritten}
 use Rattle.common.proofs.Lists.{overwritten-all}
 use Rattle.device.specs.declared.Part.{Part}
-use Rattle.device.specs.declared.Device.{Device}
-use Rattle.model_types.specs.declared.Pins.{Pins}
 use Rattle.model_types.specs.declared.Mode.the-variants.{Array}
 use Rattle.model_types.specs.declared.State.{State}
 use Rattle.model_types.specs.States.{atRest}
@@ -27,6 +25,7 @@ use Rattle.loader_run_claims.proofs.SameBlock.{same-list, none-ahead, some-ahea
 use Rattle.loader_verify_claims.specs.Verified.{unitsRead, byteApart, verifyEnd, verifyAddress, verifyRan}
 use Rattle.loader_verify_claims.proofs.Verifying.{as-wanted}
 use Rattle.loader_quick.specs.Quick.{verdictOf}
+use Rattle.loader_run.specs.declared.Job.{Job}
 
 module _ (w ys : List ℕ) (long : length ys ≡ length w) where
   all-same : asWanted w ys ≡ true → ltb (diffFrom 0 w ys) (length w) ≡ false
@@ -97,55 +96,55 @@ pub same-read : (w : List ℕ) → overwritten (unitsRead w w) w w ≡ w
 unfolding unitsRead
 same-read w = ap (λ (n : ℕ). overwritten n w w) (if-true (asWanted w w) (length w) (diffFrom 0 w w + 1) (as-wanted w)) ∙ overwritten-all w w refl
 
-module _ (d : Device) (s : State) (p : Pins) (k : ℕ) (w ys : List ℕ) where
+module _ (j : Job) (w ys : List ℕ) where
   abbrev N : ℕ
-  N = endNumber d p k w ys
+  N = endNumber (j .device) (j .pins) (j .block) w ys
 
   -- a load that did not end well is the run's end
-  pub fault-both : (ranAs false d s p k w ys .end ≡ 0 → ⊥) → ranAs false d s p k w ys ≡ ranAs true d s p k w ys
+  pub fault-both : (ranAs false j w ys .end ≡ 0 → ⊥) → ranAs false j w ys ≡ ranAs true j w ys
   unfolding ranAs
   fault-both = go (eqb N 0)
     where
-      go : (t : Bool) → ((if t then wellRan false d s k w ys else faultRan d s p w ys N) .end ≡ 0 → ⊥)
-          → (if t then wellRan false d s k w ys else faultRan d s p w ys N) ≡ (if t then wellRan true d s k w ys else faultRan d s p w ys N)
+      go : (t : Bool) → ((if t then wellRan false (j .device) (j .state) (j .block) w ys else faultRan (j .device) (j .state) (j .pins) w ys N) .end ≡ 0 → ⊥)
+          → (if t then wellRan false (j .device) (j .state) (j .block) w ys else faultRan (j .device) (j .state) (j .pins) w ys N) ≡ (if t then wellRan true (j .device) (j .state) (j .block) w ys else faultRan (j .device) (j .state) (j .pins) w ys N)
       go true h = absurd (h refl)
       go false h = refl
 
-  pub ends-none : ranAs false d s p k w ys .end ≡ 0 → N ≡ 0
+  pub ends-none : ranAs false j w ys .end ≡ 0 → N ≡ 0
   unfolding ranAs
   ends-none = go (eqb N 0) refl
     where
-      go : (t : Bool) → eqb N 0 ≡ t → (if t then wellRan false d s k w ys else faultRan d s p w ys N) .end ≡ 0 → N ≡ 0
+      go : (t : Bool) → eqb N 0 ≡ t → (if t then wellRan false (j .device) (j .state) (j .block) w ys else faultRan (j .device) (j .state) (j .pins) w ys N) .end ≡ 0 → N ≡ 0
       go true e h = eqb-true N 0 e
       go false e h = h
 
   module _ (z : N ≡ 0) where
-    pub well-ran : (verify : Bool) → ranAs verify d s p k w ys ≡ wellRan verify d s k w ys
+    pub well-ran : (verify : Bool) → ranAs verify j w ys ≡ wellRan verify (j .device) (j .state) (j .block) w ys
     unfolding ranAs
-    well-ran verify = if-true (eqb N 0) (wellRan verify d s k w ys) (faultRan d s p w ys N) (eq-eqb N 0 z)
+    well-ran verify = if-true (eqb N 0) (wellRan verify (j .device) (j .state) (j .block) w ys) (faultRan (j .device) (j .state) (j .pins) w ys N) (eq-eqb N 0 z)
 
-    pub well-bytes : (a : ℕ) (xs : List ℕ) → bytesAs d p k a w ys xs ≡ overlaid xs a w
+    pub well-bytes : (a : ℕ) (xs : List ℕ) → bytesAs (j .device) (j .pins) (j .block) a w ys xs ≡ overlaid xs a w
     unfolding bytesAs
     well-bytes a xs = if-true (eqb N 0) (overlaid xs a w) xs (eq-eqb N 0 z)
 
-    pub well-scratch : scratchAs d p k w ys ≡ w
+    pub well-scratch : scratchAs (j .device) (j .pins) (j .block) w ys ≡ w
     unfolding scratchAs
     well-scratch = if-true (eqb N 0) w ys (eq-eqb N 0 z)
 
     -- the load, then the verify of what it left
-    pub both-ran : (a : ℕ) (l v : Ran) (zs : List ℕ) → l ≡ ranAs false d s p k w ys → v ≡ verifyRan (d .part) (l .state) a w zs → zs ≡ w
-        → _≡_ {A = Ran} (record { count = l .count + v .count; end = v .end; address = v .address; state = v .state }) (ranAs true d s p k w ys)
+    pub both-ran : (a : ℕ) (l v : Ran) (zs : List ℕ) → l ≡ ranAs false j w ys → v ≡ verifyRan (j .device .part) (l .state) a w zs → zs ≡ w
+        → _≡_ {A = Ran} (record { count = l .count + v .count; end = v .end; address = v .address; state = v .state }) (ranAs true j w ys)
     both-ran a l v zs e f h =
-        (λ i. join (first i) (second i)) ∙ (λ i. record { count = summed i; end = 0; address = 0; state = atRest (erasedFrom (risesIn w ys) k s) Array 128 }) ∙ sym (well-ran true)
+        (λ i. join (first i) (second i)) ∙ (λ i. record { count = summed i; end = 0; address = 0; state = atRest (erasedFrom (risesIn w ys) (j .block) (j .state)) Array 128 }) ∙ sym (well-ran true)
       where
         join : Ran → Ran → Ran
         join l v = record { count = l .count + v .count; end = v .end; address = v .address; state = v .state }
 
-        first : l ≡ wellRan false d s k w ys
+        first : l ≡ wellRan false (j .device) (j .state) (j .block) w ys
         first = e ∙ well-ran false
 
-        second : v ≡ record { count = 1 + length w; end = 0; address = 0; state = atRest (erasedFrom (risesIn w ys) k s) Array 128 }
-        second = f ∙ (λ i. verifyRan (d .part) (first i .state) a w (h i)) ∙ same-verified (d .part) (wellRan false d s k w ys .state) a w
+        second : v ≡ record { count = 1 + length w; end = 0; address = 0; state = atRest (erasedFrom (risesIn w ys) (j .block) (j .state)) Array 128 }
+        second = f ∙ (λ i. verifyRan (j .device .part) (first i .state) a w (h i)) ∙ same-verified (j .device .part) (wellRan false (j .device) (j .state) (j .block) w ys .state) a w
 
-        summed : loadFormula d w ys + (1 + length w) ≡ formula d w ys
+        summed : loadFormula (j .device) w ys + (1 + length w) ≡ formula (j .device) w ys
         summed = omega arith

@@ -15,7 +15,6 @@ use Rattle.device.specs.declared.Part.{Part}
 use Rattle.device.specs.declared.Device.{Device}
 use Rattle.model_types.specs.declared.Pins.{Pins}
 use Rattle.model_types.specs.declared.Mode.the-variants.{Array, Status}
-use Rattle.model_types.specs.declared.State.{State}
 use Rattle.model_types.specs.Cells.{ones}
 use Rattle.units.specs.Units.{top}
 use Rattle.model_types.specs.Levels.{vppLow}
@@ -28,6 +27,7 @@ use Rattle.loader_run_claims.specs.Wear.{differing, erasesOf, programsIn, formu
 use Rattle.loader_run_claims.specs.Ends.{asWanted, shut, endNumber, faultStatus, loadedMode, erasedFrom, wellRan, faultRan, ranAs, bytesAs, scratchAs}
 use Rattle.loader_run_claims.proofs.SameBlock.{same-list, none-risen, none-differing, none-ahead, some-ahead, risen-differs}
 use Rattle.loader_quick.specs.Quick.{stuckBy, faultEnd, faultBits, lookedAt, triedOf, modeBy, finishedOf, Timed}
+use Rattle.loader_run.specs.declared.Job.{Job}
 
 -- what the programs cost is a product, and nothing exactly where no unit differs
 costs-are : (k each i : ℕ) (w s : List ℕ) → costs k each i w s ≡ differing k i w s * each
@@ -109,45 +109,45 @@ unfolding endNumber
 wanted-ends d p k w ys o = if-true (asWanted w ys) 0 (if vppLow (d .part) p then 21 else if shut (d .part) p k then (if risesIn w ys then 23 else 24) else 0) o
 
 -- a load whose operations cannot start
-module _ (d : Device) (s : State) (p : Pins) (k : ℕ) (w ys : List ℕ) (stuck : stuckBy (d .part) p k ≡ true) where
-  fault-ends : asWanted w ys ≡ false → endNumber d p k w ys ≡ faultEnd (d .part) p (risesIn w ys)
+module _ (j : Job) (w ys : List ℕ) (stuck : stuckBy (j .device .part) (j .pins) (j .block) ≡ true) where
+  fault-ends : asWanted w ys ≡ false → endNumber (j .device) (j .pins) (j .block) w ys ≡ faultEnd (j .device .part) (j .pins) (risesIn w ys)
   unfolding endNumber stuckBy faultEnd
-  fault-ends o = go (vppLow (d .part) p) refl stuck
+  fault-ends o = go (vppLow (j .device .part) (j .pins)) refl stuck
     where
-      go : (v : Bool) → vppLow (d .part) p ≡ v → (vppLow (d .part) p || shut (d .part) p k) ≡ true
-          → _≡_ {A = ℕ} (if asWanted w ys then 0 else if vppLow (d .part) p then 21 else if shut (d .part) p k then (if risesIn w ys then 23 else 24) else 0)
-          (if vppLow (d .part) p then 21 else if risesIn w ys then 23 else 24)
+      go : (v : Bool) → vppLow (j .device .part) (j .pins) ≡ v → (vppLow (j .device .part) (j .pins) || shut (j .device .part) (j .pins) (j .block)) ≡ true
+          → _≡_ {A = ℕ} (if asWanted w ys then 0 else if vppLow (j .device .part) (j .pins) then 21 else if shut (j .device .part) (j .pins) (j .block) then (if risesIn w ys then 23 else 24) else 0)
+          (if vppLow (j .device .part) (j .pins) then 21 else if risesIn w ys then 23 else 24)
       go true v q = rw (o, v) refl
-      go false v q = let z : shut (d .part) p k ≡ true = sym (ap (λ (b : Bool). b || shut (d .part) p k) v) ∙ q in rw (o, v, z) refl
+      go false v q = let z : shut (j .device .part) (j .pins) (j .block) ≡ true = sym (ap (λ (b : Bool). b || shut (j .device .part) (j .pins) (j .block)) v) ∙ q in rw (o, v, z) refl
 
-  some-number : (part : Part) (r : Bool) → eqb (faultEnd part p r) 0 ≡ false
+  some-number : (part : Part) (r : Bool) → eqb (faultEnd part (j .pins) r) 0 ≡ false
   unfolding faultEnd
-  some-number part r = go (vppLow part p) r
+  some-number part r = go (vppLow part (j .pins)) r
     where
       go : (v r : Bool) → eqb (if v then 21 else if r then 23 else 24) 0 ≡ false
       go true r = refl
       go false true = refl
       go false false = refl
 
-  none-well : asWanted w ys ≡ false → eqb (endNumber d p k w ys) 0 ≡ false
-  none-well o = ap (λ (n : ℕ). eqb n 0) (fault-ends o) ∙ some-number (d .part) (risesIn w ys)
+  none-well : asWanted w ys ≡ false → eqb (endNumber (j .device) (j .pins) (j .block) w ys) 0 ≡ false
+  none-well o = ap (λ (n : ℕ). eqb n 0) (fault-ends o) ∙ some-number (j .device .part) (risesIn w ys)
 
-  bits-are : faultStatus d p w ys ≡ faultBits (d .part) p (risesIn w ys)
+  bits-are : faultStatus (j .device) (j .pins) w ys ≡ faultBits (j .device .part) (j .pins) (risesIn w ys)
   unfolding faultStatus faultBits
   bits-are = refl
 
   fault-is : asWanted w ys ≡ false
-      → _≡_ {A = Ran} (record { count = length w + 5; end = faultEnd (d .part) p (risesIn w ys); address = 0; state = atRest s Status (faultBits (d .part) p (risesIn w ys)) }) (ranAs false d s p k w ys)
+      → _≡_ {A = Ran} (record { count = length w + 5; end = faultEnd (j .device .part) (j .pins) (risesIn w ys); address = 0; state = atRest (j .state) Status (faultBits (j .device .part) (j .pins) (risesIn w ys)) }) (ranAs false j w ys)
   unfolding ranAs
   fault-is o =
-      sym (if-false (eqb (endNumber d p k w ys) 0) (wellRan false d s k w ys) (faultRan d s p w ys (endNumber d p k w ys)) (none-well o)
-      ∙ (λ i. record { count = length w + 5; end = fault-ends o i; address = 0; state = atRest s Status (bits-are i) }))
+      sym (if-false (eqb (endNumber (j .device) (j .pins) (j .block) w ys) 0) (wellRan false (j .device) (j .state) (j .block) w ys) (faultRan (j .device) (j .state) (j .pins) w ys (endNumber (j .device) (j .pins) (j .block) w ys)) (none-well o)
+      ∙ (λ i. record { count = length w + 5; end = fault-ends o i; address = 0; state = atRest (j .state) Status (bits-are i) }))
 
-  same-is : length ys ≡ length w → asWanted w ys ≡ true → _≡_ {A = Ran} (record { count = length w + 2; end = 0; address = 0; state = atRest s Array 128 }) (ranAs false d s p k w ys)
+  same-is : length ys ≡ length w → asWanted w ys ≡ true → _≡_ {A = Ran} (record { count = length w + 2; end = 0; address = 0; state = atRest (j .state) Array 128 }) (ranAs false j w ys)
   unfolding ranAs
   same-is l o =
-      sym (if-true (eqb (endNumber d p k w ys) 0) (wellRan false d s k w ys) (faultRan d s p w ys (endNumber d p k w ys)) (eq-eqb _ 0 (wanted-ends d p k w ys o))
-      ∙ (λ i. record { count = counted i; end = 0; address = 0; state = atRest (erasedFrom (level i) k s) (if-true (asWanted w ys) Array Status o i) 128 }))
+      sym (if-true (eqb (endNumber (j .device) (j .pins) (j .block) w ys) 0) (wellRan false (j .device) (j .state) (j .block) w ys) (faultRan (j .device) (j .state) (j .pins) w ys (endNumber (j .device) (j .pins) (j .block) w ys)) (eq-eqb _ 0 (wanted-ends (j .device) (j .pins) (j .block) w ys o))
+      ∙ (λ i. record { count = counted i; end = 0; address = 0; state = atRest (erasedFrom (level i) (j .block) (j .state)) (if-true (asWanted w ys) Array Status o i) 128 }))
     where
       held : ys ≡ w
       held = same-list w ys l o
@@ -155,66 +155,66 @@ module _ (d : Device) (s : State) (p : Pins) (k : ℕ) (w ys : List ℕ) (stuck 
       level : risesIn w ys ≡ false
       level = ap (λ (z : List ℕ). risesIn w z) held ∙ none-risen w
 
-      counted : loadFormula d w ys ≡ length w + 2
+      counted : loadFormula (j .device) w ys ≡ length w + 2
       counted = rw (level, held, none-differing (length w) 0 w) (omega arith)
 
   -- a load that only looked
-  pub tried-is : length ys ≡ length w → triedOf (d .part) s p (length w) (lookedAt w ys) ≡ ranAs false d s p k w ys
+  pub tried-is : length ys ≡ length w → triedOf (j .device .part) (j .state) (j .pins) (length w) (lookedAt w ys) ≡ ranAs false j w ys
   unfolding triedOf
   tried-is l = go (ltb (diffFrom 0 w ys) (length w)) refl
     where
       go : (t : Bool) → ltb (diffFrom 0 w ys) (length w) ≡ t
-          → _≡_ {A = Ran} (if t then record { count = length w + 5; end = faultEnd (d .part) p (risesIn w ys); address = 0; state = atRest s Status (faultBits (d .part) p (risesIn w ys)) } else record { count = length w + 2; end = 0; address = 0; state = atRest s Array 128 })
-          (ranAs false d s p k w ys)
+          → _≡_ {A = Ran} (if t then record { count = length w + 5; end = faultEnd (j .device .part) (j .pins) (risesIn w ys); address = 0; state = atRest (j .state) Status (faultBits (j .device .part) (j .pins) (risesIn w ys)) } else record { count = length w + 2; end = 0; address = 0; state = atRest (j .state) Array 128 })
+          (ranAs false j w ys)
       go true e = fault-is (differs-if w ys l (ltb-true _ _ e))
       go false e = same-is l (same-if w ys l (ltb-false _ _ e))
 
-  pub scratch-stuck : length ys ≡ length w → ys ≡ scratchAs d p k w ys
+  pub scratch-stuck : length ys ≡ length w → ys ≡ scratchAs (j .device) (j .pins) (j .block) w ys
   unfolding scratchAs
   scratch-stuck l = go (asWanted w ys) refl
     where
-      go : (t : Bool) → asWanted w ys ≡ t → ys ≡ (if eqb (endNumber d p k w ys) 0 then w else ys)
-      go true o = same-list w ys l o ∙ sym (if-true (eqb (endNumber d p k w ys) 0) w ys (eq-eqb _ 0 (wanted-ends d p k w ys o)))
-      go false o = sym (if-false (eqb (endNumber d p k w ys) 0) w ys (none-well o))
+      go : (t : Bool) → asWanted w ys ≡ t → ys ≡ (if eqb (endNumber (j .device) (j .pins) (j .block) w ys) 0 then w else ys)
+      go true o = same-list w ys l o ∙ sym (if-true (eqb (endNumber (j .device) (j .pins) (j .block) w ys) 0) w ys (eq-eqb _ 0 (wanted-ends (j .device) (j .pins) (j .block) w ys o)))
+      go false o = sym (if-false (eqb (endNumber (j .device) (j .pins) (j .block) w ys) 0) w ys (none-well o))
 
-  pub bytes-stuck : (a : ℕ) (xs : List ℕ) → length ys ≡ length w → overlaid xs a ys ≡ xs → xs ≡ bytesAs d p k a w ys xs
+  pub bytes-stuck : (a : ℕ) (xs : List ℕ) → length ys ≡ length w → overlaid xs a ys ≡ xs → xs ≡ bytesAs (j .device) (j .pins) (j .block) a w ys xs
   unfolding bytesAs
   bytes-stuck a xs l self = go (asWanted w ys) refl
     where
-      go : (t : Bool) → asWanted w ys ≡ t → xs ≡ (if eqb (endNumber d p k w ys) 0 then overlaid xs a w else xs)
-      go true o = sym self ∙ ap (λ (z : List ℕ). overlaid xs a z) (same-list w ys l o) ∙ sym (if-true (eqb (endNumber d p k w ys) 0) (overlaid xs a w) xs (eq-eqb _ 0 (wanted-ends d p k w ys o)))
-      go false o = sym (if-false (eqb (endNumber d p k w ys) 0) (overlaid xs a w) xs (none-well o))
+      go : (t : Bool) → asWanted w ys ≡ t → xs ≡ (if eqb (endNumber (j .device) (j .pins) (j .block) w ys) 0 then overlaid xs a w else xs)
+      go true o = sym self ∙ ap (λ (z : List ℕ). overlaid xs a z) (same-list w ys l o) ∙ sym (if-true (eqb (endNumber (j .device) (j .pins) (j .block) w ys) 0) (overlaid xs a w) xs (eq-eqb _ 0 (wanted-ends (j .device) (j .pins) (j .block) w ys o)))
+      go false o = sym (if-false (eqb (endNumber (j .device) (j .pins) (j .block) w ys) 0) (overlaid xs a w) xs (none-well o))
 
 -- a load whose operations can start
-module _ (d : Device) (s : State) (p : Pins) (k : ℕ) (w ys : List ℕ) (can : stuckBy (d .part) p k ≡ false) where
-  well-ends : endNumber d p k w ys ≡ 0
+module _ (j : Job) (w ys : List ℕ) (can : stuckBy (j .device .part) (j .pins) (j .block) ≡ false) where
+  well-ends : endNumber (j .device) (j .pins) (j .block) w ys ≡ 0
   unfolding endNumber stuckBy
-  well-ends = rw (or-left (vppLow (d .part) p) (shut (d .part) p k) can, or-right (vppLow (d .part) p) (shut (d .part) p k) can) (go (asWanted w ys))
+  well-ends = rw (or-left (vppLow (j .device .part) (j .pins)) (shut (j .device .part) (j .pins) (j .block)) can, or-right (vppLow (j .device .part) (j .pins)) (shut (j .device .part) (j .pins) (j .block)) can) (go (asWanted w ys))
     where
       go : (t : Bool) → _≡_ {A = ℕ} (if t then 0 else 0) 0
       go true = refl
       go false = refl
 
-  pub well-is : (once each : ℕ) → length ys ≡ length w → once ≡ 2 + d .erase → each ≡ 2 + d .program
-      → finishedOf s k (length w) (workDone (d .part .word) once each w ys) ≡ ranAs false d s p k w ys
+  pub well-is : (once each : ℕ) → length ys ≡ length w → once ≡ 2 + j .device .erase → each ≡ 2 + j .device .program
+      → finishedOf (j .state) (j .block) (length w) (workDone (j .device .part .word) once each w ys) ≡ ranAs false j w ys
   unfolding ranAs
   well-is once each l o e =
-      (λ i. record { count = counted i; end = 0; address = 0; state = atRest (erasedFrom (risesIn w ys) k s) (moded i) 128 })
-      ∙ sym (if-true (eqb (endNumber d p k w ys) 0) (wellRan false d s k w ys) (faultRan d s p w ys (endNumber d p k w ys)) (eq-eqb _ 0 well-ends))
+      (λ i. record { count = counted i; end = 0; address = 0; state = atRest (erasedFrom (risesIn w ys) (j .block) (j .state)) (moded i) 128 })
+      ∙ sym (if-true (eqb (endNumber (j .device) (j .pins) (j .block) w ys) 0) (wellRan false (j .device) (j .state) (j .block) w ys) (faultRan (j .device) (j .state) (j .pins) w ys (endNumber (j .device) (j .pins) (j .block) w ys)) (eq-eqb _ 0 well-ends))
     where
-      costed : workCosts (d .part .word) once each w ys ≡ erasesOf w ys * (2 + d .erase) + programsIn (d .part) w ys * (2 + d .program)
-      costed = (λ i. workCosts (d .part .word) (o i) (e i) w ys) ∙ work-cost (d .part) (2 + d .erase) (2 + d .program) w ys
+      costed : workCosts (j .device .part .word) once each w ys ≡ erasesOf w ys * (2 + j .device .erase) + programsIn (j .device .part) w ys * (2 + j .device .program)
+      costed = (λ i. workCosts (j .device .part .word) (o i) (e i) w ys) ∙ work-cost (j .device .part) (2 + j .device .erase) (2 + j .device .program) w ys
 
-      counted : length w + 2 + workCosts (d .part .word) once each w ys ≡ loadFormula d w ys
+      counted : length w + 2 + workCosts (j .device .part .word) once each w ys ≡ loadFormula (j .device) w ys
       counted = omega (arith, costed)
 
-      moded : modeBy (workCosts (d .part .word) once each w ys) ≡ loadedMode w ys
-      moded = work-mode (d .part) once each w ys l (omega (arith, o)) (omega (arith, e))
+      moded : modeBy (workCosts (j .device .part .word) once each w ys) ≡ loadedMode w ys
+      moded = work-mode (j .device .part) once each w ys l (omega (arith, o)) (omega (arith, e))
 
-  pub bytes-free : (a : ℕ) (xs : List ℕ) → overlaid xs a w ≡ bytesAs d p k a w ys xs
+  pub bytes-free : (a : ℕ) (xs : List ℕ) → overlaid xs a w ≡ bytesAs (j .device) (j .pins) (j .block) a w ys xs
   unfolding bytesAs
-  bytes-free a xs = sym (if-true (eqb (endNumber d p k w ys) 0) (overlaid xs a w) xs (eq-eqb _ 0 well-ends))
+  bytes-free a xs = sym (if-true (eqb (endNumber (j .device) (j .pins) (j .block) w ys) 0) (overlaid xs a w) xs (eq-eqb _ 0 well-ends))
 
-  pub scratch-free : w ≡ scratchAs d p k w ys
+  pub scratch-free : w ≡ scratchAs (j .device) (j .pins) (j .block) w ys
   unfolding scratchAs
-  scratch-free = sym (if-true (eqb (endNumber d p k w ys) 0) w ys (eq-eqb _ 0 well-ends))
+  scratch-free = sym (if-true (eqb (endNumber (j .device) (j .pins) (j .block) w ys) 0) w ys (eq-eqb _ 0 well-ends))

@@ -1,10 +1,11 @@
 // A load of one block, a verify of one block, and both one after the other, against the model, stage by stage: each stage does to the block
 // and to scratch what its cycles do, and adds the cycles that it stands for. The promise is that of `loader_run`, where loader and model
 // are stepped against each other cycle by cycle.
-use device::Device;
 use device::Part;
+use loader::Work;
 use loader_blocks::Done;
 use loader_blocks::Found;
+use loader_run::Job;
 use loader_run::Ran;
 use model_types::Mode;
 use model_types::Pins;
@@ -22,7 +23,7 @@ ghost use Rattle.device.specs.Parts.{startOf};
 ghost use Rattle.units.specs.Units.{units};
 ghost use Rattle.units.specs.Address.{byteOf};
 ghost use Rattle.loader_blocks.specs.Blocks.{workDone};
-ghost use Rattle.loader_run.specs.Runs.{lentNumber, lentRun, lentLoad, lentVerify};
+ghost use Rattle.loader_run.specs.Runs.{lentNumber, lentRun};
 ghost use Rattle.loader_run_claims.specs.Ends.{shut, erasedFrom, ranAs, bytesAs, scratchAs};
 ghost use Rattle.loader_verify_claims.specs.Verified.{unitsRead, verifyRan};
 ghost use Rattle.loader_quick.specs.Quick.{Placed, heldUnits, stuckBy, faultEnd, faultBits, lookedAt, triedOf, modeBy, finishedOf, verdictOf, refusedRan, Timed};
@@ -203,28 +204,23 @@ fn worked(
 }
 
 // A load: 50H, FFH and the first reads, then the operations.
-fn loaded(
-    d: Device,
-    s: State,
-    p: Pins,
-    block: u8,
-    array: &mut [u8],
-    wanted: &[u8],
-    scratch: &mut [u8],
-) -> Ran
-    requires { ⌜ Placed (d .part) block (length (now array)) (length (now wanted)) (length (now scratch)) ⌝ }
-    ensures { λ r. ⌜ r ≡ ranAs false d s p block (units (d .part .word) (now (wanted .entry))) (heldUnits (d .part) block (now (array .entry)) (now (wanted .entry))) ⌝ }
-    ensures { λ _. ⌜ units (d .part .word) (now (array .exit)) ≡ bytesAs d p block (startOf (d .part) block) (units (d .part .word) (now (wanted .entry))) (heldUnits (d .part) block (now (array .entry)) (now (wanted .entry))) (units (d .part .word) (now (array .entry))) ⌝ }
-    ensures { λ _. ⌜ units (d .part .word) (now (scratch .exit)) ≡ scratchAs d p block (units (d .part .word) (now (wanted .entry))) (heldUnits (d .part) block (now (array .entry)) (now (wanted .entry))) ⌝ }
-    ensures { λ _. ⌜ Timed d ⌝ }
+fn loaded(j: Job, array: &mut [u8], wanted: &[u8], scratch: &mut [u8]) -> Ran
+    requires { ⌜ Placed (j .device .part) (j .block) (length (now array)) (length (now wanted)) (length (now scratch)) ⌝ }
+    ensures { λ r. ⌜ r ≡ ranAs false j (units (j .device .part .word) (now (wanted .entry))) (heldUnits (j .device .part) (j .block) (now (array .entry)) (now (wanted .entry))) ⌝ }
+    ensures { λ _. ⌜ units (j .device .part .word) (now (array .exit)) ≡ bytesAs (j .device) (j .pins) (j .block) (startOf (j .device .part) (j .block)) (units (j .device .part .word) (now (wanted .entry))) (heldUnits (j .device .part) (j .block) (now (array .entry)) (now (wanted .entry))) (units (j .device .part .word) (now (array .entry))) ⌝ }
+    ensures { λ _. ⌜ units (j .device .part .word) (now (scratch .exit)) ≡ scratchAs (j .device) (j .pins) (j .block) (units (j .device .part .word) (now (wanted .entry))) (heldUnits (j .device .part) (j .block) (now (array .entry)) (now (wanted .entry))) ⌝ }
+    ensures { λ _. ⌜ Timed (j .device) ⌝ }
 {
+    let d = j.device;
+    let s = j.state;
+    let p = j.pins;
     let once = cost_of(d.erase);
     let each = cost_of(d.program);
     let part = d.part;
-    if is_stuck(part, p, block) {
-        return stuck_load(part, s, p, block, array, wanted, scratch);
+    if is_stuck(part, p, j.block) {
+        return stuck_load(part, s, p, j.block, array, wanted, scratch);
     }
-    worked(part, once, each, s, block, array, wanted, scratch)
+    worked(part, once, each, s, j.block, array, wanted, scratch)
 }
 
 // How a verify ends that found the first difference at place m of n, in a block at a, with the two units there.
@@ -268,29 +264,22 @@ fn verified(part: Part, s: State, block: u8, array: &[u8], wanted: &[u8], scratc
 }
 
 // A load, and the verify after it where the load ended well.
-fn both(
-    d: Device,
-    s: State,
-    p: Pins,
-    block: u8,
-    array: &mut [u8],
-    wanted: &[u8],
-    scratch: &mut [u8],
-) -> Ran
-    requires { ⌜ Placed (d .part) block (length (now array)) (length (now wanted)) (length (now scratch)) ⌝ }
-    ensures { λ r. ⌜ r ≡ ranAs true d s p block (units (d .part .word) (now (wanted .entry))) (heldUnits (d .part) block (now (array .entry)) (now (wanted .entry))) ⌝ }
-    ensures { λ _. ⌜ units (d .part .word) (now (array .exit)) ≡ bytesAs d p block (startOf (d .part) block) (units (d .part .word) (now (wanted .entry))) (heldUnits (d .part) block (now (array .entry)) (now (wanted .entry))) (units (d .part .word) (now (array .entry))) ⌝ }
-    ensures { λ _. ⌜ units (d .part .word) (now (scratch .exit)) ≡ scratchAs d p block (units (d .part .word) (now (wanted .entry))) (heldUnits (d .part) block (now (array .entry)) (now (wanted .entry))) ⌝ }
-    ensures { λ _. ⌜ Timed d ⌝ }
+fn both(j: Job, array: &mut [u8], wanted: &[u8], scratch: &mut [u8]) -> Ran
+    requires { ⌜ Placed (j .device .part) (j .block) (length (now array)) (length (now wanted)) (length (now scratch)) ⌝ }
+    ensures { λ r. ⌜ r ≡ ranAs true j (units (j .device .part .word) (now (wanted .entry))) (heldUnits (j .device .part) (j .block) (now (array .entry)) (now (wanted .entry))) ⌝ }
+    ensures { λ _. ⌜ units (j .device .part .word) (now (array .exit)) ≡ bytesAs (j .device) (j .pins) (j .block) (startOf (j .device .part) (j .block)) (units (j .device .part .word) (now (wanted .entry))) (heldUnits (j .device .part) (j .block) (now (array .entry)) (now (wanted .entry))) (units (j .device .part .word) (now (array .entry))) ⌝ }
+    ensures { λ _. ⌜ units (j .device .part .word) (now (scratch .exit)) ≡ scratchAs (j .device) (j .pins) (j .block) (units (j .device .part .word) (now (wanted .entry))) (heldUnits (j .device .part) (j .block) (now (array .entry)) (now (wanted .entry))) ⌝ }
+    ensures { λ _. ⌜ Timed (j .device) ⌝ }
 {
+    let d = j.device;
     let part = d.part;
-    let l = loaded(d, s, p, block, array, wanted, scratch);
+    let l = loaded(j, array, wanted, scratch);
     let end = l.end;
     if end != 0 {
         return l;
     }
     let t = l.state;
-    let v = verified(part, t, block, array, wanted, scratch);
+    let v = verified(part, t, j.block, array, wanted, scratch);
     let u = v.state;
     Ran {
         count: l.count + v.count,
@@ -300,25 +289,29 @@ fn both(
     }
 }
 
-// The tests of a run, on so many lent bytes.
-fn lent_number(
-    d: Device,
-    s: State,
-    p: Pins,
-    block: u8,
-    array: usize,
-    wanted: usize,
-    scratch: usize,
-) -> u8
-    ensures { λ r. ⌜ r ≡ lentNumber d s p block array wanted scratch ⌝ }
+// A load, with or without the verify after it.
+fn load_by(verify: bool, j: Job, array: &mut [u8], wanted: &[u8], scratch: &mut [u8]) -> Ran
+    requires { ⌜ Placed (j .device .part) (j .block) (length (now array)) (length (now wanted)) (length (now scratch)) ⌝ }
+    ensures { λ r. ⌜ r ≡ ranAs verify j (units (j .device .part .word) (now (wanted .entry))) (heldUnits (j .device .part) (j .block) (now (array .entry)) (now (wanted .entry))) ⌝ }
+    ensures { λ _. ⌜ units (j .device .part .word) (now (array .exit)) ≡ bytesAs (j .device) (j .pins) (j .block) (startOf (j .device .part) (j .block)) (units (j .device .part .word) (now (wanted .entry))) (heldUnits (j .device .part) (j .block) (now (array .entry)) (now (wanted .entry))) (units (j .device .part .word) (now (array .entry))) ⌝ }
+    ensures { λ _. ⌜ units (j .device .part .word) (now (scratch .exit)) ≡ scratchAs (j .device) (j .pins) (j .block) (units (j .device .part .word) (now (wanted .entry))) (heldUnits (j .device .part) (j .block) (now (array .entry)) (now (wanted .entry))) ⌝ }
+    ensures { λ _. ⌜ Timed (j .device) ⌝ }
 {
+    if verify {
+        return both(j, array, wanted, scratch);
+    }
+    loaded(j, array, wanted, scratch)
+}
+
+// The tests of a run, on so many lent bytes.
+fn lent_number(j: Job, array: usize, wanted: usize, scratch: usize) -> u8
+    ensures { λ r. ⌜ r ≡ lentNumber j array wanted scratch ⌝ }
+{
+    let d = j.device;
     let part = d.part;
     let word = part.word;
     loader_run::run_number(
-        d,
-        s,
-        p,
-        block,
+        j,
         units::lent_in(word, array),
         units::lent_in(word, wanted),
         units::lent_in(word, scratch),
@@ -336,66 +329,33 @@ fn refused(n: u8, s: State) -> Ran
     }
 }
 
-// A load of one block and the verify after it, stage by stage: `loader_run::run` promises the same.
-pub fn run_quick(
-    d: Device,
-    s: State,
-    p: Pins,
-    block: u8,
-    array: &mut [u8],
-    wanted: &[u8],
-    scratch: &mut [u8],
-) -> Ran
-    ensures { λ r. ⌜ r ≡ lentRun d s p block (now (array .entry)) (now (wanted .entry)) (now (scratch .entry)) .ran ⌝ }
-    ensures { λ _. ⌜ now (array .exit) ≡ lentRun d s p block (now (array .entry)) (now (wanted .entry)) (now (scratch .entry)) .bytes ⌝ }
-    ensures { λ _. ⌜ now (scratch .exit) ≡ lentRun d s p block (now (array .entry)) (now (wanted .entry)) (now (scratch .entry)) .scratch ⌝ }
+// A job that nothing refuses, by what is to be done.
+fn done(j: Job, array: &mut [u8], wanted: &[u8], scratch: &mut [u8]) -> Ran
+    requires { ⌜ lentNumber j (length (now array)) (length (now wanted)) (length (now scratch)) ≡ 0 ⌝ }
+    ensures { λ r. ⌜ r ≡ lentRun j (now (array .entry)) (now (wanted .entry)) (now (scratch .entry)) .ran ⌝ }
+    ensures { λ _. ⌜ now (array .exit) ≡ lentRun j (now (array .entry)) (now (wanted .entry)) (now (scratch .entry)) .bytes ⌝ }
+    ensures { λ _. ⌜ now (scratch .exit) ≡ lentRun j (now (array .entry)) (now (wanted .entry)) (now (scratch .entry)) .scratch ⌝ }
 {
-    let n = lent_number(d, s, p, block, array.len(), wanted.len(), scratch.len());
-    if n == 0 {
-        return both(d, s, p, block, array, wanted, scratch);
-    }
-    refused(n, s)
-}
-
-// A load of one block alone, stage by stage: `loader_run::run_load` promises the same.
-pub fn run_load_quick(
-    d: Device,
-    s: State,
-    p: Pins,
-    block: u8,
-    array: &mut [u8],
-    wanted: &[u8],
-    scratch: &mut [u8],
-) -> Ran
-    ensures { λ r. ⌜ r ≡ lentLoad d s p block (now (array .entry)) (now (wanted .entry)) (now (scratch .entry)) .ran ⌝ }
-    ensures { λ _. ⌜ now (array .exit) ≡ lentLoad d s p block (now (array .entry)) (now (wanted .entry)) (now (scratch .entry)) .bytes ⌝ }
-    ensures { λ _. ⌜ now (scratch .exit) ≡ lentLoad d s p block (now (array .entry)) (now (wanted .entry)) (now (scratch .entry)) .scratch ⌝ }
-{
-    let n = lent_number(d, s, p, block, array.len(), wanted.len(), scratch.len());
-    if n == 0 {
-        return loaded(d, s, p, block, array, wanted, scratch);
-    }
-    refused(n, s)
-}
-
-// A verify of one block alone, stage by stage: `loader_run::run_verify` promises the same.
-pub fn run_verify_quick(
-    d: Device,
-    s: State,
-    p: Pins,
-    block: u8,
-    array: &mut [u8],
-    wanted: &[u8],
-    scratch: &mut [u8],
-) -> Ran
-    ensures { λ r. ⌜ r ≡ lentVerify d s p block (now (array .entry)) (now (wanted .entry)) (now (scratch .entry)) .ran ⌝ }
-    ensures { λ _. ⌜ now (array .exit) ≡ lentVerify d s p block (now (array .entry)) (now (wanted .entry)) (now (scratch .entry)) .bytes ⌝ }
-    ensures { λ _. ⌜ now (scratch .exit) ≡ lentVerify d s p block (now (array .entry)) (now (wanted .entry)) (now (scratch .entry)) .scratch ⌝ }
-{
+    let d = j.device;
+    let s = j.state;
     let part = d.part;
-    let n = lent_number(d, s, p, block, array.len(), wanted.len(), scratch.len());
+    let work = j.work;
+    match work {
+        Work::Load(verify) => load_by(verify, j, array, wanted, scratch),
+        Work::Verify => verified(part, s, j.block, array, wanted, scratch),
+    }
+}
+
+// A job, stage by stage: `loader_run::run` promises the same.
+pub fn run_quick(j: Job, array: &mut [u8], wanted: &[u8], scratch: &mut [u8]) -> Ran
+    ensures { λ r. ⌜ r ≡ lentRun j (now (array .entry)) (now (wanted .entry)) (now (scratch .entry)) .ran ⌝ }
+    ensures { λ _. ⌜ now (array .exit) ≡ lentRun j (now (array .entry)) (now (wanted .entry)) (now (scratch .entry)) .bytes ⌝ }
+    ensures { λ _. ⌜ now (scratch .exit) ≡ lentRun j (now (array .entry)) (now (wanted .entry)) (now (scratch .entry)) .scratch ⌝ }
+{
+    let s = j.state;
+    let n = lent_number(j, array.len(), wanted.len(), scratch.len());
     if n == 0 {
-        return verified(part, s, block, array, wanted, scratch);
+        return done(j, array, wanted, scratch);
     }
     refused(n, s)
 }

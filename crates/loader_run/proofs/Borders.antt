@@ -20,15 +20,12 @@ use Rattle.common.proofs.Numbers.{foremost-given}
 use Rattle.device.specs.declared.Device.{Device}
 use Rattle.units.specs.Units.{back, bytesIn, lent, lentIn}
 use Rattle.units.proofs.Widths.{lent-length}
-use Rattle.model_types.specs.declared.Pins.{Pins}
-use Rattle.model_types.specs.declared.State.{State}
-use Rattle.loader.specs.declared.Stage.{Stage}
-use Rattle.loader.specs.Stages.{isEnded}
 use Rattle.loader_run.specs.declared.Ran.{Ran}
-use Rattle.loader_run.specs.Runs.{runRows, runNumber, RunLeft, runRefused, runLeftAt, lentRows, lentNumber, asBytes, lentLeftAt}
+use Rattle.loader_run.specs.Runs.{runRows, runNumber, RunLeft, runRefused, lentRows, lentNumber, asBytes, runFirst, runLeft, lentRun}
 use Rattle.loader_run.proofs.Leaving.{left-refused}
 use Rattle.loader_run.proofs.Ending.{run-numbers, run-accepted}
 use Rattle.loader_run.proofs.Lending.{lent-made, lent-refused}
+use Rattle.loader_run.specs.declared.Job.{Job}
 
 -- so many bytes are k units, some, exactly where they are as many bytes as k units have
 pub counts-bytes : (w : Bool) (n k : ℕ) → 0 < k → (lentIn w n ≡ k) ↔ (n ≡ bytesIn w k)
@@ -57,31 +54,31 @@ eleven-in-bytes d k n m b e =
     let l = both-lengths (d .part) k (lentIn (d .part .word) n) (lentIn (d .part .word) m) e in
     (counts-bytes (d .part .word) n (lengthOf (d .part) k) h .0 (l .0), counts-bytes (d .part .word) m (lengthOf (d .part) k) h .0 (l .1))
 
-module _ (stage : Stage) (verify : Bool) (d : Device) (s : State) (p : Pins) (k : ℕ) (array wanted scratch : List ℕ) where
+module _ (j : Job) (array wanted scratch : List ℕ) where
   abbrev w : Bool
-  w = d .part .word
+  w = j .device .part .word
 
   -- the run of the units
   abbrev inner : RunLeft
-  inner = runLeftAt stage verify d s p k (lent w array) (lent w wanted) (lent w scratch)
+  inner = runLeft j (lent w array) (lent w wanted) (lent w scratch)
 
   abbrev number : ℕ
-  number = lentNumber d s p k (length array) (length wanted) (length scratch)
+  number = lentNumber j (length array) (length wanted) (length scratch)
 
-  number-is : runNumber d s p k (length (lent w array)) (length (lent w wanted)) (length (lent w scratch)) ≡ number
-  number-is = λ i. runNumber d s p k (lent-length w array i) (lent-length w wanted i) (lent-length w scratch i)
+  number-is : runNumber j (length (lent w array)) (length (lent w wanted)) (length (lent w scratch)) ≡ number
+  number-is = λ i. runNumber j (lent-length w array i) (lent-length w wanted i) (lent-length w scratch i)
 
   -- what is returned
-  pub lent-ran : lentLeftAt stage verify d s p k array wanted scratch .ran ≡ inner .ran
+  pub lent-ran : lentRun j array wanted scratch .ran ≡ inner .ran
   lent-ran = go (eqb number 0) refl
     where
-      go : (b : Bool) → eqb number 0 ≡ b → lentLeftAt stage verify d s p k array wanted scratch .ran ≡ inner .ran
-      go true e = ap (λ (r : RunLeft). r .ran) (lent-made stage verify d s p k array wanted scratch (eqb-true number 0 e))
+      go : (b : Bool) → eqb number 0 ≡ b → lentRun j array wanted scratch .ran ≡ inner .ran
+      go true e = ap (λ (r : RunLeft). r .ran) (lent-made j array wanted scratch (eqb-true number 0 e))
       go false e =
           let z : number ≡ 0 → ⊥ = eqb-false number 0 e in
-          ap (λ (r : RunLeft). r .ran) (lent-refused stage verify d s p k array wanted scratch z)
-          ∙ ap (λ (n : ℕ). runRefused n s (lent w array) (lent w scratch) .ran) (sym number-is)
-          ∙ sym (ap (λ (r : RunLeft). r .ran) (left-refused stage verify d s p k (lent w array) (lent w wanted) (lent w scratch) (λ q. z (sym number-is ∙ q))))
+          ap (λ (r : RunLeft). r .ran) (lent-refused j array wanted scratch z)
+          ∙ ap (λ (n : ℕ). runRefused n (j .state) (lent w array) (lent w scratch) .ran) (sym number-is)
+          ∙ sym (ap (λ (r : RunLeft). r .ran) (left-refused j (lent w array) (lent w wanted) (lent w scratch) (λ q. z (sym number-is ∙ q))))
 
   rows-are : (P : ℕ → ℕ → ℕ → Type 0) → P (length (lent w array)) (length (lent w wanted)) (length (lent w scratch)) ↔ P (lentIn w (length array)) (lentIn w (length wanted)) (lentIn w (length scratch))
   rows-are P = (
@@ -93,36 +90,35 @@ module _ (stage : Stage) (verify : Bool) (d : Device) (s : State) (p : Pins) (k 
         (subst (λ (x : ℕ). P x (lentIn w (length wanted)) (lentIn w (length scratch))) (sym (lent-length w array)) h)),
   )
 
-  module _ (going : isEnded stage ≡ false) where
-    pub lent-numbers : (m : ℕ) → (m ≡ 0 → ⊥)
-        → ((lentLeftAt stage verify d s p k array wanted scratch .ran .count ≡ 0) × (lentLeftAt stage verify d s p k array wanted scratch .ran .end ≡ m)) ↔ Foremost (lentRows d s p k (length array) (length wanted) (length scratch)) m
-    lent-numbers m z =
-        let inside = run-numbers stage verify going d s p k (lent w array) (lent w wanted) (lent w scratch) m z in
-        let rows = rows-are (λ (x y v : ℕ). Foremost (runRows d s p k x y v) m) in (
-          λ h. rows .0 (inside .0 (sym (ap (λ (r : Ran). r .count) lent-ran) ∙ h .0, sym (ap (λ (r : Ran). r .end) lent-ran) ∙ h .1)),
-          λ f. let h = inside .1 (rows .1 f) in (ap (λ (r : Ran). r .count) lent-ran ∙ h .0, ap (λ (r : Ran). r .end) lent-ran ∙ h .1),
-        )
+  pub lent-numbers : (m : ℕ) → (m ≡ 0 → ⊥)
+      → ((lentRun j array wanted scratch .ran .count ≡ 0) × (lentRun j array wanted scratch .ran .end ≡ m)) ↔ Foremost (lentRows j (length array) (length wanted) (length scratch)) m
+  lent-numbers m z =
+      let inside = run-numbers j (lent w array) (lent w wanted) (lent w scratch) m z in
+      let rows = rows-are (λ (x y v : ℕ). Foremost (runRows j x y v) m) in (
+        λ h. rows .0 (inside .0 (sym (ap (λ (r : Ran). r .count) lent-ran) ∙ h .0, sym (ap (λ (r : Ran). r .end) lent-ran) ∙ h .1)),
+        λ f. let h = inside .1 (rows .1 f) in (ap (λ (r : Ran). r .count) lent-ran ∙ h .0, ap (λ (r : Ran). r .end) lent-ran ∙ h .1),
+      )
 
-    pub lent-accepted : (0 < lentLeftAt stage verify d s p k array wanted scratch .ran .count) ↔ NoRow (lentRows d s p k (length array) (length wanted) (length scratch))
-    lent-accepted =
-        let inside = run-accepted stage verify going d s p k (lent w array) (lent w wanted) (lent w scratch) in
-        let rows = rows-are (λ (x y v : ℕ). NoRow (runRows d s p k x y v)) in (
-          λ h. rows .0 (inside .0 (subst (λ (r : Ran). 0 < r .count) lent-ran h)),
-          λ f. subst (λ (r : Ran). 0 < r .count) (sym lent-ran) (inside .1 (rows .1 f)),
-        )
+  pub lent-accepted : (0 < lentRun j array wanted scratch .ran .count) ↔ NoRow (lentRows j (length array) (length wanted) (length scratch))
+  lent-accepted =
+      let inside = run-accepted j (lent w array) (lent w wanted) (lent w scratch) in
+      let rows = rows-are (λ (x y v : ℕ). NoRow (runRows j x y v)) in (
+        λ h. rows .0 (inside .0 (subst (λ (r : Ran). 0 < r .count) lent-ran h)),
+        λ f. subst (λ (r : Ran). 0 < r .count) (sym lent-ran) (inside .1 (rows .1 f)),
+      )
 
   -- a refusal leaves the lent bytes as they were
-  number-of : (m : ℕ) → Foremost (lentRows d s p k (length array) (length wanted) (length scratch)) m → number ≡ m
-  unfolding runNumber
+  number-of : (m : ℕ) → Foremost (lentRows j (length array) (length wanted) (length scratch)) m → number ≡ m
+  unfolding runFirst
   number-of m f = foremost-given f
 
-  pub lent-leaves : (m : ℕ) → (m ≡ 0 → ⊥) → Foremost (lentRows d s p k (length array) (length wanted) (length scratch)) m
-      → (lentLeftAt stage verify d s p k array wanted scratch .ran ≡ record { count = 0; end = m; address = 0; state = s })
-      × (lentLeftAt stage verify d s p k array wanted scratch .bytes ≡ array) × (lentLeftAt stage verify d s p k array wanted scratch .scratch ≡ scratch)
+  pub lent-leaves : (m : ℕ) → (m ≡ 0 → ⊥) → Foremost (lentRows j (length array) (length wanted) (length scratch)) m
+      → (lentRun j array wanted scratch .ran ≡ record { count = 0; end = m; address = 0; state = j .state })
+      × (lentRun j array wanted scratch .bytes ≡ array) × (lentRun j array wanted scratch .scratch ≡ scratch)
   lent-leaves m z f =
       let q : number ≡ m = number-of m f in
-      let e = lent-refused stage verify d s p k array wanted scratch (λ o. z (sym q ∙ o)) in
-      (ap (λ (r : RunLeft). r .ran) e ∙ ap (λ (n : ℕ). runRefused n s array scratch .ran) q, ap (λ (r : RunLeft). r .bytes) e, ap (λ (r : RunLeft). r .scratch) e)
+      let e = lent-refused j array wanted scratch (λ o. z (sym q ∙ o)) in
+      (ap (λ (r : RunLeft). r .ran) e ∙ ap (λ (n : ℕ). runRefused n (j .state) array scratch .ran) q, ap (λ (r : RunLeft). r .bytes) e, ap (λ (r : RunLeft). r .scratch) e)
 
 -- in byte mode the units are the bytes
 lent-bytes : (w : Bool) (xs : List ℕ) → w ≡ false → lent w xs ≡ xs
@@ -140,26 +136,26 @@ back-bytes false us e = refl
 back-bytes true us e = absurd (unlike e)
 
 -- so a run on lent bytes in byte mode is the run of the bytes themselves
-pub in-byte-mode : (stage : Stage) (verify : Bool) (d : Device) (s : State) (p : Pins) (k : ℕ) (array wanted scratch : List ℕ) → d .part .word ≡ false
-    → lentLeftAt stage verify d s p k array wanted scratch ≡ runLeftAt stage verify d s p k array wanted scratch
-in-byte-mode stage verify d s p k array wanted scratch z = go (eqb number 0) refl
+pub in-byte-mode : (j : Job) (array wanted scratch : List ℕ) → j .device .part .word ≡ false
+    → lentRun j array wanted scratch ≡ runLeft j array wanted scratch
+in-byte-mode j array wanted scratch z = go (eqb number 0) refl
   where
     number : ℕ
-    number = lentNumber d s p k (length array) (length wanted) (length scratch)
+    number = lentNumber j (length array) (length wanted) (length scratch)
 
-    same : number ≡ runNumber d s p k (length array) (length wanted) (length scratch)
-    same = λ i. runNumber d s p k (lent-in-bytes (d .part .word) (length array) z i) (lent-in-bytes (d .part .word) (length wanted) z i) (lent-in-bytes (d .part .word) (length scratch) z i)
+    same : number ≡ runNumber j (length array) (length wanted) (length scratch)
+    same = λ i. runNumber j (lent-in-bytes (j .device .part .word) (length array) z i) (lent-in-bytes (j .device .part .word) (length wanted) z i) (lent-in-bytes (j .device .part .word) (length scratch) z i)
 
-    go : (b : Bool) → eqb number 0 ≡ b → lentLeftAt stage verify d s p k array wanted scratch ≡ runLeftAt stage verify d s p k array wanted scratch
+    go : (b : Bool) → eqb number 0 ≡ b → lentRun j array wanted scratch ≡ runLeft j array wanted scratch
     go true e =
-        lent-made stage verify d s p k array wanted scratch (eqb-true number 0 e)
-        ∙ (λ i. asBytes (d .part .word) (runLeftAt stage verify d s p k (lent-bytes (d .part .word) array z i) (lent-bytes (d .part .word) wanted z i) (lent-bytes (d .part .word) scratch z i)))
+        lent-made j array wanted scratch (eqb-true number 0 e)
+        ∙ (λ i. asBytes (j .device .part .word) (runLeft j (lent-bytes (j .device .part .word) array z i) (lent-bytes (j .device .part .word) wanted z i) (lent-bytes (j .device .part .word) scratch z i)))
         ∙ (λ i. record {
-          ran = runLeftAt stage verify d s p k array wanted scratch .ran;
-          bytes = back-bytes (d .part .word) (runLeftAt stage verify d s p k array wanted scratch .bytes) z i;
-          scratch = back-bytes (d .part .word) (runLeftAt stage verify d s p k array wanted scratch .scratch) z i;
+          ran = runLeft j array wanted scratch .ran;
+          bytes = back-bytes (j .device .part .word) (runLeft j array wanted scratch .bytes) z i;
+          scratch = back-bytes (j .device .part .word) (runLeft j array wanted scratch .scratch) z i;
         })
     go false e =
         let n : number ≡ 0 → ⊥ = eqb-false number 0 e in
-        lent-refused stage verify d s p k array wanted scratch n ∙ ap (λ (m : ℕ). runRefused m s array scratch) same
-        ∙ sym (left-refused stage verify d s p k array wanted scratch (λ q. n (same ∙ q)))
+        lent-refused j array wanted scratch n ∙ ap (λ (m : ℕ). runRefused m (j .state) array scratch) same
+        ∙ sym (left-refused j array wanted scratch (λ q. n (same ∙ q)))

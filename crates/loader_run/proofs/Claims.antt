@@ -1,20 +1,16 @@
--- What is claimed of a run, of a load alone and of a verify alone, in one place: of all three as of whatever begins at a stage that is
--- no end, with or without the verify after a load.
+-- What is claimed of a run, of a load alone and of a verify alone, in one place: of all three as of any job.
 use mathlib.Core.Path.{_≡_}
-use mathlib.Core.Bool.{Bool, true, false}
+use mathlib.Core.Bool.{true, false}
 use mathlib.Core.List.{List}
 use mathlib.Core.Logic.{_↔_}
 use Prim.Native.Nat.{ℕ, _-_, _<_}
 use lib.ListN.{length}
 use Rattle.common.specs.Numbers.{Foremost, NoRow}
 use Rattle.device.specs.declared.Device.{Device}
-use Rattle.model_types.specs.declared.Pins.{Pins}
-use Rattle.model_types.specs.declared.State.{State}
 use Rattle.loader_run.specs.declared.Ran.{Ran}
 use Rattle.loader_run.specs.Turns.{Config, after}
-use Rattle.loader.specs.declared.Stage.{Stage}
 use Rattle.loader.specs.Stages.{isEnded}
-use Rattle.loader_run.specs.Runs.{runRows, runNumber, driven, runLeftAt, beginningAt, lentRows, lentLeftAt}
+use Rattle.loader_run.specs.Runs.{runRows, runNumber, driven, lentRows, beginning, runLeft, lentRun}
 use Rattle.loader_steps.specs.Outs.{cycleOf}
 use Rattle.loader_run.specs.Promises.{FirstEnd, Promise}
 use Rattle.model_rules.specs.Cycles.{judgeOf}
@@ -23,22 +19,23 @@ use Rattle.loader_run.proofs.Sound as sound
 use Rattle.device.specs.Parts.{sizeOf, lengthOf}
 use Rattle.units.specs.Units.{bytesIn, lent, lentIn}
 use Rattle.loader_steps.specs.Front.{noBlock, wrongLengths}
+use Rattle.loader_run.specs.declared.Job.{Job}
 use Rattle.loader_run.proofs.Borders as borders
 
 -- The numbers: a run makes no cycle and ends with m exactly where m's own condition holds and that of no number before it does.
-pub refused-exactly : (stage : Stage) (verify : Bool) → isEnded stage ≡ false → (d : Device) (s : State) (p : Pins) (k : ℕ) (xs w sc : List ℕ) (m : ℕ) → (m ≡ 0 → ⊥)
-    → ((runLeftAt stage verify d s p k xs w sc .ran .count ≡ 0) × (runLeftAt stage verify d s p k xs w sc .ran .end ≡ m)) ↔ Foremost (runRows d s p k (length xs) (length w) (length sc)) m
+pub refused-exactly : (j : Job) (xs w sc : List ℕ) (m : ℕ) → (m ≡ 0 → ⊥)
+    → ((runLeft j xs w sc .ran .count ≡ 0) × (runLeft j xs w sc .ran .end ≡ m)) ↔ Foremost (runRows j (length xs) (length w) (length sc)) m
 refused-exactly = ending.run-numbers
 
 -- It makes cycles exactly where none of the seven conditions holds.
-pub accepted-exactly : (stage : Stage) (verify : Bool) → isEnded stage ≡ false → (d : Device) (s : State) (p : Pins) (k : ℕ) (xs w sc : List ℕ)
-    → (0 < runLeftAt stage verify d s p k xs w sc .ran .count) ↔ NoRow (runRows d s p k (length xs) (length w) (length sc))
+pub accepted-exactly : (j : Job) (xs w sc : List ℕ)
+    → (0 < runLeft j xs w sc .ran .count) ↔ NoRow (runRows j (length xs) (length w) (length sc))
 accepted-exactly = ending.run-accepted
 
 -- A refused run has count 0 and the number, and leaves state, array and scratch as they were.
-pub refused-leaves : (stage : Stage) (verify : Bool) → isEnded stage ≡ false → (d : Device) (s : State) (p : Pins) (k : ℕ) (xs w sc : List ℕ) (m : ℕ) → (m ≡ 0 → ⊥)
-    → Foremost (runRows d s p k (length xs) (length w) (length sc)) m
-    → (runLeftAt stage verify d s p k xs w sc .ran ≡ record { count = 0; end = m; address = 0; state = s }) × (runLeftAt stage verify d s p k xs w sc .bytes ≡ xs) × (runLeftAt stage verify d s p k xs w sc .scratch ≡ sc)
+pub refused-leaves : (j : Job) (xs w sc : List ℕ) (m : ℕ) → (m ≡ 0 → ⊥)
+    → Foremost (runRows j (length xs) (length w) (length sc)) m
+    → (runLeft j xs w sc .ran ≡ record { count = 0; end = m; address = 0; state = j .state }) × (runLeft j xs w sc .bytes ≡ xs) × (runLeft j xs w sc .scratch ≡ sc)
 refused-leaves = ending.run-refused
 
 -- What any number of turns leaves is what as many cycles leave as were counted; and every load ends. From any input whatever.
@@ -50,8 +47,8 @@ always-ends = ending.always-ends
 
 -- The promise of a run that nothing refuses: the count is the first number of cycles after which the load has ended, and the
 -- end, the address, the state, the array and scratch are what those cycles leave.
-pub first-end : (stage : Stage) (verify : Bool) → isEnded stage ≡ false → (d : Device) (s : State) (p : Pins) (k : ℕ) (xs w sc : List ℕ) → NoRow (runRows d s p k (length xs) (length w) (length sc))
-    → Promise stage verify d s p k xs w sc (runLeftAt stage verify d s p k xs w sc .ran) (runLeftAt stage verify d s p k xs w sc .bytes) (runLeftAt stage verify d s p k xs w sc .scratch)
+pub first-end : (j : Job) (xs w sc : List ℕ) → NoRow (runRows j (length xs) (length w) (length sc))
+    → Promise j xs w sc (runLeft j xs w sc .ran) (runLeft j xs w sc .bytes) (runLeft j xs w sc .scratch)
 first-end = ending.run-first
 
 -- There is one such number: an early stop or an invented count does not meet it.
@@ -59,38 +56,38 @@ pub first-only : (d : Device) (w : List ℕ) (c e : Config) → FirstEnd d w c e
     → ((j : ℕ) → j < k → isEnded (after j d w c .loader .stage) ≡ false) → k ≡ e .count
 first-only = ending.first-only
 
-pub promise-once : (stage : Stage) (verify : Bool) (d : Device) (s : State) (p : Pins) (k : ℕ) (xs w sc : List ℕ) (r t : Ran) (x y u v : List ℕ)
-    → Promise stage verify d s p k xs w sc r x u → Promise stage verify d s p k xs w sc t y v → (r ≡ t) × (x ≡ y) × (u ≡ v)
+pub promise-once : (j : Job) (xs w sc : List ℕ) (r t : Ran) (x y u v : List ℕ)
+    → Promise j xs w sc r x u → Promise j xs w sc t y v → (r ≡ t) × (x ≡ y) × (u ≡ v)
 promise-once = ending.promise-once
 
 -- None of refusals 1 to 6 ever applies to the cycle that is out: the loop need not test them again.
-pub passes-ever : (stage : Stage) (verify : Bool) (d : Device) (s : State) (p : Pins) (k : ℕ) (xs w sc : List ℕ) → runNumber d s p k (length xs) (length w) (length sc) ≡ 0 → (j : ℕ)
-    → isEnded (after j d w (beginningAt stage verify d s p k xs sc) .loader .stage) ≡ false
-    → judgeOf d (after j d w (beginningAt stage verify d s p k xs sc) .state)
-    (cycleOf (after j d w (beginningAt stage verify d s p k xs sc) .loader) w)
-    (length (after j d w (beginningAt stage verify d s p k xs sc) .bytes)) 0
+pub passes-ever : (j : Job) (xs w sc : List ℕ) → runNumber j (length xs) (length w) (length sc) ≡ 0 → (i : ℕ)
+    → isEnded (after i (j .device) w (beginning j xs sc) .loader .stage) ≡ false
+    → judgeOf (j .device) (after i (j .device) w (beginning j xs sc) .state)
+    (cycleOf (after i (j .device) w (beginning j xs sc) .loader) w)
+    (length (after i (j .device) w (beginning j xs sc) .bytes)) 0
     ≡ 0
 passes-ever = sound.passes-ever
 
 -- A run on lent bytes returns what the run on their units does ..
-pub lent-ran : (stage : Stage) (verify : Bool) (d : Device) (s : State) (p : Pins) (k : ℕ) (array wanted scratch : List ℕ)
-    → lentLeftAt stage verify d s p k array wanted scratch .ran ≡ runLeftAt stage verify d s p k (lent (d .part .word) array) (lent (d .part .word) wanted) (lent (d .part .word) scratch) .ran
+pub lent-ran : (j : Job) (array wanted scratch : List ℕ)
+    → lentRun j array wanted scratch .ran ≡ runLeft j (lent (j .device .part .word) array) (lent (j .device .part .word) wanted) (lent (j .device .part .word) scratch) .ran
 lent-ran = borders.lent-ran
 
 -- .. its numbers are those of as many lent bytes ..
-pub lent-refused-exactly : (stage : Stage) (verify : Bool) (d : Device) (s : State) (p : Pins) (k : ℕ) (array wanted scratch : List ℕ) → isEnded stage ≡ false → (m : ℕ) → (m ≡ 0 → ⊥)
-    → ((lentLeftAt stage verify d s p k array wanted scratch .ran .count ≡ 0) × (lentLeftAt stage verify d s p k array wanted scratch .ran .end ≡ m)) ↔ Foremost (lentRows d s p k (length array) (length wanted) (length scratch)) m
+pub lent-refused-exactly : (j : Job) (array wanted scratch : List ℕ) (m : ℕ) → (m ≡ 0 → ⊥)
+    → ((lentRun j array wanted scratch .ran .count ≡ 0) × (lentRun j array wanted scratch .ran .end ≡ m)) ↔ Foremost (lentRows j (length array) (length wanted) (length scratch)) m
 lent-refused-exactly = borders.lent-numbers
 
-pub lent-accepted-exactly : (stage : Stage) (verify : Bool) (d : Device) (s : State) (p : Pins) (k : ℕ) (array wanted scratch : List ℕ) → isEnded stage ≡ false
-    → (0 < lentLeftAt stage verify d s p k array wanted scratch .ran .count) ↔ NoRow (lentRows d s p k (length array) (length wanted) (length scratch))
+pub lent-accepted-exactly : (j : Job) (array wanted scratch : List ℕ)
+    → (0 < lentRun j array wanted scratch .ran .count) ↔ NoRow (lentRows j (length array) (length wanted) (length scratch))
 lent-accepted-exactly = borders.lent-accepted
 
 -- .. and a refusal leaves the bytes as they were.
-pub lent-refused-leaves : (stage : Stage) (verify : Bool) (d : Device) (s : State) (p : Pins) (k : ℕ) (array wanted scratch : List ℕ) (m : ℕ) → (m ≡ 0 → ⊥)
-    → Foremost (lentRows d s p k (length array) (length wanted) (length scratch)) m
-    → (lentLeftAt stage verify d s p k array wanted scratch .ran ≡ record { count = 0; end = m; address = 0; state = s })
-    × (lentLeftAt stage verify d s p k array wanted scratch .bytes ≡ array) × (lentLeftAt stage verify d s p k array wanted scratch .scratch ≡ scratch)
+pub lent-refused-leaves : (j : Job) (array wanted scratch : List ℕ) (m : ℕ) → (m ≡ 0 → ⊥)
+    → Foremost (lentRows j (length array) (length wanted) (length scratch)) m
+    → (lentRun j array wanted scratch .ran ≡ record { count = 0; end = m; address = 0; state = j .state })
+    × (lentRun j array wanted scratch .bytes ≡ array) × (lentRun j array wanted scratch .scratch ≡ scratch)
 lent-refused-leaves = borders.lent-leaves
 
 -- Numbers 2 and 11 count bytes: lent bytes make the array's units exactly where they are as many bytes as those have, and so do wanted and
@@ -103,6 +100,6 @@ pub eleven-counts-bytes : (d : Device) (k n m : ℕ) → noBlock (d .part) k ≡
 eleven-counts-bytes = borders.eleven-in-bytes
 
 -- In byte mode, and so on devices 1 to 4, a run on lent bytes is the run of the bytes themselves.
-pub in-byte-mode : (stage : Stage) (verify : Bool) (d : Device) (s : State) (p : Pins) (k : ℕ) (array wanted scratch : List ℕ) → d .part .word ≡ false
-    → lentLeftAt stage verify d s p k array wanted scratch ≡ runLeftAt stage verify d s p k array wanted scratch
+pub in-byte-mode : (j : Job) (array wanted scratch : List ℕ) → j .device .part .word ≡ false
+    → lentRun j array wanted scratch ≡ runLeft j array wanted scratch
 in-byte-mode = borders.in-byte-mode

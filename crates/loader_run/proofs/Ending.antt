@@ -12,18 +12,18 @@ use Rattle.common.proofs.Choice.{unlike}
 use Rattle.common.specs.Numbers.{Foremost, NoRow}
 use Rattle.common.proofs.Numbers.{given-foremost, foremost-given, given-no-row, no-row-given}
 use Rattle.device.specs.declared.Device.{Device}
-use Rattle.model_types.specs.declared.Pins.{Pins}
-use Rattle.model_types.specs.declared.State.{State}
 use Rattle.loader_run.specs.declared.Ran.{Ran}
 use Rattle.loader_run.specs.Turns.{Config, answerTo, moved, after}
 use Rattle.loader_run.specs.Inner.{bound}
-use Rattle.loader.specs.declared.Stage.{Stage}
-use Rattle.loader.specs.Stages.{isEnded}
-use Rattle.loader_run.specs.Runs.{runRows, runNumber, beginningAt, ranBy, driven, leftAt, RunLeft, runLeftAt}
+use Rattle.loader.specs.Stages.{isEnded, firstStage}
+use Rattle.loader_run.specs.Runs.{runRows, runNumber, ranBy, driven, RunLeft, runFirst, beginning, runEnd, runLeft}
 use Rattle.loader_run.specs.Promises.{FirstEnd, Promise}
 use Rattle.loader_run.proofs.Leaving.{left-made, left-refused}
 use Rattle.loader_run.proofs.Measure.{remains, remains-bound, remains-some, falls}
 use Rattle.loader_run.proofs.Turning.{turn-going, ended-stays}
+use Rattle.loader_run.specs.declared.Job.{Job}
+use Rattle.loader.specs.declared.Work.{Work}
+use Rattle.loader.specs.declared.Work.the-variants.{Load, Verify}
 
 -- whether a load under way has ended
 abbrev pub over : Config → Bool
@@ -120,119 +120,124 @@ first-only d w c e f k h g = go (ltb k (e .count)) refl (ltb (e .count) k) refl
         absurd (unlike (sym (subst (λ (x : Config). isEnded (x .loader .stage) ≡ true) (f .reached) (f .ended)) ∙ g (e .count) (ltb-true _ _ q)))
     go false p false q = let x = ltb-false k (e .count) p in let y = ltb-false (e .count) k q in omega arith
 
-module _ (stage : Stage) (verify : Bool) (going : isEnded stage ≡ false) (d : Device) (s : State) (p : Pins) (k : ℕ) (xs w sc : List ℕ) where
+-- no work begins at its end
+pub begins : (work : Work) → isEnded (firstStage work) ≡ false
+begins (Load v) = refl
+begins Verify = refl
+
+module _ (j : Job) (xs w sc : List ℕ) where
   abbrev pub number : ℕ
-  number = runNumber d s p k (length xs) (length w) (length sc)
+  number = runNumber j (length xs) (length w) (length sc)
 
   -- where this run begins
   abbrev start : Config
-  start = beginningAt stage verify d s p k xs sc
+  start = beginning j xs sc
 
   -- what a refusal returns
   abbrev pub refusalBy : ℕ → Ran
-  refusalBy m = record { count = 0; end = m; address = 0; state = s }
+  refusalBy m = record { count = 0; end = m; address = 0; state = j .state }
 
-  refused-ran : (number ≡ 0 → ⊥) → (runLeftAt stage verify d s p k xs w sc .ran ≡ refusalBy number) × (runLeftAt stage verify d s p k xs w sc .bytes ≡ xs) × (runLeftAt stage verify d s p k xs w sc .scratch ≡ sc)
+  refused-ran : (number ≡ 0 → ⊥) → (runLeft j xs w sc .ran ≡ refusalBy number) × (runLeft j xs w sc .bytes ≡ xs) × (runLeft j xs w sc .scratch ≡ sc)
   refused-ran z =
-      let e = left-refused stage verify d s p k xs w sc z in (ap (λ (r : RunLeft). r .ran) e, ap (λ (r : RunLeft). r .bytes) e, ap (λ (r : RunLeft). r .scratch) e)
+      let e = left-refused j xs w sc z in (ap (λ (r : RunLeft). r .ran) e, ap (λ (r : RunLeft). r .bytes) e, ap (λ (r : RunLeft). r .scratch) e)
 
   accepted-ran : number ≡ 0
-      → (runLeftAt stage verify d s p k xs w sc .ran ≡ ranBy (driven d w start)) × (runLeftAt stage verify d s p k xs w sc .bytes ≡ driven d w start .bytes) × (runLeftAt stage verify d s p k xs w sc .scratch ≡ driven d w start .scratch)
-  unfolding leftAt
+      → (runLeft j xs w sc .ran ≡ ranBy (driven (j .device) w start)) × (runLeft j xs w sc .bytes ≡ driven (j .device) w start .bytes) × (runLeft j xs w sc .scratch ≡ driven (j .device) w start .scratch)
+  unfolding runEnd
   accepted-ran z =
-      let e = left-made stage verify d s p k xs w sc z in (ap (λ (r : RunLeft). r .ran) e, ap (λ (r : RunLeft). r .bytes) e, ap (λ (r : RunLeft). r .scratch) e)
+      let e = left-made j xs w sc z in (ap (λ (r : RunLeft). r .ran) e, ap (λ (r : RunLeft). r .bytes) e, ap (λ (r : RunLeft). r .scratch) e)
 
   -- a run that nothing refuses makes a cycle
-  some-cycle : 0 < driven d w start .count
+  some-cycle : 0 < driven (j .device) w start .count
   unfolding driven
   some-cycle =
-      subst (λ (m : ℕ). 0 < after m d w start .count) (let q : suc (length w * 65539 + 196621) ≡ bound (length w) = omega arith in q)
-      (subst (λ (x : Config). 0 < x .count) (sym (after-going d w (length w * 65539 + 196621) start going)) grown)
+      subst (λ (m : ℕ). 0 < after m (j .device) w start .count) (let q : suc (length w * 65539 + 196621) ≡ bound (length w) = omega arith in q)
+      (subst (λ (x : Config). 0 < x .count) (sym (after-going (j .device) w (length w * 65539 + 196621) start (begins (j .work)))) grown)
     where
-      grown : 0 < after (length w * 65539 + 196621) d w (moved d w start) .count
-      grown = omega (arith, count-grows d w (length w * 65539 + 196621) (moved d w start))
+      grown : 0 < after (length w * 65539 + 196621) (j .device) w (moved (j .device) w start) .count
+      grown = omega (arith, count-grows (j .device) w (length w * 65539 + 196621) (moved (j .device) w start))
 
-  row-of : (m : ℕ) → (m ≡ 0 → ⊥) → number ≡ m → Foremost (runRows d s p k (length xs) (length w) (length sc)) m
-  unfolding runNumber
-  row-of m z q = given-foremost (runRows d s p k (length xs) (length w) (length sc)) m z q
+  row-of : (m : ℕ) → (m ≡ 0 → ⊥) → number ≡ m → Foremost (runRows j (length xs) (length w) (length sc)) m
+  unfolding runFirst
+  row-of m z q = given-foremost (runRows j (length xs) (length w) (length sc)) m z q
 
-  of-row : (m : ℕ) → Foremost (runRows d s p k (length xs) (length w) (length sc)) m → number ≡ m
-  unfolding runNumber
+  of-row : (m : ℕ) → Foremost (runRows j (length xs) (length w) (length sc)) m → number ≡ m
+  unfolding runFirst
   of-row m f = foremost-given f
 
-  no-rows : number ≡ 0 → NoRow (runRows d s p k (length xs) (length w) (length sc))
-  unfolding runNumber
-  no-rows q = given-no-row (runRows d s p k (length xs) (length w) (length sc)) refl q
+  no-rows : number ≡ 0 → NoRow (runRows j (length xs) (length w) (length sc))
+  unfolding runFirst
+  no-rows q = given-no-row (runRows j (length xs) (length w) (length sc)) refl q
 
-  rows-none : NoRow (runRows d s p k (length xs) (length w) (length sc)) → number ≡ 0
-  unfolding runNumber
+  rows-none : NoRow (runRows j (length xs) (length w) (length sc)) → number ≡ 0
+  unfolding runFirst
   rows-none f = no-row-given f
 
   -- the refusal by what is returned: no cycle was made exactly where the run was refused, and then the end is the number
   pub run-numbers : (m : ℕ) → (m ≡ 0 → ⊥)
-      → ((runLeftAt stage verify d s p k xs w sc .ran .count ≡ 0) × (runLeftAt stage verify d s p k xs w sc .ran .end ≡ m)) ↔ Foremost (runRows d s p k (length xs) (length w) (length sc)) m
+      → ((runLeft j xs w sc .ran .count ≡ 0) × (runLeft j xs w sc .ran .end ≡ m)) ↔ Foremost (runRows j (length xs) (length w) (length sc)) m
   run-numbers m z = (λ h. forth h (eqb number 0) refl, back)
     where
-      forth : (runLeftAt stage verify d s p k xs w sc .ran .count ≡ 0) × (runLeftAt stage verify d s p k xs w sc .ran .end ≡ m) → (b : Bool) → eqb number 0 ≡ b → Foremost (runRows d s p k (length xs) (length w) (length sc)) m
+      forth : (runLeft j xs w sc .ran .count ≡ 0) × (runLeft j xs w sc .ran .end ≡ m) → (b : Bool) → eqb number 0 ≡ b → Foremost (runRows j (length xs) (length w) (length sc)) m
       forth h true e =
-          absurd (let y : driven d w start .count ≡ 0 = sym (ap (λ (r : Ran). r .count) (accepted-ran (eqb-true _ _ e) .0)) ∙ h .0 in omega (arith, some-cycle))
+          absurd (let y : driven (j .device) w start .count ≡ 0 = sym (ap (λ (r : Ran). r .count) (accepted-ran (eqb-true _ _ e) .0)) ∙ h .0 in omega (arith, some-cycle))
       forth h false e = row-of m z (sym (ap (λ (r : Ran). r .end) (refused-ran (eqb-false _ _ e) .0)) ∙ h .1)
 
-      back : Foremost (runRows d s p k (length xs) (length w) (length sc)) m → (runLeftAt stage verify d s p k xs w sc .ran .count ≡ 0) × (runLeftAt stage verify d s p k xs w sc .ran .end ≡ m)
+      back : Foremost (runRows j (length xs) (length w) (length sc)) m → (runLeft j xs w sc .ran .count ≡ 0) × (runLeft j xs w sc .ran .end ≡ m)
       back f =
           let q : number ≡ m = of-row m f in
           let r = refused-ran (λ e. z (sym q ∙ e)) .0 in
           (ap (λ (x : Ran). x .count) r, ap (λ (x : Ran). x .end) r ∙ q)
 
   -- and it was made exactly where no row holds
-  pub run-accepted : (0 < runLeftAt stage verify d s p k xs w sc .ran .count) ↔ NoRow (runRows d s p k (length xs) (length w) (length sc))
+  pub run-accepted : (0 < runLeft j xs w sc .ran .count) ↔ NoRow (runRows j (length xs) (length w) (length sc))
   run-accepted = (λ h. forth h (eqb number 0) refl, back)
     where
-      forth : 0 < runLeftAt stage verify d s p k xs w sc .ran .count → (b : Bool) → eqb number 0 ≡ b → NoRow (runRows d s p k (length xs) (length w) (length sc))
+      forth : 0 < runLeft j xs w sc .ran .count → (b : Bool) → eqb number 0 ≡ b → NoRow (runRows j (length xs) (length w) (length sc))
       forth h true e = no-rows (eqb-true _ _ e)
-      forth h false e = absurd (let y : runLeftAt stage verify d s p k xs w sc .ran .count ≡ 0 = ap (λ (r : Ran). r .count) (refused-ran (eqb-false _ _ e) .0) in omega arith)
+      forth h false e = absurd (let y : runLeft j xs w sc .ran .count ≡ 0 = ap (λ (r : Ran). r .count) (refused-ran (eqb-false _ _ e) .0) in omega arith)
 
-      back : NoRow (runRows d s p k (length xs) (length w) (length sc)) → 0 < runLeftAt stage verify d s p k xs w sc .ran .count
+      back : NoRow (runRows j (length xs) (length w) (length sc)) → 0 < runLeft j xs w sc .ran .count
       back f = subst (λ (r : Ran). 0 < r .count) (sym (accepted-ran (rows-none f) .0)) some-cycle
 
   -- a refused run returns the number with no cycle made, and leaves state, array and scratch
-  pub run-refused : (m : ℕ) → (m ≡ 0 → ⊥) → Foremost (runRows d s p k (length xs) (length w) (length sc)) m
-      → (runLeftAt stage verify d s p k xs w sc .ran ≡ refusalBy m) × (runLeftAt stage verify d s p k xs w sc .bytes ≡ xs) × (runLeftAt stage verify d s p k xs w sc .scratch ≡ sc)
+  pub run-refused : (m : ℕ) → (m ≡ 0 → ⊥) → Foremost (runRows j (length xs) (length w) (length sc)) m
+      → (runLeft j xs w sc .ran ≡ refusalBy m) × (runLeft j xs w sc .bytes ≡ xs) × (runLeft j xs w sc .scratch ≡ sc)
   run-refused m z f =
       let q : number ≡ m = of-row m f in
       let r = refused-ran (λ e. z (sym q ∙ e)) in
       (r .0 ∙ ap refusalBy q, r .1, r .2)
 
 -- a run that nothing refuses returns the first number of cycles after which the load has ended, and what those leave
-pub run-first : (stage : Stage) (verify : Bool) → isEnded stage ≡ false → (d : Device) (s : State) (p : Pins) (k : ℕ) (xs w sc : List ℕ) → NoRow (runRows d s p k (length xs) (length w) (length sc))
-    → Promise stage verify d s p k xs w sc (runLeftAt stage verify d s p k xs w sc .ran) (runLeftAt stage verify d s p k xs w sc .bytes) (runLeftAt stage verify d s p k xs w sc .scratch)
-run-first stage verify going d s p k xs w sc f =
-    let c = beginningAt stage verify d s p k xs sc in
-    let e = driven d w c in
-    let a = accepted-ran stage verify going d s p k xs w sc (rows-none stage verify going d s p k xs w sc f) in
-    let h : FirstEnd d w c e = first-end d w c refl in
-    let n : runLeftAt stage verify d s p k xs w sc .ran .count ≡ e .count = ap (λ (r : Ran). r .count) (a .0) in
-    let g : e ≡ after (runLeftAt stage verify d s p k xs w sc .ran .count) d w c = h .reached ∙ ap (λ (j : ℕ). after j d w c) (sym n) in
+pub run-first : (j : Job) (xs w sc : List ℕ) → NoRow (runRows j (length xs) (length w) (length sc))
+    → Promise j xs w sc (runLeft j xs w sc .ran) (runLeft j xs w sc .bytes) (runLeft j xs w sc .scratch)
+run-first j xs w sc f =
+    let c = beginning j xs sc in
+    let e = driven (j .device) w c in
+    let a = accepted-ran j xs w sc (rows-none j xs w sc f) in
+    let h : FirstEnd (j .device) w c e = first-end (j .device) w c refl in
+    let n : runLeft j xs w sc .ran .count ≡ e .count = ap (λ (r : Ran). r .count) (a .0) in
+    let g : e ≡ after (runLeft j xs w sc .ran .count) (j .device) w c = h .reached ∙ ap (λ (o : ℕ). after o (j .device) w c) (sym n) in
     record {
       returned = a .0 ∙ ap ranBy g;
       array = a .1 ∙ ap (λ (x : Config). x .bytes) g;
       room = a .2 ∙ ap (λ (x : Config). x .scratch) g;
       ended = subst (λ (x : Config). isEnded (x .loader .stage) ≡ true) g (h .ended);
-      first = λ j i. h .first j (subst (λ (m : ℕ). j < m) n i);
+      first = λ o i. h .first o (subst (λ (m : ℕ). o < m) n i);
     }
 
 -- two returns that the promise allows are equal, with what they leave
-pub promise-once : (stage : Stage) (verify : Bool) (d : Device) (s : State) (p : Pins) (k : ℕ) (xs w sc : List ℕ) (r t : Ran) (x y u v : List ℕ)
-    → Promise stage verify d s p k xs w sc r x u → Promise stage verify d s p k xs w sc t y v → (r ≡ t) × (x ≡ y) × (u ≡ v)
-promise-once stage verify d s p k xs w sc r t x y u v f g =
-    let c = beginningAt stage verify d s p k xs sc in
+pub promise-once : (j : Job) (xs w sc : List ℕ) (r t : Ran) (x y u v : List ℕ)
+    → Promise j xs w sc r x u → Promise j xs w sc t y v → (r ≡ t) × (x ≡ y) × (u ≡ v)
+promise-once j xs w sc r t x y u v f g =
+    let c = beginning j xs sc in
     let n : r .count ≡ t .count = go (ltb (r .count) (t .count)) refl (ltb (t .count) (r .count)) refl in (
-      f .returned ∙ ap (λ (j : ℕ). ranBy (after j d w c)) n ∙ sym (g .returned),
-      f .array ∙ ap (λ (j : ℕ). after j d w c .bytes) n ∙ sym (g .array),
-      f .room ∙ ap (λ (j : ℕ). after j d w c .scratch) n ∙ sym (g .room),
+      f .returned ∙ ap (λ (o : ℕ). ranBy (after o (j .device) w c)) n ∙ sym (g .returned),
+      f .array ∙ ap (λ (o : ℕ). after o (j .device) w c .bytes) n ∙ sym (g .array),
+      f .room ∙ ap (λ (o : ℕ). after o (j .device) w c .scratch) n ∙ sym (g .room),
     )
   where
     go : (a : Bool) → ltb (r .count) (t .count) ≡ a → (b : Bool) → ltb (t .count) (r .count) ≡ b → r .count ≡ t .count
-    go true i b j = absurd (unlike (sym (f .ended) ∙ g .first (r .count) (ltb-true _ _ i)))
-    go false i true j = absurd (unlike (sym (g .ended) ∙ f .first (t .count) (ltb-true _ _ j)))
-    go false i false j = let m = ltb-false (r .count) (t .count) i in let n = ltb-false (t .count) (r .count) j in omega arith
+    go true i b o = absurd (unlike (sym (f .ended) ∙ g .first (r .count) (ltb-true _ _ i)))
+    go false i true o = absurd (unlike (sym (g .ended) ∙ f .first (t .count) (ltb-true _ _ o)))
+    go false i false o = let m = ltb-false (r .count) (t .count) i in let n = ltb-false (t .count) (r .count) o in omega arith

@@ -32,7 +32,7 @@ use Rattle.loader_steps.specs.Inner.{hereOf}
 use Rattle.loader_steps.specs.Outs.{addressIn, carriedIn, cycleAt, cycleAtStage, cycleOf}
 use Rattle.loader_steps.specs.Inner.{reach}
 use Rattle.loader_steps.specs.Stores.{storeOf}
-use Rattle.loader_steps.specs.Front.{barredPins, noBlock, recordAt}
+use Rattle.loader_steps.specs.Front.{barredPins, noBlock, recordOf}
 use Rattle.loader_steps.proofs.Again.{some-block, Kept, kept-next}
 use Rattle.loader_run.specs.Turns.{Config, loaderBy, answerTo, arrayTo, moved, turnOf, after}
 use Rattle.loader.specs.Stages.{isEnded, stageIs}
@@ -40,6 +40,7 @@ use Rattle.loader_run.specs.Runs.{runNumber, begin}
 use Rattle.model_types.specs.Phases.{isPending, underWay}
 use Rattle.loader_run.proofs.Good.{Good, good}
 use Rattle.loader_run.proofs.Judging.{unasked, unasked-high, judged, stays-calm}
+use Rattle.loader_run.specs.declared.Job.{Job}
 
 -- what a run keeps between two cycles; n is the array's length
 pub record Sound (d : Device) (w : List ℕ) (l : Loader) (s : State) (n : ℕ) : Type 0 where
@@ -65,26 +66,26 @@ free-calm (Suspending n′) e = absurd (unlike e)
 free-calm Suspended e = absurd (unlike e)
 
 -- it holds at the start of a run that passed its tests
-pub sound-good : (stage : Stage) (verify : Bool) (d : Device) (s : State) (p : Pins) (k array sc : ℕ) (w : List ℕ) → Good d s p k array (length w) sc
-    → Sound d w (recordAt (d .part) p k stage verify) s array
+pub sound-good : (j : Job) (array sc : ℕ) (w : List ℕ) → Good j array (length w) sc
+    → Sound (j .device) w (recordOf (j .work) (j .device .part) (j .pins) (j .block)) (j .state) array
 unfolding barredPins
-sound-good stage verify d s p k array sc w g =
+sound-good j array sc w g =
     record {
       known = g .known;
       sized = g .sized;
       same = refl;
       proper = g .proper;
-      levels = or-left (badPins (d .part) p) (rpLow p) (g .levels);
-      up = or-right (badPins (d .part) p) (rpLow p) (g .levels);
-      calm = λ v. free-calm (s .phase) (g .free);
+      levels = or-left (badPins (j .device .part) (j .pins)) (rpLow (j .pins)) (g .levels);
+      up = or-right (badPins (j .device .part) (j .pins)) (rpLow (j .pins)) (g .levels);
+      calm = λ v. free-calm (j .state .phase) (g .free);
       block = g .block;
       wanted = g .wanted;
-      place = omega (arith, some-block (d .part) k (g .block), g .wanted);
+      place = omega (arith, some-block (j .device .part) (j .block) (g .block), g .wanted);
     }
 
-pub sound-start : (stage : Stage) (verify : Bool) (d : Device) (s : State) (p : Pins) (k : ℕ) (xs w sc : List ℕ) → runNumber d s p k (length xs) (length w) (length sc) ≡ 0
-    → Sound d w (recordAt (d .part) p k stage verify) s (length xs)
-sound-start stage verify d s p k xs w sc e = sound-good stage verify d s p k (length xs) (length sc) w (good d s p k (length xs) (length w) (length sc) e)
+pub sound-start : (j : Job) (xs w sc : List ℕ) → runNumber j (length xs) (length w) (length sc) ≡ 0
+    → Sound (j .device) w (recordOf (j .work) (j .device .part) (j .pins) (j .block)) (j .state) (length xs)
+sound-start j xs w sc e = sound-good j (length xs) (length sc) w (good j (length xs) (length w) (length sc) e)
 
 -- the cycle that is out has the record's levels and OE# normal, at the block's first address or at the byte's
 out-ways : (P : Cycle → Type 0) (l : Loader) (w : List ℕ) (first here n : ℕ) → first < n → here < n → ((kind : Kind) (a b : ℕ) → a < n → P (cycleAt l kind a b))
@@ -195,12 +196,12 @@ sound-after (suc j) d w c h =
     (λ e. sound-turn d w (c .scratch) (c .bytes) (c .loader) (c .state) h e))
 
 -- so a run meets none of refusals 1 to 6
-pub passes-ever : (stage : Stage) (verify : Bool) (d : Device) (s : State) (p : Pins) (k : ℕ) (xs w sc : List ℕ) → runNumber d s p k (length xs) (length w) (length sc) ≡ 0 → (j : ℕ)
-    → isEnded (after j d w (begin d s (recordAt (d .part) p k stage verify) xs sc) .loader .stage) ≡ false
-    → judgeOf d (after j d w (begin d s (recordAt (d .part) p k stage verify) xs sc) .state)
-    (cycleOf (after j d w (begin d s (recordAt (d .part) p k stage verify) xs sc) .loader) w)
-    (length (after j d w (begin d s (recordAt (d .part) p k stage verify) xs sc) .bytes)) 0
+pub passes-ever : (j : Job) (xs w sc : List ℕ) → runNumber j (length xs) (length w) (length sc) ≡ 0 → (i : ℕ)
+    → isEnded (after i (j .device) w (begin (j .device) (j .state) (recordOf (j .work) (j .device .part) (j .pins) (j .block)) xs sc) .loader .stage) ≡ false
+    → judgeOf (j .device) (after i (j .device) w (begin (j .device) (j .state) (recordOf (j .work) (j .device .part) (j .pins) (j .block)) xs sc) .state)
+    (cycleOf (after i (j .device) w (begin (j .device) (j .state) (recordOf (j .work) (j .device .part) (j .pins) (j .block)) xs sc) .loader) w)
+    (length (after i (j .device) w (begin (j .device) (j .state) (recordOf (j .work) (j .device .part) (j .pins) (j .block)) xs sc) .bytes)) 0
     ≡ 0
-passes-ever stage verify d s p k xs w sc z j e =
-    let c : Config = begin d s (recordAt (d .part) p k stage verify) xs sc in
-    sound-judged d w (after j d w c .loader) (after j d w c .state) (length (after j d w c .bytes)) (sound-after j d w c (sound-start stage verify d s p k xs w sc z)) e
+passes-ever j xs w sc z i e =
+    let c : Config = begin (j .device) (j .state) (recordOf (j .work) (j .device .part) (j .pins) (j .block)) xs sc in
+    sound-judged (j .device) w (after i (j .device) w c .loader) (after i (j .device) w c .state) (length (after i (j .device) w c .bytes)) (sound-after i (j .device) w c (sound-start j xs w sc z)) e

@@ -2,9 +2,11 @@
 use device::Device;
 use device::Part;
 use loader::Loader;
-use loader::Stage;
+use loader::Work;
 use loader::moves::ended_by;
+use loader::stages::first_stage;
 use loader::stages::stage_is;
+use loader::stages::verifies;
 use loader_steps::front::end_address;
 use loader_steps::front::record_at;
 use loader_steps::front::setup_number;
@@ -25,10 +27,10 @@ ghost use Rattle.loader.specs.Stages.{isEnded};
 ghost use Rattle.loader_steps.specs.Addresses.{firstAddress};
 ghost use Rattle.loader_steps.specs.Inner.{hereOf};
 ghost use Rattle.loader_steps.specs.Outs.{cycleOf};
-ghost use Rattle.loader_steps.specs.Front.{recordAt};
+ghost use Rattle.loader_steps.specs.Front.{recordOf};
 ghost use Rattle.loader_run.specs.Turns.{isRefused, numberIn, refusalIn, loaderBy, scratchBy, answerTo, arrayTo};
 ghost use Rattle.units.specs.Units.{units};
-ghost use Rattle.loader_run.specs.Runs.{runNumber, begin, ranBy, driven, lentLeftAt, lentRun, lentLoad, lentVerify};
+ghost use Rattle.loader_run.specs.Runs.{runNumber, beginning, ranBy, driven, lentRun};
 ghost use Rattle.model_types.specs.Phases.{underWay};
 
 // What a run returns: the cycles made, the number of the end (0 well), for 25 the array address of the byte that differs, and the device's
@@ -38,6 +40,15 @@ pub struct Ran {
     pub end: u8,
     pub address: u32,
     pub state: State,
+}
+
+// What is run: a device in a state, the levels on it, a block, and what is done to it.
+pub struct Job {
+    pub device: Device,
+    pub state: State,
+    pub pins: Pins,
+    pub block: u8,
+    pub work: Work,
 }
 
 // The loader's record and the device's state, between two cycles.
@@ -130,17 +141,30 @@ fn going(l: Loader) -> bool
     !e.ended
 }
 
-// The load made to its end, from a beginning that nothing refuses.
-fn drive(d: Device, s: State, l: Loader, wanted: &[u8], scratch: &mut [u8], array: &mut [u8]) -> Ran
-    requires { ⌜ (runNumber d s (l .pins) (l .block) (length (units (d .part .word) (now array))) (length (units (d .part .word) (now wanted))) (length (units (d .part .word) (now scratch))) ≡ 0)
-        × (l ≡ recordAt (d .part) (l .pins) (l .block) (l .stage) (l .verify)) ⌝ }
-    ensures { λ r. ⌜ r ≡ ranBy (driven d (units (d .part .word) (now (wanted .entry))) (begin d s l (units (d .part .word) (now (array .entry))) (units (d .part .word) (now (scratch .entry))))) ⌝ }
-    ensures { λ _. ⌜ units (d .part .word) (now (scratch .exit)) ≡ driven d (units (d .part .word) (now (wanted .entry))) (begin d s l (units (d .part .word) (now (array .entry))) (units (d .part .word) (now (scratch .entry)))) .scratch ⌝ }
-    ensures { λ _. ⌜ units (d .part .word) (now (array .exit)) ≡ driven d (units (d .part .word) (now (wanted .entry))) (begin d s l (units (d .part .word) (now (array .entry))) (units (d .part .word) (now (scratch .entry)))) .bytes ⌝ }
+// The record that a job begins with.
+pub fn record_for(j: Job) -> Loader
+    ensures { λ r. ⌜ r ≡ recordOf (j .work) (j .device .part) (j .pins) (j .block) ⌝ }
 {
-    let start = first(l);
-    let mut moving = l;
-    let mut state = s;
+    let d = j.device;
+    let part = d.part;
+    let p = j.pins;
+    let work = j.work;
+    let stage = first_stage(work);
+    let verify = verifies(work);
+    record_at(part, p, j.block, stage, verify)
+}
+
+// The job made to its end, where nothing refuses it.
+fn drive(j: Job, wanted: &[u8], scratch: &mut [u8], array: &mut [u8]) -> Ran
+    requires { ⌜ runNumber j (length (units (j .device .part .word) (now array))) (length (units (j .device .part .word) (now wanted))) (length (units (j .device .part .word) (now scratch))) ≡ 0 ⌝ }
+    ensures { λ r. ⌜ r ≡ ranBy (driven (j .device) (units (j .device .part .word) (now (wanted .entry))) (beginning j (units (j .device .part .word) (now (array .entry))) (units (j .device .part .word) (now (scratch .entry))))) ⌝ }
+    ensures { λ _. ⌜ units (j .device .part .word) (now (scratch .exit)) ≡ driven (j .device) (units (j .device .part .word) (now (wanted .entry))) (beginning j (units (j .device .part .word) (now (array .entry))) (units (j .device .part .word) (now (scratch .entry)))) .scratch ⌝ }
+    ensures { λ _. ⌜ units (j .device .part .word) (now (array .exit)) ≡ driven (j .device) (units (j .device .part .word) (now (wanted .entry))) (beginning j (units (j .device .part .word) (now (array .entry))) (units (j .device .part .word) (now (scratch .entry)))) .bytes ⌝ }
+{
+    let d = j.device;
+    let mut moving = record_for(j);
+    let start = first(moving);
+    let mut state = j.state;
     let mut count: u64 = 0;
     while going(moving) {
         let h = both(
@@ -190,17 +214,12 @@ fn wrong_array(part: Part, array: usize) -> bool
 }
 
 // Refusals 1 to 4 and 10 to 12, the first in that order, or 0. The lengths are in units.
-pub fn run_number(
-    d: Device,
-    s: State,
-    p: Pins,
-    block: u8,
-    array: usize,
-    wanted: usize,
-    scratch: usize,
-) -> u8
-    ensures { λ r. ⌜ r ≡ runNumber d s p block array wanted scratch ⌝ }
+pub fn run_number(j: Job, array: usize, wanted: usize, scratch: usize) -> u8
+    ensures { λ r. ⌜ r ≡ runNumber j array wanted scratch ⌝ }
 {
+    let d = j.device;
+    let s = j.state;
+    let p = j.pins;
     let part = d.part;
     let ph = s.phase;
     if device::unknown_device(d) {
@@ -212,7 +231,7 @@ pub fn run_number(
     if model_types::states::improper(d, s) {
         return 3;
     }
-    let n = setup_number(part, p, block, wanted, scratch);
+    let n = setup_number(part, p, j.block, wanted, scratch);
     if n != 0 {
         return n;
     }
@@ -222,36 +241,24 @@ pub fn run_number(
     0
 }
 
-// A beginning at a stage made to its end, against the model.
-fn run_at(
-    stage: Stage,
-    verify: bool,
-    d: Device,
-    s: State,
-    p: Pins,
-    block: u8,
-    array: &mut [u8],
-    wanted: &[u8],
-    scratch: &mut [u8],
-) -> Ran
-    ensures { λ r. ⌜ r ≡ lentLeftAt stage verify d s p block (now (array .entry)) (now (wanted .entry)) (now (scratch .entry)) .ran ⌝ }
-    ensures { λ _. ⌜ now (array .exit) ≡ lentLeftAt stage verify d s p block (now (array .entry)) (now (wanted .entry)) (now (scratch .entry)) .bytes ⌝ }
-    ensures { λ _. ⌜ now (scratch .exit) ≡ lentLeftAt stage verify d s p block (now (array .entry)) (now (wanted .entry)) (now (scratch .entry)) .scratch ⌝ }
+// A job made to its end, against the model.
+pub fn run(j: Job, array: &mut [u8], wanted: &[u8], scratch: &mut [u8]) -> Ran
+    ensures { λ r. ⌜ r ≡ lentRun j (now (array .entry)) (now (wanted .entry)) (now (scratch .entry)) .ran ⌝ }
+    ensures { λ _. ⌜ now (array .exit) ≡ lentRun j (now (array .entry)) (now (wanted .entry)) (now (scratch .entry)) .bytes ⌝ }
+    ensures { λ _. ⌜ now (scratch .exit) ≡ lentRun j (now (array .entry)) (now (wanted .entry)) (now (scratch .entry)) .scratch ⌝ }
 {
+    let d = j.device;
+    let s = j.state;
     let part = d.part;
     let word = part.word;
     let n = run_number(
-        d,
-        s,
-        p,
-        block,
+        j,
         units::lent_in(word, array.len()),
         units::lent_in(word, wanted.len()),
         units::lent_in(word, scratch.len()),
     );
     if n == 0 {
-        let l = record_at(part, p, block, stage, verify);
-        return drive(d, s, l, wanted, scratch, array);
+        return drive(j, wanted, scratch, array);
     }
     Ran {
         count: 0,
@@ -259,75 +266,4 @@ fn run_at(
         address: 0,
         state: s,
     }
-}
-
-// A load of one block and the verify after it, against the model.
-pub fn run(
-    d: Device,
-    s: State,
-    p: Pins,
-    block: u8,
-    array: &mut [u8],
-    wanted: &[u8],
-    scratch: &mut [u8],
-) -> Ran
-    ensures { λ r. ⌜ r ≡ lentRun d s p block (now (array .entry)) (now (wanted .entry)) (now (scratch .entry)) .ran ⌝ }
-    ensures { λ _. ⌜ now (array .exit) ≡ lentRun d s p block (now (array .entry)) (now (wanted .entry)) (now (scratch .entry)) .bytes ⌝ }
-    ensures { λ _. ⌜ now (scratch .exit) ≡ lentRun d s p block (now (array .entry)) (now (wanted .entry)) (now (scratch .entry)) .scratch ⌝ }
-{
-    run_at(
-        Stage::Clearing,
-        true,
-        d,
-        s,
-        p,
-        block,
-        array,
-        wanted,
-        scratch,
-    )
-}
-
-// A load of one block alone, against the model.
-pub fn run_load(
-    d: Device,
-    s: State,
-    p: Pins,
-    block: u8,
-    array: &mut [u8],
-    wanted: &[u8],
-    scratch: &mut [u8],
-) -> Ran
-    ensures { λ r. ⌜ r ≡ lentLoad d s p block (now (array .entry)) (now (wanted .entry)) (now (scratch .entry)) .ran ⌝ }
-    ensures { λ _. ⌜ now (array .exit) ≡ lentLoad d s p block (now (array .entry)) (now (wanted .entry)) (now (scratch .entry)) .bytes ⌝ }
-    ensures { λ _. ⌜ now (scratch .exit) ≡ lentLoad d s p block (now (array .entry)) (now (wanted .entry)) (now (scratch .entry)) .scratch ⌝ }
-{
-    run_at(
-        Stage::Clearing,
-        false,
-        d,
-        s,
-        p,
-        block,
-        array,
-        wanted,
-        scratch,
-    )
-}
-
-// A verify of one block alone, against the model.
-pub fn run_verify(
-    d: Device,
-    s: State,
-    p: Pins,
-    block: u8,
-    array: &mut [u8],
-    wanted: &[u8],
-    scratch: &mut [u8],
-) -> Ran
-    ensures { λ r. ⌜ r ≡ lentVerify d s p block (now (array .entry)) (now (wanted .entry)) (now (scratch .entry)) .ran ⌝ }
-    ensures { λ _. ⌜ now (array .exit) ≡ lentVerify d s p block (now (array .entry)) (now (wanted .entry)) (now (scratch .entry)) .bytes ⌝ }
-    ensures { λ _. ⌜ now (scratch .exit) ≡ lentVerify d s p block (now (array .entry)) (now (wanted .entry)) (now (scratch .entry)) .scratch ⌝ }
-{
-    run_at(Stage::Closing, true, d, s, p, block, array, wanted, scratch)
 }

@@ -18,12 +18,12 @@ use Rattle.loader.specs.Walks.{risesIn}
 use Rattle.model_types.specs.Levels.{vppLow, atTwelve, atFive, vppHigh, badWp, badPins, unlocked}
 use Rattle.model_types.specs.States.{proper, improper}
 use Rattle.loader_steps.specs.Front.{barredPins, noBlock, wrongLengths}
-use Rattle.loader_run.specs.Runs.{runNumber}
 use Rattle.loader_run_claims.specs.Wear.{differing, erasesOf, programsIn, formula}
 use Rattle.loader_run_claims.specs.Anchors.{allStart}
+use Rattle.loader_run.specs.Runs.{runFirst}
 
 pub all-start : allStart ≡ true
-unfolding rowOf inWords shapeOf sizeIn lengthIn isLarge unknownPart unknownDevice sizeOf lengthOf lentIn vppLow atTwelve atFive vppHigh badWp badPins unlocked proper improper barredPins noBlock wrongLengths runNumber
+unfolding rowOf inWords shapeOf sizeIn lengthIn isLarge unknownPart unknownDevice sizeOf lengthOf lentIn vppLow atTwelve atFive vppHigh badWp badPins unlocked proper improper barredPins noBlock wrongLengths runFirst
 all-start = refl
 
 -- n places that all differ are n

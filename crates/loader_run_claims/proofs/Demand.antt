@@ -10,9 +10,7 @@ use lib.Dec.{eqb}
 use Rattle.common.specs.Choice.{if_then_else_}
 use Rattle.common.proofs.Choice.{if-true, if-false}
 use Rattle.common.specs.Lists.{overlaid}
-use Rattle.device.specs.declared.Device.{Device}
 use Rattle.device.specs.Parts.{startOf}
-use Rattle.model_types.specs.declared.Pins.{Pins}
 use Rattle.model_types.specs.declared.Mode.the-variants.{Array, Status}
 use Rattle.model_types.specs.declared.State.{State}
 use Rattle.model_types.specs.declared.Effect.{Effect}
@@ -20,7 +18,7 @@ use Rattle.model_types.specs.Levels.{vppLow, unlocked}
 use Rattle.model_types.specs.States.{atRest}
 use Rattle.model.proofs.Status.{fits}
 use Rattle.model.proofs.Keeping.{times}
-use Rattle.loader.specs.declared.Stage.the-variants.{Clearing, Ended}
+use Rattle.loader.specs.declared.Stage.the-variants.{Ended}
 use Rattle.loader.specs.declared.Loader.{Loader}
 use Rattle.loader.specs.Walks.{risesIn, diffFrom}
 use Rattle.loader.specs.Moves.{isReady, eraseFault, programFault}
@@ -28,7 +26,7 @@ use Rattle.loader.specs.declared.Stage.{Stage}
 use Rattle.model_types.specs.declared.Cycle.{Cycle}
 use lib.Bits.{bitOr}
 use Rattle.loader_run.specs.Turns.{Config}
-use Rattle.loader_run.specs.Runs.{runNumber, beginningAt, ranBy, runLeftAt}
+use Rattle.loader_run.specs.Runs.{runNumber, ranBy, beginning, runLeft, doing}
 use Rattle.loader_run_claims.specs.Wear.{heldIn, baseOf, programsIn, formulaBy, operationsOf}
 use Rattle.loader_run_claims.specs.Made.{openingThen, closingBy, cyclesBy}
 use Rattle.loader_run_claims.specs.Ends.{asWanted, loadedMode, endMode, erasedFrom, eraseTried, programTried, faultCycles}
@@ -45,6 +43,8 @@ use Rattle.loader_run_claims.proofs.Grounds.{Left}
 use Rattle.loader_run_claims.proofs.Phases as phases
 use Rattle.loader_run_claims.proofs.Faults as faults
 use Rattle.loader_run_claims.proofs.SameBlock.{same-list, none-risen, none-differing, none-programmed}
+use Rattle.loader.specs.declared.Work.the-variants.{Load}
+use Rattle.loader_run.specs.declared.Job.{Job}
 
 -- the count of a load, and of what follows it
 summed : (v rise : Bool) (n E P cnt : ℕ) → cnt ≡ 2 + n + ((if rise then 2 + E else 0) + P)
@@ -54,85 +54,85 @@ summed true false n E P cnt q = rw (zero-mul (2 + E)) (omega arith)
 summed false true n E P cnt q = rw (one-mul (2 + E)) (omega arith)
 summed false false n E P cnt q = rw (zero-mul (2 + E)) (omega arith)
 
-module _ (verify : Bool) (d : Device) (s : State) (p : Pins) (k : ℕ) (xs w sc : List ℕ) (t : Taken d s p k xs w sc) where
-  n0 : runNumber d s p k (length xs) (length w) (length sc) ≡ 0
-  n0 = none-refuses d s p k xs w sc t
+module _ (verify : Bool) (j : Job) (xs w sc : List ℕ) (t : Taken j xs w sc) where
+  n0 : runNumber j (length xs) (length w) (length sc) ≡ 0
+  n0 = none-refuses j xs w sc t
 
-  g : Good d s p k (length xs) (length w) (length sc)
-  g = grounds.g d s p k xs w sc n0
+  g : Good j (length xs) (length w) (length sc)
+  g = grounds.g j xs w sc n0
 
-  u : Up d p
-  u = grounds.u d s p k xs w sc n0
+  u : Up (j .device) (j .pins)
+  u = grounds.u j xs w sc n0
 
   some : 0 < length w
-  some = grounds.some d s p k xs w sc n0
+  some = grounds.some j xs w sc n0
 
-  ly : length (heldIn (startOf (d .part) k) (length w) xs) ≡ length w
-  ly = grounds.ly d s p k xs w sc n0
+  ly : length (heldIn (startOf (j .device .part) (j .block)) (length w) xs) ≡ length w
+  ly = grounds.ly j xs w sc n0
 
   abbrev pub a : ℕ
-  a = startOf (d .part) k
+  a = startOf (j .device .part) (j .block)
 
   abbrev pub ys : List ℕ
-  ys = heldIn (startOf (d .part) k) (length w) xs
+  ys = heldIn (startOf (j .device .part) (j .block)) (length w) xs
 
-  cy : Cells (d .part) ys
-  cy = cells-held (d .part) a (length w) xs (t .held)
+  cy : Cells (j .device .part) ys
+  cy = cells-held (j .device .part) a (length w) xs (t .held)
 
   abbrev rec : Stage → ℕ → Loader
-  rec stage place = record { part = d .part; pins = p; block = k; stage = stage; place = place; polls = 0; verify = verify; high = false }
+  rec stage place = record { part = j .device .part; pins = j .pins; block = j .block; stage = stage; place = place; polls = 0; verify = verify; high = false }
 
   abbrev started : Config
-  started = beginningAt Clearing verify d s p k xs sc
+  started = beginning (doing (Load verify) j) xs sc
 
   -- the state with the counts that the load leaves
   abbrev pub after : State
-  after = erasedFrom (risesIn w ys) k s
+  after = erasedFrom (risesIn w ys) (j .block) (j .state)
 
   -- where a good load comes to, and one that a fault ends
   abbrev pub goal : Config
-  goal = conf (rec (Ended 0) (if verify then length w - 1 else 0)) (atRest after (endMode verify w ys) 128) (overlaid xs a w) w (formulaBy verify d w ys)
+  goal = conf (rec (Ended 0) (if verify then length w - 1 else 0)) (atRest after (endMode verify w ys) 128) (overlaid xs a w) w (formulaBy verify (j .device) w ys)
 
   abbrev pub broken : ℕ → ℕ → ℕ → Config
-  broken n x i = conf (rec (Ended n) i) (atRest s Status x) xs ys (length w + 5)
+  broken n x i = conf (rec (Ended n) i) (atRest (j .state) Status x) xs ys (length w + 5)
 
   -- 50H, FFH and the first reads come first, whatever follows
-  opened : (e : Config) (es : List Effect) (cs : List Cycle) → Reach d w (faults.judged verify d p k u s w (g .wanted) some xs (g .sized) ys ly (2 + length w)) e es cs
-      → Reach d w started e es (openingThen p a (length w) cs)
+  opened : (e : Config) (es : List Effect) (cs : List Cycle) → Reach (j .device) w (faults.judged verify (j .device) (j .pins) (j .block) u (j .state) w (g .wanted) some xs (g .sized) ys ly (2 + length w)) e es cs
+      → Reach (j .device) w started e es (openingThen (j .pins) a (length w) cs)
   opened e es cs r =
-      grounds.from-rest d s p k xs w sc n0 Clearing verify e es (openingThen p a (length w) cs)
-      (phases.opening verify d p k u s w (g .wanted) some xs (g .sized) ys sc ly cy (g .scratch ∙ sym (g .wanted)) (s .mode) (s .status) (grounds.ready-status d s (g .proper) (g .free)) e es cs r)
+      grounds.from-rest j xs w sc n0 (Load verify) e es (openingThen (j .pins) a (length w) cs)
+      (phases.opening verify (j .device) (j .pins) (j .block) u (j .state) w (g .wanted) some xs (g .sized) ys sc ly cy (g .scratch ∙ sym (g .wanted)) (j .state .mode) (j .state .status) (grounds.ready-status (j .device) (j .state) (g .proper) (g .free)) e es cs r)
 
   -- what follows the last program, up to the end
-  finished : (cnt : ℕ) → cnt ≡ 2 + length w + ((if risesIn w ys then 2 + d .erase else 0) + programsIn (d .part) w ys * (2 + d .program))
-      → Reach d w (phases.loaded verify d p k u after w (g .wanted) some xs (g .sized) (loadedMode w ys) cnt) goal [] (closingBy verify p a (length w))
+  finished : (cnt : ℕ) → cnt ≡ 2 + length w + ((if risesIn w ys then 2 + j .device .erase else 0) + programsIn (j .device .part) w ys * (2 + j .device .program))
+      → Reach (j .device) w (phases.loaded verify (j .device) (j .pins) (j .block) u after w (g .wanted) some xs (g .sized) (loadedMode w ys) cnt) goal [] (closingBy verify (j .pins) a (length w))
   finished cnt q =
-      subst (λ (c : ℕ). Reach d w (phases.loaded verify d p k u after w (g .wanted) some xs (g .sized) (loadedMode w ys) cnt)
-      (conf (rec (Ended 0) (if verify then length w - 1 else 0)) (atRest after (endMode verify w ys) 128) (overlaid xs a w) w c) [] (closingBy verify p a (length w)))
-      (summed verify (risesIn w ys) (length w) (d .erase) (programsIn (d .part) w ys * (2 + d .program)) cnt q)
-      (faults.finishing verify d p k u after w (g .wanted) some (t .bytes) xs (g .sized) (loadedMode w ys) cnt)
+      subst (λ (c : ℕ). Reach (j .device) w (phases.loaded verify (j .device) (j .pins) (j .block) u after w (g .wanted) some xs (g .sized) (loadedMode w ys) cnt)
+      (conf (rec (Ended 0) (if verify then length w - 1 else 0)) (atRest after (endMode verify w ys) 128) (overlaid xs a w) w c) [] (closingBy verify (j .pins) a (length w)))
+      (summed verify (risesIn w ys) (length w) (j .device .erase) (programsIn (j .device .part) w ys * (2 + j .device .program)) cnt q)
+      (faults.finishing verify (j .device) (j .pins) (j .block) u after w (g .wanted) some (t .bytes) xs (g .sized) (loadedMode w ys) cnt)
 
   -- the load where its operations can start
-  module _ (high : vppLow (d .part) p ≡ false) (unlock : k ≡ 0 → unlocked (d .part) p 0 ≡ true) where
-    ready : Ready d p k
+  module _ (high : vppLow (j .device .part) (j .pins) ≡ false) (unlock : j .block ≡ 0 → unlocked (j .device .part) (j .pins) 0 ≡ true) where
+    ready : Ready (j .device) (j .pins) (j .block)
     ready = record { base = u; high = high; unlock = unlock }
 
-    pub good-load : Left Clearing verify d s p k xs w sc goal (operationsOf (d .part) k a w ys) (cyclesBy verify d p a w ys)
+    pub good-load : Left (doing (Load verify) j) xs w sc goal (operationsOf (j .device .part) (j .block) a w ys) (cyclesBy verify (j .device) (j .pins) a w ys)
     good-load =
-        grounds.comes d s p k xs w sc n0 Clearing verify goal (operationsOf (d .part) k a w ys) (cyclesBy verify d p a w ys) refl
-        (grounds.from-rest d s p k xs w sc n0 Clearing verify goal (operationsOf (d .part) k a w ys) (cyclesBy verify d p a w ys)
-        (phases.loading verify d p k u s w (g .wanted) some xs (g .sized) ys sc ly cy (g .scratch ∙ sym (g .wanted)) ready (s .mode) (s .status) (grounds.ready-status d s (g .proper) (g .free)) (t .bytes)
-        (grounds.over (d .program) (times d (g .known) .0)) (t .programs) (grounds.over (d .erase) (times d (g .known) .1)) (t .erases) goal (closingBy verify p a (length w))
-        (λ cnt q. finished cnt (q ∙ ap (λ (n : ℕ). 2 + length w + ((if risesIn w ys then 2 + d .erase else 0) + n)) (phases.costs-are verify d p k u s w (g .wanted) some xs (g .sized) (length w) 0 (baseOf (d .part) w ys))))))
+        grounds.comes j xs w sc n0 (Load verify) goal (operationsOf (j .device .part) (j .block) a w ys) (cyclesBy verify (j .device) (j .pins) a w ys) refl
+        (grounds.from-rest j xs w sc n0 (Load verify) goal (operationsOf (j .device .part) (j .block) a w ys) (cyclesBy verify (j .device) (j .pins) a w ys)
+        (phases.loading verify (j .device) (j .pins) (j .block) u (j .state) w (g .wanted) some xs (g .sized) ys sc ly cy (g .scratch ∙ sym (g .wanted)) ready (j .state .mode) (j .state .status) (grounds.ready-status (j .device) (j .state) (g .proper) (g .free)) (t .bytes)
+        (grounds.over (j .device .program) (times (j .device) (g .known) .0)) (t .programs) (grounds.over (j .device .erase) (times (j .device) (g .known) .1)) (t .erases) goal (closingBy verify (j .pins) a (length w))
+        (λ cnt q. finished cnt (q ∙ ap (λ (n : ℕ). 2 + length w + ((if risesIn w ys then 2 + j .device .erase else 0) + n)) (phases.costs-are verify (j .device) (j .pins) (j .block) u (j .state) w (g .wanted) some xs (g .sized) (length w) 0 (baseOf (j .device .part) w ys))))))
 
   -- the load of a block that holds what is wanted
-  pub same-load : asWanted w ys ≡ true → Left Clearing verify d s p k xs w sc goal [] (cyclesBy verify d p a w ys)
+  pub same-load : asWanted w ys ≡ true → Left (doing (Load verify) j) xs w sc goal [] (cyclesBy verify (j .device) (j .pins) a w ys)
   same-load e =
-      grounds.comes d s p k xs w sc n0 Clearing verify goal [] (cyclesBy verify d p a w ys) refl
-      (subst (λ (cs : List Cycle). Reach d w started goal [] cs) (sym listed)
-      (opened goal [] (closingBy verify p a (length w)) (faults.nothing-done verify d p k u s w (g .wanted) some xs (g .sized) ys ly (2 + length w) goal (closingBy verify p a (length w)) e
-      (subst (λ (c : Config). Reach d w c goal [] (closingBy verify p a (length w)))
-      (λ i. phases.loaded verify d p k u (erasedFrom (rises-not i) k s) w (g .wanted) some xs (g .sized) (if-true (asWanted w ys) Array Status e i) (2 + length w))
+      grounds.comes j xs w sc n0 (Load verify) goal [] (cyclesBy verify (j .device) (j .pins) a w ys) refl
+      (subst (λ (cs : List Cycle). Reach (j .device) w started goal [] cs) (sym listed)
+      (opened goal [] (closingBy verify (j .pins) a (length w)) (faults.nothing-done verify (j .device) (j .pins) (j .block) u (j .state) w (g .wanted) some xs (g .sized) ys ly (2 + length w) goal (closingBy verify (j .pins) a (length w)) e
+      (subst (λ (c : Config). Reach (j .device) w c goal [] (closingBy verify (j .pins) a (length w)))
+      (λ i. phases.loaded verify (j .device) (j .pins) (j .block) u (erasedFrom (rises-not i) (j .block) (j .state)) w (g .wanted) some xs (g .sized) (if-true (asWanted w ys) Array Status e i) (2 + length w))
       (finished (2 + length w) (rw (rises-not, held, none-differing (length w) 0 w) (omega arith)))))))
     where
       held : ys ≡ w
@@ -141,43 +141,43 @@ module _ (verify : Bool) (d : Device) (s : State) (p : Pins) (k : ℕ) (xs w sc 
       rises-not : risesIn w ys ≡ false
       rises-not = ap (λ (z : List ℕ). risesIn w z) held ∙ none-risen w
 
-      listed : cyclesBy verify d p a w ys ≡ openingThen p a (length w) (closingBy verify p a (length w))
-      listed = rw (rises-not, held) (ap (λ (cs : List Cycle). openingThen p a (length w) cs) (none-programmed d p (length w) a 0 w (closingBy verify p a (length w))))
+      listed : cyclesBy verify (j .device) (j .pins) a w ys ≡ openingThen (j .pins) a (length w) (closingBy verify (j .pins) a (length w))
+      listed = rw (rises-not, held) (ap (λ (cs : List Cycle). openingThen (j .pins) a (length w) cs) (none-programmed (j .device) (j .pins) (length w) a 0 w (closingBy verify (j .pins) a (length w))))
 
   -- the load whose first operation cannot start: the array is as before
   stopped : (n x i : ℕ) (cs : List Cycle)
-      → Reach d w (faults.judged verify d p k u s w (g .wanted) some xs (g .sized) ys ly (2 + length w)) (conf (rec (Ended n) i) (atRest s Status x) (overlaid xs a ys) ys (2 + length w + 3)) [] cs
-      → (all : List Cycle) → all ≡ openingThen p a (length w) cs → Left Clearing verify d s p k xs w sc (broken n x i) [] all
+      → Reach (j .device) w (faults.judged verify (j .device) (j .pins) (j .block) u (j .state) w (g .wanted) some xs (g .sized) ys ly (2 + length w)) (conf (rec (Ended n) i) (atRest (j .state) Status x) (overlaid xs a ys) ys (2 + length w + 3)) [] cs
+      → (all : List Cycle) → all ≡ openingThen (j .pins) a (length w) cs → Left (doing (Load verify) j) xs w sc (broken n x i) [] all
   stopped n x i cs r all q =
-      grounds.comes d s p k xs w sc n0 Clearing verify (broken n x i) [] all refl
-      (subst (λ (z : List Cycle). Reach d w started (broken n x i) [] z) (sym q)
-      (subst (λ (c : Config). Reach d w started c [] (openingThen p a (length w) cs)) back (opened _ [] cs r)))
+      grounds.comes j xs w sc n0 (Load verify) (broken n x i) [] all refl
+      (subst (λ (z : List Cycle). Reach (j .device) w started (broken n x i) [] z) (sym q)
+      (subst (λ (c : Config). Reach (j .device) w started c [] (openingThen (j .pins) a (length w) cs)) back (opened _ [] cs r)))
     where
-      back : conf (rec (Ended n) i) (atRest s Status x) (overlaid xs a ys) ys (2 + length w + 3) ≡ broken n x i
-      back = λ j. conf (rec (Ended n) i) (atRest s Status x) (over-self xs a (length w) (grounds.fitting d s p k xs w sc n0) j) ys ((let z : 2 + length w + 3 ≡ length w + 5 = omega arith in z) j)
+      back : conf (rec (Ended n) i) (atRest (j .state) Status x) (overlaid xs a ys) ys (2 + length w + 3) ≡ broken n x i
+      back = λ m. conf (rec (Ended n) i) (atRest (j .state) Status x) (over-self xs a (length w) (grounds.fitting j xs w sc n0) m) ys ((let z : 2 + length w + 3 ≡ length w + 5 = omega arith in z) m)
 
   -- .. an erase
-  pub erase-load : (low x n : ℕ) → Stuck d p k low → bitOr (bitOr 128 low) 32 ≡ x → fits 2 x ≡ true → isReady x ≡ true → eraseFault x ≡ n → eqb n 0 ≡ false → risesIn w ys ≡ true
-      → Left Clearing verify d s p k xs w sc (broken n x 0) [] (faultCycles p a w ys)
+  pub erase-load : (low x n : ℕ) → Stuck (j .device) (j .pins) (j .block) low → bitOr (bitOr 128 low) 32 ≡ x → fits 2 x ≡ true → isReady x ≡ true → eraseFault x ≡ n → eqb n 0 ≡ false → risesIn w ys ≡ true
+      → Left (doing (Load verify) j) xs w sc (broken n x 0) [] (faultCycles (j .pins) a w ys)
   erase-load low x n stuck q f ready e z y =
-      stopped n x 0 (eraseTried p a) (faults.erase-fails verify d p k u s w (g .wanted) some xs (g .sized) ys ly low x n (2 + length w) stuck q f ready e z y)
-      (faultCycles p a w ys) (ap (λ (cs : List Cycle). openingThen p a (length w) cs) (if-true (risesIn w ys) _ _ y))
+      stopped n x 0 (eraseTried (j .pins) a) (faults.erase-fails verify (j .device) (j .pins) (j .block) u (j .state) w (g .wanted) some xs (g .sized) ys ly low x n (2 + length w) stuck q f ready e z y)
+      (faultCycles (j .pins) a w ys) (ap (λ (cs : List Cycle). openingThen (j .pins) a (length w) cs) (if-true (risesIn w ys) _ _ y))
 
   -- .. a program
-  pub program-load : (low x n : ℕ) → Stuck d p k low → bitOr (bitOr 128 low) 16 ≡ x → fits 2 x ≡ true → isReady x ≡ true → programFault x ≡ n → eqb n 0 ≡ false → risesIn w ys ≡ false
-      → asWanted w ys ≡ false → Left Clearing verify d s p k xs w sc (broken n x (diffFrom 0 w ys)) [] (faultCycles p a w ys)
+  pub program-load : (low x n : ℕ) → Stuck (j .device) (j .pins) (j .block) low → bitOr (bitOr 128 low) 16 ≡ x → fits 2 x ≡ true → isReady x ≡ true → programFault x ≡ n → eqb n 0 ≡ false → risesIn w ys ≡ false
+      → asWanted w ys ≡ false → Left (doing (Load verify) j) xs w sc (broken n x (diffFrom 0 w ys)) [] (faultCycles (j .pins) a w ys)
   program-load low x n stuck q f ready e z y o =
-      stopped n x (diffFrom 0 w ys) (programTried p (a + diffFrom 0 w ys) (getD w (diffFrom 0 w ys) 0))
-      (faults.program-fails verify d p k u s w (g .wanted) some xs (g .sized) ys ly low x n (2 + length w) stuck q f ready e z y o)
-      (faultCycles p a w ys) (ap (λ (cs : List Cycle). openingThen p a (length w) cs) (if-false (risesIn w ys) _ _ y))
+      stopped n x (diffFrom 0 w ys) (programTried (j .pins) (a + diffFrom 0 w ys) (getD w (diffFrom 0 w ys) 0))
+      (faults.program-fails verify (j .device) (j .pins) (j .block) u (j .state) w (g .wanted) some xs (g .sized) ys ly low x n (2 + length w) stuck q f ready e z y o)
+      (faultCycles (j .pins) a w ys) (ap (λ (cs : List Cycle). openingThen (j .pins) a (length w) cs) (if-false (risesIn w ys) _ _ y))
 
   -- what a run returns and leaves, where it is known how it is left
-  module _ (e : Config) (es : List Effect) (cs : List Cycle) (left : Left Clearing verify d s p k xs w sc e es cs) where
-    pub ran-left : runLeftAt Clearing verify d s p k xs w sc .ran ≡ ranBy e
-    ran-left = grounds.ran-left d s p k xs w sc n0 Clearing verify e es cs left
+  module _ (e : Config) (es : List Effect) (cs : List Cycle) (left : Left (doing (Load verify) j) xs w sc e es cs) where
+    pub ran-left : runLeft (doing (Load verify) j) xs w sc .ran ≡ ranBy e
+    ran-left = grounds.ran-left j xs w sc n0 (Load verify) e es cs left
 
-    pub bytes-left : runLeftAt Clearing verify d s p k xs w sc .bytes ≡ e .bytes
-    bytes-left = grounds.bytes-left d s p k xs w sc n0 Clearing verify e es cs left
+    pub bytes-left : runLeft (doing (Load verify) j) xs w sc .bytes ≡ e .bytes
+    bytes-left = grounds.bytes-left j xs w sc n0 (Load verify) e es cs left
 
-    pub scratch-left : runLeftAt Clearing verify d s p k xs w sc .scratch ≡ e .scratch
-    scratch-left = grounds.scratch-left d s p k xs w sc n0 Clearing verify e es cs left
+    pub scratch-left : runLeft (doing (Load verify) j) xs w sc .scratch ≡ e .scratch
+    scratch-left = grounds.scratch-left j xs w sc n0 (Load verify) e es cs left

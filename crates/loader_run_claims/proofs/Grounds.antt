@@ -13,7 +13,6 @@ use Rattle.common.specs.Lists.{overlaid}
 use Rattle.device.specs.declared.Device.{Device}
 use Rattle.device.specs.Parts.{lengthOf, startOf}
 use Rattle.device.proofs.Claims.{blocks-end-inside}
-use Rattle.model_types.specs.declared.Pins.{Pins}
 use Rattle.model_types.specs.declared.Phase.{Phase}
 use Rattle.model_types.specs.declared.Phase.the-variants.{Free}
 use Rattle.model_types.specs.declared.State.{State}
@@ -26,12 +25,11 @@ use Rattle.model_rules.proofs.Facts.{Proper}
 use Rattle.model.proofs.Status.{fits, status-fits}
 use Rattle.loader_steps.specs.Front.{noBlock}
 use Rattle.loader_steps.specs.Outs.{cycleOf}
-use Rattle.loader.specs.declared.Stage.{Stage}
 use Rattle.model_types.specs.declared.Cycle.{Cycle}
 use Rattle.loader_run.specs.Turns.{Config, turnOf, after}
 use Rattle.loader_run.specs.Inner.{bound}
 use Rattle.loader.specs.Stages.{isEnded}
-use Rattle.loader_run.specs.Runs.{runNumber, beginningAt, driven, leftAt, ranBy, RunLeft, runMade, runLeftAt}
+use Rattle.loader_run.specs.Runs.{runNumber, driven, ranBy, RunLeft, runMade, beginning, runEnd, runLeft, jobOf, doing}
 use Rattle.model_types.specs.Phases.{underWay}
 use Rattle.loader_run.proofs.Leaving.{left-made}
 use Rattle.loader_run_claims.specs.Wear.{noted, begunTurn, begunIn, begunAt, heldIn}
@@ -43,6 +41,8 @@ use Rattle.loader_run_claims.proofs.Starts.{levels-of}
 use Rattle.loader_run_claims.proofs.Answers.{Up}
 use Rattle.loader_run_claims.proofs.Reaching.{Reach}
 use Rattle.loader_run_claims.proofs.LoadLists.{over-self}
+use Rattle.loader.specs.declared.Work.{Work}
+use Rattle.loader_run.specs.declared.Job.{Job}
 
 -- two ends of one load are the same, and so is what was begun on the way to them
 pub same-end : (i j : ℕ) (d : Device) (w : List ℕ) (c : Config) → isEnded (after i d w c .loader .stage) ≡ true → isEnded (after j d w c .loader .stage) ≡ true → after i d w c ≡ after j d w c
@@ -92,68 +92,68 @@ pub over : (n : ℕ) → (n ≡ 0 → ⊥) → 0 < n
 over zero z = absurd (z refl)
 over (suc n) z = omega arith
 
--- where a run from a stage is left, what it began and made, and that no cycle of it was refused or cut anything
-pub record Left (stage : Stage) (verify : Bool) (d : Device) (s : State) (p : Pins) (k : ℕ) (xs w sc : List ℕ) (e : Config) (es : List Effect) (cs : List Cycle) : Type 0 where
-  pub end : leftAt stage verify d s p k xs w sc ≡ e
-  pub begun : begunAt stage verify d s p k xs w sc ≡ es
-  pub made : cyclesAt stage verify d s p k xs w sc ≡ cs
-  pub smooth : smoothAt stage verify d s p k xs w sc ≡ true
+-- where a run is left, what it began and made, and that no cycle of it was refused or cut anything
+pub record Left (j : Job) (xs w sc : List ℕ) (e : Config) (es : List Effect) (cs : List Cycle) : Type 0 where
+  pub end : runEnd j xs w sc ≡ e
+  pub begun : begunAt j xs w sc ≡ es
+  pub made : cyclesAt j xs w sc ≡ cs
+  pub smooth : smoothAt j xs w sc ≡ true
 
-module _ (d : Device) (s : State) (p : Pins) (k : ℕ) (xs w sc : List ℕ) (n : runNumber d s p k (length xs) (length w) (length sc) ≡ 0) where
-  pub g : Good d s p k (length xs) (length w) (length sc)
-  g = good d s p k (length xs) (length w) (length sc) n
+module _ (j : Job) (xs w sc : List ℕ) (n : runNumber j (length xs) (length w) (length sc) ≡ 0) where
+  pub g : Good j (length xs) (length w) (length sc)
+  g = good j (length xs) (length w) (length sc) n
 
-  pub u : Up d p
-  u = record { known = g .known; levels = levels-of d p (g .levels) .0; up = levels-of d p (g .levels) .1 }
+  pub u : Up (j .device) (j .pins)
+  u = record { known = g .known; levels = levels-of (j .device) (j .pins) (g .levels) .0; up = levels-of (j .device) (j .pins) (g .levels) .1 }
 
   pub some : 0 < length w
-  some = over (length w) (λ q. some-bytes d k (g .block) (sym (g .wanted) ∙ q))
+  some = over (length w) (λ q. some-bytes (j .device) (j .block) (g .block) (sym (g .wanted) ∙ q))
 
   abbrev a : ℕ
-  a = startOf (d .part) k
+  a = startOf (j .device .part) (j .block)
 
   abbrev ys : List ℕ
-  ys = heldIn (startOf (d .part) k) (length w) xs
+  ys = heldIn (startOf (j .device .part) (j .block)) (length w) xs
 
   pub fitting : a + length w ≤ length xs
-  fitting = omega (arith, blocks-end-inside (d .part) k, g .sized, g .wanted)
+  fitting = omega (arith, blocks-end-inside (j .device .part) (j .block), g .sized, g .wanted)
 
   pub ly : length ys ≡ length w
   ly = length-take-le (length w) (drop a xs) (let q = length-drop a xs in let h = fitting in omega arith)
 
-  module _ (stage : Stage) (verify : Bool) where
+  module _ (work : Work) where
     abbrev started : Config
-    started = beginningAt stage verify d s p k xs sc
+    started = beginning (doing work j) xs sc
 
     -- what some turns reach that have ended is what the run comes to
-    pub comes : (e : Config) (es : List Effect) (cs : List Cycle) → isEnded (e .loader .stage) ≡ true → Reach d w started e es cs → Left stage verify d s p k xs w sc e es cs
-    unfolding leftAt driven
+    pub comes : (e : Config) (es : List Effect) (cs : List Cycle) → isEnded (e .loader .stage) ≡ true → Reach (j .device) w started e es cs → Left (doing work j) xs w sc e es cs
+    unfolding runEnd driven
     comes e es cs z r =
-        let bounded : isEnded (after (bound (length w)) d w started .loader .stage) ≡ true = always-ends d w started in
-        let there : isEnded (after (r .turns) d w started .loader .stage) ≡ true = ap (λ (c : Config). isEnded (c .loader .stage)) (r .there) ∙ z in
+        let bounded : isEnded (after (bound (length w)) (j .device) w started .loader .stage) ≡ true = always-ends (j .device) w started in
+        let there : isEnded (after (r .turns) (j .device) w started .loader .stage) ≡ true = ap (λ (c : Config). isEnded (c .loader .stage)) (r .there) ∙ z in
         record {
-          end = same-end (bound (length w)) (r .turns) d w started bounded there ∙ r .there;
-          begun = same-begun (bound (length w)) (r .turns) d w started bounded there ∙ r .begun;
-          made = same-made (bound (length w)) (r .turns) d w started bounded there ∙ r .made;
-          smooth = same-smooth (bound (length w)) (r .turns) d w started bounded there ∙ r .smooth;
+          end = same-end (bound (length w)) (r .turns) (j .device) w started bounded there ∙ r .there;
+          begun = same-begun (bound (length w)) (r .turns) (j .device) w started bounded there ∙ r .begun;
+          made = same-made (bound (length w)) (r .turns) (j .device) w started bounded there ∙ r .made;
+          smooth = same-smooth (bound (length w)) (r .turns) (j .device) w started bounded there ∙ r .smooth;
         }
 
     -- from a device at rest, over the block as it is held, is from the start
-    pub from-rest : (e : Config) (es : List Effect) (cs : List Cycle) → Reach d w (beginningAt stage verify d (atRest s (s .mode) (s .status)) p k (overlaid xs a ys) sc) e es cs → Reach d w started e es cs
+    pub from-rest : (e : Config) (es : List Effect) (cs : List Cycle) → Reach (j .device) w (beginning (jobOf work (j .device) (atRest (j .state) (j .state .mode) (j .state .status)) (j .pins) (j .block)) (overlaid xs a ys) sc) e es cs → Reach (j .device) w started e es cs
     from-rest e es cs r =
-        subst (λ (x : State). Reach d w (beginningAt stage verify d x p k xs sc) e es cs) (sym (resting d s (g .free) (g .proper .left) (g .proper .address)))
-        (subst (λ (z : List ℕ). Reach d w (beginningAt stage verify d (atRest s (s .mode) (s .status)) p k z sc) e es cs) (over-self xs a (length w) fitting) r)
+        subst (λ (x : State). Reach (j .device) w (beginning (jobOf work (j .device) x (j .pins) (j .block)) xs sc) e es cs) (sym (resting (j .device) (j .state) (g .free) (g .proper .left) (g .proper .address)))
+        (subst (λ (z : List ℕ). Reach (j .device) w (beginning (jobOf work (j .device) (atRest (j .state) (j .state .mode) (j .state .status)) (j .pins) (j .block)) z sc) e es cs) (over-self xs a (length w) fitting) r)
 
     -- what a run returns and leaves, where it is known how it is left
-    module _ (e : Config) (es : List Effect) (cs : List Cycle) (left : Left stage verify d s p k xs w sc e es cs) where
-      run-left : runLeftAt stage verify d s p k xs w sc ≡ runMade e
-      run-left = left-made stage verify d s p k xs w sc n ∙ ap runMade (left .end)
+    module _ (e : Config) (es : List Effect) (cs : List Cycle) (left : Left (doing work j) xs w sc e es cs) where
+      run-left : runLeft (doing work j) xs w sc ≡ runMade e
+      run-left = left-made (doing work j) xs w sc n ∙ ap runMade (left .end)
 
-      pub ran-left : runLeftAt stage verify d s p k xs w sc .ran ≡ ranBy e
+      pub ran-left : runLeft (doing work j) xs w sc .ran ≡ ranBy e
       ran-left = ap (λ (r : RunLeft). r .ran) run-left
 
-      pub bytes-left : runLeftAt stage verify d s p k xs w sc .bytes ≡ e .bytes
+      pub bytes-left : runLeft (doing work j) xs w sc .bytes ≡ e .bytes
       bytes-left = ap (λ (r : RunLeft). r .bytes) run-left
 
-      pub scratch-left : runLeftAt stage verify d s p k xs w sc .scratch ≡ e .scratch
+      pub scratch-left : runLeft (doing work j) xs w sc .scratch ≡ e .scratch
       scratch-left = ap (λ (r : RunLeft). r .scratch) run-left

@@ -10,19 +10,15 @@ use Rattle.common.specs.Lists.{overlaid, Bytes}
 use Rattle.common.proofs.Bytes.{bytes-overlaid, overlaid-length, overlaid-before, overlaid-after}
 use Rattle.common.proofs.Numbers.{no-row-given}
 use Rattle.device.specs.declared.Part.{Part}
-use Rattle.device.specs.declared.Device.{Device}
 use Rattle.device.specs.Parts.{lengthOf, startOf}
 use Rattle.device.proofs.Claims.{blocks-end-inside}
 use Rattle.units.specs.Units.{units, back, bytesIn, torn, lent, pairs}
 use Rattle.units.specs.Address.{byteOf}
 use Rattle.units.proofs.Widths.{lent-is, lent-whole, back-units, whole, cells, in-law, leave-law}
-use Rattle.model_types.specs.declared.Pins.{Pins}
-use Rattle.model_types.specs.declared.State.{State}
 use Rattle.model_types.specs.Cells.{ones, Cells}
-use Rattle.loader.specs.declared.Stage.the-variants.{Clearing}
 use Rattle.loader.specs.Walks.{risesIn}
 use Rattle.loader_run.specs.declared.Ran.{Ran}
-use Rattle.loader_run.specs.Runs.{runNumber, RunLeft, runLeftAt, lentNumber, asBytes, lentLeftAt}
+use Rattle.loader_run.specs.Runs.{runNumber, RunLeft, lentNumber, asBytes, runFirst, runLeft, lentRun, doing}
 use Rattle.loader_run.proofs.Lending.{units-number, some, lent-made}
 use Rattle.loader_run_claims.specs.Wear.{heldIn, formulaBy}
 use Rattle.loader_run_claims.specs.Mission.{Start, Demand3}
@@ -32,6 +28,8 @@ use Rattle.loader_run_claims.proofs.Mission.{ends-well, demand-3}
 use Rattle.loader_run_claims.specs.Ends.{endMode, erasedFrom}
 use Rattle.model_types.specs.States.{atRest}
 use Rattle.units.proofs.Pairs.{dbl, dbl-is, taken, dropped}
+use Rattle.loader.specs.declared.Work.the-variants.{Load}
+use Rattle.loader_run.specs.declared.Job.{Job}
 
 -- the units of bytes are cells
 pub units-cells : (part : Part) (xs : List ℕ) → Bytes xs → Cells part (units (part .word) xs)
@@ -44,9 +42,9 @@ held-units false xs a n = refl
 held-units true xs a n =
     ap₂ (λ (i j : ℕ). pairs (take j (drop i xs))) (sym (dbl-is a)) (sym (dbl-is n)) ∙ taken (drop (dbl a) xs) n ∙ ap (λ (z : List ℕ). take n z) (dropped xs a)
 
-module _ (verify : Bool) (d : Device) (s : State) (p : Pins) (k : ℕ) (array wanted scratch : List ℕ) (t : LentStart d s p k array wanted scratch) where
+module _ (verify : Bool) (j : Job) (array wanted scratch : List ℕ) (t : LentStart j array wanted scratch) where
   abbrev w : Bool
-  w = d .part .word
+  w = j .device .part .word
 
   abbrev X : List ℕ
   X = units w array
@@ -55,40 +53,40 @@ module _ (verify : Bool) (d : Device) (s : State) (p : Pins) (k : ℕ) (array wa
   W = units w wanted
 
   abbrev a : ℕ
-  a = startOf (d .part) k
+  a = startOf (j .device .part) (j .block)
 
   abbrev from : ℕ
   from = byteOf w a
 
-  none : lentNumber d s p k (length array) (length wanted) (length scratch) ≡ 0
-  unfolding runNumber
+  none : lentNumber j (length array) (length wanted) (length scratch) ≡ 0
+  unfolding runFirst
   none = no-row-given (t .accepted)
 
-  n0 : runNumber d s p k (length X) (length W) (length (units w scratch)) ≡ 0
-  n0 = units-number Clearing verify d s p k array wanted scratch none
+  n0 : runNumber j (length X) (length W) (length (units w scratch)) ≡ 0
+  n0 = units-number (doing (Load verify) j) array wanted scratch none
 
   -- a start in units
-  pub start : Start d s p k X W (units w scratch)
+  pub start : Start j X W (units w scratch)
   start =
       record {
-        base = taken-if d s p k X W (units w scratch) n0 (t .programs) (t .erases) (units-cells (d .part) wanted (t .wanted-bytes)) (units-cells (d .part) array (t .array-bytes));
+        base = taken-if j X W (units w scratch) n0 (t .programs) (t .erases) (units-cells (j .device .part) wanted (t .wanted-bytes)) (units-cells (j .device .part) array (t .array-bytes));
         high = t .high;
         unlock = t .unlock;
       }
 
-  demand : Demand3 verify d s p k X W (units w scratch)
-  demand = demand-3 verify d s p k X W (units w scratch) start
+  demand : Demand3 verify j X W (units w scratch)
+  demand = demand-3 verify j X W (units w scratch) start
 
   have : (0 < length (lent w array)) × (0 < length (lent w wanted)) × (0 < length (lent w scratch))
-  have = some Clearing verify d s p k array wanted scratch none
+  have = some (doing (Load verify) j) array wanted scratch none
 
   -- the run on lent bytes is that of their units, as bytes again
-  made : lentLeftAt Clearing verify d s p k array wanted scratch ≡ asBytes w (runLeftAt Clearing verify d s p k X W (units w scratch))
+  made : lentRun (doing (Load verify) j) array wanted scratch ≡ asBytes w (runLeft (doing (Load verify) j) X W (units w scratch))
   made =
       let e = lent-is w array (have .0) in
       let f = lent-is w wanted (have .1) in
       let g = lent-is w scratch (have .2) in
-      lent-made Clearing verify d s p k array wanted scratch none ∙ (λ i. asBytes w (runLeftAt Clearing verify d s p k (e i) (f i) (g i)))
+      lent-made (doing (Load verify) j) array wanted scratch none ∙ (λ i. asBytes w (runLeft (doing (Load verify) j) (e i) (f i) (g i)))
 
   whole-array : torn w (length array) ≡ false
   whole-array = lent-whole w array (have .0)
@@ -96,7 +94,7 @@ module _ (verify : Bool) (d : Device) (s : State) (p : Pins) (k : ℕ) (array wa
   whole-wanted : torn w (length wanted) ≡ false
   whole-wanted = lent-whole w wanted (have .1)
 
-  lw : length W ≡ lengthOf (d .part) k
+  lw : length W ≡ lengthOf (j .device .part) (j .block)
   lw = start .base .wanted
 
   -- as many bytes as units say
@@ -104,7 +102,7 @@ module _ (verify : Bool) (d : Device) (s : State) (p : Pins) (k : ℕ) (array wa
   bytes-wanted = whole w wanted whole-wanted
 
   inside : a + length W ≤ length X
-  inside = omega (arith, lw, start .base .sized, blocks-end-inside (d .part) k)
+  inside = omega (arith, lw, start .base .sized, blocks-end-inside (j .device .part) (j .block))
 
   inside-bytes : from + length wanted ≤ length array
   inside-bytes = in-law w array a (length W) from (length wanted) refl bytes-wanted inside
@@ -121,10 +119,10 @@ module _ (verify : Bool) (d : Device) (s : State) (p : Pins) (k : ℕ) (array wa
       let n : length (overlaid array from wanted) ≡ length array = overlaid-length array from wanted inside-bytes in
       sym (ap (back w) laid-units) ∙ back-units w (overlaid array from wanted) (ap (λ (m : ℕ). torn w m) n ∙ whole-array) (bytes-overlaid array from wanted (t .array-bytes) (t .wanted-bytes))
 
-  left : lentLeftAt Clearing verify d s p k array wanted scratch .bytes ≡ overlaid array from wanted
+  left : lentRun (doing (Load verify) j) array wanted scratch .bytes ≡ overlaid array from wanted
   left = ap (λ (r : RunLeft). r .bytes) made ∙ ap (back w) (demand .array-left) ∙ laid-back
 
-  pub lent-demand-3 : LentDemand3 verify d s p k array wanted scratch
+  pub lent-demand-3 : LentDemand3 verify j array wanted scratch
   lent-demand-3 =
       record {
         well = ap (λ (r : RunLeft). r .ran .end) made ∙ demand .well;
@@ -137,10 +135,10 @@ module _ (verify : Bool) (d : Device) (s : State) (p : Pins) (k : ℕ) (array wa
         behind = λ x h. rw left (subst (λ (y : ℕ). getD (overlaid array from wanted) y 0 ≡ getD array y 0) (let q : from + (length wanted + (x - from - length wanted)) ≡ x = omega arith in q) (overlaid-after array from wanted inside-bytes (x - from - length wanted)));
         array-left = left;
         scratch-left = ap (λ (r : RunLeft). r .scratch) made ∙ ap (back w) (demand .scratch-left) ∙ back-units w wanted whole-wanted (t .wanted-bytes);
-        returned = ap (λ (r : RunLeft). r .ran) made ∙ ends-well verify d s p k X W (units w scratch) start ∙ ap (λ (n : ℕ). well-at (heldIn a n X)) lw;
+        returned = ap (λ (r : RunLeft). r .ran) made ∙ ends-well verify j X W (units w scratch) start ∙ ap (λ (n : ℕ). well-at (heldIn a n X)) lw;
         by-formula = ap (λ (r : RunLeft). r .ran .count) made ∙ demand .by-formula;
         of-units = demand;
       }
     where
       well-at : List ℕ → Ran
-      well-at ys = record { count = formulaBy verify d W ys; end = 0; address = 0; state = atRest (erasedFrom (risesIn W ys) k s) (endMode verify W ys) 128 }
+      well-at ys = record { count = formulaBy verify (j .device) W ys; end = 0; address = 0; state = atRest (erasedFrom (risesIn W ys) (j .block) (j .state)) (endMode verify W ys) 128 }

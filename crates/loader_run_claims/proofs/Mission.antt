@@ -21,7 +21,6 @@ use Rattle.device.specs.Parts.{startOf, blockOf, lengthOf, lengthIn}
 use Rattle.device.proofs.Claims.{blocks-end-inside}
 use Rattle.model_types.specs.declared.Pins.{Pins}
 use Rattle.model_types.specs.declared.Cycle.{Cycle}
-use Rattle.model_types.specs.declared.State.{State}
 use Rattle.model_types.specs.declared.Effect.{Effect}
 use Rattle.model_types.specs.declared.Effect.the-variants.{Nothing, Program, Erase}
 use Rattle.model_types.specs.States.{atRest}
@@ -30,12 +29,11 @@ use Rattle.model_types.specs.Counts.{stop, countOf, raised, raisedAt, worn}
 use Rattle.model_types.proofs.Wears.{count-worn}
 use Rattle.model_history.proofs.Counting.{count-begun}
 use Rattle.model_types.proofs.Bands.{not-low}
-use Rattle.loader.specs.declared.Stage.the-variants.{Clearing}
 use Rattle.loader_steps.specs.Front.{endAddress}
 use Rattle.loader.specs.Walks.{risesIn}
 use Rattle.loader_run.specs.declared.Ran.{Ran}
 use Rattle.loader_run.specs.Inner.{bound}
-use Rattle.loader_run.specs.Runs.{beginningAt, driven, leftAt, runLeftAt}
+use Rattle.loader_run.specs.Runs.{driven, beginning, runEnd, runLeft, doing}
 use Rattle.loader_run_claims.specs.Wear.{begunAt, heldIn, heldBy, baseOf, erasesOf, programsIn, programsOf, differing, formula, loadFormula, formulaBy, operationsOf}
 use Rattle.model_history.specs.History.{Bus, World, worldOf, worldAfter, effectsIn, begunOver, uncut, totalOf, eraseOf, programIn, programOf, erasesBegun, programsBegun}
 use Rattle.loader_run.proofs.Good.{good}
@@ -48,6 +46,8 @@ use Rattle.loader_run_claims.proofs.Starts.{none-refuses}
 use Rattle.model_history.proofs.Wearing.{lies}
 use Rattle.loader_run_claims.proofs.Least.{least}
 use Rattle.loader_run_claims.proofs.OwnHistory.{noted-total, deviceIn, own-leads as leads, own-begins as begins, own-smooth as smooth}
+use Rattle.loader.specs.declared.Work.the-variants.{Load}
+use Rattle.loader_run.specs.declared.Job.{Job}
 
 -- the programs of a load are counted, all in the block, and none of them is an erase
 programs-counted : (j i a n b : ℕ) (w s : List ℕ) → a ≤ b + i → b + i + j ≤ a + n → totalOf (programIn a n) (programsOf j b i w s) ≡ differing j i w s
@@ -154,154 +154,154 @@ unfolding raisedAt
 other-count true v k j h z = count-worn v k j h ∙ if-false (eqb k j) (raised (countOf v j)) (countOf v j) (ne-eqb k j (λ e. z (sym e)))
 other-count false v k j h z = refl
 
-module _ (verify : Bool) (d : Device) (s : State) (p : Pins) (k : ℕ) (xs w sc : List ℕ) (start : Start d s p k xs w sc) where
+module _ (verify : Bool) (j : Job) (xs w sc : List ℕ) (start : Start j xs w sc) where
   abbrev a : ℕ
-  a = startOf (d .part) k
+  a = startOf (j .device .part) (j .block)
 
   abbrev ys : List ℕ
-  ys = heldIn (startOf (d .part) k) (length w) xs
+  ys = heldIn (startOf (j .device .part) (j .block)) (length w) xs
 
   -- how the load is left
-  loaded : Left Clearing verify d s p k xs w sc (goal verify d s p k xs w sc (start .base)) (operationsOf (d .part) k a w ys) (cyclesBy verify d p a w ys)
-  loaded = good-load verify d s p k xs w sc (start .base) (not-low (d .part) p (start .high)) (start .unlock)
+  loaded : Left (doing (Load verify) j) xs w sc (goal verify j xs w sc (start .base)) (operationsOf (j .device .part) (j .block) a w ys) (cyclesBy verify (j .device) (j .pins) a w ys)
+  loaded = good-load verify j xs w sc (start .base) (not-low (j .device .part) (j .pins) (start .high)) (start .unlock)
 
   -- a load ends well, with the count of the formula, in mode read array with status 80H
-  pub ends-well : runLeftAt Clearing verify d s p k xs w sc .ran ≡ record { count = formulaBy verify d w ys; end = 0; address = 0; state = atRest (erasedFrom (risesIn w ys) k s) (endMode verify w ys) 128 }
+  pub ends-well : runLeft (doing (Load verify) j) xs w sc .ran ≡ record { count = formulaBy verify (j .device) w ys; end = 0; address = 0; state = atRest (erasedFrom (risesIn w ys) (j .block) (j .state)) (endMode verify w ys) 128 }
   unfolding endAddress
-  ends-well = ran-left verify d s p k xs w sc (start .base) _ _ _ loaded
+  ends-well = ran-left verify j xs w sc (start .base) _ _ _ loaded
 
   -- the array is as before with the wanted bytes over the block, and scratch holds them too
-  pub array-left : runLeftAt Clearing verify d s p k xs w sc .bytes ≡ overlaid xs a w
-  array-left = bytes-left verify d s p k xs w sc (start .base) _ _ _ loaded
+  pub array-left : runLeft (doing (Load verify) j) xs w sc .bytes ≡ overlaid xs a w
+  array-left = bytes-left verify j xs w sc (start .base) _ _ _ loaded
 
-  pub scratch-wanted : runLeftAt Clearing verify d s p k xs w sc .scratch ≡ w
-  scratch-wanted = scratch-left verify d s p k xs w sc (start .base) _ _ _ loaded
+  pub scratch-wanted : runLeft (doing (Load verify) j) xs w sc .scratch ≡ w
+  scratch-wanted = scratch-left verify j xs w sc (start .base) _ _ _ loaded
 
   inside : a + length w ≤ length xs
-  inside = let g = good d s p k (length xs) (length w) (length sc) (none-refuses d s p k xs w sc (start .base)) in omega (arith, blocks-end-inside (d .part) k, g .sized, g .wanted)
+  inside = let g = good j (length xs) (length w) (length sc) (none-refuses j xs w sc (start .base)) in omega (arith, blocks-end-inside (j .device .part) (j .block), g .sized, g .wanted)
 
   -- the block holds the wanted bytes
-  pub block-holds : heldIn a (length w) (runLeftAt Clearing verify d s p k xs w sc .bytes) ≡ w
+  pub block-holds : heldIn a (length w) (runLeft (doing (Load verify) j) xs w sc .bytes) ≡ w
   block-holds =
       ap (λ (z : List ℕ). heldIn a (length w) z) array-left
       ∙ ap (λ (z : List ℕ). take (length w) z) (drop-at (take a xs) _ a (length-take-le a xs (let h = inside in omega arith)))
       ∙ take-at w (drop (length w) (drop a xs)) (length w) refl
 
   -- every other byte is as before
-  pub others-stay : (x : ℕ) → (x < a → getD (runLeftAt Clearing verify d s p k xs w sc .bytes) x 0 ≡ getD xs x 0) × (a + length w ≤ x → getD (runLeftAt Clearing verify d s p k xs w sc .bytes) x 0 ≡ getD xs x 0)
+  pub others-stay : (x : ℕ) → (x < a → getD (runLeft (doing (Load verify) j) xs w sc .bytes) x 0 ≡ getD xs x 0) × (a + length w ≤ x → getD (runLeft (doing (Load verify) j) xs w sc .bytes) x 0 ≡ getD xs x 0)
   others-stay x = (
     λ h. rw array-left (overlaid-before xs a w inside x h),
     λ h. rw array-left (subst (λ (y : ℕ). getD (overlaid xs a w) y 0 ≡ getD xs y 0) (let q : a + (length w + (x - a - length w)) ≡ x = omega arith in q) (overlaid-after xs a w inside (x - a - length w))),
   )
 
   -- it erases once if some bit must rise, otherwise never; it programs each byte that then differs once and no other
-  pub begins-just : begunAt Clearing verify d s p k xs w sc ≡ operationsOf (d .part) k a w ys
+  pub begins-just : begunAt (doing (Load verify) j) xs w sc ≡ operationsOf (j .device .part) (j .block) a w ys
   begins-just = loaded .begun
 
   -- the cycles that it makes, one after the other; the model refuses none of them, and none cuts an operation
-  pub cycles-are : cyclesAt Clearing verify d s p k xs w sc ≡ cyclesBy verify d p a w ys
+  pub cycles-are : cyclesAt (doing (Load verify) j) xs w sc ≡ cyclesBy verify (j .device) (j .pins) a w ys
   cycles-are = loaded .made
 
-  pub none-refused : smoothAt Clearing verify d s p k xs w sc ≡ true
+  pub none-refused : smoothAt (doing (Load verify) j) xs w sc ≡ true
   none-refused = loaded .smooth
 
   -- no uncut cycles from the same start to the same block contents begin fewer erases of the block or fewer programs in it
-  pub nothing-less : (bs : List Bus) → Cells (d .part) xs → uncut (effectsIn d (worldOf s xs) bs) ≡ true
-      → heldIn a (length w) (worldAfter d (worldOf s xs) bs .bytes) ≡ w
-      → (totalOf (eraseOf k) (begunAt Clearing verify d s p k xs w sc) ≤ totalOf (eraseOf k) (begunOver d (worldOf s xs) bs))
-      × (totalOf (programIn a (length w)) (begunAt Clearing verify d s p k xs w sc) ≤ totalOf (programIn a (length w)) (begunOver d (worldOf s xs) bs))
+  pub nothing-less : (bs : List Bus) → Cells (j .device .part) xs → uncut (effectsIn (j .device) (worldOf (j .state) xs) bs) ≡ true
+      → heldIn a (length w) (worldAfter (j .device) (worldOf (j .state) xs) bs .bytes) ≡ w
+      → (totalOf (eraseOf (j .block)) (begunAt (doing (Load verify) j) xs w sc) ≤ totalOf (eraseOf (j .block)) (begunOver (j .device) (worldOf (j .state) xs) bs))
+      × (totalOf (programIn a (length w)) (begunAt (doing (Load verify) j) xs w sc) ≤ totalOf (programIn a (length w)) (begunOver (j .device) (worldOf (j .state) xs) bs))
   nothing-less bs bx u h =
-      let g = good d s p k (length xs) (length w) (length sc) (none-refuses d s p k xs w sc (start .base)) in
-      let m = least d k (worldOf s xs) w bs (g .sized) (g .wanted) bx (g .free) u h in
-      let e = ap (λ (es : List Effect). totalOf (eraseOf k) es) begins-just ∙ operations-erase (d .part) k a w ys in
-      let q = ap (λ (es : List Effect). totalOf (programIn a (length w)) es) begins-just ∙ operations-program (d .part) k a w ys in
+      let g = good j (length xs) (length w) (length sc) (none-refuses j xs w sc (start .base)) in
+      let m = least (j .device) (j .block) (worldOf (j .state) xs) w bs (g .sized) (g .wanted) bx (g .free) u h in
+      let e = ap (λ (es : List Effect). totalOf (eraseOf (j .block)) es) begins-just ∙ operations-erase (j .device .part) (j .block) a w ys in
+      let q = ap (λ (es : List Effect). totalOf (programIn a (length w)) es) begins-just ∙ operations-program (j .device .part) (j .block) a w ys in
       (omega (arith, m .0), omega (arith, m .1))
 
   -- what the block held, by the block's own length
-  held-is : (zs : List ℕ) → heldIn a (length w) zs ≡ heldBy (d .part) k zs
+  held-is : (zs : List ℕ) → heldIn a (length w) zs ≡ heldBy (j .device .part) (j .block) zs
   held-is zs = ap (λ (n : ℕ). heldIn a n zs) (start .base .wanted)
 
-  pub cycles-listed : cyclesAt Clearing verify d s p k xs w sc ≡ cyclesBy verify d p a w (heldBy (d .part) k xs)
-  cycles-listed = cycles-are ∙ ap (λ (zs : List ℕ). cyclesBy verify d p a w zs) (held-is xs)
+  pub cycles-listed : cyclesAt (doing (Load verify) j) xs w sc ≡ cyclesBy verify (j .device) (j .pins) a w (heldBy (j .device .part) (j .block) xs)
+  cycles-listed = cycles-are ∙ ap (λ (zs : List ℕ). cyclesBy verify (j .device) (j .pins) a w zs) (held-is xs)
 
   -- an address outside the block
-  others-are : (x : ℕ) → (blockOf (d .part) x ≡ k → ⊥) → getD (runLeftAt Clearing verify d s p k xs w sc .bytes) x 0 ≡ getD xs x 0
+  others-are : (x : ℕ) → (blockOf (j .device .part) x ≡ j .block → ⊥) → getD (runLeft (doing (Load verify) j) xs w sc .bytes) x 0 ≡ getD xs x 0
   others-are x h = go (ltb x a) refl (ltb x (a + length w)) refl
     where
-      go : (b : Bool) → ltb x a ≡ b → (c : Bool) → ltb x (a + length w) ≡ c → getD (runLeftAt Clearing verify d s p k xs w sc .bytes) x 0 ≡ getD xs x 0
+      go : (b : Bool) → ltb x a ≡ b → (c : Bool) → ltb x (a + length w) ≡ c → getD (runLeft (doing (Load verify) j) xs w sc .bytes) x 0 ≡ getD xs x 0
       go true e c f = others-stay x .0 (ltb-true x a e)
       go false e false f = others-stay x .1 (ltb-false x (a + length w) f)
       go false e true f =
-          absurd (h (lies (d .part) k x (ltb-false x a e) (subst (λ (n : ℕ). x < a + n) (start .base .wanted) (ltb-true x (a + length w) f))))
+          absurd (h (lies (j .device .part) (j .block) x (ltb-false x a e) (subst (λ (n : ℕ). x < a + n) (start .base .wanted) (ltb-true x (a + length w) f))))
 
   abbrev own : List Bus
-  own = ownCycles verify d s p k xs w sc
+  own = ownCycles verify j xs w sc
 
   -- where the load's own cycles lead
-  own-world : worldAfter d (worldOf s xs) own ≡ worldOf (runLeftAt Clearing verify d s p k xs w sc .ran .state) (runLeftAt Clearing verify d s p k xs w sc .bytes)
-  unfolding leftAt driven
+  own-world : worldAfter (j .device) (worldOf (j .state) xs) own ≡ worldOf (runLeft (doing (Load verify) j) xs w sc .ran .state) (runLeft (doing (Load verify) j) xs w sc .bytes)
+  unfolding runEnd driven
   own-world =
-      leads d w (bound (length w)) (beginningAt Clearing verify d s p k xs sc)
+      leads (j .device) w (bound (length w)) (beginning (doing (Load verify) j) xs sc)
       ∙ ap deviceIn (loaded .end)
       ∙ sym (λ i. worldOf (ends-well i .state) (array-left i))
 
-  own-holds : Brings d (worldOf s xs) k w own
+  own-holds : Brings (j .device) (worldOf (j .state) xs) (j .block) w own
   own-holds =
       record {
-        whole = smooth d w (bound (length w)) (beginningAt Clearing verify d s p k xs sc) none-refused .1;
-        there = ap (λ (v : World). heldBy (d .part) k (v .bytes)) own-world ∙ sym (held-is (runLeftAt Clearing verify d s p k xs w sc .bytes)) ∙ block-holds;
+        whole = smooth (j .device) w (bound (length w)) (beginning (doing (Load verify) j) xs sc) none-refused .1;
+        there = ap (λ (v : World). heldBy (j .device .part) (j .block) (v .bytes)) own-world ∙ sym (held-is (runLeft (doing (Load verify) j) xs w sc .bytes)) ∙ block-holds;
       }
 
   -- the counts of erases
-  wear-left : runLeftAt Clearing verify d s p k xs w sc .ran .state .wear ≡ (if risesIn w ys then worn (s .wear) k else s .wear)
+  wear-left : runLeft (doing (Load verify) j) xs w sc .ran .state .wear ≡ (if risesIn w ys then worn (j .state .wear) (j .block) else j .state .wear)
   wear-left = ap (λ (r : Ran). r .state .wear) ends-well
 
   -- with no bit to raise every count is as it was
-  pub wear-kept : risesIn w ys ≡ false → runLeftAt Clearing verify d s p k xs w sc .ran .state .wear ≡ s .wear
-  wear-kept e = wear-left ∙ if-false (risesIn w ys) (worn (s .wear) k) (s .wear) e
+  pub wear-kept : risesIn w ys ≡ false → runLeft (doing (Load verify) j) xs w sc .ran .state .wear ≡ j .state .wear
+  wear-kept e = wear-left ∙ if-false (risesIn w ys) (worn (j .state .wear) (j .block)) (j .state .wear) e
 
-  worn-block : countOf (s .wear) k ≤ stop
-      → countOf (runLeftAt Clearing verify d s p k xs w sc .ran .state .wear) k ≡ min (countOf (s .wear) k + totalOf (eraseOf k) (begunAt Clearing verify d s p k xs w sc)) stop
+  worn-block : countOf (j .state .wear) (j .block) ≤ stop
+      → countOf (runLeft (doing (Load verify) j) xs w sc .ran .state .wear) (j .block) ≡ min (countOf (j .state .wear) (j .block) + totalOf (eraseOf (j .block)) (begunAt (doing (Load verify) j) xs w sc)) stop
   worn-block c =
-      ap (λ (v : Wear). countOf v k) wear-left
-      ∙ own-count (risesIn w ys) (s .wear) k (seven (d .part) k (some-bytes d k (start .base .block))) c
-      ∙ ap (λ (n : ℕ). min (countOf (s .wear) k + n) stop) (sym (ap (λ (es : List Effect). totalOf (eraseOf k) es) begins-just ∙ operations-erase (d .part) k a w ys))
+      ap (λ (v : Wear). countOf v (j .block)) wear-left
+      ∙ own-count (risesIn w ys) (j .state .wear) (j .block) (seven (j .device .part) (j .block) (some-bytes (j .device) (j .block) (start .base .block))) c
+      ∙ ap (λ (n : ℕ). min (countOf (j .state .wear) (j .block) + n) stop) (sym (ap (λ (es : List Effect). totalOf (eraseOf (j .block)) es) begins-just ∙ operations-erase (j .device .part) (j .block) a w ys))
 
-  worn-others : (j : ℕ) → j < 7 → (j ≡ k → ⊥) → countOf (runLeftAt Clearing verify d s p k xs w sc .ran .state .wear) j ≡ countOf (s .wear) j
-  worn-others j h z = ap (λ (v : Wear). countOf v j) wear-left ∙ other-count (risesIn w ys) (s .wear) k j h z
+  worn-others : (o : ℕ) → o < 7 → (o ≡ j .block → ⊥) → countOf (runLeft (doing (Load verify) j) xs w sc .ran .state .wear) o ≡ countOf (j .state .wear) o
+  worn-others o h z = ap (λ (v : Wear). countOf v o) wear-left ∙ other-count (risesIn w ys) (j .state .wear) (j .block) o h z
 
   -- nothing wears less than the load's own cycles
-  least-wear : Cells (d .part) xs → (bs : List Bus) → Brings d (worldOf s xs) k w bs → NoFewer d (worldOf s xs) k own bs
+  least-wear : Cells (j .device .part) xs → (bs : List Bus) → Brings (j .device) (worldOf (j .state) xs) (j .block) w bs → NoFewer (j .device) (worldOf (j .state) xs) (j .block) own bs
   least-wear bx bs h =
-      let m = nothing-less bs bx (h .whole) (held-is (worldAfter d (worldOf s xs) bs .bytes) ∙ h .there) in
+      let m = nothing-less bs bx (h .whole) (held-is (worldAfter (j .device) (worldOf (j .state) xs) bs .bytes) ∙ h .there) in
       record {
-        erases = subst (λ (n : ℕ). n ≤ erasesBegun d (worldOf s xs) k bs) (sym (weighs (eraseOf k) refl)) (m .0);
+        erases = subst (λ (n : ℕ). n ≤ erasesBegun (j .device) (worldOf (j .state) xs) (j .block) bs) (sym (weighs (eraseOf (j .block)) refl)) (m .0);
         programs =
-            subst (λ (n : ℕ). n ≤ programsBegun d (worldOf s xs) k bs) (sym (weighs (programOf (d .part) k) refl))
-            (subst (λ (n : ℕ). totalOf (programIn a n) (begunAt Clearing verify d s p k xs w sc) ≤ totalOf (programIn a n) (begunOver d (worldOf s xs) bs)) (start .base .wanted) (m .1));
+            subst (λ (n : ℕ). n ≤ programsBegun (j .device) (worldOf (j .state) xs) (j .block) bs) (sym (weighs (programOf (j .device .part) (j .block)) refl))
+            (subst (λ (n : ℕ). totalOf (programIn a n) (begunAt (doing (Load verify) j) xs w sc) ≤ totalOf (programIn a n) (begunOver (j .device) (worldOf (j .state) xs) bs)) (start .base .wanted) (m .1));
       }
     where
-      weighs : (f : Effect → ℕ) → f Nothing ≡ 0 → totalOf f (begunOver d (worldOf s xs) own) ≡ totalOf f (begunAt Clearing verify d s p k xs w sc)
+      weighs : (f : Effect → ℕ) → f Nothing ≡ 0 → totalOf f (begunOver (j .device) (worldOf (j .state) xs) own) ≡ totalOf f (begunAt (doing (Load verify) j) xs w sc)
       weighs f z =
-          sym (noted-total f z (begunOver d (worldOf s xs) own))
-          ∙ ap (λ (es : List Effect). totalOf f es) (begins d w (bound (length w)) (beginningAt Clearing verify d s p k xs sc))
+          sym (noted-total f z (begunOver (j .device) (worldOf (j .state) xs) own))
+          ∙ ap (λ (es : List Effect). totalOf f es) (begins (j .device) w (bound (length w)) (beginning (doing (Load verify) j) xs sc))
 
   -- demand 3 whole
-  pub demand-3 : Demand3 verify d s p k xs w sc
+  pub demand-3 : Demand3 verify j xs w sc
   demand-3 =
       record {
         well = ap (λ (r : Ran). r .end) ends-well;
-        block = sym (held-is (runLeftAt Clearing verify d s p k xs w sc .bytes)) ∙ block-holds;
+        block = sym (held-is (runLeft (doing (Load verify) j) xs w sc .bytes)) ∙ block-holds;
         others = others-are;
         array-left = array-left;
-        begins = begins-just ∙ ap (λ (ys : List ℕ). operationsOf (d .part) k a w ys) (held-is xs);
-        own-accepted = smooth d w (bound (length w)) (beginningAt Clearing verify d s p k xs sc) none-refused .0;
+        begins = begins-just ∙ ap (λ (ys : List ℕ). operationsOf (j .device .part) (j .block) a w ys) (held-is xs);
+        own-accepted = smooth (j .device) w (bound (length w)) (beginning (doing (Load verify) j) xs sc) none-refused .0;
         own-brings = own-holds;
         own-leads = own-world;
-        own-begins = begins d w (bound (length w)) (beginningAt Clearing verify d s p k xs sc);
+        own-begins = begins (j .device) w (bound (length w)) (beginning (doing (Load verify) j) xs sc);
         least-wear = least-wear;
-        counted = ap (λ (r : Ran). r .count) ends-well ∙ sym (ap (λ (cs : List Cycle). length cs) cycles-are ∙ cycles-long verify d p a w ys);
-        by-formula = ap (λ (r : Ran). r .count) ends-well ∙ ap (λ (ys : List ℕ). formulaBy verify d w ys) (held-is xs);
+        counted = ap (λ (r : Ran). r .count) ends-well ∙ sym (ap (λ (cs : List Cycle). length cs) cycles-are ∙ cycles-long verify (j .device) (j .pins) a w ys);
+        by-formula = ap (λ (r : Ran). r .count) ends-well ∙ ap (λ (ys : List ℕ). formulaBy verify (j .device) w ys) (held-is xs);
         worn-block = worn-block;
         worn-others = worn-others;
         scratch-left = scratch-wanted;

@@ -13,14 +13,14 @@ use Rattle.common.proofs.Numbers.{no-row-given}
 use Rattle.device.specs.declared.Device.{Device}
 use Rattle.device.specs.Parts.{sizeOf, lengthOf}
 use Rattle.model_types.specs.declared.Pins.{Pins}
-use Rattle.model_types.specs.declared.State.{State}
 use Rattle.model_types.specs.Cells.{Cells}
 use Rattle.model_types.specs.Levels.{rpLow, badPins}
 use Rattle.model_rules.proofs.Facts.{parts-proper}
 use Rattle.loader_steps.specs.Front.{barredPins, wrongLengths}
-use Rattle.loader_run.specs.Runs.{runRows, runNumber}
+use Rattle.loader_run.specs.Runs.{runRows, runNumber, runFirst}
 use Rattle.loader_run.proofs.Good.{good}
 use Rattle.loader_run_claims.specs.Mission.{Taken}
+use Rattle.loader_run.specs.declared.Job.{Job}
 
 -- pins that do not bar a run are not bad, with RP# not low; and the other way round
 pub levels-of : (d : Device) (p : Pins) → barredPins (d .part) p ≡ false → (badPins (d .part) p ≡ false) × (rpLow p ≡ false)
@@ -40,31 +40,31 @@ lengths-right : (d : Device) (k w sc : ℕ) → w ≡ lengthOf (d .part) k → s
 unfolding wrongLengths
 lengths-right d k w sc e f = or-both (not (eqb w (lengthOf (d .part) k))) (not (eqb sc (lengthOf (d .part) k))) (right w _ e) (right sc _ f)
 
-module _ (d : Device) (s : State) (p : Pins) (k : ℕ) (xs w sc : List ℕ) where
+module _ (j : Job) (xs w sc : List ℕ) where
   -- such a start is refused by no number
-  pub none-refuses : Taken d s p k xs w sc → runNumber d s p k (length xs) (length w) (length sc) ≡ 0
-  unfolding runNumber
+  pub none-refuses : Taken j xs w sc → runNumber j (length xs) (length w) (length sc) ≡ 0
+  unfolding runFirst
   none-refuses t = no-row-given rows
     where
-      rows : NoRow (runRows d s p k (length xs) (length w) (length sc))
+      rows : NoRow (runRows j (length xs) (length w) (length sc))
       rows =
-          past (t .known) (past (right (length xs) (sizeOf (d .part)) (t .sized)) (past (t .proper) (past (levels-both d p (t .levels) (t .up))
-          (past (t .block) (past (lengths-right d k (length w) (length sc) (t .wanted) (t .scratch)) (past (t .idle) end))))))
+          past (t .known) (past (right (length xs) (sizeOf (j .device .part)) (t .sized)) (past (t .proper) (past (levels-both (j .device) (j .pins) (t .levels) (t .up))
+          (past (t .block) (past (lengths-right (j .device) (j .block) (length w) (length sc) (t .wanted) (t .scratch)) (past (t .idle) end))))))
 
   -- and a run that no number refuses starts so, with busy times up to 65,535 and units of the part's width
-  pub taken-if : runNumber d s p k (length xs) (length w) (length sc) ≡ 0 → d .program ≤ 65535 → d .erase ≤ 65535 → Cells (d .part) w → Cells (d .part) xs → Taken d s p k xs w sc
+  pub taken-if : runNumber j (length xs) (length w) (length sc) ≡ 0 → j .device .program ≤ 65535 → j .device .erase ≤ 65535 → Cells (j .device .part) w → Cells (j .device .part) xs → Taken j xs w sc
   taken-if n programs erases bytes held =
-      let g = good d s p k (length xs) (length w) (length sc) n in
+      let g = good j (length xs) (length w) (length sc) n in
       record {
         known = g .known;
         sized = g .sized;
-        proper = parts-proper d s (g .proper);
+        proper = parts-proper (j .device) (j .state) (g .proper);
         idle = g .free;
         block = g .block;
         wanted = g .wanted;
         scratch = g .scratch;
-        up = levels-of d p (g .levels) .1;
-        levels = levels-of d p (g .levels) .0;
+        up = levels-of (j .device) (j .pins) (g .levels) .1;
+        levels = levels-of (j .device) (j .pins) (g .levels) .0;
         programs = programs;
         erases = erases;
         bytes = bytes;
@@ -72,5 +72,5 @@ module _ (d : Device) (s : State) (p : Pins) (k : ℕ) (xs w sc : List ℕ) wher
       }
 
   -- both at once
-  pub taken-exactly : d .program ≤ 65535 → d .erase ≤ 65535 → Cells (d .part) w → Cells (d .part) xs → Taken d s p k xs w sc ↔ (runNumber d s p k (length xs) (length w) (length sc) ≡ 0)
+  pub taken-exactly : j .device .program ≤ 65535 → j .device .erase ≤ 65535 → Cells (j .device .part) w → Cells (j .device .part) xs → Taken j xs w sc ↔ (runNumber j (length xs) (length w) (length sc) ≡ 0)
   taken-exactly programs erases bytes held = (none-refuses, λ n. taken-if n programs erases bytes held)

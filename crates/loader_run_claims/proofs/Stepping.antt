@@ -13,7 +13,6 @@ use Rattle.common.proofs.Numbers.{no-row-given, no-head, no-tail}
 use Rattle.device.specs.declared.Device.{Device}
 use Rattle.device.specs.Parts as parts
 use Rattle.device.specs.Parts.{unknownPart, unknownDevice}
-use Rattle.model_types.specs.declared.Pins.{Pins}
 use Rattle.model_types.specs.declared.Kind.{Kind}
 use Rattle.model_types.specs.declared.Kind.the-variants.{Read, Write, Idle}
 use Rattle.model_types.specs.declared.Mode.{Mode}
@@ -40,14 +39,14 @@ use Rattle.loader.specs.declared.Given.{Given}
 use Rattle.loader.specs.Moves.{nextIn, nextOf}
 use Rattle.loader_steps.specs.Outs.{cycleOf}
 use Rattle.loader_steps.specs.Stores.{storeIn, storeOf}
-use Rattle.loader_steps.specs.Front.{barredPins, startNumber, stepNumber, recordAt, endAddress, turnIn, turnGiven, stepGiven, scratchAfter}
+use Rattle.loader_steps.specs.Front.{barredPins, startNumber, stepNumber, endAddress, turnIn, turnGiven, stepGiven, scratchAfter, recordOf}
 use Rattle.loader_steps.proofs.Again.{taken, start-gives, start-again, step-on, step-again}
 use Rattle.loader_run.specs.declared.Ran.{Ran}
 use Rattle.loader_run.specs.Turns as turns
 use Rattle.loader_run.specs.Turns.{Config, numberIn, answerTo, moved, turnOf, after}
 use Rattle.loader_run.specs.Inner.{bound}
 use Rattle.loader.specs.Stages.{stageIs, isEnded, endBy}
-use Rattle.loader_run.specs.Runs.{runRows, ranBy, begin, driven, runLeftAt}
+use Rattle.loader_run.specs.Runs.{runRows, ranBy, begin, driven, runLeft, doing}
 use Rattle.loader_run.proofs.Turning.{took, turn-ended, turn-going, ended-stays}
 use Rattle.loader_run.specs.Promises.{Promise}
 use Rattle.loader_run.proofs.Ending.{always-ends, run-first, run-accepted}
@@ -55,6 +54,8 @@ use Rattle.loader_run_claims.specs.Wear.{heldIn, formulaBy}
 use Rattle.loader_run_claims.specs.Made.{isSmooth, smoothTurn, smoothIn}
 use Rattle.loader_run_claims.specs.Ends.{endNumber, wellRan, faultRan, ranAs, Whole}
 use Rattle.loader_run_claims.specs.Stepping.{answerAt, Handed, runAt, overAt, Stepped}
+use Rattle.loader.specs.declared.Work.the-variants.{Load}
+use Rattle.loader_run.specs.declared.Job.{Job}
 
 -- the last of some turns
 after-last : (j : ℕ) (d : Device) (w : List ℕ) (c : Config) → after (suc j) d w c ≡ turnOf d w (after j d w c)
@@ -190,113 +191,113 @@ known-part d e =
     let c = b || eqb (d .erase) 0 in
     or-left a (eqb (d .program) 0) (or-left b (eqb (d .erase) 0) (or-left c (eqb (d .suspend) 0) (or-left (c || eqb (d .suspend) 0) (ltb 100 (d .suspend)) e)))
 
-pub start-passes : (d : Device) (s : State) (p : Pins) (k array w sc : ℕ) → NoRow (runRows d s p k array w sc) → startNumber (d .part) p k w sc ≡ 0
+pub start-passes : (j : Job) (array w sc : ℕ) → NoRow (runRows j array w sc) → startNumber (j .device .part) (j .pins) (j .block) w sc ≡ 0
 unfolding startNumber
-start-passes d s p k array w sc r =
+start-passes j array w sc r =
     let r4 = no-tail (no-tail (no-tail r)) in
     let r5 = no-tail r4 in
     let r6 = no-tail r5 in
-    no-row-given (past (known-part d (no-head r)) (past (no-head r4) (past (no-head r5) (past (no-head r6) end))))
+    no-row-given (past (known-part (j .device) (no-head r)) (past (no-head r4) (past (no-head r5) (past (no-head r6) end))))
 
 -- a record that has ended tells its number and address
 pub over-given : (stage : Stage) (l : Loader) (w : List ℕ) → isEnded stage ≡ true → turnIn stage l w ≡ Over (endBy stage) (endAddress l (endBy stage))
 over-given stage l w e = if-true (isEnded stage) (Over (endBy stage) (endAddress l (endBy stage))) (Out (cycleOf l w)) e
 
 -- a run whose cycles the model takes, stepped by hand
-module _ (stage : Stage) (verify : Bool) (going : isEnded stage ≡ false) (d : Device) (s : State) (p : Pins) (k : ℕ) (xs w sc : List ℕ) (free : NoRow (runRows d s p k (length xs) (length w) (length sc)))
-    (smooth : smoothIn (bound (length w)) d w (begin d s (recordAt (d .part) p k stage verify) xs sc) ≡ true) where
+module _ (j : Job) (xs w sc : List ℕ) (free : NoRow (runRows j (length xs) (length w) (length sc)))
+    (smooth : smoothIn (bound (length w)) (j .device) w (begin (j .device) (j .state) (recordOf (j .work) (j .device .part) (j .pins) (j .block)) xs sc) ≡ true) where
   abbrev at : ℕ → Config
-  at j = runAt stage verify d s p k xs w sc j
+  at o = runAt j xs w sc o
 
   abbrev over : ℕ → Bool
-  over j = overAt stage verify d s p k xs w sc j
+  over o = overAt j xs w sc o
 
   abbrev ran : Ran
-  ran = runLeftAt stage verify d s p k xs w sc .ran
+  ran = runLeft j xs w sc .ran
 
-  last : (j : ℕ) → at (suc j) ≡ turnOf d w (at j)
-  last j = after-last j d w (at 0)
+  last : (o : ℕ) → at (suc o) ≡ turnOf (j .device) w (at o)
+  last o = after-last o (j .device) w (at 0)
 
-  promise : Promise stage verify d s p k xs w sc ran (runLeftAt stage verify d s p k xs w sc .bytes) (runLeftAt stage verify d s p k xs w sc .scratch)
-  promise = run-first stage verify going d s p k xs w sc free
+  promise : Promise j xs w sc ran (runLeft j xs w sc .bytes) (runLeft j xs w sc .scratch)
+  promise = run-first j xs w sc free
 
   bounded : isEnded (at (bound (length w)) .loader .stage) ≡ true
   unfolding driven
-  bounded = always-ends d w (at 0)
+  bounded = always-ends (j .device) w (at 0)
 
-  fine : (j : ℕ) → over j ≡ false → isRefusal (decideOf d (at j .state) (cycleOf (at j .loader) w) (length (at j .bytes)) 0 .reply) ≡ false
-  fine j e = smooth-taken d w (at j) e (smooth-at (bound (length w)) j d w (at 0) bounded smooth e)
+  fine : (o : ℕ) → over o ≡ false → isRefusal (decideOf (j .device) (at o .state) (cycleOf (at o .loader) w) (length (at o .bytes)) 0 .reply) ≡ false
+  fine o e = smooth-taken (j .device) w (at o) e (smooth-at (bound (length w)) o (j .device) w (at 0) bounded smooth e)
 
   -- the tests of every step pass
-  passes : (j : ℕ) → stepNumber (at j .loader) (length w) (length (at j .scratch)) ≡ 0
+  passes : (o : ℕ) → stepNumber (at o .loader) (length w) (length (at o .scratch)) ≡ 0
   passes zero =
-      let q = start-passes d s p k (length xs) (length w) (length sc) free in
-      subst (λ (g : Given). stepNumber (g .loader) (length w) (length sc) ≡ 0) (start-gives stage verify (d .part) p k w sc q) (start-again stage verify (d .part) p k w sc q)
-  passes (suc j) = subst (λ (c : Config). stepNumber (c .loader) (length w) (length (c .scratch)) ≡ 0) (sym (last j)) (go (over j) refl (passes j))
+      let q = start-passes j (length xs) (length w) (length sc) free in
+      subst (λ (g : Given). stepNumber (g .loader) (length w) (length sc) ≡ 0) (start-gives (j .work) (j .device .part) (j .pins) (j .block) w sc q) (start-again (j .work) (j .device .part) (j .pins) (j .block) w sc q)
+  passes (suc o) = subst (λ (c : Config). stepNumber (c .loader) (length w) (length (c .scratch)) ≡ 0) (sym (last o)) (go (over o) refl (passes o))
     where
-      go : (t : Bool) → over j ≡ t → stepNumber (at j .loader) (length w) (length (at j .scratch)) ≡ 0
-          → stepNumber (turnOf d w (at j) .loader) (length w) (length (turnOf d w (at j) .scratch)) ≡ 0
-      go true e h = subst (λ (c : Config). stepNumber (c .loader) (length w) (length (c .scratch)) ≡ 0) (sym (turn-ended d w (at j) e)) h
-      go false e h = turn-passes d w (at j) e (fine j e) h
+      go : (t : Bool) → over o ≡ t → stepNumber (at o .loader) (length w) (length (at o .scratch)) ≡ 0
+          → stepNumber (turnOf (j .device) w (at o) .loader) (length w) (length (turnOf (j .device) w (at o) .scratch)) ≡ 0
+      go true e h = subst (λ (c : Config). stepNumber (c .loader) (length w) (length (c .scratch)) ≡ 0) (sym (turn-ended (j .device) w (at o) e)) h
+      go false e h = turn-passes (j .device) w (at o) e (fine o e) h
 
   -- the run is before its end for as many cycles as it counts
-  lasting : (j : ℕ) → over j ≡ false → j < ran .count
-  lasting j e = go (ltb j (ran .count)) refl
+  lasting : (o : ℕ) → over o ≡ false → o < ran .count
+  lasting o e = go (ltb o (ran .count)) refl
     where
-      go : (t : Bool) → ltb j (ran .count) ≡ t → j < ran .count
-      go true q = ltb-true j (ran .count) q
-      go false q = absurd (unlike (sym (ended-later (ran .count) j d w (at 0) (ltb-false j (ran .count) q) (promise .ended)) ∙ e))
+      go : (t : Bool) → ltb o (ran .count) ≡ t → o < ran .count
+      go true q = ltb-true o (ran .count) q
+      go false q = absurd (unlike (sym (ended-later (ran .count) o (j .device) w (at 0) (ltb-false o (ran .count) q) (promise .ended)) ∙ e))
 
-  counting : (j : ℕ) → over j ≡ false → over (suc j) ≡ true → ran .count ≡ suc j
-  counting j e z = go (ltb (suc j) (ran .count)) refl (lasting j e)
+  counting : (o : ℕ) → over o ≡ false → over (suc o) ≡ true → ran .count ≡ suc o
+  counting o e z = go (ltb (suc o) (ran .count)) refl (lasting o e)
     where
-      go : (t : Bool) → ltb (suc j) (ran .count) ≡ t → j < ran .count → ran .count ≡ suc j
-      go true q h = absurd (unlike (sym z ∙ promise .first (suc j) (ltb-true (suc j) (ran .count) q)))
-      go false q h = let x = ltb-false (suc j) (ran .count) q in omega arith
+      go : (t : Bool) → ltb (suc o) (ran .count) ≡ t → o < ran .count → ran .count ≡ suc o
+      go true q h = absurd (unlike (sym z ∙ promise .first (suc o) (ltb-true (suc o) (ran .count) q)))
+      go false q h = let x = ltb-false (suc o) (ran .count) q in omega arith
 
   -- where it has ended it is what the run returns
-  ended-as : (j : ℕ) → over j ≡ false → over (suc j) ≡ true → ranBy (at (suc j)) ≡ ran
-  ended-as j e z = sym (promise .returned ∙ ap (λ (i : ℕ). ranBy (at i)) (counting j e z))
+  ended-as : (o : ℕ) → over o ≡ false → over (suc o) ≡ true → ranBy (at (suc o)) ≡ ran
+  ended-as o e z = sym (promise .returned ∙ ap (λ (i : ℕ). ranBy (at i)) (counting o e z))
 
-  stepping : (j b : ℕ) → over j ≡ false → Handed d w (at j) b → stepGiven (at j .loader) b w (at j .scratch) ≡ turnGiven (at (suc j) .loader) w
-  stepping j b e h = step-given d w (at j) e (fine j e) (passes j) b h ∙ ap (λ (c : Config). turnGiven (c .loader) w) (sym (last j))
+  stepping : (o b : ℕ) → over o ≡ false → Handed (j .device) w (at o) b → stepGiven (at o .loader) b w (at o .scratch) ≡ turnGiven (at (suc o) .loader) w
+  stepping o b e h = step-given (j .device) w (at o) e (fine o e) (passes o) b h ∙ ap (λ (c : Config). turnGiven (c .loader) w) (sym (last o))
 
-  ending : (j b : ℕ) → over j ≡ false → over (suc j) ≡ true → Handed d w (at j) b → stepGiven (at j .loader) b w (at j .scratch) .turn ≡ Over (ran .end) (ran .address)
-  ending j b e z h =
-      ap (λ (g : Given). g .turn) (stepping j b e h)
-      ∙ over-given (at (suc j) .loader .stage) (at (suc j) .loader) w z
-      ∙ ap (λ (r : Ran). Over (r .end) (r .address)) (ended-as j e z)
+  ending : (o b : ℕ) → over o ≡ false → over (suc o) ≡ true → Handed (j .device) w (at o) b → stepGiven (at o .loader) b w (at o .scratch) .turn ≡ Over (ran .end) (ran .address)
+  ending o b e z h =
+      ap (λ (g : Given). g .turn) (stepping o b e h)
+      ∙ over-given (at (suc o) .loader .stage) (at (suc o) .loader) w z
+      ∙ ap (λ (r : Ran). Over (r .end) (r .address)) (ended-as o e z)
 
-  pub by-hand : Stepped stage verify d s p k xs w sc
+  pub by-hand : Stepped j xs w sc
   by-hand =
       record {
-        starts = start-gives stage verify (d .part) p k w sc (start-passes d s p k (length xs) (length w) (length sc) free);
-        lasts = λ j. (lasting j, promise .first j);
-        takes = λ j e. turn-taken d w (at j) e (fine j e) (passes j);
-        answers = λ j e. turn-read d w (at j) e (fine j e) (passes j);
-        makes = λ j e.
-            let m : moved d w (at j) ≡ at (suc j) = sym (turn-going d w (at j) e) ∙ sym (last j) in
+        starts = start-gives (j .work) (j .device .part) (j .pins) (j .block) w sc (start-passes j (length xs) (length w) (length sc) free);
+        lasts = λ o. (lasting o, promise .first o);
+        takes = λ o e. turn-taken (j .device) w (at o) e (fine o e) (passes o);
+        answers = λ o e. turn-read (j .device) w (at o) e (fine o e) (passes o);
+        makes = λ o e.
+            let m : moved (j .device) w (at o) ≡ at (suc o) = sym (turn-going (j .device) w (at o) e) ∙ sym (last o) in
             (ap (λ (c : Config). c .state) m, ap (λ (c : Config). c .bytes) m);
         steps = stepping;
-        stores = λ j b e h. step-stored d w (at j) e (fine j e) (passes j) b h ∙ ap (λ (c : Config). c .scratch) (sym (last j));
+        stores = λ o b e h. step-stored (j .device) w (at o) e (fine o e) (passes o) b h ∙ ap (λ (c : Config). c .scratch) (sym (last o));
         ends = ending;
         counts = counting;
-        leaves = λ j e z.
-            let n = counting j e z in
-            (ap (λ (r : Ran). r .state) (ended-as j e z), sym (promise .array ∙ ap (λ (i : ℕ). at i .bytes) n), sym (promise .room ∙ ap (λ (i : ℕ). at i .scratch) n));
+        leaves = λ o e z.
+            let n = counting o e z in
+            (ap (λ (r : Ran). r .state) (ended-as o e z), sym (promise .array ∙ ap (λ (i : ℕ). at i .bytes) n), sym (promise .room ∙ ap (λ (i : ℕ). at i .scratch) n));
       }
 
 -- a run that returns what specs/Ends says counts a cycle, so nothing refused it
-some-counted : (verify : Bool) (d : Device) (s : State) (p : Pins) (k : ℕ) (w ys : List ℕ) → 0 < ranAs verify d s p k w ys .count
+some-counted : (verify : Bool) (j : Job) (w ys : List ℕ) → 0 < ranAs verify j w ys .count
 unfolding ranAs
-some-counted verify d s p k w ys =
-    if-ind (λ (r : Ran). 0 < r .count) (eqb (endNumber d p k w ys) 0) (wellRan verify d s k w ys) (faultRan d s p w ys (endNumber d p k w ys)) (λ e. some verify) (λ e. omega arith)
+some-counted verify j w ys =
+    if-ind (λ (r : Ran). 0 < r .count) (eqb (endNumber (j .device) (j .pins) (j .block) w ys) 0) (wellRan verify (j .device) (j .state) (j .block) w ys) (faultRan (j .device) (j .state) (j .pins) w ys (endNumber (j .device) (j .pins) (j .block) w ys)) (λ e. some verify) (λ e. omega arith)
   where
-    some : (v : Bool) → 0 < formulaBy v d w ys
+    some : (v : Bool) → 0 < formulaBy v (j .device) w ys
     some true = omega arith
     some false = omega arith
 
-pub stepped : (verify : Bool) (d : Device) (s : State) (p : Pins) (k : ℕ) (xs w sc : List ℕ) → Whole verify d s p k xs w sc → Stepped Clearing verify d s p k xs w sc
-stepped verify d s p k xs w sc h =
-    by-hand Clearing verify refl d s p k xs w sc
-    (run-accepted Clearing verify refl d s p k xs w sc .0 (subst (λ (r : Ran). 0 < r .count) (sym (h .ran)) (some-counted verify d s p k w (heldIn (parts.startOf (d .part) k) (length w) xs)))) (h .smooth)
+pub stepped : (verify : Bool) (j : Job) (xs w sc : List ℕ) → Whole verify j xs w sc → Stepped (doing (Load verify) j) xs w sc
+stepped verify j xs w sc h =
+    by-hand (doing (Load verify) j) xs w sc
+    (run-accepted (doing (Load verify) j) xs w sc .0 (subst (λ (r : Ran). 0 < r .count) (sym (h .ran)) (some-counted verify j w (heldIn (parts.startOf (j .device .part) (j .block)) (length w) xs)))) (h .smooth)

@@ -8,7 +8,8 @@ use Rattle.units.specs.Units.{bytesIn}
 use Rattle.model_types.specs.declared.Pins.{Pins}
 use Rattle.model_types.specs.States.{freshState}
 use Rattle.model_types.specs.Levels.{vppHigh, unlocked}
-use Rattle.loader_run.specs.Runs.{lentNumber}
+use Rattle.loader_run.specs.Runs.{lentNumber, jobOf}
+use Rattle.loader.specs.declared.Work.the-variants.{Load}
 
 -- a device with P 2, E 3, S 1
 abbrev pub deviceOf : ℕ → Bool → Device
@@ -23,7 +24,7 @@ levels rp vpp wp = record { rp = rp; vpp = vpp; wp = wp }
 abbrev pub startsAt : Pins → ℕ → Bool → ℕ → Bool
 startsAt p n word k =
     let d : Device = deviceOf n word in
-    (eqb (lentNumber d freshState p k (bytesIn word (sizeOf (d .part))) (bytesIn word (lengthOf (d .part) k)) (bytesIn word (lengthOf (d .part) k))) 0
+    (eqb (lentNumber (jobOf (Load true) d freshState p k) (bytesIn word (sizeOf (d .part))) (bytesIn word (lengthOf (d .part) k)) (bytesIn word (lengthOf (d .part) k))) 0
     && vppHigh (d .part) p)
     && unlocked (d .part) p 0
 

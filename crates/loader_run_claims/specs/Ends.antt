@@ -19,12 +19,13 @@ use Rattle.model_types.specs.declared.State.{State}
 use Rattle.model_types.specs.Levels.{vppLow, unlocked}
 use Rattle.model_types.specs.States.{atRest}
 use Rattle.model_types.specs.Counts.{worn}
-use Rattle.loader.specs.declared.Stage.the-variants.{Clearing}
 use Rattle.loader.specs.Walks.{risesIn, diffFrom}
 use Rattle.loader_run.specs.declared.Ran.{Ran}
-use Rattle.loader_run.specs.Runs.{runLeftAt}
 use Rattle.loader_run_claims.specs.Wear.{differing, heldIn, formulaBy}
 use Rattle.loader_run_claims.specs.Made.{busCycle, openingThen, cyclesBy, cyclesAt, smoothAt}
+use Rattle.loader.specs.declared.Work.the-variants.{Load}
+use Rattle.loader_run.specs.declared.Job.{Job}
+use Rattle.loader_run.specs.Runs.{runLeft, doing}
 
 -- the block holds what is wanted: nothing to erase or program
 unfoldable pub asWanted : List ℕ → List ℕ → Bool
@@ -82,8 +83,8 @@ abbrev pub faultRan : Device → State → Pins → List ℕ → List ℕ → �
 faultRan d s p w ys n = record { count = length w + 5; end = n; address = 0; state = atRest s Status (faultStatus d p w ys) }
 
 -- what such a run returns, what it leaves in array and scratch, and its cycles
-unfoldable pub ranAs : Bool → Device → State → Pins → ℕ → List ℕ → List ℕ → Ran
-ranAs verify d s p k w ys = if eqb (endNumber d p k w ys) 0 then wellRan verify d s k w ys else faultRan d s p w ys (endNumber d p k w ys)
+unfoldable pub ranAs : Bool → Job → List ℕ → List ℕ → Ran
+ranAs verify j w ys = if eqb (endNumber (j .device) (j .pins) (j .block) w ys) 0 then wellRan verify (j .device) (j .state) (j .block) w ys else faultRan (j .device) (j .state) (j .pins) w ys (endNumber (j .device) (j .pins) (j .block) w ys)
 
 -- .. what it leaves in the array
 unfoldable pub bytesAs : Device → Pins → ℕ → ℕ → List ℕ → List ℕ → List ℕ → List ℕ
@@ -98,9 +99,9 @@ unfoldable pub cyclesAs : Bool → Device → Pins → ℕ → ℕ → List ℕ 
 cyclesAs verify d p k a w ys = if eqb (endNumber d p k w ys) 0 then cyclesBy verify d p a w ys else faultCycles p a w ys
 
 -- what a run returns, what it leaves in array and scratch, the cycles that it makes, and that the model takes them all and nothing is cut
-pub record Whole (verify : Bool) (d : Device) (s : State) (p : Pins) (k : ℕ) (xs w sc : List ℕ) : Type 0 where
-  pub ran : runLeftAt Clearing verify d s p k xs w sc .ran ≡ ranAs verify d s p k w (heldIn (startOf (d .part) k) (length w) xs)
-  pub bytes : runLeftAt Clearing verify d s p k xs w sc .bytes ≡ bytesAs d p k (startOf (d .part) k) w (heldIn (startOf (d .part) k) (length w) xs) xs
-  pub scratch : runLeftAt Clearing verify d s p k xs w sc .scratch ≡ scratchAs d p k w (heldIn (startOf (d .part) k) (length w) xs)
-  pub made : cyclesAt Clearing verify d s p k xs w sc ≡ cyclesAs verify d p k (startOf (d .part) k) w (heldIn (startOf (d .part) k) (length w) xs)
-  pub smooth : smoothAt Clearing verify d s p k xs w sc ≡ true
+pub record Whole (verify : Bool) (j : Job) (xs w sc : List ℕ) : Type 0 where
+  pub ran : runLeft (doing (Load verify) j) xs w sc .ran ≡ ranAs verify j w (heldIn (startOf (j .device .part) (j .block)) (length w) xs)
+  pub bytes : runLeft (doing (Load verify) j) xs w sc .bytes ≡ bytesAs (j .device) (j .pins) (j .block) (startOf (j .device .part) (j .block)) w (heldIn (startOf (j .device .part) (j .block)) (length w) xs) xs
+  pub scratch : runLeft (doing (Load verify) j) xs w sc .scratch ≡ scratchAs (j .device) (j .pins) (j .block) w (heldIn (startOf (j .device .part) (j .block)) (length w) xs)
+  pub made : cyclesAt (doing (Load verify) j) xs w sc ≡ cyclesAs verify (j .device) (j .pins) (j .block) (startOf (j .device .part) (j .block)) w (heldIn (startOf (j .device .part) (j .block)) (length w) xs)
+  pub smooth : smoothAt (doing (Load verify) j) xs w sc ≡ true

@@ -10,33 +10,32 @@ use Rattle.model_types.specs.declared.Pins.{Pins}
 use Rattle.model_types.specs.declared.Kind.{Kind}
 use Rattle.model_types.specs.declared.Kind.the-variants.{Read, Write}
 use Rattle.model_types.specs.declared.Cycle.{Cycle}
-use Rattle.model_types.specs.declared.State.{State}
 use Rattle.model_types.specs.declared.Decision.{Decision}
 use Rattle.model_rules.specs.Cycles.{decideOf}
 use Rattle.model.specs.Arrays.{isRefusal}
-use Rattle.loader.specs.declared.Stage.{Stage}
-use Rattle.loader.specs.declared.Stage.the-variants.{Clearing}
 use Rattle.loader_steps.specs.Outs.{cycleOf}
 use Rattle.loader.specs.Walks.{risesIn}
 use Rattle.loader_run.specs.Turns.{Config, turnOf}
 use Rattle.loader_run.specs.Inner.{bound}
 use Rattle.loader.specs.Stages.{isEnded}
-use Rattle.loader_run.specs.Runs.{beginningAt}
 use Rattle.loader_run_claims.specs.Wear.{baseOf}
 use Rattle.model_history.specs.History.{isCut}
+use Rattle.loader.specs.declared.Work.the-variants.{Load}
+use Rattle.loader_run.specs.declared.Job.{Job}
+use Rattle.loader_run.specs.Runs.{beginning, doing}
 
 -- the cycles that k turns make, in their order
 abbrev pub madeIn : ℕ → Device → List ℕ → Config → List Cycle
 madeIn zero d w c = []
 madeIn (suc k) d w c = if isEnded (c .loader .stage) then madeIn k d w (turnOf d w c) else cycleOf (c .loader) w ∷ madeIn k d w (turnOf d w c)
 
--- the cycles made of block k from a stage on up to the end, with or without the verify after a load
-abbrev pub cyclesAt : Stage → Bool → Device → State → Pins → ℕ → List ℕ → List ℕ → List ℕ → List Cycle
-cyclesAt stage verify d s p k xs w sc = madeIn (bound (length w)) d w (beginningAt stage verify d s p k xs sc)
+-- the cycles that a job makes up to its end
+abbrev pub cyclesAt : Job → List ℕ → List ℕ → List ℕ → List Cycle
+cyclesAt j xs w sc = madeIn (bound (length w)) (j .device) w (beginning j xs sc)
 
 -- .. by a run
-abbrev pub cyclesOfLoad : Device → State → Pins → ℕ → List ℕ → List ℕ → List ℕ → List Cycle
-cyclesOfLoad d s p k xs w sc = cyclesAt Clearing true d s p k xs w sc
+abbrev pub cyclesOfLoad : Job → List ℕ → List ℕ → List ℕ → List Cycle
+cyclesOfLoad j xs w sc = cyclesAt (doing (Load true) j) xs w sc
 
 -- the model takes the cycle, and the cycle cuts nothing
 abbrev pub isSmooth : Decision → Bool
@@ -51,9 +50,9 @@ abbrev pub smoothIn : ℕ → Device → List ℕ → Config → Bool
 smoothIn zero d w c = true
 smoothIn (suc k) d w c = smoothTurn d w c && smoothIn k d w (turnOf d w c)
 
--- .. from a stage on up to the end
-abbrev pub smoothAt : Stage → Bool → Device → State → Pins → ℕ → List ℕ → List ℕ → List ℕ → Bool
-smoothAt stage verify d s p k xs w sc = smoothIn (bound (length w)) d w (beginningAt stage verify d s p k xs sc)
+-- .. by a job, up to its end
+abbrev pub smoothAt : Job → List ℕ → List ℕ → List ℕ → Bool
+smoothAt j xs w sc = smoothIn (bound (length w)) (j .device) w (beginning j xs sc)
 
 -- a cycle of a load, OE# normal
 abbrev pub busCycle : Pins → Kind → ℕ → ℕ → Cycle

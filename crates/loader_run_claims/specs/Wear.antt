@@ -9,19 +9,17 @@ use Rattle.common.specs.Choice.{if_then_else_}
 use Rattle.device.specs.declared.Part.{Part}
 use Rattle.device.specs.declared.Device.{Device}
 use Rattle.device.specs.Parts.{lengthOf, startOf}
-use Rattle.model_types.specs.declared.Pins.{Pins}
-use Rattle.model_types.specs.declared.State.{State}
 use Rattle.model_types.specs.declared.Effect.{Effect}
 use Rattle.model_types.specs.declared.Effect.the-variants.{Nothing, Program, Erase, CutProgram, CutErase}
 use Rattle.model.specs.Begun.{begunBy}
-use Rattle.loader.specs.declared.Stage.{Stage}
-use Rattle.loader.specs.declared.Stage.the-variants.{Clearing}
 use Rattle.loader_steps.specs.Outs.{cycleOf}
 use Rattle.loader.specs.Walks.{risesIn}
 use Rattle.loader_run.specs.Turns.{Config, turnOf}
 use Rattle.loader_run.specs.Inner.{bound}
 use Rattle.loader.specs.Stages.{isEnded}
-use Rattle.loader_run.specs.Runs.{beginningAt}
+use Rattle.loader.specs.declared.Work.the-variants.{Load}
+use Rattle.loader_run.specs.declared.Job.{Job}
+use Rattle.loader_run.specs.Runs.{beginning, doing}
 
 -- an operation noted before those that follow
 abbrev pub noted : Effect → List Effect → List Effect
@@ -45,13 +43,13 @@ abbrev pub begunIn : ℕ → Device → List ℕ → Config → List Effect
 begunIn zero d w c = []
 begunIn (suc k) d w c = noted (begunTurn d w c) (begunIn k d w (turnOf d w c))
 
--- what is begun of block k from a stage on up to the end, with or without the verify after a load
-abbrev pub begunAt : Stage → Bool → Device → State → Pins → ℕ → List ℕ → List ℕ → List ℕ → List Effect
-begunAt stage verify d s p k xs w sc = begunIn (bound (length w)) d w (beginningAt stage verify d s p k xs sc)
+-- what a job begins up to its end
+abbrev pub begunAt : Job → List ℕ → List ℕ → List ℕ → List Effect
+begunAt j xs w sc = begunIn (bound (length w)) (j .device) w (beginning j xs sc)
 
 -- .. by a run
-abbrev pub begunByLoad : Device → State → Pins → ℕ → List ℕ → List ℕ → List ℕ → List Effect
-begunByLoad d s p k xs w sc = begunAt Clearing true d s p k xs w sc
+abbrev pub begunByLoad : Job → List ℕ → List ℕ → List ℕ → List Effect
+begunByLoad j xs w sc = begunAt (doing (Load true) j) xs w sc
 
 -- the programs that bring the bytes from place i on, k of them, from s to w, in a block that starts at a
 abbrev pub programsOf : ℕ → ℕ → ℕ → List ℕ → List ℕ → List Effect

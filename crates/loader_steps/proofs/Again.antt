@@ -29,7 +29,9 @@ use Rattle.units.specs.Units.{carried}
 use Rattle.loader.specs.Moves.{movedTo, endedBy, statusIn, isReady, eraseFault, programFault, onward, afterReads, afterRead, pollMore, erasePolled, programPolled, verifyMore, nextIn, nextOf}
 use Rattle.loader_steps.specs.Addresses.{firstAddress}
 use Rattle.loader_steps.specs.Stores.{erasedWell, programmedWell, storeIn, storeOf}
-use Rattle.loader_steps.specs.Front.{barredPins, noBlock, wrongLengths, badRecord, startRows, stepRows, startNumber, stepNumber, recordAt, endAddress, turnIn, turnGiven, barredBy, isBarred, startAt, stepGiven, scratchAfter}
+use Rattle.loader_steps.specs.Front.{barredPins, noBlock, wrongLengths, badRecord, startRows, stepRows, startNumber, stepNumber, recordAt, endAddress, turnIn, turnGiven, barredBy, isBarred, startGiven, stepGiven, scratchAfter, recordOf}
+use Rattle.loader.specs.declared.Work.{Work}
+use Rattle.loader.specs.Stages.{firstStage, verifies}
 
 -- the number that an answer refuses by, 0 where it is no refusal
 abbrev pub barring : Turn → ℕ
@@ -78,34 +80,34 @@ module _ (n : ℕ) (l : Loader) (w : List ℕ) (r : Loader) where
           if-ind (λ (g : Given). isBarred (g .turn) ≡ true → (g .loader ≡ r) × (eqb n 0 ≡ false)) (eqb n 0) _ _
           (λ e b. absurd (unlike (sym b ∙ free-in (l .stage) l w .0))) (λ e b. (refl, e)) (ap isBarred q)
 
-module _ (stage : Stage) (verify : Bool) (part : Part) (p : Pins) (k : ℕ) (w sc : List ℕ) where
+module _ (work : Work) (part : Part) (p : Pins) (k : ℕ) (w sc : List ℕ) where
   abbrev startN : ℕ
   startN = startNumber part p k (length w) (length sc)
 
   -- refused by m exactly where m's row is the first that holds
-  pub start-numbers : (m : ℕ) → (m ≡ 0 → ⊥) → (startAt stage verify part p k w sc .turn ≡ Barred m) ↔ Foremost (startRows part p k (length w) (length sc)) m
-  unfolding startAt startNumber
+  pub start-numbers : (m : ℕ) → (m ≡ 0 → ⊥) → (startGiven work part p k w sc .turn ≡ Barred m) ↔ Foremost (startRows part p k (length w) (length sc)) m
+  unfolding startGiven startNumber
   start-numbers m z = (
     λ e. given-foremost (startRows part p k (length w) (length sc)) m z
-        (sym (judged-told startN (recordAt part p k stage verify) w (recordAt part p k (Ended startN) verify)) ∙ ap barring e),
+        (sym (judged-told startN (recordOf work part p k) w (recordAt part p k (Ended startN) (verifies work))) ∙ ap barring e),
     λ f. let q : given (startRows part p k (length w) (length sc)) ≡ m = foremost-given f in
-        ap (λ (g : Given). g .turn) (judged-barred startN (recordAt part p k stage verify) w (recordAt part p k (Ended startN) verify) (λ e. z (sym q ∙ e))) ∙ ap Barred q,
+        ap (λ (g : Given). g .turn) (judged-barred startN (recordOf work part p k) w (recordAt part p k (Ended startN) (verifies work)) (λ e. z (sym q ∙ e))) ∙ ap Barred q,
   )
 
-  pub start-accepted : (isBarred (startAt stage verify part p k w sc .turn) ≡ false) ↔ NoRow (startRows part p k (length w) (length sc))
-  unfolding startAt startNumber
+  pub start-accepted : (isBarred (startGiven work part p k w sc .turn) ≡ false) ↔ NoRow (startRows part p k (length w) (length sc))
+  unfolding startGiven startNumber
   start-accepted = (
     λ e. given-no-row (startRows part p k (length w) (length sc)) refl
-        (judged-free startN (recordAt part p k stage verify) w (recordAt part p k (Ended startN) verify) e),
-    λ f. ap (λ (g : Given). isBarred (g .turn)) (judged-given startN (recordAt part p k stage verify) w (recordAt part p k (Ended startN) verify) (no-row-given f)) ∙ free-in stage (recordAt part p k stage verify) w .0,
+        (judged-free startN (recordOf work part p k) w (recordAt part p k (Ended startN) (verifies work)) e),
+    λ f. ap (λ (g : Given). isBarred (g .turn)) (judged-given startN (recordOf work part p k) w (recordAt part p k (Ended startN) (verifies work)) (no-row-given f)) ∙ free-in (firstStage work) (recordOf work part p k) w .0,
   )
 
   -- a refused start gives a record that has ended with the number
-  pub start-refused : (m : ℕ) → startAt stage verify part p k w sc .turn ≡ Barred m → startAt stage verify part p k w sc .loader ≡ recordAt part p k (Ended m) verify
-  unfolding startAt
+  pub start-refused : (m : ℕ) → startGiven work part p k w sc .turn ≡ Barred m → startGiven work part p k w sc .loader ≡ recordAt part p k (Ended m) (verifies work)
+  unfolding startGiven
   start-refused m e =
-      let h = judged-left startN (recordAt part p k stage verify) w (recordAt part p k (Ended startN) verify) m e in
-      h .1 ∙ ap (λ (n : ℕ). recordAt part p k (Ended n) verify) (h .0)
+      let h = judged-left startN (recordOf work part p k) w (recordAt part p k (Ended startN) (verifies work)) m e in
+      h .1 ∙ ap (λ (n : ℕ). recordAt part p k (Ended n) (verifies work)) (h .0)
 
 module _ (l : Loader) (b : ℕ) (w sc : List ℕ) where
   abbrev stepN : ℕ
@@ -316,11 +318,11 @@ step-again l b w sc e =
     (kept-taken l (nextOf l b w (storeOf l b w sc)) (length w) (length sc) t (kept-next l w (l .stage) b (storeOf l b w sc)))
 
 -- and so is the record of an accepted start
-pub start-gives : (stage : Stage) (verify : Bool) (part : Part) (p : Pins) (k : ℕ) (w sc : List ℕ) → startNumber part p k (length w) (length sc) ≡ 0
-    → startAt stage verify part p k w sc ≡ turnGiven (recordAt part p k stage verify) w
-unfolding startAt
-start-gives stage verify part p k w sc e =
-    judged-given (startNumber part p k (length w) (length sc)) (recordAt part p k stage verify) w (recordAt part p k (Ended (startNumber part p k (length w) (length sc))) verify) e
+pub start-gives : (work : Work) (part : Part) (p : Pins) (k : ℕ) (w sc : List ℕ) → startNumber part p k (length w) (length sc) ≡ 0
+    → startGiven work part p k w sc ≡ turnGiven (recordOf work part p k) w
+unfolding startGiven
+start-gives work part p k w sc e =
+    judged-given (startNumber part p k (length w) (length sc)) (recordOf work part p k) w (recordAt part p k (Ended (startNumber part p k (length w) (length sc))) (verifies work)) e
 
 -- a block that there is has a unit
 pub some-block : (part : Part) (k : ℕ) → noBlock part k ≡ false → 0 < lengthOf part k
@@ -339,10 +341,10 @@ first-taken stage verify part p k w sc e =
     taken-back (recordAt part p k stage verify) w sc
     (record { known = no-head r; levels = no-head r2; block = no-head r3; lengths = no-head r4; wanted = n; place = h; polls = omega arith })
 
-pub start-again : (stage : Stage) (verify : Bool) (part : Part) (p : Pins) (k : ℕ) (w sc : List ℕ) → startNumber part p k (length w) (length sc) ≡ 0
-    → stepNumber (startAt stage verify part p k w sc .loader) (length w) (length sc) ≡ 0
-start-again stage verify part p k w sc e =
-    subst (λ (g : Given). stepNumber (g .loader) (length w) (length sc) ≡ 0) (sym (start-gives stage verify part p k w sc e)) (first-taken stage verify part p k (length w) (length sc) e)
+pub start-again : (work : Work) (part : Part) (p : Pins) (k : ℕ) (w sc : List ℕ) → startNumber part p k (length w) (length sc) ≡ 0
+    → stepNumber (startGiven work part p k w sc .loader) (length w) (length sc) ≡ 0
+start-again work part p k w sc e =
+    subst (λ (g : Given). stepNumber (g .loader) (length w) (length sc) ≡ 0) (sym (start-gives work part p k w sc e)) (first-taken (firstStage work) (verifies work) part p k (length w) (length sc) e)
 
 -- a record that has ended gives its end again, with the same record and scratch
 pub end-again : (l : Loader) (b n : ℕ) (w sc : List ℕ) → stepNumber l (length w) (length sc) ≡ 0 → l .stage ≡ Ended n

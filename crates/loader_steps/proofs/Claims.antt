@@ -1,6 +1,6 @@
 -- What is claimed of the loader, in one place.
 use mathlib.Core.Path.{_≡_}
-use mathlib.Core.Bool.{Bool, true, false}
+use mathlib.Core.Bool.{true, false}
 use mathlib.Core.List.{List}
 use mathlib.Core.Logic.{_↔_}
 use Prim.Native.Nat.{ℕ, _+_}
@@ -8,31 +8,31 @@ use lib.ListN.{length}
 use Rattle.common.specs.Numbers.{Foremost, NoRow}
 use Rattle.device.specs.declared.Part.{Part}
 use Rattle.model_types.specs.declared.Pins.{Pins}
-use Rattle.loader.specs.declared.Stage.{Stage}
 use Rattle.loader.specs.declared.Stage.the-variants.{Ended}
 use Rattle.loader.specs.declared.Loader.{Loader}
-use Rattle.loader.specs.Stages.{isEnded}
+use Rattle.loader.specs.Stages.{isEnded, verifies}
 use Rattle.loader.specs.declared.Turn.the-variants.{Over, Barred}
 use Rattle.loader.specs.Inner.{past}
 use Rattle.loader_steps.specs.Addresses.{firstAddress}
 use Rattle.loader_steps.specs.Inner.{hereOf}
-use Rattle.loader_steps.specs.Front.{startRows, stepRows, startNumber, stepNumber, recordAt, endAddress, isBarred, startAt, stepGiven, scratchAfter}
+use Rattle.loader_steps.specs.Front.{startRows, stepRows, startNumber, stepNumber, recordAt, endAddress, isBarred, startGiven, stepGiven, scratchAfter}
 use Rattle.loader_steps.specs.Ends.{endsLoad, endsVerify, ofLoad, ofVerify, withVerify, carriedOn}
 use Rattle.loader_steps.proofs.Again as again
 use Rattle.loader_steps.proofs.Ends as ends
 use Rattle.units.specs.Units.{carried}
+use Rattle.loader.specs.declared.Work.{Work}
 use Rattle.loader_steps.proofs.Follows as follows
 use Rattle.loader_steps.proofs.Unread as unread
 use Rattle.loader_steps.proofs.Limits as limits
 
--- The numbers, for the three starts alike (a load with the verify after it, a load alone, a verify alone), and for one at any other
--- stage: it is refused by m exactly where m's own condition holds and that of no number before it does ..
-pub start-refused-exactly : (stage : Stage) (verify : Bool) (part : Part) (p : Pins) (k : ℕ) (w sc : List ℕ) (m : ℕ) → (m ≡ 0 → ⊥)
-    → (startAt stage verify part p k w sc .turn ≡ Barred m) ↔ Foremost (startRows part p k (length w) (length sc)) m
+-- The numbers, for every start alike (a load with the verify after it, a load alone, a verify alone): it is refused by m exactly where
+-- m's own condition holds and that of no number before it does ..
+pub start-refused-exactly : (work : Work) (part : Part) (p : Pins) (k : ℕ) (w sc : List ℕ) (m : ℕ) → (m ≡ 0 → ⊥)
+    → (startGiven work part p k w sc .turn ≡ Barred m) ↔ Foremost (startRows part p k (length w) (length sc)) m
 start-refused-exactly = again.start-numbers
 
-pub start-accepted-exactly : (stage : Stage) (verify : Bool) (part : Part) (p : Pins) (k : ℕ) (w sc : List ℕ)
-    → (isBarred (startAt stage verify part p k w sc .turn) ≡ false) ↔ NoRow (startRows part p k (length w) (length sc))
+pub start-accepted-exactly : (work : Work) (part : Part) (p : Pins) (k : ℕ) (w sc : List ℕ)
+    → (isBarred (startGiven work part p k w sc .turn) ≡ false) ↔ NoRow (startRows part p k (length w) (length sc))
 start-accepted-exactly = again.start-accepted
 
 -- .. and so is a step.
@@ -47,13 +47,13 @@ step-accepted-exactly = again.step-accepted
 pub step-refused-leaves : (l : Loader) (b : ℕ) (w sc : List ℕ) (m : ℕ) → stepGiven l b w sc .turn ≡ Barred m → (stepGiven l b w sc .loader ≡ l) × (scratchAfter l b w sc ≡ sc)
 step-refused-leaves = again.step-refused
 
-pub start-refused-gives : (stage : Stage) (verify : Bool) (part : Part) (p : Pins) (k : ℕ) (w sc : List ℕ) (m : ℕ) → startAt stage verify part p k w sc .turn ≡ Barred m
-    → startAt stage verify part p k w sc .loader ≡ recordAt part p k (Ended m) verify
+pub start-refused-gives : (work : Work) (part : Part) (p : Pins) (k : ℕ) (w sc : List ℕ) (m : ℕ) → startGiven work part p k w sc .turn ≡ Barred m
+    → startGiven work part p k w sc .loader ≡ recordAt part p k (Ended m) (verifies work)
 start-refused-gives = again.start-refused
 
 -- Every record that an accepted start or step gives is taken again, with the scratch that is left; after an end too.
-pub start-taken-again : (stage : Stage) (verify : Bool) (part : Part) (p : Pins) (k : ℕ) (w sc : List ℕ) → startNumber part p k (length w) (length sc) ≡ 0
-    → stepNumber (startAt stage verify part p k w sc .loader) (length w) (length sc) ≡ 0
+pub start-taken-again : (work : Work) (part : Part) (p : Pins) (k : ℕ) (w sc : List ℕ) → startNumber part p k (length w) (length sc) ≡ 0
+    → stepNumber (startGiven work part p k w sc .loader) (length w) (length sc) ≡ 0
 start-taken-again = again.start-again
 
 pub step-taken-again : (l : Loader) (b : ℕ) (w sc : List ℕ) → stepNumber l (length w) (length sc) ≡ 0

@@ -1,6 +1,5 @@
 -- What a turn tells by its cases is what its start, or its step, tells.
 use mathlib.Core.Path.{_≡_, ap, _∙_}
-use mathlib.Core.Bool.{Bool}
 use mathlib.Core.List.{List, []}
 use Prim.Native.Nat.{ℕ}
 use lib.ListN.{length}
@@ -10,16 +9,16 @@ use Rattle.common.proofs.Choice.{if-ap}
 use Rattle.device.specs.declared.Part.{Part}
 use Rattle.model_types.specs.declared.Pins.{Pins}
 use Rattle.model_types.specs.declared.Cycle.{Cycle}
-use Rattle.loader.specs.declared.Stage.{Stage}
 use Rattle.loader.specs.declared.Stage.the-variants.{Ended}
 use Rattle.loader.specs.declared.Loader.{Loader}
 use Rattle.loader.specs.declared.Turn.the-variants.{Out, Over}
 use Rattle.loader.specs.declared.Given.{Given}
-use Rattle.loader.specs.Stages.{isEnded, endBy}
+use Rattle.loader.specs.Stages.{isEnded, endBy, verifies}
 use Rattle.loader.specs.Moves.{nextOf}
 use Rattle.loader_steps.specs.Outs.{cycleOf}
 use Rattle.loader_steps.specs.Stores.{storeOf}
-use Rattle.loader_steps.specs.Front.{startNumber, stepNumber, recordAt, endAddress, turnGiven, barredBy, startAt, stepGiven, turnTold, recordTold, toldAt, stepTold}
+use Rattle.loader_steps.specs.Front.{startNumber, stepNumber, recordAt, endAddress, turnGiven, barredBy, startGiven, stepGiven, turnTold, recordTold, startTold, stepTold, recordOf}
+use Rattle.loader.specs.declared.Work.{Work}
 
 abbrev told : Given → ℕ × List Cycle × List ℕ
 told g = turnTold (g .turn)
@@ -33,12 +32,12 @@ by-number n l bars w =
     if-ap told (eqb n 0) (turnGiven l w) (barredBy n bars) ∙ ap (λ (z : ℕ × List Cycle × List ℕ). if eqb n 0 then z else (n, [], [])) (record-told l w)
 
 -- an answer's equation with what it tells
-pub start-too : {r : Given} (stage : Stage) (verify : Bool) (part : Part) (p : Pins) (k : ℕ) (w sc : List ℕ) → r ≡ startAt stage verify part p k w sc
-    → (r ≡ startAt stage verify part p k w sc) × (turnTold (r .turn) ≡ toldAt stage verify part p k w sc)
-unfolding startAt toldAt
-start-too stage verify part p k w sc e =
+pub start-too : {r : Given} (work : Work) (part : Part) (p : Pins) (k : ℕ) (w sc : List ℕ) → r ≡ startGiven work part p k w sc
+    → (r ≡ startGiven work part p k w sc) × (turnTold (r .turn) ≡ startTold work part p k w sc)
+unfolding startGiven startTold
+start-too work part p k w sc e =
     let n = startNumber part p k (length w) (length sc) in
-    (e, ap told e ∙ by-number n (recordAt part p k stage verify) (recordAt part p k (Ended n) verify) w)
+    (e, ap told e ∙ by-number n (recordOf work part p k) (recordAt part p k (Ended n) (verifies work)) w)
 
 -- .. and with what is left
 pub step-too : {r : Given} {Left : Type 0} (l : Loader) (v : ℕ) (w sc : List ℕ) → r ≡ stepGiven l v w sc → Left

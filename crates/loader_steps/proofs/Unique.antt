@@ -18,7 +18,8 @@ use Rattle.loader.specs.Moves.{nextOf}
 use Rattle.loader_steps.specs.Addresses.{firstAddress}
 use Rattle.loader_steps.specs.Outs.{cycleAtStage, cycleOf}
 use Rattle.loader_steps.specs.Stores.{storeOf}
-use Rattle.loader_steps.specs.Front.{barredPins, noBlock, setupNumber, recordAt, endAddress, startGiven, loadStartGiven, verifyStartGiven, stepGiven, startTold, loadStartTold, verifyStartTold, stepTold, scratchLeft}
+use Rattle.loader_steps.specs.Front.{barredPins, noBlock, setupNumber, recordAt, endAddress, startGiven, stepGiven, startTold, stepTold, scratchLeft}
+use Rattle.loader.specs.declared.Work.{Work}
 
 pub barred-pins-unique : (part : Part) (p : Pins) → Unique (λ (r : Bool). r ≡ barredPins part p)
 barred-pins-unique part p = only (barredPins part p)
@@ -35,23 +36,11 @@ record-at-unique part p k stage verify = only (recordAt part p k stage verify)
 pub end-address-unique : (l : Loader) (n : ℕ) → Unique (λ (r : ℕ). r ≡ endAddress l n)
 end-address-unique l n = only (endAddress l n)
 
-pub start-unique : (part : Part) (p : Pins) (k : ℕ) (w sc : List ℕ) → Unique (λ (r : Given). r ≡ startGiven part p k w sc)
-start-unique part p k w sc = only (startGiven part p k w sc)
+pub start-unique : (work : Work) (part : Part) (p : Pins) (k : ℕ) (w sc : List ℕ) → Unique (λ (r : Given). r ≡ startGiven work part p k w sc)
+start-unique work part p k w sc = only (startGiven work part p k w sc)
 
-pub start-told-unique : (part : Part) (p : Pins) (k : ℕ) (w sc : List ℕ) → Unique (λ (told : ℕ × List Cycle × List ℕ). told ≡ startTold part p k w sc)
-start-told-unique part p k w sc = only (startTold part p k w sc)
-
-pub start-load-unique : (part : Part) (p : Pins) (k : ℕ) (w sc : List ℕ) → Unique (λ (r : Given). r ≡ loadStartGiven part p k w sc)
-start-load-unique part p k w sc = only (loadStartGiven part p k w sc)
-
-pub start-load-told-unique : (part : Part) (p : Pins) (k : ℕ) (w sc : List ℕ) → Unique (λ (told : ℕ × List Cycle × List ℕ). told ≡ loadStartTold part p k w sc)
-start-load-told-unique part p k w sc = only (loadStartTold part p k w sc)
-
-pub start-verify-unique : (part : Part) (p : Pins) (k : ℕ) (w sc : List ℕ) → Unique (λ (r : Given). r ≡ verifyStartGiven part p k w sc)
-start-verify-unique part p k w sc = only (verifyStartGiven part p k w sc)
-
-pub start-verify-told-unique : (part : Part) (p : Pins) (k : ℕ) (w sc : List ℕ) → Unique (λ (told : ℕ × List Cycle × List ℕ). told ≡ verifyStartTold part p k w sc)
-start-verify-told-unique part p k w sc = only (verifyStartTold part p k w sc)
+pub start-told-unique : (work : Work) (part : Part) (p : Pins) (k : ℕ) (w sc : List ℕ) → Unique (λ (told : ℕ × List Cycle × List ℕ). told ≡ startTold work part p k w sc)
+start-told-unique work part p k w sc = only (startTold work part p k w sc)
 
 pub step-unique : (l : Loader) (b : ℕ) (w sc : List ℕ) → Unique (λ (r : Given). r ≡ stepGiven l b w sc)
 step-unique l b w sc = only (stepGiven l b w sc)

@@ -13,12 +13,13 @@ use Rattle.model_types.specs.declared.Pins.{Pins}
 use Rattle.model_types.specs.declared.Cycle.{Cycle}
 use Rattle.model_types.specs.Levels.{rpLow, badPins}
 use Rattle.loader.specs.declared.Stage.{Stage}
-use Rattle.loader.specs.declared.Stage.the-variants.{Clearing, Closing, Ended}
+use Rattle.loader.specs.declared.Stage.the-variants.{Ended}
+use Rattle.loader.specs.declared.Work.{Work}
 use Rattle.loader.specs.declared.Loader.{Loader}
 use Rattle.loader.specs.declared.Turn.{Turn}
 use Rattle.loader.specs.declared.Turn.the-variants.{Out, Over, Barred}
 use Rattle.loader.specs.declared.Given.{Given}
-use Rattle.loader.specs.Stages.{isEnded, endBy}
+use Rattle.loader.specs.Stages.{isEnded, endBy, firstStage, verifies}
 use Rattle.loader.specs.Moves.{nextOf}
 use Rattle.units.specs.Units.{lent, back}
 use Rattle.loader_steps.specs.Outs.{byteHere, cycleOf}
@@ -101,41 +102,21 @@ isBarred (Out c) = false
 isBarred (Over n a) = false
 isBarred (Barred m) = true
 
--- a start at a stage: a refused one gives a record that has ended with the number
-unfoldable pub startAt : Stage → Bool → Part → Pins → ℕ → List ℕ → List ℕ → Given
-startAt stage verify part p k w sc =
-    if eqb (startNumber part p k (length w) (length sc)) 0 then turnGiven (recordAt part p k stage verify) w
-    else barredBy (startNumber part p k (length w) (length sc)) (recordAt part p k (Ended (startNumber part p k (length w) (length sc))) verify)
+-- the record that a start begins with: that of a load, with or without the verify after it, or of a verify alone
+abbrev pub recordOf : Work → Part → Pins → ℕ → Loader
+recordOf work part p k = recordAt part p k (firstStage work) (verifies work)
 
--- the three starts: of a load with the verify after it, of a load alone, of a verify alone
-abbrev pub startGiven : Part → Pins → ℕ → List ℕ → List ℕ → Given
-startGiven part p k w sc = startAt Clearing true part p k w sc
-
--- .. of a load alone
-abbrev pub loadStartGiven : Part → Pins → ℕ → List ℕ → List ℕ → Given
-loadStartGiven part p k w sc = startAt Clearing false part p k w sc
-
--- .. of a verify alone
-abbrev pub verifyStartGiven : Part → Pins → ℕ → List ℕ → List ℕ → Given
-verifyStartGiven part p k w sc = startAt Closing true part p k w sc
+-- a start: a refused one gives a record that has ended with the number
+unfoldable pub startGiven : Work → Part → Pins → ℕ → List ℕ → List ℕ → Given
+startGiven work part p k w sc =
+    if eqb (startNumber part p k (length w) (length sc)) 0 then turnGiven (recordOf work part p k) w
+    else barredBy (startNumber part p k (length w) (length sc)) (recordAt part p k (Ended (startNumber part p k (length w) (length sc))) (verifies work))
 
 -- what a start tells: its refusal, or what the record at its beginning tells
-unfoldable pub toldAt : Stage → Bool → Part → Pins → ℕ → List ℕ → List ℕ → ℕ × List Cycle × List ℕ
-toldAt stage verify part p k w sc =
-    if eqb (startNumber part p k (length w) (length sc)) 0 then recordTold (recordAt part p k stage verify) w
+unfoldable pub startTold : Work → Part → Pins → ℕ → List ℕ → List ℕ → ℕ × List Cycle × List ℕ
+startTold work part p k w sc =
+    if eqb (startNumber part p k (length w) (length sc)) 0 then recordTold (recordOf work part p k) w
     else (startNumber part p k (length w) (length sc), [], [])
-
--- .. of a load with the verify after it
-abbrev pub startTold : Part → Pins → ℕ → List ℕ → List ℕ → ℕ × List Cycle × List ℕ
-startTold part p k w sc = toldAt Clearing true part p k w sc
-
--- .. of a load alone
-abbrev pub loadStartTold : Part → Pins → ℕ → List ℕ → List ℕ → ℕ × List Cycle × List ℕ
-loadStartTold part p k w sc = toldAt Clearing false part p k w sc
-
--- .. of a verify alone
-abbrev pub verifyStartTold : Part → Pins → ℕ → List ℕ → List ℕ → ℕ × List Cycle × List ℕ
-verifyStartTold part p k w sc = toldAt Closing true part p k w sc
 
 -- a step: what is given .. (R-load-7)
 unfoldable pub stepGiven : Loader → ℕ → List ℕ → List ℕ → Given

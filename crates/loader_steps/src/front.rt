@@ -7,13 +7,16 @@ use loader::Given;
 use loader::Loader;
 use loader::Stage;
 use loader::Turn;
+use loader::Work;
+use loader::stages::first_stage;
 use loader::stages::stage_is;
+use loader::stages::verifies;
 use model_types::Pins;
 use model_types::levels::bad_pins;
 use model_types::levels::rp_low;
 ghost use mathlib.Core.Path.{_≡_};
 ghost use Rattle.device.specs.Parts.{lengthOf};
-ghost use Rattle.loader_steps.specs.Front.{barredPins, noBlock, setupNumber, badRecord, startNumber, stepNumber, recordAt, endAddress, turnIn, turnGiven, barredBy, startAt, startGiven, loadStartGiven, verifyStartGiven, stepGiven, turnTold, startTold, loadStartTold, verifyStartTold, stepTold, scratchLeft};
+ghost use Rattle.loader_steps.specs.Front.{barredPins, noBlock, setupNumber, badRecord, startNumber, stepNumber, recordAt, endAddress, turnIn, turnGiven, barredBy, startGiven, stepGiven, turnTold, startTold, stepTold, scratchLeft};
 ghost use Rattle.units.specs.Units.{units, lent};
 
 // Refusal 4 of a loader.
@@ -146,17 +149,10 @@ fn barred_by(n: u8, l: Loader) -> Given
     }
 }
 
-// The first cycle from a stage on.
-fn start_at(
-    stage: Stage,
-    verify: bool,
-    part: Part,
-    p: Pins,
-    block: u8,
-    wanted: &[u8],
-    scratch: &[u8],
-) -> Given
-    ensures { λ r. ⌜ r ≡ startAt stage verify part p block (lent (part .word) (now (wanted .entry))) (lent (part .word) (now (scratch .entry))) ⌝ }
+// The first cycle of a load, with or without the verify after it, or of a verify alone.
+pub fn start(work: Work, part: Part, p: Pins, block: u8, wanted: &[u8], scratch: &[u8]) -> Given
+    ensures { λ r. ⌜ r ≡ startGiven work part p block (lent (part .word) (now (wanted .entry))) (lent (part .word) (now (scratch .entry))) ⌝ }
+    ensures told { λ r. ⌜ turnTold (r .turn) ≡ startTold work part p block (lent (part .word) (now (wanted .entry))) (lent (part .word) (now (scratch .entry))) ⌝ }
 {
     let word = part.word;
     let n = start_number(
@@ -166,34 +162,12 @@ fn start_at(
         units::lent_in(word, wanted.len()),
         units::lent_in(word, scratch.len()),
     );
+    let stage = first_stage(work);
+    let verify = verifies(work);
     if n == 0 {
         return given_by(record_at(part, p, block, stage, verify), wanted);
     }
     barred_by(n, record_at(part, p, block, Stage::Ended(n), verify))
-}
-
-// The first cycle of a load with the verify after it.
-pub fn start(part: Part, p: Pins, block: u8, wanted: &[u8], scratch: &[u8]) -> Given
-    ensures { λ r. ⌜ r ≡ startGiven part p block (lent (part .word) (now (wanted .entry))) (lent (part .word) (now (scratch .entry))) ⌝ }
-    ensures told { λ r. ⌜ turnTold (r .turn) ≡ startTold part p block (lent (part .word) (now (wanted .entry))) (lent (part .word) (now (scratch .entry))) ⌝ }
-{
-    start_at(Stage::Clearing, true, part, p, block, wanted, scratch)
-}
-
-// The first cycle of a load alone.
-pub fn start_load(part: Part, p: Pins, block: u8, wanted: &[u8], scratch: &[u8]) -> Given
-    ensures { λ r. ⌜ r ≡ loadStartGiven part p block (lent (part .word) (now (wanted .entry))) (lent (part .word) (now (scratch .entry))) ⌝ }
-    ensures told { λ r. ⌜ turnTold (r .turn) ≡ loadStartTold part p block (lent (part .word) (now (wanted .entry))) (lent (part .word) (now (scratch .entry))) ⌝ }
-{
-    start_at(Stage::Clearing, false, part, p, block, wanted, scratch)
-}
-
-// The first cycle of a verify alone.
-pub fn start_verify(part: Part, p: Pins, block: u8, wanted: &[u8], scratch: &[u8]) -> Given
-    ensures { λ r. ⌜ r ≡ verifyStartGiven part p block (lent (part .word) (now (wanted .entry))) (lent (part .word) (now (scratch .entry))) ⌝ }
-    ensures told { λ r. ⌜ turnTold (r .turn) ≡ verifyStartTold part p block (lent (part .word) (now (wanted .entry))) (lent (part .word) (now (scratch .entry))) ⌝ }
-{
-    start_at(Stage::Closing, true, part, p, block, wanted, scratch)
 }
 
 // The data read by the cycle that was out go in, the next cycle or the end comes out.

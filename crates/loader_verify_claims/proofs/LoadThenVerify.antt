@@ -26,10 +26,9 @@ use Rattle.model_types.specs.Cells.{Cells}
 use Rattle.model_types.specs.States.{atRest}
 use Rattle.model_rules.proofs.Facts.{parts-proper}
 use Rattle.model.proofs.Keeping.{rest-proper}
-use Rattle.loader.specs.declared.Stage.the-variants.{Clearing, Closing}
 use Rattle.loader.specs.Walks.{risesIn}
 use Rattle.loader_run.specs.declared.Ran.{Ran}
-use Rattle.loader_run.specs.Runs.{runRows, runNumber, RunLeft, runRefused, runLeft, loadAlone, verifyAlone}
+use Rattle.loader_run.specs.Runs.{runRows, runNumber, RunLeft, runRefused, runLeft, runFirst, doing, jobOf}
 use Rattle.loader_run.proofs.Leaving.{left-refused}
 use Rattle.loader_run_claims.specs.Wear.{heldIn, baseOf, formula, loadFormula}
 use Rattle.loader_run_claims.specs.Made.{busCycle, readsThen, pollsThen, openingThen, eraseThen, programThen, programsThen, programmingThen, loadThen, closingOf, cyclesAt, cyclesOfLoad}
@@ -41,8 +40,10 @@ use Rattle.loader_run_claims.proofs.Grounds as grounds
 use Rattle.loader_run_claims.proofs.Total.{every-end}
 use Rattle.loader_run_claims.proofs.Mission.{formula-both}
 use Rattle.loader_verify_claims.specs.Verified.{unitsRead, verifyEnd, verifyAddress, verifyRan, Verified}
-use Rattle.loader_verify_claims.specs.LoadThenVerify.{countedOn, verifyAfter, thenVerify, bothLeft, cyclesAfter, bothCycles}
+use Rattle.loader_verify_claims.specs.LoadThenVerify.{verifyFrom, countedOn, verifyAfter, thenVerify, bothLeft, cyclesAfter, bothCycles}
 use Rattle.loader_verify_claims.proofs.Verifying.{as-wanted, verified}
+use Rattle.loader.specs.declared.Work.the-variants.{Load, Verify}
+use Rattle.loader_run.specs.declared.Job.{Job}
 
 -- what was laid over an array is held there
 held-over : (xs w : List ℕ) (a : ℕ) → a + length w ≤ length xs → heldIn a (length w) (overlaid xs a w) ≡ w
@@ -89,22 +90,22 @@ load-then d p a w ys cs = go (risesIn w ys) (programs-then d p (length w) a 0 w 
         ap (λ (z : List Cycle). openingThen p a (length w) z) e ∙ ap (λ (z : List Cycle). busCycle p Write a 0x50 ∷ busCycle p Write a 0xFF ∷ z) (reads-then p (length w) a 0 (programmingThen d p a w ys []) cs)
 
 -- a proper idle start
-module _ (d : Device) (s : State) (p : Pins) (k : ℕ) (xs w sc : List ℕ) (t : Taken d s p k xs w sc) where
+module _ (j : Job) (xs w sc : List ℕ) (t : Taken j xs w sc) where
   abbrev a : ℕ
-  a = startOf (d .part) k
+  a = startOf (j .device .part) (j .block)
 
   abbrev ys : List ℕ
-  ys = heldIn (startOf (d .part) k) (length w) xs
+  ys = heldIn (startOf (j .device .part) (j .block)) (length w) xs
 
   abbrev load : RunLeft
-  load = loadAlone d s p k xs w sc
+  load = runLeft (doing (Load false) j) xs w sc
 
   fits : a + length w ≤ length xs
-  fits = grounds.fitting d s p k xs w sc (none-refuses d s p k xs w sc t)
+  fits = grounds.fitting j xs w sc (none-refuses j xs w sc t)
 
   -- the state and the array that a good load leaves
   abbrev was : State
-  was = erasedFrom (risesIn w ys) k s
+  was = erasedFrom (risesIn w ys) (j .block) (j .state)
 
   abbrev after : State
   after = atRest was (loadedMode w ys) 0x80
@@ -112,13 +113,17 @@ module _ (d : Device) (s : State) (p : Pins) (k : ℕ) (xs w sc : List ℕ) (t :
   abbrev laid : List ℕ
   laid = overlaid xs a w
 
-  -- .. are a proper idle start again
-  again : Taken d after p k laid w w
+  -- the verify from there
+  abbrev next : Job
+  next = jobOf Verify (j .device) after (j .pins) (j .block)
+
+  -- .. is a proper idle start again
+  again : Taken next laid w w
   again =
       record {
         known = t .known;
         sized = overlaid-length xs a w fits ∙ t .sized;
-        proper = parts-proper d after (rest-proper d was (loadedMode w ys) 0x80 refl);
+        proper = parts-proper (j .device) after (rest-proper (j .device) was (loadedMode w ys) 0x80 refl);
         idle = refl;
         block = t .block;
         wanted = t .wanted;
@@ -128,111 +133,111 @@ module _ (d : Device) (s : State) (p : Pins) (k : ℕ) (xs w sc : List ℕ) (t :
         programs = t .programs;
         erases = t .erases;
         bytes = t .bytes;
-        held = cells-laid (d .part) xs a w fits (t .held) (t .bytes);
+        held = cells-laid (j .device .part) xs a w fits (t .held) (t .bytes);
       }
 
-  rows : NoRow (runRows d after p k (length laid) (length w) (length w))
-  unfolding runNumber
-  rows = given-no-row (runRows d after p k (length laid) (length w) (length w)) refl (none-refuses d after p k laid w w again)
+  rows : NoRow (runRows next (length laid) (length w) (length w))
+  unfolding runFirst
+  rows = given-no-row (runRows next (length laid) (length w) (length w)) refl (none-refuses next laid w w again)
 
   -- the verify from there ends well
-  verify-well : Verified d after p k laid w w
-  verify-well = verified d after p k laid w w (again .held) rows
+  verify-well : Verified next laid w w
+  verify-well = verified next laid w w (again .held) rows
 
   held : heldIn a (length w) laid ≡ w
   held = held-over xs w a fits
 
-  verify-ran : verifyAlone d after p k laid w w .ran ≡ record { count = 1 + length w; end = 0; address = 0; state = atRest was Array 0x80 }
+  verify-ran : runLeft next laid w w .ran ≡ record { count = 1 + length w; end = 0; address = 0; state = atRest was Array 0x80 }
   unfolding unitsRead verifyEnd verifyAddress
-  verify-ran = verify-well .ran ∙ ap (λ (z : List ℕ). verifyRan (d .part) after a w z) held ∙ rw (as-wanted w) refl
+  verify-ran = verify-well .ran ∙ ap (λ (z : List ℕ). verifyRan (j .device .part) after a w z) held ∙ rw (as-wanted w) refl
 
-  verify-scratch : verifyAlone d after p k laid w w .scratch ≡ w
+  verify-scratch : runLeft next laid w w .scratch ≡ w
   unfolding unitsRead
   verify-scratch = verify-well .scratch ∙ ap (λ (z : List ℕ). overwritten (unitsRead w z) z w) held ∙ rw (as-wanted w) (overwritten-all w w refl)
 
-  verify-made : cyclesAt Closing true d after p k laid w w ≡ closingOf p a (length w)
+  verify-made : cyclesAt next laid w w ≡ closingOf (j .pins) a (length w)
   unfolding unitsRead
-  verify-made = verify-well .made ∙ ap (λ (z : List ℕ). closingOf p a (unitsRead w z)) held ∙ rw (as-wanted w) refl
+  verify-made = verify-well .made ∙ ap (λ (z : List ℕ). closingOf (j .pins) a (unitsRead w z)) held ∙ rw (as-wanted w) refl
 
   -- a load that ended well, and the run
-  module _ (e : eqb (endNumber d p k w ys) 0 ≡ true) where
-    loaded : load ≡ record { ran = wellRan false d s k w ys; bytes = laid; scratch = w }
+  module _ (e : eqb (endNumber (j .device) (j .pins) (j .block) w ys) 0 ≡ true) where
+    loaded : load ≡ record { ran = wellRan false (j .device) (j .state) (j .block) w ys; bytes = laid; scratch = w }
     unfolding ranAs bytesAs scratchAs
     loaded =
-        parts load (record { ran = wellRan false d s k w ys; bytes = laid; scratch = w })
-        (every-end false d s p k xs w sc t .ran ∙ if-true (eqb (endNumber d p k w ys) 0) _ _ e)
-        (every-end false d s p k xs w sc t .bytes ∙ if-true (eqb (endNumber d p k w ys) 0) _ _ e)
-        (every-end false d s p k xs w sc t .scratch ∙ if-true (eqb (endNumber d p k w ys) 0) _ _ e)
+        parts load (record { ran = wellRan false (j .device) (j .state) (j .block) w ys; bytes = laid; scratch = w })
+        (every-end false j xs w sc t .ran ∙ if-true (eqb (endNumber (j .device) (j .pins) (j .block) w ys) 0) _ _ e)
+        (every-end false j xs w sc t .bytes ∙ if-true (eqb (endNumber (j .device) (j .pins) (j .block) w ys) 0) _ _ e)
+        (every-end false j xs w sc t .scratch ∙ if-true (eqb (endNumber (j .device) (j .pins) (j .block) w ys) 0) _ _ e)
 
-    run-well : runLeft d s p k xs w sc ≡ record { ran = wellRan true d s k w ys; bytes = laid; scratch = w }
+    run-well : runLeft (doing (Load true) j) xs w sc ≡ record { ran = wellRan true (j .device) (j .state) (j .block) w ys; bytes = laid; scratch = w }
     unfolding ranAs bytesAs scratchAs
     run-well =
-        parts (runLeft d s p k xs w sc) (record { ran = wellRan true d s k w ys; bytes = laid; scratch = w })
-        (every-end true d s p k xs w sc t .ran ∙ if-true (eqb (endNumber d p k w ys) 0) _ _ e)
-        (every-end true d s p k xs w sc t .bytes ∙ if-true (eqb (endNumber d p k w ys) 0) _ _ e)
-        (every-end true d s p k xs w sc t .scratch ∙ if-true (eqb (endNumber d p k w ys) 0) _ _ e)
+        parts (runLeft (doing (Load true) j) xs w sc) (record { ran = wellRan true (j .device) (j .state) (j .block) w ys; bytes = laid; scratch = w })
+        (every-end true j xs w sc t .ran ∙ if-true (eqb (endNumber (j .device) (j .pins) (j .block) w ys) 0) _ _ e)
+        (every-end true j xs w sc t .bytes ∙ if-true (eqb (endNumber (j .device) (j .pins) (j .block) w ys) 0) _ _ e)
+        (every-end true j xs w sc t .scratch ∙ if-true (eqb (endNumber (j .device) (j .pins) (j .block) w ys) 0) _ _ e)
 
-    well-both : runLeft d s p k xs w sc ≡ bothLeft d s p k xs w sc
+    well-both : runLeft (doing (Load true) j) xs w sc ≡ bothLeft j xs w sc
     well-both =
         run-well
-        ∙ parts (record { ran = wellRan true d s k w ys; bytes = laid; scratch = w }) (verifyAfter d p k w (record { ran = wellRan false d s k w ys; bytes = laid; scratch = w }))
-        ((λ i. record { count = sums i; end = 0; address = 0; state = atRest was Array 0x80 }) ∙ ap (λ (r : Ran). countedOn (loadFormula d w ys) r) (sym verify-ran))
+        ∙ parts (record { ran = wellRan true (j .device) (j .state) (j .block) w ys; bytes = laid; scratch = w }) (verifyAfter j w (record { ran = wellRan false (j .device) (j .state) (j .block) w ys; bytes = laid; scratch = w }))
+        ((λ i. record { count = sums i; end = 0; address = 0; state = atRest was Array 0x80 }) ∙ ap (λ (r : Ran). countedOn (loadFormula (j .device) w ys) r) (sym verify-ran))
         (sym (verify-well .bytes)) (sym verify-scratch)
-        ∙ ap (λ (l : RunLeft). thenVerify d p k w l) (sym loaded)
+        ∙ ap (λ (l : RunLeft). thenVerify j w l) (sym loaded)
       where
-        sums : formula d w ys ≡ loadFormula d w ys + (1 + length w)
-        sums = formula-both d w ys ∙ (let z : loadFormula d w ys + (length w + 1) ≡ loadFormula d w ys + (1 + length w) = omega arith in z)
+        sums : formula (j .device) w ys ≡ loadFormula (j .device) w ys + (1 + length w)
+        sums = formula-both (j .device) w ys ∙ (let z : loadFormula (j .device) w ys + (length w + 1) ≡ loadFormula (j .device) w ys + (1 + length w) = omega arith in z)
 
-    well-cycles : cyclesOfLoad d s p k xs w sc ≡ bothCycles d s p k xs w sc
+    well-cycles : cyclesOfLoad j xs w sc ≡ bothCycles j xs w sc
     unfolding cyclesAs
     well-cycles =
-        every-end true d s p k xs w sc t .made ∙ if-true (eqb (endNumber d p k w ys) 0) _ _ e
-        ∙ load-then d p a w ys (closingOf p a (length w))
-        ∙ ap (λ (z : List Cycle). loadThen d p a w ys [] ++ z) (sym verify-made ∙ ap (λ (l : RunLeft). cyclesAfter d p k w l) (sym loaded))
-        ∙ ap (λ (z : List Cycle). z ++ cyclesAfter d p k w load) (sym (every-end false d s p k xs w sc t .made ∙ if-true (eqb (endNumber d p k w ys) 0) _ _ e))
+        every-end true j xs w sc t .made ∙ if-true (eqb (endNumber (j .device) (j .pins) (j .block) w ys) 0) _ _ e
+        ∙ load-then (j .device) (j .pins) a w ys (closingOf (j .pins) a (length w))
+        ∙ ap (λ (z : List Cycle). loadThen (j .device) (j .pins) a w ys [] ++ z) (sym verify-made ∙ ap (λ (l : RunLeft). cyclesAfter j w l) (sym loaded))
+        ∙ ap (λ (z : List Cycle). z ++ cyclesAfter j w load) (sym (every-end false j xs w sc t .made ∙ if-true (eqb (endNumber (j .device) (j .pins) (j .block) w ys) 0) _ _ e))
 
   -- a load that did not end well is the run
-  module _ (e : eqb (endNumber d p k w ys) 0 ≡ false) where
-    stopped : load .ran ≡ faultRan d s p w ys (endNumber d p k w ys)
+  module _ (e : eqb (endNumber (j .device) (j .pins) (j .block) w ys) 0 ≡ false) where
+    stopped : load .ran ≡ faultRan (j .device) (j .state) (j .pins) w ys (endNumber (j .device) (j .pins) (j .block) w ys)
     unfolding ranAs
-    stopped = every-end false d s p k xs w sc t .ran ∙ if-false (eqb (endNumber d p k w ys) 0) _ _ e
+    stopped = every-end false j xs w sc t .ran ∙ if-false (eqb (endNumber (j .device) (j .pins) (j .block) w ys) 0) _ _ e
 
     not-well : eqb (load .ran .end) 0 ≡ false
     not-well = ap (λ (r : Ran). eqb (r .end) 0) stopped ∙ e
 
-    fault-both : runLeft d s p k xs w sc ≡ bothLeft d s p k xs w sc
+    fault-both : runLeft (doing (Load true) j) xs w sc ≡ bothLeft j xs w sc
     unfolding ranAs
     fault-both =
-        parts (runLeft d s p k xs w sc) load
-        (every-end true d s p k xs w sc t .ran ∙ if-false (eqb (endNumber d p k w ys) 0) _ _ e ∙ sym stopped)
-        (every-end true d s p k xs w sc t .bytes ∙ sym (every-end false d s p k xs w sc t .bytes))
-        (every-end true d s p k xs w sc t .scratch ∙ sym (every-end false d s p k xs w sc t .scratch))
-        ∙ sym (if-false (eqb (load .ran .end) 0) (verifyAfter d p k w load) load not-well)
+        parts (runLeft (doing (Load true) j) xs w sc) load
+        (every-end true j xs w sc t .ran ∙ if-false (eqb (endNumber (j .device) (j .pins) (j .block) w ys) 0) _ _ e ∙ sym stopped)
+        (every-end true j xs w sc t .bytes ∙ sym (every-end false j xs w sc t .bytes))
+        (every-end true j xs w sc t .scratch ∙ sym (every-end false j xs w sc t .scratch))
+        ∙ sym (if-false (eqb (load .ran .end) 0) (verifyAfter j w load) load not-well)
 
-    fault-cycles : cyclesOfLoad d s p k xs w sc ≡ bothCycles d s p k xs w sc
+    fault-cycles : cyclesOfLoad j xs w sc ≡ bothCycles j xs w sc
     unfolding cyclesAs
     fault-cycles =
-        every-end true d s p k xs w sc t .made ∙ if-false (eqb (endNumber d p k w ys) 0) _ _ e
-        ∙ sym (every-end false d s p k xs w sc t .made ∙ if-false (eqb (endNumber d p k w ys) 0) _ _ e)
-        ∙ sym (append-nil (cyclesAt Clearing false d s p k xs w sc))
-        ∙ ap (λ (z : List Cycle). cyclesAt Clearing false d s p k xs w sc ++ z)
-        (sym (if-false (eqb (load .ran .end) 0) (cyclesAt Closing true d (load .ran .state) p k (load .bytes) w (load .scratch)) [] not-well))
+        every-end true j xs w sc t .made ∙ if-false (eqb (endNumber (j .device) (j .pins) (j .block) w ys) 0) _ _ e
+        ∙ sym (every-end false j xs w sc t .made ∙ if-false (eqb (endNumber (j .device) (j .pins) (j .block) w ys) 0) _ _ e)
+        ∙ sym (append-nil (cyclesAt (doing (Load false) j) xs w sc))
+        ∙ ap (λ (z : List Cycle). cyclesAt (doing (Load false) j) xs w sc ++ z)
+        (sym (if-false (eqb (load .ran .end) 0) (cyclesAt (verifyFrom j load) (load .bytes) w (load .scratch)) [] not-well))
 
-  pub taken-both : (runLeft d s p k xs w sc ≡ bothLeft d s p k xs w sc) × (cyclesOfLoad d s p k xs w sc ≡ bothCycles d s p k xs w sc)
-  taken-both = go (eqb (endNumber d p k w ys) 0) refl
+  pub taken-both : (runLeft (doing (Load true) j) xs w sc ≡ bothLeft j xs w sc) × (cyclesOfLoad j xs w sc ≡ bothCycles j xs w sc)
+  taken-both = go (eqb (endNumber (j .device) (j .pins) (j .block) w ys) 0) refl
     where
-      go : (z : Bool) → eqb (endNumber d p k w ys) 0 ≡ z → (runLeft d s p k xs w sc ≡ bothLeft d s p k xs w sc) × (cyclesOfLoad d s p k xs w sc ≡ bothCycles d s p k xs w sc)
+      go : (z : Bool) → eqb (endNumber (j .device) (j .pins) (j .block) w ys) 0 ≡ z → (runLeft (doing (Load true) j) xs w sc ≡ bothLeft j xs w sc) × (cyclesOfLoad j xs w sc ≡ bothCycles j xs w sc)
       go true e = (well-both e, well-cycles e)
       go false e = (fault-both e, fault-cycles e)
 
 -- whatever is lent: a refusal is the same for the run and the load
-pub run-both : (d : Device) (s : State) (p : Pins) (k : ℕ) (xs w sc : List ℕ) → d .program ≤ 65535 → d .erase ≤ 65535 → Cells (d .part) w → Cells (d .part) xs
-    → runLeft d s p k xs w sc ≡ bothLeft d s p k xs w sc
-run-both d s p k xs w sc programs erases bytes cells = go (eqb (runNumber d s p k (length xs) (length w) (length sc)) 0) refl
+pub run-both : (j : Job) (xs w sc : List ℕ) → j .device .program ≤ 65535 → j .device .erase ≤ 65535 → Cells (j .device .part) w → Cells (j .device .part) xs
+    → runLeft (doing (Load true) j) xs w sc ≡ bothLeft j xs w sc
+run-both j xs w sc programs erases bytes cells = go (eqb (runNumber j (length xs) (length w) (length sc)) 0) refl
   where
-    go : (t : Bool) → eqb (runNumber d s p k (length xs) (length w) (length sc)) 0 ≡ t → runLeft d s p k xs w sc ≡ bothLeft d s p k xs w sc
-    go true e = taken-both d s p k xs w sc (taken-if d s p k xs w sc (eqb-true _ _ e) programs erases bytes cells) .0
+    go : (t : Bool) → eqb (runNumber j (length xs) (length w) (length sc)) 0 ≡ t → runLeft (doing (Load true) j) xs w sc ≡ bothLeft j xs w sc
+    go true e = taken-both j xs w sc (taken-if j xs w sc (eqb-true _ _ e) programs erases bytes cells) .0
     go false e =
-        left-refused Clearing true d s p k xs w sc (eqb-false _ _ e)
-        ∙ sym (if-false (eqb (runNumber d s p k (length xs) (length w) (length sc)) 0) (verifyAfter d p k w (runRefused (runNumber d s p k (length xs) (length w) (length sc)) s xs sc)) (runRefused (runNumber d s p k (length xs) (length w) (length sc)) s xs sc) e)
-        ∙ ap (λ (l : RunLeft). thenVerify d p k w l) (sym (left-refused Clearing false d s p k xs w sc (eqb-false _ _ e)))
+        left-refused (doing (Load true) j) xs w sc (eqb-false _ _ e)
+        ∙ sym (if-false (eqb (runNumber j (length xs) (length w) (length sc)) 0) (verifyAfter j w (runRefused (runNumber j (length xs) (length w) (length sc)) (j .state) xs sc)) (runRefused (runNumber j (length xs) (length w) (length sc)) (j .state) xs sc) e)
+        ∙ ap (λ (l : RunLeft). thenVerify j w l) (sym (left-refused (doing (Load false) j) xs w sc (eqb-false _ _ e)))

@@ -3,12 +3,11 @@ use mathlib.Core.Path.{_≡_}
 use mathlib.Core.List.{List}
 use Prim.Native.Nat.{ℕ, _+_, _<_}
 use lib.ListN.{length, getD}
-use Rattle.device.specs.declared.Device.{Device}
 use Rattle.device.specs.Parts.{startOf}
 use Rattle.units.specs.Address.{byteOf}
-use Rattle.model_types.specs.declared.Pins.{Pins}
-use Rattle.model_types.specs.declared.State.{State}
-use Rattle.loader_run.specs.Runs.{lentVerify}
+use Rattle.loader.specs.declared.Work.the-variants.{Verify}
+use Rattle.loader_run.specs.declared.Job.{Job}
+use Rattle.loader_run.specs.Runs.{lentRun, doing}
 
 -- i is the first place where bytes from a place on differ from others
 pub record FirstByte (xs ws : List ℕ) (from i : ℕ) : Type 0 where
@@ -17,7 +16,7 @@ pub record FirstByte (xs ws : List ℕ) (from i : ℕ) : Type 0 where
   pub same-before : (j : ℕ) → j < i → getD xs (from + j) 0 ≡ getD ws j 0
 
 -- a verify that ends 25 gives the byte address of the first byte of the block that differs
-pub record LentMet (d : Device) (s : State) (p : Pins) (k : ℕ) (array wanted scratch : List ℕ) (i : ℕ) : Type 0 where
-  pub first : FirstByte array wanted (byteOf (d .part .word) (startOf (d .part) k)) i
-  pub ended : lentVerify d s p k array wanted scratch .ran .end ≡ 25
-  pub address : lentVerify d s p k array wanted scratch .ran .address ≡ byteOf (d .part .word) (startOf (d .part) k) + i
+pub record LentMet (j : Job) (array wanted scratch : List ℕ) (i : ℕ) : Type 0 where
+  pub first : FirstByte array wanted (byteOf (j .device .part .word) (startOf (j .device .part) (j .block))) i
+  pub ended : lentRun (doing Verify j) array wanted scratch .ran .end ≡ 25
+  pub address : lentRun (doing Verify j) array wanted scratch .ran .address ≡ byteOf (j .device .part .word) (startOf (j .device .part) (j .block)) + i

@@ -1,6 +1,6 @@
 -- The mission's three demands: a record for each, its fields in the mission's order, and below them the theorem cited for each field.
 -- Lists called xs, rs, w and sc are of units: bytes, in word mode words. All others are of bytes, as they are lent.
-use mathlib.Core.{Path._≡_, Path.refl, Path.sym, Path._∙_, Bool.Bool, Bool.true, Bool.false, List.List, List.[], List._∷_, Logic._↔_}
+use mathlib.Core.{Path._≡_, Path.refl, Path.sym, Path._∙_, Bool.true, Bool.false, List.List, List.[], List._∷_, Logic._↔_}
 use Prim.Native.Nat.{ℕ, _+_, _≤_, _<_}
 use lib.{ListN.length, ListN.getD, Dec.ltb}
 use Rattle.common.specs.{Lists.Bytes, Numbers.Row, Numbers.row, Numbers.Foremost, Numbers.NoRow}
@@ -16,15 +16,15 @@ use Rattle.model.proofs as model
 use Rattle.model_history.specs.History.{Bus, World, worldOf, busesOf, begunOver, acceptsAll}
 use Rattle.model_sheet.specs.Sentences.{Cut}
 use Rattle.model_sheet.proofs.Claims as sheet
-use Rattle.loader.specs.{declared.Stage.Stage, declared.Loader.Loader, declared.Turn.the-variants.Barred, Stages.isEnded}
-use Rattle.loader_steps.specs.Front.{startRows, stepRows, startAt, stepGiven, isBarred}
+use Rattle.loader.specs.{declared.Work.Work, declared.Work.the-variants.Load, declared.Loader.Loader, declared.Turn.the-variants.Barred, Stages.isEnded}
+use Rattle.loader_steps.specs.Front.{startRows, stepRows, startGiven, stepGiven, isBarred}
 use Rattle.loader_steps.proofs.Claims as steps
-use Rattle.loader_run.specs.{Turns.Config, Runs.RunLeft, Runs.driven, Runs.lentRows, Runs.lentLeftAt, Runs.lentRun}
+use Rattle.loader_run.specs.{declared.Job.Job, Turns.Config, Runs.RunLeft, Runs.driven, Runs.lentRows, Runs.lentRun, Runs.doing}
 use Rattle.loader_run.proofs.Claims as runs
 use Rattle.loader_run_claims.specs.{Wear.heldIn, Wear.heldBy, Wear.notedAll, Wear.operationsOf, Wear.formula, Made.cyclesOfLoad}
 use Rattle.loader_run_claims.specs.{Mission.Brings, Mission.NoFewer, Lent.LentStart, Anchors.allStart}
 use Rattle.loader_run_claims.proofs as load
-use Rattle.loader_from_file.specs.Loads.{loadRows, fileLeftAt}
+use Rattle.loader_from_file.specs.Loads.{loadRows, loadLeft}
 use Rattle.loader_from_file.proofs.Claims as filed
 use Rattle.file_codec.specs.File.{limit, fileOf, readerOf, writerOf, inRoom, blocksIn, payloadOf, readRows, writeRows}
 use Rattle.file_claims.specs.{Tabled.Ordered, Roomy.ReadsInto, Roomy.WritesGivenRoom}
@@ -42,18 +42,17 @@ pub record Demand1 : Type 0 where
   -- what is wrong is refused by its number in document 01: a bus cycle (`model::cycle`) ..
   pub cycle : (d : Device) (s : State) (c : Cycle) (xs rs : List ℕ) → let a = answerOf d s c xs rs in
       Exactly (tableOf d s c (length xs) (length rs)) (λ m. a .seen ≡ Refused m) (Accepted a)
-  -- .. a loader's start, whatever stage g it begins at, and its step (`loader_steps::start`, `step`) ..
-  pub start : (g : Stage) (v : Bool) (part : Part) (p : Pins) (k : ℕ) (w sc : List ℕ) → let t = startAt g v part p k w sc .turn in
+  -- .. a loader's start, of whatever work, and its step (`loader_steps::start`, `step`) ..
+  pub start : (work : Work) (part : Part) (p : Pins) (k : ℕ) (w sc : List ℕ) → let t = startGiven work part p k w sc .turn in
       Exactly (startRows part p k (length w) (length sc)) (λ m. t ≡ Barred m) (isBarred t ≡ false)
   pub step : (l : Loader) (b : ℕ) (w sc : List ℕ) → let t = stepGiven l b w sc .turn in
       Exactly (stepRows l (length w) (length sc)) (λ m. t ≡ Barred m) (isBarred t ≡ false)
-  -- .. a run, a load alone and a verify alone (`loader_run::run`, ..), and these from a file (`loader_from_file::load`, ..) ..
-  pub run : (g : Stage) (v : Bool) → isEnded g ≡ false → (d : Device) (s : State) (p : Pins) (k : ℕ) (array wanted scratch : List ℕ)
-      → let r = lentLeftAt g v d s p k array wanted scratch .ran in
-      Exactly (lentRows d s p k (length array) (length wanted) (length scratch)) (λ m. (r .count ≡ 0) × (r .end ≡ m)) (0 < r .count)
-  pub from-file : (g : Stage) (v : Bool) → isEnded g ≡ false → (d : Device) (s : State) (p : Pins) (k : ℕ)
-      (array wanted scratch f : List ℕ) (ℓ : ℕ) → let r = fileLeftAt g v d s p k array wanted scratch f ℓ .ran in
-      Exactly (loadRows d s p k (length array) (length wanted) (length scratch) f ℓ) (λ m. (r .count ≡ 0) × (r .end ≡ m)) (0 < r .count)
+  -- .. a run, a load alone and a verify alone (`loader_run::run`), and these from a file (`loader_from_file::load`) ..
+  pub run : (j : Job) (array wanted scratch : List ℕ)
+      → let r = lentRun j array wanted scratch .ran in
+      Exactly (lentRows j (length array) (length wanted) (length scratch)) (λ m. (r .count ≡ 0) × (r .end ≡ m)) (0 < r .count)
+  pub from-file : (j : Job) (array wanted scratch f : List ℕ) (ℓ : ℕ) → let r = loadLeft j array wanted scratch f ℓ .ran in
+      Exactly (loadRows j (length array) (length wanted) (length scratch) f ℓ) (λ m. (r .count ≡ 0) × (r .end ≡ m)) (0 < r .count)
   -- .. the writer and the reader of a load file (`file_codec::write`, `read`)
   pub writer : (ℓ : ℕ) (p : List ℕ) (room : ℕ) → let f = fileOf ℓ p in
       Ordered (writeRows limit ℓ p (row 37 (ltb room (length f)) ∷ [])) f (inRoom room (writerOf limit ℓ p))
@@ -107,10 +106,10 @@ pub demand-1 : Demand1
 demand-1 = record {
   ends = runs.always-ends;
   cycle = λ d s c xs rs. (model.Claims.refused-exactly d s c xs rs, model.Claims.accepted-exactly d s c xs rs);
-  start = λ g v part p k w sc. (steps.start-refused-exactly g v part p k w sc, steps.start-accepted-exactly g v part p k w sc);
+  start = λ work part p k w sc. (steps.start-refused-exactly work part p k w sc, steps.start-accepted-exactly work part p k w sc);
   step = λ l b w sc. (steps.step-refused-exactly l b w sc, steps.step-accepted-exactly l b w sc);
-  run = λ g v e d s p k a w t. (runs.lent-refused-exactly g v d s p k a w t e, runs.lent-accepted-exactly g v d s p k a w t e);
-  from-file = λ g v e d s p k a w t f ℓ. (filed.refused-exactly g v e d s p k a w t f ℓ, filed.accepted-exactly g v e d s p k a w t f ℓ);
+  run = λ j a w t. (runs.lent-refused-exactly j a w t, runs.lent-accepted-exactly j a w t);
+  from-file = λ j a w t f ℓ. (filed.refused-exactly j a w t f ℓ, filed.accepted-exactly j a w t f ℓ);
   writer = file.writer-order limit;
   reader = file.reader-order limit;
   not-happened = λ d s c a r m e. (model.Claims.refused-nothing d s c _ _ m e .0, model.Claims.refused-bytes d s c a r m e);
@@ -130,19 +129,19 @@ demand-2 = record {
 
 -- From every proper idle start, VPP high, RP# not low, the boot block unlocked if it is the one (`LentStart`); and such starts there are.
 pub demand-3 : (allStart ≡ true)
-    × ((d : Device) (s : State) (p : Pins) (k : ℕ) (array wanted scratch : List ℕ) → LentStart d s p k array wanted scratch
-    → let xs = units (d .part .word) array in let w = units (d .part .word) wanted in let sc = units (d .part .word) scratch in
-    let from = byteOf (d .part .word) (startOf (d .part) k) in
-    Demand3 d (worldOf s xs) k from array wanted w (lentRun d s p k array wanted scratch) (cyclesOfLoad d s p k xs w sc))
+    × ((j : Job) (array wanted scratch : List ℕ) → LentStart j array wanted scratch
+    → let xs = units (j .device .part .word) array in let w = units (j .device .part .word) wanted in let sc = units (j .device .part .word) scratch in
+    let from = byteOf (j .device .part .word) (startOf (j .device .part) (j .block)) in
+    Demand3 (j .device) (worldOf (j .state) xs) (j .block) from array wanted w (lentRun (doing (Load true) j) array wanted scratch) (cyclesOfLoad j xs w sc))
 demand-3 = (
   load.Claims.starts-exist,
-  λ d s p k array wanted scratch start.
-      let b = load.Claims.lent-demand-3 d s p k array wanted scratch start in let u = b .of-units in record {
+  λ j array wanted scratch start.
+      let b = load.Claims.lent-demand-3 j array wanted scratch start in let u = b .of-units in record {
         well = b .well;
         block = b .block;
         others = λ x. (b .before x, b .behind x);
         begins = u .own-begins ∙ u .begins;
-        least = u .least-wear (load.Lent.units-cells (d .part) array (start .array-bytes));
+        least = u .least-wear (load.Lent.units-cells (j .device .part) array (start .array-bytes));
         such = (u .own-accepted, u .own-brings);
         count = (b .by-formula ∙ sym (u .by-formula) ∙ u .counted, b .by-formula);
       },

@@ -18,7 +18,7 @@ use Rattle.model_types.specs.declared.Pins.{Pins}
 use Rattle.model_types.specs.declared.State.{State}
 use Rattle.units.specs.Units.{lentIn}
 use Rattle.file_codec.specs.File.{Outcome, refused, made, outcomeBy, inRoom, leftIn, limit, readRows}
-use Rattle.loader_run.specs.Runs.{runNumber, lentRows, lentNumber}
+use Rattle.loader_run.specs.Runs.{lentRows, lentNumber, runFirst}
 use Rattle.loader_run.proofs.Good.{good}
 use Rattle.store_places.specs.Store.{findOf, findRows, isProper, noRoom, placesIn, itemsIn}
 use Rattle.store_survey.specs.Survey.{faultOf}
@@ -26,7 +26,7 @@ use Rattle.store_find.specs.Finds.{isWhole, standsNumber, foundIn, foundAs}
 use Rattle.store_find.specs.declared.Found.{Found}
 use Rattle.store_contents.specs.Contents.{unlike, roomRows, dropFault, addFault, memoryBy}
 use Rattle.store_contents.proofs.Numbers.{read-then, memory-was}
-use Rattle.store.specs.Stores.{mainOf, noStore, seekNumber, foundOn, changeRows, changeNumber, dropRows, addingRows, dropNumber, addNumber}
+use Rattle.store.specs.Stores.{mainOf, noStore, seekNumber, foundOn, changeRows, changeNumber, dropRows, addingRows, dropNumber, addNumber, changeJob}
 use Rattle.store.proofs.Blocks.{Small, small, known-part, store-small, block-long, block-whole, handed-ends}
 
 -- the second table is asked where the first gives nothing
@@ -79,9 +79,9 @@ module _ (d : Device) (s : State) (p : Pins) (array memory scratch : ℕ) where
   unfolding changeNumber
   change-large h = if-true (isLarge (d .part)) 1 _ h
 
-  pub change-run : isLarge (d .part) ≡ false → changeNumber d s p array memory scratch ≡ lentNumber d s p 3 array memory scratch
-  unfolding changeNumber runNumber
-  change-run h = if-false (isLarge (d .part)) 1 _ h ∙ given-append (lentRows d s p 3 array memory scratch) [] refl ∙ same (given (lentRows d s p 3 array memory scratch))
+  pub change-run : isLarge (d .part) ≡ false → changeNumber d s p array memory scratch ≡ lentNumber (changeJob d s p) array memory scratch
+  unfolding changeNumber runFirst
+  change-run h = if-false (isLarge (d .part)) 1 _ h ∙ given-append (lentRows (changeJob d s p) array memory scratch) [] refl ∙ same (given (lentRows (changeJob d s p) array memory scratch))
     where
       same : (n : ℕ) → (if eqb n 0 then 0 else n) ≡ n
       same n = go (eqb n 0) refl
@@ -93,8 +93,8 @@ module _ (d : Device) (s : State) (p : Pins) (array memory scratch : ℕ) where
   change-then : (own : List Row) → given (changeRows d s p array memory scratch own) ≡ (if eqb (changeNumber d s p array memory scratch) 0 then given own else changeNumber d s p array memory scratch)
   unfolding changeNumber
   change-then own =
-      ap (λ (rs : List Row). given (row 1 (isLarge (d .part)) ∷ rs)) (ap (λ (rs : List Row). rs ++ own) (sym (append-nil (lentRows d s p 3 array memory scratch))))
-      ∙ given-append (row 1 (isLarge (d .part)) ∷ (lentRows d s p 3 array memory scratch ++ [])) own refl
+      ap (λ (rs : List Row). given (row 1 (isLarge (d .part)) ∷ rs)) (ap (λ (rs : List Row). rs ++ own) (sym (append-nil (lentRows (changeJob d s p) array memory scratch))))
+      ∙ given-append (row 1 (isLarge (d .part)) ∷ (lentRows (changeJob d s p) array memory scratch ++ [])) own refl
 
   pub change-refused : (own : List Row) (n : ℕ) → n ≡ changeNumber d s p array memory scratch → (n ≡ 0 → ⊥) → given (changeRows d s p array memory scratch own) ≡ n
   change-refused own n e z = change-then own ∙ stays (changeNumber d s p array memory scratch) (given own) (λ y. z (e ∙ y)) ∙ sym e
@@ -114,7 +114,7 @@ module _ (d : Device) (s : State) (p : Pins) (array memory scratch : ℕ) where
       go : (t : Bool) → isLarge (d .part) ≡ t → Ready
       go true q = absurd (let y : 1 ≡ 0 = sym (change-large q) ∙ z in omega arith)
       go false q =
-          let g = good d s p 3 (lentIn (d .part .word) array) (lentIn (d .part .word) memory) (lentIn (d .part .word) scratch) (sym (change-run q) ∙ z) in
+          let g = good (changeJob d s p) (lentIn (d .part .word) array) (lentIn (d .part .word) memory) (lentIn (d .part .word) scratch) (sym (change-run q) ∙ z) in
           let w = small (d .part) (known-part d (g .known)) q in
           record { small = w; sized = sym (plain (d .part .word) array (w .bytes)) ∙ g .sized; long = sym (plain (d .part .word) memory (w .bytes)) ∙ g .wanted }
 

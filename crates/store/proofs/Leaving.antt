@@ -13,16 +13,16 @@ use Rattle.loader_run.specs.declared.Ran.{Ran}
 use Rattle.loader_run.specs.Runs.{lentRun}
 use Rattle.store_contents.specs.Contents.{memoryBy}
 use Rattle.store_contents.proofs.Numbers.{memory-new, memory-was}
-use Rattle.store.specs.Stores.{ChangeLeft, changeMade, changeRefused, changeLeft}
+use Rattle.store.specs.Stores.{ChangeLeft, changeMade, changeRefused, changeLeft, changeJob}
 
 -- made with what was put into memory, or refused with what was lent
-pub made : (n : ℕ) (new : List ℕ) (d : Device) (s : State) (p : Pins) (xs memory scratch : List ℕ) → n ≡ 0 → changeLeft n new d s p xs memory scratch ≡ changeMade (lentRun d s p 3 xs new scratch) new
+pub made : (n : ℕ) (new : List ℕ) (d : Device) (s : State) (p : Pins) (xs memory scratch : List ℕ) → n ≡ 0 → changeLeft n new d s p xs memory scratch ≡ changeMade (lentRun (changeJob d s p) xs new scratch) new
 unfolding changeLeft
-made n new d s p xs memory scratch z = if-true (eqb n 0) (changeMade (lentRun d s p 3 xs new scratch) new) (changeRefused n s xs memory scratch) (eq-eqb n 0 z)
+made n new d s p xs memory scratch z = if-true (eqb n 0) (changeMade (lentRun (changeJob d s p) xs new scratch) new) (changeRefused n s xs memory scratch) (eq-eqb n 0 z)
 
 pub refused : (n : ℕ) (new : List ℕ) (d : Device) (s : State) (p : Pins) (xs memory scratch : List ℕ) → (n ≡ 0 → ⊥) → changeLeft n new d s p xs memory scratch ≡ changeRefused n s xs memory scratch
 unfolding changeLeft
-refused n new d s p xs memory scratch z = if-false (eqb n 0) (changeMade (lentRun d s p 3 xs new scratch) new) (changeRefused n s xs memory scratch) (ne-eqb n 0 z)
+refused n new d s p xs memory scratch z = if-false (eqb n 0) (changeMade (lentRun (changeJob d s p) xs new scratch) new) (changeRefused n s xs memory scratch) (ne-eqb n 0 z)
 
 module _ (n : ℕ) (new : List ℕ) (d : Device) (s : State) (p : Pins) (xs memory scratch : List ℕ) where
   -- one change among equals, from its memory on
@@ -34,7 +34,7 @@ module _ (n : ℕ) (new : List ℕ) (d : Device) (s : State) (p : Pins) (xs memo
           let z = eqb-true n 0 q in
           let h : m ≡ new = e ∙ memory-new n new memory z in
           let b = made n new d s p xs memory scratch z in (
-            made n m d s p xs m scratch z ∙ ap (λ (x : List ℕ). changeMade (lentRun d s p 3 xs x scratch) x) h ∙ sym b,
+            made n m d s p xs m scratch z ∙ ap (λ (x : List ℕ). changeMade (lentRun (changeJob d s p) xs x scratch) x) h ∙ sym b,
             h ∙ sym (ap (λ (x : ChangeLeft). x .memory) b),
           )
       go false q =

@@ -1,5 +1,5 @@
 -- The store on a part: which numbers are given and in which order, what is returned, and what is left in everything lent.
-use mathlib.Core.Bool.{Bool, not, _||_}
+use mathlib.Core.Bool.{Bool, not, _||_, true}
 use mathlib.Core.List.{List, [], _∷_, _++_}
 use Prim.Native.Nat.{ℕ, _/_}
 use lib.ListN.{length, take, drop}
@@ -13,9 +13,11 @@ use Rattle.model_types.specs.declared.Pins.{Pins}
 use Rattle.model_types.specs.declared.State.{State}
 use Rattle.file_codec.specs.File.{Outcome, outcomeBy, limit, readRows}
 use Rattle.loader_run.specs.declared.Ran.{Ran}
-use Rattle.loader_run.specs.Runs.{RunLeft, lentRows, lentRun}
+use Rattle.loader_run.specs.Runs.{RunLeft, lentRows, lentRun, jobOf}
 use Rattle.store_places.specs.Store.{itemsIn, isProper, noRoom, placesIn, findOf, dropOf, addOf, findRows}
 use Rattle.store_survey.specs.Survey.{faultOf}
+use Rattle.loader.specs.declared.Work.the-variants.{Load}
+use Rattle.loader_run.specs.declared.Job.{Job}
 
 -- the bytes of the main block, block 3, in a part's array
 abbrev pub mainOf : Part → List ℕ → List ℕ
@@ -41,9 +43,13 @@ seekNumber part xs ℓ = given (seekRows part xs ℓ)
 unfoldable pub foundOn : Part → List ℕ → ℕ → Outcome
 foundOn part xs ℓ = outcomeBy (seekNumber part xs ℓ) (findOf (faultOf limit) ℓ (mainOf part xs))
 
+-- what a change runs: a load of block 3 and the verify after it
+abbrev pub changeJob : Device → State → Pins → Job
+changeJob d s p = jobOf (Load true) d s p 3
+
 -- the refusals of a change: 1 for a part of 5 to 8, then those of a run of block 3, then those of the change itself (R-store-5)
 abbrev pub changeRows : Device → State → Pins → ℕ → ℕ → ℕ → List Row → List Row
-changeRows d s p array memory scratch own = row 1 (isLarge (d .part)) ∷ (lentRows d s p 3 array memory scratch ++ own)
+changeRows d s p array memory scratch own = row 1 (isLarge (d .part)) ∷ (lentRows (changeJob d s p) array memory scratch ++ own)
 
 -- .. of a run of block 3 alone
 unfoldable pub changeNumber : Device → State → Pins → ℕ → ℕ → ℕ → ℕ
@@ -87,7 +93,7 @@ changeRefused n s xs memory scratch = record { ran = record { count = 0; end = n
 
 -- by its number and the block's new contents: refused, or the contents put into memory and one run of block 3 made with them
 unfoldable pub changeLeft : ℕ → List ℕ → Device → State → Pins → List ℕ → List ℕ → List ℕ → ChangeLeft
-changeLeft n new d s p xs memory scratch = if eqb n 0 then changeMade (lentRun d s p 3 xs new scratch) new else changeRefused n s xs memory scratch
+changeLeft n new d s p xs memory scratch = if eqb n 0 then changeMade (lentRun (changeJob d s p) xs new scratch) new else changeRefused n s xs memory scratch
 
 -- a drop of a letter, and an add of the file f under a letter
 abbrev pub dropLeft : Device → State → Pins → List ℕ → List ℕ → List ℕ → ℕ → ChangeLeft

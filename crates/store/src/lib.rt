@@ -2,6 +2,8 @@
 // of block 3 with its new contents as wanted; nothing else is written into the array.
 use device::Device;
 use device::Part;
+use loader::Work;
+use loader_run::Job;
 use loader_run::Ran;
 use model_types::Pins;
 use model_types::State;
@@ -20,7 +22,7 @@ ghost use Rattle.store_places.specs.Store.{dropOf, addOf};
 ghost use Rattle.store_survey.specs.Survey.{faultOf};
 ghost use Rattle.store_find.specs.Finds.{foundAs, readBy};
 ghost use Rattle.store_contents.specs.Contents.{memoryBy};
-ghost use Rattle.store.specs.Stores.{mainOf, noStore, partNumber, foundOn, changeNumber, dropNumber, addNumber, changeLeft, dropLeft, addLeft};
+ghost use Rattle.store.specs.Stores.{mainOf, noStore, partNumber, foundOn, changeJob, changeNumber, dropNumber, addNumber, changeLeft, dropLeft, addLeft};
 
 // 1: the part is not known, or is one of 5 to 8.
 fn no_store(part: Part) -> bool
@@ -74,6 +76,19 @@ pub fn read_letter(part: Part, array: &[u8], letter: u8, room: &mut [u8], x: i32
     store_find::read_in(&array[from..to], letter, room, x)
 }
 
+// What a change runs: a load of block 3 and the verify after it.
+fn change_job(d: Device, s: State, p: Pins) -> Job
+    ensures { λ r. ⌜ r ≡ changeJob d s p ⌝ }
+{
+    Job {
+        device: d,
+        state: s,
+        pins: p,
+        block: 3,
+        work: Work::Load(true),
+    }
+}
+
 // 1 for a part of 5 to 8, then the numbers of a run of block 3. The lengths are in bytes.
 fn change_number(d: Device, s: State, p: Pins, array: usize, memory: usize, scratch: usize) -> u8
     ensures { λ r. ⌜ r ≡ changeNumber d s p array memory scratch ⌝ }
@@ -84,10 +99,7 @@ fn change_number(d: Device, s: State, p: Pins, array: usize, memory: usize, scra
         return 1;
     }
     loader_run::run_number(
-        d,
-        s,
-        p,
-        3,
+        change_job(d, s, p),
         units::lent_in(word, array),
         units::lent_in(word, memory),
         units::lent_in(word, scratch),
@@ -158,7 +170,7 @@ fn change(
     ensures { λ _. ⌜ now (scratch .exit) ≡ changeLeft number (now (memory .entry)) d s p (now (array .entry)) (now (memory .entry)) (now (scratch .entry)) .scratch ⌝ }
 {
     if number == 0 {
-        return loader_quick::run_quick(d, s, p, 3, array, memory, scratch);
+        return loader_quick::run_quick(change_job(d, s, p), array, memory, scratch);
     }
     Ran {
         count: 0,

@@ -23,9 +23,8 @@ use Rattle.model_types.specs.declared.State.{State}
 use Rattle.model_types.specs.Cells.{Cells}
 use Rattle.model_types.specs.Levels.{vppHigh}
 use Rattle.file_codec.specs.File.{limit}
-use Rattle.loader.specs.declared.Stage.the-variants.{Clearing}
 use Rattle.loader_run.specs.declared.Ran.{Ran}
-use Rattle.loader_run.specs.Runs.{RunLeft, runNumber, runLeftAt, lentRows, lentNumber, lentRun, asBytes}
+use Rattle.loader_run.specs.Runs.{RunLeft, runNumber, lentRows, lentNumber, lentRun, asBytes, runFirst, runLeft, doing}
 use Rattle.loader_run.proofs.Lending.{some, units-number, lent-made}
 use Rattle.loader_run_claims.specs.Wear.{heldIn}
 use Rattle.loader_run_claims.specs.Ends.{endNumber, wellRan, faultRan, ranAs, bytesAs, Whole as Ended}
@@ -39,11 +38,13 @@ use Rattle.store_places.proofs.Places.{join-cut}
 use Rattle.store_places.proofs.Claims.{drop-proper, add-proper, add-let}
 use Rattle.store_survey.specs.Survey.{faultOf}
 use Rattle.store_survey.proofs.Reader.{file-reader}
-use Rattle.store.specs.Stores.{mainOf, ChangeLeft, changeMade, changeRefused, changeLeft}
+use Rattle.store.specs.Stores.{mainOf, ChangeLeft, changeMade, changeRefused, changeLeft, changeJob}
 use Rattle.store_claims.specs.Calls.{placesFor, Call, numberBy, callNumber, changeLeftBy, callLeft, contentsBy, FileBytes, Timed}
 use Rattle.store_claims.proofs.Contents.{drop-bytes, add-bytes}
 use Rattle.store_claims.proofs.MainBlock.{There, there}
 use Rattle.store_claims.proofs.Rows.{none-applies}
+use Rattle.loader.specs.declared.Work.the-variants.{Load}
+use Rattle.loader_run.specs.declared.Job.{Job}
 
 -- what a change returns and leaves, by its number and the new contents
 left-is : (c : Change) (d : Device) (s : State) (p : Pins) (xs memory scratch : List ℕ)
@@ -78,35 +79,35 @@ new-bytes N (adds ℓ b) main P e B F =
 new-bytes N (drops ℓ) main P e B F = drop-bytes (faultOf limit) (file-reader limit) N main P B ℓ
 
 -- in byte mode the run on lent bytes is that of the bytes
-byte-run : (d : Device) (s : State) (p : Pins) (k : ℕ) (xs w sc : List ℕ) → d .part .word ≡ false → lentNumber d s p k (length xs) (length w) (length sc) ≡ 0
-    → lentRun d s p k xs w sc ≡ runLeftAt Clearing true d s p k xs w sc
-byte-run d s p k xs w sc e z =
-    let h = some Clearing true d s p k xs w sc z in
-    let a = lent-is (d .part .word) xs (h .0) in
-    let b = lent-is (d .part .word) w (h .1) in
-    let c = lent-is (d .part .word) sc (h .2) in
-    lent-made Clearing true d s p k xs w sc z
-    ∙ (λ i. asBytes (d .part .word) (runLeftAt Clearing true d s p k (a i) (b i) (c i)))
-    ∙ ap (λ (v : Bool). asBytes v (runLeftAt Clearing true d s p k (units v xs) (units v w) (units v sc))) e
+byte-run : (j : Job) (xs w sc : List ℕ) → j .device .part .word ≡ false → lentNumber j (length xs) (length w) (length sc) ≡ 0
+    → lentRun (doing (Load true) j) xs w sc ≡ runLeft (doing (Load true) j) xs w sc
+byte-run j xs w sc e z =
+    let h = some (doing (Load true) j) xs w sc z in
+    let a = lent-is (j .device .part .word) xs (h .0) in
+    let b = lent-is (j .device .part .word) w (h .1) in
+    let c = lent-is (j .device .part .word) sc (h .2) in
+    lent-made (doing (Load true) j) xs w sc z
+    ∙ (λ i. asBytes (j .device .part .word) (runLeft (doing (Load true) j) (a i) (b i) (c i)))
+    ∙ ap (λ (v : Bool). asBytes v (runLeft (doing (Load true) j) (units v xs) (units v w) (units v sc))) e
 
 -- a run that ends well leaves what is wanted, at whatever supply
-ended-well : (d : Device) (s : State) (p : Pins) (k : ℕ) (xs w sc : List ℕ) → Taken d s p k xs w sc → runLeftAt Clearing true d s p k xs w sc .ran .end ≡ 0
-    → runLeftAt Clearing true d s p k xs w sc .bytes ≡ overlaid xs (startOf (d .part) k) w
+ended-well : (j : Job) (xs w sc : List ℕ) → Taken j xs w sc → runLeft (doing (Load true) j) xs w sc .ran .end ≡ 0
+    → runLeft (doing (Load true) j) xs w sc .bytes ≡ overlaid xs (startOf (j .device .part) (j .block)) w
 unfolding ranAs bytesAs
-ended-well d s p k xs w sc t e = go (eqb N 0) refl
+ended-well j xs w sc t e = go (eqb N 0) refl
   where
     ys : List ℕ
-    ys = heldIn (startOf (d .part) k) (length w) xs
+    ys = heldIn (startOf (j .device .part) (j .block)) (length w) xs
 
     N : ℕ
-    N = endNumber d p k w (heldIn (startOf (d .part) k) (length w) xs)
+    N = endNumber (j .device) (j .pins) (j .block) w (heldIn (startOf (j .device .part) (j .block)) (length w) xs)
 
-    E : Ended true d s p k xs w sc
-    E = every-end true d s p k xs w sc t
+    E : Ended true j xs w sc
+    E = every-end true j xs w sc t
 
-    go : (b : Bool) → eqb N 0 ≡ b → runLeftAt Clearing true d s p k xs w sc .bytes ≡ overlaid xs (startOf (d .part) k) w
-    go true q = E .bytes ∙ if-true (eqb N 0) (overlaid xs (startOf (d .part) k) w) xs q
-    go false q = absurd (eqb-false N 0 q (sym (ap (λ (r : Ran). r .end) (E .ran ∙ if-false (eqb N 0) (wellRan true d s k w ys) (faultRan d s p w ys N) q)) ∙ e))
+    go : (b : Bool) → eqb N 0 ≡ b → runLeft (doing (Load true) j) xs w sc .bytes ≡ overlaid xs (startOf (j .device .part) (j .block)) w
+    go true q = E .bytes ∙ if-true (eqb N 0) (overlaid xs (startOf (j .device .part) (j .block)) w) xs q
+    go false q = absurd (eqb-false N 0 q (sym (ap (λ (r : Ran). r .end) (E .ran ∙ if-false (eqb N 0) (wellRan true (j .device) (j .state) (j .block) w ys) (faultRan (j .device) (j .state) (j .pins) w ys N) q)) ∙ e))
 
 module _ (d : Device) (xs : List ℕ) (c : Call) (T : Timed d) (B : Bytes xs) (F : FileBytes (c .change)) (z : callNumber d xs c ≡ 0) where
   abbrev s : State
@@ -121,7 +122,7 @@ module _ (d : Device) (xs : List ℕ) (c : Call) (T : Timed d) (B : Bytes xs) (F
   abbrev new : List ℕ
   new = contentsBy d xs c
 
-  none : (isLarge (d .part) ≡ false) × (lentNumber d s p 3 (length xs) (length (c .memory)) (length (c .scratch)) ≡ 0) × (noOf (faultOf limit) (c .change) main ≡ 0)
+  none : (isLarge (d .part) ≡ false) × (lentNumber (changeJob d s p) (length xs) (length (c .memory)) (length (c .scratch)) ≡ 0) × (noOf (faultOf limit) (c .change) main ≡ 0)
   none = none-applies d (c .state) (c .pins) xs (length (c .memory)) (length (c .scratch)) (c .change) z
 
   pub here : There d xs (length (c .memory))
@@ -147,38 +148,38 @@ module _ (d : Device) (xs : List ℕ) (c : Call) (T : Timed d) (B : Bytes xs) (F
   new-long = left-proper .size ∙ sym (here .whole)
 
   -- no number of the run with the new contents applies
-  pub run-number : lentNumber d s p 3 (length xs) (length new) (length (c .scratch)) ≡ 0
-  run-number = ap (λ (n : ℕ). lentNumber d (c .state) (c .pins) 3 (length xs) n (length (c .scratch))) (new-long ∙ sym (here .memory-long)) ∙ none .1
+  pub run-number : lentNumber (changeJob d s p) (length xs) (length new) (length (c .scratch)) ≡ 0
+  run-number = ap (λ (n : ℕ). lentNumber (changeJob d (c .state) (c .pins)) (length xs) n (length (c .scratch))) (new-long ∙ sym (here .memory-long)) ∙ none .1
 
-  run-rows : NoRow (lentRows d s p 3 (length xs) (length new) (length (c .scratch)))
-  unfolding runNumber
-  run-rows = given-no-row (lentRows d (c .state) (c .pins) 3 (length xs) (length new) (length (c .scratch))) refl run-number
+  run-rows : NoRow (lentRows (changeJob d s p) (length xs) (length new) (length (c .scratch)))
+  unfolding runFirst
+  run-rows = given-no-row (lentRows (changeJob d (c .state) (c .pins)) (length xs) (length new) (length (c .scratch))) refl run-number
 
   -- what is returned and left is what the run with the new contents returns and leaves
-  pub made-by-run : callLeft d xs c ≡ changeMade (lentRun d s p 3 xs new (c .scratch)) new
+  pub made-by-run : callLeft d xs c ≡ changeMade (lentRun (changeJob d s p) xs new (c .scratch)) new
   unfolding changeLeft
   made-by-run =
       left-is (c .change) d (c .state) (c .pins) xs (c .memory) (c .scratch)
-      ∙ if-true (eqb (callNumber d xs c) 0) (changeMade (lentRun d (c .state) (c .pins) 3 xs new (c .scratch)) new) (changeRefused (callNumber d xs c) (c .state) xs (c .memory) (c .scratch)) (eq-eqb (callNumber d xs c) 0 z)
+      ∙ if-true (eqb (callNumber d xs c) 0) (changeMade (lentRun (changeJob d (c .state) (c .pins)) xs new (c .scratch)) new) (changeRefused (callNumber d xs c) (c .state) xs (c .memory) (c .scratch)) (eq-eqb (callNumber d xs c) 0 z)
 
   -- .. in bytes
-  pub of-bytes : lentRun d s p 3 xs new (c .scratch) ≡ runLeftAt Clearing true d s p 3 xs new (c .scratch)
-  of-bytes = byte-run d (c .state) (c .pins) 3 xs new (c .scratch) (here .small .bytes) run-number
+  pub of-bytes : lentRun (changeJob d s p) xs new (c .scratch) ≡ runLeft (changeJob d s p) xs new (c .scratch)
+  of-bytes = byte-run (changeJob d (c .state) (c .pins)) xs new (c .scratch) (here .small .bytes) run-number
 
   cells : (ys : List ℕ) → Bytes ys → Cells (d .part) ys
   cells ys b = subst (λ (v : Bool). Cells (d .part) (units v ys)) (here .small .bytes) (units-cells (d .part) ys b)
 
-  pub taken : Taken d s p 3 xs new (c .scratch)
+  pub taken : Taken (changeJob d s p) xs new (c .scratch)
   taken =
-      let n = units-number Clearing true d (c .state) (c .pins) 3 xs new (c .scratch) run-number in
-      taken-if d (c .state) (c .pins) 3 xs new (c .scratch)
-      (subst (λ (v : Bool). runNumber d (c .state) (c .pins) 3 (length (units v xs)) (length (units v new)) (length (units v (c .scratch))) ≡ 0) (here .small .bytes) n)
+      let n = units-number (changeJob d (c .state) (c .pins)) xs new (c .scratch) run-number in
+      taken-if (changeJob d (c .state) (c .pins)) xs new (c .scratch)
+      (subst (λ (v : Bool). runNumber (changeJob d (c .state) (c .pins)) (length (units v xs)) (length (units v new)) (length (units v (c .scratch))) ≡ 0) (here .small .bytes) n)
       (T .programs) (T .erases) (cells new wanted-bytes) (cells xs B)
 
   -- with VPP high: demand 3, every clause
-  pub with-supply : vppHigh (d .part) p ≡ true → LentDemand3 true d s p 3 xs new (c .scratch)
+  pub with-supply : vppHigh (d .part) p ≡ true → LentDemand3 true (changeJob d s p) xs new (c .scratch)
   with-supply v =
-      lent-demand-3 true d (c .state) (c .pins) 3 xs new (c .scratch)
+      lent-demand-3 true (changeJob d (c .state) (c .pins)) xs new (c .scratch)
       (record { accepted = run-rows; high = v; unlock = λ (e : 3 ≡ 0). absurd (omega arith); array-bytes = B; wanted-bytes = wanted-bytes; programs = T .programs; erases = T .erases })
 
   -- ended well, at whatever supply
@@ -186,7 +187,7 @@ module _ (d : Device) (xs : List ℕ) (c : Call) (T : Timed d) (B : Bytes xs) (F
   array-left e =
       let r = ap (λ (x : ChangeLeft). x .ran .end) made-by-run ∙ ap (λ (x : RunLeft). x .ran .end) of-bytes in
       ap (λ (x : ChangeLeft). x .bytes) made-by-run ∙ ap (λ (x : RunLeft). x .bytes) of-bytes
-      ∙ ended-well d (c .state) (c .pins) 3 xs new (c .scratch) taken (sym r ∙ e)
+      ∙ ended-well (changeJob d (c .state) (c .pins)) xs new (c .scratch) taken (sym r ∙ e)
 
   room : startOf (d .part) 3 + length new ≤ length xs
   room = omega (arith, here .inside, new-long)
@@ -219,4 +220,4 @@ pub refused-left : (d : Device) (xs : List ℕ) (c : Call) → (callNumber d xs 
 unfolding changeLeft
 refused-left d xs c z =
     left-is (c .change) d (c .state) (c .pins) xs (c .memory) (c .scratch)
-    ∙ if-false (eqb (callNumber d xs c) 0) (changeMade (lentRun d (c .state) (c .pins) 3 xs (contentsBy d xs c) (c .scratch)) (contentsBy d xs c)) (changeRefused (callNumber d xs c) (c .state) xs (c .memory) (c .scratch)) (ne-eqb (callNumber d xs c) 0 z)
+    ∙ if-false (eqb (callNumber d xs c) 0) (changeMade (lentRun (changeJob d (c .state) (c .pins)) xs (contentsBy d xs c) (c .scratch)) (contentsBy d xs c)) (changeRefused (callNumber d xs c) (c .state) xs (c .memory) (c .scratch)) (ne-eqb (callNumber d xs c) 0 z)

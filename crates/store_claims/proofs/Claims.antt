@@ -18,12 +18,12 @@ use Rattle.file_codec.specs.File.{limit}
 use Rattle.loader.specs.Walks.{risesIn}
 use Rattle.loader_run.specs.Runs.{lentNumber, lentRun}
 use Rattle.loader_run_claims.specs.Lent.{LentDemand3}
-use Rattle.loader_from_file.specs.Loads.{wantedOf, bytesLoaded}
+use Rattle.loader_from_file.specs.Loads.{wantedOf, loadLeft}
 use Rattle.loader_from_file_claims.specs.Through.{FileStart}
 use Rattle.store_places.specs.Store.{Reader, adds, drops, hasIn, liveIn, without, placesIn, itemsIn, isProper, findNo, findOf, addOf, runFor, lastUnder, Proper}
 use Rattle.store_survey.specs.Survey.{faultOf}
 use Rattle.store_survey.proofs.Reader.{file-reader}
-use Rattle.store.specs.Stores.{mainOf, noStore, addNumber, foundOn, changeMade, changeRefused}
+use Rattle.store.specs.Stores.{mainOf, noStore, addNumber, foundOn, changeMade, changeRefused, changeJob}
 use Rattle.store_claims.specs.Calls.{placesFor, placesAt, Call, callNumber, callLeft, contentsBy, arrayThrough, AllSettled, changesMade, FileBytes, AllBytes, Timed, Kept, fileOr42, AllHigh, Spared}
 use Rattle.store_claims.proofs.Calls as calls
 use Rattle.store_claims.proofs.ManyCalls as many
@@ -52,11 +52,11 @@ all-settled = many.all-settled
 -- returns and leaves, and with VPP high all of demand 3 holds of it: it ends well, the block holds the new contents, every other byte is as
 -- before, the count is the formula's, and nothing wears less.
 pub made-by-run : (d : Device) (xs : List ℕ) (c : Call) → Timed d → Bytes xs → FileBytes (c .change) → callNumber d xs c ≡ 0
-    → callLeft d xs c ≡ changeMade (lentRun d (c .state) (c .pins) 3 xs (contentsBy d xs c) (c .scratch)) (contentsBy d xs c)
+    → callLeft d xs c ≡ changeMade (lentRun (changeJob d (c .state) (c .pins)) xs (contentsBy d xs c) (c .scratch)) (contentsBy d xs c)
 made-by-run = calls.made-by-run
 
 pub run-demand-3 : (d : Device) (xs : List ℕ) (c : Call) → Timed d → Bytes xs → FileBytes (c .change) → callNumber d xs c ≡ 0 → vppHigh (d .part) (c .pins) ≡ true
-    → LentDemand3 true d (c .state) (c .pins) 3 xs (contentsBy d xs c) (c .scratch)
+    → LentDemand3 true (changeJob d (c .state) (c .pins)) xs (contentsBy d xs c) (c .scratch)
 run-demand-3 = calls.with-supply
 
 -- A call that is refused makes no cycle and touches nothing.
@@ -65,7 +65,7 @@ refused-never = calls.refused-left
 
 -- 43 exactly: on devices 1 to 4, where no number of a run applies, the file is read and the store is proper, an add is refused 43 just
 -- where the live blocks without the replaced file, and the new ones, exceed 224, or 28 on the bench devices.
-pub room-43 : (d : Device) (s : State) (p : Pins) (xs : List ℕ) (memory scratch : ℕ) (b : List ℕ) (ℓ : ℕ) → isLarge (d .part) ≡ false → lentNumber d s p 3 (length xs) memory scratch ≡ 0
+pub room-43 : (d : Device) (s : State) (p : Pins) (xs : List ℕ) (memory scratch : ℕ) (b : List ℕ) (ℓ : ℕ) → isLarge (d .part) ≡ false → lentNumber (changeJob d s p) (length xs) memory scratch ≡ 0
     → faultOf limit ℓ b ≡ 0 → isProper (faultOf limit) (mainOf (d .part) xs) ≡ true
     → (addNumber d s p xs memory scratch b ℓ ≡ 43) ↔ (placesAt (d .part .number) < liveIn (without ℓ (itemsIn (faultOf limit) (mainOf (d .part) xs))) + getD b 2 0)
 room-43 = further.room-43
@@ -106,9 +106,9 @@ load-leaves = further.load-leaves
 
 -- .. so after a load of one file into the main block of devices 1 to 4, that nothing refuses and with VPP high, the main block is a proper
 -- store in which that file is found.
-pub load-makes-store : (d : Device) (s : State) (p : Pins) (xs w sc f : List ℕ) (asked : ℕ) → isLarge (d .part) ≡ false → FileStart d s p 3 xs w sc f asked
-    → Proper (faultOf limit) (placesFor (d .part)) (mainOf (d .part) (bytesLoaded d s p 3 xs w sc f asked))
-    × (findOf (faultOf limit) asked (mainOf (d .part) (bytesLoaded d s p 3 xs w sc f asked)) ≡ f)
+pub load-makes-store : (d : Device) (s : State) (p : Pins) (xs w sc f : List ℕ) (asked : ℕ) → isLarge (d .part) ≡ false → FileStart (changeJob d s p) xs w sc f asked
+    → Proper (faultOf limit) (placesFor (d .part)) (mainOf (d .part) (loadLeft (changeJob d s p) xs w sc f asked .bytes))
+    × (findOf (faultOf limit) asked (mainOf (d .part) (loadLeft (changeJob d s p) xs w sc f asked .bytes)) ≡ f)
 load-makes-store = loads.load-makes-store
 
 -- An erased block is the empty store: 42 for every letter.

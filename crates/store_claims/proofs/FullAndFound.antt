@@ -20,12 +20,12 @@ use Rattle.store_places.proofs.Claims.{no-room, refused-42}
 use Rattle.store_places.proofs.Divided.{loaded, found-read}
 use Rattle.store_survey.specs.Survey.{faultOf}
 use Rattle.store_survey.proofs.Reader.{file-reader, letter-of}
-use Rattle.store.specs.Stores.{mainOf, addNumber}
+use Rattle.store.specs.Stores.{mainOf, addNumber, changeJob}
 use Rattle.store_claims.specs.Calls.{placesFor, placesAt}
 use Rattle.store_claims.proofs.MainBlock.{there}
 use Rattle.store_claims.proofs.Rows.{own-number}
 
-pub room-43 : (d : Device) (s : State) (p : Pins) (xs : List ℕ) (memory scratch : ℕ) (b : List ℕ) (ℓ : ℕ) → isLarge (d .part) ≡ false → lentNumber d s p 3 (length xs) memory scratch ≡ 0
+pub room-43 : (d : Device) (s : State) (p : Pins) (xs : List ℕ) (memory scratch : ℕ) (b : List ℕ) (ℓ : ℕ) → isLarge (d .part) ≡ false → lentNumber (changeJob d s p) (length xs) memory scratch ≡ 0
     → faultOf limit ℓ b ≡ 0 → isProper (faultOf limit) (mainOf (d .part) xs) ≡ true
     → (addNumber d s p xs memory scratch b ℓ ≡ 43) ↔ (placesAt (d .part .number) < liveIn (without ℓ (itemsIn (faultOf limit) (mainOf (d .part) xs))) + getD b 2 0)
 room-43 d s p xs memory scratch b ℓ g z f h =

@@ -16,14 +16,14 @@ use Rattle.units.specs.Address.{byteOf}
 use Rattle.model_types.specs.declared.Pins.{Pins}
 use Rattle.model_types.specs.declared.State.{State}
 use Rattle.file_codec.specs.File.{limit, lengthWrong, blocksIn, blocksRows}
-use Rattle.loader_run.specs.Runs.{lentRows, runNumber}
+use Rattle.loader_run.specs.Runs.{lentRows, runFirst}
 use Rattle.loader_run_claims.specs.Wear.{heldIn}
-use Rattle.loader_from_file.specs.Loads.{fileRows, wantedOf, bytesLoaded}
+use Rattle.loader_from_file.specs.Loads.{fileRows, wantedOf, loadLeft}
 use Rattle.loader_from_file_claims.specs.Through.{FileStart}
 use Rattle.loader_from_file_claims.proofs.Claims.{file-loaded}
 use Rattle.store_places.specs.Store.{findOf, Proper}
 use Rattle.store_survey.specs.Survey.{faultOf}
-use Rattle.store.specs.Stores.{mainOf}
+use Rattle.store.specs.Stores.{mainOf, changeJob}
 use Rattle.store_claims.specs.Calls.{placesFor}
 use Rattle.store_claims.proofs.MainBlock.{there}
 use Rattle.store_claims.proofs.FullAndFound.{load-leaves}
@@ -47,20 +47,20 @@ taken-file f asked n e = go (lengthWrong limit (length f)) refl (ltb n (length f
     go false x true y e = absurd (omega arith)
     go false x false y e = (ap (λ (t : Bool). if t then 30 else given (blocksRows (blocksIn f) (getD f 0 0) 0 (blocksIn f) f (row 35 (not (eqb (getD f 0 0) asked)) ∷ []))) x ∙ e, ltb-false n (length f) y)
 
-pub load-makes-store : (d : Device) (s : State) (p : Pins) (xs w sc f : List ℕ) (asked : ℕ) → isLarge (d .part) ≡ false → FileStart d s p 3 xs w sc f asked
-    → Proper (faultOf limit) (placesFor (d .part)) (mainOf (d .part) (bytesLoaded d s p 3 xs w sc f asked))
-    × (findOf (faultOf limit) asked (mainOf (d .part) (bytesLoaded d s p 3 xs w sc f asked)) ≡ f)
-unfolding runNumber
+pub load-makes-store : (d : Device) (s : State) (p : Pins) (xs w sc f : List ℕ) (asked : ℕ) → isLarge (d .part) ≡ false → FileStart (changeJob d s p) xs w sc f asked
+    → Proper (faultOf limit) (placesFor (d .part)) (mainOf (d .part) (loadLeft (changeJob d s p) xs w sc f asked .bytes))
+    × (findOf (faultOf limit) asked (mainOf (d .part) (loadLeft (changeJob d s p) xs w sc f asked .bytes)) ≡ f)
+unfolding runFirst
 load-makes-store d s p xs w sc f asked g S =
-    let rows = lentRows d s p 3 (length xs) (length w) (length sc) in
+    let rows = lentRows (changeJob d s p) (length xs) (length w) (length sc) in
     let n = both-none (given rows) (given (fileRows f asked (length w))) (sym (given-append rows (fileRows f asked (length w)) refl) ∙ no-row-given (S .accepted)) in
     let t = there d s p xs (length w) (length sc) g (n .0) in
     let r = taken-file f asked (length w) (n .1) in
     let l : length w ≡ 512 * placesFor (d .part) = t .memory-long ∙ t .whole in
-    let X = bytesLoaded d s p 3 xs w sc f asked in
+    let X = loadLeft (changeJob d s p) xs w sc f asked .bytes in
     let h : mainOf (d .part) X ≡ wantedOf f (512 * placesFor (d .part)) =
     ap (λ (k : ℕ). heldIn (startOf (d .part) 3) k X) (sym (t .memory-long))
     ∙ ap (λ (v : Bool). heldIn (byteOf v (startOf (d .part) 3)) (length w) X) (sym (t .small .bytes))
-    ∙ file-loaded d s p 3 xs w sc f asked S .holds ∙ ap (wantedOf f) l in
+    ∙ file-loaded (changeJob d s p) xs w sc f asked S .holds ∙ ap (wantedOf f) l in
     subst (λ (m : List ℕ). Proper (faultOf limit) (placesFor (d .part)) m × (findOf (faultOf limit) asked m ≡ f)) (sym h)
     (load-leaves (placesFor (d .part)) asked f (r .0) (subst (λ (k : ℕ). length f ≤ k) l (r .1)))

@@ -1,6 +1,6 @@
 -- The main block of a lent array, where no number of a run applies and the device is one of 1 to 4.
 use mathlib.Core.Path.{_≡_, sym, _∙_}
-use mathlib.Core.Bool.{false}
+use mathlib.Core.Bool.{false, true}
 use mathlib.Core.List.{List}
 use Prim.Native.Nat.{ℕ, _+_, _*_, _≤_}
 use native.Mathlib.Omega.{arith}
@@ -14,7 +14,7 @@ use Rattle.model_types.specs.declared.Pins.{Pins}
 use Rattle.model_types.specs.declared.State.{State}
 use Rattle.loader_run.specs.Runs.{lentNumber}
 use Rattle.loader_run.proofs.Good.{good}
-use Rattle.store.specs.Stores.{mainOf}
+use Rattle.store.specs.Stores.{mainOf, changeJob}
 use Rattle.store_claims.specs.Calls.{placesFor, placesAt}
 use Rattle.store_claims.proofs.StoreParts.{Plain, plain, known-part, lent-same}
 
@@ -26,9 +26,9 @@ pub record There (d : Device) (xs : List ℕ) (memory : ℕ) : Type 0 where
   pub places : placesFor (d .part) ≡ placesAt (d .part .number)
   pub memory-long : memory ≡ lengthOf (d .part) 3
 
-pub there : (d : Device) (s : State) (p : Pins) (xs : List ℕ) (memory scratch : ℕ) → isLarge (d .part) ≡ false → lentNumber d s p 3 (length xs) memory scratch ≡ 0 → There d xs memory
+pub there : (d : Device) (s : State) (p : Pins) (xs : List ℕ) (memory scratch : ℕ) → isLarge (d .part) ≡ false → lentNumber (changeJob d s p) (length xs) memory scratch ≡ 0 → There d xs memory
 there d s p xs memory scratch g z =
-    let t = good d s p 3 (lentIn (d .part .word) (length xs)) (lentIn (d .part .word) memory) (lentIn (d .part .word) scratch) z in
+    let t = good (changeJob d s p) (lentIn (d .part .word) (length xs)) (lentIn (d .part .word) memory) (lentIn (d .part .word) scratch) z in
     let q = plain (d .part) (known-part d (t .known)) g in
     let n = q .places in
     let l : length xs ≡ sizeOf (d .part) = sym (lent-same (d .part .word) (length xs) (q .bytes)) ∙ t .sized in

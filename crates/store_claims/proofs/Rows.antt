@@ -17,10 +17,10 @@ use Rattle.model_types.specs.declared.Pins.{Pins}
 use Rattle.model_types.specs.declared.State.{State}
 use Rattle.file_block.specs.Block.{blockRows}
 use Rattle.file_codec.specs.File.{limit, lengthWrong, blocksIn, blocksRows, readRows}
-use Rattle.loader_run.specs.Runs.{lentRows, lentNumber, runNumber}
+use Rattle.loader_run.specs.Runs.{lentRows, lentNumber, runFirst}
 use Rattle.store_places.specs.Store.{Change, adds, drops, isProper, itemsIn, placesIn, noRoom, findRows, findNo, addNo, noOf}
 use Rattle.store_survey.specs.Survey.{faultOf}
-use Rattle.store.specs.Stores.{mainOf, addNumber, dropNumber}
+use Rattle.store.specs.Stores.{mainOf, addNumber, dropNumber, changeJob}
 use Rattle.store_claims.specs.Calls.{numberBy}
 
 -- what is asked after the blocks of a file is asked after them alone
@@ -53,32 +53,32 @@ add-own ℓ f main =
     go false = refl
 
 module _ (d : Device) (s : State) (p : Pins) (xs : List ℕ) (memory scratch : ℕ) where
-  shared : (own : List Row) → given (row 1 (isLarge (d .part)) ∷ (lentRows d s p 3 (length xs) memory scratch ++ own))
-      ≡ (if isLarge (d .part) then 1 else if eqb (lentNumber d s p 3 (length xs) memory scratch) 0 then given own else lentNumber d s p 3 (length xs) memory scratch)
-  unfolding runNumber
-  shared own = ap (λ (n : ℕ). if isLarge (d .part) then 1 else n) (given-append (lentRows d s p 3 (length xs) memory scratch) own refl)
+  shared : (own : List Row) → given (row 1 (isLarge (d .part)) ∷ (lentRows (changeJob d s p) (length xs) memory scratch ++ own))
+      ≡ (if isLarge (d .part) then 1 else if eqb (lentNumber (changeJob d s p) (length xs) memory scratch) 0 then given own else lentNumber (changeJob d s p) (length xs) memory scratch)
+  unfolding runFirst
+  shared own = ap (λ (n : ℕ). if isLarge (d .part) then 1 else n) (given-append (lentRows (changeJob d s p) (length xs) memory scratch) own refl)
 
   -- the number of a call by the change's own
   pub number-is : (c : Change) → numberBy c d s p xs memory scratch
-      ≡ (if isLarge (d .part) then 1 else if eqb (lentNumber d s p 3 (length xs) memory scratch) 0 then noOf (faultOf limit) c (mainOf (d .part) xs) else lentNumber d s p 3 (length xs) memory scratch)
+      ≡ (if isLarge (d .part) then 1 else if eqb (lentNumber (changeJob d s p) (length xs) memory scratch) 0 then noOf (faultOf limit) c (mainOf (d .part) xs) else lentNumber (changeJob d s p) (length xs) memory scratch)
   unfolding addNumber dropNumber findNo
   number-is (adds ℓ b) =
       shared (readRows limit b ℓ (row 44 (not (isProper (faultOf limit) (mainOf (d .part) xs))) ∷ row 43 (noRoom (length (mainOf (d .part) xs) / 512) ℓ (placesIn b) (itemsIn (faultOf limit) (mainOf (d .part) xs))) ∷ []))
-      ∙ ap (λ (n : ℕ). if isLarge (d .part) then 1 else if eqb (lentNumber d s p 3 (length xs) memory scratch) 0 then n else lentNumber d s p 3 (length xs) memory scratch) (add-own ℓ b (mainOf (d .part) xs))
+      ∙ ap (λ (n : ℕ). if isLarge (d .part) then 1 else if eqb (lentNumber (changeJob d s p) (length xs) memory scratch) 0 then n else lentNumber (changeJob d s p) (length xs) memory scratch) (add-own ℓ b (mainOf (d .part) xs))
   number-is (drops ℓ) = shared (findRows (faultOf limit) ℓ (mainOf (d .part) xs) [])
 
   -- nothing refuses a call: it is of devices 1 to 4, no number of a run applies, and none of the change
   pub none-applies : (c : Change) → numberBy c d s p xs memory scratch ≡ 0
-      → (isLarge (d .part) ≡ false) × (lentNumber d s p 3 (length xs) memory scratch ≡ 0) × (noOf (faultOf limit) c (mainOf (d .part) xs) ≡ 0)
-  none-applies c z = go (isLarge (d .part)) refl (eqb (lentNumber d s p 3 (length xs) memory scratch) 0) refl (sym (number-is c) ∙ z)
+      → (isLarge (d .part) ≡ false) × (lentNumber (changeJob d s p) (length xs) memory scratch ≡ 0) × (noOf (faultOf limit) c (mainOf (d .part) xs) ≡ 0)
+  none-applies c z = go (isLarge (d .part)) refl (eqb (lentNumber (changeJob d s p) (length xs) memory scratch) 0) refl (sym (number-is c) ∙ z)
     where
-      go : (a : Bool) → isLarge (d .part) ≡ a → (b : Bool) → eqb (lentNumber d s p 3 (length xs) memory scratch) 0 ≡ b
-          → (if a then 1 else if b then noOf (faultOf limit) c (mainOf (d .part) xs) else lentNumber d s p 3 (length xs) memory scratch) ≡ 0
-          → (isLarge (d .part) ≡ false) × (lentNumber d s p 3 (length xs) memory scratch ≡ 0) × (noOf (faultOf limit) c (mainOf (d .part) xs) ≡ 0)
+      go : (a : Bool) → isLarge (d .part) ≡ a → (b : Bool) → eqb (lentNumber (changeJob d s p) (length xs) memory scratch) 0 ≡ b
+          → (if a then 1 else if b then noOf (faultOf limit) c (mainOf (d .part) xs) else lentNumber (changeJob d s p) (length xs) memory scratch) ≡ 0
+          → (isLarge (d .part) ≡ false) × (lentNumber (changeJob d s p) (length xs) memory scratch ≡ 0) × (noOf (faultOf limit) c (mainOf (d .part) xs) ≡ 0)
       go true x b y e = absurd (omega arith)
       go false x true y e = (x, eqb-true _ 0 y, e)
       go false x false y e = absurd (eqb-false _ 0 y e)
 
   -- where it is of devices 1 to 4 and no number of a run applies, the change's own number is given
-  pub own-number : (c : Change) → isLarge (d .part) ≡ false → lentNumber d s p 3 (length xs) memory scratch ≡ 0 → numberBy c d s p xs memory scratch ≡ noOf (faultOf limit) c (mainOf (d .part) xs)
-  own-number c a z = number-is c ∙ if-false (isLarge (d .part)) 1 _ a ∙ if-true (eqb (lentNumber d s p 3 (length xs) memory scratch) 0) _ _ (eq-eqb _ 0 z)
+  pub own-number : (c : Change) → isLarge (d .part) ≡ false → lentNumber (changeJob d s p) (length xs) memory scratch ≡ 0 → numberBy c d s p xs memory scratch ≡ noOf (faultOf limit) c (mainOf (d .part) xs)
+  own-number c a z = number-is c ∙ if-false (isLarge (d .part)) 1 _ a ∙ if-true (eqb (lentNumber (changeJob d s p) (length xs) memory scratch) 0) _ _ (eq-eqb _ 0 z)

@@ -27,7 +27,7 @@ use Rattle.store_places.specs.Store.{Change, adds, drops, itemsIn, placesIn, ru
 use Rattle.store_places.proofs.Claims.{drop-falls, add-falls, add-let}
 use Rattle.store_survey.specs.Survey.{faultOf}
 use Rattle.store_survey.proofs.Reader.{file-reader}
-use Rattle.store.specs.Stores.{mainOf, ChangeLeft}
+use Rattle.store.specs.Stores.{mainOf, ChangeLeft, changeJob}
 use Rattle.store_claims.specs.Calls.{placesFor, Call, callNumber, callLeft, contentsBy, FileBytes, Timed, Spared}
 use Rattle.store_claims.proofs.Contents.{falls-rises}
 use Rattle.store_claims.proofs.Calls.{found-proper, own-none, made-by-run, of-bytes, taken, new-long}
@@ -48,18 +48,18 @@ module _ (d : Device) (xs : List ℕ) (c : Call) (T : Timed d) (B : Bytes xs) (F
   abbrev new : List ℕ
   new = contentsBy d xs c
 
-  start : Start d (c .state) (c .pins) 3 xs (contentsBy d xs c) (c .scratch)
+  start : Start (changeJob d (c .state) (c .pins)) xs (contentsBy d xs c) (c .scratch)
   start = record { base = taken d xs c T B F z; high = v; unlock = λ (e : _≡_ {A = ℕ} 3 0). absurd (omega arith) }
 
-  demand : Demand3 true d (c .state) (c .pins) 3 xs (contentsBy d xs c) (c .scratch)
-  demand = demand-3 true d (c .state) (c .pins) 3 xs (contentsBy d xs c) (c .scratch) start
+  demand : Demand3 true (changeJob d (c .state) (c .pins)) xs (contentsBy d xs c) (c .scratch)
+  demand = demand-3 true (changeJob d (c .state) (c .pins)) xs (contentsBy d xs c) (c .scratch) start
 
   -- the counts of erases: one more of the main block where some bit must rise, else as they were
   pub wear-is : callLeft d xs c .ran .state .wear ≡ (if risesIn new main then worn (c .state .wear) 3 else c .state .wear)
   wear-is =
       ap (λ (x : ChangeLeft). x .ran .state .wear) (made-by-run d xs c T B F z)
       ∙ ap (λ (x : RunLeft). x .ran .state .wear) (of-bytes d xs c T B F z)
-      ∙ ap (λ (r : Ran). r .state .wear) (ends-well true d (c .state) (c .pins) 3 xs (contentsBy d xs c) (c .scratch) start)
+      ∙ ap (λ (r : Ran). r .state .wear) (ends-well true (changeJob d (c .state) (c .pins)) xs (contentsBy d xs c) (c .scratch) start)
       ∙ ap (λ (n : ℕ). if risesIn (contentsBy d xs c) (heldIn (startOf (d .part) 3) n xs) then worn (c .state .wear) 3 else c .state .wear) (new-long d xs c T B F z)
 
   -- where no bit must rise, nothing is erased

@@ -14,13 +14,12 @@ use Rattle.model_types.specs.declared.Pins.{Pins}
 use Rattle.model_types.specs.declared.State.{State}
 use Rattle.model_types.specs.Levels.{vppHigh}
 use Rattle.model_history.specs.History.{totalOf, eraseOf}
-use Rattle.loader.specs.declared.Stage.the-variants.{Clearing}
 use Rattle.loader.specs.Walks.{risesIn}
 use Rattle.loader_run_claims.specs.Wear.{begunAt}
 use Rattle.store_places.specs.Store.{Change, adds, drops, doneBy, isProper, findOf, changedAll, lastUnder}
 use Rattle.store_survey.specs.Survey.{faultOf}
 use Rattle.file_codec.specs.File.{limit, Outcome, refused, made}
-use Rattle.store.specs.Stores.{mainOf, dropNumber, addNumber, ChangeLeft, dropLeft, addLeft}
+use Rattle.store.specs.Stores.{mainOf, dropNumber, addNumber, ChangeLeft, dropLeft, addLeft, changeJob}
 
 -- the places of a part's main block
 abbrev pub placesFor : Part → ℕ
@@ -121,5 +120,5 @@ AllHigh d (c ∷ cs) = (vppHigh (d .part) (c .pins) ≡ true) × AllHigh d cs
 -- a call that begins no erase: no bit must rise, no erase is among the operations begun, and no count of erases goes up
 pub record Spared (d : Device) (xs : List ℕ) (c : Call) : Type 0 where
   pub falls : risesIn (contentsBy d xs c) (mainOf (d .part) xs) ≡ false
-  pub begun : (k : ℕ) → totalOf (eraseOf k) (begunAt Clearing true d (c .state) (c .pins) 3 xs (contentsBy d xs c) (c .scratch)) ≡ 0
+  pub begun : (k : ℕ) → totalOf (eraseOf k) (begunAt (changeJob d (c .state) (c .pins)) xs (contentsBy d xs c) (c .scratch)) ≡ 0
   pub wear : callLeft d xs c .ran .state .wear ≡ c .state .wear

@@ -6,10 +6,12 @@ use device::Part;
 use loader::Loader;
 use loader::Stage;
 use loader::Turn;
+use loader::Work;
 use loader_held::Hold;
 use loader_held::Pair;
 use loader_held::Step;
 use loader_held_steps::HeldGiven;
+use loader_run::Job;
 use loader_run::Ran;
 use model_types::Cycle;
 use model_types::Kind;
@@ -371,18 +373,21 @@ fn ran(
     let q = common::least(setup.polls, p);
     let a = p + common::least(setup.addresses, numbers.len() - p);
     let r = common::least(setup.room, room.len());
+    let j = Job {
+        device: device,
+        state: before,
+        pins: pins,
+        block: setup.block,
+        work: Work::Load(op == b'R'),
+    };
     loader_held_run::run_held(
-        device,
-        before,
-        pins,
-        setup.block,
+        j,
         &mut array[0..n],
         &wanted[0..m],
         &mut scratch[0..k],
         &numbers[0..q],
         &numbers[p..a],
         &mut room[0..r],
-        op == b'R',
     )
 }
 

@@ -2,6 +2,8 @@
 // 46 numbers of six digits, then seven counts of ten; tests/vectors_load.py says what they mean and works out the answers.
 use device::Device;
 use device::Part;
+use loader::Work;
+use loader_run::Job;
 use loader_run::Ran;
 use model_types::Pins;
 use model_types::State;
@@ -132,6 +134,14 @@ fn state_of(case: &[u8]) -> State {
     }
 }
 
+// What is done with the file: a load and the verify after it, or a verify.
+fn work_of(case: &[u8]) -> Work {
+    if byte(case, 42) == 1 {
+        return Work::Verify;
+    }
+    Work::Load(true)
+}
+
 // The load, or the verify where the case says so.
 fn loaded(
     case: &[u8],
@@ -143,32 +153,15 @@ fn loaded(
     let device = device_of(case);
     let state = state_of(case);
     let pins = pins_of(case);
-    let block = byte(case, 21);
     let asked = byte(case, 15);
-    if byte(case, 42) == 1 {
-        return loader_from_file::verify_from_file(
-            device,
-            state,
-            pins,
-            block,
-            array,
-            wanted,
-            scratch,
-            file,
-            asked,
-        );
-    }
-    loader_from_file::load(
-        device,
-        state,
-        pins,
-        block,
-        array,
-        wanted,
-        scratch,
-        file,
-        asked,
-    )
+    let j = Job {
+        device: device,
+        state: state,
+        pins: pins,
+        block: byte(case, 21),
+        work: work_of(case),
+    };
+    loader_from_file::load(j, array, wanted, scratch, file, asked)
 }
 
 // A byte in hex.

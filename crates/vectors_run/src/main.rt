@@ -8,6 +8,8 @@ use loader::Given;
 use loader::Loader;
 use loader::Stage;
 use loader::Turn;
+use loader::Work;
+use loader_run::Job;
 use loader_run::Ran;
 use model_types::Cycle;
 use model_types::Kind;
@@ -302,47 +304,18 @@ fn print_turn(turn: Turn) {
     }
 }
 
-// A whole run, a load alone or a verify alone, cycle by cycle against the model.
-fn driven_by(
-    op: u8,
-    device: Device,
-    before: State,
-    pins: Pins,
-    block: u8,
-    array: &mut [u8],
-    wanted: &[u8],
-    scratch: &mut [u8],
-) -> Ran {
+// A whole run, a load alone or a verify alone.
+fn work_of(op: u8) -> Work {
     if op == b'O' {
-        return loader_run::run_load(device, before, pins, block, array, wanted, scratch);
+        return Work::Load(false);
     }
     if op == b'V' {
-        return loader_run::run_verify(device, before, pins, block, array, wanted, scratch);
+        return Work::Verify;
     }
-    loader_run::run(device, before, pins, block, array, wanted, scratch)
+    Work::Load(true)
 }
 
-// The same stage by stage.
-fn ran_by(
-    op: u8,
-    device: Device,
-    before: State,
-    pins: Pins,
-    block: u8,
-    array: &mut [u8],
-    wanted: &[u8],
-    scratch: &mut [u8],
-) -> Ran {
-    if op == b'O' {
-        return loader_quick::run_load_quick(device, before, pins, block, array, wanted, scratch);
-    }
-    if op == b'V' {
-        return loader_quick::run_verify_quick(device, before, pins, block, array, wanted, scratch);
-    }
-    loader_quick::run_quick(device, before, pins, block, array, wanted, scratch)
-}
-
-// Either on what is lent.
+// It is made cycle by cycle against the model, or stage by stage, on what is lent.
 fn ran(
     cycles: bool,
     op: u8,
@@ -354,11 +327,17 @@ fn ran(
 ) -> Ran {
     let device = setup.device;
     let pins = setup.pins;
-    let block = setup.block;
+    let j = Job {
+        device: device,
+        state: before,
+        pins: pins,
+        block: setup.block,
+        work: work_of(op),
+    };
     if cycles {
-        return driven_by(op, device, before, pins, block, array, wanted, scratch);
+        return loader_run::run(j, array, wanted, scratch);
     }
-    ran_by(op, device, before, pins, block, array, wanted, scratch)
+    loader_quick::run_quick(j, array, wanted, scratch)
 }
 
 // .. the fronts of three slices.
@@ -491,15 +470,20 @@ fn given_line(b: Bench, g: Given, room: u64) -> Bench {
     after
 }
 
-// A start of a run, of a load alone or of a verify alone.
-fn started(op: u8, part: Part, pins: Pins, block: u8, wanted: &[u8], scratch: &[u8]) -> Given {
+// What a start is of.
+fn start_work(op: u8) -> Work {
     if op == b'P' {
-        return loader_steps::front::start_load(part, pins, block, wanted, scratch);
+        return Work::Load(false);
     }
     if op == b'U' {
-        return loader_steps::front::start_verify(part, pins, block, wanted, scratch);
+        return Work::Verify;
     }
-    loader_steps::front::start(part, pins, block, wanted, scratch)
+    Work::Load(true)
+}
+
+// A start of a run, of a load alone or of a verify alone.
+fn started(op: u8, part: Part, pins: Pins, block: u8, wanted: &[u8], scratch: &[u8]) -> Given {
+    loader_steps::front::start(start_work(op), part, pins, block, wanted, scratch)
 }
 
 // A start and its line.

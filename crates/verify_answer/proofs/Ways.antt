@@ -8,10 +8,9 @@ use lib.ListN.{take, drop}
 use borrow.Rule.Slice.PartMut.{putMid, midOf}
 use Rattle.common.proofs.Choice.{if-true, if-false}
 use Rattle.device.specs.declared.Part.{Part}
-use Rattle.model_types.specs.declared.State.{State}
-use Rattle.model_types.specs.States.{freshState}
-use Rattle.loader_from_file.specs.Loads.{verifyLeft}
-use Rattle.verify_answer.specs.Answers.{deviceOf, reading, verifyOf, callWrong, numeralOf, askedPart, askedLeft, bytesOf, misused, ended, answered}
+use Rattle.verify_answer.specs.Answers.{verifyJob, verifyOf, callWrong, numeralOf, askedPart, askedLeft, misused, ended, answered, bytesOf}
+use Rattle.loader_run.specs.declared.Job.{Job}
+use Rattle.loader_from_file.specs.Loads.{loadLeft}
 
 module _ (count : ℕ) (xs device block f letter mode w sc : List ℕ) where
   pub answered-wrong : callWrong count letter (numeralOf mode) ≡ true → misused xs w sc ≡ answered count xs device block f letter mode w sc
@@ -27,12 +26,12 @@ front-put : (n : ℕ) (xs ys : List ℕ) → putMid 0 (n - 0) xs ys ≡ ys ++ dr
 front-put n xs ys = ap (λ (k : ℕ). ys ++ drop k xs) (let e : n - 0 ≡ n = omega arith in e)
 
 -- a verify in the front of the rooms lent
-pub verify-is : (part : Part) (k : ℕ) (xs w sc f : List ℕ) (letter n : ℕ) (s : State) → n ≡ bytesOf part k w sc → s ≡ freshState
-    → verifyLeft (deviceOf part) s reading k xs (midOf 0 (n - 0) w) (midOf 0 (n - 0) sc) f letter ≡ verifyOf part k xs w sc f letter
+pub verify-is : (part : Part) (k : ℕ) (xs w sc f : List ℕ) (letter n : ℕ) (j : Job) → n ≡ bytesOf part k w sc → j ≡ verifyJob part k
+    → loadLeft j xs (midOf 0 (n - 0) w) (midOf 0 (n - 0) sc) f letter ≡ verifyOf part k xs w sc f letter
 unfolding verifyOf
-verify-is part k xs w sc f letter n s e g =
+verify-is part k xs w sc f letter n j e g =
     let m : n - 0 ≡ bytesOf part k w sc = (let z : n - 0 ≡ n = omega arith in z) ∙ e in
-    λ i. verifyLeft (deviceOf part) (g i) reading k xs (take (m i) w) (take (m i) sc) f letter
+    λ i. loadLeft (g i) xs (take (m i) w) (take (m i) sc) f letter
 
 -- what is put back of a room
 pub room-left : (n m : ℕ) (xs ys zs : List ℕ) → n ≡ m → ys ≡ zs → putMid 0 (n - 0) xs ys ≡ zs ++ drop m xs

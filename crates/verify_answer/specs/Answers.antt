@@ -13,7 +13,10 @@ use Rattle.device.specs.declared.Part.{Part}
 use Rattle.device.specs.Parts.{lengthOf}
 use Rattle.model_types.specs.declared.Pins.{Pins}
 use Rattle.model_types.specs.States.{freshState}
-use Rattle.loader_from_file.specs.Loads.{LoadLeft, verifyLeft}
+use Rattle.loader_from_file.specs.Loads.{LoadLeft, loadLeft}
+use Rattle.loader.specs.declared.Work.the-variants.{Verify}
+use Rattle.loader_run.specs.declared.Job.{Job}
+use Rattle.loader_run.specs.Runs.{jobOf}
 
 -- a word that is one digit, and what it counts: 255 where it is none, which no device, block or mode has
 unfoldable pub isNumeral : List ℕ → Bool
@@ -75,9 +78,13 @@ narrowed part = record { number = part .number; word = false }
 abbrev pub bytesOf : Part → ℕ → List ℕ → List ℕ → ℕ
 bytesOf part k w sc = min (lengthOf (narrowed part) k) (min (length w) (length sc))
 
+-- what is verified: block k of a fresh part, at the levels of a reading
+abbrev pub verifyJob : Part → ℕ → Job
+verifyJob part k = jobOf Verify (deviceOf part) freshState reading k
+
 -- the verify of block k of an image of a part that is fresh, in the front of the rooms lent
 unfoldable pub verifyOf : Part → ℕ → List ℕ → List ℕ → List ℕ → List ℕ → ℕ → LoadLeft
-verifyOf part k xs w sc f letter = verifyLeft (deviceOf part) freshState reading k xs (take (bytesOf part k w sc) w) (take (bytesOf part k w sc) sc) f letter
+verifyOf part k xs w sc f letter = loadLeft (verifyJob part k) xs (take (bytesOf part k w sc) w) (take (bytesOf part k w sc) sc) f letter
 
 -- how the program is called
 abbrev pub usage : List ℕ

@@ -2,6 +2,8 @@
 // Each public function takes any input.
 use device::Device;
 use device::Part;
+use loader::Work;
+use loader_run::Job;
 use loader_run::Ran;
 use model_types::Pins;
 use text::Told;
@@ -11,7 +13,7 @@ ghost use Prim.Native.Nat.{min};
 ghost use lib.ListN.{drop};
 ghost use Rattle.device.specs.Parts.{lengthOf};
 ghost use Rattle.text.specs.Writing.{laidAt, behind, Used, toldOn};
-ghost use Rattle.verify_answer.specs.Answers.{isNumeral, numeralOf, callWrong, verifyWords, refusedLine, addressText, differsText, endText, narrowed, bytesOf, verifyOf, usage, answered, told};
+ghost use Rattle.verify_answer.specs.Answers.{isNumeral, numeralOf, callWrong, verifyWords, refusedLine, addressText, differsText, endText, narrowed, bytesOf, verifyJob, verifyOf, usage, answered, told};
 
 // A word that is one digit.
 fn is_numeral(word: &[u8]) -> bool
@@ -125,6 +127,31 @@ pub fn block_bytes(part: Part, block: u8, wanted: usize, scratch: usize) -> usiz
     )
 }
 
+// What is verified: a block of a fresh part, at the levels of a reading.
+fn verify_job(part: Part, block: u8) -> Job
+    ensures { λ r. ⌜ r ≡ verifyJob part block ⌝ }
+{
+    let state = model::fresh();
+    let pins = Pins {
+        rp: 1,
+        wp: 0,
+        vpp: 0,
+    };
+    let device = Device {
+        part: part,
+        program: 1,
+        erase: 1,
+        suspend: 1,
+    };
+    Job {
+        device: device,
+        state: state,
+        pins: pins,
+        block: block,
+        work: Work::Verify,
+    }
+}
+
 // The verify of a block of an image, on a fresh part, in the front of wanted and scratch.
 fn verified(
     part: Part,
@@ -145,23 +172,9 @@ fn verified(
         ++ drop (bytesOf part block (now (wanted .entry)) (now (scratch .entry))) (now (scratch .entry)) ⌝ }
 {
     let n = block_bytes(part, block, wanted.len(), scratch.len());
-    let state = model::fresh();
-    let pins = Pins {
-        rp: 1,
-        wp: 0,
-        vpp: 0,
-    };
-    let d = Device {
-        part: part,
-        program: 1,
-        erase: 1,
-        suspend: 1,
-    };
-    loader_from_file::verify_from_file(
-        d,
-        state,
-        pins,
-        block,
+    let j = verify_job(part, block);
+    loader_from_file::load(
+        j,
         image,
         &mut wanted[0..n],
         &mut scratch[0..n],

@@ -9,16 +9,16 @@ part-in-requires c κs = search needs
 pins-in-requires : tie.Need-pins-in-requires
 pins-in-requires c κs = search needs
 
-start-load-requires : tie.Need-start-load-requires
-start-load-requires c κs = search needs
+start-requires : tie.Need-start-requires
+start-requires c κs = search needs
 
 given-out-requires : tie.Need-given-out-requires
 given-out-requires c κs = search needs
 
 returns : tie.Need-returns
 unfolding startedAt
-returns c = simp (c .given-out .ensures, c .before .start-load .ensures .0, c .before .before .pins-in .ensures, c .before .before .before .part-in .ensures)
+returns c = simp (c .given-out .ensures, c .before .start .ensures .0, c .before .before .pins-in .ensures, c .before .before .before .part-in .ensures)
 
 pub tb-load-start-spec : {M : Type 1} → statement M
 tb-load-start-spec =
-    tie.close (tie.spec part-in-requires pins-in-requires start-load-requires given-out-requires returns)
+    tie.close (tie.spec part-in-requires pins-in-requires start-requires given-out-requires returns)

@@ -9,16 +9,16 @@ part-in-requires c κs = search needs
 pins-in-requires : tie.Need-pins-in-requires
 pins-in-requires c κs = search needs
 
-start-verify-requires : tie.Need-start-verify-requires
-start-verify-requires c κs = search needs
+start-requires : tie.Need-start-requires
+start-requires c κs = search needs
 
 given-out-requires : tie.Need-given-out-requires
 given-out-requires c κs = search needs
 
 returns : tie.Need-returns
 unfolding startedAt
-returns c = simp (c .given-out .ensures, c .before .start-verify .ensures .0, c .before .before .pins-in .ensures, c .before .before .before .part-in .ensures)
+returns c = simp (c .given-out .ensures, c .before .start .ensures .0, c .before .before .pins-in .ensures, c .before .before .before .part-in .ensures)
 
 pub tb-verify-start-spec : {M : Type 1} → statement M
 tb-verify-start-spec =
-    tie.close (tie.spec part-in-requires pins-in-requires start-verify-requires given-out-requires returns)
+    tie.close (tie.spec part-in-requires pins-in-requires start-requires given-out-requires returns)

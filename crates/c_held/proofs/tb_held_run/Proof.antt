@@ -1,21 +1,14 @@
 use borrow.Author.Needs.{needs}
 use mathlib.Core.Path.{_≡_, ap, _∙_}
 use Rattle.loader_run.specs.declared.Ran.{Ran}
-use Rattle.loader_held_run.specs.HeldRuns.{lentHeld}
-use Rattle.c_cycle.specs.Values.{deviceIn, stateIn, pinsIn}
 use Rattle.c_records.specs.Records.{ranOut}
-use Rattle.c_held.specs.Helds.{heldRunOf, heldRunLeft, yes}
+use Rattle.loader_held_run.specs.HeldRuns.{lentHeld}
+use Rattle.c_held.specs.Helds.{heldRunOf, heldRunLeft}
 use Rattle.c_held.proofs.tb_held_run.Statement.{statement}
 use Rattle.c_held.proofs.tb_held_run.Tie as tie
 
-device-in-requires : tie.Need-device-in-requires
-device-in-requires c κs = search needs
-
-state-in-requires : tie.Need-state-in-requires
-state-in-requires c κs = search needs
-
-pins-in-requires : tie.Need-pins-in-requires
-pins-in-requires c κs = search needs
+job-in-requires : tie.Need-job-in-requires
+job-in-requires c κs = search needs
 
 run-held-requires : tie.Need-run-held-requires
 run-held-requires c κs = search needs
@@ -35,37 +28,18 @@ same-length-3 c = search needs
 returns : tie.Need-returns
 unfolding heldRunOf heldRunLeft
 returns c =
-    let a = c .before .before .before .before .before .before .before .before .before .before .before .before .before .before .before .before .before .before .before .before .args in
+    let a = c .before .before .before .before .before .before .before .before .before .before .before .before .before .before .before .before .before .before .args in
     let xs = a .array .now in
     let w = a .wanted .now in
     let sc = a .scratch .now in
     let ps = a .polls .now in
     let bs = a .addresses .now in
     let room = a .room .now in
-    let d : c .before .before .before .before .before .before .before .before .before .before .before .before .before .device-in .result ≡ deviceIn (a .device) = c .before .before .before .before .before .before .before .before .before .before .before .before .before .device-in .ensures in
-    let s : c .before .before .before .before .before .before .before .before .before .before .before .before .state-in .result ≡ stateIn (a .state) = c .before .before .before .before .before .before .before .before .before .before .before .before .state-in .ensures in
-    let p : c .before .before .before .before .before .before .before .before .before .before .before .pins-in .result ≡ pinsIn (a .rp) (a .wp) (a .vpp) = c .before .before .before .before .before .before .before .before .before .before .before .pins-in .ensures in
-    let g : c .before .before .before .before .before .before .before .run-held .result ≡ lentHeld (yes (a .verify)) (deviceIn (a .device)) (stateIn (a .state)) (pinsIn (a .rp) (a .wp) (a .vpp)) (a .block) xs w sc ps bs room .ran = c .before .before .before .before .before .before .before .run-held .ensures .0 ∙ (λ i. lentHeld (yes (a .verify)) (d i) (s i) (p i) (a .block) xs w sc ps bs room .ran) in (
-      c .ran-out .ensures ∙ ap (λ (x : Ran). ranOut (a .state) x) g,
-      (
-        c .before .before .before .before .before .before .before .run-held .ensures .1 .0 ∙ (λ i. lentHeld (yes (a .verify)) (d i) (s i) (p i) (a .block) xs w sc ps bs room .bytes),
-        (
-          c .before .before .before .before .before .before .before .run-held .ensures .1 .1 .0 ∙ (λ i. lentHeld (yes (a .verify)) (d i) (s i) (p i) (a .block) xs w sc ps bs room .scratch),
-          c .before .before .before .before .before .before .before .run-held .ensures .1 .1 .1 ∙ (λ i. lentHeld (yes (a .verify)) (d i) (s i) (p i) (a .block) xs w sc ps bs room .room),
-        ),
-      ),
+    let e = c .before .before .before .before .before .before .before .before .before .before .before .job-in .ensures in
+    let r = c .before .before .before .before .before .before .before .run-held .ensures in (
+      c .ran-out .ensures ∙ ap (λ (x : Ran). ranOut (a .state) x) (r .0 ∙ (λ i. lentHeld (e i) xs w sc ps bs room .ran)),
+      (r .1 .0 ∙ (λ i. lentHeld (e i) xs w sc ps bs room .bytes), (r .1 .1 .0 ∙ (λ i. lentHeld (e i) xs w sc ps bs room .scratch), r .1 .1 .1 ∙ (λ i. lentHeld (e i) xs w sc ps bs room .room))),
     )
 
 pub tb-held-run-spec : {M : Type 1} → statement M
-tb-held-run-spec =
-    tie.close
-    (tie.spec
-    device-in-requires
-    state-in-requires
-    pins-in-requires
-    run-held-requires
-    ran-out-requires
-    same-length
-    same-length-2
-    same-length-3
-    returns)
+tb-held-run-spec = tie.close (tie.spec job-in-requires run-held-requires ran-out-requires same-length same-length-2 same-length-3 returns)

@@ -2,12 +2,12 @@
 use mathlib.Core.Path.{ap, _∙_}
 use denote.Ref.{now}
 use Rattle.loader_from_file.specs.Loads.{LoadLeft}
-use Rattle.verify_answer.specs.Answers.{bytesOf}
 use Rattle.verify_answer.proofs.Ways.{room-left}
 use Rattle.load_told.specs.Tellings.{loadOf}
 use Rattle.load_told.proofs.Ways.{load-is}
 use borrow.Author.Needs.{needs}
 use Rattle.load_told.proofs.loaded.Statement.{statement}
+use Rattle.verify_answer.specs.Answers.{bytesOf}
 use Rattle.load_told.proofs.loaded.Tie as tie
 
 block-bytes-requires : tie.Need-block-bytes-requires

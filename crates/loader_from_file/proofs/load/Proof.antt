@@ -1,7 +1,5 @@
 use borrow.Author.Needs.{needs}
-use mathlib.Core.Bool.{true}
-use mathlib.Core.Path.{refl, sym, _∙_}
-use Rattle.loader.specs.declared.Stage.the-variants.{Clearing}
+use mathlib.Core.Path.{sym, _∙_}
 use Rattle.loader_from_file.proofs.Leaving.{told-made, told-refused}
 use Rattle.loader_from_file.proofs.load.Statement.{statement}
 use Rattle.loader_from_file.proofs.load.Tie as tie
@@ -23,10 +21,10 @@ same-length-3 c = search needs
 
 returns : tie.Need-returns
 returns c =
-    let a = c .before .before .before .before .before .before .before .before .before .before .before .before .before .before .before .before .before .args in
+    let a = c .before .before .before .before .before .before .before .before .before .before .before .before .before .before .before .before .before .before .args in
     let s = c .before .before .before .before .before .before .before .before .before .before .before .prepared in
     let r = c .before .before .before .before .run-quick .ensures in
-    told-made Clearing true refl (a .d) (a .s) (a .p) (a .block) (a .array .now) (a .wanted .now) (a .scratch .now) (a .file .now) (a .asked) (sym (s .ensures .0) ∙ c .before .before .before .before .before .before .before .before .if1 .taken) _ (s .ensures .1) _ _ _ (r .0)
+    told-made (a .j) (a .array .now) (a .wanted .now) (a .scratch .now) (a .file .now) (a .asked) (sym (s .ensures .0) ∙ c .before .before .before .before .before .before .before .before .if1 .taken) _ (s .ensures .1) _ _ _ (r .0)
     (r .1 .0) (r .1 .1)
 
 same-length-4 : tie.Need-same-length-4
@@ -34,9 +32,9 @@ same-length-4 c = search needs
 
 returns-2 : tie.Need-returns-2
 returns-2 c =
-    let a = c .before .before .before .before .before .before .before .before .before .args in
+    let a = c .before .before .before .before .before .before .before .before .before .before .args in
     let s = c .before .before .before .prepared in
-    told-refused Clearing true refl (a .d) (a .s) (a .p) (a .block) (a .array .now) (a .wanted .now) (a .scratch .now) (a .file .now) (a .asked) (s .result) (s .ensures .0) (c .if1 .left) _ (s .ensures .1)
+    told-refused (a .j) (a .array .now) (a .wanted .now) (a .scratch .now) (a .file .now) (a .asked) (s .result) (s .ensures .0) (c .if1 .left) _ (s .ensures .1)
 
 pub load-spec : {M : Type 1} → statement M
 load-spec =

@@ -1,5 +1,10 @@
+-- `loader_from_file::load_number` meets its contract.
+use mathlib.Core.Path.{_≡_, sym, _∙_}
+use lib.Dec.{eqb}
 use borrow.Author.Needs.{needs}
 use borrow.Author.Tests.{eq-eqb, ne-eqb}
+use Rattle.common.proofs.Choice.{if-true, if-false}
+use Rattle.loader_run.specs.Runs.{runNumber, lentNumber}
 use Rattle.loader_from_file.proofs.Judging.{file-after}
 use Rattle.loader_from_file.proofs.load_number.Statement.{statement}
 use Rattle.loader_from_file.proofs.load_number.Tie as tie
@@ -20,10 +25,18 @@ file-number-requires : tie.Need-file-number-requires
 file-number-requires c κs = search needs
 
 returns : tie.Need-returns
-returns c = simp (file-after, c .file-number .ensures, eq-eqb _ _ (c .before .if1 .taken), ← c .before .before .run-number .ensures, ← c .before .before .before .lent-in3 .ensures, ← c .before .before .before .before .lent-in2 .ensures, ← c .before .before .before .before .before .lent-in .ensures)
+returns c =
+    let a = c .before .before .before .before .before .before .before .before .before .args in
+    let n = lentNumber (a .j) (a .array) (a .wanted) (a .scratch) in
+    let e : c .before .before .run-number .result ≡ n = c .before .before .run-number .ensures ∙ (λ i. runNumber (a .j) (c .before .before .before .before .before .lent-in .ensures i) (c .before .before .before .before .lent-in2 .ensures i) (c .before .before .before .lent-in3 .ensures i)) in
+    c .file-number .ensures ∙ sym (file-after (a .j) (a .array) (a .wanted) (a .scratch) (a .file .now) (a .asked) ∙ if-true (eqb n 0) _ _ (eq-eqb n 0 (sym e ∙ c .before .if1 .taken)))
 
 returns-2 : tie.Need-returns-2
-returns-2 c = simp (file-after, ne-eqb _ _ (c .if1 .left), ← c .before .run-number .ensures, ← c .before .before .lent-in3 .ensures, ← c .before .before .before .lent-in2 .ensures, ← c .before .before .before .before .lent-in .ensures)
+returns-2 c =
+    let a = c .before .before .before .before .before .before .before .before .args in
+    let n = lentNumber (a .j) (a .array) (a .wanted) (a .scratch) in
+    let e : c .before .run-number .result ≡ n = c .before .run-number .ensures ∙ (λ i. runNumber (a .j) (c .before .before .before .before .lent-in .ensures i) (c .before .before .before .lent-in2 .ensures i) (c .before .before .lent-in3 .ensures i)) in
+    e ∙ sym (file-after (a .j) (a .array) (a .wanted) (a .scratch) (a .file .now) (a .asked) ∙ if-false (eqb n 0) _ _ (ne-eqb n 0 (λ q. c .if1 .left (e ∙ q))))
 
 pub load-number-spec : {M : Type 1} → statement M
 load-number-spec = tie.close (tie.spec lent-in-requires lent-in-requires-2 lent-in-requires-3 run-number-requires file-number-requires returns returns-2)

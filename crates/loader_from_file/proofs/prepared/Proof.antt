@@ -13,7 +13,7 @@ load-number-requires c κs = search needs
 fill-wanted-requires : tie.Need-fill-wanted-requires
 fill-wanted-requires c κs =
     let a = c .before .before .before .before .args in
-    λ z. short-file (a .d) (a .s) (a .p) (a .block) (a .array) (length (a .wanted .now)) (a .scratch) (a .file .now) (a .asked) (sym (c .before .load-number .ensures) ∙ z)
+    λ z. short-file (a .j) (a .array) (length (a .wanted .now)) (a .scratch) (a .file .now) (a .asked) (sym (c .before .load-number .ensures) ∙ z)
 
 same-length : tie.Need-same-length
 same-length c = search needs

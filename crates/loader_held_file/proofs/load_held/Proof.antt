@@ -9,8 +9,8 @@ held-load-number-requires c κs = search needs
 
 fill-file-requires : tie.Need-fill-file-requires
 fill-file-requires c κs =
-    let a = c .before .before .before .before .before .before .before .before .before .before .args in
-    short-file (a .verify) (a .d) (a .s) (a .p) (a .block) (a .array .now) (a .wanted .now) (a .scratch .now) (a .file .now) (a .asked) (a .polls .now) (a .addresses .now) (a .room .now) (sym (c .before .before .held-load-number .ensures) ∙ c .before .if1 .taken)
+    let a = c .before .before .before .before .before .before .before .before .before .before .before .args in
+    short-file (a .j) (a .array .now) (a .wanted .now) (a .scratch .now) (a .file .now) (a .asked) (a .polls .now) (a .addresses .now) (a .room .now) (sym (c .before .before .held-load-number .ensures) ∙ c .before .if1 .taken)
 
 run-held-requires : tie.Need-run-held-requires
 run-held-requires c κs = search needs
@@ -29,18 +29,18 @@ same-length-4 c = search needs
 
 returns : tie.Need-returns
 returns c =
-    let a = c .before .before .before .before .before .before .before .before .before .before .before .before .before .before .before .before .before .before .before .before .before .before .before .before .args in
+    let a = c .before .before .before .before .before .before .before .before .before .before .before .before .before .before .before .before .before .before .before .before .before .before .before .before .before .args in
     let r = c .before .before .before .before .before .before .run-held .ensures in
-    told-made (a .verify) (a .d) (a .s) (a .p) (a .block) (a .array .now) (a .wanted .now) (a .scratch .now) (a .file .now) (a .asked) (a .polls .now) (a .addresses .now) (a .room .now) (sym (c .before .before .before .before .before .before .before .before .before .before .before .before .before .before .before .before .held-load-number .ensures) ∙ c .before .before .before .before .before .before .before .before .before .before .before .before .before .before .before .if1 .taken) _ (c .before .before .before .before .before .before .before .before .before .before .before .before .before .fill-file .ensures) _ _ _ _ (r .0) (r .1 .0) (r .1 .1 .0) (r .1 .1 .1)
+    told-made (a .j) (a .array .now) (a .wanted .now) (a .scratch .now) (a .file .now) (a .asked) (a .polls .now) (a .addresses .now) (a .room .now) (sym (c .before .before .before .before .before .before .before .before .before .before .before .before .before .before .before .before .held-load-number .ensures) ∙ c .before .before .before .before .before .before .before .before .before .before .before .before .before .before .before .if1 .taken) _ (c .before .before .before .before .before .before .before .before .before .before .before .before .before .fill-file .ensures) _ _ _ _ (r .0) (r .1 .0) (r .1 .1 .0) (r .1 .1 .1)
 
 refused-requires : tie.Need-refused-requires
 refused-requires c κs = search needs
 
 returns-2 : tie.Need-returns-2
 returns-2 c =
-    let a = c .before .before .before .before .before .before .before .before .before .before .args in
+    let a = c .before .before .before .before .before .before .before .before .before .before .before .args in
     let s = c .before .before .held-load-number in
-    let t = told-refused (a .verify) (a .d) (a .s) (a .p) (a .block) (a .array .now) (a .wanted .now) (a .scratch .now) (a .file .now) (a .asked) (a .polls .now) (a .addresses .now) (a .room .now) (s .result) (s .ensures) (c .before .if1 .left) in
+    let t = told-refused (a .j) (a .array .now) (a .wanted .now) (a .scratch .now) (a .file .now) (a .asked) (a .polls .now) (a .addresses .now) (a .room .now) (s .result) (s .ensures) (c .before .if1 .left) in
     (c .refused .ensures ∙ t .0, t .1)
 
 pub load-held-spec : {M : Type 1} → statement M

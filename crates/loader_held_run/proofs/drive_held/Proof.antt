@@ -9,12 +9,13 @@ use Rattle.device.specs.declared.Device.{Device}
 use Rattle.units.specs.Units.{units, spare}
 use Rattle.loader.specs.declared.Loader.{Loader}
 use Rattle.loader.specs.Stages.{isEnded}
+use Rattle.loader_steps.specs.Front.{recordOf}
 use Rattle.loader_run.proofs.Good.{short}
 use Rattle.loader_run.proofs.Sound.{Sound, sound-start}
 use Rattle.loader_held.specs.Holds.{usual}
 use Rattle.loader_held_run.specs.declared.Holding.{Holding}
 use Rattle.loader_held_run.specs.HeldTurns.{HeldConfig, heldMoved}
-use Rattle.loader_held_run.specs.HeldRuns.{heldConf, heldDriven, heldRan, heldFrom}
+use Rattle.loader_held_run.specs.HeldRuns.{heldConf, heldDriven, heldRan, heldDone}
 use Rattle.loader_held_run.specs.Inner.{ReadsInside, holdingOf}
 use Rattle.loader_held_run.proofs.HeldMeasure.{heldRemains}
 use Rattle.loader_held_run.proofs.HeldSound.{out-judged, sound-next}
@@ -31,7 +32,7 @@ abbrev here : Device → Holding → List ℕ → List ℕ → List ℕ → ℕ 
 here d h array scratch room k = heldConf (h .loader) (h .hold) (h .state) (u d array) (u d scratch) (u d room) k
 
 abbrev Inv-loop : tie.InvT-loop
-Inv-loop d wanted scratch₀ array₀ polls addresses room₀ h₀ count₀ scratch array room h count =
+Inv-loop wanted scratch₀ array₀ polls addresses room₀ d h₀ count₀ scratch array room h count =
     Keeps d (u d wanted) addresses polls (heldDriven d (u d wanted) addresses polls (here d h₀ array₀ scratch₀ room₀ 0)) (here d h array scratch room count)
     × (length scratch ≡ length scratch₀)
     × (length array ≡ length array₀)
@@ -43,26 +44,28 @@ Inv-loop d wanted scratch₀ array₀ polls addresses room₀ h₀ count₀ scra
     × (spare (d .part .word) room ≡ spare (d .part .word) room₀)
 
 abbrev μ-loop : tie.MeasureT-loop
-μ-loop d wanted scratch₀ array₀ polls addresses room₀ h₀ count₀ scratch array room h count = heldRemains (h .loader) (h .hold) (length (u d wanted)) (length addresses)
+μ-loop wanted scratch₀ array₀ polls addresses room₀ d h₀ count₀ scratch array room h count = heldRemains (h .loader) (h .hold) (length (u d wanted)) (length addresses)
+
+record-for-requires : tie.Need-record-for-requires Inv-loop μ-loop
+record-for-requires c κs = search needs
 
 begun-requires : tie.Need-begun-requires Inv-loop μ-loop
 begun-requires c κs = search needs
 
 loop-holds : tie.Need-loop-holds Inv-loop μ-loop
 loop-holds c =
-    let a = c .before .before .before .before .before .before .before .args in
-    let z = c .before .before .before .before .before .before .before .pre in
-    let e : c .begun .result ≡ holdingOf (a .l) (usual 0) (a .s) = c .begun .ensures in (
-      keeps-start (a .d) (u (a .d) (a .wanted .now)) (a .addresses .now) (a .polls .now) (here (a .d) (c .begun .result) (a .array .now) (a .scratch .now) (a .room .now) 0) refl,
+    let a = c .before .before .before .before .before .before .before .before .before .before .args in
+    let z = c .before .before .before .before .before .before .before .before .before .before .pre in
+    let e : c .begun .result ≡ holdingOf (recordOf (a .j .work) (a .j .device .part) (a .j .pins) (a .j .block)) (usual 0) (a .j .state) = c .begun .ensures ∙ ap (λ (l : Loader). holdingOf l (usual 0) (a .j .state)) (c .before .record-for .ensures) in (
+      keeps-start (a .j .device) (u (a .j .device) (a .wanted .now)) (a .addresses .now) (a .polls .now) (here (a .j .device) (c .begun .result) (a .array .now) (a .scratch .now) (a .room .now) 0) refl,
       refl,
       refl,
       refl,
-      short (a .d) (a .s) (a .l .pins) (a .l .block) (length (u (a .d) (a .array .now))) (length (u (a .d) (a .wanted .now))) (length (u (a .d) (a .scratch .now))) (z .0),
-      z .3,
+      short (a .j) (length (u (a .j .device) (a .array .now))) (length (u (a .j .device) (a .wanted .now))) (length (u (a .j .device) (a .scratch .now))) (z .0),
       z .2,
-      subst (λ (h : Holding). Sound (a .d) (u (a .d) (a .wanted .now)) (h .loader) (h .state) (length (u (a .d) (a .array .now)))) (sym e)
-          (subst (λ (l : Loader). Sound (a .d) (u (a .d) (a .wanted .now)) l (a .s) (length (u (a .d) (a .array .now)))) (sym (z .1))
-          (sound-start (a .l .stage) (a .l .verify) (a .d) (a .s) (a .l .pins) (a .l .block) (u (a .d) (a .array .now)) (u (a .d) (a .wanted .now)) (u (a .d) (a .scratch .now)) (z .0))),
+      z .1,
+      subst (λ (h : Holding). Sound (a .j .device) (u (a .j .device) (a .wanted .now)) (h .loader) (h .state) (length (u (a .j .device) (a .array .now)))) (sym e)
+          (sound-start (a .j) (u (a .j .device) (a .array .now)) (u (a .j .device) (a .wanted .now)) (u (a .j .device) (a .scratch .now)) (z .0)),
       refl,
     )
 
@@ -71,59 +74,59 @@ going-requires c κs = search needs
 
 held-both-requires : tie.Need-held-both-requires Inv-loop μ-loop
 held-both-requires c κs =
-    let a = c .before .before .before .before .before .before .before .before .before .before .before .before .before .args in
+    let a = c .before .before .before .before .before .before .before .before .before .before .before .before .before .before .before .before .args in
     let l = c .before .before .before .before .before .loop in
-    let w = u (a .d) (a .wanted .now) in
+    let w = u (a .j .device) (a .wanted .now) in
     let bs = a .addresses .now in
     let ps = a .polls .now in
-    let x = here (a .d) (l .h) (l .array) (l .scratch) (l .room) (l .count) in
+    let x = here (a .j .device) (l .h) (l .array) (l .scratch) (l .room) (l .count) in
     let g = not-true (isEnded (l .h .loader .stage)) (sym (c .before .before .before .before .going .ensures) ∙ c .before .before .before .if1 .taken) in
-    (l .inv .7 .same, out-judged (a .d) w bs ps x (l .inv .7) (l .inv .6) g)
+    (l .inv .7 .same, out-judged (a .j .device) w bs ps x (l .inv .7) (l .inv .6) g)
 
 add-count : tie.Need-add-count Inv-loop μ-loop
 add-count c =
-    let a = c .before .before .before .before .before .before .before .before .before .before .before .before .before .before .before .before .before .before .before .before .args in
+    let a = c .before .before .before .before .before .before .before .before .before .before .before .before .before .before .before .before .before .before .before .before .before .before .before .args in
     let l = c .before .before .before .before .before .before .before .before .before .before .before .before .loop in
-    let w = u (a .d) (a .wanted .now) in
+    let w = u (a .j .device) (a .wanted .now) in
     let bs = a .addresses .now in
     let ps = a .polls .now in
-    let x = here (a .d) (l .h) (l .array) (l .scratch) (l .room) (l .count) in
-    record { fits = count-fits (a .d) w bs ps _ x (l .inv .0) (l .inv .4) (l .inv .5) }
+    let x = here (a .j .device) (l .h) (l .array) (l .scratch) (l .room) (l .count) in
+    record { fits = count-fits (a .j .device) w bs ps _ x (l .inv .0) (l .inv .4) (l .inv .5) }
 
 loop-less : tie.Need-loop-less Inv-loop μ-loop
 loop-less c =
-    let a = c .before .before .before .before .before .before .before .before .before .before .before .before .before .before .before .before .before .before .before .before .args in
+    let a = c .before .before .before .before .before .before .before .before .before .before .before .before .before .before .before .before .before .before .before .before .before .before .before .args in
     let l = c .before .before .before .before .before .before .before .before .before .before .before .before .loop in
-    let w = u (a .d) (a .wanted .now) in
+    let w = u (a .j .device) (a .wanted .now) in
     let bs = a .addresses .now in
     let ps = a .polls .now in
-    let x = here (a .d) (l .h) (l .array) (l .scratch) (l .room) (l .count) in
+    let x = here (a .j .device) (l .h) (l .array) (l .scratch) (l .room) (l .count) in
     let b = c .before .before .before .before .before .before .held-both in
     let g = not-true (isEnded (l .h .loader .stage)) (sym (c .before .before .before .before .before .before .before .before .before .before .before .going .ensures) ∙ c .before .before .before .before .before .before .before .before .before .before .if1 .taken) in
-    let y = here (a .d) (b .result) (b .last .1 .1 .1 .1 .0) (b .last .1 .1 .1 .0) (b .last .1 .1 .1 .1 .1 .1 .1 .0) (l .count + 1) in
-    let q : y ≡ heldMoved (a .d) w bs ps x = from-any (a .d) w bs ps _ _ _ _ _ _ _ _ _ _ _ _ (l .count) (b .ensures .0) in
-    keeps-less (a .d) w bs ps x y g q
+    let y = here (a .j .device) (b .result) (b .last .1 .1 .1 .1 .0) (b .last .1 .1 .1 .0) (b .last .1 .1 .1 .1 .1 .1 .1 .0) (l .count + 1) in
+    let q : y ≡ heldMoved (a .j .device) w bs ps x = from-any (a .j .device) w bs ps _ _ _ _ _ _ _ _ _ _ _ _ (l .count) (b .ensures .0) in
+    keeps-less (a .j .device) w bs ps x y g q
 
 loop-again : tie.Need-loop-again Inv-loop μ-loop
 loop-again c =
-    let a = c .before .before .before .before .before .before .before .before .before .before .before .before .before .before .before .before .before .before .before .before .args in
+    let a = c .before .before .before .before .before .before .before .before .before .before .before .before .before .before .before .before .before .before .before .before .before .before .before .args in
     let l = c .before .before .before .before .before .before .before .before .before .before .before .before .loop in
-    let w = u (a .d) (a .wanted .now) in
+    let w = u (a .j .device) (a .wanted .now) in
     let bs = a .addresses .now in
     let ps = a .polls .now in
-    let x = here (a .d) (l .h) (l .array) (l .scratch) (l .room) (l .count) in
+    let x = here (a .j .device) (l .h) (l .array) (l .scratch) (l .room) (l .count) in
     let b = c .before .before .before .before .before .before .held-both in
     let g = not-true (isEnded (l .h .loader .stage)) (sym (c .before .before .before .before .before .before .before .before .before .before .before .going .ensures) ∙ c .before .before .before .before .before .before .before .before .before .before .if1 .taken) in
-    let y = here (a .d) (b .result) (b .last .1 .1 .1 .1 .0) (b .last .1 .1 .1 .0) (b .last .1 .1 .1 .1 .1 .1 .1 .0) (l .count + 1) in
-    let q : y ≡ heldMoved (a .d) w bs ps x = from-any (a .d) w bs ps _ _ _ _ _ _ _ _ _ _ _ _ (l .count) (b .ensures .0) in (
-      keeps-turn (a .d) w bs ps _ x y (l .inv .0) g q,
+    let y = here (a .j .device) (b .result) (b .last .1 .1 .1 .1 .0) (b .last .1 .1 .1 .0) (b .last .1 .1 .1 .1 .1 .1 .1 .0) (l .count + 1) in
+    let q : y ≡ heldMoved (a .j .device) w bs ps x = from-any (a .j .device) w bs ps _ _ _ _ _ _ _ _ _ _ _ _ (l .count) (b .ensures .0) in (
+      keeps-turn (a .j .device) w bs ps _ x y (l .inv .0) g q,
       b .kept .1 .1 .1 .0 ∙ l .inv .1,
       b .kept .1 .1 .1 .1 .0 ∙ l .inv .2,
       b .kept .1 .1 .1 .1 .1 .1 .1 .0 ∙ l .inv .3,
       l .inv .4,
       l .inv .5,
       l .inv .6,
-      sound-next (a .d) w bs ps x y (l .inv .7) q,
+      sound-next (a .j .device) w bs ps x y (l .inv .7) q,
       b .ensures .1 ∙ l .inv .8,
     )
 
@@ -141,15 +144,15 @@ same-length-3 c = c .before .before .before .loop .inv .3
 
 returns : tie.Need-returns Inv-loop μ-loop
 returns c =
-    let a = c .before .before .before .before .before .before .before .before .before .before .before .args in
+    let a = c .before .before .before .before .before .before .before .before .before .before .before .before .before .before .args in
     let l = c .before .before .before .loop in
-    let w = u (a .d) (a .wanted .now) in
+    let w = u (a .j .device) (a .wanted .now) in
     let bs = a .addresses .now in
     let ps = a .polls .now in
-    let x = here (a .d) (l .h) (l .array) (l .scratch) (l .room) (l .count) in
-    let e : x ≡ heldFrom (a .d) (a .s) (a .l) (a .array .now) (a .wanted .now) (a .scratch .now) ps bs (a .room .now) =
-    keeps-end (a .d) w bs ps _ _ (l .inv .0) (not-false (isEnded (l .h .loader .stage)) (sym (c .before .before .going .ensures) ∙ c .before .if1 .left))
-    ∙ ap (λ (h : Holding). heldDriven (a .d) w bs ps (here (a .d) h (a .array .now) (a .scratch .now) (a .room .now) 0)) (c .before .before .before .before .begun .ensures) in
+    let x = here (a .j .device) (l .h) (l .array) (l .scratch) (l .room) (l .count) in
+    let e : x ≡ heldDone (a .j) (a .array .now) (a .wanted .now) (a .scratch .now) ps bs (a .room .now) =
+    keeps-end (a .j .device) w bs ps _ _ (l .inv .0) (not-false (isEnded (l .h .loader .stage)) (sym (c .before .before .going .ensures) ∙ c .before .if1 .left))
+    ∙ ap (λ (h : Holding). heldDriven (a .j .device) w bs ps (here (a .j .device) h (a .array .now) (a .scratch .now) (a .room .now) 0)) (c .before .before .before .before .begun .ensures ∙ ap (λ (l : Loader). holdingOf l (usual 0) (a .j .state)) (c .before .before .before .before .before .record-for .ensures)) in
     (c .over .ensures ∙ ap heldRan e, (ap (λ (t : HeldConfig). t .bytes) e, (ap (λ (t : HeldConfig). t .scratch) e, (ap (λ (t : HeldConfig). t .room) e, l .inv .8))))
 
 pub drive-held-spec : {M : Type 1} → statement M
@@ -158,6 +161,7 @@ drive-held-spec =
     (tie.spec
     Inv-loop
     μ-loop
+    record-for-requires
     begun-requires
     loop-holds
     going-requires

@@ -30,26 +30,26 @@ same-length-2 c = search needs
 
 returns : tie.Need-returns
 returns c =
-    let a = c .before .before .before .before .before .before .before .before .before .before .before .before .args in
-    let W : List ℕ = units (a .d .part .word) (a .wanted .now) in
-    let Y : List ℕ = heldUnits (a .d .part) (a .block) (a .array .now) (a .wanted .now) in
+    let a = c .before .before .before .before .before .before .before .before .before .before .before .before .before .args in
+    let W : List ℕ = units (a .j .device .part .word) (a .wanted .now) in
+    let Y : List ℕ = heldUnits (a .j .device .part) (a .j .block) (a .array .now) (a .wanted .now) in
     let l = c .before .before .before .before .before .loaded in
     let not-well : l .result .end ≡ 0 → ⊥ = (λ (e : l .result .end ≡ 0). let u = c .if1 .taken in omega (arith, e, u)) in
-    (l .ensures .0 ∙ fault-both (a .d) (a .s) (a .p) (a .block) W Y (λ q. not-well (ap (λ (r : Ran). r .end) (l .ensures .0) ∙ q)), (l .ensures .1 .0, (l .ensures .1 .1 .0, l .ensures .1 .1 .1)))
+    (l .ensures .0 ∙ fault-both (a .j) W Y (λ q. not-well (ap (λ (r : Ran). r .end) (l .ensures .0) ∙ q)), (l .ensures .1 .0, (l .ensures .1 .1 .0, l .ensures .1 .1 .1)))
 
 verified-requires : tie.Need-verified-requires
 verified-requires c κs =
-    let a = c .before .before .before .before .before .before .before .before .before .before .before .before .before .before .before .args in
+    let a = c .before .before .before .before .before .before .before .before .before .before .before .before .before .before .before .before .args in
     let l = c .before .before .before .before .before .before .before .before .loaded in
-    subst (λ (n : ℕ). Placed (a .d .part) (a .block) n (length (a .wanted .now)) (length (l .last .1 .1 .1 .1 .1 .1 .0))) (sym (l .kept .1 .1 .1 .1 .0))
-    (subst (λ (n : ℕ). Placed (a .d .part) (a .block) (length (a .array .now)) (length (a .wanted .now)) n) (sym (l .kept .1 .1 .1 .1 .1 .1 .0)) (c .before .before .before .before .before .before .before .before .before .before .before .before .before .before .before .pre))
+    subst (λ (n : ℕ). Placed (a .j .device .part) (a .j .block) n (length (a .wanted .now)) (length (l .last .1 .1 .1 .0))) (sym (l .kept .1 .0))
+    (subst (λ (n : ℕ). Placed (a .j .device .part) (a .j .block) (length (a .array .now)) (length (a .wanted .now)) n) (sym (l .kept .1 .1 .1 .0)) (c .before .before .before .before .before .before .before .before .before .before .before .before .before .before .before .before .pre))
 
-add-t23 : tie.Need-add-t23
-add-t23 c =
-    let a = c .before .before .before .before .before .before .before .before .before .before .before .before .before .before .before .before .before .before .before .before .before .args in
-    let z = c .before .before .before .before .before .before .before .before .before .before .before .before .before .before .before .before .before .before .before .before .before .pre in
-    let part = a .d .part in
-    let k = a .block in
+add-t21 : tie.Need-add-t21
+add-t21 c =
+    let a = c .before .before .before .before .before .before .before .before .before .before .before .before .before .before .before .before .before .before .before .before .before .before .args in
+    let z = c .before .before .before .before .before .before .before .before .before .before .before .before .before .before .before .before .before .before .before .before .before .before .pre in
+    let part = a .j .device .part in
+    let k = a .j .block in
     let xs = a .array .now in
     let w = a .wanted .now in
     let sc = a .scratch .now in
@@ -59,13 +59,13 @@ add-t23 c =
     let l = c .before .before .before .before .before .before .before .before .before .before .before .before .before .before .loaded in
     let v = c .before .before .before .before .before .verified in
     let well : l .result .end ≡ 0 = (let u = c .before .before .before .before .before .before .before .before .before .if1 .left in omega (arith, u)) in
-    let none = ends-none (a .d) (a .s) (a .p) k W Y (sym (ap (λ (r : Ran). r .end) (l .ensures .0)) ∙ well) in
-    let X′ : units (part .word) (l .last .1 .1 .1 .1 .0) ≡ overlaid X (startOf part k) W = l .ensures .1 .0 ∙ well-bytes (a .d) (a .s) (a .p) k W Y none (startOf part k) X in
-    let H : List ℕ = heldUnits part k (l .last .1 .1 .1 .1 .0) w in
+    let none = ends-none (a .j) W Y (sym (ap (λ (r : Ran). r .end) (l .ensures .0)) ∙ well) in
+    let X′ : units (part .word) (l .last .1 .0) ≡ overlaid X (startOf part k) W = l .ensures .1 .0 ∙ well-bytes (a .j) W Y none (startOf part k) X in
+    let H : List ℕ = heldUnits part k (l .last .1 .0) w in
     let h : H ≡ W = ap (λ (x : List ℕ). heldIn (startOf part k) (length W) x) X′ ∙ held-over X (startOf part k) W (omega (arith, inside part k xs w sc z)) in
-    let e : l .result .count + v .result .count ≡ formula (a .d) W Y =
-    ap (λ (r : Ran). r .count) (both-ran (a .d) (a .s) (a .p) k W Y none (startOf part k) (l .result) (v .result) H (l .ensures .0) (v .ensures .0) h ∙ well-ran (a .d) (a .s) (a .p) k W Y none true) in
-    record { fits = omega (arith, e, formula-most (a .d) W Y (l .ensures .1 .1 .1) (few part k xs w sc z)) }
+    let e : l .result .count + v .result .count ≡ formula (a .j .device) W Y =
+    ap (λ (r : Ran). r .count) (both-ran (a .j) W Y none (startOf part k) (l .result) (v .result) H (l .ensures .0) (v .ensures .0) h ∙ well-ran (a .j) W Y none true) in
+    record { fits = omega (arith, e, formula-most (a .j .device) W Y (l .ensures .1 .1 .1) (few part k xs w sc z)) }
 
 same-length-3 : tie.Need-same-length-3
 same-length-3 c = search needs
@@ -75,10 +75,10 @@ same-length-4 c = search needs
 
 returns-2 : tie.Need-returns-2
 returns-2 c =
-    let a = c .before .before .before .before .before .before .before .before .before .before .before .before .before .before .before .before .before .before .before .before .before .args in
-    let z = c .before .before .before .before .before .before .before .before .before .before .before .before .before .before .before .before .before .before .before .before .before .pre in
-    let part = a .d .part in
-    let k = a .block in
+    let a = c .before .before .before .before .before .before .before .before .before .before .before .before .before .before .before .before .before .before .before .before .before .before .args in
+    let z = c .before .before .before .before .before .before .before .before .before .before .before .before .before .before .before .before .before .before .before .before .before .before .pre in
+    let part = a .j .device .part in
+    let k = a .j .block in
     let xs = a .array .now in
     let w = a .wanted .now in
     let sc = a .scratch .now in
@@ -88,15 +88,15 @@ returns-2 c =
     let l = c .before .before .before .before .before .before .before .before .before .before .before .before .before .before .loaded in
     let v = c .before .before .before .before .before .verified in
     let well : l .result .end ≡ 0 = (let u = c .before .before .before .before .before .before .before .before .before .if1 .left in omega (arith, u)) in
-    let none = ends-none (a .d) (a .s) (a .p) k W Y (sym (ap (λ (r : Ran). r .end) (l .ensures .0)) ∙ well) in
-    let X′ : units (part .word) (l .last .1 .1 .1 .1 .0) ≡ overlaid X (startOf part k) W = l .ensures .1 .0 ∙ well-bytes (a .d) (a .s) (a .p) k W Y none (startOf part k) X in
-    let S′ : units (part .word) (l .last .1 .1 .1 .1 .1 .1 .0) ≡ W = l .ensures .1 .1 .0 ∙ well-scratch (a .d) (a .s) (a .p) k W Y none in
-    let H : List ℕ = heldUnits part k (l .last .1 .1 .1 .1 .0) w in
+    let none = ends-none (a .j) W Y (sym (ap (λ (r : Ran). r .end) (l .ensures .0)) ∙ well) in
+    let X′ : units (part .word) (l .last .1 .0) ≡ overlaid X (startOf part k) W = l .ensures .1 .0 ∙ well-bytes (a .j) W Y none (startOf part k) X in
+    let S′ : units (part .word) (l .last .1 .1 .1 .0) ≡ W = l .ensures .1 .1 .0 ∙ well-scratch (a .j) W Y none in
+    let H : List ℕ = heldUnits part k (l .last .1 .0) w in
     let h : H ≡ W = ap (λ (x : List ℕ). heldIn (startOf part k) (length W) x) X′ ∙ held-over X (startOf part k) W (omega (arith, inside part k xs w sc z)) in (
-      both-ran (a .d) (a .s) (a .p) k W Y none (startOf part k) (l .result) (v .result) H (l .ensures .0) (v .ensures .0) h,
+      both-ran (a .j) W Y none (startOf part k) (l .result) (v .result) H (l .ensures .0) (v .ensures .0) h,
       (
         l .ensures .1 .0,
-        (v .ensures .1 ∙ (λ i. overwritten (unitsRead W (h i)) (h i) (S′ i)) ∙ same-read W ∙ sym (well-scratch (a .d) (a .s) (a .p) k W Y none), l .ensures .1 .1 .1),
+        (v .ensures .1 ∙ (λ i. overwritten (unitsRead W (h i)) (h i) (S′ i)) ∙ same-read W ∙ sym (well-scratch (a .j) W Y none), l .ensures .1 .1 .1),
       ),
     )
 
@@ -109,7 +109,7 @@ both-spec =
     same-length-2
     returns
     verified-requires
-    add-t23
+    add-t21
     same-length-3
     same-length-4
     returns-2)

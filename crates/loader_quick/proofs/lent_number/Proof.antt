@@ -19,8 +19,8 @@ run-number-requires c κs = search needs
 
 returns : tie.Need-returns
 returns c =
-    let a = c .before .before .before .before .before .args in
-    c .run-number .ensures ∙ (λ i. runNumber (a .d) (a .s) (a .p) (a .block) (c .before .before .before .lent-in .ensures i) (c .before .before .lent-in2 .ensures i) (c .before .lent-in3 .ensures i))
+    let a = c .before .before .before .before .before .before .args in
+    c .run-number .ensures ∙ (λ i. runNumber (a .j) (c .before .before .before .lent-in .ensures i) (c .before .before .lent-in2 .ensures i) (c .before .lent-in3 .ensures i))
 
 pub lent-number-spec : {M : Type 1} → statement M
 lent-number-spec =

@@ -34,10 +34,10 @@ same-length-2 c = search needs
 
 returns : tie.Need-returns
 returns c =
-    let a = c .before .before .before .before .before .before .before .before .before .before .before .before .before .args in
-    let z = c .before .before .before .before .before .before .before .before .before .before .before .before .before .pre in
-    let part = a .d .part in
-    let k = a .block in
+    let a = c .before .before .before .before .before .before .before .before .before .before .before .before .before .before .before .before .args in
+    let z = c .before .before .before .before .before .before .before .before .before .before .before .before .before .before .before .before .pre in
+    let part = a .j .device .part in
+    let k = a .j .block in
     let xs = a .array .now in
     let w = a .wanted .now in
     let sc = a .scratch .now in
@@ -45,14 +45,14 @@ returns c =
     let W : List ℕ = units (part .word) w in
     let Y : List ℕ = heldUnits part k xs w in
     let l : length Y ≡ length W = long part k xs w sc z in
-    let t : stuckBy part (a .p) k ≡ true = sym (c .before .before .before .before .before .before .is-stuck .ensures) ∙ c .before .before .before .before .before .if1 .taken in
+    let t : stuckBy part (a .j .pins) k ≡ true = sym (c .before .before .before .before .before .before .is-stuck .ensures) ∙ c .before .before .before .before .before .if1 .taken in
     let f = c .before .before .stuck-load in
     let once = c .before .before .before .before .before .before .before .before .before .cost-of .ensures in
     let each = c .before .before .before .before .before .before .before .before .cost-of2 .ensures in (
-      f .ensures .0 ∙ tried-is (a .d) (a .s) (a .p) k W Y t l,
+      f .ensures .0 ∙ tried-is (a .j) W Y t l,
       (
-        bytes-stuck (a .d) (a .s) (a .p) k W Y t (startOf part k) X l (self part k xs w sc z),
-        (f .ensures .1 ∙ scratch-stuck (a .d) (a .s) (a .p) k W Y t l, (omega (arith, each .0, each .1), omega (arith, once .0, once .1))),
+        bytes-stuck (a .j) W Y t (startOf part k) X l (self part k xs w sc z),
+        (f .ensures .1 ∙ scratch-stuck (a .j) W Y t l, (omega (arith, each .0, each .1), omega (arith, once .0, once .1))),
       ),
     )
 
@@ -67,10 +67,10 @@ same-length-4 c = search needs
 
 returns-2 : tie.Need-returns-2
 returns-2 c =
-    let a = c .before .before .before .before .before .before .before .before .before .before .before .before .before .before .before .args in
-    let z = c .before .before .before .before .before .before .before .before .before .before .before .before .before .before .before .pre in
-    let part = a .d .part in
-    let k = a .block in
+    let a = c .before .before .before .before .before .before .before .before .before .before .before .before .before .before .before .before .before .before .args in
+    let z = c .before .before .before .before .before .before .before .before .before .before .before .before .before .before .before .before .before .before .pre in
+    let part = a .j .device .part in
+    let k = a .j .block in
     let xs = a .array .now in
     let w = a .wanted .now in
     let sc = a .scratch .now in
@@ -78,14 +78,14 @@ returns-2 c =
     let W : List ℕ = units (part .word) w in
     let Y : List ℕ = heldUnits part k xs w in
     let l : length Y ≡ length W = long part k xs w sc z in
-    let t : stuckBy part (a .p) k ≡ false = sym (c .before .before .before .before .before .before .before .before .is-stuck .ensures) ∙ c .before .before .before .before .before .before .before .if1 .left in
+    let t : stuckBy part (a .j .pins) k ≡ false = sym (c .before .before .before .before .before .before .before .before .is-stuck .ensures) ∙ c .before .before .before .before .before .before .before .if1 .left in
     let f = c .before .before .before .before .worked in
     let once = c .before .before .before .before .before .before .before .before .before .before .before .cost-of in
     let each = c .before .before .before .before .before .before .before .before .before .before .cost-of2 in (
-      f .ensures .0 ∙ well-is (a .d) (a .s) (a .p) k W Y t (once .result) (each .result) l (once .ensures .0) (each .ensures .0),
+      f .ensures .0 ∙ well-is (a .j) W Y t (once .result) (each .result) l (once .ensures .0) (each .ensures .0),
       (
-        f .ensures .1 .0 ∙ bytes-free (a .d) (a .s) (a .p) k W Y t (startOf part k) X,
-        (f .ensures .1 .1 ∙ scratch-free (a .d) (a .s) (a .p) k W Y t, (omega (arith, each .ensures .0, each .ensures .1), omega (arith, once .ensures .0, once .ensures .1))),
+        f .ensures .1 .0 ∙ bytes-free (a .j) W Y t (startOf part k) X,
+        (f .ensures .1 .1 ∙ scratch-free (a .j) W Y t, (omega (arith, each .ensures .0, each .ensures .1), omega (arith, once .ensures .0, once .ensures .1))),
       ),
     )
 

@@ -7,7 +7,7 @@ use borrow.Author.Tests.{not-true, not-false}
 use lib.ListN.{length}
 use Rattle.loader_run.specs.Turns.{Config, answerTo}
 use Rattle.loader.specs.Stages.{isEnded, endBy}
-use Rattle.loader_run.specs.Runs.{driven, begin, ranBy}
+use Rattle.loader_run.specs.Runs.{driven, begin, beginning, ranBy}
 use Rattle.loader.specs.declared.StageIs.{StageIs}
 use Rattle.loader_steps.specs.Addresses.{firstAddress}
 use Rattle.loader_steps.specs.Front.{endAddress}
@@ -21,7 +21,7 @@ use Rattle.loader_run.proofs.drive.Statement.{statement}
 use Rattle.loader_run.proofs.drive.Tie as tie
 
 abbrev Inv-loop : tie.InvT-loop
-Inv-loop d wanted scratch₀ array₀ start moving₀ state₀ count₀ scratch array moving state count =
+Inv-loop wanted scratch₀ array₀ d moving₀ start state₀ count₀ scratch array moving state count =
     Keeps d (units (d .part .word) wanted) (driven d (units (d .part .word) wanted) (conf moving₀ state₀ (units (d .part .word) array₀) (units (d .part .word) scratch₀) 0))
     (conf moving state (units (d .part .word) array) (units (d .part .word) scratch) count)
     × (length scratch ≡ length scratch₀)
@@ -31,22 +31,26 @@ Inv-loop d wanted scratch₀ array₀ start moving₀ state₀ count₀ scratch 
     × Sound d (units (d .part .word) wanted) moving state (length (units (d .part .word) array))
 
 abbrev μ-loop : tie.MeasureT-loop
-μ-loop d wanted scratch₀ array₀ start moving₀ state₀ count₀ scratch array moving state count = remains moving (length (units (d .part .word) wanted))
+μ-loop wanted scratch₀ array₀ d moving₀ start state₀ count₀ scratch array moving state count = remains moving (length (units (d .part .word) wanted))
+
+record-for-requires : tie.Need-record-for-requires Inv-loop μ-loop
+record-for-requires c κs = search needs
 
 first-requires : tie.Need-first-requires Inv-loop μ-loop
 first-requires c κs = search needs
 
 loop-holds : tie.Need-loop-holds Inv-loop μ-loop
 loop-holds c =
-    let a = c .before .before .before .before .args in
-    let z = c .before .before .before .before .pre .0 in (
-      keeps-start (a .d) (units (a .d .part .word) (a .wanted .now)) (a .l) (a .s) (units (a .d .part .word) (a .array .now)) (units (a .d .part .word) (a .scratch .now)),
+    let a = c .before .before .before .before .before .before .before .args in
+    let z = c .before .before .before .before .before .before .before .pre in
+    let l = c .before .before .record-for in (
+      keeps-start (a .j .device) (units (a .j .device .part .word) (a .wanted .now)) (l .result) (a .j .state) (units (a .j .device .part .word) (a .array .now)) (units (a .j .device .part .word) (a .scratch .now)),
       refl,
       refl,
-      short (a .d) (a .s) (a .l .pins) (a .l .block) (length (units (a .d .part .word) (a .array .now))) (length (units (a .d .part .word) (a .wanted .now))) (length (units (a .d .part .word) (a .scratch .now))) z,
-      c .first .ensures,
-      subst (λ (l : Loader). Sound (a .d) (units (a .d .part .word) (a .wanted .now)) l (a .s) (length (units (a .d .part .word) (a .array .now)))) (sym (c .before .before .before .before .pre .1))
-          (sound-start (a .l .stage) (a .l .verify) (a .d) (a .s) (a .l .pins) (a .l .block) (units (a .d .part .word) (a .array .now)) (units (a .d .part .word) (a .wanted .now)) (units (a .d .part .word) (a .scratch .now)) z),
+      short (a .j) (length (units (a .j .device .part .word) (a .array .now))) (length (units (a .j .device .part .word) (a .wanted .now))) (length (units (a .j .device .part .word) (a .scratch .now))) z,
+      c .before .first .ensures,
+      subst (λ (x : Loader). Sound (a .j .device) (units (a .j .device .part .word) (a .wanted .now)) x (a .j .state) (length (units (a .j .device .part .word) (a .array .now)))) (sym (l .ensures))
+          (sound-start (a .j) (units (a .j .device .part .word) (a .array .now)) (units (a .j .device .part .word) (a .wanted .now)) (units (a .j .device .part .word) (a .scratch .now)) z),
     )
 
 going-requires : tie.Need-going-requires Inv-loop μ-loop
@@ -54,34 +58,34 @@ going-requires c κs = search needs
 
 both-requires : tie.Need-both-requires Inv-loop μ-loop
 both-requires c κs =
-    let a = c .before .before .before .before .before .before .before .before .before .args in
+    let a = c .before .before .before .before .before .before .before .before .before .before .before .before .args in
     let l = c .before .before .before .before .loop in
     let g = not-true (isEnded (l .moving .stage)) (sym (c .before .before .before .going .ensures) ∙ c .before .before .if1 .taken) in
-    (l .inv .5 .same, l .inv .4, sound-judged (a .d) (units (a .d .part .word) (a .wanted .now)) (l .moving) (l .state) (length (units (a .d .part .word) (l .array))) (l .inv .5) g)
+    (l .inv .5 .same, l .inv .4, sound-judged (a .j .device) (units (a .j .device .part .word) (a .wanted .now)) (l .moving) (l .state) (length (units (a .j .device .part .word) (l .array))) (l .inv .5) g)
 
 add-count : tie.Need-add-count Inv-loop μ-loop
 add-count c = record { fits = omega (arith, c .before .before .before .before .before .before .before .before .before .before .before .loop .inv .0 .enough, c .before .before .before .before .before .before .before .before .before .before .before .loop .inv .3) }
 
 loop-less : tie.Need-loop-less Inv-loop μ-loop
 loop-less c =
-    let a = c .before .before .before .before .before .before .before .before .before .before .before .before .before .before .before .before .args in
+    let a = c .before .before .before .before .before .before .before .before .before .before .before .before .before .before .before .before .before .before .before .args in
     let l = c .before .before .before .before .before .before .before .before .before .before .before .loop in
-    keeps-less (answerTo (a .d) (units (a .d .part .word) (a .wanted .now)) (l .moving) (l .state) (units (a .d .part .word) (l .array)) .seen) (l .moving) (units (a .d .part .word) (a .wanted .now)) (units (a .d .part .word) (l .scratch)) (c .before .before .before .before .before .before .both .result .loader)
+    keeps-less (answerTo (a .j .device) (units (a .j .device .part .word) (a .wanted .now)) (l .moving) (l .state) (units (a .j .device .part .word) (l .array)) .seen) (l .moving) (units (a .j .device .part .word) (a .wanted .now)) (units (a .j .device .part .word) (l .scratch)) (c .before .before .before .before .before .before .both .result .loader)
     (not-true (isEnded (l .moving .stage)) (sym (c .before .before .before .before .before .before .before .before .before .before .going .ensures) ∙ c .before .before .before .before .before .before .before .before .before .if1 .taken)) (c .before .before .before .before .before .before .both .ensures .0)
 
 loop-again : tie.Need-loop-again Inv-loop μ-loop
 loop-again c =
-    let a = c .before .before .before .before .before .before .before .before .before .before .before .before .before .before .before .before .args in
+    let a = c .before .before .before .before .before .before .before .before .before .before .before .before .before .before .before .before .before .before .before .args in
     let l = c .before .before .before .before .before .before .before .before .before .before .before .loop in
     let g = not-true (isEnded (l .moving .stage)) (sym (c .before .before .before .before .before .before .before .before .before .before .going .ensures) ∙ c .before .before .before .before .before .before .before .before .before .if1 .taken) in
     let b = c .before .before .before .before .before .before .both in (
-      keeps-turn (a .d) (units (a .d .part .word) (a .wanted .now)) _ (l .moving) (l .state) (units (a .d .part .word) (l .array)) (units (a .d .part .word) (l .scratch)) (l .count) (l .inv .0) g (b .result .loader) (b .result .state) (units (a .d .part .word) (b .last .1 .1 .1 .1 .1 .0)) (units (a .d .part .word) (b .last .1 .1 .1 .1 .0))
+      keeps-turn (a .j .device) (units (a .j .device .part .word) (a .wanted .now)) _ (l .moving) (l .state) (units (a .j .device .part .word) (l .array)) (units (a .j .device .part .word) (l .scratch)) (l .count) (l .inv .0) g (b .result .loader) (b .result .state) (units (a .j .device .part .word) (b .last .1 .1 .1 .1 .1 .0)) (units (a .j .device .part .word) (b .last .1 .1 .1 .1 .0))
           (b .ensures .0) (b .ensures .1 .0) (b .ensures .1 .1 .0) (b .ensures .1 .1 .1),
       b .kept .1 .1 .1 .1 .0 ∙ l .inv .1,
       b .kept .1 .1 .1 .1 .1 .0 ∙ l .inv .2,
       l .inv .3,
-      l .inv .4 ∙ sym (first-stays (answerTo (a .d) (units (a .d .part .word) (a .wanted .now)) (l .moving) (l .state) (units (a .d .part .word) (l .array)) .seen) (l .moving) (units (a .d .part .word) (a .wanted .now)) (units (a .d .part .word) (l .scratch))) ∙ sym (ap firstAddress (b .ensures .0)),
-      sound-next (a .d) (units (a .d .part .word) (a .wanted .now)) (units (a .d .part .word) (l .scratch)) (units (a .d .part .word) (l .array)) (l .moving) (l .state) (l .inv .5) g (b .result .loader) (b .result .state) (units (a .d .part .word) (b .last .1 .1 .1 .1 .1 .0))
+      l .inv .4 ∙ sym (first-stays (answerTo (a .j .device) (units (a .j .device .part .word) (a .wanted .now)) (l .moving) (l .state) (units (a .j .device .part .word) (l .array)) .seen) (l .moving) (units (a .j .device .part .word) (a .wanted .now)) (units (a .j .device .part .word) (l .scratch))) ∙ sym (ap firstAddress (b .ensures .0)),
+      sound-next (a .j .device) (units (a .j .device .part .word) (a .wanted .now)) (units (a .j .device .part .word) (l .scratch)) (units (a .j .device .part .word) (l .array)) (l .moving) (l .state) (l .inv .5) g (b .result .loader) (b .result .state) (units (a .j .device .part .word) (b .last .1 .1 .1 .1 .1 .0))
           (b .ensures .0) (b .ensures .1 .0) (b .ensures .1 .1 .1),
     )
 
@@ -99,10 +103,11 @@ same-length-2 c = c .before .before .before .before .loop .inv .2
 
 returns : tie.Need-returns Inv-loop μ-loop
 returns c =
-    let a = c .before .before .before .before .before .before .before .before .before .args in
+    let a = c .before .before .before .before .before .before .before .before .before .before .before .before .args in
     let l = c .before .before .before .before .loop in
-    let e : conf (l .moving) (l .state) (units (a .d .part .word) (l .array)) (units (a .d .part .word) (l .scratch)) (l .count) ≡ driven (a .d) (units (a .d .part .word) (a .wanted .now)) (begin (a .d) (a .s) (a .l) (units (a .d .part .word) (a .array .now)) (units (a .d .part .word) (a .scratch .now))) =
-    keeps-end (a .d) (units (a .d .part .word) (a .wanted .now)) _ _ (l .inv .0) (not-false (isEnded (l .moving .stage)) (sym (c .before .before .before .going .ensures) ∙ c .before .before .if1 .left)) in
+    let e : conf (l .moving) (l .state) (units (a .j .device .part .word) (l .array)) (units (a .j .device .part .word) (l .scratch)) (l .count) ≡ driven (a .j .device) (units (a .j .device .part .word) (a .wanted .now)) (beginning (a .j) (units (a .j .device .part .word) (a .array .now)) (units (a .j .device .part .word) (a .scratch .now))) =
+    keeps-end (a .j .device) (units (a .j .device .part .word) (a .wanted .now)) _ _ (l .inv .0) (not-false (isEnded (l .moving .stage)) (sym (c .before .before .before .going .ensures) ∙ c .before .before .if1 .left))
+    ∙ ap (λ (x : Loader). driven (a .j .device) (units (a .j .device .part .word) (a .wanted .now)) (begin (a .j .device) (a .j .state) x (units (a .j .device .part .word) (a .array .now)) (units (a .j .device .part .word) (a .scratch .now)))) (c .before .before .before .before .before .before .before .record-for .ensures) in
     let n : c .before .stage-is .result .end ≡ endBy (l .moving .stage) = ap (λ (x : StageIs). x .end) (c .before .stage-is .ensures) in
     let m : c .end-address .result ≡ endAddress (l .moving) (endBy (l .moving .stage)) = c .end-address .ensures ∙ ap (λ (k : ℕ). endAddress (l .moving) k) n in
     ((λ i. record { count = l .count; end = n i; address = m i; state = l .state }) ∙ ap ranBy e, (ap (λ (x : Config). x .scratch) e, ap (λ (x : Config). x .bytes) e))
@@ -110,4 +115,4 @@ returns c =
 pub drive-spec : {M : Type 1} → statement M
 drive-spec =
     tie.close
-    (tie.spec Inv-loop μ-loop first-requires loop-holds going-requires both-requires add-count loop-less loop-again stage-is-requires end-address-requires same-length same-length-2 returns)
+    (tie.spec Inv-loop μ-loop record-for-requires first-requires loop-holds going-requires both-requires add-count loop-less loop-again stage-is-requires end-address-requires same-length same-length-2 returns)

@@ -1,10 +1,13 @@
 use borrow.Author.Needs.{needs}
-use mathlib.Core.Path.{sym, _∙_}
-use mathlib.Core.Path.{ap}
+use mathlib.Core.Path.{sym, ap, _∙_}
+use Rattle.loader_run.specs.Runs.{lentRun}
 use Rattle.store.specs.Stores.{ChangeLeft}
 use Rattle.store.proofs.Leaving.{made, refused}
 use Rattle.store.proofs.change.Statement.{statement}
 use Rattle.store.proofs.change.Tie as tie
+
+change-job-requires : tie.Need-change-job-requires
+change-job-requires c κs = search needs
 
 run-quick-requires : tie.Need-run-quick-requires
 run-quick-requires c κs = search needs
@@ -16,10 +19,14 @@ same-length-2 : tie.Need-same-length-2
 same-length-2 c = search needs
 
 returns : tie.Need-returns
-returns c = let a = c .before .before .before .before .before .before .before .before .before .before .before .args in
+returns c = let a = c .before .before .before .before .before .before .before .before .before .before .before .before .args in
     let e = c .before .before .before .before .run-quick .ensures in
-    let q = sym (made (a .number) (a .memory .now) (a .d) (a .s) (a .p) (a .array .now) (a .memory .now) (a .scratch .now) (c .before .before .before .before .before .before .before .if1 .taken)) in
-    (e .0 ∙ ap (λ (x : ChangeLeft). x .ran) q, (e .1 .0 ∙ ap (λ (x : ChangeLeft). x .bytes) q, e .1 .1 ∙ ap (λ (x : ChangeLeft). x .scratch) q))
+    let k = c .before .before .before .before .before .before .before .change-job .ensures in
+    let xs = a .array .now in
+    let w = a .memory .now in
+    let sc = a .scratch .now in
+    let q = sym (made (a .number) (a .memory .now) (a .d) (a .s) (a .p) (a .array .now) (a .memory .now) (a .scratch .now) (c .before .before .before .before .before .before .before .before .if1 .taken)) in
+    (e .0 ∙ (λ i. lentRun (k i) xs w sc .ran) ∙ ap (λ (x : ChangeLeft). x .ran) q, (e .1 .0 ∙ (λ i. lentRun (k i) xs w sc .bytes) ∙ ap (λ (x : ChangeLeft). x .bytes) q, e .1 .1 ∙ (λ i. lentRun (k i) xs w sc .scratch) ∙ ap (λ (x : ChangeLeft). x .scratch) q))
 
 returns-2 : tie.Need-returns-2
 returns-2 c = let a = c .before .before .before .before .args in
@@ -27,4 +34,4 @@ returns-2 c = let a = c .before .before .before .before .args in
     (ap (λ (x : ChangeLeft). x .ran) q, (ap (λ (x : ChangeLeft). x .bytes) q, ap (λ (x : ChangeLeft). x .scratch) q))
 
 pub change-spec : {M : Type 1} → statement M
-change-spec = tie.close (tie.spec run-quick-requires same-length same-length-2 returns returns-2)
+change-spec = tie.close (tie.spec change-job-requires run-quick-requires same-length same-length-2 returns returns-2)

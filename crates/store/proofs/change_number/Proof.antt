@@ -11,6 +11,9 @@ is-large-requires c κs = search needs
 returns : tie.Need-returns
 returns c = let a = c .before .before .before .args in sym (change-large (a .d) (a .s) (a .p) (a .array) (a .memory) (a .scratch) (sym (c .before .is-large .ensures) ∙ c .if1 .taken))
 
+change-job-requires : tie.Need-change-job-requires
+change-job-requires c κs = search needs
+
 lent-in-requires : tie.Need-lent-in-requires
 lent-in-requires c κs = search needs
 
@@ -24,7 +27,7 @@ run-number-requires : tie.Need-run-number-requires
 run-number-requires c κs = search needs
 
 returns-2 : tie.Need-returns-2
-returns-2 c = let a = c .before .before .before .before .before .before .before .args in c .run-number .ensures ∙ (λ i. runNumber (a .d) (a .s) (a .p) 3 (c .before .before .before .lent-in .ensures i) (c .before .before .lent-in2 .ensures i) (c .before .lent-in3 .ensures i)) ∙ sym (change-run (a .d) (a .s) (a .p) (a .array) (a .memory) (a .scratch) (sym (c .before .before .before .before .before .is-large .ensures) ∙ c .before .before .before .before .if1 .left))
+returns-2 c = let a = c .before .before .before .before .before .before .before .before .args in c .run-number .ensures ∙ (λ i. runNumber (c .before .before .before .before .change-job .ensures i) (c .before .before .before .lent-in .ensures i) (c .before .before .lent-in2 .ensures i) (c .before .lent-in3 .ensures i)) ∙ sym (change-run (a .d) (a .s) (a .p) (a .array) (a .memory) (a .scratch) (sym (c .before .before .before .before .before .before .is-large .ensures) ∙ c .before .before .before .before .before .if1 .left))
 
 pub change-number-spec : {M : Type 1} → statement M
 change-number-spec =
@@ -32,6 +35,7 @@ change-number-spec =
     (tie.spec
     is-large-requires
     returns
+    change-job-requires
     lent-in-requires
     lent-in-requires-2
     lent-in-requires-3

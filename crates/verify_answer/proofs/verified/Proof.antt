@@ -2,7 +2,7 @@
 use mathlib.Core.Path.{ap, _∙_}
 use denote.Ref.{now}
 use Rattle.loader_from_file.specs.Loads.{LoadLeft}
-use Rattle.verify_answer.specs.Answers.{bytesOf, verifyOf}
+use Rattle.verify_answer.specs.Answers.{verifyOf, bytesOf}
 use Rattle.verify_answer.proofs.Ways.{verify-is, room-left}
 use borrow.Author.Needs.{needs}
 use Rattle.verify_answer.proofs.verified.Statement.{statement}
@@ -11,29 +11,29 @@ use Rattle.verify_answer.proofs.verified.Tie as tie
 block-bytes-requires : tie.Need-block-bytes-requires
 block-bytes-requires c κs = search needs
 
-fresh-requires : tie.Need-fresh-requires
-fresh-requires c κs = search needs
+verify-job-requires : tie.Need-verify-job-requires
+verify-job-requires c κs = search needs
 
-sub-verify-from-file : tie.Need-sub-verify-from-file
-sub-verify-from-file c = search needs
+sub-load : tie.Need-sub-load
+sub-load c = search needs
 
-part-verify-from-file-start : tie.Need-part-verify-from-file-start
-part-verify-from-file-start c = search needs
+part-load-start : tie.Need-part-load-start
+part-load-start c = search needs
 
-part-verify-from-file-end : tie.Need-part-verify-from-file-end
-part-verify-from-file-end c = search needs
+part-load-end : tie.Need-part-load-end
+part-load-end c = search needs
 
-sub-verify-from-file-2 : tie.Need-sub-verify-from-file-2
-sub-verify-from-file-2 c = search needs
+sub-load-2 : tie.Need-sub-load-2
+sub-load-2 c = search needs
 
-part-verify-from-file-start-2 : tie.Need-part-verify-from-file-start-2
-part-verify-from-file-start-2 c = search needs
+part-load-start-2 : tie.Need-part-load-start-2
+part-load-start-2 c = search needs
 
-part-verify-from-file-end-2 : tie.Need-part-verify-from-file-end-2
-part-verify-from-file-end-2 c = search needs
+part-load-end-2 : tie.Need-part-load-end-2
+part-load-end-2 c = search needs
 
-verify-from-file-requires : tie.Need-verify-from-file-requires
-verify-from-file-requires c κs = search needs
+load-requires : tie.Need-load-requires
+load-requires c κs = search needs
 
 same-length : tie.Need-same-length
 same-length c = search needs
@@ -48,11 +48,11 @@ returns : tie.Need-returns
 returns c =
     let a = c .before .before .before .before .before .before .before .before .before .before .before .before .before .before .before .before .args in
     let b = c .before .before .before .before .before .before .before .before .before .before .before .block-bytes in
-    let r = c .before .before .before .before .before .before .verify-from-file in
+    let r = c .before .before .before .before .before .before .load in
     let W = now (a .wanted) in
     let S = now (a .scratch) in
     let Z = verifyOf (a .part) (a .block) (now (a .image)) W S (now (a .file)) (a .letter) in
-    let e = verify-is (a .part) (a .block) (now (a .image)) W S (now (a .file)) (a .letter) (b .result) (c .before .before .before .before .before .before .before .before .before .before .fresh .result) (b .ensures) (c .before .before .before .before .before .before .before .before .before .before .fresh .ensures) in (
+    let e = verify-is (a .part) (a .block) (now (a .image)) W S (now (a .file)) (a .letter) (b .result) (c .before .before .before .before .before .before .before .before .before .before .verify-job .result) (b .ensures) (c .before .before .before .before .before .before .before .before .before .before .verify-job .ensures) in (
       r .ensures .0 ∙ ap (λ (z : LoadLeft). z .ran) e,
       (
         r .ensures .1 .0 ∙ ap (λ (z : LoadLeft). z .bytes) e,
@@ -64,4 +64,4 @@ returns c =
     )
 
 pub verified-spec : {M : Type 1} → statement M
-verified-spec = tie.close (tie.spec block-bytes-requires fresh-requires sub-verify-from-file part-verify-from-file-start part-verify-from-file-end sub-verify-from-file-2 part-verify-from-file-start-2 part-verify-from-file-end-2 verify-from-file-requires same-length same-length-2 same-length-3 returns)
+verified-spec = tie.close (tie.spec block-bytes-requires verify-job-requires sub-load part-load-start part-load-end sub-load-2 part-load-start-2 part-load-end-2 load-requires same-length same-length-2 same-length-3 returns)
