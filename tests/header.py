@@ -36,10 +36,10 @@ plain = re.sub(r"/\*.*?\*/", "", HEADER, flags=re.S)
 constants = {name: int(value, 0) for name, value in re.findall(r"\b(TB_\w+) = (0x[0-9A-F]+|\d+)", plain)}
 
 # structs
-STRUCTS = {"Device": "tb_device", "State": "tb_state", "Bus": "tb_bus", "Answer": "tb_answer", "Loader": "tb_loader", "Turn": "tb_turn",
-           "Given": "tb_given", "Ran": "tb_ran", "Sized": "tb_sized", "Block": "tb_span", "Reading": "tb_reading", "Wear": "tb_wear",
+STRUCTS = {"Device": "tb_device", "State": "tb_state", "Bus": "tb_bus", "Answer": "tb_answer", "Loader": "tb_loader", "Saying": "tb_turn",
+           "Response": "tb_given", "Ran": "tb_ran", "Sized": "tb_sized", "Block": "tb_span", "Reading": "tb_reading", "Wear": "tb_wear",
            "Tally": "tb_tally", "Record": "tb_record", "Checked": "tb_checked", "Report": "tb_report", "Reported": "tb_reported",
-           "Hold": "tb_hold", "Held": "tb_held", "HeldGiven": "tb_held_given", "Knot": "tb_knot"}
+           "Hold": "tb_hold", "Held": "tb_held", "HeldResponse": "tb_held_given", "Knot": "tb_knot"}
 TYPES = {"u8": "uint8_t", "u16": "uint16_t", "u32": "uint32_t", "u64": "uint64_t", "usize": "size_t", "i32": "int32_t", "i16": "int16_t", "f64": "double", "": "void"}
 TYPES.update({f"{crate}Numbers": c for crate, c in STRUCTS.items()})
 
@@ -101,8 +101,8 @@ for function, prefix in (("modeOut", "TB_MODE_"), ("phaseOut", "TB_"), ("kindOut
         faults.append(f"no clauses of {function}")
     for variant, number in clauses:
         same(prefix + snake(variant), constants.get(prefix + snake(variant)), int(number))
-for variant, number in re.findall(r"^turnOut \((\w+)[^)]*\) = turnAt (\d+)", border, re.M):
-    name = "TB_CYCLE_OUT" if variant == "Out" else "TB_" + variant.upper()
+for variant, number in re.findall(r"^sayingOut \((\w+)[^)]*\) = sayingAt (\d+)", border, re.M):
+    name = {"Out": "TB_CYCLE_OUT", "SayRefused": "TB_BARRED"}.get(variant, "TB_" + variant.upper())
     same(name, constants.get(name), int(number))
 
 # refusals: the same set of numbers on both sides, and each with its number in the operators' list

@@ -132,12 +132,12 @@ def file_refused(t):
     """The file is refused before wanted is filled: array, wanted and scratch stay, no cycle counts.
     (R-order-3, R-number-30 to R-number-35, R-number-38)"""
     two = {"number": 3, "block": 0, "held": (40, 3)}
-    wide = {"number": 4, "block": 3, "held": (9, 11)}
+    eight = {"number": 4, "block": 3, "held": (9, 11)}
     for length in (0, 1, 511, 513, 1023):
         t.case(f"30 of {length} bytes", 30, about={"size": 900, "length": length}, **two)
     for length in (4095, 4097):
-        t.case(f"30 of {length} bytes", 30, about={"size": 4040, "length": length}, **wide)
-    t.case("33 nine, one is none", 33, about={"size": 4040, "length": 4608}, **wide)
+        t.case(f"30 of {length} bytes", 30, about={"size": 4040, "length": length}, **eight)
+    t.case("33 nine, one is none", 33, about={"size": 4040, "length": 4608}, **eight)
     t.case("30 of 225 blocks", 30, about={"size": 113120, "length": 115200}, number=2, block=3, held=(1, 1))
     t.case("30 nine into 4 KB", 30, about={"size": 4041}, number=1, block=1, held=(1, 1))
     t.case("30 two into 512", 30, about={"size": 506}, number=3, block=1, held=(1, 1))
@@ -148,7 +148,7 @@ def file_refused(t):
     for at in (0, 5, 509, 510, 511):
         t.case(f"31 byte {at}", 31, about={"size": 505, "before": [(at, 18)]}, number=3, block=1, held=(7, 7))
     t.case("31 in the second", 31, about={"size": 900, "before": [(700, 0)]}, **two)
-    t.case("31 in the eighth", 31, about={"size": 4040, "before": [(4095, 0), (4094, 0)]}, **wide)
+    t.case("31 in the eighth", 31, about={"size": 4040, "before": [(4095, 0), (4094, 0)]}, **eight)
     t.case("31 before 35", 31, about={"size": 900, "before": [(1000, 0)], "asked": "T"}, **two)
     t.case("32 no letter", 32, about={"size": 20, "before": [(0, 65)], "seal": [0], "asked": "A"}, **two)
     t.case("32 not the first's", 32, about={"size": 900, "before": [(512, 84)], "seal": [1]}, **two)
@@ -167,7 +167,7 @@ def file_refused(t):
     blank = {"letter": "A", "size": 20, "length": 512, "fill": 255}
     good = {"size": 505, "before": [(2, 2)], "length": 1024, "fill": 255}
     t.case("38 blank", 38, about=blank, **two)
-    t.case("38 blank, eight", 38, about={**blank, "length": 4096}, **wide)
+    t.case("38 blank, eight", 38, about={**blank, "length": 4096}, **eight)
     t.case("38 blank, main block", 38, about={**blank, "length": 114688}, number=1, block=3, held=(255, 0))
     t.case("38 blank, boot unlocked", 38, about=blank, number=1, block=0, held=(255, 0))
     t.case("38 good, then blank", 38, about={**good, "seal": [0]}, **two)
@@ -176,7 +176,7 @@ def file_refused(t):
     t.case("31 first byte not FFH", 31, about={**blank, "before": [(0, 66)], "asked": "B"}, **two)
     t.case("33 blank behind", 33, about={"size": 505, "length": 1024, "fill": 255}, **two)
     t.case("30 before 38", 30, about={**blank, "length": 1024}, number=3, block=1, held=(1, 1))
-    t.case("35 eight blocks", 35, about={"letter": "T", "size": 4040, "asked": "S"}, **wide)
+    t.case("35 eight blocks", 35, about={"letter": "T", "size": 4040, "asked": "S"}, **eight)
 
 
 def run_refused(t):
@@ -311,7 +311,7 @@ def tag(number, word):
     return f"{number}{'w' if word else 'b'}"
 
 
-def wide_refused(t):
+def large_refused(t):
     """A run's refusals on devices 5 to 8, and then the file's, in both widths."""
     bad = {"size": 900, "before": [(9, 0)], "asked": "T"}
     for number in (0, 1, 2, 3, 4, 9, 255):
@@ -337,7 +337,7 @@ def wide_refused(t):
         bar(f"38 {me}", 38, about={"letter": "A", "size": 20, "length": 512, "fill": 255})
 
 
-def wide_loaded(t):
+def large_loaded(t):
     """Loads that end well on devices 5 to 8 in both widths; each count is that of the formula, in units."""
     for number, word in NEW:
         me, ends_at = tag(number, word), BLOCKS[number][1][1]
@@ -358,7 +358,7 @@ def wide_loaded(t):
     t.case("well 8w longest file", 0, about=longest, number=8, word=1, block=6, laid=True, spots=[(0x60000, 0xFF)], vpp=5000)
 
 
-def wide_ended(t):
+def large_ended(t):
     """Wanted is filled, and the run ends otherwise: 50H, FFH, n reads, two writes and a poll."""
     file = {"about": {"size": 100}}
     for number, word in NEW:
@@ -372,7 +372,7 @@ def wide_ended(t):
     t.case("5w locked, well", 0, number=5, word=1, block=0, rp=1, laid=True, **file)
 
 
-def wide_verified(t):
+def large_verified(t):
     """Verifies against a file on devices 5 to 8: 25 gives the byte address, of a low byte or of a high one."""
     for number, word in NEW:
         me, first, unit = tag(number, word), BLOCKS[number][2][0], 1 + word
@@ -407,7 +407,7 @@ def worn(t):
 
 
 OLD_PARTS = (file_refused, run_refused, loaded, ended, verified)
-NEW_PARTS = (wide_refused, wide_loaded, wide_ended, wide_verified)
+NEW_PARTS = (large_refused, large_loaded, large_ended, large_verified)
 WEAR_PARTS = (worn,)
 
 

@@ -1056,14 +1056,14 @@ def levels(b):  # R-cycle-1, R-number-4
 NEW = (5, 6, 7, 8)
 BOTH = tuple((number, word) for number in NEW for word in (0, 1))
 BANDS = (0, 1500, 1501, 4499, 4500, 5500, 5501, 6500, 6501, 11399, 11400, 12600, 12601)
-WIDE_COMMANDS = COMMANDS + (0x10,)
+LARGE_COMMANDS = COMMANDS + (0x10,)
 
 
 def named(number, word):
     return f"device {number} in {'words' if word else 'bytes'}"
 
 
-def wide_bench(b, number=5, word=1, program=2, erase=3, suspend=1):
+def large_bench(b, number=5, word=1, program=2, erase=3, suspend=1):
     """One of devices 5 to 8 with both patterns."""
     b.use(number, program, erase, suspend=suspend, word=word)
     b.fill(200, 3)
@@ -1080,7 +1080,7 @@ def edges(b, k):
     return tuple(at(b, byte) for byte in BLOCKS[b.device.number][k])
 
 
-def wide_program_cards(b, ones):
+def large_program_cards(b, ones):
     main = 0x10
     b.fill(0xA5, 0)
     b.fresh(f"a fresh {named(5, b.device.word)}")
@@ -1103,7 +1103,7 @@ def wide_program_cards(b, ones):
         b.write(main, data, vpp=1500)
 
 
-def wide_erase_cards(b, ones):
+def large_erase_cards(b, ones):
     main, boot, one, two = 0x10, *(edges(b, k)[0] for k in (0, 1, 2))
     b.fresh("boot erase, locked: A0H")
     b.write(boot, 0x20)
@@ -1129,18 +1129,18 @@ def wide_erase_cards(b, ones):
     b.read(main)
 
 
-def wide_cards(b):  # R-card-1 to R-card-4, R-card-6 to R-card-9, R-part-6
+def large_cards(b):  # R-card-1 to R-card-4, R-card-6 to R-card-9, R-part-6
     b.group("wide", "the first nine bench cards on device 5, in both widths")
     for word, ones in ((1, 0x0101), (0, 0x01)):
-        wide_bench(b, 5, word)
-        wide_program_cards(b, ones)
-        wide_erase_cards(b, ones)
+        large_bench(b, 5, word)
+        large_program_cards(b, ones)
+        large_erase_cards(b, ones)
 
 
-def wide_commands(b):  # R-write-1 to R-write-3
+def large_commands(b):  # R-write-1 to R-write-3
     b.group("cmdw", "every command in every phase, in words and in bytes")
     for number, word in ((5, 1), (6, 0)):
-        wide_bench(b, number, word)
+        large_bench(b, number, word)
         there, other = (edges(b, k)[0] + 7 for k in (1, 2))
         phases = (
             ("free, all error bits set", dict(mode="I", status=0xB8, phase="F")),
@@ -1152,7 +1152,7 @@ def wide_commands(b):  # R-write-1 to R-write-3
             ("suspended", dict(mode="A", status=0xC0, phase="S", left=2, address=there)),
         )
         for name, state in phases:
-            for data in WIDE_COMMANDS:
+            for data in LARGE_COMMANDS:
                 b.put(**state)
                 b.write(other, data, f"{name}: {data:02X}H")
 
@@ -1206,7 +1206,7 @@ def high_bytes(b):  # R-write-1, R-part-6
 def status_reads(b):  # R-status-1
     b.group("sr16", "a status read has a high byte of 0; an array read has the unit's")
     for word in (1, 0):
-        wide_bench(b, 5, word)
+        large_bench(b, 5, word)
         there = edges(b, 1)[0] + 7
         phases = (
             ("free, all error bits", dict(mode="S", status=0xB8, phase="F")),
@@ -1225,10 +1225,10 @@ def status_reads(b):  # R-status-1
             b.read(at(b, byte), f"the array's unit of byte {byte:05X}H")
 
 
-def wide_bands(b):  # R-cycle-2, R-number-4
+def large_bands(b):  # R-cycle-2, R-number-4
     b.group("volt", "the supply's bands on devices 5 to 8")
     for number, word in ((5, 1), (6, 0)):
-        wide_bench(b, number, word)
+        large_bench(b, number, word)
         there = edges(b, 1)[0] + 7
         for vpp in BANDS:
             b.put("A", 0x80, "F")
@@ -1263,7 +1263,7 @@ def wide_bands(b):  # R-cycle-2, R-number-4
 def band_changes(b):  # R-cycle-4
     b.group("swap", "a change from one high band to the other is no cut")
     for word in (1, 0):
-        wide_bench(b, 5, word, 3, 4)
+        large_bench(b, 5, word, 3, 4)
         there = edges(b, 1)[0] + 7
         for first, then in ((5000, 12000), (12000, 4500), (5500, 11400)):
             b.fill(200, 3)
@@ -1282,14 +1282,14 @@ def band_changes(b):  # R-cycle-4
             b.read(there, "to its end", vpp=first)
 
 
-def wide_identifiers(b):  # R-read-2, R-number-9
+def large_identifiers(b):  # R-read-2, R-number-9
     b.group("code", "identifier reads of devices 5 to 8")
     for number, word in BOTH:
         b.use(number, 2, 3, word=word)
         b.put("I", 0x80, "F")
         for address in (0, 1, 2, 3, 4, SIZE[number] // width(b.device) - 1):
             b.read(address, f"{named(number, word)}, address {address}")
-    wide_bench(b, 5, 1)
+    large_bench(b, 5, 1)
     b.put("I", 0xB8, "F")
     b.read(1, "at 0 mV, with all error bits", vpp=0)
     b.read(1, "RP# at V_HH", rp=2)
@@ -1306,7 +1306,7 @@ def write_protect(b):  # R-cycle-1, R-number-4
             b.write(5, 0x90, "a write", wp=wp)
             b.idle("idle", wp=wp)
             b.idle("RP# low", wp=wp, rp=0)
-    wide_bench(b, 5, 1)
+    large_bench(b, 5, 1)
     b.put("S", 0x00, "E", 1, 0x11)
     b.read(0, "erasing, 1 to go: refused 4, the count stays", wp=2)
     b.idle("refused 4, RP# low too", wp=3, rp=0)
@@ -1323,7 +1323,7 @@ def output_enable(b):  # R-cycle-2, R-number-4
             b.write(5, 0x90, "a write", oe=oe)
             b.idle("idle", oe=oe)
             b.write(5, 0x90, "a write, RP# low", oe=oe, rp=0)
-    wide_bench(b, 5, 1)
+    large_bench(b, 5, 1)
     b.put("S", 0x80, "C")
     b.write(edges(b, 0)[0], 0xD0, "OE# unlocks nothing: refused 4", oe=1)
     b.write(edges(b, 0)[0], 0xD0, "still awaited: locked")
@@ -1332,7 +1332,7 @@ def output_enable(b):  # R-cycle-2, R-number-4
         b.read(5, f"a read with RP# {rp}", rp=rp)
 
 
-def wide_locks(b):  # R-lock-1
+def large_locks(b):  # R-lock-1
     b.group("lckw", "the boot block of devices 5 to 8: WP# high or RP# at V_HH unlocks it")
     for number, word in BOTH:
         b.use(number, 2, 3, word=word)
@@ -1345,7 +1345,7 @@ def wide_locks(b):  # R-lock-1
         b.use(number, 2, 3)
         b.put("S", 0x80, "C")
         b.write(edges(b, 0)[0], 0xD0, f"device {number}: WP# high unlocks nothing", wp=1)
-    wide_bench(b, 5, 1)
+    large_bench(b, 5, 1)
     first, last = edges(b, 0)
     for phase, data, name in (("C", 0xD0, "erase"), ("D", 0x00, "program")):
         for wp in (0, 1):
@@ -1398,7 +1398,7 @@ def word_cuts(b):  # R-cycle-7, R-number-6
 def erase_cuts(b):  # R-cycle-7, R-number-6
     b.group("cute", "cut erases: the residue's bytes of the block in both widths, one short, one more")
     for word in (1, 0):
-        wide_bench(b, 5, word)
+        large_bench(b, 5, word)
         for k, mark, how, pins in ((1, "E", "RP#", dict(rp=0)), (2, "U", "VPP", dict(vpp=1500)), (0, "S", "both", dict(rp=0, vpp=0))):
             length = BLOCKS[5][k][1] - BLOCKS[5][k][0] + 1
             status = {"E": 0x10, "U": 0x00, "S": 0xE0}[mark]
@@ -1406,16 +1406,16 @@ def erase_cuts(b):  # R-cycle-7, R-number-6
                 b.use(5, 2, 3, residue=rest, word=word)
                 b.put("S", status, mark, 2, edges(b, k)[1], 1 if mark == "U" else 0)
                 b.idle(f"block {k}, {mark}, cut by {how}, residue of {rest}", **pins)
-    wide_bench(b, 6, 1)
+    large_bench(b, 6, 1)
     b.put("A", 0xC0, "S", 2, edges(b, 4)[0])
     b.read(edges(b, 4)[1], "suspended, read in the block as VPP falls: status", vpp=0)
     b.put("S", 0x00, "E", 3, edges(b, 3)[0])
     b.read(edges(b, 3)[1], "erasing, a read as RP# falls: no data", rp=0)
 
 
-def wide_together(b):  # R-cycle-4, R-cycle-5
+def large_together(b):  # R-cycle-4, R-cycle-5
     b.group("togw", "a cut, or the last busy cycle, and a write in one cycle, in word mode")
-    wide_bench(b, 5, 1)
+    large_bench(b, 5, 1)
     there = edges(b, 1)[0] + 7
     busy = (
         ("program", dict(mode="S", status=0x00, phase="P", left=1, address=0x0011, data=0x0FF0)),
@@ -1423,7 +1423,7 @@ def wide_together(b):  # R-cycle-4, R-cycle-5
     )
     for how, pins in (("cut by VPP", dict(vpp=0)), ("ends", dict(vpp=5000))):
         for name, state in busy:
-            for data in WIDE_COMMANDS:
+            for data in LARGE_COMMANDS:
                 b.put(**state)
                 b.write(0x0200, data, f"{name} {how} and {data:02X}H", **pins)
 
@@ -1431,7 +1431,7 @@ def wide_together(b):  # R-cycle-4, R-cycle-5
 def block_edges(b):  # R-part-4
     b.group("edge", "the first and the last unit of each block: an erase that ends, one that is cut, a program at each")
     for number, word in BOTH:
-        wide_bench(b, number, word)
+        large_bench(b, number, word)
         for k in range(len(BLOCKS[number])):
             first, last = edges(b, k)
             b.put("S", 0x00, "E", 1, first)
@@ -1450,7 +1450,7 @@ def block_edges(b):  # R-part-4
             b.write(address, 0x00, f"{named(number, word)}, {address:05X}H")
 
 
-def wide_devices(b):  # R-part-6, R-part-7, R-number-1, R-number-2
+def large_devices(b):  # R-part-6, R-part-7, R-number-1, R-number-2
     b.group("devw", "devices 5 to 8 and word mode: busy times and lengths in bytes")
     for number in (0, 1, 2, 3, 4, 9, 255):
         b.use(number, 2, 3, word=1)
@@ -1470,7 +1470,7 @@ def wide_devices(b):  # R-part-6, R-part-7, R-number-1, R-number-2
             b.idle(f"{named(number, word)}, array of {array}")
 
 
-def wide_past(b):  # R-number-5
+def large_past(b):  # R-number-5
     b.group("pstw", "addresses past the array, in units")
     for number, word in BOTH:
         b.use(number, 2, 3, word=word)
@@ -1481,7 +1481,7 @@ def wide_past(b):  # R-number-5
         b.write(past, 0xFF, "a command there")
         b.read(2 * past - 1, "as a byte address it would be the last of twice as many")
         b.idle("idle", address=past, data=0xFFFF)
-    wide_bench(b, 5, 1)
+    large_bench(b, 5, 1)
     b.put("S", 0x80, "F")
     b.read(0x20000, "a status read")
     b.put("S", 0x80, "D")
@@ -1491,7 +1491,7 @@ def wide_past(b):  # R-number-5
     b.read(0x20000, "RP# low: not tested", rp=0)
 
 
-def wide_states(b):  # R-proper-1
+def large_states(b):  # R-proper-1
     b.group("stwd", "states of devices 5 to 8, proper and not: addresses in units")
     for number, word in BOTH:
         b.use(number, 2, 3, word=word, residue=0)
@@ -1517,7 +1517,7 @@ def wide_states(b):  # R-proper-1
         b.idle(note)
 
 
-def wide_order(b):  # R-number-0, R-order-1
+def large_order(b):  # R-number-0, R-order-1
     b.group("ordw", "the lowest number that applies, in word mode")
     b.use(5, 2, 3, residue=1, word=1)
     program = dict(mode="S", status=0x00, phase="P", left=2, address=0x0011, data=0x0F0F)
@@ -1584,10 +1584,10 @@ def each_refusal(b):  # R-number-1 to R-number-9, R-cycle-8
         b.idle("6 of an erase by one byte", vpp=1500)
 
 
-def wide_suspended(b):  # R-suspended-2, R-busy-2
+def large_suspended(b):  # R-suspended-2, R-busy-2
     b.group("susw", "reads while suspended: the block in units, and S cycles")
     for word in (1, 0):
-        wide_bench(b, 5, word, suspend=2)
+        large_bench(b, 5, word, suspend=2)
         first, last = edges(b, 1)
         b.put("S", 0x00, "E", 3, first + 0x11)
         b.write(0, 0xB0, "B0H counts off the erase")
@@ -1601,9 +1601,9 @@ def wide_suspended(b):  # R-suspended-2, R-busy-2
         b.read(last, "finished", vpp=5000)
 
 
-def wide_times(b):  # R-part-5
+def large_times(b):  # R-part-5
     b.group("busy", "busy times of 1 and of 65,535 in word mode")
-    wide_bench(b, 5, 1, 1, 1)
+    large_bench(b, 5, 1, 1, 1)
     b.fresh("P 1 and E 1")
     b.write(0x0777, 0x10)
     b.write(0x0777, 0x8118)
@@ -1613,7 +1613,7 @@ def wide_times(b):  # R-part-5
     b.write(0, 0xB0, "1 to go: the erase ends, and B0H sets read array")
     b.read(edges(b, 1)[1])
     b.read(0x0777)
-    wide_bench(b, 6, 1, 65535, 65535, 100)
+    large_bench(b, 6, 1, 65535, 65535, 100)
     b.fresh("P and E 65,535, S 100")
     b.write(0x7777, 0x40)
     b.write(0x7777, 0x8118)
@@ -1786,9 +1786,9 @@ OLD_PARTS = (
     suspended, suspending, suspend_at_rest, identifiers, residues, improper, blocks, devices, levels,
 )
 NEW_PARTS = (
-    wide_cards, wide_commands, ten, high_bytes, status_reads, wide_bands, band_changes, wide_identifiers, write_protect, output_enable,
-    wide_locks, word_cuts, erase_cuts, wide_together, block_edges, wide_devices, wide_past, wide_states, wide_order, each_refusal,
-    wide_suspended, wide_times,
+    large_cards, large_commands, ten, high_bytes, status_reads, large_bands, band_changes, large_identifiers, write_protect, output_enable,
+    large_locks, word_cuts, erase_cuts, large_together, block_edges, large_devices, large_past, large_states, large_order, each_refusal,
+    large_suspended, large_times,
 )
 WEAR_PARTS = (to_the_stop, kept_or_counted, from_zero, any_count)
 

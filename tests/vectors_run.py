@@ -858,7 +858,7 @@ def some_bytes(b):
     return 7 if b.device.word else 8
 
 
-def wide_runs(b):  # R-load-5, R-part-6
+def large_runs(b):  # R-load-5, R-part-6
     b.group("wrun", "parameter blocks of devices 5 to 8 in both widths, VPP in both bands: n, p and reads in units")
     b.fresh()
     for number, word in NEW:
@@ -888,7 +888,7 @@ def wide_runs(b):  # R-load-5, R-part-6
         b.run("another pattern", (0, count))
 
 
-def wide_mains(b):  # R-load-5, R-part-4
+def large_mains(b):  # R-load-5, R-part-4
     b.group("wmai", "main blocks: 98,304 bytes and 131,072")
     for number, block, word, length, op in ((5, 3, 1, 98304, "R"), (8, 3, 0, 98304, "O"), (6, 4, 1, 131072, "O"), (8, 6, 1, 131072, "O")):
         n = units_of(length, word)
@@ -905,7 +905,7 @@ def wide_mains(b):  # R-load-5, R-part-4
     b.verify("25 at the last of 65,536 words, its high byte", (25, 65537, 0x3FFFF))
 
 
-def wide_boot(b):  # R-lock-1
+def large_boot(b):  # R-lock-1
     b.group("wboo", "the boot block of devices 5 to 8: by RP# at V_HH, by WP# high, locked")
     for number, word in NEW:
         n = units_of(N0, word)
@@ -941,7 +941,7 @@ def wide_boot(b):  # R-lock-1
     b.run("device 3: WP# is not looked at: well", (0, 2051 + 4))
 
 
-def wide_verifies(b):  # R-number-25
+def large_verifies(b):  # R-number-25
     b.group("w25 ", "25 gives a byte address: at a low byte, at a high byte, at both")
     b.fresh()
     for number, word in NEW:
@@ -1000,7 +1000,7 @@ def bars_of(b, number, word):
     b.fresh()
 
 
-def wide_bars(b):  # R-order-2
+def large_bars(b):  # R-order-2
     b.group("wbar", "refusals on devices 5 to 8 in both widths; nothing is touched and no cycle counted")
     b.fresh()
 
@@ -1198,7 +1198,7 @@ def wear_blocks(b):  # R-wear-1
 
 
 OLD_PARTS = (cards, blocks, ways, other_ends, refusals, by_hand, barred, over, apart, verified, apart_by_hand)
-NEW_PARTS = (wide_runs, wide_mains, wide_boot, wide_verifies, wide_bars, words_by_hand, word_ends_by_hand, hands_back)
+NEW_PARTS = (large_runs, large_mains, large_boot, large_verifies, large_bars, words_by_hand, word_ends_by_hand, hands_back)
 WEAR_PARTS = (wear_runs, wear_blocks)
 
 

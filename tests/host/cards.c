@@ -149,33 +149,33 @@ static void loads_and_files(void) {
 }
 
 /* Devices 5 to 8, which have an array and levels of their own. Numbers from 101 on, since the cards end at 13; wear has 112 to 117. */
-static uint8_t wide[TB_SIZE_MOST], left_by_cut[16384], wide_wanted[8192], wide_scratch[8192];
+static uint8_t large[TB_SIZE_MOST], left_by_cut[16384], large_wanted[8192], large_scratch[8192];
 static tb_device br;
 static uint8_t wp;
 
-static void wide_fresh(uint8_t number, uint8_t word, uint8_t byte) {
+static void large_fresh(uint8_t number, uint8_t word, uint8_t byte) {
     br = (tb_device){.number = number, .word = word, .program = 2, .erase = 3, .suspend = 1};
-    memset(wide, byte, sizeof wide);
+    memset(large, byte, sizeof large);
     state = tb_fresh();
     wp = TB_WP_LOW;
 }
 
-static void wide_cycle(uint8_t kind, uint8_t rp, uint32_t vpp, uint32_t address, uint16_t data) {
+static void large_cycle(uint8_t kind, uint8_t rp, uint32_t vpp, uint32_t address, uint16_t data) {
     tb_bus bus = {.kind = kind, .rp = rp, .wp = wp, .data = data, .vpp_mv = vpp, .address = address};
-    last = tb_cycle(br, state, bus, wide, tb_size(br.number), left_by_cut, sizeof left_by_cut);
+    last = tb_cycle(br, state, bus, large, tb_size(br.number), left_by_cut, sizeof left_by_cut);
     state = last.state;
 }
 
-static void wide_operate(uint16_t first, uint16_t second, uint32_t address, uint8_t rp, uint32_t vpp, int polls) {
-    wide_cycle(TB_CYCLE_WRITE, rp, vpp, address, first);
-    wide_cycle(TB_CYCLE_WRITE, rp, vpp, address, second);
+static void large_operate(uint16_t first, uint16_t second, uint32_t address, uint8_t rp, uint32_t vpp, int polls) {
+    large_cycle(TB_CYCLE_WRITE, rp, vpp, address, first);
+    large_cycle(TB_CYCLE_WRITE, rp, vpp, address, second);
     while (polls-- > 0)
-        wide_cycle(TB_CYCLE_READ, rp, vpp, address, 0);
+        large_cycle(TB_CYCLE_READ, rp, vpp, address, 0);
 }
 
-static bool wide_all(size_t first, size_t n, uint8_t byte) {
+static bool large_all(size_t first, size_t n, uint8_t byte) {
     for (size_t i = first; i < first + n; i++)
-        if (wide[i] != byte)
+        if (large[i] != byte)
             return false;
     return true;
 }
@@ -189,69 +189,69 @@ static bool gives(bool code, uint16_t data) {
 static void identifiers(void) {
     static const uint16_t code[] = {0x2274, 0x2275, 0x4470, 0x4471};
     for (uint8_t k = 0; k < 4; k++) {
-        wide_fresh((uint8_t)(5 + k), 1, 0x00);
-        wide_cycle(TB_CYCLE_WRITE, 1, 5000, 0, 0xA590);
+        large_fresh((uint8_t)(5 + k), 1, 0x00);
+        large_cycle(TB_CYCLE_WRITE, 1, 5000, 0, 0xA590);
         for (uint32_t a = 0; a < 3; a++) {
-            wide_cycle(TB_CYCLE_READ, 1, 5000, a, 0);
+            large_cycle(TB_CYCLE_READ, 1, 5000, a, 0);
             card(101, gives(a < 2, a == 0 ? 0x0089 : code[k]));
         }
-        wide_fresh((uint8_t)(5 + k), 0, 0x00);
-        wide_cycle(TB_CYCLE_WRITE, 1, 5000, 0, 0x90);
+        large_fresh((uint8_t)(5 + k), 0, 0x00);
+        large_cycle(TB_CYCLE_WRITE, 1, 5000, 0, 0x90);
         for (uint32_t a = 0; a < 5; a++) {
-            wide_cycle(TB_CYCLE_READ, 1, 5000, a, 0);
+            large_cycle(TB_CYCLE_READ, 1, 5000, a, 0);
             card(102, gives(a < 4, a < 2 ? 0x89 : code[k] % 256));
         }
     }
 }
 
 /* VPP and WP#: what is refused, what starts, and what the status says of what does not. (R-cycle-1, R-cycle-2, R-lock-1) */
-static void wide_levels(void) {
+static void large_levels(void) {
     static const struct {
         uint32_t vpp;
         uint16_t status; /* after a program at it; 0 starts, 4 is the refusal */
     } list[] = {{0, 0x98},  {1500, 0x98}, {1501, 4},  {4499, 4},  {4500, 0},  {5500, 0},  {5501, 4},
                 {6500, 4},  {6501, 4},    {11399, 4}, {11400, 0}, {12600, 0}, {12601, 4}};
     for (size_t i = 0; i < sizeof list / sizeof list[0]; i++) {
-        wide_fresh(7, 1, 0xFF);
-        wide_operate(0x40, 0x1234, 0x10, 1, list[i].vpp, 0);
+        large_fresh(7, 1, 0xFF);
+        large_operate(0x40, 0x1234, 0x10, 1, list[i].vpp, 0);
         card(103, list[i].status == 4 ? last.seen == TB_REFUSED && last.value == 4 : state.status == list[i].status);
     }
     for (uint8_t level = 0; level < 2; level++)
         for (uint8_t rp = 1; rp < 3; rp++) {
-            wide_fresh(6, 1, 0x00);
+            large_fresh(6, 1, 0x00);
             wp = level;
-            wide_operate(0x20, 0xD0, 0x1FFF, rp, 5000, 3);
+            large_operate(0x20, 0xD0, 0x1FFF, rp, 5000, 3);
             bool open = level == 1 || rp == 2;
-            card(104, state.status == (open ? 0x80 : 0xA0) && wide_all(0, 16384, open ? 0xFF : 0x00) && wide_all(16384, 245760, 0x00));
+            card(104, state.status == (open ? 0x80 : 0xA0) && large_all(0, 16384, open ? 0xFF : 0x00) && large_all(16384, 245760, 0x00));
             card(104, worn(state, 0, open));
         }
-    wide_fresh(6, 1, 0x00);
+    large_fresh(6, 1, 0x00);
     wp = 2;
-    wide_cycle(TB_CYCLE_IDLE, 0, 5000, 0, 0);
+    large_cycle(TB_CYCLE_IDLE, 0, 5000, 0, 0);
     card(105, last.seen == TB_REFUSED && last.value == 4);
 }
 
 /* A word is one operation; cut, the residue's first two bytes are r, low byte first. The bands may change meanwhile.
  * (R-part-6, R-cycle-7) */
 static void words(void) {
-    wide_fresh(5, 1, 0xFF);
-    wide_operate(0xFF10, 0x5AC3, 0x1D001, 1, 5000, 1);
-    wide_cycle(TB_CYCLE_READ, 1, 12000, 0x1D001, 0);
-    card(106, last.value == 0x0080 && wide[0x3A002] == 0xC3 && wide[0x3A003] == 0x5A);
-    card(106, wide_all(0, 0x3A002, 0xFF) && wide_all(0x3A004, 0x5FFC, 0xFF));
-    wide_cycle(TB_CYCLE_WRITE, 1, 0, 0, 0x77FF);
-    wide_cycle(TB_CYCLE_READ, 1, 0, 0x1D001, 0);
+    large_fresh(5, 1, 0xFF);
+    large_operate(0xFF10, 0x5AC3, 0x1D001, 1, 5000, 1);
+    large_cycle(TB_CYCLE_READ, 1, 12000, 0x1D001, 0);
+    card(106, last.value == 0x0080 && large[0x3A002] == 0xC3 && large[0x3A003] == 0x5A);
+    card(106, large_all(0, 0x3A002, 0xFF) && large_all(0x3A004, 0x5FFC, 0xFF));
+    large_cycle(TB_CYCLE_WRITE, 1, 0, 0, 0x77FF);
+    large_cycle(TB_CYCLE_READ, 1, 0, 0x1D001, 0);
     card(106, last.value == 0x5AC3);
-    wide_fresh(5, 1, 0xF0);
+    large_fresh(5, 1, 0xF0);
     left_by_cut[0] = 0x33;
     left_by_cut[1] = 0xCC;
-    wide_operate(0x40, 0x0F00, 0, 1, 12000, 0);
-    wide_cycle(TB_CYCLE_READ, 1, 1500, 0, 0);
-    card(107, last.value == 0x0098 && wide[0] == (0xF0 & (0x00 | 0x33)) && wide[1] == (0xF0 & (0x0F | 0xCC)));
-    wide_fresh(8, 1, 0x00);
-    wide_operate(0x20, 0xD0, 0x3FFFF, 1, 5000, 3);
-    card(108, state.status == 0x80 && wide_all(0x60000, 0x20000, 0xFF) && wide_all(0, 0x60000, 0x00) && worn(state, 6, 1));
-    wide_cycle(TB_CYCLE_READ, 1, 5000, 0x40000, 0);
+    large_operate(0x40, 0x0F00, 0, 1, 12000, 0);
+    large_cycle(TB_CYCLE_READ, 1, 1500, 0, 0);
+    card(107, last.value == 0x0098 && large[0] == (0xF0 & (0x00 | 0x33)) && large[1] == (0xF0 & (0x0F | 0xCC)));
+    large_fresh(8, 1, 0x00);
+    large_operate(0x20, 0xD0, 0x3FFFF, 1, 5000, 3);
+    card(108, state.status == 0x80 && large_all(0x60000, 0x20000, 0xFF) && large_all(0, 0x60000, 0x00) && worn(state, 6, 1));
+    large_cycle(TB_CYCLE_READ, 1, 5000, 0x40000, 0);
     card(109, last.seen == TB_REFUSED && last.value == 5);
 }
 
@@ -259,14 +259,14 @@ static void words(void) {
  * (R-load-5, R-number-25) */
 static void word_loads(void) {
     for (uint8_t high = 0; high < 2; high++) {
-        wide_fresh(5, 1, 0xFF);
-        memset(wide_wanted, 0xFF, sizeof wide_wanted);
-        wide_wanted[100] = 0x12;
-        wide_wanted[101] = 0x34;
-        tb_ran r = tb_run(br, state, 1, 0, 5000, 1, wide, 262144, wide_wanted, 8192, wide_scratch, 8192);
-        card(110, r.end == 0 && r.count == 2 * 4096 + 3 + 2 + 2 && memcmp(wide + 0x3A000, wide_wanted, 8192) == 0);
-        wide[0x3A000 + 100 + high] ^= 0x40;
-        r = tb_verify_run(br, r.state, 1, 0, 0, 1, wide, 262144, wide_wanted, 8192, wide_scratch, 8192);
+        large_fresh(5, 1, 0xFF);
+        memset(large_wanted, 0xFF, sizeof large_wanted);
+        large_wanted[100] = 0x12;
+        large_wanted[101] = 0x34;
+        tb_ran r = tb_run(br, state, 1, 0, 5000, 1, large, 262144, large_wanted, 8192, large_scratch, 8192);
+        card(110, r.end == 0 && r.count == 2 * 4096 + 3 + 2 + 2 && memcmp(large + 0x3A000, large_wanted, 8192) == 0);
+        large[0x3A000 + 100 + high] ^= 0x40;
+        r = tb_verify_run(br, r.state, 1, 0, 0, 1, large, 262144, large_wanted, 8192, large_scratch, 8192);
         card(111, r.end == 25 && r.address == 0x3A000 + 100u + high && r.count == 1 + 51);
     }
 }
@@ -320,7 +320,7 @@ void cards(void) {
     erases();
     loads_and_files();
     identifiers();
-    wide_levels();
+    large_levels();
     words();
     word_loads();
     wear_of_an_erase();

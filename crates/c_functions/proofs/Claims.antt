@@ -18,18 +18,18 @@ use Rattle.units.specs.Units.{units, lent, bytesIn}
 use Rattle.units.specs.Address.{byteOf}
 use Rattle.model.specs.Arrays.{answerOf, bytesAfter}
 use Rattle.loader.specs.declared.Loader.{Loader}
-use Rattle.loader.specs.declared.Turn.the-variants.{Barred}
-use Rattle.loader_steps.specs.Front.{noBlock, stepGiven, scratchLeft}
+use Rattle.loader.specs.declared.Saying.the-variants.{Refused}
+use Rattle.loader_steps.specs.Front.{noBlock, stepResponse, scratchLeft}
 use Rattle.loader_run.specs.Runs.{lentNumber, lentRun}
 use Rattle.loader_from_file.specs.Loads.{loadNumber, loadLeft}
 use Rattle.wear.specs.declared.Report.{Report}
 use Rattle.wear.specs.Reports.{noReport}
 use Rattle.wear.specs.Refusals.{reportRows, addRows, addedTo}
 use Rattle.c_cycle.specs.Values.{deviceIn, deviceOut, noState, wearOut, stateIn, stateOut, cycleOut}
-use Rattle.c_records.specs.Records.{noRecord, loaderIn, loaderOut, turnOut, jobIn}
+use Rattle.c_records.specs.Records.{noRecord, loaderIn, loaderOut, sayingOut, jobIn}
 use Rattle.c_cycle.specs.Answers.{seenOut, valueOut, cycled, arrayCycled}
 use Rattle.c_functions.specs.Calls.{startedAt, steppedOf, scratchStepped, runAtOf, arrayRunAt, scratchRunAt, fileAtOf, arrayFileAt, wantedFileAt, scratchFileAt, writtenOf, fileLeft, fileRead, payloadLeft, ranNumbers, wearAdded, wearReported}
-use Rattle.c_functions.specs.Geometry.{sizeGiven, blockGiven}
+use Rattle.c_functions.specs.Geometry.{sizeReturned, blockReturned}
 use Rattle.c_cycle.specs.declared.DeviceNumbers.{DeviceNumbers}
 use Rattle.c_cycle.specs.declared.WearNumbers.{WearNumbers}
 use Rattle.c_cycle.specs.declared.StateNumbers.{StateNumbers}
@@ -52,17 +52,17 @@ pub cycle-no-kind : (d : DeviceNumbers) (s : StateNumbers) (c : BusNumbers) (xs 
 cycle-no-kind = returned.cycle-no-kind
 
 pub step-no-record : (l : LoaderNumbers) (b : ℕ) (w sc : List ℕ) → unknownPart (loaderIn l .part) ≡ false → noRecord l ≡ true
-    → (steppedOf l b w sc .turn ≡ turnOut (Barred 3)) × (steppedOf l b w sc .loader ≡ l)
+    → (steppedOf l b w sc .turn ≡ sayingOut (Refused 3)) × (steppedOf l b w sc .loader ≡ l)
 step-no-record = returned.step-no-record
 
 -- A mode that is neither 0 nor 1 is no device: refused 1, before all else.
 pub cycle-no-mode : (d : DeviceNumbers) (s : StateNumbers) (c : BusNumbers) (xs rs : List ℕ) → ltb 1 (d .word) ≡ true → cycled d s c xs rs ≡ record { seen = 2; value = 1; state = s }
 cycle-no-mode = returned.cycle-no-mode
 
-pub start-no-mode : (work : Work) (part word rp wp vpp k : ℕ) (w sc : List ℕ) → ltb 1 word ≡ true → startedAt work part word rp wp vpp k w sc .turn ≡ turnOut (Barred 1)
+pub start-no-mode : (work : Work) (part word rp wp vpp k : ℕ) (w sc : List ℕ) → ltb 1 word ≡ true → startedAt work part word rp wp vpp k w sc .turn ≡ sayingOut (Refused 1)
 start-no-mode = returned.start-no-mode
 
-pub step-no-mode : (l : LoaderNumbers) (b : ℕ) (w sc : List ℕ) → ltb 1 (l .word) ≡ true → (steppedOf l b w sc .turn ≡ turnOut (Barred 1)) × (steppedOf l b w sc .loader ≡ l)
+pub step-no-mode : (l : LoaderNumbers) (b : ℕ) (w sc : List ℕ) → ltb 1 (l .word) ≡ true → (steppedOf l b w sc .turn ≡ sayingOut (Refused 1)) × (steppedOf l b w sc .loader ≡ l)
 step-no-mode = returned.step-no-mode
 
 pub run-no-mode : (work : Work) (d : DeviceNumbers) (s : StateNumbers) (rp wp vpp k : ℕ) (xs w sc : List ℕ) → ltb 1 (d .word) ≡ true
@@ -74,11 +74,11 @@ pub load-no-mode : (work : Work) (d : DeviceNumbers) (s : StateNumbers) (rp wp v
 load-no-mode = returned.load-no-mode
 
 -- The bytes and byte addresses that tb_size and tb_block give are those of the part in either mode.
-pub size-either : (n : ℕ) (w : Bool) → unknownPart (record { number = n; word = w }) ≡ false → sizeGiven n ≡ bytesIn w (sizeOf (record { number = n; word = w }))
+pub size-either : (n : ℕ) (w : Bool) → unknownPart (record { number = n; word = w }) ≡ false → sizeReturned n ≡ bytesIn w (sizeOf (record { number = n; word = w }))
 size-either = returned.size-either
 
 pub block-either : (n k : ℕ) (w : Bool) → unknownPart (record { number = n; word = w }) ≡ false → noBlock (record { number = n; word = w }) k ≡ false
-    → blockGiven n k ≡ record { first = byteOf w (startOf (record { number = n; word = w }) k); length = bytesIn w (lengthOf (record { number = n; word = w }) k) }
+    → blockReturned n k ≡ record { first = byteOf w (startOf (record { number = n; word = w }) k); length = bytesIn w (lengthOf (record { number = n; word = w }) k) }
 block-either = returned.block-either
 
 pub run-no-state : (work : Work) (d : DeviceNumbers) (s : StateNumbers) (rp wp vpp k : ℕ) (xs w sc : List ℕ) → unknownDevice (deviceIn d) ≡ false → length xs ≡ bytesIn (deviceIn d .part .word) (sizeOf (deviceIn d .part))
@@ -155,7 +155,7 @@ cycle-typed = returned.cycle-typed
 
 pub step-typed : (l : Loader) (b : ℕ) (w sc : List ℕ)
     → (steppedOf (loaderOut l) b w sc
-    ≡ record { turn = turnOut (stepGiven l b (lent (l .part .word) w) (lent (l .part .word) sc) .turn); loader = loaderOut (stepGiven l b (lent (l .part .word) w) (lent (l .part .word) sc) .loader) })
+    ≡ record { turn = sayingOut (stepResponse l b (lent (l .part .word) w) (lent (l .part .word) sc) .saying); loader = loaderOut (stepResponse l b (lent (l .part .word) w) (lent (l .part .word) sc) .loader) })
     × (scratchStepped (loaderOut l) b w sc ≡ scratchLeft l b w sc)
 step-typed = returned.step-typed
 

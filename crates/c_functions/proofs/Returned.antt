@@ -28,14 +28,14 @@ use Rattle.model.specs.Arrays.{answerOf, bytesAfter}
 use Rattle.model.proofs.Claims as model-claims
 use Rattle.loader.specs.Stages.{isEnded, endBy}
 use Rattle.loader.specs.Moves.{nextOf}
-use Rattle.loader.specs.declared.Given.{Given}
+use Rattle.loader.specs.declared.Response.{Response}
 use Rattle.loader.specs.declared.Loader.{Loader}
-use Rattle.loader.specs.declared.Turn.{Turn}
-use Rattle.loader.specs.declared.Turn.the-variants.{Out, Over, Barred}
+use Rattle.loader.specs.declared.Saying.{Saying}
+use Rattle.loader.specs.declared.Saying.the-variants.{Out, Over, Refused as SayRefused}
 use Rattle.loader_steps.specs.Outs.{cycleOf}
 use Rattle.loader_steps.specs.Stores.{storeOf}
-use Rattle.loader_steps.specs.Front.{noBlock, stepNumber, endAddress, turnGiven, isBarred, stepGiven, scratchLeft}
-use Rattle.loader_steps.proofs.Again.{step-on}
+use Rattle.loader_steps.specs.Front.{noBlock, stepNumber, endAddress, responseAt, saysRefused, stepResponse, scratchLeft}
+use Rattle.loader_steps.proofs.StartAndStep.{step-on}
 use Rattle.loader_steps.proofs.Lending.{step-keeps}
 use Rattle.loader_steps.proofs.Claims as loader-claims
 use Rattle.loader_run.specs.declared.Ran.{Ran}
@@ -45,10 +45,10 @@ use Rattle.loader_from_file.specs.Loads.{loadRows, loadNumber, loadLeft}
 use Rattle.loader_from_file.proofs.Leaving as load-leaving
 use Rattle.file_codec.specs.File.{Outcome, refused, made, limit, inRoom, leftIn, readerOf, writerOf, readAs, writtenAs}
 use Rattle.c_cycle.specs.Values.{partIn, deviceIn, pinsIn, noState, stateIn, stateOut, cycleIn, cycleOut, deviceOut}
-use Rattle.c_records.specs.Records.{noRecord, loaderIn, loaderOut, loaderBack, turnOut, ranOut, writtenOut, readOut, jobIn}
+use Rattle.c_records.specs.Records.{noRecord, loaderIn, loaderOut, loaderBack, sayingOut, ranOut, writtenOut, readOut, jobIn}
 use Rattle.c_cycle.specs.Answers.{stateBack, seenOut, valueOut, answerOut, cycled, arrayCycled}
-use Rattle.c_functions.specs.Calls.{wide, wideIn, startedAt, steppedOf, scratchStepped, runAtOf, arrayRunAt, scratchRunAt, fileAtOf, arrayFileAt, wantedFileAt, scratchFileAt, writtenOf, fileLeft, fileRead, payloadLeft, ranNumbers}
-use Rattle.c_functions.specs.Geometry.{partBy, sizeGiven, blockGiven}
+use Rattle.c_functions.specs.Calls.{wordModeOf, wordIn, startedAt, steppedOf, scratchStepped, runAtOf, arrayRunAt, scratchRunAt, fileAtOf, arrayFileAt, wantedFileAt, scratchFileAt, writtenOf, fileLeft, fileRead, payloadLeft, ranNumbers}
+use Rattle.c_functions.specs.Geometry.{partBy, sizeReturned, blockReturned}
 use Rattle.c_cycle.specs.declared.DeviceNumbers.{DeviceNumbers}
 use Rattle.c_cycle.specs.declared.StateNumbers.{StateNumbers}
 use Rattle.c_cycle.specs.declared.BusNumbers.{BusNumbers}
@@ -59,13 +59,13 @@ use Rattle.loader_run.specs.declared.Job.{Job}
 use Rattle.loader.specs.declared.Work.{Work}
 
 -- the state or record that goes back for one that came as a state's or a record's numbers
-state-given : (s t : State) → stateBack (stateOut s) t ≡ stateOut t
+state-returned : (s t : State) → stateBack (stateOut s) t ≡ stateOut t
 unfolding stateBack
-state-given s t = if-false (noState (stateOut s)) (stateOut s) (stateOut t) (out-state s)
+state-returned s t = if-false (noState (stateOut s)) (stateOut s) (stateOut t) (out-state s)
 
-record-given : (l m : Loader) → loaderBack (loaderOut l) m ≡ loaderOut m
+record-returned : (l m : Loader) → loaderBack (loaderOut l) m ≡ loaderOut m
 unfolding loaderBack
-record-given l m = if-false (noRecord (loaderOut l)) (loaderOut l) (loaderOut m) (out-record l)
+record-returned l m = if-false (noRecord (loaderOut l)) (loaderOut l) (loaderOut m) (out-record l)
 
 -- a refusal by its number
 seen-two : (x : Seen) → seenOut x ≡ 2 → x ≡ Refused (valueOut x)
@@ -73,25 +73,25 @@ seen-two NoData e = absurd (omega arith)
 seen-two (Data b) e = absurd (omega arith)
 seen-two (Refused n) e = refl
 
-turn-two : (t : Turn) → turnOut t .turn ≡ 2 → t ≡ Barred (turnOut t .number)
-turn-two (Out c) e = absurd (omega arith)
-turn-two (Over n a) e = absurd (omega arith)
-turn-two (Barred n) e = refl
+saying-two : (t : Saying) → sayingOut t .turn ≡ 2 → t ≡ SayRefused (sayingOut t .number)
+saying-two (Out c) e = absurd (omega arith)
+saying-two (Over n a) e = absurd (omega arith)
+saying-two (SayRefused n) e = refl
 
 -- the array is as long as the device's, in bytes: its units are, and 2 does not apply
 module _ (d : DeviceNumbers) (xs : List ℕ) where
-  units-whole : length xs ≡ bytesIn (wide d) (sizeOf (deviceIn d .part)) → not (eqb (length (lent (wide d) xs)) (sizeOf (deviceIn d .part))) ≡ false
-  units-whole e = ap not (eq-eqb (length (lent (wide d) xs)) (sizeOf (deviceIn d .part)) (model-claims.two-counts-bytes (deviceIn d) xs .1 e))
+  units-whole : length xs ≡ bytesIn (wordModeOf d) (sizeOf (deviceIn d .part)) → not (eqb (length (lent (wordModeOf d) xs)) (sizeOf (deviceIn d .part))) ≡ false
+  units-whole e = ap not (eq-eqb (length (lent (wordModeOf d) xs)) (sizeOf (deviceIn d .part)) (model-claims.two-counts-bytes (deviceIn d) xs .1 e))
 
-  lent-whole : length xs ≡ bytesIn (wide d) (sizeOf (deviceIn d .part)) → not (eqb (lentIn (wide d) (length xs)) (sizeOf (deviceIn d .part))) ≡ false
-  lent-whole e = ap (λ (n : ℕ). not (eqb n (sizeOf (deviceIn d .part)))) (sym (lent-length (wide d) xs)) ∙ units-whole e
+  lent-whole : length xs ≡ bytesIn (wordModeOf d) (sizeOf (deviceIn d .part)) → not (eqb (lentIn (wordModeOf d) (length xs)) (sizeOf (deviceIn d .part))) ≡ false
+  lent-whole e = ap (λ (n : ℕ). not (eqb n (sizeOf (deviceIn d .part)))) (sym (lent-length (wordModeOf d) xs)) ∙ units-whole e
 
 module _ (d : DeviceNumbers) (s : StateNumbers) (c : BusNumbers) (xs rs : List ℕ) where
   abbrev us : List ℕ
-  us = lent (wide d) xs
+  us = lent (wordModeOf d) xs
 
   abbrev vs : List ℕ
-  vs = units (wide d) rs
+  vs = units (wordModeOf d) rs
 
   pub cycle-refused : cycled d s c xs rs .seen ≡ 2 → (cycled d s c xs rs .state ≡ s) × (arrayCycled d s c xs rs ≡ xs)
   unfolding cycled arrayCycled
@@ -101,7 +101,7 @@ module _ (d : DeviceNumbers) (s : StateNumbers) (c : BusNumbers) (xs rs : List �
       (ap (λ (t : State). stateBack s t) (k .0) ∙ state-same s, model-claims.refused-bytes (deviceIn d) (stateIn s) (cycleIn c) xs rs (valueOut seen) (seen-two seen e))
 
   -- by a number that is known to be the first
-  refused-by : (m : ℕ) → answerOf (deviceIn d) (stateIn s) (cycleIn c) (lent (wide d) xs) (units (wide d) rs) .seen ≡ Refused m → cycled d s c xs rs ≡ record { seen = 2; value = m; state = s }
+  refused-by : (m : ℕ) → answerOf (deviceIn d) (stateIn s) (cycleIn c) (lent (wordModeOf d) xs) (units (wordModeOf d) rs) .seen ≡ Refused m → cycled d s c xs rs ≡ record { seen = 2; value = m; state = s }
   unfolding cycled
   refused-by m e =
       let k = model-claims.refused-nothing (deviceIn d) (stateIn s) (cycleIn c) us vs m e in
@@ -129,44 +129,44 @@ module _ (d : DeviceNumbers) (s : StateNumbers) (c : BusNumbers) (xs rs : List �
       (below (units-whole d xs whole) (below proper (here (no-kind-refused c e (deviceIn d .part)))))))
 
 -- what a record gives is no refusal
-not-barred : (t : Bool) (n a : ℕ) (c : Cycle) → isBarred (if t then Over n a else Out c) ≡ false
-not-barred true n a c = refl
-not-barred false n a c = refl
+not-refused : (t : Bool) (n a : ℕ) (c : Cycle) → saysRefused (if t then Over n a else Out c) ≡ false
+not-refused true n a c = refl
+not-refused false n a c = refl
 
-refused-some : (l : Loader) (v : ℕ) (us ws : List ℕ) (m : ℕ) → stepGiven l v us ws .turn ≡ Barred m → stepNumber l (length us) (length ws) ≡ 0 → ⊥
+refused-some : (l : Loader) (v : ℕ) (us ws : List ℕ) (m : ℕ) → stepResponse l v us ws .saying ≡ SayRefused m → stepNumber l (length us) (length ws) ≡ 0 → ⊥
 refused-some l v us ws m e z =
     let on : Loader = nextOf l v us (storeOf l v us ws) in
-    let q : turnGiven on us .turn ≡ Barred m = ap (λ (g : Given). g .turn) (sym (step-on l v us ws z .0)) ∙ e in
-    unlike (sym (ap isBarred q) ∙ not-barred (isEnded (on .stage)) (endBy (on .stage)) (endAddress on (endBy (on .stage))) (cycleOf on us))
+    let q : responseAt on us .saying ≡ SayRefused m = ap (λ (g : Response). g .saying) (sym (step-on l v us ws z .0)) ∙ e in
+    unlike (sym (ap saysRefused q) ∙ not-refused (isEnded (on .stage)) (endBy (on .stage)) (endAddress on (endBy (on .stage))) (cycleOf on us))
 
 module _ (l : LoaderNumbers) (b : ℕ) (w sc : List ℕ) where
   abbrev wu : List ℕ
-  wu = lent (wideIn l) w
+  wu = lent (wordIn l) w
 
   abbrev su : List ℕ
-  su = lent (wideIn l) sc
+  su = lent (wordIn l) sc
 
   pub step-refused : steppedOf l b w sc .turn .turn ≡ 2 → (steppedOf l b w sc .loader ≡ l) × (scratchStepped l b w sc ≡ sc)
   unfolding steppedOf scratchStepped
   step-refused e =
-      let turn : Turn = stepGiven (loaderIn l) b wu su .turn in
-      let k = loader-claims.step-refused-leaves (loaderIn l) b wu su (turnOut turn .number) (turn-two turn e) in (
+      let saying : Saying = stepResponse (loaderIn l) b wu su .saying in
+      let k = loader-claims.step-refused-leaves (loaderIn l) b wu su (sayingOut saying .number) (saying-two saying e) in (
         ap (λ (m : Loader). loaderBack l m) (k .0) ∙ record-same l,
-        sym (step-keeps (loaderIn l) w sc b (stepNumber (loaderIn l) (length wu) (length su)) refl (refused-some (loaderIn l) b wu su (turnOut turn .number) (turn-two turn e))),
+        sym (step-keeps (loaderIn l) w sc b (stepNumber (loaderIn l) (length wu) (length su)) refl (refused-some (loaderIn l) b wu su (sayingOut saying .number) (saying-two saying e))),
       )
 
   -- refused by a number that is known to be the first
-  step-by : (m : ℕ) → stepGiven (loaderIn l) b wu su .turn ≡ Barred m → (steppedOf l b w sc .turn ≡ turnOut (Barred m)) × (steppedOf l b w sc .loader ≡ l)
+  step-by : (m : ℕ) → stepResponse (loaderIn l) b wu su .saying ≡ SayRefused m → (steppedOf l b w sc .turn ≡ sayingOut (SayRefused m)) × (steppedOf l b w sc .loader ≡ l)
   unfolding steppedOf
-  step-by m turn =
-      let k = loader-claims.step-refused-leaves (loaderIn l) b wu su m turn in
-      (ap (λ (t : Turn). turnOut t) turn, ap (λ (m : Loader). loaderBack l m) (k .0) ∙ record-same l)
+  step-by m saying =
+      let k = loader-claims.step-refused-leaves (loaderIn l) b wu su m saying in
+      (ap (λ (t : Saying). sayingOut t) saying, ap (λ (m : Loader). loaderBack l m) (k .0) ∙ record-same l)
 
   -- a mode that is none is refused 1, whatever else the record says
-  pub step-no-mode : ltb 1 (l .word) ≡ true → (steppedOf l b w sc .turn ≡ turnOut (Barred 1)) × (steppedOf l b w sc .loader ≡ l)
+  pub step-no-mode : ltb 1 (l .word) ≡ true → (steppedOf l b w sc .turn ≡ sayingOut (SayRefused 1)) × (steppedOf l b w sc .loader ≡ l)
   step-no-mode e = step-by 1 (loader-claims.step-refused-exactly (loaderIn l) b wu su 1 (λ (z : 1 ≡ 0). (omega arith)) .1 (here (no-mode-part l e)))
 
-  pub step-no-record : unknownPart (loaderIn l .part) ≡ false → noRecord l ≡ true → (steppedOf l b w sc .turn ≡ turnOut (Barred 3)) × (steppedOf l b w sc .loader ≡ l)
+  pub step-no-record : unknownPart (loaderIn l .part) ≡ false → noRecord l ≡ true → (steppedOf l b w sc .turn ≡ sayingOut (SayRefused 3)) × (steppedOf l b w sc .loader ≡ l)
   step-no-record known e =
       step-by 3 (loader-claims.step-refused-exactly (loaderIn l) b wu su 3 (λ (z : 3 ≡ 0). (omega arith)) .1 (below known (here (no-record-bad l e))))
 
@@ -275,7 +275,7 @@ cycle-typed d s c xs rs =
     let t = state-back s in
     let b = cycle-back c in
     let a : Answer = answerOf d s c (lent (d .part .word) xs) (units (d .part .word) rs) in
-    let back = state-given s (a .state) in (
+    let back = state-returned s (a .state) in (
       (λ i. answerOut (stateOut s) (answerOf (e i) (t i) (b i) (lent (e i .part .word) xs) (units (e i .part .word) rs)))
           ∙ (λ i. record { seen = seenOut (a .seen); value = valueOut (a .seen); state = back i }),
       λ i. bytesAfter (e i) (t i) (b i) xs rs,
@@ -283,17 +283,17 @@ cycle-typed d s c xs rs =
 
 pub step-typed : (l : Loader) (b : ℕ) (w sc : List ℕ)
     → (steppedOf (loaderOut l) b w sc
-    ≡ record { turn = turnOut (stepGiven l b (lent (l .part .word) w) (lent (l .part .word) sc) .turn); loader = loaderOut (stepGiven l b (lent (l .part .word) w) (lent (l .part .word) sc) .loader) })
+    ≡ record { turn = sayingOut (stepResponse l b (lent (l .part .word) w) (lent (l .part .word) sc) .saying); loader = loaderOut (stepResponse l b (lent (l .part .word) w) (lent (l .part .word) sc) .loader) })
     × (scratchStepped (loaderOut l) b w sc ≡ scratchLeft l b w sc)
 unfolding steppedOf scratchStepped
 step-typed l b w sc =
     let m = record-back l in
-    let g : Given = stepGiven l b (lent (l .part .word) w) (lent (l .part .word) sc) in
-    let back = record-given l (g .loader) in (
+    let g : Response = stepResponse l b (lent (l .part .word) w) (lent (l .part .word) sc) in
+    let back = record-returned l (g .loader) in (
       (λ i. record {
-        turn = turnOut (stepGiven (m i) b (lent (m i .part .word) w) (lent (m i .part .word) sc) .turn);
-        loader = loaderBack (loaderOut l) (stepGiven (m i) b (lent (m i .part .word) w) (lent (m i .part .word) sc) .loader);
-      }) ∙ (λ i. record { turn = turnOut (g .turn); loader = back i }),
+        turn = sayingOut (stepResponse (m i) b (lent (m i .part .word) w) (lent (m i .part .word) sc) .saying);
+        loader = loaderBack (loaderOut l) (stepResponse (m i) b (lent (m i .part .word) w) (lent (m i .part .word) sc) .loader);
+      }) ∙ (λ i. record { turn = sayingOut (g .saying); loader = back i }),
       λ i. scratchLeft (m i) b w sc,
     )
 
@@ -306,7 +306,7 @@ run-typed j xs w sc =
     let e = device-back (j .device) in
     let t = state-back (j .state) in
     let r : Ran = lentRun j xs w sc .ran in
-    let back = state-given (j .state) (r .state) in (
+    let back = state-returned (j .state) (r .state) in (
       (λ i. ranOut (stateOut (j .state)) (lentRun (jobOf (j .work) (e i) (t i) (j .pins) (j .block)) xs w sc .ran)) ∙ (λ i. record { count = r .count; end = r .end; address = r .address; state = back i }),
       λ i. lentRun (jobOf (j .work) (e i) (t i) (j .pins) (j .block)) xs w sc .bytes,
       λ i. lentRun (jobOf (j .work) (e i) (t i) (j .pins) (j .block)) xs w sc .scratch,
@@ -322,7 +322,7 @@ load-typed j f asked xs w sc =
     let e = device-back (j .device) in
     let t = state-back (j .state) in
     let r : Ran = loadLeft j xs w sc f asked .ran in
-    let back = state-given (j .state) (r .state) in (
+    let back = state-returned (j .state) (r .state) in (
       (λ i. ranOut (stateOut (j .state)) (loadLeft (jobOf (j .work) (e i) (t i) (j .pins) (j .block)) xs w sc f asked .ran)) ∙ (λ i. record { count = r .count; end = r .end; address = r .address; state = back i }),
       λ i. loadLeft (jobOf (j .work) (e i) (t i) (j .pins) (j .block)) xs w sc f asked .bytes,
       λ i. loadLeft (jobOf (j .work) (e i) (t i) (j .pins) (j .block)) xs w sc f asked .wanted,
@@ -330,22 +330,22 @@ load-typed j f asked xs w sc =
     )
 
 -- a start at a mode that is none: refused 1, with a record that has ended so
-pub start-no-mode : (work : Work) (part word rp wp vpp k : ℕ) (w sc : List ℕ) → ltb 1 word ≡ true → startedAt work part word rp wp vpp k w sc .turn ≡ turnOut (Barred 1)
+pub start-no-mode : (work : Work) (part word rp wp vpp k : ℕ) (w sc : List ℕ) → ltb 1 word ≡ true → startedAt work part word rp wp vpp k w sc .turn ≡ sayingOut (SayRefused 1)
 unfolding startedAt
 start-no-mode work part word rp wp vpp k w sc e =
-    ap (λ (t : Turn). turnOut t)
+    ap (λ (t : Saying). sayingOut t)
     (loader-claims.start-refused-exactly work (partIn part word) (pinsIn rp wp vpp) k (lent (partIn part word .word) w) (lent (partIn part word .word) sc) 1 (λ (z : 1 ≡ 0). (omega arith)) .1
     (here (no-mode-unknown part word e)))
 
 -- bytes of a part by its number alone: the same in either mode, and what a cycle, a run and a load ask of array and wanted
-pub size-either : (n : ℕ) (w : Bool) → unknownPart (record { number = n; word = w }) ≡ false → sizeGiven n ≡ bytesIn w (sizeOf (record { number = n; word = w }))
-unfolding sizeGiven
+pub size-either : (n : ℕ) (w : Bool) → unknownPart (record { number = n; word = w }) ≡ false → sizeReturned n ≡ bytesIn w (sizeOf (record { number = n; word = w }))
+unfolding sizeReturned
 size-either n false e = if-false (unknownPart (partBy n)) 0 (sizeOf (partBy n)) e
 size-either n true e = if-false (unknownPart (partBy n)) 0 (sizeOf (partBy n)) (still-known n e) ∙ device-claims.sizes-halved n
 
 pub block-either : (n k : ℕ) (w : Bool) → unknownPart (record { number = n; word = w }) ≡ false → noBlock (record { number = n; word = w }) k ≡ false
-    → blockGiven n k ≡ record { first = byteOf w (startOf (record { number = n; word = w }) k); length = bytesIn w (lengthOf (record { number = n; word = w }) k) }
-unfolding blockGiven
+    → blockReturned n k ≡ record { first = byteOf w (startOf (record { number = n; word = w }) k); length = bytesIn w (lengthOf (record { number = n; word = w }) k) }
+unfolding blockReturned
 block-either n k false e h =
     if-false (unknownPart (partBy n)) _ _ e ∙ if-false (noBlock (partBy n) k) _ _ h
 block-either n k true e h =

@@ -9,9 +9,9 @@ use Rattle.model_types.specs.States.{freshState}
 use Rattle.file_check.specs.Check.{checkOf}
 use Rattle.c_cycle.specs.Values.{stateOut}
 use Rattle.c_records.specs.declared.BlockNumbers.{BlockNumbers}
-use Rattle.c_functions.specs.Geometry.{sizeGiven, blockGiven}
+use Rattle.c_functions.specs.Geometry.{sizeReturned, blockReturned}
 use Rattle.c_cycle.specs.Answers.{cycled, arrayCycled}
-use Rattle.c_functions.specs.Calls.{started, steppedOf, scratchStepped, runOf, arrayRun, scratchRun, loadOf, arrayLoad, wantedLoad, scratchLoad, loadStarted, verifyStarted, loadRunOf, arrayLoadRun, scratchLoadRun, verifyRunOf, arrayVerifyRun, scratchVerifyRun, verifyFileOf, arrayVerifyFile, wantedVerifyFile, scratchVerifyFile, writtenOf, fileLeft, fileRead, payloadLeft, readingGiven, readingRead, wearAdded, wearReported}
+use Rattle.c_functions.specs.Calls.{started, steppedOf, scratchStepped, runOf, arrayRun, scratchRun, loadOf, arrayLoad, wantedLoad, scratchLoad, loadStarted, verifyStarted, loadRunOf, arrayLoadRun, scratchLoadRun, verifyRunOf, arrayVerifyRun, scratchVerifyRun, verifyFileOf, arrayVerifyFile, wantedVerifyFile, scratchVerifyFile, writtenOf, fileLeft, fileRead, payloadLeft, readingReturned, readingRead, wearAdded, wearReported}
 use Rattle.c_readings.specs.declared.ReadingNumbers.{ReadingNumbers}
 use Rattle.reading_table.specs.Table.{tableNumber}
 use lib.IntN.{ℤ}
@@ -21,8 +21,8 @@ use Rattle.c_cycle.specs.declared.StateNumbers.{StateNumbers}
 use Rattle.c_cycle.specs.declared.BusNumbers.{BusNumbers}
 use Rattle.c_cycle.specs.declared.AnswerNumbers.{AnswerNumbers}
 use Rattle.c_records.specs.declared.LoaderNumbers.{LoaderNumbers}
-use Rattle.c_records.specs.declared.TurnNumbers.{TurnNumbers}
-use Rattle.c_records.specs.declared.GivenNumbers.{GivenNumbers}
+use Rattle.c_records.specs.declared.SayingNumbers.{SayingNumbers}
+use Rattle.c_records.specs.declared.ResponseNumbers.{ResponseNumbers}
 use Rattle.c_records.specs.declared.RanNumbers.{RanNumbers}
 use Rattle.c_records.specs.declared.SizedNumbers.{SizedNumbers}
 use Rattle.c_wear.specs.declared.ReportNumbers.{ReportNumbers}
@@ -31,11 +31,11 @@ use Rattle.c_wear.specs.declared.ReportedNumbers.{ReportedNumbers}
 pub fresh-unique : Unique (λ (r : StateNumbers). r ≡ stateOut freshState)
 fresh-unique = only (stateOut freshState)
 
-pub size-unique : (n : ℕ) → Unique (λ (r : ℕ). r ≡ sizeGiven n)
-size-unique n = only (sizeGiven n)
+pub size-unique : (n : ℕ) → Unique (λ (r : ℕ). r ≡ sizeReturned n)
+size-unique n = only (sizeReturned n)
 
-pub block-unique : (n k : ℕ) → Unique (λ (r : BlockNumbers). r ≡ blockGiven n k)
-block-unique n k = only (blockGiven n k)
+pub block-unique : (n k : ℕ) → Unique (λ (r : BlockNumbers). r ≡ blockReturned n k)
+block-unique n k = only (blockReturned n k)
 
 pub cycle-unique : (d : DeviceNumbers) (s : StateNumbers) (c : BusNumbers) (xs rs : List ℕ) → Unique (λ (r : AnswerNumbers). r ≡ cycled d s c xs rs)
 cycle-unique d s c xs rs = only (cycled d s c xs rs)
@@ -43,17 +43,17 @@ cycle-unique d s c xs rs = only (cycled d s c xs rs)
 pub cycle-array-unique : (d : DeviceNumbers) (s : StateNumbers) (c : BusNumbers) (xs rs : List ℕ) → Unique (λ (left : List ℕ). left ≡ arrayCycled d s c xs rs)
 cycle-array-unique d s c xs rs = only (arrayCycled d s c xs rs)
 
-pub start-unique : (part word rp wp vpp k : ℕ) (w sc : List ℕ) → Unique (λ (r : GivenNumbers). r ≡ started part word rp wp vpp k w sc)
+pub start-unique : (part word rp wp vpp k : ℕ) (w sc : List ℕ) → Unique (λ (r : ResponseNumbers). r ≡ started part word rp wp vpp k w sc)
 start-unique part word rp wp vpp k w sc = only (started part word rp wp vpp k w sc)
 
 -- the step by value, and the step on a record that is lent: what it says, the record, scratch
-pub stepped-unique : (l : LoaderNumbers) (b : ℕ) (w sc : List ℕ) → Unique (λ (r : GivenNumbers). r ≡ steppedOf l b w sc)
+pub stepped-unique : (l : LoaderNumbers) (b : ℕ) (w sc : List ℕ) → Unique (λ (r : ResponseNumbers). r ≡ steppedOf l b w sc)
 stepped-unique l b w sc = only (steppedOf l b w sc)
 
 pub stepped-scratch-unique : (l : LoaderNumbers) (b : ℕ) (w sc : List ℕ) → Unique (λ (left : List ℕ). left ≡ scratchStepped l b w sc)
 stepped-scratch-unique l b w sc = only (scratchStepped l b w sc)
 
-pub step-unique : (l : LoaderNumbers) (b : ℕ) (w sc : List ℕ) → Unique (λ (r : TurnNumbers). r ≡ steppedOf l b w sc .turn)
+pub step-unique : (l : LoaderNumbers) (b : ℕ) (w sc : List ℕ) → Unique (λ (r : SayingNumbers). r ≡ steppedOf l b w sc .turn)
 step-unique l b w sc = only (steppedOf l b w sc .turn)
 
 pub step-record-unique : (l : LoaderNumbers) (b : ℕ) (w sc : List ℕ) → Unique (λ (left : LoaderNumbers). left ≡ steppedOf l b w sc .loader)
@@ -86,10 +86,10 @@ pub load-scratch-unique : (d : DeviceNumbers) (s : StateNumbers) (rp wp vpp k : 
     → Unique (λ (left : List ℕ). left ≡ scratchLoad d s rp wp vpp k f asked xs w sc)
 load-scratch-unique d s rp wp vpp k f asked xs w sc = only (scratchLoad d s rp wp vpp k f asked xs w sc)
 
-pub load-start-unique : (part word rp wp vpp k : ℕ) (w sc : List ℕ) → Unique (λ (r : GivenNumbers). r ≡ loadStarted part word rp wp vpp k w sc)
+pub load-start-unique : (part word rp wp vpp k : ℕ) (w sc : List ℕ) → Unique (λ (r : ResponseNumbers). r ≡ loadStarted part word rp wp vpp k w sc)
 load-start-unique part word rp wp vpp k w sc = only (loadStarted part word rp wp vpp k w sc)
 
-pub verify-start-unique : (part word rp wp vpp k : ℕ) (w sc : List ℕ) → Unique (λ (r : GivenNumbers). r ≡ verifyStarted part word rp wp vpp k w sc)
+pub verify-start-unique : (part word rp wp vpp k : ℕ) (w sc : List ℕ) → Unique (λ (r : ResponseNumbers). r ≡ verifyStarted part word rp wp vpp k w sc)
 verify-start-unique part word rp wp vpp k w sc = only (verifyStarted part word rp wp vpp k w sc)
 
 pub load-run-unique : (d : DeviceNumbers) (s : StateNumbers) (rp wp vpp k : ℕ) (xs w sc : List ℕ) → Unique (λ (r : RanNumbers). r ≡ loadRunOf d s rp wp vpp k xs w sc)
@@ -140,8 +140,8 @@ block-check-unique block = only (checkOf (take 510 block))
 pub table-judge-unique : (p : List ℕ) → Unique (λ (r : ℕ). r ≡ tableNumber p)
 table-judge-unique p = only (tableNumber p)
 
-pub table-reading-unique : (p : List ℕ) (x : ℤ) → Unique (λ (r : ReadingNumbers). r ≡ readingGiven p x)
-table-reading-unique p x = only (readingGiven p x)
+pub table-reading-unique : (p : List ℕ) (x : ℤ) → Unique (λ (r : ReadingNumbers). r ≡ readingReturned p x)
+table-reading-unique p x = only (readingReturned p x)
 
 pub file-reading-unique : (f : List ℕ) (asked : ℕ) (room : List ℕ) (x : ℤ) → Unique (λ (r : ReadingNumbers). r ≡ readingRead f asked room x)
 file-reading-unique f asked room x = only (readingRead f asked room x)

@@ -5,19 +5,19 @@ use Prim.Native.Nat.{ℕ}
 use lib.ListN.{length}
 use lib.IntN.{ℤ}
 use Rattle.units.specs.Units.{units, lent}
-use Rattle.loader.specs.declared.Given.{Given}
-use Rattle.loader_steps.specs.Front.{startGiven, stepGiven, scratchLeft}
+use Rattle.loader.specs.declared.Response.{Response}
+use Rattle.loader_steps.specs.Front.{startResponse, stepResponse, scratchLeft}
 use Rattle.loader_run.specs.declared.Ran.{Ran}
 use Rattle.file_codec.specs.File.{limit, inRoom, leftIn, readerOf, writerOf, readAs, writtenAs}
 use Rattle.c_cycle.specs.Values.{stateOut, partIn, deviceIn, pinsIn, wearIn, cycleIn}
-use Rattle.c_records.specs.Records.{loaderIn, loaderOut, loaderBack, turnOut, writtenOut, readOut, ranOut, jobIn}
+use Rattle.c_records.specs.Records.{loaderIn, loaderOut, loaderBack, sayingOut, writtenOut, readOut, ranOut, jobIn}
 use Rattle.c_cycle.specs.declared.DeviceNumbers.{DeviceNumbers}
 use Rattle.c_cycle.specs.declared.WearNumbers.{WearNumbers}
 use Rattle.c_cycle.specs.declared.StateNumbers.{StateNumbers}
 use Rattle.c_cycle.specs.declared.BusNumbers.{BusNumbers}
 use Rattle.c_cycle.specs.declared.AnswerNumbers.{AnswerNumbers}
 use Rattle.c_records.specs.declared.LoaderNumbers.{LoaderNumbers}
-use Rattle.c_records.specs.declared.GivenNumbers.{GivenNumbers}
+use Rattle.c_records.specs.declared.ResponseNumbers.{ResponseNumbers}
 use Rattle.c_records.specs.declared.RanNumbers.{RanNumbers}
 use Rattle.c_records.specs.declared.SizedNumbers.{SizedNumbers}
 use Rattle.c_readings.specs.declared.ReadingNumbers.{ReadingNumbers}
@@ -33,39 +33,39 @@ use Rattle.loader_run.specs.Runs.{lentRun}
 use Rattle.loader_from_file.specs.Loads.{loadLeft}
 
 -- whether the device that such numbers name is in word mode, and the part of a record's numbers
-abbrev pub wide : DeviceNumbers → Bool
-wide d = deviceIn d .part .word
+abbrev pub wordModeOf : DeviceNumbers → Bool
+wordModeOf d = deviceIn d .part .word
 
 -- whether the part that a loader's numbers name is in word mode
-abbrev pub wideIn : LoaderNumbers → Bool
-wideIn l = loaderIn l .part .word
+abbrev pub wordIn : LoaderNumbers → Bool
+wordIn l = loaderIn l .part .word
 
 -- what a start says, and the record
-abbrev pub givenOut : Given → GivenNumbers
-givenOut g = record { turn = turnOut (g .turn); loader = loaderOut (g .loader) }
+abbrev pub responseOut : Response → ResponseNumbers
+responseOut g = record { turn = sayingOut (g .saying); loader = loaderOut (g .loader) }
 
 -- a loader's start, of a load with or without the verify after it, or of a verify alone
-unfoldable pub startedAt : Work → ℕ → ℕ → ℕ → ℕ → ℕ → ℕ → List ℕ → List ℕ → GivenNumbers
+unfoldable pub startedAt : Work → ℕ → ℕ → ℕ → ℕ → ℕ → ℕ → List ℕ → List ℕ → ResponseNumbers
 startedAt work part word rp wp vpp k w sc =
-    givenOut (startGiven work (partIn part word) (pinsIn rp wp vpp) k (lent (partIn part word .word) w) (lent (partIn part word .word) sc))
+    responseOut (startResponse work (partIn part word) (pinsIn rp wp vpp) k (lent (partIn part word .word) w) (lent (partIn part word .word) sc))
 
 -- of a load with the verify after it, of a load alone, of a verify alone
-abbrev pub started : ℕ → ℕ → ℕ → ℕ → ℕ → ℕ → List ℕ → List ℕ → GivenNumbers
+abbrev pub started : ℕ → ℕ → ℕ → ℕ → ℕ → ℕ → List ℕ → List ℕ → ResponseNumbers
 started part word rp wp vpp k w sc = startedAt (Load true) part word rp wp vpp k w sc
 
 -- .. of a load alone
-abbrev pub loadStarted : ℕ → ℕ → ℕ → ℕ → ℕ → ℕ → List ℕ → List ℕ → GivenNumbers
+abbrev pub loadStarted : ℕ → ℕ → ℕ → ℕ → ℕ → ℕ → List ℕ → List ℕ → ResponseNumbers
 loadStarted part word rp wp vpp k w sc = startedAt (Load false) part word rp wp vpp k w sc
 
 -- .. of a verify alone
-abbrev pub verifyStarted : ℕ → ℕ → ℕ → ℕ → ℕ → ℕ → List ℕ → List ℕ → GivenNumbers
+abbrev pub verifyStarted : ℕ → ℕ → ℕ → ℕ → ℕ → ℕ → List ℕ → List ℕ → ResponseNumbers
 verifyStarted part word rp wp vpp k w sc = startedAt Verify part word rp wp vpp k w sc
 
 -- a loader's step: what it says and the record, and scratch
-unfoldable pub steppedOf : LoaderNumbers → ℕ → List ℕ → List ℕ → GivenNumbers
+unfoldable pub steppedOf : LoaderNumbers → ℕ → List ℕ → List ℕ → ResponseNumbers
 steppedOf l v w sc =
-    let g : Given = stepGiven (loaderIn l) v (lent (wideIn l) w) (lent (wideIn l) sc) in
-    record { turn = turnOut (g .turn); loader = loaderBack l (g .loader) }
+    let g : Response = stepResponse (loaderIn l) v (lent (wordIn l) w) (lent (wordIn l) sc) in
+    record { turn = sayingOut (g .saying); loader = loaderBack l (g .loader) }
 
 -- .. what it leaves in scratch
 unfoldable pub scratchStepped : LoaderNumbers → ℕ → List ℕ → List ℕ → List ℕ
@@ -188,8 +188,8 @@ unfoldable pub payloadLeft : List ℕ → ℕ → List ℕ → List ℕ
 payloadLeft f asked out = leftIn out (inRoom (length out) (readerOf limit f asked))
 
 -- a reading: by a payload, and straight from a file
-unfoldable pub readingGiven : List ℕ → ℤ → ReadingNumbers
-readingGiven p x = answerNumbers (readingAnswer p x)
+unfoldable pub readingReturned : List ℕ → ℤ → ReadingNumbers
+readingReturned p x = answerNumbers (readingAnswer p x)
 
 -- a reading straight from a file, under the letter asked for
 unfoldable pub readingRead : List ℕ → ℕ → List ℕ → ℤ → ReadingNumbers

@@ -12,12 +12,12 @@ abbrev pub partBy : ℕ → Part
 partBy n = record { number = n; word = false }
 
 -- the bytes of a part's array; 0 for a number that is no part's
-unfoldable pub sizeGiven : ℕ → ℕ
-sizeGiven n = if unknownPart (partBy n) then 0 else sizeOf (partBy n)
+unfoldable pub sizeReturned : ℕ → ℕ
+sizeReturned n = if unknownPart (partBy n) then 0 else sizeOf (partBy n)
 
 -- the first byte address and the bytes of a block; both 0 where there is none
-unfoldable pub blockGiven : ℕ → ℕ → BlockNumbers
-blockGiven n k =
+unfoldable pub blockReturned : ℕ → ℕ → BlockNumbers
+blockReturned n k =
     if unknownPart (partBy n) then record { first = 0; length = 0 }
     else if noBlock (partBy n) k then record { first = 0; length = 0 }
     else record { first = startOf (partBy n) k; length = lengthOf (partBy n) k }

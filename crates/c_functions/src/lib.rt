@@ -7,15 +7,15 @@ use c_cycle::StateNumbers;
 use c_cycle::WearNumbers;
 use c_readings::ReadingNumbers;
 use c_records::BlockNumbers;
-use c_records::GivenNumbers;
 use c_records::LoaderNumbers;
 use c_records::RanNumbers;
+use c_records::ResponseNumbers;
+use c_records::SayingNumbers;
 use c_records::SizedNumbers;
-use c_records::TurnNumbers;
 use c_wear::ReportNumbers;
 use c_wear::ReportedNumbers;
 use device::Part;
-use loader::Given;
+use loader::Response;
 use loader::Work;
 ghost use mathlib.Core.Path.{_≡_};
 ghost use lib.ListN.{take};
@@ -23,9 +23,9 @@ ghost use Rattle.model_types.specs.States.{freshState};
 ghost use Rattle.file_check.specs.Check.{checkOf};
 ghost use Rattle.c_cycle.specs.Values.{stateOut};
 ghost use Rattle.reading_table.specs.Table.{tableNumber};
-ghost use Rattle.c_functions.specs.Geometry.{sizeGiven, blockGiven};
+ghost use Rattle.c_functions.specs.Geometry.{sizeReturned, blockReturned};
 ghost use Rattle.c_cycle.specs.Answers.{cycled, arrayCycled};
-ghost use Rattle.c_functions.specs.Calls.{givenOut, started, loadStarted, verifyStarted, steppedOf, scratchStepped, runOf, arrayRun, scratchRun, loadRunOf, arrayLoadRun, scratchLoadRun, verifyRunOf, arrayVerifyRun, scratchVerifyRun, loadOf, arrayLoad, wantedLoad, scratchLoad, verifyFileOf, arrayVerifyFile, wantedVerifyFile, scratchVerifyFile, writtenOf, fileLeft, fileRead, payloadLeft, readingGiven, readingRead, wearAdded, wearReported};
+ghost use Rattle.c_functions.specs.Calls.{responseOut, started, loadStarted, verifyStarted, steppedOf, scratchStepped, runOf, arrayRun, scratchRun, loadRunOf, arrayLoadRun, scratchLoadRun, verifyRunOf, arrayVerifyRun, scratchVerifyRun, loadOf, arrayLoad, wantedLoad, scratchLoad, verifyFileOf, arrayVerifyFile, wantedVerifyFile, scratchVerifyFile, writtenOf, fileLeft, fileRead, payloadLeft, readingReturned, readingRead, wearAdded, wearReported};
 
 // A fresh device.
 #[no_mangle]
@@ -38,7 +38,7 @@ pub extern "C" fn tb_fresh() -> StateNumbers
 // The bytes of a part's array, the same in either mode; 0 for a number that is no part's.
 #[no_mangle]
 pub extern "C" fn tb_size(part: u8) -> usize
-    ensures { λ r. ⌜ r ≡ sizeGiven part ⌝ }
+    ensures { λ r. ⌜ r ≡ sizeReturned part ⌝ }
 {
     let known = Part {
         number: part,
@@ -53,7 +53,7 @@ pub extern "C" fn tb_size(part: u8) -> usize
 // The first byte address and the bytes of a flash block, the same in either mode; both 0 where there is none.
 #[no_mangle]
 pub extern "C" fn tb_block(part: u8, block: u8) -> BlockNumbers
-    ensures { λ r. ⌜ r ≡ blockGiven part block ⌝ }
+    ensures { λ r. ⌜ r ≡ blockReturned part block ⌝ }
 {
     let known = Part {
         number: part,
@@ -94,13 +94,13 @@ pub extern "C" fn tb_cycle(
 }
 
 // What a start says, and the record.
-fn given_out(g: Given) -> GivenNumbers
-    ensures { λ r. ⌜ r ≡ givenOut g ⌝ }
+fn response_out(g: Response) -> ResponseNumbers
+    ensures { λ r. ⌜ r ≡ responseOut g ⌝ }
 {
-    let turn = g.turn;
+    let saying = g.saying;
     let record = g.loader;
-    GivenNumbers {
-        turn: c_records::records::turn_out(turn),
+    ResponseNumbers {
+        turn: c_records::records::saying_out(saying),
         loader: c_records::records::loader_out(record),
     }
 }
@@ -116,12 +116,12 @@ pub extern "C" fn tb_start(
     block: u8,
     wanted: &[u8],
     scratch: &[u8],
-) -> GivenNumbers
+) -> ResponseNumbers
     ensures { λ r. ⌜ r ≡ started part word rp wp vpp block (now (wanted .entry)) (now (scratch .entry)) ⌝ }
 {
     let known = c_cycle::states::part_in(part, word);
     let p = c_cycle::states::pins_in(rp, wp, vpp);
-    given_out(loader_steps::front::start(Work::Load(true), known, p, block, wanted, scratch))
+    response_out(loader_steps::front::start(Work::Load(true), known, p, block, wanted, scratch))
 }
 
 // The first cycle of a load alone.
@@ -135,12 +135,12 @@ pub extern "C" fn tb_load_start(
     block: u8,
     wanted: &[u8],
     scratch: &[u8],
-) -> GivenNumbers
+) -> ResponseNumbers
     ensures { λ r. ⌜ r ≡ loadStarted part word rp wp vpp block (now (wanted .entry)) (now (scratch .entry)) ⌝ }
 {
     let known = c_cycle::states::part_in(part, word);
     let p = c_cycle::states::pins_in(rp, wp, vpp);
-    given_out(loader_steps::front::start(Work::Load(false), known, p, block, wanted, scratch))
+    response_out(loader_steps::front::start(Work::Load(false), known, p, block, wanted, scratch))
 }
 
 // The first cycle of a verify alone.
@@ -154,24 +154,24 @@ pub extern "C" fn tb_verify_start(
     block: u8,
     wanted: &[u8],
     scratch: &[u8],
-) -> GivenNumbers
+) -> ResponseNumbers
     ensures { λ r. ⌜ r ≡ verifyStarted part word rp wp vpp block (now (wanted .entry)) (now (scratch .entry)) ⌝ }
 {
     let known = c_cycle::states::part_in(part, word);
     let p = c_cycle::states::pins_in(rp, wp, vpp);
-    given_out(loader_steps::front::start(Work::Verify, known, p, block, wanted, scratch))
+    response_out(loader_steps::front::start(Work::Verify, known, p, block, wanted, scratch))
 }
 
 // A loader's step on numbers, by value.
-pub fn stepped(l: LoaderNumbers, value: u16, wanted: &[u8], scratch: &mut [u8]) -> GivenNumbers
+pub fn stepped(l: LoaderNumbers, value: u16, wanted: &[u8], scratch: &mut [u8]) -> ResponseNumbers
     ensures { λ r. ⌜ (r ≡ steppedOf l value (now (wanted .entry)) (now (scratch .entry)))
         × (now (scratch .exit) ≡ scratchStepped l value (now (wanted .entry)) (now (scratch .entry))) ⌝ }
 {
     let g = loader_steps::front::step(c_records::records::loader_in(l), value, wanted, scratch);
-    let turn = g.turn;
+    let saying = g.saying;
     let moved = g.loader;
-    GivenNumbers {
-        turn: c_records::records::turn_out(turn),
+    ResponseNumbers {
+        turn: c_records::records::saying_out(saying),
         loader: c_records::records::loader_back(l, moved),
     }
 }
@@ -183,7 +183,7 @@ pub extern "C" fn tb_step(
     value: u16,
     wanted: &[u8],
     scratch: &mut [u8],
-) -> TurnNumbers
+) -> SayingNumbers
     ensures { λ r. ⌜ (now (loader .exit) ≡ steppedOf (now (loader .entry)) value (now (wanted .entry)) (now (scratch .entry)) .loader)
         × (r ≡ steppedOf (now (loader .entry)) value (now (wanted .entry)) (now (scratch .entry)) .turn)
         × (now (scratch .exit) ≡ scratchStepped (now (loader .entry)) value (now (wanted .entry)) (now (scratch .entry))) ⌝ }
@@ -348,7 +348,7 @@ pub extern "C" fn tb_table_judge(payload: &[u8]) -> u8
 // The reading at a voltage by a payload, judged or not; or 40 or 41.
 #[no_mangle]
 pub extern "C" fn tb_table_reading(payload: &[u8], microvolts: i32) -> ReadingNumbers
-    ensures { λ r. ⌜ r ≡ readingGiven (now (payload .entry)) microvolts ⌝ }
+    ensures { λ r. ⌜ r ≡ readingReturned (now (payload .entry)) microvolts ⌝ }
 {
     let answer = reading::reading_at(payload, microvolts);
     c_readings::answer_numbers(answer)

@@ -9,20 +9,20 @@ use lib.Dec.{eqb, ltb}
 use borrow.Author.Tests.{ltb-false, ne-eqb}
 use Rattle.common.proofs.Choice.{if-false, if-ind, or-left, or-right, or-both}
 use Rattle.units.specs.Units.{lent}
-use Rattle.loader.specs.declared.Turn.the-variants.{Barred}
+use Rattle.loader.specs.declared.Saying.the-variants.{Refused}
 use Rattle.loader_held.specs.declared.Step.{Step}
-use Rattle.loader_held.specs.declared.Step.the-variants.{Usual, Halting, Looking, Settling, Turning, Fetching, Resuming}
+use Rattle.loader_held.specs.declared.Step.the-variants.{Usual, Halting, Looking, Settling, ArrayAsking, Fetching, Resuming}
 use Rattle.loader_held.specs.declared.Hold.{Hold}
 use Rattle.loader_held.specs.declared.Pair.{Pair}
-use Rattle.loader_held_steps.specs.declared.HeldGiven.{HeldGiven}
-use Rattle.loader_held_steps.specs.HeldFront.{stepHeldNumber, stepHeldGiven, heldScratchLeft, heldRoomLeft, heldGiven, heldBarred, heldMove}
+use Rattle.loader_held_steps.specs.declared.HeldResponse.{HeldResponse}
+use Rattle.loader_held_steps.specs.HeldFront.{stepHeldNumber, stepHeldResponse, heldScratchLeft, heldRoomLeft, heldResponse, heldRefused, heldMove}
 use Rattle.c_cycle.proofs.Border.{flag-back, flag-low, flag-number}
-use Rattle.c_records.specs.Records.{turnOut}
+use Rattle.c_records.specs.Records.{sayingOut}
 use Rattle.c_records.proofs.Border.{record-back, record-same}
 use Rattle.c_held.specs.declared.HoldNumbers.{HoldNumbers}
 use Rattle.c_held.specs.declared.HeldNumbers.{HeldNumbers}
-use Rattle.c_held.specs.declared.HeldGivenNumbers.{HeldGivenNumbers}
-use Rattle.c_held.specs.Helds.{stepIn, stepOut, noHold, waitsIn, holdIn, holdOut, holdBack, heldIn, heldOut, heldBack, wordIn, givenHeldBack, steppedHeld, scratchSteppedHeld, roomSteppedHeld}
+use Rattle.c_held.specs.declared.HeldResponseNumbers.{HeldResponseNumbers}
+use Rattle.c_held.specs.Helds.{stepIn, stepOut, noHold, waitsIn, holdIn, holdOut, holdBack, heldIn, heldOut, heldBack, wordIn, heldResponseBack, steppedHeld, scratchSteppedHeld, roomSteppedHeld}
 
 step-back : (s : Step) → stepIn (stepOut s) ≡ s
 unfolding stepIn
@@ -30,7 +30,7 @@ step-back Usual = refl
 step-back Halting = refl
 step-back Looking = refl
 step-back Settling = refl
-step-back Turning = refl
+step-back ArrayAsking = refl
 step-back Fetching = refl
 step-back Resuming = refl
 
@@ -39,7 +39,7 @@ step-low Usual = refl
 step-low Halting = refl
 step-low Looking = refl
 step-low Settling = refl
-step-low Turning = refl
+step-low ArrayAsking = refl
 step-low Fetching = refl
 step-low Resuming = refl
 
@@ -92,11 +92,11 @@ module _ (n : HeldNumbers) (v : ℕ) (w sc ps bs room : List ℕ) where
   number = stepHeldNumber (heldIn n .loader) (heldIn n .hold) (length (lent (wordIn n) w)) (length (lent (wordIn n) sc)) bs (length room)
 
   pub held-step-refused : (number ≡ 0 → ⊥)
-      → (steppedHeld n v w sc ps bs room ≡ record { turn = turnOut (Barred number); held = n }) × (scratchSteppedHeld n v w sc bs room ≡ sc) × (roomSteppedHeld n v w sc bs room ≡ room)
-  unfolding steppedHeld scratchSteppedHeld roomSteppedHeld stepHeldGiven heldScratchLeft heldRoomLeft
+      → (steppedHeld n v w sc ps bs room ≡ record { turn = sayingOut (Refused number); held = n }) × (scratchSteppedHeld n v w sc bs room ≡ sc) × (roomSteppedHeld n v w sc bs room ≡ room)
+  unfolding steppedHeld scratchSteppedHeld roomSteppedHeld stepHeldResponse heldScratchLeft heldRoomLeft
   held-step-refused z =
       let f : eqb number 0 ≡ false = ne-eqb number 0 z in (
-        ap (givenHeldBack n) (if-false {A = HeldGiven} (eqb number 0) _ _ f) ∙ (λ i. record { turn = turnOut (Barred number); held = held-same n i }),
+        ap (heldResponseBack n) (if-false {A = HeldResponse} (eqb number 0) _ _ f) ∙ (λ i. record { turn = sayingOut (Refused number); held = held-same n i }),
         if-false {A = List ℕ} (eqb number 0) _ sc f,
         if-false {A = List ℕ} (eqb number 0) _ room f,
       )

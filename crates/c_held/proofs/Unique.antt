@@ -9,7 +9,7 @@ use Rattle.c_cycle.specs.declared.DeviceNumbers.{DeviceNumbers}
 use Rattle.c_cycle.specs.declared.StateNumbers.{StateNumbers}
 use Rattle.c_records.specs.declared.RanNumbers.{RanNumbers}
 use Rattle.c_held.specs.declared.HeldNumbers.{HeldNumbers}
-use Rattle.c_held.specs.declared.HeldGivenNumbers.{HeldGivenNumbers}
+use Rattle.c_held.specs.declared.HeldResponseNumbers.{HeldResponseNumbers}
 use Rattle.c_held.specs.Helds.{heldIn, heldOut, heldBack, startedHeld, steppedHeld, scratchSteppedHeld, roomSteppedHeld, heldRunLeft, heldRunOf, heldLoadLeft, heldLoadOf}
 
 pub held-in-unique : (n : HeldNumbers) → Unique (λ (r : Pair). r ≡ heldIn n)
@@ -22,11 +22,11 @@ pub held-back-unique : (n : HeldNumbers) (q : Pair) → Unique (λ (r : HeldNumb
 held-back-unique n q = only (heldBack n q)
 
 pub held-start-unique : (part word rp wp vpp block verify : ℕ) (wanted scratch addresses room : List ℕ)
-    → Unique (λ (r : HeldGivenNumbers). r ≡ startedHeld part word rp wp vpp block verify wanted scratch addresses room)
+    → Unique (λ (r : HeldResponseNumbers). r ≡ startedHeld part word rp wp vpp block verify wanted scratch addresses room)
 held-start-unique part word rp wp vpp block verify wanted scratch addresses room = only (startedHeld part word rp wp vpp block verify wanted scratch addresses room)
 
 pub held-step-unique : (held : HeldNumbers) (value : ℕ) (wanted scratch polls addresses room : List ℕ)
-    → Unique (λ (r : HeldGivenNumbers). r ≡ steppedHeld held value wanted scratch polls addresses room)
+    → Unique (λ (r : HeldResponseNumbers). r ≡ steppedHeld held value wanted scratch polls addresses room)
 held-step-unique held value wanted scratch polls addresses room = only (steppedHeld held value wanted scratch polls addresses room)
 
 pub held-step-scratch-unique : (held : HeldNumbers) (value : ℕ) (wanted scratch addresses room : List ℕ)

@@ -7,21 +7,21 @@ use lib.Dec.{eqb, ltb}
 use Rattle.common.specs.Choice.{if_then_else_}
 use Rattle.units.specs.Units.{lent}
 use Rattle.loader_held.specs.declared.Step.{Step}
-use Rattle.loader_held.specs.declared.Step.the-variants.{Usual, Halting, Looking, Settling, Turning, Fetching, Resuming}
+use Rattle.loader_held.specs.declared.Step.the-variants.{Usual, Halting, Looking, Settling, ArrayAsking, Fetching, Resuming}
 use Rattle.loader_held.specs.declared.Hold.{Hold}
 use Rattle.loader_held.specs.declared.Pair.{Pair}
-use Rattle.loader_held_steps.specs.declared.HeldGiven.{HeldGiven}
-use Rattle.loader_held_steps.specs.HeldFront.{startHeldGiven, stepHeldGiven, heldScratchLeft, heldRoomLeft}
+use Rattle.loader_held_steps.specs.declared.HeldResponse.{HeldResponse}
+use Rattle.loader_held_steps.specs.HeldFront.{startHeldResponse, stepHeldResponse, heldScratchLeft, heldRoomLeft}
 use Rattle.loader_held_run.specs.HeldRuns.{HeldLeft, lentHeld}
 use Rattle.loader_held_file.specs.HeldLoads.{HeldLoadLeft, heldFileLeft}
 use Rattle.c_cycle.specs.declared.DeviceNumbers.{DeviceNumbers}
 use Rattle.c_cycle.specs.declared.StateNumbers.{StateNumbers}
 use Rattle.c_cycle.specs.Values.{flagOut, partIn, pinsIn}
 use Rattle.c_records.specs.declared.RanNumbers.{RanNumbers}
-use Rattle.c_records.specs.Records.{loaderIn, loaderOut, loaderBack, turnOut, ranOut, jobIn}
+use Rattle.c_records.specs.Records.{loaderIn, loaderOut, loaderBack, sayingOut, ranOut, jobIn}
 use Rattle.c_held.specs.declared.HoldNumbers.{HoldNumbers}
 use Rattle.c_held.specs.declared.HeldNumbers.{HeldNumbers}
-use Rattle.c_held.specs.declared.HeldGivenNumbers.{HeldGivenNumbers}
+use Rattle.c_held.specs.declared.HeldResponseNumbers.{HeldResponseNumbers}
 use Rattle.loader.specs.declared.Work.the-variants.{Load}
 
 -- steps of an interruption: 0 none, 1 to 6 by the cycle that is out
@@ -31,7 +31,7 @@ stepIn n =
     else if eqb n 1 then Halting
     else if eqb n 2 then Looking
     else if eqb n 3 then Settling
-    else if eqb n 4 then Turning
+    else if eqb n 4 then ArrayAsking
     else if eqb n 5 then Fetching
     else Resuming
 
@@ -41,7 +41,7 @@ stepOut Usual = 0
 stepOut Halting = 1
 stepOut Looking = 2
 stepOut Settling = 3
-stepOut Turning = 4
+stepOut ArrayAsking = 4
 stepOut Fetching = 5
 stepOut Resuming = 6
 
@@ -78,30 +78,30 @@ abbrev pub heldBack : HeldNumbers → Pair → HeldNumbers
 heldBack n q = record { loader = loaderBack (n .loader) (q .loader); hold = holdBack (n .hold) (q .hold) }
 
 -- what a start says, beside the records; and a step, for the records that came in
-abbrev pub givenHeld : HeldGiven → HeldGivenNumbers
-givenHeld g = record { turn = turnOut (g .turn); held = heldOut (g .pair) }
+abbrev pub heldResponseOut : HeldResponse → HeldResponseNumbers
+heldResponseOut g = record { turn = sayingOut (g .saying); held = heldOut (g .pair) }
 
 -- .. what a step says, for the records that came in
-abbrev pub givenHeldBack : HeldNumbers → HeldGiven → HeldGivenNumbers
-givenHeldBack n g = record { turn = turnOut (g .turn); held = heldBack n (g .pair) }
+abbrev pub heldResponseBack : HeldNumbers → HeldResponse → HeldResponseNumbers
+heldResponseBack n g = record { turn = sayingOut (g .saying); held = heldBack n (g .pair) }
 
 -- a number that stands for yes or no: 0 is no
 abbrev pub yes : ℕ → Bool
 yes n = not (eqb n 0)
 
 -- a start
-unfoldable pub startedHeld : ℕ → ℕ → ℕ → ℕ → ℕ → ℕ → ℕ → List ℕ → List ℕ → List ℕ → List ℕ → HeldGivenNumbers
+unfoldable pub startedHeld : ℕ → ℕ → ℕ → ℕ → ℕ → ℕ → ℕ → List ℕ → List ℕ → List ℕ → List ℕ → HeldResponseNumbers
 startedHeld part word rp wp vpp k verify w sc bs room =
-    givenHeld (startHeldGiven (yes verify) (partIn part word) (pinsIn rp wp vpp) k (lent (partIn part word .word) w) (lent (partIn part word .word) sc) bs (length room))
+    heldResponseOut (startHeldResponse (yes verify) (partIn part word) (pinsIn rp wp vpp) k (lent (partIn part word .word) w) (lent (partIn part word .word) sc) bs (length room))
 
 -- whether the part that a record's numbers name is in word mode
 abbrev pub wordIn : HeldNumbers → Bool
 wordIn n = heldIn n .loader .part .word
 
 -- a step: what it says and the records, scratch, and the room
-unfoldable pub steppedHeld : HeldNumbers → ℕ → List ℕ → List ℕ → List ℕ → List ℕ → List ℕ → HeldGivenNumbers
+unfoldable pub steppedHeld : HeldNumbers → ℕ → List ℕ → List ℕ → List ℕ → List ℕ → List ℕ → HeldResponseNumbers
 steppedHeld n v w sc ps bs room =
-    givenHeldBack n (stepHeldGiven (heldIn n .loader) (heldIn n .hold) v (lent (wordIn n) w) (lent (wordIn n) sc) ps bs (length room))
+    heldResponseBack n (stepHeldResponse (heldIn n .loader) (heldIn n .hold) v (lent (wordIn n) w) (lent (wordIn n) sc) ps bs (length room))
 
 -- .. what it leaves in scratch
 unfoldable pub scratchSteppedHeld : HeldNumbers → ℕ → List ℕ → List ℕ → List ℕ → List ℕ → List ℕ

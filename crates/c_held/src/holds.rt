@@ -19,7 +19,7 @@ fn step_in(n: u8) -> Step
         1 => Step::Halting,
         2 => Step::Looking,
         3 => Step::Settling,
-        4 => Step::Turning,
+        4 => Step::ArrayAsking,
         5 => Step::Fetching,
         _ => Step::Resuming,
     }
@@ -33,7 +33,7 @@ fn step_out(step: Step) -> u8
         Step::Halting => 1,
         Step::Looking => 2,
         Step::Settling => 3,
-        Step::Turning => 4,
+        Step::ArrayAsking => 4,
         Step::Fetching => 5,
         Step::Resuming => 6,
     }

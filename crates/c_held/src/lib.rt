@@ -6,11 +6,11 @@ use c_cycle::DeviceNumbers;
 use c_cycle::StateNumbers;
 use c_records::LoaderNumbers;
 use c_records::RanNumbers;
-use c_records::TurnNumbers;
+use c_records::SayingNumbers;
 use loader::Work;
-use loader_held_steps::HeldGiven;
+use loader_held_steps::HeldResponse;
 ghost use mathlib.Core.Path.{_≡_};
-ghost use Rattle.c_held.specs.Helds.{givenHeld, givenHeldBack, startedHeld, steppedHeld, scratchSteppedHeld, roomSteppedHeld, heldRunLeft, heldRunOf, heldLoadLeft, heldLoadOf};
+ghost use Rattle.c_held.specs.Helds.{heldResponseOut, heldResponseBack, startedHeld, steppedHeld, scratchSteppedHeld, roomSteppedHeld, heldRunLeft, heldRunOf, heldLoadLeft, heldLoadOf};
 
 // Where an interruption stands.
 #[repr(C)]
@@ -31,31 +31,31 @@ pub struct HeldNumbers {
 
 // What a start or a step says, beside the records.
 #[repr(C)]
-pub struct HeldGivenNumbers {
-    pub turn: TurnNumbers,
+pub struct HeldResponseNumbers {
+    pub turn: SayingNumbers,
     pub held: HeldNumbers,
 }
 
 // What a start says, as numbers.
-fn given_out(g: HeldGiven) -> HeldGivenNumbers
-    ensures { λ r. ⌜ r ≡ givenHeld g ⌝ }
+fn response_out(g: HeldResponse) -> HeldResponseNumbers
+    ensures { λ r. ⌜ r ≡ heldResponseOut g ⌝ }
 {
-    let turn = g.turn;
+    let saying = g.saying;
     let pair = g.pair;
-    HeldGivenNumbers {
-        turn: c_records::records::turn_out(turn),
+    HeldResponseNumbers {
+        turn: c_records::records::saying_out(saying),
         held: holds::held_out(pair),
     }
 }
 
 // What a step says, for the records that came in.
-fn given_back(n: HeldNumbers, g: HeldGiven) -> HeldGivenNumbers
-    ensures { λ r. ⌜ r ≡ givenHeldBack n g ⌝ }
+fn response_back(n: HeldNumbers, g: HeldResponse) -> HeldResponseNumbers
+    ensures { λ r. ⌜ r ≡ heldResponseBack n g ⌝ }
 {
-    let turn = g.turn;
+    let saying = g.saying;
     let pair = g.pair;
-    HeldGivenNumbers {
-        turn: c_records::records::turn_out(turn),
+    HeldResponseNumbers {
+        turn: c_records::records::saying_out(saying),
         held: holds::held_back(n, pair),
     }
 }
@@ -74,12 +74,12 @@ pub extern "C" fn tb_held_start(
     scratch: &[u8],
     addresses: &[u32],
     room: &[u8],
-) -> HeldGivenNumbers
+) -> HeldResponseNumbers
     ensures { λ r. ⌜ r ≡ startedHeld part word rp wp vpp block verify (now (wanted .entry)) (now (scratch .entry)) (now (addresses .entry)) (now (room .entry)) ⌝ }
 {
     let known = c_cycle::states::part_in(part, word);
     let p = c_cycle::states::pins_in(rp, wp, vpp);
-    given_out(loader_held_steps::start_held(
+    response_out(loader_held_steps::start_held(
         verify != 0,
         known,
         p,
@@ -101,13 +101,13 @@ pub extern "C" fn tb_held_step(
     polls: &[u32],
     addresses: &[u32],
     room: &mut [u8],
-) -> HeldGivenNumbers
+) -> HeldResponseNumbers
     ensures { λ r. ⌜ r ≡ steppedHeld held value (now (wanted .entry)) (now (scratch .entry)) (now (polls .entry)) (now (addresses .entry)) (now (room .entry)) ⌝ }
     ensures { λ _. ⌜ now (scratch .exit) ≡ scratchSteppedHeld held value (now (wanted .entry)) (now (scratch .entry)) (now (addresses .entry)) (now (room .entry)) ⌝ }
     ensures { λ _. ⌜ now (room .exit) ≡ roomSteppedHeld held value (now (wanted .entry)) (now (scratch .entry)) (now (addresses .entry)) (now (room .entry)) ⌝ }
 {
     let pair = holds::held_in(held);
-    given_back(
+    response_back(
         held,
         loader_held_steps::step_held(pair, value, wanted, scratch, polls, addresses, room),
     )

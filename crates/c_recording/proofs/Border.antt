@@ -26,7 +26,7 @@ use Rattle.c_cycle.specs.Values.{flagOut, deviceIn, deviceOut, noState, stateIn
 use Rattle.c_cycle.specs.Answers.{stateBack}
 use Rattle.c_cycle.proofs.Border.{device-back, out-state, state-back, cycle-back, state-same, no-kind-refused}
 use Rattle.c_recording.specs.declared.RecordNumbers.{RecordNumbers}
-use Rattle.c_recording.specs.Records.{heardIn, kindSeen, busSeen, recordIn, recordsIn, seenHeard, valueHeard, recordOut, recordsOut, checkedNumbers, checkedOut, checkedGiven, arrayChecked}
+use Rattle.c_recording.specs.Records.{heardIn, kindSeen, busSeen, recordIn, recordsIn, seenHeard, valueHeard, recordOut, recordsOut, checkedNumbers, checkedOut, checkedReturned, arrayChecked}
 
 -- an answer seen: out and in again, and its cycle keeps its kind
 heard-back : (h : Heard) → heardIn (seenHeard h) (valueHeard h) ≡ h
@@ -88,8 +88,8 @@ module _ (d : DeviceNumbers) (s : StateNumbers) (ns : List RecordNumbers) (promi
   number = startNumber (deviceIn d) (stateIn s) (length bytes)
 
   pub recording-refused : (number ≡ 0 → ⊥)
-      → (checkedGiven d s ns promised bytes ≡ record { refusal = number; accepted = 0; at = 0; state = s }) × (arrayChecked d s ns bytes ≡ bytes)
-  unfolding checkedGiven arrayChecked checkedOf bytesChecked
+      → (checkedReturned d s ns promised bytes ≡ record { refusal = number; accepted = 0; at = 0; state = s }) × (arrayChecked d s ns bytes ≡ bytes)
+  unfolding checkedReturned arrayChecked checkedOf bytesChecked
   recording-refused z =
       let e : eqb number 0 ≡ false = ne-eqb number 0 z in
       let t = state-same s in (
@@ -104,9 +104,9 @@ given-back s t = if-false (noState (stateOut s)) (stateOut s) (stateOut t) (out-
 
 -- what is given for the numbers of typed values
 pub recording-typed : (d : Device) (s : State) (rs : List Noted) (promised bytes : List ℕ)
-    → (checkedGiven (deviceOut d) (stateOut s) (recordsOut rs) promised bytes ≡ checkedNumbers (checkedOf d s rs promised bytes))
+    → (checkedReturned (deviceOut d) (stateOut s) (recordsOut rs) promised bytes ≡ checkedNumbers (checkedOf d s rs promised bytes))
     × (arrayChecked (deviceOut d) (stateOut s) (recordsOut rs) bytes ≡ bytesChecked d s rs bytes)
-unfolding checkedGiven arrayChecked
+unfolding checkedReturned arrayChecked
 recording-typed d s rs promised bytes =
     let e = device-back d in
     let t = state-back s in
@@ -114,6 +114,6 @@ recording-typed d s rs promised bytes =
     let c : Checked = checkedOf d s rs promised bytes in
     let back = given-back s (c .state) in (
       (λ i. checkedOut (stateOut s) (checkedOf (e i) (t i) (l i) promised bytes))
-          ∙ (λ i. record { refusal = c .refusal; accepted = flagOut (c .accepted); at = c .at; state = back i }),
+          ∙ (λ i. record { refusal = c .number; accepted = flagOut (c .accepted); at = c .at; state = back i }),
       λ i. bytesChecked (e i) (t i) (l i) bytes,
     )

@@ -14,7 +14,7 @@ use Rattle.c_cycle.specs.declared.DeviceNumbers.{DeviceNumbers}
 use Rattle.c_cycle.specs.declared.StateNumbers.{StateNumbers}
 use Rattle.c_cycle.specs.Values.{deviceIn, deviceOut, stateIn, stateOut}
 use Rattle.c_recording.specs.declared.RecordNumbers.{RecordNumbers}
-use Rattle.c_recording.specs.Records.{recordIn, recordOut, recordsOut, checkedNumbers, checkedGiven, arrayChecked}
+use Rattle.c_recording.specs.Records.{recordIn, recordOut, recordsOut, checkedNumbers, checkedReturned, arrayChecked}
 use Rattle.c_recording.proofs.Border as border
 
 -- There and back: every record has numbers, and these numbers stand for it.
@@ -28,13 +28,13 @@ no-answer-faulty = border.no-answer-faulty
 -- Refused by a number, nothing is accepted, the state goes back as the numbers that came, all of them, and the array is as it was.
 pub recording-refused : (d : DeviceNumbers) (s : StateNumbers) (ns : List RecordNumbers) (promised bytes : List ℕ)
     → (startNumber (deviceIn d) (stateIn s) (length bytes) ≡ 0 → ⊥)
-    → (checkedGiven d s ns promised bytes ≡ record { refusal = startNumber (deviceIn d) (stateIn s) (length bytes); accepted = 0; at = 0; state = s })
+    → (checkedReturned d s ns promised bytes ≡ record { refusal = startNumber (deviceIn d) (stateIn s) (length bytes); accepted = 0; at = 0; state = s })
     × (arrayChecked d s ns bytes ≡ bytes)
 recording-refused = border.recording-refused
 
 -- For the numbers of a device, a state and records the C function gives the numbers of the check's answer, and leaves the bytes that the
 -- check leaves.
 pub recording-typed : (d : Device) (s : State) (rs : List Noted) (promised bytes : List ℕ)
-    → (checkedGiven (deviceOut d) (stateOut s) (recordsOut rs) promised bytes ≡ checkedNumbers (checkedOf d s rs promised bytes))
+    → (checkedReturned (deviceOut d) (stateOut s) (recordsOut rs) promised bytes ≡ checkedNumbers (checkedOf d s rs promised bytes))
     × (arrayChecked (deviceOut d) (stateOut s) (recordsOut rs) bytes ≡ bytesChecked d s rs bytes)
 recording-typed = border.recording-typed

@@ -13,7 +13,7 @@ use Rattle.c_cycle.specs.declared.StateNumbers.{StateNumbers}
 use Rattle.c_cycle.specs.Values.{deviceIn, stateIn}
 use Rattle.c_recording.specs.declared.RecordNumbers.{RecordNumbers}
 use Rattle.c_recording.specs.declared.CheckedNumbers.{CheckedNumbers}
-use Rattle.c_recording.specs.Records.{recordIn, recordsIn, checkedOut, checkedGiven, arrayChecked}
+use Rattle.c_recording.specs.Records.{recordIn, recordsIn, checkedOut, checkedReturned, arrayChecked}
 
 -- as many records as structs of numbers, and one more at the end of either list
 pub records-length : (ns : List RecordNumbers) → length (recordsIn ns) ≡ length ns
@@ -29,11 +29,11 @@ module _ (d : DeviceNumbers) (s : StateNumbers) (ns : List RecordNumbers) (promi
   abbrev w : Walk
   w = walkFrom (deviceIn d) (stateIn s) (length bytes)
 
-  pub checked-given : length (recordsIn ns) ≤ most → (g : CheckedNumbers)
-      → g ≡ checkedOut s (endOf (wentOver bytes w (recordsIn ns)) promised (bytesOver bytes w (recordsIn ns))) → g ≡ checkedGiven d s ns promised bytes
-  unfolding checkedGiven
-  checked-given few g e = e ∙ ap (λ (c : Checked). checkedOut s c) (answers (deviceIn d) (stateIn s) (recordsIn ns) promised bytes few .0)
+  pub checked-returned : length (recordsIn ns) ≤ most → (g : CheckedNumbers)
+      → g ≡ checkedOut s (endOf (wentOver bytes w (recordsIn ns)) promised (bytesOver bytes w (recordsIn ns))) → g ≡ checkedReturned d s ns promised bytes
+  unfolding checkedReturned
+  checked-returned few g e = e ∙ ap (λ (c : Checked). checkedOut s c) (answers (deviceIn d) (stateIn s) (recordsIn ns) promised bytes few .0)
 
-  pub array-given : length (recordsIn ns) ≤ most → (l : List ℕ) → l ≡ bytesOver bytes w (recordsIn ns) → l ≡ arrayChecked d s ns bytes
+  pub array-returned : length (recordsIn ns) ≤ most → (l : List ℕ) → l ≡ bytesOver bytes w (recordsIn ns) → l ≡ arrayChecked d s ns bytes
   unfolding arrayChecked
-  array-given few l e = e ∙ answers (deviceIn d) (stateIn s) (recordsIn ns) promised bytes few .1
+  array-returned few l e = e ∙ answers (deviceIn d) (stateIn s) (recordsIn ns) promised bytes few .1

@@ -10,7 +10,7 @@ use Rattle.c_cycle.specs.declared.DeviceNumbers.{DeviceNumbers}
 use Rattle.c_cycle.specs.declared.StateNumbers.{StateNumbers}
 use Rattle.c_recording.specs.declared.RecordNumbers.{RecordNumbers}
 use Rattle.c_recording.specs.declared.CheckedNumbers.{CheckedNumbers}
-use Rattle.c_recording.specs.Records.{recordIn, checkedOut, checkedGiven, arrayChecked}
+use Rattle.c_recording.specs.Records.{recordIn, checkedOut, checkedReturned, arrayChecked}
 
 pub record-in-unique : (n : RecordNumbers) → Unique (λ (r : Noted). r ≡ recordIn n)
 record-in-unique n = only (recordIn n)
@@ -19,8 +19,8 @@ pub checked-out-unique : (n : StateNumbers) (c : Checked) → Unique (λ (r : Ch
 checked-out-unique n c = only (checkedOut n c)
 
 pub recording-unique : (d : DeviceNumbers) (s : StateNumbers) (list : List RecordNumbers) (promised array : List ℕ)
-    → Unique (λ (r : CheckedNumbers). r ≡ checkedGiven d s list promised array)
-recording-unique d s list promised array = only (checkedGiven d s list promised array)
+    → Unique (λ (r : CheckedNumbers). r ≡ checkedReturned d s list promised array)
+recording-unique d s list promised array = only (checkedReturned d s list promised array)
 
 pub recording-array-unique : (d : DeviceNumbers) (s : StateNumbers) (list : List RecordNumbers) (array : List ℕ)
     → Unique (λ (left : List ℕ). left ≡ arrayChecked d s list array)

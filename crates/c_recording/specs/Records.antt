@@ -67,15 +67,15 @@ recordsOut (r ∷ rs) = recordOut r ∷ recordsOut rs
 
 -- the numbers of the check's answer
 abbrev pub checkedNumbers : Checked → CheckedNumbers
-checkedNumbers c = record { refusal = c .refusal; accepted = flagOut (c .accepted); at = c .at; state = stateOut (c .state) }
+checkedNumbers c = record { refusal = c .number; accepted = flagOut (c .accepted); at = c .at; state = stateOut (c .state) }
 
 -- the same, with the state that goes back for the one that came in
 abbrev pub checkedOut : StateNumbers → Checked → CheckedNumbers
-checkedOut n c = record { refusal = c .refusal; accepted = flagOut (c .accepted); at = c .at; state = stateBack n (c .state) }
+checkedOut n c = record { refusal = c .number; accepted = flagOut (c .accepted); at = c .at; state = stateBack n (c .state) }
 
 -- a recording checked: the answer, and the lent bytes of the array
-unfoldable pub checkedGiven : DeviceNumbers → StateNumbers → List RecordNumbers → List ℕ → List ℕ → CheckedNumbers
-checkedGiven d s ns promised bytes = checkedOut s (checkedOf (deviceIn d) (stateIn s) (recordsIn ns) promised bytes)
+unfoldable pub checkedReturned : DeviceNumbers → StateNumbers → List RecordNumbers → List ℕ → List ℕ → CheckedNumbers
+checkedReturned d s ns promised bytes = checkedOut s (checkedOf (deviceIn d) (stateIn s) (recordsIn ns) promised bytes)
 
 -- .. the lent bytes of the array after the check
 unfoldable pub arrayChecked : DeviceNumbers → StateNumbers → List RecordNumbers → List ℕ → List ℕ

@@ -9,7 +9,7 @@ use recording_walk::Walk;
 ghost use mathlib.Core.Path.{_≡_};
 ghost use Rattle.recording_walk.specs.Inner.{wentOn, bytesOn, walkFrom, endOf};
 ghost use Rattle.c_cycle.specs.Values.{deviceIn, stateIn};
-ghost use Rattle.c_recording.specs.Records.{recordIn, checkedOut, checkedGiven, arrayChecked};
+ghost use Rattle.c_recording.specs.Records.{recordIn, checkedOut, checkedReturned, arrayChecked};
 
 // A record: the cycle, whether data were seen, these data, and the busy count.
 #[repr(C)]
@@ -63,7 +63,7 @@ pub extern "C" fn tb_recording(
     promised: &[u8],
     array: &mut [u8],
 ) -> CheckedNumbers
-    ensures { λ r. ⌜ (r ≡ checkedGiven device state (now (list .entry)) (now (promised .entry)) (now (array .entry)))
+    ensures { λ r. ⌜ (r ≡ checkedReturned device state (now (list .entry)) (now (promised .entry)) (now (array .entry)))
         × (now (array .exit) ≡ arrayChecked device state (now (list .entry)) (now (array .entry))) ⌝ }
 {
     let mut w = begun(device, state, array.len());

@@ -65,7 +65,7 @@ pub fn checked_out(n: StateNumbers, c: Checked) -> CheckedNumbers
 {
     let state = c.state;
     CheckedNumbers {
-        refusal: c.refusal,
+        refusal: c.number,
         accepted: c_cycle::states::flag_out(c.accepted),
         at: c.at,
         state: c_cycle::states::state_back(n, state),

@@ -4,17 +4,17 @@ use Prim.Native.Nat.{ℕ}
 use Rattle.common.specs.Choice.{Unique}
 use Rattle.common.proofs.Choice.{only}
 use Rattle.loader.specs.declared.Loader.{Loader}
-use Rattle.loader.specs.declared.Turn.{Turn}
+use Rattle.loader.specs.declared.Saying.{Saying}
 use Rattle.loader_run.specs.declared.Ran.{Ran}
 use Rattle.loader_run.specs.declared.Job.{Job}
 use Rattle.loader.specs.declared.Work.{Work}
 use Rattle.file_codec.specs.declared.Written.{Written}
 use Rattle.file_codec.specs.declared.ReadBack.{ReadBack}
-use Rattle.c_records.specs.Records.{loaderIn, loaderOut, jobIn, ranOut, loaderBack, turnOut, writtenOut, readOut}
+use Rattle.c_records.specs.Records.{loaderIn, loaderOut, jobIn, ranOut, loaderBack, sayingOut, writtenOut, readOut}
 use Rattle.c_cycle.specs.declared.DeviceNumbers.{DeviceNumbers}
 use Rattle.c_cycle.specs.declared.StateNumbers.{StateNumbers}
 use Rattle.c_records.specs.declared.LoaderNumbers.{LoaderNumbers}
-use Rattle.c_records.specs.declared.TurnNumbers.{TurnNumbers}
+use Rattle.c_records.specs.declared.SayingNumbers.{SayingNumbers}
 use Rattle.c_records.specs.declared.RanNumbers.{RanNumbers}
 use Rattle.c_records.specs.declared.SizedNumbers.{SizedNumbers}
 
@@ -33,8 +33,8 @@ loader-out-unique l = only (loaderOut l)
 pub loader-back-unique : (n : LoaderNumbers) (l : Loader) → Unique (λ (r : LoaderNumbers). r ≡ loaderBack n l)
 loader-back-unique n l = only (loaderBack n l)
 
-pub turn-out-unique : (turn : Turn) → Unique (λ (r : TurnNumbers). r ≡ turnOut turn)
-turn-out-unique turn = only (turnOut turn)
+pub saying-out-unique : (saying : Saying) → Unique (λ (r : SayingNumbers). r ≡ sayingOut saying)
+saying-out-unique saying = only (sayingOut saying)
 
 pub written-out-unique : (written : Written) → Unique (λ (r : SizedNumbers). r ≡ writtenOut written)
 written-out-unique written = only (writtenOut written)

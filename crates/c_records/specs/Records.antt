@@ -11,18 +11,18 @@ use Rattle.loader.specs.declared.Stage.the-variants.{Clearing, Opening, Reading
 use Rattle.loader.specs.declared.Loader.{Loader}
 use Rattle.loader.specs.Stages.{isEnded, endBy}
 use Rattle.c_records.specs.declared.LoaderNumbers.{LoaderNumbers}
-use Rattle.loader.specs.declared.Turn.{Turn}
-use Rattle.loader.specs.declared.Turn.the-variants.{Out, Over, Barred}
+use Rattle.loader.specs.declared.Saying.{Saying}
+use Rattle.loader.specs.declared.Saying.the-variants.{Out, Over, Refused as SayRefused}
 use Rattle.loader_run.specs.declared.Ran.{Ran}
 use Rattle.loader_run.specs.declared.Job.{Job}
 use Rattle.loader_run.specs.Runs.{jobOf}
 use Rattle.loader.specs.declared.Work.{Work}
 use Rattle.file_codec.specs.declared.Written.{Written}
-use Rattle.file_codec.specs.declared.Written.the-variants.{Wrote, NotWritten}
+use Rattle.file_codec.specs.declared.Written.the-variants.{Wrote, Refused as WriteRefused}
 use Rattle.file_codec.specs.declared.ReadBack.{ReadBack}
-use Rattle.file_codec.specs.declared.ReadBack.the-variants.{Gave, NotRead}
+use Rattle.file_codec.specs.declared.ReadBack.the-variants.{Gave, Refused as ReadRefused}
 use Rattle.c_cycle.specs.Values.{cycleOut, deviceIn, stateIn, partIn, pinsIn, flagOut}
-use Rattle.c_records.specs.declared.TurnNumbers.{TurnNumbers}
+use Rattle.c_records.specs.declared.SayingNumbers.{SayingNumbers}
 use Rattle.c_records.specs.declared.RanNumbers.{RanNumbers}
 use Rattle.c_records.specs.declared.SizedNumbers.{SizedNumbers}
 use Rattle.c_cycle.specs.Answers.{stateBack}
@@ -112,15 +112,15 @@ loaderBack n l = if noRecord n then n else loaderOut l
 abbrev pub noCycle : BusNumbers
 noCycle = record { kind = 0; rp = 0; oe = 0; wp = 0; «data» = 0; vpp = 0; address = 0 }
 
--- a turn by its four numbers
-abbrev pub turnAt : ℕ → ℕ → ℕ → BusNumbers → TurnNumbers
-turnAt turn number address cycle = record { turn = turn; number = number; address = address; cycle = cycle }
+-- a saying by its four numbers
+abbrev pub sayingAt : ℕ → ℕ → ℕ → BusNumbers → SayingNumbers
+sayingAt turn number address cycle = record { turn = turn; number = number; address = address; cycle = cycle }
 
 -- what a step says: 0 a cycle is out, 1 over with a number and an address, 2 refused by a number
-abbrev pub turnOut : Turn → TurnNumbers
-turnOut (Out c) = turnAt 0 0 0 (cycleOut c)
-turnOut (Over n a) = turnAt 1 n a noCycle
-turnOut (Barred n) = turnAt 2 n 0 noCycle
+abbrev pub sayingOut : Saying → SayingNumbers
+sayingOut (Out c) = sayingAt 0 0 0 (cycleOut c)
+sayingOut (Over n a) = sayingAt 1 n a noCycle
+sayingOut (SayRefused n) = sayingAt 2 n 0 noCycle
 
 -- bytes made and their number, or a refusal and 0
 abbrev pub sizedAs : ℕ → ℕ → SizedNumbers
@@ -129,12 +129,12 @@ sizedAs number size = record { number = number; length = size }
 -- what the writer made, as numbers
 abbrev pub writtenOut : Written → SizedNumbers
 writtenOut (Wrote size) = sizedAs 0 size
-writtenOut (NotWritten n) = sizedAs n 0
+writtenOut (WriteRefused n) = sizedAs n 0
 
 -- what the reader gave, as numbers
 abbrev pub readOut : ReadBack → SizedNumbers
 readOut (Gave size) = sizedAs 0 size
-readOut (NotRead n) = sizedAs n 0
+readOut (ReadRefused n) = sizedAs n 0
 
 -- what is run, by the numbers of the device, its state and the levels on it
 abbrev pub jobIn : Work → DeviceNumbers → StateNumbers → ℕ → ℕ → ℕ → ℕ → Job

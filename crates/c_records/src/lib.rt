@@ -26,7 +26,7 @@ pub struct LoaderNumbers {
 
 // What a start or a step says.
 #[repr(C)]
-pub struct TurnNumbers {
+pub struct SayingNumbers {
     pub turn: u8,
     pub number: u8,
     pub address: u32,
@@ -35,8 +35,8 @@ pub struct TurnNumbers {
 
 // The same beside the record.
 #[repr(C)]
-pub struct GivenNumbers {
-    pub turn: TurnNumbers,
+pub struct ResponseNumbers {
+    pub turn: SayingNumbers,
     pub loader: LoaderNumbers,
 }
 

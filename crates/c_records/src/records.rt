@@ -1,17 +1,17 @@
 // The loader's record, and what the loader says, as plain numbers.
 use crate::LoaderNumbers;
-use crate::TurnNumbers;
+use crate::SayingNumbers;
 use c_cycle::BusNumbers;
 use c_cycle::states::cycle_out;
 use c_cycle::states::flag_out;
 use c_cycle::states::part_in;
 use c_cycle::states::pins_in;
 use loader::Loader;
+use loader::Saying;
 use loader::Stage;
-use loader::Turn;
 use loader::stages::stage_is;
 ghost use mathlib.Core.Path.{_≡_};
-ghost use Rattle.c_records.specs.Records.{stageIn, stageOut, endOut, noRecord, pollsIn, loaderIn, loaderOut, loaderBack, noCycle, turnAt, turnOut};
+ghost use Rattle.c_records.specs.Records.{stageIn, stageOut, endOut, noRecord, pollsIn, loaderIn, loaderOut, loaderBack, noCycle, sayingAt, sayingOut};
 
 fn stage_in(n: u8, end: u8) -> Stage
     ensures { λ r. ⌜ r ≡ stageIn n end ⌝ }
@@ -145,10 +145,10 @@ fn no_cycle() -> BusNumbers
     }
 }
 
-fn turn_at(turn: u8, number: u8, address: u32, cycle: BusNumbers) -> TurnNumbers
-    ensures { λ r. ⌜ r ≡ turnAt turn number address cycle ⌝ }
+fn saying_at(turn: u8, number: u8, address: u32, cycle: BusNumbers) -> SayingNumbers
+    ensures { λ r. ⌜ r ≡ sayingAt turn number address cycle ⌝ }
 {
-    TurnNumbers {
+    SayingNumbers {
         turn: turn,
         number: number,
         address: address,
@@ -157,12 +157,12 @@ fn turn_at(turn: u8, number: u8, address: u32, cycle: BusNumbers) -> TurnNumbers
 }
 
 // What a start or a step says, as numbers.
-pub fn turn_out(turn: Turn) -> TurnNumbers
-    ensures { λ r. ⌜ r ≡ turnOut turn ⌝ }
+pub fn saying_out(saying: Saying) -> SayingNumbers
+    ensures { λ r. ⌜ r ≡ sayingOut saying ⌝ }
 {
-    match turn {
-        Turn::Out(c) => turn_at(0, 0, 0, cycle_out(c)),
-        Turn::Over(n, a) => turn_at(1, n, a, no_cycle()),
-        Turn::Barred(n) => turn_at(2, n, 0, no_cycle()),
+    match saying {
+        Saying::Out(c) => saying_at(0, 0, 0, cycle_out(c)),
+        Saying::Over(n, a) => saying_at(1, n, a, no_cycle()),
+        Saying::Refused(n) => saying_at(2, n, 0, no_cycle()),
     }
 }

@@ -20,7 +20,7 @@ pub fn written_out(written: Written) -> SizedNumbers
 {
     match written {
         Written::Wrote(size) => sized_as(0, size),
-        Written::NotWritten(n) => sized_as(n, 0),
+        Written::Refused(n) => sized_as(n, 0),
     }
 }
 
@@ -30,6 +30,6 @@ pub fn read_out(read: ReadBack) -> SizedNumbers
 {
     match read {
         ReadBack::Gave(size) => sized_as(0, size),
-        ReadBack::NotRead(n) => sized_as(n, 0),
+        ReadBack::Refused(n) => sized_as(n, 0),
     }
 }

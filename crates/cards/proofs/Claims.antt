@@ -1,7 +1,7 @@
 -- The bench cards hold.
 use mathlib.Core.Path.{_≡_, refl}
 use mathlib.Core.Bool.{true}
-use Rattle.device.specs.Parts.{rowOf, isLarge, shapeOf, sizeIn, lengthIn, offsetIn, holderIn, turned, startIn, blockIn, unknownPart, unknownDevice, sizeOf, lengthOf, startOf, blockOf}
+use Rattle.device.specs.Parts.{rowOf, isLarge, shapeOf, sizeIn, lengthIn, offsetIn, holderIn, mirrored, startIn, blockIn, unknownPart, unknownDevice, sizeOf, lengthOf, startOf, blockOf}
 use Rattle.model_types.specs.Levels.{vppLow, atTwelve, atFive, vppHigh, badWp, mostOe, badPins, badLevels, unlocked, locked}
 use Rattle.model_types.specs.Cells.{ones}
 use Rattle.model_types.specs.States.{proper, improper}
@@ -16,31 +16,31 @@ use Rattle.cards.proofs.Suspended.{seven}
 use Rattle.cards.proofs.Counts.{ten, eleven, loads}
 
 holds-1 : card1 ≡ true
-unfolding rowOf isLarge shapeOf sizeIn lengthIn offsetIn holderIn turned startIn blockIn unknownPart unknownDevice sizeOf lengthOf startOf blockOf vppLow atTwelve atFive vppHigh badWp badPins mostOe badLevels unlocked ones locked proper improper commandOf dataOf asksProgram firstWrite afterErase whileErasing whileSuspending whileSuspended unsupplied startedOf cutBy countedOff suspendPassed passedOf settleOf pastArray shortResidue noCommand suspendedRead noIdentifier numberOf acceptOf decideOf erased residual arrayAfter answerOf
+unfolding rowOf isLarge shapeOf sizeIn lengthIn offsetIn holderIn mirrored startIn blockIn unknownPart unknownDevice sizeOf lengthOf startOf blockOf vppLow atTwelve atFive vppHigh badWp badPins mostOe badLevels unlocked ones locked proper improper commandOf dataOf asksProgram firstWrite afterErase whileErasing whileSuspending whileSuspended unsupplied startedOf cutBy countedOff suspendPassed passedOf settleOf pastArray shortResidue noCommand suspendedRead noIdentifier numberOf acceptOf decideOf erased residual arrayAfter answerOf
 holds-1 = refl
 
 holds-3 : card3 ≡ true
-unfolding rowOf isLarge shapeOf sizeIn lengthIn offsetIn holderIn turned startIn blockIn unknownPart unknownDevice sizeOf lengthOf startOf blockOf vppLow atTwelve atFive vppHigh badWp badPins mostOe badLevels unlocked ones locked proper improper commandOf dataOf asksProgram firstWrite afterErase whileErasing whileSuspending whileSuspended unsupplied startedOf cutBy countedOff suspendPassed passedOf settleOf pastArray shortResidue noCommand suspendedRead noIdentifier numberOf acceptOf decideOf erased residual arrayAfter answerOf
+unfolding rowOf isLarge shapeOf sizeIn lengthIn offsetIn holderIn mirrored startIn blockIn unknownPart unknownDevice sizeOf lengthOf startOf blockOf vppLow atTwelve atFive vppHigh badWp badPins mostOe badLevels unlocked ones locked proper improper commandOf dataOf asksProgram firstWrite afterErase whileErasing whileSuspending whileSuspended unsupplied startedOf cutBy countedOff suspendPassed passedOf settleOf pastArray shortResidue noCommand suspendedRead noIdentifier numberOf acceptOf decideOf erased residual arrayAfter answerOf
 holds-3 = refl
 
 holds-4 : card4 ≡ true
-unfolding rowOf isLarge shapeOf sizeIn lengthIn offsetIn holderIn turned startIn blockIn unknownPart unknownDevice sizeOf lengthOf startOf blockOf vppLow atTwelve atFive vppHigh badWp badPins mostOe badLevels unlocked ones locked proper improper commandOf dataOf asksProgram firstWrite afterErase whileErasing whileSuspending whileSuspended unsupplied startedOf cutBy countedOff suspendPassed passedOf settleOf pastArray shortResidue noCommand suspendedRead noIdentifier numberOf acceptOf decideOf erased residual arrayAfter answerOf
+unfolding rowOf isLarge shapeOf sizeIn lengthIn offsetIn holderIn mirrored startIn blockIn unknownPart unknownDevice sizeOf lengthOf startOf blockOf vppLow atTwelve atFive vppHigh badWp badPins mostOe badLevels unlocked ones locked proper improper commandOf dataOf asksProgram firstWrite afterErase whileErasing whileSuspending whileSuspended unsupplied startedOf cutBy countedOff suspendPassed passedOf settleOf pastArray shortResidue noCommand suspendedRead noIdentifier numberOf acceptOf decideOf erased residual arrayAfter answerOf
 holds-4 = refl
 
 holds-5 : card5 ≡ true
-unfolding rowOf isLarge shapeOf sizeIn lengthIn offsetIn holderIn turned startIn blockIn unknownPart unknownDevice sizeOf lengthOf startOf blockOf vppLow atTwelve atFive vppHigh badWp badPins mostOe badLevels unlocked ones locked proper improper commandOf dataOf asksProgram firstWrite afterErase whileErasing whileSuspending whileSuspended unsupplied startedOf cutBy countedOff suspendPassed passedOf settleOf pastArray shortResidue noCommand suspendedRead noIdentifier numberOf acceptOf decideOf erased residual arrayAfter answerOf
+unfolding rowOf isLarge shapeOf sizeIn lengthIn offsetIn holderIn mirrored startIn blockIn unknownPart unknownDevice sizeOf lengthOf startOf blockOf vppLow atTwelve atFive vppHigh badWp badPins mostOe badLevels unlocked ones locked proper improper commandOf dataOf asksProgram firstWrite afterErase whileErasing whileSuspending whileSuspended unsupplied startedOf cutBy countedOff suspendPassed passedOf settleOf pastArray shortResidue noCommand suspendedRead noIdentifier numberOf acceptOf decideOf erased residual arrayAfter answerOf
 holds-5 = refl
 
 holds-6 : card6 ≡ true
-unfolding rowOf isLarge shapeOf sizeIn lengthIn offsetIn holderIn turned startIn blockIn unknownPart unknownDevice sizeOf lengthOf startOf blockOf vppLow atTwelve atFive vppHigh badWp badPins mostOe badLevels unlocked ones locked proper improper commandOf dataOf asksProgram firstWrite afterErase whileErasing whileSuspending whileSuspended unsupplied startedOf cutBy countedOff suspendPassed passedOf settleOf pastArray shortResidue noCommand suspendedRead noIdentifier numberOf acceptOf decideOf erased residual arrayAfter answerOf
+unfolding rowOf isLarge shapeOf sizeIn lengthIn offsetIn holderIn mirrored startIn blockIn unknownPart unknownDevice sizeOf lengthOf startOf blockOf vppLow atTwelve atFive vppHigh badWp badPins mostOe badLevels unlocked ones locked proper improper commandOf dataOf asksProgram firstWrite afterErase whileErasing whileSuspending whileSuspended unsupplied startedOf cutBy countedOff suspendPassed passedOf settleOf pastArray shortResidue noCommand suspendedRead noIdentifier numberOf acceptOf decideOf erased residual arrayAfter answerOf
 holds-6 = refl
 
 holds-8 : card8 ≡ true
-unfolding rowOf isLarge shapeOf sizeIn lengthIn offsetIn holderIn turned startIn blockIn unknownPart unknownDevice sizeOf lengthOf startOf blockOf vppLow atTwelve atFive vppHigh badWp badPins mostOe badLevels unlocked ones locked proper improper commandOf dataOf asksProgram firstWrite afterErase whileErasing whileSuspending whileSuspended unsupplied startedOf cutBy countedOff suspendPassed passedOf settleOf pastArray shortResidue noCommand suspendedRead noIdentifier numberOf acceptOf decideOf erased residual arrayAfter answerOf
+unfolding rowOf isLarge shapeOf sizeIn lengthIn offsetIn holderIn mirrored startIn blockIn unknownPart unknownDevice sizeOf lengthOf startOf blockOf vppLow atTwelve atFive vppHigh badWp badPins mostOe badLevels unlocked ones locked proper improper commandOf dataOf asksProgram firstWrite afterErase whileErasing whileSuspending whileSuspended unsupplied startedOf cutBy countedOff suspendPassed passedOf settleOf pastArray shortResidue noCommand suspendedRead noIdentifier numberOf acceptOf decideOf erased residual arrayAfter answerOf
 holds-8 = refl
 
 holds-9 : card9 ≡ true
-unfolding rowOf isLarge shapeOf sizeIn lengthIn offsetIn holderIn turned startIn blockIn unknownPart unknownDevice sizeOf lengthOf startOf blockOf vppLow atTwelve atFive vppHigh badWp badPins mostOe badLevels unlocked ones locked proper improper commandOf dataOf asksProgram firstWrite afterErase whileErasing whileSuspending whileSuspended unsupplied startedOf cutBy countedOff suspendPassed passedOf settleOf pastArray shortResidue noCommand suspendedRead noIdentifier numberOf acceptOf decideOf erased residual arrayAfter answerOf
+unfolding rowOf isLarge shapeOf sizeIn lengthIn offsetIn holderIn mirrored startIn blockIn unknownPart unknownDevice sizeOf lengthOf startOf blockOf vppLow atTwelve atFive vppHigh badWp badPins mostOe badLevels unlocked ones locked proper improper commandOf dataOf asksProgram firstWrite afterErase whileErasing whileSuspending whileSuspended unsupplied startedOf cutBy countedOff suspendPassed passedOf settleOf pastArray shortResidue noCommand suspendedRead noIdentifier numberOf acceptOf decideOf erased residual arrayAfter answerOf
 holds-9 = refl
 
 holds-12 : card12 ≡ true

@@ -79,7 +79,7 @@ level w e = go (risesIn w w) (none-risen w)
     go false q = rw (none-differing (length w) 0 w, e) refl
 
 load-level : (w : List ℕ) → length w ≡ 512 → loadFormula deviceT w w ≡ 514
-load-level w e = let q = level w e in let b = mission.formula-both deviceT w w in omega arith
+load-level w e = let q = level w e in let b = mission.formula-load-verify deviceT w w in omega arith
 
 bytes-10 : Bytes (0x5A ∷ same 511 255)
 bytes-10 zero = omega arith

@@ -173,7 +173,7 @@ pub(crate) fn store() {
         &mut out,
     );
     let u = r.used;
-    let g = r.given;
+    let g = r.filled;
     let stream = r.stream;
     let changed = r.changed;
     let mut ok = io::write_all(1, &memory[..g]);

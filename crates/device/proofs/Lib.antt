@@ -1,6 +1,6 @@
 pub mod Rows
 pub mod Cover
-pub mod Place
+pub mod BlockAddresses
 pub mod TwoWidths
 pub mod Claims
 pub mod Unique

@@ -9,7 +9,7 @@ use borrow.Author.Tests.{lt-ltb, le-ltb, ltb-true, ltb-false}
 use Rattle.common.specs.Choice.{if_then_else_}
 use Rattle.common.proofs.Choice.{if-ind}
 use Rattle.device.specs.Blocks.{unitsOfAll, lengthAt, offsetAt, holder}
-use Rattle.device.specs.Parts.{fourBlocks, moreBlocks, rowOf, inWords, shapeOf, lengthsOf, sizeIn, lengthIn, offsetIn, holderIn, turned, startIn, blockIn, sizeOf, lengthOf, startOf, blockOf}
+use Rattle.device.specs.Parts.{fourBlocks, moreBlocks, rowOf, inWords, shapeOf, lengthsOf, sizeIn, lengthIn, offsetIn, holderIn, mirrored, startIn, blockIn, sizeOf, lengthOf, startOf, blockOf}
 use Rattle.device.specs.declared.Part.{Part}
 use Rattle.device.specs.declared.Shape.{Shape}
 
@@ -96,7 +96,7 @@ module _ (s : Shape) (e : Even s) where
       go false a b c = b
 
   block-in : (a b : ℕ) → a < sizeIn (inWords s) → b < 2 → blockIn s (2 * a + b) ≡ blockIn (inWords s) a
-  unfolding blockIn turned inWords
+  unfolding blockIn mirrored inWords
   block-in a b h l = go (s .top) size-in
     where
       go : (top : Bool) → sizeIn s ≡ 2 * sizeIn (inWords s)

@@ -62,8 +62,8 @@ unfoldable pub holderIn : Shape → ℕ → ℕ
 holderIn s p = holder (lengthsOf s) p
 
 -- a place counted from the boot end, as an address, and an address as such a place: at the top they run against each other
-unfoldable pub turned : Bool → ℕ → ℕ → ℕ
-turned top n a = if top then n - 1 - a else a
+unfoldable pub mirrored : Bool → ℕ → ℕ → ℕ
+mirrored top n a = if top then n - 1 - a else a
 
 -- the first address of block k: at the top the boot block comes last
 unfoldable pub startIn : Shape → ℕ → ℕ
@@ -71,7 +71,7 @@ startIn s k = if s .top then sizeIn s - offsetIn s k - lengthIn s k else offsetI
 
 -- the block that holds an address
 unfoldable pub blockIn : Shape → ℕ → ℕ
-blockIn s a = holderIn s (turned (s .top) (sizeIn s) a)
+blockIn s a = holderIn s (mirrored (s .top) (sizeIn s) a)
 
 -- an address lies in block k
 pub record Holds (s : Shape) (k a : ℕ) : Type 0 where
@@ -127,7 +127,7 @@ liesAt p k rest = (if eqb (lengthOf p k) 0 then 0 else startOf p k) ∷ lengthOf
 
 -- a row in the table of devices 5 to 8, in byte mode or in word mode: where each of seven blocks lies, outward from the boot block,
 -- then the size and the identifier code (R-part-4)
-abbrev pub wideRow : ℕ → Bool → List ℕ
-wideRow n w =
+abbrev pub largeRow : ℕ → Bool → List ℕ
+largeRow n w =
     let p : Part = record { number = n; word = w } in
     liesAt p 0 (liesAt p 1 (liesAt p 2 (liesAt p 3 (liesAt p 4 (liesAt p 5 (liesAt p 6 (sizeOf p ∷ codeOf p ∷ [])))))))

@@ -1,7 +1,7 @@
 // The parts we load: size, blocks and identifier, each derived from one short description of a part.
 ghost use mathlib.Core.Path.{_≡_};
 ghost use Prim.Native.Nat.{_-_};
-ghost use Rattle.device.specs.Parts.{fourBlocks, moreBlocks, rowOf, inWords, shapeOf, isLarge, sizeIn, lengthIn, offsetIn, holderIn, turned, startIn, blockIn, unknownPart, unknownDevice, sizeOf, lengthOf, startOf, blockOf, codeOf};
+ghost use Rattle.device.specs.Parts.{fourBlocks, moreBlocks, rowOf, inWords, shapeOf, isLarge, sizeIn, lengthIn, offsetIn, holderIn, mirrored, startIn, blockIn, unknownPart, unknownDevice, sizeOf, lengthOf, startOf, blockOf, codeOf};
 ghost use Rattle.device.specs.Inner.{spanIn, spanOf};
 
 // What a loader knows of the flash: its number, 1 to 8, and whether it is in word mode. A unit is what one cycle carries: a byte,
@@ -311,8 +311,8 @@ fn holder_at(s: Shape, place: usize) -> u8
 }
 
 // A place from the boot end as an address, or an address as such a place.
-fn turn(top: bool, n: usize, a: usize) -> usize
-    ensures { λ r. ⌜ r ≡ turned top n a ⌝ }
+fn mirror(top: bool, n: usize, a: usize) -> usize
+    ensures { λ r. ⌜ r ≡ mirrored top n a ⌝ }
 {
     if top {
         return less(less(n, 1), a);
@@ -346,7 +346,7 @@ fn block_at(s: Shape, address: u32) -> u8
     ensures { λ r. ⌜ r ≡ blockIn s address ⌝ }
 {
     let top = s.top;
-    holder_at(s, turn(top, sum(s), wide(address)))
+    holder_at(s, mirror(top, sum(s), wide(address)))
 }
 
 // Devices 5 to 8.

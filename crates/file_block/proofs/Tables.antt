@@ -12,9 +12,9 @@ use Rattle.common.specs.Choice.{if_then_else_}
 use Rattle.common.proofs.Choice.{if-true, if-false}
 use Rattle.common.specs.Numbers.{Row, row, given, Foremost, NoRow}
 use Rattle.common.proofs.Numbers.{given-append, given-foremost, foremost-given, given-no-row, no-row-given}
-use Rattle.file_check.specs.Check.{checkWrong, checkFault}
+use Rattle.file_check.specs.Check.{checkWrong, checkNumber}
 use Rattle.file_check.proofs.Verdicts.{sound-check, check-sound}
-use Rattle.file_block.specs.Block.{blockRows, usedOf, letterWrong, placeWrong, usedWrong, paddingWrong, faultRows, faultOf}
+use Rattle.file_block.specs.Block.{blockRows, usedOf, letterWrong, placeWrong, usedWrong, paddingWrong, unsoundRows, unsoundNumber}
 use Rattle.file_block.proofs.Verdicts.{check-passed, after-check}
 
 -- what is asked after a block counts only where the block is right
@@ -41,20 +41,20 @@ not-given true k x e = absurd (omega arith)
 not-given false k x e = (refl, e)
 
 pub right : (first i n : ℕ) (b : List ℕ) (rest : List Row) → given (blockRows first i n b rest) ≡ 0 → Right first i n b × (given rest ≡ 0)
-right first i n b rest e = go (eqb (checkFault b) 0) refl (sym (after-check first i n b rest) ∙ e)
+right first i n b rest e = go (eqb (checkNumber b) 0) refl (sym (after-check first i n b rest) ∙ e)
   where
     R : List Row
     R = row 32 (letterWrong first b) ∷ row 33 (placeWrong i n b) ∷ row 34 (usedWrong i n b || paddingWrong b) ∷ rest
 
-    go : (t : Bool) → eqb (checkFault b) 0 ≡ t → (if eqb (checkFault b) 0 then given R else checkFault b) ≡ 0 → Right first i n b × (given rest ≡ 0)
+    go : (t : Bool) → eqb (checkNumber b) 0 ≡ t → (if eqb (checkNumber b) 0 then given R else checkNumber b) ≡ 0 → Right first i n b × (given rest ≡ 0)
     go true q g =
-        let k = check-passed b (checkFault b) refl (eqb-true _ _ q) in
-        let l = not-given (letterWrong first b) 31 _ (sym (if-true (eqb (checkFault b) 0) (given R) (checkFault b) q) ∙ g) in
+        let k = check-passed b (checkNumber b) refl (eqb-true _ _ q) in
+        let l = not-given (letterWrong first b) 31 _ (sym (if-true (eqb (checkNumber b) 0) (given R) (checkNumber b) q) ∙ g) in
         let p = not-given (placeWrong i n b) 32 _ (l .1) in
         let u = not-given (usedWrong i n b || paddingWrong b) 33 _ (p .1) in
         let w = none-of-two (usedWrong i n b) (paddingWrong b) (u .0) in
         (record { check = check-sound b (k .0) (k .1); letter = l .0; place = p .0; used = w .0; padding = w .1 }, u .1)
-    go false q g = absurd (eqb-false (checkFault b) 0 q (sym (if-false (eqb (checkFault b) 0) (given R) (checkFault b) q) ∙ g))
+    go false q g = absurd (eqb-false (checkNumber b) 0 q (sym (if-false (eqb (checkNumber b) 0) (given R) (checkNumber b) q) ∙ g))
 
 -- and the other way round
 pub right-given : (first i n : ℕ) (b : List ℕ) (rest : List Row) → Right first i n b → given (blockRows first i n b rest) ≡ given rest
@@ -73,17 +73,17 @@ unfolding usedWrong
 used-other i n b e w = eqb-true _ _ (not-false _ (sym (if-false (eqb (i + 1) n) _ _ (ne-eqb _ _ e)) ∙ w))
 
 -- the number of a slice by the rows that hold
-pub fault-exactly : (first i n : ℕ) (b : List ℕ) (m : ℕ) → (m ≡ 0 → ⊥) → (faultOf first i n b ≡ m) ↔ Foremost (faultRows first i n b) m
-unfolding faultOf
-fault-exactly first i n b m z = (λ e. given-foremost (faultRows first i n b) m z e, λ h. foremost-given h)
+pub fault-exactly : (first i n : ℕ) (b : List ℕ) (m : ℕ) → (m ≡ 0 → ⊥) → (unsoundNumber first i n b ≡ m) ↔ Foremost (unsoundRows first i n b) m
+unfolding unsoundNumber
+fault-exactly first i n b m z = (λ e. given-foremost (unsoundRows first i n b) m z e, λ h. foremost-given h)
 
-pub sound-exactly : (first i n : ℕ) (b : List ℕ) → (faultOf first i n b ≡ 0) ↔ NoRow (faultRows first i n b)
-unfolding faultOf
-sound-exactly first i n b = (λ e. given-no-row (faultRows first i n b) refl e, λ h. no-row-given h)
+pub sound-exactly : (first i n : ℕ) (b : List ℕ) → (unsoundNumber first i n b ≡ 0) ↔ NoRow (unsoundRows first i n b)
+unfolding unsoundNumber
+sound-exactly first i n b = (λ e. given-no-row (unsoundRows first i n b) refl e, λ h. no-row-given h)
 
 -- of 512 bytes the block's table alone decides, at whatever place they are asked for
-pub fault-given : (first i n : ℕ) (b : List ℕ) → length b ≡ 512 → faultOf first i n b ≡ given (blockRows first i n b [])
-unfolding faultOf
+pub fault-given : (first i n : ℕ) (b : List ℕ) → length b ≡ 512 → unsoundNumber first i n b ≡ given (blockRows first i n b [])
+unfolding unsoundNumber
 fault-given first i n b l = simp (eq-eqb (length b) 512 l)
 
 -- a block that stands at its place has a number that is a byte

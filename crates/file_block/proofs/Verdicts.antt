@@ -10,7 +10,7 @@ use borrow.Author.Tests.{ne-eqb}
 use Rattle.common.specs.Choice.{if_then_else_}
 use Rattle.common.proofs.Choice.{if-true, if-false}
 use Rattle.common.specs.Numbers.{Row, row, given}
-use Rattle.file_check.specs.Check.{allAre, isBlank, isDamaged, checkFault}
+use Rattle.file_check.specs.Check.{allAre, isBlank, isDamaged, checkNumber}
 use Rattle.file_block.specs.Block.{usedOf, letterWrong, placeWrong, usedWrong, paddingWrong, blockRows}
 
 -- no padding is left where more than 505 bytes are said to be used
@@ -25,11 +25,11 @@ unfolding paddingWrong
 padding-is b u e = ap (λ (k : ℕ). not (allAre 255 (take (510 - (5 + k)) (drop (5 + k) b)))) e
 
 -- without a refusal by the check the block is neither blank nor damaged
-pub check-passed : (b : List ℕ) (r : ℕ) → r ≡ checkFault b → r ≡ 0 → (isBlank b ≡ false) × (isDamaged b ≡ false)
-unfolding checkFault
+pub check-passed : (b : List ℕ) (r : ℕ) → r ≡ checkNumber b → r ≡ 0 → (isBlank b ≡ false) × (isDamaged b ≡ false)
+unfolding checkNumber
 check-passed b r e z = go (isBlank b) refl (isDamaged b) refl
   where
-    f : checkFault b ≡ 0
+    f : checkNumber b ≡ 0
     f = sym e ∙ z
 
     go : (t : Bool) → isBlank b ≡ t → (u : Bool) → isDamaged b ≡ u → (isBlank b ≡ false) × (isDamaged b ≡ false)
@@ -40,21 +40,21 @@ check-passed b r e z = go (isBlank b) refl (isDamaged b) refl
 -- the check comes first: its verdict is the block's, and where it has none the other rows decide
 pub after-check : (first i n : ℕ) (b : List ℕ) (after : List Row)
     → given (blockRows first i n b after)
-    ≡ (if eqb (checkFault b) 0
+    ≡ (if eqb (checkNumber b) 0
     then given (row 32 (letterWrong first b) ∷ row 33 (placeWrong i n b) ∷ row 34 (usedWrong i n b || paddingWrong b) ∷ after)
-    else checkFault b)
-unfolding checkFault
+    else checkNumber b)
+unfolding checkNumber
 after-check first i n b after = go (isBlank b) refl (isDamaged b) refl
   where
     go : (t : Bool) → isBlank b ≡ t → (u : Bool) → isDamaged b ≡ u
         → given (blockRows first i n b after)
-        ≡ (if eqb (checkFault b) 0
+        ≡ (if eqb (checkNumber b) 0
         then given (row 32 (letterWrong first b) ∷ row 33 (placeWrong i n b) ∷ row 34 (usedWrong i n b || paddingWrong b) ∷ after)
-        else checkFault b)
+        else checkNumber b)
     go true q u d = simp q
     go false q true d = simp (q, d)
     go false q false d = simp (q, d)
 
-pub check-first : (first i n : ℕ) (b : List ℕ) (r : ℕ) → r ≡ checkFault b → (r ≡ 0 → ⊥) → r ≡ given (blockRows first i n b [])
+pub check-first : (first i n : ℕ) (b : List ℕ) (r : ℕ) → r ≡ checkNumber b → (r ≡ 0 → ⊥) → r ≡ given (blockRows first i n b [])
 check-first first i n b r e z =
-    e ∙ sym (if-false (eqb (checkFault b) 0) _ (checkFault b) (ne-eqb _ _ (λ (q : checkFault b ≡ 0). z (e ∙ q)))) ∙ sym (after-check first i n b [])
+    e ∙ sym (if-false (eqb (checkNumber b) 0) _ (checkNumber b) (ne-eqb _ _ (λ (q : checkNumber b ≡ 0). z (e ∙ q)))) ∙ sym (after-check first i n b [])

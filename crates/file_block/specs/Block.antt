@@ -26,8 +26,8 @@ abbrev pub usedOf : List ℕ → ℕ
 usedOf b = pair (getD b 3 0) (getD b 4 0)
 
 -- the bytes of a list from place a up to place e
-abbrev pub part : ℕ → ℕ → List ℕ → List ℕ
-part a e xs = take (e - a) (drop a xs)
+abbrev pub piece : ℕ → ℕ → List ℕ → List ℕ
+piece a e xs = take (e - a) (drop a xs)
 
 -- 32: the letter is none of the eight, or not the first block's (R-number-32)
 unfoldable pub letterWrong : ℕ → List ℕ → Bool
@@ -43,7 +43,7 @@ usedWrong i n b = if eqb (i + 1) n then eqb (usedOf b) 0 || ltb 505 (usedOf b) e
 
 -- 34, the padding: some byte from the used ones up to byte 509 is not FFH (R-number-34)
 unfoldable pub paddingWrong : List ℕ → Bool
-paddingWrong b = not (allAre 255 (part (5 + usedOf b) 510 b))
+paddingWrong b = not (allAre 255 (piece (5 + usedOf b) 510 b))
 
 -- the refusals of one block as block i of n, in their order, and those that are asked after it (R-order-6)
 abbrev pub blockRows : ℕ → ℕ → ℕ → List ℕ → List Row → List Row
@@ -56,9 +56,9 @@ blockRows first i n b after =
     ∷ after
 
 -- the refusals of a slice as block i of n: 30 where it is not 512 bytes long, then those of the block (R-number-30)
-abbrev pub faultRows : ℕ → ℕ → ℕ → List ℕ → List Row
-faultRows first i n b = row 30 (not (eqb (length b) 512)) ∷ blockRows first i n b []
+abbrev pub unsoundRows : ℕ → ℕ → ℕ → List ℕ → List Row
+unsoundRows first i n b = row 30 (not (eqb (length b) 512)) ∷ blockRows first i n b []
 
 -- the first refusal of a slice as block i of n, or 0
-unfoldable pub faultOf : ℕ → ℕ → ℕ → List ℕ → ℕ
-faultOf first i n b = given (faultRows first i n b)
+unfoldable pub unsoundNumber : ℕ → ℕ → ℕ → List ℕ → ℕ
+unsoundNumber first i n b = given (unsoundRows first i n b)

@@ -2,7 +2,7 @@
 ghost use mathlib.Core.Path.{_≡_};
 ghost use Prim.Native.Nat.{_<_};
 ghost use lib.ListN.{length};
-ghost use Rattle.file_block.specs.Block.{within, isLetter, usedOf, letterWrong, placeWrong, usedWrong, paddingWrong, faultOf};
+ghost use Rattle.file_block.specs.Block.{within, isLetter, usedOf, letterWrong, placeWrong, usedWrong, paddingWrong, unsoundNumber};
 
 // Whether x stands in s.
 fn one_of(x: u8, s: &[u8]) -> bool
@@ -81,13 +81,13 @@ fn padding_wrong(block: &[u8]) -> bool
 }
 
 // The first refusal of a slice as block i of n: 30 where it is not 512 bytes long, then 38 or else 31, then 32, 33, 34; or 0.
-pub fn block_fault(block: &[u8], first: u8, i: usize, n: usize) -> u8
-    ensures { λ r. ⌜ r ≡ faultOf first i n (now (block .entry)) ⌝ }
+pub fn unsound_number(block: &[u8], first: u8, i: usize, n: usize) -> u8
+    ensures { λ r. ⌜ r ≡ unsoundNumber first i n (now (block .entry)) ⌝ }
 {
     if block.len() != 512 {
         return 30;
     }
-    let wrong = file_check::check_fault(block);
+    let wrong = file_check::check_number(block);
     if wrong != 0 {
         return wrong;
     }

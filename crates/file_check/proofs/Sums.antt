@@ -49,9 +49,9 @@ four-here xs at l =
     ∙ ap (λ (z : List ℕ). getD xs at 0 ∷ getD xs (at + 1) 0 ∷ z) (from-here xs (at + 2) (omega arith) ∙ ap (λ (k : ℕ). getD xs (at + 2) 0 ∷ drop k xs) q)
     ∙ ap (λ (z : List ℕ). getD xs at 0 ∷ getD xs (at + 1) 0 ∷ getD xs (at + 2) 0 ∷ z) (from-here xs (at + 3) (omega arith) ∙ ap (λ (k : ℕ). getD xs (at + 3) 0 ∷ drop k xs) r)
 
--- one turn of the columns, by the bytes that were read
-pub held-turn : (s : Columns) (xs : List ℕ) (at : ℕ) → at + 4 ≤ length xs → length xs ≤ 510 → From s (at + 4) xs → {a b c d : ℕ} {r : Columns} → (a ≡ getD xs at 0) × (a < 256) → (b ≡ getD xs (at + 1) 0) × (b < 256) → (c ≡ getD xs (at + 2) 0) × (c < 256) → (d ≡ getD xs (at + 3) 0) × (d < 256) → r ≡ nextOf s a b c d → From r at xs
-held-turn s xs at l m h {a} {b} {c} {d} {r} ea eb ec ed e =
+-- one round of the columns, by the bytes that were read
+pub held-round : (s : Columns) (xs : List ℕ) (at : ℕ) → at + 4 ≤ length xs → length xs ≤ 510 → From s (at + 4) xs → {a b c d : ℕ} {r : Columns} → (a ≡ getD xs at 0) × (a < 256) → (b ≡ getD xs (at + 1) 0) × (b < 256) → (c ≡ getD xs (at + 2) 0) × (c < 256) → (d ≡ getD xs (at + 3) 0) × (d < 256) → r ≡ nextOf s a b c d → From r at xs
+held-round s xs at l m h {a} {b} {c} {d} {r} ea eb ec ed e =
     let n : length (drop (at + 4) xs) ≤ 506 = simp length-drop (omega arith) in
     let z : a ∷ b ∷ c ∷ d ∷ drop (at + 4) xs ≡ drop at xs = (λ i. ea .0 i ∷ eb .0 i ∷ ec .0 i ∷ ed .0 i ∷ drop (at + 4) xs) ∙ sym (four-here xs at l) in
     subst (λ (q : Columns). From q at xs) (sym e)

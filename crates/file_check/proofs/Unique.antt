@@ -6,7 +6,7 @@ use Prim.Native.Nat.{ℕ, _<_}
 use lib.ListN.{take}
 use Rattle.common.specs.Choice.{Unique}
 use Rattle.common.proofs.Choice.{only}
-use Rattle.file_check.specs.Check.{checkOf, allAre, checkFault, pair}
+use Rattle.file_check.specs.Check.{checkOf, allAre, checkNumber, pair}
 
 pub check-unique : (b : List ℕ) → Unique (λ (r : ℕ). r ≡ checkOf (take 510 b))
 check-unique b = only (checkOf (take 510 b))
@@ -17,5 +17,5 @@ joined-unique high low r q p s = only (pair high low) r q (p .0) (s .0)
 pub all-ff-unique : (s : List ℕ) → Unique (λ (r : Bool). r ≡ allAre 255 s)
 all-ff-unique s = only (allAre 255 s)
 
-pub check-fault-unique : (b : List ℕ) → Unique (λ (r : ℕ). r ≡ checkFault b)
-check-fault-unique b = only (checkFault b)
+pub check-number-unique : (b : List ℕ) → Unique (λ (r : ℕ). r ≡ checkNumber b)
+check-number-unique b = only (checkNumber b)

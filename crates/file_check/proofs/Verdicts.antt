@@ -9,7 +9,7 @@ use lib.Seq.{take-all}
 use lib.Dec.{eqb}
 use borrow.Author.Tests.{eq-eqb, ne-eqb, eqb-true}
 use Rattle.common.proofs.Choice.{if-true, if-false, unlike}
-use Rattle.file_check.specs.Check.{checkOf, checkWrong, storedOf, allAre, isBlank, isDamaged, checkFault}
+use Rattle.file_check.specs.Check.{checkOf, checkWrong, storedOf, allAre, isBlank, isDamaged, checkNumber}
 
 -- every byte of a list that is b throughout
 pub all-at : (b : ℕ) (xs : List ℕ) → allAre b xs ≡ true → (i : ℕ) → i < length xs → getD xs i 0 ≡ b
@@ -72,16 +72,16 @@ unfolding isDamaged
 not-blank b q w = if-false (isBlank b) false (checkWrong b) q ∙ w
 
 -- the verdict: by whether what is carried is what is right, and whether the block is blank
-pub check-right : (b : List ℕ) → checkOf (take 510 b) ≡ storedOf b → checkFault b ≡ 0
-unfolding checkWrong checkFault
+pub check-right : (b : List ℕ) → checkOf (take 510 b) ≡ storedOf b → checkNumber b ≡ 0
+unfolding checkWrong checkNumber
 check-right b e = let s = sound-check b (ap not (eq-eqb _ _ e)) in simp (s .0, s .1)
 
-pub check-blank : (b : List ℕ) → isBlank b ≡ true → checkFault b ≡ 38
-unfolding checkFault
+pub check-blank : (b : List ℕ) → isBlank b ≡ true → checkNumber b ≡ 38
+unfolding checkNumber
 check-blank b e = simp e
 
-pub check-not-right : (b : List ℕ) → (checkOf (take 510 b) ≡ storedOf b → ⊥) → isBlank b ≡ false → checkFault b ≡ 31
-unfolding checkWrong checkFault
+pub check-not-right : (b : List ℕ) → (checkOf (take 510 b) ≡ storedOf b → ⊥) → isBlank b ≡ false → checkNumber b ≡ 31
+unfolding checkWrong checkNumber
 check-not-right b e q = simp (q, not-blank b q (ap not (ne-eqb _ _ e)))
 
 -- whether a slice is blank, by its length and its bytes

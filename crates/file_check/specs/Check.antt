@@ -42,5 +42,5 @@ unfoldable pub isDamaged : List ℕ → Bool
 isDamaged b = if isBlank b then false else checkWrong b
 
 -- what the check alone says of a block: its refusal, or 0
-unfoldable pub checkFault : List ℕ → ℕ
-checkFault b = given (row 38 (isBlank b) ∷ row 31 (isDamaged b) ∷ [])
+unfoldable pub checkNumber : List ℕ → ℕ
+checkNumber b = given (row 38 (isBlank b) ∷ row 31 (isDamaged b) ∷ [])

@@ -2,7 +2,7 @@
 ghost use mathlib.Core.Path.{_≡_};
 ghost use Prim.Native.Nat.{_+_, _-_, _*_, _/_, _%_, _<_, _≤_};
 ghost use lib.ListN.{length, getD, take};
-ghost use Rattle.file_check.specs.Check.{checkOf, allAre, isBlank, checkFault, pair};
+ghost use Rattle.file_check.specs.Check.{checkOf, allAre, isBlank, checkNumber, pair};
 ghost use Rattle.file_check.specs.Inner.{Small, From, nextOf, overOf};
 
 // The sums over bytes that stand four apart, four columns from the last byte on: what each column adds up to, and all that it added
@@ -86,7 +86,7 @@ fn four(s: Columns, bytes: &[u8], at: usize) -> Columns
     next(s, a, b, c, d)
 }
 
-// The columns of all bytes but the first few, fewer than sixteen: from the last byte to the first, sixteen a turn.
+// The columns of all bytes but the first few, fewer than sixteen: from the last byte to the first, sixteen a round.
 fn by_columns(bytes: &[u8]) -> Columns
     requires { ⌜ length (now bytes) ≤ 510 ⌝ }
     ensures { λ r. ⌜ From r (length (now (bytes .entry)) % 16) (now (bytes .entry)) ⌝ }
@@ -188,8 +188,8 @@ fn is_blank(block: &[u8]) -> bool
 
 // What the check alone says of a block: 38 where it is blank, else 31, or 0. A blank block's check is wrong: only where it is wrong is the
 // block looked over.
-pub fn check_fault(block: &[u8]) -> u8
-    ensures { λ r. ⌜ r ≡ checkFault (now (block .entry)) ⌝ }
+pub fn check_number(block: &[u8]) -> u8
+    ensures { λ r. ⌜ r ≡ checkNumber (now (block .entry)) ⌝ }
 {
     let stored = joined(common::nth(block, 510), common::nth(block, 511));
     let right = check(block) as usize;

@@ -9,7 +9,7 @@ use lib.ListN.{length, getD, take, drop, set, replicate, length-set}
 use lib.Seq.{drop-append-seam, getD-set-other}
 use lib.Dec.{ltb}
 use Rattle.common.specs.Numbers.{Row, row, numbered}
-use Rattle.file_check.specs.Check.{wsum, checkOf, checkWrong, storedOf, isBlank, checkFault}
+use Rattle.file_check.specs.Check.{wsum, checkOf, checkWrong, storedOf, isBlank, checkNumber}
 use Rattle.file_check.proofs.Verdicts as verdicts
 use Rattle.file_block.specs.Block.{isLetter}
 use Rattle.file_codec.specs.File.{limit, refused, made, countOf, fileOf, readerOf, writerOf, inRoom, leftIn, lengthWrong, blocksIn, payloadOf, readRows, writeRows}
@@ -125,10 +125,10 @@ pub never-right : (b : List ℕ) → 65521 ≤ storedOf b → checkWrong b ≡ t
 never-right = verdicts.never-right
 
 -- The check itself gives 38 exactly where the block is blank, and 31 exactly where it carries a wrong check and is not.
-pub check-38 : (b : List ℕ) → checkFault b ≡ 38 ↔ (isBlank b ≡ true)
+pub check-38 : (b : List ℕ) → checkNumber b ≡ 38 ↔ (isBlank b ≡ true)
 check-38 = checked.fault-38
 
-pub check-31 : (b : List ℕ) → checkFault b ≡ 31 ↔ ((checkOf (take 510 b) ≡ storedOf b → ⊥) × (isBlank b ≡ false))
+pub check-31 : (b : List ℕ) → checkNumber b ≡ 31 ↔ ((checkOf (take 510 b) ≡ storedOf b → ⊥) × (isBlank b ≡ false))
 check-31 = checked.fault-31
 
 -- A blank block's check is wrong. So 38 stands only where 31 stood, what was accepted is accepted still and every other number is the same:

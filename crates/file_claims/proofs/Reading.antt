@@ -10,7 +10,7 @@ use lib.Dec.{eqb}
 use borrow.Author.Tests.{eqb-true, not-false}
 use Rattle.common.specs.Numbers.{given}
 use Rattle.file_check.specs.Check.{checkOf, checkWrong, storedOf}
-use Rattle.file_block.specs.Block.{isLetter, usedOf, part, letterWrong, placeWrong, paddingWrong}
+use Rattle.file_block.specs.Block.{isLetter, usedOf, piece, letterWrong, placeWrong, paddingWrong}
 use Rattle.file_block.proofs.Tables.{Right, right, none-of-two, used-last, used-other}
 use Rattle.file_codec.specs.Layout.{headOf, frontOf, sealed, blockWritten}
 use Rattle.file_codec.specs.File.{countOf, blocksOf, fileOf, blocksRows, payloadOf, blocksIn, made, readerOf, writerOf}
@@ -43,15 +43,15 @@ module _ (first i n : ℕ) (b : List ℕ) (r : Right first i n b) (long : length
   unfolding checkWrong
   check-is = let w : checkWrong b ≡ false = r .check in eqb-true _ _ (not-false _ w)
 
-  padding-is : part (5 + usedOf b) 510 b ≡ replicate (505 - usedOf b) 255
+  padding-is : piece (5 + usedOf b) 510 b ≡ replicate (505 - usedOf b) 255
   unfolding paddingWrong
   padding-is =
       let w : paddingWrong b ≡ false = r .padding in
       let u = usedOf b in
       let d : length (drop (5 + u) b) ≡ length b - (5 + u) = length-drop (5 + u) b in
-      let l : length (part (5 + u) 510 b) ≡ 510 - (5 + u) = length-take-le (510 - (5 + u)) (drop (5 + u) b) (omega arith) in
+      let l : length (piece (5 + u) 510 b) ≡ 510 - (5 + u) = length-take-le (510 - (5 + u)) (drop (5 + u) b) (omega arith) in
       let e : 510 - (5 + u) ≡ 505 - u = omega arith in
-      all-repeated 255 (part (5 + u) 510 b) (not-false _ w) ∙ ap (λ (k : ℕ). replicate {A = ℕ} k 255) (l ∙ e)
+      all-repeated 255 (piece (5 + u) 510 b) (not-false _ w) ∙ ap (λ (k : ℕ). replicate {A = ℕ} k 255) (l ∙ e)
 
   rest-is : take 505 (drop 5 b) ≡ take (usedOf b) (drop 5 b) ++ replicate (505 - usedOf b) 255
   rest-is =

@@ -11,7 +11,7 @@ use borrow.Author.Tests.{eq-eqb, ne-eqb, eqb-true, le-ltb}
 use Rattle.common.proofs.Choice.{if-true, if-false}
 use Rattle.common.specs.Numbers.{given}
 use Rattle.file_check.specs.Check.{checkOf, checkWrong, storedOf, allAre, pair}
-use Rattle.file_block.specs.Block.{isLetter, letters, within, usedOf, part, letterWrong, placeWrong, usedWrong, paddingWrong, blockRows}
+use Rattle.file_block.specs.Block.{isLetter, letters, within, usedOf, piece, letterWrong, placeWrong, usedWrong, paddingWrong, blockRows}
 use Rattle.file_block.proofs.Tables.{Right, right-given}
 use Rattle.file_codec.specs.Layout.{headOf, frontOf, blockWritten}
 use Rattle.file_codec.specs.File.{countOf, blocksOf, fileOf, blocksRows, payloadOf, blocksIn, refused, made, lengthWrong, readerOf, writerOf}
@@ -73,9 +73,9 @@ module _ (ℓ i n : ℕ) (chunk : List ℕ) (few : length chunk ≤ 505) where
       let u = length chunk in
       let A = headOf ℓ i n u ++ chunk in
       let lP : length P ≡ 510 - (5 + u) = pad-length ∙ (let q : 505 - u ≡ 510 - (5 + u) = omega arith in q) in
-      let t : part (5 + u) 510 (blockWritten ℓ i n chunk) ≡ P =
-      ap (part (5 + u) 510) opened ∙ ap (take (510 - (5 + u))) (drop-at A (P ++ T) (5 + u) (length-append (headOf ℓ i n u) chunk)) ∙ take-at P T (510 - (5 + u)) lP in
-      ap (λ (k : ℕ). not (allAre 255 (part (5 + k) 510 (blockWritten ℓ i n chunk)))) used-is ∙ ap (λ (z : List ℕ). not (allAre 255 z)) t ∙ ap not pad-all
+      let t : piece (5 + u) 510 (blockWritten ℓ i n chunk) ≡ P =
+      ap (piece (5 + u) 510) opened ∙ ap (take (510 - (5 + u))) (drop-at A (P ++ T) (5 + u) (length-append (headOf ℓ i n u) chunk)) ∙ take-at P T (510 - (5 + u)) lP in
+      ap (λ (k : ℕ). not (allAre 255 (piece (5 + k) 510 (blockWritten ℓ i n chunk)))) used-is ∙ ap (λ (z : List ℕ). not (allAre 255 z)) t ∙ ap not pad-all
 
   chunk-back : take (usedOf (blockWritten ℓ i n chunk)) (drop 5 (blockWritten ℓ i n chunk)) ≡ chunk
   chunk-back =

@@ -14,7 +14,7 @@ use Rattle.file_block.specs.Block.{isLetter}
 use Rattle.file_block.proofs.Tables.{none-of-two, not-given}
 use Rattle.file_codec.specs.File.{Outcome, refused, made, outcomeBy, inRoom, fileOf, blocksRows, blocksIn, payloadOf, lengthWrong, payloadWrong, readRows, writeRows, readerOf, writerOf, judgedAs}
 use Rattle.file_codec.proofs.Tables.{after-blocks}
-use Rattle.file_codec.specs.declared.Judged.the-variants.{Sound, Unsound}
+use Rattle.file_codec.specs.declared.Judged.the-variants.{Sound, Refused}
 
 -- a number other than 0 refuses, 0 lets through
 pub outcome-refused : (n : ℕ) (bytes : List ℕ) → (n ≡ 0 → ⊥) → outcomeBy n bytes ≡ refused n
@@ -160,7 +160,7 @@ pub room-made : (room : ℕ) (bytes : List ℕ) → length bytes ≤ room → in
 room-made room bytes h = if-false (ltb room (length bytes)) (refused 37) (made bytes) (le-ltb room (length bytes) h)
 
 -- back from a judgement to its outcome
-pub judged-refused : (o : Outcome) (n : ℕ) → judgedAs o ≡ Unsound n → o ≡ refused n
+pub judged-refused : (o : Outcome) (n : ℕ) → judgedAs o ≡ Refused n → o ≡ refused n
 judged-refused (refused m) n e = cc
 judged-refused (made bytes) n e = absurd (let z : _≡_ {A = ℕ} 0 1 = cc in omega arith)
 

@@ -36,12 +36,12 @@ block-cut i n f h e =
     length-take-le 512 (drop (512 * i) f) (omega arith)
 
 -- a walk over the blocks, at block i: the rest of the walk, where this block is right
-pub turn : (first i n : ℕ) (f : List ℕ) → i < n
+pub round : (first i n : ℕ) (f : List ℕ) → i < n
     → given (blocksRows (n - i) first i n (drop (512 * i) f) [])
     ≡ (if eqb (given (blockRows first i n (take 512 (drop (512 * i) f)) [])) 0
     then given (blocksRows (n - (i + 1)) first (i + 1) n (drop (512 * (i + 1)) f) [])
     else given (blockRows first i n (take 512 (drop (512 * i) f)) []))
-turn first i n f h =
+round first i n f h =
     let B = take 512 (drop (512 * i) f) in
     let e : n - i ≡ suc (n - (i + 1)) = omega arith in
     let d : 512 * i + 512 ≡ 512 * (i + 1) = omega arith in

@@ -9,11 +9,11 @@ use Rattle.common.specs.Numbers.{Row, row, given}
 use Rattle.file_block.specs.Block.{isLetter, blockRows, usedOf}
 use Rattle.file_codec.specs.Layout.{blockWritten}
 use Rattle.file_codec.specs.declared.Written.{Written}
-use Rattle.file_codec.specs.declared.Written.the-variants.{Wrote, NotWritten}
+use Rattle.file_codec.specs.declared.Written.the-variants.{Wrote, Refused as WriteRefused}
 use Rattle.file_codec.specs.declared.Judged.{Judged}
-use Rattle.file_codec.specs.declared.Judged.the-variants.{Sound, Unsound}
+use Rattle.file_codec.specs.declared.Judged.the-variants.{Sound, Refused as JudgeRefused}
 use Rattle.file_codec.specs.declared.ReadBack.{ReadBack}
-use Rattle.file_codec.specs.declared.ReadBack.the-variants.{Gave, NotRead}
+use Rattle.file_codec.specs.declared.ReadBack.the-variants.{Gave, Refused as ReadRefused}
 
 -- the most blocks that a file has (R-file-1)
 abbrev pub limit : ℕ
@@ -99,33 +99,33 @@ readerOf most f asked = outcomeBy (given (readRows most f asked [])) (payloadOf 
 
 -- the answers of the code for an outcome: the number of the refusal, or the bytes written, held, given back
 abbrev pub writtenAs : Outcome → Written
-writtenAs (refused n) = NotWritten n
+writtenAs (refused n) = WriteRefused n
 writtenAs (made bytes) = Wrote (length bytes)
 
 -- .. of the reader's judgement alone
 abbrev pub judgedAs : Outcome → Judged
-judgedAs (refused n) = Unsound n
+judgedAs (refused n) = JudgeRefused n
 judgedAs (made bytes) = Sound (length bytes)
 
 -- .. of the reader
 abbrev pub readAs : Outcome → ReadBack
-readAs (refused n) = NotRead n
+readAs (refused n) = ReadRefused n
 readAs (made bytes) = Gave (length bytes)
 
 -- the same answers by their cases: the refusal's number, 0 where there is none, and the values given (R-promise-2)
 abbrev pub writtenTold : Written → ℕ × List ℕ
 writtenTold (Wrote size) = (0, size ∷ [])
-writtenTold (NotWritten n) = (n, [])
+writtenTold (WriteRefused n) = (n, [])
 
 -- .. of the reader's judgement alone
 abbrev pub judgedTold : Judged → ℕ × List ℕ
 judgedTold (Sound size) = (0, size ∷ [])
-judgedTold (Unsound n) = (n, [])
+judgedTold (JudgeRefused n) = (n, [])
 
 -- .. of the reader
 abbrev pub readTold : ReadBack → ℕ × List ℕ
 readTold (Gave size) = (0, size ∷ [])
-readTold (NotRead n) = (n, [])
+readTold (ReadRefused n) = (n, [])
 
 -- what an outcome tells: its refusal's number, or 0 and how many bytes come of it
 abbrev pub toldBy : Outcome → ℕ × List ℕ

@@ -20,23 +20,23 @@ pub const PAYLOAD: usize = 505 * LIMIT;
 // The writer's answer: the bytes written, or the refusal.
 pub enum Written {
     Wrote(usize),
-    NotWritten(u8),
+    Refused(u8),
 }
 
 // The judgement of a file: the bytes of its payload, or the refusal.
 pub enum Judged {
     Sound(usize),
-    Unsound(u8),
+    Refused(u8),
 }
 
 // The reader's answer: the bytes given back, or the refusal.
 pub enum ReadBack {
     Gave(usize),
-    NotRead(u8),
+    Refused(u8),
 }
 
 // The first refusal of n blocks, block by block: 38 or else 31, then 32, 33, 34; or 0.
-fn blocks_fault(file: &[u8], n: usize) -> u8
+fn blocks_number(file: &[u8], n: usize) -> u8
     requires { ⌜ length (now file) ≡ 512 * n ⌝ }
     ensures { λ r. ⌜ r ≡ given (blocksRows n (getD (now (file .entry)) 0 0) 0 n (now (file .entry)) []) ⌝ }
 {
@@ -45,7 +45,7 @@ fn blocks_fault(file: &[u8], n: usize) -> u8
     while i < n {
         let from = 512 * i;
         let to = from + 512;
-        let found = file_block::block_fault(&file[from..to], first, i, n);
+        let found = file_block::unsound_number(&file[from..to], first, i, n);
         if found != 0 {
             return found;
         }
@@ -90,16 +90,16 @@ pub fn judge(file: &[u8], asked: u8) -> Judged
 {
     let size = file.len();
     if length_wrong(size) {
-        return Judged::Unsound(30);
+        return Judged::Refused(30);
     }
     let n = size / 512;
-    let fault = blocks_fault(file, n);
+    let fault = blocks_number(file, n);
     let first = common::nth(file, 0);
     if fault != 0 {
-        return Judged::Unsound(fault);
+        return Judged::Refused(fault);
     }
     if first != asked {
-        return Judged::Unsound(35);
+        return Judged::Refused(35);
     }
     Judged::Sound(payload_size(file, n))
 }
@@ -130,10 +130,10 @@ pub fn read(file: &[u8], asked: u8, out: &mut [u8]) -> ReadBack
 {
     let verdict = judge(file, asked);
     match verdict {
-        Judged::Unsound(number) => ReadBack::NotRead(number),
+        Judged::Refused(number) => ReadBack::Refused(number),
         Judged::Sound(size) => {
             if out.len() < size {
-                return ReadBack::NotRead(37);
+                return ReadBack::Refused(37);
             }
             let n = file.len() / 512;
             unpack(&mut out[0..size], file, n);
@@ -254,16 +254,16 @@ pub fn write(letter: u8, payload: &[u8], out: &mut [u8]) -> Written
 {
     let known = file_block::is_letter(letter);
     if !known {
-        return Written::NotWritten(32);
+        return Written::Refused(32);
     }
     let size = payload.len();
     if payload_wrong(size) {
-        return Written::NotWritten(36);
+        return Written::Refused(36);
     }
     let n = blocks_for(size);
     let whole = 512 * n;
     if out.len() < whole {
-        return Written::NotWritten(37);
+        return Written::Refused(37);
     }
     pack(out, letter, payload, n);
     Written::Wrote(whole)

@@ -10,7 +10,7 @@ use Rattle.loader.specs.declared.Loader.{Loader}
 use Rattle.loader.specs.declared.StageIs.{StageIs}
 use Rattle.loader.specs.declared.Work.{Work}
 use Rattle.loader.specs.Stages.{stageIs, firstStage, verifies}
-use Rattle.loader.specs.Moves.{movedTo, endedBy, isReady, eraseFault, programFault, afterRead, erasePolled, programPolled, verifyMore}
+use Rattle.loader.specs.Moves.{movedTo, endedBy, isReady, eraseEnd, programEnd, afterRead, erasePolled, programPolled, verifyMore}
 
 pub stage-is-unique : (stage : Stage) → Unique (λ (r : StageIs). r ≡ stageIs stage)
 stage-is-unique stage = only (stageIs stage)
@@ -30,11 +30,11 @@ ended-by-unique l n = only (endedBy l n)
 pub is-ready-unique : (b : ℕ) → Unique (λ (r : Bool). r ≡ isReady b)
 is-ready-unique b = only (isReady b)
 
-pub erase-fault-unique : (b : ℕ) → Unique (λ (r : ℕ). r ≡ eraseFault b)
-erase-fault-unique b = only (eraseFault b)
+pub erase-end-unique : (b : ℕ) → Unique (λ (r : ℕ). r ≡ eraseEnd b)
+erase-end-unique b = only (eraseEnd b)
 
-pub program-fault-unique : (b : ℕ) → Unique (λ (r : ℕ). r ≡ programFault b)
-program-fault-unique b = only (programFault b)
+pub program-end-unique : (b : ℕ) → Unique (λ (r : ℕ). r ≡ programEnd b)
+program-end-unique b = only (programEnd b)
 
 pub read-more-unique : (l : Loader) (w sc : List ℕ) → Unique (λ (r : Loader). r ≡ afterRead l w sc)
 read-more-unique l w sc = only (afterRead l w sc)

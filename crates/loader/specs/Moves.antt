@@ -50,16 +50,16 @@ unfoldable pub bothErrors : ℕ → Bool
 bothErrors sr = sr4 sr && sr5 sr
 
 -- a ready status of an erase: 21 with SR.3, else 22 with SR.4 and SR.5, else 23 with SR.5, else 0 (R-number-21, R-number-22, R-number-23)
-unfoldable pub eraseFault : ℕ → ℕ
-eraseFault sr =
+unfoldable pub eraseEnd : ℕ → ℕ
+eraseEnd sr =
     if sr3 sr then 21
     else if bothErrors sr then 22
     else if sr5 sr then 23
     else 0
 
 -- a ready status of a program: the same with 24 and SR.4 (R-number-24)
-unfoldable pub programFault : ℕ → ℕ
-programFault sr =
+unfoldable pub programEnd : ℕ → ℕ
+programEnd sr =
     if sr3 sr then 21
     else if bothErrors sr then 22
     else if sr4 sr then 24
@@ -87,12 +87,12 @@ pollMore l stage = if leb 65534 (l .polls) then endedBy l 20 else movedTo l stag
 
 -- a poll of the erase is in
 unfoldable pub erasePolled : Loader → ℕ → List ℕ → List ℕ → Loader
-erasePolled l b w sc = if isReady b then (if eqb (eraseFault b) 0 then onward l 0 w sc else endedBy l (eraseFault b)) else pollMore l EraseWaiting
+erasePolled l b w sc = if isReady b then (if eqb (eraseEnd b) 0 then onward l 0 w sc else endedBy l (eraseEnd b)) else pollMore l EraseWaiting
 
 -- a poll of a program is in
 unfoldable pub programPolled : Loader → ℕ → List ℕ → List ℕ → Loader
 programPolled l b w sc =
-    if isReady b then (if eqb (programFault b) 0 then onward l (past (l .place) (length w)) w sc else endedBy l (programFault b)) else pollMore l ProgramWaiting
+    if isReady b then (if eqb (programEnd b) 0 then onward l (past (l .place) (length w)) w sc else endedBy l (programEnd b)) else pollMore l ProgramWaiting
 
 -- one unit of the verify is in: 25 where it differs, else the next, or the end (R-load-4, R-number-25)
 unfoldable pub verifyMore : Loader → ℕ → List ℕ → Loader

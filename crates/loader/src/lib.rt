@@ -57,14 +57,14 @@ pub struct Loader {
 }
 
 // What a step answers: the next cycle, the end with its number and, for 25, the array address of the byte that differs, or a refusal.
-pub enum Turn {
+pub enum Saying {
     Out(Cycle),
     Over(u8, u32),
-    Barred(u8),
+    Refused(u8),
 }
 
 // The answer beside the next record.
-pub struct Given {
-    pub turn: Turn,
+pub struct Response {
+    pub saying: Saying,
     pub loader: Loader,
 }

@@ -11,7 +11,7 @@ use model_types::states::SR7;
 ghost use mathlib.Core.Path.{_≡_};
 ghost use Prim.Native.Nat.{_-_};
 ghost use Rattle.units.specs.Units.{units};
-ghost use Rattle.loader.specs.Moves.{movedTo, endedBy, endedApart, isReady, sr3, sr4, sr5, bothErrors, eraseFault, programFault, loadedStage, onward, afterReads, afterRead, pollMore, erasePolled, programPolled, verifyMore};
+ghost use Rattle.loader.specs.Moves.{movedTo, endedBy, endedApart, isReady, sr3, sr4, sr5, bothErrors, eraseEnd, programEnd, loadedStage, onward, afterReads, afterRead, pollMore, erasePolled, programPolled, verifyMore};
 ghost use Rattle.loader.specs.Inner.{past};
 
 // The record at another stage, place and count of polls.
@@ -47,7 +47,7 @@ pub fn is_ready(b: u8) -> bool
     SR7 <= b
 }
 
-fn supply_fault(b: u8) -> bool
+fn supply_end(b: u8) -> bool
     ensures { λ r. ⌜ r ≡ sr3 b ⌝ }
 {
     b / SR3 % 2 == 1
@@ -72,10 +72,10 @@ fn both_errors(b: u8) -> bool
 }
 
 // How an erase ended, by its ready status: 21, 22, 23, or 0 where it went well.
-pub fn erase_fault(b: u8) -> u8
-    ensures { λ r. ⌜ r ≡ eraseFault b ⌝ }
+pub fn erase_end(b: u8) -> u8
+    ensures { λ r. ⌜ r ≡ eraseEnd b ⌝ }
 {
-    if supply_fault(b) {
+    if supply_end(b) {
         return 21;
     }
     if both_errors(b) {
@@ -88,10 +88,10 @@ pub fn erase_fault(b: u8) -> u8
 }
 
 // How a program ended, by its ready status: 21, 22, 24, or 0 where it went well.
-pub fn program_fault(b: u8) -> u8
-    ensures { λ r. ⌜ r ≡ programFault b ⌝ }
+pub fn program_end(b: u8) -> u8
+    ensures { λ r. ⌜ r ≡ programEnd b ⌝ }
 {
-    if supply_fault(b) {
+    if supply_end(b) {
         return 21;
     }
     if both_errors(b) {
@@ -176,7 +176,7 @@ pub fn erase_polled(l: Loader, b: u8, wanted: &[u8], scratch: &[u8]) -> Loader
     ensures { λ r. ⌜ r ≡ erasePolled l b (units (l .part .word) (now (wanted .entry))) (units (l .part .word) (now (scratch .entry))) ⌝ }
 {
     if is_ready(b) {
-        let n = erase_fault(b);
+        let n = erase_end(b);
         if n == 0 {
             return onward(l, 0, wanted, scratch);
         }
@@ -201,7 +201,7 @@ pub fn program_polled(l: Loader, b: u8, wanted: &[u8], scratch: &[u8]) -> Loader
     let part = l.part;
     let word = part.word;
     if is_ready(b) {
-        let n = program_fault(b);
+        let n = program_end(b);
         if n == 0 {
             return onward(l, past(l.place, units_of(word, wanted)), wanted, scratch);
         }

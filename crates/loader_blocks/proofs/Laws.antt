@@ -1,4 +1,4 @@
--- One turn of each walk over a block, and what it comes to.
+-- One round of each walk over a block, and what it comes to.
 use mathlib.Core.Path.{_≡_, refl, sym, ap, _∙_, subst}
 use mathlib.Core.Bool.{Bool, true, false, not, _||_}
 use mathlib.Core.List.{List}
@@ -85,8 +85,8 @@ none-gathered a h w e =
     let y′ = and-le-r h w in
     (omega arith, omega arith)
 
-pub costs-turn : (n each i : ℕ) (w s : List ℕ) → i < n → costs (n - i) each i w s ≡ (if eqb (getD s i 0) (getD w i 0) then 0 else each) + costs (n - (i + 1)) each (i + 1) w s
-costs-turn n each i w s h = ap (λ (k : ℕ). costs k each i w s) (let e : n - i ≡ suc (n - (i + 1)) = omega arith in e)
+pub costs-round : (n each i : ℕ) (w s : List ℕ) → i < n → costs (n - i) each i w s ≡ (if eqb (getD s i 0) (getD w i 0) then 0 else each) + costs (n - (i + 1)) each (i + 1) w s
+costs-round n each i w s h = ap (λ (k : ℕ). costs k each i w s) (let e : n - i ≡ suc (n - (i + 1)) = omega arith in e)
 
 pub costs-over : (n each i : ℕ) (w s : List ℕ) → n ≤ i → costs (n - i) each i w s ≡ 0
 costs-over n each i w s h = ap (λ (k : ℕ). costs k each i w s) (let e : n - i ≡ 0 = omega arith in e)

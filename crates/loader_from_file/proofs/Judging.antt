@@ -13,7 +13,7 @@ use Rattle.common.specs.Numbers.{row, given, numbered, NoRow}
 use Rattle.common.proofs.Numbers.{given-append, given-no-row, no-head}
 use Rattle.loader_run.specs.Runs.{lentRows, lentNumber, runFirst}
 use Rattle.file_codec.specs.File.{refused, made, outcomeBy, limit, lengthWrong, blocksIn, blocksRows, payloadOf, readRows, readerOf, judgedAs}
-use Rattle.file_codec.specs.declared.Judged.the-variants.{Sound, Unsound}
+use Rattle.file_codec.specs.declared.Judged.the-variants.{Sound, Refused}
 use Rattle.file_codec.proofs.Tables.{blocks-numbered}
 use Rattle.loader_from_file.specs.Loads.{fileRows, fileNumber, loadRows, loadNumber}
 use Rattle.loader_run.specs.declared.Job.{Job}
@@ -85,16 +85,16 @@ sound-none n k bytes e = go (eqb n 0) refl
     go : (t : Bool) → eqb n 0 ≡ t → n ≡ 0
     go true q = eqb-true n 0 q
     go false q =
-        let v : Unsound n ≡ Sound k = sym (ap judgedAs (if-false (eqb n 0) (made bytes) (refused n) q)) ∙ e in
+        let v : Refused n ≡ Sound k = sym (ap judgedAs (if-false (eqb n 0) (made bytes) (refused n) q)) ∙ e in
         absurd (let z : _≡_ {A = ℕ} 0 1 = cc in omega arith)
 
-unsound-number : (n m : ℕ) (bytes : List ℕ) → judgedAs (outcomeBy n bytes) ≡ Unsound m → n ≡ m
+unsound-number : (n m : ℕ) (bytes : List ℕ) → judgedAs (outcomeBy n bytes) ≡ Refused m → n ≡ m
 unsound-number n m bytes e = go (eqb n 0) refl
   where
     go : (t : Bool) → eqb n 0 ≡ t → n ≡ m
-    go false q = let v : Unsound n ≡ Unsound m = sym (ap judgedAs (if-false (eqb n 0) (made bytes) (refused n) q)) ∙ e in cc
+    go false q = let v : Refused n ≡ Refused m = sym (ap judgedAs (if-false (eqb n 0) (made bytes) (refused n) q)) ∙ e in cc
     go true q =
-        let v : Sound (length bytes) ≡ Unsound m = sym (ap judgedAs (if-true (eqb n 0) (made bytes) (refused n) q)) ∙ e in
+        let v : Sound (length bytes) ≡ Refused m = sym (ap judgedAs (if-true (eqb n 0) (made bytes) (refused n) q)) ∙ e in
         absurd (let z : _≡_ {A = ℕ} 0 1 = cc in omega arith)
 
 -- the file's number, told by the reader's judgement
@@ -102,6 +102,6 @@ pub sound-0 : (f : List ℕ) (asked n k : ℕ) → length f ≤ n → judgedAs (
 unfolding readerOf
 sound-0 f asked n k h e = reader-number f asked n h ∙ sound-none (given (readRows limit f asked [])) k (payloadOf (blocksIn f) f) e
 
-pub unsound-m : (f : List ℕ) (asked n m : ℕ) → length f ≤ n → judgedAs (readerOf limit f asked) ≡ Unsound m → fileNumber f asked n ≡ m
+pub refused-m : (f : List ℕ) (asked n m : ℕ) → length f ≤ n → judgedAs (readerOf limit f asked) ≡ Refused m → fileNumber f asked n ≡ m
 unfolding readerOf
-unsound-m f asked n m h e = reader-number f asked n h ∙ unsound-number (given (readRows limit f asked [])) m (payloadOf (blocksIn f) f) e
+refused-m f asked n m h e = reader-number f asked n h ∙ unsound-number (given (readRows limit f asked [])) m (payloadOf (blocksIn f) f) e

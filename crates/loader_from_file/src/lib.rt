@@ -18,7 +18,7 @@ pub fn file_number(file: &[u8], asked: u8, n: usize) -> u8
     let judged = file_codec::judge(file, asked);
     match judged {
         Judged::Sound(_) => 0,
-        Judged::Unsound(m) => m,
+        Judged::Refused(m) => m,
     }
 }
 

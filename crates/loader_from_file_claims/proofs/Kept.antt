@@ -14,7 +14,7 @@ use Rattle.loader_run.specs.Runs.{lentRows, lentNumber, runFirst}
 use Rattle.file_codec.specs.File.{limit, refused, made, readerOf, writerOf, judgedAs}
 use Rattle.file_claims.proofs.Claims.{other-letter, changed-byte-here, blank-file}
 use Rattle.loader_from_file.specs.Loads.{fileNumber, loadNumber, loadRefused, loadLeft}
-use Rattle.loader_from_file.proofs.Judging.{file-after, none-refuses, no-longer, unsound-m}
+use Rattle.loader_from_file.proofs.Judging.{file-after, none-refuses, no-longer, refused-m}
 use Rattle.loader_from_file.proofs.Leaving.{refused-left}
 use Rattle.loader_run.specs.declared.Job.{Job}
 
@@ -31,7 +31,7 @@ module _ (j : Job) (xs w sc f : List ℕ) (asked : ℕ) (m : ℕ) (z : m ≡ 0 �
       some : loadNumber j (length xs) (length w) (length sc) f asked ≡ 0 → ⊥
       some q =
           let n = none-refuses j (length xs) (length w) (length sc) f asked q .1 in
-          z (sym (unsound-m f asked (length w) m (no-longer f asked (length w) n) (ap judgedAs e)) ∙ n)
+          z (sym (refused-m f asked (length w) m (no-longer f asked (length w) n) (ap judgedAs e)) ∙ n)
 
   -- it is the reader's number where a run's tests give none and the file fits the block
   pub by-reader : NoRow (lentRows j (length xs) (length w) (length sc)) → length f ≤ length w → loadLeft j xs w sc f asked ≡ loadRefused m (j .state) xs w sc
@@ -40,7 +40,7 @@ module _ (j : Job) (xs w sc f : List ℕ) (asked : ℕ) (m : ℕ) (z : m ≡ 0 �
       let q : loadNumber j (length xs) (length w) (length sc) f asked ≡ m =
       file-after j (length xs) (length w) (length sc) f asked
       ∙ if-true (eqb (lentNumber j (length xs) (length w) (length sc)) 0) (fileNumber f asked (length w)) (lentNumber j (length xs) (length w) (length sc)) (eq-eqb _ 0 n)
-      ∙ unsound-m f asked (length w) m h (ap judgedAs e) in
+      ∙ refused-m f asked (length w) m h (ap judgedAs e) in
       never ∙ ap (λ (i : ℕ). loadRefused i (j .state) xs w sc) q
 
 module _ (j : Job) (xs w sc : List ℕ) (ℓ : ℕ) (payload f : List ℕ) (made-of : writerOf limit ℓ payload ≡ made f) (asked : ℕ) where

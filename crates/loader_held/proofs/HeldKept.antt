@@ -7,12 +7,12 @@ use lib.ListN.{length}
 use lib.Dec.{eqb, ltb, leb}
 use Rattle.common.proofs.Choice.{if-ind}
 use Rattle.loader.specs.declared.Loader.{Loader}
-use Rattle.loader.specs.Moves.{endedBy, statusIn, isReady, eraseFault}
+use Rattle.loader.specs.Moves.{endedBy, statusIn, isReady, eraseEnd}
 use Rattle.loader.specs.Inner.{past}
 use Rattle.loader_steps.specs.Stores.{storeOf}
-use Rattle.loader_steps.proofs.Again.{Kept, kept-next}
+use Rattle.loader_steps.proofs.StartAndStep.{Kept, kept-next}
 use Rattle.loader_held.specs.declared.Step.{Step}
-use Rattle.loader_held.specs.declared.Step.the-variants.{Usual, Halting, Looking, Settling, Turning, Fetching, Resuming}
+use Rattle.loader_held.specs.declared.Step.the-variants.{Usual, Halting, Looking, Settling, ArrayAsking, Fetching, Resuming}
 use Rattle.loader_held.specs.declared.Hold.{Hold}
 use Rattle.loader_held.specs.declared.Pair.{Pair}
 use Rattle.loader_held.specs.Holds.{settledBy, fetchOn, heldNext}
@@ -30,7 +30,7 @@ module _ (l : Loader) (h : Hold) (k : ℕ) (w sc ps : List ℕ) where
   settled-kept : (sr : ℕ) → In (settledBy l h sr)
   unfolding settledBy
   settled-kept sr =
-      if-ind In (isReady sr) _ _ (λ e. if-ind In (eqb (eraseFault sr) 0) _ _ (λ q. same) (λ q. ended-kept (eraseFault sr)))
+      if-ind In (isReady sr) _ _ (λ e. if-ind In (eqb (eraseEnd sr) 0) _ _ (λ q. same) (λ q. ended-kept (eraseEnd sr)))
       (λ e. if-ind In (leb 65534 (h .waits)) _ _ (λ q. ended-kept 20) (λ q. same))
 
   fetched-kept : (i : ℕ) → In (fetchOn l h i k w sc)
@@ -43,6 +43,6 @@ module _ (l : Loader) (h : Hold) (k : ℕ) (w sc ps : List ℕ) where
   held-kept Halting v = same
   held-kept Looking v = same
   held-kept Settling v = settled-kept (statusIn v)
-  held-kept Turning v = fetched-kept 0
+  held-kept ArrayAsking v = fetched-kept 0
   held-kept Fetching v = fetched-kept (past (h .place) k)
   held-kept Resuming v = record { same = refl; place = λ (i : l .place < length w). omega arith; polls = λ (q : l .polls ≤ 65534). omega arith }

@@ -15,13 +15,13 @@ use Rattle.model_types.specs.declared.Cycle.{Cycle}
 use Rattle.loader.specs.declared.Stage.{Stage}
 use Rattle.loader.specs.declared.Stage.the-variants.{Clearing, Opening, Reading, EraseAsking, EraseConfirming, EraseWaiting, ProgramAsking, ProgramSending, ProgramWaiting, Closing, Verifying, Ended}
 use Rattle.loader.specs.declared.Loader.{Loader}
-use Rattle.loader.specs.Moves.{nextOf, movedTo, endedBy, statusIn, isReady, eraseFault}
+use Rattle.loader.specs.Moves.{nextOf, movedTo, endedBy, statusIn, isReady, eraseEnd}
 use Rattle.loader.specs.Inner.{past}
 use Rattle.loader_steps.specs.Addresses.{firstAddress}
 use Rattle.loader_steps.specs.Outs.{cycleOf, cycleAt}
 use Rattle.loader_steps.specs.Stores.{storeOf}
 use Rattle.loader_held.specs.declared.Step.{Step}
-use Rattle.loader_held.specs.declared.Step.the-variants.{Usual, Halting, Looking, Settling, Turning, Fetching, Resuming}
+use Rattle.loader_held.specs.declared.Step.the-variants.{Usual, Halting, Looking, Settling, ArrayAsking, Fetching, Resuming}
 use Rattle.loader_held.specs.declared.Hold.{Hold}
 use Rattle.loader_held.specs.declared.Pair.{Pair}
 
@@ -85,7 +85,7 @@ stopped l h n = pairOf (endedBy l n) (usual (h .number))
 -- poll comes, or 20 as the 65,535th of this wait is taken (R-held-1, R-held-2)
 unfoldable pub settledBy : Loader → Hold → ℕ → Pair
 settledBy l h sr =
-    if isReady sr then (if eqb (eraseFault sr) 0 then pairOf l (holdAs Turning (h .number) 0 0 (sr6 sr)) else stopped l h (eraseFault sr))
+    if isReady sr then (if eqb (eraseEnd sr) 0 then pairOf l (holdAs ArrayAsking (h .number) 0 0 (sr6 sr)) else stopped l h (eraseEnd sr))
     else if leb 65534 (h .waits) then stopped l h 20
     else pairOf l (holdAs Settling (h .number) 0 (h .waits + 1) false)
 
@@ -111,7 +111,7 @@ heldNext Usual l h v k w sc ps = movedOn (nextOf l v w (storeOf l v w sc)) (h .n
 heldNext Halting l h v k w sc ps = pairOf l (heldTo h Looking)
 heldNext Looking l h v k w sc ps = pairOf l (heldTo h Settling)
 heldNext Settling l h v k w sc ps = settledBy l h (statusIn v)
-heldNext Turning l h v k w sc ps = fetchOn l h 0 k w sc
+heldNext ArrayAsking l h v k w sc ps = fetchOn l h 0 k w sc
 heldNext Fetching l h v k w sc ps = fetchOn l h (past (h .place) k) k w sc
 heldNext Resuming l h v k w sc ps = resumed l h ps
 
@@ -121,7 +121,7 @@ heldScratch Usual l h v k w sc = storeOf l v w sc
 heldScratch Halting l h v k w sc = sc
 heldScratch Looking l h v k w sc = sc
 heldScratch Settling l h v k w sc = sc
-heldScratch Turning l h v k w sc = fetchStored l h 0 k w sc
+heldScratch ArrayAsking l h v k w sc = fetchStored l h 0 k w sc
 heldScratch Fetching l h v k w sc = fetchStored l h (past (h .place) k) k w sc
 heldScratch Resuming l h v k w sc = sc
 
@@ -131,7 +131,7 @@ heldRoom Usual word h v room = room
 heldRoom Halting word h v room = room
 heldRoom Looking word h v room = room
 heldRoom Settling word h v room = room
-heldRoom Turning word h v room = room
+heldRoom ArrayAsking word h v room = room
 heldRoom Fetching word h v room = set room (h .place) (carried word v)
 heldRoom Resuming word h v room = room
 
@@ -141,6 +141,6 @@ heldCycle Usual l h w bs = cycleOf l w
 heldCycle Halting l h w bs = cycleAt l Write (firstAddress l) 0xB0
 heldCycle Looking l h w bs = cycleAt l Write (firstAddress l) 0x70
 heldCycle Settling l h w bs = cycleAt l Read (firstAddress l) 0
-heldCycle Turning l h w bs = cycleAt l Write (firstAddress l) 0xFF
+heldCycle ArrayAsking l h w bs = cycleAt l Write (firstAddress l) 0xFF
 heldCycle Fetching l h w bs = cycleAt l Read (getD bs (h .place) 0) 0
 heldCycle Resuming l h w bs = cycleAt l Write (firstAddress l) 0xD0

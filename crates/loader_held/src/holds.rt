@@ -5,7 +5,7 @@ use crate::Step;
 use loader::Loader;
 use loader::Stage;
 use loader::moves::ended_by;
-use loader::moves::erase_fault;
+use loader::moves::erase_end;
 use loader::moves::is_ready;
 use loader::moves::moved;
 use loader_steps::outs::first;
@@ -125,9 +125,9 @@ fn settled_by(l: Loader, h: Hold, b: u8) -> Pair
     ensures { λ r. ⌜ r ≡ settledBy l h b ⌝ }
 {
     if is_ready(b) {
-        let n = erase_fault(b);
+        let n = erase_end(b);
         if n == 0 {
-            return pair_of(l, hold_as(Step::Turning, h.number, 0, 0, is_held(b)));
+            return pair_of(l, hold_as(Step::ArrayAsking, h.number, 0, 0, is_held(b)));
         }
         return stop_by(l, h, n);
     }
@@ -202,7 +202,7 @@ pub fn store_room(step: Step, word: bool, h: Hold, v: u16, room: &mut [u8])
         Step::Halting => {}
         Step::Looking => {}
         Step::Settling => {}
-        Step::Turning => {}
+        Step::ArrayAsking => {}
         Step::Fetching => units::put_unit(word, room, h.place, v),
         Step::Resuming => {}
     }
@@ -228,7 +228,7 @@ pub fn held_next(
         Step::Halting => pair_of(l, held_to(h, Step::Looking)),
         Step::Looking => pair_of(l, held_to(h, Step::Settling)),
         Step::Settling => settled_by(l, h, units::low(v)),
-        Step::Turning => fetch_on(l, h, 0, k, wanted, scratch),
+        Step::ArrayAsking => fetch_on(l, h, 0, k, wanted, scratch),
         Step::Fetching => fetch_on(l, h, next_place(h.place, k), k, wanted, scratch),
         Step::Resuming => resume(l, h, polls),
     }
@@ -265,7 +265,7 @@ pub fn held_out(step: Step, l: Loader, h: Hold, wanted: &[u8], addresses: &[u32]
         Step::Halting => cycle_by(l, Kind::Write, first(l), 0xB0),
         Step::Looking => cycle_by(l, Kind::Write, first(l), 0x70),
         Step::Settling => cycle_by(l, Kind::Read, first(l), 0),
-        Step::Turning => cycle_by(l, Kind::Write, first(l), 0xFF),
+        Step::ArrayAsking => cycle_by(l, Kind::Write, first(l), 0xFF),
         Step::Fetching => cycle_by(l, Kind::Read, address_at(addresses, h.place), 0),
         Step::Resuming => cycle_by(l, Kind::Write, first(l), 0xD0),
     }

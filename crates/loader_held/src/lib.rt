@@ -4,13 +4,13 @@ pub mod holds;
 use loader::Loader;
 
 // Which cycle is out: the loader's own (Usual), or one of an interruption: B0H (Halting), 70H (Looking), a poll of the suspend's own
-// wait (Settling), FFH (Turning), a read of the list (Fetching), D0H (Resuming).
+// wait (Settling), FFH (ArrayAsking), a read of the list (Fetching), D0H (Resuming).
 pub enum Step {
     Usual,
     Halting,
     Looking,
     Settling,
-    Turning,
+    ArrayAsking,
     Fetching,
     Resuming,
 }

@@ -23,7 +23,7 @@ use Rattle.loader.specs.declared.Stage.{Stage}
 use Rattle.loader.specs.declared.Stage.the-variants.{EraseAsking, EraseConfirming, EraseWaiting, Ended}
 use Rattle.loader.specs.declared.Loader.{Loader}
 use Rattle.loader.specs.Walks.{risesIn}
-use Rattle.loader.specs.Moves.{nextOf, isReady, eraseFault}
+use Rattle.loader.specs.Moves.{nextOf, isReady, eraseEnd}
 use Rattle.loader_steps.specs.Stores.{storeOf}
 use Rattle.loader_run_claims.specs.Made.{openingThen, busCycle as cyc}
 use Rattle.loader_run_claims.specs.Mission.{Taken}
@@ -50,7 +50,7 @@ unfolding afterPoll
 first-poll ps = refl
 
 -- a ready status with a fault ends the suspend's own wait, and the load
-settle-ends : (l : Loader) (h : Hold) (x n : ℕ) → x % 256 ≡ x → isReady x ≡ true → eraseFault x ≡ n → eqb n 0 ≡ false
+settle-ends : (l : Loader) (h : Hold) (x n : ℕ) → x % 256 ≡ x → isReady x ≡ true → eraseEnd x ≡ n → eqb n 0 ≡ false
     → settledBy l h (x % 256) ≡ pairOf (record { part = l .part; pins = l .pins; block = l .block; stage = Ended n; place = l .place; polls = 0; verify = l .verify; high = false }) (usual (h .number))
 unfolding settledBy
 settle-ends l h x n y ready e z = simp (y, ready, e, z)
@@ -87,7 +87,7 @@ module _ (verify : Bool) (j : Job) (xs w sc : List ℕ) (t : Taken j xs w sc) (b
   abbrev pub failed : ℕ → ℕ → ℕ → HeldConfig
   failed n x cnt = heldConf (rec (Ended n)) (usual 1) (atRest (j .state) Status x) xs ys room cnt
 
-  module _ (low x n : ℕ) (stuck : Stuck (j .device) (j .pins) (j .block) low) (q : bitOr (bitOr 128 low) 32 ≡ x) (f : fits 2 x ≡ true) (ready : isReady x ≡ true) (e : eraseFault x ≡ n) (z : eqb n 0 ≡ false) where
+  module _ (low x n : ℕ) (stuck : Stuck (j .device) (j .pins) (j .block) low) (q : bitOr (bitOr 128 low) 32 ≡ x) (f : fits 2 x ≡ true) (ready : isReady x ≡ true) (e : eraseEnd x ≡ n) (z : eqb n 0 ≡ false) where
     abbrev W : Loader
     W = rec EraseWaiting
 

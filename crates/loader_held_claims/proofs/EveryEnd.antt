@@ -27,7 +27,7 @@ use Rattle.model_types.specs.Levels.{vppLow, unlocked}
 use Rattle.model.proofs.Status.{fits}
 use Rattle.loader.specs.Walks.{risesIn}
 use Rattle.loader.specs.Stages.{isEnded}
-use Rattle.loader.specs.Moves.{isReady, eraseFault, bothErrors}
+use Rattle.loader.specs.Moves.{isReady, eraseEnd, bothErrors}
 use Rattle.loader_steps.specs.Front.{endAddress}
 use Rattle.loader_run.specs.declared.Ran.{Ran}
 use Rattle.loader_run.specs.Turns.{Config, after}
@@ -213,7 +213,7 @@ module _ (verify : Bool) (j : Job) (xs w sc : List ℕ) (t : Taken j xs w sc) (b
       }
 
   -- .. with the error bits that come of it
-  stuck : (low x n : ℕ) → Stuck (j .device) (j .pins) (j .block) low → bitOr (bitOr 128 low) 32 ≡ x → fits 2 x ≡ true → isReady x ≡ true → eraseFault x ≡ n → endNumber (j .device) (j .pins) (j .block) w ys ≡ n → eqb n 0 ≡ false → eqb n 25 ≡ false → faultStatus (j .device) (j .pins) w ys ≡ x
+  stuck : (low x n : ℕ) → Stuck (j .device) (j .pins) (j .block) low → bitOr (bitOr 128 low) 32 ≡ x → fits 2 x ≡ true → isReady x ≡ true → eraseEnd x ≡ n → endNumber (j .device) (j .pins) (j .block) w ys ≡ n → eqb n 0 ≡ false → eqb n 25 ≡ false → faultStatus (j .device) (j .pins) w ys ≡ x
       → risesIn w ys ≡ true → Ends
   stuck low x n st q f ready e g z y o rise =
       fault n x g z y o rise (erase-load verify j xs w sc t low x n st q f ready e z rise .begun)
@@ -359,7 +359,7 @@ module _ (verify : Bool) (j : Job) (xs w sc : List ℕ) (t : Taken j xs w sc) (b
         }
 
   pub every-end : Elsewhere (j .device) (j .block) bs → length bs ≤ length room → Ends
-  unfolding endNumber faultStatus shut eraseFault bothErrors
+  unfolding endNumber faultStatus shut eraseEnd bothErrors
   every-end els roomy = rises (risesIn w ys) refl
     where
       boot : vppLow (j .device .part) (j .pins) ≡ false → asWanted w ys ≡ false → eqb (j .block) 0 ≡ true → (f : Bool) → unlocked (j .device .part) (j .pins) 0 ≡ f → risesIn w ys ≡ true → Ends

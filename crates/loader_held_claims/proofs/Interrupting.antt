@@ -33,14 +33,14 @@ use Rattle.model.specs.Begun.{begunFrom}
 use Rattle.model.proofs.Keeping.{st}
 use Rattle.loader.specs.declared.Stage.the-variants.{EraseWaiting}
 use Rattle.loader.specs.declared.Loader.{Loader}
-use Rattle.loader.specs.Moves.{nextOf, eraseFault, bothErrors}
+use Rattle.loader.specs.Moves.{nextOf, eraseEnd, bothErrors}
 use Rattle.loader.specs.Inner.{past}
 use Rattle.loader_steps.specs.Addresses.{firstAddress}
 use Rattle.loader_steps.specs.Stores.{storeOf}
 use Rattle.loader_run_claims.specs.Made.{pollsThen, busCycle as cyc}
 use Rattle.loader_run_claims.proofs.Answers as answers
 use Rattle.loader_run_claims.proofs.Answers.{Up, Ready}
-use Rattle.loader_held.specs.declared.Step.the-variants.{Halting, Looking, Settling, Turning, Fetching, Resuming}
+use Rattle.loader_held.specs.declared.Step.the-variants.{Halting, Looking, Settling, ArrayAsking, Fetching, Resuming}
 use Rattle.loader_held.specs.declared.Hold.{Hold}
 use Rattle.loader_held.specs.declared.Pair.{Pair}
 use Rattle.loader_held.specs.Holds.{holdAs, usual, pairOf, afterPoll, settledBy, fetchOn, fetchStored}
@@ -155,12 +155,12 @@ module _ (verify : Bool) (d : Device) (p : Pins) (k : ℕ) (r : Ready d p k) (sx
 
     -- .. from where FFH leaves the records
     fetched : (cnt : ℕ) (cs : List Cycle) → ((cnt′ : ℕ) → cnt′ ≡ cnt + length bs → Goes (over cnt′) cs)
-        → let H : Hold = holdAs Turning n 0 0 kept in
+        → let H : Hold = holdAs ArrayAsking n 0 0 kept in
         Goes (heldConf (fetchOn L H 0 (length bs) w sc .loader) (fetchOn L H 0 (length bs) w sc .hold) T X (fetchStored L H 0 (length bs) w sc) room cnt) (fetchesThen p (length bs) bs 0 cs)
     fetched cnt cs rest = go (length bs) refl
       where
         H : Hold
-        H = holdAs Turning n 0 0 kept
+        H = holdAs ArrayAsking n 0 0 kept
 
         go : (m : ℕ) → length bs ≡ m → Goes (heldConf (fetchOn L H 0 (length bs) w sc .loader) (fetchOn L H 0 (length bs) w sc .hold) T X (fetchStored L H 0 (length bs) w sc) room cnt) (fetchesThen p m bs 0 cs)
         go zero z =
@@ -179,12 +179,12 @@ module _ (verify : Bool) (d : Device) (p : Pins) (k : ℕ) (r : Ready d p k) (sx
     unfolding settledBy
     settle-more j h = if-false (leb 65534 j) _ _ (lt-leb 65534 j h)
 
-    settle-held : (j : ℕ) → settledBy L (holdAs Settling n 0 j false) 0xC0 ≡ pairOf L (holdAs Turning n 0 0 true)
-    unfolding settledBy eraseFault bothErrors
+    settle-held : (j : ℕ) → settledBy L (holdAs Settling n 0 j false) 0xC0 ≡ pairOf L (holdAs ArrayAsking n 0 0 true)
+    unfolding settledBy eraseEnd bothErrors
     settle-held j = refl
 
     abbrev held : ℕ → HeldConfig
-    held cnt = heldConf L (holdAs Turning n 0 0 true) (st sx Status 0xC0 Suspended left a) X sc room cnt
+    held cnt = heldConf L (holdAs ArrayAsking n 0 0 true) (st sx Status 0xC0 Suspended left a) X sc room cnt
 
     -- the polls of the suspend's own wait
     settling : (m j cnt : ℕ) (cs : List Cycle) → j + m ≤ 65534 → m + 1 ≤ d .suspend → ((cnt′ : ℕ) → cnt′ ≡ cnt + (m + 1) → Goes (held cnt′) cs)
@@ -262,8 +262,8 @@ module _ (verify : Bool) (d : Device) (p : Pins) (k : ℕ) (r : Ready d p k) (sx
   -- ---- in the place of the erase's last poll: it is found finished, and the loader goes on as after a ready poll
   module _ (X sc room : List ℕ) (lX : length X ≡ sizeOf (d .part)) (roomy : length bs ≤ length room) (X′ : List ℕ) (ended : erased (d .part) (blockOf (d .part) a) X ≡ X′)
       (lX′ : length X′ ≡ sizeOf (d .part)) (cX′ : Cells (d .part) X′) (short : 1 ≤ d .erase) where
-    settle-found : settledBy L (holdAs Settling n 0 0 false) 0x80 ≡ pairOf L (holdAs Turning n 0 0 false)
-    unfolding settledBy eraseFault bothErrors
+    settle-found : settledBy L (holdAs Settling n 0 0 false) 0x80 ≡ pairOf L (holdAs ArrayAsking n 0 0 false)
+    unfolding settledBy eraseEnd bothErrors
     settle-found = refl
 
     pub found : (cnt : ℕ) (cs : List Cycle)
@@ -279,9 +279,9 @@ module _ (verify : Bool) (d : Device) (p : Pins) (k : ℕ) (r : Ready d p k) (sx
         (heldConf L (holdAs Settling n 0 0 false) (atRest sx Status 0x80) X′ sc room (cnt + 1 + 1)) e es _ refl refl
         (goes d w bs ps (heldConf L (holdAs Settling n 0 0 false) (atRest sx Status 0x80) X′ sc room (cnt + 1 + 1)) (cyc p Read a 0) (Gives 0x80) (atRest sx Status 0x80) Nothing refl lX′ (ap (λ (x : ℕ). cyc p Read x 0) first)
         (answers.reads-status d p u sx 0x80 a refl at-in) refl
-        (heldConf L (holdAs Turning n 0 0 false) (atRest sx Status 0x80) X′ sc room (cnt + 1 + 1 + 1)) e es _ refl
+        (heldConf L (holdAs ArrayAsking n 0 0 false) (atRest sx Status 0x80) X′ sc room (cnt + 1 + 1 + 1)) e es _ refl
         (λ t. heldConf (settle-found t .loader) (settle-found t .hold) (atRest sx Status 0x80) X′ sc room (cnt + 1 + 1 + 1))
-        (goes d w bs ps (heldConf L (holdAs Turning n 0 0 false) (atRest sx Status 0x80) X′ sc room (cnt + 1 + 1 + 1)) (cyc p Write a 0xFF) Quiet (atRest sx Array 0x80) Nothing refl lX′ (ap (λ (x : ℕ). cyc p Write x 0xFF) first)
+        (goes d w bs ps (heldConf L (holdAs ArrayAsking n 0 0 false) (atRest sx Status 0x80) X′ sc room (cnt + 1 + 1 + 1)) (cyc p Write a 0xFF) Quiet (atRest sx Array 0x80) Nothing refl lX′ (ap (λ (x : ℕ). cyc p Write x 0xFF) first)
         (answers.opens d p u sx Status 0x80 a refl at-in) refl
         _ e es _ refl refl
         (fetched false (atRest sx Array 0x80) X′ sc lX′ cX′ room roomy refl

@@ -16,7 +16,7 @@ use Rattle.loader.specs.declared.Stage.the-variants.{Clearing, Opening, Reading
 use Rattle.loader.specs.declared.Loader.{Loader}
 use Rattle.loader.specs.Walks.{diffFrom}
 use Rattle.loader.specs.Stages.{isEnded}
-use Rattle.loader.specs.Moves.{isReady, eraseFault, programFault, loadedStage, statusIn, nextIn, onward, pollMore, erasePolled, programPolled, verifyMore}
+use Rattle.loader.specs.Moves.{isReady, eraseEnd, programEnd, loadedStage, statusIn, nextIn, onward, pollMore, erasePolled, programPolled, verifyMore}
 use Rattle.loader.specs.Inner.{past}
 use Rattle.loader_run.specs.Turns.{Config, loaderBy, answerTo, turnOf, after}
 use Rattle.loader_run.proofs.Turning.{turn-ended, turn-going}
@@ -54,7 +54,7 @@ polled-late : (l : Loader) (b : ℕ) (w sc : List ℕ) → late (programPolled l
 unfolding programPolled pollMore
 polled-late l b w sc =
     if-ind (λ (x : Loader). late (x .stage) ≡ true) (isReady b) _ _
-    (λ e. if-ind (λ (x : Loader). late (x .stage) ≡ true) (eqb (programFault b) 0) _ _ (λ f. onward-late l (past (l .place) (length w)) w sc) (λ f. refl))
+    (λ e. if-ind (λ (x : Loader). late (x .stage) ≡ true) (eqb (programEnd b) 0) _ _ (λ f. onward-late l (past (l .place) (length w)) w sc) (λ f. refl))
     (λ e. if-ind (λ (x : Loader). late (x .stage) ≡ true) (leb 65534 (l .polls)) _ _ (λ f. refl) (λ f. refl))
 
 verify-late : (l : Loader) (v : ℕ) (w : List ℕ) → late (verifyMore l v w .stage) ≡ true
@@ -92,7 +92,7 @@ poll-way : (l : Loader) (b : ℕ) (w sc : List ℕ) → way (erasePolled l b w s
 unfolding erasePolled pollMore
 poll-way l b w sc =
     if-ind (λ (x : Loader). way (x .stage) ≡ true) (isReady b) _ _
-    (λ e. if-ind (λ (x : Loader). way (x .stage) ≡ true) (eqb (eraseFault b) 0) _ _ (λ f. late-way (onward l 0 w sc .stage) (onward-late l 0 w sc)) (λ f. refl))
+    (λ e. if-ind (λ (x : Loader). way (x .stage) ≡ true) (eqb (eraseEnd b) 0) _ _ (λ f. late-way (onward l 0 w sc .stage) (onward-late l 0 w sc)) (λ f. refl))
     (λ e. if-ind (λ (x : Loader). way (x .stage) ≡ true) (leb 65534 (l .polls)) _ _ (λ f. refl) (λ f. refl))
 
 pub late-next : (s : Stage) (l : Loader) (v : ℕ) (w sc : List ℕ) → late s ≡ true → late (l .stage) ≡ true → late (nextIn s l v w sc .stage) ≡ true

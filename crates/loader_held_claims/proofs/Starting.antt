@@ -26,7 +26,7 @@ use Rattle.loader.specs.declared.Loader.{Loader}
 use Rattle.loader.specs.Walks.{risesIn, diffFrom}
 use Rattle.loader_run.specs.Turns.{Config, after}
 use Rattle.loader_run.specs.Runs.{runNumber, beginning, doing}
-use Rattle.loader_run.proofs.Good.{Good}
+use Rattle.loader_run.proofs.UnrefusedRun.{Good}
 use Rattle.loader_run.proofs.Turning.{conf}
 use Rattle.loader_run_claims.specs.Made.{openingThen, readsThen, madeIn, busCycle as cyc}
 use Rattle.loader_run_claims.specs.Wear.{heldIn}

@@ -25,7 +25,7 @@ use Rattle.loader_run_claims.specs.Made.{busCycle, openingThen, closingBy, prog
 use Rattle.loader_run_claims.specs.Wear.{programsIn}
 use Rattle.loader_run_claims.specs.Ends.{endNumber, ranAs, cyclesAs}
 use Rattle.loader_held.specs.declared.Step.{Step}
-use Rattle.loader_held.specs.declared.Step.the-variants.{Usual, Halting, Looking, Settling, Turning, Fetching, Resuming}
+use Rattle.loader_held.specs.declared.Step.the-variants.{Usual, Halting, Looking, Settling, ArrayAsking, Fetching, Resuming}
 use Rattle.loader_held.specs.declared.Hold.{Hold}
 use Rattle.loader_held.specs.Holds.{listed, holdAs, usual, pairOf, afterPoll, numbered, heldNext}
 use Rattle.loader_held_run.specs.HeldTurns.{HeldConfig, pairBy, scratchHeld, roomBy, outOf, heldAnswer, heldArray, movedBy, heldTurn, heldAfter}
@@ -90,7 +90,7 @@ module _ (ps qs : List ℕ) (same : (n : ℕ) → 0 < n → listed n ps ≡ list
   next-same Halting l h v k w sc = refl
   next-same Looking l h v k w sc = refl
   next-same Settling l h v k w sc = refl
-  next-same Turning l h v k w sc = refl
+  next-same ArrayAsking l h v k w sc = refl
   next-same Fetching l h v k w sc = refl
   next-same Resuming l h v k w sc = ap (λ (x : Hold). pairOf (movedTo l EraseWaiting 0 0) x) (after-same (h .number))
 

@@ -20,22 +20,22 @@ use Rattle.model.specs.declared.Seen.{Seen}
 use Rattle.model.specs.declared.Seen.the-variants.{NoData, Data, Refused}
 use Rattle.model.specs.Arrays.{answerOf, arrayAfter, isRefusal}
 use Rattle.loader.specs.declared.Loader.{Loader}
-use Rattle.loader.specs.declared.Turn.the-variants.{Over}
+use Rattle.loader.specs.declared.Saying.the-variants.{Over}
 use Rattle.loader.specs.Moves.{statusIn}
 use Rattle.loader.specs.Stages.{isEnded, endBy}
 use Rattle.loader_steps.specs.Front.{barredPins, startNumber, endAddress}
-use Rattle.loader_steps.proofs.Again.{taken}
+use Rattle.loader_steps.proofs.StartAndStep.{taken}
 use Rattle.loader_run.specs.Turns.{isRefused, numberIn}
 use Rattle.loader_run.specs.Runs.{runRows, runNumber, runFirst}
 use Rattle.loader_run_claims.specs.Made.{isSmooth}
 use Rattle.loader_run_claims.proofs.Stepping.{Alike, seen-taken, read-answered, alike, start-passes}
 use Rattle.loader_held_lists.specs.Listings.{heldNumber}
 use Rattle.loader_held.specs.declared.Step.{Step}
-use Rattle.loader_held.specs.declared.Step.the-variants.{Usual, Halting, Looking, Settling, Turning, Fetching, Resuming}
+use Rattle.loader_held.specs.declared.Step.the-variants.{Usual, Halting, Looking, Settling, ArrayAsking, Fetching, Resuming}
 use Rattle.loader_held.specs.declared.Hold.{Hold}
 use Rattle.loader_held.specs.declared.Pair.{Pair}
 use Rattle.loader_held.specs.Holds.{pairOf, numbered, settledBy, heldNext, heldScratch, heldRoom, heldCycle}
-use Rattle.loader_held_steps.specs.HeldFront.{startHeldNumber, stepHeldNumber, heldGiven, startHeldGiven, heldMove, stepHeldGiven}
+use Rattle.loader_held_steps.specs.HeldFront.{startHeldNumber, stepHeldNumber, heldResponse, startHeldResponse, heldMove, stepHeldResponse}
 use Rattle.loader_held_steps.proofs.Passed.{start-passed-back, step-passed}
 use Rattle.loader_held_steps.proofs.HeldAgain.{step-again, start-again}
 use Rattle.loader_held_steps.proofs.HeldAnswering.{start-on, step-on}
@@ -71,7 +71,7 @@ levels-out Usual l h w bs = refl
 levels-out Halting l h w bs = refl
 levels-out Looking l h w bs = refl
 levels-out Settling l h w bs = refl
-levels-out Turning l h w bs = refl
+levels-out ArrayAsking l h w bs = refl
 levels-out Fetching l h w bs = refl
 levels-out Resuming l h w bs = refl
 
@@ -88,7 +88,7 @@ same Usual l h k w bs sc ps room word b x f =
 same Halting l h k w bs sc ps room word b x f = record { next = refl; scratch = refl; filled = refl }
 same Looking l h k w bs sc ps room word b x f = record { next = refl; scratch = refl; filled = refl }
 same Settling l h k w bs sc ps room word b x f = record { next = ap (λ (y : ℕ). settledBy l h (statusIn y)) (f refl); scratch = refl; filled = refl }
-same Turning l h k w bs sc ps room word b x f = record { next = refl; scratch = refl; filled = refl }
+same ArrayAsking l h k w bs sc ps room word b x f = record { next = refl; scratch = refl; filled = refl }
 same Fetching l h k w bs sc ps room word b x f = record { next = refl; scratch = refl; filled = ap (λ (y : ℕ). heldRoom Fetching word h y room) (f refl) }
 same Resuming l h k w bs sc ps room word b x f = record { next = refl; scratch = refl; filled = refl }
 
@@ -140,8 +140,8 @@ module _ (d : Device) (w bs ps : List ℕ) (size : ℕ) (c : HeldConfig) (going 
     alike-here : Same (c .hold .step) (c .loader) (c .hold) (length bs) w (c .scratch) ps (c .room) (c .loader .part .word) b (numberIn seen)
     alike-here = same (c .hold .step) (c .loader) (c .hold) (length bs) w bs (c .scratch) ps (c .room) (c .loader .part .word) b (numberIn seen) (λ kind. handed (numberIn seen) kind (turn-read kind))
 
-    step-given : stepHeldGiven (c .loader) (c .hold) b w (c .scratch) ps bs size ≡ heldGiven (pairIn (heldTurn d w bs ps c)) w bs
-    step-given = step-on (c .loader) (c .hold) b w (c .scratch) ps bs size passes ∙ ap (λ (q : Pair). heldGiven q w bs) (alike-here .next ∙ sym turn-pair)
+    step-response : stepHeldResponse (c .loader) (c .hold) b w (c .scratch) ps bs size ≡ heldResponse (pairIn (heldTurn d w bs ps c)) w bs
+    step-response = step-on (c .loader) (c .hold) b w (c .scratch) ps bs size passes ∙ ap (λ (q : Pair). heldResponse q w bs) (alike-here .next ∙ sym turn-pair)
 
     step-stored : heldScratch (c .hold .step) (c .loader) (c .hold) b (length bs) w (c .scratch) ≡ heldTurn d w bs ps c .scratch
     step-stored = alike-here .scratch ∙ sym turn-scratch
@@ -241,10 +241,10 @@ module _ (verify : Bool) (j : Job) (xs w sc bs ps room : List ℕ) (size : ℕ) 
   leaving : (i : ℕ) → over i ≡ false → over (suc i) ≡ true → at (suc i) ≡ E
   leaving i e z = sym (promise .reached ∙ ap at (counting i e z))
 
-  stepping : (i b : ℕ) → over i ≡ false → HandedOn (j .device) w bs (at i) b → stepHeldGiven (at i .loader) (at i .hold) b w (at i .scratch) ps bs size ≡ heldGiven (pairIn (at (suc i))) w bs
-  stepping i b e h = step-given (j .device) w bs ps size (at i) e (fine i e) (passing i .0) b h ∙ ap (λ (c : HeldConfig). heldGiven (pairIn c) w bs) (sym (next i))
+  stepping : (i b : ℕ) → over i ≡ false → HandedOn (j .device) w bs (at i) b → stepHeldResponse (at i .loader) (at i .hold) b w (at i .scratch) ps bs size ≡ heldResponse (pairIn (at (suc i))) w bs
+  stepping i b e h = step-response (j .device) w bs ps size (at i) e (fine i e) (passing i .0) b h ∙ ap (λ (c : HeldConfig). heldResponse (pairIn c) w bs) (sym (next i))
 
-  starting : startHeldGiven verify (j .device .part) (j .pins) (j .block) w sc bs size ≡ heldGiven (pairIn (at 0)) w bs
+  starting : startHeldResponse verify (j .device .part) (j .pins) (j .block) w sc bs size ≡ heldResponse (pairIn (at 0)) w bs
   starting = start-on verify (j .device .part) (j .pins) (j .block) w sc bs size start-held
 
   pub by-hand : HeldStepped verify j xs w sc bs ps room size
@@ -262,7 +262,7 @@ module _ (verify : Bool) (j : Job) (xs w sc bs ps room : List ℕ) (size : ℕ) 
         stores = λ i b e h. step-stored (j .device) w bs ps size (at i) e (fine i e) (passing i .0) b h ∙ ap (λ (c : HeldConfig). c .scratch) (sym (next i));
         fills = λ i b e h. step-filled (j .device) w bs ps size (at i) e (fine i e) (passing i .0) b h ∙ ap (λ (c : HeldConfig). c .room) (sym (next i));
         ends = λ i b e z h.
-            ap (λ g. g .turn) (stepping i b e h)
+            ap (λ g. g .saying) (stepping i b e h)
             ∙ if-true (isEnded (at (suc i) .loader .stage)) (Over (endBy (at (suc i) .loader .stage)) (endAddress (at (suc i) .loader) (endBy (at (suc i) .loader .stage)))) _ z
             ∙ ap (λ (c : HeldConfig). Over (heldRan c .end) (heldRan c .address)) (leaving i e z);
         counts = counting;

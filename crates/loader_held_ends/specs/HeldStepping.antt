@@ -8,12 +8,12 @@ use lib.ListN.{length}
 use Rattle.device.specs.declared.Device.{Device}
 use Rattle.model_types.specs.declared.Kind.the-variants.{Read}
 use Rattle.model.specs.declared.Seen.the-variants.{Data}
-use Rattle.loader.specs.declared.Turn.the-variants.{Over}
+use Rattle.loader.specs.declared.Saying.the-variants.{Over}
 use Rattle.loader.specs.Stages.{isEnded}
 use Rattle.loader_run.specs.Turns.{isRefused, numberIn}
 use Rattle.loader_held.specs.declared.Pair.{Pair}
 use Rattle.loader_held.specs.Holds.{pairOf, heldScratch, heldRoom}
-use Rattle.loader_held_steps.specs.HeldFront.{startHeldGiven, stepHeldNumber, stepHeldGiven, heldGiven}
+use Rattle.loader_held_steps.specs.HeldFront.{startHeldResponse, stepHeldNumber, stepHeldResponse, heldResponse}
 use Rattle.loader_held_run.specs.HeldTurns.{HeldConfig, outOf, heldAnswer, heldArray, heldAfter}
 use Rattle.loader_held_run.specs.HeldRuns.{heldBeginning, heldRan}
 use Rattle.loader_held_ends.specs.HeldMission.{heldEnd}
@@ -45,7 +45,7 @@ module _ (verify : Bool) (j : Job) (xs w sc bs ps room : List ℕ) (size : ℕ) 
   -- stepping by hand is the run, sentence by sentence
   pub record HeldStepped : Type 0 where
     -- the start gives the first records of the run and the cycle that is out there
-    pub starts : startHeldGiven verify (j .device .part) (j .pins) (j .block) w sc bs size ≡ heldGiven (pairIn (steppedAt 0)) w bs
+    pub starts : startHeldResponse verify (j .device .part) (j .pins) (j .block) w sc bs size ≡ heldResponse (pairIn (steppedAt 0)) w bs
     -- the run is before its end for as many cycles as it counts, and no longer
     pub lasts : (i : ℕ) → (steppedOver i ≡ false) ↔ (i < heldRan last .count)
     -- before its end the model takes the cycle that is out, answers a read by data, and leaves the run's next state and array
@@ -56,7 +56,7 @@ module _ (verify : Bool) (j : Job) (xs w sc bs ps room : List ℕ) (size : ℕ) 
     pub passes : (i : ℕ) → stepHeldNumber (steppedAt i .loader) (steppedAt i .hold) (length w) (length (steppedAt i .scratch)) bs size ≡ 0
     -- with those data handed on, the step gives the run's next records and the cycle that is out there, or the end
     pub steps : (i b : ℕ) → steppedOver i ≡ false → HandedOn (j .device) w bs (steppedAt i) b
-        → stepHeldGiven (steppedAt i .loader) (steppedAt i .hold) b w (steppedAt i .scratch) ps bs size ≡ heldGiven (pairIn (steppedAt (suc i))) w bs
+        → stepHeldResponse (steppedAt i .loader) (steppedAt i .hold) b w (steppedAt i .scratch) ps bs size ≡ heldResponse (pairIn (steppedAt (suc i))) w bs
     -- and it leaves the run's scratch and room
     pub stores : (i b : ℕ) → steppedOver i ≡ false → HandedOn (j .device) w bs (steppedAt i) b
         → heldScratch (steppedAt i .hold .step) (steppedAt i .loader) (steppedAt i .hold) b (length bs) w (steppedAt i .scratch) ≡ steppedAt (suc i) .scratch
@@ -64,7 +64,7 @@ module _ (verify : Bool) (j : Job) (xs w sc bs ps room : List ℕ) (size : ℕ) 
         → heldRoom (steppedAt i .hold .step) (steppedAt i .loader .part .word) (steppedAt i .hold) b (steppedAt i .room) ≡ steppedAt (suc i) .room
     -- the step that ends gives the run's end and address
     pub ends : (i b : ℕ) → steppedOver i ≡ false → steppedOver (suc i) ≡ true → HandedOn (j .device) w bs (steppedAt i) b
-        → stepHeldGiven (steppedAt i .loader) (steppedAt i .hold) b w (steppedAt i .scratch) ps bs size .turn ≡ Over (heldRan last .end) (heldRan last .address)
+        → stepHeldResponse (steppedAt i .loader) (steppedAt i .hold) b w (steppedAt i .scratch) ps bs size .saying ≡ Over (heldRan last .end) (heldRan last .address)
     -- it comes after as many cycles as the run counts, and all is then as the run leaves it
     pub counts : (i : ℕ) → steppedOver i ≡ false → steppedOver (suc i) ≡ true → heldRan last .count ≡ suc i
     pub leaves : (i : ℕ) → steppedOver i ≡ false → steppedOver (suc i) ≡ true → steppedAt (suc i) ≡ last

@@ -1,4 +1,4 @@
--- One turn of a walk over a list that looks for a number, and its end; a block's end as an address; the room in bytes and in units.
+-- One round of a walk over a list that looks for a number, and its end; a block's end as an address; the room in bytes and in units.
 use mathlib.Core.Path.{_≡_, refl, sym, ap, _∙_}
 use mathlib.Core.Bool.{Bool, true, false, _||_}
 use mathlib.Core.List.{List}
@@ -13,20 +13,20 @@ use Rattle.units.specs.Units.{unitsIn, bytesIn}
 use Rattle.device.specs.declared.Part.{Part}
 use Rattle.device.specs.Parts.{sizeOf, startOf, lengthOf}
 use Rattle.device.proofs.Claims.{blocks-end-inside}
-use Rattle.device.proofs.Place.{size-small}
+use Rattle.device.proofs.BlockAddresses.{size-small}
 use Rattle.loader_held_lists.specs.Listings.{someOf}
 
 -- what is left to look at, from place i on: the number there, then the rest
-pub some-turn : (f : ℕ → Bool) (xs : List ℕ) (i : ℕ) → i < length xs → someOf f (drop i xs) ≡ (f (getD xs i 0) || someOf f (drop (i + 1) xs))
-some-turn f xs i h = rw (add-one i) (ap (someOf f) (drop-cons xs i 0 h))
+pub some-round : (f : ℕ → Bool) (xs : List ℕ) (i : ℕ) → i < length xs → someOf f (drop i xs) ≡ (f (getD xs i 0) || someOf f (drop (i + 1) xs))
+some-round f xs i h = rw (add-one i) (ap (someOf f) (drop-cons xs i 0 h))
 
 -- .. found there
 pub some-found : (f : ℕ → Bool) (xs : List ℕ) (i : ℕ) → i < length xs → f (getD xs i 0) ≡ true → someOf f (drop i xs) ≡ true
-some-found f xs i h e = some-turn f xs i h ∙ ap (λ (b : Bool). b || someOf f (drop (i + 1) xs)) e
+some-found f xs i h e = some-round f xs i h ∙ ap (λ (b : Bool). b || someOf f (drop (i + 1) xs)) e
 
 -- .. not there, so in the rest
 pub some-later : (f : ℕ → Bool) (xs : List ℕ) (i : ℕ) → i < length xs → f (getD xs i 0) ≡ false → someOf f (drop i xs) ≡ someOf f (drop (i + 1) xs)
-some-later f xs i h e = some-turn f xs i h ∙ ap (λ (b : Bool). b || someOf f (drop (i + 1) xs)) e
+some-later f xs i h e = some-round f xs i h ∙ ap (λ (b : Bool). b || someOf f (drop (i + 1) xs)) e
 
 -- .. nothing is left
 pub some-over : (f : ℕ → Bool) (xs : List ℕ) (i : ℕ) → i ≡ length xs → someOf f (drop i xs) ≡ false

@@ -13,7 +13,7 @@ use Rattle.loader.specs.declared.Stage.{Stage}
 use Rattle.loader.specs.declared.Stage.the-variants.{Clearing, Opening, Reading, EraseAsking, EraseConfirming, EraseWaiting, ProgramAsking, ProgramSending, ProgramWaiting, Closing, Verifying, Ended}
 use Rattle.loader.specs.declared.Loader.{Loader}
 use Rattle.loader.specs.Stages.{isEnded}
-use Rattle.loader.specs.Moves.{nextOf, statusIn, isReady, eraseFault}
+use Rattle.loader.specs.Moves.{nextOf, statusIn, isReady, eraseEnd}
 use Rattle.loader.specs.Inner.{past}
 use Rattle.loader_steps.specs.Stores.{storeOf}
 use Rattle.model.specs.declared.Seen.{Seen}
@@ -22,7 +22,7 @@ use Rattle.loader_run.specs.Turns.{loaderBy}
 use Rattle.loader_run.specs.Inner.{bound}
 use Rattle.loader_run.proofs.Measure.{remainsIn, remains, remains-bound, remains-some, falls}
 use Rattle.loader_held.specs.declared.Step.{Step}
-use Rattle.loader_held.specs.declared.Step.the-variants.{Usual, Halting, Looking, Settling, Turning, Fetching, Resuming}
+use Rattle.loader_held.specs.declared.Step.the-variants.{Usual, Halting, Looking, Settling, ArrayAsking, Fetching, Resuming}
 use Rattle.loader_held.specs.declared.Hold.{Hold}
 use Rattle.loader_held.specs.declared.Pair.{Pair}
 use Rattle.loader_held.specs.Holds.{listed, afterPoll, numbered, settledBy, fetchOn, heldNext}
@@ -36,7 +36,7 @@ pausing Usual l h n k = remains l n
 pausing Halting l h n k = bound n + (k + 65540)
 pausing Looking l h n k = bound n + (k + 65539)
 pausing Settling l h n k = bound n + (k + (4 + (65534 - h .waits)))
-pausing Turning l h n k = bound n + (k + 3)
+pausing ArrayAsking l h n k = bound n + (k + 3)
 pausing Fetching l h n k = bound n + (2 + (k - h .place))
 pausing Resuming l h n k = bound n + 1
 
@@ -74,7 +74,7 @@ held-bound l h n k =
     most Halting = omega arith
     most Looking = omega arith
     most Settling = omega arith
-    most Turning = omega arith
+    most ArrayAsking = omega arith
     most Fetching = omega arith
     most Resuming = omega arith
 
@@ -84,7 +84,7 @@ pausing-some Usual l h n k e = remains-some (l .stage) n (l .place) (l .polls) e
 pausing-some Halting l h n k e = omega arith
 pausing-some Looking l h n k e = omega arith
 pausing-some Settling l h n k e = omega arith
-pausing-some Turning l h n k e = omega arith
+pausing-some ArrayAsking l h n k e = omega arith
 pausing-some Fetching l h n k e = omega arith
 pausing-some Resuming l h n k e = omega arith
 
@@ -144,15 +144,15 @@ module _ (l : Loader) (h : Hold) (w sc : List ℕ) (k : ℕ) where
   unfolding settledBy
   settle-falls sr =
       if-ind (In (pausing Settling l h n k)) (isReady sr) _ _
-      (λ e. if-ind (In (pausing Settling l h n k)) (eqb (eraseFault sr) 0) _ _
-      (λ q. same X (bound n + (k + 3)) (pausing Settling l h n k) (turn (bound n) k (h .waits)))
+      (λ e. if-ind (In (pausing Settling l h n k)) (eqb (eraseEnd sr) 0) _ _
+      (λ q. same X (bound n + (k + 3)) (pausing Settling l h n k) (falls (bound n) k (h .waits)))
       (λ q. same X 0 (pausing Settling l h n k) (omega arith)))
       (λ e. if-ind (In (pausing Settling l h n k)) (leb 65534 (h .waits)) _ _
       (λ q. same X 0 (pausing Settling l h n k) (omega arith))
       (λ q. same X (bound n + (k + (4 + (65534 - (h .waits + 1))))) (pausing Settling l h n k) (wait (bound n) k (h .waits) (leb-false 65534 (h .waits) q))))
     where
-      turn : (b k q : ℕ) → b + (k + 3) < b + (k + (4 + (65534 - q)))
-      turn b k q = omega arith
+      falls : (b k q : ℕ) → b + (k + 3) < b + (k + (4 + (65534 - q)))
+      falls b k q = omega arith
 
       wait : (b k q : ℕ) → q < 65534 → b + (k + (4 + (65534 - (q + 1)))) < b + (k + (4 + (65534 - q)))
       wait b k q p = omega arith
@@ -188,7 +188,7 @@ next-falls Usual l h v k w sc ps e =
 next-falls Halting l h v k w sc ps e = same (pauses (h .number) (length w) k) _ _ (let z : bound (length w) + (k + 65539) < bound (length w) + (k + 65540) = omega arith in z)
 next-falls Looking l h v k w sc ps e = same (pauses (h .number) (length w) k) _ _ (let z : bound (length w) + (k + (4 + (65534 - 0))) < bound (length w) + (k + 65539) = omega arith in z)
 next-falls Settling l h v k w sc ps e = settle-falls l h w sc k (statusIn v)
-next-falls Turning l h v k w sc ps e =
+next-falls ArrayAsking l h v k w sc ps e =
     fetch-falls l h w sc k 0 (bound (length w) + (k + 3)) (λ q. first (bound (length w)) k) (omega arith) e
   where
     first : (b k : ℕ) → b + (2 + (k - 0)) < b + (k + 3)

@@ -27,11 +27,11 @@ use Rattle.loader.specs.Stages.{isEnded}
 use Rattle.loader_steps.specs.Addresses.{firstAddress}
 use Rattle.loader_steps.specs.Outs.{cycleAt}
 use Rattle.loader_steps.specs.Front.{noBlock}
-use Rattle.loader_steps.proofs.Again.{Kept}
+use Rattle.loader_steps.proofs.StartAndStep.{Kept}
 use Rattle.loader_run.proofs.Judging.{unasked, unasked-high, judged, stays-calm}
 use Rattle.loader_run.proofs.Sound.{Sound, sound-judged}
 use Rattle.loader_held.specs.declared.Step.{Step}
-use Rattle.loader_held.specs.declared.Step.the-variants.{Usual, Halting, Looking, Settling, Turning, Fetching, Resuming}
+use Rattle.loader_held.specs.declared.Step.the-variants.{Usual, Halting, Looking, Settling, ArrayAsking, Fetching, Resuming}
 use Rattle.loader_held.specs.declared.Hold.{Hold}
 use Rattle.loader_held.specs.Holds.{heldCycle}
 use Rattle.loader_held.proofs.HeldKept.{held-kept, ended-kept}
@@ -44,7 +44,7 @@ levels-out Usual l h w bs = refl
 levels-out Halting l h w bs = refl
 levels-out Looking l h w bs = refl
 levels-out Settling l h w bs = refl
-levels-out Turning l h w bs = refl
+levels-out ArrayAsking l h w bs = refl
 levels-out Fetching l h w bs = refl
 levels-out Resuming l h w bs = refl
 
@@ -73,7 +73,7 @@ module _ (d : Device) (w : List ℕ) (l : Loader) (s : State) (n : ℕ) (z : Sou
   held-judged h bs i e Halting = fine _ _ _ first-inside
   held-judged h bs i e Looking = fine _ _ _ first-inside
   held-judged h bs i e Settling = fine _ _ _ first-inside
-  held-judged h bs i e Turning = fine _ _ _ first-inside
+  held-judged h bs i e ArrayAsking = fine _ _ _ first-inside
   held-judged h bs i e Fetching = fine _ _ _ (i (h .place))
   held-judged h bs i e Resuming = fine _ _ _ first-inside
 

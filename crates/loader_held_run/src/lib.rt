@@ -61,7 +61,7 @@ fn stop(l: Loader, h: Hold, n: u8) -> Pair
 }
 
 // A cycle's data taken; k is the number of addresses.
-fn held_given(
+fn data_taken(
     l: Loader,
     h: Hold,
     v: u16,
@@ -100,14 +100,14 @@ fn held_taken(
     ensures { λ _. ⌜ spare (l .part .word) (now (room .exit)) ≡ spare (l .part .word) (now (room .entry)) ⌝ }
 {
     match seen {
-        Seen::NoData => held_given(l, h, 0, k, wanted, scratch, polls, room),
-        Seen::Data(v) => held_given(l, h, v, k, wanted, scratch, polls, room),
+        Seen::NoData => data_taken(l, h, 0, k, wanted, scratch, polls, room),
+        Seen::Data(v) => data_taken(l, h, v, k, wanted, scratch, polls, room),
         Seen::Refused(n) => stop(l, h, n),
     }
 }
 
 // One cycle made. Refusals 1 to 6 do not apply to it.
-fn held_both(
+fn held_turn(
     d: Device,
     h: Holding,
     wanted: &[u8],
@@ -201,7 +201,7 @@ fn drive_held(
     let mut h = begun(record_for(j), s);
     let mut count: u64 = 0;
     while going(h) {
-        h = held_both(d, h, wanted, scratch, array, polls, addresses, room);
+        h = held_turn(d, h, wanted, scratch, array, polls, addresses, room);
         count += 1;
     }
     over(h, count)

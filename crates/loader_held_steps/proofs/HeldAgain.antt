@@ -17,14 +17,14 @@ use Rattle.model_types.specs.declared.Pins.{Pins}
 use Rattle.loader.specs.declared.Stage.{Stage}
 use Rattle.loader.specs.declared.Stage.the-variants.{Clearing, Opening, Reading, EraseAsking, EraseConfirming, EraseWaiting, ProgramAsking, ProgramSending, ProgramWaiting, Closing, Verifying, Ended}
 use Rattle.loader.specs.declared.Loader.{Loader}
-use Rattle.loader.specs.Moves.{movedTo, nextOf, statusIn, isReady, eraseFault}
+use Rattle.loader.specs.Moves.{movedTo, nextOf, statusIn, isReady, eraseEnd}
 use Rattle.loader.specs.Inner as inner
 use Rattle.loader_steps.specs.Stores.{storeOf}
 use Rattle.loader_steps.specs.Front.{recordAt, stepNumber}
-use Rattle.loader_steps.proofs.Again.{heldAt, Kept, Taken, taken, taken-back, store-length, first-taken}
+use Rattle.loader_steps.proofs.StartAndStep.{heldAt, Kept, Taken, taken, taken-back, store-length, first-taken}
 use Rattle.loader_held_lists.specs.Listings.{someOf, pastArray, inLoaded, heldRows, heldNumber}
 use Rattle.loader_held.specs.declared.Step.{Step}
-use Rattle.loader_held.specs.declared.Step.the-variants.{Usual, Halting, Looking, Settling, Turning, Fetching, Resuming}
+use Rattle.loader_held.specs.declared.Step.the-variants.{Usual, Halting, Looking, Settling, ArrayAsking, Fetching, Resuming}
 use Rattle.loader_held.specs.declared.Hold.{Hold}
 use Rattle.loader_held.specs.declared.Pair.{Pair}
 use Rattle.loader_held.specs.Holds.{listed, holdAs, usual, pairOf, afterPoll, numbered, movedOn, stopped, settledBy, fetchOn, fetchStored, heldNext, heldScratch}
@@ -114,7 +114,7 @@ module _ (l : Loader) (h : Hold) (k : ℕ) (w sc ps : List ℕ) where
   unfolding settledBy
   settled-fits sr e =
       if-ind Fit (isReady sr) _ _
-      (λ a. if-ind Fit (eqb (eraseFault sr) 0) _ _ (λ b. fits k l Turning (h .number) 0 0 _ e (omega arith) refl) (λ b. usual-fits k (h .number) _))
+      (λ a. if-ind Fit (eqb (eraseEnd sr) 0) _ _ (λ b. fits k l ArrayAsking (h .number) 0 0 _ e (omega arith) refl) (λ b. usual-fits k (h .number) _))
       (λ a. if-ind Fit (leb 65534 (h .waits)) _ _ (λ b. usual-fits k (h .number) _)
       (λ b. let q : h .waits < 65534 = leb-false 65534 (h .waits) b in fits k l Settling (h .number) 0 (h .waits + 1) false e (omega arith) refl))
 
@@ -130,7 +130,7 @@ module _ (l : Loader) (h : Hold) (k : ℕ) (w sc ps : List ℕ) where
   next-fits Halting v s e = fits k l Looking (h .number) 0 0 (h .suspended) (waits-erase k l h e (ap interrupting s)) (omega arith) refl
   next-fits Looking v s e = fits k l Settling (h .number) 0 0 (h .suspended) (waits-erase k l h e (ap interrupting s)) (omega arith) refl
   next-fits Settling v s e = settled-fits (statusIn v) (waits-erase k l h e (ap interrupting s))
-  next-fits Turning v s e = fetched-fits 0 (waits-erase k l h e (ap interrupting s))
+  next-fits ArrayAsking v s e = fetched-fits 0 (waits-erase k l h e (ap interrupting s))
   next-fits Fetching v s e = fetched-fits (inner.past (h .place) k) (waits-erase k l h e (ap interrupting s))
   next-fits Resuming v s e = after-fits k (h .number) (movedTo l EraseWaiting 0 0) ps refl
 
@@ -146,7 +146,7 @@ module _ (l : Loader) (h : Hold) (k : ℕ) (w sc ps : List ℕ) where
   scratch-length Halting v = refl
   scratch-length Looking v = refl
   scratch-length Settling v = refl
-  scratch-length Turning v = stored-length 0
+  scratch-length ArrayAsking v = stored-length 0
   scratch-length Fetching v = stored-length (inner.past (h .place) k)
   scratch-length Resuming v = refl
 

@@ -1,4 +1,4 @@
--- With no polls to interrupt, a start and the steps after it are those of the loader alone, turn for turn.
+-- With no polls to interrupt, a start and the steps after it are those of the loader alone, one by one.
 use mathlib.Core.Path.{_≡_, refl, sym, ap, ap₂, _∙_, subst}
 use mathlib.Core.Bool.{Bool, true, false, _||_}
 use mathlib.Core.List.{List, [], _∷_, _++_}
@@ -20,19 +20,19 @@ use Rattle.model_types.specs.declared.Pins.{Pins}
 use Rattle.loader.specs.declared.Stage.{Stage}
 use Rattle.loader.specs.declared.Stage.the-variants.{Clearing, Opening, Reading, EraseAsking, EraseConfirming, EraseWaiting, ProgramAsking, ProgramSending, ProgramWaiting, Closing, Verifying, Ended}
 use Rattle.loader.specs.declared.Loader.{Loader}
-use Rattle.loader.specs.declared.Turn.{Turn}
-use Rattle.loader.specs.declared.Given.{Given}
+use Rattle.loader.specs.declared.Saying.{Saying}
+use Rattle.loader.specs.declared.Response.{Response}
 use Rattle.loader.specs.Moves.{nextOf}
 use Rattle.loader_steps.specs.Stores.{storeOf}
-use Rattle.loader_steps.specs.Front.{badRecord, setupRows, startRows, startNumber, stepRows, stepNumber, recordAt, turnGiven, barredBy, startGiven, stepGiven, scratchAfter, scratchLeft}
-use Rattle.loader_steps.proofs.Again.{kept-next}
+use Rattle.loader_steps.specs.Front.{badRecord, setupRows, startRows, startNumber, stepRows, stepNumber, recordAt, responseAt, refusedBy, startResponse, stepResponse, scratchAfter, scratchLeft}
+use Rattle.loader_steps.proofs.StartAndStep.{kept-next}
 use Rattle.loader_held_lists.specs.Listings.{pastArray, inLoaded, roomRows, roomNumber, heldRows, heldNumber}
 use Rattle.loader_held.specs.declared.Hold.{Hold}
 use Rattle.loader_held.specs.declared.Pair.{Pair}
 use Rattle.loader_held.specs.Holds.{listed, usual, pairOf, afterPoll, numbered}
-use Rattle.loader_held_steps.specs.declared.HeldGiven.{HeldGiven}
-use Rattle.loader_held_steps.specs.HeldFront.{badHold, badPair, usedRows, startHeldNumber, stepHeldNumber, heldTurnIn, heldGiven, heldBarred, beginning, startHeldGiven, heldMove, stepHeldGiven, heldScratchLeft, heldRoomLeft}
-use Rattle.loader_held_steps.specs.ByHand.{Still, AsOld, heldScratchAfter, oldTurns, heldTurns}
+use Rattle.loader_held_steps.specs.declared.HeldResponse.{HeldResponse}
+use Rattle.loader_held_steps.specs.HeldFront.{badHold, badPair, usedRows, startHeldNumber, stepHeldNumber, heldSayingIn, heldResponse, heldRefused, beginning, startHeldResponse, heldMove, stepHeldResponse, heldScratchLeft, heldRoomLeft}
+use Rattle.loader_held_steps.specs.ByHand.{Still, AsOld, heldScratchAfter, oldSayings, heldSayings}
 use Rattle.loader.specs.declared.Work.the-variants.{Load}
 
 -- a table below another that gives nothing changes nothing
@@ -55,31 +55,31 @@ start-number-same part p k w sc bs room e =
 
 module _ (verify : Bool) (part : Part) (p : Pins) (k : ℕ) (w sc bs : List ℕ) (room : ℕ) where
   -- by a number, with the lists and without
-  abbrev heldBy : ℕ → HeldGiven
-  heldBy m = if eqb m 0 then heldGiven (beginning part p k Clearing verify) w bs else heldBarred m (beginning part p k (Ended m) verify)
+  abbrev heldBy : ℕ → HeldResponse
+  heldBy m = if eqb m 0 then heldResponse (beginning part p k Clearing verify) w bs else heldRefused m (beginning part p k (Ended m) verify)
 
-  abbrev oldBy : ℕ → Given
-  oldBy m = if eqb m 0 then turnGiven (recordAt part p k Clearing verify) w else barredBy m (recordAt part p k (Ended m) verify)
+  abbrev oldBy : ℕ → Response
+  oldBy m = if eqb m 0 then responseAt (recordAt part p k Clearing verify) w else refusedBy m (recordAt part p k (Ended m) verify)
 
-  by-number : (m : ℕ) → (heldBy m .turn ≡ oldBy m .turn) × (heldBy m .pair ≡ pairOf (oldBy m .loader) (usual 0))
+  by-number : (m : ℕ) → (heldBy m .saying ≡ oldBy m .saying) × (heldBy m .pair ≡ pairOf (oldBy m .loader) (usual 0))
   by-number m = go (eqb m 0)
     where
       go : (t : Bool) →
-          ((if t then heldGiven (beginning part p k Clearing verify) w bs else heldBarred m (beginning part p k (Ended m) verify)) .turn
-          ≡ (if t then turnGiven (recordAt part p k Clearing verify) w else barredBy m (recordAt part p k (Ended m) verify)) .turn)
-          × ((if t then heldGiven (beginning part p k Clearing verify) w bs else heldBarred m (beginning part p k (Ended m) verify)) .pair
-          ≡ pairOf ((if t then turnGiven (recordAt part p k Clearing verify) w else barredBy m (recordAt part p k (Ended m) verify)) .loader) (usual 0))
+          ((if t then heldResponse (beginning part p k Clearing verify) w bs else heldRefused m (beginning part p k (Ended m) verify)) .saying
+          ≡ (if t then responseAt (recordAt part p k Clearing verify) w else refusedBy m (recordAt part p k (Ended m) verify)) .saying)
+          × ((if t then heldResponse (beginning part p k Clearing verify) w bs else heldRefused m (beginning part p k (Ended m) verify)) .pair
+          ≡ pairOf ((if t then responseAt (recordAt part p k Clearing verify) w else refusedBy m (recordAt part p k (Ended m) verify)) .loader) (usual 0))
       go true = (refl, refl)
       go false = (refl, refl)
 
   pub start-same : heldNumber part k bs room ≡ 0
-      → (startHeldGiven verify part p k w sc bs room .turn ≡ startGiven (Load verify) part p k w sc .turn)
-      × (startHeldGiven verify part p k w sc bs room .pair ≡ pairOf (startGiven (Load verify) part p k w sc .loader) (usual 0))
-  unfolding startHeldGiven startGiven
+      → (startHeldResponse verify part p k w sc bs room .saying ≡ startResponse (Load verify) part p k w sc .saying)
+      × (startHeldResponse verify part p k w sc bs room .pair ≡ pairOf (startResponse (Load verify) part p k w sc .loader) (usual 0))
+  unfolding startHeldResponse startResponse
   start-same e =
       let n = startNumber part p k (length w) (length sc) in
       let o = start-number-same part p k (length w) (length sc) bs room e in
-      (ap (λ (m : ℕ). heldBy m .turn) o ∙ by-number n .0, ap (λ (m : ℕ). heldBy m .pair) o ∙ by-number n .1)
+      (ap (λ (m : ℕ). heldBy m .saying) o ∙ by-number n .0, ap (λ (m : ℕ). heldBy m .pair) o ∙ by-number n .1)
 
 -- after any move no interruption is under way
 still : (st : Stage) (n : ℕ) → Still (numbered st n [])
@@ -122,28 +122,28 @@ module _ (l : Loader) (n : ℕ) (bs : List ℕ) (room : ℕ) (e : roomNumber (l 
     on = nextOf l v w (storeOf l v w sc)
 
     -- by a number, with the lists and without
-    abbrev heldStepBy : ℕ → HeldGiven
-    heldStepBy m = if eqb m 0 then heldGiven (heldMove l (usual n) v w sc [] bs) w bs else heldBarred m (pairOf l (usual n))
+    abbrev heldStepBy : ℕ → HeldResponse
+    heldStepBy m = if eqb m 0 then heldResponse (heldMove l (usual n) v w sc [] bs) w bs else heldRefused m (pairOf l (usual n))
 
-    abbrev oldStepBy : ℕ → Given
-    oldStepBy m = if eqb m 0 then turnGiven on w else barredBy m l
+    abbrev oldStepBy : ℕ → Response
+    oldStepBy m = if eqb m 0 then responseAt on w else refusedBy m l
 
-    abbrev Same : HeldGiven → Given → Type 0
+    abbrev Same : HeldResponse → Response → Type 0
     Same g o = (AsOld g o) × (o .loader .part ≡ l .part)
 
     step-by-number : (m : ℕ) → Same (heldStepBy m) (oldStepBy m)
     step-by-number m = go (eqb m 0)
       where
-        go : (t : Bool) → Same (if t then heldGiven (heldMove l (usual n) v w sc [] bs) w bs else heldBarred m (pairOf l (usual n))) (if t then turnGiven on w else barredBy m l)
+        go : (t : Bool) → Same (if t then heldResponse (heldMove l (usual n) v w sc [] bs) w bs else heldRefused m (pairOf l (usual n))) (if t then responseAt on w else refusedBy m l)
         go true =
             let s = still (on .stage) n in (
-              record { turn = ap (λ (h : Hold). heldTurnIn on h w bs) (s .is); loader = refl; hold = s },
+              record { saying = ap (λ (h : Hold). heldSayingIn on h w bs) (s .is); loader = refl; hold = s },
               ap (λ (x : Loader). x .part) (kept-next l w (l .stage) v (storeOf l v w sc) .same),
             )
-        go false = (record { turn = refl; loader = refl; hold = record { number = n; is = refl } }, refl)
+        go false = (record { saying = refl; loader = refl; hold = record { number = n; is = refl } }, refl)
 
-    pub step-same : (AsOld (stepHeldGiven l (usual n) v w sc [] bs room) (stepGiven l v w sc)) × (stepGiven l v w sc .loader .part ≡ l .part)
-    unfolding stepHeldGiven stepGiven
+    pub step-same : (AsOld (stepHeldResponse l (usual n) v w sc [] bs room) (stepResponse l v w sc)) × (stepResponse l v w sc .loader .part ≡ l .part)
+    unfolding stepHeldResponse stepResponse
     step-same =
         subst (λ (m : ℕ). Same (heldStepBy m) (oldStepBy (stepNumber l (length w) (length sc)))) (sym (step-number-same (length w) (length sc)))
         (step-by-number (stepNumber l (length w) (length sc)))
@@ -174,16 +174,16 @@ bytes-same l n v xs ys bs rs e b =
     go false o = refl
 
 -- any number of steps, whatever data a host hands in
-pub turns-same : (vs : List ℕ) (l : Loader) (n : ℕ) (w sc bs : List ℕ) (room : ℕ) → roomNumber (l .part .word) (length bs) room ≡ 0
-    → heldTurns vs l (usual n) w sc [] bs room ≡ oldTurns vs l w sc
-turns-same [] l n w sc bs room e = refl
-turns-same (v ∷ vs) l n w sc bs room e =
+pub sayings-same : (vs : List ℕ) (l : Loader) (n : ℕ) (w sc bs : List ℕ) (room : ℕ) → roomNumber (l .part .word) (length bs) room ≡ 0
+    → heldSayings vs l (usual n) w sc [] bs room ≡ oldSayings vs l w sc
+sayings-same [] l n w sc bs room e = refl
+sayings-same (v ∷ vs) l n w sc bs room e =
     let both = step-same l n bs room e v w sc in
     let s = both .0 in
-    let g = stepHeldGiven l (usual n) v w sc [] bs room in
-    let o = stepGiven l v w sc in
+    let g = stepHeldResponse l (usual n) v w sc [] bs room in
+    let o = stepResponse l v w sc in
     let m = s .hold .number in
     let on : roomNumber (o .loader .part .word) (length bs) room ≡ 0 = ap (λ (x : Part). roomNumber (x .word) (length bs) room) (both .1) ∙ e in
-    let rest : heldTurns vs (g .pair .loader) (g .pair .hold) w (heldScratchAfter l (usual n) v w sc bs room) [] bs room ≡ oldTurns vs (o .loader) w (scratchAfter l v w sc) =
-    (λ i. heldTurns vs (s .loader i) (s .hold .is i) w (scratch-same l n bs room e v w sc i) [] bs room) ∙ turns-same vs (o .loader) m w (scratchAfter l v w sc) bs room on in
-    λ i. s .turn i ∷ rest i
+    let rest : heldSayings vs (g .pair .loader) (g .pair .hold) w (heldScratchAfter l (usual n) v w sc bs room) [] bs room ≡ oldSayings vs (o .loader) w (scratchAfter l v w sc) =
+    (λ i. heldSayings vs (s .loader i) (s .hold .is i) w (scratch-same l n bs room e v w sc i) [] bs room) ∙ sayings-same vs (o .loader) m w (scratchAfter l v w sc) bs room on in
+    λ i. s .saying i ∷ rest i

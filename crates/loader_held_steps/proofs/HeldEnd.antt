@@ -8,18 +8,18 @@ use Rattle.common.proofs.Choice.{unlike}
 use Rattle.loader.specs.declared.Stage.{Stage}
 use Rattle.loader.specs.declared.Stage.the-variants.{Ended}
 use Rattle.loader.specs.declared.Loader.{Loader}
-use Rattle.loader.specs.declared.Turn.{Turn}
-use Rattle.loader.specs.declared.Turn.the-variants.{Over}
+use Rattle.loader.specs.declared.Saying.{Saying}
+use Rattle.loader.specs.declared.Saying.the-variants.{Over}
 use Rattle.loader.specs.Moves.{nextIn, nextOf}
 use Rattle.loader_steps.specs.Stores.{storeIn, storeOf}
-use Rattle.loader_steps.specs.Front.{endAddress, turnIn}
+use Rattle.loader_steps.specs.Front.{endAddress, sayingIn}
 use Rattle.loader_held.specs.declared.Step.{Step}
-use Rattle.loader_held.specs.declared.Step.the-variants.{Usual, Halting, Looking, Settling, Turning, Fetching, Resuming}
+use Rattle.loader_held.specs.declared.Step.the-variants.{Usual, Halting, Looking, Settling, ArrayAsking, Fetching, Resuming}
 use Rattle.loader_held.specs.declared.Hold.{Hold}
 use Rattle.loader_held.specs.declared.Pair.{Pair}
 use Rattle.loader_held.specs.Holds.{usual, pairOf, numbered, movedOn, heldNext, heldScratch, heldRoom}
-use Rattle.loader_held_steps.specs.declared.HeldGiven.{HeldGiven}
-use Rattle.loader_held_steps.specs.HeldFront.{interrupting, waitsErase, stepHeldNumber, heldGiven, heldMove, stepHeldGiven}
+use Rattle.loader_held_steps.specs.declared.HeldResponse.{HeldResponse}
+use Rattle.loader_held_steps.specs.HeldFront.{interrupting, waitsErase, stepHeldNumber, heldResponse, heldMove, stepHeldResponse}
 use Rattle.loader_held_steps.proofs.Passed.{step-passed}
 use Rattle.loader_held_steps.proofs.HeldAgain.{waits-erase}
 use Rattle.loader_held_steps.proofs.HeldAnswering.{step-on}
@@ -37,17 +37,17 @@ module _ (l : Loader) (h : Hold) (v n : ℕ) (w sc ps bs : List ℕ) (room : ℕ
       go Halting o = absurd (busy (ap interrupting o))
       go Looking o = absurd (busy (ap interrupting o))
       go Settling o = absurd (busy (ap interrupting o))
-      go Turning o = absurd (busy (ap interrupting o))
+      go ArrayAsking o = absurd (busy (ap interrupting o))
       go Fetching o = absurd (busy (ap interrupting o))
       go Resuming o = absurd (busy (ap interrupting o))
 
-  abbrev last : HeldGiven
-  last = record { turn = Over n (endAddress l n); pair = pairOf l (usual (h .number)) }
+  abbrev last : HeldResponse
+  last = record { saying = Over n (endAddress l n); pair = pairOf l (usual (h .number)) }
 
-  abbrev given-as : Turn → HeldGiven
-  given-as t = record { turn = t; pair = pairOf l (usual (h .number)) }
+  abbrev response-as : Saying → HeldResponse
+  response-as t = record { saying = t; pair = pairOf l (usual (h .number)) }
 
-  pub end-again : (stepHeldGiven l h v w sc ps bs room ≡ last)
+  pub end-again : (stepHeldResponse l h v w sc ps bs room ≡ last)
       × (heldScratch (h .step) l h v (length bs) w sc ≡ sc)
       × ((us : List ℕ) → heldRoom (h .step) (l .part .word) h v us ≡ us)
   end-again =
@@ -55,7 +55,7 @@ module _ (l : Loader) (h : Hold) (v n : ℕ) (w sc ps bs : List ℕ) (room : ℕ
       let stays : nextOf l v w (storeOf l v w sc) ≡ l = ap (λ (st : Stage). nextIn st l v w (storeOf l v w sc)) q in
       let moves : heldMove l h v w sc ps bs ≡ pairOf l (usual (h .number)) =
       ap (λ (s : Step). heldNext s l h v (length bs) w sc ps) idle ∙ ap (λ (r : Loader). movedOn r (h .number) ps) stays ∙ ap (λ (st : Stage). pairOf l (numbered st (h .number) ps)) q in (
-        step-on l h v w sc ps bs room e ∙ ap (λ (x : Pair). heldGiven x w bs) moves ∙ ap (λ (st : Stage). given-as (turnIn st l w)) q,
+        step-on l h v w sc ps bs room e ∙ ap (λ (x : Pair). heldResponse x w bs) moves ∙ ap (λ (st : Stage). response-as (sayingIn st l w)) q,
         ap (λ (s : Step). heldScratch s l h v (length bs) w sc) idle ∙ stored,
         λ us. ap (λ (s : Step). heldRoom s (l .part .word) h v us) idle,
       )

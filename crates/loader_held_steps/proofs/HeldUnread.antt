@@ -13,11 +13,11 @@ use Rattle.loader.specs.Moves.{nextOf}
 use Rattle.loader_steps.specs.Stores.{storeOf}
 use Rattle.loader_steps.proofs.Unread.{next-unread, store-unread}
 use Rattle.loader_held.specs.declared.Step.{Step}
-use Rattle.loader_held.specs.declared.Step.the-variants.{Usual, Halting, Looking, Settling, Turning, Fetching, Resuming}
+use Rattle.loader_held.specs.declared.Step.the-variants.{Usual, Halting, Looking, Settling, ArrayAsking, Fetching, Resuming}
 use Rattle.loader_held.specs.declared.Hold.{Hold}
 use Rattle.loader_held.specs.declared.Pair.{Pair}
 use Rattle.loader_held.specs.Holds.{pairOf, movedOn, settledBy, heldNext, heldScratch, heldRoom}
-use Rattle.loader_held_steps.specs.HeldFront.{stepHeldNumber, heldGiven, heldBarred, stepHeldGiven, heldScratchLeft, heldRoomLeft}
+use Rattle.loader_held_steps.specs.HeldFront.{stepHeldNumber, heldResponse, heldRefused, stepHeldResponse, heldScratchLeft, heldRoomLeft}
 
 again : (w : Bool) (v : ℕ) → carried w (carried w v) ≡ carried w v
 again true v = refl
@@ -38,7 +38,7 @@ module _ (l : Loader) (h : Hold) (v k : ℕ) (w sc ps : List ℕ) where
   moved-unread Halting = refl
   moved-unread Looking = refl
   moved-unread Settling = ap (λ (b : ℕ). settledBy l h b) (low (l .part .word) v)
-  moved-unread Turning = refl
+  moved-unread ArrayAsking = refl
   moved-unread Fetching = refl
   moved-unread Resuming = refl
 
@@ -47,7 +47,7 @@ module _ (l : Loader) (h : Hold) (v k : ℕ) (w sc ps : List ℕ) where
   scratch-unread Halting = refl
   scratch-unread Looking = refl
   scratch-unread Settling = refl
-  scratch-unread Turning = refl
+  scratch-unread ArrayAsking = refl
   scratch-unread Fetching = refl
   scratch-unread Resuming = refl
 
@@ -56,16 +56,16 @@ room-unread Usual word h v us = refl
 room-unread Halting word h v us = refl
 room-unread Looking word h v us = refl
 room-unread Settling word h v us = refl
-room-unread Turning word h v us = refl
+room-unread ArrayAsking word h v us = refl
 room-unread Fetching word h v us = ap (λ (x : ℕ). set us (h .place) x) (again word v)
 room-unread Resuming word h v us = refl
 
 -- a step gives and leaves what it would with the carried bits alone
-pub step-unread : (l : Loader) (h : Hold) (v : ℕ) (w sc ps bs : List ℕ) (room : ℕ) → stepHeldGiven l h (carried (l .part .word) v) w sc ps bs room ≡ stepHeldGiven l h v w sc ps bs room
-unfolding stepHeldGiven
+pub step-unread : (l : Loader) (h : Hold) (v : ℕ) (w sc ps bs : List ℕ) (room : ℕ) → stepHeldResponse l h (carried (l .part .word) v) w sc ps bs room ≡ stepHeldResponse l h v w sc ps bs room
+unfolding stepHeldResponse
 step-unread l h v w sc ps bs room =
     let n = stepHeldNumber l h (length w) (length sc) bs room in
-    ap (λ (q : Pair). if eqb n 0 then heldGiven q w bs else heldBarred n (pairOf l h)) (moved-unread l h v (length bs) w sc ps (h .step))
+    ap (λ (q : Pair). if eqb n 0 then heldResponse q w bs else heldRefused n (pairOf l h)) (moved-unread l h v (length bs) w sc ps (h .step))
 
 pub bytes-unread : (l : Loader) (h : Hold) (v : ℕ) (wanted scratch bs room : List ℕ)
     → (heldScratchLeft l h (carried (l .part .word) v) wanted scratch bs (length room) ≡ heldScratchLeft l h v wanted scratch bs (length room))

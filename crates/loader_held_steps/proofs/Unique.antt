@@ -10,17 +10,17 @@ use Rattle.model_types.specs.declared.Pins.{Pins}
 use Rattle.model_types.specs.declared.Cycle.{Cycle}
 use Rattle.loader.specs.declared.Loader.{Loader}
 use Rattle.loader_held.specs.declared.Hold.{Hold}
-use Rattle.loader_held_steps.specs.declared.HeldGiven.{HeldGiven}
-use Rattle.loader_held_steps.specs.HeldFront.{startHeldGiven, startHeldTold, stepHeldGiven, stepHeldTold, heldScratchLeft, heldRoomLeft}
+use Rattle.loader_held_steps.specs.declared.HeldResponse.{HeldResponse}
+use Rattle.loader_held_steps.specs.HeldFront.{startHeldResponse, startHeldTold, stepHeldResponse, stepHeldTold, heldScratchLeft, heldRoomLeft}
 
-pub start-held-unique : (verify : Bool) (part : Part) (p : Pins) (k : ℕ) (w sc bs : List ℕ) (room : ℕ) → Unique (λ (r : HeldGiven). r ≡ startHeldGiven verify part p k w sc bs room)
-start-held-unique verify part p k w sc bs room = only (startHeldGiven verify part p k w sc bs room)
+pub start-held-unique : (verify : Bool) (part : Part) (p : Pins) (k : ℕ) (w sc bs : List ℕ) (room : ℕ) → Unique (λ (r : HeldResponse). r ≡ startHeldResponse verify part p k w sc bs room)
+start-held-unique verify part p k w sc bs room = only (startHeldResponse verify part p k w sc bs room)
 
 pub start-held-told-unique : (verify : Bool) (part : Part) (p : Pins) (k : ℕ) (w sc bs : List ℕ) (room : ℕ) → Unique (λ (told : ℕ × List Cycle × List ℕ). told ≡ startHeldTold verify part p k w sc bs room)
 start-held-told-unique verify part p k w sc bs room = only (startHeldTold verify part p k w sc bs room)
 
-pub step-held-unique : (l : Loader) (h : Hold) (v : ℕ) (w sc ps bs : List ℕ) (room : ℕ) → Unique (λ (r : HeldGiven). r ≡ stepHeldGiven l h v w sc ps bs room)
-step-held-unique l h v w sc ps bs room = only (stepHeldGiven l h v w sc ps bs room)
+pub step-held-unique : (l : Loader) (h : Hold) (v : ℕ) (w sc ps bs : List ℕ) (room : ℕ) → Unique (λ (r : HeldResponse). r ≡ stepHeldResponse l h v w sc ps bs room)
+step-held-unique l h v w sc ps bs room = only (stepHeldResponse l h v w sc ps bs room)
 
 pub step-held-told-unique : (l : Loader) (h : Hold) (v : ℕ) (w sc ps bs : List ℕ) (room : ℕ) → Unique (λ (told : ℕ × List Cycle × List ℕ). told ≡ stepHeldTold l h v w sc ps bs room)
 step-held-told-unique l h v w sc ps bs room = only (stepHeldTold l h v w sc ps bs room)

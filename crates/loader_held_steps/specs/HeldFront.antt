@@ -16,18 +16,18 @@ use Rattle.model_types.specs.declared.Cycle.{Cycle}
 use Rattle.loader.specs.declared.Stage.{Stage}
 use Rattle.loader.specs.declared.Stage.the-variants.{Clearing, Opening, Reading, EraseAsking, EraseConfirming, EraseWaiting, ProgramAsking, ProgramSending, ProgramWaiting, Closing, Verifying, Ended}
 use Rattle.loader.specs.declared.Loader.{Loader}
-use Rattle.loader.specs.declared.Turn.{Turn}
-use Rattle.loader.specs.declared.Turn.the-variants.{Out, Over, Barred}
+use Rattle.loader.specs.declared.Saying.{Saying}
+use Rattle.loader.specs.declared.Saying.the-variants.{Out, Over, Refused}
 use Rattle.loader.specs.Stages.{isEnded, endBy}
 use Rattle.loader.specs.Inner.{past}
 use Rattle.loader_steps.specs.Front.{badRecord, setupRows, startRows, recordAt, endAddress}
 use Rattle.loader_held_lists.specs.Listings.{pastArray, inLoaded, roomRows, heldRows}
 use Rattle.loader_held.specs.declared.Step.{Step}
-use Rattle.loader_held.specs.declared.Step.the-variants.{Usual, Halting, Looking, Settling, Turning, Fetching, Resuming}
+use Rattle.loader_held.specs.declared.Step.the-variants.{Usual, Halting, Looking, Settling, ArrayAsking, Fetching, Resuming}
 use Rattle.loader_held.specs.declared.Hold.{Hold}
 use Rattle.loader_held.specs.declared.Pair.{Pair}
 use Rattle.loader_held.specs.Holds.{usual, pairOf, heldNext, heldScratch, heldRoom, heldCycle}
-use Rattle.loader_held_steps.specs.declared.HeldGiven.{HeldGiven}
+use Rattle.loader_held_steps.specs.declared.HeldResponse.{HeldResponse}
 
 -- the cycle that is out belongs to an interruption
 abbrev pub interrupting : Step → Bool
@@ -35,7 +35,7 @@ interrupting Usual = false
 interrupting Halting = true
 interrupting Looking = true
 interrupting Settling = true
-interrupting Turning = true
+interrupting ArrayAsking = true
 interrupting Fetching = true
 interrupting Resuming = true
 
@@ -45,7 +45,7 @@ fetching Usual = false
 fetching Halting = false
 fetching Looking = false
 fetching Settling = false
-fetching Turning = false
+fetching ArrayAsking = false
 fetching Fetching = true
 fetching Resuming = false
 
@@ -79,7 +79,7 @@ placeNext Usual place k = k
 placeNext Halting place k = k
 placeNext Looking place k = k
 placeNext Settling place k = k
-placeNext Turning place k = 0
+placeNext ArrayAsking place k = 0
 placeNext Fetching place k = past place k
 placeNext Resuming place k = k
 
@@ -112,32 +112,32 @@ unfoldable pub stepHeldNumber : Loader → Hold → ℕ → ℕ → List ℕ →
 stepHeldNumber l h w sc bs room = given (stepHeldRows l h w sc bs room)
 
 -- what two records give: the cycle that is out, or their end again
-abbrev pub heldTurnIn : Loader → Hold → List ℕ → List ℕ → Turn
-heldTurnIn l h w bs = if isEnded (l .stage) then Over (endBy (l .stage)) (endAddress l (endBy (l .stage))) else Out (heldCycle (h .step) l h w bs)
+abbrev pub heldSayingIn : Loader → Hold → List ℕ → List ℕ → Saying
+heldSayingIn l h w bs = if isEnded (l .stage) then Over (endBy (l .stage)) (endAddress l (endBy (l .stage))) else Out (heldCycle (h .step) l h w bs)
 
 -- .. beside the two records
-abbrev pub heldGiven : Pair → List ℕ → List ℕ → HeldGiven
-heldGiven q w bs = record { turn = heldTurnIn (q .loader) (q .hold) w bs; pair = q }
+abbrev pub heldResponse : Pair → List ℕ → List ℕ → HeldResponse
+heldResponse q w bs = record { saying = heldSayingIn (q .loader) (q .hold) w bs; pair = q }
 
--- what they tell, by the cases of a turn: its number (0 for a cycle), the cycle given, and the address that an end gives
+-- what they tell, by the cases of a saying: its number (0 for a cycle), the cycle given, and the address that an end gives
 abbrev pub heldTold : Pair → List ℕ → List ℕ → ℕ × List Cycle × List ℕ
 heldTold q w bs =
     if isEnded (q .loader .stage) then (endBy (q .loader .stage), [], endAddress (q .loader) (endBy (q .loader .stage)) ∷ [])
     else (0, heldCycle (q .hold .step) (q .loader) (q .hold) w bs ∷ [], [])
 
 -- a refusal gives the records with it
-abbrev pub heldBarred : ℕ → Pair → HeldGiven
-heldBarred n q = record { turn = Barred n; pair = q }
+abbrev pub heldRefused : ℕ → Pair → HeldResponse
+heldRefused n q = record { saying = Refused n; pair = q }
 
 -- the records at a load's beginning: no poll of the erase has been out
 abbrev pub beginning : Part → Pins → ℕ → Stage → Bool → Pair
 beginning part p k stage verify = pairOf (recordAt part p k stage verify) (usual 0)
 
 -- a start, of a load with the verify after it or of a load alone: a refused one gives a record that has ended with the number
-unfoldable pub startHeldGiven : Bool → Part → Pins → ℕ → List ℕ → List ℕ → List ℕ → ℕ → HeldGiven
-startHeldGiven verify part p k w sc bs room =
-    if eqb (startHeldNumber part p k (length w) (length sc) bs room) 0 then heldGiven (beginning part p k Clearing verify) w bs
-    else heldBarred (startHeldNumber part p k (length w) (length sc) bs room) (beginning part p k (Ended (startHeldNumber part p k (length w) (length sc) bs room)) verify)
+unfoldable pub startHeldResponse : Bool → Part → Pins → ℕ → List ℕ → List ℕ → List ℕ → ℕ → HeldResponse
+startHeldResponse verify part p k w sc bs room =
+    if eqb (startHeldNumber part p k (length w) (length sc) bs room) 0 then heldResponse (beginning part p k Clearing verify) w bs
+    else heldRefused (startHeldNumber part p k (length w) (length sc) bs room) (beginning part p k (Ended (startHeldNumber part p k (length w) (length sc) bs room)) verify)
 
 -- .. what it tells
 unfoldable pub startHeldTold : Bool → Part → Pins → ℕ → List ℕ → List ℕ → List ℕ → ℕ → ℕ × List Cycle × List ℕ
@@ -150,10 +150,10 @@ abbrev pub heldMove : Loader → Hold → ℕ → List ℕ → List ℕ → List
 heldMove l h v w sc ps bs = heldNext (h .step) l h v (length bs) w sc ps
 
 -- a step: what is given ..
-unfoldable pub stepHeldGiven : Loader → Hold → ℕ → List ℕ → List ℕ → List ℕ → List ℕ → ℕ → HeldGiven
-stepHeldGiven l h v w sc ps bs room =
-    if eqb (stepHeldNumber l h (length w) (length sc) bs room) 0 then heldGiven (heldMove l h v w sc ps bs) w bs
-    else heldBarred (stepHeldNumber l h (length w) (length sc) bs room) (pairOf l h)
+unfoldable pub stepHeldResponse : Loader → Hold → ℕ → List ℕ → List ℕ → List ℕ → List ℕ → ℕ → HeldResponse
+stepHeldResponse l h v w sc ps bs room =
+    if eqb (stepHeldNumber l h (length w) (length sc) bs room) 0 then heldResponse (heldMove l h v w sc ps bs) w bs
+    else heldRefused (stepHeldNumber l h (length w) (length sc) bs room) (pairOf l h)
 
 -- .. what it tells ..
 unfoldable pub stepHeldTold : Loader → Hold → ℕ → List ℕ → List ℕ → List ℕ → List ℕ → ℕ → ℕ × List Cycle × List ℕ

@@ -1,8 +1,8 @@
 // A load with interruptions a step at a time: its start, its step, and their tests.
 use device::Part;
 use loader::Loader;
+use loader::Saying;
 use loader::Stage;
-use loader::Turn;
 use loader::stages::stage_is;
 use loader_held::Hold;
 use loader_held::Pair;
@@ -25,13 +25,13 @@ use model_types::Pins;
 ghost use mathlib.Core.Path.{_≡_};
 ghost use lib.ListN.{length};
 ghost use Rattle.units.specs.Units.{units, spare, lent};
-ghost use Rattle.loader_steps.specs.Front.{badRecord, turnTold};
+ghost use Rattle.loader_steps.specs.Front.{badRecord, sayingTold};
 ghost use Rattle.loader_held.specs.Holds.{heldScratch, heldRoom};
-ghost use Rattle.loader_held_steps.specs.HeldFront.{interrupting, fetching, waitsErase, badHold, badPair, placeNext, usedNumber, startHeldNumber, stepHeldNumber, heldTurnIn, heldGiven, heldBarred, beginning, startHeldGiven, startHeldTold, heldMove, stepHeldGiven, stepHeldTold, heldScratchLeft, heldRoomLeft};
+ghost use Rattle.loader_held_steps.specs.HeldFront.{interrupting, fetching, waitsErase, badHold, badPair, placeNext, usedNumber, startHeldNumber, stepHeldNumber, heldSayingIn, heldResponse, heldRefused, beginning, startHeldResponse, startHeldTold, heldMove, stepHeldResponse, stepHeldTold, heldScratchLeft, heldRoomLeft};
 
 // The answer beside the next records.
-pub struct HeldGiven {
-    pub turn: Turn,
+pub struct HeldResponse {
+    pub saying: Saying,
     pub pair: Pair,
 }
 
@@ -43,7 +43,7 @@ fn is_interrupting(step: Step) -> bool
         Step::Halting => true,
         Step::Looking => true,
         Step::Settling => true,
-        Step::Turning => true,
+        Step::ArrayAsking => true,
         Step::Fetching => true,
         Step::Resuming => true,
     }
@@ -57,7 +57,7 @@ fn is_fetching(step: Step) -> bool
         Step::Halting => false,
         Step::Looking => false,
         Step::Settling => false,
-        Step::Turning => false,
+        Step::ArrayAsking => false,
         Step::Fetching => true,
         Step::Resuming => false,
     }
@@ -116,7 +116,7 @@ fn place_next(step: Step, place: usize, k: usize) -> usize
         Step::Halting => k,
         Step::Looking => k,
         Step::Settling => k,
-        Step::Turning => 0,
+        Step::ArrayAsking => 0,
         Step::Fetching => next_place(place, k),
         Step::Resuming => k,
     }
@@ -189,35 +189,35 @@ fn step_number(
     n
 }
 
-fn turn(l: Loader, h: Hold, wanted: &[u8], addresses: &[u32]) -> Turn
-    ensures { λ r. ⌜ r ≡ heldTurnIn l h (units (l .part .word) (now (wanted .entry))) (now (addresses .entry)) ⌝ }
+fn saying(l: Loader, h: Hold, wanted: &[u8], addresses: &[u32]) -> Saying
+    ensures { λ r. ⌜ r ≡ heldSayingIn l h (units (l .part .word) (now (wanted .entry))) (now (addresses .entry)) ⌝ }
 {
     let stage = l.stage;
     let e = stage_is(stage);
     let ended = e.ended;
     if ended {
-        return Turn::Over(e.end, end_address(l, e.end));
+        return Saying::Over(e.end, end_address(l, e.end));
     }
     let step = h.step;
-    Turn::Out(held_out(step, l, h, wanted, addresses))
+    Saying::Out(held_out(step, l, h, wanted, addresses))
 }
 
-fn given_by(q: Pair, wanted: &[u8], addresses: &[u32]) -> HeldGiven
-    ensures { λ r. ⌜ r ≡ heldGiven q (units (q .loader .part .word) (now (wanted .entry))) (now (addresses .entry)) ⌝ }
+fn response_at(q: Pair, wanted: &[u8], addresses: &[u32]) -> HeldResponse
+    ensures { λ r. ⌜ r ≡ heldResponse q (units (q .loader .part .word) (now (wanted .entry))) (now (addresses .entry)) ⌝ }
 {
     let l = q.loader;
     let h = q.hold;
-    HeldGiven {
-        turn: turn(l, h, wanted, addresses),
+    HeldResponse {
+        saying: saying(l, h, wanted, addresses),
         pair: q,
     }
 }
 
-fn barred_by(n: u8, q: Pair) -> HeldGiven
-    ensures { λ r. ⌜ r ≡ heldBarred n q ⌝ }
+fn refused_by(n: u8, q: Pair) -> HeldResponse
+    ensures { λ r. ⌜ r ≡ heldRefused n q ⌝ }
 {
-    HeldGiven {
-        turn: Turn::Barred(n),
+    HeldResponse {
+        saying: Saying::Refused(n),
         pair: q,
     }
 }
@@ -239,9 +239,9 @@ pub fn start_held(
     scratch: &[u8],
     addresses: &[u32],
     room: &[u8],
-) -> HeldGiven
-    ensures { λ r. ⌜ r ≡ startHeldGiven verify part p block (lent (part .word) (now (wanted .entry))) (lent (part .word) (now (scratch .entry))) (now (addresses .entry)) (length (now (room .entry))) ⌝ }
-    ensures told { λ r. ⌜ turnTold (r .turn) ≡ startHeldTold verify part p block (lent (part .word) (now (wanted .entry))) (lent (part .word) (now (scratch .entry))) (now (addresses .entry)) (length (now (room .entry))) ⌝ }
+) -> HeldResponse
+    ensures { λ r. ⌜ r ≡ startHeldResponse verify part p block (lent (part .word) (now (wanted .entry))) (lent (part .word) (now (scratch .entry))) (now (addresses .entry)) (length (now (room .entry))) ⌝ }
+    ensures told { λ r. ⌜ sayingTold (r .saying) ≡ startHeldTold verify part p block (lent (part .word) (now (wanted .entry))) (lent (part .word) (now (scratch .entry))) (now (addresses .entry)) (length (now (room .entry))) ⌝ }
 {
     let word = part.word;
     let n = start_number(
@@ -254,13 +254,13 @@ pub fn start_held(
         room.len(),
     );
     if n == 0 {
-        return given_by(
+        return response_at(
             begin(part, p, block, Stage::Clearing, verify),
             wanted,
             addresses,
         );
     }
-    barred_by(n, begin(part, p, block, Stage::Ended(n), verify))
+    refused_by(n, begin(part, p, block, Stage::Ended(n), verify))
 }
 
 // The data taken: the room, scratch and both records.
@@ -295,9 +295,9 @@ pub fn step_held(
     polls: &[u32],
     addresses: &[u32],
     room: &mut [u8],
-) -> HeldGiven
-    ensures { λ r. ⌜ r ≡ stepHeldGiven (pair .loader) (pair .hold) v (lent (pair .loader .part .word) (now (wanted .entry))) (lent (pair .loader .part .word) (now (scratch .entry))) (now (polls .entry)) (now (addresses .entry)) (length (now (room .entry))) ⌝ }
-    ensures told { λ r. ⌜ turnTold (r .turn) ≡ stepHeldTold (pair .loader) (pair .hold) v (lent (pair .loader .part .word) (now (wanted .entry))) (lent (pair .loader .part .word) (now (scratch .entry))) (now (polls .entry)) (now (addresses .entry)) (length (now (room .entry))) ⌝ }
+) -> HeldResponse
+    ensures { λ r. ⌜ r ≡ stepHeldResponse (pair .loader) (pair .hold) v (lent (pair .loader .part .word) (now (wanted .entry))) (lent (pair .loader .part .word) (now (scratch .entry))) (now (polls .entry)) (now (addresses .entry)) (length (now (room .entry))) ⌝ }
+    ensures told { λ r. ⌜ sayingTold (r .saying) ≡ stepHeldTold (pair .loader) (pair .hold) v (lent (pair .loader .part .word) (now (wanted .entry))) (lent (pair .loader .part .word) (now (scratch .entry))) (now (polls .entry)) (now (addresses .entry)) (length (now (room .entry))) ⌝ }
     ensures { λ _. ⌜ now (scratch .exit) ≡ heldScratchLeft (pair .loader) (pair .hold) v (now (wanted .entry)) (now (scratch .entry)) (now (addresses .entry)) (length (now (room .entry))) ⌝ }
     ensures { λ _. ⌜ now (room .exit) ≡ heldRoomLeft (pair .loader) (pair .hold) v (now (wanted .entry)) (now (scratch .entry)) (now (addresses .entry)) (now (room .entry)) ⌝ }
 {
@@ -315,7 +315,7 @@ pub fn step_held(
     );
     if n == 0 {
         let next = take(l, h, v, wanted, scratch, polls, addresses, room);
-        return given_by(next, wanted, addresses);
+        return response_at(next, wanted, addresses);
     }
-    barred_by(n, pair)
+    refused_by(n, pair)
 }

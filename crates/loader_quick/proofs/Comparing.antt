@@ -101,9 +101,9 @@ module _ (j : Job) (w ys : List ℕ) where
   N = endNumber (j .device) (j .pins) (j .block) w ys
 
   -- a load that did not end well is the run's end
-  pub fault-both : (ranAs false j w ys .end ≡ 0 → ⊥) → ranAs false j w ys ≡ ranAs true j w ys
+  pub fault-load-verify : (ranAs false j w ys .end ≡ 0 → ⊥) → ranAs false j w ys ≡ ranAs true j w ys
   unfolding ranAs
-  fault-both = go (eqb N 0)
+  fault-load-verify = go (eqb N 0)
     where
       go : (t : Bool) → ((if t then wellRan false (j .device) (j .state) (j .block) w ys else faultRan (j .device) (j .state) (j .pins) w ys N) .end ≡ 0 → ⊥)
           → (if t then wellRan false (j .device) (j .state) (j .block) w ys else faultRan (j .device) (j .state) (j .pins) w ys N) ≡ (if t then wellRan true (j .device) (j .state) (j .block) w ys else faultRan (j .device) (j .state) (j .pins) w ys N)
@@ -132,9 +132,9 @@ module _ (j : Job) (w ys : List ℕ) where
     well-scratch = if-true (eqb N 0) w ys (eq-eqb N 0 z)
 
     -- the load, then the verify of what it left
-    pub both-ran : (a : ℕ) (l v : Ran) (zs : List ℕ) → l ≡ ranAs false j w ys → v ≡ verifyRan (j .device .part) (l .state) a w zs → zs ≡ w
+    pub load-verify-ran : (a : ℕ) (l v : Ran) (zs : List ℕ) → l ≡ ranAs false j w ys → v ≡ verifyRan (j .device .part) (l .state) a w zs → zs ≡ w
         → _≡_ {A = Ran} (record { count = l .count + v .count; end = v .end; address = v .address; state = v .state }) (ranAs true j w ys)
-    both-ran a l v zs e f h =
+    load-verify-ran a l v zs e f h =
         (λ i. join (first i) (second i)) ∙ (λ i. record { count = summed i; end = 0; address = 0; state = atRest (erasedFrom (risesIn w ys) (j .block) (j .state)) Array 128 }) ∙ sym (well-ran true)
       where
         join : Ran → Ran → Ran

@@ -11,10 +11,10 @@ use Rattle.device.specs.Parts.{startOf}
 use Rattle.device.proofs.Claims.{blocks-end-inside}
 use Rattle.units.specs.Units.{units, back, bytesIn, torn, lent}
 use Rattle.units.proofs.Widths.{lent-is, lent-whole, back-units, whole, in-law, units-length}
-use Rattle.loader_steps.proofs.Small.{length-small}
+use Rattle.loader_steps.proofs.SmallAddresses.{length-small}
 use Rattle.loader_run.specs.declared.Ran.{Ran}
 use Rattle.loader_run.specs.Runs.{runRows, runNumber, RunLeft, lentNumber, asBytes, runFirst, runLeft, lentRun, doing}
-use Rattle.loader_run.proofs.Good.{Good, good}
+use Rattle.loader_run.proofs.UnrefusedRun.{Good, good}
 use Rattle.loader_run.proofs.Lending.{units-number, some, lent-made, lent-refused}
 use Rattle.loader_run_claims.specs.Ends.{ranAs, bytesAs, scratchAs, Whole}
 use Rattle.loader_run_claims.proofs.Starts.{taken-if}

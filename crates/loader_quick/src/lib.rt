@@ -264,7 +264,7 @@ fn verified(part: Part, s: State, block: u8, array: &[u8], wanted: &[u8], scratc
 }
 
 // A load, and the verify after it where the load ended well.
-fn both(j: Job, array: &mut [u8], wanted: &[u8], scratch: &mut [u8]) -> Ran
+fn load_verify(j: Job, array: &mut [u8], wanted: &[u8], scratch: &mut [u8]) -> Ran
     requires { ⌜ Placed (j .device .part) (j .block) (length (now array)) (length (now wanted)) (length (now scratch)) ⌝ }
     ensures { λ r. ⌜ r ≡ ranAs true j (units (j .device .part .word) (now (wanted .entry))) (heldUnits (j .device .part) (j .block) (now (array .entry)) (now (wanted .entry))) ⌝ }
     ensures { λ _. ⌜ units (j .device .part .word) (now (array .exit)) ≡ bytesAs (j .device) (j .pins) (j .block) (startOf (j .device .part) (j .block)) (units (j .device .part .word) (now (wanted .entry))) (heldUnits (j .device .part) (j .block) (now (array .entry)) (now (wanted .entry))) (units (j .device .part .word) (now (array .entry))) ⌝ }
@@ -298,7 +298,7 @@ fn load_by(verify: bool, j: Job, array: &mut [u8], wanted: &[u8], scratch: &mut 
     ensures { λ _. ⌜ Timed (j .device) ⌝ }
 {
     if verify {
-        return both(j, array, wanted, scratch);
+        return load_verify(j, array, wanted, scratch);
     }
     loaded(j, array, wanted, scratch)
 }

@@ -10,7 +10,7 @@ use Rattle.common.proofs.Choice.{if-true, if-false, unlike}
 use Rattle.device.specs.Parts.{sizeOf, lengthOf}
 use Rattle.device.proofs.Claims.{sizes-some}
 use Rattle.loader_steps.specs.Front.{noBlock, wrongLengths}
-use Rattle.loader_steps.proofs.Again.{some-block}
+use Rattle.loader_steps.proofs.StartAndStep.{some-block}
 use Rattle.loader_steps.proofs.Lending.{both-lengths}
 use lib.ListN.{length}
 use lib.Dec.{eqb}

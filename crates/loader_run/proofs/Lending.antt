@@ -12,11 +12,11 @@ use Rattle.common.proofs.Choice.{if-true, if-false}
 use Rattle.device.proofs.Claims.{blocks-end-inside}
 use Rattle.units.specs.Units.{units, back, torn, lent, lentIn}
 use Rattle.units.proofs.Widths.{lent-length, lent-is, lent-whole, back-units}
-use Rattle.loader_steps.proofs.Again.{some-block}
+use Rattle.loader_steps.proofs.StartAndStep.{some-block}
 use Rattle.loader_run.specs.declared.Ran.{Ran}
 use Rattle.loader_run.specs.Turns.{Config}
 use Rattle.loader_run.specs.Runs.{runNumber, ranBy, driven, RunLeft, runRefused, lentNumber, asBytes, beginning, runEnd, runLeft, lentRun}
-use Rattle.loader_run.proofs.Good.{good}
+use Rattle.loader_run.proofs.UnrefusedRun.{good}
 use Rattle.loader_run.proofs.Leaving.{left-made}
 use Rattle.loader_run.specs.declared.Job.{Job}
 

@@ -1,7 +1,7 @@
 pub mod Leaving
 pub mod Measure
 pub mod Turning
-pub mod Good
+pub mod UnrefusedRun
 pub mod Judging
 pub mod Sound
 pub mod Ending

@@ -14,7 +14,7 @@ use Rattle.loader.specs.declared.Stage.the-variants.{Clearing, Opening, Reading
 use Rattle.loader.specs.declared.Loader.{Loader}
 use Rattle.units.specs.Units.{carried}
 use Rattle.loader.specs.Walks.{nextDiff, diffFrom, risesIn}
-use Rattle.loader.specs.Moves.{statusIn, isReady, eraseFault, programFault, loadedStage, onward, afterReads, afterRead, pollMore, erasePolled, programPolled, verifyMore, nextIn}
+use Rattle.loader.specs.Moves.{statusIn, isReady, eraseEnd, programEnd, loadedStage, onward, afterReads, afterRead, pollMore, erasePolled, programPolled, verifyMore, nextIn}
 use Rattle.loader.specs.Inner.{past}
 use Rattle.loader_steps.specs.Stores.{storeOf}
 use Rattle.model.specs.declared.Seen.{Seen}
@@ -159,7 +159,7 @@ module _ (l : Loader) (w sc : List ℕ) where
   erase-falls : (b : ℕ) → remains (erasePolled l b w sc) (length w) < remainsIn EraseWaiting (length w) (l .place) (l .polls)
   unfolding erasePolled
   erase-falls b =
-      if-ind In (isReady b) _ _ (λ r. if-ind In (eqb (eraseFault b) 0) _ _ (λ f. omega (arith, onward-first)) (λ f. omega arith)) (λ r. erase-poll)
+      if-ind In (isReady b) _ _ (λ r. if-ind In (eqb (eraseEnd b) 0) _ _ (λ f. omega (arith, onward-first)) (λ f. omega arith)) (λ r. erase-poll)
     where
       In : Loader → Type 0
       In r = remains r (length w) < remainsIn EraseWaiting (length w) (l .place) (l .polls)
@@ -167,7 +167,7 @@ module _ (l : Loader) (w sc : List ℕ) where
   program-falls : (b : ℕ) → remains (programPolled l b w sc) (length w) < remainsIn ProgramWaiting (length w) (l .place) (l .polls)
   unfolding programPolled
   program-falls b =
-      if-ind In (isReady b) _ _ (λ r. if-ind In (eqb (programFault b) 0) _ _ (λ f. omega (arith, onward-next (l .place))) (λ f. omega arith)) (λ r. program-poll)
+      if-ind In (isReady b) _ _ (λ r. if-ind In (eqb (programEnd b) 0) _ _ (λ f. omega (arith, onward-next (l .place))) (λ f. omega arith)) (λ r. program-poll)
     where
       In : Loader → Type 0
       In r = remains r (length w) < remainsIn ProgramWaiting (length w) (l .place) (l .polls)

@@ -33,12 +33,12 @@ use Rattle.loader_steps.specs.Outs.{addressIn, carriedIn, cycleAt, cycleAtStage
 use Rattle.loader_steps.specs.Inner.{reach}
 use Rattle.loader_steps.specs.Stores.{storeOf}
 use Rattle.loader_steps.specs.Front.{barredPins, noBlock, recordOf}
-use Rattle.loader_steps.proofs.Again.{some-block, Kept, kept-next}
+use Rattle.loader_steps.proofs.StartAndStep.{some-block, Kept, kept-next}
 use Rattle.loader_run.specs.Turns.{Config, loaderBy, answerTo, arrayTo, moved, turnOf, after}
 use Rattle.loader.specs.Stages.{isEnded, stageIs}
 use Rattle.loader_run.specs.Runs.{runNumber, begin}
 use Rattle.model_types.specs.Phases.{isPending, underWay}
-use Rattle.loader_run.proofs.Good.{Good, good}
+use Rattle.loader_run.proofs.UnrefusedRun.{Good, good}
 use Rattle.loader_run.proofs.Judging.{unasked, unasked-high, judged, stays-calm}
 use Rattle.loader_run.specs.declared.Job.{Job}
 

@@ -12,10 +12,10 @@ use Rattle.loader.specs.declared.Loader.{Loader}
 use Rattle.loader.specs.Moves.{endedBy, nextOf}
 use Rattle.loader_steps.specs.Addresses.{firstAddress}
 use Rattle.loader_steps.specs.Stores.{storeOf}
-use Rattle.loader_steps.proofs.Again.{first-kept}
+use Rattle.loader_steps.proofs.StartAndStep.{first-kept}
 use Rattle.model.specs.declared.Seen.{Seen}
 use Rattle.model.specs.declared.Seen.the-variants.{NoData, Data, Refused}
-use Rattle.loader_run.specs.Turns.{Config, isRefused, numberIn, refusalIn, loaderBy, scratchBy, answerTo, arrayTo, moved, turnOf, after}
+use Rattle.loader_run.specs.Turns.{Config, isRefused, numberIn, refusalNumber, loaderBy, scratchBy, answerTo, arrayTo, moved, turnOf, after}
 use Rattle.loader_run.specs.Inner.{bound}
 use Rattle.loader.specs.Stages.{isEnded}
 use Rattle.loader_run.specs.Runs.{driven}
@@ -28,7 +28,7 @@ took NoData l w sc e = (refl, refl)
 took (Data b) l w sc e = (refl, refl)
 took (Refused n) l w sc e = absurd (unlike e)
 
-pub took-none : (seen : Seen) (l : Loader) (w sc : List ℕ) → isRefused seen ≡ true → (loaderBy seen l w sc ≡ endedBy l (refusalIn seen)) × (scratchBy seen l w sc ≡ sc)
+pub took-none : (seen : Seen) (l : Loader) (w sc : List ℕ) → isRefused seen ≡ true → (loaderBy seen l w sc ≡ endedBy l (refusalNumber seen)) × (scratchBy seen l w sc ≡ sc)
 took-none NoData l w sc e = absurd (unlike (sym e))
 took-none (Data b) l w sc e = absurd (unlike (sym e))
 took-none (Refused n) l w sc e = (refl, refl)

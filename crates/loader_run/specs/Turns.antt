@@ -36,10 +36,10 @@ numberIn (Data b) = b
 numberIn (Refused n) = n
 
 -- the number of a refusal, 0 where the answer is none
-abbrev pub refusalIn : Seen → ℕ
-refusalIn NoData = 0
-refusalIn (Data v) = 0
-refusalIn (Refused n) = n
+abbrev pub refusalNumber : Seen → ℕ
+refusalNumber NoData = 0
+refusalNumber (Data v) = 0
+refusalNumber (Refused n) = n
 
 -- what the loader makes of the model's answer: it takes the data, 0 where none are given; a refusal would end the load
 abbrev pub loaderBy : Seen → Loader → List ℕ → List ℕ → Loader

@@ -28,7 +28,7 @@ ghost use Rattle.loader_steps.specs.Addresses.{firstAddress};
 ghost use Rattle.loader_steps.specs.Inner.{hereOf};
 ghost use Rattle.loader_steps.specs.Outs.{cycleOf};
 ghost use Rattle.loader_steps.specs.Front.{recordOf};
-ghost use Rattle.loader_run.specs.Turns.{isRefused, numberIn, refusalIn, loaderBy, scratchBy, answerTo, arrayTo};
+ghost use Rattle.loader_run.specs.Turns.{isRefused, numberIn, refusalNumber, loaderBy, scratchBy, answerTo, arrayTo};
 ghost use Rattle.units.specs.Units.{units};
 ghost use Rattle.loader_run.specs.Runs.{runNumber, beginning, ranBy, driven, lentRun};
 ghost use Rattle.model_types.specs.Phases.{underWay};
@@ -77,8 +77,8 @@ fn number_in(seen: Seen) -> u16
     }
 }
 
-fn refusal_in(seen: Seen) -> u8
-    ensures { λ r. ⌜ r ≡ refusalIn seen ⌝ }
+fn refusal_number(seen: Seen) -> u8
+    ensures { λ r. ⌜ r ≡ refusalNumber seen ⌝ }
 {
     match seen {
         Seen::NoData => 0,
@@ -93,7 +93,7 @@ fn taken(seen: Seen, l: Loader, wanted: &[u8], scratch: &mut [u8]) -> Loader
     ensures { λ _. ⌜ units (l .part .word) (now (scratch .exit)) ≡ scratchBy seen l (units (l .part .word) (now (wanted .entry))) (units (l .part .word) (now (scratch .entry))) ⌝ }
 {
     if is_refused(seen) {
-        return ended_by(l, refusal_in(seen));
+        return ended_by(l, refusal_number(seen));
     }
     let v = number_in(seen);
     advance(l, v, wanted, scratch)
@@ -111,7 +111,7 @@ fn here(start: u32, l: Loader) -> u32
 }
 
 // One cycle made, by the block's first address. Refusals 1 to 6 do not apply to it.
-fn both(d: Device, start: u32, h: Held, wanted: &[u8], scratch: &mut [u8], array: &mut [u8]) -> Held
+fn turn(d: Device, start: u32, h: Held, wanted: &[u8], scratch: &mut [u8], array: &mut [u8]) -> Held
     requires { ⌜ (h .loader .part ≡ d .part) × (start ≡ firstAddress (h .loader)) × (judgeOf d (h .state) (cycleOf (h .loader) (units (d .part .word) (now wanted))) (length (units (d .part .word) (now array))) 0 ≡ 0) ⌝ }
     ensures { λ r. ⌜ r .loader
         ≡ loaderBy (answerTo d (units (d .part .word) (now (wanted .entry))) (h .loader) (h .state) (units (d .part .word) (now (array .entry))) .seen) (h .loader) (units (d .part .word) (now (wanted .entry))) (units (d .part .word) (now (scratch .entry))) ⌝ }
@@ -167,7 +167,7 @@ fn drive(j: Job, wanted: &[u8], scratch: &mut [u8], array: &mut [u8]) -> Ran
     let mut state = j.state;
     let mut count: u64 = 0;
     while going(moving) {
-        let h = both(
+        let h = turn(
             d,
             start,
             Held {

@@ -21,7 +21,7 @@ use Rattle.model.proofs.Keeping.{times}
 use Rattle.loader.specs.declared.Stage.the-variants.{Ended}
 use Rattle.loader.specs.declared.Loader.{Loader}
 use Rattle.loader.specs.Walks.{risesIn, diffFrom}
-use Rattle.loader.specs.Moves.{isReady, eraseFault, programFault}
+use Rattle.loader.specs.Moves.{isReady, eraseEnd, programEnd}
 use Rattle.loader.specs.declared.Stage.{Stage}
 use Rattle.model_types.specs.declared.Cycle.{Cycle}
 use lib.Bits.{bitOr}
@@ -31,7 +31,7 @@ use Rattle.loader_run_claims.specs.Wear.{heldIn, baseOf, programsIn, for
 use Rattle.loader_run_claims.specs.Made.{openingThen, closingBy, cyclesBy}
 use Rattle.loader_run_claims.specs.Ends.{asWanted, loadedMode, endMode, erasedFrom, eraseTried, programTried, faultCycles}
 use Rattle.loader_run.proofs.Turning.{conf}
-use Rattle.loader_run.proofs.Good.{Good}
+use Rattle.loader_run.proofs.UnrefusedRun.{Good}
 use Rattle.loader_run_claims.specs.Mission.{Taken}
 use Rattle.loader_run_claims.proofs.Starts.{none-refuses}
 use Rattle.loader_run_claims.proofs.Answers.{Up, Ready, Stuck}
@@ -157,14 +157,14 @@ module _ (verify : Bool) (j : Job) (xs w sc : List ℕ) (t : Taken j xs w sc) wh
       back = λ m. conf (rec (Ended n) i) (atRest (j .state) Status x) (over-self xs a (length w) (grounds.fitting j xs w sc n0) m) ys ((let z : 2 + length w + 3 ≡ length w + 5 = omega arith in z) m)
 
   -- .. an erase
-  pub erase-load : (low x n : ℕ) → Stuck (j .device) (j .pins) (j .block) low → bitOr (bitOr 128 low) 32 ≡ x → fits 2 x ≡ true → isReady x ≡ true → eraseFault x ≡ n → eqb n 0 ≡ false → risesIn w ys ≡ true
+  pub erase-load : (low x n : ℕ) → Stuck (j .device) (j .pins) (j .block) low → bitOr (bitOr 128 low) 32 ≡ x → fits 2 x ≡ true → isReady x ≡ true → eraseEnd x ≡ n → eqb n 0 ≡ false → risesIn w ys ≡ true
       → Left (doing (Load verify) j) xs w sc (broken n x 0) [] (faultCycles (j .pins) a w ys)
   erase-load low x n stuck q f ready e z y =
       stopped n x 0 (eraseTried (j .pins) a) (faults.erase-fails verify (j .device) (j .pins) (j .block) u (j .state) w (g .wanted) some xs (g .sized) ys ly low x n (2 + length w) stuck q f ready e z y)
       (faultCycles (j .pins) a w ys) (ap (λ (cs : List Cycle). openingThen (j .pins) a (length w) cs) (if-true (risesIn w ys) _ _ y))
 
   -- .. a program
-  pub program-load : (low x n : ℕ) → Stuck (j .device) (j .pins) (j .block) low → bitOr (bitOr 128 low) 16 ≡ x → fits 2 x ≡ true → isReady x ≡ true → programFault x ≡ n → eqb n 0 ≡ false → risesIn w ys ≡ false
+  pub program-load : (low x n : ℕ) → Stuck (j .device) (j .pins) (j .block) low → bitOr (bitOr 128 low) 16 ≡ x → fits 2 x ≡ true → isReady x ≡ true → programEnd x ≡ n → eqb n 0 ≡ false → risesIn w ys ≡ false
       → asWanted w ys ≡ false → Left (doing (Load verify) j) xs w sc (broken n x (diffFrom 0 w ys)) [] (faultCycles (j .pins) a w ys)
   program-load low x n stuck q f ready e z y o =
       stopped n x (diffFrom 0 w ys) (programTried (j .pins) (a + diffFrom 0 w ys) (getD w (diffFrom 0 w ys) 0))

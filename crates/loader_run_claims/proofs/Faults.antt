@@ -33,7 +33,7 @@ use Rattle.loader.specs.declared.Stage.{Stage}
 use Rattle.loader.specs.declared.Stage.the-variants.{EraseAsking, EraseConfirming, EraseWaiting, ProgramAsking, ProgramSending, ProgramWaiting, Ended}
 use Rattle.loader.specs.declared.Loader.{Loader}
 use Rattle.loader.specs.Walks.{risesIn, diffFrom}
-use Rattle.loader.specs.Moves.{nextOf, loadedStage, isReady, eraseFault, programFault, erasePolled, programPolled}
+use Rattle.loader.specs.Moves.{nextOf, loadedStage, isReady, eraseEnd, programEnd, erasePolled, programPolled}
 use Rattle.loader_steps.specs.Stores.{storeOf, erasedWell, programmedWell}
 use Rattle.loader_run.specs.Turns.{Config}
 use Rattle.loader.specs.Stages.{isEnded}
@@ -116,11 +116,11 @@ module _ (verify : Bool) (d : Device) (p : Pins) (k : ℕ) (u : Up d p) (was : S
         (arrive d w _ _ (ap (λ (m : ℕ). conf (rec (Ended n) i 0) (atRest was Status x) X sc m) (let z : cnt + 1 + 1 + 1 ≡ cnt + 3 = omega arith in z)))))
 
   -- a ready status with a fault ends the load, and scratch stays
-  pub erase-ends : (x n : ℕ) (sc : List ℕ) → x % 256 ≡ x → isReady x ≡ true → eraseFault x ≡ n → eqb n 0 ≡ false → nextOf (rec EraseWaiting 0 0) x w sc ≡ rec (Ended n) 0 0
+  pub erase-ends : (x n : ℕ) (sc : List ℕ) → x % 256 ≡ x → isReady x ≡ true → eraseEnd x ≡ n → eqb n 0 ≡ false → nextOf (rec EraseWaiting 0 0) x w sc ≡ rec (Ended n) 0 0
   unfolding erasePolled
   erase-ends x n sc y ready e z = simp (y, ready, e, z)
 
-  pub erase-keeps : (x n : ℕ) (sc : List ℕ) → x % 256 ≡ x → eraseFault x ≡ n → eqb n 0 ≡ false → storeOf (rec EraseWaiting 0 0) x w sc ≡ sc
+  pub erase-keeps : (x n : ℕ) (sc : List ℕ) → x % 256 ≡ x → eraseEnd x ≡ n → eqb n 0 ≡ false → storeOf (rec EraseWaiting 0 0) x w sc ≡ sc
   unfolding erasedWell
   erase-keeps x n sc y e z = rw (y, e, z) (go (isReady x))
     where
@@ -128,11 +128,11 @@ module _ (verify : Bool) (d : Device) (p : Pins) (k : ℕ) (u : Up d p) (was : S
       go true = refl
       go false = refl
 
-  program-ends : (i x n : ℕ) (sc : List ℕ) → x % 256 ≡ x → isReady x ≡ true → programFault x ≡ n → eqb n 0 ≡ false → nextOf (rec ProgramWaiting i 0) x w sc ≡ rec (Ended n) i 0
+  program-ends : (i x n : ℕ) (sc : List ℕ) → x % 256 ≡ x → isReady x ≡ true → programEnd x ≡ n → eqb n 0 ≡ false → nextOf (rec ProgramWaiting i 0) x w sc ≡ rec (Ended n) i 0
   unfolding programPolled
   program-ends i x n sc y ready e z = simp (y, ready, e, z)
 
-  program-keeps : (i x n : ℕ) (sc : List ℕ) → x % 256 ≡ x → programFault x ≡ n → eqb n 0 ≡ false → storeOf (rec ProgramWaiting i 0) x w sc ≡ sc
+  program-keeps : (i x n : ℕ) (sc : List ℕ) → x % 256 ≡ x → programEnd x ≡ n → eqb n 0 ≡ false → storeOf (rec ProgramWaiting i 0) x w sc ≡ sc
   unfolding programmedWell
   program-keeps i x n sc y e z = rw (y, e, z) (go (isReady x))
     where
@@ -151,7 +151,7 @@ module _ (verify : Bool) (d : Device) (p : Pins) (k : ℕ) (u : Up d p) (was : S
     judged cnt = conf (if risesIn w ys then rec EraseAsking 0 0 else phases.onto verify d p k u was w lw some 0 ys) (atRest was Array 128) X ys cnt
 
     -- an erase that cannot start
-    pub erase-fails : (low x n cnt : ℕ) → Stuck d p k low → bitOr (bitOr 128 low) 32 ≡ x → fits 2 x ≡ true → isReady x ≡ true → eraseFault x ≡ n → eqb n 0 ≡ false → risesIn w ys ≡ true
+    pub erase-fails : (low x n cnt : ℕ) → Stuck d p k low → bitOr (bitOr 128 low) 32 ≡ x → fits 2 x ≡ true → isReady x ≡ true → eraseEnd x ≡ n → eqb n 0 ≡ false → risesIn w ys ≡ true
         → Reach d w (judged cnt) (conf (rec (Ended n) 0 0) (atRest was Status x) X ys (cnt + 3)) [] (eraseTried p a)
     erase-fails low x n cnt stuck q f ready e z t =
         subst (λ (l : Loader). Reach d w (conf l (atRest was Array 128) X ys cnt) (conf (rec (Ended n) 0 0) (atRest was Status x) X ys (cnt + 3)) [] (eraseTried p a))
@@ -167,7 +167,7 @@ module _ (verify : Bool) (d : Device) (p : Pins) (k : ℕ) (u : Up d p) (was : S
         a-inside = phases.a-inside verify d p k u was w lw some
 
     -- a program that cannot start
-    pub program-fails : (low x n cnt : ℕ) → Stuck d p k low → bitOr (bitOr 128 low) 16 ≡ x → fits 2 x ≡ true → isReady x ≡ true → programFault x ≡ n → eqb n 0 ≡ false → risesIn w ys ≡ false
+    pub program-fails : (low x n cnt : ℕ) → Stuck d p k low → bitOr (bitOr 128 low) 16 ≡ x → fits 2 x ≡ true → isReady x ≡ true → programEnd x ≡ n → eqb n 0 ≡ false → risesIn w ys ≡ false
         → asWanted w ys ≡ false
         → Reach d w (judged cnt) (conf (rec (Ended n) (diffFrom 0 w ys) 0) (atRest was Status x) X ys (cnt + 3)) []
         (programTried p (a + diffFrom 0 w ys) (getD w (diffFrom 0 w ys) 0))

@@ -36,7 +36,7 @@ use Rattle.loader_run_claims.specs.Wear.{noted, begunTurn, begunIn, begu
 use Rattle.loader_run_claims.specs.Made.{madeIn, cyclesAt, smoothTurn, smoothIn, smoothAt}
 use Rattle.loader_run.proofs.Ending.{always-ends}
 use Rattle.loader_run.proofs.Turning.{turn-ended, ended-stays}
-use Rattle.loader_run.proofs.Good.{Good, good}
+use Rattle.loader_run.proofs.UnrefusedRun.{Good, good}
 use Rattle.loader_run_claims.proofs.Starts.{levels-of}
 use Rattle.loader_run_claims.proofs.Answers.{Up}
 use Rattle.loader_run_claims.proofs.Reaching.{Reach}

@@ -36,7 +36,7 @@ use Rattle.loader_run.specs.Inner.{bound}
 use Rattle.loader_run.specs.Runs.{driven, beginning, runEnd, runLeft, doing}
 use Rattle.loader_run_claims.specs.Wear.{begunAt, heldIn, heldBy, baseOf, erasesOf, programsIn, programsOf, differing, formula, loadFormula, formulaBy, operationsOf}
 use Rattle.model_history.specs.History.{Bus, World, worldOf, worldAfter, effectsIn, begunOver, uncut, totalOf, eraseOf, programIn, programOf, erasesBegun, programsBegun}
-use Rattle.loader_run.proofs.Good.{good}
+use Rattle.loader_run.proofs.UnrefusedRun.{good}
 use Rattle.loader_run_claims.specs.Made.{cyclesAt, smoothAt, cyclesBy, readsThen, pollsThen, openingThen, eraseThen, programThen, programsThen, closingBy, programmingThen, loadThen}
 use Rattle.loader_run_claims.specs.Ends.{endMode, erasedFrom}
 use Rattle.loader_run_claims.specs.Mission.{Start, Brings, ownCycles, NoFewer, Demand3}
@@ -121,15 +121,15 @@ load-long d p a w ys cs = go (risesIn w ys) (programs-long d p (length w) a 0 w 
     go false e = rw (zero-mul (2 + d .erase)) (let r = reads-long p (length w) a 0 (programmingThen d p a w ys cs) in omega arith)
 
 -- the count of a run is that of its load, and n + 1 for the verify
-pub formula-both : (d : Device) (w ys : List ℕ) → formula d w ys ≡ loadFormula d w ys + (length w + 1)
-formula-both d w ys = go (length w) (erasesOf w ys * (2 + d .erase)) (programsIn (d .part) w ys * (2 + d .program))
+pub formula-load-verify : (d : Device) (w ys : List ℕ) → formula d w ys ≡ loadFormula d w ys + (length w + 1)
+formula-load-verify d w ys = go (length w) (erasesOf w ys * (2 + d .erase)) (programsIn (d .part) w ys * (2 + d .program))
   where
     go : (n e q : ℕ) → 2 * n + 3 + e + q ≡ n + 2 + e + q + (n + 1)
     go n e q = omega arith
 
 pub cycles-long : (verify : Bool) (d : Device) (p : Pins) (a : ℕ) (w ys : List ℕ) → length (cyclesBy verify d p a w ys) ≡ formulaBy verify d w ys
 cycles-long true d p a w ys =
-    load-long d p a w ys (closingBy true p a (length w)) ∙ ap (λ (n : ℕ). loadFormula d w ys + n) (closing-long true p a (length w)) ∙ sym (formula-both d w ys)
+    load-long d p a w ys (closingBy true p a (length w)) ∙ ap (λ (n : ℕ). loadFormula d w ys + n) (closing-long true p a (length w)) ∙ sym (formula-load-verify d w ys)
 cycles-long false d p a w ys = load-long d p a w ys [] ∙ (let z : loadFormula d w ys + 0 ≡ loadFormula d w ys = omega arith in z)
 
 -- a block that is there is one of seven

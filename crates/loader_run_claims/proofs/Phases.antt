@@ -40,14 +40,14 @@ use Rattle.loader.specs.declared.Stage.{Stage}
 use Rattle.loader.specs.declared.Stage.the-variants.{Clearing, Opening, Reading, EraseAsking, EraseConfirming, EraseWaiting, ProgramAsking, ProgramSending, ProgramWaiting, Closing, Verifying, Ended}
 use Rattle.loader.specs.declared.Loader.{Loader}
 use Rattle.loader.specs.Walks.{mustRise, rises, nextDiff, diffFrom, risesIn}
-use Rattle.loader.specs.Moves.{nextOf, loadedStage, onward, afterReads, afterRead, pollMore, erasePolled, programPolled, verifyMore, eraseFault, programFault, bothErrors}
+use Rattle.loader.specs.Moves.{nextOf, loadedStage, onward, afterReads, afterRead, pollMore, erasePolled, programPolled, verifyMore, eraseEnd, programEnd, bothErrors}
 use Rattle.loader.specs.Inner.{past}
 use Rattle.loader_steps.specs.Addresses.{firstAddress}
 use Rattle.loader_steps.specs.Inner.{hereOf}
 use Rattle.loader_steps.specs.Outs.{cycleOf}
 use Rattle.loader_steps.specs.Stores.{storeOf, erasedWell, programmedWell}
-use Rattle.loader_steps.proofs.Small.{length-small}
-use Rattle.loader.proofs.Walking.{diff-turn, diff-over}
+use Rattle.loader_steps.proofs.SmallAddresses.{length-small}
+use Rattle.loader.proofs.Walking.{diff-round, diff-over}
 use Rattle.model_types.specs.declared.Cycle.{Cycle}
 use Rattle.model.specs.Begun.{pendingIn, begunFrom}
 use Rattle.model_types.specs.Phases.{isBusy, isAwaited}
@@ -351,7 +351,7 @@ module _ (verify : Bool) (d : Device) (p : Pins) (k : ℕ) (u : Up d p) (was : S
 
     -- a program that ended well goes on to the next differing byte
     programmed : (i q : ℕ) (sc : List ℕ) → i < length w → programPolled (rec ProgramWaiting i q) 128 w sc ≡ onto (i + 1) sc
-    unfolding programPolled programFault bothErrors past
+    unfolding programPolled programEnd bothErrors past
     programmed i q sc h = ap (λ (j : ℕ). onward (rec ProgramWaiting i q) j w sc) (if-true (ltb i (length w)) (i + 1) i (lt-ltb i (length w) h)) ∙ onward-onto ProgramWaiting i q (i + 1) sc
 
     program-poll : (i q : ℕ) (sc : List ℕ) → nextOf (rec ProgramWaiting i q) 0 w sc ≡ pollMore (rec ProgramWaiting i q) ProgramWaiting
@@ -364,7 +364,7 @@ module _ (verify : Bool) (d : Device) (p : Pins) (k : ℕ) (u : Up d p) (was : S
     program-keeps i q sc = refl
 
     program-stores : (i q : ℕ) (sc : List ℕ) → storeOf (rec ProgramWaiting i q) 128 w sc ≡ set sc i (getD w i 0)
-    unfolding programmedWell programFault bothErrors
+    unfolding programmedWell programEnd bothErrors
     program-stores i q sc = refl
 
     -- one byte programmed: 40H, the byte, P polls
@@ -429,14 +429,14 @@ module _ (verify : Bool) (d : Device) (p : Pins) (k : ℕ) (u : Up d p) (was : S
     onto-differs : (i : ℕ) (sc : List ℕ) → i < length w → eqb (getD sc i 0) (getD w i 0) ≡ false → onto i sc ≡ rec ProgramAsking i 0
     unfolding diffFrom
     onto-differs i sc h e =
-        let q : nextDiff (length w - i) i w sc ≡ i = diff-turn (length w) i w sc h ∙ if-false (eqb (getD sc i 0) (getD w i 0)) (nextDiff (length w - (i + 1)) (i + 1) w sc) i e in
+        let q : nextDiff (length w - i) i w sc ≡ i = diff-round (length w) i w sc h ∙ if-false (eqb (getD sc i 0) (getD w i 0)) (nextDiff (length w - (i + 1)) (i + 1) w sc) i e in
         ap (λ (j : ℕ). (if ltb j (length w) then rec ProgramAsking j 0 else rec (loadedStage verify) 0 0)) q ∙ if-true (ltb i (length w)) _ _ (lt-ltb i (length w) h)
 
     onto-agrees : (i : ℕ) (sc : List ℕ) → i < length w → eqb (getD sc i 0) (getD w i 0) ≡ true → onto i sc ≡ onto (i + 1) sc
     unfolding diffFrom
     onto-agrees i sc h e =
         let q : nextDiff (length w - i) i w sc ≡ nextDiff (length w - (i + 1)) (i + 1) w sc =
-        diff-turn (length w) i w sc h ∙ if-true (eqb (getD sc i 0) (getD w i 0)) (nextDiff (length w - (i + 1)) (i + 1) w sc) i e in
+        diff-round (length w) i w sc h ∙ if-true (eqb (getD sc i 0) (getD w i 0)) (nextDiff (length w - (i + 1)) (i + 1) w sc) i e in
         ap (λ (j : ℕ). (if ltb j (length w) then rec ProgramAsking j 0 else rec (loadedStage verify) 0 0)) q
 
     -- the mode that n programs leave: read status after the first
@@ -514,15 +514,15 @@ module _ (verify : Bool) (d : Device) (p : Pins) (k : ℕ) (u : Up d p) (was : S
     erase-poll q sc = refl
 
     erase-keeps : (q : ℕ) (sc : List ℕ) → storeOf (rec EraseWaiting 0 q) 0 w sc ≡ sc
-    unfolding erasedWell eraseFault bothErrors
+    unfolding erasedWell eraseEnd bothErrors
     erase-keeps q sc = refl
 
     pub erase-fills : (q : ℕ) (sc : List ℕ) → length sc ≡ length w → storeOf (rec EraseWaiting 0 q) 128 w sc ≡ blank
-    unfolding erasedWell eraseFault bothErrors
+    unfolding erasedWell eraseEnd bothErrors
     erase-fills q sc e = ap (λ (n : ℕ). replicate n (ones (d .part))) e
 
     pub erased-on : (q : ℕ) (sc : List ℕ) → nextOf (rec EraseWaiting 0 q) 128 w sc ≡ onto 0 sc
-    unfolding erasePolled eraseFault bothErrors
+    unfolding erasePolled eraseEnd bothErrors
     erased-on q sc = onward-onto EraseWaiting 0 q 0 sc
 
     -- the erase: 20H, D0H, E polls

@@ -18,7 +18,7 @@ use Rattle.model_types.specs.Levels.{rpLow, badPins}
 use Rattle.model_rules.proofs.Facts.{parts-proper}
 use Rattle.loader_steps.specs.Front.{barredPins, wrongLengths}
 use Rattle.loader_run.specs.Runs.{runRows, runNumber, runFirst}
-use Rattle.loader_run.proofs.Good.{good}
+use Rattle.loader_run.proofs.UnrefusedRun.{good}
 use Rattle.loader_run_claims.specs.Mission.{Taken}
 use Rattle.loader_run.specs.declared.Job.{Job}
 

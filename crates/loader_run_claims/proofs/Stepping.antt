@@ -34,13 +34,13 @@ use Rattle.model.proofs.Outcome.{outcome, accept-cases}
 use Rattle.loader.specs.declared.Stage.{Stage}
 use Rattle.loader.specs.declared.Stage.the-variants.{Clearing, Opening, Reading, EraseAsking, EraseConfirming, EraseWaiting, ProgramAsking, ProgramSending, ProgramWaiting, Closing, Verifying, Ended}
 use Rattle.loader.specs.declared.Loader.{Loader}
-use Rattle.loader.specs.declared.Turn.the-variants.{Out, Over}
-use Rattle.loader.specs.declared.Given.{Given}
+use Rattle.loader.specs.declared.Saying.the-variants.{Out, Over}
+use Rattle.loader.specs.declared.Response.{Response}
 use Rattle.loader.specs.Moves.{nextIn, nextOf}
 use Rattle.loader_steps.specs.Outs.{cycleOf}
 use Rattle.loader_steps.specs.Stores.{storeIn, storeOf}
-use Rattle.loader_steps.specs.Front.{barredPins, startNumber, stepNumber, endAddress, turnIn, turnGiven, stepGiven, scratchAfter, recordOf}
-use Rattle.loader_steps.proofs.Again.{taken, start-gives, start-again, step-on, step-again}
+use Rattle.loader_steps.specs.Front.{barredPins, startNumber, stepNumber, endAddress, sayingIn, responseAt, stepResponse, scratchAfter, recordOf}
+use Rattle.loader_steps.proofs.StartAndStep.{taken, start-gives, start-again, step-on, step-again}
 use Rattle.loader_run.specs.declared.Ran.{Ran}
 use Rattle.loader_run.specs.Turns as turns
 use Rattle.loader_run.specs.Turns.{Config, numberIn, answerTo, moved, turnOf, after}
@@ -165,10 +165,10 @@ module _ (d : Device) (w : List ℕ) (c : Config) (going : isEnded (c .loader .s
   turn-passes : stepNumber (turnOf d w c .loader) (length w) (length (turnOf d w c .scratch)) ≡ 0
   turn-passes =
       let s = step-on (c .loader) (numberIn seen) w (c .scratch) passes in
-      let l : stepGiven (c .loader) (numberIn seen) w (c .scratch) .loader ≡ turnOf d w c .loader = ap (λ (g : Given). g .loader) (s .0) ∙ sym turn-loader in
+      let l : stepResponse (c .loader) (numberIn seen) w (c .scratch) .loader ≡ turnOf d w c .loader = ap (λ (g : Response). g .loader) (s .0) ∙ sym turn-loader in
       let r : scratchAfter (c .loader) (numberIn seen) w (c .scratch) ≡ turnOf d w c .scratch = s .1 ∙ sym turn-scratch in
       subst (λ (x : Loader). stepNumber x (length w) (length (turnOf d w c .scratch)) ≡ 0) l
-      (subst (λ (x : List ℕ). stepNumber (stepGiven (c .loader) (numberIn seen) w (c .scratch) .loader) (length w) (length x) ≡ 0) r
+      (subst (λ (x : List ℕ). stepNumber (stepResponse (c .loader) (numberIn seen) w (c .scratch) .loader) (length w) (length x) ≡ 0) r
       (step-again (c .loader) (numberIn seen) w (c .scratch) passes))
 
   -- the step with the byte handed on gives and leaves the same
@@ -176,8 +176,8 @@ module _ (d : Device) (w : List ℕ) (c : Config) (going : isEnded (c .loader .s
     same : Alike (c .loader .stage) (c .loader) w (c .scratch) b (numberIn seen)
     same = alike (c .loader .stage) (c .loader) w (c .scratch) b (numberIn seen) (λ kind. handed (numberIn seen) kind (turn-read kind))
 
-    pub step-given : stepGiven (c .loader) b w (c .scratch) ≡ turnGiven (turnOf d w c .loader) w
-    step-given = step-on (c .loader) b w (c .scratch) passes .0 ∙ ap (λ (l : Loader). turnGiven l w) (same .next ∙ sym turn-loader)
+    pub step-response : stepResponse (c .loader) b w (c .scratch) ≡ responseAt (turnOf d w c .loader) w
+    step-response = step-on (c .loader) b w (c .scratch) passes .0 ∙ ap (λ (l : Loader). responseAt l w) (same .next ∙ sym turn-loader)
 
     pub step-stored : scratchAfter (c .loader) b w (c .scratch) ≡ turnOf d w c .scratch
     step-stored = step-on (c .loader) b w (c .scratch) passes .1 ∙ same .stored ∙ sym turn-scratch
@@ -200,8 +200,8 @@ start-passes j array w sc r =
     no-row-given (past (known-part (j .device) (no-head r)) (past (no-head r4) (past (no-head r5) (past (no-head r6) end))))
 
 -- a record that has ended tells its number and address
-pub over-given : (stage : Stage) (l : Loader) (w : List ℕ) → isEnded stage ≡ true → turnIn stage l w ≡ Over (endBy stage) (endAddress l (endBy stage))
-over-given stage l w e = if-true (isEnded stage) (Over (endBy stage) (endAddress l (endBy stage))) (Out (cycleOf l w)) e
+pub over-said : (stage : Stage) (l : Loader) (w : List ℕ) → isEnded stage ≡ true → sayingIn stage l w ≡ Over (endBy stage) (endAddress l (endBy stage))
+over-said stage l w e = if-true (isEnded stage) (Over (endBy stage) (endAddress l (endBy stage))) (Out (cycleOf l w)) e
 
 -- a run whose cycles the model takes, stepped by hand
 module _ (j : Job) (xs w sc : List ℕ) (free : NoRow (runRows j (length xs) (length w) (length sc)))
@@ -232,7 +232,7 @@ module _ (j : Job) (xs w sc : List ℕ) (free : NoRow (runRows j (length xs) (le
   passes : (o : ℕ) → stepNumber (at o .loader) (length w) (length (at o .scratch)) ≡ 0
   passes zero =
       let q = start-passes j (length xs) (length w) (length sc) free in
-      subst (λ (g : Given). stepNumber (g .loader) (length w) (length sc) ≡ 0) (start-gives (j .work) (j .device .part) (j .pins) (j .block) w sc q) (start-again (j .work) (j .device .part) (j .pins) (j .block) w sc q)
+      subst (λ (g : Response). stepNumber (g .loader) (length w) (length sc) ≡ 0) (start-gives (j .work) (j .device .part) (j .pins) (j .block) w sc q) (start-again (j .work) (j .device .part) (j .pins) (j .block) w sc q)
   passes (suc o) = subst (λ (c : Config). stepNumber (c .loader) (length w) (length (c .scratch)) ≡ 0) (sym (last o)) (go (over o) refl (passes o))
     where
       go : (t : Bool) → over o ≡ t → stepNumber (at o .loader) (length w) (length (at o .scratch)) ≡ 0
@@ -259,13 +259,13 @@ module _ (j : Job) (xs w sc : List ℕ) (free : NoRow (runRows j (length xs) (le
   ended-as : (o : ℕ) → over o ≡ false → over (suc o) ≡ true → ranBy (at (suc o)) ≡ ran
   ended-as o e z = sym (promise .returned ∙ ap (λ (i : ℕ). ranBy (at i)) (counting o e z))
 
-  stepping : (o b : ℕ) → over o ≡ false → Handed (j .device) w (at o) b → stepGiven (at o .loader) b w (at o .scratch) ≡ turnGiven (at (suc o) .loader) w
-  stepping o b e h = step-given (j .device) w (at o) e (fine o e) (passes o) b h ∙ ap (λ (c : Config). turnGiven (c .loader) w) (sym (last o))
+  stepping : (o b : ℕ) → over o ≡ false → Handed (j .device) w (at o) b → stepResponse (at o .loader) b w (at o .scratch) ≡ responseAt (at (suc o) .loader) w
+  stepping o b e h = step-response (j .device) w (at o) e (fine o e) (passes o) b h ∙ ap (λ (c : Config). responseAt (c .loader) w) (sym (last o))
 
-  ending : (o b : ℕ) → over o ≡ false → over (suc o) ≡ true → Handed (j .device) w (at o) b → stepGiven (at o .loader) b w (at o .scratch) .turn ≡ Over (ran .end) (ran .address)
+  ending : (o b : ℕ) → over o ≡ false → over (suc o) ≡ true → Handed (j .device) w (at o) b → stepResponse (at o .loader) b w (at o .scratch) .saying ≡ Over (ran .end) (ran .address)
   ending o b e z h =
-      ap (λ (g : Given). g .turn) (stepping o b e h)
-      ∙ over-given (at (suc o) .loader .stage) (at (suc o) .loader) w z
+      ap (λ (g : Response). g .saying) (stepping o b e h)
+      ∙ over-said (at (suc o) .loader .stage) (at (suc o) .loader) w z
       ∙ ap (λ (r : Ran). Over (r .end) (r .address)) (ended-as o e z)
 
   pub by-hand : Stepped j xs w sc

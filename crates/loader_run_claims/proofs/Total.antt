@@ -15,7 +15,7 @@ use Rattle.model_types.specs.declared.Effect.{Effect}
 use Rattle.model_types.specs.Levels.{vppLow, unlocked}
 use Rattle.loader_steps.specs.Front.{endAddress}
 use Rattle.loader.specs.Walks.{risesIn, diffFrom}
-use Rattle.loader.specs.Moves.{eraseFault, programFault, bothErrors}
+use Rattle.loader.specs.Moves.{eraseEnd, programEnd, bothErrors}
 use Rattle.loader_run.specs.declared.Ran.{Ran}
 use Rattle.loader_run_claims.specs.Wear.{heldIn}
 use Rattle.loader_run_claims.specs.Made.{cyclesBy}
@@ -61,7 +61,7 @@ module _ (verify : Bool) (j : Job) (xs w sc : List ℕ) (t : Taken j xs w sc) wh
       }
 
   pub every-end : Whole verify j xs w sc
-  unfolding endNumber faultStatus shut eraseFault programFault bothErrors
+  unfolding endNumber faultStatus shut eraseEnd programEnd bothErrors
   every-end = held (asWanted w ys) refl
     where
       shut-block : vppLow (j .device .part) (j .pins) ≡ false → eqb (j .block) 0 ≡ true → unlocked (j .device .part) (j .pins) 0 ≡ false → asWanted w ys ≡ false → (r : Bool) → risesIn w ys ≡ r → Whole verify j xs w sc

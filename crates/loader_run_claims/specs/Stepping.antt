@@ -8,9 +8,9 @@ use Rattle.device.specs.declared.Device.{Device}
 use Rattle.model_types.specs.declared.Kind.the-variants.{Read}
 use Rattle.model.specs.declared.Seen.the-variants.{Data}
 use Rattle.model.specs.declared.Answer.{Answer}
-use Rattle.loader.specs.declared.Turn.the-variants.{Over}
+use Rattle.loader.specs.declared.Saying.the-variants.{Over}
 use Rattle.loader_steps.specs.Outs.{cycleOf}
-use Rattle.loader_steps.specs.Front.{turnGiven, startGiven, stepGiven, scratchAfter}
+use Rattle.loader_steps.specs.Front.{responseAt, startResponse, stepResponse, scratchAfter}
 use Rattle.loader_run.specs.Turns.{Config, isRefused, numberIn, answerTo, arrayTo, after}
 use Rattle.loader.specs.Stages.{isEnded}
 use Rattle.loader_run.specs.declared.Job.{Job}
@@ -37,7 +37,7 @@ module _ (j : Job) (xs w sc : List ℕ) where
   -- stepping by hand is the run, sentence by sentence
   pub record Stepped : Type 0 where
     -- the start gives the first record of the run and the cycle that is out there
-    pub starts : startGiven (j .work) (j .device .part) (j .pins) (j .block) w sc ≡ turnGiven (runAt 0 .loader) w
+    pub starts : startResponse (j .work) (j .device .part) (j .pins) (j .block) w sc ≡ responseAt (runAt 0 .loader) w
     -- the run is before its end for as many cycles as it counts, and no longer
     pub lasts : (i : ℕ) → (overAt i ≡ false) ↔ (i < runLeft j xs w sc .ran .count)
     -- before its end the model takes the cycle that is out, answers a read by a byte, and leaves the run's next state and array
@@ -48,12 +48,12 @@ module _ (j : Job) (xs w sc : List ℕ) where
         → (answerAt (j .device) w (runAt i) .state ≡ runAt (suc i) .state) × (arrayTo (j .device) w (runAt i .loader) (runAt i .state) (runAt i .bytes) ≡ runAt (suc i) .bytes)
     -- with that byte handed on, the step gives the run's next record and the cycle that is out there, or the end
     pub steps : (i b : ℕ) → overAt i ≡ false → Handed (j .device) w (runAt i) b
-        → stepGiven (runAt i .loader) b w (runAt i .scratch) ≡ turnGiven (runAt (suc i) .loader) w
+        → stepResponse (runAt i .loader) b w (runAt i .scratch) ≡ responseAt (runAt (suc i) .loader) w
     -- and it leaves the run's scratch
     pub stores : (i b : ℕ) → overAt i ≡ false → Handed (j .device) w (runAt i) b → scratchAfter (runAt i .loader) b w (runAt i .scratch) ≡ runAt (suc i) .scratch
     -- the step that ends gives the run's end and address
     pub ends : (i b : ℕ) → overAt i ≡ false → overAt (suc i) ≡ true → Handed (j .device) w (runAt i) b
-        → stepGiven (runAt i .loader) b w (runAt i .scratch) .turn ≡ Over (runLeft j xs w sc .ran .end) (runLeft j xs w sc .ran .address)
+        → stepResponse (runAt i .loader) b w (runAt i .scratch) .saying ≡ Over (runLeft j xs w sc .ran .end) (runLeft j xs w sc .ran .address)
     -- it comes after as many cycles as the run counts
     pub counts : (i : ℕ) → overAt i ≡ false → overAt (suc i) ≡ true → runLeft j xs w sc .ran .count ≡ suc i
     -- and state, array and scratch are then those that the run returns and leaves

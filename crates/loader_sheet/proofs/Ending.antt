@@ -21,10 +21,10 @@ use Rattle.loader.specs.declared.Loader.{Loader}
 use Rattle.loader.specs.Stages.{endBy}
 use Rattle.loader.specs.Walks.{nextDiff, diffFrom, risesIn}
 use Rattle.loader.specs.Inner.{past}
-use Rattle.loader.specs.Moves.{statusIn, isReady, eraseFault, programFault, loadedStage, movedTo, endedBy, onward, afterReads, afterRead, pollMore, erasePolled, programPolled, verifyMore, nextIn}
+use Rattle.loader.specs.Moves.{statusIn, isReady, eraseEnd, programEnd, loadedStage, movedTo, endedBy, onward, afterReads, afterRead, pollMore, erasePolled, programPolled, verifyMore, nextIn}
 use Rattle.loader_steps.specs.Stores.{erasedWell, programmedWell, storeIn, storeOf}
 use Rattle.loader_steps.specs.Front.{startNumber}
-use Rattle.loader_steps.proofs.Again.{taken, first-taken, store-length}
+use Rattle.loader_steps.proofs.StartAndStep.{taken, first-taken, store-length}
 use Rattle.loader_steps.proofs.Lending.{both-lengths}
 use Rattle.loader_sheet.specs.Hand.{Hand, startHand, fed, fedAll, Takes, EndedBy, isFirst, WantedTo}
 use Rattle.loader_sheet.proofs.Polls.{fed-loader, fed-scratch, onward-calm, erase-numbers, program-numbers}
@@ -52,18 +52,18 @@ module _ (l : Loader) (w : List ℕ) (v n : ℕ) (low : 20 ≤ n) (high : n ≤ 
       (λ a. if-ind Not (risesIn w s) _ _ (λ b p. let z : _≡_ {A = ℕ} 255 n = ap endBy p in omega arith) (λ b. onward-not 0 s)) q)
   fault-in EraseAsking sc q = refl
   fault-in EraseConfirming sc q = refl
-  fault-in EraseWaiting sc q = go (isReady (statusIn v)) (eqb (eraseFault (statusIn v)) 0) refl refl q
+  fault-in EraseWaiting sc q = go (isReady (statusIn v)) (eqb (eraseEnd (statusIn v)) 0) refl refl q
     where
-      go : (a b : Bool) → isReady (statusIn v) ≡ a → eqb (eraseFault (statusIn v)) 0 ≡ b
+      go : (a b : Bool) → isReady (statusIn v) ≡ a → eqb (eraseEnd (statusIn v)) 0 ≡ b
           → nextIn EraseWaiting l v w (storeIn EraseWaiting (l .part) (l .place) v w sc) .stage ≡ Ended n → storeIn EraseWaiting (l .part) (l .place) v w sc ≡ sc
       go true true e f p = absurd (onward-not 0 (replicate (length sc) (ones (l .part))) (simp (e, f) at p))
       go true false e f p = simp (e, f)
       go false b e f p = simp e
   fault-in ProgramAsking sc q = refl
   fault-in ProgramSending sc q = refl
-  fault-in ProgramWaiting sc q = go (isReady (statusIn v)) (eqb (programFault (statusIn v)) 0) refl refl q
+  fault-in ProgramWaiting sc q = go (isReady (statusIn v)) (eqb (programEnd (statusIn v)) 0) refl refl q
     where
-      go : (a b : Bool) → isReady (statusIn v) ≡ a → eqb (programFault (statusIn v)) 0 ≡ b
+      go : (a b : Bool) → isReady (statusIn v) ≡ a → eqb (programEnd (statusIn v)) 0 ≡ b
           → nextIn ProgramWaiting l v w (storeIn ProgramWaiting (l .part) (l .place) v w sc) .stage ≡ Ended n → storeIn ProgramWaiting (l .part) (l .place) v w sc ≡ sc
       go true true e f p = absurd (onward-not (past (l .place) (length w)) (set sc (l .place) (getD w (l .place) 0)) (simp (e, f) at p))
       go true false e f p = simp (e, f)
@@ -158,8 +158,8 @@ module _ (w : List ℕ) where
     unfolding erasePolled
     erase-good sc long =
         if-ind (Good w sc) (isReady (statusIn v)) _ _
-        (λ a. if-ind (Good w sc) (eqb (eraseFault (statusIn v)) 0) _ _ (λ b. onward-good l 0 sc long (λ j c. absurd (omega arith)))
-        (λ b. fault-good (eraseFault (statusIn v)) sc (eqb-false (eraseFault (statusIn v)) 0 b) (no-25 (erase-numbers (statusIn v)))))
+        (λ a. if-ind (Good w sc) (eqb (eraseEnd (statusIn v)) 0) _ _ (λ b. onward-good l 0 sc long (λ j c. absurd (omega arith)))
+        (λ b. fault-good (eraseEnd (statusIn v)) sc (eqb-false (eraseEnd (statusIn v)) 0 b) (no-25 (erase-numbers (statusIn v)))))
         (λ a. poll-good EraseWaiting sc refl)
       where
         no-25 : {n : ℕ} → (n ≡ 0) ⊎ ((21 ≤ n) × (n ≤ 23)) → n ≡ 25 → ⊥
@@ -167,7 +167,7 @@ module _ (w : List ℕ) where
         no-25 (inr a) z = let x = a .1 in omega arith
 
     program-good : (sc : List ℕ) → length sc ≡ length w → l .place < length w → WantedTo (l .place) w sc
-        → (a b : Bool) → isReady (statusIn v) ≡ a → eqb (programFault (statusIn v)) 0 ≡ b
+        → (a b : Bool) → isReady (statusIn v) ≡ a → eqb (programEnd (statusIn v)) 0 ≡ b
         → Good w (storeIn ProgramWaiting (l .part) (l .place) v w sc) (programPolled l (statusIn v) w (storeIn ProgramWaiting (l .part) (l .place) v w sc))
     unfolding programPolled programmedWell past
     program-good sc long inside below true true e f =
@@ -175,7 +175,7 @@ module _ (w : List ℕ) where
         (onward-good l (l .place + 1) (set sc (l .place) (getD w (l .place) 0)) (length-set sc (l .place) (getD w (l .place) 0) ∙ long)
         (set-to sc (l .place) (getD w (l .place) 0) (omega arith) refl below))
     program-good sc long inside below true false e f =
-        simp (e, f) (fault-good (programFault (statusIn v)) sc (eqb-false (programFault (statusIn v)) 0 f) (no-25 (program-numbers (statusIn v))))
+        simp (e, f) (fault-good (programEnd (statusIn v)) sc (eqb-false (programEnd (statusIn v)) 0 f) (no-25 (program-numbers (statusIn v))))
       where
         no-25 : {n : ℕ} → (n ≡ 0) ⊎ ((21 ≤ n) × (n ≤ 24) × (n ≡ 23 → ⊥)) → n ≡ 25 → ⊥
         no-25 (inl a) z = omega arith
@@ -221,7 +221,7 @@ module _ (w : List ℕ) where
         erase-good (storeIn EraseWaiting (l .part) (l .place) v w sc) (store-length EraseWaiting (l .part) (l .place) v w sc ∙ long)
     next-good ProgramAsking sc long inside s g = g
     next-good ProgramSending sc long inside s g = g
-    next-good ProgramWaiting sc long inside s g = program-good sc long inside g (isReady (statusIn v)) (eqb (programFault (statusIn v)) 0) refl refl
+    next-good ProgramWaiting sc long inside s g = program-good sc long inside g (isReady (statusIn v)) (eqb (programEnd (statusIn v)) 0) refl refl
     next-good Closing sc long inside s g = λ j b. absurd (omega arith)
     next-good Verifying sc long inside s g = verify-good sc long inside g
     next-good (Ended n) sc long inside s g = subst (λ (x : Stage). goodAt x (l .place) w sc) s g

@@ -19,9 +19,9 @@ use Rattle.loader.specs.declared.Loader.{Loader}
 use Rattle.loader.specs.Stages.{endBy}
 use Rattle.loader.specs.Walks.{diffFrom}
 use Rattle.loader.specs.Inner.{past}
-use Rattle.loader.specs.Moves.{statusIn, isReady, sr3, sr4, sr5, bothErrors, eraseFault, programFault, loadedStage, endedBy, onward, pollMore, erasePolled, programPolled, nextIn, nextOf}
+use Rattle.loader.specs.Moves.{statusIn, isReady, sr3, sr4, sr5, bothErrors, eraseEnd, programEnd, loadedStage, endedBy, onward, pollMore, erasePolled, programPolled, nextIn, nextOf}
 use Rattle.loader_steps.specs.Stores.{erasedWell, programmedWell, storeIn, storeOf}
-use Rattle.loader_steps.proofs.Again.{step-on, taken}
+use Rattle.loader_steps.proofs.StartAndStep.{step-on, taken}
 use Rattle.loader_sheet.specs.Hand.{Hand, fed, Takes, EndedBy}
 use Rattle.loader_sheet.specs.Sentences.{ErasePoll, ProgramPoll}
 
@@ -115,44 +115,44 @@ same-tests f g t x h = go (f x) (g x) (all-below (λ y. if f y then g y else not
 as-equation : {A : Type 0} {t : Bool} (x y : ℕ) → A ↔ (t ≡ true) → t ≡ eqb x y → A ↔ (x ≡ y)
 as-equation x y a e = (λ p. eqb-true x y (sym e ∙ a .0 p), λ q. a .1 (e ∙ eq-eqb x y q))
 
-erase-21 : (x : ℕ) → x < 256 → (isReady x && eqb (eraseFault x) 21) ≡ eqb (bitAnd x 0x88) 0x88
-unfolding eraseFault bothErrors
-erase-21 = same-tests (λ x. isReady x && eqb (eraseFault x) 21) (λ x. eqb (bitAnd x 0x88) 0x88) refl
+erase-21 : (x : ℕ) → x < 256 → (isReady x && eqb (eraseEnd x) 21) ≡ eqb (bitAnd x 0x88) 0x88
+unfolding eraseEnd bothErrors
+erase-21 = same-tests (λ x. isReady x && eqb (eraseEnd x) 21) (λ x. eqb (bitAnd x 0x88) 0x88) refl
 
-erase-22 : (x : ℕ) → x < 256 → (isReady x && eqb (eraseFault x) 22) ≡ eqb (bitAnd x 0xB8) 0xB0
-unfolding eraseFault bothErrors
-erase-22 = same-tests (λ x. isReady x && eqb (eraseFault x) 22) (λ x. eqb (bitAnd x 0xB8) 0xB0) refl
+erase-22 : (x : ℕ) → x < 256 → (isReady x && eqb (eraseEnd x) 22) ≡ eqb (bitAnd x 0xB8) 0xB0
+unfolding eraseEnd bothErrors
+erase-22 = same-tests (λ x. isReady x && eqb (eraseEnd x) 22) (λ x. eqb (bitAnd x 0xB8) 0xB0) refl
 
-erase-23 : (x : ℕ) → x < 256 → (isReady x && eqb (eraseFault x) 23) ≡ eqb (bitAnd x 0xB8) 0xA0
-unfolding eraseFault bothErrors
-erase-23 = same-tests (λ x. isReady x && eqb (eraseFault x) 23) (λ x. eqb (bitAnd x 0xB8) 0xA0) refl
+erase-23 : (x : ℕ) → x < 256 → (isReady x && eqb (eraseEnd x) 23) ≡ eqb (bitAnd x 0xB8) 0xA0
+unfolding eraseEnd bothErrors
+erase-23 = same-tests (λ x. isReady x && eqb (eraseEnd x) 23) (λ x. eqb (bitAnd x 0xB8) 0xA0) refl
 
-program-21 : (x : ℕ) → x < 256 → (isReady x && eqb (programFault x) 21) ≡ eqb (bitAnd x 0x88) 0x88
-unfolding programFault bothErrors
-program-21 = same-tests (λ x. isReady x && eqb (programFault x) 21) (λ x. eqb (bitAnd x 0x88) 0x88) refl
+program-21 : (x : ℕ) → x < 256 → (isReady x && eqb (programEnd x) 21) ≡ eqb (bitAnd x 0x88) 0x88
+unfolding programEnd bothErrors
+program-21 = same-tests (λ x. isReady x && eqb (programEnd x) 21) (λ x. eqb (bitAnd x 0x88) 0x88) refl
 
-program-22 : (x : ℕ) → x < 256 → (isReady x && eqb (programFault x) 22) ≡ eqb (bitAnd x 0xB8) 0xB0
-unfolding programFault bothErrors
-program-22 = same-tests (λ x. isReady x && eqb (programFault x) 22) (λ x. eqb (bitAnd x 0xB8) 0xB0) refl
+program-22 : (x : ℕ) → x < 256 → (isReady x && eqb (programEnd x) 22) ≡ eqb (bitAnd x 0xB8) 0xB0
+unfolding programEnd bothErrors
+program-22 = same-tests (λ x. isReady x && eqb (programEnd x) 22) (λ x. eqb (bitAnd x 0xB8) 0xB0) refl
 
-program-24 : (x : ℕ) → x < 256 → (isReady x && eqb (programFault x) 24) ≡ eqb (bitAnd x 0xB8) 0x90
-unfolding programFault bothErrors
-program-24 = same-tests (λ x. isReady x && eqb (programFault x) 24) (λ x. eqb (bitAnd x 0xB8) 0x90) refl
+program-24 : (x : ℕ) → x < 256 → (isReady x && eqb (programEnd x) 24) ≡ eqb (bitAnd x 0xB8) 0x90
+unfolding programEnd bothErrors
+program-24 = same-tests (λ x. isReady x && eqb (programEnd x) 24) (λ x. eqb (bitAnd x 0xB8) 0x90) refl
 
 not-ready : (x : ℕ) → x < 256 → not (isReady x) ≡ eqb (bitAnd x 0x80) 0
 not-ready = same-tests (λ x. not (isReady x)) (λ x. eqb (bitAnd x 0x80) 0) refl
 
 erase-well : (x : ℕ) → x < 256 → erasedWell x ≡ eqb (bitAnd x 0xA8) 0x80
-unfolding erasedWell eraseFault bothErrors
+unfolding erasedWell eraseEnd bothErrors
 erase-well = same-tests erasedWell (λ x. eqb (bitAnd x 0xA8) 0x80) refl
 
 program-well : (x : ℕ) → x < 256 → programmedWell x ≡ eqb (bitAnd x 0x98) 0x80
-unfolding programmedWell programFault bothErrors
+unfolding programmedWell programEnd bothErrors
 program-well = same-tests programmedWell (λ x. eqb (bitAnd x 0x98) 0x80) refl
 
 -- which numbers a fault has
-pub erase-numbers : (x : ℕ) → (eraseFault x ≡ 0) ⊎ ((21 ≤ eraseFault x) × (eraseFault x ≤ 23))
-unfolding eraseFault
+pub erase-numbers : (x : ℕ) → (eraseEnd x ≡ 0) ⊎ ((21 ≤ eraseEnd x) × (eraseEnd x ≤ 23))
+unfolding eraseEnd
 erase-numbers x =
     if-ind P (sr3 x) _ _ (λ a. inr (omega arith, omega arith))
     (λ a. if-ind P (bothErrors x) _ _ (λ b. inr (omega arith, omega arith)) (λ b. if-ind P (sr5 x) 23 0 (λ c. inr (omega arith, omega arith)) (λ c. inl refl)))
@@ -160,8 +160,8 @@ erase-numbers x =
     P : ℕ → Type 0
     P n = (n ≡ 0) ⊎ ((21 ≤ n) × (n ≤ 23))
 
-pub program-numbers : (x : ℕ) → (programFault x ≡ 0) ⊎ ((21 ≤ programFault x) × (programFault x ≤ 24) × (programFault x ≡ 23 → ⊥))
-unfolding programFault
+pub program-numbers : (x : ℕ) → (programEnd x ≡ 0) ⊎ ((21 ≤ programEnd x) × (programEnd x ≤ 24) × (programEnd x ≡ 23 → ⊥))
+unfolding programEnd
 program-numbers x =
     if-ind P (sr3 x) _ _ (λ a. inr (omega arith, omega arith, λ z. omega arith))
     (λ a. if-ind P (bothErrors x) _ _ (λ b. inr (omega arith, omega arith, λ z. omega arith))
@@ -198,23 +198,23 @@ module _ (w : List ℕ) (h : Hand) (v : ℕ) (t : Takes w h) where
   )
 
   module _ (at : l .stage ≡ EraseWaiting) where
-    erase-goes : fed w h v .loader ≡ r l (onward l 0 w sc) EraseWaiting sr (eraseFault sr) (onward-calm l 0 w sc) refl
+    erase-goes : fed w h v .loader ≡ r l (onward l 0 w sc) EraseWaiting sr (eraseEnd sr) (onward-calm l 0 w sc) refl
     unfolding erasePolled
     erase-goes = fed-loader w h v t ∙ ap (λ (s : Stage). nextIn s l v w sc) at
 
-    erase-by : (n : ℕ) → 20 < n → n < 255 → EndedBy n (fed w h v) ↔ ((isReady sr && eqb (eraseFault sr) n) ≡ true)
-    erase-by n a b = carried-to _ erase-goes n (fault-end l (onward l 0 w sc) EraseWaiting sr (eraseFault sr) (onward-calm l 0 w sc) refl n a b)
+    erase-by : (n : ℕ) → 20 < n → n < 255 → EndedBy n (fed w h v) ↔ ((isReady sr && eqb (eraseEnd sr) n) ≡ true)
+    erase-by n a b = carried-to _ erase-goes n (fault-end l (onward l 0 w sc) EraseWaiting sr (eraseEnd sr) (onward-calm l 0 w sc) refl n a b)
 
     erase-scratch : fed w h v .scratch ≡ (if erasedWell sr then replicate (length (h .scratch)) (ones (l .part)) else h .scratch)
     erase-scratch = fed-scratch w h v t ∙ ap (λ (s : Stage). storeIn s (l .part) (l .place) v w (h .scratch)) at
 
     pub erase-poll : ErasePoll w h v
     erase-poll = record {
-      by-20 = twenty-bits (carried-to _ erase-goes 20 (twenty-end l (onward l 0 w sc) EraseWaiting sr (eraseFault sr) (onward-calm l 0 w sc) refl (λ z. no-twenty (erase-numbers sr) z) most));
+      by-20 = twenty-bits (carried-to _ erase-goes 20 (twenty-end l (onward l 0 w sc) EraseWaiting sr (eraseEnd sr) (onward-calm l 0 w sc) refl (λ z. no-twenty (erase-numbers sr) z) most));
       by-21 = as-equation (bitAnd sr 0x88) 0x88 (erase-by 21 (omega arith) (omega arith)) (erase-21 sr (status-small v));
       by-22 = as-equation (bitAnd sr 0xB8) 0xB0 (erase-by 22 (omega arith) (omega arith)) (erase-22 sr (status-small v));
       by-23 = as-equation (bitAnd sr 0xB8) 0xA0 (erase-by 23 (omega arith) (omega arith)) (erase-23 sr (status-small v));
-      not-24 = λ q. no-24 (erase-numbers sr) (eqb-true (eraseFault sr) 24 (and-right (isReady sr) (eqb (eraseFault sr) 24) (erase-by 24 (omega arith) (omega arith) .0 q)));
+      not-24 = λ q. no-24 (erase-numbers sr) (eqb-true (eraseEnd sr) 24 (and-right (isReady sr) (eqb (eraseEnd sr) 24) (erase-by 24 (omega arith) (omega arith) .0 q)));
       scratch = erase-scratch ∙ ap (λ (b : Bool). if b then replicate (length (h .scratch)) (ones (l .part)) else h .scratch) (erase-well sr (status-small v));
     }
       where
@@ -230,23 +230,23 @@ module _ (w : List ℕ) (h : Hand) (v : ℕ) (t : Takes w h) where
     abbrev on : Loader
     on = onward l (past (l .place) (length w)) w sc
 
-    program-goes : fed w h v .loader ≡ r l on ProgramWaiting sr (programFault sr) (onward-calm l (past (l .place) (length w)) w sc) refl
+    program-goes : fed w h v .loader ≡ r l on ProgramWaiting sr (programEnd sr) (onward-calm l (past (l .place) (length w)) w sc) refl
     unfolding programPolled
     program-goes = fed-loader w h v t ∙ ap (λ (s : Stage). nextIn s l v w sc) at
 
-    program-by : (n : ℕ) → 20 < n → n < 255 → EndedBy n (fed w h v) ↔ ((isReady sr && eqb (programFault sr) n) ≡ true)
-    program-by n a b = carried-to _ program-goes n (fault-end l on ProgramWaiting sr (programFault sr) (onward-calm l (past (l .place) (length w)) w sc) refl n a b)
+    program-by : (n : ℕ) → 20 < n → n < 255 → EndedBy n (fed w h v) ↔ ((isReady sr && eqb (programEnd sr) n) ≡ true)
+    program-by n a b = carried-to _ program-goes n (fault-end l on ProgramWaiting sr (programEnd sr) (onward-calm l (past (l .place) (length w)) w sc) refl n a b)
 
     program-scratch : fed w h v .scratch ≡ (if programmedWell sr then set (h .scratch) (l .place) (getD w (l .place) 0) else h .scratch)
     program-scratch = fed-scratch w h v t ∙ ap (λ (s : Stage). storeIn s (l .part) (l .place) v w (h .scratch)) at
 
     pub program-poll : ProgramPoll w h v
     program-poll = record {
-      by-20 = twenty-bits (carried-to _ program-goes 20 (twenty-end l on ProgramWaiting sr (programFault sr) (onward-calm l (past (l .place) (length w)) w sc) refl (λ z. no-twenty (program-numbers sr) z) most));
+      by-20 = twenty-bits (carried-to _ program-goes 20 (twenty-end l on ProgramWaiting sr (programEnd sr) (onward-calm l (past (l .place) (length w)) w sc) refl (λ z. no-twenty (program-numbers sr) z) most));
       by-21 = as-equation (bitAnd sr 0x88) 0x88 (program-by 21 (omega arith) (omega arith)) (program-21 sr (status-small v));
       by-22 = as-equation (bitAnd sr 0xB8) 0xB0 (program-by 22 (omega arith) (omega arith)) (program-22 sr (status-small v));
       by-24 = as-equation (bitAnd sr 0xB8) 0x90 (program-by 24 (omega arith) (omega arith)) (program-24 sr (status-small v));
-      not-23 = λ q. no-23 (program-numbers sr) (eqb-true (programFault sr) 23 (and-right (isReady sr) (eqb (programFault sr) 23) (program-by 23 (omega arith) (omega arith) .0 q)));
+      not-23 = λ q. no-23 (program-numbers sr) (eqb-true (programEnd sr) 23 (and-right (isReady sr) (eqb (programEnd sr) 23) (program-by 23 (omega arith) (omega arith) .0 q)));
       scratch = program-scratch ∙ ap (λ (b : Bool). if b then set (h .scratch) (l .place) (getD w (l .place) 0) else h .scratch) (program-well sr (status-small v));
     }
       where

@@ -13,9 +13,9 @@ use Rattle.loader.specs.declared.Stage.the-variants.{EraseWaiting, ProgramWaiti
 use Rattle.loader.specs.Stages.{isEnded, endBy}
 use Rattle.loader.specs.Walks.{risesIn, diffFrom}
 use Rattle.loader.specs.Inner.{past}
-use Rattle.loader.specs.Moves.{bothErrors, eraseFault, programFault, onward, afterReads, afterRead, pollMore, erasePolled, programPolled, verifyMore}
+use Rattle.loader.specs.Moves.{bothErrors, eraseEnd, programEnd, onward, afterReads, afterRead, pollMore, erasePolled, programPolled, verifyMore}
 use Rattle.loader_steps.specs.Stores.{erasedWell, programmedWell}
-use Rattle.loader_steps.specs.Front.{barredPins, noBlock, wrongLengths, badRecord, stepNumber, stepGiven, scratchAfter}
+use Rattle.loader_steps.specs.Front.{barredPins, noBlock, wrongLengths, badRecord, stepNumber, stepResponse, scratchAfter}
 use Rattle.loader_sheet.specs.Hand.{Hand, fed, fedAll, neverReady}
 
 -- 5AH is wanted and then FFH, and scratch has FFH throughout
@@ -53,5 +53,5 @@ shown : (eqb (endsAt EraseWaiting 0 0x88) 21 && eqb (endsAt EraseWaiting 0 0xB8)
     && neverReady (0x7F ∷ 0x00 ∷ []) && not (neverReady (0x00 ∷ 0x80 ∷ []))
     && isEnded (fedAll wanted (at ProgramWaiting 65533) (0x00 ∷ 0x00 ∷ 0x80 ∷ []) .loader .stage)
     && not (isEnded (fedAll wanted (at ProgramWaiting 65533) (0x00 ∷ []) .loader .stage))) ≡ true
-unfolding rowOf isLarge inWords shapeOf sizeIn lengthIn unknownPart lengthOf ones vppLow atTwelve atFive vppHigh badWp badPins risesIn diffFrom past bothErrors eraseFault programFault onward afterReads afterRead pollMore erasePolled programPolled verifyMore erasedWell programmedWell barredPins noBlock wrongLengths badRecord stepNumber stepGiven scratchAfter
+unfolding rowOf isLarge inWords shapeOf sizeIn lengthIn unknownPart lengthOf ones vppLow atTwelve atFive vppHigh badWp badPins risesIn diffFrom past bothErrors eraseEnd programEnd onward afterReads afterRead pollMore erasePolled programPolled verifyMore erasedWell programmedWell barredPins noBlock wrongLengths badRecord stepNumber stepResponse scratchAfter
 shown = refl

@@ -10,7 +10,7 @@ use Rattle.loader.specs.declared.Stage.{Stage}
 use Rattle.loader.specs.declared.Stage.the-variants.{Clearing, Opening, Reading, EraseAsking, EraseConfirming, EraseWaiting, ProgramAsking, ProgramSending, ProgramWaiting, Closing, Verifying, Ended}
 use Rattle.loader.specs.declared.Loader.{Loader}
 use Rattle.loader.specs.Moves.{statusIn, isReady}
-use Rattle.loader_steps.specs.Front.{recordAt, stepNumber, stepGiven, scratchAfter}
+use Rattle.loader_steps.specs.Front.{recordAt, stepNumber, stepResponse, scratchAfter}
 
 -- a loader between two steps: its record, and scratch
 pub record Hand : Type 0 where
@@ -23,7 +23,7 @@ startHand stage verify part p k sc = record { loader = recordAt part p k stage v
 
 -- .. after a step that was handed a value (R-load-7)
 abbrev pub fed : List ℕ → Hand → ℕ → Hand
-fed w h v = record { loader = stepGiven (h .loader) v w (h .scratch) .loader; scratch = scratchAfter (h .loader) v w (h .scratch) }
+fed w h v = record { loader = stepResponse (h .loader) v w (h .scratch) .loader; scratch = scratchAfter (h .loader) v w (h .scratch) }
 
 -- .. after a step for each value of a list
 abbrev pub fedAll : List ℕ → Hand → List ℕ → Hand

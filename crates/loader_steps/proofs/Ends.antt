@@ -10,25 +10,25 @@ use Rattle.common.proofs.Choice.{if-ind, unlike}
 use Rattle.loader.specs.declared.Stage.{Stage}
 use Rattle.loader.specs.declared.Stage.the-variants.{Clearing, Opening, Reading, EraseAsking, EraseConfirming, EraseWaiting, ProgramAsking, ProgramSending, ProgramWaiting, Closing, Verifying, Ended}
 use Rattle.loader.specs.declared.Loader.{Loader}
-use Rattle.loader.specs.declared.Turn.the-variants.{Over}
-use Rattle.loader.specs.declared.Given.{Given}
+use Rattle.loader.specs.declared.Saying.the-variants.{Over}
+use Rattle.loader.specs.declared.Response.{Response}
 use Rattle.loader.specs.Walks.{diffFrom, risesIn}
 use Rattle.units.specs.Units.{carried}
-use Rattle.loader.specs.Moves.{statusIn, isReady, sr3, sr4, sr5, bothErrors, eraseFault, programFault, loadedStage, onward, afterReads, afterRead, pollMore, erasePolled, programPolled, verifyMore, nextIn, nextOf}
+use Rattle.loader.specs.Moves.{statusIn, isReady, sr3, sr4, sr5, bothErrors, eraseEnd, programEnd, loadedStage, onward, afterReads, afterRead, pollMore, erasePolled, programPolled, verifyMore, nextIn, nextOf}
 use Rattle.loader.specs.Inner.{past}
 use Rattle.loader_steps.specs.Stores.{storeOf}
-use Rattle.loader_steps.specs.Front.{stepNumber, turnGiven, barredBy, stepGiven}
+use Rattle.loader_steps.specs.Front.{stepNumber, responseAt, refusedBy, stepResponse}
 use Rattle.loader_steps.specs.Ends.{endsLoad, endsVerify, ofLoad, ofVerify}
-use Rattle.loader_steps.proofs.Again.{kept-next, over-stage}
+use Rattle.loader_steps.proofs.StartAndStep.{kept-next, over-stage}
 
-erase-ends : (b : ℕ) → endsLoad (eraseFault b) ≡ true
-unfolding eraseFault
+erase-ends : (b : ℕ) → endsLoad (eraseEnd b) ≡ true
+unfolding eraseEnd
 erase-ends b =
     if-ind (λ (n : ℕ). endsLoad n ≡ true) (sr3 b) _ _ (λ e. refl)
     (λ e. if-ind (λ (n : ℕ). endsLoad n ≡ true) (bothErrors b) _ _ (λ f. refl) (λ f. if-ind (λ (n : ℕ). endsLoad n ≡ true) (sr5 b) 23 0 (λ g. refl) (λ g. refl)))
 
-program-ends : (b : ℕ) → endsLoad (programFault b) ≡ true
-unfolding programFault
+program-ends : (b : ℕ) → endsLoad (programEnd b) ≡ true
+unfolding programEnd
 program-ends b =
     if-ind (λ (n : ℕ). endsLoad n ≡ true) (sr3 b) _ _ (λ e. refl)
     (λ e. if-ind (λ (n : ℕ). endsLoad n ≡ true) (bothErrors b) _ _ (λ f. refl) (λ f. if-ind (λ (n : ℕ). endsLoad n ≡ true) (sr4 b) 24 0 (λ g. refl) (λ g. refl)))
@@ -52,12 +52,12 @@ module _ (l : Loader) (w : List ℕ) (alone : l .verify ≡ false) where
 
   on-erase : (b : ℕ) (sc : List ℕ) → In (erasePolled l b w sc)
   unfolding erasePolled
-  on-erase b sc = if-ind In (isReady b) _ _ (λ r. if-ind In (eqb (eraseFault b) 0) _ _ (λ f. on-onward 0 sc) (λ f. erase-ends b)) (λ r. on-poll EraseWaiting refl)
+  on-erase b sc = if-ind In (isReady b) _ _ (λ r. if-ind In (eqb (eraseEnd b) 0) _ _ (λ f. on-onward 0 sc) (λ f. erase-ends b)) (λ r. on-poll EraseWaiting refl)
 
   on-program : (b : ℕ) (sc : List ℕ) → In (programPolled l b w sc)
   unfolding programPolled
   on-program b sc =
-      if-ind In (isReady b) _ _ (λ r. if-ind In (eqb (programFault b) 0) _ _ (λ f. on-onward (past (l .place) (length w)) sc) (λ f. program-ends b)) (λ r. on-poll ProgramWaiting refl)
+      if-ind In (isReady b) _ _ (λ r. if-ind In (eqb (programEnd b) 0) _ _ (λ f. on-onward (past (l .place) (length w)) sc) (λ f. program-ends b)) (λ r. on-poll ProgramWaiting refl)
 
   load-next : (stage : Stage) (b : ℕ) (sc : List ℕ) → stage ≡ l .stage → ofLoad stage ≡ true → In (nextIn stage l b w sc)
   load-next Clearing b sc q e = refl
@@ -97,29 +97,29 @@ module _ (l : Loader) (w : List ℕ) where
 
 module _ (l : Loader) (b : ℕ) (w sc : List ℕ) where
   -- the record that a step gives: the next, or as before where it is refused
-  either : (P : Loader → Type 0) → P (nextOf l b w (storeOf l b w sc)) → P l → P (stepGiven l b w sc .loader)
-  unfolding stepGiven
-  either P x y = if-ind (λ (g : Given). P (g .loader)) (eqb (stepNumber l (length w) (length sc)) 0) _ _ (λ e. x) (λ e. y)
+  either : (P : Loader → Type 0) → P (nextOf l b w (storeOf l b w sc)) → P l → P (stepResponse l b w sc .loader)
+  unfolding stepResponse
+  either P x y = if-ind (λ (g : Response). P (g .loader)) (eqb (stepNumber l (length w) (length sc)) 0) _ _ (λ e. x) (λ e. y)
 
   -- a step that gives an end gives a record that has ended so
-  ended-as : (n a : ℕ) → stepGiven l b w sc .turn ≡ Over n a → stepGiven l b w sc .loader .stage ≡ Ended n
-  unfolding stepGiven
+  ended-as : (n a : ℕ) → stepResponse l b w sc .saying ≡ Over n a → stepResponse l b w sc .loader .stage ≡ Ended n
+  unfolding stepResponse
   ended-as n a =
-      if-ind (λ (g : Given). g .turn ≡ Over n a → g .loader .stage ≡ Ended n) (eqb (stepNumber l (length w) (length sc)) 0) (turnGiven (nextOf l b w (storeOf l b w sc)) w)
-      (barredBy (stepNumber l (length w) (length sc)) l) (λ e q. over-stage (nextOf l b w (storeOf l b w sc) .stage) (nextOf l b w (storeOf l b w sc)) w n a q .0)
+      if-ind (λ (g : Response). g .saying ≡ Over n a → g .loader .stage ≡ Ended n) (eqb (stepNumber l (length w) (length sc)) 0) (responseAt (nextOf l b w (storeOf l b w sc)) w)
+      (refusedBy (stepNumber l (length w) (length sc)) l) (λ e q. over-stage (nextOf l b w (storeOf l b w sc) .stage) (nextOf l b w (storeOf l b w sc)) w n a q .0)
       (λ e q. absurd (let z : _≡_ {A = ℕ} 0 1 = cc in omega arith))
 
-  pub load-steps : l .verify ≡ false → ofLoad (l .stage) ≡ true → (stepGiven l b w sc .loader .verify ≡ false) × (ofLoad (stepGiven l b w sc .loader .stage) ≡ true)
+  pub load-steps : l .verify ≡ false → ofLoad (l .stage) ≡ true → (stepResponse l b w sc .loader .verify ≡ false) × (ofLoad (stepResponse l b w sc .loader .stage) ≡ true)
   load-steps v e = (
     either (λ (r : Loader). r .verify ≡ false) (ap (λ (r : Loader). r .verify) (kept-next l w (l .stage) b (storeOf l b w sc) .same) ∙ v) v,
     either (λ (r : Loader). ofLoad (r .stage) ≡ true) (load-next l w v (l .stage) b (storeOf l b w sc) refl e) e,
   )
 
-  pub verify-steps : ofVerify (l .stage) ≡ true → ofVerify (stepGiven l b w sc .loader .stage) ≡ true
+  pub verify-steps : ofVerify (l .stage) ≡ true → ofVerify (stepResponse l b w sc .loader .stage) ≡ true
   verify-steps e = either (λ (r : Loader). ofVerify (r .stage) ≡ true) (verify-next l w (l .stage) b (storeOf l b w sc) refl e) e
 
-  pub load-over : (n a : ℕ) → l .verify ≡ false → ofLoad (l .stage) ≡ true → stepGiven l b w sc .turn ≡ Over n a → endsLoad n ≡ true
+  pub load-over : (n a : ℕ) → l .verify ≡ false → ofLoad (l .stage) ≡ true → stepResponse l b w sc .saying ≡ Over n a → endsLoad n ≡ true
   load-over n a v e q = sym (ap ofLoad (ended-as n a q)) ∙ load-steps v e .1
 
-  pub verify-over : (n a : ℕ) → ofVerify (l .stage) ≡ true → stepGiven l b w sc .turn ≡ Over n a → endsVerify n ≡ true
+  pub verify-over : (n a : ℕ) → ofVerify (l .stage) ≡ true → stepResponse l b w sc .saying ≡ Over n a → endsVerify n ≡ true
   verify-over n a e q = sym (ap ofVerify (ended-as n a q)) ∙ verify-steps e

@@ -10,15 +10,15 @@ use Rattle.common.proofs.Choice.{if-false, unlike}
 use Rattle.loader.specs.declared.Stage.{Stage}
 use Rattle.loader.specs.declared.Stage.the-variants.{Clearing, Opening, Reading, EraseAsking, EraseConfirming, EraseWaiting, ProgramAsking, ProgramSending, ProgramWaiting, Closing, Verifying, Ended}
 use Rattle.loader.specs.declared.Loader.{Loader}
-use Rattle.loader.specs.declared.Given.{Given}
+use Rattle.loader.specs.declared.Response.{Response}
 use Rattle.loader.specs.Stages.{isEnded}
 use Rattle.loader.specs.Walks.{diffFrom, risesIn}
-use Rattle.loader.specs.Moves.{movedTo, endedBy, statusIn, isReady, eraseFault, programFault, onward, afterReads, afterRead, pollMore, erasePolled, programPolled, nextIn, nextOf}
+use Rattle.loader.specs.Moves.{movedTo, endedBy, statusIn, isReady, eraseEnd, programEnd, onward, afterReads, afterRead, pollMore, erasePolled, programPolled, nextIn, nextOf}
 use Rattle.loader.specs.Inner.{past}
 use Rattle.loader_steps.specs.Stores.{storeOf}
-use Rattle.loader_steps.specs.Front.{badRecord, stepNumber, stepGiven, scratchAfter}
+use Rattle.loader_steps.specs.Front.{badRecord, stepNumber, stepResponse, scratchAfter}
 use Rattle.loader_steps.specs.Ends.{ofLoad, withVerify, carriedOn}
-use Rattle.loader_steps.proofs.Again.{step-on}
+use Rattle.loader_steps.proofs.StartAndStep.{step-on}
 
 module _ (l : Loader) (w : List ℕ) where
   abbrev run : Loader
@@ -86,12 +86,12 @@ module _ (l : Loader) (w : List ℕ) where
 
   on-erase : (b : ℕ) (sc : List ℕ) → erasePolled run b w sc ≡ carriedOn (erasePolled load b w sc)
   unfolding erasePolled
-  on-erase b sc = polled (onward run 0 w sc) (onward load 0 w sc) (pollMore run EraseWaiting) (pollMore load EraseWaiting) (eraseFault b) (isReady b) (on-onward 0 sc) on-poll-erase
+  on-erase b sc = polled (onward run 0 w sc) (onward load 0 w sc) (pollMore run EraseWaiting) (pollMore load EraseWaiting) (eraseEnd b) (isReady b) (on-onward 0 sc) on-poll-erase
 
   on-program : (b : ℕ) (sc : List ℕ) → programPolled run b w sc ≡ carriedOn (programPolled load b w sc)
   unfolding programPolled
   on-program b sc =
-      polled (onward run (past (l .place) (length w)) w sc) (onward load (past (l .place) (length w)) w sc) (pollMore run ProgramWaiting) (pollMore load ProgramWaiting) (programFault b) (isReady b)
+      polled (onward run (past (l .place) (length w)) w sc) (onward load (past (l .place) (length w)) w sc) (pollMore run ProgramWaiting) (pollMore load ProgramWaiting) (programEnd b) (isReady b)
       (on-onward (past (l .place) (length w)) sc) on-poll-program
 
   follows : (stage : Stage) (b : ℕ) (sc : List ℕ) → ofLoad stage ≡ true → isEnded stage ≡ false → nextIn stage run b w sc ≡ carriedOn (nextIn stage load b w sc)
@@ -110,11 +110,11 @@ module _ (l : Loader) (w : List ℕ) where
 
 -- an accepted step of a run's load
 pub load-follows : (l : Loader) (b : ℕ) (w sc : List ℕ) → stepNumber l (length w) (length sc) ≡ 0 → ofLoad (l .stage) ≡ true → isEnded (l .stage) ≡ false
-    → (stepGiven (withVerify true l) b w sc .loader ≡ carriedOn (stepGiven (withVerify false l) b w sc .loader))
+    → (stepResponse (withVerify true l) b w sc .loader ≡ carriedOn (stepResponse (withVerify false l) b w sc .loader))
     × (scratchAfter (withVerify true l) b w sc ≡ scratchAfter (withVerify false l) b w sc)
 unfolding stepNumber badRecord
 load-follows l b w sc n e g =
     let r = step-on (withVerify true l) b w sc n in
     let s = step-on (withVerify false l) b w sc n in
     let q : nextOf (withVerify true l) b w (storeOf l b w sc) ≡ carriedOn (nextOf (withVerify false l) b w (storeOf l b w sc)) = follows l w (l .stage) b (storeOf l b w sc) e g in
-    (ap (λ (x : Given). x .loader) (r .0) ∙ q ∙ sym (ap (λ (x : Given). carriedOn (x .loader)) (s .0)), r .1 ∙ sym (s .1))
+    (ap (λ (x : Response). x .loader) (r .0) ∙ q ∙ sym (ap (λ (x : Response). carriedOn (x .loader)) (s .0)), r .1 ∙ sym (s .1))

@@ -13,11 +13,11 @@ use Rattle.device.specs.Parts.{lengthOf}
 use Rattle.units.specs.Units.{units, back, torn, lent, lentIn}
 use Rattle.units.proofs.Widths.{lent-length, lent-is, lent-whole, back-units}
 use Rattle.loader.specs.declared.Loader.{Loader}
-use Rattle.loader.specs.declared.Given.{Given}
+use Rattle.loader.specs.declared.Response.{Response}
 use Rattle.loader.specs.Moves.{nextOf}
 use Rattle.loader_steps.specs.Stores.{storeOf}
-use Rattle.loader_steps.specs.Front.{noBlock, wrongLengths, stepNumber, turnGiven, barredBy, stepGiven, scratchAfter, scratchLeft}
-use Rattle.loader_steps.proofs.Again.{taken, some-block, kept-next, step-on}
+use Rattle.loader_steps.specs.Front.{noBlock, wrongLengths, stepNumber, responseAt, refusedBy, stepResponse, scratchAfter, scratchLeft}
+use Rattle.loader_steps.proofs.StartAndStep.{taken, some-block, kept-next, step-on}
 
 -- lengths that are not wrong are the block's
 pub both-lengths : (part : Part) (k x y : ℕ) → wrongLengths part k x y ≡ false → (x ≡ lengthOf part k) × (y ≡ lengthOf part k)
@@ -49,16 +49,16 @@ module _ (l : Loader) (xs ys : List ℕ) where
   step-some e = let t = taken l (length (lent w xs)) (length (lent w ys)) e in some-lent (l .part) (l .block) _ _ (t .block) (t .lengths)
 
   -- a step that is taken: what it gives, by the units
-  pub step-gives : (v : ℕ) (m : Loader) (g : Given) → number ≡ 0 → m ≡ nextOf l v (units w xs) (storeOf l v (units w xs) (units w ys))
-      → g ≡ turnGiven m (units (m .part .word) xs) → g ≡ stepGiven l v (lent w xs) (lent w ys)
+  pub step-gives : (v : ℕ) (m : Loader) (g : Response) → number ≡ 0 → m ≡ nextOf l v (units w xs) (storeOf l v (units w xs) (units w ys))
+      → g ≡ responseAt m (units (m .part .word) xs) → g ≡ stepResponse l v (lent w xs) (lent w ys)
   step-gives v m g e p q =
       let s = step-some e in
       let a = lent-is w xs (s .0) in
       let b = lent-is w ys (s .1) in
       let on : List ℕ → List ℕ → Loader = λ us vs. nextOf l v us (storeOf l v us vs) in
       let same : on (units w xs) (units w ys) .part .word ≡ w = ap (λ (r : Loader). r .part .word) (kept-next l (units w xs) (l .stage) v (storeOf l v (units w xs) (units w ys)) .same) in
-      q ∙ ap (λ (r : Loader). turnGiven r (units (r .part .word) xs)) p ∙ ap (λ (t : Bool). turnGiven (on (units w xs) (units w ys)) (units t xs)) same
-      ∙ ap₂ (λ (us vs : List ℕ). turnGiven (on us vs) us) (sym a) (sym b) ∙ sym (step-on l v (lent w xs) (lent w ys) e .0)
+      q ∙ ap (λ (r : Loader). responseAt r (units (r .part .word) xs)) p ∙ ap (λ (t : Bool). responseAt (on (units w xs) (units w ys)) (units t xs)) same
+      ∙ ap₂ (λ (us vs : List ℕ). responseAt (on us vs) us) (sym a) (sym b) ∙ sym (step-on l v (lent w xs) (lent w ys) e .0)
 
   -- .. and what it leaves in scratch
   pub step-leaves : (v : ℕ) (zs : List ℕ) → number ≡ 0 → length zs ≡ length ys → Bytes zs → units w zs ≡ storeOf l v (units w xs) (units w ys) → zs ≡ scratchLeft l v xs ys
@@ -70,11 +70,11 @@ module _ (l : Loader) (xs ys : List ℕ) where
       ∙ sym (if-true (eqb number 0) (back w (scratchAfter l v (lent w xs) (lent w ys))) ys (eq-eqb number 0 e))
 
   -- a step that is refused
-  pub step-bars : (v n : ℕ) (g : Given) → n ≡ number → (n ≡ 0 → ⊥) → g ≡ barredBy n l → g ≡ stepGiven l v (lent w xs) (lent w ys)
-  unfolding stepGiven
+  pub step-bars : (v n : ℕ) (g : Response) → n ≡ number → (n ≡ 0 → ⊥) → g ≡ refusedBy n l → g ≡ stepResponse l v (lent w xs) (lent w ys)
+  unfolding stepResponse
   step-bars v n g e z q =
-      q ∙ ap (λ (m : ℕ). barredBy m l) e
-      ∙ sym (if-false (eqb number 0) (turnGiven (nextOf l v (lent w xs) (storeOf l v (lent w xs) (lent w ys))) (lent w xs)) (barredBy number l) (ne-eqb number 0 (λ o. z (e ∙ o))))
+      q ∙ ap (λ (m : ℕ). refusedBy m l) e
+      ∙ sym (if-false (eqb number 0) (responseAt (nextOf l v (lent w xs) (storeOf l v (lent w xs) (lent w ys))) (lent w xs)) (refusedBy number l) (ne-eqb number 0 (λ o. z (e ∙ o))))
 
   pub step-keeps : (v n : ℕ) → n ≡ number → (n ≡ 0 → ⊥) → ys ≡ scratchLeft l v xs ys
   unfolding scratchLeft

@@ -1,6 +1,6 @@
-pub mod Small
+pub mod SmallAddresses
 pub mod Storing
-pub mod Again
+pub mod StartAndStep
 pub mod Lending
 pub mod Ends
 pub mod Follows

@@ -12,8 +12,8 @@ use Rattle.loader_steps.specs.Inner.{reach}
 use Rattle.loader_steps.specs.Addresses.{firstAddress}
 use Rattle.loader_steps.specs.Inner.{hereOf}
 use Rattle.loader_steps.specs.Front.{stepNumber}
-use Rattle.loader_steps.proofs.Small.{length-small}
-use Rattle.loader_steps.proofs.Again.{taken}
+use Rattle.loader_steps.proofs.SmallAddresses.{length-small}
+use Rattle.loader_steps.proofs.StartAndStep.{taken}
 
 pub here-is : (l : Loader) (w sc : ℕ) → stepNumber l w sc ≡ 0 → hereOf l ≡ firstAddress l + l .place
 unfolding hereOf

@@ -13,12 +13,12 @@ use Rattle.model_types.specs.declared.Pins.{Pins}
 use Rattle.model_types.specs.declared.Cycle.{Cycle}
 use Rattle.loader.specs.declared.Stage.{Stage}
 use Rattle.loader.specs.declared.Loader.{Loader}
-use Rattle.loader.specs.declared.Given.{Given}
+use Rattle.loader.specs.declared.Response.{Response}
 use Rattle.loader.specs.Moves.{nextOf}
 use Rattle.loader_steps.specs.Addresses.{firstAddress}
 use Rattle.loader_steps.specs.Outs.{cycleAtStage, cycleOf}
 use Rattle.loader_steps.specs.Stores.{storeOf}
-use Rattle.loader_steps.specs.Front.{barredPins, noBlock, setupNumber, recordAt, endAddress, startGiven, stepGiven, startTold, stepTold, scratchLeft}
+use Rattle.loader_steps.specs.Front.{barredPins, noBlock, setupNumber, recordAt, endAddress, startResponse, stepResponse, startTold, stepTold, scratchLeft}
 use Rattle.loader.specs.declared.Work.{Work}
 
 pub barred-pins-unique : (part : Part) (p : Pins) → Unique (λ (r : Bool). r ≡ barredPins part p)
@@ -36,14 +36,14 @@ record-at-unique part p k stage verify = only (recordAt part p k stage verify)
 pub end-address-unique : (l : Loader) (n : ℕ) → Unique (λ (r : ℕ). r ≡ endAddress l n)
 end-address-unique l n = only (endAddress l n)
 
-pub start-unique : (work : Work) (part : Part) (p : Pins) (k : ℕ) (w sc : List ℕ) → Unique (λ (r : Given). r ≡ startGiven work part p k w sc)
-start-unique work part p k w sc = only (startGiven work part p k w sc)
+pub start-unique : (work : Work) (part : Part) (p : Pins) (k : ℕ) (w sc : List ℕ) → Unique (λ (r : Response). r ≡ startResponse work part p k w sc)
+start-unique work part p k w sc = only (startResponse work part p k w sc)
 
 pub start-told-unique : (work : Work) (part : Part) (p : Pins) (k : ℕ) (w sc : List ℕ) → Unique (λ (told : ℕ × List Cycle × List ℕ). told ≡ startTold work part p k w sc)
 start-told-unique work part p k w sc = only (startTold work part p k w sc)
 
-pub step-unique : (l : Loader) (b : ℕ) (w sc : List ℕ) → Unique (λ (r : Given). r ≡ stepGiven l b w sc)
-step-unique l b w sc = only (stepGiven l b w sc)
+pub step-unique : (l : Loader) (b : ℕ) (w sc : List ℕ) → Unique (λ (r : Response). r ≡ stepResponse l b w sc)
+step-unique l b w sc = only (stepResponse l b w sc)
 
 pub step-told-unique : (l : Loader) (b : ℕ) (w sc : List ℕ) → Unique (λ (told : ℕ × List Cycle × List ℕ). told ≡ stepTold l b w sc)
 step-told-unique l b w sc = only (stepTold l b w sc)

@@ -13,7 +13,7 @@ use Rattle.loader.specs.declared.Stage.the-variants.{Clearing, Opening, Reading
 use Rattle.loader.specs.declared.Loader.{Loader}
 use Rattle.loader.specs.Moves.{movedTo, endedBy, endedApart, erasePolled, programPolled, verifyMore, nextIn, nextOf}
 use Rattle.loader_steps.specs.Stores.{eraseStored, programStored, storeIn, storeOf}
-use Rattle.loader_steps.specs.Front.{stepNumber, turnGiven, barredBy, stepGiven, scratchAfter}
+use Rattle.loader_steps.specs.Front.{stepNumber, responseAt, refusedBy, stepResponse, scratchAfter}
 
 twice : (v : ℕ) → v % 256 % 256 ≡ v % 256
 twice v = omega arith
@@ -71,12 +71,12 @@ module _ (l : Loader) (v : ℕ) (w sc : List ℕ) where
 
 -- a step gives and leaves what it would with the carried bits alone
 pub step-unread : (l : Loader) (v : ℕ) (w sc : List ℕ)
-    → (stepGiven l (carried (l .part .word) v) w sc ≡ stepGiven l v w sc) × (scratchAfter l (carried (l .part .word) v) w sc ≡ scratchAfter l v w sc)
-unfolding stepGiven scratchAfter
+    → (stepResponse l (carried (l .part .word) v) w sc ≡ stepResponse l v w sc) × (scratchAfter l (carried (l .part .word) v) w sc ≡ scratchAfter l v w sc)
+unfolding stepResponse scratchAfter
 step-unread l v w sc =
     let s : storeOf l (carried (l .part .word) v) w sc ≡ storeOf l v w sc = store-unread l v w sc (l .stage) in
     let n : nextOf l (carried (l .part .word) v) w (storeOf l (carried (l .part .word) v) w sc) ≡ nextOf l v w (storeOf l v w sc) =
     ap (λ (z : List ℕ). nextOf l (carried (l .part .word) v) w z) s ∙ next-unread l v w (storeOf l v w sc) (l .stage) in (
-      ap (λ (r : Loader). if eqb (stepNumber l (length w) (length sc)) 0 then turnGiven r w else barredBy (stepNumber l (length w) (length sc)) l) n,
+      ap (λ (r : Loader). if eqb (stepNumber l (length w) (length sc)) 0 then responseAt r w else refusedBy (stepNumber l (length w) (length sc)) l) n,
       ap (λ (z : List ℕ). if eqb (stepNumber l (length w) (length sc)) 0 then z else sc) s,
     )

@@ -16,9 +16,9 @@ use Rattle.loader.specs.declared.Stage.{Stage}
 use Rattle.loader.specs.declared.Stage.the-variants.{Ended}
 use Rattle.loader.specs.declared.Work.{Work}
 use Rattle.loader.specs.declared.Loader.{Loader}
-use Rattle.loader.specs.declared.Turn.{Turn}
-use Rattle.loader.specs.declared.Turn.the-variants.{Out, Over, Barred}
-use Rattle.loader.specs.declared.Given.{Given}
+use Rattle.loader.specs.declared.Saying.{Saying}
+use Rattle.loader.specs.declared.Saying.the-variants.{Out, Over, Refused}
+use Rattle.loader.specs.declared.Response.{Response}
 use Rattle.loader.specs.Stages.{isEnded, endBy, firstStage, verifies}
 use Rattle.loader.specs.Moves.{nextOf}
 use Rattle.units.specs.Units.{lent, back}
@@ -74,43 +74,43 @@ unfoldable pub endAddress : Loader → ℕ → ℕ
 endAddress l n = if eqb n 25 then byteHere l else 0
 
 -- what a record gives: the cycle that is out, or its end again (R-load-7)
-abbrev pub turnIn : Stage → Loader → List ℕ → Turn
-turnIn stage l w = if isEnded stage then Over (endBy stage) (endAddress l (endBy stage)) else Out (cycleOf l w)
+abbrev pub sayingIn : Stage → Loader → List ℕ → Saying
+sayingIn stage l w = if isEnded stage then Over (endBy stage) (endAddress l (endBy stage)) else Out (cycleOf l w)
 
 -- .. beside the record
-abbrev pub turnGiven : Loader → List ℕ → Given
-turnGiven l w = record { turn = turnIn (l .stage) l w; loader = l }
+abbrev pub responseAt : Loader → List ℕ → Response
+responseAt l w = record { saying = sayingIn (l .stage) l w; loader = l }
 
--- a turn by its cases: its number (0 for a cycle, the end's, or the refusal's), the cycle given, and the address that an end gives
+-- a saying by its cases: its number (0 for a cycle, the end's, or the refusal's), the cycle given, and the address that an end gives
 -- (R-promise-2)
-abbrev pub turnTold : Turn → ℕ × List Cycle × List ℕ
-turnTold (Out c) = (0, c ∷ [], [])
-turnTold (Over n a) = (n, [], a ∷ [])
-turnTold (Barred n) = (n, [], [])
+abbrev pub sayingTold : Saying → ℕ × List Cycle × List ℕ
+sayingTold (Out c) = (0, c ∷ [], [])
+sayingTold (Over n a) = (n, [], a ∷ [])
+sayingTold (Refused n) = (n, [], [])
 
 -- what a record tells: the cycle that is out, or its end again
 abbrev pub recordTold : Loader → List ℕ → ℕ × List Cycle × List ℕ
 recordTold l w = if isEnded (l .stage) then (endBy (l .stage), [], endAddress l (endBy (l .stage)) ∷ []) else (0, cycleOf l w ∷ [], [])
 
 -- a refusal gives the record with it
-abbrev pub barredBy : ℕ → Loader → Given
-barredBy n l = record { turn = Barred n; loader = l }
+abbrev pub refusedBy : ℕ → Loader → Response
+refusedBy n l = record { saying = Refused n; loader = l }
 
 -- what is given is a refusal
-abbrev pub isBarred : Turn → Bool
-isBarred (Out c) = false
-isBarred (Over n a) = false
-isBarred (Barred m) = true
+abbrev pub saysRefused : Saying → Bool
+saysRefused (Out c) = false
+saysRefused (Over n a) = false
+saysRefused (Refused m) = true
 
 -- the record that a start begins with: that of a load, with or without the verify after it, or of a verify alone
 abbrev pub recordOf : Work → Part → Pins → ℕ → Loader
 recordOf work part p k = recordAt part p k (firstStage work) (verifies work)
 
 -- a start: a refused one gives a record that has ended with the number
-unfoldable pub startGiven : Work → Part → Pins → ℕ → List ℕ → List ℕ → Given
-startGiven work part p k w sc =
-    if eqb (startNumber part p k (length w) (length sc)) 0 then turnGiven (recordOf work part p k) w
-    else barredBy (startNumber part p k (length w) (length sc)) (recordAt part p k (Ended (startNumber part p k (length w) (length sc))) (verifies work))
+unfoldable pub startResponse : Work → Part → Pins → ℕ → List ℕ → List ℕ → Response
+startResponse work part p k w sc =
+    if eqb (startNumber part p k (length w) (length sc)) 0 then responseAt (recordOf work part p k) w
+    else refusedBy (startNumber part p k (length w) (length sc)) (recordAt part p k (Ended (startNumber part p k (length w) (length sc))) (verifies work))
 
 -- what a start tells: its refusal, or what the record at its beginning tells
 unfoldable pub startTold : Work → Part → Pins → ℕ → List ℕ → List ℕ → ℕ × List Cycle × List ℕ
@@ -119,9 +119,9 @@ startTold work part p k w sc =
     else (startNumber part p k (length w) (length sc), [], [])
 
 -- a step: what is given .. (R-load-7)
-unfoldable pub stepGiven : Loader → ℕ → List ℕ → List ℕ → Given
-stepGiven l v w sc =
-    if eqb (stepNumber l (length w) (length sc)) 0 then turnGiven (nextOf l v w (storeOf l v w sc)) w else barredBy (stepNumber l (length w) (length sc)) l
+unfoldable pub stepResponse : Loader → ℕ → List ℕ → List ℕ → Response
+stepResponse l v w sc =
+    if eqb (stepNumber l (length w) (length sc)) 0 then responseAt (nextOf l v w (storeOf l v w sc)) w else refusedBy (stepNumber l (length w) (length sc)) l
 
 -- .. what it tells: its refusal, or what the next record tells ..
 unfoldable pub stepTold : Loader → ℕ → List ℕ → List ℕ → ℕ × List Cycle × List ℕ

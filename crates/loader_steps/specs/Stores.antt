@@ -11,11 +11,11 @@ use Rattle.common.specs.Choice.{if_then_else_}
 use Rattle.loader.specs.declared.Stage.{Stage}
 use Rattle.loader.specs.declared.Stage.the-variants.{Clearing, Opening, Reading, EraseAsking, EraseConfirming, EraseWaiting, ProgramAsking, ProgramSending, ProgramWaiting, Closing, Verifying, Ended}
 use Rattle.loader.specs.declared.Loader.{Loader}
-use Rattle.loader.specs.Moves.{statusIn, isReady, eraseFault, programFault}
+use Rattle.loader.specs.Moves.{statusIn, isReady, eraseEnd, programEnd}
 
 -- an erase that ended well
 unfoldable pub erasedWell : ℕ → Bool
-erasedWell sr = isReady sr && eqb (eraseFault sr) 0
+erasedWell sr = isReady sr && eqb (eraseEnd sr) 0
 
 -- .. fills scratch with ones (R-load-2)
 abbrev pub eraseStored : Part → ℕ → List ℕ → List ℕ
@@ -23,7 +23,7 @@ eraseStored part sr sc = if erasedWell sr then replicate (length sc) (ones part)
 
 -- a program that ended well
 unfoldable pub programmedWell : ℕ → Bool
-programmedWell sr = isReady sr && eqb (programFault sr) 0
+programmedWell sr = isReady sr && eqb (programEnd sr) 0
 
 -- .. puts its unit, the wanted one of its place, into scratch (R-load-3)
 abbrev pub programStored : ℕ → ℕ → List ℕ → List ℕ → List ℕ

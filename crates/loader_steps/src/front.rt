@@ -3,10 +3,10 @@ use crate::outs::byte_here;
 use crate::outs::out;
 use crate::stores::advance;
 use device::Part;
-use loader::Given;
 use loader::Loader;
+use loader::Response;
+use loader::Saying;
 use loader::Stage;
-use loader::Turn;
 use loader::Work;
 use loader::stages::first_stage;
 use loader::stages::stage_is;
@@ -16,7 +16,7 @@ use model_types::levels::bad_pins;
 use model_types::levels::rp_low;
 ghost use mathlib.Core.Path.{_≡_};
 ghost use Rattle.device.specs.Parts.{lengthOf};
-ghost use Rattle.loader_steps.specs.Front.{barredPins, noBlock, setupNumber, badRecord, startNumber, stepNumber, recordAt, endAddress, turnIn, turnGiven, barredBy, startGiven, stepGiven, turnTold, startTold, stepTold, scratchLeft};
+ghost use Rattle.loader_steps.specs.Front.{barredPins, noBlock, setupNumber, badRecord, startNumber, stepNumber, recordAt, endAddress, sayingIn, responseAt, refusedBy, startResponse, stepResponse, sayingTold, startTold, stepTold, scratchLeft};
 ghost use Rattle.units.specs.Units.{units, lent};
 
 // Refusal 4 of a loader.
@@ -119,40 +119,40 @@ pub fn end_address(l: Loader, n: u8) -> u32
     0
 }
 
-fn turn(stage: Stage, l: Loader, wanted: &[u8]) -> Turn
-    ensures { λ r. ⌜ r ≡ turnIn stage l (units (l .part .word) (now (wanted .entry))) ⌝ }
+fn saying(stage: Stage, l: Loader, wanted: &[u8]) -> Saying
+    ensures { λ r. ⌜ r ≡ sayingIn stage l (units (l .part .word) (now (wanted .entry))) ⌝ }
 {
     let e = stage_is(stage);
     let ended = e.ended;
     if ended {
-        return Turn::Over(e.end, end_address(l, e.end));
+        return Saying::Over(e.end, end_address(l, e.end));
     }
-    Turn::Out(out(l, wanted))
+    Saying::Out(out(l, wanted))
 }
 
-fn given_by(l: Loader, wanted: &[u8]) -> Given
-    ensures { λ r. ⌜ r ≡ turnGiven l (units (l .part .word) (now (wanted .entry))) ⌝ }
+fn response_at(l: Loader, wanted: &[u8]) -> Response
+    ensures { λ r. ⌜ r ≡ responseAt l (units (l .part .word) (now (wanted .entry))) ⌝ }
 {
     let stage = l.stage;
-    Given {
-        turn: turn(stage, l, wanted),
+    Response {
+        saying: saying(stage, l, wanted),
         loader: l,
     }
 }
 
-fn barred_by(n: u8, l: Loader) -> Given
-    ensures { λ r. ⌜ r ≡ barredBy n l ⌝ }
+fn refused_by(n: u8, l: Loader) -> Response
+    ensures { λ r. ⌜ r ≡ refusedBy n l ⌝ }
 {
-    Given {
-        turn: Turn::Barred(n),
+    Response {
+        saying: Saying::Refused(n),
         loader: l,
     }
 }
 
 // The first cycle of a load, with or without the verify after it, or of a verify alone.
-pub fn start(work: Work, part: Part, p: Pins, block: u8, wanted: &[u8], scratch: &[u8]) -> Given
-    ensures { λ r. ⌜ r ≡ startGiven work part p block (lent (part .word) (now (wanted .entry))) (lent (part .word) (now (scratch .entry))) ⌝ }
-    ensures told { λ r. ⌜ turnTold (r .turn) ≡ startTold work part p block (lent (part .word) (now (wanted .entry))) (lent (part .word) (now (scratch .entry))) ⌝ }
+pub fn start(work: Work, part: Part, p: Pins, block: u8, wanted: &[u8], scratch: &[u8]) -> Response
+    ensures { λ r. ⌜ r ≡ startResponse work part p block (lent (part .word) (now (wanted .entry))) (lent (part .word) (now (scratch .entry))) ⌝ }
+    ensures told { λ r. ⌜ sayingTold (r .saying) ≡ startTold work part p block (lent (part .word) (now (wanted .entry))) (lent (part .word) (now (scratch .entry))) ⌝ }
 {
     let word = part.word;
     let n = start_number(
@@ -165,15 +165,15 @@ pub fn start(work: Work, part: Part, p: Pins, block: u8, wanted: &[u8], scratch:
     let stage = first_stage(work);
     let verify = verifies(work);
     if n == 0 {
-        return given_by(record_at(part, p, block, stage, verify), wanted);
+        return response_at(record_at(part, p, block, stage, verify), wanted);
     }
-    barred_by(n, record_at(part, p, block, Stage::Ended(n), verify))
+    refused_by(n, record_at(part, p, block, Stage::Ended(n), verify))
 }
 
 // The data read by the cycle that was out go in, the next cycle or the end comes out.
-pub fn step(l: Loader, v: u16, wanted: &[u8], scratch: &mut [u8]) -> Given
-    ensures { λ r. ⌜ r ≡ stepGiven l v (lent (l .part .word) (now (wanted .entry))) (lent (l .part .word) (now (scratch .entry))) ⌝ }
-    ensures told { λ r. ⌜ turnTold (r .turn) ≡ stepTold l v (lent (l .part .word) (now (wanted .entry))) (lent (l .part .word) (now (scratch .entry))) ⌝ }
+pub fn step(l: Loader, v: u16, wanted: &[u8], scratch: &mut [u8]) -> Response
+    ensures { λ r. ⌜ r ≡ stepResponse l v (lent (l .part .word) (now (wanted .entry))) (lent (l .part .word) (now (scratch .entry))) ⌝ }
+    ensures told { λ r. ⌜ sayingTold (r .saying) ≡ stepTold l v (lent (l .part .word) (now (wanted .entry))) (lent (l .part .word) (now (scratch .entry))) ⌝ }
     ensures { λ _. ⌜ now (scratch .exit) ≡ scratchLeft l v (now (wanted .entry)) (now (scratch .entry)) ⌝ }
 {
     let part = l.part;
@@ -185,7 +185,7 @@ pub fn step(l: Loader, v: u16, wanted: &[u8], scratch: &mut [u8]) -> Given
     );
     if n == 0 {
         let moved = advance(l, v, wanted, scratch);
-        return given_by(moved, wanted);
+        return response_at(moved, wanted);
     }
-    barred_by(n, l)
+    refused_by(n, l)
 }

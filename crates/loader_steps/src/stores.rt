@@ -2,11 +2,11 @@
 use device::Part;
 use loader::Loader;
 use loader::Stage;
-use loader::moves::erase_fault;
+use loader::moves::erase_end;
 use loader::moves::erase_polled;
 use loader::moves::is_ready;
 use loader::moves::moved;
-use loader::moves::program_fault;
+use loader::moves::program_end;
 use loader::moves::program_polled;
 use loader::moves::read_more;
 use loader::moves::verify_more;
@@ -19,7 +19,7 @@ ghost use Rattle.loader_steps.specs.Stores.{erasedWell, eraseStored, pro
 fn erased_well(b: u8) -> bool
     ensures { λ r. ⌜ r ≡ erasedWell b ⌝ }
 {
-    is_ready(b) & (erase_fault(b) == 0)
+    is_ready(b) & (erase_end(b) == 0)
 }
 
 // An erase that ended well fills scratch with ones.
@@ -37,7 +37,7 @@ pub fn store_erase(part: Part, b: u8, scratch: &mut [u8])
 fn programmed_well(b: u8) -> bool
     ensures { λ r. ⌜ r ≡ programmedWell b ⌝ }
 {
-    is_ready(b) & (program_fault(b) == 0)
+    is_ready(b) & (program_end(b) == 0)
 }
 
 // A program that ended well puts its unit into scratch.

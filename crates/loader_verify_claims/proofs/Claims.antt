@@ -24,7 +24,7 @@ use Rattle.loader_run_claims.proofs.Total as total-ends
 use Rattle.loader_run_claims.proofs.Counting as counting
 use Rattle.loader_run_claims.proofs.Stepping as stepping
 use Rattle.loader_verify_claims.specs.Verified.{Verified, Met}
-use Rattle.loader_verify_claims.specs.LoadThenVerify.{bothLeft, bothCycles}
+use Rattle.loader_verify_claims.specs.LoadThenVerify.{loadVerifyLeft, loadVerifyCycles}
 use Rattle.loader_verify_claims.proofs.Verifying as verifying
 use Rattle.loader_verify_claims.proofs.LoadThenVerify as both
 use Rattle.loader_verify_claims.proofs.Lent as lending
@@ -67,7 +67,7 @@ pub cycles-split : (d : Device) (p : Pins) (a : ℕ) (w ys : List ℕ) (cs : Lis
 cycles-split = both.load-then
 
 pub count-split : (d : Device) (w ys : List ℕ) → formula d w ys ≡ loadFormula d w ys + (length w + 1)
-count-split = mission.formula-both
+count-split = mission.formula-load-verify
 
 -- Every end of a load alone, whatever VPP and RP#: as a run's, without the verify.
 pub load-every-end : (j : Job) (xs w sc : List ℕ) → Taken j xs w sc → Whole false j xs w sc
@@ -75,13 +75,13 @@ load-every-end = total-ends.every-end false
 
 -- A run is the two of them: what it returns and leaves is what the load leaves and, only where that ended well, what the verify from
 -- there returns and leaves, with the counts added; refused or not, for devices and bytes of the widths that the code has.
-pub run-is-both : (j : Job) (xs w sc : List ℕ) → j .device .program ≤ 65535 → j .device .erase ≤ 65535 → Cells (j .device .part) w → Cells (j .device .part) xs
-    → runLeft (doing (Load true) j) xs w sc ≡ bothLeft j xs w sc
-run-is-both = both.run-both
+pub run-is-load-then-verify : (j : Job) (xs w sc : List ℕ) → j .device .program ≤ 65535 → j .device .erase ≤ 65535 → Cells (j .device .part) w → Cells (j .device .part) xs
+    → runLeft (doing (Load true) j) xs w sc ≡ loadVerifyLeft j xs w sc
+run-is-load-then-verify = both.run-load-verify
 
 -- So are its cycles: where the load did not end well, the verify is not begun.
-pub cycles-are-both : (j : Job) (xs w sc : List ℕ) → Taken j xs w sc → cyclesOfLoad j xs w sc ≡ bothCycles j xs w sc
-cycles-are-both j xs w sc t = both.taken-both j xs w sc t .1
+pub cycles-are-load-then-verify : (j : Job) (xs w sc : List ℕ) → Taken j xs w sc → cyclesOfLoad j xs w sc ≡ loadVerifyCycles j xs w sc
+cycles-are-load-then-verify j xs w sc t = both.taken-load-verify j xs w sc t .1
 
 -- 25 comes from a verify only, 20 to 24 from a load only: a load alone never ends 25, and a verify ends well or 25.
 pub load-never-25 : (j : Job) (xs w sc : List ℕ) → Taken j xs w sc → runLeft (doing (Load false) j) xs w sc .ran .end ≡ 25 → ⊥

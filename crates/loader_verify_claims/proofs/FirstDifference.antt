@@ -44,8 +44,8 @@ module _ (xs ws : List ℕ) (bx : Bytes xs) (bw : Bytes ws) (a n : ℕ) (lx : 2 
   want : (j : ℕ) → j < n → getD W j 0 ≡ wordOf (getD ws (2 * j) 0) (getD ws (2 * j + 1) 0)
   want j h = sym (get-law ws j (2 * j) (getD ws (2 * j) 0) (getD ws (2 * j + 1) 0) refl (omega arith) refl refl)
 
-  both-same : (j : ℕ) → j < n → getD H j 0 ≡ getD W j 0 → (getD xs (2 * a + 2 * j) 0 ≡ getD ws (2 * j) 0) × (getD xs (2 * a + (2 * j + 1)) 0 ≡ getD ws (2 * j + 1) 0)
-  both-same j h e = words-same _ _ _ _ (bx (2 * a + 2 * j)) (bw (2 * j)) (sym (held j h) ∙ e ∙ want j h)
+  load-verify-same : (j : ℕ) → j < n → getD H j 0 ≡ getD W j 0 → (getD xs (2 * a + 2 * j) 0 ≡ getD ws (2 * j) 0) × (getD xs (2 * a + (2 * j + 1)) 0 ≡ getD ws (2 * j + 1) 0)
+  load-verify-same j h e = words-same _ _ _ _ (bx (2 * a + 2 * j)) (bw (2 * j)) (sym (held j h) ∙ e ∙ want j h)
 
   low-same : (j : ℕ) → j < n → getD H j 0 % 256 ≡ getD W j 0 % 256 → getD xs (2 * a + 2 * j) 0 ≡ getD ws (2 * j) 0
   low-same j h e = lows-same (getD H j 0) (getD W j 0) _ _ _ _ (bx (2 * a + 2 * j)) (bw (2 * j)) (held j h) (want j h) e
@@ -57,10 +57,10 @@ module _ (xs ws : List ℕ) (bx : Bytes xs) (bw : Bytes ws) (a n : ℕ) (lx : 2 
       go : (b : Bool) → eqb (j % 2) 0 ≡ b → getD xs (2 * a + j) 0 ≡ getD ws j 0
       go true q =
           let z = eqb-true (j % 2) 0 q in
-          subst (λ (m : ℕ). getD xs (2 * a + m) 0 ≡ getD ws m 0) (let r : 2 * (j / 2) ≡ j = omega arith in r) (both-same (j / 2) h e .0)
+          subst (λ (m : ℕ). getD xs (2 * a + m) 0 ≡ getD ws m 0) (let r : 2 * (j / 2) ≡ j = omega arith in r) (load-verify-same (j / 2) h e .0)
       go false q =
           let z : j % 2 ≡ 0 → ⊥ = eqb-false (j % 2) 0 q in
-          subst (λ (m : ℕ). getD xs (2 * a + m) 0 ≡ getD ws m 0) (let r : 2 * (j / 2) + 1 ≡ j = omega arith in r) (both-same (j / 2) h e .1)
+          subst (λ (m : ℕ). getD xs (2 * a + m) 0 ≡ getD ws m 0) (let r : 2 * (j / 2) + 1 ≡ j = omega arith in r) (load-verify-same (j / 2) h e .1)
 
   words-first : (u : ℕ) → u < n → (getD H u 0 ≡ getD W u 0 → ⊥) → ((j : ℕ) → j < u → getD H j 0 ≡ getD W j 0)
       → (b : Bool) → eqb (getD H u 0 % 256) (getD W u 0 % 256) ≡ b → FirstByte xs ws (2 * a) (2 * u + (if b then 1 else 0))

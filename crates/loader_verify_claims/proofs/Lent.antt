@@ -17,7 +17,7 @@ use Rattle.units.specs.Address.{byteOf, byteAt}
 use Rattle.units.proofs.Widths.{lent-is, lent-whole, whole, no-spare, same-bytes, in-law}
 use Rattle.loader_run.specs.declared.Ran.{Ran}
 use Rattle.loader_run.specs.Runs.{runRows, runNumber, lentRows, lentNumber, runFirst, runLeft, lentRun, doing}
-use Rattle.loader_run.proofs.Good.{good}
+use Rattle.loader_run.proofs.UnrefusedRun.{good}
 use Rattle.loader_run.proofs.Lending.{units-number, some}
 use Rattle.loader_run.proofs.Borders.{lent-ran}
 use Rattle.loader_run_claims.specs.Wear.{heldIn, heldBy}

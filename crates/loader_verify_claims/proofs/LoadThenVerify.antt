@@ -38,9 +38,9 @@ use Rattle.loader_run_claims.proofs.Starts.{none-refuses, taken-if}
 use Rattle.loader_run_claims.proofs.LoadLists.{cells-laid}
 use Rattle.loader_run_claims.proofs.Grounds as grounds
 use Rattle.loader_run_claims.proofs.Total.{every-end}
-use Rattle.loader_run_claims.proofs.Mission.{formula-both}
+use Rattle.loader_run_claims.proofs.Mission.{formula-load-verify}
 use Rattle.loader_verify_claims.specs.Verified.{unitsRead, verifyEnd, verifyAddress, verifyRan, Verified}
-use Rattle.loader_verify_claims.specs.LoadThenVerify.{verifyFrom, countedOn, verifyAfter, thenVerify, bothLeft, cyclesAfter, bothCycles}
+use Rattle.loader_verify_claims.specs.LoadThenVerify.{verifyFrom, countedOn, verifyAfter, thenVerify, loadVerifyLeft, cyclesAfter, loadVerifyCycles}
 use Rattle.loader_verify_claims.proofs.Verifying.{as-wanted, verified}
 use Rattle.loader.specs.declared.Work.the-variants.{Load, Verify}
 use Rattle.loader_run.specs.declared.Job.{Job}
@@ -177,8 +177,8 @@ module _ (j : Job) (xs w sc : List ℕ) (t : Taken j xs w sc) where
         (every-end true j xs w sc t .bytes ∙ if-true (eqb (endNumber (j .device) (j .pins) (j .block) w ys) 0) _ _ e)
         (every-end true j xs w sc t .scratch ∙ if-true (eqb (endNumber (j .device) (j .pins) (j .block) w ys) 0) _ _ e)
 
-    well-both : runLeft (doing (Load true) j) xs w sc ≡ bothLeft j xs w sc
-    well-both =
+    well-load-verify : runLeft (doing (Load true) j) xs w sc ≡ loadVerifyLeft j xs w sc
+    well-load-verify =
         run-well
         ∙ parts (record { ran = wellRan true (j .device) (j .state) (j .block) w ys; bytes = laid; scratch = w }) (verifyAfter j w (record { ran = wellRan false (j .device) (j .state) (j .block) w ys; bytes = laid; scratch = w }))
         ((λ i. record { count = sums i; end = 0; address = 0; state = atRest was Array 0x80 }) ∙ ap (λ (r : Ran). countedOn (loadFormula (j .device) w ys) r) (sym verify-ran))
@@ -186,9 +186,9 @@ module _ (j : Job) (xs w sc : List ℕ) (t : Taken j xs w sc) where
         ∙ ap (λ (l : RunLeft). thenVerify j w l) (sym loaded)
       where
         sums : formula (j .device) w ys ≡ loadFormula (j .device) w ys + (1 + length w)
-        sums = formula-both (j .device) w ys ∙ (let z : loadFormula (j .device) w ys + (length w + 1) ≡ loadFormula (j .device) w ys + (1 + length w) = omega arith in z)
+        sums = formula-load-verify (j .device) w ys ∙ (let z : loadFormula (j .device) w ys + (length w + 1) ≡ loadFormula (j .device) w ys + (1 + length w) = omega arith in z)
 
-    well-cycles : cyclesOfLoad j xs w sc ≡ bothCycles j xs w sc
+    well-cycles : cyclesOfLoad j xs w sc ≡ loadVerifyCycles j xs w sc
     unfolding cyclesAs
     well-cycles =
         every-end true j xs w sc t .made ∙ if-true (eqb (endNumber (j .device) (j .pins) (j .block) w ys) 0) _ _ e
@@ -205,16 +205,16 @@ module _ (j : Job) (xs w sc : List ℕ) (t : Taken j xs w sc) where
     not-well : eqb (load .ran .end) 0 ≡ false
     not-well = ap (λ (r : Ran). eqb (r .end) 0) stopped ∙ e
 
-    fault-both : runLeft (doing (Load true) j) xs w sc ≡ bothLeft j xs w sc
+    fault-load-verify : runLeft (doing (Load true) j) xs w sc ≡ loadVerifyLeft j xs w sc
     unfolding ranAs
-    fault-both =
+    fault-load-verify =
         parts (runLeft (doing (Load true) j) xs w sc) load
         (every-end true j xs w sc t .ran ∙ if-false (eqb (endNumber (j .device) (j .pins) (j .block) w ys) 0) _ _ e ∙ sym stopped)
         (every-end true j xs w sc t .bytes ∙ sym (every-end false j xs w sc t .bytes))
         (every-end true j xs w sc t .scratch ∙ sym (every-end false j xs w sc t .scratch))
         ∙ sym (if-false (eqb (load .ran .end) 0) (verifyAfter j w load) load not-well)
 
-    fault-cycles : cyclesOfLoad j xs w sc ≡ bothCycles j xs w sc
+    fault-cycles : cyclesOfLoad j xs w sc ≡ loadVerifyCycles j xs w sc
     unfolding cyclesAs
     fault-cycles =
         every-end true j xs w sc t .made ∙ if-false (eqb (endNumber (j .device) (j .pins) (j .block) w ys) 0) _ _ e
@@ -223,20 +223,20 @@ module _ (j : Job) (xs w sc : List ℕ) (t : Taken j xs w sc) where
         ∙ ap (λ (z : List Cycle). cyclesAt (doing (Load false) j) xs w sc ++ z)
         (sym (if-false (eqb (load .ran .end) 0) (cyclesAt (verifyFrom j load) (load .bytes) w (load .scratch)) [] not-well))
 
-  pub taken-both : (runLeft (doing (Load true) j) xs w sc ≡ bothLeft j xs w sc) × (cyclesOfLoad j xs w sc ≡ bothCycles j xs w sc)
-  taken-both = go (eqb (endNumber (j .device) (j .pins) (j .block) w ys) 0) refl
+  pub taken-load-verify : (runLeft (doing (Load true) j) xs w sc ≡ loadVerifyLeft j xs w sc) × (cyclesOfLoad j xs w sc ≡ loadVerifyCycles j xs w sc)
+  taken-load-verify = go (eqb (endNumber (j .device) (j .pins) (j .block) w ys) 0) refl
     where
-      go : (z : Bool) → eqb (endNumber (j .device) (j .pins) (j .block) w ys) 0 ≡ z → (runLeft (doing (Load true) j) xs w sc ≡ bothLeft j xs w sc) × (cyclesOfLoad j xs w sc ≡ bothCycles j xs w sc)
-      go true e = (well-both e, well-cycles e)
-      go false e = (fault-both e, fault-cycles e)
+      go : (z : Bool) → eqb (endNumber (j .device) (j .pins) (j .block) w ys) 0 ≡ z → (runLeft (doing (Load true) j) xs w sc ≡ loadVerifyLeft j xs w sc) × (cyclesOfLoad j xs w sc ≡ loadVerifyCycles j xs w sc)
+      go true e = (well-load-verify e, well-cycles e)
+      go false e = (fault-load-verify e, fault-cycles e)
 
 -- whatever is lent: a refusal is the same for the run and the load
-pub run-both : (j : Job) (xs w sc : List ℕ) → j .device .program ≤ 65535 → j .device .erase ≤ 65535 → Cells (j .device .part) w → Cells (j .device .part) xs
-    → runLeft (doing (Load true) j) xs w sc ≡ bothLeft j xs w sc
-run-both j xs w sc programs erases bytes cells = go (eqb (runNumber j (length xs) (length w) (length sc)) 0) refl
+pub run-load-verify : (j : Job) (xs w sc : List ℕ) → j .device .program ≤ 65535 → j .device .erase ≤ 65535 → Cells (j .device .part) w → Cells (j .device .part) xs
+    → runLeft (doing (Load true) j) xs w sc ≡ loadVerifyLeft j xs w sc
+run-load-verify j xs w sc programs erases bytes cells = go (eqb (runNumber j (length xs) (length w) (length sc)) 0) refl
   where
-    go : (t : Bool) → eqb (runNumber j (length xs) (length w) (length sc)) 0 ≡ t → runLeft (doing (Load true) j) xs w sc ≡ bothLeft j xs w sc
-    go true e = taken-both j xs w sc (taken-if j xs w sc (eqb-true _ _ e) programs erases bytes cells) .0
+    go : (t : Bool) → eqb (runNumber j (length xs) (length w) (length sc)) 0 ≡ t → runLeft (doing (Load true) j) xs w sc ≡ loadVerifyLeft j xs w sc
+    go true e = taken-load-verify j xs w sc (taken-if j xs w sc (eqb-true _ _ e) programs erases bytes cells) .0
     go false e =
         left-refused (doing (Load true) j) xs w sc (eqb-false _ _ e)
         ∙ sym (if-false (eqb (runNumber j (length xs) (length w) (length sc)) 0) (verifyAfter j w (runRefused (runNumber j (length xs) (length w) (length sc)) (j .state) xs sc)) (runRefused (runNumber j (length xs) (length w) (length sc)) (j .state) xs sc) e)

@@ -33,13 +33,13 @@ abbrev pub thenVerify : Job → List ℕ → RunLeft → RunLeft
 thenVerify j w l = if eqb (l .ran .end) 0 then verifyAfter j w l else l
 
 -- a load alone, and then, where it ended well, a verify alone
-abbrev pub bothLeft : Job → List ℕ → List ℕ → List ℕ → RunLeft
-bothLeft j xs w sc = thenVerify j w (runLeft (doing (Load false) j) xs w sc)
+abbrev pub loadVerifyLeft : Job → List ℕ → List ℕ → List ℕ → RunLeft
+loadVerifyLeft j xs w sc = thenVerify j w (runLeft (doing (Load false) j) xs w sc)
 
 -- the cycles of that verify, and none where the load did not end well
 abbrev pub cyclesAfter : Job → List ℕ → RunLeft → List Cycle
 cyclesAfter j w l = if eqb (l .ran .end) 0 then cyclesAt (verifyFrom j l) (l .bytes) w (l .scratch) else []
 
 -- .. the cycles of both
-abbrev pub bothCycles : Job → List ℕ → List ℕ → List ℕ → List Cycle
-bothCycles j xs w sc = cyclesAt (doing (Load false) j) xs w sc ++ cyclesAfter j w (runLeft (doing (Load false) j) xs w sc)
+abbrev pub loadVerifyCycles : Job → List ℕ → List ℕ → List ℕ → List Cycle
+loadVerifyCycles j xs w sc = cyclesAt (doing (Load false) j) xs w sc ++ cyclesAfter j w (runLeft (doing (Load false) j) xs w sc)

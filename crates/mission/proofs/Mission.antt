@@ -16,8 +16,8 @@ use Rattle.model.proofs as model
 use Rattle.model_history.specs.History.{Bus, World, worldOf, busesOf, begunOver, acceptsAll}
 use Rattle.model_sheet.specs.Sentences.{Cut}
 use Rattle.model_sheet.proofs.Claims as sheet
-use Rattle.loader.specs.{declared.Work.Work, declared.Work.the-variants.Load, declared.Loader.Loader, declared.Turn.the-variants.Barred, Stages.isEnded}
-use Rattle.loader_steps.specs.Front.{startRows, stepRows, startGiven, stepGiven, isBarred}
+use Rattle.loader.specs.{declared.Work.Work, declared.Work.the-variants.Load, declared.Loader.Loader, declared.Saying.the-variants.Refused as SayRefused, Stages.isEnded}
+use Rattle.loader_steps.specs.Front.{startRows, stepRows, startResponse, stepResponse, saysRefused}
 use Rattle.loader_steps.proofs.Claims as steps
 use Rattle.loader_run.specs.{declared.Job.Job, Turns.Config, Runs.RunLeft, Runs.driven, Runs.lentRows, Runs.lentRun, Runs.doing}
 use Rattle.loader_run.proofs.Claims as runs
@@ -43,10 +43,10 @@ pub record Demand1 : Type 0 where
   pub cycle : (d : Device) (s : State) (c : Cycle) (xs rs : List ℕ) → let a = answerOf d s c xs rs in
       Exactly (tableOf d s c (length xs) (length rs)) (λ m. a .seen ≡ Refused m) (Accepted a)
   -- .. a loader's start, of whatever work, and its step (`loader_steps::start`, `step`) ..
-  pub start : (work : Work) (part : Part) (p : Pins) (k : ℕ) (w sc : List ℕ) → let t = startGiven work part p k w sc .turn in
-      Exactly (startRows part p k (length w) (length sc)) (λ m. t ≡ Barred m) (isBarred t ≡ false)
-  pub step : (l : Loader) (b : ℕ) (w sc : List ℕ) → let t = stepGiven l b w sc .turn in
-      Exactly (stepRows l (length w) (length sc)) (λ m. t ≡ Barred m) (isBarred t ≡ false)
+  pub start : (work : Work) (part : Part) (p : Pins) (k : ℕ) (w sc : List ℕ) → let t = startResponse work part p k w sc .saying in
+      Exactly (startRows part p k (length w) (length sc)) (λ m. t ≡ SayRefused m) (saysRefused t ≡ false)
+  pub step : (l : Loader) (b : ℕ) (w sc : List ℕ) → let t = stepResponse l b w sc .saying in
+      Exactly (stepRows l (length w) (length sc)) (λ m. t ≡ SayRefused m) (saysRefused t ≡ false)
   -- .. a run, a load alone and a verify alone (`loader_run::run`), and these from a file (`loader_from_file::load`) ..
   pub run : (j : Job) (array wanted scratch : List ℕ)
       → let r = lentRun j array wanted scratch .ran in

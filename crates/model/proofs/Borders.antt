@@ -16,7 +16,7 @@ use Rattle.units.proofs.Widths.{units-length, lent-length, lent-even, lent-whol
 use Rattle.device.specs.declared.Part.{Part}
 use Rattle.device.specs.declared.Device.{Device}
 use Rattle.device.specs.Parts.{sizeOf}
-use Rattle.device.proofs.Place.{size-some}
+use Rattle.device.proofs.BlockAddresses.{size-some}
 use Rattle.model_types.specs.Levels.{rpLow, vppLow}
 use Rattle.model_operation.specs.Settling.{residueFor}
 use Rattle.model_types.specs.declared.State.{State}
@@ -109,14 +109,14 @@ done-sized d s c n r =
 
 -- a cycle on lent bytes
 module _ (d : Device) (s : State) (c : Cycle) (xs rs : List ℕ) where
-  abbrev wide : Bool
-  wide = d .part .word
+  abbrev word : Bool
+  word = d .part .word
 
   abbrev us : List ℕ
-  us = lent wide xs
+  us = lent word xs
 
   abbrev ts : List ℕ
-  ts = units wide rs
+  ts = units word rs
 
   abbrev refuses : Bool
   refuses = isRefusal (decideOf d s c (length us) (length ts) .reply)
@@ -127,11 +127,11 @@ module _ (d : Device) (s : State) (c : Cycle) (xs rs : List ℕ) where
 
   pub kept : refuses ≡ true → bytesAfter d s c xs rs ≡ xs
   unfolding bytesAfter
-  kept e = if-true refuses xs (back wide (arrayAfter d s c us ts)) e
+  kept e = if-true refuses xs (back word (arrayAfter d s c us ts)) e
 
-  pub done : refuses ≡ false → bytesAfter d s c xs rs ≡ back wide (arrayAfter d s c us ts)
+  pub done : refuses ≡ false → bytesAfter d s c xs rs ≡ back word (arrayAfter d s c us ts)
   unfolding bytesAfter
-  done e = if-false refuses xs (back wide (arrayAfter d s c us ts)) e
+  done e = if-false refuses xs (back word (arrayAfter d s c us ts)) e
 
   pub bytes-length : length (bytesAfter d s c xs rs) ≡ length xs
   bytes-length = go refuses refl
@@ -139,25 +139,25 @@ module _ (d : Device) (s : State) (c : Cycle) (xs rs : List ℕ) where
       go : (b : Bool) → refuses ≡ b → length (bytesAfter d s c xs rs) ≡ length xs
       go true e = ap (λ (zs : List ℕ). length zs) (kept e)
       go false e =
-          let t : torn wide (length xs) ≡ false = sized-whole d xs (done-sized d s c (length us) (length ts) e) in
-          ap (λ (zs : List ℕ). length zs) (done e) ∙ back-length wide (arrayAfter d s c us ts) ∙ ap (bytesIn wide) (cycle-length d s c us ts)
-          ∙ ap (λ (zs : List ℕ). bytesIn wide (length zs)) (lent-even wide xs t) ∙ sym (whole wide xs t)
+          let t : torn word (length xs) ≡ false = sized-whole d xs (done-sized d s c (length us) (length ts) e) in
+          ap (λ (zs : List ℕ). length zs) (done e) ∙ back-length word (arrayAfter d s c us ts) ∙ ap (bytesIn word) (cycle-length d s c us ts)
+          ∙ ap (λ (zs : List ℕ). bytesIn word (length zs)) (lent-even word xs t) ∙ sym (whole word xs t)
 
   pub refused-bytes : (m : ℕ) → answerOf d s c us ts .seen ≡ Refused m → bytesAfter d s c xs rs ≡ xs
   unfolding answerOf
   refused-bytes m e = kept (ap isRefusal (seen-refused (decideOf d s c (length us) (length ts) .reply) (arrayAfter d s c us ts) m e))
 
-  pub left-units : lent wide (bytesAfter d s c xs rs) ≡ arrayAfter d s c us ts
+  pub left-units : lent word (bytesAfter d s c xs rs) ≡ arrayAfter d s c us ts
   left-units = go refuses refl
     where
-      go : (b : Bool) → refuses ≡ b → lent wide (bytesAfter d s c xs rs) ≡ arrayAfter d s c us ts
-      go true e = ap (lent wide) (kept e) ∙ sym (unchanged e)
-      go false e = ap (lent wide) (done e) ∙ lent-back wide (arrayAfter d s c us ts)
+      go : (b : Bool) → refuses ≡ b → lent word (bytesAfter d s c xs rs) ≡ arrayAfter d s c us ts
+      go true e = ap (lent word) (kept e) ∙ sym (unchanged e)
+      go false e = ap (lent word) (done e) ∙ lent-back word (arrayAfter d s c us ts)
 
   -- for `cycle`: refused by 1 to 6 ..
-  module _ (n : ℕ) (j : n ≡ judgeOf d s c (lentIn wide (length xs)) (unitsIn wide (length rs))) where
-    same : judgeOf d s c (lentIn wide (length xs)) (unitsIn wide (length rs)) ≡ judgeOf d s c (length us) (length ts)
-    same = ap₂ (λ (a b : ℕ). judgeOf d s c a b) (sym (lent-length wide xs)) (sym (units-length wide rs))
+  module _ (n : ℕ) (j : n ≡ judgeOf d s c (lentIn word (length xs)) (unitsIn word (length rs))) where
+    same : judgeOf d s c (lentIn word (length xs)) (unitsIn word (length rs)) ≡ judgeOf d s c (length us) (length ts)
+    same = ap₂ (λ (a b : ℕ). judgeOf d s c a b) (sym (lent-length word xs)) (sym (units-length word rs))
 
     stop : (n ≡ 0 → ⊥) → decideOf d s c (length us) (length ts) ≡ refusedBy n s
     stop z = stops d s c (length us) (length ts) (λ e. z (j ∙ same ∙ e)) ∙ ap (λ (m : ℕ). refusedBy m s) (sym (j ∙ same))
@@ -174,25 +174,25 @@ module _ (d : Device) (s : State) (c : Cycle) (xs rs : List ℕ) where
       zero : judgeOf d s c (length us) (length ts) ≡ 0
       zero = sym (j ∙ same) ∙ z
 
-      even : torn wide (length xs) ≡ false
+      even : torn word (length xs) ≡ false
       even = sized-whole d xs (judge-sized d s c (length us) (length ts) zero)
 
-      is : us ≡ units wide xs
-      is = lent-even wide xs even
+      is : us ≡ units word xs
+      is = lent-even word xs even
 
-      pub passed-answer : (r : Answer) → r ≡ answerJudged d s c (units wide xs) ts → r ≡ answerOf d s c us ts
+      pub passed-answer : (r : Answer) → r ≡ answerJudged d s c (units word xs) ts → r ≡ answerOf d s c us ts
       passed-answer r e = e ∙ ap (λ (vs : List ℕ). answerJudged d s c vs ts) (sym is) ∙ judged-answer d s c us ts zero
 
-      pub passed-bytes : (ys : List ℕ) → Bytes xs → Bytes ys → units wide ys ≡ arrayJudged d s c (units wide xs) ts → spare wide ys ≡ spare wide xs → length ys ≡ length xs
+      pub passed-bytes : (ys : List ℕ) → Bytes xs → Bytes ys → units word ys ≡ arrayJudged d s c (units word xs) ts → spare word ys ≡ spare word xs → length ys ≡ length xs
           → ys ≡ bytesAfter d s c xs rs
       passed-bytes ys b q e o l = go refuses refl
         where
-          after : units wide ys ≡ arrayAfter d s c us ts
+          after : units word ys ≡ arrayAfter d s c us ts
           after = e ∙ ap (λ (vs : List ℕ). arrayJudged d s c vs ts) (sym is) ∙ judged-array d s c us ts zero
 
           go : (t : Bool) → refuses ≡ t → ys ≡ bytesAfter d s c xs rs
-          go true f = same-bytes wide ys xs q b (after ∙ unchanged f ∙ is) o ∙ sym (kept f)
-          go false f = sym (back-units wide ys (subst (λ (m : ℕ). torn wide m ≡ false) (sym l) even) q) ∙ ap (back wide) after ∙ sym (done f)
+          go true f = same-bytes word ys xs q b (after ∙ unchanged f ∙ is) o ∙ sym (kept f)
+          go false f = sym (back-units word ys (subst (λ (m : ℕ). torn word m ≡ false) (sym l) even) q) ∙ ap (back word) after ∙ sym (done f)
 
 -- in byte mode the lent bytes are the units
 pub byte-lent : (w : Bool) (xs : List ℕ) → w ≡ false → lent w xs ≡ xs

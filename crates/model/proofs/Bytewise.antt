@@ -20,7 +20,7 @@ use Rattle.device.proofs.Claims.{blocks-end-inside}
 use Rattle.model_types.specs.Cells.{ones}
 use Rattle.model_types.specs.declared.Effect.the-variants.{Program, CutProgram}
 use Rattle.model.specs.Arrays.{erased, residual, arrayOf}
-use Rattle.model.specs.Words.{bothProgrammed}
+use Rattle.model.specs.Words.{pairProgrammed}
 
 -- bytes whose units are us are the bytes of us
 from-units : (w : Bool) (us ys : List ℕ) → units w ys ≡ us → torn w (length ys) ≡ false → Bytes ys → back w us ≡ ys
@@ -64,31 +64,31 @@ module _ (xs : List ℕ) (bx : Bytes xs) where
 
   -- a word
   module _ (part : Part) (i : ℕ) (h : i < length (pairs xs)) (t : torn true (length xs) ≡ false) where
-    both : (low high : ℕ) → Bytes (bothProgrammed xs i low high)
+    both : (low high : ℕ) → Bytes (pairProgrammed xs i low high)
     both low high =
         let b : Bytes (programmed xs (2 * i) low) = bytes-set xs (2 * i) (bitAnd (getD xs (2 * i) 0) low) bx (omega (arith, and-le-l (getD xs (2 * i) 0) low, bx (2 * i))) in
         bytes-set (programmed xs (2 * i) low) (2 * i + 1) (bitAnd (getD (programmed xs (2 * i) low) (2 * i + 1) 0) high) b
         (omega (arith, and-le-l (getD (programmed xs (2 * i) low) (2 * i + 1) 0) high, b (2 * i + 1)))
 
-    as-long : (low high : ℕ) → length (bothProgrammed xs i low high) ≡ length xs
+    as-long : (low high : ℕ) → length (pairProgrammed xs i low high) ≡ length xs
     as-long low high =
         length-set (programmed xs (2 * i) low) (2 * i + 1) (bitAnd (getD (programmed xs (2 * i) low) (2 * i + 1) 0) high) ∙ length-set xs (2 * i) (bitAnd (getD xs (2 * i) 0) low)
 
-    word-bytes : (v : ℕ) → back true (programmed (pairs xs) i v) ≡ bothProgrammed xs i (v % 256) (v / 256)
+    word-bytes : (v : ℕ) → back true (programmed (pairs xs) i v) ≡ pairProgrammed xs i (v % 256) (v / 256)
     word-bytes v =
-        let ys : List ℕ = bothProgrammed xs i (v % 256) (v / 256) in
+        let ys : List ℕ = pairProgrammed xs i (v % 256) (v / 256) in
         from-units true (programmed (pairs xs) i v) ys
         (program-law xs (programmed xs (2 * i) (v % 256)) ys i (2 * i) v (v % 256) (v / 256) refl refl refl refl refl (both-in xs i h) (bx (2 * i)) .0)
         (subst (λ (j : ℕ). torn true j ≡ false) (sym (as-long (v % 256) (v / 256))) t) (both (v % 256) (v / 256))
 
-    pub program-bytes : (v : ℕ) (rs : List ℕ) → back true (arrayOf (Program i v) part rs (pairs xs)) ≡ bothProgrammed xs i (v % 256) (v / 256)
+    pub program-bytes : (v : ℕ) (rs : List ℕ) → back true (arrayOf (Program i v) part rs (pairs xs)) ≡ pairProgrammed xs i (v % 256) (v / 256)
     program-bytes v rs = word-bytes v
 
     -- cut: each byte with its own residue byte, 0 for the low one and 1 for the high one
     pub cut-bytes : (v r q : ℕ) (rs : List ℕ) → v < 65536 → r < 256 → q < 256
-        → back true (arrayOf (CutProgram i v) part (pairs (r ∷ q ∷ rs)) (pairs xs)) ≡ bothProgrammed xs i (bitOr (v % 256) r) (bitOr (v / 256) q)
+        → back true (arrayOf (CutProgram i v) part (pairs (r ∷ q ∷ rs)) (pairs xs)) ≡ pairProgrammed xs i (bitOr (v % 256) r) (bitOr (v / 256) q)
     cut-bytes v r q rs lv lr lq =
-        word-bytes (bitOr v (wordOf r q)) ∙ ap₂ (λ (x y : ℕ). bothProgrammed xs i x y) (low (bitOr v (wordOf r q)) whole) (high (bitOr v (wordOf r q)) whole)
+        word-bytes (bitOr v (wordOf r q)) ∙ ap₂ (λ (x y : ℕ). pairProgrammed xs i x y) (low (bitOr v (wordOf r q)) whole) (high (bitOr v (wordOf r q)) whole)
       where
         split : wordOf (v % 256) (v / 256) ≡ v
         split = omega arith

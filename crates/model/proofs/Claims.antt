@@ -28,7 +28,7 @@ use Rattle.model_rules.proofs.Facts.{proper-parts, parts-proper}
 use Rattle.model.specs.declared.Seen.the-variants.{Data, Refused}
 use Rattle.model.specs.Arrays.{erased, residual, arrayOf, Accepted, answerOf, arrayAfter, bytesAfter}
 use Rattle.model.specs.Inner.{answerJudged, arrayJudged}
-use Rattle.model.specs.Words.{bothProgrammed, narrow}
+use Rattle.model.specs.Words.{pairProgrammed, narrow}
 use Rattle.model.specs.Begun.{operationOf, pendingOf, startsOf, begunBy, begunFrom, wearAfter}
 use Rattle.model_types.specs.Phases.{isBusy, isAwaited}
 use Rattle.model.proofs.Keeping as keeping
@@ -118,13 +118,13 @@ residual-bytes = bytewise.residual-bytes
 
 -- .. a program of a word leaves old AND data in both of its bytes, the low byte first ..
 pub program-bytes : (xs : List ℕ) → Bytes xs → (part : Part) (i : ℕ) → i < length (pairs xs) → torn true (length xs) ≡ false → (v : ℕ) (rs : List ℕ)
-    → back true (arrayOf (Program i v) part rs (pairs xs)) ≡ bothProgrammed xs i (v % 256) (v / 256)
+    → back true (arrayOf (Program i v) part rs (pairs xs)) ≡ pairProgrammed xs i (v % 256) (v / 256)
 program-bytes = bytewise.program-bytes
 
 -- .. and cut, old AND (data OR r), r being residue byte 0 for the low byte and residue byte 1 for the high one.
 pub cut-bytes : (xs : List ℕ) → Bytes xs → (part : Part) (i : ℕ) → i < length (pairs xs) → torn true (length xs) ≡ false
     → (v r q : ℕ) (rs : List ℕ) → v < 65536 → r < 256 → q < 256
-    → back true (arrayOf (CutProgram i v) part (pairs (r ∷ q ∷ rs)) (pairs xs)) ≡ bothProgrammed xs i (bitOr (v % 256) r) (bitOr (v / 256) q)
+    → back true (arrayOf (CutProgram i v) part (pairs (r ∷ q ∷ rs)) (pairs xs)) ≡ pairProgrammed xs i (bitOr (v % 256) r) (bitOr (v / 256) q)
 cut-bytes = bytewise.cut-bytes
 
 -- In byte mode the high byte of a cycle's data is not looked at: the answer is the same without it ..

@@ -36,11 +36,11 @@ use Rattle.model.proofs.Keeping.{settled-busy, settled-mode}
 use Rattle.model.proofs.Lives.{accept-up}
 
 -- the number that a reply refuses by, 0 where it gives no refusal
-abbrev pub refusal : Reply → ℕ
-refusal Quiet = 0
-refusal (Gives b) = 0
-refusal (GivesArray a) = 0
-refusal (Refuses m) = m
+abbrev pub replyNumber : Reply → ℕ
+replyNumber Quiet = 0
+replyNumber (Gives b) = 0
+replyNumber (GivesArray a) = 0
+replyNumber (Refuses m) = m
 
 -- an accepted cycle is not refused
 accept-answers : (d : Device) (c : Cycle) (t : Settled) → isRefusal (acceptOf d c t .reply) ≡ false
@@ -56,7 +56,7 @@ accept-answers d c t = accept-cases d c t (λ (x : Decision). isRefusal (x .repl
     kinds Write = refl
     kinds Idle = refl
 
-calm : (x : Reply) → isRefusal x ≡ false → refusal x ≡ 0
+calm : (x : Reply) → isRefusal x ≡ false → replyNumber x ≡ 0
 calm Quiet e = refl
 calm (Gives b) e = refl
 calm (GivesArray a) e = refl
@@ -64,16 +64,16 @@ calm (Refuses m) e = absurd (unlike e)
 
 module _ (d : Device) (s : State) (c : Cycle) (n r : ℕ) where
   -- the number of the table is the number of the reply
-  pub told : refusal (decideOf d s c n r .reply) ≡ numberOf d s c n r
+  pub told : replyNumber (decideOf d s c n r .reply) ≡ numberOf d s c n r
   told =
-      outcome d s c n r (λ (x : Decision). refusal (x .reply) ≡ numberOf d s c n r) (λ m z e. sym e)
+      outcome d s c n r (λ (x : Decision). replyNumber (x .reply) ≡ numberOf d s c n r) (λ m z e. sym e)
       (λ z f. calm (acceptOf d c (settleOf (d .part) s (c .pins)) .reply) (accept-answers d c (settleOf (d .part) s (c .pins))) ∙ sym z)
 
   -- refused by m exactly where m's row holds and no row above it does
   pub numbers : (m : ℕ) → (m ≡ 0 → ⊥) → (decideOf d s c n r .reply ≡ Refuses m) ↔ Foremost (tableOf d s c n r) m
   unfolding numberOf
   numbers m z = (
-    λ e. given-foremost (tableOf d s c n r) m z (sym told ∙ ap refusal e),
+    λ e. given-foremost (tableOf d s c n r) m z (sym told ∙ ap replyNumber e),
     λ f. ap (λ (x : Decision). x .reply) (refused d s c n r m (foremost-given f) z),
   )
 

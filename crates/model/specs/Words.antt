@@ -11,8 +11,8 @@ abbrev pub programmedAt : List ℕ → ℕ → ℕ → List ℕ
 programmedAt xs at v = set xs at (bitAnd (getD xs at 0) v)
 
 -- the two bytes of word i programmed, each with its own data, the low byte first
-abbrev pub bothProgrammed : List ℕ → ℕ → ℕ → ℕ → List ℕ
-bothProgrammed xs i low high =
+abbrev pub pairProgrammed : List ℕ → ℕ → ℕ → ℕ → List ℕ
+pairProgrammed xs i low high =
     let at : ℕ = firstByte (record { word = i }) .byte in
     programmedAt (programmedAt xs at low) (at + 1) high
 

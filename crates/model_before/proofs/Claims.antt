@@ -12,7 +12,7 @@ use Rattle.model.specs.Arrays.{answerOf, bytesAfter}
 use Rattle.model.specs.Words.{narrow}
 use Rattle.model.proofs.Borders.{byte-lent, byte-units, byte-mode-bytes}
 use Rattle.model_before.specs.Before as before
-use Rattle.model_before.proofs.Same.{leaves, array-same, answer-same}
+use Rattle.model_before.proofs.SameAnswers.{leaves, array-same, answer-same}
 
 -- eight bits of data are the cycle itself
 narrow-same : (c : Cycle) → c .data < 256 → narrow c ≡ c

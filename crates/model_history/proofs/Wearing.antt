@@ -134,7 +134,7 @@ and-low : (a b : ℕ) → bitAnd a b % 2 ≡ min (a % 2) (b % 2)
 and-low a b = ap (λ (x : ℕ). x % 2) (and-step a b) ∙ low (bitAnd (a / 2) (b / 2)) 1 (lt-of-le-of-lt (min-le-left (a % 2) (b % 2)) (mod-lt a (zero-lt-suc 1)))
 
 pub and-three : (a b c : ℕ) → bitAnd (bitAnd a b) c ≡ bitAnd a (bitAnd b c)
-and-three = bin-ind (λ (a : ℕ). (b c : ℕ) → bitAnd (bitAnd a b) c ≡ bitAnd a (bitAnd b c)) (λ b c. refl) (λ a more b c. turn a b c (more (b / 2) (c / 2)))
+and-three = bin-ind (λ (a : ℕ). (b c : ℕ) → bitAnd (bitAnd a b) c ≡ bitAnd a (bitAnd b c)) (λ b c. refl) (λ a more b c. round a b c (more (b / 2) (c / 2)))
   where
     highs : (a b c : ℕ) → bitAnd (bitAnd (a / 2) (b / 2)) (c / 2) ≡ bitAnd (a / 2) (bitAnd (b / 2) (c / 2)) → bitAnd (bitAnd a b / 2) (c / 2) ≡ bitAnd (a / 2) (bitAnd b c / 2)
     highs a b c h = rw (and-shr a b 1, and-shr b c 1) h
@@ -142,8 +142,8 @@ and-three = bin-ind (λ (a : ℕ). (b c : ℕ) → bitAnd (bitAnd a b) c ≡ bit
     lows : (a b c : ℕ) → min (bitAnd a b % 2) (c % 2) ≡ min (a % 2) (bitAnd b c % 2)
     lows a b c = rw (and-low a b, and-low b c) (omega arith)
 
-    turn : (a b c : ℕ) → bitAnd (bitAnd (a / 2) (b / 2)) (c / 2) ≡ bitAnd (a / 2) (bitAnd (b / 2) (c / 2)) → bitAnd (bitAnd a b) c ≡ bitAnd a (bitAnd b c)
-    turn a b c h =
+    round : (a b c : ℕ) → bitAnd (bitAnd (a / 2) (b / 2)) (c / 2) ≡ bitAnd (a / 2) (bitAnd (b / 2) (c / 2)) → bitAnd (bitAnd a b) c ≡ bitAnd a (bitAnd b c)
+    round a b c h =
         and-step (bitAnd a b) c
         ∙ ap (λ (x : ℕ). x * 2 + min (bitAnd a b % 2) (c % 2)) (highs a b c h)
         ∙ ap (λ (x : ℕ). bitAnd (a / 2) (bitAnd b c / 2) * 2 + x) (lows a b c)

@@ -25,8 +25,8 @@ decide-judged-unique d s c = only (decideJudged d s c)
 pub asks-array-unique : (s : State) (c : Cycle) → Unique (λ (r : Bool). r ≡ asksArray s c)
 asks-array-unique s c = only (asksArray s c)
 
-pub given-unique : (reply : Reply) (t : Settled) → Unique (λ (r : Decision). r ≡ settledBy reply t)
-given-unique reply t = only (settledBy reply t)
+pub settled-by-unique : (reply : Reply) (t : Settled) → Unique (λ (r : Decision). r ≡ settledBy reply t)
+settled-by-unique reply t = only (settledBy reply t)
 
 pub read-unique : (m : Mode) (part : Part) (s : State) (c : Cycle) (t : Settled) → Unique (λ (r : Decision). r ≡ decideRead m part s c t)
 read-unique m part s c t = only (decideRead m part s c t)

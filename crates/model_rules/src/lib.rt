@@ -178,7 +178,7 @@ fn identifier(part: Part, address: u32) -> u16
 }
 
 // The settled state and effect under a reply. Step 4 in its parts is public for an engine that tells a write's action in another way.
-pub fn given(reply: Reply, t: Settled) -> Decision
+pub fn settled_by(reply: Reply, t: Settled) -> Decision
     ensures { λ r. ⌜ r ≡ settledBy reply t ⌝ }
 {
     let s = t.state;
@@ -209,7 +209,7 @@ fn read_array(part: Part, s: State, c: Cycle, t: Settled) -> Decision
     if in_suspended(part, after, c.address) {
         return refused(8, s);
     }
-    given(Reply::GivesArray(c.address), t)
+    settled_by(Reply::GivesArray(c.address), t)
 }
 
 // An identifier read: 9, or the code.
@@ -219,7 +219,7 @@ fn read_identifier(part: Part, s: State, c: Cycle, t: Settled) -> Decision
     if 1 < code_place(part, c.address) {
         return refused(9, s);
     }
-    given(Reply::Gives(identifier(part, c.address)), t)
+    settled_by(Reply::Gives(identifier(part, c.address)), t)
 }
 
 // The status as a read gives it: its high byte is 0.
@@ -235,7 +235,7 @@ pub fn read(m: Mode, part: Part, s: State, c: Cycle, t: Settled) -> Decision
 {
     match m {
         Mode::Array => read_array(part, s, c, t),
-        Mode::Status => given(Reply::Gives(sixteen(t.state.status)), t),
+        Mode::Status => settled_by(Reply::Gives(sixteen(t.state.status)), t),
         Mode::Identifier => read_identifier(part, s, c, t),
     }
 }
@@ -272,7 +272,7 @@ fn respond(kind: Kind, d: Device, s: State, c: Cycle, t: Settled) -> Decision
             let part = d.part;
             write(action(part, ph, command_of(c)), d, s, c, t)
         }
-        Kind::Idle => given(Reply::Quiet, t),
+        Kind::Idle => settled_by(Reply::Quiet, t),
     }
 }
 
@@ -285,7 +285,7 @@ pub fn decide_judged(d: Device, s: State, c: Cycle) -> Decision
     let kind = c.kind;
     let t = settle(part, s, p);
     if rp_low(p) {
-        return given(Reply::Quiet, t);
+        return settled_by(Reply::Quiet, t);
     }
     respond(kind, d, s, c, t)
 }

@@ -34,7 +34,7 @@ use Rattle.model.proofs.Outcome.{outcome, accept-effect}
 use Rattle.model_history.specs.History.{Bus, World, worldOf, stepped, seenOn, effectBy}
 use Rattle.model_sheet.specs.Sheet.{Judged, Quietly, Falls, cutState, cutBytes, isErase, isEnd}
 use Rattle.model_sheet.specs.Sentences.{Cut}
-use Rattle.model_sheet.proofs.Ways.{settle-reset, settle-cut, when-low, when-idle, when-read, when-write, when-refused, leads, shows}
+use Rattle.model_sheet.proofs.SettledCases.{settle-reset, settle-cut, when-low, when-idle, when-read, when-write, when-refused, leads, shows}
 
 -- ---- what is left of the array
 program-left : (ph : Phase) (y : ℕ) → ph ≡ Programming y → (part : Part) (a : ℕ) (rs xs : List ℕ)

@@ -36,7 +36,7 @@ use Rattle.model_history.specs.History.{Bus, World, worldOf, stepped, worldAfte
 use Rattle.model_sheet.specs.Sheet.{Judged, isRunning, Quietly, heeds, idleFor, isIgnored, unheard, goesOn, leftThen, phaseThen, oneLess}
 use Rattle.model_sheet.specs.Sentences.{Ignores}
 use Rattle.model_sheet.proofs.Opening.{is-write}
-use Rattle.model_sheet.proofs.Ways.{settle-held, settle-count, settle-suspending, judged-proper, when-idle, when-write, leads, shows}
+use Rattle.model_sheet.proofs.SettledCases.{settle-held, settle-count, settle-suspending, judged-proper, when-idle, when-write, leads, shows}
 
 -- a write that is not heeded asks for nothing
 ignore-is : (part : Part) (ph : Phase) (b : ℕ) → heeds ph b ≡ false → actionOf part ph b ≡ Ignore

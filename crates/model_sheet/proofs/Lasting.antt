@@ -44,10 +44,10 @@ use Rattle.model.proofs.Lives.{settle-awaited, accept-up, begun-refused, begun-
 use Rattle.model.proofs.Outcome.{accept-effect}
 use Rattle.model.proofs.Table.{refused-nothing}
 use Rattle.model_history.specs.History.{Bus, World, stepped, worldAfter, effectBy, effectsIn, isCut, uncut}
-use Rattle.model_suspend.proofs.Held as held
+use Rattle.model_suspend.proofs.SuspendedCycles as held
 use Rattle.model_sheet.specs.Sheet.{isRunning, endState, isTaken, begunAt, countsOn, countedIn, busyTime, IsLast}
 use Rattle.model_sheet.specs.Sentences.{Lasts}
-use Rattle.model_sheet.proofs.Ways.{running-is, settle-end, leads}
+use Rattle.model_sheet.proofs.SettledCases.{running-is, settle-end, leads}
 use Rattle.model_sheet.proofs.Opening.{is-write}
 use Rattle.model_sheet.proofs.Bits.{number-zero}
 

@@ -1,4 +1,4 @@
-pub mod Ways
+pub mod SettledCases
 pub mod Lasting
 pub mod Cutting
 pub mod Ignoring

@@ -30,7 +30,7 @@ use Rattle.model_history.specs.History.{Bus, World, worldOf}
 use Rattle.model_suspend.specs.Suspends.{isSuspend}
 use Rattle.model_sheet.specs.Sheet.{Judged, Quietly, endState, cutState}
 use Rattle.model_sheet.specs.Sentences.{OpensArray}
-use Rattle.model_sheet.proofs.Ways.{settle-reset, settle-still, settle-cut, settle-end, when-low, when-write, leads, shows}
+use Rattle.model_sheet.proofs.SettledCases.{settle-reset, settle-still, settle-cut, settle-end, when-low, when-write, leads, shows}
 
 pub is-write : (k : Kind) → isWrite k ≡ true → k ≡ Write
 is-write Read e = absurd (unlike (sym e))

@@ -22,7 +22,7 @@ use Rattle.model.specs.declared.Seen.the-variants.{Data, Refused}
 use Rattle.model.specs.Arrays.{seenOf}
 use Rattle.model_history.specs.History.{Bus, World, stepped, seenOn}
 use Rattle.model_sheet.specs.Sheet.{Judged}
-use Rattle.model_sheet.proofs.Ways.{settle-held, when-read, leads, shows}
+use Rattle.model_sheet.proofs.SettledCases.{settle-held, when-read, leads, shows}
 
 held-still : (ph : Phase) → isSuspended ph ≡ true → isBusy ph ≡ false
 held-still Free e = refl

@@ -5,7 +5,7 @@ use mathlib.Core.List.{List, [], _∷_, _++_}
 use Prim.Native.Nat.{ℕ}
 use lib.ListN.{getD, replicate}
 use lib.Dec.{eqb}
-use Rattle.device.specs.Parts.{rowOf, isLarge, shapeOf, sizeIn, lengthIn, offsetIn, holderIn, turned, startIn, blockIn, unknownPart, unknownDevice, sizeOf, lengthOf, startOf, blockOf}
+use Rattle.device.specs.Parts.{rowOf, isLarge, shapeOf, sizeIn, lengthIn, offsetIn, holderIn, mirrored, startIn, blockIn, unknownPart, unknownDevice, sizeOf, lengthOf, startOf, blockOf}
 use Rattle.device.specs.declared.Device.{Device}
 use Rattle.model_types.specs.declared.Kind.{Kind}
 use Rattle.model_types.specs.declared.Kind.the-variants.{Read, Write, Idle}
@@ -58,5 +58,5 @@ shown : (eqb (countedIn bench (worldAfter bench (filled 255) asked) meanwhile) 1
     && not (clears bench (worldAfter bench (filled 255) (cycle Write 0x3A00 0x40 ∷ [])) (cycle Write 0x3A00 0x50))
     && noneClears bench (filled 255) (cycle Write 0x3A00 0x40 ∷ cycle Write 0x3A00 0x50 ∷ [])
     && not (noneClears bench (filled 255) (cycle Write 0 0x70 ∷ cycle Write 0 0x50 ∷ []))) ≡ true
-unfolding rowOf isLarge shapeOf sizeIn lengthIn offsetIn holderIn turned startIn blockIn unknownPart unknownDevice sizeOf lengthOf startOf blockOf vppLow atTwelve atFive vppHigh badWp badPins mostOe badLevels unlocked ones locked proper improper commandOf dataOf asksProgram firstWrite afterErase whileErasing whileSuspending whileSuspended unsupplied startedOf cutBy countedOff suspendPassed passedOf settleOf pastArray shortResidue noCommand suspendedRead noIdentifier numberOf acceptOf decideOf erased residual arrayAfter answerOf
+unfolding rowOf isLarge shapeOf sizeIn lengthIn offsetIn holderIn mirrored startIn blockIn unknownPart unknownDevice sizeOf lengthOf startOf blockOf vppLow atTwelve atFive vppHigh badWp badPins mostOe badLevels unlocked ones locked proper improper commandOf dataOf asksProgram firstWrite afterErase whileErasing whileSuspending whileSuspended unsupplied startedOf cutBy countedOff suspendPassed passedOf settleOf pastArray shortResidue noCommand suspendedRead noIdentifier numberOf acceptOf decideOf erased residual arrayAfter answerOf
 shown = refl

@@ -36,7 +36,7 @@ use Rattle.model.proofs.Lives.{begun-accepted, settle-awaited, settle-unawaited
 use Rattle.model_history.specs.History.{Bus, World, worldOf, stepped, seenOn}
 use Rattle.model_sheet.specs.Sheet.{Judged, Quietly, begunAt, isConfirm, errorOf, levelled, Comparable}
 use Rattle.model_sheet.proofs.Opening.{is-write}
-use Rattle.model_sheet.proofs.Ways.{when-write, leads, shows}
+use Rattle.model_sheet.proofs.SettledCases.{when-write, leads, shows}
 use Rattle.model_sheet.proofs.Bits.{number-zero}
 
 -- ---- what bars

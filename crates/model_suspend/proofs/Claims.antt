@@ -10,7 +10,7 @@ use Rattle.model_types.specs.Status.{SR7, SR6, isSet}
 use Rattle.model.specs.declared.Seen.the-variants.{NoData}
 use Rattle.model_history.specs.History.{Bus, World, worldAfter, seenIn}
 use Rattle.model_suspend.specs.Suspends.{isSuspend, isResume, isOpening, Unfinished, Smooth, heldStatus, shownAs, shownAll, Suspends}
-use Rattle.model_suspend.proofs.Held as held
+use Rattle.model_suspend.proofs.SuspendedCycles as held
 
 -- B0H in a running erase that it does not end, and S cycles after it, whatever they are, all accepted and none cutting or resetting:
 -- the erase is suspended, at its address, with one cycle less to go, in mode read status, and the array is as before. Where the last

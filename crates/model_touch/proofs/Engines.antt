@@ -6,6 +6,6 @@ use Rattle.model_touch.specs.Touch.{Engine, byRules, byTable, Ours, rule
 pub one-engine : byTable ≡ byRules
 one-engine = λ i. record { answer = λ d s c xs rs. same-answer d s c xs rs i; leaves = λ d s c xs rs. same-bytes d s c xs rs i }
 
-pub both : (P : Engine → Type 0) → P byRules → {g : Engine} → Ours g → P g
-both P p rules = p
-both P p table = subst P (sym one-engine) p
+pub either-engine : (P : Engine → Type 0) → P byRules → {g : Engine} → Ours g → P g
+either-engine P p rules = p
+either-engine P p table = subst P (sym one-engine) p

@@ -7,7 +7,7 @@ use Prim.Native.Nat.{ℕ}
 use lib.ListN.{replicate}
 use lib.Dec.{eqb}
 use Rattle.units.specs.Units.{lent}
-use Rattle.device.specs.Parts.{rowOf, isLarge, shapeOf, sizeIn, lengthIn, offsetIn, holderIn, turned, startIn, blockIn, unknownPart, unknownDevice, sizeOf, lengthOf, startOf, blockOf}
+use Rattle.device.specs.Parts.{rowOf, isLarge, shapeOf, sizeIn, lengthIn, offsetIn, holderIn, mirrored, startIn, blockIn, unknownPart, unknownDevice, sizeOf, lengthOf, startOf, blockOf}
 use Rattle.device.specs.declared.Device.{Device}
 use Rattle.model_types.specs.declared.Kind.{Kind}
 use Rattle.model_types.specs.declared.Kind.the-variants.{Write, Idle}
@@ -50,5 +50,5 @@ shown : (eqb (byteIn (before byRules bench start cycles 9) 0x3A00) 0x5A
     && starts 7 (cycle Write 2 0x3C00 0x0F) 0x3C00
     && inBlock (bench .part) 0 0x3C00
     && not (inBlock (bench .part) 0 0x3BFF)) ≡ true
-unfolding rowOf isLarge shapeOf sizeIn lengthIn offsetIn holderIn turned startIn blockIn unknownPart unknownDevice sizeOf lengthOf startOf blockOf vppLow atTwelve atFive vppHigh badWp badPins mostOe badLevels unlocked ones locked proper improper commandOf dataOf asksProgram firstWrite afterErase whileErasing whileSuspending whileSuspended unsupplied startedOf cutBy countedOff suspendPassed passedOf settleOf pastArray shortResidue noCommand suspendedRead noIdentifier numberOf acceptOf decideOf erased residual arrayAfter answerOf bytesAfter lent startsOf begunBy amongBytes
+unfolding rowOf isLarge shapeOf sizeIn lengthIn offsetIn holderIn mirrored startIn blockIn unknownPart unknownDevice sizeOf lengthOf startOf blockOf vppLow atTwelve atFive vppHigh badWp badPins mostOe badLevels unlocked ones locked proper improper commandOf dataOf asksProgram firstWrite afterErase whileErasing whileSuspending whileSuspended unsupplied startedOf cutBy countedOff suspendPassed passedOf settleOf pastArray shortResidue noCommand suspendedRead noIdentifier numberOf acceptOf decideOf erased residual arrayAfter answerOf bytesAfter lent startsOf begunBy amongBytes
 shown = refl

@@ -10,7 +10,7 @@ use lib.IntN.{ℤ}
 use lib.Signed.{ltZ}
 use lib.Ieee.{binary64, ofInt}
 use Rattle.common.specs.Numbers.{given}
-use Rattle.file_codec.specs.declared.ReadBack.the-variants.{Gave, NotRead}
+use Rattle.file_codec.specs.declared.ReadBack.the-variants.{Gave, Refused as ReadRefused}
 use Rattle.file_codec.specs.File.{Outcome, refused, made, leftIn, readAs}
 use Rattle.reading_pair.specs.Pairs.{interpolated}
 use Rattle.reading_table.specs.Table.{voltsOf, knots, risesTo, shapeWrong, tableNumber}
@@ -99,7 +99,7 @@ module _ (p : List ℕ) (x : ℤ) where
       go false h false k = simp (says .0, ends, h, k, judged-rises p (says .1) (seekOf p x) (seekOf p x + 1) (omega arith) (next-knot h k two))
 
 -- a file that the reader refuses
-pub refused-answer : (o : Outcome) (n : ℕ) (x : ℤ) → readAs o ≡ NotRead n → Refused n ≡ answerAs x o
+pub refused-answer : (o : Outcome) (n : ℕ) (x : ℤ) → readAs o ≡ ReadRefused n → Refused n ≡ answerAs x o
 refused-answer (refused m) n x e = let q : m ≡ n = cc in ap Refused (sym q)
 refused-answer (made p) n x e = absurd (let z : _≡_ {A = ℕ} 0 1 = cc in omega arith)
 

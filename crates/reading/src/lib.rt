@@ -128,7 +128,7 @@ pub fn reading_from_file(file: &[u8], letter: u8, room: &mut [u8], x: i32) -> Re
 {
     let got = file_codec::read(file, letter, room);
     match got {
-        ReadBack::NotRead(n) => ReadingAnswer::Refused(n),
+        ReadBack::Refused(n) => ReadingAnswer::Refused(n),
         ReadBack::Gave(size) => judged_reading(&room[0..size], x),
     }
 }

@@ -12,7 +12,7 @@ use lib.Ieee.Scale.{finite}
 use Rattle.reading_pair.specs.Pairs.{interpolated}
 use Rattle.reading_pair.specs.Order.{LiesBetween, notMinusZero}
 use Rattle.reading_pair.proofs.Knots.{at-first}
-use Rattle.reading_pair.proofs.Inside.{inside-up, inside-down, wide-gap}
+use Rattle.reading_pair.proofs.Inside.{inside-up, inside-down, some-gap}
 use Rattle.reading_table.specs.Table.{knots, voltsOf, tenthsOf, inRange, risesTo}
 use Rattle.reading_table.specs.Search.{seekOf}
 use Rattle.reading_table.proofs.Order.{le-trans, not-le}
@@ -76,7 +76,7 @@ plain-inside p t i h = plain-pair p i (pair-rises p t i h)
 plain-whole : (z : ℤ) → natAbs z ≤ 32768 → Plain (ofInt binary64 z)
 plain-whole z h =
     let l = inside-up (pos 0) z (pos 1) z (pos 0) zero-le (omega arith) zero-le h h tt tt tt (≤ℤ-refl z .le) in
-    subst Plain (at-first (pos 0) z (pos 1) z zero-le (omega arith) h h (wide-gap (pos 0) (pos 1) tt)) (l .2, l .3)
+    subst Plain (at-first (pos 0) z (pos 1) z zero-le (omega arith) h h (some-gap (pos 0) (pos 1) tt)) (l .2, l .3)
 
 -- so every knot's own temperature is plain, of any payload
 pub plain-heat : (p : List ℕ) (i : ℕ) → Plain (heatOf p i)

@@ -16,9 +16,9 @@ use Rattle.file_codec.specs.File.{limit, made, fileOf, readerOf, writerOf, inRo
 use Rattle.reading_pair.specs.Pairs.{interpolated}
 use Rattle.reading_pair.specs.Order.{LiesBetween, notMinusZero}
 use Rattle.reading_table.specs.Table.{knots, mostKnots, voltsOf, tenthsOf, tableNumber}
-use Rattle.reading_table.specs.Search.{halving, seekOf, turnsLeft}
+use Rattle.reading_table.specs.Search.{halving, seekOf, roundsLeft}
 use Rattle.reading_table.proofs.Seeking.{seek-few}
-use Rattle.reading_table.proofs.Turns.{turns-few}
+use Rattle.reading_table.proofs.Rounds.{rounds-few}
 use Rattle.reading.specs.declared.Reading.{Reading}
 use Rattle.reading.specs.declared.Reading.the-variants.{Temperature, Below, Above}
 use Rattle.reading.specs.declared.ReadingAnswer.the-variants.{Read, Refused}
@@ -147,9 +147,9 @@ every-length n h k = (longest.count n h k, longest.is-table n h k, longest.writt
 pub fifteen-halvings : (f : List ℕ) (letter : ℕ) (p : List ℕ) (x : ℤ) → readerOf limit f letter ≡ made p → seekOf p x ≡ halving 15 p x 0 (knots p - 1)
 fifteen-halvings f letter p x e = seek-few p x 15 (le-trans (files.few-knots f letter p e) (lit≤ tt))
 
--- So does the code's own loop: its measure is `turnsLeft`, each turn lowers it, and it begins with at most fifteen in a file's table.
-pub fifteen-turns : (f : List ℕ) (letter : ℕ) (p : List ℕ) → readerOf limit f letter ≡ made p → turnsLeft 0 (knots p - 1) ≤ 15
-fifteen-turns f letter p e = turns-few 15 64 (knots p - 1 - 0) (let h = files.few-knots f letter p e in let k : 18853 ≤ 2 ^ 15 = lit≤ tt in omega (arith, h, k))
+-- So does the code's own loop: its measure is `roundsLeft`, each turn lowers it, and it begins with at most fifteen in a file's table.
+pub fifteen-rounds : (f : List ℕ) (letter : ℕ) (p : List ℕ) → readerOf limit f letter ≡ made p → roundsLeft 0 (knots p - 1) ≤ 15
+fifteen-rounds f letter p e = rounds-few 15 64 (knots p - 1 - 0) (let h = files.few-knots f letter p e in let k : 18853 ≤ 2 ^ 15 = lit≤ tt in omega (arith, h, k))
 
 -- The numbers of a reading from a file: n is given exactly where its row is the first that holds (the reader's 30,
 -- block by block 38 or else 31, then 32, 33, 34; 35, 37, then 40, 41), a reading exactly where no row holds.

@@ -11,7 +11,7 @@ use lib.Signed.{leZ, ltZ}
 use lib.Ieee.{binary64, ofInt}
 use Rattle.reading_pair.specs.Pairs.{interpolated}
 use Rattle.reading_pair.proofs.Knots.{at-first, at-second}
-use Rattle.reading_pair.proofs.Inside.{wide-gap}
+use Rattle.reading_pair.proofs.Inside.{some-gap}
 use Rattle.reading_table.specs.Table.{knots, voltsOf, tenthsOf}
 use Rattle.reading_table.specs.Search.{seekOf}
 use Rattle.reading_table.proofs.Order.{no-lt}
@@ -35,13 +35,13 @@ module _ (p : List ℕ) (t : Table p) (i : ℕ) (h : i + 1 < knots p) where
   unfolding pairAt
   lower-exact =
       at-first (voltsOf p i) (tenthsOf p i) (voltsOf p (i + 1)) (tenthsOf p (i + 1))
-      (size p t i (omega (arith, h))) (size p t (i + 1) h) (tenths-size p i) (tenths-size p (i + 1)) (wide-gap (voltsOf p i) (voltsOf p (i + 1)) apart)
+      (size p t i (omega (arith, h))) (size p t (i + 1) h) (tenths-size p i) (tenths-size p (i + 1)) (some-gap (voltsOf p i) (voltsOf p (i + 1)) apart)
 
   pub upper-exact : interpolated (pairAt p i) (ofInt binary64 (voltsOf p (i + 1))) ≡ heatOf p (i + 1)
   unfolding pairAt
   upper-exact =
       at-second (voltsOf p i) (tenthsOf p i) (voltsOf p (i + 1)) (tenthsOf p (i + 1))
-      (size p t i (omega (arith, h))) (size p t (i + 1) h) (tenths-size p i) (tenths-size p (i + 1)) (wide-gap (voltsOf p i) (voltsOf p (i + 1)) apart)
+      (size p t i (omega (arith, h))) (size p t (i + 1) h) (tenths-size p i) (tenths-size p (i + 1)) (some-gap (voltsOf p i) (voltsOf p (i + 1)) apart)
 
 -- every knot is inside the table
 pub knot-inside : (p : List ℕ) (t : Table p) (j : ℕ) → j < knots p → Inside p (voltsOf p j)

@@ -103,7 +103,7 @@ finite-has (fin u m e) s a c h = tt
 module _ (f : Format) (t₀ t₁ x₀ x₁ x : Float) (s t u v w : Bool) (a b c d n : ℕ)
     (h₀ : HasValue t₀ s a 1) (h₁ : HasValue t₁ t b 1) (k₀ : HasValue x₀ u c 1) (k₁ : HasValue x₁ v d 1) (k : HasValue x w n 1)
     (z₀ : a ≡ 0 → s ≡ false) (z₁ : b ≡ 0 → t ≡ false)
-    (wide : 0 < gap v d u c) (rises : plus v d (not u) c .0 ≡ false) (after : plus w n (not u) c .0 ≡ false) (before : gap w n u c ≤ gap v d u c)
+    (apart : 0 < gap v d u c) (rises : plus v d (not u) c .0 ≡ false) (after : plus w n (not u) c .0 ≡ false) (before : gap w n u c ≤ gap v d u c)
     (few : gap t b s a * gap v d u c ≤ 2 ^ prec f) (small : gap t b s a ≤ 2 ^ prec f) (near : gap v d u c ≤ 2 ^ prec f) (sizes : a + b ≤ 2 ^ prec f) where
   abbrev sd : Bool
   sd = plus t b (not s) a .0
@@ -142,10 +142,10 @@ module _ (f : Format) (t₀ t₁ x₀ x₁ x : Float) (s t u v w : Bool) (a b c 
   M = subst (λ (z : Float). HasValue z (unlike sd false) (G * Y) 1) (sym (mul-whole f (sub f t₁ t₀) (sub f x x₀) sd false G Y D F)) (round-whole f (unlike sd false) (G * Y) (le-trans gy few))
 
   quotient : div f (mul f (sub f t₁ t₀) (sub f x x₀)) (sub f x₁ x₀) ≡ round f sd (G * Y) X
-  quotient = div-frac f (mul f (sub f t₁ t₀) (sub f x x₀)) (sub f x₁ x₀) (unlike sd false) false (G * Y) X wide M E ∙ ap (λ (z : Bool). round f z (G * Y) X) (same-unlike sd)
+  quotient = div-frac f (mul f (sub f t₁ t₀) (sub f x x₀)) (sub f x₁ x₀) (unlike sd false) false (G * Y) X apart M E ∙ ap (λ (z : Bool). round f z (G * Y) X) (same-unlike sd)
 
   pub bound : (K ≤ G * L) × (K < overflow f)
-  bound = grid-le f (G * Y) X G wide gy small
+  bound = grid-le f (G * Y) X G apart gy small
 
   -- the reading is a sum of signed fractions of the smallest value, rounded once
   pub is : R ≡ round f (plus s (a * L) sd K .0) (plus s (a * L) sd K .1) L

@@ -64,8 +64,8 @@ weak (pos a) (negsuc z) h = h
 weak (negsuc a) (pos z) h = h
 weak (negsuc a) (negsuc z) h = let l = ltb→lt z a h in le→leb z a (omega (arith, l))
 
-pub wide-gap : (x0 x1 : ℤ) → T (ltZ x0 x1) → 0 < gap (sign x1) (natAbs x1) (sign x0) (natAbs x0)
-wide-gap x0 x1 h = subst (λ (z : Bool × ℕ). 0 < z .1) (sym (apart-up x0 x1 (weak x0 x1 h))) (dist-pos x0 x1 h)
+pub some-gap : (x0 x1 : ℤ) → T (ltZ x0 x1) → 0 < gap (sign x1) (natAbs x1) (sign x0) (natAbs x0)
+some-gap x0 x1 h = subst (λ (z : Bool × ℕ). 0 < z .1) (sym (apart-up x0 x1 (weak x0 x1 h))) (dist-pos x0 x1 h)
 
 -- a difference that is not negative, and one that is no more than another
 pub up-gap : (a z : ℤ) → T (leZ a z) → apart z a .0 ≡ false
@@ -83,11 +83,11 @@ module _ (x0 t0 x1 t1 x : ℤ) (r0 : natAbs x0 ≤ 80000) (r1 : natAbs x1 ≤ 80
   pub inside-up : T (leZ t0 t1) → LiesBetween t0 (interpolated (pairOf x0 t0 x1 t1) (ofInt binary64 x)) t1
   inside-up h =
       up-from binary64 (ofInt binary64 t0) (ofInt binary64 t1) (ofInt binary64 x0) (ofInt binary64 x1) (ofInt binary64 x) (sign t0) (sign t1) (sign x0) (sign x1) (sign x) (natAbs t0) (natAbs t1) (natAbs x0) (natAbs x1) (natAbs x)
-      (has t0 (omega (arith, u0))) (has t1 (omega (arith, u1))) (has x0 r0) (has x1 r1) (has x r) (plain t0) (plain t1) (wide-gap x0 x1 rises) (up-gap x0 x1 up) (up-gap x0 x after) (less-gap x0 x x1 after up before)
+      (has t0 (omega (arith, u0))) (has t1 (omega (arith, u1))) (has x0 r0) (has x1 r1) (has x r) (plain t0) (plain t1) (some-gap x0 x1 rises) (up-gap x0 x1 up) (up-gap x0 x after) (less-gap x0 x x1 after up before)
       (few x0 t0 x1 t1 r0 r1 u0 u1) (small x0 t0 x1 t1 r0 r1 u0 u1) (near x0 t0 x1 t1 r0 r1 u0 u1) (sizes x0 t0 x1 t1 r0 r1 u0 u1) (up-gap t0 t1 h)
 
   pub inside-down : T (ltZ t1 t0) → LiesBetween t1 (interpolated (pairOf x0 t0 x1 t1) (ofInt binary64 x)) t0
   inside-down h =
       down-from binary64 (ofInt binary64 t0) (ofInt binary64 t1) (ofInt binary64 x0) (ofInt binary64 x1) (ofInt binary64 x) (sign t0) (sign t1) (sign x0) (sign x1) (sign x) (natAbs t0) (natAbs t1) (natAbs x0) (natAbs x1) (natAbs x)
-      (has t0 (omega (arith, u0))) (has t1 (omega (arith, u1))) (has x0 r0) (has x1 r1) (has x r) (plain t0) (plain t1) (wide-gap x0 x1 rises) (up-gap x0 x1 up) (up-gap x0 x after) (less-gap x0 x x1 after up before)
+      (has t0 (omega (arith, u0))) (has t1 (omega (arith, u1))) (has x0 r0) (has x1 r1) (has x r) (plain t0) (plain t1) (some-gap x0 x1 rises) (up-gap x0 x1 up) (up-gap x0 x after) (less-gap x0 x x1 after up before)
       (few x0 t0 x1 t1 r0 r1 u0 u1) (small x0 t0 x1 t1 r0 r1 u0 u1) (near x0 t0 x1 t1 r0 r1 u0 u1) (sizes x0 t0 x1 t1 r0 r1 u0 u1) (apart-down t0 t1 h)

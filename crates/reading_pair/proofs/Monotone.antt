@@ -71,7 +71,7 @@ plus-less false a k j h = ⊎-elim
 module _ (f : Format) (t₀ t₁ x₀ x₁ x y : Float) (s t u v w w' : Bool) (a b c d n n' : ℕ)
     (h₀ : HasValue t₀ s a 1) (h₁ : HasValue t₁ t b 1) (k₀ : HasValue x₀ u c 1) (k₁ : HasValue x₁ v d 1) (k : HasValue x w n 1) (k' : HasValue y w' n' 1)
     (z₀ : a ≡ 0 → s ≡ false) (z₁ : b ≡ 0 → t ≡ false)
-    (wide : 0 < gap v d u c) (rises : plus v d (not u) c .0 ≡ false) (after : plus w n (not u) c .0 ≡ false) (after' : plus w' n' (not u) c .0 ≡ false)
+    (apart : 0 < gap v d u c) (rises : plus v d (not u) c .0 ≡ false) (after : plus w n (not u) c .0 ≡ false) (after' : plus w' n' (not u) c .0 ≡ false)
     (before : gap w n u c ≤ gap v d u c) (before' : gap w' n' u c ≤ gap v d u c) (order : gap w n u c ≤ gap w' n' u c)
     (few : gap t b s a * gap v d u c ≤ 2 ^ prec f) (small : gap t b s a ≤ 2 ^ prec f) (near : gap v d u c ≤ 2 ^ prec f) (sizes : a + b ≤ 2 ^ prec f) where
   abbrev sd : Bool
@@ -97,14 +97,14 @@ module _ (f : Format) (t₀ t₁ x₀ x₁ x y : Float) (s t u v w w' : Bool) (a
 
   more : K ≤ K'
   more =
-      grid-mono f (G * gap w n u c) X (G * gap w' n' u c) X wide wide (mul-le-mul-right X (mul-le-mul-left G order))
-      (bound f t₀ t₁ x₀ x₁ y s t u v w' a b c d n' h₀ h₁ k₀ k₁ k' z₀ z₁ wide rises after' before' few small near sizes .1) .0
+      grid-mono f (G * gap w n u c) X (G * gap w' n' u c) X apart apart (mul-le-mul-right X (mul-le-mul-left G order))
+      (bound f t₀ t₁ x₀ x₁ y s t u v w' a b c d n' h₀ h₁ k₀ k₁ k' z₀ z₁ apart rises after' before' few small near sizes .1) .0
 
   one : R x ≡ round f (plus s (a * L) sd K .0) (plus s (a * L) sd K .1) L
-  one = is f t₀ t₁ x₀ x₁ x s t u v w a b c d n h₀ h₁ k₀ k₁ k z₀ z₁ wide rises after before few small near sizes
+  one = is f t₀ t₁ x₀ x₁ x s t u v w a b c d n h₀ h₁ k₀ k₁ k z₀ z₁ apart rises after before few small near sizes
 
   two : R y ≡ round f (plus s (a * L) sd K' .0) (plus s (a * L) sd K' .1) L
-  two = is f t₀ t₁ x₀ x₁ y s t u v w' a b c d n' h₀ h₁ k₀ k₁ k' z₀ z₁ wide rises after' before' few small near sizes
+  two = is f t₀ t₁ x₀ x₁ y s t u v w' a b c d n' h₀ h₁ k₀ k₁ k' z₀ z₁ apart rises after' before' few small near sizes
 
   pub rises-from : sd ≡ false → T (le (R x) (R y))
   unfolding Order
@@ -112,8 +112,8 @@ module _ (f : Format) (t₀ t₁ x₀ x₁ x y : Float) (s t u v w w' : Bool) (a
       subst (λ (z : Float). T (le z (R y))) (sym one) (subst (λ (z : Float). T (le (round f (plus s (a * L) sd K .0) (plus s (a * L) sd K .1) L) z)) (sym two)
       (round-le f (plus s (a * L) sd K .0) (plus s (a * L) sd K' .0) (plus s (a * L) sd K .1) (plus s (a * L) sd K' .1)
       (subst (λ (z : Bool). Order (plus s (a * L) z K) (plus s (a * L) z K')) (sym e) (plus-more s (a * L) K K' more))
-      (up-fits f t₀ t₁ x₀ x₁ x s t u v w a b c d n h₀ h₁ k₀ k₁ k z₀ z₁ wide rises after before few small near sizes e)
-      (up-fits f t₀ t₁ x₀ x₁ y s t u v w' a b c d n' h₀ h₁ k₀ k₁ k' z₀ z₁ wide rises after' before' few small near sizes e)))
+      (up-fits f t₀ t₁ x₀ x₁ x s t u v w a b c d n h₀ h₁ k₀ k₁ k z₀ z₁ apart rises after before few small near sizes e)
+      (up-fits f t₀ t₁ x₀ x₁ y s t u v w' a b c d n' h₀ h₁ k₀ k₁ k' z₀ z₁ apart rises after' before' few small near sizes e)))
 
   pub falls-from : sd ≡ true → T (le (R y) (R x))
   unfolding Order
@@ -121,5 +121,5 @@ module _ (f : Format) (t₀ t₁ x₀ x₁ x y : Float) (s t u v w w' : Bool) (a
       subst (λ (z : Float). T (le z (R x))) (sym two) (subst (λ (z : Float). T (le (round f (plus s (a * L) sd K' .0) (plus s (a * L) sd K' .1) L) z)) (sym one)
       (round-le f (plus s (a * L) sd K' .0) (plus s (a * L) sd K .0) (plus s (a * L) sd K' .1) (plus s (a * L) sd K .1)
       (subst (λ (z : Bool). Order (plus s (a * L) z K') (plus s (a * L) z K)) (sym e) (plus-less s (a * L) K K' more))
-      (down-fits f t₀ t₁ x₀ x₁ y s t u v w' a b c d n' h₀ h₁ k₀ k₁ k' z₀ z₁ wide rises after' before' few small near sizes e)
-      (down-fits f t₀ t₁ x₀ x₁ x s t u v w a b c d n h₀ h₁ k₀ k₁ k z₀ z₁ wide rises after before few small near sizes e)))
+      (down-fits f t₀ t₁ x₀ x₁ y s t u v w' a b c d n' h₀ h₁ k₀ k₁ k' z₀ z₁ apart rises after' before' few small near sizes e)
+      (down-fits f t₀ t₁ x₀ x₁ x s t u v w a b c d n h₀ h₁ k₀ k₁ k z₀ z₁ apart rises after before few small near sizes e)))

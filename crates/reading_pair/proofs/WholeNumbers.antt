@@ -175,7 +175,7 @@ sub-whole f x y t s b a hx hy = add-whole f x (neg y) t (not s) b a hx (neg-whol
 module _ (f : Format) (t₀ t₁ x₀ x₁ : Float) (s t u v : Bool) (a b c d : ℕ)
     (h₀ : HasValue t₀ s a 1) (h₁ : HasValue t₁ t b 1) (k₀ : HasValue x₀ u c 1) (k₁ : HasValue x₁ v d 1)
     (z₀ : a ≡ 0 → s ≡ false) (z₁ : b ≡ 0 → t ≡ false)
-    (wide : 0 < gap v d u c) (few : gap t b s a * gap v d u c ≤ 2 ^ prec f) (small : gap t b s a ≤ 2 ^ prec f) (near : gap v d u c ≤ 2 ^ prec f) where
+    (apart : 0 < gap v d u c) (few : gap t b s a * gap v d u c ≤ 2 ^ prec f) (small : gap t b s a ≤ 2 ^ prec f) (near : gap v d u c ≤ 2 ^ prec f) where
   D : HasValue (sub f t₁ t₀) (plus t b (not s) a .0) (gap t b s a) 1
   D = subst (λ (z : Float). HasValue z (plus t b (not s) a .0) (gap t b s a) 1) (sym (sub-whole f t₁ t₀ t s b a h₁ h₀)) (round-whole f (plus t b (not s) a .0) (gap t b s a) small)
 
@@ -187,7 +187,7 @@ module _ (f : Format) (t₀ t₁ x₀ x₁ : Float) (s t u v : Bool) (a b c d : 
   quotient =
       let sd = plus t b (not s) a .0 in
       let sx = plus v d (not u) c .0 in
-      div-whole f (mul f (sub f t₁ t₀) (sub f x₁ x₀)) (sub f x₁ x₀) (unlike sd sx) sx (gap t b s a) (gap v d u c) wide
+      div-whole f (mul f (sub f t₁ t₀) (sub f x₁ x₀)) (sub f x₁ x₀) (unlike sd sx) sx (gap t b s a) (gap v d u c) apart
       (subst (λ (z : Float). HasValue z (unlike sd sx) (gap t b s a * gap v d u c) 1) (sym (mul-whole f (sub f t₁ t₀) (sub f x₁ x₀) sd sx (gap t b s a) (gap v d u c) D X)) (round-whole f (unlike sd sx) (gap t b s a * gap v d u c) few)) X
       ∙ ap (λ (z : Bool). round f z (gap t b s a) 1) (twice sd sx)
 
@@ -208,5 +208,5 @@ module _ (f : Format) (t₀ t₁ x₀ x₁ : Float) (s t u v : Bool) (a b c d : 
       let P : HasValue (mul f (sub f t₁ t₀) (sub f x₀ x₀)) (unlike sd false) (0 * gap v d u c) 1 =
       subst (λ (n : ℕ). HasValue (mul f (sub f t₁ t₀) (sub f x₀ x₀)) (unlike sd false) n 1) (sym (zero-mul (gap v d u c))) (subst (λ (z : Float). HasValue z (unlike sd false) 0 1) (sym m) (round-whole f (unlike sd false) 0 zero-le)) in
       let w = unlike (unlike sd false) sx in
-      ap (add f t₀) (div-whole f (mul f (sub f t₁ t₀) (sub f x₀ x₀)) (sub f x₁ x₀) (unlike sd false) sx 0 (gap v d u c) wide P X)
+      ap (add f t₀) (div-whole f (mul f (sub f t₁ t₀) (sub f x₀ x₀)) (sub f x₁ x₀) (unlike sd false) sx 0 (gap v d u c) apart P X)
       ∙ add-whole f t₀ (round f w 0 1) s w a 0 h₀ (round-whole f w 0 zero-le) ∙ sum-plus f s a w 0 ∙ ap (λ (p : Bool × ℕ). round f (p .0) (p .1) 1) (kept s a w z₀)

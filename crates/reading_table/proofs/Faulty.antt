@@ -1,4 +1,4 @@
--- The first knot that is not good, turn by turn.
+-- The first knot that is not good, round by round.
 use mathlib.Core.Path.{_≡_, refl, sym, ap, _∙_, subst}
 use mathlib.Core.Bool.{Bool, true, false}
 use mathlib.Core.List.{List}

@@ -4,7 +4,7 @@ pub mod Signs
 pub mod Order
 pub mod Steps
 pub mod Seeking
-pub mod Turns
+pub mod Rounds
 pub mod Judged
 pub mod Knots
 pub mod Unique

@@ -15,7 +15,7 @@ use Rattle.common.specs.Choice.{if_then_else_}
 use Rattle.reading_table.specs.Table.{voltsOf, knots}
 use Rattle.reading_table.specs.Search.{halving, seekOf}
 use Rattle.reading_table.proofs.Order.{not-le, lt-le}
-use Rattle.reading_table.proofs.Steps.{mid, halved-stop, turn}
+use Rattle.reading_table.proofs.Steps.{mid, halved-stop, round}
 
 below? : (i n : ℕ) → (i < n) ⊎ (n ≤ i)
 below? i n = go (ltb i n) refl
@@ -35,8 +35,8 @@ module _ (p : List ℕ) (x : ℤ) where
     where
       step : lo + 1 < hi → ((lo hi : ℕ) → lo < hi → hi - lo ≤ suc k → P lo hi → P (halving k p x lo hi) (halving k p x lo hi + 1))
           → (b : Bool) → leZ (voltsOf p (mid lo hi)) x ≡ b → P (halving (suc k) p x lo hi) (halving (suc k) p x lo hi + 1)
-      step m ih true e = subst (λ (z : ℕ). P z (z + 1)) (sym (turn k p x lo hi true m e)) (ih (mid lo hi) hi (omega (arith, m)) (omega (arith, m, f)) (half lo hi true m e h))
-      step m ih false e = subst (λ (z : ℕ). P z (z + 1)) (sym (turn k p x lo hi false m e)) (ih lo (mid lo hi) (omega (arith, m)) (omega (arith, m, f)) (half lo hi false m e h))
+      step m ih true e = subst (λ (z : ℕ). P z (z + 1)) (sym (round k p x lo hi true m e)) (ih (mid lo hi) hi (omega (arith, m)) (omega (arith, m, f)) (half lo hi true m e h))
+      step m ih false e = subst (λ (z : ℕ). P z (z + 1)) (sym (round k p x lo hi false m e)) (ih lo (mid lo hi) (omega (arith, m)) (omega (arith, m, f)) (half lo hi false m e h))
 
       at : (lo + 1 < hi) ⊎ (hi ≤ lo + 1) → ((lo hi : ℕ) → lo < hi → hi - lo ≤ suc k → P lo hi → P (halving k p x lo hi) (halving k p x lo hi + 1))
           → P (halving (suc k) p x lo hi) (halving (suc k) p x lo hi + 1)
@@ -79,8 +79,8 @@ module _ (p : List ℕ) (x : ℤ) where
 
       step : lo + 1 < hi → ((lo hi : ℕ) → hi - lo ≤ 2 ^ k → halving (k + j) p x lo hi ≡ halving k p x lo hi)
           → (b : Bool) → leZ (voltsOf p (mid lo hi)) x ≡ b → halving (suc k + j) p x lo hi ≡ halving (suc k) p x lo hi
-      step m ih true e = ap (λ (z : ℕ). halving z p x lo hi) s ∙ turn (k + j) p x lo hi true m e ∙ ih (mid lo hi) hi (omega (arith, m, two)) ∙ sym (turn k p x lo hi true m e)
-      step m ih false e = ap (λ (z : ℕ). halving z p x lo hi) s ∙ turn (k + j) p x lo hi false m e ∙ ih lo (mid lo hi) (omega (arith, m, two)) ∙ sym (turn k p x lo hi false m e)
+      step m ih true e = ap (λ (z : ℕ). halving z p x lo hi) s ∙ round (k + j) p x lo hi true m e ∙ ih (mid lo hi) hi (omega (arith, m, two)) ∙ sym (round k p x lo hi true m e)
+      step m ih false e = ap (λ (z : ℕ). halving z p x lo hi) s ∙ round (k + j) p x lo hi false m e ∙ ih lo (mid lo hi) (omega (arith, m, two)) ∙ sym (round k p x lo hi false m e)
 
       at : (lo + 1 < hi) ⊎ (hi ≤ lo + 1) → ((lo hi : ℕ) → hi - lo ≤ 2 ^ k → halving (k + j) p x lo hi ≡ halving k p x lo hi) → halving (suc k + j) p x lo hi ≡ halving (suc k) p x lo hi
       at (inl m) ih = step m ih (leZ (voltsOf p (mid lo hi)) x) refl

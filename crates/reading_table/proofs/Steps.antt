@@ -1,4 +1,4 @@
--- One turn of each loop, on plain lists and numbers.
+-- One round of each loop, on plain lists and numbers.
 use mathlib.Core.Path.{_≡_, refl, sym, ap, _∙_}
 use mathlib.Core.Bool.{Bool, true, false, _&&_}
 use mathlib.Core.List.{List}
@@ -48,9 +48,9 @@ unfolding halving
 halved-stop zero p x lo hi h = refl
 halved-stop (suc k) p x lo hi h = simp (le-ltb _ _ h)
 
-pub turn : (k : ℕ) (p : List ℕ) (x : ℤ) (lo hi : ℕ) (b : Bool) → lo + 1 < hi → leZ (voltsOf p (mid lo hi)) x ≡ b → halving (suc k) p x lo hi ≡ halving k p x (if b then mid lo hi else lo) (if b then hi else mid lo hi)
+pub round : (k : ℕ) (p : List ℕ) (x : ℤ) (lo hi : ℕ) (b : Bool) → lo + 1 < hi → leZ (voltsOf p (mid lo hi)) x ≡ b → halving (suc k) p x lo hi ≡ halving k p x (if b then mid lo hi else lo) (if b then hi else mid lo hi)
 unfolding halving
-turn k p x lo hi b h e = simp (lt-ltb _ _ h, e)
+round k p x lo hi b h e = simp (lt-ltb _ _ h, e)
 
 pub halved-start : (p : List ℕ) (x : ℤ) → 2 ≤ knots p → Halved p x (knots p) 0 (knots p - 1)
 unfolding seekOf
@@ -61,15 +61,15 @@ unfolding seekOf
 halved-few p x h = sym (halved-stop (knots p) p x 0 (knots p - 1) (omega (arith, h)))
 
 module _ {p : List ℕ} {x : ℤ} {n lo hi : ℕ} (s : Halved p x n lo hi) (h : lo + 1 < hi) where
-  pub halved-turn : (b : Bool) → leZ (voltsOf p (mid lo hi)) x ≡ b → Halved p x n (if b then mid lo hi else lo) (if b then hi else mid lo hi)
-  halved-turn b e = go (s .left) (s .same) (s .enough)
+  pub halved-round : (b : Bool) → leZ (voltsOf p (mid lo hi)) x ≡ b → Halved p x n (if b then mid lo hi else lo) (if b then hi else mid lo hi)
+  halved-round b e = go (s .left) (s .same) (s .enough)
     where
       go : (k : ℕ) → halving k p x lo hi ≡ seekOf p x → hi - lo ≤ suc k → Halved p x n (if b then mid lo hi else lo) (if b then hi else mid lo hi)
       go zero q r = let z : _≡_ {A = ℕ} 0 1 = omega (arith, r, h) in absurd (clash z)
         where
           clash : _≡_ {A = ℕ} 0 1 → ⊥
           clash z = omega (arith, z)
-      go (suc k) q r = record { left = k; same = sym (turn k p x lo hi b h e) ∙ q; enough = smaller b; order = ordered b; within = inside b }
+      go (suc k) q r = record { left = k; same = sym (round k p x lo hi b h e) ∙ q; enough = smaller b; order = ordered b; within = inside b }
         where
           w : hi < n
           w = s .within

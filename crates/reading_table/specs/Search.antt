@@ -25,6 +25,6 @@ unfoldable pub powersUnder : ℕ → ℕ → ℕ
 powersUnder zero d = 0
 powersUnder (suc k) d = (if ltb (2 ^ k) d then 1 else 0) + powersUnder k d
 
--- the halvings that the code has still to make, at most, with its ends at lo and hi: the measure of its loop, which each turn lowers
-abbrev pub turnsLeft : ℕ → ℕ → ℕ
-turnsLeft lo hi = powersUnder 64 (hi - lo)
+-- the halvings that the code has still to make, at most, with its ends at lo and hi: the measure of its loop, which each round lowers
+abbrev pub roundsLeft : ℕ → ℕ → ℕ
+roundsLeft lo hi = powersUnder 64 (hi - lo)

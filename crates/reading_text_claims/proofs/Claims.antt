@@ -20,7 +20,7 @@ use Rattle.reading.specs.Readings.{readingAnswer}
 use Rattle.reading_print.specs.Texts.{tenthsShown, NearestTo}
 use Rattle.table_text.specs.Printed.{tableText}
 use Rattle.reading_text_claims.specs.Forms.{NumberForm, TableForm}
-use Rattle.reading_text_claims.proofs.Back as back
+use Rattle.reading_text_claims.proofs.ReadBack as back
 use Rattle.reading_text_claims.proofs.Formed as formed
 use Rattle.reading_text_claims.proofs.Taken as taken
 use Rattle.reading_text_claims.proofs.Tenths as tenths

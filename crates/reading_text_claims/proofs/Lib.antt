@@ -3,5 +3,5 @@ pub mod Lines
 pub mod Formed
 pub mod Taken
 pub mod Tenths
-pub mod Back
+pub mod ReadBack
 pub mod Claims

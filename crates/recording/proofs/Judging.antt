@@ -14,7 +14,7 @@ use Rattle.units.specs.Units.{units, spare, unitsIn, lent, lentIn}
 use Rattle.units.proofs.Widths.{lent-length, lent-is}
 use Rattle.device.specs.declared.Device.{Device}
 use Rattle.device.specs.Parts.{sizeOf}
-use Rattle.device.proofs.Place.{size-some}
+use Rattle.device.proofs.BlockAddresses.{size-some}
 use Rattle.model_types.specs.declared.Cycle.{Cycle}
 use Rattle.model_types.specs.declared.Decision.{Decision}
 use Rattle.model_types.specs.declared.State.{State}

@@ -33,18 +33,18 @@ accepted-exactly d s rs promised bytes = (verdicts.accepted-is d s rs promised b
 
 -- It is refused by m exactly where m's own condition holds (1 to 3, then 12) and that of no number before it does.
 pub refused-exactly : (d : Device) (s : State) (rs : List Noted) (promised bytes : List ℕ) (m : ℕ) → (m ≡ 0 → ⊥)
-    → (checkedOf d s rs promised bytes .refusal ≡ m) ↔ Foremost (startRows d s (length bytes)) m
+    → (checkedOf d s rs promised bytes .number ≡ m) ↔ Foremost (startRows d s (length bytes)) m
 unfolding startNumber
 refused-exactly d s rs promised bytes m z = (
-  λ e. given-foremost (startRows d s (length bytes)) m z (sym (verdicts.refusal-is d s rs promised bytes) ∙ e),
-  λ f. verdicts.refusal-is d s rs promised bytes ∙ foremost-given f,
+  λ e. given-foremost (startRows d s (length bytes)) m z (sym (verdicts.number-is d s rs promised bytes) ∙ e),
+  λ f. verdicts.number-is d s rs promised bytes ∙ foremost-given f,
 )
 
 -- It is refused by none exactly where the start is a device's proper idle state.
-pub unrefused-exactly : (d : Device) (s : State) (rs : List Noted) (promised bytes : List ℕ) → (checkedOf d s rs promised bytes .refusal ≡ 0) ↔ Startable d s bytes
+pub unrefused-exactly : (d : Device) (s : State) (rs : List Noted) (promised bytes : List ℕ) → (checkedOf d s rs promised bytes .number ≡ 0) ↔ Startable d s bytes
 unrefused-exactly d s rs promised bytes = (
-  λ e. verdicts.startable d s bytes (sym (verdicts.refusal-is d s rs promised bytes) ∙ e),
-  λ z. verdicts.refusal-is d s rs promised bytes ∙ verdicts.unrefused d s bytes z,
+  λ e. verdicts.startable d s bytes (sym (verdicts.number-is d s rs promised bytes) ∙ e),
+  λ z. verdicts.number-is d s rs promised bytes ∙ verdicts.unrefused d s bytes z,
 )
 
 -- The first fault is the first: the place given is i, inside the list, exactly where the records before record i are without fault and it
@@ -73,8 +73,8 @@ pub left-at-end : (d : Device) (s : State) (rs : List Noted) (bytes : List ℕ) 
 left-at-end d s rs bytes z f = verdicts.all-in d s rs bytes bytes (verdicts.unrefused d s bytes z) f
 
 -- .. and refused, as it was.
-pub refused-untouched : (d : Device) (s : State) (rs : List Noted) (promised bytes : List ℕ) → (checkedOf d s rs promised bytes .refusal ≡ 0 → ⊥) → bytesChecked d s rs bytes ≡ bytes
-refused-untouched d s rs promised bytes z = verdicts.untouched d s rs promised bytes (λ e. z (verdicts.refusal-is d s rs promised bytes ∙ e))
+pub refused-untouched : (d : Device) (s : State) (rs : List Noted) (promised bytes : List ℕ) → (checkedOf d s rs promised bytes .number ≡ 0 → ⊥) → bytesChecked d s rs bytes ≡ bytes
+refused-untouched d s rs promised bytes z = verdicts.untouched d s rs promised bytes (λ e. z (verdicts.number-is d s rs promised bytes ∙ e))
 
 -- An accepted recording leaves the promised array, and it is what the model's own cycles leave.
 pub accepted-array : (d : Device) (s : State) (rs : List Noted) (promised bytes : List ℕ) → checkedOf d s rs promised bytes .accepted ≡ true
@@ -85,7 +85,7 @@ accepted-array d s rs promised bytes h =
 
 -- A promised array of another length is unequal: with no record at fault the place given is the list's length, and no refusal.
 pub other-length : (d : Device) (s : State) (rs : List Noted) (promised bytes : List ℕ) → Startable d s bytes → Faultless d (heldOf s bytes) rs
-    → (length promised ≡ length bytes → ⊥) → checkedOf d s rs promised bytes ≡ record { refusal = 0; accepted = false; at = length rs; state = leftBy d (heldOf s bytes) rs .state }
+    → (length promised ≡ length bytes → ⊥) → checkedOf d s rs promised bytes ≡ record { number = 0; accepted = false; at = length rs; state = leftBy d (heldOf s bytes) rs .state }
 other-length d s rs promised bytes z f l = verdicts.only-end d s rs promised bytes (verdicts.unrefused d s bytes z) f (λ e. l (sym (ap (λ (xs : List ℕ). length xs) (e .array)) ∙ telling.left-length d (heldOf s bytes) rs))
 
 -- What the model records of its own cycles from idle to idle, with no refusal and no cut, is accepted: each cycle with the answer that it

@@ -66,20 +66,20 @@ module _ (d : Device) (s : State) (rs : List Noted) (promised bytes : List ℕ) 
   answer = checkedOf d s rs promised bytes
 
   -- refused before the list, or not
-  pub turned-away : (number ≡ 0 → ⊥) → answer ≡ record { refusal = number; accepted = false; at = 0; state = s }
+  pub turned-away : (number ≡ 0 → ⊥) → answer ≡ record { number = number; accepted = false; at = 0; state = s }
   unfolding checkedOf
   turned-away z = if-false (eqb number 0) _ _ (ne-eqb number 0 z)
 
-  pub walked : number ≡ 0 → answer ≡ record { refusal = 0; accepted = eqb (passedBy d v rs) (length rs) && endsWell (leftBy d v rs) promised; at = passedBy d v rs; state = leftBy d v (take (passedBy d v rs) rs) .state }
+  pub walked : number ≡ 0 → answer ≡ record { number = 0; accepted = eqb (passedBy d v rs) (length rs) && endsWell (leftBy d v rs) promised; at = passedBy d v rs; state = leftBy d v (take (passedBy d v rs) rs) .state }
   unfolding checkedOf
   walked z = if-true (eqb number 0) _ _ (eq-eqb number 0 z)
 
-  pub refusal-is : answer .refusal ≡ number
-  refusal-is = go (eqb number 0) refl
+  pub number-is : answer .number ≡ number
+  number-is = go (eqb number 0) refl
     where
-      go : (b : Bool) → eqb number 0 ≡ b → answer .refusal ≡ number
-      go true e = let z = eqb-true number 0 e in ap (λ (a : Checked). a .refusal) (walked z) ∙ sym z
-      go false e = ap (λ (a : Checked). a .refusal) (turned-away (eqb-false number 0 e))
+      go : (b : Bool) → eqb number 0 ≡ b → answer .number ≡ number
+      go true e = let z = eqb-true number 0 e in ap (λ (a : Checked). a .number) (walked z) ∙ sym z
+      go false e = ap (λ (a : Checked). a .number) (turned-away (eqb-false number 0 e))
 
   pub accepted-is : answer .accepted ≡ true → Accepts d s rs promised bytes
   accepted-is h = go (eqb number 0) refl
@@ -128,11 +128,11 @@ module _ (d : Device) (s : State) (rs : List Noted) (promised bytes : List ℕ) 
   all-in z f = left-is z ∙ ap (λ (xs : List Noted). leftBy d v xs .bytes) (take-all (answer .at) rs (let e = no-fault-is z .0 f in omega (arith, e)))
 
   -- only the end is at fault
-  pub only-end : number ≡ 0 → Faultless d v rs → (Ends (leftBy d v rs) promised → ⊥) → answer ≡ record { refusal = 0; accepted = false; at = length rs; state = leftBy d v rs .state }
+  pub only-end : number ≡ 0 → Faultless d v rs → (Ends (leftBy d v rs) promised → ⊥) → answer ≡ record { number = 0; accepted = false; at = length rs; state = leftBy d v rs .state }
   only-end z f l =
       let q : passedBy d v rs ≡ length rs = none-at-fault d v rs f in
       let t = take-all (passedBy d v rs) rs (omega (arith, q)) in
-      walked z ∙ (λ i. record { refusal = 0; accepted = ends-false i; at = q i; state = leftBy d v (t i) .state })
+      walked z ∙ (λ i. record { number = 0; accepted = ends-false i; at = q i; state = leftBy d v (t i) .state })
     where
       bad : endsWell (leftBy d v rs) promised ≡ false
       bad = go (endsWell (leftBy d v rs) promised) refl

@@ -13,27 +13,27 @@ use Rattle.recording.specs.Recordings.{deviceFor, answerTo}
 use Rattle.recording.proofs.Judging.{none}
 use Rattle.recording_walk.specs.Lists.{Held, onward, leftBy}
 use Rattle.recording_claims.specs.Histories.{busOf}
-use Rattle.recording_history.specs.Timed.{TimedCycle, afterTurns, turnsOf, worldIn}
+use Rattle.recording_history.specs.Timed.{TimedCycle, afterAllTimed, timedOf, worldIn}
 
-one-turn : (d : Device) (v : Held) (r : Noted) → afterCycle byRules (deviceFor d (v .state) r) (worldIn v) (busOf r) ≡ worldIn (onward d v r)
+one-timed : (d : Device) (v : Held) (r : Noted) → afterCycle byRules (deviceFor d (v .state) r) (worldIn v) (busOf r) ≡ worldIn (onward d v r)
 unfolding answerTo
-one-turn d v r =
+one-timed d v r =
     ap (λ (ts : List ℕ). worldOf (answerOf (deviceFor d (v .state) r) (v .state) (r .cycle) (lent (d .part .word) (v .bytes)) ts .state) (bytesAfter (deviceFor d (v .state) r) (v .state) (r .cycle) (v .bytes) []))
     (none (d .part .word))
 
 -- it leads where its records lead
-pub leads : (d : Device) (v : Held) (rs : List Noted) → afterTurns d (worldIn v) (turnsOf d v rs) ≡ worldIn (leftBy d v rs)
+pub leads : (d : Device) (v : Held) (rs : List Noted) → afterAllTimed d (worldIn v) (timedOf d v rs) ≡ worldIn (leftBy d v rs)
 leads d v [] = refl
-leads d v (r ∷ rs) = ap (λ (w : World). afterTurns d w (turnsOf d (onward d v r) rs)) (one-turn d v r) ∙ leads d (onward d v r) rs
+leads d v (r ∷ rs) = ap (λ (w : World). afterAllTimed d w (timedOf d (onward d v r) rs)) (one-timed d v r) ∙ leads d (onward d v r) rs
 
--- a turn for each record
-pub turns-length : (d : Device) (v : Held) (rs : List Noted) → length (turnsOf d v rs) ≡ length rs
-turns-length d v [] = refl
-turns-length d v (r ∷ rs) = ap suc (turns-length d (onward d v r) rs)
+-- a timed cycle for each record
+pub timed-length : (d : Device) (v : Held) (rs : List Noted) → length (timedOf d v rs) ≡ length rs
+timed-length d v [] = refl
+timed-length d v (r ∷ rs) = ap suc (timed-length d (onward d v r) rs)
 
--- the first turns are those of the first records
-pub turns-before : (d : Device) (v : Held) (rs : List Noted) (i : ℕ) → take i (turnsOf d v rs) ≡ turnsOf d v (take i rs)
-turns-before d v rs zero = refl
-turns-before d v [] (suc i) = refl
-turns-before d v (r ∷ rs) (suc i) =
-    ap (λ (ts : List TimedCycle). turnsOf d v (r ∷ []) ++ ts) (turns-before d (onward d v r) rs i)
+-- the first timed cycles are those of the first records
+pub timed-before : (d : Device) (v : Held) (rs : List Noted) (i : ℕ) → take i (timedOf d v rs) ≡ timedOf d v (take i rs)
+timed-before d v rs zero = refl
+timed-before d v [] (suc i) = refl
+timed-before d v (r ∷ rs) (suc i) =
+    ap (λ (ts : List TimedCycle). timedOf d v (r ∷ []) ++ ts) (timed-before d (onward d v r) rs i)

@@ -30,23 +30,23 @@ abbrev pub deviceAt : Device → TimedCycle → Device
 deviceAt d t = withTimes d (t .program) (t .erase)
 
 -- the lent bytes and the state after one of them, after all, and before the one at a place
-abbrev pub afterTurn : Device → World → TimedCycle → World
-afterTurn d v t = afterCycle byRules (deviceAt d t) v (t .bus)
+abbrev pub afterTimed : Device → World → TimedCycle → World
+afterTimed d v t = afterCycle byRules (deviceAt d t) v (t .bus)
 
 -- .. after all of them
-abbrev pub afterTurns : Device → World → List TimedCycle → World
-afterTurns d v [] = v
-afterTurns d v (t ∷ ts) = afterTurns d (afterTurn d v t) ts
+abbrev pub afterAllTimed : Device → World → List TimedCycle → World
+afterAllTimed d v [] = v
+afterAllTimed d v (t ∷ ts) = afterAllTimed d (afterTimed d v t) ts
 
 -- .. before the one at place i
-abbrev pub beforeTurn : Device → World → List TimedCycle → ℕ → World
-beforeTurn d v ts i = afterTurns d v (take i ts)
+abbrev pub beforeTimed : Device → World → List TimedCycle → ℕ → World
+beforeTimed d v ts i = afterAllTimed d v (take i ts)
 
 -- the one at place i is t, counted from 0
-abbrev pub TurnAt : List TimedCycle → ℕ → TimedCycle → Type 0
-TurnAt [] i t = ⊥
-TurnAt (u ∷ ts) zero t = u ≡ t
-TurnAt (u ∷ ts) (suc i) t = TurnAt ts i t
+abbrev pub TimedAt : List TimedCycle → ℕ → TimedCycle → Type 0
+TimedAt [] i t = ⊥
+TimedAt (u ∷ ts) zero t = u ≡ t
+TimedAt (u ∷ ts) (suc i) t = TimedAt ts i t
 
 -- what one does to the array, what it begins, and what it asks for at its own address
 abbrev pub effectIn : Device → World → TimedCycle → Effect
@@ -65,43 +65,43 @@ askedAt d v t = askedOn (deviceAt d t) v (t .bus)
 pub record ConfirmedIn (d : Device) (v : World) (ts : List TimedCycle) (i x : ℕ) : Type 0 where
   pub index : ℕ
   pub sooner : index < i
-  pub turn : TimedCycle
-  pub there : TurnAt ts index turn
-  pub write : turn .bus .cycle .kind ≡ Write
-  pub accepted : Accepted (answerOn byRules (deviceAt d turn) (beforeTurn d v ts index) (turn .bus))
-  pub begins : operationAt d (beforeTurn d v ts index) turn ≡ askedAt d (beforeTurn d v ts index) turn
-  pub own : isOn (d .part) (askedAt d (beforeTurn d v ts index) turn) x ≡ true
-  pub supplied : vppHigh (d .part) (turn .bus .cycle .pins) ≡ true
+  pub timed : TimedCycle
+  pub there : TimedAt ts index timed
+  pub write : timed .bus .cycle .kind ≡ Write
+  pub accepted : Accepted (answerOn byRules (deviceAt d timed) (beforeTimed d v ts index) (timed .bus))
+  pub begins : operationAt d (beforeTimed d v ts index) timed ≡ askedAt d (beforeTimed d v ts index) timed
+  pub own : isOn (d .part) (askedAt d (beforeTimed d v ts index) timed) x ≡ true
+  pub supplied : vppHigh (d .part) (timed .bus .cycle .pins) ≡ true
 
 -- it was made unlocked: by the levels of its own cycle
 abbrev pub UnlockedIn : {d : Device} {v : World} {ts : List TimedCycle} {i x : ℕ} → ConfirmedIn d v ts i x → Type 0
-UnlockedIn {d = d} k = unlocked (d .part) (k .turn .bus .cycle .pins) (k .turn .bus .cycle .oe) ≡ true
+UnlockedIn {d = d} k = unlocked (d .part) (k .timed .bus .cycle .pins) (k .timed .bus .cycle .oe) ≡ true
 
 -- what may touch which byte (R-touch-1, R-touch-2)
 pub record Touch (d : Device) (v : World) (ts : List TimedCycle) : Type 0 where
   -- A byte changes only where an operation on it, or on its block, was confirmed, and VPP was high at that confirm.
-  pub byte-changes : (x : ℕ) → Differs v (afterTurns d v ts) x → ConfirmedIn d v ts (length ts) x
+  pub byte-changes : (x : ℕ) → Differs v (afterAllTimed d v ts) x → ConfirmedIn d v ts (length ts) x
   -- A byte of the boot block changes only where that confirm was made unlocked.
-  pub boot-byte : (x : ℕ) (h : Differs v (afterTurns d v ts) x) → inBlock (d .part) 0 x ≡ true → UnlockedIn (byte-changes x h)
+  pub boot-byte : (x : ℕ) (h : Differs v (afterAllTimed d v ts) x) → inBlock (d .part) 0 x ≡ true → UnlockedIn (byte-changes x h)
   -- A program that is not cut only clears bits, and touches one byte, or in word mode one word.
-  pub program : (i : ℕ) (t : TimedCycle) → TurnAt ts i t → (a y : ℕ) → effectIn d (beforeTurn d v ts i) t ≡ Program a y
-      → OnlyClears (beforeTurn d v ts i) (afterTurn d (beforeTurn d v ts i) t)
-      × TouchesOnly (inUnit (d .part) a) (beforeTurn d v ts i) (afterTurn d (beforeTurn d v ts i) t)
+  pub program : (i : ℕ) (t : TimedCycle) → TimedAt ts i t → (a y : ℕ) → effectIn d (beforeTimed d v ts i) t ≡ Program a y
+      → OnlyClears (beforeTimed d v ts i) (afterTimed d (beforeTimed d v ts i) t)
+      × TouchesOnly (inUnit (d .part) a) (beforeTimed d v ts i) (afterTimed d (beforeTimed d v ts i) t)
   -- An erase touches its own block and nothing else, whether it is cut or not.
-  pub erase : (i : ℕ) (t : TimedCycle) → TurnAt ts i t → (k : ℕ) → operationOf (effectIn d (beforeTurn d v ts i) t) ≡ Erase k
-      → TouchesOnly (inBlock (d .part) k) (beforeTurn d v ts i) (afterTurn d (beforeTurn d v ts i) t)
+  pub erase : (i : ℕ) (t : TimedCycle) → TimedAt ts i t → (k : ℕ) → operationOf (effectIn d (beforeTimed d v ts i) t) ≡ Erase k
+      → TouchesOnly (inBlock (d .part) k) (beforeTimed d v ts i) (afterTimed d (beforeTimed d v ts i) t)
   -- A program that is cut only clears bits too, and touches no more.
-  pub cut-program : (i : ℕ) (t : TimedCycle) → TurnAt ts i t → (a y : ℕ) → effectIn d (beforeTurn d v ts i) t ≡ CutProgram a y
-      → OnlyClears (beforeTurn d v ts i) (afterTurn d (beforeTurn d v ts i) t)
-      × TouchesOnly (inUnit (d .part) a) (beforeTurn d v ts i) (afterTurn d (beforeTurn d v ts i) t)
+  pub cut-program : (i : ℕ) (t : TimedCycle) → TimedAt ts i t → (a y : ℕ) → effectIn d (beforeTimed d v ts i) t ≡ CutProgram a y
+      → OnlyClears (beforeTimed d v ts i) (afterTimed d (beforeTimed d v ts i) t)
+      × TouchesOnly (inUnit (d .part) a) (beforeTimed d v ts i) (afterTimed d (beforeTimed d v ts i) t)
   -- A cycle in which no operation ends and none is cut touches nothing.
-  pub no-effect : (i : ℕ) (t : TimedCycle) → TurnAt ts i t → effectIn d (beforeTurn d v ts i) t ≡ Nothing
-      → afterTurn d (beforeTurn d v ts i) t .bytes ≡ beforeTurn d v ts i .bytes
+  pub no-effect : (i : ℕ) (t : TimedCycle) → TimedAt ts i t → effectIn d (beforeTimed d v ts i) t ≡ Nothing
+      → afterTimed d (beforeTimed d v ts i) t .bytes ≡ beforeTimed d v ts i .bytes
 
--- a recording as such a history: a turn for each record, with the record's own time
-abbrev pub turnsOf : Device → Held → List Noted → List TimedCycle
-turnsOf d v [] = []
-turnsOf d v (r ∷ rs) = record { program = timeOf (d .part) (v .state) r; erase = timeOf (d .part) (v .state) r; bus = busOf r } ∷ turnsOf d (onward d v r) rs
+-- a recording as such a history: a timed cycle for each record, with the record's own time
+abbrev pub timedOf : Device → Held → List Noted → List TimedCycle
+timedOf d v [] = []
+timedOf d v (r ∷ rs) = record { program = timeOf (d .part) (v .state) r; erase = timeOf (d .part) (v .state) r; bus = busOf r } ∷ timedOf d (onward d v r) rs
 
 -- what is held, as a world
 abbrev pub worldIn : Held → World

@@ -1,4 +1,4 @@
-pub mod Same
+pub mod SameLines
 pub mod Spelled
 pub mod Runs
 pub mod Digits

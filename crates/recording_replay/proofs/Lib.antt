@@ -1,4 +1,4 @@
-pub mod Turns
+pub mod Rounds
 pub mod WholeTrace
 pub mod Notes
 pub mod Unique

@@ -40,10 +40,10 @@ unfoldable pub busyOf : Device → State → Cycle → ℕ
 busyOf d s c = if starts (d .part) s c then timeAwaited d (s .phase) else 0
 
 -- the number of a refusal, 0 where an answer is none
-abbrev pub refusalIn : Seen → ℕ
-refusalIn NoData = 0
-refusalIn (Data v) = 0
-refusalIn (Refused n) = n
+abbrev pub refusalNumber : Seen → ℕ
+refusalNumber NoData = 0
+refusalNumber (Data v) = 0
+refusalNumber (Refused n) = n
 
 -- the first line that something is true of: that of before, or this one; 0 where there is none
 unfoldable pub firstLine : ℕ → Bool → ℕ → ℕ
@@ -60,8 +60,8 @@ firstNumber number here = if ltb 0 number then number else here
 abbrev pub logBy : Device → Log → ℕ → Cycle → Answer → Log
 logBy d l n c a = record {
   state = a .state;
-  refused = firstLine (l .refused) (not (eqb (refusalIn (a .seen)) 0)) n;
-  number = firstNumber (l .number) (refusalIn (a .seen));
+  refused = firstLine (l .refused) (not (eqb (refusalNumber (a .seen)) 0)) n;
+  number = firstNumber (l .number) (refusalNumber (a .seen));
   cut = firstLine (l .cut) (cutsOff (d .part) (l .state) c) n;
 }
 

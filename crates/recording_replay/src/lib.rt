@@ -20,7 +20,7 @@ ghost use Rattle.text.specs.Writing.{laidAt, behind, Used};
 ghost use Rattle.trace_lines.specs.Lines.{decimalDigit, cycleStated};
 ghost use Rattle.trace_replay.specs.Replays.{benchT, lineStep, arrayBy, arraysOf};
 ghost use Rattle.recording.specs.Recordings.{cutsOff};
-ghost use Rattle.recording_replay.specs.Recorded.{timeAwaited, busyOf, refusalIn, firstLine, firstNumber, logBy, answerFor, countFor, lineFor, linesFrom, logFrom, noLog, badBehind, usedFor, madeFrom, noRoom, traceMade, arrayMade, outMade, lineNote, refusedNote, noteOf};
+ghost use Rattle.recording_replay.specs.Recorded.{timeAwaited, busyOf, refusalNumber, firstLine, firstNumber, logBy, answerFor, countFor, lineFor, linesFrom, logFrom, noLog, badBehind, usedFor, madeFrom, noRoom, traceMade, arrayMade, outMade, lineNote, refusedNote, noteOf};
 
 // What is known after some lines: the state that they leave, the first line whose cycle is refused with the refusal's number, and the
 // first line that cuts an operation; 0 where there is none.
@@ -82,7 +82,7 @@ fn cuts(d: Device, s: State, c: Cycle) -> bool
 
 // The number of a refusal, 0 where an answer is none.
 fn number_in(seen: Seen) -> u8
-    ensures { λ r. ⌜ r ≡ refusalIn seen ⌝ }
+    ensures { λ r. ⌜ r ≡ refusalNumber seen ⌝ }
 {
     match seen {
         Seen::NoData => 0,

@@ -23,7 +23,7 @@ use Rattle.trace_replay.specs.Answers as answers
 use Rattle.trace_replay.specs.Replays.{benchT, BenchSound, lineStep, arrayBy, goodLines, arraysOf}
 use Rattle.trace_replay.proofs.Claims.{stays-sound}
 use Rattle.trace_replay.proofs.Scans.{good-first, bad-first}
-use Rattle.trace_replay.proofs.Turns.{answerTo, arrayTo}
+use Rattle.trace_replay.proofs.Rounds.{answerTo, arrayTo}
 use Rattle.recording.specs.declared.Noted.{Noted}
 use Rattle.recording.specs.Recordings.{starts, wrongCount, cutsOff, agrees, faulty}
 use Rattle.recording.specs.Recordings as recordings
@@ -34,8 +34,8 @@ use Rattle.recording_claims.specs.Accepting.{Faultless}
 use Rattle.recording_claims.specs.Made.{heardOf}
 use Rattle.recording_claims.proofs.Firsts.{none-faulty, both-fine, head-fine, tail-fine}
 use Rattle.recording_replay.specs.declared.Log.{Log}
-use Rattle.recording_replay.specs.Recorded.{timeAwaited, busyOf, refusalIn, firstLine, firstNumber, answerFor, countFor, lineFor, linesFrom, logFrom}
-use Rattle.recording_replay.proofs.Turns.{line-length, lineTo, logTo, lines-none, lines-more, log-none, log-more}
+use Rattle.recording_replay.specs.Recorded.{timeAwaited, busyOf, refusalNumber, firstLine, firstNumber, answerFor, countFor, lineFor, linesFrom, logFrom}
+use Rattle.recording_replay.proofs.Rounds.{line-length, lineTo, logTo, lines-none, lines-more, log-none, log-more}
 use Rattle.recording_replay_claims.specs.Kept.{recordFor, recordsFor}
 use Rattle.recording_replay_claims.proofs.Steps.{never-zero, heard-fits, line-fine, line-leads}
 
@@ -43,7 +43,7 @@ use Rattle.recording_replay_claims.proofs.Steps.{never-zero, heard-fits
 abbrev pub Answered : ℕ → State → List ℕ → List ℕ → List ℕ → Type 0
 Answered zero s xs rs text = Unit {0}
 Answered (suc k) s xs rs text =
-    (isLine (take 20 text) ≡ true) × (refusalIn (answerTo s xs rs text .seen) ≡ 0) × Answered k (answerTo s xs rs text .state) (arrayTo s xs rs text) rs (drop 20 text)
+    (isLine (take 20 text) ≡ true) × (refusalNumber (answerTo s xs rs text .seen) ≡ 0) × Answered k (answerTo s xs rs text .state) (arrayTo s xs rs text) rs (drop 20 text)
 
 -- none of them cuts an operation
 abbrev pub Uncut : ℕ → State → List ℕ → List ℕ → List ℕ → Type 0
@@ -74,7 +74,7 @@ first-none a hit n l h = go (ltb 0 a) refl hit refl
 number-before : (k n : ℕ) (l : Log) (xs rs text : List ℕ) → logFrom k n l xs rs text .number ≡ 0 → l .number ≡ 0
 number-before zero n l xs rs text h = sym (ap (λ (x : Log). x .number) (log-none n l xs rs text)) ∙ h
 number-before (suc k) n l xs rs text h =
-    number-none (l .number) (refusalIn (answerTo (l .state) xs rs text .seen))
+    number-none (l .number) (refusalNumber (answerTo (l .state) xs rs text .seen))
     (number-before k (suc n) (logTo n l xs rs text) (arrayTo (l .state) xs rs text) rs (drop 20 text) (sym (ap (λ (x : Log). x .number) (log-more k n l xs rs text)) ∙ h)) .0
 
 cut-before : (k n : ℕ) (l : Log) (xs rs text : List ℕ) → 0 < n → logFrom k n l xs rs text .cut ≡ 0 → l .cut ≡ 0
@@ -102,7 +102,7 @@ all-answered (suc k) (suc m) n l xs rs text g h =
         → Answered (suc k) (l .state) xs rs text
     go true e more = (
       e,
-      number-none (l .number) (refusalIn (answerTo (l .state) xs rs text .seen)) (number-before k (suc n) (logTo n l xs rs text) (arrayTo (l .state) xs rs text) rs (drop 20 text) rest) .1,
+      number-none (l .number) (refusalNumber (answerTo (l .state) xs rs text .seen)) (number-before k (suc n) (logTo n l xs rs text) (arrayTo (l .state) xs rs text) rs (drop 20 text) rest) .1,
       more (let z : suc (goodLines m (drop 20 text)) ≡ suc k = sym (good-first m text e) ∙ g in omega (arith, z)) rest,
     )
     go false e more = absurd (let z : 0 ≡ suc k = sym (bad-first m text e) ∙ g in omega (arith, z))
@@ -123,14 +123,14 @@ answer-is (Data x) h = refl
 answer-is (Refused m) h = absurd (h m refl)
 
 -- a refusal has a number
-accepted : (s : State) (c : Cycle) (xs rs : List ℕ) → refusalIn (lineStep s c xs rs .seen) ≡ 0 → (m : ℕ) → lineStep s c xs rs .seen ≡ Refused m → ⊥
+accepted : (s : State) (c : Cycle) (xs rs : List ℕ) → refusalNumber (lineStep s c xs rs .seen) ≡ 0 → (m : ℕ) → lineStep s c xs rs .seen ≡ Refused m → ⊥
 accepted s c xs rs h zero e = never-zero s c xs rs e
-accepted s c xs rs h (suc m) e = let z : suc m ≡ 0 = sym (ap refusalIn e) ∙ h in omega (arith, z)
+accepted s c xs rs h (suc m) e = let z : suc m ≡ 0 = sym (ap refusalNumber e) ∙ h in omega (arith, z)
 
 stated : (line : List ℕ) → isLine line ≡ true → Fits (cycleStated line) × (lineOf (cycleStated line) ≡ line)
 stated line e = read-exactly line (cycleStated line) .0 (line-read line e)
 
-line-is : (line : List ℕ) (s : State) (xs rs : List ℕ) → isLine line ≡ true → refusalIn (lineStep s (cycleStated line) xs rs .seen) ≡ 0
+line-is : (line : List ℕ) (s : State) (xs rs : List ℕ) → isLine line ≡ true → refusalNumber (lineStep s (cycleStated line) xs rs .seen) ≡ 0
     → lineFor line (lineStep s (cycleStated line) xs rs .seen) (busyOf benchT s (cycleStated line)) ≡ recordLineOf (recordFor s (cycleStated line) xs rs)
 line-is line s xs rs e h =
     let seen = lineStep s (cycleStated line) xs rs .seen in

@@ -42,7 +42,7 @@ use Rattle.recording_walk.specs.Lists.{Held, heldOf, onward}
 use Rattle.recording_claims.specs.Made.{answeredOn, madeOne, heardOf, recordOf}
 use Rattle.recording_claims.proofs.Replaying.{record-fine, leads-same}
 use Rattle.recording_claims.proofs.Single.{whole-uncut}
-use Rattle.recording_replay.specs.Recorded.{timeAwaited, busyOf, refusalIn}
+use Rattle.recording_replay.specs.Recorded.{timeAwaited, busyOf, refusalNumber}
 use Rattle.recording_replay_claims.specs.Kept.{recordFor}
 use Rattle.trace_replay.specs.Replays.{benchT, lineStep, arrayBy}
 
@@ -100,10 +100,10 @@ module _ (s : State) (c : Cycle) (xs rs : List ℕ) where
   abbrev made : Decision
   made = decideOf benchT s c (length xs) (length rs)
 
-  answered : refusalIn (lineStep s c xs rs .seen) ≡ 0 → isRefusal (made .reply) ≡ false
+  answered : refusalNumber (lineStep s c xs rs .seen) ≡ 0 → isRefusal (made .reply) ≡ false
   unfolding lineStep answerOf
   answered =
-      outcome benchT s c (length xs) (length rs) (λ (x : Decision). refusalIn (seenOf (x .reply) (arrayAfter benchT s c xs rs)) ≡ 0 → isRefusal (x .reply) ≡ false)
+      outcome benchT s c (length xs) (length rs) (λ (x : Decision). refusalNumber (seenOf (x .reply) (arrayAfter benchT s c xs rs)) ≡ 0 → isRefusal (x .reply) ≡ false)
       (λ m z e q. absurd (z q)) (λ z f q. answers benchT c (settleOf (benchT .part) s (c .pins)))
 
   -- a refusal is never by 0
@@ -111,7 +111,7 @@ module _ (s : State) (c : Cycle) (xs rs : List ℕ) where
   unfolding lineStep answerOf
   never-zero =
       outcome benchT s c (length xs) (length rs) (λ (x : Decision). seenOf (x .reply) (arrayAfter benchT s c xs rs) ≡ Refused 0 → ⊥)
-      (λ m z e q. z (ap refusalIn q))
+      (λ m z e q. z (ap refusalNumber q))
       (λ z f q. not-refused (acceptOf benchT c (settleOf (benchT .part) s (c .pins)) .reply) (answers benchT c (settleOf (benchT .part) s (c .pins))) q)
     where
       isRefused : Seen → Bool
@@ -172,7 +172,7 @@ module _ (s : State) (c : Cycle) (xs rs : List ℕ) where
   unfolding busyOf
   busy-is e = if-true (starts (benchT .part) s c) (timeAwaited benchT (s .phase)) 0 e
 
-  module _ (number : refusalIn (lineStep s c xs rs .seen) ≡ 0) (whole : cutsOff (benchT .part) s c ≡ false) where
+  module _ (number : refusalNumber (lineStep s c xs rs .seen) ≡ 0) (whole : cutsOff (benchT .part) s c ≡ false) where
     reply : isRefusal (decideOf benchT s c (length (lent false xs)) (length rs) .reply) ≡ false
     reply = ap (λ (us : List ℕ). isRefusal (decideOf benchT s c (length us) (length rs) .reply)) even ∙ answered number
 

@@ -16,7 +16,7 @@ use Rattle.trace_replay.specs.Replays.{benchT}
 use Rattle.recording_text.specs.declared.Come.{Come}
 use Rattle.recording_text.specs.Texts.{recordsOf, badAfter, judgedOf, arrayJudged}
 use Rattle.recording_text.specs.Inner.{comeOf}
-use Rattle.recording_text.proofs.Turns.{few}
+use Rattle.recording_text.proofs.Rounds.{few}
 
 module _ (text promised xs : List ℕ) (d : Device) (s : State) (w : Walk) (c : Come) (a : d ≡ benchT) (b : s ≡ freshState) (p : w ≡ walkFrom d s (length xs)) (q : c ≡ comeOf w text xs) where
   abbrev from : Walk

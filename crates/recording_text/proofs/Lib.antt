@@ -1,4 +1,4 @@
-pub mod Turns
+pub mod Rounds
 pub mod Judging
 pub mod Written
 pub mod Claims

@@ -18,7 +18,7 @@ use Rattle.recording_walk.specs.Lists.{checkedOf}
 use Rattle.trace_replay.specs.Replays.{benchT}
 use Rattle.recording_text.specs.Texts.{recordsIn, badAfter, judgedOf}
 use Rattle.recording_text.specs.Written.{textOf, AllFit}
-use Rattle.recording_text.proofs.Turns.{none, first-good, first-bad}
+use Rattle.recording_text.proofs.Rounds.{none, first-good, first-bad}
 
 line-length : (r : Noted) → RecordFits true r → length (recordLineOf r) ≡ 31
 line-length r f = record-length (recordLineOf r) (record-back r f .0)

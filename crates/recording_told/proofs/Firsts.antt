@@ -13,7 +13,7 @@ use Rattle.recording.specs.Recordings.{faulty, whyOf}
 use Rattle.recording_lines.specs.Records.{isRecord, recordStated}
 use Rattle.recording_walk.specs.Lists.{Held, onward, leftBy, passedBy}
 use Rattle.recording_text.specs.Texts.{recordsIn}
-use Rattle.recording_text.proofs.Turns.{lies, none, first-good, first-bad}
+use Rattle.recording_text.proofs.Rounds.{lies, none, first-good, first-bad}
 use Rattle.recording_answer.specs.Lines.{faultLine}
 use Rattle.recording_told.specs.Tellings.{toldFrom}
 use Rattle.recording_told.specs.Inner.{statedAt}

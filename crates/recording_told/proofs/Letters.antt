@@ -51,7 +51,7 @@ module _ (text promised ys : List ℕ) (j : Judged) where
       if a then
       (if b then faultAt text (j .checked .at) (j .checked .state) ys
       else (if c then (if d then acceptedLine (j .lines) else endText (j .checked .state .phase) promised ys) else badLine (j .bad)))
-      else startRefused (j .checked .refusal)
+      else startRefused (j .checked .number)
 
   back : (a b c d : Bool) → letter (lineBy a b c d) ≡ 97 → (c ≡ true) × (d ≡ true)
   unfolding faultAt
@@ -64,7 +64,7 @@ module _ (text promised ys : List ℕ) (j : Judged) where
   said-back : letter (saidOf text j promised ys) ≡ 97 → (j .bad ≡ 0) × (j .checked .accepted ≡ true)
   unfolding saidOf laterText
   said-back h =
-      let p = back (eqb (j .checked .refusal) 0) (ltb (j .checked .at) (j .lines)) (eqb (j .bad) 0) (j .checked .accepted) h in
+      let p = back (eqb (j .checked .number) 0) (ltb (j .checked .at) (j .lines)) (eqb (j .bad) 0) (j .checked .accepted) h in
       (eqb-true (j .bad) 0 (p .0), p .1)
 
 later-letter : (bad n : ℕ) (b : Bool) (ph : Phase) (promised ys : List ℕ) → bad ≡ 0 → b ≡ true → letter (laterText bad n b ph promised ys) ≡ 97
@@ -84,14 +84,14 @@ module _ (text promised xs : List ℕ) where
 
   abbrev checkedBy : Bool → Checked
   checkedBy b =
-      if b then record { refusal = 0; accepted = eqb i (length rs) && endsWell (leftBy benchT v rs) promised; at = i; state = leftBy benchT v (take i rs) .state }
-      else record { refusal = startNumber benchT freshState (length xs); accepted = false; at = 0; state = freshState }
+      if b then record { number = 0; accepted = eqb i (length rs) && endsWell (leftBy benchT v rs) promised; at = i; state = leftBy benchT v (take i rs) .state }
+      else record { number = startNumber benchT freshState (length xs); accepted = false; at = 0; state = freshState }
 
-  whole : judgedOf text promised xs .checked .accepted ≡ true → (judgedOf text promised xs .checked .refusal ≡ 0) × (judgedOf text promised xs .lines ≤ judgedOf text promised xs .checked .at)
+  whole : judgedOf text promised xs .checked .accepted ≡ true → (judgedOf text promised xs .checked .number ≡ 0) × (judgedOf text promised xs .lines ≤ judgedOf text promised xs .checked .at)
   unfolding judgedOf checkedOf
   whole h = go (eqb (startNumber benchT freshState (length xs)) 0) h
     where
-      go : (b : Bool) → checkedBy b .accepted ≡ true → (checkedBy b .refusal ≡ 0) × (length rs ≤ checkedBy b .at)
+      go : (b : Bool) → checkedBy b .accepted ≡ true → (checkedBy b .number ≡ 0) × (length rs ≤ checkedBy b .at)
       go true e = (refl, let z = eqb-true i (length rs) (and-left (eqb i (length rs)) (endsWell (leftBy benchT v rs) promised) e) in omega (arith, z))
       go false e = absurd (unlike (sym e))
 

@@ -21,7 +21,7 @@ use Rattle.recording_walk.proofs.Going.{passed-most}
 use Rattle.trace_replay.specs.Replays.{benchT}
 use Rattle.recording_text.specs.declared.Judged.{Judged}
 use Rattle.recording_text.specs.Texts.{recordsOf, badAfter, judgedOf, arrayJudged}
-use Rattle.recording_text.proofs.Turns.{few}
+use Rattle.recording_text.proofs.Rounds.{few}
 use Rattle.recording_answer.specs.Lines.{faultLine}
 use Rattle.recording_told.specs.Tellings.{startRefused, toldFrom, laterText, endedText, toldOf}
 use Rattle.recording_told.specs.Inner.{statedAt, faultAt, saidOf}
@@ -107,30 +107,30 @@ first-by text k s xs n r d y a b c e =
 
 -- by the judgement: the ways of the code
 module _ (text promised ys : List ℕ) (j : Judged) where
-  refused-way : (j .checked .refusal ≡ 0 → ⊥) → saidOf text j promised ys ≡ startRefused (j .checked .refusal)
+  refused-way : (j .checked .number ≡ 0 → ⊥) → saidOf text j promised ys ≡ startRefused (j .checked .number)
   unfolding saidOf
-  refused-way h = rw (ne-eqb (j .checked .refusal) 0 h) refl
+  refused-way h = rw (ne-eqb (j .checked .number) 0 h) refl
 
-  record-way : j .checked .refusal ≡ 0 → j .checked .at < j .lines → saidOf text j promised ys ≡ faultAt text (j .checked .at) (j .checked .state) ys
+  record-way : j .checked .number ≡ 0 → j .checked .at < j .lines → saidOf text j promised ys ≡ faultAt text (j .checked .at) (j .checked .state) ys
   unfolding saidOf
-  record-way h l = rw (eq-eqb (j .checked .refusal) 0 h, lt-ltb (j .checked .at) (j .lines) l) refl
+  record-way h l = rw (eq-eqb (j .checked .number) 0 h, lt-ltb (j .checked .at) (j .lines) l) refl
 
-  later-way : j .checked .refusal ≡ 0 → j .lines ≤ j .checked .at → saidOf text j promised ys ≡ laterText (j .bad) (j .lines) (j .checked .accepted) (j .checked .state .phase) promised ys
+  later-way : j .checked .number ≡ 0 → j .lines ≤ j .checked .at → saidOf text j promised ys ≡ laterText (j .bad) (j .lines) (j .checked .accepted) (j .checked .state .phase) promised ys
   unfolding saidOf
-  later-way h l = rw (eq-eqb (j .checked .refusal) 0 h, le-ltb (j .checked .at) (j .lines) l) refl
+  later-way h l = rw (eq-eqb (j .checked .number) 0 h, le-ltb (j .checked .at) (j .lines) l) refl
 
 -- way by way, by the judgement in hand
 module _ (text promised xs ys : List ℕ) (j : Judged) (p : j ≡ judgedOf text promised xs) (q : ys ≡ arrayJudged text xs) where
   same : saidOf text j promised ys ≡ toldOf text promised xs
   same = ap₂ (λ (u : Judged) (zs : List ℕ). saidOf text u promised zs) p q ∙ said text promised xs
 
-  pub refused : (j .checked .refusal ≡ 0 → ⊥) → startRefused (j .checked .refusal) ≡ toldOf text promised xs
+  pub refused : (j .checked .number ≡ 0 → ⊥) → startRefused (j .checked .number) ≡ toldOf text promised xs
   refused h = sym (refused-way text promised ys j h) ∙ same
 
-  pub at-a-record : j .checked .refusal ≡ 0 → j .checked .at < j .lines → faultAt text (j .checked .at) (j .checked .state) ys ≡ toldOf text promised xs
+  pub at-a-record : j .checked .number ≡ 0 → j .checked .at < j .lines → faultAt text (j .checked .at) (j .checked .state) ys ≡ toldOf text promised xs
   at-a-record h l = sym (record-way text promised ys j h l) ∙ same
 
-  pub at-no-record : j .checked .refusal ≡ 0 → j .lines ≤ j .checked .at → laterText (j .bad) (j .lines) (j .checked .accepted) (j .checked .state .phase) promised ys ≡ toldOf text promised xs
+  pub at-no-record : j .checked .number ≡ 0 → j .lines ≤ j .checked .at → laterText (j .bad) (j .lines) (j .checked .accepted) (j .checked .state .phase) promised ys ≡ toldOf text promised xs
   at-no-record h l = sym (later-way text promised ys j h l) ∙ same
 
   pub within : (k : ℕ) → k < j .lines → (k ≤ 9997) × (31 * k + 31 ≤ length text)

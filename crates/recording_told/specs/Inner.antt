@@ -25,7 +25,7 @@ faultAt text i s xs = faultLine (i + 1) (statedAt text i .heard) (whyOf benchT s
 -- by the judgement, and the array that it leaves
 unfoldable pub saidOf : List ℕ → Judged → List ℕ → List ℕ → List ℕ
 saidOf text j promised xs =
-    if eqb (j .checked .refusal) 0 then
+    if eqb (j .checked .number) 0 then
     (if ltb (j .checked .at) (j .lines) then faultAt text (j .checked .at) (j .checked .state) xs
     else laterText (j .bad) (j .lines) (j .checked .accepted) (j .checked .state .phase) promised xs)
-    else startRefused (j .checked .refusal)
+    else startRefused (j .checked .number)

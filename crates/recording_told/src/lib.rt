@@ -85,8 +85,8 @@ pub fn tell(text: &[u8], promised: &[u8], array: &mut [u8], out: &mut [u8]) -> u
     let n = j.lines;
     let x = j.checked;
     let s = x.state;
-    if x.refusal != 0 {
-        return put_refused(out, x.refusal);
+    if x.number != 0 {
+        return put_refused(out, x.number);
     }
     if x.at < n {
         return put_first(out, text, x.at, s, array);

@@ -52,9 +52,9 @@ module _ (w : Walk) (r : Noted) (bytes : List ℕ) where
 
 -- the end, by what was asked of it
 pub closes : (w : Walk) (promised bytes : List ℕ) (b : Bool) → b ≡ endsWell (heldOf (w .state) bytes) promised
-    → record { refusal = w .refusal; accepted = not (w .stopped) && b; at = w .at; state = w .state } ≡ endOf w promised bytes
+    → record { number = w .number; accepted = not (w .stopped) && b; at = w .at; state = w .state } ≡ endOf w promised bytes
 unfolding endOf
-closes w promised bytes b e = λ j. record { refusal = w .refusal; accepted = not (w .stopped) && e j; at = w .at; state = w .state }
+closes w promised bytes b e = λ j. record { number = w .number; accepted = not (w .stopped) && e j; at = w .at; state = w .state }
 
 pub over-length : (bytes : List ℕ) (w : Walk) (rs : List Noted) → length (bytesOver bytes w rs) ≡ length bytes
 over-length bytes w [] = refl
@@ -80,10 +80,10 @@ halted-bytes bytes w (r ∷ rs) e = ap₂ (λ (ys : List ℕ) (q : Walk). bytesO
 
 -- a walk by its parts, going and stopped
 abbrev going : Device → State → ℕ → Walk
-going d s a = record { device = d; state = s; refusal = 0; stopped = false; at = a }
+going d s a = record { device = d; state = s; number = 0; stopped = false; at = a }
 
 abbrev ended : Device → State → Bool → ℕ → Walk
-ended d s b a = record { device = d; state = s; refusal = 0; stopped = b; at = a }
+ended d s b a = record { device = d; state = s; number = 0; stopped = b; at = a }
 
 module _ (d : Device) (s : State) (a : ℕ) (r : Noted) (bytes : List ℕ) where
   -- a record at fault stops it where it is
@@ -178,11 +178,11 @@ module _ (d : Device) (s : State) (rs : List Noted) (promised bytes : List ℕ) 
 
   begun : eqb number 0 ≡ true → walkFrom d s (length bytes) ≡ going d s 0
   unfolding walkFrom
-  begun e = let z : number ≡ 0 = eqb-true number 0 e in λ j. record { device = d; state = s; refusal = z j; stopped = not (e j); at = 0 }
+  begun e = let z : number ≡ 0 = eqb-true number 0 e in λ j. record { device = d; state = s; number = z j; stopped = not (e j); at = 0 }
 
-  barred : eqb number 0 ≡ false → walkFrom d s (length bytes) ≡ record { device = d; state = s; refusal = number; stopped = true; at = 0 }
+  barred : eqb number 0 ≡ false → walkFrom d s (length bytes) ≡ record { device = d; state = s; number = number; stopped = true; at = 0 }
   unfolding walkFrom
-  barred e = λ j. record { device = d; state = s; refusal = number; stopped = not (e j); at = 0 }
+  barred e = λ j. record { device = d; state = s; number = number; stopped = not (e j); at = 0 }
 
   abbrev Answered : Walk → List ℕ → Type 0
   Answered w ys = (endOf w promised ys ≡ checkedOf d s rs promised bytes) × (ys ≡ bytesChecked d s rs bytes)
@@ -193,9 +193,9 @@ module _ (d : Device) (s : State) (rs : List Noted) (promised bytes : List ℕ) 
   walked h e =
       let p = verdict (ltb i (length rs)) refl in
       let q : 0 + i ≡ i = omega arith in
-      rw e (λ j. record { refusal = 0; accepted = p j; at = q j; state = leftBy d v (take i rs) .state }, refl)
+      rw e (λ j. record { number = 0; accepted = p j; at = q j; state = leftBy d v (take i rs) .state }, refl)
 
-  refused : eqb number 0 ≡ false → Answered (record { device = d; state = s; refusal = number; stopped = true; at = 0 }) bytes
+  refused : eqb number 0 ≡ false → Answered (record { device = d; state = s; number = number; stopped = true; at = 0 }) bytes
   unfolding endOf checkedOf bytesChecked
   refused e = (sym (if-false (eqb number 0) _ _ e), sym (if-false (eqb number 0) _ _ e))
 
@@ -210,6 +210,6 @@ module _ (d : Device) (s : State) (rs : List Noted) (promised bytes : List ℕ) 
           (subst (λ (w : Walk). Answered w (bytesOver bytes (going d s 0) rs)) (sym (c .0))
           (subst (Answered (ended d (leftBy d v (take i rs) .state) (ltb i (length rs)) (0 + i))) (sym (c .1)) (walked h e)))
       go false e =
-          let w : Walk = record { device = d; state = s; refusal = number; stopped = true; at = 0 } in
+          let w : Walk = record { device = d; state = s; number = number; stopped = true; at = 0 } in
           subst (λ (x : Walk). Answered (wentOver bytes x rs) (bytesOver bytes x rs)) (sym (barred e))
           (subst (λ (x : Walk). Answered x (bytesOver bytes w rs)) (sym (halted bytes w rs refl)) (subst (Answered w) (sym (halted-bytes bytes w rs refl)) (refused e)))

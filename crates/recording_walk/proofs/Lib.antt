@@ -1,4 +1,4 @@
-pub mod Again
+pub mod LentAgain
 pub mod Equal
 pub mod Going
 pub mod Unique

@@ -27,7 +27,7 @@ placeAfter fault at =
 
 -- the walk after a record that it made
 abbrev pub wentBy : Walk → Recorded → Walk
-wentBy w x = record { device = w .device; state = x .state; refusal = w .refusal; stopped = x .fault; at = placeAfter (x .fault) (w .at) }
+wentBy w x = record { device = w .device; state = x .state; number = w .number; stopped = x .fault; at = placeAfter (x .fault) (w .at) }
 
 -- one record more: a walk that has stopped stays
 unfoldable pub wentOn : Walk → Noted → List ℕ → Walk
@@ -49,8 +49,8 @@ wentOver bytes w (r ∷ rs) = wentOver (bytesOn w r bytes) (wentOn w r bytes) rs
 
 -- the walk at its start: it has stopped where it is refused
 unfoldable pub walkFrom : Device → State → ℕ → Walk
-walkFrom d s n = record { device = d; state = s; refusal = startNumber d s n; stopped = not (eqb (startNumber d s n) 0); at = 0 }
+walkFrom d s n = record { device = d; state = s; number = startNumber d s n; stopped = not (eqb (startNumber d s n) 0); at = 0 }
 
 -- what a walk that has come to the end of the list answers
 unfoldable pub endOf : Walk → List ℕ → List ℕ → Checked
-endOf w promised bytes = record { refusal = w .refusal; accepted = not (w .stopped) && endsWell (heldOf (w .state) bytes) promised; at = w .at; state = w .state }
+endOf w promised bytes = record { number = w .number; accepted = not (w .stopped) && endsWell (heldOf (w .state) bytes) promised; at = w .at; state = w .state }

@@ -71,8 +71,8 @@ checkedOf d s rs promised bytes =
     let v : Held = heldOf s bytes in
     let n : ℕ = startNumber d s (length bytes) in
     let i : ℕ = passedBy d v rs in
-    if eqb n 0 then record { refusal = 0; accepted = eqb i (length rs) && endsWell (leftBy d v rs) promised; at = i; state = leftBy d v (take i rs) .state }
-    else record { refusal = n; accepted = false; at = 0; state = s }
+    if eqb n 0 then record { number = 0; accepted = eqb i (length rs) && endsWell (leftBy d v rs) promised; at = i; state = leftBy d v (take i rs) .state }
+    else record { number = n; accepted = false; at = 0; state = s }
 
 -- the lent bytes after the check: as the records before the first at fault leave them (R-recording-3)
 unfoldable pub bytesChecked : Device → State → List Noted → List ℕ → List ℕ

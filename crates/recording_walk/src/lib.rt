@@ -17,7 +17,7 @@ ghost use Rattle.recording_walk.specs.Inner.{placeAfter, wentBy, wentOn,
 // The check's answer: a refusal, or 0; whether the recording is accepted; the records that passed before the first at fault, and the state
 // that they leave, with its counts of erases.
 pub struct Checked {
-    pub refusal: u8,
+    pub number: u8,
     pub accepted: bool,
     pub at: usize,
     pub state: State,
@@ -27,7 +27,7 @@ pub struct Checked {
 pub struct Walk {
     pub device: Device,
     pub state: State,
-    pub refusal: u8,
+    pub number: u8,
     pub stopped: bool,
     pub at: usize,
 }
@@ -72,7 +72,7 @@ fn went_by(w: Walk, x: Recorded) -> Walk
     Walk {
         device: d,
         state: s,
-        refusal: w.refusal,
+        number: w.number,
         stopped: fault,
         at: place_after(fault, w.at),
     }
@@ -134,7 +134,7 @@ pub fn begin(d: Device, s: State, n: usize) -> Walk
     Walk {
         device: d,
         state: s,
-        refusal: number,
+        number: number,
         stopped: !(number == 0),
         at: 0,
     }
@@ -172,7 +172,7 @@ pub fn end(promised: &[u8], array: &mut [u8], w: Walk) -> Checked
     let s = w.state;
     let stopped = w.stopped;
     Checked {
-        refusal: w.refusal,
+        number: w.number,
         accepted: !stopped & ends_well(promised, array, s),
         at: w.at,
         state: s,

@@ -8,7 +8,7 @@ use Rattle.script_lines.specs.declared.Word.the-variants.{Ends}
 use Rattle.script_lines.proofs.Forms.{empty-word}
 use Rattle.script_judge.specs.Judges.{fineAs, scriptJudged}
 use Rattle.script_judge.specs.Faults.{FaultAt}
-use Rattle.script_judge.proofs.Turns.{turn}
+use Rattle.script_judge.proofs.Rounds.{round}
 use Rattle.script_judge.proofs.Fault as fault
 use Rattle.script_judge.proofs.OtherLines as only
 
@@ -19,4 +19,4 @@ pub one-fault : (text : List ℕ) (i j : ℕ) → FaultAt text i → FaultAt tex
 one-fault = only.one-fault
 
 pub empty-script : scriptJudged [] ≡ fineAs 0
-empty-script = turn 3000 1 [] 1 false 0 [] Ends (empty-word 3000)
+empty-script = round 3000 1 [] 1 false 0 [] Ends (empty-word 3000)

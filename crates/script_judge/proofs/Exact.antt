@@ -19,7 +19,7 @@ use Rattle.script_lines.proofs.Written.{at-least}
 use Rattle.script_lines.proofs.Forms.{word-traced, word-closes, word-opens, traced-text, closes-text, opens-text, traced-word, closes-word, opens-word, empty-word}
 use Rattle.script_judge.specs.declared.Judged.{Judged}
 use Rattle.script_judge.specs.Judges.{faultAs, fineAs, capped, judge, scriptJudged, endOf}
-use Rattle.script_judge.proofs.Turns.{turn, j-bad, j-traced, j-traced-over, j-open, j-open-deep, j-close, j-close-true}
+use Rattle.script_judge.proofs.Rounds.{round, j-bad, j-traced, j-traced-over, j-open, j-open-deep, j-close, j-close-true}
 
 pub capped-is : (p : ℕ) → p ≤ 9999 → capped p ≡ p
 capped-is p l = simp (le-leb p 9999 l)
@@ -82,7 +82,7 @@ accepted s a =
     let b = a .short in
     let m = 3000 - linesIn s in
     feed s 8 3000 1 m [] 1 false 0 (writtenIn 1 s) [] (a .formed) refl (omega arith) (omega arith) (a .few)
-    ∙ turn m (1 + linesIn s) [] 1 (must false s) (writtenIn 1 s) [] Ends (empty-word m) ∙ flat s
+    ∙ round m (1 + linesIn s) [] 1 (must false s) (writtenIn 1 s) [] Ends (empty-word m) ∙ flat s
   where
     flat : (t : Script) → endOf (1 + linesIn s) [] (must false t) (writtenIn 1 s) ≡ fineAs (writtenIn 1 s)
     flat done = refl
@@ -143,7 +143,7 @@ step : (n u ℓ : ℕ) (K : List ℕ) (p : ℕ) (e : Bool) (t : ℕ) (text : Lis
     → ((K′ : List ℕ) (p′ : ℕ) (e′ : Bool) (t′ : ℕ) (text′ : List ℕ) → 1 ≤ n → t′ ≤ 9998 → judge (n - 1) (ℓ + 1) K′ p′ e′ t′ text′ .fault ≡ 0 → RestBy (Tail K′) (8 - length K′) p′ e′ (u + 1) t′ text′)
     → (w : Word) → wordIn n text ≡ w → judge n ℓ K p e t text .fault ≡ 0 → RestBy (Tail K) (8 - length K) p e u t text
 unfolding Tail Formed printOn linesIn writtenIn
-step n u ℓ K p e t text a l c ih Ends w h = sound-end u ℓ K p e t text a l c (ends-text n text w) (sym (ap (λ (x : Judged). x .fault) (turn n ℓ K p e t text Ends w)) ∙ h)
+step n u ℓ K p e t text a l c ih Ends w h = sound-end u ℓ K p e t text a l c (ends-text n text w) (sym (ap (λ (x : Judged). x .fault) (round n ℓ K p e t text Ends w)) ∙ h)
 step n u ℓ K p e t text a l c ih Bad w h = no-fault ℓ (judge n ℓ K p e t text) l (j-bad n ℓ K p t text e w) h
 step n u ℓ K p e t text a l c ih Traced w h = by (ltb 9998 (t + p)) refl where
   by : (x : Bool) → ltb 9998 (t + p) ≡ x → RestBy (Tail K) (8 - length K) p e u t text
@@ -190,7 +190,7 @@ step n u ℓ K p e t text a l c ih (Opens m) w h = by (leb 8 (length K)) refl wh
         total-is = omega arith;
         onward = r2 .onward;
       }
-step n u ℓ [] p e t text a l c ih Closes w h = no-fault ℓ (judge n ℓ [] p e t text) l (turn n ℓ [] p e t text Closes w) h
+step n u ℓ [] p e t text a l c ih Closes w h = no-fault ℓ (judge n ℓ [] p e t text) l (round n ℓ [] p e t text Closes w) h
 step n u ℓ (q ∷ K) p true t text a l c ih Closes w h = no-fault ℓ (judge n ℓ (q ∷ K) p true t text) l (j-close-true n ℓ (q ∷ K) p t text w) h
 step n u ℓ (q ∷ K) p false t text a l c ih Closes w h =
     let r = ih K q false t (drop 2 text) (word-closes n text w .0) c (sym (ap (λ (x : Judged). x .fault) (j-close n ℓ K p t text q w)) ∙ h) in

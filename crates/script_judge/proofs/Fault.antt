@@ -19,7 +19,7 @@ use Rattle.script_lines.proofs.Forms.{word-traced, word-closes, word-opens, tra
 use Rattle.script_judge.specs.declared.Judged.{Judged}
 use Rattle.script_judge.specs.Judges.{capped, judge, scriptJudged}
 use Rattle.script_judge.specs.Faults.{Mark, aLine, anOpen, aClose, formOf, bytesOn, sums, FaultAt}
-use Rattle.script_judge.proofs.Turns.{turn, j-bad, j-traced, j-traced-over, j-open, j-open-deep, j-close, j-close-true}
+use Rattle.script_judge.proofs.Rounds.{round, j-bad, j-traced, j-traced-over, j-open, j-open-deep, j-close, j-close-true}
 use Rattle.script_judge.proofs.Exact.{capped-under}
 use Rattle.script_judge.proofs.Starts.{Walks, Whole, whole-flat, whole-script, begins-walks, walks-begins}
 
@@ -105,9 +105,9 @@ step : (n u : ℕ) (K : List ℕ) (p : ℕ) (e : Bool) (t : ℕ) (text : List �
     → ((K′ : List ℕ) (p′ : ℕ) (e′ : Bool) (t′ : ℕ) (text′ : List ℕ) → 1 ≤ n → t′ ≤ 9998 → judge (n - 1) (ℓ + 1) (caps K′) (capped p′) e′ t′ text′ .fault ≡ r → From (u + 1) K′ p′ e′ t′ text′ (ℓ + 1) r)
     → (w : Word) → wordIn n text ≡ w → judge n ℓ (caps K) (capped p) e t text .fault ≡ r → From u K p e t text ℓ r
 unfolding Walks Whole sums bytesOn
-step n u [] p true t text ℓ r a c z ih Ends w h = here n u [] p true t text ℓ r Ends a c w (sym h ∙ ap (λ (j : Judged). j .fault) (turn n ℓ [] (capped p) true t text Ends w)) (λ m y v s. let k = code-high m in absurd (omega arith)) (λ y v. v)
-step n u [] p false t text ℓ r a c z ih Ends w h = absurd (z (sym h ∙ ap (λ (j : Judged). j .fault) (turn n ℓ [] (capped p) false t text Ends w)))
-step n u (q ∷ K) p e t text ℓ r a c z ih Ends w h = here n u (q ∷ K) p e t text ℓ r Ends a c w (sym h ∙ ap (λ (j : Judged). j .fault) (turn n ℓ (caps (q ∷ K)) (capped p) e t text Ends w)) (λ m y v s. let k = code-high m in absurd (omega arith)) (λ y v. v)
+step n u [] p true t text ℓ r a c z ih Ends w h = here n u [] p true t text ℓ r Ends a c w (sym h ∙ ap (λ (j : Judged). j .fault) (round n ℓ [] (capped p) true t text Ends w)) (λ m y v s. let k = code-high m in absurd (omega arith)) (λ y v. v)
+step n u [] p false t text ℓ r a c z ih Ends w h = absurd (z (sym h ∙ ap (λ (j : Judged). j .fault) (round n ℓ [] (capped p) false t text Ends w)))
+step n u (q ∷ K) p e t text ℓ r a c z ih Ends w h = here n u (q ∷ K) p e t text ℓ r Ends a c w (sym h ∙ ap (λ (j : Judged). j .fault) (round n ℓ (caps (q ∷ K)) (capped p) e t text Ends w)) (λ m y v s. let k = code-high m in absurd (omega arith)) (λ y v. v)
 step n u K p e t text ℓ r a c z ih Bad w h = here n u K p e t text ℓ r Bad a c w (sym h ∙ ap (λ (j : Judged). j .fault) (j-bad n ℓ (caps K) (capped p) t text e w)) (λ m y v s. let k = code-high m in absurd (omega arith)) (λ y v. absurd (omega arith))
 step n u K p e t text ℓ r a c z ih Traced w h = by (ltb 9998 (t + capped p)) refl where
   over : 9998 < t + p → (m : Mark) → 2 ≡ code (wordFor m) → Walks (length K) e (m ∷ []) → t + sums K p (m ∷ []) ≤ 9998 → ⊥
@@ -162,7 +162,7 @@ step n u K p e t text ℓ r a c z ih (Opens x) w h = by (leb 8 (length (caps K))
         stuck = λ m rest′ y v i s. f .stuck m rest′ y (v .3) (omega arith) s;
         unclosed = λ y v. f .unclosed y v;
       }
-step n u [] p e t text ℓ r a c z ih Closes w h = here n u [] p e t text ℓ r Closes a c w (sym h ∙ ap (λ (j : Judged). j .fault) (turn n ℓ [] (capped p) e t text Closes w)) bad (λ y v. absurd (omega arith)) where
+step n u [] p e t text ℓ r a c z ih Closes w h = here n u [] p e t text ℓ r Closes a c w (sym h ∙ ap (λ (j : Judged). j .fault) (round n ℓ [] (capped p) e t text Closes w)) bad (λ y v. absurd (omega arith)) where
   bad : (m : Mark) → 4 ≡ code (wordFor m) → Walks 0 e (m ∷ []) → t + sums [] p (m ∷ []) ≤ 9998 → ⊥
   bad (aLine k) y v s = absurd (omega arith)
   bad (anOpen n) y v s = absurd (omega arith)

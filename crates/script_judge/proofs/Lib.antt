@@ -1,4 +1,4 @@
-pub mod Turns
+pub mod Rounds
 pub mod Reading
 pub mod Exact
 pub mod OnePrint

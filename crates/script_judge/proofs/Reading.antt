@@ -19,7 +19,7 @@ use Rattle.script_judge.specs.declared.Judged.{Judged}
 use Rattle.script_judge.specs.declared.Spot.{Spot}
 use Rattle.script_judge.specs.Judges.{faultAs, fineAs, capped, judge}
 use Rattle.script_judge.specs.Inner.{faultSpot, nextSpot, closedSpot, itemComes, ReadTo, Sound, Ahead, Ended, Onward}
-use Rattle.script_judge.proofs.Turns.{j-bad, j-ends, j-close-true, j-traced-over, j-traced, j-open-deep, j-open, j-close, j-comes, j-open-ends, j-top-ends, j-top-closes}
+use Rattle.script_judge.proofs.Rounds.{j-bad, j-ends, j-close-true, j-traced-over, j-traced, j-open-deep, j-open, j-close, j-comes, j-open-ends, j-top-ends, j-top-closes}
 
 nonzero : (n : ℕ) → 1 ≤ n → n ≡ 0 → ⊥
 nonzero n l e = absurd (omega arith)

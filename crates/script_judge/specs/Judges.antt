@@ -20,12 +20,12 @@ fineAs t = record { fault = 0; lines = t }
 
 -- what a line does: the judging ends with it, or goes on with the products around the open groups, the product around the next
 -- line, whether an item must come (a group was just opened), the lines written out so far, and past so many bytes
-pub data Turn : Type 0 where
-  stops : Judged → Turn
-  goes : List ℕ → ℕ → Bool → ℕ → ℕ → Turn
+pub data Round : Type 0 where
+  stops : Judged → Round
+  goes : List ℕ → ℕ → Bool → ℕ → ℕ → Round
 
--- a turn, and what comes of going on
-abbrev pub follow : Turn → (List ℕ → ℕ → Bool → ℕ → ℕ → Judged) → Judged
+-- a round, and what comes of going on
+abbrev pub follow : Round → (List ℕ → ℕ → Bool → ℕ → ℕ → Judged) → Judged
 follow (stops r) f = r
 follow (goes K p must t u) f = f K p must t u
 
@@ -35,7 +35,7 @@ endOf ℓ [] must t = if must then faultAs ℓ else fineAs t
 endOf ℓ (q ∷ K) must t = faultAs ℓ
 
 -- a closing line: a fault where no group is open, or the open one is empty
-abbrev pub closeOf : List ℕ → ℕ → Bool → ℕ → Turn
+abbrev pub closeOf : List ℕ → ℕ → Bool → ℕ → Round
 closeOf [] ℓ must t = stops (faultAs ℓ)
 closeOf (q ∷ K) ℓ must t = if must then stops (faultAs ℓ) else goes K q false t 2
 
@@ -45,17 +45,17 @@ capped p = if leb p 9999 then p else 9999
 
 -- line ℓ by its word: a trace line adds the product around it, and is at fault where the total passes 9,998; an opening line is
 -- at fault where eight groups are open (R-script-3)
-abbrev pub lineTurn : Word → ℕ → List ℕ → ℕ → Bool → ℕ → Turn
-lineTurn Ends ℓ K p must t = stops (endOf ℓ K must t)
-lineTurn Bad ℓ K p must t = stops (faultAs ℓ)
-lineTurn Traced ℓ K p must t = if ltb 9998 (t + p) then stops (faultAs ℓ) else goes K p false (t + p) 20
-lineTurn (Opens n) ℓ K p must t = if leb 8 (length K) then stops (faultAs ℓ) else goes (p ∷ K) (capped (p * n)) true t 6
-lineTurn Closes ℓ K p must t = closeOf K ℓ must t
+abbrev pub lineRound : Word → ℕ → List ℕ → ℕ → Bool → ℕ → Round
+lineRound Ends ℓ K p must t = stops (endOf ℓ K must t)
+lineRound Bad ℓ K p must t = stops (faultAs ℓ)
+lineRound Traced ℓ K p must t = if ltb 9998 (t + p) then stops (faultAs ℓ) else goes K p false (t + p) 20
+lineRound (Opens n) ℓ K p must t = if leb 8 (length K) then stops (faultAs ℓ) else goes (p ∷ K) (capped (p * n)) true t 6
+lineRound Closes ℓ K p must t = closeOf K ℓ must t
 
 -- from line ℓ on, where so many lines may still come
 unfoldable pub judge : ℕ → ℕ → List ℕ → ℕ → Bool → ℕ → List ℕ → Judged
-judge zero ℓ K p must t text = follow (lineTurn (wordIn 0 text) ℓ K p must t) (λ K′ p′ must′ t′ u. faultAs ℓ)
-judge (suc n) ℓ K p must t text = follow (lineTurn (wordIn (suc n) text) ℓ K p must t) (λ K′ p′ must′ t′ u. judge n (ℓ + 1) K′ p′ must′ t′ (drop u text))
+judge zero ℓ K p must t text = follow (lineRound (wordIn 0 text) ℓ K p must t) (λ K′ p′ must′ t′ u. faultAs ℓ)
+judge (suc n) ℓ K p must t text = follow (lineRound (wordIn (suc n) text) ℓ K p must t) (λ K′ p′ must′ t′ u. judge n (ℓ + 1) K′ p′ must′ t′ (drop u text))
 
 -- a whole script: 3,000 lines at most, the first is line 1, no group is open (R-script-2)
 abbrev pub scriptJudged : List ℕ → Judged

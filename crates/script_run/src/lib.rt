@@ -161,15 +161,12 @@ fn marked(fault: usize, out: &mut [u8]) -> Replayed
 {
     if out.len() < 7 {
         return Replayed {
-            refusal: 37,
+            number: 37,
             used: 0,
         };
     }
     trace_replay::answers::write_mark(fault, out);
-    Replayed {
-        refusal: 0,
-        used: 7,
-    }
+    Replayed { number: 0, used: 7 }
 }
 
 // A whole script on lent slices: at a fault its mark alone, else the answers to its lines written out.
@@ -191,7 +188,7 @@ pub fn run_script(text: &[u8], array: &mut [u8], residue: &[u8], out: &mut [u8])
     let n = 8 * j.lines;
     if out.len() < n {
         return Replayed {
-            refusal: 37,
+            number: 37,
             used: 0,
         };
     }
@@ -204,7 +201,7 @@ pub fn run_script(text: &[u8], array: &mut [u8], residue: &[u8], out: &mut [u8])
     };
     let y = list(text, x, 8, array, residue, out);
     Replayed {
-        refusal: 0,
+        number: 0,
         used: y.used,
     }
 }

@@ -19,12 +19,12 @@ use Rattle.model_types.specs.declared.State.{State}
 use Rattle.units.specs.Units.{lentIn}
 use Rattle.file_codec.specs.File.{Outcome, refused, made, outcomeBy, inRoom, leftIn, limit, readRows}
 use Rattle.loader_run.specs.Runs.{lentRows, lentNumber, runFirst}
-use Rattle.loader_run.proofs.Good.{good}
+use Rattle.loader_run.proofs.UnrefusedRun.{good}
 use Rattle.store_places.specs.Store.{findOf, findRows, isProper, noRoom, placesIn, itemsIn}
-use Rattle.store_survey.specs.Survey.{faultOf}
+use Rattle.store_survey.specs.Survey.{readerNumber}
 use Rattle.store_find.specs.Finds.{isWhole, standsNumber, foundIn, foundAs}
 use Rattle.store_find.specs.declared.Found.{Found}
-use Rattle.store_contents.specs.Contents.{unlike, roomRows, dropFault, addFault, memoryBy}
+use Rattle.store_contents.specs.Contents.{unlike, roomRows, dropInNumber, addInNumber, memoryBy}
 use Rattle.store_contents.proofs.Numbers.{read-then, memory-was}
 use Rattle.store.specs.Stores.{mainOf, noStore, seekNumber, foundOn, changeRows, changeNumber, dropRows, addingRows, dropNumber, addNumber, changeJob}
 use Rattle.store.proofs.Blocks.{Small, small, known-part, store-small, block-long, block-whole, handed-ends}
@@ -39,17 +39,17 @@ passes a x z = if-true (eqb a 0) x a (eq-eqb a 0 z)
 -- ---- a find
 module _ (part : Part) (xs : List ℕ) (ℓ : ℕ) where
   first : seekNumber part xs ℓ
-      ≡ (if eqb (given (row 1 (noStore part) ∷ row 2 (not (eqb (length xs) (sizeOf part))) ∷ [])) 0 then given (findRows (faultOf limit) ℓ (mainOf part xs) [])
+      ≡ (if eqb (given (row 1 (noStore part) ∷ row 2 (not (eqb (length xs) (sizeOf part))) ∷ [])) 0 then given (findRows (readerNumber limit) ℓ (mainOf part xs) [])
       else given (row 1 (noStore part) ∷ row 2 (not (eqb (length xs) (sizeOf part))) ∷ []))
   unfolding seekNumber
-  first = given-append (row 1 (noStore part) ∷ row 2 (not (eqb (length xs) (sizeOf part))) ∷ []) (findRows (faultOf limit) ℓ (mainOf part xs) []) refl
+  first = given-append (row 1 (noStore part) ∷ row 2 (not (eqb (length xs) (sizeOf part))) ∷ []) (findRows (readerNumber limit) ℓ (mainOf part xs) []) refl
 
   module _ (n : ℕ) (e : n ≡ given (row 1 (noStore part) ∷ row 2 (not (eqb (length xs) (sizeOf part))) ∷ [])) where
     pub found-not : (n ≡ 0 → ⊥) → foundOn part xs ℓ ≡ refused n
     unfolding foundOn
     found-not z =
-        let q : seekNumber part xs ℓ ≡ n = first ∙ stays (given (row 1 (noStore part) ∷ row 2 (not (eqb (length xs) (sizeOf part))) ∷ [])) (given (findRows (faultOf limit) ℓ (mainOf part xs) [])) (λ y. z (e ∙ y)) ∙ sym e in
-        ap (λ (k : ℕ). outcomeBy k (findOf (faultOf limit) ℓ (mainOf part xs))) q ∙ if-false (eqb n 0) (made (findOf (faultOf limit) ℓ (mainOf part xs))) (refused n) (ne-eqb n 0 z)
+        let q : seekNumber part xs ℓ ≡ n = first ∙ stays (given (row 1 (noStore part) ∷ row 2 (not (eqb (length xs) (sizeOf part))) ∷ [])) (given (findRows (readerNumber limit) ℓ (mainOf part xs) [])) (λ y. z (e ∙ y)) ∙ sym e in
+        ap (λ (k : ℕ). outcomeBy k (findOf (readerNumber limit) ℓ (mainOf part xs))) q ∙ if-false (eqb n 0) (made (findOf (readerNumber limit) ℓ (mainOf part xs))) (refused n) (ne-eqb n 0 z)
 
     module _ (z : n ≡ 0) where
       none : NoRow (row 1 (noStore part) ∷ row 2 (not (eqb (length xs) (sizeOf part))) ∷ [])
@@ -62,10 +62,10 @@ module _ (part : Part) (xs : List ℕ) (ℓ : ℕ) where
       unfolding foundIn foundOn standsNumber
       found-there =
           let w : isWhole (mainOf part xs) ≡ true = block-whole part xs found-sized (store-small part (no-head none)) in
-          let a : given (row 44 (not (isWhole (mainOf part xs))) ∷ findRows (faultOf limit) ℓ (mainOf part xs) []) ≡ given (findRows (faultOf limit) ℓ (mainOf part xs) []) =
-          ap (λ (t : Bool). if not t then 44 else given (findRows (faultOf limit) ℓ (mainOf part xs) [])) w in
-          let b : seekNumber part xs ℓ ≡ given (findRows (faultOf limit) ℓ (mainOf part xs) []) = first ∙ passes (given (row 1 (noStore part) ∷ row 2 (not (eqb (length xs) (sizeOf part))) ∷ [])) (given (findRows (faultOf limit) ℓ (mainOf part xs) [])) (sym e ∙ z) in
-          ap (λ (k : ℕ). outcomeBy k (findOf (faultOf limit) ℓ (mainOf part xs))) (a ∙ sym b)
+          let a : given (row 44 (not (isWhole (mainOf part xs))) ∷ findRows (readerNumber limit) ℓ (mainOf part xs) []) ≡ given (findRows (readerNumber limit) ℓ (mainOf part xs) []) =
+          ap (λ (t : Bool). if not t then 44 else given (findRows (readerNumber limit) ℓ (mainOf part xs) [])) w in
+          let b : seekNumber part xs ℓ ≡ given (findRows (readerNumber limit) ℓ (mainOf part xs) []) = first ∙ passes (given (row 1 (noStore part) ∷ row 2 (not (eqb (length xs) (sizeOf part))) ∷ [])) (given (findRows (readerNumber limit) ℓ (mainOf part xs) [])) (sym e ∙ z) in
+          ap (λ (k : ℕ). outcomeBy k (findOf (readerNumber limit) ℓ (mainOf part xs))) (a ∙ sym b)
 
 -- in byte mode lent bytes are as many units
 plain : (w : Bool) (n : ℕ) → w ≡ false → lentIn w n ≡ n
@@ -132,21 +132,21 @@ module _ (d : Device) (s : State) (p : Pins) (xs : List ℕ) (memory scratch : �
   whole : isWhole (mainOf (d .part) xs) ≡ true
   whole = block-whole (d .part) xs sized (ready d s p (length xs) memory scratch z .small)
 
-  pub drop-is : (ℓ : ℕ) → dropFault (mainOf (d .part) xs) ℓ memory ≡ dropNumber d s p xs memory scratch ℓ
-  unfolding dropFault dropNumber unlike
+  pub drop-is : (ℓ : ℕ) → dropInNumber (mainOf (d .part) xs) ℓ memory ≡ dropNumber d s p xs memory scratch ℓ
+  unfolding dropInNumber dropNumber unlike
   drop-is ℓ =
-      let F = findRows (faultOf limit) ℓ (mainOf (d .part) xs) [] in
+      let F = findRows (readerNumber limit) ℓ (mainOf (d .part) xs) [] in
       ap (λ (t : Bool). if not t then 11 else given (row 44 (not (isWhole (mainOf (d .part) xs))) ∷ F)) as-long
       ∙ ap (λ (t : Bool). if not t then 44 else given F) whole
       ∙ sym (change-own d s p (length xs) memory scratch F z)
 
-  pub add-is : (f : List ℕ) (ℓ : ℕ) → addFault (mainOf (d .part) xs) f ℓ memory ≡ addNumber d s p xs memory scratch f ℓ
-  unfolding addFault addNumber unlike
+  pub add-is : (f : List ℕ) (ℓ : ℕ) → addInNumber (mainOf (d .part) xs) f ℓ memory ≡ addNumber d s p xs memory scratch f ℓ
+  unfolding addInNumber addNumber unlike
   add-is f ℓ =
-      let own : List Row = row 44 (not (isProper (faultOf limit) (mainOf (d .part) xs))) ∷ row 43 (noRoom (length (mainOf (d .part) xs) / 512) ℓ (placesIn f) (itemsIn (faultOf limit) (mainOf (d .part) xs))) ∷ [] in
+      let own : List Row = row 44 (not (isProper (readerNumber limit) (mainOf (d .part) xs))) ∷ row 43 (noRoom (length (mainOf (d .part) xs) / 512) ℓ (placesIn f) (itemsIn (readerNumber limit) (mainOf (d .part) xs))) ∷ [] in
       ap (λ (t : Bool). if not t then 11 else given (readRows limit f ℓ (roomRows (mainOf (d .part) xs) f ℓ))) as-long
       ∙ read-then f ℓ (roomRows (mainOf (d .part) xs) f ℓ)
-      ∙ ap (λ (n : ℕ). if eqb (faultOf limit ℓ f) 0 then n else faultOf limit ℓ f) (ap (λ (t : Bool). if not t then 44 else given own) whole)
+      ∙ ap (λ (n : ℕ). if eqb (readerNumber limit ℓ f) 0 then n else readerNumber limit ℓ f) (ap (λ (t : Bool). if not t then 44 else given own) whole)
       ∙ sym (read-then f ℓ own)
       ∙ sym (change-own d s p (length xs) memory scratch (readRows limit f ℓ own) z)
 
@@ -159,14 +159,14 @@ module _ (d : Device) (s : State) (p : Pins) (xs : List ℕ) (memory : List ℕ)
       → (n ≡ dropNumber d s p xs (length memory) scratch ℓ) × (memory ≡ memoryBy (dropNumber d s p xs (length memory) scratch ℓ) new memory)
   unfolding dropNumber
   drop-refused ℓ new =
-      let q = sym (change-refused d s p (length xs) (length memory) scratch (findRows (faultOf limit) ℓ (mainOf (d .part) xs) []) n e z) in
+      let q = sym (change-refused d s p (length xs) (length memory) scratch (findRows (readerNumber limit) ℓ (mainOf (d .part) xs) []) n e z) in
       (q, sym (memory-was (given (dropRows d s p xs (length memory) scratch ℓ)) new memory (λ y. z (q ∙ y))))
 
   pub add-refused : (f : List ℕ) (ℓ : ℕ) (new : List ℕ)
       → (n ≡ addNumber d s p xs (length memory) scratch f ℓ) × (memory ≡ memoryBy (addNumber d s p xs (length memory) scratch f ℓ) new memory)
   unfolding addNumber
   add-refused f ℓ new =
-      let own : List Row = readRows limit f ℓ (row 44 (not (isProper (faultOf limit) (mainOf (d .part) xs))) ∷ row 43 (noRoom (length (mainOf (d .part) xs) / 512) ℓ (placesIn f) (itemsIn (faultOf limit) (mainOf (d .part) xs))) ∷ []) in
+      let own : List Row = readRows limit f ℓ (row 44 (not (isProper (readerNumber limit) (mainOf (d .part) xs))) ∷ row 43 (noRoom (length (mainOf (d .part) xs) / 512) ℓ (placesIn f) (itemsIn (readerNumber limit) (mainOf (d .part) xs))) ∷ []) in
       let q = sym (change-refused d s p (length xs) (length memory) scratch own n e z) in
       (q, sym (memory-was (given (addingRows d s p xs (length memory) scratch f ℓ)) new memory (λ y. z (q ∙ y))))
 

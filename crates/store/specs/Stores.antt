@@ -15,7 +15,7 @@ use Rattle.file_codec.specs.File.{Outcome, outcomeBy, limit, readRows}
 use Rattle.loader_run.specs.declared.Ran.{Ran}
 use Rattle.loader_run.specs.Runs.{RunLeft, lentRows, lentRun, jobOf}
 use Rattle.store_places.specs.Store.{itemsIn, isProper, noRoom, placesIn, findOf, dropOf, addOf, findRows}
-use Rattle.store_survey.specs.Survey.{faultOf}
+use Rattle.store_survey.specs.Survey.{readerNumber}
 use Rattle.loader.specs.declared.Work.the-variants.{Load}
 use Rattle.loader_run.specs.declared.Job.{Job}
 
@@ -33,7 +33,7 @@ partNumber part n = given (row 1 (noStore part) ∷ row 2 (not (eqb n (sizeOf pa
 
 -- the refusals of a find before room is asked for: 1, 2, then 44, 42
 abbrev pub seekRows : Part → List ℕ → ℕ → List Row
-seekRows part xs ℓ = row 1 (noStore part) ∷ row 2 (not (eqb (length xs) (sizeOf part))) ∷ findRows (faultOf limit) ℓ (mainOf part xs) []
+seekRows part xs ℓ = row 1 (noStore part) ∷ row 2 (not (eqb (length xs) (sizeOf part))) ∷ findRows (readerNumber limit) ℓ (mainOf part xs) []
 
 -- the first refusal of these, 0 where nothing refuses
 unfoldable pub seekNumber : Part → List ℕ → ℕ → ℕ
@@ -41,7 +41,7 @@ seekNumber part xs ℓ = given (seekRows part xs ℓ)
 
 -- what is found under a letter, given room: the refusal, or the file's bytes
 unfoldable pub foundOn : Part → List ℕ → ℕ → Outcome
-foundOn part xs ℓ = outcomeBy (seekNumber part xs ℓ) (findOf (faultOf limit) ℓ (mainOf part xs))
+foundOn part xs ℓ = outcomeBy (seekNumber part xs ℓ) (findOf (readerNumber limit) ℓ (mainOf part xs))
 
 -- what a change runs: a load of block 3 and the verify after it
 abbrev pub changeJob : Device → State → Pins → Job
@@ -57,15 +57,15 @@ changeNumber d s p array memory scratch = given (changeRows d s p array memory s
 
 -- .. of a drop: 44, 42
 abbrev pub dropRows : Device → State → Pins → List ℕ → ℕ → ℕ → ℕ → List Row
-dropRows d s p xs memory scratch ℓ = changeRows d s p (length xs) memory scratch (findRows (faultOf limit) ℓ (mainOf (d .part) xs) [])
+dropRows d s p xs memory scratch ℓ = changeRows d s p (length xs) memory scratch (findRows (readerNumber limit) ℓ (mainOf (d .part) xs) [])
 
 -- .. of an add: the reader's for the letter, then 44, 43
 abbrev pub addingRows : Device → State → Pins → List ℕ → ℕ → ℕ → List ℕ → ℕ → List Row
 addingRows d s p xs memory scratch f ℓ =
     changeRows d s p (length xs) memory scratch
     (readRows limit f ℓ
-    (row 44 (not (isProper (faultOf limit) (mainOf (d .part) xs)))
-    ∷ row 43 (noRoom (length (mainOf (d .part) xs) / 512) ℓ (placesIn f) (itemsIn (faultOf limit) (mainOf (d .part) xs)))
+    (row 44 (not (isProper (readerNumber limit) (mainOf (d .part) xs)))
+    ∷ row 43 (noRoom (length (mainOf (d .part) xs) / 512) ℓ (placesIn f) (itemsIn (readerNumber limit) (mainOf (d .part) xs)))
     ∷ []))
 
 -- the first refusal of a drop, 0 where nothing refuses
@@ -98,9 +98,9 @@ changeLeft n new d s p xs memory scratch = if eqb n 0 then changeMade (lentRun (
 -- a drop of a letter, and an add of the file f under a letter
 abbrev pub dropLeft : Device → State → Pins → List ℕ → List ℕ → List ℕ → ℕ → ChangeLeft
 dropLeft d s p xs memory scratch ℓ =
-    changeLeft (dropNumber d s p xs (length memory) (length scratch) ℓ) (dropOf (faultOf limit) ℓ (mainOf (d .part) xs)) d s p xs memory scratch
+    changeLeft (dropNumber d s p xs (length memory) (length scratch) ℓ) (dropOf (readerNumber limit) ℓ (mainOf (d .part) xs)) d s p xs memory scratch
 
 -- what an add of the file f under a letter returns and leaves
 abbrev pub addLeft : Device → State → Pins → List ℕ → List ℕ → List ℕ → List ℕ → ℕ → ChangeLeft
 addLeft d s p xs memory scratch f ℓ =
-    changeLeft (addNumber d s p xs (length memory) (length scratch) f ℓ) (addOf (faultOf limit) ℓ f (mainOf (d .part) xs)) d s p xs memory scratch
+    changeLeft (addNumber d s p xs (length memory) (length scratch) f ℓ) (addOf (readerNumber limit) ℓ f (mainOf (d .part) xs)) d s p xs memory scratch

@@ -19,7 +19,7 @@ ghost use Rattle.device.specs.Parts.{sizeOf};
 ghost use Rattle.file_codec.specs.File.{limit, inRoom, leftIn};
 ghost use Rattle.reading.specs.Readings.{answerAs, answerTold, toldAs};
 ghost use Rattle.store_places.specs.Store.{dropOf, addOf};
-ghost use Rattle.store_survey.specs.Survey.{faultOf};
+ghost use Rattle.store_survey.specs.Survey.{readerNumber};
 ghost use Rattle.store_find.specs.Finds.{foundAs, readBy};
 ghost use Rattle.store_contents.specs.Contents.{memoryBy};
 ghost use Rattle.store.specs.Stores.{mainOf, noStore, partNumber, foundOn, changeJob, changeNumber, dropNumber, addNumber, changeLeft, dropLeft, addLeft};
@@ -118,7 +118,7 @@ fn drop_prepared(
 ) -> u8
     ensures { λ r. ⌜ r ≡ dropNumber d s p (now (array .entry)) (length (now (memory .entry))) scratch letter ⌝ }
     ensures { λ _. ⌜ now (memory .exit)
-        ≡ memoryBy (dropNumber d s p (now (array .entry)) (length (now (memory .entry))) scratch letter) (dropOf (faultOf limit) letter (mainOf (d .part) (now (array .entry)))) (now (memory .entry)) ⌝ }
+        ≡ memoryBy (dropNumber d s p (now (array .entry)) (length (now (memory .entry))) scratch letter) (dropOf (readerNumber limit) letter (mainOf (d .part) (now (array .entry)))) (now (memory .entry)) ⌝ }
 {
     let n = change_number(d, s, p, array.len(), memory.len(), scratch);
     if n != 0 {
@@ -143,7 +143,7 @@ fn add_prepared(
 ) -> u8
     ensures { λ r. ⌜ r ≡ addNumber d s p (now (array .entry)) (length (now (memory .entry))) scratch (now (file .entry)) letter ⌝ }
     ensures { λ _. ⌜ now (memory .exit)
-        ≡ memoryBy (addNumber d s p (now (array .entry)) (length (now (memory .entry))) scratch (now (file .entry)) letter) (addOf (faultOf limit) letter (now (file .entry)) (mainOf (d .part) (now (array .entry)))) (now (memory .entry)) ⌝ }
+        ≡ memoryBy (addNumber d s p (now (array .entry)) (length (now (memory .entry))) scratch (now (file .entry)) letter) (addOf (readerNumber limit) letter (now (file .entry)) (mainOf (d .part) (now (array .entry)))) (now (memory .entry)) ⌝ }
 {
     let n = change_number(d, s, p, array.len(), memory.len(), scratch);
     if n != 0 {
@@ -215,6 +215,6 @@ pub fn add_file(
     ensures { λ _. ⌜ now (memory .exit) ≡ addLeft d s p (now (array .entry)) (now (memory .entry)) (now (scratch .entry)) (now (file .entry)) letter .memory ⌝ }
     ensures { λ _. ⌜ now (scratch .exit) ≡ addLeft d s p (now (array .entry)) (now (memory .entry)) (now (scratch .entry)) (now (file .entry)) letter .scratch ⌝ }
 {
-    let refusal = add_prepared(d, s, p, array, memory, scratch.len(), file, letter);
-    change(refusal, d, s, p, array, memory, scratch)
+    let number = add_prepared(d, s, p, array, memory, scratch.len(), file, letter);
+    change(number, d, s, p, array, memory, scratch)
 }

@@ -200,7 +200,7 @@ fn put_file(out: &mut [u8], at: usize, file: &[u8], letter: u8, room: &mut [u8])
 {
     let got = file_codec::read(file, letter, room);
     match got {
-        ReadBack::NotRead(n) => text::put_text(out, at, b"no table\n"),
+        ReadBack::Refused(n) => text::put_text(out, at, b"no table\n"),
         ReadBack::Gave(size) => put_payload(out, at, &room[0..size]),
     }
 }

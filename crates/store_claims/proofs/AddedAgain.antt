@@ -8,7 +8,7 @@ use lib.ListN.{length, getD, replicate}
 use lib.Dec.{eqb}
 use borrow.Author.Tests.{eq-eqb}
 use Rattle.common.proofs.Choice.{if-true, if-false}
-use Rattle.store_places.specs.Store.{Judgement, Reader, join, Item, blank, filed, placesOf, hasIn, liveIn, deadOf, keptOf, without, fitsIn, filesOf, slidIn, laidIn, runFor, addedIn, placesIn, itemsIn, findNo, addOf}
+use Rattle.store_places.specs.Store.{Judgement, Reader, join, Item, blank, filed, placesOf, hasIn, liveIn, deadOf, keptOf, without, fitsIn, filesOf, slidIn, laidIn, runFor, addedIn, placesIn, itemsIn, findPlaceNumber, addOf}
 use Rattle.store_places.proofs.Places.{whole-cut, join-append, join-cut, cut-length}
 use Rattle.store_places.proofs.Items.{Good}
 use Rattle.store_places.proofs.Claims.{rebuilt, refused-42}
@@ -41,7 +41,7 @@ module _ (fault : Judgement) (R : Reader fault) where
   blanks-good (suc k) = (tt, blanks-good k)
 
   -- an erased block holds nothing: 42 for every letter
-  pub erased-empty : (N ℓ : ℕ) → findNo fault ℓ (replicate (512 * N) 255) ≡ 42
+  pub erased-empty : (N ℓ : ℕ) → findPlaceNumber fault ℓ (replicate (512 * N) 255) ≡ 42
   erased-empty N ℓ =
       let o = rebuilt fault R N (replicate N blank) (blanks-good N) (blanks-size N) in
       let i : itemsIn fault (replicate (512 * N) 255) ≡ replicate N blank = ap (itemsIn fault) (sym (blanks N)) ∙ o .1 in

@@ -33,10 +33,10 @@ use Rattle.loader_run_claims.specs.Lent.{LentDemand3}
 use Rattle.loader_run_claims.proofs.Starts.{taken-if}
 use Rattle.loader_run_claims.proofs.Total.{every-end}
 use Rattle.loader_run_claims.proofs.Lent.{units-cells, lent-demand-3}
-use Rattle.store_places.specs.Store.{Change, adds, drops, isProper, findNo, addNo, noOf, doneBy, Proper}
+use Rattle.store_places.specs.Store.{Change, adds, drops, isProper, findPlaceNumber, addPlaceNumber, changePlaceNumber, doneBy, Proper}
 use Rattle.store_places.proofs.Places.{join-cut}
 use Rattle.store_places.proofs.Claims.{drop-proper, add-proper, add-let}
-use Rattle.store_survey.specs.Survey.{faultOf}
+use Rattle.store_survey.specs.Survey.{readerNumber}
 use Rattle.store_survey.proofs.Reader.{file-reader}
 use Rattle.store.specs.Stores.{mainOf, ChangeLeft, changeMade, changeRefused, changeLeft, changeJob}
 use Rattle.store_claims.specs.Calls.{placesFor, Call, numberBy, callNumber, changeLeftBy, callLeft, contentsBy, FileBytes, Timed}
@@ -48,7 +48,7 @@ use Rattle.loader_run.specs.declared.Job.{Job}
 
 -- what a change returns and leaves, by its number and the new contents
 left-is : (c : Change) (d : Device) (s : State) (p : Pins) (xs memory scratch : List ℕ)
-    → changeLeftBy c d s p xs memory scratch ≡ changeLeft (numberBy c d s p xs (length memory) (length scratch)) (doneBy (faultOf limit) c (mainOf (d .part) xs)) d s p xs memory scratch
+    → changeLeftBy c d s p xs memory scratch ≡ changeLeft (numberBy c d s p xs (length memory) (length scratch)) (doneBy (readerNumber limit) c (mainOf (d .part) xs)) d s p xs memory scratch
 left-is (adds ℓ b) d s p xs memory scratch = refl
 left-is (drops ℓ) d s p xs memory scratch = refl
 
@@ -61,22 +61,22 @@ own-second true n x q e = e
 own-second false n x q e = absurd (eqb-false n 0 q e)
 
 -- a change that nothing refuses found a proper store
-proper-of : (c : Change) (main : List ℕ) → noOf (faultOf limit) c main ≡ 0 → isProper (faultOf limit) main ≡ true
-unfolding findNo addNo
-proper-of (adds ℓ b) main e = not-proper (isProper (faultOf limit) main) _ (own-second (eqb (faultOf limit ℓ b) 0) (faultOf limit ℓ b) _ refl e)
-proper-of (drops ℓ) main e = not-proper (isProper (faultOf limit) main) _ e
+proper-of : (c : Change) (main : List ℕ) → changePlaceNumber (readerNumber limit) c main ≡ 0 → isProper (readerNumber limit) main ≡ true
+unfolding findPlaceNumber addPlaceNumber
+proper-of (adds ℓ b) main e = not-proper (isProper (readerNumber limit) main) _ (own-second (eqb (readerNumber limit ℓ b) 0) (readerNumber limit ℓ b) _ refl e)
+proper-of (drops ℓ) main e = not-proper (isProper (readerNumber limit) main) _ e
 
 -- its new contents fill the block, are a proper store, and are bytes
-new-proper : (N : ℕ) (c : Change) (main : List ℕ) → Proper (faultOf limit) N main → noOf (faultOf limit) c main ≡ 0 → Proper (faultOf limit) N (doneBy (faultOf limit) c main)
-new-proper N (adds ℓ b) main P e = add-proper (faultOf limit) (file-reader limit) N ℓ b main P e
-new-proper N (drops ℓ) main P e = drop-proper (faultOf limit) (file-reader limit) N ℓ main P
+new-proper : (N : ℕ) (c : Change) (main : List ℕ) → Proper (readerNumber limit) N main → changePlaceNumber (readerNumber limit) c main ≡ 0 → Proper (readerNumber limit) N (doneBy (readerNumber limit) c main)
+new-proper N (adds ℓ b) main P e = add-proper (readerNumber limit) (file-reader limit) N ℓ b main P e
+new-proper N (drops ℓ) main P e = drop-proper (readerNumber limit) (file-reader limit) N ℓ main P
 
-new-bytes : (N : ℕ) (c : Change) (main : List ℕ) → Proper (faultOf limit) N main → noOf (faultOf limit) c main ≡ 0 → Bytes main → FileBytes c → Bytes (doneBy (faultOf limit) c main)
+new-bytes : (N : ℕ) (c : Change) (main : List ℕ) → Proper (readerNumber limit) N main → changePlaceNumber (readerNumber limit) c main ≡ 0 → Bytes main → FileBytes c → Bytes (doneBy (readerNumber limit) c main)
 new-bytes N (adds ℓ b) main P e B F =
-    let z = add-let (faultOf limit) (file-reader limit) N ℓ b main P e .0 in
+    let z = add-let (readerNumber limit) (file-reader limit) N ℓ b main P e .0 in
     let n = file-reader limit .counted ℓ b z in
-    add-bytes (faultOf limit) (file-reader limit) N main P B ℓ b F (join-cut (length b / 512) b (omega arith))
-new-bytes N (drops ℓ) main P e B F = drop-bytes (faultOf limit) (file-reader limit) N main P B ℓ
+    add-bytes (readerNumber limit) (file-reader limit) N main P B ℓ b F (join-cut (length b / 512) b (omega arith))
+new-bytes N (drops ℓ) main P e B F = drop-bytes (readerNumber limit) (file-reader limit) N main P B ℓ
 
 -- in byte mode the run on lent bytes is that of the bytes
 byte-run : (j : Job) (xs w sc : List ℕ) → j .device .part .word ≡ false → lentNumber j (length xs) (length w) (length sc) ≡ 0
@@ -122,20 +122,20 @@ module _ (d : Device) (xs : List ℕ) (c : Call) (T : Timed d) (B : Bytes xs) (F
   abbrev new : List ℕ
   new = contentsBy d xs c
 
-  none : (isLarge (d .part) ≡ false) × (lentNumber (changeJob d s p) (length xs) (length (c .memory)) (length (c .scratch)) ≡ 0) × (noOf (faultOf limit) (c .change) main ≡ 0)
+  none : (isLarge (d .part) ≡ false) × (lentNumber (changeJob d s p) (length xs) (length (c .memory)) (length (c .scratch)) ≡ 0) × (changePlaceNumber (readerNumber limit) (c .change) main ≡ 0)
   none = none-applies d (c .state) (c .pins) xs (length (c .memory)) (length (c .scratch)) (c .change) z
 
   pub here : There d xs (length (c .memory))
   here = there d (c .state) (c .pins) xs (length (c .memory)) (length (c .scratch)) (none .0) (none .1)
 
-  pub own-none : noOf (faultOf limit) (c .change) main ≡ 0
+  pub own-none : changePlaceNumber (readerNumber limit) (c .change) main ≡ 0
   own-none = none .2
 
   -- the store is proper, of as many places as the main block has
-  pub found-proper : Proper (faultOf limit) (placesFor (d .part)) main
+  pub found-proper : Proper (readerNumber limit) (placesFor (d .part)) main
   found-proper = record { size = here .long ∙ here .whole; proper = proper-of (c .change) main (none .2) }
 
-  pub left-proper : Proper (faultOf limit) (placesFor (d .part)) new
+  pub left-proper : Proper (readerNumber limit) (placesFor (d .part)) new
   left-proper = new-proper (placesFor (d .part)) (c .change) main found-proper (none .2)
 
   pub main-bytes : Bytes main

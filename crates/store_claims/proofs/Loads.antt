@@ -22,7 +22,7 @@ use Rattle.loader_from_file.specs.Loads.{fileRows, wantedOf, loadLeft}
 use Rattle.loader_from_file_claims.specs.Through.{FileStart}
 use Rattle.loader_from_file_claims.proofs.Claims.{file-loaded}
 use Rattle.store_places.specs.Store.{findOf, Proper}
-use Rattle.store_survey.specs.Survey.{faultOf}
+use Rattle.store_survey.specs.Survey.{readerNumber}
 use Rattle.store.specs.Stores.{mainOf, changeJob}
 use Rattle.store_claims.specs.Calls.{placesFor}
 use Rattle.store_claims.proofs.MainBlock.{there}
@@ -37,7 +37,7 @@ both-none r s = go (eqb r 0) refl
     go false q e = absurd (eqb-false r 0 q e)
 
 -- a file that a load takes is read, and fits
-taken-file : (f : List ℕ) (asked n : ℕ) → given (fileRows f asked n) ≡ 0 → (faultOf limit asked f ≡ 0) × (length f ≤ n)
+taken-file : (f : List ℕ) (asked n : ℕ) → given (fileRows f asked n) ≡ 0 → (readerNumber limit asked f ≡ 0) × (length f ≤ n)
 taken-file f asked n e = go (lengthWrong limit (length f)) refl (ltb n (length f)) refl e
   where
     go : (a : Bool) → lengthWrong limit (length f) ≡ a → (b : Bool) → ltb n (length f) ≡ b
@@ -48,8 +48,8 @@ taken-file f asked n e = go (lengthWrong limit (length f)) refl (ltb n (length f
     go false x false y e = (ap (λ (t : Bool). if t then 30 else given (blocksRows (blocksIn f) (getD f 0 0) 0 (blocksIn f) f (row 35 (not (eqb (getD f 0 0) asked)) ∷ []))) x ∙ e, ltb-false n (length f) y)
 
 pub load-makes-store : (d : Device) (s : State) (p : Pins) (xs w sc f : List ℕ) (asked : ℕ) → isLarge (d .part) ≡ false → FileStart (changeJob d s p) xs w sc f asked
-    → Proper (faultOf limit) (placesFor (d .part)) (mainOf (d .part) (loadLeft (changeJob d s p) xs w sc f asked .bytes))
-    × (findOf (faultOf limit) asked (mainOf (d .part) (loadLeft (changeJob d s p) xs w sc f asked .bytes)) ≡ f)
+    → Proper (readerNumber limit) (placesFor (d .part)) (mainOf (d .part) (loadLeft (changeJob d s p) xs w sc f asked .bytes))
+    × (findOf (readerNumber limit) asked (mainOf (d .part) (loadLeft (changeJob d s p) xs w sc f asked .bytes)) ≡ f)
 unfolding runFirst
 load-makes-store d s p xs w sc f asked g S =
     let rows = lentRows (changeJob d s p) (length xs) (length w) (length sc) in
@@ -62,5 +62,5 @@ load-makes-store d s p xs w sc f asked g S =
     ap (λ (k : ℕ). heldIn (startOf (d .part) 3) k X) (sym (t .memory-long))
     ∙ ap (λ (v : Bool). heldIn (byteOf v (startOf (d .part) 3)) (length w) X) (sym (t .small .bytes))
     ∙ file-loaded (changeJob d s p) xs w sc f asked S .holds ∙ ap (wantedOf f) l in
-    subst (λ (m : List ℕ). Proper (faultOf limit) (placesFor (d .part)) m × (findOf (faultOf limit) asked m ≡ f)) (sym h)
+    subst (λ (m : List ℕ). Proper (readerNumber limit) (placesFor (d .part)) m × (findOf (readerNumber limit) asked m ≡ f)) (sym h)
     (load-leaves (placesFor (d .part)) asked f (r .0) (subst (λ (k : ℕ). length f ≤ k) l (r .1)))

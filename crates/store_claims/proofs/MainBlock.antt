@@ -13,7 +13,7 @@ use Rattle.units.specs.Units.{lentIn}
 use Rattle.model_types.specs.declared.Pins.{Pins}
 use Rattle.model_types.specs.declared.State.{State}
 use Rattle.loader_run.specs.Runs.{lentNumber}
-use Rattle.loader_run.proofs.Good.{good}
+use Rattle.loader_run.proofs.UnrefusedRun.{good}
 use Rattle.store.specs.Stores.{mainOf, changeJob}
 use Rattle.store_claims.specs.Calls.{placesFor, placesAt}
 use Rattle.store_claims.proofs.StoreParts.{Plain, plain, known-part, lent-same}

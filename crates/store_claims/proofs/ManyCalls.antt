@@ -15,19 +15,19 @@ use Rattle.device.specs.declared.Device.{Device}
 use Rattle.device.specs.Parts.{sizeOf, lengthOf, startOf}
 use Rattle.file_codec.specs.File.{limit, made, outcomeBy}
 use Rattle.model_types.specs.Levels.{vppHigh}
-use Rattle.store_places.specs.Store.{Judgement, Reader, Item, blank, dead, filed, junk, join, Change, noOf, doneBy, changed, changedAll, isProper, itemsIn, hasIn, findIn, findNo, findOf, lastUnder, Proper}
+use Rattle.store_places.specs.Store.{Judgement, Reader, Item, blank, dead, filed, junk, join, Change, changePlaceNumber, doneBy, changed, changedAll, isProper, itemsIn, hasIn, findIn, findPlaceNumber, findOf, lastUnder, Proper}
 use Rattle.store_places.proofs.Claims.{found-changed}
 use Rattle.store_places.proofs.Divided.{found-read}
-use Rattle.store_survey.specs.Survey.{faultOf}
+use Rattle.store_survey.specs.Survey.{readerNumber}
 use Rattle.store_survey.proofs.Reader.{file-reader}
 use Rattle.store.specs.Stores.{mainOf, noStore, seekNumber, foundOn, ChangeLeft}
 use Rattle.store_claims.specs.Calls.{placesFor, Call, callNumber, callLeft, Settled, arrayThrough, AllSettled, changesMade, FileBytes, AllBytes, Timed, Kept, fileOr42, AllHigh}
 use Rattle.store_claims.proofs.Calls.{found-proper, left-proper, made-by-run, with-supply, main-left, bytes-left, others-left, size-left, own-none, refused-left}
 
 -- a change that nothing refuses is done
-changed-done : (c : Change) (main : List ℕ) → noOf (faultOf limit) c main ≡ 0 → changed (faultOf limit) c main ≡ doneBy (faultOf limit) c main
+changed-done : (c : Change) (main : List ℕ) → changePlaceNumber (readerNumber limit) c main ≡ 0 → changed (readerNumber limit) c main ≡ doneBy (readerNumber limit) c main
 unfolding changed
-changed-done c main e = if-true (eqb (noOf (faultOf limit) c main) 0) (doneBy (faultOf limit) c main) main (eq-eqb (noOf (faultOf limit) c main) 0 e)
+changed-done c main e = if-true (eqb (changePlaceNumber (readerNumber limit) c main) 0) (doneBy (readerNumber limit) c main) main (eq-eqb (changePlaceNumber (readerNumber limit) c main) 0 e)
 
 module _ (d : Device) (T : Timed d) where
   abbrev part : Part
@@ -38,7 +38,7 @@ module _ (d : Device) (T : Timed d) where
       record {
         block = refl;
         found = λ (m : ℕ). refl;
-        proper = λ (h : isProper (faultOf limit) (mainOf (d .part) xs) ≡ true). h;
+        proper = λ (h : isProper (readerNumber limit) (mainOf (d .part) xs) ≡ true). h;
         before = λ (x : ℕ) (h : x < startOf (d .part) 3). refl;
         behind = λ (x : ℕ) (h : startOf (d .part) 3 + lengthOf (d .part) 3 ≤ x). refl;
         size = refl;
@@ -53,30 +53,30 @@ module _ (d : Device) (T : Timed d) where
       main = mainOf (d .part) xs
 
       -- one step, told of what is left
-      step : (t : Bool) → eqb (callNumber d xs c) 0 ≡ t → mainOf (d .part) (callLeft d xs c .bytes) ≡ changedAll (faultOf limit) (if t then c .change ∷ [] else []) (mainOf (d .part) xs)
-          → ((m : ℕ) → findOf (faultOf limit) m (mainOf (d .part) (callLeft d xs c .bytes)) ≡ lastUnder m (if t then c .change ∷ [] else []) (findOf (faultOf limit) m (mainOf (d .part) xs)))
-          → (isProper (faultOf limit) (mainOf (d .part) xs) ≡ true → isProper (faultOf limit) (mainOf (d .part) (callLeft d xs c .bytes)) ≡ true)
+      step : (t : Bool) → eqb (callNumber d xs c) 0 ≡ t → mainOf (d .part) (callLeft d xs c .bytes) ≡ changedAll (readerNumber limit) (if t then c .change ∷ [] else []) (mainOf (d .part) xs)
+          → ((m : ℕ) → findOf (readerNumber limit) m (mainOf (d .part) (callLeft d xs c .bytes)) ≡ lastUnder m (if t then c .change ∷ [] else []) (findOf (readerNumber limit) m (mainOf (d .part) xs)))
+          → (isProper (readerNumber limit) (mainOf (d .part) xs) ≡ true → isProper (readerNumber limit) (mainOf (d .part) (callLeft d xs c .bytes)) ≡ true)
           → ((x : ℕ) → (x < startOf (d .part) 3 → getD (callLeft d xs c .bytes) x 0 ≡ getD xs x 0) × (startOf (d .part) 3 + lengthOf (d .part) 3 ≤ x → getD (callLeft d xs c .bytes) x 0 ≡ getD xs x 0))
           → length (callLeft d xs c .bytes) ≡ length xs
           → Kept d cs (callLeft d xs c .bytes) → Kept d (c ∷ cs) xs
       step t q b f p o l K =
           record {
-            block = K .block ∙ ap (changedAll (faultOf limit) (changesMade d cs (callLeft d xs c .bytes))) b ∙ sym (done t) ∙ ap (λ (u : Bool). changedAll (faultOf limit) ((if u then c .change ∷ [] else []) ++ changesMade d cs (callLeft d xs c .bytes)) (mainOf (d .part) xs)) (sym q);
-            found = λ (m : ℕ). K .found m ∙ ap (lastUnder m (changesMade d cs (callLeft d xs c .bytes))) (f m) ∙ sym (joined m t) ∙ ap (λ (u : Bool). lastUnder m ((if u then c .change ∷ [] else []) ++ changesMade d cs (callLeft d xs c .bytes)) (findOf (faultOf limit) m (mainOf (d .part) xs))) (sym q);
-            proper = λ (h : isProper (faultOf limit) (mainOf (d .part) xs) ≡ true). K .proper (p h);
+            block = K .block ∙ ap (changedAll (readerNumber limit) (changesMade d cs (callLeft d xs c .bytes))) b ∙ sym (done t) ∙ ap (λ (u : Bool). changedAll (readerNumber limit) ((if u then c .change ∷ [] else []) ++ changesMade d cs (callLeft d xs c .bytes)) (mainOf (d .part) xs)) (sym q);
+            found = λ (m : ℕ). K .found m ∙ ap (lastUnder m (changesMade d cs (callLeft d xs c .bytes))) (f m) ∙ sym (joined m t) ∙ ap (λ (u : Bool). lastUnder m ((if u then c .change ∷ [] else []) ++ changesMade d cs (callLeft d xs c .bytes)) (findOf (readerNumber limit) m (mainOf (d .part) xs))) (sym q);
+            proper = λ (h : isProper (readerNumber limit) (mainOf (d .part) xs) ≡ true). K .proper (p h);
             before = λ (x : ℕ) (h : x < startOf (d .part) 3). K .before x h ∙ o x .0 h;
             behind = λ (x : ℕ) (h : startOf (d .part) 3 + lengthOf (d .part) 3 ≤ x). K .behind x h ∙ o x .1 h;
             size = K .size ∙ l;
             bytes = K .bytes;
           }
         where
-          done : (t : Bool) → changedAll (faultOf limit) ((if t then c .change ∷ [] else []) ++ changesMade d cs (callLeft d xs c .bytes)) (mainOf (d .part) xs)
-              ≡ changedAll (faultOf limit) (changesMade d cs (callLeft d xs c .bytes)) (changedAll (faultOf limit) (if t then c .change ∷ [] else []) (mainOf (d .part) xs))
+          done : (t : Bool) → changedAll (readerNumber limit) ((if t then c .change ∷ [] else []) ++ changesMade d cs (callLeft d xs c .bytes)) (mainOf (d .part) xs)
+              ≡ changedAll (readerNumber limit) (changesMade d cs (callLeft d xs c .bytes)) (changedAll (readerNumber limit) (if t then c .change ∷ [] else []) (mainOf (d .part) xs))
           done true = refl
           done false = refl
 
-          joined : (m : ℕ) (t : Bool) → lastUnder m ((if t then c .change ∷ [] else []) ++ changesMade d cs (callLeft d xs c .bytes)) (findOf (faultOf limit) m (mainOf (d .part) xs))
-              ≡ lastUnder m (changesMade d cs (callLeft d xs c .bytes)) (lastUnder m (if t then c .change ∷ [] else []) (findOf (faultOf limit) m (mainOf (d .part) xs)))
+          joined : (m : ℕ) (t : Bool) → lastUnder m ((if t then c .change ∷ [] else []) ++ changesMade d cs (callLeft d xs c .bytes)) (findOf (readerNumber limit) m (mainOf (d .part) xs))
+              ≡ lastUnder m (changesMade d cs (callLeft d xs c .bytes)) (lastUnder m (if t then c .change ∷ [] else []) (findOf (readerNumber limit) m (mainOf (d .part) xs)))
           joined m true = refl
           joined m false = refl
 
@@ -87,8 +87,8 @@ module _ (d : Device) (T : Timed d) where
           let M = main-left d xs c T B (F .0) z e in
           step true q
           (M ∙ sym (changed-done (c .change) main (own-none d xs c T B (F .0) z)))
-          (λ (m : ℕ). ap (findOf (faultOf limit) m) M ∙ found-changed (faultOf limit) (file-reader limit) (placesFor (d .part)) m (c .change) main (found-proper d xs c T B (F .0) z) (own-none d xs c T B (F .0) z))
-          (λ (h : isProper (faultOf limit) main ≡ true). ap (isProper (faultOf limit)) M ∙ left-proper d xs c T B (F .0) z .proper)
+          (λ (m : ℕ). ap (findOf (readerNumber limit) m) M ∙ found-changed (readerNumber limit) (file-reader limit) (placesFor (d .part)) m (c .change) main (found-proper d xs c T B (F .0) z) (own-none d xs c T B (F .0) z))
+          (λ (h : isProper (readerNumber limit) main ≡ true). ap (isProper (readerNumber limit)) M ∙ left-proper d xs c T B (F .0) z .proper)
           (others-left d xs c T B (F .0) z e)
           (size-left d xs c T B (F .0) z e)
           (ih (bytes-left d xs c T B (F .0) z e) (F .1) (S .1))
@@ -97,8 +97,8 @@ module _ (d : Device) (T : Timed d) where
           let r : callLeft d xs c .bytes ≡ xs = ap (λ (x : ChangeLeft). x .bytes) (refused-left d xs c z) in
           step false q
           (ap (mainOf (d .part)) r)
-          (λ (m : ℕ). ap (λ (ys : List ℕ). findOf (faultOf limit) m (mainOf (d .part) ys)) r)
-          (λ (h : isProper (faultOf limit) main ≡ true). ap (λ (ys : List ℕ). isProper (faultOf limit) (mainOf (d .part) ys)) r ∙ h)
+          (λ (m : ℕ). ap (λ (ys : List ℕ). findOf (readerNumber limit) m (mainOf (d .part) ys)) r)
+          (λ (h : isProper (readerNumber limit) main ≡ true). ap (λ (ys : List ℕ). isProper (readerNumber limit) (mainOf (d .part) ys)) r ∙ h)
           (λ (x : ℕ). (λ (h : x < startOf (d .part) 3). ap (λ (ys : List ℕ). getD ys x 0) r, λ (h : startOf (d .part) 3 + lengthOf (d .part) 3 ≤ x). ap (λ (ys : List ℕ). getD ys x 0) r))
           (ap (λ (ys : List ℕ). length ys) r)
           (ih (subst Bytes (sym r) B) (F .1) (S .1))
@@ -133,8 +133,8 @@ module _ (fault : Judgement) (R : Reader fault) (N : ℕ) where
   nothing-found ℓ main h = ap join (none-there ℓ (itemsIn fault main) h)
 
   -- of a proper store: the file under the letter, or 42
-  pub find-answers : (ℓ : ℕ) (main : List ℕ) → Proper fault N main → outcomeBy (findNo fault ℓ main) (findOf fault ℓ main) ≡ fileOr42 (findOf fault ℓ main)
-  unfolding findNo
+  pub find-answers : (ℓ : ℕ) (main : List ℕ) → Proper fault N main → outcomeBy (findPlaceNumber fault ℓ main) (findOf fault ℓ main) ≡ fileOr42 (findOf fault ℓ main)
+  unfolding findPlaceNumber
   find-answers ℓ main P = go (isProper fault main) (P .proper) (hasIn ℓ (itemsIn fault main)) refl
     where
       go : (a : Bool) → a ≡ true → (b : Bool) → hasIn ℓ (itemsIn fault main) ≡ b → outcomeBy (if not a then 44 else if not b then 42 else 0) (findOf fault ℓ main) ≡ fileOr42 (findOf fault ℓ main)
@@ -147,20 +147,20 @@ module _ (fault : Judgement) (R : Reader fault) (N : ℕ) where
       go true e false q = sym (ap fileOr42 (nothing-found ℓ main q))
 
 -- what a find of a letter answers on a part, by the store alone
-pub found-by : (part : Part) (xs : List ℕ) (ℓ : ℕ) → noStore part ≡ false → length xs ≡ sizeOf part → foundOn part xs ℓ ≡ outcomeBy (findNo (faultOf limit) ℓ (mainOf part xs)) (findOf (faultOf limit) ℓ (mainOf part xs))
-unfolding foundOn seekNumber findNo
+pub found-by : (part : Part) (xs : List ℕ) (ℓ : ℕ) → noStore part ≡ false → length xs ≡ sizeOf part → foundOn part xs ℓ ≡ outcomeBy (findPlaceNumber (readerNumber limit) ℓ (mainOf part xs)) (findOf (readerNumber limit) ℓ (mainOf part xs))
+unfolding foundOn seekNumber findPlaceNumber
 found-by part xs ℓ a b = rw (a, eq-eqb (length xs) (sizeOf part) b) refl
 
 -- after calls: the file last added and not dropped, or the one that stood there at first, and 42 where there is none
 pub finds-last : (d : Device) → Timed d → (cs : List Call) (xs : List ℕ) → Bytes xs → AllBytes cs → AllSettled d cs xs
-    → noStore (d .part) ≡ false → length xs ≡ sizeOf (d .part) → Proper (faultOf limit) (placesFor (d .part)) (mainOf (d .part) xs)
-    → (m : ℕ) → foundOn (d .part) (arrayThrough d cs xs) m ≡ fileOr42 (lastUnder m (changesMade d cs xs) (findOf (faultOf limit) m (mainOf (d .part) xs)))
+    → noStore (d .part) ≡ false → length xs ≡ sizeOf (d .part) → Proper (readerNumber limit) (placesFor (d .part)) (mainOf (d .part) xs)
+    → (m : ℕ) → foundOn (d .part) (arrayThrough d cs xs) m ≡ fileOr42 (lastUnder m (changesMade d cs xs) (findOf (readerNumber limit) m (mainOf (d .part) xs)))
 finds-last d T cs xs B F S g l P m =
     let K = kept d T cs xs B F S in
     let X = arrayThrough d cs xs in
     let sized : length (mainOf (d .part) X) ≡ length (mainOf (d .part) xs) = same-main (d .part) X xs (K .size) in
-    let Q : Proper (faultOf limit) (placesFor (d .part)) (mainOf (d .part) X) = record { size = sized ∙ P .size; proper = K .proper (P .proper) } in
-    found-by (d .part) X m g (K .size ∙ l) ∙ find-answers (faultOf limit) (file-reader limit) (placesFor (d .part)) m (mainOf (d .part) X) Q ∙ ap fileOr42 (K .found m)
+    let Q : Proper (readerNumber limit) (placesFor (d .part)) (mainOf (d .part) X) = record { size = sized ∙ P .size; proper = K .proper (P .proper) } in
+    found-by (d .part) X m g (K .size ∙ l) ∙ find-answers (readerNumber limit) (file-reader limit) (placesFor (d .part)) m (mainOf (d .part) X) Q ∙ ap fileOr42 (K .found m)
   where
     same-main : (part : Part) (ys zs : List ℕ) → length ys ≡ length zs → length (mainOf part ys) ≡ length (mainOf part zs)
     same-main part ys zs e =

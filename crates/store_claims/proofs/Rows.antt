@@ -18,8 +18,8 @@ use Rattle.model_types.specs.declared.State.{State}
 use Rattle.file_block.specs.Block.{blockRows}
 use Rattle.file_codec.specs.File.{limit, lengthWrong, blocksIn, blocksRows, readRows}
 use Rattle.loader_run.specs.Runs.{lentRows, lentNumber, runFirst}
-use Rattle.store_places.specs.Store.{Change, adds, drops, isProper, itemsIn, placesIn, noRoom, findRows, findNo, addNo, noOf}
-use Rattle.store_survey.specs.Survey.{faultOf}
+use Rattle.store_places.specs.Store.{Change, adds, drops, isProper, itemsIn, placesIn, noRoom, findRows, findPlaceNumber, addPlaceNumber, changePlaceNumber}
+use Rattle.store_survey.specs.Survey.{readerNumber}
 use Rattle.store.specs.Stores.{mainOf, addNumber, dropNumber, changeJob}
 use Rattle.store_claims.specs.Calls.{numberBy}
 
@@ -40,15 +40,15 @@ read-numbered most f ℓ = blocks-numbered (blocksIn f) (getD f 0 0) 0 (blocksIn
 
 -- the reader's number stands for its table
 add-own : (ℓ : ℕ) (f main : List ℕ)
-    → given (readRows limit f ℓ (row 44 (not (isProper (faultOf limit) main)) ∷ row 43 (noRoom (length main / 512) ℓ (placesIn f) (itemsIn (faultOf limit) main)) ∷ [])) ≡ addNo (faultOf limit) ℓ f main
-unfolding addNo
+    → given (readRows limit f ℓ (row 44 (not (isProper (readerNumber limit) main)) ∷ row 43 (noRoom (length main / 512) ℓ (placesIn f) (itemsIn (readerNumber limit) main)) ∷ [])) ≡ addPlaceNumber (readerNumber limit) ℓ f main
+unfolding addPlaceNumber
 add-own ℓ f main =
-    ap given (read-append limit f ℓ rest) ∙ given-append (readRows limit f ℓ []) rest (read-numbered limit f ℓ) ∙ go (eqb (faultOf limit ℓ f) 0)
+    ap given (read-append limit f ℓ rest) ∙ given-append (readRows limit f ℓ []) rest (read-numbered limit f ℓ) ∙ go (eqb (readerNumber limit ℓ f) 0)
   where
     rest : List Row
-    rest = row 44 (not (isProper (faultOf limit) main)) ∷ row 43 (noRoom (length main / 512) ℓ (placesIn f) (itemsIn (faultOf limit) main)) ∷ []
+    rest = row 44 (not (isProper (readerNumber limit) main)) ∷ row 43 (noRoom (length main / 512) ℓ (placesIn f) (itemsIn (readerNumber limit) main)) ∷ []
 
-    go : (t : Bool) → (if t then given rest else faultOf limit ℓ f) ≡ (if not t then faultOf limit ℓ f else given rest)
+    go : (t : Bool) → (if t then given rest else readerNumber limit ℓ f) ≡ (if not t then readerNumber limit ℓ f else given rest)
     go true = refl
     go false = refl
 
@@ -60,25 +60,25 @@ module _ (d : Device) (s : State) (p : Pins) (xs : List ℕ) (memory scratch : �
 
   -- the number of a call by the change's own
   pub number-is : (c : Change) → numberBy c d s p xs memory scratch
-      ≡ (if isLarge (d .part) then 1 else if eqb (lentNumber (changeJob d s p) (length xs) memory scratch) 0 then noOf (faultOf limit) c (mainOf (d .part) xs) else lentNumber (changeJob d s p) (length xs) memory scratch)
-  unfolding addNumber dropNumber findNo
+      ≡ (if isLarge (d .part) then 1 else if eqb (lentNumber (changeJob d s p) (length xs) memory scratch) 0 then changePlaceNumber (readerNumber limit) c (mainOf (d .part) xs) else lentNumber (changeJob d s p) (length xs) memory scratch)
+  unfolding addNumber dropNumber findPlaceNumber
   number-is (adds ℓ b) =
-      shared (readRows limit b ℓ (row 44 (not (isProper (faultOf limit) (mainOf (d .part) xs))) ∷ row 43 (noRoom (length (mainOf (d .part) xs) / 512) ℓ (placesIn b) (itemsIn (faultOf limit) (mainOf (d .part) xs))) ∷ []))
+      shared (readRows limit b ℓ (row 44 (not (isProper (readerNumber limit) (mainOf (d .part) xs))) ∷ row 43 (noRoom (length (mainOf (d .part) xs) / 512) ℓ (placesIn b) (itemsIn (readerNumber limit) (mainOf (d .part) xs))) ∷ []))
       ∙ ap (λ (n : ℕ). if isLarge (d .part) then 1 else if eqb (lentNumber (changeJob d s p) (length xs) memory scratch) 0 then n else lentNumber (changeJob d s p) (length xs) memory scratch) (add-own ℓ b (mainOf (d .part) xs))
-  number-is (drops ℓ) = shared (findRows (faultOf limit) ℓ (mainOf (d .part) xs) [])
+  number-is (drops ℓ) = shared (findRows (readerNumber limit) ℓ (mainOf (d .part) xs) [])
 
   -- nothing refuses a call: it is of devices 1 to 4, no number of a run applies, and none of the change
   pub none-applies : (c : Change) → numberBy c d s p xs memory scratch ≡ 0
-      → (isLarge (d .part) ≡ false) × (lentNumber (changeJob d s p) (length xs) memory scratch ≡ 0) × (noOf (faultOf limit) c (mainOf (d .part) xs) ≡ 0)
+      → (isLarge (d .part) ≡ false) × (lentNumber (changeJob d s p) (length xs) memory scratch ≡ 0) × (changePlaceNumber (readerNumber limit) c (mainOf (d .part) xs) ≡ 0)
   none-applies c z = go (isLarge (d .part)) refl (eqb (lentNumber (changeJob d s p) (length xs) memory scratch) 0) refl (sym (number-is c) ∙ z)
     where
       go : (a : Bool) → isLarge (d .part) ≡ a → (b : Bool) → eqb (lentNumber (changeJob d s p) (length xs) memory scratch) 0 ≡ b
-          → (if a then 1 else if b then noOf (faultOf limit) c (mainOf (d .part) xs) else lentNumber (changeJob d s p) (length xs) memory scratch) ≡ 0
-          → (isLarge (d .part) ≡ false) × (lentNumber (changeJob d s p) (length xs) memory scratch ≡ 0) × (noOf (faultOf limit) c (mainOf (d .part) xs) ≡ 0)
+          → (if a then 1 else if b then changePlaceNumber (readerNumber limit) c (mainOf (d .part) xs) else lentNumber (changeJob d s p) (length xs) memory scratch) ≡ 0
+          → (isLarge (d .part) ≡ false) × (lentNumber (changeJob d s p) (length xs) memory scratch ≡ 0) × (changePlaceNumber (readerNumber limit) c (mainOf (d .part) xs) ≡ 0)
       go true x b y e = absurd (omega arith)
       go false x true y e = (x, eqb-true _ 0 y, e)
       go false x false y e = absurd (eqb-false _ 0 y e)
 
   -- where it is of devices 1 to 4 and no number of a run applies, the change's own number is given
-  pub own-number : (c : Change) → isLarge (d .part) ≡ false → lentNumber (changeJob d s p) (length xs) memory scratch ≡ 0 → numberBy c d s p xs memory scratch ≡ noOf (faultOf limit) c (mainOf (d .part) xs)
+  pub own-number : (c : Change) → isLarge (d .part) ≡ false → lentNumber (changeJob d s p) (length xs) memory scratch ≡ 0 → numberBy c d s p xs memory scratch ≡ changePlaceNumber (readerNumber limit) c (mainOf (d .part) xs)
   own-number c a z = number-is c ∙ if-false (isLarge (d .part)) 1 _ a ∙ if-true (eqb (lentNumber (changeJob d s p) (length xs) memory scratch) 0) _ _ (eq-eqb _ 0 z)

@@ -23,9 +23,9 @@ use Rattle.loader_run.specs.Runs.{RunLeft}
 use Rattle.loader_run_claims.specs.Wear.{heldIn, programsOf, baseOf}
 use Rattle.loader_run_claims.specs.Mission.{Start, Demand3}
 use Rattle.loader_run_claims.proofs.Mission.{demand-3, ends-well}
-use Rattle.store_places.specs.Store.{Change, adds, drops, itemsIn, placesIn, runFor, noOf, doneBy}
+use Rattle.store_places.specs.Store.{Change, adds, drops, itemsIn, placesIn, runFor, changePlaceNumber, doneBy}
 use Rattle.store_places.proofs.Claims.{drop-falls, add-falls, add-let}
-use Rattle.store_survey.specs.Survey.{faultOf}
+use Rattle.store_survey.specs.Survey.{readerNumber}
 use Rattle.store_survey.proofs.Reader.{file-reader}
 use Rattle.store.specs.Stores.{mainOf, ChangeLeft, changeJob}
 use Rattle.store_claims.specs.Calls.{placesFor, Call, callNumber, callLeft, contentsBy, FileBytes, Timed, Spared}
@@ -77,18 +77,18 @@ module _ (d : Device) (xs : List ℕ) (c : Call) (T : Timed d) (B : Bytes xs) (F
   pub drop-spares : (ℓ : ℕ) → c .change ≡ drops ℓ → Spared d xs c
   drop-spares ℓ e =
       spared
-      (ap (λ (x : Change). risesIn (doneBy (faultOf limit) x (mainOf (d .part) xs)) (mainOf (d .part) xs)) e
-      ∙ falls-rises _ (mainOf (d .part) xs) (drop-falls (faultOf limit) (file-reader limit) (placesFor (d .part)) ℓ (mainOf (d .part) xs) (found-proper d xs c T B F z)))
+      (ap (λ (x : Change). risesIn (doneBy (readerNumber limit) x (mainOf (d .part) xs)) (mainOf (d .part) xs)) e
+      ∙ falls-rises _ (mainOf (d .part) xs) (drop-falls (readerNumber limit) (file-reader limit) (placesFor (d .part)) ℓ (mainOf (d .part) xs) (found-proper d xs c T B F z)))
 
-  pub add-spares : (ℓ : ℕ) (b : List ℕ) → c .change ≡ adds ℓ b → runFor ℓ (placesIn b) (itemsIn (faultOf limit) main) ≡ true → Spared d xs c
+  pub add-spares : (ℓ : ℕ) (b : List ℕ) → c .change ≡ adds ℓ b → runFor ℓ (placesIn b) (itemsIn (readerNumber limit) main) ≡ true → Spared d xs c
   add-spares ℓ b e h =
       let P = found-proper d xs c T B F z in
       let o = ap (λ (x : Change). noOf-of x) e in
       spared
-      (ap (λ (x : Change). risesIn (doneBy (faultOf limit) x (mainOf (d .part) xs)) (mainOf (d .part) xs)) e
+      (ap (λ (x : Change). risesIn (doneBy (readerNumber limit) x (mainOf (d .part) xs)) (mainOf (d .part) xs)) e
       ∙ falls-rises _ (mainOf (d .part) xs)
-      (add-falls (faultOf limit) (file-reader limit) (placesFor (d .part)) ℓ b (mainOf (d .part) xs) P
-      (add-let (faultOf limit) (file-reader limit) (placesFor (d .part)) ℓ b (mainOf (d .part) xs) P (sym o ∙ own-none d xs c T B F z) .0) (subst FileBytes e F) h))
+      (add-falls (readerNumber limit) (file-reader limit) (placesFor (d .part)) ℓ b (mainOf (d .part) xs) P
+      (add-let (readerNumber limit) (file-reader limit) (placesFor (d .part)) ℓ b (mainOf (d .part) xs) P (sym o ∙ own-none d xs c T B F z) .0) (subst FileBytes e F) h))
     where
       noOf-of : Change → ℕ
-      noOf-of x = noOf (faultOf limit) x (mainOf (d .part) xs)
+      noOf-of x = changePlaceNumber (readerNumber limit) x (mainOf (d .part) xs)

@@ -17,7 +17,7 @@ use Rattle.model_history.specs.History.{totalOf, eraseOf}
 use Rattle.loader.specs.Walks.{risesIn}
 use Rattle.loader_run_claims.specs.Wear.{begunAt}
 use Rattle.store_places.specs.Store.{Change, adds, drops, doneBy, isProper, findOf, changedAll, lastUnder}
-use Rattle.store_survey.specs.Survey.{faultOf}
+use Rattle.store_survey.specs.Survey.{readerNumber}
 use Rattle.file_codec.specs.File.{limit, Outcome, refused, made}
 use Rattle.store.specs.Stores.{mainOf, dropNumber, addNumber, ChangeLeft, dropLeft, addLeft, changeJob}
 
@@ -57,7 +57,7 @@ callLeft d xs c = changeLeftBy (c .change) d (c .state) (c .pins) xs (c .memory)
 
 -- what a call wants in the main block: its contents after the change
 abbrev pub contentsBy : Device → List ℕ → Call → List ℕ
-contentsBy d xs c = doneBy (faultOf limit) (c .change) (mainOf (d .part) xs)
+contentsBy d xs c = doneBy (readerNumber limit) (c .change) (mainOf (d .part) xs)
 
 -- a call is refused before a cycle, or its run ends well (R-store-4)
 abbrev pub Settled : Device → List ℕ → Call → Type 0
@@ -96,11 +96,11 @@ pub record Timed (d : Device) : Type 0 where
 -- what any calls leave, each refused before a cycle or ended well (R-store-4)
 pub record Kept (d : Device) (cs : List Call) (xs : List ℕ) : Type 0 where
   -- the main block is what the changes that were made leave of it, one after the other
-  pub block : mainOf (d .part) (arrayThrough d cs xs) ≡ changedAll (faultOf limit) (changesMade d cs xs) (mainOf (d .part) xs)
+  pub block : mainOf (d .part) (arrayThrough d cs xs) ≡ changedAll (readerNumber limit) (changesMade d cs xs) (mainOf (d .part) xs)
   -- under each letter stands the file last added and not dropped, or the one that stood there at first
-  pub found : (m : ℕ) → findOf (faultOf limit) m (mainOf (d .part) (arrayThrough d cs xs)) ≡ lastUnder m (changesMade d cs xs) (findOf (faultOf limit) m (mainOf (d .part) xs))
+  pub found : (m : ℕ) → findOf (readerNumber limit) m (mainOf (d .part) (arrayThrough d cs xs)) ≡ lastUnder m (changesMade d cs xs) (findOf (readerNumber limit) m (mainOf (d .part) xs))
   -- a proper store stays one
-  pub proper : isProper (faultOf limit) (mainOf (d .part) xs) ≡ true → isProper (faultOf limit) (mainOf (d .part) (arrayThrough d cs xs)) ≡ true
+  pub proper : isProper (readerNumber limit) (mainOf (d .part) xs) ≡ true → isProper (readerNumber limit) (mainOf (d .part) (arrayThrough d cs xs)) ≡ true
   -- every byte outside the main block is as before
   pub before : (x : ℕ) → x < startOf (d .part) 3 → getD (arrayThrough d cs xs) x 0 ≡ getD xs x 0
   pub behind : (x : ℕ) → startOf (d .part) 3 + lengthOf (d .part) 3 ≤ x → getD (arrayThrough d cs xs) x 0 ≡ getD xs x 0

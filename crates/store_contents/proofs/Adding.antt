@@ -16,7 +16,7 @@ use Rattle.store_places.proofs.Places.{cut-length}
 use Rattle.store_places.proofs.Items.{not-both}
 use Rattle.store_places.proofs.Changes.{or-l, or-r, run-of, live-within}
 use Rattle.store_places.proofs.Claims.{proper-read, add-items, live-less}
-use Rattle.store_survey.specs.Survey.{faultOf, itemsOf, placeIn, startIn, hasRun}
+use Rattle.store_survey.specs.Survey.{readerNumber, itemsOf, placeIn, startIn, hasRun}
 use Rattle.store_survey.proofs.Reader.{file-reader}
 use Rattle.store_find.proofs.Laying.{Somes, somes-rest, good-somes}
 use Rattle.store_find.proofs.Finding.{found-none, found-ends}
@@ -53,35 +53,35 @@ start-within n p (i ∷ is) s h = go (blankRun n (i ∷ is)) refl (start-within 
         let a = r (sym (ap (λ (x : Bool). x || fitsIn n is) q) ∙ h) in
         let b = longer i s in omega arith
 
-module _ (main : List ℕ) (N ℓ : ℕ) (P : Proper (faultOf limit) N main) where
+module _ (main : List ℕ) (N ℓ : ℕ) (P : Proper (readerNumber limit) N main) where
   abbrev I : List Item
   I = itemsOf main
 
   -- a drop, whether or not there is a file under the letter
-  pub drop-anyway : dropOf (faultOf limit) ℓ main ≡ zeroedFrom (length (findIn ℓ (itemsOf main))) (512 * placeIn ℓ 0 (itemsOf main)) main
+  pub drop-anyway : dropOf (readerNumber limit) ℓ main ≡ zeroedFrom (length (findIn ℓ (itemsOf main))) (512 * placeIn ℓ 0 (itemsOf main)) main
   drop-anyway = go (hasIn ℓ (itemsOf main)) refl
     where
-      go : (t : Bool) → hasIn ℓ (itemsOf main) ≡ t → dropOf (faultOf limit) ℓ main ≡ zeroedFrom (length (findIn ℓ (itemsOf main))) (512 * placeIn ℓ 0 (itemsOf main)) main
-      go true q = drop-bytes (faultOf limit) (file-reader limit) N ℓ main P q
+      go : (t : Bool) → hasIn ℓ (itemsOf main) ≡ t → dropOf (readerNumber limit) ℓ main ≡ zeroedFrom (length (findIn ℓ (itemsOf main))) (512 * placeIn ℓ 0 (itemsOf main)) main
+      go true q = drop-bytes (readerNumber limit) (file-reader limit) N ℓ main P q
       go false q =
-          drop-nothing (faultOf limit) (file-reader limit) N ℓ main P q
+          drop-nothing (readerNumber limit) (file-reader limit) N ℓ main P q
           ∙ ap (λ (k : ℕ). zeroedFrom k (512 * placeIn ℓ 0 (itemsOf main)) main) (sym (found-none ℓ (itemsOf main) q))
 
   pub drop-ends : 512 * placeIn ℓ 0 (itemsOf main) + 512 * length (findIn ℓ (itemsOf main)) ≤ length main
   drop-ends = go (hasIn ℓ (itemsOf main)) refl
     where
       go : (t : Bool) → hasIn ℓ (itemsOf main) ≡ t → 512 * placeIn ℓ 0 (itemsOf main) + 512 * length (findIn ℓ (itemsOf main)) ≤ length main
-      go true q = found-ends (faultOf limit) (file-reader limit) N ℓ main P q
+      go true q = found-ends (readerNumber limit) (file-reader limit) N ℓ main P q
       go false q = let a = place-none ℓ 0 (itemsOf main) q in let b = found-none ℓ (itemsOf main) q in omega arith
 
   -- the live blocks: the replaced ones are among them, and they fit
   pub replaced-live : length (findIn ℓ (itemsOf main)) ≤ liveIn (itemsOf main)
-  replaced-live = let e = live-less (faultOf limit) (file-reader limit) N ℓ main P in omega arith
+  replaced-live = let e = live-less (readerNumber limit) (file-reader limit) N ℓ main P in omega arith
 
   pub live-fits : liveIn (itemsOf main) ≤ N
-  live-fits = let e = live-within (itemsOf main) in let s = proper-read (faultOf limit) (file-reader limit) N main P .size in omega arith
+  live-fits = let e = live-within (itemsOf main) in let s = proper-read (readerNumber limit) (file-reader limit) N main P .size in omega arith
 
-  module _ (b : List ℕ) (z : faultOf limit ℓ b ≡ 0) where
+  module _ (b : List ℕ) (z : readerNumber limit ℓ b ≡ 0) where
     count : length b / 512 ≡ getD b 2 0
     count = let c = file-reader limit .counted ℓ b z in omega arith
 
@@ -95,7 +95,7 @@ module _ (main : List ℕ) (N ℓ : ℕ) (P : Proper (faultOf limit) N main) whe
     pub room-test : ltb N (liveIn (itemsOf main) - length (findIn ℓ (itemsOf main)) + length b / 512) ≡ noRoom N ℓ (placesIn b) (itemsOf main)
     unfolding noRoom
     room-test =
-        let e = live-less (faultOf limit) (file-reader limit) N ℓ main P in
+        let e = live-less (readerNumber limit) (file-reader limit) N ℓ main P in
         let c = cut-length (length b / 512) b in
         ap (ltb N) (let q : liveIn (itemsOf main) - length (findIn ℓ (itemsOf main)) + length b / 512 ≡ liveIn (without ℓ (itemsOf main)) + length (placesIn b) = omega arith in q)
 
@@ -104,7 +104,7 @@ module _ (main : List ℕ) (N ℓ : ℕ) (P : Proper (faultOf limit) N main) whe
         let k = some in
         if-false (eqb (length b / 512) 0) false (fitsIn (length b / 512) (itemsOf main)) (ne-eqb _ 0 (λ (q : length b / 512 ≡ 0). omega arith))
         ∙ ap (λ (n : ℕ). fitsIn n (itemsOf main)) count
-        ∙ sym (run-here (faultOf limit) (file-reader limit) N ℓ b main P z)
+        ∙ sym (run-here (readerNumber limit) (file-reader limit) N ℓ b main P z)
 
     -- laid into the run: where it begins, that it ends within, and what is left
     module _ (h : hasRun (length b / 512) (itemsOf main) ≡ true) where
@@ -121,16 +121,16 @@ module _ (main : List ℕ) (N ℓ : ℕ) (P : Proper (faultOf limit) N main) whe
 
       pub lay-ends : 512 * (if hasRun (length b / 512) (itemsOf main) then startIn (length b / 512) 0 (itemsOf main) else 0) + length b ≤ length main
       lay-ends =
-          let r = proper-read (faultOf limit) (file-reader limit) N main P in
-          let a = start-within (length b / 512) 0 (itemsOf main) (good-somes (faultOf limit) (file-reader limit) (itemsOf main) (r .good)) fits in
+          let r = proper-read (readerNumber limit) (file-reader limit) N main P in
+          let a = start-within (length b / 512) 0 (itemsOf main) (good-somes (readerNumber limit) (file-reader limit) (itemsOf main) (r .good)) fits in
           let s = r .size in let l = P .size in let e = start-is in let w = whole-file in omega arith
 
       pub lay-bytes : overlaid (zeroedFrom (length (findIn ℓ (itemsOf main))) (512 * placeIn ℓ 0 (itemsOf main)) main) (512 * (if hasRun (length b / 512) (itemsOf main) then startIn (length b / 512) 0 (itemsOf main) else 0)) b
-          ≡ addOf (faultOf limit) ℓ b main
+          ≡ addOf (readerNumber limit) ℓ b main
       lay-bytes =
           ap (λ (x : List ℕ). overlaid x (512 * (if hasRun (length b / 512) (itemsOf main) then startIn (length b / 512) 0 (itemsOf main) else 0)) b) (sym drop-anyway)
-          ∙ ap (λ (n : ℕ). overlaid (dropOf (faultOf limit) ℓ main) (512 * n) b) (start-is ∙ ap (λ (n : ℕ). startIn n 0 (itemsOf main)) count)
-          ∙ sym (add-bytes (faultOf limit) (file-reader limit) N ℓ b main P z (sym run-is ∙ h))
+          ∙ ap (λ (n : ℕ). overlaid (dropOf (readerNumber limit) ℓ main) (512 * n) b) (start-is ∙ ap (λ (n : ℕ). startIn n 0 (itemsOf main)) count)
+          ∙ sym (add-bytes (readerNumber limit) (file-reader limit) N ℓ b main P z (sym run-is ∙ h))
 
     -- slid
     module _ (h : hasRun (length b / 512) (itemsOf main) ≡ false) (room : noRoom N ℓ (placesIn b) (itemsOf main) ≡ false) where
@@ -140,13 +140,13 @@ module _ (main : List ℕ) (N ℓ : ℕ) (P : Proper (faultOf limit) N main) whe
       K : ℕ
       K = N - (liveIn (without ℓ (itemsOf main)) + getD b 2 0)
 
-      slid : addOf (faultOf limit) ℓ b main ≡ liveBytes ℓ (itemsOf main) ++ (b ++ replicate (512 * (N - (liveIn (without ℓ (itemsOf main)) + getD b 2 0))) 255)
-      slid = slide-bytes (faultOf limit) (file-reader limit) N ℓ b main P z (sym run-is ∙ h)
+      slid : addOf (readerNumber limit) ℓ b main ≡ liveBytes ℓ (itemsOf main) ++ (b ++ replicate (512 * (N - (liveIn (without ℓ (itemsOf main)) + getD b 2 0))) 255)
+      slid = slide-bytes (readerNumber limit) (file-reader limit) N ℓ b main P z (sym run-is ∙ h)
 
       sum : length (liveBytes ℓ (itemsOf main)) + (length b + 512 * (N - (liveIn (without ℓ (itemsOf main)) + getD b 2 0))) ≡ 512 * N
       sum =
           let R = replicate {A = ℕ} (512 * (N - (liveIn (without ℓ (itemsOf main)) + getD b 2 0))) 255 in
-          let a : length (liveBytes ℓ (itemsOf main) ++ (b ++ R)) ≡ 512 * N = ap (λ (x : List ℕ). length x) (sym slid) ∙ add-items (faultOf limit) (file-reader limit) N ℓ b main P z room .0 in
+          let a : length (liveBytes ℓ (itemsOf main) ++ (b ++ R)) ≡ 512 * N = ap (λ (x : List ℕ). length x) (sym slid) ∙ add-items (readerNumber limit) (file-reader limit) N ℓ b main P z room .0 in
           let c : length (liveBytes ℓ (itemsOf main) ++ (b ++ R)) ≡ length (liveBytes ℓ (itemsOf main)) + length (b ++ R) = length-append (liveBytes ℓ (itemsOf main)) (b ++ R) in
           let d : length (b ++ R) ≡ length b + length R = length-append b R in
           let e : length R ≡ 512 * (N - (liveIn (without ℓ (itemsOf main)) + getD b 2 0)) = length-replicate {A = ℕ} (512 * (N - (liveIn (without ℓ (itemsOf main)) + getD b 2 0))) 255 in
@@ -156,7 +156,7 @@ module _ (main : List ℕ) (N ℓ : ℕ) (P : Proper (faultOf limit) N main) whe
       slide-ends = let a = sum in let l = P .size in omega arith
 
       pub slide-made : (memory : List ℕ) (at : ℕ) → length memory ≡ length main → at ≡ length (liveBytes ℓ (itemsOf main)) → take at memory ≡ liveBytes ℓ (itemsOf main)
-          → behindOf memory at b ≡ addOf (faultOf limit) ℓ b main
+          → behindOf memory at b ≡ addOf (readerNumber limit) ℓ b main
       slide-made memory at l ea et =
           let a = sum in let p = P .size in
           let n : length memory - (at + length b) ≡ 512 * (N - (liveIn (without ℓ (itemsOf main)) + getD b 2 0)) =

@@ -12,15 +12,15 @@ use Rattle.common.proofs.Choice.{if-true, if-false}
 use Rattle.common.specs.Numbers.{Row, row, given, numbered, NoRow}
 use Rattle.common.proofs.Numbers.{given-append, given-no-row, no-head, no-tail}
 use Rattle.file_codec.specs.File.{refused, made, outcomeBy, limit, readRows, lengthWrong, blocksIn, blocksRows, payloadOf, readerOf, judgedAs}
-use Rattle.file_codec.specs.declared.Judged.the-variants.{Sound, Unsound}
+use Rattle.file_codec.specs.declared.Judged.the-variants.{Sound, Refused}
 use Rattle.file_codec.proofs.Tables.{blocks-append, blocks-numbered}
 use Rattle.store_places.specs.Store.{findIn, liveIn, noRoom, placesIn, isProper, dropOf, Proper}
-use Rattle.store_survey.specs.Survey.{faultOf, itemsOf, placeIn, surveyOf}
+use Rattle.store_survey.specs.Survey.{readerNumber, itemsOf, placeIn, surveyOf}
 use Rattle.store_survey.specs.declared.Survey.{Survey}
 use Rattle.store_find.specs.Finds.{isWhole, standsRows, standsNumber, standsOf}
 use Rattle.store_find.specs.declared.Stands.{Stands}
 use Rattle.store_find.proofs.Standing.{there, store-of, number-is, stands-there, stands-ends}
-use Rattle.store_contents.specs.Contents.{unlike, dropRows, roomRows, dropFault, addFault, memoryBy}
+use Rattle.store_contents.specs.Contents.{unlike, dropRows, roomRows, dropInNumber, addInNumber, memoryBy}
 use Rattle.store_contents.specs.Inner.{zeroedFrom}
 use Rattle.store_contents.proofs.Adding.{drop-anyway, replaced-live, live-fits, room-test}
 
@@ -42,24 +42,24 @@ memory-like n a b was f = go (eqb n 0) refl
 
 -- ---- a drop
 module _ (main : List ℕ) (ℓ room : ℕ) (s : Stands) (e : s ≡ standsOf main ℓ) where
-  pub drop-number : given (row 11 (not (eqb room (length main))) ∷ row (s .number) true ∷ []) ≡ dropFault main ℓ room
-  unfolding dropFault unlike standsNumber
+  pub drop-number : given (row 11 (not (eqb room (length main))) ∷ row (s .number) true ∷ []) ≡ dropInNumber main ℓ room
+  unfolding dropInNumber unlike standsNumber
   drop-number = ap (λ (n : ℕ). if not (eqb room (length main)) then 11 else n) (number-is main ℓ s e)
 
   -- nothing refused: as long as the block, and the letter is there
-  pub drop-let : dropFault main ℓ room ≡ 0 → (room ≡ length main) × (standsNumber main ℓ ≡ 0)
-  unfolding dropFault unlike standsNumber
+  pub drop-let : dropInNumber main ℓ room ≡ 0 → (room ≡ length main) × (standsNumber main ℓ ≡ 0)
+  unfolding dropInNumber unlike standsNumber
   drop-let z =
       let n : NoRow (dropRows main ℓ room) = given-no-row (dropRows main ℓ room) refl z in
       let a : not (eqb room (length main)) ≡ false = no-head n in
       (eqb-true room (length main) (not-false (eqb room (length main)) a), sym (if-false (not (eqb room (length main))) 11 (given (standsRows main ℓ)) a) ∙ z)
 
-  pub drop-fits : dropFault main ℓ room ≡ 0 → s .from + 512 * (s .size / 512) ≤ length main
+  pub drop-fits : dropInNumber main ℓ room ≡ 0 → s .from + 512 * (s .size / 512) ≤ length main
   drop-fits z =
       let o = drop-let z .1 in
       let q = stands-ends main ℓ s e (number-is main ℓ s e ∙ o) in omega arith
 
-  pub drop-new : dropFault main ℓ room ≡ 0 → zeroedFrom (s .size / 512) (s .from) main ≡ dropOf (faultOf limit) ℓ main
+  pub drop-new : dropInNumber main ℓ room ≡ 0 → zeroedFrom (s .size / 512) (s .from) main ≡ dropOf (readerNumber limit) ℓ main
   drop-new z =
       let o = drop-let z .1 in
       let t = there main ℓ o in
@@ -86,45 +86,45 @@ read-append f ℓ rest =
     assoc [] b c = refl
     assoc (x ∷ a) b c = ap (λ (y : List Row). x ∷ y) (assoc a b c)
 
-pub read-then : (f : List ℕ) (ℓ : ℕ) (rest : List Row) → given (readRows limit f ℓ rest) ≡ (if eqb (faultOf limit ℓ f) 0 then given rest else faultOf limit ℓ f)
+pub read-then : (f : List ℕ) (ℓ : ℕ) (rest : List Row) → given (readRows limit f ℓ rest) ≡ (if eqb (readerNumber limit ℓ f) 0 then given rest else readerNumber limit ℓ f)
 read-then f ℓ rest = ap given (read-append f ℓ rest) ∙ given-append (readRows limit f ℓ []) rest (read-numbered f ℓ [])
 
 module _ (main f : List ℕ) (ℓ room : ℕ) where
-  after-11 : addFault main f ℓ room ≡ (if unlike main room then 11 else if eqb (faultOf limit ℓ f) 0 then given (roomRows main f ℓ) else faultOf limit ℓ f)
-  unfolding addFault
+  after-11 : addInNumber main f ℓ room ≡ (if unlike main room then 11 else if eqb (readerNumber limit ℓ f) 0 then given (roomRows main f ℓ) else readerNumber limit ℓ f)
+  unfolding addInNumber
   after-11 = ap (λ (n : ℕ). if unlike main room then 11 else n) (read-then f ℓ (roomRows main f ℓ))
 
-  pub add-11 : (room ≡ length main → ⊥) → addFault main f ℓ room ≡ 11
+  pub add-11 : (room ≡ length main → ⊥) → addInNumber main f ℓ room ≡ 11
   unfolding unlike
-  add-11 z = after-11 ∙ ap (λ (t : Bool). if not t then 11 else if eqb (faultOf limit ℓ f) 0 then given (roomRows main f ℓ) else faultOf limit ℓ f) (ne-eqb room (length main) z)
+  add-11 z = after-11 ∙ ap (λ (t : Bool). if not t then 11 else if eqb (readerNumber limit ℓ f) 0 then given (roomRows main f ℓ) else readerNumber limit ℓ f) (ne-eqb room (length main) z)
 
   module _ (l : room ≡ length main) where
-    past-11 : addFault main f ℓ room ≡ (if eqb (faultOf limit ℓ f) 0 then given (roomRows main f ℓ) else faultOf limit ℓ f)
+    past-11 : addInNumber main f ℓ room ≡ (if eqb (readerNumber limit ℓ f) 0 then given (roomRows main f ℓ) else readerNumber limit ℓ f)
     unfolding unlike
-    past-11 = after-11 ∙ ap (λ (t : Bool). if not t then 11 else if eqb (faultOf limit ℓ f) 0 then given (roomRows main f ℓ) else faultOf limit ℓ f) (eq-eqb room (length main) l)
+    past-11 = after-11 ∙ ap (λ (t : Bool). if not t then 11 else if eqb (readerNumber limit ℓ f) 0 then given (roomRows main f ℓ) else readerNumber limit ℓ f) (eq-eqb room (length main) l)
 
-    pub add-read : (faultOf limit ℓ f ≡ 0 → ⊥) → addFault main f ℓ room ≡ faultOf limit ℓ f
-    add-read z = past-11 ∙ if-false (eqb (faultOf limit ℓ f) 0) (given (roomRows main f ℓ)) (faultOf limit ℓ f) (ne-eqb _ 0 z)
+    pub add-read : (readerNumber limit ℓ f ≡ 0 → ⊥) → addInNumber main f ℓ room ≡ readerNumber limit ℓ f
+    add-read z = past-11 ∙ if-false (eqb (readerNumber limit ℓ f) 0) (given (roomRows main f ℓ)) (readerNumber limit ℓ f) (ne-eqb _ 0 z)
 
-    module _ (z : faultOf limit ℓ f ≡ 0) where
-      pub past-read : addFault main f ℓ room ≡ given (roomRows main f ℓ)
-      past-read = past-11 ∙ if-true (eqb (faultOf limit ℓ f) 0) (given (roomRows main f ℓ)) (faultOf limit ℓ f) (eq-eqb _ 0 z)
+    module _ (z : readerNumber limit ℓ f ≡ 0) where
+      pub past-read : addInNumber main f ℓ room ≡ given (roomRows main f ℓ)
+      past-read = past-11 ∙ if-true (eqb (readerNumber limit ℓ f) 0) (given (roomRows main f ℓ)) (readerNumber limit ℓ f) (eq-eqb _ 0 z)
 
-      pub add-44 : (length main % 512 ≡ 0 → ⊥) → addFault main f ℓ room ≡ 44
+      pub add-44 : (length main % 512 ≡ 0 → ⊥) → addInNumber main f ℓ room ≡ 44
       unfolding isWhole
-      add-44 w = past-read ∙ ap (λ (t : Bool). if not t then 44 else given (row 44 (not (isProper (faultOf limit) main)) ∷ row 43 (noRoom (length main / 512) ℓ (placesIn f) (itemsOf main)) ∷ [])) (ne-eqb _ 0 w)
+      add-44 w = past-read ∙ ap (λ (t : Bool). if not t then 44 else given (row 44 (not (isProper (readerNumber limit) main)) ∷ row 43 (noRoom (length main / 512) ℓ (placesIn f) (itemsOf main)) ∷ [])) (ne-eqb _ 0 w)
 
       -- 44 and 43 by the survey
       pub add-room : length main % 512 ≡ 0 → (s : Survey) → s ≡ surveyOf ℓ (length f / 512) main
-          → addFault main f ℓ room ≡ given (row 44 (not (s .good)) ∷ row 43 (ltb (length main / 512) (s .live - s .blocks + length f / 512)) ∷ [])
+          → addInNumber main f ℓ room ≡ given (row 44 (not (s .good)) ∷ row 43 (ltb (length main / 512) (s .live - s .blocks + length f / 512)) ∷ [])
       unfolding isWhole surveyOf
       add-room w s e =
           past-read
-          ∙ ap (λ (t : Bool). if not t then 44 else given (row 44 (not (isProper (faultOf limit) main)) ∷ row 43 (noRoom (length main / 512) ℓ (placesIn f) (itemsOf main)) ∷ [])) (eq-eqb _ 0 w)
-          ∙ go (isProper (faultOf limit) main) refl
+          ∙ ap (λ (t : Bool). if not t then 44 else given (row 44 (not (isProper (readerNumber limit) main)) ∷ row 43 (noRoom (length main / 512) ℓ (placesIn f) (itemsOf main)) ∷ [])) (eq-eqb _ 0 w)
+          ∙ go (isProper (readerNumber limit) main) refl
           ∙ ap (λ (x : Survey). given (row 44 (not (x .good)) ∷ row 43 (ltb (length main / 512) (x .live - x .blocks + length f / 512)) ∷ [])) (sym e)
         where
-          go : (p : Bool) → isProper (faultOf limit) main ≡ p
+          go : (p : Bool) → isProper (readerNumber limit) main ≡ p
               → given (row 44 (not p) ∷ row 43 (noRoom (length main / 512) ℓ (placesIn f) (itemsOf main)) ∷ [])
               ≡ given (row 44 (not p) ∷ row 43 (ltb (length main / 512) (liveIn (itemsOf main) - length (findIn ℓ (itemsOf main)) + length f / 512)) ∷ [])
           go false q = refl
@@ -134,7 +134,7 @@ module _ (main f : List ℕ) (ℓ room : ℕ) where
 pub survey-bounds : (main : List ℕ) (ℓ n : ℕ) (s : Survey) → length main % 512 ≡ 0 → s ≡ surveyOf ℓ n main → s .good ≡ true → (s .blocks ≤ s .live) × (s .live ≤ length main / 512)
 unfolding surveyOf
 survey-bounds main ℓ n s w e g =
-    let P : Proper (faultOf limit) (length main / 512) main = record { size = omega arith; proper = sym (ap (λ (x : Survey). x .good) e) ∙ g } in
+    let P : Proper (readerNumber limit) (length main / 512) main = record { size = omega arith; proper = sym (ap (λ (x : Survey). x .good) e) ∙ g } in
     let a : s .blocks ≡ length (findIn ℓ (itemsOf main)) = ap (λ (x : Survey). x .blocks) e in
     let b : s .live ≡ liveIn (itemsOf main) = ap (λ (x : Survey). x .live) e in
     let c = replaced-live main (length main / 512) ℓ P in
@@ -144,14 +144,14 @@ survey-bounds main ℓ n s w e g =
 -- an add that nothing refuses
 pub record Let (main f : List ℕ) (ℓ room : ℕ) : Type 0 where
   pub long : room ≡ length main
-  pub read : faultOf limit ℓ f ≡ 0
-  pub store : Proper (faultOf limit) (length main / 512) main
+  pub read : readerNumber limit ℓ f ≡ 0
+  pub store : Proper (readerNumber limit) (length main / 512) main
   pub room-there : noRoom (length main / 512) ℓ (placesIn f) (itemsOf main) ≡ false
 
-pub add-let : (main f : List ℕ) (ℓ room : ℕ) → addFault main f ℓ room ≡ 0 → Let main f ℓ room
-add-let main f ℓ room e = go (eqb room (length main)) refl (eqb (faultOf limit ℓ f) 0) refl
+pub add-let : (main f : List ℕ) (ℓ room : ℕ) → addInNumber main f ℓ room ≡ 0 → Let main f ℓ room
+add-let main f ℓ room e = go (eqb room (length main)) refl (eqb (readerNumber limit ℓ f) 0) refl
   where
-    go : (t : Bool) → eqb room (length main) ≡ t → (u : Bool) → eqb (faultOf limit ℓ f) 0 ≡ u → Let main f ℓ room
+    go : (t : Bool) → eqb room (length main) ≡ t → (u : Bool) → eqb (readerNumber limit ℓ f) 0 ≡ u → Let main f ℓ room
     go false q u v = absurd (let a : 11 ≡ 0 = sym (add-11 main f ℓ room (eqb-false _ _ q)) ∙ e in omega arith)
     go true q false v = absurd (eqb-false _ 0 v (sym (add-read main f ℓ room (eqb-true _ _ q) (eqb-false _ 0 v)) ∙ e))
     go true q true v =
@@ -161,7 +161,7 @@ add-let main f ℓ room e = go (eqb room (length main)) refl (eqb (faultOf limit
         record {
           long = l;
           read = z;
-          store = store-of main (not-false (isWhole main) (no-head n)) (not-false (isProper (faultOf limit) main) (no-head (no-tail n)));
+          store = store-of main (not-false (isWhole main) (no-head n)) (not-false (isProper (readerNumber limit) main) (no-head (no-tail n)));
           room-there = no-head (no-tail (no-tail n));
         }
 
@@ -169,22 +169,22 @@ add-let main f ℓ room e = go (eqb room (length main)) refl (eqb (faultOf limit
 pub on : (t : Bool) → not t ≡ false → t ≡ true
 on t e = not-false t e
 
-pub judged-sound : (most : ℕ) (f : List ℕ) (ℓ k : ℕ) → judgedAs (readerOf most f ℓ) ≡ Sound k → faultOf most ℓ f ≡ 0
+pub judged-sound : (most : ℕ) (f : List ℕ) (ℓ k : ℕ) → judgedAs (readerOf most f ℓ) ≡ Sound k → readerNumber most ℓ f ≡ 0
 unfolding readerOf
-judged-sound most f ℓ k e = go (faultOf most ℓ f) (eqb (faultOf most ℓ f) 0) refl e
+judged-sound most f ℓ k e = go (readerNumber most ℓ f) (eqb (readerNumber most ℓ f) 0) refl e
   where
     go : (n : ℕ) (t : Bool) → eqb n 0 ≡ t → judgedAs (outcomeBy n (payloadOf (blocksIn f) f)) ≡ Sound k → n ≡ 0
     go n true q e = eqb-true n 0 q
     go n false q e =
-        let v : Unsound n ≡ Sound k = sym (ap judgedAs (if-false (eqb n 0) (made (payloadOf (blocksIn f) f)) (refused n) q)) ∙ e in
+        let v : Refused n ≡ Sound k = sym (ap judgedAs (if-false (eqb n 0) (made (payloadOf (blocksIn f) f)) (refused n) q)) ∙ e in
         absurd (let z : _≡_ {A = ℕ} 0 1 = cc in omega arith)
 
-pub judged-unsound : (most : ℕ) (f : List ℕ) (ℓ m : ℕ) → judgedAs (readerOf most f ℓ) ≡ Unsound m → faultOf most ℓ f ≡ m
+pub judged-refused : (most : ℕ) (f : List ℕ) (ℓ m : ℕ) → judgedAs (readerOf most f ℓ) ≡ Refused m → readerNumber most ℓ f ≡ m
 unfolding readerOf
-judged-unsound most f ℓ m e = go (faultOf most ℓ f) (eqb (faultOf most ℓ f) 0) refl e
+judged-refused most f ℓ m e = go (readerNumber most ℓ f) (eqb (readerNumber most ℓ f) 0) refl e
   where
-    go : (n : ℕ) (t : Bool) → eqb n 0 ≡ t → judgedAs (outcomeBy n (payloadOf (blocksIn f) f)) ≡ Unsound m → n ≡ m
-    go n false q e = let v : Unsound n ≡ Unsound m = sym (ap judgedAs (if-false (eqb n 0) (made (payloadOf (blocksIn f) f)) (refused n) q)) ∙ e in cc
+    go : (n : ℕ) (t : Bool) → eqb n 0 ≡ t → judgedAs (outcomeBy n (payloadOf (blocksIn f) f)) ≡ Refused m → n ≡ m
+    go n false q e = let v : Refused n ≡ Refused m = sym (ap judgedAs (if-false (eqb n 0) (made (payloadOf (blocksIn f) f)) (refused n) q)) ∙ e in cc
     go n true q e =
-        let v : Sound (length (payloadOf (blocksIn f) f)) ≡ Unsound m = sym (ap judgedAs (if-true (eqb n 0) (made (payloadOf (blocksIn f) f)) (refused n) q)) ∙ e in
+        let v : Sound (length (payloadOf (blocksIn f) f)) ≡ Refused m = sym (ap judgedAs (if-true (eqb n 0) (made (payloadOf (blocksIn f) f)) (refused n) q)) ∙ e in
         absurd (let z : _≡_ {A = ℕ} 0 1 = cc in omega arith)

@@ -9,14 +9,14 @@ use Rattle.common.specs.Choice.{if_then_else_}
 use Rattle.common.specs.Lists.{overlaid}
 use Rattle.file_codec.specs.File.{limit}
 use Rattle.store_places.specs.Store.{findIn, addOf, Proper}
-use Rattle.store_survey.specs.Survey.{faultOf, itemsOf, placeIn, startIn, hasRun, surveyOf}
+use Rattle.store_survey.specs.Survey.{readerNumber, itemsOf, placeIn, startIn, hasRun, surveyOf}
 use Rattle.store_survey.specs.declared.Survey.{Survey}
-use Rattle.store_contents.specs.Contents.{addFault}
+use Rattle.store_contents.specs.Contents.{addInNumber}
 use Rattle.store_contents.specs.Inner.{zeroedFrom, liveBytes, behindOf}
 use Rattle.store_contents.proofs.Adding.{drop-ends, lay-ends, lay-bytes, slide-ends, slide-made}
 use Rattle.store_contents.proofs.Numbers.{Let, add-let}
 
-module _ (main f : List ℕ) (ℓ : ℕ) (s : Survey) (e : s ≡ surveyOf ℓ (length f / 512) main) (memory : List ℕ) (z : addFault main f ℓ (length memory) ≡ 0) where
+module _ (main f : List ℕ) (ℓ : ℕ) (s : Survey) (e : s ≡ surveyOf ℓ (length f / 512) main) (memory : List ℕ) (z : addInNumber main f ℓ (length memory) ≡ 0) where
   granted : Let main f ℓ (length memory)
   granted = add-let main f ℓ (length memory) z
 
@@ -36,7 +36,7 @@ module _ (main f : List ℕ) (ℓ : ℕ) (s : Survey) (e : s ≡ surveyOf ℓ (l
   unfolding surveyOf
   fits-is = ap (λ (x : Survey). x .fits) e
 
-  pub slide-lets : (Proper (faultOf limit) (length main / 512) main) × (length memory ≡ length main)
+  pub slide-lets : (Proper (readerNumber limit) (length main / 512) main) × (length memory ≡ length main)
   slide-lets = (granted .store, granted .long)
 
   module _ (h : s .fits ≡ true) where
@@ -50,7 +50,7 @@ module _ (main f : List ℕ) (ℓ : ℕ) (s : Survey) (e : s ≡ surveyOf ℓ (l
         let p = place-is in let k = blocks-is in let t = start-is in
         (granted .long, omega arith, omega arith)
 
-    pub lay-made : overlaid (zeroedFrom (s .blocks) (512 * s .place) main) (512 * s .start) f ≡ addOf (faultOf limit) ℓ f main
+    pub lay-made : overlaid (zeroedFrom (s .blocks) (512 * s .place) main) (512 * s .start) f ≡ addOf (readerNumber limit) ℓ f main
     lay-made =
         ap (λ (n : ℕ). overlaid (zeroedFrom n (512 * s .place) main) (512 * s .start) f) blocks-is
         ∙ ap (λ (n : ℕ). overlaid (zeroedFrom (length (findIn ℓ (itemsOf main))) (512 * n) main) (512 * s .start) f) place-is
@@ -63,5 +63,5 @@ module _ (main f : List ℕ) (ℓ : ℕ) (s : Survey) (e : s ≡ surveyOf ℓ (l
         let a = slide-ends main (length main / 512) ℓ (granted .store) f (granted .read) (sym fits-is ∙ h) (granted .room-there) in
         let b = granted .long in omega arith
 
-    pub slide-done : take at slid ≡ liveBytes ℓ (itemsOf main) → behindOf slid at f ≡ addOf (faultOf limit) ℓ f main
+    pub slide-done : take at slid ≡ liveBytes ℓ (itemsOf main) → behindOf slid at f ≡ addOf (readerNumber limit) ℓ f main
     slide-done et = slide-made main (length main / 512) ℓ (granted .store) f (granted .read) (sym fits-is ∙ h) (granted .room-there) slid at (l ∙ granted .long) ea et

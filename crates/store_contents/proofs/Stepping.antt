@@ -119,7 +119,7 @@ module _ (fault : Judgement) (R : Reader fault) where
   pub step : (ℓ : ℕ) (xs : List ℕ) → Divided xs → 0 < length xs → Step ℓ xs
   step ℓ xs d h = subst (Step ℓ) (d .back) (step-of ℓ (itemsIn fault xs) (d .good) (subst (λ (x : List ℕ). 0 < length x) (sym (d .back)) h))
 
-  -- one turn of the slide's loop: the item at byte `from`, told by the bytes x and y, goes to byte `to` of memory where it stays
+  -- one round of the slide's loop: the item at byte `from`, told by the bytes x and y, goes to byte `to` of memory where it stays
   module _ (ℓ : ℕ) (main : List ℕ) (from x y : ℕ) (ex : x ≡ getD main from 0) (ey : y ≡ getD main (from + 2) 0) (inside : from < length main) (D : Divided (drop from main)) where
     X : List ℕ
     X = drop from main

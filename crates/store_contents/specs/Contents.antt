@@ -8,7 +8,7 @@ use Rattle.common.specs.Choice.{if_then_else_}
 use Rattle.common.specs.Numbers.{Row, row, given}
 use Rattle.file_codec.specs.File.{limit, readRows}
 use Rattle.store_places.specs.Store.{isProper, noRoom, placesIn}
-use Rattle.store_survey.specs.Survey.{faultOf, itemsOf}
+use Rattle.store_survey.specs.Survey.{readerNumber, itemsOf}
 use Rattle.store_find.specs.Finds.{isWhole, standsRows}
 
 -- 11: memory of so many bytes is not as long as the block
@@ -22,19 +22,19 @@ dropRows main ℓ room = row 11 (unlike main room) ∷ standsRows main ℓ
 -- 44, then 43, of the file f for the letter
 abbrev pub roomRows : List ℕ → List ℕ → ℕ → List Row
 roomRows main f ℓ =
-    row 44 (not (isWhole main)) ∷ row 44 (not (isProper (faultOf limit) main)) ∷ row 43 (noRoom (length main / 512) ℓ (placesIn f) (itemsOf main)) ∷ []
+    row 44 (not (isWhole main)) ∷ row 44 (not (isProper (readerNumber limit) main)) ∷ row 43 (noRoom (length main / 512) ℓ (placesIn f) (itemsOf main)) ∷ []
 
 -- the refusals of an add: 11, the reader's for the letter, 44, 43 (R-store-5)
 abbrev pub addRows : List ℕ → List ℕ → ℕ → ℕ → List Row
 addRows main f ℓ room = row 11 (unlike main room) ∷ readRows limit f ℓ (roomRows main f ℓ)
 
 -- the first refusal of a drop, 0 where nothing refuses
-unfoldable pub dropFault : List ℕ → ℕ → ℕ → ℕ
-dropFault main ℓ room = given (dropRows main ℓ room)
+unfoldable pub dropInNumber : List ℕ → ℕ → ℕ → ℕ
+dropInNumber main ℓ room = given (dropRows main ℓ room)
 
 -- the first refusal of an add, 0 where nothing refuses
-unfoldable pub addFault : List ℕ → List ℕ → ℕ → ℕ → ℕ
-addFault main f ℓ room = given (addRows main f ℓ room)
+unfoldable pub addInNumber : List ℕ → List ℕ → ℕ → ℕ → ℕ
+addInNumber main f ℓ room = given (addRows main f ℓ room)
 
 -- memory by the number: the new contents where it is 0, else as it was
 unfoldable pub memoryBy : ℕ → List ℕ → List ℕ → List ℕ

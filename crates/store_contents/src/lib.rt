@@ -12,8 +12,8 @@ ghost use Rattle.common.specs.Lists.{overlaid};
 ghost use Rattle.common.specs.Numbers.{row, given};
 ghost use Rattle.file_codec.specs.File.{limit};
 ghost use Rattle.store_places.specs.Store.{Proper, itemsIn, dropOf, addOf};
-ghost use Rattle.store_survey.specs.Survey.{faultOf, surveyOf};
-ghost use Rattle.store_contents.specs.Contents.{dropFault, addFault, memoryBy};
+ghost use Rattle.store_survey.specs.Survey.{readerNumber, surveyOf};
+ghost use Rattle.store_contents.specs.Contents.{dropInNumber, addInNumber, memoryBy};
 ghost use Rattle.store_contents.specs.Inner.{zeroedFrom, liveBytes, spanOf, goesOf, stayOf, behindOf};
 
 // 00H over the first byte of k places, the first of them at byte `from`.
@@ -67,9 +67,9 @@ fn keep(item: &[u8], letter: u8, memory: &mut [u8], to: usize) -> usize
 // The files but that of the letter, in their order, into the front of memory; the byte behind them is given back. The block was
 // judged proper before, so an item is told by its first byte and its count alone.
 fn slide(main: &[u8], letter: u8, memory: &mut [u8]) -> usize
-    requires { ⌜ (Proper (faultOf limit) (length (now main) / 512) (now main)) × (length (now memory) ≡ length (now main)) ⌝ }
-    ensures { λ r. ⌜ r ≡ length (liveBytes letter (itemsIn (faultOf limit) (now (main .entry)))) ⌝ }
-    ensures { λ r. ⌜ take r (now (memory .exit)) ≡ liveBytes letter (itemsIn (faultOf limit) (now (main .entry))) ⌝ }
+    requires { ⌜ (Proper (readerNumber limit) (length (now main) / 512) (now main)) × (length (now memory) ≡ length (now main)) ⌝ }
+    ensures { λ r. ⌜ r ≡ length (liveBytes letter (itemsIn (readerNumber limit) (now (main .entry)))) ⌝ }
+    ensures { λ r. ⌜ take r (now (memory .exit)) ≡ liveBytes letter (itemsIn (readerNumber limit) (now (main .entry))) ⌝ }
 {
     let n = main.len();
     let mut from = 0;
@@ -126,8 +126,8 @@ fn drop_number(size: usize, room: usize, found: u8) -> u8
 
 // The block without the file under a letter, into memory: 11, 44, 42, or 0 and done.
 pub fn drop_into(main: &[u8], letter: u8, memory: &mut [u8]) -> u8
-    ensures { λ r. ⌜ r ≡ dropFault (now (main .entry)) letter (length (now (memory .entry))) ⌝ }
-    ensures { λ _. ⌜ now (memory .exit) ≡ memoryBy (dropFault (now (main .entry)) letter (length (now (memory .entry)))) (dropOf (faultOf limit) letter (now (main .entry))) (now (memory .entry)) ⌝ }
+    ensures { λ r. ⌜ r ≡ dropInNumber (now (main .entry)) letter (length (now (memory .entry))) ⌝ }
+    ensures { λ _. ⌜ now (memory .exit) ≡ memoryBy (dropInNumber (now (main .entry)) letter (length (now (memory .entry)))) (dropOf (readerNumber limit) letter (now (main .entry))) (now (memory .entry)) ⌝ }
 {
     let s = store_find::seek(main, letter);
     let n = drop_number(main.len(), memory.len(), s.number);
@@ -137,12 +137,12 @@ pub fn drop_into(main: &[u8], letter: u8, memory: &mut [u8]) -> u8
 
 // The reader's number of a file for the letter asked.
 fn file_number(file: &[u8], asked: u8) -> u8
-    ensures { λ r. ⌜ r ≡ faultOf limit asked (now (file .entry)) ⌝ }
+    ensures { λ r. ⌜ r ≡ readerNumber limit asked (now (file .entry)) ⌝ }
 {
     let judged = file_codec::judge(file, asked);
     match judged {
         Judged::Sound(_) => 0,
-        Judged::Unsound(m) => m,
+        Judged::Refused(m) => m,
     }
 }
 
@@ -174,7 +174,7 @@ fn room_number(size: usize, s: Survey, new: usize) -> u8
 // The number of an add, by the survey for the file's blocks.
 fn add_number(main: &[u8], file: &[u8], letter: u8, s: Survey, room: usize) -> u8
     requires { ⌜ s ≡ surveyOf letter (length (now file) / 512) (now main) ⌝ }
-    ensures { λ r. ⌜ r ≡ addFault (now (main .entry)) (now (file .entry)) letter room ⌝ }
+    ensures { λ r. ⌜ r ≡ addInNumber (now (main .entry)) (now (file .entry)) letter room ⌝ }
 {
     let size = main.len();
     if room != size {
@@ -202,8 +202,8 @@ fn lay(main: &[u8], from: usize, k: usize, at: usize, file: &[u8], memory: &mut 
 
 // The block with the file in it, into memory, where the number is 0: into the run that the survey found, or by a slide.
 fn put_new(number: u8, main: &[u8], file: &[u8], letter: u8, s: Survey, memory: &mut [u8])
-    requires { ⌜ (s ≡ surveyOf letter (length (now file) / 512) (now main)) × (number ≡ 0 → addFault (now main) (now file) letter (length (now memory)) ≡ 0) ⌝ }
-    ensures { λ _. ⌜ now (memory .exit) ≡ memoryBy number (addOf (faultOf limit) letter (now (file .entry)) (now (main .entry))) (now (memory .entry)) ⌝ }
+    requires { ⌜ (s ≡ surveyOf letter (length (now file) / 512) (now main)) × (number ≡ 0 → addInNumber (now main) (now file) letter (length (now memory)) ≡ 0) ⌝ }
+    ensures { λ _. ⌜ now (memory .exit) ≡ memoryBy number (addOf (readerNumber limit) letter (now (file .entry)) (now (main .entry))) (now (memory .entry)) ⌝ }
 {
     if number != 0 {
         return;
@@ -219,8 +219,8 @@ fn put_new(number: u8, main: &[u8], file: &[u8], letter: u8, s: Survey, memory: 
 
 // The block with a file added under its letter, into memory: 11, the reader's number, 44, 43, or 0 and done.
 pub fn add_into(main: &[u8], file: &[u8], letter: u8, memory: &mut [u8]) -> u8
-    ensures { λ r. ⌜ r ≡ addFault (now (main .entry)) (now (file .entry)) letter (length (now (memory .entry))) ⌝ }
-    ensures { λ _. ⌜ now (memory .exit) ≡ memoryBy (addFault (now (main .entry)) (now (file .entry)) letter (length (now (memory .entry)))) (addOf (faultOf limit) letter (now (file .entry)) (now (main .entry))) (now (memory .entry)) ⌝ }
+    ensures { λ r. ⌜ r ≡ addInNumber (now (main .entry)) (now (file .entry)) letter (length (now (memory .entry))) ⌝ }
+    ensures { λ _. ⌜ now (memory .exit) ≡ memoryBy (addInNumber (now (main .entry)) (now (file .entry)) letter (length (now (memory .entry)))) (addOf (readerNumber limit) letter (now (file .entry)) (now (main .entry))) (now (memory .entry)) ⌝ }
 {
     let s = store_survey::survey_of(main, letter, file.len() / 512);
     let n = add_number(main, file, letter, s, memory.len());

@@ -9,7 +9,7 @@ use lib.Dec.{eqb}
 use Rattle.common.specs.Numbers.{row, given}
 use Rattle.file_codec.specs.File.{limit}
 use Rattle.store_places.specs.Store.{findIn}
-use Rattle.store_survey.specs.Survey.{faultOf, itemsOf, placeIn, surveyOf}
+use Rattle.store_survey.specs.Survey.{readerNumber, itemsOf, placeIn, surveyOf}
 use Rattle.store_survey.specs.declared.Survey.{Survey}
 use Rattle.store_survey.proofs.Reader.{file-reader}
 use Rattle.store_find.specs.Finds.{standsNumber, standsOf}
@@ -37,7 +37,7 @@ module _ (main : List ℕ) (ℓ : ℕ) (s : Survey) (e : s ≡ surveyOf ℓ 0 ma
     pub out-ends : 512 * s .place + 512 * s .blocks ≤ length main
     out-ends =
         let t = there main ℓ (sym number-by ∙ z) in
-        let h = found-ends (faultOf limit) (file-reader limit) (length main / 512) ℓ main (t .store) (t .has) in
+        let h = found-ends (readerNumber limit) (file-reader limit) (length main / 512) ℓ main (t .store) (t .has) in
         let a = place-is in let b = blocks-is in omega arith
 
     pub out-there : record { number = 0; from = 512 * s .place; size = 512 * s .blocks } ≡ standsOf main ℓ

@@ -15,14 +15,14 @@ use Rattle.common.proofs.Numbers.{given-no-row, no-head, no-tail}
 use Rattle.common.specs.Lists.{copied}
 use Rattle.file_codec.specs.File.{Outcome, refused, made, inRoom, leftIn, limit, readerOf}
 use Rattle.store_places.specs.Store.{hasIn, findIn, isProper, findOf, Proper}
-use Rattle.store_survey.specs.Survey.{faultOf, itemsOf, placeIn, surveyOf}
+use Rattle.store_survey.specs.Survey.{readerNumber, itemsOf, placeIn, surveyOf}
 use Rattle.store_survey.proofs.Reader.{file-reader}
 use Rattle.store_find.specs.Finds.{isWhole, standsRows, standsNumber, standsOf, foundIn, foundAs, readBy}
 use Rattle.store_find.specs.declared.Stands.{Stands}
 use Rattle.store_find.proofs.Finding.{none-there, found-long, found-ends, found-bytes}
 
 -- whole and proper is a proper store of its own places
-pub store-of : (main : List ℕ) → isWhole main ≡ true → isProper (faultOf limit) main ≡ true → Proper (faultOf limit) (length main / 512) main
+pub store-of : (main : List ℕ) → isWhole main ≡ true → isProper (readerNumber limit) main ≡ true → Proper (readerNumber limit) (length main / 512) main
 unfolding isWhole
 store-of main w p = let h = eqb-true (length main % 512) 0 w in record { size = omega arith; proper = p }
 
@@ -30,21 +30,21 @@ store-of main w p = let h = eqb-true (length main % 512) 0 w in record { size = 
 pub by-survey : (main : List ℕ) (ℓ n : ℕ)
     → given (row 44 (not (eqb (length main % 512) 0)) ∷ row 44 (not (surveyOf ℓ n main .good)) ∷ row 42 (eqb (surveyOf ℓ n main .blocks) 0) ∷ []) ≡ standsNumber main ℓ
 unfolding surveyOf standsNumber isWhole
-by-survey main ℓ n = go (eqb (length main % 512) 0) refl (isProper (faultOf limit) main) refl
+by-survey main ℓ n = go (eqb (length main % 512) 0) refl (isProper (readerNumber limit) main) refl
   where
-    go : (w : Bool) → eqb (length main % 512) 0 ≡ w → (p : Bool) → isProper (faultOf limit) main ≡ p
+    go : (w : Bool) → eqb (length main % 512) 0 ≡ w → (p : Bool) → isProper (readerNumber limit) main ≡ p
         → given (row 44 (not w) ∷ row 44 (not p) ∷ row 42 (eqb (length (findIn ℓ (itemsOf main))) 0) ∷ [])
         ≡ given (row 44 (not w) ∷ row 44 (not p) ∷ row 42 (not (hasIn ℓ (itemsOf main))) ∷ [])
     go false w p q = refl
     go true w false q = refl
     go true w true q =
         ap (λ (t : Bool). given (row 42 t ∷ []))
-        (none-there (faultOf limit) (file-reader limit) (length main / 512) ℓ main (let h = eqb-true (length main % 512) 0 w in record { size = omega arith; proper = q }))
+        (none-there (readerNumber limit) (file-reader limit) (length main / 512) ℓ main (let h = eqb-true (length main % 512) 0 w in record { size = omega arith; proper = q }))
 
 -- where the number is 0: a proper store with the letter in it
 pub record There (main : List ℕ) (ℓ : ℕ) : Type 0 where
   pub whole : isWhole main ≡ true
-  pub store : Proper (faultOf limit) (length main / 512) main
+  pub store : Proper (readerNumber limit) (length main / 512) main
   pub has : hasIn ℓ (itemsOf main) ≡ true
 
 pub there : (main : List ℕ) (ℓ : ℕ) → standsNumber main ℓ ≡ 0 → There main ℓ
@@ -52,7 +52,7 @@ unfolding standsNumber
 there main ℓ e =
     let n : NoRow (standsRows main ℓ) = given-no-row (standsRows main ℓ) refl e in
     let w = not-false (isWhole main) (no-head n) in
-    let p = not-false (isProper (faultOf limit) main) (no-head (no-tail n)) in
+    let p = not-false (isProper (readerNumber limit) main) (no-head (no-tail n)) in
     record { whole = w; store = store-of main w p; has = not-false (hasIn ℓ (itemsOf main)) (no-head (no-tail (no-tail n))) }
 
 -- what is returned of a find that stands, and of one that is refused
@@ -61,7 +61,7 @@ unfolding standsOf
 stands-there main ℓ e =
     let t = there main ℓ e in
     if-true (eqb (standsNumber main ℓ) 0) _ _ (eq-eqb _ 0 e)
-    ∙ ap (λ (k : ℕ). record { number = 0; from = 512 * placeIn ℓ 0 (itemsOf main); size = k }) (found-long (faultOf limit) (file-reader limit) (length main / 512) ℓ main (t .store))
+    ∙ ap (λ (k : ℕ). record { number = 0; from = 512 * placeIn ℓ 0 (itemsOf main); size = k }) (found-long (readerNumber limit) (file-reader limit) (length main / 512) ℓ main (t .store))
 
 pub stands-not : (main : List ℕ) (ℓ n : ℕ) → n ≡ standsNumber main ℓ → (n ≡ 0 → ⊥) → standsOf main ℓ ≡ record { number = n; from = 0; size = 0 }
 unfolding standsOf
@@ -95,21 +95,21 @@ module _ (main : List ℕ) (ℓ : ℕ) (r : Stands) (e : r ≡ standsOf main ℓ
     pub stands-ends : r .from + r .size ≤ length main
     stands-ends =
         let t = there main ℓ none in
-        let h = found-ends (faultOf limit) (file-reader limit) (length main / 512) ℓ main (t .store) (t .has) in
+        let h = found-ends (readerNumber limit) (file-reader limit) (length main / 512) ℓ main (t .store) (t .has) in
         let a = from-is in let b = size-is in omega arith
 
-    pub stands-bytes : midOf (r .from) (r .from + r .size - r .from) main ≡ findOf (faultOf limit) ℓ main
+    pub stands-bytes : midOf (r .from) (r .from + r .size - r .from) main ≡ findOf (readerNumber limit) ℓ main
     stands-bytes =
         let t = there main ℓ none in
         let k : r .from + r .size - r .from ≡ 512 * length (findIn ℓ (itemsOf main)) = (let b = size-is in omega arith) in
         ap (λ (n : ℕ). take n (drop (r .from) main)) k
         ∙ ap (λ (n : ℕ). take (512 * length (findIn ℓ (itemsOf main))) (drop n main)) from-is
-        ∙ found-bytes (faultOf limit) (file-reader limit) (length main / 512) ℓ main (t .store) (t .has)
+        ∙ found-bytes (readerNumber limit) (file-reader limit) (length main / 512) ℓ main (t .store) (t .has)
 
-    pub stands-long : r .size ≡ length (findOf (faultOf limit) ℓ main)
-    stands-long = size-is ∙ sym (found-long (faultOf limit) (file-reader limit) (length main / 512) ℓ main (there main ℓ none .store))
+    pub stands-long : r .size ≡ length (findOf (readerNumber limit) ℓ main)
+    stands-long = size-is ∙ sym (found-long (readerNumber limit) (file-reader limit) (length main / 512) ℓ main (there main ℓ none .store))
 
-    pub found-made : foundIn main ℓ ≡ made (findOf (faultOf limit) ℓ main)
+    pub found-made : foundIn main ℓ ≡ made (findOf (readerNumber limit) ℓ main)
     unfolding foundIn
     found-made = if-true (eqb (standsNumber main ℓ) 0) _ _ (eq-eqb _ 0 none)
 
@@ -122,7 +122,7 @@ module _ (main : List ℕ) (ℓ : ℕ) (r : Stands) (e : r ≡ standsOf main ℓ
 -- what a find returns and leaves, and what a reading does, by where the file stands
 module _ (main : List ℕ) (ℓ : ℕ) (r : Stands) (e : r ≡ standsOf main ℓ) (room : List ℕ) where
   abbrev File : List ℕ
-  File = findOf (faultOf limit) ℓ main
+  File = findOf (readerNumber limit) ℓ main
 
   pub find-refused : (r .number ≡ 0 → ⊥)
       → (record { number = r .number; length = 0 } ≡ foundAs (inRoom (length room) (foundIn main ℓ))) × (room ≡ leftIn room (inRoom (length room) (foundIn main ℓ)))

@@ -10,7 +10,7 @@ use lib.Dec.{eqb, ltb}
 use borrow.Author.Tests.{eqb-true, eqb-false, eq-eqb, ne-eqb, ltb-false, ltb-true, lt-ltb, le-ltb}
 use Rattle.common.specs.Choice.{if_then_else_}
 use Rattle.common.proofs.Choice.{if-true, if-false}
-use Rattle.store_places.specs.Store.{Judgement, Reader, cut, join, Item, itemsFrom, placesOf, properIn, hasIn, findIn, liveIn, without, runFor, addedIn, noRoom, laidIn, slidIn, placesIn, itemsIn, isProper, findOf, dropOf, addOf, findNo, addNo, Change, adds, drops, noOf, doneBy, changed, changedAll, nowUnder, lastUnder, doneIn, Proper}
+use Rattle.store_places.specs.Store.{Judgement, Reader, cut, join, Item, itemsFrom, placesOf, properIn, hasIn, findIn, liveIn, without, runFor, addedIn, noRoom, laidIn, slidIn, placesIn, itemsIn, isProper, findOf, dropOf, addOf, findPlaceNumber, addPlaceNumber, Change, adds, drops, changePlaceNumber, doneBy, changed, changedAll, nowUnder, lastUnder, doneIn, Proper}
 use Rattle.store_places.proofs.Places.{Whole, whole-cut, join-length, cut-length, join-cut, cut-join}
 use Rattle.store_places.proofs.Items.{Good, good-whole, not-both, read-back, printed}
 use Rattle.store_places.proofs.Changes.{without-good, without-dead, without-none, without-find, without-proper, without-size, live-without, added, added-size, run-room}
@@ -94,8 +94,8 @@ module _ (fault : Judgement) (R : Reader fault) (N : ℕ) where
       record { size = o .0; proper = ap properIn (o .1) ∙ without-proper ℓ (itemsIn fault main) (P .proper) }
 
   -- what an add that is not refused found
-  pub add-let : (ℓ : ℕ) (b main : List ℕ) → Proper fault N main → addNo fault ℓ b main ≡ 0 → (fault ℓ b ≡ 0) × (noRoom N ℓ (placesIn b) (itemsIn fault main) ≡ false)
-  unfolding addNo
+  pub add-let : (ℓ : ℕ) (b main : List ℕ) → Proper fault N main → addPlaceNumber fault ℓ b main ≡ 0 → (fault ℓ b ≡ 0) × (noRoom N ℓ (placesIn b) (itemsIn fault main) ≡ false)
+  unfolding addPlaceNumber
   add-let ℓ b main P e =
       let I = itemsIn fault main in
       let X : ℕ = (if not (isProper fault main) then 44 else if noRoom (length main / 512) ℓ (placesIn b) I then 43 else 0) in
@@ -108,7 +108,7 @@ module _ (fault : Judgement) (R : Reader fault) (N : ℕ) where
       go zero x q e = (q, e)
       go (suc n) x q e = absurd (let y : suc n ≡ 0 = sym (if-true (not (eqb (suc n) 0)) (suc n) x (ap not (ne-eqb (suc n) 0 (λ (w : suc n ≡ 0). omega arith)))) ∙ e in omega arith)
 
-  pub add-proper : (ℓ : ℕ) (b main : List ℕ) → Proper fault N main → addNo fault ℓ b main ≡ 0 → Proper fault N (addOf fault ℓ b main)
+  pub add-proper : (ℓ : ℕ) (b main : List ℕ) → Proper fault N main → addPlaceNumber fault ℓ b main ≡ 0 → Proper fault N (addOf fault ℓ b main)
   unfolding isProper
   add-proper ℓ b main P e =
       let f = add-let ℓ b main P e in
@@ -116,7 +116,7 @@ module _ (fault : Judgement) (R : Reader fault) (N : ℕ) where
       record { size = o .0; proper = ap properIn (o .1) ∙ added N ℓ (placesIn b) (itemsIn fault main) .proper (without-proper ℓ (itemsIn fault main) (P .proper)) }
 
   -- ---- what is found afterwards
-  pub found-added : (ℓ : ℕ) (b main : List ℕ) → Proper fault N main → addNo fault ℓ b main ≡ 0 → findOf fault ℓ (addOf fault ℓ b main) ≡ b
+  pub found-added : (ℓ : ℕ) (b main : List ℕ) → Proper fault N main → addPlaceNumber fault ℓ b main ≡ 0 → findOf fault ℓ (addOf fault ℓ b main) ≡ b
   unfolding findOf
   found-added ℓ b main P e =
       let f = add-let ℓ b main P e in
@@ -126,7 +126,7 @@ module _ (fault : Judgement) (R : Reader fault) (N : ℕ) where
       ∙ ap join (added N ℓ (placesIn b) I .find ℓ ∙ if-true (eqb ℓ ℓ) (placesIn b) _ (eq-eqb ℓ ℓ refl))
       ∙ new-right ℓ b (f .0) .1
 
-  pub found-beside : (ℓ m : ℕ) (b main : List ℕ) → Proper fault N main → addNo fault ℓ b main ≡ 0 → (ℓ ≡ m → ⊥) → findOf fault m (addOf fault ℓ b main) ≡ findOf fault m main
+  pub found-beside : (ℓ m : ℕ) (b main : List ℕ) → Proper fault N main → addPlaceNumber fault ℓ b main ≡ 0 → (ℓ ≡ m → ⊥) → findOf fault m (addOf fault ℓ b main) ≡ findOf fault m main
   unfolding findOf
   found-beside ℓ m b main P e n =
       let f = add-let ℓ b main P e in
@@ -145,15 +145,15 @@ module _ (fault : Judgement) (R : Reader fault) (N : ℕ) where
   found-kept ℓ m main P n = ap (λ (x : List Item). join (findIn m x)) (drop-items ℓ main P .1) ∙ ap join (without-find ℓ m (itemsIn fault main) (ne-eqb ℓ m n))
 
   -- and the numbers: 42 exactly when the letter is not there, in a proper store
-  pub refused-42 : (ℓ : ℕ) (main : List ℕ) → Proper fault N main → findNo fault ℓ main ≡ (if hasIn ℓ (itemsIn fault main) then 0 else 42)
-  unfolding findNo
+  pub refused-42 : (ℓ : ℕ) (main : List ℕ) → Proper fault N main → findPlaceNumber fault ℓ main ≡ (if hasIn ℓ (itemsIn fault main) then 0 else 42)
+  unfolding findPlaceNumber
   refused-42 ℓ main P = if-false (not (isProper fault main)) 44 _ (ap not (P .proper)) ∙ turned (hasIn ℓ (itemsIn fault main))
     where
       turned : (t : Bool) → (if not t then 42 else 0) ≡ if_then_else_ {A = ℕ} t 0 42
       turned true = refl
       turned false = refl
 
-  pub dropped-42 : (ℓ : ℕ) (main : List ℕ) → Proper fault N main → findNo fault ℓ (dropOf fault ℓ main) ≡ 42
+  pub dropped-42 : (ℓ : ℕ) (main : List ℕ) → Proper fault N main → findPlaceNumber fault ℓ (dropOf fault ℓ main) ≡ 42
   dropped-42 ℓ main P =
       refused-42 ℓ (dropOf fault ℓ main) (drop-proper ℓ main P)
       ∙ if-false (hasIn ℓ (itemsIn fault (dropOf fault ℓ main))) 0 42 (ap (hasIn ℓ) (drop-items ℓ main P .1) ∙ without-dead ℓ (itemsIn fault main))
@@ -161,14 +161,14 @@ module _ (fault : Judgement) (R : Reader fault) (N : ℕ) where
   -- ---- any list of changes
   pub changed-proper : (c : Change) (main : List ℕ) → Proper fault N main → Proper fault N (changed fault c main)
   unfolding changed
-  changed-proper c main P = go c (eqb (noOf fault c main) 0) refl
+  changed-proper c main P = go c (eqb (changePlaceNumber fault c main) 0) refl
     where
-      go : (c : Change) (t : Bool) → eqb (noOf fault c main) 0 ≡ t → Proper fault N (if t then doneBy fault c main else main)
+      go : (c : Change) (t : Bool) → eqb (changePlaceNumber fault c main) 0 ≡ t → Proper fault N (if t then doneBy fault c main else main)
       go (adds ℓ b) true q = add-proper ℓ b main P (eqb-true _ 0 q)
       go (drops ℓ) true q = drop-proper ℓ main P
       go c false q = P
 
-  pub found-changed : (m : ℕ) (c : Change) (main : List ℕ) → Proper fault N main → noOf fault c main ≡ 0 → findOf fault m (doneBy fault c main) ≡ nowUnder m c (findOf fault m main)
+  pub found-changed : (m : ℕ) (c : Change) (main : List ℕ) → Proper fault N main → changePlaceNumber fault c main ≡ 0 → findOf fault m (doneBy fault c main) ≡ nowUnder m c (findOf fault m main)
   found-changed m (adds ℓ b) main P e = go (eqb ℓ m) refl
     where
       go : (t : Bool) → eqb ℓ m ≡ t → findOf fault m (addOf fault ℓ b main) ≡ (if eqb ℓ m then b else findOf fault m main)
@@ -184,11 +184,11 @@ module _ (fault : Judgement) (R : Reader fault) (N : ℕ) where
   last-append m [] ds was = refl
   last-append m (c ∷ cs) ds was = last-append m cs ds (nowUnder m c was)
 
-  one-changed : (m : ℕ) (c : Change) (main : List ℕ) → Proper fault N main → findOf fault m (changed fault c main) ≡ lastUnder m (if eqb (noOf fault c main) 0 then c ∷ [] else []) (findOf fault m main)
+  one-changed : (m : ℕ) (c : Change) (main : List ℕ) → Proper fault N main → findOf fault m (changed fault c main) ≡ lastUnder m (if eqb (changePlaceNumber fault c main) 0 then c ∷ [] else []) (findOf fault m main)
   unfolding changed
-  one-changed m c main P = go (eqb (noOf fault c main) 0) refl
+  one-changed m c main P = go (eqb (changePlaceNumber fault c main) 0) refl
     where
-      go : (t : Bool) → eqb (noOf fault c main) 0 ≡ t → findOf fault m (if t then doneBy fault c main else main) ≡ lastUnder m (if t then c ∷ [] else []) (findOf fault m main)
+      go : (t : Bool) → eqb (changePlaceNumber fault c main) 0 ≡ t → findOf fault m (if t then doneBy fault c main else main) ≡ lastUnder m (if t then c ∷ [] else []) (findOf fault m main)
       go true q = found-changed m c main P (eqb-true _ 0 q)
       go false q = refl
 
@@ -196,7 +196,7 @@ module _ (fault : Judgement) (R : Reader fault) (N : ℕ) where
       → findOf fault m (changedAll fault cs main) ≡ lastUnder m (doneIn fault cs main) (findOf fault m main)
   found-last m [] main P = refl
   found-last m (c ∷ cs) main P =
-      let D = (if eqb (noOf fault c main) 0 then c ∷ [] else []) in
+      let D = (if eqb (changePlaceNumber fault c main) 0 then c ∷ [] else []) in
       found-last m cs (changed fault c main) (changed-proper c main P)
       ∙ ap (lastUnder m (doneIn fault cs (changed fault c main))) (one-changed m c main P)
       ∙ sym (last-append m D (doneIn fault cs (changed fault c main)) (findOf fault m main))
@@ -207,8 +207,8 @@ module _ (fault : Judgement) (R : Reader fault) (N : ℕ) where
 
   -- ---- no room exactly when the live blocks without the replaced file and the new ones exceed N
   pub room-number : (ℓ : ℕ) (b main : List ℕ) → Proper fault N main → fault ℓ b ≡ 0
-      → addNo fault ℓ b main ≡ (if ltb N (liveIn (without ℓ (itemsIn fault main)) + getD b 2 0) then 43 else 0)
-  unfolding addNo noRoom
+      → addPlaceNumber fault ℓ b main ≡ (if ltb N (liveIn (without ℓ (itemsIn fault main)) + getD b 2 0) then 43 else 0)
+  unfolding addPlaceNumber noRoom
   room-number ℓ b main P z =
       let I = itemsIn fault main in
       let n = proper-read main P .places in
@@ -218,8 +218,8 @@ module _ (fault : Judgement) (R : Reader fault) (N : ℕ) where
       ∙ ap (λ (x : ℕ). (if ltb x (liveIn (without ℓ I) + length (placesIn b)) then 43 else 0)) n
       ∙ ap (λ (x : ℕ). (if ltb N (liveIn (without ℓ I) + x) then 43 else 0)) k
 
-  pub no-room : (ℓ : ℕ) (b main : List ℕ) → Proper fault N main → fault ℓ b ≡ 0 → addNo fault ℓ b main ≡ 43 ↔ (N < liveIn (without ℓ (itemsIn fault main)) + getD b 2 0)
-  no-room ℓ b main P z = (λ (e : addNo fault ℓ b main ≡ 43). go (ltb N S) refl (sym (room-number ℓ b main P z) ∙ e), λ (h : N < S). room-number ℓ b main P z ∙ if-true (ltb N S) 43 0 (lt-ltb N S h))
+  pub no-room : (ℓ : ℕ) (b main : List ℕ) → Proper fault N main → fault ℓ b ≡ 0 → addPlaceNumber fault ℓ b main ≡ 43 ↔ (N < liveIn (without ℓ (itemsIn fault main)) + getD b 2 0)
+  no-room ℓ b main P z = (λ (e : addPlaceNumber fault ℓ b main ≡ 43). go (ltb N S) refl (sym (room-number ℓ b main P z) ∙ e), λ (h : N < S). room-number ℓ b main P z ∙ if-true (ltb N S) 43 0 (lt-ltb N S h))
     where
       S : ℕ
       S = liveIn (without ℓ (itemsIn fault main)) + getD b 2 0
@@ -228,8 +228,8 @@ module _ (fault : Judgement) (R : Reader fault) (N : ℕ) where
       go true q e = ltb-true N S q
       go false q e = absurd (omega arith)
 
-  pub room : (ℓ : ℕ) (b main : List ℕ) → Proper fault N main → fault ℓ b ≡ 0 → addNo fault ℓ b main ≡ 0 ↔ (liveIn (without ℓ (itemsIn fault main)) + getD b 2 0 ≤ N)
-  room ℓ b main P z = (λ (e : addNo fault ℓ b main ≡ 0). go (ltb N S) refl (sym (room-number ℓ b main P z) ∙ e), λ (h : S ≤ N). room-number ℓ b main P z ∙ if-false (ltb N S) 43 0 (le-ltb N S h))
+  pub room : (ℓ : ℕ) (b main : List ℕ) → Proper fault N main → fault ℓ b ≡ 0 → addPlaceNumber fault ℓ b main ≡ 0 ↔ (liveIn (without ℓ (itemsIn fault main)) + getD b 2 0 ≤ N)
+  room ℓ b main P z = (λ (e : addPlaceNumber fault ℓ b main ≡ 0). go (ltb N S) refl (sym (room-number ℓ b main P z) ∙ e), λ (h : S ≤ N). room-number ℓ b main P z ∙ if-false (ltb N S) 43 0 (le-ltb N S h))
     where
       S : ℕ
       S = liveIn (without ℓ (itemsIn fault main)) + getD b 2 0
@@ -244,7 +244,7 @@ module _ (fault : Judgement) (R : Reader fault) (N : ℕ) where
   live-less ℓ main P = live-without ℓ (itemsIn fault main) (P .proper)
 
   -- a run long enough is never there without room: the order of the two questions does not matter
-  pub run-fits : (ℓ : ℕ) (b main : List ℕ) → Proper fault N main → fault ℓ b ≡ 0 → runFor ℓ (placesIn b) (itemsIn fault main) ≡ true → addNo fault ℓ b main ≡ 0
+  pub run-fits : (ℓ : ℕ) (b main : List ℕ) → Proper fault N main → fault ℓ b ≡ 0 → runFor ℓ (placesIn b) (itemsIn fault main) ≡ true → addPlaceNumber fault ℓ b main ≡ 0
   run-fits ℓ b main P z h =
       let I = itemsIn fault main in
       let r = run-room ℓ (placesIn b) (without ℓ I) (without-dead ℓ I) h in

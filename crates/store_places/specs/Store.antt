@@ -211,12 +211,12 @@ addRows fault ℓ b main after =
     ∷ after
 
 -- the first refusal of a find or a drop, 0 where there is none
-unfoldable pub findNo : Judgement → ℕ → List ℕ → ℕ
-findNo fault ℓ main = given (findRows fault ℓ main [])
+unfoldable pub findPlaceNumber : Judgement → ℕ → List ℕ → ℕ
+findPlaceNumber fault ℓ main = given (findRows fault ℓ main [])
 
 -- the first refusal of an add, 0 where there is none
-unfoldable pub addNo : Judgement → ℕ → List ℕ → List ℕ → ℕ
-addNo fault ℓ b main = given (addRows fault ℓ b main [])
+unfoldable pub addPlaceNumber : Judgement → ℕ → List ℕ → List ℕ → ℕ
+addPlaceNumber fault ℓ b main = given (addRows fault ℓ b main [])
 
 -- a change of the store: a file added under a letter, a letter dropped
 pub data Change : Type 0 where
@@ -224,9 +224,9 @@ pub data Change : Type 0 where
   drops : ℕ → Change
 
 -- the refusal of a change, 0 where there is none
-abbrev pub noOf : Judgement → Change → List ℕ → ℕ
-noOf fault (adds ℓ b) main = addNo fault ℓ b main
-noOf fault (drops ℓ) main = findNo fault ℓ main
+abbrev pub changePlaceNumber : Judgement → Change → List ℕ → ℕ
+changePlaceNumber fault (adds ℓ b) main = addPlaceNumber fault ℓ b main
+changePlaceNumber fault (drops ℓ) main = findPlaceNumber fault ℓ main
 
 -- the block after a change that is not refused
 abbrev pub doneBy : Judgement → Change → List ℕ → List ℕ
@@ -235,7 +235,7 @@ doneBy fault (drops ℓ) main = dropOf fault ℓ main
 
 -- the block after a change: as it was where it is refused
 unfoldable pub changed : Judgement → Change → List ℕ → List ℕ
-changed fault c main = if eqb (noOf fault c main) 0 then doneBy fault c main else main
+changed fault c main = if eqb (changePlaceNumber fault c main) 0 then doneBy fault c main else main
 
 -- the block after a list of changes, one after the other
 abbrev pub changedAll : Judgement → List Change → List ℕ → List ℕ
@@ -245,7 +245,7 @@ changedAll fault (c ∷ cs) main = changedAll fault cs (changed fault c main)
 -- the changes of the list that were not refused
 abbrev pub doneIn : Judgement → List Change → List ℕ → List Change
 doneIn fault [] main = []
-doneIn fault (c ∷ cs) main = (if eqb (noOf fault c main) 0 then c ∷ [] else []) ++ doneIn fault cs (changed fault c main)
+doneIn fault (c ∷ cs) main = (if eqb (changePlaceNumber fault c main) 0 then c ∷ [] else []) ++ doneIn fault cs (changed fault c main)
 
 -- the file that one change leaves under letter m, `was` the one that stood there: the file added, none where it is dropped
 abbrev pub nowUnder : ℕ → Change → List ℕ → List ℕ

@@ -1,4 +1,4 @@
--- One turn of the code's loop over the places, and its start.
+-- One round of the code's loop over the places, and its start.
 use mathlib.Core.Path.{_≡_, refl, sym, _∙_, ap, subst}
 use mathlib.Core.List.{List}
 use mathlib.Core.Bool.{Bool, true, false}
@@ -12,7 +12,7 @@ use Rattle.store_survey.specs.declared.Spot.{Spot}
 use Rattle.store_survey.specs.declared.Spot.the-variants.{Blank, Dead, File, Junk}
 use Rattle.store_survey.specs.declared.Survey.{Survey}
 use Rattle.store_survey.proofs.Walking.{properWith, set-long}
-use Rattle.store_survey.proofs.Turning.{Walked, turned}
+use Rattle.store_survey.proofs.Rounds.{Walked, round}
 use Rattle.store_survey.proofs.Spots.{leftAt, left-next, all-lettered}
 
 pub begun : (ℓ n : ℕ) (main : List ℕ) (seen : List ℕ) → seen ≡ replicate 256 0
@@ -46,7 +46,7 @@ carried ℓ n main I₀ p seen seen′ s s′ spot again r h es ea ed em er w =
     let x = left-next main p h in
     let q : spotBy (x .0) ≡ spot = x .2 ∙ sym es in
     let v = subst (λ (I : List Item). Walked ℓ n I₀ p seen s I) (x .1) w in
-    let u = turned ℓ n I₀ p seen s (x .0) (leftAt main (p + 1 + moreBy (spotBy (x .0)))) v in
+    let u = round ℓ n I₀ p seen s (x .0) (leftAt main (p + 1 + moreBy (spotBy (x .0)))) v in
     let a : Walked ℓ n I₀ (p + 1 + moreBy spot) (seenBy seen spot) (noteOf s spot p (twiceOf seen spot) ℓ n) (leftAt main (p + 1 + moreBy spot)) =
     subst (λ (z : Spot). Walked ℓ n I₀ (p + 1 + moreBy z) (seenBy seen z) (noteOf s z p (twiceOf seen z) ℓ n) (leftAt main (p + 1 + moreBy z))) q u in
     let b = subst (λ (z : Bool). Walked ℓ n I₀ (p + 1 + moreBy spot) (seenBy seen spot) (noteOf s spot p z ℓ n) (leftAt main (p + 1 + moreBy spot))) (sym ea) a in

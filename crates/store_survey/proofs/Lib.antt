@@ -1,6 +1,6 @@
 pub mod Reader
 pub mod Walking
-pub mod Turning
+pub mod Rounds
 pub mod Spots
 pub mod Carried
 pub mod Unique

@@ -14,12 +14,12 @@ use Rattle.file_block.specs.Block.{isLetter, letterWrong, placeWrong}
 use Rattle.file_block.proofs.Tables.{none-of-two, right}
 use Rattle.file_codec.specs.File.{readRows, readerOf, refused, made, payloadOf, blocksIn, blocksRows, judgedAs}
 use Rattle.file_codec.proofs.Outcomes.{outcome-made, length-right, reader-lets}
-use Rattle.file_codec.specs.declared.Judged.the-variants.{Sound, Unsound}
+use Rattle.file_codec.specs.declared.Judged.the-variants.{Sound, Refused}
 use Rattle.store_places.specs.Store.{Reader}
-use Rattle.store_survey.specs.Survey.{faultOf}
+use Rattle.store_survey.specs.Survey.{readerNumber}
 
 -- 0 is exactly 'read': the outcome is the payload
-pub read-made : (most ℓ : ℕ) (b : List ℕ) → faultOf most ℓ b ≡ 0 → readerOf most b ℓ ≡ made (payloadOf (blocksIn b) b)
+pub read-made : (most ℓ : ℕ) (b : List ℕ) → readerNumber most ℓ b ≡ 0 → readerOf most b ℓ ≡ made (payloadOf (blocksIn b) b)
 unfolding readerOf
 read-made most ℓ b z = outcome-made (given (readRows most b ℓ [])) (payloadOf (blocksIn b) b) z
 
@@ -39,7 +39,7 @@ record First (most ℓ : ℕ) (b : List ℕ) : Type 0 where
   lettered : getD b 0 0 ≡ ℓ
   letter : isLetter ℓ ≡ true
 
-first : (most ℓ : ℕ) (b : List ℕ) → faultOf most ℓ b ≡ 0 → First most ℓ b
+first : (most ℓ : ℕ) (b : List ℕ) → readerNumber most ℓ b ≡ 0 → First most ℓ b
 unfolding letterWrong placeWrong
 first most ℓ b z =
     let o = reader-lets most b ℓ (payloadOf (blocksIn b) b) (read-made most ℓ b z) in
@@ -60,36 +60,36 @@ first most ℓ b z =
       letter = ap isLetter (sym e) ∙ not-false _ (x .0);
     }
 
-pub letter-of : (most ℓ : ℕ) (b : List ℕ) → faultOf most ℓ b ≡ 0 → isLetter ℓ ≡ true
+pub letter-of : (most ℓ : ℕ) (b : List ℕ) → readerNumber most ℓ b ≡ 0 → isLetter ℓ ≡ true
 letter-of most ℓ b z = first most ℓ b z .letter
 
 no-letter : (ℓ m : ℕ) → isLetter ℓ ≡ true → isLetter m ≡ false → ℓ ≡ m → ⊥
 no-letter ℓ m p q e = let u : true ≡ false = sym p ∙ ap isLetter e ∙ q in let z : _≡_ {A = ℕ} 0 1 = cc in omega arith
 
 -- the reader of load files is a reader for the store, whatever the limit of blocks
-pub file-reader : (most : ℕ) → Reader (faultOf most)
+pub file-reader : (most : ℕ) → Reader (readerNumber most)
 file-reader most =
     record {
-      counted = λ (ℓ : ℕ) (b : List ℕ) (z : faultOf most ℓ b ≡ 0). first most ℓ b z .counted;
-      some = λ (ℓ : ℕ) (b : List ℕ) (z : faultOf most ℓ b ≡ 0). first most ℓ b z .some;
-      lettered = λ (ℓ : ℕ) (b : List ℕ) (z : faultOf most ℓ b ≡ 0). first most ℓ b z .lettered;
-      not-dead = λ (ℓ : ℕ) (b : List ℕ) (z : faultOf most ℓ b ≡ 0) (e : ℓ ≡ 0). no-letter ℓ 0 (first most ℓ b z .letter) not-letter-0 e;
-      not-blank = λ (ℓ : ℕ) (b : List ℕ) (z : faultOf most ℓ b ≡ 0) (e : ℓ ≡ 255). no-letter ℓ 255 (first most ℓ b z .letter) not-letter-255 e;
+      counted = λ (ℓ : ℕ) (b : List ℕ) (z : readerNumber most ℓ b ≡ 0). first most ℓ b z .counted;
+      some = λ (ℓ : ℕ) (b : List ℕ) (z : readerNumber most ℓ b ≡ 0). first most ℓ b z .some;
+      lettered = λ (ℓ : ℕ) (b : List ℕ) (z : readerNumber most ℓ b ≡ 0). first most ℓ b z .lettered;
+      not-dead = λ (ℓ : ℕ) (b : List ℕ) (z : readerNumber most ℓ b ≡ 0) (e : ℓ ≡ 0). no-letter ℓ 0 (first most ℓ b z .letter) not-letter-0 e;
+      not-blank = λ (ℓ : ℕ) (b : List ℕ) (z : readerNumber most ℓ b ≡ 0) (e : ℓ ≡ 255). no-letter ℓ 255 (first most ℓ b z .letter) not-letter-255 e;
     }
 
 -- ---- the judgement as the number
-pub sound-yes : (most ℓ : ℕ) (f : List ℕ) (k : ℕ) → judgedAs (readerOf most f ℓ) ≡ Sound k → eqb (faultOf most ℓ f) 0 ≡ true
+pub sound-yes : (most ℓ : ℕ) (f : List ℕ) (k : ℕ) → judgedAs (readerOf most f ℓ) ≡ Sound k → eqb (readerNumber most ℓ f) 0 ≡ true
 unfolding readerOf
 sound-yes most ℓ f k e = go (given (readRows most f ℓ [])) (payloadOf (blocksIn f) f) (eqb (given (readRows most f ℓ [])) 0) refl e
   where
     go : (n : ℕ) (p : List ℕ) (t : Bool) → eqb n 0 ≡ t → judgedAs (if eqb n 0 then made p else refused n) ≡ Sound k → eqb n 0 ≡ true
     go n p true q e = q
-    go n p false q e = absurd (let w : Unsound n ≡ Sound k = sym (ap (λ (x : Bool). judgedAs (if x then made p else refused n)) q) ∙ e in let z : _≡_ {A = ℕ} 0 1 = cc in omega arith)
+    go n p false q e = absurd (let w : Refused n ≡ Sound k = sym (ap (λ (x : Bool). judgedAs (if x then made p else refused n)) q) ∙ e in let z : _≡_ {A = ℕ} 0 1 = cc in omega arith)
 
-pub sound-not : (most ℓ : ℕ) (f : List ℕ) (k : ℕ) → judgedAs (readerOf most f ℓ) ≡ Unsound k → eqb (faultOf most ℓ f) 0 ≡ false
+pub sound-not : (most ℓ : ℕ) (f : List ℕ) (k : ℕ) → judgedAs (readerOf most f ℓ) ≡ Refused k → eqb (readerNumber most ℓ f) 0 ≡ false
 unfolding readerOf
 sound-not most ℓ f k e = go (given (readRows most f ℓ [])) (payloadOf (blocksIn f) f) (eqb (given (readRows most f ℓ [])) 0) refl e
   where
-    go : (n : ℕ) (p : List ℕ) (t : Bool) → eqb n 0 ≡ t → judgedAs (if eqb n 0 then made p else refused n) ≡ Unsound k → eqb n 0 ≡ false
+    go : (n : ℕ) (p : List ℕ) (t : Bool) → eqb n 0 ≡ t → judgedAs (if eqb n 0 then made p else refused n) ≡ Refused k → eqb n 0 ≡ false
     go n p false q e = q
-    go n p true q e = absurd (let w : Sound (length p) ≡ Unsound k = sym (ap (λ (x : Bool). judgedAs (if x then made p else refused n)) q) ∙ e in let z : _≡_ {A = ℕ} 0 1 = cc in omega arith)
+    go n p true q e = absurd (let w : Sound (length p) ≡ Refused k = sym (ap (λ (x : Bool). judgedAs (if x then made p else refused n)) q) ∙ e in let z : _≡_ {A = ℕ} 0 1 = cc in omega arith)

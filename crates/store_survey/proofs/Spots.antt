@@ -16,14 +16,14 @@ use Rattle.file_codec.specs.File.{limit}
 use Rattle.store_places.specs.Store.{cut, join, isDead, Item, blank, dead, filed, junk, itemAt, moreOf, itemsFrom, properIn, findIn, liveIn, placesIn, itemsIn, isProper}
 use Rattle.store_places.proofs.Places.{cut-length}
 use Rattle.store_places.proofs.Items.{not-both, filed-some}
-use Rattle.store_survey.specs.Survey.{faultOf, spotBy, spotFirst, spotIn, placeIn, startIn, hasRun, surveyOf}
+use Rattle.store_survey.specs.Survey.{readerNumber, spotBy, spotFirst, spotIn, placeIn, startIn, hasRun, surveyOf}
 use Rattle.store_survey.specs.Inner.{soundOf, spotOf, moreBy}
 use Rattle.store_survey.specs.declared.Spot.{Spot}
 use Rattle.store_survey.specs.declared.Spot.the-variants.{Blank, Dead, File, Junk}
 use Rattle.store_survey.specs.declared.Survey.{Survey}
 use Rattle.store_survey.proofs.Reader.{file-reader, letter-of}
 use Rattle.store_survey.proofs.Walking.{Lettered, proper-none, fits-is, start-is}
-use Rattle.store_survey.proofs.Turning.{Walked}
+use Rattle.store_survey.proofs.Rounds.{Walked}
 
 -- ---- cutting
 take-cut : (n k : ℕ) (b : List ℕ) → n ≤ k → take n (cut k b) ≡ cut n b
@@ -56,10 +56,10 @@ blank-512 : (b : List ℕ) → 512 ≤ length b → isBlank (take 512 b) ≡ all
 unfolding isBlank
 blank-512 b h = if-true (eqb (length (take 512 b)) 512) (allAre 255 (take 512 b)) false (eq-eqb (length (take 512 b)) 512 (length-take-le 512 b h))
 
-spot-item : (k : ℕ) (b : List ℕ) → length b / 512 ≡ suc k → spotBy (itemAt (faultOf limit) (take 512 b) (cut k (drop 512 b))) ≡ spotOf b
+spot-item : (k : ℕ) (b : List ℕ) → length b / 512 ≡ suc k → spotBy (itemAt (readerNumber limit) (take 512 b) (cut k (drop 512 b))) ≡ spotOf b
 unfolding itemAt spotOf soundOf isDead
 spot-item k b l =
-    by-tests (eqb (getD B 0 0) 0) (isBlank B) (eqb (faultOf limit (getD B 0 0) (join (take (getD B 2 0) (cut (suc k) b)))) 0) B (getD B 0 0) (take (getD B 2 0) (cut (suc k) b))
+    by-tests (eqb (getD B 0 0) 0) (isBlank B) (eqb (readerNumber limit (getD B 0 0) (join (take (getD B 2 0) (cut (suc k) b)))) 0) B (getD B 0 0) (take (getD B 2 0) (cut (suc k) b))
     ∙ ap (λ (t : Bool). G (getD B 0 0) (getD B 2 0) t) (blank-512 b (omega arith))
     ∙ ap (λ (x : ℕ). G x (getD B 2 0) (allAre 255 B)) (getD-take 512 b 0 0 (omega arith))
     ∙ ap (λ (n : ℕ). G (getD b 0 0) n (allAre 255 B)) (getD-take 512 b 2 0 (omega arith))
@@ -69,14 +69,14 @@ spot-item k b l =
     B = take 512 b
 
     G : ℕ → ℕ → Bool → Spot
-    G x n t = if eqb x 0 then Dead else if t then Blank else if eqb (faultOf limit x (join (take n (cut (suc k) b)))) 0 then File x (length (take n (cut (suc k) b))) else Junk
+    G x n t = if eqb x 0 then Dead else if t then Blank else if eqb (readerNumber limit x (join (take n (cut (suc k) b)))) 0 then File x (length (take n (cut (suc k) b))) else Junk
 
     H : List (List ℕ) → Spot
-    H F = if eqb (faultOf limit (getD b 0 0) (join F)) 0 then File (getD b 0 0) (length F) else Junk
+    H F = if eqb (readerNumber limit (getD b 0 0) (join F)) 0 then File (getD b 0 0) (length F) else Junk
 
     go : (t : Bool) → ltb (length b) (512 * getD b 2 0) ≡ t
-        → (if eqb (faultOf limit (getD b 0 0) (join (take (getD b 2 0) (cut (suc k) b)))) 0 then File (getD b 0 0) (length (take (getD b 2 0) (cut (suc k) b))) else Junk)
-        ≡ (if ltb (length b) (512 * getD b 2 0) then Junk else if eqb (faultOf limit (getD b 0 0) (take (512 * getD b 2 0) b)) 0 then File (getD b 0 0) (getD b 2 0) else Junk)
+        → (if eqb (readerNumber limit (getD b 0 0) (join (take (getD b 2 0) (cut (suc k) b)))) 0 then File (getD b 0 0) (length (take (getD b 2 0) (cut (suc k) b))) else Junk)
+        ≡ (if ltb (length b) (512 * getD b 2 0) then Junk else if eqb (readerNumber limit (getD b 0 0) (take (512 * getD b 2 0) b)) 0 then File (getD b 0 0) (getD b 2 0) else Junk)
     go true q =
         let h : length b < 512 * getD b 2 0 = ltb-true _ _ q in
         let c : length (cut (suc k) b) ≡ suc k = cut-length (suc k) b in
@@ -85,16 +85,16 @@ spot-item k b l =
         let j : join (cut (suc k) b) ≡ T = join-some (suc k) b in
         let u : length T ≡ 512 * suc k = length-take-le (512 * suc k) b (omega arith) in
         let v : getD T 2 0 ≡ getD b 2 0 = getD-take (512 * suc k) b 2 0 (omega arith) in
-        let f : eqb (faultOf limit (getD b 0 0) (join (take (getD b 2 0) (cut (suc k) b)))) 0 ≡ false =
-        ap (λ (x : List ℕ). eqb (faultOf limit (getD b 0 0) x) 0) (ap join t ∙ j)
-        ∙ ne-eqb (faultOf limit (getD b 0 0) T) 0 (λ (z : faultOf limit (getD b 0 0) T ≡ 0). (let e = file-reader limit .counted (getD b 0 0) T z in omega arith)) in
-        if-false (eqb (faultOf limit (getD b 0 0) (join (take (getD b 2 0) (cut (suc k) b)))) 0) _ Junk f ∙ sym (if-true (ltb (length b) (512 * getD b 2 0)) Junk _ q)
+        let f : eqb (readerNumber limit (getD b 0 0) (join (take (getD b 2 0) (cut (suc k) b)))) 0 ≡ false =
+        ap (λ (x : List ℕ). eqb (readerNumber limit (getD b 0 0) x) 0) (ap join t ∙ j)
+        ∙ ne-eqb (readerNumber limit (getD b 0 0) T) 0 (λ (z : readerNumber limit (getD b 0 0) T ≡ 0). (let e = file-reader limit .counted (getD b 0 0) T z in omega arith)) in
+        if-false (eqb (readerNumber limit (getD b 0 0) (join (take (getD b 2 0) (cut (suc k) b)))) 0) _ Junk f ∙ sym (if-true (ltb (length b) (512 * getD b 2 0)) Junk _ q)
     go false q =
         let h : 512 * getD b 2 0 ≤ length b = ltb-false _ _ q in
         let t : take (getD b 2 0) (cut (suc k) b) ≡ cut (getD b 2 0) b = take-cut (getD b 2 0) (suc k) b (omega arith) in
         ap H t
-        ∙ ap (λ (x : List ℕ). if eqb (faultOf limit (getD b 0 0) x) 0 then File (getD b 0 0) (length (cut (getD b 2 0) b)) else Junk) (join-some (getD b 2 0) b)
-        ∙ ap (λ (n : ℕ). if eqb (faultOf limit (getD b 0 0) (take (512 * getD b 2 0) b)) 0 then File (getD b 0 0) n else Junk) (cut-length (getD b 2 0) b)
+        ∙ ap (λ (x : List ℕ). if eqb (readerNumber limit (getD b 0 0) x) 0 then File (getD b 0 0) (length (cut (getD b 2 0) b)) else Junk) (join-some (getD b 2 0) b)
+        ∙ ap (λ (n : ℕ). if eqb (readerNumber limit (getD b 0 0) (take (512 * getD b 2 0) b)) 0 then File (getD b 0 0) n else Junk) (cut-length (getD b 2 0) b)
         ∙ sym (if-false (ltb (length b) (512 * getD b 2 0)) Junk _ q)
 
 -- the bytes from a place on, as the code hands them over
@@ -121,9 +121,9 @@ spot-past main p h = let c = cut-length (length main / 512) main in ap spotFirst
 
 -- ---- the items that are left at place p
 abbrev pub leftAt : List ℕ → ℕ → List Item
-leftAt main p = itemsFrom (faultOf limit) 0 (drop p (placesIn main))
+leftAt main p = itemsFrom (readerNumber limit) 0 (drop p (placesIn main))
 
-skip-drop : (m : ℕ) (s : List (List ℕ)) → itemsFrom (faultOf limit) m s ≡ itemsFrom (faultOf limit) 0 (drop m s)
+skip-drop : (m : ℕ) (s : List (List ℕ)) → itemsFrom (readerNumber limit) m s ≡ itemsFrom (readerNumber limit) 0 (drop m s)
 skip-drop zero [] = refl
 skip-drop zero (p ∷ s) = refl
 skip-drop (suc m) [] = refl
@@ -143,10 +143,10 @@ left-next main p h =
     let q = getD L p [] in
     let S = drop (p + 1) L in
     let d : drop p L ≡ q ∷ S = drop-cons L p [] (omega arith) ∙ ap (λ (j : ℕ). q ∷ drop j L) (let z : suc p ≡ p + 1 = omega arith in z) in
-    let i = itemAt (faultOf limit) q S in
+    let i = itemAt (readerNumber limit) q S in
     let r : drop (moreOf i) S ≡ drop (p + 1 + moreBy (spotBy i)) L = drop-drop (moreOf i) (p + 1) L ∙ ap (λ (j : ℕ). drop (p + 1 + j) L) (more-spot i) in (
       i,
-      ap (itemsFrom (faultOf limit) 0) d ∙ ap (λ (x : List Item). i ∷ x) (skip-drop (moreOf i) S ∙ ap (itemsFrom (faultOf limit) 0) r),
+      ap (itemsFrom (readerNumber limit) 0) d ∙ ap (λ (x : List Item). i ∷ x) (skip-drop (moreOf i) S ∙ ap (itemsFrom (readerNumber limit) 0) r),
       sym (ap spotFirst d),
     )
 
@@ -174,23 +174,23 @@ letter-small : (x : ℕ) → isLetter x ≡ true → x < 256
 unfolding isLetter
 letter-small x h = small x letters letters-small h
 
-item-plain : (p : List ℕ) (s : List (List ℕ)) (is : List Item) → Lettered is → Lettered (itemAt (faultOf limit) p s ∷ is)
+item-plain : (p : List ℕ) (s : List (List ℕ)) (is : List Item) → Lettered is → Lettered (itemAt (readerNumber limit) p s ∷ is)
 unfolding itemAt
-item-plain p s is w = go (isDead p) (isBlank p) (eqb (faultOf limit (getD p 0 0) (join (take (getD p 2 0) (p ∷ s)))) 0) refl
+item-plain p s is w = go (isDead p) (isBlank p) (eqb (readerNumber limit (getD p 0 0) (join (take (getD p 2 0) (p ∷ s)))) 0) refl
   where
-    go : (a b c : Bool) → eqb (faultOf limit (getD p 0 0) (join (take (getD p 2 0) (p ∷ s)))) 0 ≡ c
+    go : (a b c : Bool) → eqb (readerNumber limit (getD p 0 0) (join (take (getD p 2 0) (p ∷ s)))) 0 ≡ c
         → Lettered ((if a then dead p else if b then blank else if c then filed (getD p 0 0) (take (getD p 2 0) (p ∷ s)) else junk p) ∷ is)
     go true b c q = w
     go false true c q = w
     go false false true q =
         let z = eqb-true _ 0 q in
-        ((letter-small (getD p 0 0) (letter-of limit (getD p 0 0) (join (take (getD p 2 0) (p ∷ s))) z), filed-some (faultOf limit) (file-reader limit) (getD p 0 0) (take (getD p 2 0) (p ∷ s)) z), w)
+        ((letter-small (getD p 0 0) (letter-of limit (getD p 0 0) (join (take (getD p 2 0) (p ∷ s))) z), filed-some (readerNumber limit) (file-reader limit) (getD p 0 0) (take (getD p 2 0) (p ∷ s)) z), w)
     go false false false q = w
 
-lettered : (s : List (List ℕ)) (m : ℕ) → Lettered (itemsFrom (faultOf limit) m s)
+lettered : (s : List (List ℕ)) (m : ℕ) → Lettered (itemsFrom (readerNumber limit) m s)
 lettered [] zero = tt
 lettered [] (suc m) = tt
-lettered (p ∷ s) zero = item-plain p s (itemsFrom (faultOf limit) (moreOf (itemAt (faultOf limit) p s)) s) (lettered s (moreOf (itemAt (faultOf limit) p s)))
+lettered (p ∷ s) zero = item-plain p s (itemsFrom (readerNumber limit) (moreOf (itemAt (readerNumber limit) p s)) s) (lettered s (moreOf (itemAt (readerNumber limit) p s)))
 lettered (p ∷ s) (suc m) = lettered s m
 
 pub all-lettered : (main : List ℕ) → Lettered (leftAt main 0)
@@ -224,7 +224,7 @@ ended ℓ n main p seen s h o′ = λ i. record {
     gone = let c = cut-length (length main / 512) main in past-all p (placesIn main) (omega arith)
 
     o : Walked ℓ n I p seen s []
-    o = subst (λ (x : List (List ℕ)). Walked ℓ n I p seen s (itemsFrom (faultOf limit) 0 x)) gone o′
+    o = subst (λ (x : List (List ℕ)). Walked ℓ n I p seen s (itemsFrom (readerNumber limit) 0 x)) gone o′
 
     live : s .live ≡ liveIn I
     live = let a = o .w-live in (let z : s .live ≡ s .live + 0 = omega arith in z) ∙ a

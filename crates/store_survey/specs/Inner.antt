@@ -7,14 +7,14 @@ use lib.Dec.{eqb, ltb}
 use Rattle.common.specs.Choice.{if_then_else_}
 use Rattle.file_check.specs.Check.{allAre}
 use Rattle.file_codec.specs.File.{limit}
-use Rattle.store_survey.specs.Survey.{faultOf}
+use Rattle.store_survey.specs.Survey.{readerNumber}
 use Rattle.store_survey.specs.declared.Spot.{Spot}
 use Rattle.store_survey.specs.declared.Spot.the-variants.{Blank, Dead, File, Junk}
 use Rattle.store_survey.specs.declared.Survey.{Survey}
 
 -- the reader reads these bytes for the letter
 unfoldable pub soundOf : ℕ → List ℕ → Bool
-soundOf ℓ b = eqb (faultOf limit ℓ b) 0
+soundOf ℓ b = eqb (readerNumber limit ℓ b) 0
 
 -- what begins with the first 512 of some bytes
 unfoldable pub spotOf : List ℕ → Spot

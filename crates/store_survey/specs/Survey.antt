@@ -14,12 +14,12 @@ use Rattle.store_survey.specs.declared.Survey.{Survey}
 
 -- the reader of load files, as the store asks it: its first refusal for a letter, 0 where the file is read; room for the payload is not
 -- asked
-abbrev pub faultOf : ℕ → Judgement
-faultOf most ℓ b = given (readRows most b ℓ [])
+abbrev pub readerNumber : ℕ → Judgement
+readerNumber most ℓ b = given (readRows most b ℓ [])
 
 -- the items of a block by that reader
 abbrev pub itemsOf : List ℕ → List Item
-itemsOf main = itemsIn (faultOf limit) main
+itemsOf main = itemsIn (readerNumber limit) main
 
 -- the code's word for an item: a file with its letter and its count of blocks
 abbrev pub spotBy : Item → Spot
@@ -31,7 +31,7 @@ spotBy (junk p) = Junk
 -- what begins with the first of some places; no place at all is none of the three
 abbrev pub spotFirst : List (List ℕ) → Spot
 spotFirst [] = Junk
-spotFirst (p ∷ s) = spotBy (itemAt (faultOf limit) p s)
+spotFirst (p ∷ s) = spotBy (itemAt (readerNumber limit) p s)
 
 -- what begins at a place of a block
 unfoldable pub spotIn : List ℕ → ℕ → Spot
@@ -77,4 +77,4 @@ toldOf ℓ n good is = record {
 -- the survey of a block for letter ℓ and a file of n blocks: whether it is a proper store, its live blocks, where the letter's file
 -- begins and how many blocks it has, whether a run of n blank places is there and where the first begins, the blank places at the end
 unfoldable pub surveyOf : ℕ → ℕ → List ℕ → Survey
-surveyOf ℓ n main = toldOf ℓ n (isProper (faultOf limit) main) (itemsOf main)
+surveyOf ℓ n main = toldOf ℓ n (isProper (readerNumber limit) main) (itemsOf main)

@@ -35,7 +35,7 @@ fn sound(file: &[u8], letter: u8) -> bool
     let verdict = file_codec::judge(file, letter);
     match verdict {
         file_codec::Judged::Sound(size) => true,
-        file_codec::Judged::Unsound(number) => false,
+        file_codec::Judged::Refused(number) => false,
     }
 }
 

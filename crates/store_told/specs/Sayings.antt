@@ -75,24 +75,24 @@ findLine f = if eqb (f .number) 0 then [] else refusedLine (f .number)
 pub record Asked : Type 0 where
   pub line : List ℕ
   pub stream : ℕ
-  pub given : ℕ
+  pub filled : ℕ
   pub memory : List ℕ
 
 -- a list; a find; a reading at x
 abbrev pub listAsked : Part → List ℕ → List ℕ → Asked
-listAsked part xs room = record { line = listLine part xs; stream = 1; given = 0; memory = room }
+listAsked part xs room = record { line = listLine part xs; stream = 1; filled = 0; memory = room }
 
 -- a find: the file that is there, or the words of the refusal
 abbrev pub findAsked : Outcome → List ℕ → Asked
-findAsked o room = record { line = findLine (foundAs o); stream = 2; given = foundAs o .length; memory = leftIn room o }
+findAsked o room = record { line = findLine (foundAs o); stream = 2; filled = foundAs o .length; memory = leftIn room o }
 
 -- a reading by the file that is found
 abbrev pub readAsked : ReadingAnswer → Outcome → List ℕ → Asked
-readAsked r o room = record { line = answerLine r; stream = 1; given = 0; memory = leftIn room o }
+readAsked r o room = record { line = answerLine r; stream = 1; filled = 0; memory = leftIn room o }
 
 -- what is no call: the usage
 abbrev pub misasked : List ℕ → Asked
-misasked room = record { line = usage; stream = 2; given = 0; memory = room }
+misasked room = record { line = usage; stream = 2; filled = 0; memory = room }
 
 -- the microvolts are a number, or they are none
 abbrev pub readBySaid : NumberRead → Outcome → List ℕ → Asked
@@ -121,7 +121,7 @@ changeOf b part xs memory scratch f ℓ =
 pub record Answered : Type 0 where
   pub line : List ℕ
   pub stream : ℕ
-  pub given : ℕ
+  pub filled : ℕ
   pub changed : Bool
   pub image : List ℕ
   pub memory : List ℕ
@@ -129,7 +129,7 @@ pub record Answered : Type 0 where
 
 -- a question changes neither image nor scratch
 abbrev pub shown : Asked → List ℕ → List ℕ → Answered
-shown q xs scratch = record { line = q .line; stream = q .stream; given = q .given; changed = false; image = xs; memory = q .memory; scratch = scratch }
+shown q xs scratch = record { line = q .line; stream = q .stream; filled = q .filled; changed = false; image = xs; memory = q .memory; scratch = scratch }
 
 -- a change, told by its end and the erases of block 3 that it began
 abbrev pub ended : ChangeLeft → ℕ → List ℕ → List ℕ → Answered
@@ -137,7 +137,7 @@ ended left n memory scratch =
     record {
       line = changeLine (left .ran .end) (left .ran .state .wear .block3);
       stream = 2;
-      given = 0;
+      filled = 0;
       changed = eqb (left .ran .end) 0;
       image = left .bytes;
       memory = left .memory ++ drop n memory;
@@ -153,12 +153,12 @@ answered count word xs device letter volts f memory scratch =
 
 -- .. as it is given back, with the line in front of out
 abbrev pub saidOn : List ℕ → List ℕ → ℕ → ℕ → Bool → Said
-saidOn out line stream given changed = record { used = behind out 0 line; stream = stream; given = given; changed = changed }
+saidOn out line stream filled changed = record { used = behind out 0 line; stream = stream; filled = filled; changed = changed }
 
 -- .. of a call that changes nothing
 abbrev pub askedOn : List ℕ → Asked → Said
-askedOn out q = saidOn out (q .line) (q .stream) (q .given) false
+askedOn out q = saidOn out (q .line) (q .stream) (q .filled) false
 
 -- .. of any call
 abbrev pub answeredOn : List ℕ → Answered → Said
-answeredOn out a = saidOn out (a .line) (a .stream) (a .given) (a .changed)
+answeredOn out a = saidOn out (a .line) (a .stream) (a .filled) (a .changed)

@@ -27,7 +27,7 @@ ghost use Rattle.store_told.specs.Sayings.{isChange, isWord, callWrong, 
 pub struct Said {
     pub used: usize,
     pub stream: u8,
-    pub given: usize,
+    pub filled: usize,
     pub changed: bool,
 }
 
@@ -119,13 +119,13 @@ fn put_read(
 }
 
 // What is given back, as one value.
-fn as_said(used: usize, stream: u8, given: usize, changed: bool) -> Said
-    ensures { λ r. ⌜ r ≡ record { used = used; stream = stream; given = given; changed = changed } ⌝ }
+fn as_said(used: usize, stream: u8, filled: usize, changed: bool) -> Said
+    ensures { λ r. ⌜ r ≡ record { used = used; stream = stream; filled = filled; changed = changed } ⌝ }
 {
     Said {
         used: used,
         stream: stream,
-        given: given,
+        filled: filled,
         changed: changed,
     }
 }
@@ -284,7 +284,7 @@ pub fn answer(
     ensures { λ _. ⌜ now (memory .exit) ≡ answered count (now (word .entry)) (now (image .entry)) (now (device .entry)) (now (letter .entry)) (now (volts .entry)) (now (file .entry)) (now (memory .entry)) (now (scratch .entry)) .memory ⌝ }
     ensures { λ _. ⌜ now (scratch .exit) ≡ answered count (now (word .entry)) (now (image .entry)) (now (device .entry)) (now (letter .entry)) (now (volts .entry)) (now (file .entry)) (now (memory .entry)) (now (scratch .entry)) .scratch ⌝ }
     ensures { λ r. ⌜ Used (r .used) (now (out .exit)) ⌝ }
-    ensures { λ r. ⌜ Used (r .given) (now (memory .exit)) ⌝ }
+    ensures { λ r. ⌜ Used (r .filled) (now (memory .exit)) ⌝ }
 {
     if call_wrong(count, word, letter) {
         return as_said(put_usage(out), 2, 0, false);

@@ -34,7 +34,7 @@ fn respond(kind: Kind, d: Device, s: State, c: Cycle, t: Settled) -> Decision
             let part = d.part;
             model_rules::write(command_table::action(part, ph, c), d, s, c, t)
         }
-        Kind::Idle => model_rules::given(Reply::Quiet, t),
+        Kind::Idle => model_rules::settled_by(Reply::Quiet, t),
     }
 }
 
@@ -47,7 +47,7 @@ fn decide_judged(d: Device, s: State, c: Cycle) -> Decision
     let kind = c.kind;
     let t = model_operation::settle(part, s, p);
     if model_types::levels::rp_low(p) {
-        return model_rules::given(Reply::Quiet, t);
+        return model_rules::settled_by(Reply::Quiet, t);
     }
     respond(kind, d, s, c, t)
 }

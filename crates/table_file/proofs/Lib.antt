@@ -1,3 +1,3 @@
-pub mod Ways
-pub mod Few
+pub mod AnswerCases
+pub mod KnotsCounted
 pub mod Unique

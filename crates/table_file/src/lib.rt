@@ -71,7 +71,7 @@ fn put_file(letter: u8, payload: &[u8], out: &mut [u8]) -> Told
     let written = file_codec::write(letter, payload, out);
     match written {
         Written::Wrote(n) => Told { used: n, stream: 1 },
-        Written::NotWritten(n) => {
+        Written::Refused(n) => {
             let used = put_refusal(out, n);
             Told {
                 used: used,

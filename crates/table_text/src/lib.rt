@@ -64,7 +64,7 @@ fn put_file(file: &[u8], letter: u8, room: &mut [u8], out: &mut [u8]) -> Told
 {
     let got = file_codec::read(file, letter, room);
     match got {
-        ReadBack::NotRead(n) => {
+        ReadBack::Refused(n) => {
             let used = put_refusal(out, n);
             Told {
                 used: used,

@@ -18,9 +18,9 @@ use Rattle.trace_lines.specs.Lines.{isLine, cycleStated}
 use Rattle.trace_replay.specs.Answers.{printedOf, markOf, traceEnd}
 use Rattle.trace_replay.specs.Replays.{benchT, lineStep, arrayBy, goodLines, answersOf, outputFrom, outputOf, BenchSound}
 use Rattle.trace_replay.proofs.Scans as scans
-use Rattle.trace_replay.proofs.Turns as turns
+use Rattle.trace_replay.proofs.Rounds as turns
 use Rattle.trace_replay.proofs.Ends as ends
-use Rattle.trace_replay.proofs.Never as never
+use Rattle.trace_replay.proofs.ProperBench as never
 
 -- A line's step is refused by m exactly where m's own condition holds on bench T and that of no lower number does.
 pub step-refused : (s : State) (c : Cycle) (xs rs : List ℕ) (m : ℕ) → (m ≡ 0 → ⊥)

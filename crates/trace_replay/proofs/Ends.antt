@@ -21,7 +21,7 @@ use Rattle.trace_replay.specs.Answers.{printedOf, markOf, traceEnd}
 use Rattle.trace_replay.specs.Replays.{benchT, lineStep, arrayBy, goodLines, answersOf, outputFrom, outputOf}
 use Rattle.trace_replay.proofs.Scans.{not-line}
 use Rattle.trace_replay.proofs.WholeTrace.{few, short, whole-length}
-use Rattle.trace_replay.proofs.Turns.{output-is}
+use Rattle.trace_replay.proofs.Rounds.{output-is}
 
 pub step-refused : (s : State) (c : Cycle) (xs rs : List ℕ) (m : ℕ) → (m ≡ 0 → ⊥)
     → (lineStep s c xs rs .seen ≡ Refused m) ↔ Foremost (tableOf benchT s c (length xs) (length rs)) m

@@ -1,7 +1,7 @@
 pub mod Scans
-pub mod Turns
+pub mod Rounds
 pub mod WholeTrace
 pub mod Ends
-pub mod Never
+pub mod ProperBench
 pub mod Claims
 pub mod Unique

@@ -1,4 +1,4 @@
--- The count of good lines: a turn of the scan, its end, and what the count promises of the text.
+-- The count of good lines: a round of the scan, its end, and what the count promises of the text.
 use mathlib.Core.Path.{_≡_, refl, sym, ap, _∙_}
 use mathlib.Core.Bool.{Bool, true, false}
 use mathlib.Core.List.{List}

@@ -14,7 +14,7 @@ use Rattle.model_types.specs.States.{freshState}
 use Rattle.trace_replay.specs.Answers.{traceEnd}
 use Rattle.trace_replay.specs.Replays.{goodLines, answersOf, arraysOf, outputOf, arrayLeft, replayedAs, replayedIn, leftInRoom, Used}
 use Rattle.trace_replay.proofs.Scans.{good-most, good-fit}
-use Rattle.trace_replay.proofs.Turns.{answers-length, end-any, end-short, put-end, output-is, array-is}
+use Rattle.trace_replay.proofs.Rounds.{answers-length, end-any, end-short, put-end, output-is, array-is}
 
 -- where the room is too short, a slice is as it was; where it is not, it is the other
 held-short : (room : ℕ) (ys before after : List ℕ) → room < length ys → before ≡ leftInRoom room ys before after

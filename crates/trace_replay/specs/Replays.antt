@@ -83,7 +83,7 @@ arrayLeft xs rs text = arrayFrom 9998 freshState xs rs text
 
 -- 37 where the room is too short for the output; else nothing is refused, and as many bytes are used as the output has
 abbrev pub replayedAs : ℕ → ℕ → Replayed
-replayedAs n m = record { refusal = n; used = m }
+replayedAs n m = record { number = n; used = m }
 
 -- what is returned of an output in so much room
 unfoldable pub replayedIn : ℕ → List ℕ → Replayed

@@ -19,7 +19,7 @@ ghost use Rattle.trace_replay.specs.Replays.{benchT, lineStep, stepTold,
 
 // How a replay went: refused by 37, or by nothing (0) with so many bytes of output.
 pub struct Replayed {
-    pub refusal: u8,
+    pub number: u8,
     pub used: usize,
 }
 
@@ -148,15 +148,12 @@ pub fn replay(
     let n = 8 * g + answers::end_length(left);
     if out.len() < n {
         return Replayed {
-            refusal: 37,
+            number: 37,
             used: 0,
         };
     }
     answer_lines(table, g, text, array, residue, out);
     let at = 8 * g;
     answers::write_end(g + 1, left, &mut out[at..n]);
-    Replayed {
-        refusal: 0,
-        used: n,
-    }
+    Replayed { number: 0, used: n }
 }

@@ -1,4 +1,4 @@
--- The walk of a trace from the count of its good lines: the state, a turn of the loop that makes it, and the bad line.
+-- The walk of a trace from the count of its good lines: the state, a round of the loop that makes it, and the bad line.
 use mathlib.Core.Path.{_≡_, refl, sym, ap, _∙_, subst}
 use mathlib.Core.Bool.{Bool, true, false}
 use mathlib.Core.List.{List, [], _∷_}
@@ -14,7 +14,7 @@ use Rattle.model_types.specs.States.{freshState}
 use Rattle.trace_lines.specs.Lines.{isLine, cycleStated}
 use Rattle.trace_replay.specs.Replays.{lineStep, arrayBy, goodLines, arraysOf, arrayLeft}
 use Rattle.trace_replay.proofs.Scans.{past, good-fit}
-use Rattle.trace_replay.proofs.Turns.{answerTo, arrayTo, arrays-turn, array-is}
+use Rattle.trace_replay.proofs.Rounds.{answerTo, arrayTo, arrays-round, array-is}
 use Rattle.trace_wear.specs.declared.Worn.{Worn}
 use Rattle.trace_wear.specs.declared.Worn.the-variants.{Counted, BadLine}
 use Rattle.trace_wear.specs.Wears.{stateFrom, badAt, badFrom, stateLeft, badLine, wornOf, wornTold, countTold, arrayWorn}
@@ -32,7 +32,7 @@ states-more k s xs rs text = refl
 pub states-over : (g i : ℕ) (s : State) (xs rs text : List ℕ) → g ≤ i → statesOf (g - i) s xs rs text ≡ s
 states-over g i s xs rs text h = let k : g - i ≡ 0 = omega arith in ap (λ (n : ℕ). statesOf n s xs rs text) k ∙ states-none s xs rs text
 
--- one turn of the loop that replays line i of g: t and ys are the state and array it leaves
+-- one round of the loop that replays line i of g: t and ys are the state and array it leaves
 module _ (g i : ℕ) (s t : State) (xs ys rs text : List ℕ) (h : i < g)
     (es : t ≡ lineStep s (cycleStated (take (20 * i + 20 - 20 * i) (drop (20 * i) text))) xs rs .state)
     (ea : ys ≡ arrayBy s (cycleStated (take (20 * i + 20 - 20 * i) (drop (20 * i) text))) xs rs) where
@@ -45,24 +45,24 @@ module _ (g i : ℕ) (s t : State) (xs ys rs text : List ℕ) (h : i < g)
   ar : ys ≡ arrayTo s xs rs (drop (20 * i) text)
   ar = ea ∙ ap (λ (m : ℕ). arrayBy s (cycleStated (take m (drop (20 * i) text))) xs rs) n
 
-  states-turn : statesOf (g - i) s xs rs (drop (20 * i) text)
+  states-round : statesOf (g - i) s xs rs (drop (20 * i) text)
       ≡ statesOf (g - (i + 1)) (answerTo s xs rs (drop (20 * i) text) .state) (arrayTo s xs rs (drop (20 * i) text)) rs (drop (20 * (i + 1)) text)
-  states-turn =
+  states-round =
       let k : g - i ≡ suc (g - (i + 1)) = omega arith in
       ap (λ (m : ℕ). statesOf m s xs rs (drop (20 * i) text)) k ∙ states-more (g - (i + 1)) s xs rs (drop (20 * i) text)
       ∙ ap (λ (w : List ℕ). statesOf (g - (i + 1)) (answerTo s xs rs (drop (20 * i) text) .state) (arrayTo s xs rs (drop (20 * i) text)) rs w) (past i text)
 
-  turned : {X : Type 0} (F : ℕ → State → List ℕ → List ℕ → List ℕ → X)
+  round-of : {X : Type 0} (F : ℕ → State → List ℕ → List ℕ → List ℕ → X)
       → F (g - i) s xs rs (drop (20 * i) text)
       ≡ F (g - (i + 1)) (answerTo s xs rs (drop (20 * i) text) .state) (arrayTo s xs rs (drop (20 * i) text)) rs (drop (20 * (i + 1)) text)
       → (Z : X) → F (g - i) s xs rs (drop (20 * i) text) ≡ Z → F (g - (i + 1)) t ys rs (drop (20 * (i + 1)) text) ≡ Z
-  turned F e Z q = (λ j. F (g - (i + 1)) (st j) (ar j) rs (drop (20 * (i + 1)) text)) ∙ sym e ∙ q
+  round-of F e Z q = (λ j. F (g - (i + 1)) (st j) (ar j) rs (drop (20 * (i + 1)) text)) ∙ sym e ∙ q
 
-  pub turned-state : (S : State) → statesOf (g - i) s xs rs (drop (20 * i) text) ≡ S → statesOf (g - (i + 1)) t ys rs (drop (20 * (i + 1)) text) ≡ S
-  turned-state = turned statesOf states-turn
+  pub round-state : (S : State) → statesOf (g - i) s xs rs (drop (20 * i) text) ≡ S → statesOf (g - (i + 1)) t ys rs (drop (20 * (i + 1)) text) ≡ S
+  round-state = round-of statesOf states-round
 
-  pub turned-array : (A : List ℕ) → arraysOf (g - i) s xs rs (drop (20 * i) text) ≡ A → arraysOf (g - (i + 1)) t ys rs (drop (20 * (i + 1)) text) ≡ A
-  turned-array = turned arraysOf (arrays-turn g i s xs rs text h)
+  pub round-array : (A : List ℕ) → arraysOf (g - i) s xs rs (drop (20 * i) text) ≡ A → arraysOf (g - (i + 1)) t ys rs (drop (20 * (i + 1)) text) ≡ A
+  round-array = round-of arraysOf (arrays-round g i s xs rs text h)
 
 -- the state that the walk leaves is the one after the good lines
 pub state-is : (k : ℕ) (s : State) (xs rs text : List ℕ) → stateFrom k s xs rs text ≡ statesOf (goodLines k text) s xs rs text

@@ -39,21 +39,21 @@ fn tell(mark: &[u8], n: u64) {
 fn tell_written(w: file_codec::Written) {
     match w {
         file_codec::Written::Wrote(n) => tell(b"W=", n as u64),
-        file_codec::Written::NotWritten(n) => tell(b"W!", n as u64),
+        file_codec::Written::Refused(n) => tell(b"W!", n as u64),
     }
 }
 
 fn tell_judged(j: file_codec::Judged) {
     match j {
         file_codec::Judged::Sound(n) => tell(b" J=", n as u64),
-        file_codec::Judged::Unsound(n) => tell(b" J!", n as u64),
+        file_codec::Judged::Refused(n) => tell(b" J!", n as u64),
     }
 }
 
 fn tell_read(r: file_codec::ReadBack) {
     match r {
         file_codec::ReadBack::Gave(n) => tell(b" R=", n as u64),
-        file_codec::ReadBack::NotRead(n) => tell(b" R!", n as u64),
+        file_codec::ReadBack::Refused(n) => tell(b" R!", n as u64),
     }
 }
 

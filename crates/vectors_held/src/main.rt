@@ -4,13 +4,13 @@
 use device::Device;
 use device::Part;
 use loader::Loader;
+use loader::Saying;
 use loader::Stage;
-use loader::Turn;
 use loader::Work;
 use loader_held::Hold;
 use loader_held::Pair;
 use loader_held::Step;
-use loader_held_steps::HeldGiven;
+use loader_held_steps::HeldResponse;
 use loader_run::Job;
 use loader_run::Ran;
 use model_types::Cycle;
@@ -342,14 +342,14 @@ fn print_cycle(c: Cycle) {
 }
 
 // What the loader gave: the cycle that is out, the end, or a refusal.
-fn print_turn(turn: Turn) {
-    match turn {
-        Turn::Out(c) => print_cycle(c),
-        Turn::Over(n, address) => {
+fn print_saying(saying: Saying) {
+    match saying {
+        Saying::Out(c) => print_cycle(c),
+        Saying::Over(n, address) => {
             print_number(b'E', n);
             print_address(address);
         }
-        Turn::Barred(n) => print_number(b'X', n),
+        Saying::Refused(n) => print_number(b'X', n),
     }
 }
 
@@ -453,12 +453,12 @@ fn told(op: u8, b: Bench, shows: Shown) -> Bench {
 }
 
 // The line of a start or a step.
-fn given_line(b: Bench, g: HeldGiven, notes: u64, read: u64) -> Bench {
+fn response_line(b: Bench, g: HeldResponse, notes: u64, read: u64) -> Bench {
     let state = b.state;
-    let turn = g.turn;
+    let saying = g.saying;
     let pair = g.pair;
     let after = after_line(b, state, pair);
-    print_turn(turn);
+    print_saying(saying);
     print_sum(notes, b" ");
     print_sum(read, b"\n");
     after
@@ -494,7 +494,7 @@ fn start_line(
     );
     let notes = sum_of(scratch, setup.scratch);
     let read = sum_of(room, setup.room);
-    given_line(b, g, notes, read)
+    response_line(b, g, notes, read)
 }
 
 // Steps with the same data, at least one.
@@ -507,7 +507,7 @@ fn steps(
     polls: &[u32],
     addresses: &[u32],
     room: &mut [u8],
-) -> HeldGiven {
+) -> HeldResponse {
     let mut g = loader_held_steps::step_held(
         before,
         value,
@@ -535,7 +535,7 @@ fn stepped(
     scratch: &mut [u8],
     numbers: &[u32],
     room: &mut [u8],
-) -> HeldGiven {
+) -> HeldResponse {
     let m = common::least(setup.wanted, wanted.len());
     let k = common::least(setup.scratch, scratch.len());
     let p = common::least(POLLS, numbers.len());
@@ -570,7 +570,7 @@ fn step_line(
     let g = stepped(setup, before, row, wanted, scratch, numbers, room);
     let notes = sum_of(scratch, setup.scratch);
     let read = sum_of(room, setup.room);
-    given_line(b, g, notes, read)
+    response_line(b, g, notes, read)
 }
 
 // Fills the front of a slice.
@@ -649,7 +649,7 @@ fn step_of(n: u8) -> Step {
         1 => Step::Halting,
         2 => Step::Looking,
         3 => Step::Settling,
-        4 => Step::Turning,
+        4 => Step::ArrayAsking,
         5 => Step::Fetching,
         _ => Step::Resuming,
     }
@@ -858,7 +858,7 @@ fn act(
 }
 
 // One row. A row that sets the bench prints nothing, and one that prints sets nothing.
-fn turn(
+fn take_row(
     row: &[u8],
     b: Bench,
     array: &mut [u8],
@@ -904,7 +904,7 @@ fn all(
     let mut b = bare();
     let mut at = 0;
     while at < text.len() {
-        b = turn(&text[at..], b, array, wanted, scratch, numbers, room);
+        b = take_row(&text[at..], b, array, wanted, scratch, numbers, room);
         at = vectors_text::next_row(text, at);
     }
 }

@@ -295,7 +295,7 @@ fn act(row: &[u8], op: u8, b: Bench, array: &mut [u8], residue: &[u8]) -> Bench 
 }
 
 // One row: first what it sets, then what it prints.
-fn turn(row: &[u8], b: Bench, array: &mut [u8], residue: &mut [u8]) -> Bench {
+fn take_row(row: &[u8], b: Bench, array: &mut [u8], residue: &mut [u8]) -> Bench {
     let op = common::nth(row, 0);
     if op == b'A' {
         sow_part(array, b.array, row);
@@ -313,7 +313,7 @@ fn all(text: &[u8], array: &mut [u8], residue: &mut [u8]) {
     let mut b = bare();
     let mut at = 0;
     while at < text.len() {
-        b = turn(&text[at..], b, array, residue);
+        b = take_row(&text[at..], b, array, residue);
         at = vectors_text::next_row(text, at);
     }
 }

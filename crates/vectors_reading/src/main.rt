@@ -102,7 +102,7 @@ fn write_file(letter: u8, payload: &[u8], file: &mut [u8]) -> usize {
             tell_number(b"W ", n as u64);
             n
         }
-        Written::NotWritten(n) => {
+        Written::Refused(n) => {
             tell_number(b"! ", n as u64);
             0
         }

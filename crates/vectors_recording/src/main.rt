@@ -156,9 +156,9 @@ fn print_label(g: Group, line: u32) {
 fn print_verdict(c: Checked) {
     let mut text = [0u8; 5];
     let accepted = c.accepted;
-    if c.refusal != 0 {
+    if c.number != 0 {
         io::write_all(1, b"X ");
-        print_decimal(&mut text, c.refusal as u64);
+        print_decimal(&mut text, c.number as u64);
         return;
     }
     if accepted {
@@ -321,7 +321,7 @@ fn set(row: &[u8], op: u8, b: Bench) -> Bench {
 }
 
 // One row: what it fills, sets, records or judges.
-fn turn(row: &[u8], b: Bench, array: &mut [u8], promised: &mut [u8]) -> Bench {
+fn take_row(row: &[u8], b: Bench, array: &mut [u8], promised: &mut [u8]) -> Bench {
     let op = common::nth(row, 0);
     if op == b'A' {
         sow(array, b.array, row);
@@ -349,7 +349,7 @@ fn all(text: &[u8], array: &mut [u8], promised: &mut [u8]) {
     let mut b = bare();
     let mut at = 0;
     while at < text.len() {
-        b = turn(&text[at..], b, array, promised);
+        b = take_row(&text[at..], b, array, promised);
         at = vectors_text::next_row(text, at);
     }
 }

@@ -4,10 +4,10 @@
 
 use device::Device;
 use device::Part;
-use loader::Given;
 use loader::Loader;
+use loader::Response;
+use loader::Saying;
 use loader::Stage;
-use loader::Turn;
 use loader::Work;
 use loader_run::Job;
 use loader_run::Ran;
@@ -293,14 +293,14 @@ fn print_cycle(c: Cycle) {
 }
 
 // What the loader gave: the cycle that is out, the end, or a refusal.
-fn print_turn(turn: Turn) {
-    match turn {
-        Turn::Out(c) => print_cycle(c),
-        Turn::Over(n, address) => {
+fn print_saying(saying: Saying) {
+    match saying {
+        Saying::Out(c) => print_cycle(c),
+        Saying::Over(n, address) => {
             print_number(b'E', n);
             print_address(address);
         }
-        Turn::Barred(n) => print_number(b'X', n),
+        Saying::Refused(n) => print_number(b'X', n),
     }
 }
 
@@ -460,12 +460,12 @@ fn run_line(op: u8, b: Bench, array: &mut [u8], wanted: &[u8], scratch: &mut [u8
 }
 
 // The line of a start or a step.
-fn given_line(b: Bench, g: Given, room: u64) -> Bench {
+fn response_line(b: Bench, g: Response, room: u64) -> Bench {
     let state = b.state;
-    let turn = g.turn;
+    let saying = g.saying;
     let loader = g.loader;
     let after = after_line(b, state, loader);
-    print_turn(turn);
+    print_saying(saying);
     print_sum(room, b"\n");
     after
 }
@@ -482,7 +482,7 @@ fn start_work(op: u8) -> Work {
 }
 
 // A start of a run, of a load alone or of a verify alone.
-fn started(op: u8, part: Part, pins: Pins, block: u8, wanted: &[u8], scratch: &[u8]) -> Given {
+fn started(op: u8, part: Part, pins: Pins, block: u8, wanted: &[u8], scratch: &[u8]) -> Response {
     loader_steps::front::start(start_work(op), part, pins, block, wanted, scratch)
 }
 
@@ -496,11 +496,11 @@ fn start_line(op: u8, b: Bench, wanted: &[u8], scratch: &[u8]) -> Bench {
     let k = common::least(setup.scratch, scratch.len());
     let g = started(op, part, pins, setup.block, &wanted[0..m], &scratch[0..k]);
     let room = sum_of(scratch, setup.scratch);
-    given_line(b, g, room)
+    response_line(b, g, room)
 }
 
 // Steps with the same data, at least one.
-fn steps(l: Loader, value: u16, times: u32, wanted: &[u8], scratch: &mut [u8]) -> Given {
+fn steps(l: Loader, value: u16, times: u32, wanted: &[u8], scratch: &mut [u8]) -> Response {
     let mut g = loader_steps::front::step(l, value, wanted, scratch);
     let mut i = 1;
     while i < times {
@@ -512,7 +512,13 @@ fn steps(l: Loader, value: u16, times: u32, wanted: &[u8], scratch: &mut [u8]) -
 }
 
 // The steps of a row, on what is lent.
-fn stepped(setup: Setup, before: Loader, row: &[u8], wanted: &[u8], scratch: &mut [u8]) -> Given {
+fn stepped(
+    setup: Setup,
+    before: Loader,
+    row: &[u8],
+    wanted: &[u8],
+    scratch: &mut [u8],
+) -> Response {
     let m = common::least(setup.wanted, wanted.len());
     let k = common::least(setup.scratch, scratch.len());
     let value = vectors_text::half_at(row, 16, 2, 4);
@@ -526,7 +532,7 @@ fn step_line(b: Bench, row: &[u8], wanted: &[u8], scratch: &mut [u8]) -> Bench {
     let before = b.loader;
     let g = stepped(setup, before, row, wanted, scratch);
     let room = sum_of(scratch, setup.scratch);
-    given_line(b, g, room)
+    response_line(b, g, room)
 }
 
 // Fills the front of a slice, as a row says.
@@ -656,7 +662,13 @@ fn act(row: &[u8], op: u8, b: Bench, array: &mut [u8], wanted: &[u8], scratch: &
 }
 
 // One row. A row that sets the bench prints nothing, and one that prints sets nothing.
-fn turn(row: &[u8], b: Bench, array: &mut [u8], wanted: &mut [u8], scratch: &mut [u8]) -> Bench {
+fn take_row(
+    row: &[u8],
+    b: Bench,
+    array: &mut [u8],
+    wanted: &mut [u8],
+    scratch: &mut [u8],
+) -> Bench {
     let op = common::nth(row, 0);
     if is_filling(op) {
         let setup = b.setup;
@@ -671,7 +683,7 @@ fn all(text: &[u8], array: &mut [u8], wanted: &mut [u8], scratch: &mut [u8]) {
     let mut b = bare();
     let mut at = 0;
     while at < text.len() {
-        b = turn(&text[at..], b, array, wanted, scratch);
+        b = take_row(&text[at..], b, array, wanted, scratch);
         at = vectors_text::next_row(text, at);
     }
 }

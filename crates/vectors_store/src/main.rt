@@ -489,7 +489,7 @@ fn write_file(file: &mut [u8], row: &[u8]) -> usize {
     common::fill(file, 255);
     match file_codec::write(letter, &payload[0..size], file) {
         Written::Wrote(n) => n,
-        Written::NotWritten(n) => 0,
+        Written::Refused(n) => 0,
     }
 }
 
@@ -582,7 +582,7 @@ fn is_question(op: u8) -> bool {
 }
 
 // One row: what it changes, asks, sets, fills or shapes.
-fn turn(
+fn take_row(
     row: &[u8],
     b: Bench,
     array: &mut [u8],
@@ -610,7 +610,7 @@ fn all(text: &[u8], array: &mut [u8], memory: &mut [u8], scratch: &mut [u8], fil
     let mut b = bare();
     let mut at = 0;
     while at < text.len() {
-        b = turn(&text[at..], b, array, memory, scratch, file);
+        b = take_row(&text[at..], b, array, memory, scratch, file);
         at = vectors_text::next_row(text, at);
     }
 }

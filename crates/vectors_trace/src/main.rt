@@ -46,11 +46,11 @@ fn show_last(out: &[u8], used: usize) {
 }
 
 fn show(number: u64, r: Replayed, array: &[u8], out: &[u8]) {
-    let refusal = r.refusal;
+    let refused = r.number;
     let used = r.used;
     io::print_decimal(1, number);
     io::write_all(1, b" ");
-    io::print_decimal(1, refusal as u64);
+    io::print_decimal(1, refused as u64);
     io::write_all(1, b" ");
     io::print_decimal(1, used as u64);
     io::write_all(1, b" ");

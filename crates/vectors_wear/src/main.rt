@@ -309,7 +309,7 @@ fn act(row: &[u8], op: u8, d: Desk, numbers: &[u8], counts: &[u32]) -> Desk {
 }
 
 // One row.
-fn turn(row: &[u8], d: Desk, numbers: &mut [u8], counts: &mut [u32]) -> Desk {
+fn take_row(row: &[u8], d: Desk, numbers: &mut [u8], counts: &mut [u32]) -> Desk {
     let op = common::nth(row, 0);
     if op == b'T' {
         return more(row, d, numbers, counts);
@@ -322,7 +322,7 @@ fn all(text: &[u8], numbers: &mut [u8], counts: &mut [u32]) {
     let mut d = bare();
     let mut at = 0;
     while at < text.len() {
-        d = turn(&text[at..], d, numbers, counts);
+        d = take_row(&text[at..], d, numbers, counts);
         at = vectors_text::next_row(text, at);
     }
 }

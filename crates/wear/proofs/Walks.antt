@@ -26,8 +26,8 @@ pub same : (n : ℕ) (s : List ℕ) (i : ℕ) → i < length s → getD s i 0 �
 same n s i h e = ap (differ n) (from-here s i h) ∙ if-true (eqb (getD s i 0) n) (differ n (drop (i + 1) s)) true (eq-eqb _ _ e)
 
 -- one trace more
-pub turn : (n i : ℕ) (s : List ℕ) (r : Report) → i < n → reportFrom (n - i) i s r ≡ reportFrom (n - (i + 1)) (i + 1) s (added r (wearAt s i))
-turn n i s r h = ap (λ (k : ℕ). reportFrom k i s r) (let q : n - i ≡ suc (n - (i + 1)) = omega arith in q)
+pub round : (n i : ℕ) (s : List ℕ) (r : Report) → i < n → reportFrom (n - i) i s r ≡ reportFrom (n - (i + 1)) (i + 1) s (added r (wearAt s i))
+round n i s r h = ap (λ (k : ℕ). reportFrom k i s r) (let q : n - i ≡ suc (n - (i + 1)) = omega arith in q)
 
 pub over : (n i : ℕ) (s : List ℕ) (r : Report) → i ≡ n → reportFrom (n - i) i s r ≡ r
 over n i s r h = ap (λ (k : ℕ). reportFrom k i s r) (let q : n - i ≡ 0 = omega arith in q)

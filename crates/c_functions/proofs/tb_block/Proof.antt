@@ -4,7 +4,7 @@ use mathlib.Core.Path.{_≡_, sym, ap, _∙_}
 use Rattle.device.specs.Parts.{lengthOf}
 use Rattle.device.specs.declared.Span.{Span}
 use Rattle.loader_steps.specs.Front.{noBlock}
-use Rattle.c_functions.specs.Geometry.{partBy, blockGiven}
+use Rattle.c_functions.specs.Geometry.{partBy, blockReturned}
 use Rattle.c_functions.proofs.tb_block.Statement.{statement}
 use Rattle.c_functions.proofs.tb_block.Tie as tie
 
@@ -12,14 +12,14 @@ unknown-part-requires : tie.Need-unknown-part-requires
 unknown-part-requires c κs = search needs
 
 returns : tie.Need-returns
-unfolding blockGiven
+unfolding blockReturned
 returns c = simp (sym (c .before .unknown-part .ensures) ∙ c .if1 .taken)
 
 block-span-requires : tie.Need-block-span-requires
 block-span-requires c κs = search needs
 
 returns-2 : tie.Need-returns-2
-unfolding blockGiven noBlock
+unfolding blockReturned noBlock
 returns-2 c =
     let s = c .before .before .block-span in
     let a = c .before .before .before .before .before .args in
@@ -27,7 +27,7 @@ returns-2 c =
     simp (eq-eqb _ _ l, sym (c .before .before .before .before .unknown-part .ensures) ∙ c .before .before .before .if1 .left)
 
 returns-3 : tie.Need-returns-3
-unfolding blockGiven noBlock
+unfolding blockReturned noBlock
 returns-3 c =
     let e = c .before .before .block-span .ensures in
     let a = c .before .before .before .before .before .args in

@@ -42,13 +42,13 @@ use denote.Triple.Walked.{says, Stays, stay-ref, stay-none, stay-none-slice, gav
 use denote.Exit.{yes}
 use Rattle.c_functions.specs.Calls.{steppedOf, scratchStepped}
 use Rattle.c_records.specs.declared.LoaderNumbers.{LoaderNumbers}
-use Rattle.c_records.specs.declared.GivenNumbers.{GivenNumbers}
+use Rattle.c_records.specs.declared.ResponseNumbers.{ResponseNumbers}
 use Rattle.c_records.proofs.LoaderNumbers as L
 use Rattle.c_records.proofs.LoaderNumbers.Laws as L′
-use Rattle.c_records.proofs.TurnNumbers as U
-use Rattle.c_records.proofs.TurnNumbers.Laws as U′
-use Rattle.c_records.proofs.GivenNumbers as G
-use Rattle.c_records.proofs.GivenNumbers.Laws as G′
+use Rattle.c_records.proofs.SayingNumbers as U
+use Rattle.c_records.proofs.SayingNumbers.Laws as U′
+use Rattle.c_records.proofs.ResponseNumbers as G
+use Rattle.c_records.proofs.ResponseNumbers.Laws as G′
 use Rattle.c_functions.proofs.stepped as inner
 use Rattle.c_functions.proofs.stepped.Symbol as inner-def
 use Rattle.c_functions.proofs.stepped.Met as inner-met
@@ -96,15 +96,15 @@ module _ {M : Type 1} (𝓤 : URA M) (H : Heap 𝓤) (A : Atoms 𝓤) (W : Given
   abbrev Wanted : Fml
   Wanted = ShrSlice (named 1) κ₁ u8 .own wanted (wantedVal ∷ [])
 
-  -- what `stepped` returned is a turn and a record
-  turn-is : (g : GivenNumbers) (vs : List Val) → Is G.the-row g vs → Is U.the-row (g .turn) (laws.vals U.the-type U′.the-laws (g .turn))
-  turn-is g vs is = laws.owed G.the-type G′.the-laws g vs is .0
+  -- what `stepped` returned is a saying and a record
+  saying-is : (g : ResponseNumbers) (vs : List Val) → Is G.the-row g vs → Is U.the-row (g .turn) (laws.vals U.the-type U′.the-laws (g .turn))
+  saying-is g vs is = laws.owed G.the-type G′.the-laws g vs is .0
 
-  record-is : (g : GivenNumbers) (vs : List Val) → Is G.the-row g vs → Is L.the-row (g .loader) (recordVals (g .loader))
+  record-is : (g : ResponseNumbers) (vs : List Val) → Is G.the-row g vs → Is L.the-row (g .loader) (recordVals (g .loader))
   record-is g vs is = laws.owed G.the-type G′.the-laws g vs is .1 .0
 
   -- the end: from the record observed at what `stepped` gave, the loans and the last scratch, to the promise
-  finishes : (g : GivenNumbers) (zs : List ℕ) → (g ≡ steppedOf h n (wanted .now) sc) × (zs ≡ scratchStepped h n (wanted .now) sc) → length zs ≡ length sc
+  finishes : (g : ResponseNumbers) (zs : List ℕ) → (g ≡ steppedOf h n (wanted .now) sc) × (zs ≡ scratchStepped h n (wanted .now) sc) → length zs ≡ length sc
       → Is U.the-row (g .turn) (laws.vals U.the-type U′.the-laws (g .turn))
       → ent 𝓤
       (⋆ 𝓤 H A (‵ (fobs γ (L.the-row .coded .code (g .loader))) ∷ ‵ (fbor κ (Body (mem L.the-row) b o γ)) ∷ ‵ (flft κ q) ∷ (‵ (flft κ₁ q₁) ⊛ ‵ (flft κ₂ q₂) ⊛ ‵ ftrue) ∷ ‵ Wanted ∷ ‵ (finally u8 γ′ zs) ∷ []))
@@ -114,7 +114,7 @@ module _ {M : Type 1} (𝓤 : URA M) (H : Heap 𝓤) (A : Atoms 𝓤) (W : Given
       suffices ! _
       (ends-at 𝓤 H A outer.ended kept (outer.clauses 𝓤 H A at-mem run) W (((κ, (κ₁, (κ₂, tt))), (q, (q₁, (q₂, tt))), tt, args, vals), tt)
       (laws.val U.the-type U′.the-laws (g .turn)) (g .turn) (g .loader, (tt, (tt, (zs, tt)))) (tt, (tt, (tt, (same, tt))))) $
-      says ! (ap (λ (x : GivenNumbers). x .loader) (e .0), ap (λ (x : GivenNumbers). x .turn) (e .0), e .1) $ move ! (2 ∷ 3 ∷ []) $ join ! $ frame ! $
+      says ! (ap (λ (x : ResponseNumbers). x .loader) (e .0), ap (λ (x : ResponseNumbers). x .turn) (e .0), e .1) $ move ! (2 ∷ 3 ∷ []) $ join ! $ frame ! $
       -- left to give: the record's loan, the number, wanted, scratch, each in its parameter's place
       feqI ! (List Val) (vptr b o ∷ []) (vptr b o ∷ []) refl $ fjoin3 ! $ nothing ! $
       move ! (3 ∷ 0 ∷ []) $ fjoin ! $ move ! (2 ∷ 0 ∷ []) $ fjoin ! $
@@ -170,7 +170,7 @@ module _ {M : Type 1} (𝓤 : URA M) (H : Heap 𝓤) (A : Atoms 𝓤) (W : Given
         use1 W
         (later
         (some
-        (λ (g : GivenNumbers). ((‵ (flft κ₁ q₁) ⊛ ‵ (flft κ₂ q₂) ⊛ ‵ ftrue) ⊛ ‵ (G.the-row .own g (v ∷ []))) ⊛ raw (ensured 𝓤 H A inner.ended (inner.clauses 𝓤 H A at-mem run) (κ₁, (κ₂, tt)) (h, (n, (wanted, (scratch, tt)))) tt g))))
+        (λ (g : ResponseNumbers). ((‵ (flft κ₁ q₁) ⊛ ‵ (flft κ₂ q₂) ⊛ ‵ ftrue) ⊛ ‵ (G.the-row .own g (v ∷ []))) ⊛ raw (ensured 𝓤 H A inner.ended (inner.clauses 𝓤 H A at-mem run) (κ₁, (κ₂, tt)) (h, (n, (wanted, (scratch, tt)))) tt g))))
         (id⊢ 𝓤 _) $ await ! tt $ pick ! (λ g. split ! $ move ! (1 ∷ []) $
         use1 W
         (some
@@ -180,13 +180,13 @@ module _ {M : Type 1} (𝓤 : URA M) (H : Heap 𝓤) (A : Atoms 𝓤) (W : Given
         heard ! ((g ≡ steppedOf h n (wanted .now) sc) × (zs .1 .1 .1 .0 ≡ scratchStepped h n (wanted .now) sc)) (λ e.
         fsplit ! $ drop ! $ fsplit ! $ drop ! $ fsplit ! $ drop ! $ fsplit ! $ fsplit ! $ move ! (1 ∷ []) $ feqL ! (λ same.
         move ! (2 ∷ []) $ split ! $ move ! (1 ∷ []) $ peeks ! G.the-row (Is G.the-row) (shows 𝓤 H A G.the-row) g (v ∷ []) (λ is′.
-        -- what came back lands in _5; its record goes to the loan's cell, its turn to _0
+        -- what came back lands in _5; its record goes to the loan's cell, its saying to _0
         land ! (from ! (stop !)) (init ! 16 refl (laws.lawful G.the-type G′.the-laws 𝓤 H A W .typed g _ is′ .0)) $
         rewrite ! 16 (λ (u : Val). ‵ (fat fullShare G′.mir a₅ 0 u)) (ap only (laws.tells G.the-type G′.the-laws g _ is′)) refl $
         assigns ! (of-opd ! (load ! (from ! (fld ! refl (stop !))) (look-in ! 16 (sub ! 1 refl (whole !))))) (from ! (hop ! (look ! 24 refl) (stop !)))
         (store-raw ! 5 refl (laws.lawful L.the-type L′.the-laws 𝓤 H A W .typed (g .loader) _ (record-is g _ is′) .0)) $
         assigns ! (of-opd ! (load ! (from ! (fld ! refl (stop !))) (look-in ! 16 (sub ! 0 refl (whole !))))) (from ! (stop !))
-        (init ! 26 refl (laws.lawful U.the-type U′.the-laws 𝓤 H A W .typed (g .turn) _ (turn-is g _ is′) .0)) $
+        (init ! 26 refl (laws.lawful U.the-type U′.the-laws 𝓤 H A W .typed (g .turn) _ (saying-is g _ is′) .0)) $
         -- close the loan at the new record
         drop ! $ move ! (5 ∷ []) $ drop ! $ owned ! L.the-row (Is L.the-row) (laws.makes L.the-type L′.the-plain 𝓤 H A) (g .loader) _ (record-is g _ is′) $
         move ! (5 ∷ 0 ∷ 6 ∷ 7 ∷ 8 ∷ []) $ closes ! tt L.the-row (g .loader) (recordVals (g .loader)) b o $
@@ -194,7 +194,7 @@ module _ {M : Type 1} (𝓤 : URA M) (H : Heap 𝓤) (A : Atoms 𝓤) (W : Given
         forget ! 7 refl $ forget ! 9 refl $ forget ! 11 refl $ forget ! 13 refl $ forget ! 15 refl $ forget ! 17 refl $ forget ! 19 refl $ forget ! 21 refl $ forget ! 23 refl $
         move ! (23 ∷ 24 ∷ []) $ free1 ! $ move ! (21 ∷ 22 ∷ []) $ free1 ! $ move ! (19 ∷ 20 ∷ []) $ free1 ! $ move ! (17 ∷ 18 ∷ []) $ free1 ! $ move ! (15 ∷ 16 ∷ []) $ free1 ! $
         move ! (13 ∷ 14 ∷ []) $ free1 ! $ move ! (11 ∷ 12 ∷ []) $ free1 ! $ move ! (9 ∷ 10 ∷ []) $ free1 ! $ move ! (7 ∷ 8 ∷ []) $ free1 ! $ free0 ! $
-        keep ! (0 ∷ 1 ∷ 2 ∷ 3 ∷ 6 ∷ 4 ∷ []) $ by ! (finishes g (zs .1 .1 .1 .0) e same (turn-is g _ is′)))))))))))))))))))
+        keep ! (0 ∷ 1 ∷ 2 ∷ 3 ∷ 6 ∷ 4 ∷ []) $ by ! (finishes g (zs .1 .1 .1 .0) e same (saying-is g _ is′)))))))))))))))))))
 
 module _ {M : Type 1} (𝓤 : URA M) (H : Heap 𝓤) (A : Atoms 𝓤) (W : Given 𝓤 H A) (at-mem : Memory → SProp 𝓤) (run : Routine → Fun 𝓤) where
   -- the walk for any arguments of the call

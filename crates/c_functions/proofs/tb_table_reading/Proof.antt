@@ -7,7 +7,7 @@ use Rattle.reading.specs.declared.ReadingAnswer.{ReadingAnswer}
 use Rattle.reading.specs.Readings.{readingAnswer}
 use Rattle.c_readings.specs.Readings.{answerNumbers}
 use borrow.Author.Needs.{needs}
-use Rattle.c_functions.specs.Calls.{readingGiven}
+use Rattle.c_functions.specs.Calls.{readingReturned}
 use Rattle.c_functions.proofs.tb_table_reading.Statement.{statement}
 use Rattle.c_functions.proofs.tb_table_reading.Tie as tie
 
@@ -18,7 +18,7 @@ answer-numbers-requires : tie.Need-answer-numbers-requires
 answer-numbers-requires c κs = search needs
 
 returns : tie.Need-returns
-unfolding readingGiven
+unfolding readingReturned
 returns c =
     let s = c .before .before .before in
     let a = s .args in

@@ -2,9 +2,9 @@ use borrow.Author.Needs.{needs}
 use mathlib.Core.Path.{_≡_, ap, _∙_}
 use lib.ListN.{length}
 use Rattle.units.specs.Units.{lent}
-use Rattle.loader_held_steps.specs.declared.HeldGiven.{HeldGiven}
-use Rattle.loader_held_steps.specs.HeldFront.{stepHeldGiven, heldScratchLeft, heldRoomLeft}
-use Rattle.c_held.specs.Helds.{heldIn, wordIn, givenHeldBack, steppedHeld, scratchSteppedHeld, roomSteppedHeld}
+use Rattle.loader_held_steps.specs.declared.HeldResponse.{HeldResponse}
+use Rattle.loader_held_steps.specs.HeldFront.{stepHeldResponse, heldScratchLeft, heldRoomLeft}
+use Rattle.c_held.specs.Helds.{heldIn, wordIn, heldResponseBack, steppedHeld, scratchSteppedHeld, roomSteppedHeld}
 use Rattle.c_held.proofs.tb_held_step.Statement.{statement}
 use Rattle.c_held.proofs.tb_held_step.Tie as tie
 
@@ -14,8 +14,8 @@ held-in-requires c κs = search needs
 step-held-requires : tie.Need-step-held-requires
 step-held-requires c κs = search needs
 
-given-back-requires : tie.Need-given-back-requires
-given-back-requires c κs = search needs
+response-back-requires : tie.Need-response-back-requires
+response-back-requires c κs = search needs
 
 same-length : tie.Need-same-length
 same-length c = search needs
@@ -33,9 +33,9 @@ returns c =
     let bs = a .addresses .now in
     let room = a .room .now in
     let q : c .before .before .before .before .before .before .before .before .held-in .result ≡ heldIn (a .held) = c .before .before .before .before .before .before .before .before .held-in .ensures in
-    let g : c .before .before .before .before .before .step-held .result ≡ stepHeldGiven (heldIn (a .held) .loader) (heldIn (a .held) .hold) (a .value) (lent (wordIn (a .held)) w) (lent (wordIn (a .held)) sc) ps bs (length room) =
-    c .before .before .before .before .before .step-held .ensures .0 ∙ (λ i. stepHeldGiven (q i .loader) (q i .hold) (a .value) (lent (q i .loader .part .word) w) (lent (q i .loader .part .word) sc) ps bs (length room)) in (
-      c .given-back .ensures ∙ ap (λ (x : HeldGiven). givenHeldBack (a .held) x) g,
+    let g : c .before .before .before .before .before .step-held .result ≡ stepHeldResponse (heldIn (a .held) .loader) (heldIn (a .held) .hold) (a .value) (lent (wordIn (a .held)) w) (lent (wordIn (a .held)) sc) ps bs (length room) =
+    c .before .before .before .before .before .step-held .ensures .0 ∙ (λ i. stepHeldResponse (q i .loader) (q i .hold) (a .value) (lent (q i .loader .part .word) w) (lent (q i .loader .part .word) sc) ps bs (length room)) in (
+      c .response-back .ensures ∙ ap (λ (x : HeldResponse). heldResponseBack (a .held) x) g,
       (
         c .before .before .before .before .before .step-held .ensures .1 .1 .0 ∙ (λ i. heldScratchLeft (q i .loader) (q i .hold) (a .value) w sc bs (length room)),
         c .before .before .before .before .before .step-held .ensures .1 .1 .1 ∙ (λ i. heldRoomLeft (q i .loader) (q i .hold) (a .value) w sc bs room),
@@ -48,7 +48,7 @@ tb-held-step-spec =
     (tie.spec
     held-in-requires
     step-held-requires
-    given-back-requires
+    response-back-requires
     same-length
     same-length-2
     returns)

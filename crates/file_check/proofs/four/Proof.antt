@@ -3,7 +3,7 @@ use borrow.Author.Needs.{needs}
 use native.Mathlib.Omega.{arith}
 use Prim.Native.Nat.{_≤_, _+_}
 use lib.ListN.{length, drop, length-drop}
-use Rattle.file_check.proofs.Sums.{held-small, held-turn}
+use Rattle.file_check.proofs.Sums.{held-small, held-round}
 use Rattle.file_check.proofs.four.Statement.{statement}
 use Rattle.file_check.proofs.four.Tie as tie
 
@@ -38,7 +38,7 @@ next-requires c κs =
 returns : tie.Need-returns
 returns c =
     let s = c .before .before .before .before .before .before in
-    held-turn (s .args .s) (s .args .bytes .now) (s .args .at) (s .pre .0) (s .pre .1) (s .pre .2)
+    held-round (s .args .s) (s .args .bytes .now) (s .args .at) (s .pre .0) (s .pre .1) (s .pre .2)
     (c .before .before .before .before .byte-at .ensures)
     (c .before .before .before .byte-at2 .ensures)
     (c .before .before .byte-at3 .ensures)

@@ -24,8 +24,8 @@ returns c =
     judged-too (readerOf limit (a .file .now) (a .asked))
     (sym (ap judgedAs (reader-30 limit (a .file .now) (a .asked) (sym (c .before .length-wrong .ensures) ∙ c .if1 .taken))))
 
-blocks-fault-requires : tie.Need-blocks-fault-requires
-blocks-fault-requires c κs =
+blocks-number-requires : tie.Need-blocks-number-requires
+blocks-number-requires c κs =
     let f = c .before .before .before .args .file .now in
     length-right limit (length f) (sym (c .before .length-wrong .ensures) ∙ c .if1 .left) .0
 
@@ -38,7 +38,7 @@ returns-2 c =
     let m = b .before .before in
     let a = m .before .before .args in
     judged-too (readerOf limit (a .file .now) (a .asked))
-    (sym (ap judgedAs (reader-block limit (a .file .now) (a .asked) (sym (m .length-wrong .ensures) ∙ b .before .if1 .left) (b .blocks-fault .result) (b .blocks-fault .ensures) (c .if2 .taken))))
+    (sym (ap judgedAs (reader-block limit (a .file .now) (a .asked) (sym (m .length-wrong .ensures) ∙ b .before .if1 .left) (b .blocks-number .result) (b .blocks-number .ensures) (c .if2 .taken))))
 
 returns-3 : tie.Need-returns-3
 returns-3 c =
@@ -50,7 +50,7 @@ returns-3 c =
     (ap judgedAs
     (reader-35 limit (a .file .now) (a .asked)
     (sym (m .length-wrong .ensures) ∙ b .before .if1 .left)
-    (sym (b .blocks-fault .ensures) ∙ c .before .if2 .left)
+    (sym (b .blocks-number .ensures) ∙ c .before .if2 .left)
     (λ (q : getD (a .file .now) 0 0 ≡ a .asked). c .if3 .taken (c .before .before .nth .ensures ∙ q)))))
 
 payload-size-requires : tie.Need-payload-size-requires
@@ -69,7 +69,7 @@ returns-4 c =
     let f = a .file .now in
     let w : lengthWrong limit (length f) ≡ false = sym (m .length-wrong .ensures) ∙ b .before .if1 .left in
     let r = length-right limit (length f) w in
-    let g : given (blocksRows (blocksIn f) (getD f 0 0) 0 (blocksIn f) f []) ≡ 0 = sym (b .blocks-fault .ensures) ∙ c .before .before .if2 .left in
+    let g : given (blocksRows (blocksIn f) (getD f 0 0) 0 (blocksIn f) f []) ≡ 0 = sym (b .blocks-number .ensures) ∙ c .before .before .if2 .left in
     let s = sized (blocksIn f) (getD f 0 0) 0 (blocksIn f) f (r .1) (let q : 0 + blocksIn f ≡ blocksIn f = omega arith in q) (r .0) g in
     judged-too (readerOf limit f (a .asked))
     (ap Sound (c .payload-size .ensures ∙ sym (s .size))
@@ -81,7 +81,7 @@ judge-spec =
     (tie.spec
     length-wrong-requires
     returns
-    blocks-fault-requires
+    blocks-number-requires
     nth-requires
     returns-2
     returns-3

@@ -2,9 +2,9 @@
 use mathlib.Core.Path.{ap, _∙_}
 use denote.Ref.{now}
 use Rattle.loader_from_file.specs.Loads.{LoadLeft}
-use Rattle.verify_answer.proofs.Ways.{room-left}
+use Rattle.verify_answer.proofs.AnswerCases.{room-left}
 use Rattle.load_told.specs.Tellings.{loadOf}
-use Rattle.load_told.proofs.Ways.{load-is}
+use Rattle.load_told.proofs.AnswerCases.{load-is}
 use borrow.Author.Needs.{needs}
 use Rattle.load_told.proofs.loaded.Statement.{statement}
 use Rattle.verify_answer.specs.Answers.{bytesOf}

@@ -10,7 +10,7 @@ use Rattle.text.proofs.Laying.{front-used}
 use Rattle.loader_run.specs.declared.Ran.{Ran}
 use Rattle.verify_answer.specs.Answers.{numeralOf, partOf}
 use Rattle.load_told.specs.Tellings.{callWrong, usage, timeOf, deviceOf, endText, Loaded, endedBy, saidOn}
-use Rattle.load_told.proofs.Ways.{told-wrong, told-right}
+use Rattle.load_told.proofs.AnswerCases.{told-wrong, told-right}
 use borrow.Author.Needs.{needs}
 use Rattle.load_told.proofs.tell.Statement.{statement}
 use Rattle.load_told.proofs.tell.Tie as tie

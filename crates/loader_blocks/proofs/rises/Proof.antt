@@ -8,7 +8,7 @@ use lib.ListN.{length, getD}
 use lib.Dec.{eqb}
 use lib.Bits.{bitOr}
 use Rattle.loader.specs.Walks.{mustRise, rises, risesIn}
-use Rattle.loader.proofs.Walking.{rises-turn, rises-over}
+use Rattle.loader.proofs.Walking.{rises-round, rises-over}
 use Rattle.loader_blocks.proofs.Laws.{gathered, or-three, or-none}
 use Rattle.loader_blocks.proofs.rises.Statement.{statement}
 use Rattle.loader_blocks.proofs.rises.Tie as tie
@@ -57,7 +57,7 @@ loop-again c =
     ap (λ (x : ℕ). not (eqb (bitOr (l .bits) x) 0)) (c .risen .ensures) ∙ gathered (l .bits) (getD s i 0) (getD w i 0) in (
       omega (arith, c .before .before .before .loop-test .taken),
       l .inv .1,
-      ap (λ (x : Bool). x || R) g ∙ or-three (not (eqb (l .bits) 0)) (mustRise (getD s i 0) (getD w i 0)) R ∙ ap (λ (x : Bool). not (eqb (l .bits) 0) || x) (sym (rises-turn (length w) i w s h)) ∙ l .inv .2,
+      ap (λ (x : Bool). x || R) g ∙ or-three (not (eqb (l .bits) 0)) (mustRise (getD s i 0) (getD w i 0)) R ∙ ap (λ (x : Bool). not (eqb (l .bits) 0) || x) (sym (rises-round (length w) i w s h)) ∙ l .inv .2,
     )
 
 returns : tie.Need-returns Inv-loop μ-loop

@@ -7,7 +7,7 @@ use lib.ListN.{length, getD}
 use lib.Dec.{eqb}
 use Rattle.common.specs.Choice.{if_then_else_}
 use Rattle.loader_blocks.specs.Blocks.{costs}
-use Rattle.loader_blocks.proofs.Laws.{costs-turn, costs-over}
+use Rattle.loader_blocks.proofs.Laws.{costs-round, costs-over}
 use Rattle.loader_blocks.proofs.unlike_piece.Statement.{statement}
 use Rattle.loader_blocks.proofs.unlike_piece.Tie as tie
 
@@ -68,8 +68,8 @@ loop-again c =
     let h : i < length w = omega (arith, c .before .before .before .before .before .loop-test .taken, l .inv .1) in
     let u : c .unlike .result ≡ (if eqb (getD s i 0) (getD w i 0) then 0 else 1) = c .unlike .ensures .0 ∙ (λ j. if eqb (c .before .before .before .wide .ensures .0 j) (c .before .wide2 .ensures .0 j) then 0 else 1) in
     let m : c .unlike .result ≤ 1 = c .unlike .ensures .1 in
-    let turn = costs-turn (length w) 1 i w s h in
-    (omega (arith, c .before .before .before .before .before .loop-test .taken), l .inv .1, omega (arith, u, turn, l .inv .2), omega (arith, m, l .inv .3))
+    let round = costs-round (length w) 1 i w s h in
+    (omega (arith, c .before .before .before .before .before .loop-test .taken), l .inv .1, omega (arith, u, round, l .inv .2), omega (arith, m, l .inv .3))
 
 returns : tie.Need-returns Inv-loop μ-loop
 returns c =

@@ -13,7 +13,7 @@ use Rattle.common.specs.Choice.{if_then_else_}
 use Rattle.units.specs.Units.{pairs}
 use Rattle.units.proofs.Widths.{units-length}
 use Rattle.loader_blocks.specs.Blocks.{costs}
-use Rattle.loader_blocks.proofs.Laws.{costs-turn, costs-over}
+use Rattle.loader_blocks.proofs.Laws.{costs-round, costs-over}
 use Rattle.loader_blocks.proofs.Lent.{units-few}
 use Rattle.loader_blocks.proofs.unlike_words.Statement.{statement}
 use Rattle.loader_blocks.proofs.unlike_words.Tie as tie
@@ -83,8 +83,8 @@ loop-again c =
     let h : i < length w = omega (arith, c .before .before .before .before .loop-test .taken, l .inv .1) in
     let g = c .before .before .get-word .ensures ∙ ap (λ (x : List ℕ). getD (pairs x) i 0) (whole (length (a .wanted .now)) (a .scratch .now) (c .before .before .before .before .before .before .before .before .before .pre .0)) in
     let u : c .unlike .result ≡ (if eqb (getD s i 0) (getD w i 0) then 0 else 1) = c .unlike .ensures .0 ∙ (λ j. if eqb (g j) (c .before .get-word2 .ensures j) then 0 else 1) in
-    let turn = costs-turn (length w) 1 i w s h in
-    (omega (arith, c .before .before .before .before .loop-test .taken), l .inv .1, omega (arith, u, turn, l .inv .2), omega (arith, c .unlike .ensures .1, l .inv .3))
+    let round = costs-round (length w) 1 i w s h in
+    (omega (arith, c .before .before .before .before .loop-test .taken), l .inv .1, omega (arith, u, round, l .inv .2), omega (arith, c .unlike .ensures .1, l .inv .3))
 
 returns : tie.Need-returns Inv-loop μ-loop
 returns c =

@@ -12,7 +12,7 @@ use Rattle.common.proofs.Choice.{if-true, if-false}
 use Rattle.common.specs.Lists.{overwritten}
 use Rattle.common.proofs.Lists.{overwritten-more}
 use Rattle.loader.specs.Walks.{nextDiff, diffFrom}
-use Rattle.loader.proofs.Walking.{diff-turn, diff-over}
+use Rattle.loader.proofs.Walking.{diff-round, diff-over}
 use Rattle.loader_blocks.proofs.Laws.{read-up-to, read-all}
 use Rattle.loader_blocks.proofs.verify_bytes.Statement.{statement}
 use Rattle.loader_blocks.proofs.verify_bytes.Tie as tie
@@ -56,7 +56,7 @@ returns c =
     let i = l .i in
     let hw : i < length w = omega (arith, t, l .inv .1) in
     let u : eqb (getD h i 0) (getD w i 0) ≡ false = ne-eqb _ _ (c .if1 .taken) in
-    let e : i ≡ diffFrom 0 w h = sym (sym (l .inv .2) ∙ diff-turn (length w) i w h hw ∙ if-false (eqb (getD h i 0) (getD w i 0)) (nextDiff (length w - (i + 1)) (i + 1) w h) i u) in
+    let e : i ≡ diffFrom 0 w h = sym (sym (l .inv .2) ∙ diff-round (length w) i w h hw ∙ if-false (eqb (getD h i 0) (getD w i 0)) (nextDiff (length w - (i + 1)) (i + 1) w h) i u) in
     (e, ap (λ (x : List ℕ). set x i (getD h i 0)) (l .inv .3) ∙ overwritten-more h s i (omega (arith, hw, p .0)) (omega (arith, hw, p .1)) ∙ ap (λ (n : ℕ). overwritten n h s) (read-up-to w h i e hw))
 
 add-i : tie.Need-add-i Inv-loop μ-loop
@@ -79,7 +79,7 @@ loop-again c =
     let u : eqb (getD h i 0) (getD w i 0) ≡ true = eq-eqb _ _ (c .if1 .left) in (
       omega (arith, t),
       l .inv .1,
-      sym (diff-turn (length w) i w h hw ∙ if-true (eqb (getD h i 0) (getD w i 0)) (nextDiff (length w - (i + 1)) (i + 1) w h) i u) ∙ l .inv .2,
+      sym (diff-round (length w) i w h hw ∙ if-true (eqb (getD h i 0) (getD w i 0)) (nextDiff (length w - (i + 1)) (i + 1) w h) i u) ∙ l .inv .2,
       ap (λ (x : List ℕ). set x i (getD h i 0)) (l .inv .3) ∙ overwritten-more h s i (omega (arith, hw, p .0)) (omega (arith, hw, p .1)),
       length-set (l .scratch) i (getD h i 0) ∙ l .inv .4,
     )

@@ -14,7 +14,7 @@ use Rattle.common.proofs.Lists.{overwritten-more}
 use Rattle.units.specs.Units.{pairs}
 use Rattle.units.proofs.Widths.{units-length}
 use Rattle.loader.specs.Walks.{nextDiff, diffFrom}
-use Rattle.loader.proofs.Walking.{diff-turn, diff-over}
+use Rattle.loader.proofs.Walking.{diff-round, diff-over}
 use Rattle.loader_blocks.proofs.Laws.{read-up-to, read-all}
 use Rattle.loader_blocks.proofs.verify_words.Statement.{statement}
 use Rattle.loader_blocks.proofs.verify_words.Tie as tie
@@ -63,7 +63,7 @@ returns c =
     let v : c .before .before .before .before .before .before .get-word .result ≡ getD h i 0 = c .before .before .before .before .before .before .get-word .ensures in
     let y : c .before .get-word2 .result ≡ getD w i 0 = c .before .get-word2 .ensures in
     let u : eqb (getD h i 0) (getD w i 0) ≡ false = ne-eqb _ _ (λ q. c .if1 .taken (v ∙ q ∙ sym y)) in
-    let e : i ≡ diffFrom 0 w h = sym (sym (l .inv .2) ∙ diff-turn (length w) i w h hw ∙ if-false (eqb (getD h i 0) (getD w i 0)) (nextDiff (length w - (i + 1)) (i + 1) w h) i u) in
+    let e : i ≡ diffFrom 0 w h = sym (sym (l .inv .2) ∙ diff-round (length w) i w h hw ∙ if-false (eqb (getD h i 0) (getD w i 0)) (nextDiff (length w - (i + 1)) (i + 1) w h) i u) in
     (e, c .before .before .before .before .put-word .ensures .0 ∙ (λ j. set (l .inv .3 j) i (v j)) ∙ overwritten-more h s i (omega (arith, hw, p .0)) (omega (arith, hw, p .1)) ∙ ap (λ (n : ℕ). overwritten n h s) (read-up-to w h i e hw))
 
 add-i : tie.Need-add-i Inv-loop μ-loop
@@ -88,7 +88,7 @@ loop-again c =
     let u : eqb (getD h i 0) (getD w i 0) ≡ true = eq-eqb _ _ (sym v ∙ c .if1 .left ∙ y) in (
       omega (arith, t),
       l .inv .1,
-      sym (diff-turn (length w) i w h hw ∙ if-true (eqb (getD h i 0) (getD w i 0)) (nextDiff (length w - (i + 1)) (i + 1) w h) i u) ∙ l .inv .2,
+      sym (diff-round (length w) i w h hw ∙ if-true (eqb (getD h i 0) (getD w i 0)) (nextDiff (length w - (i + 1)) (i + 1) w h) i u) ∙ l .inv .2,
       c .before .before .before .before .put-word .ensures .0 ∙ (λ j. set (l .inv .3 j) i (v j)) ∙ overwritten-more h s i (omega (arith, hw, p .0)) (omega (arith, hw, p .1)),
       c .before .before .before .before .put-word .kept .0 ∙ l .inv .4,
     )

@@ -1,6 +1,6 @@
 use borrow.Author.Needs.{needs}
 use mathlib.Core.Path.{sym, _∙_}
-use Rattle.loader_from_file.proofs.Judging.{longer-30, sound-0, unsound-m}
+use Rattle.loader_from_file.proofs.Judging.{longer-30, sound-0, refused-m}
 use Rattle.loader_from_file.proofs.file_number.Statement.{statement}
 use Rattle.loader_from_file.proofs.file_number.Tie as tie
 
@@ -24,7 +24,7 @@ returns-2 c =
 returns-3 : tie.Need-returns-3
 returns-3 c =
     let a = c .before .before .before .before .before .before .args in
-    sym (unsound-m (a .file .now) (a .asked) (a .n) _ (c .before .before .before .before .if1 .left) (sym (c .before .before .before .judge .ensures .0) ∙ c .before .judged .given .1))
+    sym (refused-m (a .file .now) (a .asked) (a .n) _ (c .before .before .before .before .if1 .left) (sym (c .before .before .before .judge .ensures .0) ∙ c .before .judged .given .1))
 
 pub file-number-spec : {M : Type 1} → statement M
 file-number-spec =

@@ -10,7 +10,7 @@ use Rattle.units.specs.Units.{units, spare}
 use Rattle.loader.specs.declared.Loader.{Loader}
 use Rattle.loader.specs.Stages.{isEnded}
 use Rattle.loader_steps.specs.Front.{recordOf}
-use Rattle.loader_run.proofs.Good.{short}
+use Rattle.loader_run.proofs.UnrefusedRun.{short}
 use Rattle.loader_run.proofs.Sound.{Sound, sound-start}
 use Rattle.loader_held.specs.Holds.{usual}
 use Rattle.loader_held_run.specs.declared.Holding.{Holding}
@@ -72,8 +72,8 @@ loop-holds c =
 going-requires : tie.Need-going-requires Inv-loop μ-loop
 going-requires c κs = search needs
 
-held-both-requires : tie.Need-held-both-requires Inv-loop μ-loop
-held-both-requires c κs =
+held-turn-requires : tie.Need-held-turn-requires Inv-loop μ-loop
+held-turn-requires c κs =
     let a = c .before .before .before .before .before .before .before .before .before .before .before .before .before .before .before .before .args in
     let l = c .before .before .before .before .before .loop in
     let w = u (a .j .device) (a .wanted .now) in
@@ -101,7 +101,7 @@ loop-less c =
     let bs = a .addresses .now in
     let ps = a .polls .now in
     let x = here (a .j .device) (l .h) (l .array) (l .scratch) (l .room) (l .count) in
-    let b = c .before .before .before .before .before .before .held-both in
+    let b = c .before .before .before .before .before .before .held-turn in
     let g = not-true (isEnded (l .h .loader .stage)) (sym (c .before .before .before .before .before .before .before .before .before .before .before .going .ensures) ∙ c .before .before .before .before .before .before .before .before .before .before .if1 .taken) in
     let y = here (a .j .device) (b .result) (b .last .1 .1 .1 .1 .0) (b .last .1 .1 .1 .0) (b .last .1 .1 .1 .1 .1 .1 .1 .0) (l .count + 1) in
     let q : y ≡ heldMoved (a .j .device) w bs ps x = from-any (a .j .device) w bs ps _ _ _ _ _ _ _ _ _ _ _ _ (l .count) (b .ensures .0) in
@@ -115,7 +115,7 @@ loop-again c =
     let bs = a .addresses .now in
     let ps = a .polls .now in
     let x = here (a .j .device) (l .h) (l .array) (l .scratch) (l .room) (l .count) in
-    let b = c .before .before .before .before .before .before .held-both in
+    let b = c .before .before .before .before .before .before .held-turn in
     let g = not-true (isEnded (l .h .loader .stage)) (sym (c .before .before .before .before .before .before .before .before .before .before .before .going .ensures) ∙ c .before .before .before .before .before .before .before .before .before .before .if1 .taken) in
     let y = here (a .j .device) (b .result) (b .last .1 .1 .1 .1 .0) (b .last .1 .1 .1 .0) (b .last .1 .1 .1 .1 .1 .1 .1 .0) (l .count + 1) in
     let q : y ≡ heldMoved (a .j .device) w bs ps x = from-any (a .j .device) w bs ps _ _ _ _ _ _ _ _ _ _ _ _ (l .count) (b .ensures .0) in (
@@ -165,7 +165,7 @@ drive-held-spec =
     begun-requires
     loop-holds
     going-requires
-    held-both-requires
+    held-turn-requires
     add-count
     loop-less
     loop-again

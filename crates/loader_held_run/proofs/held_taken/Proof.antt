@@ -11,16 +11,16 @@ enum-told : tie.Need-enum-told
 enum-told c = search needs
 
 -- src/lib.rt:93:25
-held-given-requires : tie.Need-held-given-requires
-held-given-requires c κs = search needs
+data-taken-requires : tie.Need-data-taken-requires
+data-taken-requires c κs = search needs
 
 -- src/lib.rt:94:20
 enum-known-seen : tie.Need-enum-known-seen
 enum-known-seen c = search needs
 
 -- src/lib.rt:94:26
-held-given-requires-2 : tie.Need-held-given-requires-2
-held-given-requires-2 c κs = search needs
+data-taken-requires-2 : tie.Need-data-taken-requires-2
+data-taken-requires-2 c κs = search needs
 
 -- src/lib.rt:95:23
 enum-known-seen-2 : tie.Need-enum-known-seen-2
@@ -44,7 +44,7 @@ returns c =
     let a = c .before .before .before .before .before .before .before .before .before .before .before .before .before .args in
     let u = units (a .l .part .word) in
     let e = c .before .before .before .before .before .before .before .enum-told .given .1 in
-    let g = c .before .before .before .before .held-given in (
+    let g = c .before .before .before .before .data-taken in (
       g .ensures .0 ∙ sym (ap (λ (t : Seen). pairBy t (a .l) (a .h) (a .k) (u (a .wanted .now)) (u (a .scratch .now)) (a .polls .now)) e),
       (g .ensures .1 .0 ∙ sym (ap (λ (t : Seen). scratchHeld t (a .l) (a .h) (a .k) (u (a .wanted .now)) (u (a .scratch .now))) e), (g .ensures .1 .1 .0 ∙ sym (ap (λ (t : Seen). roomBy t (a .l .part .word) (a .h) (u (a .room .now))) e), g .ensures .1 .1 .1)),
     )
@@ -63,7 +63,7 @@ returns-2 c =
     let a = c .before .before .before .before .before .before .before .before .before .before .before .before .before .before .args in
     let u = units (a .l .part .word) in
     let e = c .before .before .before .before .before .before .before .before .seen .given .1 in
-    let g = c .before .before .before .before .held-given2 in (
+    let g = c .before .before .before .before .data-taken2 in (
       g .ensures .0 ∙ sym (ap (λ (t : Seen). pairBy t (a .l) (a .h) (a .k) (u (a .wanted .now)) (u (a .scratch .now)) (a .polls .now)) e),
       (g .ensures .1 .0 ∙ sym (ap (λ (t : Seen). scratchHeld t (a .l) (a .h) (a .k) (u (a .wanted .now)) (u (a .scratch .now))) e), (g .ensures .1 .1 .0 ∙ sym (ap (λ (t : Seen). roomBy t (a .l .part .word) (a .h) (u (a .room .now))) e), g .ensures .1 .1 .1)),
     )
@@ -84,9 +84,9 @@ held-taken-spec =
     tie.close
     (tie.spec
     enum-told
-    held-given-requires
+    data-taken-requires
     enum-known-seen
-    held-given-requires-2
+    data-taken-requires-2
     enum-known-seen-2
     stop-requires
     same-length

@@ -20,8 +20,8 @@ start-number-requires c κs = search needs
 begin-requires : tie.Need-begin-requires
 begin-requires c κs = search needs
 
-given-by-requires : tie.Need-given-by-requires
-given-by-requires c κs = search needs
+response-at-requires : tie.Need-response-at-requires
+response-at-requires c κs = search needs
 
 returns : tie.Need-returns
 returns c =
@@ -35,13 +35,13 @@ returns c =
     let n = start-lent (a .verify) (a .part) (a .p) (a .block) xs ys bs rs _ _ _ (t .start-number .ensures) (t .before .before .lent-in .ensures) (t .before .lent-in2 .ensures) in
     let z = sym n ∙ c .before .before .if1 .taken in
     start-too (a .verify) (a .part) (a .p) (a .block) (lent u xs) (lent u ys) bs rs
-    (start-gives (a .verify) (a .part) (a .p) (a .block) xs ys bs rs _ _ z (c .before .begin .ensures) (c .given-by .ensures))
+    (start-gives (a .verify) (a .part) (a .p) (a .block) xs ys bs rs _ _ z (c .before .begin .ensures) (c .response-at .ensures))
 
 begin-requires-2 : tie.Need-begin-requires-2
 begin-requires-2 c κs = search needs
 
-barred-by-requires : tie.Need-barred-by-requires
-barred-by-requires c κs = search needs
+refused-by-requires : tie.Need-refused-by-requires
+refused-by-requires c κs = search needs
 
 returns-2 : tie.Need-returns-2
 returns-2 c =
@@ -54,7 +54,7 @@ returns-2 c =
     let rs = length (a .room .now) in
     let n = start-lent (a .verify) (a .part) (a .p) (a .block) xs ys bs rs _ _ _ (t .start-number .ensures) (t .before .before .lent-in .ensures) (t .before .lent-in2 .ensures) in
     start-too (a .verify) (a .part) (a .p) (a .block) (lent u xs) (lent u ys) bs rs
-    (start-bars (a .verify) (a .part) (a .p) (a .block) xs ys bs rs _ _ _ n (c .before .before .if1 .left) (c .before .begin2 .ensures) (c .barred-by .ensures))
+    (start-bars (a .verify) (a .part) (a .p) (a .block) xs ys bs rs _ _ _ n (c .before .before .if1 .left) (c .before .begin2 .ensures) (c .refused-by .ensures))
 
 pub start-held-spec : {M : Type 1} → statement M
 start-held-spec =
@@ -64,8 +64,8 @@ start-held-spec =
     lent-in-requires-2
     start-number-requires
     begin-requires
-    given-by-requires
+    response-at-requires
     returns
     begin-requires-2
-    barred-by-requires
+    refused-by-requires
     returns-2)

@@ -20,8 +20,8 @@ step-number-requires c κs = search needs
 take-requires : tie.Need-take-requires
 take-requires c κs = search needs
 
-given-by-requires : tie.Need-given-by-requires
-given-by-requires c κs = search needs
+response-at-requires : tie.Need-response-at-requires
+response-at-requires c κs = search needs
 
 same-length : tie.Need-same-length
 same-length c = search needs
@@ -45,13 +45,13 @@ returns c =
     let rs = a .room .now in
     let n = step-lent l h (a .v) xs ys ps bs (length rs) _ _ _ (t .step-number .ensures) (t .before .before .lent-in .ensures) (t .before .lent-in2 .ensures) in
     let z = sym n ∙ i .if1 .taken in
-    step-too l h (a .v) (lent w xs) (lent w ys) ps bs (length rs) (step-gives l h (a .v) xs ys ps bs (length rs) _ _ z (m .ensures .0) (c .given-by .ensures)) (
+    step-too l h (a .v) (lent w xs) (lent w ys) ps bs (length rs) (step-gives l h (a .v) xs ys ps bs (length rs) _ _ z (m .ensures .0) (c .response-at .ensures)) (
       step-leaves l h (a .v) xs ys ps bs (length rs) (m .last .1 .1 .1 .1 .0) z (m .kept .1 .1 .1 .1 .0) (λ i. c .before .before .before .slice-known3 .given i .fits) (m .ensures .1 .0),
       room-leaves l h (a .v) xs ys bs rs (m .last .1 .1 .1 .1 .1 .1 .1 .0) z (λ i. c .before .slice-known4 .given i .fits) (m .ensures .1 .1 .0) (m .ensures .1 .1 .1),
     )
 
-barred-by-requires : tie.Need-barred-by-requires
-barred-by-requires c κs = search needs
+refused-by-requires : tie.Need-refused-by-requires
+refused-by-requires c κs = search needs
 
 returns-2 : tie.Need-returns-2
 returns-2 c =
@@ -67,7 +67,7 @@ returns-2 c =
     let rs = a .room .now in
     let z = c .before .if1 .left in
     let n = step-lent l h (a .v) xs ys ps bs (length rs) _ _ _ (t .step-number .ensures) (t .before .before .lent-in .ensures) (t .before .lent-in2 .ensures) in
-    step-too l h (a .v) (lent w xs) (lent w ys) ps bs (length rs) (step-bars l h (a .v) xs ys ps bs (length rs) _ _ n z (c .barred-by .ensures))
+    step-too l h (a .v) (lent w xs) (lent w ys) ps bs (length rs) (step-bars l h (a .v) xs ys ps bs (length rs) _ _ n z (c .refused-by .ensures))
     (step-keeps l h (a .v) xs ys ps bs (length rs) _ n z, room-keeps l h (a .v) xs ys bs rs _ n z)
 
 pub step-held-spec : {M : Type 1} → statement M
@@ -78,9 +78,9 @@ step-held-spec =
     lent-in-requires-2
     step-number-requires
     take-requires
-    given-by-requires
+    response-at-requires
     same-length
     same-length-2
     returns
-    barred-by-requires
+    refused-by-requires
     returns-2)

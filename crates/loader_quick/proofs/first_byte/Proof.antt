@@ -3,7 +3,7 @@ use mathlib.Core.Path.{ap, _∙_}
 use Prim.Native.Nat.{ℕ}
 use native.Mathlib.Omega.{arith}
 use Rattle.units.specs.Address.{byteOf}
-use Rattle.loader_steps.proofs.Small.{start-small}
+use Rattle.loader_steps.proofs.SmallAddresses.{start-small}
 use Rattle.loader_quick.proofs.Places.{low-byte}
 use borrow.Author.Needs.{needs}
 use Rattle.loader_quick.proofs.first_byte.Statement.{statement}

@@ -10,8 +10,8 @@ use borrow.Author.Needs.{needs}
 use Rattle.loader_quick.proofs.load_by.Statement.{statement}
 use Rattle.loader_quick.proofs.load_by.Tie as tie
 
-both-requires : tie.Need-both-requires
-both-requires c κs = search needs
+load-verify-requires : tie.Need-load-verify-requires
+load-verify-requires c κs = search needs
 
 same-length : tie.Need-same-length
 same-length c = search needs
@@ -24,7 +24,7 @@ returns c =
     let a = c .before .before .before .before .before .before .before .before .before .before .before .args in
     let W : List ℕ = units (a .j .device .part .word) (a .wanted .now) in
     let Y : List ℕ = heldUnits (a .j .device .part) (a .j .block) (a .array .now) (a .wanted .now) in
-    let f = c .before .before .before .before .both in
+    let f = c .before .before .before .before .load-verify in
     (f .ensures .0 ∙ ap (λ (v : Bool). ranAs v (a .j) W Y) (sym (c .before .before .before .before .before .before .before .if1 .taken)), f .ensures .1)
 
 loaded-requires : tie.Need-loaded-requires
@@ -48,7 +48,7 @@ pub load-by-spec : {M : Type 1} → statement M
 load-by-spec =
     tie.close
     (tie.spec
-    both-requires
+    load-verify-requires
     same-length
     same-length-2
     returns

@@ -10,7 +10,7 @@ use Rattle.device.specs.Parts.{startOf}
 use Rattle.units.specs.Units.{units}
 use Rattle.units.proofs.Widths.{units-length}
 use Rattle.loader.specs.Walks.{diffFrom}
-use Rattle.loader_steps.proofs.Small.{start-small}
+use Rattle.loader_steps.proofs.SmallAddresses.{start-small}
 use Rattle.loader_blocks.specs.Blocks.{readTo}
 use Rattle.loader_blocks.proofs.Lent.{met-is, seen-is}
 use Rattle.loader_quick.specs.Quick.{heldUnits, verdictOf}

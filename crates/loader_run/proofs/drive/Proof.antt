@@ -14,7 +14,7 @@ use Rattle.loader_steps.specs.Front.{endAddress}
 use Rattle.loader_run.proofs.Measure.{remains}
 use Rattle.loader.specs.declared.Loader.{Loader}
 use Rattle.units.specs.Units.{units}
-use Rattle.loader_run.proofs.Good.{short}
+use Rattle.loader_run.proofs.UnrefusedRun.{short}
 use Rattle.loader_run.proofs.Sound.{Sound, sound-start, sound-judged, sound-next}
 use Rattle.loader_run.proofs.Turning.{conf, Keeps, keeps-start, keeps-turn, keeps-less, keeps-end, first-stays}
 use Rattle.loader_run.proofs.drive.Statement.{statement}
@@ -56,8 +56,8 @@ loop-holds c =
 going-requires : tie.Need-going-requires Inv-loop μ-loop
 going-requires c κs = search needs
 
-both-requires : tie.Need-both-requires Inv-loop μ-loop
-both-requires c κs =
+turn-requires : tie.Need-turn-requires Inv-loop μ-loop
+turn-requires c κs =
     let a = c .before .before .before .before .before .before .before .before .before .before .before .before .args in
     let l = c .before .before .before .before .loop in
     let g = not-true (isEnded (l .moving .stage)) (sym (c .before .before .before .going .ensures) ∙ c .before .before .if1 .taken) in
@@ -70,15 +70,15 @@ loop-less : tie.Need-loop-less Inv-loop μ-loop
 loop-less c =
     let a = c .before .before .before .before .before .before .before .before .before .before .before .before .before .before .before .before .before .before .before .args in
     let l = c .before .before .before .before .before .before .before .before .before .before .before .loop in
-    keeps-less (answerTo (a .j .device) (units (a .j .device .part .word) (a .wanted .now)) (l .moving) (l .state) (units (a .j .device .part .word) (l .array)) .seen) (l .moving) (units (a .j .device .part .word) (a .wanted .now)) (units (a .j .device .part .word) (l .scratch)) (c .before .before .before .before .before .before .both .result .loader)
-    (not-true (isEnded (l .moving .stage)) (sym (c .before .before .before .before .before .before .before .before .before .before .going .ensures) ∙ c .before .before .before .before .before .before .before .before .before .if1 .taken)) (c .before .before .before .before .before .before .both .ensures .0)
+    keeps-less (answerTo (a .j .device) (units (a .j .device .part .word) (a .wanted .now)) (l .moving) (l .state) (units (a .j .device .part .word) (l .array)) .seen) (l .moving) (units (a .j .device .part .word) (a .wanted .now)) (units (a .j .device .part .word) (l .scratch)) (c .before .before .before .before .before .before .turn .result .loader)
+    (not-true (isEnded (l .moving .stage)) (sym (c .before .before .before .before .before .before .before .before .before .before .going .ensures) ∙ c .before .before .before .before .before .before .before .before .before .if1 .taken)) (c .before .before .before .before .before .before .turn .ensures .0)
 
 loop-again : tie.Need-loop-again Inv-loop μ-loop
 loop-again c =
     let a = c .before .before .before .before .before .before .before .before .before .before .before .before .before .before .before .before .before .before .before .args in
     let l = c .before .before .before .before .before .before .before .before .before .before .before .loop in
     let g = not-true (isEnded (l .moving .stage)) (sym (c .before .before .before .before .before .before .before .before .before .before .going .ensures) ∙ c .before .before .before .before .before .before .before .before .before .if1 .taken) in
-    let b = c .before .before .before .before .before .before .both in (
+    let b = c .before .before .before .before .before .before .turn in (
       keeps-turn (a .j .device) (units (a .j .device .part .word) (a .wanted .now)) _ (l .moving) (l .state) (units (a .j .device .part .word) (l .array)) (units (a .j .device .part .word) (l .scratch)) (l .count) (l .inv .0) g (b .result .loader) (b .result .state) (units (a .j .device .part .word) (b .last .1 .1 .1 .1 .1 .0)) (units (a .j .device .part .word) (b .last .1 .1 .1 .1 .0))
           (b .ensures .0) (b .ensures .1 .0) (b .ensures .1 .1 .0) (b .ensures .1 .1 .1),
       b .kept .1 .1 .1 .1 .0 ∙ l .inv .1,
@@ -115,4 +115,4 @@ returns c =
 pub drive-spec : {M : Type 1} → statement M
 drive-spec =
     tie.close
-    (tie.spec Inv-loop μ-loop record-for-requires first-requires loop-holds going-requires both-requires add-count loop-less loop-again stage-is-requires end-address-requires same-length same-length-2 returns)
+    (tie.spec Inv-loop μ-loop record-for-requires first-requires loop-holds going-requires turn-requires add-count loop-less loop-again stage-is-requires end-address-requires same-length same-length-2 returns)

@@ -1,6 +1,6 @@
 use Rattle.loader_steps.specs.Addresses.{firstAddress}
 use Rattle.loader_steps.specs.Inner.{hereOf}
-use Rattle.loader_steps.proofs.Small.{start-small}
+use Rattle.loader_steps.proofs.SmallAddresses.{start-small}
 use borrow.Author.Needs.{needs}
 use native.Mathlib.Omega.{arith}
 use borrow.Author.Tests.{lt-ltb, le-ltb}

@@ -2,7 +2,7 @@ use mathlib.Core.Path.{_≡_, ap, sym, _∙_}
 use Prim.Native.Nat.{ℕ}
 use Rattle.loader.specs.Moves.{endedBy, nextOf}
 use Rattle.loader_steps.specs.Stores.{storeOf}
-use Rattle.loader_run.specs.Turns.{numberIn, refusalIn}
+use Rattle.loader_run.specs.Turns.{numberIn, refusalNumber}
 use Rattle.units.specs.Units.{units}
 use Rattle.loader_run.proofs.Turning.{took, took-none}
 use borrow.Author.Needs.{needs}
@@ -12,8 +12,8 @@ use Rattle.loader_run.proofs.taken.Tie as tie
 is-refused-requires : tie.Need-is-refused-requires
 is-refused-requires c κs = search needs
 
-refusal-in-requires : tie.Need-refusal-in-requires
-refusal-in-requires c κs = search needs
+refusal-number-requires : tie.Need-refusal-number-requires
+refusal-number-requires c κs = search needs
 
 ended-by-requires : tie.Need-ended-by-requires
 ended-by-requires c κs = search needs
@@ -22,7 +22,7 @@ returns : tie.Need-returns
 returns c =
     let a = c .before .before .before .before .before .before .args in
     let e = sym (c .before .before .before .is-refused .ensures) ∙ c .before .before .if1 .taken in
-    let n : c .before .refusal-in .result ≡ refusalIn (a .seen) = c .before .refusal-in .ensures in
+    let n : c .before .refusal-number .result ≡ refusalNumber (a .seen) = c .before .refusal-number .ensures in
     let t = took-none (a .seen) (a .l) (units (a .l .part .word) (a .wanted .now)) (units (a .l .part .word) (a .scratch .now)) e in
     (c .ended-by .ensures ∙ ap (λ (m : ℕ). endedBy (a .l) m) n ∙ sym (t .0), sym (t .1))
 
@@ -50,7 +50,7 @@ taken-spec =
     tie.close
     (tie.spec
     is-refused-requires
-    refusal-in-requires
+    refusal-number-requires
     ended-by-requires
     returns
     number-in-requires

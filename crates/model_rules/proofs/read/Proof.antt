@@ -14,8 +14,8 @@ enum-told-2 c = search needs
 sixteen-requires : tie.Need-sixteen-requires
 sixteen-requires c κs = search needs
 
-given-requires : tie.Need-given-requires
-given-requires c κs = search needs
+settled-by-requires : tie.Need-settled-by-requires
+settled-by-requires c κs = search needs
 
 enum-told-3 : tie.Need-enum-told-3
 enum-told-3 c = search needs
@@ -27,7 +27,7 @@ returns : tie.Need-returns
 returns c = simp (c .read-array .ensures, c .before .enum-told .given .1)
 
 returns-2 : tie.Need-returns-2
-returns-2 c = simp (c .given .ensures, c .before .sixteen .ensures, c .before .before .enum-told2 .given .1)
+returns-2 c = simp (c .settled-by .ensures, c .before .sixteen .ensures, c .before .before .enum-told2 .given .1)
 
 returns-3 : tie.Need-returns-3
 returns-3 c = simp (c .read-identifier .ensures, c .before .enum-told3 .given .1)
@@ -40,7 +40,7 @@ read-spec =
     read-array-requires
     enum-told-2
     sixteen-requires
-    given-requires
+    settled-by-requires
     enum-told-3
     read-identifier-requires
     returns

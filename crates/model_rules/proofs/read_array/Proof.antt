@@ -14,13 +14,13 @@ returns : tie.Need-returns
 unfolding decideArray
 returns c = simp (c .refused .ensures, sym (c .before .before .in-suspended .ensures) ∙ c .before .if1 .taken)
 
-given-requires : tie.Need-given-requires
-given-requires c κs = search needs
+settled-by-requires : tie.Need-settled-by-requires
+settled-by-requires c κs = search needs
 
 returns-2 : tie.Need-returns-2
 unfolding decideArray
-returns-2 c = simp (c .given .ensures, sym (c .before .before .in-suspended .ensures) ∙ c .before .if1 .left)
+returns-2 c = simp (c .settled-by .ensures, sym (c .before .before .in-suspended .ensures) ∙ c .before .if1 .left)
 
 pub read-array-spec : {M : Type 1} → statement M
 read-array-spec =
-    tie.close (tie.spec in-suspended-requires refused-requires returns given-requires returns-2)
+    tie.close (tie.spec in-suspended-requires refused-requires returns settled-by-requires returns-2)

@@ -17,12 +17,12 @@ returns c = simp (c .refused .ensures, lt-ltb _ _ (c .before .if1 .taken), ← c
 identifier-requires : tie.Need-identifier-requires
 identifier-requires c κs = search needs
 
-given-requires : tie.Need-given-requires
-given-requires c κs = search needs
+settled-by-requires : tie.Need-settled-by-requires
+settled-by-requires c κs = search needs
 
 returns-2 : tie.Need-returns-2
 unfolding decideIdentifier
-returns-2 c = simp (c .given .ensures, c .before .identifier .ensures, le-ltb _ _ (c .before .before .if1 .left), ← c .before .before .before .code-place .ensures)
+returns-2 c = simp (c .settled-by .ensures, c .before .identifier .ensures, le-ltb _ _ (c .before .before .if1 .left), ← c .before .before .before .code-place .ensures)
 
 pub read-identifier-spec : {M : Type 1} → statement M
 read-identifier-spec =
@@ -32,5 +32,5 @@ read-identifier-spec =
     refused-requires
     returns
     identifier-requires
-    given-requires
+    settled-by-requires
     returns-2)

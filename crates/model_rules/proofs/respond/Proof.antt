@@ -23,8 +23,8 @@ write-requires c κs = search needs
 enum-told-3 : tie.Need-enum-told-3
 enum-told-3 c = search needs
 
-given-requires : tie.Need-given-requires
-given-requires c κs = search needs
+settled-by-requires : tie.Need-settled-by-requires
+settled-by-requires c κs = search needs
 
 returns : tie.Need-returns
 returns c = simp (c .read .ensures, c .before .before .enum-told .given .1)
@@ -33,7 +33,7 @@ returns-2 : tie.Need-returns-2
 returns-2 c = simp (c .write .ensures, c .before .action .ensures, c .before .before .command-of .ensures, c .before .before .before .before .enum-told2 .given .1)
 
 returns-3 : tie.Need-returns-3
-returns-3 c = simp (c .given .ensures, c .before .enum-told3 .given .1)
+returns-3 c = simp (c .settled-by .ensures, c .before .enum-told3 .given .1)
 
 pub respond-spec : {M : Type 1} → statement M
 respond-spec =
@@ -46,7 +46,7 @@ respond-spec =
     action-requires
     write-requires
     enum-told-3
-    given-requires
+    settled-by-requires
     returns
     returns-2
     returns-3)

@@ -9,7 +9,7 @@ use Rattle.text.specs.Writing.{laidAt, toldOn}
 use Rattle.text.proofs.Laying.{front-used}
 use Rattle.reading_text.specs.declared.NumberRead.the-variants.{Whole, NoNumber}
 use Rattle.reading_answer.specs.Lines.{usage, readBy, Answered}
-use Rattle.reading_answer.proofs.Ways.{answered-wrong, answered-right}
+use Rattle.reading_answer.proofs.AnswerCases.{answered-wrong, answered-right}
 use borrow.Author.Needs.{needs}
 use Rattle.reading_answer.proofs.answer.Statement.{statement}
 use Rattle.reading_answer.proofs.answer.Tie as tie

@@ -3,7 +3,7 @@ use mathlib.Core.Path.{ap}
 use denote.Ref.{now}
 use Rattle.text.specs.Writing.{bytes}
 use Rattle.reading_answer.specs.Lines.{readingLine}
-use Rattle.reading_answer.proofs.Ways.{alone-laid, behind-laid}
+use Rattle.reading_answer.proofs.AnswerCases.{alone-laid, behind-laid}
 use borrow.Author.Needs.{needs}
 use Rattle.reading_answer.proofs.put_reading.Statement.{statement}
 use Rattle.reading_answer.proofs.put_reading.Tie as tie

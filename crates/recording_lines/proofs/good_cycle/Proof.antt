@@ -4,7 +4,7 @@ use mathlib.Core.Path.{ap, _∙_}
 use mathlib.Core.List.{List}
 use Prim.Native.Nat.{ℕ}
 use Rattle.trace_lines.specs.Lines.{isLine}
-use Rattle.recording_lines.proofs.Same.{laid}
+use Rattle.recording_lines.proofs.SameLines.{laid}
 use Rattle.recording_lines.proofs.good_cycle.Statement.{statement}
 use Rattle.recording_lines.proofs.good_cycle.Tie as tie
 

@@ -1,4 +1,4 @@
--- `recording_replay::record_lines` meets its contract: after i turns the first i lines stand, and what is left makes up the rest.
+-- `recording_replay::record_lines` meets its contract: after i rounds the first i lines stand, and what is left makes up the rest.
 use mathlib.Core.Path.{_≡_, refl, sym, ap, _∙_}
 use mathlib.Core.List.{_++_}
 use Prim.Native.Nat.{ℕ, _+_, _-_, _*_, _≤_, _<_}
@@ -6,10 +6,10 @@ use native.Mathlib.Nat.{sub-zero}
 use native.Mathlib.Omega.{arith}
 use lib.ListN.{length, take, drop}
 use Rattle.trace_replay.specs.Replays.{arraysOf}
-use Rattle.trace_replay.proofs.Turns.{arrays-over}
+use Rattle.trace_replay.proofs.Rounds.{arrays-over}
 use Rattle.recording_replay.specs.declared.Log.{Log}
 use Rattle.recording_replay.specs.Recorded.{linesFrom, logFrom, noLog}
-use Rattle.recording_replay.proofs.Turns.{log-over, part-length, turned-log, turned-array, turned-out, turned-rest, turned-length, turned-over}
+use Rattle.recording_replay.proofs.Rounds.{log-over, part-length, round-log, round-array, round-out, round-rest, round-length, round-over}
 use borrow.Author.Needs.{needs}
 use Rattle.recording_replay.proofs.record_lines.Statement.{statement}
 use Rattle.recording_replay.proofs.record_lines.Tie as tie
@@ -100,15 +100,15 @@ loop-again c =
     let f : 20 * a .g ≤ length (a .text .now) = c .before .before .before .before .before .before .before .before .before .before .before .before .before .before .before .pre .0 in
     let m : 31 * a .g ≤ length (l .out) = omega (arith, l .inv .6, c .before .before .before .before .before .before .before .before .before .before .before .before .before .before .before .pre .1) in (
       omega arith,
-      turned-log (a .g) (l .i) (l .i + 1) (l .l) (k .result) (l .array) (k .last .1 .1 .1 .0) (k .last .1 .1 .1 .1 .1 .0) (a .residue .now) (a .text .now) (l .out) h refl f m (k .ensures .0) (k .ensures .1 .0) (k .ensures .1 .1)
+      round-log (a .g) (l .i) (l .i + 1) (l .l) (k .result) (l .array) (k .last .1 .1 .1 .0) (k .last .1 .1 .1 .1 .1 .0) (a .residue .now) (a .text .now) (l .out) h refl f m (k .ensures .0) (k .ensures .1 .0) (k .ensures .1 .1)
           (logFrom (a .g) 1 s (a .array .now) (a .residue .now) (a .text .now)) (l .inv .1),
-      turned-array (a .g) (l .i) (l .i + 1) (l .l) (k .result) (l .array) (k .last .1 .1 .1 .0) (k .last .1 .1 .1 .1 .1 .0) (a .residue .now) (a .text .now) (l .out) h refl f m (k .ensures .0) (k .ensures .1 .0) (k .ensures .1 .1)
+      round-array (a .g) (l .i) (l .i + 1) (l .l) (k .result) (l .array) (k .last .1 .1 .1 .0) (k .last .1 .1 .1 .1 .1 .0) (a .residue .now) (a .text .now) (l .out) h refl f m (k .ensures .0) (k .ensures .1 .0) (k .ensures .1 .1)
           (arraysOf (a .g) (s .state) (a .array .now) (a .residue .now) (a .text .now)) (l .inv .2),
-      turned-out (a .g) (l .i) (l .i + 1) (l .l) (k .result) (l .array) (k .last .1 .1 .1 .0) (k .last .1 .1 .1 .1 .1 .0) (a .residue .now) (a .text .now) (l .out) h refl f m (k .ensures .0) (k .ensures .1 .0) (k .ensures .1 .1)
+      round-out (a .g) (l .i) (l .i + 1) (l .l) (k .result) (l .array) (k .last .1 .1 .1 .0) (k .last .1 .1 .1 .1 .1 .0) (a .residue .now) (a .text .now) (l .out) h refl f m (k .ensures .0) (k .ensures .1 .0) (k .ensures .1 .1)
           (linesFrom (a .g) (s .state) (a .array .now) (a .residue .now) (a .text .now)) (l .inv .3),
-      turned-rest (a .g) (l .i) (l .i + 1) (l .l) (k .result) (l .array) (k .last .1 .1 .1 .0) (k .last .1 .1 .1 .1 .1 .0) (a .residue .now) (a .text .now) (l .out) h refl f m (k .ensures .0) (k .ensures .1 .0) (k .ensures .1 .1) (a .out .now) (l .inv .4),
+      round-rest (a .g) (l .i) (l .i + 1) (l .l) (k .result) (l .array) (k .last .1 .1 .1 .0) (k .last .1 .1 .1 .1 .1 .0) (a .residue .now) (a .text .now) (l .out) h refl f m (k .ensures .0) (k .ensures .1 .0) (k .ensures .1 .1) (a .out .now) (l .inv .4),
       k .kept .1 .1 .1 .0 ∙ l .inv .5,
-      turned-length (a .g) (l .i) (l .i + 1) (l .l) (k .result) (l .array) (k .last .1 .1 .1 .0) (k .last .1 .1 .1 .1 .1 .0) (a .residue .now) (a .text .now) (l .out) h refl f m (k .ensures .0) (k .ensures .1 .0) (k .ensures .1 .1) ∙ l .inv .6,
+      round-length (a .g) (l .i) (l .i + 1) (l .l) (k .result) (l .array) (k .last .1 .1 .1 .0) (k .last .1 .1 .1 .1 .1 .0) (a .residue .now) (a .text .now) (l .out) h refl f m (k .ensures .0) (k .ensures .1 .0) (k .ensures .1 .1) ∙ l .inv .6,
     )
 
 same-length : tie.Need-same-length Inv-loop μ-loop
@@ -130,7 +130,7 @@ returns c =
       (
         sym (arrays-over (a .g) (l .i) (l .l .state) (l .array) (a .residue .now) (drop (20 * l .i) (a .text .now)) y) ∙ l .inv .2
             ∙ ap (λ (x : Log). arraysOf (a .g) (x .state) (a .array .now) (a .residue .now) (a .text .now)) e,
-        turned-over (a .g) (l .i) (l .l .state) (l .array) (a .residue .now) (a .text .now) (l .out) (a .out .now) (linesFrom (a .g) (s .state) (a .array .now) (a .residue .now) (a .text .now)) z (l .inv .3) (l .inv .4)
+        round-over (a .g) (l .i) (l .l .state) (l .array) (a .residue .now) (a .text .now) (l .out) (a .out .now) (linesFrom (a .g) (s .state) (a .array .now) (a .residue .now) (a .text .now)) z (l .inv .3) (l .inv .4)
             ∙ ap (λ (x : Log). linesFrom (a .g) (x .state) (a .array .now) (a .residue .now) (a .text .now) ++ drop (31 * a .g) (a .out .now)) e,
       ),
     )

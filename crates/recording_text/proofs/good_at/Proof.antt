@@ -4,7 +4,7 @@ use Prim.Native.Nat.{ℕ, _+_, _-_, _*_}
 use native.Mathlib.Omega.{arith}
 use lib.ListN.{take, drop}
 use Rattle.recording_lines.specs.Records.{isRecord}
-use Rattle.recording_text.proofs.Turns.{cut-off}
+use Rattle.recording_text.proofs.Rounds.{cut-off}
 use borrow.Author.Needs.{needs}
 use Rattle.recording_text.proofs.good_at.Statement.{statement}
 use Rattle.recording_text.proofs.good_at.Tie as tie

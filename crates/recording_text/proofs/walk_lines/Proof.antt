@@ -1,4 +1,4 @@
--- `recording_text::walk_lines` meets its contract: after i turns what is ahead leads where the whole leads.
+-- `recording_text::walk_lines` meets its contract: after i rounds what is ahead leads where the whole leads.
 use mathlib.Core.Path.{_≡_, refl, sym, _∙_}
 use Prim.Native.Nat.{_+_, _-_, _*_, _≤_, _<_}
 use native.Mathlib.Nat.{zero-add}
@@ -6,7 +6,7 @@ use native.Mathlib.Omega.{arith}
 use lib.ListN.{length}
 use Rattle.recording_walk.specs.Inner.{wentOver, bytesOver}
 use Rattle.recording_text.specs.Texts.{recordsOf}
-use Rattle.recording_text.proofs.Turns.{ahead, lies, bad, over, turned-walk, turned-bytes, turned-count, stopped}
+use Rattle.recording_text.proofs.Rounds.{ahead, lies, bad, over, round-walk, round-bytes, round-count, stopped}
 use borrow.Author.Needs.{needs}
 use Rattle.recording_text.proofs.walk_lines.Statement.{statement}
 use Rattle.recording_text.proofs.walk_lines.Tie as tie
@@ -67,9 +67,9 @@ loop-again c =
     let p : n ≡ 31 = omega arith in
     let y = k .last .1 .1 .0 in (
       omega arith,
-      turned-walk 9998 (l .i) (a .text .now) h g (l .w) (k .result) (l .array) y n p (k .ensures .0) (k .ensures .1) ∙ l .inv .1,
-      turned-bytes 9998 (l .i) (a .text .now) h g (l .w) (k .result) (l .array) y n p (k .ensures .0) (k .ensures .1) ∙ l .inv .2,
-      turned-count 9998 (l .i) (a .text .now) h g (l .w) (k .result) (l .array) y n p (k .ensures .0) (k .ensures .1) ∙ l .inv .3,
+      round-walk 9998 (l .i) (a .text .now) h g (l .w) (k .result) (l .array) y n p (k .ensures .0) (k .ensures .1) ∙ l .inv .1,
+      round-bytes 9998 (l .i) (a .text .now) h g (l .w) (k .result) (l .array) y n p (k .ensures .0) (k .ensures .1) ∙ l .inv .2,
+      round-count 9998 (l .i) (a .text .now) h g (l .w) (k .result) (l .array) y n p (k .ensures .0) (k .ensures .1) ∙ l .inv .3,
       k .kept .1 .1 .0 ∙ l .inv .4,
     )
 

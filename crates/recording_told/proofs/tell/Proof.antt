@@ -32,7 +32,7 @@ returns c =
     let p = c .before .before .put-refused in
     let e = refused (now (a .text)) (now (a .promised)) (now (a .array)) (j .last .1 .1 .0) (j .result) (j .ensures .0) (j .ensures .1) (c .before .before .before .before .if1 .taken) in (
       p .ensures .0 ∙ ap (λ (z : List ℕ). behind out 0 z) e,
-      (p .ensures .1 ∙ ap (λ (z : List ℕ). laidAt out 0 z) e, (j .ensures .1, front-used out (startRefused (j .result .checked .refusal)) (p .last .0) (p .result) (p .ensures .0) (p .ensures .1))),
+      (p .ensures .1 ∙ ap (λ (z : List ℕ). laidAt out 0 z) e, (j .ensures .1, front-used out (startRefused (j .result .checked .number)) (p .last .0) (p .result) (p .ensures .0) (p .ensures .1))),
     )
 
 put-first-requires : tie.Need-put-first-requires

@@ -2,7 +2,7 @@ use borrow.Author.Needs.{needs}
 use lib.ListN.{length}
 use Rattle.file_codec.specs.File.{limit}
 use Rattle.store_places.specs.Store.{dropOf}
-use Rattle.store_survey.specs.Survey.{faultOf}
+use Rattle.store_survey.specs.Survey.{readerNumber}
 use Rattle.store.specs.Stores.{mainOf, dropNumber}
 use Rattle.store.proofs.Leaving.{change-told}
 use Rattle.store.proofs.drop_letter.Statement.{statement}
@@ -28,7 +28,7 @@ returns c =
     let a = c .before .before .before .before .before .before .before .before .before .before .before .before .before .before .before .before .args in
     let k = c .before .before .before .before .before .before .before .before .before .before .drop-prepared .ensures in
     let e = c .before .before .before .before .change .ensures in
-    change-told (dropNumber (a .d) (a .s) (a .p) (a .array .now) (length (a .memory .now)) (length (a .scratch .now)) (a .letter)) (dropOf (faultOf limit) (a .letter) (mainOf (a .d .part) (a .array .now))) (a .d) (a .s) (a .p) (a .array .now) (a .memory .now) (a .scratch .now) _ (k .1) _ _ _ (e .0) (e .1 .0) (e .1 .1) (k .0)
+    change-told (dropNumber (a .d) (a .s) (a .p) (a .array .now) (length (a .memory .now)) (length (a .scratch .now)) (a .letter)) (dropOf (readerNumber limit) (a .letter) (mainOf (a .d .part) (a .array .now))) (a .d) (a .s) (a .p) (a .array .now) (a .memory .now) (a .scratch .now) _ (k .1) _ _ _ (e .0) (e .1 .0) (e .1 .1) (k .0)
 
 pub drop-letter-spec : {M : Type 1} → statement M
 drop-letter-spec =

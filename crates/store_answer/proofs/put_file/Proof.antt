@@ -8,8 +8,8 @@ use lib.ListN.{length, take, drop, length-take}
 use Rattle.text.specs.Writing.{bytes, laidAt, behind}
 use Rattle.file_codec.specs.File.{limit, inRoom, readerOf}
 use Rattle.store_answer.specs.Listing.{fileText, payloadText}
-use Rattle.table_text.proofs.Turns.{gave-fits}
-use Rattle.store_answer.proofs.Turns.{not-read, gave}
+use Rattle.table_text.proofs.Rounds.{gave-fits}
+use Rattle.store_answer.proofs.Rounds.{not-read, gave}
 use borrow.Author.Needs.{needs}
 use Rattle.store_answer.proofs.put_file.Statement.{statement}
 use Rattle.store_answer.proofs.put_file.Tie as tie

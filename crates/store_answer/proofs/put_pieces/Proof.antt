@@ -4,7 +4,7 @@ use Prim.Native.Nat.{ℕ, _-_, _/_, _<_, _≤_, zero-le}
 use native.Mathlib.Omega.{arith}
 use lib.ListN.{length}
 use denote.Ref.{now}
-use Rattle.store_answer.proofs.Turns.{Goes, goes-start, goes-on, goes-end}
+use Rattle.store_answer.proofs.Rounds.{Goes, goes-start, goes-on, goes-end}
 use borrow.Author.Needs.{needs}
 use Rattle.store_answer.proofs.put_pieces.Statement.{statement}
 use Rattle.store_answer.proofs.put_pieces.Tie as tie

@@ -4,7 +4,7 @@ use mathlib.Core.Path.{ap}
 use Prim.Native.Nat.{ℕ}
 use Rattle.file_codec.specs.File.{limit}
 use Rattle.store_places.specs.Store.{addOf}
-use Rattle.store_survey.specs.Survey.{faultOf}
+use Rattle.store_survey.specs.Survey.{readerNumber}
 use Rattle.store_contents.specs.Contents.{memoryBy}
 use Rattle.store_contents.proofs.add_into.Statement.{statement}
 use Rattle.store_contents.proofs.add_into.Tie as tie
@@ -22,7 +22,7 @@ same-length : tie.Need-same-length
 same-length c = search needs
 
 returns : tie.Need-returns
-returns c = let a = c .before .before .before .before .before .before .before .before .before .args in let e = c .before .before .before .before .add-number .ensures in (e, c .before .before .put-new .ensures ∙ ap (λ (n : ℕ). memoryBy n (addOf (faultOf limit) (a .letter) (a .file .now) (a .main .now)) (a .memory .now)) e)
+returns c = let a = c .before .before .before .before .before .before .before .before .before .args in let e = c .before .before .before .before .add-number .ensures in (e, c .before .before .put-new .ensures ∙ ap (λ (n : ℕ). memoryBy n (addOf (readerNumber limit) (a .letter) (a .file .now) (a .main .now)) (a .memory .now)) e)
 
 pub add-into-spec : {M : Type 1} → statement M
 add-into-spec =

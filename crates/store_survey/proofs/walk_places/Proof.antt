@@ -4,7 +4,7 @@ use mathlib.Core.Path.{_≡_, refl, _∙_, ap}
 use Prim.Native.Nat.{_-_, _/_}
 use native.Mathlib.Omega.{arith}
 use lib.ListN.{length}
-use Rattle.store_survey.proofs.Turning.{Walked}
+use Rattle.store_survey.proofs.Rounds.{Walked}
 use Rattle.store_survey.proofs.Spots.{leftAt, ended}
 use Rattle.store_survey.proofs.Carried.{begun, carried, seen-long}
 use Rattle.store_survey.proofs.walk_places.Statement.{statement}

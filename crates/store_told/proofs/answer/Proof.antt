@@ -13,7 +13,7 @@ use Rattle.store_told.specs.declared.Said.{Said}
 use Rattle.store_answer.specs.Words.{changeLine}
 use Rattle.store_told.specs.Sayings.{isChange, usage, partOf, asked, Asked, bytesOf, changeOf, Answered, ended, shown, askedOn, answeredOn, saidOn}
 use lib.Dec.{eqb}
-use Rattle.store_told.proofs.Ways.{asked-inside, answered-wrong, answered-change, answered-asked}
+use Rattle.store_told.proofs.AnswerCases.{asked-inside, answered-wrong, answered-change, answered-asked}
 use borrow.Author.Needs.{needs}
 use Rattle.store_told.proofs.answer.Statement.{statement}
 use Rattle.store_told.proofs.answer.Tie as tie
@@ -39,14 +39,14 @@ returns c =
     let p = c .before .before .before .put-usage in
     let e = answered-wrong (a .count) (now (a .word)) (now (a .image)) (now (a .device)) (now (a .letter)) (now (a .volts)) (now (a .file)) M S (sym (c .before .before .before .before .before .before .call-wrong .ensures) ∙ c .before .before .before .before .before .if1 .taken) in
     let s = c .as-said .ensures in (
-      s ∙ ap (λ (u : ℕ). record { used = u; stream = 2; given = 0; changed = false }) (p .ensures .0) ∙ ap (λ (z : Answered). answeredOn out z) e,
+      s ∙ ap (λ (u : ℕ). record { used = u; stream = 2; filled = 0; changed = false }) (p .ensures .0) ∙ ap (λ (z : Answered). answeredOn out z) e,
       (
         p .ensures .1 ∙ ap (λ (z : Answered). laidAt out 0 (z .line)) e,
         (
           ap (λ (z : Answered). z .image) e,
           (
             ap (λ (z : Answered). z .memory) e,
-            (ap (λ (z : Answered). z .scratch) e, (front-used out usage (p .last .0) _ (ap (λ (z : Said). z .used) s ∙ p .ensures .0) (p .ensures .1), used _ M (let g = ap (λ (z : Said). z .given) s in omega (arith, g)))),
+            (ap (λ (z : Answered). z .scratch) e, (front-used out usage (p .last .0) _ (ap (λ (z : Said). z .used) s ∙ p .ensures .0) (p .ensures .1), used _ M (let g = ap (λ (z : Said). z .filled) s in omega (arith, g)))),
           ),
         ),
       ),
@@ -112,7 +112,7 @@ returns-2 c =
             v .ensures .1 .1 .0 ∙ ap (λ (z : Answered). z .memory) e,
             (
               v .ensures .1 .1 .1 ∙ ap (λ (z : Answered). z .scratch) e,
-              (front-used out (changeLine (v .result .end) (v .result .state .wear .block3)) (s .last .0) _ (ap (λ (z : Said). z .used) (s .ensures .0)) (s .ensures .1), used _ _ (let n = ap (λ (z : Said). z .given) (s .ensures .0) in omega (arith, n))),
+              (front-used out (changeLine (v .result .end) (v .result .state .wear .block3)) (s .last .0) _ (ap (λ (z : Said). z .used) (s .ensures .0)) (s .ensures .1), used _ _ (let n = ap (λ (z : Said). z .filled) (s .ensures .0) in omega (arith, n))),
             ),
           ),
         ),
@@ -152,7 +152,7 @@ returns-3 c =
     in
     let e = g ∙ answered-asked (a .count) (now (a .word)) X (now (a .device)) (now (a .letter)) U F M S w t in
     let i = asked-inside (b .result) (d .result) X (l .result) U M in
-    let n = ap (λ (z : Said). z .given) (p .ensures .0) in
+    let n = ap (λ (z : Said). z .filled) (p .ensures .0) in
     let m = ap length (p .ensures .1 .1) in (
       p .ensures .0 ∙ ap (λ (z : Answered). answeredOn out z) e,
       (

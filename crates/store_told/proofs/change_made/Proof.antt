@@ -2,10 +2,10 @@
 use mathlib.Core.Path.{ap, _∙_}
 use denote.Ref.{now}
 use borrow.Author.Tests.{eq-eqb, ne-eqb}
-use Rattle.verify_answer.proofs.Ways.{room-left}
+use Rattle.verify_answer.proofs.AnswerCases.{room-left}
 use Rattle.store.specs.Stores.{ChangeLeft}
 use Rattle.store_told.specs.Sayings.{bytesOf, changeOf}
-use Rattle.store_told.proofs.Ways.{change-add, change-drop}
+use Rattle.store_told.proofs.AnswerCases.{change-add, change-drop}
 use borrow.Author.Needs.{needs}
 use Rattle.store_told.proofs.change_made.Statement.{statement}
 use Rattle.store_told.proofs.change_made.Tie as tie

@@ -20,7 +20,7 @@ returns : tie.Need-returns
 returns c =
     let p = c .before .before .before .say-change in
     let R = c .before .before .before .before .before .before .before .before .args .ran in
-    (c .as-said .ensures ∙ ap (λ (u : ℕ). record { used = u; stream = 2; given = 0; changed = eqb (R .end) 0 }) (p .ensures .0), p .ensures .1 .0)
+    (c .as-said .ensures ∙ ap (λ (u : ℕ). record { used = u; stream = 2; filled = 0; changed = eqb (R .end) 0 }) (p .ensures .0), p .ensures .1 .0)
 
 pub change-said-spec : {M : Type 1} → statement M
 change-said-spec = tie.close (tie.spec say-change-requires as-said-requires same-length returns)

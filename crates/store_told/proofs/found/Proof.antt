@@ -8,7 +8,7 @@ use Rattle.text.specs.Writing.{laidAt, behind}
 use Rattle.text.proofs.Laying.{laid-none}
 use Rattle.store_find.specs.declared.Found.{Found}
 use Rattle.store_told.specs.Sayings.{findLine, saidOn}
-use Rattle.store_told.proofs.Ways.{find-refused, find-silent}
+use Rattle.store_told.proofs.AnswerCases.{find-refused, find-silent}
 use borrow.Author.Needs.{needs}
 use Rattle.store_told.proofs.found.Statement.{statement}
 use Rattle.store_told.proofs.found.Tie as tie
@@ -35,7 +35,7 @@ returns c =
     let p = c .before .before .before .say-refusal in
     let e = find-refused (f .result) (c .before .before .before .before .before .if1 .taken) in (
       c .as-said .ensures
-          ∙ ap (λ (u : ℕ). record { used = u; stream = 2; given = f .result .length; changed = false }) (p .ensures .0 ∙ ap (λ (z : List ℕ). behind out 0 z) e)
+          ∙ ap (λ (u : ℕ). record { used = u; stream = 2; filled = f .result .length; changed = false }) (p .ensures .0 ∙ ap (λ (z : List ℕ). behind out 0 z) e)
           ∙ ap (λ (z : Found). saidOn out (findLine z) 2 (z .length) false) (f .ensures .0),
       (p .ensures .1 .0 ∙ ap (λ (z : List ℕ). laidAt out 0 z) e ∙ ap (λ (z : Found). laidAt out 0 (findLine z)) (f .ensures .0), f .ensures .1),
     )
@@ -53,7 +53,7 @@ returns-2 c =
     let l = laid-none out 0 zero-le in
     let e = find-silent (f .result) (c .before .if1 .left) in (
       c .as-said2 .ensures
-          ∙ ap (λ (u : ℕ). record { used = u; stream = 2; given = f .result .length; changed = false }) (l .place ∙ ap (λ (z : List ℕ). behind out 0 z) e)
+          ∙ ap (λ (u : ℕ). record { used = u; stream = 2; filled = f .result .length; changed = false }) (l .place ∙ ap (λ (z : List ℕ). behind out 0 z) e)
           ∙ ap (λ (z : Found). saidOn out (findLine z) 2 (z .length) false) (f .ensures .0),
       (l .bytes ∙ ap (λ (z : List ℕ). laidAt out 0 z) e ∙ ap (λ (z : Found). laidAt out 0 (findLine z)) (f .ensures .0), f .ensures .1),
     )

@@ -7,7 +7,7 @@ use Rattle.text.specs.Writing.{laidAt, behind}
 use Rattle.store.proofs.Blocks.{handed, handed-ends}
 use Rattle.store.proofs.Judging.{found-sized}
 use Rattle.store_answer.specs.Listing.{listOf}
-use Rattle.store_told.proofs.Ways.{list-refused, list-told}
+use Rattle.store_told.proofs.AnswerCases.{list-refused, list-told}
 use borrow.Author.Needs.{needs}
 use Rattle.store_told.proofs.put_listed.Statement.{statement}
 use Rattle.store_told.proofs.put_listed.Tie as tie

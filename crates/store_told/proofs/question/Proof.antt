@@ -7,7 +7,7 @@ use denote.Ref.{now}
 use borrow.Author.Tests.{eq-eqb, ne-eqb}
 use Rattle.text.specs.Writing.{laidAt, behind}
 use Rattle.store_told.specs.Sayings.{Asked, askedOn}
-use Rattle.store_told.proofs.Ways.{asked-list, asked-find, asked-read}
+use Rattle.store_told.proofs.AnswerCases.{asked-list, asked-find, asked-read}
 use borrow.Author.Needs.{needs}
 use Rattle.store_told.proofs.question.Statement.{statement}
 use Rattle.store_told.proofs.question.Tie as tie
@@ -27,7 +27,7 @@ returns c =
     let out = now (a .out) in
     let p = c .before .before .before .put-listed in
     let e = asked-list (a .b) (a .part) (now (a .image)) (a .letter) (now (a .volts)) (now (a .memory)) (eq-eqb _ _ (c .before .before .before .before .before .if1 .taken)) in (
-      c .as-said .ensures ∙ ap (λ (u : ℕ). record { used = u; stream = 1; given = 0; changed = false }) (p .ensures .0) ∙ ap (λ (z : Asked). askedOn out z) e,
+      c .as-said .ensures ∙ ap (λ (u : ℕ). record { used = u; stream = 1; filled = 0; changed = false }) (p .ensures .0) ∙ ap (λ (z : Asked). askedOn out z) e,
       (p .ensures .1 ∙ ap (λ (z : Asked). laidAt out 0 (z .line)) e, ap (λ (z : Asked). z .memory) e),
     )
 

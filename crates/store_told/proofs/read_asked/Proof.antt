@@ -56,7 +56,7 @@ returns c =
     let v = c .before .before .before .before .before .before .before .before .before .number .given .0 .0 in
     let x = toZ-ofZ w32 v (record { sfits = c .before .before .before .before .before .before .before .before .known-told .given .0 .1 }) in
     let e = ap (λ (z : ℤ). readBySaid (Whole z) o M) x ∙ ap (λ (z : NumberRead). readBySaid z o M) (sym (sym (c .before .before .before .before .before .before .before .before .before .before .before .read-number .ensures .0) ∙ c .before .before .before .before .before .before .before .before .before .number .given .1)) in (
-      c .as-said .ensures ∙ ap (λ (u : ℕ). record { used = u; stream = 1; given = 0; changed = false }) (p .ensures .0) ∙ ap (λ (z : Asked). askedOn out z) e,
+      c .as-said .ensures ∙ ap (λ (u : ℕ). record { used = u; stream = 1; filled = 0; changed = false }) (p .ensures .0) ∙ ap (λ (z : Asked). askedOn out z) e,
       (p .ensures .1 .0 ∙ ap (λ (z : Asked). laidAt out 0 (z .line)) e, p .ensures .1 .1 ∙ ap (λ (z : Asked). z .memory) e),
     )
 
@@ -71,7 +71,7 @@ returns-2 c =
     let o = inRoom (length M) (readBy (a .letter) (foundOn (a .part) (now (a .image)) (a .letter))) in
     let p = c .before .before .before .put-usage in
     let e = ap (λ (z : NumberRead). readBySaid z o M) (sym (sym (c .before .before .before .before .before .before .before .read-number .ensures .0) ∙ c .before .before .before .before .before .enum-told .given .1)) in (
-      c .as-said2 .ensures ∙ ap (λ (u : ℕ). record { used = u; stream = 2; given = 0; changed = false }) (p .ensures .0) ∙ ap (λ (z : Asked). askedOn out z) e,
+      c .as-said2 .ensures ∙ ap (λ (u : ℕ). record { used = u; stream = 2; filled = 0; changed = false }) (p .ensures .0) ∙ ap (λ (z : Asked). askedOn out z) e,
       (p .ensures .1 ∙ ap (λ (z : Asked). laidAt out 0 (z .line)) e, ap (λ (z : Asked). z .memory) e),
     )
 

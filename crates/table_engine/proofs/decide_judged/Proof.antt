@@ -14,14 +14,14 @@ settle-requires c κs = search needs
 rp-low-requires : tie.Need-rp-low-requires
 rp-low-requires c κs = search needs
 
-given-requires : tie.Need-given-requires
-given-requires c κs = search needs
+settled-by-requires : tie.Need-settled-by-requires
+settled-by-requires c κs = search needs
 
 returns : tie.Need-returns
 unfolding decideJudged
 returns c =
     let a = c .before .before .before .before .before .before .args in
-    c .given .ensures ∙ ap (λ (t : Settled). settledBy Quiet t) (c .before .before .before .settle .ensures)
+    c .settled-by .ensures ∙ ap (λ (t : Settled). settledBy Quiet t) (c .before .before .before .settle .ensures)
     ∙ sym (if-true (rpLow (a .c .pins)) _ _ (sym (c .before .before .rp-low .ensures) ∙ c .before .if1 .taken))
 
 respond-requires : tie.Need-respond-requires
@@ -35,4 +35,4 @@ returns-2 c =
     ∙ sym (if-false (rpLow (a .c .pins)) _ _ (sym (c .before .before .rp-low .ensures) ∙ c .before .if1 .left))
 
 pub decide-judged-spec : {M : Type 1} → statement M
-decide-judged-spec = tie.close (tie.spec settle-requires rp-low-requires given-requires returns respond-requires returns-2)
+decide-judged-spec = tie.close (tie.spec settle-requires rp-low-requires settled-by-requires returns respond-requires returns-2)

@@ -9,7 +9,7 @@ use Rattle.text.specs.Writing.{laidAt, toldOn}
 use Rattle.text.proofs.Laying.{front-used}
 use Rattle.reading_text.specs.Tables.{tableScanned}
 use Rattle.table_file.specs.Files.{complaint, scannedSaid, longLine, usage, Made}
-use Rattle.table_file.proofs.Ways.{complained, made-good, made-long, made-wrong}
+use Rattle.table_file.proofs.AnswerCases.{complained, made-good, made-long, made-wrong}
 use borrow.Author.Needs.{needs}
 use Rattle.table_file.proofs.make.Statement.{statement}
 use Rattle.table_file.proofs.make.Tie as tie

@@ -3,7 +3,7 @@ use mathlib.Core.Path.{sym, _∙_}
 use lib.ListN.{length}
 use denote.Ref.{now}
 use Rattle.file_codec.specs.File.{limit, inRoom, writerOf}
-use Rattle.table_file.proofs.Ways.{wrote-said, refused-told}
+use Rattle.table_file.proofs.AnswerCases.{wrote-said, refused-told}
 use borrow.Author.Needs.{needs}
 use Rattle.table_file.proofs.put_file.Statement.{statement}
 use Rattle.table_file.proofs.put_file.Tie as tie

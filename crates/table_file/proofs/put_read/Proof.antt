@@ -5,8 +5,8 @@ use lib.ListN.{length}
 use denote.Ref.{now}
 use Rattle.text.specs.Writing.{laidAt, toldOn}
 use Rattle.table_file.specs.Files.{Said}
-use Rattle.table_file.proofs.Few.{knots-few, line-few}
-use Rattle.table_file.proofs.Ways.{line-told, read-good, part-most}
+use Rattle.table_file.proofs.KnotsCounted.{knots-few, line-few}
+use Rattle.table_file.proofs.AnswerCases.{line-told, read-good, part-most}
 use borrow.Author.Needs.{needs}
 use Rattle.table_file.proofs.put_read.Statement.{statement}
 use Rattle.table_file.proofs.put_read.Tie as tie

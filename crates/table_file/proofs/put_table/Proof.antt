@@ -5,7 +5,7 @@ use denote.Ref.{now}
 use borrow.Author.Tests.{ne-eqb}
 use Rattle.text.specs.Writing.{laidAt, toldOn}
 use Rattle.table_file.specs.Files.{Said, tableLine, tableSaid}
-use Rattle.table_file.proofs.Ways.{complained, good-table, bad-table}
+use Rattle.table_file.proofs.AnswerCases.{complained, good-table, bad-table}
 use borrow.Author.Needs.{needs}
 use Rattle.table_file.proofs.put_table.Statement.{statement}
 use Rattle.table_file.proofs.put_table.Tie as tie

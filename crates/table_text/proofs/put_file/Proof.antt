@@ -5,7 +5,7 @@ use denote.Ref.{now}
 use Rattle.text.specs.Writing.{laidAt, toldOn}
 use Rattle.file_codec.specs.File.{limit, inRoom, readerOf}
 use Rattle.table_text.specs.Shown.{Said, fileSaid}
-use Rattle.table_text.proofs.Turns.{complained, not-read, gave-fits, gave}
+use Rattle.table_text.proofs.Rounds.{complained, not-read, gave-fits, gave}
 use borrow.Author.Needs.{needs}
 use Rattle.table_text.proofs.put_file.Statement.{statement}
 use Rattle.table_text.proofs.put_file.Tie as tie

@@ -6,7 +6,7 @@ use lib.ListN.{length}
 use denote.Ref.{now}
 use mir.Syntax.{w16, w32}
 use mir.ValLaws.{toZ-ofZ}
-use Rattle.table_text.proofs.Turns.{Goes, goes-start, goes-on, goes-end}
+use Rattle.table_text.proofs.Rounds.{Goes, goes-start, goes-on, goes-end}
 use borrow.Author.Needs.{needs}
 use Rattle.table_text.proofs.put_knots.Statement.{statement}
 use Rattle.table_text.proofs.put_knots.Tie as tie

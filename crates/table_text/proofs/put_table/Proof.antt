@@ -5,7 +5,7 @@ use denote.Ref.{now}
 use borrow.Author.Tests.{ne-eqb}
 use Rattle.text.specs.Writing.{laidAt, toldOn}
 use Rattle.table_text.specs.Shown.{Said, tableSaid}
-use Rattle.table_text.proofs.Turns.{complained, good-table, bad-table}
+use Rattle.table_text.proofs.Rounds.{complained, good-table, bad-table}
 use borrow.Author.Needs.{needs}
 use Rattle.table_text.proofs.put_table.Statement.{statement}
 use Rattle.table_text.proofs.put_table.Tie as tie

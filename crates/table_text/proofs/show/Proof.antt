@@ -9,7 +9,7 @@ use Rattle.text.specs.Writing.{laidAt, toldOn}
 use Rattle.text.proofs.Laying.{front-used}
 use Rattle.file_codec.specs.File.{limit, inRoom, leftIn, readerOf}
 use Rattle.table_text.specs.Shown.{fileSaid, usage, Shown}
-use Rattle.table_text.proofs.Turns.{shown-good, shown-wrong}
+use Rattle.table_text.proofs.Rounds.{shown-good, shown-wrong}
 use borrow.Author.Needs.{needs}
 use Rattle.table_text.proofs.show.Statement.{statement}
 use Rattle.table_text.proofs.show.Tie as tie

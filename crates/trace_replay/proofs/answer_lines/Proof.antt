@@ -1,4 +1,4 @@
--- `trace_replay::answer_lines` meets its contract: after i turns the first i answers stand, and what is left to answer makes up the rest of
+-- `trace_replay::answer_lines` meets its contract: after i rounds the first i answers stand; what is left to answer makes up the rest of
 -- the answers and of the array.
 use mathlib.Core.Path.{_≡_, refl, sym, ap, _∙_}
 use mathlib.Core.List.{_++_}
@@ -8,7 +8,7 @@ use lib.ListN.{length, take, drop}
 use Rattle.model_types.specs.declared.State.{State}
 use Rattle.model_types.specs.States.{freshState}
 use Rattle.trace_replay.specs.Replays.{answersOf, arraysOf}
-use Rattle.trace_replay.proofs.Turns.{turned-array, turned-out, turned-rest, turned-length, turned-over, arrays-over}
+use Rattle.trace_replay.proofs.Rounds.{round-array, round-out, round-rest, round-length, round-over, arrays-over}
 use borrow.Author.Needs.{needs}
 use native.Mathlib.Omega.{arith}
 use Rattle.trace_replay.proofs.answer_lines.Statement.{statement}
@@ -91,13 +91,13 @@ loop-again c =
     let x = k .ensures .1 .0 in
     let o = k .ensures .1 .1 in (
       omega arith,
-      turned-array (a .g) (l .i) (l .s) (k .result) (l .array) (k .last .1 .1 .1 .0) (k .last .1 .1 .1 .1 .1 .0) (a .residue .now) (a .text .now) (l .out) h f e x o
+      round-array (a .g) (l .i) (l .s) (k .result) (l .array) (k .last .1 .1 .1 .0) (k .last .1 .1 .1 .1 .1 .0) (a .residue .now) (a .text .now) (l .out) h f e x o
           (arraysOf (a .g) (c .before .before .before .before .before .before .before .before .before .before .fresh .result) (a .array .now) (a .residue .now) (a .text .now)) (l .inv .1),
-      turned-out (a .g) (l .i) (l .s) (k .result) (l .array) (k .last .1 .1 .1 .0) (k .last .1 .1 .1 .1 .1 .0) (a .residue .now) (a .text .now) (l .out) h f e x o
+      round-out (a .g) (l .i) (l .s) (k .result) (l .array) (k .last .1 .1 .1 .0) (k .last .1 .1 .1 .1 .1 .0) (a .residue .now) (a .text .now) (l .out) h f e x o
           (answersOf (a .g) (c .before .before .before .before .before .before .before .before .before .before .fresh .result) (a .array .now) (a .residue .now) (a .text .now)) (l .inv .2),
-      turned-rest (a .g) (l .i) (l .s) (k .result) (l .array) (k .last .1 .1 .1 .0) (k .last .1 .1 .1 .1 .1 .0) (a .residue .now) (a .text .now) (l .out) h f e x o (a .out .now) (l .inv .3),
+      round-rest (a .g) (l .i) (l .s) (k .result) (l .array) (k .last .1 .1 .1 .0) (k .last .1 .1 .1 .1 .1 .0) (a .residue .now) (a .text .now) (l .out) h f e x o (a .out .now) (l .inv .3),
       k .kept .1 .1 .1 .0 ∙ l .inv .4,
-      turned-length (a .g) (l .i) (l .s) (k .result) (l .array) (k .last .1 .1 .1 .0) (k .last .1 .1 .1 .1 .1 .0) (a .residue .now) (a .text .now) (l .out) h f e x o ∙ l .inv .5,
+      round-length (a .g) (l .i) (l .s) (k .result) (l .array) (k .last .1 .1 .1 .0) (k .last .1 .1 .1 .1 .1 .0) (a .residue .now) (a .text .now) (l .out) h f e x o ∙ l .inv .5,
     )
 
 same-length : tie.Need-same-length Inv-loop μ-loop
@@ -116,7 +116,7 @@ returns c =
     let y : a .g ≤ l .i = omega arith in (
       sym (arrays-over (a .g) (l .i) (l .s) (l .array) (a .residue .now) (drop (20 * l .i) (a .text .now)) y) ∙ l .inv .1
           ∙ ap (λ (x : State). arraysOf (a .g) x (a .array .now) (a .residue .now) (a .text .now)) e,
-      turned-over (a .g) (l .i) (l .s) (l .array) (a .residue .now) (a .text .now) (l .out) (a .out .now) (answersOf (a .g) s (a .array .now) (a .residue .now) (a .text .now)) z (l .inv .2) (l .inv .3)
+      round-over (a .g) (l .i) (l .s) (l .array) (a .residue .now) (a .text .now) (l .out) (a .out .now) (answersOf (a .g) s (a .array .now) (a .residue .now) (a .text .now)) z (l .inv .2) (l .inv .3)
           ∙ ap (λ (x : State). answersOf (a .g) x (a .array .now) (a .residue .now) (a .text .now) ++ drop (8 * a .g) (a .out .now)) e,
     )
 

@@ -1,4 +1,4 @@
--- `trace_replay::good_lines` meets its contract: after i turns the first i lines are good, and what is counted from there makes up the
+-- `trace_replay::good_lines` meets its contract: after i rounds the first i lines are good, and what is counted from there makes up the
 -- count.
 use mathlib.Core.Path.{_≡_, sym, _∙_}
 use Prim.Native.Nat.{_+_, _-_, _*_, _≤_}

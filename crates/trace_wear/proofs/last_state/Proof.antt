@@ -1,4 +1,4 @@
--- `trace_wear::last_state` meets its contract: after i turns what is left to replay leads where the whole leads.
+-- `trace_wear::last_state` meets its contract: after i rounds what is left to replay leads where the whole leads.
 use mathlib.Core.Path.{_≡_, refl, sym, ap, _∙_}
 use Prim.Native.Nat.{ℕ, _-_, _*_, _≤_, _<_}
 use native.Mathlib.Nat.{sub-zero}
@@ -7,9 +7,9 @@ use lib.ListN.{length, drop}
 use Rattle.model_types.specs.declared.State.{State}
 use Rattle.model_types.specs.States.{freshState}
 use Rattle.trace_replay.specs.Replays.{arraysOf}
-use Rattle.trace_replay.proofs.Turns.{arrays-over}
+use Rattle.trace_replay.proofs.Rounds.{arrays-over}
 use Rattle.trace_wear.specs.Inner.{statesOf}
-use Rattle.trace_wear.proofs.Walks.{turned-state, turned-array, states-over}
+use Rattle.trace_wear.proofs.Walks.{round-state, round-array, states-over}
 use borrow.Author.Needs.{needs}
 use Rattle.trace_wear.proofs.last_state.Statement.{statement}
 use Rattle.trace_wear.proofs.last_state.Tie as tie
@@ -69,9 +69,9 @@ loop-again c =
     let s = c .before .before .before .before .before .before .before .fresh .result in
     let h : l .i < a .g = c .before .before .before .before .before .loop-test .taken in (
       omega arith,
-      turned-state (a .g) (l .i) (l .s) (k .result) (l .array) (k .last .1 .1 .0) (a .residue .now) (a .text .now) h (k .ensures .0) (k .ensures .1)
+      round-state (a .g) (l .i) (l .s) (k .result) (l .array) (k .last .1 .1 .0) (a .residue .now) (a .text .now) h (k .ensures .0) (k .ensures .1)
           (statesOf (a .g) s (a .array .now) (a .residue .now) (a .text .now)) (l .inv .1),
-      turned-array (a .g) (l .i) (l .s) (k .result) (l .array) (k .last .1 .1 .0) (a .residue .now) (a .text .now) h (k .ensures .0) (k .ensures .1)
+      round-array (a .g) (l .i) (l .s) (k .result) (l .array) (k .last .1 .1 .0) (a .residue .now) (a .text .now) h (k .ensures .0) (k .ensures .1)
           (arraysOf (a .g) s (a .array .now) (a .residue .now) (a .text .now)) (l .inv .2),
       k .kept .1 .1 .0 ∙ l .inv .3,
     )

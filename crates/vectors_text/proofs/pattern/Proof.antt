@@ -1,4 +1,4 @@
--- `pattern` meets its contract: after i turns the first i bytes are the pattern's, which goes on from v.
+-- `pattern` meets its contract: after i rounds the first i bytes are the pattern's, which goes on from v.
 use mathlib.Core.Path.{_≡_, refl, sym, ap, _∙_}
 use mathlib.Core.List.{List}
 use Prim.Native.Nat.{ℕ, _+_, _-_, _%_, _≤_, _<_}

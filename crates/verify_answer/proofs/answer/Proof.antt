@@ -8,7 +8,7 @@ use Rattle.text.specs.Writing.{laidAt, behind, toldOn}
 use Rattle.text.proofs.Laying.{front-used}
 use Rattle.loader_run.specs.declared.Ran.{Ran}
 use Rattle.verify_answer.specs.Answers.{callWrong, numeralOf, endText, partOf, verifyOf, usage, Answered, ended, bytesOf}
-use Rattle.verify_answer.proofs.Ways.{answered-wrong, answered-right}
+use Rattle.verify_answer.proofs.AnswerCases.{answered-wrong, answered-right}
 use borrow.Author.Needs.{needs}
 use Rattle.verify_answer.proofs.answer.Statement.{statement}
 use Rattle.verify_answer.proofs.answer.Tie as tie

@@ -3,7 +3,7 @@ use mathlib.Core.Path.{ap, _∙_}
 use denote.Ref.{now}
 use Rattle.loader_from_file.specs.Loads.{LoadLeft}
 use Rattle.verify_answer.specs.Answers.{verifyOf, bytesOf}
-use Rattle.verify_answer.proofs.Ways.{verify-is, room-left}
+use Rattle.verify_answer.proofs.AnswerCases.{verify-is, room-left}
 use borrow.Author.Needs.{needs}
 use Rattle.verify_answer.proofs.verified.Statement.{statement}
 use Rattle.verify_answer.proofs.verified.Tie as tie

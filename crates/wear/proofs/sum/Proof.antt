@@ -6,7 +6,7 @@ use borrow.Author.Needs.{needs}
 use Rattle.model_types.specs.declared.Wear.{Wear}
 use Rattle.wear.specs.declared.Report.{Report}
 use Rattle.wear.specs.Reports.{noReport, added, reportFrom}
-use Rattle.wear.proofs.Walks.{turn, over}
+use Rattle.wear.proofs.Walks.{round, over}
 use Rattle.wear.proofs.sum.Statement.{statement}
 use Rattle.wear.proofs.sum.Tie as tie
 
@@ -44,7 +44,7 @@ loop-again c =
     let t = c .before .before .loop-test .taken in (
       omega arith,
       ap (λ (r : Report). reportFrom (a .n - (l .i + 1)) (l .i + 1) (a .s .now) r) (c .add .ensures ∙ ap (λ (w : Wear). added (l .r) w) (c .before .wear-at .ensures))
-          ∙ sym (turn (a .n) (l .i) (a .s .now) (l .r) t) ∙ l .inv .1,
+          ∙ sym (round (a .n) (l .i) (a .s .now) (l .r) t) ∙ l .inv .1,
     )
 
 returns : tie.Need-returns Inv-loop μ-loop

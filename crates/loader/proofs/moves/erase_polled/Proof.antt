@@ -8,22 +8,22 @@ use Rattle.loader.proofs.moves.erase_polled.Tie as tie
 is-ready-requires : tie.Need-is-ready-requires
 is-ready-requires c κs = search needs
 
-erase-fault-requires : tie.Need-erase-fault-requires
-erase-fault-requires c κs = search needs
+erase-end-requires : tie.Need-erase-end-requires
+erase-end-requires c κs = search needs
 
 onward-requires : tie.Need-onward-requires
 onward-requires c κs = search needs
 
 returns : tie.Need-returns
 unfolding erasePolled
-returns c = simp (c .onward .ensures, eq-eqb _ _ (c .before .if2 .taken), ← c .before .before .erase-fault .ensures, sym (c .before .before .before .before .is-ready .ensures) ∙ c .before .before .before .if1 .taken)
+returns c = simp (c .onward .ensures, eq-eqb _ _ (c .before .if2 .taken), ← c .before .before .erase-end .ensures, sym (c .before .before .before .before .is-ready .ensures) ∙ c .before .before .before .if1 .taken)
 
 ended-by-requires : tie.Need-ended-by-requires
 ended-by-requires c κs = search needs
 
 returns-2 : tie.Need-returns-2
 unfolding erasePolled
-returns-2 c = simp (c .ended-by .ensures, ne-eqb _ _ (c .before .if2 .left), ← c .before .before .erase-fault .ensures, sym (c .before .before .before .before .is-ready .ensures) ∙ c .before .before .before .if1 .taken)
+returns-2 c = simp (c .ended-by .ensures, ne-eqb _ _ (c .before .if2 .left), ← c .before .before .erase-end .ensures, sym (c .before .before .before .before .is-ready .ensures) ∙ c .before .before .before .if1 .taken)
 
 poll-more-requires : tie.Need-poll-more-requires
 poll-more-requires c κs = search needs
@@ -37,7 +37,7 @@ erase-polled-spec =
     tie.close
     (tie.spec
     is-ready-requires
-    erase-fault-requires
+    erase-end-requires
     onward-requires
     returns
     ended-by-requires

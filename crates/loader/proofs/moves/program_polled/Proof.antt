@@ -8,8 +8,8 @@ use Rattle.loader.proofs.moves.program_polled.Tie as tie
 is-ready-requires : tie.Need-is-ready-requires
 is-ready-requires c κs = search needs
 
-program-fault-requires : tie.Need-program-fault-requires
-program-fault-requires c κs = search needs
+program-end-requires : tie.Need-program-end-requires
+program-end-requires c κs = search needs
 
 units-of-requires : tie.Need-units-of-requires
 units-of-requires c κs = search needs
@@ -22,14 +22,14 @@ onward-requires c κs = search needs
 
 returns : tie.Need-returns
 unfolding programPolled
-returns c = simp (c .onward .ensures, c .before .past .ensures, c .before .before .units-of .ensures, eq-eqb _ _ (c .before .before .before .if2 .taken), ← c .before .before .before .before .program-fault .ensures, sym (c .before .before .before .before .before .before .is-ready .ensures) ∙ c .before .before .before .before .before .if1 .taken)
+returns c = simp (c .onward .ensures, c .before .past .ensures, c .before .before .units-of .ensures, eq-eqb _ _ (c .before .before .before .if2 .taken), ← c .before .before .before .before .program-end .ensures, sym (c .before .before .before .before .before .before .is-ready .ensures) ∙ c .before .before .before .before .before .if1 .taken)
 
 ended-by-requires : tie.Need-ended-by-requires
 ended-by-requires c κs = search needs
 
 returns-2 : tie.Need-returns-2
 unfolding programPolled
-returns-2 c = simp (c .ended-by .ensures, ne-eqb _ _ (c .before .if2 .left), ← c .before .before .program-fault .ensures, sym (c .before .before .before .before .is-ready .ensures) ∙ c .before .before .before .if1 .taken)
+returns-2 c = simp (c .ended-by .ensures, ne-eqb _ _ (c .before .if2 .left), ← c .before .before .program-end .ensures, sym (c .before .before .before .before .is-ready .ensures) ∙ c .before .before .before .if1 .taken)
 
 poll-more-requires : tie.Need-poll-more-requires
 poll-more-requires c κs = search needs
@@ -43,7 +43,7 @@ program-polled-spec =
     tie.close
     (tie.spec
     is-ready-requires
-    program-fault-requires
+    program-end-requires
     units-of-requires
     past-requires
     onward-requires

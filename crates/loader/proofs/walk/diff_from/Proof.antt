@@ -10,7 +10,7 @@ use lib.Dec.{eqb}
 use Rattle.common.proofs.Choice.{if-true, if-false}
 use Rattle.units.specs.Units.{units}
 use Rattle.loader.specs.Walks.{nextDiff, diffFrom}
-use Rattle.loader.proofs.Walking.{diff-turn, diff-over}
+use Rattle.loader.proofs.Walking.{diff-round, diff-over}
 use Rattle.loader.proofs.walk.diff_from.Statement.{statement}
 use Rattle.loader.proofs.walk.diff_from.Tie as tie
 
@@ -44,7 +44,7 @@ returns c =
     let w = units (a .word) (a .wanted .now) in
     let s = units (a .word) (a .scratch .now) in
     let t : eqb (getD s (l .i) 0) (getD w (l .i) 0) ≡ false = ne-eqb _ _ (λ q. c .if1 .taken (c .before .before .get-unit .ensures .0 ∙ q ∙ sym (c .before .get-unit2 .ensures .0))) in
-    sym (sym (l .inv) ∙ diff-turn n (l .i) w s (c .before .before .before .loop-test .taken) ∙ if-false (eqb (getD s (l .i) 0) (getD w (l .i) 0)) (nextDiff (n - (l .i + 1)) (l .i + 1) w s) (l .i) t)
+    sym (sym (l .inv) ∙ diff-round n (l .i) w s (c .before .before .before .loop-test .taken) ∙ if-false (eqb (getD s (l .i) 0) (getD w (l .i) 0)) (nextDiff (n - (l .i + 1)) (l .i + 1) w s) (l .i) t)
 
 add-i : tie.Need-add-i Inv-loop μ-loop
 add-i c = search needs
@@ -60,7 +60,7 @@ loop-again c =
     let w = units (a .word) (a .wanted .now) in
     let s = units (a .word) (a .scratch .now) in
     let t : eqb (getD s (l .i) 0) (getD w (l .i) 0) ≡ true = eq-eqb _ _ (sym (c .before .before .get-unit .ensures .0) ∙ c .if1 .left ∙ c .before .get-unit2 .ensures .0) in
-    sym (diff-turn n (l .i) w s (c .before .before .before .loop-test .taken) ∙ if-true (eqb (getD s (l .i) 0) (getD w (l .i) 0)) (nextDiff (n - (l .i + 1)) (l .i + 1) w s) (l .i) t) ∙ l .inv
+    sym (diff-round n (l .i) w s (c .before .before .before .loop-test .taken) ∙ if-true (eqb (getD s (l .i) 0) (getD w (l .i) 0)) (nextDiff (n - (l .i + 1)) (l .i + 1) w s) (l .i) t) ∙ l .inv
 
 returns-2 : tie.Need-returns-2 Inv-loop μ-loop
 returns-2 c =

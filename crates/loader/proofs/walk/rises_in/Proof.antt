@@ -7,7 +7,7 @@ use borrow.Author.Needs.{needs}
 use lib.ListN.{length, getD}
 use Rattle.units.specs.Units.{units}
 use Rattle.loader.specs.Walks.{mustRise, rises, risesIn}
-use Rattle.loader.proofs.Walking.{rises-turn, rises-over}
+use Rattle.loader.proofs.Walking.{rises-round, rises-over}
 use Rattle.loader.proofs.walk.rises_in.Statement.{statement}
 use Rattle.loader.proofs.walk.rises_in.Tie as tie
 
@@ -47,7 +47,7 @@ returns c =
     let s = units (a .word) (a .scratch .now) in
     let t : mustRise (getD s (l .i) 0) (getD w (l .i) 0) ≡ true =
     ap₂ (λ (x y : ℕ). mustRise x y) (sym (c .before .before .before .get-unit .ensures .0)) (sym (c .before .before .get-unit2 .ensures .0)) ∙ sym (c .before .must-rise .ensures) ∙ c .if1 .taken in
-    sym (sym (l .inv .1) ∙ rises-turn n (l .i) w s (c .before .before .before .before .loop-test .taken) ∙ ap (λ (x : Bool). x || rises (n - (l .i + 1)) (l .i + 1) w s) t)
+    sym (sym (l .inv .1) ∙ rises-round n (l .i) w s (c .before .before .before .before .loop-test .taken) ∙ ap (λ (x : Bool). x || rises (n - (l .i + 1)) (l .i + 1) w s) t)
 
 add-i : tie.Need-add-i Inv-loop μ-loop
 add-i c = search needs
@@ -65,7 +65,7 @@ loop-again c =
     let t : mustRise (getD s (l .i) 0) (getD w (l .i) 0) ≡ false =
     ap₂ (λ (x y : ℕ). mustRise x y) (sym (c .before .before .before .get-unit .ensures .0)) (sym (c .before .before .get-unit2 .ensures .0)) ∙ sym (c .before .must-rise .ensures) ∙ c .if1 .left in (
       omega arith,
-      sym (rises-turn n (l .i) w s (c .before .before .before .before .loop-test .taken) ∙ ap (λ (x : Bool). x || rises (n - (l .i + 1)) (l .i + 1) w s) t) ∙ l .inv .1,
+      sym (rises-round n (l .i) w s (c .before .before .before .before .loop-test .taken) ∙ ap (λ (x : Bool). x || rises (n - (l .i + 1)) (l .i + 1) w s) t) ∙ l .inv .1,
     )
 
 returns-2 : tie.Need-returns-2 Inv-loop μ-loop

@@ -7,7 +7,7 @@ use Rattle.loader_held.proofs.holds.settled_by.Statement.{statement}
 use Rattle.loader_held.proofs.holds.settled_by.Tie as tie
 use Rattle.loader_held.proofs.holds.settled_by.Reads as reads
 use Rattle.loader_held.proofs.holds.settled_by.Lts as lts
-use Rattle.loader.proofs.moves.erase_fault.Reads as erase-fault-reads
+use Rattle.loader.proofs.moves.erase_end.Reads as erase-end-reads
 use Rattle.loader.proofs.moves.is_ready.Reads as is-ready-reads
 use Rattle.loader_held.proofs.holds.hold_as.Reads as hold-as-reads
 use Rattle.loader_held.proofs.holds.is_held.Reads as is-held-reads
@@ -19,8 +19,8 @@ is-ready-requires : tie.Need-is-ready-requires
 is-ready-requires c κs = search needs
 
 -- src/holds.rt:119:13
-erase-fault-requires : tie.Need-erase-fault-requires
-erase-fault-requires c κs = search needs
+erase-end-requires : tie.Need-erase-end-requires
+erase-end-requires c κs = search needs
 
 -- src/holds.rt:121:70
 is-held-requires : tie.Need-is-held-requires
@@ -37,7 +37,7 @@ pair-of-requires c κs = search needs
 -- src/holds.rt:121:13
 returns : tie.Need-returns
 unfolding settledBy
-returns c = simp (c .pair-of .ensures, c .before .hold-as .ensures, c .before .before .is-held .ensures, eq-eqb _ _ (c .before .before .before .if2 .taken), ← c .before .before .before .before .erase-fault .ensures, sym (c .before .before .before .before .before .before .is-ready .ensures) ∙ c .before .before .before .before .before .if1 .taken)
+returns c = simp (c .pair-of .ensures, c .before .hold-as .ensures, c .before .before .is-held .ensures, eq-eqb _ _ (c .before .before .before .if2 .taken), ← c .before .before .before .before .erase-end .ensures, sym (c .before .before .before .before .before .before .is-ready .ensures) ∙ c .before .before .before .before .before .if1 .taken)
 
 -- src/holds.rt:123:9
 stop-by-requires : tie.Need-stop-by-requires
@@ -46,7 +46,7 @@ stop-by-requires c κs = search needs
 -- src/holds.rt:123:9
 returns-2 : tie.Need-returns-2
 unfolding settledBy
-returns-2 c = simp (c .stop-by .ensures, ne-eqb _ _ (c .before .if2 .left), ← c .before .before .erase-fault .ensures, sym (c .before .before .before .before .is-ready .ensures) ∙ c .before .before .before .if1 .taken)
+returns-2 c = simp (c .stop-by .ensures, ne-eqb _ _ (c .before .if2 .left), ← c .before .before .erase-end .ensures, sym (c .before .before .before .before .is-ready .ensures) ∙ c .before .before .before .if1 .taken)
 
 -- src/holds.rt:126:9
 stop-by-requires-2 : tie.Need-stop-by-requires-2
@@ -79,7 +79,7 @@ settled-by-spec =
     tie.close
     (tie.spec
     is-ready-requires
-    erase-fault-requires
+    erase-end-requires
     is-held-requires
     hold-as-requires
     pair-of-requires

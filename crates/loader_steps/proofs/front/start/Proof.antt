@@ -15,9 +15,9 @@ use Rattle.loader.specs.Stages.{firstStage, verifies}
 use Rattle.units.specs.Units.{units, lent}
 use Rattle.units.proofs.Widths.{lent-length, lent-is}
 use Rattle.loader_steps.proofs.Lending.{step-some}
-use Rattle.loader_steps.proofs.Again.{first-taken}
+use Rattle.loader_steps.proofs.StartAndStep.{first-taken}
 use Rattle.loader_steps.proofs.Told.{start-too}
-use Rattle.loader_steps.specs.Front.{startGiven, startNumber, turnGiven, barredBy, recordAt, recordOf}
+use Rattle.loader_steps.specs.Front.{startResponse, startNumber, responseAt, refusedBy, recordAt, recordOf}
 use Rattle.loader_steps.proofs.front.start.Statement.{statement}
 use Rattle.loader_steps.proofs.front.start.Tie as tie
 
@@ -39,11 +39,11 @@ verifies-requires c κs = search needs
 record-at-requires : tie.Need-record-at-requires
 record-at-requires c κs = search needs
 
-given-by-requires : tie.Need-given-by-requires
-given-by-requires c κs = search needs
+response-at-requires : tie.Need-response-at-requires
+response-at-requires c κs = search needs
 
 returns : tie.Need-returns
-unfolding startGiven
+unfolding startResponse
 returns c =
     let t = c .before .before .before .before .before in
     let a = t .before .before .before .before .before .args in
@@ -57,18 +57,18 @@ returns c =
     let s = step-some l (a .wanted .now) (a .scratch .now) (first-taken (firstStage (a .work)) (verifies (a .work)) (a .part) (a .p) (a .block) (length w) (length sc) z) in
     let q = c .before .record-at .ensures ∙ ap₂ (λ (g : Stage) (v : Bool). recordAt (a .part) (a .p) (a .block) g v) (c .before .before .before .before .first-stage .ensures) (c .before .before .before .verifies .ensures) in
     start-too (a .work) (a .part) (a .p) (a .block) w sc
-    (c .given-by .ensures ∙ ap (λ (l : Loader). turnGiven l (units (l .part .word) (a .wanted .now))) q
-    ∙ ap (λ (us : List ℕ). turnGiven l us) (sym (lent-is (a .part .word) (a .wanted .now) (s .0)))
+    (c .response-at .ensures ∙ ap (λ (l : Loader). responseAt l (units (l .part .word) (a .wanted .now))) q
+    ∙ ap (λ (us : List ℕ). responseAt l us) (sym (lent-is (a .part .word) (a .wanted .now) (s .0)))
     ∙ sym (if-true (eqb n 0) _ _ (eq-eqb n 0 z)))
 
 record-at-requires-2 : tie.Need-record-at-requires-2
 record-at-requires-2 c κs = search needs
 
-barred-by-requires : tie.Need-barred-by-requires
-barred-by-requires c κs = search needs
+refused-by-requires : tie.Need-refused-by-requires
+refused-by-requires c κs = search needs
 
 returns-2 : tie.Need-returns-2
-unfolding startGiven
+unfolding startResponse
 returns-2 c =
     let t = c .before .before .before .before .before in
     let a = t .before .before .before .before .before .args in
@@ -79,8 +79,8 @@ returns-2 c =
     t .start-number .ensures ∙ ap₂ (λ (i j : ℕ). startNumber (a .part) (a .p) (a .block) i j) (t .before .before .lent-in .ensures ∙ sym (lent-length (a .part .word) (a .wanted .now))) (t .before .lent-in2 .ensures ∙ sym (lent-length (a .part .word) (a .scratch .now))) in
     let q = c .before .record-at2 .ensures ∙ ap (λ (v : Bool). recordAt (a .part) (a .p) (a .block) (Ended (t .start-number .result)) v) (c .before .before .before .verifies .ensures) in
     start-too (a .work) (a .part) (a .p) (a .block) w sc
-    (c .barred-by .ensures ∙ ap (λ (l : Loader). barredBy (t .start-number .result) l) q
-    ∙ ap (λ (m : ℕ). barredBy m (recordAt (a .part) (a .p) (a .block) (Ended m) (verifies (a .work)))) e
+    (c .refused-by .ensures ∙ ap (λ (l : Loader). refusedBy (t .start-number .result) l) q
+    ∙ ap (λ (m : ℕ). refusedBy m (recordAt (a .part) (a .p) (a .block) (Ended m) (verifies (a .work)))) e
     ∙ sym (if-false (eqb n 0) _ _ (ne-eqb n 0 (λ q. c .before .before .if1 .left (e ∙ q)))))
 
 pub start-spec : {M : Type 1} → statement M
@@ -93,8 +93,8 @@ start-spec =
     first-stage-requires
     verifies-requires
     record-at-requires
-    given-by-requires
+    response-at-requires
     returns
     record-at-requires-2
-    barred-by-requires
+    refused-by-requires
     returns-2)

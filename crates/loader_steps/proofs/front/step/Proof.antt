@@ -19,8 +19,8 @@ step-number-requires c κs = search needs
 advance-requires : tie.Need-advance-requires
 advance-requires c κs = search needs
 
-given-by-requires : tie.Need-given-by-requires
-given-by-requires c κs = search needs
+response-at-requires : tie.Need-response-at-requires
+response-at-requires c κs = search needs
 
 same-length : tie.Need-same-length
 same-length c = search needs
@@ -33,11 +33,11 @@ returns c =
     let n = step-lent (a .l) (a .wanted .now) (a .scratch .now) _ _ _ (t .step-number .ensures) (t .before .before .lent-in .ensures) (t .before .lent-in2 .ensures) in
     let z = sym n ∙ c .before .before .before .before .before .if1 .taken in
     step-too (a .l) (a .v) (lent (a .l .part .word) (a .wanted .now)) (lent (a .l .part .word) (a .scratch .now))
-    (step-gives (a .l) (a .wanted .now) (a .scratch .now) (a .v) _ _ z (m .ensures .0) (c .given-by .ensures))
+    (step-gives (a .l) (a .wanted .now) (a .scratch .now) (a .v) _ _ z (m .ensures .0) (c .response-at .ensures))
     (step-leaves (a .l) (a .wanted .now) (a .scratch .now) (a .v) (m .last .1 .1 .1 .0) z (m .kept .1 .1 .1 .0) (λ i. c .before .slice-known2 .given i .fits) (m .ensures .1 .0))
 
-barred-by-requires : tie.Need-barred-by-requires
-barred-by-requires c κs = search needs
+refused-by-requires : tie.Need-refused-by-requires
+refused-by-requires c κs = search needs
 
 returns-2 : tie.Need-returns-2
 returns-2 c =
@@ -45,7 +45,7 @@ returns-2 c =
     let a = t .before .before .before .before .before .before .args in
     let n = step-lent (a .l) (a .wanted .now) (a .scratch .now) _ _ _ (t .step-number .ensures) (t .before .before .lent-in .ensures) (t .before .lent-in2 .ensures) in
     step-too (a .l) (a .v) (lent (a .l .part .word) (a .wanted .now)) (lent (a .l .part .word) (a .scratch .now))
-    (step-bars (a .l) (a .wanted .now) (a .scratch .now) (a .v) _ _ n (c .before .if1 .left) (c .barred-by .ensures))
+    (step-bars (a .l) (a .wanted .now) (a .scratch .now) (a .v) _ _ n (c .before .if1 .left) (c .refused-by .ensures))
     (step-keeps (a .l) (a .wanted .now) (a .scratch .now) (a .v) _ n (c .before .if1 .left))
 
 pub step-spec : {M : Type 1} → statement M
@@ -56,8 +56,8 @@ step-spec =
     lent-in-requires-2
     step-number-requires
     advance-requires
-    given-by-requires
+    response-at-requires
     same-length
     returns
-    barred-by-requires
+    refused-by-requires
     returns-2)

@@ -1,4 +1,4 @@
-use Rattle.loader_steps.proofs.Small.{start-small}
+use Rattle.loader_steps.proofs.SmallAddresses.{start-small}
 use borrow.Author.Needs.{needs}
 use native.Mathlib.Omega.{arith}
 use Rattle.loader_steps.specs.Addresses.{firstAddress}

@@ -3,7 +3,7 @@ use native.Mathlib.Omega.{arith}
 use borrow.Author.Tests.{lt-ltb, le-ltb}
 use Rattle.loader_steps.specs.Addresses.{firstAddress}
 use Rattle.loader_steps.specs.Inner.{hereOf}
-use Rattle.loader_steps.proofs.Small.{start-small}
+use Rattle.loader_steps.proofs.SmallAddresses.{start-small}
 use borrow.Author.Needs.{needs}
 use Rattle.loader_steps.proofs.outs.here.Statement.{statement}
 use Rattle.loader_steps.proofs.outs.here.Tie as tie

@@ -8,13 +8,13 @@ is-ready-requires : tie.Need-is-ready-requires
 is-ready-requires c κs = search needs
 
 -- src/stores.rt:-3:20
-erase-fault-requires : tie.Need-erase-fault-requires
-erase-fault-requires c κs = search needs
+erase-end-requires : tie.Need-erase-end-requires
+erase-end-requires c κs = search needs
 
 -- src/stores.rt:-6:1
 returns : tie.Need-returns
 unfolding erasedWell
-returns c = simp (c .erase-fault .ensures, c .before .is-ready .ensures)
+returns c = simp (c .erase-end .ensures, c .before .is-ready .ensures)
 
 pub erased-well-spec : {M : Type 1} → statement M
-erased-well-spec = tie.close (tie.spec is-ready-requires erase-fault-requires returns)
+erased-well-spec = tie.close (tie.spec is-ready-requires erase-end-requires returns)

@@ -6,12 +6,12 @@ use Rattle.loader_steps.proofs.stores.programmed_well.Tie as tie
 is-ready-requires : tie.Need-is-ready-requires
 is-ready-requires c κs = search needs
 
-program-fault-requires : tie.Need-program-fault-requires
-program-fault-requires c κs = search needs
+program-end-requires : tie.Need-program-end-requires
+program-end-requires c κs = search needs
 
 returns : tie.Need-returns
 unfolding programmedWell
-returns c = simp (c .program-fault .ensures, c .before .is-ready .ensures)
+returns c = simp (c .program-end .ensures, c .before .is-ready .ensures)
 
 pub programmed-well-spec : {M : Type 1} → statement M
-programmed-well-spec = tie.close (tie.spec is-ready-requires program-fault-requires returns)
+programmed-well-spec = tie.close (tie.spec is-ready-requires program-end-requires returns)

@@ -1,6 +1,6 @@
 -- `trace_replay::answers::write_end` meets its contract.
 use Rattle.trace_replay.specs.Answers.{traceEnd}
-use Rattle.trace_replay.proofs.Turns.{end-nothing}
+use Rattle.trace_replay.proofs.Rounds.{end-nothing}
 use borrow.Author.Needs.{needs}
 use borrow.Author.Tests.{ne-eqb}
 use Rattle.trace_replay.proofs.answers.write_end.Statement.{statement}
