@@ -87,8 +87,8 @@ pub extern "C" fn tb_cycle(
     array: &mut [u8],
     residue: &[u8],
 ) -> AnswerNumbers
-    ensures { λ r. ⌜ r ≡ cycled device state bus (now (array .entry)) (now (residue .entry)) ⌝ }
-    ensures { λ _. ⌜ now (array .exit) ≡ arrayCycled device state bus (now (array .entry)) (now (residue .entry)) ⌝ }
+    ensures result { λ r. ⌜ r ≡ cycled device state bus (now (array .entry)) (now (residue .entry)) ⌝ }
+    ensures array_left { λ _. ⌜ now (array .exit) ≡ arrayCycled device state bus (now (array .entry)) (now (residue .entry)) ⌝ }
 {
     c_ordinary::cycle(device, state, bus, array, residue)
 }
@@ -206,9 +206,9 @@ pub extern "C" fn tb_run(
     wanted: &[u8],
     scratch: &mut [u8],
 ) -> RanNumbers
-    ensures { λ r. ⌜ r ≡ runOf device state rp wp vpp block (now (array .entry)) (now (wanted .entry)) (now (scratch .entry)) ⌝ }
-    ensures { λ _. ⌜ now (array .exit) ≡ arrayRun device state rp wp vpp block (now (array .entry)) (now (wanted .entry)) (now (scratch .entry)) ⌝ }
-    ensures { λ _. ⌜ now (scratch .exit) ≡ scratchRun device state rp wp vpp block (now (array .entry)) (now (wanted .entry)) (now (scratch .entry)) ⌝ }
+    ensures result { λ r. ⌜ r ≡ runOf device state rp wp vpp block (now (array .entry)) (now (wanted .entry)) (now (scratch .entry)) ⌝ }
+    ensures array_left { λ _. ⌜ now (array .exit) ≡ arrayRun device state rp wp vpp block (now (array .entry)) (now (wanted .entry)) (now (scratch .entry)) ⌝ }
+    ensures scratch_left { λ _. ⌜ now (scratch .exit) ≡ scratchRun device state rp wp vpp block (now (array .entry)) (now (wanted .entry)) (now (scratch .entry)) ⌝ }
 {
     let j = c_records::runs::job_in(Work::Load(true), device, state, rp, wp, vpp, block);
     let r = loader_quick::run_quick(j, array, wanted, scratch);
@@ -228,9 +228,9 @@ pub extern "C" fn tb_load_run(
     wanted: &[u8],
     scratch: &mut [u8],
 ) -> RanNumbers
-    ensures { λ r. ⌜ r ≡ loadRunOf device state rp wp vpp block (now (array .entry)) (now (wanted .entry)) (now (scratch .entry)) ⌝ }
-    ensures { λ _. ⌜ now (array .exit) ≡ arrayLoadRun device state rp wp vpp block (now (array .entry)) (now (wanted .entry)) (now (scratch .entry)) ⌝ }
-    ensures { λ _. ⌜ now (scratch .exit) ≡ scratchLoadRun device state rp wp vpp block (now (array .entry)) (now (wanted .entry)) (now (scratch .entry)) ⌝ }
+    ensures result { λ r. ⌜ r ≡ loadRunOf device state rp wp vpp block (now (array .entry)) (now (wanted .entry)) (now (scratch .entry)) ⌝ }
+    ensures array_left { λ _. ⌜ now (array .exit) ≡ arrayLoadRun device state rp wp vpp block (now (array .entry)) (now (wanted .entry)) (now (scratch .entry)) ⌝ }
+    ensures scratch_left { λ _. ⌜ now (scratch .exit) ≡ scratchLoadRun device state rp wp vpp block (now (array .entry)) (now (wanted .entry)) (now (scratch .entry)) ⌝ }
 {
     let j = c_records::runs::job_in(Work::Load(false), device, state, rp, wp, vpp, block);
     let r = loader_quick::run_quick(j, array, wanted, scratch);
@@ -250,9 +250,9 @@ pub extern "C" fn tb_verify_run(
     wanted: &[u8],
     scratch: &mut [u8],
 ) -> RanNumbers
-    ensures { λ r. ⌜ r ≡ verifyRunOf device state rp wp vpp block (now (array .entry)) (now (wanted .entry)) (now (scratch .entry)) ⌝ }
-    ensures { λ _. ⌜ now (array .exit) ≡ arrayVerifyRun device state rp wp vpp block (now (array .entry)) (now (wanted .entry)) (now (scratch .entry)) ⌝ }
-    ensures { λ _. ⌜ now (scratch .exit) ≡ scratchVerifyRun device state rp wp vpp block (now (array .entry)) (now (wanted .entry)) (now (scratch .entry)) ⌝ }
+    ensures result { λ r. ⌜ r ≡ verifyRunOf device state rp wp vpp block (now (array .entry)) (now (wanted .entry)) (now (scratch .entry)) ⌝ }
+    ensures array_left { λ _. ⌜ now (array .exit) ≡ arrayVerifyRun device state rp wp vpp block (now (array .entry)) (now (wanted .entry)) (now (scratch .entry)) ⌝ }
+    ensures scratch_left { λ _. ⌜ now (scratch .exit) ≡ scratchVerifyRun device state rp wp vpp block (now (array .entry)) (now (wanted .entry)) (now (scratch .entry)) ⌝ }
 {
     let j = c_records::runs::job_in(Work::Verify, device, state, rp, wp, vpp, block);
     let r = loader_quick::run_quick(j, array, wanted, scratch);
@@ -274,10 +274,10 @@ pub extern "C" fn tb_load(
     wanted: &mut [u8],
     scratch: &mut [u8],
 ) -> RanNumbers
-    ensures { λ r. ⌜ r ≡ loadOf device state rp wp vpp block (now (file .entry)) letter (now (array .entry)) (now (wanted .entry)) (now (scratch .entry)) ⌝ }
-    ensures { λ _. ⌜ now (array .exit) ≡ arrayLoad device state rp wp vpp block (now (file .entry)) letter (now (array .entry)) (now (wanted .entry)) (now (scratch .entry)) ⌝ }
-    ensures { λ _. ⌜ now (wanted .exit) ≡ wantedLoad device state rp wp vpp block (now (file .entry)) letter (now (array .entry)) (now (wanted .entry)) (now (scratch .entry)) ⌝ }
-    ensures { λ _. ⌜ now (scratch .exit) ≡ scratchLoad device state rp wp vpp block (now (file .entry)) letter (now (array .entry)) (now (wanted .entry)) (now (scratch .entry)) ⌝ }
+    ensures result { λ r. ⌜ r ≡ loadOf device state rp wp vpp block (now (file .entry)) letter (now (array .entry)) (now (wanted .entry)) (now (scratch .entry)) ⌝ }
+    ensures array_left { λ _. ⌜ now (array .exit) ≡ arrayLoad device state rp wp vpp block (now (file .entry)) letter (now (array .entry)) (now (wanted .entry)) (now (scratch .entry)) ⌝ }
+    ensures wanted_left { λ _. ⌜ now (wanted .exit) ≡ wantedLoad device state rp wp vpp block (now (file .entry)) letter (now (array .entry)) (now (wanted .entry)) (now (scratch .entry)) ⌝ }
+    ensures scratch_left { λ _. ⌜ now (scratch .exit) ≡ scratchLoad device state rp wp vpp block (now (file .entry)) letter (now (array .entry)) (now (wanted .entry)) (now (scratch .entry)) ⌝ }
 {
     let j = c_records::runs::job_in(Work::Load(true), device, state, rp, wp, vpp, block);
     let r = loader_from_file::load(j, array, wanted, scratch, file, letter);
@@ -299,10 +299,10 @@ pub extern "C" fn tb_verify_file(
     wanted: &mut [u8],
     scratch: &mut [u8],
 ) -> RanNumbers
-    ensures { λ r. ⌜ r ≡ verifyFileOf device state rp wp vpp block (now (file .entry)) letter (now (array .entry)) (now (wanted .entry)) (now (scratch .entry)) ⌝ }
-    ensures { λ _. ⌜ now (array .exit) ≡ arrayVerifyFile device state rp wp vpp block (now (file .entry)) letter (now (array .entry)) (now (wanted .entry)) (now (scratch .entry)) ⌝ }
-    ensures { λ _. ⌜ now (wanted .exit) ≡ wantedVerifyFile device state rp wp vpp block (now (file .entry)) letter (now (array .entry)) (now (wanted .entry)) (now (scratch .entry)) ⌝ }
-    ensures { λ _. ⌜ now (scratch .exit) ≡ scratchVerifyFile device state rp wp vpp block (now (file .entry)) letter (now (array .entry)) (now (wanted .entry)) (now (scratch .entry)) ⌝ }
+    ensures result { λ r. ⌜ r ≡ verifyFileOf device state rp wp vpp block (now (file .entry)) letter (now (array .entry)) (now (wanted .entry)) (now (scratch .entry)) ⌝ }
+    ensures array_left { λ _. ⌜ now (array .exit) ≡ arrayVerifyFile device state rp wp vpp block (now (file .entry)) letter (now (array .entry)) (now (wanted .entry)) (now (scratch .entry)) ⌝ }
+    ensures wanted_left { λ _. ⌜ now (wanted .exit) ≡ wantedVerifyFile device state rp wp vpp block (now (file .entry)) letter (now (array .entry)) (now (wanted .entry)) (now (scratch .entry)) ⌝ }
+    ensures scratch_left { λ _. ⌜ now (scratch .exit) ≡ scratchVerifyFile device state rp wp vpp block (now (file .entry)) letter (now (array .entry)) (now (wanted .entry)) (now (scratch .entry)) ⌝ }
 {
     let j = c_records::runs::job_in(Work::Verify, device, state, rp, wp, vpp, block);
     let ran = loader_from_file::load(j, array, wanted, scratch, file, letter);
@@ -312,8 +312,8 @@ pub extern "C" fn tb_verify_file(
 // The writer of a load file.
 #[no_mangle]
 pub extern "C" fn tb_file_write(letter: u8, payload: &[u8], file: &mut [u8]) -> SizedNumbers
-    ensures { λ r. ⌜ r ≡ writtenOf letter (now (payload .entry)) (now (file .entry)) ⌝ }
-    ensures { λ _. ⌜ now (file .exit) ≡ fileLeft letter (now (payload .entry)) (now (file .entry)) ⌝ }
+    ensures result { λ r. ⌜ r ≡ writtenOf letter (now (payload .entry)) (now (file .entry)) ⌝ }
+    ensures file_left { λ _. ⌜ now (file .exit) ≡ fileLeft letter (now (payload .entry)) (now (file .entry)) ⌝ }
 {
     let written = file_codec::write(letter, payload, file);
     c_records::sizes::written_out(written)
@@ -322,8 +322,8 @@ pub extern "C" fn tb_file_write(letter: u8, payload: &[u8], file: &mut [u8]) -> 
 // The reader of a load file, for the letter asked.
 #[no_mangle]
 pub extern "C" fn tb_file_read(letter: u8, file: &[u8], payload: &mut [u8]) -> SizedNumbers
-    ensures { λ r. ⌜ r ≡ fileRead (now (file .entry)) letter (now (payload .entry)) ⌝ }
-    ensures { λ _. ⌜ now (payload .exit) ≡ payloadLeft (now (file .entry)) letter (now (payload .entry)) ⌝ }
+    ensures result { λ r. ⌜ r ≡ fileRead (now (file .entry)) letter (now (payload .entry)) ⌝ }
+    ensures payload_left { λ _. ⌜ now (payload .exit) ≡ payloadLeft (now (file .entry)) letter (now (payload .entry)) ⌝ }
 {
     let read = file_codec::read(file, letter, payload);
     c_records::sizes::read_out(read)
@@ -362,8 +362,8 @@ pub extern "C" fn tb_file_reading(
     room: &mut [u8],
     microvolts: i32,
 ) -> ReadingNumbers
-    ensures { λ r. ⌜ r ≡ readingRead (now (file .entry)) letter (now (room .entry)) microvolts ⌝ }
-    ensures { λ _. ⌜ now (room .exit) ≡ payloadLeft (now (file .entry)) letter (now (room .entry)) ⌝ }
+    ensures result { λ r. ⌜ r ≡ readingRead (now (file .entry)) letter (now (room .entry)) microvolts ⌝ }
+    ensures room_left { λ _. ⌜ now (room .exit) ≡ payloadLeft (now (file .entry)) letter (now (room .entry)) ⌝ }
 {
     let answer = reading::reading_from_file(file, letter, room, microvolts);
     c_readings::answer_numbers(answer)

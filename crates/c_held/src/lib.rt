@@ -102,9 +102,9 @@ pub extern "C" fn tb_held_step(
     addresses: &[u32],
     room: &mut [u8],
 ) -> HeldResponseNumbers
-    ensures { λ r. ⌜ r ≡ steppedHeld held value (now (wanted .entry)) (now (scratch .entry)) (now (polls .entry)) (now (addresses .entry)) (now (room .entry)) ⌝ }
-    ensures { λ _. ⌜ now (scratch .exit) ≡ scratchSteppedHeld held value (now (wanted .entry)) (now (scratch .entry)) (now (addresses .entry)) (now (room .entry)) ⌝ }
-    ensures { λ _. ⌜ now (room .exit) ≡ roomSteppedHeld held value (now (wanted .entry)) (now (scratch .entry)) (now (addresses .entry)) (now (room .entry)) ⌝ }
+    ensures result { λ r. ⌜ r ≡ steppedHeld held value (now (wanted .entry)) (now (scratch .entry)) (now (polls .entry)) (now (addresses .entry)) (now (room .entry)) ⌝ }
+    ensures scratch_left { λ _. ⌜ now (scratch .exit) ≡ scratchSteppedHeld held value (now (wanted .entry)) (now (scratch .entry)) (now (addresses .entry)) (now (room .entry)) ⌝ }
+    ensures room_left { λ _. ⌜ now (room .exit) ≡ roomSteppedHeld held value (now (wanted .entry)) (now (scratch .entry)) (now (addresses .entry)) (now (room .entry)) ⌝ }
 {
     let pair = holds::held_in(held);
     response_back(
@@ -130,10 +130,10 @@ pub extern "C" fn tb_held_run(
     addresses: &[u32],
     room: &mut [u8],
 ) -> RanNumbers
-    ensures { λ r. ⌜ r ≡ heldRunOf device state rp wp vpp block verify (now (array .entry)) (now (wanted .entry)) (now (scratch .entry)) (now (polls .entry)) (now (addresses .entry)) (now (room .entry)) ⌝ }
-    ensures { λ _. ⌜ now (array .exit) ≡ heldRunLeft device state rp wp vpp block verify (now (array .entry)) (now (wanted .entry)) (now (scratch .entry)) (now (polls .entry)) (now (addresses .entry)) (now (room .entry)) .bytes ⌝ }
-    ensures { λ _. ⌜ now (scratch .exit) ≡ heldRunLeft device state rp wp vpp block verify (now (array .entry)) (now (wanted .entry)) (now (scratch .entry)) (now (polls .entry)) (now (addresses .entry)) (now (room .entry)) .scratch ⌝ }
-    ensures { λ _. ⌜ now (room .exit) ≡ heldRunLeft device state rp wp vpp block verify (now (array .entry)) (now (wanted .entry)) (now (scratch .entry)) (now (polls .entry)) (now (addresses .entry)) (now (room .entry)) .room ⌝ }
+    ensures result { λ r. ⌜ r ≡ heldRunOf device state rp wp vpp block verify (now (array .entry)) (now (wanted .entry)) (now (scratch .entry)) (now (polls .entry)) (now (addresses .entry)) (now (room .entry)) ⌝ }
+    ensures array_left { λ _. ⌜ now (array .exit) ≡ heldRunLeft device state rp wp vpp block verify (now (array .entry)) (now (wanted .entry)) (now (scratch .entry)) (now (polls .entry)) (now (addresses .entry)) (now (room .entry)) .bytes ⌝ }
+    ensures scratch_left { λ _. ⌜ now (scratch .exit) ≡ heldRunLeft device state rp wp vpp block verify (now (array .entry)) (now (wanted .entry)) (now (scratch .entry)) (now (polls .entry)) (now (addresses .entry)) (now (room .entry)) .scratch ⌝ }
+    ensures room_left { λ _. ⌜ now (room .exit) ≡ heldRunLeft device state rp wp vpp block verify (now (array .entry)) (now (wanted .entry)) (now (scratch .entry)) (now (polls .entry)) (now (addresses .entry)) (now (room .entry)) .room ⌝ }
 {
     let work = Work::Load(verify != 0);
     let j = c_records::runs::job_in(work, device, state, rp, wp, vpp, block);
@@ -160,11 +160,11 @@ pub extern "C" fn tb_held_load(
     addresses: &[u32],
     room: &mut [u8],
 ) -> RanNumbers
-    ensures { λ r. ⌜ r ≡ heldLoadOf device state rp wp vpp block verify letter (now (file .entry)) (now (array .entry)) (now (wanted .entry)) (now (scratch .entry)) (now (polls .entry)) (now (addresses .entry)) (now (room .entry)) ⌝ }
-    ensures { λ _. ⌜ now (array .exit) ≡ heldLoadLeft device state rp wp vpp block verify letter (now (file .entry)) (now (array .entry)) (now (wanted .entry)) (now (scratch .entry)) (now (polls .entry)) (now (addresses .entry)) (now (room .entry)) .bytes ⌝ }
-    ensures { λ _. ⌜ now (wanted .exit) ≡ heldLoadLeft device state rp wp vpp block verify letter (now (file .entry)) (now (array .entry)) (now (wanted .entry)) (now (scratch .entry)) (now (polls .entry)) (now (addresses .entry)) (now (room .entry)) .wanted ⌝ }
-    ensures { λ _. ⌜ now (scratch .exit) ≡ heldLoadLeft device state rp wp vpp block verify letter (now (file .entry)) (now (array .entry)) (now (wanted .entry)) (now (scratch .entry)) (now (polls .entry)) (now (addresses .entry)) (now (room .entry)) .scratch ⌝ }
-    ensures { λ _. ⌜ now (room .exit) ≡ heldLoadLeft device state rp wp vpp block verify letter (now (file .entry)) (now (array .entry)) (now (wanted .entry)) (now (scratch .entry)) (now (polls .entry)) (now (addresses .entry)) (now (room .entry)) .room ⌝ }
+    ensures result { λ r. ⌜ r ≡ heldLoadOf device state rp wp vpp block verify letter (now (file .entry)) (now (array .entry)) (now (wanted .entry)) (now (scratch .entry)) (now (polls .entry)) (now (addresses .entry)) (now (room .entry)) ⌝ }
+    ensures array_left { λ _. ⌜ now (array .exit) ≡ heldLoadLeft device state rp wp vpp block verify letter (now (file .entry)) (now (array .entry)) (now (wanted .entry)) (now (scratch .entry)) (now (polls .entry)) (now (addresses .entry)) (now (room .entry)) .bytes ⌝ }
+    ensures wanted_left { λ _. ⌜ now (wanted .exit) ≡ heldLoadLeft device state rp wp vpp block verify letter (now (file .entry)) (now (array .entry)) (now (wanted .entry)) (now (scratch .entry)) (now (polls .entry)) (now (addresses .entry)) (now (room .entry)) .wanted ⌝ }
+    ensures scratch_left { λ _. ⌜ now (scratch .exit) ≡ heldLoadLeft device state rp wp vpp block verify letter (now (file .entry)) (now (array .entry)) (now (wanted .entry)) (now (scratch .entry)) (now (polls .entry)) (now (addresses .entry)) (now (room .entry)) .scratch ⌝ }
+    ensures room_left { λ _. ⌜ now (room .exit) ≡ heldLoadLeft device state rp wp vpp block verify letter (now (file .entry)) (now (array .entry)) (now (wanted .entry)) (now (scratch .entry)) (now (polls .entry)) (now (addresses .entry)) (now (room .entry)) .room ⌝ }
 {
     let work = Work::Load(verify != 0);
     let j = c_records::runs::job_in(work, device, state, rp, wp, vpp, block);

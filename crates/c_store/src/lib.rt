@@ -27,8 +27,8 @@ pub extern "C" fn tb_store_find(
     array: &[u8],
     room: &mut [u8],
 ) -> SizedNumbers
-    ensures { λ r. ⌜ r ≡ storeFound part word letter (now (array .entry)) (now (room .entry)) ⌝ }
-    ensures { λ _. ⌜ now (room .exit) ≡ roomFound part word letter (now (array .entry)) (now (room .entry)) ⌝ }
+    ensures result { λ r. ⌜ r ≡ storeFound part word letter (now (array .entry)) (now (room .entry)) ⌝ }
+    ensures room_left { λ _. ⌜ now (room .exit) ≡ roomFound part word letter (now (array .entry)) (now (room .entry)) ⌝ }
 {
     let p = c_cycle::states::part_in(part, word);
     let f = store::find_letter(p, array, letter, room);
@@ -45,8 +45,8 @@ pub extern "C" fn tb_store_read(
     room: &mut [u8],
     microvolts: i32,
 ) -> ReadingNumbers
-    ensures { λ r. ⌜ r ≡ storeRead part word letter (now (array .entry)) (now (room .entry)) microvolts ⌝ }
-    ensures { λ _. ⌜ now (room .exit) ≡ roomRead part word letter (now (array .entry)) (now (room .entry)) ⌝ }
+    ensures result { λ r. ⌜ r ≡ storeRead part word letter (now (array .entry)) (now (room .entry)) microvolts ⌝ }
+    ensures room_left { λ _. ⌜ now (room .exit) ≡ roomRead part word letter (now (array .entry)) (now (room .entry)) ⌝ }
 {
     let p = c_cycle::states::part_in(part, word);
     let answer = store::read_letter(p, array, letter, room, microvolts);
@@ -66,10 +66,10 @@ pub extern "C" fn tb_store_drop(
     memory: &mut [u8],
     scratch: &mut [u8],
 ) -> RanNumbers
-    ensures { λ r. ⌜ r ≡ storeDropped device state rp wp vpp letter (now (array .entry)) (now (memory .entry)) (now (scratch .entry)) ⌝ }
-    ensures { λ _. ⌜ now (array .exit) ≡ dropped device state rp wp vpp letter (now (array .entry)) (now (memory .entry)) (now (scratch .entry)) .bytes ⌝ }
-    ensures { λ _. ⌜ now (memory .exit) ≡ dropped device state rp wp vpp letter (now (array .entry)) (now (memory .entry)) (now (scratch .entry)) .memory ⌝ }
-    ensures { λ _. ⌜ now (scratch .exit) ≡ dropped device state rp wp vpp letter (now (array .entry)) (now (memory .entry)) (now (scratch .entry)) .scratch ⌝ }
+    ensures result { λ r. ⌜ r ≡ storeDropped device state rp wp vpp letter (now (array .entry)) (now (memory .entry)) (now (scratch .entry)) ⌝ }
+    ensures array_left { λ _. ⌜ now (array .exit) ≡ dropped device state rp wp vpp letter (now (array .entry)) (now (memory .entry)) (now (scratch .entry)) .bytes ⌝ }
+    ensures memory_left { λ _. ⌜ now (memory .exit) ≡ dropped device state rp wp vpp letter (now (array .entry)) (now (memory .entry)) (now (scratch .entry)) .memory ⌝ }
+    ensures scratch_left { λ _. ⌜ now (scratch .exit) ≡ dropped device state rp wp vpp letter (now (array .entry)) (now (memory .entry)) (now (scratch .entry)) .scratch ⌝ }
 {
     let d = c_cycle::states::device_in(device);
     let s = c_cycle::states::state_in(state);
@@ -92,10 +92,10 @@ pub extern "C" fn tb_store_add(
     memory: &mut [u8],
     scratch: &mut [u8],
 ) -> RanNumbers
-    ensures { λ r. ⌜ r ≡ storeAdded device state rp wp vpp letter (now (file .entry)) (now (array .entry)) (now (memory .entry)) (now (scratch .entry)) ⌝ }
-    ensures { λ _. ⌜ now (array .exit) ≡ added device state rp wp vpp letter (now (file .entry)) (now (array .entry)) (now (memory .entry)) (now (scratch .entry)) .bytes ⌝ }
-    ensures { λ _. ⌜ now (memory .exit) ≡ added device state rp wp vpp letter (now (file .entry)) (now (array .entry)) (now (memory .entry)) (now (scratch .entry)) .memory ⌝ }
-    ensures { λ _. ⌜ now (scratch .exit) ≡ added device state rp wp vpp letter (now (file .entry)) (now (array .entry)) (now (memory .entry)) (now (scratch .entry)) .scratch ⌝ }
+    ensures result { λ r. ⌜ r ≡ storeAdded device state rp wp vpp letter (now (file .entry)) (now (array .entry)) (now (memory .entry)) (now (scratch .entry)) ⌝ }
+    ensures array_left { λ _. ⌜ now (array .exit) ≡ added device state rp wp vpp letter (now (file .entry)) (now (array .entry)) (now (memory .entry)) (now (scratch .entry)) .bytes ⌝ }
+    ensures memory_left { λ _. ⌜ now (memory .exit) ≡ added device state rp wp vpp letter (now (file .entry)) (now (array .entry)) (now (memory .entry)) (now (scratch .entry)) .memory ⌝ }
+    ensures scratch_left { λ _. ⌜ now (scratch .exit) ≡ added device state rp wp vpp letter (now (file .entry)) (now (array .entry)) (now (memory .entry)) (now (scratch .entry)) .scratch ⌝ }
 {
     let d = c_cycle::states::device_in(device);
     let s = c_cycle::states::state_in(state);

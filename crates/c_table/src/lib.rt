@@ -16,8 +16,8 @@ pub extern "C" fn tb_table_cycle(
     array: &mut [u8],
     residue: &[u8],
 ) -> AnswerNumbers
-    ensures { λ r. ⌜ r ≡ cycled device state bus (now (array .entry)) (now (residue .entry)) ⌝ }
-    ensures { λ _. ⌜ now (array .exit) ≡ arrayCycled device state bus (now (array .entry)) (now (residue .entry)) ⌝ }
+    ensures result { λ r. ⌜ r ≡ cycled device state bus (now (array .entry)) (now (residue .entry)) ⌝ }
+    ensures array_left { λ _. ⌜ now (array .exit) ≡ arrayCycled device state bus (now (array .entry)) (now (residue .entry)) ⌝ }
 {
     let d = c_cycle::states::device_in(device);
     let s = c_cycle::states::state_in(state);

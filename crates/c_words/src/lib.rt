@@ -23,8 +23,8 @@ const ROOM: usize = 96;
 // The words of a number, without a newline, and a 0 behind them; nothing where there is no room for both. How long they are.
 #[no_mangle]
 pub extern "C" fn tb_words(number: u8, out: &mut [u8]) -> usize
-    ensures { λ r. ⌜ r ≡ length (wordsOf number) ⌝ }
-    ensures { λ _. ⌜ now (out .exit) ≡ wordsLeft number (now (out .entry)) ⌝ }
+    ensures result { λ r. ⌜ r ≡ length (wordsOf number) ⌝ }
+    ensures out_left { λ _. ⌜ now (out .exit) ≡ wordsLeft number (now (out .entry)) ⌝ }
 {
     let mut line = [0u8; ROOM];
     let size = lines::lay_line(&mut line, number);
@@ -52,8 +52,8 @@ pub extern "C" fn tb_knot_unpack(place: usize, payload: &[u8]) -> KnotNumbers
 // A knot into its place of a payload: 0, or why it stays as it was.
 #[no_mangle]
 pub extern "C" fn tb_knot_pack(place: usize, microvolts: i32, tenths: i32, payload: &mut [u8]) -> u8
-    ensures { λ r. ⌜ r ≡ packNumber place microvolts tenths (length (now (payload .entry))) ⌝ }
-    ensures { λ _. ⌜ now (payload .exit) ≡ packLeft place microvolts tenths (now (payload .entry)) ⌝ }
+    ensures result { λ r. ⌜ r ≡ packNumber place microvolts tenths (length (now (payload .entry))) ⌝ }
+    ensures payload_left { λ _. ⌜ now (payload .exit) ≡ packLeft place microvolts tenths (now (payload .entry)) ⌝ }
 {
     let n = knots::pack_number(place, microvolts, tenths, payload.len());
     if n == 0 {

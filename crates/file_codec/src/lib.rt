@@ -85,7 +85,7 @@ fn payload_size(file: &[u8], n: usize) -> usize
 
 // The judgement of a file for the letter asked: 30, then block by block 38 or else 31, then 32, 33, 34; then 35, in one walk.
 pub fn judge(file: &[u8], asked: u8) -> Judged
-    ensures { λ r. ⌜ r ≡ judgedAs (readerOf limit (now (file .entry)) asked) ⌝ }
+    ensures result { λ r. ⌜ r ≡ judgedAs (readerOf limit (now (file .entry)) asked) ⌝ }
     ensures told { λ r. ⌜ judgedTold r ≡ toldBy (readerOf limit (now (file .entry)) asked) ⌝ }
 {
     let size = file.len();
@@ -124,9 +124,9 @@ fn unpack(out: &mut [u8], file: &[u8], n: usize)
 
 // The reader: the judgement, then 37, then the payload into the front of out.
 pub fn read(file: &[u8], asked: u8, out: &mut [u8]) -> ReadBack
-    ensures { λ r. ⌜ r ≡ readAs (inRoom (length (now (out .entry))) (readerOf limit (now (file .entry)) asked)) ⌝ }
+    ensures result { λ r. ⌜ r ≡ readAs (inRoom (length (now (out .entry))) (readerOf limit (now (file .entry)) asked)) ⌝ }
     ensures told { λ r. ⌜ readTold r ≡ toldBy (inRoom (length (now (out .entry))) (readerOf limit (now (file .entry)) asked)) ⌝ }
-    ensures { λ _. ⌜ now (out .exit) ≡ leftIn (now (out .entry)) (inRoom (length (now (out .entry))) (readerOf limit (now (file .entry)) asked)) ⌝ }
+    ensures out_left { λ _. ⌜ now (out .exit) ≡ leftIn (now (out .entry)) (inRoom (length (now (out .entry))) (readerOf limit (now (file .entry)) asked)) ⌝ }
 {
     let verdict = judge(file, asked);
     match verdict {
@@ -248,9 +248,9 @@ fn blocks_for(size: usize) -> usize
 
 // The writer: 32, 36, 37, then the file into the front of out.
 pub fn write(letter: u8, payload: &[u8], out: &mut [u8]) -> Written
-    ensures { λ r. ⌜ r ≡ writtenAs (inRoom (length (now (out .entry))) (writerOf limit letter (now (payload .entry)))) ⌝ }
+    ensures result { λ r. ⌜ r ≡ writtenAs (inRoom (length (now (out .entry))) (writerOf limit letter (now (payload .entry)))) ⌝ }
     ensures told { λ r. ⌜ writtenTold r ≡ toldBy (inRoom (length (now (out .entry))) (writerOf limit letter (now (payload .entry)))) ⌝ }
-    ensures { λ _. ⌜ now (out .exit) ≡ leftIn (now (out .entry)) (inRoom (length (now (out .entry))) (writerOf limit letter (now (payload .entry)))) ⌝ }
+    ensures out_left { λ _. ⌜ now (out .exit) ≡ leftIn (now (out .entry)) (inRoom (length (now (out .entry))) (writerOf limit letter (now (payload .entry)))) ⌝ }
 {
     let known = file_block::is_letter(letter);
     if !known {

@@ -119,8 +119,8 @@ fn programs_of(d: Device, n: usize, erases: u32, count: u64) -> u64
 
 // A number in ten digits, from a place on; the place behind it.
 fn put_number(out: &mut [u8], at: usize, n: u64) -> usize
-    ensures { λ r. ⌜ r ≡ behind (now (out .entry)) at (numberText n) ⌝ }
-    ensures { λ _. ⌜ now (out .exit) ≡ laidAt (now (out .entry)) at (numberText n) ⌝ }
+    ensures result { λ r. ⌜ r ≡ behind (now (out .entry)) at (numberText n) ⌝ }
+    ensures out_left { λ _. ⌜ now (out .exit) ≡ laidAt (now (out .entry)) at (numberText n) ⌝ }
 {
     let mut digits = [0u8; 10];
     text::decimal(&mut digits, n);
@@ -129,8 +129,8 @@ fn put_number(out: &mut [u8], at: usize, n: u64) -> usize
 
 // What was programmed, from a place on; the place behind it.
 fn put_unit(out: &mut [u8], at: usize, word: bool) -> usize
-    ensures { λ r. ⌜ r ≡ behind (now (out .entry)) at (unitText word) ⌝ }
-    ensures { λ _. ⌜ now (out .exit) ≡ laidAt (now (out .entry)) at (unitText word) ⌝ }
+    ensures result { λ r. ⌜ r ≡ behind (now (out .entry)) at (unitText word) ⌝ }
+    ensures out_left { λ _. ⌜ now (out .exit) ≡ laidAt (now (out .entry)) at (unitText word) ⌝ }
 {
     if word {
         return text::put_text(out, at, b", words programmed ");
@@ -140,8 +140,8 @@ fn put_unit(out: &mut [u8], at: usize, word: bool) -> usize
 
 // What a good load took, in the front of out; the place behind it.
 fn put_done(out: &mut [u8], word: bool, cycles: u64, erases: u32, programs: u64) -> usize
-    ensures { λ r. ⌜ r ≡ behind (now (out .entry)) 0 (doneText word cycles erases programs) ⌝ }
-    ensures { λ _. ⌜ now (out .exit) ≡ laidAt (now (out .entry)) 0 (doneText word cycles erases programs) ⌝ }
+    ensures result { λ r. ⌜ r ≡ behind (now (out .entry)) 0 (doneText word cycles erases programs) ⌝ }
+    ensures out_left { λ _. ⌜ now (out .exit) ≡ laidAt (now (out .entry)) 0 (doneText word cycles erases programs) ⌝ }
 {
     let a = text::put_text(out, 0, b"cycles ");
     let b = put_number(out, a, cycles);
@@ -154,8 +154,8 @@ fn put_done(out: &mut [u8], word: bool, cycles: u64, erases: u32, programs: u64)
 
 // How a run of a block ended, in the front of out; the place behind it.
 fn put_end(out: &mut [u8], d: Device, block: u8, r: Ran) -> usize
-    ensures { λ n. ⌜ n ≡ behind (now (out .entry)) 0 (endText d block r) ⌝ }
-    ensures { λ _. ⌜ now (out .exit) ≡ laidAt (now (out .entry)) 0 (endText d block r) ⌝ }
+    ensures result { λ n. ⌜ n ≡ behind (now (out .entry)) 0 (endText d block r) ⌝ }
+    ensures out_left { λ _. ⌜ now (out .exit) ≡ laidAt (now (out .entry)) 0 (endText d block r) ⌝ }
 {
     let part = d.part;
     let state = r.state;
@@ -179,12 +179,12 @@ fn loaded(
     file: &[u8],
     letter: u8,
 ) -> Ran
-    ensures { λ r. ⌜ r ≡ loadOf d block (now (image .entry)) (now (wanted .entry)) (now (scratch .entry)) (now (file .entry)) letter .ran ⌝ }
-    ensures { λ _. ⌜ now (image .exit) ≡ loadOf d block (now (image .entry)) (now (wanted .entry)) (now (scratch .entry)) (now (file .entry)) letter .bytes ⌝ }
-    ensures { λ _. ⌜ now (wanted .exit)
+    ensures result { λ r. ⌜ r ≡ loadOf d block (now (image .entry)) (now (wanted .entry)) (now (scratch .entry)) (now (file .entry)) letter .ran ⌝ }
+    ensures image_left { λ _. ⌜ now (image .exit) ≡ loadOf d block (now (image .entry)) (now (wanted .entry)) (now (scratch .entry)) (now (file .entry)) letter .bytes ⌝ }
+    ensures wanted_left { λ _. ⌜ now (wanted .exit)
         ≡ loadOf d block (now (image .entry)) (now (wanted .entry)) (now (scratch .entry)) (now (file .entry)) letter .wanted
         ++ drop (bytesOf (d .part) block (now (wanted .entry)) (now (scratch .entry))) (now (wanted .entry)) ⌝ }
-    ensures { λ _. ⌜ now (scratch .exit)
+    ensures scratch_left { λ _. ⌜ now (scratch .exit)
         ≡ loadOf d block (now (image .entry)) (now (wanted .entry)) (now (scratch .entry)) (now (file .entry)) letter .scratch
         ++ drop (bytesOf (d .part) block (now (wanted .entry)) (now (scratch .entry))) (now (scratch .entry)) ⌝ }
 {
@@ -211,8 +211,8 @@ fn loaded(
 
 // How the program is called, in the front of out; the place behind it.
 fn put_usage(out: &mut [u8]) -> usize
-    ensures { λ r. ⌜ r ≡ behind (now (out .entry)) 0 usage ⌝ }
-    ensures { λ _. ⌜ now (out .exit) ≡ laidAt (now (out .entry)) 0 usage ⌝ }
+    ensures result { λ r. ⌜ r ≡ behind (now (out .entry)) 0 usage ⌝ }
+    ensures out_left { λ _. ⌜ now (out .exit) ≡ laidAt (now (out .entry)) 0 usage ⌝ }
 {
     text::put_text(
         out,
@@ -237,12 +237,12 @@ pub fn tell(
     scratch: &mut [u8],
     out: &mut [u8],
 ) -> Said
-    ensures { λ r. ⌜ r ≡ saidOn (now (out .entry)) (told count (now (image .entry)) (now (device .entry)) (now (block .entry)) (now (file .entry)) (now (letter .entry)) (now (mode .entry)) (now (program .entry)) (now (erase .entry)) (now (wanted .entry)) (now (scratch .entry))) ⌝ }
-    ensures { λ _. ⌜ now (out .exit) ≡ laidAt (now (out .entry)) 0 (told count (now (image .entry)) (now (device .entry)) (now (block .entry)) (now (file .entry)) (now (letter .entry)) (now (mode .entry)) (now (program .entry)) (now (erase .entry)) (now (wanted .entry)) (now (scratch .entry)) .line) ⌝ }
-    ensures { λ _. ⌜ now (image .exit) ≡ told count (now (image .entry)) (now (device .entry)) (now (block .entry)) (now (file .entry)) (now (letter .entry)) (now (mode .entry)) (now (program .entry)) (now (erase .entry)) (now (wanted .entry)) (now (scratch .entry)) .image ⌝ }
-    ensures { λ _. ⌜ now (wanted .exit) ≡ told count (now (image .entry)) (now (device .entry)) (now (block .entry)) (now (file .entry)) (now (letter .entry)) (now (mode .entry)) (now (program .entry)) (now (erase .entry)) (now (wanted .entry)) (now (scratch .entry)) .wanted ⌝ }
-    ensures { λ _. ⌜ now (scratch .exit) ≡ told count (now (image .entry)) (now (device .entry)) (now (block .entry)) (now (file .entry)) (now (letter .entry)) (now (mode .entry)) (now (program .entry)) (now (erase .entry)) (now (wanted .entry)) (now (scratch .entry)) .scratch ⌝ }
-    ensures { λ r. ⌜ Used (r .used) (now (out .exit)) ⌝ }
+    ensures result { λ r. ⌜ r ≡ saidOn (now (out .entry)) (told count (now (image .entry)) (now (device .entry)) (now (block .entry)) (now (file .entry)) (now (letter .entry)) (now (mode .entry)) (now (program .entry)) (now (erase .entry)) (now (wanted .entry)) (now (scratch .entry))) ⌝ }
+    ensures out_left { λ _. ⌜ now (out .exit) ≡ laidAt (now (out .entry)) 0 (told count (now (image .entry)) (now (device .entry)) (now (block .entry)) (now (file .entry)) (now (letter .entry)) (now (mode .entry)) (now (program .entry)) (now (erase .entry)) (now (wanted .entry)) (now (scratch .entry)) .line) ⌝ }
+    ensures image_left { λ _. ⌜ now (image .exit) ≡ told count (now (image .entry)) (now (device .entry)) (now (block .entry)) (now (file .entry)) (now (letter .entry)) (now (mode .entry)) (now (program .entry)) (now (erase .entry)) (now (wanted .entry)) (now (scratch .entry)) .image ⌝ }
+    ensures wanted_left { λ _. ⌜ now (wanted .exit) ≡ told count (now (image .entry)) (now (device .entry)) (now (block .entry)) (now (file .entry)) (now (letter .entry)) (now (mode .entry)) (now (program .entry)) (now (erase .entry)) (now (wanted .entry)) (now (scratch .entry)) .wanted ⌝ }
+    ensures scratch_left { λ _. ⌜ now (scratch .exit) ≡ told count (now (image .entry)) (now (device .entry)) (now (block .entry)) (now (file .entry)) (now (letter .entry)) (now (mode .entry)) (now (program .entry)) (now (erase .entry)) (now (wanted .entry)) (now (scratch .entry)) .scratch ⌝ }
+    ensures out_used { λ r. ⌜ Used (r .used) (now (out .exit)) ⌝ }
 {
     let m = verify_answer::numeral(mode);
     if call_wrong(count, letter, m) {

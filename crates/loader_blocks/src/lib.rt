@@ -162,9 +162,9 @@ fn keep_bits(held: &mut [u8], wanted: &[u8])
 // The programs: each unit that differs, for `each` cycles; scratch takes what is wanted.
 fn program_all(word: bool, each: u64, held: &mut [u8], wanted: &[u8], scratch: &mut [u8]) -> u64
     requires { ⌜ Falling (now held) (now wanted) × (length (now scratch) ≡ length (now wanted)) × (length (now wanted) ≤ 16777216) × (each ≤ 4294967295) ⌝ }
-    ensures { λ r. ⌜ r ≡ costs (length (units word (now (wanted .entry)))) each 0 (units word (now (wanted .entry))) (units word (now (scratch .entry))) ⌝ }
-    ensures { λ _. ⌜ now (held .exit) ≡ now (wanted .entry) ⌝ }
-    ensures { λ _. ⌜ now (scratch .exit) ≡ now (wanted .entry) ⌝ }
+    ensures result { λ r. ⌜ r ≡ costs (length (units word (now (wanted .entry)))) each 0 (units word (now (wanted .entry))) (units word (now (scratch .entry))) ⌝ }
+    ensures held_left { λ _. ⌜ now (held .exit) ≡ now (wanted .entry) ⌝ }
+    ensures scratch_left { λ _. ⌜ now (scratch .exit) ≡ now (wanted .entry) ⌝ }
 {
     let n = unlike_units(word, wanted, scratch);
     keep_bits(held, wanted);
@@ -183,9 +183,9 @@ fn work(
     scratch: &mut [u8],
 ) -> Done
     requires { ⌜ Workable word (now held) (now wanted) (now scratch) × (once ≤ 4294967295) × (each ≤ 4294967295) ⌝ }
-    ensures { λ r. ⌜ r ≡ workDone word once each (units word (now (wanted .entry))) (units word (now (scratch .entry))) ⌝ }
-    ensures { λ _. ⌜ units word (now (held .exit)) ≡ units word (now (wanted .entry)) ⌝ }
-    ensures { λ _. ⌜ units word (now (scratch .exit)) ≡ units word (now (wanted .entry)) ⌝ }
+    ensures result { λ r. ⌜ r ≡ workDone word once each (units word (now (wanted .entry))) (units word (now (scratch .entry))) ⌝ }
+    ensures held_left { λ _. ⌜ units word (now (held .exit)) ≡ units word (now (wanted .entry)) ⌝ }
+    ensures scratch_left { λ _. ⌜ units word (now (scratch .exit)) ≡ units word (now (wanted .entry)) ⌝ }
 {
     if rises(wanted, scratch) {
         units::fill_units(word, held);
@@ -212,11 +212,11 @@ pub fn load_block(
     wanted: &[u8],
     scratch: &mut [u8],
 ) -> Done
-    ensures { λ r. ⌜ r ≡ blockDone word once each (now (held .entry)) (now (wanted .entry)) (now (scratch .entry)) ⌝ }
-    ensures { λ _. ⌜ units word (now (held .exit)) ≡ blockLeft word (now (held .entry)) (now (wanted .entry)) (now (scratch .entry)) ⌝ }
-    ensures { λ _. ⌜ spare word (now (held .exit)) ≡ spare word (now (held .entry)) ⌝ }
-    ensures { λ _. ⌜ units word (now (scratch .exit)) ≡ roomLeft word (now (held .entry)) (now (wanted .entry)) (now (scratch .entry)) ⌝ }
-    ensures { λ _. ⌜ spare word (now (scratch .exit)) ≡ spare word (now (scratch .entry)) ⌝ }
+    ensures result { λ r. ⌜ r ≡ blockDone word once each (now (held .entry)) (now (wanted .entry)) (now (scratch .entry)) ⌝ }
+    ensures held_left { λ _. ⌜ units word (now (held .exit)) ≡ blockLeft word (now (held .entry)) (now (wanted .entry)) (now (scratch .entry)) ⌝ }
+    ensures held_spare { λ _. ⌜ spare word (now (held .exit)) ≡ spare word (now (held .entry)) ⌝ }
+    ensures scratch_left { λ _. ⌜ units word (now (scratch .exit)) ≡ roomLeft word (now (held .entry)) (now (wanted .entry)) (now (scratch .entry)) ⌝ }
+    ensures scratch_spare { λ _. ⌜ spare word (now (scratch .exit)) ≡ spare word (now (scratch .entry)) ⌝ }
 {
     if are_alike(word, held.len(), wanted.len(), scratch.len()) {
         common::copy(scratch, held);
@@ -231,8 +231,8 @@ pub fn load_block(
 // The reads of a verify, byte by byte up to the first that differs: its place, or the block's length.
 fn verify_bytes(held: &[u8], wanted: &[u8], scratch: &mut [u8]) -> usize
     requires { ⌜ (length (now held) ≡ length (now wanted)) × (length (now scratch) ≡ length (now wanted)) ⌝ }
-    ensures { λ r. ⌜ r ≡ diffFrom 0 (now (wanted .entry)) (now (held .entry)) ⌝ }
-    ensures { λ _. ⌜ now (scratch .exit) ≡ overwritten (readTo (now (wanted .entry)) (now (held .entry))) (now (held .entry)) (now (scratch .entry)) ⌝ }
+    ensures result { λ r. ⌜ r ≡ diffFrom 0 (now (wanted .entry)) (now (held .entry)) ⌝ }
+    ensures scratch_left { λ _. ⌜ now (scratch .exit) ≡ overwritten (readTo (now (wanted .entry)) (now (held .entry))) (now (held .entry)) (now (scratch .entry)) ⌝ }
 {
     let n = wanted.len();
     let mut i = 0;
@@ -250,8 +250,8 @@ fn verify_bytes(held: &[u8], wanted: &[u8], scratch: &mut [u8]) -> usize
 // .. word by word.
 fn verify_words(held: &[u8], wanted: &[u8], scratch: &mut [u8]) -> usize
     requires { ⌜ (length (pairs (now held)) ≡ length (pairs (now wanted))) × (length (pairs (now scratch)) ≡ length (pairs (now wanted))) ⌝ }
-    ensures { λ r. ⌜ r ≡ diffFrom 0 (pairs (now (wanted .entry))) (pairs (now (held .entry))) ⌝ }
-    ensures { λ _. ⌜ pairs (now (scratch .exit)) ≡ overwritten (readTo (pairs (now (wanted .entry))) (pairs (now (held .entry)))) (pairs (now (held .entry))) (pairs (now (scratch .entry))) ⌝ }
+    ensures result { λ r. ⌜ r ≡ diffFrom 0 (pairs (now (wanted .entry))) (pairs (now (held .entry))) ⌝ }
+    ensures scratch_left { λ _. ⌜ pairs (now (scratch .exit)) ≡ overwritten (readTo (pairs (now (wanted .entry))) (pairs (now (held .entry)))) (pairs (now (held .entry))) (pairs (now (scratch .entry))) ⌝ }
 {
     let n = units::units_in(true, wanted.len());
     let mut i = 0;
@@ -285,8 +285,8 @@ fn are_same(held: &[u8], wanted: &[u8]) -> bool
 // The reads of a verify, of either width: where nothing differs, all at once.
 fn verify_all(word: bool, held: &[u8], wanted: &[u8], scratch: &mut [u8]) -> usize
     requires { ⌜ (length (now held) ≡ length (now wanted)) × (length (now scratch) ≡ length (now wanted)) ⌝ }
-    ensures { λ r. ⌜ r ≡ diffFrom 0 (units word (now (wanted .entry))) (units word (now (held .entry))) ⌝ }
-    ensures { λ _. ⌜ units word (now (scratch .exit)) ≡ overwritten (readTo (units word (now (wanted .entry))) (units word (now (held .entry)))) (units word (now (held .entry))) (units word (now (scratch .entry))) ⌝ }
+    ensures result { λ r. ⌜ r ≡ diffFrom 0 (units word (now (wanted .entry))) (units word (now (held .entry))) ⌝ }
+    ensures scratch_left { λ _. ⌜ units word (now (scratch .exit)) ≡ overwritten (readTo (units word (now (wanted .entry))) (units word (now (held .entry)))) (units word (now (held .entry))) (units word (now (scratch .entry))) ⌝ }
 {
     if are_same(held, wanted) {
         common::copy(scratch, held);
@@ -300,9 +300,9 @@ fn verify_all(word: bool, held: &[u8], wanted: &[u8], scratch: &mut [u8]) -> usi
 
 // A verify of a block: the place of the first unit that differs, or the number of units. Nothing where the three are not alike.
 pub fn verify_block(word: bool, held: &[u8], wanted: &[u8], scratch: &mut [u8]) -> usize
-    ensures { λ r. ⌜ r ≡ blockMet word (now (held .entry)) (now (wanted .entry)) (now (scratch .entry)) ⌝ }
-    ensures { λ _. ⌜ units word (now (scratch .exit)) ≡ blockSeen word (now (held .entry)) (now (wanted .entry)) (now (scratch .entry)) ⌝ }
-    ensures { λ _. ⌜ spare word (now (scratch .exit)) ≡ spare word (now (scratch .entry)) ⌝ }
+    ensures result { λ r. ⌜ r ≡ blockMet word (now (held .entry)) (now (wanted .entry)) (now (scratch .entry)) ⌝ }
+    ensures scratch_left { λ _. ⌜ units word (now (scratch .exit)) ≡ blockSeen word (now (held .entry)) (now (wanted .entry)) (now (scratch .entry)) ⌝ }
+    ensures scratch_spare { λ _. ⌜ spare word (now (scratch .exit)) ≡ spare word (now (scratch .entry)) ⌝ }
 {
     if are_alike(word, held.len(), wanted.len(), scratch.len()) {
         return verify_all(word, held, wanted, scratch);
@@ -312,8 +312,8 @@ pub fn verify_block(word: bool, held: &[u8], wanted: &[u8], scratch: &mut [u8]) 
 
 // A block read into scratch and looked at, for a load that can begin no operation. Nothing where the three are not alike.
 pub fn look_at_block(word: bool, held: &[u8], wanted: &[u8], scratch: &mut [u8]) -> Found
-    ensures { λ r. ⌜ r ≡ blockFound word (now (held .entry)) (now (wanted .entry)) (now (scratch .entry)) ⌝ }
-    ensures { λ _. ⌜ now (scratch .exit) ≡ blockRead word (now (held .entry)) (now (wanted .entry)) (now (scratch .entry)) ⌝ }
+    ensures result { λ r. ⌜ r ≡ blockFound word (now (held .entry)) (now (wanted .entry)) (now (scratch .entry)) ⌝ }
+    ensures scratch_left { λ _. ⌜ now (scratch .exit) ≡ blockRead word (now (held .entry)) (now (wanted .entry)) (now (scratch .entry)) ⌝ }
 {
     if are_alike(word, held.len(), wanted.len(), scratch.len()) {
         let m = verify_all(word, held, wanted, scratch);

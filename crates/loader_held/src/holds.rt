@@ -139,9 +139,9 @@ fn settled_by(l: Loader, h: Hold, b: u8) -> Pair
 
 // The erase is found finished: the loader takes a ready poll.
 fn finished(l: Loader, n: u32, wanted: &[u8], scratch: &mut [u8]) -> Pair
-    ensures { λ r. ⌜ r ≡ pairOf (nextOf l 0x80 (units (l .part .word) (now (wanted .entry))) (storeOf l 0x80 (units (l .part .word) (now (wanted .entry))) (units (l .part .word) (now (scratch .entry))))) (usual n) ⌝ }
-    ensures { λ _. ⌜ units (l .part .word) (now (scratch .exit)) ≡ storeOf l 0x80 (units (l .part .word) (now (wanted .entry))) (units (l .part .word) (now (scratch .entry))) ⌝ }
-    ensures { λ _. ⌜ spare (l .part .word) (now (scratch .exit)) ≡ spare (l .part .word) (now (scratch .entry)) ⌝ }
+    ensures result { λ r. ⌜ r ≡ pairOf (nextOf l 0x80 (units (l .part .word) (now (wanted .entry))) (storeOf l 0x80 (units (l .part .word) (now (wanted .entry))) (units (l .part .word) (now (scratch .entry))))) (usual n) ⌝ }
+    ensures scratch_left { λ _. ⌜ units (l .part .word) (now (scratch .exit)) ≡ storeOf l 0x80 (units (l .part .word) (now (wanted .entry))) (units (l .part .word) (now (scratch .entry))) ⌝ }
+    ensures scratch_spare { λ _. ⌜ spare (l .part .word) (now (scratch .exit)) ≡ spare (l .part .word) (now (scratch .entry)) ⌝ }
 {
     let next = advance(l, 0x80, wanted, scratch);
     pair_of(next, usually(n))
@@ -149,9 +149,9 @@ fn finished(l: Loader, n: u32, wanted: &[u8], scratch: &mut [u8]) -> Pair
 
 // The next unit to read is that of address i of k, or what follows the reads.
 fn fetch_on(l: Loader, h: Hold, i: usize, k: usize, wanted: &[u8], scratch: &mut [u8]) -> Pair
-    ensures { λ r. ⌜ r ≡ fetchOn l h i k (units (l .part .word) (now (wanted .entry))) (units (l .part .word) (now (scratch .entry))) ⌝ }
-    ensures { λ _. ⌜ units (l .part .word) (now (scratch .exit)) ≡ fetchStored l h i k (units (l .part .word) (now (wanted .entry))) (units (l .part .word) (now (scratch .entry))) ⌝ }
-    ensures { λ _. ⌜ spare (l .part .word) (now (scratch .exit)) ≡ spare (l .part .word) (now (scratch .entry)) ⌝ }
+    ensures result { λ r. ⌜ r ≡ fetchOn l h i k (units (l .part .word) (now (wanted .entry))) (units (l .part .word) (now (scratch .entry))) ⌝ }
+    ensures scratch_left { λ _. ⌜ units (l .part .word) (now (scratch .exit)) ≡ fetchStored l h i k (units (l .part .word) (now (wanted .entry))) (units (l .part .word) (now (scratch .entry))) ⌝ }
+    ensures scratch_spare { λ _. ⌜ spare (l .part .word) (now (scratch .exit)) ≡ spare (l .part .word) (now (scratch .entry)) ⌝ }
 {
     let suspended = h.suspended;
     if i < k {
@@ -184,9 +184,9 @@ pub fn next_place(p: usize, n: usize) -> usize
 
 // The loader's own cycle.
 fn usual_next(l: Loader, n: u32, v: u16, wanted: &[u8], scratch: &mut [u8], polls: &[u32]) -> Pair
-    ensures { λ r. ⌜ r ≡ movedOn (nextOf l v (units (l .part .word) (now (wanted .entry))) (storeOf l v (units (l .part .word) (now (wanted .entry))) (units (l .part .word) (now (scratch .entry))))) n (now (polls .entry)) ⌝ }
-    ensures { λ _. ⌜ units (l .part .word) (now (scratch .exit)) ≡ storeOf l v (units (l .part .word) (now (wanted .entry))) (units (l .part .word) (now (scratch .entry))) ⌝ }
-    ensures { λ _. ⌜ spare (l .part .word) (now (scratch .exit)) ≡ spare (l .part .word) (now (scratch .entry)) ⌝ }
+    ensures result { λ r. ⌜ r ≡ movedOn (nextOf l v (units (l .part .word) (now (wanted .entry))) (storeOf l v (units (l .part .word) (now (wanted .entry))) (units (l .part .word) (now (scratch .entry))))) n (now (polls .entry)) ⌝ }
+    ensures scratch_left { λ _. ⌜ units (l .part .word) (now (scratch .exit)) ≡ storeOf l v (units (l .part .word) (now (wanted .entry))) (units (l .part .word) (now (scratch .entry))) ⌝ }
+    ensures scratch_spare { λ _. ⌜ spare (l .part .word) (now (scratch .exit)) ≡ spare (l .part .word) (now (scratch .entry)) ⌝ }
 {
     let next = advance(l, v, wanted, scratch);
     moved_on(next, n, polls)
@@ -194,8 +194,8 @@ fn usual_next(l: Loader, n: u32, v: u16, wanted: &[u8], scratch: &mut [u8], poll
 
 // The room after a cycle's data.
 pub fn store_room(step: Step, word: bool, h: Hold, v: u16, room: &mut [u8])
-    ensures { λ _. ⌜ units word (now (room .exit)) ≡ heldRoom step word h v (units word (now (room .entry))) ⌝ }
-    ensures { λ _. ⌜ spare word (now (room .exit)) ≡ spare word (now (room .entry)) ⌝ }
+    ensures room_left { λ _. ⌜ units word (now (room .exit)) ≡ heldRoom step word h v (units word (now (room .entry))) ⌝ }
+    ensures room_spare { λ _. ⌜ spare word (now (room .exit)) ≡ spare word (now (room .entry)) ⌝ }
 {
     match step {
         Step::Usual => {}
@@ -219,9 +219,9 @@ pub fn held_next(
     scratch: &mut [u8],
     polls: &[u32],
 ) -> Pair
-    ensures { λ r. ⌜ r ≡ heldNext step l h v k (units (l .part .word) (now (wanted .entry))) (units (l .part .word) (now (scratch .entry))) (now (polls .entry)) ⌝ }
-    ensures { λ _. ⌜ units (l .part .word) (now (scratch .exit)) ≡ heldScratch step l h v k (units (l .part .word) (now (wanted .entry))) (units (l .part .word) (now (scratch .entry))) ⌝ }
-    ensures { λ _. ⌜ spare (l .part .word) (now (scratch .exit)) ≡ spare (l .part .word) (now (scratch .entry)) ⌝ }
+    ensures result { λ r. ⌜ r ≡ heldNext step l h v k (units (l .part .word) (now (wanted .entry))) (units (l .part .word) (now (scratch .entry))) (now (polls .entry)) ⌝ }
+    ensures scratch_left { λ _. ⌜ units (l .part .word) (now (scratch .exit)) ≡ heldScratch step l h v k (units (l .part .word) (now (wanted .entry))) (units (l .part .word) (now (scratch .entry))) ⌝ }
+    ensures scratch_spare { λ _. ⌜ spare (l .part .word) (now (scratch .exit)) ≡ spare (l .part .word) (now (scratch .entry)) ⌝ }
 {
     match step {
         Step::Usual => usual_next(l, h.number, v, wanted, scratch, polls),

@@ -71,10 +71,10 @@ fn data_taken(
     polls: &[u32],
     room: &mut [u8],
 ) -> Pair
-    ensures { λ r. ⌜ r ≡ heldNext (h .step) l h v k (units (l .part .word) (now (wanted .entry))) (units (l .part .word) (now (scratch .entry))) (now (polls .entry)) ⌝ }
-    ensures { λ _. ⌜ units (l .part .word) (now (scratch .exit)) ≡ heldScratch (h .step) l h v k (units (l .part .word) (now (wanted .entry))) (units (l .part .word) (now (scratch .entry))) ⌝ }
-    ensures { λ _. ⌜ units (l .part .word) (now (room .exit)) ≡ heldRoom (h .step) (l .part .word) h v (units (l .part .word) (now (room .entry))) ⌝ }
-    ensures { λ _. ⌜ spare (l .part .word) (now (room .exit)) ≡ spare (l .part .word) (now (room .entry)) ⌝ }
+    ensures result { λ r. ⌜ r ≡ heldNext (h .step) l h v k (units (l .part .word) (now (wanted .entry))) (units (l .part .word) (now (scratch .entry))) (now (polls .entry)) ⌝ }
+    ensures scratch_left { λ _. ⌜ units (l .part .word) (now (scratch .exit)) ≡ heldScratch (h .step) l h v k (units (l .part .word) (now (wanted .entry))) (units (l .part .word) (now (scratch .entry))) ⌝ }
+    ensures room_left { λ _. ⌜ units (l .part .word) (now (room .exit)) ≡ heldRoom (h .step) (l .part .word) h v (units (l .part .word) (now (room .entry))) ⌝ }
+    ensures room_spare { λ _. ⌜ spare (l .part .word) (now (room .exit)) ≡ spare (l .part .word) (now (room .entry)) ⌝ }
 {
     let step = h.step;
     let part = l.part;
@@ -94,10 +94,10 @@ fn held_taken(
     polls: &[u32],
     room: &mut [u8],
 ) -> Pair
-    ensures { λ r. ⌜ r ≡ pairBy seen l h k (units (l .part .word) (now (wanted .entry))) (units (l .part .word) (now (scratch .entry))) (now (polls .entry)) ⌝ }
-    ensures { λ _. ⌜ units (l .part .word) (now (scratch .exit)) ≡ scratchHeld seen l h k (units (l .part .word) (now (wanted .entry))) (units (l .part .word) (now (scratch .entry))) ⌝ }
-    ensures { λ _. ⌜ units (l .part .word) (now (room .exit)) ≡ roomBy seen (l .part .word) h (units (l .part .word) (now (room .entry))) ⌝ }
-    ensures { λ _. ⌜ spare (l .part .word) (now (room .exit)) ≡ spare (l .part .word) (now (room .entry)) ⌝ }
+    ensures result { λ r. ⌜ r ≡ pairBy seen l h k (units (l .part .word) (now (wanted .entry))) (units (l .part .word) (now (scratch .entry))) (now (polls .entry)) ⌝ }
+    ensures scratch_left { λ _. ⌜ units (l .part .word) (now (scratch .exit)) ≡ scratchHeld seen l h k (units (l .part .word) (now (wanted .entry))) (units (l .part .word) (now (scratch .entry))) ⌝ }
+    ensures room_left { λ _. ⌜ units (l .part .word) (now (room .exit)) ≡ roomBy seen (l .part .word) h (units (l .part .word) (now (room .entry))) ⌝ }
+    ensures room_spare { λ _. ⌜ spare (l .part .word) (now (room .exit)) ≡ spare (l .part .word) (now (room .entry)) ⌝ }
 {
     match seen {
         Seen::NoData => data_taken(l, h, 0, k, wanted, scratch, polls, room),
@@ -118,10 +118,10 @@ fn held_turn(
     room: &mut [u8],
 ) -> Holding
     requires { ⌜ (h .loader .part ≡ d .part) × (judgeOf d (h .state) (heldCycle (h .hold .step) (h .loader) (h .hold) (units (d .part .word) (now wanted)) (now addresses)) (length (units (d .part .word) (now array))) 0 ≡ 0) ⌝ }
-    ensures { λ r. ⌜ heldConf (r .loader) (r .hold) (r .state) (units (d .part .word) (now (array .exit))) (units (d .part .word) (now (scratch .exit))) (units (d .part .word) (now (room .exit))) 1
+    ensures records { λ r. ⌜ heldConf (r .loader) (r .hold) (r .state) (units (d .part .word) (now (array .exit))) (units (d .part .word) (now (scratch .exit))) (units (d .part .word) (now (room .exit))) 1
         ≡ heldMoved d (units (d .part .word) (now (wanted .entry))) (now (addresses .entry)) (now (polls .entry))
         (heldConf (h .loader) (h .hold) (h .state) (units (d .part .word) (now (array .entry))) (units (d .part .word) (now (scratch .entry))) (units (d .part .word) (now (room .entry))) 0) ⌝ }
-    ensures { λ _. ⌜ spare (d .part .word) (now (room .exit)) ≡ spare (d .part .word) (now (room .entry)) ⌝ }
+    ensures room_spare { λ _. ⌜ spare (d .part .word) (now (room .exit)) ≡ spare (d .part .word) (now (room .entry)) ⌝ }
 {
     let l = h.loader;
     let hold = h.hold;
@@ -190,11 +190,11 @@ fn drive_held(
 ) -> Ran
     requires { ⌜ (runNumber j (length (units (j .device .part .word) (now array))) (length (units (j .device .part .word) (now wanted))) (length (units (j .device .part .word) (now scratch))) ≡ 0)
         × ReadsInside (j .device) (now addresses) × (length (now addresses) ≤ 4096) ⌝ }
-    ensures { λ r. ⌜ r ≡ heldRan (heldDone j (now (array .entry)) (now (wanted .entry)) (now (scratch .entry)) (now (polls .entry)) (now (addresses .entry)) (now (room .entry))) ⌝ }
-    ensures { λ _. ⌜ units (j .device .part .word) (now (array .exit)) ≡ heldDone j (now (array .entry)) (now (wanted .entry)) (now (scratch .entry)) (now (polls .entry)) (now (addresses .entry)) (now (room .entry)) .bytes ⌝ }
-    ensures { λ _. ⌜ units (j .device .part .word) (now (scratch .exit)) ≡ heldDone j (now (array .entry)) (now (wanted .entry)) (now (scratch .entry)) (now (polls .entry)) (now (addresses .entry)) (now (room .entry)) .scratch ⌝ }
-    ensures { λ _. ⌜ units (j .device .part .word) (now (room .exit)) ≡ heldDone j (now (array .entry)) (now (wanted .entry)) (now (scratch .entry)) (now (polls .entry)) (now (addresses .entry)) (now (room .entry)) .room ⌝ }
-    ensures { λ _. ⌜ spare (j .device .part .word) (now (room .exit)) ≡ spare (j .device .part .word) (now (room .entry)) ⌝ }
+    ensures result { λ r. ⌜ r ≡ heldRan (heldDone j (now (array .entry)) (now (wanted .entry)) (now (scratch .entry)) (now (polls .entry)) (now (addresses .entry)) (now (room .entry))) ⌝ }
+    ensures array_left { λ _. ⌜ units (j .device .part .word) (now (array .exit)) ≡ heldDone j (now (array .entry)) (now (wanted .entry)) (now (scratch .entry)) (now (polls .entry)) (now (addresses .entry)) (now (room .entry)) .bytes ⌝ }
+    ensures scratch_left { λ _. ⌜ units (j .device .part .word) (now (scratch .exit)) ≡ heldDone j (now (array .entry)) (now (wanted .entry)) (now (scratch .entry)) (now (polls .entry)) (now (addresses .entry)) (now (room .entry)) .scratch ⌝ }
+    ensures room_left { λ _. ⌜ units (j .device .part .word) (now (room .exit)) ≡ heldDone j (now (array .entry)) (now (wanted .entry)) (now (scratch .entry)) (now (polls .entry)) (now (addresses .entry)) (now (room .entry)) .room ⌝ }
+    ensures room_spare { λ _. ⌜ spare (j .device .part .word) (now (room .exit)) ≡ spare (j .device .part .word) (now (room .entry)) ⌝ }
 {
     let d = j.device;
     let s = j.state;
@@ -256,10 +256,10 @@ pub fn run_held(
     addresses: &[u32],
     room: &mut [u8],
 ) -> Ran
-    ensures { λ r. ⌜ r ≡ lentHeld j (now (array .entry)) (now (wanted .entry)) (now (scratch .entry)) (now (polls .entry)) (now (addresses .entry)) (now (room .entry)) .ran ⌝ }
-    ensures { λ _. ⌜ now (array .exit) ≡ lentHeld j (now (array .entry)) (now (wanted .entry)) (now (scratch .entry)) (now (polls .entry)) (now (addresses .entry)) (now (room .entry)) .bytes ⌝ }
-    ensures { λ _. ⌜ now (scratch .exit) ≡ lentHeld j (now (array .entry)) (now (wanted .entry)) (now (scratch .entry)) (now (polls .entry)) (now (addresses .entry)) (now (room .entry)) .scratch ⌝ }
-    ensures { λ _. ⌜ now (room .exit) ≡ lentHeld j (now (array .entry)) (now (wanted .entry)) (now (scratch .entry)) (now (polls .entry)) (now (addresses .entry)) (now (room .entry)) .room ⌝ }
+    ensures result { λ r. ⌜ r ≡ lentHeld j (now (array .entry)) (now (wanted .entry)) (now (scratch .entry)) (now (polls .entry)) (now (addresses .entry)) (now (room .entry)) .ran ⌝ }
+    ensures array_left { λ _. ⌜ now (array .exit) ≡ lentHeld j (now (array .entry)) (now (wanted .entry)) (now (scratch .entry)) (now (polls .entry)) (now (addresses .entry)) (now (room .entry)) .bytes ⌝ }
+    ensures scratch_left { λ _. ⌜ now (scratch .exit) ≡ lentHeld j (now (array .entry)) (now (wanted .entry)) (now (scratch .entry)) (now (polls .entry)) (now (addresses .entry)) (now (room .entry)) .scratch ⌝ }
+    ensures room_left { λ _. ⌜ now (room .exit) ≡ lentHeld j (now (array .entry)) (now (wanted .entry)) (now (scratch .entry)) (now (polls .entry)) (now (addresses .entry)) (now (room .entry)) .room ⌝ }
 {
     let s = j.state;
     let n = held_number(

@@ -240,7 +240,7 @@ pub fn start_held(
     addresses: &[u32],
     room: &[u8],
 ) -> HeldResponse
-    ensures { λ r. ⌜ r ≡ startHeldResponse verify part p block (lent (part .word) (now (wanted .entry))) (lent (part .word) (now (scratch .entry))) (now (addresses .entry)) (length (now (room .entry))) ⌝ }
+    ensures result { λ r. ⌜ r ≡ startHeldResponse verify part p block (lent (part .word) (now (wanted .entry))) (lent (part .word) (now (scratch .entry))) (now (addresses .entry)) (length (now (room .entry))) ⌝ }
     ensures told { λ r. ⌜ sayingTold (r .saying) ≡ startHeldTold verify part p block (lent (part .word) (now (wanted .entry))) (lent (part .word) (now (scratch .entry))) (now (addresses .entry)) (length (now (room .entry))) ⌝ }
 {
     let word = part.word;
@@ -274,10 +274,10 @@ fn take(
     addresses: &[u32],
     room: &mut [u8],
 ) -> Pair
-    ensures { λ r. ⌜ r ≡ heldMove l h v (units (l .part .word) (now (wanted .entry))) (units (l .part .word) (now (scratch .entry))) (now (polls .entry)) (now (addresses .entry)) ⌝ }
-    ensures { λ _. ⌜ units (l .part .word) (now (scratch .exit)) ≡ heldScratch (h .step) l h v (length (now (addresses .entry))) (units (l .part .word) (now (wanted .entry))) (units (l .part .word) (now (scratch .entry))) ⌝ }
-    ensures { λ _. ⌜ units (l .part .word) (now (room .exit)) ≡ heldRoom (h .step) (l .part .word) h v (units (l .part .word) (now (room .entry))) ⌝ }
-    ensures { λ _. ⌜ spare (l .part .word) (now (room .exit)) ≡ spare (l .part .word) (now (room .entry)) ⌝ }
+    ensures result { λ r. ⌜ r ≡ heldMove l h v (units (l .part .word) (now (wanted .entry))) (units (l .part .word) (now (scratch .entry))) (now (polls .entry)) (now (addresses .entry)) ⌝ }
+    ensures scratch_left { λ _. ⌜ units (l .part .word) (now (scratch .exit)) ≡ heldScratch (h .step) l h v (length (now (addresses .entry))) (units (l .part .word) (now (wanted .entry))) (units (l .part .word) (now (scratch .entry))) ⌝ }
+    ensures room_left { λ _. ⌜ units (l .part .word) (now (room .exit)) ≡ heldRoom (h .step) (l .part .word) h v (units (l .part .word) (now (room .entry))) ⌝ }
+    ensures room_spare { λ _. ⌜ spare (l .part .word) (now (room .exit)) ≡ spare (l .part .word) (now (room .entry)) ⌝ }
 {
     let part = l.part;
     let word = part.word;
@@ -296,10 +296,10 @@ pub fn step_held(
     addresses: &[u32],
     room: &mut [u8],
 ) -> HeldResponse
-    ensures { λ r. ⌜ r ≡ stepHeldResponse (pair .loader) (pair .hold) v (lent (pair .loader .part .word) (now (wanted .entry))) (lent (pair .loader .part .word) (now (scratch .entry))) (now (polls .entry)) (now (addresses .entry)) (length (now (room .entry))) ⌝ }
+    ensures result { λ r. ⌜ r ≡ stepHeldResponse (pair .loader) (pair .hold) v (lent (pair .loader .part .word) (now (wanted .entry))) (lent (pair .loader .part .word) (now (scratch .entry))) (now (polls .entry)) (now (addresses .entry)) (length (now (room .entry))) ⌝ }
     ensures told { λ r. ⌜ sayingTold (r .saying) ≡ stepHeldTold (pair .loader) (pair .hold) v (lent (pair .loader .part .word) (now (wanted .entry))) (lent (pair .loader .part .word) (now (scratch .entry))) (now (polls .entry)) (now (addresses .entry)) (length (now (room .entry))) ⌝ }
-    ensures { λ _. ⌜ now (scratch .exit) ≡ heldScratchLeft (pair .loader) (pair .hold) v (now (wanted .entry)) (now (scratch .entry)) (now (addresses .entry)) (length (now (room .entry))) ⌝ }
-    ensures { λ _. ⌜ now (room .exit) ≡ heldRoomLeft (pair .loader) (pair .hold) v (now (wanted .entry)) (now (scratch .entry)) (now (addresses .entry)) (now (room .entry)) ⌝ }
+    ensures scratch_left { λ _. ⌜ now (scratch .exit) ≡ heldScratchLeft (pair .loader) (pair .hold) v (now (wanted .entry)) (now (scratch .entry)) (now (addresses .entry)) (length (now (room .entry))) ⌝ }
+    ensures room_left { λ _. ⌜ now (room .exit) ≡ heldRoomLeft (pair .loader) (pair .hold) v (now (wanted .entry)) (now (scratch .entry)) (now (addresses .entry)) (now (room .entry)) ⌝ }
 {
     let l = pair.loader;
     let h = pair.hold;

@@ -121,8 +121,8 @@ fn stuck_load(
     scratch: &mut [u8],
 ) -> Ran
     requires { ⌜ Placed part block (length (now array)) (length (now wanted)) (length (now scratch)) ⌝ }
-    ensures { λ r. ⌜ r ≡ triedOf part s p (length (units (part .word) (now (wanted .entry)))) (lookedAt (units (part .word) (now (wanted .entry))) (heldUnits part block (now (array .entry)) (now (wanted .entry)))) ⌝ }
-    ensures { λ _. ⌜ units (part .word) (now (scratch .exit)) ≡ heldUnits part block (now (array .entry)) (now (wanted .entry)) ⌝ }
+    ensures result { λ r. ⌜ r ≡ triedOf part s p (length (units (part .word) (now (wanted .entry)))) (lookedAt (units (part .word) (now (wanted .entry))) (heldUnits part block (now (array .entry)) (now (wanted .entry)))) ⌝ }
+    ensures scratch_left { λ _. ⌜ units (part .word) (now (scratch .exit)) ≡ heldUnits part block (now (array .entry)) (now (wanted .entry)) ⌝ }
 {
     let word = part.word;
     let a = first_byte(part, block);
@@ -192,9 +192,9 @@ fn worked(
     scratch: &mut [u8],
 ) -> Ran
     requires { ⌜ Placed part block (length (now array)) (length (now wanted)) (length (now scratch)) × (once ≤ 65537) × (each ≤ 65537) ⌝ }
-    ensures { λ r. ⌜ r ≡ finishedOf s block (length (units (part .word) (now (wanted .entry)))) (workDone (part .word) once each (units (part .word) (now (wanted .entry))) (heldUnits part block (now (array .entry)) (now (wanted .entry)))) ⌝ }
-    ensures { λ _. ⌜ units (part .word) (now (array .exit)) ≡ overlaid (units (part .word) (now (array .entry))) (startOf part block) (units (part .word) (now (wanted .entry))) ⌝ }
-    ensures { λ _. ⌜ units (part .word) (now (scratch .exit)) ≡ units (part .word) (now (wanted .entry)) ⌝ }
+    ensures result { λ r. ⌜ r ≡ finishedOf s block (length (units (part .word) (now (wanted .entry)))) (workDone (part .word) once each (units (part .word) (now (wanted .entry))) (heldUnits part block (now (array .entry)) (now (wanted .entry)))) ⌝ }
+    ensures array_left { λ _. ⌜ units (part .word) (now (array .exit)) ≡ overlaid (units (part .word) (now (array .entry))) (startOf part block) (units (part .word) (now (wanted .entry))) ⌝ }
+    ensures scratch_left { λ _. ⌜ units (part .word) (now (scratch .exit)) ≡ units (part .word) (now (wanted .entry)) ⌝ }
 {
     let word = part.word;
     let a = first_byte(part, block);
@@ -206,10 +206,10 @@ fn worked(
 // A load: 50H, FFH and the first reads, then the operations.
 fn loaded(j: Job, array: &mut [u8], wanted: &[u8], scratch: &mut [u8]) -> Ran
     requires { ⌜ Placed (j .device .part) (j .block) (length (now array)) (length (now wanted)) (length (now scratch)) ⌝ }
-    ensures { λ r. ⌜ r ≡ ranAs false j (units (j .device .part .word) (now (wanted .entry))) (heldUnits (j .device .part) (j .block) (now (array .entry)) (now (wanted .entry))) ⌝ }
-    ensures { λ _. ⌜ units (j .device .part .word) (now (array .exit)) ≡ bytesAs (j .device) (j .pins) (j .block) (startOf (j .device .part) (j .block)) (units (j .device .part .word) (now (wanted .entry))) (heldUnits (j .device .part) (j .block) (now (array .entry)) (now (wanted .entry))) (units (j .device .part .word) (now (array .entry))) ⌝ }
-    ensures { λ _. ⌜ units (j .device .part .word) (now (scratch .exit)) ≡ scratchAs (j .device) (j .pins) (j .block) (units (j .device .part .word) (now (wanted .entry))) (heldUnits (j .device .part) (j .block) (now (array .entry)) (now (wanted .entry))) ⌝ }
-    ensures { λ _. ⌜ Timed (j .device) ⌝ }
+    ensures result { λ r. ⌜ r ≡ ranAs false j (units (j .device .part .word) (now (wanted .entry))) (heldUnits (j .device .part) (j .block) (now (array .entry)) (now (wanted .entry))) ⌝ }
+    ensures array_left { λ _. ⌜ units (j .device .part .word) (now (array .exit)) ≡ bytesAs (j .device) (j .pins) (j .block) (startOf (j .device .part) (j .block)) (units (j .device .part .word) (now (wanted .entry))) (heldUnits (j .device .part) (j .block) (now (array .entry)) (now (wanted .entry))) (units (j .device .part .word) (now (array .entry))) ⌝ }
+    ensures scratch_left { λ _. ⌜ units (j .device .part .word) (now (scratch .exit)) ≡ scratchAs (j .device) (j .pins) (j .block) (units (j .device .part .word) (now (wanted .entry))) (heldUnits (j .device .part) (j .block) (now (array .entry)) (now (wanted .entry))) ⌝ }
+    ensures timed { λ _. ⌜ Timed (j .device) ⌝ }
 {
     let d = j.device;
     let s = j.state;
@@ -250,8 +250,8 @@ fn verdict(word: bool, s: State, a: usize, n: usize, m: usize, held: u16, wanted
 // A verify: FFH, then the reads.
 fn verified(part: Part, s: State, block: u8, array: &[u8], wanted: &[u8], scratch: &mut [u8]) -> Ran
     requires { ⌜ Placed part block (length (now array)) (length (now wanted)) (length (now scratch)) ⌝ }
-    ensures { λ r. ⌜ r ≡ verifyRan part s (startOf part block) (units (part .word) (now (wanted .entry))) (heldUnits part block (now (array .entry)) (now (wanted .entry))) ⌝ }
-    ensures { λ _. ⌜ units (part .word) (now (scratch .exit)) ≡ overwritten (unitsRead (units (part .word) (now (wanted .entry))) (heldUnits part block (now (array .entry)) (now (wanted .entry)))) (heldUnits part block (now (array .entry)) (now (wanted .entry))) (units (part .word) (now (scratch .entry))) ⌝ }
+    ensures result { λ r. ⌜ r ≡ verifyRan part s (startOf part block) (units (part .word) (now (wanted .entry))) (heldUnits part block (now (array .entry)) (now (wanted .entry))) ⌝ }
+    ensures scratch_left { λ _. ⌜ units (part .word) (now (scratch .exit)) ≡ overwritten (unitsRead (units (part .word) (now (wanted .entry))) (heldUnits part block (now (array .entry)) (now (wanted .entry)))) (heldUnits part block (now (array .entry)) (now (wanted .entry))) (units (part .word) (now (scratch .entry))) ⌝ }
 {
     let word = part.word;
     let a = first_byte(part, block);
@@ -266,10 +266,10 @@ fn verified(part: Part, s: State, block: u8, array: &[u8], wanted: &[u8], scratc
 // A load, and the verify after it where the load ended well.
 fn load_verify(j: Job, array: &mut [u8], wanted: &[u8], scratch: &mut [u8]) -> Ran
     requires { ⌜ Placed (j .device .part) (j .block) (length (now array)) (length (now wanted)) (length (now scratch)) ⌝ }
-    ensures { λ r. ⌜ r ≡ ranAs true j (units (j .device .part .word) (now (wanted .entry))) (heldUnits (j .device .part) (j .block) (now (array .entry)) (now (wanted .entry))) ⌝ }
-    ensures { λ _. ⌜ units (j .device .part .word) (now (array .exit)) ≡ bytesAs (j .device) (j .pins) (j .block) (startOf (j .device .part) (j .block)) (units (j .device .part .word) (now (wanted .entry))) (heldUnits (j .device .part) (j .block) (now (array .entry)) (now (wanted .entry))) (units (j .device .part .word) (now (array .entry))) ⌝ }
-    ensures { λ _. ⌜ units (j .device .part .word) (now (scratch .exit)) ≡ scratchAs (j .device) (j .pins) (j .block) (units (j .device .part .word) (now (wanted .entry))) (heldUnits (j .device .part) (j .block) (now (array .entry)) (now (wanted .entry))) ⌝ }
-    ensures { λ _. ⌜ Timed (j .device) ⌝ }
+    ensures result { λ r. ⌜ r ≡ ranAs true j (units (j .device .part .word) (now (wanted .entry))) (heldUnits (j .device .part) (j .block) (now (array .entry)) (now (wanted .entry))) ⌝ }
+    ensures array_left { λ _. ⌜ units (j .device .part .word) (now (array .exit)) ≡ bytesAs (j .device) (j .pins) (j .block) (startOf (j .device .part) (j .block)) (units (j .device .part .word) (now (wanted .entry))) (heldUnits (j .device .part) (j .block) (now (array .entry)) (now (wanted .entry))) (units (j .device .part .word) (now (array .entry))) ⌝ }
+    ensures scratch_left { λ _. ⌜ units (j .device .part .word) (now (scratch .exit)) ≡ scratchAs (j .device) (j .pins) (j .block) (units (j .device .part .word) (now (wanted .entry))) (heldUnits (j .device .part) (j .block) (now (array .entry)) (now (wanted .entry))) ⌝ }
+    ensures timed { λ _. ⌜ Timed (j .device) ⌝ }
 {
     let d = j.device;
     let part = d.part;
@@ -292,9 +292,9 @@ fn load_verify(j: Job, array: &mut [u8], wanted: &[u8], scratch: &mut [u8]) -> R
 // A load, with or without the verify after it.
 fn load_by(verify: bool, j: Job, array: &mut [u8], wanted: &[u8], scratch: &mut [u8]) -> Ran
     requires { ⌜ Placed (j .device .part) (j .block) (length (now array)) (length (now wanted)) (length (now scratch)) ⌝ }
-    ensures { λ r. ⌜ r ≡ ranAs verify j (units (j .device .part .word) (now (wanted .entry))) (heldUnits (j .device .part) (j .block) (now (array .entry)) (now (wanted .entry))) ⌝ }
-    ensures { λ _. ⌜ units (j .device .part .word) (now (array .exit)) ≡ bytesAs (j .device) (j .pins) (j .block) (startOf (j .device .part) (j .block)) (units (j .device .part .word) (now (wanted .entry))) (heldUnits (j .device .part) (j .block) (now (array .entry)) (now (wanted .entry))) (units (j .device .part .word) (now (array .entry))) ⌝ }
-    ensures { λ _. ⌜ units (j .device .part .word) (now (scratch .exit)) ≡ scratchAs (j .device) (j .pins) (j .block) (units (j .device .part .word) (now (wanted .entry))) (heldUnits (j .device .part) (j .block) (now (array .entry)) (now (wanted .entry))) ⌝ }
+    ensures result { λ r. ⌜ r ≡ ranAs verify j (units (j .device .part .word) (now (wanted .entry))) (heldUnits (j .device .part) (j .block) (now (array .entry)) (now (wanted .entry))) ⌝ }
+    ensures array_left { λ _. ⌜ units (j .device .part .word) (now (array .exit)) ≡ bytesAs (j .device) (j .pins) (j .block) (startOf (j .device .part) (j .block)) (units (j .device .part .word) (now (wanted .entry))) (heldUnits (j .device .part) (j .block) (now (array .entry)) (now (wanted .entry))) (units (j .device .part .word) (now (array .entry))) ⌝ }
+    ensures scratch_left { λ _. ⌜ units (j .device .part .word) (now (scratch .exit)) ≡ scratchAs (j .device) (j .pins) (j .block) (units (j .device .part .word) (now (wanted .entry))) (heldUnits (j .device .part) (j .block) (now (array .entry)) (now (wanted .entry))) ⌝ }
     ensures { λ _. ⌜ Timed (j .device) ⌝ }
 {
     if verify {
@@ -332,9 +332,9 @@ fn refused(n: u8, s: State) -> Ran
 // A job that nothing refuses, by what is to be done.
 fn done(j: Job, array: &mut [u8], wanted: &[u8], scratch: &mut [u8]) -> Ran
     requires { ⌜ lentNumber j (length (now array)) (length (now wanted)) (length (now scratch)) ≡ 0 ⌝ }
-    ensures { λ r. ⌜ r ≡ lentRun j (now (array .entry)) (now (wanted .entry)) (now (scratch .entry)) .ran ⌝ }
-    ensures { λ _. ⌜ now (array .exit) ≡ lentRun j (now (array .entry)) (now (wanted .entry)) (now (scratch .entry)) .bytes ⌝ }
-    ensures { λ _. ⌜ now (scratch .exit) ≡ lentRun j (now (array .entry)) (now (wanted .entry)) (now (scratch .entry)) .scratch ⌝ }
+    ensures result { λ r. ⌜ r ≡ lentRun j (now (array .entry)) (now (wanted .entry)) (now (scratch .entry)) .ran ⌝ }
+    ensures array_left { λ _. ⌜ now (array .exit) ≡ lentRun j (now (array .entry)) (now (wanted .entry)) (now (scratch .entry)) .bytes ⌝ }
+    ensures scratch_left { λ _. ⌜ now (scratch .exit) ≡ lentRun j (now (array .entry)) (now (wanted .entry)) (now (scratch .entry)) .scratch ⌝ }
 {
     let d = j.device;
     let s = j.state;
@@ -348,9 +348,9 @@ fn done(j: Job, array: &mut [u8], wanted: &[u8], scratch: &mut [u8]) -> Ran
 
 // A job, stage by stage: `loader_run::run` promises the same.
 pub fn run_quick(j: Job, array: &mut [u8], wanted: &[u8], scratch: &mut [u8]) -> Ran
-    ensures { λ r. ⌜ r ≡ lentRun j (now (array .entry)) (now (wanted .entry)) (now (scratch .entry)) .ran ⌝ }
-    ensures { λ _. ⌜ now (array .exit) ≡ lentRun j (now (array .entry)) (now (wanted .entry)) (now (scratch .entry)) .bytes ⌝ }
-    ensures { λ _. ⌜ now (scratch .exit) ≡ lentRun j (now (array .entry)) (now (wanted .entry)) (now (scratch .entry)) .scratch ⌝ }
+    ensures result { λ r. ⌜ r ≡ lentRun j (now (array .entry)) (now (wanted .entry)) (now (scratch .entry)) .ran ⌝ }
+    ensures array_left { λ _. ⌜ now (array .exit) ≡ lentRun j (now (array .entry)) (now (wanted .entry)) (now (scratch .entry)) .bytes ⌝ }
+    ensures scratch_left { λ _. ⌜ now (scratch .exit) ≡ lentRun j (now (array .entry)) (now (wanted .entry)) (now (scratch .entry)) .scratch ⌝ }
 {
     let s = j.state;
     let n = lent_number(j, array.len(), wanted.len(), scratch.len());

@@ -151,7 +151,7 @@ fn refused_by(n: u8, l: Loader) -> Response
 
 // The first cycle of a load, with or without the verify after it, or of a verify alone.
 pub fn start(work: Work, part: Part, p: Pins, block: u8, wanted: &[u8], scratch: &[u8]) -> Response
-    ensures { λ r. ⌜ r ≡ startResponse work part p block (lent (part .word) (now (wanted .entry))) (lent (part .word) (now (scratch .entry))) ⌝ }
+    ensures result { λ r. ⌜ r ≡ startResponse work part p block (lent (part .word) (now (wanted .entry))) (lent (part .word) (now (scratch .entry))) ⌝ }
     ensures told { λ r. ⌜ sayingTold (r .saying) ≡ startTold work part p block (lent (part .word) (now (wanted .entry))) (lent (part .word) (now (scratch .entry))) ⌝ }
 {
     let word = part.word;
@@ -172,9 +172,9 @@ pub fn start(work: Work, part: Part, p: Pins, block: u8, wanted: &[u8], scratch:
 
 // The data read by the cycle that was out go in, the next cycle or the end comes out.
 pub fn step(l: Loader, v: u16, wanted: &[u8], scratch: &mut [u8]) -> Response
-    ensures { λ r. ⌜ r ≡ stepResponse l v (lent (l .part .word) (now (wanted .entry))) (lent (l .part .word) (now (scratch .entry))) ⌝ }
+    ensures result { λ r. ⌜ r ≡ stepResponse l v (lent (l .part .word) (now (wanted .entry))) (lent (l .part .word) (now (scratch .entry))) ⌝ }
     ensures told { λ r. ⌜ sayingTold (r .saying) ≡ stepTold l v (lent (l .part .word) (now (wanted .entry))) (lent (l .part .word) (now (scratch .entry))) ⌝ }
-    ensures { λ _. ⌜ now (scratch .exit) ≡ scratchLeft l v (now (wanted .entry)) (now (scratch .entry)) ⌝ }
+    ensures scratch_left { λ _. ⌜ now (scratch .exit) ≡ scratchLeft l v (now (wanted .entry)) (now (scratch .entry)) ⌝ }
 {
     let part = l.part;
     let word = part.word;

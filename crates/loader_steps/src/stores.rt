@@ -24,8 +24,8 @@ fn erased_well(b: u8) -> bool
 
 // An erase that ended well fills scratch with ones.
 pub fn store_erase(part: Part, b: u8, scratch: &mut [u8])
-    ensures { λ _. ⌜ units (part .word) (now (scratch .exit)) ≡ eraseStored part b (units (part .word) (now (scratch .entry))) ⌝ }
-    ensures { λ _. ⌜ spare (part .word) (now (scratch .exit)) ≡ spare (part .word) (now (scratch .entry)) ⌝ }
+    ensures scratch_left { λ _. ⌜ units (part .word) (now (scratch .exit)) ≡ eraseStored part b (units (part .word) (now (scratch .entry))) ⌝ }
+    ensures scratch_spare { λ _. ⌜ spare (part .word) (now (scratch .exit)) ≡ spare (part .word) (now (scratch .entry)) ⌝ }
 {
     let word = part.word;
     if erased_well(b) {
@@ -42,8 +42,8 @@ fn programmed_well(b: u8) -> bool
 
 // A program that ended well puts its unit into scratch.
 pub fn store_program(word: bool, place: usize, b: u8, wanted: &[u8], scratch: &mut [u8])
-    ensures { λ _. ⌜ units word (now (scratch .exit)) ≡ programStored place b (units word (now (wanted .entry))) (units word (now (scratch .entry))) ⌝ }
-    ensures { λ _. ⌜ spare word (now (scratch .exit)) ≡ spare word (now (scratch .entry)) ⌝ }
+    ensures scratch_left { λ _. ⌜ units word (now (scratch .exit)) ≡ programStored place b (units word (now (wanted .entry))) (units word (now (scratch .entry))) ⌝ }
+    ensures scratch_spare { λ _. ⌜ spare word (now (scratch .exit)) ≡ spare word (now (scratch .entry)) ⌝ }
 {
     if programmed_well(b) {
         let v = units::get_unit(word, wanted, place);
@@ -53,9 +53,9 @@ pub fn store_program(word: bool, place: usize, b: u8, wanted: &[u8], scratch: &m
 
 // A unit of the first reads.
 fn take_read(l: Loader, v: u16, wanted: &[u8], scratch: &mut [u8]) -> Loader
-    ensures { λ r. ⌜ r ≡ afterRead l (units (l .part .word) (now (wanted .entry))) (set (units (l .part .word) (now (scratch .entry))) (l .place) (carried (l .part .word) v)) ⌝ }
-    ensures { λ _. ⌜ units (l .part .word) (now (scratch .exit)) ≡ set (units (l .part .word) (now (scratch .entry))) (l .place) (carried (l .part .word) v) ⌝ }
-    ensures { λ _. ⌜ spare (l .part .word) (now (scratch .exit)) ≡ spare (l .part .word) (now (scratch .entry)) ⌝ }
+    ensures result { λ r. ⌜ r ≡ afterRead l (units (l .part .word) (now (wanted .entry))) (set (units (l .part .word) (now (scratch .entry))) (l .place) (carried (l .part .word) v)) ⌝ }
+    ensures scratch_left { λ _. ⌜ units (l .part .word) (now (scratch .exit)) ≡ set (units (l .part .word) (now (scratch .entry))) (l .place) (carried (l .part .word) v) ⌝ }
+    ensures scratch_spare { λ _. ⌜ spare (l .part .word) (now (scratch .exit)) ≡ spare (l .part .word) (now (scratch .entry)) ⌝ }
 {
     let part = l.part;
     let word = part.word;
@@ -65,9 +65,9 @@ fn take_read(l: Loader, v: u16, wanted: &[u8], scratch: &mut [u8]) -> Loader
 
 // A poll of the erase.
 fn take_erase(l: Loader, b: u8, wanted: &[u8], scratch: &mut [u8]) -> Loader
-    ensures { λ r. ⌜ r ≡ erasePolled l b (units (l .part .word) (now (wanted .entry))) (eraseStored (l .part) b (units (l .part .word) (now (scratch .entry)))) ⌝ }
-    ensures { λ _. ⌜ units (l .part .word) (now (scratch .exit)) ≡ eraseStored (l .part) b (units (l .part .word) (now (scratch .entry))) ⌝ }
-    ensures { λ _. ⌜ spare (l .part .word) (now (scratch .exit)) ≡ spare (l .part .word) (now (scratch .entry)) ⌝ }
+    ensures result { λ r. ⌜ r ≡ erasePolled l b (units (l .part .word) (now (wanted .entry))) (eraseStored (l .part) b (units (l .part .word) (now (scratch .entry)))) ⌝ }
+    ensures scratch_left { λ _. ⌜ units (l .part .word) (now (scratch .exit)) ≡ eraseStored (l .part) b (units (l .part .word) (now (scratch .entry))) ⌝ }
+    ensures scratch_spare { λ _. ⌜ spare (l .part .word) (now (scratch .exit)) ≡ spare (l .part .word) (now (scratch .entry)) ⌝ }
 {
     let part = l.part;
     store_erase(part, b, scratch);
@@ -76,9 +76,9 @@ fn take_erase(l: Loader, b: u8, wanted: &[u8], scratch: &mut [u8]) -> Loader
 
 // A poll of a program.
 fn take_program(l: Loader, b: u8, wanted: &[u8], scratch: &mut [u8]) -> Loader
-    ensures { λ r. ⌜ r ≡ programPolled l b (units (l .part .word) (now (wanted .entry))) (programStored (l .place) b (units (l .part .word) (now (wanted .entry))) (units (l .part .word) (now (scratch .entry)))) ⌝ }
-    ensures { λ _. ⌜ units (l .part .word) (now (scratch .exit)) ≡ programStored (l .place) b (units (l .part .word) (now (wanted .entry))) (units (l .part .word) (now (scratch .entry))) ⌝ }
-    ensures { λ _. ⌜ spare (l .part .word) (now (scratch .exit)) ≡ spare (l .part .word) (now (scratch .entry)) ⌝ }
+    ensures result { λ r. ⌜ r ≡ programPolled l b (units (l .part .word) (now (wanted .entry))) (programStored (l .place) b (units (l .part .word) (now (wanted .entry))) (units (l .part .word) (now (scratch .entry)))) ⌝ }
+    ensures scratch_left { λ _. ⌜ units (l .part .word) (now (scratch .exit)) ≡ programStored (l .place) b (units (l .part .word) (now (wanted .entry))) (units (l .part .word) (now (scratch .entry))) ⌝ }
+    ensures scratch_spare { λ _. ⌜ spare (l .part .word) (now (scratch .exit)) ≡ spare (l .part .word) (now (scratch .entry)) ⌝ }
 {
     let part = l.part;
     let word = part.word;
@@ -88,9 +88,9 @@ fn take_program(l: Loader, b: u8, wanted: &[u8], scratch: &mut [u8]) -> Loader
 
 // A unit of the verify.
 fn take_verify(l: Loader, v: u16, wanted: &[u8], scratch: &mut [u8]) -> Loader
-    ensures { λ r. ⌜ r ≡ verifyMore l v (units (l .part .word) (now (wanted .entry))) ⌝ }
-    ensures { λ _. ⌜ units (l .part .word) (now (scratch .exit)) ≡ set (units (l .part .word) (now (scratch .entry))) (l .place) (carried (l .part .word) v) ⌝ }
-    ensures { λ _. ⌜ spare (l .part .word) (now (scratch .exit)) ≡ spare (l .part .word) (now (scratch .entry)) ⌝ }
+    ensures result { λ r. ⌜ r ≡ verifyMore l v (units (l .part .word) (now (wanted .entry))) ⌝ }
+    ensures scratch_left { λ _. ⌜ units (l .part .word) (now (scratch .exit)) ≡ set (units (l .part .word) (now (scratch .entry))) (l .place) (carried (l .part .word) v) ⌝ }
+    ensures scratch_spare { λ _. ⌜ spare (l .part .word) (now (scratch .exit)) ≡ spare (l .part .word) (now (scratch .entry)) ⌝ }
 {
     let part = l.part;
     let word = part.word;
@@ -100,11 +100,11 @@ fn take_verify(l: Loader, v: u16, wanted: &[u8], scratch: &mut [u8]) -> Loader
 
 // A read's data taken: the one place that says where each stage goes.
 pub fn advance(l: Loader, v: u16, wanted: &[u8], scratch: &mut [u8]) -> Loader
-    ensures { λ r. ⌜ r
+    ensures result { λ r. ⌜ r
         ≡ nextOf l v (units (l .part .word) (now (wanted .entry))) (storeOf l v (units (l .part .word) (now (wanted .entry))) (units (l .part .word) (now (scratch .entry)))) ⌝ }
-    ensures { λ _. ⌜ units (l .part .word) (now (scratch .exit))
+    ensures scratch_left { λ _. ⌜ units (l .part .word) (now (scratch .exit))
         ≡ storeOf l v (units (l .part .word) (now (wanted .entry))) (units (l .part .word) (now (scratch .entry))) ⌝ }
-    ensures { λ _. ⌜ spare (l .part .word) (now (scratch .exit)) ≡ spare (l .part .word) (now (scratch .entry)) ⌝ }
+    ensures scratch_spare { λ _. ⌜ spare (l .part .word) (now (scratch .exit)) ≡ spare (l .part .word) (now (scratch .entry)) ⌝ }
 {
     let stage = l.stage;
     match stage {

@@ -41,10 +41,10 @@ fn index(a: u32) -> usize
 // A cut program: the residue's first unit says which of the bits to clear may stay.
 fn cut_program(word: bool, array: &mut [u8], at: usize, v: u16, residue: &[u8])
     requires { ⌜ at < length (units word (now array)) ⌝ }
-    ensures { λ _. ⌜ units word (now (array .exit))
+    ensures array_left { λ _. ⌜ units word (now (array .exit))
         ≡ set (units word (now (array .entry))) at
         (bitAnd (getD (units word (now (array .entry))) at 0) (bitOr v (getD (units word (now (residue .entry))) 0 0))) ⌝ }
-    ensures { λ _. ⌜ spare word (now (array .exit)) ≡ spare word (now (array .entry)) ⌝ }
+    ensures array_spare { λ _. ⌜ spare word (now (array .exit)) ≡ spare word (now (array .entry)) ⌝ }
 {
     let r = units::get_unit(word, residue, 0);
     units::program_unit(word, array, at, v | r)
@@ -53,8 +53,8 @@ fn cut_program(word: bool, array: &mut [u8], at: usize, v: u16, residue: &[u8])
 // An erase: the whole block is ones.
 fn erase(part: Part, k: u8, array: &mut [u8])
     requires { ⌜ length (units (part .word) (now array)) ≡ sizeOf part ⌝ }
-    ensures { λ _. ⌜ units (part .word) (now (array .exit)) ≡ erased part k (units (part .word) (now (array .entry))) ⌝ }
-    ensures { λ _. ⌜ spare (part .word) (now (array .exit)) ≡ spare (part .word) (now (array .entry)) ⌝ }
+    ensures array_left { λ _. ⌜ units (part .word) (now (array .exit)) ≡ erased part k (units (part .word) (now (array .entry))) ⌝ }
+    ensures array_spare { λ _. ⌜ spare (part .word) (now (array .exit)) ≡ spare (part .word) (now (array .entry)) ⌝ }
 {
     let word = part.word;
     units::erase_units(word, array, device::start(part, k), device::length(part, k))
@@ -63,9 +63,9 @@ fn erase(part: Part, k: u8, array: &mut [u8])
 // A cut erase: the block is the residue's first units.
 fn cut_erase(part: Part, k: u8, array: &mut [u8], residue: &[u8])
     requires { ⌜ (length (units (part .word) (now array)) ≡ sizeOf part) × (lengthOf part k ≤ length (units (part .word) (now residue))) ⌝ }
-    ensures { λ _. ⌜ units (part .word) (now (array .exit))
+    ensures array_left { λ _. ⌜ units (part .word) (now (array .exit))
         ≡ residual part k (units (part .word) (now (residue .entry))) (units (part .word) (now (array .entry))) ⌝ }
-    ensures { λ _. ⌜ spare (part .word) (now (array .exit)) ≡ spare (part .word) (now (array .entry)) ⌝ }
+    ensures array_spare { λ _. ⌜ spare (part .word) (now (array .exit)) ≡ spare (part .word) (now (array .entry)) ⌝ }
 {
     let word = part.word;
     units::leave_units(
@@ -80,9 +80,9 @@ fn cut_erase(part: Part, k: u8, array: &mut [u8], residue: &[u8])
 // The one place where the array is written.
 fn apply(effect: Effect, part: Part, array: &mut [u8], residue: &[u8])
     requires { ⌜ Within effect part (length (units (part .word) (now array))) (length (units (part .word) (now residue))) ⌝ }
-    ensures { λ _. ⌜ units (part .word) (now (array .exit))
+    ensures array_left { λ _. ⌜ units (part .word) (now (array .exit))
         ≡ arrayOf effect part (units (part .word) (now (residue .entry))) (units (part .word) (now (array .entry))) ⌝ }
-    ensures { λ _. ⌜ spare (part .word) (now (array .exit)) ≡ spare (part .word) (now (array .entry)) ⌝ }
+    ensures array_spare { λ _. ⌜ spare (part .word) (now (array .exit)) ≡ spare (part .word) (now (array .entry)) ⌝ }
 {
     let word = part.word;
     match effect {
@@ -109,9 +109,9 @@ fn finds(effect: Effect, part: Part, array: usize, residue: usize) -> bool
 
 // The effect done where it finds its units, and left undone elsewhere. Public for a second engine, as `see` is.
 pub fn put(effect: Effect, part: Part, array: &mut [u8], residue: &[u8])
-    ensures { λ _. ⌜ units (part .word) (now (array .exit))
+    ensures array_left { λ _. ⌜ units (part .word) (now (array .exit))
         ≡ doneOf effect part (units (part .word) (now (residue .entry))) (units (part .word) (now (array .entry))) ⌝ }
-    ensures { λ _. ⌜ spare (part .word) (now (array .exit)) ≡ spare (part .word) (now (array .entry)) ⌝ }
+    ensures array_spare { λ _. ⌜ spare (part .word) (now (array .exit)) ≡ spare (part .word) (now (array .entry)) ⌝ }
 {
     let word = part.word;
     if finds(
@@ -126,7 +126,7 @@ pub fn put(effect: Effect, part: Part, array: &mut [u8], residue: &[u8])
 
 // What the host sees of a reply.
 pub fn see(reply: Reply, word: bool, array: &[u8]) -> Seen
-    ensures { λ r. ⌜ r ≡ seenOf reply (units word (now (array .entry))) ⌝ }
+    ensures result { λ r. ⌜ r ≡ seenOf reply (units word (now (array .entry))) ⌝ }
     ensures told { λ r. ⌜ seenTold r ≡ replyTold reply (units word (now (array .entry))) ⌝ }
 {
     match reply {
@@ -165,11 +165,11 @@ fn show(s: State, address: u32, word: bool, array: &[u8]) -> Answer
 // Only for callers that know refusals 1 to 6 not to apply: they are not tested again, and what they would refuse is answered
 // as the rules forbid. An effect that does not find its units is left undone.
 pub fn after_judging(d: Device, s: State, c: Cycle, array: &mut [u8], residue: &[u8]) -> Answer
-    ensures { λ r. ⌜ r ≡ answerJudged d s c (units (d .part .word) (now (array .entry))) (units (d .part .word) (now (residue .entry))) ⌝ }
+    ensures result { λ r. ⌜ r ≡ answerJudged d s c (units (d .part .word) (now (array .entry))) (units (d .part .word) (now (residue .entry))) ⌝ }
     ensures told { λ r. ⌜ seenTold (r .seen) ≡ passedTold d s c (units (d .part .word) (now (array .entry))) (units (d .part .word) (now (residue .entry))) ⌝ }
-    ensures { λ _. ⌜ units (d .part .word) (now (array .exit))
+    ensures array_left { λ _. ⌜ units (d .part .word) (now (array .exit))
         ≡ arrayJudged d s c (units (d .part .word) (now (array .entry))) (units (d .part .word) (now (residue .entry))) ⌝ }
-    ensures { λ _. ⌜ spare (d .part .word) (now (array .exit)) ≡ spare (d .part .word) (now (array .entry)) ⌝ }
+    ensures array_spare { λ _. ⌜ spare (d .part .word) (now (array .exit)) ≡ spare (d .part .word) (now (array .entry)) ⌝ }
 {
     let part = d.part;
     let word = part.word;
@@ -199,9 +199,9 @@ fn refused(n: u8, s: State) -> Answer
 
 // One bus cycle.
 pub fn cycle(d: Device, s: State, c: Cycle, array: &mut [u8], residue: &[u8]) -> Answer
-    ensures { λ r. ⌜ r ≡ answerOf d s c (lent (d .part .word) (now (array .entry))) (units (d .part .word) (now (residue .entry))) ⌝ }
+    ensures result { λ r. ⌜ r ≡ answerOf d s c (lent (d .part .word) (now (array .entry))) (units (d .part .word) (now (residue .entry))) ⌝ }
     ensures told { λ r. ⌜ seenTold (r .seen) ≡ cycleTold d s c (lent (d .part .word) (now (array .entry))) (units (d .part .word) (now (residue .entry))) ⌝ }
-    ensures { λ _. ⌜ now (array .exit) ≡ bytesAfter d s c (now (array .entry)) (now (residue .entry)) ⌝ }
+    ensures array_left { λ _. ⌜ now (array .exit) ≡ bytesAfter d s c (now (array .entry)) (now (residue .entry)) ⌝ }
 {
     let part = d.part;
     let word = part.word;

@@ -68,7 +68,7 @@ fn pair_at(s: &[u8], i: usize) -> Pair
 // The reading at x by a payload that need not have been judged: 40 by its length, and 41 where a knot that the reading is made of
 // is out of range or does not rise.
 pub fn reading_at(payload: &[u8], x: i32) -> ReadingAnswer
-    ensures { λ r. ⌜ r ≡ readingAnswer (now (payload .entry)) x ⌝ }
+    ensures result { λ r. ⌜ r ≡ readingAnswer (now (payload .entry)) x ⌝ }
     ensures told { λ r. ⌜ answerTold r ≡ toldAt (readingNumber (now (payload .entry)) x) (now (payload .entry)) x ⌝ }
 {
     if reading_table::shape_wrong(payload) {
@@ -122,9 +122,9 @@ fn judged_reading(payload: &[u8], x: i32) -> ReadingAnswer
 
 // The reading at x straight from a file: the reader for the letter asked, into the front of room, then the table.
 pub fn reading_from_file(file: &[u8], letter: u8, room: &mut [u8], x: i32) -> ReadingAnswer
-    ensures { λ r. ⌜ r ≡ answerAs x (inRoom (length (now (room .entry))) (readerOf limit (now (file .entry)) letter)) ⌝ }
+    ensures result { λ r. ⌜ r ≡ answerAs x (inRoom (length (now (room .entry))) (readerOf limit (now (file .entry)) letter)) ⌝ }
     ensures told { λ r. ⌜ answerTold r ≡ toldAs x (inRoom (length (now (room .entry))) (readerOf limit (now (file .entry)) letter)) ⌝ }
-    ensures { λ _. ⌜ now (room .exit) ≡ leftIn (now (room .entry)) (inRoom (length (now (room .entry))) (readerOf limit (now (file .entry)) letter)) ⌝ }
+    ensures room_left { λ _. ⌜ now (room .exit) ≡ leftIn (now (room .entry)) (inRoom (length (now (room .entry))) (readerOf limit (now (file .entry)) letter)) ⌝ }
 {
     let got = file_codec::read(file, letter, room);
     match got {

@@ -12,8 +12,8 @@ ghost use Rattle.reading_answer.specs.Lines.{readWords, refusedLine, deg
 
 // What a refusal means, from a place on; the place behind it.
 pub fn put_words(out: &mut [u8], at: usize, n: u8) -> usize
-    ensures { λ r. ⌜ r ≡ behind (now (out .entry)) at (readWords n) ⌝ }
-    ensures { λ _. ⌜ now (out .exit) ≡ laidAt (now (out .entry)) at (readWords n) ⌝ }
+    ensures result { λ r. ⌜ r ≡ behind (now (out .entry)) at (readWords n) ⌝ }
+    ensures out_left { λ _. ⌜ now (out .exit) ≡ laidAt (now (out .entry)) at (readWords n) ⌝ }
 {
     if n == 30 {
         return text::put_text(out, at, b"the file's length is wrong\n");
@@ -36,8 +36,8 @@ pub fn put_words(out: &mut [u8], at: usize, n: u8) -> usize
 
 // A refusal in the front of out; the place behind it.
 fn put_refusal(out: &mut [u8], n: u8) -> usize
-    ensures { λ r. ⌜ r ≡ behind (now (out .entry)) 0 (refusedLine n) ⌝ }
-    ensures { λ _. ⌜ now (out .exit) ≡ laidAt (now (out .entry)) 0 (refusedLine n) ⌝ }
+    ensures result { λ r. ⌜ r ≡ behind (now (out .entry)) 0 (refusedLine n) ⌝ }
+    ensures out_left { λ _. ⌜ now (out .exit) ≡ laidAt (now (out .entry)) 0 (refusedLine n) ⌝ }
 {
     let a = refusal_words::put_refused(out, 0, n);
     let b = text::put_text(out, a, b": ");
@@ -46,8 +46,8 @@ fn put_refusal(out: &mut [u8], n: u8) -> usize
 
 // A temperature and a newline, from a place on; the place behind it.
 fn put_degrees(out: &mut [u8], at: usize, t: f64) -> usize
-    ensures { λ r. ⌜ r ≡ behind (now (out .entry)) at (degrees t) ⌝ }
-    ensures { λ _. ⌜ now (out .exit) ≡ laidAt (now (out .entry)) at (degrees t) ⌝ }
+    ensures result { λ r. ⌜ r ≡ behind (now (out .entry)) at (degrees t) ⌝ }
+    ensures out_left { λ _. ⌜ now (out .exit) ≡ laidAt (now (out .entry)) at (degrees t) ⌝ }
 {
     let a = reading_print::put_temperature(out, at, t);
     text::put_text(out, a, b"\n")
@@ -55,8 +55,8 @@ fn put_degrees(out: &mut [u8], at: usize, t: f64) -> usize
 
 // A reading in the front of out; the place behind it.
 pub fn put_reading(out: &mut [u8], r: Reading) -> usize
-    ensures { λ n. ⌜ n ≡ behind (now (out .entry)) 0 (readingLine r) ⌝ }
-    ensures { λ _. ⌜ now (out .exit) ≡ laidAt (now (out .entry)) 0 (readingLine r) ⌝ }
+    ensures result { λ n. ⌜ n ≡ behind (now (out .entry)) 0 (readingLine r) ⌝ }
+    ensures out_left { λ _. ⌜ now (out .exit) ≡ laidAt (now (out .entry)) 0 (readingLine r) ⌝ }
 {
     match r {
         Reading::Temperature(t) => put_degrees(out, 0, t),
@@ -73,8 +73,8 @@ pub fn put_reading(out: &mut [u8], r: Reading) -> usize
 
 // An answer in the front of out; the place behind it.
 fn put_answer(out: &mut [u8], answer: ReadingAnswer) -> usize
-    ensures { λ n. ⌜ n ≡ behind (now (out .entry)) 0 (answerLine answer) ⌝ }
-    ensures { λ _. ⌜ now (out .exit) ≡ laidAt (now (out .entry)) 0 (answerLine answer) ⌝ }
+    ensures result { λ n. ⌜ n ≡ behind (now (out .entry)) 0 (answerLine answer) ⌝ }
+    ensures out_left { λ _. ⌜ now (out .exit) ≡ laidAt (now (out .entry)) 0 (answerLine answer) ⌝ }
 {
     match answer {
         ReadingAnswer::Read(r) => put_reading(out, r),
@@ -84,8 +84,8 @@ fn put_answer(out: &mut [u8], answer: ReadingAnswer) -> usize
 
 // How the program is called, in the front of out; the place behind it.
 fn put_usage(out: &mut [u8]) -> usize
-    ensures { λ r. ⌜ r ≡ behind (now (out .entry)) 0 usage ⌝ }
-    ensures { λ _. ⌜ now (out .exit) ≡ laidAt (now (out .entry)) 0 usage ⌝ }
+    ensures result { λ r. ⌜ r ≡ behind (now (out .entry)) 0 usage ⌝ }
+    ensures out_left { λ _. ⌜ now (out .exit) ≡ laidAt (now (out .entry)) 0 usage ⌝ }
 {
     text::put_text(out, 0, b"usage: desk read FILE LETTER MICROVOLTS\n")
 }
@@ -100,10 +100,10 @@ fn call_wrong(count: usize, letter: &[u8]) -> bool
 
 // The reading at so many microvolts from a file, in the front of out; the place behind it. The payload goes into room.
 fn put_read(out: &mut [u8], file: &[u8], letter: u8, room: &mut [u8], x: i32) -> usize
-    ensures { λ n. ⌜ n ≡ behind (now (out .entry)) 0 (answerLine (answerAs x (inRoom (length (now (room .entry))) (readerOf limit (now (file .entry)) letter)))) ⌝ }
-    ensures { λ _. ⌜ now (out .exit)
+    ensures result { λ n. ⌜ n ≡ behind (now (out .entry)) 0 (answerLine (answerAs x (inRoom (length (now (room .entry))) (readerOf limit (now (file .entry)) letter)))) ⌝ }
+    ensures out_left { λ _. ⌜ now (out .exit)
         ≡ laidAt (now (out .entry)) 0 (answerLine (answerAs x (inRoom (length (now (room .entry))) (readerOf limit (now (file .entry)) letter)))) ⌝ }
-    ensures { λ _. ⌜ now (room .exit) ≡ leftIn (now (room .entry)) (inRoom (length (now (room .entry))) (readerOf limit (now (file .entry)) letter)) ⌝ }
+    ensures room_left { λ _. ⌜ now (room .exit) ≡ leftIn (now (room .entry)) (inRoom (length (now (room .entry))) (readerOf limit (now (file .entry)) letter)) ⌝ }
 {
     let answer = reading::reading_from_file(file, letter, room, x);
     put_answer(out, answer)
@@ -120,10 +120,10 @@ pub fn answer(
     room: &mut [u8],
     out: &mut [u8],
 ) -> Told
-    ensures { λ r. ⌜ r ≡ toldOn (answered count (now (file .entry)) (now (letter .entry)) (now (volts .entry)) (now (room .entry)) .stream) (now (out .entry)) (answered count (now (file .entry)) (now (letter .entry)) (now (volts .entry)) (now (room .entry)) .line) ⌝ }
-    ensures { λ _. ⌜ now (out .exit) ≡ laidAt (now (out .entry)) 0 (answered count (now (file .entry)) (now (letter .entry)) (now (volts .entry)) (now (room .entry)) .line) ⌝ }
-    ensures { λ _. ⌜ now (room .exit) ≡ answered count (now (file .entry)) (now (letter .entry)) (now (volts .entry)) (now (room .entry)) .room ⌝ }
-    ensures { λ r. ⌜ Used (r .used) (now (out .exit)) ⌝ }
+    ensures result { λ r. ⌜ r ≡ toldOn (answered count (now (file .entry)) (now (letter .entry)) (now (volts .entry)) (now (room .entry)) .stream) (now (out .entry)) (answered count (now (file .entry)) (now (letter .entry)) (now (volts .entry)) (now (room .entry)) .line) ⌝ }
+    ensures out_left { λ _. ⌜ now (out .exit) ≡ laidAt (now (out .entry)) 0 (answered count (now (file .entry)) (now (letter .entry)) (now (volts .entry)) (now (room .entry)) .line) ⌝ }
+    ensures room_left { λ _. ⌜ now (room .exit) ≡ answered count (now (file .entry)) (now (letter .entry)) (now (volts .entry)) (now (room .entry)) .room ⌝ }
+    ensures out_used { λ r. ⌜ Used (r .used) (now (out .exit)) ⌝ }
 {
     if call_wrong(count, letter) {
         let used = put_usage(out);

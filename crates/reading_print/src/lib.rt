@@ -7,8 +7,8 @@ ghost use Rattle.reading_print.specs.Texts.{signedText, knotText, isUnde
 
 // A number with a minus before it where it is negative, from a place on; the place behind it.
 fn put_signed(out: &mut [u8], at: usize, negative: bool, n: u32) -> usize
-    ensures { λ r. ⌜ r ≡ behind (now (out .entry)) at (signedText negative n) ⌝ }
-    ensures { λ _. ⌜ now (out .exit) ≡ laidAt (now (out .entry)) at (signedText negative n) ⌝ }
+    ensures result { λ r. ⌜ r ≡ behind (now (out .entry)) at (signedText negative n) ⌝ }
+    ensures out_left { λ _. ⌜ now (out .exit) ≡ laidAt (now (out .entry)) at (signedText negative n) ⌝ }
 {
     if negative {
         let next = text::put_text(out, at, b"-");
@@ -36,8 +36,8 @@ fn negative(z: i32) -> bool
 
 // A knot's line from a place on: microvolts, a space, tenths of a degree, a newline; the place behind it.
 pub fn put_knot(out: &mut [u8], at: usize, volts: i32, tenths: i16) -> usize
-    ensures { λ r. ⌜ r ≡ behind (now (out .entry)) at (knotText volts tenths) ⌝ }
-    ensures { λ _. ⌜ now (out .exit) ≡ laidAt (now (out .entry)) at (knotText volts tenths) ⌝ }
+    ensures result { λ r. ⌜ r ≡ behind (now (out .entry)) at (knotText volts tenths) ⌝ }
+    ensures out_left { λ _. ⌜ now (out .exit) ≡ laidAt (now (out .entry)) at (knotText volts tenths) ⌝ }
 {
     let t = tenths as i32;
     let a = put_signed(out, at, negative(volts), size(volts));
@@ -90,8 +90,8 @@ fn tenths_shown(t: f64) -> u32
 
 // A temperature in degrees with one decimal, from a place on; the place behind it.
 pub fn put_temperature(out: &mut [u8], at: usize, t: f64) -> usize
-    ensures { λ r. ⌜ r ≡ behind (now (out .entry)) at (temperatureText t) ⌝ }
-    ensures { λ _. ⌜ now (out .exit) ≡ laidAt (now (out .entry)) at (temperatureText t) ⌝ }
+    ensures result { λ r. ⌜ r ≡ behind (now (out .entry)) at (temperatureText t) ⌝ }
+    ensures out_left { λ _. ⌜ now (out .exit) ≡ laidAt (now (out .entry)) at (temperatureText t) ⌝ }
 {
     let n = tenths_shown(t);
     let a = put_signed(out, at, is_under(t), n / 10);

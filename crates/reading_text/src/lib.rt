@@ -141,7 +141,7 @@ fn value(n: Number) -> i32
 
 // A whole text as a number: a minus or none, then digits, the nine last of which may be other than 0.
 pub fn read_number(text: &[u8]) -> NumberRead
-    ensures { λ r. ⌜ r ≡ numberTold (now (text .entry)) ⌝ }
+    ensures result { λ r. ⌜ r ≡ numberTold (now (text .entry)) ⌝ }
     ensures told { λ r. ⌜ numberValues r ≡ valuesIn (now (text .entry)) ⌝ }
 {
     let n = number_fed(text);
@@ -336,8 +336,8 @@ fn within_line(s: Scan, b: u8) -> Scan
 
 // A newline: the knot of the line goes into the payload.
 fn end_line(s: Scan, out: &mut [u8]) -> Scan
-    ensures { λ r. ⌜ r ≡ endLine s (now (out .entry)) .scan ⌝ }
-    ensures { λ _. ⌜ now (out .exit) ≡ endLine s (now (out .entry)) .payload ⌝ }
+    ensures result { λ r. ⌜ r ≡ endLine s (now (out .entry)) .scan ⌝ }
+    ensures out_left { λ _. ⌜ now (out .exit) ≡ endLine s (now (out .entry)) .payload ⌝ }
 {
     if line_wrong(s, out.len()) {
         return stopped(s);
@@ -350,8 +350,8 @@ fn end_line(s: Scan, out: &mut [u8]) -> Scan
 
 // One letter more of a table; nothing more after a wrong line.
 fn step(s: Scan, b: u8, out: &mut [u8]) -> Scan
-    ensures { λ r. ⌜ r ≡ scanMore s b (now (out .entry)) .scan ⌝ }
-    ensures { λ _. ⌜ now (out .exit) ≡ scanMore s b (now (out .entry)) .payload ⌝ }
+    ensures result { λ r. ⌜ r ≡ scanMore s b (now (out .entry)) .scan ⌝ }
+    ensures out_left { λ _. ⌜ now (out .exit) ≡ scanMore s b (now (out .entry)) .payload ⌝ }
 {
     let wrong = s.wrong;
     if wrong {
@@ -392,9 +392,9 @@ fn table_end(s: Scan) -> TableRead
 
 // A whole table into the front of out, six bytes for a knot.
 pub fn read_table(text: &[u8], out: &mut [u8]) -> TableRead
-    ensures { λ r. ⌜ r ≡ tableRead (tableScanned (now (text .entry)) (now (out .entry)) .scan) ⌝ }
+    ensures result { λ r. ⌜ r ≡ tableRead (tableScanned (now (text .entry)) (now (out .entry)) .scan) ⌝ }
     ensures told { λ r. ⌜ tableTold r ≡ scanTold (tableScanned (now (text .entry)) (now (out .entry)) .scan) ⌝ }
-    ensures { λ _. ⌜ now (out .exit) ≡ tableScanned (now (text .entry)) (now (out .entry)) .payload ⌝ }
+    ensures out_left { λ _. ⌜ now (out .exit) ≡ tableScanned (now (text .entry)) (now (out .entry)) .payload ⌝ }
 {
     let mut s = scan_start();
     let mut i = 0;

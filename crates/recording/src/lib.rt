@@ -281,8 +281,8 @@ pub fn reason(d: Device, s: State, r: Noted, array: &[u8]) -> Why
 
 // One record: at fault it changes nothing, else it is made by the model's own cycle, which was judged already.
 pub fn step_record(d: Device, s: State, r: Noted, array: &mut [u8]) -> Recorded
-    ensures { λ q. ⌜ q ≡ recordedOf d s r (now (array .entry)) ⌝ }
-    ensures { λ _. ⌜ now (array .exit) ≡ bytesRecorded d s r (now (array .entry)) ⌝ }
+    ensures result { λ q. ⌜ q ≡ recordedOf d s r (now (array .entry)) ⌝ }
+    ensures array_left { λ _. ⌜ now (array .exit) ≡ bytesRecorded d s r (now (array .entry)) ⌝ }
 {
     if at_fault(d, s, r, array) {
         return Recorded {

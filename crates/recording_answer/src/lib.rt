@@ -13,8 +13,8 @@ ghost use Rattle.recording_answer.specs.Lines.{dataWidth, addressWidth, 
 // So many hexadecimal digits of a number.
 fn put_hex(out: &mut [u8], at: usize, n: usize, v: u64) -> usize
     requires { ⌜ n ≤ 16 ⌝ }
-    ensures { λ r. ⌜ r ≡ behind (now (out .entry)) at (spelled 16 n v []) ⌝ }
-    ensures { λ _. ⌜ now (out .exit) ≡ laidAt (now (out .entry)) at (spelled 16 n v []) ⌝ }
+    ensures result { λ r. ⌜ r ≡ behind (now (out .entry)) at (spelled 16 n v []) ⌝ }
+    ensures out_left { λ _. ⌜ now (out .exit) ≡ laidAt (now (out .entry)) at (spelled 16 n v []) ⌝ }
 {
     let mut digits = [0u8; 16];
     let from = 16 - n;
@@ -49,16 +49,16 @@ fn address_width(v: u64) -> usize
 }
 
 fn put_data(out: &mut [u8], at: usize, v: u64) -> usize
-    ensures { λ r. ⌜ r ≡ behind (now (out .entry)) at (dataText v) ⌝ }
-    ensures { λ _. ⌜ now (out .exit) ≡ laidAt (now (out .entry)) at (dataText v) ⌝ }
+    ensures result { λ r. ⌜ r ≡ behind (now (out .entry)) at (dataText v) ⌝ }
+    ensures out_left { λ _. ⌜ now (out .exit) ≡ laidAt (now (out .entry)) at (dataText v) ⌝ }
 {
     let n = data_width(v);
     put_hex(out, at, n, v)
 }
 
 fn put_address(out: &mut [u8], at: usize, v: u64) -> usize
-    ensures { λ r. ⌜ r ≡ behind (now (out .entry)) at (addressText v) ⌝ }
-    ensures { λ _. ⌜ now (out .exit) ≡ laidAt (now (out .entry)) at (addressText v) ⌝ }
+    ensures result { λ r. ⌜ r ≡ behind (now (out .entry)) at (addressText v) ⌝ }
+    ensures out_left { λ _. ⌜ now (out .exit) ≡ laidAt (now (out .entry)) at (addressText v) ⌝ }
 {
     let n = address_width(v);
     put_hex(out, at, n, v)
@@ -66,8 +66,8 @@ fn put_address(out: &mut [u8], at: usize, v: u64) -> usize
 
 // Data that was seen.
 fn put_told(out: &mut [u8], at: usize, v: u16) -> usize
-    ensures { λ r. ⌜ r ≡ behind (now (out .entry)) at (heardText (Told v)) ⌝ }
-    ensures { λ _. ⌜ now (out .exit) ≡ laidAt (now (out .entry)) at (heardText (Told v)) ⌝ }
+    ensures result { λ r. ⌜ r ≡ behind (now (out .entry)) at (heardText (Told v)) ⌝ }
+    ensures out_left { λ _. ⌜ now (out .exit) ≡ laidAt (now (out .entry)) at (heardText (Told v)) ⌝ }
 {
     let a = text::put_text(out, at, b"D ");
     put_data(out, a, v as u64)
@@ -75,8 +75,8 @@ fn put_told(out: &mut [u8], at: usize, v: u16) -> usize
 
 // The answer seen.
 fn put_heard(out: &mut [u8], at: usize, heard: Heard) -> usize
-    ensures { λ r. ⌜ r ≡ behind (now (out .entry)) at (heardText heard) ⌝ }
-    ensures { λ _. ⌜ now (out .exit) ≡ laidAt (now (out .entry)) at (heardText heard) ⌝ }
+    ensures result { λ r. ⌜ r ≡ behind (now (out .entry)) at (heardText heard) ⌝ }
+    ensures out_left { λ _. ⌜ now (out .exit) ≡ laidAt (now (out .entry)) at (heardText heard) ⌝ }
 {
     match heard {
         Heard::Silence => text::put_text(out, at, b"N --"),
@@ -86,8 +86,8 @@ fn put_heard(out: &mut [u8], at: usize, heard: Heard) -> usize
 
 // A piece of text, a number and a piece of text behind it.
 fn put_around(out: &mut [u8], at: usize, before: &[u8], n: u32, after: &[u8]) -> usize
-    ensures { λ r. ⌜ r ≡ behind (now (out .entry)) at (around (now (before .entry)) n (now (after .entry))) ⌝ }
-    ensures { λ _. ⌜ now (out .exit) ≡ laidAt (now (out .entry)) at (around (now (before .entry)) n (now (after .entry))) ⌝ }
+    ensures result { λ r. ⌜ r ≡ behind (now (out .entry)) at (around (now (before .entry)) n (now (after .entry))) ⌝ }
+    ensures out_left { λ _. ⌜ now (out .exit) ≡ laidAt (now (out .entry)) at (around (now (before .entry)) n (now (after .entry))) ⌝ }
 {
     let a = text::put_text(out, at, before);
     let b = text::put_decimal(out, a, n);
@@ -95,8 +95,8 @@ fn put_around(out: &mut [u8], at: usize, before: &[u8], n: u32, after: &[u8]) ->
 }
 
 fn put_given(out: &mut [u8], at: usize, v: u32) -> usize
-    ensures { λ r. ⌜ r ≡ behind (now (out .entry)) at (givenText v) ⌝ }
-    ensures { λ _. ⌜ now (out .exit) ≡ laidAt (now (out .entry)) at (givenText v) ⌝ }
+    ensures result { λ r. ⌜ r ≡ behind (now (out .entry)) at (givenText v) ⌝ }
+    ensures out_left { λ _. ⌜ now (out .exit) ≡ laidAt (now (out .entry)) at (givenText v) ⌝ }
 {
     let a = text::put_text(out, at, b"give D ");
     let b = put_data(out, a, v as u64);
@@ -105,8 +105,8 @@ fn put_given(out: &mut [u8], at: usize, v: u32) -> usize
 
 // What the rules do with the cycle.
 fn put_rules(out: &mut [u8], at: usize, kind: u8, value: u32) -> usize
-    ensures { λ r. ⌜ r ≡ behind (now (out .entry)) at (rulesText kind value) ⌝ }
-    ensures { λ _. ⌜ now (out .exit) ≡ laidAt (now (out .entry)) at (rulesText kind value) ⌝ }
+    ensures result { λ r. ⌜ r ≡ behind (now (out .entry)) at (rulesText kind value) ⌝ }
+    ensures out_left { λ _. ⌜ now (out .exit) ≡ laidAt (now (out .entry)) at (rulesText kind value) ⌝ }
 {
     if kind == 3 {
         return put_around(out, at, b"refuse the cycle by number ", value, b"\n");
@@ -118,8 +118,8 @@ fn put_rules(out: &mut [u8], at: usize, kind: u8, value: u32) -> usize
 }
 
 fn put_seen(out: &mut [u8], at: usize, heard: Heard, kind: u8, value: u32) -> usize
-    ensures { λ r. ⌜ r ≡ behind (now (out .entry)) at (seenText heard kind value) ⌝ }
-    ensures { λ _. ⌜ now (out .exit) ≡ laidAt (now (out .entry)) at (seenText heard kind value) ⌝ }
+    ensures result { λ r. ⌜ r ≡ behind (now (out .entry)) at (seenText heard kind value) ⌝ }
+    ensures out_left { λ _. ⌜ now (out .exit) ≡ laidAt (now (out .entry)) at (seenText heard kind value) ⌝ }
 {
     let a = text::put_text(out, at, b"seen ");
     let b = put_heard(out, a, heard);
@@ -129,8 +129,8 @@ fn put_seen(out: &mut [u8], at: usize, heard: Heard, kind: u8, value: u32) -> us
 
 // Why a record is at fault.
 fn put_why(out: &mut [u8], at: usize, heard: Heard, w: Why) -> usize
-    ensures { λ r. ⌜ r ≡ behind (now (out .entry)) at (whyText heard w) ⌝ }
-    ensures { λ _. ⌜ now (out .exit) ≡ laidAt (now (out .entry)) at (whyText heard w) ⌝ }
+    ensures result { λ r. ⌜ r ≡ behind (now (out .entry)) at (whyText heard w) ⌝ }
+    ensures out_left { λ _. ⌜ now (out .exit) ≡ laidAt (now (out .entry)) at (whyText heard w) ⌝ }
 {
     let kind = w.kind;
     let value = w.value;
@@ -145,8 +145,8 @@ fn put_why(out: &mut [u8], at: usize, heard: Heard, w: Why) -> usize
 
 // A record at fault, by its line.
 pub fn put_fault(out: &mut [u8], at: usize, n: u32, heard: Heard, w: Why) -> usize
-    ensures { λ r. ⌜ r ≡ behind (now (out .entry)) at (faultLine n heard w) ⌝ }
-    ensures { λ _. ⌜ now (out .exit) ≡ laidAt (now (out .entry)) at (faultLine n heard w) ⌝ }
+    ensures result { λ r. ⌜ r ≡ behind (now (out .entry)) at (faultLine n heard w) ⌝ }
+    ensures out_left { λ _. ⌜ now (out .exit) ≡ laidAt (now (out .entry)) at (faultLine n heard w) ⌝ }
 {
     let a = put_around(out, at, b"line ", n, b" is at fault: ");
     put_why(out, a, heard, w)
@@ -154,16 +154,16 @@ pub fn put_fault(out: &mut [u8], at: usize, n: u32, heard: Heard, w: Why) -> usi
 
 // A line that is none.
 pub fn put_bad(out: &mut [u8], at: usize, n: u32) -> usize
-    ensures { λ r. ⌜ r ≡ behind (now (out .entry)) at (badLine n) ⌝ }
-    ensures { λ _. ⌜ now (out .exit) ≡ laidAt (now (out .entry)) at (badLine n) ⌝ }
+    ensures result { λ r. ⌜ r ≡ behind (now (out .entry)) at (badLine n) ⌝ }
+    ensures out_left { λ _. ⌜ now (out .exit) ≡ laidAt (now (out .entry)) at (badLine n) ⌝ }
 {
     put_around(out, at, b"line ", n, b" is no line of a recording\n")
 }
 
 // All is as it must be.
 pub fn put_accepted(out: &mut [u8], at: usize, n: u32) -> usize
-    ensures { λ r. ⌜ r ≡ behind (now (out .entry)) at (acceptedLine n) ⌝ }
-    ensures { λ _. ⌜ now (out .exit) ≡ laidAt (now (out .entry)) at (acceptedLine n) ⌝ }
+    ensures result { λ r. ⌜ r ≡ behind (now (out .entry)) at (acceptedLine n) ⌝ }
+    ensures out_left { λ _. ⌜ now (out .exit) ≡ laidAt (now (out .entry)) at (acceptedLine n) ⌝ }
 {
     put_around(
         out,
@@ -190,8 +190,8 @@ pub fn apart_at(a: &[u8], b: &[u8]) -> usize
 }
 
 fn put_differs(out: &mut [u8], at: usize, v: u64) -> usize
-    ensures { λ r. ⌜ r ≡ behind (now (out .entry)) at (differsText v) ⌝ }
-    ensures { λ _. ⌜ now (out .exit) ≡ laidAt (now (out .entry)) at (differsText v) ⌝ }
+    ensures result { λ r. ⌜ r ≡ behind (now (out .entry)) at (differsText v) ⌝ }
+    ensures out_left { λ _. ⌜ now (out .exit) ≡ laidAt (now (out .entry)) at (differsText v) ⌝ }
 {
     let a = text::put_text(
         out,
@@ -203,8 +203,8 @@ fn put_differs(out: &mut [u8], at: usize, v: u64) -> usize
 }
 
 fn put_shorter(out: &mut [u8], at: usize, n: u32, m: u32) -> usize
-    ensures { λ r. ⌜ r ≡ behind (now (out .entry)) at (shorterText n m) ⌝ }
-    ensures { λ _. ⌜ now (out .exit) ≡ laidAt (now (out .entry)) at (shorterText n m) ⌝ }
+    ensures result { λ r. ⌜ r ≡ behind (now (out .entry)) at (shorterText n m) ⌝ }
+    ensures out_left { λ _. ⌜ now (out .exit) ≡ laidAt (now (out .entry)) at (shorterText n m) ⌝ }
 {
     let a = put_around(
         out,
@@ -219,8 +219,8 @@ fn put_shorter(out: &mut [u8], at: usize, n: u32, m: u32) -> usize
 
 // The array promised has another length.
 fn put_lengths(out: &mut [u8], at: usize, n: usize, m: usize) -> usize
-    ensures { λ r. ⌜ r ≡ behind (now (out .entry)) at (lengthsText n m) ⌝ }
-    ensures { λ _. ⌜ now (out .exit) ≡ laidAt (now (out .entry)) at (lengthsText n m) ⌝ }
+    ensures result { λ r. ⌜ r ≡ behind (now (out .entry)) at (lengthsText n m) ⌝ }
+    ensures out_left { λ _. ⌜ now (out .exit) ≡ laidAt (now (out .entry)) at (lengthsText n m) ⌝ }
 {
     if 0xFFFF_FFFF < m {
         return text::put_text(
@@ -243,8 +243,8 @@ fn put_lengths(out: &mut [u8], at: usize, n: usize, m: usize) -> usize
 
 // Two arrays of m bytes differ first at v; past the end they do not.
 fn put_place(out: &mut [u8], at: usize, v: usize, m: usize) -> usize
-    ensures { λ r. ⌜ r ≡ behind (now (out .entry)) at (placeText v m) ⌝ }
-    ensures { λ _. ⌜ now (out .exit) ≡ laidAt (now (out .entry)) at (placeText v m) ⌝ }
+    ensures result { λ r. ⌜ r ≡ behind (now (out .entry)) at (placeText v m) ⌝ }
+    ensures out_left { λ _. ⌜ now (out .exit) ≡ laidAt (now (out .entry)) at (placeText v m) ⌝ }
 {
     if v < m {
         return put_differs(out, at, v as u64);
@@ -254,8 +254,8 @@ fn put_place(out: &mut [u8], at: usize, v: usize, m: usize) -> usize
 
 // The array promised against the part's.
 fn put_array(out: &mut [u8], at: usize, promised: &[u8], array: &[u8]) -> usize
-    ensures { λ r. ⌜ r ≡ behind (now (out .entry)) at (arrayText (now (promised .entry)) (now (array .entry))) ⌝ }
-    ensures { λ _. ⌜ now (out .exit) ≡ laidAt (now (out .entry)) at (arrayText (now (promised .entry)) (now (array .entry))) ⌝ }
+    ensures result { λ r. ⌜ r ≡ behind (now (out .entry)) at (arrayText (now (promised .entry)) (now (array .entry))) ⌝ }
+    ensures out_left { λ _. ⌜ now (out .exit) ≡ laidAt (now (out .entry)) at (arrayText (now (promised .entry)) (now (array .entry))) ⌝ }
 {
     let n = promised.len();
     let m = array.len();
@@ -268,8 +268,8 @@ fn put_array(out: &mut [u8], at: usize, promised: &[u8], array: &[u8]) -> usize
 
 // Only the end is at fault: something is awaited, running or suspended there, or the array is not the one promised.
 pub fn put_end(out: &mut [u8], at: usize, ph: Phase, promised: &[u8], array: &[u8]) -> usize
-    ensures { λ r. ⌜ r ≡ behind (now (out .entry)) at (endText ph (now (promised .entry)) (now (array .entry))) ⌝ }
-    ensures { λ _. ⌜ now (out .exit) ≡ laidAt (now (out .entry)) at (endText ph (now (promised .entry)) (now (array .entry))) ⌝ }
+    ensures result { λ r. ⌜ r ≡ behind (now (out .entry)) at (endText ph (now (promised .entry)) (now (array .entry))) ⌝ }
+    ensures out_left { λ _. ⌜ now (out .exit) ≡ laidAt (now (out .entry)) at (endText ph (now (promised .entry)) (now (array .entry))) ⌝ }
 {
     match ph {
         Phase::Free => put_array(out, at, promised, array),

@@ -138,8 +138,8 @@ fn digit(n: u16) -> u8
 
 // A busy count from a place on: five digits, or five dashes for 0.
 fn put_count(out: &mut [u8], at: usize, n: u16) -> usize
-    ensures { λ r. ⌜ r ≡ behind (now (out .entry)) at (countFor n) ⌝ }
-    ensures { λ _. ⌜ now (out .exit) ≡ laidAt (now (out .entry)) at (countFor n) ⌝ }
+    ensures result { λ r. ⌜ r ≡ behind (now (out .entry)) at (countFor n) ⌝ }
+    ensures out_left { λ _. ⌜ now (out .exit) ≡ laidAt (now (out .entry)) at (countFor n) ⌝ }
 {
     if n == 0 {
         return text::put_text(out, at, b" -----\n");
@@ -158,8 +158,8 @@ fn put_count(out: &mut [u8], at: usize, n: u16) -> usize
 
 // An answer from a place on, behind a space: the first four characters of an answer line.
 fn put_answer(out: &mut [u8], at: usize, seen: Seen) -> usize
-    ensures { λ r. ⌜ r ≡ behind (now (out .entry)) at (answerFor seen) ⌝ }
-    ensures { λ _. ⌜ now (out .exit) ≡ laidAt (now (out .entry)) at (answerFor seen) ⌝ }
+    ensures result { λ r. ⌜ r ≡ behind (now (out .entry)) at (answerFor seen) ⌝ }
+    ensures out_left { λ _. ⌜ now (out .exit) ≡ laidAt (now (out .entry)) at (answerFor seen) ⌝ }
 {
     let mut answer = [b' '; 8];
     trace_replay::answers::write_answer(seen, 0, &mut answer);
@@ -180,9 +180,9 @@ fn write_line(line: &[u8], seen: Seen, busy: u16, out: &mut [u8])
 // One line more.
 fn next(l: Log, n: u32, line: &[u8], array: &mut [u8], residue: &[u8], out: &mut [u8]) -> Log
     requires { ⌜ length (now line) ≡ 20 ⌝ }
-    ensures { λ r. ⌜ r ≡ logBy benchT l n (cycleStated (now (line .entry))) (lineStep (l .state) (cycleStated (now (line .entry))) (now (array .entry)) (now (residue .entry))) ⌝ }
-    ensures { λ _. ⌜ now (array .exit) ≡ arrayBy (l .state) (cycleStated (now (line .entry))) (now (array .entry)) (now (residue .entry)) ⌝ }
-    ensures { λ _. ⌜ now (out .exit)
+    ensures result { λ r. ⌜ r ≡ logBy benchT l n (cycleStated (now (line .entry))) (lineStep (l .state) (cycleStated (now (line .entry))) (now (array .entry)) (now (residue .entry))) ⌝ }
+    ensures array_left { λ _. ⌜ now (array .exit) ≡ arrayBy (l .state) (cycleStated (now (line .entry))) (now (array .entry)) (now (residue .entry)) ⌝ }
+    ensures out_left { λ _. ⌜ now (out .exit)
         ≡ copied (now (out .entry)) (lineFor (now (line .entry)) (lineStep (l .state) (cycleStated (now (line .entry))) (now (array .entry)) (now (residue .entry)) .seen) (busyOf benchT (l .state) (cycleStated (now (line .entry))))) ⌝ }
 {
     let d = trace_replay::bench();
@@ -211,9 +211,9 @@ fn no_log() -> Log
 // The first g lines, each into its 31 bytes of out.
 fn record_lines(g: usize, text: &[u8], array: &mut [u8], residue: &[u8], out: &mut [u8]) -> Log
     requires { ⌜ (20 * g ≤ length (now text)) × (31 * g ≤ length (now out)) × (g ≤ 9998) ⌝ }
-    ensures { λ r. ⌜ r ≡ logFrom g 1 noLog (now (array .entry)) (now (residue .entry)) (now (text .entry)) ⌝ }
-    ensures { λ _. ⌜ now (array .exit) ≡ arraysOf g freshState (now (array .entry)) (now (residue .entry)) (now (text .entry)) ⌝ }
-    ensures { λ _. ⌜ now (out .exit)
+    ensures result { λ r. ⌜ r ≡ logFrom g 1 noLog (now (array .entry)) (now (residue .entry)) (now (text .entry)) ⌝ }
+    ensures array_left { λ _. ⌜ now (array .exit) ≡ arraysOf g freshState (now (array .entry)) (now (residue .entry)) (now (text .entry)) ⌝ }
+    ensures out_left { λ _. ⌜ now (out .exit)
         ≡ linesFrom g freshState (now (array .entry)) (now (residue .entry)) (now (text .entry)) ++ drop (31 * g) (now (out .entry)) ⌝ }
 {
     let mut l = no_log();
@@ -302,10 +302,10 @@ fn no_room() -> Made
 // A whole trace on lent slices: the lines of its recording in front of out, and how it went. Where a cycle is refused or a line is bad
 // there is no recording, and what out holds is none.
 pub fn record_trace(text: &[u8], array: &mut [u8], residue: &[u8], out: &mut [u8]) -> Made
-    ensures { λ r. ⌜ r ≡ traceMade (length (now (out .entry))) (now (array .entry)) (now (residue .entry)) (now (text .entry)) ⌝ }
-    ensures { λ _. ⌜ now (array .exit) ≡ arrayMade (length (now (out .entry))) (now (array .entry)) (now (residue .entry)) (now (text .entry)) ⌝ }
-    ensures { λ _. ⌜ now (out .exit) ≡ outMade (now (out .entry)) (now (array .entry)) (now (residue .entry)) (now (text .entry)) ⌝ }
-    ensures { λ r. ⌜ Used (r .used) (now (out .exit)) ⌝ }
+    ensures result { λ r. ⌜ r ≡ traceMade (length (now (out .entry))) (now (array .entry)) (now (residue .entry)) (now (text .entry)) ⌝ }
+    ensures array_left { λ _. ⌜ now (array .exit) ≡ arrayMade (length (now (out .entry))) (now (array .entry)) (now (residue .entry)) (now (text .entry)) ⌝ }
+    ensures out_left { λ _. ⌜ now (out .exit) ≡ outMade (now (out .entry)) (now (array .entry)) (now (residue .entry)) (now (text .entry)) ⌝ }
+    ensures out_used { λ r. ⌜ Used (r .used) (now (out .exit)) ⌝ }
 {
     let g = trace_replay::good_lines(text);
     if out.len() < 31 * g {
@@ -318,8 +318,8 @@ pub fn record_trace(text: &[u8], array: &mut [u8], residue: &[u8], out: &mut [u8
 
 // A note about a line, from the front on; the place behind it.
 fn put_line(out: &mut [u8], n: u32, words: &[u8]) -> usize
-    ensures { λ r. ⌜ r ≡ behind (now (out .entry)) 0 (lineNote n (now (words .entry))) ⌝ }
-    ensures { λ _. ⌜ now (out .exit) ≡ laidAt (now (out .entry)) 0 (lineNote n (now (words .entry))) ⌝ }
+    ensures result { λ r. ⌜ r ≡ behind (now (out .entry)) 0 (lineNote n (now (words .entry))) ⌝ }
+    ensures out_left { λ _. ⌜ now (out .exit) ≡ laidAt (now (out .entry)) 0 (lineNote n (now (words .entry))) ⌝ }
 {
     let a = text::put_text(out, 0, b"line ");
     let b = text::put_decimal(out, a, n);
@@ -327,8 +327,8 @@ fn put_line(out: &mut [u8], n: u32, words: &[u8]) -> usize
 }
 
 fn put_refused(out: &mut [u8], line: u32, number: u8) -> usize
-    ensures { λ r. ⌜ r ≡ behind (now (out .entry)) 0 (refusedNote line number) ⌝ }
-    ensures { λ _. ⌜ now (out .exit) ≡ laidAt (now (out .entry)) 0 (refusedNote line number) ⌝ }
+    ensures result { λ r. ⌜ r ≡ behind (now (out .entry)) 0 (refusedNote line number) ⌝ }
+    ensures out_left { λ _. ⌜ now (out .exit) ≡ laidAt (now (out .entry)) 0 (refusedNote line number) ⌝ }
 {
     let a = put_line(out, line, b": the cycle is refused by ");
     let b = text::put_decimal(out, a, number as u32);
@@ -341,9 +341,9 @@ fn put_refused(out: &mut [u8], line: u32, number: u8) -> usize
 
 // What is to be said of a recording, in front of out: why there is none, or why the check does not accept it; else nothing.
 pub fn note(m: Made, out: &mut [u8]) -> usize
-    ensures { λ r. ⌜ r ≡ behind (now (out .entry)) 0 (noteOf m) ⌝ }
-    ensures { λ _. ⌜ now (out .exit) ≡ laidAt (now (out .entry)) 0 (noteOf m) ⌝ }
-    ensures { λ r. ⌜ Used r (now (out .exit)) ⌝ }
+    ensures result { λ r. ⌜ r ≡ behind (now (out .entry)) 0 (noteOf m) ⌝ }
+    ensures out_left { λ _. ⌜ now (out .exit) ≡ laidAt (now (out .entry)) 0 (noteOf m) ⌝ }
+    ensures out_used { λ r. ⌜ Used r (now (out .exit)) ⌝ }
 {
     let idle = m.idle;
     if m.number == 37 {

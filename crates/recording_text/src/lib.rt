@@ -77,8 +77,8 @@ fn bad_after(n: usize, size: usize) -> usize
 
 // A whole text, against the array that is promised; the lent array is the device's.
 pub fn judge(text: &[u8], promised: &[u8], array: &mut [u8]) -> Judged
-    ensures { λ r. ⌜ r ≡ judgedOf (now (text .entry)) (now (promised .entry)) (now (array .entry)) ⌝ }
-    ensures { λ _. ⌜ now (array .exit) ≡ arrayJudged (now (text .entry)) (now (array .entry)) ⌝ }
+    ensures result { λ r. ⌜ r ≡ judgedOf (now (text .entry)) (now (promised .entry)) (now (array .entry)) ⌝ }
+    ensures array_left { λ _. ⌜ now (array .exit) ≡ arrayJudged (now (text .entry)) (now (array .entry)) ⌝ }
 {
     let d = trace_replay::bench();
     let s = model::fresh();

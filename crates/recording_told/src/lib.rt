@@ -12,8 +12,8 @@ ghost use Rattle.recording_told.specs.Inner.{faultAt};
 
 // What a refusal before the list means.
 fn put_words(out: &mut [u8], at: usize, n: u8) -> usize
-    ensures { λ r. ⌜ r ≡ behind (now (out .entry)) at (startWords n) ⌝ }
-    ensures { λ _. ⌜ now (out .exit) ≡ laidAt (now (out .entry)) at (startWords n) ⌝ }
+    ensures result { λ r. ⌜ r ≡ behind (now (out .entry)) at (startWords n) ⌝ }
+    ensures out_left { λ _. ⌜ now (out .exit) ≡ laidAt (now (out .entry)) at (startWords n) ⌝ }
 {
     if n == 2 {
         return text::put_text(
@@ -27,8 +27,8 @@ fn put_words(out: &mut [u8], at: usize, n: u8) -> usize
 
 // Refused before the list.
 fn put_refused(out: &mut [u8], n: u8) -> usize
-    ensures { λ r. ⌜ r ≡ behind (now (out .entry)) 0 (startRefused n) ⌝ }
-    ensures { λ _. ⌜ now (out .exit) ≡ laidAt (now (out .entry)) 0 (startRefused n) ⌝ }
+    ensures result { λ r. ⌜ r ≡ behind (now (out .entry)) 0 (startRefused n) ⌝ }
+    ensures out_left { λ _. ⌜ now (out .exit) ≡ laidAt (now (out .entry)) 0 (startRefused n) ⌝ }
 {
     let a = refusal_words::put_refused(out, 0, n);
     put_words(out, a, n)
@@ -37,8 +37,8 @@ fn put_refused(out: &mut [u8], n: u8) -> usize
 // The record of the line behind the first i is at fault, in the state and on the array that those before it leave.
 fn put_first(out: &mut [u8], text: &[u8], i: usize, s: State, array: &[u8]) -> usize
     requires { ⌜ (i ≤ 9997) × (31 * i + 31 ≤ length (now text)) ⌝ }
-    ensures { λ r. ⌜ r ≡ behind (now (out .entry)) 0 (faultAt (now (text .entry)) i s (now (array .entry))) ⌝ }
-    ensures { λ _. ⌜ now (out .exit) ≡ laidAt (now (out .entry)) 0 (faultAt (now (text .entry)) i s (now (array .entry))) ⌝ }
+    ensures result { λ r. ⌜ r ≡ behind (now (out .entry)) 0 (faultAt (now (text .entry)) i s (now (array .entry))) ⌝ }
+    ensures out_left { λ _. ⌜ now (out .exit) ≡ laidAt (now (out .entry)) 0 (faultAt (now (text .entry)) i s (now (array .entry))) ⌝ }
 {
     let a = 31 * i;
     let e = a + 31;
@@ -61,8 +61,8 @@ fn put_later(
     array: &[u8],
 ) -> usize
     requires { ⌜ (bad ≤ 9999) × (n ≤ 9998) ⌝ }
-    ensures { λ r. ⌜ r ≡ behind (now (out .entry)) 0 (laterText bad n well ph (now (promised .entry)) (now (array .entry))) ⌝ }
-    ensures { λ _. ⌜ now (out .exit) ≡ laidAt (now (out .entry)) 0 (laterText bad n well ph (now (promised .entry)) (now (array .entry))) ⌝ }
+    ensures result { λ r. ⌜ r ≡ behind (now (out .entry)) 0 (laterText bad n well ph (now (promised .entry)) (now (array .entry))) ⌝ }
+    ensures out_left { λ _. ⌜ now (out .exit) ≡ laidAt (now (out .entry)) 0 (laterText bad n well ph (now (promised .entry)) (now (array .entry))) ⌝ }
 {
     if bad != 0 {
         return recording_answer::put_bad(out, 0, bad as u32);
@@ -76,10 +76,10 @@ fn put_later(
 // A recording as a text, on the lent array and against the one promised. What is said goes into the front of out: how many bytes. A room
 // of 128 bytes holds all that can be said.
 pub fn tell(text: &[u8], promised: &[u8], array: &mut [u8], out: &mut [u8]) -> usize
-    ensures { λ r. ⌜ r ≡ behind (now (out .entry)) 0 (toldOf (now (text .entry)) (now (promised .entry)) (now (array .entry))) ⌝ }
-    ensures { λ _. ⌜ now (out .exit) ≡ laidAt (now (out .entry)) 0 (toldOf (now (text .entry)) (now (promised .entry)) (now (array .entry))) ⌝ }
-    ensures { λ _. ⌜ now (array .exit) ≡ arrayJudged (now (text .entry)) (now (array .entry)) ⌝ }
-    ensures { λ r. ⌜ Used r (now (out .exit)) ⌝ }
+    ensures result { λ r. ⌜ r ≡ behind (now (out .entry)) 0 (toldOf (now (text .entry)) (now (promised .entry)) (now (array .entry))) ⌝ }
+    ensures out_left { λ _. ⌜ now (out .exit) ≡ laidAt (now (out .entry)) 0 (toldOf (now (text .entry)) (now (promised .entry)) (now (array .entry))) ⌝ }
+    ensures array_left { λ _. ⌜ now (array .exit) ≡ arrayJudged (now (text .entry)) (now (array .entry)) ⌝ }
+    ensures out_used { λ r. ⌜ Used r (now (out .exit)) ⌝ }
 {
     let j = recording_text::judge(text, promised, array);
     let n = j.lines;

@@ -33,7 +33,7 @@ fn judged(text: &[u8]) -> Judged
 
 // The counts that a recording leaves, or its first line that is none or whose record is at fault. Such a recording has no counts.
 pub fn count(text: &[u8]) -> Worn
-    ensures { λ r. ⌜ r ≡ wornRecorded (now (text .entry)) ⌝ }
+    ensures result { λ r. ⌜ r ≡ wornRecorded (now (text .entry)) ⌝ }
     ensures told { λ r. ⌜ wornTold r ≡ recordedTold (now (text .entry)) ⌝ }
 {
     let j = judged(text);

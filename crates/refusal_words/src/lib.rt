@@ -5,8 +5,8 @@ ghost use Rattle.refusal_words.specs.Words.{fileWords, refusedText};
 
 // The words of a number and a newline, from a place on; the place behind them.
 pub fn put_file_words(out: &mut [u8], at: usize, n: u8) -> usize
-    ensures { λ r. ⌜ r ≡ behind (now (out .entry)) at (fileWords n) ⌝ }
-    ensures { λ _. ⌜ now (out .exit) ≡ laidAt (now (out .entry)) at (fileWords n) ⌝ }
+    ensures result { λ r. ⌜ r ≡ behind (now (out .entry)) at (fileWords n) ⌝ }
+    ensures out_left { λ _. ⌜ now (out .exit) ≡ laidAt (now (out .entry)) at (fileWords n) ⌝ }
 {
     if n == 31 {
         return text::put_text(out, at, b"a block's check is wrong\n");
@@ -39,8 +39,8 @@ pub fn put_file_words(out: &mut [u8], at: usize, n: u8) -> usize
 
 // A refusal by its number, from a place on; the place behind it.
 pub fn put_refused(out: &mut [u8], at: usize, n: u8) -> usize
-    ensures { λ r. ⌜ r ≡ behind (now (out .entry)) at (refusedText n) ⌝ }
-    ensures { λ _. ⌜ now (out .exit) ≡ laidAt (now (out .entry)) at (refusedText n) ⌝ }
+    ensures result { λ r. ⌜ r ≡ behind (now (out .entry)) at (refusedText n) ⌝ }
+    ensures out_left { λ _. ⌜ now (out .exit) ≡ laidAt (now (out .entry)) at (refusedText n) ⌝ }
 {
     let a = text::put_text(out, at, b"refused ");
     text::put_decimal(out, a, n as u32)

@@ -25,9 +25,9 @@ struct Run {
 // The trace line at x is answered.
 fn answered(text: &[u8], x: Run, array: &mut [u8], residue: &[u8], out: &mut [u8]) -> Run
     requires { ⌜ (x .at + 20 ≤ length (now text)) × (x .used + 8 ≤ length (now out)) × (1 ≤ x .left) ⌝ }
-    ensures { λ r. ⌜ r ≡ lineRun (now (text .entry)) x (now (array .entry)) (now (residue .entry)) ⌝ }
-    ensures { λ _. ⌜ now (array .exit) ≡ arrayBy (x .state) (cycleStated (take 20 (drop (x .at) (now (text .entry))))) (now (array .entry)) (now (residue .entry)) ⌝ }
-    ensures { λ _. ⌜ now (out .exit)
+    ensures result { λ r. ⌜ r ≡ lineRun (now (text .entry)) x (now (array .entry)) (now (residue .entry)) ⌝ }
+    ensures array_left { λ _. ⌜ now (array .exit) ≡ arrayBy (x .state) (cycleStated (take 20 (drop (x .at) (now (text .entry))))) (now (array .entry)) (now (residue .entry)) ⌝ }
+    ensures out_left { λ _. ⌜ now (out .exit)
         ≡ overlaid (now (out .entry)) (x .used)
         (printedOf (lineStep (x .state) (cycleStated (take 20 (drop (x .at) (now (text .entry))))) (now (array .entry)) (now (residue .entry)))) ⌝ }
 {
@@ -155,9 +155,9 @@ fn item(text: &[u8], x: Run, depth: usize, array: &mut [u8], residue: &[u8], out
 
 // The mark of a line at fault, alone.
 fn marked(fault: usize, out: &mut [u8]) -> Replayed
-    ensures { λ r. ⌜ r ≡ replayedIn (length (now (out .entry))) (markOf fault) ⌝ }
-    ensures { λ _. ⌜ now (out .exit) ≡ leftInRoom (length (now (out .entry))) (markOf fault) (now (out .entry)) (copied (now (out .entry)) (markOf fault)) ⌝ }
-    ensures { λ r. ⌜ Used (r .used) (now (out .exit)) ⌝ }
+    ensures result { λ r. ⌜ r ≡ replayedIn (length (now (out .entry))) (markOf fault) ⌝ }
+    ensures out_left { λ _. ⌜ now (out .exit) ≡ leftInRoom (length (now (out .entry))) (markOf fault) (now (out .entry)) (copied (now (out .entry)) (markOf fault)) ⌝ }
+    ensures out_used { λ r. ⌜ Used (r .used) (now (out .exit)) ⌝ }
 {
     if out.len() < 7 {
         return Replayed {
@@ -171,14 +171,14 @@ fn marked(fault: usize, out: &mut [u8]) -> Replayed
 
 // A whole script on lent slices: at a fault its mark alone, else the answers to its lines written out.
 pub fn run_script(text: &[u8], array: &mut [u8], residue: &[u8], out: &mut [u8]) -> Replayed
-    ensures { λ r. ⌜ r ≡ replayedIn (length (now (out .entry))) (scriptOutput (now (array .entry)) (now (residue .entry)) (now (text .entry))) ⌝ }
-    ensures { λ _. ⌜ now (array .exit)
+    ensures result { λ r. ⌜ r ≡ replayedIn (length (now (out .entry))) (scriptOutput (now (array .entry)) (now (residue .entry)) (now (text .entry))) ⌝ }
+    ensures array_left { λ _. ⌜ now (array .exit)
         ≡ leftInRoom (length (now (out .entry))) (scriptOutput (now (array .entry)) (now (residue .entry)) (now (text .entry)))
         (now (array .entry)) (scriptArray (now (array .entry)) (now (residue .entry)) (now (text .entry))) ⌝ }
-    ensures { λ _. ⌜ now (out .exit)
+    ensures out_left { λ _. ⌜ now (out .exit)
         ≡ leftInRoom (length (now (out .entry))) (scriptOutput (now (array .entry)) (now (residue .entry)) (now (text .entry)))
         (now (out .entry)) (copied (now (out .entry)) (scriptOutput (now (array .entry)) (now (residue .entry)) (now (text .entry)))) ⌝ }
-    ensures { λ r. ⌜ Used (r .used) (now (out .exit)) ⌝ }
+    ensures out_used { λ r. ⌜ Used (r .used) (now (out .exit)) ⌝ }
 {
     let j = script_judge::judge_script(text);
     let fault = j.fault;

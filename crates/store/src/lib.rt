@@ -46,8 +46,8 @@ pub fn part_number(part: Part, array: usize) -> u8
 
 // The file under a letter into the front of room: 1, 2, 44, 42, 37, or 0 and its length.
 pub fn find_letter(part: Part, array: &[u8], letter: u8, room: &mut [u8]) -> Found
-    ensures { λ r. ⌜ r ≡ foundAs (inRoom (length (now (room .entry))) (foundOn part (now (array .entry)) letter)) ⌝ }
-    ensures { λ _. ⌜ now (room .exit) ≡ leftIn (now (room .entry)) (inRoom (length (now (room .entry))) (foundOn part (now (array .entry)) letter)) ⌝ }
+    ensures result { λ r. ⌜ r ≡ foundAs (inRoom (length (now (room .entry))) (foundOn part (now (array .entry)) letter)) ⌝ }
+    ensures room_left { λ _. ⌜ now (room .exit) ≡ leftIn (now (room .entry)) (inRoom (length (now (room .entry))) (foundOn part (now (array .entry)) letter)) ⌝ }
 {
     let n = part_number(part, array.len());
     if n != 0 {
@@ -63,9 +63,9 @@ pub fn find_letter(part: Part, array: &[u8], letter: u8, room: &mut [u8]) -> Fou
 
 // The reading at x by the file under a letter: 1, 2, 44, 42, then as straight from that file (37, 40, 41).
 pub fn read_letter(part: Part, array: &[u8], letter: u8, room: &mut [u8], x: i32) -> ReadingAnswer
-    ensures { λ r. ⌜ r ≡ answerAs x (inRoom (length (now (room .entry))) (readBy letter (foundOn part (now (array .entry)) letter))) ⌝ }
+    ensures result { λ r. ⌜ r ≡ answerAs x (inRoom (length (now (room .entry))) (readBy letter (foundOn part (now (array .entry)) letter))) ⌝ }
     ensures told { λ r. ⌜ answerTold r ≡ toldAs x (inRoom (length (now (room .entry))) (readBy letter (foundOn part (now (array .entry)) letter))) ⌝ }
-    ensures { λ _. ⌜ now (room .exit) ≡ leftIn (now (room .entry)) (inRoom (length (now (room .entry))) (readBy letter (foundOn part (now (array .entry)) letter))) ⌝ }
+    ensures room_left { λ _. ⌜ now (room .exit) ≡ leftIn (now (room .entry)) (inRoom (length (now (room .entry))) (readBy letter (foundOn part (now (array .entry)) letter))) ⌝ }
 {
     let n = part_number(part, array.len());
     if n != 0 {
@@ -116,8 +116,8 @@ fn drop_prepared(
     scratch: usize,
     letter: u8,
 ) -> u8
-    ensures { λ r. ⌜ r ≡ dropNumber d s p (now (array .entry)) (length (now (memory .entry))) scratch letter ⌝ }
-    ensures { λ _. ⌜ now (memory .exit)
+    ensures result { λ r. ⌜ r ≡ dropNumber d s p (now (array .entry)) (length (now (memory .entry))) scratch letter ⌝ }
+    ensures memory_left { λ _. ⌜ now (memory .exit)
         ≡ memoryBy (dropNumber d s p (now (array .entry)) (length (now (memory .entry))) scratch letter) (dropOf (readerNumber limit) letter (mainOf (d .part) (now (array .entry)))) (now (memory .entry)) ⌝ }
 {
     let n = change_number(d, s, p, array.len(), memory.len(), scratch);
@@ -141,8 +141,8 @@ fn add_prepared(
     file: &[u8],
     letter: u8,
 ) -> u8
-    ensures { λ r. ⌜ r ≡ addNumber d s p (now (array .entry)) (length (now (memory .entry))) scratch (now (file .entry)) letter ⌝ }
-    ensures { λ _. ⌜ now (memory .exit)
+    ensures result { λ r. ⌜ r ≡ addNumber d s p (now (array .entry)) (length (now (memory .entry))) scratch (now (file .entry)) letter ⌝ }
+    ensures memory_left { λ _. ⌜ now (memory .exit)
         ≡ memoryBy (addNumber d s p (now (array .entry)) (length (now (memory .entry))) scratch (now (file .entry)) letter) (addOf (readerNumber limit) letter (now (file .entry)) (mainOf (d .part) (now (array .entry)))) (now (memory .entry)) ⌝ }
 {
     let n = change_number(d, s, p, array.len(), memory.len(), scratch);
@@ -165,9 +165,9 @@ fn change(
     memory: &[u8],
     scratch: &mut [u8],
 ) -> Ran
-    ensures { λ r. ⌜ r ≡ changeLeft number (now (memory .entry)) d s p (now (array .entry)) (now (memory .entry)) (now (scratch .entry)) .ran ⌝ }
-    ensures { λ _. ⌜ now (array .exit) ≡ changeLeft number (now (memory .entry)) d s p (now (array .entry)) (now (memory .entry)) (now (scratch .entry)) .bytes ⌝ }
-    ensures { λ _. ⌜ now (scratch .exit) ≡ changeLeft number (now (memory .entry)) d s p (now (array .entry)) (now (memory .entry)) (now (scratch .entry)) .scratch ⌝ }
+    ensures result { λ r. ⌜ r ≡ changeLeft number (now (memory .entry)) d s p (now (array .entry)) (now (memory .entry)) (now (scratch .entry)) .ran ⌝ }
+    ensures array_left { λ _. ⌜ now (array .exit) ≡ changeLeft number (now (memory .entry)) d s p (now (array .entry)) (now (memory .entry)) (now (scratch .entry)) .bytes ⌝ }
+    ensures scratch_left { λ _. ⌜ now (scratch .exit) ≡ changeLeft number (now (memory .entry)) d s p (now (array .entry)) (now (memory .entry)) (now (scratch .entry)) .scratch ⌝ }
 {
     if number == 0 {
         return loader_quick::run_quick(change_job(d, s, p), array, memory, scratch);
@@ -190,10 +190,10 @@ pub fn drop_letter(
     scratch: &mut [u8],
     letter: u8,
 ) -> Ran
-    ensures { λ r. ⌜ r ≡ dropLeft d s p (now (array .entry)) (now (memory .entry)) (now (scratch .entry)) letter .ran ⌝ }
-    ensures { λ _. ⌜ now (array .exit) ≡ dropLeft d s p (now (array .entry)) (now (memory .entry)) (now (scratch .entry)) letter .bytes ⌝ }
-    ensures { λ _. ⌜ now (memory .exit) ≡ dropLeft d s p (now (array .entry)) (now (memory .entry)) (now (scratch .entry)) letter .memory ⌝ }
-    ensures { λ _. ⌜ now (scratch .exit) ≡ dropLeft d s p (now (array .entry)) (now (memory .entry)) (now (scratch .entry)) letter .scratch ⌝ }
+    ensures result { λ r. ⌜ r ≡ dropLeft d s p (now (array .entry)) (now (memory .entry)) (now (scratch .entry)) letter .ran ⌝ }
+    ensures array_left { λ _. ⌜ now (array .exit) ≡ dropLeft d s p (now (array .entry)) (now (memory .entry)) (now (scratch .entry)) letter .bytes ⌝ }
+    ensures memory_left { λ _. ⌜ now (memory .exit) ≡ dropLeft d s p (now (array .entry)) (now (memory .entry)) (now (scratch .entry)) letter .memory ⌝ }
+    ensures scratch_left { λ _. ⌜ now (scratch .exit) ≡ dropLeft d s p (now (array .entry)) (now (memory .entry)) (now (scratch .entry)) letter .scratch ⌝ }
 {
     let n = drop_prepared(d, s, p, array, memory, scratch.len(), letter);
     change(n, d, s, p, array, memory, scratch)
@@ -210,10 +210,10 @@ pub fn add_file(
     file: &[u8],
     letter: u8,
 ) -> Ran
-    ensures { λ r. ⌜ r ≡ addLeft d s p (now (array .entry)) (now (memory .entry)) (now (scratch .entry)) (now (file .entry)) letter .ran ⌝ }
-    ensures { λ _. ⌜ now (array .exit) ≡ addLeft d s p (now (array .entry)) (now (memory .entry)) (now (scratch .entry)) (now (file .entry)) letter .bytes ⌝ }
-    ensures { λ _. ⌜ now (memory .exit) ≡ addLeft d s p (now (array .entry)) (now (memory .entry)) (now (scratch .entry)) (now (file .entry)) letter .memory ⌝ }
-    ensures { λ _. ⌜ now (scratch .exit) ≡ addLeft d s p (now (array .entry)) (now (memory .entry)) (now (scratch .entry)) (now (file .entry)) letter .scratch ⌝ }
+    ensures result { λ r. ⌜ r ≡ addLeft d s p (now (array .entry)) (now (memory .entry)) (now (scratch .entry)) (now (file .entry)) letter .ran ⌝ }
+    ensures array_left { λ _. ⌜ now (array .exit) ≡ addLeft d s p (now (array .entry)) (now (memory .entry)) (now (scratch .entry)) (now (file .entry)) letter .bytes ⌝ }
+    ensures memory_left { λ _. ⌜ now (memory .exit) ≡ addLeft d s p (now (array .entry)) (now (memory .entry)) (now (scratch .entry)) (now (file .entry)) letter .memory ⌝ }
+    ensures scratch_left { λ _. ⌜ now (scratch .exit) ≡ addLeft d s p (now (array .entry)) (now (memory .entry)) (now (scratch .entry)) (now (file .entry)) letter .scratch ⌝ }
 {
     let number = add_prepared(d, s, p, array, memory, scratch.len(), file, letter);
     change(number, d, s, p, array, memory, scratch)

@@ -23,8 +23,8 @@ struct Pace {
 
 // What a refusal means, from a place on; the place behind it.
 fn put_words(out: &mut [u8], at: usize, n: u8) -> usize
-    ensures { λ r. ⌜ r ≡ behind (now (out .entry)) at (storeWords n) ⌝ }
-    ensures { λ _. ⌜ now (out .exit) ≡ laidAt (now (out .entry)) at (storeWords n) ⌝ }
+    ensures result { λ r. ⌜ r ≡ behind (now (out .entry)) at (storeWords n) ⌝ }
+    ensures out_left { λ _. ⌜ now (out .exit) ≡ laidAt (now (out .entry)) at (storeWords n) ⌝ }
 {
     if n == 1 {
         return text::put_text(
@@ -54,8 +54,8 @@ fn put_words(out: &mut [u8], at: usize, n: u8) -> usize
 
 // A refusal in the front of out; the place behind it.
 fn put_refusal(out: &mut [u8], n: u8) -> usize
-    ensures { λ r. ⌜ r ≡ behind (now (out .entry)) 0 (refusedLine n) ⌝ }
-    ensures { λ _. ⌜ now (out .exit) ≡ laidAt (now (out .entry)) 0 (refusedLine n) ⌝ }
+    ensures result { λ r. ⌜ r ≡ behind (now (out .entry)) 0 (refusedLine n) ⌝ }
+    ensures out_left { λ _. ⌜ now (out .exit) ≡ laidAt (now (out .entry)) 0 (refusedLine n) ⌝ }
 {
     let a = refusal_words::put_refused(out, 0, n);
     let b = text::put_text(out, a, b": ");
@@ -64,8 +64,8 @@ fn put_refusal(out: &mut [u8], n: u8) -> usize
 
 // How a change ended, in the front of out; the place behind it.
 fn put_change(out: &mut [u8], end: u8, erases: u32) -> usize
-    ensures { λ r. ⌜ r ≡ behind (now (out .entry)) 0 (changeLine end erases) ⌝ }
-    ensures { λ _. ⌜ now (out .exit) ≡ laidAt (now (out .entry)) 0 (changeLine end erases) ⌝ }
+    ensures result { λ r. ⌜ r ≡ behind (now (out .entry)) 0 (changeLine end erases) ⌝ }
+    ensures out_left { λ _. ⌜ now (out .exit) ≡ laidAt (now (out .entry)) 0 (changeLine end erases) ⌝ }
 {
     if end == 0 {
         if erases == 0 {
@@ -82,18 +82,18 @@ fn put_change(out: &mut [u8], end: u8, erases: u32) -> usize
 
 // A refusal, in the front of out; a room of 96 bytes holds every line.
 pub fn say_refusal(n: u8, out: &mut [u8]) -> usize
-    ensures { λ r. ⌜ r ≡ behind (now (out .entry)) 0 (refusedLine n) ⌝ }
-    ensures { λ _. ⌜ now (out .exit) ≡ laidAt (now (out .entry)) 0 (refusedLine n) ⌝ }
-    ensures { λ r. ⌜ Used r (now (out .exit)) ⌝ }
+    ensures result { λ r. ⌜ r ≡ behind (now (out .entry)) 0 (refusedLine n) ⌝ }
+    ensures out_left { λ _. ⌜ now (out .exit) ≡ laidAt (now (out .entry)) 0 (refusedLine n) ⌝ }
+    ensures out_used { λ r. ⌜ Used r (now (out .exit)) ⌝ }
 {
     put_refusal(out, n)
 }
 
 // How a change ended, by its number and the erases that it began, in the front of out; a room of 96 bytes holds every line.
 pub fn say_change(end: u8, erases: u32, out: &mut [u8]) -> usize
-    ensures { λ r. ⌜ r ≡ behind (now (out .entry)) 0 (changeLine end erases) ⌝ }
-    ensures { λ _. ⌜ now (out .exit) ≡ laidAt (now (out .entry)) 0 (changeLine end erases) ⌝ }
-    ensures { λ r. ⌜ Used r (now (out .exit)) ⌝ }
+    ensures result { λ r. ⌜ r ≡ behind (now (out .entry)) 0 (changeLine end erases) ⌝ }
+    ensures out_left { λ _. ⌜ now (out .exit) ≡ laidAt (now (out .entry)) 0 (changeLine end erases) ⌝ }
+    ensures out_used { λ r. ⌜ Used r (now (out .exit)) ⌝ }
 {
     put_change(out, end, erases)
 }
@@ -143,8 +143,8 @@ fn pace_on(main: &[u8], p: usize, w: Pace) -> Pace
 // The map's letter of a place, from a place of out on; the place behind it.
 fn put_mark(out: &mut [u8], at: usize, p: usize, mark: u8) -> usize
     requires { ⌜ p < 72057594037927936 ⌝ }
-    ensures { λ r. ⌜ r ≡ behind (now (out .entry)) at (mapPiece p mark) ⌝ }
-    ensures { λ _. ⌜ now (out .exit) ≡ laidAt (now (out .entry)) at (mapPiece p mark) ⌝ }
+    ensures result { λ r. ⌜ r ≡ behind (now (out .entry)) at (mapPiece p mark) ⌝ }
+    ensures out_left { λ _. ⌜ now (out .exit) ≡ laidAt (now (out .entry)) at (mapPiece p mark) ⌝ }
 {
     if (p + 1) % 28 == 0 {
         let two = [mark, b'\n'];
@@ -156,8 +156,8 @@ fn put_mark(out: &mut [u8], at: usize, p: usize, mark: u8) -> usize
 
 // A knot's temperature, from a place on; the place behind it.
 fn put_tenths(out: &mut [u8], at: usize, payload: &[u8], i: usize) -> usize
-    ensures { λ r. ⌜ r ≡ behind (now (out .entry)) at (temperatureText (ofInt binary64 (tenthsOf (now (payload .entry)) i))) ⌝ }
-    ensures { λ _. ⌜ now (out .exit) ≡ laidAt (now (out .entry)) at (temperatureText (ofInt binary64 (tenthsOf (now (payload .entry)) i))) ⌝ }
+    ensures result { λ r. ⌜ r ≡ behind (now (out .entry)) at (temperatureText (ofInt binary64 (tenthsOf (now (payload .entry)) i))) ⌝ }
+    ensures out_left { λ _. ⌜ now (out .exit) ≡ laidAt (now (out .entry)) at (temperatureText (ofInt binary64 (tenthsOf (now (payload .entry)) i))) ⌝ }
 {
     let t = reading_table::tenths(payload, i);
     let degrees = t as f64;
@@ -167,8 +167,8 @@ fn put_tenths(out: &mut [u8], at: usize, payload: &[u8], i: usize) -> usize
 // The knots of a table: how many, the first and the last temperature.
 fn put_knots(out: &mut [u8], at: usize, payload: &[u8]) -> usize
     requires { ⌜ length (now payload) < 1000000 ⌝ }
-    ensures { λ r. ⌜ r ≡ behind (now (out .entry)) at (knotsText (now (payload .entry))) ⌝ }
-    ensures { λ _. ⌜ now (out .exit) ≡ laidAt (now (out .entry)) at (knotsText (now (payload .entry))) ⌝ }
+    ensures result { λ r. ⌜ r ≡ behind (now (out .entry)) at (knotsText (now (payload .entry))) ⌝ }
+    ensures out_left { λ _. ⌜ now (out .exit) ≡ laidAt (now (out .entry)) at (knotsText (now (payload .entry))) ⌝ }
 {
     let n = payload.len() / 6;
     let a = text::put_decimal(out, at, n as u32);
@@ -182,8 +182,8 @@ fn put_knots(out: &mut [u8], at: usize, payload: &[u8]) -> usize
 // What a payload holds, from a place on; the place behind it.
 fn put_payload(out: &mut [u8], at: usize, payload: &[u8]) -> usize
     requires { ⌜ length (now payload) < 1000000 ⌝ }
-    ensures { λ r. ⌜ r ≡ behind (now (out .entry)) at (payloadText (now (payload .entry))) ⌝ }
-    ensures { λ _. ⌜ now (out .exit) ≡ laidAt (now (out .entry)) at (payloadText (now (payload .entry))) ⌝ }
+    ensures result { λ r. ⌜ r ≡ behind (now (out .entry)) at (payloadText (now (payload .entry))) ⌝ }
+    ensures out_left { λ _. ⌜ now (out .exit) ≡ laidAt (now (out .entry)) at (payloadText (now (payload .entry))) ⌝ }
 {
     let n = reading_table::judge_table(payload);
     if n == 0 {
@@ -195,8 +195,8 @@ fn put_payload(out: &mut [u8], at: usize, payload: &[u8]) -> usize
 // What the reader makes of a file, from a place on; the place behind it. The payload goes through room.
 fn put_file(out: &mut [u8], at: usize, file: &[u8], letter: u8, room: &mut [u8]) -> usize
     requires { ⌜ length (now room) ≡ 113120 ⌝ }
-    ensures { λ r. ⌜ r ≡ behind (now (out .entry)) at (fileText (inRoom 113120 (readerOf limit (now (file .entry)) letter))) ⌝ }
-    ensures { λ _. ⌜ now (out .exit) ≡ laidAt (now (out .entry)) at (fileText (inRoom 113120 (readerOf limit (now (file .entry)) letter))) ⌝ }
+    ensures result { λ r. ⌜ r ≡ behind (now (out .entry)) at (fileText (inRoom 113120 (readerOf limit (now (file .entry)) letter))) ⌝ }
+    ensures out_left { λ _. ⌜ now (out .exit) ≡ laidAt (now (out .entry)) at (fileText (inRoom 113120 (readerOf limit (now (file .entry)) letter))) ⌝ }
 {
     let got = file_codec::read(file, letter, room);
     match got {
@@ -208,8 +208,8 @@ fn put_file(out: &mut [u8], at: usize, file: &[u8], letter: u8, room: &mut [u8])
 // A file's letter, its first place and its places, from a place of out on; the place behind them.
 fn put_head(out: &mut [u8], at: usize, letter: u8, p: usize, n: u8) -> usize
     requires { ⌜ p < 4294967296 ⌝ }
-    ensures { λ r. ⌜ r ≡ behind (now (out .entry)) at (headText letter p n) ⌝ }
-    ensures { λ _. ⌜ now (out .exit) ≡ laidAt (now (out .entry)) at (headText letter p n) ⌝ }
+    ensures result { λ r. ⌜ r ≡ behind (now (out .entry)) at (headText letter p n) ⌝ }
+    ensures out_left { λ _. ⌜ now (out .exit) ≡ laidAt (now (out .entry)) at (headText letter p n) ⌝ }
 {
     let one = [letter];
     let a = text::put_text(out, at, &one);
@@ -231,8 +231,8 @@ fn put_stood(
     room: &mut [u8],
 ) -> usize
     requires { ⌜ (p < 4294967296) × (length (now room) ≡ 113120) ⌝ }
-    ensures { λ r. ⌜ r ≡ behind (now (out .entry)) at (rowText (now (main .entry)) p letter n) ⌝ }
-    ensures { λ _. ⌜ now (out .exit) ≡ laidAt (now (out .entry)) at (rowText (now (main .entry)) p letter n) ⌝ }
+    ensures result { λ r. ⌜ r ≡ behind (now (out .entry)) at (rowText (now (main .entry)) p letter n) ⌝ }
+    ensures out_left { λ _. ⌜ now (out .exit) ≡ laidAt (now (out .entry)) at (rowText (now (main .entry)) p letter n) ⌝ }
 {
     let a = put_head(out, at, letter, p, n);
     let from = 512 * p;
@@ -246,8 +246,8 @@ fn put_stood(
 // The row of what begins at a place, from a place of out on; the place behind it.
 fn put_row(out: &mut [u8], at: usize, main: &[u8], p: usize, spot: Spot, room: &mut [u8]) -> usize
     requires { ⌜ (p < 4294967296) × (length (now room) ≡ 113120) ⌝ }
-    ensures { λ r. ⌜ r ≡ behind (now (out .entry)) at (rowBy (now (main .entry)) p spot) ⌝ }
-    ensures { λ _. ⌜ now (out .exit) ≡ laidAt (now (out .entry)) at (rowBy (now (main .entry)) p spot) ⌝ }
+    ensures result { λ r. ⌜ r ≡ behind (now (out .entry)) at (rowBy (now (main .entry)) p spot) ⌝ }
+    ensures out_left { λ _. ⌜ now (out .exit) ≡ laidAt (now (out .entry)) at (rowBy (now (main .entry)) p spot) ⌝ }
 {
     match spot {
         Spot::Blank => text::put_text(out, at, &main[0..0]),
@@ -260,8 +260,8 @@ fn put_row(out: &mut [u8], at: usize, main: &[u8], p: usize, spot: Spot, room: &
 // The row at a place of the walk.
 fn put_rowed(out: &mut [u8], at: usize, main: &[u8], p: usize, w: Pace, room: &mut [u8]) -> usize
     requires { ⌜ (p < 4294967296) × (length (now room) ≡ 113120) ⌝ }
-    ensures { λ r. ⌜ r ≡ behind (now (out .entry)) at (rowPiece (now (main .entry)) p w) ⌝ }
-    ensures { λ _. ⌜ now (out .exit) ≡ laidAt (now (out .entry)) at (rowPiece (now (main .entry)) p w) ⌝ }
+    ensures result { λ r. ⌜ r ≡ behind (now (out .entry)) at (rowPiece (now (main .entry)) p w) ⌝ }
+    ensures out_left { λ _. ⌜ now (out .exit) ≡ laidAt (now (out .entry)) at (rowPiece (now (main .entry)) p w) ⌝ }
 {
     if 0 < w.skip {
         return text::put_text(out, at, &main[0..0]);
@@ -273,8 +273,8 @@ fn put_rowed(out: &mut [u8], at: usize, main: &[u8], p: usize, w: Pace, room: &m
 // The map's letter at a place of the walk.
 fn put_mapped(out: &mut [u8], at: usize, main: &[u8], p: usize, w: Pace) -> usize
     requires { ⌜ p < 4294967296 ⌝ }
-    ensures { λ r. ⌜ r ≡ behind (now (out .entry)) at (mapPiece p (paceOn (now (main .entry)) p w .mark)) ⌝ }
-    ensures { λ _. ⌜ now (out .exit) ≡ laidAt (now (out .entry)) at (mapPiece p (paceOn (now (main .entry)) p w .mark)) ⌝ }
+    ensures result { λ r. ⌜ r ≡ behind (now (out .entry)) at (mapPiece p (paceOn (now (main .entry)) p w .mark)) ⌝ }
+    ensures out_left { λ _. ⌜ now (out .exit) ≡ laidAt (now (out .entry)) at (mapPiece p (paceOn (now (main .entry)) p w .mark)) ⌝ }
 {
     let q = pace_on(main, p, w);
     put_mark(out, at, p, q.mark)
@@ -291,8 +291,8 @@ fn put_piece(
     room: &mut [u8],
 ) -> usize
     requires { ⌜ (p < 4294967296) × (length (now room) ≡ 113120) ⌝ }
-    ensures { λ r. ⌜ r ≡ behind (now (out .entry)) at (pieceOf rows (now (main .entry)) p w) ⌝ }
-    ensures { λ _. ⌜ now (out .exit) ≡ laidAt (now (out .entry)) at (pieceOf rows (now (main .entry)) p w) ⌝ }
+    ensures result { λ r. ⌜ r ≡ behind (now (out .entry)) at (pieceOf rows (now (main .entry)) p w) ⌝ }
+    ensures out_left { λ _. ⌜ now (out .exit) ≡ laidAt (now (out .entry)) at (pieceOf rows (now (main .entry)) p w) ⌝ }
 {
     if rows {
         return put_rowed(out, at, main, p, w, room);
@@ -303,8 +303,8 @@ fn put_piece(
 // The same of all places of a block, from a place of out on; the place behind it.
 fn put_pieces(out: &mut [u8], at: usize, rows: bool, main: &[u8], room: &mut [u8]) -> usize
     requires { ⌜ (at ≤ length (now out)) × (length (now main) < 1000000) × (length (now room) ≡ 113120) ⌝ }
-    ensures { λ r. ⌜ r ≡ behind (now (out .entry)) at (piecesOf rows (now (main .entry))) ⌝ }
-    ensures { λ _. ⌜ now (out .exit) ≡ laidAt (now (out .entry)) at (piecesOf rows (now (main .entry))) ⌝ }
+    ensures result { λ r. ⌜ r ≡ behind (now (out .entry)) at (piecesOf rows (now (main .entry))) ⌝ }
+    ensures out_left { λ _. ⌜ now (out .exit) ≡ laidAt (now (out .entry)) at (piecesOf rows (now (main .entry))) ⌝ }
 {
     let total = main.len() / 512;
     let mut w = pace_as(0, 0);
@@ -321,8 +321,8 @@ fn put_pieces(out: &mut [u8], at: usize, rows: bool, main: &[u8], room: &mut [u8
 // The map, then the rows, in the front of out; the place behind them.
 fn put_list(out: &mut [u8], main: &[u8], room: &mut [u8]) -> usize
     requires { ⌜ (length (now main) < 1000000) × (length (now room) ≡ 113120) ⌝ }
-    ensures { λ r. ⌜ r ≡ behind (now (out .entry)) 0 (listText (now (main .entry))) ⌝ }
-    ensures { λ _. ⌜ now (out .exit) ≡ laidAt (now (out .entry)) 0 (listText (now (main .entry))) ⌝ }
+    ensures result { λ r. ⌜ r ≡ behind (now (out .entry)) 0 (listText (now (main .entry))) ⌝ }
+    ensures out_left { λ _. ⌜ now (out .exit) ≡ laidAt (now (out .entry)) 0 (listText (now (main .entry))) ⌝ }
 {
     let a = put_pieces(out, 0, false, main, room);
     put_pieces(out, a, true, main, room)
@@ -332,9 +332,9 @@ fn put_list(out: &mut [u8], main: &[u8], room: &mut [u8]) -> usize
 // store's list. The payloads go through a room of its own, made here and lent to all below: where the compiler lays them into one
 // function, none of them may return before the room is made.
 pub fn list(main: &[u8], out: &mut [u8]) -> usize
-    ensures { λ r. ⌜ r ≡ behind (now (out .entry)) 0 (listOf (now (main .entry))) ⌝ }
-    ensures { λ _. ⌜ now (out .exit) ≡ laidAt (now (out .entry)) 0 (listOf (now (main .entry))) ⌝ }
-    ensures { λ r. ⌜ Used r (now (out .exit)) ⌝ }
+    ensures result { λ r. ⌜ r ≡ behind (now (out .entry)) 0 (listOf (now (main .entry))) ⌝ }
+    ensures out_left { λ _. ⌜ now (out .exit) ≡ laidAt (now (out .entry)) 0 (listOf (now (main .entry))) ⌝ }
+    ensures out_used { λ r. ⌜ Used r (now (out .exit)) ⌝ }
 {
     let mut room = [0u8; 113120];
     let n = common::least(main.len(), 524288);

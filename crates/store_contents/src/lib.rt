@@ -53,8 +53,8 @@ fn goes(first: u8, letter: u8) -> bool
 // An item's bytes go to byte `to` of memory, where it stays; the byte behind them is given back.
 fn keep(item: &[u8], letter: u8, memory: &mut [u8], to: usize) -> usize
     requires { ⌜ to + length (now item) ≤ length (now memory) ⌝ }
-    ensures { λ r. ⌜ r ≡ to + length (stayOf letter (now (item .entry))) ⌝ }
-    ensures { λ _. ⌜ now (memory .exit) ≡ overlaid (now (memory .entry)) to (stayOf letter (now (item .entry))) ⌝ }
+    ensures result { λ r. ⌜ r ≡ to + length (stayOf letter (now (item .entry))) ⌝ }
+    ensures memory_left { λ _. ⌜ now (memory .exit) ≡ overlaid (now (memory .entry)) to (stayOf letter (now (item .entry))) ⌝ }
 {
     if goes(common::nth(item, 0), letter) {
         return to;
@@ -68,8 +68,8 @@ fn keep(item: &[u8], letter: u8, memory: &mut [u8], to: usize) -> usize
 // judged proper before, so an item is told by its first byte and its count alone.
 fn slide(main: &[u8], letter: u8, memory: &mut [u8]) -> usize
     requires { ⌜ (Proper (readerNumber limit) (length (now main) / 512) (now main)) × (length (now memory) ≡ length (now main)) ⌝ }
-    ensures { λ r. ⌜ r ≡ length (liveBytes letter (itemsIn (readerNumber limit) (now (main .entry)))) ⌝ }
-    ensures { λ r. ⌜ take r (now (memory .exit)) ≡ liveBytes letter (itemsIn (readerNumber limit) (now (main .entry))) ⌝ }
+    ensures result { λ r. ⌜ r ≡ length (liveBytes letter (itemsIn (readerNumber limit) (now (main .entry)))) ⌝ }
+    ensures memory_live { λ r. ⌜ take r (now (memory .exit)) ≡ liveBytes letter (itemsIn (readerNumber limit) (now (main .entry))) ⌝ }
 {
     let n = main.len();
     let mut from = 0;
@@ -126,8 +126,8 @@ fn drop_number(size: usize, room: usize, found: u8) -> u8
 
 // The block without the file under a letter, into memory: 11, 44, 42, or 0 and done.
 pub fn drop_into(main: &[u8], letter: u8, memory: &mut [u8]) -> u8
-    ensures { λ r. ⌜ r ≡ dropInNumber (now (main .entry)) letter (length (now (memory .entry))) ⌝ }
-    ensures { λ _. ⌜ now (memory .exit) ≡ memoryBy (dropInNumber (now (main .entry)) letter (length (now (memory .entry)))) (dropOf (readerNumber limit) letter (now (main .entry))) (now (memory .entry)) ⌝ }
+    ensures result { λ r. ⌜ r ≡ dropInNumber (now (main .entry)) letter (length (now (memory .entry))) ⌝ }
+    ensures memory_left { λ _. ⌜ now (memory .exit) ≡ memoryBy (dropInNumber (now (main .entry)) letter (length (now (memory .entry)))) (dropOf (readerNumber limit) letter (now (main .entry))) (now (memory .entry)) ⌝ }
 {
     let s = store_find::seek(main, letter);
     let n = drop_number(main.len(), memory.len(), s.number);
@@ -219,8 +219,8 @@ fn put_new(number: u8, main: &[u8], file: &[u8], letter: u8, s: Survey, memory: 
 
 // The block with a file added under its letter, into memory: 11, the reader's number, 44, 43, or 0 and done.
 pub fn add_into(main: &[u8], file: &[u8], letter: u8, memory: &mut [u8]) -> u8
-    ensures { λ r. ⌜ r ≡ addInNumber (now (main .entry)) (now (file .entry)) letter (length (now (memory .entry))) ⌝ }
-    ensures { λ _. ⌜ now (memory .exit) ≡ memoryBy (addInNumber (now (main .entry)) (now (file .entry)) letter (length (now (memory .entry)))) (addOf (readerNumber limit) letter (now (file .entry)) (now (main .entry))) (now (memory .entry)) ⌝ }
+    ensures result { λ r. ⌜ r ≡ addInNumber (now (main .entry)) (now (file .entry)) letter (length (now (memory .entry))) ⌝ }
+    ensures memory_left { λ _. ⌜ now (memory .exit) ≡ memoryBy (addInNumber (now (main .entry)) (now (file .entry)) letter (length (now (memory .entry)))) (addOf (readerNumber limit) letter (now (file .entry)) (now (main .entry))) (now (memory .entry)) ⌝ }
 {
     let s = store_survey::survey_of(main, letter, file.len() / 512);
     let n = add_number(main, file, letter, s, memory.len());

@@ -56,8 +56,8 @@ fn call_wrong(count: usize, word: &[u8], letter: &[u8]) -> bool
 
 // How the program is called, in the front of out; the place behind it.
 fn put_usage(out: &mut [u8]) -> usize
-    ensures { λ r. ⌜ r ≡ behind (now (out .entry)) 0 usage ⌝ }
-    ensures { λ _. ⌜ now (out .exit) ≡ laidAt (now (out .entry)) 0 usage ⌝ }
+    ensures result { λ r. ⌜ r ≡ behind (now (out .entry)) 0 usage ⌝ }
+    ensures out_left { λ _. ⌜ now (out .exit) ≡ laidAt (now (out .entry)) 0 usage ⌝ }
 {
     text::put_text(
         out,
@@ -78,8 +78,8 @@ fn part_of(device: &[u8]) -> Part
 
 // What the main block holds, in the front of out; the place behind it.
 fn put_listed(out: &mut [u8], part: Part, image: &[u8]) -> usize
-    ensures { λ r. ⌜ r ≡ behind (now (out .entry)) 0 (listLine part (now (image .entry))) ⌝ }
-    ensures { λ _. ⌜ now (out .exit) ≡ laidAt (now (out .entry)) 0 (listLine part (now (image .entry))) ⌝ }
+    ensures result { λ r. ⌜ r ≡ behind (now (out .entry)) 0 (listLine part (now (image .entry))) ⌝ }
+    ensures out_left { λ _. ⌜ now (out .exit) ≡ laidAt (now (out .entry)) 0 (listLine part (now (image .entry))) ⌝ }
 {
     let n = store::part_number(part, image.len());
     if n != 0 {
@@ -92,8 +92,8 @@ fn put_listed(out: &mut [u8], part: Part, image: &[u8]) -> usize
 
 // An answer of a reading, in the front of out; the place behind it.
 fn put_answer(out: &mut [u8], answer: ReadingAnswer) -> usize
-    ensures { λ r. ⌜ r ≡ behind (now (out .entry)) 0 (answerLine answer) ⌝ }
-    ensures { λ _. ⌜ now (out .exit) ≡ laidAt (now (out .entry)) 0 (answerLine answer) ⌝ }
+    ensures result { λ r. ⌜ r ≡ behind (now (out .entry)) 0 (answerLine answer) ⌝ }
+    ensures out_left { λ _. ⌜ now (out .exit) ≡ laidAt (now (out .entry)) 0 (answerLine answer) ⌝ }
 {
     match answer {
         ReadingAnswer::Read(r) => reading_answer::put_reading(out, r),
@@ -110,9 +110,9 @@ fn put_read(
     x: i32,
     memory: &mut [u8],
 ) -> usize
-    ensures { λ r. ⌜ r ≡ behind (now (out .entry)) 0 (answerLine (answerAs x (inRoom (length (now (memory .entry))) (readBy letter (foundOn part (now (image .entry)) letter))))) ⌝ }
-    ensures { λ _. ⌜ now (out .exit) ≡ laidAt (now (out .entry)) 0 (answerLine (answerAs x (inRoom (length (now (memory .entry))) (readBy letter (foundOn part (now (image .entry)) letter))))) ⌝ }
-    ensures { λ _. ⌜ now (memory .exit) ≡ leftIn (now (memory .entry)) (inRoom (length (now (memory .entry))) (readBy letter (foundOn part (now (image .entry)) letter))) ⌝ }
+    ensures result { λ r. ⌜ r ≡ behind (now (out .entry)) 0 (answerLine (answerAs x (inRoom (length (now (memory .entry))) (readBy letter (foundOn part (now (image .entry)) letter))))) ⌝ }
+    ensures out_left { λ _. ⌜ now (out .exit) ≡ laidAt (now (out .entry)) 0 (answerLine (answerAs x (inRoom (length (now (memory .entry))) (readBy letter (foundOn part (now (image .entry)) letter))))) ⌝ }
+    ensures memory_left { λ _. ⌜ now (memory .exit) ≡ leftIn (now (memory .entry)) (inRoom (length (now (memory .entry))) (readBy letter (foundOn part (now (image .entry)) letter))) ⌝ }
 {
     let answer = store::read_letter(part, image, letter, memory, x);
     put_answer(out, answer)
@@ -132,9 +132,9 @@ fn as_said(used: usize, stream: u8, filled: usize, changed: bool) -> Said
 
 // The file under a letter into the front of memory; a refusal is a line in the front of out.
 fn found(out: &mut [u8], part: Part, image: &[u8], letter: u8, memory: &mut [u8]) -> Said
-    ensures { λ r. ⌜ r ≡ askedOn (now (out .entry)) (findAsked (inRoom (length (now (memory .entry))) (foundOn part (now (image .entry)) letter)) (now (memory .entry))) ⌝ }
-    ensures { λ _. ⌜ now (out .exit) ≡ laidAt (now (out .entry)) 0 (findAsked (inRoom (length (now (memory .entry))) (foundOn part (now (image .entry)) letter)) (now (memory .entry)) .line) ⌝ }
-    ensures { λ _. ⌜ now (memory .exit) ≡ findAsked (inRoom (length (now (memory .entry))) (foundOn part (now (image .entry)) letter)) (now (memory .entry)) .memory ⌝ }
+    ensures result { λ r. ⌜ r ≡ askedOn (now (out .entry)) (findAsked (inRoom (length (now (memory .entry))) (foundOn part (now (image .entry)) letter)) (now (memory .entry))) ⌝ }
+    ensures out_left { λ _. ⌜ now (out .exit) ≡ laidAt (now (out .entry)) 0 (findAsked (inRoom (length (now (memory .entry))) (foundOn part (now (image .entry)) letter)) (now (memory .entry)) .line) ⌝ }
+    ensures memory_left { λ _. ⌜ now (memory .exit) ≡ findAsked (inRoom (length (now (memory .entry))) (foundOn part (now (image .entry)) letter)) (now (memory .entry)) .memory ⌝ }
 {
     let f = store::find_letter(part, image, letter, memory);
     let n = f.number;
@@ -153,9 +153,9 @@ fn read_asked(
     volts: &[u8],
     memory: &mut [u8],
 ) -> Said
-    ensures { λ r. ⌜ r ≡ askedOn (now (out .entry)) (readBySaid (numberTold (now (volts .entry))) (inRoom (length (now (memory .entry))) (readBy letter (foundOn part (now (image .entry)) letter))) (now (memory .entry))) ⌝ }
-    ensures { λ _. ⌜ now (out .exit) ≡ laidAt (now (out .entry)) 0 (readBySaid (numberTold (now (volts .entry))) (inRoom (length (now (memory .entry))) (readBy letter (foundOn part (now (image .entry)) letter))) (now (memory .entry)) .line) ⌝ }
-    ensures { λ _. ⌜ now (memory .exit) ≡ readBySaid (numberTold (now (volts .entry))) (inRoom (length (now (memory .entry))) (readBy letter (foundOn part (now (image .entry)) letter))) (now (memory .entry)) .memory ⌝ }
+    ensures result { λ r. ⌜ r ≡ askedOn (now (out .entry)) (readBySaid (numberTold (now (volts .entry))) (inRoom (length (now (memory .entry))) (readBy letter (foundOn part (now (image .entry)) letter))) (now (memory .entry))) ⌝ }
+    ensures out_left { λ _. ⌜ now (out .exit) ≡ laidAt (now (out .entry)) 0 (readBySaid (numberTold (now (volts .entry))) (inRoom (length (now (memory .entry))) (readBy letter (foundOn part (now (image .entry)) letter))) (now (memory .entry)) .line) ⌝ }
+    ensures memory_left { λ _. ⌜ now (memory .exit) ≡ readBySaid (numberTold (now (volts .entry))) (inRoom (length (now (memory .entry))) (readBy letter (foundOn part (now (image .entry)) letter))) (now (memory .entry)) .memory ⌝ }
 {
     let number = reading_text::read_number(volts);
     match number {
@@ -174,9 +174,9 @@ fn question(
     volts: &[u8],
     memory: &mut [u8],
 ) -> Said
-    ensures { λ r. ⌜ r ≡ askedOn (now (out .entry)) (asked b part (now (image .entry)) letter (now (volts .entry)) (now (memory .entry))) ⌝ }
-    ensures { λ _. ⌜ now (out .exit) ≡ laidAt (now (out .entry)) 0 (asked b part (now (image .entry)) letter (now (volts .entry)) (now (memory .entry)) .line) ⌝ }
-    ensures { λ _. ⌜ now (memory .exit) ≡ asked b part (now (image .entry)) letter (now (volts .entry)) (now (memory .entry)) .memory ⌝ }
+    ensures result { λ r. ⌜ r ≡ askedOn (now (out .entry)) (asked b part (now (image .entry)) letter (now (volts .entry)) (now (memory .entry))) ⌝ }
+    ensures out_left { λ _. ⌜ now (out .exit) ≡ laidAt (now (out .entry)) 0 (asked b part (now (image .entry)) letter (now (volts .entry)) (now (memory .entry)) .line) ⌝ }
+    ensures memory_left { λ _. ⌜ now (memory .exit) ≡ asked b part (now (image .entry)) letter (now (volts .entry)) (now (memory .entry)) .memory ⌝ }
 {
     if b == b'L' {
         return as_said(put_listed(out, part, image), 1, 0, false);
@@ -204,11 +204,11 @@ fn change_made(
     file: &[u8],
     letter: u8,
 ) -> Ran
-    ensures { λ r. ⌜ r ≡ changeOf b part (now (image .entry)) (now (memory .entry)) (now (scratch .entry)) (now (file .entry)) letter .ran ⌝ }
-    ensures { λ _. ⌜ now (image .exit) ≡ changeOf b part (now (image .entry)) (now (memory .entry)) (now (scratch .entry)) (now (file .entry)) letter .bytes ⌝ }
-    ensures { λ _. ⌜ now (memory .exit)
+    ensures result { λ r. ⌜ r ≡ changeOf b part (now (image .entry)) (now (memory .entry)) (now (scratch .entry)) (now (file .entry)) letter .ran ⌝ }
+    ensures image_left { λ _. ⌜ now (image .exit) ≡ changeOf b part (now (image .entry)) (now (memory .entry)) (now (scratch .entry)) (now (file .entry)) letter .bytes ⌝ }
+    ensures memory_left { λ _. ⌜ now (memory .exit)
         ≡ changeOf b part (now (image .entry)) (now (memory .entry)) (now (scratch .entry)) (now (file .entry)) letter .memory ++ drop (bytesOf part (now (memory .entry)) (now (scratch .entry))) (now (memory .entry)) ⌝ }
-    ensures { λ _. ⌜ now (scratch .exit)
+    ensures scratch_left { λ _. ⌜ now (scratch .exit)
         ≡ changeOf b part (now (image .entry)) (now (memory .entry)) (now (scratch .entry)) (now (file .entry)) letter .scratch ++ drop (bytesOf part (now (memory .entry)) (now (scratch .entry))) (now (scratch .entry)) ⌝ }
 {
     let n = block_bytes(part, memory.len(), scratch.len());
@@ -249,8 +249,8 @@ fn change_made(
 
 // How a change ended: its line in the front of out.
 fn change_said(out: &mut [u8], ran: Ran) -> Said
-    ensures { λ r. ⌜ r ≡ saidOn (now (out .entry)) (changeLine (ran .end) (ran .state .wear .block3)) 2 0 (eqb (ran .end) 0) ⌝ }
-    ensures { λ _. ⌜ now (out .exit) ≡ laidAt (now (out .entry)) 0 (changeLine (ran .end) (ran .state .wear .block3)) ⌝ }
+    ensures result { λ r. ⌜ r ≡ saidOn (now (out .entry)) (changeLine (ran .end) (ran .state .wear .block3)) 2 0 (eqb (ran .end) 0) ⌝ }
+    ensures out_left { λ _. ⌜ now (out .exit) ≡ laidAt (now (out .entry)) 0 (changeLine (ran .end) (ran .state .wear .block3)) ⌝ }
 {
     let state = ran.state;
     let wear = state.wear;
@@ -278,13 +278,13 @@ pub fn answer(
     scratch: &mut [u8],
     out: &mut [u8],
 ) -> Said
-    ensures { λ r. ⌜ r ≡ answeredOn (now (out .entry)) (answered count (now (word .entry)) (now (image .entry)) (now (device .entry)) (now (letter .entry)) (now (volts .entry)) (now (file .entry)) (now (memory .entry)) (now (scratch .entry))) ⌝ }
-    ensures { λ _. ⌜ now (out .exit) ≡ laidAt (now (out .entry)) 0 (answered count (now (word .entry)) (now (image .entry)) (now (device .entry)) (now (letter .entry)) (now (volts .entry)) (now (file .entry)) (now (memory .entry)) (now (scratch .entry)) .line) ⌝ }
-    ensures { λ _. ⌜ now (image .exit) ≡ answered count (now (word .entry)) (now (image .entry)) (now (device .entry)) (now (letter .entry)) (now (volts .entry)) (now (file .entry)) (now (memory .entry)) (now (scratch .entry)) .image ⌝ }
-    ensures { λ _. ⌜ now (memory .exit) ≡ answered count (now (word .entry)) (now (image .entry)) (now (device .entry)) (now (letter .entry)) (now (volts .entry)) (now (file .entry)) (now (memory .entry)) (now (scratch .entry)) .memory ⌝ }
-    ensures { λ _. ⌜ now (scratch .exit) ≡ answered count (now (word .entry)) (now (image .entry)) (now (device .entry)) (now (letter .entry)) (now (volts .entry)) (now (file .entry)) (now (memory .entry)) (now (scratch .entry)) .scratch ⌝ }
-    ensures { λ r. ⌜ Used (r .used) (now (out .exit)) ⌝ }
-    ensures { λ r. ⌜ Used (r .filled) (now (memory .exit)) ⌝ }
+    ensures result { λ r. ⌜ r ≡ answeredOn (now (out .entry)) (answered count (now (word .entry)) (now (image .entry)) (now (device .entry)) (now (letter .entry)) (now (volts .entry)) (now (file .entry)) (now (memory .entry)) (now (scratch .entry))) ⌝ }
+    ensures out_left { λ _. ⌜ now (out .exit) ≡ laidAt (now (out .entry)) 0 (answered count (now (word .entry)) (now (image .entry)) (now (device .entry)) (now (letter .entry)) (now (volts .entry)) (now (file .entry)) (now (memory .entry)) (now (scratch .entry)) .line) ⌝ }
+    ensures image_left { λ _. ⌜ now (image .exit) ≡ answered count (now (word .entry)) (now (image .entry)) (now (device .entry)) (now (letter .entry)) (now (volts .entry)) (now (file .entry)) (now (memory .entry)) (now (scratch .entry)) .image ⌝ }
+    ensures memory_left { λ _. ⌜ now (memory .exit) ≡ answered count (now (word .entry)) (now (image .entry)) (now (device .entry)) (now (letter .entry)) (now (volts .entry)) (now (file .entry)) (now (memory .entry)) (now (scratch .entry)) .memory ⌝ }
+    ensures scratch_left { λ _. ⌜ now (scratch .exit) ≡ answered count (now (word .entry)) (now (image .entry)) (now (device .entry)) (now (letter .entry)) (now (volts .entry)) (now (file .entry)) (now (memory .entry)) (now (scratch .entry)) .scratch ⌝ }
+    ensures out_used { λ r. ⌜ Used (r .used) (now (out .exit)) ⌝ }
+    ensures memory_used { λ r. ⌜ Used (r .filled) (now (memory .exit)) ⌝ }
 {
     if call_wrong(count, word, letter) {
         return as_said(put_usage(out), 2, 0, false);

@@ -97,8 +97,8 @@ pub fn put(s: &mut [u8], at: usize, b: u8)
 
 // A piece of text from a place on, as far as out goes; the place behind it.
 pub fn put_text(out: &mut [u8], at: usize, text: &[u8]) -> usize
-    ensures { λ r. ⌜ r ≡ behind (now (out .entry)) at (now (text .entry)) ⌝ }
-    ensures { λ _. ⌜ now (out .exit) ≡ laidAt (now (out .entry)) at (now (text .entry)) ⌝ }
+    ensures result { λ r. ⌜ r ≡ behind (now (out .entry)) at (now (text .entry)) ⌝ }
+    ensures out_left { λ _. ⌜ now (out .exit) ≡ laidAt (now (out .entry)) at (now (text .entry)) ⌝ }
 {
     let n = out.len();
     let from = common::least(at, n);
@@ -144,8 +144,8 @@ fn width(n: u32) -> usize
 
 // A number in decimal from a place on, without zeros in front; the place behind it.
 pub fn put_decimal(out: &mut [u8], at: usize, n: u32) -> usize
-    ensures { λ r. ⌜ r ≡ behind (now (out .entry)) at (decimalOf n) ⌝ }
-    ensures { λ _. ⌜ now (out .exit) ≡ laidAt (now (out .entry)) at (decimalOf n) ⌝ }
+    ensures result { λ r. ⌜ r ≡ behind (now (out .entry)) at (decimalOf n) ⌝ }
+    ensures out_left { λ _. ⌜ now (out .exit) ≡ laidAt (now (out .entry)) at (decimalOf n) ⌝ }
 {
     let mut digits = [0u8; 10];
     let from = 10 - width(n);

@@ -141,7 +141,7 @@ pub fn cycle_in(line: &[u8]) -> Cycle
 
 // A line read.
 pub fn read_line(line: &[u8]) -> LineRead
-    ensures { λ r. ⌜ r ≡ readLine (now (line .entry)) ⌝ }
+    ensures result { λ r. ⌜ r ≡ readLine (now (line .entry)) ⌝ }
     ensures told { λ r. ⌜ lineTold r ≡ toldIn (now (line .entry)) ⌝ }
 {
     if is_line(line) {

@@ -41,9 +41,9 @@ pub fn bench() -> Device
 
 // One line's step: the cycle that a line states, on bench T, by the table or by the rules. No promise here tells which.
 pub fn step(table: bool, s: State, c: Cycle, array: &mut [u8], residue: &[u8]) -> Answer
-    ensures { λ r. ⌜ r ≡ lineStep s c (now (array .entry)) (now (residue .entry)) ⌝ }
+    ensures result { λ r. ⌜ r ≡ lineStep s c (now (array .entry)) (now (residue .entry)) ⌝ }
     ensures told { λ r. ⌜ seenTold (r .seen) ≡ stepTold s c (now (array .entry)) (now (residue .entry)) ⌝ }
-    ensures { λ _. ⌜ now (array .exit) ≡ arrayBy s c (now (array .entry)) (now (residue .entry)) ⌝ }
+    ensures array_left { λ _. ⌜ now (array .exit) ≡ arrayBy s c (now (array .entry)) (now (residue .entry)) ⌝ }
 {
     let d = bench();
     engines::cycle(table, d, s, c, array, residue)
@@ -58,9 +58,9 @@ pub fn answer_line(
     residue: &[u8],
     out: &mut [u8],
 ) -> State
-    ensures { λ r. ⌜ r ≡ lineStep s (cycleStated (now (line .entry))) (now (array .entry)) (now (residue .entry)) .state ⌝ }
-    ensures { λ _. ⌜ now (array .exit) ≡ arrayBy s (cycleStated (now (line .entry))) (now (array .entry)) (now (residue .entry)) ⌝ }
-    ensures { λ _. ⌜ now (out .exit)
+    ensures result { λ r. ⌜ r ≡ lineStep s (cycleStated (now (line .entry))) (now (array .entry)) (now (residue .entry)) .state ⌝ }
+    ensures array_left { λ _. ⌜ now (array .exit) ≡ arrayBy s (cycleStated (now (line .entry))) (now (array .entry)) (now (residue .entry)) ⌝ }
+    ensures out_left { λ _. ⌜ now (out .exit)
         ≡ copied (now (out .entry)) (printedOf (lineStep s (cycleStated (now (line .entry))) (now (array .entry)) (now (residue .entry)))) ⌝ }
 {
     let c = trace_lines::cycle_in(line);
@@ -110,8 +110,8 @@ fn answer_lines(
     out: &mut [u8],
 )
     requires { ⌜ (20 * g ≤ length (now text)) × (8 * g ≤ length (now out)) ⌝ }
-    ensures { λ _. ⌜ now (array .exit) ≡ arraysOf g freshState (now (array .entry)) (now (residue .entry)) (now (text .entry)) ⌝ }
-    ensures { λ _. ⌜ now (out .exit)
+    ensures array_left { λ _. ⌜ now (array .exit) ≡ arraysOf g freshState (now (array .entry)) (now (residue .entry)) (now (text .entry)) ⌝ }
+    ensures out_left { λ _. ⌜ now (out .exit)
         ≡ answersOf g freshState (now (array .entry)) (now (residue .entry)) (now (text .entry)) ++ drop (8 * g) (now (out .entry)) ⌝ }
 {
     let mut s = model::fresh();
@@ -134,14 +134,14 @@ pub fn replay(
     residue: &[u8],
     out: &mut [u8],
 ) -> Replayed
-    ensures { λ r. ⌜ r ≡ replayedIn (length (now (out .entry))) (outputOf (now (array .entry)) (now (residue .entry)) (now (text .entry))) ⌝ }
-    ensures { λ _. ⌜ now (array .exit)
+    ensures result { λ r. ⌜ r ≡ replayedIn (length (now (out .entry))) (outputOf (now (array .entry)) (now (residue .entry)) (now (text .entry))) ⌝ }
+    ensures array_left { λ _. ⌜ now (array .exit)
         ≡ leftInRoom (length (now (out .entry))) (outputOf (now (array .entry)) (now (residue .entry)) (now (text .entry)))
         (now (array .entry)) (arrayLeft (now (array .entry)) (now (residue .entry)) (now (text .entry))) ⌝ }
-    ensures { λ _. ⌜ now (out .exit)
+    ensures out_left { λ _. ⌜ now (out .exit)
         ≡ leftInRoom (length (now (out .entry))) (outputOf (now (array .entry)) (now (residue .entry)) (now (text .entry)))
         (now (out .entry)) (copied (now (out .entry)) (outputOf (now (array .entry)) (now (residue .entry)) (now (text .entry)))) ⌝ }
-    ensures { λ r. ⌜ Used (r .used) (now (out .exit)) ⌝ }
+    ensures out_used { λ r. ⌜ Used (r .used) (now (out .exit)) ⌝ }
 {
     let g = good_lines(text);
     let left = text.len() - 20 * g;

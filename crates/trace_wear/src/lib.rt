@@ -18,8 +18,8 @@ pub enum Worn {
 
 // The state after the cycle that a line states.
 fn next(s: State, line: &[u8], array: &mut [u8], residue: &[u8]) -> State
-    ensures { λ r. ⌜ r ≡ lineStep s (cycleStated (now (line .entry))) (now (array .entry)) (now (residue .entry)) .state ⌝ }
-    ensures { λ _. ⌜ now (array .exit) ≡ arrayBy s (cycleStated (now (line .entry))) (now (array .entry)) (now (residue .entry)) ⌝ }
+    ensures result { λ r. ⌜ r ≡ lineStep s (cycleStated (now (line .entry))) (now (array .entry)) (now (residue .entry)) .state ⌝ }
+    ensures array_left { λ _. ⌜ now (array .exit) ≡ arrayBy s (cycleStated (now (line .entry))) (now (array .entry)) (now (residue .entry)) ⌝ }
 {
     let c = trace_lines::cycle_in(line);
     let a = trace_replay::step(engines::RULES, s, c, array, residue);
@@ -29,8 +29,8 @@ fn next(s: State, line: &[u8], array: &mut [u8], residue: &[u8]) -> State
 // The state after the first g lines, from a fresh device.
 fn last_state(g: usize, text: &[u8], array: &mut [u8], residue: &[u8]) -> State
     requires { ⌜ 20 * g ≤ length (now text) ⌝ }
-    ensures { λ r. ⌜ r ≡ statesOf g freshState (now (array .entry)) (now (residue .entry)) (now (text .entry)) ⌝ }
-    ensures { λ _. ⌜ now (array .exit) ≡ arraysOf g freshState (now (array .entry)) (now (residue .entry)) (now (text .entry)) ⌝ }
+    ensures result { λ r. ⌜ r ≡ statesOf g freshState (now (array .entry)) (now (residue .entry)) (now (text .entry)) ⌝ }
+    ensures array_left { λ _. ⌜ now (array .exit) ≡ arraysOf g freshState (now (array .entry)) (now (residue .entry)) (now (text .entry)) ⌝ }
 {
     let mut s = model::fresh();
     let mut i = 0;
@@ -45,9 +45,9 @@ fn last_state(g: usize, text: &[u8], array: &mut [u8], residue: &[u8]) -> State
 
 // A whole trace on lent slices. One with a bad line is not replayed, and the array stays as it is.
 pub fn count(text: &[u8], array: &mut [u8], residue: &[u8]) -> Worn
-    ensures { λ r. ⌜ r ≡ wornOf (now (array .entry)) (now (residue .entry)) (now (text .entry)) ⌝ }
+    ensures result { λ r. ⌜ r ≡ wornOf (now (array .entry)) (now (residue .entry)) (now (text .entry)) ⌝ }
     ensures told { λ r. ⌜ wornTold r ≡ countTold (now (array .entry)) (now (residue .entry)) (now (text .entry)) ⌝ }
-    ensures { λ _. ⌜ now (array .exit) ≡ arrayWorn (now (array .entry)) (now (residue .entry)) (now (text .entry)) ⌝ }
+    ensures array_left { λ _. ⌜ now (array .exit) ≡ arrayWorn (now (array .entry)) (now (residue .entry)) (now (text .entry)) ⌝ }
 {
     let g = trace_replay::good_lines(text);
     if 20 * g < text.len() {

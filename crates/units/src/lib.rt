@@ -165,8 +165,8 @@ fn put_byte(s: &mut [u8], at: usize, b: u8)
 
 // A word written, low byte first; nothing past the end.
 pub fn put_word(s: &mut [u8], w: WordAddress, v: u16)
-    ensures { λ _. ⌜ pairs (now (s .exit)) ≡ set (pairs (now (s .entry))) (w .word) v ⌝ }
-    ensures { λ _. ⌜ unpaired (now (s .exit)) ≡ unpaired (now (s .entry)) ⌝ }
+    ensures s_left { λ _. ⌜ pairs (now (s .exit)) ≡ set (pairs (now (s .entry))) (w .word) v ⌝ }
+    ensures s_spare { λ _. ⌜ unpaired (now (s .exit)) ≡ unpaired (now (s .entry)) ⌝ }
 {
     let lo = low(v);
     let hi = high(v);
@@ -181,8 +181,8 @@ pub fn put_word(s: &mut [u8], w: WordAddress, v: u16)
 
 // A unit written; nothing past the end.
 pub fn put_unit(word: bool, s: &mut [u8], at: usize, v: u16)
-    ensures { λ _. ⌜ units word (now (s .exit)) ≡ set (units word (now (s .entry))) at (carried word v) ⌝ }
-    ensures { λ _. ⌜ spare word (now (s .exit)) ≡ spare word (now (s .entry)) ⌝ }
+    ensures s_left { λ _. ⌜ units word (now (s .exit)) ≡ set (units word (now (s .entry))) at (carried word v) ⌝ }
+    ensures s_spare { λ _. ⌜ spare word (now (s .exit)) ≡ spare word (now (s .entry)) ⌝ }
 {
     if word {
         return put_word(s, WordAddress { word: at }, v);
@@ -200,8 +200,8 @@ fn program_byte(s: &mut [u8], at: usize, b: u8)
 // Old AND data on both bytes of a word.
 fn program_word(s: &mut [u8], w: WordAddress, v: u16)
     requires { ⌜ w .word < length (pairs (now s)) ⌝ }
-    ensures { λ _. ⌜ pairs (now (s .exit)) ≡ set (pairs (now (s .entry))) (w .word) (bitAnd (getD (pairs (now (s .entry))) (w .word) 0) v) ⌝ }
-    ensures { λ _. ⌜ unpaired (now (s .exit)) ≡ unpaired (now (s .entry)) ⌝ }
+    ensures s_left { λ _. ⌜ pairs (now (s .exit)) ≡ set (pairs (now (s .entry))) (w .word) (bitAnd (getD (pairs (now (s .entry))) (w .word) 0) v) ⌝ }
+    ensures s_spare { λ _. ⌜ unpaired (now (s .exit)) ≡ unpaired (now (s .entry)) ⌝ }
 {
     let a = first_byte(w);
     let i = a.byte;
@@ -211,8 +211,8 @@ fn program_word(s: &mut [u8], w: WordAddress, v: u16)
 
 fn program_there(word: bool, s: &mut [u8], at: usize, v: u16)
     requires { ⌜ at < length (units word (now s)) ⌝ }
-    ensures { λ _. ⌜ units word (now (s .exit)) ≡ set (units word (now (s .entry))) at (bitAnd (getD (units word (now (s .entry))) at 0) v) ⌝ }
-    ensures { λ _. ⌜ spare word (now (s .exit)) ≡ spare word (now (s .entry)) ⌝ }
+    ensures s_left { λ _. ⌜ units word (now (s .exit)) ≡ set (units word (now (s .entry))) at (bitAnd (getD (units word (now (s .entry))) at 0) v) ⌝ }
+    ensures s_spare { λ _. ⌜ spare word (now (s .exit)) ≡ spare word (now (s .entry)) ⌝ }
 {
     if word {
         return program_word(s, WordAddress { word: at }, v);
@@ -222,8 +222,8 @@ fn program_there(word: bool, s: &mut [u8], at: usize, v: u16)
 
 // Old AND data on a unit; nothing past the end.
 pub fn program_unit(word: bool, s: &mut [u8], at: usize, v: u16)
-    ensures { λ _. ⌜ units word (now (s .exit)) ≡ set (units word (now (s .entry))) at (bitAnd (getD (units word (now (s .entry))) at 0) v) ⌝ }
-    ensures { λ _. ⌜ spare word (now (s .exit)) ≡ spare word (now (s .entry)) ⌝ }
+    ensures s_left { λ _. ⌜ units word (now (s .exit)) ≡ set (units word (now (s .entry))) at (bitAnd (getD (units word (now (s .entry))) at 0) v) ⌝ }
+    ensures s_spare { λ _. ⌜ spare word (now (s .exit)) ≡ spare word (now (s .entry)) ⌝ }
 {
     if at < units_in(word, s.len()) {
         return program_there(word, s, at, v);
@@ -250,16 +250,16 @@ fn erase_part(s: &mut [u8], a: usize, n: usize)
 
 fn erase_there(word: bool, s: &mut [u8], a: usize, n: usize)
     requires { ⌜ a + n ≤ length (units word (now s)) ⌝ }
-    ensures { λ _. ⌜ units word (now (s .exit)) ≡ overlaid (units word (now (s .entry))) a (replicate n (top word)) ⌝ }
-    ensures { λ _. ⌜ spare word (now (s .exit)) ≡ spare word (now (s .entry)) ⌝ }
+    ensures s_left { λ _. ⌜ units word (now (s .exit)) ≡ overlaid (units word (now (s .entry))) a (replicate n (top word)) ⌝ }
+    ensures s_spare { λ _. ⌜ spare word (now (s .exit)) ≡ spare word (now (s .entry)) ⌝ }
 {
     erase_part(s, byte_of(word, a), bytes_in(word, n));
 }
 
 // All ones in n units from unit a on, where they are there.
 pub fn erase_units(word: bool, s: &mut [u8], a: usize, n: usize)
-    ensures { λ _. ⌜ units word (now (s .exit)) ≡ erasedIn word a n (units word (now (s .entry))) ⌝ }
-    ensures { λ _. ⌜ spare word (now (s .exit)) ≡ spare word (now (s .entry)) ⌝ }
+    ensures s_left { λ _. ⌜ units word (now (s .exit)) ≡ erasedIn word a n (units word (now (s .entry))) ⌝ }
+    ensures s_spare { λ _. ⌜ spare word (now (s .exit)) ≡ spare word (now (s .entry)) ⌝ }
 {
     if lies_in(a, n, units_in(word, s.len())) {
         return erase_there(word, s, a, n);
@@ -268,8 +268,8 @@ pub fn erase_units(word: bool, s: &mut [u8], a: usize, n: usize)
 
 // All ones in every unit.
 pub fn fill_units(word: bool, s: &mut [u8])
-    ensures { λ _. ⌜ units word (now (s .exit)) ≡ replicate (length (units word (now (s .entry)))) (top word) ⌝ }
-    ensures { λ _. ⌜ now (s .exit) ≡ replicate (length (now (s .entry))) 255 ⌝ }
+    ensures s_left { λ _. ⌜ units word (now (s .exit)) ≡ replicate (length (units word (now (s .entry)))) (top word) ⌝ }
+    ensures s_filled { λ _. ⌜ now (s .exit) ≡ replicate (length (now (s .entry))) 255 ⌝ }
 {
     common::fill(s, 0xFF)
 }
@@ -284,16 +284,16 @@ fn leave_part(s: &mut [u8], a: usize, n: usize, residue: &[u8])
 
 fn leave_there(word: bool, s: &mut [u8], a: usize, n: usize, residue: &[u8])
     requires { ⌜ (a + n ≤ length (units word (now s))) × (n ≤ length (units word (now residue))) ⌝ }
-    ensures { λ _. ⌜ units word (now (s .exit)) ≡ overlaid (units word (now (s .entry))) a (take n (units word (now (residue .entry)))) ⌝ }
-    ensures { λ _. ⌜ spare word (now (s .exit)) ≡ spare word (now (s .entry)) ⌝ }
+    ensures s_left { λ _. ⌜ units word (now (s .exit)) ≡ overlaid (units word (now (s .entry))) a (take n (units word (now (residue .entry)))) ⌝ }
+    ensures s_spare { λ _. ⌜ spare word (now (s .exit)) ≡ spare word (now (s .entry)) ⌝ }
 {
     leave_part(s, byte_of(word, a), bytes_in(word, n), residue);
 }
 
 // The residue's first n units in the n units from unit a on, where both are there.
 pub fn leave_units(word: bool, s: &mut [u8], a: usize, n: usize, residue: &[u8])
-    ensures { λ _. ⌜ units word (now (s .exit)) ≡ leftIn a n (units word (now (residue .entry))) (units word (now (s .entry))) ⌝ }
-    ensures { λ _. ⌜ spare word (now (s .exit)) ≡ spare word (now (s .entry)) ⌝ }
+    ensures s_left { λ _. ⌜ units word (now (s .exit)) ≡ leftIn a n (units word (now (residue .entry))) (units word (now (s .entry))) ⌝ }
+    ensures s_spare { λ _. ⌜ spare word (now (s .exit)) ≡ spare word (now (s .entry)) ⌝ }
 {
     if lies_in(a, n, units_in(word, s.len())) & (n <= units_in(word, residue.len())) {
         return leave_there(word, s, a, n, residue);

@@ -43,8 +43,8 @@ fn call_wrong(count: usize, letter: &[u8], mode: u8) -> bool
 
 // What a refusal means, from a place on; the place behind it.
 fn put_words(out: &mut [u8], at: usize, n: u8) -> usize
-    ensures { λ r. ⌜ r ≡ behind (now (out .entry)) at (verifyWords n) ⌝ }
-    ensures { λ _. ⌜ now (out .exit) ≡ laidAt (now (out .entry)) at (verifyWords n) ⌝ }
+    ensures result { λ r. ⌜ r ≡ behind (now (out .entry)) at (verifyWords n) ⌝ }
+    ensures out_left { λ _. ⌜ now (out .exit) ≡ laidAt (now (out .entry)) at (verifyWords n) ⌝ }
 {
     if n == 1 {
         return text::put_text(
@@ -71,8 +71,8 @@ fn put_words(out: &mut [u8], at: usize, n: u8) -> usize
 
 // A refusal of a verify, or of a load, in the front of out; the place behind it.
 pub fn put_refusal(out: &mut [u8], n: u8) -> usize
-    ensures { λ r. ⌜ r ≡ behind (now (out .entry)) 0 (refusedLine n) ⌝ }
-    ensures { λ _. ⌜ now (out .exit) ≡ laidAt (now (out .entry)) 0 (refusedLine n) ⌝ }
+    ensures result { λ r. ⌜ r ≡ behind (now (out .entry)) 0 (refusedLine n) ⌝ }
+    ensures out_left { λ _. ⌜ now (out .exit) ≡ laidAt (now (out .entry)) 0 (refusedLine n) ⌝ }
 {
     let a = refusal_words::put_refused(out, 0, n);
     let b = text::put_text(out, a, b": ");
@@ -81,8 +81,8 @@ pub fn put_refusal(out: &mut [u8], n: u8) -> usize
 
 // An address in five hexadecimal digits, from a place on; the place behind it.
 fn put_address(out: &mut [u8], at: usize, address: u32) -> usize
-    ensures { λ r. ⌜ r ≡ behind (now (out .entry)) at (addressText address) ⌝ }
-    ensures { λ _. ⌜ now (out .exit) ≡ laidAt (now (out .entry)) at (addressText address) ⌝ }
+    ensures result { λ r. ⌜ r ≡ behind (now (out .entry)) at (addressText address) ⌝ }
+    ensures out_left { λ _. ⌜ now (out .exit) ≡ laidAt (now (out .entry)) at (addressText address) ⌝ }
 {
     let mut digits = [0u8; 5];
     text::hex(&mut digits, address as u64);
@@ -91,8 +91,8 @@ fn put_address(out: &mut [u8], at: usize, address: u32) -> usize
 
 // The address that differs, in the front of out; the place behind it.
 fn put_differs(out: &mut [u8], address: u32) -> usize
-    ensures { λ r. ⌜ r ≡ behind (now (out .entry)) 0 (differsText address) ⌝ }
-    ensures { λ _. ⌜ now (out .exit) ≡ laidAt (now (out .entry)) 0 (differsText address) ⌝ }
+    ensures result { λ r. ⌜ r ≡ behind (now (out .entry)) 0 (differsText address) ⌝ }
+    ensures out_left { λ _. ⌜ now (out .exit) ≡ laidAt (now (out .entry)) 0 (differsText address) ⌝ }
 {
     let a = text::put_text(out, 0, b"differs at ");
     let b = put_address(out, a, address);
@@ -101,8 +101,8 @@ fn put_differs(out: &mut [u8], address: u32) -> usize
 
 // How a verify ended, in the front of out; the place behind it.
 fn put_end(out: &mut [u8], end: u8, address: u32) -> usize
-    ensures { λ r. ⌜ r ≡ behind (now (out .entry)) 0 (endText end address) ⌝ }
-    ensures { λ _. ⌜ now (out .exit) ≡ laidAt (now (out .entry)) 0 (endText end address) ⌝ }
+    ensures result { λ r. ⌜ r ≡ behind (now (out .entry)) 0 (endText end address) ⌝ }
+    ensures out_left { λ _. ⌜ now (out .exit) ≡ laidAt (now (out .entry)) 0 (endText end address) ⌝ }
 {
     if end == 0 {
         return text::put_text(out, 0, b"the block holds the file\n");
@@ -162,12 +162,12 @@ fn verified(
     file: &[u8],
     letter: u8,
 ) -> Ran
-    ensures { λ r. ⌜ r ≡ verifyOf part block (now (image .entry)) (now (wanted .entry)) (now (scratch .entry)) (now (file .entry)) letter .ran ⌝ }
-    ensures { λ _. ⌜ now (image .exit) ≡ verifyOf part block (now (image .entry)) (now (wanted .entry)) (now (scratch .entry)) (now (file .entry)) letter .bytes ⌝ }
-    ensures { λ _. ⌜ now (wanted .exit)
+    ensures result { λ r. ⌜ r ≡ verifyOf part block (now (image .entry)) (now (wanted .entry)) (now (scratch .entry)) (now (file .entry)) letter .ran ⌝ }
+    ensures image_left { λ _. ⌜ now (image .exit) ≡ verifyOf part block (now (image .entry)) (now (wanted .entry)) (now (scratch .entry)) (now (file .entry)) letter .bytes ⌝ }
+    ensures wanted_left { λ _. ⌜ now (wanted .exit)
         ≡ verifyOf part block (now (image .entry)) (now (wanted .entry)) (now (scratch .entry)) (now (file .entry)) letter .wanted
         ++ drop (bytesOf part block (now (wanted .entry)) (now (scratch .entry))) (now (wanted .entry)) ⌝ }
-    ensures { λ _. ⌜ now (scratch .exit)
+    ensures scratch_left { λ _. ⌜ now (scratch .exit)
         ≡ verifyOf part block (now (image .entry)) (now (wanted .entry)) (now (scratch .entry)) (now (file .entry)) letter .scratch
         ++ drop (bytesOf part block (now (wanted .entry)) (now (scratch .entry))) (now (scratch .entry)) ⌝ }
 {
@@ -185,8 +185,8 @@ fn verified(
 
 // How the program is called, in the front of out.
 fn put_usage(out: &mut [u8]) -> usize
-    ensures { λ r. ⌜ r ≡ behind (now (out .entry)) 0 usage ⌝ }
-    ensures { λ _. ⌜ now (out .exit) ≡ laidAt (now (out .entry)) 0 usage ⌝ }
+    ensures result { λ r. ⌜ r ≡ behind (now (out .entry)) 0 usage ⌝ }
+    ensures out_left { λ _. ⌜ now (out .exit) ≡ laidAt (now (out .entry)) 0 usage ⌝ }
 {
     text::put_text(
         out,
@@ -210,12 +210,12 @@ pub fn answer(
     scratch: &mut [u8],
     out: &mut [u8],
 ) -> Told
-    ensures { λ r. ⌜ r ≡ toldOn (answered count (now (image .entry)) (now (device .entry)) (now (block .entry)) (now (file .entry)) (now (letter .entry)) (now (mode .entry)) (now (wanted .entry)) (now (scratch .entry)) .stream) (now (out .entry)) (answered count (now (image .entry)) (now (device .entry)) (now (block .entry)) (now (file .entry)) (now (letter .entry)) (now (mode .entry)) (now (wanted .entry)) (now (scratch .entry)) .line) ⌝ }
-    ensures { λ _. ⌜ now (out .exit) ≡ laidAt (now (out .entry)) 0 (answered count (now (image .entry)) (now (device .entry)) (now (block .entry)) (now (file .entry)) (now (letter .entry)) (now (mode .entry)) (now (wanted .entry)) (now (scratch .entry)) .line) ⌝ }
-    ensures { λ _. ⌜ now (image .exit) ≡ answered count (now (image .entry)) (now (device .entry)) (now (block .entry)) (now (file .entry)) (now (letter .entry)) (now (mode .entry)) (now (wanted .entry)) (now (scratch .entry)) .image ⌝ }
-    ensures { λ _. ⌜ now (wanted .exit) ≡ answered count (now (image .entry)) (now (device .entry)) (now (block .entry)) (now (file .entry)) (now (letter .entry)) (now (mode .entry)) (now (wanted .entry)) (now (scratch .entry)) .wanted ⌝ }
-    ensures { λ _. ⌜ now (scratch .exit) ≡ answered count (now (image .entry)) (now (device .entry)) (now (block .entry)) (now (file .entry)) (now (letter .entry)) (now (mode .entry)) (now (wanted .entry)) (now (scratch .entry)) .scratch ⌝ }
-    ensures { λ r. ⌜ Used (r .used) (now (out .exit)) ⌝ }
+    ensures result { λ r. ⌜ r ≡ toldOn (answered count (now (image .entry)) (now (device .entry)) (now (block .entry)) (now (file .entry)) (now (letter .entry)) (now (mode .entry)) (now (wanted .entry)) (now (scratch .entry)) .stream) (now (out .entry)) (answered count (now (image .entry)) (now (device .entry)) (now (block .entry)) (now (file .entry)) (now (letter .entry)) (now (mode .entry)) (now (wanted .entry)) (now (scratch .entry)) .line) ⌝ }
+    ensures out_left { λ _. ⌜ now (out .exit) ≡ laidAt (now (out .entry)) 0 (answered count (now (image .entry)) (now (device .entry)) (now (block .entry)) (now (file .entry)) (now (letter .entry)) (now (mode .entry)) (now (wanted .entry)) (now (scratch .entry)) .line) ⌝ }
+    ensures image_left { λ _. ⌜ now (image .exit) ≡ answered count (now (image .entry)) (now (device .entry)) (now (block .entry)) (now (file .entry)) (now (letter .entry)) (now (mode .entry)) (now (wanted .entry)) (now (scratch .entry)) .image ⌝ }
+    ensures wanted_left { λ _. ⌜ now (wanted .exit) ≡ answered count (now (image .entry)) (now (device .entry)) (now (block .entry)) (now (file .entry)) (now (letter .entry)) (now (mode .entry)) (now (wanted .entry)) (now (scratch .entry)) .wanted ⌝ }
+    ensures scratch_left { λ _. ⌜ now (scratch .exit) ≡ answered count (now (image .entry)) (now (device .entry)) (now (block .entry)) (now (file .entry)) (now (letter .entry)) (now (mode .entry)) (now (wanted .entry)) (now (scratch .entry)) .scratch ⌝ }
+    ensures out_used { λ r. ⌜ Used (r .used) (now (out .exit)) ⌝ }
 {
     let m = numeral(mode);
     if call_wrong(count, letter, m) {
@@ -254,10 +254,10 @@ pub fn tell(
     mode: &[u8],
     out: &mut [u8],
 ) -> Told
-    ensures { λ r. ⌜ r ≡ toldOn (told count (now (image .entry)) (now (device .entry)) (now (block .entry)) (now (file .entry)) (now (letter .entry)) (now (mode .entry)) .stream) (now (out .entry)) (told count (now (image .entry)) (now (device .entry)) (now (block .entry)) (now (file .entry)) (now (letter .entry)) (now (mode .entry)) .line) ⌝ }
-    ensures { λ _. ⌜ now (out .exit) ≡ laidAt (now (out .entry)) 0 (told count (now (image .entry)) (now (device .entry)) (now (block .entry)) (now (file .entry)) (now (letter .entry)) (now (mode .entry)) .line) ⌝ }
-    ensures { λ _. ⌜ now (image .exit) ≡ told count (now (image .entry)) (now (device .entry)) (now (block .entry)) (now (file .entry)) (now (letter .entry)) (now (mode .entry)) .image ⌝ }
-    ensures { λ r. ⌜ Used (r .used) (now (out .exit)) ⌝ }
+    ensures result { λ r. ⌜ r ≡ toldOn (told count (now (image .entry)) (now (device .entry)) (now (block .entry)) (now (file .entry)) (now (letter .entry)) (now (mode .entry)) .stream) (now (out .entry)) (told count (now (image .entry)) (now (device .entry)) (now (block .entry)) (now (file .entry)) (now (letter .entry)) (now (mode .entry)) .line) ⌝ }
+    ensures out_left { λ _. ⌜ now (out .exit) ≡ laidAt (now (out .entry)) 0 (told count (now (image .entry)) (now (device .entry)) (now (block .entry)) (now (file .entry)) (now (letter .entry)) (now (mode .entry)) .line) ⌝ }
+    ensures image_left { λ _. ⌜ now (image .exit) ≡ told count (now (image .entry)) (now (device .entry)) (now (block .entry)) (now (file .entry)) (now (letter .entry)) (now (mode .entry)) .image ⌝ }
+    ensures out_used { λ r. ⌜ Used (r .used) (now (out .exit)) ⌝ }
 {
     let mut wanted = [0u8; 131072];
     let mut scratch = [0u8; 131072];

@@ -62,9 +62,9 @@ fn unread(n: usize, ended: bool) -> bool
 
 // A trace that is not counted: its sign, its argument's number, and what is wrong.
 fn say(counting: Counting, out: &mut [u8], sign: u8, k: usize, n: usize) -> Said
-    ensures { λ r. ⌜ r ≡ saidIn (now (out .entry)) (uncounted counting sign k n) ⌝ }
-    ensures { λ _. ⌜ now (out .exit) ≡ laidIn (now (out .entry)) (uncounted counting sign k n .line) ⌝ }
-    ensures { λ r. ⌜ Counts (r .used) (now (out .exit)) ⌝ }
+    ensures result { λ r. ⌜ r ≡ saidIn (now (out .entry)) (uncounted counting sign k n) ⌝ }
+    ensures out_left { λ _. ⌜ now (out .exit) ≡ laidIn (now (out .entry)) (uncounted counting sign k n .line) ⌝ }
+    ensures out_used { λ r. ⌜ Counts (r .used) (now (out .exit)) ⌝ }
 {
     let report = counting.report;
     let used = wear_print::line(out, sign, k as u64, n as u64);
@@ -80,9 +80,9 @@ fn say(counting: Counting, out: &mut [u8], sign: u8, k: usize, n: usize) -> Said
 
 // A trace's counts, from bench T, which is device 3.
 fn add_wear(counting: Counting, out: &mut [u8], k: usize, w: Wear) -> Said
-    ensures { λ r. ⌜ r ≡ saidIn (now (out .entry)) (wearSaid counting k w) ⌝ }
-    ensures { λ _. ⌜ now (out .exit) ≡ laidIn (now (out .entry)) (wearSaid counting k w .line) ⌝ }
-    ensures { λ r. ⌜ Counts (r .used) (now (out .exit)) ⌝ }
+    ensures result { λ r. ⌜ r ≡ saidIn (now (out .entry)) (wearSaid counting k w) ⌝ }
+    ensures out_left { λ _. ⌜ now (out .exit) ≡ laidIn (now (out .entry)) (wearSaid counting k w .line) ⌝ }
+    ensures out_used { λ r. ⌜ Counts (r .used) (now (out .exit)) ⌝ }
 {
     let before = counting.report;
     let good = counting.good;
@@ -105,9 +105,9 @@ fn add_wear(counting: Counting, out: &mut [u8], k: usize, w: Wear) -> Said
 // One trace more, that of argument k: its text, and whether its file ended there. The line goes into the front of out, which needs room
 // for 512 bytes.
 pub fn one_more(counting: Counting, out: &mut [u8], k: usize, text: &[u8], ended: bool) -> Said
-    ensures { λ r. ⌜ r ≡ saidIn (now (out .entry)) (moreSaid counting k (now (text .entry)) ended) ⌝ }
-    ensures { λ _. ⌜ now (out .exit) ≡ laidIn (now (out .entry)) (moreSaid counting k (now (text .entry)) ended .line) ⌝ }
-    ensures { λ r. ⌜ Counts (r .used) (now (out .exit)) ⌝ }
+    ensures result { λ r. ⌜ r ≡ saidIn (now (out .entry)) (moreSaid counting k (now (text .entry)) ended) ⌝ }
+    ensures out_left { λ _. ⌜ now (out .exit) ≡ laidIn (now (out .entry)) (moreSaid counting k (now (text .entry)) ended .line) ⌝ }
+    ensures out_used { λ r. ⌜ Counts (r .used) (now (out .exit)) ⌝ }
 {
     if unread(text.len(), ended) {
         return say(counting, out, b'!', k, 0);
@@ -120,9 +120,9 @@ pub fn one_more(counting: Counting, out: &mut [u8], k: usize, text: &[u8], ended
 
 // The table in the front of out, where every trace was counted; else nothing. How many bytes it takes.
 pub fn finish(counting: Counting, out: &mut [u8]) -> usize
-    ensures { λ n. ⌜ n ≡ countIn (now (out .entry)) (finalText counting) ⌝ }
-    ensures { λ _. ⌜ now (out .exit) ≡ laidIn (now (out .entry)) (finalText counting) ⌝ }
-    ensures { λ n. ⌜ Counts n (now (out .exit)) ⌝ }
+    ensures result { λ n. ⌜ n ≡ countIn (now (out .entry)) (finalText counting) ⌝ }
+    ensures out_left { λ _. ⌜ now (out .exit) ≡ laidIn (now (out .entry)) (finalText counting) ⌝ }
+    ensures out_used { λ n. ⌜ Counts n (now (out .exit)) ⌝ }
 {
     let report = counting.report;
     if counting.good {

@@ -28,8 +28,8 @@ fn width(n: u64) -> usize
 // A space and a number from a place on; the place behind it.
 fn put_field(out: &mut [u8], at: usize, n: u64) -> usize
     requires { ⌜ at + 21 ≤ length (now out) ⌝ }
-    ensures { λ r. ⌜ (r ≡ at + length (fieldText n)) × (r ≤ at + 21) ⌝ }
-    ensures { λ _. ⌜ now (out .exit) ≡ overlaid (now (out .entry)) at (fieldText n) ⌝ }
+    ensures result { λ r. ⌜ (r ≡ at + length (fieldText n)) × (r ≤ at + 21) ⌝ }
+    ensures out_left { λ _. ⌜ now (out .exit) ≡ overlaid (now (out .entry)) at (fieldText n) ⌝ }
 {
     let w = width(n);
     let from = at + 1;
@@ -42,8 +42,8 @@ fn put_field(out: &mut [u8], at: usize, n: u64) -> usize
 // A block's line from a place on; the place behind it.
 fn put_row(out: &mut [u8], at: usize, block: u64, t: Tally) -> usize
     requires { ⌜ at + 106 ≤ length (now out) ⌝ }
-    ensures { λ r. ⌜ (r ≡ at + length (rowText block t)) × (r ≤ at + 106) ⌝ }
-    ensures { λ _. ⌜ now (out .exit) ≡ overlaid (now (out .entry)) at (rowText block t) ⌝ }
+    ensures result { λ r. ⌜ (r ≡ at + length (rowText block t)) × (r ≤ at + 106) ⌝ }
+    ensures out_left { λ _. ⌜ now (out .exit) ≡ overlaid (now (out .entry)) at (rowText block t) ⌝ }
 {
     let a = put_field(out, at, block);
     let b = put_field(out, a, t.total);
@@ -56,9 +56,9 @@ fn put_row(out: &mut [u8], at: usize, block: u64, t: Tally) -> usize
 
 // The table; how many bytes it takes. Nothing where there is no room for 512.
 pub fn table(out: &mut [u8], r: Report) -> usize
-    ensures { λ n. ⌜ n ≡ countIn (now (out .entry)) (tableText r) ⌝ }
-    ensures { λ _. ⌜ now (out .exit) ≡ laidIn (now (out .entry)) (tableText r) ⌝ }
-    ensures { λ n. ⌜ Counts n (now (out .exit)) ⌝ }
+    ensures result { λ n. ⌜ n ≡ countIn (now (out .entry)) (tableText r) ⌝ }
+    ensures out_left { λ _. ⌜ now (out .exit) ≡ laidIn (now (out .entry)) (tableText r) ⌝ }
+    ensures out_used { λ n. ⌜ Counts n (now (out .exit)) ⌝ }
 {
     if out.len() < 512 {
         return 0;
@@ -76,9 +76,9 @@ pub fn table(out: &mut [u8], r: Report) -> usize
 
 // A sign, two numbers and a newline; how many bytes they take. Nothing where there is no room for 512.
 pub fn line(out: &mut [u8], sign: u8, a: u64, b: u64) -> usize
-    ensures { λ n. ⌜ n ≡ countIn (now (out .entry)) (lineText sign a b) ⌝ }
-    ensures { λ _. ⌜ now (out .exit) ≡ laidIn (now (out .entry)) (lineText sign a b) ⌝ }
-    ensures { λ n. ⌜ Counts n (now (out .exit)) ⌝ }
+    ensures result { λ n. ⌜ n ≡ countIn (now (out .entry)) (lineText sign a b) ⌝ }
+    ensures out_left { λ _. ⌜ now (out .exit) ≡ laidIn (now (out .entry)) (lineText sign a b) ⌝ }
+    ensures out_used { λ n. ⌜ Counts n (now (out .exit)) ⌝ }
 {
     if out.len() < 512 {
         return 0;
