@@ -5,8 +5,8 @@
 
 A fault is: a public definition of specs/ without a comment in the line above it, and a public item of src/ without one (attributes may
 stand between); the sentence that a file assumes nothing, which docs/ARCHITECTURE.md says once for all; a comment of more than 140
-characters, wherever it stands, and a line of a paper that is longer. A row of a table in a paper may be, and so may code: `rt fmt` lays
-it out in crates/, and words in a script cannot be broken."""
+characters, wherever it stands, a line of code in specs/ or src/ and a line of a paper that is longer. A row of a table in a paper may
+be, and so may a line of a proof, and words in a script, which cannot be broken."""
 import pathlib
 import re
 import sys
@@ -70,8 +70,8 @@ def crates():
         for number, line in enumerate(here, 1):
             if ONCE in line:
                 faults.append(f"{name}:{number}: '{ONCE}' is said once for all, in docs/ARCHITECTURE.md")
-            if line.lstrip().startswith(mark) and len(line) > MOST:
-                faults.append(f"{name}:{number}: a comment of {len(line)} characters")
+            if (line.lstrip().startswith(mark) or "/proofs/" not in name) and len(line) > MOST:
+                faults.append(f"{name}:{number}: a line of {len(line)} characters")
     return counted
 
 

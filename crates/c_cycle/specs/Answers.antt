@@ -36,7 +36,8 @@ answerOut n a = record { seen = seenOut (a .seen); value = valueOut (a .seen); s
 
 -- a bus cycle: the answer, by the units of the lent bytes
 unfoldable pub cycled : DeviceNumbers → StateNumbers → BusNumbers → List ℕ → List ℕ → AnswerNumbers
-cycled d s c xs rs = answerOut s (answerOf (deviceIn d) (stateIn s) (cycleIn c) (lent (deviceIn d .part .word) xs) (units (deviceIn d .part .word) rs))
+cycled d s c xs rs =
+    answerOut s (answerOf (deviceIn d) (stateIn s) (cycleIn c) (lent (deviceIn d .part .word) xs) (units (deviceIn d .part .word) rs))
 
 -- .. and the lent bytes of the array after it
 unfoldable pub arrayCycled : DeviceNumbers → StateNumbers → BusNumbers → List ℕ → List ℕ → List ℕ

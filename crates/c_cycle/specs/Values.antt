@@ -40,7 +40,8 @@ deviceIn n = record { part = partIn (n .number) (n .word); program = n .program;
 
 -- a device's numbers
 abbrev pub deviceOut : Device → DeviceNumbers
-deviceOut d = record { number = d .part .number; word = flagOut (d .part .word); program = d .program; erase = d .erase; suspend = d .suspend }
+deviceOut d =
+    record { number = d .part .number; word = flagOut (d .part .word); program = d .program; erase = d .erase; suspend = d .suspend }
 
 -- the levels that a run keeps fixed
 abbrev pub pinsIn : ℕ → ℕ → ℕ → Pins
@@ -175,9 +176,23 @@ oeIn kind oe = if ltb 2 kind then 2 else oe
 -- numbers as a cycle
 abbrev pub cycleIn : BusNumbers → Cycle
 cycleIn n =
-    record { kind = kindIn (n .kind); pins = pinsIn (n .rp) (n .wp) (n .vpp); oe = oeIn (n .kind) (n .oe); address = n .address; «data» = n .data }
+    record {
+      kind = kindIn (n .kind);
+      pins = pinsIn (n .rp) (n .wp) (n .vpp);
+      oe = oeIn (n .kind) (n .oe);
+      address = n .address;
+      «data» = n .data;
+    }
 
 -- .. and a cycle as numbers
 abbrev pub cycleOut : Cycle → BusNumbers
 cycleOut c =
-    record { kind = kindOut (c .kind); rp = c .pins .rp; oe = c .oe; wp = c .pins .wp; «data» = c .data; vpp = c .pins .vpp; address = c .address }
+    record {
+      kind = kindOut (c .kind);
+      rp = c .pins .rp;
+      oe = c .oe;
+      wp = c .pins .wp;
+      «data» = c .data;
+      vpp = c .pins .vpp;
+      address = c .address;
+    }

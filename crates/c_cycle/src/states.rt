@@ -18,7 +18,8 @@ use model_types::State;
 use model_types::counts::unworn;
 use model_types::states::suspend_left;
 ghost use mathlib.Core.Path.{_≡_};
-ghost use Rattle.c_cycle.specs.Values.{numberIn, partIn, flagOut, deviceIn, pinsIn, modeIn, modeOut, phaseIn, phaseOut, dataOut, strayData, straySuspend, noState, stateIn, stateOut, kindIn, kindOut, oeIn, cycleIn, cycleOut};
+ghost use Rattle.c_cycle.specs.Values.{numberIn, partIn, flagOut, deviceIn, pinsIn, modeIn, modeOut, phaseIn, phaseOut, dataOut};
+ghost use Rattle.c_cycle.specs.Values.{strayData, straySuspend, noState, stateIn, stateOut, kindIn, kindOut, oeIn, cycleIn, cycleOut};
 ghost use Rattle.c_cycle.specs.Answers.{stateBack, seenOut, valueOut, answerOut};
 
 // Modes as numbers.

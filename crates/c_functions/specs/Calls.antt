@@ -47,7 +47,8 @@ responseOut g = record { turn = sayingOut (g .saying); loader = loaderOut (g .lo
 -- a loader's start, of a load with or without the verify after it, or of a verify alone
 unfoldable pub startedAt : Work → ℕ → ℕ → ℕ → ℕ → ℕ → ℕ → List ℕ → List ℕ → ResponseNumbers
 startedAt work part word rp wp vpp k w sc =
-    responseOut (startResponse work (partIn part word) (pinsIn rp wp vpp) k (lent (partIn part word .word) w) (lent (partIn part word .word) sc))
+    responseOut
+    (startResponse work (partIn part word) (pinsIn rp wp vpp) k (lent (partIn part word .word) w) (lent (partIn part word .word) sc))
 
 -- of a load with the verify after it, of a load alone, of a verify alone
 abbrev pub started : ℕ → ℕ → ℕ → ℕ → ℕ → ℕ → List ℕ → List ℕ → ResponseNumbers

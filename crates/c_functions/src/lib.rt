@@ -25,7 +25,11 @@ ghost use Rattle.c_cycle.specs.Values.{stateOut};
 ghost use Rattle.reading_table.specs.Table.{tableNumber};
 ghost use Rattle.c_functions.specs.Geometry.{sizeReturned, blockReturned};
 ghost use Rattle.c_cycle.specs.Answers.{cycled, arrayCycled};
-ghost use Rattle.c_functions.specs.Calls.{responseOut, started, loadStarted, verifyStarted, steppedOf, scratchStepped, runOf, arrayRun, scratchRun, loadRunOf, arrayLoadRun, scratchLoadRun, verifyRunOf, arrayVerifyRun, scratchVerifyRun, loadOf, arrayLoad, wantedLoad, scratchLoad, verifyFileOf, arrayVerifyFile, wantedVerifyFile, scratchVerifyFile, writtenOf, fileLeft, fileRead, payloadLeft, readingReturned, readingRead, wearAdded, wearReported};
+ghost use Rattle.c_functions.specs.Calls.{responseOut, started, loadStarted, verifyStarted, steppedOf, scratchStepped, runOf};
+ghost use Rattle.c_functions.specs.Calls.{arrayRun, scratchRun, loadRunOf, arrayLoadRun, scratchLoadRun, verifyRunOf, arrayVerifyRun};
+ghost use Rattle.c_functions.specs.Calls.{scratchVerifyRun, loadOf, arrayLoad, wantedLoad, scratchLoad, verifyFileOf};
+ghost use Rattle.c_functions.specs.Calls.{arrayVerifyFile, wantedVerifyFile, scratchVerifyFile, writtenOf, fileLeft, fileRead};
+ghost use Rattle.c_functions.specs.Calls.{payloadLeft, readingReturned, readingRead, wearAdded, wearReported};
 
 // A fresh device.
 #[no_mangle]
@@ -207,8 +211,10 @@ pub extern "C" fn tb_run(
     scratch: &mut [u8],
 ) -> RanNumbers
     ensures result { λ r. ⌜ r ≡ runOf device state rp wp vpp block (now (array .entry)) (now (wanted .entry)) (now (scratch .entry)) ⌝ }
-    ensures array_left { λ _. ⌜ now (array .exit) ≡ arrayRun device state rp wp vpp block (now (array .entry)) (now (wanted .entry)) (now (scratch .entry)) ⌝ }
-    ensures scratch_left { λ _. ⌜ now (scratch .exit) ≡ scratchRun device state rp wp vpp block (now (array .entry)) (now (wanted .entry)) (now (scratch .entry)) ⌝ }
+    ensures array_left { λ _. ⌜ now (array .exit)
+        ≡ arrayRun device state rp wp vpp block (now (array .entry)) (now (wanted .entry)) (now (scratch .entry)) ⌝ }
+    ensures scratch_left { λ _. ⌜ now (scratch .exit)
+        ≡ scratchRun device state rp wp vpp block (now (array .entry)) (now (wanted .entry)) (now (scratch .entry)) ⌝ }
 {
     let j = c_records::runs::job_in(Work::Load(true), device, state, rp, wp, vpp, block);
     let r = loader_quick::run_quick(j, array, wanted, scratch);
@@ -229,8 +235,10 @@ pub extern "C" fn tb_load_run(
     scratch: &mut [u8],
 ) -> RanNumbers
     ensures result { λ r. ⌜ r ≡ loadRunOf device state rp wp vpp block (now (array .entry)) (now (wanted .entry)) (now (scratch .entry)) ⌝ }
-    ensures array_left { λ _. ⌜ now (array .exit) ≡ arrayLoadRun device state rp wp vpp block (now (array .entry)) (now (wanted .entry)) (now (scratch .entry)) ⌝ }
-    ensures scratch_left { λ _. ⌜ now (scratch .exit) ≡ scratchLoadRun device state rp wp vpp block (now (array .entry)) (now (wanted .entry)) (now (scratch .entry)) ⌝ }
+    ensures array_left { λ _. ⌜ now (array .exit)
+        ≡ arrayLoadRun device state rp wp vpp block (now (array .entry)) (now (wanted .entry)) (now (scratch .entry)) ⌝ }
+    ensures scratch_left { λ _. ⌜ now (scratch .exit)
+        ≡ scratchLoadRun device state rp wp vpp block (now (array .entry)) (now (wanted .entry)) (now (scratch .entry)) ⌝ }
 {
     let j = c_records::runs::job_in(Work::Load(false), device, state, rp, wp, vpp, block);
     let r = loader_quick::run_quick(j, array, wanted, scratch);
@@ -250,9 +258,12 @@ pub extern "C" fn tb_verify_run(
     wanted: &[u8],
     scratch: &mut [u8],
 ) -> RanNumbers
-    ensures result { λ r. ⌜ r ≡ verifyRunOf device state rp wp vpp block (now (array .entry)) (now (wanted .entry)) (now (scratch .entry)) ⌝ }
-    ensures array_left { λ _. ⌜ now (array .exit) ≡ arrayVerifyRun device state rp wp vpp block (now (array .entry)) (now (wanted .entry)) (now (scratch .entry)) ⌝ }
-    ensures scratch_left { λ _. ⌜ now (scratch .exit) ≡ scratchVerifyRun device state rp wp vpp block (now (array .entry)) (now (wanted .entry)) (now (scratch .entry)) ⌝ }
+    ensures result { λ r. ⌜ r
+        ≡ verifyRunOf device state rp wp vpp block (now (array .entry)) (now (wanted .entry)) (now (scratch .entry)) ⌝ }
+    ensures array_left { λ _. ⌜ now (array .exit)
+        ≡ arrayVerifyRun device state rp wp vpp block (now (array .entry)) (now (wanted .entry)) (now (scratch .entry)) ⌝ }
+    ensures scratch_left { λ _. ⌜ now (scratch .exit)
+        ≡ scratchVerifyRun device state rp wp vpp block (now (array .entry)) (now (wanted .entry)) (now (scratch .entry)) ⌝ }
 {
     let j = c_records::runs::job_in(Work::Verify, device, state, rp, wp, vpp, block);
     let r = loader_quick::run_quick(j, array, wanted, scratch);
@@ -274,10 +285,18 @@ pub extern "C" fn tb_load(
     wanted: &mut [u8],
     scratch: &mut [u8],
 ) -> RanNumbers
-    ensures result { λ r. ⌜ r ≡ loadOf device state rp wp vpp block (now (file .entry)) letter (now (array .entry)) (now (wanted .entry)) (now (scratch .entry)) ⌝ }
-    ensures array_left { λ _. ⌜ now (array .exit) ≡ arrayLoad device state rp wp vpp block (now (file .entry)) letter (now (array .entry)) (now (wanted .entry)) (now (scratch .entry)) ⌝ }
-    ensures wanted_left { λ _. ⌜ now (wanted .exit) ≡ wantedLoad device state rp wp vpp block (now (file .entry)) letter (now (array .entry)) (now (wanted .entry)) (now (scratch .entry)) ⌝ }
-    ensures scratch_left { λ _. ⌜ now (scratch .exit) ≡ scratchLoad device state rp wp vpp block (now (file .entry)) letter (now (array .entry)) (now (wanted .entry)) (now (scratch .entry)) ⌝ }
+    ensures result { λ r. ⌜ r
+        ≡ loadOf device state rp wp vpp block (now (file .entry)) letter (now (array .entry)) (now (wanted .entry))
+        (now (scratch .entry)) ⌝ }
+    ensures array_left { λ _. ⌜ now (array .exit)
+        ≡ arrayLoad device state rp wp vpp block (now (file .entry)) letter (now (array .entry)) (now (wanted .entry))
+        (now (scratch .entry)) ⌝ }
+    ensures wanted_left { λ _. ⌜ now (wanted .exit)
+        ≡ wantedLoad device state rp wp vpp block (now (file .entry)) letter (now (array .entry)) (now (wanted .entry))
+        (now (scratch .entry)) ⌝ }
+    ensures scratch_left { λ _. ⌜ now (scratch .exit)
+        ≡ scratchLoad device state rp wp vpp block (now (file .entry)) letter (now (array .entry)) (now (wanted .entry))
+        (now (scratch .entry)) ⌝ }
 {
     let j = c_records::runs::job_in(Work::Load(true), device, state, rp, wp, vpp, block);
     let r = loader_from_file::load(j, array, wanted, scratch, file, letter);
@@ -299,10 +318,18 @@ pub extern "C" fn tb_verify_file(
     wanted: &mut [u8],
     scratch: &mut [u8],
 ) -> RanNumbers
-    ensures result { λ r. ⌜ r ≡ verifyFileOf device state rp wp vpp block (now (file .entry)) letter (now (array .entry)) (now (wanted .entry)) (now (scratch .entry)) ⌝ }
-    ensures array_left { λ _. ⌜ now (array .exit) ≡ arrayVerifyFile device state rp wp vpp block (now (file .entry)) letter (now (array .entry)) (now (wanted .entry)) (now (scratch .entry)) ⌝ }
-    ensures wanted_left { λ _. ⌜ now (wanted .exit) ≡ wantedVerifyFile device state rp wp vpp block (now (file .entry)) letter (now (array .entry)) (now (wanted .entry)) (now (scratch .entry)) ⌝ }
-    ensures scratch_left { λ _. ⌜ now (scratch .exit) ≡ scratchVerifyFile device state rp wp vpp block (now (file .entry)) letter (now (array .entry)) (now (wanted .entry)) (now (scratch .entry)) ⌝ }
+    ensures result { λ r. ⌜ r
+        ≡ verifyFileOf device state rp wp vpp block (now (file .entry)) letter (now (array .entry)) (now (wanted .entry))
+        (now (scratch .entry)) ⌝ }
+    ensures array_left { λ _. ⌜ now (array .exit)
+        ≡ arrayVerifyFile device state rp wp vpp block (now (file .entry)) letter (now (array .entry)) (now (wanted .entry))
+        (now (scratch .entry)) ⌝ }
+    ensures wanted_left { λ _. ⌜ now (wanted .exit)
+        ≡ wantedVerifyFile device state rp wp vpp block (now (file .entry)) letter (now (array .entry)) (now (wanted .entry))
+        (now (scratch .entry)) ⌝ }
+    ensures scratch_left { λ _. ⌜ now (scratch .exit)
+        ≡ scratchVerifyFile device state rp wp vpp block (now (file .entry)) letter (now (array .entry)) (now (wanted .entry))
+        (now (scratch .entry)) ⌝ }
 {
     let j = c_records::runs::job_in(Work::Verify, device, state, rp, wp, vpp, block);
     let ran = loader_from_file::load(j, array, wanted, scratch, file, letter);

@@ -92,7 +92,9 @@ yes n = not (eqb n 0)
 -- a start
 unfoldable pub startedHeld : ℕ → ℕ → ℕ → ℕ → ℕ → ℕ → ℕ → List ℕ → List ℕ → List ℕ → List ℕ → HeldResponseNumbers
 startedHeld part word rp wp vpp k verify w sc bs room =
-    heldResponseOut (startHeldResponse (yes verify) (partIn part word) (pinsIn rp wp vpp) k (lent (partIn part word .word) w) (lent (partIn part word .word) sc) bs (length room))
+    heldResponseOut
+    (startHeldResponse (yes verify) (partIn part word) (pinsIn rp wp vpp) k (lent (partIn part word .word) w)
+    (lent (partIn part word .word) sc) bs (length room))
 
 -- whether the part that a record's numbers name is in word mode
 abbrev pub wordIn : HeldNumbers → Bool
@@ -112,17 +114,23 @@ unfoldable pub roomSteppedHeld : HeldNumbers → ℕ → List ℕ → List ℕ �
 roomSteppedHeld n v w sc bs room = heldRoomLeft (heldIn n .loader) (heldIn n .hold) v w sc bs room
 
 -- a run: what it returns and leaves
-unfoldable pub heldRunLeft : DeviceNumbers → StateNumbers → ℕ → ℕ → ℕ → ℕ → ℕ → List ℕ → List ℕ → List ℕ → List ℕ → List ℕ → List ℕ → HeldLeft
+unfoldable pub heldRunLeft : DeviceNumbers → StateNumbers → ℕ → ℕ → ℕ → ℕ → ℕ → List ℕ → List ℕ → List ℕ → List ℕ → List ℕ → List ℕ
+    → HeldLeft
 heldRunLeft d s rp wp vpp k verify xs w sc ps bs room = lentHeld (jobIn (Load (yes verify)) d s rp wp vpp k) xs w sc ps bs room
 
 -- .. the result as numbers
-unfoldable pub heldRunOf : DeviceNumbers → StateNumbers → ℕ → ℕ → ℕ → ℕ → ℕ → List ℕ → List ℕ → List ℕ → List ℕ → List ℕ → List ℕ → RanNumbers
+unfoldable pub heldRunOf : DeviceNumbers → StateNumbers → ℕ → ℕ → ℕ → ℕ → ℕ → List ℕ → List ℕ → List ℕ → List ℕ → List ℕ → List ℕ
+    → RanNumbers
 heldRunOf d s rp wp vpp k verify xs w sc ps bs room = ranOut s (heldRunLeft d s rp wp vpp k verify xs w sc ps bs room .ran)
 
 -- a load from a file: what it returns and leaves
-unfoldable pub heldLoadLeft : DeviceNumbers → StateNumbers → ℕ → ℕ → ℕ → ℕ → ℕ → ℕ → List ℕ → List ℕ → List ℕ → List ℕ → List ℕ → List ℕ → List ℕ → HeldLoadLeft
-heldLoadLeft d s rp wp vpp k verify asked f xs w sc ps bs room = heldFileLeft (jobIn (Load (yes verify)) d s rp wp vpp k) xs w sc f asked ps bs room
+unfoldable pub heldLoadLeft : DeviceNumbers → StateNumbers → ℕ → ℕ → ℕ → ℕ → ℕ → ℕ → List ℕ → List ℕ → List ℕ → List ℕ → List ℕ → List ℕ
+    → List ℕ → HeldLoadLeft
+heldLoadLeft d s rp wp vpp k verify asked f xs w sc ps bs room =
+    heldFileLeft (jobIn (Load (yes verify)) d s rp wp vpp k) xs w sc f asked ps bs room
 
 -- .. the result as numbers
-unfoldable pub heldLoadOf : DeviceNumbers → StateNumbers → ℕ → ℕ → ℕ → ℕ → ℕ → ℕ → List ℕ → List ℕ → List ℕ → List ℕ → List ℕ → List ℕ → List ℕ → RanNumbers
-heldLoadOf d s rp wp vpp k verify asked f xs w sc ps bs room = ranOut s (heldLoadLeft d s rp wp vpp k verify asked f xs w sc ps bs room .ran)
+unfoldable pub heldLoadOf : DeviceNumbers → StateNumbers → ℕ → ℕ → ℕ → ℕ → ℕ → ℕ → List ℕ → List ℕ → List ℕ → List ℕ → List ℕ → List ℕ
+    → List ℕ → RanNumbers
+heldLoadOf d s rp wp vpp k verify asked f xs w sc ps bs room =
+    ranOut s (heldLoadLeft d s rp wp vpp k verify asked f xs w sc ps bs room .ran)

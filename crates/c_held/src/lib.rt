@@ -10,7 +10,8 @@ use c_records::SayingNumbers;
 use loader::Work;
 use loader_held_steps::HeldResponse;
 ghost use mathlib.Core.Path.{_≡_};
-ghost use Rattle.c_held.specs.Helds.{heldResponseOut, heldResponseBack, startedHeld, steppedHeld, scratchSteppedHeld, roomSteppedHeld, heldRunLeft, heldRunOf, heldLoadLeft, heldLoadOf};
+ghost use Rattle.c_held.specs.Helds.{heldResponseOut, heldResponseBack, startedHeld, steppedHeld, scratchSteppedHeld};
+ghost use Rattle.c_held.specs.Helds.{roomSteppedHeld, heldRunLeft, heldRunOf, heldLoadLeft, heldLoadOf};
 
 // Where an interruption stands.
 #[repr(C)]
@@ -75,7 +76,9 @@ pub extern "C" fn tb_held_start(
     addresses: &[u32],
     room: &[u8],
 ) -> HeldResponseNumbers
-    ensures { λ r. ⌜ r ≡ startedHeld part word rp wp vpp block verify (now (wanted .entry)) (now (scratch .entry)) (now (addresses .entry)) (now (room .entry)) ⌝ }
+    ensures { λ r. ⌜ r
+        ≡ startedHeld part word rp wp vpp block verify (now (wanted .entry)) (now (scratch .entry)) (now (addresses .entry))
+        (now (room .entry)) ⌝ }
 {
     let known = c_cycle::states::part_in(part, word);
     let p = c_cycle::states::pins_in(rp, wp, vpp);
@@ -102,9 +105,13 @@ pub extern "C" fn tb_held_step(
     addresses: &[u32],
     room: &mut [u8],
 ) -> HeldResponseNumbers
-    ensures result { λ r. ⌜ r ≡ steppedHeld held value (now (wanted .entry)) (now (scratch .entry)) (now (polls .entry)) (now (addresses .entry)) (now (room .entry)) ⌝ }
-    ensures scratch_left { λ _. ⌜ now (scratch .exit) ≡ scratchSteppedHeld held value (now (wanted .entry)) (now (scratch .entry)) (now (addresses .entry)) (now (room .entry)) ⌝ }
-    ensures room_left { λ _. ⌜ now (room .exit) ≡ roomSteppedHeld held value (now (wanted .entry)) (now (scratch .entry)) (now (addresses .entry)) (now (room .entry)) ⌝ }
+    ensures result { λ r. ⌜ r
+        ≡ steppedHeld held value (now (wanted .entry)) (now (scratch .entry)) (now (polls .entry)) (now (addresses .entry))
+        (now (room .entry)) ⌝ }
+    ensures scratch_left { λ _. ⌜ now (scratch .exit)
+        ≡ scratchSteppedHeld held value (now (wanted .entry)) (now (scratch .entry)) (now (addresses .entry)) (now (room .entry)) ⌝ }
+    ensures room_left { λ _. ⌜ now (room .exit)
+        ≡ roomSteppedHeld held value (now (wanted .entry)) (now (scratch .entry)) (now (addresses .entry)) (now (room .entry)) ⌝ }
 {
     let pair = holds::held_in(held);
     response_back(
@@ -130,10 +137,18 @@ pub extern "C" fn tb_held_run(
     addresses: &[u32],
     room: &mut [u8],
 ) -> RanNumbers
-    ensures result { λ r. ⌜ r ≡ heldRunOf device state rp wp vpp block verify (now (array .entry)) (now (wanted .entry)) (now (scratch .entry)) (now (polls .entry)) (now (addresses .entry)) (now (room .entry)) ⌝ }
-    ensures array_left { λ _. ⌜ now (array .exit) ≡ heldRunLeft device state rp wp vpp block verify (now (array .entry)) (now (wanted .entry)) (now (scratch .entry)) (now (polls .entry)) (now (addresses .entry)) (now (room .entry)) .bytes ⌝ }
-    ensures scratch_left { λ _. ⌜ now (scratch .exit) ≡ heldRunLeft device state rp wp vpp block verify (now (array .entry)) (now (wanted .entry)) (now (scratch .entry)) (now (polls .entry)) (now (addresses .entry)) (now (room .entry)) .scratch ⌝ }
-    ensures room_left { λ _. ⌜ now (room .exit) ≡ heldRunLeft device state rp wp vpp block verify (now (array .entry)) (now (wanted .entry)) (now (scratch .entry)) (now (polls .entry)) (now (addresses .entry)) (now (room .entry)) .room ⌝ }
+    ensures result { λ r. ⌜ r
+        ≡ heldRunOf device state rp wp vpp block verify (now (array .entry)) (now (wanted .entry)) (now (scratch .entry))
+        (now (polls .entry)) (now (addresses .entry)) (now (room .entry)) ⌝ }
+    ensures array_left { λ _. ⌜ now (array .exit)
+        ≡ heldRunLeft device state rp wp vpp block verify (now (array .entry)) (now (wanted .entry)) (now (scratch .entry))
+        (now (polls .entry)) (now (addresses .entry)) (now (room .entry)) .bytes ⌝ }
+    ensures scratch_left { λ _. ⌜ now (scratch .exit)
+        ≡ heldRunLeft device state rp wp vpp block verify (now (array .entry)) (now (wanted .entry)) (now (scratch .entry))
+        (now (polls .entry)) (now (addresses .entry)) (now (room .entry)) .scratch ⌝ }
+    ensures room_left { λ _. ⌜ now (room .exit)
+        ≡ heldRunLeft device state rp wp vpp block verify (now (array .entry)) (now (wanted .entry)) (now (scratch .entry))
+        (now (polls .entry)) (now (addresses .entry)) (now (room .entry)) .room ⌝ }
 {
     let work = Work::Load(verify != 0);
     let j = c_records::runs::job_in(work, device, state, rp, wp, vpp, block);
@@ -160,11 +175,21 @@ pub extern "C" fn tb_held_load(
     addresses: &[u32],
     room: &mut [u8],
 ) -> RanNumbers
-    ensures result { λ r. ⌜ r ≡ heldLoadOf device state rp wp vpp block verify letter (now (file .entry)) (now (array .entry)) (now (wanted .entry)) (now (scratch .entry)) (now (polls .entry)) (now (addresses .entry)) (now (room .entry)) ⌝ }
-    ensures array_left { λ _. ⌜ now (array .exit) ≡ heldLoadLeft device state rp wp vpp block verify letter (now (file .entry)) (now (array .entry)) (now (wanted .entry)) (now (scratch .entry)) (now (polls .entry)) (now (addresses .entry)) (now (room .entry)) .bytes ⌝ }
-    ensures wanted_left { λ _. ⌜ now (wanted .exit) ≡ heldLoadLeft device state rp wp vpp block verify letter (now (file .entry)) (now (array .entry)) (now (wanted .entry)) (now (scratch .entry)) (now (polls .entry)) (now (addresses .entry)) (now (room .entry)) .wanted ⌝ }
-    ensures scratch_left { λ _. ⌜ now (scratch .exit) ≡ heldLoadLeft device state rp wp vpp block verify letter (now (file .entry)) (now (array .entry)) (now (wanted .entry)) (now (scratch .entry)) (now (polls .entry)) (now (addresses .entry)) (now (room .entry)) .scratch ⌝ }
-    ensures room_left { λ _. ⌜ now (room .exit) ≡ heldLoadLeft device state rp wp vpp block verify letter (now (file .entry)) (now (array .entry)) (now (wanted .entry)) (now (scratch .entry)) (now (polls .entry)) (now (addresses .entry)) (now (room .entry)) .room ⌝ }
+    ensures result { λ r. ⌜ r
+        ≡ heldLoadOf device state rp wp vpp block verify letter (now (file .entry)) (now (array .entry)) (now (wanted .entry))
+        (now (scratch .entry)) (now (polls .entry)) (now (addresses .entry)) (now (room .entry)) ⌝ }
+    ensures array_left { λ _. ⌜ now (array .exit)
+        ≡ heldLoadLeft device state rp wp vpp block verify letter (now (file .entry)) (now (array .entry)) (now (wanted .entry))
+        (now (scratch .entry)) (now (polls .entry)) (now (addresses .entry)) (now (room .entry)) .bytes ⌝ }
+    ensures wanted_left { λ _. ⌜ now (wanted .exit)
+        ≡ heldLoadLeft device state rp wp vpp block verify letter (now (file .entry)) (now (array .entry)) (now (wanted .entry))
+        (now (scratch .entry)) (now (polls .entry)) (now (addresses .entry)) (now (room .entry)) .wanted ⌝ }
+    ensures scratch_left { λ _. ⌜ now (scratch .exit)
+        ≡ heldLoadLeft device state rp wp vpp block verify letter (now (file .entry)) (now (array .entry)) (now (wanted .entry))
+        (now (scratch .entry)) (now (polls .entry)) (now (addresses .entry)) (now (room .entry)) .scratch ⌝ }
+    ensures room_left { λ _. ⌜ now (room .exit)
+        ≡ heldLoadLeft device state rp wp vpp block verify letter (now (file .entry)) (now (array .entry)) (now (wanted .entry))
+        (now (scratch .entry)) (now (polls .entry)) (now (addresses .entry)) (now (room .entry)) .room ⌝ }
 {
     let work = Work::Load(verify != 0);
     let j = c_records::runs::job_in(work, device, state, rp, wp, vpp, block);

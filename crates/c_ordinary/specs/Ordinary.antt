@@ -59,7 +59,11 @@ pub record Running (d : DeviceNumbers) (n : StateNumbers) : Type 0 where
 -- no data, and the state in another mode, status and phase
 abbrev pub quietAs : StateNumbers → ℕ → ℕ → ℕ → AnswerNumbers
 quietAs n m sr ph =
-    record { seen = 0; value = 0; state = record { mode = m; status = sr; phase = ph; suspend = 0; left = 0; «data» = 0; address = 0; wear = n .wear } }
+    record {
+      seen = 0;
+      value = 0;
+      state = record { mode = m; status = sr; phase = ph; suspend = 0; left = 0; «data» = 0; address = 0; wear = n .wear };
+    }
 
 -- a value, and the state as it was
 abbrev pub shownAs : StateNumbers → ℕ → AnswerNumbers

@@ -20,7 +20,8 @@ ghost use lib.Dec.{eqb};
 ghost use Rattle.model_types.specs.Levels.{vppLow};
 ghost use Rattle.c_cycle.specs.Values.{deviceIn, cycleIn};
 ghost use Rattle.c_cycle.specs.Answers.{cycled, arrayCycled};
-ghost use Rattle.c_ordinary.specs.Ordinary.{Ordinary, Resting, Running, quietAs, shownAs, countedAs, setsAs, commandedOf, seenIn, shownIn};
+ghost use Rattle.c_ordinary.specs.Ordinary.{Ordinary, Resting, Running, quietAs, shownAs, countedAs, setsAs, commandedOf, seenIn};
+ghost use Rattle.c_ordinary.specs.Ordinary.{shownIn};
 
 // What a command sets, and whether it is one of those that are known here.
 struct Commanded {

@@ -40,7 +40,8 @@ fn begun(device: DeviceNumbers, state: StateNumbers, n: usize) -> Walk
 
 // One record more.
 fn gone_on(array: &mut [u8], w: Walk, n: RecordNumbers) -> Walk
-    ensures { λ q. ⌜ (q ≡ wentOn w (recordIn n) (now (array .entry))) × (now (array .exit) ≡ bytesOn w (recordIn n) (now (array .entry))) ⌝ }
+    ensures { λ q. ⌜ (q ≡ wentOn w (recordIn n) (now (array .entry)))
+        × (now (array .exit) ≡ bytesOn w (recordIn n) (now (array .entry))) ⌝ }
 {
     let r = records::record_in(n);
     recording_walk::go_on(array, w, r)
@@ -48,7 +49,8 @@ fn gone_on(array: &mut [u8], w: Walk, n: RecordNumbers) -> Walk
 
 // What a walk that has come to the end of the list answers, for the state that came in.
 fn ended(promised: &[u8], array: &mut [u8], w: Walk, state: StateNumbers) -> CheckedNumbers
-    ensures { λ r. ⌜ (r ≡ checkedOut state (endOf w (now (promised .entry)) (now (array .entry)))) × (now (array .exit) ≡ now (array .entry)) ⌝ }
+    ensures { λ r. ⌜ (r ≡ checkedOut state (endOf w (now (promised .entry)) (now (array .entry))))
+        × (now (array .exit) ≡ now (array .entry)) ⌝ }
 {
     let checked = recording_walk::end(promised, array, w);
     records::checked_out(state, checked)

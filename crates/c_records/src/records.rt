@@ -11,7 +11,8 @@ use loader::Saying;
 use loader::Stage;
 use loader::stages::stage_is;
 ghost use mathlib.Core.Path.{_≡_};
-ghost use Rattle.c_records.specs.Records.{stageIn, stageOut, endOut, noRecord, pollsIn, loaderIn, loaderOut, loaderBack, noCycle, sayingAt, sayingOut};
+ghost use Rattle.c_records.specs.Records.{stageIn, stageOut, endOut, noRecord, pollsIn, loaderIn, loaderOut, loaderBack, noCycle};
+ghost use Rattle.c_records.specs.Records.{sayingAt, sayingOut};
 
 fn stage_in(n: u8, end: u8) -> Stage
     ensures { λ r. ⌜ r ≡ stageIn n end ⌝ }

@@ -31,7 +31,8 @@ roomFound part word letter xs room = leftIn room (inRoom (length room) (foundOn 
 
 -- a reading by the file that is found: its answer, and what is left of room
 unfoldable pub storeRead : ℕ → ℕ → ℕ → List ℕ → List ℕ → ℤ → ReadingNumbers
-storeRead part word letter xs room x = answerNumbers (answerAs x (inRoom (length room) (readBy letter (foundOn (partIn part word) xs letter))))
+storeRead part word letter xs room x =
+    answerNumbers (answerAs x (inRoom (length room) (readBy letter (foundOn (partIn part word) xs letter))))
 
 -- .. what it leaves in room
 unfoldable pub roomRead : ℕ → ℕ → ℕ → List ℕ → List ℕ → List ℕ

@@ -66,10 +66,14 @@ pub extern "C" fn tb_store_drop(
     memory: &mut [u8],
     scratch: &mut [u8],
 ) -> RanNumbers
-    ensures result { λ r. ⌜ r ≡ storeDropped device state rp wp vpp letter (now (array .entry)) (now (memory .entry)) (now (scratch .entry)) ⌝ }
-    ensures array_left { λ _. ⌜ now (array .exit) ≡ dropped device state rp wp vpp letter (now (array .entry)) (now (memory .entry)) (now (scratch .entry)) .bytes ⌝ }
-    ensures memory_left { λ _. ⌜ now (memory .exit) ≡ dropped device state rp wp vpp letter (now (array .entry)) (now (memory .entry)) (now (scratch .entry)) .memory ⌝ }
-    ensures scratch_left { λ _. ⌜ now (scratch .exit) ≡ dropped device state rp wp vpp letter (now (array .entry)) (now (memory .entry)) (now (scratch .entry)) .scratch ⌝ }
+    ensures result { λ r. ⌜ r
+        ≡ storeDropped device state rp wp vpp letter (now (array .entry)) (now (memory .entry)) (now (scratch .entry)) ⌝ }
+    ensures array_left { λ _. ⌜ now (array .exit)
+        ≡ dropped device state rp wp vpp letter (now (array .entry)) (now (memory .entry)) (now (scratch .entry)) .bytes ⌝ }
+    ensures memory_left { λ _. ⌜ now (memory .exit)
+        ≡ dropped device state rp wp vpp letter (now (array .entry)) (now (memory .entry)) (now (scratch .entry)) .memory ⌝ }
+    ensures scratch_left { λ _. ⌜ now (scratch .exit)
+        ≡ dropped device state rp wp vpp letter (now (array .entry)) (now (memory .entry)) (now (scratch .entry)) .scratch ⌝ }
 {
     let d = c_cycle::states::device_in(device);
     let s = c_cycle::states::state_in(state);
@@ -92,10 +96,17 @@ pub extern "C" fn tb_store_add(
     memory: &mut [u8],
     scratch: &mut [u8],
 ) -> RanNumbers
-    ensures result { λ r. ⌜ r ≡ storeAdded device state rp wp vpp letter (now (file .entry)) (now (array .entry)) (now (memory .entry)) (now (scratch .entry)) ⌝ }
-    ensures array_left { λ _. ⌜ now (array .exit) ≡ added device state rp wp vpp letter (now (file .entry)) (now (array .entry)) (now (memory .entry)) (now (scratch .entry)) .bytes ⌝ }
-    ensures memory_left { λ _. ⌜ now (memory .exit) ≡ added device state rp wp vpp letter (now (file .entry)) (now (array .entry)) (now (memory .entry)) (now (scratch .entry)) .memory ⌝ }
-    ensures scratch_left { λ _. ⌜ now (scratch .exit) ≡ added device state rp wp vpp letter (now (file .entry)) (now (array .entry)) (now (memory .entry)) (now (scratch .entry)) .scratch ⌝ }
+    ensures result { λ r. ⌜ r
+        ≡ storeAdded device state rp wp vpp letter (now (file .entry)) (now (array .entry)) (now (memory .entry)) (now (scratch .entry)) ⌝ }
+    ensures array_left { λ _. ⌜ now (array .exit)
+        ≡ added device state rp wp vpp letter (now (file .entry)) (now (array .entry)) (now (memory .entry))
+        (now (scratch .entry)) .bytes ⌝ }
+    ensures memory_left { λ _. ⌜ now (memory .exit)
+        ≡ added device state rp wp vpp letter (now (file .entry)) (now (array .entry)) (now (memory .entry))
+        (now (scratch .entry)) .memory ⌝ }
+    ensures scratch_left { λ _. ⌜ now (scratch .exit)
+        ≡ added device state rp wp vpp letter (now (file .entry)) (now (array .entry)) (now (memory .entry))
+        (now (scratch .entry)) .scratch ⌝ }
 {
     let d = c_cycle::states::device_in(device);
     let s = c_cycle::states::state_in(state);

@@ -96,7 +96,9 @@ spot b x = same 16 b ++ (x ∷ same 16367 b)
 
 -- 1: 5AH programmed over A5H leaves 00H, and the status is 80H (R-card-1)
 abbrev pub card1 : Bool
-card1 = shows (worldAfter deviceT (fresh (spot 255 0xA5)) (write normal 16 0x40 ∷ write normal 16 0x5A ∷ read normal 16 ∷ read normal 16 ∷ [])) 0x80 (spot 255 0)
+card1 =
+    shows (worldAfter deviceT (fresh (spot 255 0xA5)) (write normal 16 0x40 ∷ write normal 16 0x5A ∷ read normal 16 ∷ read normal 16 ∷ []))
+    0x80 (spot 255 0)
 
 -- 2: FFH programmed over 3CH, on every device with P = m + 1, at every address outside the boot block: m reads give 00H, busy, the
 -- P-th gives 80H, and every byte is what it was, the 3CH too (R-card-2)
@@ -105,7 +107,8 @@ cycles2 m a = write normal a 0x40 ∷ write normal a 0xFF ∷ replicate {A = Bus
 
 -- .. what the cycles of card 2 show and leave
 abbrev pub Card2 : Type 0
-Card2 = (d : Device) (m a : ℕ) (xs : List ℕ) → unknownDevice d ≡ false → d .program ≡ suc m → a < sizeOf (d .part) → (blockOf (d .part) a ≡ 0 → ⊥)
+Card2 = (d : Device) (m a : ℕ) (xs : List ℕ) → unknownDevice d ≡ false → d .program ≡ suc m → a < sizeOf (d .part)
+    → (blockOf (d .part) a ≡ 0 → ⊥)
     → length xs ≡ sizeOf (d .part) → getD xs a 0 ≡ 0x3C
     → (seenIn d (fresh xs) (cycles2 m a) ≡ NoData ∷ NoData ∷ (replicate {A = Seen} m (Data 0) ++ (Data 0x80 ∷ [])))
     × (worldAfter d (fresh xs) (cycles2 m a) ≡ record { state = atRest freshState Status 0x80; bytes = xs })
@@ -113,13 +116,20 @@ Card2 = (d : Device) (m a : ℕ) (xs : List ℕ) → unknownDevice d ≡ false �
 
 -- 3: 20H and then FFH show B0H, and nothing is erased in the E cycles and one more that follow (R-card-3)
 abbrev pub card3 : Bool
-card3 = shows (worldAfter deviceB (fresh (plain 0)) (write normal 1024 0x20 ∷ write normal 1024 0xFF ∷ read normal 1024 ∷ read normal 1024 ∷ read normal 1024 ∷ read normal 1024 ∷ [])) 0xB0 (plain 0)
+card3 =
+    shows (worldAfter deviceB (fresh (plain 0))
+    (write normal 1024 0x20 ∷ write normal 1024 0xFF ∷ read normal 1024 ∷ read normal 1024 ∷ read normal 1024 ∷ read normal 1024 ∷ []))
+    0xB0 (plain 0)
 
 -- 4: data sent, and an erase confirmed, at 6,500 mV show 98H and A8H; nothing starts (R-card-4)
 abbrev pub card4 : Bool
 card4 =
-    shows (worldAfter deviceB (fresh (plain 255)) (write normal 1024 0x40 ∷ write (pinsAt 1 6500) 1024 0 ∷ read normal 1024 ∷ read normal 1024 ∷ [])) 0x98 (plain 255)
-    && shows (worldAfter deviceB (fresh (plain 0)) (write normal 1024 0x20 ∷ write (pinsAt 1 6500) 1024 0xD0 ∷ read normal 1024 ∷ read normal 1024 ∷ read normal 1024 ∷ [])) 0xA8 (plain 0)
+    shows (worldAfter deviceB (fresh (plain 255))
+    (write normal 1024 0x40 ∷ write (pinsAt 1 6500) 1024 0 ∷ read normal 1024 ∷ read normal 1024 ∷ [])) 0x98 (plain 255)
+    && shows
+    (worldAfter deviceB (fresh (plain 0))
+    (write normal 1024 0x20 ∷ write (pinsAt 1 6500) 1024 0xD0 ∷ read normal 1024 ∷ read normal 1024 ∷ read normal 1024 ∷ [])) 0xA8
+    (plain 0)
 
 -- 5: 6,501 and 11,399 mV are refused 4, and the awaited byte is still awaited; at 11,400 it is programmed (R-card-5)
 abbrev pub awaiting : World
@@ -128,14 +138,22 @@ awaiting = worldAfter deviceT (fresh (spot 255 0xA5)) (write normal 16 0x40 ∷ 
 -- .. what they show and leave
 abbrev pub card5 : Bool
 card5 =
-    (refuses 4 (seenOn deviceT awaiting (write (pinsAt 1 6501) 16 0x5A)) && refuses 4 (seenOn deviceT awaiting (write (pinsAt 1 11399) 16 0x5A)))
-    && shows (worldAfter deviceT awaiting (write (pinsAt 1 6501) 16 0 ∷ write (pinsAt 1 11399) 16 0 ∷ write (pinsAt 1 11400) 16 0x5A ∷ read (pinsAt 1 11400) 16 ∷ read (pinsAt 1 11400) 16 ∷ [])) 0x80 (spot 255 0)
+    (refuses 4 (seenOn deviceT awaiting (write (pinsAt 1 6501) 16 0x5A))
+    && refuses 4 (seenOn deviceT awaiting (write (pinsAt 1 11399) 16 0x5A)))
+    && shows
+    (worldAfter deviceT awaiting
+    (write (pinsAt 1 6501) 16 0 ∷ write (pinsAt 1 11399) 16 0 ∷ write (pinsAt 1 11400) 16 0x5A ∷ read (pinsAt 1 11400) 16
+    ∷ read (pinsAt 1 11400) 16 ∷ [])) 0x80 (spot 255 0)
 
 -- 6: an erase of the boot block with RP# high shows A0H and erases nothing; with RP# at V_HH it erases that block alone (R-card-6)
 abbrev pub card6 : Bool
 card6 =
-    shows (worldAfter deviceB (fresh (plain 0)) (write normal 0 0x20 ∷ write normal 0 0xD0 ∷ read normal 0 ∷ read normal 0 ∷ read normal 0 ∷ [])) 0xA0 (plain 0)
-    && shows (worldAfter deviceB (fresh (plain 0)) (write normal 0 0x20 ∷ write (pinsAt 2 12000) 0 0xD0 ∷ read normal 0 ∷ read normal 0 ∷ read normal 0 ∷ [])) 0x80 (same 1024 255 ++ same 15360 0)
+    shows (worldAfter deviceB (fresh (plain 0))
+    (write normal 0 0x20 ∷ write normal 0 0xD0 ∷ read normal 0 ∷ read normal 0 ∷ read normal 0 ∷ [])) 0xA0 (plain 0)
+    && shows
+    (worldAfter deviceB (fresh (plain 0))
+    (write normal 0 0x20 ∷ write (pinsAt 2 12000) 0 0xD0 ∷ read normal 0 ∷ read normal 0 ∷ read normal 0 ∷ [])) 0x80
+    (same 1024 255 ++ same 15360 0)
 
 -- 7: an erase suspended, on every device with E = e + 2 and S = m + 1, at every address outside the boot block: after B0H m reads
 -- give 00H, the S-th gives C0H, the erase has one cycle less to go and is counted once, at its block, and every byte is what it was
@@ -148,23 +166,42 @@ abbrev pub Card7 : Type 0
 Card7 = (d : Device) (e m a : ℕ) (xs : List ℕ) → unknownDevice d ≡ false → d .erase ≡ e + 2 → d .suspend ≡ suc m → a < sizeOf (d .part)
     → (blockOf (d .part) a ≡ 0 → ⊥) → length xs ≡ sizeOf (d .part)
     → (seenIn d (fresh xs) (cycles7 m a) ≡ NoData ∷ NoData ∷ NoData ∷ (replicate {A = Seen} m (Data 0) ++ (Data 0xC0 ∷ [])))
-    × (worldAfter d (fresh xs) (cycles7 m a) ≡ record { state = record { mode = Status; status = 0xC0; phase = Suspended; left = e + 1; address = a; wear = worn unworn (blockOf (d .part) a) }; bytes = xs })
+    × (worldAfter d (fresh xs) (cycles7 m a)
+    ≡ record {
+      state = record {
+        mode = Status;
+        status = 0xC0;
+        phase = Suspended;
+        left = e + 1;
+        address = a;
+        wear = worn unworn (blockOf (d .part) a);
+      };
+      bytes = xs;
+    })
 
 -- 8: 20H in block 1 and D0H in block 2 erase block 2, and no other (R-card-8)
 abbrev pub card8 : Bool
 card8 =
-    shows (worldAfter deviceB (fresh (plain 0)) (write normal 1024 0x20 ∷ write normal 1536 0xD0 ∷ read normal 1024 ∷ read normal 1024 ∷ read normal 1024 ∷ [])) 0x80
+    shows (worldAfter deviceB (fresh (plain 0))
+    (write normal 1024 0x20 ∷ write normal 1536 0xD0 ∷ read normal 1024 ∷ read normal 1024 ∷ read normal 1024 ∷ [])) 0x80
     (same 1536 0 ++ (same 512 255 ++ same 14336 0))
 
 -- 9: a program of 0FH over F0H, cut by VPP with a residue of 33H, leaves 30H and shows 98H (R-card-9)
 abbrev pub card9 : Bool
-card9 = shows (worldAfter deviceT (fresh (spot 255 0xF0)) (write normal 16 0x40 ∷ write normal 16 0x0F ∷ lent (0x33 ∷ []) (read (pinsAt 1 5000) 16) ∷ [])) 0x98 (spot 255 0x30)
+card9 =
+    shows (worldAfter deviceT (fresh (spot 255 0xF0))
+    (write normal 16 0x40 ∷ write normal 16 0x0F ∷ lent (0x33 ∷ []) (read (pinsAt 1 5000) 16) ∷ [])) 0x98 (spot 255 0x30)
 
 -- a good run on block 1 of bench T, fresh, makes n cycles and counts one erase of that block or none, whatever the other blocks and
 -- scratch hold
 abbrev pub Counts : ℕ → Bool → List ℕ → List ℕ → Type 0
 Counts n erases held wanted = (xs sc : List ℕ) → Bytes xs → length xs ≡ 16384 → length sc ≡ 512 → heldIn 0x3A00 512 xs ≡ held
-    → runLeft (jobOf (Load true) deviceT freshState normal 1) xs wanted sc .ran ≡ record { count = n; end = 0; address = 0; state = atRest (erasedFrom erases 1 freshState) Array 0x80 }
+    → runLeft (jobOf (Load true) deviceT freshState normal 1) xs wanted sc .ran ≡ record {
+      count = n;
+      end = 0;
+      address = 0;
+      state = atRest (erasedFrom erases 1 freshState) Array 0x80;
+    }
 
 -- 10: the block held FFH, wanted is 5AH and then FFH: 1,031 cycles, no erase (R-card-10)
 abbrev pub Card10 : Type 0
@@ -177,7 +214,8 @@ Card11 = Counts 1032 true (same 512 0) (same 512 255) × ((w : List ℕ) → len
 -- a good load alone there makes n cycles, and its scratch ends as wanted
 abbrev pub LoadCounts : ℕ → List ℕ → List ℕ → Type 0
 LoadCounts n held wanted = (xs sc : List ℕ) → Bytes xs → length xs ≡ 16384 → length sc ≡ 512 → heldIn 0x3A00 512 xs ≡ held
-    → (runLeft (jobOf (Load false) deviceT freshState normal 1) xs wanted sc .ran .count ≡ n) × (runLeft (jobOf (Load false) deviceT freshState normal 1) xs wanted sc .ran .end ≡ 0)
+    → (runLeft (jobOf (Load false) deviceT freshState normal 1) xs wanted sc .ran .count ≡ n)
+    × (runLeft (jobOf (Load false) deviceT freshState normal 1) xs wanted sc .ran .end ≡ 0)
     × (runLeft (jobOf (Load false) deviceT freshState normal 1) xs wanted sc .scratch ≡ wanted)
 
 -- 10 and 11 without the verify: 518; 519 and 514

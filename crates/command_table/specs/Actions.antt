@@ -10,7 +10,8 @@ use Rattle.device.specs.declared.Part.{Part}
 use Rattle.model_types.specs.declared.Phase.{Phase}
 use Rattle.model_types.specs.declared.Phase.the-variants.{Free, EraseAwaited, DataAwaited, Programming, Erasing, Suspending, Suspended}
 use Rattle.model_types.specs.declared.Action.{Action}
-use Rattle.model_types.specs.declared.Action.the-variants.{ToArray, ToIdentifier, ToStatus, Clear, AwaitErase, AwaitData, Confirm, Store, WrongSecond, Suspend, Resume, Ignore, Refuse}
+use Rattle.model_types.specs.declared.Action.the-variants.{ToArray, ToIdentifier, ToStatus, Clear, AwaitErase, AwaitData, Confirm, Store}
+use Rattle.model_types.specs.declared.Action.the-variants.{WrongSecond, Suspend, Resume, Ignore, Refuse}
 use Rattle.model_commands.specs.Commands.{actionOf}
 use Rattle.command_table.specs.Table.{commandTable}
 
@@ -83,7 +84,8 @@ entryAt row b = if ltb 6 row then 0 else entryIn (row * 16 + b / 16) (b % 16)
 
 -- an entry at a line and a column asks of a part for what the command rules ask
 unfoldable pub followsFor : Part → ℕ → ℕ → ℕ → Bool
-followsFor part line column x = eqb (numberFor (actionFor part x)) (numberFor (actionOf part (phaseAt (line / 16)) (line % 16 * 16 + column)))
+followsFor part line column x =
+    eqb (numberFor (actionFor part x)) (numberFor (actionOf part (phaseAt (line / 16)) (line % 16 * 16 + column)))
 
 -- a part of devices 5 to 8, and one of 1 to 4: no more is asked of a part
 abbrev pub partOf : Bool → Part

@@ -35,7 +35,17 @@ rowOf n =
 -- the same description in words: each length halved
 unfoldable pub inWords : Shape → Shape
 inWords s =
-    record { l0 = s .l0 / 2; l1 = s .l1 / 2; l2 = s .l2 / 2; l3 = s .l3 / 2; l4 = s .l4 / 2; l5 = s .l5 / 2; l6 = s .l6 / 2; top = s .top; code = s .code }
+    record {
+      l0 = s .l0 / 2;
+      l1 = s .l1 / 2;
+      l2 = s .l2 / 2;
+      l3 = s .l3 / 2;
+      l4 = s .l4 / 2;
+      l5 = s .l5 / 2;
+      l6 = s .l6 / 2;
+      top = s .top;
+      code = s .code;
+    }
 
 -- a part in its units: what one cycle carries, a byte, or in word mode a word (R-part-6)
 unfoldable pub shapeOf : Part → Shape

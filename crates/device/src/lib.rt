@@ -1,7 +1,9 @@
 // The parts we load: size, blocks and identifier, each derived from one short description of a part.
 ghost use mathlib.Core.Path.{_≡_};
 ghost use Prim.Native.Nat.{_-_};
-ghost use Rattle.device.specs.Parts.{fourBlocks, moreBlocks, rowOf, inWords, shapeOf, isLarge, sizeIn, lengthIn, offsetIn, holderIn, mirrored, startIn, blockIn, unknownPart, unknownDevice, sizeOf, lengthOf, startOf, blockOf, codeOf};
+ghost use Rattle.device.specs.Parts.{fourBlocks, moreBlocks, rowOf, inWords, shapeOf, isLarge, sizeIn, lengthIn, offsetIn, holderIn};
+ghost use Rattle.device.specs.Parts.{mirrored, startIn, blockIn, unknownPart, unknownDevice, sizeOf, lengthOf, startOf, blockOf};
+ghost use Rattle.device.specs.Parts.{codeOf};
 ghost use Rattle.device.specs.Inner.{spanIn, spanOf};
 
 // What a loader knows of the flash: its number, 1 to 8, and whether it is in word mode. A unit is what one cycle carries: a byte,

@@ -16,8 +16,10 @@ pub const TABLE: bool = true;
 
 // One bus cycle, by the table or by the rules.
 pub fn cycle(table: bool, d: Device, s: State, c: Cycle, array: &mut [u8], residue: &[u8]) -> Answer
-    ensures result { λ r. ⌜ r ≡ answerOf d s c (lent (d .part .word) (now (array .entry))) (units (d .part .word) (now (residue .entry))) ⌝ }
-    ensures told { λ r. ⌜ seenTold (r .seen) ≡ cycleTold d s c (lent (d .part .word) (now (array .entry))) (units (d .part .word) (now (residue .entry))) ⌝ }
+    ensures result { λ r. ⌜ r
+        ≡ answerOf d s c (lent (d .part .word) (now (array .entry))) (units (d .part .word) (now (residue .entry))) ⌝ }
+    ensures told { λ r. ⌜ seenTold (r .seen)
+        ≡ cycleTold d s c (lent (d .part .word) (now (array .entry))) (units (d .part .word) (now (residue .entry))) ⌝ }
     ensures array_left { λ _. ⌜ now (array .exit) ≡ bytesAfter d s c (now (array .entry)) (now (residue .entry)) ⌝ }
 {
     if table {

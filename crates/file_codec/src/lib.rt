@@ -6,7 +6,9 @@ ghost use lib.ListN.{length, getD, take, drop};
 ghost use Rattle.common.specs.Numbers.{given};
 ghost use Rattle.file_block.specs.Block.{usedOf};
 ghost use Rattle.file_codec.specs.Layout.{headOf, sealed, blockWritten};
-ghost use Rattle.file_codec.specs.File.{limit, countOf, blocksOf, payloadWrong, lengthWrong, blocksRows, placesOf, writerOf, readerOf, inRoom, leftIn, writtenAs, judgedAs, readAs, writtenTold, judgedTold, readTold, toldBy};
+ghost use Rattle.file_codec.specs.File.{limit, countOf, blocksOf, payloadWrong, lengthWrong, blocksRows, placesOf, writerOf};
+ghost use Rattle.file_codec.specs.File.{readerOf, inRoom, leftIn, writtenAs, judgedAs, readAs, writtenTold, judgedTold, readTold};
+ghost use Rattle.file_codec.specs.File.{toldBy};
 
 // The most blocks that a file has; with them the bytes of the longest file, and of the longest payload.
 const LIMIT: usize = 224;
@@ -126,7 +128,8 @@ fn unpack(out: &mut [u8], file: &[u8], n: usize)
 pub fn read(file: &[u8], asked: u8, out: &mut [u8]) -> ReadBack
     ensures result { λ r. ⌜ r ≡ readAs (inRoom (length (now (out .entry))) (readerOf limit (now (file .entry)) asked)) ⌝ }
     ensures told { λ r. ⌜ readTold r ≡ toldBy (inRoom (length (now (out .entry))) (readerOf limit (now (file .entry)) asked)) ⌝ }
-    ensures out_left { λ _. ⌜ now (out .exit) ≡ leftIn (now (out .entry)) (inRoom (length (now (out .entry))) (readerOf limit (now (file .entry)) asked)) ⌝ }
+    ensures out_left { λ _. ⌜ now (out .exit)
+        ≡ leftIn (now (out .entry)) (inRoom (length (now (out .entry))) (readerOf limit (now (file .entry)) asked)) ⌝ }
 {
     let verdict = judge(file, asked);
     match verdict {
@@ -250,7 +253,8 @@ fn blocks_for(size: usize) -> usize
 pub fn write(letter: u8, payload: &[u8], out: &mut [u8]) -> Written
     ensures result { λ r. ⌜ r ≡ writtenAs (inRoom (length (now (out .entry))) (writerOf limit letter (now (payload .entry)))) ⌝ }
     ensures told { λ r. ⌜ writtenTold r ≡ toldBy (inRoom (length (now (out .entry))) (writerOf limit letter (now (payload .entry)))) ⌝ }
-    ensures out_left { λ _. ⌜ now (out .exit) ≡ leftIn (now (out .entry)) (inRoom (length (now (out .entry))) (writerOf limit letter (now (payload .entry)))) ⌝ }
+    ensures out_left { λ _. ⌜ now (out .exit)
+        ≡ leftIn (now (out .entry)) (inRoom (length (now (out .entry))) (writerOf limit letter (now (payload .entry)))) ⌝ }
 {
     let known = file_block::is_letter(letter);
     if !known {

@@ -43,7 +43,9 @@ pinsOf k = if eqb k 0 then record { rp = 2; wp = 0; vpp = 12000 } else record { 
 
 -- the load of block k of an image of a part that is fresh, in the front of the rooms lent
 unfoldable pub loadOf : Device → ℕ → List ℕ → List ℕ → List ℕ → List ℕ → ℕ → LoadLeft
-loadOf d k xs w sc f letter = loadLeft (jobOf (Load true) d freshState (pinsOf k) k) xs (take (bytesOf (d .part) k w sc) w) (take (bytesOf (d .part) k w sc) sc) f letter
+loadOf d k xs w sc f letter =
+    loadLeft (jobOf (Load true) d freshState (pinsOf k) k) xs (take (bytesOf (d .part) k w sc) w) (take (bytesOf (d .part) k w sc) sc) f
+    letter
 
 -- the cycles of the erase, where one was begun
 unfoldable pub eraseCost : ℕ → ℕ → ℕ
@@ -64,11 +66,14 @@ unitText word = if word then bytes ", words programmed " else bytes ", bytes pro
 -- the line of a good load: its cycles, the erases begun, the units programmed
 abbrev pub doneText : Bool → ℕ → ℕ → ℕ → List ℕ
 doneText word cycles erases programs =
-    (((((bytes "cycles " ++ numberText cycles) ++ bytes ", erases begun ") ++ decimalOf erases) ++ unitText word) ++ numberText programs) ++ bytes "\n"
+    (((((bytes "cycles " ++ numberText cycles) ++ bytes ", erases begun ") ++ decimalOf erases) ++ unitText word) ++ numberText programs)
+    ++ bytes "\n"
 
 -- .. of a run of block k
 abbrev pub ranText : Device → ℕ → Ran → List ℕ
-ranText d k r = doneText (d .part .word) (r .count) (countOf (r .state .wear) k) (programsOf d (lengthOf (d .part) k) (countOf (r .state .wear) k) (r .count))
+ranText d k r =
+    doneText (d .part .word) (r .count) (countOf (r .state .wear) k)
+    (programsOf d (lengthOf (d .part) k) (countOf (r .state .wear) k) (r .count))
 
 -- the line of a run's end: what it took, or the refusal
 unfoldable pub endText : Device → ℕ → Ran → List ℕ
@@ -89,7 +94,13 @@ misused xs w sc = record { line = usage; loaded = false; image = xs; wanted = w;
 -- a load of block k, of n bytes: its end
 abbrev pub ended : Device → ℕ → LoadLeft → ℕ → List ℕ → List ℕ → Loaded
 ended d k left n w sc =
-    record { line = endText d k (left .ran); loaded = eqb (left .ran .end) 0; image = left .bytes; wanted = left .wanted ++ drop n w; scratch = left .scratch ++ drop n sc }
+    record {
+      line = endText d k (left .ran);
+      loaded = eqb (left .ran .end) 0;
+      image = left .bytes;
+      wanted = left .wanted ++ drop n w;
+      scratch = left .scratch ++ drop n sc;
+    }
 
 -- .. by a device, a block and a letter
 abbrev pub endedBy : Device → ℕ → List ℕ → List ℕ → List ℕ → List ℕ → ℕ → Loaded

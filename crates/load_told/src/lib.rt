@@ -15,7 +15,8 @@ ghost use lib.ListN.{drop};
 ghost use Rattle.model_types.specs.Counts.{countOf};
 ghost use Rattle.text.specs.Writing.{laidAt, behind, Used};
 ghost use Rattle.verify_answer.specs.Answers.{bytesOf};
-ghost use Rattle.load_told.specs.Tellings.{timeOf, callWrong, usage, pinsOf, loadOf, eraseCost, programsOf, numberText, unitText, doneText, endText, told, saidOn};
+ghost use Rattle.load_told.specs.Tellings.{timeOf, callWrong, usage, pinsOf, loadOf, eraseCost, programsOf, numberText, unitText};
+ghost use Rattle.load_told.specs.Tellings.{doneText, endText, told, saidOn};
 
 // What a call gives back: the bytes of its line in front of out, and whether the load ended well.
 pub struct Said {
@@ -179,8 +180,10 @@ fn loaded(
     file: &[u8],
     letter: u8,
 ) -> Ran
-    ensures result { λ r. ⌜ r ≡ loadOf d block (now (image .entry)) (now (wanted .entry)) (now (scratch .entry)) (now (file .entry)) letter .ran ⌝ }
-    ensures image_left { λ _. ⌜ now (image .exit) ≡ loadOf d block (now (image .entry)) (now (wanted .entry)) (now (scratch .entry)) (now (file .entry)) letter .bytes ⌝ }
+    ensures result { λ r. ⌜ r
+        ≡ loadOf d block (now (image .entry)) (now (wanted .entry)) (now (scratch .entry)) (now (file .entry)) letter .ran ⌝ }
+    ensures image_left { λ _. ⌜ now (image .exit)
+        ≡ loadOf d block (now (image .entry)) (now (wanted .entry)) (now (scratch .entry)) (now (file .entry)) letter .bytes ⌝ }
     ensures wanted_left { λ _. ⌜ now (wanted .exit)
         ≡ loadOf d block (now (image .entry)) (now (wanted .entry)) (now (scratch .entry)) (now (file .entry)) letter .wanted
         ++ drop (bytesOf (d .part) block (now (wanted .entry)) (now (scratch .entry))) (now (wanted .entry)) ⌝ }
@@ -237,11 +240,23 @@ pub fn tell(
     scratch: &mut [u8],
     out: &mut [u8],
 ) -> Said
-    ensures result { λ r. ⌜ r ≡ saidOn (now (out .entry)) (told count (now (image .entry)) (now (device .entry)) (now (block .entry)) (now (file .entry)) (now (letter .entry)) (now (mode .entry)) (now (program .entry)) (now (erase .entry)) (now (wanted .entry)) (now (scratch .entry))) ⌝ }
-    ensures out_left { λ _. ⌜ now (out .exit) ≡ laidAt (now (out .entry)) 0 (told count (now (image .entry)) (now (device .entry)) (now (block .entry)) (now (file .entry)) (now (letter .entry)) (now (mode .entry)) (now (program .entry)) (now (erase .entry)) (now (wanted .entry)) (now (scratch .entry)) .line) ⌝ }
-    ensures image_left { λ _. ⌜ now (image .exit) ≡ told count (now (image .entry)) (now (device .entry)) (now (block .entry)) (now (file .entry)) (now (letter .entry)) (now (mode .entry)) (now (program .entry)) (now (erase .entry)) (now (wanted .entry)) (now (scratch .entry)) .image ⌝ }
-    ensures wanted_left { λ _. ⌜ now (wanted .exit) ≡ told count (now (image .entry)) (now (device .entry)) (now (block .entry)) (now (file .entry)) (now (letter .entry)) (now (mode .entry)) (now (program .entry)) (now (erase .entry)) (now (wanted .entry)) (now (scratch .entry)) .wanted ⌝ }
-    ensures scratch_left { λ _. ⌜ now (scratch .exit) ≡ told count (now (image .entry)) (now (device .entry)) (now (block .entry)) (now (file .entry)) (now (letter .entry)) (now (mode .entry)) (now (program .entry)) (now (erase .entry)) (now (wanted .entry)) (now (scratch .entry)) .scratch ⌝ }
+    ensures result { λ r. ⌜ r
+        ≡ saidOn (now (out .entry))
+        (told count (now (image .entry)) (now (device .entry)) (now (block .entry)) (now (file .entry)) (now (letter .entry))
+        (now (mode .entry)) (now (program .entry)) (now (erase .entry)) (now (wanted .entry)) (now (scratch .entry))) ⌝ }
+    ensures out_left { λ _. ⌜ now (out .exit)
+        ≡ laidAt (now (out .entry)) 0
+        (told count (now (image .entry)) (now (device .entry)) (now (block .entry)) (now (file .entry)) (now (letter .entry))
+        (now (mode .entry)) (now (program .entry)) (now (erase .entry)) (now (wanted .entry)) (now (scratch .entry)) .line) ⌝ }
+    ensures image_left { λ _. ⌜ now (image .exit)
+        ≡ told count (now (image .entry)) (now (device .entry)) (now (block .entry)) (now (file .entry)) (now (letter .entry))
+        (now (mode .entry)) (now (program .entry)) (now (erase .entry)) (now (wanted .entry)) (now (scratch .entry)) .image ⌝ }
+    ensures wanted_left { λ _. ⌜ now (wanted .exit)
+        ≡ told count (now (image .entry)) (now (device .entry)) (now (block .entry)) (now (file .entry)) (now (letter .entry))
+        (now (mode .entry)) (now (program .entry)) (now (erase .entry)) (now (wanted .entry)) (now (scratch .entry)) .wanted ⌝ }
+    ensures scratch_left { λ _. ⌜ now (scratch .exit)
+        ≡ told count (now (image .entry)) (now (device .entry)) (now (block .entry)) (now (file .entry)) (now (letter .entry))
+        (now (mode .entry)) (now (program .entry)) (now (erase .entry)) (now (wanted .entry)) (now (scratch .entry)) .scratch ⌝ }
     ensures out_used { λ r. ⌜ Used (r .used) (now (out .exit)) ⌝ }
 {
     let m = verify_answer::numeral(mode);

@@ -7,14 +7,25 @@ use lib.Dec.{eqb, ltb, leb}
 use Rattle.common.specs.Choice.{if_then_else_}
 use Rattle.units.specs.Units.{carried}
 use Rattle.loader.specs.declared.Stage.{Stage}
-use Rattle.loader.specs.declared.Stage.the-variants.{Clearing, Opening, Reading, EraseAsking, EraseConfirming, EraseWaiting, ProgramAsking, ProgramSending, ProgramWaiting, Closing, Verifying, Ended}
+use Rattle.loader.specs.declared.Stage.the-variants.{Clearing, Opening, Reading, EraseAsking, EraseConfirming, EraseWaiting}
+use Rattle.loader.specs.declared.Stage.the-variants.{ProgramAsking, ProgramSending, ProgramWaiting, Closing, Verifying, Ended}
 use Rattle.loader.specs.declared.Loader.{Loader}
 use Rattle.loader.specs.Walks.{risesIn, diffFrom}
 use Rattle.loader.specs.Inner.{past}
 
 -- the record at another stage, place and count of polls
 abbrev pub movedTo : Loader → Stage → ℕ → ℕ → Loader
-movedTo l stage place polls = record { part = l .part; pins = l .pins; block = l .block; stage = stage; place = place; polls = polls; verify = l .verify; high = false }
+movedTo l stage place polls =
+    record {
+      part = l .part;
+      pins = l .pins;
+      block = l .block;
+      stage = stage;
+      place = place;
+      polls = polls;
+      verify = l .verify;
+      high = false;
+    }
 
 -- the end by a number, at the record's place
 abbrev pub endedBy : Loader → ℕ → Loader
@@ -23,7 +34,16 @@ endedBy l n = movedTo l (Ended n) (l .place) 0
 -- the end by 25: of a word, the byte that differs is the high one where the low bytes are the same (R-number-25)
 abbrev pub endedApart : Loader → ℕ → ℕ → Loader
 endedApart l v wanted =
-    record { part = l .part; pins = l .pins; block = l .block; stage = Ended 25; place = l .place; polls = 0; verify = l .verify; high = l .part .word && eqb (v % 256) (wanted % 256) }
+    record {
+      part = l .part;
+      pins = l .pins;
+      block = l .block;
+      stage = Ended 25;
+      place = l .place;
+      polls = 0;
+      verify = l .verify;
+      high = l .part .word && eqb (v % 256) (wanted % 256);
+    }
 
 -- a status is in the low 8 bits of what is read
 abbrev pub statusIn : ℕ → ℕ
@@ -71,7 +91,8 @@ loadedStage verify = if verify then Closing else Ended 0
 
 -- on to the first differing unit from place i on, or to what follows the last program (R-load-3)
 unfoldable pub onward : Loader → ℕ → List ℕ → List ℕ → Loader
-onward l i w sc = if ltb (diffFrom i w sc) (length w) then movedTo l ProgramAsking (diffFrom i w sc) 0 else movedTo l (loadedStage (l .verify)) 0 0
+onward l i w sc = if ltb (diffFrom i w sc) (length w) then movedTo l ProgramAsking (diffFrom i w sc) 0
+    else movedTo l (loadedStage (l .verify)) 0 0
 
 -- after the first reads: an erase if some bit must rise (R-load-2)
 unfoldable pub afterReads : Loader → List ℕ → List ℕ → Loader
@@ -87,12 +108,14 @@ pollMore l stage = if leb 65534 (l .polls) then endedBy l 20 else movedTo l stag
 
 -- a poll of the erase is in
 unfoldable pub erasePolled : Loader → ℕ → List ℕ → List ℕ → Loader
-erasePolled l b w sc = if isReady b then (if eqb (eraseEnd b) 0 then onward l 0 w sc else endedBy l (eraseEnd b)) else pollMore l EraseWaiting
+erasePolled l b w sc = if isReady b then (if eqb (eraseEnd b) 0 then onward l 0 w sc else endedBy l (eraseEnd b))
+    else pollMore l EraseWaiting
 
 -- a poll of a program is in
 unfoldable pub programPolled : Loader → ℕ → List ℕ → List ℕ → Loader
 programPolled l b w sc =
-    if isReady b then (if eqb (programEnd b) 0 then onward l (past (l .place) (length w)) w sc else endedBy l (programEnd b)) else pollMore l ProgramWaiting
+    if isReady b then (if eqb (programEnd b) 0 then onward l (past (l .place) (length w)) w sc else endedBy l (programEnd b))
+    else pollMore l ProgramWaiting
 
 -- one unit of the verify is in: 25 where it differs, else the next, or the end (R-load-4, R-number-25)
 unfoldable pub verifyMore : Loader → ℕ → List ℕ → Loader

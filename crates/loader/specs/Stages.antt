@@ -4,7 +4,8 @@ use Prim.Native.Nat.{ℕ}
 use Rattle.model_types.specs.declared.Kind.{Kind}
 use Rattle.model_types.specs.declared.Kind.the-variants.{Read, Write, Idle}
 use Rattle.loader.specs.declared.Stage.{Stage}
-use Rattle.loader.specs.declared.Stage.the-variants.{Clearing, Opening, Reading, EraseAsking, EraseConfirming, EraseWaiting, ProgramAsking, ProgramSending, ProgramWaiting, Closing, Verifying, Ended}
+use Rattle.loader.specs.declared.Stage.the-variants.{Clearing, Opening, Reading, EraseAsking, EraseConfirming, EraseWaiting}
+use Rattle.loader.specs.declared.Stage.the-variants.{ProgramAsking, ProgramSending, ProgramWaiting, Closing, Verifying, Ended}
 use Rattle.loader.specs.declared.StageIs.{StageIs}
 use Rattle.loader.specs.declared.Work.{Work}
 use Rattle.loader.specs.declared.Work.the-variants.{Load, Verify}

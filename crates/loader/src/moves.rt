@@ -11,7 +11,8 @@ use model_types::states::SR7;
 ghost use mathlib.Core.Path.{_≡_};
 ghost use Prim.Native.Nat.{_-_};
 ghost use Rattle.units.specs.Units.{units};
-ghost use Rattle.loader.specs.Moves.{movedTo, endedBy, endedApart, isReady, sr3, sr4, sr5, bothErrors, eraseEnd, programEnd, loadedStage, onward, afterReads, afterRead, pollMore, erasePolled, programPolled, verifyMore};
+ghost use Rattle.loader.specs.Moves.{movedTo, endedBy, endedApart, isReady, sr3, sr4, sr5, bothErrors, eraseEnd, programEnd};
+ghost use Rattle.loader.specs.Moves.{loadedStage, onward, afterReads, afterRead, pollMore, erasePolled, programPolled, verifyMore};
 ghost use Rattle.loader.specs.Inner.{past};
 
 // The record at another stage, place and count of polls.

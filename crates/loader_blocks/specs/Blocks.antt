@@ -67,7 +67,10 @@ roomLeft word h w s = if alike word (length h) (length w) (length s) then units 
 unfoldable pub blockFound : Bool → List ℕ → List ℕ → List ℕ → Found
 blockFound word h w s =
     if alike word (length h) (length w) (length s)
-    then record { differs = ltb (diffFrom 0 (units word w) (units word h)) (length (units word w)); rises = risesIn (units word w) (units word h) }
+    then record {
+      differs = ltb (diffFrom 0 (units word w) (units word h)) (length (units word w));
+      rises = risesIn (units word w) (units word h);
+    }
     else record { differs = false; rises = false }
 
 -- .. it was read into scratch

@@ -11,7 +11,8 @@ ghost use Rattle.common.specs.Choice.{if_then_else_};
 ghost use Rattle.common.specs.Lists.{overwritten};
 ghost use Rattle.units.specs.Units.{units, spare, pairs, torn};
 ghost use Rattle.loader.specs.Walks.{risesIn, diffFrom};
-ghost use Rattle.loader_blocks.specs.Blocks.{alike, costs, Falling, Workable, workDone, readTo, blockDone, blockLeft, roomLeft, blockFound, blockRead, blockMet, blockSeen};
+ghost use Rattle.loader_blocks.specs.Blocks.{alike, costs, Falling, Workable, workDone, readTo, blockDone, blockLeft, roomLeft};
+ghost use Rattle.loader_blocks.specs.Blocks.{blockFound, blockRead, blockMet, blockSeen};
 
 // The operations of a load: the cycles that they take, and whether an erase is among them.
 pub struct Done {
@@ -138,7 +139,8 @@ fn unlike_words(wanted: &[u8], scratch: &[u8]) -> u32
 // How many units differ.
 fn unlike_units(word: bool, wanted: &[u8], scratch: &[u8]) -> u32
     requires { ⌜ (length (now scratch) ≡ length (now wanted)) × (length (now wanted) ≤ 16777216) ⌝ }
-    ensures { λ r. ⌜ r ≡ costs (length (units word (now (wanted .entry)))) 1 0 (units word (now (wanted .entry))) (units word (now (scratch .entry))) ⌝ }
+    ensures { λ r. ⌜ r
+        ≡ costs (length (units word (now (wanted .entry)))) 1 0 (units word (now (wanted .entry))) (units word (now (scratch .entry))) ⌝ }
 {
     if word {
         return unlike_words(wanted, scratch);
@@ -161,8 +163,11 @@ fn keep_bits(held: &mut [u8], wanted: &[u8])
 
 // The programs: each unit that differs, for `each` cycles; scratch takes what is wanted.
 fn program_all(word: bool, each: u64, held: &mut [u8], wanted: &[u8], scratch: &mut [u8]) -> u64
-    requires { ⌜ Falling (now held) (now wanted) × (length (now scratch) ≡ length (now wanted)) × (length (now wanted) ≤ 16777216) × (each ≤ 4294967295) ⌝ }
-    ensures result { λ r. ⌜ r ≡ costs (length (units word (now (wanted .entry)))) each 0 (units word (now (wanted .entry))) (units word (now (scratch .entry))) ⌝ }
+    requires { ⌜ Falling (now held) (now wanted) × (length (now scratch) ≡ length (now wanted)) × (length (now wanted) ≤ 16777216)
+        × (each ≤ 4294967295) ⌝ }
+    ensures result { λ r. ⌜ r
+        ≡ costs (length (units word (now (wanted .entry)))) each 0 (units word (now (wanted .entry)))
+        (units word (now (scratch .entry))) ⌝ }
     ensures held_left { λ _. ⌜ now (held .exit) ≡ now (wanted .entry) ⌝ }
     ensures scratch_left { λ _. ⌜ now (scratch .exit) ≡ now (wanted .entry) ⌝ }
 {
@@ -213,9 +218,11 @@ pub fn load_block(
     scratch: &mut [u8],
 ) -> Done
     ensures result { λ r. ⌜ r ≡ blockDone word once each (now (held .entry)) (now (wanted .entry)) (now (scratch .entry)) ⌝ }
-    ensures held_left { λ _. ⌜ units word (now (held .exit)) ≡ blockLeft word (now (held .entry)) (now (wanted .entry)) (now (scratch .entry)) ⌝ }
+    ensures held_left { λ _. ⌜ units word (now (held .exit))
+        ≡ blockLeft word (now (held .entry)) (now (wanted .entry)) (now (scratch .entry)) ⌝ }
     ensures held_spare { λ _. ⌜ spare word (now (held .exit)) ≡ spare word (now (held .entry)) ⌝ }
-    ensures scratch_left { λ _. ⌜ units word (now (scratch .exit)) ≡ roomLeft word (now (held .entry)) (now (wanted .entry)) (now (scratch .entry)) ⌝ }
+    ensures scratch_left { λ _. ⌜ units word (now (scratch .exit))
+        ≡ roomLeft word (now (held .entry)) (now (wanted .entry)) (now (scratch .entry)) ⌝ }
     ensures scratch_spare { λ _. ⌜ spare word (now (scratch .exit)) ≡ spare word (now (scratch .entry)) ⌝ }
 {
     if are_alike(word, held.len(), wanted.len(), scratch.len()) {
@@ -232,7 +239,8 @@ pub fn load_block(
 fn verify_bytes(held: &[u8], wanted: &[u8], scratch: &mut [u8]) -> usize
     requires { ⌜ (length (now held) ≡ length (now wanted)) × (length (now scratch) ≡ length (now wanted)) ⌝ }
     ensures result { λ r. ⌜ r ≡ diffFrom 0 (now (wanted .entry)) (now (held .entry)) ⌝ }
-    ensures scratch_left { λ _. ⌜ now (scratch .exit) ≡ overwritten (readTo (now (wanted .entry)) (now (held .entry))) (now (held .entry)) (now (scratch .entry)) ⌝ }
+    ensures scratch_left { λ _. ⌜ now (scratch .exit)
+        ≡ overwritten (readTo (now (wanted .entry)) (now (held .entry))) (now (held .entry)) (now (scratch .entry)) ⌝ }
 {
     let n = wanted.len();
     let mut i = 0;
@@ -249,9 +257,12 @@ fn verify_bytes(held: &[u8], wanted: &[u8], scratch: &mut [u8]) -> usize
 
 // .. word by word.
 fn verify_words(held: &[u8], wanted: &[u8], scratch: &mut [u8]) -> usize
-    requires { ⌜ (length (pairs (now held)) ≡ length (pairs (now wanted))) × (length (pairs (now scratch)) ≡ length (pairs (now wanted))) ⌝ }
+    requires { ⌜ (length (pairs (now held)) ≡ length (pairs (now wanted)))
+        × (length (pairs (now scratch)) ≡ length (pairs (now wanted))) ⌝ }
     ensures result { λ r. ⌜ r ≡ diffFrom 0 (pairs (now (wanted .entry))) (pairs (now (held .entry))) ⌝ }
-    ensures scratch_left { λ _. ⌜ pairs (now (scratch .exit)) ≡ overwritten (readTo (pairs (now (wanted .entry))) (pairs (now (held .entry)))) (pairs (now (held .entry))) (pairs (now (scratch .entry))) ⌝ }
+    ensures scratch_left { λ _. ⌜ pairs (now (scratch .exit))
+        ≡ overwritten (readTo (pairs (now (wanted .entry))) (pairs (now (held .entry)))) (pairs (now (held .entry)))
+        (pairs (now (scratch .entry))) ⌝ }
 {
     let n = units::units_in(true, wanted.len());
     let mut i = 0;
@@ -286,7 +297,9 @@ fn are_same(held: &[u8], wanted: &[u8]) -> bool
 fn verify_all(word: bool, held: &[u8], wanted: &[u8], scratch: &mut [u8]) -> usize
     requires { ⌜ (length (now held) ≡ length (now wanted)) × (length (now scratch) ≡ length (now wanted)) ⌝ }
     ensures result { λ r. ⌜ r ≡ diffFrom 0 (units word (now (wanted .entry))) (units word (now (held .entry))) ⌝ }
-    ensures scratch_left { λ _. ⌜ units word (now (scratch .exit)) ≡ overwritten (readTo (units word (now (wanted .entry))) (units word (now (held .entry)))) (units word (now (held .entry))) (units word (now (scratch .entry))) ⌝ }
+    ensures scratch_left { λ _. ⌜ units word (now (scratch .exit))
+        ≡ overwritten (readTo (units word (now (wanted .entry))) (units word (now (held .entry)))) (units word (now (held .entry)))
+        (units word (now (scratch .entry))) ⌝ }
 {
     if are_same(held, wanted) {
         common::copy(scratch, held);
@@ -301,7 +314,8 @@ fn verify_all(word: bool, held: &[u8], wanted: &[u8], scratch: &mut [u8]) -> usi
 // A verify of a block: the place of the first unit that differs, or the number of units. Nothing where the three are not alike.
 pub fn verify_block(word: bool, held: &[u8], wanted: &[u8], scratch: &mut [u8]) -> usize
     ensures result { λ r. ⌜ r ≡ blockMet word (now (held .entry)) (now (wanted .entry)) (now (scratch .entry)) ⌝ }
-    ensures scratch_left { λ _. ⌜ units word (now (scratch .exit)) ≡ blockSeen word (now (held .entry)) (now (wanted .entry)) (now (scratch .entry)) ⌝ }
+    ensures scratch_left { λ _. ⌜ units word (now (scratch .exit))
+        ≡ blockSeen word (now (held .entry)) (now (wanted .entry)) (now (scratch .entry)) ⌝ }
     ensures scratch_spare { λ _. ⌜ spare word (now (scratch .exit)) ≡ spare word (now (scratch .entry)) ⌝ }
 {
     if are_alike(word, held.len(), wanted.len(), scratch.len()) {

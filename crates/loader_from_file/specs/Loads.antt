@@ -58,5 +58,6 @@ loadRefused n s xs w sc = record { ran = record { count = 0; end = n; address = 
 -- a job from a file, a load or a verify: refused by the load's number, or wanted filled and the run made
 unfoldable pub loadLeft : Job → List ℕ → List ℕ → List ℕ → List ℕ → ℕ → LoadLeft
 loadLeft j xs w sc f asked =
-    if eqb (loadNumber j (length xs) (length w) (length sc) f asked) 0 then loadMade (lentRun j xs (wantedOf f (length w)) sc) (wantedOf f (length w))
+    if eqb (loadNumber j (length xs) (length w) (length sc) f asked) 0
+    then loadMade (lentRun j xs (wantedOf f (length w)) sc) (wantedOf f (length w))
     else loadRefused (loadNumber j (length xs) (length w) (length sc) f asked) (j .state) xs w sc

@@ -58,7 +58,8 @@ fn load_number(j: Job, array: usize, wanted: usize, scratch: usize, file: &[u8],
 fn prepared(j: Job, array: usize, wanted: &mut [u8], scratch: usize, file: &[u8], asked: u8) -> u8
     ensures result { λ r. ⌜ r ≡ loadNumber j array (length (now (wanted .entry))) scratch (now (file .entry)) asked ⌝ }
     ensures wanted_left { λ _. ⌜ now (wanted .exit)
-        ≡ wantedBy (loadNumber j array (length (now (wanted .entry))) scratch (now (file .entry)) asked) (now (file .entry)) (now (wanted .entry)) ⌝ }
+        ≡ wantedBy (loadNumber j array (length (now (wanted .entry))) scratch (now (file .entry)) asked) (now (file .entry))
+        (now (wanted .entry)) ⌝ }
 {
     let n = load_number(j, array, wanted.len(), scratch, file, asked);
     fill_wanted(n, file, wanted);
@@ -74,10 +75,14 @@ pub fn load(
     file: &[u8],
     asked: u8,
 ) -> Ran
-    ensures result { λ r. ⌜ r ≡ loadLeft j (now (array .entry)) (now (wanted .entry)) (now (scratch .entry)) (now (file .entry)) asked .ran ⌝ }
-    ensures array_left { λ _. ⌜ now (array .exit) ≡ loadLeft j (now (array .entry)) (now (wanted .entry)) (now (scratch .entry)) (now (file .entry)) asked .bytes ⌝ }
-    ensures wanted_left { λ _. ⌜ now (wanted .exit) ≡ loadLeft j (now (array .entry)) (now (wanted .entry)) (now (scratch .entry)) (now (file .entry)) asked .wanted ⌝ }
-    ensures scratch_left { λ _. ⌜ now (scratch .exit) ≡ loadLeft j (now (array .entry)) (now (wanted .entry)) (now (scratch .entry)) (now (file .entry)) asked .scratch ⌝ }
+    ensures result { λ r. ⌜ r
+        ≡ loadLeft j (now (array .entry)) (now (wanted .entry)) (now (scratch .entry)) (now (file .entry)) asked .ran ⌝ }
+    ensures array_left { λ _. ⌜ now (array .exit)
+        ≡ loadLeft j (now (array .entry)) (now (wanted .entry)) (now (scratch .entry)) (now (file .entry)) asked .bytes ⌝ }
+    ensures wanted_left { λ _. ⌜ now (wanted .exit)
+        ≡ loadLeft j (now (array .entry)) (now (wanted .entry)) (now (scratch .entry)) (now (file .entry)) asked .wanted ⌝ }
+    ensures scratch_left { λ _. ⌜ now (scratch .exit)
+        ≡ loadLeft j (now (array .entry)) (now (wanted .entry)) (now (scratch .entry)) (now (file .entry)) asked .scratch ⌝ }
 {
     let s = j.state;
     let n = prepared(j, array.len(), wanted, scratch.len(), file, asked);

@@ -42,15 +42,24 @@ firstOf d k = byteOf (d .part .word) (startOf (d .part) k)
 pub record FileLoaded (j : Job) (xs w sc f : List ℕ) (asked : ℕ) : Type 0 where
   pub ran : loadLeft (doing (Load true) j) xs w sc f asked .ran
       ≡ record {
-        count = formula (j .device) (units (j .device .part .word) (wantedOf f (length w))) (heldIn (startOf (j .device .part) (j .block)) (lengthOf (j .device .part) (j .block)) (units (j .device .part .word) xs));
+        count =
+            formula (j .device) (units (j .device .part .word) (wantedOf f (length w)))
+            (heldIn (startOf (j .device .part) (j .block)) (lengthOf (j .device .part) (j .block)) (units (j .device .part .word) xs));
         end = 0;
         address = 0;
-        state = atRest (erasedFrom (risesIn (units (j .device .part .word) (wantedOf f (length w))) (heldIn (startOf (j .device .part) (j .block)) (lengthOf (j .device .part) (j .block)) (units (j .device .part .word) xs))) (j .block) (j .state)) Array 0x80;
+        state =
+            atRest (erasedFrom
+            (risesIn (units (j .device .part .word) (wantedOf f (length w)))
+            (heldIn (startOf (j .device .part) (j .block)) (lengthOf (j .device .part) (j .block))
+            (units (j .device .part .word) xs))) (j .block) (j .state)) Array 0x80;
       }
-  pub holds : heldIn (firstOf (j .device) (j .block)) (length w) (loadLeft (doing (Load true) j) xs w sc f asked .bytes) ≡ wantedOf f (length w)
+  pub holds : heldIn (firstOf (j .device) (j .block)) (length w) (loadLeft (doing (Load true) j) xs w sc f asked .bytes)
+      ≡ wantedOf f (length w)
   pub before : (x : ℕ) → x < firstOf (j .device) (j .block) → getD (loadLeft (doing (Load true) j) xs w sc f asked .bytes) x 0 ≡ getD xs x 0
-  pub behind : (x : ℕ) → firstOf (j .device) (j .block) + length w ≤ x → getD (loadLeft (doing (Load true) j) xs w sc f asked .bytes) x 0 ≡ getD xs x 0
+  pub behind : (x : ℕ) → firstOf (j .device) (j .block) + length w ≤ x → getD (loadLeft (doing (Load true) j) xs w sc f asked .bytes) x 0
+      ≡ getD xs x 0
   pub wanted : loadLeft (doing (Load true) j) xs w sc f asked .wanted ≡ wantedOf f (length w)
   pub scratch : loadLeft (doing (Load true) j) xs w sc f asked .scratch ≡ wantedOf f (length w)
   pub demand : LentDemand3 true j xs (wantedOf f (length w)) sc
-  pub left : loadLeft (doing (Load true) j) xs w sc f asked ≡ loadMade (lentRun (doing (Load true) j) xs (wantedOf f (length w)) sc) (wantedOf f (length w))
+  pub left : loadLeft (doing (Load true) j) xs w sc f asked
+      ≡ loadMade (lentRun (doing (Load true) j) xs (wantedOf f (length w)) sc) (wantedOf f (length w))

@@ -18,7 +18,8 @@ ghost use Rattle.units.specs.Units.{units, spare};
 ghost use Rattle.loader.specs.Moves.{nextOf};
 ghost use Rattle.loader.specs.Inner.{past};
 ghost use Rattle.loader_steps.specs.Stores.{storeOf};
-ghost use Rattle.loader_held.specs.Holds.{listed, sr6, holdAs, usual, heldTo, pairOf, afterPoll, numbered, movedOn, stopped, settledBy, fetchOn, fetchStored, resumed, heldNext, heldScratch, heldRoom, heldCycle};
+ghost use Rattle.loader_held.specs.Holds.{listed, sr6, holdAs, usual, heldTo, pairOf, afterPoll, numbered, movedOn, stopped};
+ghost use Rattle.loader_held.specs.Holds.{settledBy, fetchOn, fetchStored, resumed, heldNext, heldScratch, heldRoom, heldCycle};
 ghost use lib.ListN.{getD};
 ghost use Rattle.loader_steps.specs.Outs.{cycleAt};
 
@@ -139,8 +140,12 @@ fn settled_by(l: Loader, h: Hold, b: u8) -> Pair
 
 // The erase is found finished: the loader takes a ready poll.
 fn finished(l: Loader, n: u32, wanted: &[u8], scratch: &mut [u8]) -> Pair
-    ensures result { λ r. ⌜ r ≡ pairOf (nextOf l 0x80 (units (l .part .word) (now (wanted .entry))) (storeOf l 0x80 (units (l .part .word) (now (wanted .entry))) (units (l .part .word) (now (scratch .entry))))) (usual n) ⌝ }
-    ensures scratch_left { λ _. ⌜ units (l .part .word) (now (scratch .exit)) ≡ storeOf l 0x80 (units (l .part .word) (now (wanted .entry))) (units (l .part .word) (now (scratch .entry))) ⌝ }
+    ensures result { λ r. ⌜ r
+        ≡ pairOf
+        (nextOf l 0x80 (units (l .part .word) (now (wanted .entry)))
+        (storeOf l 0x80 (units (l .part .word) (now (wanted .entry))) (units (l .part .word) (now (scratch .entry))))) (usual n) ⌝ }
+    ensures scratch_left { λ _. ⌜ units (l .part .word) (now (scratch .exit))
+        ≡ storeOf l 0x80 (units (l .part .word) (now (wanted .entry))) (units (l .part .word) (now (scratch .entry))) ⌝ }
     ensures scratch_spare { λ _. ⌜ spare (l .part .word) (now (scratch .exit)) ≡ spare (l .part .word) (now (scratch .entry)) ⌝ }
 {
     let next = advance(l, 0x80, wanted, scratch);
@@ -149,8 +154,10 @@ fn finished(l: Loader, n: u32, wanted: &[u8], scratch: &mut [u8]) -> Pair
 
 // The next unit to read is that of address i of k, or what follows the reads.
 fn fetch_on(l: Loader, h: Hold, i: usize, k: usize, wanted: &[u8], scratch: &mut [u8]) -> Pair
-    ensures result { λ r. ⌜ r ≡ fetchOn l h i k (units (l .part .word) (now (wanted .entry))) (units (l .part .word) (now (scratch .entry))) ⌝ }
-    ensures scratch_left { λ _. ⌜ units (l .part .word) (now (scratch .exit)) ≡ fetchStored l h i k (units (l .part .word) (now (wanted .entry))) (units (l .part .word) (now (scratch .entry))) ⌝ }
+    ensures result { λ r. ⌜ r
+        ≡ fetchOn l h i k (units (l .part .word) (now (wanted .entry))) (units (l .part .word) (now (scratch .entry))) ⌝ }
+    ensures scratch_left { λ _. ⌜ units (l .part .word) (now (scratch .exit))
+        ≡ fetchStored l h i k (units (l .part .word) (now (wanted .entry))) (units (l .part .word) (now (scratch .entry))) ⌝ }
     ensures scratch_spare { λ _. ⌜ spare (l .part .word) (now (scratch .exit)) ≡ spare (l .part .word) (now (scratch .entry)) ⌝ }
 {
     let suspended = h.suspended;
@@ -184,8 +191,13 @@ pub fn next_place(p: usize, n: usize) -> usize
 
 // The loader's own cycle.
 fn usual_next(l: Loader, n: u32, v: u16, wanted: &[u8], scratch: &mut [u8], polls: &[u32]) -> Pair
-    ensures result { λ r. ⌜ r ≡ movedOn (nextOf l v (units (l .part .word) (now (wanted .entry))) (storeOf l v (units (l .part .word) (now (wanted .entry))) (units (l .part .word) (now (scratch .entry))))) n (now (polls .entry)) ⌝ }
-    ensures scratch_left { λ _. ⌜ units (l .part .word) (now (scratch .exit)) ≡ storeOf l v (units (l .part .word) (now (wanted .entry))) (units (l .part .word) (now (scratch .entry))) ⌝ }
+    ensures result { λ r. ⌜ r
+        ≡ movedOn
+        (nextOf l v (units (l .part .word) (now (wanted .entry)))
+        (storeOf l v (units (l .part .word) (now (wanted .entry))) (units (l .part .word) (now (scratch .entry))))) n
+        (now (polls .entry)) ⌝ }
+    ensures scratch_left { λ _. ⌜ units (l .part .word) (now (scratch .exit))
+        ≡ storeOf l v (units (l .part .word) (now (wanted .entry))) (units (l .part .word) (now (scratch .entry))) ⌝ }
     ensures scratch_spare { λ _. ⌜ spare (l .part .word) (now (scratch .exit)) ≡ spare (l .part .word) (now (scratch .entry)) ⌝ }
 {
     let next = advance(l, v, wanted, scratch);
@@ -219,8 +231,11 @@ pub fn held_next(
     scratch: &mut [u8],
     polls: &[u32],
 ) -> Pair
-    ensures result { λ r. ⌜ r ≡ heldNext step l h v k (units (l .part .word) (now (wanted .entry))) (units (l .part .word) (now (scratch .entry))) (now (polls .entry)) ⌝ }
-    ensures scratch_left { λ _. ⌜ units (l .part .word) (now (scratch .exit)) ≡ heldScratch step l h v k (units (l .part .word) (now (wanted .entry))) (units (l .part .word) (now (scratch .entry))) ⌝ }
+    ensures result { λ r. ⌜ r
+        ≡ heldNext step l h v k (units (l .part .word) (now (wanted .entry))) (units (l .part .word) (now (scratch .entry)))
+        (now (polls .entry)) ⌝ }
+    ensures scratch_left { λ _. ⌜ units (l .part .word) (now (scratch .exit))
+        ≡ heldScratch step l h v k (units (l .part .word) (now (wanted .entry))) (units (l .part .word) (now (scratch .entry))) ⌝ }
     ensures scratch_spare { λ _. ⌜ spare (l .part .word) (now (scratch .exit)) ≡ spare (l .part .word) (now (scratch .entry)) ⌝ }
 {
     match step {

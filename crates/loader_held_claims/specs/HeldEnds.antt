@@ -32,7 +32,8 @@ erases d p k w ys = risesIn w ys && eqb (endNumber d p k w ys) 0
 
 -- the one poll of an erase that cannot start; interrupted, B0H and 70H come before it, and its error bits end the load all the same
 abbrev pub triedPoll : Pins → ℕ → List ℕ → List Cycle
-triedPoll p a ps = if listed 1 ps then busCycle p Write a 0xB0 ∷ busCycle p Write a 0x70 ∷ busCycle p Read a 0 ∷ [] else busCycle p Read a 0 ∷ []
+triedPoll p a ps = if listed 1 ps then busCycle p Write a 0xB0 ∷ busCycle p Write a 0x70 ∷ busCycle p Read a 0 ∷ []
+    else busCycle p Read a 0 ∷ []
 
 -- .. how many cycles the interruption adds there
 abbrev pub addedTried : List ℕ → ℕ
@@ -40,7 +41,8 @@ addedTried ps = if listed 1 ps then 2 else 0
 
 -- the cycles that interruptions add, whatever the end
 unfoldable pub addedBy : Device → Pins → ℕ → List ℕ → List ℕ → List ℕ → List ℕ → ℕ
-addedBy d p k w ys bs ps = if risesIn w ys then (if eqb (endNumber d p k w ys) 0 then addedIn d bs ps 0 (d .erase) else addedTried ps) else 0
+addedBy d p k w ys bs ps = if risesIn w ys then (if eqb (endNumber d p k w ys) 0 then addedIn d bs ps 0 (d .erase) else addedTried ps)
+    else 0
 
 -- an interruption in the last poll's place leaves the device in read array: it is seen where nothing is programmed after the erase
 unfoldable pub endsTurned : Device → Pins → ℕ → List ℕ → List ℕ → List ℕ → Bool
@@ -53,12 +55,23 @@ ranMore r added turned =
       count = r .count + added;
       end = r .end;
       address = r .address;
-      state = record { mode = if turned then Array else r .state .mode; status = r .state .status; phase = r .state .phase; left = r .state .left; address = r .state .address; wear = r .state .wear };
+      state =
+          record {
+            mode = if turned then Array
+                else r .state .mode;
+            status = r .state .status;
+            phase = r .state .phase;
+            left = r .state .left;
+            address = r .state .address;
+            wear = r .state .wear;
+          };
     }
 
 -- what the load with interruptions returns, by what the old load returns
 unfoldable pub heldRanAs : Bool → Job → List ℕ → List ℕ → List ℕ → List ℕ → Ran
-heldRanAs verify j w ys bs ps = ranMore (ranAs verify j w ys) (addedBy (j .device) (j .pins) (j .block) w ys bs ps) (endsTurned (j .device) (j .pins) (j .block) w ys ps)
+heldRanAs verify j w ys bs ps =
+    ranMore (ranAs verify j w ys) (addedBy (j .device) (j .pins) (j .block) w ys bs ps)
+    (endsTurned (j .device) (j .pins) (j .block) w ys ps)
 
 -- the room: the array's units at the addresses where an interruption was made, else as it was
 unfoldable pub roomAs : Device → Pins → ℕ → List ℕ → List ℕ → List ℕ → List ℕ → List ℕ → List ℕ → List ℕ
@@ -69,17 +82,23 @@ unfoldable pub heldCyclesAs : Bool → Device → Pins → ℕ → ℕ → List 
 heldCyclesAs verify d p k a w ys bs ps =
     if risesIn w ys
     then openingThen p a (length w) (busCycle p Write a 0x20 ∷ busCycle p Write a 0xD0
-    ∷ (if eqb (endNumber d p k w ys) 0 then erasePolls d p a bs ps 0 (d .erase) (programmingThen d p a w ys (closingBy verify p a (length w))) else triedPoll p a ps))
+    ∷ (if eqb (endNumber d p k w ys) 0
+    then erasePolls d p a bs ps 0 (d .erase) (programmingThen d p a w ys (closingBy verify p a (length w))) else triedPoll p a ps))
     else cyclesAs verify d p k a w ys
 
 -- such a load comes to an end where it returns and leaves that; it begins what the old load begins, makes those cycles, and the model
 -- refuses none of them and none cuts an operation
 pub record HeldEnds (verify : Bool) (j : Job) (xs w sc bs ps room : List ℕ) : Type 0 where
   pub last : HeldConfig
-  pub reach : HeldReach (j .device) w bs ps (beside (beginning (doing (Load verify) j) xs sc) (usual 0) room) last (begunAt (doing (Load verify) j) xs w sc)
-      (heldCyclesAs verify (j .device) (j .pins) (j .block) (startOf (j .device .part) (j .block)) w (heldIn (startOf (j .device .part) (j .block)) (length w) xs) bs ps)
+  pub reach : HeldReach (j .device) w bs ps (beside (beginning (doing (Load verify) j) xs sc) (usual 0) room) last
+      (begunAt (doing (Load verify) j) xs w sc)
+      (heldCyclesAs verify (j .device) (j .pins) (j .block) (startOf (j .device .part) (j .block)) w
+      (heldIn (startOf (j .device .part) (j .block)) (length w) xs) bs ps)
   pub ended : isEnded (last .loader .stage) ≡ true
   pub ran : ranBy (bare last) ≡ heldRanAs verify j w (heldIn (startOf (j .device .part) (j .block)) (length w) xs) bs ps
-  pub bytes : last .bytes ≡ bytesAs (j .device) (j .pins) (j .block) (startOf (j .device .part) (j .block)) w (heldIn (startOf (j .device .part) (j .block)) (length w) xs) xs
+  pub bytes : last .bytes
+      ≡ bytesAs (j .device) (j .pins) (j .block) (startOf (j .device .part) (j .block)) w
+      (heldIn (startOf (j .device .part) (j .block)) (length w) xs) xs
   pub scratch : last .scratch ≡ scratchAs (j .device) (j .pins) (j .block) w (heldIn (startOf (j .device .part) (j .block)) (length w) xs)
-  pub filled : last .room ≡ roomAs (j .device) (j .pins) (j .block) w (heldIn (startOf (j .device .part) (j .block)) (length w) xs) xs bs ps room
+  pub filled : last .room
+      ≡ roomAs (j .device) (j .pins) (j .block) w (heldIn (startOf (j .device .part) (j .block)) (length w) xs) xs bs ps room

@@ -17,7 +17,8 @@ use Rattle.model_types.specs.declared.Effect.the-variants.{Nothing}
 use Rattle.model_rules.specs.Cycles.{decideOf}
 use Rattle.model.specs.Begun.{begunBy}
 use Rattle.loader.specs.declared.Stage.{Stage}
-use Rattle.loader.specs.declared.Stage.the-variants.{Clearing, Opening, Reading, EraseAsking, EraseConfirming, EraseWaiting, ProgramAsking, ProgramSending, ProgramWaiting, Closing, Verifying, Ended}
+use Rattle.loader.specs.declared.Stage.the-variants.{Clearing, Opening, Reading, EraseAsking, EraseConfirming, EraseWaiting, ProgramAsking}
+use Rattle.loader.specs.declared.Stage.the-variants.{ProgramSending, ProgramWaiting, Closing, Verifying, Ended}
 use Rattle.loader.specs.Stages.{isEnded}
 use Rattle.loader_run_claims.specs.Wear.{noted}
 use Rattle.loader_run_claims.specs.Made.{busCycle, pollsThen, isSmooth}
@@ -37,7 +38,8 @@ heldBegun (suc k) d w bs ps c = noted (heldBegunTurn d w bs c) (heldBegun k d w 
 abbrev pub heldMade : ℕ → Device → List ℕ → List ℕ → List ℕ → HeldConfig → List Cycle
 heldMade zero d w bs ps c = []
 heldMade (suc k) d w bs ps c =
-    if isEnded (c .loader .stage) then heldMade k d w bs ps (heldTurn d w bs ps c) else outOf w bs c ∷ heldMade k d w bs ps (heldTurn d w bs ps c)
+    if isEnded (c .loader .stage) then heldMade k d w bs ps (heldTurn d w bs ps c)
+    else outOf w bs c ∷ heldMade k d w bs ps (heldTurn d w bs ps c)
 
 -- the cycle of a turn is not refused and cuts nothing
 unfoldable pub heldSmoothTurn : Device → List ℕ → List ℕ → HeldConfig → Bool

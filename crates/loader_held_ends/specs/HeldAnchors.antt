@@ -25,7 +25,8 @@ largeLists word = ((listsUpTo 5 word 4 && listsUpTo 6 word 4) && listsUpTo 7 wor
 
 -- .. of every part, and of devices 5 to 8 in bytes and in words
 abbrev pub allLists : Bool
-allLists = ((((listsUpTo 1 false 3 && listsUpTo 2 false 3) && listsUpTo 3 false 3) && listsUpTo 4 false 3) && largeLists false) && largeLists true
+allLists =
+    ((((listsUpTo 1 false 3 && listsUpTo 2 false 3) && listsUpTo 3 false 3) && listsUpTo 4 false 3) && largeLists false) && largeLists true
 
 -- what interruptions add on bench T with E 3, by S, the addresses and the polls told
 abbrev pub figures : ℕ → List ℕ → List ℕ → ℕ

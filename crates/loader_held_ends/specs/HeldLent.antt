@@ -56,10 +56,14 @@ module _ (verify : Bool) (j : Job) (array wanted scratch ps bs room : List ℕ) 
   -- whatever the end: what the run without interruptions returns and leaves, with the cycles that they add, in one case another mode, and
   -- the room
   pub record LentBeside : Type 0 where
-    pub ran : held .ran ≡ ranMore (lentRun (doing (Load verify) j) array wanted scratch .ran) (addedBy (j .device) (j .pins) (j .block) W Y bs ps) (endsTurned (j .device) (j .pins) (j .block) W Y ps)
+    pub ran : held .ran
+        ≡ ranMore (lentRun (doing (Load verify) j) array wanted scratch .ran) (addedBy (j .device) (j .pins) (j .block) W Y bs ps)
+        (endsTurned (j .device) (j .pins) (j .block) W Y ps)
     pub bytes : held .bytes ≡ lentRun (doing (Load verify) j) array wanted scratch .bytes
     pub scratch-left : held .scratch ≡ lentRun (doing (Load verify) j) array wanted scratch .scratch
-    pub filled : held .room ≡ (if erases (j .device) (j .pins) (j .block) W Y && interrupts ps 0 (j .device .erase) then roomIn (j .device .part .word) array bs room else room)
+    pub filled : held .room
+        ≡ (if erases (j .device) (j .pins) (j .block) W Y && interrupts ps 0 (j .device .erase)
+        then roomIn (j .device .part .word) array bs room else room)
 
   -- demand 3 in bytes; block k begins at byte `from`
   abbrev pub from : ℕ
@@ -79,9 +83,13 @@ module _ (verify : Bool) (j : Job) (array wanted scratch ps bs room : List ℕ) 
     -- scratch ends as wanted
     pub scratch-left : held .scratch ≡ wanted
     -- the count: the formula's, and what the interruptions add, at most S + k + 4 for each
-    pub by-formula : held .ran .count ≡ formulaBy verify (j .device) W Y + (if risesIn W Y then addedIn (j .device) bs ps 0 (j .device .erase) else 0)
-    pub at-most : held .ran .count ≤ formulaBy verify (j .device) W Y + interruptions ps 0 (j .device .erase) * (j .device .suspend + length bs + 4)
+    pub by-formula : held .ran .count
+        ≡ formulaBy verify (j .device) W Y + (if risesIn W Y then addedIn (j .device) bs ps 0 (j .device .erase) else 0)
+    pub at-most : held .ran .count ≤ formulaBy verify (j .device) W Y + interruptions ps 0 (j .device .erase)
+        * (j .device .suspend + length bs + 4)
     -- the room: the bytes of the units at the addresses where an interruption was made; past them, and with none made, as it was
-    pub room-left : held .room ≡ (if risesIn W Y && interrupts ps 0 (j .device .erase) then roomIn (j .device .part .word) array bs room else room)
+    pub room-left : held .room
+        ≡ (if risesIn W Y && interrupts ps 0 (j .device .erase) then roomIn (j .device .part .word) array bs room else room)
     -- and every clause of demand 3 holds of the units that were lent: operations begun, cycles made, least wear
-    pub of-units : HeldDemand3 verify j (units (j .device .part .word) array) W (units (j .device .part .word) scratch) bs ps (units (j .device .part .word) room)
+    pub of-units : HeldDemand3 verify j (units (j .device .part .word) array) W (units (j .device .part .word) scratch) bs ps
+        (units (j .device .part .word) room)

@@ -77,24 +77,31 @@ module _ (verify : Bool) (j : Job) (xs w sc bs ps room : List ℕ) where
     -- .. so the array is the old one with the wanted units laid over the block
     pub array-left : heldEnd .bytes ≡ overlaid xs (startOf (j .device .part) (j .block)) w
     -- one erase is begun if some bit must rise, otherwise none; each unit that then differs is programmed once and no other
-    pub begins : heldBegins ≡ operationsOf (j .device .part) (j .block) (startOf (j .device .part) (j .block)) w (heldBy (j .device .part) (j .block) xs)
+    pub begins : heldBegins
+        ≡ operationsOf (j .device .part) (j .block) (startOf (j .device .part) (j .block)) w (heldBy (j .device .part) (j .block) xs)
     -- its own cycles are accepted, cut nothing and bring the block to what is wanted; they lead to what is left, and begin that list
     pub own-accepted : acceptsAll (j .device) (worldOf (j .state) xs) ownHeld ≡ true
     pub own-brings : Brings (j .device) (worldOf (j .state) xs) (j .block) w ownHeld
     pub own-leads : worldAfter (j .device) (worldOf (j .state) xs) ownHeld ≡ worldOf (heldEnd .state) (heldEnd .bytes)
     pub own-begins : notedAll (begunOver (j .device) (worldOf (j .state) xs) ownHeld) ≡ heldBegins
     -- no uncut cycles from the same start to the same block contents begin fewer erases of that block or fewer programs in it
-    pub least-wear : Cells (j .device .part) xs → (other : List Bus) → Brings (j .device) (worldOf (j .state) xs) (j .block) w other → NoFewer (j .device) (worldOf (j .state) xs) (j .block) ownHeld other
+    pub least-wear : Cells (j .device .part) xs → (other : List Bus) → Brings (j .device) (worldOf (j .state) xs) (j .block) w other
+        → NoFewer (j .device) (worldOf (j .state) xs) (j .block) ownHeld other
     -- the reported count is the number of cycles made ..
     pub counted : heldRan heldEnd .count ≡ length heldCycles
     -- .. the formula's, and what the interruptions add
-    pub by-formula : heldRan heldEnd .count ≡ formulaBy verify (j .device) w (heldBy (j .device .part) (j .block) xs) + (if risesIn w (heldBy (j .device .part) (j .block) xs) then addedIn (j .device) bs ps 0 (j .device .erase) else 0)
+    pub by-formula : heldRan heldEnd .count
+        ≡ formulaBy verify (j .device) w (heldBy (j .device .part) (j .block) xs)
+        + (if risesIn w (heldBy (j .device .part) (j .block) xs) then addedIn (j .device) bs ps 0 (j .device .erase) else 0)
     -- .. at most S + k + 4 for each of them
-    pub at-most : heldRan heldEnd .count ≤ formulaBy verify (j .device) w (heldBy (j .device .part) (j .block) xs) + interruptions ps 0 (j .device .erase) * (j .device .suspend + length bs + 4)
+    pub at-most : heldRan heldEnd .count ≤ formulaBy verify (j .device) w (heldBy (j .device .part) (j .block) xs)
+        + interruptions ps 0 (j .device .erase) * (j .device .suspend + length bs + 4)
     -- the counts of erases: that of the block has gone up by the erases begun, up to the stop; every other is as it was
-    pub worn-block : countOf (j .state .wear) (j .block) ≤ stop → countOf (heldEnd .state .wear) (j .block) ≡ min (countOf (j .state .wear) (j .block) + totalOf (eraseOf (j .block)) heldBegins) stop
+    pub worn-block : countOf (j .state .wear) (j .block) ≤ stop → countOf (heldEnd .state .wear) (j .block)
+        ≡ min (countOf (j .state .wear) (j .block) + totalOf (eraseOf (j .block)) heldBegins) stop
     pub worn-others : (i : ℕ) → i < 7 → (i ≡ j .block → ⊥) → countOf (heldEnd .state .wear) i ≡ countOf (j .state .wear) i
     -- scratch ends as wanted
     pub scratch-left : heldEnd .scratch ≡ w
     -- and the room holds the array's units at the addresses where an interruption was made; past them, and with none made, it is as it was
-    pub room-left : heldEnd .room ≡ (if risesIn w (heldBy (j .device .part) (j .block) xs) && interrupts ps 0 (j .device .erase) then filledBy xs bs room else room)
+    pub room-left : heldEnd .room
+        ≡ (if risesIn w (heldBy (j .device .part) (j .block) xs) && interrupts ps 0 (j .device .erase) then filledBy xs bs room else room)

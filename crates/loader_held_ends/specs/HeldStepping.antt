@@ -50,21 +50,27 @@ module _ (verify : Bool) (j : Job) (xs w sc bs ps room : List ℕ) (size : ℕ) 
     pub lasts : (i : ℕ) → (steppedOver i ≡ false) ↔ (i < heldRan last .count)
     -- before its end the model takes the cycle that is out, answers a read by data, and leaves the run's next state and array
     pub takes : (i : ℕ) → steppedOver i ≡ false → isRefused (heldAnswer (j .device) w bs (steppedAt i) .seen) ≡ false
-    pub answers : (i : ℕ) → steppedOver i ≡ false → outOf w bs (steppedAt i) .kind ≡ Read → heldAnswer (j .device) w bs (steppedAt i) .seen ≡ Data (numberIn (heldAnswer (j .device) w bs (steppedAt i) .seen))
-    pub makes : (i : ℕ) → steppedOver i ≡ false → (heldAnswer (j .device) w bs (steppedAt i) .state ≡ steppedAt (suc i) .state) × (heldArray (j .device) w bs (steppedAt i) ≡ steppedAt (suc i) .bytes)
+    pub answers : (i : ℕ) → steppedOver i ≡ false → outOf w bs (steppedAt i) .kind ≡ Read → heldAnswer (j .device) w bs (steppedAt i) .seen
+        ≡ Data (numberIn (heldAnswer (j .device) w bs (steppedAt i) .seen))
+    pub makes : (i : ℕ) → steppedOver i ≡ false → (heldAnswer (j .device) w bs (steppedAt i) .state ≡ steppedAt (suc i) .state)
+        × (heldArray (j .device) w bs (steppedAt i) ≡ steppedAt (suc i) .bytes)
     -- no step is refused
     pub passes : (i : ℕ) → stepHeldNumber (steppedAt i .loader) (steppedAt i .hold) (length w) (length (steppedAt i .scratch)) bs size ≡ 0
     -- with those data handed on, the step gives the run's next records and the cycle that is out there, or the end
     pub steps : (i b : ℕ) → steppedOver i ≡ false → HandedOn (j .device) w bs (steppedAt i) b
-        → stepHeldResponse (steppedAt i .loader) (steppedAt i .hold) b w (steppedAt i .scratch) ps bs size ≡ heldResponse (pairIn (steppedAt (suc i))) w bs
+        → stepHeldResponse (steppedAt i .loader) (steppedAt i .hold) b w (steppedAt i .scratch) ps bs size
+        ≡ heldResponse (pairIn (steppedAt (suc i))) w bs
     -- and it leaves the run's scratch and room
     pub stores : (i b : ℕ) → steppedOver i ≡ false → HandedOn (j .device) w bs (steppedAt i) b
-        → heldScratch (steppedAt i .hold .step) (steppedAt i .loader) (steppedAt i .hold) b (length bs) w (steppedAt i .scratch) ≡ steppedAt (suc i) .scratch
+        → heldScratch (steppedAt i .hold .step) (steppedAt i .loader) (steppedAt i .hold) b (length bs) w (steppedAt i .scratch)
+        ≡ steppedAt (suc i) .scratch
     pub fills : (i b : ℕ) → steppedOver i ≡ false → HandedOn (j .device) w bs (steppedAt i) b
-        → heldRoom (steppedAt i .hold .step) (steppedAt i .loader .part .word) (steppedAt i .hold) b (steppedAt i .room) ≡ steppedAt (suc i) .room
+        → heldRoom (steppedAt i .hold .step) (steppedAt i .loader .part .word) (steppedAt i .hold) b (steppedAt i .room)
+        ≡ steppedAt (suc i) .room
     -- the step that ends gives the run's end and address
     pub ends : (i b : ℕ) → steppedOver i ≡ false → steppedOver (suc i) ≡ true → HandedOn (j .device) w bs (steppedAt i) b
-        → stepHeldResponse (steppedAt i .loader) (steppedAt i .hold) b w (steppedAt i .scratch) ps bs size .saying ≡ Over (heldRan last .end) (heldRan last .address)
+        → stepHeldResponse (steppedAt i .loader) (steppedAt i .hold) b w (steppedAt i .scratch) ps bs size .saying
+        ≡ Over (heldRan last .end) (heldRan last .address)
     -- it comes after as many cycles as the run counts, and all is then as the run leaves it
     pub counts : (i : ℕ) → steppedOver i ≡ false → steppedOver (suc i) ≡ true → heldRan last .count ≡ suc i
     pub leaves : (i : ℕ) → steppedOver i ≡ false → steppedOver (suc i) ≡ true → steppedAt (suc i) ≡ last

@@ -37,7 +37,8 @@ heldLoadMade r w = record { ran = r .ran; bytes = r .bytes; wanted = w; scratch 
 
 -- .. of a load that is refused: no cycle is counted and nothing is touched
 abbrev pub heldLoadRefused : ℕ → State → List ℕ → List ℕ → List ℕ → List ℕ → HeldLoadLeft
-heldLoadRefused n s xs w sc room = record { ran = record { count = 0; end = n; address = 0; state = s }; bytes = xs; wanted = w; scratch = sc; room = room }
+heldLoadRefused n s xs w sc room =
+    record { ran = record { count = 0; end = n; address = 0; state = s }; bytes = xs; wanted = w; scratch = sc; room = room }
 
 -- a load from a file f for the letter asked, interrupted at the polls ps, with the verify after it or without: refused by its number, or
 -- wanted filled and the run made

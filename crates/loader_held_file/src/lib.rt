@@ -67,11 +67,21 @@ pub fn load_held(
     addresses: &[u32],
     room: &mut [u8],
 ) -> Ran
-    ensures result { λ r. ⌜ r ≡ heldFileLeft j (now (array .entry)) (now (wanted .entry)) (now (scratch .entry)) (now (file .entry)) asked (now (polls .entry)) (now (addresses .entry)) (now (room .entry)) .ran ⌝ }
-    ensures array_left { λ _. ⌜ now (array .exit) ≡ heldFileLeft j (now (array .entry)) (now (wanted .entry)) (now (scratch .entry)) (now (file .entry)) asked (now (polls .entry)) (now (addresses .entry)) (now (room .entry)) .bytes ⌝ }
-    ensures wanted_left { λ _. ⌜ now (wanted .exit) ≡ heldFileLeft j (now (array .entry)) (now (wanted .entry)) (now (scratch .entry)) (now (file .entry)) asked (now (polls .entry)) (now (addresses .entry)) (now (room .entry)) .wanted ⌝ }
-    ensures scratch_left { λ _. ⌜ now (scratch .exit) ≡ heldFileLeft j (now (array .entry)) (now (wanted .entry)) (now (scratch .entry)) (now (file .entry)) asked (now (polls .entry)) (now (addresses .entry)) (now (room .entry)) .scratch ⌝ }
-    ensures room_left { λ _. ⌜ now (room .exit) ≡ heldFileLeft j (now (array .entry)) (now (wanted .entry)) (now (scratch .entry)) (now (file .entry)) asked (now (polls .entry)) (now (addresses .entry)) (now (room .entry)) .room ⌝ }
+    ensures result { λ r. ⌜ r
+        ≡ heldFileLeft j (now (array .entry)) (now (wanted .entry)) (now (scratch .entry)) (now (file .entry)) asked (now (polls .entry))
+        (now (addresses .entry)) (now (room .entry)) .ran ⌝ }
+    ensures array_left { λ _. ⌜ now (array .exit)
+        ≡ heldFileLeft j (now (array .entry)) (now (wanted .entry)) (now (scratch .entry)) (now (file .entry)) asked (now (polls .entry))
+        (now (addresses .entry)) (now (room .entry)) .bytes ⌝ }
+    ensures wanted_left { λ _. ⌜ now (wanted .exit)
+        ≡ heldFileLeft j (now (array .entry)) (now (wanted .entry)) (now (scratch .entry)) (now (file .entry)) asked (now (polls .entry))
+        (now (addresses .entry)) (now (room .entry)) .wanted ⌝ }
+    ensures scratch_left { λ _. ⌜ now (scratch .exit)
+        ≡ heldFileLeft j (now (array .entry)) (now (wanted .entry)) (now (scratch .entry)) (now (file .entry)) asked (now (polls .entry))
+        (now (addresses .entry)) (now (room .entry)) .scratch ⌝ }
+    ensures room_left { λ _. ⌜ now (room .exit)
+        ≡ heldFileLeft j (now (array .entry)) (now (wanted .entry)) (now (scratch .entry)) (now (file .entry)) asked (now (polls .entry))
+        (now (addresses .entry)) (now (room .entry)) .room ⌝ }
 {
     let s = j.state;
     let n = held_load_number(

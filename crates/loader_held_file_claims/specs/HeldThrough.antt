@@ -47,15 +47,22 @@ module _ (verify : Bool) (j : Job) (xs w sc f : List ℕ) (asked : ℕ) (ps bs r
   pub record HeldFileLoaded : Type 0 where
     pub well : loaded .ran .end ≡ 0
     pub counted : loaded .ran .count
-        ≡ formulaBy verify (j .device) (units (j .device .part .word) wish) (heldIn (startOf (j .device .part) (j .block)) (lengthOf (j .device .part) (j .block)) (units (j .device .part .word) xs))
-        + (if risesIn (units (j .device .part .word) wish) (heldIn (startOf (j .device .part) (j .block)) (lengthOf (j .device .part) (j .block)) (units (j .device .part .word) xs)) then addedIn (j .device) bs ps 0 (j .device .erase) else 0)
+        ≡ formulaBy verify (j .device) (units (j .device .part .word) wish)
+        (heldIn (startOf (j .device .part) (j .block)) (lengthOf (j .device .part) (j .block)) (units (j .device .part .word) xs))
+        + (if risesIn (units (j .device .part .word) wish)
+        (heldIn (startOf (j .device .part) (j .block)) (lengthOf (j .device .part) (j .block)) (units (j .device .part .word) xs))
+        then addedIn (j .device) bs ps 0 (j .device .erase) else 0)
     pub holds : heldIn (byteOf (j .device .part .word) (startOf (j .device .part) (j .block))) (length w) (loaded .bytes) ≡ wish
-    pub before : (x : ℕ) → x < byteOf (j .device .part .word) (startOf (j .device .part) (j .block)) → getD (loaded .bytes) x 0 ≡ getD xs x 0
-    pub behind : (x : ℕ) → byteOf (j .device .part .word) (startOf (j .device .part) (j .block)) + length w ≤ x → getD (loaded .bytes) x 0 ≡ getD xs x 0
+    pub before : (x : ℕ) → x < byteOf (j .device .part .word) (startOf (j .device .part) (j .block)) → getD (loaded .bytes) x 0
+        ≡ getD xs x 0
+    pub behind : (x : ℕ) → byteOf (j .device .part .word) (startOf (j .device .part) (j .block)) + length w ≤ x → getD (loaded .bytes) x 0
+        ≡ getD xs x 0
     pub wanted-left : loaded .wanted ≡ wish
     pub scratch-left : loaded .scratch ≡ wish
     pub room-left : loaded .room
-        ≡ (if risesIn (units (j .device .part .word) wish) (heldIn (startOf (j .device .part) (j .block)) (lengthOf (j .device .part) (j .block)) (units (j .device .part .word) xs)) && interrupts ps 0 (j .device .erase)
+        ≡ (if risesIn (units (j .device .part .word) wish)
+        (heldIn (startOf (j .device .part) (j .block)) (lengthOf (j .device .part) (j .block)) (units (j .device .part .word) xs))
+        && interrupts ps 0 (j .device .erase)
         then roomIn (j .device .part .word) xs bs room else room)
     pub demand : LentHeldDemand3 verify j xs wish sc ps bs room
     pub left : loaded ≡ heldLoadMade (lentHeld (doing (Load verify) j) xs wish sc ps bs room) wish

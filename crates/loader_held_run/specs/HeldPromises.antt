@@ -20,13 +20,15 @@ pub record HeldFirstEnd (d : Device) (w bs ps : List ℕ) (c e : HeldConfig) : T
 -- the load of lent bytes by their units after j cycles
 abbrev pub heldAt : Job → List ℕ → List ℕ → List ℕ → List ℕ → List ℕ → List ℕ → ℕ → HeldConfig
 heldAt j array wanted scratch ps bs room i =
-    heldAfter i (j .device) (units (j .device .part .word) wanted) bs ps (heldBeginning j (units (j .device .part .word) array) (units (j .device .part .word) scratch) (units (j .device .part .word) room))
+    heldAfter i (j .device) (units (j .device .part .word) wanted) bs ps
+    (heldBeginning j (units (j .device .part .word) array) (units (j .device .part .word) scratch) (units (j .device .part .word) room))
 
 -- r, the array, scratch and the room are what as many cycles return and leave as r counts; the load has ended then, and not before
 pub record HeldPromise (j : Job) (array wanted scratch ps bs room : List ℕ) (r : Ran) (left leftScratch leftRoom : List ℕ) : Type 0 where
   pub returned : r ≡ heldRan (heldAt j array wanted scratch ps bs room (r .count))
   pub array-left : left ≡ back (j .device .part .word) (heldAt j array wanted scratch ps bs room (r .count) .bytes)
   pub scratch-left : leftScratch ≡ back (j .device .part .word) (heldAt j array wanted scratch ps bs room (r .count) .scratch)
-  pub room-left : leftRoom ≡ back (j .device .part .word) (heldAt j array wanted scratch ps bs room (r .count) .room) ++ spare (j .device .part .word) room
+  pub room-left : leftRoom
+      ≡ back (j .device .part .word) (heldAt j array wanted scratch ps bs room (r .count) .room) ++ spare (j .device .part .word) room
   pub ended : isEnded (heldAt j array wanted scratch ps bs room (r .count) .loader .stage) ≡ true
   pub first : (i : ℕ) → i < r .count → isEnded (heldAt j array wanted scratch ps bs room i .loader .stage) ≡ false

@@ -48,7 +48,13 @@ heldBeginning j xs sc room = beside (beginning j xs sc) (usual 0) room
 
 -- what is returned of such a load under way
 abbrev pub heldRan : HeldConfig → Ran
-heldRan c = record { count = c .count; end = endBy (c .loader .stage); address = endAddress (c .loader) (endBy (c .loader .stage)); state = c .state }
+heldRan c =
+    record {
+      count = c .count;
+      end = endBy (c .loader .stage);
+      address = endAddress (c .loader) (endBy (c .loader .stage));
+      state = c .state;
+    }
 
 -- what is returned of a run that is refused: no cycle is counted
 abbrev pub ranRefused : ℕ → State → Ran
@@ -63,7 +69,8 @@ pub record HeldLeft : Type 0 where
 
 -- .. of a load that was made, as bytes again; in word mode an odd byte of the room stays
 abbrev pub heldLeft : Bool → HeldConfig → List ℕ → HeldLeft
-heldLeft word c odd = record { ran = heldRan c; bytes = back word (c .bytes); scratch = back word (c .scratch); room = back word (c .room) ++ odd }
+heldLeft word c odd =
+    record { ran = heldRan c; bytes = back word (c .bytes); scratch = back word (c .scratch); room = back word (c .room) ++ odd }
 
 -- .. of a run that is refused: nothing is touched
 abbrev pub heldRefused : ℕ → State → List ℕ → List ℕ → List ℕ → HeldLeft
@@ -72,7 +79,8 @@ heldRefused n s array scratch room = record { ran = ranRefused n s; bytes = arra
 -- the load of lent bytes by their units, made to its end
 abbrev pub heldDone : Job → List ℕ → List ℕ → List ℕ → List ℕ → List ℕ → List ℕ → HeldConfig
 heldDone j array wanted scratch ps bs room =
-    heldDriven (j .device) (units (j .device .part .word) wanted) bs ps (heldBeginning j (units (j .device .part .word) array) (units (j .device .part .word) scratch) (units (j .device .part .word) room))
+    heldDriven (j .device) (units (j .device .part .word) wanted) bs ps
+    (heldBeginning j (units (j .device .part .word) array) (units (j .device .part .word) scratch) (units (j .device .part .word) room))
 
 -- an interrupted run of lent bytes, a load with the verify after it or without: refused by its number, or made to its end
 unfoldable pub lentHeld : Job → List ℕ → List ℕ → List ℕ → List ℕ → List ℕ → List ℕ → HeldLeft

@@ -90,4 +90,5 @@ heldAfter (suc k) d w bs ps c = heldAfter k d w bs ps (heldTurn d w bs ps c)
 
 -- a load under way with what belongs to interruptions
 abbrev pub beside : Config → Hold → List ℕ → HeldConfig
-beside c h room = record { loader = c .loader; hold = h; state = c .state; bytes = c .bytes; scratch = c .scratch; room = room; count = c .count }
+beside c h room =
+    record { loader = c .loader; hold = h; state = c .state; bytes = c .bytes; scratch = c .scratch; room = room; count = c .count }

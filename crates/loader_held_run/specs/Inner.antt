@@ -26,4 +26,5 @@ holdingOf l h s = record { loader = l; hold = h; state = s }
 
 -- what is returned of them after n cycles
 abbrev pub holdingRan : Holding → ℕ → Ran
-holdingRan h n = record { count = n; end = endBy (h .loader .stage); address = endAddress (h .loader) (endBy (h .loader .stage)); state = h .state }
+holdingRan h n =
+    record { count = n; end = endBy (h .loader .stage); address = endAddress (h .loader) (endBy (h .loader .stage)); state = h .state }

@@ -71,9 +71,13 @@ fn data_taken(
     polls: &[u32],
     room: &mut [u8],
 ) -> Pair
-    ensures result { λ r. ⌜ r ≡ heldNext (h .step) l h v k (units (l .part .word) (now (wanted .entry))) (units (l .part .word) (now (scratch .entry))) (now (polls .entry)) ⌝ }
-    ensures scratch_left { λ _. ⌜ units (l .part .word) (now (scratch .exit)) ≡ heldScratch (h .step) l h v k (units (l .part .word) (now (wanted .entry))) (units (l .part .word) (now (scratch .entry))) ⌝ }
-    ensures room_left { λ _. ⌜ units (l .part .word) (now (room .exit)) ≡ heldRoom (h .step) (l .part .word) h v (units (l .part .word) (now (room .entry))) ⌝ }
+    ensures result { λ r. ⌜ r
+        ≡ heldNext (h .step) l h v k (units (l .part .word) (now (wanted .entry))) (units (l .part .word) (now (scratch .entry)))
+        (now (polls .entry)) ⌝ }
+    ensures scratch_left { λ _. ⌜ units (l .part .word) (now (scratch .exit))
+        ≡ heldScratch (h .step) l h v k (units (l .part .word) (now (wanted .entry))) (units (l .part .word) (now (scratch .entry))) ⌝ }
+    ensures room_left { λ _. ⌜ units (l .part .word) (now (room .exit))
+        ≡ heldRoom (h .step) (l .part .word) h v (units (l .part .word) (now (room .entry))) ⌝ }
     ensures room_spare { λ _. ⌜ spare (l .part .word) (now (room .exit)) ≡ spare (l .part .word) (now (room .entry)) ⌝ }
 {
     let step = h.step;
@@ -94,9 +98,13 @@ fn held_taken(
     polls: &[u32],
     room: &mut [u8],
 ) -> Pair
-    ensures result { λ r. ⌜ r ≡ pairBy seen l h k (units (l .part .word) (now (wanted .entry))) (units (l .part .word) (now (scratch .entry))) (now (polls .entry)) ⌝ }
-    ensures scratch_left { λ _. ⌜ units (l .part .word) (now (scratch .exit)) ≡ scratchHeld seen l h k (units (l .part .word) (now (wanted .entry))) (units (l .part .word) (now (scratch .entry))) ⌝ }
-    ensures room_left { λ _. ⌜ units (l .part .word) (now (room .exit)) ≡ roomBy seen (l .part .word) h (units (l .part .word) (now (room .entry))) ⌝ }
+    ensures result { λ r. ⌜ r
+        ≡ pairBy seen l h k (units (l .part .word) (now (wanted .entry))) (units (l .part .word) (now (scratch .entry)))
+        (now (polls .entry)) ⌝ }
+    ensures scratch_left { λ _. ⌜ units (l .part .word) (now (scratch .exit))
+        ≡ scratchHeld seen l h k (units (l .part .word) (now (wanted .entry))) (units (l .part .word) (now (scratch .entry))) ⌝ }
+    ensures room_left { λ _. ⌜ units (l .part .word) (now (room .exit))
+        ≡ roomBy seen (l .part .word) h (units (l .part .word) (now (room .entry))) ⌝ }
     ensures room_spare { λ _. ⌜ spare (l .part .word) (now (room .exit)) ≡ spare (l .part .word) (now (room .entry)) ⌝ }
 {
     match seen {
@@ -117,10 +125,14 @@ fn held_turn(
     addresses: &[u32],
     room: &mut [u8],
 ) -> Holding
-    requires { ⌜ (h .loader .part ≡ d .part) × (judgeOf d (h .state) (heldCycle (h .hold .step) (h .loader) (h .hold) (units (d .part .word) (now wanted)) (now addresses)) (length (units (d .part .word) (now array))) 0 ≡ 0) ⌝ }
-    ensures records { λ r. ⌜ heldConf (r .loader) (r .hold) (r .state) (units (d .part .word) (now (array .exit))) (units (d .part .word) (now (scratch .exit))) (units (d .part .word) (now (room .exit))) 1
+    requires { ⌜ (h .loader .part ≡ d .part)
+        × (judgeOf d (h .state) (heldCycle (h .hold .step) (h .loader) (h .hold) (units (d .part .word) (now wanted)) (now addresses))
+        (length (units (d .part .word) (now array))) 0 ≡ 0) ⌝ }
+    ensures records { λ r. ⌜ heldConf (r .loader) (r .hold) (r .state) (units (d .part .word) (now (array .exit)))
+        (units (d .part .word) (now (scratch .exit))) (units (d .part .word) (now (room .exit))) 1
         ≡ heldMoved d (units (d .part .word) (now (wanted .entry))) (now (addresses .entry)) (now (polls .entry))
-        (heldConf (h .loader) (h .hold) (h .state) (units (d .part .word) (now (array .entry))) (units (d .part .word) (now (scratch .entry))) (units (d .part .word) (now (room .entry))) 0) ⌝ }
+        (heldConf (h .loader) (h .hold) (h .state) (units (d .part .word) (now (array .entry)))
+        (units (d .part .word) (now (scratch .entry))) (units (d .part .word) (now (room .entry))) 0) ⌝ }
     ensures room_spare { λ _. ⌜ spare (d .part .word) (now (room .exit)) ≡ spare (d .part .word) (now (room .entry)) ⌝ }
 {
     let l = h.loader;
@@ -188,12 +200,22 @@ fn drive_held(
     addresses: &[u32],
     room: &mut [u8],
 ) -> Ran
-    requires { ⌜ (runNumber j (length (units (j .device .part .word) (now array))) (length (units (j .device .part .word) (now wanted))) (length (units (j .device .part .word) (now scratch))) ≡ 0)
+    requires { ⌜ (runNumber j (length (units (j .device .part .word) (now array))) (length (units (j .device .part .word) (now wanted)))
+        (length (units (j .device .part .word) (now scratch))) ≡ 0)
         × ReadsInside (j .device) (now addresses) × (length (now addresses) ≤ 4096) ⌝ }
-    ensures result { λ r. ⌜ r ≡ heldRan (heldDone j (now (array .entry)) (now (wanted .entry)) (now (scratch .entry)) (now (polls .entry)) (now (addresses .entry)) (now (room .entry))) ⌝ }
-    ensures array_left { λ _. ⌜ units (j .device .part .word) (now (array .exit)) ≡ heldDone j (now (array .entry)) (now (wanted .entry)) (now (scratch .entry)) (now (polls .entry)) (now (addresses .entry)) (now (room .entry)) .bytes ⌝ }
-    ensures scratch_left { λ _. ⌜ units (j .device .part .word) (now (scratch .exit)) ≡ heldDone j (now (array .entry)) (now (wanted .entry)) (now (scratch .entry)) (now (polls .entry)) (now (addresses .entry)) (now (room .entry)) .scratch ⌝ }
-    ensures room_left { λ _. ⌜ units (j .device .part .word) (now (room .exit)) ≡ heldDone j (now (array .entry)) (now (wanted .entry)) (now (scratch .entry)) (now (polls .entry)) (now (addresses .entry)) (now (room .entry)) .room ⌝ }
+    ensures result { λ r. ⌜ r
+        ≡ heldRan
+        (heldDone j (now (array .entry)) (now (wanted .entry)) (now (scratch .entry)) (now (polls .entry)) (now (addresses .entry))
+        (now (room .entry))) ⌝ }
+    ensures array_left { λ _. ⌜ units (j .device .part .word) (now (array .exit))
+        ≡ heldDone j (now (array .entry)) (now (wanted .entry)) (now (scratch .entry)) (now (polls .entry)) (now (addresses .entry))
+        (now (room .entry)) .bytes ⌝ }
+    ensures scratch_left { λ _. ⌜ units (j .device .part .word) (now (scratch .exit))
+        ≡ heldDone j (now (array .entry)) (now (wanted .entry)) (now (scratch .entry)) (now (polls .entry)) (now (addresses .entry))
+        (now (room .entry)) .scratch ⌝ }
+    ensures room_left { λ _. ⌜ units (j .device .part .word) (now (room .exit))
+        ≡ heldDone j (now (array .entry)) (now (wanted .entry)) (now (scratch .entry)) (now (polls .entry)) (now (addresses .entry))
+        (now (room .entry)) .room ⌝ }
     ensures room_spare { λ _. ⌜ spare (j .device .part .word) (now (room .exit)) ≡ spare (j .device .part .word) (now (room .entry)) ⌝ }
 {
     let d = j.device;
@@ -256,10 +278,18 @@ pub fn run_held(
     addresses: &[u32],
     room: &mut [u8],
 ) -> Ran
-    ensures result { λ r. ⌜ r ≡ lentHeld j (now (array .entry)) (now (wanted .entry)) (now (scratch .entry)) (now (polls .entry)) (now (addresses .entry)) (now (room .entry)) .ran ⌝ }
-    ensures array_left { λ _. ⌜ now (array .exit) ≡ lentHeld j (now (array .entry)) (now (wanted .entry)) (now (scratch .entry)) (now (polls .entry)) (now (addresses .entry)) (now (room .entry)) .bytes ⌝ }
-    ensures scratch_left { λ _. ⌜ now (scratch .exit) ≡ lentHeld j (now (array .entry)) (now (wanted .entry)) (now (scratch .entry)) (now (polls .entry)) (now (addresses .entry)) (now (room .entry)) .scratch ⌝ }
-    ensures room_left { λ _. ⌜ now (room .exit) ≡ lentHeld j (now (array .entry)) (now (wanted .entry)) (now (scratch .entry)) (now (polls .entry)) (now (addresses .entry)) (now (room .entry)) .room ⌝ }
+    ensures result { λ r. ⌜ r
+        ≡ lentHeld j (now (array .entry)) (now (wanted .entry)) (now (scratch .entry)) (now (polls .entry)) (now (addresses .entry))
+        (now (room .entry)) .ran ⌝ }
+    ensures array_left { λ _. ⌜ now (array .exit)
+        ≡ lentHeld j (now (array .entry)) (now (wanted .entry)) (now (scratch .entry)) (now (polls .entry)) (now (addresses .entry))
+        (now (room .entry)) .bytes ⌝ }
+    ensures scratch_left { λ _. ⌜ now (scratch .exit)
+        ≡ lentHeld j (now (array .entry)) (now (wanted .entry)) (now (scratch .entry)) (now (polls .entry)) (now (addresses .entry))
+        (now (room .entry)) .scratch ⌝ }
+    ensures room_left { λ _. ⌜ now (room .exit)
+        ≡ lentHeld j (now (array .entry)) (now (wanted .entry)) (now (scratch .entry)) (now (polls .entry)) (now (addresses .entry))
+        (now (room .entry)) .room ⌝ }
 {
     let s = j.state;
     let n = held_number(

@@ -27,7 +27,8 @@ pub record AsOld (g : HeldResponse) (o : Response) : Type 0 where
 
 -- what a step with the lists leaves in scratch, in units
 unfoldable pub heldScratchAfter : Loader → Hold → ℕ → List ℕ → List ℕ → List ℕ → ℕ → List ℕ
-heldScratchAfter l h v w sc bs room = if eqb (stepHeldNumber l h (length w) (length sc) bs room) 0 then heldScratch (h .step) l h v (length bs) w sc else sc
+heldScratchAfter l h v w sc bs room = if eqb (stepHeldNumber l h (length w) (length sc) bs room) 0
+    then heldScratch (h .step) l h v (length bs) w sc else sc
 
 -- the sayings that steps of the loader alone give for such data
 abbrev pub oldSayings : List ℕ → Loader → List ℕ → List ℕ → List Saying
@@ -39,4 +40,5 @@ abbrev pub heldSayings : List ℕ → Loader → Hold → List ℕ → List ℕ 
 heldSayings [] l h w sc ps bs room = []
 heldSayings (v ∷ vs) l h w sc ps bs room =
     stepHeldResponse l h v w sc ps bs room .saying
-    ∷ heldSayings vs (stepHeldResponse l h v w sc ps bs room .pair .loader) (stepHeldResponse l h v w sc ps bs room .pair .hold) w (heldScratchAfter l h v w sc bs room) ps bs room
+    ∷ heldSayings vs (stepHeldResponse l h v w sc ps bs room .pair .loader) (stepHeldResponse l h v w sc ps bs room .pair .hold) w
+    (heldScratchAfter l h v w sc bs room) ps bs room

@@ -14,7 +14,8 @@ use Rattle.device.specs.Parts.{unknownPart}
 use Rattle.model_types.specs.declared.Pins.{Pins}
 use Rattle.model_types.specs.declared.Cycle.{Cycle}
 use Rattle.loader.specs.declared.Stage.{Stage}
-use Rattle.loader.specs.declared.Stage.the-variants.{Clearing, Opening, Reading, EraseAsking, EraseConfirming, EraseWaiting, ProgramAsking, ProgramSending, ProgramWaiting, Closing, Verifying, Ended}
+use Rattle.loader.specs.declared.Stage.the-variants.{Clearing, Opening, Reading, EraseAsking, EraseConfirming, EraseWaiting, ProgramAsking}
+use Rattle.loader.specs.declared.Stage.the-variants.{ProgramSending, ProgramWaiting, Closing, Verifying, Ended}
 use Rattle.loader.specs.declared.Loader.{Loader}
 use Rattle.loader.specs.declared.Saying.{Saying}
 use Rattle.loader.specs.declared.Saying.the-variants.{Out, Over, Refused}
@@ -67,7 +68,8 @@ waitsErase (Ended n) = false
 -- refusal 3 of an interruption's record beside the loader's, with k addresses: an interruption though the loader waits for no erase, polls
 -- over 65,534, or a read whose place is past the addresses (R-number-3)
 unfoldable pub badHold : ℕ → Loader → Hold → Bool
-badHold k l h = ((interrupting (h .step) && not (waitsErase (l .stage))) || ltb 65534 (h .waits)) || (fetching (h .step) && leb k (h .place))
+badHold k l h =
+    ((interrupting (h .step) && not (waitsErase (l .stage))) || ltb 65534 (h .waits)) || (fetching (h .step) && leb k (h .place))
 
 -- .. of both records
 unfoldable pub badPair : ℕ → Loader → Hold → Bool
@@ -86,7 +88,8 @@ placeNext Resuming place k = k
 -- the tests of the lists in a step, in their order: of the addresses only the one at place i, where there is one
 abbrev pub usedRows : Part → ℕ → ℕ → List ℕ → ℕ → List Row
 usedRows part k i bs room =
-    row 5 (ltb i (length bs) && pastArray part (getD bs i 0)) ∷ row 45 (ltb i (length bs) && inLoaded part k (getD bs i 0)) ∷ roomRows (part .word) (length bs) room
+    row 5 (ltb i (length bs) && pastArray part (getD bs i 0)) ∷ row 45 (ltb i (length bs) && inLoaded part k (getD bs i 0))
+    ∷ roomRows (part .word) (length bs) room
 
 -- the first refusal of these, 0 where nothing refuses
 unfoldable pub usedNumber : Part → ℕ → ℕ → List ℕ → ℕ → ℕ
@@ -113,7 +116,8 @@ stepHeldNumber l h w sc bs room = given (stepHeldRows l h w sc bs room)
 
 -- what two records give: the cycle that is out, or their end again
 abbrev pub heldSayingIn : Loader → Hold → List ℕ → List ℕ → Saying
-heldSayingIn l h w bs = if isEnded (l .stage) then Over (endBy (l .stage)) (endAddress l (endBy (l .stage))) else Out (heldCycle (h .step) l h w bs)
+heldSayingIn l h w bs = if isEnded (l .stage) then Over (endBy (l .stage)) (endAddress l (endBy (l .stage)))
+    else Out (heldCycle (h .step) l h w bs)
 
 -- .. beside the two records
 abbrev pub heldResponse : Pair → List ℕ → List ℕ → HeldResponse
@@ -137,7 +141,8 @@ beginning part p k stage verify = pairOf (recordAt part p k stage verify) (usual
 unfoldable pub startHeldResponse : Bool → Part → Pins → ℕ → List ℕ → List ℕ → List ℕ → ℕ → HeldResponse
 startHeldResponse verify part p k w sc bs room =
     if eqb (startHeldNumber part p k (length w) (length sc) bs room) 0 then heldResponse (beginning part p k Clearing verify) w bs
-    else heldRefused (startHeldNumber part p k (length w) (length sc) bs room) (beginning part p k (Ended (startHeldNumber part p k (length w) (length sc) bs room)) verify)
+    else heldRefused (startHeldNumber part p k (length w) (length sc) bs room)
+    (beginning part p k (Ended (startHeldNumber part p k (length w) (length sc) bs room)) verify)
 
 -- .. what it tells
 unfoldable pub startHeldTold : Bool → Part → Pins → ℕ → List ℕ → List ℕ → List ℕ → ℕ → ℕ × List Cycle × List ℕ

@@ -27,7 +27,10 @@ ghost use lib.ListN.{length};
 ghost use Rattle.units.specs.Units.{units, spare, lent};
 ghost use Rattle.loader_steps.specs.Front.{badRecord, sayingTold};
 ghost use Rattle.loader_held.specs.Holds.{heldScratch, heldRoom};
-ghost use Rattle.loader_held_steps.specs.HeldFront.{interrupting, fetching, waitsErase, badHold, badPair, placeNext, usedNumber, startHeldNumber, stepHeldNumber, heldSayingIn, heldResponse, heldRefused, beginning, startHeldResponse, startHeldTold, heldMove, stepHeldResponse, stepHeldTold, heldScratchLeft, heldRoomLeft};
+ghost use Rattle.loader_held_steps.specs.HeldFront.{interrupting, fetching, waitsErase, badHold, badPair, placeNext, usedNumber};
+ghost use Rattle.loader_held_steps.specs.HeldFront.{startHeldNumber, stepHeldNumber, heldSayingIn, heldResponse, heldRefused};
+ghost use Rattle.loader_held_steps.specs.HeldFront.{beginning, startHeldResponse, startHeldTold, heldMove, stepHeldResponse};
+ghost use Rattle.loader_held_steps.specs.HeldFront.{stepHeldTold, heldScratchLeft, heldRoomLeft};
 
 // The answer beside the next records.
 pub struct HeldResponse {
@@ -240,8 +243,12 @@ pub fn start_held(
     addresses: &[u32],
     room: &[u8],
 ) -> HeldResponse
-    ensures result { λ r. ⌜ r ≡ startHeldResponse verify part p block (lent (part .word) (now (wanted .entry))) (lent (part .word) (now (scratch .entry))) (now (addresses .entry)) (length (now (room .entry))) ⌝ }
-    ensures told { λ r. ⌜ sayingTold (r .saying) ≡ startHeldTold verify part p block (lent (part .word) (now (wanted .entry))) (lent (part .word) (now (scratch .entry))) (now (addresses .entry)) (length (now (room .entry))) ⌝ }
+    ensures result { λ r. ⌜ r
+        ≡ startHeldResponse verify part p block (lent (part .word) (now (wanted .entry))) (lent (part .word) (now (scratch .entry)))
+        (now (addresses .entry)) (length (now (room .entry))) ⌝ }
+    ensures told { λ r. ⌜ sayingTold (r .saying)
+        ≡ startHeldTold verify part p block (lent (part .word) (now (wanted .entry))) (lent (part .word) (now (scratch .entry)))
+        (now (addresses .entry)) (length (now (room .entry))) ⌝ }
 {
     let word = part.word;
     let n = start_number(
@@ -274,9 +281,14 @@ fn take(
     addresses: &[u32],
     room: &mut [u8],
 ) -> Pair
-    ensures result { λ r. ⌜ r ≡ heldMove l h v (units (l .part .word) (now (wanted .entry))) (units (l .part .word) (now (scratch .entry))) (now (polls .entry)) (now (addresses .entry)) ⌝ }
-    ensures scratch_left { λ _. ⌜ units (l .part .word) (now (scratch .exit)) ≡ heldScratch (h .step) l h v (length (now (addresses .entry))) (units (l .part .word) (now (wanted .entry))) (units (l .part .word) (now (scratch .entry))) ⌝ }
-    ensures room_left { λ _. ⌜ units (l .part .word) (now (room .exit)) ≡ heldRoom (h .step) (l .part .word) h v (units (l .part .word) (now (room .entry))) ⌝ }
+    ensures result { λ r. ⌜ r
+        ≡ heldMove l h v (units (l .part .word) (now (wanted .entry))) (units (l .part .word) (now (scratch .entry))) (now (polls .entry))
+        (now (addresses .entry)) ⌝ }
+    ensures scratch_left { λ _. ⌜ units (l .part .word) (now (scratch .exit))
+        ≡ heldScratch (h .step) l h v (length (now (addresses .entry))) (units (l .part .word) (now (wanted .entry)))
+        (units (l .part .word) (now (scratch .entry))) ⌝ }
+    ensures room_left { λ _. ⌜ units (l .part .word) (now (room .exit))
+        ≡ heldRoom (h .step) (l .part .word) h v (units (l .part .word) (now (room .entry))) ⌝ }
     ensures room_spare { λ _. ⌜ spare (l .part .word) (now (room .exit)) ≡ spare (l .part .word) (now (room .entry)) ⌝ }
 {
     let part = l.part;
@@ -296,10 +308,20 @@ pub fn step_held(
     addresses: &[u32],
     room: &mut [u8],
 ) -> HeldResponse
-    ensures result { λ r. ⌜ r ≡ stepHeldResponse (pair .loader) (pair .hold) v (lent (pair .loader .part .word) (now (wanted .entry))) (lent (pair .loader .part .word) (now (scratch .entry))) (now (polls .entry)) (now (addresses .entry)) (length (now (room .entry))) ⌝ }
-    ensures told { λ r. ⌜ sayingTold (r .saying) ≡ stepHeldTold (pair .loader) (pair .hold) v (lent (pair .loader .part .word) (now (wanted .entry))) (lent (pair .loader .part .word) (now (scratch .entry))) (now (polls .entry)) (now (addresses .entry)) (length (now (room .entry))) ⌝ }
-    ensures scratch_left { λ _. ⌜ now (scratch .exit) ≡ heldScratchLeft (pair .loader) (pair .hold) v (now (wanted .entry)) (now (scratch .entry)) (now (addresses .entry)) (length (now (room .entry))) ⌝ }
-    ensures room_left { λ _. ⌜ now (room .exit) ≡ heldRoomLeft (pair .loader) (pair .hold) v (now (wanted .entry)) (now (scratch .entry)) (now (addresses .entry)) (now (room .entry)) ⌝ }
+    ensures result { λ r. ⌜ r
+        ≡ stepHeldResponse (pair .loader) (pair .hold) v (lent (pair .loader .part .word) (now (wanted .entry)))
+        (lent (pair .loader .part .word) (now (scratch .entry))) (now (polls .entry)) (now (addresses .entry))
+        (length (now (room .entry))) ⌝ }
+    ensures told { λ r. ⌜ sayingTold (r .saying)
+        ≡ stepHeldTold (pair .loader) (pair .hold) v (lent (pair .loader .part .word) (now (wanted .entry)))
+        (lent (pair .loader .part .word) (now (scratch .entry))) (now (polls .entry)) (now (addresses .entry))
+        (length (now (room .entry))) ⌝ }
+    ensures scratch_left { λ _. ⌜ now (scratch .exit)
+        ≡ heldScratchLeft (pair .loader) (pair .hold) v (now (wanted .entry)) (now (scratch .entry)) (now (addresses .entry))
+        (length (now (room .entry))) ⌝ }
+    ensures room_left { λ _. ⌜ now (room .exit)
+        ≡ heldRoomLeft (pair .loader) (pair .hold) v (now (wanted .entry)) (now (scratch .entry)) (now (addresses .entry))
+        (now (room .entry)) ⌝ }
 {
     let l = pair.loader;
     let h = pair.hold;

@@ -56,7 +56,12 @@ lookedAt w h = record { differs = ltb (diffFrom 0 w h) (length w); rises = rises
 -- a load that can begin no operation, of n units: with nothing to do it ends well, else by the first operation
 unfoldable pub triedOf : Part → State → Pins → ℕ → Found → Ran
 triedOf part s p n f =
-    if f .differs then record { count = n + 5; end = faultEnd part p (f .rises); address = 0; state = atRest s Status (faultBits part p (f .rises)) }
+    if f .differs then record {
+      count = n + 5;
+      end = faultEnd part p (f .rises);
+      address = 0;
+      state = atRest s Status (faultBits part p (f .rises));
+    }
     else record { count = n + 2; end = 0; address = 0; state = atRest s Array 0x80 }
 
 -- the mode that a good load leaves, by what its operations cost
@@ -65,12 +70,18 @@ modeBy cost = if eqb cost 0 then Array else Status
 
 -- a good load of block k, of n units: 50H, FFH and the reads, then its operations
 abbrev pub finishedOf : State → ℕ → ℕ → Done → Ran
-finishedOf s k n w = record { count = n + 2 + w .cycles; end = 0; address = 0; state = atRest (erasedFrom (w .erased) k s) (modeBy (w .cycles)) 0x80 }
+finishedOf s k n w =
+    record { count = n + 2 + w .cycles; end = 0; address = 0; state = atRest (erasedFrom (w .erased) k s) (modeBy (w .cycles)) 0x80 }
 
 -- a verify of n units at a whose first difference is at place m, with the two units there
 unfoldable pub verdictOf : Bool → State → ℕ → ℕ → ℕ → ℕ → ℕ → Ran
 verdictOf word s a n m held wanted =
-    if ltb m n then record { count = m + 2; end = 25; address = byteAt word (a + m) (eqb (held % 256) (wanted % 256)); state = atRest s Array (s .status) }
+    if ltb m n then record {
+      count = m + 2;
+      end = 25;
+      address = byteAt word (a + m) (eqb (held % 256) (wanted % 256));
+      state = atRest s Array (s .status);
+    }
     else record { count = n + 1; end = 0; address = 0; state = atRest s Array (s .status) }
 
 -- a run that is refused

@@ -26,7 +26,8 @@ ghost use Rattle.loader_blocks.specs.Blocks.{workDone};
 ghost use Rattle.loader_run.specs.Runs.{lentNumber, lentRun};
 ghost use Rattle.loader_run_claims.specs.Ends.{shut, erasedFrom, ranAs, bytesAs, scratchAs};
 ghost use Rattle.loader_verify_claims.specs.Verified.{unitsRead, verifyRan};
-ghost use Rattle.loader_quick.specs.Quick.{Placed, heldUnits, stuckBy, faultEnd, faultBits, lookedAt, triedOf, modeBy, finishedOf, verdictOf, refusedRan, Timed};
+ghost use Rattle.loader_quick.specs.Quick.{Placed, heldUnits, stuckBy, faultEnd, faultBits, lookedAt, triedOf, modeBy, finishedOf};
+ghost use Rattle.loader_quick.specs.Quick.{verdictOf, refusedRan, Timed};
 
 // What an operation costs that takes so many cycles: its two writes, and the polls.
 fn cost_of(time: u16) -> u32
@@ -121,8 +122,11 @@ fn stuck_load(
     scratch: &mut [u8],
 ) -> Ran
     requires { ⌜ Placed part block (length (now array)) (length (now wanted)) (length (now scratch)) ⌝ }
-    ensures result { λ r. ⌜ r ≡ triedOf part s p (length (units (part .word) (now (wanted .entry)))) (lookedAt (units (part .word) (now (wanted .entry))) (heldUnits part block (now (array .entry)) (now (wanted .entry)))) ⌝ }
-    ensures scratch_left { λ _. ⌜ units (part .word) (now (scratch .exit)) ≡ heldUnits part block (now (array .entry)) (now (wanted .entry)) ⌝ }
+    ensures result { λ r. ⌜ r
+        ≡ triedOf part s p (length (units (part .word) (now (wanted .entry))))
+        (lookedAt (units (part .word) (now (wanted .entry))) (heldUnits part block (now (array .entry)) (now (wanted .entry)))) ⌝ }
+    ensures scratch_left { λ _. ⌜ units (part .word) (now (scratch .exit))
+        ≡ heldUnits part block (now (array .entry)) (now (wanted .entry)) ⌝ }
 {
     let word = part.word;
     let a = first_byte(part, block);
@@ -192,8 +196,12 @@ fn worked(
     scratch: &mut [u8],
 ) -> Ran
     requires { ⌜ Placed part block (length (now array)) (length (now wanted)) (length (now scratch)) × (once ≤ 65537) × (each ≤ 65537) ⌝ }
-    ensures result { λ r. ⌜ r ≡ finishedOf s block (length (units (part .word) (now (wanted .entry)))) (workDone (part .word) once each (units (part .word) (now (wanted .entry))) (heldUnits part block (now (array .entry)) (now (wanted .entry)))) ⌝ }
-    ensures array_left { λ _. ⌜ units (part .word) (now (array .exit)) ≡ overlaid (units (part .word) (now (array .entry))) (startOf part block) (units (part .word) (now (wanted .entry))) ⌝ }
+    ensures result { λ r. ⌜ r
+        ≡ finishedOf s block (length (units (part .word) (now (wanted .entry))))
+        (workDone (part .word) once each (units (part .word) (now (wanted .entry)))
+        (heldUnits part block (now (array .entry)) (now (wanted .entry)))) ⌝ }
+    ensures array_left { λ _. ⌜ units (part .word) (now (array .exit))
+        ≡ overlaid (units (part .word) (now (array .entry))) (startOf part block) (units (part .word) (now (wanted .entry))) ⌝ }
     ensures scratch_left { λ _. ⌜ units (part .word) (now (scratch .exit)) ≡ units (part .word) (now (wanted .entry)) ⌝ }
 {
     let word = part.word;
@@ -206,9 +214,17 @@ fn worked(
 // A load: 50H, FFH and the first reads, then the operations.
 fn loaded(j: Job, array: &mut [u8], wanted: &[u8], scratch: &mut [u8]) -> Ran
     requires { ⌜ Placed (j .device .part) (j .block) (length (now array)) (length (now wanted)) (length (now scratch)) ⌝ }
-    ensures result { λ r. ⌜ r ≡ ranAs false j (units (j .device .part .word) (now (wanted .entry))) (heldUnits (j .device .part) (j .block) (now (array .entry)) (now (wanted .entry))) ⌝ }
-    ensures array_left { λ _. ⌜ units (j .device .part .word) (now (array .exit)) ≡ bytesAs (j .device) (j .pins) (j .block) (startOf (j .device .part) (j .block)) (units (j .device .part .word) (now (wanted .entry))) (heldUnits (j .device .part) (j .block) (now (array .entry)) (now (wanted .entry))) (units (j .device .part .word) (now (array .entry))) ⌝ }
-    ensures scratch_left { λ _. ⌜ units (j .device .part .word) (now (scratch .exit)) ≡ scratchAs (j .device) (j .pins) (j .block) (units (j .device .part .word) (now (wanted .entry))) (heldUnits (j .device .part) (j .block) (now (array .entry)) (now (wanted .entry))) ⌝ }
+    ensures result { λ r. ⌜ r
+        ≡ ranAs false j (units (j .device .part .word) (now (wanted .entry)))
+        (heldUnits (j .device .part) (j .block) (now (array .entry)) (now (wanted .entry))) ⌝ }
+    ensures array_left { λ _. ⌜ units (j .device .part .word) (now (array .exit))
+        ≡ bytesAs (j .device) (j .pins) (j .block) (startOf (j .device .part) (j .block))
+        (units (j .device .part .word) (now (wanted .entry)))
+        (heldUnits (j .device .part) (j .block) (now (array .entry)) (now (wanted .entry)))
+        (units (j .device .part .word) (now (array .entry))) ⌝ }
+    ensures scratch_left { λ _. ⌜ units (j .device .part .word) (now (scratch .exit))
+        ≡ scratchAs (j .device) (j .pins) (j .block) (units (j .device .part .word) (now (wanted .entry)))
+        (heldUnits (j .device .part) (j .block) (now (array .entry)) (now (wanted .entry))) ⌝ }
     ensures timed { λ _. ⌜ Timed (j .device) ⌝ }
 {
     let d = j.device;
@@ -250,8 +266,13 @@ fn verdict(word: bool, s: State, a: usize, n: usize, m: usize, held: u16, wanted
 // A verify: FFH, then the reads.
 fn verified(part: Part, s: State, block: u8, array: &[u8], wanted: &[u8], scratch: &mut [u8]) -> Ran
     requires { ⌜ Placed part block (length (now array)) (length (now wanted)) (length (now scratch)) ⌝ }
-    ensures result { λ r. ⌜ r ≡ verifyRan part s (startOf part block) (units (part .word) (now (wanted .entry))) (heldUnits part block (now (array .entry)) (now (wanted .entry))) ⌝ }
-    ensures scratch_left { λ _. ⌜ units (part .word) (now (scratch .exit)) ≡ overwritten (unitsRead (units (part .word) (now (wanted .entry))) (heldUnits part block (now (array .entry)) (now (wanted .entry)))) (heldUnits part block (now (array .entry)) (now (wanted .entry))) (units (part .word) (now (scratch .entry))) ⌝ }
+    ensures result { λ r. ⌜ r
+        ≡ verifyRan part s (startOf part block) (units (part .word) (now (wanted .entry)))
+        (heldUnits part block (now (array .entry)) (now (wanted .entry))) ⌝ }
+    ensures scratch_left { λ _. ⌜ units (part .word) (now (scratch .exit))
+        ≡ overwritten
+        (unitsRead (units (part .word) (now (wanted .entry))) (heldUnits part block (now (array .entry)) (now (wanted .entry))))
+        (heldUnits part block (now (array .entry)) (now (wanted .entry))) (units (part .word) (now (scratch .entry))) ⌝ }
 {
     let word = part.word;
     let a = first_byte(part, block);
@@ -266,9 +287,17 @@ fn verified(part: Part, s: State, block: u8, array: &[u8], wanted: &[u8], scratc
 // A load, and the verify after it where the load ended well.
 fn load_verify(j: Job, array: &mut [u8], wanted: &[u8], scratch: &mut [u8]) -> Ran
     requires { ⌜ Placed (j .device .part) (j .block) (length (now array)) (length (now wanted)) (length (now scratch)) ⌝ }
-    ensures result { λ r. ⌜ r ≡ ranAs true j (units (j .device .part .word) (now (wanted .entry))) (heldUnits (j .device .part) (j .block) (now (array .entry)) (now (wanted .entry))) ⌝ }
-    ensures array_left { λ _. ⌜ units (j .device .part .word) (now (array .exit)) ≡ bytesAs (j .device) (j .pins) (j .block) (startOf (j .device .part) (j .block)) (units (j .device .part .word) (now (wanted .entry))) (heldUnits (j .device .part) (j .block) (now (array .entry)) (now (wanted .entry))) (units (j .device .part .word) (now (array .entry))) ⌝ }
-    ensures scratch_left { λ _. ⌜ units (j .device .part .word) (now (scratch .exit)) ≡ scratchAs (j .device) (j .pins) (j .block) (units (j .device .part .word) (now (wanted .entry))) (heldUnits (j .device .part) (j .block) (now (array .entry)) (now (wanted .entry))) ⌝ }
+    ensures result { λ r. ⌜ r
+        ≡ ranAs true j (units (j .device .part .word) (now (wanted .entry)))
+        (heldUnits (j .device .part) (j .block) (now (array .entry)) (now (wanted .entry))) ⌝ }
+    ensures array_left { λ _. ⌜ units (j .device .part .word) (now (array .exit))
+        ≡ bytesAs (j .device) (j .pins) (j .block) (startOf (j .device .part) (j .block))
+        (units (j .device .part .word) (now (wanted .entry)))
+        (heldUnits (j .device .part) (j .block) (now (array .entry)) (now (wanted .entry)))
+        (units (j .device .part .word) (now (array .entry))) ⌝ }
+    ensures scratch_left { λ _. ⌜ units (j .device .part .word) (now (scratch .exit))
+        ≡ scratchAs (j .device) (j .pins) (j .block) (units (j .device .part .word) (now (wanted .entry)))
+        (heldUnits (j .device .part) (j .block) (now (array .entry)) (now (wanted .entry))) ⌝ }
     ensures timed { λ _. ⌜ Timed (j .device) ⌝ }
 {
     let d = j.device;
@@ -292,9 +321,17 @@ fn load_verify(j: Job, array: &mut [u8], wanted: &[u8], scratch: &mut [u8]) -> R
 // A load, with or without the verify after it.
 fn load_by(verify: bool, j: Job, array: &mut [u8], wanted: &[u8], scratch: &mut [u8]) -> Ran
     requires { ⌜ Placed (j .device .part) (j .block) (length (now array)) (length (now wanted)) (length (now scratch)) ⌝ }
-    ensures result { λ r. ⌜ r ≡ ranAs verify j (units (j .device .part .word) (now (wanted .entry))) (heldUnits (j .device .part) (j .block) (now (array .entry)) (now (wanted .entry))) ⌝ }
-    ensures array_left { λ _. ⌜ units (j .device .part .word) (now (array .exit)) ≡ bytesAs (j .device) (j .pins) (j .block) (startOf (j .device .part) (j .block)) (units (j .device .part .word) (now (wanted .entry))) (heldUnits (j .device .part) (j .block) (now (array .entry)) (now (wanted .entry))) (units (j .device .part .word) (now (array .entry))) ⌝ }
-    ensures scratch_left { λ _. ⌜ units (j .device .part .word) (now (scratch .exit)) ≡ scratchAs (j .device) (j .pins) (j .block) (units (j .device .part .word) (now (wanted .entry))) (heldUnits (j .device .part) (j .block) (now (array .entry)) (now (wanted .entry))) ⌝ }
+    ensures result { λ r. ⌜ r
+        ≡ ranAs verify j (units (j .device .part .word) (now (wanted .entry)))
+        (heldUnits (j .device .part) (j .block) (now (array .entry)) (now (wanted .entry))) ⌝ }
+    ensures array_left { λ _. ⌜ units (j .device .part .word) (now (array .exit))
+        ≡ bytesAs (j .device) (j .pins) (j .block) (startOf (j .device .part) (j .block))
+        (units (j .device .part .word) (now (wanted .entry)))
+        (heldUnits (j .device .part) (j .block) (now (array .entry)) (now (wanted .entry)))
+        (units (j .device .part .word) (now (array .entry))) ⌝ }
+    ensures scratch_left { λ _. ⌜ units (j .device .part .word) (now (scratch .exit))
+        ≡ scratchAs (j .device) (j .pins) (j .block) (units (j .device .part .word) (now (wanted .entry)))
+        (heldUnits (j .device .part) (j .block) (now (array .entry)) (now (wanted .entry))) ⌝ }
     ensures { λ _. ⌜ Timed (j .device) ⌝ }
 {
     if verify {
@@ -334,7 +371,8 @@ fn done(j: Job, array: &mut [u8], wanted: &[u8], scratch: &mut [u8]) -> Ran
     requires { ⌜ lentNumber j (length (now array)) (length (now wanted)) (length (now scratch)) ≡ 0 ⌝ }
     ensures result { λ r. ⌜ r ≡ lentRun j (now (array .entry)) (now (wanted .entry)) (now (scratch .entry)) .ran ⌝ }
     ensures array_left { λ _. ⌜ now (array .exit) ≡ lentRun j (now (array .entry)) (now (wanted .entry)) (now (scratch .entry)) .bytes ⌝ }
-    ensures scratch_left { λ _. ⌜ now (scratch .exit) ≡ lentRun j (now (array .entry)) (now (wanted .entry)) (now (scratch .entry)) .scratch ⌝ }
+    ensures scratch_left { λ _. ⌜ now (scratch .exit)
+        ≡ lentRun j (now (array .entry)) (now (wanted .entry)) (now (scratch .entry)) .scratch ⌝ }
 {
     let d = j.device;
     let s = j.state;
@@ -350,7 +388,8 @@ fn done(j: Job, array: &mut [u8], wanted: &[u8], scratch: &mut [u8]) -> Ran
 pub fn run_quick(j: Job, array: &mut [u8], wanted: &[u8], scratch: &mut [u8]) -> Ran
     ensures result { λ r. ⌜ r ≡ lentRun j (now (array .entry)) (now (wanted .entry)) (now (scratch .entry)) .ran ⌝ }
     ensures array_left { λ _. ⌜ now (array .exit) ≡ lentRun j (now (array .entry)) (now (wanted .entry)) (now (scratch .entry)) .bytes ⌝ }
-    ensures scratch_left { λ _. ⌜ now (scratch .exit) ≡ lentRun j (now (array .entry)) (now (wanted .entry)) (now (scratch .entry)) .scratch ⌝ }
+    ensures scratch_left { λ _. ⌜ now (scratch .exit)
+        ≡ lentRun j (now (array .entry)) (now (wanted .entry)) (now (scratch .entry)) .scratch ⌝ }
 {
     let s = j.state;
     let n = lent_number(j, array.len(), wanted.len(), scratch.len());

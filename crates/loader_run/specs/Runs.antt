@@ -56,7 +56,13 @@ beginning j xs sc = begin (j .device) (j .state) (recordOf (j .work) (j .device 
 
 -- what is returned of a load under way
 abbrev pub ranBy : Config → Ran
-ranBy c = record { count = c .count; end = endBy (c .loader .stage); address = endAddress (c .loader) (endBy (c .loader .stage)); state = c .state }
+ranBy c =
+    record {
+      count = c .count;
+      end = endBy (c .loader .stage);
+      address = endAddress (c .loader) (endBy (c .loader .stage));
+      state = c .state;
+    }
 
 -- the load made to its end
 unfoldable pub driven : Device → List ℕ → Config → Config
@@ -104,5 +110,6 @@ asBytes word r = record { ran = r .ran; bytes = back word (r .bytes); scratch = 
 unfoldable pub lentRun : Job → List ℕ → List ℕ → List ℕ → RunLeft
 lentRun j array wanted scratch =
     if eqb (lentNumber j (length array) (length wanted) (length scratch)) 0
-    then asBytes (j .device .part .word) (runLeft j (lent (j .device .part .word) array) (lent (j .device .part .word) wanted) (lent (j .device .part .word) scratch))
+    then asBytes (j .device .part .word)
+    (runLeft j (lent (j .device .part .word) array) (lent (j .device .part .word) wanted) (lent (j .device .part .word) scratch))
     else runRefused (lentNumber j (length array) (length wanted) (length scratch)) (j .state) array scratch

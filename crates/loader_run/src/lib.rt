@@ -89,8 +89,10 @@ fn refusal_number(seen: Seen) -> u8
 
 // The loader takes what the model answered.
 fn taken(seen: Seen, l: Loader, wanted: &[u8], scratch: &mut [u8]) -> Loader
-    ensures result { λ r. ⌜ r ≡ loaderBy seen l (units (l .part .word) (now (wanted .entry))) (units (l .part .word) (now (scratch .entry))) ⌝ }
-    ensures scratch_left { λ _. ⌜ units (l .part .word) (now (scratch .exit)) ≡ scratchBy seen l (units (l .part .word) (now (wanted .entry))) (units (l .part .word) (now (scratch .entry))) ⌝ }
+    ensures result { λ r. ⌜ r
+        ≡ loaderBy seen l (units (l .part .word) (now (wanted .entry))) (units (l .part .word) (now (scratch .entry))) ⌝ }
+    ensures scratch_left { λ _. ⌜ units (l .part .word) (now (scratch .exit))
+        ≡ scratchBy seen l (units (l .part .word) (now (wanted .entry))) (units (l .part .word) (now (scratch .entry))) ⌝ }
 {
     if is_refused(seen) {
         return ended_by(l, refusal_number(seen));
@@ -112,13 +114,24 @@ fn here(start: u32, l: Loader) -> u32
 
 // One cycle made, by the block's first address. Refusals 1 to 6 do not apply to it.
 fn turn(d: Device, start: u32, h: Held, wanted: &[u8], scratch: &mut [u8], array: &mut [u8]) -> Held
-    requires { ⌜ (h .loader .part ≡ d .part) × (start ≡ firstAddress (h .loader)) × (judgeOf d (h .state) (cycleOf (h .loader) (units (d .part .word) (now wanted))) (length (units (d .part .word) (now array))) 0 ≡ 0) ⌝ }
+    requires { ⌜ (h .loader .part ≡ d .part) × (start ≡ firstAddress (h .loader))
+        × (judgeOf d (h .state) (cycleOf (h .loader) (units (d .part .word) (now wanted))) (length (units (d .part .word) (now array))) 0
+        ≡ 0) ⌝ }
     ensures loader { λ r. ⌜ r .loader
-        ≡ loaderBy (answerTo d (units (d .part .word) (now (wanted .entry))) (h .loader) (h .state) (units (d .part .word) (now (array .entry))) .seen) (h .loader) (units (d .part .word) (now (wanted .entry))) (units (d .part .word) (now (scratch .entry))) ⌝ }
-    ensures state { λ r. ⌜ r .state ≡ answerTo d (units (d .part .word) (now (wanted .entry))) (h .loader) (h .state) (units (d .part .word) (now (array .entry))) .state ⌝ }
+        ≡ loaderBy
+        (answerTo d (units (d .part .word) (now (wanted .entry))) (h .loader) (h .state)
+        (units (d .part .word) (now (array .entry))) .seen) (h .loader) (units (d .part .word) (now (wanted .entry)))
+        (units (d .part .word) (now (scratch .entry))) ⌝ }
+    ensures state { λ r. ⌜ r .state
+        ≡ answerTo d (units (d .part .word) (now (wanted .entry))) (h .loader) (h .state)
+        (units (d .part .word) (now (array .entry))) .state ⌝ }
     ensures scratch_left { λ _. ⌜ units (d .part .word) (now (scratch .exit))
-        ≡ scratchBy (answerTo d (units (d .part .word) (now (wanted .entry))) (h .loader) (h .state) (units (d .part .word) (now (array .entry))) .seen) (h .loader) (units (d .part .word) (now (wanted .entry))) (units (d .part .word) (now (scratch .entry))) ⌝ }
-    ensures array_left { λ _. ⌜ units (d .part .word) (now (array .exit)) ≡ arrayTo d (units (d .part .word) (now (wanted .entry))) (h .loader) (h .state) (units (d .part .word) (now (array .entry))) ⌝ }
+        ≡ scratchBy
+        (answerTo d (units (d .part .word) (now (wanted .entry))) (h .loader) (h .state)
+        (units (d .part .word) (now (array .entry))) .seen) (h .loader) (units (d .part .word) (now (wanted .entry)))
+        (units (d .part .word) (now (scratch .entry))) ⌝ }
+    ensures array_left { λ _. ⌜ units (d .part .word) (now (array .exit))
+        ≡ arrayTo d (units (d .part .word) (now (wanted .entry))) (h .loader) (h .state) (units (d .part .word) (now (array .entry))) ⌝ }
 {
     let l = h.loader;
     let s = h.state;
@@ -156,10 +169,19 @@ pub fn record_for(j: Job) -> Loader
 
 // The job made to its end, where nothing refuses it.
 fn drive(j: Job, wanted: &[u8], scratch: &mut [u8], array: &mut [u8]) -> Ran
-    requires { ⌜ runNumber j (length (units (j .device .part .word) (now array))) (length (units (j .device .part .word) (now wanted))) (length (units (j .device .part .word) (now scratch))) ≡ 0 ⌝ }
-    ensures result { λ r. ⌜ r ≡ ranBy (driven (j .device) (units (j .device .part .word) (now (wanted .entry))) (beginning j (units (j .device .part .word) (now (array .entry))) (units (j .device .part .word) (now (scratch .entry))))) ⌝ }
-    ensures scratch_left { λ _. ⌜ units (j .device .part .word) (now (scratch .exit)) ≡ driven (j .device) (units (j .device .part .word) (now (wanted .entry))) (beginning j (units (j .device .part .word) (now (array .entry))) (units (j .device .part .word) (now (scratch .entry)))) .scratch ⌝ }
-    ensures array_left { λ _. ⌜ units (j .device .part .word) (now (array .exit)) ≡ driven (j .device) (units (j .device .part .word) (now (wanted .entry))) (beginning j (units (j .device .part .word) (now (array .entry))) (units (j .device .part .word) (now (scratch .entry)))) .bytes ⌝ }
+    requires { ⌜ runNumber j (length (units (j .device .part .word) (now array))) (length (units (j .device .part .word) (now wanted)))
+        (length (units (j .device .part .word) (now scratch))) ≡ 0 ⌝ }
+    ensures result { λ r. ⌜ r
+        ≡ ranBy
+        (driven (j .device) (units (j .device .part .word) (now (wanted .entry)))
+        (beginning j (units (j .device .part .word) (now (array .entry))) (units (j .device .part .word) (now (scratch .entry))))) ⌝ }
+    ensures scratch_left { λ _. ⌜ units (j .device .part .word) (now (scratch .exit))
+        ≡ driven (j .device) (units (j .device .part .word) (now (wanted .entry)))
+        (beginning j (units (j .device .part .word) (now (array .entry)))
+        (units (j .device .part .word) (now (scratch .entry)))) .scratch ⌝ }
+    ensures array_left { λ _. ⌜ units (j .device .part .word) (now (array .exit))
+        ≡ driven (j .device) (units (j .device .part .word) (now (wanted .entry)))
+        (beginning j (units (j .device .part .word) (now (array .entry))) (units (j .device .part .word) (now (scratch .entry)))) .bytes ⌝ }
 {
     let d = j.device;
     let mut moving = record_for(j);
@@ -245,7 +267,8 @@ pub fn run_number(j: Job, array: usize, wanted: usize, scratch: usize) -> u8
 pub fn run(j: Job, array: &mut [u8], wanted: &[u8], scratch: &mut [u8]) -> Ran
     ensures result { λ r. ⌜ r ≡ lentRun j (now (array .entry)) (now (wanted .entry)) (now (scratch .entry)) .ran ⌝ }
     ensures array_left { λ _. ⌜ now (array .exit) ≡ lentRun j (now (array .entry)) (now (wanted .entry)) (now (scratch .entry)) .bytes ⌝ }
-    ensures scratch_left { λ _. ⌜ now (scratch .exit) ≡ lentRun j (now (array .entry)) (now (wanted .entry)) (now (scratch .entry)) .scratch ⌝ }
+    ensures scratch_left { λ _. ⌜ now (scratch .exit)
+        ≡ lentRun j (now (array .entry)) (now (wanted .entry)) (now (scratch .entry)) .scratch ⌝ }
 {
     let d = j.device;
     let s = j.state;

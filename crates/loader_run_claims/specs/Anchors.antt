@@ -24,7 +24,8 @@ levels rp vpp wp = record { rp = rp; vpp = vpp; wp = wp }
 abbrev pub startsAt : Pins → ℕ → Bool → ℕ → Bool
 startsAt p n word k =
     let d : Device = deviceOf n word in
-    (eqb (lentNumber (jobOf (Load true) d freshState p k) (bytesIn word (sizeOf (d .part))) (bytesIn word (lengthOf (d .part) k)) (bytesIn word (lengthOf (d .part) k))) 0
+    (eqb (lentNumber (jobOf (Load true) d freshState p k) (bytesIn word (sizeOf (d .part))) (bytesIn word (lengthOf (d .part) k))
+    (bytesIn word (lengthOf (d .part) k))) 0
     && vppHigh (d .part) p)
     && unlocked (d .part) p 0
 
@@ -44,6 +45,7 @@ largeStart p word = ((startsUpTo p 5 word 4 && startsUpTo p 6 word 4) && startsU
 -- devices 1 to 4 with RP# at V_HH; devices 5 to 8 at 12 V and at 5 V, with RP# at V_HH and with WP# high, in bytes and in words
 abbrev pub allStart : Bool
 allStart =
-    ((((fourStart (levels 2 12000 0) && largeStart (levels 2 12000 0) false) && largeStart (levels 1 12000 1) false) && largeStart (levels 1 5000 1) false)
+    ((((fourStart (levels 2 12000 0) && largeStart (levels 2 12000 0) false) && largeStart (levels 1 12000 1) false)
+    && largeStart (levels 1 5000 1) false)
     && (largeStart (levels 2 12000 0) true && largeStart (levels 1 12000 1) true))
     && (largeStart (levels 1 5000 1) true && largeStart (levels 2 5000 0) true)

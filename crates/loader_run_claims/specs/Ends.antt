@@ -60,7 +60,8 @@ programTried p x b = busCycle p Write x 0x40 ∷ busCycle p Write x b ∷ busCyc
 
 -- the cycles up to such an end: the first reads, then the erase, or the program of the first byte that differs
 abbrev pub faultCycles : Pins → ℕ → List ℕ → List ℕ → List Cycle
-faultCycles p a w ys = openingThen p a (length w) (if risesIn w ys then eraseTried p a else programTried p (a + diffFrom 0 w ys) (getD w (diffFrom 0 w ys) 0))
+faultCycles p a w ys =
+    openingThen p a (length w) (if risesIn w ys then eraseTried p a else programTried p (a + diffFrom 0 w ys) (getD w (diffFrom 0 w ys) 0))
 
 -- the mode that a good load leaves: read array after the first reads, read status after an operation
 abbrev pub loadedMode : List ℕ → List ℕ → Mode
@@ -72,11 +73,26 @@ endMode verify w ys = if verify then Array else loadedMode w ys
 
 -- a state with the counts that a load leaves: one more erase of block k where it erases
 abbrev pub erasedFrom : Bool → ℕ → State → State
-erasedFrom erases k s = record { mode = s .mode; status = s .status; phase = s .phase; left = s .left; address = s .address; wear = if erases then worn (s .wear) k else s .wear }
+erasedFrom erases k s =
+    record {
+      mode = s .mode;
+      status = s .status;
+      phase = s .phase;
+      left = s .left;
+      address = s .address;
+      wear = if erases
+          then worn (s .wear) k else s .wear;
+    }
 
 -- a run that ends well, and one that ends by a fault at cycle n + 5; it erases where some bit must rise
 abbrev pub wellRan : Bool → Device → State → ℕ → List ℕ → List ℕ → Ran
-wellRan verify d s k w ys = record { count = formulaBy verify d w ys; end = 0; address = 0; state = atRest (erasedFrom (risesIn w ys) k s) (endMode verify w ys) 0x80 }
+wellRan verify d s k w ys =
+    record {
+      count = formulaBy verify d w ys;
+      end = 0;
+      address = 0;
+      state = atRest (erasedFrom (risesIn w ys) k s) (endMode verify w ys) 0x80;
+    }
 
 -- what a run returns that ends by a fault n
 abbrev pub faultRan : Device → State → Pins → List ℕ → List ℕ → ℕ → Ran
@@ -84,7 +100,8 @@ faultRan d s p w ys n = record { count = length w + 5; end = n; address = 0; sta
 
 -- what such a run returns, what it leaves in array and scratch, and its cycles
 unfoldable pub ranAs : Bool → Job → List ℕ → List ℕ → Ran
-ranAs verify j w ys = if eqb (endNumber (j .device) (j .pins) (j .block) w ys) 0 then wellRan verify (j .device) (j .state) (j .block) w ys else faultRan (j .device) (j .state) (j .pins) w ys (endNumber (j .device) (j .pins) (j .block) w ys)
+ranAs verify j w ys = if eqb (endNumber (j .device) (j .pins) (j .block) w ys) 0 then wellRan verify (j .device) (j .state) (j .block) w ys
+    else faultRan (j .device) (j .state) (j .pins) w ys (endNumber (j .device) (j .pins) (j .block) w ys)
 
 -- .. what it leaves in the array
 unfoldable pub bytesAs : Device → Pins → ℕ → ℕ → List ℕ → List ℕ → List ℕ → List ℕ
@@ -101,7 +118,12 @@ cyclesAs verify d p k a w ys = if eqb (endNumber d p k w ys) 0 then cyclesBy ver
 -- what a run returns, what it leaves in array and scratch, the cycles that it makes, and that the model takes them all and nothing is cut
 pub record Whole (verify : Bool) (j : Job) (xs w sc : List ℕ) : Type 0 where
   pub ran : runLeft (doing (Load verify) j) xs w sc .ran ≡ ranAs verify j w (heldIn (startOf (j .device .part) (j .block)) (length w) xs)
-  pub bytes : runLeft (doing (Load verify) j) xs w sc .bytes ≡ bytesAs (j .device) (j .pins) (j .block) (startOf (j .device .part) (j .block)) w (heldIn (startOf (j .device .part) (j .block)) (length w) xs) xs
-  pub scratch : runLeft (doing (Load verify) j) xs w sc .scratch ≡ scratchAs (j .device) (j .pins) (j .block) w (heldIn (startOf (j .device .part) (j .block)) (length w) xs)
-  pub made : cyclesAt (doing (Load verify) j) xs w sc ≡ cyclesAs verify (j .device) (j .pins) (j .block) (startOf (j .device .part) (j .block)) w (heldIn (startOf (j .device .part) (j .block)) (length w) xs)
+  pub bytes : runLeft (doing (Load verify) j) xs w sc .bytes
+      ≡ bytesAs (j .device) (j .pins) (j .block) (startOf (j .device .part) (j .block)) w
+      (heldIn (startOf (j .device .part) (j .block)) (length w) xs) xs
+  pub scratch : runLeft (doing (Load verify) j) xs w sc .scratch
+      ≡ scratchAs (j .device) (j .pins) (j .block) w (heldIn (startOf (j .device .part) (j .block)) (length w) xs)
+  pub made : cyclesAt (doing (Load verify) j) xs w sc
+      ≡ cyclesAs verify (j .device) (j .pins) (j .block) (startOf (j .device .part) (j .block)) w
+      (heldIn (startOf (j .device .part) (j .block)) (length w) xs)
   pub smooth : smoothAt (doing (Load verify) j) xs w sc ≡ true

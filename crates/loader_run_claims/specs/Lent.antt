@@ -46,7 +46,8 @@ module _ (verify : Bool) (j : Job) (array wanted scratch : List ℕ) where
     pub block : heldIn from (length wanted) (lentRun (doing (Load verify) j) array wanted scratch .bytes) ≡ wanted
     -- every other byte is as before
     pub before : (x : ℕ) → x < from → getD (lentRun (doing (Load verify) j) array wanted scratch .bytes) x 0 ≡ getD array x 0
-    pub behind : (x : ℕ) → from + length wanted ≤ x → getD (lentRun (doing (Load verify) j) array wanted scratch .bytes) x 0 ≡ getD array x 0
+    pub behind : (x : ℕ) → from + length wanted ≤ x → getD (lentRun (doing (Load verify) j) array wanted scratch .bytes) x 0
+        ≡ getD array x 0
     -- .. so the array is the old one with the wanted bytes laid over the block
     pub array-left : lentRun (doing (Load verify) j) array wanted scratch .bytes ≡ overlaid array from wanted
     -- scratch ends as wanted
@@ -55,15 +56,25 @@ module _ (verify : Bool) (j : Job) (array wanted scratch : List ℕ) where
     -- block where some bit must rise
     pub returned : lentRun (doing (Load verify) j) array wanted scratch .ran
         ≡ record {
-          count = formulaBy verify (j .device) (units (j .device .part .word) wanted) (heldIn (startOf (j .device .part) (j .block)) (lengthOf (j .device .part) (j .block)) (units (j .device .part .word) array));
+          count =
+              formulaBy verify (j .device) (units (j .device .part .word) wanted)
+              (heldIn (startOf (j .device .part) (j .block)) (lengthOf (j .device .part) (j .block))
+              (units (j .device .part .word) array));
           end = 0;
           address = 0;
           state =
-              atRest (erasedFrom (risesIn (units (j .device .part .word) wanted) (heldIn (startOf (j .device .part) (j .block)) (lengthOf (j .device .part) (j .block)) (units (j .device .part .word) array))) (j .block) (j .state))
-              (endMode verify (units (j .device .part .word) wanted) (heldIn (startOf (j .device .part) (j .block)) (lengthOf (j .device .part) (j .block)) (units (j .device .part .word) array))) 0x80;
+              atRest (erasedFrom
+              (risesIn (units (j .device .part .word) wanted)
+              (heldIn (startOf (j .device .part) (j .block)) (lengthOf (j .device .part) (j .block))
+              (units (j .device .part .word) array))) (j .block) (j .state))
+              (endMode verify (units (j .device .part .word) wanted)
+              (heldIn (startOf (j .device .part) (j .block)) (lengthOf (j .device .part) (j .block))
+              (units (j .device .part .word) array))) 0x80;
         }
     -- the count, by the formula: n is the units of the block, and the programs counted are those of units that differ
     pub by-formula : lentRun (doing (Load verify) j) array wanted scratch .ran .count
-        ≡ formulaBy verify (j .device) (units (j .device .part .word) wanted) (heldIn (startOf (j .device .part) (j .block)) (lengthOf (j .device .part) (j .block)) (units (j .device .part .word) array))
+        ≡ formulaBy verify (j .device) (units (j .device .part .word) wanted)
+        (heldIn (startOf (j .device .part) (j .block)) (lengthOf (j .device .part) (j .block)) (units (j .device .part .word) array))
     -- and every clause of demand 3 holds of the units that were lent: the operations begun, the cycles made, and that nothing wears less
-    pub of-units : Demand3 verify j (units (j .device .part .word) array) (units (j .device .part .word) wanted) (units (j .device .part .word) scratch)
+    pub of-units : Demand3 verify j (units (j .device .part .word) array) (units (j .device .part .word) wanted)
+        (units (j .device .part .word) scratch)

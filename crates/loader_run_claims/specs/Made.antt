@@ -27,7 +27,8 @@ use Rattle.loader_run.specs.Runs.{beginning, doing}
 -- the cycles that k turns make, in their order
 abbrev pub madeIn : ℕ → Device → List ℕ → Config → List Cycle
 madeIn zero d w c = []
-madeIn (suc k) d w c = if isEnded (c .loader .stage) then madeIn k d w (turnOf d w c) else cycleOf (c .loader) w ∷ madeIn k d w (turnOf d w c)
+madeIn (suc k) d w c = if isEnded (c .loader .stage) then madeIn k d w (turnOf d w c)
+    else cycleOf (c .loader) w ∷ madeIn k d w (turnOf d w c)
 
 -- the cycles that a job makes up to its end
 abbrev pub cyclesAt : Job → List ℕ → List ℕ → List ℕ → List Cycle
@@ -43,7 +44,8 @@ isSmooth x = not (isRefusal (x .reply)) && not (isCut (x .effect))
 
 -- .. in one turn
 unfoldable pub smoothTurn : Device → List ℕ → Config → Bool
-smoothTurn d w c = if isEnded (c .loader .stage) then true else isSmooth (decideOf d (c .state) (cycleOf (c .loader) w) (length (c .bytes)) 0)
+smoothTurn d w c = if isEnded (c .loader .stage) then true
+    else isSmooth (decideOf d (c .state) (cycleOf (c .loader) w) (length (c .bytes)) 0)
 
 -- .. in each of k turns
 abbrev pub smoothIn : ℕ → Device → List ℕ → Config → Bool
@@ -84,7 +86,8 @@ programThen d p x b cs = busCycle p Write x 0x40 ∷ busCycle p Write x b ∷ po
 abbrev pub programsThen : Device → Pins → ℕ → ℕ → ℕ → List ℕ → List ℕ → List Cycle → List Cycle
 programsThen d p zero a i w s cs = cs
 programsThen d p (suc k) a i w s cs =
-    if eqb (getD s i 0) (getD w i 0) then programsThen d p k a (i + 1) w s cs else programThen d p (a + i) (getD w i 0) (programsThen d p k a (i + 1) w s cs)
+    if eqb (getD s i 0) (getD w i 0) then programsThen d p k a (i + 1) w s cs
+    else programThen d p (a + i) (getD w i 0) (programsThen d p k a (i + 1) w s cs)
 
 -- the last FFH and the verify's reads (R-load-4)
 abbrev pub closingOf : Pins → ℕ → ℕ → List Cycle
@@ -100,7 +103,8 @@ programmingThen d p a w ys cs = programsThen d p (length w) a 0 w (baseOf (d .pa
 
 -- the cycles of a good load of a block at a that holds ys, then cs
 abbrev pub loadThen : Device → Pins → ℕ → List ℕ → List ℕ → List Cycle → List Cycle
-loadThen d p a w ys cs = openingThen p a (length w) (if risesIn w ys then eraseThen d p a (programmingThen d p a w ys cs) else programmingThen d p a w ys cs)
+loadThen d p a w ys cs =
+    openingThen p a (length w) (if risesIn w ys then eraseThen d p a (programmingThen d p a w ys cs) else programmingThen d p a w ys cs)
 
 -- .. with or without the verify after it
 abbrev pub cyclesBy : Bool → Device → Pins → ℕ → List ℕ → List ℕ → List Cycle

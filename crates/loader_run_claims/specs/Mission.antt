@@ -14,7 +14,8 @@ use Rattle.model_types.specs.States.{improper}
 use Rattle.loader_steps.specs.Front.{noBlock}
 use Rattle.model_types.specs.Phases.{underWay}
 use Rattle.loader_run_claims.specs.Wear.{begunAt, heldBy, notedAll, operationsOf, formulaBy}
-use Rattle.model_history.specs.History.{Bus, World, worldOf, busesOf, worldAfter, effectsIn, begunOver, acceptsAll, uncut, totalOf, eraseOf, erasesBegun, programsBegun}
+use Rattle.model_history.specs.History.{Bus, World, worldOf, busesOf, worldAfter, effectsIn, begunOver, acceptsAll, uncut, totalOf, eraseOf}
+use Rattle.model_history.specs.History.{erasesBegun, programsBegun}
 use Rattle.loader_run_claims.specs.Made.{cyclesAt}
 use Rattle.loader.specs.declared.Work.the-variants.{Load}
 use Rattle.loader_run.specs.declared.Job.{Job}
@@ -66,27 +67,35 @@ pub record Demand3 (verify : Bool) (j : Job) (xs w sc : List ℕ) : Type 0 where
   -- the block holds the wanted units
   pub block : heldBy (j .device .part) (j .block) (runLeft (doing (Load verify) j) xs w sc .bytes) ≡ w
   -- every other unit is as before
-  pub others : (x : ℕ) → (blockOf (j .device .part) x ≡ j .block → ⊥) → getD (runLeft (doing (Load verify) j) xs w sc .bytes) x 0 ≡ getD xs x 0
+  pub others : (x : ℕ) → (blockOf (j .device .part) x ≡ j .block → ⊥) → getD (runLeft (doing (Load verify) j) xs w sc .bytes) x 0
+      ≡ getD xs x 0
   -- .. so the array is the old one with the wanted units laid over the block
   pub array-left : runLeft (doing (Load verify) j) xs w sc .bytes ≡ overlaid xs (startOf (j .device .part) (j .block)) w
   -- it erases once if some bit must rise, otherwise never; it programs each unit that then differs once and no other: on a
   -- device in word mode words are counted
-  pub begins : begunAt (doing (Load verify) j) xs w sc ≡ operationsOf (j .device .part) (j .block) (startOf (j .device .part) (j .block)) w (heldBy (j .device .part) (j .block) xs)
+  pub begins : begunAt (doing (Load verify) j) xs w sc
+      ≡ operationsOf (j .device .part) (j .block) (startOf (j .device .part) (j .block)) w (heldBy (j .device .part) (j .block) xs)
   -- its own cycles are accepted, cut nothing and bring the block to what is wanted; they lead to what the run leaves, and begin that list
   pub own-accepted : acceptsAll (j .device) (worldOf (j .state) xs) (ownCycles verify j xs w sc) ≡ true
   pub own-brings : Brings (j .device) (worldOf (j .state) xs) (j .block) w (ownCycles verify j xs w sc)
-  pub own-leads : worldAfter (j .device) (worldOf (j .state) xs) (ownCycles verify j xs w sc) ≡ worldOf (runLeft (doing (Load verify) j) xs w sc .ran .state) (runLeft (doing (Load verify) j) xs w sc .bytes)
-  pub own-begins : notedAll (begunOver (j .device) (worldOf (j .state) xs) (ownCycles verify j xs w sc)) ≡ begunAt (doing (Load verify) j) xs w sc
+  pub own-leads : worldAfter (j .device) (worldOf (j .state) xs) (ownCycles verify j xs w sc)
+      ≡ worldOf (runLeft (doing (Load verify) j) xs w sc .ran .state) (runLeft (doing (Load verify) j) xs w sc .bytes)
+  pub own-begins : notedAll (begunOver (j .device) (worldOf (j .state) xs) (ownCycles verify j xs w sc))
+      ≡ begunAt (doing (Load verify) j) xs w sc
   -- no uncut cycles from the same start to the same block contents, refused ones among them or not, begin fewer erases of that block
   -- or fewer programs in it
-  pub least-wear : Cells (j .device .part) xs → (bs : List Bus) → Brings (j .device) (worldOf (j .state) xs) (j .block) w bs → NoFewer (j .device) (worldOf (j .state) xs) (j .block) (ownCycles verify j xs w sc) bs
+  pub least-wear : Cells (j .device .part) xs → (bs : List Bus) → Brings (j .device) (worldOf (j .state) xs) (j .block) w bs
+      → NoFewer (j .device) (worldOf (j .state) xs) (j .block) (ownCycles verify j xs w sc) bs
   -- the reported count is the number of cycles made ..
   pub counted : runLeft (doing (Load verify) j) xs w sc .ran .count ≡ length (cyclesAt (doing (Load verify) j) xs w sc)
   -- .. by the formula
-  pub by-formula : runLeft (doing (Load verify) j) xs w sc .ran .count ≡ formulaBy verify (j .device) w (heldBy (j .device .part) (j .block) xs)
+  pub by-formula : runLeft (doing (Load verify) j) xs w sc .ran .count
+      ≡ formulaBy verify (j .device) w (heldBy (j .device .part) (j .block) xs)
   -- the counts of erases: that of the block has gone up by the erases begun, up to the stop; every other is as it was
   pub worn-block : countOf (j .state .wear) (j .block) ≤ stop
-      → countOf (runLeft (doing (Load verify) j) xs w sc .ran .state .wear) (j .block) ≡ min (countOf (j .state .wear) (j .block) + totalOf (eraseOf (j .block)) (begunAt (doing (Load verify) j) xs w sc)) stop
-  pub worn-others : (i : ℕ) → i < 7 → (i ≡ j .block → ⊥) → countOf (runLeft (doing (Load verify) j) xs w sc .ran .state .wear) i ≡ countOf (j .state .wear) i
+      → countOf (runLeft (doing (Load verify) j) xs w sc .ran .state .wear) (j .block)
+      ≡ min (countOf (j .state .wear) (j .block) + totalOf (eraseOf (j .block)) (begunAt (doing (Load verify) j) xs w sc)) stop
+  pub worn-others : (i : ℕ) → i < 7 → (i ≡ j .block → ⊥) → countOf (runLeft (doing (Load verify) j) xs w sc .ran .state .wear) i
+      ≡ countOf (j .state .wear) i
   -- and scratch ends as wanted
   pub scratch-left : runLeft (doing (Load verify) j) xs w sc .scratch ≡ w

@@ -45,17 +45,21 @@ module _ (j : Job) (xs w sc : List ℕ) where
     pub answers : (i : ℕ) → overAt i ≡ false → cycleOf (runAt i .loader) w .kind ≡ Read
         → answerAt (j .device) w (runAt i) .seen ≡ Data (numberIn (answerAt (j .device) w (runAt i) .seen))
     pub makes : (i : ℕ) → overAt i ≡ false
-        → (answerAt (j .device) w (runAt i) .state ≡ runAt (suc i) .state) × (arrayTo (j .device) w (runAt i .loader) (runAt i .state) (runAt i .bytes) ≡ runAt (suc i) .bytes)
+        → (answerAt (j .device) w (runAt i) .state ≡ runAt (suc i) .state)
+        × (arrayTo (j .device) w (runAt i .loader) (runAt i .state) (runAt i .bytes) ≡ runAt (suc i) .bytes)
     -- with that byte handed on, the step gives the run's next record and the cycle that is out there, or the end
     pub steps : (i b : ℕ) → overAt i ≡ false → Handed (j .device) w (runAt i) b
         → stepResponse (runAt i .loader) b w (runAt i .scratch) ≡ responseAt (runAt (suc i) .loader) w
     -- and it leaves the run's scratch
-    pub stores : (i b : ℕ) → overAt i ≡ false → Handed (j .device) w (runAt i) b → scratchAfter (runAt i .loader) b w (runAt i .scratch) ≡ runAt (suc i) .scratch
+    pub stores : (i b : ℕ) → overAt i ≡ false → Handed (j .device) w (runAt i) b → scratchAfter (runAt i .loader) b w (runAt i .scratch)
+        ≡ runAt (suc i) .scratch
     -- the step that ends gives the run's end and address
     pub ends : (i b : ℕ) → overAt i ≡ false → overAt (suc i) ≡ true → Handed (j .device) w (runAt i) b
-        → stepResponse (runAt i .loader) b w (runAt i .scratch) .saying ≡ Over (runLeft j xs w sc .ran .end) (runLeft j xs w sc .ran .address)
+        → stepResponse (runAt i .loader) b w (runAt i .scratch) .saying
+        ≡ Over (runLeft j xs w sc .ran .end) (runLeft j xs w sc .ran .address)
     -- it comes after as many cycles as the run counts
     pub counts : (i : ℕ) → overAt i ≡ false → overAt (suc i) ≡ true → runLeft j xs w sc .ran .count ≡ suc i
     -- and state, array and scratch are then those that the run returns and leaves
     pub leaves : (i : ℕ) → overAt i ≡ false → overAt (suc i) ≡ true
-        → (runAt (suc i) .state ≡ runLeft j xs w sc .ran .state) × (runAt (suc i) .bytes ≡ runLeft j xs w sc .bytes) × (runAt (suc i) .scratch ≡ runLeft j xs w sc .scratch)
+        → (runAt (suc i) .state ≡ runLeft j xs w sc .ran .state) × (runAt (suc i) .bytes ≡ runLeft j xs w sc .bytes)
+        × (runAt (suc i) .scratch ≡ runLeft j xs w sc .scratch)

@@ -54,7 +54,8 @@ begunByLoad j xs w sc = begunAt (doing (Load true) j) xs w sc
 -- the programs that bring the bytes from place i on, k of them, from s to w, in a block that starts at a
 abbrev pub programsOf : ℕ → ℕ → ℕ → List ℕ → List ℕ → List Effect
 programsOf zero a i w s = []
-programsOf (suc k) a i w s = if eqb (getD s i 0) (getD w i 0) then programsOf k a (i + 1) w s else Program (a + i) (getD w i 0) ∷ programsOf k a (i + 1) w s
+programsOf (suc k) a i w s = if eqb (getD s i 0) (getD w i 0) then programsOf k a (i + 1) w s
+    else Program (a + i) (getD w i 0) ∷ programsOf k a (i + 1) w s
 
 -- how many bytes differ
 abbrev pub differing : ℕ → ℕ → List ℕ → List ℕ → ℕ
@@ -95,4 +96,5 @@ formulaBy verify d w ys = if verify then formula d w ys else loadFormula d w ys
 
 -- the operations that a load of a block k at a begins, in their order (R-demand-3)
 abbrev pub operationsOf : Part → ℕ → ℕ → List ℕ → List ℕ → List Effect
-operationsOf part k a w ys = if risesIn w ys then Erase k ∷ programsOf (length w) a 0 w (baseOf part w ys) else programsOf (length w) a 0 w (baseOf part w ys)
+operationsOf part k a w ys = if risesIn w ys then Erase k ∷ programsOf (length w) a 0 w (baseOf part w ys)
+    else programsOf (length w) a 0 w (baseOf part w ys)

@@ -15,7 +15,8 @@ use Rattle.loader.specs.declared.Stage.{Stage}
 use Rattle.loader.specs.declared.Stage.the-variants.{EraseWaiting, ProgramWaiting}
 use Rattle.loader.specs.Moves.{statusIn}
 use Rattle.loader_steps.specs.Front.{startNumber}
-use Rattle.loader_sheet.specs.Hand.{Hand, startHand, fed, fedAll, Takes, EndedBy, isPolling, WaitBegins, isFirst, neverReady, WantedTo}
+use Rattle.loader_sheet.specs.Hand.{Hand, startHand, fed, fedAll, Takes, EndedBy, isPolling, WaitBegins, isFirst, neverReady}
+use Rattle.loader_sheet.specs.Hand.{WantedTo}
 
 -- which status ends a load at a poll of its erase: bits SR.7, SR.5, SR.4 and SR.3 (R-number-20, R-number-21, R-number-22, R-number-23)
 pub record ErasePoll (w : List ℕ) (h : Hand) (v : ℕ) : Type 0 where

@@ -4,7 +4,8 @@ use Prim.Native.Nat.{ℕ}
 use lib.Dec.{eqb, leb}
 use Rattle.common.specs.Choice.{if_then_else_}
 use Rattle.loader.specs.declared.Stage.{Stage}
-use Rattle.loader.specs.declared.Stage.the-variants.{Clearing, Opening, Reading, EraseAsking, EraseConfirming, EraseWaiting, ProgramAsking, ProgramSending, ProgramWaiting, Closing, Verifying, Ended}
+use Rattle.loader.specs.declared.Stage.the-variants.{Clearing, Opening, Reading, EraseAsking, EraseConfirming, EraseWaiting, ProgramAsking}
+use Rattle.loader.specs.declared.Stage.the-variants.{ProgramSending, ProgramWaiting, Closing, Verifying, Ended}
 use Rattle.loader.specs.declared.Loader.{Loader}
 use Rattle.loader.specs.Stages.{isEnded, endBy}
 use Rattle.loader_steps.specs.Front.{recordAt}
@@ -49,7 +50,17 @@ ofVerify (Ended n) = endsVerify n
 
 -- a record with or without the verify after the load
 abbrev pub withVerify : Bool → Loader → Loader
-withVerify verify l = record { part = l .part; pins = l .pins; block = l .block; stage = l .stage; place = l .place; polls = l .polls; verify = verify; high = l .high }
+withVerify verify l =
+    record {
+      part = l .part;
+      pins = l .pins;
+      block = l .block;
+      stage = l .stage;
+      place = l .place;
+      polls = l .polls;
+      verify = verify;
+      high = l .high;
+    }
 
 -- a load's good end
 abbrev pub endedWell : Stage → Bool

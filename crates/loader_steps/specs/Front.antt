@@ -67,7 +67,8 @@ stepNumber l w sc = given (stepRows l w sc)
 
 -- a record at its beginning, with its first stage and whether the verify follows the load
 abbrev pub recordAt : Part → Pins → ℕ → Stage → Bool → Loader
-recordAt part p k stage verify = record { part = part; pins = p; block = k; stage = stage; place = 0; polls = 0; verify = verify; high = false }
+recordAt part p k stage verify =
+    record { part = part; pins = p; block = k; stage = stage; place = 0; polls = 0; verify = verify; high = false }
 
 -- the address that an end gives: for 25 the byte address of the byte that differs, else 0 (R-number-25)
 unfoldable pub endAddress : Loader → ℕ → ℕ
@@ -110,7 +111,8 @@ recordOf work part p k = recordAt part p k (firstStage work) (verifies work)
 unfoldable pub startResponse : Work → Part → Pins → ℕ → List ℕ → List ℕ → Response
 startResponse work part p k w sc =
     if eqb (startNumber part p k (length w) (length sc)) 0 then responseAt (recordOf work part p k) w
-    else refusedBy (startNumber part p k (length w) (length sc)) (recordAt part p k (Ended (startNumber part p k (length w) (length sc))) (verifies work))
+    else refusedBy (startNumber part p k (length w) (length sc))
+    (recordAt part p k (Ended (startNumber part p k (length w) (length sc))) (verifies work))
 
 -- what a start tells: its refusal, or what the record at its beginning tells
 unfoldable pub startTold : Work → Part → Pins → ℕ → List ℕ → List ℕ → ℕ × List Cycle × List ℕ
@@ -121,12 +123,14 @@ startTold work part p k w sc =
 -- a step: what is given .. (R-load-7)
 unfoldable pub stepResponse : Loader → ℕ → List ℕ → List ℕ → Response
 stepResponse l v w sc =
-    if eqb (stepNumber l (length w) (length sc)) 0 then responseAt (nextOf l v w (storeOf l v w sc)) w else refusedBy (stepNumber l (length w) (length sc)) l
+    if eqb (stepNumber l (length w) (length sc)) 0 then responseAt (nextOf l v w (storeOf l v w sc)) w
+    else refusedBy (stepNumber l (length w) (length sc)) l
 
 -- .. what it tells: its refusal, or what the next record tells ..
 unfoldable pub stepTold : Loader → ℕ → List ℕ → List ℕ → ℕ × List Cycle × List ℕ
 stepTold l v w sc =
-    if eqb (stepNumber l (length w) (length sc)) 0 then recordTold (nextOf l v w (storeOf l v w sc)) w else (stepNumber l (length w) (length sc), [], [])
+    if eqb (stepNumber l (length w) (length sc)) 0 then recordTold (nextOf l v w (storeOf l v w sc)) w
+    else (stepNumber l (length w) (length sc), [], [])
 
 -- .. and what is left in scratch
 unfoldable pub scratchAfter : Loader → ℕ → List ℕ → List ℕ → List ℕ

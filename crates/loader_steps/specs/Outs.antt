@@ -32,7 +32,8 @@ carriedIn isWanted command place w = if isWanted then getD w place 0 else comman
 -- the cycle that is out, as its stage says
 abbrev pub cycleAtStage : Stage → ℕ → ℕ → Loader → List ℕ → Cycle
 cycleAtStage stage first here l w =
-    cycleAt l (stageIs stage .kind) (addressIn (stageIs stage .here) first here) (carriedIn (stageIs stage .wanted) (stageIs stage .command) (l .place) w)
+    cycleAt l (stageIs stage .kind) (addressIn (stageIs stage .here) first here)
+    (carriedIn (stageIs stage .wanted) (stageIs stage .command) (l .place) w)
 
 -- .. as the record's own stage says
 abbrev pub cycleOf : Loader → List ℕ → Cycle

@@ -16,7 +16,9 @@ use model_types::levels::bad_pins;
 use model_types::levels::rp_low;
 ghost use mathlib.Core.Path.{_≡_};
 ghost use Rattle.device.specs.Parts.{lengthOf};
-ghost use Rattle.loader_steps.specs.Front.{barredPins, noBlock, setupNumber, badRecord, startNumber, stepNumber, recordAt, endAddress, sayingIn, responseAt, refusedBy, startResponse, stepResponse, sayingTold, startTold, stepTold, scratchLeft};
+ghost use Rattle.loader_steps.specs.Front.{barredPins, noBlock, setupNumber, badRecord, startNumber, stepNumber, recordAt};
+ghost use Rattle.loader_steps.specs.Front.{endAddress, sayingIn, responseAt, refusedBy, startResponse, stepResponse, sayingTold};
+ghost use Rattle.loader_steps.specs.Front.{startTold, stepTold, scratchLeft};
 ghost use Rattle.units.specs.Units.{units, lent};
 
 // Refusal 4 of a loader.
@@ -151,8 +153,10 @@ fn refused_by(n: u8, l: Loader) -> Response
 
 // The first cycle of a load, with or without the verify after it, or of a verify alone.
 pub fn start(work: Work, part: Part, p: Pins, block: u8, wanted: &[u8], scratch: &[u8]) -> Response
-    ensures result { λ r. ⌜ r ≡ startResponse work part p block (lent (part .word) (now (wanted .entry))) (lent (part .word) (now (scratch .entry))) ⌝ }
-    ensures told { λ r. ⌜ sayingTold (r .saying) ≡ startTold work part p block (lent (part .word) (now (wanted .entry))) (lent (part .word) (now (scratch .entry))) ⌝ }
+    ensures result { λ r. ⌜ r
+        ≡ startResponse work part p block (lent (part .word) (now (wanted .entry))) (lent (part .word) (now (scratch .entry))) ⌝ }
+    ensures told { λ r. ⌜ sayingTold (r .saying)
+        ≡ startTold work part p block (lent (part .word) (now (wanted .entry))) (lent (part .word) (now (scratch .entry))) ⌝ }
 {
     let word = part.word;
     let n = start_number(
@@ -172,8 +176,10 @@ pub fn start(work: Work, part: Part, p: Pins, block: u8, wanted: &[u8], scratch:
 
 // The data read by the cycle that was out go in, the next cycle or the end comes out.
 pub fn step(l: Loader, v: u16, wanted: &[u8], scratch: &mut [u8]) -> Response
-    ensures result { λ r. ⌜ r ≡ stepResponse l v (lent (l .part .word) (now (wanted .entry))) (lent (l .part .word) (now (scratch .entry))) ⌝ }
-    ensures told { λ r. ⌜ sayingTold (r .saying) ≡ stepTold l v (lent (l .part .word) (now (wanted .entry))) (lent (l .part .word) (now (scratch .entry))) ⌝ }
+    ensures result { λ r. ⌜ r
+        ≡ stepResponse l v (lent (l .part .word) (now (wanted .entry))) (lent (l .part .word) (now (scratch .entry))) ⌝ }
+    ensures told { λ r. ⌜ sayingTold (r .saying)
+        ≡ stepTold l v (lent (l .part .word) (now (wanted .entry))) (lent (l .part .word) (now (scratch .entry))) ⌝ }
     ensures scratch_left { λ _. ⌜ now (scratch .exit) ≡ scratchLeft l v (now (wanted .entry)) (now (scratch .entry)) ⌝ }
 {
     let part = l.part;

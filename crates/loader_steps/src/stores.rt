@@ -24,7 +24,8 @@ fn erased_well(b: u8) -> bool
 
 // An erase that ended well fills scratch with ones.
 pub fn store_erase(part: Part, b: u8, scratch: &mut [u8])
-    ensures scratch_left { λ _. ⌜ units (part .word) (now (scratch .exit)) ≡ eraseStored part b (units (part .word) (now (scratch .entry))) ⌝ }
+    ensures scratch_left { λ _. ⌜ units (part .word) (now (scratch .exit))
+        ≡ eraseStored part b (units (part .word) (now (scratch .entry))) ⌝ }
     ensures scratch_spare { λ _. ⌜ spare (part .word) (now (scratch .exit)) ≡ spare (part .word) (now (scratch .entry)) ⌝ }
 {
     let word = part.word;
@@ -42,7 +43,8 @@ fn programmed_well(b: u8) -> bool
 
 // A program that ended well puts its unit into scratch.
 pub fn store_program(word: bool, place: usize, b: u8, wanted: &[u8], scratch: &mut [u8])
-    ensures scratch_left { λ _. ⌜ units word (now (scratch .exit)) ≡ programStored place b (units word (now (wanted .entry))) (units word (now (scratch .entry))) ⌝ }
+    ensures scratch_left { λ _. ⌜ units word (now (scratch .exit))
+        ≡ programStored place b (units word (now (wanted .entry))) (units word (now (scratch .entry))) ⌝ }
     ensures scratch_spare { λ _. ⌜ spare word (now (scratch .exit)) ≡ spare word (now (scratch .entry)) ⌝ }
 {
     if programmed_well(b) {
@@ -53,8 +55,11 @@ pub fn store_program(word: bool, place: usize, b: u8, wanted: &[u8], scratch: &m
 
 // A unit of the first reads.
 fn take_read(l: Loader, v: u16, wanted: &[u8], scratch: &mut [u8]) -> Loader
-    ensures result { λ r. ⌜ r ≡ afterRead l (units (l .part .word) (now (wanted .entry))) (set (units (l .part .word) (now (scratch .entry))) (l .place) (carried (l .part .word) v)) ⌝ }
-    ensures scratch_left { λ _. ⌜ units (l .part .word) (now (scratch .exit)) ≡ set (units (l .part .word) (now (scratch .entry))) (l .place) (carried (l .part .word) v) ⌝ }
+    ensures result { λ r. ⌜ r
+        ≡ afterRead l (units (l .part .word) (now (wanted .entry)))
+        (set (units (l .part .word) (now (scratch .entry))) (l .place) (carried (l .part .word) v)) ⌝ }
+    ensures scratch_left { λ _. ⌜ units (l .part .word) (now (scratch .exit))
+        ≡ set (units (l .part .word) (now (scratch .entry))) (l .place) (carried (l .part .word) v) ⌝ }
     ensures scratch_spare { λ _. ⌜ spare (l .part .word) (now (scratch .exit)) ≡ spare (l .part .word) (now (scratch .entry)) ⌝ }
 {
     let part = l.part;
@@ -65,8 +70,11 @@ fn take_read(l: Loader, v: u16, wanted: &[u8], scratch: &mut [u8]) -> Loader
 
 // A poll of the erase.
 fn take_erase(l: Loader, b: u8, wanted: &[u8], scratch: &mut [u8]) -> Loader
-    ensures result { λ r. ⌜ r ≡ erasePolled l b (units (l .part .word) (now (wanted .entry))) (eraseStored (l .part) b (units (l .part .word) (now (scratch .entry)))) ⌝ }
-    ensures scratch_left { λ _. ⌜ units (l .part .word) (now (scratch .exit)) ≡ eraseStored (l .part) b (units (l .part .word) (now (scratch .entry))) ⌝ }
+    ensures result { λ r. ⌜ r
+        ≡ erasePolled l b (units (l .part .word) (now (wanted .entry)))
+        (eraseStored (l .part) b (units (l .part .word) (now (scratch .entry)))) ⌝ }
+    ensures scratch_left { λ _. ⌜ units (l .part .word) (now (scratch .exit))
+        ≡ eraseStored (l .part) b (units (l .part .word) (now (scratch .entry))) ⌝ }
     ensures scratch_spare { λ _. ⌜ spare (l .part .word) (now (scratch .exit)) ≡ spare (l .part .word) (now (scratch .entry)) ⌝ }
 {
     let part = l.part;
@@ -76,8 +84,11 @@ fn take_erase(l: Loader, b: u8, wanted: &[u8], scratch: &mut [u8]) -> Loader
 
 // A poll of a program.
 fn take_program(l: Loader, b: u8, wanted: &[u8], scratch: &mut [u8]) -> Loader
-    ensures result { λ r. ⌜ r ≡ programPolled l b (units (l .part .word) (now (wanted .entry))) (programStored (l .place) b (units (l .part .word) (now (wanted .entry))) (units (l .part .word) (now (scratch .entry)))) ⌝ }
-    ensures scratch_left { λ _. ⌜ units (l .part .word) (now (scratch .exit)) ≡ programStored (l .place) b (units (l .part .word) (now (wanted .entry))) (units (l .part .word) (now (scratch .entry))) ⌝ }
+    ensures result { λ r. ⌜ r
+        ≡ programPolled l b (units (l .part .word) (now (wanted .entry)))
+        (programStored (l .place) b (units (l .part .word) (now (wanted .entry))) (units (l .part .word) (now (scratch .entry)))) ⌝ }
+    ensures scratch_left { λ _. ⌜ units (l .part .word) (now (scratch .exit))
+        ≡ programStored (l .place) b (units (l .part .word) (now (wanted .entry))) (units (l .part .word) (now (scratch .entry))) ⌝ }
     ensures scratch_spare { λ _. ⌜ spare (l .part .word) (now (scratch .exit)) ≡ spare (l .part .word) (now (scratch .entry)) ⌝ }
 {
     let part = l.part;
@@ -89,7 +100,8 @@ fn take_program(l: Loader, b: u8, wanted: &[u8], scratch: &mut [u8]) -> Loader
 // A unit of the verify.
 fn take_verify(l: Loader, v: u16, wanted: &[u8], scratch: &mut [u8]) -> Loader
     ensures result { λ r. ⌜ r ≡ verifyMore l v (units (l .part .word) (now (wanted .entry))) ⌝ }
-    ensures scratch_left { λ _. ⌜ units (l .part .word) (now (scratch .exit)) ≡ set (units (l .part .word) (now (scratch .entry))) (l .place) (carried (l .part .word) v) ⌝ }
+    ensures scratch_left { λ _. ⌜ units (l .part .word) (now (scratch .exit))
+        ≡ set (units (l .part .word) (now (scratch .entry))) (l .place) (carried (l .part .word) v) ⌝ }
     ensures scratch_spare { λ _. ⌜ spare (l .part .word) (now (scratch .exit)) ≡ spare (l .part .word) (now (scratch .entry)) ⌝ }
 {
     let part = l.part;
@@ -101,7 +113,8 @@ fn take_verify(l: Loader, v: u16, wanted: &[u8], scratch: &mut [u8]) -> Loader
 // A read's data taken: the one place that says where each stage goes.
 pub fn advance(l: Loader, v: u16, wanted: &[u8], scratch: &mut [u8]) -> Loader
     ensures result { λ r. ⌜ r
-        ≡ nextOf l v (units (l .part .word) (now (wanted .entry))) (storeOf l v (units (l .part .word) (now (wanted .entry))) (units (l .part .word) (now (scratch .entry)))) ⌝ }
+        ≡ nextOf l v (units (l .part .word) (now (wanted .entry)))
+        (storeOf l v (units (l .part .word) (now (wanted .entry))) (units (l .part .word) (now (scratch .entry)))) ⌝ }
     ensures scratch_left { λ _. ⌜ units (l .part .word) (now (scratch .exit))
         ≡ storeOf l v (units (l .part .word) (now (wanted .entry))) (units (l .part .word) (now (scratch .entry))) ⌝ }
     ensures scratch_spare { λ _. ⌜ spare (l .part .word) (now (scratch .exit)) ≡ spare (l .part .word) (now (scratch .entry)) ⌝ }

@@ -19,4 +19,5 @@ pub record FirstByte (xs ws : List ℕ) (from i : ℕ) : Type 0 where
 pub record LentMet (j : Job) (array wanted scratch : List ℕ) (i : ℕ) : Type 0 where
   pub first : FirstByte array wanted (byteOf (j .device .part .word) (startOf (j .device .part) (j .block))) i
   pub ended : lentRun (doing Verify j) array wanted scratch .ran .end ≡ 25
-  pub address : lentRun (doing Verify j) array wanted scratch .ran .address ≡ byteOf (j .device .part .word) (startOf (j .device .part) (j .block)) + i
+  pub address : lentRun (doing Verify j) array wanted scratch .ran .address
+      ≡ byteOf (j .device .part .word) (startOf (j .device .part) (j .block)) + i

@@ -37,25 +37,32 @@ byteApart part x held wanted = byteAt (part .word) x (eqb (held % 256) (wanted %
 
 -- .. with the byte address of the first byte that differs, in a block at a
 unfoldable pub verifyAddress : Part → ℕ → List ℕ → List ℕ → ℕ
-verifyAddress part a w ys = if asWanted w ys then 0 else byteApart part (a + diffFrom 0 w ys) (getD ys (diffFrom 0 w ys) 0) (getD w (diffFrom 0 w ys) 0)
+verifyAddress part a w ys = if asWanted w ys then 0
+    else byteApart part (a + diffFrom 0 w ys) (getD ys (diffFrom 0 w ys) 0) (getD w (diffFrom 0 w ys) 0)
 
 -- what it returns: FFH and the reads counted, mode read array, the status as before with its old error bits
 abbrev pub verifyRan : Part → State → ℕ → List ℕ → List ℕ → Ran
-verifyRan part s a w ys = record { count = 1 + unitsRead w ys; end = verifyEnd w ys; address = verifyAddress part a w ys; state = atRest s Array (s .status) }
+verifyRan part s a w ys =
+    record { count = 1 + unitsRead w ys; end = verifyEnd w ys; address = verifyAddress part a w ys; state = atRest s Array (s .status) }
 
 -- a verify alone of block k, sentence by sentence (R-load-4)
 pub record Verified (j : Job) (xs w sc : List ℕ) : Type 0 where
   -- what it returns
-  pub ran : runLeft (doing Verify j) xs w sc .ran ≡ verifyRan (j .device .part) (j .state) (startOf (j .device .part) (j .block)) w (heldIn (startOf (j .device .part) (j .block)) (length w) xs)
+  pub ran : runLeft (doing Verify j) xs w sc .ran
+      ≡ verifyRan (j .device .part) (j .state) (startOf (j .device .part) (j .block)) w
+      (heldIn (startOf (j .device .part) (j .block)) (length w) xs)
   -- the array is as before
   pub bytes : runLeft (doing Verify j) xs w sc .bytes ≡ xs
   -- scratch holds what was read of the block, and stays behind it
   pub scratch : runLeft (doing Verify j) xs w sc .scratch
-      ≡ overwritten (unitsRead w (heldIn (startOf (j .device .part) (j .block)) (length w) xs)) (heldIn (startOf (j .device .part) (j .block)) (length w) xs) sc
+      ≡ overwritten (unitsRead w (heldIn (startOf (j .device .part) (j .block)) (length w) xs))
+      (heldIn (startOf (j .device .part) (j .block)) (length w) xs) sc
   -- it begins no operation
   pub begins : begunAt (doing Verify j) xs w sc ≡ []
   -- its cycles are FFH and the reads; the model takes them all and nothing is cut
-  pub made : cyclesAt (doing Verify j) xs w sc ≡ closingOf (j .pins) (startOf (j .device .part) (j .block)) (unitsRead w (heldIn (startOf (j .device .part) (j .block)) (length w) xs))
+  pub made : cyclesAt (doing Verify j) xs w sc
+      ≡ closingOf (j .pins) (startOf (j .device .part) (j .block))
+      (unitsRead w (heldIn (startOf (j .device .part) (j .block)) (length w) xs))
   pub smooth : smoothAt (doing Verify j) xs w sc ≡ true
 
 -- a verify that ends 25: i is the first place where the block differs from what is wanted
@@ -64,6 +71,14 @@ pub record Met (j : Job) (xs w sc : List ℕ) (i : ℕ) : Type 0 where
   pub differs : getD (heldIn (startOf (j .device .part) (j .block)) (length w) xs) i 0 ≡ getD w i 0 → ⊥
   pub same-before : (m : ℕ) → m < i → getD (heldIn (startOf (j .device .part) (j .block)) (length w) xs) m 0 ≡ getD w m 0
   -- the address of the byte that differs is given, and the cycles are FFH and i + 1 reads
-  pub ran : runLeft (doing Verify j) xs w sc .ran ≡ record { count = i + 2; end = 25; address = byteApart (j .device .part) (startOf (j .device .part) (j .block) + i) (getD (heldIn (startOf (j .device .part) (j .block)) (length w) xs) i 0) (getD w i 0); state = atRest (j .state) Array (j .state .status) }
+  pub ran : runLeft (doing Verify j) xs w sc .ran ≡ record {
+    count = i + 2;
+    end = 25;
+    address =
+        byteApart (j .device .part) (startOf (j .device .part) (j .block)
+        + i) (getD (heldIn (startOf (j .device .part) (j .block)) (length w) xs) i 0) (getD w i 0);
+    state = atRest (j .state) Array (j .state .status);
+  }
   -- scratch is the block up to and with that unit, and as before behind it
-  pub scratch : runLeft (doing Verify j) xs w sc .scratch ≡ overwritten (i + 1) (heldIn (startOf (j .device .part) (j .block)) (length w) xs) sc
+  pub scratch : runLeft (doing Verify j) xs w sc .scratch
+      ≡ overwritten (i + 1) (heldIn (startOf (j .device .part) (j .block)) (length w) xs) sc

@@ -78,7 +78,10 @@ arrayAfter d s c xs rs = arrayOf (decideOf d s c (length xs) (length rs) .effect
 -- the answer to a cycle: its read sees the array as steps 1 to 3 leave it (R-demand-2)
 unfoldable pub answerOf : Device → State → Cycle → List ℕ → List ℕ → Answer
 answerOf d s c xs rs =
-    record { seen = seenOf (decideOf d s c (length xs) (length rs) .reply) (arrayAfter d s c xs rs); state = decideOf d s c (length xs) (length rs) .state }
+    record {
+      seen = seenOf (decideOf d s c (length xs) (length rs) .reply) (arrayAfter d s c xs rs);
+      state = decideOf d s c (length xs) (length rs) .state;
+    }
 
 -- what a cycle tells
 unfoldable pub cycleTold : Device → State → Cycle → List ℕ → List ℕ → ℕ × List ℕ

@@ -165,8 +165,10 @@ fn show(s: State, address: u32, word: bool, array: &[u8]) -> Answer
 // Only for callers that know refusals 1 to 6 not to apply: they are not tested again, and what they would refuse is answered
 // as the rules forbid. An effect that does not find its units is left undone.
 pub fn after_judging(d: Device, s: State, c: Cycle, array: &mut [u8], residue: &[u8]) -> Answer
-    ensures result { λ r. ⌜ r ≡ answerJudged d s c (units (d .part .word) (now (array .entry))) (units (d .part .word) (now (residue .entry))) ⌝ }
-    ensures told { λ r. ⌜ seenTold (r .seen) ≡ passedTold d s c (units (d .part .word) (now (array .entry))) (units (d .part .word) (now (residue .entry))) ⌝ }
+    ensures result { λ r. ⌜ r
+        ≡ answerJudged d s c (units (d .part .word) (now (array .entry))) (units (d .part .word) (now (residue .entry))) ⌝ }
+    ensures told { λ r. ⌜ seenTold (r .seen)
+        ≡ passedTold d s c (units (d .part .word) (now (array .entry))) (units (d .part .word) (now (residue .entry))) ⌝ }
     ensures array_left { λ _. ⌜ units (d .part .word) (now (array .exit))
         ≡ arrayJudged d s c (units (d .part .word) (now (array .entry))) (units (d .part .word) (now (residue .entry))) ⌝ }
     ensures array_spare { λ _. ⌜ spare (d .part .word) (now (array .exit)) ≡ spare (d .part .word) (now (array .entry)) ⌝ }
@@ -199,8 +201,10 @@ fn refused(n: u8, s: State) -> Answer
 
 // One bus cycle.
 pub fn cycle(d: Device, s: State, c: Cycle, array: &mut [u8], residue: &[u8]) -> Answer
-    ensures result { λ r. ⌜ r ≡ answerOf d s c (lent (d .part .word) (now (array .entry))) (units (d .part .word) (now (residue .entry))) ⌝ }
-    ensures told { λ r. ⌜ seenTold (r .seen) ≡ cycleTold d s c (lent (d .part .word) (now (array .entry))) (units (d .part .word) (now (residue .entry))) ⌝ }
+    ensures result { λ r. ⌜ r
+        ≡ answerOf d s c (lent (d .part .word) (now (array .entry))) (units (d .part .word) (now (residue .entry))) ⌝ }
+    ensures told { λ r. ⌜ seenTold (r .seen)
+        ≡ cycleTold d s c (lent (d .part .word) (now (array .entry))) (units (d .part .word) (now (residue .entry))) ⌝ }
     ensures array_left { λ _. ⌜ now (array .exit) ≡ bytesAfter d s c (now (array .entry)) (now (residue .entry)) ⌝ }
 {
     let part = d.part;

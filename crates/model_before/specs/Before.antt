@@ -20,7 +20,8 @@ use Rattle.model_types.specs.declared.Kind.the-variants.{Read, Write, Idle}
 use Rattle.model_types.specs.declared.Phase.{Phase}
 use Rattle.model_types.specs.declared.Phase.the-variants.{Free, EraseAwaited, DataAwaited, Programming, Erasing, Suspending, Suspended}
 use Rattle.model_types.specs.declared.Action.{Action}
-use Rattle.model_types.specs.declared.Action.the-variants.{ToArray, ToIdentifier, ToStatus, Clear, AwaitErase, AwaitData, Confirm, Store, WrongSecond, Suspend, Resume, Ignore, Refuse}
+use Rattle.model_types.specs.declared.Action.the-variants.{ToArray, ToIdentifier, ToStatus, Clear, AwaitErase, AwaitData, Confirm, Store}
+use Rattle.model_types.specs.declared.Action.the-variants.{WrongSecond, Suspend, Resume, Ignore, Refuse}
 use Rattle.model_types.specs.declared.Effect.{Effect}
 use Rattle.model_types.specs.declared.Effect.the-variants.{Nothing, Program, Erase, CutProgram, CutErase}
 use Rattle.model_types.specs.declared.Reply.{Reply}
@@ -34,7 +35,8 @@ use Rattle.model_types.specs.Kinds.{isRead, isWrite, isIdle}
 use Rattle.model_types.specs.Levels.{rpLow}
 use Rattle.model_types.specs.Phases.{isBusy, isSuspending, isSuspended, isPending}
 use Rattle.model_types.specs.Status.{SR7, SR6, SR5, SR4, SR3, withBits, withoutBits, isSet}
-use Rattle.model_types.specs.States.{isArray, isIdentifier, properMode, properReady, properHeld, properLow, properLeft, properSuspend, atRest, inPhase, resetOf}
+use Rattle.model_types.specs.States.{isArray, isIdentifier, properMode, properReady, properHeld, properLow, properLeft, properSuspend}
+use Rattle.model_types.specs.States.{atRest, inPhase, resetOf}
 use Rattle.model_commands.specs.Commands.{afterErase, whileErasing, whileSuspending, whileSuspended, isRefuse, inMode, withStatus, wearBy}
 use Rattle.model_operation.specs.Settling.{settledAs, cutBits, suspendPassed}
 use Rattle.model_rules.specs.Cycles.{decidedAs, refusedBy}
@@ -167,7 +169,14 @@ abbrev pub startedOf : Part → Cycle → State → Phase → ℕ → ℕ → St
 startedOf part c s ph time bit =
     if unsupplied part c s then atRest s (s .mode) (withBits (withBits (s .status) SR3) bit)
     else if locked part c then atRest s (s .mode) (withBits (s .status) bit)
-    else record { mode = s .mode; status = withoutBits (s .status) SR7; phase = ph; left = time; address = c .address; wear = wearBy ph part c (s .wear) }
+    else record {
+      mode = s .mode;
+      status = withoutBits (s .status) SR7;
+      phase = ph;
+      left = time;
+      address = c .address;
+      wear = wearBy ph part c (s .wear);
+    }
 
 -- what an action makes of the state; a suspend takes S cycles, of which this is none
 abbrev pub performedOf : Action → Device → Cycle → State → State
@@ -221,13 +230,21 @@ resetBy part s = settledAs (resetOf s) (cutOf (s .phase) part (s .address))
 
 -- step 2: VPP low with an operation running, being suspended or suspended; SR.6 is cleared
 abbrev pub cutBy : Part → State → Settled
-cutBy part s = settledAs (atRest s Status (withBits (withoutBits (s .status) SR6) (cutBits (s .phase)))) (cutOf (s .phase) part (s .address))
+cutBy part s =
+    settledAs (atRest s Status (withBits (withoutBits (s .status) SR6) (cutBits (s .phase)))) (cutOf (s .phase) part (s .address))
 
 -- step 3: a running operation counts one cycle off; at zero it is finished
 abbrev pub countedOff : Part → State → Settled
 countedOff part s =
     if eqb (s .left - 1) 0 then settledAs (atRest s (s .mode) (withBits (s .status) SR7)) (finishOf (s .phase) part (s .address))
-    else settledAs (record { mode = s .mode; status = s .status; phase = s .phase; left = s .left - 1; address = s .address; wear = s .wear }) Nothing
+    else settledAs (record {
+      mode = s .mode;
+      status = s .status;
+      phase = s .phase;
+      left = s .left - 1;
+      address = s .address;
+      wear = s .wear;
+    }) Nothing
 
 -- step 3 of a busy device
 abbrev pub passedOf : Part → State → Settled
@@ -313,7 +330,8 @@ acceptOf d c t = if rpLow (c .pins) then decidedAs Quiet (t .state) (t .effect) 
 -- one bus cycle: refused by its number, or the four steps
 abbrev pub decideOf : Device → State → Cycle → ℕ → ℕ → Decision
 decideOf d s c array residue =
-    if eqb (numberOf d s c array residue) 0 then acceptOf d c (settleOf (d .part) s (c .pins)) else refusedBy (numberOf d s c array residue) s
+    if eqb (numberOf d s c array residue) 0 then acceptOf d c (settleOf (d .part) s (c .pins))
+    else refusedBy (numberOf d s c array residue) s
 
 -- an erase that ends leaves ones in its whole block
 abbrev pub erased : Part → ℕ → List ℕ → List ℕ
@@ -338,4 +356,7 @@ arrayAfter d s c xs rs = arrayOf (decideOf d s c (length xs) (length rs) .effect
 -- the answer to a cycle: its read sees the array as steps 1 to 3 leave it
 abbrev pub answerOf : Device → State → Cycle → List ℕ → List ℕ → Answer
 answerOf d s c xs rs =
-    record { seen = seenOf (decideOf d s c (length xs) (length rs) .reply) (arrayAfter d s c xs rs); state = decideOf d s c (length xs) (length rs) .state }
+    record {
+      seen = seenOf (decideOf d s c (length xs) (length rs) .reply) (arrayAfter d s c xs rs);
+      state = decideOf d s c (length xs) (length rs) .state;
+    }

@@ -12,7 +12,8 @@ use Rattle.model_types.specs.declared.Mode.the-variants.{Array, Status, Identif
 use Rattle.model_types.specs.declared.Phase.{Phase}
 use Rattle.model_types.specs.declared.Phase.the-variants.{Free, EraseAwaited, DataAwaited, Programming, Erasing, Suspending, Suspended}
 use Rattle.model_types.specs.declared.Action.{Action}
-use Rattle.model_types.specs.declared.Action.the-variants.{ToArray, ToIdentifier, ToStatus, Clear, AwaitErase, AwaitData, Confirm, Store, WrongSecond, Suspend, Resume, Ignore, Refuse}
+use Rattle.model_types.specs.declared.Action.the-variants.{ToArray, ToIdentifier, ToStatus, Clear, AwaitErase, AwaitData, Confirm, Store}
+use Rattle.model_types.specs.declared.Action.the-variants.{WrongSecond, Suspend, Resume, Ignore, Refuse}
 use Rattle.model_types.specs.declared.State.{State}
 use Rattle.model_types.specs.declared.Wear.{Wear}
 use Rattle.model_types.specs.declared.Cycle.{Cycle}
@@ -120,7 +121,14 @@ unfoldable pub startedOf : Part → Cycle → State → Phase → ℕ → ℕ �
 startedOf part c s ph time bit =
     if unsupplied part c s then atRest s (s .mode) (withBits (withBits (s .status) SR3) bit)
     else if locked part c then atRest s (s .mode) (withBits (s .status) bit)
-    else record { mode = s .mode; status = withoutBits (s .status) SR7; phase = ph; left = time; address = c .address; wear = wearBy ph part c (s .wear) }
+    else record {
+      mode = s .mode;
+      status = withoutBits (s .status) SR7;
+      phase = ph;
+      left = time;
+      address = c .address;
+      wear = wearBy ph part c (s .wear);
+    }
 
 -- what an action makes of the state; a suspend takes S cycles, of which this is none (R-write-1, R-second-1, R-busy-2, R-suspended-1)
 abbrev pub performedOf : Action → Device → Cycle → State → State

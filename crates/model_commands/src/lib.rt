@@ -20,7 +20,9 @@ use model_types::states::in_phase;
 ghost use mathlib.Core.Path.{_≡_};
 ghost use Rattle.model_types.specs.Status.{SR4};
 ghost use Rattle.model_types.specs.declared.Phase.the-variants.{Programming};
-ghost use Rattle.model_commands.specs.Commands.{commandOf, dataOf, asksProgram, firstWrite, afterErase, whileErasing, whileSuspending, whileSuspended, actionOf, isRefuse, inMode, withStatus, unsupplied, wearBy, startedOf, performedOf};
+ghost use Rattle.model_commands.specs.Commands.{commandOf, dataOf, asksProgram, firstWrite, afterErase, whileErasing};
+ghost use Rattle.model_commands.specs.Commands.{whileSuspending, whileSuspended, actionOf, isRefuse, inMode, withStatus, unsupplied};
+ghost use Rattle.model_commands.specs.Commands.{wearBy, startedOf, performedOf};
 
 // What is set by a wrong second write.
 const ERRORS: u8 = SR5 + SR4;

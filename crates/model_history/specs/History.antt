@@ -39,7 +39,10 @@ busesOf (c ∷ cs) = record { cycle = c; residue = [] } ∷ busesOf cs
 -- a device after one cycle
 abbrev pub stepped : Device → World → Bus → World
 stepped d v b =
-    record { state = answerOf d (v .state) (b .cycle) (v .bytes) (b .residue) .state; bytes = arrayAfter d (v .state) (b .cycle) (v .bytes) (b .residue) }
+    record {
+      state = answerOf d (v .state) (b .cycle) (v .bytes) (b .residue) .state;
+      bytes = arrayAfter d (v .state) (b .cycle) (v .bytes) (b .residue);
+    }
 
 -- where the cycles lead
 abbrev pub worldAfter : Device → World → List Bus → World

@@ -68,13 +68,21 @@ resetBy part s = settledAs (resetOf s) (cutOf (s .phase) part (s .address))
 
 -- step 2: VPP low with an operation running, being suspended or suspended; SR.6 is cleared (R-cycle-4)
 unfoldable pub cutBy : Part → State → Settled
-cutBy part s = settledAs (atRest s Status (withBits (withoutBits (s .status) SR6) (cutBits (s .phase)))) (cutOf (s .phase) part (s .address))
+cutBy part s =
+    settledAs (atRest s Status (withBits (withoutBits (s .status) SR6) (cutBits (s .phase)))) (cutOf (s .phase) part (s .address))
 
 -- step 3: a running operation counts one cycle off; at zero it is finished (R-cycle-5)
 unfoldable pub countedOff : Part → State → Settled
 countedOff part s =
     if eqb (s .left - 1) 0 then settledAs (atRest s (s .mode) (withBits (s .status) SR7)) (finishOf (s .phase) part (s .address))
-    else settledAs (record { mode = s .mode; status = s .status; phase = s .phase; left = s .left - 1; address = s .address; wear = s .wear }) Nothing
+    else settledAs (record {
+      mode = s .mode;
+      status = s .status;
+      phase = s .phase;
+      left = s .left - 1;
+      address = s .address;
+      wear = s .wear;
+    }) Nothing
 
 -- step 3 while a suspend is under way: the erase stands still and one cycle of the suspend passes; on the last SR.7 and SR.6 are set
 -- (R-busy-2)

@@ -22,7 +22,8 @@ use model_types::states::reset;
 use model_types::states::suspend_left;
 ghost use mathlib.Core.Path.{_≡_};
 ghost use mathlib.Core.Bool.{_&&_};
-ghost use Rattle.model_operation.specs.Settling.{cutOf, finishOf, cutBits, residueFor, resetBy, cutBy, countedOff, suspendPassed, passedOf, settleOf};
+ghost use Rattle.model_operation.specs.Settling.{cutOf, finishOf, cutBits, residueFor, resetBy, cutBy, countedOff, suspendPassed};
+ghost use Rattle.model_operation.specs.Settling.{passedOf, settleOf};
 
 // The cut of the operation that is running, being suspended or suspended.
 fn cut(ph: Phase, part: Part, address: u32) -> Effect

@@ -120,4 +120,5 @@ acceptOf d c t = if rpLow (c .pins) then decidedAs Quiet (t .state) (t .effect) 
 -- one bus cycle: refused by its number, or the four steps (R-demand-2)
 unfoldable pub decideOf : Device → State → Cycle → ℕ → ℕ → Decision
 decideOf d s c array residue =
-    if eqb (numberOf d s c array residue) 0 then acceptOf d c (settleOf (d .part) s (c .pins)) else refusedBy (numberOf d s c array residue) s
+    if eqb (numberOf d s c array residue) 0 then acceptOf d c (settleOf (d .part) s (c .pins))
+    else refusedBy (numberOf d s c array residue) s

@@ -41,7 +41,8 @@ decideArray part s c t = if inSuspended part (t .state) (c .address) then refuse
 
 -- an identifier read: 9, or the code
 unfoldable pub decideIdentifier : Part → State → Cycle → Settled → Decision
-decideIdentifier part s c t = if ltb 1 (codePlace part (c .address)) then refusedBy 9 s else settledBy (Gives (identifierOf part (c .address))) t
+decideIdentifier part s c t = if ltb 1 (codePlace part (c .address)) then refusedBy 9 s
+    else settledBy (Gives (identifierOf part (c .address))) t
 
 -- a read, by mode
 abbrev pub decideRead : Mode → Part → State → Cycle → Settled → Decision
@@ -62,7 +63,8 @@ decideKind Idle d s c t = settledBy Quiet t
 -- a cycle that refusals 1 to 6 do not stop; with RP# low it ends after step 1
 unfoldable pub decideJudged : Device → State → Cycle → Decision
 decideJudged d s c =
-    if rpLow (c .pins) then settledBy Quiet (settleOf (d .part) s (c .pins)) else decideKind (c .kind) d s c (settleOf (d .part) s (c .pins))
+    if rpLow (c .pins) then settledBy Quiet (settleOf (d .part) s (c .pins))
+    else decideKind (c .kind) d s c (settleOf (d .part) s (c .pins))
 
 -- an array read of a device with nothing awaited, running or suspended, RP# up
 unfoldable pub asksArray : State → Cycle → Bool

@@ -29,7 +29,8 @@ ghost use Rattle.model_types.specs.Levels.{rpLow, vppLow};
 ghost use lib.Dec.{eqb};
 ghost use Rattle.device.specs.Parts.{sizeOf};
 ghost use Rattle.model_rules.specs.Cycles.{pastArray, shortResidue, judgeOf, refusedBy, skipsLast, codePlace, identifierOf};
-ghost use Rattle.model_rules.specs.Inner.{settledBy, inSuspended, decideArray, decideIdentifier, decideRead, decideWrite, decideKind, decideJudged, asksArray};
+ghost use Rattle.model_rules.specs.Inner.{settledBy, inSuspended, decideArray, decideIdentifier, decideRead, decideWrite, decideKind};
+ghost use Rattle.model_rules.specs.Inner.{decideJudged, asksArray};
 ghost use Rattle.model_types.specs.Phases.{isSuspended, isFree};
 ghost use Rattle.model_types.specs.Kinds.{isIdle, isRead};
 

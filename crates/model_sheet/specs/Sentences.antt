@@ -22,7 +22,9 @@ use Rattle.model.specs.declared.Seen.the-variants.{Data, Refused}
 use Rattle.model.specs.Arrays.{erased, residual}
 use Rattle.model.specs.Begun.{pendingOf, askedBy}
 use Rattle.model_history.specs.History.{Bus, World, worldOf, stepped, worldAfter, seenOn, seenIn, effectBy}
-use Rattle.model_sheet.specs.Sheet.{Judged, Quietly, begunAt, isErase, isEnd, busyTime, afterBegun, countedAfter, IsLast, LastOf, Falls, endState, cutState, endBytes, cutBytes, isIgnored, unheard, goesOn, oneLess, ErrorBit, clears, noneClears, isConfirm, Confirms, errorOf, levelled, Comparable}
+use Rattle.model_sheet.specs.Sheet.{Judged, Quietly, begunAt, isErase, isEnd, busyTime, afterBegun, countedAfter, IsLast, LastOf}
+use Rattle.model_sheet.specs.Sheet.{Falls, endState, cutState, endBytes, cutBytes, isIgnored, unheard, goesOn, oneLess, ErrorBit}
+use Rattle.model_sheet.specs.Sheet.{clears, noneClears, isConfirm, Confirms, errorOf, levelled, Comparable}
 
 -- an operation that cycle b of v begins, over any cycles after it of which none cuts (R-second-4, R-cycle-5)
 pub record Lasts (d : Device) (v : World) (b : Bus) (op : Effect) (bs : List Bus) : Type 0 where

@@ -70,7 +70,8 @@ At (c ∷ bs) (suc i) b = At bs i b
 
 -- what a cycle does to the array: an operation ends or is cut, or nothing
 abbrev pub effectOn : Device → World → Bus → Effect
-effectOn d v b = decideOf d (v .state) (b .cycle) (length (lent (d .part .word) (v .bytes))) (length (units (d .part .word) (b .residue))) .effect
+effectOn d v b =
+    decideOf d (v .state) (b .cycle) (length (lent (d .part .word) (v .bytes))) (length (units (d .part .word) (b .residue))) .effect
 
 -- the operation that it begins
 abbrev pub begunOn : Device → World → Bus → Effect

@@ -8,7 +8,8 @@ use Rattle.device.specs.Parts.{sizeOf}
 use Rattle.device.specs.declared.Device.{Device}
 use Rattle.model_types.specs.declared.Mode.{Mode}
 use Rattle.model_types.specs.declared.Phase.{Phase}
-use Rattle.model_types.specs.declared.Phase.the-variants.{Free, EraseAwaited, DataAwaited, Programming, Erasing, Suspending, Suspended}
+use Rattle.model_types.specs.declared.Phase.the-variants.{Free, EraseAwaited, DataAwaited, Programming, Erasing, Suspending}
+use Rattle.model_types.specs.declared.Phase.the-variants.{Suspended}
 use Rattle.model_types.specs.Phases.{isPending}
 use Rattle.model_types.specs.Status.{SR6, SR3}
 use Rattle.model_types.specs.States.{isStatus, isIdentifier, mostLeft}

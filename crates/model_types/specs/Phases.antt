@@ -2,7 +2,8 @@
 use mathlib.Core.Bool.{Bool, true, false, not}
 use Prim.Native.Nat.{ℕ}
 use Rattle.model_types.specs.declared.Phase.{Phase}
-use Rattle.model_types.specs.declared.Phase.the-variants.{Free, EraseAwaited, DataAwaited, Programming, Erasing, Suspending, Suspended}
+use Rattle.model_types.specs.declared.Phase.the-variants.{Free, EraseAwaited, DataAwaited, Programming, Erasing, Suspending}
+use Rattle.model_types.specs.declared.Phase.the-variants.{Suspended}
 
 -- nothing is awaited, running or suspended
 abbrev pub isFree : Phase → Bool

@@ -8,7 +8,8 @@ use Rattle.device.specs.declared.Device.{Device}
 use Rattle.model_types.specs.declared.Mode.{Mode}
 use Rattle.model_types.specs.declared.Mode.the-variants.{Array, Status, Identifier}
 use Rattle.model_types.specs.declared.Phase.{Phase}
-use Rattle.model_types.specs.declared.Phase.the-variants.{Free, EraseAwaited, DataAwaited, Programming, Erasing, Suspending, Suspended}
+use Rattle.model_types.specs.declared.Phase.the-variants.{Free, EraseAwaited, DataAwaited, Programming, Erasing, Suspending}
+use Rattle.model_types.specs.declared.Phase.the-variants.{Suspended}
 use Rattle.model_types.specs.declared.State.{State}
 use Rattle.model_types.specs.Phases.{isAwaited, isBusy, isSuspending, suspendLeft, isSuspended, isPending}
 use Rattle.model_types.specs.Status.{SR7, SR6, SR3}

@@ -4,7 +4,8 @@ use crate::Kind;
 use crate::Pins;
 use device::Part;
 ghost use mathlib.Core.Path.{_≡_};
-ghost use Rattle.model_types.specs.Levels.{rpLow, vppLow, atTwelve, atFive, vppHigh, badWp, badPins, mostOe, badOe, badLevels, unlocked, locked};
+ghost use Rattle.model_types.specs.Levels.{rpLow, vppLow, atTwelve, atFive, vppHigh, badWp, badPins, mostOe, badOe, badLevels};
+ghost use Rattle.model_types.specs.Levels.{unlocked, locked};
 
 // RP# is low.
 pub fn rp_low(p: Pins) -> bool

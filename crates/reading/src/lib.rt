@@ -8,7 +8,8 @@ ghost use lib.Signed.{ltZ};
 ghost use lib.Ieee.{ofInt, binary64};
 ghost use Rattle.file_codec.specs.File.{limit, readerOf, inRoom, leftIn};
 ghost use Rattle.reading_table.specs.Table.{voltsOf};
-ghost use Rattle.reading.specs.Readings.{heatOf, pairAt, readingOf, readingNumber, readingAnswer, tableAnswer, answerAs, answerTold, toldAt, toldAs};
+ghost use Rattle.reading.specs.Readings.{heatOf, pairAt, readingOf, readingNumber, readingAnswer, tableAnswer, answerAs, answerTold};
+ghost use Rattle.reading.specs.Readings.{toldAt, toldAs};
 
 // A temperature in tenths of a degree; or the voltage is below or above the table, with the end knot's temperature.
 pub enum Reading {
@@ -124,7 +125,8 @@ fn judged_reading(payload: &[u8], x: i32) -> ReadingAnswer
 pub fn reading_from_file(file: &[u8], letter: u8, room: &mut [u8], x: i32) -> ReadingAnswer
     ensures result { λ r. ⌜ r ≡ answerAs x (inRoom (length (now (room .entry))) (readerOf limit (now (file .entry)) letter)) ⌝ }
     ensures told { λ r. ⌜ answerTold r ≡ toldAs x (inRoom (length (now (room .entry))) (readerOf limit (now (file .entry)) letter)) ⌝ }
-    ensures room_left { λ _. ⌜ now (room .exit) ≡ leftIn (now (room .entry)) (inRoom (length (now (room .entry))) (readerOf limit (now (file .entry)) letter)) ⌝ }
+    ensures room_left { λ _. ⌜ now (room .exit)
+        ≡ leftIn (now (room .entry)) (inRoom (length (now (room .entry))) (readerOf limit (now (file .entry)) letter)) ⌝ }
 {
     let got = file_codec::read(file, letter, room);
     match got {

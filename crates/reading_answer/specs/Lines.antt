@@ -68,9 +68,14 @@ callWrong count letter = not (eqb count 5) || not (eqb (length letter) 1)
 -- the microvolts are a number, or they are none
 abbrev pub readBy : NumberRead → List ℕ → ℕ → List ℕ → Answered
 readBy (Whole x) file letter room =
-    record { line = answerLine (answerAs x (inRoom (length room) (readerOf limit file letter))); stream = 1; room = leftIn room (inRoom (length room) (readerOf limit file letter)) }
+    record {
+      line = answerLine (answerAs x (inRoom (length room) (readerOf limit file letter)));
+      stream = 1;
+      room = leftIn room (inRoom (length room) (readerOf limit file letter));
+    }
 readBy NoNumber file letter room = misused room
 
 -- the whole: words of a call, so many with the program's own; file, letter, microvolts; and the room lent
 unfoldable pub answered : ℕ → List ℕ → List ℕ → List ℕ → List ℕ → Answered
-answered count file letter volts room = if callWrong count letter then misused room else readBy (numberTold volts) file (getD letter 0 0) room
+answered count file letter volts room = if callWrong count letter then misused room
+    else readBy (numberTold volts) file (getD letter 0 0) room

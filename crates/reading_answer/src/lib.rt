@@ -100,10 +100,14 @@ fn call_wrong(count: usize, letter: &[u8]) -> bool
 
 // The reading at so many microvolts from a file, in the front of out; the place behind it. The payload goes into room.
 fn put_read(out: &mut [u8], file: &[u8], letter: u8, room: &mut [u8], x: i32) -> usize
-    ensures result { λ n. ⌜ n ≡ behind (now (out .entry)) 0 (answerLine (answerAs x (inRoom (length (now (room .entry))) (readerOf limit (now (file .entry)) letter)))) ⌝ }
+    ensures result { λ n. ⌜ n
+        ≡ behind (now (out .entry)) 0
+        (answerLine (answerAs x (inRoom (length (now (room .entry))) (readerOf limit (now (file .entry)) letter)))) ⌝ }
     ensures out_left { λ _. ⌜ now (out .exit)
-        ≡ laidAt (now (out .entry)) 0 (answerLine (answerAs x (inRoom (length (now (room .entry))) (readerOf limit (now (file .entry)) letter)))) ⌝ }
-    ensures room_left { λ _. ⌜ now (room .exit) ≡ leftIn (now (room .entry)) (inRoom (length (now (room .entry))) (readerOf limit (now (file .entry)) letter)) ⌝ }
+        ≡ laidAt (now (out .entry)) 0
+        (answerLine (answerAs x (inRoom (length (now (room .entry))) (readerOf limit (now (file .entry)) letter)))) ⌝ }
+    ensures room_left { λ _. ⌜ now (room .exit)
+        ≡ leftIn (now (room .entry)) (inRoom (length (now (room .entry))) (readerOf limit (now (file .entry)) letter)) ⌝ }
 {
     let answer = reading::reading_from_file(file, letter, room, x);
     put_answer(out, answer)
@@ -120,9 +124,14 @@ pub fn answer(
     room: &mut [u8],
     out: &mut [u8],
 ) -> Told
-    ensures result { λ r. ⌜ r ≡ toldOn (answered count (now (file .entry)) (now (letter .entry)) (now (volts .entry)) (now (room .entry)) .stream) (now (out .entry)) (answered count (now (file .entry)) (now (letter .entry)) (now (volts .entry)) (now (room .entry)) .line) ⌝ }
-    ensures out_left { λ _. ⌜ now (out .exit) ≡ laidAt (now (out .entry)) 0 (answered count (now (file .entry)) (now (letter .entry)) (now (volts .entry)) (now (room .entry)) .line) ⌝ }
-    ensures room_left { λ _. ⌜ now (room .exit) ≡ answered count (now (file .entry)) (now (letter .entry)) (now (volts .entry)) (now (room .entry)) .room ⌝ }
+    ensures result { λ r. ⌜ r
+        ≡ toldOn (answered count (now (file .entry)) (now (letter .entry)) (now (volts .entry)) (now (room .entry)) .stream)
+        (now (out .entry)) (answered count (now (file .entry)) (now (letter .entry)) (now (volts .entry)) (now (room .entry)) .line) ⌝ }
+    ensures out_left { λ _. ⌜ now (out .exit)
+        ≡ laidAt (now (out .entry)) 0
+        (answered count (now (file .entry)) (now (letter .entry)) (now (volts .entry)) (now (room .entry)) .line) ⌝ }
+    ensures room_left { λ _. ⌜ now (room .exit)
+        ≡ answered count (now (file .entry)) (now (letter .entry)) (now (volts .entry)) (now (room .entry)) .room ⌝ }
     ensures out_used { λ r. ⌜ Used (r .used) (now (out .exit)) ⌝ }
 {
     if call_wrong(count, letter) {

@@ -9,4 +9,6 @@ pairOf x0 t0 x1 t1 = record { x0 = ofInt binary64 x0; t0 = ofInt binary64 t0; x1
 
 -- t0 + (t1 - t0)(x - x0)/(x1 - x0): each operation rounded once from the left, multiplication before division (R-reading-2, R-form-1)
 abbrev pub interpolated : Pair → Float → Float
-interpolated p x = add binary64 (p .t0) (div binary64 (mul binary64 (sub binary64 (p .t1) (p .t0)) (sub binary64 x (p .x0))) (sub binary64 (p .x1) (p .x0)))
+interpolated p x =
+    add binary64 (p .t0)
+    (div binary64 (mul binary64 (sub binary64 (p .t1) (p .t0)) (sub binary64 x (p .x0))) (sub binary64 (p .x1) (p .x0)))

@@ -4,7 +4,8 @@ ghost use mathlib.Core.Bool.{not};
 ghost use Prim.Native.Nat.{_/_, _<_};
 ghost use lib.ListN.{length};
 ghost use lib.Signed.{ltZ, leZ};
-ghost use Rattle.reading_table.specs.Table.{signed32, signed16, word32, word16, voltsOf, tenthsOf, inRange, goodAt, risesTo, risingOf, shapeWrong, tableNumber};
+ghost use Rattle.reading_table.specs.Table.{signed32, signed16, word32, word16, voltsOf, tenthsOf, inRange, goodAt, risesTo};
+ghost use Rattle.reading_table.specs.Table.{risingOf, shapeWrong, tableNumber};
 ghost use Rattle.reading_table.specs.Faults.{faultOf};
 ghost use Rattle.reading_table.specs.Search.{seekOf};
 

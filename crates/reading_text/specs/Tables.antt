@@ -22,7 +22,8 @@ sixOf volts tenths = volts / 16777216 % 256 ∷ volts / 65536 % 256 ∷ volts / 
 
 -- a payload with knot k in its place, where there is room for it
 unfoldable pub withKnot : List ℕ → ℕ → Number → Number → List ℕ
-withKnot out k volts tenths = if leb (length out / 6) k then out else overlaid out (6 * k) (sixOf (bitsOf volts 4294967296) (bitsOf tenths 65536))
+withKnot out k volts tenths = if leb (length out / 6) k then out
+    else overlaid out (6 * k) (sixOf (bitsOf volts 4294967296) (bitsOf tenths 65536))
 
 -- tenths that 16 bits hold: -32,768 to 32,767
 unfoldable pub fitsTenths : Number → Bool

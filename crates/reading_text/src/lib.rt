@@ -2,8 +2,11 @@
 ghost use mathlib.Core.Path.{_≡_};
 ghost use Prim.Native.Nat.{_+_, _*_, _/_, _<_};
 ghost use lib.ListN.{length};
-ghost use Rattle.reading_text.specs.Numbers.{numberStart, fedDigit, fedMinus, fedOther, fed, numberFed, isNumber, isNegative, valueOf, numberTold, numberValues, valuesIn};
-ghost use Rattle.reading_text.specs.Tables.{bitsOf, sixOf, withKnot, fitsTenths, lineWrong, gapWrong, scanStart, stoppedScan, nextNumber, nextLine, nextLetter, atGap, withinLine, endLine, scanMore, isBegun, tableRead, tableScanned, tableTold, scanTold};
+ghost use Rattle.reading_text.specs.Numbers.{numberStart, fedDigit, fedMinus, fedOther, fed, numberFed, isNumber, isNegative};
+ghost use Rattle.reading_text.specs.Numbers.{valueOf, numberTold, numberValues, valuesIn};
+ghost use Rattle.reading_text.specs.Tables.{bitsOf, sixOf, withKnot, fitsTenths, lineWrong, gapWrong, scanStart, stoppedScan};
+ghost use Rattle.reading_text.specs.Tables.{nextNumber, nextLine, nextLetter, atGap, withinLine, endLine, scanMore, isBegun};
+ghost use Rattle.reading_text.specs.Tables.{tableRead, tableScanned, tableTold, scanTold};
 
 // A number as far as it is read: whether it has a minus and a digit, whether it is none, and its size.
 pub struct Number {

@@ -34,6 +34,7 @@ tenthsHold minus n = if minus then leb n 32768 else leb n 32767
 -- the text of a table from knot k up to knot n: for each knot a number, a space, tenths that 16 bits hold, and a newline
 pub data TableForm : List ℕ → ℕ → ℕ → Type 0 where
   done : (n : ℕ) → TableForm [] n n
-  knot : (volts tenths rest : List ℕ) (k n : ℕ) → NumberForm volts → (t : NumberForm tenths) → tenthsHold (t .minus) (countedFrom 0 (t .digits)) ≡ true
+  knot : (volts tenths rest : List ℕ) (k n : ℕ) → NumberForm volts → (t : NumberForm tenths)
+      → tenthsHold (t .minus) (countedFrom 0 (t .digits)) ≡ true
       → TableForm rest (k + 1) n
       → TableForm (volts ++ (32 ∷ (tenths ++ (10 ∷ rest)))) k n

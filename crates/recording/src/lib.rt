@@ -17,7 +17,8 @@ ghost use Rattle.units.specs.Units.{units};
 ghost use Rattle.model_types.specs.Kinds.{isWrite};
 ghost use Rattle.model_commands.specs.Commands.{unsupplied};
 ghost use Rattle.model.specs.declared.Seen.the-variants.{NoData, Data};
-ghost use Rattle.recording.specs.Recordings.{starts, outside, wrongCount, cutsOff, countOf, timeOf, timed, deviceFor, agrees, faulty, recordedOf, bytesRecorded, whySeen, whyOf};
+ghost use Rattle.recording.specs.Recordings.{starts, outside, wrongCount, cutsOff, countOf, timeOf, timed, deviceFor, agrees, faulty};
+ghost use Rattle.recording.specs.Recordings.{recordedOf, bytesRecorded, whySeen, whyOf};
 ghost use Rattle.recording.specs.Inner.{unbarred, asks, seenJudged};
 
 // The answer that was seen: none, or data of up to 16 bits.

@@ -8,7 +8,9 @@ ghost use Prim.Native.Nat.{_≤_};
 ghost use Rattle.recording.specs.declared.Heard.the-variants.{Told};
 ghost use Rattle.text.specs.Digits.{spelled};
 ghost use Rattle.text.specs.Writing.{laidAt, behind};
-ghost use Rattle.recording_answer.specs.Lines.{dataWidth, addressWidth, dataText, addressText, heardText, around, givenText, rulesText, seenText, whyText, faultLine, badLine, acceptedLine, differsText, shorterText, lengthsText, placeText, arrayText, endText, firstApart};
+ghost use Rattle.recording_answer.specs.Lines.{dataWidth, addressWidth, dataText, addressText, heardText, around, givenText};
+ghost use Rattle.recording_answer.specs.Lines.{rulesText, seenText, whyText, faultLine, badLine, acceptedLine, differsText};
+ghost use Rattle.recording_answer.specs.Lines.{shorterText, lengthsText, placeText, arrayText, endText, firstApart};
 
 // So many hexadecimal digits of a number.
 fn put_hex(out: &mut [u8], at: usize, n: usize, v: u64) -> usize

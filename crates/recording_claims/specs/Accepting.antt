@@ -17,7 +17,8 @@ use Rattle.recording_walk.specs.Lists.{Held, heldOf, leftBy}
 -- each record is without fault in the world that the records before it leave
 abbrev pub Faultless : Device → Held → List Noted → Type 0
 Faultless d v rs =
-    (before : List Noted) (r : Noted) (after : List Noted) → rs ≡ before ++ (r ∷ after) → faulty d (leftBy d v before .state) r (leftBy d v before .bytes) ≡ false
+    (before : List Noted) (r : Noted) (after : List Noted) → rs ≡ before ++ (r ∷ after)
+    → faulty d (leftBy d v before .state) r (leftBy d v before .bytes) ≡ false
 
 -- the end is as it must be: nothing awaited, running or suspended, and the array is the one promised
 pub record Ends (v : Held) (promised : List ℕ) : Type 0 where

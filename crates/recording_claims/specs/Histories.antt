@@ -30,7 +30,9 @@ worldsBy d v (r ∷ rs) = worldsBy d (stepped (deviceFor d (v .state) r) v (busO
 -- what they begin
 abbrev pub begunIn : Device → World → List Noted → List Effect
 begunIn d v [] = []
-begunIn d v (r ∷ rs) = begunBy (deviceFor d (v .state) r) (v .state) (r .cycle) (length (v .bytes)) 0 ∷ begunIn d (stepped (deviceFor d (v .state) r) v (busOf r)) rs
+begunIn d v (r ∷ rs) =
+    begunBy (deviceFor d (v .state) r) (v .state) (r .cycle) (length (v .bytes)) 0
+    ∷ begunIn d (stepped (deviceFor d (v .state) r) v (busOf r)) rs
 
 -- a device with other busy times
 abbrev pub withTimes : Device → ℕ → ℕ → Device
@@ -44,4 +46,5 @@ busesIn (r ∷ rs) = busOf r ∷ busesIn rs
 -- every start has the count that the device itself would use
 abbrev pub ownTimes : Device → Held → List Noted → Bool
 ownTimes d v [] = true
-ownTimes d v (r ∷ rs) = (not (starts (d .part) (v .state) (r .cycle)) || eqb (r .busy) (timeUsed d (v .state .phase))) && ownTimes d (onward d v r) rs
+ownTimes d v (r ∷ rs) =
+    (not (starts (d .part) (v .state) (r .cycle)) || eqb (r .busy) (timeUsed d (v .state .phase))) && ownTimes d (onward d v r) rs

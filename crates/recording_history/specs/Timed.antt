@@ -13,7 +13,8 @@ use Rattle.model_types.specs.Levels.{vppHigh, unlocked}
 use Rattle.model.specs.Arrays.{Accepted}
 use Rattle.model.specs.Begun.{operationOf}
 use Rattle.model_history.specs.History.{Bus, World, worldOf}
-use Rattle.model_touch.specs.Touch.{byRules, answerOn, afterCycle, effectOn, begunOn, askedOn, inUnit, inBlock, isOn, Differs, TouchesOnly, OnlyClears}
+use Rattle.model_touch.specs.Touch.{byRules, answerOn, afterCycle, effectOn, begunOn, askedOn, inUnit, inBlock, isOn, Differs, TouchesOnly}
+use Rattle.model_touch.specs.Touch.{OnlyClears}
 use Rattle.recording.specs.declared.Noted.{Noted}
 use Rattle.recording.specs.Recordings.{timeOf}
 use Rattle.recording_walk.specs.Lists.{Held, onward}
@@ -101,7 +102,8 @@ pub record Touch (d : Device) (v : World) (ts : List TimedCycle) : Type 0 where
 -- a recording as such a history: a timed cycle for each record, with the record's own time
 abbrev pub timedOf : Device → Held → List Noted → List TimedCycle
 timedOf d v [] = []
-timedOf d v (r ∷ rs) = record { program = timeOf (d .part) (v .state) r; erase = timeOf (d .part) (v .state) r; bus = busOf r } ∷ timedOf d (onward d v r) rs
+timedOf d v (r ∷ rs) =
+    record { program = timeOf (d .part) (v .state) r; erase = timeOf (d .part) (v .state) r; bus = busOf r } ∷ timedOf d (onward d v r) rs
 
 -- what is held, as a world
 abbrev pub worldIn : Held → World

@@ -9,7 +9,8 @@ use Rattle.common.specs.Choice.{if_then_else_}
 use Rattle.recording.specs.declared.Heard.{Heard}
 use Rattle.recording.specs.declared.Heard.the-variants.{Silence, Told}
 use Rattle.recording.specs.declared.Noted.{Noted}
-use Rattle.trace_lines.specs.Lines.{Place, aDigit, aHex, exactly, fits, space, newline, lineForm, twoHex, fiveDigits, cycleStated, decimalDigit, lineOf, Fits}
+use Rattle.trace_lines.specs.Lines.{Place, aDigit, aHex, exactly, fits, space, newline, lineForm, twoHex, fiveDigits, cycleStated}
+use Rattle.trace_lines.specs.Lines.{decimalDigit, lineOf, Fits}
 use Rattle.text.specs.Digits.{digitLetter}
 
 -- a dash
@@ -37,7 +38,8 @@ recordForm seen told = cycleForm ++ (answerForm seen ++ countForm told)
 -- a line of a recording: a list of one of the four forms
 unfoldable pub isRecord : List ℕ → Bool
 isRecord xs =
-    (fits (recordForm true true) xs || fits (recordForm true false) xs) || (fits (recordForm false true) xs || fits (recordForm false false) xs)
+    (fits (recordForm true true) xs || fits (recordForm true false) xs)
+    || (fits (recordForm false true) xs || fits (recordForm false false) xs)
 
 -- the answer that a line states
 unfoldable pub heardStated : List ℕ → Heard
@@ -58,7 +60,8 @@ answerText Silence = 32 ∷ 78 ∷ 32 ∷ 45 ∷ 45 ∷ []
 
 -- a count printed, told or not
 abbrev pub countText : Bool → ℕ → List ℕ
-countText true n = 32 ∷ decimalDigit (n / 10000) ∷ decimalDigit (n / 1000) ∷ decimalDigit (n / 100) ∷ decimalDigit (n / 10) ∷ decimalDigit n ∷ 10 ∷ []
+countText true n =
+    32 ∷ decimalDigit (n / 10000) ∷ decimalDigit (n / 1000) ∷ decimalDigit (n / 100) ∷ decimalDigit (n / 10) ∷ decimalDigit n ∷ 10 ∷ []
 countText false n = 32 ∷ 45 ∷ 45 ∷ 45 ∷ 45 ∷ 45 ∷ 10 ∷ []
 
 -- the line that states a record, with its count told or not

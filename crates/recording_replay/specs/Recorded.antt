@@ -109,7 +109,14 @@ usedFor number bad g =
 -- how the recording of g good lines went, with what is known after them
 abbrev pub madeFrom : ℕ → ℕ → Log → Made
 madeFrom g bad l =
-    record { number = l .number; line = l .refused; bad = bad; cut = l .cut; idle = isFree (l .state .phase); used = usedFor (l .number) bad g }
+    record {
+      number = l .number;
+      line = l .refused;
+      bad = bad;
+      cut = l .cut;
+      idle = isFree (l .state .phase);
+      used = usedFor (l .number) bad g;
+    }
 
 -- the room is too short for a line for each good line
 abbrev pub noRoom : Made
@@ -137,7 +144,9 @@ lineNote n words = (bytes "line " ++ decimalOf n) ++ words
 
 -- a refused cycle is no answer of a device
 abbrev pub refusedNote : ℕ → ℕ → List ℕ
-refusedNote line number = (lineNote line (bytes ": the cycle is refused by ") ++ decimalOf number) ++ bytes ", which is no answer of a device: there is no recording\n"
+refusedNote line number =
+    (lineNote line (bytes ": the cycle is refused by ") ++ decimalOf number)
+    ++ bytes ", which is no answer of a device: there is no recording\n"
 
 -- what is to be said: why there is no recording, or why the check of recordings does not accept it; else nothing
 unfoldable pub noteOf : Made → List ℕ

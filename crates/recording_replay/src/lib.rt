@@ -20,7 +20,9 @@ ghost use Rattle.text.specs.Writing.{laidAt, behind, Used};
 ghost use Rattle.trace_lines.specs.Lines.{decimalDigit, cycleStated};
 ghost use Rattle.trace_replay.specs.Replays.{benchT, lineStep, arrayBy, arraysOf};
 ghost use Rattle.recording.specs.Recordings.{cutsOff};
-ghost use Rattle.recording_replay.specs.Recorded.{timeAwaited, busyOf, refusalNumber, firstLine, firstNumber, logBy, answerFor, countFor, lineFor, linesFrom, logFrom, noLog, badBehind, usedFor, madeFrom, noRoom, traceMade, arrayMade, outMade, lineNote, refusedNote, noteOf};
+ghost use Rattle.recording_replay.specs.Recorded.{timeAwaited, busyOf, refusalNumber, firstLine, firstNumber, logBy, answerFor};
+ghost use Rattle.recording_replay.specs.Recorded.{countFor, lineFor, linesFrom, logFrom, noLog, badBehind, usedFor, madeFrom, noRoom};
+ghost use Rattle.recording_replay.specs.Recorded.{traceMade, arrayMade, outMade, lineNote, refusedNote, noteOf};
 
 // What is known after some lines: the state that they leave, the first line whose cycle is refused with the refusal's number, and the
 // first line that cuts an operation; 0 where there is none.
@@ -180,10 +182,16 @@ fn write_line(line: &[u8], seen: Seen, busy: u16, out: &mut [u8])
 // One line more.
 fn next(l: Log, n: u32, line: &[u8], array: &mut [u8], residue: &[u8], out: &mut [u8]) -> Log
     requires { ⌜ length (now line) ≡ 20 ⌝ }
-    ensures result { λ r. ⌜ r ≡ logBy benchT l n (cycleStated (now (line .entry))) (lineStep (l .state) (cycleStated (now (line .entry))) (now (array .entry)) (now (residue .entry))) ⌝ }
-    ensures array_left { λ _. ⌜ now (array .exit) ≡ arrayBy (l .state) (cycleStated (now (line .entry))) (now (array .entry)) (now (residue .entry)) ⌝ }
+    ensures result { λ r. ⌜ r
+        ≡ logBy benchT l n (cycleStated (now (line .entry)))
+        (lineStep (l .state) (cycleStated (now (line .entry))) (now (array .entry)) (now (residue .entry))) ⌝ }
+    ensures array_left { λ _. ⌜ now (array .exit)
+        ≡ arrayBy (l .state) (cycleStated (now (line .entry))) (now (array .entry)) (now (residue .entry)) ⌝ }
     ensures out_left { λ _. ⌜ now (out .exit)
-        ≡ copied (now (out .entry)) (lineFor (now (line .entry)) (lineStep (l .state) (cycleStated (now (line .entry))) (now (array .entry)) (now (residue .entry)) .seen) (busyOf benchT (l .state) (cycleStated (now (line .entry))))) ⌝ }
+        ≡ copied (now (out .entry))
+        (lineFor (now (line .entry))
+        (lineStep (l .state) (cycleStated (now (line .entry))) (now (array .entry)) (now (residue .entry)) .seen)
+        (busyOf benchT (l .state) (cycleStated (now (line .entry))))) ⌝ }
 {
     let d = trace_replay::bench();
     let s = l.state;
@@ -212,7 +220,8 @@ fn no_log() -> Log
 fn record_lines(g: usize, text: &[u8], array: &mut [u8], residue: &[u8], out: &mut [u8]) -> Log
     requires { ⌜ (20 * g ≤ length (now text)) × (31 * g ≤ length (now out)) × (g ≤ 9998) ⌝ }
     ensures result { λ r. ⌜ r ≡ logFrom g 1 noLog (now (array .entry)) (now (residue .entry)) (now (text .entry)) ⌝ }
-    ensures array_left { λ _. ⌜ now (array .exit) ≡ arraysOf g freshState (now (array .entry)) (now (residue .entry)) (now (text .entry)) ⌝ }
+    ensures array_left { λ _. ⌜ now (array .exit)
+        ≡ arraysOf g freshState (now (array .entry)) (now (residue .entry)) (now (text .entry)) ⌝ }
     ensures out_left { λ _. ⌜ now (out .exit)
         ≡ linesFrom g freshState (now (array .entry)) (now (residue .entry)) (now (text .entry)) ++ drop (31 * g) (now (out .entry)) ⌝ }
 {
@@ -303,8 +312,10 @@ fn no_room() -> Made
 // there is no recording, and what out holds is none.
 pub fn record_trace(text: &[u8], array: &mut [u8], residue: &[u8], out: &mut [u8]) -> Made
     ensures result { λ r. ⌜ r ≡ traceMade (length (now (out .entry))) (now (array .entry)) (now (residue .entry)) (now (text .entry)) ⌝ }
-    ensures array_left { λ _. ⌜ now (array .exit) ≡ arrayMade (length (now (out .entry))) (now (array .entry)) (now (residue .entry)) (now (text .entry)) ⌝ }
-    ensures out_left { λ _. ⌜ now (out .exit) ≡ outMade (now (out .entry)) (now (array .entry)) (now (residue .entry)) (now (text .entry)) ⌝ }
+    ensures array_left { λ _. ⌜ now (array .exit)
+        ≡ arrayMade (length (now (out .entry))) (now (array .entry)) (now (residue .entry)) (now (text .entry)) ⌝ }
+    ensures out_left { λ _. ⌜ now (out .exit)
+        ≡ outMade (now (out .entry)) (now (array .entry)) (now (residue .entry)) (now (text .entry)) ⌝ }
     ensures out_used { λ r. ⌜ Used (r .used) (now (out .exit)) ⌝ }
 {
     let g = trace_replay::good_lines(text);

@@ -62,7 +62,8 @@ fn put_later(
 ) -> usize
     requires { ⌜ (bad ≤ 9999) × (n ≤ 9998) ⌝ }
     ensures result { λ r. ⌜ r ≡ behind (now (out .entry)) 0 (laterText bad n well ph (now (promised .entry)) (now (array .entry))) ⌝ }
-    ensures out_left { λ _. ⌜ now (out .exit) ≡ laidAt (now (out .entry)) 0 (laterText bad n well ph (now (promised .entry)) (now (array .entry))) ⌝ }
+    ensures out_left { λ _. ⌜ now (out .exit)
+        ≡ laidAt (now (out .entry)) 0 (laterText bad n well ph (now (promised .entry)) (now (array .entry))) ⌝ }
 {
     if bad != 0 {
         return recording_answer::put_bad(out, 0, bad as u32);
@@ -77,7 +78,8 @@ fn put_later(
 // of 128 bytes holds all that can be said.
 pub fn tell(text: &[u8], promised: &[u8], array: &mut [u8], out: &mut [u8]) -> usize
     ensures result { λ r. ⌜ r ≡ behind (now (out .entry)) 0 (toldOf (now (text .entry)) (now (promised .entry)) (now (array .entry))) ⌝ }
-    ensures out_left { λ _. ⌜ now (out .exit) ≡ laidAt (now (out .entry)) 0 (toldOf (now (text .entry)) (now (promised .entry)) (now (array .entry))) ⌝ }
+    ensures out_left { λ _. ⌜ now (out .exit)
+        ≡ laidAt (now (out .entry)) 0 (toldOf (now (text .entry)) (now (promised .entry)) (now (array .entry))) ⌝ }
     ensures array_left { λ _. ⌜ now (array .exit) ≡ arrayJudged (now (text .entry)) (now (array .entry)) ⌝ }
     ensures out_used { λ r. ⌜ Used r (now (out .exit)) ⌝ }
 {

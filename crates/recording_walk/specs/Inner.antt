@@ -53,4 +53,5 @@ walkFrom d s n = record { device = d; state = s; number = startNumber d s n; sto
 
 -- what a walk that has come to the end of the list answers
 unfoldable pub endOf : Walk → List ℕ → List ℕ → Checked
-endOf w promised bytes = record { number = w .number; accepted = not (w .stopped) && endsWell (heldOf (w .state) bytes) promised; at = w .at; state = w .state }
+endOf w promised bytes =
+    record { number = w .number; accepted = not (w .stopped) && endsWell (heldOf (w .state) bytes) promised; at = w .at; state = w .state }

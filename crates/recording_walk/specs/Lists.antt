@@ -28,7 +28,8 @@ heldOf s xs = record { state = s; bytes = xs }
 
 -- after one record more, by the model's own rules
 abbrev pub onward : Device → Held → Noted → Held
-onward d v r = heldOf (answerTo d (v .state) r (v .bytes) .state) (bytesAfter (deviceFor d (v .state) r) (v .state) (r .cycle) (v .bytes) [])
+onward d v r =
+    heldOf (answerTo d (v .state) r (v .bytes) .state) (bytesAfter (deviceFor d (v .state) r) (v .state) (r .cycle) (v .bytes) [])
 
 -- where records lead
 abbrev pub leftBy : Device → Held → List Noted → Held
@@ -71,7 +72,12 @@ checkedOf d s rs promised bytes =
     let v : Held = heldOf s bytes in
     let n : ℕ = startNumber d s (length bytes) in
     let i : ℕ = passedBy d v rs in
-    if eqb n 0 then record { number = 0; accepted = eqb i (length rs) && endsWell (leftBy d v rs) promised; at = i; state = leftBy d v (take i rs) .state }
+    if eqb n 0 then record {
+      number = 0;
+      accepted = eqb i (length rs) && endsWell (leftBy d v rs) promised;
+      at = i;
+      state = leftBy d v (take i rs) .state;
+    }
     else record { number = n; accepted = false; at = 0; state = s }
 
 -- the lent bytes after the check: as the records before the first at fault leave them (R-recording-3)

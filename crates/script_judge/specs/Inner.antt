@@ -53,7 +53,8 @@ Ahead text x r = r .fault ≡ 0 → (r .at ≤ length text) × Sound r × (x .at
 
 -- a list's answer without a fault is a place where a list ends
 unfoldable pub Ended : List ℕ → Spot → Spot → Type 0
-Ended text x r = r .fault ≡ 0 → (r .at ≤ length text) × Sound r × (x .at ≤ r .at) × (itemComes false (wordIn (r .left) (drop (r .at) text)) ≡ false)
+Ended text x r = r .fault ≡ 0 → (r .at ≤ length text) × Sound r × (x .at ≤ r .at)
+    × (itemComes false (wordIn (r .left) (drop (r .at) text)) ≡ false)
 
 -- from x to y items were read, none at fault: the judging from x on is the judging from y on
 unfoldable pub Onward : List ℕ → ℕ → ℕ → Spot → Bool → Spot → Bool → Type 0

@@ -55,7 +55,8 @@ lineRound Closes ℓ K p must t = closeOf K ℓ must t
 -- from line ℓ on, where so many lines may still come
 unfoldable pub judge : ℕ → ℕ → List ℕ → ℕ → Bool → ℕ → List ℕ → Judged
 judge zero ℓ K p must t text = follow (lineRound (wordIn 0 text) ℓ K p must t) (λ K′ p′ must′ t′ u. faultAs ℓ)
-judge (suc n) ℓ K p must t text = follow (lineRound (wordIn (suc n) text) ℓ K p must t) (λ K′ p′ must′ t′ u. judge n (ℓ + 1) K′ p′ must′ t′ (drop u text))
+judge (suc n) ℓ K p must t text =
+    follow (lineRound (wordIn (suc n) text) ℓ K p must t) (λ K′ p′ must′ t′ u. judge n (ℓ + 1) K′ p′ must′ t′ (drop u text))
 
 -- a whole script: 3,000 lines at most, the first is line 1, no group is open (R-script-2)
 abbrev pub scriptJudged : List ℕ → Judged

@@ -2,7 +2,8 @@
 ghost use mathlib.Core.Path.{_≡_};
 ghost use lib.ListN.{drop};
 ghost use Rattle.trace_lines.specs.Lines.{fits};
-ghost use Rattle.script_lines.specs.Words.{openForm, closeForm, isTraced, isOpening, isClosing, countStated, wordIn, isEnds, isCloses};
+ghost use Rattle.script_lines.specs.Words.{openForm, closeForm, isTraced, isOpening, isClosing, countStated, wordIn, isEnds};
+ghost use Rattle.script_lines.specs.Words.{isCloses};
 
 // What stands at the front of a text: nothing, no line of a script, a trace line, an opening line with its count, a closing line.
 pub enum Word {

@@ -74,11 +74,13 @@ RunRead text x d r xs rs out xs′ out′ =
 
 -- from x to y items were run: whatever runs the list from y on runs it from x on
 unfoldable pub Leads : List ℕ → ℕ → Run → Run → List ℕ → List ℕ → List ℕ → List ℕ → List ℕ → Type 0
-Leads text d x y xs rs out ys out₁ = (r : Run) (xs′ out′ : List ℕ) → RunRead text y d r ys rs out₁ xs′ out′ → RunRead text x d r xs rs out xs′ out′
+Leads text d x y xs rs out ys out₁ = (r : Run) (xs′ out′ : List ℕ) → RunRead text y d r ys rs out₁ xs′ out′
+    → RunRead text x d r xs rs out xs′ out′
 
 -- an item run: where no byte was taken the list ends here, else it goes on
 unfoldable pub ItemRun : List ℕ → Run → ℕ → Run → List ℕ → List ℕ → List ℕ → List ℕ → List ℕ → Type 0
-ItemRun text x d r xs rs out xs′ out′ = (r .at ≡ x .at → RunRead text x d r xs rs out xs′ out′) × (x .at < r .at → Leads text d x r xs rs out xs′ out′)
+ItemRun text x d r xs rs out xs′ out′ = (r .at ≡ x .at → RunRead text x d r xs rs out xs′ out′)
+    × (x .at < r .at → Leads text d x r xs rs out xs′ out′)
 
 -- a list run n times over
 unfoldable pub AgainRead : List ℕ → Run → ℕ → ℕ → Run → List ℕ → List ℕ → List ℕ → List ℕ → List ℕ → Type 0
@@ -89,4 +91,5 @@ AgainRead text x d n r xs rs out xs′ out′ =
 
 -- rounds of a list that were run, from x to y: whatever runs the m that are left runs all n
 unfoldable pub Rounds : List ℕ → Run → ℕ → ℕ → Run → ℕ → List ℕ → List ℕ → List ℕ → List ℕ → List ℕ → Type 0
-Rounds text x d n y m xs rs out ys out₁ = (r : Run) (xs′ out′ : List ℕ) → AgainRead text y d m r ys rs out₁ xs′ out′ → AgainRead text x d n r xs rs out xs′ out′
+Rounds text x d n y m xs rs out ys out₁ = (r : Run) (xs′ out′ : List ℕ) → AgainRead text y d m r ys rs out₁ xs′ out′
+    → AgainRead text x d n r xs rs out xs′ out′

@@ -26,10 +26,13 @@ struct Run {
 fn answered(text: &[u8], x: Run, array: &mut [u8], residue: &[u8], out: &mut [u8]) -> Run
     requires { ⌜ (x .at + 20 ≤ length (now text)) × (x .used + 8 ≤ length (now out)) × (1 ≤ x .left) ⌝ }
     ensures result { λ r. ⌜ r ≡ lineRun (now (text .entry)) x (now (array .entry)) (now (residue .entry)) ⌝ }
-    ensures array_left { λ _. ⌜ now (array .exit) ≡ arrayBy (x .state) (cycleStated (take 20 (drop (x .at) (now (text .entry))))) (now (array .entry)) (now (residue .entry)) ⌝ }
+    ensures array_left { λ _. ⌜ now (array .exit)
+        ≡ arrayBy (x .state) (cycleStated (take 20 (drop (x .at) (now (text .entry))))) (now (array .entry)) (now (residue .entry)) ⌝ }
     ensures out_left { λ _. ⌜ now (out .exit)
         ≡ overlaid (now (out .entry)) (x .used)
-        (printedOf (lineStep (x .state) (cycleStated (take 20 (drop (x .at) (now (text .entry))))) (now (array .entry)) (now (residue .entry)))) ⌝ }
+        (printedOf
+        (lineStep (x .state) (cycleStated (take 20 (drop (x .at) (now (text .entry))))) (now (array .entry))
+        (now (residue .entry)))) ⌝ }
 {
     let a = x.at;
     let e = a + 20;
@@ -99,7 +102,8 @@ fn past_close(text: &[u8], x: Run) -> Run
 // The list at x, run to its end, with so many levels left to open.
 fn list(text: &[u8], x: Run, depth: usize, array: &mut [u8], residue: &[u8], out: &mut [u8]) -> Run
     requires { ⌜ (x .at ≤ length (now text)) × (x .used ≤ length (now out)) ⌝ }
-    ensures reads { λ r. ⌜ RunRead (now (text .entry)) x depth r (now (array .entry)) (now (residue .entry)) (now (out .entry)) (now (array .exit)) (now (out .exit)) ⌝ }
+    ensures reads { λ r. ⌜ RunRead (now (text .entry)) x depth r (now (array .entry)) (now (residue .entry)) (now (out .entry))
+        (now (array .exit)) (now (out .exit)) ⌝ }
     ensures ahead { λ r. ⌜ (r .at ≤ length (now (text .entry))) × (x .at ≤ r .at) × (r .used ≤ length (now (out .entry))) ⌝ }
 {
     let mut y = x;
@@ -116,7 +120,8 @@ fn list(text: &[u8], x: Run, depth: usize, array: &mut [u8], residue: &[u8], out
 // The item at x, run: a trace line, or a group, its list one level deeper; x itself where none stands, or no answer fits.
 fn item(text: &[u8], x: Run, depth: usize, array: &mut [u8], residue: &[u8], out: &mut [u8]) -> Run
     requires { ⌜ (x .at ≤ length (now text)) × (x .used ≤ length (now out)) ⌝ }
-    ensures reads { λ r. ⌜ ItemRun (now (text .entry)) x depth r (now (array .entry)) (now (residue .entry)) (now (out .entry)) (now (array .exit)) (now (out .exit)) ⌝ }
+    ensures reads { λ r. ⌜ ItemRun (now (text .entry)) x depth r (now (array .entry)) (now (residue .entry)) (now (out .entry))
+        (now (array .exit)) (now (out .exit)) ⌝ }
     ensures ahead { λ r. ⌜ (r .at ≤ length (now (text .entry))) × (x .at ≤ r .at) × (r .used ≤ length (now (out .entry))) ⌝ }
 {
     let w = script_lines::word_at(x.left, text, x.at);
@@ -156,7 +161,8 @@ fn item(text: &[u8], x: Run, depth: usize, array: &mut [u8], residue: &[u8], out
 // The mark of a line at fault, alone.
 fn marked(fault: usize, out: &mut [u8]) -> Replayed
     ensures result { λ r. ⌜ r ≡ replayedIn (length (now (out .entry))) (markOf fault) ⌝ }
-    ensures out_left { λ _. ⌜ now (out .exit) ≡ leftInRoom (length (now (out .entry))) (markOf fault) (now (out .entry)) (copied (now (out .entry)) (markOf fault)) ⌝ }
+    ensures out_left { λ _. ⌜ now (out .exit)
+        ≡ leftInRoom (length (now (out .entry))) (markOf fault) (now (out .entry)) (copied (now (out .entry)) (markOf fault)) ⌝ }
     ensures out_used { λ r. ⌜ Used (r .used) (now (out .exit)) ⌝ }
 {
     if out.len() < 7 {
@@ -171,7 +177,8 @@ fn marked(fault: usize, out: &mut [u8]) -> Replayed
 
 // A whole script on lent slices: at a fault its mark alone, else the answers to its lines written out.
 pub fn run_script(text: &[u8], array: &mut [u8], residue: &[u8], out: &mut [u8]) -> Replayed
-    ensures result { λ r. ⌜ r ≡ replayedIn (length (now (out .entry))) (scriptOutput (now (array .entry)) (now (residue .entry)) (now (text .entry))) ⌝ }
+    ensures result { λ r. ⌜ r
+        ≡ replayedIn (length (now (out .entry))) (scriptOutput (now (array .entry)) (now (residue .entry)) (now (text .entry))) ⌝ }
     ensures array_left { λ _. ⌜ now (array .exit)
         ≡ leftInRoom (length (now (out .entry))) (scriptOutput (now (array .entry)) (now (residue .entry)) (now (text .entry)))
         (now (array .entry)) (scriptArray (now (array .entry)) (now (residue .entry)) (now (text .entry))) ⌝ }

@@ -33,7 +33,8 @@ partNumber part n = given (row 1 (noStore part) ∷ row 2 (not (eqb n (sizeOf pa
 
 -- the refusals of a find before room is asked for: 1, 2, then 44, 42
 abbrev pub seekRows : Part → List ℕ → ℕ → List Row
-seekRows part xs ℓ = row 1 (noStore part) ∷ row 2 (not (eqb (length xs) (sizeOf part))) ∷ findRows (readerNumber limit) ℓ (mainOf part xs) []
+seekRows part xs ℓ =
+    row 1 (noStore part) ∷ row 2 (not (eqb (length xs) (sizeOf part))) ∷ findRows (readerNumber limit) ℓ (mainOf part xs) []
 
 -- the first refusal of these, 0 where nothing refuses
 unfoldable pub seekNumber : Part → List ℕ → ℕ → ℕ
@@ -89,18 +90,22 @@ changeMade r new = record { ran = r .ran; bytes = r .bytes; memory = new; scratc
 
 -- .. of one that is refused: no cycle is counted and nothing is touched
 abbrev pub changeRefused : ℕ → State → List ℕ → List ℕ → List ℕ → ChangeLeft
-changeRefused n s xs memory scratch = record { ran = record { count = 0; end = n; address = 0; state = s }; bytes = xs; memory = memory; scratch = scratch }
+changeRefused n s xs memory scratch =
+    record { ran = record { count = 0; end = n; address = 0; state = s }; bytes = xs; memory = memory; scratch = scratch }
 
 -- by its number and the block's new contents: refused, or the contents put into memory and one run of block 3 made with them
 unfoldable pub changeLeft : ℕ → List ℕ → Device → State → Pins → List ℕ → List ℕ → List ℕ → ChangeLeft
-changeLeft n new d s p xs memory scratch = if eqb n 0 then changeMade (lentRun (changeJob d s p) xs new scratch) new else changeRefused n s xs memory scratch
+changeLeft n new d s p xs memory scratch = if eqb n 0 then changeMade (lentRun (changeJob d s p) xs new scratch) new
+    else changeRefused n s xs memory scratch
 
 -- a drop of a letter, and an add of the file f under a letter
 abbrev pub dropLeft : Device → State → Pins → List ℕ → List ℕ → List ℕ → ℕ → ChangeLeft
 dropLeft d s p xs memory scratch ℓ =
-    changeLeft (dropNumber d s p xs (length memory) (length scratch) ℓ) (dropOf (readerNumber limit) ℓ (mainOf (d .part) xs)) d s p xs memory scratch
+    changeLeft (dropNumber d s p xs (length memory) (length scratch) ℓ) (dropOf (readerNumber limit) ℓ (mainOf (d .part) xs)) d s p xs
+    memory scratch
 
 -- what an add of the file f under a letter returns and leaves
 abbrev pub addLeft : Device → State → Pins → List ℕ → List ℕ → List ℕ → List ℕ → ℕ → ChangeLeft
 addLeft d s p xs memory scratch f ℓ =
-    changeLeft (addNumber d s p xs (length memory) (length scratch) f ℓ) (addOf (readerNumber limit) ℓ f (mainOf (d .part) xs)) d s p xs memory scratch
+    changeLeft (addNumber d s p xs (length memory) (length scratch) f ℓ) (addOf (readerNumber limit) ℓ f (mainOf (d .part) xs)) d s p xs
+    memory scratch

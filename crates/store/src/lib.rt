@@ -22,7 +22,8 @@ ghost use Rattle.store_places.specs.Store.{dropOf, addOf};
 ghost use Rattle.store_survey.specs.Survey.{readerNumber};
 ghost use Rattle.store_find.specs.Finds.{foundAs, readBy};
 ghost use Rattle.store_contents.specs.Contents.{memoryBy};
-ghost use Rattle.store.specs.Stores.{mainOf, noStore, partNumber, foundOn, changeJob, changeNumber, dropNumber, addNumber, changeLeft, dropLeft, addLeft};
+ghost use Rattle.store.specs.Stores.{mainOf, noStore, partNumber, foundOn, changeJob, changeNumber, dropNumber, addNumber};
+ghost use Rattle.store.specs.Stores.{changeLeft, dropLeft, addLeft};
 
 // 1: the part is not known, or is one of 5 to 8.
 fn no_store(part: Part) -> bool
@@ -47,7 +48,8 @@ pub fn part_number(part: Part, array: usize) -> u8
 // The file under a letter into the front of room: 1, 2, 44, 42, 37, or 0 and its length.
 pub fn find_letter(part: Part, array: &[u8], letter: u8, room: &mut [u8]) -> Found
     ensures result { λ r. ⌜ r ≡ foundAs (inRoom (length (now (room .entry))) (foundOn part (now (array .entry)) letter)) ⌝ }
-    ensures room_left { λ _. ⌜ now (room .exit) ≡ leftIn (now (room .entry)) (inRoom (length (now (room .entry))) (foundOn part (now (array .entry)) letter)) ⌝ }
+    ensures room_left { λ _. ⌜ now (room .exit)
+        ≡ leftIn (now (room .entry)) (inRoom (length (now (room .entry))) (foundOn part (now (array .entry)) letter)) ⌝ }
 {
     let n = part_number(part, array.len());
     if n != 0 {
@@ -63,9 +65,12 @@ pub fn find_letter(part: Part, array: &[u8], letter: u8, room: &mut [u8]) -> Fou
 
 // The reading at x by the file under a letter: 1, 2, 44, 42, then as straight from that file (37, 40, 41).
 pub fn read_letter(part: Part, array: &[u8], letter: u8, room: &mut [u8], x: i32) -> ReadingAnswer
-    ensures result { λ r. ⌜ r ≡ answerAs x (inRoom (length (now (room .entry))) (readBy letter (foundOn part (now (array .entry)) letter))) ⌝ }
-    ensures told { λ r. ⌜ answerTold r ≡ toldAs x (inRoom (length (now (room .entry))) (readBy letter (foundOn part (now (array .entry)) letter))) ⌝ }
-    ensures room_left { λ _. ⌜ now (room .exit) ≡ leftIn (now (room .entry)) (inRoom (length (now (room .entry))) (readBy letter (foundOn part (now (array .entry)) letter))) ⌝ }
+    ensures result { λ r. ⌜ r
+        ≡ answerAs x (inRoom (length (now (room .entry))) (readBy letter (foundOn part (now (array .entry)) letter))) ⌝ }
+    ensures told { λ r. ⌜ answerTold r
+        ≡ toldAs x (inRoom (length (now (room .entry))) (readBy letter (foundOn part (now (array .entry)) letter))) ⌝ }
+    ensures room_left { λ _. ⌜ now (room .exit)
+        ≡ leftIn (now (room .entry)) (inRoom (length (now (room .entry))) (readBy letter (foundOn part (now (array .entry)) letter))) ⌝ }
 {
     let n = part_number(part, array.len());
     if n != 0 {
@@ -118,7 +123,8 @@ fn drop_prepared(
 ) -> u8
     ensures result { λ r. ⌜ r ≡ dropNumber d s p (now (array .entry)) (length (now (memory .entry))) scratch letter ⌝ }
     ensures memory_left { λ _. ⌜ now (memory .exit)
-        ≡ memoryBy (dropNumber d s p (now (array .entry)) (length (now (memory .entry))) scratch letter) (dropOf (readerNumber limit) letter (mainOf (d .part) (now (array .entry)))) (now (memory .entry)) ⌝ }
+        ≡ memoryBy (dropNumber d s p (now (array .entry)) (length (now (memory .entry))) scratch letter)
+        (dropOf (readerNumber limit) letter (mainOf (d .part) (now (array .entry)))) (now (memory .entry)) ⌝ }
 {
     let n = change_number(d, s, p, array.len(), memory.len(), scratch);
     if n != 0 {
@@ -143,7 +149,8 @@ fn add_prepared(
 ) -> u8
     ensures result { λ r. ⌜ r ≡ addNumber d s p (now (array .entry)) (length (now (memory .entry))) scratch (now (file .entry)) letter ⌝ }
     ensures memory_left { λ _. ⌜ now (memory .exit)
-        ≡ memoryBy (addNumber d s p (now (array .entry)) (length (now (memory .entry))) scratch (now (file .entry)) letter) (addOf (readerNumber limit) letter (now (file .entry)) (mainOf (d .part) (now (array .entry)))) (now (memory .entry)) ⌝ }
+        ≡ memoryBy (addNumber d s p (now (array .entry)) (length (now (memory .entry))) scratch (now (file .entry)) letter)
+        (addOf (readerNumber limit) letter (now (file .entry)) (mainOf (d .part) (now (array .entry)))) (now (memory .entry)) ⌝ }
 {
     let n = change_number(d, s, p, array.len(), memory.len(), scratch);
     if n != 0 {
@@ -165,9 +172,12 @@ fn change(
     memory: &[u8],
     scratch: &mut [u8],
 ) -> Ran
-    ensures result { λ r. ⌜ r ≡ changeLeft number (now (memory .entry)) d s p (now (array .entry)) (now (memory .entry)) (now (scratch .entry)) .ran ⌝ }
-    ensures array_left { λ _. ⌜ now (array .exit) ≡ changeLeft number (now (memory .entry)) d s p (now (array .entry)) (now (memory .entry)) (now (scratch .entry)) .bytes ⌝ }
-    ensures scratch_left { λ _. ⌜ now (scratch .exit) ≡ changeLeft number (now (memory .entry)) d s p (now (array .entry)) (now (memory .entry)) (now (scratch .entry)) .scratch ⌝ }
+    ensures result { λ r. ⌜ r
+        ≡ changeLeft number (now (memory .entry)) d s p (now (array .entry)) (now (memory .entry)) (now (scratch .entry)) .ran ⌝ }
+    ensures array_left { λ _. ⌜ now (array .exit)
+        ≡ changeLeft number (now (memory .entry)) d s p (now (array .entry)) (now (memory .entry)) (now (scratch .entry)) .bytes ⌝ }
+    ensures scratch_left { λ _. ⌜ now (scratch .exit)
+        ≡ changeLeft number (now (memory .entry)) d s p (now (array .entry)) (now (memory .entry)) (now (scratch .entry)) .scratch ⌝ }
 {
     if number == 0 {
         return loader_quick::run_quick(change_job(d, s, p), array, memory, scratch);
@@ -191,9 +201,12 @@ pub fn drop_letter(
     letter: u8,
 ) -> Ran
     ensures result { λ r. ⌜ r ≡ dropLeft d s p (now (array .entry)) (now (memory .entry)) (now (scratch .entry)) letter .ran ⌝ }
-    ensures array_left { λ _. ⌜ now (array .exit) ≡ dropLeft d s p (now (array .entry)) (now (memory .entry)) (now (scratch .entry)) letter .bytes ⌝ }
-    ensures memory_left { λ _. ⌜ now (memory .exit) ≡ dropLeft d s p (now (array .entry)) (now (memory .entry)) (now (scratch .entry)) letter .memory ⌝ }
-    ensures scratch_left { λ _. ⌜ now (scratch .exit) ≡ dropLeft d s p (now (array .entry)) (now (memory .entry)) (now (scratch .entry)) letter .scratch ⌝ }
+    ensures array_left { λ _. ⌜ now (array .exit)
+        ≡ dropLeft d s p (now (array .entry)) (now (memory .entry)) (now (scratch .entry)) letter .bytes ⌝ }
+    ensures memory_left { λ _. ⌜ now (memory .exit)
+        ≡ dropLeft d s p (now (array .entry)) (now (memory .entry)) (now (scratch .entry)) letter .memory ⌝ }
+    ensures scratch_left { λ _. ⌜ now (scratch .exit)
+        ≡ dropLeft d s p (now (array .entry)) (now (memory .entry)) (now (scratch .entry)) letter .scratch ⌝ }
 {
     let n = drop_prepared(d, s, p, array, memory, scratch.len(), letter);
     change(n, d, s, p, array, memory, scratch)
@@ -210,10 +223,14 @@ pub fn add_file(
     file: &[u8],
     letter: u8,
 ) -> Ran
-    ensures result { λ r. ⌜ r ≡ addLeft d s p (now (array .entry)) (now (memory .entry)) (now (scratch .entry)) (now (file .entry)) letter .ran ⌝ }
-    ensures array_left { λ _. ⌜ now (array .exit) ≡ addLeft d s p (now (array .entry)) (now (memory .entry)) (now (scratch .entry)) (now (file .entry)) letter .bytes ⌝ }
-    ensures memory_left { λ _. ⌜ now (memory .exit) ≡ addLeft d s p (now (array .entry)) (now (memory .entry)) (now (scratch .entry)) (now (file .entry)) letter .memory ⌝ }
-    ensures scratch_left { λ _. ⌜ now (scratch .exit) ≡ addLeft d s p (now (array .entry)) (now (memory .entry)) (now (scratch .entry)) (now (file .entry)) letter .scratch ⌝ }
+    ensures result { λ r. ⌜ r
+        ≡ addLeft d s p (now (array .entry)) (now (memory .entry)) (now (scratch .entry)) (now (file .entry)) letter .ran ⌝ }
+    ensures array_left { λ _. ⌜ now (array .exit)
+        ≡ addLeft d s p (now (array .entry)) (now (memory .entry)) (now (scratch .entry)) (now (file .entry)) letter .bytes ⌝ }
+    ensures memory_left { λ _. ⌜ now (memory .exit)
+        ≡ addLeft d s p (now (array .entry)) (now (memory .entry)) (now (scratch .entry)) (now (file .entry)) letter .memory ⌝ }
+    ensures scratch_left { λ _. ⌜ now (scratch .exit)
+        ≡ addLeft d s p (now (array .entry)) (now (memory .entry)) (now (scratch .entry)) (now (file .entry)) letter .scratch ⌝ }
 {
     let number = add_prepared(d, s, p, array, memory, scratch.len(), file, letter);
     change(number, d, s, p, array, memory, scratch)

@@ -61,7 +61,8 @@ headText ℓ p n = (((((ℓ ∷ []) ++ bytes ": from place ") ++ decimalOf p) ++
 
 -- what stands in a file that is whole inside the block; the payload has room, the longest has 113,120 bytes
 unfoldable pub bodyText : List ℕ → ℕ → ℕ → ℕ → List ℕ
-bodyText main p ℓ n = if leb (512 * p + 512 * n) (length main) then fileText (inRoom 113120 (readerOf limit (fileAt main p n) ℓ)) else bytes "cut off\n"
+bodyText main p ℓ n = if leb (512 * p + 512 * n) (length main) then fileText (inRoom 113120 (readerOf limit (fileAt main p n) ℓ))
+    else bytes "cut off\n"
 
 -- the row of a file
 abbrev pub rowText : List ℕ → ℕ → ℕ → ℕ → List ℕ

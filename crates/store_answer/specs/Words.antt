@@ -24,5 +24,7 @@ refusedLine n = (refusedText n ++ bytes ": ") ++ storeWords n
 -- how a change ended, by its number and the erases that it began
 unfoldable pub changeLine : ℕ → ℕ → List ℕ
 changeLine end erases =
-    if eqb end 0 then (if eqb erases 0 then bytes "done, nothing was erased\n" else bytes "done, the files slid down: the block was erased and loaded anew\n")
+    if eqb end 0
+    then (if eqb erases 0 then bytes "done, nothing was erased\n"
+    else bytes "done, the files slid down: the block was erased and loaded anew\n")
     else refusedLine end

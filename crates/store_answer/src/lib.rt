@@ -13,7 +13,8 @@ ghost use Rattle.file_codec.specs.File.{limit, inRoom, readerOf};
 ghost use Rattle.reading_table.specs.Table.{tenthsOf};
 ghost use Rattle.reading_print.specs.Texts.{temperatureText};
 ghost use Rattle.store_answer.specs.Words.{storeWords, refusedLine, changeLine};
-ghost use Rattle.store_answer.specs.Listing.{paceAs, paceBy, paceOn, mapPiece, knotsText, payloadText, fileText, headText, bodyText, rowText, rowBy, rowPiece, pieceOf, piecesOf, listText, listOf};
+ghost use Rattle.store_answer.specs.Listing.{paceAs, paceBy, paceOn, mapPiece, knotsText, payloadText, fileText, headText, bodyText};
+ghost use Rattle.store_answer.specs.Listing.{rowText, rowBy, rowPiece, pieceOf, piecesOf, listText, listOf};
 
 // Where a walk over the places stands: so many more belong to what was met last, and its letter on the map.
 struct Pace {
@@ -157,7 +158,8 @@ fn put_mark(out: &mut [u8], at: usize, p: usize, mark: u8) -> usize
 // A knot's temperature, from a place on; the place behind it.
 fn put_tenths(out: &mut [u8], at: usize, payload: &[u8], i: usize) -> usize
     ensures result { λ r. ⌜ r ≡ behind (now (out .entry)) at (temperatureText (ofInt binary64 (tenthsOf (now (payload .entry)) i))) ⌝ }
-    ensures out_left { λ _. ⌜ now (out .exit) ≡ laidAt (now (out .entry)) at (temperatureText (ofInt binary64 (tenthsOf (now (payload .entry)) i))) ⌝ }
+    ensures out_left { λ _. ⌜ now (out .exit)
+        ≡ laidAt (now (out .entry)) at (temperatureText (ofInt binary64 (tenthsOf (now (payload .entry)) i))) ⌝ }
 {
     let t = reading_table::tenths(payload, i);
     let degrees = t as f64;
@@ -196,7 +198,8 @@ fn put_payload(out: &mut [u8], at: usize, payload: &[u8]) -> usize
 fn put_file(out: &mut [u8], at: usize, file: &[u8], letter: u8, room: &mut [u8]) -> usize
     requires { ⌜ length (now room) ≡ 113120 ⌝ }
     ensures result { λ r. ⌜ r ≡ behind (now (out .entry)) at (fileText (inRoom 113120 (readerOf limit (now (file .entry)) letter))) ⌝ }
-    ensures out_left { λ _. ⌜ now (out .exit) ≡ laidAt (now (out .entry)) at (fileText (inRoom 113120 (readerOf limit (now (file .entry)) letter))) ⌝ }
+    ensures out_left { λ _. ⌜ now (out .exit)
+        ≡ laidAt (now (out .entry)) at (fileText (inRoom 113120 (readerOf limit (now (file .entry)) letter))) ⌝ }
 {
     let got = file_codec::read(file, letter, room);
     match got {

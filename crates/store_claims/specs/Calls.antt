@@ -98,9 +98,11 @@ pub record Kept (d : Device) (cs : List Call) (xs : List ℕ) : Type 0 where
   -- the main block is what the changes that were made leave of it, one after the other
   pub block : mainOf (d .part) (arrayThrough d cs xs) ≡ changedAll (readerNumber limit) (changesMade d cs xs) (mainOf (d .part) xs)
   -- under each letter stands the file last added and not dropped, or the one that stood there at first
-  pub found : (m : ℕ) → findOf (readerNumber limit) m (mainOf (d .part) (arrayThrough d cs xs)) ≡ lastUnder m (changesMade d cs xs) (findOf (readerNumber limit) m (mainOf (d .part) xs))
+  pub found : (m : ℕ) → findOf (readerNumber limit) m (mainOf (d .part) (arrayThrough d cs xs))
+      ≡ lastUnder m (changesMade d cs xs) (findOf (readerNumber limit) m (mainOf (d .part) xs))
   -- a proper store stays one
-  pub proper : isProper (readerNumber limit) (mainOf (d .part) xs) ≡ true → isProper (readerNumber limit) (mainOf (d .part) (arrayThrough d cs xs)) ≡ true
+  pub proper : isProper (readerNumber limit) (mainOf (d .part) xs) ≡ true
+      → isProper (readerNumber limit) (mainOf (d .part) (arrayThrough d cs xs)) ≡ true
   -- every byte outside the main block is as before
   pub before : (x : ℕ) → x < startOf (d .part) 3 → getD (arrayThrough d cs xs) x 0 ≡ getD xs x 0
   pub behind : (x : ℕ) → startOf (d .part) 3 + lengthOf (d .part) 3 ≤ x → getD (arrayThrough d cs xs) x 0 ≡ getD xs x 0

@@ -22,7 +22,8 @@ dropRows main ℓ room = row 11 (unlike main room) ∷ standsRows main ℓ
 -- 44, then 43, of the file f for the letter
 abbrev pub roomRows : List ℕ → List ℕ → ℕ → List Row
 roomRows main f ℓ =
-    row 44 (not (isWhole main)) ∷ row 44 (not (isProper (readerNumber limit) main)) ∷ row 43 (noRoom (length main / 512) ℓ (placesIn f) (itemsOf main)) ∷ []
+    row 44 (not (isWhole main)) ∷ row 44 (not (isProper (readerNumber limit) main))
+    ∷ row 43 (noRoom (length main / 512) ℓ (placesIn f) (itemsOf main)) ∷ []
 
 -- the refusals of an add: 11, the reader's for the letter, 44, 43 (R-store-5)
 abbrev pub addRows : List ℕ → List ℕ → ℕ → ℕ → List Row

@@ -127,7 +127,9 @@ fn drop_number(size: usize, room: usize, found: u8) -> u8
 // The block without the file under a letter, into memory: 11, 44, 42, or 0 and done.
 pub fn drop_into(main: &[u8], letter: u8, memory: &mut [u8]) -> u8
     ensures result { λ r. ⌜ r ≡ dropInNumber (now (main .entry)) letter (length (now (memory .entry))) ⌝ }
-    ensures memory_left { λ _. ⌜ now (memory .exit) ≡ memoryBy (dropInNumber (now (main .entry)) letter (length (now (memory .entry)))) (dropOf (readerNumber limit) letter (now (main .entry))) (now (memory .entry)) ⌝ }
+    ensures memory_left { λ _. ⌜ now (memory .exit)
+        ≡ memoryBy (dropInNumber (now (main .entry)) letter (length (now (memory .entry))))
+        (dropOf (readerNumber limit) letter (now (main .entry))) (now (memory .entry)) ⌝ }
 {
     let s = store_find::seek(main, letter);
     let n = drop_number(main.len(), memory.len(), s.number);
@@ -192,7 +194,8 @@ fn add_number(main: &[u8], file: &[u8], letter: u8, s: Survey, room: usize) -> u
 
 // The file laid over a run of blank places that begins at byte `at`, the old one dropped.
 fn lay(main: &[u8], from: usize, k: usize, at: usize, file: &[u8], memory: &mut [u8])
-    requires { ⌜ (length (now memory) ≡ length (now main)) × (from + 512 * k ≤ length (now main)) × (at + length (now file) ≤ length (now main)) ⌝ }
+    requires { ⌜ (length (now memory) ≡ length (now main)) × (from + 512 * k ≤ length (now main))
+        × (at + length (now file) ≤ length (now main)) ⌝ }
     ensures { λ _. ⌜ now (memory .exit) ≡ overlaid (zeroedFrom k from (now (main .entry))) at (now (file .entry)) ⌝ }
 {
     drop_there(main, from, k, memory);
@@ -202,8 +205,10 @@ fn lay(main: &[u8], from: usize, k: usize, at: usize, file: &[u8], memory: &mut 
 
 // The block with the file in it, into memory, where the number is 0: into the run that the survey found, or by a slide.
 fn put_new(number: u8, main: &[u8], file: &[u8], letter: u8, s: Survey, memory: &mut [u8])
-    requires { ⌜ (s ≡ surveyOf letter (length (now file) / 512) (now main)) × (number ≡ 0 → addInNumber (now main) (now file) letter (length (now memory)) ≡ 0) ⌝ }
-    ensures { λ _. ⌜ now (memory .exit) ≡ memoryBy number (addOf (readerNumber limit) letter (now (file .entry)) (now (main .entry))) (now (memory .entry)) ⌝ }
+    requires { ⌜ (s ≡ surveyOf letter (length (now file) / 512) (now main))
+        × (number ≡ 0 → addInNumber (now main) (now file) letter (length (now memory)) ≡ 0) ⌝ }
+    ensures { λ _. ⌜ now (memory .exit)
+        ≡ memoryBy number (addOf (readerNumber limit) letter (now (file .entry)) (now (main .entry))) (now (memory .entry)) ⌝ }
 {
     if number != 0 {
         return;
@@ -220,7 +225,9 @@ fn put_new(number: u8, main: &[u8], file: &[u8], letter: u8, s: Survey, memory: 
 // The block with a file added under its letter, into memory: 11, the reader's number, 44, 43, or 0 and done.
 pub fn add_into(main: &[u8], file: &[u8], letter: u8, memory: &mut [u8]) -> u8
     ensures result { λ r. ⌜ r ≡ addInNumber (now (main .entry)) (now (file .entry)) letter (length (now (memory .entry))) ⌝ }
-    ensures memory_left { λ _. ⌜ now (memory .exit) ≡ memoryBy (addInNumber (now (main .entry)) (now (file .entry)) letter (length (now (memory .entry)))) (addOf (readerNumber limit) letter (now (file .entry)) (now (main .entry))) (now (memory .entry)) ⌝ }
+    ensures memory_left { λ _. ⌜ now (memory .exit)
+        ≡ memoryBy (addInNumber (now (main .entry)) (now (file .entry)) letter (length (now (memory .entry))))
+        (addOf (readerNumber limit) letter (now (file .entry)) (now (main .entry))) (now (memory .entry)) ⌝ }
 {
     let s = store_survey::survey_of(main, letter, file.len() / 512);
     let n = add_number(main, file, letter, s, memory.len());

@@ -27,7 +27,11 @@ standsNumber main ℓ = given (standsRows main ℓ)
 -- the number, and where it is 0 the first byte of the file under the letter and its length
 unfoldable pub standsOf : List ℕ → ℕ → Stands
 standsOf main ℓ =
-    if eqb (standsNumber main ℓ) 0 then record { number = 0; from = 512 * placeIn ℓ 0 (itemsOf main); size = length (findOf (readerNumber limit) ℓ main) }
+    if eqb (standsNumber main ℓ) 0 then record {
+      number = 0;
+      from = 512 * placeIn ℓ 0 (itemsOf main);
+      size = length (findOf (readerNumber limit) ℓ main);
+    }
     else record { number = standsNumber main ℓ; from = 0; size = 0 }
 
 -- what is found under a letter, given room: the refusal, or the file's bytes

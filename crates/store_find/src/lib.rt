@@ -73,7 +73,8 @@ pub fn seek(main: &[u8], letter: u8) -> Stands
 // The file under a letter into the front of room: 44, 42, 37, or 0 and its length.
 pub fn find_in(main: &[u8], letter: u8, room: &mut [u8]) -> Found
     ensures result { λ r. ⌜ r ≡ foundAs (inRoom (length (now (room .entry))) (foundIn (now (main .entry)) letter)) ⌝ }
-    ensures room_left { λ _. ⌜ now (room .exit) ≡ leftIn (now (room .entry)) (inRoom (length (now (room .entry))) (foundIn (now (main .entry)) letter)) ⌝ }
+    ensures room_left { λ _. ⌜ now (room .exit)
+        ≡ leftIn (now (room .entry)) (inRoom (length (now (room .entry))) (foundIn (now (main .entry)) letter)) ⌝ }
 {
     let s = seek(main, letter);
     if s.number != 0 {
@@ -101,8 +102,10 @@ pub fn find_in(main: &[u8], letter: u8, room: &mut [u8]) -> Found
 // The reading at x by the file under a letter, where it stands; room takes its payload.
 pub fn read_in(main: &[u8], letter: u8, room: &mut [u8], x: i32) -> ReadingAnswer
     ensures result { λ r. ⌜ r ≡ answerAs x (inRoom (length (now (room .entry))) (readBy letter (foundIn (now (main .entry)) letter))) ⌝ }
-    ensures told { λ r. ⌜ answerTold r ≡ toldAs x (inRoom (length (now (room .entry))) (readBy letter (foundIn (now (main .entry)) letter))) ⌝ }
-    ensures room_left { λ _. ⌜ now (room .exit) ≡ leftIn (now (room .entry)) (inRoom (length (now (room .entry))) (readBy letter (foundIn (now (main .entry)) letter))) ⌝ }
+    ensures told { λ r. ⌜ answerTold r
+        ≡ toldAs x (inRoom (length (now (room .entry))) (readBy letter (foundIn (now (main .entry)) letter))) ⌝ }
+    ensures room_left { λ _. ⌜ now (room .exit)
+        ≡ leftIn (now (room .entry)) (inRoom (length (now (room .entry))) (readBy letter (foundIn (now (main .entry)) letter))) ⌝ }
 {
     let s = seek(main, letter);
     if s.number != 0 {

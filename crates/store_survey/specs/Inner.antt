@@ -57,15 +57,47 @@ junkBy s = record { live = s .live; place = s .place; blocks = s .blocks; run = 
 -- past a blank place p, where a run of n is looked for: the first that reaches n is kept
 unfoldable pub blankBy : Survey → ℕ → ℕ → Survey
 blankBy s p n =
-    if s .fits then record { live = s .live; place = s .place; blocks = s .blocks; run = s .run + 1; start = s .start; good = s .good; fits = true }
-    else if eqb (s .run + 1) n then record { live = s .live; place = s .place; blocks = s .blocks; run = s .run + 1; start = p - s .run; good = s .good; fits = true }
+    if s .fits then record {
+      live = s .live;
+      place = s .place;
+      blocks = s .blocks;
+      run = s .run + 1;
+      start = s .start;
+      good = s .good;
+      fits = true;
+    }
+    else if eqb (s .run + 1) n then record {
+      live = s .live;
+      place = s .place;
+      blocks = s .blocks;
+      run = s .run + 1;
+      start = p - s .run;
+      good = s .good;
+      fits = true;
+    }
     else record { live = s .live; place = s .place; blocks = s .blocks; run = s .run + 1; start = s .start; good = s .good; fits = false }
 
 -- past a file of k blocks under letter m at place p, where letter ℓ is looked for: the first under it is kept
 unfoldable pub fileBy : Survey → ℕ → ℕ → ℕ → Bool → ℕ → Survey
 fileBy s p m k again ℓ =
-    if eqb m ℓ && eqb (s .blocks) 0 then record { live = s .live + k; place = p; blocks = k; run = 0; start = s .start; good = s .good && not again; fits = s .fits }
-    else record { live = s .live + k; place = s .place; blocks = s .blocks; run = 0; start = s .start; good = s .good && not again; fits = s .fits }
+    if eqb m ℓ && eqb (s .blocks) 0 then record {
+      live = s .live + k;
+      place = p;
+      blocks = k;
+      run = 0;
+      start = s .start;
+      good = s .good && not again;
+      fits = s .fits;
+    }
+    else record {
+      live = s .live + k;
+      place = s .place;
+      blocks = s .blocks;
+      run = 0;
+      start = s .start;
+      good = s .good && not again;
+      fits = s .fits;
+    }
 
 -- the survey one spot on
 abbrev pub noteOf : Survey → Spot → ℕ → Bool → ℕ → ℕ → Survey

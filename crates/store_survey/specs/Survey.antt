@@ -7,7 +7,8 @@ use lib.Dec.{eqb}
 use Rattle.common.specs.Choice.{if_then_else_}
 use Rattle.common.specs.Numbers.{given}
 use Rattle.file_codec.specs.File.{limit, readRows}
-use Rattle.store_places.specs.Store.{Judgement, Item, blank, dead, filed, junk, itemAt, moreOf, findIn, liveIn, blankRun, fitsIn, placesIn, itemsIn, isProper}
+use Rattle.store_places.specs.Store.{Judgement, Item, blank, dead, filed, junk, itemAt, moreOf, findIn, liveIn, blankRun, fitsIn, placesIn}
+use Rattle.store_places.specs.Store.{itemsIn, isProper}
 use Rattle.store_survey.specs.declared.Spot.{Spot}
 use Rattle.store_survey.specs.declared.Spot.the-variants.{Blank, Dead, File, Junk}
 use Rattle.store_survey.specs.declared.Survey.{Survey}

@@ -39,7 +39,8 @@ isWord b = ((eqb b 76 || eqb b 70) || eqb b 82) || isChange b
 -- a wrong call: other than eight words with the program's own and `store`, a word of another length or none of the five, a letter of
 -- another length
 unfoldable pub callWrong : ℕ → List ℕ → List ℕ → Bool
-callWrong count word letter = ((not (eqb count 8) || not (eqb (length word) 1)) || not (isWord (getD word 0 0))) || not (eqb (length letter) 1)
+callWrong count word letter =
+    ((not (eqb count 8) || not (eqb (length word) 1)) || not (isWord (getD word 0 0))) || not (eqb (length letter) 1)
 
 -- how the program is called
 abbrev pub usage : List ℕ
@@ -113,8 +114,11 @@ bytesOf part memory scratch = min (lengthOf part 3) (min (length memory) (length
 -- a change on a fresh device, in the front of the rooms lent: an add, or a drop
 unfoldable pub changeOf : ℕ → Part → List ℕ → List ℕ → List ℕ → List ℕ → ℕ → ChangeLeft
 changeOf b part xs memory scratch f ℓ =
-    if eqb b 65 then addLeft (deviceOf part) freshState loading xs (take (bytesOf part memory scratch) memory) (take (bytesOf part memory scratch) scratch) f ℓ
-    else dropLeft (deviceOf part) freshState loading xs (take (bytesOf part memory scratch) memory) (take (bytesOf part memory scratch) scratch) ℓ
+    if eqb b 65
+    then addLeft (deviceOf part) freshState loading xs (take (bytesOf part memory scratch) memory)
+    (take (bytesOf part memory scratch) scratch) f ℓ
+    else dropLeft (deviceOf part) freshState loading xs (take (bytesOf part memory scratch) memory)
+    (take (bytesOf part memory scratch) scratch) ℓ
 
 -- what a call comes to: a line, the stream that it goes to, so many bytes of a file, whether the image was changed by a run that ended
 -- well, and what is left of the image and the rooms lent
@@ -129,7 +133,8 @@ pub record Answered : Type 0 where
 
 -- a question changes neither image nor scratch
 abbrev pub shown : Asked → List ℕ → List ℕ → Answered
-shown q xs scratch = record { line = q .line; stream = q .stream; filled = q .filled; changed = false; image = xs; memory = q .memory; scratch = scratch }
+shown q xs scratch =
+    record { line = q .line; stream = q .stream; filled = q .filled; changed = false; image = xs; memory = q .memory; scratch = scratch }
 
 -- a change, told by its end and the erases of block 3 that it began
 abbrev pub ended : ChangeLeft → ℕ → List ℕ → List ℕ → Answered
@@ -148,7 +153,9 @@ ended left n memory scratch =
 unfoldable pub answered : ℕ → List ℕ → List ℕ → List ℕ → List ℕ → List ℕ → List ℕ → List ℕ → List ℕ → Answered
 answered count word xs device letter volts f memory scratch =
     if callWrong count word letter then shown (misasked memory) xs scratch
-    else if isChange (getD word 0 0) then ended (changeOf (getD word 0 0) (partOf device) xs memory scratch f (getD letter 0 0)) (bytesOf (partOf device) memory scratch) memory scratch
+    else if isChange (getD word 0 0)
+    then ended (changeOf (getD word 0 0) (partOf device) xs memory scratch f (getD letter 0 0)) (bytesOf (partOf device) memory scratch)
+    memory scratch
     else shown (asked (getD word 0 0) (partOf device) xs (getD letter 0 0) volts memory) xs scratch
 
 -- .. as it is given back, with the line in front of out

@@ -20,7 +20,8 @@ ghost use Rattle.reading_text.specs.Numbers.{numberTold};
 ghost use Rattle.store_find.specs.Finds.{foundAs, readBy};
 ghost use Rattle.store.specs.Stores.{foundOn};
 ghost use Rattle.store_answer.specs.Words.{changeLine};
-ghost use Rattle.store_told.specs.Sayings.{isChange, isWord, callWrong, usage, partOf, listLine, answerLine, findAsked, readBySaid, asked, askedOn, bytesOf, changeOf, answered, answeredOn, saidOn};
+ghost use Rattle.store_told.specs.Sayings.{isChange, isWord, callWrong, usage, partOf, listLine, answerLine, findAsked, readBySaid};
+ghost use Rattle.store_told.specs.Sayings.{asked, askedOn, bytesOf, changeOf, answered, answeredOn, saidOn};
 
 // What a call gives back: the bytes of its line in front of out and the stream that it goes to, the bytes of a file in front of memory,
 // and whether the image was changed by a run that ended well.
@@ -110,9 +111,15 @@ fn put_read(
     x: i32,
     memory: &mut [u8],
 ) -> usize
-    ensures result { λ r. ⌜ r ≡ behind (now (out .entry)) 0 (answerLine (answerAs x (inRoom (length (now (memory .entry))) (readBy letter (foundOn part (now (image .entry)) letter))))) ⌝ }
-    ensures out_left { λ _. ⌜ now (out .exit) ≡ laidAt (now (out .entry)) 0 (answerLine (answerAs x (inRoom (length (now (memory .entry))) (readBy letter (foundOn part (now (image .entry)) letter))))) ⌝ }
-    ensures memory_left { λ _. ⌜ now (memory .exit) ≡ leftIn (now (memory .entry)) (inRoom (length (now (memory .entry))) (readBy letter (foundOn part (now (image .entry)) letter))) ⌝ }
+    ensures result { λ r. ⌜ r
+        ≡ behind (now (out .entry)) 0
+        (answerLine (answerAs x (inRoom (length (now (memory .entry))) (readBy letter (foundOn part (now (image .entry)) letter))))) ⌝ }
+    ensures out_left { λ _. ⌜ now (out .exit)
+        ≡ laidAt (now (out .entry)) 0
+        (answerLine (answerAs x (inRoom (length (now (memory .entry))) (readBy letter (foundOn part (now (image .entry)) letter))))) ⌝ }
+    ensures memory_left { λ _. ⌜ now (memory .exit)
+        ≡ leftIn (now (memory .entry))
+        (inRoom (length (now (memory .entry))) (readBy letter (foundOn part (now (image .entry)) letter))) ⌝ }
 {
     let answer = store::read_letter(part, image, letter, memory, x);
     put_answer(out, answer)
@@ -132,9 +139,14 @@ fn as_said(used: usize, stream: u8, filled: usize, changed: bool) -> Said
 
 // The file under a letter into the front of memory; a refusal is a line in the front of out.
 fn found(out: &mut [u8], part: Part, image: &[u8], letter: u8, memory: &mut [u8]) -> Said
-    ensures result { λ r. ⌜ r ≡ askedOn (now (out .entry)) (findAsked (inRoom (length (now (memory .entry))) (foundOn part (now (image .entry)) letter)) (now (memory .entry))) ⌝ }
-    ensures out_left { λ _. ⌜ now (out .exit) ≡ laidAt (now (out .entry)) 0 (findAsked (inRoom (length (now (memory .entry))) (foundOn part (now (image .entry)) letter)) (now (memory .entry)) .line) ⌝ }
-    ensures memory_left { λ _. ⌜ now (memory .exit) ≡ findAsked (inRoom (length (now (memory .entry))) (foundOn part (now (image .entry)) letter)) (now (memory .entry)) .memory ⌝ }
+    ensures result { λ r. ⌜ r
+        ≡ askedOn (now (out .entry))
+        (findAsked (inRoom (length (now (memory .entry))) (foundOn part (now (image .entry)) letter)) (now (memory .entry))) ⌝ }
+    ensures out_left { λ _. ⌜ now (out .exit)
+        ≡ laidAt (now (out .entry)) 0
+        (findAsked (inRoom (length (now (memory .entry))) (foundOn part (now (image .entry)) letter)) (now (memory .entry)) .line) ⌝ }
+    ensures memory_left { λ _. ⌜ now (memory .exit)
+        ≡ findAsked (inRoom (length (now (memory .entry))) (foundOn part (now (image .entry)) letter)) (now (memory .entry)) .memory ⌝ }
 {
     let f = store::find_letter(part, image, letter, memory);
     let n = f.number;
@@ -153,9 +165,18 @@ fn read_asked(
     volts: &[u8],
     memory: &mut [u8],
 ) -> Said
-    ensures result { λ r. ⌜ r ≡ askedOn (now (out .entry)) (readBySaid (numberTold (now (volts .entry))) (inRoom (length (now (memory .entry))) (readBy letter (foundOn part (now (image .entry)) letter))) (now (memory .entry))) ⌝ }
-    ensures out_left { λ _. ⌜ now (out .exit) ≡ laidAt (now (out .entry)) 0 (readBySaid (numberTold (now (volts .entry))) (inRoom (length (now (memory .entry))) (readBy letter (foundOn part (now (image .entry)) letter))) (now (memory .entry)) .line) ⌝ }
-    ensures memory_left { λ _. ⌜ now (memory .exit) ≡ readBySaid (numberTold (now (volts .entry))) (inRoom (length (now (memory .entry))) (readBy letter (foundOn part (now (image .entry)) letter))) (now (memory .entry)) .memory ⌝ }
+    ensures result { λ r. ⌜ r
+        ≡ askedOn (now (out .entry))
+        (readBySaid (numberTold (now (volts .entry)))
+        (inRoom (length (now (memory .entry))) (readBy letter (foundOn part (now (image .entry)) letter))) (now (memory .entry))) ⌝ }
+    ensures out_left { λ _. ⌜ now (out .exit)
+        ≡ laidAt (now (out .entry)) 0
+        (readBySaid (numberTold (now (volts .entry)))
+        (inRoom (length (now (memory .entry))) (readBy letter (foundOn part (now (image .entry)) letter)))
+        (now (memory .entry)) .line) ⌝ }
+    ensures memory_left { λ _. ⌜ now (memory .exit)
+        ≡ readBySaid (numberTold (now (volts .entry)))
+        (inRoom (length (now (memory .entry))) (readBy letter (foundOn part (now (image .entry)) letter))) (now (memory .entry)) .memory ⌝ }
 {
     let number = reading_text::read_number(volts);
     match number {
@@ -174,9 +195,12 @@ fn question(
     volts: &[u8],
     memory: &mut [u8],
 ) -> Said
-    ensures result { λ r. ⌜ r ≡ askedOn (now (out .entry)) (asked b part (now (image .entry)) letter (now (volts .entry)) (now (memory .entry))) ⌝ }
-    ensures out_left { λ _. ⌜ now (out .exit) ≡ laidAt (now (out .entry)) 0 (asked b part (now (image .entry)) letter (now (volts .entry)) (now (memory .entry)) .line) ⌝ }
-    ensures memory_left { λ _. ⌜ now (memory .exit) ≡ asked b part (now (image .entry)) letter (now (volts .entry)) (now (memory .entry)) .memory ⌝ }
+    ensures result { λ r. ⌜ r
+        ≡ askedOn (now (out .entry)) (asked b part (now (image .entry)) letter (now (volts .entry)) (now (memory .entry))) ⌝ }
+    ensures out_left { λ _. ⌜ now (out .exit)
+        ≡ laidAt (now (out .entry)) 0 (asked b part (now (image .entry)) letter (now (volts .entry)) (now (memory .entry)) .line) ⌝ }
+    ensures memory_left { λ _. ⌜ now (memory .exit)
+        ≡ asked b part (now (image .entry)) letter (now (volts .entry)) (now (memory .entry)) .memory ⌝ }
 {
     if b == b'L' {
         return as_said(put_listed(out, part, image), 1, 0, false);
@@ -204,12 +228,16 @@ fn change_made(
     file: &[u8],
     letter: u8,
 ) -> Ran
-    ensures result { λ r. ⌜ r ≡ changeOf b part (now (image .entry)) (now (memory .entry)) (now (scratch .entry)) (now (file .entry)) letter .ran ⌝ }
-    ensures image_left { λ _. ⌜ now (image .exit) ≡ changeOf b part (now (image .entry)) (now (memory .entry)) (now (scratch .entry)) (now (file .entry)) letter .bytes ⌝ }
+    ensures result { λ r. ⌜ r
+        ≡ changeOf b part (now (image .entry)) (now (memory .entry)) (now (scratch .entry)) (now (file .entry)) letter .ran ⌝ }
+    ensures image_left { λ _. ⌜ now (image .exit)
+        ≡ changeOf b part (now (image .entry)) (now (memory .entry)) (now (scratch .entry)) (now (file .entry)) letter .bytes ⌝ }
     ensures memory_left { λ _. ⌜ now (memory .exit)
-        ≡ changeOf b part (now (image .entry)) (now (memory .entry)) (now (scratch .entry)) (now (file .entry)) letter .memory ++ drop (bytesOf part (now (memory .entry)) (now (scratch .entry))) (now (memory .entry)) ⌝ }
+        ≡ changeOf b part (now (image .entry)) (now (memory .entry)) (now (scratch .entry)) (now (file .entry)) letter .memory
+        ++ drop (bytesOf part (now (memory .entry)) (now (scratch .entry))) (now (memory .entry)) ⌝ }
     ensures scratch_left { λ _. ⌜ now (scratch .exit)
-        ≡ changeOf b part (now (image .entry)) (now (memory .entry)) (now (scratch .entry)) (now (file .entry)) letter .scratch ++ drop (bytesOf part (now (memory .entry)) (now (scratch .entry))) (now (scratch .entry)) ⌝ }
+        ≡ changeOf b part (now (image .entry)) (now (memory .entry)) (now (scratch .entry)) (now (file .entry)) letter .scratch
+        ++ drop (bytesOf part (now (memory .entry)) (now (scratch .entry))) (now (scratch .entry)) ⌝ }
 {
     let n = block_bytes(part, memory.len(), scratch.len());
     let s = model::fresh();
@@ -278,11 +306,23 @@ pub fn answer(
     scratch: &mut [u8],
     out: &mut [u8],
 ) -> Said
-    ensures result { λ r. ⌜ r ≡ answeredOn (now (out .entry)) (answered count (now (word .entry)) (now (image .entry)) (now (device .entry)) (now (letter .entry)) (now (volts .entry)) (now (file .entry)) (now (memory .entry)) (now (scratch .entry))) ⌝ }
-    ensures out_left { λ _. ⌜ now (out .exit) ≡ laidAt (now (out .entry)) 0 (answered count (now (word .entry)) (now (image .entry)) (now (device .entry)) (now (letter .entry)) (now (volts .entry)) (now (file .entry)) (now (memory .entry)) (now (scratch .entry)) .line) ⌝ }
-    ensures image_left { λ _. ⌜ now (image .exit) ≡ answered count (now (word .entry)) (now (image .entry)) (now (device .entry)) (now (letter .entry)) (now (volts .entry)) (now (file .entry)) (now (memory .entry)) (now (scratch .entry)) .image ⌝ }
-    ensures memory_left { λ _. ⌜ now (memory .exit) ≡ answered count (now (word .entry)) (now (image .entry)) (now (device .entry)) (now (letter .entry)) (now (volts .entry)) (now (file .entry)) (now (memory .entry)) (now (scratch .entry)) .memory ⌝ }
-    ensures scratch_left { λ _. ⌜ now (scratch .exit) ≡ answered count (now (word .entry)) (now (image .entry)) (now (device .entry)) (now (letter .entry)) (now (volts .entry)) (now (file .entry)) (now (memory .entry)) (now (scratch .entry)) .scratch ⌝ }
+    ensures result { λ r. ⌜ r
+        ≡ answeredOn (now (out .entry))
+        (answered count (now (word .entry)) (now (image .entry)) (now (device .entry)) (now (letter .entry)) (now (volts .entry))
+        (now (file .entry)) (now (memory .entry)) (now (scratch .entry))) ⌝ }
+    ensures out_left { λ _. ⌜ now (out .exit)
+        ≡ laidAt (now (out .entry)) 0
+        (answered count (now (word .entry)) (now (image .entry)) (now (device .entry)) (now (letter .entry)) (now (volts .entry))
+        (now (file .entry)) (now (memory .entry)) (now (scratch .entry)) .line) ⌝ }
+    ensures image_left { λ _. ⌜ now (image .exit)
+        ≡ answered count (now (word .entry)) (now (image .entry)) (now (device .entry)) (now (letter .entry)) (now (volts .entry))
+        (now (file .entry)) (now (memory .entry)) (now (scratch .entry)) .image ⌝ }
+    ensures memory_left { λ _. ⌜ now (memory .exit)
+        ≡ answered count (now (word .entry)) (now (image .entry)) (now (device .entry)) (now (letter .entry)) (now (volts .entry))
+        (now (file .entry)) (now (memory .entry)) (now (scratch .entry)) .memory ⌝ }
+    ensures scratch_left { λ _. ⌜ now (scratch .exit)
+        ≡ answered count (now (word .entry)) (now (image .entry)) (now (device .entry)) (now (letter .entry)) (now (volts .entry))
+        (now (file .entry)) (now (memory .entry)) (now (scratch .entry)) .scratch ⌝ }
     ensures out_used { λ r. ⌜ Used (r .used) (now (out .exit)) ⌝ }
     ensures memory_used { λ r. ⌜ Used (r .filled) (now (memory .exit)) ⌝ }
 {

@@ -52,7 +52,10 @@ tableArray d s c xs rs = arrayOf (tableDecide d s c (length xs) (length rs) .eff
 -- the answer, with the state and its counts of erases (R-table-2)
 unfoldable pub tableAnswer : Device → State → Cycle → List ℕ → List ℕ → Answer
 tableAnswer d s c xs rs =
-    record { seen = seenOf (tableDecide d s c (length xs) (length rs) .reply) (tableArray d s c xs rs); state = tableDecide d s c (length xs) (length rs) .state }
+    record {
+      seen = seenOf (tableDecide d s c (length xs) (length rs) .reply) (tableArray d s c xs rs);
+      state = tableDecide d s c (length xs) (length rs) .state;
+    }
 
 -- what it tells: the refusal's number, 0 where there is none, and the data given
 unfoldable pub tableTold : Device → State → Cycle → List ℕ → List ℕ → ℕ × List ℕ

@@ -54,7 +54,8 @@ fn decide_judged(d: Device, s: State, c: Cycle) -> Decision
 
 // The same on the lent array.
 fn after_judging(d: Device, s: State, c: Cycle, array: &mut [u8], residue: &[u8]) -> Answer
-    ensures result { λ r. ⌜ r ≡ answerJudged d s c (units (d .part .word) (now (array .entry))) (units (d .part .word) (now (residue .entry))) ⌝ }
+    ensures result { λ r. ⌜ r
+        ≡ answerJudged d s c (units (d .part .word) (now (array .entry))) (units (d .part .word) (now (residue .entry))) ⌝ }
     ensures array_left { λ _. ⌜ units (d .part .word) (now (array .exit))
         ≡ arrayJudged d s c (units (d .part .word) (now (array .entry))) (units (d .part .word) (now (residue .entry))) ⌝ }
     ensures array_spare { λ _. ⌜ spare (d .part .word) (now (array .exit)) ≡ spare (d .part .word) (now (array .entry)) ⌝ }
@@ -84,8 +85,10 @@ fn refused(n: u8, s: State) -> Answer
 
 // One bus cycle, by the table.
 pub fn cycle(d: Device, s: State, c: Cycle, array: &mut [u8], residue: &[u8]) -> Answer
-    ensures result { λ r. ⌜ r ≡ tableAnswer d s c (lent (d .part .word) (now (array .entry))) (units (d .part .word) (now (residue .entry))) ⌝ }
-    ensures told { λ r. ⌜ seenTold (r .seen) ≡ tableTold d s c (lent (d .part .word) (now (array .entry))) (units (d .part .word) (now (residue .entry))) ⌝ }
+    ensures result { λ r. ⌜ r
+        ≡ tableAnswer d s c (lent (d .part .word) (now (array .entry))) (units (d .part .word) (now (residue .entry))) ⌝ }
+    ensures told { λ r. ⌜ seenTold (r .seen)
+        ≡ tableTold d s c (lent (d .part .word) (now (array .entry))) (units (d .part .word) (now (residue .entry))) ⌝ }
     ensures array_left { λ _. ⌜ now (array .exit) ≡ tableBytes d s c (now (array .entry)) (now (residue .entry)) ⌝ }
 {
     let part = d.part;

@@ -50,7 +50,8 @@ fileSaid (made file) = record { line = file; stream = 1 }
 
 -- a payload judged as a table, then written under a letter into a room
 unfoldable pub tableSaid : ℕ → ℕ → List ℕ → Said
-tableSaid letter room p = if eqb (tableNumber p) 0 then fileSaid (inRoom room (writerOf limit letter p)) else complaint (tableLine (tableNumber p) p)
+tableSaid letter room p = if eqb (tableNumber p) 0 then fileSaid (inRoom room (writerOf limit letter p))
+    else complaint (tableLine (tableNumber p) p)
 
 -- what a text says of a table, with the payload that it made
 abbrev pub readSaid : ℕ → ℕ → TableRead → List ℕ → Said

@@ -8,7 +8,8 @@ ghost use lib.ListN.{length};
 ghost use Rattle.text.specs.Writing.{laidAt, behind, Used, toldOn};
 ghost use Rattle.file_codec.specs.File.{limit, inRoom, writerOf};
 ghost use Rattle.reading_text.specs.Tables.{tableScanned};
-ghost use Rattle.table_file.specs.Files.{longest, refusedLine, faultLine, tableLine, wrongLine, fileSaid, tableSaid, scannedSaid, longLine, usage, madeOf};
+ghost use Rattle.table_file.specs.Files.{longest, refusedLine, faultLine, tableLine, wrongLine, fileSaid, tableSaid, scannedSaid};
+ghost use Rattle.table_file.specs.Files.{longLine, usage, madeOf};
 
 // The bytes of the longest text that is read, and a room that shows a longer one.
 const LONGEST: usize = 327679;
@@ -66,7 +67,8 @@ fn put_file(letter: u8, payload: &[u8], out: &mut [u8]) -> Told
         ≡ toldOn (fileSaid (inRoom (length (now (out .entry))) (writerOf limit letter (now (payload .entry)))) .stream) (now (out .entry))
         (fileSaid (inRoom (length (now (out .entry))) (writerOf limit letter (now (payload .entry)))) .line) ⌝ }
     ensures out_left { λ _. ⌜ now (out .exit)
-        ≡ laidAt (now (out .entry)) 0 (fileSaid (inRoom (length (now (out .entry))) (writerOf limit letter (now (payload .entry)))) .line) ⌝ }
+        ≡ laidAt (now (out .entry)) 0
+        (fileSaid (inRoom (length (now (out .entry))) (writerOf limit letter (now (payload .entry)))) .line) ⌝ }
 {
     let written = file_codec::write(letter, payload, out);
     match written {
@@ -87,7 +89,8 @@ fn put_table(letter: u8, payload: &[u8], out: &mut [u8]) -> Told
     ensures result { λ r. ⌜ r
         ≡ toldOn (tableSaid letter (length (now (out .entry))) (now (payload .entry)) .stream) (now (out .entry))
         (tableSaid letter (length (now (out .entry))) (now (payload .entry)) .line) ⌝ }
-    ensures out_left { λ _. ⌜ now (out .exit) ≡ laidAt (now (out .entry)) 0 (tableSaid letter (length (now (out .entry))) (now (payload .entry)) .line) ⌝ }
+    ensures out_left { λ _. ⌜ now (out .exit)
+        ≡ laidAt (now (out .entry)) 0 (tableSaid letter (length (now (out .entry))) (now (payload .entry)) .line) ⌝ }
 {
     let n = reading_table::judge_table(payload);
     if n == 0 {
@@ -104,10 +107,12 @@ fn put_table(letter: u8, payload: &[u8], out: &mut [u8]) -> Told
 fn put_read(letter: u8, text: &[u8], payload: &mut [u8], out: &mut [u8]) -> Told
     requires { ⌜ length (now text) ≤ longest ⌝ }
     ensures result { λ r. ⌜ r
-        ≡ toldOn (scannedSaid letter (length (now (out .entry))) (tableScanned (now (text .entry)) (now (payload .entry))) .stream) (now (out .entry))
+        ≡ toldOn (scannedSaid letter (length (now (out .entry))) (tableScanned (now (text .entry)) (now (payload .entry))) .stream)
+        (now (out .entry))
         (scannedSaid letter (length (now (out .entry))) (tableScanned (now (text .entry)) (now (payload .entry))) .line) ⌝ }
     ensures out_left { λ _. ⌜ now (out .exit)
-        ≡ laidAt (now (out .entry)) 0 (scannedSaid letter (length (now (out .entry))) (tableScanned (now (text .entry)) (now (payload .entry))) .line) ⌝ }
+        ≡ laidAt (now (out .entry)) 0
+        (scannedSaid letter (length (now (out .entry))) (tableScanned (now (text .entry)) (now (payload .entry))) .line) ⌝ }
     ensures payload_left { λ _. ⌜ now (payload .exit) ≡ tableScanned (now (text .entry)) (now (payload .entry)) .payload ⌝ }
 {
     let got = reading_text::read_table(text, payload);
@@ -144,9 +149,15 @@ fn put_usage(out: &mut [u8]) -> usize
 
 // The file of a text under a letter, in the front of out, or a line that says why there is none. The knots go into payload.
 pub fn make(text: &[u8], letter: &[u8], payload: &mut [u8], out: &mut [u8]) -> Told
-    ensures result { λ r. ⌜ r ≡ toldOn (madeOf (now (text .entry)) (now (letter .entry)) (now (payload .entry)) (length (now (out .entry))) .said .stream) (now (out .entry)) (madeOf (now (text .entry)) (now (letter .entry)) (now (payload .entry)) (length (now (out .entry))) .said .line) ⌝ }
-    ensures out_left { λ _. ⌜ now (out .exit) ≡ laidAt (now (out .entry)) 0 (madeOf (now (text .entry)) (now (letter .entry)) (now (payload .entry)) (length (now (out .entry))) .said .line) ⌝ }
-    ensures payload_left { λ _. ⌜ now (payload .exit) ≡ madeOf (now (text .entry)) (now (letter .entry)) (now (payload .entry)) (length (now (out .entry))) .payload ⌝ }
+    ensures result { λ r. ⌜ r
+        ≡ toldOn (madeOf (now (text .entry)) (now (letter .entry)) (now (payload .entry)) (length (now (out .entry))) .said .stream)
+        (now (out .entry))
+        (madeOf (now (text .entry)) (now (letter .entry)) (now (payload .entry)) (length (now (out .entry))) .said .line) ⌝ }
+    ensures out_left { λ _. ⌜ now (out .exit)
+        ≡ laidAt (now (out .entry)) 0
+        (madeOf (now (text .entry)) (now (letter .entry)) (now (payload .entry)) (length (now (out .entry))) .said .line) ⌝ }
+    ensures payload_left { λ _. ⌜ now (payload .exit)
+        ≡ madeOf (now (text .entry)) (now (letter .entry)) (now (payload .entry)) (length (now (out .entry))) .payload ⌝ }
     ensures out_used { λ r. ⌜ Used (r .used) (now (out .exit)) ⌝ }
 {
     if letter.len() == 1 {

@@ -36,7 +36,8 @@ fn put_refusal(out: &mut [u8], n: u8) -> usize
 
 // A payload judged as a table, then its lines.
 fn put_table(payload: &[u8], out: &mut [u8]) -> Told
-    ensures result { λ r. ⌜ r ≡ toldOn (tableSaid (now (payload .entry)) .stream) (now (out .entry)) (tableSaid (now (payload .entry)) .line) ⌝ }
+    ensures result { λ r. ⌜ r
+        ≡ toldOn (tableSaid (now (payload .entry)) .stream) (now (out .entry)) (tableSaid (now (payload .entry)) .line) ⌝ }
     ensures out_left { λ _. ⌜ now (out .exit) ≡ laidAt (now (out .entry)) 0 (tableSaid (now (payload .entry)) .line) ⌝ }
 {
     let n = reading_table::judge_table(payload);
@@ -59,8 +60,10 @@ fn put_file(file: &[u8], letter: u8, room: &mut [u8], out: &mut [u8]) -> Told
     ensures result { λ r. ⌜ r
         ≡ toldOn (fileSaid (inRoom (length (now (room .entry))) (readerOf limit (now (file .entry)) letter)) .stream) (now (out .entry))
         (fileSaid (inRoom (length (now (room .entry))) (readerOf limit (now (file .entry)) letter)) .line) ⌝ }
-    ensures out_left { λ _. ⌜ now (out .exit) ≡ laidAt (now (out .entry)) 0 (fileSaid (inRoom (length (now (room .entry))) (readerOf limit (now (file .entry)) letter)) .line) ⌝ }
-    ensures room_left { λ _. ⌜ now (room .exit) ≡ leftIn (now (room .entry)) (inRoom (length (now (room .entry))) (readerOf limit (now (file .entry)) letter)) ⌝ }
+    ensures out_left { λ _. ⌜ now (out .exit)
+        ≡ laidAt (now (out .entry)) 0 (fileSaid (inRoom (length (now (room .entry))) (readerOf limit (now (file .entry)) letter)) .line) ⌝ }
+    ensures room_left { λ _. ⌜ now (room .exit)
+        ≡ leftIn (now (room .entry)) (inRoom (length (now (room .entry))) (readerOf limit (now (file .entry)) letter)) ⌝ }
 {
     let got = file_codec::read(file, letter, room);
     match got {
@@ -86,8 +89,10 @@ fn put_usage(out: &mut [u8]) -> usize
 // The table of a file for a letter, in the front of out, or the line that says why there is none. The payload goes into room.
 pub fn show(file: &[u8], letter: &[u8], room: &mut [u8], out: &mut [u8]) -> Told
     ensures result { λ r. ⌜ r
-        ≡ toldOn (shownOf (now (file .entry)) (now (letter .entry)) (now (room .entry)) .said .stream) (now (out .entry)) (shownOf (now (file .entry)) (now (letter .entry)) (now (room .entry)) .said .line) ⌝ }
-    ensures out_left { λ _. ⌜ now (out .exit) ≡ laidAt (now (out .entry)) 0 (shownOf (now (file .entry)) (now (letter .entry)) (now (room .entry)) .said .line) ⌝ }
+        ≡ toldOn (shownOf (now (file .entry)) (now (letter .entry)) (now (room .entry)) .said .stream) (now (out .entry))
+        (shownOf (now (file .entry)) (now (letter .entry)) (now (room .entry)) .said .line) ⌝ }
+    ensures out_left { λ _. ⌜ now (out .exit)
+        ≡ laidAt (now (out .entry)) 0 (shownOf (now (file .entry)) (now (letter .entry)) (now (room .entry)) .said .line) ⌝ }
     ensures room_left { λ _. ⌜ now (room .exit) ≡ shownOf (now (file .entry)) (now (letter .entry)) (now (room .entry)) .room ⌝ }
     ensures out_used { λ r. ⌜ Used (r .used) (now (out .exit)) ⌝ }
 {

@@ -88,7 +88,8 @@ cycleAs k rp oe vpp a b = record { kind = k; pins = record { rp = rp; vpp = vpp;
 -- the cycle that a line states, read off its places
 unfoldable pub cycleStated : List ℕ → Cycle
 cycleStated xs =
-    cycleAs (kindOf (getD xs 0 0)) (digitOf (getD xs 2 0)) (digitOf (getD xs 4 0)) (fiveDigits (getD xs 6 0) (getD xs 7 0) (getD xs 8 0) (getD xs 9 0) (getD xs 10 0))
+    cycleAs (kindOf (getD xs 0 0)) (digitOf (getD xs 2 0)) (digitOf (getD xs 4 0))
+    (fiveDigits (getD xs 6 0) (getD xs 7 0) (getD xs 8 0) (getD xs 9 0) (getD xs 10 0))
     (fourHex (getD xs 12 0) (getD xs 13 0) (getD xs 14 0) (getD xs 15 0))
     (twoHex (getD xs 17 0) (getD xs 18 0))
 
@@ -121,8 +122,10 @@ lineOf c =
     letterFor (c .kind) ∷ 32
     ∷ (48 + c .pins .rp) ∷ 32
     ∷ (48 + c .oe) ∷ 32
-    ∷ decimalDigit (c .pins .vpp / 10000) ∷ decimalDigit (c .pins .vpp / 1000) ∷ decimalDigit (c .pins .vpp / 100) ∷ decimalDigit (c .pins .vpp / 10) ∷ decimalDigit (c .pins .vpp) ∷ 32
-    ∷ digitLetter (c .address / 4096 % 16) ∷ digitLetter (c .address / 256 % 16) ∷ digitLetter (c .address / 16 % 16) ∷ digitLetter (c .address % 16) ∷ 32
+    ∷ decimalDigit (c .pins .vpp / 10000) ∷ decimalDigit (c .pins .vpp / 1000) ∷ decimalDigit (c .pins .vpp / 100)
+    ∷ decimalDigit (c .pins .vpp / 10) ∷ decimalDigit (c .pins .vpp) ∷ 32
+    ∷ digitLetter (c .address / 4096 % 16) ∷ digitLetter (c .address / 256 % 16) ∷ digitLetter (c .address / 16 % 16)
+    ∷ digitLetter (c .address % 16) ∷ 32
     ∷ digitLetter (c .data / 16 % 16) ∷ digitLetter (c .data % 16) ∷ 10
     ∷ []
 

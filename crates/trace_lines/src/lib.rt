@@ -4,7 +4,8 @@ use model_types::Kind;
 use model_types::Pins;
 ghost use mathlib.Core.Path.{_≡_};
 ghost use mathlib.Core.Bool.{true};
-ghost use Rattle.trace_lines.specs.Lines.{isKind, isLine, kindOf, fiveDigits, fourHex, twoHex, cycleStated, readLine, lineTold, toldIn};
+ghost use Rattle.trace_lines.specs.Lines.{isKind, isLine, kindOf, fiveDigits, fourHex, twoHex, cycleStated, readLine, lineTold};
+ghost use Rattle.trace_lines.specs.Lines.{toldIn};
 ghost use Rattle.trace_lines.specs.Inner.{metFrom, frontRun, supplyRun, addressRun, backRun};
 
 // What a line says: the cycle that it states, or that it is none.

@@ -62,7 +62,8 @@ outputFrom zero n s xs rs text = traceEnd n (length text)
 outputFrom (suc k) n s xs rs text =
     if isLine (take 20 text)
     then printedOf (lineStep s (cycleStated (take 20 text)) xs rs)
-    ++ outputFrom k (suc n) (lineStep s (cycleStated (take 20 text)) xs rs .state) (arrayBy s (cycleStated (take 20 text)) xs rs) rs (drop 20 text)
+    ++ outputFrom k (suc n) (lineStep s (cycleStated (take 20 text)) xs rs .state) (arrayBy s (cycleStated (take 20 text)) xs rs) rs
+    (drop 20 text)
     else traceEnd n (length text)
 
 -- the array that the same walk leaves

@@ -15,7 +15,8 @@ ghost use Rattle.model_types.specs.States.{freshState};
 ghost use Rattle.model.specs.Arrays.{seenTold};
 ghost use Rattle.trace_lines.specs.Lines.{isLine, cycleStated};
 ghost use Rattle.trace_replay.specs.Answers.{printedOf};
-ghost use Rattle.trace_replay.specs.Replays.{benchT, lineStep, stepTold, arrayBy, goodLines, answersOf, arraysOf, outputOf, arrayLeft, replayedIn, leftInRoom, Used};
+ghost use Rattle.trace_replay.specs.Replays.{benchT, lineStep, stepTold, arrayBy, goodLines, answersOf, arraysOf, outputOf};
+ghost use Rattle.trace_replay.specs.Replays.{arrayLeft, replayedIn, leftInRoom, Used};
 
 // How a replay went: refused by 37, or by nothing (0) with so many bytes of output.
 pub struct Replayed {
@@ -59,9 +60,11 @@ pub fn answer_line(
     out: &mut [u8],
 ) -> State
     ensures result { λ r. ⌜ r ≡ lineStep s (cycleStated (now (line .entry))) (now (array .entry)) (now (residue .entry)) .state ⌝ }
-    ensures array_left { λ _. ⌜ now (array .exit) ≡ arrayBy s (cycleStated (now (line .entry))) (now (array .entry)) (now (residue .entry)) ⌝ }
+    ensures array_left { λ _. ⌜ now (array .exit)
+        ≡ arrayBy s (cycleStated (now (line .entry))) (now (array .entry)) (now (residue .entry)) ⌝ }
     ensures out_left { λ _. ⌜ now (out .exit)
-        ≡ copied (now (out .entry)) (printedOf (lineStep s (cycleStated (now (line .entry))) (now (array .entry)) (now (residue .entry)))) ⌝ }
+        ≡ copied (now (out .entry))
+        (printedOf (lineStep s (cycleStated (now (line .entry))) (now (array .entry)) (now (residue .entry)))) ⌝ }
 {
     let c = trace_lines::cycle_in(line);
     let a = step(table, s, c, array, residue);
@@ -110,7 +113,8 @@ fn answer_lines(
     out: &mut [u8],
 )
     requires { ⌜ (20 * g ≤ length (now text)) × (8 * g ≤ length (now out)) ⌝ }
-    ensures array_left { λ _. ⌜ now (array .exit) ≡ arraysOf g freshState (now (array .entry)) (now (residue .entry)) (now (text .entry)) ⌝ }
+    ensures array_left { λ _. ⌜ now (array .exit)
+        ≡ arraysOf g freshState (now (array .entry)) (now (residue .entry)) (now (text .entry)) ⌝ }
     ensures out_left { λ _. ⌜ now (out .exit)
         ≡ answersOf g freshState (now (array .entry)) (now (residue .entry)) (now (text .entry)) ++ drop (8 * g) (now (out .entry)) ⌝ }
 {
@@ -134,7 +138,8 @@ pub fn replay(
     residue: &[u8],
     out: &mut [u8],
 ) -> Replayed
-    ensures result { λ r. ⌜ r ≡ replayedIn (length (now (out .entry))) (outputOf (now (array .entry)) (now (residue .entry)) (now (text .entry))) ⌝ }
+    ensures result { λ r. ⌜ r
+        ≡ replayedIn (length (now (out .entry))) (outputOf (now (array .entry)) (now (residue .entry)) (now (text .entry))) ⌝ }
     ensures array_left { λ _. ⌜ now (array .exit)
         ≡ leftInRoom (length (now (out .entry))) (outputOf (now (array .entry)) (now (residue .entry)) (now (text .entry)))
         (now (array .entry)) (arrayLeft (now (array .entry)) (now (residue .entry)) (now (text .entry))) ⌝ }

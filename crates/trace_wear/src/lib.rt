@@ -19,7 +19,8 @@ pub enum Worn {
 // The state after the cycle that a line states.
 fn next(s: State, line: &[u8], array: &mut [u8], residue: &[u8]) -> State
     ensures result { λ r. ⌜ r ≡ lineStep s (cycleStated (now (line .entry))) (now (array .entry)) (now (residue .entry)) .state ⌝ }
-    ensures array_left { λ _. ⌜ now (array .exit) ≡ arrayBy s (cycleStated (now (line .entry))) (now (array .entry)) (now (residue .entry)) ⌝ }
+    ensures array_left { λ _. ⌜ now (array .exit)
+        ≡ arrayBy s (cycleStated (now (line .entry))) (now (array .entry)) (now (residue .entry)) ⌝ }
 {
     let c = trace_lines::cycle_in(line);
     let a = trace_replay::step(engines::RULES, s, c, array, residue);
@@ -30,7 +31,8 @@ fn next(s: State, line: &[u8], array: &mut [u8], residue: &[u8]) -> State
 fn last_state(g: usize, text: &[u8], array: &mut [u8], residue: &[u8]) -> State
     requires { ⌜ 20 * g ≤ length (now text) ⌝ }
     ensures result { λ r. ⌜ r ≡ statesOf g freshState (now (array .entry)) (now (residue .entry)) (now (text .entry)) ⌝ }
-    ensures array_left { λ _. ⌜ now (array .exit) ≡ arraysOf g freshState (now (array .entry)) (now (residue .entry)) (now (text .entry)) ⌝ }
+    ensures array_left { λ _. ⌜ now (array .exit)
+        ≡ arraysOf g freshState (now (array .entry)) (now (residue .entry)) (now (text .entry)) ⌝ }
 {
     let mut s = model::fresh();
     let mut i = 0;

@@ -14,7 +14,8 @@ use Rattle.trace_wear.specs.Wears.{stateLeft}
 -- the cycles that the good lines at the front of a text state, k at most, each with the same residue
 unfoldable pub busesFrom : ℕ → List ℕ → List ℕ → List Bus
 busesFrom zero rs text = []
-busesFrom (suc k) rs text = if isLine (take 20 text) then record { cycle = cycleStated (take 20 text); residue = rs } ∷ busesFrom k rs (drop 20 text) else []
+busesFrom (suc k) rs text = if isLine (take 20 text)
+    then record { cycle = cycleStated (take 20 text); residue = rs } ∷ busesFrom k rs (drop 20 text) else []
 
 -- a text as a trace, on a device that holds xs
 abbrev pub traceOf : List ℕ → List ℕ → List ℕ → Trace

@@ -200,7 +200,8 @@ fn program_byte(s: &mut [u8], at: usize, b: u8)
 // Old AND data on both bytes of a word.
 fn program_word(s: &mut [u8], w: WordAddress, v: u16)
     requires { ⌜ w .word < length (pairs (now s)) ⌝ }
-    ensures s_left { λ _. ⌜ pairs (now (s .exit)) ≡ set (pairs (now (s .entry))) (w .word) (bitAnd (getD (pairs (now (s .entry))) (w .word) 0) v) ⌝ }
+    ensures s_left { λ _. ⌜ pairs (now (s .exit))
+        ≡ set (pairs (now (s .entry))) (w .word) (bitAnd (getD (pairs (now (s .entry))) (w .word) 0) v) ⌝ }
     ensures s_spare { λ _. ⌜ unpaired (now (s .exit)) ≡ unpaired (now (s .entry)) ⌝ }
 {
     let a = first_byte(w);
@@ -211,7 +212,8 @@ fn program_word(s: &mut [u8], w: WordAddress, v: u16)
 
 fn program_there(word: bool, s: &mut [u8], at: usize, v: u16)
     requires { ⌜ at < length (units word (now s)) ⌝ }
-    ensures s_left { λ _. ⌜ units word (now (s .exit)) ≡ set (units word (now (s .entry))) at (bitAnd (getD (units word (now (s .entry))) at 0) v) ⌝ }
+    ensures s_left { λ _. ⌜ units word (now (s .exit))
+        ≡ set (units word (now (s .entry))) at (bitAnd (getD (units word (now (s .entry))) at 0) v) ⌝ }
     ensures s_spare { λ _. ⌜ spare word (now (s .exit)) ≡ spare word (now (s .entry)) ⌝ }
 {
     if word {
@@ -222,7 +224,8 @@ fn program_there(word: bool, s: &mut [u8], at: usize, v: u16)
 
 // Old AND data on a unit; nothing past the end.
 pub fn program_unit(word: bool, s: &mut [u8], at: usize, v: u16)
-    ensures s_left { λ _. ⌜ units word (now (s .exit)) ≡ set (units word (now (s .entry))) at (bitAnd (getD (units word (now (s .entry))) at 0) v) ⌝ }
+    ensures s_left { λ _. ⌜ units word (now (s .exit))
+        ≡ set (units word (now (s .entry))) at (bitAnd (getD (units word (now (s .entry))) at 0) v) ⌝ }
     ensures s_spare { λ _. ⌜ spare word (now (s .exit)) ≡ spare word (now (s .entry)) ⌝ }
 {
     if at < units_in(word, s.len()) {
@@ -284,7 +287,8 @@ fn leave_part(s: &mut [u8], a: usize, n: usize, residue: &[u8])
 
 fn leave_there(word: bool, s: &mut [u8], a: usize, n: usize, residue: &[u8])
     requires { ⌜ (a + n ≤ length (units word (now s))) × (n ≤ length (units word (now residue))) ⌝ }
-    ensures s_left { λ _. ⌜ units word (now (s .exit)) ≡ overlaid (units word (now (s .entry))) a (take n (units word (now (residue .entry)))) ⌝ }
+    ensures s_left { λ _. ⌜ units word (now (s .exit))
+        ≡ overlaid (units word (now (s .entry))) a (take n (units word (now (residue .entry)))) ⌝ }
     ensures s_spare { λ _. ⌜ spare word (now (s .exit)) ≡ spare word (now (s .entry)) ⌝ }
 {
     leave_part(s, byte_of(word, a), bytes_in(word, n), residue);

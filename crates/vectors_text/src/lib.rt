@@ -87,7 +87,8 @@ pub fn size_at(s: &[u8], base: u8, at: usize, n: usize) -> usize
 
 // Where the next row begins: behind the newline, or at the end of the text.
 pub fn next_row(text: &[u8], at: usize) -> usize
-    ensures { λ r. ⌜ (r ≡ nextRow (now (text .entry)) at) × (min (at + 1) (length (now (text .entry))) ≤ r) × (r ≤ max at (length (now (text .entry)))) ⌝ }
+    ensures { λ r. ⌜ (r ≡ nextRow (now (text .entry)) at) × (min (at + 1) (length (now (text .entry))) ≤ r)
+        × (r ≤ max at (length (now (text .entry)))) ⌝ }
 {
     let mut i = at;
     while i < text.len() {

@@ -113,7 +113,13 @@ misused xs w sc = record { line = usage; stream = 2; image = xs; wanted = w; scr
 -- a verify of n bytes: its end, on standard output
 abbrev pub ended : LoadLeft → ℕ → List ℕ → List ℕ → Answered
 ended left n w sc =
-    record { line = endText (left .ran .end) (left .ran .address); stream = 1; image = left .bytes; wanted = left .wanted ++ drop n w; scratch = left .scratch ++ drop n sc }
+    record {
+      line = endText (left .ran .end) (left .ran .address);
+      stream = 1;
+      image = left .bytes;
+      wanted = left .wanted ++ drop n w;
+      scratch = left .scratch ++ drop n sc;
+    }
 
 -- the whole: words of a call, so many with the program's own; image, device, block, file, letter, mode; and the rooms lent
 unfoldable pub answered : ℕ → List ℕ → List ℕ → List ℕ → List ℕ → List ℕ → List ℕ → List ℕ → List ℕ → Answered
@@ -123,4 +129,5 @@ answered count xs device block f letter mode w sc =
 
 -- the same with rooms as long as the longest flash block
 unfoldable pub told : ℕ → List ℕ → List ℕ → List ℕ → List ℕ → List ℕ → List ℕ → Answered
-told count xs device block f letter mode = answered count xs device block f letter mode (replicate {A = ℕ} 131072 0) (replicate {A = ℕ} 131072 0)
+told count xs device block f letter mode =
+    answered count xs device block f letter mode (replicate {A = ℕ} 131072 0) (replicate {A = ℕ} 131072 0)

@@ -13,7 +13,8 @@ ghost use Prim.Native.Nat.{min};
 ghost use lib.ListN.{drop};
 ghost use Rattle.device.specs.Parts.{lengthOf};
 ghost use Rattle.text.specs.Writing.{laidAt, behind, Used, toldOn};
-ghost use Rattle.verify_answer.specs.Answers.{isNumeral, numeralOf, callWrong, verifyWords, refusedLine, addressText, differsText, endText, narrowed, bytesOf, verifyJob, verifyOf, usage, answered, told};
+ghost use Rattle.verify_answer.specs.Answers.{isNumeral, numeralOf, callWrong, verifyWords, refusedLine, addressText, differsText};
+ghost use Rattle.verify_answer.specs.Answers.{endText, narrowed, bytesOf, verifyJob, verifyOf, usage, answered, told};
 
 // A word that is one digit.
 fn is_numeral(word: &[u8]) -> bool
@@ -162,8 +163,10 @@ fn verified(
     file: &[u8],
     letter: u8,
 ) -> Ran
-    ensures result { λ r. ⌜ r ≡ verifyOf part block (now (image .entry)) (now (wanted .entry)) (now (scratch .entry)) (now (file .entry)) letter .ran ⌝ }
-    ensures image_left { λ _. ⌜ now (image .exit) ≡ verifyOf part block (now (image .entry)) (now (wanted .entry)) (now (scratch .entry)) (now (file .entry)) letter .bytes ⌝ }
+    ensures result { λ r. ⌜ r
+        ≡ verifyOf part block (now (image .entry)) (now (wanted .entry)) (now (scratch .entry)) (now (file .entry)) letter .ran ⌝ }
+    ensures image_left { λ _. ⌜ now (image .exit)
+        ≡ verifyOf part block (now (image .entry)) (now (wanted .entry)) (now (scratch .entry)) (now (file .entry)) letter .bytes ⌝ }
     ensures wanted_left { λ _. ⌜ now (wanted .exit)
         ≡ verifyOf part block (now (image .entry)) (now (wanted .entry)) (now (scratch .entry)) (now (file .entry)) letter .wanted
         ++ drop (bytesOf part block (now (wanted .entry)) (now (scratch .entry))) (now (wanted .entry)) ⌝ }
@@ -210,11 +213,25 @@ pub fn answer(
     scratch: &mut [u8],
     out: &mut [u8],
 ) -> Told
-    ensures result { λ r. ⌜ r ≡ toldOn (answered count (now (image .entry)) (now (device .entry)) (now (block .entry)) (now (file .entry)) (now (letter .entry)) (now (mode .entry)) (now (wanted .entry)) (now (scratch .entry)) .stream) (now (out .entry)) (answered count (now (image .entry)) (now (device .entry)) (now (block .entry)) (now (file .entry)) (now (letter .entry)) (now (mode .entry)) (now (wanted .entry)) (now (scratch .entry)) .line) ⌝ }
-    ensures out_left { λ _. ⌜ now (out .exit) ≡ laidAt (now (out .entry)) 0 (answered count (now (image .entry)) (now (device .entry)) (now (block .entry)) (now (file .entry)) (now (letter .entry)) (now (mode .entry)) (now (wanted .entry)) (now (scratch .entry)) .line) ⌝ }
-    ensures image_left { λ _. ⌜ now (image .exit) ≡ answered count (now (image .entry)) (now (device .entry)) (now (block .entry)) (now (file .entry)) (now (letter .entry)) (now (mode .entry)) (now (wanted .entry)) (now (scratch .entry)) .image ⌝ }
-    ensures wanted_left { λ _. ⌜ now (wanted .exit) ≡ answered count (now (image .entry)) (now (device .entry)) (now (block .entry)) (now (file .entry)) (now (letter .entry)) (now (mode .entry)) (now (wanted .entry)) (now (scratch .entry)) .wanted ⌝ }
-    ensures scratch_left { λ _. ⌜ now (scratch .exit) ≡ answered count (now (image .entry)) (now (device .entry)) (now (block .entry)) (now (file .entry)) (now (letter .entry)) (now (mode .entry)) (now (wanted .entry)) (now (scratch .entry)) .scratch ⌝ }
+    ensures result { λ r. ⌜ r
+        ≡ toldOn
+        (answered count (now (image .entry)) (now (device .entry)) (now (block .entry)) (now (file .entry)) (now (letter .entry))
+        (now (mode .entry)) (now (wanted .entry)) (now (scratch .entry)) .stream) (now (out .entry))
+        (answered count (now (image .entry)) (now (device .entry)) (now (block .entry)) (now (file .entry)) (now (letter .entry))
+        (now (mode .entry)) (now (wanted .entry)) (now (scratch .entry)) .line) ⌝ }
+    ensures out_left { λ _. ⌜ now (out .exit)
+        ≡ laidAt (now (out .entry)) 0
+        (answered count (now (image .entry)) (now (device .entry)) (now (block .entry)) (now (file .entry)) (now (letter .entry))
+        (now (mode .entry)) (now (wanted .entry)) (now (scratch .entry)) .line) ⌝ }
+    ensures image_left { λ _. ⌜ now (image .exit)
+        ≡ answered count (now (image .entry)) (now (device .entry)) (now (block .entry)) (now (file .entry)) (now (letter .entry))
+        (now (mode .entry)) (now (wanted .entry)) (now (scratch .entry)) .image ⌝ }
+    ensures wanted_left { λ _. ⌜ now (wanted .exit)
+        ≡ answered count (now (image .entry)) (now (device .entry)) (now (block .entry)) (now (file .entry)) (now (letter .entry))
+        (now (mode .entry)) (now (wanted .entry)) (now (scratch .entry)) .wanted ⌝ }
+    ensures scratch_left { λ _. ⌜ now (scratch .exit)
+        ≡ answered count (now (image .entry)) (now (device .entry)) (now (block .entry)) (now (file .entry)) (now (letter .entry))
+        (now (mode .entry)) (now (wanted .entry)) (now (scratch .entry)) .scratch ⌝ }
     ensures out_used { λ r. ⌜ Used (r .used) (now (out .exit)) ⌝ }
 {
     let m = numeral(mode);
@@ -254,9 +271,19 @@ pub fn tell(
     mode: &[u8],
     out: &mut [u8],
 ) -> Told
-    ensures result { λ r. ⌜ r ≡ toldOn (told count (now (image .entry)) (now (device .entry)) (now (block .entry)) (now (file .entry)) (now (letter .entry)) (now (mode .entry)) .stream) (now (out .entry)) (told count (now (image .entry)) (now (device .entry)) (now (block .entry)) (now (file .entry)) (now (letter .entry)) (now (mode .entry)) .line) ⌝ }
-    ensures out_left { λ _. ⌜ now (out .exit) ≡ laidAt (now (out .entry)) 0 (told count (now (image .entry)) (now (device .entry)) (now (block .entry)) (now (file .entry)) (now (letter .entry)) (now (mode .entry)) .line) ⌝ }
-    ensures image_left { λ _. ⌜ now (image .exit) ≡ told count (now (image .entry)) (now (device .entry)) (now (block .entry)) (now (file .entry)) (now (letter .entry)) (now (mode .entry)) .image ⌝ }
+    ensures result { λ r. ⌜ r
+        ≡ toldOn
+        (told count (now (image .entry)) (now (device .entry)) (now (block .entry)) (now (file .entry)) (now (letter .entry))
+        (now (mode .entry)) .stream) (now (out .entry))
+        (told count (now (image .entry)) (now (device .entry)) (now (block .entry)) (now (file .entry)) (now (letter .entry))
+        (now (mode .entry)) .line) ⌝ }
+    ensures out_left { λ _. ⌜ now (out .exit)
+        ≡ laidAt (now (out .entry)) 0
+        (told count (now (image .entry)) (now (device .entry)) (now (block .entry)) (now (file .entry)) (now (letter .entry))
+        (now (mode .entry)) .line) ⌝ }
+    ensures image_left { λ _. ⌜ now (image .exit)
+        ≡ told count (now (image .entry)) (now (device .entry)) (now (block .entry)) (now (file .entry)) (now (letter .entry))
+        (now (mode .entry)) .image ⌝ }
     ensures out_used { λ r. ⌜ Used (r .used) (now (out .exit)) ⌝ }
 {
     let mut wanted = [0u8; 131072];

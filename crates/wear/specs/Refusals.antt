@@ -29,7 +29,8 @@ unknownNumber number = unknownPart (record { number = number; word = false })
 -- the tests of a report on many traces, in their order
 abbrev pub reportRows : ℕ → List ℕ → ℕ → List Row
 reportRows number numbers counts =
-    row 1 (unknownNumber number) ∷ row 11 (unevenCounts (length numbers) counts) ∷ row 47 (ltb 65535 (length numbers)) ∷ row 48 (differ number numbers) ∷ []
+    row 1 (unknownNumber number) ∷ row 11 (unevenCounts (length numbers) counts) ∷ row 47 (ltb 65535 (length numbers))
+    ∷ row 48 (differ number numbers) ∷ []
 
 -- the first refusal of these, 0 where nothing refuses
 unfoldable pub reportNumber : ℕ → List ℕ → ℕ → ℕ
@@ -38,7 +39,10 @@ reportNumber number numbers counts = given (reportRows number numbers counts)
 -- the report on traces, or its refusal with the report on none
 unfoldable pub reportedOf : ℕ → List ℕ → List ℕ → Reported
 reportedOf number numbers counts =
-    if eqb (reportNumber number numbers (length counts)) 0 then record { number = 0; report = reportFrom (length numbers) 0 counts noReport }
+    if eqb (reportNumber number numbers (length counts)) 0 then record {
+      number = 0;
+      report = reportFrom (length numbers) 0 counts noReport;
+    }
     else record { number = reportNumber number numbers (length counts); report = noReport }
 
 -- one trace more: 47 where there are 65,535 already (R-number-47, R-number-48)

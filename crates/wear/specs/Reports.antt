@@ -35,7 +35,13 @@ passing a n = if ltb 100000 n then raised a else a
 
 -- one block, with a trace more (R-wear-2)
 abbrev pub tallied : Bool → Tally → ℕ → Tally
-tallied first t n = record { total = addedUp (t .total) n; largest = larger (t .largest) n; smallest = lowest first (t .smallest) n; passed = passing (t .passed) n }
+tallied first t n =
+    record {
+      total = addedUp (t .total) n;
+      largest = larger (t .largest) n;
+      smallest = lowest first (t .smallest) n;
+      passed = passing (t .passed) n;
+    }
 
 -- a block of which nothing was counted
 abbrev pub noTally : Tally
@@ -43,7 +49,17 @@ noTally = record { total = 0; largest = 0; smallest = 0; passed = 0 }
 
 -- the report on no traces: zeros, the smallest too (R-wear-2)
 abbrev pub noReport : Report
-noReport = record { traces = 0; block0 = noTally; block1 = noTally; block2 = noTally; block3 = noTally; block4 = noTally; block5 = noTally; block6 = noTally }
+noReport =
+    record {
+      traces = 0;
+      block0 = noTally;
+      block1 = noTally;
+      block2 = noTally;
+      block3 = noTally;
+      block4 = noTally;
+      block5 = noTally;
+      block6 = noTally;
+    }
 
 -- a report with one trace more
 abbrev pub added : Report → Wear → Report

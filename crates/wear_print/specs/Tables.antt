@@ -24,11 +24,14 @@ fieldText n = 32 ∷ spelled 10 (widthOf n) n []
 
 -- a block's line: its number, total, largest, smallest, passed, and a newline
 unfoldable pub rowText : ℕ → Tally → List ℕ
-rowText k t = ((((fieldText k ++ fieldText (t .total)) ++ fieldText (t .largest)) ++ fieldText (t .smallest)) ++ fieldText (t .passed)) ++ (10 ∷ [])
+rowText k t =
+    ((((fieldText k ++ fieldText (t .total)) ++ fieldText (t .largest)) ++ fieldText (t .smallest)) ++ fieldText (t .passed)) ++ (10 ∷ [])
 
 -- ' block total largest smallest passed', and a newline
 abbrev pub headText : List ℕ
-headText = 32 ∷ 98 ∷ 108 ∷ 111 ∷ 99 ∷ 107 ∷ 32 ∷ 116 ∷ 111 ∷ 116 ∷ 97 ∷ 108 ∷ 32 ∷ 108 ∷ 97 ∷ 114 ∷ 103 ∷ 101 ∷ 115 ∷ 116 ∷ 32 ∷ 115 ∷ 109 ∷ 97 ∷ 108 ∷ 108 ∷ 101 ∷ 115 ∷ 116 ∷ 32 ∷ 112 ∷ 97 ∷ 115 ∷ 115 ∷ 101 ∷ 100 ∷ 10 ∷ []
+headText =
+    32 ∷ 98 ∷ 108 ∷ 111 ∷ 99 ∷ 107 ∷ 32 ∷ 116 ∷ 111 ∷ 116 ∷ 97 ∷ 108 ∷ 32 ∷ 108 ∷ 97 ∷ 114 ∷ 103 ∷ 101 ∷ 115 ∷ 116 ∷ 32 ∷ 115 ∷ 109 ∷ 97
+    ∷ 108 ∷ 108 ∷ 101 ∷ 115 ∷ 116 ∷ 32 ∷ 112 ∷ 97 ∷ 115 ∷ 115 ∷ 101 ∷ 100 ∷ 10 ∷ []
 
 -- the table
 unfoldable pub tableText : Report → List ℕ
