@@ -264,8 +264,8 @@ fn vpp_down(n: DeviceNumbers, b: BusNumbers) -> bool
 
 // Which cycles may be ordinary: 1 at rest, 2 a read or an idle cycle while an operation goes on, 0 no other.
 fn way_of(device: DeviceNumbers, state: StateNumbers, bus: BusNumbers) -> u8
-    ensures { λ r. ⌜ (1 ≤ r → r < 2 → Resting state) ⌝ }
-    ensures { λ r. ⌜ (1 < r → Running device state × (eqb (bus .kind) 1 ≡ false)) ⌝ }
+    ensures at_rest { λ r. ⌜ (1 ≤ r → r < 2 → Resting state) ⌝ }
+    ensures going_on { λ r. ⌜ (1 < r → Running device state × (eqb (bus .kind) 1 ≡ false)) ⌝ }
 {
     if is_resting(state) {
         return 1;

@@ -29,7 +29,7 @@ use Rattle.loader_steps.specs.Outs.{cycleAt}
 use Rattle.loader_steps.specs.Front.{noBlock}
 use Rattle.loader_steps.proofs.StartAndStep.{Kept}
 use Rattle.loader_run.proofs.Judging.{unasked, unasked-high, judged, stays-calm}
-use Rattle.loader_run.proofs.Sound.{Sound, sound-judged}
+use Rattle.loader_run.proofs.Sound.{Sound, sound-judged, sound-kept}
 use Rattle.loader_held.specs.declared.Step.{Step}
 use Rattle.loader_held.specs.declared.Step.the-variants.{Usual, Halting, Looking, Settling, ArrayAsking, Fetching, Resuming}
 use Rattle.loader_held.specs.declared.Hold.{Hold}
@@ -82,26 +82,6 @@ pair-kept : (seen : Seen) (l : Loader) (h : Hold) (k : ℕ) (w sc ps : List ℕ)
 pair-kept NoData l h k w sc ps = held-kept l h k w sc ps (h .step) 0
 pair-kept (Data v) l h k w sc ps = held-kept l h k w sc ps (h .step) v
 pair-kept (Refused n) l h k w sc ps = ended-kept l h k w sc ps n
-
--- a kept record, a proper state that is calm with VPP low, and an array as long as before are sound again
-sound-kept : (d : Device) (w : List ℕ) (l r : Loader) (s t : State) (n m : ℕ) → Sound d w l s n → Kept l (length w) r → m ≡ n → Proper d t
-    → (vppLow (d .part) (l .pins) ≡ true → isPending (t .phase) ≡ false) → Sound d w r t m
-sound-kept d w l r s t n m z k e p q =
-    let part : r .part ≡ l .part = ap (λ (x : Loader). x .part) (k .same) in
-    let pins : r .pins ≡ l .pins = ap (λ (x : Loader). x .pins) (k .same) in
-    let block : r .block ≡ l .block = ap (λ (x : Loader). x .block) (k .same) in
-    record {
-      known = z .known;
-      sized = e ∙ z .sized;
-      same = part ∙ z .same;
-      proper = p;
-      levels = ap (λ (x : Pins). badPins (d .part) x) pins ∙ z .levels;
-      up = ap (λ (x : Pins). rpLow x) pins ∙ z .up;
-      calm = λ v. q (sym (ap (λ (x : Pins). vppLow (d .part) x) pins) ∙ v);
-      block = ap (λ (x : ℕ). noBlock (d .part) x) block ∙ z .block;
-      wanted = z .wanted ∙ sym (ap (λ (x : ℕ). lengthOf (d .part) x) block);
-      place = k .place (z .place);
-    }
 
 -- what a run keeps, of an interrupted load under way
 abbrev pub HeldSound : Device → List ℕ → HeldConfig → Type 0

@@ -22,8 +22,9 @@ use Rattle.loader.specs.Walks.{risesIn, diffFrom}
 use Rattle.loader_blocks.specs.declared.Done.{Done}
 use Rattle.loader_blocks.specs.declared.Found.{Found}
 use Rattle.loader_run.specs.declared.Ran.{Ran}
+use Rattle.loader_run.specs.declared.Job.{Job}
 use Rattle.loader_run_claims.specs.Wear.{heldIn}
-use Rattle.loader_run_claims.specs.Ends.{shut, erasedFrom}
+use Rattle.loader_run_claims.specs.Ends.{shut, erasedFrom, ranAs, bytesAs, scratchAs}
 
 -- so many bytes lent, as a run takes them: block k lies inside the array, wanted and scratch are as long, a whole number of units
 pub record Placed (part : Part) (k array wanted scratch : ℕ) : Type 0 where
@@ -36,6 +37,26 @@ pub record Placed (part : Part) (k array wanted scratch : ℕ) : Type 0 where
 -- the units that block k holds of lent bytes, as many as are wanted
 abbrev pub heldUnits : Part → ℕ → List ℕ → List ℕ → List ℕ
 heldUnits part k array wanted = heldIn (startOf part k) (length (units (part .word) wanted)) (units (part .word) array)
+
+-- the units of lent bytes, by the part of what is run
+abbrev pub unitsOf : Job → List ℕ → List ℕ
+unitsOf j lent = units (j .device .part .word) lent
+
+-- what a load of lent bytes returns, with the verify after it or without; what it leaves in the array and in scratch, in units
+abbrev pub loadRan : Bool → Job → List ℕ → List ℕ → Ran
+loadRan verify j array wanted = ranAs verify j (units (j .device .part .word) wanted) (heldUnits (j .device .part) (j .block) array wanted)
+
+-- .. in the array
+abbrev pub loadArray : Job → List ℕ → List ℕ → List ℕ
+loadArray j array wanted =
+    bytesAs (j .device) (j .pins) (j .block) (startOf (j .device .part) (j .block)) (units (j .device .part .word) wanted)
+    (heldUnits (j .device .part) (j .block) array wanted)
+    (units (j .device .part .word) array)
+
+-- .. in scratch
+abbrev pub loadScratch : Job → List ℕ → List ℕ → List ℕ
+loadScratch j array wanted =
+    scratchAs (j .device) (j .pins) (j .block) (units (j .device .part .word) wanted) (heldUnits (j .device .part) (j .block) array wanted)
 
 -- no operation can start in block k: VPP is low, or the block is shut
 unfoldable pub stuckBy : Part → Pins → ℕ → Bool

@@ -24,10 +24,10 @@ ghost use Rattle.units.specs.Units.{units};
 ghost use Rattle.units.specs.Address.{byteOf};
 ghost use Rattle.loader_blocks.specs.Blocks.{workDone};
 ghost use Rattle.loader_run.specs.Runs.{lentNumber, lentRun};
-ghost use Rattle.loader_run_claims.specs.Ends.{shut, erasedFrom, ranAs, bytesAs, scratchAs};
+ghost use Rattle.loader_run_claims.specs.Ends.{shut, erasedFrom};
 ghost use Rattle.loader_verify_claims.specs.Verified.{unitsRead, verifyRan};
 ghost use Rattle.loader_quick.specs.Quick.{Placed, heldUnits, stuckBy, faultEnd, faultBits, lookedAt, triedOf, modeBy, finishedOf};
-ghost use Rattle.loader_quick.specs.Quick.{verdictOf, refusedRan, Timed};
+ghost use Rattle.loader_quick.specs.Quick.{unitsOf, loadRan, loadArray, loadScratch, verdictOf, refusedRan, Timed};
 
 // What an operation costs that takes so many cycles: its two writes, and the polls.
 fn cost_of(time: u16) -> u32
@@ -214,17 +214,9 @@ fn worked(
 // A load: 50H, FFH and the first reads, then the operations.
 fn loaded(j: Job, array: &mut [u8], wanted: &[u8], scratch: &mut [u8]) -> Ran
     requires { ⌜ Placed (j .device .part) (j .block) (length (now array)) (length (now wanted)) (length (now scratch)) ⌝ }
-    ensures result { λ r. ⌜ r
-        ≡ ranAs false j (units (j .device .part .word) (now (wanted .entry)))
-        (heldUnits (j .device .part) (j .block) (now (array .entry)) (now (wanted .entry))) ⌝ }
-    ensures array_left { λ _. ⌜ units (j .device .part .word) (now (array .exit))
-        ≡ bytesAs (j .device) (j .pins) (j .block) (startOf (j .device .part) (j .block))
-        (units (j .device .part .word) (now (wanted .entry)))
-        (heldUnits (j .device .part) (j .block) (now (array .entry)) (now (wanted .entry)))
-        (units (j .device .part .word) (now (array .entry))) ⌝ }
-    ensures scratch_left { λ _. ⌜ units (j .device .part .word) (now (scratch .exit))
-        ≡ scratchAs (j .device) (j .pins) (j .block) (units (j .device .part .word) (now (wanted .entry)))
-        (heldUnits (j .device .part) (j .block) (now (array .entry)) (now (wanted .entry))) ⌝ }
+    ensures result { λ r. ⌜ r ≡ loadRan false j (now (array .entry)) (now (wanted .entry)) ⌝ }
+    ensures array_left { λ _. ⌜ unitsOf j (now (array .exit)) ≡ loadArray j (now (array .entry)) (now (wanted .entry)) ⌝ }
+    ensures scratch_left { λ _. ⌜ unitsOf j (now (scratch .exit)) ≡ loadScratch j (now (array .entry)) (now (wanted .entry)) ⌝ }
     ensures timed { λ _. ⌜ Timed (j .device) ⌝ }
 {
     let d = j.device;
@@ -287,17 +279,9 @@ fn verified(part: Part, s: State, block: u8, array: &[u8], wanted: &[u8], scratc
 // A load, and the verify after it where the load ended well.
 fn load_verify(j: Job, array: &mut [u8], wanted: &[u8], scratch: &mut [u8]) -> Ran
     requires { ⌜ Placed (j .device .part) (j .block) (length (now array)) (length (now wanted)) (length (now scratch)) ⌝ }
-    ensures result { λ r. ⌜ r
-        ≡ ranAs true j (units (j .device .part .word) (now (wanted .entry)))
-        (heldUnits (j .device .part) (j .block) (now (array .entry)) (now (wanted .entry))) ⌝ }
-    ensures array_left { λ _. ⌜ units (j .device .part .word) (now (array .exit))
-        ≡ bytesAs (j .device) (j .pins) (j .block) (startOf (j .device .part) (j .block))
-        (units (j .device .part .word) (now (wanted .entry)))
-        (heldUnits (j .device .part) (j .block) (now (array .entry)) (now (wanted .entry)))
-        (units (j .device .part .word) (now (array .entry))) ⌝ }
-    ensures scratch_left { λ _. ⌜ units (j .device .part .word) (now (scratch .exit))
-        ≡ scratchAs (j .device) (j .pins) (j .block) (units (j .device .part .word) (now (wanted .entry)))
-        (heldUnits (j .device .part) (j .block) (now (array .entry)) (now (wanted .entry))) ⌝ }
+    ensures result { λ r. ⌜ r ≡ loadRan true j (now (array .entry)) (now (wanted .entry)) ⌝ }
+    ensures array_left { λ _. ⌜ unitsOf j (now (array .exit)) ≡ loadArray j (now (array .entry)) (now (wanted .entry)) ⌝ }
+    ensures scratch_left { λ _. ⌜ unitsOf j (now (scratch .exit)) ≡ loadScratch j (now (array .entry)) (now (wanted .entry)) ⌝ }
     ensures timed { λ _. ⌜ Timed (j .device) ⌝ }
 {
     let d = j.device;
@@ -321,18 +305,10 @@ fn load_verify(j: Job, array: &mut [u8], wanted: &[u8], scratch: &mut [u8]) -> R
 // A load, with or without the verify after it.
 fn load_by(verify: bool, j: Job, array: &mut [u8], wanted: &[u8], scratch: &mut [u8]) -> Ran
     requires { ⌜ Placed (j .device .part) (j .block) (length (now array)) (length (now wanted)) (length (now scratch)) ⌝ }
-    ensures result { λ r. ⌜ r
-        ≡ ranAs verify j (units (j .device .part .word) (now (wanted .entry)))
-        (heldUnits (j .device .part) (j .block) (now (array .entry)) (now (wanted .entry))) ⌝ }
-    ensures array_left { λ _. ⌜ units (j .device .part .word) (now (array .exit))
-        ≡ bytesAs (j .device) (j .pins) (j .block) (startOf (j .device .part) (j .block))
-        (units (j .device .part .word) (now (wanted .entry)))
-        (heldUnits (j .device .part) (j .block) (now (array .entry)) (now (wanted .entry)))
-        (units (j .device .part .word) (now (array .entry))) ⌝ }
-    ensures scratch_left { λ _. ⌜ units (j .device .part .word) (now (scratch .exit))
-        ≡ scratchAs (j .device) (j .pins) (j .block) (units (j .device .part .word) (now (wanted .entry)))
-        (heldUnits (j .device .part) (j .block) (now (array .entry)) (now (wanted .entry))) ⌝ }
-    ensures { λ _. ⌜ Timed (j .device) ⌝ }
+    ensures result { λ r. ⌜ r ≡ loadRan verify j (now (array .entry)) (now (wanted .entry)) ⌝ }
+    ensures array_left { λ _. ⌜ unitsOf j (now (array .exit)) ≡ loadArray j (now (array .entry)) (now (wanted .entry)) ⌝ }
+    ensures scratch_left { λ _. ⌜ unitsOf j (now (scratch .exit)) ≡ loadScratch j (now (array .entry)) (now (wanted .entry)) ⌝ }
+    ensures timed { λ _. ⌜ Timed (j .device) ⌝ }
 {
     if verify {
         return load_verify(j, array, wanted, scratch);

@@ -146,7 +146,7 @@ kept-by (Data b) l w sc = kept-next l w (l .stage) b (storeOf l b w sc)
 kept-by (Refused m) l w sc = record { same = refl; place = λ h. h; polls = λ (q : l .polls ≤ 65534). omega arith }
 
 -- a kept record, a proper state that is calm with VPP low, and an array as long as before are sound again
-sound-kept : (d : Device) (w : List ℕ) (l r : Loader) (s t : State) (n m : ℕ) → Sound d w l s n → Kept l (length w) r → m ≡ n → Proper d t
+pub sound-kept : (d : Device) (w : List ℕ) (l r : Loader) (s t : State) (n m : ℕ) → Sound d w l s n → Kept l (length w) r → m ≡ n → Proper d t
     → (vppLow (d .part) (l .pins) ≡ true → isPending (t .phase) ≡ false) → Sound d w r t m
 sound-kept d w l r s t n m z k e p q =
     let part : r .part ≡ l .part = ap (λ (x : Loader). x .part) (k .same) in

@@ -111,33 +111,27 @@ same-tests f g t x h = go (f x) (g x) (all-below (λ y. if f y then g y else not
     go false true e = absurd (unlike (sym e))
     go false false e = refl
 
+-- .. of an operation's end
+by-bits : (end : ℕ → ℕ) (n mask v : ℕ)
+    → allBelow (λ x. if isReady x && eqb (end x) n then eqb (bitAnd x mask) v else not (eqb (bitAnd x mask) v)) 256 ≡ true → (x : ℕ) → x < 256
+    → (isReady x && eqb (end x) n) ≡ eqb (bitAnd x mask) v
+by-bits end n mask v = same-tests (λ x. isReady x && eqb (end x) n) (λ x. eqb (bitAnd x mask) v)
+
 -- a test of masked bits as an equation
 as-equation : {A : Type 0} {t : Bool} (x y : ℕ) → A ↔ (t ≡ true) → t ≡ eqb x y → A ↔ (x ≡ y)
 as-equation x y a e = (λ p. eqb-true x y (sym e ∙ a .0 p), λ q. a .1 (e ∙ eq-eqb x y q))
 
-erase-21 : (x : ℕ) → x < 256 → (isReady x && eqb (eraseEnd x) 21) ≡ eqb (bitAnd x 0x88) 0x88
+-- a ready status is the end n of an operation just where its bits under a mask are these
+abbrev Bits : (ℕ → ℕ) → ℕ → ℕ → ℕ → ℕ → Type 0
+Bits end n mask v x = (isReady x && eqb (end x) n) ≡ eqb (bitAnd x mask) v
+
+erase-bits : (x : ℕ) → x < 256 → Bits eraseEnd 21 0x88 0x88 x × Bits eraseEnd 22 0xB8 0xB0 x × Bits eraseEnd 23 0xB8 0xA0 x
 unfolding eraseEnd bothErrors
-erase-21 = same-tests (λ x. isReady x && eqb (eraseEnd x) 21) (λ x. eqb (bitAnd x 0x88) 0x88) refl
+erase-bits x h = (by-bits eraseEnd 21 0x88 0x88 refl x h, by-bits eraseEnd 22 0xB8 0xB0 refl x h, by-bits eraseEnd 23 0xB8 0xA0 refl x h)
 
-erase-22 : (x : ℕ) → x < 256 → (isReady x && eqb (eraseEnd x) 22) ≡ eqb (bitAnd x 0xB8) 0xB0
-unfolding eraseEnd bothErrors
-erase-22 = same-tests (λ x. isReady x && eqb (eraseEnd x) 22) (λ x. eqb (bitAnd x 0xB8) 0xB0) refl
-
-erase-23 : (x : ℕ) → x < 256 → (isReady x && eqb (eraseEnd x) 23) ≡ eqb (bitAnd x 0xB8) 0xA0
-unfolding eraseEnd bothErrors
-erase-23 = same-tests (λ x. isReady x && eqb (eraseEnd x) 23) (λ x. eqb (bitAnd x 0xB8) 0xA0) refl
-
-program-21 : (x : ℕ) → x < 256 → (isReady x && eqb (programEnd x) 21) ≡ eqb (bitAnd x 0x88) 0x88
+program-bits : (x : ℕ) → x < 256 → Bits programEnd 21 0x88 0x88 x × Bits programEnd 22 0xB8 0xB0 x × Bits programEnd 24 0xB8 0x90 x
 unfolding programEnd bothErrors
-program-21 = same-tests (λ x. isReady x && eqb (programEnd x) 21) (λ x. eqb (bitAnd x 0x88) 0x88) refl
-
-program-22 : (x : ℕ) → x < 256 → (isReady x && eqb (programEnd x) 22) ≡ eqb (bitAnd x 0xB8) 0xB0
-unfolding programEnd bothErrors
-program-22 = same-tests (λ x. isReady x && eqb (programEnd x) 22) (λ x. eqb (bitAnd x 0xB8) 0xB0) refl
-
-program-24 : (x : ℕ) → x < 256 → (isReady x && eqb (programEnd x) 24) ≡ eqb (bitAnd x 0xB8) 0x90
-unfolding programEnd bothErrors
-program-24 = same-tests (λ x. isReady x && eqb (programEnd x) 24) (λ x. eqb (bitAnd x 0xB8) 0x90) refl
+program-bits x h = (by-bits programEnd 21 0x88 0x88 refl x h, by-bits programEnd 22 0xB8 0xB0 refl x h, by-bits programEnd 24 0xB8 0x90 refl x h)
 
 not-ready : (x : ℕ) → x < 256 → not (isReady x) ≡ eqb (bitAnd x 0x80) 0
 not-ready = same-tests (λ x. not (isReady x)) (λ x. eqb (bitAnd x 0x80) 0) refl
@@ -211,9 +205,9 @@ module _ (w : List ℕ) (h : Hand) (v : ℕ) (t : Takes w h) where
     pub erase-poll : ErasePoll w h v
     erase-poll = record {
       by-20 = twenty-bits (carried-to _ erase-goes 20 (twenty-end l (onward l 0 w sc) EraseWaiting sr (eraseEnd sr) (onward-calm l 0 w sc) refl (λ z. no-twenty (erase-numbers sr) z) most));
-      by-21 = as-equation (bitAnd sr 0x88) 0x88 (erase-by 21 (omega arith) (omega arith)) (erase-21 sr (status-small v));
-      by-22 = as-equation (bitAnd sr 0xB8) 0xB0 (erase-by 22 (omega arith) (omega arith)) (erase-22 sr (status-small v));
-      by-23 = as-equation (bitAnd sr 0xB8) 0xA0 (erase-by 23 (omega arith) (omega arith)) (erase-23 sr (status-small v));
+      by-21 = as-equation (bitAnd sr 0x88) 0x88 (erase-by 21 (omega arith) (omega arith)) (erase-bits sr (status-small v) .0);
+      by-22 = as-equation (bitAnd sr 0xB8) 0xB0 (erase-by 22 (omega arith) (omega arith)) (erase-bits sr (status-small v) .1);
+      by-23 = as-equation (bitAnd sr 0xB8) 0xA0 (erase-by 23 (omega arith) (omega arith)) (erase-bits sr (status-small v) .2);
       not-24 = λ q. no-24 (erase-numbers sr) (eqb-true (eraseEnd sr) 24 (and-right (isReady sr) (eqb (eraseEnd sr) 24) (erase-by 24 (omega arith) (omega arith) .0 q)));
       scratch = erase-scratch ∙ ap (λ (b : Bool). if b then replicate (length (h .scratch)) (ones (l .part)) else h .scratch) (erase-well sr (status-small v));
     }
@@ -243,9 +237,9 @@ module _ (w : List ℕ) (h : Hand) (v : ℕ) (t : Takes w h) where
     pub program-poll : ProgramPoll w h v
     program-poll = record {
       by-20 = twenty-bits (carried-to _ program-goes 20 (twenty-end l on ProgramWaiting sr (programEnd sr) (onward-calm l (past (l .place) (length w)) w sc) refl (λ z. no-twenty (program-numbers sr) z) most));
-      by-21 = as-equation (bitAnd sr 0x88) 0x88 (program-by 21 (omega arith) (omega arith)) (program-21 sr (status-small v));
-      by-22 = as-equation (bitAnd sr 0xB8) 0xB0 (program-by 22 (omega arith) (omega arith)) (program-22 sr (status-small v));
-      by-24 = as-equation (bitAnd sr 0xB8) 0x90 (program-by 24 (omega arith) (omega arith)) (program-24 sr (status-small v));
+      by-21 = as-equation (bitAnd sr 0x88) 0x88 (program-by 21 (omega arith) (omega arith)) (program-bits sr (status-small v) .0);
+      by-22 = as-equation (bitAnd sr 0xB8) 0xB0 (program-by 22 (omega arith) (omega arith)) (program-bits sr (status-small v) .1);
+      by-24 = as-equation (bitAnd sr 0xB8) 0x90 (program-by 24 (omega arith) (omega arith)) (program-bits sr (status-small v) .2);
       not-23 = λ q. no-23 (program-numbers sr) (eqb-true (programEnd sr) 23 (and-right (isReady sr) (eqb (programEnd sr) 23) (program-by 23 (omega arith) (omega arith) .0 q)));
       scratch = program-scratch ∙ ap (λ (b : Bool). if b then set (h .scratch) (l .place) (getD w (l .place) 0) else h .scratch) (program-well sr (status-small v));
     }
