@@ -191,6 +191,7 @@ static void ready_confirm(void) {
     tb_state s = {.mode = TB_MODE_STATUS, .status = 0x80, .phase = TB_ERASE_AWAITED, .wear = WORN};
     ready_same_cycle(s, (tb_bus)W(0x3A00, 0xD0));
 }
+static void ready_poll(void) { ready_same_cycle(busy(TB_ERASING, 3, 0x3A00), (tb_bus)R(0x3A00)); }
 static void ready_suspend(void) { ready_same_cycle(busy(TB_ERASING, 3, 0x3A00), (tb_bus)W(0, 0xB0)); }
 static void ready_held(void) {
     tb_state s = busy(TB_SUSPENDING, 3, 0x3A00);
@@ -546,6 +547,7 @@ static const struct {
     {"model: an idle cycle", 0, TURNS, ready_idle, work_same_cycle, NULL},
     {"model: a write, 70H", 0, TURNS, ready_command, work_same_cycle, NULL},
     {"model: D0H that starts an erase", 0, TURNS, ready_confirm, work_same_cycle, NULL},
+    {"model: a poll while an erase is busy", 0, TURNS, ready_poll, work_same_cycle, NULL},
     {"model: B0H while an erase is busy", 0, TURNS, ready_suspend, work_same_cycle, NULL},
     {"model: the last cycle of a suspend, a read", 0, TURNS, ready_held, work_same_cycle, NULL},
     {"model: D0H while suspended", 0, TURNS, ready_resume, work_same_cycle, NULL},
