@@ -59,8 +59,8 @@ pub lists-exist : allLists ≡ true
 lists-exist = readings.all-lists
 
 -- Every end, whatever VPP and RP#: such a load returns and leaves what the old one does (0, 21, 23, 24), with the cycles added that
--- specs/HeldEnds says, begins what the old one begins, and makes the cycles listed there; the model refuses none of them, and none cuts
--- an operation.
+-- specs/HeldEnds of loader_held_claims says, begins what the old one begins, and makes the cycles listed there; the model refuses none of
+-- them, and none cuts an operation.
 pub every-end : (verify : Bool) (j : Job) (xs w sc : List ℕ) → Taken j xs w sc → (bs ps room : List ℕ) → Elsewhere (j .device) (j .block) bs → length bs ≤ length room
     → HeldWhole verify j xs w sc bs ps room
 every-end = grounds.whole

@@ -50,7 +50,8 @@ module _ (verify : Bool) (j : Job) (xs w sc bs ps room : List ℕ) where
   abbrev pub heldYet : List ℕ
   heldYet = heldIn (startOf (j .device .part) (j .block)) (length w) xs
 
-  -- every end (specs/HeldEnds): the old load's, with the cycles that interruptions add, the room, and in one case another mode
+  -- every end (specs/HeldEnds of loader_held_claims): the old load's, with the cycles that interruptions add, the room, and in one case
+  -- another mode
   pub record HeldWhole : Type 0 where
     pub ran : heldRan heldEnd ≡ heldRanAs verify j w heldYet bs ps
     pub bytes : heldEnd .bytes ≡ bytesAs (j .device) (j .pins) (j .block) (startOf (j .device .part) (j .block)) w heldYet xs

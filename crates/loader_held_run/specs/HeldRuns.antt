@@ -34,7 +34,7 @@ heldRunNumber j array wanted scratch bs room = runFirst (heldRunRows j array wan
 abbrev pub heldConf : Loader → Hold → State → List ℕ → List ℕ → List ℕ → ℕ → HeldConfig
 heldConf l h s xs sc room count = record { loader = l; hold = h; state = s; bytes = xs; scratch = sc; room = room; count = count }
 
--- the turns that the code's loop counts down from: no interrupted load of n units with k readings makes more (`always-ends`)
+-- the turns that the definition makes: no interrupted load of n units with k readings takes more (`always-ends`)
 unfoldable pub heldBound : ℕ → ℕ → ℕ
 heldBound n k = 4294967295 * pauseBound n k + (bound n + (k + 65540))
 

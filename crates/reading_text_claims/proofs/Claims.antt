@@ -38,8 +38,8 @@ number-exactly text = (formed.number-form text, taken.is-number text)
 pub taken-exactly : (text out : List ℕ) (n : ℕ) → (tableRead (tableScanned text out .scan) ≡ Knots n) ↔ (TableForm text 0 n × (n ≤ length out / 6))
 taken-exactly = taken.taken-exactly
 
--- Every reading is shown by the tenth nearest to it, a half going up: by any payload, and from any file. A temperature is num / den in
--- size.
+-- Every reading is shown by the tenth nearest to it, a half going away from zero: by any payload, and from any file. A temperature is
+-- num / den in size.
 pub shown-nearest : (p : List ℕ) (x : ℤ) (r : Reading) → readingAnswer p x ≡ Read r → NearestTo (tenthsShown (degrees r)) (num (degrees r)) (den (degrees r))
 shown-nearest = tenths.reading-shown
 

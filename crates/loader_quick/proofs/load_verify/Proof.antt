@@ -1,4 +1,4 @@
--- `loader_quick::load-verify` meets its contract.
+-- `loader_quick::load_verify` meets its contract.
 use mathlib.Core.Path.{_≡_, sym, ap, _∙_, subst}
 use mathlib.Core.Bool.{true}
 use mathlib.Core.List.{List}
