@@ -7,4 +7,5 @@ pub mod Seeking
 pub mod Rounds
 pub mod Judged
 pub mod Knots
+pub mod Climbing
 pub mod Unique

@@ -1,6 +1,6 @@
 -- One round of each loop, on plain lists and numbers.
-use mathlib.Core.Path.{_≡_, refl, sym, ap, _∙_}
-use mathlib.Core.Bool.{Bool, true, false, _&&_}
+use mathlib.Core.Path.{_≡_, refl, sym, _∙_}
+use mathlib.Core.Bool.{Bool, true, false}
 use mathlib.Core.List.{List}
 use Prim.Native.Nat.{ℕ, zero, suc, _+_, _-_, _/_, _≤_, _<_}
 use native.Mathlib.Omega.{arith}
@@ -8,28 +8,8 @@ use borrow.Author.Tests.{lt-ltb, le-ltb}
 use lib.IntN.{ℤ}
 use lib.Signed.{leZ}
 use Rattle.common.specs.Choice.{if_then_else_}
-use Rattle.reading_table.specs.Table.{voltsOf, goodAt, risingFrom, risingOf, knots}
+use Rattle.reading_table.specs.Table.{voltsOf, knots}
 use Rattle.reading_table.specs.Search.{halving, seekOf}
-
--- rising
-module _ (p : List ℕ) (n i : ℕ) where
-  one-more : i < n → risingFrom (n - i) i p ≡ (goodAt p i && risingFrom (n - (i + 1)) (i + 1) p)
-  unfolding risingFrom
-  one-more h = let e : n - i ≡ suc (n - (i + 1)) = omega (arith, h) in ap (λ (k : ℕ). risingFrom k i p) e
-
-  pub rise-on : i < n → goodAt p i ≡ true → risingFrom (n - i) i p ≡ risingOf p → risingFrom (n - (i + 1)) (i + 1) p ≡ risingOf p
-  rise-on h g e = sym (one-more h ∙ ap (λ (b : Bool). b && risingFrom (n - (i + 1)) (i + 1) p) g) ∙ e
-
-  pub rise-stop : i < n → goodAt p i ≡ false → risingFrom (n - i) i p ≡ risingOf p → false ≡ risingOf p
-  rise-stop h g e = sym (one-more h ∙ ap (λ (b : Bool). b && risingFrom (n - (i + 1)) (i + 1) p) g) ∙ e
-
-  pub rise-end : n ≤ i → risingFrom (n - i) i p ≡ risingOf p → true ≡ risingOf p
-  unfolding risingFrom
-  rise-end h e = let z : n - i ≡ 0 = omega (arith, h) in sym (ap (λ (k : ℕ). risingFrom k i p) z) ∙ e
-
-pub rise-start : (p : List ℕ) → risingFrom (knots p - 0) 0 p ≡ risingOf p
-unfolding risingOf
-rise-start p = let e : knots p - 0 ≡ knots p = omega arith in ap (λ (k : ℕ). risingFrom k 0 p) e
 
 -- seek
 abbrev pub mid : ℕ → ℕ → ℕ

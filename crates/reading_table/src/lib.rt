@@ -1,7 +1,7 @@
 // The table of a payload: its knots, the judgement of the whole, and the search in it. Each public function takes any input.
 ghost use mathlib.Core.Path.{_≡_};
 ghost use mathlib.Core.Bool.{not};
-ghost use Prim.Native.Nat.{_/_, _<_};
+ghost use Prim.Native.Nat.{_-_, _/_, _≤_, _<_};
 ghost use lib.ListN.{length};
 ghost use lib.Signed.{ltZ, leZ};
 ghost use Rattle.reading_table.specs.Table.{signed32, signed16, word32, word16, voltsOf, tenthsOf, inRange, goodAt, risesTo};
@@ -106,18 +106,35 @@ fn in_range(v: i32) -> bool
     a & b
 }
 
+// A knot's microvolts are in range.
+fn in_range_at(s: &[u8], i: usize) -> bool
+    requires { ⌜ i < length (now s) / 6 ⌝ }
+    ensures { λ r. ⌜ r ≡ inRange (voltsOf (now (s .entry)) i) ⌝ }
+{
+    let v = volts_at(s, i);
+    in_range(v)
+}
+
+// A knot's microvolts are above those of the knot before.
+fn climbs_at(s: &[u8], i: usize) -> bool
+    requires { ⌜ (1 ≤ i) × (i < length (now s) / 6) ⌝ }
+    ensures { λ r. ⌜ r ≡ ltZ (voltsOf (now (s .entry)) (i - 1)) (voltsOf (now (s .entry)) i) ⌝ }
+{
+    let u = volts_at(s, i - 1);
+    let v = volts_at(s, i);
+    below(u, v)
+}
+
 // A knot's microvolts are in range, and above those of the knot before.
 fn good_at(s: &[u8], i: usize) -> bool
     requires { ⌜ i < length (now s) / 6 ⌝ }
     ensures { λ r. ⌜ r ≡ goodAt (now (s .entry)) i ⌝ }
 {
-    let v = volts_at(s, i);
-    let a = in_range(v);
+    let a = in_range_at(s, i);
     if i == 0 {
         return a;
     }
-    let u = volts_at(s, i - 1);
-    let b = below(u, v);
+    let b = climbs_at(s, i);
     a & b
 }
 
@@ -133,14 +150,23 @@ pub fn rises_to(s: &[u8], i: usize, j: usize) -> bool
     a & (b & c)
 }
 
-// Every knot is good.
+// Every knot is good: the first and the last are in range, and each is above the one before, so that all are in range.
 fn rising(s: &[u8]) -> bool
     ensures { λ r. ⌜ r ≡ risingOf (now (s .entry)) ⌝ }
 {
     let n = s.len() / 6;
-    let mut i = 0;
+    if n == 0 {
+        return true;
+    }
+    if !in_range_at(s, 0) {
+        return false;
+    }
+    if !in_range_at(s, n - 1) {
+        return false;
+    }
+    let mut i = 1;
     while i < n {
-        let g = good_at(s, i);
+        let g = climbs_at(s, i);
         if g {
             i += 1;
         } else {
