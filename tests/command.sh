@@ -3,6 +3,13 @@
 # wrong calls, recordings, stores, tables, output that cannot be written, dumps, a first call that builds, is killed or finds another's
 # folder, calls at the same time. Where TORFBARKE_PROGRAMS names a folder with the programs they are taken from there; otherwise the first
 # call proves and builds them. Expected answers are those of the page's own example.
+# A caller that ignores HUP, as nohup does, would make all that is tried here ignore it. (Python ignores PIPE: that is put back too.)
+case $(trap -p HUP) in *"''"*)
+    exec python3 -c 'import os, sys
+from signal import SIGHUP, SIGPIPE, SIG_DFL, signal
+signal(SIGHUP, SIG_DFL), signal(SIGPIPE, SIG_DFL)
+os.execvp("bash", ["bash"] + sys.argv[1:])' "$0" "$@" ;;
+esac
 set -eu
 unset CDPATH
 root=$(cd "$(dirname "$0")/.." && pwd)
