@@ -52,35 +52,16 @@ pending Suspended e = absurd (unlike (sym e))
 
 -- a program that is running, and an erase, by the numbers
 module _ (d : DeviceNumbers) (n : StateNumbers) (m : n .mode ≡ 1) (u : n .suspend ≡ 0) (l : n .status % 8 ≡ 0) (r : n .status / 64 ≡ 0) (k : 1 < n .left) (i : n .address < sizeOf (deviceIn d .part)) where
+  runs : noState n ≡ false → isBusy (phaseOf n) ≡ true → isSuspending (phaseOf n) ≡ false → n .left ≤ mostLeft (deviceIn d) (phaseOf n) → Running d n
+  runs t b h q = record { there = t; busy = b; unheld = h; mode = m; low = l; unready = r; more = k; most = q; inside = i }
+
   pub programming : n .phase ≡ 3 → n .left ≤ d .program → Running d n
   unfolding noState strayData straySuspend phaseIn
-  programming p q =
-      record {
-        there = simp (m, p, u, and-none (not (eqb (n .data) 0)));
-        busy = simp p;
-        unheld = simp p;
-        mode = m;
-        low = l;
-        unready = r;
-        more = k;
-        most = simp p q;
-        inside = i;
-      }
+  programming p q = runs (simp (m, p, u, and-none (not (eqb (n .data) 0)))) (simp p) (simp p) (simp p q)
 
   pub erasing : n .phase ≡ 4 → n .data ≡ 0 → n .left ≤ d .erase → Running d n
   unfolding noState strayData straySuspend phaseIn
-  erasing p z q =
-      record {
-        there = simp (m, p, u, z);
-        busy = simp p;
-        unheld = simp p;
-        mode = m;
-        low = l;
-        unready = r;
-        more = k;
-        most = simp p q;
-        inside = i;
-      }
+  erasing p z q = runs (simp (m, p, u, z)) (simp p) (simp p) (simp p q)
 
 module _ (d : DeviceNumbers) (n : StateNumbers) (r : Running d n) where
   abbrev ph : Phase
