@@ -33,7 +33,7 @@ use Rattle.loader.specs.declared.Loader.{Loader}
 use Rattle.loader.specs.declared.Saying.{Saying}
 use Rattle.loader.specs.declared.Saying.the-variants.{Out, Over, Refused as SayRefused}
 use Rattle.loader_steps.specs.Outs.{cycleOf}
-use Rattle.loader_steps.specs.Stores.{storeOf}
+use Rattle.loader_stores.specs.Stores.{storeOf}
 use Rattle.loader_steps.specs.Front.{noBlock, stepNumber, endAddress, responseAt, saysRefused, stepResponse, scratchLeft}
 use Rattle.loader_steps.proofs.StartAndStep.{step-on}
 use Rattle.loader_steps.proofs.Lending.{step-keeps}

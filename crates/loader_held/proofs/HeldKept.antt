@@ -9,7 +9,7 @@ use Rattle.common.proofs.Choice.{if-ind}
 use Rattle.loader.specs.declared.Loader.{Loader}
 use Rattle.loader.specs.Moves.{endedBy, statusIn, isReady, eraseEnd}
 use Rattle.loader.specs.Inner.{past}
-use Rattle.loader_steps.specs.Stores.{storeOf}
+use Rattle.loader_stores.specs.Stores.{storeOf}
 use Rattle.loader_steps.proofs.StartAndStep.{Kept, kept-next}
 use Rattle.loader_held.specs.declared.Step.{Step}
 use Rattle.loader_held.specs.declared.Step.the-variants.{Usual, Halting, Looking, Settling, ArrayAsking, Fetching, Resuming}

@@ -24,7 +24,7 @@ use Rattle.loader.specs.declared.Stage.the-variants.{EraseAsking, EraseConfirmi
 use Rattle.loader.specs.declared.Loader.{Loader}
 use Rattle.loader.specs.Walks.{risesIn}
 use Rattle.loader.specs.Moves.{nextOf, isReady, eraseEnd}
-use Rattle.loader_steps.specs.Stores.{storeOf}
+use Rattle.loader_stores.specs.Stores.{storeOf}
 use Rattle.loader_run_claims.specs.Made.{openingThen, busCycle as cyc}
 use Rattle.loader_run_claims.specs.Mission.{Taken}
 use Rattle.loader_run_claims.proofs.Answers as answers

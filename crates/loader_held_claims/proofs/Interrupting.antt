@@ -36,7 +36,7 @@ use Rattle.loader.specs.declared.Loader.{Loader}
 use Rattle.loader.specs.Moves.{nextOf, eraseEnd, bothErrors}
 use Rattle.loader.specs.Inner.{past}
 use Rattle.loader_steps.specs.Addresses.{firstAddress}
-use Rattle.loader_steps.specs.Stores.{storeOf}
+use Rattle.loader_stores.specs.Stores.{storeOf}
 use Rattle.loader_run_claims.specs.Made.{pollsThen, busCycle as cyc}
 use Rattle.loader_run_claims.proofs.Answers as answers
 use Rattle.loader_run_claims.proofs.Answers.{Up, Ready}

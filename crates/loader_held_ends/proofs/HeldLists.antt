@@ -20,7 +20,7 @@ use Rattle.loader.specs.declared.Loader.{Loader}
 use Rattle.loader.specs.Walks.{risesIn}
 use Rattle.loader.specs.Stages.{isEnded}
 use Rattle.loader.specs.Moves.{nextOf, movedTo}
-use Rattle.loader_steps.specs.Stores.{storeOf}
+use Rattle.loader_stores.specs.Stores.{storeOf}
 use Rattle.loader_run_claims.specs.Made.{busCycle, openingThen, closingBy, programmingThen}
 use Rattle.loader_run_claims.specs.Wear.{programsIn}
 use Rattle.loader_run_claims.specs.Ends.{endNumber, ranAs, cyclesAs}

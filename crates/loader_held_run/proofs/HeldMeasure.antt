@@ -15,7 +15,7 @@ use Rattle.loader.specs.declared.Loader.{Loader}
 use Rattle.loader.specs.Stages.{isEnded}
 use Rattle.loader.specs.Moves.{nextOf, statusIn, isReady, eraseEnd}
 use Rattle.loader.specs.Inner.{past}
-use Rattle.loader_steps.specs.Stores.{storeOf}
+use Rattle.loader_stores.specs.Stores.{storeOf}
 use Rattle.model.specs.declared.Seen.{Seen}
 use Rattle.model.specs.declared.Seen.the-variants.{NoData, Data, Refused}
 use Rattle.loader_run.specs.Turns.{loaderBy}

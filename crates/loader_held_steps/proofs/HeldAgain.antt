@@ -19,7 +19,7 @@ use Rattle.loader.specs.declared.Stage.the-variants.{Clearing, Opening, Reading
 use Rattle.loader.specs.declared.Loader.{Loader}
 use Rattle.loader.specs.Moves.{movedTo, nextOf, statusIn, isReady, eraseEnd}
 use Rattle.loader.specs.Inner as inner
-use Rattle.loader_steps.specs.Stores.{storeOf}
+use Rattle.loader_stores.specs.Stores.{storeOf}
 use Rattle.loader_steps.specs.Front.{recordAt, stepNumber}
 use Rattle.loader_steps.proofs.StartAndStep.{heldAt, Kept, Taken, taken, taken-back, store-length, first-taken}
 use Rattle.loader_held_lists.specs.Listings.{someOf, pastArray, inLoaded, heldRows, heldNumber}

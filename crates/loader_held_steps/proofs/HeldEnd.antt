@@ -11,7 +11,7 @@ use Rattle.loader.specs.declared.Loader.{Loader}
 use Rattle.loader.specs.declared.Saying.{Saying}
 use Rattle.loader.specs.declared.Saying.the-variants.{Over}
 use Rattle.loader.specs.Moves.{nextIn, nextOf}
-use Rattle.loader_steps.specs.Stores.{storeIn, storeOf}
+use Rattle.loader_stores.specs.Stores.{storeIn, storeOf}
 use Rattle.loader_steps.specs.Front.{endAddress, sayingIn}
 use Rattle.loader_held.specs.declared.Step.{Step}
 use Rattle.loader_held.specs.declared.Step.the-variants.{Usual, Halting, Looking, Settling, ArrayAsking, Fetching, Resuming}

@@ -10,7 +10,7 @@ use Rattle.common.specs.Choice.{if_then_else_}
 use Rattle.units.specs.Units.{units, spare, back, lent, carried}
 use Rattle.loader.specs.declared.Loader.{Loader}
 use Rattle.loader.specs.Moves.{nextOf}
-use Rattle.loader_steps.specs.Stores.{storeOf}
+use Rattle.loader_stores.specs.Stores.{storeOf}
 use Rattle.loader_steps.proofs.Unread.{next-unread, store-unread}
 use Rattle.loader_held.specs.declared.Step.{Step}
 use Rattle.loader_held.specs.declared.Step.the-variants.{Usual, Halting, Looking, Settling, ArrayAsking, Fetching, Resuming}

@@ -16,7 +16,7 @@ use Rattle.units.specs.Units.{carried}
 use Rattle.loader.specs.Walks.{nextDiff, diffFrom, risesIn}
 use Rattle.loader.specs.Moves.{statusIn, isReady, eraseEnd, programEnd, loadedStage, onward, afterReads, afterRead, pollMore, erasePolled, programPolled, verifyMore, nextIn}
 use Rattle.loader.specs.Inner.{past}
-use Rattle.loader_steps.specs.Stores.{storeOf}
+use Rattle.loader_stores.specs.Stores.{storeOf}
 use Rattle.model.specs.declared.Seen.{Seen}
 use Rattle.model.specs.declared.Seen.the-variants.{NoData, Data, Refused}
 use Rattle.loader_run.specs.Turns.{loaderBy}

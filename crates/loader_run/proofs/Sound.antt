@@ -31,7 +31,7 @@ use Rattle.loader_steps.specs.Addresses.{firstAddress}
 use Rattle.loader_steps.specs.Inner.{hereOf}
 use Rattle.loader_steps.specs.Outs.{addressIn, carriedIn, cycleAt, cycleAtStage, cycleOf}
 use Rattle.loader_steps.specs.Inner.{reach}
-use Rattle.loader_steps.specs.Stores.{storeOf}
+use Rattle.loader_stores.specs.Stores.{storeOf}
 use Rattle.loader_steps.specs.Front.{barredPins, noBlock, recordOf}
 use Rattle.loader_steps.proofs.StartAndStep.{some-block, Kept, kept-next}
 use Rattle.loader_run.specs.Turns.{Config, loaderBy, answerTo, arrayTo, moved, turnOf, after}

@@ -11,7 +11,7 @@ use Rattle.model_types.specs.declared.State.{State}
 use Rattle.loader.specs.declared.Loader.{Loader}
 use Rattle.loader.specs.Moves.{endedBy, nextOf}
 use Rattle.loader_steps.specs.Addresses.{firstAddress}
-use Rattle.loader_steps.specs.Stores.{storeOf}
+use Rattle.loader_stores.specs.Stores.{storeOf}
 use Rattle.loader_steps.proofs.StartAndStep.{first-kept}
 use Rattle.model.specs.declared.Seen.{Seen}
 use Rattle.model.specs.declared.Seen.the-variants.{NoData, Data, Refused}

@@ -13,7 +13,7 @@ use Rattle.loader.specs.declared.Loader.{Loader}
 use Rattle.loader.specs.Stages.{isEnded}
 use Rattle.loader.specs.Moves.{nextOf, endedBy}
 use Rattle.loader_steps.specs.Outs.{cycleOf}
-use Rattle.loader_steps.specs.Stores.{storeOf}
+use Rattle.loader_stores.specs.Stores.{storeOf}
 
 -- a load under way: the loader's record, the device's state, the array, scratch, and the cycles made
 pub record Config : Type 0 where

@@ -12,7 +12,7 @@ use loader_steps::front::record_at;
 use loader_steps::front::setup_number;
 use loader_steps::outs::cycle_in;
 use loader_steps::outs::first;
-use loader_steps::stores::advance;
+use loader_stores::advance;
 use model::Seen;
 use model_types::Phase;
 use model_types::Pins;

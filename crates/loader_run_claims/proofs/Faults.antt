@@ -34,7 +34,7 @@ use Rattle.loader.specs.declared.Stage.the-variants.{EraseAsking, EraseConfirmi
 use Rattle.loader.specs.declared.Loader.{Loader}
 use Rattle.loader.specs.Walks.{risesIn, diffFrom}
 use Rattle.loader.specs.Moves.{nextOf, loadedStage, isReady, eraseEnd, programEnd, erasePolled, programPolled}
-use Rattle.loader_steps.specs.Stores.{storeOf, erasedWell, programmedWell}
+use Rattle.loader_stores.specs.Stores.{storeOf, erasedWell, programmedWell}
 use Rattle.loader_run.specs.Turns.{Config}
 use Rattle.loader.specs.Stages.{isEnded}
 use Rattle.loader_run.proofs.Turning.{conf}

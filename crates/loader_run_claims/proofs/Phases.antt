@@ -45,7 +45,7 @@ use Rattle.loader.specs.Inner.{past}
 use Rattle.loader_steps.specs.Addresses.{firstAddress}
 use Rattle.loader_steps.specs.Inner.{hereOf}
 use Rattle.loader_steps.specs.Outs.{cycleOf}
-use Rattle.loader_steps.specs.Stores.{storeOf, erasedWell, programmedWell}
+use Rattle.loader_stores.specs.Stores.{storeOf, erasedWell, programmedWell}
 use Rattle.loader_steps.proofs.SmallAddresses.{length-small}
 use Rattle.loader.proofs.Walking.{diff-round, diff-over}
 use Rattle.model_types.specs.declared.Cycle.{Cycle}

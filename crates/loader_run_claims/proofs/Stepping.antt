@@ -38,7 +38,7 @@ use Rattle.loader.specs.declared.Saying.the-variants.{Out, Over}
 use Rattle.loader.specs.declared.Response.{Response}
 use Rattle.loader.specs.Moves.{nextIn, nextOf}
 use Rattle.loader_steps.specs.Outs.{cycleOf}
-use Rattle.loader_steps.specs.Stores.{storeIn, storeOf}
+use Rattle.loader_stores.specs.Stores.{storeIn, storeOf}
 use Rattle.loader_steps.specs.Front.{barredPins, startNumber, stepNumber, endAddress, sayingIn, responseAt, stepResponse, scratchAfter, recordOf}
 use Rattle.loader_steps.proofs.StartAndStep.{taken, start-gives, start-again, step-on, step-again}
 use Rattle.loader_run.specs.declared.Ran.{Ran}

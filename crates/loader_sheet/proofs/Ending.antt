@@ -22,7 +22,7 @@ use Rattle.loader.specs.Stages.{endBy}
 use Rattle.loader.specs.Walks.{nextDiff, diffFrom, risesIn}
 use Rattle.loader.specs.Inner.{past}
 use Rattle.loader.specs.Moves.{statusIn, isReady, eraseEnd, programEnd, loadedStage, movedTo, endedBy, onward, afterReads, afterRead, pollMore, erasePolled, programPolled, verifyMore, nextIn}
-use Rattle.loader_steps.specs.Stores.{erasedWell, programmedWell, storeIn, storeOf}
+use Rattle.loader_stores.specs.Stores.{erasedWell, programmedWell, storeIn, storeOf}
 use Rattle.loader_steps.specs.Front.{startNumber}
 use Rattle.loader_steps.proofs.StartAndStep.{taken, first-taken, store-length}
 use Rattle.loader_steps.proofs.Lending.{both-lengths}

@@ -20,7 +20,7 @@ use Rattle.loader.specs.Stages.{endBy}
 use Rattle.loader.specs.Walks.{diffFrom}
 use Rattle.loader.specs.Inner.{past}
 use Rattle.loader.specs.Moves.{statusIn, isReady, sr3, sr4, sr5, bothErrors, eraseEnd, programEnd, loadedStage, endedBy, onward, pollMore, erasePolled, programPolled, nextIn, nextOf}
-use Rattle.loader_steps.specs.Stores.{erasedWell, programmedWell, storeIn, storeOf}
+use Rattle.loader_stores.specs.Stores.{erasedWell, programmedWell, storeIn, storeOf}
 use Rattle.loader_steps.proofs.StartAndStep.{step-on, taken}
 use Rattle.loader_sheet.specs.Hand.{Hand, fed, Takes, EndedBy}
 use Rattle.loader_sheet.specs.Sentences.{ErasePoll, ProgramPoll}

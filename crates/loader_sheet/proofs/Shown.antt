@@ -14,7 +14,7 @@ use Rattle.loader.specs.Stages.{isEnded, endBy}
 use Rattle.loader.specs.Walks.{risesIn, diffFrom}
 use Rattle.loader.specs.Inner.{past}
 use Rattle.loader.specs.Moves.{bothErrors, eraseEnd, programEnd, onward, afterReads, afterRead, pollMore, erasePolled, programPolled, verifyMore}
-use Rattle.loader_steps.specs.Stores.{erasedWell, programmedWell}
+use Rattle.loader_stores.specs.Stores.{erasedWell, programmedWell}
 use Rattle.loader_steps.specs.Front.{barredPins, noBlock, wrongLengths, badRecord, stepNumber, stepResponse, scratchAfter}
 use Rattle.loader_sheet.specs.Hand.{Hand, fed, fedAll, neverReady}
 

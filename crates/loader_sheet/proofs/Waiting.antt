@@ -14,7 +14,7 @@ use Rattle.loader.specs.declared.Loader.{Loader}
 use Rattle.loader.specs.Walks.{diffFrom, risesIn}
 use Rattle.units.specs.Units.{carried}
 use Rattle.loader.specs.Moves.{statusIn, isReady, onward, afterReads, afterRead, pollMore, erasePolled, programPolled, verifyMore, nextIn}
-use Rattle.loader_steps.specs.Stores.{erasedWell, programmedWell, storeIn, storeOf}
+use Rattle.loader_stores.specs.Stores.{erasedWell, programmedWell, storeIn, storeOf}
 use Rattle.loader_steps.proofs.StartAndStep.{step-again}
 use Rattle.loader_sheet.specs.Hand.{Hand, fed, fedAll, Takes, EndedBy, isPolling, neverReady}
 use Rattle.loader_sheet.proofs.Polls.{fed-loader, fed-scratch}

@@ -16,7 +16,7 @@ use Rattle.loader.specs.Walks.{diffFrom, risesIn}
 use Rattle.units.specs.Units.{carried}
 use Rattle.loader.specs.Moves.{statusIn, isReady, sr3, sr4, sr5, bothErrors, eraseEnd, programEnd, loadedStage, onward, afterReads, afterRead, pollMore, erasePolled, programPolled, verifyMore, nextIn, nextOf}
 use Rattle.loader.specs.Inner.{past}
-use Rattle.loader_steps.specs.Stores.{storeOf}
+use Rattle.loader_stores.specs.Stores.{storeOf}
 use Rattle.loader_steps.specs.Front.{stepNumber, responseAt, refusedBy, stepResponse}
 use Rattle.loader_steps.specs.Ends.{endsLoad, endsVerify, ofLoad, ofVerify}
 use Rattle.loader_steps.proofs.StartAndStep.{kept-next, over-stage}

@@ -15,7 +15,7 @@ use Rattle.loader.specs.Stages.{isEnded}
 use Rattle.loader.specs.Walks.{diffFrom, risesIn}
 use Rattle.loader.specs.Moves.{movedTo, endedBy, statusIn, isReady, eraseEnd, programEnd, onward, afterReads, afterRead, pollMore, erasePolled, programPolled, nextIn, nextOf}
 use Rattle.loader.specs.Inner.{past}
-use Rattle.loader_steps.specs.Stores.{storeOf}
+use Rattle.loader_stores.specs.Stores.{storeOf}
 use Rattle.loader_steps.specs.Front.{badRecord, stepNumber, stepResponse, scratchAfter}
 use Rattle.loader_steps.specs.Ends.{ofLoad, withVerify, carriedOn}
 use Rattle.loader_steps.proofs.StartAndStep.{step-on}

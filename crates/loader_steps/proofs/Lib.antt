@@ -1,5 +1,4 @@
 pub mod SmallAddresses
-pub mod Storing
 pub mod StartAndStep
 pub mod Lending
 pub mod Ends

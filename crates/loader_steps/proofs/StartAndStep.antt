@@ -28,7 +28,7 @@ use Rattle.loader.specs.Inner as inner
 use Rattle.units.specs.Units.{carried}
 use Rattle.loader.specs.Moves.{movedTo, endedBy, statusIn, isReady, eraseEnd, programEnd, onward, afterReads, afterRead, pollMore, erasePolled, programPolled, verifyMore, nextIn, nextOf}
 use Rattle.loader_steps.specs.Addresses.{firstAddress}
-use Rattle.loader_steps.specs.Stores.{erasedWell, programmedWell, storeIn, storeOf}
+use Rattle.loader_stores.specs.Stores.{erasedWell, programmedWell, storeIn, storeOf}
 use Rattle.loader_steps.specs.Front.{barredPins, noBlock, wrongLengths, badRecord, startRows, stepRows, startNumber, stepNumber, recordAt, endAddress, sayingIn, responseAt, refusedBy, saysRefused, startResponse, stepResponse, scratchAfter, recordOf}
 use Rattle.loader.specs.declared.Work.{Work}
 use Rattle.loader.specs.Stages.{firstStage, verifies}

@@ -16,7 +16,7 @@ use Rattle.loader.specs.declared.Response.{Response}
 use Rattle.loader.specs.Stages.{isEnded, endBy, verifies}
 use Rattle.loader.specs.Moves.{nextOf}
 use Rattle.loader_steps.specs.Outs.{cycleOf}
-use Rattle.loader_steps.specs.Stores.{storeOf}
+use Rattle.loader_stores.specs.Stores.{storeOf}
 use Rattle.loader_steps.specs.Front.{startNumber, stepNumber, recordAt, endAddress, responseAt, refusedBy, startResponse, stepResponse, sayingTold, recordTold, startTold, stepTold, recordOf}
 use Rattle.loader.specs.declared.Work.{Work}
 

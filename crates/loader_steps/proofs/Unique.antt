@@ -17,7 +17,7 @@ use Rattle.loader.specs.declared.Response.{Response}
 use Rattle.loader.specs.Moves.{nextOf}
 use Rattle.loader_steps.specs.Addresses.{firstAddress}
 use Rattle.loader_steps.specs.Outs.{cycleAtStage, cycleOf}
-use Rattle.loader_steps.specs.Stores.{storeOf}
+use Rattle.loader_stores.specs.Stores.{storeOf}
 use Rattle.loader_steps.specs.Front.{barredPins, noBlock, setupNumber, recordAt, endAddress, startResponse, stepResponse, startTold, stepTold, scratchLeft}
 use Rattle.loader.specs.declared.Work.{Work}
 
@@ -50,13 +50,6 @@ step-told-unique l b w sc = only (stepTold l b w sc)
 
 pub step-scratch-unique : (l : Loader) (b : ℕ) (w sc : List ℕ) → Unique (λ (left : List ℕ). left ≡ scratchLeft l b w sc)
 step-scratch-unique l b w sc = only (scratchLeft l b w sc)
-
-pub advance-unique : (l : Loader) (b : ℕ) (w sc : List ℕ) → Unique (λ (r : Loader). r ≡ nextOf l b w (storeOf l b w sc))
-advance-unique l b w sc = only (nextOf l b w (storeOf l b w sc))
-
--- what store_erase, store_program and advance leave in scratch: bytes are known by their units and by the byte that is in none
-pub units-unique : (w : Bool) (us odd x y : List ℕ) → Bytes x → Bytes y → (units w x ≡ us) × (spare w x ≡ odd) → (units w y ≡ us) × (spare w y ≡ odd) → x ≡ y
-units-unique w us odd x y a b p q = same-bytes w x y a b (p .0 ∙ sym (q .0)) (p .1 ∙ sym (q .1))
 
 pub first-unique : (l : Loader) → Unique (λ (r : ℕ). r ≡ firstAddress l)
 first-unique l = only (firstAddress l)

@@ -23,7 +23,7 @@ use Rattle.loader.specs.Stages.{isEnded, endBy, firstStage, verifies}
 use Rattle.loader.specs.Moves.{nextOf}
 use Rattle.units.specs.Units.{lent, back}
 use Rattle.loader_steps.specs.Outs.{byteHere, cycleOf}
-use Rattle.loader_steps.specs.Stores.{storeOf}
+use Rattle.loader_stores.specs.Stores.{storeOf}
 
 -- refusal 4 of a loader: a level outside what is allowed, or RP# low (R-number-4)
 unfoldable pub barredPins : Part → Pins → Bool

@@ -1,6 +1,5 @@
 pub mod Addresses
 pub mod Inner
 pub mod Outs
-pub mod Stores
 pub mod Front
 pub mod Ends

@@ -1,7 +1,6 @@
 // The loader's tests, its start and its step.
 use crate::outs::byte_here;
 use crate::outs::out;
-use crate::stores::advance;
 use device::Part;
 use loader::Loader;
 use loader::Response;
@@ -11,6 +10,7 @@ use loader::Work;
 use loader::stages::first_stage;
 use loader::stages::stage_is;
 use loader::stages::verifies;
+use loader_stores::advance;
 use model_types::Pins;
 use model_types::levels::bad_pins;
 use model_types::levels::rp_low;

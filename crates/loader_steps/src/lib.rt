@@ -2,4 +2,3 @@
 // out by value.
 pub mod front;
 pub mod outs;
-pub mod stores;

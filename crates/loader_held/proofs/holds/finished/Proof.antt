@@ -8,7 +8,7 @@ use Rattle.loader_held.proofs.holds.finished.Reads as reads
 use Rattle.loader_held.proofs.holds.finished.Lts as lts
 use Rattle.loader_held.proofs.holds.pair_of.Reads as pair-of-reads
 use Rattle.loader_held.proofs.holds.usually.Reads as usually-reads
-use Rattle.loader_steps.proofs.stores.advance.Reads as advance-reads
+use Rattle.loader_stores.proofs.advance.Reads as advance-reads
 
 -- src/holds.rt:136:9
 advance-requires : tie.Need-advance-requires

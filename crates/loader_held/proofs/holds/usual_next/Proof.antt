@@ -7,7 +7,7 @@ use Rattle.loader_held.proofs.holds.usual_next.Tie as tie
 use Rattle.loader_held.proofs.holds.usual_next.Reads as reads
 use Rattle.loader_held.proofs.holds.usual_next.Lts as lts
 use Rattle.loader_held.proofs.holds.moved_on.Reads as moved-on-reads
-use Rattle.loader_steps.proofs.stores.advance.Reads as advance-reads
+use Rattle.loader_stores.proofs.advance.Reads as advance-reads
 
 -- src/holds.rt:178:9
 advance-requires : tie.Need-advance-requires

@@ -4,8 +4,8 @@ use Prim.Native.Nat.{ℕ}
 use Rattle.loader.specs.Moves.{afterRead}
 use Rattle.units.specs.Units.{units}
 use borrow.Author.Needs.{needs}
-use Rattle.loader_steps.proofs.stores.take_read.Statement.{statement}
-use Rattle.loader_steps.proofs.stores.take_read.Tie as tie
+use Rattle.loader_stores.proofs.take_read.Statement.{statement}
+use Rattle.loader_stores.proofs.take_read.Tie as tie
 
 put-unit-requires : tie.Need-put-unit-requires
 put-unit-requires c κs = search needs

@@ -6,10 +6,10 @@ use Rattle.loader.specs.declared.Stage.the-variants.{Clearing, Opening, Reading
 use Rattle.loader.specs.declared.Loader.{Loader}
 use Rattle.units.specs.Units.{units}
 use Rattle.loader.specs.Moves.{erasePolled, programPolled, nextIn, nextOf}
-use Rattle.loader_steps.specs.Stores.{eraseStored, programStored, storeIn, storeOf}
+use Rattle.loader_stores.specs.Stores.{eraseStored, programStored, storeIn, storeOf}
 use borrow.Author.Needs.{needs}
-use Rattle.loader_steps.proofs.stores.advance.Statement.{statement}
-use Rattle.loader_steps.proofs.stores.advance.Tie as tie
+use Rattle.loader_stores.proofs.advance.Statement.{statement}
+use Rattle.loader_stores.proofs.advance.Tie as tie
 
 -- what a stage makes of a read's data
 by : (l : Loader) (b : ℕ) (w sc : List ℕ) (s : Stage) → l .stage ≡ s

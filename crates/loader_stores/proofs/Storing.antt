@@ -11,7 +11,7 @@ use Rattle.device.specs.declared.Part.{Part}
 use Rattle.model_types.specs.Cells.{ones}
 use Rattle.units.specs.Units.{units, unitsIn, carried, top}
 use Rattle.units.proofs.Widths.{units-length, carried-cell}
-use Rattle.loader_steps.specs.Stores.{erasedWell, eraseStored, programmedWell, programStored}
+use Rattle.loader_stores.specs.Stores.{erasedWell, eraseStored, programmedWell, programStored}
 
 over-all : (us : List ℕ) (n v : ℕ) → n ≡ length us → overlaid us 0 (replicate n v) ≡ replicate (length us) v
 over-all us n v e =

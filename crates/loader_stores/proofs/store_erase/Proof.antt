@@ -1,11 +1,11 @@
 use Rattle.units.specs.Units.{units}
 use Rattle.units.proofs.Widths.{units-length, erased-there}
-use Rattle.loader_steps.proofs.Storing.{erased-so, erased-not}
+use Rattle.loader_stores.proofs.Storing.{erased-so, erased-not}
 use borrow.Author.Needs.{needs}
 use native.Mathlib.Omega.{arith}
 use mathlib.Core.Path.{refl, sym, _∙_}
-use Rattle.loader_steps.proofs.stores.store_erase.Statement.{statement}
-use Rattle.loader_steps.proofs.stores.store_erase.Tie as tie
+use Rattle.loader_stores.proofs.store_erase.Statement.{statement}
+use Rattle.loader_stores.proofs.store_erase.Tie as tie
 
 erased-well-requires : tie.Need-erased-well-requires
 erased-well-requires c κs = search needs

@@ -4,8 +4,8 @@ use Prim.Native.Nat.{ℕ}
 use Rattle.loader.specs.Moves.{programPolled}
 use Rattle.units.specs.Units.{units}
 use borrow.Author.Needs.{needs}
-use Rattle.loader_steps.proofs.stores.take_program.Statement.{statement}
-use Rattle.loader_steps.proofs.stores.take_program.Tie as tie
+use Rattle.loader_stores.proofs.take_program.Statement.{statement}
+use Rattle.loader_stores.proofs.take_program.Tie as tie
 
 store-program-requires : tie.Need-store-program-requires
 store-program-requires c κs = search needs

@@ -14,7 +14,7 @@ ghost use mathlib.Core.Path.{_≡_};
 ghost use lib.ListN.{set};
 ghost use Rattle.units.specs.Units.{units, spare, carried};
 ghost use Rattle.loader.specs.Moves.{afterRead, erasePolled, programPolled, verifyMore, nextOf};
-ghost use Rattle.loader_steps.specs.Stores.{erasedWell, eraseStored, programmedWell, programStored, storeOf};
+ghost use Rattle.loader_stores.specs.Stores.{erasedWell, eraseStored, programmedWell, programStored, storeOf};
 
 fn erased_well(b: u8) -> bool
     ensures { λ r. ⌜ r ≡ erasedWell b ⌝ }

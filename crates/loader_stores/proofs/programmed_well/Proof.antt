@@ -1,7 +1,7 @@
 use borrow.Author.Needs.{needs}
-use Rattle.loader_steps.specs.Stores.{programmedWell}
-use Rattle.loader_steps.proofs.stores.programmed_well.Statement.{statement}
-use Rattle.loader_steps.proofs.stores.programmed_well.Tie as tie
+use Rattle.loader_stores.specs.Stores.{programmedWell}
+use Rattle.loader_stores.proofs.programmed_well.Statement.{statement}
+use Rattle.loader_stores.proofs.programmed_well.Tie as tie
 
 is-ready-requires : tie.Need-is-ready-requires
 is-ready-requires c κs = search needs

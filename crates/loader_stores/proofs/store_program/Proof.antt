@@ -1,8 +1,8 @@
-use Rattle.loader_steps.proofs.Storing.{programmed-so, programmed-not}
+use Rattle.loader_stores.proofs.Storing.{programmed-so, programmed-not}
 use borrow.Author.Needs.{needs}
 use mathlib.Core.Path.{refl, sym, _∙_}
-use Rattle.loader_steps.proofs.stores.store_program.Statement.{statement}
-use Rattle.loader_steps.proofs.stores.store_program.Tie as tie
+use Rattle.loader_stores.proofs.store_program.Statement.{statement}
+use Rattle.loader_stores.proofs.store_program.Tie as tie
 
 programmed-well-requires : tie.Need-programmed-well-requires
 programmed-well-requires c κs = search needs

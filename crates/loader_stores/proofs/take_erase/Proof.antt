@@ -4,8 +4,8 @@ use Prim.Native.Nat.{ℕ}
 use Rattle.loader.specs.Moves.{erasePolled}
 use Rattle.units.specs.Units.{units}
 use borrow.Author.Needs.{needs}
-use Rattle.loader_steps.proofs.stores.take_erase.Statement.{statement}
-use Rattle.loader_steps.proofs.stores.take_erase.Tie as tie
+use Rattle.loader_stores.proofs.take_erase.Statement.{statement}
+use Rattle.loader_stores.proofs.take_erase.Tie as tie
 
 store-erase-requires : tie.Need-store-erase-requires
 store-erase-requires c κs = search needs
