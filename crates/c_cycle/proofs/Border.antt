@@ -19,9 +19,9 @@ use Rattle.model_types.specs.declared.Phase.{Phase}
 use Rattle.model_types.specs.declared.Phase.the-variants.{Free, EraseAwaited, DataAwaited, Programming, Erasing, Suspending, Suspended}
 use Rattle.model_types.specs.declared.Wear.{Wear}
 use Rattle.model_types.specs.declared.State.{State}
-use Rattle.model_types.specs.States.{atRest, freshState, proper, improper}
+use Rattle.model_states.specs.States.{atRest, freshState, proper, improper}
 use Rattle.model_types.specs.Phases.{suspendLeft}
-use Rattle.model_types.specs.Levels.{badPins, mostOe, badOe, badLevels}
+use Rattle.model_levels.specs.Levels.{badPins, mostOe, badOe, badLevels}
 use Rattle.c_cycle.specs.Values.{numberIn, partIn, flagOut, deviceIn, deviceOut, modeIn, modeOut, phaseIn, phaseOut, dataOut, strayData, straySuspend, noState, wearIn, wearOut, stateIn, stateOut, kindIn, kindOut, oeIn, cycleIn, cycleOut}
 use Rattle.c_cycle.specs.Answers.{stateBack}
 use Rattle.c_cycle.specs.declared.DeviceNumbers.{DeviceNumbers}

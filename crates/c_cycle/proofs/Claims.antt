@@ -8,8 +8,8 @@ use Rattle.device.specs.Parts.{unknownDevice}
 use Rattle.model_types.specs.declared.Cycle.{Cycle}
 use Rattle.model_types.specs.declared.Wear.{Wear}
 use Rattle.model_types.specs.declared.State.{State}
-use Rattle.model_types.specs.States.{improper}
-use Rattle.model_types.specs.Levels.{badLevels}
+use Rattle.model_states.specs.States.{improper}
+use Rattle.model_levels.specs.Levels.{badLevels}
 use Rattle.c_cycle.specs.Values.{deviceIn, deviceOut, noState, wearIn, wearOut, stateIn, stateOut, cycleIn, cycleOut}
 use Rattle.c_cycle.specs.declared.DeviceNumbers.{DeviceNumbers}
 use Rattle.c_cycle.specs.declared.WearNumbers.{WearNumbers}

@@ -16,7 +16,7 @@ use Rattle.model_types.specs.declared.Phase.the-variants.{Free, EraseAwaited, D
 use Rattle.model_types.specs.declared.Wear.{Wear}
 use Rattle.model_types.specs.declared.State.{State}
 use Rattle.model_types.specs.Phases.{suspendLeft}
-use Rattle.model_types.specs.States.{atRest, freshState}
+use Rattle.model_states.specs.States.{atRest, freshState}
 use Rattle.c_cycle.specs.declared.DeviceNumbers.{DeviceNumbers}
 use Rattle.c_cycle.specs.declared.WearNumbers.{WearNumbers}
 use Rattle.c_cycle.specs.declared.StateNumbers.{StateNumbers}

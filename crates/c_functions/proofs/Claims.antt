@@ -13,7 +13,7 @@ use Rattle.device.specs.Parts.{unknownPart, unknownDevice, sizeOf, lengthOf, st
 use Rattle.model_types.specs.declared.Cycle.{Cycle}
 use Rattle.model_types.specs.declared.Wear.{Wear}
 use Rattle.model_types.specs.declared.State.{State}
-use Rattle.model_types.specs.States.{improper}
+use Rattle.model_states.specs.States.{improper}
 use Rattle.units.specs.Units.{units, lent, bytesIn}
 use Rattle.units.specs.Address.{byteOf}
 use Rattle.model.specs.Arrays.{answerOf, bytesAfter}

@@ -17,7 +17,7 @@ use Rattle.device.proofs.Claims as device-claims
 use Rattle.model_types.proofs.Claims as types-claims
 use Rattle.model_types.specs.declared.Cycle.{Cycle}
 use Rattle.model_types.specs.declared.State.{State}
-use Rattle.model_types.specs.States.{improper}
+use Rattle.model_states.specs.States.{improper}
 use Rattle.model.specs.declared.Answer.{Answer}
 use Rattle.model.specs.declared.Seen.{Seen}
 use Rattle.model.specs.declared.Seen.the-variants.{NoData, Data, Refused}

@@ -5,7 +5,7 @@ use Prim.Native.Nat.{ℕ}
 use lib.ListN.{take}
 use Rattle.common.specs.Choice.{Unique}
 use Rattle.common.proofs.Choice.{only}
-use Rattle.model_types.specs.States.{freshState}
+use Rattle.model_states.specs.States.{freshState}
 use Rattle.file_check.specs.Check.{checkOf}
 use Rattle.c_cycle.specs.Values.{stateOut}
 use Rattle.c_records.specs.declared.BlockNumbers.{BlockNumbers}

@@ -19,7 +19,7 @@ use loader::Response;
 use loader::Work;
 ghost use mathlib.Core.Path.{_≡_};
 ghost use lib.ListN.{take};
-ghost use Rattle.model_types.specs.States.{freshState};
+ghost use Rattle.model_states.specs.States.{freshState};
 ghost use Rattle.file_check.specs.Check.{checkOf};
 ghost use Rattle.c_cycle.specs.Values.{stateOut};
 ghost use Rattle.reading_table.specs.Table.{tableNumber};

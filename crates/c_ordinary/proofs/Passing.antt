@@ -20,8 +20,8 @@ use Rattle.model_types.specs.declared.Effect.the-variants.{Nothing}
 use Rattle.model_types.specs.declared.Reply.{Reply}
 use Rattle.model_types.specs.declared.State.{State}
 use Rattle.model_types.specs.declared.Cycle.{Cycle}
-use Rattle.model_types.specs.Levels.{rpLow, mostOe, badOe, badLevels}
-use Rattle.model_types.specs.States.{improper}
+use Rattle.model_levels.specs.Levels.{rpLow, mostOe, badOe, badLevels}
+use Rattle.model_states.specs.States.{improper}
 use Rattle.model_operation.specs.Settling.{settledAs, settleOf}
 use Rattle.model_rules.specs.Cycles.{pastArray, shortResidue, judgeOf, decidedAs}
 use Rattle.model_rules.specs.Inner.{decideKind, decideJudged}

@@ -30,8 +30,8 @@ use Rattle.model_types.specs.declared.State.{State}
 use Rattle.model_types.specs.declared.Cycle.{Cycle}
 use Rattle.model_types.specs.declared.Decision.{Decision}
 use Rattle.model_types.specs.declared.Settled.{Settled}
-use Rattle.model_types.specs.Levels.{rpLow, vppLow, badPins, mostOe, badOe, badLevels}
-use Rattle.model_types.specs.States.{proper, improper}
+use Rattle.model_levels.specs.Levels.{rpLow, vppLow, badPins, mostOe, badOe, badLevels}
+use Rattle.model_states.specs.States.{proper, improper}
 use Rattle.model_operation.specs.Settling.{settledAs, settleOf}
 use Rattle.model_commands.specs.Commands.{commandOf, asksProgram, firstWrite, isRefuse, performedOf}
 use Rattle.model_rules.specs.Cycles.{pastArray, shortResidue, judgeOf, decidedAs}

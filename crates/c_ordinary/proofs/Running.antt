@@ -23,9 +23,9 @@ use Rattle.model_types.specs.declared.Reply.{Reply}
 use Rattle.model_types.specs.declared.Reply.the-variants.{Quiet, Gives}
 use Rattle.model_types.specs.declared.State.{State}
 use Rattle.model_types.specs.declared.Cycle.{Cycle}
-use Rattle.model_types.specs.Levels.{rpLow, vppLow}
+use Rattle.model_levels.specs.Levels.{rpLow, vppLow}
 use Rattle.model_types.specs.Phases.{isAwaited, isBusy, isSuspending, isSuspended, isPending}
-use Rattle.model_types.specs.States.{proper, improper, mostLeft}
+use Rattle.model_states.specs.States.{proper, improper, mostLeft}
 use Rattle.model_operation.specs.Settling.{settledAs, settleOf, passedOf, countedOff}
 use Rattle.model_rules.specs.Cycles.{shortResidue, decidedAs}
 use Rattle.model_rules.specs.Inner.{decideJudged}

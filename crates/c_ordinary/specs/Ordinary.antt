@@ -9,9 +9,9 @@ use Rattle.common.specs.Choice.{if_then_else_}
 use Rattle.units.specs.Units.{lentIn}
 use Rattle.device.specs.Parts.{unknownDevice, sizeOf}
 use Rattle.model_types.specs.declared.Phase.{Phase}
-use Rattle.model_types.specs.Levels.{badPins}
+use Rattle.model_levels.specs.Levels.{badPins}
 use Rattle.model_types.specs.Phases.{isBusy, isSuspending}
-use Rattle.model_types.specs.States.{mostLeft}
+use Rattle.model_states.specs.States.{mostLeft}
 use Rattle.c_cycle.specs.Values.{deviceIn, pinsIn, phaseIn, noState}
 use Rattle.c_cycle.specs.declared.DeviceNumbers.{DeviceNumbers}
 use Rattle.c_cycle.specs.declared.StateNumbers.{StateNumbers}

@@ -2,9 +2,9 @@
 use mathlib.Core.Path.{_≡_, refl}
 use mathlib.Core.Bool.{true}
 use Rattle.device.specs.Parts.{rowOf, isLarge, shapeOf, sizeIn, lengthIn, offsetIn, holderIn, mirrored, startIn, blockIn, unknownPart, unknownDevice, sizeOf, lengthOf, startOf, blockOf}
-use Rattle.model_types.specs.Levels.{vppLow, atTwelve, atFive, vppHigh, badWp, mostOe, badPins, badLevels, unlocked, locked}
+use Rattle.model_levels.specs.Levels.{vppLow, atTwelve, atFive, vppHigh, badWp, mostOe, badPins, badLevels, unlocked, locked}
 use Rattle.model_types.specs.Cells.{ones}
-use Rattle.model_types.specs.States.{proper, improper}
+use Rattle.model_states.specs.States.{proper, improper}
 use Rattle.model_commands.specs.Commands.{commandOf, dataOf, asksProgram, firstWrite, afterErase, whileErasing, whileSuspending, whileSuspended, unsupplied, startedOf}
 use Rattle.model_operation.specs.Settling.{cutBy, countedOff, suspendPassed, passedOf, settleOf}
 use Rattle.model_rules.specs.Cycles.{pastArray, shortResidue, noCommand, suspendedRead, noIdentifier, numberOf, acceptOf, decideOf}

@@ -11,8 +11,8 @@ use Rattle.common.specs.Lists.{Bytes}
 use Rattle.common.proofs.Bytes.{bytes-replicate}
 use Rattle.device.specs.Parts.{rowOf, isLarge, shapeOf, sizeIn, lengthIn, offsetIn, startIn, unknownPart, unknownDevice, sizeOf, lengthOf, startOf}
 use Rattle.model_types.specs.Cells.{ones}
-use Rattle.model_types.specs.Levels.{atTwelve, badWp, vppLow, vppHigh, badPins}
-use Rattle.model_types.specs.States.{proper, improper, freshState, atRest}
+use Rattle.model_levels.specs.Levels.{atTwelve, badWp, vppLow, vppHigh, badPins}
+use Rattle.model_states.specs.States.{proper, improper, freshState, atRest}
 use Rattle.model_types.specs.declared.Mode.the-variants.{Array}
 use Rattle.loader_steps.specs.Front.{barredPins, noBlock, wrongLengths}
 use Rattle.loader.specs.Walks.{risesIn}

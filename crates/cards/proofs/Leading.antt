@@ -11,7 +11,7 @@ use Rattle.model_types.specs.declared.Reply.{Reply}
 use Rattle.model_types.specs.declared.State.{State}
 use Rattle.model_types.specs.declared.Cycle.{Cycle}
 use Rattle.model_types.specs.declared.Decision.{Decision}
-use Rattle.model_types.specs.Levels.{atTwelve, atFive, badWp, vppLow, vppHigh, badPins}
+use Rattle.model_levels.specs.Levels.{atTwelve, atFive, badWp, vppLow, vppHigh, badPins}
 use Rattle.model_rules.specs.Cycles.{decideOf, decidedAs}
 use Rattle.model.specs.declared.Seen.{Seen}
 use Rattle.model.specs.Arrays.{arrayOf, seenOf, arrayAfter, answerOf}

@@ -12,7 +12,7 @@ use Rattle.model_types.specs.declared.Kind.the-variants.{Read, Write}
 use Rattle.model_types.specs.declared.Pins.{Pins}
 use Rattle.model_types.specs.declared.Mode.the-variants.{Array, Status}
 use Rattle.model_types.specs.declared.Phase.the-variants.{Suspended}
-use Rattle.model_types.specs.States.{freshState, atRest}
+use Rattle.model_states.specs.States.{freshState, atRest}
 use Rattle.model_types.specs.Counts.{unworn, worn}
 use Rattle.model.specs.declared.Seen.{Seen}
 use Rattle.model.specs.declared.Seen.the-variants.{NoData, Data, Refused}

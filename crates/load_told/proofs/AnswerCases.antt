@@ -10,7 +10,7 @@ use Rattle.common.proofs.Choice.{if-true, if-false}
 use Rattle.device.specs.declared.Device.{Device}
 use Rattle.model_types.specs.declared.Pins.{Pins}
 use Rattle.model_types.specs.declared.State.{State}
-use Rattle.model_types.specs.States.{freshState}
+use Rattle.model_states.specs.States.{freshState}
 use Rattle.loader_from_file.specs.Loads.{loadLeft}
 use Rattle.verify_answer.specs.Answers.{numeralOf, bytesOf}
 use Rattle.load_told.specs.Tellings.{pinsOf, loadOf, callWrong, misused, endedBy, askedDevice, told}

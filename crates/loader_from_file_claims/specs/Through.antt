@@ -9,8 +9,8 @@ use Rattle.common.specs.Numbers.{NoRow}
 use Rattle.device.specs.declared.Device.{Device}
 use Rattle.device.specs.Parts.{lengthOf, startOf}
 use Rattle.model_types.specs.declared.Mode.the-variants.{Array}
-use Rattle.model_types.specs.Levels.{vppHigh, unlocked}
-use Rattle.model_types.specs.States.{atRest}
+use Rattle.model_levels.specs.Levels.{vppHigh, unlocked}
+use Rattle.model_states.specs.States.{atRest}
 use Rattle.units.specs.Units.{units}
 use Rattle.units.specs.Address.{byteOf}
 use Rattle.loader.specs.Walks.{risesIn}

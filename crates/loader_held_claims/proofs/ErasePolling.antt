@@ -23,7 +23,7 @@ use Rattle.model_types.specs.declared.Effect.the-variants.{Nothing, Erase}
 use Rattle.model_types.specs.declared.Reply.the-variants.{Gives}
 use Rattle.model_types.specs.declared.State.{State}
 use Rattle.model_types.specs.declared.Cycle.{Cycle}
-use Rattle.model_types.specs.States.{atRest}
+use Rattle.model_states.specs.States.{atRest}
 use Rattle.model.specs.Arrays.{erased}
 use Rattle.model.proofs.Keeping.{st}
 use Rattle.loader.specs.declared.Stage.the-variants.{EraseWaiting}

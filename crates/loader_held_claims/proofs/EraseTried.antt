@@ -15,7 +15,7 @@ use Rattle.model_types.specs.declared.Mode.the-variants.{Array, Status}
 use Rattle.model_types.specs.declared.Phase.the-variants.{EraseAwaited}
 use Rattle.model_types.specs.declared.Effect.the-variants.{Nothing}
 use Rattle.model_types.specs.declared.Reply.the-variants.{Quiet, Gives}
-use Rattle.model_types.specs.States.{atRest}
+use Rattle.model_states.specs.States.{atRest}
 use Rattle.model_rules.specs.Cycles.{decidedAs}
 use Rattle.model.proofs.Keeping.{st}
 use Rattle.model.proofs.Status.{fits}

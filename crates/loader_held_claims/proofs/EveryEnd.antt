@@ -23,7 +23,7 @@ use Rattle.model_types.specs.declared.Effect.{Effect}
 use Rattle.model_types.specs.declared.Effect.the-variants.{Erase}
 use Rattle.model_types.specs.declared.Cycle.{Cycle}
 use Rattle.model_types.specs.Counts.{worn}
-use Rattle.model_types.specs.Levels.{vppLow, unlocked}
+use Rattle.model_levels.specs.Levels.{vppLow, unlocked}
 use Rattle.model.proofs.Status.{fits}
 use Rattle.loader.specs.Walks.{risesIn}
 use Rattle.loader.specs.Stages.{isEnded}

@@ -17,8 +17,8 @@ use Rattle.model_types.specs.declared.Phase.the-variants.{Erasing, Suspending, 
 use Rattle.model_types.specs.declared.Effect.the-variants.{Nothing, Erase}
 use Rattle.model_types.specs.declared.Reply.the-variants.{Quiet, Gives, GivesArray}
 use Rattle.model_types.specs.declared.State.{State}
-use Rattle.model_types.specs.States.{atRest, isIdentifier}
-use Rattle.model_types.specs.Inner.{badStatus, badLeft, badAddress}
+use Rattle.model_states.specs.States.{atRest, isIdentifier}
+use Rattle.model_states.specs.Inner.{badStatus, badLeft, badAddress}
 use Rattle.model_commands.specs.Commands.{commandOf, asksProgram, firstWrite, whileSuspending, whileSuspended}
 use Rattle.model_operation.specs.Settling.{settledAs, settleOf, countedOff, suspendPassed, passedOf}
 use Rattle.model_rules.specs.Cycles.{noCommand, suspendedRead, noIdentifier, lateOf, decideOf, decidedAs}

@@ -26,7 +26,7 @@ use Rattle.model_types.specs.declared.Effect.the-variants.{Nothing, Erase}
 use Rattle.model_types.specs.declared.Reply.the-variants.{Quiet, Gives, GivesArray}
 use Rattle.model_types.specs.declared.State.{State}
 use Rattle.model_types.specs.declared.Cycle.{Cycle}
-use Rattle.model_types.specs.States.{atRest}
+use Rattle.model_states.specs.States.{atRest}
 use Rattle.model_rules.specs.Cycles.{decideOf, decidedAs}
 use Rattle.model.specs.Arrays.{erased}
 use Rattle.model.specs.Begun.{begunFrom}

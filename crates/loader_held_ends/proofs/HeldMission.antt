@@ -16,8 +16,8 @@ use Rattle.model_types.specs.declared.Wear.{Wear}
 use Rattle.model_types.specs.declared.Effect.{Effect}
 use Rattle.model_types.specs.declared.Effect.the-variants.{Nothing}
 use Rattle.model_types.specs.Counts.{stop, countOf}
-use Rattle.model_types.specs.Levels.{vppLow, unlocked}
-use Rattle.model_types.proofs.Bands.{not-low}
+use Rattle.model_levels.specs.Levels.{vppLow, unlocked}
+use Rattle.model_levels.proofs.Bands.{not-low}
 use Rattle.model_history.specs.History.{Bus, World, worldOf, worldAfter, begunOver, totalOf, eraseOf, programOf, erasesBegun, programsBegun}
 use Rattle.loader.specs.Walks.{risesIn}
 use Rattle.loader_run.specs.declared.Ran.{Ran}

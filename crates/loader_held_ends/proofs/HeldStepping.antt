@@ -14,7 +14,7 @@ use Rattle.common.proofs.Numbers.{given-no-row}
 use Rattle.device.specs.declared.Device.{Device}
 use Rattle.model_types.specs.declared.Kind.the-variants.{Read}
 use Rattle.model_types.specs.declared.Decision.{Decision}
-use Rattle.model_types.specs.Levels.{rpLow, badPins}
+use Rattle.model_levels.specs.Levels.{rpLow, badPins}
 use Rattle.model_rules.specs.Cycles.{decideOf}
 use Rattle.model.specs.declared.Seen.{Seen}
 use Rattle.model.specs.declared.Seen.the-variants.{NoData, Data, Refused}

@@ -10,7 +10,7 @@ use Rattle.common.specs.Numbers.{NoRow}
 use Rattle.device.specs.Parts.{lengthOf, startOf}
 use Rattle.units.specs.Units.{units}
 use Rattle.units.specs.Address.{byteOf}
-use Rattle.model_types.specs.Levels.{vppHigh, unlocked}
+use Rattle.model_levels.specs.Levels.{vppHigh, unlocked}
 use Rattle.loader.specs.Walks.{risesIn}
 use Rattle.loader_run_claims.specs.Wear.{heldIn, formulaBy}
 use Rattle.loader_from_file.specs.Loads.{wantedOf}

@@ -13,7 +13,7 @@ use Rattle.device.proofs.Claims.{blocks-end-inside}
 use Rattle.model_types.specs.declared.Pins.{Pins}
 use Rattle.model_types.specs.declared.Kind.{Kind}
 use Rattle.model_types.specs.declared.State.{State}
-use Rattle.model_types.specs.Levels.{rpLow, vppLow, badPins}
+use Rattle.model_levels.specs.Levels.{rpLow, vppLow, badPins}
 use Rattle.model_types.specs.Phases.{isPending}
 use Rattle.model_rules.specs.Cycles.{shortResidue, judgeOf}
 use Rattle.model_rules.proofs.Facts.{Proper}

@@ -17,8 +17,8 @@ use Rattle.model_types.specs.declared.Pins.{Pins}
 use Rattle.model_types.specs.declared.Mode.the-variants.{Array, Status}
 use Rattle.model_types.specs.Cells.{ones}
 use Rattle.units.specs.Units.{top}
-use Rattle.model_types.specs.Levels.{vppLow}
-use Rattle.model_types.specs.States.{atRest}
+use Rattle.model_levels.specs.Levels.{vppLow}
+use Rattle.model_states.specs.States.{atRest}
 use Rattle.loader.specs.Walks.{risesIn, diffFrom}
 use Rattle.loader_blocks.specs.Blocks.{costs, workCosts, workDone}
 use Rattle.loader_blocks.proofs.Laws.{costs-most}

@@ -16,8 +16,8 @@ use Rattle.model_types.specs.declared.Pins.{Pins}
 use Rattle.model_types.specs.declared.Mode.{Mode}
 use Rattle.model_types.specs.declared.Mode.the-variants.{Array, Status}
 use Rattle.model_types.specs.declared.State.{State}
-use Rattle.model_types.specs.Levels.{vppLow}
-use Rattle.model_types.specs.States.{atRest}
+use Rattle.model_levels.specs.Levels.{vppLow}
+use Rattle.model_states.specs.States.{atRest}
 use Rattle.loader.specs.Walks.{risesIn, diffFrom}
 use Rattle.loader_blocks.specs.declared.Done.{Done}
 use Rattle.loader_blocks.specs.declared.Found.{Found}

@@ -17,7 +17,7 @@ use Rattle.model_types.specs.declared.Phase.{Phase}
 use Rattle.model_types.specs.declared.Phase.the-variants.{Free, EraseAwaited, DataAwaited, Programming, Erasing, Suspending, Suspended}
 use Rattle.model_types.specs.declared.State.{State}
 use Rattle.model_types.specs.declared.Cycle.{Cycle}
-use Rattle.model_types.specs.Levels.{rpLow, vppLow, badPins}
+use Rattle.model_levels.specs.Levels.{rpLow, vppLow, badPins}
 use Rattle.model_rules.specs.Cycles.{shortResidue, judgeOf, decideOf}
 use Rattle.model_rules.proofs.Facts.{Proper}
 use Rattle.model.specs.declared.Seen.{Seen}

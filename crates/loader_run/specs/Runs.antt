@@ -12,7 +12,7 @@ use Rattle.device.specs.Parts.{unknownDevice, sizeOf}
 use Rattle.model_types.specs.declared.Pins.{Pins}
 use Rattle.model_types.specs.declared.State.{State}
 use Rattle.model_types.specs.Phases.{underWay}
-use Rattle.model_types.specs.States.{improper}
+use Rattle.model_states.specs.States.{improper}
 use Rattle.loader.specs.declared.Loader.{Loader}
 use Rattle.loader.specs.Stages.{endBy}
 use Rattle.loader_steps.specs.Front.{setupRows, endAddress, recordOf}

@@ -250,7 +250,7 @@ pub fn run_number(j: Job, array: usize, wanted: usize, scratch: usize) -> u8
     if wrong_array(part, array) {
         return 2;
     }
-    if model_types::states::improper(d, s) {
+    if model_states::improper(d, s) {
         return 3;
     }
     let n = setup_number(part, p, j.block, wanted, scratch);

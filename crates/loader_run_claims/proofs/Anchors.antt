@@ -15,8 +15,8 @@ use Rattle.device.specs.declared.Device.{Device}
 use Rattle.units.specs.Units.{lentIn, top}
 use Rattle.model_types.specs.Cells.{ones}
 use Rattle.loader.specs.Walks.{risesIn}
-use Rattle.model_types.specs.Levels.{vppLow, atTwelve, atFive, vppHigh, badWp, badPins, unlocked}
-use Rattle.model_types.specs.States.{proper, improper}
+use Rattle.model_levels.specs.Levels.{vppLow, atTwelve, atFive, vppHigh, badWp, badPins, unlocked}
+use Rattle.model_states.specs.States.{proper, improper}
 use Rattle.loader_steps.specs.Front.{barredPins, noBlock, wrongLengths}
 use Rattle.loader_run_claims.specs.Wear.{differing, erasesOf, programsIn, formula}
 use Rattle.loader_run_claims.specs.Anchors.{allStart}

@@ -23,9 +23,9 @@ use Rattle.model_types.specs.declared.Reply.the-variants.{Quiet, Gives, GivesAr
 use Rattle.model_types.specs.declared.State.{State}
 use Rattle.model_types.specs.declared.Settled.{Settled}
 use Rattle.model_types.specs.declared.Cycle.{Cycle}
-use Rattle.model_types.specs.Levels.{rpLow, vppLow, badPins, locked, unlocked}
-use Rattle.model_types.specs.States.{atRest, mostLeft}
-use Rattle.model_types.specs.Inner.{badMode, badStatus, badLeft, badAddress}
+use Rattle.model_levels.specs.Levels.{rpLow, vppLow, badPins, locked, unlocked}
+use Rattle.model_states.specs.States.{atRest, mostLeft}
+use Rattle.model_states.specs.Inner.{badMode, badStatus, badLeft, badAddress}
 use Rattle.model_types.specs.Cells.{ones}
 use Rattle.model_commands.proofs.Carried.{data-cell}
 use Rattle.model_commands.specs.Commands.{commandOf, dataOf, asksProgram, actionOf, firstWrite, afterErase, whileErasing, performedOf, wearBy, startedOf, unsupplied}

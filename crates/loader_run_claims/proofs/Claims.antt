@@ -11,7 +11,7 @@ use Rattle.device.specs.declared.Device.{Device}
 use Rattle.device.specs.Parts.{startOf}
 use Rattle.model_types.specs.declared.Pins.{Pins}
 use Rattle.model_types.specs.declared.Mode.the-variants.{Array}
-use Rattle.model_types.specs.States.{atRest}
+use Rattle.model_states.specs.States.{atRest}
 use Rattle.loader.specs.Walks.{risesIn}
 use Rattle.loader_run.specs.Turns.{Config, after}
 use Rattle.loader_run.specs.Runs.{runRows, runNumber, runLeft, doing}

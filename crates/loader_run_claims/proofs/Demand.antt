@@ -14,8 +14,8 @@ use Rattle.device.specs.Parts.{startOf}
 use Rattle.model_types.specs.declared.Mode.the-variants.{Array, Status}
 use Rattle.model_types.specs.declared.State.{State}
 use Rattle.model_types.specs.declared.Effect.{Effect}
-use Rattle.model_types.specs.Levels.{vppLow, unlocked}
-use Rattle.model_types.specs.States.{atRest}
+use Rattle.model_levels.specs.Levels.{vppLow, unlocked}
+use Rattle.model_states.specs.States.{atRest}
 use Rattle.model.proofs.Status.{fits}
 use Rattle.model.proofs.Keeping.{times}
 use Rattle.loader.specs.declared.Stage.the-variants.{Ended}

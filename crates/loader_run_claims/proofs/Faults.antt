@@ -24,7 +24,7 @@ use Rattle.model_types.specs.declared.Phase.the-variants.{EraseAwaited, DataAwa
 use Rattle.model_types.specs.declared.Effect.the-variants.{Nothing}
 use Rattle.model_types.specs.declared.Reply.the-variants.{Quiet, Gives}
 use Rattle.model_types.specs.declared.State.{State}
-use Rattle.model_types.specs.States.{atRest}
+use Rattle.model_states.specs.States.{atRest}
 use Rattle.model_rules.specs.Cycles.{decidedAs}
 use Rattle.model.proofs.Status.{fits}
 use Rattle.model.proofs.Keeping.{st}

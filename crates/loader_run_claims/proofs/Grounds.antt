@@ -18,9 +18,9 @@ use Rattle.model_types.specs.declared.Phase.the-variants.{Free}
 use Rattle.model_types.specs.declared.State.{State}
 use Rattle.model_types.specs.declared.Effect.{Effect}
 use Rattle.model_types.specs.declared.Effect.the-variants.{Nothing}
-use Rattle.model_types.specs.States.{atRest}
-use Rattle.model_types.specs.Inner.{badStatus}
-use Rattle.model_types.proofs.Rest.{free-phase, resting}
+use Rattle.model_states.specs.States.{atRest}
+use Rattle.model_states.specs.Inner.{badStatus}
+use Rattle.model_states.proofs.Rest.{free-phase, resting}
 use Rattle.model_rules.proofs.Facts.{Proper}
 use Rattle.model.proofs.Status.{fits, status-fits}
 use Rattle.loader_steps.specs.Front.{noBlock}

@@ -26,7 +26,7 @@ use Rattle.loader_run_claims.specs.Lent.{LentStart, LentDemand3}
 use Rattle.loader_run_claims.proofs.Starts.{taken-if}
 use Rattle.loader_run_claims.proofs.Mission.{ends-well, demand-3}
 use Rattle.loader_run_claims.specs.Ends.{endMode, erasedFrom}
-use Rattle.model_types.specs.States.{atRest}
+use Rattle.model_states.specs.States.{atRest}
 use Rattle.units.proofs.Pairs.{dbl, dbl-is, taken, dropped}
 use Rattle.loader.specs.declared.Work.the-variants.{Load}
 use Rattle.loader_run.specs.declared.Job.{Job}

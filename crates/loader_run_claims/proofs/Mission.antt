@@ -23,12 +23,12 @@ use Rattle.model_types.specs.declared.Pins.{Pins}
 use Rattle.model_types.specs.declared.Cycle.{Cycle}
 use Rattle.model_types.specs.declared.Effect.{Effect}
 use Rattle.model_types.specs.declared.Effect.the-variants.{Nothing, Program, Erase}
-use Rattle.model_types.specs.States.{atRest}
+use Rattle.model_states.specs.States.{atRest}
 use Rattle.model_types.specs.declared.Wear.{Wear}
 use Rattle.model_types.specs.Counts.{stop, countOf, raised, raisedAt, worn}
 use Rattle.model_types.proofs.Wears.{count-worn}
 use Rattle.model_history.proofs.Counting.{count-begun}
-use Rattle.model_types.proofs.Bands.{not-low}
+use Rattle.model_levels.proofs.Bands.{not-low}
 use Rattle.loader_steps.specs.Front.{endAddress}
 use Rattle.loader.specs.Walks.{risesIn}
 use Rattle.loader_run.specs.declared.Ran.{Ran}

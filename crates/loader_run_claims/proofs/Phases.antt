@@ -32,7 +32,7 @@ use Rattle.model_types.specs.declared.Effect.the-variants.{Nothing, Program, Er
 use Rattle.model_types.specs.declared.Reply.{Reply}
 use Rattle.model_types.specs.declared.Reply.the-variants.{Quiet, Gives, GivesArray}
 use Rattle.model_types.specs.declared.State.{State}
-use Rattle.model_types.specs.States.{atRest, mostLeft}
+use Rattle.model_states.specs.States.{atRest, mostLeft}
 use Rattle.model_rules.specs.Cycles.{decideOf, decidedAs}
 use Rattle.model.specs.Arrays.{erased}
 use Rattle.model.proofs.Keeping.{st}

@@ -14,7 +14,7 @@ use Rattle.device.specs.declared.Device.{Device}
 use Rattle.device.specs.Parts.{sizeOf, lengthOf}
 use Rattle.model_types.specs.declared.Pins.{Pins}
 use Rattle.model_types.specs.Cells.{Cells}
-use Rattle.model_types.specs.Levels.{rpLow, badPins}
+use Rattle.model_levels.specs.Levels.{rpLow, badPins}
 use Rattle.model_rules.proofs.Facts.{parts-proper}
 use Rattle.loader_steps.specs.Front.{barredPins, wrongLengths}
 use Rattle.loader_run.specs.Runs.{runRows, runNumber, runFirst}

@@ -23,7 +23,7 @@ use Rattle.model_types.specs.declared.Reply.the-variants.{Quiet, Gives, GivesAr
 use Rattle.model_types.specs.declared.Decision.{Decision}
 use Rattle.model_types.specs.declared.Settled.{Settled}
 use Rattle.model_types.specs.declared.State.{State}
-use Rattle.model_types.specs.Levels.{rpLow, badPins}
+use Rattle.model_levels.specs.Levels.{rpLow, badPins}
 use Rattle.model_rules.specs.Cycles.{decideOf, respondOf, replyTo}
 use Rattle.model_types.specs.Kinds.{isRead}
 use Rattle.model_operation.specs.Settling.{settleOf}

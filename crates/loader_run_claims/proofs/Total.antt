@@ -12,7 +12,7 @@ use Rattle.device.specs.declared.Device.{Device}
 use Rattle.device.specs.Parts.{startOf}
 use Rattle.model_types.specs.declared.Pins.{Pins}
 use Rattle.model_types.specs.declared.Effect.{Effect}
-use Rattle.model_types.specs.Levels.{vppLow, unlocked}
+use Rattle.model_levels.specs.Levels.{vppLow, unlocked}
 use Rattle.loader_steps.specs.Front.{endAddress}
 use Rattle.loader.specs.Walks.{risesIn, diffFrom}
 use Rattle.loader.specs.Moves.{eraseEnd, programEnd, bothErrors}

@@ -6,8 +6,8 @@ use Rattle.device.specs.declared.Device.{Device}
 use Rattle.device.specs.Parts.{sizeOf, lengthOf}
 use Rattle.units.specs.Units.{bytesIn}
 use Rattle.model_types.specs.declared.Pins.{Pins}
-use Rattle.model_types.specs.States.{freshState}
-use Rattle.model_types.specs.Levels.{vppHigh, unlocked}
+use Rattle.model_states.specs.States.{freshState}
+use Rattle.model_levels.specs.Levels.{vppHigh, unlocked}
 use Rattle.loader_run.specs.Runs.{lentNumber, jobOf}
 use Rattle.loader.specs.declared.Work.the-variants.{Load}
 

@@ -16,8 +16,8 @@ use Rattle.model_types.specs.declared.Cycle.{Cycle}
 use Rattle.model_types.specs.declared.Mode.{Mode}
 use Rattle.model_types.specs.declared.Mode.the-variants.{Array, Status}
 use Rattle.model_types.specs.declared.State.{State}
-use Rattle.model_types.specs.Levels.{vppLow, unlocked}
-use Rattle.model_types.specs.States.{atRest}
+use Rattle.model_levels.specs.Levels.{vppLow, unlocked}
+use Rattle.model_states.specs.States.{atRest}
 use Rattle.model_types.specs.Counts.{worn}
 use Rattle.loader.specs.Walks.{risesIn, diffFrom}
 use Rattle.loader_run.specs.declared.Ran.{Ran}

@@ -10,13 +10,13 @@ use Rattle.common.specs.Numbers.{NoRow}
 use Rattle.device.specs.Parts.{lengthOf, startOf}
 use Rattle.units.specs.Units.{units, bytesIn}
 use Rattle.units.specs.Address.{byteOf}
-use Rattle.model_types.specs.Levels.{vppHigh, unlocked}
+use Rattle.model_levels.specs.Levels.{vppHigh, unlocked}
 use Rattle.loader.specs.Walks.{risesIn}
 use Rattle.loader_run.specs.Runs.{lentRows, lentRun, doing}
 use Rattle.loader_run_claims.specs.Wear.{heldIn, formulaBy}
 use Rattle.loader_run_claims.specs.Ends.{endMode, erasedFrom}
 use Rattle.loader_run_claims.specs.Mission.{Demand3}
-use Rattle.model_types.specs.States.{atRest}
+use Rattle.model_states.specs.States.{atRest}
 use Rattle.loader.specs.declared.Work.the-variants.{Load}
 use Rattle.loader_run.specs.declared.Job.{Job}
 

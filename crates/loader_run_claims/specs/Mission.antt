@@ -9,8 +9,8 @@ use Rattle.device.specs.declared.Device.{Device}
 use Rattle.device.specs.Parts.{unknownDevice, sizeOf, lengthOf, startOf, blockOf}
 use Rattle.model_types.specs.Cells.{Cells}
 use Rattle.model_types.specs.Counts.{stop, countOf}
-use Rattle.model_types.specs.Levels.{rpLow, vppHigh, badPins, unlocked}
-use Rattle.model_types.specs.States.{improper}
+use Rattle.model_levels.specs.Levels.{rpLow, vppHigh, badPins, unlocked}
+use Rattle.model_states.specs.States.{improper}
 use Rattle.loader_steps.specs.Front.{noBlock}
 use Rattle.model_types.specs.Phases.{underWay}
 use Rattle.loader_run_claims.specs.Wear.{begunAt, heldBy, notedAll, operationsOf, formulaBy}

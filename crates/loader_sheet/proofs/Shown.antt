@@ -7,7 +7,7 @@ use lib.ListN.{getD, replicate}
 use lib.Dec.{eqb}
 use Rattle.device.specs.Parts.{rowOf, isLarge, inWords, shapeOf, sizeIn, lengthIn, unknownPart, lengthOf}
 use Rattle.model_types.specs.Cells.{ones}
-use Rattle.model_types.specs.Levels.{vppLow, atTwelve, atFive, vppHigh, badWp, badPins}
+use Rattle.model_levels.specs.Levels.{vppLow, atTwelve, atFive, vppHigh, badWp, badPins}
 use Rattle.loader.specs.declared.Stage.{Stage}
 use Rattle.loader.specs.declared.Stage.the-variants.{EraseWaiting, ProgramWaiting, Verifying}
 use Rattle.loader.specs.Stages.{isEnded, endBy}

@@ -11,7 +11,7 @@ use Rattle.device.specs.declared.Part.{Part}
 use Rattle.device.specs.Parts.{unknownPart, lengthOf}
 use Rattle.model_types.specs.declared.Pins.{Pins}
 use Rattle.model_types.specs.declared.Cycle.{Cycle}
-use Rattle.model_types.specs.Levels.{rpLow, badPins}
+use Rattle.model_levels.specs.Levels.{rpLow, badPins}
 use Rattle.loader.specs.declared.Stage.{Stage}
 use Rattle.loader.specs.declared.Stage.the-variants.{Ended}
 use Rattle.loader.specs.declared.Work.{Work}

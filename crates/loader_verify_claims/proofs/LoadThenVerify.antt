@@ -23,7 +23,7 @@ use Rattle.model_types.specs.declared.Cycle.{Cycle}
 use Rattle.model_types.specs.declared.Mode.the-variants.{Array}
 use Rattle.model_types.specs.declared.State.{State}
 use Rattle.model_types.specs.Cells.{Cells}
-use Rattle.model_types.specs.States.{atRest}
+use Rattle.model_states.specs.States.{atRest}
 use Rattle.model_rules.proofs.Facts.{parts-proper}
 use Rattle.model.proofs.Keeping.{rest-proper}
 use Rattle.loader.specs.Walks.{risesIn}

@@ -15,7 +15,7 @@ use Rattle.common.specs.Numbers.{NoRow}
 use Rattle.common.proofs.Numbers.{no-row-given}
 use Rattle.device.specs.Parts.{startOf}
 use Rattle.model_types.specs.declared.Mode.the-variants.{Array}
-use Rattle.model_types.specs.States.{atRest}
+use Rattle.model_states.specs.States.{atRest}
 use Rattle.loader.specs.declared.Stage.the-variants.{Ended}
 use Rattle.loader.specs.Walks.{nextDiff, diffFrom}
 use Rattle.loader_steps.specs.Front.{endAddress}

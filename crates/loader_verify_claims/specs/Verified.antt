@@ -12,7 +12,7 @@ use Rattle.common.specs.Lists.{overwritten}
 use Rattle.device.specs.Parts.{startOf}
 use Rattle.model_types.specs.declared.Mode.the-variants.{Array}
 use Rattle.model_types.specs.declared.State.{State}
-use Rattle.model_types.specs.States.{atRest}
+use Rattle.model_states.specs.States.{atRest}
 use Rattle.loader.specs.Walks.{diffFrom}
 use Rattle.loader_run.specs.declared.Ran.{Ran}
 use Rattle.loader_run_claims.specs.Wear.{begunAt, heldIn}

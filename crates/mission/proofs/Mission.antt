@@ -7,7 +7,9 @@ use Rattle.common.specs.{Lists.Bytes, Numbers.Row, Numbers.row, Numbers.Foremos
 use Rattle.units.specs.{Units.units, Units.lent, Address.byteOf}
 use Rattle.device.specs.{declared.Part.Part, declared.Device.Device, Parts.startOf}
 use Rattle.model_types.specs.{declared.Pins.Pins, declared.State.State, declared.Cycle.Cycle, declared.Kind.the-variants.Read}
-use Rattle.model_types.specs.{Levels.rpLow, Phases.isBusy, States.improper}
+use Rattle.model_types.specs.Phases.{isBusy}
+use Rattle.model_levels.specs.Levels.{rpLow}
+use Rattle.model_states.specs.States.{improper}
 use Rattle.model_operation.specs.Settling.{settleOf}
 use Rattle.model_rules.{specs.Cycles.tableOf, specs.Cycles.numberOf, specs.Cycles.acceptOf, specs.Cycles.decideOf, proofs.Cases.accepted}
 use Rattle.model.specs.declared.Seen.the-variants.{Data, Refused}

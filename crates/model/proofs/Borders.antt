@@ -17,7 +17,7 @@ use Rattle.device.specs.declared.Part.{Part}
 use Rattle.device.specs.declared.Device.{Device}
 use Rattle.device.specs.Parts.{sizeOf}
 use Rattle.device.proofs.BlockAddresses.{size-some}
-use Rattle.model_types.specs.Levels.{rpLow, vppLow}
+use Rattle.model_levels.specs.Levels.{rpLow, vppLow}
 use Rattle.model_operation.specs.Settling.{residueFor}
 use Rattle.model_types.specs.declared.State.{State}
 use Rattle.model_types.specs.declared.Cycle.{Cycle}

@@ -20,8 +20,8 @@ use Rattle.model_types.specs.declared.Cycle.{Cycle}
 use Rattle.model_types.specs.declared.Kind.the-variants.{Read}
 use Rattle.model_types.specs.declared.Effect.{Effect}
 use Rattle.model_types.specs.declared.Effect.the-variants.{Nothing, Program, CutProgram}
-use Rattle.model_types.specs.Levels.{rpLow, vppLow}
-use Rattle.model_types.specs.States.{improper, freshState}
+use Rattle.model_levels.specs.Levels.{rpLow, vppLow}
+use Rattle.model_states.specs.States.{improper, freshState}
 use Rattle.model_operation.specs.Settling.{residueFor, settleOf}
 use Rattle.model_rules.specs.Cycles.{shortResidue, tableOf, numberOf, judgeOf, decideOf}
 use Rattle.model_rules.proofs.Facts.{proper-parts, parts-proper}

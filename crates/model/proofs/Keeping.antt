@@ -20,9 +20,9 @@ use Rattle.model_types.specs.declared.Mode.{Mode}
 use Rattle.model_types.specs.declared.Mode.the-variants.{Array, Status, Identifier}
 use Rattle.model_types.specs.declared.Phase.{Phase}
 use Rattle.model_types.specs.declared.Phase.the-variants.{Free, EraseAwaited, DataAwaited, Programming, Erasing, Suspending, Suspended}
-use Rattle.model_types.specs.Levels.{rpLow, vppLow, locked}
-use Rattle.model_types.specs.States.{atRest, freshState}
-use Rattle.model_types.specs.Inner.{badMode, badStatus, badLeft, badAddress, topBits}
+use Rattle.model_levels.specs.Levels.{rpLow, vppLow, locked}
+use Rattle.model_states.specs.States.{atRest, freshState}
+use Rattle.model_states.specs.Inner.{badMode, badStatus, badLeft, badAddress, topBits}
 use Rattle.model_types.specs.Phases.{isPending, isBusy, isSuspending, suspendLeft}
 use Rattle.model_commands.specs.Commands.{asksProgram, firstWrite, afterErase, whileErasing, whileSuspending, whileSuspended, commandOf, dataOf, actionOf, performedOf, startedOf, unsupplied}
 use Rattle.model_operation.specs.Settling.{cutBits, cutBy, countedOff, suspendPassed, passedOf, settleOf}

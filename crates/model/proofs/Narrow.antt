@@ -18,7 +18,7 @@ use Rattle.model_types.specs.declared.State.{State}
 use Rattle.model_types.specs.declared.Cycle.{Cycle}
 use Rattle.model_types.specs.declared.Settled.{Settled}
 use Rattle.model_types.specs.declared.Decision.{Decision}
-use Rattle.model_types.specs.Levels.{badLevels, locked}
+use Rattle.model_levels.specs.Levels.{badLevels, locked}
 use Rattle.model_commands.specs.Commands.{commandOf, dataOf, actionOf, unsupplied, startedOf, performedOf}
 use Rattle.model_operation.specs.Settling.{settleOf}
 use Rattle.model_rules.specs.Cycles.{pastArray, shortResidue, noCommand, suspendedRead, noIdentifier, tableOf, numberOf, respondOf, acceptOf, decideOf}

@@ -13,7 +13,7 @@ use Rattle.model_types.specs.declared.Decision.{Decision}
 use Rattle.model_types.specs.declared.Kind.{Kind}
 use Rattle.model_types.specs.declared.Kind.the-variants.{Read, Write, Idle}
 use Rattle.model_types.specs.declared.Reply.the-variants.{Quiet}
-use Rattle.model_types.specs.Levels.{rpLow}
+use Rattle.model_levels.specs.Levels.{rpLow}
 use Rattle.model_operation.specs.Settling.{settleOf}
 use Rattle.model_rules.specs.Cycles.{numberOf, decideOf, acceptOf, respondOf, refusedBy, decidedAs}
 use Rattle.model_rules.proofs.Cases.{refused, accepted}

@@ -16,8 +16,8 @@ use Rattle.model_types.specs.declared.Settled.{Settled}
 use Rattle.model_types.specs.declared.Decision.{Decision}
 use Rattle.model_types.specs.declared.Phase.{Phase}
 use Rattle.model_types.specs.declared.Phase.the-variants.{Free, EraseAwaited, DataAwaited, Programming, Erasing, Suspending, Suspended}
-use Rattle.model_types.specs.Levels.{rpLow, vppLow}
-use Rattle.model_types.specs.Inner.{badAddress}
+use Rattle.model_levels.specs.Levels.{rpLow, vppLow}
+use Rattle.model_states.specs.Inner.{badAddress}
 use Rattle.model_types.specs.Phases.{isPending, isBusy, isSuspending, suspendLeft}
 use Rattle.model_operation.specs.Settling.{cutOf, finishOf, residueFor, cutBy, countedOff, suspendPassed, passedOf, settleOf}
 use Rattle.model_rules.specs.Cycles.{shortResidue, decideOf}

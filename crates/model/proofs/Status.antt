@@ -10,7 +10,7 @@ use borrow.Author.Tests.{eqb-true, eqb-false, not-false}
 use Rattle.common.proofs.Choice.{and-left, and-right, or-left, or-right, unlike}
 use Rattle.model_types.specs.declared.Phase.{Phase}
 use Rattle.model_types.specs.declared.Phase.the-variants.{Free, EraseAwaited, DataAwaited, Programming, Erasing, Suspending, Suspended}
-use Rattle.model_types.specs.Inner.{badStatus, topBits}
+use Rattle.model_states.specs.Inner.{badStatus, topBits}
 
 -- the test holds of every number below n
 abbrev pub allBelow : (ℕ → Bool) → ℕ → Bool

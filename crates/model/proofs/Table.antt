@@ -21,7 +21,7 @@ use Rattle.model_types.specs.declared.Mode.the-variants.{Array, Status, Identif
 use Rattle.model_types.specs.declared.Reply.{Reply}
 use Rattle.model_types.specs.declared.Reply.the-variants.{Quiet, Gives, GivesArray, Refuses}
 use Rattle.model_types.specs.declared.Effect.the-variants.{Nothing}
-use Rattle.model_types.specs.Levels.{rpLow}
+use Rattle.model_levels.specs.Levels.{rpLow}
 use Rattle.model_types.specs.Phases.{isBusy}
 use Rattle.model_operation.specs.Settling.{settleOf}
 use Rattle.model_rules.specs.Cycles.{tableOf, numberOf, decideOf, acceptOf, respondOf, replyTo, decidedAs}

@@ -13,7 +13,7 @@ use Rattle.model_types.specs.declared.Effect.{Effect}
 use Rattle.model_types.specs.declared.Reply.{Reply}
 use Rattle.model_types.specs.declared.State.{State}
 use Rattle.model_types.specs.declared.Cycle.{Cycle}
-use Rattle.model_types.specs.States.{freshState, resetOf}
+use Rattle.model_states.specs.States.{freshState, resetOf}
 use Rattle.model.specs.declared.Seen.{Seen}
 use Rattle.model.specs.declared.Answer.{Answer}
 use Rattle.model.specs.Arrays.{seenOf, answerOf, bytesAfter, replyTold, cycleTold}

@@ -25,7 +25,7 @@ use Rattle.model_types.specs.declared.Effect.{Effect}
 use Rattle.model_types.specs.declared.Effect.the-variants.{Nothing, Program, Erase, CutProgram, CutErase}
 use Rattle.model_types.specs.Counts.{wornBy}
 use Rattle.model_types.specs.Kinds.{isWrite}
-use Rattle.model_types.specs.Levels.{rpLow, vppLow, locked}
+use Rattle.model_levels.specs.Levels.{rpLow, vppLow, locked}
 use Rattle.model_types.specs.Phases.{isPending, isBusy, isSuspending, suspendLeft, isAwaited}
 use Rattle.model_commands.specs.Commands.{asksProgram, firstWrite, afterErase, whileErasing, whileSuspending, whileSuspended, commandOf, dataOf, actionOf, performedOf, wearBy, startedOf, unsupplied}
 use Rattle.model_operation.specs.Settling.{settledAs, cutBy, countedOff, suspendPassed, passedOf, settleOf}

@@ -15,7 +15,7 @@ use Rattle.model_types.specs.declared.Wear.{Wear}
 use Rattle.model_types.specs.declared.Cycle.{Cycle}
 use Rattle.model_types.specs.Counts.{wornBy}
 use Rattle.model_types.specs.Kinds.{isWrite}
-use Rattle.model_types.specs.Levels.{rpLow, locked}
+use Rattle.model_levels.specs.Levels.{rpLow, locked}
 use Rattle.model_types.specs.Phases.{isAwaited}
 use Rattle.model_commands.specs.Commands.{unsupplied, commandOf, dataOf}
 use Rattle.model_rules.specs.Cycles.{numberOf}

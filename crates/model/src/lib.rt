@@ -12,7 +12,7 @@ ghost use Prim.Native.Nat.{_<_, _≤_};
 ghost use lib.ListN.{length, getD, set};
 ghost use lib.Bits.{bitAnd, bitOr};
 ghost use Rattle.units.specs.Units.{units, spare, lent};
-ghost use Rattle.model_types.specs.States.{freshState, resetOf};
+ghost use Rattle.model_states.specs.States.{freshState, resetOf};
 ghost use Rattle.device.specs.Parts.{sizeOf, lengthOf};
 ghost use Rattle.model.specs.declared.Seen.the-variants.{Data, Refused};
 ghost use Rattle.model.specs.Arrays.{erased, residual, arrayOf, seenOf, answerOf, bytesAfter, seenTold, replyTold, cycleTold};
@@ -141,14 +141,14 @@ pub fn see(reply: Reply, word: bool, array: &[u8]) -> Seen
 pub fn fresh() -> State
     ensures { λ r. ⌜ r ≡ freshState ⌝ }
 {
-    model_types::states::fresh()
+    model_states::fresh()
 }
 
 // What RP# low makes of a state.
 pub fn reset(s: State) -> State
     ensures { λ r. ⌜ r ≡ resetOf s ⌝ }
 {
-    model_types::states::reset(s)
+    model_states::reset(s)
 }
 
 // A unit of the array, and the state as it was.

@@ -32,11 +32,11 @@ use Rattle.model_types.specs.declared.State.{State}
 use Rattle.model_types.specs.declared.Pins.{Pins}
 use Rattle.model_types.specs.declared.Cycle.{Cycle}
 use Rattle.model_types.specs.Kinds.{isRead, isWrite, isIdle}
-use Rattle.model_types.specs.Levels.{rpLow}
+use Rattle.model_levels.specs.Levels.{rpLow}
 use Rattle.model_types.specs.Phases.{isBusy, isSuspending, isSuspended, isPending}
 use Rattle.model_types.specs.Status.{SR7, SR6, SR5, SR4, SR3, withBits, withoutBits, isSet}
-use Rattle.model_types.specs.States.{isArray, isIdentifier, properMode, properReady, properHeld, properLow, properLeft, properSuspend}
-use Rattle.model_types.specs.States.{atRest, inPhase, resetOf}
+use Rattle.model_states.specs.States.{isArray, isIdentifier, properMode, properReady, properHeld, properLow, properLeft, properSuspend}
+use Rattle.model_states.specs.States.{atRest, inPhase, resetOf}
 use Rattle.model_commands.specs.Commands.{afterErase, whileErasing, whileSuspending, whileSuspended, isRefuse, inMode, withStatus, wearBy}
 use Rattle.model_operation.specs.Settling.{settledAs, cutBits, suspendPassed}
 use Rattle.model_rules.specs.Cycles.{decidedAs, refusedBy}

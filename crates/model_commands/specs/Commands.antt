@@ -18,9 +18,9 @@ use Rattle.model_types.specs.declared.State.{State}
 use Rattle.model_types.specs.declared.Wear.{Wear}
 use Rattle.model_types.specs.declared.Cycle.{Cycle}
 use Rattle.model_types.specs.Counts.{worn}
-use Rattle.model_types.specs.Levels.{vppLow, locked}
+use Rattle.model_levels.specs.Levels.{vppLow, locked}
 use Rattle.model_types.specs.Status.{SR7, SR6, SR5, SR4, SR3, withBits, withoutBits, isSet}
-use Rattle.model_types.specs.States.{atRest, inPhase}
+use Rattle.model_states.specs.States.{atRest, inPhase}
 
 -- the command of a cycle: the low 8 bits of its data (R-write-1)
 unfoldable pub commandOf : Cycle → ℕ

@@ -5,7 +5,7 @@ use Prim.Native.Nat.{ℕ, _+_, _≤_, _<_, min}
 use Rattle.device.specs.declared.Device.{Device}
 use Rattle.device.specs.Parts.{lengthOf}
 use Rattle.model_types.specs.Counts.{stop, countOf}
-use Rattle.model_types.specs.States.{freshState}
+use Rattle.model_states.specs.States.{freshState}
 use Rattle.model_history.specs.History.{Bus, World, worldOf, worldAfter, erasesBegun}
 use Rattle.model_history.proofs.Counting as counting
 

@@ -15,7 +15,7 @@ use Rattle.model_types.specs.declared.Wear.{Wear}
 use Rattle.model_types.specs.declared.Effect.{Effect}
 use Rattle.model_types.specs.declared.Effect.the-variants.{Nothing, Program, Erase, CutProgram, CutErase}
 use Rattle.model_types.specs.Counts.{stop, unworn, countOf, raised, raisedAt, wornBy}
-use Rattle.model_types.specs.States.{freshState}
+use Rattle.model_states.specs.States.{freshState}
 use Rattle.model_types.proofs.Wears.{count-worn, count-unworn, raised-is}
 use Rattle.model.specs.Arrays.{answerOf}
 use Rattle.model.specs.Begun.{begunBy}

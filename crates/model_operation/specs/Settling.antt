@@ -13,10 +13,10 @@ use Rattle.model_types.specs.declared.Effect.the-variants.{Nothing, Program, Er
 use Rattle.model_types.specs.declared.State.{State}
 use Rattle.model_types.specs.declared.Pins.{Pins}
 use Rattle.model_types.specs.declared.Settled.{Settled}
-use Rattle.model_types.specs.Levels.{rpLow, vppLow}
+use Rattle.model_levels.specs.Levels.{rpLow, vppLow}
 use Rattle.model_types.specs.Phases.{isBusy, isSuspending, suspendLeft, isPending}
 use Rattle.model_types.specs.Status.{SR7, SR6, SR5, SR4, SR3, withBits, withoutBits}
-use Rattle.model_types.specs.States.{atRest, inPhase, resetOf}
+use Rattle.model_states.specs.States.{atRest, inPhase, resetOf}
 
 -- a settled state by its parts
 abbrev pub settledAs : State → Effect → Settled

@@ -17,10 +17,10 @@ use Rattle.model_types.specs.declared.Cycle.{Cycle}
 use Rattle.model_types.specs.declared.Reply.the-variants.{Quiet}
 use Rattle.model_types.specs.declared.Settled.{Settled}
 use Rattle.model_types.specs.declared.Decision.{Decision}
-use Rattle.model_types.specs.Levels.{rpLow}
+use Rattle.model_levels.specs.Levels.{rpLow}
 use Rattle.model_commands.specs.Commands.{commandOf, actionOf, isRefuse}
 use Rattle.model_operation.specs.Settling.{settleOf}
-use Rattle.model_types.specs.States.{isArray, isIdentifier}
+use Rattle.model_states.specs.States.{isArray, isIdentifier}
 use Rattle.model_rules.specs.Cycles.{noCommand, suspendedRead, codePlace, noIdentifier, judgeOf, lateOf, replyTo, respondOf, refusedBy, acceptOf, decideOf}
 use Rattle.model_types.specs.Phases.{isSuspended}
 use Rattle.model_types.specs.Kinds.{isRead, isWrite}

@@ -10,10 +10,10 @@ use Rattle.device.specs.declared.Device.{Device}
 use Rattle.device.specs.Parts.{unknownDevice, sizeOf}
 use Rattle.model_types.specs.declared.State.{State}
 use Rattle.model_types.specs.declared.Cycle.{Cycle}
-use Rattle.model_types.specs.Levels.{badLevels}
-use Rattle.model_types.specs.States.{improper}
-use Rattle.model_types.specs.Inner.{badMode, badStatus, badLeft, badAddress}
-use Rattle.model_types.proofs.Proper.{improper-parts}
+use Rattle.model_levels.specs.Levels.{badLevels}
+use Rattle.model_states.specs.States.{improper}
+use Rattle.model_states.specs.Inner.{badMode, badStatus, badLeft, badAddress}
+use Rattle.model_states.proofs.Proper.{improper-parts}
 use Rattle.model_operation.specs.Settling.{settleOf}
 use Rattle.model_rules.specs.Cycles.{tableOf, numberOf, pastArray, shortResidue, noCommand, suspendedRead, noIdentifier}
 

@@ -15,8 +15,8 @@ use Rattle.model_types.specs.declared.Cycle.{Cycle}
 use Rattle.model_types.specs.declared.Effect.the-variants.{Nothing}
 use Rattle.model_types.specs.declared.Reply.the-variants.{GivesArray}
 use Rattle.model_types.specs.declared.Settled.{Settled}
-use Rattle.model_types.specs.Levels.{rpLow, vppLow}
-use Rattle.model_types.specs.States.{isArray}
+use Rattle.model_levels.specs.Levels.{rpLow, vppLow}
+use Rattle.model_states.specs.States.{isArray}
 use Rattle.model_operation.specs.Settling.{settledAs, settleOf}
 use Rattle.model_rules.specs.Cycles.{judgeOf, refusedBy, decidedAs, decideOf}
 use Rattle.model_rules.specs.Inner.{inSuspended, decideArray, decideKind, decideJudged, asksArray}

@@ -22,9 +22,9 @@ use Rattle.model_types.specs.declared.Decision.{Decision}
 use Rattle.model_types.specs.declared.State.{State}
 use Rattle.model_types.specs.declared.Cycle.{Cycle}
 use Rattle.model_types.specs.Kinds.{isRead, isWrite, isIdle}
-use Rattle.model_types.specs.Levels.{rpLow, vppLow, badLevels}
+use Rattle.model_levels.specs.Levels.{rpLow, vppLow, badLevels}
 use Rattle.model_types.specs.Phases.{isSuspended}
-use Rattle.model_types.specs.States.{improper, isArray, isIdentifier}
+use Rattle.model_states.specs.States.{improper, isArray, isIdentifier}
 use Rattle.model_commands.specs.Commands.{commandOf, actionOf, isRefuse, performedOf}
 use Rattle.model_operation.specs.Settling.{settleOf, residueFor}
 

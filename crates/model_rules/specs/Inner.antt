@@ -11,9 +11,9 @@ use Rattle.device.specs.declared.Device.{Device}
 use Rattle.model_types.specs.declared.Mode.{Mode}
 use Rattle.model_types.specs.declared.Mode.the-variants.{Array, Status, Identifier}
 use Rattle.model_types.specs.Kinds.{isRead}
-use Rattle.model_types.specs.Levels.{rpLow}
+use Rattle.model_levels.specs.Levels.{rpLow}
 use Rattle.model_types.specs.Phases.{isFree, isSuspended}
-use Rattle.model_types.specs.States.{isArray}
+use Rattle.model_states.specs.States.{isArray}
 use Rattle.model_types.specs.declared.Kind.{Kind}
 use Rattle.model_types.specs.declared.Kind.the-variants.{Read, Write, Idle}
 use Rattle.model_types.specs.declared.Reply.{Reply}

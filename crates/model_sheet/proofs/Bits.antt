@@ -21,7 +21,7 @@ use Rattle.model_types.specs.declared.Action.the-variants.{ToArray, ToIdentifie
 use Rattle.model_types.specs.declared.Settled.{Settled}
 use Rattle.model_types.specs.declared.Decision.{Decision}
 use Rattle.model_types.specs.Kinds.{isWrite}
-use Rattle.model_types.specs.Levels.{rpLow, vppLow, locked}
+use Rattle.model_levels.specs.Levels.{rpLow, vppLow, locked}
 use Rattle.model_types.specs.Phases.{isFree, isPending, isBusy, isSuspending, suspendLeft}
 use Rattle.model_types.specs.Status.{SR5, SR4, SR3, isSet}
 use Rattle.model_commands.specs.Commands.{asksProgram, firstWrite, afterErase, whileErasing, whileSuspending, whileSuspended, commandOf, dataOf, actionOf, performedOf, startedOf, unsupplied}

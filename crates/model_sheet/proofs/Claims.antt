@@ -12,7 +12,7 @@ use Rattle.model_types.specs.declared.Kind.the-variants.{Read}
 use Rattle.model_types.specs.declared.Mode.the-variants.{Array}
 use Rattle.model_types.specs.declared.Effect.{Effect}
 use Rattle.model_types.specs.declared.Effect.the-variants.{Nothing}
-use Rattle.model_types.specs.Levels.{rpLow, vppLow}
+use Rattle.model_levels.specs.Levels.{rpLow, vppLow}
 use Rattle.model_types.specs.Phases.{isSuspended}
 use Rattle.model.specs.declared.Seen.the-variants.{Data, Refused}
 use Rattle.model_history.specs.History.{Bus, World, stepped, worldAfter, seenOn, seenIn, effectsIn, uncut}

@@ -22,9 +22,9 @@ use Rattle.model_types.specs.declared.Effect.the-variants.{Nothing}
 use Rattle.model_types.specs.declared.Reply.the-variants.{Quiet, Gives, Refuses}
 use Rattle.model_types.specs.declared.Settled.{Settled}
 use Rattle.model_types.specs.declared.Decision.{Decision}
-use Rattle.model_types.specs.Levels.{rpLow, vppLow}
+use Rattle.model_levels.specs.Levels.{rpLow, vppLow}
 use Rattle.model_types.specs.Phases.{isPending, isBusy}
-use Rattle.model_types.specs.States.{resetOf}
+use Rattle.model_states.specs.States.{resetOf}
 use Rattle.model_commands.specs.Commands.{commandOf, firstWrite, isRefuse, performedOf}
 use Rattle.model_operation.specs.Settling.{settledAs, cutOf, cutBy, settleOf}
 use Rattle.model_rules.specs.Cycles.{decidedAs}

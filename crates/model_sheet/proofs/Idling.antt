@@ -16,7 +16,7 @@ use Rattle.model_types.specs.declared.Decision.{Decision}
 use Rattle.model_types.specs.declared.State.{State}
 use Rattle.model_types.specs.declared.Settled.{Settled}
 use Rattle.model_operation.specs.Settling.{settleOf}
-use Rattle.model_types.specs.Levels.{badLevels, rpLow}
+use Rattle.model_levels.specs.Levels.{badLevels, rpLow}
 use Rattle.model_rules.specs.Cycles.{pastArray, shortResidue, noCommand, suspendedRead, noIdentifier, tableOf, numberOf, acceptOf, decideOf}
 use Rattle.model.specs.Arrays.{arrayOf, seenOf, answerOf, arrayAfter}
 use Rattle.model_history.specs.History.{Bus, World, worldOf, stepped, worldAfter, seenOn, seenIn}

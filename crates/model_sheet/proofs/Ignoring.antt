@@ -24,11 +24,11 @@ use Rattle.model_types.specs.declared.Action.the-variants.{Ignore}
 use Rattle.model_types.specs.declared.Effect.the-variants.{Nothing}
 use Rattle.model_types.specs.declared.Reply.the-variants.{Quiet}
 use Rattle.model_types.specs.declared.Settled.{Settled}
-use Rattle.model_types.specs.Inner.{badMode}
+use Rattle.model_states.specs.Inner.{badMode}
 use Rattle.model_types.specs.Kinds.{isWrite}
-use Rattle.model_types.specs.Levels.{rpLow, vppLow, badPins, badOe, badLevels}
+use Rattle.model_levels.specs.Levels.{rpLow, vppLow, badPins, badOe, badLevels}
 use Rattle.model_types.specs.Phases.{isBusy}
-use Rattle.model_types.specs.States.{isStatus}
+use Rattle.model_states.specs.States.{isStatus}
 use Rattle.model_commands.specs.Commands.{commandOf, whileErasing, whileSuspending, whileSuspended, actionOf, isRefuse, performedOf}
 use Rattle.model_operation.specs.Settling.{settledAs, settleOf}
 use Rattle.model_rules.specs.Cycles.{early, judgeOf, pastArray, shortResidue, decidedAs, decideOf}

@@ -26,9 +26,9 @@ use Rattle.model_types.specs.declared.Reply.the-variants.{Quiet}
 use Rattle.model_types.specs.declared.Settled.{Settled}
 use Rattle.model_types.specs.declared.Decision.{Decision}
 use Rattle.model_types.specs.Kinds.{isWrite}
-use Rattle.model_types.specs.Levels.{rpLow, vppLow, locked}
+use Rattle.model_levels.specs.Levels.{rpLow, vppLow, locked}
 use Rattle.model_types.specs.Status.{SR7, withoutBits, isSet}
-use Rattle.model_types.specs.Inner.{topBits}
+use Rattle.model_states.specs.Inner.{topBits}
 use Rattle.model_types.specs.Phases.{isAwaited, isPending, isBusy, isSuspending, suspendLeft}
 use Rattle.model_commands.specs.Commands.{asksProgram, firstWrite, afterErase, whileErasing, whileSuspending, whileSuspended, commandOf, dataOf, actionOf, unsupplied, wearBy, startedOf, performedOf}
 use Rattle.model_operation.specs.Settling.{settledAs, finishOf, countedOff, suspendPassed, passedOf, settleOf}

@@ -19,9 +19,9 @@ use Rattle.model_types.specs.declared.Effect.the-variants.{Nothing}
 use Rattle.model_types.specs.declared.Reply.the-variants.{Quiet}
 use Rattle.model_types.specs.declared.Settled.{Settled}
 use Rattle.model_types.specs.Kinds.{isWrite}
-use Rattle.model_types.specs.Levels.{rpLow}
+use Rattle.model_levels.specs.Levels.{rpLow}
 use Rattle.model_types.specs.Phases.{isFree, isPending, isBusy}
-use Rattle.model_types.specs.States.{resetOf}
+use Rattle.model_states.specs.States.{resetOf}
 use Rattle.model_commands.specs.Commands.{commandOf, firstWrite, actionOf, isRefuse, performedOf, inMode}
 use Rattle.model_operation.specs.Settling.{settledAs, finishOf, cutOf, settleOf}
 use Rattle.model_rules.specs.Cycles.{decidedAs}

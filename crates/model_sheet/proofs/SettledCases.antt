@@ -23,10 +23,10 @@ use Rattle.model_types.specs.declared.Effect.{Effect}
 use Rattle.model_types.specs.declared.Effect.the-variants.{Nothing}
 use Rattle.model_types.specs.declared.Settled.{Settled}
 use Rattle.model_types.specs.declared.Decision.{Decision}
-use Rattle.model_types.specs.Levels.{rpLow, vppLow}
+use Rattle.model_levels.specs.Levels.{rpLow, vppLow}
 use Rattle.model_types.specs.Phases.{isPending, isBusy, isSuspending}
 use Rattle.model_types.specs.Status.{SR7, SR6, withBits, withoutBits}
-use Rattle.model_types.specs.States.{atRest, inPhase, resetOf}
+use Rattle.model_states.specs.States.{atRest, inPhase, resetOf}
 use Rattle.model_commands.specs.Commands.{commandOf, actionOf, isRefuse, performedOf}
 use Rattle.model_operation.specs.Settling.{settledAs, cutOf, finishOf, cutBits, cutBy, countedOff, suspendPassed, passedOf, settleOf}
 use Rattle.model_rules.specs.Cycles.{early, judgeOf, refusedBy, decidedAs, decideOf}

@@ -10,8 +10,8 @@ use Rattle.device.specs.declared.Device.{Device}
 use Rattle.model_types.specs.declared.Kind.{Kind}
 use Rattle.model_types.specs.declared.Kind.the-variants.{Read, Write, Idle}
 use Rattle.model_types.specs.Cells.{ones}
-use Rattle.model_types.specs.Levels.{vppLow, atTwelve, atFive, vppHigh, badWp, badPins, mostOe, badLevels, unlocked, locked}
-use Rattle.model_types.specs.States.{proper, improper, freshState}
+use Rattle.model_levels.specs.Levels.{vppLow, atTwelve, atFive, vppHigh, badWp, badPins, mostOe, badLevels, unlocked, locked}
+use Rattle.model_states.specs.States.{proper, improper, freshState}
 use Rattle.model_commands.specs.Commands.{commandOf, dataOf, asksProgram, firstWrite, afterErase, whileErasing, whileSuspending, whileSuspended, unsupplied, startedOf}
 use Rattle.model_operation.specs.Settling.{cutBy, countedOff, suspendPassed, passedOf, settleOf}
 use Rattle.model_rules.specs.Cycles.{pastArray, shortResidue, noCommand, suspendedRead, noIdentifier, numberOf, acceptOf, decideOf}

@@ -13,10 +13,10 @@ use Rattle.model_types.specs.declared.Phase.the-variants.{Programming}
 use Rattle.model_types.specs.declared.Mode.the-variants.{Array}
 use Rattle.model_types.specs.declared.Effect.{Effect}
 use Rattle.model_types.specs.declared.Effect.the-variants.{Nothing, Program, Erase}
-use Rattle.model_types.specs.Levels.{rpLow, vppLow, locked}
+use Rattle.model_levels.specs.Levels.{rpLow, vppLow, locked}
 use Rattle.model_types.specs.Phases.{isFree, isPending}
 use Rattle.model_types.specs.Status.{SR7, SR3, withBits, isSet}
-use Rattle.model_types.specs.States.{atRest, resetOf}
+use Rattle.model_states.specs.States.{atRest, resetOf}
 use Rattle.model_commands.specs.Commands.{commandOf, firstWrite, isRefuse, performedOf, inMode, unsupplied}
 use Rattle.model.specs.declared.Seen.the-variants.{Data, Refused}
 use Rattle.model.specs.Arrays.{erased, residual}

@@ -18,10 +18,10 @@ use Rattle.model_types.specs.declared.Mode.the-variants.{Status}
 use Rattle.model_types.specs.declared.Effect.{Effect}
 use Rattle.model_types.specs.declared.Effect.the-variants.{Nothing, Program, Erase, CutProgram, CutErase}
 use Rattle.model_types.specs.Kinds.{isWrite}
-use Rattle.model_types.specs.Levels.{rpLow, vppLow, badLevels}
+use Rattle.model_levels.specs.Levels.{rpLow, vppLow, badLevels}
 use Rattle.model_types.specs.Phases.{isFree, isPending}
 use Rattle.model_types.specs.Status.{SR7, SR6, SR5, SR4, SR3, withBits, withoutBits}
-use Rattle.model_types.specs.States.{atRest}
+use Rattle.model_states.specs.States.{atRest}
 use Rattle.model_commands.specs.Commands.{commandOf}
 use Rattle.model_operation.specs.Settling.{cutOf, finishOf, cutBits, settleOf}
 use Rattle.model_rules.specs.Cycles.{judgeOf, decideOf}

@@ -29,8 +29,8 @@ use Rattle.model_types.specs.declared.Effect.the-variants.{Nothing}
 use Rattle.model_types.specs.declared.Settled.{Settled}
 use Rattle.model_types.specs.declared.Decision.{Decision}
 use Rattle.model_types.specs.Kinds.{isRead, isWrite}
-use Rattle.model_types.specs.Levels.{rpLow, vppLow}
-use Rattle.model_types.specs.Inner.{topBits}
+use Rattle.model_levels.specs.Levels.{rpLow, vppLow}
+use Rattle.model_states.specs.Inner.{topBits}
 use Rattle.model_types.specs.Phases.{isPending, isBusy}
 use Rattle.model_types.specs.Status.{SR7, SR6, isSet}
 use Rattle.model_commands.specs.Commands.{whileErasing, whileSuspending, whileSuspended, commandOf, performedOf}

@@ -12,7 +12,7 @@ use Rattle.device.specs.declared.Device.{Device}
 use Rattle.device.specs.Parts.{blockOf}
 use Rattle.model_types.specs.declared.Phase.the-variants.{EraseAwaited, DataAwaited}
 use Rattle.model_types.specs.declared.Effect.the-variants.{Nothing}
-use Rattle.model_types.specs.Levels.{vppHigh}
+use Rattle.model_levels.specs.Levels.{vppHigh}
 use Rattle.model_types.specs.Phases.{isPending}
 use Rattle.model_commands.specs.Commands.{commandOf}
 use Rattle.model.specs.Begun.{operationOf}

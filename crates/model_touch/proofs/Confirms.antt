@@ -24,7 +24,7 @@ use Rattle.model_types.specs.declared.Phase.the-variants.{Free, EraseAwaited, D
 use Rattle.model_types.specs.declared.Effect.{Effect}
 use Rattle.model_types.specs.declared.Effect.the-variants.{Nothing, Erase}
 use Rattle.model_types.specs.Kinds.{isWrite}
-use Rattle.model_types.specs.Levels.{rpLow, vppLow, vppHigh, badWp, badPins, badOe, badLevels, unlocked, locked}
+use Rattle.model_levels.specs.Levels.{rpLow, vppLow, vppHigh, badWp, badPins, badOe, badLevels, unlocked, locked}
 use Rattle.model_types.specs.Status.{SR3, isSet}
 use Rattle.model_commands.specs.Commands.{commandOf, unsupplied}
 use Rattle.model_rules.specs.Cycles.{tableOf, numberOf}

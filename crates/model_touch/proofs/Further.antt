@@ -22,9 +22,9 @@ use Rattle.model_types.specs.declared.Decision.{Decision}
 use Rattle.model_types.specs.declared.Effect.{Effect}
 use Rattle.model_types.specs.declared.Effect.the-variants.{Nothing, Program, Erase, CutProgram, CutErase}
 use Rattle.model_types.specs.Kinds.{isWrite}
-use Rattle.model_types.specs.Levels.{rpLow, vppHigh, locked}
+use Rattle.model_levels.specs.Levels.{rpLow, vppHigh, locked}
 use Rattle.model_types.specs.Phases.{isPending}
-use Rattle.model_types.specs.States.{improper}
+use Rattle.model_states.specs.States.{improper}
 use Rattle.model_commands.specs.Commands.{unsupplied}
 use Rattle.model_rules.specs.Cycles.{numberOf, decideOf}
 use Rattle.model_rules.proofs.Facts.{parts-proper}

@@ -6,10 +6,7 @@ use native.Mathlib.Omega.{arith}
 use lib.Dec.{ltb}
 use borrow.Author.Tests.{ltb-true, ltb-false}
 use Rattle.common.specs.Choice.{if_then_else_}
-use Rattle.device.specs.declared.Device.{Device}
-use Rattle.model_types.specs.declared.State.{State}
 use Rattle.model_types.specs.declared.Wear.{Wear}
-use Rattle.model_types.specs.States.{proper, improper}
 use Rattle.model_types.specs.Counts.{stop, unworn, countOf, raised, raisedAt, worn}
 
 -- one of seven
@@ -59,9 +56,3 @@ raised-is n h = go (ltb n stop) refl
 -- .. with what came before it
 pub raised-min : (m n : ℕ) → m ≡ min n stop → raised m ≡ min (n + 1) stop
 raised-min m n e = raised-is m (omega arith) ∙ omega arith
-
--- whether a state is proper does not depend on its counts
-pub any-count : (d : Device) (s : State) (w : Wear)
-    → improper d (record { mode = s .mode; status = s .status; phase = s .phase; left = s .left; address = s .address; wear = w }) ≡ improper d s
-unfolding improper proper
-any-count d s w = refl

@@ -1,9 +1,6 @@
-// The values that the rules of a bus cycle are about: cycles, levels, states, effects and replies; when levels are bad and
-// when a state is proper.
+// The values that the rules of a bus cycle are about: cycles, levels, states, effects and replies.
 pub mod blank;
 pub mod counts;
-pub mod levels;
-pub mod states;
 
 use device::Device;
 use device::Part;

@@ -19,7 +19,7 @@ use Rattle.model_types.specs.declared.Settled.{Settled}
 use Rattle.model_types.specs.declared.State.{State}
 use Rattle.model_types.specs.declared.Phase.{Phase}
 use Rattle.model_types.specs.declared.Phase.the-variants.{Free, EraseAwaited, DataAwaited, Programming, Erasing, Suspending, Suspended}
-use Rattle.model_types.specs.Levels.{rpLow, vppLow}
+use Rattle.model_levels.specs.Levels.{rpLow, vppLow}
 use Rattle.model_types.specs.Phases.{isBusy, isPending}
 use Rattle.model_operation.specs.Settling.{cutOf, settleOf}
 use Rattle.model_rules.specs.Cycles.{decideOf, acceptOf, respondOf, replyTo}

@@ -11,7 +11,7 @@ use Rattle.device.specs.declared.Device.{Device}
 use Rattle.model_types.specs.declared.State.{State}
 use Rattle.model_types.specs.Counts.{stop, countOf}
 use Rattle.model_types.specs.Phases.{isFree}
-use Rattle.model_types.specs.States.{improper}
+use Rattle.model_states.specs.States.{improper}
 use Rattle.model_history.specs.History.{Bus, worldAfter, effectsIn, acceptsAll, uncut, totalOf, eraseOf}
 use Rattle.recording.specs.declared.Noted.{Noted}
 use Rattle.recording.specs.Recordings.{longest, timed}

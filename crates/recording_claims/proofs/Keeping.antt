@@ -14,7 +14,7 @@ use Rattle.model_types.specs.declared.Phase.{Phase}
 use Rattle.model_types.specs.declared.Phase.the-variants.{Free, EraseAwaited, DataAwaited, Programming, Erasing, Suspending, Suspended}
 use Rattle.model_types.specs.declared.State.{State}
 use Rattle.model_types.specs.Phases.{isFree, isPending}
-use Rattle.model_types.specs.States.{mostLeft, improper}
+use Rattle.model_states.specs.States.{mostLeft, improper}
 use Rattle.model_rules.proofs.Facts.{Proper, proper-parts, parts-proper}
 use Rattle.model.specs.Arrays.{answerOf}
 use Rattle.model.proofs.Claims.{stays-proper}

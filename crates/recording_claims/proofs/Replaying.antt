@@ -23,7 +23,7 @@ use Rattle.model_types.specs.declared.Reply.{Reply}
 use Rattle.model_types.specs.declared.Reply.the-variants.{Quiet, Gives, GivesArray, Refuses}
 use Rattle.model_types.specs.declared.State.{State}
 use Rattle.model_types.specs.Phases.{isAwaited, isPending}
-use Rattle.model_types.specs.States.{mostLeft}
+use Rattle.model_states.specs.States.{mostLeft}
 use Rattle.model_operation.specs.Settling.{settleOf}
 use Rattle.model_rules.specs.Cycles.{numberOf, decideOf}
 use Rattle.model_rules.proofs.Cases.{accepted}

@@ -21,8 +21,8 @@ use Rattle.model_types.specs.declared.Reply.{Reply}
 use Rattle.model_types.specs.declared.Reply.the-variants.{Quiet, Gives, GivesArray, Refuses}
 use Rattle.model_types.specs.declared.Settled.{Settled}
 use Rattle.model_types.specs.declared.State.{State}
-use Rattle.model_types.specs.States.{improper}
-use Rattle.model_types.specs.Levels.{rpLow, vppLow}
+use Rattle.model_states.specs.States.{improper}
+use Rattle.model_levels.specs.Levels.{rpLow, vppLow}
 use Rattle.model_types.specs.Phases.{isBusy, isSuspending, suspendLeft, isPending}
 use Rattle.model_operation.specs.Settling.{finishOf, countedOff, suspendPassed, passedOf, settleOf}
 use Rattle.model_rules.specs.Cycles.{numberOf, decideOf}

@@ -22,11 +22,11 @@ use Rattle.model_types.specs.declared.Phase.the-variants.{Free, EraseAwaited, D
 use Rattle.model_types.specs.declared.Reply.the-variants.{Quiet}
 use Rattle.model_types.specs.declared.Settled.{Settled}
 use Rattle.model_types.specs.declared.State.{State}
-use Rattle.model_types.specs.Levels.{rpLow, vppLow, locked}
+use Rattle.model_levels.specs.Levels.{rpLow, vppLow, locked}
 use Rattle.model_types.specs.Phases.{isAwaited, isBusy, isSuspending, suspendLeft, isPending}
 use Rattle.model_types.specs.Status.{SR4, SR5}
-use Rattle.model_types.specs.States.{mostLeft}
-use Rattle.model_types.specs.Inner.{badSuspend, badLeft, badAddress}
+use Rattle.model_states.specs.States.{mostLeft}
+use Rattle.model_states.specs.Inner.{badSuspend, badLeft, badAddress}
 use Rattle.model_commands.specs.Commands.{commandOf, dataOf, asksProgram, firstWrite, afterErase, whileErasing, whileSuspending, whileSuspended, actionOf, unsupplied, startedOf, performedOf}
 use Rattle.model_operation.specs.Settling.{cutOf, settledAs, residueFor, cutBy, countedOff, suspendPassed, passedOf, settleOf}
 use Rattle.model_rules.specs.Cycles.{shortResidue, numberOf, acceptOf, respondOf, decidedAs}

@@ -9,7 +9,7 @@ use Rattle.device.specs.declared.Device.{Device}
 use Rattle.device.specs.Parts.{unknownDevice, sizeOf}
 use Rattle.model_types.specs.declared.State.{State}
 use Rattle.model_types.specs.Phases.{isFree}
-use Rattle.model_types.specs.States.{improper}
+use Rattle.model_states.specs.States.{improper}
 use Rattle.recording.specs.declared.Noted.{Noted}
 use Rattle.recording.specs.Recordings.{faulty}
 use Rattle.recording_walk.specs.Lists.{Held, heldOf, leftBy}

@@ -9,7 +9,7 @@ use Rattle.device.specs.declared.Device.{Device}
 use Rattle.model_types.specs.declared.Effect.{Effect}
 use Rattle.model_types.specs.declared.Effect.the-variants.{Nothing, Program, Erase, CutProgram}
 use Rattle.model_types.specs.declared.Kind.the-variants.{Write}
-use Rattle.model_types.specs.Levels.{vppHigh, unlocked}
+use Rattle.model_levels.specs.Levels.{vppHigh, unlocked}
 use Rattle.model.specs.Arrays.{Accepted}
 use Rattle.model.specs.Begun.{operationOf}
 use Rattle.model_history.specs.History.{Bus, World, worldOf}

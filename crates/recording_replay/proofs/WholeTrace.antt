@@ -7,7 +7,7 @@ use lib.Dec.{ltb}
 use lib.ListN.{length, drop}
 use borrow.Author.Tests.{lt-ltb, le-ltb}
 use Rattle.common.proofs.Choice.{if-true, if-false, if-ind}
-use Rattle.model_types.specs.States.{freshState}
+use Rattle.model_states.specs.States.{freshState}
 use Rattle.text.specs.Writing.{Used}
 use Rattle.text.proofs.Laying.{used}
 use Rattle.trace_replay.specs.Replays.{goodLines, arraysOf}

@@ -6,7 +6,7 @@ use mathlib.Core.Logic.{_↔_}
 use Prim.Native.Nat.{ℕ, _*_}
 use lib.ListN.{length, take}
 use Rattle.common.specs.Lists.{Bytes}
-use Rattle.model_types.specs.States.{freshState}
+use Rattle.model_states.specs.States.{freshState}
 use Rattle.trace_replay.specs.Replays.{goodLines}
 use Rattle.recording_text.specs.Texts.{judgedOf}
 use Rattle.recording_text.specs.Written.{textOf}

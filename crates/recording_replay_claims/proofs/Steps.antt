@@ -24,7 +24,7 @@ use Rattle.model_types.specs.declared.Reply.the-variants.{Quiet, Gives, GivesAr
 use Rattle.model_types.specs.declared.Settled.{Settled}
 use Rattle.model_types.specs.declared.State.{State}
 use Rattle.model_types.specs.Cells.{ones, Cells}
-use Rattle.model_types.specs.States.{improper}
+use Rattle.model_states.specs.States.{improper}
 use Rattle.model_operation.specs.Settling.{settleOf}
 use Rattle.model_rules.specs.Cycles.{identifierOf, codePlace, replyTo, respondOf, acceptOf, decideOf}
 use Rattle.model.specs.declared.Answer.{Answer}

@@ -16,7 +16,7 @@ use Rattle.units.specs.Units.{top, lentIn, torn}
 use Rattle.device.specs.Parts.{rowOf, isLarge, unknownPart, unknownDevice, shapeOf, sizeIn, sizeOf}
 use Rattle.model_types.specs.Cells.{ones, Cells}
 use Rattle.model_types.specs.Phases.{isFree}
-use Rattle.model_types.specs.States.{freshState}
+use Rattle.model_states.specs.States.{freshState}
 use Rattle.trace_replay.specs.Replays.{benchT, goodLines, arraysOf}
 use Rattle.trace_replay.proofs.Claims.{fresh-sound, good-most}
 use Rattle.trace_replay.proofs.Scans.{good-fit}

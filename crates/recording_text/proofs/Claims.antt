@@ -3,7 +3,7 @@ use mathlib.Core.Path.{_≡_}
 use mathlib.Core.List.{List}
 use Prim.Native.Nat.{ℕ, _≤_}
 use lib.ListN.{length}
-use Rattle.model_types.specs.States.{freshState}
+use Rattle.model_states.specs.States.{freshState}
 use Rattle.recording.specs.declared.Noted.{Noted}
 use Rattle.recording_walk.specs.Lists.{checkedOf}
 use Rattle.trace_replay.specs.Replays.{benchT}

@@ -6,7 +6,7 @@ use native.Mathlib.Omega.{arith}
 use lib.ListN.{length}
 use Rattle.device.specs.declared.Device.{Device}
 use Rattle.model_types.specs.declared.State.{State}
-use Rattle.model_types.specs.States.{freshState}
+use Rattle.model_states.specs.States.{freshState}
 use Rattle.recording_walk.specs.declared.Checked.{Checked}
 use Rattle.recording_walk.specs.declared.Walk.{Walk}
 use Rattle.recording_walk.specs.Lists.{checkedOf, bytesChecked}

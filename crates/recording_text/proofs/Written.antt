@@ -9,7 +9,7 @@ use lib.ListN.{length, take, drop, length-append}
 use lib.Seq.{take-at, drop-at}
 use borrow.Author.Tests.{le-ltb}
 use Rattle.common.proofs.Choice.{if-false}
-use Rattle.model_types.specs.States.{freshState}
+use Rattle.model_states.specs.States.{freshState}
 use Rattle.recording.specs.declared.Noted.{Noted}
 use Rattle.recording_lines.specs.Records.{isRecord, recordStated, recordLineOf, RecordFits}
 use Rattle.recording_lines.proofs.Runs.{not-record}

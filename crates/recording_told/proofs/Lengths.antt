@@ -15,7 +15,7 @@ use Rattle.refusal_words.specs.Words.{refusedText}
 use Rattle.device.specs.declared.Device.{Device}
 use Rattle.model_types.specs.declared.Phase.{Phase}
 use Rattle.model_types.specs.declared.Phase.the-variants.{Free, EraseAwaited, DataAwaited, Programming, Erasing, Suspending, Suspended}
-use Rattle.model_types.specs.States.{freshState}
+use Rattle.model_states.specs.States.{freshState}
 use Rattle.recording.specs.declared.Heard.{Heard}
 use Rattle.recording.specs.declared.Heard.the-variants.{Silence, Told}
 use Rattle.recording.specs.declared.Noted.{Noted}

@@ -12,7 +12,7 @@ use Rattle.common.specs.Choice.{if_then_else_}
 use Rattle.common.proofs.Choice.{if-ind, and-left, unlike}
 use Rattle.model_types.specs.declared.Phase.{Phase}
 use Rattle.model_types.specs.declared.Phase.the-variants.{Free, EraseAwaited, DataAwaited, Programming, Erasing, Suspending, Suspended}
-use Rattle.model_types.specs.States.{freshState}
+use Rattle.model_states.specs.States.{freshState}
 use Rattle.recording.specs.declared.Noted.{Noted}
 use Rattle.recording_walk.specs.declared.Checked.{Checked}
 use Rattle.recording_walk.specs.Lists.{Held, heldOf, leftBy, passedBy, endsWell, startNumber, checkedOf}

@@ -10,7 +10,7 @@ use Rattle.text.specs.Writing.{bytes}
 use Rattle.refusal_words.specs.Words.{refusedText}
 use Rattle.device.specs.declared.Device.{Device}
 use Rattle.model_types.specs.declared.Phase.{Phase}
-use Rattle.model_types.specs.States.{freshState}
+use Rattle.model_states.specs.States.{freshState}
 use Rattle.recording.specs.declared.Noted.{Noted}
 use Rattle.recording.specs.Recordings.{faulty, whyOf}
 use Rattle.recording_walk.specs.Lists.{Held, heldOf, onward, leftBy, endsWell, startNumber}

@@ -11,7 +11,7 @@ use Rattle.device.specs.declared.Device.{Device}
 use Rattle.device.specs.Parts.{unknownDevice, sizeOf}
 use Rattle.model_types.specs.declared.State.{State}
 use Rattle.model_types.specs.Phases.{isFree, underWay}
-use Rattle.model_types.specs.States.{improper}
+use Rattle.model_states.specs.States.{improper}
 use Rattle.model.specs.Arrays.{bytesAfter}
 use Rattle.recording.specs.declared.Noted.{Noted}
 use Rattle.recording.specs.Recordings.{deviceFor, answerTo, faulty}

@@ -117,7 +117,7 @@ fn start_number(d: Device, s: State, n: usize) -> u8
     if wrong_length(d, n) {
         return 2;
     }
-    if model_types::states::improper(d, s) {
+    if model_states::improper(d, s) {
         return 3;
     }
     if under_way(s) {

@@ -12,7 +12,7 @@ use Rattle.common.proofs.Choice.{if-true}
 use Rattle.units.specs.Units.{lentIn}
 use Rattle.device.specs.Parts.{rowOf, isLarge, unknownPart, unknownDevice, shapeOf, sizeIn, sizeOf}
 use Rattle.model_types.specs.Counts.{stop, countOf}
-use Rattle.model_types.specs.States.{freshState}
+use Rattle.model_states.specs.States.{freshState}
 use Rattle.model_types.proofs.Wears.{count-unworn}
 use Rattle.model_history.specs.History.{totalOf, eraseOf}
 use Rattle.trace_replay.specs.Replays.{benchT}

@@ -9,7 +9,7 @@ use lib.ListN.{length, take}
 use lib.Seq.{take-all}
 use borrow.Author.Tests.{eq-eqb, eqb-true, eqb-false}
 use Rattle.common.proofs.Choice.{if-true}
-use Rattle.model_types.specs.States.{freshState}
+use Rattle.model_states.specs.States.{freshState}
 use Rattle.script_lines.specs.Scripts.{Script, done, line, group, closeBy, printOn, Formed, Allowed, linesIn, writtenIn, linesWritten, traceOf}
 use Rattle.script_judge.specs.declared.Judged.{Judged}
 use Rattle.script_judge.specs.Judges.{scriptJudged}

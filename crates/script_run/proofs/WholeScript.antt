@@ -9,7 +9,7 @@ use borrow.Author.Tests.{eq-eqb, ne-eqb}
 use Rattle.common.specs.Lists.{copied, overlaid}
 use Rattle.common.proofs.Choice.{if-true, if-false, if-same}
 use Rattle.model_types.specs.declared.State.{State}
-use Rattle.model_types.specs.States.{freshState}
+use Rattle.model_states.specs.States.{freshState}
 use Rattle.script_lines.specs.Scripts.{Script, printOn, Allowed, linesIn, linesWritten, traceOf}
 use Rattle.script_lines.specs.Inner.{nothing}
 use Rattle.script_lines.proofs.Claims.{written-length}

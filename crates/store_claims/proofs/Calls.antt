@@ -21,7 +21,7 @@ use Rattle.units.proofs.Widths.{lent-is}
 use Rattle.model_types.specs.declared.Pins.{Pins}
 use Rattle.model_types.specs.declared.State.{State}
 use Rattle.model_types.specs.Cells.{Cells}
-use Rattle.model_types.specs.Levels.{vppHigh}
+use Rattle.model_levels.specs.Levels.{vppHigh}
 use Rattle.file_codec.specs.File.{limit}
 use Rattle.loader_run.specs.declared.Ran.{Ran}
 use Rattle.loader_run.specs.Runs.{RunLeft, runNumber, lentRows, lentNumber, lentRun, asBytes, runFirst, runLeft, doing}

@@ -12,7 +12,7 @@ use Rattle.device.specs.Parts.{isLarge, sizeOf}
 use Rattle.model_types.specs.declared.Pins.{Pins}
 use Rattle.model_types.specs.declared.State.{State}
 use Rattle.model_types.specs.Counts.{worn}
-use Rattle.model_types.specs.Levels.{vppHigh}
+use Rattle.model_levels.specs.Levels.{vppHigh}
 use Rattle.file_block.specs.Block.{isLetter}
 use Rattle.file_codec.specs.File.{limit}
 use Rattle.loader.specs.Walks.{risesIn}

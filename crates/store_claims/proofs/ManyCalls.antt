@@ -14,7 +14,7 @@ use Rattle.device.specs.declared.Part.{Part}
 use Rattle.device.specs.declared.Device.{Device}
 use Rattle.device.specs.Parts.{sizeOf, lengthOf, startOf}
 use Rattle.file_codec.specs.File.{limit, made, outcomeBy}
-use Rattle.model_types.specs.Levels.{vppHigh}
+use Rattle.model_levels.specs.Levels.{vppHigh}
 use Rattle.store_places.specs.Store.{Judgement, Reader, Item, blank, dead, filed, junk, join, Change, changePlaceNumber, doneBy, changed, changedAll, isProper, itemsIn, hasIn, findIn, findPlaceNumber, findOf, lastUnder, Proper}
 use Rattle.store_places.proofs.Claims.{found-changed}
 use Rattle.store_places.proofs.Divided.{found-read}

@@ -14,7 +14,7 @@ use Rattle.device.specs.Parts.{startOf}
 use Rattle.model_types.specs.declared.Effect.{Effect}
 use Rattle.model_types.specs.declared.Effect.the-variants.{Program}
 use Rattle.model_types.specs.Counts.{worn}
-use Rattle.model_types.specs.Levels.{vppHigh}
+use Rattle.model_levels.specs.Levels.{vppHigh}
 use Rattle.model_history.specs.History.{totalOf, eraseOf}
 use Rattle.file_codec.specs.File.{limit}
 use Rattle.loader.specs.Walks.{risesIn}

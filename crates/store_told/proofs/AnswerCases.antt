@@ -12,7 +12,7 @@ use Rattle.common.specs.Choice.{if_then_else_}
 use Rattle.common.proofs.Choice.{if-true, if-false}
 use Rattle.device.specs.declared.Part.{Part}
 use Rattle.model_types.specs.declared.State.{State}
-use Rattle.model_types.specs.States.{freshState}
+use Rattle.model_states.specs.States.{freshState}
 use Rattle.file_codec.specs.File.{Outcome, refused, made, inRoom, leftIn}
 use Rattle.reading_text.specs.declared.NumberRead.{NumberRead}
 use Rattle.reading_text.specs.declared.NumberRead.the-variants.{Whole, NoNumber}

@@ -11,7 +11,7 @@ use Rattle.device.specs.declared.Part.{Part}
 use Rattle.device.specs.declared.Device.{Device}
 use Rattle.device.specs.Parts.{lengthOf}
 use Rattle.model_types.specs.declared.Pins.{Pins}
-use Rattle.model_types.specs.States.{freshState}
+use Rattle.model_states.specs.States.{freshState}
 use Rattle.file_codec.specs.File.{Outcome, inRoom, leftIn}
 use Rattle.reading.specs.declared.ReadingAnswer.{ReadingAnswer}
 use Rattle.reading.specs.declared.ReadingAnswer.the-variants.{Read, Refused}

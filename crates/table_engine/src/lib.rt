@@ -46,7 +46,7 @@ fn decide_judged(d: Device, s: State, c: Cycle) -> Decision
     let p = c.pins;
     let kind = c.kind;
     let t = model_operation::settle(part, s, p);
-    if model_types::levels::rp_low(p) {
+    if model_levels::rp_low(p) {
         return model_rules::settled_by(Reply::Quiet, t);
     }
     respond(kind, d, s, c, t)

@@ -8,8 +8,8 @@ use lib.ListN.{length, take, drop}
 use Rattle.common.specs.Numbers.{Foremost, row, given}
 use Rattle.model_types.specs.declared.State.{State}
 use Rattle.model_types.specs.declared.Cycle.{Cycle}
-use Rattle.model_types.specs.States.{freshState}
-use Rattle.model_types.specs.Levels.{badLevels}
+use Rattle.model_states.specs.States.{freshState}
+use Rattle.model_levels.specs.Levels.{badLevels}
 use Rattle.model_operation.specs.Settling.{settleOf}
 use Rattle.model_rules.specs.Cycles.{tableOf, numberOf, pastArray, late}
 use Rattle.model.specs.declared.Answer.{Answer}

@@ -12,7 +12,7 @@ use Rattle.common.proofs.Choice.{if-false}
 use Rattle.common.specs.Numbers.{Foremost}
 use Rattle.model_types.specs.declared.State.{State}
 use Rattle.model_types.specs.declared.Cycle.{Cycle}
-use Rattle.model_types.specs.States.{freshState}
+use Rattle.model_states.specs.States.{freshState}
 use Rattle.model_rules.specs.Cycles.{tableOf}
 use Rattle.model.specs.declared.Seen.the-variants.{Refused}
 use Rattle.model.proofs.Claims as model

@@ -15,8 +15,8 @@ use Rattle.model_types.specs.declared.Phase.{Phase}
 use Rattle.model_types.specs.declared.Phase.the-variants.{Free, EraseAwaited, DataAwaited, Programming, Erasing, Suspending, Suspended}
 use Rattle.model_types.specs.declared.State.{State}
 use Rattle.model_types.specs.declared.Cycle.{Cycle}
-use Rattle.model_types.specs.Levels.{rpLow, vppLow, badLevels}
-use Rattle.model_types.specs.States.{freshState}
+use Rattle.model_levels.specs.Levels.{rpLow, vppLow, badLevels}
+use Rattle.model_states.specs.States.{freshState}
 use Rattle.model_operation.specs.Settling.{residueFor, settleOf}
 use Rattle.model_rules.specs.Cycles.{numberOf, late, pastArray, shortResidue}
 use Rattle.model.proofs.Claims as model

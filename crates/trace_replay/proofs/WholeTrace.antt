@@ -10,7 +10,7 @@ use borrow.Author.Tests.{lt-ltb, le-ltb}
 use borrow.Rule.Slice.PartMut.{putMid, midOf, same-len-mid}
 use Rattle.common.proofs.Choice.{if-true, if-false}
 use Rattle.common.specs.Lists.{copied}
-use Rattle.model_types.specs.States.{freshState}
+use Rattle.model_states.specs.States.{freshState}
 use Rattle.trace_replay.specs.Answers.{traceEnd}
 use Rattle.trace_replay.specs.Replays.{goodLines, answersOf, arraysOf, outputOf, arrayLeft, replayedAs, replayedIn, leftInRoom, Used}
 use Rattle.trace_replay.proofs.Scans.{good-most, good-fit}

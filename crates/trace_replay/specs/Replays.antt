@@ -9,7 +9,7 @@ use Rattle.common.specs.Choice.{if_then_else_}
 use Rattle.device.specs.declared.Device.{Device}
 use Rattle.model_types.specs.declared.State.{State}
 use Rattle.model_types.specs.declared.Cycle.{Cycle}
-use Rattle.model_types.specs.States.{freshState, improper}
+use Rattle.model_states.specs.States.{freshState, improper}
 use Rattle.model.specs.declared.Answer.{Answer}
 use Rattle.model.specs.Arrays.{answerOf, cycleTold, arrayAfter}
 use Rattle.trace_lines.specs.Lines.{isLine, cycleStated}

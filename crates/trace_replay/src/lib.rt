@@ -11,7 +11,7 @@ ghost use mathlib.Core.List.{_++_};
 ghost use Prim.Native.Nat.{_+_, _*_, _≤_, _<_};
 ghost use lib.ListN.{length, take, drop};
 ghost use Rattle.common.specs.Lists.{copied};
-ghost use Rattle.model_types.specs.States.{freshState};
+ghost use Rattle.model_states.specs.States.{freshState};
 ghost use Rattle.model.specs.Arrays.{seenTold};
 ghost use Rattle.trace_lines.specs.Lines.{isLine, cycleStated};
 ghost use Rattle.trace_replay.specs.Answers.{printedOf};

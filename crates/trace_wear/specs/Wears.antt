@@ -6,7 +6,7 @@ use lib.ListN.{length, take, drop}
 use Rattle.common.specs.Choice.{if_then_else_}
 use Rattle.model_types.specs.declared.State.{State}
 use Rattle.model_types.specs.declared.Wear.{Wear}
-use Rattle.model_types.specs.States.{freshState}
+use Rattle.model_states.specs.States.{freshState}
 use Rattle.trace_lines.specs.Lines.{isLine, cycleStated}
 use Rattle.trace_replay.specs.Replays.{lineStep, arrayBy, arrayLeft}
 use Rattle.trace_wear.specs.declared.Worn.{Worn}

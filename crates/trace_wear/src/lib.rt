@@ -4,7 +4,7 @@ use model_types::Wear;
 ghost use mathlib.Core.Path.{_≡_};
 ghost use Prim.Native.Nat.{_*_, _≤_};
 ghost use lib.ListN.{length};
-ghost use Rattle.model_types.specs.States.{freshState};
+ghost use Rattle.model_states.specs.States.{freshState};
 ghost use Rattle.trace_lines.specs.Lines.{cycleStated};
 ghost use Rattle.trace_replay.specs.Replays.{lineStep, arrayBy, arraysOf};
 ghost use Rattle.trace_wear.specs.Wears.{wornOf, wornTold, countTold, arrayWorn};

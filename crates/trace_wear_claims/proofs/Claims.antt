@@ -4,7 +4,7 @@ use mathlib.Core.List.{List, _++_}
 use Prim.Native.Nat.{ℕ, _*_, _≤_, _<_}
 use lib.ListN.{length}
 use Rattle.model_types.specs.Counts.{countOf}
-use Rattle.model_types.specs.States.{freshState}
+use Rattle.model_states.specs.States.{freshState}
 use Rattle.trace_replay.specs.Replays.{benchT, goodLines, answersOf, outputOf}
 use Rattle.wear.specs.Reports.{noReport, reportOn, tallyOf}
 use Rattle.wear_claims.specs.Traces.{begunOf, wearOf, lineOf}

@@ -15,7 +15,7 @@ use Rattle.model_types.specs.declared.State.{State}
 use Rattle.model_types.specs.declared.Effect.{Effect}
 use Rattle.model_types.specs.declared.Effect.the-variants.{Nothing, Program, Erase, CutProgram, CutErase}
 use Rattle.model_types.specs.Counts.{stop, countOf}
-use Rattle.model_types.specs.States.{freshState}
+use Rattle.model_states.specs.States.{freshState}
 use Rattle.model.specs.Begun.{begunBy}
 use Rattle.model_history.specs.History.{Bus, World, worldOf, stepped, worldAfter, eraseOf, erasesBegun}
 use Rattle.model_history.proofs.Counting.{stored-fresh}

@@ -12,7 +12,7 @@ use Rattle.device.specs.declared.Device.{Device}
 use Rattle.device.specs.declared.Part.{Part}
 use Rattle.device.specs.Parts.{lengthOf}
 use Rattle.model_types.specs.declared.Pins.{Pins}
-use Rattle.model_types.specs.States.{freshState}
+use Rattle.model_states.specs.States.{freshState}
 use Rattle.loader_from_file.specs.Loads.{LoadLeft, loadLeft}
 use Rattle.loader.specs.declared.Work.the-variants.{Verify}
 use Rattle.loader_run.specs.declared.Job.{Job}

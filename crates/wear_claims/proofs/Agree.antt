@@ -11,7 +11,7 @@ use Rattle.common.specs.Choice.{if_then_else_}
 use Rattle.device.specs.declared.Device.{Device}
 use Rattle.device.specs.Parts.{lengthOf}
 use Rattle.model_types.specs.Counts.{stop}
-use Rattle.model_types.specs.States.{freshState}
+use Rattle.model_states.specs.States.{freshState}
 use Rattle.model_history.specs.History.{worldOf}
 use Rattle.model_history.proofs.Counting.{stored-fresh, none-begun}
 use Rattle.wear.specs.declared.Tally.{Tally}

@@ -5,7 +5,7 @@ use Prim.Native.Nat.{ℕ, _≤_, min}
 use Rattle.device.specs.declared.Device.{Device}
 use Rattle.model_types.specs.declared.Wear.{Wear}
 use Rattle.model_types.specs.Counts.{stop}
-use Rattle.model_types.specs.States.{freshState}
+use Rattle.model_states.specs.States.{freshState}
 use Rattle.model_history.specs.History.{Bus, worldOf, worldAfter, erasesBegun}
 use Rattle.wear.specs.declared.Tally.{Tally}
 use Rattle.wear.specs.Counted.{summary}

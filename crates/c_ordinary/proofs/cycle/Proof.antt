@@ -3,7 +3,7 @@ use mathlib.Core.Path.{_≡_, sym, _∙_}
 use mathlib.Core.Bool.{false}
 use native.Mathlib.Omega.{arith}
 use borrow.Author.Tests.{ne-eqb}
-use Rattle.model_types.specs.Levels.{vppLow}
+use Rattle.model_levels.specs.Levels.{vppLow}
 use Rattle.c_cycle.specs.Values.{deviceIn, cycleIn}
 use Rattle.c_ordinary.specs.Ordinary.{quietAs, countedAs}
 use Rattle.c_ordinary.proofs.Rest.{array-answer, status-answer, reads-array, reads-status, unwritten, command-told}

@@ -6,7 +6,7 @@ use Rattle.common.proofs.Choice.{unlike}
 use Rattle.units.specs.Units.{lentIn}
 use Rattle.device.specs.declared.Device.{Device}
 use Rattle.device.specs.Parts.{unknownDevice, sizeOf}
-use Rattle.model_types.specs.Levels.{badPins}
+use Rattle.model_levels.specs.Levels.{badPins}
 use borrow.Author.Needs.{needs}
 use Rattle.c_ordinary.proofs.is_ordinary.Statement.{statement}
 use Rattle.c_ordinary.proofs.is_ordinary.Tie as tie

@@ -1,6 +1,6 @@
 -- `c_ordinary::vpp_down` meets its contract.
 use mathlib.Core.Path.{_∙_}
-use Rattle.model_types.specs.Levels.{vppLow}
+use Rattle.model_levels.specs.Levels.{vppLow}
 use borrow.Author.Needs.{needs}
 use Rattle.c_ordinary.proofs.vpp_down.Statement.{statement}
 use Rattle.c_ordinary.proofs.vpp_down.Tie as tie

@@ -1,7 +1,7 @@
 -- `loader_quick::finished` meets its contract.
 use mathlib.Core.Path.{_∙_}
 use Prim.Native.Nat.{_+_}
-use Rattle.model_types.specs.States.{atRest}
+use Rattle.model_states.specs.States.{atRest}
 use borrow.Author.Needs.{needs}
 use Rattle.loader_quick.proofs.finished.Statement.{statement}
 use Rattle.loader_quick.proofs.finished.Tie as tie

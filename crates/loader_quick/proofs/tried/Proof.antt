@@ -3,7 +3,7 @@ use mathlib.Core.Path.{sym, ap, _∙_}
 use Prim.Native.Nat.{ℕ, _+_}
 use Rattle.common.proofs.Choice.{if-true, if-false}
 use Rattle.model_types.specs.declared.Mode.the-variants.{Status}
-use Rattle.model_types.specs.States.{atRest}
+use Rattle.model_states.specs.States.{atRest}
 use Rattle.loader_quick.specs.Quick.{triedOf}
 use borrow.Author.Needs.{needs}
 use Rattle.loader_quick.proofs.tried.Statement.{statement}

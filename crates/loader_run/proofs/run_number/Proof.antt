@@ -11,7 +11,7 @@ use Rattle.common.proofs.Choice.{if-true, if-false}
 use Rattle.common.proofs.Numbers.{given-append}
 use Rattle.device.specs.Parts.{unknownDevice, sizeOf}
 use Rattle.model_types.specs.Phases.{underWay}
-use Rattle.model_types.specs.States.{improper}
+use Rattle.model_states.specs.States.{improper}
 use Rattle.loader_steps.specs.Front.{setupRows, setupNumber}
 use Rattle.loader_run.specs.Runs.{runNumber, runFirst}
 use Rattle.loader_run.specs.declared.Job.{Job}

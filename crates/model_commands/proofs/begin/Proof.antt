@@ -7,8 +7,8 @@ use Rattle.model_commands.proofs.begin.Reads as reads
 use Rattle.model_commands.proofs.begin.Lts as lts
 use Rattle.model_commands.proofs.unsupplied.Reads as unsupplied-reads
 use Rattle.model_commands.proofs.wear_of.Reads as wear-of-reads
-use Rattle.model_types.proofs.levels.locked.Reads as locked-reads
-use Rattle.model_types.proofs.states.at_rest.Reads as at-rest-reads
+use Rattle.model_levels.proofs.locked.Reads as locked-reads
+use Rattle.model_states.proofs.at_rest.Reads as at-rest-reads
 
 -- src/lib.rt:219:8
 unsupplied-requires : tie.Need-unsupplied-requires

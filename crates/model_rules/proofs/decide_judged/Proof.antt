@@ -3,7 +3,7 @@ use mathlib.Core.Path.{sym, ap, _∙_}
 use Rattle.common.proofs.Choice.{if-true, if-false}
 use Rattle.model_types.specs.declared.Settled.{Settled}
 use Rattle.model_types.specs.declared.Reply.the-variants.{Quiet}
-use Rattle.model_types.specs.Levels.{rpLow}
+use Rattle.model_levels.specs.Levels.{rpLow}
 use Rattle.model_rules.specs.Inner.{settledBy, decideKind, decideJudged}
 use Rattle.model_rules.proofs.decide_judged.Statement.{statement}
 use Rattle.model_rules.proofs.decide_judged.Tie as tie

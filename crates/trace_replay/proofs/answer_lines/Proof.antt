@@ -6,7 +6,7 @@ use Prim.Native.Nat.{ℕ, _-_, _*_, _≤_, _<_}
 use native.Mathlib.Nat.{sub-zero}
 use lib.ListN.{length, take, drop}
 use Rattle.model_types.specs.declared.State.{State}
-use Rattle.model_types.specs.States.{freshState}
+use Rattle.model_states.specs.States.{freshState}
 use Rattle.trace_replay.specs.Replays.{answersOf, arraysOf}
 use Rattle.trace_replay.proofs.Rounds.{round-array, round-out, round-rest, round-length, round-over, arrays-over}
 use borrow.Author.Needs.{needs}

@@ -5,7 +5,7 @@ use native.Mathlib.Nat.{sub-zero}
 use native.Mathlib.Omega.{arith}
 use lib.ListN.{length, drop}
 use Rattle.model_types.specs.declared.State.{State}
-use Rattle.model_types.specs.States.{freshState}
+use Rattle.model_states.specs.States.{freshState}
 use Rattle.trace_replay.specs.Replays.{arraysOf}
 use Rattle.trace_replay.proofs.Rounds.{arrays-over}
 use Rattle.trace_wear.specs.Inner.{statesOf}

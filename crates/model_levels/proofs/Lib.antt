@@ -1,0 +1,3 @@
+pub mod Bands
+pub mod Claims
+pub mod Unique

@@ -1,0 +1,4 @@
+pub mod Proper
+pub mod Rest
+pub mod Claims
+pub mod Unique
