@@ -33,7 +33,8 @@ use Rattle.model_types.specs.declared.Settled.{Settled}
 use Rattle.model_levels.specs.Levels.{rpLow, vppLow, badPins, mostOe, badOe, badLevels}
 use Rattle.model_states.specs.States.{proper, improper}
 use Rattle.model_operation.specs.Settling.{settledAs, settleOf}
-use Rattle.model_commands.specs.Commands.{commandOf, asksProgram, firstWrite, isRefuse, performedOf}
+use Rattle.model_commands.specs.Commands.{commandOf, asksProgram, firstWrite, isRefuse}
+use Rattle.model_actions.specs.Performed.{performedOf}
 use Rattle.model_rules.specs.Cycles.{pastArray, shortResidue, judgeOf, decidedAs}
 use Rattle.model_rules.specs.Inner.{inSuspended, decideArray, decideRead, decideWrite, decideKind, decideJudged}
 use Rattle.model.specs.declared.Seen.{Seen}

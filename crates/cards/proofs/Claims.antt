@@ -5,7 +5,8 @@ use Rattle.device.specs.Parts.{rowOf, isLarge, shapeOf, sizeIn, lengthIn, offse
 use Rattle.model_levels.specs.Levels.{vppLow, atTwelve, atFive, vppHigh, badWp, mostOe, badPins, badLevels, unlocked, locked}
 use Rattle.model_types.specs.Cells.{ones}
 use Rattle.model_states.specs.States.{proper, improper}
-use Rattle.model_commands.specs.Commands.{commandOf, dataOf, asksProgram, firstWrite, afterErase, whileErasing, whileSuspending, whileSuspended, unsupplied, startedOf}
+use Rattle.model_commands.specs.Commands.{commandOf, asksProgram, firstWrite, afterErase, whileErasing, whileSuspending, whileSuspended}
+use Rattle.model_actions.specs.Performed.{dataOf, unsupplied, startedOf}
 use Rattle.model_operation.specs.Settling.{cutBy, countedOff, suspendPassed, passedOf, settleOf}
 use Rattle.model_rules.specs.Cycles.{pastArray, shortResidue, noCommand, suspendedRead, noIdentifier, numberOf, acceptOf, decideOf}
 use Rattle.model.specs.Arrays.{erased, residual, arrayAfter, answerOf}

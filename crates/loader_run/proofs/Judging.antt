@@ -21,7 +21,7 @@ use Rattle.model_types.specs.declared.Effect.the-variants.{Nothing, Program, Er
 use Rattle.model_types.specs.declared.State.{State}
 use Rattle.model_types.specs.declared.Cycle.{Cycle}
 use Rattle.model_levels.specs.Levels.{rpLow, vppLow, badPins, mostOe, badOe, badLevels, locked}
-use Rattle.model_commands.specs.Commands.{unsupplied}
+use Rattle.model_actions.specs.Performed.{unsupplied}
 use Rattle.model_operation.specs.Settling.{residueFor}
 use Rattle.model_rules.specs.Cycles.{pastArray, shortResidue, numberOf, judgeOf, decideOf}
 use Rattle.model_types.specs.Kinds.{isIdle, isWrite}

@@ -27,8 +27,9 @@ use Rattle.model_levels.specs.Levels.{rpLow, vppLow, badPins, locked, unlocked}
 use Rattle.model_states.specs.States.{atRest, mostLeft}
 use Rattle.model_states.specs.Inner.{badMode, badStatus, badLeft, badAddress}
 use Rattle.model_types.specs.Cells.{ones}
-use Rattle.model_commands.proofs.Carried.{data-cell}
-use Rattle.model_commands.specs.Commands.{commandOf, dataOf, asksProgram, actionOf, firstWrite, afterErase, whileErasing, performedOf, wearBy, startedOf, unsupplied}
+use Rattle.model_actions.proofs.Carried.{data-cell}
+use Rattle.model_commands.specs.Commands.{commandOf, asksProgram, actionOf, firstWrite, afterErase, whileErasing}
+use Rattle.model_actions.specs.Performed.{dataOf, performedOf, wearBy, startedOf, unsupplied}
 use Rattle.model_operation.specs.Settling.{settledAs, settleOf, countedOff, suspendPassed, passedOf, finishOf}
 use Rattle.model_rules.specs.Cycles.{shortResidue, noCommand, suspendedRead, noIdentifier, lateOf, decideOf, acceptOf, respondOf, decidedAs}
 use Rattle.model_types.specs.Phases.{isBusy, isSuspending, isPending, isSuspended}

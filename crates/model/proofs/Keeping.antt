@@ -24,7 +24,8 @@ use Rattle.model_levels.specs.Levels.{rpLow, vppLow, locked}
 use Rattle.model_states.specs.States.{atRest, freshState}
 use Rattle.model_states.specs.Inner.{badMode, badStatus, badLeft, badAddress, topBits}
 use Rattle.model_types.specs.Phases.{isPending, isBusy, isSuspending, suspendLeft}
-use Rattle.model_commands.specs.Commands.{asksProgram, firstWrite, afterErase, whileErasing, whileSuspending, whileSuspended, commandOf, dataOf, actionOf, performedOf, startedOf, unsupplied}
+use Rattle.model_commands.specs.Commands.{asksProgram, firstWrite, afterErase, whileErasing, whileSuspending, whileSuspended, commandOf, actionOf}
+use Rattle.model_actions.specs.Performed.{dataOf, performedOf, startedOf, unsupplied}
 use Rattle.model_operation.specs.Settling.{cutBits, cutBy, countedOff, suspendPassed, passedOf, settleOf}
 use Rattle.model_rules.specs.Cycles.{pastArray, decideOf, acceptOf, respondOf}
 use Rattle.model_rules.proofs.Facts.{Proper, Fine}

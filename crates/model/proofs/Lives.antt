@@ -25,7 +25,8 @@ use Rattle.model_types.specs.declared.Effect.{Effect}
 use Rattle.model_types.specs.declared.Effect.the-variants.{Nothing, Erase}
 use Rattle.model_levels.specs.Levels.{rpLow, vppLow, locked}
 use Rattle.model_states.specs.States.{resetOf}
-use Rattle.model_commands.specs.Commands.{asksProgram, firstWrite, afterErase, whileErasing, whileSuspending, whileSuspended, commandOf, dataOf, actionOf, performedOf, startedOf, unsupplied}
+use Rattle.model_commands.specs.Commands.{asksProgram, firstWrite, afterErase, whileErasing, whileSuspending, whileSuspended, commandOf, actionOf}
+use Rattle.model_actions.specs.Performed.{dataOf, performedOf, startedOf, unsupplied}
 use Rattle.model_operation.specs.Settling.{settledAs, cutOf, finishOf, cutBy, countedOff, suspendPassed, passedOf, settleOf}
 use Rattle.model_rules.specs.Cycles.{numberOf, decideOf, acceptOf, respondOf}
 use Rattle.model_rules.proofs.Cases.{refused, accepted}

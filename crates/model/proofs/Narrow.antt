@@ -19,7 +19,8 @@ use Rattle.model_types.specs.declared.Cycle.{Cycle}
 use Rattle.model_types.specs.declared.Settled.{Settled}
 use Rattle.model_types.specs.declared.Decision.{Decision}
 use Rattle.model_levels.specs.Levels.{badLevels, locked}
-use Rattle.model_commands.specs.Commands.{commandOf, dataOf, actionOf, unsupplied, startedOf, performedOf}
+use Rattle.model_commands.specs.Commands.{commandOf, actionOf}
+use Rattle.model_actions.specs.Performed.{dataOf, unsupplied, startedOf, performedOf}
 use Rattle.model_operation.specs.Settling.{settleOf}
 use Rattle.model_rules.specs.Cycles.{pastArray, shortResidue, noCommand, suspendedRead, noIdentifier, tableOf, numberOf, respondOf, acceptOf, decideOf}
 use Rattle.model.specs.Arrays.{arrayOf, seenOf, answerOf, arrayAfter}

@@ -27,7 +27,8 @@ use Rattle.model_types.specs.Counts.{wornBy}
 use Rattle.model_types.specs.Kinds.{isWrite}
 use Rattle.model_levels.specs.Levels.{rpLow, vppLow, locked}
 use Rattle.model_types.specs.Phases.{isPending, isBusy, isSuspending, suspendLeft, isAwaited}
-use Rattle.model_commands.specs.Commands.{asksProgram, firstWrite, afterErase, whileErasing, whileSuspending, whileSuspended, commandOf, dataOf, actionOf, performedOf, wearBy, startedOf, unsupplied}
+use Rattle.model_commands.specs.Commands.{asksProgram, firstWrite, afterErase, whileErasing, whileSuspending, whileSuspended, commandOf, actionOf}
+use Rattle.model_actions.specs.Performed.{dataOf, performedOf, wearBy, startedOf, unsupplied}
 use Rattle.model_operation.specs.Settling.{settledAs, cutBy, countedOff, suspendPassed, passedOf, settleOf}
 use Rattle.model_types.specs.declared.Reply.the-variants.{Quiet}
 use Rattle.model_rules.specs.Cycles.{numberOf, decideOf, acceptOf, respondOf, decidedAs}

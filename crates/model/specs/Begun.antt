@@ -17,7 +17,8 @@ use Rattle.model_types.specs.Counts.{wornBy}
 use Rattle.model_types.specs.Kinds.{isWrite}
 use Rattle.model_levels.specs.Levels.{rpLow, locked}
 use Rattle.model_types.specs.Phases.{isAwaited}
-use Rattle.model_commands.specs.Commands.{unsupplied, commandOf, dataOf}
+use Rattle.model_actions.specs.Performed.{unsupplied, dataOf}
+use Rattle.model_commands.specs.Commands.{commandOf}
 use Rattle.model_rules.specs.Cycles.{numberOf}
 
 -- the operation that an effect ends or cuts; an uncut effect is its own operation

@@ -32,7 +32,8 @@ use Rattle.model_types.specs.declared.Decision.{Decision}
 use Rattle.model_types.specs.Cells.{ones}
 use Rattle.model_levels.specs.Levels.{vppLow, atTwelve, vppHigh, badWp, badPins, mostOe, badOe, badLevels, unlocked, locked}
 use Rattle.model_states.specs.States.{proper, improper}
-use Rattle.model_commands.specs.Commands.{commandOf, dataOf, asksProgram, firstWrite, actionOf, unsupplied, wearBy, startedOf, performedOf}
+use Rattle.model_commands.specs.Commands.{commandOf, asksProgram, firstWrite, actionOf}
+use Rattle.model_actions.specs.Performed.{dataOf, unsupplied, wearBy, startedOf, performedOf}
 use Rattle.model_operation.specs.Settling.{cutOf, finishOf, residueFor, resetBy, cutBy, countedOff, passedOf, settleOf}
 use Rattle.model_rules.specs.Cycles.{pastArray, shortResidue, noCommand, suspendedRead, skipsLast, codePlace, noIdentifier, tableOf, numberOf, identifierOf, replyTo, respondOf, acceptOf, decideOf}
 use Rattle.model.specs.Arrays.{erased, residual, arrayOf, seenOf, arrayAfter, answerOf}

@@ -37,7 +37,8 @@ use Rattle.model_types.specs.Phases.{isBusy, isSuspending, isSuspended, isPendi
 use Rattle.model_types.specs.Status.{SR7, SR6, SR5, SR4, SR3, withBits, withoutBits, isSet}
 use Rattle.model_states.specs.States.{isArray, isIdentifier, properMode, properReady, properHeld, properLow, properLeft, properSuspend}
 use Rattle.model_states.specs.States.{atRest, inPhase, resetOf}
-use Rattle.model_commands.specs.Commands.{afterErase, whileErasing, whileSuspending, whileSuspended, isRefuse, inMode, withStatus, wearBy}
+use Rattle.model_commands.specs.Commands.{afterErase, whileErasing, whileSuspending, whileSuspended, isRefuse}
+use Rattle.model_actions.specs.Performed.{inMode, withStatus, wearBy}
 use Rattle.model_operation.specs.Settling.{settledAs, cutBits, suspendPassed}
 use Rattle.model_rules.specs.Cycles.{decidedAs, refusedBy}
 use Rattle.model.specs.Arrays.{seenOf}

@@ -1,25 +1,20 @@
--- Two results that a promise of this crate allows are equal, and so is what it leaves in each thing lent.
+-- Two results that a promise of this crate allows are equal.
 use mathlib.Core.Path.{_≡_}
 use mathlib.Core.Bool.{Bool}
 use Prim.Native.Nat.{ℕ}
 use Rattle.common.specs.Choice.{Unique}
 use Rattle.common.proofs.Choice.{only}
 use Rattle.device.specs.declared.Part.{Part}
-use Rattle.device.specs.declared.Device.{Device}
 use Rattle.model_types.specs.declared.Cycle.{Cycle}
-use Rattle.model_types.specs.declared.State.{State}
 use Rattle.model_types.specs.declared.Phase.{Phase}
 use Rattle.model_types.specs.declared.Action.{Action}
-use Rattle.model_commands.specs.Commands.{commandOf, actionOf, isRefuse, performedOf}
+use Rattle.model_commands.specs.Commands.{commandOf, actionOf, isRefuse}
 
 pub action-unique : (part : Part) (ph : Phase) (b : ℕ) → Unique (λ (r : Action). r ≡ actionOf part ph b)
 action-unique part ph b = only (actionOf part ph b)
 
 pub is-refuse-unique : (a : Action) → Unique (λ (r : Bool). r ≡ isRefuse a)
 is-refuse-unique a = only (isRefuse a)
-
-pub perform-unique : (a : Action) (d : Device) (c : Cycle) (s : State) → Unique (λ (r : State). r ≡ performedOf a d c s)
-perform-unique a d c s = only (performedOf a d c s)
 
 pub command-of-unique : (c : Cycle) → Unique (λ (r : ℕ). r ≡ commandOf c)
 command-of-unique c = only (commandOf c)

@@ -25,7 +25,8 @@ use Rattle.model_types.specs.Kinds.{isRead, isWrite, isIdle}
 use Rattle.model_levels.specs.Levels.{rpLow, vppLow, badLevels}
 use Rattle.model_types.specs.Phases.{isSuspended}
 use Rattle.model_states.specs.States.{improper, isArray, isIdentifier}
-use Rattle.model_commands.specs.Commands.{commandOf, actionOf, isRefuse, performedOf}
+use Rattle.model_commands.specs.Commands.{commandOf, actionOf, isRefuse}
+use Rattle.model_actions.specs.Performed.{performedOf}
 use Rattle.model_operation.specs.Settling.{settleOf, residueFor}
 
 -- refusal 5: the address is past the array; not asked with RP# low, nor of an idle cycle (R-number-5)

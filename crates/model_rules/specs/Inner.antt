@@ -24,7 +24,8 @@ use Rattle.model_types.specs.declared.Decision.{Decision}
 use Rattle.model_types.specs.declared.State.{State}
 use Rattle.model_types.specs.declared.Cycle.{Cycle}
 use Rattle.model_operation.specs.Settling.{settleOf}
-use Rattle.model_commands.specs.Commands.{actionOf, isRefuse, performedOf, commandOf}
+use Rattle.model_commands.specs.Commands.{actionOf, isRefuse, commandOf}
+use Rattle.model_actions.specs.Performed.{performedOf}
 use Rattle.model_rules.specs.Cycles.{decidedAs, refusedBy, identifierOf, codePlace}
 
 -- the settled state and effect under a reply

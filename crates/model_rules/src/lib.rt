@@ -1,10 +1,10 @@
 // One bus cycle on values alone: judge, settle, respond. No slice comes near it.
 use device::Device;
 use device::Part;
+use model_actions::perform;
 use model_commands::action;
 use model_commands::command_of;
 use model_commands::is_refuse;
-use model_commands::perform;
 use model_levels::bad_levels;
 use model_levels::rp_low;
 use model_levels::vpp_low;

@@ -24,7 +24,8 @@ use Rattle.model_types.specs.Kinds.{isWrite}
 use Rattle.model_levels.specs.Levels.{rpLow, vppLow, locked}
 use Rattle.model_types.specs.Phases.{isFree, isPending, isBusy, isSuspending, suspendLeft}
 use Rattle.model_types.specs.Status.{SR5, SR4, SR3, isSet}
-use Rattle.model_commands.specs.Commands.{asksProgram, firstWrite, afterErase, whileErasing, whileSuspending, whileSuspended, commandOf, dataOf, actionOf, performedOf, startedOf, unsupplied}
+use Rattle.model_commands.specs.Commands.{asksProgram, firstWrite, afterErase, whileErasing, whileSuspending, whileSuspended, commandOf, actionOf}
+use Rattle.model_actions.specs.Performed.{dataOf, performedOf, startedOf, unsupplied}
 use Rattle.model_operation.specs.Settling.{cutBits, cutBy, countedOff, suspendPassed, passedOf, settleOf}
 use Rattle.model_rules.specs.Cycles.{numberOf, decideOf, acceptOf, respondOf}
 use Rattle.model_rules.proofs.Cases.{refused, accepted}

@@ -25,7 +25,8 @@ use Rattle.model_types.specs.declared.Decision.{Decision}
 use Rattle.model_levels.specs.Levels.{rpLow, vppLow}
 use Rattle.model_types.specs.Phases.{isPending, isBusy}
 use Rattle.model_states.specs.States.{resetOf}
-use Rattle.model_commands.specs.Commands.{commandOf, firstWrite, isRefuse, performedOf}
+use Rattle.model_commands.specs.Commands.{commandOf, firstWrite, isRefuse}
+use Rattle.model_actions.specs.Performed.{performedOf}
 use Rattle.model_operation.specs.Settling.{settledAs, cutOf, cutBy, settleOf}
 use Rattle.model_rules.specs.Cycles.{decidedAs}
 use Rattle.model.specs.declared.Seen.the-variants.{Data, Refused}

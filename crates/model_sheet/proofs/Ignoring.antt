@@ -29,7 +29,8 @@ use Rattle.model_types.specs.Kinds.{isWrite}
 use Rattle.model_levels.specs.Levels.{rpLow, vppLow, badPins, badOe, badLevels}
 use Rattle.model_types.specs.Phases.{isBusy}
 use Rattle.model_states.specs.States.{isStatus}
-use Rattle.model_commands.specs.Commands.{commandOf, whileErasing, whileSuspending, whileSuspended, actionOf, isRefuse, performedOf}
+use Rattle.model_commands.specs.Commands.{commandOf, whileErasing, whileSuspending, whileSuspended, actionOf, isRefuse}
+use Rattle.model_actions.specs.Performed.{performedOf}
 use Rattle.model_operation.specs.Settling.{settledAs, settleOf}
 use Rattle.model_rules.specs.Cycles.{early, judgeOf, pastArray, shortResidue, decidedAs, decideOf}
 use Rattle.model_history.specs.History.{Bus, World, worldOf, stepped, worldAfter, seenOn, seenIn}

@@ -30,7 +30,8 @@ use Rattle.model_levels.specs.Levels.{rpLow, vppLow, locked}
 use Rattle.model_types.specs.Status.{SR7, withoutBits, isSet}
 use Rattle.model_states.specs.Inner.{topBits}
 use Rattle.model_types.specs.Phases.{isAwaited, isPending, isBusy, isSuspending, suspendLeft}
-use Rattle.model_commands.specs.Commands.{asksProgram, firstWrite, afterErase, whileErasing, whileSuspending, whileSuspended, commandOf, dataOf, actionOf, unsupplied, wearBy, startedOf, performedOf}
+use Rattle.model_commands.specs.Commands.{asksProgram, firstWrite, afterErase, whileErasing, whileSuspending, whileSuspended, commandOf, actionOf}
+use Rattle.model_actions.specs.Performed.{dataOf, unsupplied, wearBy, startedOf, performedOf}
 use Rattle.model_operation.specs.Settling.{settledAs, finishOf, countedOff, suspendPassed, passedOf, settleOf}
 use Rattle.model_rules.specs.Cycles.{numberOf, decidedAs, decideOf, respondOf}
 use Rattle.model_rules.proofs.Cases.{accepted}

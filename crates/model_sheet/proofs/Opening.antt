@@ -22,7 +22,8 @@ use Rattle.model_types.specs.Kinds.{isWrite}
 use Rattle.model_levels.specs.Levels.{rpLow}
 use Rattle.model_types.specs.Phases.{isFree, isPending, isBusy}
 use Rattle.model_states.specs.States.{resetOf}
-use Rattle.model_commands.specs.Commands.{commandOf, firstWrite, actionOf, isRefuse, performedOf, inMode}
+use Rattle.model_commands.specs.Commands.{commandOf, firstWrite, actionOf, isRefuse}
+use Rattle.model_actions.specs.Performed.{performedOf, inMode}
 use Rattle.model_operation.specs.Settling.{settledAs, finishOf, cutOf, settleOf}
 use Rattle.model_rules.specs.Cycles.{decidedAs}
 use Rattle.model.specs.Arrays.{arrayOf}

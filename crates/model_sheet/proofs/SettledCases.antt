@@ -27,7 +27,8 @@ use Rattle.model_levels.specs.Levels.{rpLow, vppLow}
 use Rattle.model_types.specs.Phases.{isPending, isBusy, isSuspending}
 use Rattle.model_types.specs.Status.{SR7, SR6, withBits, withoutBits}
 use Rattle.model_states.specs.States.{atRest, inPhase, resetOf}
-use Rattle.model_commands.specs.Commands.{commandOf, actionOf, isRefuse, performedOf}
+use Rattle.model_commands.specs.Commands.{commandOf, actionOf, isRefuse}
+use Rattle.model_actions.specs.Performed.{performedOf}
 use Rattle.model_operation.specs.Settling.{settledAs, cutOf, finishOf, cutBits, cutBy, countedOff, suspendPassed, passedOf, settleOf}
 use Rattle.model_rules.specs.Cycles.{early, judgeOf, refusedBy, decidedAs, decideOf}
 use Rattle.model_rules.proofs.Facts.{Proper, proper-parts}

@@ -27,7 +27,8 @@ use Rattle.model_levels.specs.Levels.{rpLow, vppLow, locked}
 use Rattle.model_types.specs.Phases.{isAwaited}
 use Rattle.model_types.specs.Status.{SR3, withBits, isSet}
 use Rattle.model_states.specs.States.{atRest}
-use Rattle.model_commands.specs.Commands.{asksProgram, firstWrite, afterErase, whileErasing, whileSuspending, whileSuspended, commandOf, dataOf, actionOf, isRefuse, startedOf, performedOf, unsupplied}
+use Rattle.model_commands.specs.Commands.{asksProgram, firstWrite, afterErase, whileErasing, whileSuspending, whileSuspended, commandOf, actionOf, isRefuse}
+use Rattle.model_actions.specs.Performed.{dataOf, startedOf, performedOf, unsupplied}
 use Rattle.model_operation.specs.Settling.{settledAs, settleOf}
 use Rattle.model_rules.specs.Cycles.{pastArray, shortResidue, noCommand, suspendedRead, noIdentifier, tableOf, numberOf, decideOf, acceptOf, respondOf, decidedAs}
 use Rattle.model.specs.Arrays.{isRefusal, seenOf, arrayOf, answerOf, arrayAfter}

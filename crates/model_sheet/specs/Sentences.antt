@@ -17,7 +17,8 @@ use Rattle.model_levels.specs.Levels.{rpLow, vppLow, locked}
 use Rattle.model_types.specs.Phases.{isFree, isPending}
 use Rattle.model_types.specs.Status.{SR7, SR3, withBits, isSet}
 use Rattle.model_states.specs.States.{atRest, resetOf}
-use Rattle.model_commands.specs.Commands.{commandOf, firstWrite, isRefuse, performedOf, inMode, unsupplied}
+use Rattle.model_commands.specs.Commands.{commandOf, firstWrite, isRefuse}
+use Rattle.model_actions.specs.Performed.{performedOf, inMode, unsupplied}
 use Rattle.model.specs.declared.Seen.the-variants.{Data, Refused}
 use Rattle.model.specs.Arrays.{erased, residual}
 use Rattle.model.specs.Begun.{pendingOf, askedBy}

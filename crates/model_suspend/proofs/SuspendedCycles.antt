@@ -33,7 +33,8 @@ use Rattle.model_levels.specs.Levels.{rpLow, vppLow}
 use Rattle.model_states.specs.Inner.{topBits}
 use Rattle.model_types.specs.Phases.{isPending, isBusy}
 use Rattle.model_types.specs.Status.{SR7, SR6, isSet}
-use Rattle.model_commands.specs.Commands.{whileErasing, whileSuspending, whileSuspended, commandOf, performedOf}
+use Rattle.model_commands.specs.Commands.{whileErasing, whileSuspending, whileSuspended, commandOf}
+use Rattle.model_actions.specs.Performed.{performedOf}
 use Rattle.model_operation.specs.Settling.{settledAs, cutOf, cutBy, countedOff, suspendPassed, passedOf, settleOf}
 use Rattle.model_rules.specs.Cycles.{numberOf, decideOf, acceptOf, respondOf, decidedAs}
 use Rattle.model_rules.proofs.Cases.{refused, accepted}

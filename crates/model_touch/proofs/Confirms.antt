@@ -26,7 +26,8 @@ use Rattle.model_types.specs.declared.Effect.the-variants.{Nothing, Erase}
 use Rattle.model_types.specs.Kinds.{isWrite}
 use Rattle.model_levels.specs.Levels.{rpLow, vppLow, vppHigh, badWp, badPins, badOe, badLevels, unlocked, locked}
 use Rattle.model_types.specs.Status.{SR3, isSet}
-use Rattle.model_commands.specs.Commands.{commandOf, unsupplied}
+use Rattle.model_commands.specs.Commands.{commandOf}
+use Rattle.model_actions.specs.Performed.{unsupplied}
 use Rattle.model_rules.specs.Cycles.{tableOf, numberOf}
 use Rattle.model_rules.proofs.Facts.{fine}
 use Rattle.model.specs.Arrays.{Accepted}

@@ -25,7 +25,7 @@ use Rattle.model_types.specs.Kinds.{isWrite}
 use Rattle.model_levels.specs.Levels.{rpLow, vppHigh, locked}
 use Rattle.model_types.specs.Phases.{isPending}
 use Rattle.model_states.specs.States.{improper}
-use Rattle.model_commands.specs.Commands.{unsupplied}
+use Rattle.model_actions.specs.Performed.{unsupplied}
 use Rattle.model_rules.specs.Cycles.{numberOf, decideOf}
 use Rattle.model_rules.proofs.Facts.{parts-proper}
 use Rattle.model.specs.Arrays.{isRefusal, answerOf}

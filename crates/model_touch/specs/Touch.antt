@@ -19,7 +19,7 @@ use Rattle.model_types.specs.declared.Effect.{Effect}
 use Rattle.model_types.specs.declared.Effect.the-variants.{Nothing, Program, Erase, CutProgram, CutErase}
 use Rattle.model_levels.specs.Levels.{vppHigh, unlocked, locked}
 use Rattle.model_states.specs.States.{improper}
-use Rattle.model_commands.specs.Commands.{unsupplied}
+use Rattle.model_actions.specs.Performed.{unsupplied}
 use Rattle.model_rules.specs.Cycles.{numberOf, decideOf}
 use Rattle.model.specs.declared.Answer.{Answer}
 use Rattle.model.specs.Arrays.{Accepted, answerOf, bytesAfter}

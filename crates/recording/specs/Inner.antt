@@ -12,7 +12,8 @@ use Rattle.model_types.specs.declared.Phase.{Phase}
 use Rattle.model_types.specs.declared.Phase.the-variants.{Free, EraseAwaited, DataAwaited, Programming, Erasing, Suspending, Suspended}
 use Rattle.model_types.specs.Kinds.{isWrite}
 use Rattle.model_levels.specs.Levels.{rpLow, locked}
-use Rattle.model_commands.specs.Commands.{unsupplied, commandOf}
+use Rattle.model_actions.specs.Performed.{unsupplied}
+use Rattle.model_commands.specs.Commands.{commandOf}
 use Rattle.model_rules.specs.Inner.{decideJudged}
 use Rattle.model.specs.declared.Seen.{Seen}
 use Rattle.model.specs.Arrays.{seenOf}

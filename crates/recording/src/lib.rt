@@ -15,7 +15,7 @@ use model_types::State;
 ghost use mathlib.Core.Path.{_≡_};
 ghost use Rattle.units.specs.Units.{units};
 ghost use Rattle.model_types.specs.Kinds.{isWrite};
-ghost use Rattle.model_commands.specs.Commands.{unsupplied};
+ghost use Rattle.model_actions.specs.Performed.{unsupplied};
 ghost use Rattle.model.specs.declared.Seen.the-variants.{NoData, Data};
 ghost use Rattle.recording.specs.Recordings.{starts, outside, wrongCount, cutsOff, countOf, timeOf, timed, deviceFor, agrees, faulty};
 ghost use Rattle.recording.specs.Recordings.{recordedOf, bytesRecorded, whySeen, whyOf};

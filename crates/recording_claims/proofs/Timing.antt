@@ -27,7 +27,8 @@ use Rattle.model_types.specs.Phases.{isAwaited, isBusy, isSuspending, suspendLe
 use Rattle.model_types.specs.Status.{SR4, SR5}
 use Rattle.model_states.specs.States.{mostLeft}
 use Rattle.model_states.specs.Inner.{badSuspend, badLeft, badAddress}
-use Rattle.model_commands.specs.Commands.{commandOf, dataOf, asksProgram, firstWrite, afterErase, whileErasing, whileSuspending, whileSuspended, actionOf, unsupplied, startedOf, performedOf}
+use Rattle.model_commands.specs.Commands.{commandOf, asksProgram, firstWrite, afterErase, whileErasing, whileSuspending, whileSuspended, actionOf}
+use Rattle.model_actions.specs.Performed.{dataOf, unsupplied, startedOf, performedOf}
 use Rattle.model_operation.specs.Settling.{cutOf, settledAs, residueFor, cutBy, countedOff, suspendPassed, passedOf, settleOf}
 use Rattle.model_rules.specs.Cycles.{shortResidue, numberOf, acceptOf, respondOf, decidedAs}
 use Rattle.model_rules.proofs.Facts.{Proper, Fine, parts-proper}

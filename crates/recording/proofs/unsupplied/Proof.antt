@@ -1,5 +1,5 @@
 use borrow.Author.Needs.{needs}
-use Rattle.model_commands.specs.Commands.{unsupplied}
+use Rattle.model_actions.specs.Performed.{unsupplied}
 use Rattle.recording.proofs.unsupplied.Statement.{statement}
 use Rattle.recording.proofs.unsupplied.Tie as tie
 

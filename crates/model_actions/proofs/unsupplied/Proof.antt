@@ -1,7 +1,7 @@
 use borrow.Author.Needs.{needs}
-use Rattle.model_commands.specs.Commands.{unsupplied}
-use Rattle.model_commands.proofs.unsupplied.Statement.{statement}
-use Rattle.model_commands.proofs.unsupplied.Tie as tie
+use Rattle.model_actions.specs.Performed.{unsupplied}
+use Rattle.model_actions.proofs.unsupplied.Statement.{statement}
+use Rattle.model_actions.proofs.unsupplied.Tie as tie
 
 vpp-low-requires : tie.Need-vpp-low-requires
 vpp-low-requires c κs = search needs

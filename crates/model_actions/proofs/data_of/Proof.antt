@@ -1,7 +1,7 @@
 use borrow.Author.Needs.{needs}
-use Rattle.model_commands.specs.Commands.{dataOf}
-use Rattle.model_commands.proofs.data_of.Statement.{statement}
-use Rattle.model_commands.proofs.data_of.Tie as tie
+use Rattle.model_actions.specs.Performed.{dataOf}
+use Rattle.model_actions.proofs.data_of.Statement.{statement}
+use Rattle.model_actions.proofs.data_of.Tie as tie
 
 carry-requires : tie.Need-carry-requires
 carry-requires c κs = search needs

@@ -1,8 +1,8 @@
 use borrow.Author.Needs.{needs}
-use Rattle.model_commands.proofs.wear_of.Statement.{statement}
-use Rattle.model_commands.proofs.wear_of.Tie as tie
-use Rattle.model_commands.proofs.wear_of.Reads as reads
-use Rattle.model_commands.proofs.wear_of.Lts as lts
+use Rattle.model_actions.proofs.wear_of.Statement.{statement}
+use Rattle.model_actions.proofs.wear_of.Tie as tie
+use Rattle.model_actions.proofs.wear_of.Reads as reads
+use Rattle.model_actions.proofs.wear_of.Lts as lts
 use Rattle.device.proofs.block_of.Reads as block-of-reads
 use Rattle.model_types.proofs.counts.wear_out.Reads as wear-out-reads
 

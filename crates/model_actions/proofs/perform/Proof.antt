@@ -1,6 +1,6 @@
 use borrow.Author.Needs.{needs}
-use Rattle.model_commands.proofs.perform.Statement.{statement}
-use Rattle.model_commands.proofs.perform.Tie as tie
+use Rattle.model_actions.proofs.perform.Statement.{statement}
+use Rattle.model_actions.proofs.perform.Tie as tie
 
 enum-told : tie.Need-enum-told
 enum-told c = search needs

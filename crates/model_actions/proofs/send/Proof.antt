@@ -1,7 +1,7 @@
 use borrow.Author.Needs.{needs}
-use Rattle.model_commands.specs.Commands.{startedOf}
-use Rattle.model_commands.proofs.send.Statement.{statement}
-use Rattle.model_commands.proofs.send.Tie as tie
+use Rattle.model_actions.specs.Performed.{startedOf}
+use Rattle.model_actions.proofs.send.Statement.{statement}
+use Rattle.model_actions.proofs.send.Tie as tie
 
 data-of-requires : tie.Need-data-of-requires
 data-of-requires c κs = search needs

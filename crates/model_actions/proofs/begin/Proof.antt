@@ -1,12 +1,12 @@
 use borrow.Author.Needs.{needs}
 use mathlib.Core.Path.{sym, _∙_}
-use Rattle.model_commands.specs.Commands.{startedOf}
-use Rattle.model_commands.proofs.begin.Statement.{statement}
-use Rattle.model_commands.proofs.begin.Tie as tie
-use Rattle.model_commands.proofs.begin.Reads as reads
-use Rattle.model_commands.proofs.begin.Lts as lts
-use Rattle.model_commands.proofs.unsupplied.Reads as unsupplied-reads
-use Rattle.model_commands.proofs.wear_of.Reads as wear-of-reads
+use Rattle.model_actions.specs.Performed.{startedOf}
+use Rattle.model_actions.proofs.begin.Statement.{statement}
+use Rattle.model_actions.proofs.begin.Tie as tie
+use Rattle.model_actions.proofs.begin.Reads as reads
+use Rattle.model_actions.proofs.begin.Lts as lts
+use Rattle.model_actions.proofs.unsupplied.Reads as unsupplied-reads
+use Rattle.model_actions.proofs.wear_of.Reads as wear-of-reads
 use Rattle.model_levels.proofs.locked.Reads as locked-reads
 use Rattle.model_states.proofs.at_rest.Reads as at-rest-reads
 
