@@ -342,7 +342,7 @@ pub extern "C" fn tb_file_write(letter: u8, payload: &[u8], file: &mut [u8]) -> 
     ensures result { λ r. ⌜ r ≡ writtenOf letter (now (payload .entry)) (now (file .entry)) ⌝ }
     ensures file_left { λ _. ⌜ now (file .exit) ≡ fileLeft letter (now (payload .entry)) (now (file .entry)) ⌝ }
 {
-    let written = file_codec::write(letter, payload, file);
+    let written = file_writer::write(letter, payload, file);
     c_records::sizes::written_out(written)
 }
 

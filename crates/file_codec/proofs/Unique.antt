@@ -5,8 +5,7 @@ use Prim.Native.Nat.{ℕ}
 use lib.ListN.{length}
 use Rattle.common.specs.Choice.{Unique}
 use Rattle.common.proofs.Choice.{only}
-use Rattle.file_codec.specs.File.{limit, readerOf, writerOf, inRoom, leftIn, writtenAs, judgedAs, readAs, toldBy}
-use Rattle.file_codec.specs.declared.Written.{Written}
+use Rattle.file_codec.specs.File.{limit, readerOf, inRoom, leftIn, judgedAs, readAs, toldBy}
 use Rattle.file_codec.specs.declared.Judged.{Judged}
 use Rattle.file_codec.specs.declared.ReadBack.{ReadBack}
 
@@ -24,12 +23,3 @@ read-told-unique f asked out = only (toldBy (inRoom (length out) (readerOf limit
 
 pub read-left-unique : (f : List ℕ) (asked : ℕ) (out : List ℕ) → Unique (λ (left : List ℕ). left ≡ leftIn out (inRoom (length out) (readerOf limit f asked)))
 read-left-unique f asked out = only (leftIn out (inRoom (length out) (readerOf limit f asked)))
-
-pub write-unique : (ℓ : ℕ) (p out : List ℕ) → Unique (λ (r : Written). r ≡ writtenAs (inRoom (length out) (writerOf limit ℓ p)))
-write-unique ℓ p out = only (writtenAs (inRoom (length out) (writerOf limit ℓ p)))
-
-pub write-told-unique : (ℓ : ℕ) (p out : List ℕ) → Unique (λ (told : ℕ × List ℕ). told ≡ toldBy (inRoom (length out) (writerOf limit ℓ p)))
-write-told-unique ℓ p out = only (toldBy (inRoom (length out) (writerOf limit ℓ p)))
-
-pub write-left-unique : (ℓ : ℕ) (p out : List ℕ) → Unique (λ (left : List ℕ). left ≡ leftIn out (inRoom (length out) (writerOf limit ℓ p)))
-write-left-unique ℓ p out = only (leftIn out (inRoom (length out) (writerOf limit ℓ p)))

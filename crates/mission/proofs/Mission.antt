@@ -55,7 +55,7 @@ pub record Demand1 : Type 0 where
       Exactly (lentRows j (length array) (length wanted) (length scratch)) (λ m. (r .count ≡ 0) × (r .end ≡ m)) (0 < r .count)
   pub from-file : (j : Job) (array wanted scratch f : List ℕ) (ℓ : ℕ) → let r = loadLeft j array wanted scratch f ℓ .ran in
       Exactly (loadRows j (length array) (length wanted) (length scratch) f ℓ) (λ m. (r .count ≡ 0) × (r .end ≡ m)) (0 < r .count)
-  -- .. the writer and the reader of a load file (`file_codec::write`, `read`)
+  -- .. the writer and the reader of a load file (`file_writer::write`, `file_codec::read`)
   pub writer : (ℓ : ℕ) (p : List ℕ) (room : ℕ) → let f = fileOf ℓ p in
       Ordered (writeRows limit ℓ p (row 37 (ltb room (length f)) ∷ [])) f (inRoom room (writerOf limit ℓ p))
   pub reader : (f : List ℕ) (ℓ room : ℕ) → let p = payloadOf (blocksIn f) f in

@@ -70,7 +70,7 @@ fn put_file(letter: u8, payload: &[u8], out: &mut [u8]) -> Told
         ≡ laidAt (now (out .entry)) 0
         (fileSaid (inRoom (length (now (out .entry))) (writerOf limit letter (now (payload .entry)))) .line) ⌝ }
 {
-    let written = file_codec::write(letter, payload, out);
+    let written = file_writer::write(letter, payload, out);
     match written {
         Written::Wrote(n) => Told { used: n, stream: 1 },
         Written::Refused(n) => {

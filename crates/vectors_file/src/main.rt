@@ -61,7 +61,7 @@ fn tell_read(r: file_codec::ReadBack) {
 fn make(case: &[u8], payload: &[u8], file: &mut [u8]) {
     let size = common::least(field(case, 1), payload.len());
     let room = common::least(field(case, 2), file.len());
-    tell_written(file_codec::write(byte(case, 0), &payload[0..size], &mut file[0..room]));
+    tell_written(file_writer::write(byte(case, 0), &payload[0..size], &mut file[0..room]));
 }
 
 // Two bytes of it are changed, as the numbers from k on say.

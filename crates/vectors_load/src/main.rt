@@ -70,7 +70,7 @@ fn write(case: &[u8], file: &mut [u8]) {
     vectors_text::pattern(&mut payload, 256, 3, 7);
     let size = lent(case, 1, 113200);
     common::fill(file, byte(case, 43));
-    file_codec::write(byte(case, 0), &payload[0..size], file);
+    file_writer::write(byte(case, 0), &payload[0..size], file);
     change_all(case, 2, 6, file);
 }
 

@@ -97,7 +97,7 @@ fn forge(file: &mut [u8], at: usize, b: u8) {
 
 // The file of the payload; its length.
 fn write_file(letter: u8, payload: &[u8], file: &mut [u8]) -> usize {
-    match file_codec::write(letter, payload, file) {
+    match file_writer::write(letter, payload, file) {
         Written::Wrote(n) => {
             tell_number(b"W ", n as u64);
             n

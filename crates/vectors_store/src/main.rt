@@ -487,7 +487,7 @@ fn write_file(file: &mut [u8], row: &[u8]) -> usize {
     let step = vectors_text::size_at(row, 10, 16, 3);
     vectors_text::pattern(&mut payload, 256, first, step);
     common::fill(file, 255);
-    match file_codec::write(letter, &payload[0..size], file) {
+    match file_writer::write(letter, &payload[0..size], file) {
         Written::Wrote(n) => n,
         Written::Refused(n) => 0,
     }

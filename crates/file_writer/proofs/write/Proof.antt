@@ -1,4 +1,4 @@
--- `file_codec::write` meets its contract, by one law for each way out.
+-- `file_writer::write` meets its contract, by one law for each way out.
 use borrow.Author.Needs.{needs}
 use mathlib.Core.Path.{_≡_, sym, ap, _∙_}
 use mathlib.Core.List.{_++_}
@@ -6,13 +6,13 @@ use Prim.Native.Nat.{ℕ, _*_}
 use native.Mathlib.Omega.{arith}
 use lib.ListN.{length, drop}
 use borrow.Author.Tests.{not-true, not-false}
 use Rattle.file_codec.specs.declared.Written.the-variants.{Wrote}
 use Rattle.file_codec.specs.File.{limit, refused, made, inRoom, leftIn, countOf, blocksOf, fileOf, writerOf, writtenAs}
 use Rattle.file_codec.proofs.Sizes.{blocks-length}
 use Rattle.file_codec.proofs.Told.{written-too}
 use Rattle.file_codec.proofs.Outcomes.{payload-right, writer-32, writer-36, writer-made, room-37, room-made}
-use Rattle.file_codec.proofs.write.Statement.{statement}
-use Rattle.file_codec.proofs.write.Tie as tie
+use Rattle.file_writer.proofs.write.Statement.{statement}
+use Rattle.file_writer.proofs.write.Tie as tie
 
 is-letter-requires : tie.Need-is-letter-requires
 is-letter-requires c κs = search needs

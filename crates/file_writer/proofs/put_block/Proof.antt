@@ -1,10 +1,10 @@
--- `file_codec::put_block` meets its contract.
+-- `file_writer::put_block` meets its contract.
 use borrow.Author.Needs.{needs}
-use Rattle.file_codec.proofs.SliceParts.{block-put}
+use Rattle.file_writer.proofs.SliceParts.{block-put}
 use native.Mathlib.Omega.{arith}
 use mathlib.Core.Path.{_∙_}
-use Rattle.file_codec.proofs.put_block.Statement.{statement}
-use Rattle.file_codec.proofs.put_block.Tie as tie
+use Rattle.file_writer.proofs.put_block.Statement.{statement}
+use Rattle.file_writer.proofs.put_block.Tie as tie
 
 add-end : tie.Need-add-end
 add-end c = search needs

@@ -1,12 +1,12 @@
--- `file_codec::put_head` meets its contract.
+-- `file_writer::put_head` meets its contract.
 use borrow.Author.Needs.{needs}
 use mathlib.Core.List.{[], _∷_}
 use Prim.Native.Nat.{_<_, _/_, _%_}
 use native.Mathlib.Omega.{arith}
 use lib.ListN.{length}
 use lib.Seq.{sets-eq, lt-length-sets}
-use Rattle.file_codec.proofs.put_head.Statement.{statement}
-use Rattle.file_codec.proofs.put_head.Tie as tie
+use Rattle.file_writer.proofs.put_head.Statement.{statement}
+use Rattle.file_writer.proofs.put_head.Tie as tie
 
 slice-write-out : tie.Need-slice-write-out
 slice-write-out c = search needs

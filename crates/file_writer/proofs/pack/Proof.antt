@@ -1,4 +1,4 @@
--- `file_codec::pack` meets its contract: the blocks written and the blocks left to write make up the file.
+-- `file_writer::pack` meets its contract: the blocks written and the blocks left to write make up the file.
 use mathlib.Core.Path.{_≡_, refl, ap, _∙_}
 use mathlib.Core.List.{_++_}
 use Prim.Native.Nat.{ℕ, _≤_, _-_, _+_, _*_, min}
@@ -6,11 +6,11 @@ use native.Mathlib.Omega.{arith}
 use borrow.Author.Needs.{needs}
 use lib.ListN.{length, take, drop}
 use borrow.Rule.Slice.PartMut.{same-len-mid, midOf}
 use Rattle.file_codec.specs.Layout.{blockWritten}
 use Rattle.file_codec.specs.File.{blocksOf}
-use Rattle.file_codec.proofs.SliceParts.{packed, behind, further, all-packed}
-use Rattle.file_codec.proofs.pack.Statement.{statement}
-use Rattle.file_codec.proofs.pack.Tie as tie
+use Rattle.file_writer.proofs.SliceParts.{packed, behind, further, all-packed}
+use Rattle.file_writer.proofs.pack.Statement.{statement}
+use Rattle.file_writer.proofs.pack.Tie as tie
 
 abbrev Inv-loop : tie.InvT-loop
 Inv-loop out₀ letter payload n i₀ from₀ out i from =

@@ -1,9 +1,9 @@
--- `file_codec::payload_wrong` meets its contract.
+-- `file_writer::payload_wrong` meets its contract.
 use borrow.Author.Needs.{needs}
 use mathlib.Core.Path.{refl}
 use Rattle.file_codec.specs.File.{payloadWrong}
-use Rattle.file_codec.proofs.payload_wrong.Statement.{statement}
-use Rattle.file_codec.proofs.payload_wrong.Tie as tie
+use Rattle.file_writer.proofs.payload_wrong.Statement.{statement}
+use Rattle.file_writer.proofs.payload_wrong.Tie as tie
 
 mul-over : tie.Need-mul-over
 mul-over c = search needs

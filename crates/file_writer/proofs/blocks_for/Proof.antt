@@ -2,9 +2,9 @@
 use borrow.Author.Needs.{needs}
 use Prim.Native.Nat.{_+_, _/_, _<_}
 use native.Mathlib.Omega.{arith}
 use Rattle.file_codec.proofs.Shifts.{eight-times}
-use Rattle.file_codec.proofs.blocks_for.Statement.{statement}
-use Rattle.file_codec.proofs.blocks_for.Tie as tie
+use Rattle.file_writer.proofs.blocks_for.Statement.{statement}
+use Rattle.file_writer.proofs.blocks_for.Tie as tie
 
 add-all : tie.Need-add-all
 add-all c = search needs

@@ -1,4 +1,4 @@
--- `file_codec::put_check` meets its contract.
+-- `file_writer::put_check` meets its contract.
 use borrow.Author.Needs.{needs}
 use mathlib.Core.List.{[], _∷_, _++_}
 use Prim.Native.Nat.{ℕ, _/_, _%_}
@@ -7,8 +7,8 @@ use lib.Seq.{sets-eq}
 use Rattle.file_check.specs.Check.{checkOf}
 use native.Mathlib.Omega.{arith}
 use mathlib.Core.Path.{_≡_, ap, _∙_}
-use Rattle.file_codec.proofs.put_check.Statement.{statement}
-use Rattle.file_codec.proofs.put_check.Tie as tie
+use Rattle.file_writer.proofs.put_check.Statement.{statement}
+use Rattle.file_writer.proofs.put_check.Tie as tie
 
 check-requires : tie.Need-check-requires
 check-requires c κs = search needs

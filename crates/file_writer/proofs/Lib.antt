@@ -1,0 +1,2 @@
+pub mod SliceParts
+pub mod Unique
