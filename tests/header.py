@@ -113,7 +113,7 @@ operators = sorted(int(n) for n in re.findall(r"^- \*\*(\d+)\*\* ", told_of, re.
 same("refusals, beside docs/OPERATORS.md", refusals, operators)
 given = {int(n) for n in re.findall(r"\brow (\d+) \(", text("*/specs/*.antt"))}
 given |= {int(n) for n in re.findall(r"\b(?:then|else) (2[0-4])\b", text("loader/specs/*.antt"))}
-given |= {int(n) for n in re.findall(r"(?:endedBy l|stage = Ended) (2\d)\b", text("loader/specs/*.antt"))}
+given |= {int(n) for n in re.findall(r"(?:endedBy l|stage = Ended) (2\d)\b", text("loader_moves/specs/*.antt"))}
 given |= {int(n) for n in re.findall(r"refused (3\d)\b", text("*/specs/*.antt"))}
 same("refusals, beside the tables of specs/", refusals, sorted(given))
 

@@ -27,7 +27,7 @@ use Rattle.units.proofs.Widths.{lent-length}
 use Rattle.model.specs.Arrays.{answerOf, bytesAfter}
 use Rattle.model.proofs.Claims as model-claims
 use Rattle.loader.specs.Stages.{isEnded, endBy}
-use Rattle.loader.specs.Moves.{nextOf}
+use Rattle.loader_moves.specs.Moves.{nextOf}
 use Rattle.loader.specs.declared.Response.{Response}
 use Rattle.loader.specs.declared.Loader.{Loader}
 use Rattle.loader.specs.declared.Saying.{Saying}

@@ -15,7 +15,7 @@ use Rattle.model_levels.specs.Levels.{atTwelve, badWp, vppLow, vppHigh, badPins
 use Rattle.model_states.specs.States.{proper, improper, freshState, atRest}
 use Rattle.model_types.specs.declared.Mode.the-variants.{Array}
 use Rattle.loader_steps.specs.Front.{barredPins, noBlock, wrongLengths}
-use Rattle.loader.specs.Walks.{risesIn}
+use Rattle.loader_walk.specs.Walks.{risesIn}
 use Rattle.loader_run.specs.declared.Ran.{Ran}
 use Rattle.loader_run.specs.Runs.{runNumber, runFirst, jobOf}
 use Rattle.loader_run_claims.specs.Wear.{differing, heldIn, formula, loadFormula}

@@ -1,4 +1,3 @@
 pub mod Inner
 pub mod Stages
-pub mod Walks
-pub mod Moves
+pub mod Statuses

@@ -1,7 +1,7 @@
-// The loader's record, and where a byte read takes it. A cycle is out at each stage; `loader_steps` gives it and takes the byte.
-pub mod moves;
+// The loader's record, what each stage is, and what a status says. A cycle is out at each stage; `loader_steps` gives it and takes the
+// byte, `loader_moves` has where that takes the record.
 pub mod stages;
-pub mod walk;
+pub mod statuses;
 
 use device::Part;
 use model_types::Cycle;

@@ -11,7 +11,7 @@ use borrow.Author.Tests.{eq-eqb, ne-eqb, eqb-true, eqb-false}
 use Rattle.common.specs.Lists.{Bytes}
 use Rattle.units.specs.Units.{wordOf, pairs, units, torn}
 use Rattle.units.proofs.Pairs.{and-word}
-use Rattle.loader.specs.Walks.{mustRise, rises, risesIn}
+use Rattle.loader_walk.specs.Walks.{mustRise, rises, risesIn}
 use Rattle.loader_blocks.proofs.Laws.{or-three}
 
 -- two words are the same where both bytes are

@@ -17,7 +17,7 @@ use Rattle.common.specs.Lists.{overwritten, Bytes}
 use Rattle.common.proofs.Lists.{overwritten-more}
 use Rattle.model_types.specs.Cells.{ones}
 use Rattle.model_types.proofs.Ones.{and-ones}
-use Rattle.loader.specs.Walks.{mustRise, rises, risesIn, nextDiff, diffFrom}
+use Rattle.loader_walk.specs.Walks.{mustRise, rises, risesIn, nextDiff, diffFrom}
 use Rattle.loader_blocks.specs.Blocks.{costs, readTo, Falling}
 
 -- the bits that must rise, gathered: none is there exactly where none was and no bit of the next unit must rise

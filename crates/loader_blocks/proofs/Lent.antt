@@ -11,7 +11,7 @@ use Rattle.common.proofs.Choice.{if-true, if-false, and-left, and-right}
 use Rattle.common.specs.Lists.{overwritten}
 use Rattle.units.specs.Units.{units, spare, unitsIn, torn}
 use Rattle.units.proofs.Widths.{units-length, few-law, no-spare}
-use Rattle.loader.specs.Walks.{risesIn, diffFrom}
+use Rattle.loader_walk.specs.Walks.{risesIn, diffFrom}
 use Rattle.loader_blocks.specs.declared.Done.{Done}
 use Rattle.loader_blocks.specs.declared.Found.{Found}
 use Rattle.loader_blocks.specs.Blocks.{alike, workDone, readTo, blockDone, blockLeft, roomLeft, blockFound, blockRead, blockMet, blockSeen}

@@ -9,7 +9,7 @@ use lib.Bits.{bitAnd}
 use Rattle.common.specs.Choice.{if_then_else_}
 use Rattle.common.specs.Lists.{overwritten}
 use Rattle.units.specs.Units.{units, torn, top}
-use Rattle.loader.specs.Walks.{risesIn, diffFrom}
+use Rattle.loader_walk.specs.Walks.{risesIn, diffFrom}
 use Rattle.loader_blocks.specs.declared.Done.{Done}
 use Rattle.loader_blocks.specs.declared.Found.{Found}
 

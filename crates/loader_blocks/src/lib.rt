@@ -10,7 +10,7 @@ ghost use lib.Dec.{eqb};
 ghost use Rattle.common.specs.Choice.{if_then_else_};
 ghost use Rattle.common.specs.Lists.{overwritten};
 ghost use Rattle.units.specs.Units.{units, spare, pairs, torn};
-ghost use Rattle.loader.specs.Walks.{risesIn, diffFrom};
+ghost use Rattle.loader_walk.specs.Walks.{risesIn, diffFrom};
 ghost use Rattle.loader_blocks.specs.Blocks.{alike, costs, Falling, Workable, workDone, readTo, blockDone, blockLeft, roomLeft};
 ghost use Rattle.loader_blocks.specs.Blocks.{blockFound, blockRead, blockMet, blockSeen};
 

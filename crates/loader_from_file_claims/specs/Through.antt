@@ -13,7 +13,7 @@ use Rattle.model_levels.specs.Levels.{vppHigh, unlocked}
 use Rattle.model_states.specs.States.{atRest}
 use Rattle.units.specs.Units.{units}
 use Rattle.units.specs.Address.{byteOf}
-use Rattle.loader.specs.Walks.{risesIn}
+use Rattle.loader_walk.specs.Walks.{risesIn}
 use Rattle.loader_run.specs.Runs.{lentRun, doing}
 use Rattle.loader_run_claims.specs.Wear.{heldIn, formula}
 use Rattle.loader_run_claims.specs.Ends.{erasedFrom}

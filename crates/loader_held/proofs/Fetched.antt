@@ -6,7 +6,7 @@ use Prim.Native.Nat.{ℕ}
 use lib.Dec.{ltb}
 use Rattle.common.proofs.Choice.{if-false}
 use Rattle.loader.specs.declared.Loader.{Loader}
-use Rattle.loader.specs.Moves.{nextOf}
+use Rattle.loader_moves.specs.Moves.{nextOf}
 use Rattle.loader_stores.specs.Stores.{storeOf}
 use Rattle.loader_held.specs.declared.Hold.{Hold}
 use Rattle.loader_held.specs.Holds.{usual, pairOf, fetchOn, fetchStored}

@@ -7,8 +7,9 @@ use lib.ListN.{length}
 use lib.Dec.{eqb, ltb, leb}
 use Rattle.common.proofs.Choice.{if-ind}
 use Rattle.loader.specs.declared.Loader.{Loader}
-use Rattle.loader.specs.Moves.{endedBy, statusIn, isReady, eraseEnd}
-use Rattle.loader.specs.Inner.{past}
+use Rattle.loader_moves.specs.Moves.{endedBy}
+use Rattle.loader.specs.Statuses.{statusIn, isReady, eraseEnd}
+use Rattle.loader_moves.specs.Inner.{past}
 use Rattle.loader_stores.specs.Stores.{storeOf}
 use Rattle.loader_steps.proofs.StartAndStep.{Kept, kept-next}
 use Rattle.loader_held.specs.declared.Step.{Step}

@@ -9,7 +9,7 @@ use Rattle.loader.specs.declared.Loader.{Loader}
 use Rattle.loader_held.specs.declared.Step.{Step}
 use Rattle.loader_held.specs.declared.Hold.{Hold}
 use Rattle.loader_held.specs.declared.Pair.{Pair}
-use Rattle.loader.specs.Inner.{past}
+use Rattle.loader_moves.specs.Inner.{past}
 use Rattle.loader_held.specs.Holds.{usual, pairOf, heldNext, heldCycle}
 
 -- what store_room and held_next leave is told by its units and its spare byte (`left-unique` of units)

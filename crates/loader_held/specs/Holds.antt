@@ -16,8 +16,9 @@ use Rattle.loader.specs.declared.Stage.{Stage}
 use Rattle.loader.specs.declared.Stage.the-variants.{Clearing, Opening, Reading, EraseAsking, EraseConfirming, EraseWaiting, ProgramAsking}
 use Rattle.loader.specs.declared.Stage.the-variants.{ProgramSending, ProgramWaiting, Closing, Verifying, Ended}
 use Rattle.loader.specs.declared.Loader.{Loader}
-use Rattle.loader.specs.Moves.{nextOf, movedTo, endedBy, statusIn, isReady, eraseEnd}
-use Rattle.loader.specs.Inner.{past}
+use Rattle.loader_moves.specs.Moves.{nextOf, movedTo, endedBy}
+use Rattle.loader.specs.Statuses.{statusIn, isReady, eraseEnd}
+use Rattle.loader_moves.specs.Inner.{past}
 use Rattle.loader_steps.specs.Addresses.{firstAddress}
 use Rattle.loader_steps.specs.Outs.{cycleOf, cycleAt}
 use Rattle.loader_stores.specs.Stores.{storeOf}

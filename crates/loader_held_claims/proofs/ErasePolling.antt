@@ -28,7 +28,7 @@ use Rattle.model.specs.Arrays.{erased}
 use Rattle.model.proofs.Keeping.{st}
 use Rattle.loader.specs.declared.Stage.the-variants.{EraseWaiting}
 use Rattle.loader.specs.declared.Loader.{Loader}
-use Rattle.loader.specs.Moves.{nextOf, pollMore, erasePolled}
+use Rattle.loader_moves.specs.Moves.{nextOf, pollMore, erasePolled}
 use Rattle.loader_steps.specs.Addresses.{firstAddress}
 use Rattle.loader_stores.specs.Stores.{storeOf, erasedWell}
 use Rattle.loader_run_claims.specs.Made.{busCycle as cyc}

@@ -22,8 +22,9 @@ use Rattle.model.proofs.Status.{fits}
 use Rattle.loader.specs.declared.Stage.{Stage}
 use Rattle.loader.specs.declared.Stage.the-variants.{EraseAsking, EraseConfirming, EraseWaiting, Ended}
 use Rattle.loader.specs.declared.Loader.{Loader}
-use Rattle.loader.specs.Walks.{risesIn}
-use Rattle.loader.specs.Moves.{nextOf, isReady, eraseEnd}
+use Rattle.loader_walk.specs.Walks.{risesIn}
+use Rattle.loader_moves.specs.Moves.{nextOf}
+use Rattle.loader.specs.Statuses.{isReady, eraseEnd}
 use Rattle.loader_stores.specs.Stores.{storeOf}
 use Rattle.loader_run_claims.specs.Made.{openingThen, busCycle as cyc}
 use Rattle.loader_run_claims.specs.Mission.{Taken}

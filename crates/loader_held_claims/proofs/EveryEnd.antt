@@ -25,9 +25,9 @@ use Rattle.model_types.specs.declared.Cycle.{Cycle}
 use Rattle.model_types.specs.Counts.{worn}
 use Rattle.model_levels.specs.Levels.{vppLow, unlocked}
 use Rattle.model.proofs.Status.{fits}
-use Rattle.loader.specs.Walks.{risesIn}
+use Rattle.loader_walk.specs.Walks.{risesIn}
 use Rattle.loader.specs.Stages.{isEnded}
-use Rattle.loader.specs.Moves.{isReady, eraseEnd, bothErrors}
+use Rattle.loader.specs.Statuses.{isReady, eraseEnd, bothErrors}
 use Rattle.loader_steps.specs.Front.{endAddress}
 use Rattle.loader_run.specs.declared.Ran.{Ran}
 use Rattle.loader_run.specs.Turns.{Config, after}

@@ -31,8 +31,8 @@ use Rattle.model.proofs.Keeping.{st}
 use Rattle.loader.specs.declared.Stage.{Stage}
 use Rattle.loader.specs.declared.Stage.the-variants.{EraseAsking, EraseConfirming, EraseWaiting, Ended}
 use Rattle.loader.specs.declared.Loader.{Loader}
-use Rattle.loader.specs.Walks.{risesIn, diffFrom}
-use Rattle.loader.specs.Moves.{nextOf}
+use Rattle.loader_walk.specs.Walks.{risesIn, diffFrom}
+use Rattle.loader_moves.specs.Moves.{nextOf}
 use Rattle.loader_steps.specs.Addresses.{firstAddress}
 use Rattle.loader_run.specs.Turns.{Config, after}
 use Rattle.loader_run.proofs.Turning.{conf}

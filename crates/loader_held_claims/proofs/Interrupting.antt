@@ -33,8 +33,9 @@ use Rattle.model.specs.Begun.{begunFrom}
 use Rattle.model.proofs.Keeping.{st}
 use Rattle.loader.specs.declared.Stage.the-variants.{EraseWaiting}
 use Rattle.loader.specs.declared.Loader.{Loader}
-use Rattle.loader.specs.Moves.{nextOf, eraseEnd, bothErrors}
-use Rattle.loader.specs.Inner.{past}
+use Rattle.loader_moves.specs.Moves.{nextOf}
+use Rattle.loader.specs.Statuses.{eraseEnd, bothErrors}
+use Rattle.loader_moves.specs.Inner.{past}
 use Rattle.loader_steps.specs.Addresses.{firstAddress}
 use Rattle.loader_stores.specs.Stores.{storeOf}
 use Rattle.loader_run_claims.specs.Made.{pollsThen, busCycle as cyc}

@@ -15,9 +15,9 @@ use Rattle.model.specs.declared.Seen.the-variants.{NoData, Data, Refused}
 use Rattle.loader.specs.declared.Stage.{Stage}
 use Rattle.loader.specs.declared.Stage.the-variants.{Clearing, Opening, Reading, EraseAsking, EraseConfirming, EraseWaiting, ProgramAsking, ProgramSending, ProgramWaiting, Closing, Verifying, Ended}
 use Rattle.loader.specs.declared.Loader.{Loader}
-use Rattle.loader.specs.Walks.{risesIn}
+use Rattle.loader_walk.specs.Walks.{risesIn}
 use Rattle.loader.specs.Stages.{isEnded}
-use Rattle.loader.specs.Moves.{nextIn, afterRead, afterReads, onward}
+use Rattle.loader_moves.specs.Moves.{nextIn, afterRead, afterReads, onward}
 use Rattle.loader_steps.specs.Outs.{cycleOf}
 use Rattle.loader_run.specs.Turns.{Config, loaderBy, answerTo, turnOf, after}
 use Rattle.loader_run.proofs.Turning.{turn-ended, turn-going}

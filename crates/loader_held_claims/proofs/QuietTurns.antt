@@ -14,10 +14,11 @@ use Rattle.model.specs.declared.Seen.the-variants.{NoData, Data, Refused}
 use Rattle.loader.specs.declared.Stage.{Stage}
 use Rattle.loader.specs.declared.Stage.the-variants.{Clearing, Opening, Reading, EraseAsking, EraseConfirming, EraseWaiting, ProgramAsking, ProgramSending, ProgramWaiting, Closing, Verifying, Ended}
 use Rattle.loader.specs.declared.Loader.{Loader}
-use Rattle.loader.specs.Walks.{diffFrom}
+use Rattle.loader_walk.specs.Walks.{diffFrom}
 use Rattle.loader.specs.Stages.{isEnded}
-use Rattle.loader.specs.Moves.{isReady, eraseEnd, programEnd, loadedStage, statusIn, nextIn, onward, pollMore, erasePolled, programPolled, verifyMore}
-use Rattle.loader.specs.Inner.{past}
+use Rattle.loader.specs.Statuses.{isReady, eraseEnd, programEnd, statusIn}
+use Rattle.loader_moves.specs.Moves.{loadedStage, nextIn, onward, pollMore, erasePolled, programPolled, verifyMore}
+use Rattle.loader_moves.specs.Inner.{past}
 use Rattle.loader_run.specs.Turns.{Config, loaderBy, answerTo, turnOf, after}
 use Rattle.loader_run.proofs.Turning.{turn-ended, turn-going}
 use Rattle.loader_held_claims.specs.HeldMade.{pollsErase}

@@ -23,7 +23,7 @@ use Rattle.model.proofs.Keeping.{times}
 use Rattle.loader.specs.declared.Stage.{Stage}
 use Rattle.loader.specs.declared.Stage.the-variants.{EraseAsking}
 use Rattle.loader.specs.declared.Loader.{Loader}
-use Rattle.loader.specs.Walks.{risesIn, diffFrom}
+use Rattle.loader_walk.specs.Walks.{risesIn, diffFrom}
 use Rattle.loader_run.specs.Turns.{Config, after}
 use Rattle.loader_run.specs.Runs.{runNumber, beginning, doing}
 use Rattle.loader_run.proofs.UnrefusedRun.{Good}

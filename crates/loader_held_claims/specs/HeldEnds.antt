@@ -13,7 +13,7 @@ use Rattle.model_types.specs.declared.Pins.{Pins}
 use Rattle.model_types.specs.declared.Kind.the-variants.{Read, Write}
 use Rattle.model_types.specs.declared.Cycle.{Cycle}
 use Rattle.model_types.specs.declared.Mode.the-variants.{Array}
-use Rattle.loader.specs.Walks.{risesIn}
+use Rattle.loader_walk.specs.Walks.{risesIn}
 use Rattle.loader.specs.Stages.{isEnded}
 use Rattle.loader_run.specs.declared.Ran.{Ran}
 use Rattle.loader_run.specs.Runs.{ranBy, beginning, doing}

@@ -10,7 +10,7 @@ use Rattle.common.proofs.Numbers.{no-row-given, no-head, no-tail}
 use Rattle.device.specs.Parts.{startOf, lengthOf}
 use Rattle.units.specs.Units.{units, back, spare}
 use Rattle.units.proofs.Widths.{lent-is, all-bytes}
-use Rattle.loader.specs.Walks.{risesIn}
+use Rattle.loader_walk.specs.Walks.{risesIn}
 use Rattle.loader_run.specs.declared.Ran.{Ran}
 use Rattle.loader_run.specs.Runs.{runNumber, lentRows, lentNumber, RunLeft, asBytes, runLeft, lentRun, doing, runFirst}
 use Rattle.loader_run.proofs.Lending.{units-number, some, lent-made}

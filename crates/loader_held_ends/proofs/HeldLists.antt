@@ -17,9 +17,9 @@ use Rattle.model.specs.declared.Seen.the-variants.{NoData, Data, Refused}
 use Rattle.loader.specs.declared.Stage.{Stage}
 use Rattle.loader.specs.declared.Stage.the-variants.{Clearing, Opening, Reading, EraseAsking, EraseConfirming, EraseWaiting, ProgramAsking, ProgramSending, ProgramWaiting, Closing, Verifying, Ended}
 use Rattle.loader.specs.declared.Loader.{Loader}
-use Rattle.loader.specs.Walks.{risesIn}
+use Rattle.loader_walk.specs.Walks.{risesIn}
 use Rattle.loader.specs.Stages.{isEnded}
-use Rattle.loader.specs.Moves.{nextOf, movedTo}
+use Rattle.loader_moves.specs.Moves.{nextOf, movedTo}
 use Rattle.loader_stores.specs.Stores.{storeOf}
 use Rattle.loader_run_claims.specs.Made.{busCycle, openingThen, closingBy, programmingThen}
 use Rattle.loader_run_claims.specs.Wear.{programsIn}

@@ -19,7 +19,7 @@ use Rattle.model_types.specs.Counts.{stop, countOf}
 use Rattle.model_levels.specs.Levels.{vppLow, unlocked}
 use Rattle.model_levels.proofs.Bands.{not-low}
 use Rattle.model_history.specs.History.{Bus, World, worldOf, worldAfter, begunOver, totalOf, eraseOf, programOf, erasesBegun, programsBegun}
-use Rattle.loader.specs.Walks.{risesIn}
+use Rattle.loader_walk.specs.Walks.{risesIn}
 use Rattle.loader_run.specs.declared.Ran.{Ran}
 use Rattle.loader_run_claims.specs.Wear.{heldIn, heldBy, formulaBy}
 use Rattle.loader_run_claims.specs.Ends.{asWanted, shut, endNumber, Whole}

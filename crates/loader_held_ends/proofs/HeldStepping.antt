@@ -21,7 +21,7 @@ use Rattle.model.specs.declared.Seen.the-variants.{NoData, Data, Refused}
 use Rattle.model.specs.Arrays.{answerOf, arrayAfter, isRefusal}
 use Rattle.loader.specs.declared.Loader.{Loader}
 use Rattle.loader.specs.declared.Saying.the-variants.{Over}
-use Rattle.loader.specs.Moves.{statusIn}
+use Rattle.loader.specs.Statuses.{statusIn}
 use Rattle.loader.specs.Stages.{isEnded, endBy}
 use Rattle.loader_steps.specs.Front.{barredPins, startNumber, endAddress}
 use Rattle.loader_steps.proofs.StartAndStep.{taken}

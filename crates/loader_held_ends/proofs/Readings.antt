@@ -15,7 +15,7 @@ use Rattle.device.specs.declared.Device.{Device}
 use Rattle.device.specs.Parts.{rowOf, inWords, shapeOf, sizeIn, lengthIn, offsetIn, startIn, sizeOf, startOf, lengthOf, blockOf}
 use Rattle.units.specs.Units.{units}
 use Rattle.model_types.specs.declared.Pins.{Pins}
-use Rattle.loader.specs.Walks.{risesIn}
+use Rattle.loader_walk.specs.Walks.{risesIn}
 use Rattle.loader_run.specs.declared.Ran.{Ran}
 use Rattle.loader_run_claims.specs.Wear.{heldIn, programsIn}
 use Rattle.loader_run_claims.specs.Ends.{endNumber, Whole}

@@ -11,7 +11,7 @@ use Rattle.device.specs.Parts.{startOf, lengthOf}
 use Rattle.units.specs.Units.{units, back, bytesIn}
 use Rattle.units.specs.Address.{byteOf}
 use Rattle.model_levels.specs.Levels.{vppHigh, unlocked}
-use Rattle.loader.specs.Walks.{risesIn}
+use Rattle.loader_walk.specs.Walks.{risesIn}
 use Rattle.loader_run_claims.specs.Wear.{heldIn, formulaBy}
 use Rattle.loader_held_run.specs.HeldRuns.{heldRunRows, HeldLeft, lentHeld}
 use Rattle.loader_held_claims.specs.HeldMade.{readAt, interrupts, interruptions, addedIn}

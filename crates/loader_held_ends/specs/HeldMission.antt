@@ -13,7 +13,7 @@ use Rattle.model_types.specs.declared.Cycle.{Cycle}
 use Rattle.model_types.specs.declared.Effect.{Effect}
 use Rattle.model_types.specs.Counts.{stop, countOf}
 use Rattle.model_history.specs.History.{Bus, worldOf, busesOf, worldAfter, begunOver, acceptsAll, totalOf, eraseOf}
-use Rattle.loader.specs.Walks.{risesIn}
+use Rattle.loader_walk.specs.Walks.{risesIn}
 use Rattle.loader_run_claims.specs.Wear.{begunAt, heldIn, heldBy, notedAll, operationsOf, formulaBy}
 use Rattle.loader_run_claims.specs.Ends.{bytesAs, scratchAs}
 use Rattle.loader_run_claims.specs.Mission.{Start, Brings, NoFewer}

@@ -13,8 +13,9 @@ use Rattle.loader.specs.declared.Stage.{Stage}
 use Rattle.loader.specs.declared.Stage.the-variants.{Clearing, Opening, Reading, EraseAsking, EraseConfirming, EraseWaiting, ProgramAsking, ProgramSending, ProgramWaiting, Closing, Verifying, Ended}
 use Rattle.loader.specs.declared.Loader.{Loader}
 use Rattle.loader.specs.Stages.{isEnded}
-use Rattle.loader.specs.Moves.{nextOf, statusIn, isReady, eraseEnd}
-use Rattle.loader.specs.Inner.{past}
+use Rattle.loader_moves.specs.Moves.{nextOf}
+use Rattle.loader.specs.Statuses.{statusIn, isReady, eraseEnd}
+use Rattle.loader_moves.specs.Inner.{past}
 use Rattle.loader_stores.specs.Stores.{storeOf}
 use Rattle.model.specs.declared.Seen.{Seen}
 use Rattle.model.specs.declared.Seen.the-variants.{NoData, Data, Refused}

@@ -1,7 +1,6 @@
 // A load whose erase is interrupted for readings, run against the model.
 use device::Device;
 use loader::Loader;
-use loader::moves::ended_by;
 use loader::stages::stage_is;
 use loader_held::Hold;
 use loader_held::Pair;
@@ -10,6 +9,7 @@ use loader_held::holds::held_next;
 use loader_held::holds::held_out;
 use loader_held::holds::store_room;
 use loader_held_lists::list_number;
+use loader_moves::ended_by;
 use loader_run::Job;
 use loader_run::Ran;
 use loader_run::record_for;

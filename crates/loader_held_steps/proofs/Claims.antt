@@ -13,7 +13,7 @@ use Rattle.model_types.specs.declared.Pins.{Pins}
 use Rattle.loader.specs.declared.Stage.the-variants.{Clearing, Ended}
 use Rattle.loader.specs.declared.Loader.{Loader}
 use Rattle.loader.specs.declared.Saying.the-variants.{Over, Refused}
-use Rattle.loader.specs.Inner.{past}
+use Rattle.loader_moves.specs.Inner.{past}
 use Rattle.loader_steps.specs.Front.{endAddress, saysRefused, startResponse, stepResponse, scratchAfter, scratchLeft}
 use Rattle.loader_held_lists.specs.Listings.{roomNumber, heldNumber}
 use Rattle.loader_held.specs.declared.Step.the-variants.{Fetching}

@@ -17,8 +17,9 @@ use Rattle.model_types.specs.declared.Pins.{Pins}
 use Rattle.loader.specs.declared.Stage.{Stage}
 use Rattle.loader.specs.declared.Stage.the-variants.{Clearing, Opening, Reading, EraseAsking, EraseConfirming, EraseWaiting, ProgramAsking, ProgramSending, ProgramWaiting, Closing, Verifying, Ended}
 use Rattle.loader.specs.declared.Loader.{Loader}
-use Rattle.loader.specs.Moves.{movedTo, nextOf, statusIn, isReady, eraseEnd}
-use Rattle.loader.specs.Inner as inner
+use Rattle.loader_moves.specs.Moves.{movedTo, nextOf}
+use Rattle.loader.specs.Statuses.{statusIn, isReady, eraseEnd}
+use Rattle.loader_moves.specs.Inner as inner
 use Rattle.loader_stores.specs.Stores.{storeOf}
 use Rattle.loader_steps.specs.Front.{recordAt, stepNumber}
 use Rattle.loader_steps.proofs.StartAndStep.{heldAt, Kept, Taken, taken, taken-back, store-length, first-taken}

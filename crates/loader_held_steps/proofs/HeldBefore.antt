@@ -22,7 +22,7 @@ use Rattle.loader.specs.declared.Stage.the-variants.{Clearing, Opening, Reading
 use Rattle.loader.specs.declared.Loader.{Loader}
 use Rattle.loader.specs.declared.Saying.{Saying}
 use Rattle.loader.specs.declared.Response.{Response}
-use Rattle.loader.specs.Moves.{nextOf}
+use Rattle.loader_moves.specs.Moves.{nextOf}
 use Rattle.loader_stores.specs.Stores.{storeOf}
 use Rattle.loader_steps.specs.Front.{badRecord, setupRows, startRows, startNumber, stepRows, stepNumber, recordAt, responseAt, refusedBy, startResponse, stepResponse, scratchAfter, scratchLeft}
 use Rattle.loader_steps.proofs.StartAndStep.{kept-next}

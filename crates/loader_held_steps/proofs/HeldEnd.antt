@@ -10,7 +10,7 @@ use Rattle.loader.specs.declared.Stage.the-variants.{Ended}
 use Rattle.loader.specs.declared.Loader.{Loader}
 use Rattle.loader.specs.declared.Saying.{Saying}
 use Rattle.loader.specs.declared.Saying.the-variants.{Over}
-use Rattle.loader.specs.Moves.{nextIn, nextOf}
+use Rattle.loader_moves.specs.Moves.{nextIn, nextOf}
 use Rattle.loader_stores.specs.Stores.{storeIn, storeOf}
 use Rattle.loader_steps.specs.Front.{endAddress, sayingIn}
 use Rattle.loader_held.specs.declared.Step.{Step}

@@ -9,7 +9,7 @@ use lib.Dec.{eqb}
 use Rattle.common.specs.Choice.{if_then_else_}
 use Rattle.units.specs.Units.{units, spare, back, lent, carried}
 use Rattle.loader.specs.declared.Loader.{Loader}
-use Rattle.loader.specs.Moves.{nextOf}
+use Rattle.loader_moves.specs.Moves.{nextOf}
 use Rattle.loader_stores.specs.Stores.{storeOf}
 use Rattle.loader_steps.proofs.Unread.{next-unread, store-unread}
 use Rattle.loader_held.specs.declared.Step.{Step}

@@ -20,7 +20,7 @@ use Rattle.loader.specs.declared.Loader.{Loader}
 use Rattle.loader.specs.declared.Saying.{Saying}
 use Rattle.loader.specs.declared.Saying.the-variants.{Out, Over, Refused}
 use Rattle.loader.specs.Stages.{isEnded, endBy}
-use Rattle.loader.specs.Inner.{past}
+use Rattle.loader_moves.specs.Inner.{past}
 use Rattle.loader_steps.specs.Front.{badRecord, setupRows, startRows, recordAt, endAddress}
 use Rattle.loader_held_lists.specs.Listings.{pastArray, inLoaded, roomRows, heldRows}
 use Rattle.loader_held.specs.declared.Step.{Step}

@@ -16,7 +16,7 @@ use Rattle.device.specs.declared.Part.{Part}
 use Rattle.model_types.specs.declared.Mode.the-variants.{Array}
 use Rattle.model_types.specs.declared.State.{State}
 use Rattle.model_states.specs.States.{atRest}
-use Rattle.loader.specs.Walks.{risesIn, diffFrom}
+use Rattle.loader_walk.specs.Walks.{risesIn, diffFrom}
 use Rattle.loader_blocks.specs.Blocks.{readTo}
 use Rattle.loader_run.specs.declared.Ran.{Ran}
 use Rattle.loader_run_claims.specs.Wear.{heldIn, formula, loadFormula}

@@ -19,7 +19,7 @@ use Rattle.model_types.specs.Cells.{ones}
 use Rattle.units.specs.Units.{top}
 use Rattle.model_levels.specs.Levels.{vppLow}
 use Rattle.model_states.specs.States.{atRest}
-use Rattle.loader.specs.Walks.{risesIn, diffFrom}
+use Rattle.loader_walk.specs.Walks.{risesIn, diffFrom}
 use Rattle.loader_blocks.specs.Blocks.{costs, workCosts, workDone}
 use Rattle.loader_blocks.proofs.Laws.{costs-most}
 use Rattle.loader_run.specs.declared.Ran.{Ran}

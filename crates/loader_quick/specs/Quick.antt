@@ -18,7 +18,7 @@ use Rattle.model_types.specs.declared.Mode.the-variants.{Array, Status}
 use Rattle.model_types.specs.declared.State.{State}
 use Rattle.model_levels.specs.Levels.{vppLow}
 use Rattle.model_states.specs.States.{atRest}
-use Rattle.loader.specs.Walks.{risesIn, diffFrom}
+use Rattle.loader_walk.specs.Walks.{risesIn, diffFrom}
 use Rattle.loader_blocks.specs.declared.Done.{Done}
 use Rattle.loader_blocks.specs.declared.Found.{Found}
 use Rattle.loader_run.specs.declared.Ran.{Ran}

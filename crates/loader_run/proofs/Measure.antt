@@ -13,9 +13,10 @@ use Rattle.loader.specs.declared.Stage.{Stage}
 use Rattle.loader.specs.declared.Stage.the-variants.{Clearing, Opening, Reading, EraseAsking, EraseConfirming, EraseWaiting, ProgramAsking, ProgramSending, ProgramWaiting, Closing, Verifying, Ended}
 use Rattle.loader.specs.declared.Loader.{Loader}
 use Rattle.units.specs.Units.{carried}
-use Rattle.loader.specs.Walks.{nextDiff, diffFrom, risesIn}
-use Rattle.loader.specs.Moves.{statusIn, isReady, eraseEnd, programEnd, loadedStage, onward, afterReads, afterRead, pollMore, erasePolled, programPolled, verifyMore, nextIn}
-use Rattle.loader.specs.Inner.{past}
+use Rattle.loader_walk.specs.Walks.{nextDiff, diffFrom, risesIn}
+use Rattle.loader.specs.Statuses.{statusIn, isReady, eraseEnd, programEnd}
+use Rattle.loader_moves.specs.Moves.{loadedStage, onward, afterReads, afterRead, pollMore, erasePolled, programPolled, verifyMore, nextIn}
+use Rattle.loader_moves.specs.Inner.{past}
 use Rattle.loader_stores.specs.Stores.{storeOf}
 use Rattle.model.specs.declared.Seen.{Seen}
 use Rattle.model.specs.declared.Seen.the-variants.{NoData, Data, Refused}

@@ -9,7 +9,7 @@ use Rattle.common.proofs.Choice.{if-true, if-false, unlike}
 use Rattle.device.specs.declared.Device.{Device}
 use Rattle.model_types.specs.declared.State.{State}
 use Rattle.loader.specs.declared.Loader.{Loader}
-use Rattle.loader.specs.Moves.{endedBy, nextOf}
+use Rattle.loader_moves.specs.Moves.{endedBy, nextOf}
 use Rattle.loader_steps.specs.Addresses.{firstAddress}
 use Rattle.loader_stores.specs.Stores.{storeOf}
 use Rattle.loader_steps.proofs.StartAndStep.{first-kept}

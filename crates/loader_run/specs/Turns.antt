@@ -11,7 +11,7 @@ use Rattle.model.specs.declared.Answer.{Answer}
 use Rattle.model.specs.Arrays.{answerOf, arrayAfter}
 use Rattle.loader.specs.declared.Loader.{Loader}
 use Rattle.loader.specs.Stages.{isEnded}
-use Rattle.loader.specs.Moves.{nextOf, endedBy}
+use Rattle.loader_moves.specs.Moves.{nextOf, endedBy}
 use Rattle.loader_steps.specs.Outs.{cycleOf}
 use Rattle.loader_stores.specs.Stores.{storeOf}
 

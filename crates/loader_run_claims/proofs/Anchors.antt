@@ -14,7 +14,7 @@ use Rattle.device.specs.declared.Part.{Part}
 use Rattle.device.specs.declared.Device.{Device}
 use Rattle.units.specs.Units.{lentIn, top}
 use Rattle.model_types.specs.Cells.{ones}
-use Rattle.loader.specs.Walks.{risesIn}
+use Rattle.loader_walk.specs.Walks.{risesIn}
 use Rattle.model_levels.specs.Levels.{vppLow, atTwelve, atFive, vppHigh, badWp, badPins, unlocked}
 use Rattle.model_states.specs.States.{proper, improper}
 use Rattle.loader_steps.specs.Front.{barredPins, noBlock, wrongLengths}

@@ -12,7 +12,7 @@ use Rattle.device.specs.Parts.{startOf}
 use Rattle.model_types.specs.declared.Pins.{Pins}
 use Rattle.model_types.specs.declared.Mode.the-variants.{Array}
 use Rattle.model_states.specs.States.{atRest}
-use Rattle.loader.specs.Walks.{risesIn}
+use Rattle.loader_walk.specs.Walks.{risesIn}
 use Rattle.loader_run.specs.Turns.{Config, after}
 use Rattle.loader_run.specs.Runs.{runRows, runNumber, runLeft, doing}
 use Rattle.loader_run_claims.specs.Wear.{begunIn, heldIn, formula, operationsOf, notedAll, begunByLoad, heldBy}

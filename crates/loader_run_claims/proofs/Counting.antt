@@ -11,7 +11,7 @@ use Rattle.common.specs.Numbers.{NoRow}
 use Rattle.common.proofs.Numbers.{no-row-given}
 use Rattle.device.specs.declared.Device.{Device}
 use Rattle.model_types.specs.declared.Pins.{Pins}
-use Rattle.loader.specs.Walks.{risesIn, diffFrom}
+use Rattle.loader_walk.specs.Walks.{risesIn, diffFrom}
 use Rattle.loader_steps.specs.Outs.{cycleOf}
 use Rattle.loader_run.specs.Turns.{Config, turnOf, after}
 use Rattle.loader_run.specs.Inner.{bound}

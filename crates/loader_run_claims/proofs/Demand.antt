@@ -20,8 +20,8 @@ use Rattle.model.proofs.Status.{fits}
 use Rattle.model.proofs.Keeping.{times}
 use Rattle.loader.specs.declared.Stage.the-variants.{Ended}
 use Rattle.loader.specs.declared.Loader.{Loader}
-use Rattle.loader.specs.Walks.{risesIn, diffFrom}
-use Rattle.loader.specs.Moves.{isReady, eraseEnd, programEnd}
+use Rattle.loader_walk.specs.Walks.{risesIn, diffFrom}
+use Rattle.loader.specs.Statuses.{isReady, eraseEnd, programEnd}
 use Rattle.loader.specs.declared.Stage.{Stage}
 use Rattle.model_types.specs.declared.Cycle.{Cycle}
 use lib.Bits.{bitOr}

@@ -32,8 +32,9 @@ use Rattle.model.specs.Begun.{begunFrom}
 use Rattle.loader.specs.declared.Stage.{Stage}
 use Rattle.loader.specs.declared.Stage.the-variants.{EraseAsking, EraseConfirming, EraseWaiting, ProgramAsking, ProgramSending, ProgramWaiting, Ended}
 use Rattle.loader.specs.declared.Loader.{Loader}
-use Rattle.loader.specs.Walks.{risesIn, diffFrom}
-use Rattle.loader.specs.Moves.{nextOf, loadedStage, isReady, eraseEnd, programEnd, erasePolled, programPolled}
+use Rattle.loader_walk.specs.Walks.{risesIn, diffFrom}
+use Rattle.loader_moves.specs.Moves.{nextOf, loadedStage, erasePolled, programPolled}
+use Rattle.loader.specs.Statuses.{isReady, eraseEnd, programEnd}
 use Rattle.loader_stores.specs.Stores.{storeOf, erasedWell, programmedWell}
 use Rattle.loader_run.specs.Turns.{Config}
 use Rattle.loader.specs.Stages.{isEnded}

@@ -22,7 +22,7 @@ use Rattle.model_types.specs.declared.Phase.the-variants.{Free, EraseAwaited, D
 use Rattle.model_types.specs.declared.Effect.{Effect}
 use Rattle.model_types.specs.declared.Effect.the-variants.{Nothing}
 use Rattle.model.specs.Begun.{pendingIn, pendingOf}
-use Rattle.loader.specs.Walks.{mustRise, rises, risesIn}
+use Rattle.loader_walk.specs.Walks.{mustRise, rises, risesIn}
 use Rattle.model_types.specs.Phases.{underWay}
 use Rattle.loader_run_claims.specs.Wear.{heldIn, baseOf, erasesOf, programsIn, differing}
 use Rattle.model_history.specs.History.{Bus, World, worldAfter, effectsIn, begunOver, uncut, totalOf, eraseOf, programAt, programIn}

@@ -16,7 +16,7 @@ use Rattle.units.specs.Units.{units, back, bytesIn, torn, lent, pairs}
 use Rattle.units.specs.Address.{byteOf}
 use Rattle.units.proofs.Widths.{lent-is, lent-whole, back-units, whole, cells, in-law, leave-law}
 use Rattle.model_types.specs.Cells.{ones, Cells}
-use Rattle.loader.specs.Walks.{risesIn}
+use Rattle.loader_walk.specs.Walks.{risesIn}
 use Rattle.loader_run.specs.declared.Ran.{Ran}
 use Rattle.loader_run.specs.Runs.{runNumber, RunLeft, lentNumber, asBytes, runFirst, runLeft, lentRun, doing}
 use Rattle.loader_run.proofs.Lending.{units-number, some, lent-made}

@@ -30,7 +30,7 @@ use Rattle.model_types.proofs.Wears.{count-worn}
 use Rattle.model_history.proofs.Counting.{count-begun}
 use Rattle.model_levels.proofs.Bands.{not-low}
 use Rattle.loader_steps.specs.Front.{endAddress}
-use Rattle.loader.specs.Walks.{risesIn}
+use Rattle.loader_walk.specs.Walks.{risesIn}
 use Rattle.loader_run.specs.declared.Ran.{Ran}
 use Rattle.loader_run.specs.Inner.{bound}
 use Rattle.loader_run.specs.Runs.{driven, beginning, runEnd, runLeft, doing}

@@ -39,15 +39,16 @@ use Rattle.model.proofs.Keeping.{st}
 use Rattle.loader.specs.declared.Stage.{Stage}
 use Rattle.loader.specs.declared.Stage.the-variants.{Clearing, Opening, Reading, EraseAsking, EraseConfirming, EraseWaiting, ProgramAsking, ProgramSending, ProgramWaiting, Closing, Verifying, Ended}
 use Rattle.loader.specs.declared.Loader.{Loader}
-use Rattle.loader.specs.Walks.{mustRise, rises, nextDiff, diffFrom, risesIn}
-use Rattle.loader.specs.Moves.{nextOf, loadedStage, onward, afterReads, afterRead, pollMore, erasePolled, programPolled, verifyMore, eraseEnd, programEnd, bothErrors}
-use Rattle.loader.specs.Inner.{past}
+use Rattle.loader_walk.specs.Walks.{mustRise, rises, nextDiff, diffFrom, risesIn}
+use Rattle.loader_moves.specs.Moves.{nextOf, loadedStage, onward, afterReads, afterRead, pollMore, erasePolled, programPolled, verifyMore}
+use Rattle.loader.specs.Statuses.{eraseEnd, programEnd, bothErrors}
+use Rattle.loader_moves.specs.Inner.{past}
 use Rattle.loader_steps.specs.Addresses.{firstAddress}
 use Rattle.loader_steps.specs.Inner.{hereOf}
 use Rattle.loader_steps.specs.Outs.{cycleOf}
 use Rattle.loader_stores.specs.Stores.{storeOf, erasedWell, programmedWell}
 use Rattle.loader_steps.proofs.SmallAddresses.{length-small}
-use Rattle.loader.proofs.Walking.{diff-round, diff-over}
+use Rattle.loader_walk.proofs.Walking.{diff-round, diff-over}
 use Rattle.model_types.specs.declared.Cycle.{Cycle}
 use Rattle.model.specs.Begun.{pendingIn, begunFrom}
 use Rattle.model_types.specs.Phases.{isBusy, isAwaited}

@@ -15,7 +15,7 @@ use Rattle.common.proofs.Choice.{unlike}
 use Rattle.device.specs.declared.Device.{Device}
 use Rattle.model_types.specs.declared.Pins.{Pins}
 use Rattle.model_types.specs.declared.Cycle.{Cycle}
-use Rattle.loader.specs.Walks.{rises, nextDiff, risesIn, diffFrom}
+use Rattle.loader_walk.specs.Walks.{rises, nextDiff, risesIn, diffFrom}
 use Rattle.loader_run_claims.specs.Wear.{differing, formula}
 use Rattle.loader_run_claims.specs.Made.{programsThen}
 use Rattle.loader_run_claims.specs.Ends.{asWanted}

@@ -36,7 +36,7 @@ use Rattle.loader.specs.declared.Stage.the-variants.{Clearing, Opening, Reading
 use Rattle.loader.specs.declared.Loader.{Loader}
 use Rattle.loader.specs.declared.Saying.the-variants.{Out, Over}
 use Rattle.loader.specs.declared.Response.{Response}
-use Rattle.loader.specs.Moves.{nextIn, nextOf}
+use Rattle.loader_moves.specs.Moves.{nextIn, nextOf}
 use Rattle.loader_steps.specs.Outs.{cycleOf}
 use Rattle.loader_stores.specs.Stores.{storeIn, storeOf}
 use Rattle.loader_steps.specs.Front.{barredPins, startNumber, stepNumber, endAddress, sayingIn, responseAt, stepResponse, scratchAfter, recordOf}

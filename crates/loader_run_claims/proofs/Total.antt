@@ -14,8 +14,8 @@ use Rattle.model_types.specs.declared.Pins.{Pins}
 use Rattle.model_types.specs.declared.Effect.{Effect}
 use Rattle.model_levels.specs.Levels.{vppLow, unlocked}
 use Rattle.loader_steps.specs.Front.{endAddress}
-use Rattle.loader.specs.Walks.{risesIn, diffFrom}
-use Rattle.loader.specs.Moves.{eraseEnd, programEnd, bothErrors}
+use Rattle.loader_walk.specs.Walks.{risesIn, diffFrom}
+use Rattle.loader.specs.Statuses.{eraseEnd, programEnd, bothErrors}
 use Rattle.loader_run.specs.declared.Ran.{Ran}
 use Rattle.loader_run_claims.specs.Wear.{heldIn}
 use Rattle.loader_run_claims.specs.Made.{cyclesBy}

@@ -19,7 +19,7 @@ use Rattle.model_types.specs.declared.State.{State}
 use Rattle.model_levels.specs.Levels.{vppLow, unlocked}
 use Rattle.model_states.specs.States.{atRest}
 use Rattle.model_types.specs.Counts.{worn}
-use Rattle.loader.specs.Walks.{risesIn, diffFrom}
+use Rattle.loader_walk.specs.Walks.{risesIn, diffFrom}
 use Rattle.loader_run.specs.declared.Ran.{Ran}
 use Rattle.loader_run_claims.specs.Wear.{differing, heldIn, formulaBy}
 use Rattle.loader_run_claims.specs.Made.{busCycle, openingThen, cyclesBy, cyclesAt, smoothAt}

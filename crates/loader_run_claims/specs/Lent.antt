@@ -11,7 +11,7 @@ use Rattle.device.specs.Parts.{lengthOf, startOf}
 use Rattle.units.specs.Units.{units, bytesIn}
 use Rattle.units.specs.Address.{byteOf}
 use Rattle.model_levels.specs.Levels.{vppHigh, unlocked}
-use Rattle.loader.specs.Walks.{risesIn}
+use Rattle.loader_walk.specs.Walks.{risesIn}
 use Rattle.loader_run.specs.Runs.{lentRows, lentRun, doing}
 use Rattle.loader_run_claims.specs.Wear.{heldIn, formulaBy}
 use Rattle.loader_run_claims.specs.Ends.{endMode, erasedFrom}

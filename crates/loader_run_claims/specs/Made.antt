@@ -14,7 +14,7 @@ use Rattle.model_types.specs.declared.Decision.{Decision}
 use Rattle.model_rules.specs.Cycles.{decideOf}
 use Rattle.model.specs.Arrays.{isRefusal}
 use Rattle.loader_steps.specs.Outs.{cycleOf}
-use Rattle.loader.specs.Walks.{risesIn}
+use Rattle.loader_walk.specs.Walks.{risesIn}
 use Rattle.loader_run.specs.Turns.{Config, turnOf}
 use Rattle.loader_run.specs.Inner.{bound}
 use Rattle.loader.specs.Stages.{isEnded}

@@ -13,7 +13,7 @@ use Rattle.model_types.specs.declared.Effect.{Effect}
 use Rattle.model_types.specs.declared.Effect.the-variants.{Nothing, Program, Erase, CutProgram, CutErase}
 use Rattle.model.specs.Begun.{begunBy}
 use Rattle.loader_steps.specs.Outs.{cycleOf}
-use Rattle.loader.specs.Walks.{risesIn}
+use Rattle.loader_walk.specs.Walks.{risesIn}
 use Rattle.loader_run.specs.Turns.{Config, turnOf}
 use Rattle.loader_run.specs.Inner.{bound}
 use Rattle.loader.specs.Stages.{isEnded}

@@ -19,9 +19,10 @@ use Rattle.loader.specs.declared.Stage.{Stage}
 use Rattle.loader.specs.declared.Stage.the-variants.{Clearing, Opening, Reading, EraseAsking, EraseConfirming, EraseWaiting, ProgramAsking, ProgramSending, ProgramWaiting, Closing, Verifying, Ended}
 use Rattle.loader.specs.declared.Loader.{Loader}
 use Rattle.loader.specs.Stages.{endBy}
-use Rattle.loader.specs.Walks.{nextDiff, diffFrom, risesIn}
-use Rattle.loader.specs.Inner.{past}
-use Rattle.loader.specs.Moves.{statusIn, isReady, eraseEnd, programEnd, loadedStage, movedTo, endedBy, onward, afterReads, afterRead, pollMore, erasePolled, programPolled, verifyMore, nextIn}
+use Rattle.loader_walk.specs.Walks.{nextDiff, diffFrom, risesIn}
+use Rattle.loader_moves.specs.Inner.{past}
+use Rattle.loader.specs.Statuses.{statusIn, isReady, eraseEnd, programEnd}
+use Rattle.loader_moves.specs.Moves.{loadedStage, movedTo, endedBy, onward, afterReads, afterRead, pollMore, erasePolled, programPolled, verifyMore, nextIn}
 use Rattle.loader_stores.specs.Stores.{erasedWell, programmedWell, storeIn, storeOf}
 use Rattle.loader_steps.specs.Front.{startNumber}
 use Rattle.loader_steps.proofs.StartAndStep.{taken, first-taken, store-length}

@@ -17,9 +17,10 @@ use Rattle.loader.specs.declared.Stage.{Stage}
 use Rattle.loader.specs.declared.Stage.the-variants.{EraseWaiting, ProgramAsking, ProgramWaiting, Closing, Ended}
 use Rattle.loader.specs.declared.Loader.{Loader}
 use Rattle.loader.specs.Stages.{endBy}
-use Rattle.loader.specs.Walks.{diffFrom}
-use Rattle.loader.specs.Inner.{past}
-use Rattle.loader.specs.Moves.{statusIn, isReady, sr3, sr4, sr5, bothErrors, eraseEnd, programEnd, loadedStage, endedBy, onward, pollMore, erasePolled, programPolled, nextIn, nextOf}
+use Rattle.loader_walk.specs.Walks.{diffFrom}
+use Rattle.loader_moves.specs.Inner.{past}
+use Rattle.loader.specs.Statuses.{statusIn, isReady, sr3, sr4, sr5, bothErrors, eraseEnd, programEnd}
+use Rattle.loader_moves.specs.Moves.{loadedStage, endedBy, onward, pollMore, erasePolled, programPolled, nextIn, nextOf}
 use Rattle.loader_stores.specs.Stores.{erasedWell, programmedWell, storeIn, storeOf}
 use Rattle.loader_steps.proofs.StartAndStep.{step-on, taken}
 use Rattle.loader_sheet.specs.Hand.{Hand, fed, Takes, EndedBy}

@@ -11,9 +11,10 @@ use Rattle.model_levels.specs.Levels.{vppLow, atTwelve, atFive, vppHigh, badWp,
 use Rattle.loader.specs.declared.Stage.{Stage}
 use Rattle.loader.specs.declared.Stage.the-variants.{EraseWaiting, ProgramWaiting, Verifying}
 use Rattle.loader.specs.Stages.{isEnded, endBy}
-use Rattle.loader.specs.Walks.{risesIn, diffFrom}
-use Rattle.loader.specs.Inner.{past}
-use Rattle.loader.specs.Moves.{bothErrors, eraseEnd, programEnd, onward, afterReads, afterRead, pollMore, erasePolled, programPolled, verifyMore}
+use Rattle.loader_walk.specs.Walks.{risesIn, diffFrom}
+use Rattle.loader_moves.specs.Inner.{past}
+use Rattle.loader.specs.Statuses.{bothErrors, eraseEnd, programEnd}
+use Rattle.loader_moves.specs.Moves.{onward, afterReads, afterRead, pollMore, erasePolled, programPolled, verifyMore}
 use Rattle.loader_stores.specs.Stores.{erasedWell, programmedWell}
 use Rattle.loader_steps.specs.Front.{barredPins, noBlock, wrongLengths, badRecord, stepNumber, stepResponse, scratchAfter}
 use Rattle.loader_sheet.specs.Hand.{Hand, fed, fedAll, neverReady}

@@ -11,9 +11,10 @@ use Rattle.common.proofs.Choice.{if-ind, if-true, if-false, and-left, and-right
 use Rattle.loader.specs.declared.Stage.{Stage}
 use Rattle.loader.specs.declared.Stage.the-variants.{Clearing, Opening, Reading, EraseAsking, EraseConfirming, EraseWaiting, ProgramAsking, ProgramSending, ProgramWaiting, Closing, Verifying, Ended}
 use Rattle.loader.specs.declared.Loader.{Loader}
-use Rattle.loader.specs.Walks.{diffFrom, risesIn}
+use Rattle.loader_walk.specs.Walks.{diffFrom, risesIn}
 use Rattle.units.specs.Units.{carried}
-use Rattle.loader.specs.Moves.{statusIn, isReady, onward, afterReads, afterRead, pollMore, erasePolled, programPolled, verifyMore, nextIn}
+use Rattle.loader.specs.Statuses.{statusIn, isReady}
+use Rattle.loader_moves.specs.Moves.{onward, afterReads, afterRead, pollMore, erasePolled, programPolled, verifyMore, nextIn}
 use Rattle.loader_stores.specs.Stores.{erasedWell, programmedWell, storeIn, storeOf}
 use Rattle.loader_steps.proofs.StartAndStep.{step-again}
 use Rattle.loader_sheet.specs.Hand.{Hand, fed, fedAll, Takes, EndedBy, isPolling, neverReady}

@@ -10,7 +10,7 @@ use Rattle.loader.specs.declared.Stage.{Stage}
 use Rattle.loader.specs.declared.Stage.the-variants.{Clearing, Opening, Reading, EraseAsking, EraseConfirming, EraseWaiting, ProgramAsking}
 use Rattle.loader.specs.declared.Stage.the-variants.{ProgramSending, ProgramWaiting, Closing, Verifying, Ended}
 use Rattle.loader.specs.declared.Loader.{Loader}
-use Rattle.loader.specs.Moves.{statusIn, isReady}
+use Rattle.loader.specs.Statuses.{statusIn, isReady}
 use Rattle.loader_steps.specs.Front.{recordAt, stepNumber, stepResponse, scratchAfter}
 
 -- a loader between two steps: its record, and scratch

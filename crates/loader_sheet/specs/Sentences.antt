@@ -13,7 +13,7 @@ use Rattle.model_types.specs.Cells.{ones}
 use Rattle.model_types.specs.declared.Pins.{Pins}
 use Rattle.loader.specs.declared.Stage.{Stage}
 use Rattle.loader.specs.declared.Stage.the-variants.{EraseWaiting, ProgramWaiting}
-use Rattle.loader.specs.Moves.{statusIn}
+use Rattle.loader.specs.Statuses.{statusIn}
 use Rattle.loader_steps.specs.Front.{startNumber}
 use Rattle.loader_sheet.specs.Hand.{Hand, startHand, fed, fedAll, Takes, EndedBy, isPolling, WaitBegins, isFirst, neverReady}
 use Rattle.loader_sheet.specs.Hand.{WantedTo}

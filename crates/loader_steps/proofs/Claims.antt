@@ -12,7 +12,7 @@ use Rattle.loader.specs.declared.Stage.the-variants.{Ended}
 use Rattle.loader.specs.declared.Loader.{Loader}
 use Rattle.loader.specs.Stages.{isEnded, verifies}
 use Rattle.loader.specs.declared.Saying.the-variants.{Over, Refused}
-use Rattle.loader.specs.Inner.{past}
+use Rattle.loader_moves.specs.Inner.{past}
 use Rattle.loader_steps.specs.Addresses.{firstAddress}
 use Rattle.loader_steps.specs.Inner.{hereOf}
 use Rattle.loader_steps.specs.Front.{startRows, stepRows, startNumber, stepNumber, recordAt, endAddress, saysRefused, startResponse, stepResponse, scratchAfter}

@@ -12,10 +12,11 @@ use Rattle.loader.specs.declared.Stage.the-variants.{Clearing, Opening, Reading
 use Rattle.loader.specs.declared.Loader.{Loader}
 use Rattle.loader.specs.declared.Saying.the-variants.{Over}
 use Rattle.loader.specs.declared.Response.{Response}
-use Rattle.loader.specs.Walks.{diffFrom, risesIn}
+use Rattle.loader_walk.specs.Walks.{diffFrom, risesIn}
 use Rattle.units.specs.Units.{carried}
-use Rattle.loader.specs.Moves.{statusIn, isReady, sr3, sr4, sr5, bothErrors, eraseEnd, programEnd, loadedStage, onward, afterReads, afterRead, pollMore, erasePolled, programPolled, verifyMore, nextIn, nextOf}
-use Rattle.loader.specs.Inner.{past}
+use Rattle.loader.specs.Statuses.{statusIn, isReady, sr3, sr4, sr5, bothErrors, eraseEnd, programEnd}
+use Rattle.loader_moves.specs.Moves.{loadedStage, onward, afterReads, afterRead, pollMore, erasePolled, programPolled, verifyMore, nextIn, nextOf}
+use Rattle.loader_moves.specs.Inner.{past}
 use Rattle.loader_stores.specs.Stores.{storeOf}
 use Rattle.loader_steps.specs.Front.{stepNumber, responseAt, refusedBy, stepResponse}
 use Rattle.loader_steps.specs.Ends.{endsLoad, endsVerify, ofLoad, ofVerify}

@@ -12,9 +12,10 @@ use Rattle.loader.specs.declared.Stage.the-variants.{Clearing, Opening, Reading
 use Rattle.loader.specs.declared.Loader.{Loader}
 use Rattle.loader.specs.declared.Response.{Response}
 use Rattle.loader.specs.Stages.{isEnded}
-use Rattle.loader.specs.Walks.{diffFrom, risesIn}
-use Rattle.loader.specs.Moves.{movedTo, endedBy, statusIn, isReady, eraseEnd, programEnd, onward, afterReads, afterRead, pollMore, erasePolled, programPolled, nextIn, nextOf}
-use Rattle.loader.specs.Inner.{past}
+use Rattle.loader_walk.specs.Walks.{diffFrom, risesIn}
+use Rattle.loader_moves.specs.Moves.{movedTo, endedBy, onward, afterReads, afterRead, pollMore, erasePolled, programPolled, nextIn, nextOf}
+use Rattle.loader.specs.Statuses.{statusIn, isReady, eraseEnd, programEnd}
+use Rattle.loader_moves.specs.Inner.{past}
 use Rattle.loader_stores.specs.Stores.{storeOf}
 use Rattle.loader_steps.specs.Front.{badRecord, stepNumber, stepResponse, scratchAfter}
 use Rattle.loader_steps.specs.Ends.{ofLoad, withVerify, carriedOn}

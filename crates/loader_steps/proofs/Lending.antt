@@ -14,7 +14,7 @@ use Rattle.units.specs.Units.{units, back, torn, lent, lentIn}
 use Rattle.units.proofs.Widths.{lent-length, lent-is, lent-whole, back-units}
 use Rattle.loader.specs.declared.Loader.{Loader}
 use Rattle.loader.specs.declared.Response.{Response}
-use Rattle.loader.specs.Moves.{nextOf}
+use Rattle.loader_moves.specs.Moves.{nextOf}
 use Rattle.loader_stores.specs.Stores.{storeOf}
 use Rattle.loader_steps.specs.Front.{noBlock, wrongLengths, stepNumber, responseAt, refusedBy, stepResponse, scratchAfter, scratchLeft}
 use Rattle.loader_steps.proofs.StartAndStep.{taken, some-block, kept-next, step-on}

@@ -7,7 +7,7 @@ use borrow.Author.Tests.{lt-ltb}
 use Rattle.common.proofs.Choice.{if-true}
 use Rattle.device.specs.Parts.{lengthOf}
 use Rattle.loader.specs.declared.Loader.{Loader}
-use Rattle.loader.specs.Inner.{past}
+use Rattle.loader_moves.specs.Inner.{past}
 use Rattle.loader_steps.specs.Inner.{reach}
 use Rattle.loader_steps.specs.Addresses.{firstAddress}
 use Rattle.loader_steps.specs.Inner.{hereOf}

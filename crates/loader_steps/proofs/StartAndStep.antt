@@ -22,11 +22,12 @@ use Rattle.loader.specs.declared.Loader.{Loader}
 use Rattle.loader.specs.declared.Saying.{Saying}
 use Rattle.loader.specs.declared.Saying.the-variants.{Out, Over, Refused}
 use Rattle.loader.specs.declared.Response.{Response}
-use Rattle.loader.specs.Walks.{diffFrom, risesIn}
-use Rattle.loader.specs.Moves as moves
-use Rattle.loader.specs.Inner as inner
+use Rattle.loader_walk.specs.Walks.{diffFrom, risesIn}
+use Rattle.loader_moves.specs.Moves as moves
+use Rattle.loader_moves.specs.Inner as inner
 use Rattle.units.specs.Units.{carried}
-use Rattle.loader.specs.Moves.{movedTo, endedBy, statusIn, isReady, eraseEnd, programEnd, onward, afterReads, afterRead, pollMore, erasePolled, programPolled, verifyMore, nextIn, nextOf}
+use Rattle.loader_moves.specs.Moves.{movedTo, endedBy, onward, afterReads, afterRead, pollMore, erasePolled, programPolled, verifyMore, nextIn, nextOf}
+use Rattle.loader.specs.Statuses.{statusIn, isReady, eraseEnd, programEnd}
 use Rattle.loader_steps.specs.Addresses.{firstAddress}
 use Rattle.loader_stores.specs.Stores.{erasedWell, programmedWell, storeIn, storeOf}
 use Rattle.loader_steps.specs.Front.{barredPins, noBlock, wrongLengths, badRecord, startRows, stepRows, startNumber, stepNumber, recordAt, endAddress, sayingIn, responseAt, refusedBy, saysRefused, startResponse, stepResponse, scratchAfter, recordOf}

@@ -14,7 +14,7 @@ use Rattle.loader.specs.declared.Loader.{Loader}
 use Rattle.loader.specs.declared.Saying.the-variants.{Out, Over}
 use Rattle.loader.specs.declared.Response.{Response}
 use Rattle.loader.specs.Stages.{isEnded, endBy, verifies}
-use Rattle.loader.specs.Moves.{nextOf}
+use Rattle.loader_moves.specs.Moves.{nextOf}
 use Rattle.loader_steps.specs.Outs.{cycleOf}
 use Rattle.loader_stores.specs.Stores.{storeOf}
 use Rattle.loader_steps.specs.Front.{startNumber, stepNumber, recordAt, endAddress, responseAt, refusedBy, startResponse, stepResponse, sayingTold, recordTold, startTold, stepTold, recordOf}

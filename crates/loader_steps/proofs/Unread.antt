@@ -11,7 +11,7 @@ use Rattle.units.specs.Units.{carried}
 use Rattle.loader.specs.declared.Stage.{Stage}
 use Rattle.loader.specs.declared.Stage.the-variants.{Clearing, Opening, Reading, EraseAsking, EraseConfirming, EraseWaiting, ProgramAsking, ProgramSending, ProgramWaiting, Closing, Verifying, Ended}
 use Rattle.loader.specs.declared.Loader.{Loader}
-use Rattle.loader.specs.Moves.{movedTo, endedBy, endedApart, erasePolled, programPolled, verifyMore, nextIn, nextOf}
+use Rattle.loader_moves.specs.Moves.{movedTo, endedBy, endedApart, erasePolled, programPolled, verifyMore, nextIn, nextOf}
 use Rattle.loader_stores.specs.Stores.{eraseStored, programStored, storeIn, storeOf}
 use Rattle.loader_steps.specs.Front.{stepNumber, responseAt, refusedBy, stepResponse, scratchAfter}
 

@@ -20,7 +20,7 @@ use Rattle.loader.specs.declared.Saying.{Saying}
 use Rattle.loader.specs.declared.Saying.the-variants.{Out, Over, Refused}
 use Rattle.loader.specs.declared.Response.{Response}
 use Rattle.loader.specs.Stages.{isEnded, endBy, firstStage, verifies}
-use Rattle.loader.specs.Moves.{nextOf}
+use Rattle.loader_moves.specs.Moves.{nextOf}
 use Rattle.units.specs.Units.{lent, back}
 use Rattle.loader_steps.specs.Outs.{byteHere, cycleOf}
 use Rattle.loader_stores.specs.Stores.{storeOf}

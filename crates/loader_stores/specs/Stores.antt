@@ -12,7 +12,7 @@ use Rattle.loader.specs.declared.Stage.{Stage}
 use Rattle.loader.specs.declared.Stage.the-variants.{Clearing, Opening, Reading, EraseAsking, EraseConfirming, EraseWaiting, ProgramAsking}
 use Rattle.loader.specs.declared.Stage.the-variants.{ProgramSending, ProgramWaiting, Closing, Verifying, Ended}
 use Rattle.loader.specs.declared.Loader.{Loader}
-use Rattle.loader.specs.Moves.{statusIn, isReady, eraseEnd, programEnd}
+use Rattle.loader.specs.Statuses.{statusIn, isReady, eraseEnd, programEnd}
 
 -- an erase that ended well
 unfoldable pub erasedWell : ℕ → Bool

@@ -2,18 +2,18 @@
 use device::Part;
 use loader::Loader;
 use loader::Stage;
-use loader::moves::erase_end;
-use loader::moves::erase_polled;
-use loader::moves::is_ready;
-use loader::moves::moved;
-use loader::moves::program_end;
-use loader::moves::program_polled;
-use loader::moves::read_more;
-use loader::moves::verify_more;
+use loader::statuses::erase_end;
+use loader::statuses::is_ready;
+use loader::statuses::program_end;
+use loader_moves::erase_polled;
+use loader_moves::moved;
+use loader_moves::program_polled;
+use loader_moves::read_more;
+use loader_moves::verify_more;
 ghost use mathlib.Core.Path.{_≡_};
 ghost use lib.ListN.{set};
 ghost use Rattle.units.specs.Units.{units, spare, carried};
-ghost use Rattle.loader.specs.Moves.{afterRead, erasePolled, programPolled, verifyMore, nextOf};
+ghost use Rattle.loader_moves.specs.Moves.{afterRead, erasePolled, programPolled, verifyMore, nextOf};
 ghost use Rattle.loader_stores.specs.Stores.{erasedWell, eraseStored, programmedWell, programStored, storeOf};
 
 fn erased_well(b: u8) -> bool

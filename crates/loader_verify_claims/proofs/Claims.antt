@@ -11,7 +11,7 @@ use Rattle.device.specs.Parts.{startOf}
 use Rattle.model_types.specs.declared.Pins.{Pins}
 use Rattle.model_types.specs.declared.Cycle.{Cycle}
 use Rattle.model_types.specs.Cells.{Cells}
-use Rattle.loader.specs.Walks.{diffFrom}
+use Rattle.loader_walk.specs.Walks.{diffFrom}
 use Rattle.loader_run.specs.declared.Ran.{Ran}
 use Rattle.loader_run.specs.Runs.{runRows, runLeft, lentRows, lentRun, doing}
 use Rattle.loader_run_claims.specs.Wear.{heldIn, heldBy, formula, loadFormula}

@@ -26,7 +26,7 @@ use Rattle.loader_verify_claims.proofs.Verifying.{well-exactly, first-d
 use Rattle.loader_verify_claims.proofs.FirstDifference.{first-byte}
 use Rattle.loader_verify_claims.specs.Lent.{LentMet}
 use Rattle.common.specs.Choice.{if_then_else_}
-use Rattle.loader.specs.Walks.{diffFrom}
+use Rattle.loader_walk.specs.Walks.{diffFrom}
 use lib.Dec.{eqb}
 use lib.Seq.{length-take-le}
 use Rattle.loader.specs.declared.Work.the-variants.{Verify}

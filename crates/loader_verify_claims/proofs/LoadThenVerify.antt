@@ -26,7 +26,7 @@ use Rattle.model_types.specs.Cells.{Cells}
 use Rattle.model_states.specs.States.{atRest}
 use Rattle.model_rules.proofs.Facts.{parts-proper}
 use Rattle.model.proofs.Keeping.{rest-proper}
-use Rattle.loader.specs.Walks.{risesIn}
+use Rattle.loader_walk.specs.Walks.{risesIn}
 use Rattle.loader_run.specs.declared.Ran.{Ran}
 use Rattle.loader_run.specs.Runs.{runRows, runNumber, RunLeft, runRefused, runLeft, runFirst, doing, jobOf}
 use Rattle.loader_run.proofs.Leaving.{left-refused}

@@ -17,7 +17,7 @@ use Rattle.device.specs.Parts.{startOf}
 use Rattle.model_types.specs.declared.Mode.the-variants.{Array}
 use Rattle.model_states.specs.States.{atRest}
 use Rattle.loader.specs.declared.Stage.the-variants.{Ended}
-use Rattle.loader.specs.Walks.{nextDiff, diffFrom}
+use Rattle.loader_walk.specs.Walks.{nextDiff, diffFrom}
 use Rattle.loader_steps.specs.Front.{endAddress}
 use Rattle.loader_run.specs.declared.Ran.{Ran}
 use Rattle.loader_run.specs.Turns.{Config}

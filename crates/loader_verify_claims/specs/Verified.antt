@@ -13,7 +13,7 @@ use Rattle.device.specs.Parts.{startOf}
 use Rattle.model_types.specs.declared.Mode.the-variants.{Array}
 use Rattle.model_types.specs.declared.State.{State}
 use Rattle.model_states.specs.States.{atRest}
-use Rattle.loader.specs.Walks.{diffFrom}
+use Rattle.loader_walk.specs.Walks.{diffFrom}
 use Rattle.loader_run.specs.declared.Ran.{Ran}
 use Rattle.loader_run_claims.specs.Wear.{begunAt, heldIn}
 use Rattle.loader_run_claims.specs.Made.{cyclesAt, smoothAt, closingOf}

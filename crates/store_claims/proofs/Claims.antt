@@ -15,7 +15,7 @@ use Rattle.model_types.specs.Counts.{worn}
 use Rattle.model_levels.specs.Levels.{vppHigh}
 use Rattle.file_block.specs.Block.{isLetter}
 use Rattle.file_codec.specs.File.{limit}
-use Rattle.loader.specs.Walks.{risesIn}
+use Rattle.loader_walk.specs.Walks.{risesIn}
 use Rattle.loader_run.specs.Runs.{lentNumber, lentRun}
 use Rattle.loader_run_claims.specs.Lent.{LentDemand3}
 use Rattle.loader_from_file.specs.Loads.{wantedOf, loadLeft}

@@ -10,7 +10,7 @@ use lib.Bits.{bitAnd}
 use borrow.Author.Tests.{eq-eqb}
 use Rattle.common.specs.Choice.{if_then_else_}
 use Rattle.common.specs.Lists.{Bytes}
-use Rattle.loader.specs.Walks.{rises, risesIn}
+use Rattle.loader_walk.specs.Walks.{rises, risesIn}
 use Rattle.store_places.specs.Store.{Judgement, Reader, join, zeroed, Item, blank, dead, filed, junk, placesOf, liveIn, deadOf, keptOf, without, blankRun, laidIn, filesOf, runFor, slidIn, addedIn, placesIn, itemsIn, dropOf, addOf, Proper}
 use Rattle.store_places.proofs.Falling.{Falls, Small, bytes-small}
 use Rattle.store_places.proofs.Claims.{proper-read}

@@ -17,7 +17,7 @@ use Rattle.model_types.specs.Counts.{worn}
 use Rattle.model_levels.specs.Levels.{vppHigh}
 use Rattle.model_history.specs.History.{totalOf, eraseOf}
 use Rattle.file_codec.specs.File.{limit}
-use Rattle.loader.specs.Walks.{risesIn}
+use Rattle.loader_walk.specs.Walks.{risesIn}
 use Rattle.loader_run.specs.declared.Ran.{Ran}
 use Rattle.loader_run.specs.Runs.{RunLeft}
 use Rattle.loader_run_claims.specs.Wear.{heldIn, programsOf, baseOf}

@@ -14,7 +14,7 @@ use Rattle.model_types.specs.declared.Pins.{Pins}
 use Rattle.model_types.specs.declared.State.{State}
 use Rattle.model_levels.specs.Levels.{vppHigh}
 use Rattle.model_history.specs.History.{totalOf, eraseOf}
-use Rattle.loader.specs.Walks.{risesIn}
+use Rattle.loader_walk.specs.Walks.{risesIn}
 use Rattle.loader_run_claims.specs.Wear.{begunAt}
 use Rattle.store_places.specs.Store.{Change, adds, drops, doneBy, isProper, findOf, changedAll, lastUnder}
 use Rattle.store_survey.specs.Survey.{readerNumber}

@@ -9,7 +9,7 @@ use borrow.Author.Needs.{needs}
 use Rattle.common.proofs.Lists.{copied-whole}
 use Rattle.units.specs.Units.{units}
 use Rattle.units.proofs.Widths.{units-length}
-use Rattle.loader.specs.Walks.{risesIn}
+use Rattle.loader_walk.specs.Walks.{risesIn}
 use Rattle.loader_blocks.specs.Blocks.{alike}
 use Rattle.loader_blocks.proofs.Bytewise.{rises-units}
 use Rattle.loader_blocks.proofs.Lent.{held-long, room-long, whole, found-so, read-is, none-found, none-read}

@@ -7,8 +7,8 @@ use borrow.Author.Needs.{needs}
 use lib.ListN.{length, getD}
 use lib.Dec.{eqb}
 use lib.Bits.{bitOr}
-use Rattle.loader.specs.Walks.{mustRise, rises, risesIn}
-use Rattle.loader.proofs.Walking.{rises-round, rises-over}
+use Rattle.loader_walk.specs.Walks.{mustRise, rises, risesIn}
+use Rattle.loader_walk.proofs.Walking.{rises-round, rises-over}
 use Rattle.loader_blocks.proofs.Laws.{gathered, or-three, or-none}
 use Rattle.loader_blocks.proofs.rises.Statement.{statement}
 use Rattle.loader_blocks.proofs.rises.Tie as tie

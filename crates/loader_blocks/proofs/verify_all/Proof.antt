@@ -10,7 +10,7 @@ use Rattle.common.specs.Lists.{overwritten}
 use Rattle.common.proofs.Lists.{copied-whole, overwritten-all}
 use Rattle.units.specs.Units.{units}
 use Rattle.units.proofs.Widths.{units-length}
-use Rattle.loader.specs.Walks.{diffFrom}
+use Rattle.loader_walk.specs.Walks.{diffFrom}
 use Rattle.loader_blocks.specs.Blocks.{readTo}
 use Rattle.loader_blocks.proofs.Laws.{none-differs, read-all}
 use Rattle.loader_blocks.proofs.Lent.{units-same}

@@ -11,8 +11,8 @@ use lib.Dec.{eqb}
 use Rattle.common.proofs.Choice.{if-true, if-false}
 use Rattle.common.specs.Lists.{overwritten}
 use Rattle.common.proofs.Lists.{overwritten-more}
-use Rattle.loader.specs.Walks.{nextDiff, diffFrom}
-use Rattle.loader.proofs.Walking.{diff-round, diff-over}
+use Rattle.loader_walk.specs.Walks.{nextDiff, diffFrom}
+use Rattle.loader_walk.proofs.Walking.{diff-round, diff-over}
 use Rattle.loader_blocks.proofs.Laws.{read-up-to, read-all}
 use Rattle.loader_blocks.proofs.verify_bytes.Statement.{statement}
 use Rattle.loader_blocks.proofs.verify_bytes.Tie as tie

@@ -13,8 +13,8 @@ use Rattle.common.specs.Lists.{overwritten}
 use Rattle.common.proofs.Lists.{overwritten-more}
 use Rattle.units.specs.Units.{pairs}
 use Rattle.units.proofs.Widths.{units-length}
-use Rattle.loader.specs.Walks.{nextDiff, diffFrom}
-use Rattle.loader.proofs.Walking.{diff-round, diff-over}
+use Rattle.loader_walk.specs.Walks.{nextDiff, diffFrom}
+use Rattle.loader_walk.proofs.Walking.{diff-round, diff-over}
 use Rattle.loader_blocks.proofs.Laws.{read-up-to, read-all}
 use Rattle.loader_blocks.proofs.verify_words.Statement.{statement}
 use Rattle.loader_blocks.proofs.verify_words.Tie as tie

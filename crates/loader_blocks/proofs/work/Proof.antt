@@ -8,7 +8,7 @@ use lib.ListN.{length, replicate, length-replicate}
 use borrow.Author.Needs.{needs}
 use Rattle.common.proofs.Choice.{if-true, if-false}
 use Rattle.units.specs.Units.{units, top}
-use Rattle.loader.specs.Walks.{risesIn}
+use Rattle.loader_walk.specs.Walks.{risesIn}
 use Rattle.loader_blocks.specs.Blocks.{costs, workCosts}
 use Rattle.loader_blocks.proofs.Laws.{as-held, as-erased, costs-most}
 use Rattle.loader_blocks.proofs.Bytewise.{rises-units}

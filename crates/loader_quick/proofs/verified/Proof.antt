@@ -9,7 +9,7 @@ use Rattle.common.specs.Lists.{overwritten}
 use Rattle.device.specs.Parts.{startOf}
 use Rattle.units.specs.Units.{units}
 use Rattle.units.proofs.Widths.{units-length}
-use Rattle.loader.specs.Walks.{diffFrom}
+use Rattle.loader_walk.specs.Walks.{diffFrom}
 use Rattle.loader_steps.proofs.SmallAddresses.{start-small}
 use Rattle.loader_blocks.specs.Blocks.{readTo}
 use Rattle.loader_blocks.proofs.Lent.{met-is, seen-is}

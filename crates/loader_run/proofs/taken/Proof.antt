@@ -1,6 +1,6 @@
 use mathlib.Core.Path.{_≡_, ap, sym, _∙_}
 use Prim.Native.Nat.{ℕ}
-use Rattle.loader.specs.Moves.{endedBy, nextOf}
+use Rattle.loader_moves.specs.Moves.{endedBy, nextOf}
 use Rattle.loader_stores.specs.Stores.{storeOf}
 use Rattle.loader_run.specs.Turns.{numberIn, refusalNumber}
 use Rattle.units.specs.Units.{units}

@@ -5,7 +5,7 @@ use Rattle.loader.specs.declared.Stage.{Stage}
 use Rattle.loader.specs.declared.Stage.the-variants.{Clearing, Opening, Reading, EraseAsking, EraseConfirming, EraseWaiting, ProgramAsking, ProgramSending, ProgramWaiting, Closing, Verifying}
 use Rattle.loader.specs.declared.Loader.{Loader}
 use Rattle.units.specs.Units.{units}
-use Rattle.loader.specs.Moves.{erasePolled, programPolled, nextIn, nextOf}
+use Rattle.loader_moves.specs.Moves.{erasePolled, programPolled, nextIn, nextOf}
 use Rattle.loader_stores.specs.Stores.{eraseStored, programStored, storeIn, storeOf}
 use borrow.Author.Needs.{needs}
 use Rattle.loader_stores.proofs.advance.Statement.{statement}

@@ -2,7 +2,7 @@ use borrow.Author.Needs.{needs}
 use native.Mathlib.Omega.{arith}
 use borrow.Author.Tests.{lt-ltb, le-ltb, le-leb, lt-leb, eq-eqb, ne-eqb}
 use mathlib.Core.Path.{refl, sym, _∙_}
-use Rattle.loader.specs.Inner.{past}
+use Rattle.loader_moves.specs.Inner.{past}
 use Rattle.loader_held.proofs.holds.next_place.Statement.{statement}
 use Rattle.loader_held.proofs.holds.next_place.Tie as tie
 use Rattle.loader_held.proofs.holds.next_place.Reads as reads

@@ -6,7 +6,7 @@ use Rattle.loader_held.proofs.holds.resume.Statement.{statement}
 use Rattle.loader_held.proofs.holds.resume.Tie as tie
 use Rattle.loader_held.proofs.holds.resume.Reads as reads
 use Rattle.loader_held.proofs.holds.resume.Lts as lts
-use Rattle.loader.proofs.moves.moved.Reads as moved-reads
+use Rattle.loader_moves.proofs.moved.Reads as moved-reads
 use Rattle.loader_held.proofs.holds.after_poll.Reads as after-poll-reads
 use Rattle.loader_held.proofs.holds.pair_of.Reads as pair-of-reads
 

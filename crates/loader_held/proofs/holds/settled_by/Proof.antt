@@ -7,8 +7,8 @@ use Rattle.loader_held.proofs.holds.settled_by.Statement.{statement}
 use Rattle.loader_held.proofs.holds.settled_by.Tie as tie
 use Rattle.loader_held.proofs.holds.settled_by.Reads as reads
 use Rattle.loader_held.proofs.holds.settled_by.Lts as lts
-use Rattle.loader.proofs.moves.erase_end.Reads as erase-end-reads
-use Rattle.loader.proofs.moves.is_ready.Reads as is-ready-reads
+use Rattle.loader.proofs.statuses.erase_end.Reads as erase-end-reads
+use Rattle.loader.proofs.statuses.is_ready.Reads as is-ready-reads
 use Rattle.loader_held.proofs.holds.hold_as.Reads as hold-as-reads
 use Rattle.loader_held.proofs.holds.is_held.Reads as is-held-reads
 use Rattle.loader_held.proofs.holds.pair_of.Reads as pair-of-reads

@@ -6,7 +6,7 @@ use Rattle.loader_held.proofs.holds.stop_by.Statement.{statement}
 use Rattle.loader_held.proofs.holds.stop_by.Tie as tie
 use Rattle.loader_held.proofs.holds.stop_by.Reads as reads
 use Rattle.loader_held.proofs.holds.stop_by.Lts as lts
-use Rattle.loader.proofs.moves.ended_by.Reads as ended-by-reads
+use Rattle.loader_moves.proofs.ended_by.Reads as ended-by-reads
 use Rattle.loader_held.proofs.holds.pair_of.Reads as pair-of-reads
 use Rattle.loader_held.proofs.holds.usually.Reads as usually-reads
 
