@@ -23,7 +23,8 @@ use Rattle.model_types.specs.declared.Cycle.{Cycle}
 use Rattle.model_levels.specs.Levels.{rpLow, mostOe, badOe, badLevels}
 use Rattle.model_states.specs.States.{improper}
 use Rattle.model_operation.specs.Settling.{settledAs, settleOf}
-use Rattle.model_rules.specs.Cycles.{pastArray, shortResidue, judgeOf, decidedAs}
+use Rattle.model_judge.specs.Judging.{pastArray, shortResidue, judgeOf}
+use Rattle.model_rules.specs.Cycles.{decidedAs}
 use Rattle.model_rules.specs.Inner.{decideKind, decideJudged}
 use Rattle.model.specs.declared.Answer.{Answer}
 use Rattle.model.specs.Arrays.{seenOf}

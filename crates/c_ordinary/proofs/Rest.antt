@@ -35,7 +35,8 @@ use Rattle.model_states.specs.States.{proper, improper}
 use Rattle.model_operation.specs.Settling.{settledAs, settleOf}
 use Rattle.model_commands.specs.Commands.{commandOf, asksProgram, firstWrite, isRefuse}
 use Rattle.model_actions.specs.Performed.{performedOf}
-use Rattle.model_rules.specs.Cycles.{pastArray, shortResidue, judgeOf, decidedAs}
+use Rattle.model_judge.specs.Judging.{pastArray, shortResidue, judgeOf}
+use Rattle.model_rules.specs.Cycles.{decidedAs}
 use Rattle.model_rules.specs.Inner.{inSuspended, decideArray, decideRead, decideWrite, decideKind, decideJudged}
 use Rattle.model.specs.declared.Seen.{Seen}
 use Rattle.model.specs.declared.Answer.{Answer}

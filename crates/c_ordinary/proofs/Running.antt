@@ -27,7 +27,8 @@ use Rattle.model_levels.specs.Levels.{rpLow, vppLow}
 use Rattle.model_types.specs.Phases.{isAwaited, isBusy, isSuspending, isSuspended, isPending}
 use Rattle.model_states.specs.States.{proper, improper, mostLeft}
 use Rattle.model_operation.specs.Settling.{settledAs, settleOf, passedOf, countedOff}
-use Rattle.model_rules.specs.Cycles.{shortResidue, decidedAs}
+use Rattle.model_judge.specs.Judging.{shortResidue}
+use Rattle.model_rules.specs.Cycles.{decidedAs}
 use Rattle.model_rules.specs.Inner.{decideJudged}
 use Rattle.model.specs.Arrays.{seenOf}
 use Rattle.c_cycle.specs.Values.{deviceIn, modeIn, phaseIn, strayData, straySuspend, noState, wearIn, stateIn, stateOut, kindIn, cycleIn}

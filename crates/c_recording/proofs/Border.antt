@@ -11,7 +11,7 @@ use Rattle.common.proofs.Numbers.{given-no-row, no-head, no-tail}
 use Rattle.units.specs.Units.{lentIn}
 use Rattle.device.specs.declared.Device.{Device}
 use Rattle.model_types.specs.declared.State.{State}
-use Rattle.model_rules.specs.Cycles.{early, judgeOf}
+use Rattle.model_judge.specs.Judging.{early, judgeOf}
 use Rattle.recording.specs.declared.Heard.{Heard}
 use Rattle.recording.specs.declared.Heard.the-variants.{Silence, Told}
 use Rattle.recording.specs.declared.Noted.{Noted}

@@ -8,7 +8,8 @@ use Rattle.model_states.specs.States.{proper, improper}
 use Rattle.model_commands.specs.Commands.{commandOf, asksProgram, firstWrite, afterErase, whileErasing, whileSuspending, whileSuspended}
 use Rattle.model_actions.specs.Performed.{dataOf, unsupplied, startedOf}
 use Rattle.model_operation.specs.Settling.{cutBy, countedOff, suspendPassed, passedOf, settleOf}
-use Rattle.model_rules.specs.Cycles.{pastArray, shortResidue, noCommand, suspendedRead, noIdentifier, numberOf, acceptOf, decideOf}
+use Rattle.model_judge.specs.Judging.{pastArray, shortResidue}
+use Rattle.model_rules.specs.Cycles.{noCommand, suspendedRead, noIdentifier, numberOf, acceptOf, decideOf}
 use Rattle.model.specs.Arrays.{erased, residual, arrayAfter, answerOf}
 use Rattle.file_check.specs.Check.{checkOf}
 use Rattle.cards.specs.Table.{card1, card3, card4, card5, card6, card8, card9, card12, Cards}

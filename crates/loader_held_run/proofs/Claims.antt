@@ -8,7 +8,7 @@ use lib.ListN.{length}
 use Rattle.common.specs.Numbers.{Foremost, NoRow}
 use Rattle.device.specs.declared.Device.{Device}
 use Rattle.units.specs.Units.{units}
-use Rattle.model_rules.specs.Cycles.{judgeOf}
+use Rattle.model_judge.specs.Judging.{judgeOf}
 use Rattle.loader.specs.Stages.{isEnded}
 use Rattle.loader_run.specs.declared.Ran.{Ran}
 use Rattle.loader_held_run.specs.HeldTurns.{HeldConfig, outOf, heldAfter}

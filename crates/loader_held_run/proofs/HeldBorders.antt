@@ -12,7 +12,7 @@ use Rattle.common.proofs.Choice.{unlike}
 use Rattle.common.specs.Numbers.{Foremost, NoRow}
 use Rattle.common.proofs.Numbers.{given-foremost, foremost-given, given-no-row, no-row-given}
 use Rattle.units.specs.Units.{units, spare, back}
-use Rattle.model_rules.specs.Cycles.{judgeOf}
+use Rattle.model_judge.specs.Judging.{judgeOf}
 use Rattle.loader.specs.Stages.{isEnded}
 use Rattle.loader_run.specs.declared.Ran.{Ran}
 use Rattle.loader_run.proofs.Sound.{sound-start}

@@ -15,7 +15,7 @@ use Rattle.model_types.specs.declared.Kind.{Kind}
 use Rattle.model_types.specs.declared.State.{State}
 use Rattle.model_levels.specs.Levels.{rpLow, vppLow, badPins}
 use Rattle.model_types.specs.Phases.{isPending}
-use Rattle.model_rules.specs.Cycles.{shortResidue, judgeOf}
+use Rattle.model_judge.specs.Judging.{shortResidue, judgeOf}
 use Rattle.model_rules.proofs.Facts.{Proper}
 use Rattle.model.specs.declared.Seen.{Seen}
 use Rattle.model.specs.declared.Seen.the-variants.{NoData, Data, Refused}

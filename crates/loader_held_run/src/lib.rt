@@ -22,7 +22,7 @@ ghost use mathlib.Core.Bool.{not};
 ghost use Prim.Native.Nat.{_≤_};
 ghost use lib.ListN.{length};
 ghost use Rattle.units.specs.Units.{units, spare};
-ghost use Rattle.model_rules.specs.Cycles.{judgeOf};
+ghost use Rattle.model_judge.specs.Judging.{judgeOf};
 ghost use Rattle.loader.specs.Stages.{isEnded};
 ghost use Rattle.loader_run.specs.Runs.{runNumber};
 ghost use Rattle.loader_held.specs.Holds.{stopped, heldCycle, heldNext, heldScratch, heldRoom, usual};

@@ -13,7 +13,7 @@ use Rattle.loader.specs.Stages.{isEnded}
 use Rattle.loader_run.specs.Runs.{runRows, runNumber, driven, lentRows, beginning, runLeft, lentRun}
 use Rattle.loader_steps.specs.Outs.{cycleOf}
 use Rattle.loader_run.specs.Promises.{FirstEnd, Promise}
-use Rattle.model_rules.specs.Cycles.{judgeOf}
+use Rattle.model_judge.specs.Judging.{judgeOf}
 use Rattle.loader_run.proofs.Ending as ending
 use Rattle.loader_run.proofs.Sound as sound
 use Rattle.device.specs.Parts.{sizeOf, lengthOf}

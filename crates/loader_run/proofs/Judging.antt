@@ -23,7 +23,8 @@ use Rattle.model_types.specs.declared.Cycle.{Cycle}
 use Rattle.model_levels.specs.Levels.{rpLow, vppLow, badPins, mostOe, badOe, badLevels, locked}
 use Rattle.model_actions.specs.Performed.{unsupplied}
 use Rattle.model_operation.specs.Settling.{residueFor}
-use Rattle.model_rules.specs.Cycles.{pastArray, shortResidue, numberOf, judgeOf, decideOf}
+use Rattle.model_judge.specs.Judging.{pastArray, shortResidue, judgeOf}
+use Rattle.model_rules.specs.Cycles.{numberOf, decideOf}
 use Rattle.model_types.specs.Kinds.{isIdle, isWrite}
 use Rattle.model_types.specs.Phases.{isPending}
 use Rattle.model_rules.proofs.Facts.{Proper, parts-proper}

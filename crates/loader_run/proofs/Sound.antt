@@ -18,7 +18,8 @@ use Rattle.model_types.specs.declared.Phase.the-variants.{Free, EraseAwaited, D
 use Rattle.model_types.specs.declared.State.{State}
 use Rattle.model_types.specs.declared.Cycle.{Cycle}
 use Rattle.model_levels.specs.Levels.{rpLow, vppLow, badPins}
-use Rattle.model_rules.specs.Cycles.{shortResidue, judgeOf, decideOf}
+use Rattle.model_judge.specs.Judging.{shortResidue, judgeOf}
+use Rattle.model_rules.specs.Cycles.{decideOf}
 use Rattle.model_rules.proofs.Facts.{Proper}
 use Rattle.model.specs.declared.Seen.{Seen}
 use Rattle.model.specs.declared.Seen.the-variants.{NoData, Data, Refused}

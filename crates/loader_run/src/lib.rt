@@ -22,7 +22,7 @@ ghost use mathlib.Core.Bool.{not};
 ghost use lib.ListN.{length};
 ghost use lib.Dec.{eqb};
 ghost use Rattle.device.specs.Parts.{sizeOf};
-ghost use Rattle.model_rules.specs.Cycles.{judgeOf};
+ghost use Rattle.model_judge.specs.Judging.{judgeOf};
 ghost use Rattle.loader.specs.Stages.{isEnded};
 ghost use Rattle.loader_steps.specs.Addresses.{firstAddress};
 ghost use Rattle.loader_steps.specs.Inner.{hereOf};

@@ -31,7 +31,8 @@ use Rattle.model_actions.proofs.Carried.{data-cell}
 use Rattle.model_commands.specs.Commands.{commandOf, asksProgram, actionOf, firstWrite, afterErase, whileErasing}
 use Rattle.model_actions.specs.Performed.{dataOf, performedOf, wearBy, startedOf, unsupplied}
 use Rattle.model_operation.specs.Settling.{settledAs, settleOf, countedOff, suspendPassed, passedOf, finishOf}
-use Rattle.model_rules.specs.Cycles.{shortResidue, noCommand, suspendedRead, noIdentifier, lateOf, decideOf, acceptOf, respondOf, decidedAs}
+use Rattle.model_judge.specs.Judging.{shortResidue}
+use Rattle.model_rules.specs.Cycles.{noCommand, suspendedRead, noIdentifier, lateOf, decideOf, acceptOf, respondOf, decidedAs}
 use Rattle.model_types.specs.Phases.{isBusy, isSuspending, isPending, isSuspended}
 use Rattle.model_rules.proofs.Cases.{accepted, number-late}
 use Rattle.model_rules.proofs.Facts.{Proper}

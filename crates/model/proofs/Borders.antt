@@ -23,7 +23,8 @@ use Rattle.model_types.specs.declared.State.{State}
 use Rattle.model_types.specs.declared.Cycle.{Cycle}
 use Rattle.model_types.specs.declared.Decision.{Decision}
 use Rattle.model_types.specs.declared.Effect.{Effect}
-use Rattle.model_rules.specs.Cycles.{shortResidue, early, judgeOf, refusedBy, decideOf}
+use Rattle.model_judge.specs.Judging.{shortResidue, early, judgeOf}
+use Rattle.model_rules.specs.Cycles.{refusedBy, decideOf}
 use Rattle.model_rules.proofs.Passing.{stops}
 use Rattle.model.specs.declared.Seen.the-variants.{Refused}
 use Rattle.model.specs.declared.Answer.{Answer}

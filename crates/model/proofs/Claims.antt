@@ -23,7 +23,8 @@ use Rattle.model_types.specs.declared.Effect.the-variants.{Nothing, Program, Cu
 use Rattle.model_levels.specs.Levels.{rpLow, vppLow}
 use Rattle.model_states.specs.States.{improper, freshState}
 use Rattle.model_operation.specs.Settling.{residueFor, settleOf}
-use Rattle.model_rules.specs.Cycles.{shortResidue, tableOf, numberOf, judgeOf, decideOf}
+use Rattle.model_judge.specs.Judging.{shortResidue, judgeOf}
+use Rattle.model_rules.specs.Cycles.{tableOf, numberOf, decideOf}
 use Rattle.model_rules.proofs.Facts.{proper-parts, parts-proper}
 use Rattle.model.specs.declared.Seen.the-variants.{Data, Refused}
 use Rattle.model.specs.Arrays.{erased, residual, arrayOf, Accepted, answerOf, arrayAfter, bytesAfter}

@@ -27,7 +27,8 @@ use Rattle.model_types.specs.Phases.{isPending, isBusy, isSuspending, suspendLe
 use Rattle.model_commands.specs.Commands.{asksProgram, firstWrite, afterErase, whileErasing, whileSuspending, whileSuspended, commandOf, actionOf}
 use Rattle.model_actions.specs.Performed.{dataOf, performedOf, startedOf, unsupplied}
 use Rattle.model_operation.specs.Settling.{cutBits, cutBy, countedOff, suspendPassed, passedOf, settleOf}
-use Rattle.model_rules.specs.Cycles.{pastArray, decideOf, acceptOf, respondOf}
+use Rattle.model_judge.specs.Judging.{pastArray}
+use Rattle.model_rules.specs.Cycles.{decideOf, acceptOf, respondOf}
 use Rattle.model_rules.proofs.Facts.{Proper, Fine}
 use Rattle.model.proofs.Outcome.{outcome, accept-cases}
 use Rattle.model.proofs.Status as sr

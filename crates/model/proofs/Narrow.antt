@@ -22,7 +22,8 @@ use Rattle.model_levels.specs.Levels.{badLevels, locked}
 use Rattle.model_commands.specs.Commands.{commandOf, actionOf}
 use Rattle.model_actions.specs.Performed.{dataOf, unsupplied, startedOf, performedOf}
 use Rattle.model_operation.specs.Settling.{settleOf}
-use Rattle.model_rules.specs.Cycles.{pastArray, shortResidue, noCommand, suspendedRead, noIdentifier, tableOf, numberOf, respondOf, acceptOf, decideOf}
+use Rattle.model_judge.specs.Judging.{pastArray, shortResidue}
+use Rattle.model_rules.specs.Cycles.{noCommand, suspendedRead, noIdentifier, tableOf, numberOf, respondOf, acceptOf, decideOf}
 use Rattle.model.specs.Arrays.{arrayOf, seenOf, answerOf, arrayAfter}
 use Rattle.model.specs.Words.{narrow}
 

@@ -15,7 +15,8 @@ use Rattle.model_types.specs.declared.Effect.the-variants.{Nothing, Program, Er
 use Rattle.model_types.specs.declared.State.{State}
 use Rattle.model_types.specs.declared.Cycle.{Cycle}
 use Rattle.model_types.specs.declared.Decision.{Decision}
-use Rattle.model_rules.specs.Cycles.{judgeOf, decideOf}
+use Rattle.model_judge.specs.Judging.{judgeOf}
+use Rattle.model_rules.specs.Cycles.{decideOf}
 use Rattle.model_rules.specs.Inner.{decideJudged}
 use Rattle.model_rules.proofs.Passing.{passes}
 use Rattle.model.specs.Arrays.{seenOf, answerOf, arrayAfter}

@@ -20,7 +20,8 @@ use Rattle.model_levels.specs.Levels.{rpLow, vppLow}
 use Rattle.model_states.specs.Inner.{badAddress}
 use Rattle.model_types.specs.Phases.{isPending, isBusy, isSuspending, suspendLeft}
 use Rattle.model_operation.specs.Settling.{cutOf, finishOf, residueFor, cutBy, countedOff, suspendPassed, passedOf, settleOf}
-use Rattle.model_rules.specs.Cycles.{shortResidue, decideOf}
+use Rattle.model_judge.specs.Judging.{shortResidue}
+use Rattle.model_rules.specs.Cycles.{decideOf}
 use Rattle.model_rules.proofs.Facts.{Fine}
 use Rattle.model.proofs.Outcome.{outcome, accept-effect}
 use Rattle.model.specs.Inner.{Within}

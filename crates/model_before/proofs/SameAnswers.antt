@@ -35,7 +35,8 @@ use Rattle.model_states.specs.States.{proper, improper}
 use Rattle.model_commands.specs.Commands.{commandOf, asksProgram, firstWrite, actionOf}
 use Rattle.model_actions.specs.Performed.{dataOf, unsupplied, wearBy, startedOf, performedOf}
 use Rattle.model_operation.specs.Settling.{cutOf, finishOf, residueFor, resetBy, cutBy, countedOff, passedOf, settleOf}
-use Rattle.model_rules.specs.Cycles.{pastArray, shortResidue, noCommand, suspendedRead, skipsLast, codePlace, noIdentifier, tableOf, numberOf, identifierOf, replyTo, respondOf, acceptOf, decideOf}
+use Rattle.model_judge.specs.Judging.{pastArray, shortResidue}
+use Rattle.model_rules.specs.Cycles.{noCommand, suspendedRead, skipsLast, codePlace, noIdentifier, tableOf, numberOf, identifierOf, replyTo, respondOf, acceptOf, decideOf}
 use Rattle.model.specs.Arrays.{erased, residual, arrayOf, seenOf, arrayAfter, answerOf}
 use Rattle.model.specs.Words.{narrow}
 use Rattle.model_before.specs.Before as before

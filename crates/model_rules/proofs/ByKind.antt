@@ -21,7 +21,8 @@ use Rattle.model_levels.specs.Levels.{rpLow}
 use Rattle.model_commands.specs.Commands.{commandOf, actionOf, isRefuse}
 use Rattle.model_operation.specs.Settling.{settleOf}
 use Rattle.model_states.specs.States.{isArray, isIdentifier}
-use Rattle.model_rules.specs.Cycles.{noCommand, suspendedRead, codePlace, noIdentifier, judgeOf, lateOf, replyTo, respondOf, refusedBy, acceptOf, decideOf}
+use Rattle.model_rules.specs.Cycles.{noCommand, suspendedRead, codePlace, noIdentifier, lateOf, replyTo, respondOf, refusedBy, acceptOf, decideOf}
+use Rattle.model_judge.specs.Judging.{judgeOf}
 use Rattle.model_types.specs.Phases.{isSuspended}
 use Rattle.model_types.specs.Kinds.{isRead, isWrite}
 use Rattle.model_rules.specs.Inner.{settledBy, inSuspended, decideArray, decideIdentifier, decideRead, decideWrite, decideKind}

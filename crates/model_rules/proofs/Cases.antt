@@ -10,7 +10,8 @@ use Rattle.device.specs.declared.Device.{Device}
 use Rattle.model_types.specs.declared.State.{State}
 use Rattle.model_types.specs.declared.Cycle.{Cycle}
 use Rattle.model_operation.specs.Settling.{settleOf}
-use Rattle.model_rules.specs.Cycles.{early, late, numberOf, judgeOf, lateOf, refusedBy, acceptOf, decideOf}
+use Rattle.model_judge.specs.Judging.{early, judgeOf}
+use Rattle.model_rules.specs.Cycles.{late, numberOf, lateOf, refusedBy, acceptOf, decideOf}
 
 module _ (d : Device) (s : State) (c : Cycle) (array residue : ℕ) where
   -- the late numbers are asked only where the early ones give nothing

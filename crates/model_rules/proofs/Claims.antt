@@ -10,7 +10,8 @@ use Rattle.device.specs.declared.Part.{Part}
 use Rattle.device.specs.declared.Device.{Device}
 use Rattle.model_types.specs.declared.State.{State}
 use Rattle.model_types.specs.declared.Cycle.{Cycle}
-use Rattle.model_rules.specs.Cycles.{skipsLast, codePlace, judgeOf, identifierOf, decideOf}
+use Rattle.model_rules.specs.Cycles.{skipsLast, codePlace, identifierOf, decideOf}
+use Rattle.model_judge.specs.Judging.{judgeOf}
 use Rattle.model_rules.specs.Inner.{decideJudged}
 use Rattle.model_rules.proofs.Passing as passing
 

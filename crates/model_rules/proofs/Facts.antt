@@ -15,7 +15,8 @@ use Rattle.model_states.specs.States.{improper}
 use Rattle.model_states.specs.Inner.{badMode, badStatus, badLeft, badAddress}
 use Rattle.model_states.proofs.Proper.{improper-parts}
 use Rattle.model_operation.specs.Settling.{settleOf}
-use Rattle.model_rules.specs.Cycles.{tableOf, numberOf, pastArray, shortResidue, noCommand, suspendedRead, noIdentifier}
+use Rattle.model_rules.specs.Cycles.{tableOf, numberOf, noCommand, suspendedRead, noIdentifier}
+use Rattle.model_judge.specs.Judging.{pastArray, shortResidue}
 
 -- a proper state, part by part
 pub record Proper (d : Device) (s : State) : Type 0 where

@@ -18,7 +18,8 @@ use Rattle.model_types.specs.declared.Settled.{Settled}
 use Rattle.model_levels.specs.Levels.{rpLow, vppLow}
 use Rattle.model_states.specs.States.{isArray}
 use Rattle.model_operation.specs.Settling.{settledAs, settleOf}
-use Rattle.model_rules.specs.Cycles.{judgeOf, refusedBy, decidedAs, decideOf}
+use Rattle.model_judge.specs.Judging.{judgeOf}
+use Rattle.model_rules.specs.Cycles.{refusedBy, decidedAs, decideOf}
 use Rattle.model_rules.specs.Inner.{inSuspended, decideArray, decideKind, decideJudged, asksArray}
 use Rattle.model_types.specs.Phases.{isFree}
 use Rattle.model_types.specs.Kinds.{isRead}

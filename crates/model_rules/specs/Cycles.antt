@@ -1,12 +1,12 @@
 -- A whole cycle: the table of refusals, and the answer, state and effect where none applies. Addresses are those of units, and the
 -- lengths of the array and the residue are counted in units.
-use mathlib.Core.Bool.{Bool, not, _&&_, _||_}
+use mathlib.Core.Bool.{Bool, not, _&&_}
 use mathlib.Core.List.{List, [], _∷_, _++_}
 use Prim.Native.Nat.{ℕ, _/_}
-use lib.Dec.{eqb, ltb, leb}
+use lib.Dec.{eqb, ltb}
 use Rattle.common.specs.Choice.{if_then_else_}
 use Rattle.common.specs.Numbers.{Row, row, given}
-use Rattle.device.specs.Parts.{unknownDevice, isLarge, sizeOf, blockOf, codeOf}
+use Rattle.device.specs.Parts.{isLarge, blockOf, codeOf}
 use Rattle.device.specs.declared.Part.{Part}
 use Rattle.device.specs.declared.Device.{Device}
 use Rattle.model_types.specs.declared.Mode.{Mode}
@@ -21,21 +21,14 @@ use Rattle.model_types.specs.declared.Settled.{Settled}
 use Rattle.model_types.specs.declared.Decision.{Decision}
 use Rattle.model_types.specs.declared.State.{State}
 use Rattle.model_types.specs.declared.Cycle.{Cycle}
-use Rattle.model_types.specs.Kinds.{isRead, isWrite, isIdle}
-use Rattle.model_levels.specs.Levels.{rpLow, vppLow, badLevels}
+use Rattle.model_types.specs.Kinds.{isRead, isWrite}
+use Rattle.model_levels.specs.Levels.{rpLow}
 use Rattle.model_types.specs.Phases.{isSuspended}
-use Rattle.model_states.specs.States.{improper, isArray, isIdentifier}
+use Rattle.model_states.specs.States.{isArray, isIdentifier}
 use Rattle.model_commands.specs.Commands.{commandOf, actionOf, isRefuse}
 use Rattle.model_actions.specs.Performed.{performedOf}
-use Rattle.model_operation.specs.Settling.{settleOf, residueFor}
-
--- refusal 5: the address is past the array; not asked with RP# low, nor of an idle cycle (R-number-5)
-unfoldable pub pastArray : Part → Cycle → Bool
-pastArray part c = (leb (sizeOf part) (c .address) && not (rpLow (c .pins))) && not (isIdle (c .kind))
-
--- refusal 6: the cycle cuts an operation, and the residue is too short for it (R-number-6)
-unfoldable pub shortResidue : Part → State → Cycle → ℕ → Bool
-shortResidue part s c residue = (rpLow (c .pins) || vppLow part (c .pins)) && ltb residue (residueFor (s .phase) part (s .address))
+use Rattle.model_operation.specs.Settling.{settleOf}
+use Rattle.model_judge.specs.Judging.{early}
 
 -- refusal 7: a write of a byte that is no command (R-number-7)
 unfoldable pub noCommand : Part → State → Cycle → Bool
@@ -59,17 +52,6 @@ codePlace part a = if skipsLast part then a / 2 else a
 unfoldable pub noIdentifier : Part → State → Cycle → Bool
 noIdentifier part t c = ((isRead (c .kind) && isIdentifier (t .mode)) && ltb 1 (codePlace part (c .address))) && not (rpLow (c .pins))
 
--- refusals 1 to 6, each by its own condition (R-number-2, R-order-1)
-abbrev pub early : Device → State → Cycle → ℕ → ℕ → List Row
-early d s c array residue =
-    row 1 (unknownDevice d)
-    ∷ row 2 (not (eqb array (sizeOf (d .part))))
-    ∷ row 3 (improper d s)
-    ∷ row 4 (badLevels (d .part) c)
-    ∷ row 5 (pastArray (d .part) c)
-    ∷ row 6 (shortResidue (d .part) s c residue)
-    ∷ []
-
 -- refusals 7 to 9, by the state that steps 2 and 3 would leave (R-order-1)
 abbrev pub late : Part → State → Cycle → List Row
 late part t c = row 7 (noCommand part t c) ∷ row 8 (suspendedRead part t c) ∷ row 9 (noIdentifier part t c) ∷ []
@@ -81,10 +63,6 @@ tableOf d s c array residue = early d s c array residue ++ late (d .part) (settl
 -- the number of a cycle: the lowest that applies, 0 where none does (R-number-0)
 unfoldable pub numberOf : Device → State → Cycle → ℕ → ℕ → ℕ
 numberOf d s c array residue = given (tableOf d s c array residue)
-
--- the number of refusals 1 to 6 alone, 0 where none of them applies
-unfoldable pub judgeOf : Device → State → Cycle → ℕ → ℕ → ℕ
-judgeOf d s c array residue = given (early d s c array residue)
 
 -- the number of refusals 7 to 9 alone
 unfoldable pub lateOf : Part → State → Cycle → ℕ

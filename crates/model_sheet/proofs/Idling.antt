@@ -17,7 +17,8 @@ use Rattle.model_types.specs.declared.State.{State}
 use Rattle.model_types.specs.declared.Settled.{Settled}
 use Rattle.model_operation.specs.Settling.{settleOf}
 use Rattle.model_levels.specs.Levels.{badLevels, rpLow}
-use Rattle.model_rules.specs.Cycles.{pastArray, shortResidue, noCommand, suspendedRead, noIdentifier, tableOf, numberOf, acceptOf, decideOf}
+use Rattle.model_judge.specs.Judging.{pastArray, shortResidue}
+use Rattle.model_rules.specs.Cycles.{noCommand, suspendedRead, noIdentifier, tableOf, numberOf, acceptOf, decideOf}
 use Rattle.model.specs.Arrays.{arrayOf, seenOf, answerOf, arrayAfter}
 use Rattle.model_history.specs.History.{Bus, World, worldOf, stepped, worldAfter, seenOn, seenIn}
 use Rattle.model_sheet.specs.Sheet.{bareOf, allBare}

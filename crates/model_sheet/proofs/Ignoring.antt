@@ -32,7 +32,8 @@ use Rattle.model_states.specs.States.{isStatus}
 use Rattle.model_commands.specs.Commands.{commandOf, whileErasing, whileSuspending, whileSuspended, actionOf, isRefuse}
 use Rattle.model_actions.specs.Performed.{performedOf}
 use Rattle.model_operation.specs.Settling.{settledAs, settleOf}
-use Rattle.model_rules.specs.Cycles.{early, judgeOf, pastArray, shortResidue, decidedAs, decideOf}
+use Rattle.model_judge.specs.Judging.{early, judgeOf, pastArray, shortResidue}
+use Rattle.model_rules.specs.Cycles.{decidedAs, decideOf}
 use Rattle.model_history.specs.History.{Bus, World, worldOf, stepped, worldAfter, seenOn, seenIn}
 use Rattle.model_sheet.specs.Sheet.{Judged, isRunning, Quietly, heeds, idleFor, isIgnored, unheard, goesOn, leftThen, phaseThen, oneLess}
 use Rattle.model_sheet.specs.Sentences.{Ignores}

@@ -30,7 +30,8 @@ use Rattle.model_states.specs.States.{atRest, inPhase, resetOf}
 use Rattle.model_commands.specs.Commands.{commandOf, actionOf, isRefuse}
 use Rattle.model_actions.specs.Performed.{performedOf}
 use Rattle.model_operation.specs.Settling.{settledAs, cutOf, finishOf, cutBits, cutBy, countedOff, suspendPassed, passedOf, settleOf}
-use Rattle.model_rules.specs.Cycles.{early, judgeOf, refusedBy, decidedAs, decideOf}
+use Rattle.model_judge.specs.Judging.{early, judgeOf}
+use Rattle.model_rules.specs.Cycles.{refusedBy, decidedAs, decideOf}
 use Rattle.model_rules.proofs.Facts.{Proper, proper-parts}
 use Rattle.model_rules.specs.Inner.{settledBy, decideRead, decideWrite, decideKind, decideJudged}
 use Rattle.model_rules.proofs.Passing.{passes}

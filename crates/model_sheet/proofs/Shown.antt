@@ -15,7 +15,8 @@ use Rattle.model_states.specs.States.{proper, improper, freshState}
 use Rattle.model_commands.specs.Commands.{commandOf, asksProgram, firstWrite, afterErase, whileErasing, whileSuspending, whileSuspended}
 use Rattle.model_actions.specs.Performed.{dataOf, unsupplied, startedOf}
 use Rattle.model_operation.specs.Settling.{cutBy, countedOff, suspendPassed, passedOf, settleOf}
-use Rattle.model_rules.specs.Cycles.{pastArray, shortResidue, noCommand, suspendedRead, noIdentifier, numberOf, acceptOf, decideOf}
+use Rattle.model_judge.specs.Judging.{pastArray, shortResidue}
+use Rattle.model_rules.specs.Cycles.{noCommand, suspendedRead, noIdentifier, numberOf, acceptOf, decideOf}
 use Rattle.model.specs.Arrays.{erased, residual, arrayAfter, answerOf}
 use Rattle.model_history.specs.History.{Bus, World, worldAfter}
 use Rattle.model_sheet.specs.Sheet.{countedIn, clears, noneClears}

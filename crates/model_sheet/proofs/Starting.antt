@@ -30,7 +30,8 @@ use Rattle.model_states.specs.States.{atRest}
 use Rattle.model_commands.specs.Commands.{asksProgram, firstWrite, afterErase, whileErasing, whileSuspending, whileSuspended, commandOf, actionOf, isRefuse}
 use Rattle.model_actions.specs.Performed.{dataOf, startedOf, performedOf, unsupplied}
 use Rattle.model_operation.specs.Settling.{settledAs, settleOf}
-use Rattle.model_rules.specs.Cycles.{pastArray, shortResidue, noCommand, suspendedRead, noIdentifier, tableOf, numberOf, decideOf, acceptOf, respondOf, decidedAs}
+use Rattle.model_judge.specs.Judging.{pastArray, shortResidue}
+use Rattle.model_rules.specs.Cycles.{noCommand, suspendedRead, noIdentifier, tableOf, numberOf, decideOf, acceptOf, respondOf, decidedAs}
 use Rattle.model.specs.Arrays.{isRefusal, seenOf, arrayOf, answerOf, arrayAfter}
 use Rattle.model.specs.Begun.{askedBy, startsOf, begunBy}
 use Rattle.model.proofs.Lives.{begun-accepted, settle-awaited, settle-unawaited}

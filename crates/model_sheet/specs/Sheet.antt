@@ -24,7 +24,8 @@ use Rattle.model_types.specs.Status.{SR7, SR6, SR5, SR4, SR3, withBits, without
 use Rattle.model_states.specs.States.{atRest}
 use Rattle.model_commands.specs.Commands.{commandOf}
 use Rattle.model_operation.specs.Settling.{cutOf, finishOf, cutBits, settleOf}
-use Rattle.model_rules.specs.Cycles.{judgeOf, decideOf}
+use Rattle.model_judge.specs.Judging.{judgeOf}
+use Rattle.model_rules.specs.Cycles.{decideOf}
 use Rattle.model.specs.declared.Seen.the-variants.{NoData}
 use Rattle.model.specs.Arrays.{isRefusal, arrayOf}
 use Rattle.model.specs.Begun.{begunBy}

@@ -18,7 +18,7 @@ use Rattle.device.proofs.BlockAddresses.{size-some}
 use Rattle.model_types.specs.declared.Cycle.{Cycle}
 use Rattle.model_types.specs.declared.Decision.{Decision}
 use Rattle.model_types.specs.declared.State.{State}
-use Rattle.model_rules.specs.Cycles.{early, judgeOf}
+use Rattle.model_judge.specs.Judging.{early, judgeOf}
 use Rattle.model_rules.specs.Inner.{decideJudged}
 use Rattle.model_rules.proofs.Claims.{passes}
 use Rattle.model.specs.declared.Seen.{Seen}

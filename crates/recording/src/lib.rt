@@ -227,7 +227,7 @@ pub fn at_fault(d: Device, s: State, r: Noted, array: &[u8]) -> bool
         return true;
     }
     let e = device_for(d, s, r);
-    let n = model_rules::judge(e, s, c, units::lent_in(word, array.len()), 0);
+    let n = model_judge::judge(e, s, c, units::lent_in(word, array.len()), 0);
     if n != 0 {
         return true;
     }
@@ -269,7 +269,7 @@ pub fn reason(d: Device, s: State, r: Noted, array: &[u8]) -> Why
         return Why { kind: 2, value: 0 };
     }
     let e = device_for(d, s, r);
-    let n = model_rules::judge(e, s, c, units::lent_in(word, array.len()), 0);
+    let n = model_judge::judge(e, s, c, units::lent_in(word, array.len()), 0);
     if n != 0 {
         return Why {
             kind: 3,

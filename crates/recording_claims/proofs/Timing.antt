@@ -30,7 +30,8 @@ use Rattle.model_states.specs.Inner.{badSuspend, badLeft, badAddress}
 use Rattle.model_commands.specs.Commands.{commandOf, asksProgram, firstWrite, afterErase, whileErasing, whileSuspending, whileSuspended, actionOf}
 use Rattle.model_actions.specs.Performed.{dataOf, unsupplied, startedOf, performedOf}
 use Rattle.model_operation.specs.Settling.{cutOf, settledAs, residueFor, cutBy, countedOff, suspendPassed, passedOf, settleOf}
-use Rattle.model_rules.specs.Cycles.{shortResidue, numberOf, acceptOf, respondOf, decidedAs}
+use Rattle.model_judge.specs.Judging.{shortResidue}
+use Rattle.model_rules.specs.Cycles.{numberOf, acceptOf, respondOf, decidedAs}
 use Rattle.model_rules.proofs.Facts.{Proper, Fine, parts-proper}
 use Rattle.model_history.specs.History.{isCut}
 use Rattle.recording_claims.specs.Made.{timeUsed}

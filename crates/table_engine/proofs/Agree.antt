@@ -20,7 +20,8 @@ use Rattle.model_types.specs.declared.Reply.the-variants.{Quiet}
 use Rattle.model_types.specs.declared.Settled.{Settled}
 use Rattle.model_types.specs.declared.State.{State}
 use Rattle.model_operation.specs.Settling.{settleOf}
-use Rattle.model_rules.specs.Cycles.{judgeOf, refusedBy, decideOf}
+use Rattle.model_judge.specs.Judging.{judgeOf}
+use Rattle.model_rules.specs.Cycles.{refusedBy, decideOf}
 use Rattle.model_rules.specs.Inner.{settledBy, decideWrite, decideKind, decideJudged}
 use Rattle.model_rules.proofs.Passing.{passes, stops}
 use Rattle.model.specs.Arrays.{arrayOf, isRefusal, seenOf, arrayAfter, answerOf, bytesAfter}

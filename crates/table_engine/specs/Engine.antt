@@ -19,7 +19,8 @@ use Rattle.model_types.specs.declared.Settled.{Settled}
 use Rattle.model_types.specs.declared.State.{State}
 use Rattle.model_commands.specs.Commands.{commandOf}
 use Rattle.model_operation.specs.Settling.{settleOf}
-use Rattle.model_rules.specs.Cycles.{judgeOf, refusedBy}
+use Rattle.model_judge.specs.Judging.{judgeOf}
+use Rattle.model_rules.specs.Cycles.{refusedBy}
 use Rattle.model_rules.specs.Inner.{settledBy, decideRead, decideWrite}
 use Rattle.model.specs.Arrays.{arrayOf, isRefusal, seenOf, replyTold}
 use Rattle.model.specs.declared.Answer.{Answer}

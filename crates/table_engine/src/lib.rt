@@ -93,7 +93,7 @@ pub fn cycle(d: Device, s: State, c: Cycle, array: &mut [u8], residue: &[u8]) ->
 {
     let part = d.part;
     let word = part.word;
-    let n = model_rules::judge(
+    let n = model_judge::judge(
         d,
         s,
         c,

@@ -11,7 +11,8 @@ use Rattle.model_types.specs.declared.Cycle.{Cycle}
 use Rattle.model_states.specs.States.{freshState}
 use Rattle.model_levels.specs.Levels.{badLevels}
 use Rattle.model_operation.specs.Settling.{settleOf}
-use Rattle.model_rules.specs.Cycles.{tableOf, numberOf, pastArray, late}
+use Rattle.model_rules.specs.Cycles.{tableOf, numberOf, late}
+use Rattle.model_judge.specs.Judging.{pastArray}
 use Rattle.model.specs.declared.Answer.{Answer}
 use Rattle.model.specs.declared.Seen.the-variants.{Refused}
 use Rattle.trace_lines.specs.Lines.{isLine, cycleStated}

@@ -18,7 +18,8 @@ use Rattle.model_types.specs.declared.Cycle.{Cycle}
 use Rattle.model_levels.specs.Levels.{rpLow, vppLow, badLevels}
 use Rattle.model_states.specs.States.{freshState}
 use Rattle.model_operation.specs.Settling.{residueFor, settleOf}
-use Rattle.model_rules.specs.Cycles.{numberOf, late, pastArray, shortResidue}
+use Rattle.model_rules.specs.Cycles.{numberOf, late}
+use Rattle.model_judge.specs.Judging.{pastArray, shortResidue}
 use Rattle.model.proofs.Claims as model
 use Rattle.trace_replay.specs.Replays.{benchT, BenchSound, lineStep, arrayBy}
 

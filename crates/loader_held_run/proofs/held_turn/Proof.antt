@@ -6,7 +6,7 @@ use lib.ListN.{length}
 use Rattle.device.specs.declared.Part.{Part}
 use Rattle.units.specs.Units.{units, spare}
 use Rattle.model_types.specs.declared.Cycle.{Cycle}
-use Rattle.model_rules.specs.Cycles.{judgeOf}
+use Rattle.model_judge.specs.Judging.{judgeOf}
 use Rattle.model.specs.declared.Answer.{Answer}
 use Rattle.model.specs.Arrays.{answerOf, arrayAfter}
 use Rattle.model.specs.Inner.{answerJudged, arrayJudged}

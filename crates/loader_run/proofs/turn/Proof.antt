@@ -10,7 +10,7 @@ use Rattle.loader_steps.specs.Inner.{hereOf}
 use Rattle.loader_steps.specs.Outs.{cycleAtStage, cycleOf}
 use Rattle.model.specs.declared.Answer.{Answer}
 use lib.ListN.{length}
-use Rattle.model_rules.specs.Cycles.{judgeOf}
+use Rattle.model_judge.specs.Judging.{judgeOf}
 use Rattle.model.specs.Arrays.{answerOf}
 use Rattle.model.specs.Inner.{answerJudged, arrayJudged}
 use Rattle.model.proofs.Passing.{judged-answer, judged-array}

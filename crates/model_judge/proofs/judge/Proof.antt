@@ -1,8 +1,8 @@
 use borrow.Author.Needs.{needs}
 use mathlib.Core.Path.{sym, _∙_}
-use Rattle.model_rules.specs.Cycles.{judgeOf}
-use Rattle.model_rules.proofs.judge.Statement.{statement}
-use Rattle.model_rules.proofs.judge.Tie as tie
+use Rattle.model_judge.specs.Judging.{judgeOf}
+use Rattle.model_judge.proofs.judge.Statement.{statement}
+use Rattle.model_judge.proofs.judge.Tie as tie
 
 unknown-device-requires : tie.Need-unknown-device-requires
 unknown-device-requires c κs = search needs

@@ -1,8 +1,8 @@
 use borrow.Author.Needs.{needs}
 use mathlib.Core.Path.{sym, _∙_}
-use Rattle.model_rules.specs.Cycles.{shortResidue}
-use Rattle.model_rules.proofs.short_residue.Statement.{statement}
-use Rattle.model_rules.proofs.short_residue.Tie as tie
+use Rattle.model_judge.specs.Judging.{shortResidue}
+use Rattle.model_judge.proofs.short_residue.Statement.{statement}
+use Rattle.model_judge.proofs.short_residue.Tie as tie
 
 cuts-requires : tie.Need-cuts-requires
 cuts-requires c κs = search needs

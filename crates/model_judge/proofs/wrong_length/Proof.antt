@@ -1,6 +1,6 @@
 use borrow.Author.Needs.{needs}
-use Rattle.model_rules.proofs.wrong_length.Statement.{statement}
-use Rattle.model_rules.proofs.wrong_length.Tie as tie
+use Rattle.model_judge.proofs.wrong_length.Statement.{statement}
+use Rattle.model_judge.proofs.wrong_length.Tie as tie
 
 size-requires : tie.Need-size-requires
 size-requires c κs = search needs

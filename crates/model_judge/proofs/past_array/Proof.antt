@@ -1,7 +1,7 @@
 use borrow.Author.Needs.{needs}
-use Rattle.model_rules.specs.Cycles.{pastArray}
-use Rattle.model_rules.proofs.past_array.Statement.{statement}
-use Rattle.model_rules.proofs.past_array.Tie as tie
+use Rattle.model_judge.specs.Judging.{pastArray}
+use Rattle.model_judge.proofs.past_array.Statement.{statement}
+use Rattle.model_judge.proofs.past_array.Tie as tie
 
 size-requires : tie.Need-size-requires
 size-requires c κs = search needs

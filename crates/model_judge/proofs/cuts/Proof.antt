@@ -1,6 +1,6 @@
 use borrow.Author.Needs.{needs}
-use Rattle.model_rules.proofs.cuts.Statement.{statement}
-use Rattle.model_rules.proofs.cuts.Tie as tie
+use Rattle.model_judge.proofs.cuts.Statement.{statement}
+use Rattle.model_judge.proofs.cuts.Tie as tie
 
 rp-low-requires : tie.Need-rp-low-requires
 rp-low-requires c κs = search needs
