@@ -1,6 +1,6 @@
 -- A record's verdict, way by way, as the code comes to it.
 use mathlib.Core.Path.{_≡_, refl, sym, ap, ap₂, _∙_}
-use mathlib.Core.Bool.{Bool, true, false, not, _||_}
+use mathlib.Core.Bool.{Bool, true, false, not, _&&_, _||_}
 use mathlib.Core.List.{List, []}
 use Prim.Native.Nat.{ℕ}
 use native.Mathlib.Omega.{arith}
@@ -25,12 +25,13 @@ use Rattle.model.specs.declared.Seen.{Seen}
 use Rattle.model.specs.declared.Seen.the-variants.{Refused}
 use Rattle.model.specs.declared.Answer.{Answer}
 use Rattle.model.specs.Arrays.{seenOf, answerOf, bytesAfter}
-use Rattle.model.specs.Inner.{answerJudged, arrayJudged}
+use Rattle.model.specs.Inner.{doneOf, answerJudged, arrayJudged}
 use Rattle.model.proofs.Borders.{stopped-answer, passed-answer, passed-bytes}
 use Rattle.recording.specs.declared.Noted.{Noted}
+use Rattle.recording.specs.declared.Recorded.{Recorded}
 use Rattle.recording.specs.declared.Why.{Why}
-use Rattle.recording.specs.Recordings.{wrongCount, cutsOff, deviceFor, agrees, answerTo, faulty, recordedOf, bytesRecorded, whyAs, whySeen, whyOf}
-use Rattle.recording.specs.Inner.{seenJudged}
+use Rattle.recording.specs.Recordings.{starts, outside, wrongCount, cutsOff, timeOf, timed, deviceFor, agrees, answerTo, faulty, recordedOf, bytesRecorded, whyAs, whySeen, whyOf}
+use Rattle.recording.specs.Inner.{timeBy, seenJudged}
 use Rattle.recording.proofs.Seeing.{seen-early}
 
 -- no bytes have no units
@@ -166,3 +167,50 @@ module _ (d : Device) (s : State) (r : Noted) (bytes : List ℕ) where
         passed-bytes g s (r .cycle) bytes rs 0 zero refl ys b q u o l
         ∙ ap (λ (zs : List ℕ). bytesAfter g s (r .cycle) bytes zs) empty ∙ ap (λ (h : Device). bytesAfter h s (r .cycle) bytes []) same
         ∙ sym (if-false (faulty d s r bytes) _ _ e)
+
+  pub fault-left : true ≡ faulty d s r bytes → (q : Recorded) → q ≡ record { fault = true; state = s } → (q ≡ recordedOf d s r bytes) × (bytes ≡ bytesRecorded d s r bytes)
+  fault-left e q p = (p ∙ fault-state (sym e), fault-bytes (sym e))
+
+  -- whether it starts an operation, asked once: the count and the device that follow from it
+  pub counted-so : (b : Bool) → b ≡ starts (d .part) s (r .cycle) → (v : Bool) → v ≡ (b && outside (r .busy)) → v ≡ wrongCount (d .part) s r
+  unfolding wrongCount
+  counted-so b a v k = k ∙ ap (λ (u : Bool). u && outside (r .busy)) a
+
+  pub timed-so : (b : Bool) → b ≡ starts (d .part) s (r .cycle) → (t : ℕ) → t ≡ timeBy b (r .busy) → (g : Device) → g ≡ timed d t → g ≡ deviceFor d s r
+  unfolding timeOf timeBy
+  timed-so b a t k g p = p ∙ ap (λ (n : ℕ). timed d n) (k ∙ ap (λ (u : Bool). timeBy u (r .busy)) a)
+
+  -- decided once: what was decided is held against what was seen, and then done
+  module _ (e : wrongCount (d .part) s r ≡ false) (f : cutsOff (d .part) s (r .cycle) ≡ false) (g : Device) (same : g ≡ deviceFor d s r)
+      (m : ℕ) (lies : m ≡ lentIn (d .part .word) (length bytes)) (n : ℕ) (j : n ≡ judgeOf g s (r .cycle) m 0) (z : n ≡ 0) (x : Decision)
+      (p : x ≡ decideJudged g s (r .cycle)) (v : Seen) (q : v ≡ seenOf (x .reply) (units (d .part .word) bytes)) (b : Bool) (k : b ≡ agrees v (r .heard)) where
+    shown : v ≡ seenJudged g s (r .cycle) (units (g .part .word) bytes)
+    unfolding seenJudged
+    shown =
+        q ∙ ap (λ (y : Decision). seenOf (y .reply) (units (d .part .word) bytes)) p
+        ∙ ap (λ (h : Device). seenOf (decideJudged g s (r .cycle) .reply) (units (h .part .word) bytes)) (sym same)
+
+    verdict : not b ≡ faulty d s r bytes
+    verdict = answer-fault e f g same m lies n j z v shown b k
+
+    decided : x ≡ decideJudged (deviceFor d s r) s (r .cycle)
+    decided = p ∙ ap (λ (h : Device). decideJudged h s (r .cycle)) same
+
+    pub differs-fault : b ≡ false → true ≡ faulty d s r bytes
+    differs-fault l = sym (ap not l) ∙ verdict
+
+    pub made-left : b ≡ true → (a : Recorded) → a ≡ record { fault = false; state = x .state } → (ys : List ℕ) → Bytes bytes → Bytes ys
+        → units (d .part .word) ys ≡ doneOf (x .effect) (d .part) [] (units (d .part .word) bytes)
+        → spare (d .part .word) ys ≡ spare (d .part .word) bytes → length ys ≡ length bytes
+        → (a ≡ recordedOf d s r bytes) × (ys ≡ bytesRecorded d s r bytes)
+    unfolding answerJudged arrayJudged
+    made-left l a t ys hs is u o c =
+        let good : faulty d s r bytes ≡ false = sym verdict ∙ ap not l in
+        let us : List ℕ = units (d .part .word) bytes in (
+          t ∙ ap (λ (y : Decision). record { fault = false; state = y .state }) decided
+              ∙ good-state good (deviceFor d s r) refl [] refl (answerJudged (deviceFor d s r) s (r .cycle) us (units (d .part .word) [])) refl,
+          good-bytes good (deviceFor d s r) refl [] refl ys hs is
+              (u ∙ ap (λ (y : Decision). doneOf (y .effect) (d .part) [] us) decided
+              ∙ ap (λ (rs : List ℕ). doneOf (decideJudged (deviceFor d s r) s (r .cycle) .effect) (d .part) rs us) (sym (none (d .part .word))))
+              o c,
+        )

@@ -4,6 +4,7 @@ use mathlib.Core.Bool.{Bool, true, false, not, _&&_}
 use mathlib.Core.List.{List}
 use Prim.Native.Nat.{ℕ}
 use lib.Dec.{eqb}
+use Rattle.common.specs.Choice.{if_then_else_}
 use Rattle.device.specs.declared.Part.{Part}
 use Rattle.device.specs.declared.Device.{Device}
 use Rattle.model_types.specs.declared.Cycle.{Cycle}
@@ -17,6 +18,7 @@ use Rattle.model_commands.specs.Commands.{commandOf}
 use Rattle.model_rules.specs.Inner.{decideJudged}
 use Rattle.model.specs.declared.Seen.{Seen}
 use Rattle.model.specs.Arrays.{seenOf}
+use Rattle.recording.specs.Recordings.{longest, countOf}
 
 -- nothing bars the operation that a second write asks for
 unfoldable pub unbarred : Part → State → Cycle → Bool
@@ -31,6 +33,10 @@ asks (Programming b) c = false
 asks Erasing c = false
 asks (Suspending n) c = false
 asks Suspended c = false
+
+-- the busy time of a record with this count, by whether it starts an operation
+unfoldable pub timeBy : Bool → ℕ → ℕ
+timeBy start n = if start then countOf n else longest
 
 -- what is seen of a judged cycle on the array as it was before the cycle
 unfoldable pub seenJudged : Device → State → Cycle → List ℕ → Seen

@@ -9,17 +9,21 @@ use model_levels::vpp_low;
 use model_states::SR3;
 use model_states::is_pending;
 use model_types::Cycle;
+use model_types::Decision;
 use model_types::Kind;
 use model_types::Phase;
 use model_types::State;
 ghost use mathlib.Core.Path.{_≡_};
-ghost use Rattle.units.specs.Units.{units};
+ghost use mathlib.Core.Bool.{true, false, _&&_};
+ghost use mathlib.Core.List.{[]};
+ghost use Rattle.units.specs.Units.{units, spare};
 ghost use Rattle.model_types.specs.Kinds.{isWrite};
 ghost use Rattle.model_actions.specs.Performed.{unsupplied};
 ghost use Rattle.model.specs.declared.Seen.the-variants.{NoData, Data};
+ghost use Rattle.model.specs.Inner.{doneOf};
 ghost use Rattle.recording.specs.Recordings.{starts, outside, wrongCount, cutsOff, countOf, timeOf, timed, deviceFor, agrees, faulty};
 ghost use Rattle.recording.specs.Recordings.{recordedOf, bytesRecorded, whySeen, whyOf};
-ghost use Rattle.recording.specs.Inner.{unbarred, asks, seenJudged};
+ghost use Rattle.recording.specs.Inner.{unbarred, asks, timeBy, seenJudged};
 
 // The answer that was seen: none, or data of up to 16 bits.
 pub enum Heard {
@@ -110,12 +114,19 @@ fn outside(n: u32) -> bool
     (n == 0) | (65535 < n)
 }
 
+// The count is needed, at a start, and wrong.
+fn miscounts(start: bool, n: u32) -> bool
+    ensures { λ r. ⌜ r ≡ (start && outside n) ⌝ }
+{
+    start & outside(n)
+}
+
 // The count is needed and wrong.
 fn wrong_count(part: Part, s: State, r: Noted) -> bool
     ensures { λ b. ⌜ b ≡ wrongCount part s r ⌝ }
 {
     let c = r.cycle;
-    starts(part, s, c) & outside(r.busy)
+    miscounts(starts(part, s, c), r.busy)
 }
 
 // The cycle cuts an operation that is running, being suspended or suspended.
@@ -140,15 +151,22 @@ fn count_of(n: u32) -> u16
     n as u16
 }
 
+// The busy time of a record with this count, by whether it starts an operation.
+fn time_by(start: bool, n: u32) -> u16
+    ensures { λ r. ⌜ r ≡ timeBy start n ⌝ }
+{
+    if start {
+        return count_of(n);
+    }
+    LONGEST
+}
+
 // The busy time that the record's cycle is made with.
 fn time_of(part: Part, s: State, r: Noted) -> u16
     ensures { λ n. ⌜ n ≡ timeOf part s r ⌝ }
 {
     let c = r.cycle;
-    if starts(part, s, c) {
-        return count_of(r.busy);
-    }
-    LONGEST
+    time_by(starts(part, s, c), r.busy)
 }
 
 // A device whose programs and erases both take so long.
@@ -280,24 +298,60 @@ pub fn reason(d: Device, s: State, r: Noted, array: &[u8]) -> Why
     why_seen(seen)
 }
 
-// One record: at fault it changes nothing, else it is made by the model's own cycle, which was judged already.
-pub fn step_record(d: Device, s: State, r: Noted, array: &mut [u8]) -> Recorded
-    ensures result { λ q. ⌜ q ≡ recordedOf d s r (now (array .entry)) ⌝ }
-    ensures array_left { λ _. ⌜ now (array .exit) ≡ bytesRecorded d s r (now (array .entry)) ⌝ }
+// A record at fault: the state is as it was.
+fn faulted(s: State) -> Recorded
+    ensures { λ r. ⌜ r ≡ record { fault = true; state = s } ⌝ }
 {
-    if at_fault(d, s, r, array) {
-        return Recorded {
-            fault: true,
-            state: s,
-        };
+    Recorded {
+        fault: true,
+        state: s,
     }
-    let c = r.cycle;
+}
+
+// A record that passed, by what was decided of its cycle: what that does to the array is done.
+fn made(x: Decision, part: Part, array: &mut [u8]) -> Recorded
+    ensures result { λ r. ⌜ r ≡ record { fault = false; state = x .state } ⌝ }
+    ensures array_left { λ _. ⌜ units (part .word) (now (array .exit))
+        ≡ doneOf (x .effect) part [] (units (part .word) (now (array .entry))) ⌝ }
+    ensures array_spare { λ _. ⌜ spare (part .word) (now (array .exit)) ≡ spare (part .word) (now (array .entry)) ⌝ }
+{
+    let effect = x.effect;
+    let t = x.state;
     let none = [0u8; 0];
-    let e = device_for(d, s, r);
-    let a = model::after_judging(e, s, c, array, &none);
-    let t = a.state;
+    model::put(effect, part, array, &none);
     Recorded {
         fault: false,
         state: t,
     }
+}
+
+// One record: judged and decided once, held against what was seen on the array as it is; at fault it changes nothing, else what was
+// decided is done.
+pub fn step_record(d: Device, s: State, r: Noted, array: &mut [u8]) -> Recorded
+    ensures result { λ q. ⌜ q ≡ recordedOf d s r (now (array .entry)) ⌝ }
+    ensures array_left { λ _. ⌜ now (array .exit) ≡ bytesRecorded d s r (now (array .entry)) ⌝ }
+{
+    let part = d.part;
+    let word = part.word;
+    let c = r.cycle;
+    let heard = r.heard;
+    let start = starts(part, s, c);
+    if miscounts(start, r.busy) {
+        return faulted(s);
+    }
+    if cuts_off(part, s, c) {
+        return faulted(s);
+    }
+    let e = timed(d, time_by(start, r.busy));
+    let n = model_judge::judge(e, s, c, units::lent_in(word, array.len()), 0);
+    if n != 0 {
+        return faulted(s);
+    }
+    let x = model_rules::decide_judged(e, s, c);
+    let reply = x.reply;
+    let seen = model::see(reply, word, array);
+    if agrees(seen, heard) {
+        return made(x, part, array);
+    }
+    faulted(s)
 }

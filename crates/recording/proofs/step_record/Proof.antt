@@ -1,48 +1,131 @@
-use mathlib.Core.Path.{refl, sym, _∙_}
-use Rattle.recording.proofs.Judging.{fault-state, fault-bytes, good-state, good-bytes}
+use mathlib.Core.Path.{_≡_, sym, _∙_}
 use borrow.Author.Needs.{needs}
+use Rattle.recording.proofs.Judging.{count-fault, cut-fault, refused-fault, fault-left, counted-so, timed-so, differs-fault, made-left}
 use Rattle.recording.proofs.step_record.Statement.{statement}
 use Rattle.recording.proofs.step_record.Tie as tie
 
-at-fault-requires : tie.Need-at-fault-requires
-at-fault-requires c κs = search needs
+starts-requires : tie.Need-starts-requires
+starts-requires c κs = search needs
+
+miscounts-requires : tie.Need-miscounts-requires
+miscounts-requires c κs = search needs
+
+faulted-requires : tie.Need-faulted-requires
+faulted-requires c κs = search needs
+
+returns : tie.Need-returns
+returns c =
+    let a = c .before .before .before .before .before .before .before .args in
+    let started = c .before .before .before .starts .ensures in
+    let counted = counted-so (a .d) (a .s) (a .r) (a .array .now) _ started _ (c .before .before .miscounts .ensures) in
+    let e = sym counted ∙ c .before .if1 .taken in
+    fault-left (a .d) (a .s) (a .r) (a .array .now) (count-fault (a .d) (a .s) (a .r) (a .array .now) e) _ (c .faulted .ensures)
+
+cuts-off-requires : tie.Need-cuts-off-requires
+cuts-off-requires c κs = search needs
+
+faulted-requires-2 : tie.Need-faulted-requires-2
+faulted-requires-2 c κs = search needs
+
+returns-2 : tie.Need-returns-2
+returns-2 c =
+    let a = c .before .before .before .before .before .before .before .before .before .args in
+    let started = c .before .before .before .before .before .starts .ensures in
+    let counted = counted-so (a .d) (a .s) (a .r) (a .array .now) _ started _ (c .before .before .before .before .miscounts .ensures) in
+    let e = sym counted ∙ c .before .before .before .if1 .left in
+    let f = sym (c .before .before .cuts-off .ensures) ∙ c .before .if2 .taken in
+    fault-left (a .d) (a .s) (a .r) (a .array .now) (cut-fault (a .d) (a .s) (a .r) (a .array .now) e f) _ (c .faulted2 .ensures)
+
+time-by-requires : tie.Need-time-by-requires
+time-by-requires c κs = search needs
+
+timed-requires : tie.Need-timed-requires
+timed-requires c κs = search needs
+
+lent-in-requires : tie.Need-lent-in-requires
+lent-in-requires c κs = search needs
+
+judge-requires : tie.Need-judge-requires
+judge-requires c κs = search needs
+
+faulted-requires-3 : tie.Need-faulted-requires-3
+faulted-requires-3 c κs = search needs
+
+returns-3 : tie.Need-returns-3
+returns-3 c =
+    let a = c .before .before .before .before .before .before .before .before .before .before .before .before .before .before .args in
+    let started = c .before .before .before .before .before .before .before .before .before .before .starts .ensures in
+    let counted = counted-so (a .d) (a .s) (a .r) (a .array .now) _ started _ (c .before .before .before .before .before .before .before .before .before .miscounts .ensures) in
+    let e = sym counted ∙ c .before .before .before .before .before .before .before .before .if1 .left in
+    let f = sym (c .before .before .before .before .before .before .before .cuts-off .ensures) ∙ c .before .before .before .before .before .before .if2 .left in
+    let timed = timed-so (a .d) (a .s) (a .r) (a .array .now) _ started _ (c .before .before .before .before .before .time-by .ensures) _ (c .before .before .before .before .timed .ensures) in
+    fault-left (a .d) (a .s) (a .r) (a .array .now) (refused-fault (a .d) (a .s) (a .r) (a .array .now) e f _ timed _ (c .before .before .before .lent-in .ensures) _ (c .before .before .judge .ensures) (c .before .if3 .taken)) _ (c .faulted3 .ensures)
+
+decide-judged-requires : tie.Need-decide-judged-requires
+decide-judged-requires c κs = search needs
+
+see-requires : tie.Need-see-requires
+see-requires c κs = search needs
+
+agrees-requires : tie.Need-agrees-requires
+agrees-requires c κs = search needs
+
+made-requires : tie.Need-made-requires
+made-requires c κs = search needs
 
 same-length : tie.Need-same-length
 same-length c = search needs
 
-returns : tie.Need-returns
-returns c =
-    let e = sym (c .before .at-fault .ensures) ∙ c .if1 .taken in
-    (fault-state _ _ _ _ e, fault-bytes _ _ _ _ e)
+returns-4 : tie.Need-returns-4
+returns-4 c =
+    let a = c .before .before .before .before .before .before .before .before .before .before .before .before .before .before .before .before .before .before .before .before .before .before .args in
+    let started = c .before .before .before .before .before .before .before .before .before .before .before .before .before .before .before .before .before .before .starts .ensures in
+    let counted = counted-so (a .d) (a .s) (a .r) (a .array .now) _ started _ (c .before .before .before .before .before .before .before .before .before .before .before .before .before .before .before .before .before .miscounts .ensures) in
+    let e = sym counted ∙ c .before .before .before .before .before .before .before .before .before .before .before .before .before .before .before .before .if1 .left in
+    let f = sym (c .before .before .before .before .before .before .before .before .before .before .before .before .before .before .before .cuts-off .ensures) ∙ c .before .before .before .before .before .before .before .before .before .before .before .before .before .before .if2 .left in
+    let timed = timed-so (a .d) (a .s) (a .r) (a .array .now) _ started _ (c .before .before .before .before .before .before .before .before .before .before .before .before .before .time-by .ensures) _ (c .before .before .before .before .before .before .before .before .before .before .before .before .timed .ensures) in
+    let made = c .before .before .made in
+    made-left (a .d) (a .s) (a .r) (a .array .now) e f _ timed _ (c .before .before .before .before .before .before .before .before .before .before .before .lent-in .ensures) _ (c .before .before .before .before .before .before .before .before .before .before .judge .ensures) (c .before .before .before .before .before .before .before .before .before .if3 .left) _ (c .before .before .before .before .before .before .before .before .decide-judged .ensures) _ (c .before .before .before .before .before .before .see .ensures .0) _ (c .before .before .before .before .before .agrees .ensures) (c .before .before .before .before .if4 .taken) _ (made .ensures .0) _ (λ i. c .before .before .before .before .before .before .before .before .before .before .before .before .before .before .before .before .before .before .before .before .before .slice-known .given i .fits) (λ i. c .slice-known2 .given i .fits) (made .ensures .1 .0) (made .ensures .1 .1) (made .kept .1 .1 .0)
 
-device-for-requires : tie.Need-device-for-requires
-device-for-requires c κs = search needs
-
-slice-aggregate-after-judging : tie.Need-slice-aggregate-after-judging
-slice-aggregate-after-judging c = search needs
-
-after-judging-requires : tie.Need-after-judging-requires
-after-judging-requires c κs = search needs
+faulted-requires-4 : tie.Need-faulted-requires-4
+faulted-requires-4 c κs = search needs
 
 same-length-2 : tie.Need-same-length-2
 same-length-2 c = search needs
 
-returns-2 : tie.Need-returns-2
-returns-2 c =
-    let e = sym (c .before .before .before .before .before .before .before .before .before .at-fault .ensures) ∙ c .before .before .before .before .before .before .before .before .if1 .left in
-    let after = c .before .before .before .after-judging in
-    let g = c .before .before .before .before .before .before .device-for .ensures in
-    (good-state _ _ _ _ e _ g _ refl _ (after .ensures .0), good-bytes _ _ _ _ e _ g _ refl _ (λ i. c .before .before .before .before .before .before .before .before .before .before .before .slice-known .given i .fits) (λ i. c .before .slice-known2 .given i .fits) (after .ensures .1 .1 .0) (after .ensures .1 .1 .1) (after .kept .1 .1 .1 .0))
+returns-5 : tie.Need-returns-5
+returns-5 c =
+    let a = c .before .before .before .before .before .before .before .before .before .before .before .before .before .before .before .before .before .before .before .args in
+    let started = c .before .before .before .before .before .before .before .before .before .before .before .before .before .before .before .starts .ensures in
+    let counted = counted-so (a .d) (a .s) (a .r) (a .array .now) _ started _ (c .before .before .before .before .before .before .before .before .before .before .before .before .before .before .miscounts .ensures) in
+    let e = sym counted ∙ c .before .before .before .before .before .before .before .before .before .before .before .before .before .if1 .left in
+    let f = sym (c .before .before .before .before .before .before .before .before .before .before .before .before .cuts-off .ensures) ∙ c .before .before .before .before .before .before .before .before .before .before .before .if2 .left in
+    let timed = timed-so (a .d) (a .s) (a .r) (a .array .now) _ started _ (c .before .before .before .before .before .before .before .before .before .before .time-by .ensures) _ (c .before .before .before .before .before .before .before .before .before .timed .ensures) in
+    fault-left (a .d) (a .s) (a .r) (a .array .now) (differs-fault (a .d) (a .s) (a .r) (a .array .now) e f _ timed _ (c .before .before .before .before .before .before .before .before .lent-in .ensures) _ (c .before .before .before .before .before .before .before .judge .ensures) (c .before .before .before .before .before .before .if3 .left) _ (c .before .before .before .before .before .decide-judged .ensures) _ (c .before .before .before .see .ensures .0) _ (c .before .before .agrees .ensures) (c .before .if4 .left)) _ (c .faulted4 .ensures)
 
 pub step-record-spec : {M : Type 1} → statement M
 step-record-spec =
     tie.close
     (tie.spec
-    at-fault-requires
-    same-length
+    starts-requires
+    miscounts-requires
+    faulted-requires
     returns
-    device-for-requires
-    slice-aggregate-after-judging
-    after-judging-requires
+    cuts-off-requires
+    faulted-requires-2
+    returns-2
+    time-by-requires
+    timed-requires
+    lent-in-requires
+    judge-requires
+    faulted-requires-3
+    returns-3
+    decide-judged-requires
+    see-requires
+    agrees-requires
+    made-requires
+    same-length
+    returns-4
+    faulted-requires-4
     same-length-2
-    returns-2)
+    returns-5)

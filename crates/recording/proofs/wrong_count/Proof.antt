@@ -6,12 +6,12 @@ use Rattle.recording.proofs.wrong_count.Tie as tie
 starts-requires : tie.Need-starts-requires
 starts-requires c κs = search needs
 
-outside-requires : tie.Need-outside-requires
-outside-requires c κs = search needs
+miscounts-requires : tie.Need-miscounts-requires
+miscounts-requires c κs = search needs
 
 returns : tie.Need-returns
 unfolding wrongCount
-returns c = simp (c .outside .ensures, c .before .starts .ensures)
+returns c = simp (c .miscounts .ensures, c .before .starts .ensures)
 
 pub wrong-count-spec : {M : Type 1} → statement M
-wrong-count-spec = tie.close (tie.spec starts-requires outside-requires returns)
+wrong-count-spec = tie.close (tie.spec starts-requires miscounts-requires returns)
