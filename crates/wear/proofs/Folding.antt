@@ -17,7 +17,7 @@ use Rattle.wear.specs.Reports.{most, addedUp, larger, lowest, passing, t
 use Rattle.wear.specs.Counted.{totalIn, largestIn, leastOf, passedIn, summary, countsOf, wearsFrom, Small, Fits, AllFit, Sound}
 
 -- ---- one trace more, number by number
-added-is : (a n : ℕ) → a ≤ most → n ≤ most → addedUp a n ≡ min (a + n) most
+pub added-is : (a n : ℕ) → a ≤ most → n ≤ most → addedUp a n ≡ min (a + n) most
 unfolding addedUp
 added-is a n h k = go (ltb (most - n) a) refl
   where
@@ -33,7 +33,7 @@ larger-is a n = go (ltb a n) refl
     go true e = let l = ltb-true a n e in omega arith
     go false e = let l = ltb-false a n e in omega arith
 
-lowest-is : (a n : ℕ) → lowest false a n ≡ min a n
+pub lowest-is : (a n : ℕ) → lowest false a n ≡ min a n
 unfolding lowest
 lowest-is a n = go (ltb n a) refl
   where
@@ -41,7 +41,7 @@ lowest-is a n = go (ltb n a) refl
     go true e = let l = ltb-true n a e in omega arith
     go false e = let l = ltb-false n a e in omega arith
 
-lowest-first : (a n : ℕ) → lowest true a n ≡ n
+pub lowest-first : (a n : ℕ) → lowest true a n ≡ n
 unfolding lowest
 lowest-first a n = refl
 
@@ -53,7 +53,7 @@ passing-is a n h = go (ltb 100000 n)
     go true = raised-is a (omega arith) ∙ omega arith
     go false = omega arith
 
-raised-some : (n : ℕ) → eqb (raised n) 0 ≡ false
+pub raised-some : (n : ℕ) → eqb (raised n) 0 ≡ false
 unfolding raised
 raised-some n = go (ltb n stop) refl
   where
@@ -66,7 +66,7 @@ pub tally-added : (r : Report) (w : Wear) (k : ℕ) → k < 7 → tallyOf (added
 unfolding tallyOf countOf
 tally-added r w = among (λ (k : ℕ). tallyOf (added r w) k ≡ tallied (eqb (r .traces) 0) (tallyOf r k) (countOf w k)) refl refl refl refl refl refl refl
 
-none-tallies : (k : ℕ) → k < 7 → tallyOf noReport k ≡ noTally
+pub none-tallies : (k : ℕ) → k < 7 → tallyOf noReport k ≡ noTally
 unfolding tallyOf
 none-tallies = among (λ (k : ℕ). tallyOf noReport k ≡ noTally) refl refl refl refl refl refl refl
 
@@ -86,11 +86,11 @@ same-report r q e h =
     }
 
 -- .. and trace after trace
-abbrev folded : ℕ → Tally → List ℕ → Tally
+abbrev pub folded : ℕ → Tally → List ℕ → Tally
 folded n t [] = t
 folded n t (c ∷ cs) = folded (raised n) (tallied (eqb n 0) t c) cs
 
-tally-on : (ws : List Wear) (r : Report) (k : ℕ) → k < 7 → tallyOf (reportOn r ws) k ≡ folded (r .traces) (tallyOf r k) (countsOf k ws)
+pub tally-on : (ws : List Wear) (r : Report) (k : ℕ) → k < 7 → tallyOf (reportOn r ws) k ≡ folded (r .traces) (tallyOf r k) (countsOf k ws)
 tally-on [] r k h = refl
 tally-on (w ∷ ws) r k h = tally-on ws (added r w) k h ∙ ap (λ (t : Tally). folded (raised (r .traces)) t (countsOf k ws)) (tally-added r w k h)
 

@@ -1,36 +1,35 @@
--- The walks of a report: over the device numbers, and over the traces.
+-- The walk of a report over the device numbers, and what is known of one that is not refused.
 use mathlib.Core.Path.{_≡_, refl, ap, sym, _∙_}
 use mathlib.Core.Bool.{Bool, true, false, not, _||_}
 use mathlib.Core.List.{List, _∷_}
-use Prim.Native.Nat.{ℕ, suc, _+_, _-_, _*_, _/_, _%_, _<_}
+use Prim.Native.Nat.{ℕ, _+_, _*_, _/_, _%_, _≤_, _<_}
 use native.Mathlib.Omega.{arith}
 use native.Mathlib.Numerals.{add-one}
-use lib.ListN.{length, getD, drop}
+use lib.ListN.{length, getD, drop, drop-of-length-le}
 use lib.Seq.{drop-cons}
 use lib.Dec.{eqb}
-use borrow.Author.Tests.{eq-eqb, ne-eqb, eqb-true, eqb-false, ltb-false}
-use Rattle.common.proofs.Choice.{if-true, if-false}
+use borrow.Author.Tests.{eq-eqb, ne-eqb, eqb-true, eqb-false, ltb-false, not-false}
+use Rattle.common.specs.Choice.{if_then_else_}
 use Rattle.common.proofs.Numbers.{given-no-row, no-head, no-tail}
-use Rattle.wear.specs.declared.Report.{Report}
-use Rattle.wear.specs.Reports.{added, wearAt, reportFrom}
 use Rattle.wear.specs.Refusals.{differ, unevenCounts, reportRows, reportNumber}
 
 from-here : (s : List ℕ) (i : ℕ) → i < length s → drop i s ≡ getD s i 0 ∷ drop (i + 1) s
 from-here s i h = rw (add-one i) (drop-cons s i 0 h)
 
--- a number that is another, and one that is not
-pub other : (n : ℕ) (s : List ℕ) (i : ℕ) → i < length s → (getD s i 0 ≡ n → ⊥) → differ n (drop i s) ≡ true
-other n s i h e = ap (differ n) (from-here s i h) ∙ if-false (eqb (getD s i 0) n) (differ n (drop (i + 1) s)) true (ne-eqb _ _ e)
+-- one number further
+pub further : (n : ℕ) (s : List ℕ) (i : ℕ) → i < length s → (b : Bool)
+    → ((b || not (eqb (getD s i 0) n)) || differ n (drop (i + 1) s)) ≡ (b || differ n (drop i s))
+further n s i h true = refl
+further n s i h false = go (eqb (getD s i 0) n) ∙ sym (ap (differ n) (from-here s i h))
+  where
+    go : (t : Bool) → (not t || differ n (drop (i + 1) s)) ≡ (if t then differ n (drop (i + 1) s) else true)
+    go true = refl
+    go false = refl
 
-pub same : (n : ℕ) (s : List ℕ) (i : ℕ) → i < length s → getD s i 0 ≡ n → differ n (drop i s) ≡ differ n (drop (i + 1) s)
-same n s i h e = ap (differ n) (from-here s i h) ∙ if-true (eqb (getD s i 0) n) (differ n (drop (i + 1) s)) true (eq-eqb _ _ e)
-
--- one trace more
-pub round : (n i : ℕ) (s : List ℕ) (r : Report) → i < n → reportFrom (n - i) i s r ≡ reportFrom (n - (i + 1)) (i + 1) s (added r (wearAt s i))
-round n i s r h = ap (λ (k : ℕ). reportFrom k i s r) (let q : n - i ≡ suc (n - (i + 1)) = omega arith in q)
-
-pub over : (n i : ℕ) (s : List ℕ) (r : Report) → i ≡ n → reportFrom (n - i) i s r ≡ r
-over n i s r h = ap (λ (k : ℕ). reportFrom k i s r) (let q : n - i ≡ 0 = omega arith in q)
+-- .. and none
+pub over : (n : ℕ) (s : List ℕ) (i : ℕ) → length s ≤ i → (b : Bool) → (b || differ n (drop i s)) ≡ b
+over n s i h true = refl
+over n s i h false = ap (differ n) (drop-of-length-le s {i = i} h)
 
 -- seven for each, by quotient and rest
 pub uneven : (t c : ℕ) → (not (eqb (c / 7) t) || not (eqb (c % 7) 0)) ≡ unevenCounts t c
@@ -42,7 +41,7 @@ uneven t c = go (eqb (c / 7) t) refl (eqb (c % 7) 0) refl
     go true p false q = let y = eqb-false (c % 7) 0 q in sym (ap not (ne-eqb c (7 * t) (λ z. y (omega arith))))
     go false p b q = let x = eqb-false (c / 7) t p in sym (ap not (ne-eqb c (7 * t) (λ z. x (omega arith))))
 
--- what is not refused has at most 65,535 traces
+-- what is not refused has at most 65,535 traces, and seven counts for each
 pub few : (number : ℕ) (numbers : List ℕ) (counts : ℕ) → reportNumber number numbers counts ≡ 0 → length numbers < 65536
 unfolding reportNumber
 few number numbers counts e =
@@ -51,3 +50,9 @@ few number numbers counts e =
     let r3 = no-tail r2 in
     let h = ltb-false 65535 (length numbers) (no-head r3) in
     omega arith
+
+pub sevens : (number : ℕ) (numbers : List ℕ) (counts : ℕ) → reportNumber number numbers counts ≡ 0 → counts ≡ 7 * length numbers
+unfolding reportNumber unevenCounts
+sevens number numbers counts e =
+    let r = given-no-row (reportRows number numbers counts) refl e in
+    eqb-true counts (7 * length numbers) (not-false (eqb counts (7 * length numbers)) (no-head (no-tail r)))

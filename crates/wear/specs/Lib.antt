@@ -1,3 +1,4 @@
 pub mod Reports
 pub mod Counted
 pub mod Refusals
+pub mod Columns

@@ -4,9 +4,13 @@ use device::Part;
 use model_types::Wear;
 use model_types::counts::raise;
 ghost use mathlib.Core.Path.{_≡_};
-ghost use Prim.Native.Nat.{_<_};
-ghost use lib.ListN.{getD};
-ghost use Rattle.wear.specs.Reports.{addedUp, larger, lowest, passing, tallied, noTally, noReport, added, wearAt, reportFrom};
+ghost use mathlib.Core.Bool.{false, not};
+ghost use Prim.Native.Nat.{_+_, _-_, _*_, _<_, _≤_};
+ghost use lib.Dec.{eqb};
+ghost use lib.ListN.{length, getD};
+ghost use Rattle.model_types.specs.Counts.{stop};
+ghost use Rattle.wear.specs.Reports.{most, addedUp, larger, lowest, passing, tallied, noTally, noReport, added, reportFrom, tallyOf};
+ghost use Rattle.wear.specs.Columns.{columnFrom, firstTally, Room, Few};
 ghost use Rattle.wear.specs.Refusals.{differ, unknownNumber, unevenCounts, reportNumber, reportedOf, addNumber, addedTo};
 
 // Of one block: the sum of its counts, the largest, the smallest (0 of no traces) and how many are over 100,000.
@@ -158,50 +162,124 @@ fn count_at(s: &[u32], at: usize) -> u32
     0
 }
 
-// The seven counts of trace i.
-fn wear_at(s: &[u32], i: usize) -> Wear
-    requires { ⌜ i < 65536 ⌝ }
-    ensures { λ r. ⌜ r ≡ wearAt (now (s .entry)) i ⌝ }
+// A total with a count more, where it has room.
+fn add_in(a: u64, n: u32) -> u64
+    requires { ⌜ a + n ≤ most ⌝ }
+    ensures { λ r. ⌜ (r ≡ addedUp a n) × (r ≡ a + n) ⌝ }
 {
-    let at = 7 * i;
-    Wear {
-        block0: count_at(s, at),
-        block1: count_at(s, at + 1),
-        block2: count_at(s, at + 2),
-        block3: count_at(s, at + 3),
-        block4: count_at(s, at + 4),
-        block5: count_at(s, at + 5),
-        block6: count_at(s, at + 6),
+    a + n as u64
+}
+
+// One more where a count passed the sheet's, where it has room.
+fn pass_in(a: u32, n: u32) -> u32
+    requires { ⌜ a < stop ⌝ }
+    ensures { λ r. ⌜ (r ≡ passing a n) × (r ≤ a + 1) ⌝ }
+{
+    if n <= SHEET {
+        return a;
+    }
+    a + 1
+}
+
+// One block, with one trace more that is not the first, where its numbers have room.
+fn tally_in(t: Tally, n: u32) -> Tally
+    requires { ⌜ (t .total + n ≤ most) × (t .passed < stop) ⌝ }
+    ensures { λ r. ⌜ (r ≡ tallied false t n) × ((r .total ≡ t .total + n) × (r .passed ≤ t .passed + 1)) ⌝ }
+{
+    Tally {
+        total: add_in(t.total, n),
+        largest: larger(t.largest, n),
+        smallest: lowest(false, t.smallest, n),
+        passed: pass_in(t.passed, n),
     }
 }
 
-// The report on the first n traces.
-fn sum(s: &[u32], n: usize) -> Report
-    requires { ⌜ n < 65536 ⌝ }
-    ensures { λ r. ⌜ r ≡ reportFrom n 0 (now (s .entry)) noReport ⌝ }
+// A block before its first trace, with this count as the smallest.
+fn first_tally(n: u32) -> Tally
+    ensures { λ r. ⌜ r ≡ firstTally n ⌝ }
 {
-    let mut r = none();
+    Tally {
+        total: 0,
+        largest: 0,
+        smallest: n,
+        passed: 0,
+    }
+}
+
+// The first 2 m counts of block k, two at a time: four numbers, which the compiler keeps in registers.
+fn pairs(s: &[u32], k: usize, m: usize, from: Tally) -> Tally
+    requires { ⌜ Few k (2 * m) (length (now s)) × ((from .total ≡ 0) × (from .passed ≡ 0)) ⌝ }
+    ensures { λ r. ⌜ (r ≡ columnFrom (2 * m) 0 k (now (s .entry)) from) × Room (2 * m) r ⌝ }
+{
+    let mut t = from;
     let mut i = 0;
-    while i < n {
-        let w = wear_at(s, i);
-        r = add(r, w);
+    while i < m {
+        let at = 14 * i + k;
+        let u = tally_in(t, s[at]);
+        t = tally_in(u, s[at + 7]);
         i += 1;
     }
-    r
+    t
 }
 
-// Whether some trace is from another device number.
+// The last count, where their number is odd.
+fn odd(s: &[u32], k: usize, i: usize, n: usize, t: Tally) -> Tally
+    requires { ⌜ Few k n (length (now s)) × ((i ≤ n) × ((n ≤ i + 1) × Room i t)) ⌝ }
+    ensures { λ r. ⌜ r ≡ columnFrom (n - i) i k (now (s .entry)) t ⌝ }
+{
+    if i < n {
+        let u = tally_in(t, s[7 * i + k]);
+        return u;
+    }
+    t
+}
+
+// Block k of the report on n traces.
+fn column(s: &[u32], k: usize, n: usize) -> Tally
+    requires { ⌜ (k < 7) × ((n < 65536) × (length (now s) ≡ 7 * n)) ⌝ }
+    ensures { λ r. ⌜ r ≡ tallyOf (reportFrom n 0 (now (s .entry)) noReport) k ⌝ }
+{
+    let m = n / 2;
+    let from = first_tally(count_at(s, k));
+    let t = pairs(s, k, m, from);
+    odd(s, k, 2 * m, n, t)
+}
+
+// The report on the n traces, block by block.
+fn sum(s: &[u32], n: usize) -> Report
+    requires { ⌜ (n < 65536) × (length (now s) ≡ 7 * n) ⌝ }
+    ensures { λ r. ⌜ r ≡ reportFrom n 0 (now (s .entry)) noReport ⌝ }
+{
+    Report {
+        traces: n as u32,
+        block0: column(s, 0, n),
+        block1: column(s, 1, n),
+        block2: column(s, 2, n),
+        block3: column(s, 3, n),
+        block4: column(s, 4, n),
+        block5: column(s, 5, n),
+        block6: column(s, 6, n),
+    }
+}
+
+// The number is another.
+fn is_other(x: u8, number: u8) -> bool
+    ensures { λ r. ⌜ r ≡ not (eqb x number) ⌝ }
+{
+    !(x == number)
+}
+
+// Whether some trace is from another device number. The walk has no stop, so that the compiler takes many numbers at once.
 fn differ(number: u8, s: &[u8]) -> bool
     ensures { λ r. ⌜ r ≡ differ number (now (s .entry)) ⌝ }
 {
+    let mut found = false;
     let mut i = 0;
     while i < s.len() {
-        if s[i] != number {
-            return true;
-        }
+        found = found | is_other(s[i], number);
         i += 1;
     }
-    false
+    found
 }
 
 // Whether the counts are not seven for each trace.

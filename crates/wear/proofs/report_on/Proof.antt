@@ -2,7 +2,7 @@ use borrow.Author.Needs.{needs}
 use borrow.Author.Tests.{eq-eqb, ne-eqb}
 use mathlib.Core.Path.{sym, _∙_}
 use Rattle.wear.specs.Refusals.{reportedOf}
-use Rattle.wear.proofs.Walks.{few}
+use Rattle.wear.proofs.Walks.{few, sevens}
 use Rattle.wear.proofs.report_on.Statement.{statement}
 use Rattle.wear.proofs.report_on.Tie as tie
 
@@ -17,7 +17,9 @@ unfolding reportedOf
 returns c = simp (c .none .ensures, ← c .before .before .report-number .ensures, ne-eqb _ _ (c .before .if1 .taken))
 
 sum-requires : tie.Need-sum-requires
-sum-requires c κs = few _ _ _ (sym (c .before .report-number .ensures) ∙ c .if1 .left)
+sum-requires c κs =
+    let e = sym (c .before .report-number .ensures) ∙ c .if1 .left in
+    (few _ _ _ e, sevens _ _ _ e)
 
 returns-2 : tie.Need-returns-2
 unfolding reportedOf
