@@ -30,8 +30,9 @@ use Rattle.model.proofs.Borders.{stopped-answer, passed-answer, passed-bytes}
 use Rattle.recording.specs.declared.Noted.{Noted}
 use Rattle.recording.specs.declared.Recorded.{Recorded}
 use Rattle.recording.specs.declared.Why.{Why}
-use Rattle.recording.specs.Recordings.{starts, outside, wrongCount, cutsOff, timeOf, timed, deviceFor, agrees, answerTo, faulty, recordedOf, bytesRecorded, whyAs, whySeen, whyOf}
+use Rattle.recording.specs.Recordings.{starts, longest, outside, wrongCount, cutsOff, timeOf, timed, deviceFor, agrees, answerTo, faulty, recordedOf, bytesRecorded, whyAs, whySeen, whyOf}
 use Rattle.recording.specs.Inner.{timeBy, seenJudged}
+use Rattle.recording.proofs.Longest.{judge-longest}
 use Rattle.recording.proofs.Seeing.{seen-early}
 
 -- no bytes have no units
@@ -179,6 +180,26 @@ module _ (d : Device) (s : State) (r : Noted) (bytes : List ℕ) where
   pub timed-so : (b : Bool) → b ≡ starts (d .part) s (r .cycle) → (t : ℕ) → t ≡ timeBy b (r .busy) → (g : Device) → g ≡ timed d t → g ≡ deviceFor d s r
   unfolding timeOf timeBy
   timed-so b a t k g p = p ∙ ap (λ (n : ℕ). timed d n) (k ∙ ap (λ (u : Bool). timeBy u (r .busy)) a)
+
+  -- a cut, and what is refused on the device of the longest time, is at fault whatever the count
+  pub cut-faulty : cutsOff (d .part) s (r .cycle) ≡ true → true ≡ faulty d s r bytes
+  cut-faulty f = go (wrongCount (d .part) s r) refl
+    where
+      go : (b : Bool) → wrongCount (d .part) s r ≡ b → true ≡ faulty d s r bytes
+      go true e = count-fault e
+      go false e = cut-fault e f
+
+  pub judged-own : (l : Device) → l ≡ timed d longest → (m n : ℕ) → n ≡ judgeOf l s (r .cycle) m 0 → (g : Device) → g ≡ deviceFor d s r → n ≡ judgeOf g s (r .cycle) m 0
+  judged-own l a m n j g same =
+      j ∙ ap (λ (h : Device). judgeOf h s (r .cycle) m 0) a ∙ judge-longest d s r m 0 ∙ ap (λ (h : Device). judgeOf h s (r .cycle) m 0) (sym same)
+
+  pub refused-faulty : cutsOff (d .part) s (r .cycle) ≡ false → (m : ℕ) → m ≡ lentIn (d .part .word) (length bytes) → (n : ℕ) → n ≡ judgeOf (deviceFor d s r) s (r .cycle) m 0
+      → (n ≡ 0 → ⊥) → true ≡ faulty d s r bytes
+  refused-faulty f m lies n j z = go (wrongCount (d .part) s r) refl
+    where
+      go : (b : Bool) → wrongCount (d .part) s r ≡ b → true ≡ faulty d s r bytes
+      go true e = count-fault e
+      go false e = refused-fault e f (deviceFor d s r) refl m lies n j z
 
   -- decided once: what was decided is held against what was seen, and then done
   module _ (e : wrongCount (d .part) s r ≡ false) (f : cutsOff (d .part) s (r .cycle) ≡ false) (g : Device) (same : g ≡ deviceFor d s r)

@@ -325,8 +325,8 @@ fn made(x: Decision, part: Part, array: &mut [u8]) -> Recorded
     }
 }
 
-// One record: judged and decided once, held against what was seen on the array as it is; at fault it changes nothing, else what was
-// decided is done.
+// One record: judged on the longest time, which no number tells from the record's own, and decided once; held against what was seen on the
+// array as it is. At fault it changes nothing, else what was decided is done.
 pub fn step_record(d: Device, s: State, r: Noted, array: &mut [u8]) -> Recorded
     ensures result { λ q. ⌜ q ≡ recordedOf d s r (now (array .entry)) ⌝ }
     ensures array_left { λ _. ⌜ now (array .exit) ≡ bytesRecorded d s r (now (array .entry)) ⌝ }
@@ -335,18 +335,19 @@ pub fn step_record(d: Device, s: State, r: Noted, array: &mut [u8]) -> Recorded
     let word = part.word;
     let c = r.cycle;
     let heard = r.heard;
+    if cuts_off(part, s, c) {
+        return faulted(s);
+    }
+    let longest = timed(d, LONGEST);
+    let n = model_judge::judge(longest, s, c, units::lent_in(word, array.len()), 0);
+    if n != 0 {
+        return faulted(s);
+    }
     let start = starts(part, s, c);
     if miscounts(start, r.busy) {
         return faulted(s);
     }
-    if cuts_off(part, s, c) {
-        return faulted(s);
-    }
     let e = timed(d, time_by(start, r.busy));
-    let n = model_judge::judge(e, s, c, units::lent_in(word, array.len()), 0);
-    if n != 0 {
-        return faulted(s);
-    }
     let x = model_rules::decide_judged(e, s, c);
     let reply = x.reply;
     let seen = model::see(reply, word, array);
