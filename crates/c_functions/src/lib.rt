@@ -94,7 +94,29 @@ pub extern "C" fn tb_cycle(
     ensures result { λ r. ⌜ r ≡ cycled device state bus (now (array .entry)) (now (residue .entry)) ⌝ }
     ensures array_left { λ _. ⌜ now (array .exit) ≡ arrayCycled device state bus (now (array .entry)) (now (residue .entry)) ⌝ }
 {
-    c_ordinary::cycle(device, state, bus, array, residue)
+    if c_ordinary::is_resting(state) {
+        if c_ordinary::is_ordinary(device, bus, array.len()) {
+            if bus.kind == 0 {
+                if state.mode == 0 {
+                    let unit = units::get_unit(device.word == 1, array, bus.address as usize);
+                    return c_ordinary::shown(state, unit);
+                }
+                if state.mode == 1 {
+                    return c_ordinary::shown(state, units::wide(state.status));
+                }
+            }
+            let set = c_ordinary::command_of(bus.kind, bus.data % 256, state.mode, state.status);
+            if set.known {
+                return c_ordinary::quiet(state, set.mode, set.status, set.phase);
+            }
+        }
+        let b = bus;
+        let a = c_ordinary::other_cycle(device, state, b, array, residue);
+        return a;
+    }
+    let b = bus;
+    let a = c_ordinary::other_cycle(device, state, b, array, residue);
+    a
 }
 
 // What a start says, and the record.

@@ -1,4 +1,5 @@
 pub mod Passing
 pub mod Rest
 pub mod Running
+pub mod Sufficient
 pub mod Unique

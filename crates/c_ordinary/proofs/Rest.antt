@@ -179,9 +179,9 @@ module _ (d : DeviceNumbers) (n : StateNumbers) (b : BusNumbers) (xs rs : List �
   cleared = λ i. quietAs n (sym mode-back i) (bitAnd (n .status) 0xC7) 0
 
   -- for code: what is no read
-  pub command-told : eqb (b .kind) 0 ≡ false → (t : Commanded) → t ≡ commandedOf (b .kind) (b .data % 256) (n .mode) (n .status) → Answers t
+  pub command-told : (t : Commanded) → t ≡ commandedOf (b .kind) (b .data % 256) (n .mode) (n .status) → Answers t
   unfolding commandedOf firstWrite asksProgram
-  command-told z t e = subst Answers (sym e) chain
+  command-told t e = subst Answers (sym e) chain
     where
       y : ℕ
       y = b .data % 256
@@ -189,16 +189,23 @@ module _ (d : DeviceNumbers) (n : StateNumbers) (b : BusNumbers) (xs rs : List �
       w : not (eqb (b .kind) 1) ≡ false → b .kind ≡ 1
       w q = eqb-true (b .kind) 1 (not-false (eqb (b .kind) 1) q)
 
-      rests : not (eqb (b .kind) 1) ≡ true → b .kind ≡ 2
-      rests q = omega (arith, o .kind, eqb-false (b .kind) 0 z, eqb-false (b .kind) 1 (not-true (eqb (b .kind) 1) q))
-
       chain : Answers (commandedOf (b .kind) y (n .mode) (n .status))
       chain =
-          if-ind Answers (not (eqb (b .kind) 1)) _ _ (λ q k. (idle-answer (rests q), unwritten Quiet S (idle (rests q))))
+          if-ind Answers (eqb (b .kind) 2) _ _ (λ q k. (idle-answer (eqb-true (b .kind) 2 q), unwritten Quiet S (idle (eqb-true (b .kind) 2 q))))
+          (λ z. if-ind Answers (not (eqb (b .kind) 1)) _ _ (λ q k. absurd (unlike (sym k)))
           (λ q. if-ind Answers (eqb y 0xFF) _ _ (λ f k. command-answer (w q) ToArray (byte-is 0xFF ToArray refl f) refl _ refl)
           (λ m1. if-ind Answers (eqb y 0x90) _ _ (λ f k. command-answer (w q) ToIdentifier (byte-is 0x90 ToIdentifier refl f) refl _ refl)
           (λ m2. if-ind Answers (eqb y 0x70) _ _ (λ f k. command-answer (w q) ToStatus (byte-is 0x70 ToStatus refl f) refl _ refl)
           (λ m3. if-ind Answers (eqb y 0x50) _ _ (λ f k. command-answer (w q) Clear (byte-is 0x50 Clear refl f) refl _ cleared)
           (λ m4. if-ind Answers (eqb y 0x20) _ _ (λ f k. command-answer (w q) AwaitErase (byte-is 0x20 AwaitErase refl f) refl _ refl)
           (λ m5. if-ind Answers (eqb y 0x40) _ _ (λ f k. command-answer (w q) AwaitData (byte-is 0x40 AwaitData refl f) refl _ refl)
-          (λ m6 k. absurd (unlike (sym k)))))))))
+          (λ m6 k. absurd (unlike (sym k))))))))))
+
+-- for code: a command that is known comes with a kind that there is
+pub known-kind : (kind byte mode sr : ℕ) (t : Commanded) → t ≡ commandedOf kind byte mode sr → t .known ≡ true → kind ≤ 2
+unfolding commandedOf
+known-kind kind byte mode sr t e k =
+    subst (λ (x : Commanded). x .known ≡ true → kind ≤ 2) (sym e)
+    (if-ind (λ (x : Commanded). x .known ≡ true → kind ≤ 2) (eqb kind 2) _ _ (λ q h. omega (arith, eqb-true kind 2 q))
+    (λ z. if-ind (λ (x : Commanded). x .known ≡ true → kind ≤ 2) (not (eqb kind 1)) _ _ (λ q h. absurd (unlike (sym h)))
+    (λ q h. omega (arith, eqb-true kind 1 (not-false (eqb kind 1) q))))) k

@@ -1,6 +1,6 @@
 // One bus cycle from numbers to numbers. An ordinary cycle of a device at rest, and a read or an idle cycle while an operation goes on, are
 // answered from the numbers; every other goes the typed way. The test of an ordinary cycle is sufficient and no more: what fails it is
-// judged by the rules, and by them alone.
+// judged by the rules, and by them alone. The caller makes the choice at rest itself (`tb_cycle`): the answer is then made where it goes.
 use c_cycle::AnswerNumbers;
 use c_cycle::BusNumbers;
 use c_cycle::DeviceNumbers;
@@ -11,66 +11,112 @@ use c_cycle::states::device_in;
 use c_cycle::states::part_in;
 use c_cycle::states::pins_in;
 use c_cycle::states::state_in;
-use model_levels::bad_pins;
 use model_levels::vpp_low;
 ghost use mathlib.Core.Path.{_≡_};
-ghost use mathlib.Core.Bool.{true, false};
-ghost use Prim.Native.Nat.{_≤_, _<_};
-ghost use lib.Dec.{eqb};
+ghost use mathlib.Core.Bool.{true};
+ghost use Prim.Native.Nat.{_<_};
 ghost use Rattle.model_levels.specs.Levels.{vppLow};
 ghost use Rattle.c_cycle.specs.Values.{deviceIn, cycleIn};
 ghost use Rattle.c_cycle.specs.Answers.{cycled, arrayCycled};
-ghost use Rattle.c_ordinary.specs.Ordinary.{Ordinary, Resting, Running, quietAs, shownAs, countedAs, setsAs, commandedOf, seenIn};
-ghost use Rattle.c_ordinary.specs.Ordinary.{shownIn};
+ghost use Rattle.c_ordinary.specs.Ordinary.{bytesFor, unitsFor, levelIn, ordinaryIn, restingIn, Running, Polling, quietAs, shownAs};
+ghost use Rattle.c_ordinary.specs.Ordinary.{countedAs, setsAs, unsetAs, commandedOf, seenIn, shownIn};
 
 // What a command sets, and whether it is one of those that are known here.
-struct Commanded {
-    known: bool,
-    mode: u8,
-    status: u8,
-    phase: u8,
+pub struct Commanded {
+    pub known: bool,
+    pub mode: u8,
+    pub status: u8,
+    pub phase: u8,
+}
+
+// The bytes of a part's array; none where there is no such part.
+fn bytes_of(number: u8) -> usize
+    ensures { λ r. ⌜ r ≡ bytesFor number ⌝ }
+{
+    match number {
+        1 => 131072,
+        2 => 131072,
+        3 => 16384,
+        4 => 16384,
+        5 => 262144,
+        6 => 262144,
+        7 => 524288,
+        8 => 524288,
+        _ => 0,
+    }
+}
+
+// The units of a known part's array, where so many bytes are lent; none otherwise.
+fn units_of(number: u8, word: u8, len: usize) -> usize
+    ensures { λ r. ⌜ r ≡ unitsFor number word len ⌝ }
+{
+    if bytes_of(number) != len {
+        return 0;
+    }
+    if word == 0 {
+        return len;
+    }
+    if word != 1 {
+        return 0;
+    }
+    if number < 5 {
+        return 0;
+    }
+    len / 2
+}
+
+// Levels that are good on every part, with RP# up and OE# low.
+fn is_level(rp: u8, oe: u8, wp: u8, vpp: u32) -> bool
+    ensures { λ r. ⌜ r ≡ levelIn rp oe wp vpp ⌝ }
+{
+    if oe != 0 {
+        return false;
+    }
+    if 1 < wp {
+        return false;
+    }
+    if rp == 0 {
+        return false;
+    }
+    if 2 < rp {
+        return false;
+    }
+    if 11400 <= vpp {
+        return vpp <= 12600;
+    }
+    if 4500 <= vpp {
+        return vpp <= 5500;
+    }
+    vpp <= 1500
 }
 
 // Refusals 1, 2, 4 and 5 do not apply, RP# is up and OE# low.
-fn is_ordinary(n: DeviceNumbers, b: BusNumbers, len: usize) -> bool
-    ensures { λ r. ⌜ (r ≡ true → Ordinary n b len) ⌝ }
+pub fn is_ordinary(n: DeviceNumbers, b: BusNumbers, len: usize) -> bool
+    ensures { λ r. ⌜ r ≡ ordinaryIn n b len ⌝ }
 {
-    if 2 < b.kind {
+    if n.program == 0 {
         return false;
     }
-    if b.oe != 0 {
+    if n.erase == 0 {
         return false;
     }
-    if b.rp == 0 {
+    if n.suspend == 0 {
         return false;
     }
-    let d = device_in(n);
-    if device::unknown_device(d) {
+    if 100 < n.suspend {
         return false;
     }
-    let part = d.part;
-    let word = part.word;
-    if bad_pins(part, pins_in(b.rp, b.wp, b.vpp)) {
-        return false;
+    if is_level(b.rp, b.oe, b.wp, b.vpp) {
+        return (b.address as usize) < units_of(n.number, n.word, len);
     }
-    let size = device::size(part);
-    if units::lent_in(word, len) != size {
-        return false;
-    }
-    (b.address as usize) < size
+    false
 }
 
 // A proper state with nothing awaited, running or suspended.
-fn is_resting(n: StateNumbers) -> bool
-    ensures { λ r. ⌜ (r ≡ true → Resting n) ⌝ }
+pub fn is_resting(n: StateNumbers) -> bool
+    ensures { λ r. ⌜ r ≡ restingIn n ⌝ }
 {
-    if n.address != 0 {
-        return false;
-    }
-    if n.left != 0 {
-        return false;
-    }
-    if n.data != 0 {
+    if (n.left as u64) + 65536 * (n.data as u64) + 4294967296 * (n.address as u64) != 0 {
         return false;
     }
     if n.phase != 0 {
@@ -118,7 +164,7 @@ fn is_running(d: DeviceNumbers, n: StateNumbers) -> bool
 }
 
 // No data, and the state at rest or with a second write awaited.
-fn quiet(n: StateNumbers, mode: u8, status: u8, phase: u8) -> AnswerNumbers
+pub fn quiet(n: StateNumbers, mode: u8, status: u8, phase: u8) -> AnswerNumbers
     ensures { λ r. ⌜ r ≡ quietAs n mode status phase ⌝ }
 {
     let w = n.wear;
@@ -139,7 +185,7 @@ fn quiet(n: StateNumbers, mode: u8, status: u8, phase: u8) -> AnswerNumbers
 }
 
 // A value, and the state as it was.
-fn shown(n: StateNumbers, v: u16) -> AnswerNumbers
+pub fn shown(n: StateNumbers, v: u16) -> AnswerNumbers
     ensures { λ r. ⌜ r ≡ shownAs n v ⌝ }
 {
     AnswerNumbers {
@@ -201,12 +247,27 @@ fn sets(mode: u8, status: u8, phase: u8) -> Commanded
     }
 }
 
+// A command that is not known here.
+fn unset() -> Commanded
+    ensures { λ r. ⌜ r ≡ unsetAs ⌝ }
+{
+    Commanded {
+        known: false,
+        mode: 0,
+        status: 0,
+        phase: 0,
+    }
+}
+
 // What an ordinary write at rest sets, where its byte only turns mode, status or phase. An idle cycle sets what stands.
-fn command_of(kind: u8, byte: u16, mode: u8, status: u8) -> Commanded
+pub fn command_of(kind: u8, byte: u16, mode: u8, status: u8) -> Commanded
     ensures { λ r. ⌜ r ≡ commandedOf kind byte mode status ⌝ }
 {
-    if kind != 1 {
+    if kind == 2 {
         return sets(mode, status, 0);
+    }
+    if kind != 1 {
+        return unset();
     }
     if byte == 0xFF {
         return sets(0, status, 0);
@@ -226,12 +287,7 @@ fn command_of(kind: u8, byte: u16, mode: u8, status: u8) -> Commanded
     if byte == 0x40 {
         return sets(1, status, 2);
     }
-    Commanded {
-        known: false,
-        mode: 0,
-        status: 0,
-        phase: 0,
-    }
+    unset()
 }
 
 // Whether a poll gives data: a read does.
@@ -262,25 +318,26 @@ fn vpp_down(n: DeviceNumbers, b: BusNumbers) -> bool
     vpp_low(part, pins_in(b.rp, b.wp, b.vpp))
 }
 
-// Which cycles may be ordinary: 1 at rest, 2 a read or an idle cycle while an operation goes on, 0 no other.
-fn way_of(device: DeviceNumbers, state: StateNumbers, bus: BusNumbers) -> u8
-    ensures at_rest { λ r. ⌜ (1 ≤ r → r < 2 → Resting state) ⌝ }
-    ensures going_on { λ r. ⌜ (1 < r → Running device state × (eqb (bus .kind) 1 ≡ false)) ⌝ }
+// A read or an idle cycle while an operation goes on: one cycle is counted off.
+fn is_poll(device: DeviceNumbers, state: StateNumbers, bus: BusNumbers, len: usize) -> bool
+    ensures { λ r. ⌜ (r ≡ true → Polling device state bus len) ⌝ }
 {
-    if is_resting(state) {
-        return 1;
-    }
     if bus.kind == 1 {
-        return 0;
+        return false;
+    }
+    if 2 < bus.kind {
+        return false;
     }
     if is_running(device, state) {
-        return 2;
+        if is_ordinary(device, bus, len) {
+            return !vpp_down(device, bus);
+        }
     }
-    0
+    false
 }
 
-// One bus cycle.
-pub fn cycle(
+// Every cycle but an ordinary one at rest.
+pub fn other_cycle(
     device: DeviceNumbers,
     state: StateNumbers,
     bus: BusNumbers,
@@ -290,32 +347,8 @@ pub fn cycle(
     ensures result { λ r. ⌜ r ≡ cycled device state bus (now (array .entry)) (now (residue .entry)) ⌝ }
     ensures array_left { λ _. ⌜ now (array .exit) ≡ arrayCycled device state bus (now (array .entry)) (now (residue .entry)) ⌝ }
 {
-    let way = way_of(device, state, bus);
-    if way != 0 {
-        if is_ordinary(device, bus, array.len()) {
-            if 1 < way {
-                if vpp_down(device, bus) {
-                    return typed(device, state, bus, array, residue);
-                }
-                return counted(state, seen_in(bus.kind), shown_in(bus.kind, state.status));
-            }
-            if bus.kind == 0 {
-                if state.mode == 0 {
-                    return shown(
-                        state,
-                        units::get_unit(device.word == 1, array, bus.address as usize),
-                    );
-                }
-                if state.mode == 1 {
-                    return shown(state, units::wide(state.status));
-                }
-                return typed(device, state, bus, array, residue);
-            }
-            let set = command_of(bus.kind, bus.data % 256, state.mode, state.status);
-            if set.known {
-                return quiet(state, set.mode, set.status, set.phase);
-            }
-        }
+    if is_poll(device, state, bus, array.len()) {
+        return counted(state, seen_in(bus.kind), shown_in(bus.kind, state.status));
     }
     typed(device, state, bus, array, residue)
 }

@@ -1,68 +1,45 @@
 -- `c_ordinary::is_ordinary` meets its contract.
-use mathlib.Core.Path.{sym, ap, _∙_}
-use native.Mathlib.Omega.{arith}
-use borrow.Author.Tests.{ne-eqb, ltb-true}
-use Rattle.common.proofs.Choice.{unlike}
-use Rattle.units.specs.Units.{lentIn}
-use Rattle.device.specs.declared.Device.{Device}
-use Rattle.device.specs.Parts.{unknownDevice, sizeOf}
-use Rattle.model_levels.specs.Levels.{badPins}
+use mathlib.Core.Path.{_≡_, sym, ap, _∙_}
+use Prim.Native.Nat.{ℕ}
+use lib.Dec.{ltb}
+use borrow.Author.Tests.{eq-eqb, ne-eqb, lt-ltb, le-ltb}
+use Rattle.c_ordinary.specs.Ordinary.{ordinaryIn}
 use borrow.Author.Needs.{needs}
 use Rattle.c_ordinary.proofs.is_ordinary.Statement.{statement}
 use Rattle.c_ordinary.proofs.is_ordinary.Tie as tie
 
 returns : tie.Need-returns
-returns c = λ e. absurd (unlike (sym e))
+unfolding ordinaryIn
+returns c = simp (eq-eqb (c .before .before .args .n .program) 0 (c .if1 .taken))
 
 returns-2 : tie.Need-returns-2
-returns-2 c = λ e. absurd (unlike (sym e))
+unfolding ordinaryIn
+returns-2 c = simp (ne-eqb (c .before .before .before .before .args .n .program) 0 (c .before .before .if1 .left), eq-eqb (c .before .before .before .before .args .n .erase) 0 (c .if2 .taken))
 
 returns-3 : tie.Need-returns-3
-returns-3 c = λ e. absurd (unlike (sym e))
-
-device-in-requires : tie.Need-device-in-requires
-device-in-requires c κs = search needs
-
-unknown-device-requires : tie.Need-unknown-device-requires
-unknown-device-requires c κs = search needs
+unfolding ordinaryIn
+returns-3 c = simp (ne-eqb (c .before .before .before .before .before .before .args .n .program) 0 (c .before .before .before .before .if1 .left), ne-eqb (c .before .before .before .before .before .before .args .n .erase) 0 (c .before .before .if2 .left), eq-eqb (c .before .before .before .before .before .before .args .n .suspend) 0 (c .if3 .taken))
 
 returns-4 : tie.Need-returns-4
-returns-4 c = λ e. absurd (unlike (sym e))
+unfolding ordinaryIn
+returns-4 c = simp (ne-eqb (c .before .before .before .before .before .before .before .before .args .n .program) 0 (c .before .before .before .before .before .before .if1 .left), ne-eqb (c .before .before .before .before .before .before .before .before .args .n .erase) 0 (c .before .before .before .before .if2 .left), ne-eqb (c .before .before .before .before .before .before .before .before .args .n .suspend) 0 (c .before .before .if3 .left), lt-ltb 100 (c .before .before .before .before .before .before .before .before .args .n .suspend) (c .if4 .taken))
 
-pins-in-requires : tie.Need-pins-in-requires
-pins-in-requires c κs = search needs
-
-bad-pins-requires : tie.Need-bad-pins-requires
-bad-pins-requires c κs = search needs
-
-returns-5 : tie.Need-returns-5
-returns-5 c = λ e. absurd (unlike (sym e))
-
-size-requires : tie.Need-size-requires
-size-requires c κs = search needs
-
-lent-in-requires : tie.Need-lent-in-requires
-lent-in-requires c κs = search needs
-
-returns-6 : tie.Need-returns-6
-returns-6 c = λ e. absurd (unlike (sym e))
+is-level-requires : tie.Need-is-level-requires
+is-level-requires c κs = search needs
 
 cast-result : tie.Need-cast-result
 cast-result c = search needs
 
-returns-7 : tie.Need-returns-7
-returns-7 c = λ e.
-    let a = c .before .before .before .before .before .before .before .before .before .before .before .before .before .before .before .before .before .args in
-    let d = c .before .before .before .before .before .before .before .before .before .before .device-in .ensures in
-    record {
-      kind = omega (arith, c .before .before .before .before .before .before .before .before .before .before .before .before .before .before .before .if1 .left);
-      oe = c .before .before .before .before .before .before .before .before .before .before .before .before .before .if2 .left;
-      up = ne-eqb (a .b .rp) 0 (c .before .before .before .before .before .before .before .before .before .before .before .if3 .left);
-      known = ap (λ (x : Device). unknownDevice x) (sym d) ∙ sym (c .before .before .before .before .before .before .before .before .before .unknown-device .ensures) ∙ c .before .before .before .before .before .before .before .before .if4 .left;
-      pins = (λ i. badPins (sym d i .part) (sym (c .before .before .before .before .before .before .pins-in .ensures) i)) ∙ sym (c .before .before .before .before .before .bad-pins .ensures) ∙ c .before .before .before .before .if5 .left;
-      sized = (λ i. lentIn (sym d i .part .word) (a .len)) ∙ sym (c .before .before .lent-in .ensures) ∙ c .before .if6 .left ∙ c .before .before .before .size .ensures ∙ (λ i. sizeOf (d i .part));
-      inside = omega (arith, ltb-true (a .b .address) (c .before .before .before .size .result) e, c .before .before .before .size .ensures, ap (λ (x : Device). sizeOf (x .part)) d);
-    }
+units-of-requires : tie.Need-units-of-requires
+units-of-requires c κs = search needs
+
+returns-5 : tie.Need-returns-5
+unfolding ordinaryIn
+returns-5 c = ap (λ (x : ℕ). ltb (c .before .before .before .before .before .before .before .before .before .before .before .before .args .b .address) x) (c .units-of .ensures) ∙ simp (ne-eqb (c .before .before .before .before .before .before .before .before .before .before .before .before .args .n .program) 0 (c .before .before .before .before .before .before .before .before .before .before .if1 .left), ne-eqb (c .before .before .before .before .before .before .before .before .before .before .before .before .args .n .erase) 0 (c .before .before .before .before .before .before .before .before .if2 .left), ne-eqb (c .before .before .before .before .before .before .before .before .before .before .before .before .args .n .suspend) 0 (c .before .before .before .before .before .before .if3 .left), le-ltb 100 (c .before .before .before .before .before .before .before .before .before .before .before .before .args .n .suspend) (c .before .before .before .before .if4 .left), sym (c .before .before .before .is-level .ensures) ∙ c .before .before .if5 .taken)
+
+returns-6 : tie.Need-returns-6
+unfolding ordinaryIn
+returns-6 c = simp (ne-eqb (c .before .before .before .before .before .before .before .before .before .before .args .n .program) 0 (c .before .before .before .before .before .before .before .before .if1 .left), ne-eqb (c .before .before .before .before .before .before .before .before .before .before .args .n .erase) 0 (c .before .before .before .before .before .before .if2 .left), ne-eqb (c .before .before .before .before .before .before .before .before .before .before .args .n .suspend) 0 (c .before .before .before .before .if3 .left), le-ltb 100 (c .before .before .before .before .before .before .before .before .before .before .args .n .suspend) (c .before .before .if4 .left), sym (c .before .is-level .ensures) ∙ c .if5 .left)
 
 pub is-ordinary-spec : {M : Type 1} → statement M
 is-ordinary-spec =
@@ -71,14 +48,9 @@ is-ordinary-spec =
     returns
     returns-2
     returns-3
-    device-in-requires
-    unknown-device-requires
     returns-4
-    pins-in-requires
-    bad-pins-requires
-    returns-5
-    size-requires
-    lent-in-requires
-    returns-6
+    is-level-requires
     cast-result
-    returns-7)
+    units-of-requires
+    returns-5
+    returns-6)

@@ -1,46 +1,65 @@
 -- `c_ordinary::is_resting` meets its contract.
-use mathlib.Core.Path.{sym}
-use lib.Dec.{eqb}
-use Prim.Native.Nat.{_/_, _%_}
-use native.Mathlib.Omega.{arith}
-use borrow.Author.Tests.{eqb-true}
-use Rattle.common.proofs.Choice.{and-left, and-right, unlike}
+use Prim.Native.Nat.{_+_, _*_}
+use borrow.Author.Tests.{eq-eqb, ne-eqb, lt-ltb, le-ltb}
+use Rattle.c_ordinary.specs.Ordinary.{restingIn}
+use borrow.Author.Needs.{needs}
 use Rattle.c_ordinary.proofs.is_resting.Statement.{statement}
 use Rattle.c_ordinary.proofs.is_resting.Tie as tie
 
+cast-if1 : tie.Need-cast-if1
+cast-if1 c = search needs
+
+cast-if1-2 : tie.Need-cast-if1-2
+cast-if1-2 c = search needs
+
+mul-if1 : tie.Need-mul-if1
+mul-if1 c = search needs
+
+add-if1 : tie.Need-add-if1
+add-if1 c = search needs
+
+cast-if1-3 : tie.Need-cast-if1-3
+cast-if1-3 c = search needs
+
+mul-if1-2 : tie.Need-mul-if1-2
+mul-if1-2 c = search needs
+
+add-if1-2 : tie.Need-add-if1-2
+add-if1-2 c = search needs
+
 returns : tie.Need-returns
-returns c = λ e. absurd (unlike (sym e))
+unfolding restingIn
+returns c = simp (ne-eqb (c .before .before .before .before .args .n .left + 65536 * c .before .before .before .before .args .n .data + 4294967296 * c .before .before .before .before .args .n .address) 0 (c .if1 .taken))
 
 returns-2 : tie.Need-returns-2
-returns-2 c = λ e. absurd (unlike (sym e))
+unfolding restingIn
+returns-2 c = simp (eq-eqb (c .before .before .before .before .before .before .args .n .left + 65536 * c .before .before .before .before .before .before .args .n .data + 4294967296 * c .before .before .before .before .before .before .args .n .address) 0 (c .before .before .if1 .left), ne-eqb (c .before .before .before .before .before .before .args .n .phase) 0 (c .if2 .taken))
 
 returns-3 : tie.Need-returns-3
-returns-3 c = λ e. absurd (unlike (sym e))
+unfolding restingIn
+returns-3 c = simp (eq-eqb (c .before .before .before .before .before .before .before .before .args .n .left + 65536 * c .before .before .before .before .before .before .before .before .args .n .data + 4294967296 * c .before .before .before .before .before .before .before .before .args .n .address) 0 (c .before .before .before .before .if1 .left), eq-eqb (c .before .before .before .before .before .before .before .before .args .n .phase) 0 (c .before .before .if2 .left), ne-eqb (c .before .before .before .before .before .before .before .before .args .n .suspend) 0 (c .if3 .taken))
 
 returns-4 : tie.Need-returns-4
-returns-4 c = λ e. absurd (unlike (sym e))
+unfolding restingIn
+returns-4 c = simp (eq-eqb (c .before .before .before .before .before .before .before .before .before .before .args .n .left + 65536 * c .before .before .before .before .before .before .before .before .before .before .args .n .data + 4294967296 * c .before .before .before .before .before .before .before .before .before .before .args .n .address) 0 (c .before .before .before .before .before .before .if1 .left), eq-eqb (c .before .before .before .before .before .before .before .before .before .before .args .n .phase) 0 (c .before .before .before .before .if2 .left), eq-eqb (c .before .before .before .before .before .before .before .before .before .before .args .n .suspend) 0 (c .before .before .if3 .left), lt-ltb 2 (c .before .before .before .before .before .before .before .before .before .before .args .n .mode) (c .if4 .taken))
 
 returns-5 : tie.Need-returns-5
-returns-5 c = λ e. absurd (unlike (sym e))
-
-returns-6 : tie.Need-returns-6
-returns-6 c = λ e. absurd (unlike (sym e))
-
-returns-7 : tie.Need-returns-7
-returns-7 c = λ e.
-    let n = c .before .before .before .before .before .before .before .before .before .before .before .before .before .before .args .n in
-    let low = eqb (n .status % 8) 0 in
-    let ready = eqb (n .status / 64) 2 in
-    record {
-      address = c .before .before .before .before .before .before .before .before .before .before .before .before .if1 .left;
-      left = c .before .before .before .before .before .before .before .before .before .before .if2 .left;
-      unit = c .before .before .before .before .before .before .before .before .if3 .left;
-      phase = c .before .before .before .before .before .before .if4 .left;
-      suspend = c .before .before .before .before .if5 .left;
-      mode = omega (arith, c .before .before .if6 .left);
-      low = eqb-true (n .status % 8) 0 (and-left low ready e);
-      ready = eqb-true (n .status / 64) 2 (and-right low ready e);
-    }
+unfolding restingIn
+returns-5 c = simp (eq-eqb (c .before .before .before .before .before .before .before .before .before .before .before .before .args .n .left + 65536 * c .before .before .before .before .before .before .before .before .before .before .before .before .args .n .data + 4294967296 * c .before .before .before .before .before .before .before .before .before .before .before .before .args .n .address) 0 (c .before .before .before .before .before .before .before .before .if1 .left), eq-eqb (c .before .before .before .before .before .before .before .before .before .before .before .before .args .n .phase) 0 (c .before .before .before .before .before .before .if2 .left), eq-eqb (c .before .before .before .before .before .before .before .before .before .before .before .before .args .n .suspend) 0 (c .before .before .before .before .if3 .left), le-ltb 2 (c .before .before .before .before .before .before .before .before .before .before .before .before .args .n .mode) (c .before .before .if4 .left))
 
 pub is-resting-spec : {M : Type 1} → statement M
-is-resting-spec = tie.close (tie.spec returns returns-2 returns-3 returns-4 returns-5 returns-6 returns-7)
+is-resting-spec =
+    tie.close
+    (tie.spec
+    cast-if1
+    cast-if1-2
+    mul-if1
+    add-if1
+    cast-if1-3
+    mul-if1-2
+    add-if1-2
+    returns
+    returns-2
+    returns-3
+    returns-4
+    returns-5)

@@ -1,0 +1,187 @@
+-- What the tests of an ordinary cycle and of a state at rest come to.
+use mathlib.Core.Path.{_≡_, refl, sym, ap, subst, _∙_}
+use mathlib.Core.Bool.{Bool, true, false, not, _&&_, _||_}
+use Prim.Native.Nat.{ℕ, zero, suc, _+_, _*_, _/_, _%_, _≤_, _<_}
+use native.Mathlib.Omega.{arith}
+use lib.Dec.{eqb, ltb, leb}
+use borrow.Author.Tests.{eqb-true, eqb-false, ltb-true, ltb-false, leb-true, leb-false, not-true, not-false, eq-eqb, ne-eqb, le-ltb, le-leb}
+use Rattle.common.specs.Choice.{if_then_else_}
+use Rattle.common.proofs.Choice.{if-same, and-left, and-right, unlike}
+use Rattle.units.specs.Units.{unitsIn, torn, lentIn}
+use Rattle.device.specs.declared.Part.{Part}
+use Rattle.device.specs.Parts.{rowOf, inWords, shapeOf, sizeIn, isLarge, unknownPart, unknownDevice, sizeOf}
+use Rattle.model_types.specs.declared.Pins.{Pins}
+use Rattle.model_levels.specs.Levels.{vppLow, vppHigh, atTwelve, atFive, badWp, badPins}
+use Rattle.c_cycle.specs.Values.{numberIn, partIn, deviceIn, pinsIn}
+use Rattle.c_cycle.specs.declared.DeviceNumbers.{DeviceNumbers}
+use Rattle.c_cycle.specs.declared.StateNumbers.{StateNumbers}
+use Rattle.c_cycle.specs.declared.BusNumbers.{BusNumbers}
+use Rattle.c_ordinary.specs.Ordinary.{bytesFor, unitsFor, levelIn, ordinaryIn, restingIn, Ordinary, Resting}
+
+-- a test that says no, and one that says yes, on the way to true
+past : (t x : Bool) → (if t then false else x) ≡ true → (t ≡ false) × (x ≡ true)
+past true x e = absurd (unlike (sym e))
+past false x e = (refl, e)
+
+both : (t x : Bool) → (if t then x else false) ≡ true → (t ≡ true) × (x ≡ true)
+both true x e = (refl, e)
+both false x e = absurd (unlike (sym e))
+
+-- VPP is in a band of every part
+supplied : (part : Part) (p : Pins) → (if leb 11400 (p .vpp) then leb (p .vpp) 12600 else if leb 4500 (p .vpp) then leb (p .vpp) 5500 else leb (p .vpp) 1500) ≡ true
+    → (vppLow part p || vppHigh part p) ≡ true
+unfolding vppLow vppHigh atTwelve atFive
+supplied part p e = go (isLarge part) (leb 11400 (p .vpp)) refl (leb 4500 (p .vpp)) refl e
+  where
+    v : ℕ
+    v = p .vpp
+
+    or-true : (a : Bool) → (a || true) ≡ true
+    or-true true = refl
+    or-true false = refl
+
+    go : (large twelve : Bool) → leb 11400 v ≡ twelve → (five : Bool) → leb 4500 v ≡ five
+        → (if twelve then leb v 12600 else if five then leb v 5500 else leb v 1500) ≡ true
+        → ((if large then leb v 1500 else leb v 6500) || (if large then (leb 4500 v && leb v 5500) || (leb 11400 v && leb v 12600) else leb 11400 v && leb v 12600)) ≡ true
+    go true true a five b f = simp (a, f, or-true (leb 4500 v && leb v 5500), or-true (leb v 1500))
+    go false true a five b f = simp (a, f, or-true (leb v 6500))
+    go true false a true b f = simp (b, f, or-true (leb v 1500))
+    go false false a true b f = simp (le-leb v 6500 (omega (arith, leb-true v 5500 f)))
+    go true false a false b f = simp f
+    go false false a false b f = simp (le-leb v 6500 (omega (arith, leb-true v 1500 f)))
+
+-- RP# is up, OE# low and no level bad, whatever the part
+pub record Levelled (rp oe wp vpp : ℕ) : Type 0 where
+  pub normal : oe ≡ 0
+  pub up : eqb rp 0 ≡ false
+  pub pins : (part : Part) → badPins part (pinsIn rp wp vpp) ≡ false
+
+levelled : (rp oe wp vpp : ℕ) → levelIn rp oe wp vpp ≡ true → Levelled rp oe wp vpp
+unfolding levelIn badPins badWp
+levelled rp oe wp vpp e =
+    let a = past (not (eqb oe 0)) _ e in
+    let b = past (ltb 1 wp) _ (a .1) in
+    let c = past (eqb rp 0) _ (b .1) in
+    let d = past (ltb 2 rp) _ (c .1) in
+    record {
+      normal = eqb-true oe 0 (not-false (eqb oe 0) (a .0));
+      up = c .0;
+      pins = λ part. simp (d .0, supplied part (pinsIn rp wp vpp) (d .1), b .0, if-same (isLarge part) false);
+    }
+
+-- numbers past the last part have no bytes
+none-past : (n : ℕ) → 8 < n → bytesFor n ≡ 0
+unfolding bytesFor
+none-past n h = simp (other 1 (omega arith), other 2 (omega arith), other 3 (omega arith), other 4 (omega arith), other 5 (omega arith), other 6 (omega arith), other 7 (omega arith), other 8 (omega arith))
+  where
+    other : (k : ℕ) → k < n → eqb n k ≡ false
+    other k l = ne-eqb n k (λ (e : n ≡ k). (omega arith))
+
+-- what holds of the eight parts holds of every number that has bytes
+by-parts : (P : ℕ → Type 0) → P 1 → P 2 → P 3 → P 4 → P 5 → P 6 → P 7 → P 8 → (n : ℕ) → 0 < bytesFor n → P n
+unfolding bytesFor
+by-parts P a b c d e f g h zero l = absurd (omega arith)
+by-parts P a b c d e f g h (suc zero) l = a
+by-parts P a b c d e f g h (suc (suc zero)) l = b
+by-parts P a b c d e f g h (suc (suc (suc zero))) l = c
+by-parts P a b c d e f g h (suc (suc (suc (suc zero)))) l = d
+by-parts P a b c d e f g h (suc (suc (suc (suc (suc zero))))) l = e
+by-parts P a b c d e f g h (suc (suc (suc (suc (suc (suc zero)))))) l = f
+by-parts P a b c d e f g h (suc (suc (suc (suc (suc (suc (suc zero))))))) l = g
+by-parts P a b c d e f g h (suc (suc (suc (suc (suc (suc (suc (suc zero)))))))) l = h
+by-parts P a b c d e f g h (suc (suc (suc (suc (suc (suc (suc (suc (suc n))))))))) l =
+    absurd (let z = none-past (suc (suc (suc (suc (suc (suc (suc (suc (suc n))))))))) (omega arith) in omega (arith, l, z))
+
+-- a part in byte mode, and a large one in word mode
+abbrev InBytes : ℕ → Type 0
+InBytes n = (unknownPart (record { number = n; word = false }) ≡ false) × (sizeOf (record { number = n; word = false }) ≡ bytesFor n)
+
+abbrev InWords : ℕ → Type 0
+InWords n = 5 ≤ n → (unknownPart (record { number = n; word = true }) ≡ false) × (sizeOf (record { number = n; word = true }) ≡ bytesFor n / 2) × (bytesFor n % 2 ≡ 0)
+
+in-bytes : (n : ℕ) → 0 < bytesFor n → InBytes n
+unfolding unknownPart isLarge sizeOf shapeOf sizeIn rowOf bytesFor
+in-bytes = by-parts InBytes (refl, refl) (refl, refl) (refl, refl) (refl, refl) (refl, refl) (refl, refl) (refl, refl) (refl, refl)
+
+in-words : (n : ℕ) → 0 < bytesFor n → InWords n
+unfolding unknownPart isLarge sizeOf shapeOf sizeIn rowOf inWords bytesFor
+in-words =
+    by-parts InWords (λ l. absurd (omega arith)) (λ l. absurd (omega arith)) (λ l. absurd (omega arith)) (λ l. absurd (omega arith))
+    (λ l. (refl, refl, refl)) (λ l. (refl, refl, refl)) (λ l. (refl, refl, refl)) (λ l. (refl, refl, refl))
+
+-- the part is known, so many bytes are its array, and an address is inside
+pub record Sized (number word len a : ℕ) : Type 0 where
+  pub known : unknownPart (partIn number word) ≡ false
+  pub sized : lentIn (partIn number word .word) len ≡ sizeOf (partIn number word)
+  pub inside : a < sizeOf (partIn number word)
+
+sized-bytes : (number len a : ℕ) → a < len → bytesFor number ≡ len → Sized number 0 len a
+unfolding numberIn lentIn
+sized-bytes number len a l e =
+    let p = in-bytes number (omega (arith, l, e)) in
+    record { known = p .0; sized = sym e ∙ sym (p .1); inside = omega (arith, l, e, p .1) }
+
+sized-words : (number len a : ℕ) → a < len / 2 → 5 ≤ number → bytesFor number ≡ len → Sized number 1 len a
+unfolding numberIn lentIn
+sized-words number len a l h e =
+    let p = in-words number (omega (arith, l, e)) h in
+    let even : len % 2 ≡ 0 = ap (λ (x : ℕ). x % 2) (sym e) ∙ p .2 in
+    let half : len / 2 ≡ sizeOf (record { number = number; word = true }) = ap (λ (x : ℕ). x / 2) (sym e) ∙ sym (p .1) in
+    let whole : lentIn true len ≡ len / 2 = simp even in
+    record { known = p .0; sized = whole ∙ half; inside = omega (arith, l, half) }
+
+fits : (number word len a : ℕ) → a < unitsFor number word len → Sized number word len a
+unfolding unitsFor
+fits number word len a l = go (eqb (bytesFor number) len) refl (eqb word 0) refl (eqb word 1) refl (ltb number 5) refl l
+  where
+    go : (s : Bool) → eqb (bytesFor number) len ≡ s → (z : Bool) → eqb word 0 ≡ z → (o : Bool) → eqb word 1 ≡ o → (k : Bool) → ltb number 5 ≡ k
+        → a < (if not s then 0 else if z then len else if not o then 0 else if k then 0 else len / 2) → Sized number word len a
+    go false e z f o g k h m = absurd (omega arith)
+    go true e true f o g k h m = subst (λ (w : ℕ). Sized number w len a) (sym (eqb-true word 0 f)) (sized-bytes number len a m (eqb-true (bytesFor number) len e))
+    go true e false f false g k h m = absurd (omega arith)
+    go true e false f true g true h m = absurd (omega arith)
+    go true e false f true g false h m = subst (λ (w : ℕ). Sized number w len a) (sym (eqb-true word 1 g)) (sized-words number len a m (ltb-false number 5 h) (eqb-true (bytesFor number) len e))
+
+-- for code: a cycle that passes the test, of a kind that there is
+pub ordinary-is : (n : DeviceNumbers) (b : BusNumbers) (len : ℕ) → ordinaryIn n b len ≡ true → b .kind ≤ 2 → Ordinary n b len
+unfolding ordinaryIn unknownDevice
+ordinary-is n b len e k =
+    let p = past (eqb (n .program) 0) _ e in
+    let q = past (eqb (n .erase) 0) _ (p .1) in
+    let r = past (eqb (n .suspend) 0) _ (q .1) in
+    let s = past (ltb 100 (n .suspend)) _ (r .1) in
+    let t = both (levelIn (b .rp) (b .oe) (b .wp) (b .vpp)) _ (s .1) in
+    let l = levelled (b .rp) (b .oe) (b .wp) (b .vpp) (t .0) in
+    let f = fits (n .number) (n .word) len (b .address) (ltb-true (b .address) (unitsFor (n .number) (n .word) len) (t .1)) in
+    record {
+      kind = k;
+      oe = l .normal;
+      up = l .up;
+      known = simp (f .known, p .0, q .0, r .0, s .0);
+      pins = l .pins (deviceIn n .part);
+      sized = f .sized;
+      inside = f .inside;
+    }
+
+-- for code: a state that passes the test
+pub resting-is : (n : StateNumbers) → restingIn n ≡ true → Resting n
+unfolding restingIn
+resting-is n e =
+    let sum = n .left + 65536 * n .data + 4294967296 * n .address in
+    let a = past (not (eqb sum 0)) _ e in
+    let b = past (not (eqb (n .phase) 0)) _ (a .1) in
+    let c = past (not (eqb (n .suspend) 0)) _ (b .1) in
+    let d = past (ltb 2 (n .mode)) _ (c .1) in
+    let z : n .left + 65536 * n .data + 4294967296 * n .address ≡ 0 = eqb-true sum 0 (not-false (eqb sum 0) (a .0)) in
+    let low = eqb (n .status % 8) 0 in
+    let ready = eqb (n .status / 64) 2 in
+    record {
+      address = omega (arith, z);
+      left = omega (arith, z);
+      unit = omega (arith, z);
+      phase = eqb-true (n .phase) 0 (not-false (eqb (n .phase) 0) (b .0));
+      suspend = eqb-true (n .suspend) 0 (not-false (eqb (n .suspend) 0) (c .0));
+      mode = ltb-false 2 (n .mode) (d .0);
+      low = eqb-true (n .status % 8) 0 (and-left low ready (d .1));
+      ready = eqb-true (n .status / 64) 2 (and-right low ready (d .1));
+    }
